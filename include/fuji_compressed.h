@@ -81,6 +81,22 @@ void fuji_read_block(const uint8_t *stream, size_t stream_length, size_t block, 
 void fuji_read_tight(const uint8_t *stream, size_t stream_length, size_t block, uint16_t *scratch, size_t scratch_length,
                      fuji_record *records, size_t records_length, size_t totals[2], size_t refusal[4]);
 
+/* Stores the state of a block after a line, counted from 0, in the first 1,707 + 12 * 384 bytes (X-Trans: 1,707 + 12 * 512) of `state`; what follows them is as it was.
+ * The lines up to it are read, and `totals` are theirs, as above. Refusals 1, 2, 3, 4, 5, 10, 21 (the line is not below the lines), 13 (`state` is shorter) and 14, in
+ * this order; each leaves `state` as it was. */
+void fuji_store_checkpoint(const uint8_t *stream, size_t stream_length, size_t block, size_t line, uint8_t *state, size_t state_length,
+                           uint16_t *scratch, size_t scratch_length, fuji_record *records, size_t records_length, size_t totals[2],
+                           size_t refusal[4]);
+
+/* Goes on in a block from a stored state of it, of exactly that many bytes: fills the region's rows from the state's next line on, within that block's columns, and leaves
+ * all other samples as they were. Samples and answers are those of a reading from the top, if the state was stored from a stream with the same header, and the same bytes
+ * and base row of that block; any other bytes are safe. `totals` are those of the lines that are read now. Refusals 1, 2, 3, 4, 5 and 7; an empty region is accepted then;
+ * 10, 21 (no such state), 22 (of another header or block) and 14, in this order. */
+void fuji_resume_region(const uint8_t *stream, size_t stream_length, size_t block, const uint8_t *state, size_t state_length, size_t x,
+                        size_t y, size_t width, size_t height, const uint8_t tile[36], uint16_t *image, size_t image_length,
+                        uint16_t *scratch, size_t scratch_length, fuji_record *records, size_t records_length, size_t totals[2],
+                        size_t refusal[4]);
+
 /* Why a block is not tight: of its first bad code in coding order the line of six rows, the pass (1 to 6), the colour line (2 to 17), the position, the first bit, counted
  * from the block's first, and the reason: 1 large, the code is 2^bits or more; 2 escape, it is long where the short form fits; 3 zeros, it has more zeros than the limit.
  * If every code is tight but the tail is not: the number of lines, 0, 0, 0, the first bit after the last code, and 4. All 0 where the refusal is not 15. `refusal` is what

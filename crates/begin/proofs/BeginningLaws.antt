@@ -17,7 +17,7 @@ use Rattle.region.specs.Regions.{checkedOf}
 use Rattle.region.specs.declared.Rect.{Rect}
 use Rattle.writing.specs.Sets.{setSize}
 use Rattle.begin.specs.Beginnings.{isShortScratch, withScratch, withRegion, withStream, regionBegins}
-use Rattle.begin.specs.Beginnings.{wholeOf, isWhole, withSize, withPicture, imageBegins}
+use Rattle.begin.specs.Beginnings.{wholeOf, isWhole, withSize, withPicture, imageBegins, withResumed, resumeBegins}
 use Rattle.begin.specs.Beginnings.{withBlock, withOpened, blockBegins, withCount, withSet, withParsed, writingBegins, withBases, withLossy, lossyBegins}
 use Rattle.begin.specs.declared.Beginning.the-variants.{Refused}
 
@@ -41,6 +41,10 @@ module _ (d : List ℕ) (p : Parsed) (e : openOf d ≡ p) where
   unfolding blockBegins
   block-is tight k a b = rw e
 
+  pub resume-is : (k : ℕ) (r : Rect) (n a b : ℕ) → withResumed p k r n a b ≡ resumeBegins d k r n a b
+  unfolding resumeBegins
+  resume-is k r n a b = rw e
+
 pub writing-is : (d : List ℕ) (p : Parsed) → parseOf d ≡ p → (n a b : ℕ) → withParsed p n a b ≡ writingBegins d n a b
 unfolding writingBegins
 writing-is d p e n a b = rw e
@@ -60,6 +64,12 @@ module _ (h : FujiHeader) (a b : ℕ) where
 
   pub no-block : (tight : Bool) (k : ℕ) → h .blocks ≤ k → Parsing.Refused NoBlock ≡ withBlock tight h k a b
   no-block tight k s = rw (le-ltb k (h .blocks) s)
+
+  pub no-resumed : (k : ℕ) (r : Rect) (n : ℕ) → h .blocks ≤ k → Refused NoBlock ≡ withResumed (Parsing.Header h) k r n a b
+  no-resumed k r n s = rw (le-ltb k (h .blocks) s)
+
+  pub a-resumed : (k : ℕ) (r : Rect) (n : ℕ) → k < h .blocks → withRegion h (checkedOf h r n) a b ≡ withResumed (Parsing.Header h) k r n a b
+  a-resumed k r n s = rw (lt-ltb k (h .blocks) s)
 
   pub lossy-block : (tight : Bool) (k : ℕ) → k < h .blocks → tight && not (h .lossless) ≡ true → Parsing.Refused Lossy ≡ withBlock tight h k a b
   lossy-block tight k s e = rw (lt-ltb k (h .blocks) s, e)

@@ -24,7 +24,7 @@ use Rattle.region.specs.declared.Checked.the-variants as Check
 use Rattle.region.proofs.CheckLaws.{accepted}
 use Rattle.writing.specs.Sets.{setSize}
 use Rattle.begin.specs.Beginnings.{samplesNeeded, recordsNeeded, isShortScratch, withScratch, begun, withRegion, withStream, regionBegins}
-use Rattle.begin.specs.Beginnings.{wholeOf, isWhole, withPicture}
+use Rattle.begin.specs.Beginnings.{wholeOf, isWhole, withPicture, withResumed, resumeBegins}
 use Rattle.begin.specs.Beginnings.{imageBegins, withOpened, blockBegins, withCount, withParsed, writingBegins, withLossy, lossyBegins}
 use Rattle.begin.specs.Beginnings.{ScratchFits, SetFits, FitsOn}
 use Rattle.begin.specs.declared.Beginning.the-variants.{Refused, Reading}
@@ -81,6 +81,25 @@ module _ (d : List ℕ) (r : Rect) (n a b : ℕ) (h : FujiHeader) where
       from : (p : Parsed) → openOf d ≡ p → withStream p r n a b ≡ Reading h → RegionAccepted d r n a b h
       from (Parsing.Refused x) o e = absurd (let no : _≡_ {A = ℕ} 0 1 = cc in omega arith)
       from (Parsing.Header g) o e = checked-reads g o (checkedOf g r n) refl e
+
+-- going on in block k
+pub resume-reads : (d : List ℕ) (k : ℕ) (r : Rect) (n a b : ℕ) (h : FujiHeader) → resumeBegins d k r n a b ≡ Reading h
+    → RegionAccepted d r n a b h × (k < h .blocks)
+unfolding resumeBegins
+resume-reads d k r n a b h = from (openOf d) refl
+  where
+    held : (g : FujiHeader) → openOf d ≡ Parsing.Header g → (s : Bool) → ltb k (g .blocks) ≡ s
+        → cond s (withRegion g (checkedOf g r n) a b) (Refused NoBlock) ≡ Reading h → RegionAccepted d r n a b h × (k < h .blocks)
+    held g o false p e = absurd (let no : _≡_ {A = ℕ} 0 1 = cc in omega arith)
+    held g o true p e =
+        let f = checked-reads d r n a b h g o (checkedOf g r n) refl e in
+        let i : Parsing.Header g ≡ Parsing.Header h = sym o ∙ f .opens in
+        let j : g ≡ h = cc in
+        (f, rw j at (ltb-true k (g .blocks) p))
+
+    from : (p : Parsed) → openOf d ≡ p → withResumed p k r n a b ≡ Reading h → RegionAccepted d r n a b h × (k < h .blocks)
+    from (Parsing.Refused x) o e = absurd (let no : _≡_ {A = ℕ} 0 1 = cc in omega arith)
+    from (Parsing.Header g) o e = held g o (ltb k (g .blocks)) refl e
 
 pub image-reads : (d : List ℕ) (w k n a b : ℕ) (h : FujiHeader) → imageBegins d w k n a b ≡ Reading h → RegionAccepted d (wholeOf w k) n a b h
 unfolding imageBegins

@@ -107,6 +107,17 @@ readBegins d b samples records = blockBegins false d b samples records
 abbrev pub tightBegins : List ℕ → ℕ → ℕ → ℕ → Parsed
 tightBegins d b samples records = blockBegins true d b samples records
 
+-- ---- going on in block b, to fill a region
+
+-- refusal 5 before those of the region
+abbrev pub withResumed : Parsed → ℕ → Rect → ℕ → ℕ → ℕ → Beginning
+withResumed (Parsing.Refused x) b r image samples records = Refused x
+withResumed (Parsing.Header h) b r image samples records =
+    cond (ltb b (h .blocks)) (withRegion h (checkedOf h r image) samples records) (Refused NoBlock)
+
+unfoldable pub resumeBegins : List ℕ → ℕ → Rect → ℕ → ℕ → ℕ → Beginning
+resumeBegins d b r image samples records = withResumed (openOf d) b r image samples records
+
 -- ---- the writer, for a set of so many samples
 
 -- refusals 9 and 10

@@ -7,11 +7,12 @@ ghost use lib.Dec.{leb, ltb};
 ghost use lib.ListN.{length};
 ghost use Rattle.region.specs.Regions.{checkedOf};
 ghost use Rattle.steps.specs.Steps.{isInterpolated};
+ghost use Rattle.stream.specs.declared.Parsed.the-variants.{Header};
 ghost use Rattle.writing.specs.Sets.{setSize, lineOfRank, colourLineAt, positionAt};
 ghost use Rattle.map.specs.Places.{widthOf};
 ghost use Rattle.begin.specs.Beginnings.{samplesNeeded, isShortScratch, withScratch, begun, withRegion};
 ghost use Rattle.begin.specs.Beginnings.{regionBegins, wholeOf, isWhole, withSize, imageBegins};
-ghost use Rattle.begin.specs.Beginnings.{windowedBegins, withBlock, blockBegins, withCount, withSet};
+ghost use Rattle.begin.specs.Beginnings.{windowedBegins, withBlock, blockBegins, withCount, withSet, withResumed, resumeBegins};
 ghost use Rattle.begin.specs.Beginnings.{writingBegins, withBases, lossyBegins, isIgnored, firstAbove};
 ghost use Rattle.bits.specs.BitLists.{blockBytes};
 ghost use Rattle.begin.specs.Counted.{lengthNext, nextOf};
@@ -179,6 +180,44 @@ pub fn block_begins(d: &[u8], b: usize, tight: bool, samples: usize, records: us
     match opened {
         Parsed::Refused(x) => Parsed::Refused(x),
         Parsed::Header(h) => block_in(h, b, tight, samples, records),
+    }
+}
+
+// ---- going on in one block
+
+// Refusal 5 comes before those of the region.
+fn resume_in(
+    h: FujiHeader,
+    b: usize,
+    r: Rect,
+    image: usize,
+    samples: usize,
+    records: usize,
+) -> Beginning
+    ensures { λ a. ⌜ a ≡ withResumed (Header h) b r image samples records ⌝ }
+{
+    let blocks = h.blocks as usize;
+    if b < blocks {
+        return region_in(h, r, image, samples, records);
+    }
+    Beginning::Refused(Refusal::NoBlock)
+}
+
+// Going on in block b of the stream d, to fill a region.
+pub fn resume_begins(
+    d: &[u8],
+    b: usize,
+    r: Rect,
+    image: usize,
+    samples: usize,
+    records: usize,
+) -> Beginning
+    ensures { λ a. ⌜ a ≡ resumeBegins (now (d .entry)) b r image samples records ⌝ }
+{
+    let opened = stream::open(d);
+    match opened {
+        Parsed::Refused(x) => Beginning::Refused(x),
+        Parsed::Header(h) => resume_in(h, b, r, image, samples, records),
     }
 }
 

@@ -25,7 +25,7 @@ use Rattle.pass.specs.Readings.{Reading, interpolate, takeCode, taken, readStep
 use Rattle.steps.specs.declared.Plan.{Plan}
 use Rattle.map.specs.Places.{widthOf}
 use Rattle.block.specs.Records.{baseOf}
-use Rattle.block.specs.Blocks.{State, runs, enter, leave, passAt, endLine, readLine, beforeLine, readLineAt, startState, readLines, tightLines}
+use Rattle.block.specs.Blocks.{State, runs, enter, leave, passAt, endLine, readLine, beforeLine, readLineAt, startState, readLines, tightIn}
 use Rattle.block.specs.BadCodes.{Reason, too-large, too-many-zeros, short-fits, reasonOf, codedReason, stepReason}
 use Rattle.block.specs.BadCodes.{BadCode, badAt, badInSteps, firstFound, badInPass, badInLine, firstBad}
 use Rattle.block.specs.BadSpots.{stepK, stepQuantiser, BadStep, BadIn}
@@ -359,8 +359,8 @@ module _ (F : Form) (bases s : List ℕ) where
   bad-none = refl
 
   -- the lines before that of the first bad code are tight, or all of them
-  pub tight-lines : (n : ℕ) (z : State) → readLines F bases s n ≡ some z → tightLines F bases s n ≡ lineOr n (firstBad F bases s n)
-  unfolding tightLines
+  pub tight-lines : (n : ℕ) (z : State) → readLines F bases s n ≡ some z → tightIn (λ m. readLines F bases s m) n ≡ lineOr n (firstBad F bases s n)
+  unfolding tightIn
   tight-lines zero z e = rw bad-none
   tight-lines (suc n) z e =
       let l = lines-last n z e in

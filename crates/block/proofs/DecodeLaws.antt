@@ -15,7 +15,7 @@ use Rattle.map.specs.declared.Part.{Part}
 use Rattle.map.proofs.PartLaws.{by-test, not-in}
 use Rattle.stream.specs.declared.FujiHeader.{FujiHeader}
 use Rattle.stream.specs.declared.Refusal.the-variants.{Truncated}
-use Rattle.region.specs.Regions.{blockOf, firstBlock, lastBlock, bottomOf, partIn, lineCount, Accepted}
+use Rattle.region.specs.Regions.{blockOf, firstBlock, bottomOf, partIn, lineCount, Accepted}
 use Rattle.region.specs.declared.Rect.{Rect}
 use Rattle.region.proofs.RegionLaws.{InColumns, one-block, lines-cover, row-inside}
 use Rattle.block.specs.Blocks.{State, runs, readLineAt, startState, readLines}
@@ -29,8 +29,9 @@ use Rattle.block.specs.declared.Form.{Form}
 use Rattle.block.specs.declared.Walked.{Walked}
 use Rattle.block.specs.declared.Walked.the-variants as Walk
 use Rattle.block.specs.declared.Decoded.{Decoded}
-use Rattle.block.specs.declared.Decoded.the-variants.{Done, Refused}
+use Rattle.block.specs.declared.Decoded.the-variants.{Done}
 use Rattle.block.proofs.RunLaws.{runs-stay}
+use Rattle.block.proofs.CountLaws.{all-counted, cut-counted}
 
 -- ---- how many lines are read
 
@@ -44,18 +45,13 @@ module _ (F : Form) (bases s : List ℕ) where
   unfolding linesRead
   read-none = refl
 
-  read-last : (n : ℕ) (z : State) → readLines F bases s (suc n) ≡ some z → linesRead F bases s (suc n) ≡ suc n
+  one-more-read : (n : ℕ) → linesRead F bases s (suc n) ≡ cond (isRead (readLines F bases s (suc n))) (suc n) (linesRead F bases s n)
   unfolding linesRead
-  read-last n z e = rw e
-
-  read-before : (n : ℕ) → readLines F bases s (suc n) ≡ none → linesRead F bases s (suc n) ≡ linesRead F bases s n
-  unfolding linesRead
-  read-before n e = rw e
+  one-more-read n = refl
 
   -- all are read
   pub all-read : (n : ℕ) (z : State) → readLines F bases s n ≡ some z → linesRead F bases s n ≡ n
-  all-read zero z e = read-none
-  all-read (suc n) z e = read-last n z e
+  all-read n z e = all-counted (λ m. readLines F bases s m) (λ m. linesRead F bases s m) read-none one-more-read stay-none n z e
 
   start-read : readLines F bases s 0 ≡ some (startState F bases)
   unfolding readLines runs
@@ -89,19 +85,9 @@ module _ (F : Form) (bases s : List ℕ) where
       go (some z) e k = (z, e)
 
   -- or those before line m
-  some-read : (m : ℕ) (z : State) → readLines F bases s m ≡ some z → readLines F bases s (suc m) ≡ none
-      → (k : ℕ) → linesRead F bases s (m + k) ≡ m
-  some-read m z e cut zero = rw add-zero (all-read m z e)
-  some-read m z e cut (suc k) =
-      let f : suc m + k ≡ suc (m + k) = omega arith in
-      let fails : readLines F bases s (suc (m + k)) ≡ none = rw f at (stay-none (suc m) k cut) in
-      rw add-suc (read-before (m + k) fails ∙ some-read m z e cut k)
-
   cut-lines : (m count : ℕ) (z : State) → suc m ≤ count → readLines F bases s m ≡ some z → readLines F bases s (suc m) ≡ none
       → m ≡ linesRead F bases s count
-  cut-lines m count z l e cut =
-      let f : count ≡ m + (count - m) = omega arith in
-      rw f (sym (some-read m z e cut (count - m)))
+  cut-lines m count z l e cut = cut-counted (λ n. readLines F bases s n) (λ n. linesRead F bases s n) read-none one-more-read stay-none m count z l e cut
 
 -- by what a walk answered
 pub walked-lines : (F : Form) (bases s : List ℕ) (count : ℕ) (w : Walked) → IsWalked F bases s count w
@@ -140,7 +126,7 @@ answer-more d h r b w before after l e p f =
 -- ---- tests
 
 -- two tests that follow from each other are the same
-same-test : (s t : Bool) → (s ≡ true → t ≡ true) → (t ≡ true → s ≡ true) → s ≡ t
+pub same-test : (s t : Bool) → (s ≡ true → t ≡ true) → (t ≡ true → s ≡ true) → s ≡ t
 same-test true t f g = sym (f refl)
 same-test false true f g = g refl
 same-test false false f g = refl
@@ -151,7 +137,7 @@ below-next m n =
     (λ t. le-leb m n (let l = ltb-true m (suc n) t in omega arith))
     (λ t. lt-ltb m (suc n) (let l = leb-true m n t in omega arith))
 
-and-swap : (s t : Bool) → s && t ≡ t && s
+pub and-swap : (s t : Bool) → s && t ≡ t && s
 and-swap true t = sym (and-true t)
 and-swap false t = sym (and-false t)
 
@@ -182,28 +168,29 @@ module _ (r : Rect) (i : ℕ) (t : Bool) where
 -- ---- which entries a part shows
 
 -- none outside its columns
-shown-outside : (a : Part) (n i : ℕ) → (InColumns a i → ⊥) → inRows a 0 (6 * n) i ≡ false
-shown-outside a n i other = not-in a 0 (6 * n) i (λ h. other (h .left, h .right))
+pub shown-outside : (a : Part) (low high i : ℕ) → (InColumns a i → ⊥) → inRows a low high i ≡ false
+shown-outside a low high i other = not-in a low high i (λ h. other (h .left, h .right))
 
 -- and those inside by their row
-shown-inside : (a : Part) (n i : ℕ) → InColumns a i → inRows a 0 (6 * n) i ≡ ltb (pictureRow a i) (6 * n) && ltb (pictureRow a i) (a .bottom)
+pub shown-inside : (a : Part) (low high i : ℕ) → InColumns a i
+    → inRows a low high i ≡ leb low (pictureRow a i) && ltb (pictureRow a i) high && ltb (pictureRow a i) (a .bottom)
 unfolding inRows
-shown-inside a n i c =
-    let rows = ltb (pictureRow a i) (6 * n) && ltb (pictureRow a i) (a .bottom) in
-    rw (le-leb 0 (pictureRow a i) zero-le, le-leb _ _ (c .0), lt-ltb _ _ (c .1), and-true rows, and-true rows)
+shown-inside a low high i c =
+    let rows = leb low (pictureRow a i) && ltb (pictureRow a i) high && ltb (pictureRow a i) (a .bottom) in
+    rw (le-leb _ _ (c .0), lt-ltb _ _ (c .1), and-true rows, and-true rows)
 
 -- a row is one of the first n lines exactly if its line is
-row-line : (row n : ℕ) → ltb row (6 * n) ≡ ltb (row / 6) n
+pub row-line : (row n : ℕ) → ltb row (6 * n) ≡ ltb (row / 6) n
 row-line row n =
     same-test (ltb row (6 * n)) (ltb (row / 6) n)
     (λ t. lt-ltb (row / 6) n (let l = ltb-true row (6 * n) t in omega arith))
     (λ t. lt-ltb row (6 * n) (let l = ltb-true (row / 6) n t in omega arith))
 
-part-row : (r : Rect) (b i : ℕ) → pictureRow (partIn r b) i ≡ r .y + i / r .width
+pub part-row : (r : Rect) (b i : ℕ) → pictureRow (partIn r b) i ≡ r .y + i / r .width
 unfolding partIn
 part-row r b i = refl
 
-part-bottom : (r : Rect) (b : ℕ) → partIn r b .bottom ≡ bottomOf r
+pub part-bottom : (r : Rect) (b : ℕ) → partIn r b .bottom ≡ bottomOf r
 unfolding partIn
 part-bottom r b = refl
 
@@ -211,7 +198,7 @@ part-bottom r b = refl
 
 module _ (h : FujiHeader) (r : Rect) (n i : ℕ) (ok : Accepted h r n) where
   -- the rows of the region are those of the entries below width·height
-  row-place : ltb (r .y + i / r .width) (bottomOf r) ≡ ltb i (r .width * r .height)
+  pub row-place : ltb (r .y + i / r .width) (bottomOf r) ≡ ltb i (r .width * r .height)
   row-place =
       let e = row-inside h r n ok i in
       same-test (ltb (r .y + i / r .width) (bottomOf r)) (ltb i (r .width * r .height))
@@ -221,13 +208,13 @@ module _ (h : FujiHeader) (r : Rect) (n i : ℕ) (ok : Accepted h r n) where
   -- an entry of block b is among the first m lines of its part exactly if its line is
   of-block : (b m : ℕ) → blockOf r i ≡ b → inRows (partIn r b) 0 (6 * m) i ≡ ltb i (r .width * r .height) && ltb (lineOf r i) m
   of-block b m e =
-      shown-inside (partIn r b) m i (one-block h r n ok b i .1 (sym e))
-      ∙ rw (part-row r b i, part-bottom r b, row-place, row-line (r .y + i / r .width) m)
+      shown-inside (partIn r b) 0 (6 * m) i (one-block h r n ok b i .1 (sym e))
+      ∙ rw (le-leb 0 (pictureRow (partIn r b) i) zero-le, part-row r b i, part-bottom r b, row-place, row-line (r .y + i / r .width) m)
       (and-swap (ltb (lineOf r i) m) (ltb i (r .width * r .height)))
 
   -- and an entry of another block is not shown
   of-other : (b m : ℕ) → (blockOf r i ≡ b → ⊥) → inRows (partIn r b) 0 (6 * m) i ≡ false
-  of-other b m other = shown-outside (partIn r b) m i (λ c. other (sym (one-block h r n ok b i .0 c)))
+  of-other b m other = shown-outside (partIn r b) 0 (6 * m) i (λ c. other (sym (one-block h r n ok b i .0 c)))
 
   -- all lines of the region's rows are asked for
   all-lines : ltb i (r .width * r .height) && ltb (lineOf r i) (lineCount r) ≡ ltb i (r .width * r .height) && leb (lineOf r i) (lineCount r)
@@ -244,7 +231,7 @@ module _ (d : List ℕ) (h : FujiHeader) (r : Rect) (tile : List ℕ) (b : ℕ) 
   sample = shownSample (formOf h) (basesIn d b) (bytesIn d b) tile (partIn r b)
 
   -- the part's columns are those of the block
-  part-column : (i : ℕ) → blockOf r i ≡ b → partIn r b .left + (imageColumn (partIn r b) i - partIn r b .start) ≡ (r .x + i % r .width) % 768
+  pub part-column : (i : ℕ) → blockOf r i ≡ b → partIn r b .left + (imageColumn (partIn r b) i - partIn r b .start) ≡ (r .x + i % r .width) % 768
   unfolding partIn
   part-column i e = omega arith
 

@@ -6,7 +6,7 @@ use mathlib.Core.Path.{_≡_, refl, _∙_}
 use Prim.Native.Nat.{ℕ, _+_, _*_, _≤_}
 use native.Mathlib.Omega.{arith}
 use lib.Dec.{leb}
-use lib.ListN.{length, length-replicate}
+use lib.ListN.{length}
 use Rattle.lines.specs.ColourLines.{guarded}
 use Rattle.lines.proofs.LineLaws.{length-guarded, length-turned}
 use Rattle.map.specs.Places.{widthOf}
@@ -14,10 +14,11 @@ use Rattle.steps.specs.Steps.{planOf}
 use Rattle.steps.specs.declared.Plan.{Plan}
 use Rattle.pass.specs.Readings.{Reading, readPass}
 use Rattle.pass.proofs.RangeLaws.{pass-keeps}
-use Rattle.block.specs.Blocks.{State, runs, enter, leave, passAt, endLine, readLine, beforeLine, readLineAt, startState, readLines}
+use Rattle.block.specs.Blocks.{State, runs, enter, leave, passAt, endLine, readLine, beforeLine, readLineAt, startState, readLines, readFrom}
 use Rattle.block.specs.Records.{baseOf, putSet}
 use Rattle.block.specs.declared.Form.{Form}
 use Rattle.block.proofs.RunLaws.{then-keeps, runs-keep}
+use Rattle.block.proofs.ResumeLaws.{from-top}
 
 -- the test at a line's end leaves the state as it is
 pub end-same : (s : List ℕ) (r z : State) → endLine s r ≡ some z → r ≡ z
@@ -36,14 +37,21 @@ module _ (F : Form) (s : List ℕ) (Q : State → Type 0) (pass : (q i : ℕ) (r
   line-keeps q r z h e =
       then-keeps Q (runs (passAt F q s) 6 r) (endLine s) z (λ y f. passes-keep q 6 r y h f) (λ y k f. let same = end-same s y z f in rw same at k) e
 
+  -- lines from line `first` on, which finds z
+  pub from-keeps : (bases : List ℕ) → ((n : ℕ) (r : State) → Q r → Q (beforeLine F bases n r)) → (first : ℕ) (z : State) → Q z
+      → (n : ℕ) (y : State) → readFrom F bases s first z n ≡ some y → Q y
+  unfolding readFrom readLineAt
+  from-keeps bases turn first z start n y e =
+      runs-keep (λ i. readLineAt F bases s (first + i)) z Q start
+      (λ m r x h f. line-keeps (baseOf bases (first + m)) (beforeLine F bases (first + m) r) x (turn (first + m) r h) f) n y e
+
+  -- and from the top
   pub lines-keep : (bases : List ℕ) → ((n : ℕ) (r : State) → Q r → Q (beforeLine F bases n r)) → Q (startState F bases)
       → (n : ℕ) (z : State) → readLines F bases s n ≡ some z → Q z
-  unfolding readLines readLineAt
-  lines-keep bases turn start n z e =
-      runs-keep (readLineAt F bases s) (startState F bases) Q start (λ m r y h f. line-keeps (baseOf bases m) (beforeLine F bases m r) y (turn m r h) f) n z e
+  lines-keep bases turn start n z e = from-keeps bases turn 0 (startState F bases) start n z (from-top F bases s n ∙ e)
 
 -- what a pass leaves, by what was read
-left-by : (Q : State → Type 0) (P : Plan) (r z : State) (o : Option Reading) → ((y : Reading) → o ≡ some y
+pub left-by : (Q : State → Type 0) (P : Plan) (r z : State) (o : Option Reading) → ((y : Reading) → o ≡ some y
     → Q (record { lines = y .lines; records = putSet (P .set) (y .set) (r .records); at = y .at; tight = y .tight; long = y .long }))
     → leave P r o ≡ some z → Q z
 left-by Q P r z none k e = let no : _≡_ {A = ℕ} 0 1 = cc in absurd (omega arith)
@@ -69,9 +77,8 @@ module _ (F : Form) (depth : F .bits ≤ 16) (s : List ℕ) where
   pub passes-few : (q n : ℕ) (r z : State) → Few r → runs (passAt F q s) n r ≡ some z → Few z
   passes-few q n r z h e = passes-keep F s Few pass-few q n r z h e
 
-  pub lines-few : (bases : List ℕ) (n : ℕ) (z : State) → readLines F bases s n ≡ some z → Few z
-  unfolding startState
-  lines-few bases n z e = lines-keep F s Few pass-few bases (λ m r h. h) (omega arith) n z e
+  pub lines-few : (bases : List ℕ) (first : ℕ) (z : State) → Few z → (n : ℕ) (y : State) → readFrom F bases s first z n ≡ some y → Few y
+  lines-few bases first z start n y e = from-keeps F s Few pass-few bases (λ m r h. h) first z start n y e
 
   -- ---- the 18 lines
 
@@ -87,7 +94,6 @@ module _ (F : Form) (depth : F .bits ≤ 16) (s : List ℕ) where
       ∙ length-guarded W (P .first) (r .lines) ∙ h)
       e
 
-  pub lines-long : (bases : List ℕ) (n : ℕ) (z : State) → readLines F bases s n ≡ some z → Long z
-  unfolding startState
-  lines-long bases n z e =
-      lines-keep F s Long pass-long bases (λ m r h. length-turned W (r .lines) (omega (arith, h)) ∙ h) (length-replicate (18 * (W + 2)) 0) n z e
+  pub lines-long : (bases : List ℕ) (first : ℕ) (z : State) → Long z → (n : ℕ) (y : State) → readFrom F bases s first z n ≡ some y → Long y
+  lines-long bases first z start n y e =
+      from-keeps F s Long pass-long bases (λ m r h. length-turned W (r .lines) (omega (arith, h)) ∙ h) first z start n y e

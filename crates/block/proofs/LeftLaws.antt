@@ -10,6 +10,7 @@ use Rattle.statistics.specs.declared.Record.{Record}
 use Rattle.lines.specs.ColourLines.{zeroLines}
 use Rattle.map.specs.Places.{widthOf}
 use Rattle.steps.specs.Values.{Depth}
+use Rattle.totals.specs.Totals.{noTotals}
 use Rattle.stream.specs.Headers.{Ruled}
 use Rattle.stream.specs.declared.BlockLength.{BlockLength}
 use Rattle.stream.specs.declared.BlockLength.the-variants as Block
@@ -27,6 +28,8 @@ use Rattle.block.specs.WindowedLines.{ScratchIn, zerosIn}
 use Rattle.block.specs.Lent.{Buffers, Scratch, Outputs, clearedLines, clearedRecords}
 use Rattle.block.specs.Records.{clearRecords}
 use Rattle.block.specs.Totals.{refusedBy}
+use Rattle.block.specs.Storing.{Storing, StoredBy}
+use Rattle.block.specs.Resuming.{Resuming, ResumedBy}
 use Rattle.block.specs.BlockReadings.{BlockReading, LeftBlock}
 use Rattle.block.specs.WrittenAnswers.{setAnswer, exactAnswer}
 use Rattle.block.specs.WriterParts.{roomFor, outputOf, LeftBy}
@@ -60,6 +63,27 @@ module _ (d : List ℕ) (r : Rect) (tile : List ℕ) (before : Buffers) (begins 
   pub windowed-reading : (h : FujiHeader) → begins ≡ Begin.Reading h → (after : Buffers) (a : Decoded) → WindowedDecoding d h r tile before after a
       → LeftWindowed d r tile begins before after a
   windowed-reading h e after a l = rw e l
+
+-- going on
+module _ (d : List ℕ) (b : ℕ) (s : List ℕ) (r : Rect) (tile : List ℕ) (before : Buffers) (begins : Beginning) where
+  pub resumed-refused : (x : Refusal) → begins ≡ Begin.Refused x → (a : Counted) → a ≡ refusedBy x → ResumedBy d b s r tile begins before before a
+  resumed-refused x e a f = rw e (f, refl)
+
+  pub resumed-nothing : begins ≡ Begin.Nothing → (a : Counted) → a ≡ record { answer = Done; totals = noTotals } → ResumedBy d b s r tile begins before before a
+  resumed-nothing e a f = rw e (f, refl)
+
+  pub resumed-reading : (h : FujiHeader) → begins ≡ Begin.Reading h → (after : Buffers) (a : Counted) → Resuming d b h s r tile before after a
+      → ResumedBy d b s r tile begins before after a
+  resumed-reading h e after a l = rw e l
+
+-- storing
+module _ (d : List ℕ) (b n : ℕ) (before : Outputs) (begins : Parsed) where
+  pub stored-refused : (x : Refusal) → begins ≡ Parsing.Refused x → (a : Counted) → a ≡ refusedBy x → StoredBy d b n begins before before a
+  stored-refused x e a f = rw e (f, refl)
+
+  pub stored-reading : (h : FujiHeader) → begins ≡ Parsing.Header h → (after : Outputs) (a : Counted) → Storing d b n h before after a
+      → StoredBy d b n begins before after a
+  stored-reading h e after a l = rw e l
 
 module _ (expected : FujiHeader → Counted) (before : Scratch) (begins : Parsed) where
   pub block-refused : (x : Refusal) → begins ≡ Parsing.Refused x → (a : Counted) → a ≡ refusedBy x → LeftBlock begins expected before before a

@@ -1,8 +1,8 @@
 -- Things that are done one after the other, until one fails. Assumes nothing.
 use mathlib.Core.Option.{Option, none, some}
-use mathlib.Core.Path.{_≡_, refl, _∙_}
+use mathlib.Core.Path.{_≡_, refl, sym, _∙_}
 use Prim.Native.Nat.{ℕ, zero, suc, _+_, _-_, _<_}
-use native.Mathlib.Nat.{add-zero, add-suc}
+use native.Mathlib.Nat.{add-zero, add-suc, zero-add}
 use native.Mathlib.Numerals.{add-one}
 use native.Mathlib.Omega.{arith}
 use Rattle.pass.specs.Readings.{andThen}
@@ -19,6 +19,17 @@ pub then-keeps : {A : Type 0} (Q : A → Type 0) (o : Option A) (g : A → Optio
     → ((y : A) → Q y → g y ≡ some z → Q z) → andThen o g ≡ some z → Q z
 then-keeps Q o g z first next e = let b = then-both o g z e in next (b .0) (first (b .0) (b .1)) (b .2)
 
+-- nothing more, and one thing after two others
+pub then-some : {A : Type 0} (o : Option A) → andThen o (λ z. some z) ≡ o
+unfolding andThen
+then-some none = refl
+then-some (some a) = refl
+
+pub then-then : {A B C : Type 0} (o : Option A) (g : A → Option B) (h : B → Option C) → andThen (andThen o g) h ≡ andThen o (λ z. andThen (g z) h)
+unfolding andThen
+then-then none g h = refl
+then-then (some a) g h = refl
+
 module _ {A : Type 0} (f : ℕ → A → Option A) (r₀ : A) where
   pub runs-none : runs f 0 r₀ ≡ some r₀
   unfolding runs
@@ -32,6 +43,18 @@ module _ {A : Type 0} (f : ℕ → A → Option A) (r₀ : A) where
   pub runs-last : (n : ℕ) (z : A) → runs f (suc n) r₀ ≡ some z → (y : A) × (runs f n r₀ ≡ some y) × (f n y ≡ some z)
   unfolding runs
   runs-last n z e = then-both (runs f n r₀) (λ y. f n y) z e
+
+  -- counted from 0 on
+  pub runs-from-0 : (n : ℕ) → runs (λ i. f (0 + i)) n r₀ ≡ runs f n r₀
+  unfolding runs
+  runs-from-0 zero = refl
+  runs-from-0 (suc n) = rw (runs-from-0 n, zero-add n)
+
+  -- k of them, and then m more
+  pub runs-split : (k m : ℕ) → runs f (k + m) r₀ ≡ andThen (runs f k r₀) (λ z. runs (λ i. f (k + i)) m z)
+  unfolding runs
+  runs-split k zero = rw (add-zero k) (sym (then-some (runs f k r₀)))
+  runs-split k (suc m) = rw (add-suc k m, runs-split k m) (then-then (runs f k r₀) (λ z. runs (λ i. f (k + i)) m z) (λ z. f (k + m) z))
 
   -- once one has failed they all have
   pub runs-stay : (t m : ℕ) → runs f t r₀ ≡ none → runs f (t + m) r₀ ≡ none

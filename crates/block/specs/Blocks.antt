@@ -96,6 +96,10 @@ startState F bases =
 unfoldable pub readLines : Form → List ℕ → List ℕ → ℕ → Option State
 readLines F bases s n = runs (readLineAt F bases s) n (startState F bases)
 
+-- the state after m lines from line k on, where line k finds the state z
+unfoldable pub readFrom : Form → List ℕ → List ℕ → ℕ → State → ℕ → Option State
+readFrom F bases s k z m = runs (λ i. readLineAt F bases s (k + i)) m z
+
 -- the colour lines after n lines: those of line n − 1
 abbrev pub linesOf : Option State → List ℕ
 linesOf none = []
@@ -105,12 +109,12 @@ abbrev pub isTightState : Option State → Bool
 isTightState none = true
 isTightState (some r) = r .tight
 
--- how many lines, from the first on, have only tight codes
-unfoldable pub tightLines : Form → List ℕ → List ℕ → ℕ → ℕ
-tightLines F bases s zero = 0
-tightLines F bases s (suc n) =
-    let m = tightLines F bases s n in
-    cond (eqb m n && isTightState (readLines F bases s (suc n))) (suc n) m
+-- how many lines, from the first on, have only tight codes, where `read` reads so many of them
+unfoldable pub tightIn : (ℕ → Option State) → ℕ → ℕ
+tightIn read zero = 0
+tightIn read (suc n) =
+    let m = tightIn read n in
+    cond (eqb m n && isTightState (read (suc n))) (suc n) m
 
 -- ---- what is counted
 
@@ -124,5 +128,8 @@ abbrev pub totalsAfter : Form → List ℕ → List ℕ → ℕ → Totals
 totalsAfter F bases s n = totalsIn (readLines F bases s n)
 
 -- of the lines, from the first on, that have only tight codes
+abbrev pub tightOf : (ℕ → Option State) → ℕ → TightLines
+tightOf read n = record { lines = tightIn read n; totals = totalsIn (read (tightIn read n)) }
+
 abbrev pub tightBefore : Form → List ℕ → List ℕ → ℕ → TightLines
-tightBefore F bases s n = record { lines = tightLines F bases s n; totals = totalsAfter F bases s (tightLines F bases s n) }
+tightBefore F bases s n = tightOf (λ m. readLines F bases s m) n

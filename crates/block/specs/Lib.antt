@@ -10,6 +10,10 @@ pub mod BadSpots
 pub mod TightBlocks
 pub mod WrittenBlocks
 pub mod Totals
+pub mod Checkpoints
+pub mod Storing
+pub mod Resuming
+pub mod Calls
 pub mod BlockReadings
 pub mod Sharing
 pub mod Words

@@ -3,7 +3,7 @@ use mathlib.Core.Bool.{true}
 use mathlib.Core.List.{List}
 use mathlib.Core.Option.{none, some}
 use mathlib.Core.Path.{_≡_}
-use Prim.Native.Nat.{ℕ, suc, _*_, _/_, _≤_, _<_}
+use Prim.Native.Nat.{ℕ, suc, _+_, _-_, _*_, _/_, _≤_, _<_}
 use lib.ListN.{getD}
 use Rattle.statistics.specs.Statistics.{InRange}
 use Rattle.statistics.specs.declared.Record.{Record}
@@ -13,7 +13,7 @@ use Rattle.totals.specs.declared.TightLines.{TightLines}
 use Rattle.steps.specs.Contexts.{noRecord}
 use Rattle.map.specs.Places.{widthOf, pictureRow, inRows, emittedSample, Changed}
 use Rattle.map.specs.declared.Part.{Part}
-use Rattle.block.specs.Blocks.{State, readLines, linesOf, totalsAfter, tightBefore}
+use Rattle.block.specs.Blocks.{State, readLines, readFrom, linesOf, totalsAfter, tightBefore}
 use Rattle.block.specs.declared.Form.{Form}
 use Rattle.block.specs.declared.Walked.{Walked}
 use Rattle.block.specs.declared.Walked.the-variants as Walk
@@ -28,6 +28,15 @@ shownSample F bases s tile a i =
 -- the image after n lines: their rows have been put into it
 abbrev pub Shown : Form → (bases s tile : List ℕ) → Part → ℕ → (before after : List ℕ) → Type 0
 Shown F bases s tile a n before after = Changed (inRows a 0 (6 * n)) (shownSample F bases s tile a) before after
+
+-- the same where lines are read from line `first` on, which finds the state z
+abbrev pub shownFrom : Form → (bases s tile : List ℕ) → ℕ → State → Part → ℕ → ℕ
+shownFrom F bases s tile first z a i =
+    let lines = linesOf (readFrom F bases s first z (suc (pictureRow a i / 6 - first))) in
+    emittedSample (F .xtrans) (widthOf (F .xtrans)) tile lines a i
+
+abbrev pub ShownFrom : Form → (bases s tile : List ℕ) → ℕ → State → Part → ℕ → (before after : List ℕ) → Type 0
+ShownFrom F bases s tile first z a n before after = Changed (inRows a (6 * first) (6 * (first + n))) (shownFrom F bases s tile first z a) before after
 
 -- ---- the answers
 

@@ -4,11 +4,13 @@ use mathlib.Core.Bool.{Bool, true, false, cond, _&&_}
 use mathlib.Core.List.{List}
 use mathlib.Core.Option.{Option, none, some}
 use mathlib.Core.Path.{_≡_}
-use Prim.Native.Nat.{ℕ, suc, _+_, _-_, _*_, _/_, _<_}
+use Prim.Native.Nat.{ℕ, suc, _+_, _-_, _*_, _/_, _≤_, _<_}
 use lib.Dec.{ltb}
 use lib.ListN.{length, getD, replicate}
 use Rattle.code.specs.declared.Place.{Place}
 use Rattle.statistics.specs.declared.Record.{Record}
+use Rattle.totals.specs.declared.Totals.{Totals}
+use Rattle.totals.specs.declared.TightLines.{TightLines}
 use Rattle.map.specs.Places.{widthOf, pictureRow, inRows, emittedSample, Changed}
 use Rattle.map.specs.Windows.{PassEmitted}
 use Rattle.map.specs.declared.Part.{Part}
@@ -18,8 +20,8 @@ use Rattle.steps.specs.declared.Quantisers.{Quantisers}
 use Rattle.stream.specs.declared.FujiHeader.{FujiHeader}
 use Rattle.region.specs.declared.Rect.{Rect}
 use Rattle.begin.specs.Beginnings.{samplesNeeded, recordsNeeded}
-use Rattle.block.specs.Blocks.{State, readLine}
-use Rattle.block.specs.Walks.{stateAt, shownSample, Shown, shownLines}
+use Rattle.block.specs.Blocks.{State, readLine, readFrom, totalsIn, tightOf}
+use Rattle.block.specs.Walks.{stateAt, shownSample, Shown, shownFrom, shownLines}
 use Rattle.block.specs.Images.{Pictured}
 use Rattle.block.specs.Lent.{Buffers}
 use Rattle.block.specs.WindowedImages.{windowSize, PicturedWindowed}
@@ -96,6 +98,53 @@ abbrev pub ShownIn : Bool → Form → (bases s tile : List ℕ) → Part → Wa
 ShownIn false F bases s tile a r count before after = Shown F bases s tile a (shownLines r count) before after
 ShownIn true F bases s tile a r count before after =
     Changed (inRows a 0 (6 * reachedLines r count)) (λ i. cond (ltb (pictureRow a i / 6) (shownLines r count)) (shownSample F bases s tile a i) 0) before after
+
+-- ---- lines from line `first` on, which finds the state z
+
+-- all of them were read, with these totals; so many had only tight codes; and scratch stands for what they left
+pub record ReadOn (windowed : Bool) (F : Form) (bases s : List ℕ) (first : ℕ) (z : State) (more : ℕ) (all : Totals) (tight : TightLines) (after : Buffers) : Type 0 where
+  pub end : State
+  pub read : readFrom F bases s first z more ≡ some end
+  pub all-is : all ≡ totalsIn (some end)
+  pub tight-is : tight ≡ tightOf (λ n. readFrom F bases s first z n) more
+  pub held : Held windowed (widthOf (F .xtrans)) 6 (end .lines) (after .lines)
+  pub records : after .records ≡ end .records
+
+-- or this line, `count` lines on, is the first that is truncated
+pub record CutOn (F : Form) (bases s : List ℕ) (first : ℕ) (z : State) (more line : ℕ) (totals : Totals) : Type 0 where
+  pub count : ℕ
+  pub before : State
+  pub inside : suc count ≤ more
+  pub line-is : line ≡ first + count
+  pub read : readFrom F bases s first z count ≡ some before
+  pub cut : readFrom F bases s first z (suc count) ≡ none
+  pub totals-are : totals ≡ totalsIn (some before)
+
+abbrev pub IsReadOn : Bool → Form → (bases s : List ℕ) → ℕ → State → ℕ → (after : Buffers) → Walked → Type 0
+IsReadOn windowed F bases s first z more after (Walk.Read all tight) = ReadOn windowed F bases s first z more all tight after
+IsReadOn windowed F bases s first z more after (Walk.Truncated line before) = CutOn F bases s first z more line before
+
+-- the image, where all lines would end with line `end`
+abbrev pub ShownOn : Bool → Form → (bases s tile : List ℕ) → Part → ℕ → State → Walked → ℕ → (before after : List ℕ) → Type 0
+ShownOn false F bases s tile a first z r end before after =
+    Changed (inRows a (6 * first) (6 * shownLines r end)) (shownFrom F bases s tile first z a) before after
+ShownOn true F bases s tile a first z r end before after =
+    Changed (inRows a (6 * first) (6 * reachedLines r end))
+    (λ i. cond (ltb (pictureRow a i / 6) (shownLines r end)) (shownFrom F bases s tile first z a i) 0) before after
+
+-- what reading `more` lines from there says, of any 18 lines for which the lines that are kept stand
+abbrev pub LinesReadOn : Bool → Form → (bases s tile : List ℕ) → Part → ℕ → Place → ℕ → (before after : Buffers) → Walked → Type 0
+LinesReadOn windowed F bases s tile a first from more before after r =
+    let W = widthOf (F .xtrans) in
+    (l : List ℕ) → length l ≡ 18 * (W + 2) → Held windowed W 6 l (before .lines)
+    → IsReadOn windowed F bases s first (stateAt l (before .records) from) more after r
+    × ShownOn windowed F bases s tile a first (stateAt l (before .records) from) r (first + more) (before .image) (after .image)
+
+-- there are such lines
+abbrev pub Stands : Bool → Bool → List ℕ → Type 0
+Stands windowed xtrans v = (l : List ℕ) × (length l ≡ 18 * (widthOf xtrans + 2)) × Held windowed (widthOf xtrans) 6 l v
+
+-- ---- the picture
 
 abbrev pub PicturedIn : Bool → List ℕ → FujiHeader → Rect → List ℕ → ℕ → (before after : List ℕ) → Type 0
 PicturedIn false d h r tile e before after = Pictured d h r tile e before after

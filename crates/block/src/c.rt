@@ -6,10 +6,12 @@ ghost use Rattle.cameras.specs.Entries.{givenBack};
 ghost use Rattle.cameras.specs.Words.{cameraIn, entriesIn, AreWords};
 ghost use Rattle.begin.specs.Beginnings.{regionBegins, windowedBegins, wholeOf, imageBegins};
 ghost use Rattle.block.specs.Lent.{Buffers, Scratch, Outputs};
-ghost use Rattle.block.specs.Words.{answerWords, Told, ToldWindowed, ToldShared, totalsWords, ToldRead, ToldTight};
+ghost use Rattle.block.specs.Words.{answerWords, Told, ToldWindowed, ToldShared, totalsWords, ToldRead, ToldTight, ToldStored, ToldResumed};
 ghost use Rattle.block.specs.Words.{ToldWritten, ToldLossy, ToldMeasured};
 use crate::Counted;
 use crate::Decoded;
+use crate::checkpoints::resume_region;
+use crate::checkpoints::store_checkpoint;
 use crate::decoding::decode;
 use crate::decoding::decode_region;
 use crate::decoding::decode_region_windowed;
@@ -210,6 +212,67 @@ pub extern "C" fn fuji_read_block(
     let t = totals_words(a);
     let w = counted_refusal(a);
     *totals = t;
+    *refusal = w;
+}
+
+// `store_checkpoint` for C.
+#[no_mangle]
+pub extern "C" fn fuji_store_checkpoint(
+    d: &[u8],
+    b: usize,
+    line: usize,
+    state: &mut [u8],
+    lines: &mut [u16],
+    rs: &mut [Record],
+    totals: &mut [usize; 2],
+    refusal: &mut [usize; 4],
+)
+    ensures { λ _.
+        let before : Outputs = record { out = now (state .entry); lines = now (lines .entry); records = now (rs .entry) } in
+        let after : Outputs = record { out = now (state .exit); lines = now (lines .exit); records = now (rs .exit) } in
+        ⌜ ToldStored (now (d .entry)) b line before after (now (totals .exit)) (now (refusal .exit)) ⌝ }
+{
+    let a = store_checkpoint(d, b, line, state, lines, rs);
+    let t = totals_words(a);
+    let w = counted_refusal(a);
+    *totals = t;
+    *refusal = w;
+}
+
+// `resume_region` for C.
+#[no_mangle]
+pub extern "C" fn fuji_resume_region(
+    d: &[u8],
+    b: usize,
+    state: &[u8],
+    x: usize,
+    y: usize,
+    width: usize,
+    height: usize,
+    tile: &[u8; 36],
+    image: &mut [u16],
+    lines: &mut [u16],
+    rs: &mut [Record],
+    totals: &mut [usize; 2],
+    refusal: &mut [usize; 4],
+)
+    ensures { λ _.
+        let r : Rect = record { x = x; y = y; width = width; height = height } in
+        let before : Buffers = record { image = now (image .entry); lines = now (lines .entry); records = now (rs .entry) } in
+        let after : Buffers = record { image = now (image .exit); lines = now (lines .exit); records = now (rs .exit) } in
+        ⌜ ToldResumed (now (d .entry)) b (now (state .entry)) r (now (tile .entry)) before after (now (totals .exit)) (now (refusal .exit)) ⌝ }
+{
+    let r = Rect {
+        x,
+        y,
+        width,
+        height,
+    };
+    let t = *tile;
+    let a = resume_region(d, b, state, r, t, image, lines, rs);
+    let n = totals_words(a);
+    let w = counted_refusal(a);
+    *totals = n;
     *refusal = w;
 }
 

@@ -9,6 +9,7 @@ use totals::TightLines;
 use totals::Totals;
 
 mod c;
+mod checkpoints;
 mod decoding;
 mod reading;
 mod records;
@@ -17,6 +18,8 @@ mod tight;
 mod writer;
 
 pub use c::answer_words;
+pub use checkpoints::resume_region;
+pub use checkpoints::store_checkpoint;
 pub use decoding::decode;
 pub use decoding::decode_region;
 pub use decoding::decode_region_alone;

@@ -6,11 +6,11 @@ ghost use Rattle.quantiser.specs.Quantisers.{mainOf};
 ghost use Rattle.cameras.specs.Entries.{AllNumbered};
 ghost use Rattle.map.specs.Places.{widthOf, ArePlaces, Fits};
 ghost use Rattle.steps.specs.Values.{quantisersOf, Depth};
-ghost use Rattle.totals.specs.Totals.{noTotals};
 ghost use Rattle.block.specs.Lent.{Buffers};
-ghost use Rattle.block.specs.Records.{baseOf, isRestarted, clearRecords};
+ghost use Rattle.block.specs.Records.{isRestarted, clearRecords};
 ghost use Rattle.block.specs.Walks.{startPlace, totalsAt, AllInRange, Shown, shownLines, IsWalked};
 ghost use Rattle.block.specs.WindowedLines.{samplesIn, ScratchIn, zerosIn, PassPlaced, LineReadIn, OnlyLine, ShownIn};
+ghost use Rattle.block.specs.WindowedLines.{LinesReadOn, Stands};
 use crate::Form;
 use crate::Lined;
 use crate::Walked;
@@ -75,7 +75,7 @@ fn quantisers_in(entries: Entries, bits: u32, base: u32) -> Quantisers
 }
 
 // Where a block starts.
-fn start_place() -> Place
+pub(crate) fn start_place() -> Place
     ensures { λ r. ⌜ r ≡ startPlace ⌝ }
 {
     let at = BitPosition(0);
@@ -97,10 +97,10 @@ fn totals_at(place: Place) -> Totals
     }
 }
 
-fn no_lines() -> TightLines
-    ensures { λ r. ⌜ r ≡ record { lines = 0; totals = noTotals } ⌝ }
+// No line yet, where this was counted before.
+fn no_lines(totals: Totals) -> TightLines
+    ensures { λ r. ⌜ r ≡ record { lines = 0; totals = totals } ⌝ }
 {
-    let totals = totals::none();
     TightLines { lines: 0, totals }
 }
 
@@ -194,9 +194,10 @@ fn line(
     Lined::Read(place)
 }
 
-// The first `count` lines of a block, each put into the image as soon as it is read. In windows a truncated line's rows become 0. Scratch is left
-// as it is then. A line's main quantiser is that of its entry; whoever has no entries gives none.
-fn read_lines(
+// `more` lines of a block from line `first` on, each put into the image as soon as it is read. They begin at this place, with what scratch
+// holds, and leave in it what the last of them left. In windows a truncated line's rows become 0. A line's main quantiser is that of its entry; whoever
+// has no entries gives none.
+pub(crate) fn read_lines(
     block: &[u8],
     bases: &[u8],
     lines: &mut [u16],
@@ -206,26 +207,30 @@ fn read_lines(
     places: &[u16; 768],
     tile: [u8; 36],
     part: Part,
-    count: usize,
+    first: usize,
+    from: Place,
+    more: usize,
     windowed: bool,
     entries: Entries,
 ) -> Walked
     requires { ⌜ (length (now block) < 2 ^ 32) × ScratchIn windowed (form .xtrans) (now lines) (now rs) ⌝ }
-    requires { ⌜ Depth (form .bits) × (count < 2 ^ 16) ⌝ }
+    requires { ⌜ Depth (form .bits) × (first + more < 2 ^ 16) ⌝ }
     requires { ⌜ ArePlaces (now places) × Fits part (now image) ⌝ }
     requires { ⌜ AllNumbered (entries .all) ⌝ }
-    ensures { λ r. ⌜ IsWalked form (now (bases .entry)) (now (block .entry)) count r ⌝ }
-    ensures { λ r. ⌜ ShownIn windowed form (now (bases .entry)) (now (block .entry)) tile part r count (now (image .entry)) (now (image .exit)) ⌝ }
+    requires { ⌜ AllInRange (now rs) × ((from .long ≤ from .at .0) × Stands windowed (form .xtrans) (now lines)) ⌝ }
+    ensures { λ r.
+        let before : Buffers = record { image = now (image .entry); lines = now (lines .entry); records = now (rs .entry) } in
+        let after : Buffers = record { image = now (image .exit); lines = now (lines .exit); records = now (rs .exit) } in
+        ⌜ LinesReadOn windowed form (now (bases .entry)) (now (block .entry)) tile part first from more before after r ⌝ }
 {
     let bits = form.bits;
     let xtrans = form.xtrans;
     let w = width(xtrans);
-    lines::clear(lines);
-    start_records(rs, bits, base_of(bases, 0));
-    let mut place = start_place();
-    let mut tight_lines = no_lines();
-    let mut n: usize = 0;
-    while n < count {
+    let mut place = from;
+    let mut tight_lines = no_lines(totals_at(from));
+    let mut i: usize = 0;
+    while i < more {
+        let n = first + i;
         lines::turn_if(lines, w, !windowed);
         let base = base_of(bases, n);
         restart(rs, bits, base, is_restarted(bases, n));
@@ -248,9 +253,9 @@ fn read_lines(
             return Walked::Truncated(n, totals_at(place));
         };
         place = after;
-        tight_lines = totals::with_line(tight_lines, n, place.tight, totals_at(place));
+        tight_lines = totals::with_line(tight_lines, i, place.tight, totals_at(place));
         map::emit_line_if(lines, image, w, xtrans, places, tile, part, n, !windowed);
-        n = n + 1;
+        i = i + 1;
     }
     Walked::Read(totals_at(place), tight_lines)
 }
@@ -279,6 +284,8 @@ pub(crate) fn walk(
     ensures { λ r. ⌜ ShownIn windowed form (now (bases .entry)) (now (block .entry)) tile part r count (now (image .entry)) (now (image .exit)) ⌝ }
     ensures { λ _. ⌜ (now (lines .exit) ≡ zerosIn windowed (form .xtrans)) × (now (rs .exit) ≡ clearRecords) ⌝ }
 {
+    lines::clear(lines);
+    start_records(rs, form.bits, base_of(bases, 0));
     let walked = read_lines(
         block,
         bases,
@@ -289,6 +296,8 @@ pub(crate) fn walk(
         places,
         tile,
         part,
+        0,
+        start_place(),
         count,
         windowed,
         entries,

@@ -1,8 +1,8 @@
 // Readings of one block that show nothing: the ordinary one, of lossless and of lossy blocks, and the tight one.
 ghost use mathlib.Core.Path.{_≡_};
 ghost use mathlib.Core.Bool.{true};
-ghost use mathlib.Core.List.{[], _∷_};
-ghost use Prim.Native.Nat.{_^_, _<_};
+ghost use mathlib.Core.List.{List, []};
+ghost use Prim.Native.Nat.{ℕ, _^_, _<_};
 ghost use lib.ListN.{length};
 ghost use Rattle.lines.specs.ColourLines.{zeroLines};
 ghost use Rattle.map.specs.Places.{widthOf, Fits};
@@ -29,7 +29,7 @@ use stream::Parsed;
 use stream::Refusal;
 
 // A call that is refused before it reads has counted nothing.
-fn refused(x: Refusal) -> Counted
+pub(crate) fn refused(x: Refusal) -> Counted
     ensures { λ r. ⌜ r ≡ refusedBy x ⌝ }
 {
     let answer = Decoded::Refused(x);
@@ -38,7 +38,7 @@ fn refused(x: Refusal) -> Counted
 }
 
 // What the ordinary reading answers for block b, once a walk over its lines has said this.
-fn read_answer(b: usize, got: Walked) -> Counted
+pub(crate) fn read_answer(b: usize, got: Walked) -> Counted
     ensures { λ r. ⌜ r ≡ walkedCounted b got ⌝ }
 {
     match got {
@@ -81,8 +81,8 @@ pub fn tight_answer(s: &[u8], form: Form, b: usize, count: usize, got: Walked) -
 }
 
 // A part of no column and no row: a walk to it shows nothing.
-fn no_part() -> Part
-    ensures { λ r. ⌜ Fits r (0 ∷ []) ⌝ }
+pub(crate) fn no_part() -> Part
+    ensures { λ r. ⌜ ((image : List ℕ) → Fits r image) ⌝ }
 {
     Part {
         left: 0,

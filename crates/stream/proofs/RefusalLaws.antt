@@ -5,7 +5,7 @@ use Rattle.stream.specs.Refusals.{refusalNumber}
 use Rattle.stream.specs.declared.Refusal.{Refusal}
 use Rattle.stream.specs.declared.Refusal.the-variants.{ShortHeader, BadHeader, ShortSizes, ShortBases, NoBlock, WrongSize, OutsideImage, Lossy}
 use Rattle.stream.specs.declared.Refusal.the-variants.{WrongCount, ShortScratch, AboveLargest, NotPredicted, ShortOutput, Truncated, NotTight}
-use Rattle.stream.specs.declared.Refusal.the-variants.{Lossless, WrongBases, BadRecord, HeldTwice, NotHeld, NoEntry, OutsideSheet}
+use Rattle.stream.specs.declared.Refusal.the-variants.{Lossless, WrongBases, BadRecord, HeldTwice, NotHeld, BadState, OtherState, NoEntry, OutsideSheet}
 
 -- no refusal has the number 0
 pub number-low : (r : Refusal) → 1 ≤ refusalNumber r
@@ -29,5 +29,7 @@ number-low WrongBases = lit≤ tt
 number-low (BadRecord i) = lit≤ tt
 number-low (HeldTwice l) = lit≤ tt
 number-low (NotHeld l) = lit≤ tt
+number-low BadState = lit≤ tt
+number-low OtherState = lit≤ tt
 number-low (NoEntry b l) = lit≤ tt
 number-low OutsideSheet = lit≤ tt

@@ -5,7 +5,7 @@ use mathlib.Core.Option.{Option, none, some}
 use Rattle.stream.specs.declared.Refusal.{Refusal}
 use Rattle.stream.specs.declared.Refusal.the-variants.{ShortHeader, BadHeader, ShortSizes, ShortBases, NoBlock, WrongSize, OutsideImage, Lossy}
 use Rattle.stream.specs.declared.Refusal.the-variants.{WrongCount, ShortScratch, AboveLargest, NotPredicted, ShortOutput, Truncated, NotTight}
-use Rattle.stream.specs.declared.Refusal.the-variants.{Lossless, WrongBases, BadRecord, HeldTwice, NotHeld, NoEntry, OutsideSheet}
+use Rattle.stream.specs.declared.Refusal.the-variants.{Lossless, WrongBases, BadRecord, HeldTwice, NotHeld, BadState, OtherState, NoEntry, OutsideSheet}
 
 -- what a refusal says: its number, and the block, the line and the index that it names
 pub record Meaning : Type 0 where
@@ -39,6 +39,8 @@ meaningOf WrongBases = naming 17 none none none
 meaningOf (BadRecord index) = naming 18 none none (some index)
 meaningOf (HeldTwice line) = naming 19 none (some line) none
 meaningOf (NotHeld line) = naming 20 none (some line) none
+meaningOf BadState = naming 21 none none none
+meaningOf OtherState = naming 22 none none none
 meaningOf (NoEntry block line) = naming 23 (some block) (some line) none
 meaningOf OutsideSheet = naming 24 none none none
 

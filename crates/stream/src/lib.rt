@@ -31,6 +31,8 @@ pub enum Refusal {
     BadRecord(usize),
     HeldTwice(usize),
     NotHeld(usize),
+    BadState,
+    OtherState,
     NoEntry(usize, usize),
     OutsideSheet,
 }
@@ -60,6 +62,8 @@ pub fn refusal_words(r: Refusal) -> [usize; 4]
         Refusal::BadRecord(i) => [18, 0, 0, i],
         Refusal::HeldTwice(l) => [19, 0, l, 0],
         Refusal::NotHeld(l) => [20, 0, l, 0],
+        Refusal::BadState => [21, 0, 0, 0],
+        Refusal::OtherState => [22, 0, 0, 0],
         Refusal::NoEntry(b, l) => [23, b, l, 0],
         Refusal::OutsideSheet => [24, 0, 0, 0],
     }

@@ -1,6 +1,6 @@
 // What is counted of the lines of a block: their bits and their long codes.
 ghost use mathlib.Core.Path.{_≡_};
-ghost use Prim.Native.Nat.{_+_, _^_, _≤_, _<_};
+ghost use Prim.Native.Nat.{_+_, _-_, _^_, _≤_, _<_};
 ghost use Rattle.totals.specs.Totals.{noTotals, withLine};
 
 pub struct Totals {
@@ -19,6 +19,20 @@ pub fn none() -> Totals
     ensures { λ r. ⌜ r ≡ noTotals ⌝ }
 {
     Totals { bits: 0, long: 0 }
+}
+
+// What was counted from the bit position `at` on, where the long codes are counted from there.
+pub fn since(totals: Totals, at: u64) -> Totals
+    ensures { λ r. ⌜ r ≡ record { bits = totals .bits - at; long = totals .long } ⌝ }
+{
+    let long = totals.long;
+    if totals.bits < at {
+        return Totals { bits: 0, long };
+    }
+    Totals {
+        bits: totals.bits - at,
+        long,
+    }
 }
 
 // The tight lines after line n, up to which the totals are these.

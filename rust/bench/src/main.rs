@@ -205,6 +205,32 @@ impl Picture {
         })
     }
 
+    /// Rounds of reading the last tenth of the only block's lines from the top, from a stored state, and from the top; all ours.
+    fn foot_against_top(&self) -> Rounds {
+        let (stream, lines) = (FujiCompressed::new(&self.stream).unwrap(), self.height / 6);
+        let first = lines - lines / 10;
+        let foot = Rect::new(0, 6 * first, self.width, self.height - 6 * first);
+        let (mut state, mut scratch) = (vec![0; stream.header.checkpoint_size()], Scratch::new());
+        stream.store_checkpoint(0, first as usize - 1, &mut state).answer.unwrap();
+        let mut want = vec![0x5a5a; foot.width as usize * foot.height as usize];
+        let mut got = want.clone();
+        let top = |image: &mut [u16], scratch: &mut Scratch| {
+            let start = seconds();
+            FujiCompressed::new(black_box(&self.stream)).unwrap().decode_region_with(scratch, image, foot, &TILE).unwrap();
+            seconds() - start
+        };
+        let on = |image: &mut [u16], scratch: &mut Scratch| {
+            let start = seconds();
+            let stream = FujiCompressed::new(black_box(&self.stream)).unwrap();
+            stream.resume_region_with(scratch, 0, black_box(&state), image, foot, &TILE).answer.unwrap();
+            seconds() - start
+        };
+        top(&mut want, &mut scratch);
+        on(&mut got, &mut scratch);
+        assert!(want == got, "the two pictures differ");
+        rounds(|| [top(&mut want, &mut scratch), on(&mut got, &mut scratch), top(&mut want, &mut scratch)])
+    }
+
     /// Rounds of the ordinary reading, the tight reading, the ordinary reading; all ours.
     fn tight_against_ordinary(&self) -> Rounds {
         let (mut image, mut scratch) = (self.image(), Scratch::new());
@@ -317,6 +343,10 @@ fn measure_kind((name, xtrans, lossy): (&str, bool, bool), blocks: u16, lines: u
     let windowed = format!("windowed-{name}");
     let title = format!("{windowed}, one block of 480 lines");
     say(&windowed, measure(&title, ["decode", "decode_region_windowed"], &one, one.windowed_against_read()));
+    let tall = Picture::new(1, 2731, xtrans, lossy, noise);
+    let foot = format!("foot-{name}");
+    let title = format!("{foot}, the last tenth of one block of 2731 lines");
+    say(&foot, measure(&title, ["decode_region", "resume_region"], &tall, tall.foot_against_top()));
     let colours = if xtrans { "xtrans" } else { "bayer" };
     let write = one.write_against_read(xtrans);
     let entries = if lossy {

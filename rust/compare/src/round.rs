@@ -74,7 +74,13 @@ fn is_wider(bytes: &[u8]) -> bool {
 
 impl Round {
     pub fn new(seed: u64) -> Round {
-        Round { random: Random::new(seed), scratch: Scratch::new(), windows: Scratch::windowed(), entries: Quantisers::default(), tally: Tally::default() }
+        Round {
+            random: Random::new(seed),
+            scratch: Scratch::new(),
+            windows: Scratch::windowed(),
+            entries: Quantisers::default(),
+            tally: Tally::default(),
+        }
     }
 
     /// Calls until there are so many, or one differs.
@@ -175,6 +181,7 @@ impl Round {
         is(theirs == mine, || format!("{wanted:?} of {} bytes, {got:?}: the images differ", bytes.len()))?;
         if let Wanted::Region(region) = wanted {
             self.shared(bytes, region, &tile, before.clone(), &theirs, got)?;
+            self.resumed(bytes, region, &tile, &before, &theirs, got)?;
             self.windowed(bytes, region, &tile, before, theirs, got)?;
         }
         match got {
@@ -187,7 +194,15 @@ impl Round {
     }
 
     /// The same region for one of two cameras that have shared the entries so far: unless it is refused by 23, the original's image, and the same answer.
-    fn shared(&mut self, bytes: &[u8], region: Rect, tile: &ColorTile, before: Vec<u16>, theirs: &[u16], want: Result<(), Refusal>) -> Checked {
+    fn shared(
+        &mut self,
+        bytes: &[u8],
+        region: Rect,
+        tile: &ColorTile,
+        before: Vec<u16>,
+        theirs: &[u16],
+        want: Result<(), Refusal>,
+    ) -> Checked {
         let mut mine = before;
         let camera = if self.random.chance(2) { Camera::One } else { Camera::Two };
         let (got, after) = self.entries.decode_region_with(camera, &mut self.scratch, bytes, &mut mine, region, tile);
@@ -198,6 +213,54 @@ impl Round {
         }
         is(got == want, || format!("{camera:?}, {region:?} of {} bytes: {want:?} and {got:?}", bytes.len()))?;
         is(theirs == mine, || format!("{camera:?}, {region:?} of {} bytes, {got:?}: the images differ", bytes.len()))
+    }
+
+    /// A state of a block that the region touches is stored after some line, and gone on from: the original's samples from the next line on, in that block's columns, and its answer
+    /// for that block.
+    fn resumed(
+        &mut self,
+        bytes: &[u8],
+        region: Rect,
+        tile: &ColorTile,
+        before: &[u16],
+        theirs: &[u16],
+        got: Result<(), Refusal>,
+    ) -> Checked {
+        let (Ok(stream), true) =
+            (FujiCompressed::new(bytes), got.is_ok_and(|()| region.width * region.height > 0) || got.is_err_and(|r| r.number == 14))
+        else {
+            return Ok(());
+        };
+        let (first, last) = (region.x / 768, (region.x + region.width - 1) / 768);
+        let block = first + self.random.below((last - first + 1) as u64) as u32;
+        let line = self.random.below(stream.header.lines as u64 + 1) as usize;
+        let mut state = vec![0; stream.header.checkpoint_size()];
+        let stored = stream.store_checkpoint_with(&mut self.scratch, block as usize, line, &mut state).answer;
+        self.tally.count("store_checkpoint", stored.map_or_else(|r| r.number, |()| 0));
+        // Columns of that block, from its top to the line that is stored after: what the original reads of them.
+        let up_to = |height: u32| {
+            let (left, right) = (region.x.max(768 * block), (region.x + region.width).min(768 * (block + 1)));
+            truncated_place(bytes, Rect::new(left, 0, right - left, height))
+        };
+        if line >= stream.header.lines as usize {
+            return is(stored.is_err_and(|r| r.number == 21), || format!("storing after line {line}: {stored:?}"));
+        }
+        let place = up_to(6 * (line as u32 + 1));
+        is(stored.err().map(|r| (r.block, r.line)) == place, || format!("storing after line {line}: {stored:?} and {place:?}"))?;
+        if stored.is_err() {
+            return Ok(());
+        }
+        let mut mine = before.to_vec();
+        let on = stream.resume_region_with(&mut self.scratch, block as usize, &state, &mut mine, region, tile).answer;
+        self.tally.count("resume_region", on.map_or_else(|r| r.number, |()| 0));
+        let place = up_to(region.y + region.height);
+        is(on.err().map(|r| (r.block, r.line)) == place, || format!("going on in {region:?} after line {line}: {on:?} and {place:?}"))?;
+        let is_filled = |i: usize| {
+            let (column, row) = (region.x as usize + i % region.width as usize, region.y as usize + i / region.width as usize);
+            i < region.width as usize * region.height as usize && column / 768 == block as usize && row / 6 > line
+        };
+        let right = (0..mine.len()).all(|i| mine[i] == if is_filled(i) { theirs[i] } else { before[i] });
+        is(right, || format!("going on in {region:?} of {} bytes after line {line}: the images differ", bytes.len()))
     }
 
     /// The same region in windows: the same answer, and the original's image but for the rows of truncated lines.

@@ -94,6 +94,40 @@ unsafe extern "C" {
         totals: *mut [usize; 2],
         refusal: *mut [usize; 4],
     );
+    pub fn fuji_store_checkpoint(
+        stream: *const u8,
+        stream_length: usize,
+        block: usize,
+        line: usize,
+        state: *mut u8,
+        state_length: usize,
+        scratch: *mut u16,
+        scratch_length: usize,
+        records: *mut Record,
+        records_length: usize,
+        totals: *mut [usize; 2],
+        refusal: *mut [usize; 4],
+    );
+    pub fn fuji_resume_region(
+        stream: *const u8,
+        stream_length: usize,
+        block: usize,
+        state: *const u8,
+        state_length: usize,
+        x: usize,
+        y: usize,
+        width: usize,
+        height: usize,
+        tile: *const [u8; 36],
+        image: *mut u16,
+        image_length: usize,
+        scratch: *mut u16,
+        scratch_length: usize,
+        records: *mut Record,
+        records_length: usize,
+        totals: *mut [usize; 2],
+        refusal: *mut [usize; 4],
+    );
     pub fn fuji_bad_code(stream: *const u8, stream_length: usize, block: usize, spot: *mut [usize; 6], refusal: *mut [usize; 4]);
     pub fn fuji_write_block(
         header: *const u8,

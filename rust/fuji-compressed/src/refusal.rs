@@ -41,6 +41,8 @@ impl Refusal {
             18 => "the plan's record is malformed, runs backwards, passes the last line or has a base above 255",
             19 => "two records of the plan hold it",
             20 => "no record of the plan holds it",
+            21 => "the line to store after is not there, or the stored state is malformed",
+            22 => "the stored state is of another header or block",
             23 => "the line's depth and base have no entry, and all 16 are held",
             24 => "the depth is not 12, 14 or 16, k is above 15, or the length is not 1 to 16",
             _ => "refused",

@@ -2,7 +2,7 @@
 use common::pictures::scene;
 use common::random::Random;
 use common::stream::{Header, encoded};
-use fuji_compressed::{ColorTile, FujiCompressed, Record, Rect, Scratch};
+use fuji_compressed::{Camera, ColorTile, FujiCompressed, Quantisers, Record, Rect, Scratch};
 use std::alloc::{GlobalAlloc, Layout, System};
 use std::cell::Cell;
 
@@ -42,6 +42,7 @@ struct Job {
     image: Vec<u16>,
     scratch: Scratch,
     windows: Scratch,
+    state: Vec<u8>,
     allocations: u64,
 }
 
@@ -53,6 +54,10 @@ extern "C" fn decodes(job: &mut Job) {
     opened.decode_with(&mut job.scratch, &mut job.image, 1536, 12, &tile).unwrap();
     opened.decode_region_with(&mut job.scratch, &mut job.image, Rect::new(700, 3, 100, 8), &tile).unwrap();
     opened.decode_region_windowed_with(&mut job.windows, &mut job.image, Rect::new(700, 3, 100, 8), &tile).unwrap();
+    opened.store_checkpoint_with(&mut job.scratch, 1, 0, &mut job.state).answer.unwrap();
+    opened.resume_region_with(&mut job.scratch, 1, &job.state, &mut job.image, Rect::new(700, 3, 100, 8), &tile).answer.unwrap();
+    let (scratch, region) = (&mut job.scratch, Rect::new(700, 3, 100, 8));
+    Quantisers::default().decode_region_with(Camera::One, scratch, &job.bytes, &mut job.image, region, &tile).0.unwrap();
     job.allocations = ALLOCATIONS.with(Cell::get) - before;
 }
 
@@ -82,7 +87,8 @@ fn small_stack_and_no_heap() {
     for (xtrans, lossy) in [(false, false), (true, false), (false, true), (true, true)] {
         let bytes = stream(xtrans, lossy);
         let (scratch, windows) = (Scratch::new(), Scratch::windowed());
-        let mut job = Job { bytes, image: vec![0; 1536 * 12], scratch, windows, allocations: u64::MAX };
+        let state = vec![0; FujiCompressed::new(&bytes).unwrap().header.checkpoint_size()];
+        let mut job = Job { bytes, image: vec![0; 1536 * 12], scratch, windows, state, allocations: u64::MAX };
         let used = stack_of(&mut job);
         println!("X-Trans {xtrans}, lossy {lossy}: {used} bytes of stack, {} allocations", job.allocations);
         assert!(used > 0 && used <= STACK);

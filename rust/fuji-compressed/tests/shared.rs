@@ -4,33 +4,24 @@ use common::pictures::scene;
 use common::random::Random;
 use common::stream::{Header, blocks, encoded, stream};
 use fuji_compressed::Record;
-use std::path::Path;
 
-// Not all of its functions are asked here.
-#[allow(dead_code)]
-#[path = "../src/ffi.rs"]
-mod ffi;
+mod lent;
 
-const FINE: [usize; 4] = [0; 4];
-const OLD: Record = Record { sum: 7, n: 9 };
-const CLEARED: Record = Record { sum: 0, n: 1 };
-const PATTERN: u16 = 0x5a5a;
-const TILE: [u8; 36] = [1, 1, 0, 1, 1, 2, 1, 1, 2, 1, 1, 0, 2, 0, 1, 0, 2, 1, 1, 1, 2, 1, 1, 0, 1, 1, 0, 1, 1, 2, 0, 2, 1, 2, 0, 1];
+use lent::{Buffers, FINE, PATTERN, XTRANS as TILE, ffi, sample_file};
 
 type Words = [u32; 128];
 
-#[derive(Clone, PartialEq)]
-struct Buffers {
-    image: Vec<u16>,
-    samples: Vec<u16>,
-    records: Vec<Record>,
+/// An image of so many samples, and scratch of more than is needed.
+fn lend(area: usize) -> Buffers {
+    Buffers::new(vec![PATTERN; area], 9300, 340)
 }
 
-impl Buffers {
-    fn new(area: usize) -> Buffers {
-        Buffers { image: vec![PATTERN; area], samples: vec![PATTERN; 9300], records: vec![OLD; 340] }
-    }
+trait Shares {
+    fn shared(&mut self, camera: u32, words: &mut Words, d: &[u8], region: [usize; 4]) -> [usize; 4];
+    fn alone(&mut self, d: &[u8], region: [usize; 4]) -> [usize; 4];
+}
 
+impl Shares for Buffers {
     fn shared(&mut self, camera: u32, words: &mut Words, d: &[u8], [x, y, w, h]: [usize; 4]) -> [usize; 4] {
         let mut refusal = [usize::MAX; 4];
         let (i, s, r) = (&mut self.image, &mut self.samples, &mut self.records);
@@ -41,17 +32,8 @@ impl Buffers {
         refusal
     }
 
-    fn alone(&mut self, d: &[u8], [x, y, w, h]: [usize; 4]) -> [usize; 4] {
-        let mut refusal = [usize::MAX; 4];
-        let (i, s, r) = (&mut self.image, &mut self.samples, &mut self.records);
-        let (image, samples, records) = (i.as_mut_ptr(), s.as_mut_ptr(), r.as_mut_ptr());
-        unsafe { ffi::fuji_decode_region(d.as_ptr(), d.len(), x, y, w, h, &TILE, image, i.len(), samples, s.len(), records, r.len(), &mut refusal) };
-        refusal
-    }
-
-    fn scratch_is_cleared(&self, used: usize) -> bool {
-        let samples = self.samples.iter().enumerate().all(|(i, v)| *v == if i < used { 0 } else { PATTERN });
-        samples && self.records.iter().enumerate().all(|(i, v)| *v == if i < 336 { CLEARED } else { OLD })
+    fn alone(&mut self, d: &[u8], region: [usize; 4]) -> [usize; 4] {
+        self.region(false, d, region, &TILE)
     }
 }
 
@@ -64,10 +46,6 @@ fn lossy(bits: u8, rows: &[Vec<u8>]) -> Vec<u8> {
 
 fn bases(from: u8, count: u8) -> Vec<u8> {
     (from..from + count).collect()
-}
-
-fn sample_file(name: &str) -> Vec<u8> {
-    std::fs::read(Path::new(env!("CARGO_MANIFEST_DIR")).join("../../samples").join(name)).unwrap()
 }
 
 // ---- a model: of each entry its pair, and who holds it
@@ -162,7 +140,7 @@ fn the_worked_history() {
         }
         let header = Header::of(d).map_or([6, 768], |h| [h.height as usize, h.width as usize]);
         let region = [0, 0, header[1], if rows == 0 { header[0] } else { rows }];
-        let mut b = Buffers::new(region[2] * region[3]);
+        let mut b = lend(region[2] * region[3]);
         let mut alone = b.clone();
         assert_eq!(b.shared(camera, &mut words, d, region), answer, "step {i}");
         let model = Model::of(&entries);
@@ -195,17 +173,17 @@ fn no_entry_after_a_truncated_block() {
         let mut zeroed = made[0].clone();
         zeroed[at..].fill(0);
         let d = stream(&header, &rows, &[zeroed.clone(), made[1].clone()]);
-        (Buffers::new(1536 * 24).alone(&d, [0, 0, 1536, 24]) == [14, 0, 1, 0]).then_some(zeroed)
+        (lend(1536 * 24).alone(&d, [0, 0, 1536, 24]) == [14, 0, 1, 0]).then_some(zeroed)
     });
     made[0] = cut.unwrap();
     let d = stream(&header, &rows, &made);
     let mut words = [0; 128];
     let others = lossy(14, &[bases(100, 13)]);
-    assert_eq!(Buffers::new(768 * 78).shared(2, &mut words, &others, [0, 0, 768, 78]), FINE);
-    let mut b = Buffers::new(1536 * 24);
+    assert_eq!(lend(768 * 78).shared(2, &mut words, &others, [0, 0, 768, 78]), FINE);
+    let mut b = lend(1536 * 24);
     assert_eq!(b.shared(1, &mut words, &d, [0, 0, 1536, 24]), [23, 1, 1, 0]);
     assert!(b.scratch_is_cleared(6948));
-    let mut right = Buffers::new(1536 * 24);
+    let mut right = lend(1536 * 24);
     assert_eq!(right.alone(&whole, [0, 0, 1536, 24]), FINE);
     for (i, v) in b.image.iter().enumerate() {
         assert_eq!(*v, if i / 1536 < 6 { right.image[i] } else { PATTERN }, "entry {i}");
@@ -221,8 +199,8 @@ fn no_entry_after_a_truncated_block() {
 fn refusals_give_back() {
     let d = lossy(14, &[vec![3, 5]]);
     let mut held = [0; 128];
-    assert_eq!(Buffers::new(768 * 12).shared(1, &mut held, &d, [0, 0, 768, 12]), FINE);
-    assert_eq!(Buffers::new(768 * 12).shared(2, &mut held, &d, [0, 0, 768, 6]), FINE);
+    assert_eq!(lend(768 * 12).shared(1, &mut held, &d, [0, 0, 768, 12]), FINE);
+    assert_eq!(lend(768 * 12).shared(2, &mut held, &d, [0, 0, 768, 6]), FINE);
     assert!(Model::of(&[(3, "12"), (5, "1")]).is(&held));
     let mut broken = d.clone();
     broken[4] = 13;
@@ -244,7 +222,7 @@ fn refusals_give_back() {
     ];
     for (stream, region, image, samples, records, answer) in cases {
         for (camera, left) in [(1, Model::of(&[(3, "2")])), (2, Model::of(&[(3, "1"), (5, "1")]))] {
-            let before = Buffers { image: vec![PATTERN; image], samples: vec![PATTERN; samples], records: vec![OLD; records] };
+            let before = Buffers::new(vec![PATTERN; image], samples, records);
             let (mut b, mut alone, mut words) = (before.clone(), before.clone(), held);
             assert_eq!(b.shared(camera, &mut words, stream, region), answer);
             assert_eq!(alone.alone(stream, region), answer);
@@ -253,7 +231,7 @@ fn refusals_give_back() {
         }
     }
     let mut words = held;
-    assert_eq!(Buffers::new(0).shared(1, &mut words, &d, [5, 5, 0, 3]), FINE);
+    assert_eq!(lend(0).shared(1, &mut words, &d, [5, 5, 0, 3]), FINE);
     assert_eq!(words, held);
 }
 
@@ -293,7 +271,7 @@ fn random_histories() {
         let whole = [0, 0, header.width as usize, 18];
         // the first truncated line of each block, or all three
         let read: Vec<usize> = (0..header.blocks as usize)
-            .map(|b| match Buffers::new(768 * 18).alone(&d, [768 * b, 0, 768, 18]) {
+            .map(|b| match lend(768 * 18).alone(&d, [768 * b, 0, 768, 18]) {
                 [14, at, line, 0] if at == b => line,
                 other => {
                     assert_eq!(other, FINE);
@@ -321,7 +299,7 @@ fn random_histories() {
             let y = random.below((18 - h + 1) as u64) as usize;
             let region = [x, y, w, h];
             let short = random.chance(20);
-            let mut b = Buffers::new(if short { w * h - 1 } else { w * h });
+            let mut b = lend(if short { w * h - 1 } else { w * h });
             let mut alone = b.clone();
             let got = b.shared(camera, &mut words, d, region);
             tally[got[0]] += 1;
@@ -345,7 +323,7 @@ fn any_words() {
     let mut random = Random::new(23);
     let d = lossy(14, &[bases(3, 4)]);
     let region = [0, 0, 768, 24];
-    let mut right = Buffers::new(768 * 24);
+    let mut right = lend(768 * 24);
     assert_eq!(right.alone(&d, region), FINE);
     let (mut fine, mut out) = (0, 0);
     for _ in 0..400 {
@@ -355,7 +333,7 @@ fn any_words() {
             (true, 1) => random.below(300) as u32,
             _ => random.number() as u32 >> random.below(32),
         });
-        let mut b = Buffers::new(768 * 24);
+        let mut b = lend(768 * 24);
         match b.shared(random.number() as u32, &mut words, &d, region) {
             FINE => {
                 fine += 1;

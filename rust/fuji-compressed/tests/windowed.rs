@@ -4,71 +4,13 @@ use common::pictures::scene;
 use common::random::Random;
 use common::stream::{Header, blocks, encoded, stream};
 use fuji_compressed::{Record, Scratch};
-use std::path::Path;
 
-// Not all of its functions are asked here.
-#[allow(dead_code)]
-#[path = "../src/ffi.rs"]
-mod ffi;
+mod lent;
 
-const FINE: [usize; 4] = [0; 4];
-const OLD: Record = Record { sum: 7, n: 9 };
-const CLEARED: Record = Record { sum: 0, n: 1 };
-const PATTERN: u16 = 0x5a5a;
+use lent::{BAYER, Buffers, FINE, PATTERN, XTRANS, image_fnv, prefill, sample_file};
+
 /// Samples that windows need: Bayer, X-Trans.
 const NEEDED: [usize; 2] = [3474, 4626];
-const BAYER: [u8; 36] = [0, 1, 0, 1, 0, 1, 1, 2, 1, 2, 1, 2, 0, 1, 0, 1, 0, 1, 1, 2, 1, 2, 1, 2, 0, 1, 0, 1, 0, 1, 1, 2, 1, 2, 1, 2];
-const XTRANS: [u8; 36] = [1, 1, 0, 1, 1, 2, 1, 1, 2, 1, 1, 0, 2, 0, 1, 0, 2, 1, 1, 1, 2, 1, 1, 0, 1, 1, 0, 1, 1, 2, 0, 2, 1, 2, 0, 1];
-
-#[derive(Clone, PartialEq)]
-struct Buffers {
-    image: Vec<u16>,
-    samples: Vec<u16>,
-    records: Vec<Record>,
-}
-
-impl Buffers {
-    fn new(image: Vec<u16>, samples: usize, records: usize) -> Buffers {
-        Buffers { image, samples: vec![PATTERN; samples], records: vec![OLD; records] }
-    }
-
-    /// `fuji_decode_region_windowed`, or `fuji_decode_region`.
-    fn region(&mut self, windowed: bool, d: &[u8], [x, y, width, height]: [usize; 4], tile: &[u8; 36]) -> [usize; 4] {
-        let mut refusal = [usize::MAX; 4];
-        let (i, s, r) = (&mut self.image, &mut self.samples, &mut self.records);
-        let of = if windowed { ffi::fuji_decode_region_windowed } else { ffi::fuji_decode_region };
-        let (image, samples, records) = (i.as_mut_ptr(), s.as_mut_ptr(), r.as_mut_ptr());
-        unsafe { of(d.as_ptr(), d.len(), x, y, width, height, tile, image, i.len(), samples, s.len(), records, r.len(), &mut refusal) };
-        refusal
-    }
-
-    /// The used part of scratch is cleared, and what follows it is as it was.
-    fn scratch_is_cleared(&self, used: usize) -> bool {
-        let samples = self.samples.iter().enumerate().all(|(i, v)| *v == if i < used { 0 } else { PATTERN });
-        samples && self.records.iter().enumerate().all(|(i, v)| *v == if i < 336 { CLEARED } else { OLD })
-    }
-}
-
-/// A prefill of the table: a linear congruential generator of 64 bits, the high 16 of each number.
-fn prefill(seed: u64, length: usize) -> Vec<u16> {
-    let mut x = seed;
-    let mut next = || {
-        x = x.wrapping_mul(6_364_136_223_846_793_005).wrapping_add(1_442_695_040_888_963_407);
-        (x >> 48) as u16
-    };
-    (0..length).map(|_| next()).collect()
-}
-
-/// FNV-1a, 64 bits, of the image's bytes, little-endian.
-fn fnv(image: &[u16]) -> u64 {
-    let bytes = image.iter().flat_map(|v| v.to_le_bytes());
-    bytes.fold(0xcbf2_9ce4_8422_2325, |h, b| (h ^ b as u64).wrapping_mul(0x0100_0000_01b3))
-}
-
-fn sample_file(name: &str) -> Vec<u8> {
-    let file = Path::new(env!("CARGO_MANIFEST_DIR")).join("../../samples").join(name);
-    std::fs::read(file).unwrap()
-}
 
 // ---- the table of known answers: by an independent model for Bayer, and for both kinds from the original's images, with 0 in the rows of the truncated line
 
@@ -105,7 +47,7 @@ fn known_pictures() {
         let mut b = Buffers::new(prefill(seed, length), NEEDED[xtrans as usize], 336);
         let case = format!("{name}, {cut} bytes, region {region:?}");
         assert_eq!(b.region(true, &d, region, if xtrans { &XTRANS } else { &BAYER }), answer, "{case}");
-        assert_eq!(fnv(&b.image), want, "{case}");
+        assert_eq!(image_fnv(&b.image), want, "{case}");
         assert!(b.scratch_is_cleared(NEEDED[xtrans as usize]), "{case}");
     }
 }
@@ -118,7 +60,7 @@ fn rows_of_the_truncated_line_alone_differ() {
     let mut new = Buffers::new(prefill(3, 110_600), NEEDED[0], 336);
     let mut old = Buffers::new(prefill(3, 110_600), 6948, 336);
     assert_eq!(new.region(true, &d, whole, &BAYER), old.region(false, &d, whole, &BAYER));
-    assert_eq!(fnv(&old.image), 0x2b8f_c5de_1307_4ae6);
+    assert_eq!(image_fnv(&old.image), 0x2b8f_c5de_1307_4ae6);
     let differ: Vec<usize> = (0..110_600).filter(|i| new.image[*i] != old.image[*i] || new.image[*i] == 0).collect();
     assert_eq!(differ, (768 * 72..768 * 78).collect::<Vec<_>>());
     assert!(differ.iter().all(|i| new.image[*i] == 0));

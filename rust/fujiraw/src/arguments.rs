@@ -18,6 +18,7 @@ pub enum Call {
     Size(PathBuf, Option<PathBuf>),
     Codes([u32; 3]),
     Plan([PathBuf; 3]),
+    Save(Save),
     Decode(Decode),
 }
 
@@ -33,6 +34,15 @@ impl Bases {
             Bases::Bytes(file) | Bases::Plan(file) => file,
         }
     }
+}
+
+/// Whose state is stored, and after which line.
+pub struct Save {
+    pub stream: PathBuf,
+    /// One block, or all of them.
+    pub block: Option<usize>,
+    pub line: usize,
+    pub out: PathBuf,
 }
 
 /// Nothing is said of how far the work is.
@@ -55,6 +65,8 @@ pub struct Decode {
     pub tile: Option<ColorTile>,
     pub look: Look,
     pub windowed: Windowed,
+    /// Stored states to go on from.
+    pub from: Option<PathBuf>,
     pub threads: usize,
     pub quiet: Quiet,
 }
@@ -118,6 +130,7 @@ pub fn read(words: Vec<OsString>) -> Result<Call, String> {
         "write" => write(words),
         "size" => size(words),
         "plan" => three(words, "plan needs a header, a plan and an output").map(Call::Plan),
+        "save" => save(words).map(Call::Save),
         "codes" => numbers(words).map(Call::Codes),
         "manual" => Ok(Call::Manual),
         _ => decode(words).map(Call::Decode),
@@ -158,7 +171,7 @@ fn split(command: &str, mut rest: impl Iterator<Item = OsString>) -> Result<Word
         };
         all.options.push((name.to_string(), value));
     }
-    if all.plain.iter().filter(|w| *w == "-").count() > 1 && command != "decode" && command != "write" && command != "plan" {
+    if all.plain.iter().filter(|w| *w == "-").count() > 1 && !["decode", "write", "plan", "save"].contains(&command) {
         return Err("standard input is there twice".to_string());
     }
     Ok(all)
@@ -207,6 +220,14 @@ fn once(read: &[PathBuf]) -> Result<(), String> {
     }
 }
 
+fn save(words: Words) -> Result<Save, String> {
+    let needs = "save needs a stream, a block or the word all, a line and an output";
+    let [stream, block, line, out]: [OsString; 4] = words.plain.try_into().map_err(|_| needs)?;
+    let number = |word: &OsString| word.to_str().and_then(|w| w.parse().ok()).ok_or(needs);
+    let block = if block == "all" { None } else { Some(number(&block)?) };
+    Ok(Save { stream: stream.into(), block, line: number(&line)?, out: out.into() })
+}
+
 /// The depth, k and length of a sheet; whether there is such a sheet is the library's to say.
 fn numbers(words: Words) -> Result<[u32; 3], String> {
     let read: Vec<u32> = words.plain.iter().filter_map(|w| w.to_str()?.parse().ok()).collect();
@@ -224,15 +245,20 @@ fn decode(words: Words) -> Result<Decode, String> {
         return Err("a preview is pgm or png".to_string());
     }
     let (windowed, quiet) = (Windowed(words.has("--windowed")), Quiet(words.has("--quiet")));
+    let from = words.value("--from").map(PathBuf::from);
+    if from.is_some() && windowed.0 {
+        return Err("decode takes --from or --windowed, not both".to_string());
+    }
     let threads = words.value("--threads").map_or(Ok(processors()), threads)?;
     let mut files = words.files();
     let out = files.pop().filter(|_| !files.is_empty()).ok_or("decode needs a stream and an output")?;
-    once(&files)?;
+    let read = files.iter().chain(&from).cloned();
+    once(&read.collect::<Vec<_>>())?;
     let into_folder = out.is_dir();
     if files.len() > 1 && !into_folder {
         return Err(format!("{} is no folder, and there are {} streams", out.display(), files.len()));
     }
-    let call = Decode { streams: files, out, into_folder, region, tile, look, windowed, threads, quiet };
+    let call = Decode { streams: files, out, into_folder, region, tile, look, windowed, from, threads, quiet };
     apart(&call)?;
     Ok(call)
 }

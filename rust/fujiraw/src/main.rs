@@ -1,4 +1,4 @@
-//! Shows, checks, writes, measures and decodes Fuji compressed raw streams, lists short codes, and reads plans of bases. Status 0: all was done; 1: something was refused or failed; 2: wrong usage.
+//! Shows, checks, writes, measures and decodes Fuji compressed raw streams, lists short codes, reads plans of bases, and stores states to go on from. Status 0: all was done; 1: something was refused or failed; 2: wrong usage.
 mod arguments;
 mod codes;
 mod files;
@@ -6,6 +6,7 @@ mod manual;
 mod picture;
 mod png;
 mod progress;
+mod states;
 mod stream;
 mod tile;
 
@@ -49,6 +50,10 @@ fn answer(call: Call) -> ExitCode {
         Call::Codes([depth, k, length]) => {
             status(codes::sheet(depth, k, length).map_err(|e| e.to_string()).and_then(|text| files::print(&text)))
         }
+        Call::Save(call) => run(&[call.stream.clone()], |file| {
+            let states = states::save(file, call.block, call.line)?;
+            files::write(&[file], &call.out, |o| o.write_all(&states))
+        }),
         Call::Decode(call) => run(&call.streams, |file| decode(&call, file)),
     }
 }
@@ -78,7 +83,8 @@ fn check(file: &Path, quiet: bool) -> Result<(), String> {
 fn decode(call: &Decode, file: &Path) -> Result<(), String> {
     let out = call.output_of(file);
     let (picture, tile) = stream::decode(file, call)?;
-    files::write(&[file], &out, |o| call.look.write(&picture, o))?;
+    let read = [Some(file), call.from.as_deref()];
+    files::write(&read.into_iter().flatten().collect::<Vec<_>>(), &out, |o| call.look.write(&picture, o))?;
     // The picture itself may be on standard output.
     if call.quiet.0 || files::is_standard(&out) {
         return Ok(());

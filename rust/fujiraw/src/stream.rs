@@ -3,6 +3,7 @@ use crate::arguments::{Bases, Decode};
 use crate::files::{load, load_samples, name};
 use crate::picture::Picture;
 use crate::progress::Progress;
+use crate::states;
 use crate::tile;
 use fuji_compressed::{
     ColorTile, Counted, FujiCompressed, FujiHeader, Rect, Refusal, Scratch, Totals, measure_block, plan_bases, write_block, write_lossy,
@@ -173,6 +174,10 @@ pub fn decode(file: &Path, call: &Decode) -> Result<(Picture, ColorTile), String
         stream.decode_region(&mut [0], Rect::new(region.x, 0, 1, 1), &tile).map_err(|e| e.to_string())?;
     }
     let mut samples = room(region.width, region.height)?;
+    if let Some(from) = &call.from {
+        states::decode(&stream, from, &mut samples, region, &tile)?;
+        return Ok((Picture { width: region.width, height: region.height, bits: h.bits, samples }, tile));
+    }
     let (blocks, progress) = ((last + 1 - first) as usize, Progress::new(call.quiet.0, name(file)));
     let done = Mutex::new(0);
     let one_more = || {

@@ -5,5 +5,7 @@ pub mod fuji_decode_region_windowed
 pub mod fuji_measure_block
 pub mod fuji_read_block
 pub mod fuji_read_tight
+pub mod fuji_resume_region
+pub mod fuji_store_checkpoint
 pub mod fuji_write_block
 pub mod fuji_write_lossy

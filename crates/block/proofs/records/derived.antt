@@ -1,5 +1,6 @@
 pub mod clear_records
 pub mod fetch
+pub mod load_records
 pub mod load_set
 pub mod restart
 pub mod restart_main

@@ -30,7 +30,7 @@ walk-requires c κs =
       ),
       (
         (form-depth _ (s .args .h) (f .form-of .ensures) k, omega (arith, k .lines-high, n .line-count .ensures)),
-        ((p .xtrans-places .ensures, c .before .no-part .ensures), c .no-entries .ensures .1),
+        ((p .xtrans-places .ensures, c .before .no-part .ensures _), c .no-entries .ensures .1),
       ),
     )
 

@@ -178,6 +178,23 @@ ps = List._∷_ (ShrSlice.pShrS (Referent.rtF (Referent.fInt Syntax.w8)) 0 tt) (
       in-mem =
           Local.mem-whole 𝓤 H A W (Declared'.row Part.the-type);
       of-mem = Local.whole-mem 𝓤 H A W (Declared'.row Part.the-type);
+    }) (List._∷_ (Num.pNum Syntax.w64) (List._∷_ (Value.pVal record {
+      ty = Declared'.row Place.the-type;
+      one = Path'.refl;
+      val = Laws'10.val Place.the-type Laws'4.the-laws;
+      tells = Laws'10.tells Place.the-type Laws'4.the-laws;
+      still = Laws'10.still Place.the-type
+          Laws'4.the-copy Exit.yes;
+      row = Rows'.whole (Declared'.row Place.the-type);
+      rd = λ x. x;
+      mk = λ x. x;
+    } λ M 𝓤 H A W. record {
+      copies = Laws'10.copy Place.the-type Laws'4.the-copy 𝓤 H A W;
+      lawful = Laws'10.lawful Place.the-type Laws'4.the-laws 𝓤 H A W;
+      makes = Laws'10.makes Place.the-type Laws'4.the-plain 𝓤 H A;
+      in-mem =
+          Local.mem-whole 𝓤 H A W (Declared'.row Place.the-type);
+      of-mem = Local.whole-mem 𝓤 H A W (Declared'.row Place.the-type);
     }) (List._∷_ (Num.pNum Syntax.w64) (List._∷_ Bool.pBool (List._∷_ (Value.pVal
     record {
       ty = Declared'.row Entries.the-type;
@@ -195,7 +212,7 @@ ps = List._∷_ (ShrSlice.pShrS (Referent.rtF (Referent.fInt Syntax.w8)) 0 tt) (
       makes = Laws'10.makes Entries.the-type Laws'3.the-plain 𝓤 H A;
       in-mem = Local.mem-whole 𝓤 H A W (Declared'.row Entries.the-type);
       of-mem = Local.whole-mem 𝓤 H A W (Declared'.row Entries.the-type);
-    }) List.[])))))))))))
+    }) List.[])))))))))))))
 
 abbrev pub r : Kinds.RK 6
 r = Value.rVal record {
@@ -218,18 +235,17 @@ r = Value.rVal record {
 }
 
 abbrev pub xs : List.List Syntax.Ty
-xs = List._∷_ (Syntax.tyInt Syntax.w32) (List._∷_ Syntax.tyBool (List._∷_ (Syntax.tyInt Syntax.w64) (List._∷_ y10 (List._∷_ y9 (List._∷_ (Syntax.tyInt Syntax.w64) (List._∷_ (Syntax.tyInt Syntax.w32)
-    (List._∷_ (Syntax.tyEnum (List._∷_ 98 (List._∷_ 108 (List._∷_ 111 (List._∷_ 99 (List._∷_ 107 (List._∷_ 58 (List._∷_ 58 (List._∷_ 76 (List._∷_ 105 (List._∷_ 110 (List._∷_ 101 (List._∷_ 100
-    List.[])))))))))))) (Syntax.ttcons (Syntax.tcons y10 Syntax.tnil) (Syntax.ttcons Syntax.tnil Syntax.ttnil))) (List._∷_ y10 (List._∷_ Syntax.tyUnit (List._∷_ (Syntax.tyRef Syntax.erased Syntax.mut
-    (Syntax.tyInt Syntax.w16)) (List._∷_ y5 (List._∷_ (Syntax.tyRef Syntax.erased Syntax.mut Element.behind) (List._∷_ y6 (List._∷_ (Syntax.tyInt Syntax.w32) (List._∷_ Syntax.tyBool (List._∷_
+xs = List._∷_ (Syntax.tyInt Syntax.w32) (List._∷_ Syntax.tyBool (List._∷_ (Syntax.tyInt Syntax.w64) (List._∷_ y10 (List._∷_ y9 (List._∷_ (Syntax.tyInt Syntax.w64) (List._∷_ (Syntax.tyInt Syntax.w64)
+    (List._∷_ (Syntax.tyInt Syntax.w32) (List._∷_ (Syntax.tyEnum (List._∷_ 98 (List._∷_ 108 (List._∷_ 111 (List._∷_ 99 (List._∷_ 107 (List._∷_ 58 (List._∷_ 58 (List._∷_ 76 (List._∷_ 105 (List._∷_ 110
+    (List._∷_ 101 (List._∷_ 100 List.[])))))))))))) (Syntax.ttcons (Syntax.tcons y10 Syntax.tnil) (Syntax.ttcons Syntax.tnil Syntax.ttnil))) (List._∷_ y10 (List._∷_ y3 (List._∷_ Syntax.tyBool (List._∷_
     Syntax.tyUnit (List._∷_ (Syntax.tyRef Syntax.erased Syntax.mut (Syntax.tyInt Syntax.w16)) (List._∷_ y5 (List._∷_ (Syntax.tyRef Syntax.erased Syntax.mut Element.behind) (List._∷_ y6 (List._∷_
     (Syntax.tyRef Syntax.erased Syntax.mut (Syntax.tyInt Syntax.w16)) (List._∷_ y5 (List._∷_ (Syntax.tyRef Syntax.erased Syntax.mut Element.behind) (List._∷_ y6 (List._∷_ (Syntax.tyRef Syntax.erased
     Syntax.mut (Syntax.tyInt Syntax.w16)) (List._∷_ y5 (List._∷_ y2 (List._∷_ Syntax.tyUnit (List._∷_ (Syntax.tyRef Syntax.erased Syntax.mut (Syntax.tyInt Syntax.w16)) (List._∷_ y5 (List._∷_ y3 (List._∷_
-    y3 (List._∷_ (Syntax.tyRef Syntax.erased Syntax.imm (Syntax.tyInt Syntax.w16)) (List._∷_ y4 (List._∷_ (Syntax.tyRef Syntax.erased Syntax.mut (Syntax.tyInt Syntax.w16)) (List._∷_ y5 (List._∷_ y3
-    List.[])))))))))))))))))))))))))))))))))))))
+    y3 (List._∷_ (Syntax.tyRef Syntax.erased Syntax.imm (Syntax.tyInt Syntax.w16)) (List._∷_ y4 (List._∷_ (Syntax.tyRef Syntax.erased Syntax.mut (Syntax.tyInt Syntax.w16)) (List._∷_ y5
+    List.[]))))))))))))))))))))))))))))))))
 
 abbrev pub m : Nat.ℕ
-m = 10
+m = 8
 
 abbrev pub ps·0 : List.List (Kinds.PK 0)
 ps·0 = List._∷_ Bool.pBool List.[]
@@ -237,29 +253,8 @@ ps·0 = List._∷_ Bool.pBool List.[]
 abbrev pub r·0 : Kinds.RK 0
 r·0 = Num.rNum Syntax.w64
 
-abbrev pub ps·1 : List.List (Kinds.PK 1)
-ps·1 = List._∷_ (MutSlice.pMutS (Referent.rtF (Referent.fInt Syntax.w16)) 0 tt) List.[]
-
-abbrev pub r·1 : Kinds.RK 1
-r·1 = Unit'.rUnit
-
-abbrev pub ps·2 : List.List (Kinds.PK 1)
-ps·2 = List._∷_ (ShrSlice.pShrS (Referent.rtF (Referent.fInt Syntax.w8)) 0 tt) (List._∷_ (Num.pNum Syntax.w64) List.[])
-
-abbrev pub r·2 : Kinds.RK 1
-r·2 = Num.rNum Syntax.w32
-
-abbrev pub ps·3 : List.List (Kinds.PK 1)
-ps·3 = List._∷_ (MutSlice.pMutS (Element.type) 0 tt) (List._∷_ (Num.pNum Syntax.w32) (List._∷_ (Num.pNum Syntax.w32) List.[]))
-
-abbrev pub r·3 : Kinds.RK 1
-r·3 = Unit'.rUnit
-
-abbrev pub ps·4 : List.List (Kinds.PK 0)
-ps·4 = List.[]
-
-abbrev pub r·4 : Kinds.RK 0
-r·4 = Value.rVal record {
+abbrev pub ps·1 : List.List (Kinds.PK 0)
+ps·1 = List._∷_ (Value.pVal record {
   ty = Declared'.row Place.the-type;
   one = Path'.refl;
   val = Laws'10.val Place.the-type Laws'4.the-laws;
@@ -276,13 +271,50 @@ r·4 = Value.rVal record {
   in-mem =
       Local.mem-whole 𝓤 H A W (Declared'.row Place.the-type);
   of-mem = Local.whole-mem 𝓤 H A W (Declared'.row Place.the-type);
+}) List.[]
+
+abbrev pub r·1 : Kinds.RK 0
+r·1 = Value.rVal record {
+  ty = Declared'.row Totals.the-type;
+  one = Path'.refl;
+  val = Laws'10.val Totals.the-type Laws'8.the-laws;
+  tells = Laws'10.tells Totals.the-type Laws'8.the-laws;
+  still = Laws'10.still Totals.the-type
+      Laws'8.the-copy Exit.yes;
+  row = Rows'.whole (Declared'.row Totals.the-type);
+  rd = λ x. x;
+  mk = λ x. x;
+} λ M 𝓤 H A W. record {
+  copies = Laws'10.copy Totals.the-type Laws'8.the-copy 𝓤 H A W;
+  lawful = Laws'10.lawful Totals.the-type Laws'8.the-laws 𝓤 H A W;
+  makes = Laws'10.makes Totals.the-type Laws'8.the-plain 𝓤 H A;
+  in-mem =
+      Local.mem-whole 𝓤 H A W (Declared'.row Totals.the-type);
+  of-mem = Local.whole-mem 𝓤 H A W (Declared'.row Totals.the-type);
 }
 
-abbrev pub ps·5 : List.List (Kinds.PK 0)
-ps·5 = List.[]
+abbrev pub ps·2 : List.List (Kinds.PK 0)
+ps·2 = List._∷_ (Value.pVal record {
+  ty = Declared'.row Totals.the-type;
+  one = Path'.refl;
+  val = Laws'10.val Totals.the-type Laws'8.the-laws;
+  tells = Laws'10.tells Totals.the-type Laws'8.the-laws;
+  still = Laws'10.still Totals.the-type
+      Laws'8.the-copy Exit.yes;
+  row = Rows'.whole (Declared'.row Totals.the-type);
+  rd = λ x. x;
+  mk = λ x. x;
+} λ M 𝓤 H A W. record {
+  copies = Laws'10.copy Totals.the-type Laws'8.the-copy 𝓤 H A W;
+  lawful = Laws'10.lawful Totals.the-type Laws'8.the-laws 𝓤 H A W;
+  makes = Laws'10.makes Totals.the-type Laws'8.the-plain 𝓤 H A;
+  in-mem =
+      Local.mem-whole 𝓤 H A W (Declared'.row Totals.the-type);
+  of-mem = Local.whole-mem 𝓤 H A W (Declared'.row Totals.the-type);
+}) List.[]
 
-abbrev pub r·5 : Kinds.RK 0
-r·5 = Value.rVal record {
+abbrev pub r·2 : Kinds.RK 0
+r·2 = Value.rVal record {
   ty = Declared'.row TightLines.the-type;
   one = Path'.refl;
   val = Laws'10.val TightLines.the-type Laws'7.the-laws;
@@ -301,26 +333,32 @@ r·5 = Value.rVal record {
   of-mem = Local.whole-mem 𝓤 H A W (Declared'.row TightLines.the-type);
 }
 
+abbrev pub ps·3 : List.List (Kinds.PK 1)
+ps·3 = List._∷_ (MutSlice.pMutS (Referent.rtF (Referent.fInt Syntax.w16)) 0 tt) (List._∷_ (Num.pNum Syntax.w64) (List._∷_ Bool.pBool List.[]))
+
+abbrev pub r·3 : Kinds.RK 1
+r·3 = Unit'.rUnit
+
+abbrev pub ps·4 : List.List (Kinds.PK 1)
+ps·4 = List._∷_ (ShrSlice.pShrS (Referent.rtF (Referent.fInt Syntax.w8)) 0 tt) (List._∷_ (Num.pNum Syntax.w64) List.[])
+
+abbrev pub r·4 : Kinds.RK 1
+r·4 = Num.rNum Syntax.w32
+
+abbrev pub ps·5 : List.List (Kinds.PK 1)
+ps·5 = List._∷_ (ShrSlice.pShrS (Referent.rtF (Referent.fInt Syntax.w8)) 0 tt) (List._∷_ (Num.pNum Syntax.w64) List.[])
+
+abbrev pub r·5 : Kinds.RK 1
+r·5 = Bool.rBool
+
 abbrev pub ps·6 : List.List (Kinds.PK 1)
-ps·6 = List._∷_ (MutSlice.pMutS (Referent.rtF (Referent.fInt Syntax.w16)) 0 tt) (List._∷_ (Num.pNum Syntax.w64) (List._∷_ Bool.pBool List.[]))
+ps·6 = List._∷_ (MutSlice.pMutS (Element.type) 0 tt) (List._∷_ (Num.pNum Syntax.w32) (List._∷_ (Num.pNum Syntax.w32) (List._∷_ Bool.pBool List.[])))
 
 abbrev pub r·6 : Kinds.RK 1
 r·6 = Unit'.rUnit
 
-abbrev pub ps·7 : List.List (Kinds.PK 1)
-ps·7 = List._∷_ (ShrSlice.pShrS (Referent.rtF (Referent.fInt Syntax.w8)) 0 tt) (List._∷_ (Num.pNum Syntax.w64) List.[])
-
-abbrev pub r·7 : Kinds.RK 1
-r·7 = Bool.rBool
-
-abbrev pub ps·8 : List.List (Kinds.PK 1)
-ps·8 = List._∷_ (MutSlice.pMutS (Element.type) 0 tt) (List._∷_ (Num.pNum Syntax.w32) (List._∷_ (Num.pNum Syntax.w32) (List._∷_ Bool.pBool List.[])))
-
-abbrev pub r·8 : Kinds.RK 1
-r·8 = Unit'.rUnit
-
-abbrev pub ps·9 : List.List (Kinds.PK 0)
-ps·9 = List._∷_ (Value.pVal record {
+abbrev pub ps·7 : List.List (Kinds.PK 0)
+ps·7 = List._∷_ (Value.pVal record {
   ty = Declared'.row Entries.the-type;
   one = Path'.refl;
   val = Laws'10.val Entries.the-type Laws'3.the-laws;
@@ -339,8 +377,8 @@ ps·9 = List._∷_ (Value.pVal record {
 }) (List._∷_ (Num.pNum Syntax.w32) (List._∷_ (Num.pNum Syntax.w32)
     List.[]))
 
-abbrev pub r·9 : Kinds.RK 0
-r·9 = Value.rVal record {
+abbrev pub r·7 : Kinds.RK 0
+r·7 = Value.rVal record {
   ty = Declared'.row Quantisers.the-type;
   one = Path'.refl;
   val = Laws'10.val Quantisers.the-type Laws'6.the-laws;
@@ -359,8 +397,8 @@ r·9 = Value.rVal record {
   of-mem = Local.whole-mem 𝓤 H A W (Declared'.row Quantisers.the-type);
 }
 
-abbrev pub ps·10 : List.List (Kinds.PK 5)
-ps·10 = List._∷_ (ShrSlice.pShrS (Referent.rtF (Referent.fInt Syntax.w8)) 0 tt) (List._∷_ (Value.pVal record {
+abbrev pub ps·8 : List.List (Kinds.PK 5)
+ps·8 = List._∷_ (ShrSlice.pShrS (Referent.rtF (Referent.fInt Syntax.w8)) 0 tt) (List._∷_ (Value.pVal record {
   ty = Declared'.row Place.the-type;
   one = Path'.refl;
   val = Laws'10.val Place.the-type Laws'4.the-laws;
@@ -432,8 +470,8 @@ ps·10 = List._∷_ (ShrSlice.pShrS (Referent.rtF (Referent.fInt Syntax.w8)) 0 t
       of-mem = Local.whole-mem 𝓤 H A W (Declared'.row Part.the-type);
     }) (List._∷_ (Num.pNum Syntax.w64) (List._∷_ Bool.pBool List.[])))))))))))
 
-abbrev pub r·10 : Kinds.RK 5
-r·10 = Value.rVal record {
+abbrev pub r·8 : Kinds.RK 5
+r·8 = Value.rVal record {
   ty = Declared.row Lined.the-type;
   one = Path'.refl;
   val = Laws'9.val Lined.the-type Laws'.the-laws;
@@ -452,8 +490,8 @@ r·10 = Value.rVal record {
   of-mem = Local.whole-mem 𝓤 H A W (Declared.row Lined.the-type);
 }
 
-abbrev pub ps·11 : List.List (Kinds.PK 1)
-ps·11 = List._∷_ (MutSlice.pMutS (Referent.rtF (Referent.fInt Syntax.w16)) 0 tt) (List._∷_ (Value.pVal record {
+abbrev pub ps·9 : List.List (Kinds.PK 1)
+ps·9 = List._∷_ (MutSlice.pMutS (Referent.rtF (Referent.fInt Syntax.w16)) 0 tt) (List._∷_ (Value.pVal record {
   ty = Declared'.row Part.the-type;
   one = Path'.refl;
   val = Laws'10.val Part.the-type Laws'5.the-laws;
@@ -472,51 +510,11 @@ ps·11 = List._∷_ (MutSlice.pMutS (Referent.rtF (Referent.fInt Syntax.w16)) 0 
   of-mem = Local.whole-mem 𝓤 H A W (Declared'.row Part.the-type);
 }) (List._∷_ (Num.pNum Syntax.w64) (List._∷_ Bool.pBool List.[])))
 
-abbrev pub r·11 : Kinds.RK 1
-r·11 = Unit'.rUnit
+abbrev pub r·9 : Kinds.RK 1
+r·9 = Unit'.rUnit
 
-abbrev pub ps·12 : List.List (Kinds.PK 0)
-ps·12 = List._∷_ (Value.pVal record {
-  ty = Declared'.row Place.the-type;
-  one = Path'.refl;
-  val = Laws'10.val Place.the-type Laws'4.the-laws;
-  tells = Laws'10.tells Place.the-type Laws'4.the-laws;
-  still = Laws'10.still Place.the-type
-      Laws'4.the-copy Exit.yes;
-  row = Rows'.whole (Declared'.row Place.the-type);
-  rd = λ x. x;
-  mk = λ x. x;
-} λ M 𝓤 H A W. record {
-  copies = Laws'10.copy Place.the-type Laws'4.the-copy 𝓤 H A W;
-  lawful = Laws'10.lawful Place.the-type Laws'4.the-laws 𝓤 H A W;
-  makes = Laws'10.makes Place.the-type Laws'4.the-plain 𝓤 H A;
-  in-mem =
-      Local.mem-whole 𝓤 H A W (Declared'.row Place.the-type);
-  of-mem = Local.whole-mem 𝓤 H A W (Declared'.row Place.the-type);
-}) List.[]
-
-abbrev pub r·12 : Kinds.RK 0
-r·12 = Value.rVal record {
-  ty = Declared'.row Totals.the-type;
-  one = Path'.refl;
-  val = Laws'10.val Totals.the-type Laws'8.the-laws;
-  tells = Laws'10.tells Totals.the-type Laws'8.the-laws;
-  still = Laws'10.still Totals.the-type
-      Laws'8.the-copy Exit.yes;
-  row = Rows'.whole (Declared'.row Totals.the-type);
-  rd = λ x. x;
-  mk = λ x. x;
-} λ M 𝓤 H A W. record {
-  copies = Laws'10.copy Totals.the-type Laws'8.the-copy 𝓤 H A W;
-  lawful = Laws'10.lawful Totals.the-type Laws'8.the-laws 𝓤 H A W;
-  makes = Laws'10.makes Totals.the-type Laws'8.the-plain 𝓤 H A;
-  in-mem =
-      Local.mem-whole 𝓤 H A W (Declared'.row Totals.the-type);
-  of-mem = Local.whole-mem 𝓤 H A W (Declared'.row Totals.the-type);
-}
-
-abbrev pub ps·13 : List.List (Kinds.PK 0)
-ps·13 = List._∷_ (Value.pVal record {
+abbrev pub ps·10 : List.List (Kinds.PK 0)
+ps·10 = List._∷_ (Value.pVal record {
   ty = Declared'.row TightLines.the-type;
   one = Path'.refl;
   val = Laws'10.val TightLines.the-type Laws'7.the-laws;
@@ -553,8 +551,8 @@ ps·13 = List._∷_ (Value.pVal record {
       of-mem = Local.whole-mem 𝓤 H A W (Declared'.row Totals.the-type);
     }) List.[])))
 
-abbrev pub r·13 : Kinds.RK 0
-r·13 = Value.rVal record {
+abbrev pub r·10 : Kinds.RK 0
+r·10 = Value.rVal record {
   ty = Declared'.row TightLines.the-type;
   one = Path'.refl;
   val = Laws'10.val TightLines.the-type Laws'7.the-laws;
@@ -573,8 +571,8 @@ r·13 = Value.rVal record {
   of-mem = Local.whole-mem 𝓤 H A W (Declared'.row TightLines.the-type);
 }
 
-abbrev pub ps·14 : List.List (Kinds.PK 3)
-ps·14 = List._∷_ (ShrSlice.pShrS (Referent.rtF (Referent.fInt Syntax.w16)) 0 tt) (List._∷_ (MutSlice.pMutS (Referent.rtF (Referent.fInt Syntax.w16)) 1 tt) (List._∷_ (Num.pNum Syntax.w64) (List._∷_
+abbrev pub ps·11 : List.List (Kinds.PK 3)
+ps·11 = List._∷_ (ShrSlice.pShrS (Referent.rtF (Referent.fInt Syntax.w16)) 0 tt) (List._∷_ (MutSlice.pMutS (Referent.rtF (Referent.fInt Syntax.w16)) 1 tt) (List._∷_ (Num.pNum Syntax.w64) (List._∷_
     Bool.pBool (List._∷_ (ShrRef.pShr (Array'.Array (Referent.rtF (Referent.fInt Syntax.w16)) 768) 2 tt) (List._∷_ (Array.pArr (Array.eInt Syntax.w8) (Array.eInt-laws Syntax.w8) 36) (List._∷_ (Value.pVal
     record {
       ty = Declared'.row Part.the-type;
@@ -595,8 +593,8 @@ ps·14 = List._∷_ (ShrSlice.pShrS (Referent.rtF (Referent.fInt Syntax.w16)) 0 
       of-mem = Local.whole-mem 𝓤 H A W (Declared'.row Part.the-type);
     }) (List._∷_ (Num.pNum Syntax.w64) (List._∷_ Bool.pBool List.[]))))))))
 
-abbrev pub r·14 : Kinds.RK 3
-r·14 = Unit'.rUnit
+abbrev pub r·11 : Kinds.RK 3
+r·11 = Unit'.rUnit
 
 abbrev pub hs : List.List Syntax.Home
 hs = List._∷_ Syntax.valueLocal (List._∷_ Syntax.valueLocal (List._∷_ Syntax.valueLocal (List._∷_ Syntax.valueLocal (List._∷_ Syntax.valueLocal (List._∷_ Syntax.valueLocal (List._∷_ Syntax.valueLocal
@@ -605,360 +603,328 @@ hs = List._∷_ Syntax.valueLocal (List._∷_ Syntax.valueLocal (List._∷_ Synt
     (List._∷_ Syntax.valueLocal (List._∷_ Syntax.valueLocal (List._∷_ Syntax.valueLocal (List._∷_ Syntax.valueLocal (List._∷_ Syntax.valueLocal (List._∷_ Syntax.valueLocal (List._∷_ Syntax.valueLocal
     (List._∷_ Syntax.valueLocal (List._∷_ Syntax.valueLocal (List._∷_ Syntax.valueLocal (List._∷_ Syntax.valueLocal (List._∷_ Syntax.valueLocal (List._∷_ Syntax.valueLocal (List._∷_ Syntax.valueLocal
     (List._∷_ Syntax.valueLocal (List._∷_ Syntax.valueLocal (List._∷_ Syntax.valueLocal (List._∷_ Syntax.valueLocal (List._∷_ Syntax.valueLocal (List._∷_ Syntax.valueLocal (List._∷_ Syntax.valueLocal
-    (List._∷_ Syntax.valueLocal (List._∷_ Syntax.valueLocal (List._∷_ Syntax.valueLocal (List._∷_ Syntax.valueLocal (List._∷_ Syntax.valueLocal (List._∷_ Syntax.valueLocal (List._∷_ Syntax.valueLocal
-    (List._∷_ Syntax.valueLocal (List._∷_ Syntax.valueLocal List.[]))))))))))))))))))))))))))))))))))))))))))))))))))
+    (List._∷_ Syntax.valueLocal (List._∷_ Syntax.valueLocal (List._∷_ Syntax.valueLocal (List._∷_ Syntax.valueLocal (List._∷_ Syntax.valueLocal (List._∷_ Syntax.valueLocal
+    List.[])))))))))))))))))))))))))))))))))))))))))))))))
 
 abbrev b0 : Syntax.Body
-b0 = Syntax.assign (Syntax.place 13 List.[]) (Syntax.rvOpd (Syntax.copy (Syntax.place 6 (List._∷_ (Syntax.field 0) List.[]))))
+b0 = Syntax.assign (Syntax.place 15 List.[]) (Syntax.rvOpd (Syntax.copy (Syntax.place 6 (List._∷_ (Syntax.field 0) List.[]))))
 
 abbrev b1 : Syntax.Body
-b1 = Syntax.assign (Syntax.place 14 List.[]) (Syntax.rvOpd (Syntax.copy (Syntax.place 6 (List._∷_ (Syntax.field 1) List.[]))))
+b1 = Syntax.assign (Syntax.place 16 List.[]) (Syntax.rvOpd (Syntax.copy (Syntax.place 6 (List._∷_ (Syntax.field 1) List.[]))))
 
 abbrev b2 : Syntax.Body
-b2 = Syntax.call "map::width" (List._∷_ (Syntax.copy (Syntax.place 14 List.[])) List.[]) (Syntax.place 15 List.[])
+b2 = Syntax.call "map::width" (List._∷_ (Syntax.copy (Syntax.place 16 List.[])) List.[]) (Syntax.place 17 List.[])
 
 abbrev b3 : Syntax.Body
-b3 = Syntax.assign (Syntax.place 23 List.[]) (Syntax.addrOf (Syntax.place 3 (List._∷_ (Syntax.field 0) (List._∷_ (Syntax.deref (Syntax.tyInt Syntax.w16)) List.[]))))
+b3 = Syntax.assign (Syntax.place 18 List.[]) (Syntax.rvOpd (Syntax.copy (Syntax.place 11 List.[])))
 
 abbrev b4 : Syntax.Body
-b4 = Syntax.assign (Syntax.place 24 List.[]) (Syntax.aggregate (List._∷_ (Syntax.copy (Syntax.place 23 List.[])) (List._∷_ (Syntax.copy (Syntax.place 3 (List._∷_ (Syntax.field 1) List.[]))) List.[])))
+b4 = Syntax.call "block::reading::totals_at" (List._∷_ (Syntax.copy (Syntax.place 11 List.[])) List.[]) (Syntax.place 25 List.[])
 
 abbrev b5 : Syntax.Body
-b5 = Syntax.call "lines::clear" (List._∷_ (Syntax.copy (Syntax.place 24 List.[])) List.[]) (Syntax.place 22 List.[])
+b5 = Syntax.call "block::reading::no_lines" (List._∷_ (Syntax.copy (Syntax.place 25 List.[])) List.[]) (Syntax.place 19 List.[])
 
 abbrev b6 : Syntax.Body
-b6 = Syntax.assign (Syntax.place 25 List.[]) (Syntax.addrOf (Syntax.place 4 (List._∷_ (Syntax.field 0) (List._∷_ (Syntax.deref (Element.held)) List.[]))))
+b6 = Syntax.assign (Syntax.place 20 List.[]) (Syntax.rvOpd (Syntax.int Syntax.w64 0))
 
 abbrev b7 : Syntax.Body
-b7 = Syntax.assign (Syntax.place 26 List.[]) (Syntax.aggregate (List._∷_ (Syntax.copy (Syntax.place 25 List.[])) (List._∷_ (Syntax.copy (Syntax.place 4 (List._∷_ (Syntax.field 1) List.[]))) List.[])))
+b7 = Syntax.assign (Syntax.place 26 List.[]) (Syntax.op2 (Syntax.lt Syntax.unsigned) (Syntax.copy (Syntax.place 20 List.[])) (Syntax.copy (Syntax.place 12 List.[])))
 
 abbrev b8 : Syntax.Body
-b8 = Syntax.call "cameras::base_of" (List._∷_ (Syntax.copy (Syntax.place 2 List.[])) (List._∷_ (Syntax.int Syntax.w64 0) List.[])) (Syntax.place 27 List.[])
+b8 = Syntax.skip
 
 abbrev b9 : Syntax.Body
-b9 = Syntax.call "block::records::start_records" (List._∷_ (Syntax.copy (Syntax.place 26 List.[])) (List._∷_ (Syntax.copy (Syntax.place 13 List.[])) (List._∷_ (Syntax.copy (Syntax.place 27 List.[]))
-    List.[]))) (Syntax.place 22 List.[])
+b9 = Syntax.exit 1
 
 abbrev b10 : Syntax.Body
-b10 = Syntax.call "block::reading::start_place" List.[] (Syntax.place 16 List.[])
+b10 = Syntax.cond (Syntax.copy (Syntax.place 26 List.[])) b8 b9
 
 abbrev b11 : Syntax.Body
-b11 = Syntax.call "block::reading::no_lines" List.[] (Syntax.place 17 List.[])
+b11 = Syntax.assign (Syntax.place 21 List.[]) (Syntax.op2 (Syntax.add Syntax.unsigned) (Syntax.copy (Syntax.place 10 List.[])) (Syntax.copy (Syntax.place 20 List.[])))
 
 abbrev b12 : Syntax.Body
-b12 = Syntax.assign (Syntax.place 18 List.[]) (Syntax.rvOpd (Syntax.int Syntax.w64 0))
+b12 = Syntax.assign (Syntax.place 28 List.[]) (Syntax.addrOf (Syntax.place 3 (List._∷_ (Syntax.field 0) (List._∷_ (Syntax.deref (Syntax.tyInt Syntax.w16)) List.[]))))
 
 abbrev b13 : Syntax.Body
-b13 = Syntax.assign (Syntax.place 28 List.[]) (Syntax.op2 (Syntax.lt Syntax.unsigned) (Syntax.copy (Syntax.place 18 List.[])) (Syntax.copy (Syntax.place 10 List.[])))
+b13 = Syntax.assign (Syntax.place 29 List.[]) (Syntax.aggregate (List._∷_ (Syntax.copy (Syntax.place 28 List.[])) (List._∷_ (Syntax.copy (Syntax.place 3 (List._∷_ (Syntax.field 1) List.[])))
+    List.[])))
 
 abbrev b14 : Syntax.Body
-b14 = Syntax.skip
+b14 = Syntax.assign (Syntax.place 26 List.[]) (Syntax.op1 Syntax.bitNot (Syntax.copy (Syntax.place 13 List.[])))
 
 abbrev b15 : Syntax.Body
-b15 = Syntax.exit 1
+b15 = Syntax.call "lines::turn_if" (List._∷_ (Syntax.copy (Syntax.place 29 List.[])) (List._∷_ (Syntax.copy (Syntax.place 17 List.[])) (List._∷_ (Syntax.copy (Syntax.place 26 List.[])) List.[])))
+    (Syntax.place 27 List.[])
 
 abbrev b16 : Syntax.Body
-b16 = Syntax.cond (Syntax.copy (Syntax.place 28 List.[])) b14 b15
+b16 = Syntax.call "cameras::base_of" (List._∷_ (Syntax.copy (Syntax.place 2 List.[])) (List._∷_ (Syntax.copy (Syntax.place 21 List.[])) List.[])) (Syntax.place 22 List.[])
 
 abbrev b17 : Syntax.Body
-b17 = Syntax.assign (Syntax.place 30 List.[]) (Syntax.addrOf (Syntax.place 3 (List._∷_ (Syntax.field 0) (List._∷_ (Syntax.deref (Syntax.tyInt Syntax.w16)) List.[]))))
+b17 = Syntax.assign (Syntax.place 30 List.[]) (Syntax.addrOf (Syntax.place 4 (List._∷_ (Syntax.field 0) (List._∷_ (Syntax.deref (Element.held)) List.[]))))
 
 abbrev b18 : Syntax.Body
-b18 = Syntax.assign (Syntax.place 31 List.[]) (Syntax.aggregate (List._∷_ (Syntax.copy (Syntax.place 30 List.[])) (List._∷_ (Syntax.copy (Syntax.place 3 (List._∷_ (Syntax.field 1) List.[])))
+b18 = Syntax.assign (Syntax.place 31 List.[]) (Syntax.aggregate (List._∷_ (Syntax.copy (Syntax.place 30 List.[])) (List._∷_ (Syntax.copy (Syntax.place 4 (List._∷_ (Syntax.field 1) List.[])))
     List.[])))
 
 abbrev b19 : Syntax.Body
-b19 = Syntax.assign (Syntax.place 28 List.[]) (Syntax.op1 Syntax.bitNot (Syntax.copy (Syntax.place 11 List.[])))
+b19 = Syntax.call "block::reading::is_restarted" (List._∷_ (Syntax.copy (Syntax.place 2 List.[])) (List._∷_ (Syntax.copy (Syntax.place 21 List.[])) List.[])) (Syntax.place 26 List.[])
 
 abbrev b20 : Syntax.Body
-b20 = Syntax.call "lines::turn_if" (List._∷_ (Syntax.copy (Syntax.place 31 List.[])) (List._∷_ (Syntax.copy (Syntax.place 15 List.[])) (List._∷_ (Syntax.copy (Syntax.place 28 List.[])) List.[])))
-    (Syntax.place 29 List.[])
+b20 = Syntax.call "block::records::restart" (List._∷_ (Syntax.copy (Syntax.place 31 List.[])) (List._∷_ (Syntax.copy (Syntax.place 15 List.[])) (List._∷_ (Syntax.copy (Syntax.place 22 List.[]))
+    (List._∷_ (Syntax.copy (Syntax.place 26 List.[])) List.[])))) (Syntax.place 27 List.[])
 
 abbrev b21 : Syntax.Body
-b21 = Syntax.call "cameras::base_of" (List._∷_ (Syntax.copy (Syntax.place 2 List.[])) (List._∷_ (Syntax.copy (Syntax.place 18 List.[])) List.[])) (Syntax.place 19 List.[])
+b21 = Syntax.assign (Syntax.place 32 List.[]) (Syntax.addrOf (Syntax.place 3 (List._∷_ (Syntax.field 0) (List._∷_ (Syntax.deref (Syntax.tyInt Syntax.w16)) List.[]))))
 
 abbrev b22 : Syntax.Body
-b22 = Syntax.assign (Syntax.place 32 List.[]) (Syntax.addrOf (Syntax.place 4 (List._∷_ (Syntax.field 0) (List._∷_ (Syntax.deref (Element.held)) List.[]))))
+b22 = Syntax.assign (Syntax.place 33 List.[]) (Syntax.aggregate (List._∷_ (Syntax.copy (Syntax.place 32 List.[])) (List._∷_ (Syntax.copy (Syntax.place 3 (List._∷_ (Syntax.field 1) List.[])))
+    List.[])))
 
 abbrev b23 : Syntax.Body
-b23 = Syntax.assign (Syntax.place 33 List.[]) (Syntax.aggregate (List._∷_ (Syntax.copy (Syntax.place 32 List.[])) (List._∷_ (Syntax.copy (Syntax.place 4 (List._∷_ (Syntax.field 1) List.[])))
-    List.[])))
+b23 = Syntax.assign (Syntax.place 34 List.[]) (Syntax.addrOf (Syntax.place 4 (List._∷_ (Syntax.field 0) (List._∷_ (Syntax.deref (Element.held)) List.[]))))
 
 abbrev b24 : Syntax.Body
-b24 = Syntax.call "block::reading::is_restarted" (List._∷_ (Syntax.copy (Syntax.place 2 List.[])) (List._∷_ (Syntax.copy (Syntax.place 18 List.[])) List.[])) (Syntax.place 28 List.[])
+b24 = Syntax.assign (Syntax.place 35 List.[]) (Syntax.aggregate (List._∷_ (Syntax.copy (Syntax.place 34 List.[])) (List._∷_ (Syntax.copy (Syntax.place 4 (List._∷_ (Syntax.field 1) List.[])))
+    List.[])))
 
 abbrev b25 : Syntax.Body
-b25 = Syntax.call "block::records::restart" (List._∷_ (Syntax.copy (Syntax.place 33 List.[])) (List._∷_ (Syntax.copy (Syntax.place 13 List.[])) (List._∷_ (Syntax.copy (Syntax.place 19 List.[]))
-    (List._∷_ (Syntax.copy (Syntax.place 28 List.[])) List.[])))) (Syntax.place 29 List.[])
+b25 = Syntax.assign (Syntax.place 36 List.[]) (Syntax.addrOf (Syntax.place 5 (List._∷_ (Syntax.field 0) (List._∷_ (Syntax.deref (Syntax.tyInt Syntax.w16)) List.[]))))
 
 abbrev b26 : Syntax.Body
-b26 = Syntax.assign (Syntax.place 34 List.[]) (Syntax.addrOf (Syntax.place 3 (List._∷_ (Syntax.field 0) (List._∷_ (Syntax.deref (Syntax.tyInt Syntax.w16)) List.[]))))
+b26 = Syntax.assign (Syntax.place 37 List.[]) (Syntax.aggregate (List._∷_ (Syntax.copy (Syntax.place 36 List.[])) (List._∷_ (Syntax.copy (Syntax.place 5 (List._∷_ (Syntax.field 1) List.[])))
+    List.[])))
 
 abbrev b27 : Syntax.Body
-b27 = Syntax.assign (Syntax.place 35 List.[]) (Syntax.aggregate (List._∷_ (Syntax.copy (Syntax.place 34 List.[])) (List._∷_ (Syntax.copy (Syntax.place 3 (List._∷_ (Syntax.field 1) List.[])))
-    List.[])))
+b27 = Syntax.call "block::reading::quantisers_in" (List._∷_ (Syntax.copy (Syntax.place 14 List.[])) (List._∷_ (Syntax.copy (Syntax.place 15 List.[])) (List._∷_ (Syntax.copy (Syntax.place 22 List.[]))
+    List.[]))) (Syntax.place 38 List.[])
 
 abbrev b28 : Syntax.Body
-b28 = Syntax.assign (Syntax.place 36 List.[]) (Syntax.addrOf (Syntax.place 4 (List._∷_ (Syntax.field 0) (List._∷_ (Syntax.deref (Element.held)) List.[]))))
+b28 = Syntax.call "block::reading::line" (List._∷_ (Syntax.copy (Syntax.place 1 List.[])) (List._∷_ (Syntax.copy (Syntax.place 18 List.[])) (List._∷_ (Syntax.copy (Syntax.place 33 List.[])) (List._∷_
+    (Syntax.copy (Syntax.place 35 List.[])) (List._∷_ (Syntax.copy (Syntax.place 37 List.[])) (List._∷_ (Syntax.copy (Syntax.place 6 List.[])) (List._∷_ (Syntax.copy (Syntax.place 38 List.[])) (List._∷_
+    (Syntax.copy (Syntax.place 7 List.[])) (List._∷_ (Syntax.copy (Syntax.place 8 List.[])) (List._∷_ (Syntax.copy (Syntax.place 9 List.[])) (List._∷_ (Syntax.copy (Syntax.place 21 List.[])) (List._∷_
+    (Syntax.copy (Syntax.place 13 List.[])) List.[])))))))))))) (Syntax.place 23 List.[])
 
 abbrev b29 : Syntax.Body
-b29 = Syntax.assign (Syntax.place 37 List.[]) (Syntax.aggregate (List._∷_ (Syntax.copy (Syntax.place 36 List.[])) (List._∷_ (Syntax.copy (Syntax.place 4 (List._∷_ (Syntax.field 1) List.[])))
-    List.[])))
+b29 = Syntax.assign (Syntax.place 24 List.[]) (Syntax.rvOpd (Syntax.copy (Syntax.place 23 (List._∷_ (Syntax.variant 0) (List._∷_ (Syntax.field 1) List.[])))))
 
 abbrev b30 : Syntax.Body
-b30 = Syntax.assign (Syntax.place 38 List.[]) (Syntax.addrOf (Syntax.place 5 (List._∷_ (Syntax.field 0) (List._∷_ (Syntax.deref (Syntax.tyInt Syntax.w16)) List.[]))))
+b30 = Syntax.assign (Syntax.place 40 List.[]) (Syntax.addrOf (Syntax.place 5 (List._∷_ (Syntax.field 0) (List._∷_ (Syntax.deref (Syntax.tyInt Syntax.w16)) List.[]))))
 
 abbrev b31 : Syntax.Body
-b31 = Syntax.assign (Syntax.place 39 List.[]) (Syntax.aggregate (List._∷_ (Syntax.copy (Syntax.place 38 List.[])) (List._∷_ (Syntax.copy (Syntax.place 5 (List._∷_ (Syntax.field 1) List.[])))
+b31 = Syntax.assign (Syntax.place 41 List.[]) (Syntax.aggregate (List._∷_ (Syntax.copy (Syntax.place 40 List.[])) (List._∷_ (Syntax.copy (Syntax.place 5 (List._∷_ (Syntax.field 1) List.[])))
     List.[])))
 
 abbrev b32 : Syntax.Body
-b32 = Syntax.call "block::reading::quantisers_in" (List._∷_ (Syntax.copy (Syntax.place 12 List.[])) (List._∷_ (Syntax.copy (Syntax.place 13 List.[])) (List._∷_ (Syntax.copy (Syntax.place 19 List.[]))
-    List.[]))) (Syntax.place 40 List.[])
+b32 = Syntax.call "map::windows::zero_line" (List._∷_ (Syntax.copy (Syntax.place 41 List.[])) (List._∷_ (Syntax.copy (Syntax.place 9 List.[])) (List._∷_ (Syntax.copy (Syntax.place 21 List.[]))
+    (List._∷_ (Syntax.copy (Syntax.place 13 List.[])) List.[])))) (Syntax.place 39 List.[])
 
 abbrev b33 : Syntax.Body
-b33 = Syntax.call "block::reading::line" (List._∷_ (Syntax.copy (Syntax.place 1 List.[])) (List._∷_ (Syntax.copy (Syntax.place 16 List.[])) (List._∷_ (Syntax.copy (Syntax.place 35 List.[])) (List._∷_
-    (Syntax.copy (Syntax.place 37 List.[])) (List._∷_ (Syntax.copy (Syntax.place 39 List.[])) (List._∷_ (Syntax.copy (Syntax.place 6 List.[])) (List._∷_ (Syntax.copy (Syntax.place 40 List.[])) (List._∷_
-    (Syntax.copy (Syntax.place 7 List.[])) (List._∷_ (Syntax.copy (Syntax.place 8 List.[])) (List._∷_ (Syntax.copy (Syntax.place 9 List.[])) (List._∷_ (Syntax.copy (Syntax.place 18 List.[])) (List._∷_
-    (Syntax.copy (Syntax.place 11 List.[])) List.[])))))))))))) (Syntax.place 20 List.[])
+b33 = Syntax.call "block::reading::totals_at" (List._∷_ (Syntax.copy (Syntax.place 18 List.[])) List.[]) (Syntax.place 42 List.[])
 
 abbrev b34 : Syntax.Body
-b34 = Syntax.assign (Syntax.place 21 List.[]) (Syntax.rvOpd (Syntax.copy (Syntax.place 20 (List._∷_ (Syntax.variant 0) (List._∷_ (Syntax.field 1) List.[])))))
+b34 = Syntax.assign (Syntax.place 0 List.[]) (Syntax.aggregate (List._∷_ (Syntax.int Syntax.w8 1) (List._∷_ (Syntax.copy (Syntax.place 21 List.[])) (List._∷_ (Syntax.copy (Syntax.place 42 List.[]))
+    List.[]))))
 
 abbrev b35 : Syntax.Body
-b35 = Syntax.assign (Syntax.place 42 List.[]) (Syntax.addrOf (Syntax.place 5 (List._∷_ (Syntax.field 0) (List._∷_ (Syntax.deref (Syntax.tyInt Syntax.w16)) List.[]))))
+b35 = Syntax.return
 
 abbrev b36 : Syntax.Body
-b36 = Syntax.assign (Syntax.place 43 List.[]) (Syntax.aggregate (List._∷_ (Syntax.copy (Syntax.place 42 List.[])) (List._∷_ (Syntax.copy (Syntax.place 5 (List._∷_ (Syntax.field 1) List.[])))
-    List.[])))
+b36 = Syntax.seq b34 b35
 
 abbrev b37 : Syntax.Body
-b37 = Syntax.call "map::windows::zero_line" (List._∷_ (Syntax.copy (Syntax.place 43 List.[])) (List._∷_ (Syntax.copy (Syntax.place 9 List.[])) (List._∷_ (Syntax.copy (Syntax.place 18 List.[]))
-    (List._∷_ (Syntax.copy (Syntax.place 11 List.[])) List.[])))) (Syntax.place 41 List.[])
+b37 = Syntax.seq b33 b36
 
 abbrev b38 : Syntax.Body
-b38 = Syntax.call "block::reading::totals_at" (List._∷_ (Syntax.copy (Syntax.place 16 List.[])) List.[]) (Syntax.place 44 List.[])
+b38 = Syntax.seq b32 b37
 
 abbrev b39 : Syntax.Body
-b39 = Syntax.assign (Syntax.place 0 List.[]) (Syntax.aggregate (List._∷_ (Syntax.int Syntax.w8 1) (List._∷_ (Syntax.copy (Syntax.place 18 List.[])) (List._∷_ (Syntax.copy (Syntax.place 44 List.[]))
-    List.[]))))
+b39 = Syntax.seq b31 b38
 
 abbrev b40 : Syntax.Body
-b40 = Syntax.return
+b40 = Syntax.seq b30 b39
 
 abbrev b41 : Syntax.Body
-b41 = Syntax.seq b39 b40
-
-abbrev b42 : Syntax.Body
-b42 = Syntax.seq b38 b41
-
-abbrev b43 : Syntax.Body
-b43 = Syntax.seq b37 b42
-
-abbrev b44 : Syntax.Body
-b44 = Syntax.seq b36 b43
-
-abbrev b45 : Syntax.Body
-b45 = Syntax.seq b35 b44
-
-abbrev b46 : Syntax.Body
-b46 = Syntax.switch (Syntax.copy (Syntax.place 20 (List._∷_ (Syntax.variant 0) (List._∷_ (Syntax.field 0) List.[])))) (Syntax.arm (List._∷_ 0 List.[]) b34 (Syntax.arm (List._∷_ 1 List.[]) b45
+b41 = Syntax.switch (Syntax.copy (Syntax.place 23 (List._∷_ (Syntax.variant 0) (List._∷_ (Syntax.field 0) List.[])))) (Syntax.arm (List._∷_ 0 List.[]) b29 (Syntax.arm (List._∷_ 1 List.[]) b40
     Syntax.noDefault))
 
+abbrev b42 : Syntax.Body
+b42 = Syntax.assign (Syntax.place 18 List.[]) (Syntax.rvOpd (Syntax.copy (Syntax.place 24 List.[])))
+
+abbrev b43 : Syntax.Body
+b43 = Syntax.call "block::reading::totals_at" (List._∷_ (Syntax.copy (Syntax.place 18 List.[])) List.[]) (Syntax.place 43 List.[])
+
+abbrev b44 : Syntax.Body
+b44 = Syntax.call "totals::with_line" (List._∷_ (Syntax.copy (Syntax.place 19 List.[])) (List._∷_ (Syntax.copy (Syntax.place 20 List.[])) (List._∷_ (Syntax.copy (Syntax.place 18 (List._∷_
+    (Syntax.field 1) List.[]))) (List._∷_ (Syntax.copy (Syntax.place 43 List.[])) List.[])))) (Syntax.place 19 List.[])
+
+abbrev b45 : Syntax.Body
+b45 = Syntax.assign (Syntax.place 44 List.[]) (Syntax.addrOf (Syntax.place 3 (List._∷_ (Syntax.field 0) (List._∷_ (Syntax.deref (Syntax.tyInt Syntax.w16)) List.[]))))
+
+abbrev b46 : Syntax.Body
+b46 = Syntax.assign (Syntax.place 45 List.[]) (Syntax.aggregate (List._∷_ (Syntax.copy (Syntax.place 44 List.[])) (List._∷_ (Syntax.copy (Syntax.place 3 (List._∷_ (Syntax.field 1) List.[])))
+    List.[])))
+
 abbrev b47 : Syntax.Body
-b47 = Syntax.assign (Syntax.place 16 List.[]) (Syntax.rvOpd (Syntax.copy (Syntax.place 21 List.[])))
+b47 = Syntax.assign (Syntax.place 46 List.[]) (Syntax.addrOf (Syntax.place 5 (List._∷_ (Syntax.field 0) (List._∷_ (Syntax.deref (Syntax.tyInt Syntax.w16)) List.[]))))
 
 abbrev b48 : Syntax.Body
-b48 = Syntax.call "block::reading::totals_at" (List._∷_ (Syntax.copy (Syntax.place 16 List.[])) List.[]) (Syntax.place 45 List.[])
+b48 = Syntax.assign (Syntax.place 47 List.[]) (Syntax.aggregate (List._∷_ (Syntax.copy (Syntax.place 46 List.[])) (List._∷_ (Syntax.copy (Syntax.place 5 (List._∷_ (Syntax.field 1) List.[])))
+    List.[])))
 
 abbrev b49 : Syntax.Body
-b49 = Syntax.call "totals::with_line" (List._∷_ (Syntax.copy (Syntax.place 17 List.[])) (List._∷_ (Syntax.copy (Syntax.place 18 List.[])) (List._∷_ (Syntax.copy (Syntax.place 16 (List._∷_
-    (Syntax.field 1) List.[]))) (List._∷_ (Syntax.copy (Syntax.place 45 List.[])) List.[])))) (Syntax.place 17 List.[])
+b49 = Syntax.assign (Syntax.place 26 List.[]) (Syntax.op1 Syntax.bitNot (Syntax.copy (Syntax.place 13 List.[])))
 
 abbrev b50 : Syntax.Body
-b50 = Syntax.assign (Syntax.place 46 List.[]) (Syntax.addrOf (Syntax.place 3 (List._∷_ (Syntax.field 0) (List._∷_ (Syntax.deref (Syntax.tyInt Syntax.w16)) List.[]))))
+b50 = Syntax.call "map::windows::emit_line_if" (List._∷_ (Syntax.copy (Syntax.place 45 List.[])) (List._∷_ (Syntax.copy (Syntax.place 47 List.[])) (List._∷_ (Syntax.copy (Syntax.place 17 List.[]))
+    (List._∷_ (Syntax.copy (Syntax.place 16 List.[])) (List._∷_ (Syntax.copy (Syntax.place 7 List.[])) (List._∷_ (Syntax.copy (Syntax.place 8 List.[])) (List._∷_ (Syntax.copy (Syntax.place 9 List.[]))
+    (List._∷_ (Syntax.copy (Syntax.place 21 List.[])) (List._∷_ (Syntax.copy (Syntax.place 26 List.[])) List.[]))))))))) (Syntax.place 27 List.[])
 
 abbrev b51 : Syntax.Body
-b51 = Syntax.assign (Syntax.place 47 List.[]) (Syntax.aggregate (List._∷_ (Syntax.copy (Syntax.place 46 List.[])) (List._∷_ (Syntax.copy (Syntax.place 3 (List._∷_ (Syntax.field 1) List.[])))
-    List.[])))
+b51 = Syntax.assign (Syntax.place 20 List.[]) (Syntax.op2 (Syntax.add Syntax.unsigned) (Syntax.copy (Syntax.place 20 List.[])) (Syntax.int Syntax.w64 1))
 
 abbrev b52 : Syntax.Body
-b52 = Syntax.assign (Syntax.place 48 List.[]) (Syntax.addrOf (Syntax.place 5 (List._∷_ (Syntax.field 0) (List._∷_ (Syntax.deref (Syntax.tyInt Syntax.w16)) List.[]))))
+b52 = Syntax.seq b50 b51
 
 abbrev b53 : Syntax.Body
-b53 = Syntax.assign (Syntax.place 49 List.[]) (Syntax.aggregate (List._∷_ (Syntax.copy (Syntax.place 48 List.[])) (List._∷_ (Syntax.copy (Syntax.place 5 (List._∷_ (Syntax.field 1) List.[])))
-    List.[])))
+b53 = Syntax.seq b49 b52
 
 abbrev b54 : Syntax.Body
-b54 = Syntax.assign (Syntax.place 28 List.[]) (Syntax.op1 Syntax.bitNot (Syntax.copy (Syntax.place 11 List.[])))
+b54 = Syntax.seq b48 b53
 
 abbrev b55 : Syntax.Body
-b55 = Syntax.call "map::windows::emit_line_if" (List._∷_ (Syntax.copy (Syntax.place 47 List.[])) (List._∷_ (Syntax.copy (Syntax.place 49 List.[])) (List._∷_ (Syntax.copy (Syntax.place 15 List.[]))
-    (List._∷_ (Syntax.copy (Syntax.place 14 List.[])) (List._∷_ (Syntax.copy (Syntax.place 7 List.[])) (List._∷_ (Syntax.copy (Syntax.place 8 List.[])) (List._∷_ (Syntax.copy (Syntax.place 9 List.[]))
-    (List._∷_ (Syntax.copy (Syntax.place 18 List.[])) (List._∷_ (Syntax.copy (Syntax.place 28 List.[])) List.[]))))))))) (Syntax.place 29 List.[])
+b55 = Syntax.seq b47 b54
 
 abbrev b56 : Syntax.Body
-b56 = Syntax.assign (Syntax.place 18 List.[]) (Syntax.op2 (Syntax.add Syntax.unsigned) (Syntax.copy (Syntax.place 18 List.[])) (Syntax.int Syntax.w64 1))
+b56 = Syntax.seq b46 b55
 
 abbrev b57 : Syntax.Body
-b57 = Syntax.seq b55 b56
+b57 = Syntax.seq b45 b56
 
 abbrev b58 : Syntax.Body
-b58 = Syntax.seq b54 b57
+b58 = Syntax.seq b44 b57
 
 abbrev b59 : Syntax.Body
-b59 = Syntax.seq b53 b58
+b59 = Syntax.seq b43 b58
 
 abbrev b60 : Syntax.Body
-b60 = Syntax.seq b52 b59
+b60 = Syntax.seq b42 b59
 
 abbrev b61 : Syntax.Body
-b61 = Syntax.seq b51 b60
+b61 = Syntax.seq b41 b60
 
 abbrev b62 : Syntax.Body
-b62 = Syntax.seq b50 b61
+b62 = Syntax.seq b28 b61
 
 abbrev b63 : Syntax.Body
-b63 = Syntax.seq b49 b62
+b63 = Syntax.seq b27 b62
 
 abbrev b64 : Syntax.Body
-b64 = Syntax.seq b48 b63
+b64 = Syntax.seq b26 b63
 
 abbrev b65 : Syntax.Body
-b65 = Syntax.seq b47 b64
+b65 = Syntax.seq b25 b64
 
 abbrev b66 : Syntax.Body
-b66 = Syntax.seq b46 b65
+b66 = Syntax.seq b24 b65
 
 abbrev b67 : Syntax.Body
-b67 = Syntax.seq b33 b66
+b67 = Syntax.seq b23 b66
 
 abbrev b68 : Syntax.Body
-b68 = Syntax.seq b32 b67
+b68 = Syntax.seq b22 b67
 
 abbrev b69 : Syntax.Body
-b69 = Syntax.seq b31 b68
+b69 = Syntax.seq b21 b68
 
 abbrev b70 : Syntax.Body
-b70 = Syntax.seq b30 b69
+b70 = Syntax.seq b20 b69
 
 abbrev b71 : Syntax.Body
-b71 = Syntax.seq b29 b70
+b71 = Syntax.seq b19 b70
 
 abbrev b72 : Syntax.Body
-b72 = Syntax.seq b28 b71
+b72 = Syntax.seq b18 b71
 
 abbrev b73 : Syntax.Body
-b73 = Syntax.seq b27 b72
+b73 = Syntax.seq b17 b72
 
 abbrev b74 : Syntax.Body
-b74 = Syntax.seq b26 b73
+b74 = Syntax.seq b16 b73
 
 abbrev b75 : Syntax.Body
-b75 = Syntax.seq b25 b74
+b75 = Syntax.seq b15 b74
 
 abbrev b76 : Syntax.Body
-b76 = Syntax.seq b24 b75
+b76 = Syntax.seq b14 b75
 
 abbrev b77 : Syntax.Body
-b77 = Syntax.seq b23 b76
+b77 = Syntax.seq b13 b76
 
 abbrev b78 : Syntax.Body
-b78 = Syntax.seq b22 b77
+b78 = Syntax.seq b12 b77
 
 abbrev b79 : Syntax.Body
-b79 = Syntax.seq b21 b78
+b79 = Syntax.seq b11 b78
 
 abbrev b80 : Syntax.Body
-b80 = Syntax.seq b20 b79
+b80 = Syntax.seq b10 b79
 
 abbrev b81 : Syntax.Body
-b81 = Syntax.seq b19 b80
+b81 = Syntax.seq b7 b80
 
 abbrev b82 : Syntax.Body
-b82 = Syntax.seq b18 b81
+b82 = Syntax.loop b81
 
 abbrev b83 : Syntax.Body
-b83 = Syntax.seq b17 b82
+b83 = Syntax.block b82
 
 abbrev b84 : Syntax.Body
-b84 = Syntax.seq b16 b83
+b84 = Syntax.call "block::reading::totals_at" (List._∷_ (Syntax.copy (Syntax.place 18 List.[])) List.[]) (Syntax.place 25 List.[])
 
 abbrev b85 : Syntax.Body
-b85 = Syntax.seq b13 b84
-
-abbrev b86 : Syntax.Body
-b86 = Syntax.loop b85
-
-abbrev b87 : Syntax.Body
-b87 = Syntax.block b86
-
-abbrev b88 : Syntax.Body
-b88 = Syntax.call "block::reading::totals_at" (List._∷_ (Syntax.copy (Syntax.place 16 List.[])) List.[]) (Syntax.place 50 List.[])
-
-abbrev b89 : Syntax.Body
-b89 = Syntax.assign (Syntax.place 0 List.[]) (Syntax.aggregate (List._∷_ (Syntax.int Syntax.w8 0) (List._∷_ (Syntax.copy (Syntax.place 50 List.[])) (List._∷_ (Syntax.copy (Syntax.place 17 List.[]))
+b85 = Syntax.assign (Syntax.place 0 List.[]) (Syntax.aggregate (List._∷_ (Syntax.int Syntax.w8 0) (List._∷_ (Syntax.copy (Syntax.place 25 List.[])) (List._∷_ (Syntax.copy (Syntax.place 19 List.[]))
     List.[]))))
 
+abbrev b86 : Syntax.Body
+b86 = Syntax.return
+
+abbrev b87 : Syntax.Body
+b87 = Syntax.seq b85 b86
+
+abbrev b88 : Syntax.Body
+b88 = Syntax.seq b84 b87
+
+abbrev b89 : Syntax.Body
+b89 = Syntax.seq b83 b88
+
 abbrev b90 : Syntax.Body
-b90 = Syntax.return
+b90 = Syntax.seq b6 b89
 
 abbrev b91 : Syntax.Body
-b91 = Syntax.seq b89 b90
+b91 = Syntax.seq b5 b90
 
 abbrev b92 : Syntax.Body
-b92 = Syntax.seq b88 b91
+b92 = Syntax.seq b4 b91
 
 abbrev b93 : Syntax.Body
-b93 = Syntax.seq b87 b92
+b93 = Syntax.seq b3 b92
 
 abbrev b94 : Syntax.Body
-b94 = Syntax.seq b12 b93
+b94 = Syntax.seq b2 b93
 
 abbrev b95 : Syntax.Body
-b95 = Syntax.seq b11 b94
+b95 = Syntax.seq b1 b94
 
 abbrev b96 : Syntax.Body
-b96 = Syntax.seq b10 b95
-
-abbrev b97 : Syntax.Body
-b97 = Syntax.seq b9 b96
-
-abbrev b98 : Syntax.Body
-b98 = Syntax.seq b8 b97
-
-abbrev b99 : Syntax.Body
-b99 = Syntax.seq b7 b98
-
-abbrev b100 : Syntax.Body
-b100 = Syntax.seq b6 b99
-
-abbrev b101 : Syntax.Body
-b101 = Syntax.seq b5 b100
-
-abbrev b102 : Syntax.Body
-b102 = Syntax.seq b4 b101
-
-abbrev b103 : Syntax.Body
-b103 = Syntax.seq b3 b102
-
-abbrev b104 : Syntax.Body
-b104 = Syntax.seq b2 b103
-
-abbrev b105 : Syntax.Body
-b105 = Syntax.seq b1 b104
-
-abbrev b106 : Syntax.Body
-b106 = Syntax.seq b0 b105
+b96 = Syntax.seq b0 b95
 
 abbrev pub body : Syntax.Body
-body = b106
+body = b96
 
 abbrev pub Claims : Type 1
-Claims = Kinds.In 0 ps·0 × Kinds.Out 0 ps·0 r·0 × Kinds.In 1 ps·1 × Kinds.Out 1 ps·1 r·1 × Kinds.In 1 ps·2 × Kinds.Out 1 ps·2 r·2 × Kinds.In 1 ps·3 × Kinds.Out 1 ps·3 r·3 × Kinds.In 0 ps·4 × Kinds.Out
-    0 ps·4 r·4 × Kinds.In 0 ps·5 × Kinds.Out 0 ps·5 r·5 × Kinds.In 1 ps·6 × Kinds.Out 1 ps·6 r·6 × Kinds.In 1 ps·7 × Kinds.Out 1 ps·7 r·7 × Kinds.In 1 ps·8 × Kinds.Out 1 ps·8 r·8 × Kinds.In 0 ps·9 ×
-    Kinds.Out 0 ps·9 r·9 × Kinds.In 5 ps·10 × Kinds.Out 5 ps·10 r·10 × Kinds.In 1 ps·11 × Kinds.Out 1 ps·11 r·11 × Kinds.In 0 ps·12 × Kinds.Out 0 ps·12 r·12 × Kinds.In 0 ps·13 × Kinds.Out 0 ps·13 r·13 ×
-    Kinds.In 3 ps·14 × Kinds.Out 3 ps·14 r·14
+Claims = Kinds.In 0 ps·0 × Kinds.Out 0 ps·0 r·0 × Kinds.In 0 ps·1 × Kinds.Out 0 ps·1 r·1 × Kinds.In 0 ps·2 × Kinds.Out 0 ps·2 r·2 × Kinds.In 1 ps·3 × Kinds.Out 1 ps·3 r·3 × Kinds.In 1 ps·4 × Kinds.Out
+    1 ps·4 r·4 × Kinds.In 1 ps·5 × Kinds.Out 1 ps·5 r·5 × Kinds.In 1 ps·6 × Kinds.Out 1 ps·6 r·6 × Kinds.In 0 ps·7 × Kinds.Out 0 ps·7 r·7 × Kinds.In 5 ps·8 × Kinds.Out 5 ps·8 r·8 × Kinds.In 1 ps·9 ×
+    Kinds.Out 1 ps·9 r·9 × Kinds.In 0 ps·10 × Kinds.Out 0 ps·10 r·10 × Kinds.In 3 ps·11 × Kinds.Out 3 ps·11 r·11
 
 abbrev pub e0 : Row.Entry
 e0 = (
@@ -980,245 +946,245 @@ abbrev pub e4 : Row.Entry
 e4 = (10, Rows'.sc-here (Row.sInt Syntax.w64))
 
 abbrev pub e5 : Row.Entry
-e5 = (11, Rows'.any-gone Syntax.tyBool)
+e5 = (11, Rows'.any-gone y10)
 
 abbrev pub e6 : Row.Entry
-e6 = (11, Rows'.sc-here Row.sBool)
+e6 = (11, Rows'.whole (Declared'.row Place.the-type))
 
 abbrev pub e7 : Row.Entry
-e7 = (12, Rows'.any-gone y12)
+e7 = (12, Rows'.any-gone (Syntax.tyInt Syntax.w64))
 
 abbrev pub e8 : Row.Entry
-e8 = (12, Rows'.whole (Declared'.row Entries.the-type))
+e8 = (12, Rows'.sc-here (Row.sInt Syntax.w64))
 
 abbrev pub e9 : Row.Entry
-e9 = (13, Rows'.any-gone (Syntax.tyInt Syntax.w32))
+e9 = (13, Rows'.any-gone Syntax.tyBool)
 
 abbrev pub e10 : Row.Entry
-e10 = (13, Rows'.sc-here (Row.sInt Syntax.w32))
+e10 = (13, Rows'.sc-here Row.sBool)
 
 abbrev pub e11 : Row.Entry
-e11 = (14, Rows'.any-gone Syntax.tyBool)
+e11 = (14, Rows'.any-gone y12)
 
 abbrev pub e12 : Row.Entry
-e12 = (14, Rows'.sc-here Row.sBool)
+e12 = (14, Rows'.whole (Declared'.row Entries.the-type))
 
 abbrev pub e13 : Row.Entry
-e13 = (15, Rows'.any-gone (Syntax.tyInt Syntax.w64))
+e13 = (15, Rows'.any-gone (Syntax.tyInt Syntax.w32))
 
 abbrev pub e14 : Row.Entry
-e14 = (15, Rows'.sc-here (Row.sInt Syntax.w64))
+e14 = (15, Rows'.sc-here (Row.sInt Syntax.w32))
 
 abbrev pub e15 : Row.Entry
-e15 = (16, Rows'.any-gone y10)
+e15 = (16, Rows'.any-gone Syntax.tyBool)
 
 abbrev pub e16 : Row.Entry
-e16 = (16, Rows'.whole (Declared'.row Place.the-type))
+e16 = (16, Rows'.sc-here Row.sBool)
 
 abbrev pub e17 : Row.Entry
-e17 = (17, Rows'.any-gone y9)
+e17 = (17, Rows'.any-gone (Syntax.tyInt Syntax.w64))
 
 abbrev pub e18 : Row.Entry
-e18 = (17, Rows'.whole (Declared'.row TightLines.the-type))
+e18 = (17, Rows'.sc-here (Row.sInt Syntax.w64))
 
 abbrev pub e19 : Row.Entry
-e19 = (18, Rows'.any-gone (Syntax.tyInt Syntax.w64))
+e19 = (18, Rows'.any-gone y10)
 
 abbrev pub e20 : Row.Entry
-e20 = (18, Rows'.sc-here (Row.sInt Syntax.w64))
+e20 = (18, Rows'.whole (Declared'.row Place.the-type))
 
 abbrev pub e21 : Row.Entry
-e21 = (19, Rows'.any-gone (Syntax.tyInt Syntax.w32))
+e21 = (19, Rows'.any-gone y9)
 
 abbrev pub e22 : Row.Entry
-e22 = (19, Rows'.sc-here (Row.sInt Syntax.w32))
+e22 = (19, Rows'.whole (Declared'.row TightLines.the-type))
 
 abbrev pub e23 : Row.Entry
 e23 = (2, Rows'.sslice (Referent.rtF (Referent.fInt Syntax.w8)) (Syntax.tyRef (Syntax.named 1) Syntax.imm (Syntax.tyInt Syntax.w8)) 1)
 
 abbrev pub e24 : Row.Entry
-e24 = (
-  20,
+e24 = (20, Rows'.any-gone (Syntax.tyInt Syntax.w64))
+
+abbrev pub e25 : Row.Entry
+e25 = (20, Rows'.sc-here (Row.sInt Syntax.w64))
+
+abbrev pub e26 : Row.Entry
+e26 = (21, Rows'.any-gone (Syntax.tyInt Syntax.w64))
+
+abbrev pub e27 : Row.Entry
+e27 = (21, Rows'.sc-here (Row.sInt Syntax.w64))
+
+abbrev pub e28 : Row.Entry
+e28 = (22, Rows'.any-gone (Syntax.tyInt Syntax.w32))
+
+abbrev pub e29 : Row.Entry
+e29 = (22, Rows'.sc-here (Row.sInt Syntax.w32))
+
+abbrev pub e30 : Row.Entry
+e30 = (
+  23,
   Rows'.any-gone (Syntax.tyEnum (List._∷_ 98 (List._∷_ 108 (List._∷_ 111 (List._∷_ 99 (List._∷_ 107 (List._∷_ 58 (List._∷_ 58 (List._∷_ 76 (List._∷_ 105 (List._∷_ 110 (List._∷_ 101 (List._∷_ 100
       List.[])))))))))))) (Syntax.ttcons (Syntax.tcons y10 Syntax.tnil) (Syntax.ttcons Syntax.tnil Syntax.ttnil))),
 )
 
-abbrev pub e25 : Row.Entry
-e25 = (20, Rows'.whole (Declared.row Lined.the-type))
-
-abbrev pub e26 : Row.Entry
-e26 = (20, Rows'.whole (Known.Known Lined.enum 0))
-
-abbrev pub e27 : Row.Entry
-e27 = (21, Rows'.any-gone y10)
-
-abbrev pub e28 : Row.Entry
-e28 = (21, Rows'.whole (Declared'.row Place.the-type))
-
-abbrev pub e29 : Row.Entry
-e29 = (22, Rows'.any-gone Syntax.tyUnit)
-
-abbrev pub e30 : Row.Entry
-e30 = (22, Rows'.sc-here Row.sUnit)
-
 abbrev pub e31 : Row.Entry
-e31 = (23, Rows'.any-gone (Syntax.tyRef Syntax.erased Syntax.mut (Syntax.tyInt Syntax.w16)))
+e31 = (23, Rows'.whole (Declared.row Lined.the-type))
 
 abbrev pub e32 : Row.Entry
-e32 = (24, Mut.msleft (Referent.rtF (Referent.fInt Syntax.w16)) (Syntax.tyRef Syntax.erased Syntax.mut (Syntax.tyInt Syntax.w16)))
+e32 = (23, Rows'.whole (Known.Known Lined.enum 0))
 
 abbrev pub e33 : Row.Entry
-e33 = (24, Rows'.any-gone y5)
+e33 = (24, Rows'.any-gone y10)
 
 abbrev pub e34 : Row.Entry
-e34 = (25, Rows'.any-gone (Syntax.tyRef Syntax.erased Syntax.mut Element.behind))
+e34 = (24, Rows'.whole (Declared'.row Place.the-type))
 
 abbrev pub e35 : Row.Entry
-e35 = (26, Mut.msleft (Element.type) (Syntax.tyRef Syntax.erased Syntax.mut Element.behind))
+e35 = (25, Rows'.any-gone y3)
 
 abbrev pub e36 : Row.Entry
-e36 = (26, Mut.mslice (Element.type) (Syntax.tyRef Syntax.erased Syntax.mut Element.behind) 7)
+e36 = (25, Rows'.whole (Declared'.row Totals.the-type))
 
 abbrev pub e37 : Row.Entry
-e37 = (26, Rows'.any-gone y6)
+e37 = (26, Rows'.any-gone Syntax.tyBool)
 
 abbrev pub e38 : Row.Entry
-e38 = (27, Rows'.any-gone (Syntax.tyInt Syntax.w32))
+e38 = (26, Rows'.sc-here Row.sBool)
 
 abbrev pub e39 : Row.Entry
-e39 = (27, Rows'.sc-here (Row.sInt Syntax.w32))
+e39 = (27, Rows'.any-gone Syntax.tyUnit)
 
 abbrev pub e40 : Row.Entry
-e40 = (28, Rows'.any-gone Syntax.tyBool)
+e40 = (27, Rows'.sc-here Row.sUnit)
 
 abbrev pub e41 : Row.Entry
-e41 = (28, Rows'.sc-here Row.sBool)
+e41 = (28, Rows'.any-gone (Syntax.tyRef Syntax.erased Syntax.mut (Syntax.tyInt Syntax.w16)))
 
 abbrev pub e42 : Row.Entry
-e42 = (29, Rows'.any-gone Syntax.tyUnit)
+e42 = (29, Mut.msleft (Referent.rtF (Referent.fInt Syntax.w16)) (Syntax.tyRef Syntax.erased Syntax.mut (Syntax.tyInt Syntax.w16)))
 
 abbrev pub e43 : Row.Entry
-e43 = (29, Rows'.sc-here Row.sUnit)
+e43 = (29, Mut.mslice (Referent.rtF (Referent.fInt Syntax.w16)) (Syntax.tyRef Syntax.erased Syntax.mut (Syntax.tyInt Syntax.w16)) 6)
 
 abbrev pub e44 : Row.Entry
-e44 = (3, Mut.mslice (Referent.rtF (Referent.fInt Syntax.w16)) (Syntax.tyRef (Syntax.named 2) Syntax.mut (Syntax.tyInt Syntax.w16)) 2)
+e44 = (29, Rows'.any-gone y5)
 
 abbrev pub e45 : Row.Entry
-e45 = (3, Relend.mslice-owed (Referent.rtF (Referent.fInt Syntax.w16)) (Syntax.tyRef (Syntax.named 2) Syntax.mut (Syntax.tyInt Syntax.w16)) 2 10 Row.off)
+e45 = (3, Mut.mslice (Referent.rtF (Referent.fInt Syntax.w16)) (Syntax.tyRef (Syntax.named 2) Syntax.mut (Syntax.tyInt Syntax.w16)) 2)
 
 abbrev pub e46 : Row.Entry
-e46 = (3, Reshare.mslice-owedS (Referent.rtF (Referent.fInt Syntax.w16)) (Syntax.tyRef (Syntax.named 2) Syntax.mut (Syntax.tyInt Syntax.w16)) 2 14 Row.off)
+e46 = (3, Relend.mslice-owed (Referent.rtF (Referent.fInt Syntax.w16)) (Syntax.tyRef (Syntax.named 2) Syntax.mut (Syntax.tyInt Syntax.w16)) 2 8 Row.off)
 
 abbrev pub e47 : Row.Entry
-e47 = (30, Rows'.any-gone (Syntax.tyRef Syntax.erased Syntax.mut (Syntax.tyInt Syntax.w16)))
+e47 = (3, Reshare.mslice-owedS (Referent.rtF (Referent.fInt Syntax.w16)) (Syntax.tyRef (Syntax.named 2) Syntax.mut (Syntax.tyInt Syntax.w16)) 2 12 Row.off)
 
 abbrev pub e48 : Row.Entry
-e48 = (31, Mut.msleft (Referent.rtF (Referent.fInt Syntax.w16)) (Syntax.tyRef Syntax.erased Syntax.mut (Syntax.tyInt Syntax.w16)))
+e48 = (30, Rows'.any-gone (Syntax.tyRef Syntax.erased Syntax.mut Element.behind))
 
 abbrev pub e49 : Row.Entry
-e49 = (31, Mut.mslice (Referent.rtF (Referent.fInt Syntax.w16)) (Syntax.tyRef Syntax.erased Syntax.mut (Syntax.tyInt Syntax.w16)) 8)
+e49 = (31, Mut.msleft (Element.type) (Syntax.tyRef Syntax.erased Syntax.mut Element.behind))
 
 abbrev pub e50 : Row.Entry
-e50 = (31, Rows'.any-gone y5)
+e50 = (31, Mut.mslice (Element.type) (Syntax.tyRef Syntax.erased Syntax.mut Element.behind) 7)
 
 abbrev pub e51 : Row.Entry
-e51 = (32, Rows'.any-gone (Syntax.tyRef Syntax.erased Syntax.mut Element.behind))
+e51 = (31, Rows'.any-gone y6)
 
 abbrev pub e52 : Row.Entry
-e52 = (33, Rows'.any-gone y6)
+e52 = (32, Rows'.any-gone (Syntax.tyRef Syntax.erased Syntax.mut (Syntax.tyInt Syntax.w16)))
 
 abbrev pub e53 : Row.Entry
-e53 = (34, Rows'.any-gone (Syntax.tyRef Syntax.erased Syntax.mut (Syntax.tyInt Syntax.w16)))
+e53 = (33, Mut.msleft (Referent.rtF (Referent.fInt Syntax.w16)) (Syntax.tyRef Syntax.erased Syntax.mut (Syntax.tyInt Syntax.w16)))
 
 abbrev pub e54 : Row.Entry
-e54 = (35, Mut.msleft (Referent.rtF (Referent.fInt Syntax.w16)) (Syntax.tyRef Syntax.erased Syntax.mut (Syntax.tyInt Syntax.w16)))
+e54 = (33, Mut.mslice (Referent.rtF (Referent.fInt Syntax.w16)) (Syntax.tyRef Syntax.erased Syntax.mut (Syntax.tyInt Syntax.w16)) 8)
 
 abbrev pub e55 : Row.Entry
-e55 = (35, Mut.mslice (Referent.rtF (Referent.fInt Syntax.w16)) (Syntax.tyRef Syntax.erased Syntax.mut (Syntax.tyInt Syntax.w16)) 10)
+e55 = (33, Rows'.any-gone y5)
 
 abbrev pub e56 : Row.Entry
-e56 = (35, Rows'.any-gone y5)
+e56 = (34, Rows'.any-gone (Syntax.tyRef Syntax.erased Syntax.mut Element.behind))
 
 abbrev pub e57 : Row.Entry
-e57 = (36, Rows'.any-gone (Syntax.tyRef Syntax.erased Syntax.mut Element.behind))
+e57 = (35, Mut.msleft (Element.type) (Syntax.tyRef Syntax.erased Syntax.mut Element.behind))
 
 abbrev pub e58 : Row.Entry
-e58 = (37, Mut.msleft (Element.type) (Syntax.tyRef Syntax.erased Syntax.mut Element.behind))
+e58 = (35, Mut.mslice (Element.type) (Syntax.tyRef Syntax.erased Syntax.mut Element.behind) 9)
 
 abbrev pub e59 : Row.Entry
-e59 = (37, Mut.mslice (Element.type) (Syntax.tyRef Syntax.erased Syntax.mut Element.behind) 11)
+e59 = (35, Rows'.any-gone y6)
 
 abbrev pub e60 : Row.Entry
-e60 = (37, Rows'.any-gone y6)
+e60 = (36, Rows'.any-gone (Syntax.tyRef Syntax.erased Syntax.mut (Syntax.tyInt Syntax.w16)))
 
 abbrev pub e61 : Row.Entry
-e61 = (38, Rows'.any-gone (Syntax.tyRef Syntax.erased Syntax.mut (Syntax.tyInt Syntax.w16)))
+e61 = (37, Mut.msleft (Referent.rtF (Referent.fInt Syntax.w16)) (Syntax.tyRef Syntax.erased Syntax.mut (Syntax.tyInt Syntax.w16)))
 
 abbrev pub e62 : Row.Entry
-e62 = (39, Mut.msleft (Referent.rtF (Referent.fInt Syntax.w16)) (Syntax.tyRef Syntax.erased Syntax.mut (Syntax.tyInt Syntax.w16)))
+e62 = (37, Mut.mslice (Referent.rtF (Referent.fInt Syntax.w16)) (Syntax.tyRef Syntax.erased Syntax.mut (Syntax.tyInt Syntax.w16)) 10)
 
 abbrev pub e63 : Row.Entry
-e63 = (39, Mut.mslice (Referent.rtF (Referent.fInt Syntax.w16)) (Syntax.tyRef Syntax.erased Syntax.mut (Syntax.tyInt Syntax.w16)) 12)
+e63 = (37, Rows'.any-gone y5)
 
 abbrev pub e64 : Row.Entry
-e64 = (39, Rows'.any-gone y5)
+e64 = (38, Rows'.any-gone y2)
 
 abbrev pub e65 : Row.Entry
-e65 = (4, Mut.mslice (Element.type) (Syntax.tyRef (Syntax.named 3) Syntax.mut Element.behind) 3)
+e65 = (38, Rows'.whole (Declared'.row Quantisers.the-type))
 
 abbrev pub e66 : Row.Entry
-e66 = (4, Relend.mslice-owed (Element.type) (Syntax.tyRef (Syntax.named 3) Syntax.mut Element.behind) 3 11 Row.off)
+e66 = (39, Rows'.any-gone Syntax.tyUnit)
 
 abbrev pub e67 : Row.Entry
-e67 = (40, Rows'.any-gone y2)
+e67 = (4, Mut.mslice (Element.type) (Syntax.tyRef (Syntax.named 3) Syntax.mut Element.behind) 3)
 
 abbrev pub e68 : Row.Entry
-e68 = (40, Rows'.whole (Declared'.row Quantisers.the-type))
+e68 = (4, Relend.mslice-owed (Element.type) (Syntax.tyRef (Syntax.named 3) Syntax.mut Element.behind) 3 9 Row.off)
 
 abbrev pub e69 : Row.Entry
-e69 = (41, Rows'.any-gone Syntax.tyUnit)
+e69 = (40, Rows'.any-gone (Syntax.tyRef Syntax.erased Syntax.mut (Syntax.tyInt Syntax.w16)))
 
 abbrev pub e70 : Row.Entry
-e70 = (42, Rows'.any-gone (Syntax.tyRef Syntax.erased Syntax.mut (Syntax.tyInt Syntax.w16)))
+e70 = (41, Mut.msleft (Referent.rtF (Referent.fInt Syntax.w16)) (Syntax.tyRef Syntax.erased Syntax.mut (Syntax.tyInt Syntax.w16)))
 
 abbrev pub e71 : Row.Entry
-e71 = (43, Mut.msleft (Referent.rtF (Referent.fInt Syntax.w16)) (Syntax.tyRef Syntax.erased Syntax.mut (Syntax.tyInt Syntax.w16)))
+e71 = (41, Rows'.any-gone y5)
 
 abbrev pub e72 : Row.Entry
-e72 = (43, Rows'.any-gone y5)
+e72 = (42, Rows'.any-gone y3)
 
 abbrev pub e73 : Row.Entry
-e73 = (44, Rows'.any-gone y3)
+e73 = (43, Rows'.any-gone y3)
 
 abbrev pub e74 : Row.Entry
-e74 = (45, Rows'.any-gone y3)
+e74 = (44, Rows'.any-gone (Syntax.tyRef Syntax.erased Syntax.imm (Syntax.tyInt Syntax.w16)))
 
 abbrev pub e75 : Row.Entry
-e75 = (46, Rows'.any-gone (Syntax.tyRef Syntax.erased Syntax.imm (Syntax.tyInt Syntax.w16)))
+e75 = (45, Rows'.any-gone y4)
 
 abbrev pub e76 : Row.Entry
-e76 = (47, Rows'.any-gone y4)
+e76 = (45, Rows'.sslice (Referent.rtF (Referent.fInt Syntax.w16)) (Syntax.tyRef Syntax.erased Syntax.imm (Syntax.tyInt Syntax.w16)) 12)
 
 abbrev pub e77 : Row.Entry
-e77 = (48, Rows'.any-gone (Syntax.tyRef Syntax.erased Syntax.mut (Syntax.tyInt Syntax.w16)))
+e77 = (46, Rows'.any-gone (Syntax.tyRef Syntax.erased Syntax.mut (Syntax.tyInt Syntax.w16)))
 
 abbrev pub e78 : Row.Entry
-e78 = (49, Rows'.any-gone y5)
+e78 = (47, Mut.msleft (Referent.rtF (Referent.fInt Syntax.w16)) (Syntax.tyRef Syntax.erased Syntax.mut (Syntax.tyInt Syntax.w16)))
 
 abbrev pub e79 : Row.Entry
-e79 = (5, Mut.mslice (Referent.rtF (Referent.fInt Syntax.w16)) (Syntax.tyRef (Syntax.named 4) Syntax.mut (Syntax.tyInt Syntax.w16)) 4)
+e79 = (47, Rows'.any-gone y5)
 
 abbrev pub e80 : Row.Entry
-e80 = (5, Relend.mslice-owed (Referent.rtF (Referent.fInt Syntax.w16)) (Syntax.tyRef (Syntax.named 4) Syntax.mut (Syntax.tyInt Syntax.w16)) 4 12 Row.off)
+e80 = (5, Mut.mslice (Referent.rtF (Referent.fInt Syntax.w16)) (Syntax.tyRef (Syntax.named 4) Syntax.mut (Syntax.tyInt Syntax.w16)) 4)
 
 abbrev pub e81 : Row.Entry
-e81 = (5, Relend.mslice-owed (Referent.rtF (Referent.fInt Syntax.w16)) (Syntax.tyRef (Syntax.named 4) Syntax.mut (Syntax.tyInt Syntax.w16)) 4 13 Row.off)
+e81 = (5, Relend.mslice-owed (Referent.rtF (Referent.fInt Syntax.w16)) (Syntax.tyRef (Syntax.named 4) Syntax.mut (Syntax.tyInt Syntax.w16)) 4 10 Row.off)
 
 abbrev pub e82 : Row.Entry
-e82 = (5, Relend.mslice-owed (Referent.rtF (Referent.fInt Syntax.w16)) (Syntax.tyRef (Syntax.named 4) Syntax.mut (Syntax.tyInt Syntax.w16)) 4 15 Row.off)
+e82 = (5, Relend.mslice-owed (Referent.rtF (Referent.fInt Syntax.w16)) (Syntax.tyRef (Syntax.named 4) Syntax.mut (Syntax.tyInt Syntax.w16)) 4 11 Row.off)
 
 abbrev pub e83 : Row.Entry
-e83 = (50, Rows'.any-gone y3)
+e83 = (5, Relend.mslice-owed (Referent.rtF (Referent.fInt Syntax.w16)) (Syntax.tyRef (Syntax.named 4) Syntax.mut (Syntax.tyInt Syntax.w16)) 4 13 Row.off)
 
 abbrev pub e84 : Row.Entry
 e84 = (6, Rows'.any-gone y8)
@@ -1242,805 +1208,792 @@ abbrev pub e90 : Row.Entry
 e90 = (9, Rows'.whole (Declared'.row Part.the-type))
 
 abbrev pub t0 : List.List Row.Entry
-t0 = List._∷_ e0 (List._∷_ e2 (List._∷_ e23 (List._∷_ e44 (List._∷_ e65 (List._∷_ e79 (List._∷_ e85 (List._∷_ e86 (List._∷_ e88 (List._∷_ e90 (List._∷_ e4 (List._∷_ e6 (List._∷_ e8 (List._∷_ e9
-    (List._∷_ e11 (List._∷_ e13 List.[])))))))))))))))
-
-abbrev pub t1 : List.List Row.Entry
-t1 = List._∷_ e15 (List._∷_ e17 (List._∷_ e19 (List._∷_ e21 (List._∷_ e24 (List._∷_ e27 (List._∷_ e29 (List._∷_ e31 (List._∷_ e33 (List._∷_ e34 (List._∷_ e37 (List._∷_ e38 (List._∷_ e40 (List._∷_ e42
-    (List._∷_ e47 (List._∷_ e50 List.[])))))))))))))))
-
-abbrev pub t2 : List.List Row.Entry
-t2 = List._∷_ e51 (List._∷_ e52 (List._∷_ e53 (List._∷_ e56 (List._∷_ e57 (List._∷_ e60 (List._∷_ e61 (List._∷_ e64 (List._∷_ e67 (List._∷_ e69 (List._∷_ e70 (List._∷_ e72 (List._∷_ e73 (List._∷_ e74
-    (List._∷_ e75 (List._∷_ e76 List.[])))))))))))))))
-
-abbrev pub t3 : List.List Row.Entry
-t3 = List._∷_ e77 (List._∷_ e78 (List._∷_ e83 List.[]))
-
-abbrev pub t4 : List.List Row.Entry
-t4 = List._∷_ e1 (List._∷_ e2 (List._∷_ e23 (List._∷_ e44 (List._∷_ e65 (List._∷_ e79 (List._∷_ e84 (List._∷_ e86 (List._∷_ e87 (List._∷_ e89 (List._∷_ e3 (List._∷_ e5 (List._∷_ e7 (List._∷_ e9
-    (List._∷_ e11 (List._∷_ e13 List.[])))))))))))))))
-
-abbrev pub t5 : List.List Row.Entry
-t5 = List._∷_ e0 (List._∷_ e2 (List._∷_ e23 (List._∷_ e44 (List._∷_ e65 (List._∷_ e79 (List._∷_ e85 (List._∷_ e86 (List._∷_ e88 (List._∷_ e90 (List._∷_ e4 (List._∷_ e6 (List._∷_ e8 (List._∷_ e10
-    (List._∷_ e11 (List._∷_ e13 List.[])))))))))))))))
-
-abbrev pub t6 : List.List Row.Entry
-t6 = List._∷_ e0 (List._∷_ e2 (List._∷_ e23 (List._∷_ e44 (List._∷_ e65 (List._∷_ e79 (List._∷_ e85 (List._∷_ e86 (List._∷_ e88 (List._∷_ e90 (List._∷_ e4 (List._∷_ e6 (List._∷_ e8 (List._∷_ e10
+t0 = List._∷_ e0 (List._∷_ e2 (List._∷_ e23 (List._∷_ e45 (List._∷_ e67 (List._∷_ e80 (List._∷_ e85 (List._∷_ e86 (List._∷_ e88 (List._∷_ e90 (List._∷_ e4 (List._∷_ e6 (List._∷_ e8 (List._∷_ e10
     (List._∷_ e12 (List._∷_ e13 List.[])))))))))))))))
 
-abbrev pub t7 : List.List Row.Entry
-t7 = List._∷_ e0 (List._∷_ e2 (List._∷_ e23 (List._∷_ e44 (List._∷_ e65 (List._∷_ e79 (List._∷_ e85 (List._∷_ e86 (List._∷_ e88 (List._∷_ e90 (List._∷_ e4 (List._∷_ e6 (List._∷_ e8 (List._∷_ e10
+abbrev pub t1 : List.List Row.Entry
+t1 = List._∷_ e15 (List._∷_ e17 (List._∷_ e19 (List._∷_ e21 (List._∷_ e24 (List._∷_ e26 (List._∷_ e28 (List._∷_ e30 (List._∷_ e33 (List._∷_ e35 (List._∷_ e37 (List._∷_ e39 (List._∷_ e41 (List._∷_ e44
+    (List._∷_ e48 (List._∷_ e51 List.[])))))))))))))))
+
+abbrev pub t2 : List.List Row.Entry
+t2 = List._∷_ e52 (List._∷_ e55 (List._∷_ e56 (List._∷_ e59 (List._∷_ e60 (List._∷_ e63 (List._∷_ e64 (List._∷_ e66 (List._∷_ e69 (List._∷_ e71 (List._∷_ e72 (List._∷_ e73 (List._∷_ e74 (List._∷_ e75
+    (List._∷_ e77 (List._∷_ e79 List.[])))))))))))))))
+
+abbrev pub t3 : List.List Row.Entry
+t3 = List._∷_ e1 (List._∷_ e2 (List._∷_ e23 (List._∷_ e45 (List._∷_ e67 (List._∷_ e80 (List._∷_ e84 (List._∷_ e86 (List._∷_ e87 (List._∷_ e89 (List._∷_ e3 (List._∷_ e5 (List._∷_ e7 (List._∷_ e9
+    (List._∷_ e11 (List._∷_ e13 List.[])))))))))))))))
+
+abbrev pub t4 : List.List Row.Entry
+t4 = List._∷_ e0 (List._∷_ e2 (List._∷_ e23 (List._∷_ e45 (List._∷_ e67 (List._∷_ e80 (List._∷_ e85 (List._∷_ e86 (List._∷_ e88 (List._∷_ e90 (List._∷_ e4 (List._∷_ e6 (List._∷_ e8 (List._∷_ e10
     (List._∷_ e12 (List._∷_ e14 List.[])))))))))))))))
+
+abbrev pub t5 : List.List Row.Entry
+t5 = List._∷_ e16 (List._∷_ e17 (List._∷_ e19 (List._∷_ e21 (List._∷_ e24 (List._∷_ e26 (List._∷_ e28 (List._∷_ e30 (List._∷_ e33 (List._∷_ e35 (List._∷_ e37 (List._∷_ e39 (List._∷_ e41 (List._∷_ e44
+    (List._∷_ e48 (List._∷_ e51 List.[])))))))))))))))
+
+abbrev pub t6 : List.List Row.Entry
+t6 = List._∷_ e16 (List._∷_ e18 (List._∷_ e19 (List._∷_ e21 (List._∷_ e24 (List._∷_ e26 (List._∷_ e28 (List._∷_ e30 (List._∷_ e33 (List._∷_ e35 (List._∷_ e37 (List._∷_ e39 (List._∷_ e41 (List._∷_ e44
+    (List._∷_ e48 (List._∷_ e51 List.[])))))))))))))))
+
+abbrev pub t7 : List.List Row.Entry
+t7 = List._∷_ e16 (List._∷_ e18 (List._∷_ e20 (List._∷_ e21 (List._∷_ e24 (List._∷_ e26 (List._∷_ e28 (List._∷_ e30 (List._∷_ e33 (List._∷_ e35 (List._∷_ e37 (List._∷_ e39 (List._∷_ e41 (List._∷_ e44
+    (List._∷_ e48 (List._∷_ e51 List.[])))))))))))))))
 
 abbrev pub t8 : List.List Row.Entry
-t8 = List._∷_ e0 (List._∷_ e2 (List._∷_ e23 (List._∷_ (3, Relend.mslice-owed (Referent.rtF (Referent.fInt Syntax.w16)) (Syntax.tyRef (Syntax.named 2) Syntax.mut (Syntax.tyInt Syntax.w16)) 2 6 Row.off)
-    (List._∷_ e65 (List._∷_ e79 (List._∷_ e85 (List._∷_ e86 (List._∷_ e88 (List._∷_ e90 (List._∷_ e4 (List._∷_ e6 (List._∷_ e8 (List._∷_ e10 (List._∷_ e12 (List._∷_ e14 List.[])))))))))))))))
+t8 = List._∷_ e16 (List._∷_ e18 (List._∷_ e20 (List._∷_ e21 (List._∷_ e24 (List._∷_ e26 (List._∷_ e28 (List._∷_ e30 (List._∷_ e33 (List._∷_ e36 (List._∷_ e37 (List._∷_ e39 (List._∷_ e41 (List._∷_ e44
+    (List._∷_ e48 (List._∷_ e51 List.[])))))))))))))))
 
 abbrev pub t9 : List.List Row.Entry
-t9 = List._∷_ e15 (List._∷_ e17 (List._∷_ e19 (List._∷_ e21 (List._∷_ e24 (List._∷_ e27 (List._∷_ e29 (List._∷_
-    (23, Relend.msptr (Referent.rtF (Referent.fInt Syntax.w16)) (Syntax.tyRef Syntax.erased Syntax.mut (Syntax.tyInt Syntax.w16)) 6) (List._∷_ e33 (List._∷_ e34 (List._∷_ e37 (List._∷_ e38 (List._∷_ e40
-    (List._∷_ e42 (List._∷_ e47 (List._∷_ e50 List.[])))))))))))))))
+t9 = List._∷_ e0 (List._∷_ e2 (List._∷_ e23 (List._∷_ e45 (List._∷_ e67 (List._∷_ e80 (List._∷_ e85 (List._∷_ e86 (List._∷_ e88 (List._∷_ e90 (List._∷_ e4 (List._∷_ e5 (List._∷_ e8 (List._∷_ e10
+    (List._∷_ e12 (List._∷_ e14 List.[])))))))))))))))
 
 abbrev pub t10 : List.List Row.Entry
-t10 = List._∷_ e15 (List._∷_ e17 (List._∷_ e19 (List._∷_ e21 (List._∷_ e24 (List._∷_ e27 (List._∷_ e29 (List._∷_ e31 (List._∷_
-    (24, Mut.mslice (Referent.rtF (Referent.fInt Syntax.w16)) (Syntax.tyRef Syntax.erased Syntax.mut (Syntax.tyInt Syntax.w16)) 6) (List._∷_ e34 (List._∷_ e37 (List._∷_ e38 (List._∷_ e40 (List._∷_ e42
-    (List._∷_ e47 (List._∷_ e50 List.[])))))))))))))))
+t10 = List._∷_ e16 (List._∷_ e18 (List._∷_ e20 (List._∷_ e22 (List._∷_ e24 (List._∷_ e26 (List._∷_ e28 (List._∷_ e30 (List._∷_ e33 (List._∷_ e36 (List._∷_ e37 (List._∷_ e39 (List._∷_ e41 (List._∷_ e44
+    (List._∷_ e48 (List._∷_ e51 List.[])))))))))))))))
 
 abbrev pub t11 : List.List Row.Entry
-t11 = List._∷_ e15 (List._∷_ e17 (List._∷_ e19 (List._∷_ e21 (List._∷_ e24 (List._∷_ e27 (List._∷_ e30 (List._∷_ e31 (List._∷_ e32 (List._∷_ e34 (List._∷_ e37 (List._∷_ e38 (List._∷_ e40 (List._∷_ e42
-    (List._∷_ e47 (List._∷_ e50 List.[])))))))))))))))
+t11 = List._∷_ e16 (List._∷_ e18 (List._∷_ e20 (List._∷_ e22 (List._∷_ e24 (List._∷_ e26 (List._∷_ e28 (List._∷_ e30 (List._∷_ e33 (List._∷_ e35 (List._∷_ e37 (List._∷_ e39 (List._∷_ e41 (List._∷_ e44
+    (List._∷_ e48 (List._∷_ e51 List.[])))))))))))))))
 
 abbrev pub t12 : List.List Row.Entry
-t12 = List._∷_ e15 (List._∷_ e17 (List._∷_ e19 (List._∷_ e21 (List._∷_ e24 (List._∷_ e27 (List._∷_ e29 (List._∷_ e31 (List._∷_ e32 (List._∷_ e34 (List._∷_ e37 (List._∷_ e38 (List._∷_ e40 (List._∷_ e42
-    (List._∷_ e47 (List._∷_ e50 List.[])))))))))))))))
+t12 = List._∷_ e16 (List._∷_ e18 (List._∷_ e20 (List._∷_ e22 (List._∷_ e25 (List._∷_ e26 (List._∷_ e28 (List._∷_ e30 (List._∷_ e33 (List._∷_ e35 (List._∷_ e37 (List._∷_ e39 (List._∷_ e41 (List._∷_ e44
+    (List._∷_ e48 (List._∷_ e51 List.[])))))))))))))))
 
 abbrev pub t13 : List.List Row.Entry
-t13 = List._∷_ e0 (List._∷_ e2 (List._∷_ e23 (List._∷_ e44 (List._∷_ (4, Relend.mslice-owed (Element.type) (Syntax.tyRef (Syntax.named 3) Syntax.mut Element.behind) 3 7 Row.off) (List._∷_ e79
-    (List._∷_ e85 (List._∷_ e86 (List._∷_ e88 (List._∷_ e90 (List._∷_ e4 (List._∷_ e6 (List._∷_ e8 (List._∷_ e10 (List._∷_ e12 (List._∷_ e14 List.[])))))))))))))))
+t13 = List._∷_ e0 (List._∷_ e2 (List._∷_ e23 (List._∷_ e45 (List._∷_ e67 (List._∷_ e80 (List._∷_ e84 (List._∷_ e86 (List._∷_ e87 (List._∷_ e89 (List._∷_ e4 (List._∷_ e5 (List._∷_ e8 (List._∷_ e10
+    (List._∷_ e11 (List._∷_ e14 List.[])))))))))))))))
 
 abbrev pub t14 : List.List Row.Entry
-t14 = List._∷_ e15 (List._∷_ e17 (List._∷_ e19 (List._∷_ e21 (List._∷_ e24 (List._∷_ e27 (List._∷_ e29 (List._∷_ e31 (List._∷_ e33 (List._∷_
-    (25, Relend.msptr (Element.type) (Syntax.tyRef Syntax.erased Syntax.mut Element.behind) 7) (List._∷_ e37 (List._∷_ e38 (List._∷_ e40 (List._∷_ e42 (List._∷_ e47 (List._∷_ e50 List.[])))))))))))))))
+t14 = List._∷_ e16 (List._∷_ e18 (List._∷_ e20 (List._∷_ e22 (List._∷_ e25 (List._∷_ e26 (List._∷_ e28 (List._∷_ e30 (List._∷_ e33 (List._∷_ e35 (List._∷_ e38 (List._∷_ e39 (List._∷_ e41 (List._∷_ e44
+    (List._∷_ e48 (List._∷_ e51 List.[])))))))))))))))
 
 abbrev pub t15 : List.List Row.Entry
-t15 = List._∷_ e15 (List._∷_ e17 (List._∷_ e19 (List._∷_ e21 (List._∷_ e24 (List._∷_ e27 (List._∷_ e29 (List._∷_ e31 (List._∷_ e33 (List._∷_ e34 (List._∷_ e36 (List._∷_ e38 (List._∷_ e40 (List._∷_ e42
-    (List._∷_ e47 (List._∷_ e50 List.[])))))))))))))))
+t15 = List._∷_ e0 (List._∷_ e2 (List._∷_ e23 (List._∷_ e45 (List._∷_ e67 (List._∷_ e80 (List._∷_ e84 (List._∷_ e86 (List._∷_ e88 (List._∷_ e90 (List._∷_ e4 (List._∷_ e5 (List._∷_ e8 (List._∷_ e10
+    (List._∷_ e12 (List._∷_ e14 List.[])))))))))))))))
 
 abbrev pub t16 : List.List Row.Entry
-t16 = List._∷_ e15 (List._∷_ e17 (List._∷_ e19 (List._∷_ e21 (List._∷_ e24 (List._∷_ e27 (List._∷_ e29 (List._∷_ e31 (List._∷_ e33 (List._∷_ e34 (List._∷_ e36 (List._∷_ e39 (List._∷_ e40 (List._∷_ e42
-    (List._∷_ e47 (List._∷_ e50 List.[])))))))))))))))
+t16 = List._∷_ e0 (List._∷_ e2 (List._∷_ e23 (List._∷_ e45 (List._∷_ e67 (List._∷_ e80 (List._∷_ e84 (List._∷_ e86 (List._∷_ e87 (List._∷_ e90 (List._∷_ e4 (List._∷_ e5 (List._∷_ e8 (List._∷_ e10
+    (List._∷_ e12 (List._∷_ e14 List.[])))))))))))))))
 
 abbrev pub t17 : List.List Row.Entry
-t17 = List._∷_ e15 (List._∷_ e17 (List._∷_ e19 (List._∷_ e21 (List._∷_ e24 (List._∷_ e27 (List._∷_ e30 (List._∷_ e31 (List._∷_ e33 (List._∷_ e34 (List._∷_ e35 (List._∷_ e39 (List._∷_ e40 (List._∷_ e42
-    (List._∷_ e47 (List._∷_ e50 List.[])))))))))))))))
+t17 = List._∷_ e0 (List._∷_ e2 (List._∷_ e23 (List._∷_ e45 (List._∷_ e67 (List._∷_ e80 (List._∷_ e84 (List._∷_ e86 (List._∷_ e87 (List._∷_ e89 (List._∷_ e4 (List._∷_ e5 (List._∷_ e8 (List._∷_ e10
+    (List._∷_ e12 (List._∷_ e14 List.[])))))))))))))))
 
 abbrev pub t18 : List.List Row.Entry
-t18 = List._∷_ e15 (List._∷_ e17 (List._∷_ e19 (List._∷_ e21 (List._∷_ e24 (List._∷_ e27 (List._∷_ e29 (List._∷_ e31 (List._∷_ e33 (List._∷_ e34 (List._∷_ e35 (List._∷_ e39 (List._∷_ e40 (List._∷_ e42
-    (List._∷_ e47 (List._∷_ e50 List.[])))))))))))))))
+t18 = List._∷_ e16 (List._∷_ e18 (List._∷_ e20 (List._∷_ e22 (List._∷_ e25 (List._∷_ e27 (List._∷_ e28 (List._∷_ e30 (List._∷_ e33 (List._∷_ e35 (List._∷_ e37 (List._∷_ e39 (List._∷_ e41 (List._∷_ e44
+    (List._∷_ e48 (List._∷_ e51 List.[])))))))))))))))
 
 abbrev pub t19 : List.List Row.Entry
-t19 = List._∷_ e15 (List._∷_ e17 (List._∷_ e19 (List._∷_ e21 (List._∷_ e24 (List._∷_ e27 (List._∷_ e29 (List._∷_ e31 (List._∷_ e33 (List._∷_ e34 (List._∷_ e35 (List._∷_ e38 (List._∷_ e40 (List._∷_ e42
-    (List._∷_ e47 (List._∷_ e50 List.[])))))))))))))))
+t19 = List._∷_ e0 (List._∷_ e2 (List._∷_ e23 (List._∷_
+    (3, Relend.mslice-owed (Referent.rtF (Referent.fInt Syntax.w16)) (Syntax.tyRef (Syntax.named 2) Syntax.mut (Syntax.tyInt Syntax.w16)) 2 6 Row.off) (List._∷_ e67 (List._∷_ e80 (List._∷_ e85 (List._∷_
+    e86 (List._∷_ e88 (List._∷_ e90 (List._∷_ e4 (List._∷_ e5 (List._∷_ e8 (List._∷_ e10 (List._∷_ e12 (List._∷_ e14 List.[])))))))))))))))
 
 abbrev pub t20 : List.List Row.Entry
-t20 = List._∷_ e16 (List._∷_ e17 (List._∷_ e19 (List._∷_ e21 (List._∷_ e24 (List._∷_ e27 (List._∷_ e29 (List._∷_ e31 (List._∷_ e33 (List._∷_ e34 (List._∷_ e37 (List._∷_ e38 (List._∷_ e40 (List._∷_ e42
-    (List._∷_ e47 (List._∷_ e50 List.[])))))))))))))))
+t20 = List._∷_ e16 (List._∷_ e18 (List._∷_ e20 (List._∷_ e22 (List._∷_ e25 (List._∷_ e27 (List._∷_ e28 (List._∷_ e30 (List._∷_ e33 (List._∷_ e35 (List._∷_ e37 (List._∷_ e39 (List._∷_
+    (28, Relend.msptr (Referent.rtF (Referent.fInt Syntax.w16)) (Syntax.tyRef Syntax.erased Syntax.mut (Syntax.tyInt Syntax.w16)) 6) (List._∷_ e44 (List._∷_ e48 (List._∷_ e51 List.[])))))))))))))))
 
 abbrev pub t21 : List.List Row.Entry
-t21 = List._∷_ e16 (List._∷_ e18 (List._∷_ e19 (List._∷_ e21 (List._∷_ e24 (List._∷_ e27 (List._∷_ e29 (List._∷_ e31 (List._∷_ e33 (List._∷_ e34 (List._∷_ e37 (List._∷_ e38 (List._∷_ e40 (List._∷_ e42
-    (List._∷_ e47 (List._∷_ e50 List.[])))))))))))))))
+t21 = List._∷_ e16 (List._∷_ e18 (List._∷_ e20 (List._∷_ e22 (List._∷_ e25 (List._∷_ e27 (List._∷_ e28 (List._∷_ e30 (List._∷_ e33 (List._∷_ e35 (List._∷_ e37 (List._∷_ e39 (List._∷_ e41 (List._∷_ e43
+    (List._∷_ e48 (List._∷_ e51 List.[])))))))))))))))
 
 abbrev pub t22 : List.List Row.Entry
-t22 = List._∷_ e16 (List._∷_ e18 (List._∷_ e20 (List._∷_ e21 (List._∷_ e24 (List._∷_ e27 (List._∷_ e29 (List._∷_ e31 (List._∷_ e33 (List._∷_ e34 (List._∷_ e37 (List._∷_ e38 (List._∷_ e40 (List._∷_ e42
-    (List._∷_ e47 (List._∷_ e50 List.[])))))))))))))))
+t22 = List._∷_ e16 (List._∷_ e18 (List._∷_ e20 (List._∷_ e22 (List._∷_ e25 (List._∷_ e27 (List._∷_ e28 (List._∷_ e30 (List._∷_ e33 (List._∷_ e35 (List._∷_ e38 (List._∷_ e39 (List._∷_ e41 (List._∷_ e43
+    (List._∷_ e48 (List._∷_ e51 List.[])))))))))))))))
 
 abbrev pub t23 : List.List Row.Entry
-t23 = List._∷_ e0 (List._∷_ e2 (List._∷_ e23 (List._∷_ e44 (List._∷_ e65 (List._∷_ e79 (List._∷_ e84 (List._∷_ e86 (List._∷_ e87 (List._∷_ e89 (List._∷_ e4 (List._∷_ e6 (List._∷_ e7 (List._∷_ e10
-    (List._∷_ e12 (List._∷_ e14 List.[])))))))))))))))
+t23 = List._∷_ e16 (List._∷_ e18 (List._∷_ e20 (List._∷_ e22 (List._∷_ e25 (List._∷_ e27 (List._∷_ e28 (List._∷_ e30 (List._∷_ e33 (List._∷_ e35 (List._∷_ e38 (List._∷_ e40 (List._∷_ e41 (List._∷_ e42
+    (List._∷_ e48 (List._∷_ e51 List.[])))))))))))))))
 
 abbrev pub t24 : List.List Row.Entry
-t24 = List._∷_ e16 (List._∷_ e18 (List._∷_ e20 (List._∷_ e21 (List._∷_ e24 (List._∷_ e27 (List._∷_ e29 (List._∷_ e31 (List._∷_ e33 (List._∷_ e34 (List._∷_ e37 (List._∷_ e38 (List._∷_ e41 (List._∷_ e42
-    (List._∷_ e47 (List._∷_ e50 List.[])))))))))))))))
+t24 = List._∷_ e16 (List._∷_ e18 (List._∷_ e20 (List._∷_ e22 (List._∷_ e25 (List._∷_ e27 (List._∷_ e28 (List._∷_ e30 (List._∷_ e33 (List._∷_ e35 (List._∷_ e37 (List._∷_ e40 (List._∷_ e41 (List._∷_ e42
+    (List._∷_ e48 (List._∷_ e51 List.[])))))))))))))))
 
 abbrev pub t25 : List.List Row.Entry
-t25 = List._∷_ e0 (List._∷_ e2 (List._∷_ e23 (List._∷_ e44 (List._∷_ e65 (List._∷_ e79 (List._∷_ e84 (List._∷_ e86 (List._∷_ e88 (List._∷_ e90 (List._∷_ e4 (List._∷_ e6 (List._∷_ e8 (List._∷_ e10
-    (List._∷_ e12 (List._∷_ e14 List.[])))))))))))))))
+t25 = List._∷_ e16 (List._∷_ e18 (List._∷_ e20 (List._∷_ e22 (List._∷_ e25 (List._∷_ e27 (List._∷_ e28 (List._∷_ e30 (List._∷_ e33 (List._∷_ e35 (List._∷_ e37 (List._∷_ e39 (List._∷_ e41 (List._∷_ e42
+    (List._∷_ e48 (List._∷_ e51 List.[])))))))))))))))
 
 abbrev pub t26 : List.List Row.Entry
-t26 = List._∷_ e0 (List._∷_ e2 (List._∷_ e23 (List._∷_ e44 (List._∷_ e65 (List._∷_ e79 (List._∷_ e84 (List._∷_ e86 (List._∷_ e87 (List._∷_ e90 (List._∷_ e4 (List._∷_ e6 (List._∷_ e8 (List._∷_ e10
-    (List._∷_ e12 (List._∷_ e14 List.[])))))))))))))))
+t26 = List._∷_ e16 (List._∷_ e18 (List._∷_ e20 (List._∷_ e22 (List._∷_ e25 (List._∷_ e27 (List._∷_ e29 (List._∷_ e30 (List._∷_ e33 (List._∷_ e35 (List._∷_ e37 (List._∷_ e39 (List._∷_ e41 (List._∷_ e44
+    (List._∷_ e48 (List._∷_ e51 List.[])))))))))))))))
 
 abbrev pub t27 : List.List Row.Entry
-t27 = List._∷_ e0 (List._∷_ e2 (List._∷_ e23 (List._∷_ e44 (List._∷_ e65 (List._∷_ e79 (List._∷_ e84 (List._∷_ e86 (List._∷_ e87 (List._∷_ e89 (List._∷_ e4 (List._∷_ e6 (List._∷_ e8 (List._∷_ e10
-    (List._∷_ e12 (List._∷_ e14 List.[])))))))))))))))
+t27 = List._∷_ e0 (List._∷_ e2 (List._∷_ e23 (List._∷_ e45 (List._∷_ (4, Relend.mslice-owed (Element.type) (Syntax.tyRef (Syntax.named 3) Syntax.mut Element.behind) 3 7 Row.off) (List._∷_ e80
+    (List._∷_ e85 (List._∷_ e86 (List._∷_ e88 (List._∷_ e90 (List._∷_ e4 (List._∷_ e5 (List._∷_ e8 (List._∷_ e10 (List._∷_ e12 (List._∷_ e14 List.[])))))))))))))))
 
 abbrev pub t28 : List.List Row.Entry
-t28 = List._∷_ e0 (List._∷_ e2 (List._∷_ e23 (List._∷_
-    (3, Relend.mslice-owed (Referent.rtF (Referent.fInt Syntax.w16)) (Syntax.tyRef (Syntax.named 2) Syntax.mut (Syntax.tyInt Syntax.w16)) 2 8 Row.off) (List._∷_ e65 (List._∷_ e79 (List._∷_ e85 (List._∷_
-    e86 (List._∷_ e88 (List._∷_ e90 (List._∷_ e4 (List._∷_ e6 (List._∷_ e8 (List._∷_ e10 (List._∷_ e12 (List._∷_ e14 List.[])))))))))))))))
+t28 = List._∷_ e16 (List._∷_ e18 (List._∷_ e20 (List._∷_ e22 (List._∷_ e25 (List._∷_ e27 (List._∷_ e29 (List._∷_ e30 (List._∷_ e33 (List._∷_ e35 (List._∷_ e37 (List._∷_ e39 (List._∷_ e41 (List._∷_ e44
+    (List._∷_ (30, Relend.msptr (Element.type) (Syntax.tyRef Syntax.erased Syntax.mut Element.behind) 7) (List._∷_ e51 List.[])))))))))))))))
 
 abbrev pub t29 : List.List Row.Entry
-t29 = List._∷_ e16 (List._∷_ e18 (List._∷_ e20 (List._∷_ e21 (List._∷_ e24 (List._∷_ e27 (List._∷_ e29 (List._∷_ e31 (List._∷_ e33 (List._∷_ e34 (List._∷_ e37 (List._∷_ e38 (List._∷_ e40 (List._∷_ e42
-    (List._∷_ (30, Relend.msptr (Referent.rtF (Referent.fInt Syntax.w16)) (Syntax.tyRef Syntax.erased Syntax.mut (Syntax.tyInt Syntax.w16)) 8) (List._∷_ e50 List.[])))))))))))))))
+t29 = List._∷_ e16 (List._∷_ e18 (List._∷_ e20 (List._∷_ e22 (List._∷_ e25 (List._∷_ e27 (List._∷_ e29 (List._∷_ e30 (List._∷_ e33 (List._∷_ e35 (List._∷_ e37 (List._∷_ e39 (List._∷_ e41 (List._∷_ e44
+    (List._∷_ e48 (List._∷_ e50 List.[])))))))))))))))
 
 abbrev pub t30 : List.List Row.Entry
-t30 = List._∷_ e16 (List._∷_ e18 (List._∷_ e20 (List._∷_ e21 (List._∷_ e24 (List._∷_ e27 (List._∷_ e29 (List._∷_ e31 (List._∷_ e33 (List._∷_ e34 (List._∷_ e37 (List._∷_ e38 (List._∷_ e40 (List._∷_ e42
-    (List._∷_ e47 (List._∷_ e49 List.[])))))))))))))))
+t30 = List._∷_ e16 (List._∷_ e18 (List._∷_ e20 (List._∷_ e22 (List._∷_ e25 (List._∷_ e27 (List._∷_ e29 (List._∷_ e30 (List._∷_ e33 (List._∷_ e35 (List._∷_ e38 (List._∷_ e39 (List._∷_ e41 (List._∷_ e44
+    (List._∷_ e48 (List._∷_ e50 List.[])))))))))))))))
 
 abbrev pub t31 : List.List Row.Entry
-t31 = List._∷_ e16 (List._∷_ e18 (List._∷_ e20 (List._∷_ e21 (List._∷_ e24 (List._∷_ e27 (List._∷_ e29 (List._∷_ e31 (List._∷_ e33 (List._∷_ e34 (List._∷_ e37 (List._∷_ e38 (List._∷_ e41 (List._∷_ e42
-    (List._∷_ e47 (List._∷_ e49 List.[])))))))))))))))
+t31 = List._∷_ e16 (List._∷_ e18 (List._∷_ e20 (List._∷_ e22 (List._∷_ e25 (List._∷_ e27 (List._∷_ e29 (List._∷_ e30 (List._∷_ e33 (List._∷_ e35 (List._∷_ e38 (List._∷_ e40 (List._∷_ e41 (List._∷_ e44
+    (List._∷_ e48 (List._∷_ e49 List.[])))))))))))))))
 
 abbrev pub t32 : List.List Row.Entry
-t32 = List._∷_ e16 (List._∷_ e18 (List._∷_ e20 (List._∷_ e21 (List._∷_ e24 (List._∷_ e27 (List._∷_ e29 (List._∷_ e31 (List._∷_ e33 (List._∷_ e34 (List._∷_ e37 (List._∷_ e38 (List._∷_ e41 (List._∷_ e43
-    (List._∷_ e47 (List._∷_ e48 List.[])))))))))))))))
+t32 = List._∷_ e16 (List._∷_ e18 (List._∷_ e20 (List._∷_ e22 (List._∷_ e25 (List._∷_ e27 (List._∷_ e29 (List._∷_ e30 (List._∷_ e33 (List._∷_ e35 (List._∷_ e37 (List._∷_ e40 (List._∷_ e41 (List._∷_ e44
+    (List._∷_ e48 (List._∷_ e49 List.[])))))))))))))))
 
 abbrev pub t33 : List.List Row.Entry
-t33 = List._∷_ e16 (List._∷_ e18 (List._∷_ e20 (List._∷_ e21 (List._∷_ e24 (List._∷_ e27 (List._∷_ e29 (List._∷_ e31 (List._∷_ e33 (List._∷_ e34 (List._∷_ e37 (List._∷_ e38 (List._∷_ e40 (List._∷_ e43
-    (List._∷_ e47 (List._∷_ e48 List.[])))))))))))))))
+t33 = List._∷_ e16 (List._∷_ e18 (List._∷_ e20 (List._∷_ e22 (List._∷_ e25 (List._∷_ e27 (List._∷_ e29 (List._∷_ e30 (List._∷_ e33 (List._∷_ e35 (List._∷_ e37 (List._∷_ e39 (List._∷_ e41 (List._∷_ e44
+    (List._∷_ e48 (List._∷_ e49 List.[])))))))))))))))
 
 abbrev pub t34 : List.List Row.Entry
-t34 = List._∷_ e16 (List._∷_ e18 (List._∷_ e20 (List._∷_ e21 (List._∷_ e24 (List._∷_ e27 (List._∷_ e29 (List._∷_ e31 (List._∷_ e33 (List._∷_ e34 (List._∷_ e37 (List._∷_ e38 (List._∷_ e40 (List._∷_ e42
-    (List._∷_ e47 (List._∷_ e48 List.[])))))))))))))))
+t34 = List._∷_ e0 (List._∷_ e2 (List._∷_ e23 (List._∷_ e46 (List._∷_ e67 (List._∷_ e80 (List._∷_ e85 (List._∷_ e86 (List._∷_ e88 (List._∷_ e90 (List._∷_ e4 (List._∷_ e5 (List._∷_ e8 (List._∷_ e10
+    (List._∷_ e12 (List._∷_ e14 List.[])))))))))))))))
 
 abbrev pub t35 : List.List Row.Entry
-t35 = List._∷_ e16 (List._∷_ e18 (List._∷_ e20 (List._∷_ e22 (List._∷_ e24 (List._∷_ e27 (List._∷_ e29 (List._∷_ e31 (List._∷_ e33 (List._∷_ e34 (List._∷_ e37 (List._∷_ e38 (List._∷_ e40 (List._∷_ e42
-    (List._∷_ e47 (List._∷_ e50 List.[])))))))))))))))
+t35 = List._∷_ (32, Relend.msptr (Referent.rtF (Referent.fInt Syntax.w16)) (Syntax.tyRef Syntax.erased Syntax.mut (Syntax.tyInt Syntax.w16)) 8) (List._∷_ e55 (List._∷_ e56 (List._∷_ e59 (List._∷_ e60
+    (List._∷_ e63 (List._∷_ e64 (List._∷_ e66 (List._∷_ e69 (List._∷_ e71 (List._∷_ e72 (List._∷_ e73 (List._∷_ e74 (List._∷_ e75 (List._∷_ e77 (List._∷_ e79 List.[])))))))))))))))
 
 abbrev pub t36 : List.List Row.Entry
-t36 = List._∷_ e0 (List._∷_ e2 (List._∷_ e23 (List._∷_ e44 (List._∷_ (4, Relend.mslice-owed (Element.type) (Syntax.tyRef (Syntax.named 3) Syntax.mut Element.behind) 3 9 Row.off) (List._∷_ e79
-    (List._∷_ e85 (List._∷_ e86 (List._∷_ e88 (List._∷_ e90 (List._∷_ e4 (List._∷_ e6 (List._∷_ e8 (List._∷_ e10 (List._∷_ e12 (List._∷_ e14 List.[])))))))))))))))
+t36 = List._∷_ e52 (List._∷_ e54 (List._∷_ e56 (List._∷_ e59 (List._∷_ e60 (List._∷_ e63 (List._∷_ e64 (List._∷_ e66 (List._∷_ e69 (List._∷_ e71 (List._∷_ e72 (List._∷_ e73 (List._∷_ e74 (List._∷_ e75
+    (List._∷_ e77 (List._∷_ e79 List.[])))))))))))))))
 
 abbrev pub t37 : List.List Row.Entry
-t37 = List._∷_ (32, Relend.msptr (Element.type) (Syntax.tyRef Syntax.erased Syntax.mut Element.behind) 9) (List._∷_ e52 (List._∷_ e53 (List._∷_ e56 (List._∷_ e57 (List._∷_ e60 (List._∷_ e61 (List._∷_
-    e64 (List._∷_ e67 (List._∷_ e69 (List._∷_ e70 (List._∷_ e72 (List._∷_ e73 (List._∷_ e74 (List._∷_ e75 (List._∷_ e76 List.[])))))))))))))))
+t37 = List._∷_ e0 (List._∷_ e2 (List._∷_ e23 (List._∷_ e46 (List._∷_ e68 (List._∷_ e80 (List._∷_ e85 (List._∷_ e86 (List._∷_ e88 (List._∷_ e90 (List._∷_ e4 (List._∷_ e5 (List._∷_ e8 (List._∷_ e10
+    (List._∷_ e12 (List._∷_ e14 List.[])))))))))))))))
 
 abbrev pub t38 : List.List Row.Entry
-t38 = List._∷_ e51 (List._∷_ (33, Mut.mslice (Element.type) (Syntax.tyRef Syntax.erased Syntax.mut Element.behind) 9) (List._∷_ e53 (List._∷_ e56 (List._∷_ e57 (List._∷_ e60 (List._∷_ e61 (List._∷_
-    e64 (List._∷_ e67 (List._∷_ e69 (List._∷_ e70 (List._∷_ e72 (List._∷_ e73 (List._∷_ e74 (List._∷_ e75 (List._∷_ e76 List.[])))))))))))))))
+t38 = List._∷_ e52 (List._∷_ e54 (List._∷_ (34, Relend.msptr (Element.type) (Syntax.tyRef Syntax.erased Syntax.mut Element.behind) 9) (List._∷_ e59 (List._∷_ e60 (List._∷_ e63 (List._∷_ e64 (List._∷_
+    e66 (List._∷_ e69 (List._∷_ e71 (List._∷_ e72 (List._∷_ e73 (List._∷_ e74 (List._∷_ e75 (List._∷_ e77 (List._∷_ e79 List.[])))))))))))))))
 
 abbrev pub t39 : List.List Row.Entry
-t39 = List._∷_ e16 (List._∷_ e18 (List._∷_ e20 (List._∷_ e22 (List._∷_ e24 (List._∷_ e27 (List._∷_ e29 (List._∷_ e31 (List._∷_ e33 (List._∷_ e34 (List._∷_ e37 (List._∷_ e38 (List._∷_ e41 (List._∷_ e42
-    (List._∷_ e47 (List._∷_ e50 List.[])))))))))))))))
+t39 = List._∷_ e52 (List._∷_ e54 (List._∷_ e56 (List._∷_ e58 (List._∷_ e60 (List._∷_ e63 (List._∷_ e64 (List._∷_ e66 (List._∷_ e69 (List._∷_ e71 (List._∷_ e72 (List._∷_ e73 (List._∷_ e74 (List._∷_ e75
+    (List._∷_ e77 (List._∷_ e79 List.[])))))))))))))))
 
 abbrev pub t40 : List.List Row.Entry
-t40 = List._∷_ e16 (List._∷_ e18 (List._∷_ e20 (List._∷_ e22 (List._∷_ e24 (List._∷_ e27 (List._∷_ e29 (List._∷_ e31 (List._∷_ e33 (List._∷_ e34 (List._∷_ e37 (List._∷_ e38 (List._∷_ e41 (List._∷_ e43
-    (List._∷_ e47 (List._∷_ e50 List.[])))))))))))))))
+t40 = List._∷_ e0 (List._∷_ e2 (List._∷_ e23 (List._∷_ e46 (List._∷_ e68 (List._∷_ e81 (List._∷_ e85 (List._∷_ e86 (List._∷_ e88 (List._∷_ e90 (List._∷_ e4 (List._∷_ e5 (List._∷_ e8 (List._∷_ e10
+    (List._∷_ e12 (List._∷_ e14 List.[])))))))))))))))
 
 abbrev pub t41 : List.List Row.Entry
-t41 = List._∷_ e51 (List._∷_ (33, Mut.msleft (Element.type) (Syntax.tyRef Syntax.erased Syntax.mut Element.behind)) (List._∷_ e53 (List._∷_ e56 (List._∷_ e57 (List._∷_ e60 (List._∷_ e61 (List._∷_ e64
-    (List._∷_ e67 (List._∷_ e69 (List._∷_ e70 (List._∷_ e72 (List._∷_ e73 (List._∷_ e74 (List._∷_ e75 (List._∷_ e76 List.[])))))))))))))))
+t41 = List._∷_ e52 (List._∷_ e54 (List._∷_ e56 (List._∷_ e58 (List._∷_ (36, Relend.msptr (Referent.rtF (Referent.fInt Syntax.w16)) (Syntax.tyRef Syntax.erased Syntax.mut (Syntax.tyInt Syntax.w16)) 10)
+    (List._∷_ e63 (List._∷_ e64 (List._∷_ e66 (List._∷_ e69 (List._∷_ e71 (List._∷_ e72 (List._∷_ e73 (List._∷_ e74 (List._∷_ e75 (List._∷_ e77 (List._∷_ e79 List.[])))))))))))))))
 
 abbrev pub t42 : List.List Row.Entry
-t42 = List._∷_ e16 (List._∷_ e18 (List._∷_ e20 (List._∷_ e22 (List._∷_ e24 (List._∷_ e27 (List._∷_ e29 (List._∷_ e31 (List._∷_ e33 (List._∷_ e34 (List._∷_ e37 (List._∷_ e38 (List._∷_ e40 (List._∷_ e43
-    (List._∷_ e47 (List._∷_ e50 List.[])))))))))))))))
+t42 = List._∷_ e52 (List._∷_ e54 (List._∷_ e56 (List._∷_ e58 (List._∷_ e60 (List._∷_ e62 (List._∷_ e64 (List._∷_ e66 (List._∷_ e69 (List._∷_ e71 (List._∷_ e72 (List._∷_ e73 (List._∷_ e74 (List._∷_ e75
+    (List._∷_ e77 (List._∷_ e79 List.[])))))))))))))))
 
 abbrev pub t43 : List.List Row.Entry
-t43 = List._∷_ e0 (List._∷_ e2 (List._∷_ e23 (List._∷_ e45 (List._∷_ e65 (List._∷_ e79 (List._∷_ e85 (List._∷_ e86 (List._∷_ e88 (List._∷_ e90 (List._∷_ e4 (List._∷_ e6 (List._∷_ e8 (List._∷_ e10
-    (List._∷_ e12 (List._∷_ e14 List.[])))))))))))))))
+t43 = List._∷_ e52 (List._∷_ e54 (List._∷_ e56 (List._∷_ e58 (List._∷_ e60 (List._∷_ e62 (List._∷_ e65 (List._∷_ e66 (List._∷_ e69 (List._∷_ e71 (List._∷_ e72 (List._∷_ e73 (List._∷_ e74 (List._∷_ e75
+    (List._∷_ e77 (List._∷_ e79 List.[])))))))))))))))
 
 abbrev pub t44 : List.List Row.Entry
-t44 = List._∷_ e51 (List._∷_ e52 (List._∷_ (34, Relend.msptr (Referent.rtF (Referent.fInt Syntax.w16)) (Syntax.tyRef Syntax.erased Syntax.mut (Syntax.tyInt Syntax.w16)) 10) (List._∷_ e56 (List._∷_ e57
-    (List._∷_ e60 (List._∷_ e61 (List._∷_ e64 (List._∷_ e67 (List._∷_ e69 (List._∷_ e70 (List._∷_ e72 (List._∷_ e73 (List._∷_ e74 (List._∷_ e75 (List._∷_ e76 List.[])))))))))))))))
+t44 = List._∷_ e16 (List._∷_ e18 (List._∷_ e20 (List._∷_ e22 (List._∷_ e25 (List._∷_ e27 (List._∷_ e29 (List._∷_ e31 (List._∷_ e33 (List._∷_ e35 (List._∷_ e37 (List._∷_ e39 (List._∷_ e41 (List._∷_ e44
+    (List._∷_ e48 (List._∷_ e51 List.[])))))))))))))))
 
 abbrev pub t45 : List.List Row.Entry
-t45 = List._∷_ e51 (List._∷_ e52 (List._∷_ e53 (List._∷_ e55 (List._∷_ e57 (List._∷_ e60 (List._∷_ e61 (List._∷_ e64 (List._∷_ e67 (List._∷_ e69 (List._∷_ e70 (List._∷_ e72 (List._∷_ e73 (List._∷_ e74
-    (List._∷_ e75 (List._∷_ e76 List.[])))))))))))))))
+t45 = List._∷_ e52 (List._∷_ e53 (List._∷_ e56 (List._∷_ e57 (List._∷_ e60 (List._∷_ e61 (List._∷_ e65 (List._∷_ e66 (List._∷_ e69 (List._∷_ e71 (List._∷_ e72 (List._∷_ e73 (List._∷_ e74 (List._∷_ e75
+    (List._∷_ e77 (List._∷_ e79 List.[])))))))))))))))
 
 abbrev pub t46 : List.List Row.Entry
-t46 = List._∷_ e0 (List._∷_ e2 (List._∷_ e23 (List._∷_ e45 (List._∷_ e66 (List._∷_ e79 (List._∷_ e85 (List._∷_ e86 (List._∷_ e88 (List._∷_ e90 (List._∷_ e4 (List._∷_ e6 (List._∷_ e8 (List._∷_ e10
-    (List._∷_ e12 (List._∷_ e14 List.[])))))))))))))))
+t46 = List._∷_ e16 (List._∷_ e18 (List._∷_ e19 (List._∷_ e22 (List._∷_ e25 (List._∷_ e27 (List._∷_ e29 (List._∷_ e30 (List._∷_ e34 (List._∷_ e35 (List._∷_ e37 (List._∷_ e39 (List._∷_ e41 (List._∷_ e44
+    (List._∷_ e48 (List._∷_ e51 List.[])))))))))))))))
 
 abbrev pub t47 : List.List Row.Entry
-t47 = List._∷_ e51 (List._∷_ e52 (List._∷_ e53 (List._∷_ e55 (List._∷_ (36, Relend.msptr (Element.type) (Syntax.tyRef Syntax.erased Syntax.mut Element.behind) 11) (List._∷_ e60 (List._∷_ e61 (List._∷_
-    e64 (List._∷_ e67 (List._∷_ e69 (List._∷_ e70 (List._∷_ e72 (List._∷_ e73 (List._∷_ e74 (List._∷_ e75 (List._∷_ e76 List.[])))))))))))))))
+t47 = List._∷_ e52 (List._∷_ e53 (List._∷_ e56 (List._∷_ e57 (List._∷_ e60 (List._∷_ e61 (List._∷_ e64 (List._∷_ e66 (List._∷_ e69 (List._∷_ e71 (List._∷_ e72 (List._∷_ e73 (List._∷_ e74 (List._∷_ e75
+    (List._∷_ e77 (List._∷_ e79 List.[])))))))))))))))
 
 abbrev pub t48 : List.List Row.Entry
-t48 = List._∷_ e51 (List._∷_ e52 (List._∷_ e53 (List._∷_ e55 (List._∷_ e57 (List._∷_ e59 (List._∷_ e61 (List._∷_ e64 (List._∷_ e67 (List._∷_ e69 (List._∷_ e70 (List._∷_ e72 (List._∷_ e73 (List._∷_ e74
-    (List._∷_ e75 (List._∷_ e76 List.[])))))))))))))))
+t48 = List._∷_ e0 (List._∷_ e2 (List._∷_ e23 (List._∷_ e45 (List._∷_ e68 (List._∷_ e81 (List._∷_ e85 (List._∷_ e86 (List._∷_ e88 (List._∷_ e90 (List._∷_ e4 (List._∷_ e5 (List._∷_ e8 (List._∷_ e10
+    (List._∷_ e12 (List._∷_ e14 List.[])))))))))))))))
 
 abbrev pub t49 : List.List Row.Entry
-t49 = List._∷_ e0 (List._∷_ e2 (List._∷_ e23 (List._∷_ e45 (List._∷_ e66 (List._∷_ e80 (List._∷_ e85 (List._∷_ e86 (List._∷_ e88 (List._∷_ e90 (List._∷_ e4 (List._∷_ e6 (List._∷_ e8 (List._∷_ e10
-    (List._∷_ e12 (List._∷_ e14 List.[])))))))))))))))
+t49 = List._∷_ e52 (List._∷_ e55 (List._∷_ e56 (List._∷_ e57 (List._∷_ e60 (List._∷_ e61 (List._∷_ e64 (List._∷_ e66 (List._∷_ e69 (List._∷_ e71 (List._∷_ e72 (List._∷_ e73 (List._∷_ e74 (List._∷_ e75
+    (List._∷_ e77 (List._∷_ e79 List.[])))))))))))))))
 
 abbrev pub t50 : List.List Row.Entry
-t50 = List._∷_ e51 (List._∷_ e52 (List._∷_ e53 (List._∷_ e55 (List._∷_ e57 (List._∷_ e59 (List._∷_
-    (38, Relend.msptr (Referent.rtF (Referent.fInt Syntax.w16)) (Syntax.tyRef Syntax.erased Syntax.mut (Syntax.tyInt Syntax.w16)) 12) (List._∷_ e64 (List._∷_ e67 (List._∷_ e69 (List._∷_ e70 (List._∷_ e72
-    (List._∷_ e73 (List._∷_ e74 (List._∷_ e75 (List._∷_ e76 List.[])))))))))))))))
+t50 = List._∷_ e0 (List._∷_ e2 (List._∷_ e23 (List._∷_ e45 (List._∷_ e67 (List._∷_ e81 (List._∷_ e85 (List._∷_ e86 (List._∷_ e88 (List._∷_ e90 (List._∷_ e4 (List._∷_ e5 (List._∷_ e8 (List._∷_ e10
+    (List._∷_ e12 (List._∷_ e14 List.[])))))))))))))))
 
 abbrev pub t51 : List.List Row.Entry
-t51 = List._∷_ e51 (List._∷_ e52 (List._∷_ e53 (List._∷_ e55 (List._∷_ e57 (List._∷_ e59 (List._∷_ e61 (List._∷_ e63 (List._∷_ e67 (List._∷_ e69 (List._∷_ e70 (List._∷_ e72 (List._∷_ e73 (List._∷_ e74
-    (List._∷_ e75 (List._∷_ e76 List.[])))))))))))))))
+t51 = List._∷_ e52 (List._∷_ e55 (List._∷_ e56 (List._∷_ e59 (List._∷_ e60 (List._∷_ e61 (List._∷_ e64 (List._∷_ e66 (List._∷_ e69 (List._∷_ e71 (List._∷_ e72 (List._∷_ e73 (List._∷_ e74 (List._∷_ e75
+    (List._∷_ e77 (List._∷_ e79 List.[])))))))))))))))
 
 abbrev pub t52 : List.List Row.Entry
-t52 = List._∷_ e51 (List._∷_ e52 (List._∷_ e53 (List._∷_ e55 (List._∷_ e57 (List._∷_ e59 (List._∷_ e61 (List._∷_ e63 (List._∷_ e68 (List._∷_ e69 (List._∷_ e70 (List._∷_ e72 (List._∷_ e73 (List._∷_ e74
-    (List._∷_ e75 (List._∷_ e76 List.[])))))))))))))))
+t52 = List._∷_ e16 (List._∷_ e18 (List._∷_ e20 (List._∷_ e22 (List._∷_ e25 (List._∷_ e27 (List._∷_ e29 (List._∷_ e32 (List._∷_ e33 (List._∷_ e35 (List._∷_ e37 (List._∷_ e39 (List._∷_ e41 (List._∷_ e44
+    (List._∷_ e48 (List._∷_ e51 List.[])))))))))))))))
 
 abbrev pub t53 : List.List Row.Entry
-t53 = List._∷_ e16 (List._∷_ e18 (List._∷_ e20 (List._∷_ e22 (List._∷_ e25 (List._∷_ e27 (List._∷_ e29 (List._∷_ e31 (List._∷_ e33 (List._∷_ e34 (List._∷_ e37 (List._∷_ e38 (List._∷_ e40 (List._∷_ e42
-    (List._∷_ e47 (List._∷_ e50 List.[])))))))))))))))
+t53 = List._∷_ e16 (List._∷_ e18 (List._∷_ e19 (List._∷_ e22 (List._∷_ e25 (List._∷_ e27 (List._∷_ e29 (List._∷_ e32 (List._∷_ e33 (List._∷_ e35 (List._∷_ e37 (List._∷_ e39 (List._∷_ e41 (List._∷_ e44
+    (List._∷_ e48 (List._∷_ e51 List.[])))))))))))))))
 
 abbrev pub t54 : List.List Row.Entry
-t54 = List._∷_ e51 (List._∷_ e52 (List._∷_ e53 (List._∷_ e54 (List._∷_ e57 (List._∷_ e58 (List._∷_ e61 (List._∷_ e62 (List._∷_ e68 (List._∷_ e69 (List._∷_ e70 (List._∷_ e72 (List._∷_ e73 (List._∷_ e74
-    (List._∷_ e75 (List._∷_ e76 List.[])))))))))))))))
+t54 = List._∷_ e16 (List._∷_ e18 (List._∷_ e19 (List._∷_ e22 (List._∷_ e25 (List._∷_ e27 (List._∷_ e29 (List._∷_ e32 (List._∷_ e34 (List._∷_ e35 (List._∷_ e37 (List._∷_ e39 (List._∷_ e41 (List._∷_ e44
+    (List._∷_ e48 (List._∷_ e51 List.[])))))))))))))))
 
 abbrev pub t55 : List.List Row.Entry
-t55 = List._∷_ e15 (List._∷_ e18 (List._∷_ e20 (List._∷_ e22 (List._∷_ e24 (List._∷_ e28 (List._∷_ e29 (List._∷_ e31 (List._∷_ e33 (List._∷_ e34 (List._∷_ e37 (List._∷_ e38 (List._∷_ e40 (List._∷_ e42
-    (List._∷_ e47 (List._∷_ e50 List.[])))))))))))))))
+t55 = List._∷_ e0 (List._∷_ e2 (List._∷_ e23 (List._∷_ e45 (List._∷_ e67 (List._∷_ e80 (List._∷_ e84 (List._∷_ e86 (List._∷_ e87 (List._∷_ e90 (List._∷_ e4 (List._∷_ e5 (List._∷_ e8 (List._∷_ e10
+    (List._∷_ e11 (List._∷_ e14 List.[])))))))))))))))
 
 abbrev pub t56 : List.List Row.Entry
-t56 = List._∷_ e51 (List._∷_ e52 (List._∷_ e53 (List._∷_ e54 (List._∷_ e57 (List._∷_ e58 (List._∷_ e61 (List._∷_ e62 (List._∷_ e67 (List._∷_ e69 (List._∷_ e70 (List._∷_ e72 (List._∷_ e73 (List._∷_ e74
-    (List._∷_ e75 (List._∷_ e76 List.[])))))))))))))))
+t56 = List._∷_ e16 (List._∷_ e18 (List._∷_ e20 (List._∷_ e21 (List._∷_ e25 (List._∷_ e27 (List._∷_ e29 (List._∷_ e31 (List._∷_ e33 (List._∷_ e35 (List._∷_ e37 (List._∷_ e39 (List._∷_ e41 (List._∷_ e44
+    (List._∷_ e48 (List._∷_ e51 List.[])))))))))))))))
 
 abbrev pub t57 : List.List Row.Entry
-t57 = List._∷_ e0 (List._∷_ e2 (List._∷_ e23 (List._∷_ e44 (List._∷_ e66 (List._∷_ e80 (List._∷_ e85 (List._∷_ e86 (List._∷_ e88 (List._∷_ e90 (List._∷_ e4 (List._∷_ e6 (List._∷_ e8 (List._∷_ e10
-    (List._∷_ e12 (List._∷_ e14 List.[])))))))))))))))
+t57 = List._∷_ e16 (List._∷_ e18 (List._∷_ e20 (List._∷_ e21 (List._∷_ e25 (List._∷_ e27 (List._∷_ e29 (List._∷_ e30 (List._∷_ e33 (List._∷_ e35 (List._∷_ e37 (List._∷_ e39 (List._∷_ e41 (List._∷_ e44
+    (List._∷_ e48 (List._∷_ e51 List.[])))))))))))))))
 
 abbrev pub t58 : List.List Row.Entry
-t58 = List._∷_ e51 (List._∷_ e52 (List._∷_ e53 (List._∷_ e56 (List._∷_ e57 (List._∷_ e58 (List._∷_ e61 (List._∷_ e62 (List._∷_ e67 (List._∷_ e69 (List._∷_ e70 (List._∷_ e72 (List._∷_ e73 (List._∷_ e74
-    (List._∷_ e75 (List._∷_ e76 List.[])))))))))))))))
+t58 = List._∷_ e0 (List._∷_ e2 (List._∷_ e23 (List._∷_ e45 (List._∷_ e67 (List._∷_ e82 (List._∷_ e84 (List._∷_ e86 (List._∷_ e87 (List._∷_ e90 (List._∷_ e4 (List._∷_ e5 (List._∷_ e8 (List._∷_ e10
+    (List._∷_ e11 (List._∷_ e14 List.[])))))))))))))))
 
 abbrev pub t59 : List.List Row.Entry
-t59 = List._∷_ e0 (List._∷_ e2 (List._∷_ e23 (List._∷_ e44 (List._∷_ e65 (List._∷_ e80 (List._∷_ e85 (List._∷_ e86 (List._∷_ e88 (List._∷_ e90 (List._∷_ e4 (List._∷_ e6 (List._∷_ e8 (List._∷_ e10
-    (List._∷_ e12 (List._∷_ e14 List.[])))))))))))))))
+t59 = List._∷_ e52 (List._∷_ e55 (List._∷_ e56 (List._∷_ e59 (List._∷_ e60 (List._∷_ e63 (List._∷_ e64 (List._∷_ e66 (List._∷_
+    (40, Relend.msptr (Referent.rtF (Referent.fInt Syntax.w16)) (Syntax.tyRef Syntax.erased Syntax.mut (Syntax.tyInt Syntax.w16)) 11) (List._∷_ e71 (List._∷_ e72 (List._∷_ e73 (List._∷_ e74 (List._∷_ e75
+    (List._∷_ e77 (List._∷_ e79 List.[])))))))))))))))
 
 abbrev pub t60 : List.List Row.Entry
-t60 = List._∷_ e51 (List._∷_ e52 (List._∷_ e53 (List._∷_ e56 (List._∷_ e57 (List._∷_ e60 (List._∷_ e61 (List._∷_ e62 (List._∷_ e67 (List._∷_ e69 (List._∷_ e70 (List._∷_ e72 (List._∷_ e73 (List._∷_ e74
-    (List._∷_ e75 (List._∷_ e76 List.[])))))))))))))))
+t60 = List._∷_ e52 (List._∷_ e55 (List._∷_ e56 (List._∷_ e59 (List._∷_ e60 (List._∷_ e63 (List._∷_ e64 (List._∷_ e66 (List._∷_ e69 (List._∷_
+    (41, Mut.mslice (Referent.rtF (Referent.fInt Syntax.w16)) (Syntax.tyRef Syntax.erased Syntax.mut (Syntax.tyInt Syntax.w16)) 11) (List._∷_ e72 (List._∷_ e73 (List._∷_ e74 (List._∷_ e75 (List._∷_ e77
+    (List._∷_ e79 List.[])))))))))))))))
 
 abbrev pub t61 : List.List Row.Entry
-t61 = List._∷_ e16 (List._∷_ e18 (List._∷_ e20 (List._∷_ e22 (List._∷_ e26 (List._∷_ e27 (List._∷_ e29 (List._∷_ e31 (List._∷_ e33 (List._∷_ e34 (List._∷_ e37 (List._∷_ e38 (List._∷_ e40 (List._∷_ e42
-    (List._∷_ e47 (List._∷_ e50 List.[])))))))))))))))
+t61 = List._∷_ e52 (List._∷_ e55 (List._∷_ e56 (List._∷_ e59 (List._∷_ e60 (List._∷_ e63 (List._∷_ e64 (List._∷_ (39, Rows'.sc-here Row.sUnit) (List._∷_ e69 (List._∷_ e70 (List._∷_ e72 (List._∷_ e73
+    (List._∷_ e74 (List._∷_ e75 (List._∷_ e77 (List._∷_ e79 List.[])))))))))))))))
 
 abbrev pub t62 : List.List Row.Entry
-t62 = List._∷_ e15 (List._∷_ e18 (List._∷_ e20 (List._∷_ e22 (List._∷_ e26 (List._∷_ e27 (List._∷_ e29 (List._∷_ e31 (List._∷_ e33 (List._∷_ e34 (List._∷_ e37 (List._∷_ e38 (List._∷_ e40 (List._∷_ e42
-    (List._∷_ e47 (List._∷_ e50 List.[])))))))))))))))
+t62 = List._∷_ e0 (List._∷_ e2 (List._∷_ e23 (List._∷_ e45 (List._∷_ e67 (List._∷_ e82 (List._∷_ e84 (List._∷_ e86 (List._∷_ e87 (List._∷_ e89 (List._∷_ e4 (List._∷_ e5 (List._∷_ e8 (List._∷_ e10
+    (List._∷_ e11 (List._∷_ e14 List.[])))))))))))))))
 
 abbrev pub t63 : List.List Row.Entry
-t63 = List._∷_ e15 (List._∷_ e18 (List._∷_ e20 (List._∷_ e22 (List._∷_ e26 (List._∷_ e28 (List._∷_ e29 (List._∷_ e31 (List._∷_ e33 (List._∷_ e34 (List._∷_ e37 (List._∷_ e38 (List._∷_ e40 (List._∷_ e42
-    (List._∷_ e47 (List._∷_ e50 List.[])))))))))))))))
+t63 = List._∷_ e52 (List._∷_ e55 (List._∷_ e56 (List._∷_ e59 (List._∷_ e60 (List._∷_ e63 (List._∷_ e64 (List._∷_ e66 (List._∷_ e69 (List._∷_ e70 (List._∷_ e72 (List._∷_ e73 (List._∷_ e74 (List._∷_ e75
+    (List._∷_ e77 (List._∷_ e79 List.[])))))))))))))))
 
 abbrev pub t64 : List.List Row.Entry
-t64 = List._∷_ e0 (List._∷_ e2 (List._∷_ e23 (List._∷_ e44 (List._∷_ e65 (List._∷_ e79 (List._∷_ e84 (List._∷_ e86 (List._∷_ e87 (List._∷_ e90 (List._∷_ e4 (List._∷_ e6 (List._∷_ e7 (List._∷_ e10
-    (List._∷_ e12 (List._∷_ e14 List.[])))))))))))))))
+t64 = List._∷_ e52 (List._∷_ e55 (List._∷_ e56 (List._∷_ e59 (List._∷_ e60 (List._∷_ e63 (List._∷_ e64 (List._∷_ e66 (List._∷_ e69 (List._∷_ e71 (List._∷_
+    (42, Rows'.whole (Declared'.row Totals.the-type)) (List._∷_ e73 (List._∷_ e74 (List._∷_ e75 (List._∷_ e77 (List._∷_ e79 List.[])))))))))))))))
 
 abbrev pub t65 : List.List Row.Entry
-t65 = List._∷_ e16 (List._∷_ e17 (List._∷_ e20 (List._∷_ e22 (List._∷_ e25 (List._∷_ e27 (List._∷_ e29 (List._∷_ e31 (List._∷_ e33 (List._∷_ e34 (List._∷_ e37 (List._∷_ e38 (List._∷_ e40 (List._∷_ e42
-    (List._∷_ e47 (List._∷_ e50 List.[])))))))))))))))
+t65 = List._∷_ e16 (List._∷_ e18 (List._∷_ e19 (List._∷_ e21 (List._∷_ e25 (List._∷_ e27 (List._∷_ e29 (List._∷_ e30 (List._∷_ e33 (List._∷_ e35 (List._∷_ e37 (List._∷_ e39 (List._∷_ e41 (List._∷_ e44
+    (List._∷_ e48 (List._∷_ e51 List.[])))))))))))))))
 
 abbrev pub t66 : List.List Row.Entry
-t66 = List._∷_ e16 (List._∷_ e17 (List._∷_ e20 (List._∷_ e22 (List._∷_ e24 (List._∷_ e27 (List._∷_ e29 (List._∷_ e31 (List._∷_ e33 (List._∷_ e34 (List._∷_ e37 (List._∷_ e38 (List._∷_ e40 (List._∷_ e42
-    (List._∷_ e47 (List._∷_ e50 List.[])))))))))))))))
+t66 = List._∷_ e1 (List._∷_ e2 (List._∷_ e23 (List._∷_ e45 (List._∷_ e67 (List._∷_ e80 (List._∷_ e84 (List._∷_ e86 (List._∷_ e87 (List._∷_ e89 (List._∷_ e4 (List._∷_ e5 (List._∷_ e8 (List._∷_ e10
+    (List._∷_ e11 (List._∷_ e14 List.[])))))))))))))))
 
 abbrev pub t67 : List.List Row.Entry
-t67 = List._∷_ e0 (List._∷_ e2 (List._∷_ e23 (List._∷_ e44 (List._∷_ e65 (List._∷_ e81 (List._∷_ e84 (List._∷_ e86 (List._∷_ e87 (List._∷_ e90 (List._∷_ e4 (List._∷_ e6 (List._∷_ e7 (List._∷_ e10
-    (List._∷_ e12 (List._∷_ e14 List.[])))))))))))))))
+t67 = List._∷_ e1 (List._∷_ e2 (List._∷_ e23 (List._∷_ e45 (List._∷_ e67 (List._∷_ e80 (List._∷_ e84 (List._∷_ e86 (List._∷_ e87 (List._∷_ e89 (List._∷_ e3 (List._∷_ e5 (List._∷_ e8 (List._∷_ e10
+    (List._∷_ e11 (List._∷_ e14 List.[])))))))))))))))
 
 abbrev pub t68 : List.List Row.Entry
-t68 = List._∷_ e51 (List._∷_ e52 (List._∷_ e53 (List._∷_ e56 (List._∷_ e57 (List._∷_ e60 (List._∷_ e61 (List._∷_ e64 (List._∷_ e67 (List._∷_ e69 (List._∷_
-    (42, Relend.msptr (Referent.rtF (Referent.fInt Syntax.w16)) (Syntax.tyRef Syntax.erased Syntax.mut (Syntax.tyInt Syntax.w16)) 13) (List._∷_ e72 (List._∷_ e73 (List._∷_ e74 (List._∷_ e75 (List._∷_ e76
-    List.[])))))))))))))))
+t68 = List._∷_ e1 (List._∷_ e2 (List._∷_ e23 (List._∷_ e45 (List._∷_ e67 (List._∷_ e80 (List._∷_ e84 (List._∷_ e86 (List._∷_ e87 (List._∷_ e89 (List._∷_ e3 (List._∷_ e5 (List._∷_ e7 (List._∷_ e10
+    (List._∷_ e11 (List._∷_ e14 List.[])))))))))))))))
 
 abbrev pub t69 : List.List Row.Entry
-t69 = List._∷_ e51 (List._∷_ e52 (List._∷_ e53 (List._∷_ e56 (List._∷_ e57 (List._∷_ e60 (List._∷_ e61 (List._∷_ e64 (List._∷_ e67 (List._∷_ e69 (List._∷_ e70 (List._∷_
-    (43, Mut.mslice (Referent.rtF (Referent.fInt Syntax.w16)) (Syntax.tyRef Syntax.erased Syntax.mut (Syntax.tyInt Syntax.w16)) 13) (List._∷_ e73 (List._∷_ e74 (List._∷_ e75 (List._∷_ e76
-    List.[])))))))))))))))
+t69 = List._∷_ e1 (List._∷_ e2 (List._∷_ e23 (List._∷_ e45 (List._∷_ e67 (List._∷_ e80 (List._∷_ e84 (List._∷_ e86 (List._∷_ e87 (List._∷_ e89 (List._∷_ e3 (List._∷_ e5 (List._∷_ e7 (List._∷_ e9
+    (List._∷_ e11 (List._∷_ e14 List.[])))))))))))))))
 
 abbrev pub t70 : List.List Row.Entry
-t70 = List._∷_ e51 (List._∷_ e52 (List._∷_ e53 (List._∷_ e56 (List._∷_ e57 (List._∷_ e60 (List._∷_ e61 (List._∷_ e64 (List._∷_ e67 (List._∷_ (41, Rows'.sc-here Row.sUnit) (List._∷_ e70 (List._∷_ e71
-    (List._∷_ e73 (List._∷_ e74 (List._∷_ e75 (List._∷_ e76 List.[])))))))))))))))
+t70 = List._∷_ e15 (List._∷_ e18 (List._∷_ e19 (List._∷_ e21 (List._∷_ e25 (List._∷_ e27 (List._∷_ e29 (List._∷_ e30 (List._∷_ e33 (List._∷_ e35 (List._∷_ e37 (List._∷_ e39 (List._∷_ e41 (List._∷_ e44
+    (List._∷_ e48 (List._∷_ e51 List.[])))))))))))))))
 
 abbrev pub t71 : List.List Row.Entry
-t71 = List._∷_ e0 (List._∷_ e2 (List._∷_ e23 (List._∷_ e44 (List._∷_ e65 (List._∷_ e81 (List._∷_ e84 (List._∷_ e86 (List._∷_ e87 (List._∷_ e89 (List._∷_ e4 (List._∷_ e6 (List._∷_ e7 (List._∷_ e10
-    (List._∷_ e12 (List._∷_ e14 List.[])))))))))))))))
+t71 = List._∷_ e15 (List._∷_ e17 (List._∷_ e19 (List._∷_ e21 (List._∷_ e25 (List._∷_ e27 (List._∷_ e29 (List._∷_ e30 (List._∷_ e33 (List._∷_ e35 (List._∷_ e37 (List._∷_ e39 (List._∷_ e41 (List._∷_ e44
+    (List._∷_ e48 (List._∷_ e51 List.[])))))))))))))))
 
 abbrev pub t72 : List.List Row.Entry
-t72 = List._∷_ e51 (List._∷_ e52 (List._∷_ e53 (List._∷_ e56 (List._∷_ e57 (List._∷_ e60 (List._∷_ e61 (List._∷_ e64 (List._∷_ e67 (List._∷_ e69 (List._∷_ e70 (List._∷_ e71 (List._∷_ e73 (List._∷_ e74
-    (List._∷_ e75 (List._∷_ e76 List.[])))))))))))))))
+t72 = List._∷_ e15 (List._∷_ e17 (List._∷_ e19 (List._∷_ e21 (List._∷_ e24 (List._∷_ e27 (List._∷_ e29 (List._∷_ e30 (List._∷_ e33 (List._∷_ e35 (List._∷_ e37 (List._∷_ e39 (List._∷_ e41 (List._∷_ e44
+    (List._∷_ e48 (List._∷_ e51 List.[])))))))))))))))
 
 abbrev pub t73 : List.List Row.Entry
-t73 = List._∷_ e51 (List._∷_ e52 (List._∷_ e53 (List._∷_ e56 (List._∷_ e57 (List._∷_ e60 (List._∷_ e61 (List._∷_ e64 (List._∷_ e67 (List._∷_ e69 (List._∷_ e70 (List._∷_ e72 (List._∷_
-    (44, Rows'.whole (Declared'.row Totals.the-type)) (List._∷_ e74 (List._∷_ e75 (List._∷_ e76 List.[])))))))))))))))
+t73 = List._∷_ e15 (List._∷_ e17 (List._∷_ e19 (List._∷_ e21 (List._∷_ e24 (List._∷_ e26 (List._∷_ e29 (List._∷_ e30 (List._∷_ e33 (List._∷_ e35 (List._∷_ e37 (List._∷_ e39 (List._∷_ e41 (List._∷_ e44
+    (List._∷_ e48 (List._∷_ e51 List.[])))))))))))))))
 
 abbrev pub t74 : List.List Row.Entry
-t74 = List._∷_ e15 (List._∷_ e17 (List._∷_ e20 (List._∷_ e22 (List._∷_ e24 (List._∷_ e27 (List._∷_ e29 (List._∷_ e31 (List._∷_ e33 (List._∷_ e34 (List._∷_ e37 (List._∷_ e38 (List._∷_ e40 (List._∷_ e42
-    (List._∷_ e47 (List._∷_ e50 List.[])))))))))))))))
+t74 = List._∷_ e16 (List._∷_ e18 (List._∷_ e20 (List._∷_ e22 (List._∷_ e25 (List._∷_ e27 (List._∷_ e29 (List._∷_ e30 (List._∷_ e34 (List._∷_ e35 (List._∷_ e37 (List._∷_ e39 (List._∷_ e41 (List._∷_ e44
+    (List._∷_ e48 (List._∷_ e51 List.[])))))))))))))))
 
 abbrev pub t75 : List.List Row.Entry
-t75 = List._∷_ e1 (List._∷_ e2 (List._∷_ e23 (List._∷_ e44 (List._∷_ e65 (List._∷_ e79 (List._∷_ e84 (List._∷_ e86 (List._∷_ e87 (List._∷_ e89 (List._∷_ e4 (List._∷_ e6 (List._∷_ e7 (List._∷_ e10
-    (List._∷_ e12 (List._∷_ e14 List.[])))))))))))))))
+t75 = List._∷_ e52 (List._∷_ e55 (List._∷_ e56 (List._∷_ e59 (List._∷_ e60 (List._∷_ e63 (List._∷_ e64 (List._∷_ e66 (List._∷_ e69 (List._∷_ e71 (List._∷_ e72 (List._∷_
+    (43, Rows'.whole (Declared'.row Totals.the-type)) (List._∷_ e74 (List._∷_ e75 (List._∷_ e77 (List._∷_ e79 List.[])))))))))))))))
 
 abbrev pub t76 : List.List Row.Entry
-t76 = List._∷_ e1 (List._∷_ e2 (List._∷_ e23 (List._∷_ e44 (List._∷_ e65 (List._∷_ e79 (List._∷_ e84 (List._∷_ e86 (List._∷_ e87 (List._∷_ e89 (List._∷_ e3 (List._∷_ e6 (List._∷_ e7 (List._∷_ e10
+t76 = List._∷_ e0 (List._∷_ e2 (List._∷_ e23 (List._∷_ e47 (List._∷_ e67 (List._∷_ e80 (List._∷_ e85 (List._∷_ e86 (List._∷_ e88 (List._∷_ e90 (List._∷_ e4 (List._∷_ e5 (List._∷_ e8 (List._∷_ e10
     (List._∷_ e12 (List._∷_ e14 List.[])))))))))))))))
 
 abbrev pub t77 : List.List Row.Entry
-t77 = List._∷_ e1 (List._∷_ e2 (List._∷_ e23 (List._∷_ e44 (List._∷_ e65 (List._∷_ e79 (List._∷_ e84 (List._∷_ e86 (List._∷_ e87 (List._∷_ e89 (List._∷_ e3 (List._∷_ e5 (List._∷_ e7 (List._∷_ e10
-    (List._∷_ e12 (List._∷_ e14 List.[])))))))))))))))
+t77 = List._∷_ e52 (List._∷_ e55 (List._∷_ e56 (List._∷_ e59 (List._∷_ e60 (List._∷_ e63 (List._∷_ e64 (List._∷_ e66 (List._∷_ e69 (List._∷_ e71 (List._∷_ e72 (List._∷_ e73 (List._∷_
+    (44, Relend.ssptr (Referent.rtF (Referent.fInt Syntax.w16)) (Syntax.tyRef Syntax.erased Syntax.imm (Syntax.tyInt Syntax.w16)) 12) (List._∷_ e75 (List._∷_ e77 (List._∷_ e79 List.[])))))))))))))))
 
 abbrev pub t78 : List.List Row.Entry
-t78 = List._∷_ e1 (List._∷_ e2 (List._∷_ e23 (List._∷_ e44 (List._∷_ e65 (List._∷_ e79 (List._∷_ e84 (List._∷_ e86 (List._∷_ e87 (List._∷_ e89 (List._∷_ e3 (List._∷_ e5 (List._∷_ e7 (List._∷_ e9
-    (List._∷_ e12 (List._∷_ e14 List.[])))))))))))))))
+t78 = List._∷_ e52 (List._∷_ e55 (List._∷_ e56 (List._∷_ e59 (List._∷_ e60 (List._∷_ e63 (List._∷_ e64 (List._∷_ e66 (List._∷_ e69 (List._∷_ e71 (List._∷_ e72 (List._∷_ e73 (List._∷_ e74 (List._∷_ e76
+    (List._∷_ e77 (List._∷_ e79 List.[])))))))))))))))
 
 abbrev pub t79 : List.List Row.Entry
-t79 = List._∷_ e1 (List._∷_ e2 (List._∷_ e23 (List._∷_ e44 (List._∷_ e65 (List._∷_ e79 (List._∷_ e84 (List._∷_ e86 (List._∷_ e87 (List._∷_ e89 (List._∷_ e3 (List._∷_ e5 (List._∷_ e7 (List._∷_ e9
-    (List._∷_ e11 (List._∷_ e14 List.[])))))))))))))))
+t79 = List._∷_ e0 (List._∷_ e2 (List._∷_ e23 (List._∷_ e47 (List._∷_ e67 (List._∷_ e83 (List._∷_ e85 (List._∷_ e86 (List._∷_ e88 (List._∷_ e90 (List._∷_ e4 (List._∷_ e5 (List._∷_ e8 (List._∷_ e10
+    (List._∷_ e12 (List._∷_ e14 List.[])))))))))))))))
 
 abbrev pub t80 : List.List Row.Entry
-t80 = List._∷_ e15 (List._∷_ e17 (List._∷_ e19 (List._∷_ e22 (List._∷_ e24 (List._∷_ e27 (List._∷_ e29 (List._∷_ e31 (List._∷_ e33 (List._∷_ e34 (List._∷_ e37 (List._∷_ e38 (List._∷_ e40 (List._∷_ e42
-    (List._∷_ e47 (List._∷_ e50 List.[])))))))))))))))
+t80 = List._∷_ e52 (List._∷_ e55 (List._∷_ e56 (List._∷_ e59 (List._∷_ e60 (List._∷_ e63 (List._∷_ e64 (List._∷_ e66 (List._∷_ e69 (List._∷_ e71 (List._∷_ e72 (List._∷_ e73 (List._∷_ e74 (List._∷_ e76
+    (List._∷_ (46, Relend.msptr (Referent.rtF (Referent.fInt Syntax.w16)) (Syntax.tyRef Syntax.erased Syntax.mut (Syntax.tyInt Syntax.w16)) 13) (List._∷_ e79 List.[])))))))))))))))
 
 abbrev pub t81 : List.List Row.Entry
-t81 = List._∷_ e16 (List._∷_ e18 (List._∷_ e20 (List._∷_ e22 (List._∷_ e24 (List._∷_ e28 (List._∷_ e29 (List._∷_ e31 (List._∷_ e33 (List._∷_ e34 (List._∷_ e37 (List._∷_ e38 (List._∷_ e40 (List._∷_ e42
-    (List._∷_ e47 (List._∷_ e50 List.[])))))))))))))))
+t81 = List._∷_ e52 (List._∷_ e55 (List._∷_ e56 (List._∷_ e59 (List._∷_ e60 (List._∷_ e63 (List._∷_ e64 (List._∷_ e66 (List._∷_ e69 (List._∷_ e71 (List._∷_ e72 (List._∷_ e73 (List._∷_ e74 (List._∷_ e76
+    (List._∷_ e77 (List._∷_ (47, Mut.mslice (Referent.rtF (Referent.fInt Syntax.w16)) (Syntax.tyRef Syntax.erased Syntax.mut (Syntax.tyInt Syntax.w16)) 13) List.[])))))))))))))))
 
 abbrev pub t82 : List.List Row.Entry
-t82 = List._∷_ e51 (List._∷_ e52 (List._∷_ e53 (List._∷_ e56 (List._∷_ e57 (List._∷_ e60 (List._∷_ e61 (List._∷_ e64 (List._∷_ e67 (List._∷_ e69 (List._∷_ e70 (List._∷_ e72 (List._∷_ e73 (List._∷_
-    (45, Rows'.whole (Declared'.row Totals.the-type)) (List._∷_ e75 (List._∷_ e76 List.[])))))))))))))))
+t82 = List._∷_ e16 (List._∷_ e18 (List._∷_ e20 (List._∷_ e22 (List._∷_ e25 (List._∷_ e27 (List._∷_ e29 (List._∷_ e30 (List._∷_ e33 (List._∷_ e35 (List._∷_ e38 (List._∷_ e39 (List._∷_ e41 (List._∷_ e44
+    (List._∷_ e48 (List._∷_ e51 List.[])))))))))))))))
 
 abbrev pub t83 : List.List Row.Entry
-t83 = List._∷_ e0 (List._∷_ e2 (List._∷_ e23 (List._∷_ e46 (List._∷_ e65 (List._∷_ e79 (List._∷_ e85 (List._∷_ e86 (List._∷_ e88 (List._∷_ e90 (List._∷_ e4 (List._∷_ e6 (List._∷_ e8 (List._∷_ e10
-    (List._∷_ e12 (List._∷_ e14 List.[])))))))))))))))
+t83 = List._∷_ e16 (List._∷_ e18 (List._∷_ e20 (List._∷_ e22 (List._∷_ e25 (List._∷_ e27 (List._∷_ e29 (List._∷_ e30 (List._∷_ e33 (List._∷_ e35 (List._∷_ e38 (List._∷_ e40 (List._∷_ e41 (List._∷_ e44
+    (List._∷_ e48 (List._∷_ e51 List.[])))))))))))))))
 
 abbrev pub t84 : List.List Row.Entry
-t84 = List._∷_ e51 (List._∷_ e52 (List._∷_ e53 (List._∷_ e56 (List._∷_ e57 (List._∷_ e60 (List._∷_ e61 (List._∷_ e64 (List._∷_ e67 (List._∷_ e69 (List._∷_ e70 (List._∷_ e72 (List._∷_ e73 (List._∷_ e74
-    (List._∷_ (46, Relend.ssptr (Referent.rtF (Referent.fInt Syntax.w16)) (Syntax.tyRef Syntax.erased Syntax.imm (Syntax.tyInt Syntax.w16)) 14) (List._∷_ e76 List.[])))))))))))))))
+t84 = List._∷_ e52 (List._∷_ e55 (List._∷_ e56 (List._∷_ e59 (List._∷_ e60 (List._∷_ e63 (List._∷_ e64 (List._∷_ e66 (List._∷_ e69 (List._∷_ e71 (List._∷_ e72 (List._∷_ e73 (List._∷_ e74 (List._∷_ e76
+    (List._∷_ e77 (List._∷_ e78 List.[])))))))))))))))
 
 abbrev pub t85 : List.List Row.Entry
-t85 = List._∷_ e51 (List._∷_ e52 (List._∷_ e53 (List._∷_ e56 (List._∷_ e57 (List._∷_ e60 (List._∷_ e61 (List._∷_ e64 (List._∷_ e67 (List._∷_ e69 (List._∷_ e70 (List._∷_ e72 (List._∷_ e73 (List._∷_ e74
-    (List._∷_ e75 (List._∷_ (47, Rows'.sslice (Referent.rtF (Referent.fInt Syntax.w16)) (Syntax.tyRef Syntax.erased Syntax.imm (Syntax.tyInt Syntax.w16)) 14) List.[])))))))))))))))
+t85 = List._∷_ e52 (List._∷_ e55 (List._∷_ e56 (List._∷_ e59 (List._∷_ e60 (List._∷_ e63 (List._∷_ e64 (List._∷_ e66 (List._∷_ e69 (List._∷_ e71 (List._∷_ e72 (List._∷_ e73 (List._∷_ e74 (List._∷_ e75
+    (List._∷_ e77 (List._∷_ e78 List.[])))))))))))))))
 
 abbrev pub t86 : List.List Row.Entry
-t86 = List._∷_ e0 (List._∷_ e2 (List._∷_ e23 (List._∷_ e46 (List._∷_ e65 (List._∷_ e82 (List._∷_ e85 (List._∷_ e86 (List._∷_ e88 (List._∷_ e90 (List._∷_ e4 (List._∷_ e6 (List._∷_ e8 (List._∷_ e10
-    (List._∷_ e12 (List._∷_ e14 List.[])))))))))))))))
+t86 = List._∷_ e16 (List._∷_ e18 (List._∷_ e20 (List._∷_ e22 (List._∷_ e25 (List._∷_ e27 (List._∷_ e29 (List._∷_ e30 (List._∷_ e33 (List._∷_ e35 (List._∷_ e37 (List._∷_ e40 (List._∷_ e41 (List._∷_ e44
+    (List._∷_ e48 (List._∷_ e51 List.[])))))))))))))))
 
 abbrev pub t87 : List.List Row.Entry
-t87 = List._∷_ (48, Relend.msptr (Referent.rtF (Referent.fInt Syntax.w16)) (Syntax.tyRef Syntax.erased Syntax.mut (Syntax.tyInt Syntax.w16)) 15) (List._∷_ e78 (List._∷_ e83 List.[]))
+t87 = List._∷_ e0 (List._∷_ e2 (List._∷_ e23 (List._∷_ e45 (List._∷_ e67 (List._∷_ e83 (List._∷_ e85 (List._∷_ e86 (List._∷_ e88 (List._∷_ e90 (List._∷_ e4 (List._∷_ e5 (List._∷_ e8 (List._∷_ e10
+    (List._∷_ e12 (List._∷_ e14 List.[])))))))))))))))
 
 abbrev pub t88 : List.List Row.Entry
-t88 = List._∷_ e77 (List._∷_ (49, Mut.mslice (Referent.rtF (Referent.fInt Syntax.w16)) (Syntax.tyRef Syntax.erased Syntax.mut (Syntax.tyInt Syntax.w16)) 15) (List._∷_ e83 List.[]))
+t88 = List._∷_ e16 (List._∷_ e18 (List._∷_ e20 (List._∷_ e22 (List._∷_ e25 (List._∷_ e26 (List._∷_ e29 (List._∷_ e30 (List._∷_ e33 (List._∷_ e35 (List._∷_ e37 (List._∷_ e39 (List._∷_ e41 (List._∷_ e44
+    (List._∷_ e48 (List._∷_ e51 List.[])))))))))))))))
 
 abbrev pub t89 : List.List Row.Entry
-t89 = List._∷_ e77 (List._∷_ (49, Mut.msleft (Referent.rtF (Referent.fInt Syntax.w16)) (Syntax.tyRef Syntax.erased Syntax.mut (Syntax.tyInt Syntax.w16))) (List._∷_ e83 List.[]))
+t89 = List._∷_ e16 (List._∷_ e18 (List._∷_ e20 (List._∷_ e22 (List._∷_ e25 (List._∷_ e26 (List._∷_ e28 (List._∷_ e30 (List._∷_ e33 (List._∷_ e36 (List._∷_ e37 (List._∷_ e39 (List._∷_ e41 (List._∷_ e44
+    (List._∷_ e48 (List._∷_ e51 List.[])))))))))))))))
 
 abbrev pub t90 : List.List Row.Entry
-t90 = List._∷_ e0 (List._∷_ e2 (List._∷_ e23 (List._∷_ e44 (List._∷_ e65 (List._∷_ e82 (List._∷_ e85 (List._∷_ e86 (List._∷_ e88 (List._∷_ e90 (List._∷_ e4 (List._∷_ e6 (List._∷_ e8 (List._∷_ e10
-    (List._∷_ e12 (List._∷_ e14 List.[])))))))))))))))
+t90 = List._∷_ e16 (List._∷_ e18 (List._∷_ e19 (List._∷_ e22 (List._∷_ e25 (List._∷_ e26 (List._∷_ e28 (List._∷_ e30 (List._∷_ e33 (List._∷_ e36 (List._∷_ e37 (List._∷_ e39 (List._∷_ e41 (List._∷_ e44
+    (List._∷_ e48 (List._∷_ e51 List.[])))))))))))))))
 
 abbrev pub t91 : List.List Row.Entry
-t91 = List._∷_ e77 (List._∷_ e78 (List._∷_ (50, Rows'.whole (Declared'.row Totals.the-type)) List.[]))
-
-abbrev pub t92 : List.List Row.Entry
-t92 = List._∷_ e15 (List._∷_ e18 (List._∷_ e20 (List._∷_ e21 (List._∷_ e24 (List._∷_ e27 (List._∷_ e29 (List._∷_ e31 (List._∷_ e33 (List._∷_ e34 (List._∷_ e37 (List._∷_ e38 (List._∷_ e40 (List._∷_ e42
-    (List._∷_ e47 (List._∷_ e50 List.[])))))))))))))))
-
-abbrev pub t93 : List.List Row.Entry
-t93 = List._∷_ e1 (List._∷_ e2 (List._∷_ e23 (List._∷_ e44 (List._∷_ e65 (List._∷_ e79 (List._∷_ e84 (List._∷_ e86 (List._∷_ e87 (List._∷_ e89 (List._∷_ e4 (List._∷_ e6 (List._∷_ e7 (List._∷_ e9
-    (List._∷_ e12 (List._∷_ e14 List.[])))))))))))))))
-
-abbrev pub t94 : List.List Row.Entry
-t94 = List._∷_ e1 (List._∷_ e2 (List._∷_ e23 (List._∷_ e44 (List._∷_ e65 (List._∷_ e79 (List._∷_ e84 (List._∷_ e86 (List._∷_ e87 (List._∷_ e89 (List._∷_ e4 (List._∷_ e6 (List._∷_ e7 (List._∷_ e9
-    (List._∷_ e11 (List._∷_ e14 List.[])))))))))))))))
-
-abbrev pub t95 : List.List Row.Entry
-t95 = List._∷_ e1 (List._∷_ e2 (List._∷_ e23 (List._∷_ e44 (List._∷_ e65 (List._∷_ e79 (List._∷_ e84 (List._∷_ e86 (List._∷_ e87 (List._∷_ e89 (List._∷_ e4 (List._∷_ e6 (List._∷_ e7 (List._∷_ e9
+t91 = List._∷_ e1 (List._∷_ e2 (List._∷_ e23 (List._∷_ e45 (List._∷_ e67 (List._∷_ e80 (List._∷_ e84 (List._∷_ e86 (List._∷_ e87 (List._∷_ e89 (List._∷_ e4 (List._∷_ e5 (List._∷_ e8 (List._∷_ e10
     (List._∷_ e11 (List._∷_ e13 List.[])))))))))))))))
 
+abbrev pub t92 : List.List Row.Entry
+t92 = List._∷_ e15 (List._∷_ e18 (List._∷_ e19 (List._∷_ e22 (List._∷_ e25 (List._∷_ e26 (List._∷_ e28 (List._∷_ e30 (List._∷_ e33 (List._∷_ e36 (List._∷_ e37 (List._∷_ e39 (List._∷_ e41 (List._∷_ e44
+    (List._∷_ e48 (List._∷_ e51 List.[])))))))))))))))
+
+abbrev pub t93 : List.List Row.Entry
+t93 = List._∷_ e15 (List._∷_ e17 (List._∷_ e19 (List._∷_ e22 (List._∷_ e25 (List._∷_ e26 (List._∷_ e28 (List._∷_ e30 (List._∷_ e33 (List._∷_ e36 (List._∷_ e37 (List._∷_ e39 (List._∷_ e41 (List._∷_ e44
+    (List._∷_ e48 (List._∷_ e51 List.[])))))))))))))))
+
+abbrev pub t94 : List.List Row.Entry
+t94 = List._∷_ e15 (List._∷_ e17 (List._∷_ e19 (List._∷_ e21 (List._∷_ e25 (List._∷_ e26 (List._∷_ e28 (List._∷_ e30 (List._∷_ e33 (List._∷_ e36 (List._∷_ e37 (List._∷_ e39 (List._∷_ e41 (List._∷_ e44
+    (List._∷_ e48 (List._∷_ e51 List.[])))))))))))))))
+
+abbrev pub t95 : List.List Row.Entry
+t95 = List._∷_ e15 (List._∷_ e17 (List._∷_ e19 (List._∷_ e21 (List._∷_ e24 (List._∷_ e26 (List._∷_ e28 (List._∷_ e30 (List._∷_ e33 (List._∷_ e36 (List._∷_ e37 (List._∷_ e39 (List._∷_ e41 (List._∷_ e44
+    (List._∷_ e48 (List._∷_ e51 List.[])))))))))))))))
+
 abbrev pub t96 : List.List Row.Entry
-t96 = List._∷_ e15 (List._∷_ e17 (List._∷_ e20 (List._∷_ e21 (List._∷_ e24 (List._∷_ e27 (List._∷_ e29 (List._∷_ e31 (List._∷_ e33 (List._∷_ e34 (List._∷_ e37 (List._∷_ e38 (List._∷_ e40 (List._∷_ e42
-    (List._∷_ e47 (List._∷_ e50 List.[])))))))))))))))
+t96 = List._∷_ e1 (List._∷_ e2 (List._∷_ e23 (List._∷_ e45 (List._∷_ e67 (List._∷_ e80 (List._∷_ e84 (List._∷_ e86 (List._∷_ e87 (List._∷_ e89 (List._∷_ e3 (List._∷_ e5 (List._∷_ e8 (List._∷_ e10
+    (List._∷_ e11 (List._∷_ e13 List.[])))))))))))))))
 
 abbrev pub t97 : List.List Row.Entry
-t97 = List._∷_ e1 (List._∷_ e2 (List._∷_ e23 (List._∷_ e44 (List._∷_ e65 (List._∷_ e79 (List._∷_ e84 (List._∷_ e86 (List._∷_ e87 (List._∷_ e89 (List._∷_ e3 (List._∷_ e6 (List._∷_ e7 (List._∷_ e9
+t97 = List._∷_ e1 (List._∷_ e2 (List._∷_ e23 (List._∷_ e45 (List._∷_ e67 (List._∷_ e80 (List._∷_ e84 (List._∷_ e86 (List._∷_ e87 (List._∷_ e89 (List._∷_ e3 (List._∷_ e5 (List._∷_ e7 (List._∷_ e10
     (List._∷_ e11 (List._∷_ e13 List.[])))))))))))))))
 
 abbrev pub T0 : Row.Cx
-T0 = record { locals = List._++_ t0 (List._++_ t1 (List._++_ t2 t3)); slots = List.[] }
+T0 = record { locals = List._++_ t0 (List._++_ t1 t2); slots = List.[] }
 
 abbrev pub T1 : Row.Cx
-T1 = record { locals = List._++_ t4 (List._++_ t1 (List._++_ t2 t3)); slots = List.[] }
+T1 = record { locals = List._++_ t3 (List._++_ t1 t2); slots = List.[] }
 
 abbrev pub T2 : Row.Cx
-T2 = record { locals = List._++_ t0 (List._++_ t1 (List._++_ t2 t3)); slots = List.[] }
+T2 = record { locals = List._++_ t0 (List._++_ t1 t2); slots = List.[] }
 
 abbrev pub T3 : Row.Cx
-T3 = record { locals = List._++_ t0 (List._++_ t1 (List._++_ t2 t3)); slots = List.[] }
+T3 = record { locals = List._++_ t0 (List._++_ t1 t2); slots = List.[] }
 
 abbrev pub T4 : Row.Cx
-T4 = record { locals = List._++_ t0 (List._++_ t1 (List._++_ t2 t3)); slots = List.[] }
+T4 = record { locals = List._++_ t0 (List._++_ t1 t2); slots = List.[] }
 
 abbrev pub T5 : Row.Cx
-T5 = record { locals = List._++_ t0 (List._++_ t1 (List._++_ t2 t3)); slots = List.[] }
+T5 = record { locals = List._++_ t0 (List._++_ t1 t2); slots = List.[] }
 
 abbrev pub T6 : Row.Cx
-T6 = record { locals = List._++_ t5 (List._++_ t1 (List._++_ t2 t3)); slots = List.[] }
+T6 = record { locals = List._++_ t4 (List._++_ t1 t2); slots = List.[] }
 
 abbrev pub T7 : Row.Cx
-T7 = record { locals = List._++_ t6 (List._++_ t1 (List._++_ t2 t3)); slots = List.[] }
+T7 = record { locals = List._++_ t4 (List._++_ t5 t2); slots = List.[] }
 
 abbrev pub T8 : Row.Cx
-T8 = record { locals = List._++_ t7 (List._++_ t1 (List._++_ t2 t3)); slots = List.[] }
+T8 = record { locals = List._++_ t4 (List._++_ t6 t2); slots = List.[] }
+
+abbrev pub T9 : Row.Cx
+T9 = record { locals = List._++_ t4 (List._++_ t7 t2); slots = List.[] }
 
 abbrev pub T10 : Row.Cx
-T10 = record { locals = List._++_ t8 (List._++_ t9 (List._++_ t2 t3)); slots = List.[] }
+T10 = record { locals = List._++_ t4 (List._++_ t8 t2); slots = List.[] }
 
 abbrev pub T11 : Row.Cx
-T11 = record { locals = List._++_ t8 (List._++_ t10 (List._++_ t2 t3)); slots = List.[] }
+T11 = record { locals = List._++_ t9 (List._++_ t8 t2); slots = List.[] }
 
 abbrev pub T12 : Row.Cx
-T12 = record { locals = List._++_ t8 (List._++_ t11 (List._++_ t2 t3)); slots = List.[] }
+T12 = record { locals = List._++_ t9 (List._++_ t10 t2); slots = List.[] }
 
 abbrev pub T13 : Row.Cx
-T13 = record { locals = List._++_ t8 (List._++_ t12 (List._++_ t2 t3)); slots = List.[] }
+T13 = record { locals = List._++_ t9 (List._++_ t11 t2); slots = List.[] }
+
+abbrev pub T14 : Row.Cx
+T14 = record { locals = List._++_ t9 (List._++_ t12 t2); slots = List.[] }
 
 abbrev pub T15 : Row.Cx
-T15 = record { locals = List._++_ t7 (List._++_ t1 (List._++_ t2 t3)); slots = List.[] }
+T15 = record { locals = List._++_ t13 (List._++_ t12 t2); slots = List.[] }
 
 abbrev pub T16 : Row.Cx
-T16 = record { locals = List._++_ t7 (List._++_ t1 (List._++_ t2 t3)); slots = List.[] }
+T16 = record { locals = List._++_ t9 (List._++_ t14 t2); slots = List.[] }
+
+abbrev pub T17 : Row.Cx
+T17 = record { locals = List._++_ t9 (List._++_ t12 t2); slots = List.[] }
+
+abbrev pub T18 : Row.Cx
+T18 = record { locals = List._++_ t9 (List._++_ t12 t2); slots = List.[] }
 
 abbrev pub T19 : Row.Cx
-T19 = record { locals = List._++_ t13 (List._++_ t14 (List._++_ t2 t3)); slots = List.[] }
+T19 = record { locals = List._++_ t15 (List._++_ t14 t2); slots = List.[] }
 
 abbrev pub T20 : Row.Cx
-T20 = record { locals = List._++_ t13 (List._++_ t15 (List._++_ t2 t3)); slots = List.[] }
+T20 = record { locals = List._++_ t16 (List._++_ t14 t2); slots = List.[] }
 
 abbrev pub T21 : Row.Cx
-T21 = record { locals = List._++_ t13 (List._++_ t16 (List._++_ t2 t3)); slots = List.[] }
+T21 = record { locals = List._++_ t17 (List._++_ t14 t2); slots = List.[] }
 
 abbrev pub T22 : Row.Cx
-T22 = record { locals = List._++_ t13 (List._++_ t17 (List._++_ t2 t3)); slots = List.[] }
+T22 = record { locals = List._++_ t13 (List._++_ t14 t2); slots = List.[] }
 
 abbrev pub T23 : Row.Cx
-T23 = record { locals = List._++_ t13 (List._++_ t18 (List._++_ t2 t3)); slots = List.[] }
+T23 = record { locals = List._++_ t13 (List._++_ t12 t2); slots = List.[] }
 
 abbrev pub T24 : Row.Cx
-T24 = record { locals = List._++_ t13 (List._++_ t19 (List._++_ t2 t3)); slots = List.[] }
+T24 = record { locals = List._++_ t9 (List._++_ t18 t2); slots = List.[] }
 
 abbrev pub T26 : Row.Cx
-T26 = record { locals = List._++_ t7 (List._++_ t1 (List._++_ t2 t3)); slots = List.[] }
+T26 = record { locals = List._++_ t19 (List._++_ t20 t2); slots = List.[] }
+
+abbrev pub T27 : Row.Cx
+T27 = record { locals = List._++_ t19 (List._++_ t21 t2); slots = List.[] }
 
 abbrev pub T28 : Row.Cx
-T28 = record { locals = List._++_ t7 (List._++_ t20 (List._++_ t2 t3)); slots = List.[] }
+T28 = record { locals = List._++_ t19 (List._++_ t22 t2); slots = List.[] }
 
 abbrev pub T29 : Row.Cx
-T29 = record { locals = List._++_ t7 (List._++_ t21 (List._++_ t2 t3)); slots = List.[] }
+T29 = record { locals = List._++_ t19 (List._++_ t23 t2); slots = List.[] }
 
 abbrev pub T30 : Row.Cx
-T30 = record { locals = List._++_ t7 (List._++_ t22 (List._++_ t2 t3)); slots = List.[] }
+T30 = record { locals = List._++_ t19 (List._++_ t24 t2); slots = List.[] }
 
 abbrev pub T31 : Row.Cx
-T31 = record { locals = List._++_ t23 (List._++_ t22 (List._++_ t2 t3)); slots = List.[] }
-
-abbrev pub T32 : Row.Cx
-T32 = record { locals = List._++_ t7 (List._++_ t24 (List._++_ t2 t3)); slots = List.[] }
+T31 = record { locals = List._++_ t19 (List._++_ t25 t2); slots = List.[] }
 
 abbrev pub T33 : Row.Cx
-T33 = record { locals = List._++_ t7 (List._++_ t22 (List._++_ t2 t3)); slots = List.[] }
+T33 = record { locals = List._++_ t9 (List._++_ t18 t2); slots = List.[] }
 
 abbrev pub T34 : Row.Cx
-T34 = record { locals = List._++_ t7 (List._++_ t22 (List._++_ t2 t3)); slots = List.[] }
-
-abbrev pub T35 : Row.Cx
-T35 = record { locals = List._++_ t25 (List._++_ t24 (List._++_ t2 t3)); slots = List.[] }
+T34 = record { locals = List._++_ t9 (List._++_ t18 t2); slots = List.[] }
 
 abbrev pub T36 : Row.Cx
-T36 = record { locals = List._++_ t26 (List._++_ t24 (List._++_ t2 t3)); slots = List.[] }
-
-abbrev pub T37 : Row.Cx
-T37 = record { locals = List._++_ t27 (List._++_ t24 (List._++_ t2 t3)); slots = List.[] }
+T36 = record { locals = List._++_ t9 (List._++_ t26 t2); slots = List.[] }
 
 abbrev pub T38 : Row.Cx
-T38 = record { locals = List._++_ t23 (List._++_ t24 (List._++_ t2 t3)); slots = List.[] }
+T38 = record { locals = List._++_ t27 (List._++_ t28 t2); slots = List.[] }
 
 abbrev pub T39 : Row.Cx
-T39 = record { locals = List._++_ t23 (List._++_ t22 (List._++_ t2 t3)); slots = List.[] }
+T39 = record { locals = List._++_ t27 (List._++_ t29 t2); slots = List.[] }
+
+abbrev pub T40 : Row.Cx
+T40 = record { locals = List._++_ t27 (List._++_ t30 t2); slots = List.[] }
 
 abbrev pub T41 : Row.Cx
-T41 = record { locals = List._++_ t28 (List._++_ t29 (List._++_ t2 t3)); slots = List.[] }
+T41 = record { locals = List._++_ t27 (List._++_ t31 t2); slots = List.[] }
 
 abbrev pub T42 : Row.Cx
-T42 = record { locals = List._++_ t28 (List._++_ t30 (List._++_ t2 t3)); slots = List.[] }
+T42 = record { locals = List._++_ t27 (List._++_ t32 t2); slots = List.[] }
 
 abbrev pub T43 : Row.Cx
-T43 = record { locals = List._++_ t28 (List._++_ t31 (List._++_ t2 t3)); slots = List.[] }
-
-abbrev pub T44 : Row.Cx
-T44 = record { locals = List._++_ t28 (List._++_ t32 (List._++_ t2 t3)); slots = List.[] }
+T43 = record { locals = List._++_ t27 (List._++_ t33 t2); slots = List.[] }
 
 abbrev pub T45 : Row.Cx
-T45 = record { locals = List._++_ t28 (List._++_ t33 (List._++_ t2 t3)); slots = List.[] }
-
-abbrev pub T46 : Row.Cx
-T46 = record { locals = List._++_ t28 (List._++_ t34 (List._++_ t2 t3)); slots = List.[] }
+T45 = record { locals = List._++_ t9 (List._++_ t26 t2); slots = List.[] }
 
 abbrev pub T48 : Row.Cx
-T48 = record { locals = List._++_ t7 (List._++_ t22 (List._++_ t2 t3)); slots = List.[] }
+T48 = record { locals = List._++_ t34 (List._++_ t26 t35); slots = List.[] }
 
 abbrev pub T49 : Row.Cx
-T49 = record { locals = List._++_ t7 (List._++_ t22 (List._++_ t2 t3)); slots = List.[] }
+T49 = record { locals = List._++_ t34 (List._++_ t26 t36); slots = List.[] }
 
 abbrev pub T51 : Row.Cx
-T51 = record { locals = List._++_ t7 (List._++_ t35 (List._++_ t2 t3)); slots = List.[] }
+T51 = record { locals = List._++_ t37 (List._++_ t26 t38); slots = List.[] }
 
-abbrev pub T53 : Row.Cx
-T53 = record { locals = List._++_ t36 (List._++_ t35 (List._++_ t37 t3)); slots = List.[] }
+abbrev pub T52 : Row.Cx
+T52 = record { locals = List._++_ t37 (List._++_ t26 t39); slots = List.[] }
 
 abbrev pub T54 : Row.Cx
-T54 = record { locals = List._++_ t36 (List._++_ t35 (List._++_ t38 t3)); slots = List.[] }
+T54 = record { locals = List._++_ t40 (List._++_ t26 t41); slots = List.[] }
 
 abbrev pub T55 : Row.Cx
-T55 = record { locals = List._++_ t36 (List._++_ t39 (List._++_ t38 t3)); slots = List.[] }
+T55 = record { locals = List._++_ t40 (List._++_ t26 t42); slots = List.[] }
 
 abbrev pub T56 : Row.Cx
-T56 = record { locals = List._++_ t36 (List._++_ t40 (List._++_ t41 t3)); slots = List.[] }
+T56 = record { locals = List._++_ t40 (List._++_ t26 t43); slots = List.[] }
 
 abbrev pub T57 : Row.Cx
-T57 = record { locals = List._++_ t36 (List._++_ t42 (List._++_ t41 t3)); slots = List.[] }
+T57 = record { locals = List._++_ t40 (List._++_ t44 t45); slots = List.[] }
 
 abbrev pub T58 : Row.Cx
-T58 = record { locals = List._++_ t36 (List._++_ t35 (List._++_ t41 t3)); slots = List.[] }
+T58 = record { locals = List._++_ t9 (List._++_ t46 t2); slots = List.[] }
 
-abbrev pub T60 : Row.Cx
-T60 = record { locals = List._++_ t7 (List._++_ t35 (List._++_ t2 t3)); slots = List.[] }
+abbrev pub T59 : Row.Cx
+T59 = record { locals = List._++_ t40 (List._++_ t44 t47); slots = List.[] }
 
-abbrev pub T63 : Row.Cx
-T63 = record { locals = List._++_ t43 (List._++_ t35 (List._++_ t44 t3)); slots = List.[] }
+abbrev pub T61 : Row.Cx
+T61 = record { locals = List._++_ t48 (List._++_ t44 t49); slots = List.[] }
 
-abbrev pub T64 : Row.Cx
-T64 = record { locals = List._++_ t43 (List._++_ t35 (List._++_ t45 t3)); slots = List.[] }
+abbrev pub T62 : Row.Cx
+T62 = record { locals = List._++_ t48 (List._++_ t44 t49); slots = List.[] }
 
-abbrev pub T66 : Row.Cx
-T66 = record { locals = List._++_ t46 (List._++_ t35 (List._++_ t47 t3)); slots = List.[] }
+abbrev pub T65 : Row.Cx
+T65 = record { locals = List._++_ t50 (List._++_ t44 t51); slots = List.[] }
 
-abbrev pub T67 : Row.Cx
-T67 = record { locals = List._++_ t46 (List._++_ t35 (List._++_ t48 t3)); slots = List.[] }
+abbrev pub T68 : Row.Cx
+T68 = record { locals = List._++_ t9 (List._++_ t44 t2); slots = List.[] }
 
 abbrev pub T69 : Row.Cx
-T69 = record { locals = List._++_ t49 (List._++_ t35 (List._++_ t50 t3)); slots = List.[] }
-
-abbrev pub T70 : Row.Cx
-T70 = record { locals = List._++_ t49 (List._++_ t35 (List._++_ t51 t3)); slots = List.[] }
+T69 = record { locals = List._++_ t9 (List._++_ t44 t2); slots = List.[] }
 
 abbrev pub T71 : Row.Cx
-T71 = record { locals = List._++_ t49 (List._++_ t35 (List._++_ t52 t3)); slots = List.[] }
+T71 = record { locals = List._++_ t9 (List._++_ t52 t2); slots = List.[] }
 
 abbrev pub T72 : Row.Cx
-T72 = record { locals = List._++_ t49 (List._++_ t53 (List._++_ t54 t3)); slots = List.[] }
+T72 = record { locals = List._++_ t9 (List._++_ t52 t2); slots = List.[] }
 
 abbrev pub T73 : Row.Cx
-T73 = record { locals = List._++_ t7 (List._++_ t55 (List._++_ t2 t3)); slots = List.[] }
+T73 = record { locals = List._++_ t9 (List._++_ t53 t2); slots = List.[] }
 
 abbrev pub T74 : Row.Cx
-T74 = record { locals = List._++_ t49 (List._++_ t53 (List._++_ t56 t3)); slots = List.[] }
+T74 = record { locals = List._++_ t9 (List._++_ t54 t2); slots = List.[] }
+
+abbrev pub T75 : Row.Cx
+T75 = record { locals = List._++_ t9 (List._++_ t46 t2); slots = List.[] }
 
 abbrev pub T76 : Row.Cx
-T76 = record { locals = List._++_ t57 (List._++_ t53 (List._++_ t58 t3)); slots = List.[] }
+T76 = record { locals = List._++_ t9 (List._++_ t44 t2); slots = List.[] }
 
 abbrev pub T77 : Row.Cx
-T77 = record { locals = List._++_ t57 (List._++_ t53 (List._++_ t58 t3)); slots = List.[] }
+T77 = record { locals = List._++_ t15 (List._++_ t44 t2); slots = List.[] }
+
+abbrev pub T78 : Row.Cx
+T78 = record { locals = List._++_ t16 (List._++_ t44 t2); slots = List.[] }
+
+abbrev pub T79 : Row.Cx
+T79 = record { locals = List._++_ t55 (List._++_ t44 t2); slots = List.[] }
 
 abbrev pub T80 : Row.Cx
-T80 = record { locals = List._++_ t59 (List._++_ t53 (List._++_ t60 t3)); slots = List.[] }
+T80 = record { locals = List._++_ t55 (List._++_ t56 t2); slots = List.[] }
+
+abbrev pub T81 : Row.Cx
+T81 = record { locals = List._++_ t55 (List._++_ t57 t2); slots = List.[] }
 
 abbrev pub T83 : Row.Cx
-T83 = record { locals = List._++_ t7 (List._++_ t53 (List._++_ t2 t3)); slots = List.[] }
+T83 = record { locals = List._++_ t58 (List._++_ t57 t59); slots = List.[] }
 
 abbrev pub T84 : Row.Cx
-T84 = record { locals = List._++_ t7 (List._++_ t53 (List._++_ t2 t3)); slots = List.[] }
+T84 = record { locals = List._++_ t58 (List._++_ t57 t60); slots = List.[] }
+
+abbrev pub T85 : Row.Cx
+T85 = record { locals = List._++_ t58 (List._++_ t57 t61); slots = List.[] }
 
 abbrev pub T86 : Row.Cx
-T86 = record { locals = List._++_ t7 (List._++_ t61 (List._++_ t2 t3)); slots = List.[] }
+T86 = record { locals = List._++_ t62 (List._++_ t57 t61); slots = List.[] }
 
 abbrev pub T87 : Row.Cx
-T87 = record { locals = List._++_ t7 (List._++_ t61 (List._++_ t2 t3)); slots = List.[] }
-
-abbrev pub T88 : Row.Cx
-T88 = record { locals = List._++_ t7 (List._++_ t62 (List._++_ t2 t3)); slots = List.[] }
+T87 = record { locals = List._++_ t62 (List._++_ t57 t63); slots = List.[] }
 
 abbrev pub T89 : Row.Cx
-T89 = record { locals = List._++_ t7 (List._++_ t63 (List._++_ t2 t3)); slots = List.[] }
+T89 = record { locals = List._++_ t13 (List._++_ t57 t2); slots = List.[] }
 
 abbrev pub T90 : Row.Cx
-T90 = record { locals = List._++_ t7 (List._++_ t55 (List._++_ t2 t3)); slots = List.[] }
-
-abbrev pub T91 : Row.Cx
-T91 = record { locals = List._++_ t7 (List._++_ t53 (List._++_ t2 t3)); slots = List.[] }
+T90 = record { locals = List._++_ t13 (List._++_ t57 t2); slots = List.[] }
 
 abbrev pub T92 : Row.Cx
-T92 = record { locals = List._++_ t25 (List._++_ t53 (List._++_ t2 t3)); slots = List.[] }
+T92 = record { locals = List._++_ t13 (List._++_ t57 t64); slots = List.[] }
 
 abbrev pub T93 : Row.Cx
-T93 = record { locals = List._++_ t26 (List._++_ t53 (List._++_ t2 t3)); slots = List.[] }
+T93 = record { locals = List._++_ t13 (List._++_ t65 t64); slots = List.[] }
 
 abbrev pub T94 : Row.Cx
-T94 = record { locals = List._++_ t64 (List._++_ t53 (List._++_ t2 t3)); slots = List.[] }
+T94 = record { locals = List._++_ t66 (List._++_ t65 t64); slots = List.[] }
 
 abbrev pub T95 : Row.Cx
-T95 = record { locals = List._++_ t64 (List._++_ t65 (List._++_ t2 t3)); slots = List.[] }
+T95 = record { locals = List._++_ t66 (List._++_ t65 t2); slots = List.[] }
 
 abbrev pub T96 : Row.Cx
-T96 = record { locals = List._++_ t64 (List._++_ t66 (List._++_ t2 t3)); slots = List.[] }
+T96 = record { locals = List._++_ t67 (List._++_ t65 t2); slots = List.[] }
+
+abbrev pub T97 : Row.Cx
+T97 = record { locals = List._++_ t68 (List._++_ t65 t2); slots = List.[] }
 
 abbrev pub T98 : Row.Cx
-T98 = record { locals = List._++_ t67 (List._++_ t66 (List._++_ t68 t3)); slots = List.[] }
+T98 = record { locals = List._++_ t69 (List._++_ t65 t2); slots = List.[] }
 
 abbrev pub T99 : Row.Cx
-T99 = record { locals = List._++_ t67 (List._++_ t66 (List._++_ t69 t3)); slots = List.[] }
+T99 = record { locals = List._++_ t3 (List._++_ t65 t2); slots = List.[] }
 
 abbrev pub T100 : Row.Cx
-T100 = record { locals = List._++_ t67 (List._++_ t66 (List._++_ t70 t3)); slots = List.[] }
+T100 = record { locals = List._++_ t3 (List._++_ t70 t2); slots = List.[] }
 
 abbrev pub T101 : Row.Cx
-T101 = record { locals = List._++_ t71 (List._++_ t66 (List._++_ t70 t3)); slots = List.[] }
+T101 = record { locals = List._++_ t3 (List._++_ t71 t2); slots = List.[] }
 
 abbrev pub T102 : Row.Cx
-T102 = record { locals = List._++_ t71 (List._++_ t66 (List._++_ t72 t3)); slots = List.[] }
+T102 = record { locals = List._++_ t3 (List._++_ t72 t2); slots = List.[] }
+
+abbrev pub T103 : Row.Cx
+T103 = record { locals = List._++_ t3 (List._++_ t73 t2); slots = List.[] }
 
 abbrev pub T104 : Row.Cx
-T104 = record { locals = List._++_ t23 (List._++_ t66 (List._++_ t2 t3)); slots = List.[] }
+T104 = record { locals = List._++_ t3 (List._++_ t1 t2); slots = List.[] }
 
 abbrev pub T105 : Row.Cx
-T105 = record { locals = List._++_ t23 (List._++_ t66 (List._++_ t2 t3)); slots = List.[] }
+T105 = record { locals = List._++_ t9 (List._++_ t74 t2); slots = List.[] }
+
+abbrev pub T106 : Row.Cx
+T106 = record { locals = List._++_ t9 (List._++_ t26 t2); slots = List.[] }
 
 abbrev pub T107 : Row.Cx
-T107 = record { locals = List._++_ t23 (List._++_ t66 (List._++_ t73 t3)); slots = List.[] }
+T107 = record { locals = List._++_ t9 (List._++_ t26 t75); slots = List.[] }
 
 abbrev pub T108 : Row.Cx
-T108 = record { locals = List._++_ t23 (List._++_ t74 (List._++_ t73 t3)); slots = List.[] }
+T108 = record { locals = List._++_ t9 (List._++_ t26 t75); slots = List.[] }
 
 abbrev pub T109 : Row.Cx
-T109 = record { locals = List._++_ t75 (List._++_ t74 (List._++_ t73 t3)); slots = List.[] }
-
-abbrev pub T110 : Row.Cx
-T110 = record { locals = List._++_ t75 (List._++_ t74 (List._++_ t2 t3)); slots = List.[] }
+T109 = record { locals = List._++_ t9 (List._++_ t26 t2); slots = List.[] }
 
 abbrev pub T111 : Row.Cx
-T111 = record { locals = List._++_ t76 (List._++_ t74 (List._++_ t2 t3)); slots = List.[] }
+T111 = record { locals = List._++_ t76 (List._++_ t26 t77); slots = List.[] }
 
 abbrev pub T112 : Row.Cx
-T112 = record { locals = List._++_ t77 (List._++_ t74 (List._++_ t2 t3)); slots = List.[] }
-
-abbrev pub T113 : Row.Cx
-T113 = record { locals = List._++_ t78 (List._++_ t74 (List._++_ t2 t3)); slots = List.[] }
+T112 = record { locals = List._++_ t76 (List._++_ t26 t78); slots = List.[] }
 
 abbrev pub T114 : Row.Cx
-T114 = record { locals = List._++_ t79 (List._++_ t74 (List._++_ t2 t3)); slots = List.[] }
+T114 = record { locals = List._++_ t79 (List._++_ t26 t80); slots = List.[] }
 
 abbrev pub T115 : Row.Cx
-T115 = record { locals = List._++_ t4 (List._++_ t74 (List._++_ t2 t3)); slots = List.[] }
+T115 = record { locals = List._++_ t79 (List._++_ t26 t81); slots = List.[] }
 
 abbrev pub T116 : Row.Cx
-T116 = record { locals = List._++_ t4 (List._++_ t80 (List._++_ t2 t3)); slots = List.[] }
+T116 = record { locals = List._++_ t79 (List._++_ t82 t81); slots = List.[] }
 
 abbrev pub T117 : Row.Cx
-T117 = record { locals = List._++_ t4 (List._++_ t1 (List._++_ t2 t3)); slots = List.[] }
+T117 = record { locals = List._++_ t79 (List._++_ t83 t84); slots = List.[] }
 
 abbrev pub T118 : Row.Cx
-T118 = record { locals = List._++_ t7 (List._++_ t81 (List._++_ t2 t3)); slots = List.[] }
+T118 = record { locals = List._++_ t79 (List._++_ t83 t85); slots = List.[] }
 
 abbrev pub T119 : Row.Cx
-T119 = record { locals = List._++_ t7 (List._++_ t35 (List._++_ t2 t3)); slots = List.[] }
+T119 = record { locals = List._++_ t79 (List._++_ t86 t85); slots = List.[] }
 
 abbrev pub T120 : Row.Cx
-T120 = record { locals = List._++_ t7 (List._++_ t35 (List._++_ t82 t3)); slots = List.[] }
-
-abbrev pub T121 : Row.Cx
-T121 = record { locals = List._++_ t7 (List._++_ t35 (List._++_ t82 t3)); slots = List.[] }
+T120 = record { locals = List._++_ t79 (List._++_ t26 t85); slots = List.[] }
 
 abbrev pub T122 : Row.Cx
-T122 = record { locals = List._++_ t7 (List._++_ t35 (List._++_ t2 t3)); slots = List.[] }
-
-abbrev pub T124 : Row.Cx
-T124 = record { locals = List._++_ t83 (List._++_ t35 (List._++_ t84 t3)); slots = List.[] }
+T122 = record { locals = List._++_ t87 (List._++_ t26 t85); slots = List.[] }
 
 abbrev pub T125 : Row.Cx
-T125 = record { locals = List._++_ t83 (List._++_ t35 (List._++_ t85 t3)); slots = List.[] }
+T125 = record { locals = List._++_ t9 (List._++_ t26 t2); slots = List.[] }
 
-abbrev pub T127 : Row.Cx
-T127 = record { locals = List._++_ t86 (List._++_ t35 (List._++_ t85 t87)); slots = List.[] }
+abbrev pub T126 : Row.Cx
+T126 = record { locals = List._++_ t9 (List._++_ t26 t2); slots = List.[] }
 
 abbrev pub T128 : Row.Cx
-T128 = record { locals = List._++_ t86 (List._++_ t35 (List._++_ t85 t88)); slots = List.[] }
+T128 = record { locals = List._++_ t9 (List._++_ t26 t2); slots = List.[] }
 
 abbrev pub T129 : Row.Cx
-T129 = record { locals = List._++_ t86 (List._++_ t39 (List._++_ t85 t88)); slots = List.[] }
+T129 = record { locals = List._++_ t9 (List._++_ t88 t2); slots = List.[] }
 
 abbrev pub T130 : Row.Cx
-T130 = record { locals = List._++_ t86 (List._++_ t40 (List._++_ t85 t89)); slots = List.[] }
+T130 = record { locals = List._++_ t9 (List._++_ t12 t2); slots = List.[] }
 
 abbrev pub T131 : Row.Cx
-T131 = record { locals = List._++_ t86 (List._++_ t40 (List._++_ t2 t89)); slots = List.[] }
+T131 = record { locals = List._++_ t13 (List._++_ t89 t2); slots = List.[] }
 
 abbrev pub T132 : Row.Cx
-T132 = record { locals = List._++_ t86 (List._++_ t42 (List._++_ t2 t89)); slots = List.[] }
+T132 = record { locals = List._++_ t13 (List._++_ t90 t2); slots = List.[] }
 
 abbrev pub T133 : Row.Cx
-T133 = record { locals = List._++_ t86 (List._++_ t35 (List._++_ t2 t89)); slots = List.[] }
+T133 = record { locals = List._++_ t66 (List._++_ t90 t2); slots = List.[] }
+
+abbrev pub T134 : Row.Cx
+T134 = record { locals = List._++_ t91 (List._++_ t90 t2); slots = List.[] }
 
 abbrev pub T135 : Row.Cx
-T135 = record { locals = List._++_ t90 (List._++_ t35 (List._++_ t2 t89)); slots = List.[] }
+T135 = record { locals = List._++_ t91 (List._++_ t92 t2); slots = List.[] }
+
+abbrev pub T136 : Row.Cx
+T136 = record { locals = List._++_ t91 (List._++_ t93 t2); slots = List.[] }
+
+abbrev pub T137 : Row.Cx
+T137 = record { locals = List._++_ t91 (List._++_ t94 t2); slots = List.[] }
 
 abbrev pub T138 : Row.Cx
-T138 = record { locals = List._++_ t7 (List._++_ t35 (List._++_ t2 t3)); slots = List.[] }
+T138 = record { locals = List._++_ t91 (List._++_ t95 t2); slots = List.[] }
 
 abbrev pub T139 : Row.Cx
-T139 = record { locals = List._++_ t7 (List._++_ t35 (List._++_ t2 t3)); slots = List.[] }
+T139 = record { locals = List._++_ t91 (List._++_ t1 t2); slots = List.[] }
+
+abbrev pub T140 : Row.Cx
+T140 = record { locals = List._++_ t96 (List._++_ t1 t2); slots = List.[] }
 
 abbrev pub T141 : Row.Cx
-T141 = record { locals = List._++_ t7 (List._++_ t35 (List._++_ t2 t3)); slots = List.[] }
+T141 = record { locals = List._++_ t97 (List._++_ t1 t2); slots = List.[] }
 
 abbrev pub T142 : Row.Cx
-T142 = record { locals = List._++_ t7 (List._++_ t22 (List._++_ t2 t3)); slots = List.[] }
-
-abbrev pub T143 : Row.Cx
-T143 = record { locals = List._++_ t23 (List._++_ t22 (List._++_ t2 t91)); slots = List.[] }
-
-abbrev pub T144 : Row.Cx
-T144 = record { locals = List._++_ t23 (List._++_ t92 (List._++_ t2 t91)); slots = List.[] }
-
-abbrev pub T145 : Row.Cx
-T145 = record { locals = List._++_ t75 (List._++_ t92 (List._++_ t2 t91)); slots = List.[] }
-
-abbrev pub T146 : Row.Cx
-T146 = record { locals = List._++_ t93 (List._++_ t92 (List._++_ t2 t91)); slots = List.[] }
-
-abbrev pub T147 : Row.Cx
-T147 = record { locals = List._++_ t94 (List._++_ t92 (List._++_ t2 t91)); slots = List.[] }
-
-abbrev pub T148 : Row.Cx
-T148 = record { locals = List._++_ t95 (List._++_ t92 (List._++_ t2 t91)); slots = List.[] }
-
-abbrev pub T149 : Row.Cx
-T149 = record { locals = List._++_ t95 (List._++_ t96 (List._++_ t2 t91)); slots = List.[] }
-
-abbrev pub T150 : Row.Cx
-T150 = record { locals = List._++_ t95 (List._++_ t1 (List._++_ t2 t91)); slots = List.[] }
-
-abbrev pub T151 : Row.Cx
-T151 = record { locals = List._++_ t95 (List._++_ t1 (List._++_ t2 t3)); slots = List.[] }
-
-abbrev pub T152 : Row.Cx
-T152 = record { locals = List._++_ t97 (List._++_ t1 (List._++_ t2 t3)); slots = List.[] }
-
-abbrev pub T153 : Row.Cx
-T153 = record { locals = List._++_ t4 (List._++_ t1 (List._++_ t2 t3)); slots = List.[] }
+T142 = record { locals = List._++_ t3 (List._++_ t1 t2); slots = List.[] }
 
 abbrev pub O0 : Typed.Outs
 O0 = record { next = Option.none; exits = List.[]; returns = Option.some T1 }
 
 abbrev pub O1 : Typed.Outs
-O1 = Typed.withNext (Option.some T31) O0
+O1 = Typed.withNext (Option.some T15) O0
 
 abbrev pub O2 : Typed.Outs
 O2 = Typed.inBlock₀ O1
 
 abbrev pub O3 : Typed.Outs
-O3 = Typed.inLoop₀ T30 O2
+O3 = Typed.inLoop₀ T14 O2
 
 abbrev pub O4 : Typed.Outs
-O4 = Typed.withNext (Option.some T33) O3
+O4 = Typed.withNext (Option.some T17) O3
 
 abbrev pub O5 : Typed.Outs
-O5 = Typed.withNext (Option.some T73) O3
+O5 = Typed.withNext (Option.some T58) O3
 
 abbrev pub InvT-loop : Type 1
 InvT-loop = List.List (Referent.rtF (Referent.fInt Syntax.w8) .Denot) → List.List (Referent.rtF (Referent.fInt Syntax.w8) .Denot) → List.List (Referent.rtF (Referent.fInt Syntax.w16) .Denot) →
     List.List (Element.type .Denot) → List.List (Referent.rtF (Referent.fInt Syntax.w16) .Denot) → Rows'.whole (Declared'.row Form.the-type) .Mod → Array'.Array (Referent.rtF (Referent.fInt Syntax.w16))
-    768 .Denot → Rows.arrF (Referent.rtF (Referent.fInt Syntax.w8)) 36 0 .Mod → Rows'.whole (Declared'.row Part.the-type) .Mod → Rows'.sc-here (Row.sInt Syntax.w64) .Mod → Rows'.sc-here Row.sBool .Mod →
-    Rows'.whole (Declared'.row Entries.the-type) .Mod → Rows'.sc-here (Row.sInt Syntax.w32) .Mod → Rows'.sc-here Row.sBool .Mod → Rows'.sc-here (Row.sInt Syntax.w64) .Mod → Rows'.whole (Declared'.row
-    Place.the-type) .Mod → Rows'.whole (Declared'.row TightLines.the-type) .Mod → Rows'.sc-here (Row.sInt Syntax.w64) .Mod → List.List (Referent.rtF (Referent.fInt Syntax.w16) .Denot) → List.List
-    (Element.type .Denot) → List.List (Referent.rtF (Referent.fInt Syntax.w16) .Denot) → Rows'.whole (Declared'.row Place.the-type) .Mod → Rows'.whole (Declared'.row TightLines.the-type) .Mod →
-    Rows'.sc-here (Row.sInt Syntax.w64) .Mod → Type 0
+    768 .Denot → Rows.arrF (Referent.rtF (Referent.fInt Syntax.w8)) 36 0 .Mod → Rows'.whole (Declared'.row Part.the-type) .Mod → Rows'.sc-here (Row.sInt Syntax.w64) .Mod → Rows'.sc-here (Row.sInt
+    Syntax.w64) .Mod → Rows'.sc-here Row.sBool .Mod → Rows'.whole (Declared'.row Entries.the-type) .Mod → Rows'.sc-here (Row.sInt Syntax.w32) .Mod → Rows'.sc-here Row.sBool .Mod → Rows'.sc-here (Row.sInt
+    Syntax.w64) .Mod → Rows'.whole (Declared'.row Place.the-type) .Mod → Rows'.whole (Declared'.row TightLines.the-type) .Mod → Rows'.sc-here (Row.sInt Syntax.w64) .Mod → List.List (Referent.rtF
+    (Referent.fInt Syntax.w16) .Denot) → List.List (Element.type .Denot) → List.List (Referent.rtF (Referent.fInt Syntax.w16) .Denot) → Rows'.whole (Declared'.row Place.the-type) .Mod → Rows'.whole
+    (Declared'.row TightLines.the-type) .Mod → Rows'.sc-here (Row.sInt Syntax.w64) .Mod → Type 0
 
 abbrev pub MeasureT-loop : Type 0
 MeasureT-loop = List.List (Referent.rtF (Referent.fInt Syntax.w8) .Denot) → List.List (Referent.rtF (Referent.fInt Syntax.w8) .Denot) → List.List (Referent.rtF (Referent.fInt Syntax.w16) .Denot) →
     List.List (Element.type .Denot) → List.List (Referent.rtF (Referent.fInt Syntax.w16) .Denot) → Rows'.whole (Declared'.row Form.the-type) .Mod → Array'.Array (Referent.rtF (Referent.fInt Syntax.w16))
-    768 .Denot → Rows.arrF (Referent.rtF (Referent.fInt Syntax.w8)) 36 0 .Mod → Rows'.whole (Declared'.row Part.the-type) .Mod → Rows'.sc-here (Row.sInt Syntax.w64) .Mod → Rows'.sc-here Row.sBool .Mod →
-    Rows'.whole (Declared'.row Entries.the-type) .Mod → Rows'.sc-here (Row.sInt Syntax.w32) .Mod → Rows'.sc-here Row.sBool .Mod → Rows'.sc-here (Row.sInt Syntax.w64) .Mod → Rows'.whole (Declared'.row
-    Place.the-type) .Mod → Rows'.whole (Declared'.row TightLines.the-type) .Mod → Rows'.sc-here (Row.sInt Syntax.w64) .Mod → List.List (Referent.rtF (Referent.fInt Syntax.w16) .Denot) → List.List
-    (Element.type .Denot) → List.List (Referent.rtF (Referent.fInt Syntax.w16) .Denot) → Rows'.whole (Declared'.row Place.the-type) .Mod → Rows'.whole (Declared'.row TightLines.the-type) .Mod →
-    Rows'.sc-here (Row.sInt Syntax.w64) .Mod → Nat.ℕ
+    768 .Denot → Rows.arrF (Referent.rtF (Referent.fInt Syntax.w8)) 36 0 .Mod → Rows'.whole (Declared'.row Part.the-type) .Mod → Rows'.sc-here (Row.sInt Syntax.w64) .Mod → Rows'.sc-here (Row.sInt
+    Syntax.w64) .Mod → Rows'.sc-here Row.sBool .Mod → Rows'.whole (Declared'.row Entries.the-type) .Mod → Rows'.sc-here (Row.sInt Syntax.w32) .Mod → Rows'.sc-here Row.sBool .Mod → Rows'.sc-here (Row.sInt
+    Syntax.w64) .Mod → Rows'.whole (Declared'.row Place.the-type) .Mod → Rows'.whole (Declared'.row TightLines.the-type) .Mod → Rows'.sc-here (Row.sInt Syntax.w64) .Mod → List.List (Referent.rtF
+    (Referent.fInt Syntax.w16) .Denot) → List.List (Element.type .Denot) → List.List (Referent.rtF (Referent.fInt Syntax.w16) .Denot) → Rows'.whole (Declared'.row Place.the-type) .Mod → Rows'.whole
+    (Declared'.row TightLines.the-type) .Mod → Rows'.sc-here (Row.sInt Syntax.w64) .Mod → Nat.ℕ
 
 module _ (claims· : Claims) where
   abbrev s0 : Typed.Gives T0 T2
@@ -2056,193 +2009,160 @@ module _ (claims· : Claims) where
   s3 = Know.k-sl-known (Referent.fInt Syntax.w16) T4 5 4 (Syntax.tyRef (Syntax.named 4) Syntax.mut (Syntax.tyInt Syntax.w16)) Row.off 0 λ x. x
 
   abbrev s4 : Typed.Mo T5 → Typed.Mo T6
-  s4 = Scalar.n-use T5 (Scalar.oFld 6 (List._∷_ (Syntax.field 0) List.[]) (Syntax.tyInt Syntax.w32) 0 (Reads.fieldV Form.the-type Laws.the-laws 0)) 13 (Rows'.sc-here (Row.sInt Syntax.w32)) (Row.sInt
+  s4 = Scalar.n-use T5 (Scalar.oFld 6 (List._∷_ (Syntax.field 0) List.[]) (Syntax.tyInt Syntax.w32) 0 (Reads.fieldV Form.the-type Laws.the-laws 0)) 15 (Rows'.sc-here (Row.sInt Syntax.w32)) (Row.sInt
       Syntax.w32 .of)
 
   abbrev s5 : Typed.Mo T6 → Typed.Mo T7
-  s5 = Scalar.n-use T6 (Scalar.oFld 6 (List._∷_ (Syntax.field 1) List.[]) Syntax.tyBool 4 (Reads.fieldV Form.the-type Laws.the-laws 1)) 14 (Rows'.sc-here Row.sBool) (Row.sBool .of)
+  s5 = Scalar.n-use T6 (Scalar.oFld 6 (List._∷_ (Syntax.field 1) List.[]) Syntax.tyBool 4 (Reads.fieldV Form.the-type Laws.the-laws 1)) 16 (Rows'.sc-here Row.sBool) (Row.sBool .of)
 
   abbrev s6 : Typed.Both T7 T8
-  s6 = Call.callB ps·0 r·0 (claims· .0) (claims· .1) T7 (Bool.bAt 14 λ x. x, tt) 15 List.[] (Syntax.tyInt Syntax.w64)
+  s6 = Call.callB ps·0 r·0 (claims· .0) (claims· .1) T7 (Bool.bAt 16 λ x. x, tt) 17 List.[] (Syntax.tyInt Syntax.w64)
 
-  abbrev s8 : Typed.Gives T8 T10
-  s8 = Relend.k-sl-relend (Referent.rtF (Referent.fInt Syntax.w16)) T8 3 23 2 6 (Syntax.tyRef (Syntax.named 2) Syntax.mut (Syntax.tyInt Syntax.w16)) (Syntax.tyRef Syntax.erased Syntax.mut
-      (Syntax.tyInt Syntax.w16)) Row.off λ x. x
+  abbrev s7 : Typed.Mo T8 → Typed.Mo T9
+  s7 = LocalCopy.n-val-copy T8 11 18 (Declared'.row Place.the-type) (Rows'.whole (Declared'.row Place.the-type)) (Rows'.whole (Declared'.row Place.the-type)) (λ x. x) (λ x. x) λ x. x
 
-  abbrev s9 : Typed.Asks T10 T11
-  s9 = Relend.k-sl-aggregate (Referent.rtF (Referent.fInt Syntax.w16)) (Relend.asMut (Referent.rtF (Referent.fInt Syntax.w16))) T10 23 24 6 (Syntax.tyRef Syntax.erased Syntax.mut (Syntax.tyInt
-      Syntax.w16)) (Syntax.tyRef Syntax.erased Syntax.mut (Syntax.tyInt Syntax.w16)) (λ x. x) (Scalar.oFld 3 (List._∷_ (Syntax.field 1) List.[]) (Syntax.tyInt Syntax.w64) 8 λ v. Shared.lenV (v .0))
+  abbrev s8 : Typed.Both T9 T10
+  s8 = Call.callB ps·1 r·1 (claims· .2) (claims· .3) T9 (record { pos = 11; st = List.[]; d = 0; at = λ x. x }, tt) 25 List.[] y3
+
+  abbrev s9 : Typed.Mo T10 → Typed.Mo T11
+  s9 = Scalar.n-room T10 11 y10
 
   abbrev s10 : Typed.Both T11 T12
-  s10 = Call.callB ps·1 r·1 (claims· .2) (claims· .3) T11 (record { pos = 24; ty = Syntax.tyRef Syntax.erased Syntax.mut (Syntax.tyInt Syntax.w16); ref = λ x. x }, tt) 22 (List._∷_ 6 List.[])
-      Syntax.tyUnit
+  s10 = Call.callB ps·2 r·2 (claims· .4) (claims· .5) T11 (record { pos = 25; st = List.[]; d = 0; at = λ x. x }, tt) 19 List.[] y9
 
   abbrev s11 : Typed.Mo T12 → Typed.Mo T13
-  s11 = Scalar.n-room T12 22 Syntax.tyUnit
+  s11 = Scalar.n-room T12 25 y3
 
-  abbrev s13 : Typed.Both T13 T15
-  s13 = Relend.k-back-sl (Referent.rtF (Referent.fInt Syntax.w16)) T13 24 3 2 6 (Syntax.tyRef (Syntax.named 2) Syntax.mut (Syntax.tyInt Syntax.w16)) (Syntax.tyRef Syntax.erased Syntax.mut
-      (Syntax.tyInt Syntax.w16)) Row.off (λ x. x) λ x. x
+  abbrev s12 : Typed.Mo T13 → Typed.Mo T14
+  s12 = Scalar.n-use T13 (Scalar.oInt Syntax.w64 0) 20 (Rows'.sc-here (Row.sInt Syntax.w64)) (Row.sInt Syntax.w64 .of)
 
-  abbrev s14 : Typed.Gives T15 T16
-  s14 = Know.k-sl-known (Referent.fInt Syntax.w16) T15 3 2 (Syntax.tyRef (Syntax.named 2) Syntax.mut (Syntax.tyInt Syntax.w16)) Row.off 0 λ x. x
+  abbrev s13 : Typed.Asks T14 T16
+  s13 = Scalar.k-op2 T14 (Syntax.lt Syntax.unsigned) (Scalar.oAt 20 (Syntax.tyInt Syntax.w64) (Row.valS (Row.sInt Syntax.w64))) (Scalar.oAt 12 (Syntax.tyInt Syntax.w64) (Row.valS (Row.sInt
+      Syntax.w64))) 26 (Rows'.sc-here Row.sBool) (Row.sBool .of)
 
-  abbrev s17 : Typed.Gives T16 T19
-  s17 = Relend.k-sl-relend (Element.type) T16 4 25 3 7 (Syntax.tyRef (Syntax.named 3) Syntax.mut Element.behind) (Syntax.tyRef Syntax.erased Syntax.mut Element.behind) Row.off λ x. x
+  abbrev s14 : Typed.Mo T16 → Typed.Mo T18
+  s14 = Scalar.n-room T16 26 Syntax.tyBool
 
-  abbrev s18 : Typed.Asks T19 T20
-  s18 = Relend.k-sl-aggregate (Element.type) (Relend.asMut (Element.type)) T19 25 26 7 (Syntax.tyRef Syntax.erased Syntax.mut Element.behind) (Syntax.tyRef Syntax.erased Syntax.mut Element.behind) (λ
-      x. x) (Scalar.oFld 4 (List._∷_ (Syntax.field 1) List.[]) (Syntax.tyInt Syntax.w64) 8 λ v. Shared.lenV (v .0))
+  abbrev s15 : Typed.Mo T16 → Typed.Mo T19
+  s15 = Scalar.n-room T16 6 y8
 
-  abbrev s19 : Typed.Both T20 T21
-  s19 = Call.callB ps·2 r·2 (claims· .4) (claims· .5) T20 (record { pos = 2; ty = Syntax.tyRef (Syntax.named 1) Syntax.imm (Syntax.tyInt Syntax.w8); ref = λ x. x }, (Num.vLit 0, tt)) 27 (List._∷_ 1
-      List.[]) (Syntax.tyInt Syntax.w32)
+  abbrev s16 : Typed.Mo T19 → Typed.Mo T20
+  s16 = Scalar.n-room T19 8 (Syntax.tyArray (Syntax.tyInt Syntax.w8) 36)
 
-  abbrev s20 : Typed.Both T21 T22
-  s20 = Call.callB ps·3 r·3 (claims· .6) (claims· .7) T21 (record { pos = 26; ty = Syntax.tyRef Syntax.erased Syntax.mut Element.behind; ref = λ x. x }, (Num.vAt 13 λ x. x, (Num.vAt 27 λ x. x, tt)))
-      22 (List._∷_ 7 List.[]) Syntax.tyUnit
+  abbrev s17 : Typed.Mo T20 → Typed.Mo T21
+  s17 = Scalar.n-room T20 9 y0
 
-  abbrev s21 : Typed.Mo T22 → Typed.Mo T23
-  s21 = Scalar.n-room T22 22 Syntax.tyUnit
+  abbrev s18 : Typed.Mo T21 → Typed.Mo T22
+  s18 = Scalar.n-room T21 14 y12
 
-  abbrev s22 : Typed.Mo T23 → Typed.Mo T24
-  s22 = Scalar.n-room T23 27 (Syntax.tyInt Syntax.w32)
+  abbrev s19 : Typed.Mo T22 → Typed.Mo T23
+  s19 = Scalar.n-room T22 26 Syntax.tyBool
 
-  abbrev s24 : Typed.Both T24 T26
-  s24 = Relend.k-back-sl (Element.type) T24 26 4 3 7 (Syntax.tyRef (Syntax.named 3) Syntax.mut Element.behind) (Syntax.tyRef Syntax.erased Syntax.mut Element.behind) Row.off (λ x. x) λ x. x
+  abbrev s20 : Typed.Asks T17 T24
+  s20 = Scalar.k-op2 T17 (Syntax.add Syntax.unsigned) (Scalar.oAt 10 (Syntax.tyInt Syntax.w64) (Row.valS (Row.sInt Syntax.w64))) (Scalar.oAt 20 (Syntax.tyInt Syntax.w64) (Row.valS (Row.sInt
+      Syntax.w64))) 21 (Rows'.sc-here (Row.sInt Syntax.w64)) (Row.sInt Syntax.w64 .of)
 
-  abbrev s26 : Typed.Both T26 T28
-  s26 = Call.callB ps·4 r·4 (claims· .8) (claims· .9) T26 tt 16 List.[] y10
-
-  abbrev s27 : Typed.Both T28 T29
-  s27 = Call.callB ps·5 r·5 (claims· .10) (claims· .11) T28 tt 17 List.[] y9
-
-  abbrev s28 : Typed.Mo T29 → Typed.Mo T30
-  s28 = Scalar.n-use T29 (Scalar.oInt Syntax.w64 0) 18 (Rows'.sc-here (Row.sInt Syntax.w64)) (Row.sInt Syntax.w64 .of)
-
-  abbrev s29 : Typed.Asks T30 T32
-  s29 = Scalar.k-op2 T30 (Syntax.lt Syntax.unsigned) (Scalar.oAt 18 (Syntax.tyInt Syntax.w64) (Row.valS (Row.sInt Syntax.w64))) (Scalar.oAt 10 (Syntax.tyInt Syntax.w64) (Row.valS (Row.sInt
-      Syntax.w64))) 28 (Rows'.sc-here Row.sBool) (Row.sBool .of)
-
-  abbrev s30 : Typed.Mo T32 → Typed.Mo T34
-  s30 = Scalar.n-room T32 28 Syntax.tyBool
-
-  abbrev s31 : Typed.Mo T32 → Typed.Mo T35
-  s31 = Scalar.n-room T32 6 y8
-
-  abbrev s32 : Typed.Mo T35 → Typed.Mo T36
-  s32 = Scalar.n-room T35 8 (Syntax.tyArray (Syntax.tyInt Syntax.w8) 36)
-
-  abbrev s33 : Typed.Mo T36 → Typed.Mo T37
-  s33 = Scalar.n-room T36 9 y0
-
-  abbrev s34 : Typed.Mo T37 → Typed.Mo T38
-  s34 = Scalar.n-room T37 12 y12
-
-  abbrev s35 : Typed.Mo T38 → Typed.Mo T39
-  s35 = Scalar.n-room T38 28 Syntax.tyBool
-
-  abbrev s37 : Typed.Gives T33 T41
-  s37 = Relend.k-sl-relend (Referent.rtF (Referent.fInt Syntax.w16)) T33 3 30 2 8 (Syntax.tyRef (Syntax.named 2) Syntax.mut (Syntax.tyInt Syntax.w16)) (Syntax.tyRef Syntax.erased Syntax.mut
+  abbrev s22 : Typed.Gives T24 T26
+  s22 = Relend.k-sl-relend (Referent.rtF (Referent.fInt Syntax.w16)) T24 3 28 2 6 (Syntax.tyRef (Syntax.named 2) Syntax.mut (Syntax.tyInt Syntax.w16)) (Syntax.tyRef Syntax.erased Syntax.mut
       (Syntax.tyInt Syntax.w16)) Row.off λ x. x
 
-  abbrev s38 : Typed.Asks T41 T42
-  s38 = Relend.k-sl-aggregate (Referent.rtF (Referent.fInt Syntax.w16)) (Relend.asMut (Referent.rtF (Referent.fInt Syntax.w16))) T41 30 31 8 (Syntax.tyRef Syntax.erased Syntax.mut (Syntax.tyInt
+  abbrev s23 : Typed.Asks T26 T27
+  s23 = Relend.k-sl-aggregate (Referent.rtF (Referent.fInt Syntax.w16)) (Relend.asMut (Referent.rtF (Referent.fInt Syntax.w16))) T26 28 29 6 (Syntax.tyRef Syntax.erased Syntax.mut (Syntax.tyInt
       Syntax.w16)) (Syntax.tyRef Syntax.erased Syntax.mut (Syntax.tyInt Syntax.w16)) (λ x. x) (Scalar.oFld 3 (List._∷_ (Syntax.field 1) List.[]) (Syntax.tyInt Syntax.w64) 8 λ v. Shared.lenV (v .0))
 
-  abbrev s39 : Typed.Asks T42 T43
-  s39 = Scalar.k-op1 T42 Syntax.bitNot (Scalar.oAt 11 Syntax.tyBool (Row.valS Row.sBool)) 28 (Rows'.sc-here Row.sBool) (Row.sBool .of)
+  abbrev s24 : Typed.Asks T27 T28
+  s24 = Scalar.k-op1 T27 Syntax.bitNot (Scalar.oAt 13 Syntax.tyBool (Row.valS Row.sBool)) 26 (Rows'.sc-here Row.sBool) (Row.sBool .of)
 
-  abbrev s40 : Typed.Both T43 T44
-  s40 = Call.callB ps·6 r·6 (claims· .12) (claims· .13) T43
-      (record { pos = 31; ty = Syntax.tyRef Syntax.erased Syntax.mut (Syntax.tyInt Syntax.w16); ref = λ x. x }, (Num.vAt 15 λ x. x, (Bool.bAt 28 λ x. x, tt))) 29 (List._∷_ 8 List.[]) Syntax.tyUnit
+  abbrev s25 : Typed.Both T28 T29
+  s25 = Call.callB ps·3 r·3 (claims· .6) (claims· .7) T28
+      (record { pos = 29; ty = Syntax.tyRef Syntax.erased Syntax.mut (Syntax.tyInt Syntax.w16); ref = λ x. x }, (Num.vAt 17 λ x. x, (Bool.bAt 26 λ x. x, tt))) 27 (List._∷_ 6 List.[]) Syntax.tyUnit
 
-  abbrev s41 : Typed.Mo T44 → Typed.Mo T45
-  s41 = Scalar.n-room T44 28 Syntax.tyBool
+  abbrev s26 : Typed.Mo T29 → Typed.Mo T30
+  s26 = Scalar.n-room T29 26 Syntax.tyBool
 
-  abbrev s42 : Typed.Mo T45 → Typed.Mo T46
-  s42 = Scalar.n-room T45 29 Syntax.tyUnit
+  abbrev s27 : Typed.Mo T30 → Typed.Mo T31
+  s27 = Scalar.n-room T30 27 Syntax.tyUnit
 
-  abbrev s44 : Typed.Both T46 T48
-  s44 = Relend.k-back-sl (Referent.rtF (Referent.fInt Syntax.w16)) T46 31 3 2 8 (Syntax.tyRef (Syntax.named 2) Syntax.mut (Syntax.tyInt Syntax.w16)) (Syntax.tyRef Syntax.erased Syntax.mut
+  abbrev s29 : Typed.Both T31 T33
+  s29 = Relend.k-back-sl (Referent.rtF (Referent.fInt Syntax.w16)) T31 29 3 2 6 (Syntax.tyRef (Syntax.named 2) Syntax.mut (Syntax.tyInt Syntax.w16)) (Syntax.tyRef Syntax.erased Syntax.mut
       (Syntax.tyInt Syntax.w16)) Row.off (λ x. x) λ x. x
 
-  abbrev s45 : Typed.Gives T48 T49
-  s45 = Know.k-sl-known (Referent.fInt Syntax.w16) T48 3 2 (Syntax.tyRef (Syntax.named 2) Syntax.mut (Syntax.tyInt Syntax.w16)) Row.off 0 λ x. x
+  abbrev s30 : Typed.Gives T33 T34
+  s30 = Know.k-sl-known (Referent.fInt Syntax.w16) T33 3 2 (Syntax.tyRef (Syntax.named 2) Syntax.mut (Syntax.tyInt Syntax.w16)) Row.off 0 λ x. x
 
-  abbrev s47 : Typed.Both T49 T51
-  s47 = Call.callB ps·2 r·2 (claims· .4) (claims· .5) T49 (record { pos = 2; ty = Syntax.tyRef (Syntax.named 1) Syntax.imm (Syntax.tyInt Syntax.w8); ref = λ x. x }, (Num.vAt 18 λ x. x, tt)) 19
+  abbrev s32 : Typed.Both T34 T36
+  s32 = Call.callB ps·4 r·4 (claims· .8) (claims· .9) T34 (record { pos = 2; ty = Syntax.tyRef (Syntax.named 1) Syntax.imm (Syntax.tyInt Syntax.w8); ref = λ x. x }, (Num.vAt 21 λ x. x, tt)) 22
       (List._∷_ 1 List.[]) (Syntax.tyInt Syntax.w32)
 
-  abbrev s49 : Typed.Gives T51 T53
-  s49 = Relend.k-sl-relend (Element.type) T51 4 32 3 9 (Syntax.tyRef (Syntax.named 3) Syntax.mut Element.behind) (Syntax.tyRef Syntax.erased Syntax.mut Element.behind) Row.off λ x. x
+  abbrev s34 : Typed.Gives T36 T38
+  s34 = Relend.k-sl-relend (Element.type) T36 4 30 3 7 (Syntax.tyRef (Syntax.named 3) Syntax.mut Element.behind) (Syntax.tyRef Syntax.erased Syntax.mut Element.behind) Row.off λ x. x
 
-  abbrev s50 : Typed.Asks T53 T54
-  s50 = Relend.k-sl-aggregate (Element.type) (Relend.asMut (Element.type)) T53 32 33 9 (Syntax.tyRef Syntax.erased Syntax.mut Element.behind) (Syntax.tyRef Syntax.erased Syntax.mut Element.behind) (λ
+  abbrev s35 : Typed.Asks T38 T39
+  s35 = Relend.k-sl-aggregate (Element.type) (Relend.asMut (Element.type)) T38 30 31 7 (Syntax.tyRef Syntax.erased Syntax.mut Element.behind) (Syntax.tyRef Syntax.erased Syntax.mut Element.behind) (λ
       x. x) (Scalar.oFld 4 (List._∷_ (Syntax.field 1) List.[]) (Syntax.tyInt Syntax.w64) 8 λ v. Shared.lenV (v .0))
 
-  abbrev s51 : Typed.Both T54 T55
-  s51 = Call.callB ps·7 r·7 (claims· .14) (claims· .15) T54 (record { pos = 2; ty = Syntax.tyRef (Syntax.named 1) Syntax.imm (Syntax.tyInt Syntax.w8); ref = λ x. x }, (Num.vAt 18 λ x. x, tt)) 28
+  abbrev s36 : Typed.Both T39 T40
+  s36 = Call.callB ps·5 r·5 (claims· .10) (claims· .11) T39 (record { pos = 2; ty = Syntax.tyRef (Syntax.named 1) Syntax.imm (Syntax.tyInt Syntax.w8); ref = λ x. x }, (Num.vAt 21 λ x. x, tt)) 26
       (List._∷_ 1 List.[]) Syntax.tyBool
 
-  abbrev s52 : Typed.Both T55 T56
-  s52 = Call.callB ps·8 r·8 (claims· .16) (claims· .17) T55
-      (record { pos = 33; ty = Syntax.tyRef Syntax.erased Syntax.mut Element.behind; ref = λ x. x }, (Num.vAt 13 λ x. x, (Num.vAt 19 λ x. x, (Bool.bAt 28 λ x. x, tt)))) 29 (List._∷_ 9 List.[])
+  abbrev s37 : Typed.Both T40 T41
+  s37 = Call.callB ps·6 r·6 (claims· .12) (claims· .13) T40
+      (record { pos = 31; ty = Syntax.tyRef Syntax.erased Syntax.mut Element.behind; ref = λ x. x }, (Num.vAt 15 λ x. x, (Num.vAt 22 λ x. x, (Bool.bAt 26 λ x. x, tt)))) 27 (List._∷_ 7 List.[])
       Syntax.tyUnit
 
-  abbrev s53 : Typed.Mo T56 → Typed.Mo T57
-  s53 = Scalar.n-room T56 28 Syntax.tyBool
+  abbrev s38 : Typed.Mo T41 → Typed.Mo T42
+  s38 = Scalar.n-room T41 26 Syntax.tyBool
 
-  abbrev s54 : Typed.Mo T57 → Typed.Mo T58
-  s54 = Scalar.n-room T57 29 Syntax.tyUnit
+  abbrev s39 : Typed.Mo T42 → Typed.Mo T43
+  s39 = Scalar.n-room T42 27 Syntax.tyUnit
 
-  abbrev s56 : Typed.Both T58 T60
-  s56 = Relend.k-back-sl (Element.type) T58 33 4 3 9 (Syntax.tyRef (Syntax.named 3) Syntax.mut Element.behind) (Syntax.tyRef Syntax.erased Syntax.mut Element.behind) Row.off (λ x. x) λ x. x
+  abbrev s41 : Typed.Both T43 T45
+  s41 = Relend.k-back-sl (Element.type) T43 31 4 3 7 (Syntax.tyRef (Syntax.named 3) Syntax.mut Element.behind) (Syntax.tyRef Syntax.erased Syntax.mut Element.behind) Row.off (λ x. x) λ x. x
 
-  abbrev s59 : Typed.Gives T60 T63
-  s59 = Relend.k-sl-relend (Referent.rtF (Referent.fInt Syntax.w16)) T60 3 34 2 10 (Syntax.tyRef (Syntax.named 2) Syntax.mut (Syntax.tyInt Syntax.w16)) (Syntax.tyRef Syntax.erased Syntax.mut
+  abbrev s44 : Typed.Gives T45 T48
+  s44 = Relend.k-sl-relend (Referent.rtF (Referent.fInt Syntax.w16)) T45 3 32 2 8 (Syntax.tyRef (Syntax.named 2) Syntax.mut (Syntax.tyInt Syntax.w16)) (Syntax.tyRef Syntax.erased Syntax.mut
       (Syntax.tyInt Syntax.w16)) Row.off λ x. x
 
-  abbrev s60 : Typed.Asks T63 T64
-  s60 = Relend.k-sl-aggregate (Referent.rtF (Referent.fInt Syntax.w16)) (Relend.asMut (Referent.rtF (Referent.fInt Syntax.w16))) T63 34 35 10 (Syntax.tyRef Syntax.erased Syntax.mut (Syntax.tyInt
+  abbrev s45 : Typed.Asks T48 T49
+  s45 = Relend.k-sl-aggregate (Referent.rtF (Referent.fInt Syntax.w16)) (Relend.asMut (Referent.rtF (Referent.fInt Syntax.w16))) T48 32 33 8 (Syntax.tyRef Syntax.erased Syntax.mut (Syntax.tyInt
       Syntax.w16)) (Syntax.tyRef Syntax.erased Syntax.mut (Syntax.tyInt Syntax.w16)) (λ x. x) (Scalar.oFld 3 (List._∷_ (Syntax.field 1) List.[]) (Syntax.tyInt Syntax.w64) 8 λ v. Shared.lenV (v .0))
 
-  abbrev s62 : Typed.Gives T64 T66
-  s62 = Relend.k-sl-relend (Element.type) T64 4 36 3 11 (Syntax.tyRef (Syntax.named 3) Syntax.mut Element.behind) (Syntax.tyRef Syntax.erased Syntax.mut Element.behind) Row.off λ x. x
+  abbrev s47 : Typed.Gives T49 T51
+  s47 = Relend.k-sl-relend (Element.type) T49 4 34 3 9 (Syntax.tyRef (Syntax.named 3) Syntax.mut Element.behind) (Syntax.tyRef Syntax.erased Syntax.mut Element.behind) Row.off λ x. x
 
-  abbrev s63 : Typed.Asks T66 T67
-  s63 = Relend.k-sl-aggregate (Element.type) (Relend.asMut (Element.type)) T66 36 37 11 (Syntax.tyRef Syntax.erased Syntax.mut Element.behind) (Syntax.tyRef Syntax.erased Syntax.mut Element.behind) (λ
+  abbrev s48 : Typed.Asks T51 T52
+  s48 = Relend.k-sl-aggregate (Element.type) (Relend.asMut (Element.type)) T51 34 35 9 (Syntax.tyRef Syntax.erased Syntax.mut Element.behind) (Syntax.tyRef Syntax.erased Syntax.mut Element.behind) (λ
       x. x) (Scalar.oFld 4 (List._∷_ (Syntax.field 1) List.[]) (Syntax.tyInt Syntax.w64) 8 λ v. Shared.lenV (v .0))
 
-  abbrev s65 : Typed.Gives T67 T69
-  s65 = Relend.k-sl-relend (Referent.rtF (Referent.fInt Syntax.w16)) T67 5 38 4 12 (Syntax.tyRef (Syntax.named 4) Syntax.mut (Syntax.tyInt Syntax.w16)) (Syntax.tyRef Syntax.erased Syntax.mut
+  abbrev s50 : Typed.Gives T52 T54
+  s50 = Relend.k-sl-relend (Referent.rtF (Referent.fInt Syntax.w16)) T52 5 36 4 10 (Syntax.tyRef (Syntax.named 4) Syntax.mut (Syntax.tyInt Syntax.w16)) (Syntax.tyRef Syntax.erased Syntax.mut
       (Syntax.tyInt Syntax.w16)) Row.off λ x. x
 
-  abbrev s66 : Typed.Asks T69 T70
-  s66 = Relend.k-sl-aggregate (Referent.rtF (Referent.fInt Syntax.w16)) (Relend.asMut (Referent.rtF (Referent.fInt Syntax.w16))) T69 38 39 12 (Syntax.tyRef Syntax.erased Syntax.mut (Syntax.tyInt
+  abbrev s51 : Typed.Asks T54 T55
+  s51 = Relend.k-sl-aggregate (Referent.rtF (Referent.fInt Syntax.w16)) (Relend.asMut (Referent.rtF (Referent.fInt Syntax.w16))) T54 36 37 10 (Syntax.tyRef Syntax.erased Syntax.mut (Syntax.tyInt
       Syntax.w16)) (Syntax.tyRef Syntax.erased Syntax.mut (Syntax.tyInt Syntax.w16)) (λ x. x) (Scalar.oFld 5 (List._∷_ (Syntax.field 1) List.[]) (Syntax.tyInt Syntax.w64) 8 λ v. Shared.lenV (v .0))
 
-  abbrev s67 : Typed.Both T70 T71
-  s67 = Call.callB ps·9 r·9 (claims· .18) (claims· .19) T70 (record { pos = 12; st = List.[]; d = 0; at = λ x. x }, (Num.vAt 13 λ x. x, (Num.vAt 19 λ x. x, tt))) 40 List.[] y2
+  abbrev s52 : Typed.Both T55 T56
+  s52 = Call.callB ps·7 r·7 (claims· .14) (claims· .15) T55 (record { pos = 14; st = List.[]; d = 0; at = λ x. x }, (Num.vAt 15 λ x. x, (Num.vAt 22 λ x. x, tt))) 38 List.[] y2
 
-  abbrev s68 : Typed.Both T71 T72
-  s68 = Call.callB ps·10 r·10 (claims· .20) (claims· .21) T71 (
+  abbrev s53 : Typed.Both T56 T57
+  s53 = Call.callB ps·8 r·8 (claims· .16) (claims· .17) T56 (
     record { pos = 1; ty = Syntax.tyRef (Syntax.named 0) Syntax.imm (Syntax.tyInt Syntax.w8); ref = λ x. x },
     (
-      record { pos = 16; st = List.[]; d = 0; at = λ x. x },
+      record { pos = 18; st = List.[]; d = 0; at = λ x. x },
       (
-        record { pos = 35; ty = Syntax.tyRef Syntax.erased Syntax.mut (Syntax.tyInt Syntax.w16); ref = λ x. x },
+        record { pos = 33; ty = Syntax.tyRef Syntax.erased Syntax.mut (Syntax.tyInt Syntax.w16); ref = λ x. x },
         (
-          record { pos = 37; ty = Syntax.tyRef Syntax.erased Syntax.mut Element.behind; ref = λ x. x },
+          record { pos = 35; ty = Syntax.tyRef Syntax.erased Syntax.mut Element.behind; ref = λ x. x },
           (
-            record { pos = 39; ty = Syntax.tyRef Syntax.erased Syntax.mut (Syntax.tyInt Syntax.w16); ref = λ x. x },
+            record { pos = 37; ty = Syntax.tyRef Syntax.erased Syntax.mut (Syntax.tyInt Syntax.w16); ref = λ x. x },
             (
               record { pos = 6; st = List.[]; d = 0; at = λ x. x },
               (
-                record { pos = 40; st = List.[]; d = 0; at = λ x. x },
+                record { pos = 38; st = List.[]; d = 0; at = λ x. x },
                 (
                   record { pos = 7; ty = Syntax.tyRef (Syntax.named 5) Syntax.imm (Syntax.tyArray (Syntax.tyInt Syntax.w16) 768); ref = λ x. x },
-                  (record { pos = 8; st = List.[]; d = 0; at = λ x. x }, (record { pos = 9; st = List.[]; d = 0; at = λ x. x }, (Num.vAt 18 λ x. x, (Bool.bAt 11 λ x. x, tt)))),
+                  (record { pos = 8; st = List.[]; d = 0; at = λ x. x }, (record { pos = 9; st = List.[]; d = 0; at = λ x. x }, (Num.vAt 21 λ x. x, (Bool.bAt 13 λ x. x, tt)))),
                 ),
               ),
             ),
@@ -2250,2311 +2170,2100 @@ module _ (claims· : Claims) where
         ),
       ),
     ),
-  ) 20 (List._∷_ 0 (List._∷_ 10
-      (List._∷_ 11 (List._∷_ 12 (List._∷_ 5 List.[]))))) (Syntax.tyEnum (List._∷_ 98 (List._∷_ 108 (List._∷_ 111 (List._∷_ 99 (List._∷_ 107 (List._∷_ 58 (List._∷_ 58 (List._∷_ 76 (List._∷_ 105 (List._∷_
+  ) 23 (List._∷_ 0 (List._∷_ 8
+      (List._∷_ 9 (List._∷_ 10 (List._∷_ 5 List.[]))))) (Syntax.tyEnum (List._∷_ 98 (List._∷_ 108 (List._∷_ 111 (List._∷_ 99 (List._∷_ 107 (List._∷_ 58 (List._∷_ 58 (List._∷_ 76 (List._∷_ 105 (List._∷_
       110 (List._∷_ 101 (List._∷_ 100 List.[])))))))))))) (Syntax.ttcons (Syntax.tcons y10 Syntax.tnil) (Syntax.ttcons Syntax.tnil Syntax.ttnil)))
 
-  abbrev s69 : Typed.Mo T72 → Typed.Mo T74
-  s69 = Scalar.n-room T72 40 y2
+  abbrev s54 : Typed.Mo T57 → Typed.Mo T59
+  s54 = Scalar.n-room T57 38 y2
 
-  abbrev s71 : Typed.Both T74 T76
-  s71 = Relend.k-back-sl (Referent.rtF (Referent.fInt Syntax.w16)) T74 35 3 2 10 (Syntax.tyRef (Syntax.named 2) Syntax.mut (Syntax.tyInt Syntax.w16)) (Syntax.tyRef Syntax.erased Syntax.mut
+  abbrev s56 : Typed.Both T59 T61
+  s56 = Relend.k-back-sl (Referent.rtF (Referent.fInt Syntax.w16)) T59 33 3 2 8 (Syntax.tyRef (Syntax.named 2) Syntax.mut (Syntax.tyInt Syntax.w16)) (Syntax.tyRef Syntax.erased Syntax.mut
       (Syntax.tyInt Syntax.w16)) Row.off (λ x. x) λ x. x
 
-  abbrev s72 : Typed.Gives T76 T77
-  s72 = Know.k-sl-known (Referent.fInt Syntax.w16) T76 3 2 (Syntax.tyRef (Syntax.named 2) Syntax.mut (Syntax.tyInt Syntax.w16)) Row.off 0 λ x. x
+  abbrev s57 : Typed.Gives T61 T62
+  s57 = Know.k-sl-known (Referent.fInt Syntax.w16) T61 3 2 (Syntax.tyRef (Syntax.named 2) Syntax.mut (Syntax.tyInt Syntax.w16)) Row.off 0 λ x. x
 
-  abbrev s75 : Typed.Both T77 T80
-  s75 = Relend.k-back-sl (Element.type) T77 37 4 3 11 (Syntax.tyRef (Syntax.named 3) Syntax.mut Element.behind) (Syntax.tyRef Syntax.erased Syntax.mut Element.behind) Row.off (λ x. x) λ x. x
+  abbrev s60 : Typed.Both T62 T65
+  s60 = Relend.k-back-sl (Element.type) T62 35 4 3 9 (Syntax.tyRef (Syntax.named 3) Syntax.mut Element.behind) (Syntax.tyRef Syntax.erased Syntax.mut Element.behind) Row.off (λ x. x) λ x. x
 
-  abbrev s78 : Typed.Both T80 T83
-  s78 = Relend.k-back-sl (Referent.rtF (Referent.fInt Syntax.w16)) T80 39 5 4 12 (Syntax.tyRef (Syntax.named 4) Syntax.mut (Syntax.tyInt Syntax.w16)) (Syntax.tyRef Syntax.erased Syntax.mut
+  abbrev s63 : Typed.Both T65 T68
+  s63 = Relend.k-back-sl (Referent.rtF (Referent.fInt Syntax.w16)) T65 37 5 4 10 (Syntax.tyRef (Syntax.named 4) Syntax.mut (Syntax.tyInt Syntax.w16)) (Syntax.tyRef Syntax.erased Syntax.mut
       (Syntax.tyInt Syntax.w16)) Row.off (λ x. x) λ x. x
 
-  abbrev s79 : Typed.Gives T83 T84
-  s79 = Know.k-sl-known (Referent.fInt Syntax.w16) T83 5 4 (Syntax.tyRef (Syntax.named 4) Syntax.mut (Syntax.tyInt Syntax.w16)) Row.off 0 λ x. x
+  abbrev s64 : Typed.Gives T68 T69
+  s64 = Know.k-sl-known (Referent.fInt Syntax.w16) T68 5 4 (Syntax.tyRef (Syntax.named 4) Syntax.mut (Syntax.tyInt Syntax.w16)) Row.off 0 λ x. x
 
-  abbrev s81 : Typed.Both T84 T86
-  s81 = Known.k-enum-known Lined.enum 0 T84 20 λ x. x
+  abbrev s66 : Typed.Both T69 T71
+  s66 = Known.k-enum-known Lined.enum 0 T69 23 λ x. x
 
-  abbrev s82 : Typed.Gives T86 T87
-  s82 = Known.k-known-told Lined.enum Laws'.the-laws 0 T86 20 λ x. x
+  abbrev s67 : Typed.Gives T71 T72
+  s67 = Known.k-known-told Lined.enum Laws'.the-laws 0 T71 23 λ x. x
 
-  abbrev s83 : Typed.Mo T87 → Typed.Mo T88
-  s83 = Scalar.n-room T87 16 y10
+  abbrev s68 : Typed.Mo T72 → Typed.Mo T73
+  s68 = Scalar.n-room T72 18 y10
 
-  abbrev s84 : Typed.Mo T88 → Typed.Mo T89
-  s84 = Make'.n-make (Declared'.row Place.the-type) T88 21 λ m. m .1 .1 .1 .1 .1 .1 .1 .1 .1 .1 .1 .1 .1 .1 .1 .1 .1 .1 .1 .1 .0 .0
+  abbrev s69 : Typed.Mo T73 → Typed.Mo T74
+  s69 = Make'.n-make (Declared'.row Place.the-type) T73 24 λ m. m .1 .1 .1 .1 .1 .1 .1 .1 .1 .1 .1 .1 .1 .1 .1 .1 .1 .1 .1 .1 .1 .1 .1 .0 .0
 
-  abbrev s85 : Typed.Mo T89 → Typed.Mo T90
-  s85 = Scalar.n-room T89 20 (Syntax.tyEnum (List._∷_ 98 (List._∷_ 108 (List._∷_ 111 (List._∷_ 99 (List._∷_ 107 (List._∷_ 58 (List._∷_ 58 (List._∷_ 76 (List._∷_ 105 (List._∷_ 110 (List._∷_ 101
+  abbrev s70 : Typed.Mo T74 → Typed.Mo T75
+  s70 = Scalar.n-room T74 23 (Syntax.tyEnum (List._∷_ 98 (List._∷_ 108 (List._∷_ 111 (List._∷_ 99 (List._∷_ 107 (List._∷_ 58 (List._∷_ 58 (List._∷_ 76 (List._∷_ 105 (List._∷_ 110 (List._∷_ 101
       (List._∷_ 100 List.[])))))))))))) (Syntax.ttcons (Syntax.tcons y10 Syntax.tnil) (Syntax.ttcons Syntax.tnil Syntax.ttnil)))
 
-  abbrev s86 : Typed.Both T84 T91
-  s86 = Known.k-enum-told Lined.enum 1 T84 20 λ x. x
+  abbrev s71 : Typed.Both T69 T76
+  s71 = Known.k-enum-told Lined.enum 1 T69 23 λ x. x
 
-  abbrev s87 : Typed.Mo T91 → Typed.Mo T92
-  s87 = Scalar.n-room T91 6 y8
+  abbrev s72 : Typed.Mo T76 → Typed.Mo T77
+  s72 = Scalar.n-room T76 6 y8
+
+  abbrev s73 : Typed.Mo T77 → Typed.Mo T78
+  s73 = Scalar.n-room T77 8 (Syntax.tyArray (Syntax.tyInt Syntax.w8) 36)
+
+  abbrev s74 : Typed.Mo T78 → Typed.Mo T79
+  s74 = Scalar.n-room T78 14 y12
+
+  abbrev s75 : Typed.Mo T79 → Typed.Mo T80
+  s75 = Scalar.n-room T79 19 y9
+
+  abbrev s76 : Typed.Mo T80 → Typed.Mo T81
+  s76 = Scalar.n-room T80 23 (Syntax.tyEnum (List._∷_ 98 (List._∷_ 108 (List._∷_ 111 (List._∷_ 99 (List._∷_ 107 (List._∷_ 58 (List._∷_ 58 (List._∷_ 76 (List._∷_ 105 (List._∷_ 110 (List._∷_ 101
+      (List._∷_ 100 List.[])))))))))))) (Syntax.ttcons (Syntax.tcons y10 Syntax.tnil) (Syntax.ttcons Syntax.tnil Syntax.ttnil)))
+
+  abbrev s78 : Typed.Gives T81 T83
+  s78 = Relend.k-sl-relend (Referent.rtF (Referent.fInt Syntax.w16)) T81 5 40 4 11 (Syntax.tyRef (Syntax.named 4) Syntax.mut (Syntax.tyInt Syntax.w16)) (Syntax.tyRef Syntax.erased Syntax.mut
+      (Syntax.tyInt Syntax.w16)) Row.off λ x. x
+
+  abbrev s79 : Typed.Asks T83 T84
+  s79 = Relend.k-sl-aggregate (Referent.rtF (Referent.fInt Syntax.w16)) (Relend.asMut (Referent.rtF (Referent.fInt Syntax.w16))) T83 40 41 11 (Syntax.tyRef Syntax.erased Syntax.mut (Syntax.tyInt
+      Syntax.w16)) (Syntax.tyRef Syntax.erased Syntax.mut (Syntax.tyInt Syntax.w16)) (λ x. x) (Scalar.oFld 5 (List._∷_ (Syntax.field 1) List.[]) (Syntax.tyInt Syntax.w64) 8 λ v. Shared.lenV (v .0))
+
+  abbrev s80 : Typed.Both T84 T85
+  s80 = Call.callB ps·9 r·9 (claims· .18) (claims· .19) T84 (
+    record { pos = 41; ty = Syntax.tyRef Syntax.erased Syntax.mut (Syntax.tyInt Syntax.w16); ref = λ x. x },
+    (record { pos = 9; st = List.[]; d = 0; at = λ x. x }, (Num.vAt 21 λ x. x, (Bool.bAt 13 λ x. x, tt))),
+  ) 39 (List._∷_ 11 List.[]) Syntax.tyUnit
+
+  abbrev s81 : Typed.Mo T85 → Typed.Mo T86
+  s81 = Scalar.n-room T85 9 y0
+
+  abbrev s82 : Typed.Mo T86 → Typed.Mo T87
+  s82 = Scalar.n-room T86 39 Syntax.tyUnit
+
+  abbrev s84 : Typed.Both T87 T89
+  s84 = Relend.k-back-sl (Referent.rtF (Referent.fInt Syntax.w16)) T87 41 5 4 11 (Syntax.tyRef (Syntax.named 4) Syntax.mut (Syntax.tyInt Syntax.w16)) (Syntax.tyRef Syntax.erased Syntax.mut
+      (Syntax.tyInt Syntax.w16)) Row.off (λ x. x) λ x. x
+
+  abbrev s85 : Typed.Gives T89 T90
+  s85 = Know.k-sl-known (Referent.fInt Syntax.w16) T89 5 4 (Syntax.tyRef (Syntax.named 4) Syntax.mut (Syntax.tyInt Syntax.w16)) Row.off 0 λ x. x
+
+  abbrev s87 : Typed.Both T90 T92
+  s87 = Call.callB ps·1 r·1 (claims· .2) (claims· .3) T90 (record { pos = 18; st = List.[]; d = 0; at = λ x. x }, tt) 42 List.[] y3
 
   abbrev s88 : Typed.Mo T92 → Typed.Mo T93
-  s88 = Scalar.n-room T92 8 (Syntax.tyArray (Syntax.tyInt Syntax.w8) 36)
+  s88 = Scalar.n-room T92 18 y10
 
   abbrev s89 : Typed.Mo T93 → Typed.Mo T94
-  s89 = Scalar.n-room T93 12 y12
-
-  abbrev s90 : Typed.Mo T94 → Typed.Mo T95
-  s90 = Scalar.n-room T94 17 y9
-
-  abbrev s91 : Typed.Mo T95 → Typed.Mo T96
-  s91 = Scalar.n-room T95 20 (Syntax.tyEnum (List._∷_ 98 (List._∷_ 108 (List._∷_ 111 (List._∷_ 99 (List._∷_ 107 (List._∷_ 58 (List._∷_ 58 (List._∷_ 76 (List._∷_ 105 (List._∷_ 110 (List._∷_ 101
-      (List._∷_ 100 List.[])))))))))))) (Syntax.ttcons (Syntax.tcons y10 Syntax.tnil) (Syntax.ttcons Syntax.tnil Syntax.ttnil)))
-
-  abbrev s93 : Typed.Gives T96 T98
-  s93 = Relend.k-sl-relend (Referent.rtF (Referent.fInt Syntax.w16)) T96 5 42 4 13 (Syntax.tyRef (Syntax.named 4) Syntax.mut (Syntax.tyInt Syntax.w16)) (Syntax.tyRef Syntax.erased Syntax.mut
-      (Syntax.tyInt Syntax.w16)) Row.off λ x. x
-
-  abbrev s94 : Typed.Asks T98 T99
-  s94 = Relend.k-sl-aggregate (Referent.rtF (Referent.fInt Syntax.w16)) (Relend.asMut (Referent.rtF (Referent.fInt Syntax.w16))) T98 42 43 13 (Syntax.tyRef Syntax.erased Syntax.mut (Syntax.tyInt
-      Syntax.w16)) (Syntax.tyRef Syntax.erased Syntax.mut (Syntax.tyInt Syntax.w16)) (λ x. x) (Scalar.oFld 5 (List._∷_ (Syntax.field 1) List.[]) (Syntax.tyInt Syntax.w64) 8 λ v. Shared.lenV (v .0))
-
-  abbrev s95 : Typed.Both T99 T100
-  s95 = Call.callB ps·11 r·11 (claims· .22) (claims· .23) T99 (
-    record { pos = 43; ty = Syntax.tyRef Syntax.erased Syntax.mut (Syntax.tyInt Syntax.w16); ref = λ x. x },
-    (record { pos = 9; st = List.[]; d = 0; at = λ x. x }, (Num.vAt 18 λ x. x, (Bool.bAt 11 λ x. x, tt))),
-  ) 41 (List._∷_ 13 List.[]) Syntax.tyUnit
-
-  abbrev s96 : Typed.Mo T100 → Typed.Mo T101
-  s96 = Scalar.n-room T100 9 y0
-
-  abbrev s97 : Typed.Mo T101 → Typed.Mo T102
-  s97 = Scalar.n-room T101 41 Syntax.tyUnit
-
-  abbrev s99 : Typed.Both T102 T104
-  s99 = Relend.k-back-sl (Referent.rtF (Referent.fInt Syntax.w16)) T102 43 5 4 13 (Syntax.tyRef (Syntax.named 4) Syntax.mut (Syntax.tyInt Syntax.w16)) (Syntax.tyRef Syntax.erased Syntax.mut
-      (Syntax.tyInt Syntax.w16)) Row.off (λ x. x) λ x. x
-
-  abbrev s100 : Typed.Gives T104 T105
-  s100 = Know.k-sl-known (Referent.fInt Syntax.w16) T104 5 4 (Syntax.tyRef (Syntax.named 4) Syntax.mut (Syntax.tyInt Syntax.w16)) Row.off 0 λ x. x
-
-  abbrev s102 : Typed.Both T105 T107
-  s102 = Call.callB ps·12 r·12 (claims· .24) (claims· .25) T105 (record { pos = 16; st = List.[]; d = 0; at = λ x. x }, tt) 44 List.[] y3
-
-  abbrev s103 : Typed.Mo T107 → Typed.Mo T108
-  s103 = Scalar.n-room T107 16 y10
-
-  abbrev s104 : Typed.Mo T108 → Typed.Mo T109
-  s104 = Make.n-enum-make Walked.the-type T108 0 λ m. Walked.enum .make (Logic.inr (Logic.inl (
-    m .1 .1 .1 .1 .1 .1 .1 .1 .1 .1 .1 .1 .1 .1 .1 .1 .1 .1 .0,
-    (m .1 .1 .1 .1 .1 .1 .1 .1 .1 .1 .1 .1 .1 .1 .1 .1 .1 .1 .1 .1 .1 .1 .1 .1 .1 .1 .1 .1 .1 .1 .1 .1 .1 .1 .1 .1 .1 .1 .1 .1 .1 .1 .1 .1 .0, tt),
+  s89 = Make.n-enum-make Walked.the-type T93 0 λ m. Walked.enum .make (Logic.inr (Logic.inl (
+    m .1 .1 .1 .1 .1 .1 .1 .1 .1 .1 .1 .1 .1 .1 .1 .1 .1 .1 .1 .1 .1 .0,
+    (m .1 .1 .1 .1 .1 .1 .1 .1 .1 .1 .1 .1 .1 .1 .1 .1 .1 .1 .1 .1 .1 .1 .1 .1 .1 .1 .1 .1 .1 .1 .1 .1 .1 .1 .1 .1 .1 .1 .1 .1 .1 .1 .0, tt),
   )))
 
-  abbrev s105 : Typed.Mo T109 → Typed.Mo T110
-  s105 = Scalar.n-room T109 44 y3
+  abbrev s90 : Typed.Mo T94 → Typed.Mo T95
+  s90 = Scalar.n-room T94 42 y3
 
-  abbrev s106 : Typed.Mo T110 → Typed.Mo T111
-  s106 = Scalar.n-room T110 10 (Syntax.tyInt Syntax.w64)
+  abbrev s91 : Typed.Mo T95 → Typed.Mo T96
+  s91 = Scalar.n-room T95 10 (Syntax.tyInt Syntax.w64)
 
-  abbrev s107 : Typed.Mo T111 → Typed.Mo T112
-  s107 = Scalar.n-room T111 11 Syntax.tyBool
+  abbrev s92 : Typed.Mo T96 → Typed.Mo T97
+  s92 = Scalar.n-room T96 12 (Syntax.tyInt Syntax.w64)
 
-  abbrev s108 : Typed.Mo T112 → Typed.Mo T113
-  s108 = Scalar.n-room T112 13 (Syntax.tyInt Syntax.w32)
+  abbrev s93 : Typed.Mo T97 → Typed.Mo T98
+  s93 = Scalar.n-room T97 13 Syntax.tyBool
 
-  abbrev s109 : Typed.Mo T113 → Typed.Mo T114
-  s109 = Scalar.n-room T113 14 Syntax.tyBool
+  abbrev s94 : Typed.Mo T98 → Typed.Mo T99
+  s94 = Scalar.n-room T98 15 (Syntax.tyInt Syntax.w32)
 
-  abbrev s110 : Typed.Mo T114 → Typed.Mo T115
-  s110 = Scalar.n-room T114 15 (Syntax.tyInt Syntax.w64)
+  abbrev s95 : Typed.Mo T99 → Typed.Mo T100
+  s95 = Scalar.n-room T99 16 Syntax.tyBool
 
-  abbrev s111 : Typed.Mo T115 → Typed.Mo T116
-  s111 = Scalar.n-room T115 18 (Syntax.tyInt Syntax.w64)
+  abbrev s96 : Typed.Mo T100 → Typed.Mo T101
+  s96 = Scalar.n-room T100 17 (Syntax.tyInt Syntax.w64)
 
-  abbrev s112 : Typed.Mo T116 → Typed.Mo T117
-  s112 = Scalar.n-room T116 19 (Syntax.tyInt Syntax.w32)
+  abbrev s97 : Typed.Mo T101 → Typed.Mo T102
+  s97 = Scalar.n-room T101 20 (Syntax.tyInt Syntax.w64)
 
-  abbrev s113 : Typed.Mo T73 → Typed.Mo T118
-  s113 = LocalCopy.n-val-copy T73 21 16 (Declared'.row Place.the-type) (Rows'.whole (Declared'.row Place.the-type)) (Rows'.whole (Declared'.row Place.the-type)) (λ x. x) (λ x. x) λ x. x
+  abbrev s98 : Typed.Mo T102 → Typed.Mo T103
+  s98 = Scalar.n-room T102 21 (Syntax.tyInt Syntax.w64)
 
-  abbrev s114 : Typed.Mo T118 → Typed.Mo T119
-  s114 = Scalar.n-room T118 21 y10
+  abbrev s99 : Typed.Mo T103 → Typed.Mo T104
+  s99 = Scalar.n-room T103 22 (Syntax.tyInt Syntax.w32)
 
-  abbrev s115 : Typed.Both T119 T120
-  s115 = Call.callB ps·12 r·12 (claims· .24) (claims· .25) T119 (record { pos = 16; st = List.[]; d = 0; at = λ x. x }, tt) 45 List.[] y3
+  abbrev s100 : Typed.Mo T58 → Typed.Mo T105
+  s100 = LocalCopy.n-val-copy T58 24 18 (Declared'.row Place.the-type) (Rows'.whole (Declared'.row Place.the-type)) (Rows'.whole (Declared'.row Place.the-type)) (λ x. x) (λ x. x) λ x. x
 
-  abbrev s116 : Typed.Both T120 T121
-  s116 = Call.callB ps·13 r·13 (claims· .26) (claims· .27) T120 (
-    record { pos = 17; st = List.[]; d = 0; at = λ x. x },
-    (Num.vAt 18 λ x. x, (Bool.bFld 16 (List._∷_ (Syntax.field 1) List.[]) 8 λ x. Place.struct .as-values x .1 .0, (record { pos = 45; st = List.[]; d = 0; at = λ x. x }, tt))),
-  ) 17 List.[] y9
+  abbrev s101 : Typed.Mo T105 → Typed.Mo T106
+  s101 = Scalar.n-room T105 24 y10
 
-  abbrev s117 : Typed.Mo T121 → Typed.Mo T122
-  s117 = Scalar.n-room T121 45 y3
+  abbrev s102 : Typed.Both T106 T107
+  s102 = Call.callB ps·1 r·1 (claims· .2) (claims· .3) T106 (record { pos = 18; st = List.[]; d = 0; at = λ x. x }, tt) 43 List.[] y3
 
-  abbrev s119 : Typed.Gives T122 T124
-  s119 = Reshare.k-sl-reshare (Referent.rtF (Referent.fInt Syntax.w16)) T122 3 46 2 14 (Syntax.tyRef (Syntax.named 2) Syntax.mut (Syntax.tyInt Syntax.w16)) (Syntax.tyRef Syntax.erased Syntax.imm
+  abbrev s103 : Typed.Both T107 T108
+  s103 = Call.callB ps·10 r·10 (claims· .20) (claims· .21) T107 (
+    record { pos = 19; st = List.[]; d = 0; at = λ x. x },
+    (Num.vAt 20 λ x. x, (Bool.bFld 18 (List._∷_ (Syntax.field 1) List.[]) 8 λ x. Place.struct .as-values x .1 .0, (record { pos = 43; st = List.[]; d = 0; at = λ x. x }, tt))),
+  ) 19 List.[] y9
+
+  abbrev s104 : Typed.Mo T108 → Typed.Mo T109
+  s104 = Scalar.n-room T108 43 y3
+
+  abbrev s106 : Typed.Gives T109 T111
+  s106 = Reshare.k-sl-reshare (Referent.rtF (Referent.fInt Syntax.w16)) T109 3 44 2 12 (Syntax.tyRef (Syntax.named 2) Syntax.mut (Syntax.tyInt Syntax.w16)) (Syntax.tyRef Syntax.erased Syntax.imm
       (Syntax.tyInt Syntax.w16)) Row.off λ x. x
 
-  abbrev s120 : Typed.Asks T124 T125
-  s120 = Relend.k-sl-aggregate (Referent.rtF (Referent.fInt Syntax.w16)) (Relend.asShr (Referent.rtF (Referent.fInt Syntax.w16))) T124 46 47 14 (Syntax.tyRef Syntax.erased Syntax.imm (Syntax.tyInt
+  abbrev s107 : Typed.Asks T111 T112
+  s107 = Relend.k-sl-aggregate (Referent.rtF (Referent.fInt Syntax.w16)) (Relend.asShr (Referent.rtF (Referent.fInt Syntax.w16))) T111 44 45 12 (Syntax.tyRef Syntax.erased Syntax.imm (Syntax.tyInt
       Syntax.w16)) (Syntax.tyRef Syntax.erased Syntax.imm (Syntax.tyInt Syntax.w16)) (λ x. x) (Scalar.oFld 3 (List._∷_ (Syntax.field 1) List.[]) (Syntax.tyInt Syntax.w64) 8 λ v. Shared.lenV (v .0))
 
-  abbrev s122 : Typed.Gives T125 T127
-  s122 = Relend.k-sl-relend (Referent.rtF (Referent.fInt Syntax.w16)) T125 5 48 4 15 (Syntax.tyRef (Syntax.named 4) Syntax.mut (Syntax.tyInt Syntax.w16)) (Syntax.tyRef Syntax.erased Syntax.mut
+  abbrev s109 : Typed.Gives T112 T114
+  s109 = Relend.k-sl-relend (Referent.rtF (Referent.fInt Syntax.w16)) T112 5 46 4 13 (Syntax.tyRef (Syntax.named 4) Syntax.mut (Syntax.tyInt Syntax.w16)) (Syntax.tyRef Syntax.erased Syntax.mut
       (Syntax.tyInt Syntax.w16)) Row.off λ x. x
 
-  abbrev s123 : Typed.Asks T127 T128
-  s123 = Relend.k-sl-aggregate (Referent.rtF (Referent.fInt Syntax.w16)) (Relend.asMut (Referent.rtF (Referent.fInt Syntax.w16))) T127 48 49 15 (Syntax.tyRef Syntax.erased Syntax.mut (Syntax.tyInt
+  abbrev s110 : Typed.Asks T114 T115
+  s110 = Relend.k-sl-aggregate (Referent.rtF (Referent.fInt Syntax.w16)) (Relend.asMut (Referent.rtF (Referent.fInt Syntax.w16))) T114 46 47 13 (Syntax.tyRef Syntax.erased Syntax.mut (Syntax.tyInt
       Syntax.w16)) (Syntax.tyRef Syntax.erased Syntax.mut (Syntax.tyInt Syntax.w16)) (λ x. x) (Scalar.oFld 5 (List._∷_ (Syntax.field 1) List.[]) (Syntax.tyInt Syntax.w64) 8 λ v. Shared.lenV (v .0))
 
-  abbrev s124 : Typed.Asks T128 T129
-  s124 = Scalar.k-op1 T128 Syntax.bitNot (Scalar.oAt 11 Syntax.tyBool (Row.valS Row.sBool)) 28 (Rows'.sc-here Row.sBool) (Row.sBool .of)
+  abbrev s111 : Typed.Asks T115 T116
+  s111 = Scalar.k-op1 T115 Syntax.bitNot (Scalar.oAt 13 Syntax.tyBool (Row.valS Row.sBool)) 26 (Rows'.sc-here Row.sBool) (Row.sBool .of)
 
-  abbrev s125 : Typed.Both T129 T130
-  s125 = Call.callB ps·14 r·14 (claims· .28) (claims· .29) T129 (
-    record { pos = 47; ty = Syntax.tyRef Syntax.erased Syntax.imm (Syntax.tyInt Syntax.w16); ref = λ x. x },
+  abbrev s112 : Typed.Both T116 T117
+  s112 = Call.callB ps·11 r·11 (claims· .22) (claims· .23) T116 (
+    record { pos = 45; ty = Syntax.tyRef Syntax.erased Syntax.imm (Syntax.tyInt Syntax.w16); ref = λ x. x },
     (
-      record { pos = 49; ty = Syntax.tyRef Syntax.erased Syntax.mut (Syntax.tyInt Syntax.w16); ref = λ x. x },
+      record { pos = 47; ty = Syntax.tyRef Syntax.erased Syntax.mut (Syntax.tyInt Syntax.w16); ref = λ x. x },
       (
-        Num.vAt 15 λ x. x,
+        Num.vAt 17 λ x. x,
         (
-          Bool.bAt 14 λ x. x,
+          Bool.bAt 16 λ x. x,
           (
             record { pos = 7; ty = Syntax.tyRef (Syntax.named 5) Syntax.imm (Syntax.tyArray (Syntax.tyInt Syntax.w16) 768); ref = λ x. x },
-            (record { pos = 8; st = List.[]; d = 0; at = λ x. x }, (record { pos = 9; st = List.[]; d = 0; at = λ x. x }, (Num.vAt 18 λ x. x, (Bool.bAt 28 λ x. x, tt)))),
+            (record { pos = 8; st = List.[]; d = 0; at = λ x. x }, (record { pos = 9; st = List.[]; d = 0; at = λ x. x }, (Num.vAt 21 λ x. x, (Bool.bAt 26 λ x. x, tt)))),
           ),
         ),
       ),
     ),
-  ) 29 (List._∷_ 14 (List._∷_ 15
+  ) 27 (List._∷_ 12 (List._∷_ 13
       (List._∷_ 5 List.[]))) Syntax.tyUnit
 
-  abbrev s126 : Typed.Mo T130 → Typed.Mo T131
-  s126 = Scalar.n-room T130 47 y4
+  abbrev s113 : Typed.Mo T117 → Typed.Mo T118
+  s113 = Scalar.n-room T117 45 y4
 
-  abbrev s127 : Typed.Mo T131 → Typed.Mo T132
-  s127 = Scalar.n-room T131 28 Syntax.tyBool
+  abbrev s114 : Typed.Mo T118 → Typed.Mo T119
+  s114 = Scalar.n-room T118 26 Syntax.tyBool
 
-  abbrev s128 : Typed.Mo T132 → Typed.Mo T133
-  s128 = Scalar.n-room T132 29 Syntax.tyUnit
+  abbrev s115 : Typed.Mo T119 → Typed.Mo T120
+  s115 = Scalar.n-room T119 27 Syntax.tyUnit
 
-  abbrev s130 : Typed.Mo T133 → Typed.Mo T135
-  s130 = Reshare.n-back-sl-shr (Referent.rtF (Referent.fInt Syntax.w16)) T133 3 2 14 (Syntax.tyRef (Syntax.named 2) Syntax.mut (Syntax.tyInt Syntax.w16)) Row.off λ x. x
+  abbrev s117 : Typed.Mo T120 → Typed.Mo T122
+  s117 = Reshare.n-back-sl-shr (Referent.rtF (Referent.fInt Syntax.w16)) T120 3 2 12 (Syntax.tyRef (Syntax.named 2) Syntax.mut (Syntax.tyInt Syntax.w16)) Row.off λ x. x
 
-  abbrev s133 : Typed.Both T135 T138
-  s133 = Relend.k-back-sl (Referent.rtF (Referent.fInt Syntax.w16)) T135 49 5 4 15 (Syntax.tyRef (Syntax.named 4) Syntax.mut (Syntax.tyInt Syntax.w16)) (Syntax.tyRef Syntax.erased Syntax.mut
+  abbrev s120 : Typed.Both T122 T125
+  s120 = Relend.k-back-sl (Referent.rtF (Referent.fInt Syntax.w16)) T122 47 5 4 13 (Syntax.tyRef (Syntax.named 4) Syntax.mut (Syntax.tyInt Syntax.w16)) (Syntax.tyRef Syntax.erased Syntax.mut
       (Syntax.tyInt Syntax.w16)) Row.off (λ x. x) λ x. x
 
-  abbrev s134 : Typed.Gives T138 T139
-  s134 = Know.k-sl-known (Referent.fInt Syntax.w16) T138 5 4 (Syntax.tyRef (Syntax.named 4) Syntax.mut (Syntax.tyInt Syntax.w16)) Row.off 0 λ x. x
+  abbrev s121 : Typed.Gives T125 T126
+  s121 = Know.k-sl-known (Referent.fInt Syntax.w16) T125 5 4 (Syntax.tyRef (Syntax.named 4) Syntax.mut (Syntax.tyInt Syntax.w16)) Row.off 0 λ x. x
 
-  abbrev s136 : Typed.Asks T139 T141
-  s136 = Scalar.k-op2 T139 (Syntax.add Syntax.unsigned) (Scalar.oAt 18 (Syntax.tyInt Syntax.w64) (Row.valS (Row.sInt Syntax.w64))) (Scalar.oInt Syntax.w64 1) 18 (Rows'.sc-here (Row.sInt Syntax.w64))
+  abbrev s123 : Typed.Asks T126 T128
+  s123 = Scalar.k-op2 T126 (Syntax.add Syntax.unsigned) (Scalar.oAt 20 (Syntax.tyInt Syntax.w64) (Row.valS (Row.sInt Syntax.w64))) (Scalar.oInt Syntax.w64 1) 20 (Rows'.sc-here (Row.sInt Syntax.w64))
       (Row.sInt Syntax.w64 .of)
 
+  abbrev s124 : Typed.Mo T128 → Typed.Mo T129
+  s124 = Scalar.n-room T128 21 (Syntax.tyInt Syntax.w64)
+
+  abbrev s125 : Typed.Mo T129 → Typed.Mo T130
+  s125 = Scalar.n-room T129 22 (Syntax.tyInt Syntax.w32)
+
+  abbrev s126 : Typed.Both T15 T131
+  s126 = Call.callB ps·1 r·1 (claims· .2) (claims· .3) T15 (record { pos = 18; st = List.[]; d = 0; at = λ x. x }, tt) 25 List.[] y3
+
+  abbrev s127 : Typed.Mo T131 → Typed.Mo T132
+  s127 = Scalar.n-room T131 18 y10
+
+  abbrev s128 : Typed.Mo T132 → Typed.Mo T133
+  s128 = Make.n-enum-make Walked.the-type T132 0 λ m. Walked.enum .make (Logic.inl
+      (m .1 .1 .1 .1 .1 .1 .1 .1 .1 .1 .1 .1 .1 .1 .1 .1 .1 .1 .1 .1 .1 .1 .1 .1 .1 .0, (m .1 .1 .1 .1 .1 .1 .1 .1 .1 .1 .1 .1 .1 .1 .1 .1 .1 .1 .1 .0, tt)))
+
+  abbrev s129 : Typed.Mo T133 → Typed.Mo T134
+  s129 = Scalar.n-room T133 15 (Syntax.tyInt Syntax.w32)
+
+  abbrev s130 : Typed.Mo T134 → Typed.Mo T135
+  s130 = Scalar.n-room T134 16 Syntax.tyBool
+
+  abbrev s131 : Typed.Mo T135 → Typed.Mo T136
+  s131 = Scalar.n-room T135 17 (Syntax.tyInt Syntax.w64)
+
+  abbrev s132 : Typed.Mo T136 → Typed.Mo T137
+  s132 = Scalar.n-room T136 19 y9
+
+  abbrev s133 : Typed.Mo T137 → Typed.Mo T138
+  s133 = Scalar.n-room T137 20 (Syntax.tyInt Syntax.w64)
+
+  abbrev s134 : Typed.Mo T138 → Typed.Mo T139
+  s134 = Scalar.n-room T138 25 y3
+
+  abbrev s135 : Typed.Mo T139 → Typed.Mo T140
+  s135 = Scalar.n-room T139 10 (Syntax.tyInt Syntax.w64)
+
+  abbrev s136 : Typed.Mo T140 → Typed.Mo T141
+  s136 = Scalar.n-room T140 12 (Syntax.tyInt Syntax.w64)
+
   abbrev s137 : Typed.Mo T141 → Typed.Mo T142
-  s137 = Scalar.n-room T141 19 (Syntax.tyInt Syntax.w32)
-
-  abbrev s138 : Typed.Both T31 T143
-  s138 = Call.callB ps·12 r·12 (claims· .24) (claims· .25) T31 (record { pos = 16; st = List.[]; d = 0; at = λ x. x }, tt) 50 List.[] y3
-
-  abbrev s139 : Typed.Mo T143 → Typed.Mo T144
-  s139 = Scalar.n-room T143 16 y10
-
-  abbrev s140 : Typed.Mo T144 → Typed.Mo T145
-  s140 = Make.n-enum-make Walked.the-type T144 0 λ m. Walked.enum .make (Logic.inl (
-    m .1 .1 .1 .1 .1 .1 .1 .1 .1 .1 .1 .1 .1 .1 .1 .1 .1 .1 .1 .1 .1 .1 .1 .1 .1 .1 .1 .1 .1 .1 .1 .1 .1 .1 .1 .1 .1 .1 .1 .1 .1 .1 .1 .1 .1 .1 .1 .1 .1 .1 .0,
-    (m .1 .1 .1 .1 .1 .1 .1 .1 .1 .1 .1 .1 .1 .1 .1 .1 .1 .0, tt),
-  ))
-
-  abbrev s141 : Typed.Mo T145 → Typed.Mo T146
-  s141 = Scalar.n-room T145 13 (Syntax.tyInt Syntax.w32)
-
-  abbrev s142 : Typed.Mo T146 → Typed.Mo T147
-  s142 = Scalar.n-room T146 14 Syntax.tyBool
-
-  abbrev s143 : Typed.Mo T147 → Typed.Mo T148
-  s143 = Scalar.n-room T147 15 (Syntax.tyInt Syntax.w64)
-
-  abbrev s144 : Typed.Mo T148 → Typed.Mo T149
-  s144 = Scalar.n-room T148 17 y9
-
-  abbrev s145 : Typed.Mo T149 → Typed.Mo T150
-  s145 = Scalar.n-room T149 18 (Syntax.tyInt Syntax.w64)
-
-  abbrev s146 : Typed.Mo T150 → Typed.Mo T151
-  s146 = Scalar.n-room T150 50 y3
-
-  abbrev s147 : Typed.Mo T151 → Typed.Mo T152
-  s147 = Scalar.n-room T151 10 (Syntax.tyInt Syntax.w64)
-
-  abbrev s148 : Typed.Mo T152 → Typed.Mo T153
-  s148 = Scalar.n-room T152 11 Syntax.tyBool
+  s137 = Scalar.n-room T141 13 Syntax.tyBool
 
   abbrev put0 : List.List (Referent.rtF (Referent.fInt Syntax.w16) .Denot) × List.List (Element.type .Denot) × List.List (Referent.rtF (Referent.fInt Syntax.w16) .Denot) × Rows'.whole (Declared'.row
-      Place.the-type) .Mod × Rows'.whole (Declared'.row TightLines.the-type) .Mod × Rows'.sc-here (Row.sInt Syntax.w64) .Mod → Typed.Mo T30 → Typed.Mo T30
-  put0 = λ vs u. Row.set 18 (18, Rows'.sc-here (Row.sInt Syntax.w64)) (vs .5) (T30 .locals) (Row.set 17 (17, Rows'.whole (Declared'.row TightLines.the-type)) (vs .4) (T30 .locals) (Row.set 16
-      (16, Rows'.whole (Declared'.row Place.the-type)) (vs .3) (T30 .locals) (Row.set 5
+      Place.the-type) .Mod × Rows'.whole (Declared'.row TightLines.the-type) .Mod × Rows'.sc-here (Row.sInt Syntax.w64) .Mod → Typed.Mo T14 → Typed.Mo T14
+  put0 = λ vs u. Row.set 20 (20, Rows'.sc-here (Row.sInt Syntax.w64)) (vs .5) (T14 .locals) (Row.set 19 (19, Rows'.whole (Declared'.row TightLines.the-type)) (vs .4) (T14 .locals) (Row.set 18
+      (18, Rows'.whole (Declared'.row Place.the-type)) (vs .3) (T14 .locals) (Row.set 5
       (5, Mut.mslice (Referent.rtF (Referent.fInt Syntax.w16)) (Syntax.tyRef (Syntax.named 4) Syntax.mut (Syntax.tyInt Syntax.w16)) 4) record
-      { ptr = Row.get 5 (T30 .locals) u .ptr; name = Row.get 5 (T30 .locals) u .name; now = vs .2 } (T30 .locals) (Row.set 4
-      (4, Mut.mslice (Element.type) (Syntax.tyRef (Syntax.named 3) Syntax.mut Element.behind) 3) record { ptr = Row.get 4 (T30 .locals) u .ptr; name = Row.get 4 (T30 .locals) u .name; now = vs .1 } (T30
+      { ptr = Row.get 5 (T14 .locals) u .ptr; name = Row.get 5 (T14 .locals) u .name; now = vs .2 } (T14 .locals) (Row.set 4
+      (4, Mut.mslice (Element.type) (Syntax.tyRef (Syntax.named 3) Syntax.mut Element.behind) 3) record { ptr = Row.get 4 (T14 .locals) u .ptr; name = Row.get 4 (T14 .locals) u .name; now = vs .1 } (T14
       .locals) (Row.set 3 (3, Mut.mslice (Referent.rtF (Referent.fInt Syntax.w16)) (Syntax.tyRef (Syntax.named 2) Syntax.mut (Syntax.tyInt Syntax.w16)) 2) record
-      { ptr = Row.get 3 (T30 .locals) u .ptr; name = Row.get 3 (T30 .locals) u .name; now = vs .0 } (T30 .locals) u)))))
+      { ptr = Row.get 3 (T14 .locals) u .ptr; name = Row.get 3 (T14 .locals) u .name; now = vs .0 } (T14 .locals) u)))))
 
   module _ (Pre· : (κs : Lifetimes.Lfts 6) → Kinds.Dens κs ps → Type 0) (Post· : (κs : Lifetimes.Lfts 6) → (a : Kinds.Dens κs ps) → Kinds.Plain 6 ps r κs) where
     module _ (M : Type 1) where
       abbrev pub Closed : Type 2
       Closed = (𝓤 : URA.URA M) (H : Wp.Heap 𝓤) (A : Atoms.Atoms 𝓤) (W : Kit.Given 𝓤 H A) (𝓣 : Wp.Tables 𝓤 H) (known0 : Plain.Known 𝓤 H A W 𝓣 0 ps·0 r·0 (claims· .0) (claims· .1) "map::width") (known1
-          : Plain.Known 𝓤 H A W 𝓣 1 ps·1 r·1 (claims· .2) (claims· .3) "lines::clear") (known2 : Plain.Known 𝓤 H A W 𝓣 1 ps·2 r·2 (claims· .4) (claims· .5) "cameras::base_of") (known3 : Plain.Known 𝓤 H A
-          W 𝓣 1 ps·3 r·3 (claims· .6) (claims· .7) "block::records::start_records") (known4 : Plain.Known 𝓤 H A W 𝓣 0 ps·4 r·4 (claims· .8) (claims· .9) "block::reading::start_place") (known5 :
-          Plain.Known 𝓤 H A W 𝓣 0 ps·5 r·5 (claims· .10) (claims· .11) "block::reading::no_lines") (known6 : Plain.Known 𝓤 H A W 𝓣 1 ps·6 r·6 (claims· .12) (claims· .13) "lines::turn_if") (known7 :
-          Plain.Known 𝓤 H A W 𝓣 1 ps·7 r·7 (claims· .14) (claims· .15) "block::reading::is_restarted") (known8 : Plain.Known 𝓤 H A W 𝓣 1 ps·8 r·8 (claims· .16) (claims· .17) "block::records::restart")
-          (known9 : Plain.Known 𝓤 H A W 𝓣 0 ps·9 r·9 (claims· .18) (claims· .19) "block::reading::quantisers_in") (known10 : Plain.Known 𝓤 H A W 𝓣 5 ps·10 r·10 (claims· .20) (claims· .21)
-          "block::reading::line") (known11 : Plain.Known 𝓤 H A W 𝓣 1 ps·11 r·11 (claims· .22) (claims· .23) "map::windows::zero_line") (known12 : Plain.Known 𝓤 H A W 𝓣 0 ps·12 r·12 (claims· .24) (claims·
-          .25) "block::reading::totals_at") (known13 : Plain.Known 𝓤 H A W 𝓣 0 ps·13 r·13 (claims· .26) (claims· .27) "totals::with_line") (known14 : Plain.Known 𝓤 H A W 𝓣 3 ps·14 r·14 (claims· .28)
-          (claims· .29) "map::windows::emit_line_if") → Statement.Triple 𝓤 (Wp.WpFn 𝓤 H (𝓣 .C) (𝓣 .Λ) (Function.fnOf 6 ps r xs m hs body)) (Function.plainOf 𝓤 H A 6 ps r Pre· Post·)
+          : Plain.Known 𝓤 H A W 𝓣 0 ps·1 r·1 (claims· .2) (claims· .3) "block::reading::totals_at") (known2 : Plain.Known 𝓤 H A W 𝓣 0 ps·2 r·2 (claims· .4) (claims· .5) "block::reading::no_lines") (known3
+          : Plain.Known 𝓤 H A W 𝓣 1 ps·3 r·3 (claims· .6) (claims· .7) "lines::turn_if") (known4 : Plain.Known 𝓤 H A W 𝓣 1 ps·4 r·4 (claims· .8) (claims· .9) "cameras::base_of") (known5 : Plain.Known 𝓤 H
+          A W 𝓣 1 ps·5 r·5 (claims· .10) (claims· .11) "block::reading::is_restarted") (known6 : Plain.Known 𝓤 H A W 𝓣 1 ps·6 r·6 (claims· .12) (claims· .13) "block::records::restart") (known7 :
+          Plain.Known 𝓤 H A W 𝓣 0 ps·7 r·7 (claims· .14) (claims· .15) "block::reading::quantisers_in") (known8 : Plain.Known 𝓤 H A W 𝓣 5 ps·8 r·8 (claims· .16) (claims· .17) "block::reading::line")
+          (known9 : Plain.Known 𝓤 H A W 𝓣 1 ps·9 r·9 (claims· .18) (claims· .19) "map::windows::zero_line") (known10 : Plain.Known 𝓤 H A W 𝓣 0 ps·10 r·10 (claims· .20) (claims· .21) "totals::with_line")
+          (known11 : Plain.Known 𝓤 H A W 𝓣 3 ps·11 r·11 (claims· .22) (claims· .23) "map::windows::emit_line_if") → Statement.Triple 𝓤 (Wp.WpFn 𝓤 H (𝓣 .C) (𝓣 .Λ) (Function.fnOf 6 ps r xs m hs body))
+          (Function.plainOf 𝓤 H A 6 ps r Pre· Post·)
 
     module _ (Inv·0 : InvT-loop) (μ·0 : MeasureT-loop) where
-      abbrev at0 : Typed.TF T34 O4
+      abbrev at0 : Typed.TF T18 O4
       at0 = Typed.atNext O4
 
-      abbrev at1 : Typed.TF T32 O4
-      at1 = λ Ψ. Typed.pass T32 T34 s30 (at0 Ψ)
+      abbrev at1 : Typed.TF T16 O4
+      at1 = λ Ψ. Typed.pass T16 T18 s14 (at0 Ψ)
 
-      abbrev at2 : Typed.TF T39 O4
+      abbrev at2 : Typed.TF T23 O4
       at2 = Typed.atExit 1 O4
 
-      abbrev at3 : Typed.TF T38 O4
-      at3 = λ Ψ. Typed.pass T38 T39 s35 (at2 Ψ)
+      abbrev at3 : Typed.TF T22 O4
+      at3 = λ Ψ. Typed.pass T22 T23 s19 (at2 Ψ)
 
-      abbrev at4 : Typed.TF T37 O4
-      at4 = λ Ψ. Typed.pass T37 T38 s34 (at3 Ψ)
+      abbrev at4 : Typed.TF T21 O4
+      at4 = λ Ψ. Typed.pass T21 T22 s18 (at3 Ψ)
 
-      abbrev at5 : Typed.TF T36 O4
-      at5 = λ Ψ. Typed.pass T36 T37 s33 (at4 Ψ)
+      abbrev at5 : Typed.TF T20 O4
+      at5 = λ Ψ. Typed.pass T20 T21 s17 (at4 Ψ)
 
-      abbrev at6 : Typed.TF T35 O4
-      at6 = λ Ψ. Typed.pass T35 T36 s32 (at5 Ψ)
+      abbrev at6 : Typed.TF T19 O4
+      at6 = λ Ψ. Typed.pass T19 T20 s16 (at5 Ψ)
 
-      abbrev at7 : Typed.TF T32 O4
-      at7 = λ Ψ. Typed.pass T32 T35 s31 (at6 Ψ)
+      abbrev at7 : Typed.TF T16 O4
+      at7 = λ Ψ. Typed.pass T16 T19 s15 (at6 Ψ)
 
-      abbrev at8 : Typed.TF T32 O4
-      at8 = Scalar.Φcond T32 O4 28 (λ x. x) at1 at7
+      abbrev at8 : Typed.TF T16 O4
+      at8 = Scalar.Φcond T16 O4 26 (λ x. x) at1 at7
 
-      abbrev at9 : Typed.TF T88 O5
-      at9 = λ Ψ. Typed.pass T88 T89 s84 (Typed.pass T89 T90 s85 (Typed.atNext O5 Ψ))
+      abbrev at9 : Typed.TF T73 O5
+      at9 = λ Ψ. Typed.pass T73 T74 s69 (Typed.pass T74 T75 s70 (Typed.atNext O5 Ψ))
 
-      abbrev at10 : Typed.TF T87 O5
-      at10 = λ Ψ. Typed.pass T87 T88 s83 (at9 Ψ)
+      abbrev at10 : Typed.TF T72 O5
+      at10 = λ Ψ. Typed.pass T72 T73 s68 (at9 Ψ)
 
-      abbrev at11 : Typed.TF T86 O5
-      at11 = λ Ψ. Typed.give s82 (at10 Ψ)
+      abbrev at11 : Typed.TF T71 O5
+      at11 = λ Ψ. Typed.give s67 (at10 Ψ)
 
-      abbrev at12 : Typed.TF T84 O5
-      at12 = λ Ψ. Typed.both s81 (at11 Ψ)
+      abbrev at12 : Typed.TF T69 O5
+      at12 = λ Ψ. Typed.both s66 (at11 Ψ)
 
-      abbrev at13 : Typed.TF T117 O5
+      abbrev at13 : Typed.TF T104 O5
       at13 = Typed.atRet O5
 
-      abbrev at14 : Typed.TF T116 O5
-      at14 = λ Ψ. Typed.pass T116 T117 s112 (at13 Ψ)
+      abbrev at14 : Typed.TF T103 O5
+      at14 = λ Ψ. Typed.pass T103 T104 s99 (at13 Ψ)
 
-      abbrev at15 : Typed.TF T115 O5
-      at15 = λ Ψ. Typed.pass T115 T116 s111 (at14 Ψ)
+      abbrev at15 : Typed.TF T102 O5
+      at15 = λ Ψ. Typed.pass T102 T103 s98 (at14 Ψ)
 
-      abbrev at16 : Typed.TF T114 O5
-      at16 = λ Ψ. Typed.pass T114 T115 s110 (at15 Ψ)
+      abbrev at16 : Typed.TF T101 O5
+      at16 = λ Ψ. Typed.pass T101 T102 s97 (at15 Ψ)
 
-      abbrev at17 : Typed.TF T113 O5
-      at17 = λ Ψ. Typed.pass T113 T114 s109 (at16 Ψ)
+      abbrev at17 : Typed.TF T100 O5
+      at17 = λ Ψ. Typed.pass T100 T101 s96 (at16 Ψ)
 
-      abbrev at18 : Typed.TF T112 O5
-      at18 = λ Ψ. Typed.pass T112 T113 s108 (at17 Ψ)
+      abbrev at18 : Typed.TF T99 O5
+      at18 = λ Ψ. Typed.pass T99 T100 s95 (at17 Ψ)
 
-      abbrev at19 : Typed.TF T111 O5
-      at19 = λ Ψ. Typed.pass T111 T112 s107 (at18 Ψ)
+      abbrev at19 : Typed.TF T98 O5
+      at19 = λ Ψ. Typed.pass T98 T99 s94 (at18 Ψ)
 
-      abbrev at20 : Typed.TF T110 O5
-      at20 = λ Ψ. Typed.pass T110 T111 s106 (at19 Ψ)
+      abbrev at20 : Typed.TF T97 O5
+      at20 = λ Ψ. Typed.pass T97 T98 s93 (at19 Ψ)
 
-      abbrev at21 : Typed.TF T109 O5
-      at21 = λ Ψ. Typed.pass T109 T110 s105 (at20 Ψ)
+      abbrev at21 : Typed.TF T96 O5
+      at21 = λ Ψ. Typed.pass T96 T97 s92 (at20 Ψ)
 
-      abbrev at22 : Typed.TF T108 O5
-      at22 = λ Ψ. Typed.pass T108 T109 s104 (at21 Ψ)
+      abbrev at22 : Typed.TF T95 O5
+      at22 = λ Ψ. Typed.pass T95 T96 s91 (at21 Ψ)
 
-      abbrev at23 : Typed.TF T107 O5
-      at23 = λ Ψ. Typed.pass T107 T108 s103 (at22 Ψ)
+      abbrev at23 : Typed.TF T94 O5
+      at23 = λ Ψ. Typed.pass T94 T95 s90 (at22 Ψ)
 
-      abbrev at24 : Typed.TF T105 O5
-      at24 = λ Ψ. Typed.both s102 (at23 Ψ)
+      abbrev at24 : Typed.TF T93 O5
+      at24 = λ Ψ. Typed.pass T93 T94 s89 (at23 Ψ)
 
-      abbrev at25 : Typed.TF T105 O5
-      at25 = λ Ψ. at24 Ψ
+      abbrev at25 : Typed.TF T92 O5
+      at25 = λ Ψ. Typed.pass T92 T93 s88 (at24 Ψ)
 
-      abbrev at26 : Typed.TF T104 O5
-      at26 = λ Ψ. Typed.give s100 (at25 Ψ)
+      abbrev at26 : Typed.TF T90 O5
+      at26 = λ Ψ. Typed.both s87 (at25 Ψ)
 
-      abbrev at27 : Typed.TF T102 O5
-      at27 = λ Ψ. Typed.both s99 (at26 Ψ)
+      abbrev at27 : Typed.TF T90 O5
+      at27 = λ Ψ. at26 Ψ
 
-      abbrev at28 : Typed.TF T102 O5
-      at28 = λ Ψ. at27 Ψ
+      abbrev at28 : Typed.TF T89 O5
+      at28 = λ Ψ. Typed.give s85 (at27 Ψ)
 
-      abbrev at29 : Typed.TF T101 O5
-      at29 = λ Ψ. Typed.pass T101 T102 s97 (at28 Ψ)
+      abbrev at29 : Typed.TF T87 O5
+      at29 = λ Ψ. Typed.both s84 (at28 Ψ)
 
-      abbrev at30 : Typed.TF T100 O5
-      at30 = λ Ψ. Typed.pass T100 T101 s96 (at29 Ψ)
+      abbrev at30 : Typed.TF T87 O5
+      at30 = λ Ψ. at29 Ψ
 
-      abbrev at31 : Typed.TF T99 O5
-      at31 = λ Ψ. Typed.both s95 (at30 Ψ)
+      abbrev at31 : Typed.TF T86 O5
+      at31 = λ Ψ. Typed.pass T86 T87 s82 (at30 Ψ)
 
-      abbrev at32 : Typed.TF T98 O5
-      at32 = λ Ψ. Typed.ask s94 (at31 Ψ)
+      abbrev at32 : Typed.TF T85 O5
+      at32 = λ Ψ. Typed.pass T85 T86 s81 (at31 Ψ)
 
-      abbrev at33 : Typed.TF T96 O5
-      at33 = λ Ψ. Typed.give s93 (at32 Ψ)
+      abbrev at33 : Typed.TF T84 O5
+      at33 = λ Ψ. Typed.both s80 (at32 Ψ)
 
-      abbrev at34 : Typed.TF T96 O5
-      at34 = λ Ψ. at33 Ψ
+      abbrev at34 : Typed.TF T83 O5
+      at34 = λ Ψ. Typed.ask s79 (at33 Ψ)
 
-      abbrev at35 : Typed.TF T95 O5
-      at35 = λ Ψ. Typed.pass T95 T96 s91 (at34 Ψ)
+      abbrev at35 : Typed.TF T81 O5
+      at35 = λ Ψ. Typed.give s78 (at34 Ψ)
 
-      abbrev at36 : Typed.TF T94 O5
-      at36 = λ Ψ. Typed.pass T94 T95 s90 (at35 Ψ)
+      abbrev at36 : Typed.TF T81 O5
+      at36 = λ Ψ. at35 Ψ
 
-      abbrev at37 : Typed.TF T93 O5
-      at37 = λ Ψ. Typed.pass T93 T94 s89 (at36 Ψ)
+      abbrev at37 : Typed.TF T80 O5
+      at37 = λ Ψ. Typed.pass T80 T81 s76 (at36 Ψ)
 
-      abbrev at38 : Typed.TF T92 O5
-      at38 = λ Ψ. Typed.pass T92 T93 s88 (at37 Ψ)
+      abbrev at38 : Typed.TF T79 O5
+      at38 = λ Ψ. Typed.pass T79 T80 s75 (at37 Ψ)
 
-      abbrev at39 : Typed.TF T91 O5
-      at39 = λ Ψ. Typed.pass T91 T92 s87 (at38 Ψ)
+      abbrev at39 : Typed.TF T78 O5
+      at39 = λ Ψ. Typed.pass T78 T79 s74 (at38 Ψ)
 
-      abbrev at40 : Typed.TF T84 O5
-      at40 = λ Ψ. Typed.both s86 (at39 Ψ)
+      abbrev at40 : Typed.TF T77 O5
+      at40 = λ Ψ. Typed.pass T77 T78 s73 (at39 Ψ)
 
-      abbrev at41 : Typed.TF T84 O5
-      at41 = Switch.Φswitch T84 O5 20 (λ x. Declared.tagOf Lined.the-type x) (Syntax.arm (List._∷_ 0 List.[]) b34 (Syntax.arm (List._∷_ 1 List.[]) b45 Syntax.noDefault)) (at12, (at40, tt))
+      abbrev at41 : Typed.TF T76 O5
+      at41 = λ Ψ. Typed.pass T76 T77 s72 (at40 Ψ)
 
-      abbrev at42 : Typed.TF T84 O5
-      at42 = λ Ψ. at41 Ψ
+      abbrev at42 : Typed.TF T69 O5
+      at42 = λ Ψ. Typed.both s71 (at41 Ψ)
 
-      abbrev at43 : Typed.TF T83 O5
-      at43 = λ Ψ. Typed.give s79 (at42 Ψ)
+      abbrev at43 : Typed.TF T69 O5
+      at43 = Switch.Φswitch T69 O5 23 (λ x. Declared.tagOf Lined.the-type x) (Syntax.arm (List._∷_ 0 List.[]) b29 (Syntax.arm (List._∷_ 1 List.[]) b40 Syntax.noDefault)) (at12, (at42, tt))
 
-      abbrev at44 : Typed.TF T80 O5
-      at44 = λ Ψ. Typed.both s78 (at43 Ψ)
+      abbrev at44 : Typed.TF T69 O5
+      at44 = λ Ψ. at43 Ψ
 
-      abbrev at45 : Typed.TF T80 O5
-      at45 = λ Ψ. at44 Ψ
+      abbrev at45 : Typed.TF T68 O5
+      at45 = λ Ψ. Typed.give s64 (at44 Ψ)
 
-      abbrev at46 : Typed.TF T80 O5
-      at46 = λ Ψ. at45 Ψ
+      abbrev at46 : Typed.TF T65 O5
+      at46 = λ Ψ. Typed.both s63 (at45 Ψ)
 
-      abbrev at47 : Typed.TF T77 O5
-      at47 = λ Ψ. Typed.both s75 (at46 Ψ)
+      abbrev at47 : Typed.TF T65 O5
+      at47 = λ Ψ. at46 Ψ
 
-      abbrev at48 : Typed.TF T77 O5
+      abbrev at48 : Typed.TF T65 O5
       at48 = λ Ψ. at47 Ψ
 
-      abbrev at49 : Typed.TF T77 O5
-      at49 = λ Ψ. at48 Ψ
+      abbrev at49 : Typed.TF T62 O5
+      at49 = λ Ψ. Typed.both s60 (at48 Ψ)
 
-      abbrev at50 : Typed.TF T76 O5
-      at50 = λ Ψ. Typed.give s72 (at49 Ψ)
+      abbrev at50 : Typed.TF T62 O5
+      at50 = λ Ψ. at49 Ψ
 
-      abbrev at51 : Typed.TF T74 O5
-      at51 = λ Ψ. Typed.both s71 (at50 Ψ)
+      abbrev at51 : Typed.TF T62 O5
+      at51 = λ Ψ. at50 Ψ
 
-      abbrev at52 : Typed.TF T74 O5
-      at52 = λ Ψ. at51 Ψ
+      abbrev at52 : Typed.TF T61 O5
+      at52 = λ Ψ. Typed.give s57 (at51 Ψ)
 
-      abbrev at53 : Typed.TF T72 O5
-      at53 = λ Ψ. Typed.pass T72 T74 s69 (at52 Ψ)
+      abbrev at53 : Typed.TF T59 O5
+      at53 = λ Ψ. Typed.both s56 (at52 Ψ)
 
-      abbrev at54 : Typed.TF T139 O3
-      at54 = λ Ψ. Typed.ask s136 (Typed.pass T141 T142 s137 (Typed.atNext O3 Ψ))
+      abbrev at54 : Typed.TF T59 O5
+      at54 = λ Ψ. at53 Ψ
 
-      abbrev at55 : Typed.TF T139 O3
-      at55 = λ Ψ. at54 Ψ
+      abbrev at55 : Typed.TF T57 O5
+      at55 = λ Ψ. Typed.pass T57 T59 s54 (at54 Ψ)
 
-      abbrev at56 : Typed.TF T138 O3
-      at56 = λ Ψ. Typed.give s134 (at55 Ψ)
+      abbrev at56 : Typed.TF T126 O3
+      at56 = λ Ψ. Typed.ask s123 (Typed.pass T128 T129 s124 (Typed.pass T129 T130 s125 (Typed.atNext O3 Ψ)))
 
-      abbrev at57 : Typed.TF T135 O3
-      at57 = λ Ψ. Typed.both s133 (at56 Ψ)
+      abbrev at57 : Typed.TF T126 O3
+      at57 = λ Ψ. at56 Ψ
 
-      abbrev at58 : Typed.TF T135 O3
-      at58 = λ Ψ. at57 Ψ
+      abbrev at58 : Typed.TF T125 O3
+      at58 = λ Ψ. Typed.give s121 (at57 Ψ)
 
-      abbrev at59 : Typed.TF T135 O3
-      at59 = λ Ψ. at58 Ψ
+      abbrev at59 : Typed.TF T122 O3
+      at59 = λ Ψ. Typed.both s120 (at58 Ψ)
 
-      abbrev at60 : Typed.TF T133 O3
-      at60 = λ Ψ. Typed.pass T133 T135 s130 (at59 Ψ)
+      abbrev at60 : Typed.TF T122 O3
+      at60 = λ Ψ. at59 Ψ
 
-      abbrev at61 : Typed.TF T133 O3
+      abbrev at61 : Typed.TF T122 O3
       at61 = λ Ψ. at60 Ψ
 
-      abbrev at62 : Typed.TF T132 O3
-      at62 = λ Ψ. Typed.pass T132 T133 s128 (at61 Ψ)
+      abbrev at62 : Typed.TF T120 O3
+      at62 = λ Ψ. Typed.pass T120 T122 s117 (at61 Ψ)
 
-      abbrev at63 : Typed.TF T131 O3
-      at63 = λ Ψ. Typed.pass T131 T132 s127 (at62 Ψ)
+      abbrev at63 : Typed.TF T120 O3
+      at63 = λ Ψ. at62 Ψ
 
-      abbrev at64 : Typed.TF T130 O3
-      at64 = λ Ψ. Typed.pass T130 T131 s126 (at63 Ψ)
+      abbrev at64 : Typed.TF T119 O3
+      at64 = λ Ψ. Typed.pass T119 T120 s115 (at63 Ψ)
 
-      abbrev at65 : Typed.TF T129 O3
-      at65 = λ Ψ. Typed.both s125 (at64 Ψ)
+      abbrev at65 : Typed.TF T118 O3
+      at65 = λ Ψ. Typed.pass T118 T119 s114 (at64 Ψ)
 
-      abbrev at66 : Typed.TF T128 O3
-      at66 = λ Ψ. Typed.ask s124 (at65 Ψ)
+      abbrev at66 : Typed.TF T117 O3
+      at66 = λ Ψ. Typed.pass T117 T118 s113 (at65 Ψ)
 
-      abbrev at67 : Typed.TF T127 O3
-      at67 = λ Ψ. Typed.ask s123 (at66 Ψ)
+      abbrev at67 : Typed.TF T116 O3
+      at67 = λ Ψ. Typed.both s112 (at66 Ψ)
 
-      abbrev at68 : Typed.TF T125 O3
-      at68 = λ Ψ. Typed.give s122 (at67 Ψ)
+      abbrev at68 : Typed.TF T115 O3
+      at68 = λ Ψ. Typed.ask s111 (at67 Ψ)
 
-      abbrev at69 : Typed.TF T125 O3
-      at69 = λ Ψ. at68 Ψ
+      abbrev at69 : Typed.TF T114 O3
+      at69 = λ Ψ. Typed.ask s110 (at68 Ψ)
 
-      abbrev at70 : Typed.TF T124 O3
-      at70 = λ Ψ. Typed.ask s120 (at69 Ψ)
+      abbrev at70 : Typed.TF T112 O3
+      at70 = λ Ψ. Typed.give s109 (at69 Ψ)
 
-      abbrev at71 : Typed.TF T122 O3
-      at71 = λ Ψ. Typed.give s119 (at70 Ψ)
+      abbrev at71 : Typed.TF T112 O3
+      at71 = λ Ψ. at70 Ψ
 
-      abbrev at72 : Typed.TF T122 O3
-      at72 = λ Ψ. at71 Ψ
+      abbrev at72 : Typed.TF T111 O3
+      at72 = λ Ψ. Typed.ask s107 (at71 Ψ)
 
-      abbrev at73 : Typed.TF T121 O3
-      at73 = λ Ψ. Typed.pass T121 T122 s117 (at72 Ψ)
+      abbrev at73 : Typed.TF T109 O3
+      at73 = λ Ψ. Typed.give s106 (at72 Ψ)
 
-      abbrev at74 : Typed.TF T120 O3
-      at74 = λ Ψ. Typed.both s116 (at73 Ψ)
+      abbrev at74 : Typed.TF T109 O3
+      at74 = λ Ψ. at73 Ψ
 
-      abbrev at75 : Typed.TF T119 O3
-      at75 = λ Ψ. Typed.both s115 (at74 Ψ)
+      abbrev at75 : Typed.TF T108 O3
+      at75 = λ Ψ. Typed.pass T108 T109 s104 (at74 Ψ)
 
-      abbrev at76 : Typed.TF T118 O3
-      at76 = λ Ψ. Typed.pass T118 T119 s114 (at75 Ψ)
+      abbrev at76 : Typed.TF T107 O3
+      at76 = λ Ψ. Typed.both s103 (at75 Ψ)
 
-      abbrev at77 : Typed.TF T73 O3
-      at77 = λ Ψ. Typed.pass T73 T118 s113 (at76 Ψ)
+      abbrev at77 : Typed.TF T106 O3
+      at77 = λ Ψ. Typed.both s102 (at76 Ψ)
 
-      abbrev at78 : Typed.TF T72 O3
-      at78 = λ Ψ. at53 (Typed.wantNext T73 O3 (at77 Ψ) Ψ)
+      abbrev at78 : Typed.TF T105 O3
+      at78 = λ Ψ. Typed.pass T105 T106 s101 (at77 Ψ)
 
-      abbrev at79 : Typed.TF T71 O3
-      at79 = λ Ψ. Typed.both s68 (at78 Ψ)
+      abbrev at79 : Typed.TF T58 O3
+      at79 = λ Ψ. Typed.pass T58 T105 s100 (at78 Ψ)
 
-      abbrev at80 : Typed.TF T70 O3
-      at80 = λ Ψ. Typed.both s67 (at79 Ψ)
+      abbrev at80 : Typed.TF T57 O3
+      at80 = λ Ψ. at55 (Typed.wantNext T58 O3 (at79 Ψ) Ψ)
 
-      abbrev at81 : Typed.TF T69 O3
-      at81 = λ Ψ. Typed.ask s66 (at80 Ψ)
+      abbrev at81 : Typed.TF T56 O3
+      at81 = λ Ψ. Typed.both s53 (at80 Ψ)
 
-      abbrev at82 : Typed.TF T67 O3
-      at82 = λ Ψ. Typed.give s65 (at81 Ψ)
+      abbrev at82 : Typed.TF T55 O3
+      at82 = λ Ψ. Typed.both s52 (at81 Ψ)
 
-      abbrev at83 : Typed.TF T67 O3
-      at83 = λ Ψ. at82 Ψ
+      abbrev at83 : Typed.TF T54 O3
+      at83 = λ Ψ. Typed.ask s51 (at82 Ψ)
 
-      abbrev at84 : Typed.TF T66 O3
-      at84 = λ Ψ. Typed.ask s63 (at83 Ψ)
+      abbrev at84 : Typed.TF T52 O3
+      at84 = λ Ψ. Typed.give s50 (at83 Ψ)
 
-      abbrev at85 : Typed.TF T64 O3
-      at85 = λ Ψ. Typed.give s62 (at84 Ψ)
+      abbrev at85 : Typed.TF T52 O3
+      at85 = λ Ψ. at84 Ψ
 
-      abbrev at86 : Typed.TF T64 O3
-      at86 = λ Ψ. at85 Ψ
+      abbrev at86 : Typed.TF T51 O3
+      at86 = λ Ψ. Typed.ask s48 (at85 Ψ)
 
-      abbrev at87 : Typed.TF T63 O3
-      at87 = λ Ψ. Typed.ask s60 (at86 Ψ)
+      abbrev at87 : Typed.TF T49 O3
+      at87 = λ Ψ. Typed.give s47 (at86 Ψ)
 
-      abbrev at88 : Typed.TF T60 O3
-      at88 = λ Ψ. Typed.give s59 (at87 Ψ)
+      abbrev at88 : Typed.TF T49 O3
+      at88 = λ Ψ. at87 Ψ
 
-      abbrev at89 : Typed.TF T60 O3
-      at89 = λ Ψ. at88 Ψ
+      abbrev at89 : Typed.TF T48 O3
+      at89 = λ Ψ. Typed.ask s45 (at88 Ψ)
 
-      abbrev at90 : Typed.TF T60 O3
-      at90 = λ Ψ. at89 Ψ
+      abbrev at90 : Typed.TF T45 O3
+      at90 = λ Ψ. Typed.give s44 (at89 Ψ)
 
-      abbrev at91 : Typed.TF T58 O3
-      at91 = λ Ψ. Typed.both s56 (at90 Ψ)
+      abbrev at91 : Typed.TF T45 O3
+      at91 = λ Ψ. at90 Ψ
 
-      abbrev at92 : Typed.TF T58 O3
+      abbrev at92 : Typed.TF T45 O3
       at92 = λ Ψ. at91 Ψ
 
-      abbrev at93 : Typed.TF T57 O3
-      at93 = λ Ψ. Typed.pass T57 T58 s54 (at92 Ψ)
+      abbrev at93 : Typed.TF T43 O3
+      at93 = λ Ψ. Typed.both s41 (at92 Ψ)
 
-      abbrev at94 : Typed.TF T56 O3
-      at94 = λ Ψ. Typed.pass T56 T57 s53 (at93 Ψ)
+      abbrev at94 : Typed.TF T43 O3
+      at94 = λ Ψ. at93 Ψ
 
-      abbrev at95 : Typed.TF T55 O3
-      at95 = λ Ψ. Typed.both s52 (at94 Ψ)
+      abbrev at95 : Typed.TF T42 O3
+      at95 = λ Ψ. Typed.pass T42 T43 s39 (at94 Ψ)
 
-      abbrev at96 : Typed.TF T54 O3
-      at96 = λ Ψ. Typed.both s51 (at95 Ψ)
+      abbrev at96 : Typed.TF T41 O3
+      at96 = λ Ψ. Typed.pass T41 T42 s38 (at95 Ψ)
 
-      abbrev at97 : Typed.TF T53 O3
-      at97 = λ Ψ. Typed.ask s50 (at96 Ψ)
+      abbrev at97 : Typed.TF T40 O3
+      at97 = λ Ψ. Typed.both s37 (at96 Ψ)
 
-      abbrev at98 : Typed.TF T51 O3
-      at98 = λ Ψ. Typed.give s49 (at97 Ψ)
+      abbrev at98 : Typed.TF T39 O3
+      at98 = λ Ψ. Typed.both s36 (at97 Ψ)
 
-      abbrev at99 : Typed.TF T51 O3
-      at99 = λ Ψ. at98 Ψ
+      abbrev at99 : Typed.TF T38 O3
+      at99 = λ Ψ. Typed.ask s35 (at98 Ψ)
 
-      abbrev at100 : Typed.TF T49 O3
-      at100 = λ Ψ. Typed.both s47 (at99 Ψ)
+      abbrev at100 : Typed.TF T36 O3
+      at100 = λ Ψ. Typed.give s34 (at99 Ψ)
 
-      abbrev at101 : Typed.TF T49 O3
+      abbrev at101 : Typed.TF T36 O3
       at101 = λ Ψ. at100 Ψ
 
-      abbrev at102 : Typed.TF T48 O3
-      at102 = λ Ψ. Typed.give s45 (at101 Ψ)
+      abbrev at102 : Typed.TF T34 O3
+      at102 = λ Ψ. Typed.both s32 (at101 Ψ)
 
-      abbrev at103 : Typed.TF T46 O3
-      at103 = λ Ψ. Typed.both s44 (at102 Ψ)
+      abbrev at103 : Typed.TF T34 O3
+      at103 = λ Ψ. at102 Ψ
 
-      abbrev at104 : Typed.TF T46 O3
-      at104 = λ Ψ. at103 Ψ
+      abbrev at104 : Typed.TF T33 O3
+      at104 = λ Ψ. Typed.give s30 (at103 Ψ)
 
-      abbrev at105 : Typed.TF T45 O3
-      at105 = λ Ψ. Typed.pass T45 T46 s42 (at104 Ψ)
+      abbrev at105 : Typed.TF T31 O3
+      at105 = λ Ψ. Typed.both s29 (at104 Ψ)
 
-      abbrev at106 : Typed.TF T44 O3
-      at106 = λ Ψ. Typed.pass T44 T45 s41 (at105 Ψ)
+      abbrev at106 : Typed.TF T31 O3
+      at106 = λ Ψ. at105 Ψ
 
-      abbrev at107 : Typed.TF T43 O3
-      at107 = λ Ψ. Typed.both s40 (at106 Ψ)
+      abbrev at107 : Typed.TF T30 O3
+      at107 = λ Ψ. Typed.pass T30 T31 s27 (at106 Ψ)
 
-      abbrev at108 : Typed.TF T42 O3
-      at108 = λ Ψ. Typed.ask s39 (at107 Ψ)
+      abbrev at108 : Typed.TF T29 O3
+      at108 = λ Ψ. Typed.pass T29 T30 s26 (at107 Ψ)
 
-      abbrev at109 : Typed.TF T41 O3
-      at109 = λ Ψ. Typed.ask s38 (at108 Ψ)
+      abbrev at109 : Typed.TF T28 O3
+      at109 = λ Ψ. Typed.both s25 (at108 Ψ)
 
-      abbrev at110 : Typed.TF T33 O3
-      at110 = λ Ψ. Typed.give s37 (at109 Ψ)
+      abbrev at110 : Typed.TF T27 O3
+      at110 = λ Ψ. Typed.ask s24 (at109 Ψ)
 
-      abbrev at111 : Typed.TF T33 O3
-      at111 = λ Ψ. at110 Ψ
+      abbrev at111 : Typed.TF T26 O3
+      at111 = λ Ψ. Typed.ask s23 (at110 Ψ)
 
-      abbrev at112 : Typed.TF T32 O3
-      at112 = λ Ψ. at8 (Typed.wantNext T33 O3 (at111 Ψ) Ψ)
+      abbrev at112 : Typed.TF T24 O3
+      at112 = λ Ψ. Typed.give s22 (at111 Ψ)
 
-      abbrev at113 : Typed.TF T30 O3
-      at113 = λ Ψ. Typed.ask s29 (at112 Ψ)
+      abbrev at113 : Typed.TF T24 O3
+      at113 = λ Ψ. at112 Ψ
 
-      abbrev at114 : Typed.TF T30 O2
-      at114 = Typed.LoopBy T30 O2 put0 (λ u vs. Inv·0 (Row.get 1 (T30 .locals) u .now) (Row.get 2 (T30 .locals) u .now) (Row.get 3 (T30 .locals) u .now) (Row.get 4 (T30 .locals) u .now) (Row.get 5
-          (T30 .locals) u .now) (Row.get 6 (T30 .locals) u) (Row.get 7 (T30 .locals) u .now) (Row.get 8 (T30 .locals) u) (Row.get 9 (T30 .locals) u) (Row.get 10 (T30 .locals) u) (Row.get 11 (T30 .locals)
-          u) (Row.get 12 (T30 .locals) u) (Row.get 13 (T30 .locals) u) (Row.get 14 (T30 .locals) u) (Row.get 15 (T30 .locals) u) (Row.get 16 (T30 .locals) u) (Row.get 17 (T30 .locals) u) (Row.get 18 (T30
-          .locals) u) (vs .0) (vs .1) (vs .2) (vs .3) (vs .4) (vs .5)) (λ u vs. μ·0 (Row.get 1 (T30 .locals) u .now) (Row.get 2 (T30 .locals) u .now) (Row.get 3 (T30 .locals) u .now) (Row.get 4 (T30
-          .locals) u .now) (Row.get 5 (T30 .locals) u .now) (Row.get 6 (T30 .locals) u) (Row.get 7 (T30 .locals) u .now) (Row.get 8 (T30 .locals) u) (Row.get 9 (T30 .locals) u) (Row.get 10 (T30 .locals)
-          u) (Row.get 11 (T30 .locals) u) (Row.get 12 (T30 .locals) u) (Row.get 13 (T30 .locals) u) (Row.get 14 (T30 .locals) u) (Row.get 15 (T30 .locals) u) (Row.get 16 (T30 .locals) u) (Row.get 17 (T30
-          .locals) u) (Row.get 18 (T30 .locals) u) (vs .0) (vs .1) (vs .2) (vs .3) (vs .4) (vs .5)) at113
+      abbrev at114 : Typed.TF T17 O3
+      at114 = λ Ψ. Typed.ask s20 (at113 Ψ)
 
-      abbrev at115 : Typed.TF T30 O1
-      at115 = λ Ψ. at114 (Typed.inBlock O1 Ψ)
+      abbrev at115 : Typed.TF T16 O3
+      at115 = λ Ψ. at8 (Typed.wantNext T17 O3 (at114 Ψ) Ψ)
 
-      abbrev at116 : Typed.TF T153 O0
-      at116 = Typed.atRet O0
+      abbrev at116 : Typed.TF T14 O3
+      at116 = λ Ψ. Typed.ask s13 (at115 Ψ)
 
-      abbrev at117 : Typed.TF T152 O0
-      at117 = λ Ψ. Typed.pass T152 T153 s148 (at116 Ψ)
+      abbrev at117 : Typed.TF T14 O2
+      at117 = Typed.LoopBy T14 O2 put0 (λ u vs. Inv·0 (Row.get 1 (T14 .locals) u .now) (Row.get 2 (T14 .locals) u .now) (Row.get 3 (T14 .locals) u .now) (Row.get 4 (T14 .locals) u .now) (Row.get 5
+          (T14 .locals) u .now) (Row.get 6 (T14 .locals) u) (Row.get 7 (T14 .locals) u .now) (Row.get 8 (T14 .locals) u) (Row.get 9 (T14 .locals) u) (Row.get 10 (T14 .locals) u) (Row.get 12 (T14 .locals)
+          u) (Row.get 13 (T14 .locals) u) (Row.get 14 (T14 .locals) u) (Row.get 15 (T14 .locals) u) (Row.get 16 (T14 .locals) u) (Row.get 17 (T14 .locals) u) (Row.get 18 (T14 .locals) u) (Row.get 19 (T14
+          .locals) u) (Row.get 20 (T14 .locals) u) (vs .0) (vs .1) (vs .2) (vs .3) (vs .4) (vs .5)) (λ u vs. μ·0 (Row.get 1 (T14 .locals) u .now) (Row.get 2 (T14 .locals) u .now) (Row.get 3 (T14 .locals)
+          u .now) (Row.get 4 (T14 .locals) u .now) (Row.get 5 (T14 .locals) u .now) (Row.get 6 (T14 .locals) u) (Row.get 7 (T14 .locals) u .now) (Row.get 8 (T14 .locals) u) (Row.get 9 (T14 .locals) u)
+          (Row.get 10 (T14 .locals) u) (Row.get 12 (T14 .locals) u) (Row.get 13 (T14 .locals) u) (Row.get 14 (T14 .locals) u) (Row.get 15 (T14 .locals) u) (Row.get 16 (T14 .locals) u) (Row.get 17 (T14
+          .locals) u) (Row.get 18 (T14 .locals) u) (Row.get 19 (T14 .locals) u) (Row.get 20 (T14 .locals) u) (vs .0) (vs .1) (vs .2) (vs .3) (vs .4) (vs .5)) at116
 
-      abbrev at118 : Typed.TF T151 O0
-      at118 = λ Ψ. Typed.pass T151 T152 s147 (at117 Ψ)
+      abbrev at118 : Typed.TF T14 O1
+      at118 = λ Ψ. at117 (Typed.inBlock O1 Ψ)
 
-      abbrev at119 : Typed.TF T150 O0
-      at119 = λ Ψ. Typed.pass T150 T151 s146 (at118 Ψ)
+      abbrev at119 : Typed.TF T142 O0
+      at119 = Typed.atRet O0
 
-      abbrev at120 : Typed.TF T149 O0
-      at120 = λ Ψ. Typed.pass T149 T150 s145 (at119 Ψ)
+      abbrev at120 : Typed.TF T141 O0
+      at120 = λ Ψ. Typed.pass T141 T142 s137 (at119 Ψ)
 
-      abbrev at121 : Typed.TF T148 O0
-      at121 = λ Ψ. Typed.pass T148 T149 s144 (at120 Ψ)
+      abbrev at121 : Typed.TF T140 O0
+      at121 = λ Ψ. Typed.pass T140 T141 s136 (at120 Ψ)
 
-      abbrev at122 : Typed.TF T147 O0
-      at122 = λ Ψ. Typed.pass T147 T148 s143 (at121 Ψ)
+      abbrev at122 : Typed.TF T139 O0
+      at122 = λ Ψ. Typed.pass T139 T140 s135 (at121 Ψ)
 
-      abbrev at123 : Typed.TF T146 O0
-      at123 = λ Ψ. Typed.pass T146 T147 s142 (at122 Ψ)
+      abbrev at123 : Typed.TF T138 O0
+      at123 = λ Ψ. Typed.pass T138 T139 s134 (at122 Ψ)
 
-      abbrev at124 : Typed.TF T145 O0
-      at124 = λ Ψ. Typed.pass T145 T146 s141 (at123 Ψ)
+      abbrev at124 : Typed.TF T137 O0
+      at124 = λ Ψ. Typed.pass T137 T138 s133 (at123 Ψ)
 
-      abbrev at125 : Typed.TF T144 O0
-      at125 = λ Ψ. Typed.pass T144 T145 s140 (at124 Ψ)
+      abbrev at125 : Typed.TF T136 O0
+      at125 = λ Ψ. Typed.pass T136 T137 s132 (at124 Ψ)
 
-      abbrev at126 : Typed.TF T143 O0
-      at126 = λ Ψ. Typed.pass T143 T144 s139 (at125 Ψ)
+      abbrev at126 : Typed.TF T135 O0
+      at126 = λ Ψ. Typed.pass T135 T136 s131 (at125 Ψ)
 
-      abbrev at127 : Typed.TF T31 O0
-      at127 = λ Ψ. Typed.both s138 (at126 Ψ)
+      abbrev at127 : Typed.TF T134 O0
+      at127 = λ Ψ. Typed.pass T134 T135 s130 (at126 Ψ)
 
-      abbrev at128 : Typed.TF T30 O0
-      at128 = λ Ψ. at115 (Typed.wantNext T31 O0 (at127 Ψ) Ψ)
+      abbrev at128 : Typed.TF T133 O0
+      at128 = λ Ψ. Typed.pass T133 T134 s129 (at127 Ψ)
 
-      abbrev at129 : Typed.TF T29 O0
-      at129 = λ Ψ. Typed.pass T29 T30 s28 (at128 Ψ)
+      abbrev at129 : Typed.TF T132 O0
+      at129 = λ Ψ. Typed.pass T132 T133 s128 (at128 Ψ)
 
-      abbrev at130 : Typed.TF T28 O0
-      at130 = λ Ψ. Typed.both s27 (at129 Ψ)
+      abbrev at130 : Typed.TF T131 O0
+      at130 = λ Ψ. Typed.pass T131 T132 s127 (at129 Ψ)
 
-      abbrev at131 : Typed.TF T26 O0
-      at131 = λ Ψ. Typed.both s26 (at130 Ψ)
+      abbrev at131 : Typed.TF T15 O0
+      at131 = λ Ψ. Typed.both s126 (at130 Ψ)
 
-      abbrev at132 : Typed.TF T26 O0
-      at132 = λ Ψ. at131 Ψ
+      abbrev at132 : Typed.TF T14 O0
+      at132 = λ Ψ. at118 (Typed.wantNext T15 O0 (at131 Ψ) Ψ)
 
-      abbrev at133 : Typed.TF T24 O0
-      at133 = λ Ψ. Typed.both s24 (at132 Ψ)
+      abbrev at133 : Typed.TF T13 O0
+      at133 = λ Ψ. Typed.pass T13 T14 s12 (at132 Ψ)
 
-      abbrev at134 : Typed.TF T24 O0
-      at134 = λ Ψ. at133 Ψ
+      abbrev at134 : Typed.TF T12 O0
+      at134 = λ Ψ. Typed.pass T12 T13 s11 (at133 Ψ)
 
-      abbrev at135 : Typed.TF T23 O0
-      at135 = λ Ψ. Typed.pass T23 T24 s22 (at134 Ψ)
+      abbrev at135 : Typed.TF T11 O0
+      at135 = λ Ψ. Typed.both s10 (at134 Ψ)
 
-      abbrev at136 : Typed.TF T22 O0
-      at136 = λ Ψ. Typed.pass T22 T23 s21 (at135 Ψ)
+      abbrev at136 : Typed.TF T10 O0
+      at136 = λ Ψ. Typed.pass T10 T11 s9 (at135 Ψ)
 
-      abbrev at137 : Typed.TF T21 O0
-      at137 = λ Ψ. Typed.both s20 (at136 Ψ)
+      abbrev at137 : Typed.TF T9 O0
+      at137 = λ Ψ. Typed.both s8 (at136 Ψ)
 
-      abbrev at138 : Typed.TF T20 O0
-      at138 = λ Ψ. Typed.both s19 (at137 Ψ)
+      abbrev at138 : Typed.TF T8 O0
+      at138 = λ Ψ. Typed.pass T8 T9 s7 (at137 Ψ)
 
-      abbrev at139 : Typed.TF T19 O0
-      at139 = λ Ψ. Typed.ask s18 (at138 Ψ)
+      abbrev at139 : Typed.TF T7 O0
+      at139 = λ Ψ. Typed.both s6 (at138 Ψ)
 
-      abbrev at140 : Typed.TF T16 O0
-      at140 = λ Ψ. Typed.give s17 (at139 Ψ)
+      abbrev at140 : Typed.TF T6 O0
+      at140 = λ Ψ. Typed.pass T6 T7 s5 (at139 Ψ)
 
-      abbrev at141 : Typed.TF T16 O0
-      at141 = λ Ψ. at140 Ψ
+      abbrev at141 : Typed.TF T5 O0
+      at141 = λ Ψ. Typed.pass T5 T6 s4 (at140 Ψ)
 
-      abbrev at142 : Typed.TF T16 O0
-      at142 = λ Ψ. at141 Ψ
+      abbrev at142 : Typed.TF T4 O0
+      at142 = λ Ψ. Typed.give s3 (at141 Ψ)
 
-      abbrev at143 : Typed.TF T15 O0
-      at143 = λ Ψ. Typed.give s14 (at142 Ψ)
+      abbrev at143 : Typed.TF T3 O0
+      at143 = λ Ψ. Typed.give s2 (at142 Ψ)
 
-      abbrev at144 : Typed.TF T13 O0
-      at144 = λ Ψ. Typed.both s13 (at143 Ψ)
+      abbrev at144 : Typed.TF T2 O0
+      at144 = λ Ψ. Typed.give s1 (at143 Ψ)
 
-      abbrev at145 : Typed.TF T13 O0
-      at145 = λ Ψ. at144 Ψ
-
-      abbrev at146 : Typed.TF T12 O0
-      at146 = λ Ψ. Typed.pass T12 T13 s11 (at145 Ψ)
-
-      abbrev at147 : Typed.TF T11 O0
-      at147 = λ Ψ. Typed.both s10 (at146 Ψ)
-
-      abbrev at148 : Typed.TF T10 O0
-      at148 = λ Ψ. Typed.ask s9 (at147 Ψ)
-
-      abbrev at149 : Typed.TF T8 O0
-      at149 = λ Ψ. Typed.give s8 (at148 Ψ)
-
-      abbrev at150 : Typed.TF T8 O0
-      at150 = λ Ψ. at149 Ψ
-
-      abbrev at151 : Typed.TF T7 O0
-      at151 = λ Ψ. Typed.both s6 (at150 Ψ)
-
-      abbrev at152 : Typed.TF T6 O0
-      at152 = λ Ψ. Typed.pass T6 T7 s5 (at151 Ψ)
-
-      abbrev at153 : Typed.TF T5 O0
-      at153 = λ Ψ. Typed.pass T5 T6 s4 (at152 Ψ)
-
-      abbrev at154 : Typed.TF T4 O0
-      at154 = λ Ψ. Typed.give s3 (at153 Ψ)
-
-      abbrev at155 : Typed.TF T3 O0
-      at155 = λ Ψ. Typed.give s2 (at154 Ψ)
-
-      abbrev at156 : Typed.TF T2 O0
-      at156 = λ Ψ. Typed.give s1 (at155 Ψ)
-
-      abbrev at157 : Typed.TF T0 O0
-      at157 = λ Ψ. Typed.give s0 (at156 Ψ)
+      abbrev at145 : Typed.TF T0 O0
+      at145 = λ Ψ. Typed.give s0 (at144 Ψ)
 
       abbrev pub Φ : Typed.TF T0 O0
-      Φ = at157
+      Φ = at145
 
       module _ {M : Type 1} (𝓤 : URA.URA M) (H : Wp.Heap 𝓤) (A : Atoms.Atoms 𝓤) (W : Kit.Given 𝓤 H A) (𝓣 : Wp.Tables 𝓤 H) where
         abbrev Knowns : Type 1
-        Knowns = Plain.Known 𝓤 H A W 𝓣 0 ps·0 r·0 (claims· .0) (claims· .1) "map::width" × Plain.Known 𝓤 H A W 𝓣 1 ps·1 r·1 (claims· .2) (claims· .3) "lines::clear" × Plain.Known 𝓤 H A W 𝓣 1 ps·2 r·2
-            (claims· .4) (claims· .5) "cameras::base_of" × Plain.Known 𝓤 H A W 𝓣 1 ps·3 r·3 (claims· .6) (claims· .7) "block::records::start_records" × Plain.Known 𝓤 H A W 𝓣 0 ps·4 r·4 (claims· .8)
-            (claims· .9) "block::reading::start_place" × Plain.Known 𝓤 H A W 𝓣 0 ps·5 r·5 (claims· .10) (claims· .11) "block::reading::no_lines" × Plain.Known 𝓤 H A W 𝓣 1 ps·6 r·6 (claims· .12) (claims·
-            .13) "lines::turn_if" × Plain.Known 𝓤 H A W 𝓣 1 ps·7 r·7 (claims· .14) (claims· .15) "block::reading::is_restarted" × Plain.Known 𝓤 H A W 𝓣 1 ps·8 r·8 (claims· .16) (claims· .17)
-            "block::records::restart" × Plain.Known 𝓤 H A W 𝓣 0 ps·9 r·9 (claims· .18) (claims· .19) "block::reading::quantisers_in" × Plain.Known 𝓤 H A W 𝓣 5 ps·10 r·10 (claims· .20) (claims· .21)
-            "block::reading::line" × Plain.Known 𝓤 H A W 𝓣 1 ps·11 r·11 (claims· .22) (claims· .23) "map::windows::zero_line" × Plain.Known 𝓤 H A W 𝓣 0 ps·12 r·12 (claims· .24) (claims· .25)
-            "block::reading::totals_at" × Plain.Known 𝓤 H A W 𝓣 0 ps·13 r·13 (claims· .26) (claims· .27) "totals::with_line" × Plain.Known 𝓤 H A W 𝓣 3 ps·14 r·14 (claims· .28) (claims· .29)
-            "map::windows::emit_line_if"
+        Knowns = Plain.Known 𝓤 H A W 𝓣 0 ps·0 r·0 (claims· .0) (claims· .1) "map::width" × Plain.Known 𝓤 H A W 𝓣 0 ps·1 r·1 (claims· .2) (claims· .3) "block::reading::totals_at" × Plain.Known 𝓤 H A W
+            𝓣 0 ps·2 r·2 (claims· .4) (claims· .5) "block::reading::no_lines" × Plain.Known 𝓤 H A W 𝓣 1 ps·3 r·3 (claims· .6) (claims· .7) "lines::turn_if" × Plain.Known 𝓤 H A W 𝓣 1 ps·4 r·4 (claims· .8)
+            (claims· .9) "cameras::base_of" × Plain.Known 𝓤 H A W 𝓣 1 ps·5 r·5 (claims· .10) (claims· .11) "block::reading::is_restarted" × Plain.Known 𝓤 H A W 𝓣 1 ps·6 r·6 (claims· .12) (claims· .13)
+            "block::records::restart" × Plain.Known 𝓤 H A W 𝓣 0 ps·7 r·7 (claims· .14) (claims· .15) "block::reading::quantisers_in" × Plain.Known 𝓤 H A W 𝓣 5 ps·8 r·8 (claims· .16) (claims· .17)
+            "block::reading::line" × Plain.Known 𝓤 H A W 𝓣 1 ps·9 r·9 (claims· .18) (claims· .19) "map::windows::zero_line" × Plain.Known 𝓤 H A W 𝓣 0 ps·10 r·10 (claims· .20) (claims· .21)
+            "totals::with_line" × Plain.Known 𝓤 H A W 𝓣 3 ps·11 r·11 (claims· .22) (claims· .23) "map::windows::emit_line_if"
 
       module _ (κs : Lifetimes.Lfts 6) (qs : Lifetimes.Shares 6) where
-        abbrev g8 : List.List Row.Entry
-        g8 = List._∷_ e0 (List._∷_ e2 (List._∷_ e23 (List._∷_
-            (3, Relend.mslice-owed (Referent.rtF (Referent.fInt Syntax.w16)) (Syntax.tyRef (Syntax.named 2) Syntax.mut (Syntax.tyInt Syntax.w16)) 2 6 (Row.lease (κs .1 .1 .0) (qs .1 .1 .0))) (List._∷_ e65
-            (List._∷_ e79 (List._∷_ e85 (List._∷_ e86 (List._∷_ e88 (List._∷_ e90 (List._∷_ e4 (List._∷_ e6 (List._∷_ e8 (List._∷_ e10 (List._∷_ e12 (List._∷_ e14 List.[])))))))))))))))
+        abbrev g19 : List.List Row.Entry
+        g19 = List._∷_ e0 (List._∷_ e2 (List._∷_ e23 (List._∷_
+            (3, Relend.mslice-owed (Referent.rtF (Referent.fInt Syntax.w16)) (Syntax.tyRef (Syntax.named 2) Syntax.mut (Syntax.tyInt Syntax.w16)) 2 6 (Row.lease (κs .1 .1 .0) (qs .1 .1 .0))) (List._∷_ e67
+            (List._∷_ e80 (List._∷_ e85 (List._∷_ e86 (List._∷_ e88 (List._∷_ e90 (List._∷_ e4 (List._∷_ e5 (List._∷_ e8 (List._∷_ e10 (List._∷_ e12 (List._∷_ e14 List.[])))))))))))))))
 
-        abbrev g13 : List.List Row.Entry
-        g13 = List._∷_ e0 (List._∷_ e2 (List._∷_ e23 (List._∷_ e44 (List._∷_
-            (4, Relend.mslice-owed (Element.type) (Syntax.tyRef (Syntax.named 3) Syntax.mut Element.behind) 3 7 (Row.lease (κs .1 .1 .1 .0) (qs .1 .1 .1 .0))) (List._∷_ e79 (List._∷_ e85 (List._∷_ e86
-            (List._∷_ e88 (List._∷_ e90 (List._∷_ e4 (List._∷_ e6 (List._∷_ e8 (List._∷_ e10 (List._∷_ e12 (List._∷_ e14 List.[])))))))))))))))
+        abbrev g27 : List.List Row.Entry
+        g27 = List._∷_ e0 (List._∷_ e2 (List._∷_ e23 (List._∷_ e45 (List._∷_
+            (4, Relend.mslice-owed (Element.type) (Syntax.tyRef (Syntax.named 3) Syntax.mut Element.behind) 3 7 (Row.lease (κs .1 .1 .1 .0) (qs .1 .1 .1 .0))) (List._∷_ e80 (List._∷_ e85 (List._∷_ e86
+            (List._∷_ e88 (List._∷_ e90 (List._∷_ e4 (List._∷_ e5 (List._∷_ e8 (List._∷_ e10 (List._∷_ e12 (List._∷_ e14 List.[])))))))))))))))
 
-        abbrev g28 : List.List Row.Entry
-        g28 = List._∷_ e0 (List._∷_ e2 (List._∷_ e23 (List._∷_
-            (3, Relend.mslice-owed (Referent.rtF (Referent.fInt Syntax.w16)) (Syntax.tyRef (Syntax.named 2) Syntax.mut (Syntax.tyInt Syntax.w16)) 2 8 (Row.lease (κs .1 .1 .0) (qs .1 .1 .0))) (List._∷_ e65
-            (List._∷_ e79 (List._∷_ e85 (List._∷_ e86 (List._∷_ e88 (List._∷_ e90 (List._∷_ e4 (List._∷_ e6 (List._∷_ e8 (List._∷_ e10 (List._∷_ e12 (List._∷_ e14 List.[])))))))))))))))
+        abbrev g34 : List.List Row.Entry
+        g34 = List._∷_ e0 (List._∷_ e2 (List._∷_ e23 (List._∷_
+            (3, Relend.mslice-owed (Referent.rtF (Referent.fInt Syntax.w16)) (Syntax.tyRef (Syntax.named 2) Syntax.mut (Syntax.tyInt Syntax.w16)) 2 8 (Row.lease (κs .1 .1 .0) (qs .1 .1 .0))) (List._∷_ e67
+            (List._∷_ e80 (List._∷_ e85 (List._∷_ e86 (List._∷_ e88 (List._∷_ e90 (List._∷_ e4 (List._∷_ e5 (List._∷_ e8 (List._∷_ e10 (List._∷_ e12 (List._∷_ e14 List.[])))))))))))))))
 
-        abbrev g36 : List.List Row.Entry
-        g36 = List._∷_ e0 (List._∷_ e2 (List._∷_ e23 (List._∷_ e44 (List._∷_
-            (4, Relend.mslice-owed (Element.type) (Syntax.tyRef (Syntax.named 3) Syntax.mut Element.behind) 3 9 (Row.lease (κs .1 .1 .1 .0) (qs .1 .1 .1 .0))) (List._∷_ e79 (List._∷_ e85 (List._∷_ e86
-            (List._∷_ e88 (List._∷_ e90 (List._∷_ e4 (List._∷_ e6 (List._∷_ e8 (List._∷_ e10 (List._∷_ e12 (List._∷_ e14 List.[])))))))))))))))
+        abbrev g37 : List.List Row.Entry
+        g37 = List._∷_ e0 (List._∷_ e2 (List._∷_ e23 (List._∷_
+            (3, Relend.mslice-owed (Referent.rtF (Referent.fInt Syntax.w16)) (Syntax.tyRef (Syntax.named 2) Syntax.mut (Syntax.tyInt Syntax.w16)) 2 8 (Row.lease (κs .1 .1 .0) (qs .1 .1 .0))) (List._∷_
+            (4, Relend.mslice-owed (Element.type) (Syntax.tyRef (Syntax.named 3) Syntax.mut Element.behind) 3 9 (Row.lease (κs .1 .1 .1 .0) (qs .1 .1 .1 .0))) (List._∷_ e80 (List._∷_ e85 (List._∷_ e86
+            (List._∷_ e88 (List._∷_ e90 (List._∷_ e4 (List._∷_ e5 (List._∷_ e8 (List._∷_ e10 (List._∷_ e12 (List._∷_ e14 List.[])))))))))))))))
 
-        abbrev g43 : List.List Row.Entry
-        g43 = List._∷_ e0 (List._∷_ e2 (List._∷_ e23 (List._∷_
-            (3, Relend.mslice-owed (Referent.rtF (Referent.fInt Syntax.w16)) (Syntax.tyRef (Syntax.named 2) Syntax.mut (Syntax.tyInt Syntax.w16)) 2 10 (Row.lease (κs .1 .1 .0) (qs .1 .1 .0))) (List._∷_
-            e65 (List._∷_ e79 (List._∷_ e85 (List._∷_ e86 (List._∷_ e88 (List._∷_ e90 (List._∷_ e4 (List._∷_ e6 (List._∷_ e8 (List._∷_ e10 (List._∷_ e12 (List._∷_ e14 List.[])))))))))))))))
+        abbrev g40 : List.List Row.Entry
+        g40 = List._∷_ e0 (List._∷_ e2 (List._∷_ e23 (List._∷_
+            (3, Relend.mslice-owed (Referent.rtF (Referent.fInt Syntax.w16)) (Syntax.tyRef (Syntax.named 2) Syntax.mut (Syntax.tyInt Syntax.w16)) 2 8 (Row.lease (κs .1 .1 .0) (qs .1 .1 .0))) (List._∷_
+            (4, Relend.mslice-owed (Element.type) (Syntax.tyRef (Syntax.named 3) Syntax.mut Element.behind) 3 9 (Row.lease (κs .1 .1 .1 .0) (qs .1 .1 .1 .0))) (List._∷_
+            (5, Relend.mslice-owed (Referent.rtF (Referent.fInt Syntax.w16)) (Syntax.tyRef (Syntax.named 4) Syntax.mut (Syntax.tyInt Syntax.w16)) 4 10 (Row.lease (κs .1 .1 .1 .1 .0) (qs .1 .1 .1 .1 .0)))
+            (List._∷_ e85 (List._∷_ e86 (List._∷_ e88 (List._∷_ e90 (List._∷_ e4 (List._∷_ e5 (List._∷_ e8 (List._∷_ e10 (List._∷_ e12 (List._∷_ e14 List.[])))))))))))))))
 
-        abbrev g46 : List.List Row.Entry
-        g46 = List._∷_ e0 (List._∷_ e2 (List._∷_ e23 (List._∷_
-            (3, Relend.mslice-owed (Referent.rtF (Referent.fInt Syntax.w16)) (Syntax.tyRef (Syntax.named 2) Syntax.mut (Syntax.tyInt Syntax.w16)) 2 10 (Row.lease (κs .1 .1 .0) (qs .1 .1 .0))) (List._∷_
-            (4, Relend.mslice-owed (Element.type) (Syntax.tyRef (Syntax.named 3) Syntax.mut Element.behind) 3 11 (Row.lease (κs .1 .1 .1 .0) (qs .1 .1 .1 .0))) (List._∷_ e79 (List._∷_ e85 (List._∷_ e86
-            (List._∷_ e88 (List._∷_ e90 (List._∷_ e4 (List._∷_ e6 (List._∷_ e8 (List._∷_ e10 (List._∷_ e12 (List._∷_ e14 List.[])))))))))))))))
+        abbrev g48 : List.List Row.Entry
+        g48 = List._∷_ e0 (List._∷_ e2 (List._∷_ e23 (List._∷_ e45 (List._∷_
+            (4, Relend.mslice-owed (Element.type) (Syntax.tyRef (Syntax.named 3) Syntax.mut Element.behind) 3 9 (Row.lease (κs .1 .1 .1 .0) (qs .1 .1 .1 .0))) (List._∷_
+            (5, Relend.mslice-owed (Referent.rtF (Referent.fInt Syntax.w16)) (Syntax.tyRef (Syntax.named 4) Syntax.mut (Syntax.tyInt Syntax.w16)) 4 10 (Row.lease (κs .1 .1 .1 .1 .0) (qs .1 .1 .1 .1 .0)))
+            (List._∷_ e85 (List._∷_ e86 (List._∷_ e88 (List._∷_ e90 (List._∷_ e4 (List._∷_ e5 (List._∷_ e8 (List._∷_ e10 (List._∷_ e12 (List._∷_ e14 List.[])))))))))))))))
 
-        abbrev g49 : List.List Row.Entry
-        g49 = List._∷_ e0 (List._∷_ e2 (List._∷_ e23 (List._∷_
-            (3, Relend.mslice-owed (Referent.rtF (Referent.fInt Syntax.w16)) (Syntax.tyRef (Syntax.named 2) Syntax.mut (Syntax.tyInt Syntax.w16)) 2 10 (Row.lease (κs .1 .1 .0) (qs .1 .1 .0))) (List._∷_
-            (4, Relend.mslice-owed (Element.type) (Syntax.tyRef (Syntax.named 3) Syntax.mut Element.behind) 3 11 (Row.lease (κs .1 .1 .1 .0) (qs .1 .1 .1 .0))) (List._∷_
-            (5, Relend.mslice-owed (Referent.rtF (Referent.fInt Syntax.w16)) (Syntax.tyRef (Syntax.named 4) Syntax.mut (Syntax.tyInt Syntax.w16)) 4 12 (Row.lease (κs .1 .1 .1 .1 .0) (qs .1 .1 .1 .1 .0)))
-            (List._∷_ e85 (List._∷_ e86 (List._∷_ e88 (List._∷_ e90 (List._∷_ e4 (List._∷_ e6 (List._∷_ e8 (List._∷_ e10 (List._∷_ e12 (List._∷_ e14 List.[])))))))))))))))
+        abbrev g50 : List.List Row.Entry
+        g50 = List._∷_ e0 (List._∷_ e2 (List._∷_ e23 (List._∷_ e45 (List._∷_ e67 (List._∷_
+            (5, Relend.mslice-owed (Referent.rtF (Referent.fInt Syntax.w16)) (Syntax.tyRef (Syntax.named 4) Syntax.mut (Syntax.tyInt Syntax.w16)) 4 10 (Row.lease (κs .1 .1 .1 .1 .0) (qs .1 .1 .1 .1 .0)))
+            (List._∷_ e85 (List._∷_ e86 (List._∷_ e88 (List._∷_ e90 (List._∷_ e4 (List._∷_ e5 (List._∷_ e8 (List._∷_ e10 (List._∷_ e12 (List._∷_ e14 List.[])))))))))))))))
 
-        abbrev g57 : List.List Row.Entry
-        g57 = List._∷_ e0 (List._∷_ e2 (List._∷_ e23 (List._∷_ e44 (List._∷_
-            (4, Relend.mslice-owed (Element.type) (Syntax.tyRef (Syntax.named 3) Syntax.mut Element.behind) 3 11 (Row.lease (κs .1 .1 .1 .0) (qs .1 .1 .1 .0))) (List._∷_
-            (5, Relend.mslice-owed (Referent.rtF (Referent.fInt Syntax.w16)) (Syntax.tyRef (Syntax.named 4) Syntax.mut (Syntax.tyInt Syntax.w16)) 4 12 (Row.lease (κs .1 .1 .1 .1 .0) (qs .1 .1 .1 .1 .0)))
-            (List._∷_ e85 (List._∷_ e86 (List._∷_ e88 (List._∷_ e90 (List._∷_ e4 (List._∷_ e6 (List._∷_ e8 (List._∷_ e10 (List._∷_ e12 (List._∷_ e14 List.[])))))))))))))))
+        abbrev g58 : List.List Row.Entry
+        g58 = List._∷_ e0 (List._∷_ e2 (List._∷_ e23 (List._∷_ e45 (List._∷_ e67 (List._∷_
+            (5, Relend.mslice-owed (Referent.rtF (Referent.fInt Syntax.w16)) (Syntax.tyRef (Syntax.named 4) Syntax.mut (Syntax.tyInt Syntax.w16)) 4 11 (Row.lease (κs .1 .1 .1 .1 .0) (qs .1 .1 .1 .1 .0)))
+            (List._∷_ e84 (List._∷_ e86 (List._∷_ e87 (List._∷_ e90 (List._∷_ e4 (List._∷_ e5 (List._∷_ e8 (List._∷_ e10 (List._∷_ e11 (List._∷_ e14 List.[])))))))))))))))
 
-        abbrev g59 : List.List Row.Entry
-        g59 = List._∷_ e0 (List._∷_ e2 (List._∷_ e23 (List._∷_ e44 (List._∷_ e65 (List._∷_
-            (5, Relend.mslice-owed (Referent.rtF (Referent.fInt Syntax.w16)) (Syntax.tyRef (Syntax.named 4) Syntax.mut (Syntax.tyInt Syntax.w16)) 4 12 (Row.lease (κs .1 .1 .1 .1 .0) (qs .1 .1 .1 .1 .0)))
-            (List._∷_ e85 (List._∷_ e86 (List._∷_ e88 (List._∷_ e90 (List._∷_ e4 (List._∷_ e6 (List._∷_ e8 (List._∷_ e10 (List._∷_ e12 (List._∷_ e14 List.[])))))))))))))))
+        abbrev g62 : List.List Row.Entry
+        g62 = List._∷_ e0 (List._∷_ e2 (List._∷_ e23 (List._∷_ e45 (List._∷_ e67 (List._∷_
+            (5, Relend.mslice-owed (Referent.rtF (Referent.fInt Syntax.w16)) (Syntax.tyRef (Syntax.named 4) Syntax.mut (Syntax.tyInt Syntax.w16)) 4 11 (Row.lease (κs .1 .1 .1 .1 .0) (qs .1 .1 .1 .1 .0)))
+            (List._∷_ e84 (List._∷_ e86 (List._∷_ e87 (List._∷_ e89 (List._∷_ e4 (List._∷_ e5 (List._∷_ e8 (List._∷_ e10 (List._∷_ e11 (List._∷_ e14 List.[])))))))))))))))
 
-        abbrev g67 : List.List Row.Entry
-        g67 = List._∷_ e0 (List._∷_ e2 (List._∷_ e23 (List._∷_ e44 (List._∷_ e65 (List._∷_
+        abbrev g76 : List.List Row.Entry
+        g76 = List._∷_ e0 (List._∷_ e2 (List._∷_ e23 (List._∷_
+            (3, Reshare.mslice-owedS (Referent.rtF (Referent.fInt Syntax.w16)) (Syntax.tyRef (Syntax.named 2) Syntax.mut (Syntax.tyInt Syntax.w16)) 2 12 (Row.lease (κs .1 .1 .0) (qs .1 .1 .0))) (List._∷_
+            e67 (List._∷_ e80 (List._∷_ e85 (List._∷_ e86 (List._∷_ e88 (List._∷_ e90 (List._∷_ e4 (List._∷_ e5 (List._∷_ e8 (List._∷_ e10 (List._∷_ e12 (List._∷_ e14 List.[])))))))))))))))
+
+        abbrev g79 : List.List Row.Entry
+        g79 = List._∷_ e0 (List._∷_ e2 (List._∷_ e23 (List._∷_
+            (3, Reshare.mslice-owedS (Referent.rtF (Referent.fInt Syntax.w16)) (Syntax.tyRef (Syntax.named 2) Syntax.mut (Syntax.tyInt Syntax.w16)) 2 12 (Row.lease (κs .1 .1 .0) (qs .1 .1 .0))) (List._∷_
+            e67 (List._∷_
             (5, Relend.mslice-owed (Referent.rtF (Referent.fInt Syntax.w16)) (Syntax.tyRef (Syntax.named 4) Syntax.mut (Syntax.tyInt Syntax.w16)) 4 13 (Row.lease (κs .1 .1 .1 .1 .0) (qs .1 .1 .1 .1 .0)))
-            (List._∷_ e84 (List._∷_ e86 (List._∷_ e87 (List._∷_ e90 (List._∷_ e4 (List._∷_ e6 (List._∷_ e7 (List._∷_ e10 (List._∷_ e12 (List._∷_ e14 List.[])))))))))))))))
+            (List._∷_ e85 (List._∷_ e86 (List._∷_ e88 (List._∷_ e90 (List._∷_ e4 (List._∷_ e5 (List._∷_ e8 (List._∷_ e10 (List._∷_ e12 (List._∷_ e14 List.[])))))))))))))))
 
-        abbrev g71 : List.List Row.Entry
-        g71 = List._∷_ e0 (List._∷_ e2 (List._∷_ e23 (List._∷_ e44 (List._∷_ e65 (List._∷_
+        abbrev g87 : List.List Row.Entry
+        g87 = List._∷_ e0 (List._∷_ e2 (List._∷_ e23 (List._∷_ e45 (List._∷_ e67 (List._∷_
             (5, Relend.mslice-owed (Referent.rtF (Referent.fInt Syntax.w16)) (Syntax.tyRef (Syntax.named 4) Syntax.mut (Syntax.tyInt Syntax.w16)) 4 13 (Row.lease (κs .1 .1 .1 .1 .0) (qs .1 .1 .1 .1 .0)))
-            (List._∷_ e84 (List._∷_ e86 (List._∷_ e87 (List._∷_ e89 (List._∷_ e4 (List._∷_ e6 (List._∷_ e7 (List._∷_ e10 (List._∷_ e12 (List._∷_ e14 List.[])))))))))))))))
-
-        abbrev g83 : List.List Row.Entry
-        g83 = List._∷_ e0 (List._∷_ e2 (List._∷_ e23 (List._∷_
-            (3, Reshare.mslice-owedS (Referent.rtF (Referent.fInt Syntax.w16)) (Syntax.tyRef (Syntax.named 2) Syntax.mut (Syntax.tyInt Syntax.w16)) 2 14 (Row.lease (κs .1 .1 .0) (qs .1 .1 .0))) (List._∷_
-            e65 (List._∷_ e79 (List._∷_ e85 (List._∷_ e86 (List._∷_ e88 (List._∷_ e90 (List._∷_ e4 (List._∷_ e6 (List._∷_ e8 (List._∷_ e10 (List._∷_ e12 (List._∷_ e14 List.[])))))))))))))))
-
-        abbrev g86 : List.List Row.Entry
-        g86 = List._∷_ e0 (List._∷_ e2 (List._∷_ e23 (List._∷_
-            (3, Reshare.mslice-owedS (Referent.rtF (Referent.fInt Syntax.w16)) (Syntax.tyRef (Syntax.named 2) Syntax.mut (Syntax.tyInt Syntax.w16)) 2 14 (Row.lease (κs .1 .1 .0) (qs .1 .1 .0))) (List._∷_
-            e65 (List._∷_
-            (5, Relend.mslice-owed (Referent.rtF (Referent.fInt Syntax.w16)) (Syntax.tyRef (Syntax.named 4) Syntax.mut (Syntax.tyInt Syntax.w16)) 4 15 (Row.lease (κs .1 .1 .1 .1 .0) (qs .1 .1 .1 .1 .0)))
-            (List._∷_ e85 (List._∷_ e86 (List._∷_ e88 (List._∷_ e90 (List._∷_ e4 (List._∷_ e6 (List._∷_ e8 (List._∷_ e10 (List._∷_ e12 (List._∷_ e14 List.[])))))))))))))))
-
-        abbrev g90 : List.List Row.Entry
-        g90 = List._∷_ e0 (List._∷_ e2 (List._∷_ e23 (List._∷_ e44 (List._∷_ e65 (List._∷_
-            (5, Relend.mslice-owed (Referent.rtF (Referent.fInt Syntax.w16)) (Syntax.tyRef (Syntax.named 4) Syntax.mut (Syntax.tyInt Syntax.w16)) 4 15 (Row.lease (κs .1 .1 .1 .1 .0) (qs .1 .1 .1 .1 .0)))
-            (List._∷_ e85 (List._∷_ e86 (List._∷_ e88 (List._∷_ e90 (List._∷_ e4 (List._∷_ e6 (List._∷_ e8 (List._∷_ e10 (List._∷_ e12 (List._∷_ e14 List.[])))))))))))))))
+            (List._∷_ e85 (List._∷_ e86 (List._∷_ e88 (List._∷_ e90 (List._∷_ e4 (List._∷_ e5 (List._∷_ e8 (List._∷_ e10 (List._∷_ e12 (List._∷_ e14 List.[])))))))))))))))
 
         abbrev G0 : Row.Cx
         G0 = record {
-          locals = List._++_ t0 (List._++_ t1 (List._++_ t2 t3));
-          slots = List._∷_ (Row.lease (κs .0) (qs .0)) (List._∷_ (Row.lease (κs .1 .0) (qs .1 .0)) (List._∷_ (Row.lease (κs .1 .1 .0) (qs .1 .1
-              .0)) (List._∷_ (Row.lease (κs .1 .1 .1 .0) (qs .1 .1 .1 .0)) (List._∷_ (Row.lease (κs .1 .1 .1 .1 .0) (qs .1 .1 .1 .1 .0)) (List._∷_ (Row.lease (κs .1 .1 .1 .1 .1 .0) (qs .1 .1 .1 .1 .1 .0))
-              (List._∷_ Row.off (List._∷_ Row.off (List._∷_ Row.off (List._∷_ Row.off (List._∷_ Row.off (List._∷_ Row.off (List._∷_ Row.off (List._∷_ Row.off (List._∷_ Row.off (List._∷_ Row.off
-              List.[])))))))))))))));
+          locals = List._++_ t0 (List._++_ t1 t2);
+          slots = List._∷_ (Row.lease (κs .0) (qs .0)) (List._∷_ (Row.lease (κs .1 .0) (qs .1 .0)) (List._∷_ (Row.lease (κs .1 .1 .0) (qs .1 .1 .0)) (List._∷_
+              (Row.lease (κs .1 .1 .1 .0) (qs .1 .1 .1 .0)) (List._∷_ (Row.lease (κs .1 .1 .1 .1 .0) (qs .1 .1 .1 .1 .0)) (List._∷_ (Row.lease (κs .1 .1 .1 .1 .1 .0) (qs .1 .1 .1 .1 .1 .0)) (List._∷_
+              Row.off (List._∷_ Row.off (List._∷_ Row.off (List._∷_ Row.off (List._∷_ Row.off (List._∷_ Row.off (List._∷_ Row.off (List._∷_ Row.off List.[])))))))))))));
         }
 
         abbrev G1 : Row.Cx
         G1 = record {
-          locals = List._++_ t4 (List._++_ t1 (List._++_ t2 t3));
-          slots = List._∷_ (Row.lease (κs .0) (qs .0)) (List._∷_ (Row.lease (κs .1 .0) (qs .1 .0)) (List._∷_ (Row.lease (κs .1 .1 .0) (qs .1 .1
-              .0)) (List._∷_ (Row.lease (κs .1 .1 .1 .0) (qs .1 .1 .1 .0)) (List._∷_ (Row.lease (κs .1 .1 .1 .1 .0) (qs .1 .1 .1 .1 .0)) (List._∷_ (Row.lease (κs .1 .1 .1 .1 .1 .0) (qs .1 .1 .1 .1 .1 .0))
-              (List._∷_ Row.off (List._∷_ Row.off (List._∷_ Row.off (List._∷_ Row.off (List._∷_ Row.off (List._∷_ Row.off (List._∷_ Row.off (List._∷_ Row.off (List._∷_ Row.off (List._∷_ Row.off
-              List.[])))))))))))))));
+          locals = List._++_ t3 (List._++_ t1 t2);
+          slots = List._∷_ (Row.lease (κs .0) (qs .0)) (List._∷_ (Row.lease (κs .1 .0) (qs .1 .0)) (List._∷_ (Row.lease (κs .1 .1 .0) (qs .1 .1 .0)) (List._∷_
+              (Row.lease (κs .1 .1 .1 .0) (qs .1 .1 .1 .0)) (List._∷_ (Row.lease (κs .1 .1 .1 .1 .0) (qs .1 .1 .1 .1 .0)) (List._∷_ (Row.lease (κs .1 .1 .1 .1 .1 .0) (qs .1 .1 .1 .1 .1 .0)) (List._∷_
+              Row.off (List._∷_ Row.off (List._∷_ Row.off (List._∷_ Row.off (List._∷_ Row.off (List._∷_ Row.off (List._∷_ Row.off (List._∷_ Row.off List.[])))))))))))));
         }
 
         abbrev G2 : Row.Cx
         G2 = record {
-          locals = List._++_ t0 (List._++_ t1 (List._++_ t2 t3));
-          slots = List._∷_ (Row.lease (κs .0) (qs .0)) (List._∷_ (Row.lease (κs .1 .0) (qs .1 .0)) (List._∷_ (Row.lease (κs .1 .1 .0) (qs .1 .1
-              .0)) (List._∷_ (Row.lease (κs .1 .1 .1 .0) (qs .1 .1 .1 .0)) (List._∷_ (Row.lease (κs .1 .1 .1 .1 .0) (qs .1 .1 .1 .1 .0)) (List._∷_ (Row.lease (κs .1 .1 .1 .1 .1 .0) (qs .1 .1 .1 .1 .1 .0))
-              (List._∷_ Row.off (List._∷_ Row.off (List._∷_ Row.off (List._∷_ Row.off (List._∷_ Row.off (List._∷_ Row.off (List._∷_ Row.off (List._∷_ Row.off (List._∷_ Row.off (List._∷_ Row.off
-              List.[])))))))))))))));
+          locals = List._++_ t0 (List._++_ t1 t2);
+          slots = List._∷_ (Row.lease (κs .0) (qs .0)) (List._∷_ (Row.lease (κs .1 .0) (qs .1 .0)) (List._∷_ (Row.lease (κs .1 .1 .0) (qs .1 .1 .0)) (List._∷_
+              (Row.lease (κs .1 .1 .1 .0) (qs .1 .1 .1 .0)) (List._∷_ (Row.lease (κs .1 .1 .1 .1 .0) (qs .1 .1 .1 .1 .0)) (List._∷_ (Row.lease (κs .1 .1 .1 .1 .1 .0) (qs .1 .1 .1 .1 .1 .0)) (List._∷_
+              Row.off (List._∷_ Row.off (List._∷_ Row.off (List._∷_ Row.off (List._∷_ Row.off (List._∷_ Row.off (List._∷_ Row.off (List._∷_ Row.off List.[])))))))))))));
         }
 
         abbrev G3 : Row.Cx
         G3 = record {
-          locals = List._++_ t0 (List._++_ t1 (List._++_ t2 t3));
-          slots = List._∷_ (Row.lease (κs .0) (qs .0)) (List._∷_ (Row.lease (κs .1 .0) (qs .1 .0)) (List._∷_ (Row.lease (κs .1 .1 .0) (qs .1 .1
-              .0)) (List._∷_ (Row.lease (κs .1 .1 .1 .0) (qs .1 .1 .1 .0)) (List._∷_ (Row.lease (κs .1 .1 .1 .1 .0) (qs .1 .1 .1 .1 .0)) (List._∷_ (Row.lease (κs .1 .1 .1 .1 .1 .0) (qs .1 .1 .1 .1 .1 .0))
-              (List._∷_ Row.off (List._∷_ Row.off (List._∷_ Row.off (List._∷_ Row.off (List._∷_ Row.off (List._∷_ Row.off (List._∷_ Row.off (List._∷_ Row.off (List._∷_ Row.off (List._∷_ Row.off
-              List.[])))))))))))))));
+          locals = List._++_ t0 (List._++_ t1 t2);
+          slots = List._∷_ (Row.lease (κs .0) (qs .0)) (List._∷_ (Row.lease (κs .1 .0) (qs .1 .0)) (List._∷_ (Row.lease (κs .1 .1 .0) (qs .1 .1 .0)) (List._∷_
+              (Row.lease (κs .1 .1 .1 .0) (qs .1 .1 .1 .0)) (List._∷_ (Row.lease (κs .1 .1 .1 .1 .0) (qs .1 .1 .1 .1 .0)) (List._∷_ (Row.lease (κs .1 .1 .1 .1 .1 .0) (qs .1 .1 .1 .1 .1 .0)) (List._∷_
+              Row.off (List._∷_ Row.off (List._∷_ Row.off (List._∷_ Row.off (List._∷_ Row.off (List._∷_ Row.off (List._∷_ Row.off (List._∷_ Row.off List.[])))))))))))));
         }
 
         abbrev G4 : Row.Cx
         G4 = record {
-          locals = List._++_ t0 (List._++_ t1 (List._++_ t2 t3));
-          slots = List._∷_ (Row.lease (κs .0) (qs .0)) (List._∷_ (Row.lease (κs .1 .0) (qs .1 .0)) (List._∷_ (Row.lease (κs .1 .1 .0) (qs .1 .1
-              .0)) (List._∷_ (Row.lease (κs .1 .1 .1 .0) (qs .1 .1 .1 .0)) (List._∷_ (Row.lease (κs .1 .1 .1 .1 .0) (qs .1 .1 .1 .1 .0)) (List._∷_ (Row.lease (κs .1 .1 .1 .1 .1 .0) (qs .1 .1 .1 .1 .1 .0))
-              (List._∷_ Row.off (List._∷_ Row.off (List._∷_ Row.off (List._∷_ Row.off (List._∷_ Row.off (List._∷_ Row.off (List._∷_ Row.off (List._∷_ Row.off (List._∷_ Row.off (List._∷_ Row.off
-              List.[])))))))))))))));
+          locals = List._++_ t0 (List._++_ t1 t2);
+          slots = List._∷_ (Row.lease (κs .0) (qs .0)) (List._∷_ (Row.lease (κs .1 .0) (qs .1 .0)) (List._∷_ (Row.lease (κs .1 .1 .0) (qs .1 .1 .0)) (List._∷_
+              (Row.lease (κs .1 .1 .1 .0) (qs .1 .1 .1 .0)) (List._∷_ (Row.lease (κs .1 .1 .1 .1 .0) (qs .1 .1 .1 .1 .0)) (List._∷_ (Row.lease (κs .1 .1 .1 .1 .1 .0) (qs .1 .1 .1 .1 .1 .0)) (List._∷_
+              Row.off (List._∷_ Row.off (List._∷_ Row.off (List._∷_ Row.off (List._∷_ Row.off (List._∷_ Row.off (List._∷_ Row.off (List._∷_ Row.off List.[])))))))))))));
         }
 
         abbrev G5 : Row.Cx
         G5 = record {
-          locals = List._++_ t0 (List._++_ t1 (List._++_ t2 t3));
-          slots = List._∷_ (Row.lease (κs .0) (qs .0)) (List._∷_ (Row.lease (κs .1 .0) (qs .1 .0)) (List._∷_ (Row.lease (κs .1 .1 .0) (qs .1 .1
-              .0)) (List._∷_ (Row.lease (κs .1 .1 .1 .0) (qs .1 .1 .1 .0)) (List._∷_ (Row.lease (κs .1 .1 .1 .1 .0) (qs .1 .1 .1 .1 .0)) (List._∷_ (Row.lease (κs .1 .1 .1 .1 .1 .0) (qs .1 .1 .1 .1 .1 .0))
-              (List._∷_ Row.off (List._∷_ Row.off (List._∷_ Row.off (List._∷_ Row.off (List._∷_ Row.off (List._∷_ Row.off (List._∷_ Row.off (List._∷_ Row.off (List._∷_ Row.off (List._∷_ Row.off
-              List.[])))))))))))))));
+          locals = List._++_ t0 (List._++_ t1 t2);
+          slots = List._∷_ (Row.lease (κs .0) (qs .0)) (List._∷_ (Row.lease (κs .1 .0) (qs .1 .0)) (List._∷_ (Row.lease (κs .1 .1 .0) (qs .1 .1 .0)) (List._∷_
+              (Row.lease (κs .1 .1 .1 .0) (qs .1 .1 .1 .0)) (List._∷_ (Row.lease (κs .1 .1 .1 .1 .0) (qs .1 .1 .1 .1 .0)) (List._∷_ (Row.lease (κs .1 .1 .1 .1 .1 .0) (qs .1 .1 .1 .1 .1 .0)) (List._∷_
+              Row.off (List._∷_ Row.off (List._∷_ Row.off (List._∷_ Row.off (List._∷_ Row.off (List._∷_ Row.off (List._∷_ Row.off (List._∷_ Row.off List.[])))))))))))));
         }
 
         abbrev G6 : Row.Cx
         G6 = record {
-          locals = List._++_ t5 (List._++_ t1 (List._++_ t2 t3));
-          slots = List._∷_ (Row.lease (κs .0) (qs .0)) (List._∷_ (Row.lease (κs .1 .0) (qs .1 .0)) (List._∷_ (Row.lease (κs .1 .1 .0) (qs .1 .1
-              .0)) (List._∷_ (Row.lease (κs .1 .1 .1 .0) (qs .1 .1 .1 .0)) (List._∷_ (Row.lease (κs .1 .1 .1 .1 .0) (qs .1 .1 .1 .1 .0)) (List._∷_ (Row.lease (κs .1 .1 .1 .1 .1 .0) (qs .1 .1 .1 .1 .1 .0))
-              (List._∷_ Row.off (List._∷_ Row.off (List._∷_ Row.off (List._∷_ Row.off (List._∷_ Row.off (List._∷_ Row.off (List._∷_ Row.off (List._∷_ Row.off (List._∷_ Row.off (List._∷_ Row.off
-              List.[])))))))))))))));
+          locals = List._++_ t4 (List._++_ t1 t2);
+          slots = List._∷_ (Row.lease (κs .0) (qs .0)) (List._∷_ (Row.lease (κs .1 .0) (qs .1 .0)) (List._∷_ (Row.lease (κs .1 .1 .0) (qs .1 .1 .0)) (List._∷_
+              (Row.lease (κs .1 .1 .1 .0) (qs .1 .1 .1 .0)) (List._∷_ (Row.lease (κs .1 .1 .1 .1 .0) (qs .1 .1 .1 .1 .0)) (List._∷_ (Row.lease (κs .1 .1 .1 .1 .1 .0) (qs .1 .1 .1 .1 .1 .0)) (List._∷_
+              Row.off (List._∷_ Row.off (List._∷_ Row.off (List._∷_ Row.off (List._∷_ Row.off (List._∷_ Row.off (List._∷_ Row.off (List._∷_ Row.off List.[])))))))))))));
         }
 
         abbrev G7 : Row.Cx
         G7 = record {
-          locals = List._++_ t6 (List._++_ t1 (List._++_ t2 t3));
-          slots = List._∷_ (Row.lease (κs .0) (qs .0)) (List._∷_ (Row.lease (κs .1 .0) (qs .1 .0)) (List._∷_ (Row.lease (κs .1 .1 .0) (qs .1 .1
-              .0)) (List._∷_ (Row.lease (κs .1 .1 .1 .0) (qs .1 .1 .1 .0)) (List._∷_ (Row.lease (κs .1 .1 .1 .1 .0) (qs .1 .1 .1 .1 .0)) (List._∷_ (Row.lease (κs .1 .1 .1 .1 .1 .0) (qs .1 .1 .1 .1 .1 .0))
-              (List._∷_ Row.off (List._∷_ Row.off (List._∷_ Row.off (List._∷_ Row.off (List._∷_ Row.off (List._∷_ Row.off (List._∷_ Row.off (List._∷_ Row.off (List._∷_ Row.off (List._∷_ Row.off
-              List.[])))))))))))))));
+          locals = List._++_ t4 (List._++_ t5 t2);
+          slots = List._∷_ (Row.lease (κs .0) (qs .0)) (List._∷_ (Row.lease (κs .1 .0) (qs .1 .0)) (List._∷_ (Row.lease (κs .1 .1 .0) (qs .1 .1 .0)) (List._∷_
+              (Row.lease (κs .1 .1 .1 .0) (qs .1 .1 .1 .0)) (List._∷_ (Row.lease (κs .1 .1 .1 .1 .0) (qs .1 .1 .1 .1 .0)) (List._∷_ (Row.lease (κs .1 .1 .1 .1 .1 .0) (qs .1 .1 .1 .1 .1 .0)) (List._∷_
+              Row.off (List._∷_ Row.off (List._∷_ Row.off (List._∷_ Row.off (List._∷_ Row.off (List._∷_ Row.off (List._∷_ Row.off (List._∷_ Row.off List.[])))))))))))));
         }
 
         abbrev G8 : Row.Cx
         G8 = record {
-          locals = List._++_ t7 (List._++_ t1 (List._++_ t2 t3));
-          slots = List._∷_ (Row.lease (κs .0) (qs .0)) (List._∷_ (Row.lease (κs .1 .0) (qs .1 .0)) (List._∷_ (Row.lease (κs .1 .1 .0) (qs .1 .1
-              .0)) (List._∷_ (Row.lease (κs .1 .1 .1 .0) (qs .1 .1 .1 .0)) (List._∷_ (Row.lease (κs .1 .1 .1 .1 .0) (qs .1 .1 .1 .1 .0)) (List._∷_ (Row.lease (κs .1 .1 .1 .1 .1 .0) (qs .1 .1 .1 .1 .1 .0))
-              (List._∷_ Row.off (List._∷_ Row.off (List._∷_ Row.off (List._∷_ Row.off (List._∷_ Row.off (List._∷_ Row.off (List._∷_ Row.off (List._∷_ Row.off (List._∷_ Row.off (List._∷_ Row.off
-              List.[])))))))))))))));
+          locals = List._++_ t4 (List._++_ t6 t2);
+          slots = List._∷_ (Row.lease (κs .0) (qs .0)) (List._∷_ (Row.lease (κs .1 .0) (qs .1 .0)) (List._∷_ (Row.lease (κs .1 .1 .0) (qs .1 .1 .0)) (List._∷_
+              (Row.lease (κs .1 .1 .1 .0) (qs .1 .1 .1 .0)) (List._∷_ (Row.lease (κs .1 .1 .1 .1 .0) (qs .1 .1 .1 .1 .0)) (List._∷_ (Row.lease (κs .1 .1 .1 .1 .1 .0) (qs .1 .1 .1 .1 .1 .0)) (List._∷_
+              Row.off (List._∷_ Row.off (List._∷_ Row.off (List._∷_ Row.off (List._∷_ Row.off (List._∷_ Row.off (List._∷_ Row.off (List._∷_ Row.off List.[])))))))))))));
         }
 
         abbrev G9 : Row.Cx
         G9 = record {
-          locals = List._++_ t7 (List._++_ t1 (List._++_ t2 t3));
-          slots = List._∷_ (Row.lease (κs .0) (qs .0)) (List._∷_ (Row.lease (κs .1 .0) (qs .1 .0)) (List._∷_ (Row.lease (κs .1 .1 .0) (qs .1 .1
-              .0)) (List._∷_ (Row.lease (κs .1 .1 .1 .0) (qs .1 .1 .1 .0)) (List._∷_ (Row.lease (κs .1 .1 .1 .1 .0) (qs .1 .1 .1 .1 .0)) (List._∷_ (Row.lease (κs .1 .1 .1 .1 .1 .0) (qs .1 .1 .1 .1 .1 .0))
-              (List._∷_ Row.alive (List._∷_ Row.off (List._∷_ Row.off (List._∷_ Row.off (List._∷_ Row.off (List._∷_ Row.off (List._∷_ Row.off (List._∷_ Row.off (List._∷_ Row.off (List._∷_ Row.off
-              List.[])))))))))))))));
+          locals = List._++_ t4 (List._++_ t7 t2);
+          slots = List._∷_ (Row.lease (κs .0) (qs .0)) (List._∷_ (Row.lease (κs .1 .0) (qs .1 .0)) (List._∷_ (Row.lease (κs .1 .1 .0) (qs .1 .1 .0)) (List._∷_
+              (Row.lease (κs .1 .1 .1 .0) (qs .1 .1 .1 .0)) (List._∷_ (Row.lease (κs .1 .1 .1 .1 .0) (qs .1 .1 .1 .1 .0)) (List._∷_ (Row.lease (κs .1 .1 .1 .1 .1 .0) (qs .1 .1 .1 .1 .1 .0)) (List._∷_
+              Row.off (List._∷_ Row.off (List._∷_ Row.off (List._∷_ Row.off (List._∷_ Row.off (List._∷_ Row.off (List._∷_ Row.off (List._∷_ Row.off List.[])))))))))))));
         }
 
         abbrev G10 : Row.Cx
         G10 = record {
-          locals = List._++_ g8 (List._++_ t9 (List._++_ t2 t3));
-          slots = List._∷_ (Row.lease (κs .0) (qs .0)) (List._∷_ (Row.lease (κs .1 .0) (qs .1 .0)) (List._∷_ Row.off (List._∷_ (Row.lease (κs .1
-              .1 .1 .0) (qs .1 .1 .1 .0)) (List._∷_ (Row.lease (κs .1 .1 .1 .1 .0) (qs .1 .1 .1 .1 .0)) (List._∷_ (Row.lease (κs .1 .1 .1 .1 .1 .0) (qs .1 .1 .1 .1 .1 .0)) (List._∷_ Row.alive (List._∷_
-              Row.off (List._∷_ Row.off (List._∷_ Row.off (List._∷_ Row.off (List._∷_ Row.off (List._∷_ Row.off (List._∷_ Row.off (List._∷_ Row.off (List._∷_ Row.off List.[])))))))))))))));
+          locals = List._++_ t4 (List._++_ t8 t2);
+          slots = List._∷_ (Row.lease (κs .0) (qs .0)) (List._∷_ (Row.lease (κs .1 .0) (qs .1 .0)) (List._∷_ (Row.lease (κs .1 .1 .0) (qs .1 .1 .0)) (List._∷_
+              (Row.lease (κs .1 .1 .1 .0) (qs .1 .1 .1 .0)) (List._∷_ (Row.lease (κs .1 .1 .1 .1 .0) (qs .1 .1 .1 .1 .0)) (List._∷_ (Row.lease (κs .1 .1 .1 .1 .1 .0) (qs .1 .1 .1 .1 .1 .0)) (List._∷_
+              Row.off (List._∷_ Row.off (List._∷_ Row.off (List._∷_ Row.off (List._∷_ Row.off (List._∷_ Row.off (List._∷_ Row.off (List._∷_ Row.off List.[])))))))))))));
         }
 
         abbrev G11 : Row.Cx
         G11 = record {
-          locals = List._++_ g8 (List._++_ t10 (List._++_ t2 t3));
-          slots = List._∷_ (Row.lease (κs .0) (qs .0)) (List._∷_ (Row.lease (κs .1 .0) (qs .1 .0)) (List._∷_ Row.off (List._∷_ (Row.lease (κs
-              .1 .1 .1 .0) (qs .1 .1 .1 .0)) (List._∷_ (Row.lease (κs .1 .1 .1 .1 .0) (qs .1 .1 .1 .1 .0)) (List._∷_ (Row.lease (κs .1 .1 .1 .1 .1 .0) (qs .1 .1 .1 .1 .1 .0)) (List._∷_ Row.alive (List._∷_
-              Row.off (List._∷_ Row.off (List._∷_ Row.off (List._∷_ Row.off (List._∷_ Row.off (List._∷_ Row.off (List._∷_ Row.off (List._∷_ Row.off (List._∷_ Row.off List.[])))))))))))))));
+          locals = List._++_ t9 (List._++_ t8 t2);
+          slots = List._∷_ (Row.lease (κs .0) (qs .0)) (List._∷_ (Row.lease (κs .1 .0) (qs .1 .0)) (List._∷_ (Row.lease (κs .1 .1 .0) (qs .1 .1 .0)) (List._∷_
+              (Row.lease (κs .1 .1 .1 .0) (qs .1 .1 .1 .0)) (List._∷_ (Row.lease (κs .1 .1 .1 .1 .0) (qs .1 .1 .1 .1 .0)) (List._∷_ (Row.lease (κs .1 .1 .1 .1 .1 .0) (qs .1 .1 .1 .1 .1 .0)) (List._∷_
+              Row.off (List._∷_ Row.off (List._∷_ Row.off (List._∷_ Row.off (List._∷_ Row.off (List._∷_ Row.off (List._∷_ Row.off (List._∷_ Row.off List.[])))))))))))));
         }
 
         abbrev G12 : Row.Cx
         G12 = record {
-          locals = List._++_ g8 (List._++_ t11 (List._++_ t2 t3));
-          slots = List._∷_ (Row.lease (κs .0) (qs .0)) (List._∷_ (Row.lease (κs .1 .0) (qs .1 .0)) (List._∷_ Row.off (List._∷_ (Row.lease (κs
-              .1 .1 .1 .0) (qs .1 .1 .1 .0)) (List._∷_ (Row.lease (κs .1 .1 .1 .1 .0) (qs .1 .1 .1 .1 .0)) (List._∷_ (Row.lease (κs .1 .1 .1 .1 .1 .0) (qs .1 .1 .1 .1 .1 .0)) (List._∷_ Row.alive (List._∷_
-              Row.off (List._∷_ Row.off (List._∷_ Row.off (List._∷_ Row.off (List._∷_ Row.off (List._∷_ Row.off (List._∷_ Row.off (List._∷_ Row.off (List._∷_ Row.off List.[])))))))))))))));
+          locals = List._++_ t9 (List._++_ t10 t2);
+          slots = List._∷_ (Row.lease (κs .0) (qs .0)) (List._∷_ (Row.lease (κs .1 .0) (qs .1 .0)) (List._∷_ (Row.lease (κs .1 .1 .0) (qs .1 .1 .0)) (List._∷_
+              (Row.lease (κs .1 .1 .1 .0) (qs .1 .1 .1 .0)) (List._∷_ (Row.lease (κs .1 .1 .1 .1 .0) (qs .1 .1 .1 .1 .0)) (List._∷_ (Row.lease (κs .1 .1 .1 .1 .1 .0) (qs .1 .1 .1 .1 .1 .0)) (List._∷_
+              Row.off (List._∷_ Row.off (List._∷_ Row.off (List._∷_ Row.off (List._∷_ Row.off (List._∷_ Row.off (List._∷_ Row.off (List._∷_ Row.off List.[])))))))))))));
         }
 
         abbrev G13 : Row.Cx
         G13 = record {
-          locals = List._++_ g8 (List._++_ t12 (List._++_ t2 t3));
-          slots = List._∷_ (Row.lease (κs .0) (qs .0)) (List._∷_ (Row.lease (κs .1 .0) (qs .1 .0)) (List._∷_ Row.off (List._∷_ (Row.lease (κs
-              .1 .1 .1 .0) (qs .1 .1 .1 .0)) (List._∷_ (Row.lease (κs .1 .1 .1 .1 .0) (qs .1 .1 .1 .1 .0)) (List._∷_ (Row.lease (κs .1 .1 .1 .1 .1 .0) (qs .1 .1 .1 .1 .1 .0)) (List._∷_ Row.alive (List._∷_
-              Row.off (List._∷_ Row.off (List._∷_ Row.off (List._∷_ Row.off (List._∷_ Row.off (List._∷_ Row.off (List._∷_ Row.off (List._∷_ Row.off (List._∷_ Row.off List.[])))))))))))))));
+          locals = List._++_ t9 (List._++_ t11 t2);
+          slots = List._∷_ (Row.lease (κs .0) (qs .0)) (List._∷_ (Row.lease (κs .1 .0) (qs .1 .0)) (List._∷_ (Row.lease (κs .1 .1 .0) (qs .1 .1 .0)) (List._∷_
+              (Row.lease (κs .1 .1 .1 .0) (qs .1 .1 .1 .0)) (List._∷_ (Row.lease (κs .1 .1 .1 .1 .0) (qs .1 .1 .1 .1 .0)) (List._∷_ (Row.lease (κs .1 .1 .1 .1 .1 .0) (qs .1 .1 .1 .1 .1 .0)) (List._∷_
+              Row.off (List._∷_ Row.off (List._∷_ Row.off (List._∷_ Row.off (List._∷_ Row.off (List._∷_ Row.off (List._∷_ Row.off (List._∷_ Row.off List.[])))))))))))));
         }
 
         abbrev G14 : Row.Cx
         G14 = record {
-          locals = List._++_ g8 (List._++_ t12 (List._++_ t2 t3));
-          slots = List._∷_ (Row.lease (κs .0) (qs .0)) (List._∷_ (Row.lease (κs .1 .0) (qs .1 .0)) (List._∷_ Row.off (List._∷_ (Row.lease (κs
-              .1 .1 .1 .0) (qs .1 .1 .1 .0)) (List._∷_ (Row.lease (κs .1 .1 .1 .1 .0) (qs .1 .1 .1 .1 .0)) (List._∷_ (Row.lease (κs .1 .1 .1 .1 .1 .0) (qs .1 .1 .1 .1 .1 .0)) (List._∷_ Row.dead (List._∷_
-              Row.off (List._∷_ Row.off (List._∷_ Row.off (List._∷_ Row.off (List._∷_ Row.off (List._∷_ Row.off (List._∷_ Row.off (List._∷_ Row.off (List._∷_ Row.off List.[])))))))))))))));
+          locals = List._++_ t9 (List._++_ t12 t2);
+          slots = List._∷_ (Row.lease (κs .0) (qs .0)) (List._∷_ (Row.lease (κs .1 .0) (qs .1 .0)) (List._∷_ (Row.lease (κs .1 .1 .0) (qs .1 .1 .0)) (List._∷_
+              (Row.lease (κs .1 .1 .1 .0) (qs .1 .1 .1 .0)) (List._∷_ (Row.lease (κs .1 .1 .1 .1 .0) (qs .1 .1 .1 .1 .0)) (List._∷_ (Row.lease (κs .1 .1 .1 .1 .1 .0) (qs .1 .1 .1 .1 .1 .0)) (List._∷_
+              Row.off (List._∷_ Row.off (List._∷_ Row.off (List._∷_ Row.off (List._∷_ Row.off (List._∷_ Row.off (List._∷_ Row.off (List._∷_ Row.off List.[])))))))))))));
         }
 
         abbrev G15 : Row.Cx
         G15 = record {
-          locals = List._++_ t7 (List._++_ t1 (List._++_ t2 t3));
-          slots = List._∷_ (Row.lease (κs .0) (qs .0)) (List._∷_ (Row.lease (κs .1 .0) (qs .1 .0)) (List._∷_ (Row.lease (κs .1 .1 .0) (qs .1 .1
-              .0)) (List._∷_ (Row.lease (κs .1 .1 .1 .0) (qs .1 .1 .1 .0)) (List._∷_ (Row.lease (κs .1 .1 .1 .1 .0) (qs .1 .1 .1 .1 .0)) (List._∷_ (Row.lease (κs .1 .1 .1 .1 .1 .0) (qs .1 .1 .1 .1 .1 .0))
-              (List._∷_ Row.dead (List._∷_ Row.off (List._∷_ Row.off (List._∷_ Row.off (List._∷_ Row.off (List._∷_ Row.off (List._∷_ Row.off (List._∷_ Row.off (List._∷_ Row.off (List._∷_ Row.off
-              List.[])))))))))))))));
+          locals = List._++_ t13 (List._++_ t12 t2);
+          slots = List._∷_ (Row.lease (κs .0) (qs .0)) (List._∷_ (Row.lease (κs .1 .0) (qs .1 .0)) (List._∷_ (Row.lease (κs .1 .1 .0) (qs .1 .1 .0))
+              (List._∷_ (Row.lease (κs .1 .1 .1 .0) (qs .1 .1 .1 .0)) (List._∷_ (Row.lease (κs .1 .1 .1 .1 .0) (qs .1 .1 .1 .1 .0)) (List._∷_ (Row.lease (κs .1 .1 .1 .1 .1 .0) (qs .1 .1 .1 .1 .1 .0))
+              (List._∷_ Row.off (List._∷_ Row.off (List._∷_ Row.off (List._∷_ Row.off (List._∷_ Row.off (List._∷_ Row.off (List._∷_ Row.off (List._∷_ Row.off List.[])))))))))))));
         }
 
         abbrev G16 : Row.Cx
         G16 = record {
-          locals = List._++_ t7 (List._++_ t1 (List._++_ t2 t3));
-          slots = List._∷_ (Row.lease (κs .0) (qs .0)) (List._∷_ (Row.lease (κs .1 .0) (qs .1 .0)) (List._∷_ (Row.lease (κs .1 .1 .0) (qs .1 .1
-              .0)) (List._∷_ (Row.lease (κs .1 .1 .1 .0) (qs .1 .1 .1 .0)) (List._∷_ (Row.lease (κs .1 .1 .1 .1 .0) (qs .1 .1 .1 .1 .0)) (List._∷_ (Row.lease (κs .1 .1 .1 .1 .1 .0) (qs .1 .1 .1 .1 .1 .0))
-              (List._∷_ Row.dead (List._∷_ Row.off (List._∷_ Row.off (List._∷_ Row.off (List._∷_ Row.off (List._∷_ Row.off (List._∷_ Row.off (List._∷_ Row.off (List._∷_ Row.off (List._∷_ Row.off
-              List.[])))))))))))))));
+          locals = List._++_ t9 (List._++_ t14 t2);
+          slots = List._∷_ (Row.lease (κs .0) (qs .0)) (List._∷_ (Row.lease (κs .1 .0) (qs .1 .0)) (List._∷_ (Row.lease (κs .1 .1 .0) (qs .1 .1 .0)) (List._∷_
+              (Row.lease (κs .1 .1 .1 .0) (qs .1 .1 .1 .0)) (List._∷_ (Row.lease (κs .1 .1 .1 .1 .0) (qs .1 .1 .1 .1 .0)) (List._∷_ (Row.lease (κs .1 .1 .1 .1 .1 .0) (qs .1 .1 .1 .1 .1 .0)) (List._∷_
+              Row.off (List._∷_ Row.off (List._∷_ Row.off (List._∷_ Row.off (List._∷_ Row.off (List._∷_ Row.off (List._∷_ Row.off (List._∷_ Row.off List.[])))))))))))));
         }
 
         abbrev G17 : Row.Cx
         G17 = record {
-          locals = List._++_ t7 (List._++_ t1 (List._++_ t2 t3));
-          slots = List._∷_ (Row.lease (κs .0) (qs .0)) (List._∷_ (Row.lease (κs .1 .0) (qs .1 .0)) (List._∷_ (Row.lease (κs .1 .1 .0) (qs .1 .1
-              .0)) (List._∷_ (Row.lease (κs .1 .1 .1 .0) (qs .1 .1 .1 .0)) (List._∷_ (Row.lease (κs .1 .1 .1 .1 .0) (qs .1 .1 .1 .1 .0)) (List._∷_ (Row.lease (κs .1 .1 .1 .1 .1 .0) (qs .1 .1 .1 .1 .1 .0))
-              (List._∷_ Row.off (List._∷_ Row.off (List._∷_ Row.off (List._∷_ Row.off (List._∷_ Row.off (List._∷_ Row.off (List._∷_ Row.off (List._∷_ Row.off (List._∷_ Row.off (List._∷_ Row.off
-              List.[])))))))))))))));
+          locals = List._++_ t9 (List._++_ t12 t2);
+          slots = List._∷_ (Row.lease (κs .0) (qs .0)) (List._∷_ (Row.lease (κs .1 .0) (qs .1 .0)) (List._∷_ (Row.lease (κs .1 .1 .0) (qs .1 .1 .0)) (List._∷_
+              (Row.lease (κs .1 .1 .1 .0) (qs .1 .1 .1 .0)) (List._∷_ (Row.lease (κs .1 .1 .1 .1 .0) (qs .1 .1 .1 .1 .0)) (List._∷_ (Row.lease (κs .1 .1 .1 .1 .1 .0) (qs .1 .1 .1 .1 .1 .0)) (List._∷_
+              Row.off (List._∷_ Row.off (List._∷_ Row.off (List._∷_ Row.off (List._∷_ Row.off (List._∷_ Row.off (List._∷_ Row.off (List._∷_ Row.off List.[])))))))))))));
         }
 
         abbrev G18 : Row.Cx
         G18 = record {
-          locals = List._++_ t7 (List._++_ t1 (List._++_ t2 t3));
-          slots = List._∷_ (Row.lease (κs .0) (qs .0)) (List._∷_ (Row.lease (κs .1 .0) (qs .1 .0)) (List._∷_ (Row.lease (κs .1 .1 .0) (qs .1 .1
-              .0)) (List._∷_ (Row.lease (κs .1 .1 .1 .0) (qs .1 .1 .1 .0)) (List._∷_ (Row.lease (κs .1 .1 .1 .1 .0) (qs .1 .1 .1 .1 .0)) (List._∷_ (Row.lease (κs .1 .1 .1 .1 .1 .0) (qs .1 .1 .1 .1 .1 .0))
-              (List._∷_ Row.off (List._∷_ Row.alive (List._∷_ Row.off (List._∷_ Row.off (List._∷_ Row.off (List._∷_ Row.off (List._∷_ Row.off (List._∷_ Row.off (List._∷_ Row.off (List._∷_ Row.off
-              List.[])))))))))))))));
+          locals = List._++_ t9 (List._++_ t12 t2);
+          slots = List._∷_ (Row.lease (κs .0) (qs .0)) (List._∷_ (Row.lease (κs .1 .0) (qs .1 .0)) (List._∷_ (Row.lease (κs .1 .1 .0) (qs .1 .1 .0)) (List._∷_
+              (Row.lease (κs .1 .1 .1 .0) (qs .1 .1 .1 .0)) (List._∷_ (Row.lease (κs .1 .1 .1 .1 .0) (qs .1 .1 .1 .1 .0)) (List._∷_ (Row.lease (κs .1 .1 .1 .1 .1 .0) (qs .1 .1 .1 .1 .1 .0)) (List._∷_
+              Row.off (List._∷_ Row.off (List._∷_ Row.off (List._∷_ Row.off (List._∷_ Row.off (List._∷_ Row.off (List._∷_ Row.off (List._∷_ Row.off List.[])))))))))))));
         }
 
         abbrev G19 : Row.Cx
         G19 = record {
-          locals = List._++_ g13 (List._++_ t14 (List._++_ t2 t3));
-          slots = List._∷_ (Row.lease (κs .0) (qs .0)) (List._∷_ (Row.lease (κs .1 .0) (qs .1 .0)) (List._∷_ (Row.lease (κs .1 .1 .0) (qs .1
-              .1 .0)) (List._∷_ Row.off (List._∷_ (Row.lease (κs .1 .1 .1 .1 .0) (qs .1 .1 .1 .1 .0)) (List._∷_ (Row.lease (κs .1 .1 .1 .1 .1 .0) (qs .1 .1 .1 .1 .1 .0)) (List._∷_ Row.off (List._∷_
-              Row.alive (List._∷_ Row.off (List._∷_ Row.off (List._∷_ Row.off (List._∷_ Row.off (List._∷_ Row.off (List._∷_ Row.off (List._∷_ Row.off (List._∷_ Row.off List.[])))))))))))))));
+          locals = List._++_ t15 (List._++_ t14 t2);
+          slots = List._∷_ (Row.lease (κs .0) (qs .0)) (List._∷_ (Row.lease (κs .1 .0) (qs .1 .0)) (List._∷_ (Row.lease (κs .1 .1 .0) (qs .1 .1 .0))
+              (List._∷_ (Row.lease (κs .1 .1 .1 .0) (qs .1 .1 .1 .0)) (List._∷_ (Row.lease (κs .1 .1 .1 .1 .0) (qs .1 .1 .1 .1 .0)) (List._∷_ (Row.lease (κs .1 .1 .1 .1 .1 .0) (qs .1 .1 .1 .1 .1 .0))
+              (List._∷_ Row.off (List._∷_ Row.off (List._∷_ Row.off (List._∷_ Row.off (List._∷_ Row.off (List._∷_ Row.off (List._∷_ Row.off (List._∷_ Row.off List.[])))))))))))));
         }
 
         abbrev G20 : Row.Cx
         G20 = record {
-          locals = List._++_ g13 (List._++_ t15 (List._++_ t2 t3));
-          slots = List._∷_ (Row.lease (κs .0) (qs .0)) (List._∷_ (Row.lease (κs .1 .0) (qs .1 .0)) (List._∷_ (Row.lease (κs .1 .1 .0) (qs .1
-              .1 .0)) (List._∷_ Row.off (List._∷_ (Row.lease (κs .1 .1 .1 .1 .0) (qs .1 .1 .1 .1 .0)) (List._∷_ (Row.lease (κs .1 .1 .1 .1 .1 .0) (qs .1 .1 .1 .1 .1 .0)) (List._∷_ Row.off (List._∷_
-              Row.alive (List._∷_ Row.off (List._∷_ Row.off (List._∷_ Row.off (List._∷_ Row.off (List._∷_ Row.off (List._∷_ Row.off (List._∷_ Row.off (List._∷_ Row.off List.[])))))))))))))));
+          locals = List._++_ t16 (List._++_ t14 t2);
+          slots = List._∷_ (Row.lease (κs .0) (qs .0)) (List._∷_ (Row.lease (κs .1 .0) (qs .1 .0)) (List._∷_ (Row.lease (κs .1 .1 .0) (qs .1 .1 .0))
+              (List._∷_ (Row.lease (κs .1 .1 .1 .0) (qs .1 .1 .1 .0)) (List._∷_ (Row.lease (κs .1 .1 .1 .1 .0) (qs .1 .1 .1 .1 .0)) (List._∷_ (Row.lease (κs .1 .1 .1 .1 .1 .0) (qs .1 .1 .1 .1 .1 .0))
+              (List._∷_ Row.off (List._∷_ Row.off (List._∷_ Row.off (List._∷_ Row.off (List._∷_ Row.off (List._∷_ Row.off (List._∷_ Row.off (List._∷_ Row.off List.[])))))))))))));
         }
 
         abbrev G21 : Row.Cx
         G21 = record {
-          locals = List._++_ g13 (List._++_ t16 (List._++_ t2 t3));
-          slots = List._∷_ (Row.lease (κs .0) (qs .0)) (List._∷_ (Row.lease (κs .1 .0) (qs .1 .0)) (List._∷_ (Row.lease (κs .1 .1 .0) (qs .1
-              .1 .0)) (List._∷_ Row.off (List._∷_ (Row.lease (κs .1 .1 .1 .1 .0) (qs .1 .1 .1 .1 .0)) (List._∷_ (Row.lease (κs .1 .1 .1 .1 .1 .0) (qs .1 .1 .1 .1 .1 .0)) (List._∷_ Row.off (List._∷_
-              Row.alive (List._∷_ Row.off (List._∷_ Row.off (List._∷_ Row.off (List._∷_ Row.off (List._∷_ Row.off (List._∷_ Row.off (List._∷_ Row.off (List._∷_ Row.off List.[])))))))))))))));
+          locals = List._++_ t17 (List._++_ t14 t2);
+          slots = List._∷_ (Row.lease (κs .0) (qs .0)) (List._∷_ (Row.lease (κs .1 .0) (qs .1 .0)) (List._∷_ (Row.lease (κs .1 .1 .0) (qs .1 .1 .0))
+              (List._∷_ (Row.lease (κs .1 .1 .1 .0) (qs .1 .1 .1 .0)) (List._∷_ (Row.lease (κs .1 .1 .1 .1 .0) (qs .1 .1 .1 .1 .0)) (List._∷_ (Row.lease (κs .1 .1 .1 .1 .1 .0) (qs .1 .1 .1 .1 .1 .0))
+              (List._∷_ Row.off (List._∷_ Row.off (List._∷_ Row.off (List._∷_ Row.off (List._∷_ Row.off (List._∷_ Row.off (List._∷_ Row.off (List._∷_ Row.off List.[])))))))))))));
         }
 
         abbrev G22 : Row.Cx
         G22 = record {
-          locals = List._++_ g13 (List._++_ t17 (List._++_ t2 t3));
-          slots = List._∷_ (Row.lease (κs .0) (qs .0)) (List._∷_ (Row.lease (κs .1 .0) (qs .1 .0)) (List._∷_ (Row.lease (κs .1 .1 .0) (qs .1
-              .1 .0)) (List._∷_ Row.off (List._∷_ (Row.lease (κs .1 .1 .1 .1 .0) (qs .1 .1 .1 .1 .0)) (List._∷_ (Row.lease (κs .1 .1 .1 .1 .1 .0) (qs .1 .1 .1 .1 .1 .0)) (List._∷_ Row.off (List._∷_
-              Row.alive (List._∷_ Row.off (List._∷_ Row.off (List._∷_ Row.off (List._∷_ Row.off (List._∷_ Row.off (List._∷_ Row.off (List._∷_ Row.off (List._∷_ Row.off List.[])))))))))))))));
+          locals = List._++_ t13 (List._++_ t14 t2);
+          slots = List._∷_ (Row.lease (κs .0) (qs .0)) (List._∷_ (Row.lease (κs .1 .0) (qs .1 .0)) (List._∷_ (Row.lease (κs .1 .1 .0) (qs .1 .1 .0))
+              (List._∷_ (Row.lease (κs .1 .1 .1 .0) (qs .1 .1 .1 .0)) (List._∷_ (Row.lease (κs .1 .1 .1 .1 .0) (qs .1 .1 .1 .1 .0)) (List._∷_ (Row.lease (κs .1 .1 .1 .1 .1 .0) (qs .1 .1 .1 .1 .1 .0))
+              (List._∷_ Row.off (List._∷_ Row.off (List._∷_ Row.off (List._∷_ Row.off (List._∷_ Row.off (List._∷_ Row.off (List._∷_ Row.off (List._∷_ Row.off List.[])))))))))))));
         }
 
         abbrev G23 : Row.Cx
         G23 = record {
-          locals = List._++_ g13 (List._++_ t18 (List._++_ t2 t3));
-          slots = List._∷_ (Row.lease (κs .0) (qs .0)) (List._∷_ (Row.lease (κs .1 .0) (qs .1 .0)) (List._∷_ (Row.lease (κs .1 .1 .0) (qs .1
-              .1 .0)) (List._∷_ Row.off (List._∷_ (Row.lease (κs .1 .1 .1 .1 .0) (qs .1 .1 .1 .1 .0)) (List._∷_ (Row.lease (κs .1 .1 .1 .1 .1 .0) (qs .1 .1 .1 .1 .1 .0)) (List._∷_ Row.off (List._∷_
-              Row.alive (List._∷_ Row.off (List._∷_ Row.off (List._∷_ Row.off (List._∷_ Row.off (List._∷_ Row.off (List._∷_ Row.off (List._∷_ Row.off (List._∷_ Row.off List.[])))))))))))))));
+          locals = List._++_ t13 (List._++_ t12 t2);
+          slots = List._∷_ (Row.lease (κs .0) (qs .0)) (List._∷_ (Row.lease (κs .1 .0) (qs .1 .0)) (List._∷_ (Row.lease (κs .1 .1 .0) (qs .1 .1 .0))
+              (List._∷_ (Row.lease (κs .1 .1 .1 .0) (qs .1 .1 .1 .0)) (List._∷_ (Row.lease (κs .1 .1 .1 .1 .0) (qs .1 .1 .1 .1 .0)) (List._∷_ (Row.lease (κs .1 .1 .1 .1 .1 .0) (qs .1 .1 .1 .1 .1 .0))
+              (List._∷_ Row.off (List._∷_ Row.off (List._∷_ Row.off (List._∷_ Row.off (List._∷_ Row.off (List._∷_ Row.off (List._∷_ Row.off (List._∷_ Row.off List.[])))))))))))));
         }
 
         abbrev G24 : Row.Cx
         G24 = record {
-          locals = List._++_ g13 (List._++_ t19 (List._++_ t2 t3));
-          slots = List._∷_ (Row.lease (κs .0) (qs .0)) (List._∷_ (Row.lease (κs .1 .0) (qs .1 .0)) (List._∷_ (Row.lease (κs .1 .1 .0) (qs .1
-              .1 .0)) (List._∷_ Row.off (List._∷_ (Row.lease (κs .1 .1 .1 .1 .0) (qs .1 .1 .1 .1 .0)) (List._∷_ (Row.lease (κs .1 .1 .1 .1 .1 .0) (qs .1 .1 .1 .1 .1 .0)) (List._∷_ Row.off (List._∷_
-              Row.alive (List._∷_ Row.off (List._∷_ Row.off (List._∷_ Row.off (List._∷_ Row.off (List._∷_ Row.off (List._∷_ Row.off (List._∷_ Row.off (List._∷_ Row.off List.[])))))))))))))));
+          locals = List._++_ t9 (List._++_ t18 t2);
+          slots = List._∷_ (Row.lease (κs .0) (qs .0)) (List._∷_ (Row.lease (κs .1 .0) (qs .1 .0)) (List._∷_ (Row.lease (κs .1 .1 .0) (qs .1 .1 .0)) (List._∷_
+              (Row.lease (κs .1 .1 .1 .0) (qs .1 .1 .1 .0)) (List._∷_ (Row.lease (κs .1 .1 .1 .1 .0) (qs .1 .1 .1 .1 .0)) (List._∷_ (Row.lease (κs .1 .1 .1 .1 .1 .0) (qs .1 .1 .1 .1 .1 .0)) (List._∷_
+              Row.off (List._∷_ Row.off (List._∷_ Row.off (List._∷_ Row.off (List._∷_ Row.off (List._∷_ Row.off (List._∷_ Row.off (List._∷_ Row.off List.[])))))))))))));
         }
 
         abbrev G25 : Row.Cx
         G25 = record {
-          locals = List._++_ g13 (List._++_ t19 (List._++_ t2 t3));
-          slots = List._∷_ (Row.lease (κs .0) (qs .0)) (List._∷_ (Row.lease (κs .1 .0) (qs .1 .0)) (List._∷_ (Row.lease (κs .1 .1 .0) (qs .1
-              .1 .0)) (List._∷_ Row.off (List._∷_ (Row.lease (κs .1 .1 .1 .1 .0) (qs .1 .1 .1 .1 .0)) (List._∷_ (Row.lease (κs .1 .1 .1 .1 .1 .0) (qs .1 .1 .1 .1 .1 .0)) (List._∷_ Row.off (List._∷_ Row.dead
-              (List._∷_ Row.off (List._∷_ Row.off (List._∷_ Row.off (List._∷_ Row.off (List._∷_ Row.off (List._∷_ Row.off (List._∷_ Row.off (List._∷_ Row.off List.[])))))))))))))));
+          locals = List._++_ t9 (List._++_ t18 t2);
+          slots = List._∷_ (Row.lease (κs .0) (qs .0)) (List._∷_ (Row.lease (κs .1 .0) (qs .1 .0)) (List._∷_ (Row.lease (κs .1 .1 .0) (qs .1 .1 .0)) (List._∷_
+              (Row.lease (κs .1 .1 .1 .0) (qs .1 .1 .1 .0)) (List._∷_ (Row.lease (κs .1 .1 .1 .1 .0) (qs .1 .1 .1 .1 .0)) (List._∷_ (Row.lease (κs .1 .1 .1 .1 .1 .0) (qs .1 .1 .1 .1 .1 .0)) (List._∷_
+              Row.alive (List._∷_ Row.off (List._∷_ Row.off (List._∷_ Row.off (List._∷_ Row.off (List._∷_ Row.off (List._∷_ Row.off (List._∷_ Row.off List.[])))))))))))));
         }
 
         abbrev G26 : Row.Cx
         G26 = record {
-          locals = List._++_ t7 (List._++_ t1 (List._++_ t2 t3));
-          slots = List._∷_ (Row.lease (κs .0) (qs .0)) (List._∷_ (Row.lease (κs .1 .0) (qs .1 .0)) (List._∷_ (Row.lease (κs .1 .1 .0) (qs .1 .1
-              .0)) (List._∷_ (Row.lease (κs .1 .1 .1 .0) (qs .1 .1 .1 .0)) (List._∷_ (Row.lease (κs .1 .1 .1 .1 .0) (qs .1 .1 .1 .1 .0)) (List._∷_ (Row.lease (κs .1 .1 .1 .1 .1 .0) (qs .1 .1 .1 .1 .1 .0))
-              (List._∷_ Row.off (List._∷_ Row.dead (List._∷_ Row.off (List._∷_ Row.off (List._∷_ Row.off (List._∷_ Row.off (List._∷_ Row.off (List._∷_ Row.off (List._∷_ Row.off (List._∷_ Row.off
-              List.[])))))))))))))));
+          locals = List._++_ g19 (List._++_ t20 t2);
+          slots = List._∷_ (Row.lease (κs .0) (qs .0)) (List._∷_ (Row.lease (κs .1 .0) (qs .1 .0)) (List._∷_ Row.off (List._∷_ (Row.lease (κs .1 .1 .1 .0)
+              (qs .1 .1 .1 .0)) (List._∷_ (Row.lease (κs .1 .1 .1 .1 .0) (qs .1 .1 .1 .1 .0)) (List._∷_ (Row.lease (κs .1 .1 .1 .1 .1 .0) (qs .1 .1 .1 .1 .1 .0)) (List._∷_ Row.alive (List._∷_ Row.off
+              (List._∷_ Row.off (List._∷_ Row.off (List._∷_ Row.off (List._∷_ Row.off (List._∷_ Row.off (List._∷_ Row.off List.[])))))))))))));
         }
 
         abbrev G27 : Row.Cx
         G27 = record {
-          locals = List._++_ t7 (List._++_ t1 (List._++_ t2 t3));
-          slots = List._∷_ (Row.lease (κs .0) (qs .0)) (List._∷_ (Row.lease (κs .1 .0) (qs .1 .0)) (List._∷_ (Row.lease (κs .1 .1 .0) (qs .1 .1
-              .0)) (List._∷_ (Row.lease (κs .1 .1 .1 .0) (qs .1 .1 .1 .0)) (List._∷_ (Row.lease (κs .1 .1 .1 .1 .0) (qs .1 .1 .1 .1 .0)) (List._∷_ (Row.lease (κs .1 .1 .1 .1 .1 .0) (qs .1 .1 .1 .1 .1 .0))
-              (List._∷_ Row.off (List._∷_ Row.off (List._∷_ Row.off (List._∷_ Row.off (List._∷_ Row.off (List._∷_ Row.off (List._∷_ Row.off (List._∷_ Row.off (List._∷_ Row.off (List._∷_ Row.off
-              List.[])))))))))))))));
+          locals = List._++_ g19 (List._++_ t21 t2);
+          slots = List._∷_ (Row.lease (κs .0) (qs .0)) (List._∷_ (Row.lease (κs .1 .0) (qs .1 .0)) (List._∷_ Row.off (List._∷_ (Row.lease (κs .1 .1 .1 .0)
+              (qs .1 .1 .1 .0)) (List._∷_ (Row.lease (κs .1 .1 .1 .1 .0) (qs .1 .1 .1 .1 .0)) (List._∷_ (Row.lease (κs .1 .1 .1 .1 .1 .0) (qs .1 .1 .1 .1 .1 .0)) (List._∷_ Row.alive (List._∷_ Row.off
+              (List._∷_ Row.off (List._∷_ Row.off (List._∷_ Row.off (List._∷_ Row.off (List._∷_ Row.off (List._∷_ Row.off List.[])))))))))))));
         }
 
         abbrev G28 : Row.Cx
         G28 = record {
-          locals = List._++_ t7 (List._++_ t20 (List._++_ t2 t3));
-          slots = List._∷_ (Row.lease (κs .0) (qs .0)) (List._∷_ (Row.lease (κs .1 .0) (qs .1 .0)) (List._∷_ (Row.lease (κs .1 .1 .0) (qs .1 .1
-              .0)) (List._∷_ (Row.lease (κs .1 .1 .1 .0) (qs .1 .1 .1 .0)) (List._∷_ (Row.lease (κs .1 .1 .1 .1 .0) (qs .1 .1 .1 .1 .0)) (List._∷_ (Row.lease (κs .1 .1 .1 .1 .1 .0) (qs .1 .1 .1 .1 .1 .0))
-              (List._∷_ Row.off (List._∷_ Row.off (List._∷_ Row.off (List._∷_ Row.off (List._∷_ Row.off (List._∷_ Row.off (List._∷_ Row.off (List._∷_ Row.off (List._∷_ Row.off (List._∷_ Row.off
-              List.[])))))))))))))));
+          locals = List._++_ g19 (List._++_ t22 t2);
+          slots = List._∷_ (Row.lease (κs .0) (qs .0)) (List._∷_ (Row.lease (κs .1 .0) (qs .1 .0)) (List._∷_ Row.off (List._∷_ (Row.lease (κs .1 .1 .1 .0)
+              (qs .1 .1 .1 .0)) (List._∷_ (Row.lease (κs .1 .1 .1 .1 .0) (qs .1 .1 .1 .1 .0)) (List._∷_ (Row.lease (κs .1 .1 .1 .1 .1 .0) (qs .1 .1 .1 .1 .1 .0)) (List._∷_ Row.alive (List._∷_ Row.off
+              (List._∷_ Row.off (List._∷_ Row.off (List._∷_ Row.off (List._∷_ Row.off (List._∷_ Row.off (List._∷_ Row.off List.[])))))))))))));
         }
 
         abbrev G29 : Row.Cx
         G29 = record {
-          locals = List._++_ t7 (List._++_ t21 (List._++_ t2 t3));
-          slots = List._∷_ (Row.lease (κs .0) (qs .0)) (List._∷_ (Row.lease (κs .1 .0) (qs .1 .0)) (List._∷_ (Row.lease (κs .1 .1 .0) (qs .1 .1
-              .0)) (List._∷_ (Row.lease (κs .1 .1 .1 .0) (qs .1 .1 .1 .0)) (List._∷_ (Row.lease (κs .1 .1 .1 .1 .0) (qs .1 .1 .1 .1 .0)) (List._∷_ (Row.lease (κs .1 .1 .1 .1 .1 .0) (qs .1 .1 .1 .1 .1 .0))
-              (List._∷_ Row.off (List._∷_ Row.off (List._∷_ Row.off (List._∷_ Row.off (List._∷_ Row.off (List._∷_ Row.off (List._∷_ Row.off (List._∷_ Row.off (List._∷_ Row.off (List._∷_ Row.off
-              List.[])))))))))))))));
+          locals = List._++_ g19 (List._++_ t23 t2);
+          slots = List._∷_ (Row.lease (κs .0) (qs .0)) (List._∷_ (Row.lease (κs .1 .0) (qs .1 .0)) (List._∷_ Row.off (List._∷_ (Row.lease (κs .1 .1 .1 .0)
+              (qs .1 .1 .1 .0)) (List._∷_ (Row.lease (κs .1 .1 .1 .1 .0) (qs .1 .1 .1 .1 .0)) (List._∷_ (Row.lease (κs .1 .1 .1 .1 .1 .0) (qs .1 .1 .1 .1 .1 .0)) (List._∷_ Row.alive (List._∷_ Row.off
+              (List._∷_ Row.off (List._∷_ Row.off (List._∷_ Row.off (List._∷_ Row.off (List._∷_ Row.off (List._∷_ Row.off List.[])))))))))))));
         }
 
         abbrev G30 : Row.Cx
         G30 = record {
-          locals = List._++_ t7 (List._++_ t22 (List._++_ t2 t3));
-          slots = List._∷_ (Row.lease (κs .0) (qs .0)) (List._∷_ (Row.lease (κs .1 .0) (qs .1 .0)) (List._∷_ (Row.lease (κs .1 .1 .0) (qs .1 .1
-              .0)) (List._∷_ (Row.lease (κs .1 .1 .1 .0) (qs .1 .1 .1 .0)) (List._∷_ (Row.lease (κs .1 .1 .1 .1 .0) (qs .1 .1 .1 .1 .0)) (List._∷_ (Row.lease (κs .1 .1 .1 .1 .1 .0) (qs .1 .1 .1 .1 .1 .0))
-              (List._∷_ Row.off (List._∷_ Row.off (List._∷_ Row.off (List._∷_ Row.off (List._∷_ Row.off (List._∷_ Row.off (List._∷_ Row.off (List._∷_ Row.off (List._∷_ Row.off (List._∷_ Row.off
-              List.[])))))))))))))));
+          locals = List._++_ g19 (List._++_ t24 t2);
+          slots = List._∷_ (Row.lease (κs .0) (qs .0)) (List._∷_ (Row.lease (κs .1 .0) (qs .1 .0)) (List._∷_ Row.off (List._∷_ (Row.lease (κs .1 .1 .1 .0)
+              (qs .1 .1 .1 .0)) (List._∷_ (Row.lease (κs .1 .1 .1 .1 .0) (qs .1 .1 .1 .1 .0)) (List._∷_ (Row.lease (κs .1 .1 .1 .1 .1 .0) (qs .1 .1 .1 .1 .1 .0)) (List._∷_ Row.alive (List._∷_ Row.off
+              (List._∷_ Row.off (List._∷_ Row.off (List._∷_ Row.off (List._∷_ Row.off (List._∷_ Row.off (List._∷_ Row.off List.[])))))))))))));
         }
 
         abbrev G31 : Row.Cx
         G31 = record {
-          locals = List._++_ t23 (List._++_ t22 (List._++_ t2 t3));
-          slots = List._∷_ (Row.lease (κs .0) (qs .0)) (List._∷_ (Row.lease (κs .1 .0) (qs .1 .0)) (List._∷_ (Row.lease (κs .1 .1 .0) (qs .1
-              .1 .0)) (List._∷_ (Row.lease (κs .1 .1 .1 .0) (qs .1 .1 .1 .0)) (List._∷_ (Row.lease (κs .1 .1 .1 .1 .0) (qs .1 .1 .1 .1 .0)) (List._∷_ (Row.lease (κs .1 .1 .1 .1 .1 .0) (qs .1 .1 .1 .1 .1
-              .0)) (List._∷_ Row.off (List._∷_ Row.off (List._∷_ Row.off (List._∷_ Row.off (List._∷_ Row.off (List._∷_ Row.off (List._∷_ Row.off (List._∷_ Row.off (List._∷_ Row.off (List._∷_ Row.off
-              List.[])))))))))))))));
+          locals = List._++_ g19 (List._++_ t25 t2);
+          slots = List._∷_ (Row.lease (κs .0) (qs .0)) (List._∷_ (Row.lease (κs .1 .0) (qs .1 .0)) (List._∷_ Row.off (List._∷_ (Row.lease (κs .1 .1 .1 .0)
+              (qs .1 .1 .1 .0)) (List._∷_ (Row.lease (κs .1 .1 .1 .1 .0) (qs .1 .1 .1 .1 .0)) (List._∷_ (Row.lease (κs .1 .1 .1 .1 .1 .0) (qs .1 .1 .1 .1 .1 .0)) (List._∷_ Row.alive (List._∷_ Row.off
+              (List._∷_ Row.off (List._∷_ Row.off (List._∷_ Row.off (List._∷_ Row.off (List._∷_ Row.off (List._∷_ Row.off List.[])))))))))))));
         }
 
         abbrev G32 : Row.Cx
         G32 = record {
-          locals = List._++_ t7 (List._++_ t24 (List._++_ t2 t3));
-          slots = List._∷_ (Row.lease (κs .0) (qs .0)) (List._∷_ (Row.lease (κs .1 .0) (qs .1 .0)) (List._∷_ (Row.lease (κs .1 .1 .0) (qs .1 .1
-              .0)) (List._∷_ (Row.lease (κs .1 .1 .1 .0) (qs .1 .1 .1 .0)) (List._∷_ (Row.lease (κs .1 .1 .1 .1 .0) (qs .1 .1 .1 .1 .0)) (List._∷_ (Row.lease (κs .1 .1 .1 .1 .1 .0) (qs .1 .1 .1 .1 .1 .0))
-              (List._∷_ Row.off (List._∷_ Row.off (List._∷_ Row.off (List._∷_ Row.off (List._∷_ Row.off (List._∷_ Row.off (List._∷_ Row.off (List._∷_ Row.off (List._∷_ Row.off (List._∷_ Row.off
-              List.[])))))))))))))));
+          locals = List._++_ g19 (List._++_ t25 t2);
+          slots = List._∷_ (Row.lease (κs .0) (qs .0)) (List._∷_ (Row.lease (κs .1 .0) (qs .1 .0)) (List._∷_ Row.off (List._∷_ (Row.lease (κs .1 .1 .1 .0)
+              (qs .1 .1 .1 .0)) (List._∷_ (Row.lease (κs .1 .1 .1 .1 .0) (qs .1 .1 .1 .1 .0)) (List._∷_ (Row.lease (κs .1 .1 .1 .1 .1 .0) (qs .1 .1 .1 .1 .1 .0)) (List._∷_ Row.dead (List._∷_ Row.off
+              (List._∷_ Row.off (List._∷_ Row.off (List._∷_ Row.off (List._∷_ Row.off (List._∷_ Row.off (List._∷_ Row.off List.[])))))))))))));
         }
 
         abbrev G33 : Row.Cx
         G33 = record {
-          locals = List._++_ t7 (List._++_ t22 (List._++_ t2 t3));
-          slots = List._∷_ (Row.lease (κs .0) (qs .0)) (List._∷_ (Row.lease (κs .1 .0) (qs .1 .0)) (List._∷_ (Row.lease (κs .1 .1 .0) (qs .1 .1
-              .0)) (List._∷_ (Row.lease (κs .1 .1 .1 .0) (qs .1 .1 .1 .0)) (List._∷_ (Row.lease (κs .1 .1 .1 .1 .0) (qs .1 .1 .1 .1 .0)) (List._∷_ (Row.lease (κs .1 .1 .1 .1 .1 .0) (qs .1 .1 .1 .1 .1 .0))
-              (List._∷_ Row.off (List._∷_ Row.off (List._∷_ Row.off (List._∷_ Row.off (List._∷_ Row.off (List._∷_ Row.off (List._∷_ Row.off (List._∷_ Row.off (List._∷_ Row.off (List._∷_ Row.off
-              List.[])))))))))))))));
+          locals = List._++_ t9 (List._++_ t18 t2);
+          slots = List._∷_ (Row.lease (κs .0) (qs .0)) (List._∷_ (Row.lease (κs .1 .0) (qs .1 .0)) (List._∷_ (Row.lease (κs .1 .1 .0) (qs .1 .1 .0)) (List._∷_
+              (Row.lease (κs .1 .1 .1 .0) (qs .1 .1 .1 .0)) (List._∷_ (Row.lease (κs .1 .1 .1 .1 .0) (qs .1 .1 .1 .1 .0)) (List._∷_ (Row.lease (κs .1 .1 .1 .1 .1 .0) (qs .1 .1 .1 .1 .1 .0)) (List._∷_
+              Row.dead (List._∷_ Row.off (List._∷_ Row.off (List._∷_ Row.off (List._∷_ Row.off (List._∷_ Row.off (List._∷_ Row.off (List._∷_ Row.off List.[])))))))))))));
         }
 
         abbrev G34 : Row.Cx
         G34 = record {
-          locals = List._++_ t7 (List._++_ t22 (List._++_ t2 t3));
-          slots = List._∷_ (Row.lease (κs .0) (qs .0)) (List._∷_ (Row.lease (κs .1 .0) (qs .1 .0)) (List._∷_ (Row.lease (κs .1 .1 .0) (qs .1 .1
-              .0)) (List._∷_ (Row.lease (κs .1 .1 .1 .0) (qs .1 .1 .1 .0)) (List._∷_ (Row.lease (κs .1 .1 .1 .1 .0) (qs .1 .1 .1 .1 .0)) (List._∷_ (Row.lease (κs .1 .1 .1 .1 .1 .0) (qs .1 .1 .1 .1 .1 .0))
-              (List._∷_ Row.off (List._∷_ Row.off (List._∷_ Row.off (List._∷_ Row.off (List._∷_ Row.off (List._∷_ Row.off (List._∷_ Row.off (List._∷_ Row.off (List._∷_ Row.off (List._∷_ Row.off
-              List.[])))))))))))))));
+          locals = List._++_ t9 (List._++_ t18 t2);
+          slots = List._∷_ (Row.lease (κs .0) (qs .0)) (List._∷_ (Row.lease (κs .1 .0) (qs .1 .0)) (List._∷_ (Row.lease (κs .1 .1 .0) (qs .1 .1 .0)) (List._∷_
+              (Row.lease (κs .1 .1 .1 .0) (qs .1 .1 .1 .0)) (List._∷_ (Row.lease (κs .1 .1 .1 .1 .0) (qs .1 .1 .1 .1 .0)) (List._∷_ (Row.lease (κs .1 .1 .1 .1 .1 .0) (qs .1 .1 .1 .1 .1 .0)) (List._∷_
+              Row.dead (List._∷_ Row.off (List._∷_ Row.off (List._∷_ Row.off (List._∷_ Row.off (List._∷_ Row.off (List._∷_ Row.off (List._∷_ Row.off List.[])))))))))))));
         }
 
         abbrev G35 : Row.Cx
         G35 = record {
-          locals = List._++_ t25 (List._++_ t24 (List._++_ t2 t3));
-          slots = List._∷_ (Row.lease (κs .0) (qs .0)) (List._∷_ (Row.lease (κs .1 .0) (qs .1 .0)) (List._∷_ (Row.lease (κs .1 .1 .0) (qs .1
-              .1 .0)) (List._∷_ (Row.lease (κs .1 .1 .1 .0) (qs .1 .1 .1 .0)) (List._∷_ (Row.lease (κs .1 .1 .1 .1 .0) (qs .1 .1 .1 .1 .0)) (List._∷_ (Row.lease (κs .1 .1 .1 .1 .1 .0) (qs .1 .1 .1 .1 .1
-              .0)) (List._∷_ Row.off (List._∷_ Row.off (List._∷_ Row.off (List._∷_ Row.off (List._∷_ Row.off (List._∷_ Row.off (List._∷_ Row.off (List._∷_ Row.off (List._∷_ Row.off (List._∷_ Row.off
-              List.[])))))))))))))));
+          locals = List._++_ t9 (List._++_ t18 t2);
+          slots = List._∷_ (Row.lease (κs .0) (qs .0)) (List._∷_ (Row.lease (κs .1 .0) (qs .1 .0)) (List._∷_ (Row.lease (κs .1 .1 .0) (qs .1 .1 .0)) (List._∷_
+              (Row.lease (κs .1 .1 .1 .0) (qs .1 .1 .1 .0)) (List._∷_ (Row.lease (κs .1 .1 .1 .1 .0) (qs .1 .1 .1 .1 .0)) (List._∷_ (Row.lease (κs .1 .1 .1 .1 .1 .0) (qs .1 .1 .1 .1 .1 .0)) (List._∷_
+              Row.off (List._∷_ Row.off (List._∷_ Row.off (List._∷_ Row.off (List._∷_ Row.off (List._∷_ Row.off (List._∷_ Row.off (List._∷_ Row.off List.[])))))))))))));
         }
 
         abbrev G36 : Row.Cx
         G36 = record {
-          locals = List._++_ t26 (List._++_ t24 (List._++_ t2 t3));
-          slots = List._∷_ (Row.lease (κs .0) (qs .0)) (List._∷_ (Row.lease (κs .1 .0) (qs .1 .0)) (List._∷_ (Row.lease (κs .1 .1 .0) (qs .1
-              .1 .0)) (List._∷_ (Row.lease (κs .1 .1 .1 .0) (qs .1 .1 .1 .0)) (List._∷_ (Row.lease (κs .1 .1 .1 .1 .0) (qs .1 .1 .1 .1 .0)) (List._∷_ (Row.lease (κs .1 .1 .1 .1 .1 .0) (qs .1 .1 .1 .1 .1
-              .0)) (List._∷_ Row.off (List._∷_ Row.off (List._∷_ Row.off (List._∷_ Row.off (List._∷_ Row.off (List._∷_ Row.off (List._∷_ Row.off (List._∷_ Row.off (List._∷_ Row.off (List._∷_ Row.off
-              List.[])))))))))))))));
+          locals = List._++_ t9 (List._++_ t26 t2);
+          slots = List._∷_ (Row.lease (κs .0) (qs .0)) (List._∷_ (Row.lease (κs .1 .0) (qs .1 .0)) (List._∷_ (Row.lease (κs .1 .1 .0) (qs .1 .1 .0)) (List._∷_
+              (Row.lease (κs .1 .1 .1 .0) (qs .1 .1 .1 .0)) (List._∷_ (Row.lease (κs .1 .1 .1 .1 .0) (qs .1 .1 .1 .1 .0)) (List._∷_ (Row.lease (κs .1 .1 .1 .1 .1 .0) (qs .1 .1 .1 .1 .1 .0)) (List._∷_
+              Row.off (List._∷_ Row.off (List._∷_ Row.off (List._∷_ Row.off (List._∷_ Row.off (List._∷_ Row.off (List._∷_ Row.off (List._∷_ Row.off List.[])))))))))))));
         }
 
         abbrev G37 : Row.Cx
         G37 = record {
-          locals = List._++_ t27 (List._++_ t24 (List._++_ t2 t3));
-          slots = List._∷_ (Row.lease (κs .0) (qs .0)) (List._∷_ (Row.lease (κs .1 .0) (qs .1 .0)) (List._∷_ (Row.lease (κs .1 .1 .0) (qs .1
-              .1 .0)) (List._∷_ (Row.lease (κs .1 .1 .1 .0) (qs .1 .1 .1 .0)) (List._∷_ (Row.lease (κs .1 .1 .1 .1 .0) (qs .1 .1 .1 .1 .0)) (List._∷_ (Row.lease (κs .1 .1 .1 .1 .1 .0) (qs .1 .1 .1 .1 .1
-              .0)) (List._∷_ Row.off (List._∷_ Row.off (List._∷_ Row.off (List._∷_ Row.off (List._∷_ Row.off (List._∷_ Row.off (List._∷_ Row.off (List._∷_ Row.off (List._∷_ Row.off (List._∷_ Row.off
-              List.[])))))))))))))));
+          locals = List._++_ t9 (List._++_ t26 t2);
+          slots = List._∷_ (Row.lease (κs .0) (qs .0)) (List._∷_ (Row.lease (κs .1 .0) (qs .1 .0)) (List._∷_ (Row.lease (κs .1 .1 .0) (qs .1 .1 .0)) (List._∷_
+              (Row.lease (κs .1 .1 .1 .0) (qs .1 .1 .1 .0)) (List._∷_ (Row.lease (κs .1 .1 .1 .1 .0) (qs .1 .1 .1 .1 .0)) (List._∷_ (Row.lease (κs .1 .1 .1 .1 .1 .0) (qs .1 .1 .1 .1 .1 .0)) (List._∷_
+              Row.off (List._∷_ Row.alive (List._∷_ Row.off (List._∷_ Row.off (List._∷_ Row.off (List._∷_ Row.off (List._∷_ Row.off (List._∷_ Row.off List.[])))))))))))));
         }
 
         abbrev G38 : Row.Cx
         G38 = record {
-          locals = List._++_ t23 (List._++_ t24 (List._++_ t2 t3));
-          slots = List._∷_ (Row.lease (κs .0) (qs .0)) (List._∷_ (Row.lease (κs .1 .0) (qs .1 .0)) (List._∷_ (Row.lease (κs .1 .1 .0) (qs .1
-              .1 .0)) (List._∷_ (Row.lease (κs .1 .1 .1 .0) (qs .1 .1 .1 .0)) (List._∷_ (Row.lease (κs .1 .1 .1 .1 .0) (qs .1 .1 .1 .1 .0)) (List._∷_ (Row.lease (κs .1 .1 .1 .1 .1 .0) (qs .1 .1 .1 .1 .1
-              .0)) (List._∷_ Row.off (List._∷_ Row.off (List._∷_ Row.off (List._∷_ Row.off (List._∷_ Row.off (List._∷_ Row.off (List._∷_ Row.off (List._∷_ Row.off (List._∷_ Row.off (List._∷_ Row.off
-              List.[])))))))))))))));
+          locals = List._++_ g27 (List._++_ t28 t2);
+          slots = List._∷_ (Row.lease (κs .0) (qs .0)) (List._∷_ (Row.lease (κs .1 .0) (qs .1 .0)) (List._∷_ (Row.lease (κs .1 .1 .0) (qs .1 .1 .0))
+              (List._∷_ Row.off (List._∷_ (Row.lease (κs .1 .1 .1 .1 .0) (qs .1 .1 .1 .1 .0)) (List._∷_ (Row.lease (κs .1 .1 .1 .1 .1 .0) (qs .1 .1 .1 .1 .1 .0)) (List._∷_ Row.off (List._∷_ Row.alive
+              (List._∷_ Row.off (List._∷_ Row.off (List._∷_ Row.off (List._∷_ Row.off (List._∷_ Row.off (List._∷_ Row.off List.[])))))))))))));
         }
 
         abbrev G39 : Row.Cx
         G39 = record {
-          locals = List._++_ t23 (List._++_ t22 (List._++_ t2 t3));
-          slots = List._∷_ (Row.lease (κs .0) (qs .0)) (List._∷_ (Row.lease (κs .1 .0) (qs .1 .0)) (List._∷_ (Row.lease (κs .1 .1 .0) (qs .1
-              .1 .0)) (List._∷_ (Row.lease (κs .1 .1 .1 .0) (qs .1 .1 .1 .0)) (List._∷_ (Row.lease (κs .1 .1 .1 .1 .0) (qs .1 .1 .1 .1 .0)) (List._∷_ (Row.lease (κs .1 .1 .1 .1 .1 .0) (qs .1 .1 .1 .1 .1
-              .0)) (List._∷_ Row.off (List._∷_ Row.off (List._∷_ Row.off (List._∷_ Row.off (List._∷_ Row.off (List._∷_ Row.off (List._∷_ Row.off (List._∷_ Row.off (List._∷_ Row.off (List._∷_ Row.off
-              List.[])))))))))))))));
+          locals = List._++_ g27 (List._++_ t29 t2);
+          slots = List._∷_ (Row.lease (κs .0) (qs .0)) (List._∷_ (Row.lease (κs .1 .0) (qs .1 .0)) (List._∷_ (Row.lease (κs .1 .1 .0) (qs .1 .1 .0))
+              (List._∷_ Row.off (List._∷_ (Row.lease (κs .1 .1 .1 .1 .0) (qs .1 .1 .1 .1 .0)) (List._∷_ (Row.lease (κs .1 .1 .1 .1 .1 .0) (qs .1 .1 .1 .1 .1 .0)) (List._∷_ Row.off (List._∷_ Row.alive
+              (List._∷_ Row.off (List._∷_ Row.off (List._∷_ Row.off (List._∷_ Row.off (List._∷_ Row.off (List._∷_ Row.off List.[])))))))))))));
         }
 
         abbrev G40 : Row.Cx
         G40 = record {
-          locals = List._++_ t7 (List._++_ t22 (List._++_ t2 t3));
-          slots = List._∷_ (Row.lease (κs .0) (qs .0)) (List._∷_ (Row.lease (κs .1 .0) (qs .1 .0)) (List._∷_ (Row.lease (κs .1 .1 .0) (qs .1 .1
-              .0)) (List._∷_ (Row.lease (κs .1 .1 .1 .0) (qs .1 .1 .1 .0)) (List._∷_ (Row.lease (κs .1 .1 .1 .1 .0) (qs .1 .1 .1 .1 .0)) (List._∷_ (Row.lease (κs .1 .1 .1 .1 .1 .0) (qs .1 .1 .1 .1 .1 .0))
-              (List._∷_ Row.off (List._∷_ Row.off (List._∷_ Row.alive (List._∷_ Row.off (List._∷_ Row.off (List._∷_ Row.off (List._∷_ Row.off (List._∷_ Row.off (List._∷_ Row.off (List._∷_ Row.off
-              List.[])))))))))))))));
+          locals = List._++_ g27 (List._++_ t30 t2);
+          slots = List._∷_ (Row.lease (κs .0) (qs .0)) (List._∷_ (Row.lease (κs .1 .0) (qs .1 .0)) (List._∷_ (Row.lease (κs .1 .1 .0) (qs .1 .1 .0))
+              (List._∷_ Row.off (List._∷_ (Row.lease (κs .1 .1 .1 .1 .0) (qs .1 .1 .1 .1 .0)) (List._∷_ (Row.lease (κs .1 .1 .1 .1 .1 .0) (qs .1 .1 .1 .1 .1 .0)) (List._∷_ Row.off (List._∷_ Row.alive
+              (List._∷_ Row.off (List._∷_ Row.off (List._∷_ Row.off (List._∷_ Row.off (List._∷_ Row.off (List._∷_ Row.off List.[])))))))))))));
         }
 
         abbrev G41 : Row.Cx
         G41 = record {
-          locals = List._++_ g28 (List._++_ t29 (List._++_ t2 t3));
-          slots = List._∷_ (Row.lease (κs .0) (qs .0)) (List._∷_ (Row.lease (κs .1 .0) (qs .1 .0)) (List._∷_ Row.off (List._∷_ (Row.lease (κs
-              .1 .1 .1 .0) (qs .1 .1 .1 .0)) (List._∷_ (Row.lease (κs .1 .1 .1 .1 .0) (qs .1 .1 .1 .1 .0)) (List._∷_ (Row.lease (κs .1 .1 .1 .1 .1 .0) (qs .1 .1 .1 .1 .1 .0)) (List._∷_ Row.off (List._∷_
-              Row.off (List._∷_ Row.alive (List._∷_ Row.off (List._∷_ Row.off (List._∷_ Row.off (List._∷_ Row.off (List._∷_ Row.off (List._∷_ Row.off (List._∷_ Row.off List.[])))))))))))))));
+          locals = List._++_ g27 (List._++_ t31 t2);
+          slots = List._∷_ (Row.lease (κs .0) (qs .0)) (List._∷_ (Row.lease (κs .1 .0) (qs .1 .0)) (List._∷_ (Row.lease (κs .1 .1 .0) (qs .1 .1 .0))
+              (List._∷_ Row.off (List._∷_ (Row.lease (κs .1 .1 .1 .1 .0) (qs .1 .1 .1 .1 .0)) (List._∷_ (Row.lease (κs .1 .1 .1 .1 .1 .0) (qs .1 .1 .1 .1 .1 .0)) (List._∷_ Row.off (List._∷_ Row.alive
+              (List._∷_ Row.off (List._∷_ Row.off (List._∷_ Row.off (List._∷_ Row.off (List._∷_ Row.off (List._∷_ Row.off List.[])))))))))))));
         }
 
         abbrev G42 : Row.Cx
         G42 = record {
-          locals = List._++_ g28 (List._++_ t30 (List._++_ t2 t3));
-          slots = List._∷_ (Row.lease (κs .0) (qs .0)) (List._∷_ (Row.lease (κs .1 .0) (qs .1 .0)) (List._∷_ Row.off (List._∷_ (Row.lease (κs
-              .1 .1 .1 .0) (qs .1 .1 .1 .0)) (List._∷_ (Row.lease (κs .1 .1 .1 .1 .0) (qs .1 .1 .1 .1 .0)) (List._∷_ (Row.lease (κs .1 .1 .1 .1 .1 .0) (qs .1 .1 .1 .1 .1 .0)) (List._∷_ Row.off (List._∷_
-              Row.off (List._∷_ Row.alive (List._∷_ Row.off (List._∷_ Row.off (List._∷_ Row.off (List._∷_ Row.off (List._∷_ Row.off (List._∷_ Row.off (List._∷_ Row.off List.[])))))))))))))));
+          locals = List._++_ g27 (List._++_ t32 t2);
+          slots = List._∷_ (Row.lease (κs .0) (qs .0)) (List._∷_ (Row.lease (κs .1 .0) (qs .1 .0)) (List._∷_ (Row.lease (κs .1 .1 .0) (qs .1 .1 .0))
+              (List._∷_ Row.off (List._∷_ (Row.lease (κs .1 .1 .1 .1 .0) (qs .1 .1 .1 .1 .0)) (List._∷_ (Row.lease (κs .1 .1 .1 .1 .1 .0) (qs .1 .1 .1 .1 .1 .0)) (List._∷_ Row.off (List._∷_ Row.alive
+              (List._∷_ Row.off (List._∷_ Row.off (List._∷_ Row.off (List._∷_ Row.off (List._∷_ Row.off (List._∷_ Row.off List.[])))))))))))));
         }
 
         abbrev G43 : Row.Cx
         G43 = record {
-          locals = List._++_ g28 (List._++_ t31 (List._++_ t2 t3));
-          slots = List._∷_ (Row.lease (κs .0) (qs .0)) (List._∷_ (Row.lease (κs .1 .0) (qs .1 .0)) (List._∷_ Row.off (List._∷_ (Row.lease (κs
-              .1 .1 .1 .0) (qs .1 .1 .1 .0)) (List._∷_ (Row.lease (κs .1 .1 .1 .1 .0) (qs .1 .1 .1 .1 .0)) (List._∷_ (Row.lease (κs .1 .1 .1 .1 .1 .0) (qs .1 .1 .1 .1 .1 .0)) (List._∷_ Row.off (List._∷_
-              Row.off (List._∷_ Row.alive (List._∷_ Row.off (List._∷_ Row.off (List._∷_ Row.off (List._∷_ Row.off (List._∷_ Row.off (List._∷_ Row.off (List._∷_ Row.off List.[])))))))))))))));
+          locals = List._++_ g27 (List._++_ t33 t2);
+          slots = List._∷_ (Row.lease (κs .0) (qs .0)) (List._∷_ (Row.lease (κs .1 .0) (qs .1 .0)) (List._∷_ (Row.lease (κs .1 .1 .0) (qs .1 .1 .0))
+              (List._∷_ Row.off (List._∷_ (Row.lease (κs .1 .1 .1 .1 .0) (qs .1 .1 .1 .1 .0)) (List._∷_ (Row.lease (κs .1 .1 .1 .1 .1 .0) (qs .1 .1 .1 .1 .1 .0)) (List._∷_ Row.off (List._∷_ Row.alive
+              (List._∷_ Row.off (List._∷_ Row.off (List._∷_ Row.off (List._∷_ Row.off (List._∷_ Row.off (List._∷_ Row.off List.[])))))))))))));
         }
 
         abbrev G44 : Row.Cx
         G44 = record {
-          locals = List._++_ g28 (List._++_ t32 (List._++_ t2 t3));
-          slots = List._∷_ (Row.lease (κs .0) (qs .0)) (List._∷_ (Row.lease (κs .1 .0) (qs .1 .0)) (List._∷_ Row.off (List._∷_ (Row.lease (κs
-              .1 .1 .1 .0) (qs .1 .1 .1 .0)) (List._∷_ (Row.lease (κs .1 .1 .1 .1 .0) (qs .1 .1 .1 .1 .0)) (List._∷_ (Row.lease (κs .1 .1 .1 .1 .1 .0) (qs .1 .1 .1 .1 .1 .0)) (List._∷_ Row.off (List._∷_
-              Row.off (List._∷_ Row.alive (List._∷_ Row.off (List._∷_ Row.off (List._∷_ Row.off (List._∷_ Row.off (List._∷_ Row.off (List._∷_ Row.off (List._∷_ Row.off List.[])))))))))))))));
+          locals = List._++_ g27 (List._++_ t33 t2);
+          slots = List._∷_ (Row.lease (κs .0) (qs .0)) (List._∷_ (Row.lease (κs .1 .0) (qs .1 .0)) (List._∷_ (Row.lease (κs .1 .1 .0) (qs .1 .1 .0))
+              (List._∷_ Row.off (List._∷_ (Row.lease (κs .1 .1 .1 .1 .0) (qs .1 .1 .1 .1 .0)) (List._∷_ (Row.lease (κs .1 .1 .1 .1 .1 .0) (qs .1 .1 .1 .1 .1 .0)) (List._∷_ Row.off (List._∷_ Row.dead
+              (List._∷_ Row.off (List._∷_ Row.off (List._∷_ Row.off (List._∷_ Row.off (List._∷_ Row.off (List._∷_ Row.off List.[])))))))))))));
         }
 
         abbrev G45 : Row.Cx
         G45 = record {
-          locals = List._++_ g28 (List._++_ t33 (List._++_ t2 t3));
-          slots = List._∷_ (Row.lease (κs .0) (qs .0)) (List._∷_ (Row.lease (κs .1 .0) (qs .1 .0)) (List._∷_ Row.off (List._∷_ (Row.lease (κs
-              .1 .1 .1 .0) (qs .1 .1 .1 .0)) (List._∷_ (Row.lease (κs .1 .1 .1 .1 .0) (qs .1 .1 .1 .1 .0)) (List._∷_ (Row.lease (κs .1 .1 .1 .1 .1 .0) (qs .1 .1 .1 .1 .1 .0)) (List._∷_ Row.off (List._∷_
-              Row.off (List._∷_ Row.alive (List._∷_ Row.off (List._∷_ Row.off (List._∷_ Row.off (List._∷_ Row.off (List._∷_ Row.off (List._∷_ Row.off (List._∷_ Row.off List.[])))))))))))))));
+          locals = List._++_ t9 (List._++_ t26 t2);
+          slots = List._∷_ (Row.lease (κs .0) (qs .0)) (List._∷_ (Row.lease (κs .1 .0) (qs .1 .0)) (List._∷_ (Row.lease (κs .1 .1 .0) (qs .1 .1 .0)) (List._∷_
+              (Row.lease (κs .1 .1 .1 .0) (qs .1 .1 .1 .0)) (List._∷_ (Row.lease (κs .1 .1 .1 .1 .0) (qs .1 .1 .1 .1 .0)) (List._∷_ (Row.lease (κs .1 .1 .1 .1 .1 .0) (qs .1 .1 .1 .1 .1 .0)) (List._∷_
+              Row.off (List._∷_ Row.dead (List._∷_ Row.off (List._∷_ Row.off (List._∷_ Row.off (List._∷_ Row.off (List._∷_ Row.off (List._∷_ Row.off List.[])))))))))))));
         }
 
         abbrev G46 : Row.Cx
         G46 = record {
-          locals = List._++_ g28 (List._++_ t34 (List._++_ t2 t3));
-          slots = List._∷_ (Row.lease (κs .0) (qs .0)) (List._∷_ (Row.lease (κs .1 .0) (qs .1 .0)) (List._∷_ Row.off (List._∷_ (Row.lease (κs
-              .1 .1 .1 .0) (qs .1 .1 .1 .0)) (List._∷_ (Row.lease (κs .1 .1 .1 .1 .0) (qs .1 .1 .1 .1 .0)) (List._∷_ (Row.lease (κs .1 .1 .1 .1 .1 .0) (qs .1 .1 .1 .1 .1 .0)) (List._∷_ Row.off (List._∷_
-              Row.off (List._∷_ Row.alive (List._∷_ Row.off (List._∷_ Row.off (List._∷_ Row.off (List._∷_ Row.off (List._∷_ Row.off (List._∷_ Row.off (List._∷_ Row.off List.[])))))))))))))));
+          locals = List._++_ t9 (List._++_ t26 t2);
+          slots = List._∷_ (Row.lease (κs .0) (qs .0)) (List._∷_ (Row.lease (κs .1 .0) (qs .1 .0)) (List._∷_ (Row.lease (κs .1 .1 .0) (qs .1 .1 .0)) (List._∷_
+              (Row.lease (κs .1 .1 .1 .0) (qs .1 .1 .1 .0)) (List._∷_ (Row.lease (κs .1 .1 .1 .1 .0) (qs .1 .1 .1 .1 .0)) (List._∷_ (Row.lease (κs .1 .1 .1 .1 .1 .0) (qs .1 .1 .1 .1 .1 .0)) (List._∷_
+              Row.off (List._∷_ Row.off (List._∷_ Row.off (List._∷_ Row.off (List._∷_ Row.off (List._∷_ Row.off (List._∷_ Row.off (List._∷_ Row.off List.[])))))))))))));
         }
 
         abbrev G47 : Row.Cx
         G47 = record {
-          locals = List._++_ g28 (List._++_ t34 (List._++_ t2 t3));
-          slots = List._∷_ (Row.lease (κs .0) (qs .0)) (List._∷_ (Row.lease (κs .1 .0) (qs .1 .0)) (List._∷_ Row.off (List._∷_ (Row.lease (κs
-              .1 .1 .1 .0) (qs .1 .1 .1 .0)) (List._∷_ (Row.lease (κs .1 .1 .1 .1 .0) (qs .1 .1 .1 .1 .0)) (List._∷_ (Row.lease (κs .1 .1 .1 .1 .1 .0) (qs .1 .1 .1 .1 .1 .0)) (List._∷_ Row.off (List._∷_
-              Row.off (List._∷_ Row.dead (List._∷_ Row.off (List._∷_ Row.off (List._∷_ Row.off (List._∷_ Row.off (List._∷_ Row.off (List._∷_ Row.off (List._∷_ Row.off List.[])))))))))))))));
+          locals = List._++_ t9 (List._++_ t26 t2);
+          slots = List._∷_ (Row.lease (κs .0) (qs .0)) (List._∷_ (Row.lease (κs .1 .0) (qs .1 .0)) (List._∷_ (Row.lease (κs .1 .1 .0) (qs .1 .1 .0)) (List._∷_
+              (Row.lease (κs .1 .1 .1 .0) (qs .1 .1 .1 .0)) (List._∷_ (Row.lease (κs .1 .1 .1 .1 .0) (qs .1 .1 .1 .1 .0)) (List._∷_ (Row.lease (κs .1 .1 .1 .1 .1 .0) (qs .1 .1 .1 .1 .1 .0)) (List._∷_
+              Row.off (List._∷_ Row.off (List._∷_ Row.alive (List._∷_ Row.off (List._∷_ Row.off (List._∷_ Row.off (List._∷_ Row.off (List._∷_ Row.off List.[])))))))))))));
         }
 
         abbrev G48 : Row.Cx
         G48 = record {
-          locals = List._++_ t7 (List._++_ t22 (List._++_ t2 t3));
-          slots = List._∷_ (Row.lease (κs .0) (qs .0)) (List._∷_ (Row.lease (κs .1 .0) (qs .1 .0)) (List._∷_ (Row.lease (κs .1 .1 .0) (qs .1 .1
-              .0)) (List._∷_ (Row.lease (κs .1 .1 .1 .0) (qs .1 .1 .1 .0)) (List._∷_ (Row.lease (κs .1 .1 .1 .1 .0) (qs .1 .1 .1 .1 .0)) (List._∷_ (Row.lease (κs .1 .1 .1 .1 .1 .0) (qs .1 .1 .1 .1 .1 .0))
-              (List._∷_ Row.off (List._∷_ Row.off (List._∷_ Row.dead (List._∷_ Row.off (List._∷_ Row.off (List._∷_ Row.off (List._∷_ Row.off (List._∷_ Row.off (List._∷_ Row.off (List._∷_ Row.off
-              List.[])))))))))))))));
+          locals = List._++_ g34 (List._++_ t26 t35);
+          slots = List._∷_ (Row.lease (κs .0) (qs .0)) (List._∷_ (Row.lease (κs .1 .0) (qs .1 .0)) (List._∷_ Row.off (List._∷_ (Row.lease (κs .1 .1 .1 .0)
+              (qs .1 .1 .1 .0)) (List._∷_ (Row.lease (κs .1 .1 .1 .1 .0) (qs .1 .1 .1 .1 .0)) (List._∷_ (Row.lease (κs .1 .1 .1 .1 .1 .0) (qs .1 .1 .1 .1 .1 .0)) (List._∷_ Row.off (List._∷_ Row.off
+              (List._∷_ Row.alive (List._∷_ Row.off (List._∷_ Row.off (List._∷_ Row.off (List._∷_ Row.off (List._∷_ Row.off List.[])))))))))))));
         }
 
         abbrev G49 : Row.Cx
         G49 = record {
-          locals = List._++_ t7 (List._++_ t22 (List._++_ t2 t3));
-          slots = List._∷_ (Row.lease (κs .0) (qs .0)) (List._∷_ (Row.lease (κs .1 .0) (qs .1 .0)) (List._∷_ (Row.lease (κs .1 .1 .0) (qs .1 .1
-              .0)) (List._∷_ (Row.lease (κs .1 .1 .1 .0) (qs .1 .1 .1 .0)) (List._∷_ (Row.lease (κs .1 .1 .1 .1 .0) (qs .1 .1 .1 .1 .0)) (List._∷_ (Row.lease (κs .1 .1 .1 .1 .1 .0) (qs .1 .1 .1 .1 .1 .0))
-              (List._∷_ Row.off (List._∷_ Row.off (List._∷_ Row.dead (List._∷_ Row.off (List._∷_ Row.off (List._∷_ Row.off (List._∷_ Row.off (List._∷_ Row.off (List._∷_ Row.off (List._∷_ Row.off
-              List.[])))))))))))))));
+          locals = List._++_ g34 (List._++_ t26 t36);
+          slots = List._∷_ (Row.lease (κs .0) (qs .0)) (List._∷_ (Row.lease (κs .1 .0) (qs .1 .0)) (List._∷_ Row.off (List._∷_ (Row.lease (κs .1 .1 .1 .0)
+              (qs .1 .1 .1 .0)) (List._∷_ (Row.lease (κs .1 .1 .1 .1 .0) (qs .1 .1 .1 .1 .0)) (List._∷_ (Row.lease (κs .1 .1 .1 .1 .1 .0) (qs .1 .1 .1 .1 .1 .0)) (List._∷_ Row.off (List._∷_ Row.off
+              (List._∷_ Row.alive (List._∷_ Row.off (List._∷_ Row.off (List._∷_ Row.off (List._∷_ Row.off (List._∷_ Row.off List.[])))))))))))));
         }
 
         abbrev G50 : Row.Cx
         G50 = record {
-          locals = List._++_ t7 (List._++_ t22 (List._++_ t2 t3));
-          slots = List._∷_ (Row.lease (κs .0) (qs .0)) (List._∷_ (Row.lease (κs .1 .0) (qs .1 .0)) (List._∷_ (Row.lease (κs .1 .1 .0) (qs .1 .1
-              .0)) (List._∷_ (Row.lease (κs .1 .1 .1 .0) (qs .1 .1 .1 .0)) (List._∷_ (Row.lease (κs .1 .1 .1 .1 .0) (qs .1 .1 .1 .1 .0)) (List._∷_ (Row.lease (κs .1 .1 .1 .1 .1 .0) (qs .1 .1 .1 .1 .1 .0))
-              (List._∷_ Row.off (List._∷_ Row.off (List._∷_ Row.off (List._∷_ Row.off (List._∷_ Row.off (List._∷_ Row.off (List._∷_ Row.off (List._∷_ Row.off (List._∷_ Row.off (List._∷_ Row.off
-              List.[])))))))))))))));
+          locals = List._++_ g34 (List._++_ t26 t36);
+          slots = List._∷_ (Row.lease (κs .0) (qs .0)) (List._∷_ (Row.lease (κs .1 .0) (qs .1 .0)) (List._∷_ Row.off (List._∷_ (Row.lease (κs .1 .1 .1 .0)
+              (qs .1 .1 .1 .0)) (List._∷_ (Row.lease (κs .1 .1 .1 .1 .0) (qs .1 .1 .1 .1 .0)) (List._∷_ (Row.lease (κs .1 .1 .1 .1 .1 .0) (qs .1 .1 .1 .1 .1 .0)) (List._∷_ Row.off (List._∷_ Row.off
+              (List._∷_ Row.alive (List._∷_ Row.alive (List._∷_ Row.off (List._∷_ Row.off (List._∷_ Row.off (List._∷_ Row.off List.[])))))))))))));
         }
 
         abbrev G51 : Row.Cx
         G51 = record {
-          locals = List._++_ t7 (List._++_ t35 (List._++_ t2 t3));
-          slots = List._∷_ (Row.lease (κs .0) (qs .0)) (List._∷_ (Row.lease (κs .1 .0) (qs .1 .0)) (List._∷_ (Row.lease (κs .1 .1 .0) (qs .1 .1
-              .0)) (List._∷_ (Row.lease (κs .1 .1 .1 .0) (qs .1 .1 .1 .0)) (List._∷_ (Row.lease (κs .1 .1 .1 .1 .0) (qs .1 .1 .1 .1 .0)) (List._∷_ (Row.lease (κs .1 .1 .1 .1 .1 .0) (qs .1 .1 .1 .1 .1 .0))
-              (List._∷_ Row.off (List._∷_ Row.off (List._∷_ Row.off (List._∷_ Row.off (List._∷_ Row.off (List._∷_ Row.off (List._∷_ Row.off (List._∷_ Row.off (List._∷_ Row.off (List._∷_ Row.off
-              List.[])))))))))))))));
+          locals = List._++_ g37 (List._++_ t26 t38);
+          slots = List._∷_ (Row.lease (κs .0) (qs .0)) (List._∷_ (Row.lease (κs .1 .0) (qs .1 .0)) (List._∷_ Row.off (List._∷_ Row.off (List._∷_ (Row.lease
+              (κs .1 .1 .1 .1 .0) (qs .1 .1 .1 .1 .0)) (List._∷_ (Row.lease (κs .1 .1 .1 .1 .1 .0) (qs .1 .1 .1 .1 .1 .0)) (List._∷_ Row.off (List._∷_ Row.off (List._∷_ Row.alive (List._∷_ Row.alive
+              (List._∷_ Row.off (List._∷_ Row.off (List._∷_ Row.off (List._∷_ Row.off List.[])))))))))))));
         }
 
         abbrev G52 : Row.Cx
         G52 = record {
-          locals = List._++_ t7 (List._++_ t35 (List._++_ t2 t3));
-          slots = List._∷_ (Row.lease (κs .0) (qs .0)) (List._∷_ (Row.lease (κs .1 .0) (qs .1 .0)) (List._∷_ (Row.lease (κs .1 .1 .0) (qs .1 .1
-              .0)) (List._∷_ (Row.lease (κs .1 .1 .1 .0) (qs .1 .1 .1 .0)) (List._∷_ (Row.lease (κs .1 .1 .1 .1 .0) (qs .1 .1 .1 .1 .0)) (List._∷_ (Row.lease (κs .1 .1 .1 .1 .1 .0) (qs .1 .1 .1 .1 .1 .0))
-              (List._∷_ Row.off (List._∷_ Row.off (List._∷_ Row.off (List._∷_ Row.alive (List._∷_ Row.off (List._∷_ Row.off (List._∷_ Row.off (List._∷_ Row.off (List._∷_ Row.off (List._∷_ Row.off
-              List.[])))))))))))))));
+          locals = List._++_ g37 (List._++_ t26 t39);
+          slots = List._∷_ (Row.lease (κs .0) (qs .0)) (List._∷_ (Row.lease (κs .1 .0) (qs .1 .0)) (List._∷_ Row.off (List._∷_ Row.off (List._∷_ (Row.lease
+              (κs .1 .1 .1 .1 .0) (qs .1 .1 .1 .1 .0)) (List._∷_ (Row.lease (κs .1 .1 .1 .1 .1 .0) (qs .1 .1 .1 .1 .1 .0)) (List._∷_ Row.off (List._∷_ Row.off (List._∷_ Row.alive (List._∷_ Row.alive
+              (List._∷_ Row.off (List._∷_ Row.off (List._∷_ Row.off (List._∷_ Row.off List.[])))))))))))));
         }
 
         abbrev G53 : Row.Cx
         G53 = record {
-          locals = List._++_ g36 (List._++_ t35 (List._++_ t37 t3));
-          slots = List._∷_ (Row.lease (κs .0) (qs .0)) (List._∷_ (Row.lease (κs .1 .0) (qs .1 .0)) (List._∷_ (Row.lease (κs .1 .1 .0) (qs .1
-              .1 .0)) (List._∷_ Row.off (List._∷_ (Row.lease (κs .1 .1 .1 .1 .0) (qs .1 .1 .1 .1 .0)) (List._∷_ (Row.lease (κs .1 .1 .1 .1 .1 .0) (qs .1 .1 .1 .1 .1 .0)) (List._∷_ Row.off (List._∷_ Row.off
-              (List._∷_ Row.off (List._∷_ Row.alive (List._∷_ Row.off (List._∷_ Row.off (List._∷_ Row.off (List._∷_ Row.off (List._∷_ Row.off (List._∷_ Row.off List.[])))))))))))))));
+          locals = List._++_ g37 (List._++_ t26 t39);
+          slots = List._∷_ (Row.lease (κs .0) (qs .0)) (List._∷_ (Row.lease (κs .1 .0) (qs .1 .0)) (List._∷_ Row.off (List._∷_ Row.off (List._∷_ (Row.lease
+              (κs .1 .1 .1 .1 .0) (qs .1 .1 .1 .1 .0)) (List._∷_ (Row.lease (κs .1 .1 .1 .1 .1 .0) (qs .1 .1 .1 .1 .1 .0)) (List._∷_ Row.off (List._∷_ Row.off (List._∷_ Row.alive (List._∷_ Row.alive
+              (List._∷_ Row.alive (List._∷_ Row.off (List._∷_ Row.off (List._∷_ Row.off List.[])))))))))))));
         }
 
         abbrev G54 : Row.Cx
         G54 = record {
-          locals = List._++_ g36 (List._++_ t35 (List._++_ t38 t3));
-          slots = List._∷_ (Row.lease (κs .0) (qs .0)) (List._∷_ (Row.lease (κs .1 .0) (qs .1 .0)) (List._∷_ (Row.lease (κs .1 .1 .0) (qs .1
-              .1 .0)) (List._∷_ Row.off (List._∷_ (Row.lease (κs .1 .1 .1 .1 .0) (qs .1 .1 .1 .1 .0)) (List._∷_ (Row.lease (κs .1 .1 .1 .1 .1 .0) (qs .1 .1 .1 .1 .1 .0)) (List._∷_ Row.off (List._∷_ Row.off
-              (List._∷_ Row.off (List._∷_ Row.alive (List._∷_ Row.off (List._∷_ Row.off (List._∷_ Row.off (List._∷_ Row.off (List._∷_ Row.off (List._∷_ Row.off List.[])))))))))))))));
+          locals = List._++_ g40 (List._++_ t26 t41);
+          slots = List._∷_ (Row.lease (κs .0) (qs .0)) (List._∷_ (Row.lease (κs .1 .0) (qs .1 .0)) (List._∷_ Row.off (List._∷_ Row.off (List._∷_ Row.off
+              (List._∷_ (Row.lease (κs .1 .1 .1 .1 .1 .0) (qs .1 .1 .1 .1 .1 .0)) (List._∷_ Row.off (List._∷_ Row.off (List._∷_ Row.alive (List._∷_ Row.alive (List._∷_ Row.alive (List._∷_ Row.off (List._∷_
+              Row.off (List._∷_ Row.off List.[])))))))))))));
         }
 
         abbrev G55 : Row.Cx
         G55 = record {
-          locals = List._++_ g36 (List._++_ t39 (List._++_ t38 t3));
-          slots = List._∷_ (Row.lease (κs .0) (qs .0)) (List._∷_ (Row.lease (κs .1 .0) (qs .1 .0)) (List._∷_ (Row.lease (κs .1 .1 .0) (qs .1
-              .1 .0)) (List._∷_ Row.off (List._∷_ (Row.lease (κs .1 .1 .1 .1 .0) (qs .1 .1 .1 .1 .0)) (List._∷_ (Row.lease (κs .1 .1 .1 .1 .1 .0) (qs .1 .1 .1 .1 .1 .0)) (List._∷_ Row.off (List._∷_ Row.off
-              (List._∷_ Row.off (List._∷_ Row.alive (List._∷_ Row.off (List._∷_ Row.off (List._∷_ Row.off (List._∷_ Row.off (List._∷_ Row.off (List._∷_ Row.off List.[])))))))))))))));
+          locals = List._++_ g40 (List._++_ t26 t42);
+          slots = List._∷_ (Row.lease (κs .0) (qs .0)) (List._∷_ (Row.lease (κs .1 .0) (qs .1 .0)) (List._∷_ Row.off (List._∷_ Row.off (List._∷_ Row.off
+              (List._∷_ (Row.lease (κs .1 .1 .1 .1 .1 .0) (qs .1 .1 .1 .1 .1 .0)) (List._∷_ Row.off (List._∷_ Row.off (List._∷_ Row.alive (List._∷_ Row.alive (List._∷_ Row.alive (List._∷_ Row.off (List._∷_
+              Row.off (List._∷_ Row.off List.[])))))))))))));
         }
 
         abbrev G56 : Row.Cx
         G56 = record {
-          locals = List._++_ g36 (List._++_ t40 (List._++_ t41 t3));
-          slots = List._∷_ (Row.lease (κs .0) (qs .0)) (List._∷_ (Row.lease (κs .1 .0) (qs .1 .0)) (List._∷_ (Row.lease (κs .1 .1 .0) (qs .1
-              .1 .0)) (List._∷_ Row.off (List._∷_ (Row.lease (κs .1 .1 .1 .1 .0) (qs .1 .1 .1 .1 .0)) (List._∷_ (Row.lease (κs .1 .1 .1 .1 .1 .0) (qs .1 .1 .1 .1 .1 .0)) (List._∷_ Row.off (List._∷_ Row.off
-              (List._∷_ Row.off (List._∷_ Row.alive (List._∷_ Row.off (List._∷_ Row.off (List._∷_ Row.off (List._∷_ Row.off (List._∷_ Row.off (List._∷_ Row.off List.[])))))))))))))));
+          locals = List._++_ g40 (List._++_ t26 t43);
+          slots = List._∷_ (Row.lease (κs .0) (qs .0)) (List._∷_ (Row.lease (κs .1 .0) (qs .1 .0)) (List._∷_ Row.off (List._∷_ Row.off (List._∷_ Row.off
+              (List._∷_ (Row.lease (κs .1 .1 .1 .1 .1 .0) (qs .1 .1 .1 .1 .1 .0)) (List._∷_ Row.off (List._∷_ Row.off (List._∷_ Row.alive (List._∷_ Row.alive (List._∷_ Row.alive (List._∷_ Row.off (List._∷_
+              Row.off (List._∷_ Row.off List.[])))))))))))));
         }
 
         abbrev G57 : Row.Cx
         G57 = record {
-          locals = List._++_ g36 (List._++_ t42 (List._++_ t41 t3));
-          slots = List._∷_ (Row.lease (κs .0) (qs .0)) (List._∷_ (Row.lease (κs .1 .0) (qs .1 .0)) (List._∷_ (Row.lease (κs .1 .1 .0) (qs .1
-              .1 .0)) (List._∷_ Row.off (List._∷_ (Row.lease (κs .1 .1 .1 .1 .0) (qs .1 .1 .1 .1 .0)) (List._∷_ (Row.lease (κs .1 .1 .1 .1 .1 .0) (qs .1 .1 .1 .1 .1 .0)) (List._∷_ Row.off (List._∷_ Row.off
-              (List._∷_ Row.off (List._∷_ Row.alive (List._∷_ Row.off (List._∷_ Row.off (List._∷_ Row.off (List._∷_ Row.off (List._∷_ Row.off (List._∷_ Row.off List.[])))))))))))))));
+          locals = List._++_ g40 (List._++_ t44 t45);
+          slots = List._∷_ (Row.lease (κs .0) (qs .0)) (List._∷_ (Row.lease (κs .1 .0) (qs .1 .0)) (List._∷_ Row.off (List._∷_ Row.off (List._∷_ Row.off
+              (List._∷_ (Row.lease (κs .1 .1 .1 .1 .1 .0) (qs .1 .1 .1 .1 .1 .0)) (List._∷_ Row.off (List._∷_ Row.off (List._∷_ Row.alive (List._∷_ Row.alive (List._∷_ Row.alive (List._∷_ Row.off (List._∷_
+              Row.off (List._∷_ Row.off List.[])))))))))))));
         }
 
         abbrev G58 : Row.Cx
         G58 = record {
-          locals = List._++_ g36 (List._++_ t35 (List._++_ t41 t3));
-          slots = List._∷_ (Row.lease (κs .0) (qs .0)) (List._∷_ (Row.lease (κs .1 .0) (qs .1 .0)) (List._∷_ (Row.lease (κs .1 .1 .0) (qs .1
-              .1 .0)) (List._∷_ Row.off (List._∷_ (Row.lease (κs .1 .1 .1 .1 .0) (qs .1 .1 .1 .1 .0)) (List._∷_ (Row.lease (κs .1 .1 .1 .1 .1 .0) (qs .1 .1 .1 .1 .1 .0)) (List._∷_ Row.off (List._∷_ Row.off
-              (List._∷_ Row.off (List._∷_ Row.alive (List._∷_ Row.off (List._∷_ Row.off (List._∷_ Row.off (List._∷_ Row.off (List._∷_ Row.off (List._∷_ Row.off List.[])))))))))))))));
+          locals = List._++_ t9 (List._++_ t46 t2);
+          slots = List._∷_ (Row.lease (κs .0) (qs .0)) (List._∷_ (Row.lease (κs .1 .0) (qs .1 .0)) (List._∷_ (Row.lease (κs .1 .1 .0) (qs .1 .1 .0)) (List._∷_
+              (Row.lease (κs .1 .1 .1 .0) (qs .1 .1 .1 .0)) (List._∷_ (Row.lease (κs .1 .1 .1 .1 .0) (qs .1 .1 .1 .1 .0)) (List._∷_ (Row.lease (κs .1 .1 .1 .1 .1 .0) (qs .1 .1 .1 .1 .1 .0)) (List._∷_
+              Row.off (List._∷_ Row.off (List._∷_ Row.off (List._∷_ Row.off (List._∷_ Row.off (List._∷_ Row.off (List._∷_ Row.off (List._∷_ Row.off List.[])))))))))))));
         }
 
         abbrev G59 : Row.Cx
         G59 = record {
-          locals = List._++_ g36 (List._++_ t35 (List._++_ t41 t3));
-          slots = List._∷_ (Row.lease (κs .0) (qs .0)) (List._∷_ (Row.lease (κs .1 .0) (qs .1 .0)) (List._∷_ (Row.lease (κs .1 .1 .0) (qs .1
-              .1 .0)) (List._∷_ Row.off (List._∷_ (Row.lease (κs .1 .1 .1 .1 .0) (qs .1 .1 .1 .1 .0)) (List._∷_ (Row.lease (κs .1 .1 .1 .1 .1 .0) (qs .1 .1 .1 .1 .1 .0)) (List._∷_ Row.off (List._∷_ Row.off
-              (List._∷_ Row.off (List._∷_ Row.dead (List._∷_ Row.off (List._∷_ Row.off (List._∷_ Row.off (List._∷_ Row.off (List._∷_ Row.off (List._∷_ Row.off List.[])))))))))))))));
+          locals = List._++_ g40 (List._++_ t44 t47);
+          slots = List._∷_ (Row.lease (κs .0) (qs .0)) (List._∷_ (Row.lease (κs .1 .0) (qs .1 .0)) (List._∷_ Row.off (List._∷_ Row.off (List._∷_ Row.off
+              (List._∷_ (Row.lease (κs .1 .1 .1 .1 .1 .0) (qs .1 .1 .1 .1 .1 .0)) (List._∷_ Row.off (List._∷_ Row.off (List._∷_ Row.alive (List._∷_ Row.alive (List._∷_ Row.alive (List._∷_ Row.off (List._∷_
+              Row.off (List._∷_ Row.off List.[])))))))))))));
         }
 
         abbrev G60 : Row.Cx
         G60 = record {
-          locals = List._++_ t7 (List._++_ t35 (List._++_ t2 t3));
-          slots = List._∷_ (Row.lease (κs .0) (qs .0)) (List._∷_ (Row.lease (κs .1 .0) (qs .1 .0)) (List._∷_ (Row.lease (κs .1 .1 .0) (qs .1 .1
-              .0)) (List._∷_ (Row.lease (κs .1 .1 .1 .0) (qs .1 .1 .1 .0)) (List._∷_ (Row.lease (κs .1 .1 .1 .1 .0) (qs .1 .1 .1 .1 .0)) (List._∷_ (Row.lease (κs .1 .1 .1 .1 .1 .0) (qs .1 .1 .1 .1 .1 .0))
-              (List._∷_ Row.off (List._∷_ Row.off (List._∷_ Row.off (List._∷_ Row.dead (List._∷_ Row.off (List._∷_ Row.off (List._∷_ Row.off (List._∷_ Row.off (List._∷_ Row.off (List._∷_ Row.off
-              List.[])))))))))))))));
+          locals = List._++_ g40 (List._++_ t44 t47);
+          slots = List._∷_ (Row.lease (κs .0) (qs .0)) (List._∷_ (Row.lease (κs .1 .0) (qs .1 .0)) (List._∷_ Row.off (List._∷_ Row.off (List._∷_ Row.off
+              (List._∷_ (Row.lease (κs .1 .1 .1 .1 .1 .0) (qs .1 .1 .1 .1 .1 .0)) (List._∷_ Row.off (List._∷_ Row.off (List._∷_ Row.dead (List._∷_ Row.alive (List._∷_ Row.alive (List._∷_ Row.off (List._∷_
+              Row.off (List._∷_ Row.off List.[])))))))))))));
         }
 
         abbrev G61 : Row.Cx
         G61 = record {
-          locals = List._++_ t7 (List._++_ t35 (List._++_ t2 t3));
-          slots = List._∷_ (Row.lease (κs .0) (qs .0)) (List._∷_ (Row.lease (κs .1 .0) (qs .1 .0)) (List._∷_ (Row.lease (κs .1 .1 .0) (qs .1 .1
-              .0)) (List._∷_ (Row.lease (κs .1 .1 .1 .0) (qs .1 .1 .1 .0)) (List._∷_ (Row.lease (κs .1 .1 .1 .1 .0) (qs .1 .1 .1 .1 .0)) (List._∷_ (Row.lease (κs .1 .1 .1 .1 .1 .0) (qs .1 .1 .1 .1 .1 .0))
-              (List._∷_ Row.off (List._∷_ Row.off (List._∷_ Row.off (List._∷_ Row.off (List._∷_ Row.off (List._∷_ Row.off (List._∷_ Row.off (List._∷_ Row.off (List._∷_ Row.off (List._∷_ Row.off
-              List.[])))))))))))))));
+          locals = List._++_ g48 (List._++_ t44 t49);
+          slots = List._∷_ (Row.lease (κs .0) (qs .0)) (List._∷_ (Row.lease (κs .1 .0) (qs .1 .0)) (List._∷_ (Row.lease (κs .1 .1 .0) (qs .1 .1 .0))
+              (List._∷_ Row.off (List._∷_ Row.off (List._∷_ (Row.lease (κs .1 .1 .1 .1 .1 .0) (qs .1 .1 .1 .1 .1 .0)) (List._∷_ Row.off (List._∷_ Row.off (List._∷_ Row.dead (List._∷_ Row.alive (List._∷_
+              Row.alive (List._∷_ Row.off (List._∷_ Row.off (List._∷_ Row.off List.[])))))))))))));
         }
 
         abbrev G62 : Row.Cx
         G62 = record {
-          locals = List._++_ t7 (List._++_ t35 (List._++_ t2 t3));
-          slots = List._∷_ (Row.lease (κs .0) (qs .0)) (List._∷_ (Row.lease (κs .1 .0) (qs .1 .0)) (List._∷_ (Row.lease (κs .1 .1 .0) (qs .1 .1
-              .0)) (List._∷_ (Row.lease (κs .1 .1 .1 .0) (qs .1 .1 .1 .0)) (List._∷_ (Row.lease (κs .1 .1 .1 .1 .0) (qs .1 .1 .1 .1 .0)) (List._∷_ (Row.lease (κs .1 .1 .1 .1 .1 .0) (qs .1 .1 .1 .1 .1 .0))
-              (List._∷_ Row.off (List._∷_ Row.off (List._∷_ Row.off (List._∷_ Row.off (List._∷_ Row.alive (List._∷_ Row.off (List._∷_ Row.off (List._∷_ Row.off (List._∷_ Row.off (List._∷_ Row.off
-              List.[])))))))))))))));
+          locals = List._++_ g48 (List._++_ t44 t49);
+          slots = List._∷_ (Row.lease (κs .0) (qs .0)) (List._∷_ (Row.lease (κs .1 .0) (qs .1 .0)) (List._∷_ (Row.lease (κs .1 .1 .0) (qs .1 .1 .0))
+              (List._∷_ Row.off (List._∷_ Row.off (List._∷_ (Row.lease (κs .1 .1 .1 .1 .1 .0) (qs .1 .1 .1 .1 .1 .0)) (List._∷_ Row.off (List._∷_ Row.off (List._∷_ Row.dead (List._∷_ Row.alive (List._∷_
+              Row.alive (List._∷_ Row.off (List._∷_ Row.off (List._∷_ Row.off List.[])))))))))))));
         }
 
         abbrev G63 : Row.Cx
         G63 = record {
-          locals = List._++_ g43 (List._++_ t35 (List._++_ t44 t3));
-          slots = List._∷_ (Row.lease (κs .0) (qs .0)) (List._∷_ (Row.lease (κs .1 .0) (qs .1 .0)) (List._∷_ Row.off (List._∷_ (Row.lease (κs
-              .1 .1 .1 .0) (qs .1 .1 .1 .0)) (List._∷_ (Row.lease (κs .1 .1 .1 .1 .0) (qs .1 .1 .1 .1 .0)) (List._∷_ (Row.lease (κs .1 .1 .1 .1 .1 .0) (qs .1 .1 .1 .1 .1 .0)) (List._∷_ Row.off (List._∷_
-              Row.off (List._∷_ Row.off (List._∷_ Row.off (List._∷_ Row.alive (List._∷_ Row.off (List._∷_ Row.off (List._∷_ Row.off (List._∷_ Row.off (List._∷_ Row.off List.[])))))))))))))));
+          locals = List._++_ g48 (List._++_ t44 t49);
+          slots = List._∷_ (Row.lease (κs .0) (qs .0)) (List._∷_ (Row.lease (κs .1 .0) (qs .1 .0)) (List._∷_ (Row.lease (κs .1 .1 .0) (qs .1 .1 .0))
+              (List._∷_ Row.off (List._∷_ Row.off (List._∷_ (Row.lease (κs .1 .1 .1 .1 .1 .0) (qs .1 .1 .1 .1 .1 .0)) (List._∷_ Row.off (List._∷_ Row.off (List._∷_ Row.off (List._∷_ Row.alive (List._∷_
+              Row.alive (List._∷_ Row.off (List._∷_ Row.off (List._∷_ Row.off List.[])))))))))))));
         }
 
         abbrev G64 : Row.Cx
         G64 = record {
-          locals = List._++_ g43 (List._++_ t35 (List._++_ t45 t3));
-          slots = List._∷_ (Row.lease (κs .0) (qs .0)) (List._∷_ (Row.lease (κs .1 .0) (qs .1 .0)) (List._∷_ Row.off (List._∷_ (Row.lease (κs
-              .1 .1 .1 .0) (qs .1 .1 .1 .0)) (List._∷_ (Row.lease (κs .1 .1 .1 .1 .0) (qs .1 .1 .1 .1 .0)) (List._∷_ (Row.lease (κs .1 .1 .1 .1 .1 .0) (qs .1 .1 .1 .1 .1 .0)) (List._∷_ Row.off (List._∷_
-              Row.off (List._∷_ Row.off (List._∷_ Row.off (List._∷_ Row.alive (List._∷_ Row.off (List._∷_ Row.off (List._∷_ Row.off (List._∷_ Row.off (List._∷_ Row.off List.[])))))))))))))));
+          locals = List._++_ g48 (List._++_ t44 t49);
+          slots = List._∷_ (Row.lease (κs .0) (qs .0)) (List._∷_ (Row.lease (κs .1 .0) (qs .1 .0)) (List._∷_ (Row.lease (κs .1 .1 .0) (qs .1 .1 .0))
+              (List._∷_ Row.off (List._∷_ Row.off (List._∷_ (Row.lease (κs .1 .1 .1 .1 .1 .0) (qs .1 .1 .1 .1 .1 .0)) (List._∷_ Row.off (List._∷_ Row.off (List._∷_ Row.off (List._∷_ Row.dead (List._∷_
+              Row.alive (List._∷_ Row.off (List._∷_ Row.off (List._∷_ Row.off List.[])))))))))))));
         }
 
         abbrev G65 : Row.Cx
         G65 = record {
-          locals = List._++_ g43 (List._++_ t35 (List._++_ t45 t3));
-          slots = List._∷_ (Row.lease (κs .0) (qs .0)) (List._∷_ (Row.lease (κs .1 .0) (qs .1 .0)) (List._∷_ Row.off (List._∷_ (Row.lease (κs
-              .1 .1 .1 .0) (qs .1 .1 .1 .0)) (List._∷_ (Row.lease (κs .1 .1 .1 .1 .0) (qs .1 .1 .1 .1 .0)) (List._∷_ (Row.lease (κs .1 .1 .1 .1 .1 .0) (qs .1 .1 .1 .1 .1 .0)) (List._∷_ Row.off (List._∷_
-              Row.off (List._∷_ Row.off (List._∷_ Row.off (List._∷_ Row.alive (List._∷_ Row.alive (List._∷_ Row.off (List._∷_ Row.off (List._∷_ Row.off (List._∷_ Row.off List.[])))))))))))))));
+          locals = List._++_ g50 (List._++_ t44 t51);
+          slots = List._∷_ (Row.lease (κs .0) (qs .0)) (List._∷_ (Row.lease (κs .1 .0) (qs .1 .0)) (List._∷_ (Row.lease (κs .1 .1 .0) (qs .1 .1 .0))
+              (List._∷_ (Row.lease (κs .1 .1 .1 .0) (qs .1 .1 .1 .0)) (List._∷_ Row.off (List._∷_ (Row.lease (κs .1 .1 .1 .1 .1 .0) (qs .1 .1 .1 .1 .1 .0)) (List._∷_ Row.off (List._∷_ Row.off (List._∷_
+              Row.off (List._∷_ Row.dead (List._∷_ Row.alive (List._∷_ Row.off (List._∷_ Row.off (List._∷_ Row.off List.[])))))))))))));
         }
 
         abbrev G66 : Row.Cx
         G66 = record {
-          locals = List._++_ g46 (List._++_ t35 (List._++_ t47 t3));
-          slots = List._∷_ (Row.lease (κs .0) (qs .0)) (List._∷_ (Row.lease (κs .1 .0) (qs .1 .0)) (List._∷_ Row.off (List._∷_ Row.off
-              (List._∷_ (Row.lease (κs .1 .1 .1 .1 .0) (qs .1 .1 .1 .1 .0)) (List._∷_ (Row.lease (κs .1 .1 .1 .1 .1 .0) (qs .1 .1 .1 .1 .1 .0)) (List._∷_ Row.off (List._∷_ Row.off (List._∷_ Row.off
-              (List._∷_ Row.off (List._∷_ Row.alive (List._∷_ Row.alive (List._∷_ Row.off (List._∷_ Row.off (List._∷_ Row.off (List._∷_ Row.off List.[])))))))))))))));
+          locals = List._++_ g50 (List._++_ t44 t51);
+          slots = List._∷_ (Row.lease (κs .0) (qs .0)) (List._∷_ (Row.lease (κs .1 .0) (qs .1 .0)) (List._∷_ (Row.lease (κs .1 .1 .0) (qs .1 .1 .0))
+              (List._∷_ (Row.lease (κs .1 .1 .1 .0) (qs .1 .1 .1 .0)) (List._∷_ Row.off (List._∷_ (Row.lease (κs .1 .1 .1 .1 .1 .0) (qs .1 .1 .1 .1 .1 .0)) (List._∷_ Row.off (List._∷_ Row.off (List._∷_
+              Row.off (List._∷_ Row.off (List._∷_ Row.alive (List._∷_ Row.off (List._∷_ Row.off (List._∷_ Row.off List.[])))))))))))));
         }
 
         abbrev G67 : Row.Cx
         G67 = record {
-          locals = List._++_ g46 (List._++_ t35 (List._++_ t48 t3));
-          slots = List._∷_ (Row.lease (κs .0) (qs .0)) (List._∷_ (Row.lease (κs .1 .0) (qs .1 .0)) (List._∷_ Row.off (List._∷_ Row.off
-              (List._∷_ (Row.lease (κs .1 .1 .1 .1 .0) (qs .1 .1 .1 .1 .0)) (List._∷_ (Row.lease (κs .1 .1 .1 .1 .1 .0) (qs .1 .1 .1 .1 .1 .0)) (List._∷_ Row.off (List._∷_ Row.off (List._∷_ Row.off
-              (List._∷_ Row.off (List._∷_ Row.alive (List._∷_ Row.alive (List._∷_ Row.off (List._∷_ Row.off (List._∷_ Row.off (List._∷_ Row.off List.[])))))))))))))));
+          locals = List._++_ g50 (List._++_ t44 t51);
+          slots = List._∷_ (Row.lease (κs .0) (qs .0)) (List._∷_ (Row.lease (κs .1 .0) (qs .1 .0)) (List._∷_ (Row.lease (κs .1 .1 .0) (qs .1 .1 .0))
+              (List._∷_ (Row.lease (κs .1 .1 .1 .0) (qs .1 .1 .1 .0)) (List._∷_ Row.off (List._∷_ (Row.lease (κs .1 .1 .1 .1 .1 .0) (qs .1 .1 .1 .1 .1 .0)) (List._∷_ Row.off (List._∷_ Row.off (List._∷_
+              Row.off (List._∷_ Row.off (List._∷_ Row.dead (List._∷_ Row.off (List._∷_ Row.off (List._∷_ Row.off List.[])))))))))))));
         }
 
         abbrev G68 : Row.Cx
         G68 = record {
-          locals = List._++_ g46 (List._++_ t35 (List._++_ t48 t3));
-          slots = List._∷_ (Row.lease (κs .0) (qs .0)) (List._∷_ (Row.lease (κs .1 .0) (qs .1 .0)) (List._∷_ Row.off (List._∷_ Row.off
-              (List._∷_ (Row.lease (κs .1 .1 .1 .1 .0) (qs .1 .1 .1 .1 .0)) (List._∷_ (Row.lease (κs .1 .1 .1 .1 .1 .0) (qs .1 .1 .1 .1 .1 .0)) (List._∷_ Row.off (List._∷_ Row.off (List._∷_ Row.off
-              (List._∷_ Row.off (List._∷_ Row.alive (List._∷_ Row.alive (List._∷_ Row.alive (List._∷_ Row.off (List._∷_ Row.off (List._∷_ Row.off List.[])))))))))))))));
+          locals = List._++_ t9 (List._++_ t44 t2);
+          slots = List._∷_ (Row.lease (κs .0) (qs .0)) (List._∷_ (Row.lease (κs .1 .0) (qs .1 .0)) (List._∷_ (Row.lease (κs .1 .1 .0) (qs .1 .1 .0)) (List._∷_
+              (Row.lease (κs .1 .1 .1 .0) (qs .1 .1 .1 .0)) (List._∷_ (Row.lease (κs .1 .1 .1 .1 .0) (qs .1 .1 .1 .1 .0)) (List._∷_ (Row.lease (κs .1 .1 .1 .1 .1 .0) (qs .1 .1 .1 .1 .1 .0)) (List._∷_
+              Row.off (List._∷_ Row.off (List._∷_ Row.off (List._∷_ Row.off (List._∷_ Row.dead (List._∷_ Row.off (List._∷_ Row.off (List._∷_ Row.off List.[])))))))))))));
         }
 
         abbrev G69 : Row.Cx
         G69 = record {
-          locals = List._++_ g49 (List._++_ t35 (List._++_ t50 t3));
-          slots = List._∷_ (Row.lease (κs .0) (qs .0)) (List._∷_ (Row.lease (κs .1 .0) (qs .1 .0)) (List._∷_ Row.off (List._∷_ Row.off
-              (List._∷_ Row.off (List._∷_ (Row.lease (κs .1 .1 .1 .1 .1 .0) (qs .1 .1 .1 .1 .1 .0)) (List._∷_ Row.off (List._∷_ Row.off (List._∷_ Row.off (List._∷_ Row.off (List._∷_ Row.alive (List._∷_
-              Row.alive (List._∷_ Row.alive (List._∷_ Row.off (List._∷_ Row.off (List._∷_ Row.off List.[])))))))))))))));
+          locals = List._++_ t9 (List._++_ t44 t2);
+          slots = List._∷_ (Row.lease (κs .0) (qs .0)) (List._∷_ (Row.lease (κs .1 .0) (qs .1 .0)) (List._∷_ (Row.lease (κs .1 .1 .0) (qs .1 .1 .0)) (List._∷_
+              (Row.lease (κs .1 .1 .1 .0) (qs .1 .1 .1 .0)) (List._∷_ (Row.lease (κs .1 .1 .1 .1 .0) (qs .1 .1 .1 .1 .0)) (List._∷_ (Row.lease (κs .1 .1 .1 .1 .1 .0) (qs .1 .1 .1 .1 .1 .0)) (List._∷_
+              Row.off (List._∷_ Row.off (List._∷_ Row.off (List._∷_ Row.off (List._∷_ Row.dead (List._∷_ Row.off (List._∷_ Row.off (List._∷_ Row.off List.[])))))))))))));
         }
 
         abbrev G70 : Row.Cx
         G70 = record {
-          locals = List._++_ g49 (List._++_ t35 (List._++_ t51 t3));
-          slots = List._∷_ (Row.lease (κs .0) (qs .0)) (List._∷_ (Row.lease (κs .1 .0) (qs .1 .0)) (List._∷_ Row.off (List._∷_ Row.off
-              (List._∷_ Row.off (List._∷_ (Row.lease (κs .1 .1 .1 .1 .1 .0) (qs .1 .1 .1 .1 .1 .0)) (List._∷_ Row.off (List._∷_ Row.off (List._∷_ Row.off (List._∷_ Row.off (List._∷_ Row.alive (List._∷_
-              Row.alive (List._∷_ Row.alive (List._∷_ Row.off (List._∷_ Row.off (List._∷_ Row.off List.[])))))))))))))));
+          locals = List._++_ t9 (List._++_ t44 t2);
+          slots = List._∷_ (Row.lease (κs .0) (qs .0)) (List._∷_ (Row.lease (κs .1 .0) (qs .1 .0)) (List._∷_ (Row.lease (κs .1 .1 .0) (qs .1 .1 .0)) (List._∷_
+              (Row.lease (κs .1 .1 .1 .0) (qs .1 .1 .1 .0)) (List._∷_ (Row.lease (κs .1 .1 .1 .1 .0) (qs .1 .1 .1 .1 .0)) (List._∷_ (Row.lease (κs .1 .1 .1 .1 .1 .0) (qs .1 .1 .1 .1 .1 .0)) (List._∷_
+              Row.off (List._∷_ Row.off (List._∷_ Row.off (List._∷_ Row.off (List._∷_ Row.off (List._∷_ Row.off (List._∷_ Row.off (List._∷_ Row.off List.[])))))))))))));
         }
 
         abbrev G71 : Row.Cx
         G71 = record {
-          locals = List._++_ g49 (List._++_ t35 (List._++_ t52 t3));
-          slots = List._∷_ (Row.lease (κs .0) (qs .0)) (List._∷_ (Row.lease (κs .1 .0) (qs .1 .0)) (List._∷_ Row.off (List._∷_ Row.off
-              (List._∷_ Row.off (List._∷_ (Row.lease (κs .1 .1 .1 .1 .1 .0) (qs .1 .1 .1 .1 .1 .0)) (List._∷_ Row.off (List._∷_ Row.off (List._∷_ Row.off (List._∷_ Row.off (List._∷_ Row.alive (List._∷_
-              Row.alive (List._∷_ Row.alive (List._∷_ Row.off (List._∷_ Row.off (List._∷_ Row.off List.[])))))))))))))));
+          locals = List._++_ t9 (List._++_ t52 t2);
+          slots = List._∷_ (Row.lease (κs .0) (qs .0)) (List._∷_ (Row.lease (κs .1 .0) (qs .1 .0)) (List._∷_ (Row.lease (κs .1 .1 .0) (qs .1 .1 .0)) (List._∷_
+              (Row.lease (κs .1 .1 .1 .0) (qs .1 .1 .1 .0)) (List._∷_ (Row.lease (κs .1 .1 .1 .1 .0) (qs .1 .1 .1 .1 .0)) (List._∷_ (Row.lease (κs .1 .1 .1 .1 .1 .0) (qs .1 .1 .1 .1 .1 .0)) (List._∷_
+              Row.off (List._∷_ Row.off (List._∷_ Row.off (List._∷_ Row.off (List._∷_ Row.off (List._∷_ Row.off (List._∷_ Row.off (List._∷_ Row.off List.[])))))))))))));
         }
 
         abbrev G72 : Row.Cx
         G72 = record {
-          locals = List._++_ g49 (List._++_ t53 (List._++_ t54 t3));
-          slots = List._∷_ (Row.lease (κs .0) (qs .0)) (List._∷_ (Row.lease (κs .1 .0) (qs .1 .0)) (List._∷_ Row.off (List._∷_ Row.off
-              (List._∷_ Row.off (List._∷_ (Row.lease (κs .1 .1 .1 .1 .1 .0) (qs .1 .1 .1 .1 .1 .0)) (List._∷_ Row.off (List._∷_ Row.off (List._∷_ Row.off (List._∷_ Row.off (List._∷_ Row.alive (List._∷_
-              Row.alive (List._∷_ Row.alive (List._∷_ Row.off (List._∷_ Row.off (List._∷_ Row.off List.[])))))))))))))));
+          locals = List._++_ t9 (List._++_ t52 t2);
+          slots = List._∷_ (Row.lease (κs .0) (qs .0)) (List._∷_ (Row.lease (κs .1 .0) (qs .1 .0)) (List._∷_ (Row.lease (κs .1 .1 .0) (qs .1 .1 .0)) (List._∷_
+              (Row.lease (κs .1 .1 .1 .0) (qs .1 .1 .1 .0)) (List._∷_ (Row.lease (κs .1 .1 .1 .1 .0) (qs .1 .1 .1 .1 .0)) (List._∷_ (Row.lease (κs .1 .1 .1 .1 .1 .0) (qs .1 .1 .1 .1 .1 .0)) (List._∷_
+              Row.off (List._∷_ Row.off (List._∷_ Row.off (List._∷_ Row.off (List._∷_ Row.off (List._∷_ Row.off (List._∷_ Row.off (List._∷_ Row.off List.[])))))))))))));
         }
 
         abbrev G73 : Row.Cx
         G73 = record {
-          locals = List._++_ t7 (List._++_ t55 (List._++_ t2 t3));
-          slots = List._∷_ (Row.lease (κs .0) (qs .0)) (List._∷_ (Row.lease (κs .1 .0) (qs .1 .0)) (List._∷_ (Row.lease (κs .1 .1 .0) (qs .1 .1
-              .0)) (List._∷_ (Row.lease (κs .1 .1 .1 .0) (qs .1 .1 .1 .0)) (List._∷_ (Row.lease (κs .1 .1 .1 .1 .0) (qs .1 .1 .1 .1 .0)) (List._∷_ (Row.lease (κs .1 .1 .1 .1 .1 .0) (qs .1 .1 .1 .1 .1 .0))
-              (List._∷_ Row.off (List._∷_ Row.off (List._∷_ Row.off (List._∷_ Row.off (List._∷_ Row.off (List._∷_ Row.off (List._∷_ Row.off (List._∷_ Row.off (List._∷_ Row.off (List._∷_ Row.off
-              List.[])))))))))))))));
+          locals = List._++_ t9 (List._++_ t53 t2);
+          slots = List._∷_ (Row.lease (κs .0) (qs .0)) (List._∷_ (Row.lease (κs .1 .0) (qs .1 .0)) (List._∷_ (Row.lease (κs .1 .1 .0) (qs .1 .1 .0)) (List._∷_
+              (Row.lease (κs .1 .1 .1 .0) (qs .1 .1 .1 .0)) (List._∷_ (Row.lease (κs .1 .1 .1 .1 .0) (qs .1 .1 .1 .1 .0)) (List._∷_ (Row.lease (κs .1 .1 .1 .1 .1 .0) (qs .1 .1 .1 .1 .1 .0)) (List._∷_
+              Row.off (List._∷_ Row.off (List._∷_ Row.off (List._∷_ Row.off (List._∷_ Row.off (List._∷_ Row.off (List._∷_ Row.off (List._∷_ Row.off List.[])))))))))))));
         }
 
         abbrev G74 : Row.Cx
         G74 = record {
-          locals = List._++_ g49 (List._++_ t53 (List._++_ t56 t3));
-          slots = List._∷_ (Row.lease (κs .0) (qs .0)) (List._∷_ (Row.lease (κs .1 .0) (qs .1 .0)) (List._∷_ Row.off (List._∷_ Row.off
-              (List._∷_ Row.off (List._∷_ (Row.lease (κs .1 .1 .1 .1 .1 .0) (qs .1 .1 .1 .1 .1 .0)) (List._∷_ Row.off (List._∷_ Row.off (List._∷_ Row.off (List._∷_ Row.off (List._∷_ Row.alive (List._∷_
-              Row.alive (List._∷_ Row.alive (List._∷_ Row.off (List._∷_ Row.off (List._∷_ Row.off List.[])))))))))))))));
+          locals = List._++_ t9 (List._++_ t54 t2);
+          slots = List._∷_ (Row.lease (κs .0) (qs .0)) (List._∷_ (Row.lease (κs .1 .0) (qs .1 .0)) (List._∷_ (Row.lease (κs .1 .1 .0) (qs .1 .1 .0)) (List._∷_
+              (Row.lease (κs .1 .1 .1 .0) (qs .1 .1 .1 .0)) (List._∷_ (Row.lease (κs .1 .1 .1 .1 .0) (qs .1 .1 .1 .1 .0)) (List._∷_ (Row.lease (κs .1 .1 .1 .1 .1 .0) (qs .1 .1 .1 .1 .1 .0)) (List._∷_
+              Row.off (List._∷_ Row.off (List._∷_ Row.off (List._∷_ Row.off (List._∷_ Row.off (List._∷_ Row.off (List._∷_ Row.off (List._∷_ Row.off List.[])))))))))))));
         }
 
         abbrev G75 : Row.Cx
         G75 = record {
-          locals = List._++_ g49 (List._++_ t53 (List._++_ t56 t3));
-          slots = List._∷_ (Row.lease (κs .0) (qs .0)) (List._∷_ (Row.lease (κs .1 .0) (qs .1 .0)) (List._∷_ Row.off (List._∷_ Row.off
-              (List._∷_ Row.off (List._∷_ (Row.lease (κs .1 .1 .1 .1 .1 .0) (qs .1 .1 .1 .1 .1 .0)) (List._∷_ Row.off (List._∷_ Row.off (List._∷_ Row.off (List._∷_ Row.off (List._∷_ Row.dead (List._∷_
-              Row.alive (List._∷_ Row.alive (List._∷_ Row.off (List._∷_ Row.off (List._∷_ Row.off List.[])))))))))))))));
+          locals = List._++_ t9 (List._++_ t46 t2);
+          slots = List._∷_ (Row.lease (κs .0) (qs .0)) (List._∷_ (Row.lease (κs .1 .0) (qs .1 .0)) (List._∷_ (Row.lease (κs .1 .1 .0) (qs .1 .1 .0)) (List._∷_
+              (Row.lease (κs .1 .1 .1 .0) (qs .1 .1 .1 .0)) (List._∷_ (Row.lease (κs .1 .1 .1 .1 .0) (qs .1 .1 .1 .1 .0)) (List._∷_ (Row.lease (κs .1 .1 .1 .1 .1 .0) (qs .1 .1 .1 .1 .1 .0)) (List._∷_
+              Row.off (List._∷_ Row.off (List._∷_ Row.off (List._∷_ Row.off (List._∷_ Row.off (List._∷_ Row.off (List._∷_ Row.off (List._∷_ Row.off List.[])))))))))))));
         }
 
         abbrev G76 : Row.Cx
         G76 = record {
-          locals = List._++_ g57 (List._++_ t53 (List._++_ t58 t3));
-          slots = List._∷_ (Row.lease (κs .0) (qs .0)) (List._∷_ (Row.lease (κs .1 .0) (qs .1 .0)) (List._∷_ (Row.lease (κs .1 .1 .0) (qs .1
-              .1 .0)) (List._∷_ Row.off (List._∷_ Row.off (List._∷_ (Row.lease (κs .1 .1 .1 .1 .1 .0) (qs .1 .1 .1 .1 .1 .0)) (List._∷_ Row.off (List._∷_ Row.off (List._∷_ Row.off (List._∷_ Row.off
-              (List._∷_ Row.dead (List._∷_ Row.alive (List._∷_ Row.alive (List._∷_ Row.off (List._∷_ Row.off (List._∷_ Row.off List.[])))))))))))))));
+          locals = List._++_ t9 (List._++_ t44 t2);
+          slots = List._∷_ (Row.lease (κs .0) (qs .0)) (List._∷_ (Row.lease (κs .1 .0) (qs .1 .0)) (List._∷_ (Row.lease (κs .1 .1 .0) (qs .1 .1 .0)) (List._∷_
+              (Row.lease (κs .1 .1 .1 .0) (qs .1 .1 .1 .0)) (List._∷_ (Row.lease (κs .1 .1 .1 .1 .0) (qs .1 .1 .1 .1 .0)) (List._∷_ (Row.lease (κs .1 .1 .1 .1 .1 .0) (qs .1 .1 .1 .1 .1 .0)) (List._∷_
+              Row.off (List._∷_ Row.off (List._∷_ Row.off (List._∷_ Row.off (List._∷_ Row.off (List._∷_ Row.off (List._∷_ Row.off (List._∷_ Row.off List.[])))))))))))));
         }
 
         abbrev G77 : Row.Cx
         G77 = record {
-          locals = List._++_ g57 (List._++_ t53 (List._++_ t58 t3));
-          slots = List._∷_ (Row.lease (κs .0) (qs .0)) (List._∷_ (Row.lease (κs .1 .0) (qs .1 .0)) (List._∷_ (Row.lease (κs .1 .1 .0) (qs .1
-              .1 .0)) (List._∷_ Row.off (List._∷_ Row.off (List._∷_ (Row.lease (κs .1 .1 .1 .1 .1 .0) (qs .1 .1 .1 .1 .1 .0)) (List._∷_ Row.off (List._∷_ Row.off (List._∷_ Row.off (List._∷_ Row.off
-              (List._∷_ Row.dead (List._∷_ Row.alive (List._∷_ Row.alive (List._∷_ Row.off (List._∷_ Row.off (List._∷_ Row.off List.[])))))))))))))));
+          locals = List._++_ t15 (List._++_ t44 t2);
+          slots = List._∷_ (Row.lease (κs .0) (qs .0)) (List._∷_ (Row.lease (κs .1 .0) (qs .1 .0)) (List._∷_ (Row.lease (κs .1 .1 .0) (qs .1 .1 .0))
+              (List._∷_ (Row.lease (κs .1 .1 .1 .0) (qs .1 .1 .1 .0)) (List._∷_ (Row.lease (κs .1 .1 .1 .1 .0) (qs .1 .1 .1 .1 .0)) (List._∷_ (Row.lease (κs .1 .1 .1 .1 .1 .0) (qs .1 .1 .1 .1 .1 .0))
+              (List._∷_ Row.off (List._∷_ Row.off (List._∷_ Row.off (List._∷_ Row.off (List._∷_ Row.off (List._∷_ Row.off (List._∷_ Row.off (List._∷_ Row.off List.[])))))))))))));
         }
 
         abbrev G78 : Row.Cx
         G78 = record {
-          locals = List._++_ g57 (List._++_ t53 (List._++_ t58 t3));
-          slots = List._∷_ (Row.lease (κs .0) (qs .0)) (List._∷_ (Row.lease (κs .1 .0) (qs .1 .0)) (List._∷_ (Row.lease (κs .1 .1 .0) (qs .1
-              .1 .0)) (List._∷_ Row.off (List._∷_ Row.off (List._∷_ (Row.lease (κs .1 .1 .1 .1 .1 .0) (qs .1 .1 .1 .1 .1 .0)) (List._∷_ Row.off (List._∷_ Row.off (List._∷_ Row.off (List._∷_ Row.off
-              (List._∷_ Row.off (List._∷_ Row.alive (List._∷_ Row.alive (List._∷_ Row.off (List._∷_ Row.off (List._∷_ Row.off List.[])))))))))))))));
+          locals = List._++_ t16 (List._++_ t44 t2);
+          slots = List._∷_ (Row.lease (κs .0) (qs .0)) (List._∷_ (Row.lease (κs .1 .0) (qs .1 .0)) (List._∷_ (Row.lease (κs .1 .1 .0) (qs .1 .1 .0))
+              (List._∷_ (Row.lease (κs .1 .1 .1 .0) (qs .1 .1 .1 .0)) (List._∷_ (Row.lease (κs .1 .1 .1 .1 .0) (qs .1 .1 .1 .1 .0)) (List._∷_ (Row.lease (κs .1 .1 .1 .1 .1 .0) (qs .1 .1 .1 .1 .1 .0))
+              (List._∷_ Row.off (List._∷_ Row.off (List._∷_ Row.off (List._∷_ Row.off (List._∷_ Row.off (List._∷_ Row.off (List._∷_ Row.off (List._∷_ Row.off List.[])))))))))))));
         }
 
         abbrev G79 : Row.Cx
         G79 = record {
-          locals = List._++_ g57 (List._++_ t53 (List._++_ t58 t3));
-          slots = List._∷_ (Row.lease (κs .0) (qs .0)) (List._∷_ (Row.lease (κs .1 .0) (qs .1 .0)) (List._∷_ (Row.lease (κs .1 .1 .0) (qs .1
-              .1 .0)) (List._∷_ Row.off (List._∷_ Row.off (List._∷_ (Row.lease (κs .1 .1 .1 .1 .1 .0) (qs .1 .1 .1 .1 .1 .0)) (List._∷_ Row.off (List._∷_ Row.off (List._∷_ Row.off (List._∷_ Row.off
-              (List._∷_ Row.off (List._∷_ Row.dead (List._∷_ Row.alive (List._∷_ Row.off (List._∷_ Row.off (List._∷_ Row.off List.[])))))))))))))));
+          locals = List._++_ t55 (List._++_ t44 t2);
+          slots = List._∷_ (Row.lease (κs .0) (qs .0)) (List._∷_ (Row.lease (κs .1 .0) (qs .1 .0)) (List._∷_ (Row.lease (κs .1 .1 .0) (qs .1 .1 .0))
+              (List._∷_ (Row.lease (κs .1 .1 .1 .0) (qs .1 .1 .1 .0)) (List._∷_ (Row.lease (κs .1 .1 .1 .1 .0) (qs .1 .1 .1 .1 .0)) (List._∷_ (Row.lease (κs .1 .1 .1 .1 .1 .0) (qs .1 .1 .1 .1 .1 .0))
+              (List._∷_ Row.off (List._∷_ Row.off (List._∷_ Row.off (List._∷_ Row.off (List._∷_ Row.off (List._∷_ Row.off (List._∷_ Row.off (List._∷_ Row.off List.[])))))))))))));
         }
 
         abbrev G80 : Row.Cx
         G80 = record {
-          locals = List._++_ g59 (List._++_ t53 (List._++_ t60 t3));
-          slots = List._∷_ (Row.lease (κs .0) (qs .0)) (List._∷_ (Row.lease (κs .1 .0) (qs .1 .0)) (List._∷_ (Row.lease (κs .1 .1 .0) (qs .1
-              .1 .0)) (List._∷_ (Row.lease (κs .1 .1 .1 .0) (qs .1 .1 .1 .0)) (List._∷_ Row.off (List._∷_ (Row.lease (κs .1 .1 .1 .1 .1 .0) (qs .1 .1 .1 .1 .1 .0)) (List._∷_ Row.off (List._∷_ Row.off
-              (List._∷_ Row.off (List._∷_ Row.off (List._∷_ Row.off (List._∷_ Row.dead (List._∷_ Row.alive (List._∷_ Row.off (List._∷_ Row.off (List._∷_ Row.off List.[])))))))))))))));
+          locals = List._++_ t55 (List._++_ t56 t2);
+          slots = List._∷_ (Row.lease (κs .0) (qs .0)) (List._∷_ (Row.lease (κs .1 .0) (qs .1 .0)) (List._∷_ (Row.lease (κs .1 .1 .0) (qs .1 .1 .0))
+              (List._∷_ (Row.lease (κs .1 .1 .1 .0) (qs .1 .1 .1 .0)) (List._∷_ (Row.lease (κs .1 .1 .1 .1 .0) (qs .1 .1 .1 .1 .0)) (List._∷_ (Row.lease (κs .1 .1 .1 .1 .1 .0) (qs .1 .1 .1 .1 .1 .0))
+              (List._∷_ Row.off (List._∷_ Row.off (List._∷_ Row.off (List._∷_ Row.off (List._∷_ Row.off (List._∷_ Row.off (List._∷_ Row.off (List._∷_ Row.off List.[])))))))))))));
         }
 
         abbrev G81 : Row.Cx
         G81 = record {
-          locals = List._++_ g59 (List._++_ t53 (List._++_ t60 t3));
-          slots = List._∷_ (Row.lease (κs .0) (qs .0)) (List._∷_ (Row.lease (κs .1 .0) (qs .1 .0)) (List._∷_ (Row.lease (κs .1 .1 .0) (qs .1
-              .1 .0)) (List._∷_ (Row.lease (κs .1 .1 .1 .0) (qs .1 .1 .1 .0)) (List._∷_ Row.off (List._∷_ (Row.lease (κs .1 .1 .1 .1 .1 .0) (qs .1 .1 .1 .1 .1 .0)) (List._∷_ Row.off (List._∷_ Row.off
-              (List._∷_ Row.off (List._∷_ Row.off (List._∷_ Row.off (List._∷_ Row.off (List._∷_ Row.alive (List._∷_ Row.off (List._∷_ Row.off (List._∷_ Row.off List.[])))))))))))))));
+          locals = List._++_ t55 (List._++_ t57 t2);
+          slots = List._∷_ (Row.lease (κs .0) (qs .0)) (List._∷_ (Row.lease (κs .1 .0) (qs .1 .0)) (List._∷_ (Row.lease (κs .1 .1 .0) (qs .1 .1 .0))
+              (List._∷_ (Row.lease (κs .1 .1 .1 .0) (qs .1 .1 .1 .0)) (List._∷_ (Row.lease (κs .1 .1 .1 .1 .0) (qs .1 .1 .1 .1 .0)) (List._∷_ (Row.lease (κs .1 .1 .1 .1 .1 .0) (qs .1 .1 .1 .1 .1 .0))
+              (List._∷_ Row.off (List._∷_ Row.off (List._∷_ Row.off (List._∷_ Row.off (List._∷_ Row.off (List._∷_ Row.off (List._∷_ Row.off (List._∷_ Row.off List.[])))))))))))));
         }
 
         abbrev G82 : Row.Cx
         G82 = record {
-          locals = List._++_ g59 (List._++_ t53 (List._++_ t60 t3));
-          slots = List._∷_ (Row.lease (κs .0) (qs .0)) (List._∷_ (Row.lease (κs .1 .0) (qs .1 .0)) (List._∷_ (Row.lease (κs .1 .1 .0) (qs .1
-              .1 .0)) (List._∷_ (Row.lease (κs .1 .1 .1 .0) (qs .1 .1 .1 .0)) (List._∷_ Row.off (List._∷_ (Row.lease (κs .1 .1 .1 .1 .1 .0) (qs .1 .1 .1 .1 .1 .0)) (List._∷_ Row.off (List._∷_ Row.off
-              (List._∷_ Row.off (List._∷_ Row.off (List._∷_ Row.off (List._∷_ Row.off (List._∷_ Row.dead (List._∷_ Row.off (List._∷_ Row.off (List._∷_ Row.off List.[])))))))))))))));
+          locals = List._++_ t55 (List._++_ t57 t2);
+          slots = List._∷_ (Row.lease (κs .0) (qs .0)) (List._∷_ (Row.lease (κs .1 .0) (qs .1 .0)) (List._∷_ (Row.lease (κs .1 .1 .0) (qs .1 .1 .0))
+              (List._∷_ (Row.lease (κs .1 .1 .1 .0) (qs .1 .1 .1 .0)) (List._∷_ (Row.lease (κs .1 .1 .1 .1 .0) (qs .1 .1 .1 .1 .0)) (List._∷_ (Row.lease (κs .1 .1 .1 .1 .1 .0) (qs .1 .1 .1 .1 .1 .0))
+              (List._∷_ Row.off (List._∷_ Row.off (List._∷_ Row.off (List._∷_ Row.off (List._∷_ Row.off (List._∷_ Row.alive (List._∷_ Row.off (List._∷_ Row.off List.[])))))))))))));
         }
 
         abbrev G83 : Row.Cx
         G83 = record {
-          locals = List._++_ t7 (List._++_ t53 (List._++_ t2 t3));
-          slots = List._∷_ (Row.lease (κs .0) (qs .0)) (List._∷_ (Row.lease (κs .1 .0) (qs .1 .0)) (List._∷_ (Row.lease (κs .1 .1 .0) (qs .1 .1
-              .0)) (List._∷_ (Row.lease (κs .1 .1 .1 .0) (qs .1 .1 .1 .0)) (List._∷_ (Row.lease (κs .1 .1 .1 .1 .0) (qs .1 .1 .1 .1 .0)) (List._∷_ (Row.lease (κs .1 .1 .1 .1 .1 .0) (qs .1 .1 .1 .1 .1 .0))
-              (List._∷_ Row.off (List._∷_ Row.off (List._∷_ Row.off (List._∷_ Row.off (List._∷_ Row.off (List._∷_ Row.off (List._∷_ Row.dead (List._∷_ Row.off (List._∷_ Row.off (List._∷_ Row.off
-              List.[])))))))))))))));
+          locals = List._++_ g58 (List._++_ t57 t59);
+          slots = List._∷_ (Row.lease (κs .0) (qs .0)) (List._∷_ (Row.lease (κs .1 .0) (qs .1 .0)) (List._∷_ (Row.lease (κs .1 .1 .0) (qs .1 .1 .0))
+              (List._∷_ (Row.lease (κs .1 .1 .1 .0) (qs .1 .1 .1 .0)) (List._∷_ Row.off (List._∷_ (Row.lease (κs .1 .1 .1 .1 .1 .0) (qs .1 .1 .1 .1 .1 .0)) (List._∷_ Row.off (List._∷_ Row.off (List._∷_
+              Row.off (List._∷_ Row.off (List._∷_ Row.off (List._∷_ Row.alive (List._∷_ Row.off (List._∷_ Row.off List.[])))))))))))));
         }
 
         abbrev G84 : Row.Cx
         G84 = record {
-          locals = List._++_ t7 (List._++_ t53 (List._++_ t2 t3));
-          slots = List._∷_ (Row.lease (κs .0) (qs .0)) (List._∷_ (Row.lease (κs .1 .0) (qs .1 .0)) (List._∷_ (Row.lease (κs .1 .1 .0) (qs .1 .1
-              .0)) (List._∷_ (Row.lease (κs .1 .1 .1 .0) (qs .1 .1 .1 .0)) (List._∷_ (Row.lease (κs .1 .1 .1 .1 .0) (qs .1 .1 .1 .1 .0)) (List._∷_ (Row.lease (κs .1 .1 .1 .1 .1 .0) (qs .1 .1 .1 .1 .1 .0))
-              (List._∷_ Row.off (List._∷_ Row.off (List._∷_ Row.off (List._∷_ Row.off (List._∷_ Row.off (List._∷_ Row.off (List._∷_ Row.dead (List._∷_ Row.off (List._∷_ Row.off (List._∷_ Row.off
-              List.[])))))))))))))));
+          locals = List._++_ g58 (List._++_ t57 t60);
+          slots = List._∷_ (Row.lease (κs .0) (qs .0)) (List._∷_ (Row.lease (κs .1 .0) (qs .1 .0)) (List._∷_ (Row.lease (κs .1 .1 .0) (qs .1 .1 .0))
+              (List._∷_ (Row.lease (κs .1 .1 .1 .0) (qs .1 .1 .1 .0)) (List._∷_ Row.off (List._∷_ (Row.lease (κs .1 .1 .1 .1 .1 .0) (qs .1 .1 .1 .1 .1 .0)) (List._∷_ Row.off (List._∷_ Row.off (List._∷_
+              Row.off (List._∷_ Row.off (List._∷_ Row.off (List._∷_ Row.alive (List._∷_ Row.off (List._∷_ Row.off List.[])))))))))))));
         }
 
         abbrev G85 : Row.Cx
         G85 = record {
-          locals = List._++_ t7 (List._++_ t53 (List._++_ t2 t3));
-          slots = List._∷_ (Row.lease (κs .0) (qs .0)) (List._∷_ (Row.lease (κs .1 .0) (qs .1 .0)) (List._∷_ (Row.lease (κs .1 .1 .0) (qs .1 .1
-              .0)) (List._∷_ (Row.lease (κs .1 .1 .1 .0) (qs .1 .1 .1 .0)) (List._∷_ (Row.lease (κs .1 .1 .1 .1 .0) (qs .1 .1 .1 .1 .0)) (List._∷_ (Row.lease (κs .1 .1 .1 .1 .1 .0) (qs .1 .1 .1 .1 .1 .0))
-              (List._∷_ Row.off (List._∷_ Row.off (List._∷_ Row.off (List._∷_ Row.off (List._∷_ Row.off (List._∷_ Row.off (List._∷_ Row.off (List._∷_ Row.off (List._∷_ Row.off (List._∷_ Row.off
-              List.[])))))))))))))));
+          locals = List._++_ g58 (List._++_ t57 t61);
+          slots = List._∷_ (Row.lease (κs .0) (qs .0)) (List._∷_ (Row.lease (κs .1 .0) (qs .1 .0)) (List._∷_ (Row.lease (κs .1 .1 .0) (qs .1 .1 .0))
+              (List._∷_ (Row.lease (κs .1 .1 .1 .0) (qs .1 .1 .1 .0)) (List._∷_ Row.off (List._∷_ (Row.lease (κs .1 .1 .1 .1 .1 .0) (qs .1 .1 .1 .1 .1 .0)) (List._∷_ Row.off (List._∷_ Row.off (List._∷_
+              Row.off (List._∷_ Row.off (List._∷_ Row.off (List._∷_ Row.alive (List._∷_ Row.off (List._∷_ Row.off List.[])))))))))))));
         }
 
         abbrev G86 : Row.Cx
         G86 = record {
-          locals = List._++_ t7 (List._++_ t61 (List._++_ t2 t3));
-          slots = List._∷_ (Row.lease (κs .0) (qs .0)) (List._∷_ (Row.lease (κs .1 .0) (qs .1 .0)) (List._∷_ (Row.lease (κs .1 .1 .0) (qs .1 .1
-              .0)) (List._∷_ (Row.lease (κs .1 .1 .1 .0) (qs .1 .1 .1 .0)) (List._∷_ (Row.lease (κs .1 .1 .1 .1 .0) (qs .1 .1 .1 .1 .0)) (List._∷_ (Row.lease (κs .1 .1 .1 .1 .1 .0) (qs .1 .1 .1 .1 .1 .0))
-              (List._∷_ Row.off (List._∷_ Row.off (List._∷_ Row.off (List._∷_ Row.off (List._∷_ Row.off (List._∷_ Row.off (List._∷_ Row.off (List._∷_ Row.off (List._∷_ Row.off (List._∷_ Row.off
-              List.[])))))))))))))));
+          locals = List._++_ g62 (List._++_ t57 t61);
+          slots = List._∷_ (Row.lease (κs .0) (qs .0)) (List._∷_ (Row.lease (κs .1 .0) (qs .1 .0)) (List._∷_ (Row.lease (κs .1 .1 .0) (qs .1 .1 .0))
+              (List._∷_ (Row.lease (κs .1 .1 .1 .0) (qs .1 .1 .1 .0)) (List._∷_ Row.off (List._∷_ (Row.lease (κs .1 .1 .1 .1 .1 .0) (qs .1 .1 .1 .1 .1 .0)) (List._∷_ Row.off (List._∷_ Row.off (List._∷_
+              Row.off (List._∷_ Row.off (List._∷_ Row.off (List._∷_ Row.alive (List._∷_ Row.off (List._∷_ Row.off List.[])))))))))))));
         }
 
         abbrev G87 : Row.Cx
         G87 = record {
-          locals = List._++_ t7 (List._++_ t61 (List._++_ t2 t3));
-          slots = List._∷_ (Row.lease (κs .0) (qs .0)) (List._∷_ (Row.lease (κs .1 .0) (qs .1 .0)) (List._∷_ (Row.lease (κs .1 .1 .0) (qs .1 .1
-              .0)) (List._∷_ (Row.lease (κs .1 .1 .1 .0) (qs .1 .1 .1 .0)) (List._∷_ (Row.lease (κs .1 .1 .1 .1 .0) (qs .1 .1 .1 .1 .0)) (List._∷_ (Row.lease (κs .1 .1 .1 .1 .1 .0) (qs .1 .1 .1 .1 .1 .0))
-              (List._∷_ Row.off (List._∷_ Row.off (List._∷_ Row.off (List._∷_ Row.off (List._∷_ Row.off (List._∷_ Row.off (List._∷_ Row.off (List._∷_ Row.off (List._∷_ Row.off (List._∷_ Row.off
-              List.[])))))))))))))));
+          locals = List._++_ g62 (List._++_ t57 t63);
+          slots = List._∷_ (Row.lease (κs .0) (qs .0)) (List._∷_ (Row.lease (κs .1 .0) (qs .1 .0)) (List._∷_ (Row.lease (κs .1 .1 .0) (qs .1 .1 .0))
+              (List._∷_ (Row.lease (κs .1 .1 .1 .0) (qs .1 .1 .1 .0)) (List._∷_ Row.off (List._∷_ (Row.lease (κs .1 .1 .1 .1 .1 .0) (qs .1 .1 .1 .1 .1 .0)) (List._∷_ Row.off (List._∷_ Row.off (List._∷_
+              Row.off (List._∷_ Row.off (List._∷_ Row.off (List._∷_ Row.alive (List._∷_ Row.off (List._∷_ Row.off List.[])))))))))))));
         }
 
         abbrev G88 : Row.Cx
         G88 = record {
-          locals = List._++_ t7 (List._++_ t62 (List._++_ t2 t3));
-          slots = List._∷_ (Row.lease (κs .0) (qs .0)) (List._∷_ (Row.lease (κs .1 .0) (qs .1 .0)) (List._∷_ (Row.lease (κs .1 .1 .0) (qs .1 .1
-              .0)) (List._∷_ (Row.lease (κs .1 .1 .1 .0) (qs .1 .1 .1 .0)) (List._∷_ (Row.lease (κs .1 .1 .1 .1 .0) (qs .1 .1 .1 .1 .0)) (List._∷_ (Row.lease (κs .1 .1 .1 .1 .1 .0) (qs .1 .1 .1 .1 .1 .0))
-              (List._∷_ Row.off (List._∷_ Row.off (List._∷_ Row.off (List._∷_ Row.off (List._∷_ Row.off (List._∷_ Row.off (List._∷_ Row.off (List._∷_ Row.off (List._∷_ Row.off (List._∷_ Row.off
-              List.[])))))))))))))));
+          locals = List._++_ g62 (List._++_ t57 t63);
+          slots = List._∷_ (Row.lease (κs .0) (qs .0)) (List._∷_ (Row.lease (κs .1 .0) (qs .1 .0)) (List._∷_ (Row.lease (κs .1 .1 .0) (qs .1 .1 .0))
+              (List._∷_ (Row.lease (κs .1 .1 .1 .0) (qs .1 .1 .1 .0)) (List._∷_ Row.off (List._∷_ (Row.lease (κs .1 .1 .1 .1 .1 .0) (qs .1 .1 .1 .1 .1 .0)) (List._∷_ Row.off (List._∷_ Row.off (List._∷_
+              Row.off (List._∷_ Row.off (List._∷_ Row.off (List._∷_ Row.dead (List._∷_ Row.off (List._∷_ Row.off List.[])))))))))))));
         }
 
         abbrev G89 : Row.Cx
         G89 = record {
-          locals = List._++_ t7 (List._++_ t63 (List._++_ t2 t3));
-          slots = List._∷_ (Row.lease (κs .0) (qs .0)) (List._∷_ (Row.lease (κs .1 .0) (qs .1 .0)) (List._∷_ (Row.lease (κs .1 .1 .0) (qs .1 .1
-              .0)) (List._∷_ (Row.lease (κs .1 .1 .1 .0) (qs .1 .1 .1 .0)) (List._∷_ (Row.lease (κs .1 .1 .1 .1 .0) (qs .1 .1 .1 .1 .0)) (List._∷_ (Row.lease (κs .1 .1 .1 .1 .1 .0) (qs .1 .1 .1 .1 .1 .0))
-              (List._∷_ Row.off (List._∷_ Row.off (List._∷_ Row.off (List._∷_ Row.off (List._∷_ Row.off (List._∷_ Row.off (List._∷_ Row.off (List._∷_ Row.off (List._∷_ Row.off (List._∷_ Row.off
-              List.[])))))))))))))));
+          locals = List._++_ t13 (List._++_ t57 t2);
+          slots = List._∷_ (Row.lease (κs .0) (qs .0)) (List._∷_ (Row.lease (κs .1 .0) (qs .1 .0)) (List._∷_ (Row.lease (κs .1 .1 .0) (qs .1 .1 .0))
+              (List._∷_ (Row.lease (κs .1 .1 .1 .0) (qs .1 .1 .1 .0)) (List._∷_ (Row.lease (κs .1 .1 .1 .1 .0) (qs .1 .1 .1 .1 .0)) (List._∷_ (Row.lease (κs .1 .1 .1 .1 .1 .0) (qs .1 .1 .1 .1 .1 .0))
+              (List._∷_ Row.off (List._∷_ Row.off (List._∷_ Row.off (List._∷_ Row.off (List._∷_ Row.off (List._∷_ Row.dead (List._∷_ Row.off (List._∷_ Row.off List.[])))))))))))));
         }
 
         abbrev G90 : Row.Cx
         G90 = record {
-          locals = List._++_ t7 (List._++_ t55 (List._++_ t2 t3));
-          slots = List._∷_ (Row.lease (κs .0) (qs .0)) (List._∷_ (Row.lease (κs .1 .0) (qs .1 .0)) (List._∷_ (Row.lease (κs .1 .1 .0) (qs .1 .1
-              .0)) (List._∷_ (Row.lease (κs .1 .1 .1 .0) (qs .1 .1 .1 .0)) (List._∷_ (Row.lease (κs .1 .1 .1 .1 .0) (qs .1 .1 .1 .1 .0)) (List._∷_ (Row.lease (κs .1 .1 .1 .1 .1 .0) (qs .1 .1 .1 .1 .1 .0))
-              (List._∷_ Row.off (List._∷_ Row.off (List._∷_ Row.off (List._∷_ Row.off (List._∷_ Row.off (List._∷_ Row.off (List._∷_ Row.off (List._∷_ Row.off (List._∷_ Row.off (List._∷_ Row.off
-              List.[])))))))))))))));
+          locals = List._++_ t13 (List._++_ t57 t2);
+          slots = List._∷_ (Row.lease (κs .0) (qs .0)) (List._∷_ (Row.lease (κs .1 .0) (qs .1 .0)) (List._∷_ (Row.lease (κs .1 .1 .0) (qs .1 .1 .0))
+              (List._∷_ (Row.lease (κs .1 .1 .1 .0) (qs .1 .1 .1 .0)) (List._∷_ (Row.lease (κs .1 .1 .1 .1 .0) (qs .1 .1 .1 .1 .0)) (List._∷_ (Row.lease (κs .1 .1 .1 .1 .1 .0) (qs .1 .1 .1 .1 .1 .0))
+              (List._∷_ Row.off (List._∷_ Row.off (List._∷_ Row.off (List._∷_ Row.off (List._∷_ Row.off (List._∷_ Row.dead (List._∷_ Row.off (List._∷_ Row.off List.[])))))))))))));
         }
 
         abbrev G91 : Row.Cx
         G91 = record {
-          locals = List._++_ t7 (List._++_ t53 (List._++_ t2 t3));
-          slots = List._∷_ (Row.lease (κs .0) (qs .0)) (List._∷_ (Row.lease (κs .1 .0) (qs .1 .0)) (List._∷_ (Row.lease (κs .1 .1 .0) (qs .1 .1
-              .0)) (List._∷_ (Row.lease (κs .1 .1 .1 .0) (qs .1 .1 .1 .0)) (List._∷_ (Row.lease (κs .1 .1 .1 .1 .0) (qs .1 .1 .1 .1 .0)) (List._∷_ (Row.lease (κs .1 .1 .1 .1 .1 .0) (qs .1 .1 .1 .1 .1 .0))
-              (List._∷_ Row.off (List._∷_ Row.off (List._∷_ Row.off (List._∷_ Row.off (List._∷_ Row.off (List._∷_ Row.off (List._∷_ Row.off (List._∷_ Row.off (List._∷_ Row.off (List._∷_ Row.off
-              List.[])))))))))))))));
+          locals = List._++_ t13 (List._++_ t57 t2);
+          slots = List._∷_ (Row.lease (κs .0) (qs .0)) (List._∷_ (Row.lease (κs .1 .0) (qs .1 .0)) (List._∷_ (Row.lease (κs .1 .1 .0) (qs .1 .1 .0))
+              (List._∷_ (Row.lease (κs .1 .1 .1 .0) (qs .1 .1 .1 .0)) (List._∷_ (Row.lease (κs .1 .1 .1 .1 .0) (qs .1 .1 .1 .1 .0)) (List._∷_ (Row.lease (κs .1 .1 .1 .1 .1 .0) (qs .1 .1 .1 .1 .1 .0))
+              (List._∷_ Row.off (List._∷_ Row.off (List._∷_ Row.off (List._∷_ Row.off (List._∷_ Row.off (List._∷_ Row.off (List._∷_ Row.off (List._∷_ Row.off List.[])))))))))))));
         }
 
         abbrev G92 : Row.Cx
         G92 = record {
-          locals = List._++_ t25 (List._++_ t53 (List._++_ t2 t3));
-          slots = List._∷_ (Row.lease (κs .0) (qs .0)) (List._∷_ (Row.lease (κs .1 .0) (qs .1 .0)) (List._∷_ (Row.lease (κs .1 .1 .0) (qs .1
-              .1 .0)) (List._∷_ (Row.lease (κs .1 .1 .1 .0) (qs .1 .1 .1 .0)) (List._∷_ (Row.lease (κs .1 .1 .1 .1 .0) (qs .1 .1 .1 .1 .0)) (List._∷_ (Row.lease (κs .1 .1 .1 .1 .1 .0) (qs .1 .1 .1 .1 .1
-              .0)) (List._∷_ Row.off (List._∷_ Row.off (List._∷_ Row.off (List._∷_ Row.off (List._∷_ Row.off (List._∷_ Row.off (List._∷_ Row.off (List._∷_ Row.off (List._∷_ Row.off (List._∷_ Row.off
-              List.[])))))))))))))));
+          locals = List._++_ t13 (List._++_ t57 t64);
+          slots = List._∷_ (Row.lease (κs .0) (qs .0)) (List._∷_ (Row.lease (κs .1 .0) (qs .1 .0)) (List._∷_ (Row.lease (κs .1 .1 .0) (qs .1 .1 .0))
+              (List._∷_ (Row.lease (κs .1 .1 .1 .0) (qs .1 .1 .1 .0)) (List._∷_ (Row.lease (κs .1 .1 .1 .1 .0) (qs .1 .1 .1 .1 .0)) (List._∷_ (Row.lease (κs .1 .1 .1 .1 .1 .0) (qs .1 .1 .1 .1 .1 .0))
+              (List._∷_ Row.off (List._∷_ Row.off (List._∷_ Row.off (List._∷_ Row.off (List._∷_ Row.off (List._∷_ Row.off (List._∷_ Row.off (List._∷_ Row.off List.[])))))))))))));
         }
 
         abbrev G93 : Row.Cx
         G93 = record {
-          locals = List._++_ t26 (List._++_ t53 (List._++_ t2 t3));
-          slots = List._∷_ (Row.lease (κs .0) (qs .0)) (List._∷_ (Row.lease (κs .1 .0) (qs .1 .0)) (List._∷_ (Row.lease (κs .1 .1 .0) (qs .1
-              .1 .0)) (List._∷_ (Row.lease (κs .1 .1 .1 .0) (qs .1 .1 .1 .0)) (List._∷_ (Row.lease (κs .1 .1 .1 .1 .0) (qs .1 .1 .1 .1 .0)) (List._∷_ (Row.lease (κs .1 .1 .1 .1 .1 .0) (qs .1 .1 .1 .1 .1
-              .0)) (List._∷_ Row.off (List._∷_ Row.off (List._∷_ Row.off (List._∷_ Row.off (List._∷_ Row.off (List._∷_ Row.off (List._∷_ Row.off (List._∷_ Row.off (List._∷_ Row.off (List._∷_ Row.off
-              List.[])))))))))))))));
+          locals = List._++_ t13 (List._++_ t65 t64);
+          slots = List._∷_ (Row.lease (κs .0) (qs .0)) (List._∷_ (Row.lease (κs .1 .0) (qs .1 .0)) (List._∷_ (Row.lease (κs .1 .1 .0) (qs .1 .1 .0))
+              (List._∷_ (Row.lease (κs .1 .1 .1 .0) (qs .1 .1 .1 .0)) (List._∷_ (Row.lease (κs .1 .1 .1 .1 .0) (qs .1 .1 .1 .1 .0)) (List._∷_ (Row.lease (κs .1 .1 .1 .1 .1 .0) (qs .1 .1 .1 .1 .1 .0))
+              (List._∷_ Row.off (List._∷_ Row.off (List._∷_ Row.off (List._∷_ Row.off (List._∷_ Row.off (List._∷_ Row.off (List._∷_ Row.off (List._∷_ Row.off List.[])))))))))))));
         }
 
         abbrev G94 : Row.Cx
         G94 = record {
-          locals = List._++_ t64 (List._++_ t53 (List._++_ t2 t3));
-          slots = List._∷_ (Row.lease (κs .0) (qs .0)) (List._∷_ (Row.lease (κs .1 .0) (qs .1 .0)) (List._∷_ (Row.lease (κs .1 .1 .0) (qs .1
-              .1 .0)) (List._∷_ (Row.lease (κs .1 .1 .1 .0) (qs .1 .1 .1 .0)) (List._∷_ (Row.lease (κs .1 .1 .1 .1 .0) (qs .1 .1 .1 .1 .0)) (List._∷_ (Row.lease (κs .1 .1 .1 .1 .1 .0) (qs .1 .1 .1 .1 .1
-              .0)) (List._∷_ Row.off (List._∷_ Row.off (List._∷_ Row.off (List._∷_ Row.off (List._∷_ Row.off (List._∷_ Row.off (List._∷_ Row.off (List._∷_ Row.off (List._∷_ Row.off (List._∷_ Row.off
-              List.[])))))))))))))));
+          locals = List._++_ t66 (List._++_ t65 t64);
+          slots = List._∷_ (Row.lease (κs .0) (qs .0)) (List._∷_ (Row.lease (κs .1 .0) (qs .1 .0)) (List._∷_ (Row.lease (κs .1 .1 .0) (qs .1 .1 .0))
+              (List._∷_ (Row.lease (κs .1 .1 .1 .0) (qs .1 .1 .1 .0)) (List._∷_ (Row.lease (κs .1 .1 .1 .1 .0) (qs .1 .1 .1 .1 .0)) (List._∷_ (Row.lease (κs .1 .1 .1 .1 .1 .0) (qs .1 .1 .1 .1 .1 .0))
+              (List._∷_ Row.off (List._∷_ Row.off (List._∷_ Row.off (List._∷_ Row.off (List._∷_ Row.off (List._∷_ Row.off (List._∷_ Row.off (List._∷_ Row.off List.[])))))))))))));
         }
 
         abbrev G95 : Row.Cx
         G95 = record {
-          locals = List._++_ t64 (List._++_ t65 (List._++_ t2 t3));
-          slots = List._∷_ (Row.lease (κs .0) (qs .0)) (List._∷_ (Row.lease (κs .1 .0) (qs .1 .0)) (List._∷_ (Row.lease (κs .1 .1 .0) (qs .1
-              .1 .0)) (List._∷_ (Row.lease (κs .1 .1 .1 .0) (qs .1 .1 .1 .0)) (List._∷_ (Row.lease (κs .1 .1 .1 .1 .0) (qs .1 .1 .1 .1 .0)) (List._∷_ (Row.lease (κs .1 .1 .1 .1 .1 .0) (qs .1 .1 .1 .1 .1
-              .0)) (List._∷_ Row.off (List._∷_ Row.off (List._∷_ Row.off (List._∷_ Row.off (List._∷_ Row.off (List._∷_ Row.off (List._∷_ Row.off (List._∷_ Row.off (List._∷_ Row.off (List._∷_ Row.off
-              List.[])))))))))))))));
+          locals = List._++_ t66 (List._++_ t65 t2);
+          slots = List._∷_ (Row.lease (κs .0) (qs .0)) (List._∷_ (Row.lease (κs .1 .0) (qs .1 .0)) (List._∷_ (Row.lease (κs .1 .1 .0) (qs .1 .1 .0))
+              (List._∷_ (Row.lease (κs .1 .1 .1 .0) (qs .1 .1 .1 .0)) (List._∷_ (Row.lease (κs .1 .1 .1 .1 .0) (qs .1 .1 .1 .1 .0)) (List._∷_ (Row.lease (κs .1 .1 .1 .1 .1 .0) (qs .1 .1 .1 .1 .1 .0))
+              (List._∷_ Row.off (List._∷_ Row.off (List._∷_ Row.off (List._∷_ Row.off (List._∷_ Row.off (List._∷_ Row.off (List._∷_ Row.off (List._∷_ Row.off List.[])))))))))))));
         }
 
         abbrev G96 : Row.Cx
         G96 = record {
-          locals = List._++_ t64 (List._++_ t66 (List._++_ t2 t3));
-          slots = List._∷_ (Row.lease (κs .0) (qs .0)) (List._∷_ (Row.lease (κs .1 .0) (qs .1 .0)) (List._∷_ (Row.lease (κs .1 .1 .0) (qs .1
-              .1 .0)) (List._∷_ (Row.lease (κs .1 .1 .1 .0) (qs .1 .1 .1 .0)) (List._∷_ (Row.lease (κs .1 .1 .1 .1 .0) (qs .1 .1 .1 .1 .0)) (List._∷_ (Row.lease (κs .1 .1 .1 .1 .1 .0) (qs .1 .1 .1 .1 .1
-              .0)) (List._∷_ Row.off (List._∷_ Row.off (List._∷_ Row.off (List._∷_ Row.off (List._∷_ Row.off (List._∷_ Row.off (List._∷_ Row.off (List._∷_ Row.off (List._∷_ Row.off (List._∷_ Row.off
-              List.[])))))))))))))));
+          locals = List._++_ t67 (List._++_ t65 t2);
+          slots = List._∷_ (Row.lease (κs .0) (qs .0)) (List._∷_ (Row.lease (κs .1 .0) (qs .1 .0)) (List._∷_ (Row.lease (κs .1 .1 .0) (qs .1 .1 .0))
+              (List._∷_ (Row.lease (κs .1 .1 .1 .0) (qs .1 .1 .1 .0)) (List._∷_ (Row.lease (κs .1 .1 .1 .1 .0) (qs .1 .1 .1 .1 .0)) (List._∷_ (Row.lease (κs .1 .1 .1 .1 .1 .0) (qs .1 .1 .1 .1 .1 .0))
+              (List._∷_ Row.off (List._∷_ Row.off (List._∷_ Row.off (List._∷_ Row.off (List._∷_ Row.off (List._∷_ Row.off (List._∷_ Row.off (List._∷_ Row.off List.[])))))))))))));
         }
 
         abbrev G97 : Row.Cx
         G97 = record {
-          locals = List._++_ t64 (List._++_ t66 (List._++_ t2 t3));
-          slots = List._∷_ (Row.lease (κs .0) (qs .0)) (List._∷_ (Row.lease (κs .1 .0) (qs .1 .0)) (List._∷_ (Row.lease (κs .1 .1 .0) (qs .1
-              .1 .0)) (List._∷_ (Row.lease (κs .1 .1 .1 .0) (qs .1 .1 .1 .0)) (List._∷_ (Row.lease (κs .1 .1 .1 .1 .0) (qs .1 .1 .1 .1 .0)) (List._∷_ (Row.lease (κs .1 .1 .1 .1 .1 .0) (qs .1 .1 .1 .1 .1
-              .0)) (List._∷_ Row.off (List._∷_ Row.off (List._∷_ Row.off (List._∷_ Row.off (List._∷_ Row.off (List._∷_ Row.off (List._∷_ Row.off (List._∷_ Row.alive (List._∷_ Row.off (List._∷_ Row.off
-              List.[])))))))))))))));
+          locals = List._++_ t68 (List._++_ t65 t2);
+          slots = List._∷_ (Row.lease (κs .0) (qs .0)) (List._∷_ (Row.lease (κs .1 .0) (qs .1 .0)) (List._∷_ (Row.lease (κs .1 .1 .0) (qs .1 .1 .0))
+              (List._∷_ (Row.lease (κs .1 .1 .1 .0) (qs .1 .1 .1 .0)) (List._∷_ (Row.lease (κs .1 .1 .1 .1 .0) (qs .1 .1 .1 .1 .0)) (List._∷_ (Row.lease (κs .1 .1 .1 .1 .1 .0) (qs .1 .1 .1 .1 .1 .0))
+              (List._∷_ Row.off (List._∷_ Row.off (List._∷_ Row.off (List._∷_ Row.off (List._∷_ Row.off (List._∷_ Row.off (List._∷_ Row.off (List._∷_ Row.off List.[])))))))))))));
         }
 
         abbrev G98 : Row.Cx
         G98 = record {
-          locals = List._++_ g67 (List._++_ t66 (List._++_ t68 t3));
-          slots = List._∷_ (Row.lease (κs .0) (qs .0)) (List._∷_ (Row.lease (κs .1 .0) (qs .1 .0)) (List._∷_ (Row.lease (κs .1 .1 .0) (qs .1
-              .1 .0)) (List._∷_ (Row.lease (κs .1 .1 .1 .0) (qs .1 .1 .1 .0)) (List._∷_ Row.off (List._∷_ (Row.lease (κs .1 .1 .1 .1 .1 .0) (qs .1 .1 .1 .1 .1 .0)) (List._∷_ Row.off (List._∷_ Row.off
-              (List._∷_ Row.off (List._∷_ Row.off (List._∷_ Row.off (List._∷_ Row.off (List._∷_ Row.off (List._∷_ Row.alive (List._∷_ Row.off (List._∷_ Row.off List.[])))))))))))))));
+          locals = List._++_ t69 (List._++_ t65 t2);
+          slots = List._∷_ (Row.lease (κs .0) (qs .0)) (List._∷_ (Row.lease (κs .1 .0) (qs .1 .0)) (List._∷_ (Row.lease (κs .1 .1 .0) (qs .1 .1 .0))
+              (List._∷_ (Row.lease (κs .1 .1 .1 .0) (qs .1 .1 .1 .0)) (List._∷_ (Row.lease (κs .1 .1 .1 .1 .0) (qs .1 .1 .1 .1 .0)) (List._∷_ (Row.lease (κs .1 .1 .1 .1 .1 .0) (qs .1 .1 .1 .1 .1 .0))
+              (List._∷_ Row.off (List._∷_ Row.off (List._∷_ Row.off (List._∷_ Row.off (List._∷_ Row.off (List._∷_ Row.off (List._∷_ Row.off (List._∷_ Row.off List.[])))))))))))));
         }
 
         abbrev G99 : Row.Cx
         G99 = record {
-          locals = List._++_ g67 (List._++_ t66 (List._++_ t69 t3));
-          slots = List._∷_ (Row.lease (κs .0) (qs .0)) (List._∷_ (Row.lease (κs .1 .0) (qs .1 .0)) (List._∷_ (Row.lease (κs .1 .1 .0) (qs .1
-              .1 .0)) (List._∷_ (Row.lease (κs .1 .1 .1 .0) (qs .1 .1 .1 .0)) (List._∷_ Row.off (List._∷_ (Row.lease (κs .1 .1 .1 .1 .1 .0) (qs .1 .1 .1 .1 .1 .0)) (List._∷_ Row.off (List._∷_ Row.off
-              (List._∷_ Row.off (List._∷_ Row.off (List._∷_ Row.off (List._∷_ Row.off (List._∷_ Row.off (List._∷_ Row.alive (List._∷_ Row.off (List._∷_ Row.off List.[])))))))))))))));
+          locals = List._++_ t3 (List._++_ t65 t2);
+          slots = List._∷_ (Row.lease (κs .0) (qs .0)) (List._∷_ (Row.lease (κs .1 .0) (qs .1 .0)) (List._∷_ (Row.lease (κs .1 .1 .0) (qs .1 .1 .0)) (List._∷_
+              (Row.lease (κs .1 .1 .1 .0) (qs .1 .1 .1 .0)) (List._∷_ (Row.lease (κs .1 .1 .1 .1 .0) (qs .1 .1 .1 .1 .0)) (List._∷_ (Row.lease (κs .1 .1 .1 .1 .1 .0) (qs .1 .1 .1 .1 .1 .0)) (List._∷_
+              Row.off (List._∷_ Row.off (List._∷_ Row.off (List._∷_ Row.off (List._∷_ Row.off (List._∷_ Row.off (List._∷_ Row.off (List._∷_ Row.off List.[])))))))))))));
         }
 
         abbrev G100 : Row.Cx
         G100 = record {
-          locals = List._++_ g67 (List._++_ t66 (List._++_ t70 t3));
-          slots = List._∷_ (Row.lease (κs .0) (qs .0)) (List._∷_ (Row.lease (κs .1 .0) (qs .1 .0)) (List._∷_ (Row.lease (κs .1 .1 .0) (qs .1
-              .1 .0)) (List._∷_ (Row.lease (κs .1 .1 .1 .0) (qs .1 .1 .1 .0)) (List._∷_ Row.off (List._∷_ (Row.lease (κs .1 .1 .1 .1 .1 .0) (qs .1 .1 .1 .1 .1 .0)) (List._∷_ Row.off (List._∷_ Row.off
-              (List._∷_ Row.off (List._∷_ Row.off (List._∷_ Row.off (List._∷_ Row.off (List._∷_ Row.off (List._∷_ Row.alive (List._∷_ Row.off (List._∷_ Row.off List.[])))))))))))))));
+          locals = List._++_ t3 (List._++_ t70 t2);
+          slots = List._∷_ (Row.lease (κs .0) (qs .0)) (List._∷_ (Row.lease (κs .1 .0) (qs .1 .0)) (List._∷_ (Row.lease (κs .1 .1 .0) (qs .1 .1 .0)) (List._∷_
+              (Row.lease (κs .1 .1 .1 .0) (qs .1 .1 .1 .0)) (List._∷_ (Row.lease (κs .1 .1 .1 .1 .0) (qs .1 .1 .1 .1 .0)) (List._∷_ (Row.lease (κs .1 .1 .1 .1 .1 .0) (qs .1 .1 .1 .1 .1 .0)) (List._∷_
+              Row.off (List._∷_ Row.off (List._∷_ Row.off (List._∷_ Row.off (List._∷_ Row.off (List._∷_ Row.off (List._∷_ Row.off (List._∷_ Row.off List.[])))))))))))));
         }
 
         abbrev G101 : Row.Cx
         G101 = record {
-          locals = List._++_ g71 (List._++_ t66 (List._++_ t70 t3));
-          slots = List._∷_ (Row.lease (κs .0) (qs .0)) (List._∷_ (Row.lease (κs .1 .0) (qs .1 .0)) (List._∷_ (Row.lease (κs .1 .1 .0) (qs .1
-              .1 .0)) (List._∷_ (Row.lease (κs .1 .1 .1 .0) (qs .1 .1 .1 .0)) (List._∷_ Row.off (List._∷_ (Row.lease (κs .1 .1 .1 .1 .1 .0) (qs .1 .1 .1 .1 .1 .0)) (List._∷_ Row.off (List._∷_ Row.off
-              (List._∷_ Row.off (List._∷_ Row.off (List._∷_ Row.off (List._∷_ Row.off (List._∷_ Row.off (List._∷_ Row.alive (List._∷_ Row.off (List._∷_ Row.off List.[])))))))))))))));
+          locals = List._++_ t3 (List._++_ t71 t2);
+          slots = List._∷_ (Row.lease (κs .0) (qs .0)) (List._∷_ (Row.lease (κs .1 .0) (qs .1 .0)) (List._∷_ (Row.lease (κs .1 .1 .0) (qs .1 .1 .0)) (List._∷_
+              (Row.lease (κs .1 .1 .1 .0) (qs .1 .1 .1 .0)) (List._∷_ (Row.lease (κs .1 .1 .1 .1 .0) (qs .1 .1 .1 .1 .0)) (List._∷_ (Row.lease (κs .1 .1 .1 .1 .1 .0) (qs .1 .1 .1 .1 .1 .0)) (List._∷_
+              Row.off (List._∷_ Row.off (List._∷_ Row.off (List._∷_ Row.off (List._∷_ Row.off (List._∷_ Row.off (List._∷_ Row.off (List._∷_ Row.off List.[])))))))))))));
         }
 
         abbrev G102 : Row.Cx
         G102 = record {
-          locals = List._++_ g71 (List._++_ t66 (List._++_ t72 t3));
-          slots = List._∷_ (Row.lease (κs .0) (qs .0)) (List._∷_ (Row.lease (κs .1 .0) (qs .1 .0)) (List._∷_ (Row.lease (κs .1 .1 .0) (qs .1
-              .1 .0)) (List._∷_ (Row.lease (κs .1 .1 .1 .0) (qs .1 .1 .1 .0)) (List._∷_ Row.off (List._∷_ (Row.lease (κs .1 .1 .1 .1 .1 .0) (qs .1 .1 .1 .1 .1 .0)) (List._∷_ Row.off (List._∷_ Row.off
-              (List._∷_ Row.off (List._∷_ Row.off (List._∷_ Row.off (List._∷_ Row.off (List._∷_ Row.off (List._∷_ Row.alive (List._∷_ Row.off (List._∷_ Row.off List.[])))))))))))))));
+          locals = List._++_ t3 (List._++_ t72 t2);
+          slots = List._∷_ (Row.lease (κs .0) (qs .0)) (List._∷_ (Row.lease (κs .1 .0) (qs .1 .0)) (List._∷_ (Row.lease (κs .1 .1 .0) (qs .1 .1 .0)) (List._∷_
+              (Row.lease (κs .1 .1 .1 .0) (qs .1 .1 .1 .0)) (List._∷_ (Row.lease (κs .1 .1 .1 .1 .0) (qs .1 .1 .1 .1 .0)) (List._∷_ (Row.lease (κs .1 .1 .1 .1 .1 .0) (qs .1 .1 .1 .1 .1 .0)) (List._∷_
+              Row.off (List._∷_ Row.off (List._∷_ Row.off (List._∷_ Row.off (List._∷_ Row.off (List._∷_ Row.off (List._∷_ Row.off (List._∷_ Row.off List.[])))))))))))));
         }
 
         abbrev G103 : Row.Cx
         G103 = record {
-          locals = List._++_ g71 (List._++_ t66 (List._++_ t72 t3));
-          slots = List._∷_ (Row.lease (κs .0) (qs .0)) (List._∷_ (Row.lease (κs .1 .0) (qs .1 .0)) (List._∷_ (Row.lease (κs .1 .1 .0) (qs .1
-              .1 .0)) (List._∷_ (Row.lease (κs .1 .1 .1 .0) (qs .1 .1 .1 .0)) (List._∷_ Row.off (List._∷_ (Row.lease (κs .1 .1 .1 .1 .1 .0) (qs .1 .1 .1 .1 .1 .0)) (List._∷_ Row.off (List._∷_ Row.off
-              (List._∷_ Row.off (List._∷_ Row.off (List._∷_ Row.off (List._∷_ Row.off (List._∷_ Row.off (List._∷_ Row.dead (List._∷_ Row.off (List._∷_ Row.off List.[])))))))))))))));
+          locals = List._++_ t3 (List._++_ t73 t2);
+          slots = List._∷_ (Row.lease (κs .0) (qs .0)) (List._∷_ (Row.lease (κs .1 .0) (qs .1 .0)) (List._∷_ (Row.lease (κs .1 .1 .0) (qs .1 .1 .0)) (List._∷_
+              (Row.lease (κs .1 .1 .1 .0) (qs .1 .1 .1 .0)) (List._∷_ (Row.lease (κs .1 .1 .1 .1 .0) (qs .1 .1 .1 .1 .0)) (List._∷_ (Row.lease (κs .1 .1 .1 .1 .1 .0) (qs .1 .1 .1 .1 .1 .0)) (List._∷_
+              Row.off (List._∷_ Row.off (List._∷_ Row.off (List._∷_ Row.off (List._∷_ Row.off (List._∷_ Row.off (List._∷_ Row.off (List._∷_ Row.off List.[])))))))))))));
         }
 
         abbrev G104 : Row.Cx
         G104 = record {
-          locals = List._++_ t23 (List._++_ t66 (List._++_ t2 t3));
-          slots = List._∷_ (Row.lease (κs .0) (qs .0)) (List._∷_ (Row.lease (κs .1 .0) (qs .1 .0)) (List._∷_ (Row.lease (κs .1 .1 .0) (qs .1
-              .1 .0)) (List._∷_ (Row.lease (κs .1 .1 .1 .0) (qs .1 .1 .1 .0)) (List._∷_ (Row.lease (κs .1 .1 .1 .1 .0) (qs .1 .1 .1 .1 .0)) (List._∷_ (Row.lease (κs .1 .1 .1 .1 .1 .0) (qs .1 .1 .1 .1 .1
-              .0)) (List._∷_ Row.off (List._∷_ Row.off (List._∷_ Row.off (List._∷_ Row.off (List._∷_ Row.off (List._∷_ Row.off (List._∷_ Row.off (List._∷_ Row.dead (List._∷_ Row.off (List._∷_ Row.off
-              List.[])))))))))))))));
+          locals = List._++_ t3 (List._++_ t1 t2);
+          slots = List._∷_ (Row.lease (κs .0) (qs .0)) (List._∷_ (Row.lease (κs .1 .0) (qs .1 .0)) (List._∷_ (Row.lease (κs .1 .1 .0) (qs .1 .1 .0)) (List._∷_
+              (Row.lease (κs .1 .1 .1 .0) (qs .1 .1 .1 .0)) (List._∷_ (Row.lease (κs .1 .1 .1 .1 .0) (qs .1 .1 .1 .1 .0)) (List._∷_ (Row.lease (κs .1 .1 .1 .1 .1 .0) (qs .1 .1 .1 .1 .1 .0)) (List._∷_
+              Row.off (List._∷_ Row.off (List._∷_ Row.off (List._∷_ Row.off (List._∷_ Row.off (List._∷_ Row.off (List._∷_ Row.off (List._∷_ Row.off List.[])))))))))))));
         }
 
         abbrev G105 : Row.Cx
         G105 = record {
-          locals = List._++_ t23 (List._++_ t66 (List._++_ t2 t3));
-          slots = List._∷_ (Row.lease (κs .0) (qs .0)) (List._∷_ (Row.lease (κs .1 .0) (qs .1 .0)) (List._∷_ (Row.lease (κs .1 .1 .0) (qs .1
-              .1 .0)) (List._∷_ (Row.lease (κs .1 .1 .1 .0) (qs .1 .1 .1 .0)) (List._∷_ (Row.lease (κs .1 .1 .1 .1 .0) (qs .1 .1 .1 .1 .0)) (List._∷_ (Row.lease (κs .1 .1 .1 .1 .1 .0) (qs .1 .1 .1 .1 .1
-              .0)) (List._∷_ Row.off (List._∷_ Row.off (List._∷_ Row.off (List._∷_ Row.off (List._∷_ Row.off (List._∷_ Row.off (List._∷_ Row.off (List._∷_ Row.dead (List._∷_ Row.off (List._∷_ Row.off
-              List.[])))))))))))))));
+          locals = List._++_ t9 (List._++_ t74 t2);
+          slots = List._∷_ (Row.lease (κs .0) (qs .0)) (List._∷_ (Row.lease (κs .1 .0) (qs .1 .0)) (List._∷_ (Row.lease (κs .1 .1 .0) (qs .1 .1 .0)) (List._∷_
+              (Row.lease (κs .1 .1 .1 .0) (qs .1 .1 .1 .0)) (List._∷_ (Row.lease (κs .1 .1 .1 .1 .0) (qs .1 .1 .1 .1 .0)) (List._∷_ (Row.lease (κs .1 .1 .1 .1 .1 .0) (qs .1 .1 .1 .1 .1 .0)) (List._∷_
+              Row.off (List._∷_ Row.off (List._∷_ Row.off (List._∷_ Row.off (List._∷_ Row.off (List._∷_ Row.off (List._∷_ Row.off (List._∷_ Row.off List.[])))))))))))));
         }
 
         abbrev G106 : Row.Cx
         G106 = record {
-          locals = List._++_ t23 (List._++_ t66 (List._++_ t2 t3));
-          slots = List._∷_ (Row.lease (κs .0) (qs .0)) (List._∷_ (Row.lease (κs .1 .0) (qs .1 .0)) (List._∷_ (Row.lease (κs .1 .1 .0) (qs .1
-              .1 .0)) (List._∷_ (Row.lease (κs .1 .1 .1 .0) (qs .1 .1 .1 .0)) (List._∷_ (Row.lease (κs .1 .1 .1 .1 .0) (qs .1 .1 .1 .1 .0)) (List._∷_ (Row.lease (κs .1 .1 .1 .1 .1 .0) (qs .1 .1 .1 .1 .1
-              .0)) (List._∷_ Row.off (List._∷_ Row.off (List._∷_ Row.off (List._∷_ Row.off (List._∷_ Row.off (List._∷_ Row.off (List._∷_ Row.off (List._∷_ Row.off (List._∷_ Row.off (List._∷_ Row.off
-              List.[])))))))))))))));
+          locals = List._++_ t9 (List._++_ t26 t2);
+          slots = List._∷_ (Row.lease (κs .0) (qs .0)) (List._∷_ (Row.lease (κs .1 .0) (qs .1 .0)) (List._∷_ (Row.lease (κs .1 .1 .0) (qs .1 .1 .0)) (List._∷_
+              (Row.lease (κs .1 .1 .1 .0) (qs .1 .1 .1 .0)) (List._∷_ (Row.lease (κs .1 .1 .1 .1 .0) (qs .1 .1 .1 .1 .0)) (List._∷_ (Row.lease (κs .1 .1 .1 .1 .1 .0) (qs .1 .1 .1 .1 .1 .0)) (List._∷_
+              Row.off (List._∷_ Row.off (List._∷_ Row.off (List._∷_ Row.off (List._∷_ Row.off (List._∷_ Row.off (List._∷_ Row.off (List._∷_ Row.off List.[])))))))))))));
         }
 
         abbrev G107 : Row.Cx
         G107 = record {
-          locals = List._++_ t23 (List._++_ t66 (List._++_ t73 t3));
-          slots = List._∷_ (Row.lease (κs .0) (qs .0)) (List._∷_ (Row.lease (κs .1 .0) (qs .1 .0)) (List._∷_ (Row.lease (κs .1 .1 .0) (qs .1
-              .1 .0)) (List._∷_ (Row.lease (κs .1 .1 .1 .0) (qs .1 .1 .1 .0)) (List._∷_ (Row.lease (κs .1 .1 .1 .1 .0) (qs .1 .1 .1 .1 .0)) (List._∷_ (Row.lease (κs .1 .1 .1 .1 .1 .0) (qs .1 .1 .1 .1 .1
-              .0)) (List._∷_ Row.off (List._∷_ Row.off (List._∷_ Row.off (List._∷_ Row.off (List._∷_ Row.off (List._∷_ Row.off (List._∷_ Row.off (List._∷_ Row.off (List._∷_ Row.off (List._∷_ Row.off
-              List.[])))))))))))))));
+          locals = List._++_ t9 (List._++_ t26 t75);
+          slots = List._∷_ (Row.lease (κs .0) (qs .0)) (List._∷_ (Row.lease (κs .1 .0) (qs .1 .0)) (List._∷_ (Row.lease (κs .1 .1 .0) (qs .1 .1 .0))
+              (List._∷_ (Row.lease (κs .1 .1 .1 .0) (qs .1 .1 .1 .0)) (List._∷_ (Row.lease (κs .1 .1 .1 .1 .0) (qs .1 .1 .1 .1 .0)) (List._∷_ (Row.lease (κs .1 .1 .1 .1 .1 .0) (qs .1 .1 .1 .1 .1 .0))
+              (List._∷_ Row.off (List._∷_ Row.off (List._∷_ Row.off (List._∷_ Row.off (List._∷_ Row.off (List._∷_ Row.off (List._∷_ Row.off (List._∷_ Row.off List.[])))))))))))));
         }
 
         abbrev G108 : Row.Cx
         G108 = record {
-          locals = List._++_ t23 (List._++_ t74 (List._++_ t73 t3));
-          slots = List._∷_ (Row.lease (κs .0) (qs .0)) (List._∷_ (Row.lease (κs .1 .0) (qs .1 .0)) (List._∷_ (Row.lease (κs .1 .1 .0) (qs .1
-              .1 .0)) (List._∷_ (Row.lease (κs .1 .1 .1 .0) (qs .1 .1 .1 .0)) (List._∷_ (Row.lease (κs .1 .1 .1 .1 .0) (qs .1 .1 .1 .1 .0)) (List._∷_ (Row.lease (κs .1 .1 .1 .1 .1 .0) (qs .1 .1 .1 .1 .1
-              .0)) (List._∷_ Row.off (List._∷_ Row.off (List._∷_ Row.off (List._∷_ Row.off (List._∷_ Row.off (List._∷_ Row.off (List._∷_ Row.off (List._∷_ Row.off (List._∷_ Row.off (List._∷_ Row.off
-              List.[])))))))))))))));
+          locals = List._++_ t9 (List._++_ t26 t75);
+          slots = List._∷_ (Row.lease (κs .0) (qs .0)) (List._∷_ (Row.lease (κs .1 .0) (qs .1 .0)) (List._∷_ (Row.lease (κs .1 .1 .0) (qs .1 .1 .0))
+              (List._∷_ (Row.lease (κs .1 .1 .1 .0) (qs .1 .1 .1 .0)) (List._∷_ (Row.lease (κs .1 .1 .1 .1 .0) (qs .1 .1 .1 .1 .0)) (List._∷_ (Row.lease (κs .1 .1 .1 .1 .1 .0) (qs .1 .1 .1 .1 .1 .0))
+              (List._∷_ Row.off (List._∷_ Row.off (List._∷_ Row.off (List._∷_ Row.off (List._∷_ Row.off (List._∷_ Row.off (List._∷_ Row.off (List._∷_ Row.off List.[])))))))))))));
         }
 
         abbrev G109 : Row.Cx
         G109 = record {
-          locals = List._++_ t75 (List._++_ t74 (List._++_ t73 t3));
-          slots = List._∷_ (Row.lease (κs .0) (qs .0)) (List._∷_ (Row.lease (κs .1 .0) (qs .1 .0)) (List._∷_ (Row.lease (κs .1 .1 .0) (qs .1
-              .1 .0)) (List._∷_ (Row.lease (κs .1 .1 .1 .0) (qs .1 .1 .1 .0)) (List._∷_ (Row.lease (κs .1 .1 .1 .1 .0) (qs .1 .1 .1 .1 .0)) (List._∷_ (Row.lease (κs .1 .1 .1 .1 .1 .0) (qs .1 .1 .1 .1 .1
-              .0)) (List._∷_ Row.off (List._∷_ Row.off (List._∷_ Row.off (List._∷_ Row.off (List._∷_ Row.off (List._∷_ Row.off (List._∷_ Row.off (List._∷_ Row.off (List._∷_ Row.off (List._∷_ Row.off
-              List.[])))))))))))))));
+          locals = List._++_ t9 (List._++_ t26 t2);
+          slots = List._∷_ (Row.lease (κs .0) (qs .0)) (List._∷_ (Row.lease (κs .1 .0) (qs .1 .0)) (List._∷_ (Row.lease (κs .1 .1 .0) (qs .1 .1 .0)) (List._∷_
+              (Row.lease (κs .1 .1 .1 .0) (qs .1 .1 .1 .0)) (List._∷_ (Row.lease (κs .1 .1 .1 .1 .0) (qs .1 .1 .1 .1 .0)) (List._∷_ (Row.lease (κs .1 .1 .1 .1 .1 .0) (qs .1 .1 .1 .1 .1 .0)) (List._∷_
+              Row.off (List._∷_ Row.off (List._∷_ Row.off (List._∷_ Row.off (List._∷_ Row.off (List._∷_ Row.off (List._∷_ Row.off (List._∷_ Row.off List.[])))))))))))));
         }
 
         abbrev G110 : Row.Cx
         G110 = record {
-          locals = List._++_ t75 (List._++_ t74 (List._++_ t2 t3));
-          slots = List._∷_ (Row.lease (κs .0) (qs .0)) (List._∷_ (Row.lease (κs .1 .0) (qs .1 .0)) (List._∷_ (Row.lease (κs .1 .1 .0) (qs .1
-              .1 .0)) (List._∷_ (Row.lease (κs .1 .1 .1 .0) (qs .1 .1 .1 .0)) (List._∷_ (Row.lease (κs .1 .1 .1 .1 .0) (qs .1 .1 .1 .1 .0)) (List._∷_ (Row.lease (κs .1 .1 .1 .1 .1 .0) (qs .1 .1 .1 .1 .1
-              .0)) (List._∷_ Row.off (List._∷_ Row.off (List._∷_ Row.off (List._∷_ Row.off (List._∷_ Row.off (List._∷_ Row.off (List._∷_ Row.off (List._∷_ Row.off (List._∷_ Row.off (List._∷_ Row.off
-              List.[])))))))))))))));
+          locals = List._++_ t9 (List._++_ t26 t2);
+          slots = List._∷_ (Row.lease (κs .0) (qs .0)) (List._∷_ (Row.lease (κs .1 .0) (qs .1 .0)) (List._∷_ (Row.lease (κs .1 .1 .0) (qs .1 .1 .0)) (List._∷_
+              (Row.lease (κs .1 .1 .1 .0) (qs .1 .1 .1 .0)) (List._∷_ (Row.lease (κs .1 .1 .1 .1 .0) (qs .1 .1 .1 .1 .0)) (List._∷_ (Row.lease (κs .1 .1 .1 .1 .1 .0) (qs .1 .1 .1 .1 .1 .0)) (List._∷_
+              Row.off (List._∷_ Row.off (List._∷_ Row.off (List._∷_ Row.off (List._∷_ Row.off (List._∷_ Row.off (List._∷_ Row.alive (List._∷_ Row.off List.[])))))))))))));
         }
 
         abbrev G111 : Row.Cx
         G111 = record {
-          locals = List._++_ t76 (List._++_ t74 (List._++_ t2 t3));
-          slots = List._∷_ (Row.lease (κs .0) (qs .0)) (List._∷_ (Row.lease (κs .1 .0) (qs .1 .0)) (List._∷_ (Row.lease (κs .1 .1 .0) (qs .1
-              .1 .0)) (List._∷_ (Row.lease (κs .1 .1 .1 .0) (qs .1 .1 .1 .0)) (List._∷_ (Row.lease (κs .1 .1 .1 .1 .0) (qs .1 .1 .1 .1 .0)) (List._∷_ (Row.lease (κs .1 .1 .1 .1 .1 .0) (qs .1 .1 .1 .1 .1
-              .0)) (List._∷_ Row.off (List._∷_ Row.off (List._∷_ Row.off (List._∷_ Row.off (List._∷_ Row.off (List._∷_ Row.off (List._∷_ Row.off (List._∷_ Row.off (List._∷_ Row.off (List._∷_ Row.off
-              List.[])))))))))))))));
+          locals = List._++_ g76 (List._++_ t26 t77);
+          slots = List._∷_ (Row.lease (κs .0) (qs .0)) (List._∷_ (Row.lease (κs .1 .0) (qs .1 .0)) (List._∷_ Row.off (List._∷_ (Row.lease (κs .1 .1 .1 .0)
+              (qs .1 .1 .1 .0)) (List._∷_ (Row.lease (κs .1 .1 .1 .1 .0) (qs .1 .1 .1 .1 .0)) (List._∷_ (Row.lease (κs .1 .1 .1 .1 .1 .0) (qs .1 .1 .1 .1 .1 .0)) (List._∷_ Row.off (List._∷_ Row.off
+              (List._∷_ Row.off (List._∷_ Row.off (List._∷_ Row.off (List._∷_ Row.off (List._∷_ Row.alive (List._∷_ Row.off List.[])))))))))))));
         }
 
         abbrev G112 : Row.Cx
         G112 = record {
-          locals = List._++_ t77 (List._++_ t74 (List._++_ t2 t3));
-          slots = List._∷_ (Row.lease (κs .0) (qs .0)) (List._∷_ (Row.lease (κs .1 .0) (qs .1 .0)) (List._∷_ (Row.lease (κs .1 .1 .0) (qs .1
-              .1 .0)) (List._∷_ (Row.lease (κs .1 .1 .1 .0) (qs .1 .1 .1 .0)) (List._∷_ (Row.lease (κs .1 .1 .1 .1 .0) (qs .1 .1 .1 .1 .0)) (List._∷_ (Row.lease (κs .1 .1 .1 .1 .1 .0) (qs .1 .1 .1 .1 .1
-              .0)) (List._∷_ Row.off (List._∷_ Row.off (List._∷_ Row.off (List._∷_ Row.off (List._∷_ Row.off (List._∷_ Row.off (List._∷_ Row.off (List._∷_ Row.off (List._∷_ Row.off (List._∷_ Row.off
-              List.[])))))))))))))));
+          locals = List._++_ g76 (List._++_ t26 t78);
+          slots = List._∷_ (Row.lease (κs .0) (qs .0)) (List._∷_ (Row.lease (κs .1 .0) (qs .1 .0)) (List._∷_ Row.off (List._∷_ (Row.lease (κs .1 .1 .1 .0)
+              (qs .1 .1 .1 .0)) (List._∷_ (Row.lease (κs .1 .1 .1 .1 .0) (qs .1 .1 .1 .1 .0)) (List._∷_ (Row.lease (κs .1 .1 .1 .1 .1 .0) (qs .1 .1 .1 .1 .1 .0)) (List._∷_ Row.off (List._∷_ Row.off
+              (List._∷_ Row.off (List._∷_ Row.off (List._∷_ Row.off (List._∷_ Row.off (List._∷_ Row.alive (List._∷_ Row.off List.[])))))))))))));
         }
 
         abbrev G113 : Row.Cx
         G113 = record {
-          locals = List._++_ t78 (List._++_ t74 (List._++_ t2 t3));
-          slots = List._∷_ (Row.lease (κs .0) (qs .0)) (List._∷_ (Row.lease (κs .1 .0) (qs .1 .0)) (List._∷_ (Row.lease (κs .1 .1 .0) (qs .1
-              .1 .0)) (List._∷_ (Row.lease (κs .1 .1 .1 .0) (qs .1 .1 .1 .0)) (List._∷_ (Row.lease (κs .1 .1 .1 .1 .0) (qs .1 .1 .1 .1 .0)) (List._∷_ (Row.lease (κs .1 .1 .1 .1 .1 .0) (qs .1 .1 .1 .1 .1
-              .0)) (List._∷_ Row.off (List._∷_ Row.off (List._∷_ Row.off (List._∷_ Row.off (List._∷_ Row.off (List._∷_ Row.off (List._∷_ Row.off (List._∷_ Row.off (List._∷_ Row.off (List._∷_ Row.off
-              List.[])))))))))))))));
+          locals = List._++_ g76 (List._++_ t26 t78);
+          slots = List._∷_ (Row.lease (κs .0) (qs .0)) (List._∷_ (Row.lease (κs .1 .0) (qs .1 .0)) (List._∷_ Row.off (List._∷_ (Row.lease (κs .1 .1 .1 .0)
+              (qs .1 .1 .1 .0)) (List._∷_ (Row.lease (κs .1 .1 .1 .1 .0) (qs .1 .1 .1 .1 .0)) (List._∷_ (Row.lease (κs .1 .1 .1 .1 .1 .0) (qs .1 .1 .1 .1 .1 .0)) (List._∷_ Row.off (List._∷_ Row.off
+              (List._∷_ Row.off (List._∷_ Row.off (List._∷_ Row.off (List._∷_ Row.off (List._∷_ Row.alive (List._∷_ Row.alive List.[])))))))))))));
         }
 
         abbrev G114 : Row.Cx
         G114 = record {
-          locals = List._++_ t79 (List._++_ t74 (List._++_ t2 t3));
-          slots = List._∷_ (Row.lease (κs .0) (qs .0)) (List._∷_ (Row.lease (κs .1 .0) (qs .1 .0)) (List._∷_ (Row.lease (κs .1 .1 .0) (qs .1
-              .1 .0)) (List._∷_ (Row.lease (κs .1 .1 .1 .0) (qs .1 .1 .1 .0)) (List._∷_ (Row.lease (κs .1 .1 .1 .1 .0) (qs .1 .1 .1 .1 .0)) (List._∷_ (Row.lease (κs .1 .1 .1 .1 .1 .0) (qs .1 .1 .1 .1 .1
-              .0)) (List._∷_ Row.off (List._∷_ Row.off (List._∷_ Row.off (List._∷_ Row.off (List._∷_ Row.off (List._∷_ Row.off (List._∷_ Row.off (List._∷_ Row.off (List._∷_ Row.off (List._∷_ Row.off
-              List.[])))))))))))))));
+          locals = List._++_ g79 (List._++_ t26 t80);
+          slots = List._∷_ (Row.lease (κs .0) (qs .0)) (List._∷_ (Row.lease (κs .1 .0) (qs .1 .0)) (List._∷_ Row.off (List._∷_ (Row.lease (κs .1 .1 .1 .0)
+              (qs .1 .1 .1 .0)) (List._∷_ Row.off (List._∷_ (Row.lease (κs .1 .1 .1 .1 .1 .0) (qs .1 .1 .1 .1 .1 .0)) (List._∷_ Row.off (List._∷_ Row.off (List._∷_ Row.off (List._∷_ Row.off (List._∷_
+              Row.off (List._∷_ Row.off (List._∷_ Row.alive (List._∷_ Row.alive List.[])))))))))))));
         }
 
         abbrev G115 : Row.Cx
         G115 = record {
-          locals = List._++_ t4 (List._++_ t74 (List._++_ t2 t3));
-          slots = List._∷_ (Row.lease (κs .0) (qs .0)) (List._∷_ (Row.lease (κs .1 .0) (qs .1 .0)) (List._∷_ (Row.lease (κs .1 .1 .0) (qs .1 .1
-              .0)) (List._∷_ (Row.lease (κs .1 .1 .1 .0) (qs .1 .1 .1 .0)) (List._∷_ (Row.lease (κs .1 .1 .1 .1 .0) (qs .1 .1 .1 .1 .0)) (List._∷_ (Row.lease (κs .1 .1 .1 .1 .1 .0) (qs .1 .1 .1 .1 .1 .0))
-              (List._∷_ Row.off (List._∷_ Row.off (List._∷_ Row.off (List._∷_ Row.off (List._∷_ Row.off (List._∷_ Row.off (List._∷_ Row.off (List._∷_ Row.off (List._∷_ Row.off (List._∷_ Row.off
-              List.[])))))))))))))));
+          locals = List._++_ g79 (List._++_ t26 t81);
+          slots = List._∷_ (Row.lease (κs .0) (qs .0)) (List._∷_ (Row.lease (κs .1 .0) (qs .1 .0)) (List._∷_ Row.off (List._∷_ (Row.lease (κs .1 .1 .1 .0)
+              (qs .1 .1 .1 .0)) (List._∷_ Row.off (List._∷_ (Row.lease (κs .1 .1 .1 .1 .1 .0) (qs .1 .1 .1 .1 .1 .0)) (List._∷_ Row.off (List._∷_ Row.off (List._∷_ Row.off (List._∷_ Row.off (List._∷_
+              Row.off (List._∷_ Row.off (List._∷_ Row.alive (List._∷_ Row.alive List.[])))))))))))));
         }
 
         abbrev G116 : Row.Cx
         G116 = record {
-          locals = List._++_ t4 (List._++_ t80 (List._++_ t2 t3));
-          slots = List._∷_ (Row.lease (κs .0) (qs .0)) (List._∷_ (Row.lease (κs .1 .0) (qs .1 .0)) (List._∷_ (Row.lease (κs .1 .1 .0) (qs .1 .1
-              .0)) (List._∷_ (Row.lease (κs .1 .1 .1 .0) (qs .1 .1 .1 .0)) (List._∷_ (Row.lease (κs .1 .1 .1 .1 .0) (qs .1 .1 .1 .1 .0)) (List._∷_ (Row.lease (κs .1 .1 .1 .1 .1 .0) (qs .1 .1 .1 .1 .1 .0))
-              (List._∷_ Row.off (List._∷_ Row.off (List._∷_ Row.off (List._∷_ Row.off (List._∷_ Row.off (List._∷_ Row.off (List._∷_ Row.off (List._∷_ Row.off (List._∷_ Row.off (List._∷_ Row.off
-              List.[])))))))))))))));
+          locals = List._++_ g79 (List._++_ t82 t81);
+          slots = List._∷_ (Row.lease (κs .0) (qs .0)) (List._∷_ (Row.lease (κs .1 .0) (qs .1 .0)) (List._∷_ Row.off (List._∷_ (Row.lease (κs .1 .1 .1 .0)
+              (qs .1 .1 .1 .0)) (List._∷_ Row.off (List._∷_ (Row.lease (κs .1 .1 .1 .1 .1 .0) (qs .1 .1 .1 .1 .1 .0)) (List._∷_ Row.off (List._∷_ Row.off (List._∷_ Row.off (List._∷_ Row.off (List._∷_
+              Row.off (List._∷_ Row.off (List._∷_ Row.alive (List._∷_ Row.alive List.[])))))))))))));
         }
 
         abbrev G117 : Row.Cx
         G117 = record {
-          locals = List._++_ t4 (List._++_ t1 (List._++_ t2 t3));
-          slots = List._∷_ (Row.lease (κs .0) (qs .0)) (List._∷_ (Row.lease (κs .1 .0) (qs .1 .0)) (List._∷_ (Row.lease (κs .1 .1 .0) (qs .1 .1
-              .0)) (List._∷_ (Row.lease (κs .1 .1 .1 .0) (qs .1 .1 .1 .0)) (List._∷_ (Row.lease (κs .1 .1 .1 .1 .0) (qs .1 .1 .1 .1 .0)) (List._∷_ (Row.lease (κs .1 .1 .1 .1 .1 .0) (qs .1 .1 .1 .1 .1 .0))
-              (List._∷_ Row.off (List._∷_ Row.off (List._∷_ Row.off (List._∷_ Row.off (List._∷_ Row.off (List._∷_ Row.off (List._∷_ Row.off (List._∷_ Row.off (List._∷_ Row.off (List._∷_ Row.off
-              List.[])))))))))))))));
+          locals = List._++_ g79 (List._++_ t83 t84);
+          slots = List._∷_ (Row.lease (κs .0) (qs .0)) (List._∷_ (Row.lease (κs .1 .0) (qs .1 .0)) (List._∷_ Row.off (List._∷_ (Row.lease (κs .1 .1 .1 .0)
+              (qs .1 .1 .1 .0)) (List._∷_ Row.off (List._∷_ (Row.lease (κs .1 .1 .1 .1 .1 .0) (qs .1 .1 .1 .1 .1 .0)) (List._∷_ Row.off (List._∷_ Row.off (List._∷_ Row.off (List._∷_ Row.off (List._∷_
+              Row.off (List._∷_ Row.off (List._∷_ Row.alive (List._∷_ Row.alive List.[])))))))))))));
         }
 
         abbrev G118 : Row.Cx
         G118 = record {
-          locals = List._++_ t7 (List._++_ t81 (List._++_ t2 t3));
-          slots = List._∷_ (Row.lease (κs .0) (qs .0)) (List._∷_ (Row.lease (κs .1 .0) (qs .1 .0)) (List._∷_ (Row.lease (κs .1 .1 .0) (qs .1 .1
-              .0)) (List._∷_ (Row.lease (κs .1 .1 .1 .0) (qs .1 .1 .1 .0)) (List._∷_ (Row.lease (κs .1 .1 .1 .1 .0) (qs .1 .1 .1 .1 .0)) (List._∷_ (Row.lease (κs .1 .1 .1 .1 .1 .0) (qs .1 .1 .1 .1 .1 .0))
-              (List._∷_ Row.off (List._∷_ Row.off (List._∷_ Row.off (List._∷_ Row.off (List._∷_ Row.off (List._∷_ Row.off (List._∷_ Row.off (List._∷_ Row.off (List._∷_ Row.off (List._∷_ Row.off
-              List.[])))))))))))))));
+          locals = List._++_ g79 (List._++_ t83 t85);
+          slots = List._∷_ (Row.lease (κs .0) (qs .0)) (List._∷_ (Row.lease (κs .1 .0) (qs .1 .0)) (List._∷_ Row.off (List._∷_ (Row.lease (κs .1 .1 .1 .0)
+              (qs .1 .1 .1 .0)) (List._∷_ Row.off (List._∷_ (Row.lease (κs .1 .1 .1 .1 .1 .0) (qs .1 .1 .1 .1 .1 .0)) (List._∷_ Row.off (List._∷_ Row.off (List._∷_ Row.off (List._∷_ Row.off (List._∷_
+              Row.off (List._∷_ Row.off (List._∷_ Row.alive (List._∷_ Row.alive List.[])))))))))))));
         }
 
         abbrev G119 : Row.Cx
         G119 = record {
-          locals = List._++_ t7 (List._++_ t35 (List._++_ t2 t3));
-          slots = List._∷_ (Row.lease (κs .0) (qs .0)) (List._∷_ (Row.lease (κs .1 .0) (qs .1 .0)) (List._∷_ (Row.lease (κs .1 .1 .0) (qs .1 .1
-              .0)) (List._∷_ (Row.lease (κs .1 .1 .1 .0) (qs .1 .1 .1 .0)) (List._∷_ (Row.lease (κs .1 .1 .1 .1 .0) (qs .1 .1 .1 .1 .0)) (List._∷_ (Row.lease (κs .1 .1 .1 .1 .1 .0) (qs .1 .1 .1 .1 .1 .0))
-              (List._∷_ Row.off (List._∷_ Row.off (List._∷_ Row.off (List._∷_ Row.off (List._∷_ Row.off (List._∷_ Row.off (List._∷_ Row.off (List._∷_ Row.off (List._∷_ Row.off (List._∷_ Row.off
-              List.[])))))))))))))));
+          locals = List._++_ g79 (List._++_ t86 t85);
+          slots = List._∷_ (Row.lease (κs .0) (qs .0)) (List._∷_ (Row.lease (κs .1 .0) (qs .1 .0)) (List._∷_ Row.off (List._∷_ (Row.lease (κs .1 .1 .1 .0)
+              (qs .1 .1 .1 .0)) (List._∷_ Row.off (List._∷_ (Row.lease (κs .1 .1 .1 .1 .1 .0) (qs .1 .1 .1 .1 .1 .0)) (List._∷_ Row.off (List._∷_ Row.off (List._∷_ Row.off (List._∷_ Row.off (List._∷_
+              Row.off (List._∷_ Row.off (List._∷_ Row.alive (List._∷_ Row.alive List.[])))))))))))));
         }
 
         abbrev G120 : Row.Cx
         G120 = record {
-          locals = List._++_ t7 (List._++_ t35 (List._++_ t82 t3));
-          slots = List._∷_ (Row.lease (κs .0) (qs .0)) (List._∷_ (Row.lease (κs .1 .0) (qs .1 .0)) (List._∷_ (Row.lease (κs .1 .1 .0) (qs .1
-              .1 .0)) (List._∷_ (Row.lease (κs .1 .1 .1 .0) (qs .1 .1 .1 .0)) (List._∷_ (Row.lease (κs .1 .1 .1 .1 .0) (qs .1 .1 .1 .1 .0)) (List._∷_ (Row.lease (κs .1 .1 .1 .1 .1 .0) (qs .1 .1 .1 .1 .1
-              .0)) (List._∷_ Row.off (List._∷_ Row.off (List._∷_ Row.off (List._∷_ Row.off (List._∷_ Row.off (List._∷_ Row.off (List._∷_ Row.off (List._∷_ Row.off (List._∷_ Row.off (List._∷_ Row.off
-              List.[])))))))))))))));
+          locals = List._++_ g79 (List._++_ t26 t85);
+          slots = List._∷_ (Row.lease (κs .0) (qs .0)) (List._∷_ (Row.lease (κs .1 .0) (qs .1 .0)) (List._∷_ Row.off (List._∷_ (Row.lease (κs .1 .1 .1 .0)
+              (qs .1 .1 .1 .0)) (List._∷_ Row.off (List._∷_ (Row.lease (κs .1 .1 .1 .1 .1 .0) (qs .1 .1 .1 .1 .1 .0)) (List._∷_ Row.off (List._∷_ Row.off (List._∷_ Row.off (List._∷_ Row.off (List._∷_
+              Row.off (List._∷_ Row.off (List._∷_ Row.alive (List._∷_ Row.alive List.[])))))))))))));
         }
 
         abbrev G121 : Row.Cx
         G121 = record {
-          locals = List._++_ t7 (List._++_ t35 (List._++_ t82 t3));
-          slots = List._∷_ (Row.lease (κs .0) (qs .0)) (List._∷_ (Row.lease (κs .1 .0) (qs .1 .0)) (List._∷_ (Row.lease (κs .1 .1 .0) (qs .1
-              .1 .0)) (List._∷_ (Row.lease (κs .1 .1 .1 .0) (qs .1 .1 .1 .0)) (List._∷_ (Row.lease (κs .1 .1 .1 .1 .0) (qs .1 .1 .1 .1 .0)) (List._∷_ (Row.lease (κs .1 .1 .1 .1 .1 .0) (qs .1 .1 .1 .1 .1
-              .0)) (List._∷_ Row.off (List._∷_ Row.off (List._∷_ Row.off (List._∷_ Row.off (List._∷_ Row.off (List._∷_ Row.off (List._∷_ Row.off (List._∷_ Row.off (List._∷_ Row.off (List._∷_ Row.off
-              List.[])))))))))))))));
+          locals = List._++_ g79 (List._++_ t26 t85);
+          slots = List._∷_ (Row.lease (κs .0) (qs .0)) (List._∷_ (Row.lease (κs .1 .0) (qs .1 .0)) (List._∷_ Row.off (List._∷_ (Row.lease (κs .1 .1 .1 .0)
+              (qs .1 .1 .1 .0)) (List._∷_ Row.off (List._∷_ (Row.lease (κs .1 .1 .1 .1 .1 .0) (qs .1 .1 .1 .1 .1 .0)) (List._∷_ Row.off (List._∷_ Row.off (List._∷_ Row.off (List._∷_ Row.off (List._∷_
+              Row.off (List._∷_ Row.off (List._∷_ Row.dead (List._∷_ Row.alive List.[])))))))))))));
         }
 
         abbrev G122 : Row.Cx
         G122 = record {
-          locals = List._++_ t7 (List._++_ t35 (List._++_ t2 t3));
-          slots = List._∷_ (Row.lease (κs .0) (qs .0)) (List._∷_ (Row.lease (κs .1 .0) (qs .1 .0)) (List._∷_ (Row.lease (κs .1 .1 .0) (qs .1 .1
-              .0)) (List._∷_ (Row.lease (κs .1 .1 .1 .0) (qs .1 .1 .1 .0)) (List._∷_ (Row.lease (κs .1 .1 .1 .1 .0) (qs .1 .1 .1 .1 .0)) (List._∷_ (Row.lease (κs .1 .1 .1 .1 .1 .0) (qs .1 .1 .1 .1 .1 .0))
-              (List._∷_ Row.off (List._∷_ Row.off (List._∷_ Row.off (List._∷_ Row.off (List._∷_ Row.off (List._∷_ Row.off (List._∷_ Row.off (List._∷_ Row.off (List._∷_ Row.off (List._∷_ Row.off
-              List.[])))))))))))))));
+          locals = List._++_ g87 (List._++_ t26 t85);
+          slots = List._∷_ (Row.lease (κs .0) (qs .0)) (List._∷_ (Row.lease (κs .1 .0) (qs .1 .0)) (List._∷_ (Row.lease (κs .1 .1 .0) (qs .1 .1 .0))
+              (List._∷_ (Row.lease (κs .1 .1 .1 .0) (qs .1 .1 .1 .0)) (List._∷_ Row.off (List._∷_ (Row.lease (κs .1 .1 .1 .1 .1 .0) (qs .1 .1 .1 .1 .1 .0)) (List._∷_ Row.off (List._∷_ Row.off (List._∷_
+              Row.off (List._∷_ Row.off (List._∷_ Row.off (List._∷_ Row.off (List._∷_ Row.dead (List._∷_ Row.alive List.[])))))))))))));
         }
 
         abbrev G123 : Row.Cx
         G123 = record {
-          locals = List._++_ t7 (List._++_ t35 (List._++_ t2 t3));
-          slots = List._∷_ (Row.lease (κs .0) (qs .0)) (List._∷_ (Row.lease (κs .1 .0) (qs .1 .0)) (List._∷_ (Row.lease (κs .1 .1 .0) (qs .1 .1
-              .0)) (List._∷_ (Row.lease (κs .1 .1 .1 .0) (qs .1 .1 .1 .0)) (List._∷_ (Row.lease (κs .1 .1 .1 .1 .0) (qs .1 .1 .1 .1 .0)) (List._∷_ (Row.lease (κs .1 .1 .1 .1 .1 .0) (qs .1 .1 .1 .1 .1 .0))
-              (List._∷_ Row.off (List._∷_ Row.off (List._∷_ Row.off (List._∷_ Row.off (List._∷_ Row.off (List._∷_ Row.off (List._∷_ Row.off (List._∷_ Row.off (List._∷_ Row.alive (List._∷_ Row.off
-              List.[])))))))))))))));
+          locals = List._++_ g87 (List._++_ t26 t85);
+          slots = List._∷_ (Row.lease (κs .0) (qs .0)) (List._∷_ (Row.lease (κs .1 .0) (qs .1 .0)) (List._∷_ (Row.lease (κs .1 .1 .0) (qs .1 .1 .0))
+              (List._∷_ (Row.lease (κs .1 .1 .1 .0) (qs .1 .1 .1 .0)) (List._∷_ Row.off (List._∷_ (Row.lease (κs .1 .1 .1 .1 .1 .0) (qs .1 .1 .1 .1 .1 .0)) (List._∷_ Row.off (List._∷_ Row.off (List._∷_
+              Row.off (List._∷_ Row.off (List._∷_ Row.off (List._∷_ Row.off (List._∷_ Row.off (List._∷_ Row.alive List.[])))))))))))));
         }
 
         abbrev G124 : Row.Cx
         G124 = record {
-          locals = List._++_ g83 (List._++_ t35 (List._++_ t84 t3));
-          slots = List._∷_ (Row.lease (κs .0) (qs .0)) (List._∷_ (Row.lease (κs .1 .0) (qs .1 .0)) (List._∷_ Row.off (List._∷_ (Row.lease (κs
-              .1 .1 .1 .0) (qs .1 .1 .1 .0)) (List._∷_ (Row.lease (κs .1 .1 .1 .1 .0) (qs .1 .1 .1 .1 .0)) (List._∷_ (Row.lease (κs .1 .1 .1 .1 .1 .0) (qs .1 .1 .1 .1 .1 .0)) (List._∷_ Row.off (List._∷_
-              Row.off (List._∷_ Row.off (List._∷_ Row.off (List._∷_ Row.off (List._∷_ Row.off (List._∷_ Row.off (List._∷_ Row.off (List._∷_ Row.alive (List._∷_ Row.off List.[])))))))))))))));
+          locals = List._++_ g87 (List._++_ t26 t85);
+          slots = List._∷_ (Row.lease (κs .0) (qs .0)) (List._∷_ (Row.lease (κs .1 .0) (qs .1 .0)) (List._∷_ (Row.lease (κs .1 .1 .0) (qs .1 .1 .0))
+              (List._∷_ (Row.lease (κs .1 .1 .1 .0) (qs .1 .1 .1 .0)) (List._∷_ Row.off (List._∷_ (Row.lease (κs .1 .1 .1 .1 .1 .0) (qs .1 .1 .1 .1 .1 .0)) (List._∷_ Row.off (List._∷_ Row.off (List._∷_
+              Row.off (List._∷_ Row.off (List._∷_ Row.off (List._∷_ Row.off (List._∷_ Row.off (List._∷_ Row.dead List.[])))))))))))));
         }
 
         abbrev G125 : Row.Cx
         G125 = record {
-          locals = List._++_ g83 (List._++_ t35 (List._++_ t85 t3));
-          slots = List._∷_ (Row.lease (κs .0) (qs .0)) (List._∷_ (Row.lease (κs .1 .0) (qs .1 .0)) (List._∷_ Row.off (List._∷_ (Row.lease (κs
-              .1 .1 .1 .0) (qs .1 .1 .1 .0)) (List._∷_ (Row.lease (κs .1 .1 .1 .1 .0) (qs .1 .1 .1 .1 .0)) (List._∷_ (Row.lease (κs .1 .1 .1 .1 .1 .0) (qs .1 .1 .1 .1 .1 .0)) (List._∷_ Row.off (List._∷_
-              Row.off (List._∷_ Row.off (List._∷_ Row.off (List._∷_ Row.off (List._∷_ Row.off (List._∷_ Row.off (List._∷_ Row.off (List._∷_ Row.alive (List._∷_ Row.off List.[])))))))))))))));
+          locals = List._++_ t9 (List._++_ t26 t2);
+          slots = List._∷_ (Row.lease (κs .0) (qs .0)) (List._∷_ (Row.lease (κs .1 .0) (qs .1 .0)) (List._∷_ (Row.lease (κs .1 .1 .0) (qs .1 .1 .0)) (List._∷_
+              (Row.lease (κs .1 .1 .1 .0) (qs .1 .1 .1 .0)) (List._∷_ (Row.lease (κs .1 .1 .1 .1 .0) (qs .1 .1 .1 .1 .0)) (List._∷_ (Row.lease (κs .1 .1 .1 .1 .1 .0) (qs .1 .1 .1 .1 .1 .0)) (List._∷_
+              Row.off (List._∷_ Row.off (List._∷_ Row.off (List._∷_ Row.off (List._∷_ Row.off (List._∷_ Row.off (List._∷_ Row.off (List._∷_ Row.dead List.[])))))))))))));
         }
 
         abbrev G126 : Row.Cx
         G126 = record {
-          locals = List._++_ g83 (List._++_ t35 (List._++_ t85 t3));
-          slots = List._∷_ (Row.lease (κs .0) (qs .0)) (List._∷_ (Row.lease (κs .1 .0) (qs .1 .0)) (List._∷_ Row.off (List._∷_ (Row.lease (κs
-              .1 .1 .1 .0) (qs .1 .1 .1 .0)) (List._∷_ (Row.lease (κs .1 .1 .1 .1 .0) (qs .1 .1 .1 .1 .0)) (List._∷_ (Row.lease (κs .1 .1 .1 .1 .1 .0) (qs .1 .1 .1 .1 .1 .0)) (List._∷_ Row.off (List._∷_
-              Row.off (List._∷_ Row.off (List._∷_ Row.off (List._∷_ Row.off (List._∷_ Row.off (List._∷_ Row.off (List._∷_ Row.off (List._∷_ Row.alive (List._∷_ Row.alive List.[])))))))))))))));
+          locals = List._++_ t9 (List._++_ t26 t2);
+          slots = List._∷_ (Row.lease (κs .0) (qs .0)) (List._∷_ (Row.lease (κs .1 .0) (qs .1 .0)) (List._∷_ (Row.lease (κs .1 .1 .0) (qs .1 .1 .0)) (List._∷_
+              (Row.lease (κs .1 .1 .1 .0) (qs .1 .1 .1 .0)) (List._∷_ (Row.lease (κs .1 .1 .1 .1 .0) (qs .1 .1 .1 .1 .0)) (List._∷_ (Row.lease (κs .1 .1 .1 .1 .1 .0) (qs .1 .1 .1 .1 .1 .0)) (List._∷_
+              Row.off (List._∷_ Row.off (List._∷_ Row.off (List._∷_ Row.off (List._∷_ Row.off (List._∷_ Row.off (List._∷_ Row.off (List._∷_ Row.dead List.[])))))))))))));
         }
 
         abbrev G127 : Row.Cx
         G127 = record {
-          locals = List._++_ g86 (List._++_ t35 (List._++_ t85 t87));
-          slots = List._∷_ (Row.lease (κs .0) (qs .0)) (List._∷_ (Row.lease (κs .1 .0) (qs .1 .0)) (List._∷_ Row.off (List._∷_ (Row.lease
-              (κs .1 .1 .1 .0) (qs .1 .1 .1 .0)) (List._∷_ Row.off (List._∷_ (Row.lease (κs .1 .1 .1 .1 .1 .0) (qs .1 .1 .1 .1 .1 .0)) (List._∷_ Row.off (List._∷_ Row.off (List._∷_ Row.off (List._∷_ Row.off
-              (List._∷_ Row.off (List._∷_ Row.off (List._∷_ Row.off (List._∷_ Row.off (List._∷_ Row.alive (List._∷_ Row.alive List.[])))))))))))))));
+          locals = List._++_ t9 (List._++_ t26 t2);
+          slots = List._∷_ (Row.lease (κs .0) (qs .0)) (List._∷_ (Row.lease (κs .1 .0) (qs .1 .0)) (List._∷_ (Row.lease (κs .1 .1 .0) (qs .1 .1 .0)) (List._∷_
+              (Row.lease (κs .1 .1 .1 .0) (qs .1 .1 .1 .0)) (List._∷_ (Row.lease (κs .1 .1 .1 .1 .0) (qs .1 .1 .1 .1 .0)) (List._∷_ (Row.lease (κs .1 .1 .1 .1 .1 .0) (qs .1 .1 .1 .1 .1 .0)) (List._∷_
+              Row.off (List._∷_ Row.off (List._∷_ Row.off (List._∷_ Row.off (List._∷_ Row.off (List._∷_ Row.off (List._∷_ Row.off (List._∷_ Row.off List.[])))))))))))));
         }
 
         abbrev G128 : Row.Cx
         G128 = record {
-          locals = List._++_ g86 (List._++_ t35 (List._++_ t85 t88));
-          slots = List._∷_ (Row.lease (κs .0) (qs .0)) (List._∷_ (Row.lease (κs .1 .0) (qs .1 .0)) (List._∷_ Row.off (List._∷_ (Row.lease
-              (κs .1 .1 .1 .0) (qs .1 .1 .1 .0)) (List._∷_ Row.off (List._∷_ (Row.lease (κs .1 .1 .1 .1 .1 .0) (qs .1 .1 .1 .1 .1 .0)) (List._∷_ Row.off (List._∷_ Row.off (List._∷_ Row.off (List._∷_ Row.off
-              (List._∷_ Row.off (List._∷_ Row.off (List._∷_ Row.off (List._∷_ Row.off (List._∷_ Row.alive (List._∷_ Row.alive List.[])))))))))))))));
+          locals = List._++_ t9 (List._++_ t26 t2);
+          slots = List._∷_ (Row.lease (κs .0) (qs .0)) (List._∷_ (Row.lease (κs .1 .0) (qs .1 .0)) (List._∷_ (Row.lease (κs .1 .1 .0) (qs .1 .1 .0)) (List._∷_
+              (Row.lease (κs .1 .1 .1 .0) (qs .1 .1 .1 .0)) (List._∷_ (Row.lease (κs .1 .1 .1 .1 .0) (qs .1 .1 .1 .1 .0)) (List._∷_ (Row.lease (κs .1 .1 .1 .1 .1 .0) (qs .1 .1 .1 .1 .1 .0)) (List._∷_
+              Row.off (List._∷_ Row.off (List._∷_ Row.off (List._∷_ Row.off (List._∷_ Row.off (List._∷_ Row.off (List._∷_ Row.off (List._∷_ Row.off List.[])))))))))))));
         }
 
         abbrev G129 : Row.Cx
         G129 = record {
-          locals = List._++_ g86 (List._++_ t39 (List._++_ t85 t88));
-          slots = List._∷_ (Row.lease (κs .0) (qs .0)) (List._∷_ (Row.lease (κs .1 .0) (qs .1 .0)) (List._∷_ Row.off (List._∷_ (Row.lease
-              (κs .1 .1 .1 .0) (qs .1 .1 .1 .0)) (List._∷_ Row.off (List._∷_ (Row.lease (κs .1 .1 .1 .1 .1 .0) (qs .1 .1 .1 .1 .1 .0)) (List._∷_ Row.off (List._∷_ Row.off (List._∷_ Row.off (List._∷_ Row.off
-              (List._∷_ Row.off (List._∷_ Row.off (List._∷_ Row.off (List._∷_ Row.off (List._∷_ Row.alive (List._∷_ Row.alive List.[])))))))))))))));
+          locals = List._++_ t9 (List._++_ t88 t2);
+          slots = List._∷_ (Row.lease (κs .0) (qs .0)) (List._∷_ (Row.lease (κs .1 .0) (qs .1 .0)) (List._∷_ (Row.lease (κs .1 .1 .0) (qs .1 .1 .0)) (List._∷_
+              (Row.lease (κs .1 .1 .1 .0) (qs .1 .1 .1 .0)) (List._∷_ (Row.lease (κs .1 .1 .1 .1 .0) (qs .1 .1 .1 .1 .0)) (List._∷_ (Row.lease (κs .1 .1 .1 .1 .1 .0) (qs .1 .1 .1 .1 .1 .0)) (List._∷_
+              Row.off (List._∷_ Row.off (List._∷_ Row.off (List._∷_ Row.off (List._∷_ Row.off (List._∷_ Row.off (List._∷_ Row.off (List._∷_ Row.off List.[])))))))))))));
         }
 
         abbrev G130 : Row.Cx
         G130 = record {
-          locals = List._++_ g86 (List._++_ t40 (List._++_ t85 t89));
-          slots = List._∷_ (Row.lease (κs .0) (qs .0)) (List._∷_ (Row.lease (κs .1 .0) (qs .1 .0)) (List._∷_ Row.off (List._∷_ (Row.lease
-              (κs .1 .1 .1 .0) (qs .1 .1 .1 .0)) (List._∷_ Row.off (List._∷_ (Row.lease (κs .1 .1 .1 .1 .1 .0) (qs .1 .1 .1 .1 .1 .0)) (List._∷_ Row.off (List._∷_ Row.off (List._∷_ Row.off (List._∷_ Row.off
-              (List._∷_ Row.off (List._∷_ Row.off (List._∷_ Row.off (List._∷_ Row.off (List._∷_ Row.alive (List._∷_ Row.alive List.[])))))))))))))));
+          locals = List._++_ t9 (List._++_ t12 t2);
+          slots = List._∷_ (Row.lease (κs .0) (qs .0)) (List._∷_ (Row.lease (κs .1 .0) (qs .1 .0)) (List._∷_ (Row.lease (κs .1 .1 .0) (qs .1 .1 .0)) (List._∷_
+              (Row.lease (κs .1 .1 .1 .0) (qs .1 .1 .1 .0)) (List._∷_ (Row.lease (κs .1 .1 .1 .1 .0) (qs .1 .1 .1 .1 .0)) (List._∷_ (Row.lease (κs .1 .1 .1 .1 .1 .0) (qs .1 .1 .1 .1 .1 .0)) (List._∷_
+              Row.off (List._∷_ Row.off (List._∷_ Row.off (List._∷_ Row.off (List._∷_ Row.off (List._∷_ Row.off (List._∷_ Row.off (List._∷_ Row.off List.[])))))))))))));
         }
 
         abbrev G131 : Row.Cx
         G131 = record {
-          locals = List._++_ g86 (List._++_ t40 (List._++_ t2 t89));
-          slots = List._∷_ (Row.lease (κs .0) (qs .0)) (List._∷_ (Row.lease (κs .1 .0) (qs .1 .0)) (List._∷_ Row.off (List._∷_ (Row.lease (κs
-              .1 .1 .1 .0) (qs .1 .1 .1 .0)) (List._∷_ Row.off (List._∷_ (Row.lease (κs .1 .1 .1 .1 .1 .0) (qs .1 .1 .1 .1 .1 .0)) (List._∷_ Row.off (List._∷_ Row.off (List._∷_ Row.off (List._∷_ Row.off
-              (List._∷_ Row.off (List._∷_ Row.off (List._∷_ Row.off (List._∷_ Row.off (List._∷_ Row.alive (List._∷_ Row.alive List.[])))))))))))))));
+          locals = List._++_ t13 (List._++_ t89 t2);
+          slots = List._∷_ (Row.lease (κs .0) (qs .0)) (List._∷_ (Row.lease (κs .1 .0) (qs .1 .0)) (List._∷_ (Row.lease (κs .1 .1 .0) (qs .1 .1 .0))
+              (List._∷_ (Row.lease (κs .1 .1 .1 .0) (qs .1 .1 .1 .0)) (List._∷_ (Row.lease (κs .1 .1 .1 .1 .0) (qs .1 .1 .1 .1 .0)) (List._∷_ (Row.lease (κs .1 .1 .1 .1 .1 .0) (qs .1 .1 .1 .1 .1 .0))
+              (List._∷_ Row.off (List._∷_ Row.off (List._∷_ Row.off (List._∷_ Row.off (List._∷_ Row.off (List._∷_ Row.off (List._∷_ Row.off (List._∷_ Row.off List.[])))))))))))));
         }
 
         abbrev G132 : Row.Cx
         G132 = record {
-          locals = List._++_ g86 (List._++_ t42 (List._++_ t2 t89));
-          slots = List._∷_ (Row.lease (κs .0) (qs .0)) (List._∷_ (Row.lease (κs .1 .0) (qs .1 .0)) (List._∷_ Row.off (List._∷_ (Row.lease (κs
-              .1 .1 .1 .0) (qs .1 .1 .1 .0)) (List._∷_ Row.off (List._∷_ (Row.lease (κs .1 .1 .1 .1 .1 .0) (qs .1 .1 .1 .1 .1 .0)) (List._∷_ Row.off (List._∷_ Row.off (List._∷_ Row.off (List._∷_ Row.off
-              (List._∷_ Row.off (List._∷_ Row.off (List._∷_ Row.off (List._∷_ Row.off (List._∷_ Row.alive (List._∷_ Row.alive List.[])))))))))))))));
+          locals = List._++_ t13 (List._++_ t90 t2);
+          slots = List._∷_ (Row.lease (κs .0) (qs .0)) (List._∷_ (Row.lease (κs .1 .0) (qs .1 .0)) (List._∷_ (Row.lease (κs .1 .1 .0) (qs .1 .1 .0))
+              (List._∷_ (Row.lease (κs .1 .1 .1 .0) (qs .1 .1 .1 .0)) (List._∷_ (Row.lease (κs .1 .1 .1 .1 .0) (qs .1 .1 .1 .1 .0)) (List._∷_ (Row.lease (κs .1 .1 .1 .1 .1 .0) (qs .1 .1 .1 .1 .1 .0))
+              (List._∷_ Row.off (List._∷_ Row.off (List._∷_ Row.off (List._∷_ Row.off (List._∷_ Row.off (List._∷_ Row.off (List._∷_ Row.off (List._∷_ Row.off List.[])))))))))))));
         }
 
         abbrev G133 : Row.Cx
         G133 = record {
-          locals = List._++_ g86 (List._++_ t35 (List._++_ t2 t89));
-          slots = List._∷_ (Row.lease (κs .0) (qs .0)) (List._∷_ (Row.lease (κs .1 .0) (qs .1 .0)) (List._∷_ Row.off (List._∷_ (Row.lease (κs
-              .1 .1 .1 .0) (qs .1 .1 .1 .0)) (List._∷_ Row.off (List._∷_ (Row.lease (κs .1 .1 .1 .1 .1 .0) (qs .1 .1 .1 .1 .1 .0)) (List._∷_ Row.off (List._∷_ Row.off (List._∷_ Row.off (List._∷_ Row.off
-              (List._∷_ Row.off (List._∷_ Row.off (List._∷_ Row.off (List._∷_ Row.off (List._∷_ Row.alive (List._∷_ Row.alive List.[])))))))))))))));
+          locals = List._++_ t66 (List._++_ t90 t2);
+          slots = List._∷_ (Row.lease (κs .0) (qs .0)) (List._∷_ (Row.lease (κs .1 .0) (qs .1 .0)) (List._∷_ (Row.lease (κs .1 .1 .0) (qs .1 .1 .0))
+              (List._∷_ (Row.lease (κs .1 .1 .1 .0) (qs .1 .1 .1 .0)) (List._∷_ (Row.lease (κs .1 .1 .1 .1 .0) (qs .1 .1 .1 .1 .0)) (List._∷_ (Row.lease (κs .1 .1 .1 .1 .1 .0) (qs .1 .1 .1 .1 .1 .0))
+              (List._∷_ Row.off (List._∷_ Row.off (List._∷_ Row.off (List._∷_ Row.off (List._∷_ Row.off (List._∷_ Row.off (List._∷_ Row.off (List._∷_ Row.off List.[])))))))))))));
         }
 
         abbrev G134 : Row.Cx
         G134 = record {
-          locals = List._++_ g86 (List._++_ t35 (List._++_ t2 t89));
-          slots = List._∷_ (Row.lease (κs .0) (qs .0)) (List._∷_ (Row.lease (κs .1 .0) (qs .1 .0)) (List._∷_ Row.off (List._∷_ (Row.lease (κs
-              .1 .1 .1 .0) (qs .1 .1 .1 .0)) (List._∷_ Row.off (List._∷_ (Row.lease (κs .1 .1 .1 .1 .1 .0) (qs .1 .1 .1 .1 .1 .0)) (List._∷_ Row.off (List._∷_ Row.off (List._∷_ Row.off (List._∷_ Row.off
-              (List._∷_ Row.off (List._∷_ Row.off (List._∷_ Row.off (List._∷_ Row.off (List._∷_ Row.dead (List._∷_ Row.alive List.[])))))))))))))));
+          locals = List._++_ t91 (List._++_ t90 t2);
+          slots = List._∷_ (Row.lease (κs .0) (qs .0)) (List._∷_ (Row.lease (κs .1 .0) (qs .1 .0)) (List._∷_ (Row.lease (κs .1 .1 .0) (qs .1 .1 .0))
+              (List._∷_ (Row.lease (κs .1 .1 .1 .0) (qs .1 .1 .1 .0)) (List._∷_ (Row.lease (κs .1 .1 .1 .1 .0) (qs .1 .1 .1 .1 .0)) (List._∷_ (Row.lease (κs .1 .1 .1 .1 .1 .0) (qs .1 .1 .1 .1 .1 .0))
+              (List._∷_ Row.off (List._∷_ Row.off (List._∷_ Row.off (List._∷_ Row.off (List._∷_ Row.off (List._∷_ Row.off (List._∷_ Row.off (List._∷_ Row.off List.[])))))))))))));
         }
 
         abbrev G135 : Row.Cx
         G135 = record {
-          locals = List._++_ g90 (List._++_ t35 (List._++_ t2 t89));
-          slots = List._∷_ (Row.lease (κs .0) (qs .0)) (List._∷_ (Row.lease (κs .1 .0) (qs .1 .0)) (List._∷_ (Row.lease (κs .1 .1 .0) (qs .1
-              .1 .0)) (List._∷_ (Row.lease (κs .1 .1 .1 .0) (qs .1 .1 .1 .0)) (List._∷_ Row.off (List._∷_ (Row.lease (κs .1 .1 .1 .1 .1 .0) (qs .1 .1 .1 .1 .1 .0)) (List._∷_ Row.off (List._∷_ Row.off
-              (List._∷_ Row.off (List._∷_ Row.off (List._∷_ Row.off (List._∷_ Row.off (List._∷_ Row.off (List._∷_ Row.off (List._∷_ Row.dead (List._∷_ Row.alive List.[])))))))))))))));
+          locals = List._++_ t91 (List._++_ t92 t2);
+          slots = List._∷_ (Row.lease (κs .0) (qs .0)) (List._∷_ (Row.lease (κs .1 .0) (qs .1 .0)) (List._∷_ (Row.lease (κs .1 .1 .0) (qs .1 .1 .0))
+              (List._∷_ (Row.lease (κs .1 .1 .1 .0) (qs .1 .1 .1 .0)) (List._∷_ (Row.lease (κs .1 .1 .1 .1 .0) (qs .1 .1 .1 .1 .0)) (List._∷_ (Row.lease (κs .1 .1 .1 .1 .1 .0) (qs .1 .1 .1 .1 .1 .0))
+              (List._∷_ Row.off (List._∷_ Row.off (List._∷_ Row.off (List._∷_ Row.off (List._∷_ Row.off (List._∷_ Row.off (List._∷_ Row.off (List._∷_ Row.off List.[])))))))))))));
         }
 
         abbrev G136 : Row.Cx
         G136 = record {
-          locals = List._++_ g90 (List._++_ t35 (List._++_ t2 t89));
-          slots = List._∷_ (Row.lease (κs .0) (qs .0)) (List._∷_ (Row.lease (κs .1 .0) (qs .1 .0)) (List._∷_ (Row.lease (κs .1 .1 .0) (qs .1
-              .1 .0)) (List._∷_ (Row.lease (κs .1 .1 .1 .0) (qs .1 .1 .1 .0)) (List._∷_ Row.off (List._∷_ (Row.lease (κs .1 .1 .1 .1 .1 .0) (qs .1 .1 .1 .1 .1 .0)) (List._∷_ Row.off (List._∷_ Row.off
-              (List._∷_ Row.off (List._∷_ Row.off (List._∷_ Row.off (List._∷_ Row.off (List._∷_ Row.off (List._∷_ Row.off (List._∷_ Row.off (List._∷_ Row.alive List.[])))))))))))))));
+          locals = List._++_ t91 (List._++_ t93 t2);
+          slots = List._∷_ (Row.lease (κs .0) (qs .0)) (List._∷_ (Row.lease (κs .1 .0) (qs .1 .0)) (List._∷_ (Row.lease (κs .1 .1 .0) (qs .1 .1 .0))
+              (List._∷_ (Row.lease (κs .1 .1 .1 .0) (qs .1 .1 .1 .0)) (List._∷_ (Row.lease (κs .1 .1 .1 .1 .0) (qs .1 .1 .1 .1 .0)) (List._∷_ (Row.lease (κs .1 .1 .1 .1 .1 .0) (qs .1 .1 .1 .1 .1 .0))
+              (List._∷_ Row.off (List._∷_ Row.off (List._∷_ Row.off (List._∷_ Row.off (List._∷_ Row.off (List._∷_ Row.off (List._∷_ Row.off (List._∷_ Row.off List.[])))))))))))));
         }
 
         abbrev G137 : Row.Cx
         G137 = record {
-          locals = List._++_ g90 (List._++_ t35 (List._++_ t2 t89));
-          slots = List._∷_ (Row.lease (κs .0) (qs .0)) (List._∷_ (Row.lease (κs .1 .0) (qs .1 .0)) (List._∷_ (Row.lease (κs .1 .1 .0) (qs .1
-              .1 .0)) (List._∷_ (Row.lease (κs .1 .1 .1 .0) (qs .1 .1 .1 .0)) (List._∷_ Row.off (List._∷_ (Row.lease (κs .1 .1 .1 .1 .1 .0) (qs .1 .1 .1 .1 .1 .0)) (List._∷_ Row.off (List._∷_ Row.off
-              (List._∷_ Row.off (List._∷_ Row.off (List._∷_ Row.off (List._∷_ Row.off (List._∷_ Row.off (List._∷_ Row.off (List._∷_ Row.off (List._∷_ Row.dead List.[])))))))))))))));
+          locals = List._++_ t91 (List._++_ t94 t2);
+          slots = List._∷_ (Row.lease (κs .0) (qs .0)) (List._∷_ (Row.lease (κs .1 .0) (qs .1 .0)) (List._∷_ (Row.lease (κs .1 .1 .0) (qs .1 .1 .0))
+              (List._∷_ (Row.lease (κs .1 .1 .1 .0) (qs .1 .1 .1 .0)) (List._∷_ (Row.lease (κs .1 .1 .1 .1 .0) (qs .1 .1 .1 .1 .0)) (List._∷_ (Row.lease (κs .1 .1 .1 .1 .1 .0) (qs .1 .1 .1 .1 .1 .0))
+              (List._∷_ Row.off (List._∷_ Row.off (List._∷_ Row.off (List._∷_ Row.off (List._∷_ Row.off (List._∷_ Row.off (List._∷_ Row.off (List._∷_ Row.off List.[])))))))))))));
         }
 
         abbrev G138 : Row.Cx
         G138 = record {
-          locals = List._++_ t7 (List._++_ t35 (List._++_ t2 t3));
-          slots = List._∷_ (Row.lease (κs .0) (qs .0)) (List._∷_ (Row.lease (κs .1 .0) (qs .1 .0)) (List._∷_ (Row.lease (κs .1 .1 .0) (qs .1 .1
-              .0)) (List._∷_ (Row.lease (κs .1 .1 .1 .0) (qs .1 .1 .1 .0)) (List._∷_ (Row.lease (κs .1 .1 .1 .1 .0) (qs .1 .1 .1 .1 .0)) (List._∷_ (Row.lease (κs .1 .1 .1 .1 .1 .0) (qs .1 .1 .1 .1 .1 .0))
-              (List._∷_ Row.off (List._∷_ Row.off (List._∷_ Row.off (List._∷_ Row.off (List._∷_ Row.off (List._∷_ Row.off (List._∷_ Row.off (List._∷_ Row.off (List._∷_ Row.off (List._∷_ Row.dead
-              List.[])))))))))))))));
+          locals = List._++_ t91 (List._++_ t95 t2);
+          slots = List._∷_ (Row.lease (κs .0) (qs .0)) (List._∷_ (Row.lease (κs .1 .0) (qs .1 .0)) (List._∷_ (Row.lease (κs .1 .1 .0) (qs .1 .1 .0))
+              (List._∷_ (Row.lease (κs .1 .1 .1 .0) (qs .1 .1 .1 .0)) (List._∷_ (Row.lease (κs .1 .1 .1 .1 .0) (qs .1 .1 .1 .1 .0)) (List._∷_ (Row.lease (κs .1 .1 .1 .1 .1 .0) (qs .1 .1 .1 .1 .1 .0))
+              (List._∷_ Row.off (List._∷_ Row.off (List._∷_ Row.off (List._∷_ Row.off (List._∷_ Row.off (List._∷_ Row.off (List._∷_ Row.off (List._∷_ Row.off List.[])))))))))))));
         }
 
         abbrev G139 : Row.Cx
         G139 = record {
-          locals = List._++_ t7 (List._++_ t35 (List._++_ t2 t3));
-          slots = List._∷_ (Row.lease (κs .0) (qs .0)) (List._∷_ (Row.lease (κs .1 .0) (qs .1 .0)) (List._∷_ (Row.lease (κs .1 .1 .0) (qs .1 .1
-              .0)) (List._∷_ (Row.lease (κs .1 .1 .1 .0) (qs .1 .1 .1 .0)) (List._∷_ (Row.lease (κs .1 .1 .1 .1 .0) (qs .1 .1 .1 .1 .0)) (List._∷_ (Row.lease (κs .1 .1 .1 .1 .1 .0) (qs .1 .1 .1 .1 .1 .0))
-              (List._∷_ Row.off (List._∷_ Row.off (List._∷_ Row.off (List._∷_ Row.off (List._∷_ Row.off (List._∷_ Row.off (List._∷_ Row.off (List._∷_ Row.off (List._∷_ Row.off (List._∷_ Row.dead
-              List.[])))))))))))))));
+          locals = List._++_ t91 (List._++_ t1 t2);
+          slots = List._∷_ (Row.lease (κs .0) (qs .0)) (List._∷_ (Row.lease (κs .1 .0) (qs .1 .0)) (List._∷_ (Row.lease (κs .1 .1 .0) (qs .1 .1 .0)) (List._∷_
+              (Row.lease (κs .1 .1 .1 .0) (qs .1 .1 .1 .0)) (List._∷_ (Row.lease (κs .1 .1 .1 .1 .0) (qs .1 .1 .1 .1 .0)) (List._∷_ (Row.lease (κs .1 .1 .1 .1 .1 .0) (qs .1 .1 .1 .1 .1 .0)) (List._∷_
+              Row.off (List._∷_ Row.off (List._∷_ Row.off (List._∷_ Row.off (List._∷_ Row.off (List._∷_ Row.off (List._∷_ Row.off (List._∷_ Row.off List.[])))))))))))));
         }
 
         abbrev G140 : Row.Cx
         G140 = record {
-          locals = List._++_ t7 (List._++_ t35 (List._++_ t2 t3));
-          slots = List._∷_ (Row.lease (κs .0) (qs .0)) (List._∷_ (Row.lease (κs .1 .0) (qs .1 .0)) (List._∷_ (Row.lease (κs .1 .1 .0) (qs .1 .1
-              .0)) (List._∷_ (Row.lease (κs .1 .1 .1 .0) (qs .1 .1 .1 .0)) (List._∷_ (Row.lease (κs .1 .1 .1 .1 .0) (qs .1 .1 .1 .1 .0)) (List._∷_ (Row.lease (κs .1 .1 .1 .1 .1 .0) (qs .1 .1 .1 .1 .1 .0))
-              (List._∷_ Row.off (List._∷_ Row.off (List._∷_ Row.off (List._∷_ Row.off (List._∷_ Row.off (List._∷_ Row.off (List._∷_ Row.off (List._∷_ Row.off (List._∷_ Row.off (List._∷_ Row.off
-              List.[])))))))))))))));
+          locals = List._++_ t96 (List._++_ t1 t2);
+          slots = List._∷_ (Row.lease (κs .0) (qs .0)) (List._∷_ (Row.lease (κs .1 .0) (qs .1 .0)) (List._∷_ (Row.lease (κs .1 .1 .0) (qs .1 .1 .0)) (List._∷_
+              (Row.lease (κs .1 .1 .1 .0) (qs .1 .1 .1 .0)) (List._∷_ (Row.lease (κs .1 .1 .1 .1 .0) (qs .1 .1 .1 .1 .0)) (List._∷_ (Row.lease (κs .1 .1 .1 .1 .1 .0) (qs .1 .1 .1 .1 .1 .0)) (List._∷_
+              Row.off (List._∷_ Row.off (List._∷_ Row.off (List._∷_ Row.off (List._∷_ Row.off (List._∷_ Row.off (List._∷_ Row.off (List._∷_ Row.off List.[])))))))))))));
         }
 
         abbrev G141 : Row.Cx
         G141 = record {
-          locals = List._++_ t7 (List._++_ t35 (List._++_ t2 t3));
-          slots = List._∷_ (Row.lease (κs .0) (qs .0)) (List._∷_ (Row.lease (κs .1 .0) (qs .1 .0)) (List._∷_ (Row.lease (κs .1 .1 .0) (qs .1 .1
-              .0)) (List._∷_ (Row.lease (κs .1 .1 .1 .0) (qs .1 .1 .1 .0)) (List._∷_ (Row.lease (κs .1 .1 .1 .1 .0) (qs .1 .1 .1 .1 .0)) (List._∷_ (Row.lease (κs .1 .1 .1 .1 .1 .0) (qs .1 .1 .1 .1 .1 .0))
-              (List._∷_ Row.off (List._∷_ Row.off (List._∷_ Row.off (List._∷_ Row.off (List._∷_ Row.off (List._∷_ Row.off (List._∷_ Row.off (List._∷_ Row.off (List._∷_ Row.off (List._∷_ Row.off
-              List.[])))))))))))))));
+          locals = List._++_ t97 (List._++_ t1 t2);
+          slots = List._∷_ (Row.lease (κs .0) (qs .0)) (List._∷_ (Row.lease (κs .1 .0) (qs .1 .0)) (List._∷_ (Row.lease (κs .1 .1 .0) (qs .1 .1 .0)) (List._∷_
+              (Row.lease (κs .1 .1 .1 .0) (qs .1 .1 .1 .0)) (List._∷_ (Row.lease (κs .1 .1 .1 .1 .0) (qs .1 .1 .1 .1 .0)) (List._∷_ (Row.lease (κs .1 .1 .1 .1 .1 .0) (qs .1 .1 .1 .1 .1 .0)) (List._∷_
+              Row.off (List._∷_ Row.off (List._∷_ Row.off (List._∷_ Row.off (List._∷_ Row.off (List._∷_ Row.off (List._∷_ Row.off (List._∷_ Row.off List.[])))))))))))));
         }
 
         abbrev G142 : Row.Cx
         G142 = record {
-          locals = List._++_ t7 (List._++_ t22 (List._++_ t2 t3));
-          slots = List._∷_ (Row.lease (κs .0) (qs .0)) (List._∷_ (Row.lease (κs .1 .0) (qs .1 .0)) (List._∷_ (Row.lease (κs .1 .1 .0) (qs .1 .1
-              .0)) (List._∷_ (Row.lease (κs .1 .1 .1 .0) (qs .1 .1 .1 .0)) (List._∷_ (Row.lease (κs .1 .1 .1 .1 .0) (qs .1 .1 .1 .1 .0)) (List._∷_ (Row.lease (κs .1 .1 .1 .1 .1 .0) (qs .1 .1 .1 .1 .1 .0))
-              (List._∷_ Row.off (List._∷_ Row.off (List._∷_ Row.off (List._∷_ Row.off (List._∷_ Row.off (List._∷_ Row.off (List._∷_ Row.off (List._∷_ Row.off (List._∷_ Row.off (List._∷_ Row.off
-              List.[])))))))))))))));
-        }
-
-        abbrev G143 : Row.Cx
-        G143 = record {
-          locals = List._++_ t23 (List._++_ t22 (List._++_ t2 t91));
-          slots = List._∷_ (Row.lease (κs .0) (qs .0)) (List._∷_ (Row.lease (κs .1 .0) (qs .1 .0)) (List._∷_ (Row.lease (κs .1 .1 .0) (qs .1
-              .1 .0)) (List._∷_ (Row.lease (κs .1 .1 .1 .0) (qs .1 .1 .1 .0)) (List._∷_ (Row.lease (κs .1 .1 .1 .1 .0) (qs .1 .1 .1 .1 .0)) (List._∷_ (Row.lease (κs .1 .1 .1 .1 .1 .0) (qs .1 .1 .1 .1 .1
-              .0)) (List._∷_ Row.off (List._∷_ Row.off (List._∷_ Row.off (List._∷_ Row.off (List._∷_ Row.off (List._∷_ Row.off (List._∷_ Row.off (List._∷_ Row.off (List._∷_ Row.off (List._∷_ Row.off
-              List.[])))))))))))))));
-        }
-
-        abbrev G144 : Row.Cx
-        G144 = record {
-          locals = List._++_ t23 (List._++_ t92 (List._++_ t2 t91));
-          slots = List._∷_ (Row.lease (κs .0) (qs .0)) (List._∷_ (Row.lease (κs .1 .0) (qs .1 .0)) (List._∷_ (Row.lease (κs .1 .1 .0) (qs .1
-              .1 .0)) (List._∷_ (Row.lease (κs .1 .1 .1 .0) (qs .1 .1 .1 .0)) (List._∷_ (Row.lease (κs .1 .1 .1 .1 .0) (qs .1 .1 .1 .1 .0)) (List._∷_ (Row.lease (κs .1 .1 .1 .1 .1 .0) (qs .1 .1 .1 .1 .1
-              .0)) (List._∷_ Row.off (List._∷_ Row.off (List._∷_ Row.off (List._∷_ Row.off (List._∷_ Row.off (List._∷_ Row.off (List._∷_ Row.off (List._∷_ Row.off (List._∷_ Row.off (List._∷_ Row.off
-              List.[])))))))))))))));
-        }
-
-        abbrev G145 : Row.Cx
-        G145 = record {
-          locals = List._++_ t75 (List._++_ t92 (List._++_ t2 t91));
-          slots = List._∷_ (Row.lease (κs .0) (qs .0)) (List._∷_ (Row.lease (κs .1 .0) (qs .1 .0)) (List._∷_ (Row.lease (κs .1 .1 .0) (qs .1
-              .1 .0)) (List._∷_ (Row.lease (κs .1 .1 .1 .0) (qs .1 .1 .1 .0)) (List._∷_ (Row.lease (κs .1 .1 .1 .1 .0) (qs .1 .1 .1 .1 .0)) (List._∷_ (Row.lease (κs .1 .1 .1 .1 .1 .0) (qs .1 .1 .1 .1 .1
-              .0)) (List._∷_ Row.off (List._∷_ Row.off (List._∷_ Row.off (List._∷_ Row.off (List._∷_ Row.off (List._∷_ Row.off (List._∷_ Row.off (List._∷_ Row.off (List._∷_ Row.off (List._∷_ Row.off
-              List.[])))))))))))))));
-        }
-
-        abbrev G146 : Row.Cx
-        G146 = record {
-          locals = List._++_ t93 (List._++_ t92 (List._++_ t2 t91));
-          slots = List._∷_ (Row.lease (κs .0) (qs .0)) (List._∷_ (Row.lease (κs .1 .0) (qs .1 .0)) (List._∷_ (Row.lease (κs .1 .1 .0) (qs .1
-              .1 .0)) (List._∷_ (Row.lease (κs .1 .1 .1 .0) (qs .1 .1 .1 .0)) (List._∷_ (Row.lease (κs .1 .1 .1 .1 .0) (qs .1 .1 .1 .1 .0)) (List._∷_ (Row.lease (κs .1 .1 .1 .1 .1 .0) (qs .1 .1 .1 .1 .1
-              .0)) (List._∷_ Row.off (List._∷_ Row.off (List._∷_ Row.off (List._∷_ Row.off (List._∷_ Row.off (List._∷_ Row.off (List._∷_ Row.off (List._∷_ Row.off (List._∷_ Row.off (List._∷_ Row.off
-              List.[])))))))))))))));
-        }
-
-        abbrev G147 : Row.Cx
-        G147 = record {
-          locals = List._++_ t94 (List._++_ t92 (List._++_ t2 t91));
-          slots = List._∷_ (Row.lease (κs .0) (qs .0)) (List._∷_ (Row.lease (κs .1 .0) (qs .1 .0)) (List._∷_ (Row.lease (κs .1 .1 .0) (qs .1
-              .1 .0)) (List._∷_ (Row.lease (κs .1 .1 .1 .0) (qs .1 .1 .1 .0)) (List._∷_ (Row.lease (κs .1 .1 .1 .1 .0) (qs .1 .1 .1 .1 .0)) (List._∷_ (Row.lease (κs .1 .1 .1 .1 .1 .0) (qs .1 .1 .1 .1 .1
-              .0)) (List._∷_ Row.off (List._∷_ Row.off (List._∷_ Row.off (List._∷_ Row.off (List._∷_ Row.off (List._∷_ Row.off (List._∷_ Row.off (List._∷_ Row.off (List._∷_ Row.off (List._∷_ Row.off
-              List.[])))))))))))))));
-        }
-
-        abbrev G148 : Row.Cx
-        G148 = record {
-          locals = List._++_ t95 (List._++_ t92 (List._++_ t2 t91));
-          slots = List._∷_ (Row.lease (κs .0) (qs .0)) (List._∷_ (Row.lease (κs .1 .0) (qs .1 .0)) (List._∷_ (Row.lease (κs .1 .1 .0) (qs .1
-              .1 .0)) (List._∷_ (Row.lease (κs .1 .1 .1 .0) (qs .1 .1 .1 .0)) (List._∷_ (Row.lease (κs .1 .1 .1 .1 .0) (qs .1 .1 .1 .1 .0)) (List._∷_ (Row.lease (κs .1 .1 .1 .1 .1 .0) (qs .1 .1 .1 .1 .1
-              .0)) (List._∷_ Row.off (List._∷_ Row.off (List._∷_ Row.off (List._∷_ Row.off (List._∷_ Row.off (List._∷_ Row.off (List._∷_ Row.off (List._∷_ Row.off (List._∷_ Row.off (List._∷_ Row.off
-              List.[])))))))))))))));
-        }
-
-        abbrev G149 : Row.Cx
-        G149 = record {
-          locals = List._++_ t95 (List._++_ t96 (List._++_ t2 t91));
-          slots = List._∷_ (Row.lease (κs .0) (qs .0)) (List._∷_ (Row.lease (κs .1 .0) (qs .1 .0)) (List._∷_ (Row.lease (κs .1 .1 .0) (qs .1
-              .1 .0)) (List._∷_ (Row.lease (κs .1 .1 .1 .0) (qs .1 .1 .1 .0)) (List._∷_ (Row.lease (κs .1 .1 .1 .1 .0) (qs .1 .1 .1 .1 .0)) (List._∷_ (Row.lease (κs .1 .1 .1 .1 .1 .0) (qs .1 .1 .1 .1 .1
-              .0)) (List._∷_ Row.off (List._∷_ Row.off (List._∷_ Row.off (List._∷_ Row.off (List._∷_ Row.off (List._∷_ Row.off (List._∷_ Row.off (List._∷_ Row.off (List._∷_ Row.off (List._∷_ Row.off
-              List.[])))))))))))))));
-        }
-
-        abbrev G150 : Row.Cx
-        G150 = record {
-          locals = List._++_ t95 (List._++_ t1 (List._++_ t2 t91));
-          slots = List._∷_ (Row.lease (κs .0) (qs .0)) (List._∷_ (Row.lease (κs .1 .0) (qs .1 .0)) (List._∷_ (Row.lease (κs .1 .1 .0) (qs .1
-              .1 .0)) (List._∷_ (Row.lease (κs .1 .1 .1 .0) (qs .1 .1 .1 .0)) (List._∷_ (Row.lease (κs .1 .1 .1 .1 .0) (qs .1 .1 .1 .1 .0)) (List._∷_ (Row.lease (κs .1 .1 .1 .1 .1 .0) (qs .1 .1 .1 .1 .1
-              .0)) (List._∷_ Row.off (List._∷_ Row.off (List._∷_ Row.off (List._∷_ Row.off (List._∷_ Row.off (List._∷_ Row.off (List._∷_ Row.off (List._∷_ Row.off (List._∷_ Row.off (List._∷_ Row.off
-              List.[])))))))))))))));
-        }
-
-        abbrev G151 : Row.Cx
-        G151 = record {
-          locals = List._++_ t95 (List._++_ t1 (List._++_ t2 t3));
-          slots = List._∷_ (Row.lease (κs .0) (qs .0)) (List._∷_ (Row.lease (κs .1 .0) (qs .1 .0)) (List._∷_ (Row.lease (κs .1 .1 .0) (qs .1 .1
-              .0)) (List._∷_ (Row.lease (κs .1 .1 .1 .0) (qs .1 .1 .1 .0)) (List._∷_ (Row.lease (κs .1 .1 .1 .1 .0) (qs .1 .1 .1 .1 .0)) (List._∷_ (Row.lease (κs .1 .1 .1 .1 .1 .0) (qs .1 .1 .1 .1 .1 .0))
-              (List._∷_ Row.off (List._∷_ Row.off (List._∷_ Row.off (List._∷_ Row.off (List._∷_ Row.off (List._∷_ Row.off (List._∷_ Row.off (List._∷_ Row.off (List._∷_ Row.off (List._∷_ Row.off
-              List.[])))))))))))))));
-        }
-
-        abbrev G152 : Row.Cx
-        G152 = record {
-          locals = List._++_ t97 (List._++_ t1 (List._++_ t2 t3));
-          slots = List._∷_ (Row.lease (κs .0) (qs .0)) (List._∷_ (Row.lease (κs .1 .0) (qs .1 .0)) (List._∷_ (Row.lease (κs .1 .1 .0) (qs .1 .1
-              .0)) (List._∷_ (Row.lease (κs .1 .1 .1 .0) (qs .1 .1 .1 .0)) (List._∷_ (Row.lease (κs .1 .1 .1 .1 .0) (qs .1 .1 .1 .1 .0)) (List._∷_ (Row.lease (κs .1 .1 .1 .1 .1 .0) (qs .1 .1 .1 .1 .1 .0))
-              (List._∷_ Row.off (List._∷_ Row.off (List._∷_ Row.off (List._∷_ Row.off (List._∷_ Row.off (List._∷_ Row.off (List._∷_ Row.off (List._∷_ Row.off (List._∷_ Row.off (List._∷_ Row.off
-              List.[])))))))))))))));
-        }
-
-        abbrev G153 : Row.Cx
-        G153 = record {
-          locals = List._++_ t4 (List._++_ t1 (List._++_ t2 t3));
-          slots = List._∷_ (Row.lease (κs .0) (qs .0)) (List._∷_ (Row.lease (κs .1 .0) (qs .1 .0)) (List._∷_ (Row.lease (κs .1 .1 .0) (qs .1 .1
-              .0)) (List._∷_ (Row.lease (κs .1 .1 .1 .0) (qs .1 .1 .1 .0)) (List._∷_ (Row.lease (κs .1 .1 .1 .1 .0) (qs .1 .1 .1 .1 .0)) (List._∷_ (Row.lease (κs .1 .1 .1 .1 .1 .0) (qs .1 .1 .1 .1 .1 .0))
-              (List._∷_ Row.off (List._∷_ Row.off (List._∷_ Row.off (List._∷_ Row.off (List._∷_ Row.off (List._∷_ Row.off (List._∷_ Row.off (List._∷_ Row.off (List._∷_ Row.off (List._∷_ Row.off
-              List.[])))))))))))))));
+          locals = List._++_ t3 (List._++_ t1 t2);
+          slots = List._∷_ (Row.lease (κs .0) (qs .0)) (List._∷_ (Row.lease (κs .1 .0) (qs .1 .0)) (List._∷_ (Row.lease (κs .1 .1 .0) (qs .1 .1 .0)) (List._∷_
+              (Row.lease (κs .1 .1 .1 .0) (qs .1 .1 .1 .0)) (List._∷_ (Row.lease (κs .1 .1 .1 .1 .0) (qs .1 .1 .1 .1 .0)) (List._∷_ (Row.lease (κs .1 .1 .1 .1 .1 .0) (qs .1 .1 .1 .1 .1 .0)) (List._∷_
+              Row.off (List._∷_ Row.off (List._∷_ Row.off (List._∷_ Row.off (List._∷_ Row.off (List._∷_ Row.off (List._∷_ Row.off (List._∷_ Row.off List.[])))))))))))));
         }
 
         abbrev Δ0 : Typed.Outs
         Δ0 = record { next = Option.none; exits = List.[]; returns = Option.some G1 }
 
         abbrev Δ1 : Typed.Outs
-        Δ1 = Typed.withNext (Option.some G31) Δ0
+        Δ1 = Typed.withNext (Option.some G15) Δ0
 
         abbrev Δ2 : Typed.Outs
         Δ2 = Typed.inBlock₀ Δ1
 
         abbrev Δ3 : Typed.Outs
-        Δ3 = Typed.inLoop₀ G30 Δ2
+        Δ3 = Typed.inLoop₀ G14 Δ2
 
         abbrev Δ4 : Typed.Outs
-        Δ4 = Typed.withNext (Option.some G33) Δ3
+        Δ4 = Typed.withNext (Option.some G17) Δ3
 
         abbrev Δ5 : Typed.Outs
-        Δ5 = Typed.withNext (Option.some G73) Δ3
+        Δ5 = Typed.withNext (Option.some G58) Δ3
 
         module _ {M : Type 1} (𝓤 : URA.URA M) (H : Wp.Heap 𝓤) (A : Atoms.Atoms 𝓤) (W : Kit.Given 𝓤 H A) (𝓣 : Wp.Tables 𝓤 H) (known : Knowns 𝓤 H A W 𝓣) (bs : List.List Nat.ℕ) (bd : Lifetimes.AllOutlive
             6 (Kinds.osR r) κs) where
           abbrev E : Wp.Env 𝓤 H
           E = Frame.EnvOf 𝓤 H (List._∷_ (Kinds.tyR r) (Enter.tysP ps xs)) bs
 
-          d0 : Typed.Typed 𝓤 H A 𝓣 E G34 b14 Δ4 at0
+          d0 : Typed.Typed 𝓤 H A 𝓣 E G18 b8 Δ4 at0
           d0 = Typed.t-skip 𝓤 H A W 𝓣 E Δ4 tt
 
-          d1 : Typed.Typed 𝓤 H A 𝓣 E G32 b14 Δ4 at1
-          d1 = Typed.g-pre 𝓤 H A W 𝓣 E G32 G34 b14 Δ4 (Typed.pass T32 T34 s30) at0 (Scalar.g-room 𝓤 H A W E G32 28 Syntax.tyBool (Scalar.room-sc 𝓤 H A W Row.sBool)) d0
+          d1 : Typed.Typed 𝓤 H A 𝓣 E G16 b8 Δ4 at1
+          d1 = Typed.g-pre 𝓤 H A W 𝓣 E G16 G18 b8 Δ4 (Typed.pass T16 T18 s14) at0 (Scalar.g-room 𝓤 H A W E G16 26 Syntax.tyBool (Scalar.room-sc 𝓤 H A W Row.sBool)) d0
 
-          d2 : Typed.Typed 𝓤 H A 𝓣 E G39 b15 Δ4 at2
+          d2 : Typed.Typed 𝓤 H A 𝓣 E G23 b9 Δ4 at2
           d2 = Typed.t-exit 𝓤 H A W 𝓣 E 1 Δ4 tt
 
-          d3 : Typed.Typed 𝓤 H A 𝓣 E G38 b15 Δ4 at3
-          d3 = Typed.g-pre 𝓤 H A W 𝓣 E G38 G39 b15 Δ4 (Typed.pass T38 T39 s35) at2 (Scalar.g-room 𝓤 H A W E G38 28 Syntax.tyBool (Scalar.room-sc 𝓤 H A W Row.sBool)) d2
+          d3 : Typed.Typed 𝓤 H A 𝓣 E G22 b9 Δ4 at3
+          d3 = Typed.g-pre 𝓤 H A W 𝓣 E G22 G23 b9 Δ4 (Typed.pass T22 T23 s19) at2 (Scalar.g-room 𝓤 H A W E G22 26 Syntax.tyBool (Scalar.room-sc 𝓤 H A W Row.sBool)) d2
 
-          d4 : Typed.Typed 𝓤 H A 𝓣 E G37 b15 Δ4 at4
-          d4 = Typed.g-pre 𝓤 H A W 𝓣 E G37 G38 b15 Δ4 (Typed.pass T37 T38 s34) at3 (Scalar.g-room 𝓤 H A W E G37 12 y12 (Local.room-whole 𝓤 H A W (Declared'.row Entries.the-type) y12 Path'.refl)) d3
+          d4 : Typed.Typed 𝓤 H A 𝓣 E G21 b9 Δ4 at4
+          d4 = Typed.g-pre 𝓤 H A W 𝓣 E G21 G22 b9 Δ4 (Typed.pass T21 T22 s18) at3 (Scalar.g-room 𝓤 H A W E G21 14 y12 (Local.room-whole 𝓤 H A W (Declared'.row Entries.the-type) y12 Path'.refl)) d3
 
-          d5 : Typed.Typed 𝓤 H A 𝓣 E G36 b15 Δ4 at5
-          d5 = Typed.g-pre 𝓤 H A W 𝓣 E G36 G37 b15 Δ4 (Typed.pass T36 T37 s33) at4 (Scalar.g-room 𝓤 H A W E G36 9 y0 (Local.room-whole 𝓤 H A W (Declared'.row Part.the-type) y0 Path'.refl)) d4
+          d5 : Typed.Typed 𝓤 H A 𝓣 E G20 b9 Δ4 at5
+          d5 = Typed.g-pre 𝓤 H A W 𝓣 E G20 G21 b9 Δ4 (Typed.pass T20 T21 s17) at4 (Scalar.g-room 𝓤 H A W E G20 9 y0 (Local.room-whole 𝓤 H A W (Declared'.row Part.the-type) y0 Path'.refl)) d4
 
-          d6 : Typed.Typed 𝓤 H A 𝓣 E G35 b15 Δ4 at6
-          d6 = Typed.g-pre 𝓤 H A W 𝓣 E G35 G36 b15 Δ4 (Typed.pass T35 T36 s32) at5 (Scalar.g-room 𝓤 H A W E G35 8 (Syntax.tyArray (Syntax.tyInt Syntax.w8) 36) (Init.room-arr 𝓤 H A W (Referent.rtF
+          d6 : Typed.Typed 𝓤 H A 𝓣 E G19 b9 Δ4 at6
+          d6 = Typed.g-pre 𝓤 H A W 𝓣 E G19 G20 b9 Δ4 (Typed.pass T19 T20 s16) at5 (Scalar.g-room 𝓤 H A W E G19 8 (Syntax.tyArray (Syntax.tyInt Syntax.w8) 36) (Init.room-arr 𝓤 H A W (Referent.rtF
               (Referent.fInt Syntax.w8)) 36 0 36 Path'.refl)) d5
 
-          d7 : Typed.Typed 𝓤 H A 𝓣 E G32 b15 Δ4 at7
-          d7 = Typed.g-pre 𝓤 H A W 𝓣 E G32 G35 b15 Δ4 (Typed.pass T32 T35 s31) at6 (Scalar.g-room 𝓤 H A W E G32 6 y8 (Local.room-whole 𝓤 H A W (Declared'.row Form.the-type) y8 Path'.refl)) d6
+          d7 : Typed.Typed 𝓤 H A 𝓣 E G16 b9 Δ4 at7
+          d7 = Typed.g-pre 𝓤 H A W 𝓣 E G16 G19 b9 Δ4 (Typed.pass T16 T19 s15) at6 (Scalar.g-room 𝓤 H A W E G16 6 y8 (Local.room-whole 𝓤 H A W (Declared'.row Form.the-type) y8 Path'.refl)) d6
 
-          d8 : Typed.Typed 𝓤 H A 𝓣 E G32 b16 Δ4 at8
-          d8 = Scalar.t-cond 𝓤 H A W E 𝓣 G32 28 (λ x. x) b14 b15 Δ4 at1 at7 (Scalar.reads-sc 𝓤 H A W Row.sBool) Path'.refl d1 d7
+          d8 : Typed.Typed 𝓤 H A 𝓣 E G16 b10 Δ4 at8
+          d8 = Scalar.t-cond 𝓤 H A W E 𝓣 G16 26 (λ x. x) b8 b9 Δ4 at1 at7 (Scalar.reads-sc 𝓤 H A W Row.sBool) Path'.refl d1 d7
 
-          d9 : Typed.Typed 𝓤 H A 𝓣 E G88 b34 Δ5 at9
-          d9 = Typed.s-typed 𝓤 H A W 𝓣 E G88 b34 Δ5 (λ Ψ. Typed.pass T88 T89 s84 (Typed.pass T89 T90 s85 Ψ)) tt (Typed.g-post 𝓤 H A W 𝓣 E G88 G89 G90 b34 (Typed.pass T88 T89 s84) (Typed.pass T89 T90
-              s85) (CopyOut.t-copy-told 𝓤 H A W E 𝓣 (Declared'.row Place.the-type) Path'.refl (Laws'10.val Place.the-type Laws'4.the-laws) (Laws'10.lawful Place.the-type Laws'4.the-laws 𝓤 H A W)
-              (Laws'10.makes Place.the-type Laws'4.the-plain 𝓤 H A) G88 21 (Scalar.oFld 20 (List._∷_ (Syntax.variant 0) (List._∷_ (Syntax.field 1) List.[])) y10 8 λ v. Laws'10.val Place.the-type
-              Laws'4.the-laws (v .0)) (λ m. m .1 .1 .1 .1 .1 .1 .1 .1 .1 .1 .1 .1 .1 .1 .1 .1 .1 .1 .1 .1 .0 .0) (λ m. Laws'9.Fields (Declared.variants Lined.the-type) (Laws'9.spellss (Lined.enum .parts)
-              Laws'.the-laws) (Lined.the-type .to (Known.at Lined.enum 0 (m .1 .1 .1 .1 .1 .1 .1 .1 .1 .1 .1 .1 .1 .1 .1 .1 .1 .1 .1 .1 .0)))) (Reads'.room-gone 𝓤 H A y10) (
+          d9 : Typed.Typed 𝓤 H A 𝓣 E G73 b29 Δ5 at9
+          d9 = Typed.s-typed 𝓤 H A W 𝓣 E G73 b29 Δ5 (λ Ψ. Typed.pass T73 T74 s69 (Typed.pass T74 T75 s70 Ψ)) tt (Typed.g-post 𝓤 H A W 𝓣 E G73 G74 G75 b29 (Typed.pass T73 T74 s69) (Typed.pass T74 T75
+              s70) (CopyOut.t-copy-told 𝓤 H A W E 𝓣 (Declared'.row Place.the-type) Path'.refl (Laws'10.val Place.the-type Laws'4.the-laws) (Laws'10.lawful Place.the-type Laws'4.the-laws 𝓤 H A W)
+              (Laws'10.makes Place.the-type Laws'4.the-plain 𝓤 H A) G73 24 (Scalar.oFld 23 (List._∷_ (Syntax.variant 0) (List._∷_ (Syntax.field 1) List.[])) y10 8 λ v. Laws'10.val Place.the-type
+              Laws'4.the-laws (v .0)) (λ m. m .1 .1 .1 .1 .1 .1 .1 .1 .1 .1 .1 .1 .1 .1 .1 .1 .1 .1 .1 .1 .1 .1 .1 .0 .0) (λ m. Laws'9.Fields (Declared.variants Lined.the-type) (Laws'9.spellss (Lined.enum
+              .parts) Laws'.the-laws) (Lined.the-type .to (Known.at Lined.enum 0 (m .1 .1 .1 .1 .1 .1 .1 .1 .1 .1 .1 .1 .1 .1 .1 .1 .1 .1 .1 .1 .1 .1 .1 .0)))) (Reads'.room-gone 𝓤 H A y10) (
                 Match.reads-payload 𝓤 H A W Lined.enum Laws'.the-laws 0 Path'.refl Path'.refl (λ v. Val.vcons (Laws'10.val Place.the-type Laws'4.the-laws (v .0)) Val.vnil) (λ v. Path'.refl) 0 y10 8
                     Path'.refl,
                 Path'.refl,
-              ) Path'.refl (λ ρ m. Make'.tells-row 𝓤 H A W E ρ (Row.out 21 (G88 .locals)) m 20 (Laws'9.Fields (Declared.variants Lined.the-type) (Laws'9.spellss (Lined.enum .parts)
-              Laws'.the-laws) (Lined.the-type .to (Known.at Lined.enum 0 (m .1 .1 .1 .1 .1 .1 .1 .1 .1 .1 .1 .1 .1 .1 .1 .1 .1 .1 .1 .1 .0)))) (Known.known-is 𝓤 H A W E Lined.enum 0 Laws'.the-laws ρ 20 (m
-              .1 .1 .1 .1 .1 .1 .1 .1 .1 .1 .1 .1 .1 .1 .1 .1 .1 .1 .1 .1 .0))) (λ m k wa. Path'.refl) λ m k wa. k .0) (Scalar.g-room 𝓤 H A W E G89 20 (Syntax.tyEnum (List._∷_ 98 (List._∷_ 108 (List._∷_
-              111 (List._∷_ 99 (List._∷_ 107 (List._∷_ 58 (List._∷_ 58 (List._∷_ 76 (List._∷_ 105 (List._∷_ 110 (List._∷_ 101 (List._∷_ 100 List.[])))))))))))) (Syntax.ttcons (Syntax.tcons y10
-              Syntax.tnil) (Syntax.ttcons Syntax.tnil Syntax.ttnil))) (Local.room-whole 𝓤 H A W (Known.Known Lined.enum 0) (Syntax.tyEnum (List._∷_ 98 (List._∷_ 108 (List._∷_ 111 (List._∷_ 99 (List._∷_
-              107 (List._∷_ 58 (List._∷_ 58 (List._∷_ 76 (List._∷_ 105 (List._∷_ 110 (List._∷_ 101 (List._∷_ 100 List.[])))))))))))) (Syntax.ttcons (Syntax.tcons y10 Syntax.tnil) (Syntax.ttcons
-              Syntax.tnil Syntax.ttnil))) Path'.refl)))
+              ) Path'.refl (λ ρ m. Make'.tells-row 𝓤 H A W E ρ (Row.out 24 (G73 .locals)) m 23 (Laws'9.Fields (Declared.variants Lined.the-type) (Laws'9.spellss (Lined.enum .parts)
+              Laws'.the-laws) (Lined.the-type .to (Known.at Lined.enum 0 (m .1 .1 .1 .1 .1 .1 .1 .1 .1 .1 .1 .1 .1 .1 .1 .1 .1 .1 .1 .1 .1 .1 .1 .0)))) (Known.known-is 𝓤 H A W E Lined.enum 0
+              Laws'.the-laws ρ 23 (m .1 .1 .1 .1 .1 .1 .1 .1 .1 .1 .1 .1 .1 .1 .1 .1 .1 .1 .1 .1 .1 .1 .1 .0))) (λ m k wa. Path'.refl) λ m k wa. k .0) (Scalar.g-room 𝓤 H A W E G74 23 (Syntax.tyEnum
+              (List._∷_ 98 (List._∷_ 108 (List._∷_ 111 (List._∷_ 99 (List._∷_ 107 (List._∷_ 58 (List._∷_ 58 (List._∷_ 76 (List._∷_ 105 (List._∷_ 110 (List._∷_ 101 (List._∷_ 100 List.[]))))))))))))
+              (Syntax.ttcons (Syntax.tcons y10 Syntax.tnil) (Syntax.ttcons Syntax.tnil Syntax.ttnil))) (Local.room-whole 𝓤 H A W (Known.Known Lined.enum 0) (Syntax.tyEnum (List._∷_ 98 (List._∷_ 108
+              (List._∷_ 111 (List._∷_ 99 (List._∷_ 107 (List._∷_ 58 (List._∷_ 58 (List._∷_ 76 (List._∷_ 105 (List._∷_ 110 (List._∷_ 101 (List._∷_ 100 List.[])))))))))))) (Syntax.ttcons (Syntax.tcons y10
+              Syntax.tnil) (Syntax.ttcons Syntax.tnil Syntax.ttnil))) Path'.refl)))
 
-          d10 : Typed.Typed 𝓤 H A 𝓣 E G87 b34 Δ5 at10
-          d10 = Typed.g-pre 𝓤 H A W 𝓣 E G87 G88 b34 Δ5 (Typed.pass T87 T88 s83) at9 (Scalar.g-room 𝓤 H A W E G87 16 y10 (Local.room-whole 𝓤 H A W (Declared'.row Place.the-type) y10 Path'.refl)) d9
+          d10 : Typed.Typed 𝓤 H A 𝓣 E G72 b29 Δ5 at10
+          d10 = Typed.g-pre 𝓤 H A W 𝓣 E G72 G73 b29 Δ5 (Typed.pass T72 T73 s68) at9 (Scalar.g-room 𝓤 H A W E G72 18 y10 (Local.room-whole 𝓤 H A W (Declared'.row Place.the-type) y10 Path'.refl)) d9
 
-          d11 : Typed.Typed 𝓤 H A 𝓣 E G86 b34 Δ5 at11
-          d11 = Typed.g-pre 𝓤 H A W 𝓣 E G86 G87 b34 Δ5 (Typed.give s82) at10 (Known.g-known-told 𝓤 H A W E Lined.enum 0 G86 20 Laws'.the-laws (λ x. x) (Reads'.as-is 𝓤 H A (Rows'.whole (Known.Known
+          d11 : Typed.Typed 𝓤 H A 𝓣 E G71 b29 Δ5 at11
+          d11 = Typed.g-pre 𝓤 H A W 𝓣 E G71 G72 b29 Δ5 (Typed.give s67) at10 (Known.g-known-told 𝓤 H A W E Lined.enum 0 G71 23 Laws'.the-laws (λ x. x) (Reads'.as-is 𝓤 H A (Rows'.whole (Known.Known
               Lined.enum 0)))) d10
 
-          d12 : Typed.Typed 𝓤 H A 𝓣 E G85 b34 Δ5 at12
-          d12 = Typed.g-pre 𝓤 H A W 𝓣 E G85 G86 b34 Δ5 (Typed.both s81) at11 (Known.g-enum-known 𝓤 H A W E Lined.enum 0 G85 20 (λ x. x) (Reads'.as-is 𝓤 H A (Rows'.whole (Declared.row
+          d12 : Typed.Typed 𝓤 H A 𝓣 E G70 b29 Δ5 at12
+          d12 = Typed.g-pre 𝓤 H A W 𝓣 E G70 G71 b29 Δ5 (Typed.both s66) at11 (Known.g-enum-known 𝓤 H A W E Lined.enum 0 G70 23 (λ x. x) (Reads'.as-is 𝓤 H A (Rows'.whole (Declared.row
               Lined.the-type)))) d11
 
-          d13 : Typed.Typed 𝓤 H A 𝓣 E G117 b40 Δ5 at13
+          d13 : Typed.Typed 𝓤 H A 𝓣 E G104 b35 Δ5 at13
           d13 = Typed.t-return 𝓤 H A W 𝓣 E Δ5 tt
 
-          d14 : Typed.Typed 𝓤 H A 𝓣 E G116 b40 Δ5 at14
-          d14 = Typed.g-pre 𝓤 H A W 𝓣 E G116 G117 b40 Δ5 (Typed.pass T116 T117 s112) at13 (Scalar.g-room 𝓤 H A W E G116 19 (Syntax.tyInt Syntax.w32) (Scalar.room-sc 𝓤 H A W (Row.sInt Syntax.w32))) d13
+          d14 : Typed.Typed 𝓤 H A 𝓣 E G103 b35 Δ5 at14
+          d14 = Typed.g-pre 𝓤 H A W 𝓣 E G103 G104 b35 Δ5 (Typed.pass T103 T104 s99) at13 (Scalar.g-room 𝓤 H A W E G103 22 (Syntax.tyInt Syntax.w32) (Scalar.room-sc 𝓤 H A W (Row.sInt Syntax.w32))) d13
 
-          d15 : Typed.Typed 𝓤 H A 𝓣 E G115 b40 Δ5 at15
-          d15 = Typed.g-pre 𝓤 H A W 𝓣 E G115 G116 b40 Δ5 (Typed.pass T115 T116 s111) at14 (Scalar.g-room 𝓤 H A W E G115 18 (Syntax.tyInt Syntax.w64) (Scalar.room-sc 𝓤 H A W (Row.sInt Syntax.w64))) d14
+          d15 : Typed.Typed 𝓤 H A 𝓣 E G102 b35 Δ5 at15
+          d15 = Typed.g-pre 𝓤 H A W 𝓣 E G102 G103 b35 Δ5 (Typed.pass T102 T103 s98) at14 (Scalar.g-room 𝓤 H A W E G102 21 (Syntax.tyInt Syntax.w64) (Scalar.room-sc 𝓤 H A W (Row.sInt Syntax.w64))) d14
 
-          d16 : Typed.Typed 𝓤 H A 𝓣 E G114 b40 Δ5 at16
-          d16 = Typed.g-pre 𝓤 H A W 𝓣 E G114 G115 b40 Δ5 (Typed.pass T114 T115 s110) at15 (Scalar.g-room 𝓤 H A W E G114 15 (Syntax.tyInt Syntax.w64) (Scalar.room-sc 𝓤 H A W (Row.sInt Syntax.w64))) d15
+          d16 : Typed.Typed 𝓤 H A 𝓣 E G101 b35 Δ5 at16
+          d16 = Typed.g-pre 𝓤 H A W 𝓣 E G101 G102 b35 Δ5 (Typed.pass T101 T102 s97) at15 (Scalar.g-room 𝓤 H A W E G101 20 (Syntax.tyInt Syntax.w64) (Scalar.room-sc 𝓤 H A W (Row.sInt Syntax.w64))) d15
 
-          d17 : Typed.Typed 𝓤 H A 𝓣 E G113 b40 Δ5 at17
-          d17 = Typed.g-pre 𝓤 H A W 𝓣 E G113 G114 b40 Δ5 (Typed.pass T113 T114 s109) at16 (Scalar.g-room 𝓤 H A W E G113 14 Syntax.tyBool (Scalar.room-sc 𝓤 H A W Row.sBool)) d16
+          d17 : Typed.Typed 𝓤 H A 𝓣 E G100 b35 Δ5 at17
+          d17 = Typed.g-pre 𝓤 H A W 𝓣 E G100 G101 b35 Δ5 (Typed.pass T100 T101 s96) at16 (Scalar.g-room 𝓤 H A W E G100 17 (Syntax.tyInt Syntax.w64) (Scalar.room-sc 𝓤 H A W (Row.sInt Syntax.w64))) d16
 
-          d18 : Typed.Typed 𝓤 H A 𝓣 E G112 b40 Δ5 at18
-          d18 = Typed.g-pre 𝓤 H A W 𝓣 E G112 G113 b40 Δ5 (Typed.pass T112 T113 s108) at17 (Scalar.g-room 𝓤 H A W E G112 13 (Syntax.tyInt Syntax.w32) (Scalar.room-sc 𝓤 H A W (Row.sInt Syntax.w32))) d17
+          d18 : Typed.Typed 𝓤 H A 𝓣 E G99 b35 Δ5 at18
+          d18 = Typed.g-pre 𝓤 H A W 𝓣 E G99 G100 b35 Δ5 (Typed.pass T99 T100 s95) at17 (Scalar.g-room 𝓤 H A W E G99 16 Syntax.tyBool (Scalar.room-sc 𝓤 H A W Row.sBool)) d17
 
-          d19 : Typed.Typed 𝓤 H A 𝓣 E G111 b40 Δ5 at19
-          d19 = Typed.g-pre 𝓤 H A W 𝓣 E G111 G112 b40 Δ5 (Typed.pass T111 T112 s107) at18 (Scalar.g-room 𝓤 H A W E G111 11 Syntax.tyBool (Scalar.room-sc 𝓤 H A W Row.sBool)) d18
+          d19 : Typed.Typed 𝓤 H A 𝓣 E G98 b35 Δ5 at19
+          d19 = Typed.g-pre 𝓤 H A W 𝓣 E G98 G99 b35 Δ5 (Typed.pass T98 T99 s94) at18 (Scalar.g-room 𝓤 H A W E G98 15 (Syntax.tyInt Syntax.w32) (Scalar.room-sc 𝓤 H A W (Row.sInt Syntax.w32))) d18
 
-          d20 : Typed.Typed 𝓤 H A 𝓣 E G110 b40 Δ5 at20
-          d20 = Typed.g-pre 𝓤 H A W 𝓣 E G110 G111 b40 Δ5 (Typed.pass T110 T111 s106) at19 (Scalar.g-room 𝓤 H A W E G110 10 (Syntax.tyInt Syntax.w64) (Scalar.room-sc 𝓤 H A W (Row.sInt Syntax.w64))) d19
+          d20 : Typed.Typed 𝓤 H A 𝓣 E G97 b35 Δ5 at20
+          d20 = Typed.g-pre 𝓤 H A W 𝓣 E G97 G98 b35 Δ5 (Typed.pass T97 T98 s93) at19 (Scalar.g-room 𝓤 H A W E G97 13 Syntax.tyBool (Scalar.room-sc 𝓤 H A W Row.sBool)) d19
 
-          d21 : Typed.Typed 𝓤 H A 𝓣 E G109 b40 Δ5 at21
-          d21 = Typed.g-pre 𝓤 H A W 𝓣 E G109 G110 b40 Δ5 (Typed.pass T109 T110 s105) at20 (Scalar.g-room 𝓤 H A W E G109 44 y3 (Local.room-whole 𝓤 H A W (Declared'.row Totals.the-type) y3 Path'.refl))
-              d20
+          d21 : Typed.Typed 𝓤 H A 𝓣 E G96 b35 Δ5 at21
+          d21 = Typed.g-pre 𝓤 H A W 𝓣 E G96 G97 b35 Δ5 (Typed.pass T96 T97 s92) at20 (Scalar.g-room 𝓤 H A W E G96 12 (Syntax.tyInt Syntax.w64) (Scalar.room-sc 𝓤 H A W (Row.sInt Syntax.w64))) d20
 
-          d22 : Typed.Typed 𝓤 H A 𝓣 E G108 b41 Δ5 at22
-          d22 = Typed.s-seq 𝓤 H A W 𝓣 E G108 G109 b39 b40 Δ5 (Typed.pass T108 T109 s104) at21 (Make.t-enum-make-wt 𝓤 H A W E 𝓣 Walked.the-type Laws''.the-laws Laws''.the-plain tt G108 0 (List._∷_
-              (Scalar.oInt Syntax.w8 1) (List._∷_ (Scalar.oAt 18 (Syntax.tyInt Syntax.w64) (Row.valS (Row.sInt Syntax.w64))) (List._∷_ (Scalar.oAt 44 y3 (Laws'10.val Totals.the-type Laws'8.the-laws))
+          d22 : Typed.Typed 𝓤 H A 𝓣 E G95 b35 Δ5 at22
+          d22 = Typed.g-pre 𝓤 H A W 𝓣 E G95 G96 b35 Δ5 (Typed.pass T95 T96 s91) at21 (Scalar.g-room 𝓤 H A W E G95 10 (Syntax.tyInt Syntax.w64) (Scalar.room-sc 𝓤 H A W (Row.sInt Syntax.w64))) d21
+
+          d23 : Typed.Typed 𝓤 H A 𝓣 E G94 b35 Δ5 at23
+          d23 = Typed.g-pre 𝓤 H A W 𝓣 E G94 G95 b35 Δ5 (Typed.pass T94 T95 s90) at22 (Scalar.g-room 𝓤 H A W E G94 42 y3 (Local.room-whole 𝓤 H A W (Declared'.row Totals.the-type) y3 Path'.refl)) d22
+
+          d24 : Typed.Typed 𝓤 H A 𝓣 E G93 b36 Δ5 at24
+          d24 = Typed.s-seq 𝓤 H A W 𝓣 E G93 G94 b34 b35 Δ5 (Typed.pass T93 T94 s89) at23 (Make.t-enum-make-wt 𝓤 H A W E 𝓣 Walked.the-type Laws''.the-laws Laws''.the-plain tt G93 0 (List._∷_
+              (Scalar.oInt Syntax.w8 1) (List._∷_ (Scalar.oAt 21 (Syntax.tyInt Syntax.w64) (Row.valS (Row.sInt Syntax.w64))) (List._∷_ (Scalar.oAt 42 y3 (Laws'10.val Totals.the-type Laws'8.the-laws))
               List.[]))) (λ m. Walked.enum .make (Logic.inr (Logic.inl (
-                m .1 .1 .1 .1 .1 .1 .1 .1 .1 .1 .1 .1 .1 .1 .1 .1 .1 .1 .0,
-                (m .1 .1 .1 .1 .1 .1 .1 .1 .1 .1 .1 .1 .1 .1 .1 .1 .1 .1 .1 .1 .1 .1 .1 .1 .1 .1 .1 .1 .1 .1 .1 .1 .1 .1 .1 .1 .1 .1 .1 .1 .1 .1 .1 .1 .0, tt),
-              )))) (Reads'.room-gone 𝓤 H A (Syntax.tyEnum
-              (List._∷_ 98 (List._∷_ 108 (List._∷_ 111 (List._∷_ 99 (List._∷_ 107 (List._∷_ 58 (List._∷_ 58 (List._∷_ 87 (List._∷_ 97 (List._∷_ 108 (List._∷_ 107 (List._∷_ 101 (List._∷_ 100
-              List.[]))))))))))))) (Syntax.ttcons (Syntax.tcons y3 (Syntax.tcons y9 Syntax.tnil)) (Syntax.ttcons (Syntax.tcons (Syntax.tyInt Syntax.w64) (Syntax.tcons y3 Syntax.tnil)) Syntax.ttnil))))
+                m .1 .1 .1 .1 .1 .1 .1 .1 .1 .1 .1 .1 .1 .1 .1 .1 .1 .1 .1 .1 .1 .0,
+                (m .1 .1 .1 .1 .1 .1 .1 .1 .1 .1 .1 .1 .1 .1 .1 .1 .1 .1 .1 .1 .1 .1 .1 .1 .1 .1 .1 .1 .1 .1 .1 .1 .1 .1 .1 .1 .1 .1 .1 .1 .1 .1 .0, tt),
+              )))) (Reads'.room-gone 𝓤 H A (Syntax.tyEnum (List._∷_
+              98 (List._∷_ 108 (List._∷_ 111 (List._∷_ 99 (List._∷_ 107 (List._∷_ 58 (List._∷_ 58 (List._∷_ 87 (List._∷_ 97 (List._∷_ 108 (List._∷_ 107 (List._∷_ 101 (List._∷_ 100 List.[])))))))))))))
+              (Syntax.ttcons (Syntax.tcons y3 (Syntax.tcons y9 Syntax.tnil)) (Syntax.ttcons (Syntax.tcons (Syntax.tyInt Syntax.w64) (Syntax.tcons y3 Syntax.tnil)) Syntax.ttnil))))
               (tt, ((Scalar.reads-sc 𝓤 H A W (Row.sInt Syntax.w64), Path'.refl), ((Reads.reads-struct 𝓤 H A W Totals.the-type Laws'8.the-laws, Path'.refl), tt))) Path'.refl (λ m wa. Make.made-val
-              Walked.the-type Laws''.the-laws (List._∷_ (Laws''.the-laws .1 .0 .0 .val (m .1 .1 .1 .1 .1 .1 .1 .1 .1 .1 .1 .1 .1 .1 .1 .1 .1 .1 .0)) (List._∷_ (Laws'10.val Totals.the-type Laws'8.the-laws
-              (m .1 .1 .1 .1 .1 .1 .1 .1 .1 .1 .1 .1 .1 .1 .1 .1 .1 .1 .1 .1 .1 .1 .1 .1 .1 .1 .1 .1 .1 .1 .1 .1 .1 .1 .1 .1 .1 .1 .1 .1 .1 .1 .1 .1 .0)) List.[])) (Walked.enum .make (Logic.inr (Logic.inl (
-                m .1 .1 .1 .1 .1 .1 .1 .1 .1 .1 .1 .1 .1 .1 .1 .1 .1 .1 .0,
-                (m .1 .1 .1 .1 .1 .1 .1 .1 .1 .1 .1 .1 .1 .1 .1 .1 .1 .1 .1 .1 .1 .1 .1 .1 .1 .1 .1 .1 .1 .1 .1 .1 .1 .1 .1 .1 .1 .1 .1 .1 .1 .1 .1 .1 .0, tt),
+              Walked.the-type Laws''.the-laws (List._∷_ (Laws''.the-laws .1 .0 .0 .val (m .1 .1 .1 .1 .1 .1 .1 .1 .1 .1 .1 .1 .1 .1 .1 .1 .1 .1 .1 .1 .1 .0)) (List._∷_ (Laws'10.val Totals.the-type
+              Laws'8.the-laws (m .1 .1 .1 .1 .1 .1 .1 .1 .1 .1 .1 .1 .1 .1 .1 .1 .1 .1 .1 .1 .1 .1 .1 .1 .1 .1 .1 .1 .1 .1 .1 .1 .1 .1 .1 .1 .1 .1 .1 .1 .1 .1 .0)) List.[])) (Walked.enum .make (Logic.inr
+              (Logic.inl (
+                m .1 .1 .1 .1 .1 .1 .1 .1 .1 .1 .1 .1 .1 .1 .1 .1 .1 .1 .1 .1 .1 .0,
+                (m .1 .1 .1 .1 .1 .1 .1 .1 .1 .1 .1 .1 .1 .1 .1 .1 .1 .1 .1 .1 .1 .1 .1 .1 .1 .1 .1 .1 .1 .1 .1 .1 .1 .1 .1 .1 .1 .1 .1 .1 .1 .1 .0, tt),
               )))) (
-                Signed.made-wt Field.u64-field (Laws''.the-laws .1 .0 .0) Make'.u64-wt (m .1 .1 .1 .1 .1 .1 .1 .1 .1 .1 .1 .1 .1 .1 .1 .1 .1 .1 .0),
+                Signed.made-wt Field.u64-field (Laws''.the-laws .1 .0 .0) Make'.u64-wt (m .1 .1 .1 .1 .1 .1 .1 .1 .1 .1 .1 .1 .1 .1 .1 .1 .1 .1 .1 .1 .1 .0),
                 (
                   Signed.made-wt Totals.the-field Laws'8.the-field-laws (Make'.struct-wt Totals.the-type Laws'8.the-laws (Make'.u64-wt, (Make'.u64-wt, tt))) (Totals.the-type .to (m .1 .1 .1 .1 .1 .1 .1 .1 .1
-                      .1 .1 .1 .1 .1 .1 .1 .1 .1 .1 .1 .1 .1 .1 .1 .1 .1 .1 .1 .1 .1 .1 .1 .1 .1 .1 .1 .1 .1 .1 .1 .1 .1 .1 .1 .0)),
+                      .1 .1 .1 .1 .1 .1 .1 .1 .1 .1 .1 .1 .1 .1 .1 .1 .1 .1 .1 .1 .1 .1 .1 .1 .1 .1 .1 .1 .1 .1 .1 .1 .1 .0)),
                   tt,
                 ),
               ) (wa .1)) λ m wa. Make.made-is Walked.the-type Laws''.the-laws (List._∷_
-              (Laws''.the-laws .1 .0 .0 .val (m .1 .1 .1 .1 .1 .1 .1 .1 .1 .1 .1 .1 .1 .1 .1 .1 .1 .1 .0)) (List._∷_ (Laws'10.val Totals.the-type Laws'8.the-laws (m .1 .1 .1 .1 .1 .1 .1 .1 .1 .1 .1 .1 .1
-              .1 .1 .1 .1 .1 .1 .1 .1 .1 .1 .1 .1 .1 .1 .1 .1 .1 .1 .1 .1 .1 .1 .1 .1 .1 .1 .1 .1 .1 .1 .1 .0)) List.[])) (Walked.enum .make (Logic.inr (Logic.inl (
-                m .1 .1 .1 .1 .1 .1 .1 .1 .1 .1 .1 .1 .1 .1 .1 .1 .1 .1 .0,
-                (m .1 .1 .1 .1 .1 .1 .1 .1 .1 .1 .1 .1 .1 .1 .1 .1 .1 .1 .1 .1 .1 .1 .1 .1 .1 .1 .1 .1 .1 .1 .1 .1 .1 .1 .1 .1 .1 .1 .1 .1 .1 .1 .1 .1 .0, tt),
+              (Laws''.the-laws .1 .0 .0 .val (m .1 .1 .1 .1 .1 .1 .1 .1 .1 .1 .1 .1 .1 .1 .1 .1 .1 .1 .1 .1 .1 .0)) (List._∷_ (Laws'10.val Totals.the-type Laws'8.the-laws (m .1 .1 .1 .1 .1 .1 .1 .1 .1 .1
+              .1 .1 .1 .1 .1 .1 .1 .1 .1 .1 .1 .1 .1 .1 .1 .1 .1 .1 .1 .1 .1 .1 .1 .1 .1 .1 .1 .1 .1 .1 .1 .1 .0)) List.[])) (Walked.enum .make (Logic.inr (Logic.inl (
+                m .1 .1 .1 .1 .1 .1 .1 .1 .1 .1 .1 .1 .1 .1 .1 .1 .1 .1 .1 .1 .1 .0,
+                (m .1 .1 .1 .1 .1 .1 .1 .1 .1 .1 .1 .1 .1 .1 .1 .1 .1 .1 .1 .1 .1 .1 .1 .1 .1 .1 .1 .1 .1 .1 .1 .1 .1 .1 .1 .1 .1 .1 .1 .1 .1 .1 .0, tt),
               )))) (
-                Signed.made-wt Field.u64-field (Laws''.the-laws .1 .0 .0) Make'.u64-wt (m .1 .1 .1 .1 .1 .1 .1 .1 .1 .1 .1 .1 .1 .1 .1 .1 .1 .1 .0),
+                Signed.made-wt Field.u64-field (Laws''.the-laws .1 .0 .0) Make'.u64-wt (m .1 .1 .1 .1 .1 .1 .1 .1 .1 .1 .1 .1 .1 .1 .1 .1 .1 .1 .1 .1 .1 .0),
                 (
                   Signed.made-wt Totals.the-field Laws'8.the-field-laws (Make'.struct-wt Totals.the-type Laws'8.the-laws (Make'.u64-wt, (Make'.u64-wt, tt))) (Totals.the-type .to (m .1 .1 .1 .1 .1 .1 .1 .1 .1
-                      .1 .1 .1 .1 .1 .1 .1 .1 .1 .1 .1 .1 .1 .1 .1 .1 .1 .1 .1 .1 .1 .1 .1 .1 .1 .1 .1 .1 .1 .1 .1 .1 .1 .1 .1 .0)),
+                      .1 .1 .1 .1 .1 .1 .1 .1 .1 .1 .1 .1 .1 .1 .1 .1 .1 .1 .1 .1 .1 .1 .1 .1 .1 .1 .1 .1 .1 .1 .1 .1 .1 .0)),
                   tt,
                 ),
-              ) (wa .1)) d21
+              ) (wa .1)) d23
 
-          d23 : Typed.Typed 𝓤 H A 𝓣 E G107 b41 Δ5 at23
-          d23 = Typed.g-pre 𝓤 H A W 𝓣 E G107 G108 b41 Δ5 (Typed.pass T107 T108 s103) at22 (Scalar.g-room 𝓤 H A W E G107 16 y10 (Local.room-whole 𝓤 H A W (Declared'.row Place.the-type) y10 Path'.refl))
-              d22
+          d25 : Typed.Typed 𝓤 H A 𝓣 E G92 b36 Δ5 at25
+          d25 = Typed.g-pre 𝓤 H A W 𝓣 E G92 G93 b36 Δ5 (Typed.pass T92 T93 s88) at24 (Scalar.g-room 𝓤 H A W E G92 18 y10 (Local.room-whole 𝓤 H A W (Declared'.row Place.the-type) y10 Path'.refl)) d24
 
-          d24 : Typed.Typed 𝓤 H A 𝓣 E G106 b42 Δ5 at24
-          d24 = Typed.s-seq 𝓤 H A W 𝓣 E G106 G107 b38 b41 Δ5 (Typed.both s102) at23 (Plain.t-call-plain 𝓤 H A W 𝓣 0 ps·12 r·12 (claims· .24) (claims· .25) "block::reading::totals_at" (known .12) E (λ
-              pos β. β) G106 (record { pos = 16; st = List.[]; d = 0; at = λ x. x }, tt) 44 List.[] (Call.sub-id 𝓤 H A W (G106 .slots)) (
+          d26 : Typed.Typed 𝓤 H A 𝓣 E G91 b37 Δ5 at26
+          d26 = Typed.s-seq 𝓤 H A W 𝓣 E G91 G92 b33 b36 Δ5 (Typed.both s87) at25 (Plain.t-call-plain 𝓤 H A W 𝓣 0 ps·1 r·1 (claims· .2) (claims· .3) "block::reading::totals_at" (known .1) E (λ pos β.
+              β) G91 (record { pos = 18; st = List.[]; d = 0; at = λ x. x }, tt) 42 List.[] (Call.sub-id 𝓤 H A W (G91 .slots)) (
                 (
                   Yields.yields-copy 𝓤 H A W (λ ρ. Unit) (Declared'.row Place.the-type) Path'.refl (Copies.cStruct Place.the-type Laws'4.the-laws Laws'4.the-copy .copy 𝓤 H A W) (Rows'.whole (Declared'.row
                       Place.the-type)) (λ x. x) (λ x. x) (λ ρ told. Local.mem-whole 𝓤 H A W (Declared'.row Place.the-type) ρ) λ ρ told. Local.whole-mem 𝓤 H A W (Declared'.row Place.the-type) ρ,
@@ -4562,40 +4271,40 @@ module _ (claims· : Claims) where
                 ),
                 tt,
               )
-              (Reads'.room-gone 𝓤 H A y3) tt Path'.refl) d23
+              (Reads'.room-gone 𝓤 H A y3) tt Path'.refl) d25
 
-          d25 : Typed.Typed 𝓤 H A 𝓣 E G105 b42 Δ5 at25
-          d25 = Typed.g-pre 𝓤 H A W 𝓣 E G105 G106 b42 Δ5 (λ Ψ. Ψ) at24 (Lifetime.g-forget 𝓤 H A W E G105 13 Row.dead Path'.refl) d24
+          d27 : Typed.Typed 𝓤 H A 𝓣 E G90 b37 Δ5 at27
+          d27 = Typed.g-pre 𝓤 H A W 𝓣 E G90 G91 b37 Δ5 (λ Ψ. Ψ) at26 (Lifetime.g-forget 𝓤 H A W E G90 11 Row.dead Path'.refl) d26
 
-          d26 : Typed.Typed 𝓤 H A 𝓣 E G104 b42 Δ5 at26
-          d26 = Typed.g-pre 𝓤 H A W 𝓣 E G104 G105 b42 Δ5 (Typed.give s100) at25 (Know.g-sl-known 𝓤 H A W (Referent.fInt Syntax.w16) E G104 5 4 (Syntax.tyRef (Syntax.named 4) Syntax.mut (Syntax.tyInt
+          d28 : Typed.Typed 𝓤 H A 𝓣 E G89 b37 Δ5 at28
+          d28 = Typed.g-pre 𝓤 H A W 𝓣 E G89 G90 b37 Δ5 (Typed.give s85) at27 (Know.g-sl-known 𝓤 H A W (Referent.fInt Syntax.w16) E G89 5 4 (Syntax.tyRef (Syntax.named 4) Syntax.mut (Syntax.tyInt
               Syntax.w16)) (Row.lease (κs .1 .1 .1 .1 .0) (qs .1 .1 .1 .1 .0)) 0 (λ x. x) record { fits = Dec'.lit< tt } (Reads'.as-is 𝓤 H A (Mut.mslice (Referent.rtF (Referent.fInt Syntax.w16))
-              (Syntax.tyRef (Syntax.named 4) Syntax.mut (Syntax.tyInt Syntax.w16)) 4)) Path'.refl tt) d25
+              (Syntax.tyRef (Syntax.named 4) Syntax.mut (Syntax.tyInt Syntax.w16)) 4)) Path'.refl tt) d27
 
-          d27 : Typed.Typed 𝓤 H A 𝓣 E G103 b42 Δ5 at27
-          d27 = Typed.g-pre 𝓤 H A W 𝓣 E G103 G104 b42 Δ5 (Typed.both s99) at26 (Relend.g-back-sl 𝓤 H A W E (Referent.rtF (Referent.fInt Syntax.w16)) G103 43 5 4 13 (Syntax.tyRef (Syntax.named 4)
+          d29 : Typed.Typed 𝓤 H A 𝓣 E G88 b37 Δ5 at29
+          d29 = Typed.g-pre 𝓤 H A W 𝓣 E G88 G89 b37 Δ5 (Typed.both s84) at28 (Relend.g-back-sl 𝓤 H A W E (Referent.rtF (Referent.fInt Syntax.w16)) G88 41 5 4 11 (Syntax.tyRef (Syntax.named 4)
               Syntax.mut (Syntax.tyInt Syntax.w16)) (Syntax.tyRef Syntax.erased Syntax.mut (Syntax.tyInt Syntax.w16)) (Row.lease (κs .1 .1 .1 .1 .0) (qs .1 .1 .1 .1 .0)) (λ x. x) (λ x. x) (Reads'.as-is 𝓤
               H A (Mut.msleft (Referent.rtF (Referent.fInt Syntax.w16)) (Syntax.tyRef Syntax.erased Syntax.mut (Syntax.tyInt Syntax.w16)))) (Reads'.as-is 𝓤 H A (Relend.mslice-owed (Referent.rtF
-              (Referent.fInt Syntax.w16)) (Syntax.tyRef (Syntax.named 4) Syntax.mut (Syntax.tyInt Syntax.w16)) 4 13 (Row.lease (κs .1 .1 .1 .1 .0) (qs .1 .1 .1 .1 .0)))) Path'.refl Path'.refl) d26
+              (Referent.fInt Syntax.w16)) (Syntax.tyRef (Syntax.named 4) Syntax.mut (Syntax.tyInt Syntax.w16)) 4 11 (Row.lease (κs .1 .1 .1 .1 .0) (qs .1 .1 .1 .1 .0)))) Path'.refl Path'.refl) d28
 
-          d28 : Typed.Typed 𝓤 H A 𝓣 E G102 b42 Δ5 at28
-          d28 = Typed.g-pre 𝓤 H A W 𝓣 E G102 G103 b42 Δ5 (λ Ψ. Ψ) at27 (Lifetime.g-end 𝓤 H A W E G102 13 Path'.refl) d27
+          d30 : Typed.Typed 𝓤 H A 𝓣 E G87 b37 Δ5 at30
+          d30 = Typed.g-pre 𝓤 H A W 𝓣 E G87 G88 b37 Δ5 (λ Ψ. Ψ) at29 (Lifetime.g-end 𝓤 H A W E G87 11 Path'.refl) d29
 
-          d29 : Typed.Typed 𝓤 H A 𝓣 E G101 b42 Δ5 at29
-          d29 = Typed.g-pre 𝓤 H A W 𝓣 E G101 G102 b42 Δ5 (Typed.pass T101 T102 s97) at28 (Scalar.g-room 𝓤 H A W E G101 41 Syntax.tyUnit (Scalar.room-sc 𝓤 H A W Row.sUnit)) d28
+          d31 : Typed.Typed 𝓤 H A 𝓣 E G86 b37 Δ5 at31
+          d31 = Typed.g-pre 𝓤 H A W 𝓣 E G86 G87 b37 Δ5 (Typed.pass T86 T87 s82) at30 (Scalar.g-room 𝓤 H A W E G86 39 Syntax.tyUnit (Scalar.room-sc 𝓤 H A W Row.sUnit)) d30
 
-          d30 : Typed.Typed 𝓤 H A 𝓣 E G100 b42 Δ5 at30
-          d30 = Typed.g-pre 𝓤 H A W 𝓣 E G100 G101 b42 Δ5 (Typed.pass T100 T101 s96) at29 (Scalar.g-room 𝓤 H A W E G100 9 y0 (Local.room-whole 𝓤 H A W (Declared'.row Part.the-type) y0 Path'.refl)) d29
+          d32 : Typed.Typed 𝓤 H A 𝓣 E G85 b37 Δ5 at32
+          d32 = Typed.g-pre 𝓤 H A W 𝓣 E G85 G86 b37 Δ5 (Typed.pass T85 T86 s81) at31 (Scalar.g-room 𝓤 H A W E G85 9 y0 (Local.room-whole 𝓤 H A W (Declared'.row Part.the-type) y0 Path'.refl)) d31
 
-          d31 : Typed.Typed 𝓤 H A 𝓣 E G99 b43 Δ5 at31
-          d31 = Typed.s-seq 𝓤 H A W 𝓣 E G99 G100 b37 b42 Δ5 (Typed.both s95) at30 (Plain.t-call-plain 𝓤 H A W 𝓣 1 ps·11 r·11 (claims· .22) (claims· .23) "map::windows::zero_line" (known .11) E (λ pos
-              β. β) G99 (
-                record { pos = 43; ty = Syntax.tyRef Syntax.erased Syntax.mut (Syntax.tyInt Syntax.w16); ref = λ x. x },
-                (record { pos = 9; st = List.[]; d = 0; at = λ x. x }, (Num.vAt 18 λ x. x, (Bool.bAt 11 λ x. x, tt))),
-              ) 41 (List._∷_ 13 List.[]) (Call.sub-id 𝓤 H A W (G99 .slots)) (
-                Reads'.as-is 𝓤 H A (Mut.mslice (Referent.rtF (Referent.fInt Syntax.w16)) (Syntax.tyRef Syntax.erased Syntax.mut (Syntax.tyInt Syntax.w16)) 13),
+          d33 : Typed.Typed 𝓤 H A 𝓣 E G84 b38 Δ5 at33
+          d33 = Typed.s-seq 𝓤 H A W 𝓣 E G84 G85 b32 b37 Δ5 (Typed.both s80) at32 (Plain.t-call-plain 𝓤 H A W 𝓣 1 ps·9 r·9 (claims· .18) (claims· .19) "map::windows::zero_line" (known .9) E (λ pos β.
+              β) G84 (
+                record { pos = 41; ty = Syntax.tyRef Syntax.erased Syntax.mut (Syntax.tyInt Syntax.w16); ref = λ x. x },
+                (record { pos = 9; st = List.[]; d = 0; at = λ x. x }, (Num.vAt 21 λ x. x, (Bool.bAt 13 λ x. x, tt))),
+              ) 39 (List._∷_ 11 List.[]) (Call.sub-id 𝓤 H A W (G84 .slots)) (
+                Reads'.as-is 𝓤 H A (Mut.mslice (Referent.rtF (Referent.fInt Syntax.w16)) (Syntax.tyRef Syntax.erased Syntax.mut (Syntax.tyInt Syntax.w16)) 11),
                 Mut.reads-mslice 𝓤 H A W (Referent.rtF
-                    (Referent.fInt Syntax.w16)) (Syntax.tyRef Syntax.erased Syntax.mut (Syntax.tyInt Syntax.w16)) 13,
+                    (Referent.fInt Syntax.w16)) (Syntax.tyRef Syntax.erased Syntax.mut (Syntax.tyInt Syntax.w16)) 11,
                 Path'.refl,
                 (
                   (
@@ -4605,26 +4314,26 @@ module _ (claims· : Claims) where
                   ),
                   ((Scalar.reads-sc 𝓤 H A W (Row.sInt Syntax.w64), Path'.refl), ((Scalar.reads-sc 𝓤 H A W Row.sBool, Path'.refl), tt)),
                 ),
-              ) (Reads'.room-gone 𝓤 H A Syntax.tyUnit) (tt, tt) Path'.refl) d30
+              ) (Reads'.room-gone 𝓤 H A Syntax.tyUnit) (tt, tt) Path'.refl) d32
 
-          d32 : Typed.Typed 𝓤 H A 𝓣 E G98 b44 Δ5 at32
-          d32 = Typed.s-seq 𝓤 H A W 𝓣 E G98 G99 b36 b43 Δ5 (Typed.ask s94) at31 (Relend.t-sl-aggregate 𝓤 H A W E (Referent.rtF (Referent.fInt Syntax.w16)) 𝓣 (Relend.asMut (Referent.rtF (Referent.fInt
-              Syntax.w16))) G98 42 43 13 (Syntax.tyRef Syntax.erased Syntax.mut (Syntax.tyInt Syntax.w16)) (Syntax.tyRef Syntax.erased Syntax.mut (Syntax.tyInt Syntax.w16)) (λ x. x) (Scalar.oFld 5
+          d34 : Typed.Typed 𝓤 H A 𝓣 E G83 b39 Δ5 at34
+          d34 = Typed.s-seq 𝓤 H A W 𝓣 E G83 G84 b31 b38 Δ5 (Typed.ask s79) at33 (Relend.t-sl-aggregate 𝓤 H A W E (Referent.rtF (Referent.fInt Syntax.w16)) 𝓣 (Relend.asMut (Referent.rtF (Referent.fInt
+              Syntax.w16))) G83 40 41 11 (Syntax.tyRef Syntax.erased Syntax.mut (Syntax.tyInt Syntax.w16)) (Syntax.tyRef Syntax.erased Syntax.mut (Syntax.tyInt Syntax.w16)) (λ x. x) (Scalar.oFld 5
               (List._∷_ (Syntax.field 1) List.[]) (Syntax.tyInt Syntax.w64) 8 λ v. Shared.lenV (v .0)) (Reads'.as-is 𝓤 H A (Relend.msptr (Referent.rtF (Referent.fInt Syntax.w16)) (Syntax.tyRef
-              Syntax.erased Syntax.mut (Syntax.tyInt Syntax.w16)) 13)) (Reads'.room-gone 𝓤 H A y5) (
-                Relend.reads-owed-len 𝓤 H A W (Referent.rtF (Referent.fInt Syntax.w16)) (Syntax.tyRef (Syntax.named 4) Syntax.mut (Syntax.tyInt Syntax.w16)) 4 13 (Row.lease (κs .1 .1 .1 .1 .0) (qs .1 .1 .1
+              Syntax.erased Syntax.mut (Syntax.tyInt Syntax.w16)) 11)) (Reads'.room-gone 𝓤 H A y5) (
+                Relend.reads-owed-len 𝓤 H A W (Referent.rtF (Referent.fInt Syntax.w16)) (Syntax.tyRef (Syntax.named 4) Syntax.mut (Syntax.tyInt Syntax.w16)) 4 11 (Row.lease (κs .1 .1 .1 .1 .0) (qs .1 .1 .1
                     .1 .0)) 8 Path'.refl,
                 Path'.refl,
-              ) Path'.refl Path'.refl λ b o k. tt) d31
+              ) Path'.refl Path'.refl λ b o k. tt) d33
 
-          d33 : Typed.Typed 𝓤 H A 𝓣 E G97 b45 Δ5 at33
-          d33 = Typed.s-seq 𝓤 H A W 𝓣 E G97 G98 b35 b44 Δ5 (Typed.give s93) at32 (Relend.t-sl-relend 𝓤 H A W E (Referent.rtF (Referent.fInt Syntax.w16)) 𝓣 G97 5 42 4 13 (Syntax.tyRef (Syntax.named 4)
+          d35 : Typed.Typed 𝓤 H A 𝓣 E G82 b40 Δ5 at35
+          d35 = Typed.s-seq 𝓤 H A W 𝓣 E G82 G83 b30 b39 Δ5 (Typed.give s78) at34 (Relend.t-sl-relend 𝓤 H A W E (Referent.rtF (Referent.fInt Syntax.w16)) 𝓣 G82 5 40 4 11 (Syntax.tyRef (Syntax.named 4)
               Syntax.mut (Syntax.tyInt Syntax.w16)) (Syntax.tyRef Syntax.erased Syntax.mut (Syntax.tyInt Syntax.w16)) (Row.lease (κs .1 .1 .1 .1 .0) (qs .1 .1 .1 .1 .0)) 0 (λ x. x) (Reads'.as-is 𝓤 H A
               (Mut.mslice (Referent.rtF (Referent.fInt Syntax.w16)) (Syntax.tyRef (Syntax.named 4) Syntax.mut (Syntax.tyInt Syntax.w16)) 4)) (Reads'.room-gone 𝓤 H A (Syntax.tyRef Syntax.erased Syntax.mut
-              (Syntax.tyInt Syntax.w16))) Path'.refl tt Path'.refl Path'.refl Path'.refl λ b o. tt) d32
+              (Syntax.tyInt Syntax.w16))) Path'.refl tt Path'.refl Path'.refl Path'.refl λ b o. tt) d34
 
-          d34 : Typed.Typed 𝓤 H A 𝓣 E G96 b45 Δ5 at34
-          d34 = Typed.g-pre 𝓤 H A W 𝓣 E G96 G97 b45 Δ5 (λ Ψ. Ψ) at33 (Lifetime.g-begin 𝓤 H A W E G96 13 (
+          d36 : Typed.Typed 𝓤 H A 𝓣 E G81 b40 Δ5 at36
+          d36 = Typed.g-pre 𝓤 H A W 𝓣 E G81 G82 b40 Δ5 (λ Ψ. Ψ) at35 (Lifetime.g-begin 𝓤 H A W E G81 11 (
             tt,
             (
               tt,
@@ -4666,16 +4375,7 @@ module _ (claims· : Claims) where
                                                   tt,
                                                   (
                                                     tt,
-                                                    (
-                                                      tt,
-                                                      (
-                                                        tt,
-                                                        (
-                                                          tt,
-                                                          (tt, (tt, (tt, (tt, (tt, (tt, (tt, (tt, (tt, (tt, (tt, (tt, (tt, (tt, (tt, (tt, (tt, (tt, (tt, (tt, (tt, (tt, (tt, (tt, (tt, (tt, (tt, tt))))))))))))))))))))))))))),
-                                                        ),
-                                                      ),
-                                                    ),
+                                                    (tt, (tt, (tt, (tt, (tt, (tt, (tt, (tt, (tt, (tt, (tt, (tt, (tt, (tt, (tt, (tt, (tt, (tt, (tt, (tt, (tt, (tt, (tt, (tt, (tt, (tt, (tt, tt))))))))))))))))))))))))))),
                                                   ),
                                                 ),
                                               ),
@@ -4696,161 +4396,161 @@ module _ (claims· : Claims) where
                 ),
               ),
             ),
-          ))
-              d33
+          )) d35
 
-          d35 : Typed.Typed 𝓤 H A 𝓣 E G95 b45 Δ5 at35
-          d35 = Typed.g-pre 𝓤 H A W 𝓣 E G95 G96 b45 Δ5 (Typed.pass T95 T96 s91) at34 (Scalar.g-room 𝓤 H A W E G95 20 (Syntax.tyEnum (List._∷_ 98 (List._∷_ 108 (List._∷_ 111 (List._∷_ 99 (List._∷_ 107
+          d37 : Typed.Typed 𝓤 H A 𝓣 E G80 b40 Δ5 at37
+          d37 = Typed.g-pre 𝓤 H A W 𝓣 E G80 G81 b40 Δ5 (Typed.pass T80 T81 s76) at36 (Scalar.g-room 𝓤 H A W E G80 23 (Syntax.tyEnum (List._∷_ 98 (List._∷_ 108 (List._∷_ 111 (List._∷_ 99 (List._∷_ 107
               (List._∷_ 58 (List._∷_ 58 (List._∷_ 76 (List._∷_ 105 (List._∷_ 110 (List._∷_ 101 (List._∷_ 100 List.[])))))))))))) (Syntax.ttcons (Syntax.tcons y10 Syntax.tnil) (Syntax.ttcons Syntax.tnil
               Syntax.ttnil))) (Local.room-whole 𝓤 H A W (Declared.row Lined.the-type) (Syntax.tyEnum (List._∷_ 98 (List._∷_ 108 (List._∷_ 111 (List._∷_ 99 (List._∷_ 107 (List._∷_ 58 (List._∷_ 58 (List._∷_
-              76 (List._∷_ 105 (List._∷_ 110 (List._∷_ 101 (List._∷_ 100 List.[])))))))))))) (Syntax.ttcons (Syntax.tcons y10 Syntax.tnil) (Syntax.ttcons Syntax.tnil Syntax.ttnil))) Path'.refl)) d34
+              76 (List._∷_ 105 (List._∷_ 110 (List._∷_ 101 (List._∷_ 100 List.[])))))))))))) (Syntax.ttcons (Syntax.tcons y10 Syntax.tnil) (Syntax.ttcons Syntax.tnil Syntax.ttnil))) Path'.refl)) d36
 
-          d36 : Typed.Typed 𝓤 H A 𝓣 E G94 b45 Δ5 at36
-          d36 = Typed.g-pre 𝓤 H A W 𝓣 E G94 G95 b45 Δ5 (Typed.pass T94 T95 s90) at35 (Scalar.g-room 𝓤 H A W E G94 17 y9 (Local.room-whole 𝓤 H A W (Declared'.row TightLines.the-type) y9 Path'.refl))
-              d35
+          d38 : Typed.Typed 𝓤 H A 𝓣 E G79 b40 Δ5 at38
+          d38 = Typed.g-pre 𝓤 H A W 𝓣 E G79 G80 b40 Δ5 (Typed.pass T79 T80 s75) at37 (Scalar.g-room 𝓤 H A W E G79 19 y9 (Local.room-whole 𝓤 H A W (Declared'.row TightLines.the-type) y9 Path'.refl))
+              d37
 
-          d37 : Typed.Typed 𝓤 H A 𝓣 E G93 b45 Δ5 at37
-          d37 = Typed.g-pre 𝓤 H A W 𝓣 E G93 G94 b45 Δ5 (Typed.pass T93 T94 s89) at36 (Scalar.g-room 𝓤 H A W E G93 12 y12 (Local.room-whole 𝓤 H A W (Declared'.row Entries.the-type) y12 Path'.refl)) d36
+          d39 : Typed.Typed 𝓤 H A 𝓣 E G78 b40 Δ5 at39
+          d39 = Typed.g-pre 𝓤 H A W 𝓣 E G78 G79 b40 Δ5 (Typed.pass T78 T79 s74) at38 (Scalar.g-room 𝓤 H A W E G78 14 y12 (Local.room-whole 𝓤 H A W (Declared'.row Entries.the-type) y12 Path'.refl)) d38
 
-          d38 : Typed.Typed 𝓤 H A 𝓣 E G92 b45 Δ5 at38
-          d38 = Typed.g-pre 𝓤 H A W 𝓣 E G92 G93 b45 Δ5 (Typed.pass T92 T93 s88) at37 (Scalar.g-room 𝓤 H A W E G92 8 (Syntax.tyArray (Syntax.tyInt Syntax.w8) 36) (Init.room-arr 𝓤 H A W (Referent.rtF
-              (Referent.fInt Syntax.w8)) 36 0 36 Path'.refl)) d37
+          d40 : Typed.Typed 𝓤 H A 𝓣 E G77 b40 Δ5 at40
+          d40 = Typed.g-pre 𝓤 H A W 𝓣 E G77 G78 b40 Δ5 (Typed.pass T77 T78 s73) at39 (Scalar.g-room 𝓤 H A W E G77 8 (Syntax.tyArray (Syntax.tyInt Syntax.w8) 36) (Init.room-arr 𝓤 H A W (Referent.rtF
+              (Referent.fInt Syntax.w8)) 36 0 36 Path'.refl)) d39
 
-          d39 : Typed.Typed 𝓤 H A 𝓣 E G91 b45 Δ5 at39
-          d39 = Typed.g-pre 𝓤 H A W 𝓣 E G91 G92 b45 Δ5 (Typed.pass T91 T92 s87) at38 (Scalar.g-room 𝓤 H A W E G91 6 y8 (Local.room-whole 𝓤 H A W (Declared'.row Form.the-type) y8 Path'.refl)) d38
+          d41 : Typed.Typed 𝓤 H A 𝓣 E G76 b40 Δ5 at41
+          d41 = Typed.g-pre 𝓤 H A W 𝓣 E G76 G77 b40 Δ5 (Typed.pass T76 T77 s72) at40 (Scalar.g-room 𝓤 H A W E G76 6 y8 (Local.room-whole 𝓤 H A W (Declared'.row Form.the-type) y8 Path'.refl)) d40
 
-          d40 : Typed.Typed 𝓤 H A 𝓣 E G85 b45 Δ5 at40
-          d40 = Typed.g-pre 𝓤 H A W 𝓣 E G85 G91 b45 Δ5 (Typed.both s86) at39 (Known.g-enum-told 𝓤 H A W E Lined.enum 1 G85 20 λ x. x) d39
+          d42 : Typed.Typed 𝓤 H A 𝓣 E G70 b40 Δ5 at42
+          d42 = Typed.g-pre 𝓤 H A W 𝓣 E G70 G76 b40 Δ5 (Typed.both s71) at41 (Known.g-enum-told 𝓤 H A W E Lined.enum 1 G70 23 λ x. x) d41
 
-          d41 : Typed.Typed 𝓤 H A 𝓣 E G85 b46 Δ5 at41
-          d41 = Switch.t-switch-on 𝓤 H A W E 𝓣 G85 (Scalar.oFld 20 (List._∷_ (Syntax.variant 0) (List._∷_ (Syntax.field 0) List.[])) (Syntax.tyInt Syntax.w8) 0 λ x. Val.vint Syntax.w8 (Declared.tagOf
-              Lined.the-type x)) Syntax.w8 (λ u. Declared.tagOf Lined.the-type (u .1 .1 .1 .1 .1 .1 .1 .1 .1 .1 .1 .1 .1 .1 .1 .1 .1 .1 .1 .1 .0)) (Syntax.arm (List._∷_ 0 List.[]) b34 (Syntax.arm
-              (List._∷_ 1 List.[]) b45 Syntax.noDefault)) Δ5 (at12, (at40, tt))
+          d43 : Typed.Typed 𝓤 H A 𝓣 E G70 b41 Δ5 at43
+          d43 = Switch.t-switch-on 𝓤 H A W E 𝓣 G70 (Scalar.oFld 23 (List._∷_ (Syntax.variant 0) (List._∷_ (Syntax.field 0) List.[])) (Syntax.tyInt Syntax.w8) 0 λ x. Val.vint Syntax.w8 (Declared.tagOf
+              Lined.the-type x)) Syntax.w8 (λ u. Declared.tagOf Lined.the-type (u .1 .1 .1 .1 .1 .1 .1 .1 .1 .1 .1 .1 .1 .1 .1 .1 .1 .1 .1 .1 .1 .1 .1 .0)) (Syntax.arm (List._∷_ 0 List.[]) b29 (Syntax.arm
+              (List._∷_ 1 List.[]) b40 Syntax.noDefault)) Δ5 (at12, (at42, tt))
               (Match.reads-tag 𝓤 H A W Lined.the-type Laws'.the-laws (Rows'.whole (Declared.row Lined.the-type)) 0 (λ x. x) (Whole.reads-enum 𝓤 H A W Lined.the-type Laws'.the-laws), Path'.refl) (λ u.
-              Path'.refl) (d12, (d40, tt))
+              Path'.refl) (d12, (d42, tt))
 
-          d42 : Typed.Typed 𝓤 H A 𝓣 E G84 b46 Δ5 at42
-          d42 = Typed.g-pre 𝓤 H A W 𝓣 E G84 G85 b46 Δ5 (λ Ψ. Ψ) at41 (Lifetime.g-forget 𝓤 H A W E G84 12 Row.dead Path'.refl) d41
+          d44 : Typed.Typed 𝓤 H A 𝓣 E G69 b41 Δ5 at44
+          d44 = Typed.g-pre 𝓤 H A W 𝓣 E G69 G70 b41 Δ5 (λ Ψ. Ψ) at43 (Lifetime.g-forget 𝓤 H A W E G69 10 Row.dead Path'.refl) d43
 
-          d43 : Typed.Typed 𝓤 H A 𝓣 E G83 b46 Δ5 at43
-          d43 = Typed.g-pre 𝓤 H A W 𝓣 E G83 G84 b46 Δ5 (Typed.give s79) at42 (Know.g-sl-known 𝓤 H A W (Referent.fInt Syntax.w16) E G83 5 4 (Syntax.tyRef (Syntax.named 4) Syntax.mut (Syntax.tyInt
+          d45 : Typed.Typed 𝓤 H A 𝓣 E G68 b41 Δ5 at45
+          d45 = Typed.g-pre 𝓤 H A W 𝓣 E G68 G69 b41 Δ5 (Typed.give s64) at44 (Know.g-sl-known 𝓤 H A W (Referent.fInt Syntax.w16) E G68 5 4 (Syntax.tyRef (Syntax.named 4) Syntax.mut (Syntax.tyInt
               Syntax.w16)) (Row.lease (κs .1 .1 .1 .1 .0) (qs .1 .1 .1 .1 .0)) 0 (λ x. x) record { fits = Dec'.lit< tt } (Reads'.as-is 𝓤 H A (Mut.mslice (Referent.rtF (Referent.fInt Syntax.w16))
-              (Syntax.tyRef (Syntax.named 4) Syntax.mut (Syntax.tyInt Syntax.w16)) 4)) Path'.refl tt) d42
+              (Syntax.tyRef (Syntax.named 4) Syntax.mut (Syntax.tyInt Syntax.w16)) 4)) Path'.refl tt) d44
 
-          d44 : Typed.Typed 𝓤 H A 𝓣 E G82 b46 Δ5 at44
-          d44 = Typed.g-pre 𝓤 H A W 𝓣 E G82 G83 b46 Δ5 (Typed.both s78) at43 (Relend.g-back-sl 𝓤 H A W E (Referent.rtF (Referent.fInt Syntax.w16)) G82 39 5 4 12 (Syntax.tyRef (Syntax.named 4)
+          d46 : Typed.Typed 𝓤 H A 𝓣 E G67 b41 Δ5 at46
+          d46 = Typed.g-pre 𝓤 H A W 𝓣 E G67 G68 b41 Δ5 (Typed.both s63) at45 (Relend.g-back-sl 𝓤 H A W E (Referent.rtF (Referent.fInt Syntax.w16)) G67 37 5 4 10 (Syntax.tyRef (Syntax.named 4)
               Syntax.mut (Syntax.tyInt Syntax.w16)) (Syntax.tyRef Syntax.erased Syntax.mut (Syntax.tyInt Syntax.w16)) (Row.lease (κs .1 .1 .1 .1 .0) (qs .1 .1 .1 .1 .0)) (λ x. x) (λ x. x) (Reads'.as-is 𝓤
               H A (Mut.msleft (Referent.rtF (Referent.fInt Syntax.w16)) (Syntax.tyRef Syntax.erased Syntax.mut (Syntax.tyInt Syntax.w16)))) (Reads'.as-is 𝓤 H A (Relend.mslice-owed (Referent.rtF
-              (Referent.fInt Syntax.w16)) (Syntax.tyRef (Syntax.named 4) Syntax.mut (Syntax.tyInt Syntax.w16)) 4 12 (Row.lease (κs .1 .1 .1 .1 .0) (qs .1 .1 .1 .1 .0)))) Path'.refl Path'.refl) d43
+              (Referent.fInt Syntax.w16)) (Syntax.tyRef (Syntax.named 4) Syntax.mut (Syntax.tyInt Syntax.w16)) 4 10 (Row.lease (κs .1 .1 .1 .1 .0) (qs .1 .1 .1 .1 .0)))) Path'.refl Path'.refl) d45
 
-          d45 : Typed.Typed 𝓤 H A 𝓣 E G81 b46 Δ5 at45
-          d45 = Typed.g-pre 𝓤 H A W 𝓣 E G81 G82 b46 Δ5 (λ Ψ. Ψ) at44 (Lifetime.g-end 𝓤 H A W E G81 12 Path'.refl) d44
+          d47 : Typed.Typed 𝓤 H A 𝓣 E G66 b41 Δ5 at47
+          d47 = Typed.g-pre 𝓤 H A W 𝓣 E G66 G67 b41 Δ5 (λ Ψ. Ψ) at46 (Lifetime.g-end 𝓤 H A W E G66 10 Path'.refl) d46
 
-          d46 : Typed.Typed 𝓤 H A 𝓣 E G80 b46 Δ5 at46
-          d46 = Typed.g-pre 𝓤 H A W 𝓣 E G80 G81 b46 Δ5 (λ Ψ. Ψ) at45 (Lifetime.g-forget 𝓤 H A W E G80 11 Row.dead Path'.refl) d45
+          d48 : Typed.Typed 𝓤 H A 𝓣 E G65 b41 Δ5 at48
+          d48 = Typed.g-pre 𝓤 H A W 𝓣 E G65 G66 b41 Δ5 (λ Ψ. Ψ) at47 (Lifetime.g-forget 𝓤 H A W E G65 9 Row.dead Path'.refl) d47
 
-          d47 : Typed.Typed 𝓤 H A 𝓣 E G79 b46 Δ5 at47
-          d47 = Typed.g-pre 𝓤 H A W 𝓣 E G79 G80 b46 Δ5 (Typed.both s75) at46 (Relend.g-back-sl 𝓤 H A W E (Element.type) G79 37 4 3 11 (Syntax.tyRef (Syntax.named 3) Syntax.mut Element.behind)
+          d49 : Typed.Typed 𝓤 H A 𝓣 E G64 b41 Δ5 at49
+          d49 = Typed.g-pre 𝓤 H A W 𝓣 E G64 G65 b41 Δ5 (Typed.both s60) at48 (Relend.g-back-sl 𝓤 H A W E (Element.type) G64 35 4 3 9 (Syntax.tyRef (Syntax.named 3) Syntax.mut Element.behind)
               (Syntax.tyRef Syntax.erased Syntax.mut Element.behind) (Row.lease (κs .1 .1 .1 .0) (qs .1 .1 .1 .0)) (λ x. x) (λ x. x) (Reads'.as-is 𝓤 H A (Mut.msleft (Element.type) (Syntax.tyRef
-              Syntax.erased Syntax.mut Element.behind))) (Reads'.as-is 𝓤 H A (Relend.mslice-owed (Element.type) (Syntax.tyRef (Syntax.named 3) Syntax.mut Element.behind) 3 11 (Row.lease (κs .1 .1 .1 .0)
-              (qs .1 .1 .1 .0)))) Path'.refl Path'.refl) d46
+              Syntax.erased Syntax.mut Element.behind))) (Reads'.as-is 𝓤 H A (Relend.mslice-owed (Element.type) (Syntax.tyRef (Syntax.named 3) Syntax.mut Element.behind) 3 9 (Row.lease (κs .1 .1 .1 .0)
+              (qs .1 .1 .1 .0)))) Path'.refl Path'.refl) d48
 
-          d48 : Typed.Typed 𝓤 H A 𝓣 E G78 b46 Δ5 at48
-          d48 = Typed.g-pre 𝓤 H A W 𝓣 E G78 G79 b46 Δ5 (λ Ψ. Ψ) at47 (Lifetime.g-end 𝓤 H A W E G78 11 Path'.refl) d47
+          d50 : Typed.Typed 𝓤 H A 𝓣 E G63 b41 Δ5 at50
+          d50 = Typed.g-pre 𝓤 H A W 𝓣 E G63 G64 b41 Δ5 (λ Ψ. Ψ) at49 (Lifetime.g-end 𝓤 H A W E G63 9 Path'.refl) d49
 
-          d49 : Typed.Typed 𝓤 H A 𝓣 E G77 b46 Δ5 at49
-          d49 = Typed.g-pre 𝓤 H A W 𝓣 E G77 G78 b46 Δ5 (λ Ψ. Ψ) at48 (Lifetime.g-forget 𝓤 H A W E G77 10 Row.dead Path'.refl) d48
+          d51 : Typed.Typed 𝓤 H A 𝓣 E G62 b41 Δ5 at51
+          d51 = Typed.g-pre 𝓤 H A W 𝓣 E G62 G63 b41 Δ5 (λ Ψ. Ψ) at50 (Lifetime.g-forget 𝓤 H A W E G62 8 Row.dead Path'.refl) d50
 
-          d50 : Typed.Typed 𝓤 H A 𝓣 E G76 b46 Δ5 at50
-          d50 = Typed.g-pre 𝓤 H A W 𝓣 E G76 G77 b46 Δ5 (Typed.give s72) at49 (Know.g-sl-known 𝓤 H A W (Referent.fInt Syntax.w16) E G76 3 2 (Syntax.tyRef (Syntax.named 2) Syntax.mut (Syntax.tyInt
+          d52 : Typed.Typed 𝓤 H A 𝓣 E G61 b41 Δ5 at52
+          d52 = Typed.g-pre 𝓤 H A W 𝓣 E G61 G62 b41 Δ5 (Typed.give s57) at51 (Know.g-sl-known 𝓤 H A W (Referent.fInt Syntax.w16) E G61 3 2 (Syntax.tyRef (Syntax.named 2) Syntax.mut (Syntax.tyInt
               Syntax.w16)) (Row.lease (κs .1 .1 .0) (qs .1 .1 .0)) 0 (λ x. x) record { fits = Dec'.lit< tt } (Reads'.as-is 𝓤 H A (Mut.mslice (Referent.rtF (Referent.fInt Syntax.w16)) (Syntax.tyRef
-              (Syntax.named 2) Syntax.mut (Syntax.tyInt Syntax.w16)) 2)) Path'.refl tt) d49
+              (Syntax.named 2) Syntax.mut (Syntax.tyInt Syntax.w16)) 2)) Path'.refl tt) d51
 
-          d51 : Typed.Typed 𝓤 H A 𝓣 E G75 b46 Δ5 at51
-          d51 = Typed.g-pre 𝓤 H A W 𝓣 E G75 G76 b46 Δ5 (Typed.both s71) at50 (Relend.g-back-sl 𝓤 H A W E (Referent.rtF (Referent.fInt Syntax.w16)) G75 35 3 2 10 (Syntax.tyRef (Syntax.named 2)
+          d53 : Typed.Typed 𝓤 H A 𝓣 E G60 b41 Δ5 at53
+          d53 = Typed.g-pre 𝓤 H A W 𝓣 E G60 G61 b41 Δ5 (Typed.both s56) at52 (Relend.g-back-sl 𝓤 H A W E (Referent.rtF (Referent.fInt Syntax.w16)) G60 33 3 2 8 (Syntax.tyRef (Syntax.named 2)
               Syntax.mut (Syntax.tyInt Syntax.w16)) (Syntax.tyRef Syntax.erased Syntax.mut (Syntax.tyInt Syntax.w16)) (Row.lease (κs .1 .1 .0) (qs .1 .1 .0)) (λ x. x) (λ x. x) (Reads'.as-is 𝓤 H A
               (Mut.msleft (Referent.rtF (Referent.fInt Syntax.w16)) (Syntax.tyRef Syntax.erased Syntax.mut (Syntax.tyInt Syntax.w16)))) (Reads'.as-is 𝓤 H A (Relend.mslice-owed (Referent.rtF (Referent.fInt
-              Syntax.w16)) (Syntax.tyRef (Syntax.named 2) Syntax.mut (Syntax.tyInt Syntax.w16)) 2 10 (Row.lease (κs .1 .1 .0) (qs .1 .1 .0)))) Path'.refl Path'.refl) d50
+              Syntax.w16)) (Syntax.tyRef (Syntax.named 2) Syntax.mut (Syntax.tyInt Syntax.w16)) 2 8 (Row.lease (κs .1 .1 .0) (qs .1 .1 .0)))) Path'.refl Path'.refl) d52
 
-          d52 : Typed.Typed 𝓤 H A 𝓣 E G74 b46 Δ5 at52
-          d52 = Typed.g-pre 𝓤 H A W 𝓣 E G74 G75 b46 Δ5 (λ Ψ. Ψ) at51 (Lifetime.g-end 𝓤 H A W E G74 10 Path'.refl) d51
+          d54 : Typed.Typed 𝓤 H A 𝓣 E G59 b41 Δ5 at54
+          d54 = Typed.g-pre 𝓤 H A W 𝓣 E G59 G60 b41 Δ5 (λ Ψ. Ψ) at53 (Lifetime.g-end 𝓤 H A W E G59 8 Path'.refl) d53
 
-          d53 : Typed.Typed 𝓤 H A 𝓣 E G72 b46 Δ5 at53
-          d53 = Typed.g-pre 𝓤 H A W 𝓣 E G72 G74 b46 Δ5 (Typed.pass T72 T74 s69) at52 (Scalar.g-room 𝓤 H A W E G72 40 y2 (Local.room-whole 𝓤 H A W (Declared'.row Quantisers.the-type) y2 Path'.refl))
-              d52
+          d55 : Typed.Typed 𝓤 H A 𝓣 E G57 b41 Δ5 at55
+          d55 = Typed.g-pre 𝓤 H A W 𝓣 E G57 G59 b41 Δ5 (Typed.pass T57 T59 s54) at54 (Scalar.g-room 𝓤 H A W E G57 38 y2 (Local.room-whole 𝓤 H A W (Declared'.row Quantisers.the-type) y2 Path'.refl))
+              d54
 
-          d54 : Typed.Typed 𝓤 H A 𝓣 E G140 b56 Δ3 at54
-          d54 = Typed.s-typed 𝓤 H A W 𝓣 E G140 b56 Δ3 (λ Ψ. Typed.ask s136 (Typed.pass T141 T142 s137 Ψ)) tt (Typed.g-post 𝓤 H A W 𝓣 E G140 G141 G142 b56 (Typed.ask s136) (Typed.pass T141 T142 s137)
-              (Scalar.t-op2 𝓤 H A W E 𝓣 G140 (Syntax.add Syntax.unsigned) (Scalar.oAt 18 (Syntax.tyInt Syntax.w64) (Row.valS (Row.sInt Syntax.w64))) (Scalar.oInt Syntax.w64 1) 18 (Rows'.sc-here (Row.sInt
-              Syntax.w64)) (Syntax.tyInt Syntax.w64) (Row.valS (Row.sInt Syntax.w64)) (Row.sInt Syntax.w64 .of) (Scalar.reads-sc 𝓤 H A W (Row.sInt Syntax.w64), Path'.refl) tt (Scalar.room-sc 𝓤 H A W
-              (Row.sInt Syntax.w64)) (Scalar.holds-sc 𝓤 H A W (Row.sInt Syntax.w64)) Path'.refl (λ u. Path'.refl) λ u. tt) (Scalar.g-room 𝓤 H A W E G141 19 (Syntax.tyInt Syntax.w32) (Scalar.room-sc 𝓤 H A
-              W (Row.sInt Syntax.w32))))
+          d56 : Typed.Typed 𝓤 H A 𝓣 E G127 b51 Δ3 at56
+          d56 = Typed.s-typed 𝓤 H A W 𝓣 E G127 b51 Δ3 (λ Ψ. Typed.ask s123 (Typed.pass T128 T129 s124 (Typed.pass T129 T130 s125 Ψ))) tt (Typed.g-post 𝓤 H A W 𝓣 E G127 G129 G130 b51 (λ Ψ. Typed.ask
+              s123 (Typed.pass T128 T129 s124 Ψ)) (Typed.pass T129 T130 s125) (Typed.g-post 𝓤 H A W 𝓣 E G127 G128 G129 b51 (Typed.ask s123) (Typed.pass T128 T129 s124) (Scalar.t-op2 𝓤 H A W E 𝓣 G127
+              (Syntax.add Syntax.unsigned) (Scalar.oAt 20 (Syntax.tyInt Syntax.w64) (Row.valS (Row.sInt Syntax.w64))) (Scalar.oInt Syntax.w64 1) 20 (Rows'.sc-here (Row.sInt Syntax.w64)) (Syntax.tyInt
+              Syntax.w64) (Row.valS (Row.sInt Syntax.w64)) (Row.sInt Syntax.w64 .of) (Scalar.reads-sc 𝓤 H A W (Row.sInt Syntax.w64), Path'.refl) tt (Scalar.room-sc 𝓤 H A W (Row.sInt Syntax.w64))
+              (Scalar.holds-sc 𝓤 H A W (Row.sInt Syntax.w64)) Path'.refl (λ u. Path'.refl) λ u. tt) (Scalar.g-room 𝓤 H A W E G128 21 (Syntax.tyInt Syntax.w64) (Scalar.room-sc 𝓤 H A W (Row.sInt
+              Syntax.w64)))) (Scalar.g-room 𝓤 H A W E G129 22 (Syntax.tyInt Syntax.w32) (Scalar.room-sc 𝓤 H A W (Row.sInt Syntax.w32))))
 
-          d55 : Typed.Typed 𝓤 H A 𝓣 E G139 b56 Δ3 at55
-          d55 = Typed.g-pre 𝓤 H A W 𝓣 E G139 G140 b56 Δ3 (λ Ψ. Ψ) at54 (Lifetime.g-forget 𝓤 H A W E G139 15 Row.dead Path'.refl) d54
+          d57 : Typed.Typed 𝓤 H A 𝓣 E G126 b51 Δ3 at57
+          d57 = Typed.g-pre 𝓤 H A W 𝓣 E G126 G127 b51 Δ3 (λ Ψ. Ψ) at56 (Lifetime.g-forget 𝓤 H A W E G126 13 Row.dead Path'.refl) d56
 
-          d56 : Typed.Typed 𝓤 H A 𝓣 E G138 b56 Δ3 at56
-          d56 = Typed.g-pre 𝓤 H A W 𝓣 E G138 G139 b56 Δ3 (Typed.give s134) at55 (Know.g-sl-known 𝓤 H A W (Referent.fInt Syntax.w16) E G138 5 4 (Syntax.tyRef (Syntax.named 4) Syntax.mut (Syntax.tyInt
+          d58 : Typed.Typed 𝓤 H A 𝓣 E G125 b51 Δ3 at58
+          d58 = Typed.g-pre 𝓤 H A W 𝓣 E G125 G126 b51 Δ3 (Typed.give s121) at57 (Know.g-sl-known 𝓤 H A W (Referent.fInt Syntax.w16) E G125 5 4 (Syntax.tyRef (Syntax.named 4) Syntax.mut (Syntax.tyInt
               Syntax.w16)) (Row.lease (κs .1 .1 .1 .1 .0) (qs .1 .1 .1 .1 .0)) 0 (λ x. x) record { fits = Dec'.lit< tt } (Reads'.as-is 𝓤 H A (Mut.mslice (Referent.rtF (Referent.fInt Syntax.w16))
-              (Syntax.tyRef (Syntax.named 4) Syntax.mut (Syntax.tyInt Syntax.w16)) 4)) Path'.refl tt) d55
+              (Syntax.tyRef (Syntax.named 4) Syntax.mut (Syntax.tyInt Syntax.w16)) 4)) Path'.refl tt) d57
 
-          d57 : Typed.Typed 𝓤 H A 𝓣 E G137 b56 Δ3 at57
-          d57 = Typed.g-pre 𝓤 H A W 𝓣 E G137 G138 b56 Δ3 (Typed.both s133) at56 (Relend.g-back-sl 𝓤 H A W E (Referent.rtF (Referent.fInt Syntax.w16)) G137 49 5 4 15 (Syntax.tyRef (Syntax.named 4)
+          d59 : Typed.Typed 𝓤 H A 𝓣 E G124 b51 Δ3 at59
+          d59 = Typed.g-pre 𝓤 H A W 𝓣 E G124 G125 b51 Δ3 (Typed.both s120) at58 (Relend.g-back-sl 𝓤 H A W E (Referent.rtF (Referent.fInt Syntax.w16)) G124 47 5 4 13 (Syntax.tyRef (Syntax.named 4)
               Syntax.mut (Syntax.tyInt Syntax.w16)) (Syntax.tyRef Syntax.erased Syntax.mut (Syntax.tyInt Syntax.w16)) (Row.lease (κs .1 .1 .1 .1 .0) (qs .1 .1 .1 .1 .0)) (λ x. x) (λ x. x) (Reads'.as-is 𝓤
               H A (Mut.msleft (Referent.rtF (Referent.fInt Syntax.w16)) (Syntax.tyRef Syntax.erased Syntax.mut (Syntax.tyInt Syntax.w16)))) (Reads'.as-is 𝓤 H A (Relend.mslice-owed (Referent.rtF
-              (Referent.fInt Syntax.w16)) (Syntax.tyRef (Syntax.named 4) Syntax.mut (Syntax.tyInt Syntax.w16)) 4 15 (Row.lease (κs .1 .1 .1 .1 .0) (qs .1 .1 .1 .1 .0)))) Path'.refl Path'.refl) d56
+              (Referent.fInt Syntax.w16)) (Syntax.tyRef (Syntax.named 4) Syntax.mut (Syntax.tyInt Syntax.w16)) 4 13 (Row.lease (κs .1 .1 .1 .1 .0) (qs .1 .1 .1 .1 .0)))) Path'.refl Path'.refl) d58
 
-          d58 : Typed.Typed 𝓤 H A 𝓣 E G136 b56 Δ3 at58
-          d58 = Typed.g-pre 𝓤 H A W 𝓣 E G136 G137 b56 Δ3 (λ Ψ. Ψ) at57 (Lifetime.g-end 𝓤 H A W E G136 15 Path'.refl) d57
+          d60 : Typed.Typed 𝓤 H A 𝓣 E G123 b51 Δ3 at60
+          d60 = Typed.g-pre 𝓤 H A W 𝓣 E G123 G124 b51 Δ3 (λ Ψ. Ψ) at59 (Lifetime.g-end 𝓤 H A W E G123 13 Path'.refl) d59
 
-          d59 : Typed.Typed 𝓤 H A 𝓣 E G135 b56 Δ3 at59
-          d59 = Typed.g-pre 𝓤 H A W 𝓣 E G135 G136 b56 Δ3 (λ Ψ. Ψ) at58 (Lifetime.g-forget 𝓤 H A W E G135 14 Row.dead Path'.refl) d58
+          d61 : Typed.Typed 𝓤 H A 𝓣 E G122 b51 Δ3 at61
+          d61 = Typed.g-pre 𝓤 H A W 𝓣 E G122 G123 b51 Δ3 (λ Ψ. Ψ) at60 (Lifetime.g-forget 𝓤 H A W E G122 12 Row.dead Path'.refl) d60
 
-          d60 : Typed.Typed 𝓤 H A 𝓣 E G134 b56 Δ3 at60
-          d60 = Typed.g-pre 𝓤 H A W 𝓣 E G134 G135 b56 Δ3 (Typed.pass T133 T135 s130) at59 (Reshare.g-back-sl-shr 𝓤 H A W E (Referent.rtF (Referent.fInt Syntax.w16)) G134 3 2 14 (Syntax.tyRef
+          d62 : Typed.Typed 𝓤 H A 𝓣 E G121 b51 Δ3 at62
+          d62 = Typed.g-pre 𝓤 H A W 𝓣 E G121 G122 b51 Δ3 (Typed.pass T120 T122 s117) at61 (Reshare.g-back-sl-shr 𝓤 H A W E (Referent.rtF (Referent.fInt Syntax.w16)) G121 3 2 12 (Syntax.tyRef
               (Syntax.named 2) Syntax.mut (Syntax.tyInt Syntax.w16)) (Row.lease (κs .1 .1 .0) (qs .1 .1 .0)) (λ x. x) (Reads'.as-is 𝓤 H A (Reshare.mslice-owedS (Referent.rtF (Referent.fInt Syntax.w16))
-              (Syntax.tyRef (Syntax.named 2) Syntax.mut (Syntax.tyInt Syntax.w16)) 2 14 (Row.lease (κs .1 .1 .0) (qs .1 .1 .0)))) Path'.refl Path'.refl) d59
+              (Syntax.tyRef (Syntax.named 2) Syntax.mut (Syntax.tyInt Syntax.w16)) 2 12 (Row.lease (κs .1 .1 .0) (qs .1 .1 .0)))) Path'.refl Path'.refl) d61
 
-          d61 : Typed.Typed 𝓤 H A 𝓣 E G133 b56 Δ3 at61
-          d61 = Typed.g-pre 𝓤 H A W 𝓣 E G133 G134 b56 Δ3 (λ Ψ. Ψ) at60 (Lifetime.g-end 𝓤 H A W E G133 14 Path'.refl) d60
+          d63 : Typed.Typed 𝓤 H A 𝓣 E G120 b51 Δ3 at63
+          d63 = Typed.g-pre 𝓤 H A W 𝓣 E G120 G121 b51 Δ3 (λ Ψ. Ψ) at62 (Lifetime.g-end 𝓤 H A W E G120 12 Path'.refl) d62
 
-          d62 : Typed.Typed 𝓤 H A 𝓣 E G132 b56 Δ3 at62
-          d62 = Typed.g-pre 𝓤 H A W 𝓣 E G132 G133 b56 Δ3 (Typed.pass T132 T133 s128) at61 (Scalar.g-room 𝓤 H A W E G132 29 Syntax.tyUnit (Scalar.room-sc 𝓤 H A W Row.sUnit)) d61
+          d64 : Typed.Typed 𝓤 H A 𝓣 E G119 b51 Δ3 at64
+          d64 = Typed.g-pre 𝓤 H A W 𝓣 E G119 G120 b51 Δ3 (Typed.pass T119 T120 s115) at63 (Scalar.g-room 𝓤 H A W E G119 27 Syntax.tyUnit (Scalar.room-sc 𝓤 H A W Row.sUnit)) d63
 
-          d63 : Typed.Typed 𝓤 H A 𝓣 E G131 b56 Δ3 at63
-          d63 = Typed.g-pre 𝓤 H A W 𝓣 E G131 G132 b56 Δ3 (Typed.pass T131 T132 s127) at62 (Scalar.g-room 𝓤 H A W E G131 28 Syntax.tyBool (Scalar.room-sc 𝓤 H A W Row.sBool)) d62
+          d65 : Typed.Typed 𝓤 H A 𝓣 E G118 b51 Δ3 at65
+          d65 = Typed.g-pre 𝓤 H A W 𝓣 E G118 G119 b51 Δ3 (Typed.pass T118 T119 s114) at64 (Scalar.g-room 𝓤 H A W E G118 26 Syntax.tyBool (Scalar.room-sc 𝓤 H A W Row.sBool)) d64
 
-          d64 : Typed.Typed 𝓤 H A 𝓣 E G130 b56 Δ3 at64
-          d64 = Typed.g-pre 𝓤 H A W 𝓣 E G130 G131 b56 Δ3 (Typed.pass T130 T131 s126) at63 (Scalar.g-room 𝓤 H A W E G130 47 y4 (Shared.room-sslice 𝓤 H A W (Referent.rtF (Referent.fInt Syntax.w16))
-              (Syntax.tyRef Syntax.erased Syntax.imm (Syntax.tyInt Syntax.w16)) 14)) d63
+          d66 : Typed.Typed 𝓤 H A 𝓣 E G117 b51 Δ3 at66
+          d66 = Typed.g-pre 𝓤 H A W 𝓣 E G117 G118 b51 Δ3 (Typed.pass T117 T118 s113) at65 (Scalar.g-room 𝓤 H A W E G117 45 y4 (Shared.room-sslice 𝓤 H A W (Referent.rtF (Referent.fInt Syntax.w16))
+              (Syntax.tyRef Syntax.erased Syntax.imm (Syntax.tyInt Syntax.w16)) 12)) d65
 
-          d65 : Typed.Typed 𝓤 H A 𝓣 E G129 b57 Δ3 at65
-          d65 = Typed.s-seq 𝓤 H A W 𝓣 E G129 G130 b55 b56 Δ3 (Typed.both s125) at64 (Plain.t-call-plain 𝓤 H A W 𝓣 3 ps·14 r·14 (claims· .28) (claims· .29) "map::windows::emit_line_if" (known .14) E (λ
-              pos β. β) G129 (
-                record { pos = 47; ty = Syntax.tyRef Syntax.erased Syntax.imm (Syntax.tyInt Syntax.w16); ref = λ x. x },
+          d67 : Typed.Typed 𝓤 H A 𝓣 E G116 b52 Δ3 at67
+          d67 = Typed.s-seq 𝓤 H A W 𝓣 E G116 G117 b50 b51 Δ3 (Typed.both s112) at66 (Plain.t-call-plain 𝓤 H A W 𝓣 3 ps·11 r·11 (claims· .22) (claims· .23) "map::windows::emit_line_if" (known .11) E (λ
+              pos β. β) G116 (
+                record { pos = 45; ty = Syntax.tyRef Syntax.erased Syntax.imm (Syntax.tyInt Syntax.w16); ref = λ x. x },
                 (
-                  record { pos = 49; ty = Syntax.tyRef Syntax.erased Syntax.mut (Syntax.tyInt Syntax.w16); ref = λ x. x },
+                  record { pos = 47; ty = Syntax.tyRef Syntax.erased Syntax.mut (Syntax.tyInt Syntax.w16); ref = λ x. x },
                   (
-                    Num.vAt 15 λ x. x,
+                    Num.vAt 17 λ x. x,
                     (
-                      Bool.bAt 14 λ x. x,
+                      Bool.bAt 16 λ x. x,
                       (
                         record { pos = 7; ty = Syntax.tyRef (Syntax.named 5) Syntax.imm (Syntax.tyArray (Syntax.tyInt Syntax.w16) 768); ref = λ x. x },
-                        (record { pos = 8; st = List.[]; d = 0; at = λ x. x }, (record { pos = 9; st = List.[]; d = 0; at = λ x. x }, (Num.vAt 18 λ x. x, (Bool.bAt 28 λ x. x, tt)))),
+                        (record { pos = 8; st = List.[]; d = 0; at = λ x. x }, (record { pos = 9; st = List.[]; d = 0; at = λ x. x }, (Num.vAt 21 λ x. x, (Bool.bAt 26 λ x. x, tt)))),
                       ),
                     ),
                   ),
                 ),
-              ) 29 (List._∷_ 14 (List._∷_
-              15 (List._∷_ 5 List.[]))) (Call.sub-id 𝓤 H A W (G129 .slots)) (
-                ShrSlice.spares-sslice 𝓤 H A W (Referent.rtF (Referent.fInt Syntax.w16)) (Syntax.tyRef Syntax.erased Syntax.imm (Syntax.tyInt Syntax.w16)) 14,
+              ) 27 (List._∷_ 12 (List._∷_
+              13 (List._∷_ 5 List.[]))) (Call.sub-id 𝓤 H A W (G116 .slots)) (
+                ShrSlice.spares-sslice 𝓤 H A W (Referent.rtF (Referent.fInt Syntax.w16)) (Syntax.tyRef Syntax.erased Syntax.imm (Syntax.tyInt Syntax.w16)) 12,
                 Shared.reads-sslice 𝓤 H A W (Referent.rtF
-                    (Referent.fInt Syntax.w16)) (Syntax.tyRef Syntax.erased Syntax.imm (Syntax.tyInt Syntax.w16)) 14,
+                    (Referent.fInt Syntax.w16)) (Syntax.tyRef Syntax.erased Syntax.imm (Syntax.tyInt Syntax.w16)) 12,
                 Path'.refl,
                 (
-                  Reads'.as-is 𝓤 H A (Mut.mslice (Referent.rtF (Referent.fInt Syntax.w16)) (Syntax.tyRef Syntax.erased Syntax.mut (Syntax.tyInt Syntax.w16)) 15),
+                  Reads'.as-is 𝓤 H A (Mut.mslice (Referent.rtF (Referent.fInt Syntax.w16)) (Syntax.tyRef Syntax.erased Syntax.mut (Syntax.tyInt Syntax.w16)) 13),
                   Mut.reads-mslice 𝓤 H A W (Referent.rtF
-                      (Referent.fInt Syntax.w16)) (Syntax.tyRef Syntax.erased Syntax.mut (Syntax.tyInt Syntax.w16)) 15,
+                      (Referent.fInt Syntax.w16)) (Syntax.tyRef Syntax.erased Syntax.mut (Syntax.tyInt Syntax.w16)) 13,
                   Path'.refl,
                   (
                     (Scalar.reads-sc 𝓤 H A W (Row.sInt Syntax.w64), Path'.refl),
@@ -4876,31 +4576,31 @@ module _ (claims· : Claims) where
                   ),
                 ),
               ) (Reads'.room-gone 𝓤 H A Syntax.tyUnit) (tt, (tt, (tt, tt)))
-              Path'.refl) d64
+              Path'.refl) d66
 
-          d66 : Typed.Typed 𝓤 H A 𝓣 E G128 b58 Δ3 at66
-          d66 = Typed.s-seq 𝓤 H A W 𝓣 E G128 G129 b54 b57 Δ3 (Typed.ask s124) at65 (Scalar.t-op1 𝓤 H A W E 𝓣 G128 Syntax.bitNot (Scalar.oAt 11 Syntax.tyBool (Row.valS Row.sBool)) 28 (Rows'.sc-here
+          d68 : Typed.Typed 𝓤 H A 𝓣 E G115 b53 Δ3 at68
+          d68 = Typed.s-seq 𝓤 H A W 𝓣 E G115 G116 b49 b52 Δ3 (Typed.ask s111) at67 (Scalar.t-op1 𝓤 H A W E 𝓣 G115 Syntax.bitNot (Scalar.oAt 13 Syntax.tyBool (Row.valS Row.sBool)) 26 (Rows'.sc-here
               Row.sBool) Syntax.tyBool (Row.valS Row.sBool) (Row.sBool .of) (Scalar.reads-sc 𝓤 H A W Row.sBool, Path'.refl) (Reads'.room-gone 𝓤 H A Syntax.tyBool) (Scalar.holds-sc 𝓤 H A W Row.sBool)
-              Path'.refl (λ u. Path'.refl) λ u. tt) d65
+              Path'.refl (λ u. Path'.refl) λ u. tt) d67
 
-          d67 : Typed.Typed 𝓤 H A 𝓣 E G127 b59 Δ3 at67
-          d67 = Typed.s-seq 𝓤 H A W 𝓣 E G127 G128 b53 b58 Δ3 (Typed.ask s123) at66 (Relend.t-sl-aggregate 𝓤 H A W E (Referent.rtF (Referent.fInt Syntax.w16)) 𝓣 (Relend.asMut (Referent.rtF
-              (Referent.fInt Syntax.w16))) G127 48 49 15 (Syntax.tyRef Syntax.erased Syntax.mut (Syntax.tyInt Syntax.w16)) (Syntax.tyRef Syntax.erased Syntax.mut (Syntax.tyInt Syntax.w16)) (λ x. x)
+          d69 : Typed.Typed 𝓤 H A 𝓣 E G114 b54 Δ3 at69
+          d69 = Typed.s-seq 𝓤 H A W 𝓣 E G114 G115 b48 b53 Δ3 (Typed.ask s110) at68 (Relend.t-sl-aggregate 𝓤 H A W E (Referent.rtF (Referent.fInt Syntax.w16)) 𝓣 (Relend.asMut (Referent.rtF
+              (Referent.fInt Syntax.w16))) G114 46 47 13 (Syntax.tyRef Syntax.erased Syntax.mut (Syntax.tyInt Syntax.w16)) (Syntax.tyRef Syntax.erased Syntax.mut (Syntax.tyInt Syntax.w16)) (λ x. x)
               (Scalar.oFld 5 (List._∷_ (Syntax.field 1) List.[]) (Syntax.tyInt Syntax.w64) 8 λ v. Shared.lenV (v .0)) (Reads'.as-is 𝓤 H A (Relend.msptr (Referent.rtF (Referent.fInt Syntax.w16))
-              (Syntax.tyRef Syntax.erased Syntax.mut (Syntax.tyInt Syntax.w16)) 15)) (Reads'.room-gone 𝓤 H A y5) (
-                Relend.reads-owed-len 𝓤 H A W (Referent.rtF (Referent.fInt Syntax.w16)) (Syntax.tyRef (Syntax.named 4) Syntax.mut (Syntax.tyInt Syntax.w16)) 4 15 (Row.lease (κs .1 .1 .1 .1 .0) (qs .1 .1 .1
+              (Syntax.tyRef Syntax.erased Syntax.mut (Syntax.tyInt Syntax.w16)) 13)) (Reads'.room-gone 𝓤 H A y5) (
+                Relend.reads-owed-len 𝓤 H A W (Referent.rtF (Referent.fInt Syntax.w16)) (Syntax.tyRef (Syntax.named 4) Syntax.mut (Syntax.tyInt Syntax.w16)) 4 13 (Row.lease (κs .1 .1 .1 .1 .0) (qs .1 .1 .1
                     .1 .0)) 8 Path'.refl,
                 Path'.refl,
-              ) Path'.refl Path'.refl λ b o k. tt) d66
+              ) Path'.refl Path'.refl λ b o k. tt) d68
 
-          d68 : Typed.Typed 𝓤 H A 𝓣 E G126 b60 Δ3 at68
-          d68 = Typed.s-seq 𝓤 H A W 𝓣 E G126 G127 b52 b59 Δ3 (Typed.give s122) at67 (Relend.t-sl-relend 𝓤 H A W E (Referent.rtF (Referent.fInt Syntax.w16)) 𝓣 G126 5 48 4 15 (Syntax.tyRef (Syntax.named
+          d70 : Typed.Typed 𝓤 H A 𝓣 E G113 b55 Δ3 at70
+          d70 = Typed.s-seq 𝓤 H A W 𝓣 E G113 G114 b47 b54 Δ3 (Typed.give s109) at69 (Relend.t-sl-relend 𝓤 H A W E (Referent.rtF (Referent.fInt Syntax.w16)) 𝓣 G113 5 46 4 13 (Syntax.tyRef (Syntax.named
               4) Syntax.mut (Syntax.tyInt Syntax.w16)) (Syntax.tyRef Syntax.erased Syntax.mut (Syntax.tyInt Syntax.w16)) (Row.lease (κs .1 .1 .1 .1 .0) (qs .1 .1 .1 .1 .0)) 0 (λ x. x) (Reads'.as-is 𝓤 H A
               (Mut.mslice (Referent.rtF (Referent.fInt Syntax.w16)) (Syntax.tyRef (Syntax.named 4) Syntax.mut (Syntax.tyInt Syntax.w16)) 4)) (Reads'.room-gone 𝓤 H A (Syntax.tyRef Syntax.erased Syntax.mut
-              (Syntax.tyInt Syntax.w16))) Path'.refl tt Path'.refl Path'.refl Path'.refl λ b o. tt) d67
+              (Syntax.tyInt Syntax.w16))) Path'.refl tt Path'.refl Path'.refl Path'.refl λ b o. tt) d69
 
-          d69 : Typed.Typed 𝓤 H A 𝓣 E G125 b60 Δ3 at69
-          d69 = Typed.g-pre 𝓤 H A W 𝓣 E G125 G126 b60 Δ3 (λ Ψ. Ψ) at68 (Lifetime.g-begin 𝓤 H A W E G125 15 (
+          d71 : Typed.Typed 𝓤 H A 𝓣 E G112 b55 Δ3 at71
+          d71 = Typed.g-pre 𝓤 H A W 𝓣 E G112 G113 b55 Δ3 (λ Ψ. Ψ) at70 (Lifetime.g-begin 𝓤 H A W E G112 13 (
             tt,
             (
               tt,
@@ -4942,16 +4642,7 @@ module _ (claims· : Claims) where
                                                   tt,
                                                   (
                                                     tt,
-                                                    (
-                                                      tt,
-                                                      (
-                                                        tt,
-                                                        (
-                                                          tt,
-                                                          (tt, (tt, (tt, (tt, (tt, (tt, (tt, (tt, (tt, (tt, (tt, (tt, (tt, (tt, (tt, (tt, (tt, (tt, (tt, (tt, (tt, (tt, (tt, (tt, (tt, (tt, (tt, tt))))))))))))))))))))))))))),
-                                                        ),
-                                                      ),
-                                                    ),
+                                                    (tt, (tt, (tt, (tt, (tt, (tt, (tt, (tt, (tt, (tt, (tt, (tt, (tt, (tt, (tt, (tt, (tt, (tt, (tt, (tt, (tt, (tt, (tt, (tt, (tt, (tt, (tt, tt))))))))))))))))))))))))))),
                                                   ),
                                                 ),
                                               ),
@@ -4972,27 +4663,26 @@ module _ (claims· : Claims) where
                 ),
               ),
             ),
-          ))
-              d68
+          )) d70
 
-          d70 : Typed.Typed 𝓤 H A 𝓣 E G124 b61 Δ3 at70
-          d70 = Typed.s-seq 𝓤 H A W 𝓣 E G124 G125 b51 b60 Δ3 (Typed.ask s120) at69 (Relend.t-sl-aggregate 𝓤 H A W E (Referent.rtF (Referent.fInt Syntax.w16)) 𝓣 (Relend.asShr (Referent.rtF
-              (Referent.fInt Syntax.w16))) G124 46 47 14 (Syntax.tyRef Syntax.erased Syntax.imm (Syntax.tyInt Syntax.w16)) (Syntax.tyRef Syntax.erased Syntax.imm (Syntax.tyInt Syntax.w16)) (λ x. x)
+          d72 : Typed.Typed 𝓤 H A 𝓣 E G111 b56 Δ3 at72
+          d72 = Typed.s-seq 𝓤 H A W 𝓣 E G111 G112 b46 b55 Δ3 (Typed.ask s107) at71 (Relend.t-sl-aggregate 𝓤 H A W E (Referent.rtF (Referent.fInt Syntax.w16)) 𝓣 (Relend.asShr (Referent.rtF
+              (Referent.fInt Syntax.w16))) G111 44 45 12 (Syntax.tyRef Syntax.erased Syntax.imm (Syntax.tyInt Syntax.w16)) (Syntax.tyRef Syntax.erased Syntax.imm (Syntax.tyInt Syntax.w16)) (λ x. x)
               (Scalar.oFld 3 (List._∷_ (Syntax.field 1) List.[]) (Syntax.tyInt Syntax.w64) 8 λ v. Shared.lenV (v .0)) (Reads'.as-is 𝓤 H A (Relend.ssptr (Referent.rtF (Referent.fInt Syntax.w16))
-              (Syntax.tyRef Syntax.erased Syntax.imm (Syntax.tyInt Syntax.w16)) 14)) (Reads'.room-gone 𝓤 H A y4) (
-                Reshare.reads-owedS-len 𝓤 H A W (Referent.rtF (Referent.fInt Syntax.w16)) (Syntax.tyRef (Syntax.named 2) Syntax.mut (Syntax.tyInt Syntax.w16)) 2 14 (Row.lease (κs .1 .1 .0) (qs .1 .1 .0)) 8
+              (Syntax.tyRef Syntax.erased Syntax.imm (Syntax.tyInt Syntax.w16)) 12)) (Reads'.room-gone 𝓤 H A y4) (
+                Reshare.reads-owedS-len 𝓤 H A W (Referent.rtF (Referent.fInt Syntax.w16)) (Syntax.tyRef (Syntax.named 2) Syntax.mut (Syntax.tyInt Syntax.w16)) 2 12 (Row.lease (κs .1 .1 .0) (qs .1 .1 .0)) 8
                     Path'.refl,
                 Path'.refl,
-              ) Path'.refl Path'.refl λ b o k. tt) d69
+              ) Path'.refl Path'.refl λ b o k. tt) d71
 
-          d71 : Typed.Typed 𝓤 H A 𝓣 E G123 b62 Δ3 at71
-          d71 = Typed.s-seq 𝓤 H A W 𝓣 E G123 G124 b50 b61 Δ3 (Typed.give s119) at70 (Reshare.t-sl-reshare 𝓤 H A W E (Referent.rtF (Referent.fInt Syntax.w16)) 𝓣 G123 3 46 2 14 (Syntax.tyRef
+          d73 : Typed.Typed 𝓤 H A 𝓣 E G110 b57 Δ3 at73
+          d73 = Typed.s-seq 𝓤 H A W 𝓣 E G110 G111 b45 b56 Δ3 (Typed.give s106) at72 (Reshare.t-sl-reshare 𝓤 H A W E (Referent.rtF (Referent.fInt Syntax.w16)) 𝓣 G110 3 44 2 12 (Syntax.tyRef
               (Syntax.named 2) Syntax.mut (Syntax.tyInt Syntax.w16)) (Syntax.tyRef Syntax.erased Syntax.imm (Syntax.tyInt Syntax.w16)) (Row.lease (κs .1 .1 .0) (qs .1 .1 .0)) 0 (λ x. x) (Reads'.as-is 𝓤 H
               A (Mut.mslice (Referent.rtF (Referent.fInt Syntax.w16)) (Syntax.tyRef (Syntax.named 2) Syntax.mut (Syntax.tyInt Syntax.w16)) 2)) (Reads'.room-gone 𝓤 H A (Syntax.tyRef Syntax.erased
-              Syntax.imm (Syntax.tyInt Syntax.w16))) Path'.refl tt Path'.refl Path'.refl Path'.refl λ b o. tt) d70
+              Syntax.imm (Syntax.tyInt Syntax.w16))) Path'.refl tt Path'.refl Path'.refl Path'.refl λ b o. tt) d72
 
-          d72 : Typed.Typed 𝓤 H A 𝓣 E G122 b62 Δ3 at72
-          d72 = Typed.g-pre 𝓤 H A W 𝓣 E G122 G123 b62 Δ3 (λ Ψ. Ψ) at71 (Lifetime.g-begin 𝓤 H A W E G122 14 (
+          d74 : Typed.Typed 𝓤 H A 𝓣 E G109 b57 Δ3 at74
+          d74 = Typed.g-pre 𝓤 H A W 𝓣 E G109 G110 b57 Δ3 (λ Ψ. Ψ) at73 (Lifetime.g-begin 𝓤 H A W E G109 12 (
             tt,
             (
               tt,
@@ -5034,16 +4724,7 @@ module _ (claims· : Claims) where
                                                   tt,
                                                   (
                                                     tt,
-                                                    (
-                                                      tt,
-                                                      (
-                                                        tt,
-                                                        (
-                                                          tt,
-                                                          (tt, (tt, (tt, (tt, (tt, (tt, (tt, (tt, (tt, (tt, (tt, (tt, (tt, (tt, (tt, (tt, (tt, (tt, (tt, (tt, (tt, (tt, (tt, (tt, (tt, (tt, (tt, tt))))))))))))))))))))))))))),
-                                                        ),
-                                                      ),
-                                                    ),
+                                                    (tt, (tt, (tt, (tt, (tt, (tt, (tt, (tt, (tt, (tt, (tt, (tt, (tt, (tt, (tt, (tt, (tt, (tt, (tt, (tt, (tt, (tt, (tt, (tt, (tt, (tt, (tt, tt))))))))))))))))))))))))))),
                                                   ),
                                                 ),
                                               ),
@@ -5064,20 +4745,19 @@ module _ (claims· : Claims) where
                 ),
               ),
             ),
-          ))
-              d71
+          )) d73
 
-          d73 : Typed.Typed 𝓤 H A 𝓣 E G121 b62 Δ3 at73
-          d73 = Typed.g-pre 𝓤 H A W 𝓣 E G121 G122 b62 Δ3 (Typed.pass T121 T122 s117) at72 (Scalar.g-room 𝓤 H A W E G121 45 y3 (Local.room-whole 𝓤 H A W (Declared'.row Totals.the-type) y3 Path'.refl))
-              d72
+          d75 : Typed.Typed 𝓤 H A 𝓣 E G108 b57 Δ3 at75
+          d75 = Typed.g-pre 𝓤 H A W 𝓣 E G108 G109 b57 Δ3 (Typed.pass T108 T109 s104) at74 (Scalar.g-room 𝓤 H A W E G108 43 y3 (Local.room-whole 𝓤 H A W (Declared'.row Totals.the-type) y3 Path'.refl))
+              d74
 
-          d74 : Typed.Typed 𝓤 H A 𝓣 E G120 b63 Δ3 at74
-          d74 = Typed.s-seq 𝓤 H A W 𝓣 E G120 G121 b49 b62 Δ3 (Typed.both s116) at73 (Plain.t-call-plain 𝓤 H A W 𝓣 0 ps·13 r·13 (claims· .26) (claims· .27) "totals::with_line" (known .13) E (λ pos β.
-              β) G120 (
-                record { pos = 17; st = List.[]; d = 0; at = λ x. x },
-                (Num.vAt 18 λ x. x, (Bool.bFld 16 (List._∷_ (Syntax.field 1) List.[]) 8 λ x. Place.struct .as-values x .1 .0, (record { pos = 45; st = List.[]; d = 0; at = λ x. x }, tt))),
-              ) 17 List.[]
-              (Call.sub-id 𝓤 H A W (G120 .slots)) (
+          d76 : Typed.Typed 𝓤 H A 𝓣 E G107 b58 Δ3 at76
+          d76 = Typed.s-seq 𝓤 H A W 𝓣 E G107 G108 b44 b57 Δ3 (Typed.both s103) at75 (Plain.t-call-plain 𝓤 H A W 𝓣 0 ps·10 r·10 (claims· .20) (claims· .21) "totals::with_line" (known .10) E (λ pos β.
+              β) G107 (
+                record { pos = 19; st = List.[]; d = 0; at = λ x. x },
+                (Num.vAt 20 λ x. x, (Bool.bFld 18 (List._∷_ (Syntax.field 1) List.[]) 8 λ x. Place.struct .as-values x .1 .0, (record { pos = 43; st = List.[]; d = 0; at = λ x. x }, tt))),
+              ) 19 List.[]
+              (Call.sub-id 𝓤 H A W (G107 .slots)) (
                 (
                   Yields.yields-copy 𝓤 H A W (λ ρ. Unit) (Declared'.row TightLines.the-type) Path'.refl (Copies.cStruct TightLines.the-type Laws'7.the-laws Laws'7.the-copy .copy 𝓤 H A W) (Rows'.whole
                       (Declared'.row TightLines.the-type)) (λ x. x) (λ x. x) (λ ρ told. Local.mem-whole 𝓤 H A W (Declared'.row TightLines.the-type) ρ) λ ρ told. Local.whole-mem 𝓤 H A W (Declared'.row
@@ -5098,11 +4778,11 @@ module _ (claims· : Claims) where
                     ),
                   ),
                 ),
-              ) (Local.room-whole 𝓤 H A W (Declared'.row TightLines.the-type) y9 Path'.refl) tt Path'.refl) d73
+              ) (Local.room-whole 𝓤 H A W (Declared'.row TightLines.the-type) y9 Path'.refl) tt Path'.refl) d75
 
-          d75 : Typed.Typed 𝓤 H A 𝓣 E G119 b64 Δ3 at75
-          d75 = Typed.s-seq 𝓤 H A W 𝓣 E G119 G120 b48 b63 Δ3 (Typed.both s115) at74 (Plain.t-call-plain 𝓤 H A W 𝓣 0 ps·12 r·12 (claims· .24) (claims· .25) "block::reading::totals_at" (known .12) E (λ
-              pos β. β) G119 (record { pos = 16; st = List.[]; d = 0; at = λ x. x }, tt) 45 List.[] (Call.sub-id 𝓤 H A W (G119 .slots)) (
+          d77 : Typed.Typed 𝓤 H A 𝓣 E G106 b59 Δ3 at77
+          d77 = Typed.s-seq 𝓤 H A W 𝓣 E G106 G107 b43 b58 Δ3 (Typed.both s102) at76 (Plain.t-call-plain 𝓤 H A W 𝓣 0 ps·1 r·1 (claims· .2) (claims· .3) "block::reading::totals_at" (known .1) E (λ pos
+              β. β) G106 (record { pos = 18; st = List.[]; d = 0; at = λ x. x }, tt) 43 List.[] (Call.sub-id 𝓤 H A W (G106 .slots)) (
                 (
                   Yields.yields-copy 𝓤 H A W (λ ρ. Unit) (Declared'.row Place.the-type) Path'.refl (Copies.cStruct Place.the-type Laws'4.the-laws Laws'4.the-copy .copy 𝓤 H A W) (Rows'.whole (Declared'.row
                       Place.the-type)) (λ x. x) (λ x. x) (λ ρ told. Local.mem-whole 𝓤 H A W (Declared'.row Place.the-type) ρ) λ ρ told. Local.whole-mem 𝓤 H A W (Declared'.row Place.the-type) ρ,
@@ -5110,42 +4790,42 @@ module _ (claims· : Claims) where
                 ),
                 tt,
               )
-              (Reads'.room-gone 𝓤 H A y3) tt Path'.refl) d74
+              (Reads'.room-gone 𝓤 H A y3) tt Path'.refl) d76
 
-          d76 : Typed.Typed 𝓤 H A 𝓣 E G118 b64 Δ3 at76
-          d76 = Typed.g-pre 𝓤 H A W 𝓣 E G118 G119 b64 Δ3 (Typed.pass T118 T119 s114) at75 (Scalar.g-room 𝓤 H A W E G118 21 y10 (Local.room-whole 𝓤 H A W (Declared'.row Place.the-type) y10 Path'.refl))
-              d75
+          d78 : Typed.Typed 𝓤 H A 𝓣 E G105 b59 Δ3 at78
+          d78 = Typed.g-pre 𝓤 H A W 𝓣 E G105 G106 b59 Δ3 (Typed.pass T105 T106 s101) at77 (Scalar.g-room 𝓤 H A W E G105 24 y10 (Local.room-whole 𝓤 H A W (Declared'.row Place.the-type) y10 Path'.refl))
+              d77
 
-          d77 : Typed.Typed 𝓤 H A 𝓣 E G73 b65 Δ3 at77
-          d77 = Typed.s-seq 𝓤 H A W 𝓣 E G73 G118 b47 b64 Δ3 (Typed.pass T73 T118 s113) at76 (LocalCopy.t-val-copy 𝓤 H A W E 𝓣 (λ ρ. Unit) G73 21 16 (Declared'.row Place.the-type) y10 y10 (Rows'.whole
-              (Declared'.row Place.the-type)) (Rows'.whole (Declared'.row Place.the-type)) (λ x. x) (λ x. x) (λ x. x) Path'.refl (Own.told-none 𝓤 H A (G73 .slots)) (Yields.yields-copy 𝓤 H A W (λ ρ. Unit)
+          d79 : Typed.Typed 𝓤 H A 𝓣 E G58 b60 Δ3 at79
+          d79 = Typed.s-seq 𝓤 H A W 𝓣 E G58 G105 b42 b59 Δ3 (Typed.pass T58 T105 s100) at78 (LocalCopy.t-val-copy 𝓤 H A W E 𝓣 (λ ρ. Unit) G58 24 18 (Declared'.row Place.the-type) y10 y10 (Rows'.whole
+              (Declared'.row Place.the-type)) (Rows'.whole (Declared'.row Place.the-type)) (λ x. x) (λ x. x) (λ x. x) Path'.refl (Own.told-none 𝓤 H A (G58 .slots)) (Yields.yields-copy 𝓤 H A W (λ ρ. Unit)
               (Declared'.row Place.the-type) Path'.refl (Copies.cStruct Place.the-type Laws'4.the-laws Laws'4.the-copy .copy 𝓤 H A W) (Rows'.whole (Declared'.row Place.the-type)) (λ x. x) (λ x. x) (λ ρ
               told. Local.mem-whole 𝓤 H A W (Declared'.row Place.the-type) ρ) λ ρ told. Local.whole-mem 𝓤 H A W (Declared'.row Place.the-type) ρ) (Reads'.room-gone 𝓤 H A y10) (Yields.makes-mem 𝓤 H A W (λ
               ρ. Unit) (Declared'.row Place.the-type) Path'.refl (Rows'.whole (Declared'.row Place.the-type)) (λ x. x) λ ρ told. Local.whole-mem 𝓤 H A W (Declared'.row Place.the-type) ρ) Path'.refl
-              Path'.refl) d76
+              Path'.refl) d78
 
-          d78 : Typed.Typed 𝓤 H A 𝓣 E G72 b66 Δ3 at78
-          d78 = Typed.t-seq 𝓤 H A W 𝓣 E G72 G73 b46 b65 Δ3 at53 at77 d53 d77
+          d80 : Typed.Typed 𝓤 H A 𝓣 E G57 b61 Δ3 at80
+          d80 = Typed.t-seq 𝓤 H A W 𝓣 E G57 G58 b41 b60 Δ3 at55 at79 d55 d79
 
-          d79 : Typed.Typed 𝓤 H A 𝓣 E G71 b67 Δ3 at79
-          d79 = Typed.s-seq 𝓤 H A W 𝓣 E G71 G72 b33 b66 Δ3 (Typed.both s68) at78 (Plain.t-call-plain 𝓤 H A W 𝓣 5 ps·10 r·10 (claims· .20) (claims· .21) "block::reading::line" (known .10) E (λ pos β.
-              β) G71 (
+          d81 : Typed.Typed 𝓤 H A 𝓣 E G56 b62 Δ3 at81
+          d81 = Typed.s-seq 𝓤 H A W 𝓣 E G56 G57 b28 b61 Δ3 (Typed.both s53) at80 (Plain.t-call-plain 𝓤 H A W 𝓣 5 ps·8 r·8 (claims· .16) (claims· .17) "block::reading::line" (known .8) E (λ pos β. β)
+              G56 (
                 record { pos = 1; ty = Syntax.tyRef (Syntax.named 0) Syntax.imm (Syntax.tyInt Syntax.w8); ref = λ x. x },
                 (
-                  record { pos = 16; st = List.[]; d = 0; at = λ x. x },
+                  record { pos = 18; st = List.[]; d = 0; at = λ x. x },
                   (
-                    record { pos = 35; ty = Syntax.tyRef Syntax.erased Syntax.mut (Syntax.tyInt Syntax.w16); ref = λ x. x },
+                    record { pos = 33; ty = Syntax.tyRef Syntax.erased Syntax.mut (Syntax.tyInt Syntax.w16); ref = λ x. x },
                     (
-                      record { pos = 37; ty = Syntax.tyRef Syntax.erased Syntax.mut Element.behind; ref = λ x. x },
+                      record { pos = 35; ty = Syntax.tyRef Syntax.erased Syntax.mut Element.behind; ref = λ x. x },
                       (
-                        record { pos = 39; ty = Syntax.tyRef Syntax.erased Syntax.mut (Syntax.tyInt Syntax.w16); ref = λ x. x },
+                        record { pos = 37; ty = Syntax.tyRef Syntax.erased Syntax.mut (Syntax.tyInt Syntax.w16); ref = λ x. x },
                         (
                           record { pos = 6; st = List.[]; d = 0; at = λ x. x },
                           (
-                            record { pos = 40; st = List.[]; d = 0; at = λ x. x },
+                            record { pos = 38; st = List.[]; d = 0; at = λ x. x },
                             (
                               record { pos = 7; ty = Syntax.tyRef (Syntax.named 5) Syntax.imm (Syntax.tyArray (Syntax.tyInt Syntax.w16) 768); ref = λ x. x },
-                              (record { pos = 8; st = List.[]; d = 0; at = λ x. x }, (record { pos = 9; st = List.[]; d = 0; at = λ x. x }, (Num.vAt 18 λ x. x, (Bool.bAt 11 λ x. x, tt)))),
+                              (record { pos = 8; st = List.[]; d = 0; at = λ x. x }, (record { pos = 9; st = List.[]; d = 0; at = λ x. x }, (Num.vAt 21 λ x. x, (Bool.bAt 13 λ x. x, tt)))),
                             ),
                           ),
                         ),
@@ -5153,8 +4833,8 @@ module _ (claims· : Claims) where
                     ),
                   ),
                 ),
-              ) 20 (List._∷_ 0 (List._∷_
-              10 (List._∷_ 11 (List._∷_ 12 (List._∷_ 5 List.[]))))) (Call.sub-id 𝓤 H A W (G71 .slots)) (
+              ) 23 (List._∷_ 0 (List._∷_
+              8 (List._∷_ 9 (List._∷_ 10 (List._∷_ 5 List.[]))))) (Call.sub-id 𝓤 H A W (G56 .slots)) (
                 ShrSlice.spares-sslice 𝓤 H A W (Referent.rtF (Referent.fInt Syntax.w8)) (Syntax.tyRef (Syntax.named 0) Syntax.imm (Syntax.tyInt Syntax.w8)) 0,
                 Shared.reads-sslice 𝓤 H A W (Referent.rtF
                     (Referent.fInt Syntax.w8)) (Syntax.tyRef (Syntax.named 0) Syntax.imm (Syntax.tyInt Syntax.w8)) 0,
@@ -5166,19 +4846,19 @@ module _ (claims· : Claims) where
                     Path'.refl,
                   ),
                   (
-                    Reads'.as-is 𝓤 H A (Mut.mslice (Referent.rtF (Referent.fInt Syntax.w16)) (Syntax.tyRef Syntax.erased Syntax.mut (Syntax.tyInt Syntax.w16)) 10),
+                    Reads'.as-is 𝓤 H A (Mut.mslice (Referent.rtF (Referent.fInt Syntax.w16)) (Syntax.tyRef Syntax.erased Syntax.mut (Syntax.tyInt Syntax.w16)) 8),
                     Mut.reads-mslice 𝓤 H A W (Referent.rtF
-                        (Referent.fInt Syntax.w16)) (Syntax.tyRef Syntax.erased Syntax.mut (Syntax.tyInt Syntax.w16)) 10,
+                        (Referent.fInt Syntax.w16)) (Syntax.tyRef Syntax.erased Syntax.mut (Syntax.tyInt Syntax.w16)) 8,
                     Path'.refl,
                     (
-                      Reads'.as-is 𝓤 H A (Mut.mslice (Element.type) (Syntax.tyRef Syntax.erased Syntax.mut Element.behind) 11),
+                      Reads'.as-is 𝓤 H A (Mut.mslice (Element.type) (Syntax.tyRef Syntax.erased Syntax.mut Element.behind) 9),
                       Mut.reads-mslice 𝓤 H A W (Element.type) (Syntax.tyRef Syntax.erased Syntax.mut
-                          Element.behind) 11,
+                          Element.behind) 9,
                       Path'.refl,
                       (
-                        Reads'.as-is 𝓤 H A (Mut.mslice (Referent.rtF (Referent.fInt Syntax.w16)) (Syntax.tyRef Syntax.erased Syntax.mut (Syntax.tyInt Syntax.w16)) 12),
+                        Reads'.as-is 𝓤 H A (Mut.mslice (Referent.rtF (Referent.fInt Syntax.w16)) (Syntax.tyRef Syntax.erased Syntax.mut (Syntax.tyInt Syntax.w16)) 10),
                         Mut.reads-mslice 𝓤 H A W (Referent.rtF
-                            (Referent.fInt Syntax.w16)) (Syntax.tyRef Syntax.erased Syntax.mut (Syntax.tyInt Syntax.w16)) 12,
+                            (Referent.fInt Syntax.w16)) (Syntax.tyRef Syntax.erased Syntax.mut (Syntax.tyInt Syntax.w16)) 10,
                         Path'.refl,
                         (
                           (
@@ -5217,11 +4897,11 @@ module _ (claims· : Claims) where
                 ),
               ) (Reads'.room-gone 𝓤 H A (Syntax.tyEnum (List._∷_ 98 (List._∷_
               108 (List._∷_ 111 (List._∷_ 99 (List._∷_ 107 (List._∷_ 58 (List._∷_ 58 (List._∷_ 76 (List._∷_ 105 (List._∷_ 110 (List._∷_ 101 (List._∷_ 100 List.[])))))))))))) (Syntax.ttcons (Syntax.tcons
-              y10 Syntax.tnil) (Syntax.ttcons Syntax.tnil Syntax.ttnil)))) (tt, (tt, (tt, (tt, (tt, tt))))) Path'.refl) d78
+              y10 Syntax.tnil) (Syntax.ttcons Syntax.tnil Syntax.ttnil)))) (tt, (tt, (tt, (tt, (tt, tt))))) Path'.refl) d80
 
-          d80 : Typed.Typed 𝓤 H A 𝓣 E G70 b68 Δ3 at80
-          d80 = Typed.s-seq 𝓤 H A W 𝓣 E G70 G71 b32 b67 Δ3 (Typed.both s67) at79 (Plain.t-call-plain 𝓤 H A W 𝓣 0 ps·9 r·9 (claims· .18) (claims· .19) "block::reading::quantisers_in" (known .9) E (λ
-              pos β. β) G70 (record { pos = 12; st = List.[]; d = 0; at = λ x. x }, (Num.vAt 13 λ x. x, (Num.vAt 19 λ x. x, tt))) 40 List.[] (Call.sub-id 𝓤 H A W (G70 .slots)) (
+          d82 : Typed.Typed 𝓤 H A 𝓣 E G55 b63 Δ3 at82
+          d82 = Typed.s-seq 𝓤 H A W 𝓣 E G55 G56 b27 b62 Δ3 (Typed.both s52) at81 (Plain.t-call-plain 𝓤 H A W 𝓣 0 ps·7 r·7 (claims· .14) (claims· .15) "block::reading::quantisers_in" (known .7) E (λ
+              pos β. β) G55 (record { pos = 14; st = List.[]; d = 0; at = λ x. x }, (Num.vAt 15 λ x. x, (Num.vAt 22 λ x. x, tt))) 38 List.[] (Call.sub-id 𝓤 H A W (G55 .slots)) (
                 (
                   Yields.yields-copy 𝓤 H A W (λ ρ. Unit) (Declared'.row Entries.the-type) Path'.refl (Copies.cStruct Entries.the-type Laws'3.the-laws Laws'3.the-copy .copy 𝓤 H A W) (Rows'.whole
                       (Declared'.row Entries.the-type)) (λ x. x) (λ x. x) (λ ρ told. Local.mem-whole 𝓤 H A W (Declared'.row Entries.the-type) ρ) λ ρ told. Local.whole-mem 𝓤 H A W (Declared'.row Entries.the-type)
@@ -5230,26 +4910,26 @@ module _ (claims· : Claims) where
                 ),
                 ((Scalar.reads-sc 𝓤 H A W (Row.sInt Syntax.w32), Path'.refl), ((Scalar.reads-sc 𝓤 H A W (Row.sInt Syntax.w32), Path'.refl), tt)),
               ) (Reads'.room-gone 𝓤 H A y2) tt Path'.refl)
-              d79
+              d81
 
-          d81 : Typed.Typed 𝓤 H A 𝓣 E G69 b69 Δ3 at81
-          d81 = Typed.s-seq 𝓤 H A W 𝓣 E G69 G70 b31 b68 Δ3 (Typed.ask s66) at80 (Relend.t-sl-aggregate 𝓤 H A W E (Referent.rtF (Referent.fInt Syntax.w16)) 𝓣 (Relend.asMut (Referent.rtF (Referent.fInt
-              Syntax.w16))) G69 38 39 12 (Syntax.tyRef Syntax.erased Syntax.mut (Syntax.tyInt Syntax.w16)) (Syntax.tyRef Syntax.erased Syntax.mut (Syntax.tyInt Syntax.w16)) (λ x. x) (Scalar.oFld 5
+          d83 : Typed.Typed 𝓤 H A 𝓣 E G54 b64 Δ3 at83
+          d83 = Typed.s-seq 𝓤 H A W 𝓣 E G54 G55 b26 b63 Δ3 (Typed.ask s51) at82 (Relend.t-sl-aggregate 𝓤 H A W E (Referent.rtF (Referent.fInt Syntax.w16)) 𝓣 (Relend.asMut (Referent.rtF (Referent.fInt
+              Syntax.w16))) G54 36 37 10 (Syntax.tyRef Syntax.erased Syntax.mut (Syntax.tyInt Syntax.w16)) (Syntax.tyRef Syntax.erased Syntax.mut (Syntax.tyInt Syntax.w16)) (λ x. x) (Scalar.oFld 5
               (List._∷_ (Syntax.field 1) List.[]) (Syntax.tyInt Syntax.w64) 8 λ v. Shared.lenV (v .0)) (Reads'.as-is 𝓤 H A (Relend.msptr (Referent.rtF (Referent.fInt Syntax.w16)) (Syntax.tyRef
-              Syntax.erased Syntax.mut (Syntax.tyInt Syntax.w16)) 12)) (Reads'.room-gone 𝓤 H A y5) (
-                Relend.reads-owed-len 𝓤 H A W (Referent.rtF (Referent.fInt Syntax.w16)) (Syntax.tyRef (Syntax.named 4) Syntax.mut (Syntax.tyInt Syntax.w16)) 4 12 (Row.lease (κs .1 .1 .1 .1 .0) (qs .1 .1 .1
+              Syntax.erased Syntax.mut (Syntax.tyInt Syntax.w16)) 10)) (Reads'.room-gone 𝓤 H A y5) (
+                Relend.reads-owed-len 𝓤 H A W (Referent.rtF (Referent.fInt Syntax.w16)) (Syntax.tyRef (Syntax.named 4) Syntax.mut (Syntax.tyInt Syntax.w16)) 4 10 (Row.lease (κs .1 .1 .1 .1 .0) (qs .1 .1 .1
                     .1 .0)) 8 Path'.refl,
                 Path'.refl,
-              ) Path'.refl Path'.refl λ b o k. tt) d80
+              ) Path'.refl Path'.refl λ b o k. tt) d82
 
-          d82 : Typed.Typed 𝓤 H A 𝓣 E G68 b70 Δ3 at82
-          d82 = Typed.s-seq 𝓤 H A W 𝓣 E G68 G69 b30 b69 Δ3 (Typed.give s65) at81 (Relend.t-sl-relend 𝓤 H A W E (Referent.rtF (Referent.fInt Syntax.w16)) 𝓣 G68 5 38 4 12 (Syntax.tyRef (Syntax.named 4)
+          d84 : Typed.Typed 𝓤 H A 𝓣 E G53 b65 Δ3 at84
+          d84 = Typed.s-seq 𝓤 H A W 𝓣 E G53 G54 b25 b64 Δ3 (Typed.give s50) at83 (Relend.t-sl-relend 𝓤 H A W E (Referent.rtF (Referent.fInt Syntax.w16)) 𝓣 G53 5 36 4 10 (Syntax.tyRef (Syntax.named 4)
               Syntax.mut (Syntax.tyInt Syntax.w16)) (Syntax.tyRef Syntax.erased Syntax.mut (Syntax.tyInt Syntax.w16)) (Row.lease (κs .1 .1 .1 .1 .0) (qs .1 .1 .1 .1 .0)) 0 (λ x. x) (Reads'.as-is 𝓤 H A
               (Mut.mslice (Referent.rtF (Referent.fInt Syntax.w16)) (Syntax.tyRef (Syntax.named 4) Syntax.mut (Syntax.tyInt Syntax.w16)) 4)) (Reads'.room-gone 𝓤 H A (Syntax.tyRef Syntax.erased Syntax.mut
-              (Syntax.tyInt Syntax.w16))) Path'.refl tt Path'.refl Path'.refl Path'.refl λ b o. tt) d81
+              (Syntax.tyInt Syntax.w16))) Path'.refl tt Path'.refl Path'.refl Path'.refl λ b o. tt) d83
 
-          d83 : Typed.Typed 𝓤 H A 𝓣 E G67 b70 Δ3 at83
-          d83 = Typed.g-pre 𝓤 H A W 𝓣 E G67 G68 b70 Δ3 (λ Ψ. Ψ) at82 (Lifetime.g-begin 𝓤 H A W E G67 12 (
+          d85 : Typed.Typed 𝓤 H A 𝓣 E G52 b65 Δ3 at85
+          d85 = Typed.g-pre 𝓤 H A W 𝓣 E G52 G53 b65 Δ3 (λ Ψ. Ψ) at84 (Lifetime.g-begin 𝓤 H A W E G52 10 (
             tt,
             (
               tt,
@@ -5291,16 +4971,7 @@ module _ (claims· : Claims) where
                                                   tt,
                                                   (
                                                     tt,
-                                                    (
-                                                      tt,
-                                                      (
-                                                        tt,
-                                                        (
-                                                          tt,
-                                                          (tt, (tt, (tt, (tt, (tt, (tt, (tt, (tt, (tt, (tt, (tt, (tt, (tt, (tt, (tt, (tt, (tt, (tt, (tt, (tt, (tt, (tt, (tt, (tt, (tt, (tt, (tt, tt))))))))))))))))))))))))))),
-                                                        ),
-                                                      ),
-                                                    ),
+                                                    (tt, (tt, (tt, (tt, (tt, (tt, (tt, (tt, (tt, (tt, (tt, (tt, (tt, (tt, (tt, (tt, (tt, (tt, (tt, (tt, (tt, (tt, (tt, (tt, (tt, (tt, (tt, tt))))))))))))))))))))))))))),
                                                   ),
                                                 ),
                                               ),
@@ -5321,23 +4992,22 @@ module _ (claims· : Claims) where
                 ),
               ),
             ),
-          ))
-              d82
+          )) d84
 
-          d84 : Typed.Typed 𝓤 H A 𝓣 E G66 b71 Δ3 at84
-          d84 = Typed.s-seq 𝓤 H A W 𝓣 E G66 G67 b29 b70 Δ3 (Typed.ask s63) at83 (Relend.t-sl-aggregate 𝓤 H A W E (Element.type) 𝓣 (Relend.asMut (Element.type)) G66 36 37 11 (Syntax.tyRef Syntax.erased
+          d86 : Typed.Typed 𝓤 H A 𝓣 E G51 b66 Δ3 at86
+          d86 = Typed.s-seq 𝓤 H A W 𝓣 E G51 G52 b24 b65 Δ3 (Typed.ask s48) at85 (Relend.t-sl-aggregate 𝓤 H A W E (Element.type) 𝓣 (Relend.asMut (Element.type)) G51 34 35 9 (Syntax.tyRef Syntax.erased
               Syntax.mut Element.behind) (Syntax.tyRef Syntax.erased Syntax.mut Element.behind) (λ x. x) (Scalar.oFld 4 (List._∷_ (Syntax.field 1) List.[]) (Syntax.tyInt Syntax.w64) 8 λ v. Shared.lenV (v
-              .0)) (Reads'.as-is 𝓤 H A (Relend.msptr (Element.type) (Syntax.tyRef Syntax.erased Syntax.mut Element.behind) 11)) (Reads'.room-gone 𝓤 H A y6)
-              (Relend.reads-owed-len 𝓤 H A W (Element.type) (Syntax.tyRef (Syntax.named 3) Syntax.mut Element.behind) 3 11 (Row.lease (κs .1 .1 .1 .0) (qs .1 .1 .1 .0)) 8 Path'.refl, Path'.refl)
-              Path'.refl Path'.refl λ b o k. tt) d83
+              .0)) (Reads'.as-is 𝓤 H A (Relend.msptr (Element.type) (Syntax.tyRef Syntax.erased Syntax.mut Element.behind) 9)) (Reads'.room-gone 𝓤 H A y6)
+              (Relend.reads-owed-len 𝓤 H A W (Element.type) (Syntax.tyRef (Syntax.named 3) Syntax.mut Element.behind) 3 9 (Row.lease (κs .1 .1 .1 .0) (qs .1 .1 .1 .0)) 8 Path'.refl, Path'.refl) Path'.refl
+              Path'.refl λ b o k. tt) d85
 
-          d85 : Typed.Typed 𝓤 H A 𝓣 E G65 b72 Δ3 at85
-          d85 = Typed.s-seq 𝓤 H A W 𝓣 E G65 G66 b28 b71 Δ3 (Typed.give s62) at84 (Relend.t-sl-relend 𝓤 H A W E (Element.type) 𝓣 G65 4 36 3 11 (Syntax.tyRef (Syntax.named 3) Syntax.mut Element.behind)
+          d87 : Typed.Typed 𝓤 H A 𝓣 E G50 b67 Δ3 at87
+          d87 = Typed.s-seq 𝓤 H A W 𝓣 E G50 G51 b23 b66 Δ3 (Typed.give s47) at86 (Relend.t-sl-relend 𝓤 H A W E (Element.type) 𝓣 G50 4 34 3 9 (Syntax.tyRef (Syntax.named 3) Syntax.mut Element.behind)
               (Syntax.tyRef Syntax.erased Syntax.mut Element.behind) (Row.lease (κs .1 .1 .1 .0) (qs .1 .1 .1 .0)) 0 (λ x. x) (Reads'.as-is 𝓤 H A (Mut.mslice (Element.type) (Syntax.tyRef (Syntax.named 3)
-              Syntax.mut Element.behind) 3)) (Reads'.room-gone 𝓤 H A (Syntax.tyRef Syntax.erased Syntax.mut Element.behind)) Path'.refl tt Path'.refl Path'.refl Path'.refl λ b o. tt) d84
+              Syntax.mut Element.behind) 3)) (Reads'.room-gone 𝓤 H A (Syntax.tyRef Syntax.erased Syntax.mut Element.behind)) Path'.refl tt Path'.refl Path'.refl Path'.refl λ b o. tt) d86
 
-          d86 : Typed.Typed 𝓤 H A 𝓣 E G64 b72 Δ3 at86
-          d86 = Typed.g-pre 𝓤 H A W 𝓣 E G64 G65 b72 Δ3 (λ Ψ. Ψ) at85 (Lifetime.g-begin 𝓤 H A W E G64 11 (
+          d88 : Typed.Typed 𝓤 H A 𝓣 E G49 b67 Δ3 at88
+          d88 = Typed.g-pre 𝓤 H A W 𝓣 E G49 G50 b67 Δ3 (λ Ψ. Ψ) at87 (Lifetime.g-begin 𝓤 H A W E G49 9 (
             tt,
             (
               tt,
@@ -5379,16 +5049,7 @@ module _ (claims· : Claims) where
                                                   tt,
                                                   (
                                                     tt,
-                                                    (
-                                                      tt,
-                                                      (
-                                                        tt,
-                                                        (
-                                                          tt,
-                                                          (tt, (tt, (tt, (tt, (tt, (tt, (tt, (tt, (tt, (tt, (tt, (tt, (tt, (tt, (tt, (tt, (tt, (tt, (tt, (tt, (tt, (tt, (tt, (tt, (tt, (tt, (tt, tt))))))))))))))))))))))))))),
-                                                        ),
-                                                      ),
-                                                    ),
+                                                    (tt, (tt, (tt, (tt, (tt, (tt, (tt, (tt, (tt, (tt, (tt, (tt, (tt, (tt, (tt, (tt, (tt, (tt, (tt, (tt, (tt, (tt, (tt, (tt, (tt, (tt, (tt, tt))))))))))))))))))))))))))),
                                                   ),
                                                 ),
                                               ),
@@ -5409,27 +5070,26 @@ module _ (claims· : Claims) where
                 ),
               ),
             ),
-          ))
-              d85
+          )) d87
 
-          d87 : Typed.Typed 𝓤 H A 𝓣 E G63 b73 Δ3 at87
-          d87 = Typed.s-seq 𝓤 H A W 𝓣 E G63 G64 b27 b72 Δ3 (Typed.ask s60) at86 (Relend.t-sl-aggregate 𝓤 H A W E (Referent.rtF (Referent.fInt Syntax.w16)) 𝓣 (Relend.asMut (Referent.rtF (Referent.fInt
-              Syntax.w16))) G63 34 35 10 (Syntax.tyRef Syntax.erased Syntax.mut (Syntax.tyInt Syntax.w16)) (Syntax.tyRef Syntax.erased Syntax.mut (Syntax.tyInt Syntax.w16)) (λ x. x) (Scalar.oFld 3
+          d89 : Typed.Typed 𝓤 H A 𝓣 E G48 b68 Δ3 at89
+          d89 = Typed.s-seq 𝓤 H A W 𝓣 E G48 G49 b22 b67 Δ3 (Typed.ask s45) at88 (Relend.t-sl-aggregate 𝓤 H A W E (Referent.rtF (Referent.fInt Syntax.w16)) 𝓣 (Relend.asMut (Referent.rtF (Referent.fInt
+              Syntax.w16))) G48 32 33 8 (Syntax.tyRef Syntax.erased Syntax.mut (Syntax.tyInt Syntax.w16)) (Syntax.tyRef Syntax.erased Syntax.mut (Syntax.tyInt Syntax.w16)) (λ x. x) (Scalar.oFld 3
               (List._∷_ (Syntax.field 1) List.[]) (Syntax.tyInt Syntax.w64) 8 λ v. Shared.lenV (v .0)) (Reads'.as-is 𝓤 H A (Relend.msptr (Referent.rtF (Referent.fInt Syntax.w16)) (Syntax.tyRef
-              Syntax.erased Syntax.mut (Syntax.tyInt Syntax.w16)) 10)) (Reads'.room-gone 𝓤 H A y5) (
-                Relend.reads-owed-len 𝓤 H A W (Referent.rtF (Referent.fInt Syntax.w16)) (Syntax.tyRef (Syntax.named 2) Syntax.mut (Syntax.tyInt Syntax.w16)) 2 10 (Row.lease (κs .1 .1 .0) (qs .1 .1 .0)) 8
+              Syntax.erased Syntax.mut (Syntax.tyInt Syntax.w16)) 8)) (Reads'.room-gone 𝓤 H A y5) (
+                Relend.reads-owed-len 𝓤 H A W (Referent.rtF (Referent.fInt Syntax.w16)) (Syntax.tyRef (Syntax.named 2) Syntax.mut (Syntax.tyInt Syntax.w16)) 2 8 (Row.lease (κs .1 .1 .0) (qs .1 .1 .0)) 8
                     Path'.refl,
                 Path'.refl,
-              ) Path'.refl Path'.refl λ b o k. tt) d86
+              ) Path'.refl Path'.refl λ b o k. tt) d88
 
-          d88 : Typed.Typed 𝓤 H A 𝓣 E G62 b74 Δ3 at88
-          d88 = Typed.s-seq 𝓤 H A W 𝓣 E G62 G63 b26 b73 Δ3 (Typed.give s59) at87 (Relend.t-sl-relend 𝓤 H A W E (Referent.rtF (Referent.fInt Syntax.w16)) 𝓣 G62 3 34 2 10 (Syntax.tyRef (Syntax.named 2)
+          d90 : Typed.Typed 𝓤 H A 𝓣 E G47 b69 Δ3 at90
+          d90 = Typed.s-seq 𝓤 H A W 𝓣 E G47 G48 b21 b68 Δ3 (Typed.give s44) at89 (Relend.t-sl-relend 𝓤 H A W E (Referent.rtF (Referent.fInt Syntax.w16)) 𝓣 G47 3 32 2 8 (Syntax.tyRef (Syntax.named 2)
               Syntax.mut (Syntax.tyInt Syntax.w16)) (Syntax.tyRef Syntax.erased Syntax.mut (Syntax.tyInt Syntax.w16)) (Row.lease (κs .1 .1 .0) (qs .1 .1 .0)) 0 (λ x. x) (Reads'.as-is 𝓤 H A (Mut.mslice
               (Referent.rtF (Referent.fInt Syntax.w16)) (Syntax.tyRef (Syntax.named 2) Syntax.mut (Syntax.tyInt Syntax.w16)) 2)) (Reads'.room-gone 𝓤 H A (Syntax.tyRef Syntax.erased Syntax.mut
-              (Syntax.tyInt Syntax.w16))) Path'.refl tt Path'.refl Path'.refl Path'.refl λ b o. tt) d87
+              (Syntax.tyInt Syntax.w16))) Path'.refl tt Path'.refl Path'.refl Path'.refl λ b o. tt) d89
 
-          d89 : Typed.Typed 𝓤 H A 𝓣 E G61 b74 Δ3 at89
-          d89 = Typed.g-pre 𝓤 H A W 𝓣 E G61 G62 b74 Δ3 (λ Ψ. Ψ) at88 (Lifetime.g-begin 𝓤 H A W E G61 10 (
+          d91 : Typed.Typed 𝓤 H A 𝓣 E G46 b69 Δ3 at91
+          d91 = Typed.g-pre 𝓤 H A W 𝓣 E G46 G47 b69 Δ3 (λ Ψ. Ψ) at90 (Lifetime.g-begin 𝓤 H A W E G46 8 (
             tt,
             (
               tt,
@@ -5471,16 +5131,7 @@ module _ (claims· : Claims) where
                                                   tt,
                                                   (
                                                     tt,
-                                                    (
-                                                      tt,
-                                                      (
-                                                        tt,
-                                                        (
-                                                          tt,
-                                                          (tt, (tt, (tt, (tt, (tt, (tt, (tt, (tt, (tt, (tt, (tt, (tt, (tt, (tt, (tt, (tt, (tt, (tt, (tt, (tt, (tt, (tt, (tt, (tt, (tt, (tt, (tt, tt))))))))))))))))))))))))))),
-                                                        ),
-                                                      ),
-                                                    ),
+                                                    (tt, (tt, (tt, (tt, (tt, (tt, (tt, (tt, (tt, (tt, (tt, (tt, (tt, (tt, (tt, (tt, (tt, (tt, (tt, (tt, (tt, (tt, (tt, (tt, (tt, (tt, (tt, tt))))))))))))))))))))))))))),
                                                   ),
                                                 ),
                                               ),
@@ -5501,65 +5152,64 @@ module _ (claims· : Claims) where
                 ),
               ),
             ),
-          ))
-              d88
+          )) d90
 
-          d90 : Typed.Typed 𝓤 H A 𝓣 E G60 b74 Δ3 at90
-          d90 = Typed.g-pre 𝓤 H A W 𝓣 E G60 G61 b74 Δ3 (λ Ψ. Ψ) at89 (Lifetime.g-forget 𝓤 H A W E G60 9 Row.dead Path'.refl) d89
+          d92 : Typed.Typed 𝓤 H A 𝓣 E G45 b69 Δ3 at92
+          d92 = Typed.g-pre 𝓤 H A W 𝓣 E G45 G46 b69 Δ3 (λ Ψ. Ψ) at91 (Lifetime.g-forget 𝓤 H A W E G45 7 Row.dead Path'.refl) d91
 
-          d91 : Typed.Typed 𝓤 H A 𝓣 E G59 b74 Δ3 at91
-          d91 = Typed.g-pre 𝓤 H A W 𝓣 E G59 G60 b74 Δ3 (Typed.both s56) at90 (Relend.g-back-sl 𝓤 H A W E (Element.type) G59 33 4 3 9 (Syntax.tyRef (Syntax.named 3) Syntax.mut Element.behind)
+          d93 : Typed.Typed 𝓤 H A 𝓣 E G44 b69 Δ3 at93
+          d93 = Typed.g-pre 𝓤 H A W 𝓣 E G44 G45 b69 Δ3 (Typed.both s41) at92 (Relend.g-back-sl 𝓤 H A W E (Element.type) G44 31 4 3 7 (Syntax.tyRef (Syntax.named 3) Syntax.mut Element.behind)
               (Syntax.tyRef Syntax.erased Syntax.mut Element.behind) (Row.lease (κs .1 .1 .1 .0) (qs .1 .1 .1 .0)) (λ x. x) (λ x. x) (Reads'.as-is 𝓤 H A (Mut.msleft (Element.type) (Syntax.tyRef
-              Syntax.erased Syntax.mut Element.behind))) (Reads'.as-is 𝓤 H A (Relend.mslice-owed (Element.type) (Syntax.tyRef (Syntax.named 3) Syntax.mut Element.behind) 3 9 (Row.lease (κs .1 .1 .1 .0)
-              (qs .1 .1 .1 .0)))) Path'.refl Path'.refl) d90
+              Syntax.erased Syntax.mut Element.behind))) (Reads'.as-is 𝓤 H A (Relend.mslice-owed (Element.type) (Syntax.tyRef (Syntax.named 3) Syntax.mut Element.behind) 3 7 (Row.lease (κs .1 .1 .1 .0)
+              (qs .1 .1 .1 .0)))) Path'.refl Path'.refl) d92
 
-          d92 : Typed.Typed 𝓤 H A 𝓣 E G58 b74 Δ3 at92
-          d92 = Typed.g-pre 𝓤 H A W 𝓣 E G58 G59 b74 Δ3 (λ Ψ. Ψ) at91 (Lifetime.g-end 𝓤 H A W E G58 9 Path'.refl) d91
+          d94 : Typed.Typed 𝓤 H A 𝓣 E G43 b69 Δ3 at94
+          d94 = Typed.g-pre 𝓤 H A W 𝓣 E G43 G44 b69 Δ3 (λ Ψ. Ψ) at93 (Lifetime.g-end 𝓤 H A W E G43 7 Path'.refl) d93
 
-          d93 : Typed.Typed 𝓤 H A 𝓣 E G57 b74 Δ3 at93
-          d93 = Typed.g-pre 𝓤 H A W 𝓣 E G57 G58 b74 Δ3 (Typed.pass T57 T58 s54) at92 (Scalar.g-room 𝓤 H A W E G57 29 Syntax.tyUnit (Scalar.room-sc 𝓤 H A W Row.sUnit)) d92
+          d95 : Typed.Typed 𝓤 H A 𝓣 E G42 b69 Δ3 at95
+          d95 = Typed.g-pre 𝓤 H A W 𝓣 E G42 G43 b69 Δ3 (Typed.pass T42 T43 s39) at94 (Scalar.g-room 𝓤 H A W E G42 27 Syntax.tyUnit (Scalar.room-sc 𝓤 H A W Row.sUnit)) d94
 
-          d94 : Typed.Typed 𝓤 H A 𝓣 E G56 b74 Δ3 at94
-          d94 = Typed.g-pre 𝓤 H A W 𝓣 E G56 G57 b74 Δ3 (Typed.pass T56 T57 s53) at93 (Scalar.g-room 𝓤 H A W E G56 28 Syntax.tyBool (Scalar.room-sc 𝓤 H A W Row.sBool)) d93
+          d96 : Typed.Typed 𝓤 H A 𝓣 E G41 b69 Δ3 at96
+          d96 = Typed.g-pre 𝓤 H A W 𝓣 E G41 G42 b69 Δ3 (Typed.pass T41 T42 s38) at95 (Scalar.g-room 𝓤 H A W E G41 26 Syntax.tyBool (Scalar.room-sc 𝓤 H A W Row.sBool)) d95
 
-          d95 : Typed.Typed 𝓤 H A 𝓣 E G55 b75 Δ3 at95
-          d95 = Typed.s-seq 𝓤 H A W 𝓣 E G55 G56 b25 b74 Δ3 (Typed.both s52) at94 (Plain.t-call-plain 𝓤 H A W 𝓣 1 ps·8 r·8 (claims· .16) (claims· .17) "block::records::restart" (known .8) E (λ pos β.
-              β) G55 (record { pos = 33; ty = Syntax.tyRef Syntax.erased Syntax.mut Element.behind; ref = λ x. x }, (Num.vAt 13 λ x. x, (Num.vAt 19 λ x. x, (Bool.bAt 28 λ x. x, tt)))) 29 (List._∷_ 9
-              List.[]) (Call.sub-id 𝓤 H A W (G55 .slots)) (
-                Reads'.as-is 𝓤 H A (Mut.mslice (Element.type) (Syntax.tyRef Syntax.erased Syntax.mut Element.behind) 9),
+          d97 : Typed.Typed 𝓤 H A 𝓣 E G40 b70 Δ3 at97
+          d97 = Typed.s-seq 𝓤 H A W 𝓣 E G40 G41 b20 b69 Δ3 (Typed.both s37) at96 (Plain.t-call-plain 𝓤 H A W 𝓣 1 ps·6 r·6 (claims· .12) (claims· .13) "block::records::restart" (known .6) E (λ pos β.
+              β) G40 (record { pos = 31; ty = Syntax.tyRef Syntax.erased Syntax.mut Element.behind; ref = λ x. x }, (Num.vAt 15 λ x. x, (Num.vAt 22 λ x. x, (Bool.bAt 26 λ x. x, tt)))) 27 (List._∷_ 7
+              List.[]) (Call.sub-id 𝓤 H A W (G40 .slots)) (
+                Reads'.as-is 𝓤 H A (Mut.mslice (Element.type) (Syntax.tyRef Syntax.erased Syntax.mut Element.behind) 7),
                 Mut.reads-mslice 𝓤 H A W (Element.type) (Syntax.tyRef Syntax.erased Syntax.mut
-                    Element.behind) 9,
+                    Element.behind) 7,
                 Path'.refl,
                 ((Scalar.reads-sc 𝓤 H A W (Row.sInt Syntax.w32), Path'.refl), ((Scalar.reads-sc 𝓤 H A W (Row.sInt Syntax.w32), Path'.refl), ((Scalar.reads-sc 𝓤 H A W Row.sBool, Path'.refl), tt))),
               )
-              (Reads'.room-gone 𝓤 H A Syntax.tyUnit) (tt, tt) Path'.refl) d94
+              (Reads'.room-gone 𝓤 H A Syntax.tyUnit) (tt, tt) Path'.refl) d96
 
-          d96 : Typed.Typed 𝓤 H A 𝓣 E G54 b76 Δ3 at96
-          d96 = Typed.s-seq 𝓤 H A W 𝓣 E G54 G55 b24 b75 Δ3 (Typed.both s51) at95 (Plain.t-call-plain 𝓤 H A W 𝓣 1 ps·7 r·7 (claims· .14) (claims· .15) "block::reading::is_restarted" (known .7) E (λ pos
-              β. β) G54 (record { pos = 2; ty = Syntax.tyRef (Syntax.named 1) Syntax.imm (Syntax.tyInt Syntax.w8); ref = λ x. x }, (Num.vAt 18 λ x. x, tt)) 28 (List._∷_ 1 List.[]) (Call.sub-id 𝓤 H A W
-              (G54 .slots)) (
+          d98 : Typed.Typed 𝓤 H A 𝓣 E G39 b71 Δ3 at98
+          d98 = Typed.s-seq 𝓤 H A W 𝓣 E G39 G40 b19 b70 Δ3 (Typed.both s36) at97 (Plain.t-call-plain 𝓤 H A W 𝓣 1 ps·5 r·5 (claims· .10) (claims· .11) "block::reading::is_restarted" (known .5) E (λ pos
+              β. β) G39 (record { pos = 2; ty = Syntax.tyRef (Syntax.named 1) Syntax.imm (Syntax.tyInt Syntax.w8); ref = λ x. x }, (Num.vAt 21 λ x. x, tt)) 26 (List._∷_ 1 List.[]) (Call.sub-id 𝓤 H A W
+              (G39 .slots)) (
                 ShrSlice.spares-sslice 𝓤 H A W (Referent.rtF (Referent.fInt Syntax.w8)) (Syntax.tyRef (Syntax.named 1) Syntax.imm (Syntax.tyInt Syntax.w8)) 1,
                 Shared.reads-sslice 𝓤 H A W (Referent.rtF
                     (Referent.fInt Syntax.w8)) (Syntax.tyRef (Syntax.named 1) Syntax.imm (Syntax.tyInt Syntax.w8)) 1,
                 Path'.refl,
                 ((Scalar.reads-sc 𝓤 H A W (Row.sInt Syntax.w64), Path'.refl), tt),
               )
-              (Reads'.room-gone 𝓤 H A Syntax.tyBool) (tt, tt) Path'.refl) d95
+              (Reads'.room-gone 𝓤 H A Syntax.tyBool) (tt, tt) Path'.refl) d97
 
-          d97 : Typed.Typed 𝓤 H A 𝓣 E G53 b77 Δ3 at97
-          d97 = Typed.s-seq 𝓤 H A W 𝓣 E G53 G54 b23 b76 Δ3 (Typed.ask s50) at96 (Relend.t-sl-aggregate 𝓤 H A W E (Element.type) 𝓣 (Relend.asMut (Element.type)) G53 32 33 9 (Syntax.tyRef Syntax.erased
+          d99 : Typed.Typed 𝓤 H A 𝓣 E G38 b72 Δ3 at99
+          d99 = Typed.s-seq 𝓤 H A W 𝓣 E G38 G39 b18 b71 Δ3 (Typed.ask s35) at98 (Relend.t-sl-aggregate 𝓤 H A W E (Element.type) 𝓣 (Relend.asMut (Element.type)) G38 30 31 7 (Syntax.tyRef Syntax.erased
               Syntax.mut Element.behind) (Syntax.tyRef Syntax.erased Syntax.mut Element.behind) (λ x. x) (Scalar.oFld 4 (List._∷_ (Syntax.field 1) List.[]) (Syntax.tyInt Syntax.w64) 8 λ v. Shared.lenV (v
-              .0)) (Reads'.as-is 𝓤 H A (Relend.msptr (Element.type) (Syntax.tyRef Syntax.erased Syntax.mut Element.behind) 9)) (Reads'.room-gone 𝓤 H A y6)
-              (Relend.reads-owed-len 𝓤 H A W (Element.type) (Syntax.tyRef (Syntax.named 3) Syntax.mut Element.behind) 3 9 (Row.lease (κs .1 .1 .1 .0) (qs .1 .1 .1 .0)) 8 Path'.refl, Path'.refl) Path'.refl
-              Path'.refl λ b o k. tt) d96
+              .0)) (Reads'.as-is 𝓤 H A (Relend.msptr (Element.type) (Syntax.tyRef Syntax.erased Syntax.mut Element.behind) 7)) (Reads'.room-gone 𝓤 H A y6)
+              (Relend.reads-owed-len 𝓤 H A W (Element.type) (Syntax.tyRef (Syntax.named 3) Syntax.mut Element.behind) 3 7 (Row.lease (κs .1 .1 .1 .0) (qs .1 .1 .1 .0)) 8 Path'.refl, Path'.refl) Path'.refl
+              Path'.refl λ b o k. tt) d98
 
-          d98 : Typed.Typed 𝓤 H A 𝓣 E G52 b78 Δ3 at98
-          d98 = Typed.s-seq 𝓤 H A W 𝓣 E G52 G53 b22 b77 Δ3 (Typed.give s49) at97 (Relend.t-sl-relend 𝓤 H A W E (Element.type) 𝓣 G52 4 32 3 9 (Syntax.tyRef (Syntax.named 3) Syntax.mut Element.behind)
+          d100 : Typed.Typed 𝓤 H A 𝓣 E G37 b73 Δ3 at100
+          d100 = Typed.s-seq 𝓤 H A W 𝓣 E G37 G38 b17 b72 Δ3 (Typed.give s34) at99 (Relend.t-sl-relend 𝓤 H A W E (Element.type) 𝓣 G37 4 30 3 7 (Syntax.tyRef (Syntax.named 3) Syntax.mut Element.behind)
               (Syntax.tyRef Syntax.erased Syntax.mut Element.behind) (Row.lease (κs .1 .1 .1 .0) (qs .1 .1 .1 .0)) 0 (λ x. x) (Reads'.as-is 𝓤 H A (Mut.mslice (Element.type) (Syntax.tyRef (Syntax.named 3)
-              Syntax.mut Element.behind) 3)) (Reads'.room-gone 𝓤 H A (Syntax.tyRef Syntax.erased Syntax.mut Element.behind)) Path'.refl tt Path'.refl Path'.refl Path'.refl λ b o. tt) d97
+              Syntax.mut Element.behind) 3)) (Reads'.room-gone 𝓤 H A (Syntax.tyRef Syntax.erased Syntax.mut Element.behind)) Path'.refl tt Path'.refl Path'.refl Path'.refl λ b o. tt) d99
 
-          d99 : Typed.Typed 𝓤 H A 𝓣 E G51 b78 Δ3 at99
-          d99 = Typed.g-pre 𝓤 H A W 𝓣 E G51 G52 b78 Δ3 (λ Ψ. Ψ) at98 (Lifetime.g-begin 𝓤 H A W E G51 9 (
+          d101 : Typed.Typed 𝓤 H A 𝓣 E G36 b73 Δ3 at101
+          d101 = Typed.g-pre 𝓤 H A W 𝓣 E G36 G37 b73 Δ3 (λ Ψ. Ψ) at100 (Lifetime.g-begin 𝓤 H A W E G36 7 (
             tt,
             (
               tt,
@@ -5601,16 +5251,7 @@ module _ (claims· : Claims) where
                                                   tt,
                                                   (
                                                     tt,
-                                                    (
-                                                      tt,
-                                                      (
-                                                        tt,
-                                                        (
-                                                          tt,
-                                                          (tt, (tt, (tt, (tt, (tt, (tt, (tt, (tt, (tt, (tt, (tt, (tt, (tt, (tt, (tt, (tt, (tt, (tt, (tt, (tt, (tt, (tt, (tt, (tt, (tt, (tt, (tt, tt))))))))))))))))))))))))))),
-                                                        ),
-                                                      ),
-                                                    ),
+                                                    (tt, (tt, (tt, (tt, (tt, (tt, (tt, (tt, (tt, (tt, (tt, (tt, (tt, (tt, (tt, (tt, (tt, (tt, (tt, (tt, (tt, (tt, (tt, (tt, (tt, (tt, (tt, tt))))))))))))))))))))))))))),
                                                   ),
                                                 ),
                                               ),
@@ -5632,11 +5273,11 @@ module _ (claims· : Claims) where
               ),
             ),
           ))
-              d98
+              d100
 
-          d100 : Typed.Typed 𝓤 H A 𝓣 E G50 b79 Δ3 at100
-          d100 = Typed.s-seq 𝓤 H A W 𝓣 E G50 G51 b21 b78 Δ3 (Typed.both s47) at99 (Plain.t-call-plain 𝓤 H A W 𝓣 1 ps·2 r·2 (claims· .4) (claims· .5) "cameras::base_of" (known .2) E (λ pos β. β) G50
-              (record { pos = 2; ty = Syntax.tyRef (Syntax.named 1) Syntax.imm (Syntax.tyInt Syntax.w8); ref = λ x. x }, (Num.vAt 18 λ x. x, tt)) 19 (List._∷_ 1 List.[]) (Call.sub-id 𝓤 H A W (G50
+          d102 : Typed.Typed 𝓤 H A 𝓣 E G35 b74 Δ3 at102
+          d102 = Typed.s-seq 𝓤 H A W 𝓣 E G35 G36 b16 b73 Δ3 (Typed.both s32) at101 (Plain.t-call-plain 𝓤 H A W 𝓣 1 ps·4 r·4 (claims· .8) (claims· .9) "cameras::base_of" (known .4) E (λ pos β. β) G35
+              (record { pos = 2; ty = Syntax.tyRef (Syntax.named 1) Syntax.imm (Syntax.tyInt Syntax.w8); ref = λ x. x }, (Num.vAt 21 λ x. x, tt)) 22 (List._∷_ 1 List.[]) (Call.sub-id 𝓤 H A W (G35
               .slots)) (
                 ShrSlice.spares-sslice 𝓤 H A W (Referent.rtF (Referent.fInt Syntax.w8)) (Syntax.tyRef (Syntax.named 1) Syntax.imm (Syntax.tyInt Syntax.w8)) 1,
                 Shared.reads-sslice 𝓤 H A W (Referent.rtF
@@ -5644,65 +5285,65 @@ module _ (claims· : Claims) where
                 Path'.refl,
                 ((Scalar.reads-sc 𝓤 H A W (Row.sInt Syntax.w64), Path'.refl), tt),
               )
-              (Reads'.room-gone 𝓤 H A (Syntax.tyInt Syntax.w32)) (tt, tt) Path'.refl) d99
+              (Reads'.room-gone 𝓤 H A (Syntax.tyInt Syntax.w32)) (tt, tt) Path'.refl) d101
 
-          d101 : Typed.Typed 𝓤 H A 𝓣 E G49 b79 Δ3 at101
-          d101 = Typed.g-pre 𝓤 H A W 𝓣 E G49 G50 b79 Δ3 (λ Ψ. Ψ) at100 (Lifetime.g-forget 𝓤 H A W E G49 8 Row.dead Path'.refl) d100
+          d103 : Typed.Typed 𝓤 H A 𝓣 E G34 b74 Δ3 at103
+          d103 = Typed.g-pre 𝓤 H A W 𝓣 E G34 G35 b74 Δ3 (λ Ψ. Ψ) at102 (Lifetime.g-forget 𝓤 H A W E G34 6 Row.dead Path'.refl) d102
 
-          d102 : Typed.Typed 𝓤 H A 𝓣 E G48 b79 Δ3 at102
-          d102 = Typed.g-pre 𝓤 H A W 𝓣 E G48 G49 b79 Δ3 (Typed.give s45) at101 (Know.g-sl-known 𝓤 H A W (Referent.fInt Syntax.w16) E G48 3 2 (Syntax.tyRef (Syntax.named 2) Syntax.mut (Syntax.tyInt
+          d104 : Typed.Typed 𝓤 H A 𝓣 E G33 b74 Δ3 at104
+          d104 = Typed.g-pre 𝓤 H A W 𝓣 E G33 G34 b74 Δ3 (Typed.give s30) at103 (Know.g-sl-known 𝓤 H A W (Referent.fInt Syntax.w16) E G33 3 2 (Syntax.tyRef (Syntax.named 2) Syntax.mut (Syntax.tyInt
               Syntax.w16)) (Row.lease (κs .1 .1 .0) (qs .1 .1 .0)) 0 (λ x. x) record { fits = Dec'.lit< tt } (Reads'.as-is 𝓤 H A (Mut.mslice (Referent.rtF (Referent.fInt Syntax.w16)) (Syntax.tyRef
-              (Syntax.named 2) Syntax.mut (Syntax.tyInt Syntax.w16)) 2)) Path'.refl tt) d101
+              (Syntax.named 2) Syntax.mut (Syntax.tyInt Syntax.w16)) 2)) Path'.refl tt) d103
 
-          d103 : Typed.Typed 𝓤 H A 𝓣 E G47 b79 Δ3 at103
-          d103 = Typed.g-pre 𝓤 H A W 𝓣 E G47 G48 b79 Δ3 (Typed.both s44) at102 (Relend.g-back-sl 𝓤 H A W E (Referent.rtF (Referent.fInt Syntax.w16)) G47 31 3 2 8 (Syntax.tyRef (Syntax.named 2)
+          d105 : Typed.Typed 𝓤 H A 𝓣 E G32 b74 Δ3 at105
+          d105 = Typed.g-pre 𝓤 H A W 𝓣 E G32 G33 b74 Δ3 (Typed.both s29) at104 (Relend.g-back-sl 𝓤 H A W E (Referent.rtF (Referent.fInt Syntax.w16)) G32 29 3 2 6 (Syntax.tyRef (Syntax.named 2)
               Syntax.mut (Syntax.tyInt Syntax.w16)) (Syntax.tyRef Syntax.erased Syntax.mut (Syntax.tyInt Syntax.w16)) (Row.lease (κs .1 .1 .0) (qs .1 .1 .0)) (λ x. x) (λ x. x) (Reads'.as-is 𝓤 H A
               (Mut.msleft (Referent.rtF (Referent.fInt Syntax.w16)) (Syntax.tyRef Syntax.erased Syntax.mut (Syntax.tyInt Syntax.w16)))) (Reads'.as-is 𝓤 H A (Relend.mslice-owed (Referent.rtF (Referent.fInt
-              Syntax.w16)) (Syntax.tyRef (Syntax.named 2) Syntax.mut (Syntax.tyInt Syntax.w16)) 2 8 (Row.lease (κs .1 .1 .0) (qs .1 .1 .0)))) Path'.refl Path'.refl) d102
+              Syntax.w16)) (Syntax.tyRef (Syntax.named 2) Syntax.mut (Syntax.tyInt Syntax.w16)) 2 6 (Row.lease (κs .1 .1 .0) (qs .1 .1 .0)))) Path'.refl Path'.refl) d104
 
-          d104 : Typed.Typed 𝓤 H A 𝓣 E G46 b79 Δ3 at104
-          d104 = Typed.g-pre 𝓤 H A W 𝓣 E G46 G47 b79 Δ3 (λ Ψ. Ψ) at103 (Lifetime.g-end 𝓤 H A W E G46 8 Path'.refl) d103
+          d106 : Typed.Typed 𝓤 H A 𝓣 E G31 b74 Δ3 at106
+          d106 = Typed.g-pre 𝓤 H A W 𝓣 E G31 G32 b74 Δ3 (λ Ψ. Ψ) at105 (Lifetime.g-end 𝓤 H A W E G31 6 Path'.refl) d105
 
-          d105 : Typed.Typed 𝓤 H A 𝓣 E G45 b79 Δ3 at105
-          d105 = Typed.g-pre 𝓤 H A W 𝓣 E G45 G46 b79 Δ3 (Typed.pass T45 T46 s42) at104 (Scalar.g-room 𝓤 H A W E G45 29 Syntax.tyUnit (Scalar.room-sc 𝓤 H A W Row.sUnit)) d104
+          d107 : Typed.Typed 𝓤 H A 𝓣 E G30 b74 Δ3 at107
+          d107 = Typed.g-pre 𝓤 H A W 𝓣 E G30 G31 b74 Δ3 (Typed.pass T30 T31 s27) at106 (Scalar.g-room 𝓤 H A W E G30 27 Syntax.tyUnit (Scalar.room-sc 𝓤 H A W Row.sUnit)) d106
 
-          d106 : Typed.Typed 𝓤 H A 𝓣 E G44 b79 Δ3 at106
-          d106 = Typed.g-pre 𝓤 H A W 𝓣 E G44 G45 b79 Δ3 (Typed.pass T44 T45 s41) at105 (Scalar.g-room 𝓤 H A W E G44 28 Syntax.tyBool (Scalar.room-sc 𝓤 H A W Row.sBool)) d105
+          d108 : Typed.Typed 𝓤 H A 𝓣 E G29 b74 Δ3 at108
+          d108 = Typed.g-pre 𝓤 H A W 𝓣 E G29 G30 b74 Δ3 (Typed.pass T29 T30 s26) at107 (Scalar.g-room 𝓤 H A W E G29 26 Syntax.tyBool (Scalar.room-sc 𝓤 H A W Row.sBool)) d107
 
-          d107 : Typed.Typed 𝓤 H A 𝓣 E G43 b80 Δ3 at107
-          d107 = Typed.s-seq 𝓤 H A W 𝓣 E G43 G44 b20 b79 Δ3 (Typed.both s40) at106 (Plain.t-call-plain 𝓤 H A W 𝓣 1 ps·6 r·6 (claims· .12) (claims· .13) "lines::turn_if" (known .6) E (λ pos β. β) G43
-              (record { pos = 31; ty = Syntax.tyRef Syntax.erased Syntax.mut (Syntax.tyInt Syntax.w16); ref = λ x. x }, (Num.vAt 15 λ x. x, (Bool.bAt 28 λ x. x, tt))) 29 (List._∷_ 8 List.[]) (Call.sub-id
-              𝓤 H A W (G43 .slots)) (
-                Reads'.as-is 𝓤 H A (Mut.mslice (Referent.rtF (Referent.fInt Syntax.w16)) (Syntax.tyRef Syntax.erased Syntax.mut (Syntax.tyInt Syntax.w16)) 8),
+          d109 : Typed.Typed 𝓤 H A 𝓣 E G28 b75 Δ3 at109
+          d109 = Typed.s-seq 𝓤 H A W 𝓣 E G28 G29 b15 b74 Δ3 (Typed.both s25) at108 (Plain.t-call-plain 𝓤 H A W 𝓣 1 ps·3 r·3 (claims· .6) (claims· .7) "lines::turn_if" (known .3) E (λ pos β. β) G28
+              (record { pos = 29; ty = Syntax.tyRef Syntax.erased Syntax.mut (Syntax.tyInt Syntax.w16); ref = λ x. x }, (Num.vAt 17 λ x. x, (Bool.bAt 26 λ x. x, tt))) 27 (List._∷_ 6 List.[]) (Call.sub-id
+              𝓤 H A W (G28 .slots)) (
+                Reads'.as-is 𝓤 H A (Mut.mslice (Referent.rtF (Referent.fInt Syntax.w16)) (Syntax.tyRef Syntax.erased Syntax.mut (Syntax.tyInt Syntax.w16)) 6),
                 Mut.reads-mslice 𝓤 H A W (Referent.rtF
-                    (Referent.fInt Syntax.w16)) (Syntax.tyRef Syntax.erased Syntax.mut (Syntax.tyInt Syntax.w16)) 8,
+                    (Referent.fInt Syntax.w16)) (Syntax.tyRef Syntax.erased Syntax.mut (Syntax.tyInt Syntax.w16)) 6,
                 Path'.refl,
                 ((Scalar.reads-sc 𝓤 H A W (Row.sInt Syntax.w64), Path'.refl), ((Scalar.reads-sc 𝓤 H A W Row.sBool, Path'.refl), tt)),
-              ) (Reads'.room-gone 𝓤 H A Syntax.tyUnit) (tt, tt) Path'.refl) d106
+              ) (Reads'.room-gone 𝓤 H A Syntax.tyUnit) (tt, tt) Path'.refl) d108
 
-          d108 : Typed.Typed 𝓤 H A 𝓣 E G42 b81 Δ3 at108
-          d108 = Typed.s-seq 𝓤 H A W 𝓣 E G42 G43 b19 b80 Δ3 (Typed.ask s39) at107 (Scalar.t-op1 𝓤 H A W E 𝓣 G42 Syntax.bitNot (Scalar.oAt 11 Syntax.tyBool (Row.valS Row.sBool)) 28 (Rows'.sc-here
+          d110 : Typed.Typed 𝓤 H A 𝓣 E G27 b76 Δ3 at110
+          d110 = Typed.s-seq 𝓤 H A W 𝓣 E G27 G28 b14 b75 Δ3 (Typed.ask s24) at109 (Scalar.t-op1 𝓤 H A W E 𝓣 G27 Syntax.bitNot (Scalar.oAt 13 Syntax.tyBool (Row.valS Row.sBool)) 26 (Rows'.sc-here
               Row.sBool) Syntax.tyBool (Row.valS Row.sBool) (Row.sBool .of) (Scalar.reads-sc 𝓤 H A W Row.sBool, Path'.refl) (Reads'.room-gone 𝓤 H A Syntax.tyBool) (Scalar.holds-sc 𝓤 H A W Row.sBool)
-              Path'.refl (λ u. Path'.refl) λ u. tt) d107
+              Path'.refl (λ u. Path'.refl) λ u. tt) d109
 
-          d109 : Typed.Typed 𝓤 H A 𝓣 E G41 b82 Δ3 at109
-          d109 = Typed.s-seq 𝓤 H A W 𝓣 E G41 G42 b18 b81 Δ3 (Typed.ask s38) at108 (Relend.t-sl-aggregate 𝓤 H A W E (Referent.rtF (Referent.fInt Syntax.w16)) 𝓣 (Relend.asMut (Referent.rtF
-              (Referent.fInt Syntax.w16))) G41 30 31 8 (Syntax.tyRef Syntax.erased Syntax.mut (Syntax.tyInt Syntax.w16)) (Syntax.tyRef Syntax.erased Syntax.mut (Syntax.tyInt Syntax.w16)) (λ x. x)
+          d111 : Typed.Typed 𝓤 H A 𝓣 E G26 b77 Δ3 at111
+          d111 = Typed.s-seq 𝓤 H A W 𝓣 E G26 G27 b13 b76 Δ3 (Typed.ask s23) at110 (Relend.t-sl-aggregate 𝓤 H A W E (Referent.rtF (Referent.fInt Syntax.w16)) 𝓣 (Relend.asMut (Referent.rtF
+              (Referent.fInt Syntax.w16))) G26 28 29 6 (Syntax.tyRef Syntax.erased Syntax.mut (Syntax.tyInt Syntax.w16)) (Syntax.tyRef Syntax.erased Syntax.mut (Syntax.tyInt Syntax.w16)) (λ x. x)
               (Scalar.oFld 3 (List._∷_ (Syntax.field 1) List.[]) (Syntax.tyInt Syntax.w64) 8 λ v. Shared.lenV (v .0)) (Reads'.as-is 𝓤 H A (Relend.msptr (Referent.rtF (Referent.fInt Syntax.w16))
-              (Syntax.tyRef Syntax.erased Syntax.mut (Syntax.tyInt Syntax.w16)) 8)) (Reads'.room-gone 𝓤 H A y5) (
-                Relend.reads-owed-len 𝓤 H A W (Referent.rtF (Referent.fInt Syntax.w16)) (Syntax.tyRef (Syntax.named 2) Syntax.mut (Syntax.tyInt Syntax.w16)) 2 8 (Row.lease (κs .1 .1 .0) (qs .1 .1 .0)) 8
+              (Syntax.tyRef Syntax.erased Syntax.mut (Syntax.tyInt Syntax.w16)) 6)) (Reads'.room-gone 𝓤 H A y5) (
+                Relend.reads-owed-len 𝓤 H A W (Referent.rtF (Referent.fInt Syntax.w16)) (Syntax.tyRef (Syntax.named 2) Syntax.mut (Syntax.tyInt Syntax.w16)) 2 6 (Row.lease (κs .1 .1 .0) (qs .1 .1 .0)) 8
                     Path'.refl,
                 Path'.refl,
-              ) Path'.refl Path'.refl λ b o k. tt) d108
+              ) Path'.refl Path'.refl λ b o k. tt) d110
 
-          d110 : Typed.Typed 𝓤 H A 𝓣 E G40 b83 Δ3 at110
-          d110 = Typed.s-seq 𝓤 H A W 𝓣 E G40 G41 b17 b82 Δ3 (Typed.give s37) at109 (Relend.t-sl-relend 𝓤 H A W E (Referent.rtF (Referent.fInt Syntax.w16)) 𝓣 G40 3 30 2 8 (Syntax.tyRef (Syntax.named 2)
+          d112 : Typed.Typed 𝓤 H A 𝓣 E G25 b78 Δ3 at112
+          d112 = Typed.s-seq 𝓤 H A W 𝓣 E G25 G26 b12 b77 Δ3 (Typed.give s22) at111 (Relend.t-sl-relend 𝓤 H A W E (Referent.rtF (Referent.fInt Syntax.w16)) 𝓣 G25 3 28 2 6 (Syntax.tyRef (Syntax.named 2)
               Syntax.mut (Syntax.tyInt Syntax.w16)) (Syntax.tyRef Syntax.erased Syntax.mut (Syntax.tyInt Syntax.w16)) (Row.lease (κs .1 .1 .0) (qs .1 .1 .0)) 0 (λ x. x) (Reads'.as-is 𝓤 H A (Mut.mslice
               (Referent.rtF (Referent.fInt Syntax.w16)) (Syntax.tyRef (Syntax.named 2) Syntax.mut (Syntax.tyInt Syntax.w16)) 2)) (Reads'.room-gone 𝓤 H A (Syntax.tyRef Syntax.erased Syntax.mut
-              (Syntax.tyInt Syntax.w16))) Path'.refl tt Path'.refl Path'.refl Path'.refl λ b o. tt) d109
+              (Syntax.tyInt Syntax.w16))) Path'.refl tt Path'.refl Path'.refl Path'.refl λ b o. tt) d111
 
-          d111 : Typed.Typed 𝓤 H A 𝓣 E G33 b83 Δ3 at111
-          d111 = Typed.g-pre 𝓤 H A W 𝓣 E G33 G40 b83 Δ3 (λ Ψ. Ψ) at110 (Lifetime.g-begin 𝓤 H A W E G33 8 (
+          d113 : Typed.Typed 𝓤 H A 𝓣 E G24 b78 Δ3 at113
+          d113 = Typed.g-pre 𝓤 H A W 𝓣 E G24 G25 b78 Δ3 (λ Ψ. Ψ) at112 (Lifetime.g-begin 𝓤 H A W E G24 6 (
             tt,
             (
               tt,
@@ -5744,16 +5385,7 @@ module _ (claims· : Claims) where
                                                   tt,
                                                   (
                                                     tt,
-                                                    (
-                                                      tt,
-                                                      (
-                                                        tt,
-                                                        (
-                                                          tt,
-                                                          (tt, (tt, (tt, (tt, (tt, (tt, (tt, (tt, (tt, (tt, (tt, (tt, (tt, (tt, (tt, (tt, (tt, (tt, (tt, (tt, (tt, (tt, (tt, (tt, (tt, (tt, (tt, tt))))))))))))))))))))))))))),
-                                                        ),
-                                                      ),
-                                                    ),
+                                                    (tt, (tt, (tt, (tt, (tt, (tt, (tt, (tt, (tt, (tt, (tt, (tt, (tt, (tt, (tt, (tt, (tt, (tt, (tt, (tt, (tt, (tt, (tt, (tt, (tt, (tt, (tt, tt))))))))))))))))))))))))))),
                                                   ),
                                                 ),
                                               ),
@@ -5775,107 +5407,112 @@ module _ (claims· : Claims) where
               ),
             ),
           ))
-              d110
+              d112
 
-          d112 : Typed.Typed 𝓤 H A 𝓣 E G32 b84 Δ3 at112
-          d112 = Typed.t-seq 𝓤 H A W 𝓣 E G32 G33 b16 b83 Δ3 at8 at111 d8 d111
+          d114 : Typed.Typed 𝓤 H A 𝓣 E G17 b79 Δ3 at114
+          d114 = Typed.s-seq 𝓤 H A W 𝓣 E G17 G24 b11 b78 Δ3 (Typed.ask s20) at113 (Scalar.t-op2 𝓤 H A W E 𝓣 G17 (Syntax.add Syntax.unsigned) (Scalar.oAt 10 (Syntax.tyInt Syntax.w64) (Row.valS
+              (Row.sInt Syntax.w64))) (Scalar.oAt 20 (Syntax.tyInt Syntax.w64) (Row.valS (Row.sInt Syntax.w64))) 21 (Rows'.sc-here (Row.sInt Syntax.w64)) (Syntax.tyInt Syntax.w64) (Row.valS (Row.sInt
+              Syntax.w64)) (Row.sInt Syntax.w64 .of) (Scalar.reads-sc 𝓤 H A W (Row.sInt Syntax.w64), Path'.refl) (Scalar.reads-sc 𝓤 H A W (Row.sInt Syntax.w64), Path'.refl) (Reads'.room-gone 𝓤 H A
+              (Syntax.tyInt Syntax.w64)) (Scalar.holds-sc 𝓤 H A W (Row.sInt Syntax.w64)) Path'.refl (λ u. Path'.refl) λ u. tt) d113
 
-          d113 : Typed.Typed 𝓤 H A 𝓣 E G30 b85 Δ3 at113
-          d113 = Typed.s-seq 𝓤 H A W 𝓣 E G30 G32 b13 b84 Δ3 (Typed.ask s29) at112 (Scalar.t-op2 𝓤 H A W E 𝓣 G30 (Syntax.lt Syntax.unsigned) (Scalar.oAt 18 (Syntax.tyInt Syntax.w64) (Row.valS (Row.sInt
-              Syntax.w64))) (Scalar.oAt 10 (Syntax.tyInt Syntax.w64) (Row.valS (Row.sInt Syntax.w64))) 28 (Rows'.sc-here Row.sBool) Syntax.tyBool (Row.valS Row.sBool) (Row.sBool .of)
+          d115 : Typed.Typed 𝓤 H A 𝓣 E G16 b80 Δ3 at115
+          d115 = Typed.t-seq 𝓤 H A W 𝓣 E G16 G17 b10 b79 Δ3 at8 at114 d8 d114
+
+          d116 : Typed.Typed 𝓤 H A 𝓣 E G14 b81 Δ3 at116
+          d116 = Typed.s-seq 𝓤 H A W 𝓣 E G14 G16 b7 b80 Δ3 (Typed.ask s13) at115 (Scalar.t-op2 𝓤 H A W E 𝓣 G14 (Syntax.lt Syntax.unsigned) (Scalar.oAt 20 (Syntax.tyInt Syntax.w64) (Row.valS (Row.sInt
+              Syntax.w64))) (Scalar.oAt 12 (Syntax.tyInt Syntax.w64) (Row.valS (Row.sInt Syntax.w64))) 26 (Rows'.sc-here Row.sBool) Syntax.tyBool (Row.valS Row.sBool) (Row.sBool .of)
               (Scalar.reads-sc 𝓤 H A W (Row.sInt Syntax.w64), Path'.refl) (Scalar.reads-sc 𝓤 H A W (Row.sInt Syntax.w64), Path'.refl) (Reads'.room-gone 𝓤 H A Syntax.tyBool) (Scalar.holds-sc 𝓤 H A W
-              Row.sBool) Path'.refl (λ u. Path'.refl) λ u. tt) d112
+              Row.sBool) Path'.refl (λ u. Path'.refl) λ u. tt) d115
 
-          d114 : Typed.Typed 𝓤 H A 𝓣 E G30 b86 Δ2 at114
-          d114 = Typed.t-loop-by 𝓤 H A W 𝓣 E G30 b85 Δ2 put0 (λ u vs. Inv·0 (Row.get 1 (T30 .locals) u .now) (Row.get 2 (T30 .locals) u .now) (Row.get 3 (T30 .locals) u .now) (Row.get 4 (T30 .locals)
-              u .now) (Row.get 5 (T30 .locals) u .now) (Row.get 6 (T30 .locals) u) (Row.get 7 (T30 .locals) u .now) (Row.get 8 (T30 .locals) u) (Row.get 9 (T30 .locals) u) (Row.get 10 (T30 .locals) u)
-              (Row.get 11 (T30 .locals) u) (Row.get 12 (T30 .locals) u) (Row.get 13 (T30 .locals) u) (Row.get 14 (T30 .locals) u) (Row.get 15 (T30 .locals) u) (Row.get 16 (T30 .locals) u) (Row.get 17 (T30
-              .locals) u) (Row.get 18 (T30 .locals) u) (vs .0) (vs .1) (vs .2) (vs .3) (vs .4) (vs .5)) (λ u vs. μ·0 (Row.get 1 (T30 .locals) u .now) (Row.get 2 (T30 .locals) u .now) (Row.get 3 (T30
-              .locals) u .now) (Row.get 4 (T30 .locals) u .now) (Row.get 5 (T30 .locals) u .now) (Row.get 6 (T30 .locals) u) (Row.get 7 (T30 .locals) u .now) (Row.get 8 (T30 .locals) u) (Row.get 9 (T30
-              .locals) u) (Row.get 10 (T30 .locals) u) (Row.get 11 (T30 .locals) u) (Row.get 12 (T30 .locals) u) (Row.get 13 (T30 .locals) u) (Row.get 14 (T30 .locals) u) (Row.get 15 (T30 .locals) u)
-              (Row.get 16 (T30 .locals) u) (Row.get 17 (T30 .locals) u) (Row.get 18 (T30 .locals) u) (vs .0) (vs .1) (vs .2) (vs .3) (vs .4) (vs .5)) at113 d113
+          d117 : Typed.Typed 𝓤 H A 𝓣 E G14 b82 Δ2 at117
+          d117 = Typed.t-loop-by 𝓤 H A W 𝓣 E G14 b81 Δ2 put0 (λ u vs. Inv·0 (Row.get 1 (T14 .locals) u .now) (Row.get 2 (T14 .locals) u .now) (Row.get 3 (T14 .locals) u .now) (Row.get 4 (T14 .locals)
+              u .now) (Row.get 5 (T14 .locals) u .now) (Row.get 6 (T14 .locals) u) (Row.get 7 (T14 .locals) u .now) (Row.get 8 (T14 .locals) u) (Row.get 9 (T14 .locals) u) (Row.get 10 (T14 .locals) u)
+              (Row.get 12 (T14 .locals) u) (Row.get 13 (T14 .locals) u) (Row.get 14 (T14 .locals) u) (Row.get 15 (T14 .locals) u) (Row.get 16 (T14 .locals) u) (Row.get 17 (T14 .locals) u) (Row.get 18 (T14
+              .locals) u) (Row.get 19 (T14 .locals) u) (Row.get 20 (T14 .locals) u) (vs .0) (vs .1) (vs .2) (vs .3) (vs .4) (vs .5)) (λ u vs. μ·0 (Row.get 1 (T14 .locals) u .now) (Row.get 2 (T14 .locals)
+              u .now) (Row.get 3 (T14 .locals) u .now) (Row.get 4 (T14 .locals) u .now) (Row.get 5 (T14 .locals) u .now) (Row.get 6 (T14 .locals) u) (Row.get 7 (T14 .locals) u .now) (Row.get 8 (T14
+              .locals) u) (Row.get 9 (T14 .locals) u) (Row.get 10 (T14 .locals) u) (Row.get 12 (T14 .locals) u) (Row.get 13 (T14 .locals) u) (Row.get 14 (T14 .locals) u) (Row.get 15 (T14 .locals) u)
+              (Row.get 16 (T14 .locals) u) (Row.get 17 (T14 .locals) u) (Row.get 18 (T14 .locals) u) (Row.get 19 (T14 .locals) u) (Row.get 20 (T14 .locals) u) (vs .0) (vs .1) (vs .2) (vs .3) (vs .4) (vs
+              .5)) at116 d116
 
-          d115 : Typed.Typed 𝓤 H A 𝓣 E G30 b87 Δ1 at115
-          d115 = Typed.t-block 𝓤 H A W 𝓣 E G30 b86 Δ1 at114 d114
+          d118 : Typed.Typed 𝓤 H A 𝓣 E G14 b83 Δ1 at118
+          d118 = Typed.t-block 𝓤 H A W 𝓣 E G14 b82 Δ1 at117 d117
 
-          d116 : Typed.Typed 𝓤 H A 𝓣 E G153 b90 Δ0 at116
-          d116 = Typed.t-return 𝓤 H A W 𝓣 E Δ0 tt
+          d119 : Typed.Typed 𝓤 H A 𝓣 E G142 b86 Δ0 at119
+          d119 = Typed.t-return 𝓤 H A W 𝓣 E Δ0 tt
 
-          d117 : Typed.Typed 𝓤 H A 𝓣 E G152 b90 Δ0 at117
-          d117 = Typed.g-pre 𝓤 H A W 𝓣 E G152 G153 b90 Δ0 (Typed.pass T152 T153 s148) at116 (Scalar.g-room 𝓤 H A W E G152 11 Syntax.tyBool (Scalar.room-sc 𝓤 H A W Row.sBool)) d116
+          d120 : Typed.Typed 𝓤 H A 𝓣 E G141 b86 Δ0 at120
+          d120 = Typed.g-pre 𝓤 H A W 𝓣 E G141 G142 b86 Δ0 (Typed.pass T141 T142 s137) at119 (Scalar.g-room 𝓤 H A W E G141 13 Syntax.tyBool (Scalar.room-sc 𝓤 H A W Row.sBool)) d119
 
-          d118 : Typed.Typed 𝓤 H A 𝓣 E G151 b90 Δ0 at118
-          d118 = Typed.g-pre 𝓤 H A W 𝓣 E G151 G152 b90 Δ0 (Typed.pass T151 T152 s147) at117 (Scalar.g-room 𝓤 H A W E G151 10 (Syntax.tyInt Syntax.w64) (Scalar.room-sc 𝓤 H A W (Row.sInt Syntax.w64)))
-              d117
+          d121 : Typed.Typed 𝓤 H A 𝓣 E G140 b86 Δ0 at121
+          d121 = Typed.g-pre 𝓤 H A W 𝓣 E G140 G141 b86 Δ0 (Typed.pass T140 T141 s136) at120 (Scalar.g-room 𝓤 H A W E G140 12 (Syntax.tyInt Syntax.w64) (Scalar.room-sc 𝓤 H A W (Row.sInt Syntax.w64)))
+              d120
 
-          d119 : Typed.Typed 𝓤 H A 𝓣 E G150 b90 Δ0 at119
-          d119 = Typed.g-pre 𝓤 H A W 𝓣 E G150 G151 b90 Δ0 (Typed.pass T150 T151 s146) at118 (Scalar.g-room 𝓤 H A W E G150 50 y3 (Local.room-whole 𝓤 H A W (Declared'.row Totals.the-type) y3
-              Path'.refl)) d118
-
-          d120 : Typed.Typed 𝓤 H A 𝓣 E G149 b90 Δ0 at120
-          d120 = Typed.g-pre 𝓤 H A W 𝓣 E G149 G150 b90 Δ0 (Typed.pass T149 T150 s145) at119 (Scalar.g-room 𝓤 H A W E G149 18 (Syntax.tyInt Syntax.w64) (Scalar.room-sc 𝓤 H A W (Row.sInt Syntax.w64)))
-              d119
-
-          d121 : Typed.Typed 𝓤 H A 𝓣 E G148 b90 Δ0 at121
-          d121 = Typed.g-pre 𝓤 H A W 𝓣 E G148 G149 b90 Δ0 (Typed.pass T148 T149 s144) at120 (Scalar.g-room 𝓤 H A W E G148 17 y9 (Local.room-whole 𝓤 H A W (Declared'.row TightLines.the-type) y9
-              Path'.refl)) d120
-
-          d122 : Typed.Typed 𝓤 H A 𝓣 E G147 b90 Δ0 at122
-          d122 = Typed.g-pre 𝓤 H A W 𝓣 E G147 G148 b90 Δ0 (Typed.pass T147 T148 s143) at121 (Scalar.g-room 𝓤 H A W E G147 15 (Syntax.tyInt Syntax.w64) (Scalar.room-sc 𝓤 H A W (Row.sInt Syntax.w64)))
+          d122 : Typed.Typed 𝓤 H A 𝓣 E G139 b86 Δ0 at122
+          d122 = Typed.g-pre 𝓤 H A W 𝓣 E G139 G140 b86 Δ0 (Typed.pass T139 T140 s135) at121 (Scalar.g-room 𝓤 H A W E G139 10 (Syntax.tyInt Syntax.w64) (Scalar.room-sc 𝓤 H A W (Row.sInt Syntax.w64)))
               d121
 
-          d123 : Typed.Typed 𝓤 H A 𝓣 E G146 b90 Δ0 at123
-          d123 = Typed.g-pre 𝓤 H A W 𝓣 E G146 G147 b90 Δ0 (Typed.pass T146 T147 s142) at122 (Scalar.g-room 𝓤 H A W E G146 14 Syntax.tyBool (Scalar.room-sc 𝓤 H A W Row.sBool)) d122
+          d123 : Typed.Typed 𝓤 H A 𝓣 E G138 b86 Δ0 at123
+          d123 = Typed.g-pre 𝓤 H A W 𝓣 E G138 G139 b86 Δ0 (Typed.pass T138 T139 s134) at122 (Scalar.g-room 𝓤 H A W E G138 25 y3 (Local.room-whole 𝓤 H A W (Declared'.row Totals.the-type) y3
+              Path'.refl)) d122
 
-          d124 : Typed.Typed 𝓤 H A 𝓣 E G145 b90 Δ0 at124
-          d124 = Typed.g-pre 𝓤 H A W 𝓣 E G145 G146 b90 Δ0 (Typed.pass T145 T146 s141) at123 (Scalar.g-room 𝓤 H A W E G145 13 (Syntax.tyInt Syntax.w32) (Scalar.room-sc 𝓤 H A W (Row.sInt Syntax.w32)))
+          d124 : Typed.Typed 𝓤 H A 𝓣 E G137 b86 Δ0 at124
+          d124 = Typed.g-pre 𝓤 H A W 𝓣 E G137 G138 b86 Δ0 (Typed.pass T137 T138 s133) at123 (Scalar.g-room 𝓤 H A W E G137 20 (Syntax.tyInt Syntax.w64) (Scalar.room-sc 𝓤 H A W (Row.sInt Syntax.w64)))
               d123
 
-          d125 : Typed.Typed 𝓤 H A 𝓣 E G144 b91 Δ0 at125
-          d125 = Typed.s-seq 𝓤 H A W 𝓣 E G144 G145 b89 b90 Δ0 (Typed.pass T144 T145 s140) at124 (Make.t-enum-make-wt 𝓤 H A W E 𝓣 Walked.the-type Laws''.the-laws Laws''.the-plain tt G144 0 (List._∷_
-              (Scalar.oInt Syntax.w8 0) (List._∷_ (Scalar.oAt 50 y3 (Laws'10.val Totals.the-type Laws'8.the-laws)) (List._∷_ (Scalar.oAt 17 y9 (Laws'10.val TightLines.the-type Laws'7.the-laws)) List.[])))
-              (λ m. Walked.enum .make (Logic.inl (
-                m .1 .1 .1 .1 .1 .1 .1 .1 .1 .1 .1 .1 .1 .1 .1 .1 .1 .1 .1 .1 .1 .1 .1 .1 .1 .1 .1 .1 .1 .1 .1 .1 .1 .1 .1 .1 .1 .1 .1 .1 .1 .1 .1 .1 .1 .1 .1 .1 .1 .1 .0,
-                (m .1 .1 .1 .1 .1 .1 .1 .1 .1 .1 .1 .1 .1 .1 .1 .1 .1 .0, tt),
-              ))) (Reads'.room-gone 𝓤 H A (Syntax.tyEnum (List._∷_ 98 (List._∷_ 108 (List._∷_ 111 (List._∷_ 99 (List._∷_ 107 (List._∷_ 58
-              (List._∷_ 58 (List._∷_ 87 (List._∷_ 97 (List._∷_ 108 (List._∷_ 107 (List._∷_ 101 (List._∷_ 100 List.[]))))))))))))) (Syntax.ttcons (Syntax.tcons y3 (Syntax.tcons y9 Syntax.tnil))
-              (Syntax.ttcons (Syntax.tcons (Syntax.tyInt Syntax.w64) (Syntax.tcons y3 Syntax.tnil)) Syntax.ttnil))))
+          d125 : Typed.Typed 𝓤 H A 𝓣 E G136 b86 Δ0 at125
+          d125 = Typed.g-pre 𝓤 H A W 𝓣 E G136 G137 b86 Δ0 (Typed.pass T136 T137 s132) at124 (Scalar.g-room 𝓤 H A W E G136 19 y9 (Local.room-whole 𝓤 H A W (Declared'.row TightLines.the-type) y9
+              Path'.refl)) d124
+
+          d126 : Typed.Typed 𝓤 H A 𝓣 E G135 b86 Δ0 at126
+          d126 = Typed.g-pre 𝓤 H A W 𝓣 E G135 G136 b86 Δ0 (Typed.pass T135 T136 s131) at125 (Scalar.g-room 𝓤 H A W E G135 17 (Syntax.tyInt Syntax.w64) (Scalar.room-sc 𝓤 H A W (Row.sInt Syntax.w64)))
+              d125
+
+          d127 : Typed.Typed 𝓤 H A 𝓣 E G134 b86 Δ0 at127
+          d127 = Typed.g-pre 𝓤 H A W 𝓣 E G134 G135 b86 Δ0 (Typed.pass T134 T135 s130) at126 (Scalar.g-room 𝓤 H A W E G134 16 Syntax.tyBool (Scalar.room-sc 𝓤 H A W Row.sBool)) d126
+
+          d128 : Typed.Typed 𝓤 H A 𝓣 E G133 b86 Δ0 at128
+          d128 = Typed.g-pre 𝓤 H A W 𝓣 E G133 G134 b86 Δ0 (Typed.pass T133 T134 s129) at127 (Scalar.g-room 𝓤 H A W E G133 15 (Syntax.tyInt Syntax.w32) (Scalar.room-sc 𝓤 H A W (Row.sInt Syntax.w32)))
+              d127
+
+          d129 : Typed.Typed 𝓤 H A 𝓣 E G132 b87 Δ0 at129
+          d129 = Typed.s-seq 𝓤 H A W 𝓣 E G132 G133 b85 b86 Δ0 (Typed.pass T132 T133 s128) at128 (Make.t-enum-make-wt 𝓤 H A W E 𝓣 Walked.the-type Laws''.the-laws Laws''.the-plain tt G132 0 (List._∷_
+              (Scalar.oInt Syntax.w8 0) (List._∷_ (Scalar.oAt 25 y3 (Laws'10.val Totals.the-type Laws'8.the-laws)) (List._∷_ (Scalar.oAt 19 y9 (Laws'10.val TightLines.the-type Laws'7.the-laws)) List.[])))
+              (λ m. Walked.enum .make (Logic.inl (m .1 .1 .1 .1 .1 .1 .1 .1 .1 .1 .1 .1 .1 .1 .1 .1 .1 .1 .1 .1 .1 .1 .1 .1 .1 .0, (m .1 .1 .1 .1 .1 .1 .1 .1 .1 .1 .1 .1 .1 .1 .1 .1 .1 .1 .1 .0, tt))))
+              (Reads'.room-gone 𝓤 H A (Syntax.tyEnum (List._∷_ 98 (List._∷_ 108 (List._∷_ 111 (List._∷_ 99 (List._∷_ 107 (List._∷_ 58 (List._∷_ 58 (List._∷_ 87 (List._∷_ 97 (List._∷_ 108 (List._∷_ 107
+              (List._∷_ 101 (List._∷_ 100 List.[]))))))))))))) (Syntax.ttcons (Syntax.tcons y3 (Syntax.tcons y9 Syntax.tnil)) (Syntax.ttcons (Syntax.tcons (Syntax.tyInt Syntax.w64) (Syntax.tcons y3
+              Syntax.tnil)) Syntax.ttnil))))
               (tt, ((Reads.reads-struct 𝓤 H A W Totals.the-type Laws'8.the-laws, Path'.refl), ((Reads.reads-struct 𝓤 H A W TightLines.the-type Laws'7.the-laws, Path'.refl), tt))) Path'.refl (λ m wa.
-              Make.made-val Walked.the-type Laws''.the-laws (List._∷_ (Laws'10.val Totals.the-type Laws'8.the-laws (m .1 .1 .1 .1 .1 .1 .1 .1 .1 .1 .1 .1 .1 .1 .1 .1 .1 .1 .1 .1 .1 .1 .1 .1 .1 .1 .1 .1 .1
-              .1 .1 .1 .1 .1 .1 .1 .1 .1 .1 .1 .1 .1 .1 .1 .1 .1 .1 .1 .1 .1 .0)) (List._∷_ (Laws'10.val TightLines.the-type Laws'7.the-laws (m .1 .1 .1 .1 .1 .1 .1 .1 .1 .1 .1 .1 .1 .1 .1 .1 .1 .0))
-              List.[])) (Walked.enum .make (Logic.inl (
-                m .1 .1 .1 .1 .1 .1 .1 .1 .1 .1 .1 .1 .1 .1 .1 .1 .1 .1 .1 .1 .1 .1 .1 .1 .1 .1 .1 .1 .1 .1 .1 .1 .1 .1 .1 .1 .1 .1 .1 .1 .1 .1 .1 .1 .1 .1 .1 .1 .1 .1 .0,
-                (m .1 .1 .1 .1 .1 .1 .1 .1 .1 .1 .1 .1 .1 .1 .1 .1 .1 .0, tt),
-              ))) (
+              Make.made-val Walked.the-type Laws''.the-laws (List._∷_ (Laws'10.val Totals.the-type Laws'8.the-laws (m .1 .1 .1 .1 .1 .1 .1 .1 .1 .1 .1 .1 .1 .1 .1 .1 .1 .1 .1 .1 .1 .1 .1 .1 .1 .0))
+              (List._∷_ (Laws'10.val TightLines.the-type Laws'7.the-laws (m .1 .1 .1 .1 .1 .1 .1 .1 .1 .1 .1 .1 .1 .1 .1 .1 .1 .1 .1 .0)) List.[])) (Walked.enum .make (Logic.inl
+              (m .1 .1 .1 .1 .1 .1 .1 .1 .1 .1 .1 .1 .1 .1 .1 .1 .1 .1 .1 .1 .1 .1 .1 .1 .1 .0, (m .1 .1 .1 .1 .1 .1 .1 .1 .1 .1 .1 .1 .1 .1 .1 .1 .1 .1 .1 .0, tt)))) (
                 Signed.made-wt Totals.the-field Laws'8.the-field-laws (Make'.struct-wt Totals.the-type Laws'8.the-laws (Make'.u64-wt, (Make'.u64-wt, tt))) (Totals.the-type .to (m .1 .1 .1 .1 .1 .1 .1 .1 .1
-                    .1 .1 .1 .1 .1 .1 .1 .1 .1 .1 .1 .1 .1 .1 .1 .1 .1 .1 .1 .1 .1 .1 .1 .1 .1 .1 .1 .1 .1 .1 .1 .1 .1 .1 .1 .1 .1 .1 .1 .1 .1 .0)),
+                    .1 .1 .1 .1 .1 .1 .1 .1 .1 .1 .1 .1 .1 .1 .1 .1 .0)),
                 (
                   Signed.made-wt TightLines.the-field Laws'7.the-field-laws (Make'.struct-wt TightLines.the-type Laws'7.the-laws
-                      (Make'.u64-wt, (Make'.struct-wt Totals.the-type Laws'8.the-laws (Make'.u64-wt, (Make'.u64-wt, tt)), tt))) (TightLines.the-type .to (m .1 .1 .1 .1 .1 .1 .1 .1 .1 .1 .1 .1 .1 .1 .1 .1 .1 .0)),
+                      (Make'.u64-wt, (Make'.struct-wt Totals.the-type Laws'8.the-laws (Make'.u64-wt, (Make'.u64-wt, tt)), tt))) (TightLines.the-type .to (m .1 .1 .1 .1 .1 .1 .1 .1 .1 .1 .1 .1 .1 .1 .1 .1 .1 .1 .1
+                      .0)),
                   tt,
                 ),
-              ) (wa .1)) λ m wa. Make.made-is Walked.the-type Laws''.the-laws (List._∷_ (Laws'10.val Totals.the-type Laws'8.the-laws (m .1 .1 .1 .1 .1 .1 .1 .1 .1 .1 .1 .1 .1 .1 .1 .1 .1 .1 .1 .1 .1 .1
-              .1 .1 .1 .1 .1 .1 .1 .1 .1 .1 .1 .1 .1 .1 .1 .1 .1 .1 .1 .1 .1 .1 .1 .1 .1 .1 .1 .1 .0)) (List._∷_ (Laws'10.val TightLines.the-type Laws'7.the-laws (m .1 .1 .1 .1 .1 .1 .1 .1 .1 .1 .1 .1 .1
-              .1 .1 .1 .1 .0)) List.[])) (Walked.enum .make (Logic.inl (
-                m .1 .1 .1 .1 .1 .1 .1 .1 .1 .1 .1 .1 .1 .1 .1 .1 .1 .1 .1 .1 .1 .1 .1 .1 .1 .1 .1 .1 .1 .1 .1 .1 .1 .1 .1 .1 .1 .1 .1 .1 .1 .1 .1 .1 .1 .1 .1 .1 .1 .1 .0,
-                (m .1 .1 .1 .1 .1 .1 .1 .1 .1 .1 .1 .1 .1 .1 .1 .1 .1 .0, tt),
-              ))) (
+              ) (wa .1)) λ m wa. Make.made-is Walked.the-type Laws''.the-laws (List._∷_ (Laws'10.val Totals.the-type Laws'8.the-laws (m .1 .1 .1 .1 .1 .1 .1 .1 .1 .1 .1 .1 .1 .1 .1 .1 .1 .1 .1 .1
+              .1 .1 .1 .1 .1 .0)) (List._∷_ (Laws'10.val TightLines.the-type Laws'7.the-laws (m .1 .1 .1 .1 .1 .1 .1 .1 .1 .1 .1 .1 .1 .1 .1 .1 .1 .1 .1 .0)) List.[])) (Walked.enum .make (Logic.inl
+              (m .1 .1 .1 .1 .1 .1 .1 .1 .1 .1 .1 .1 .1 .1 .1 .1 .1 .1 .1 .1 .1 .1 .1 .1 .1 .0, (m .1 .1 .1 .1 .1 .1 .1 .1 .1 .1 .1 .1 .1 .1 .1 .1 .1 .1 .1 .0, tt)))) (
                 Signed.made-wt Totals.the-field Laws'8.the-field-laws (Make'.struct-wt Totals.the-type Laws'8.the-laws (Make'.u64-wt, (Make'.u64-wt, tt))) (Totals.the-type .to (m .1 .1 .1 .1 .1 .1 .1 .1 .1
-                    .1 .1 .1 .1 .1 .1 .1 .1 .1 .1 .1 .1 .1 .1 .1 .1 .1 .1 .1 .1 .1 .1 .1 .1 .1 .1 .1 .1 .1 .1 .1 .1 .1 .1 .1 .1 .1 .1 .1 .1 .1 .0)),
+                    .1 .1 .1 .1 .1 .1 .1 .1 .1 .1 .1 .1 .1 .1 .1 .1 .0)),
                 (
                   Signed.made-wt TightLines.the-field Laws'7.the-field-laws (Make'.struct-wt TightLines.the-type Laws'7.the-laws
-                      (Make'.u64-wt, (Make'.struct-wt Totals.the-type Laws'8.the-laws (Make'.u64-wt, (Make'.u64-wt, tt)), tt))) (TightLines.the-type .to (m .1 .1 .1 .1 .1 .1 .1 .1 .1 .1 .1 .1 .1 .1 .1 .1 .1 .0)),
+                      (Make'.u64-wt, (Make'.struct-wt Totals.the-type Laws'8.the-laws (Make'.u64-wt, (Make'.u64-wt, tt)), tt))) (TightLines.the-type .to (m .1 .1 .1 .1 .1 .1 .1 .1 .1 .1 .1 .1 .1 .1 .1 .1 .1 .1 .1
+                      .0)),
                   tt,
                 ),
-              ) (wa .1)) d124
+              ) (wa .1)) d128
 
-          d126 : Typed.Typed 𝓤 H A 𝓣 E G143 b91 Δ0 at126
-          d126 = Typed.g-pre 𝓤 H A W 𝓣 E G143 G144 b91 Δ0 (Typed.pass T143 T144 s139) at125 (Scalar.g-room 𝓤 H A W E G143 16 y10 (Local.room-whole 𝓤 H A W (Declared'.row Place.the-type) y10
-              Path'.refl)) d125
+          d130 : Typed.Typed 𝓤 H A 𝓣 E G131 b87 Δ0 at130
+          d130 = Typed.g-pre 𝓤 H A W 𝓣 E G131 G132 b87 Δ0 (Typed.pass T131 T132 s127) at129 (Scalar.g-room 𝓤 H A W E G131 18 y10 (Local.room-whole 𝓤 H A W (Declared'.row Place.the-type) y10
+              Path'.refl)) d129
 
-          d127 : Typed.Typed 𝓤 H A 𝓣 E G31 b92 Δ0 at127
-          d127 = Typed.s-seq 𝓤 H A W 𝓣 E G31 G143 b88 b91 Δ0 (Typed.both s138) at126 (Plain.t-call-plain 𝓤 H A W 𝓣 0 ps·12 r·12 (claims· .24) (claims· .25) "block::reading::totals_at" (known .12) E (λ
-              pos β. β) G31 (record { pos = 16; st = List.[]; d = 0; at = λ x. x }, tt) 50 List.[] (Call.sub-id 𝓤 H A W (G31 .slots)) (
+          d131 : Typed.Typed 𝓤 H A 𝓣 E G15 b88 Δ0 at131
+          d131 = Typed.s-seq 𝓤 H A W 𝓣 E G15 G131 b84 b87 Δ0 (Typed.both s126) at130 (Plain.t-call-plain 𝓤 H A W 𝓣 0 ps·1 r·1 (claims· .2) (claims· .3) "block::reading::totals_at" (known .1) E (λ pos
+              β. β) G15 (record { pos = 18; st = List.[]; d = 0; at = λ x. x }, tt) 25 List.[] (Call.sub-id 𝓤 H A W (G15 .slots)) (
                 (
                   Yields.yields-copy 𝓤 H A W (λ ρ. Unit) (Declared'.row Place.the-type) Path'.refl (Copies.cStruct Place.the-type Laws'4.the-laws Laws'4.the-copy .copy 𝓤 H A W) (Rows'.whole (Declared'.row
                       Place.the-type)) (λ x. x) (λ x. x) (λ ρ told. Local.mem-whole 𝓤 H A W (Declared'.row Place.the-type) ρ) λ ρ told. Local.whole-mem 𝓤 H A W (Declared'.row Place.the-type) ρ,
@@ -5883,314 +5520,92 @@ module _ (claims· : Claims) where
                 ),
                 tt,
               )
-              (Reads'.room-gone 𝓤 H A y3) tt Path'.refl) d126
+              (Reads'.room-gone 𝓤 H A y3) tt Path'.refl) d130
 
-          d128 : Typed.Typed 𝓤 H A 𝓣 E G30 b93 Δ0 at128
-          d128 = Typed.t-seq 𝓤 H A W 𝓣 E G30 G31 b87 b92 Δ0 at115 at127 d115 d127
+          d132 : Typed.Typed 𝓤 H A 𝓣 E G14 b89 Δ0 at132
+          d132 = Typed.t-seq 𝓤 H A W 𝓣 E G14 G15 b83 b88 Δ0 at118 at131 d118 d131
 
-          d129 : Typed.Typed 𝓤 H A 𝓣 E G29 b94 Δ0 at129
-          d129 = Typed.s-seq 𝓤 H A W 𝓣 E G29 G30 b12 b93 Δ0 (Typed.pass T29 T30 s28) at128 (Scalar.t-use 𝓤 H A W E 𝓣 G29 (Scalar.oInt Syntax.w64 0) 18 (Rows'.sc-here (Row.sInt Syntax.w64))
+          d133 : Typed.Typed 𝓤 H A 𝓣 E G13 b90 Δ0 at133
+          d133 = Typed.s-seq 𝓤 H A W 𝓣 E G13 G14 b6 b89 Δ0 (Typed.pass T13 T14 s12) at132 (Scalar.t-use 𝓤 H A W E 𝓣 G13 (Scalar.oInt Syntax.w64 0) 20 (Rows'.sc-here (Row.sInt Syntax.w64))
               (Syntax.tyInt Syntax.w64) (Row.valS (Row.sInt Syntax.w64)) (Row.sInt Syntax.w64 .of) tt (Reads'.room-gone 𝓤 H A (Syntax.tyInt Syntax.w64)) (Scalar.holds-sc 𝓤 H A W (Row.sInt Syntax.w64))
-              Path'.refl (λ u. Path'.refl) λ u. tt) d128
+              Path'.refl (λ u. Path'.refl) λ u. tt) d132
 
-          d130 : Typed.Typed 𝓤 H A 𝓣 E G28 b95 Δ0 at130
-          d130 = Typed.s-seq 𝓤 H A W 𝓣 E G28 G29 b11 b94 Δ0 (Typed.both s27) at129 (Plain.t-call-plain 𝓤 H A W 𝓣 0 ps·5 r·5 (claims· .10) (claims· .11) "block::reading::no_lines" (known .5) E (λ pos
-              β. β) G28 tt 17 List.[] (Call.sub-id 𝓤 H A W (G28 .slots)) tt (Reads'.room-gone 𝓤 H A y9) tt Path'.refl) d129
+          d134 : Typed.Typed 𝓤 H A 𝓣 E G12 b90 Δ0 at134
+          d134 = Typed.g-pre 𝓤 H A W 𝓣 E G12 G13 b90 Δ0 (Typed.pass T12 T13 s11) at133 (Scalar.g-room 𝓤 H A W E G12 25 y3 (Local.room-whole 𝓤 H A W (Declared'.row Totals.the-type) y3 Path'.refl)) d133
 
-          d131 : Typed.Typed 𝓤 H A 𝓣 E G27 b96 Δ0 at131
-          d131 = Typed.s-seq 𝓤 H A W 𝓣 E G27 G28 b10 b95 Δ0 (Typed.both s26) at130 (Plain.t-call-plain 𝓤 H A W 𝓣 0 ps·4 r·4 (claims· .8) (claims· .9) "block::reading::start_place" (known .4) E (λ pos
-              β. β) G27 tt 16 List.[] (Call.sub-id 𝓤 H A W (G27 .slots)) tt (Reads'.room-gone 𝓤 H A y10) tt Path'.refl) d130
+          d135 : Typed.Typed 𝓤 H A 𝓣 E G11 b91 Δ0 at135
+          d135 = Typed.s-seq 𝓤 H A W 𝓣 E G11 G12 b5 b90 Δ0 (Typed.both s10) at134 (Plain.t-call-plain 𝓤 H A W 𝓣 0 ps·2 r·2 (claims· .4) (claims· .5) "block::reading::no_lines" (known .2) E (λ pos β.
+              β) G11 (record { pos = 25; st = List.[]; d = 0; at = λ x. x }, tt) 19 List.[] (Call.sub-id 𝓤 H A W (G11 .slots)) (
+                (
+                  Yields.yields-copy 𝓤 H A W (λ ρ. Unit) (Declared'.row Totals.the-type) Path'.refl (Copies.cStruct Totals.the-type Laws'8.the-laws Laws'8.the-copy .copy 𝓤 H A W) (Rows'.whole (Declared'.row
+                      Totals.the-type)) (λ x. x) (λ x. x) (λ ρ told. Local.mem-whole 𝓤 H A W (Declared'.row Totals.the-type) ρ) λ ρ told. Local.whole-mem 𝓤 H A W (Declared'.row Totals.the-type) ρ,
+                  Path'.refl,
+                ),
+                tt,
+              ) (Reads'.room-gone 𝓤 H A y9) tt Path'.refl) d134
 
-          d132 : Typed.Typed 𝓤 H A 𝓣 E G26 b96 Δ0 at132
-          d132 = Typed.g-pre 𝓤 H A W 𝓣 E G26 G27 b96 Δ0 (λ Ψ. Ψ) at131 (Lifetime.g-forget 𝓤 H A W E G26 7 Row.dead Path'.refl) d131
+          d136 : Typed.Typed 𝓤 H A 𝓣 E G10 b91 Δ0 at136
+          d136 = Typed.g-pre 𝓤 H A W 𝓣 E G10 G11 b91 Δ0 (Typed.pass T10 T11 s9) at135 (Scalar.g-room 𝓤 H A W E G10 11 y10 (Local.room-whole 𝓤 H A W (Declared'.row Place.the-type) y10 Path'.refl)) d135
 
-          d133 : Typed.Typed 𝓤 H A 𝓣 E G25 b96 Δ0 at133
-          d133 = Typed.g-pre 𝓤 H A W 𝓣 E G25 G26 b96 Δ0 (Typed.both s24) at132 (Relend.g-back-sl 𝓤 H A W E (Element.type) G25 26 4 3 7 (Syntax.tyRef (Syntax.named 3) Syntax.mut Element.behind)
-              (Syntax.tyRef Syntax.erased Syntax.mut Element.behind) (Row.lease (κs .1 .1 .1 .0) (qs .1 .1 .1 .0)) (λ x. x) (λ x. x) (Reads'.as-is 𝓤 H A (Mut.msleft (Element.type) (Syntax.tyRef
-              Syntax.erased Syntax.mut Element.behind))) (Reads'.as-is 𝓤 H A (Relend.mslice-owed (Element.type) (Syntax.tyRef (Syntax.named 3) Syntax.mut Element.behind) 3 7 (Row.lease (κs .1 .1 .1 .0)
-              (qs .1 .1 .1 .0)))) Path'.refl Path'.refl) d132
+          d137 : Typed.Typed 𝓤 H A 𝓣 E G9 b92 Δ0 at137
+          d137 = Typed.s-seq 𝓤 H A W 𝓣 E G9 G10 b4 b91 Δ0 (Typed.both s8) at136 (Plain.t-call-plain 𝓤 H A W 𝓣 0 ps·1 r·1 (claims· .2) (claims· .3) "block::reading::totals_at" (known .1) E (λ pos β. β)
+              G9 (record { pos = 11; st = List.[]; d = 0; at = λ x. x }, tt) 25 List.[] (Call.sub-id 𝓤 H A W (G9 .slots)) (
+                (
+                  Yields.yields-copy 𝓤 H A W (λ ρ. Unit) (Declared'.row Place.the-type) Path'.refl (Copies.cStruct Place.the-type Laws'4.the-laws Laws'4.the-copy .copy 𝓤 H A W) (Rows'.whole (Declared'.row
+                      Place.the-type)) (λ x. x) (λ x. x) (λ ρ told. Local.mem-whole 𝓤 H A W (Declared'.row Place.the-type) ρ) λ ρ told. Local.whole-mem 𝓤 H A W (Declared'.row Place.the-type) ρ,
+                  Path'.refl,
+                ),
+                tt,
+              )
+              (Reads'.room-gone 𝓤 H A y3) tt Path'.refl) d136
 
-          d134 : Typed.Typed 𝓤 H A 𝓣 E G24 b96 Δ0 at134
-          d134 = Typed.g-pre 𝓤 H A W 𝓣 E G24 G25 b96 Δ0 (λ Ψ. Ψ) at133 (Lifetime.g-end 𝓤 H A W E G24 7 Path'.refl) d133
-
-          d135 : Typed.Typed 𝓤 H A 𝓣 E G23 b96 Δ0 at135
-          d135 = Typed.g-pre 𝓤 H A W 𝓣 E G23 G24 b96 Δ0 (Typed.pass T23 T24 s22) at134 (Scalar.g-room 𝓤 H A W E G23 27 (Syntax.tyInt Syntax.w32) (Scalar.room-sc 𝓤 H A W (Row.sInt Syntax.w32))) d134
-
-          d136 : Typed.Typed 𝓤 H A 𝓣 E G22 b96 Δ0 at136
-          d136 = Typed.g-pre 𝓤 H A W 𝓣 E G22 G23 b96 Δ0 (Typed.pass T22 T23 s21) at135 (Scalar.g-room 𝓤 H A W E G22 22 Syntax.tyUnit (Scalar.room-sc 𝓤 H A W Row.sUnit)) d135
-
-          d137 : Typed.Typed 𝓤 H A 𝓣 E G21 b97 Δ0 at137
-          d137 = Typed.s-seq 𝓤 H A W 𝓣 E G21 G22 b9 b96 Δ0 (Typed.both s20) at136 (Plain.t-call-plain 𝓤 H A W 𝓣 1 ps·3 r·3 (claims· .6) (claims· .7) "block::records::start_records" (known .3) E (λ pos
-              β. β) G21 (record { pos = 26; ty = Syntax.tyRef Syntax.erased Syntax.mut Element.behind; ref = λ x. x }, (Num.vAt 13 λ x. x, (Num.vAt 27 λ x. x, tt))) 22 (List._∷_ 7 List.[]) (Call.sub-id 𝓤
-              H A W (G21 .slots)) (
-                Reads'.as-is 𝓤 H A (Mut.mslice (Element.type) (Syntax.tyRef Syntax.erased Syntax.mut Element.behind) 7),
-                Mut.reads-mslice 𝓤 H A W (Element.type) (Syntax.tyRef Syntax.erased Syntax.mut
-                    Element.behind) 7,
-                Path'.refl,
-                ((Scalar.reads-sc 𝓤 H A W (Row.sInt Syntax.w32), Path'.refl), ((Scalar.reads-sc 𝓤 H A W (Row.sInt Syntax.w32), Path'.refl), tt)),
-              ) (Reads'.room-gone 𝓤 H A
-              Syntax.tyUnit) (tt, tt) Path'.refl) d136
-
-          d138 : Typed.Typed 𝓤 H A 𝓣 E G20 b98 Δ0 at138
-          d138 = Typed.s-seq 𝓤 H A W 𝓣 E G20 G21 b8 b97 Δ0 (Typed.both s19) at137 (Plain.t-call-plain 𝓤 H A W 𝓣 1 ps·2 r·2 (claims· .4) (claims· .5) "cameras::base_of" (known .2) E (λ pos β. β) G20
-              (record { pos = 2; ty = Syntax.tyRef (Syntax.named 1) Syntax.imm (Syntax.tyInt Syntax.w8); ref = λ x. x }, (Num.vLit 0, tt)) 27 (List._∷_ 1 List.[]) (Call.sub-id 𝓤 H A W (G20 .slots)) (
-                ShrSlice.spares-sslice 𝓤 H A W (Referent.rtF (Referent.fInt Syntax.w8)) (Syntax.tyRef (Syntax.named 1) Syntax.imm (Syntax.tyInt Syntax.w8)) 1,
-                Shared.reads-sslice 𝓤 H A W (Referent.rtF
-                    (Referent.fInt Syntax.w8)) (Syntax.tyRef (Syntax.named 1) Syntax.imm (Syntax.tyInt Syntax.w8)) 1,
-                Path'.refl,
-                (tt, tt),
-              ) (Reads'.room-gone 𝓤 H A (Syntax.tyInt Syntax.w32)) (tt, tt)
+          d138 : Typed.Typed 𝓤 H A 𝓣 E G8 b93 Δ0 at138
+          d138 = Typed.s-seq 𝓤 H A W 𝓣 E G8 G9 b3 b92 Δ0 (Typed.pass T8 T9 s7) at137 (LocalCopy.t-val-copy 𝓤 H A W E 𝓣 (λ ρ. Unit) G8 11 18 (Declared'.row Place.the-type) y10 y10 (Rows'.whole
+              (Declared'.row Place.the-type)) (Rows'.whole (Declared'.row Place.the-type)) (λ x. x) (λ x. x) (λ x. x) Path'.refl (Own.told-none 𝓤 H A (G8 .slots)) (Yields.yields-copy 𝓤 H A W (λ ρ. Unit)
+              (Declared'.row Place.the-type) Path'.refl (Copies.cStruct Place.the-type Laws'4.the-laws Laws'4.the-copy .copy 𝓤 H A W) (Rows'.whole (Declared'.row Place.the-type)) (λ x. x) (λ x. x) (λ ρ
+              told. Local.mem-whole 𝓤 H A W (Declared'.row Place.the-type) ρ) λ ρ told. Local.whole-mem 𝓤 H A W (Declared'.row Place.the-type) ρ) (Reads'.room-gone 𝓤 H A y10) (Yields.makes-mem 𝓤 H A W (λ
+              ρ. Unit) (Declared'.row Place.the-type) Path'.refl (Rows'.whole (Declared'.row Place.the-type)) (λ x. x) λ ρ told. Local.whole-mem 𝓤 H A W (Declared'.row Place.the-type) ρ) Path'.refl
               Path'.refl) d137
 
-          d139 : Typed.Typed 𝓤 H A 𝓣 E G19 b99 Δ0 at139
-          d139 = Typed.s-seq 𝓤 H A W 𝓣 E G19 G20 b7 b98 Δ0 (Typed.ask s18) at138 (Relend.t-sl-aggregate 𝓤 H A W E (Element.type) 𝓣 (Relend.asMut (Element.type)) G19 25 26 7 (Syntax.tyRef Syntax.erased
-              Syntax.mut Element.behind) (Syntax.tyRef Syntax.erased Syntax.mut Element.behind) (λ x. x) (Scalar.oFld 4 (List._∷_ (Syntax.field 1) List.[]) (Syntax.tyInt Syntax.w64) 8 λ v. Shared.lenV (v
-              .0)) (Reads'.as-is 𝓤 H A (Relend.msptr (Element.type) (Syntax.tyRef Syntax.erased Syntax.mut Element.behind) 7)) (Reads'.room-gone 𝓤 H A y6)
-              (Relend.reads-owed-len 𝓤 H A W (Element.type) (Syntax.tyRef (Syntax.named 3) Syntax.mut Element.behind) 3 7 (Row.lease (κs .1 .1 .1 .0) (qs .1 .1 .1 .0)) 8 Path'.refl, Path'.refl) Path'.refl
-              Path'.refl λ b o k. tt) d138
+          d139 : Typed.Typed 𝓤 H A 𝓣 E G7 b94 Δ0 at139
+          d139 = Typed.s-seq 𝓤 H A W 𝓣 E G7 G8 b2 b93 Δ0 (Typed.both s6) at138 (Plain.t-call-plain 𝓤 H A W 𝓣 0 ps·0 r·0 (claims· .0) (claims· .1) "map::width" (known .0) E (λ pos β. β) G7
+              (Bool.bAt 16 λ x. x, tt) 17 List.[] (Call.sub-id 𝓤 H A W (G7 .slots)) ((Scalar.reads-sc 𝓤 H A W Row.sBool, Path'.refl), tt) (Reads'.room-gone 𝓤 H A (Syntax.tyInt Syntax.w64)) tt Path'.refl)
+              d138
 
-          d140 : Typed.Typed 𝓤 H A 𝓣 E G18 b100 Δ0 at140
-          d140 = Typed.s-seq 𝓤 H A W 𝓣 E G18 G19 b6 b99 Δ0 (Typed.give s17) at139 (Relend.t-sl-relend 𝓤 H A W E (Element.type) 𝓣 G18 4 25 3 7 (Syntax.tyRef (Syntax.named 3) Syntax.mut Element.behind)
-              (Syntax.tyRef Syntax.erased Syntax.mut Element.behind) (Row.lease (κs .1 .1 .1 .0) (qs .1 .1 .1 .0)) 0 (λ x. x) (Reads'.as-is 𝓤 H A (Mut.mslice (Element.type) (Syntax.tyRef (Syntax.named 3)
-              Syntax.mut Element.behind) 3)) (Reads'.room-gone 𝓤 H A (Syntax.tyRef Syntax.erased Syntax.mut Element.behind)) Path'.refl tt Path'.refl Path'.refl Path'.refl λ b o. tt) d139
+          d140 : Typed.Typed 𝓤 H A 𝓣 E G6 b95 Δ0 at140
+          d140 = Typed.s-seq 𝓤 H A W 𝓣 E G6 G7 b1 b94 Δ0 (Typed.pass T6 T7 s5) at139 (Scalar.t-use 𝓤 H A W E 𝓣 G6 (Scalar.oFld 6 (List._∷_ (Syntax.field 1) List.[]) Syntax.tyBool 4 (Reads.fieldV
+              Form.the-type Laws.the-laws 1)) 16 (Rows'.sc-here Row.sBool) Syntax.tyBool (Row.valS Row.sBool) (Row.sBool .of)
+              (Reads.reads-field 𝓤 H A W Form.the-type Laws.the-laws 1 Syntax.tyBool 4 Path'.refl, Path'.refl) (Reads'.room-gone 𝓤 H A Syntax.tyBool) (Scalar.holds-sc 𝓤 H A W Row.sBool) Path'.refl (λ u.
+              Path'.refl) λ u. tt) d139
 
-          d141 : Typed.Typed 𝓤 H A 𝓣 E G17 b100 Δ0 at141
-          d141 = Typed.g-pre 𝓤 H A W 𝓣 E G17 G18 b100 Δ0 (λ Ψ. Ψ) at140 (Lifetime.g-begin 𝓤 H A W E G17 7 (
-            tt,
-            (
-              tt,
-              (
-                tt,
-                (
-                  tt,
-                  (
-                    tt,
-                    (
-                      tt,
-                      (
-                        tt,
-                        (
-                          tt,
-                          (
-                            tt,
-                            (
-                              tt,
-                              (
-                                tt,
-                                (
-                                  tt,
-                                  (
-                                    tt,
-                                    (
-                                      tt,
-                                      (
-                                        tt,
-                                        (
-                                          tt,
-                                          (
-                                            tt,
-                                            (
-                                              tt,
-                                              (
-                                                tt,
-                                                (
-                                                  tt,
-                                                  (
-                                                    tt,
-                                                    (
-                                                      tt,
-                                                      (
-                                                        tt,
-                                                        (
-                                                          tt,
-                                                          (tt, (tt, (tt, (tt, (tt, (tt, (tt, (tt, (tt, (tt, (tt, (tt, (tt, (tt, (tt, (tt, (tt, (tt, (tt, (tt, (tt, (tt, (tt, (tt, (tt, (tt, (tt, tt))))))))))))))))))))))))))),
-                                                        ),
-                                                      ),
-                                                    ),
-                                                  ),
-                                                ),
-                                              ),
-                                            ),
-                                          ),
-                                        ),
-                                      ),
-                                    ),
-                                  ),
-                                ),
-                              ),
-                            ),
-                          ),
-                        ),
-                      ),
-                    ),
-                  ),
-                ),
-              ),
-            ),
-          ))
-              d140
+          d141 : Typed.Typed 𝓤 H A 𝓣 E G5 b96 Δ0 at141
+          d141 = Typed.s-seq 𝓤 H A W 𝓣 E G5 G6 b0 b95 Δ0 (Typed.pass T5 T6 s4) at140 (Scalar.t-use 𝓤 H A W E 𝓣 G5 (Scalar.oFld 6 (List._∷_ (Syntax.field 0) List.[]) (Syntax.tyInt Syntax.w32) 0
+              (Reads.fieldV Form.the-type Laws.the-laws 0)) 15 (Rows'.sc-here (Row.sInt Syntax.w32)) (Syntax.tyInt Syntax.w32) (Row.valS (Row.sInt Syntax.w32)) (Row.sInt Syntax.w32 .of)
+              (Reads.reads-field 𝓤 H A W Form.the-type Laws.the-laws 0 (Syntax.tyInt Syntax.w32) 0 Path'.refl, Path'.refl) (Reads'.room-gone 𝓤 H A (Syntax.tyInt Syntax.w32)) (Scalar.holds-sc 𝓤 H A W
+              (Row.sInt Syntax.w32)) Path'.refl (λ u. Path'.refl) λ u. tt) d140
 
-          d142 : Typed.Typed 𝓤 H A 𝓣 E G16 b100 Δ0 at142
-          d142 = Typed.g-pre 𝓤 H A W 𝓣 E G16 G17 b100 Δ0 (λ Ψ. Ψ) at141 (Lifetime.g-forget 𝓤 H A W E G16 6 Row.dead Path'.refl) d141
+          d142 : Typed.Typed 𝓤 H A 𝓣 E G4 b96 Δ0 at142
+          d142 = Typed.g-pre 𝓤 H A W 𝓣 E G4 G5 b96 Δ0 (Typed.give s3) at141 (Know.g-sl-known 𝓤 H A W (Referent.fInt Syntax.w16) E G4 5 4 (Syntax.tyRef (Syntax.named 4) Syntax.mut (Syntax.tyInt
+              Syntax.w16)) (Row.lease (κs .1 .1 .1 .1 .0) (qs .1 .1 .1 .1 .0)) 0 (λ x. x) record { fits = Dec'.lit< tt } (Reads'.as-is 𝓤 H A (Mut.mslice (Referent.rtF (Referent.fInt Syntax.w16))
+              (Syntax.tyRef (Syntax.named 4) Syntax.mut (Syntax.tyInt Syntax.w16)) 4)) Path'.refl tt) d141
 
-          d143 : Typed.Typed 𝓤 H A 𝓣 E G15 b100 Δ0 at143
-          d143 = Typed.g-pre 𝓤 H A W 𝓣 E G15 G16 b100 Δ0 (Typed.give s14) at142 (Know.g-sl-known 𝓤 H A W (Referent.fInt Syntax.w16) E G15 3 2 (Syntax.tyRef (Syntax.named 2) Syntax.mut (Syntax.tyInt
+          d143 : Typed.Typed 𝓤 H A 𝓣 E G3 b96 Δ0 at143
+          d143 = Typed.g-pre 𝓤 H A W 𝓣 E G3 G4 b96 Δ0 (Typed.give s2) at142 (Know.g-sl-known 𝓤 H A W (Referent.fInt Syntax.w16) E G3 3 2 (Syntax.tyRef (Syntax.named 2) Syntax.mut (Syntax.tyInt
               Syntax.w16)) (Row.lease (κs .1 .1 .0) (qs .1 .1 .0)) 0 (λ x. x) record { fits = Dec'.lit< tt } (Reads'.as-is 𝓤 H A (Mut.mslice (Referent.rtF (Referent.fInt Syntax.w16)) (Syntax.tyRef
               (Syntax.named 2) Syntax.mut (Syntax.tyInt Syntax.w16)) 2)) Path'.refl tt) d142
 
-          d144 : Typed.Typed 𝓤 H A 𝓣 E G14 b100 Δ0 at144
-          d144 = Typed.g-pre 𝓤 H A W 𝓣 E G14 G15 b100 Δ0 (Typed.both s13) at143 (Relend.g-back-sl 𝓤 H A W E (Referent.rtF (Referent.fInt Syntax.w16)) G14 24 3 2 6 (Syntax.tyRef (Syntax.named 2)
-              Syntax.mut (Syntax.tyInt Syntax.w16)) (Syntax.tyRef Syntax.erased Syntax.mut (Syntax.tyInt Syntax.w16)) (Row.lease (κs .1 .1 .0) (qs .1 .1 .0)) (λ x. x) (λ x. x) (Reads'.as-is 𝓤 H A
-              (Mut.msleft (Referent.rtF (Referent.fInt Syntax.w16)) (Syntax.tyRef Syntax.erased Syntax.mut (Syntax.tyInt Syntax.w16)))) (Reads'.as-is 𝓤 H A (Relend.mslice-owed (Referent.rtF (Referent.fInt
-              Syntax.w16)) (Syntax.tyRef (Syntax.named 2) Syntax.mut (Syntax.tyInt Syntax.w16)) 2 6 (Row.lease (κs .1 .1 .0) (qs .1 .1 .0)))) Path'.refl Path'.refl) d143
-
-          d145 : Typed.Typed 𝓤 H A 𝓣 E G13 b100 Δ0 at145
-          d145 = Typed.g-pre 𝓤 H A W 𝓣 E G13 G14 b100 Δ0 (λ Ψ. Ψ) at144 (Lifetime.g-end 𝓤 H A W E G13 6 Path'.refl) d144
-
-          d146 : Typed.Typed 𝓤 H A 𝓣 E G12 b100 Δ0 at146
-          d146 = Typed.g-pre 𝓤 H A W 𝓣 E G12 G13 b100 Δ0 (Typed.pass T12 T13 s11) at145 (Scalar.g-room 𝓤 H A W E G12 22 Syntax.tyUnit (Scalar.room-sc 𝓤 H A W Row.sUnit)) d145
-
-          d147 : Typed.Typed 𝓤 H A 𝓣 E G11 b101 Δ0 at147
-          d147 = Typed.s-seq 𝓤 H A W 𝓣 E G11 G12 b5 b100 Δ0 (Typed.both s10) at146 (Plain.t-call-plain 𝓤 H A W 𝓣 1 ps·1 r·1 (claims· .2) (claims· .3) "lines::clear" (known .1) E (λ pos β. β) G11
-              (record { pos = 24; ty = Syntax.tyRef Syntax.erased Syntax.mut (Syntax.tyInt Syntax.w16); ref = λ x. x }, tt) 22 (List._∷_ 6 List.[]) (Call.sub-id 𝓤 H A W (G11 .slots)) (
-                Reads'.as-is 𝓤 H A (Mut.mslice (Referent.rtF (Referent.fInt Syntax.w16)) (Syntax.tyRef Syntax.erased Syntax.mut (Syntax.tyInt Syntax.w16)) 6),
-                Mut.reads-mslice 𝓤 H A W (Referent.rtF
-                    (Referent.fInt Syntax.w16)) (Syntax.tyRef Syntax.erased Syntax.mut (Syntax.tyInt Syntax.w16)) 6,
-                Path'.refl,
-                tt,
-              ) (Reads'.room-gone 𝓤 H A Syntax.tyUnit) (tt, tt) Path'.refl) d146
-
-          d148 : Typed.Typed 𝓤 H A 𝓣 E G10 b102 Δ0 at148
-          d148 = Typed.s-seq 𝓤 H A W 𝓣 E G10 G11 b4 b101 Δ0 (Typed.ask s9) at147 (Relend.t-sl-aggregate 𝓤 H A W E (Referent.rtF (Referent.fInt Syntax.w16)) 𝓣 (Relend.asMut (Referent.rtF (Referent.fInt
-              Syntax.w16))) G10 23 24 6 (Syntax.tyRef Syntax.erased Syntax.mut (Syntax.tyInt Syntax.w16)) (Syntax.tyRef Syntax.erased Syntax.mut (Syntax.tyInt Syntax.w16)) (λ x. x) (Scalar.oFld 3
-              (List._∷_ (Syntax.field 1) List.[]) (Syntax.tyInt Syntax.w64) 8 λ v. Shared.lenV (v .0)) (Reads'.as-is 𝓤 H A (Relend.msptr (Referent.rtF (Referent.fInt Syntax.w16)) (Syntax.tyRef
-              Syntax.erased Syntax.mut (Syntax.tyInt Syntax.w16)) 6)) (Reads'.room-gone 𝓤 H A y5) (
-                Relend.reads-owed-len 𝓤 H A W (Referent.rtF (Referent.fInt Syntax.w16)) (Syntax.tyRef (Syntax.named 2) Syntax.mut (Syntax.tyInt Syntax.w16)) 2 6 (Row.lease (κs .1 .1 .0) (qs .1 .1 .0)) 8
-                    Path'.refl,
-                Path'.refl,
-              ) Path'.refl Path'.refl λ b o k. tt) d147
-
-          d149 : Typed.Typed 𝓤 H A 𝓣 E G9 b103 Δ0 at149
-          d149 = Typed.s-seq 𝓤 H A W 𝓣 E G9 G10 b3 b102 Δ0 (Typed.give s8) at148 (Relend.t-sl-relend 𝓤 H A W E (Referent.rtF (Referent.fInt Syntax.w16)) 𝓣 G9 3 23 2 6 (Syntax.tyRef (Syntax.named 2)
-              Syntax.mut (Syntax.tyInt Syntax.w16)) (Syntax.tyRef Syntax.erased Syntax.mut (Syntax.tyInt Syntax.w16)) (Row.lease (κs .1 .1 .0) (qs .1 .1 .0)) 0 (λ x. x) (Reads'.as-is 𝓤 H A (Mut.mslice
-              (Referent.rtF (Referent.fInt Syntax.w16)) (Syntax.tyRef (Syntax.named 2) Syntax.mut (Syntax.tyInt Syntax.w16)) 2)) (Reads'.room-gone 𝓤 H A (Syntax.tyRef Syntax.erased Syntax.mut
-              (Syntax.tyInt Syntax.w16))) Path'.refl tt Path'.refl Path'.refl Path'.refl λ b o. tt) d148
-
-          d150 : Typed.Typed 𝓤 H A 𝓣 E G8 b103 Δ0 at150
-          d150 = Typed.g-pre 𝓤 H A W 𝓣 E G8 G9 b103 Δ0 (λ Ψ. Ψ) at149 (Lifetime.g-begin 𝓤 H A W E G8 6 (
-            tt,
-            (
-              tt,
-              (
-                tt,
-                (
-                  tt,
-                  (
-                    tt,
-                    (
-                      tt,
-                      (
-                        tt,
-                        (
-                          tt,
-                          (
-                            tt,
-                            (
-                              tt,
-                              (
-                                tt,
-                                (
-                                  tt,
-                                  (
-                                    tt,
-                                    (
-                                      tt,
-                                      (
-                                        tt,
-                                        (
-                                          tt,
-                                          (
-                                            tt,
-                                            (
-                                              tt,
-                                              (
-                                                tt,
-                                                (
-                                                  tt,
-                                                  (
-                                                    tt,
-                                                    (
-                                                      tt,
-                                                      (
-                                                        tt,
-                                                        (
-                                                          tt,
-                                                          (tt, (tt, (tt, (tt, (tt, (tt, (tt, (tt, (tt, (tt, (tt, (tt, (tt, (tt, (tt, (tt, (tt, (tt, (tt, (tt, (tt, (tt, (tt, (tt, (tt, (tt, (tt, tt))))))))))))))))))))))))))),
-                                                        ),
-                                                      ),
-                                                    ),
-                                                  ),
-                                                ),
-                                              ),
-                                            ),
-                                          ),
-                                        ),
-                                      ),
-                                    ),
-                                  ),
-                                ),
-                              ),
-                            ),
-                          ),
-                        ),
-                      ),
-                    ),
-                  ),
-                ),
-              ),
-            ),
-          ))
-              d149
-
-          d151 : Typed.Typed 𝓤 H A 𝓣 E G7 b104 Δ0 at151
-          d151 = Typed.s-seq 𝓤 H A W 𝓣 E G7 G8 b2 b103 Δ0 (Typed.both s6) at150 (Plain.t-call-plain 𝓤 H A W 𝓣 0 ps·0 r·0 (claims· .0) (claims· .1) "map::width" (known .0) E (λ pos β. β) G7
-              (Bool.bAt 14 λ x. x, tt) 15 List.[] (Call.sub-id 𝓤 H A W (G7 .slots)) ((Scalar.reads-sc 𝓤 H A W Row.sBool, Path'.refl), tt) (Reads'.room-gone 𝓤 H A (Syntax.tyInt Syntax.w64)) tt Path'.refl)
-              d150
-
-          d152 : Typed.Typed 𝓤 H A 𝓣 E G6 b105 Δ0 at152
-          d152 = Typed.s-seq 𝓤 H A W 𝓣 E G6 G7 b1 b104 Δ0 (Typed.pass T6 T7 s5) at151 (Scalar.t-use 𝓤 H A W E 𝓣 G6 (Scalar.oFld 6 (List._∷_ (Syntax.field 1) List.[]) Syntax.tyBool 4 (Reads.fieldV
-              Form.the-type Laws.the-laws 1)) 14 (Rows'.sc-here Row.sBool) Syntax.tyBool (Row.valS Row.sBool) (Row.sBool .of)
-              (Reads.reads-field 𝓤 H A W Form.the-type Laws.the-laws 1 Syntax.tyBool 4 Path'.refl, Path'.refl) (Reads'.room-gone 𝓤 H A Syntax.tyBool) (Scalar.holds-sc 𝓤 H A W Row.sBool) Path'.refl (λ u.
-              Path'.refl) λ u. tt) d151
-
-          d153 : Typed.Typed 𝓤 H A 𝓣 E G5 b106 Δ0 at153
-          d153 = Typed.s-seq 𝓤 H A W 𝓣 E G5 G6 b0 b105 Δ0 (Typed.pass T5 T6 s4) at152 (Scalar.t-use 𝓤 H A W E 𝓣 G5 (Scalar.oFld 6 (List._∷_ (Syntax.field 0) List.[]) (Syntax.tyInt Syntax.w32) 0
-              (Reads.fieldV Form.the-type Laws.the-laws 0)) 13 (Rows'.sc-here (Row.sInt Syntax.w32)) (Syntax.tyInt Syntax.w32) (Row.valS (Row.sInt Syntax.w32)) (Row.sInt Syntax.w32 .of)
-              (Reads.reads-field 𝓤 H A W Form.the-type Laws.the-laws 0 (Syntax.tyInt Syntax.w32) 0 Path'.refl, Path'.refl) (Reads'.room-gone 𝓤 H A (Syntax.tyInt Syntax.w32)) (Scalar.holds-sc 𝓤 H A W
-              (Row.sInt Syntax.w32)) Path'.refl (λ u. Path'.refl) λ u. tt) d152
-
-          d154 : Typed.Typed 𝓤 H A 𝓣 E G4 b106 Δ0 at154
-          d154 = Typed.g-pre 𝓤 H A W 𝓣 E G4 G5 b106 Δ0 (Typed.give s3) at153 (Know.g-sl-known 𝓤 H A W (Referent.fInt Syntax.w16) E G4 5 4 (Syntax.tyRef (Syntax.named 4) Syntax.mut (Syntax.tyInt
-              Syntax.w16)) (Row.lease (κs .1 .1 .1 .1 .0) (qs .1 .1 .1 .1 .0)) 0 (λ x. x) record { fits = Dec'.lit< tt } (Reads'.as-is 𝓤 H A (Mut.mslice (Referent.rtF (Referent.fInt Syntax.w16))
-              (Syntax.tyRef (Syntax.named 4) Syntax.mut (Syntax.tyInt Syntax.w16)) 4)) Path'.refl tt) d153
-
-          d155 : Typed.Typed 𝓤 H A 𝓣 E G3 b106 Δ0 at155
-          d155 = Typed.g-pre 𝓤 H A W 𝓣 E G3 G4 b106 Δ0 (Typed.give s2) at154 (Know.g-sl-known 𝓤 H A W (Referent.fInt Syntax.w16) E G3 3 2 (Syntax.tyRef (Syntax.named 2) Syntax.mut (Syntax.tyInt
-              Syntax.w16)) (Row.lease (κs .1 .1 .0) (qs .1 .1 .0)) 0 (λ x. x) record { fits = Dec'.lit< tt } (Reads'.as-is 𝓤 H A (Mut.mslice (Referent.rtF (Referent.fInt Syntax.w16)) (Syntax.tyRef
-              (Syntax.named 2) Syntax.mut (Syntax.tyInt Syntax.w16)) 2)) Path'.refl tt) d154
-
-          d156 : Typed.Typed 𝓤 H A 𝓣 E G2 b106 Δ0 at156
-          d156 = Typed.g-pre 𝓤 H A W 𝓣 E G2 G3 b106 Δ0 (Typed.give s1) at155 (Know.g-shs-known 𝓤 H A W (Referent.fInt Syntax.w8) E G2 2 1 (Syntax.tyRef (Syntax.named 1) Syntax.imm (Syntax.tyInt
+          d144 : Typed.Typed 𝓤 H A 𝓣 E G2 b96 Δ0 at144
+          d144 = Typed.g-pre 𝓤 H A W 𝓣 E G2 G3 b96 Δ0 (Typed.give s1) at143 (Know.g-shs-known 𝓤 H A W (Referent.fInt Syntax.w8) E G2 2 1 (Syntax.tyRef (Syntax.named 1) Syntax.imm (Syntax.tyInt
               Syntax.w8)) (Row.lease (κs .1 .0) (qs .1 .0)) 0 (λ x. x) record { fits = Dec'.lit< tt } (Reads'.as-is 𝓤 H A (Rows'.sslice (Referent.rtF (Referent.fInt Syntax.w8)) (Syntax.tyRef (Syntax.named
-              1) Syntax.imm (Syntax.tyInt Syntax.w8)) 1)) Path'.refl tt) d155
+              1) Syntax.imm (Syntax.tyInt Syntax.w8)) 1)) Path'.refl tt) d143
 
-          d157 : Typed.Typed 𝓤 H A 𝓣 E G0 b106 Δ0 at157
-          d157 = Typed.g-pre 𝓤 H A W 𝓣 E G0 G2 b106 Δ0 (Typed.give s0) at156 (Know.g-shs-known 𝓤 H A W (Referent.fInt Syntax.w8) E G0 1 0 (Syntax.tyRef (Syntax.named 0) Syntax.imm (Syntax.tyInt
+          d145 : Typed.Typed 𝓤 H A 𝓣 E G0 b96 Δ0 at145
+          d145 = Typed.g-pre 𝓤 H A W 𝓣 E G0 G2 b96 Δ0 (Typed.give s0) at144 (Know.g-shs-known 𝓤 H A W (Referent.fInt Syntax.w8) E G0 1 0 (Syntax.tyRef (Syntax.named 0) Syntax.imm (Syntax.tyInt
               Syntax.w8)) (Row.lease (κs .0) (qs .0)) 0 (λ x. x) record { fits = Dec'.lit< tt } (Reads'.as-is 𝓤 H A (Rows'.sslice (Referent.rtF (Referent.fInt Syntax.w8)) (Syntax.tyRef (Syntax.named 0)
-              Syntax.imm (Syntax.tyInt Syntax.w8)) 0)) Path'.refl tt) d156
+              Syntax.imm (Syntax.tyInt Syntax.w8)) 0)) Path'.refl tt) d144
 
-          pub typed : Typed.Typed 𝓤 H A 𝓣 E (Function.Γin 6 ps r xs m κs qs) b106 (Function.Δret 6 ps r xs m κs qs) Φ
-          typed = d157
+          pub typed : Typed.Typed 𝓤 H A 𝓣 E (Function.Γin 6 ps r xs m κs qs) b96 (Function.Δret 6 ps r xs m κs qs) Φ
+          typed = d145
 
       module _ (κs : Lifetimes.Lfts 6) where
         pub record Args : Type 0 where
@@ -6236,7 +5651,25 @@ module _ (claims· : Claims) where
             in-mem = Local.mem-whole 𝓤 H A W (Declared'.row Part.the-type);
             of-mem = Local.whole-mem 𝓤 H A W (Declared'.row Part.the-type);
           })
-          pub count : Kinds.Den {n = 6} κs (Num.pNum Syntax.w64)
+          pub first : Kinds.Den {n = 6} κs (Num.pNum Syntax.w64)
+          pub from : Kinds.Den {n = 6} κs (Value.pVal record {
+            ty = Declared'.row Place.the-type;
+            one = Path'.refl;
+            val = Laws'10.val Place.the-type Laws'4.the-laws;
+            tells = Laws'10.tells Place.the-type Laws'4.the-laws;
+            still = Laws'10.still
+                Place.the-type Laws'4.the-copy Exit.yes;
+            row = Rows'.whole (Declared'.row Place.the-type);
+            rd = λ x. x;
+            mk = λ x. x;
+          } λ M 𝓤 H A W. record {
+            copies = Laws'10.copy Place.the-type Laws'4.the-copy 𝓤 H A W;
+            lawful = Laws'10.lawful Place.the-type Laws'4.the-laws 𝓤 H A W;
+            makes = Laws'10.makes Place.the-type Laws'4.the-plain 𝓤 H A;
+            in-mem = Local.mem-whole 𝓤 H A W (Declared'.row Place.the-type);
+            of-mem = Local.whole-mem 𝓤 H A W (Declared'.row Place.the-type);
+          })
+          pub more : Kinds.Den {n = 6} κs (Num.pNum Syntax.w64)
           pub windowed : Kinds.Den {n = 6} κs Bool.pBool
           pub entries : Kinds.Den {n = 6} κs (Value.pVal record {
             ty = Declared'.row Entries.the-type;
@@ -6258,11 +5691,12 @@ module _ (claims· : Claims) where
           })
 
         abbrev pub dens : (a : Args) → Kinds.Dens κs ps
-        dens = λ a. (a .block, (a .bases, (a .lines, (a .rs, (a .image, (a .form, (a .places, (a .tile, (a .part, (a .count, (a .windowed, (a .entries, tt))))))))))))
+        dens = λ a. (a .block, (a .bases, (a .lines, (a .rs, (a .image, (a .form, (a .places, (a .tile, (a .part, (a .first, (a .from, (a .more, (a .windowed, (a .entries, tt))))))))))))))
 
         module _ (args· : Args) where
           pub record Ranges : Type 0 where
-            pub count : Val.Fits Syntax.w64 (args· .count)
+            pub first : Val.Fits Syntax.w64 (args· .first)
+            pub more : Val.Fits Syntax.w64 (args· .more)
 
       abbrev pub m0 : (κs : Lifetimes.Lfts 6) → (args : Args κs) → Typed.Mo T0
       m0 = λ κs args. (tt, Enter.partsP κs 1 ps xs (dens κs args))
@@ -6340,248 +5774,129 @@ module _ (claims· : Claims) where
 
       module _ (before· : After-slice-known2) where
         abbrev pub After-width·own : Type 0
-        After-width·own = Called.Called ps·0 r·0 (claims· .1) T7 (Bool.bAt 14 λ x. x, tt) (m6 (before· .before) (before· .slice-known2 .given))
+        After-width·own = Called.Called ps·0 r·0 (claims· .1) T7 (Bool.bAt 16 λ x. x, tt) (m6 (before· .before) (before· .slice-known2 .given))
 
       pub record After-width : Type 0 where
         pub before : After-slice-known2
         pub width : After-width·own before
 
       abbrev pub After-width·gave : (c : After-width) → s6 .gives (m6 (c .before .before) (c .before .slice-known2 .given))
-      After-width·gave = λ c. Called.given ps·0 r·0 (claims· .1) T7 (Bool.bAt 14 λ x. x, tt) (m6 (c .before .before) (c .before .slice-known2 .given)) (c .width)
+      After-width·gave = λ c. Called.given ps·0 r·0 (claims· .1) T7 (Bool.bAt 16 λ x. x, tt) (m6 (c .before .before) (c .before .slice-known2 .given)) (c .width)
 
-      abbrev pub m8 : (before : After-width) → (given : s8 .gives (m7 (before .before) (After-width·gave before))) → Typed.Mo T10
-      m8 = λ before given. s8 .next (m7 (before .before) (After-width·gave before)) given
+      abbrev pub m8 : (before : After-slice-known2) → (given : s6 .gives (m6 (before .before) (before .slice-known2 .given))) → Typed.Mo T9
+      m8 = λ before given. s7 (m7 before given)
 
-      abbrev pub m9 : (before : After-width) → (given : s8 .gives (m7 (before .before) (After-width·gave before))) → Typed.Mo T11
-      m9 = λ before given. s9 .next (m8 before given)
+      abbrev pub Need-totals-at-requires : Type 0
+      Need-totals-at-requires = (c : After-width) → s8 .asks (m8 (c .before) (After-width·gave c))
+
+      abbrev pub m9 : (before : After-width) → (given : s8 .gives (m8 (before .before) (After-width·gave before))) → Typed.Mo T10
+      m9 = λ before given. s8 .next (m8 (before .before) (After-width·gave before)) given
 
       module _ (before· : After-width) where
-        pub record After-clear-arg·own : Type 0 where
-          pub given : s8 .gives (m7 (before· .before) (After-width·gave before·))
+        abbrev pub After-totals-at·own : Type 0
+        After-totals-at·own = Called.Called ps·1 r·1 (claims· .3) T9 (record { pos = 11; st = List.[]; d = 0; at = λ x. x }, tt) (m8 (before· .before) (After-width·gave before·))
 
-      pub record After-clear-arg : Type 0 where
+      pub record After-totals-at : Type 0 where
         pub before : After-width
-        pub clear-arg : After-clear-arg·own before
+        pub totals-at : After-totals-at·own before
 
-      abbrev pub Need-clear-requires : Type 0
-      Need-clear-requires = (c : After-clear-arg) → s10 .asks (m9 (c .before) (c .clear-arg .given))
+      abbrev pub After-totals-at·gave : (c : After-totals-at) → s8 .gives (m8 (c .before .before) (After-width·gave (c .before)))
+      After-totals-at·gave = λ c. Called.given ps·1 r·1 (claims· .3) T9 (record { pos = 11; st = List.[]; d = 0; at = λ x. x }, tt) (m8 (c .before .before) (After-width·gave (c .before))) (c
+          .totals-at)
 
-      abbrev pub m10 : (before : After-clear-arg) → (given : s10 .gives (m9 (before .before) (before .clear-arg .given))) → Typed.Mo T12
-      m10 = λ before given. s10 .next (m9 (before .before) (before .clear-arg .given)) given
-
-      module _ (before· : After-clear-arg) where
-        abbrev pub After-clear·own : Type 0
-        After-clear·own = Called.Called ps·1 r·1 (claims· .3) T11 (record { pos = 24; ty = Syntax.tyRef Syntax.erased Syntax.mut (Syntax.tyInt Syntax.w16); ref = λ x. x }, tt) (m9 (before· .before)
-            (before· .clear-arg .given))
-
-      pub record After-clear : Type 0 where
-        pub before : After-clear-arg
-        pub clear : After-clear·own before
-
-      abbrev pub After-clear·gave : (c : After-clear) → s10 .gives (m9 (c .before .before) (c .before .clear-arg .given))
-      After-clear·gave = λ c. Called.given ps·1 r·1 (claims· .3) T11 (record { pos = 24; ty = Syntax.tyRef Syntax.erased Syntax.mut (Syntax.tyInt Syntax.w16); ref = λ x. x }, tt) (m9 (c .before
-          .before) (c .before .clear-arg .given)) (c .clear)
-
-      abbrev pub m11 : (before : After-clear-arg) → (given : s10 .gives (m9 (before .before) (before .clear-arg .given))) → Typed.Mo T13
-      m11 = λ before given. s11 (m10 before given)
-
-      abbrev pub m12 : (before : After-clear) → (given : s13 .gives (m11 (before .before) (After-clear·gave before))) → Typed.Mo T15
-      m12 = λ before given. s13 .next (m11 (before .before) (After-clear·gave before)) given
-
-      module _ (before· : After-clear) where
-        pub record After-lines·own : Type 0 where
-          pub given : s13 .gives (m11 (before· .before) (After-clear·gave before·))
-
-      pub record After-lines : Type 0 where
-        pub before : After-clear
-        pub lines : After-lines·own before
-
-      abbrev pub m13 : (before : After-lines) → (given : s14 .gives (m12 (before .before) (before .lines .given))) → Typed.Mo T16
-      m13 = λ before given. s14 .next (m12 (before .before) (before .lines .given)) given
-
-      module _ (before· : After-lines) where
-        pub record After-slice-known3·own : Type 0 where
-          pub given : s14 .gives (m12 (before· .before) (before· .lines .given))
-
-      pub record After-slice-known3 : Type 0 where
-        pub before : After-lines
-        pub slice-known3 : After-slice-known3·own before
-
-      abbrev pub m14 : (before : After-slice-known3) → (given : s17 .gives (m13 (before .before) (before .slice-known3 .given))) → Typed.Mo T19
-      m14 = λ before given. s17 .next (m13 (before .before) (before .slice-known3 .given)) given
-
-      abbrev pub m15 : (before : After-slice-known3) → (given : s17 .gives (m13 (before .before) (before .slice-known3 .given))) → Typed.Mo T20
-      m15 = λ before given. s18 .next (m14 before given)
-
-      module _ (before· : After-slice-known3) where
-        pub record After-start-records-arg·own : Type 0 where
-          pub given : s17 .gives (m13 (before· .before) (before· .slice-known3 .given))
-
-      pub record After-start-records-arg : Type 0 where
-        pub before : After-slice-known3
-        pub start-records-arg : After-start-records-arg·own before
-
-      abbrev pub Need-base-of-requires : Type 0
-      Need-base-of-requires = (c : After-start-records-arg) → s19 .asks (m15 (c .before) (c .start-records-arg .given))
-
-      abbrev pub m16 : (before : After-start-records-arg) → (given : s19 .gives (m15 (before .before) (before .start-records-arg .given))) → Typed.Mo T21
-      m16 = λ before given. s19 .next (m15 (before .before) (before .start-records-arg .given)) given
-
-      module _ (before· : After-start-records-arg) where
-        abbrev pub After-base-of·own : Type 0
-        After-base-of·own = Called.Called ps·2 r·2 (claims· .5) T20 (record { pos = 2; ty = Syntax.tyRef (Syntax.named 1) Syntax.imm (Syntax.tyInt Syntax.w8); ref = λ x. x }, (Num.vLit 0, tt)) (m15
-            (before· .before) (before· .start-records-arg .given))
-
-      pub record After-base-of : Type 0 where
-        pub before : After-start-records-arg
-        pub base-of : After-base-of·own before
-
-      abbrev pub After-base-of·gave : (c : After-base-of) → s19 .gives (m15 (c .before .before) (c .before .start-records-arg .given))
-      After-base-of·gave = λ c. Called.given ps·2 r·2 (claims· .5) T20 (record { pos = 2; ty = Syntax.tyRef (Syntax.named 1) Syntax.imm (Syntax.tyInt Syntax.w8); ref = λ x. x }, (Num.vLit 0, tt))
-          (m15 (c .before .before) (c .before .start-records-arg .given)) (c .base-of)
-
-      abbrev pub Need-start-records-requires : Type 0
-      Need-start-records-requires = (c : After-base-of) → s20 .asks (m16 (c .before) (After-base-of·gave c))
-
-      abbrev pub m17 : (before : After-base-of) → (given : s20 .gives (m16 (before .before) (After-base-of·gave before))) → Typed.Mo T22
-      m17 = λ before given. s20 .next (m16 (before .before) (After-base-of·gave before)) given
-
-      module _ (before· : After-base-of) where
-        abbrev pub After-start-records·own : Type 0
-        After-start-records·own = Called.Called ps·3 r·3 (claims· .7) T21
-            (record { pos = 26; ty = Syntax.tyRef Syntax.erased Syntax.mut Element.behind; ref = λ x. x }, (Num.vAt 13 λ x. x, (Num.vAt 27 λ x. x, tt))) (m16 (before· .before) (After-base-of·gave
-            before·))
-
-      pub record After-start-records : Type 0 where
-        pub before : After-base-of
-        pub start-records : After-start-records·own before
-
-      abbrev pub After-start-records·gave : (c : After-start-records) → s20 .gives (m16 (c .before .before) (After-base-of·gave (c .before)))
-      After-start-records·gave = λ c. Called.given ps·3 r·3 (claims· .7) T21
-          (record { pos = 26; ty = Syntax.tyRef Syntax.erased Syntax.mut Element.behind; ref = λ x. x }, (Num.vAt 13 λ x. x, (Num.vAt 27 λ x. x, tt))) (m16 (c .before .before) (After-base-of·gave (c
-          .before))) (c .start-records)
-
-      abbrev pub m18 : (before : After-base-of) → (given : s20 .gives (m16 (before .before) (After-base-of·gave before))) → Typed.Mo T23
-      m18 = λ before given. s21 (m17 before given)
-
-      abbrev pub m19 : (before : After-base-of) → (given : s20 .gives (m16 (before .before) (After-base-of·gave before))) → Typed.Mo T24
-      m19 = λ before given. s22 (m18 before given)
-
-      abbrev pub m20 : (before : After-start-records) → (given : s24 .gives (m19 (before .before) (After-start-records·gave before))) → Typed.Mo T26
-      m20 = λ before given. s24 .next (m19 (before .before) (After-start-records·gave before)) given
-
-      module _ (before· : After-start-records) where
-        pub record After-rs·own : Type 0 where
-          pub given : s24 .gives (m19 (before· .before) (After-start-records·gave before·))
-
-      pub record After-rs : Type 0 where
-        pub before : After-start-records
-        pub rs : After-rs·own before
-
-      abbrev pub Need-start-place-requires : Type 0
-      Need-start-place-requires = (c : After-rs) → s26 .asks (m20 (c .before) (c .rs .given))
-
-      abbrev pub m21 : (before : After-rs) → (given : s26 .gives (m20 (before .before) (before .rs .given))) → Typed.Mo T28
-      m21 = λ before given. s26 .next (m20 (before .before) (before .rs .given)) given
-
-      module _ (before· : After-rs) where
-        abbrev pub After-start-place·own : Type 0
-        After-start-place·own = Called.Called ps·4 r·4 (claims· .9) T26 tt (m20 (before· .before) (before· .rs .given))
-
-      pub record After-start-place : Type 0 where
-        pub before : After-rs
-        pub start-place : After-start-place·own before
-
-      abbrev pub After-start-place·gave : (c : After-start-place) → s26 .gives (m20 (c .before .before) (c .before .rs .given))
-      After-start-place·gave = λ c. Called.given ps·4 r·4 (claims· .9) T26 tt (m20 (c .before .before) (c .before .rs .given)) (c .start-place)
+      abbrev pub m10 : (before : After-width) → (given : s8 .gives (m8 (before .before) (After-width·gave before))) → Typed.Mo T11
+      m10 = λ before given. s9 (m9 before given)
 
       abbrev pub Need-no-lines-requires : Type 0
-      Need-no-lines-requires = (c : After-start-place) → s27 .asks (m21 (c .before) (After-start-place·gave c))
+      Need-no-lines-requires = (c : After-totals-at) → s10 .asks (m10 (c .before) (After-totals-at·gave c))
 
-      abbrev pub m22 : (before : After-start-place) → (given : s27 .gives (m21 (before .before) (After-start-place·gave before))) → Typed.Mo T29
-      m22 = λ before given. s27 .next (m21 (before .before) (After-start-place·gave before)) given
+      abbrev pub m11 : (before : After-totals-at) → (given : s10 .gives (m10 (before .before) (After-totals-at·gave before))) → Typed.Mo T12
+      m11 = λ before given. s10 .next (m10 (before .before) (After-totals-at·gave before)) given
 
-      module _ (before· : After-start-place) where
+      module _ (before· : After-totals-at) where
         abbrev pub After-no-lines·own : Type 0
-        After-no-lines·own = Called.Called ps·5 r·5 (claims· .11) T28 tt (m21 (before· .before) (After-start-place·gave before·))
+        After-no-lines·own = Called.Called ps·2 r·2 (claims· .5) T11 (record { pos = 25; st = List.[]; d = 0; at = λ x. x }, tt) (m10 (before· .before) (After-totals-at·gave before·))
 
       pub record After-no-lines : Type 0 where
-        pub before : After-start-place
+        pub before : After-totals-at
         pub no-lines : After-no-lines·own before
 
-      abbrev pub After-no-lines·gave : (c : After-no-lines) → s27 .gives (m21 (c .before .before) (After-start-place·gave (c .before)))
-      After-no-lines·gave = λ c. Called.given ps·5 r·5 (claims· .11) T28 tt (m21 (c .before .before) (After-start-place·gave (c .before))) (c .no-lines)
+      abbrev pub After-no-lines·gave : (c : After-no-lines) → s10 .gives (m10 (c .before .before) (After-totals-at·gave (c .before)))
+      After-no-lines·gave = λ c. Called.given ps·2 r·2 (claims· .5) T11 (record { pos = 25; st = List.[]; d = 0; at = λ x. x }, tt) (m10 (c .before .before) (After-totals-at·gave (c .before))) (c
+          .no-lines)
 
-      abbrev pub m23 : (before : After-start-place) → (given : s27 .gives (m21 (before .before) (After-start-place·gave before))) → Typed.Mo T30
-      m23 = λ before given. s28 (m22 before given)
+      abbrev pub m12 : (before : After-totals-at) → (given : s10 .gives (m10 (before .before) (After-totals-at·gave before))) → Typed.Mo T13
+      m12 = λ before given. s11 (m11 before given)
 
-      abbrev W1 : (before : After-start-place) → (given : s27 .gives (m21 (before .before) (After-start-place·gave before))) → Typed.Want O1
-      W1 = λ before given. Typed.wantNext T31 O0 (at127 (W0 (before .before .before .before .before .before .before .before .before .before .before .before .before .before .before .κs) (before .before
-          .before .before .before .before .before .before .before .before .before .before .before .before .before .args))) (W0 (before .before .before .before .before .before .before .before .before
-          .before .before .before .before .before .before .κs) (before .before .before .before .before .before .before .before .before .before .before .before .before .before .before .args))
+      abbrev pub m13 : (before : After-totals-at) → (given : s10 .gives (m10 (before .before) (After-totals-at·gave before))) → Typed.Mo T14
+      m13 = λ before given. s12 (m12 before given)
 
-      abbrev W2 : (before : After-start-place) → (given : s27 .gives (m21 (before .before) (After-start-place·gave before))) → Typed.Want O2
+      abbrev W1 : (before : After-totals-at) → (given : s10 .gives (m10 (before .before) (After-totals-at·gave before))) → Typed.Want O1
+      W1 = λ before given. Typed.wantNext T15 O0 (at131 (W0 (before .before .before .before .before .before .before .κs) (before .before .before .before .before .before .before .args))) (W0 (before
+          .before .before .before .before .before .before .κs) (before .before .before .before .before .before .before .args))
+
+      abbrev W2 : (before : After-totals-at) → (given : s10 .gives (m10 (before .before) (After-totals-at·gave before))) → Typed.Want O2
       W2 = λ before given. Typed.inBlock O1 (W1 before given)
 
       abbrev pub Need-loop-holds : Type 0
-      Need-loop-holds = (c : After-no-lines) → Inv·0 (Row.get 1 (T30 .locals) (m23 (c .before) (After-no-lines·gave c)) .now) (Row.get 2 (T30 .locals) (m23 (c .before) (After-no-lines·gave c)) .now)
-          (Row.get 3 (T30 .locals) (m23 (c .before) (After-no-lines·gave c)) .now) (Row.get 4 (T30 .locals) (m23 (c .before) (After-no-lines·gave c)) .now) (Row.get 5 (T30 .locals) (m23 (c .before)
-          (After-no-lines·gave c)) .now) (Row.get 6 (T30 .locals) (m23 (c .before) (After-no-lines·gave c))) (Row.get 7 (T30 .locals) (m23 (c .before) (After-no-lines·gave c)) .now) (Row.get 8 (T30
-          .locals) (m23 (c .before) (After-no-lines·gave c))) (Row.get 9 (T30 .locals) (m23 (c .before) (After-no-lines·gave c))) (Row.get 10 (T30 .locals) (m23 (c .before) (After-no-lines·gave c)))
-          (Row.get 11 (T30 .locals) (m23 (c .before) (After-no-lines·gave c))) (Row.get 12 (T30 .locals) (m23 (c .before) (After-no-lines·gave c))) (Row.get 13 (T30 .locals) (m23 (c .before)
-          (After-no-lines·gave c))) (Row.get 14 (T30 .locals) (m23 (c .before) (After-no-lines·gave c))) (Row.get 15 (T30 .locals) (m23 (c .before) (After-no-lines·gave c))) (Row.get 16 (T30 .locals) (m23
-          (c .before) (After-no-lines·gave c))) (Row.get 17 (T30 .locals) (m23 (c .before) (After-no-lines·gave c))) (Row.get 18 (T30 .locals) (m23 (c .before) (After-no-lines·gave c))) (Row.get 3 (T30
-          .locals) (m23 (c .before) (After-no-lines·gave c)) .now) (Row.get 4 (T30 .locals) (m23 (c .before) (After-no-lines·gave c)) .now) (Row.get 5 (T30 .locals) (m23 (c .before) (After-no-lines·gave
-          c)) .now) (Row.get 16 (T30 .locals) (m23 (c .before) (After-no-lines·gave c))) (Row.get 17 (T30 .locals) (m23 (c .before) (After-no-lines·gave c))) (Row.get 18 (T30 .locals) (m23 (c .before)
-          (After-no-lines·gave c)))
+      Need-loop-holds = (c : After-no-lines) → Inv·0 (Row.get 1 (T14 .locals) (m13 (c .before) (After-no-lines·gave c)) .now) (Row.get 2 (T14 .locals) (m13 (c .before) (After-no-lines·gave c)) .now)
+          (Row.get 3 (T14 .locals) (m13 (c .before) (After-no-lines·gave c)) .now) (Row.get 4 (T14 .locals) (m13 (c .before) (After-no-lines·gave c)) .now) (Row.get 5 (T14 .locals) (m13 (c .before)
+          (After-no-lines·gave c)) .now) (Row.get 6 (T14 .locals) (m13 (c .before) (After-no-lines·gave c))) (Row.get 7 (T14 .locals) (m13 (c .before) (After-no-lines·gave c)) .now) (Row.get 8 (T14
+          .locals) (m13 (c .before) (After-no-lines·gave c))) (Row.get 9 (T14 .locals) (m13 (c .before) (After-no-lines·gave c))) (Row.get 10 (T14 .locals) (m13 (c .before) (After-no-lines·gave c)))
+          (Row.get 12 (T14 .locals) (m13 (c .before) (After-no-lines·gave c))) (Row.get 13 (T14 .locals) (m13 (c .before) (After-no-lines·gave c))) (Row.get 14 (T14 .locals) (m13 (c .before)
+          (After-no-lines·gave c))) (Row.get 15 (T14 .locals) (m13 (c .before) (After-no-lines·gave c))) (Row.get 16 (T14 .locals) (m13 (c .before) (After-no-lines·gave c))) (Row.get 17 (T14 .locals) (m13
+          (c .before) (After-no-lines·gave c))) (Row.get 18 (T14 .locals) (m13 (c .before) (After-no-lines·gave c))) (Row.get 19 (T14 .locals) (m13 (c .before) (After-no-lines·gave c))) (Row.get 20 (T14
+          .locals) (m13 (c .before) (After-no-lines·gave c))) (Row.get 3 (T14 .locals) (m13 (c .before) (After-no-lines·gave c)) .now) (Row.get 4 (T14 .locals) (m13 (c .before) (After-no-lines·gave c))
+          .now) (Row.get 5 (T14 .locals) (m13 (c .before) (After-no-lines·gave c)) .now) (Row.get 18 (T14 .locals) (m13 (c .before) (After-no-lines·gave c))) (Row.get 19 (T14 .locals) (m13 (c .before)
+          (After-no-lines·gave c))) (Row.get 20 (T14 .locals) (m13 (c .before) (After-no-lines·gave c)))
 
-      abbrev pub m24 : (before : After-no-lines) → (lines : List.List (Referent.rtF (Referent.fInt Syntax.w16) .Denot)) → (rs : List.List (Element.type .Denot)) → (image : List.List (Referent.rtF
-          (Referent.fInt Syntax.w16) .Denot)) → (place : Rows'.whole (Declared'.row Place.the-type) .Mod) → (tight-lines : Rows'.whole (Declared'.row TightLines.the-type) .Mod) → (n : Rows'.sc-here
-          (Row.sInt Syntax.w64) .Mod) → Typed.Mo T30
-      m24 = λ before lines rs image place tight-lines n. Row.set 18 (18, Rows'.sc-here (Row.sInt Syntax.w64)) n (Row.setRow 17 (17, Rows'.whole (Declared'.row TightLines.the-type)) (Row.setRow 16
-          (16, Rows'.whole (Declared'.row Place.the-type)) (Row.setRow 5 (5, Mut.mslice (Referent.rtF (Referent.fInt Syntax.w16)) (Syntax.tyRef (Syntax.named 4) Syntax.mut (Syntax.tyInt Syntax.w16)) 4)
+      abbrev pub m14 : (before : After-no-lines) → (lines : List.List (Referent.rtF (Referent.fInt Syntax.w16) .Denot)) → (rs : List.List (Element.type .Denot)) → (image : List.List (Referent.rtF
+          (Referent.fInt Syntax.w16) .Denot)) → (place : Rows'.whole (Declared'.row Place.the-type) .Mod) → (tight-lines : Rows'.whole (Declared'.row TightLines.the-type) .Mod) → (i : Rows'.sc-here
+          (Row.sInt Syntax.w64) .Mod) → Typed.Mo T14
+      m14 = λ before lines rs image place tight-lines i. Row.set 20 (20, Rows'.sc-here (Row.sInt Syntax.w64)) i (Row.setRow 19 (19, Rows'.whole (Declared'.row TightLines.the-type)) (Row.setRow 18
+          (18, Rows'.whole (Declared'.row Place.the-type)) (Row.setRow 5 (5, Mut.mslice (Referent.rtF (Referent.fInt Syntax.w16)) (Syntax.tyRef (Syntax.named 4) Syntax.mut (Syntax.tyInt Syntax.w16)) 4)
           (Row.setRow 4 (4, Mut.mslice (Element.type) (Syntax.tyRef (Syntax.named 3) Syntax.mut Element.behind) 3) (Row.setRow 3
-          (3, Mut.mslice (Referent.rtF (Referent.fInt Syntax.w16)) (Syntax.tyRef (Syntax.named 2) Syntax.mut (Syntax.tyInt Syntax.w16)) 2) (T30 .locals)))))) (Row.set 17
-          (17, Rows'.whole (Declared'.row TightLines.the-type)) tight-lines (Row.setRow 16 (16, Rows'.whole (Declared'.row Place.the-type)) (Row.setRow 5
+          (3, Mut.mslice (Referent.rtF (Referent.fInt Syntax.w16)) (Syntax.tyRef (Syntax.named 2) Syntax.mut (Syntax.tyInt Syntax.w16)) 2) (T14 .locals)))))) (Row.set 19
+          (19, Rows'.whole (Declared'.row TightLines.the-type)) tight-lines (Row.setRow 18 (18, Rows'.whole (Declared'.row Place.the-type)) (Row.setRow 5
           (5, Mut.mslice (Referent.rtF (Referent.fInt Syntax.w16)) (Syntax.tyRef (Syntax.named 4) Syntax.mut (Syntax.tyInt Syntax.w16)) 4) (Row.setRow 4
           (4, Mut.mslice (Element.type) (Syntax.tyRef (Syntax.named 3) Syntax.mut Element.behind) 3) (Row.setRow 3
-          (3, Mut.mslice (Referent.rtF (Referent.fInt Syntax.w16)) (Syntax.tyRef (Syntax.named 2) Syntax.mut (Syntax.tyInt Syntax.w16)) 2) (T30 .locals))))) (Row.set 16
-          (16, Rows'.whole (Declared'.row Place.the-type)) place (Row.setRow 5
+          (3, Mut.mslice (Referent.rtF (Referent.fInt Syntax.w16)) (Syntax.tyRef (Syntax.named 2) Syntax.mut (Syntax.tyInt Syntax.w16)) 2) (T14 .locals))))) (Row.set 18
+          (18, Rows'.whole (Declared'.row Place.the-type)) place (Row.setRow 5
           (5, Mut.mslice (Referent.rtF (Referent.fInt Syntax.w16)) (Syntax.tyRef (Syntax.named 4) Syntax.mut (Syntax.tyInt Syntax.w16)) 4) (Row.setRow 4
           (4, Mut.mslice (Element.type) (Syntax.tyRef (Syntax.named 3) Syntax.mut Element.behind) 3) (Row.setRow 3
-          (3, Mut.mslice (Referent.rtF (Referent.fInt Syntax.w16)) (Syntax.tyRef (Syntax.named 2) Syntax.mut (Syntax.tyInt Syntax.w16)) 2) (T30 .locals)))) (Row.set 5
+          (3, Mut.mslice (Referent.rtF (Referent.fInt Syntax.w16)) (Syntax.tyRef (Syntax.named 2) Syntax.mut (Syntax.tyInt Syntax.w16)) 2) (T14 .locals)))) (Row.set 5
           (5, Mut.mslice (Referent.rtF (Referent.fInt Syntax.w16)) (Syntax.tyRef (Syntax.named 4) Syntax.mut (Syntax.tyInt Syntax.w16)) 4) record
-          { ptr = Row.get 5 (T30 .locals) (m23 (before .before) (After-no-lines·gave before)) .ptr; name = Row.get 5 (T30 .locals) (m23 (before .before) (After-no-lines·gave before)) .name; now = image }
+          { ptr = Row.get 5 (T14 .locals) (m13 (before .before) (After-no-lines·gave before)) .ptr; name = Row.get 5 (T14 .locals) (m13 (before .before) (After-no-lines·gave before)) .name; now = image }
           (Row.setRow 4 (4, Mut.mslice (Element.type) (Syntax.tyRef (Syntax.named 3) Syntax.mut Element.behind) 3) (Row.setRow 3
-          (3, Mut.mslice (Referent.rtF (Referent.fInt Syntax.w16)) (Syntax.tyRef (Syntax.named 2) Syntax.mut (Syntax.tyInt Syntax.w16)) 2) (T30 .locals))) (Row.set 4
+          (3, Mut.mslice (Referent.rtF (Referent.fInt Syntax.w16)) (Syntax.tyRef (Syntax.named 2) Syntax.mut (Syntax.tyInt Syntax.w16)) 2) (T14 .locals))) (Row.set 4
           (4, Mut.mslice (Element.type) (Syntax.tyRef (Syntax.named 3) Syntax.mut Element.behind) 3) record
-          { ptr = Row.get 4 (T30 .locals) (m23 (before .before) (After-no-lines·gave before)) .ptr; name = Row.get 4 (T30 .locals) (m23 (before .before) (After-no-lines·gave before)) .name; now = rs }
-          (Row.setRow 3 (3, Mut.mslice (Referent.rtF (Referent.fInt Syntax.w16)) (Syntax.tyRef (Syntax.named 2) Syntax.mut (Syntax.tyInt Syntax.w16)) 2) (T30 .locals)) (Row.set 3
+          { ptr = Row.get 4 (T14 .locals) (m13 (before .before) (After-no-lines·gave before)) .ptr; name = Row.get 4 (T14 .locals) (m13 (before .before) (After-no-lines·gave before)) .name; now = rs }
+          (Row.setRow 3 (3, Mut.mslice (Referent.rtF (Referent.fInt Syntax.w16)) (Syntax.tyRef (Syntax.named 2) Syntax.mut (Syntax.tyInt Syntax.w16)) 2) (T14 .locals)) (Row.set 3
           (3, Mut.mslice (Referent.rtF (Referent.fInt Syntax.w16)) (Syntax.tyRef (Syntax.named 2) Syntax.mut (Syntax.tyInt Syntax.w16)) 2) record
-          { ptr = Row.get 3 (T30 .locals) (m23 (before .before) (After-no-lines·gave before)) .ptr; name = Row.get 3 (T30 .locals) (m23 (before .before) (After-no-lines·gave before)) .name; now = lines }
-          (T30 .locals) (m23 (before .before) (After-no-lines·gave before)))))))
+          { ptr = Row.get 3 (T14 .locals) (m13 (before .before) (After-no-lines·gave before)) .ptr; name = Row.get 3 (T14 .locals) (m13 (before .before) (After-no-lines·gave before)) .name; now = lines }
+          (T14 .locals) (m13 (before .before) (After-no-lines·gave before)))))))
 
       abbrev W3 : (before : After-no-lines) → (lines : List.List (Referent.rtF (Referent.fInt Syntax.w16) .Denot)) → (rs : List.List (Element.type .Denot)) → (image : List.List (Referent.rtF
-          (Referent.fInt Syntax.w16) .Denot)) → (place : Rows'.whole (Declared'.row Place.the-type) .Mod) → (tight-lines : Rows'.whole (Declared'.row TightLines.the-type) .Mod) → (n : Rows'.sc-here
+          (Referent.fInt Syntax.w16) .Denot)) → (place : Rows'.whole (Declared'.row Place.the-type) .Mod) → (tight-lines : Rows'.whole (Declared'.row TightLines.the-type) .Mod) → (i : Rows'.sc-here
           (Row.sInt Syntax.w64) .Mod) → Typed.Want O3
-      W3 = λ before lines rs image place tight-lines n. Typed.inLoop T30 O2 (Typed.Round T30 O2 put0 (λ u vs. Inv·0 (Row.get 1 (T30 .locals) u .now) (Row.get 2 (T30 .locals) u .now) (Row.get 3 (T30
-          .locals) u .now) (Row.get 4 (T30 .locals) u .now) (Row.get 5 (T30 .locals) u .now) (Row.get 6 (T30 .locals) u) (Row.get 7 (T30 .locals) u .now) (Row.get 8 (T30 .locals) u) (Row.get 9 (T30
-          .locals) u) (Row.get 10 (T30 .locals) u) (Row.get 11 (T30 .locals) u) (Row.get 12 (T30 .locals) u) (Row.get 13 (T30 .locals) u) (Row.get 14 (T30 .locals) u) (Row.get 15 (T30 .locals) u) (Row.get
-          16 (T30 .locals) u) (Row.get 17 (T30 .locals) u) (Row.get 18 (T30 .locals) u) (vs .0) (vs .1) (vs .2) (vs .3) (vs .4) (vs .5)) (λ u vs. μ·0 (Row.get 1 (T30 .locals) u .now) (Row.get 2 (T30
-          .locals) u .now) (Row.get 3 (T30 .locals) u .now) (Row.get 4 (T30 .locals) u .now) (Row.get 5 (T30 .locals) u .now) (Row.get 6 (T30 .locals) u) (Row.get 7 (T30 .locals) u .now) (Row.get 8 (T30
-          .locals) u) (Row.get 9 (T30 .locals) u) (Row.get 10 (T30 .locals) u) (Row.get 11 (T30 .locals) u) (Row.get 12 (T30 .locals) u) (Row.get 13 (T30 .locals) u) (Row.get 14 (T30 .locals) u) (Row.get
-          15 (T30 .locals) u) (Row.get 16 (T30 .locals) u) (Row.get 17 (T30 .locals) u) (Row.get 18 (T30 .locals) u) (vs .0) (vs .1) (vs .2) (vs .3) (vs .4) (vs .5)) at113 (m23 (before .before)
-          (After-no-lines·gave before)) (lines, rs, image, place, tight-lines, n)) (W2 (before .before) (After-no-lines·gave before))
+      W3 = λ before lines rs image place tight-lines i. Typed.inLoop T14 O2 (Typed.Round T14 O2 put0 (λ u vs. Inv·0 (Row.get 1 (T14 .locals) u .now) (Row.get 2 (T14 .locals) u .now) (Row.get 3 (T14
+          .locals) u .now) (Row.get 4 (T14 .locals) u .now) (Row.get 5 (T14 .locals) u .now) (Row.get 6 (T14 .locals) u) (Row.get 7 (T14 .locals) u .now) (Row.get 8 (T14 .locals) u) (Row.get 9 (T14
+          .locals) u) (Row.get 10 (T14 .locals) u) (Row.get 12 (T14 .locals) u) (Row.get 13 (T14 .locals) u) (Row.get 14 (T14 .locals) u) (Row.get 15 (T14 .locals) u) (Row.get 16 (T14 .locals) u) (Row.get
+          17 (T14 .locals) u) (Row.get 18 (T14 .locals) u) (Row.get 19 (T14 .locals) u) (Row.get 20 (T14 .locals) u) (vs .0) (vs .1) (vs .2) (vs .3) (vs .4) (vs .5)) (λ u vs. μ·0 (Row.get 1 (T14 .locals)
+          u .now) (Row.get 2 (T14 .locals) u .now) (Row.get 3 (T14 .locals) u .now) (Row.get 4 (T14 .locals) u .now) (Row.get 5 (T14 .locals) u .now) (Row.get 6 (T14 .locals) u) (Row.get 7 (T14 .locals) u
+          .now) (Row.get 8 (T14 .locals) u) (Row.get 9 (T14 .locals) u) (Row.get 10 (T14 .locals) u) (Row.get 12 (T14 .locals) u) (Row.get 13 (T14 .locals) u) (Row.get 14 (T14 .locals) u) (Row.get 15 (T14
+          .locals) u) (Row.get 16 (T14 .locals) u) (Row.get 17 (T14 .locals) u) (Row.get 18 (T14 .locals) u) (Row.get 19 (T14 .locals) u) (Row.get 20 (T14 .locals) u) (vs .0) (vs .1) (vs .2) (vs .3) (vs
+          .4) (vs .5)) at116 (m13 (before .before) (After-no-lines·gave before)) (lines, rs, image, place, tight-lines, i)) (W2 (before .before) (After-no-lines·gave before))
 
-      abbrev pub m25 : (before : After-no-lines) → (lines : List.List (Referent.rtF (Referent.fInt Syntax.w16) .Denot)) → (rs : List.List (Element.type .Denot)) → (image : List.List (Referent.rtF
-          (Referent.fInt Syntax.w16) .Denot)) → (place : Rows'.whole (Declared'.row Place.the-type) .Mod) → (tight-lines : Rows'.whole (Declared'.row TightLines.the-type) .Mod) → (n : Rows'.sc-here
-          (Row.sInt Syntax.w64) .Mod) → Typed.Mo T32
-      m25 = λ before lines rs image place tight-lines n. s29 .next (m24 before lines rs image place tight-lines n)
+      abbrev pub m15 : (before : After-no-lines) → (lines : List.List (Referent.rtF (Referent.fInt Syntax.w16) .Denot)) → (rs : List.List (Element.type .Denot)) → (image : List.List (Referent.rtF
+          (Referent.fInt Syntax.w16) .Denot)) → (place : Rows'.whole (Declared'.row Place.the-type) .Mod) → (tight-lines : Rows'.whole (Declared'.row TightLines.the-type) .Mod) → (i : Rows'.sc-here
+          (Row.sInt Syntax.w64) .Mod) → Typed.Mo T16
+      m15 = λ before lines rs image place tight-lines i. s13 .next (m14 before lines rs image place tight-lines i)
 
       abbrev W4 : (before : After-no-lines) → (lines : List.List (Referent.rtF (Referent.fInt Syntax.w16) .Denot)) → (rs : List.List (Element.type .Denot)) → (image : List.List (Referent.rtF
-          (Referent.fInt Syntax.w16) .Denot)) → (place : Rows'.whole (Declared'.row Place.the-type) .Mod) → (tight-lines : Rows'.whole (Declared'.row TightLines.the-type) .Mod) → (n : Rows'.sc-here
+          (Referent.fInt Syntax.w16) .Denot)) → (place : Rows'.whole (Declared'.row Place.the-type) .Mod) → (tight-lines : Rows'.whole (Declared'.row TightLines.the-type) .Mod) → (i : Rows'.sc-here
           (Row.sInt Syntax.w64) .Mod) → Typed.Want O4
-      W4 = λ before lines rs image place tight-lines n. Typed.wantNext T33 O3 (at111 (W3 before lines rs image place tight-lines n)) (W3 before lines rs image place tight-lines n)
+      W4 = λ before lines rs image place tight-lines i. Typed.wantNext T17 O3 (at114 (W3 before lines rs image place tight-lines i)) (W3 before lines rs image place tight-lines i)
 
       module _ (before· : After-no-lines) where
         pub record At-loop·own : Type 0 where
@@ -6590,16 +5905,16 @@ module _ (claims· : Claims) where
           pub image : List.List (Referent.rtF (Referent.fInt Syntax.w16) .Denot)
           pub place : Rows'.whole (Declared'.row Place.the-type) .Mod
           pub tight-lines : Rows'.whole (Declared'.row TightLines.the-type) .Mod
-          pub n : Rows'.sc-here (Row.sInt Syntax.w64) .Mod
-          pub inv : Inv·0 (Row.get 1 (T30 .locals) (m23 (before· .before) (After-no-lines·gave before·)) .now) (Row.get 2 (T30 .locals) (m23 (before· .before) (After-no-lines·gave before·)) .now)
-              (Row.get 3 (T30 .locals) (m23 (before· .before) (After-no-lines·gave before·)) .now) (Row.get 4 (T30 .locals) (m23 (before· .before) (After-no-lines·gave before·)) .now) (Row.get 5 (T30
-              .locals) (m23 (before· .before) (After-no-lines·gave before·)) .now) (Row.get 6 (T30 .locals) (m23 (before· .before) (After-no-lines·gave before·))) (Row.get 7 (T30 .locals) (m23 (before·
-              .before) (After-no-lines·gave before·)) .now) (Row.get 8 (T30 .locals) (m23 (before· .before) (After-no-lines·gave before·))) (Row.get 9 (T30 .locals) (m23 (before· .before)
-              (After-no-lines·gave before·))) (Row.get 10 (T30 .locals) (m23 (before· .before) (After-no-lines·gave before·))) (Row.get 11 (T30 .locals) (m23 (before· .before) (After-no-lines·gave
-              before·))) (Row.get 12 (T30 .locals) (m23 (before· .before) (After-no-lines·gave before·))) (Row.get 13 (T30 .locals) (m23 (before· .before) (After-no-lines·gave before·))) (Row.get 14 (T30
-              .locals) (m23 (before· .before) (After-no-lines·gave before·))) (Row.get 15 (T30 .locals) (m23 (before· .before) (After-no-lines·gave before·))) (Row.get 16 (T30 .locals) (m23 (before·
-              .before) (After-no-lines·gave before·))) (Row.get 17 (T30 .locals) (m23 (before· .before) (After-no-lines·gave before·))) (Row.get 18 (T30 .locals) (m23 (before· .before)
-              (After-no-lines·gave before·))) lines rs image place tight-lines n
+          pub i : Rows'.sc-here (Row.sInt Syntax.w64) .Mod
+          pub inv : Inv·0 (Row.get 1 (T14 .locals) (m13 (before· .before) (After-no-lines·gave before·)) .now) (Row.get 2 (T14 .locals) (m13 (before· .before) (After-no-lines·gave before·)) .now)
+              (Row.get 3 (T14 .locals) (m13 (before· .before) (After-no-lines·gave before·)) .now) (Row.get 4 (T14 .locals) (m13 (before· .before) (After-no-lines·gave before·)) .now) (Row.get 5 (T14
+              .locals) (m13 (before· .before) (After-no-lines·gave before·)) .now) (Row.get 6 (T14 .locals) (m13 (before· .before) (After-no-lines·gave before·))) (Row.get 7 (T14 .locals) (m13 (before·
+              .before) (After-no-lines·gave before·)) .now) (Row.get 8 (T14 .locals) (m13 (before· .before) (After-no-lines·gave before·))) (Row.get 9 (T14 .locals) (m13 (before· .before)
+              (After-no-lines·gave before·))) (Row.get 10 (T14 .locals) (m13 (before· .before) (After-no-lines·gave before·))) (Row.get 12 (T14 .locals) (m13 (before· .before) (After-no-lines·gave
+              before·))) (Row.get 13 (T14 .locals) (m13 (before· .before) (After-no-lines·gave before·))) (Row.get 14 (T14 .locals) (m13 (before· .before) (After-no-lines·gave before·))) (Row.get 15 (T14
+              .locals) (m13 (before· .before) (After-no-lines·gave before·))) (Row.get 16 (T14 .locals) (m13 (before· .before) (After-no-lines·gave before·))) (Row.get 17 (T14 .locals) (m13 (before·
+              .before) (After-no-lines·gave before·))) (Row.get 18 (T14 .locals) (m13 (before· .before) (After-no-lines·gave before·))) (Row.get 19 (T14 .locals) (m13 (before· .before)
+              (After-no-lines·gave before·))) (Row.get 20 (T14 .locals) (m13 (before· .before) (After-no-lines·gave before·))) lines rs image place tight-lines i
 
       pub record At-loop : Type 0 where
         pub before : After-no-lines
@@ -6607,286 +5922,292 @@ module _ (claims· : Claims) where
 
       module _ (before· : At-loop) where
         pub record In-loop·own : Type 0 where
-          pub taken : Nat._<_ (Row.get 18 (T30 .locals) (m24 (before· .before) (before· .loop .lines) (before· .loop .rs) (before· .loop .image) (before· .loop .place) (before· .loop .tight-lines)
-              (before· .loop .n))) (Row.get 10 (T30 .locals) (m24 (before· .before) (before· .loop .lines) (before· .loop .rs) (before· .loop .image) (before· .loop .place) (before· .loop .tight-lines)
-              (before· .loop .n)))
+          pub taken : Nat._<_ (Row.get 20 (T14 .locals) (m14 (before· .before) (before· .loop .lines) (before· .loop .rs) (before· .loop .image) (before· .loop .place) (before· .loop .tight-lines)
+              (before· .loop .i))) (Row.get 12 (T14 .locals) (m14 (before· .before) (before· .loop .lines) (before· .loop .rs) (before· .loop .image) (before· .loop .place) (before· .loop .tight-lines)
+              (before· .loop .i)))
 
       pub record In-loop : Type 0 where
         pub before : At-loop
         pub loop-test : In-loop·own before
 
-      abbrev pub m26 : (before : At-loop) → Typed.Mo T34
-      m26 = λ before. s30 (m25 (before .before) (before .loop .lines) (before .loop .rs) (before .loop .image) (before .loop .place) (before .loop .tight-lines) (before .loop .n))
+      abbrev pub m16 : (before : At-loop) → Typed.Mo T18
+      m16 = λ before. s14 (m15 (before .before) (before .loop .lines) (before .loop .rs) (before .loop .image) (before .loop .place) (before .loop .tight-lines) (before .loop .i))
 
       module _ (before· : At-loop) where
         pub record After-loop·own : Type 0 where
-          pub left : Nat._≤_ (Row.get 10 (T30 .locals) (m24 (before· .before) (before· .loop .lines) (before· .loop .rs) (before· .loop .image) (before· .loop .place) (before· .loop .tight-lines)
-              (before· .loop .n))) (Row.get 18 (T30 .locals) (m24 (before· .before) (before· .loop .lines) (before· .loop .rs) (before· .loop .image) (before· .loop .place) (before· .loop .tight-lines)
-              (before· .loop .n)))
+          pub left : Nat._≤_ (Row.get 12 (T14 .locals) (m14 (before· .before) (before· .loop .lines) (before· .loop .rs) (before· .loop .image) (before· .loop .place) (before· .loop .tight-lines)
+              (before· .loop .i))) (Row.get 20 (T14 .locals) (m14 (before· .before) (before· .loop .lines) (before· .loop .rs) (before· .loop .image) (before· .loop .place) (before· .loop .tight-lines)
+              (before· .loop .i)))
 
       pub record After-loop : Type 0 where
         pub before : At-loop
         pub loop-test : After-loop·own before
 
-      abbrev pub m27 : (before : At-loop) → Typed.Mo T35
-      m27 = λ before. s31 (m25 (before .before) (before .loop .lines) (before .loop .rs) (before .loop .image) (before .loop .place) (before .loop .tight-lines) (before .loop .n))
+      abbrev pub m17 : (before : At-loop) → Typed.Mo T19
+      m17 = λ before. s15 (m15 (before .before) (before .loop .lines) (before .loop .rs) (before .loop .image) (before .loop .place) (before .loop .tight-lines) (before .loop .i))
 
-      abbrev pub m28 : (before : At-loop) → Typed.Mo T36
-      m28 = λ before. s32 (m27 before)
+      abbrev pub m18 : (before : At-loop) → Typed.Mo T20
+      m18 = λ before. s16 (m17 before)
 
-      abbrev pub m29 : (before : At-loop) → Typed.Mo T37
-      m29 = λ before. s33 (m28 before)
+      abbrev pub m19 : (before : At-loop) → Typed.Mo T21
+      m19 = λ before. s17 (m18 before)
 
-      abbrev pub m30 : (before : At-loop) → Typed.Mo T38
-      m30 = λ before. s34 (m29 before)
+      abbrev pub m20 : (before : At-loop) → Typed.Mo T22
+      m20 = λ before. s18 (m19 before)
 
-      abbrev pub m31 : (before : At-loop) → Typed.Mo T39
-      m31 = λ before. s35 (m30 before)
+      abbrev pub m21 : (before : At-loop) → Typed.Mo T23
+      m21 = λ before. s19 (m20 before)
 
-      abbrev pub m32 : (before : In-loop) → (given : s37 .gives (m26 (before .before))) → Typed.Mo T41
-      m32 = λ before given. s37 .next (m26 (before .before)) given
+      abbrev pub Need-add-n : Type 0
+      Need-add-n = (c : In-loop) → s20 .asks (m16 (c .before))
 
-      abbrev pub m33 : (before : In-loop) → (given : s37 .gives (m26 (before .before))) → Typed.Mo T42
-      m33 = λ before given. s38 .next (m32 before given)
+      abbrev pub m22 : (before : At-loop) → Typed.Mo T24
+      m22 = λ before. s20 .next (m16 before)
 
-      abbrev pub m34 : (before : In-loop) → (given : s37 .gives (m26 (before .before))) → Typed.Mo T43
-      m34 = λ before given. s39 .next (m33 before given)
+      abbrev pub m23 : (before : In-loop) → (given : s22 .gives (m22 (before .before))) → Typed.Mo T26
+      m23 = λ before given. s22 .next (m22 (before .before)) given
+
+      abbrev pub m24 : (before : In-loop) → (given : s22 .gives (m22 (before .before))) → Typed.Mo T27
+      m24 = λ before given. s23 .next (m23 before given)
+
+      abbrev pub m25 : (before : In-loop) → (given : s22 .gives (m22 (before .before))) → Typed.Mo T28
+      m25 = λ before given. s24 .next (m24 before given)
 
       module _ (before· : In-loop) where
         pub record After-turn-if-arg·own : Type 0 where
-          pub given : s37 .gives (m26 (before· .before))
+          pub given : s22 .gives (m22 (before· .before))
 
       pub record After-turn-if-arg : Type 0 where
         pub before : In-loop
         pub turn-if-arg : After-turn-if-arg·own before
 
       abbrev pub Need-turn-if-requires : Type 0
-      Need-turn-if-requires = (c : After-turn-if-arg) → s40 .asks (m34 (c .before) (c .turn-if-arg .given))
+      Need-turn-if-requires = (c : After-turn-if-arg) → s25 .asks (m25 (c .before) (c .turn-if-arg .given))
 
-      abbrev pub m35 : (before : After-turn-if-arg) → (given : s40 .gives (m34 (before .before) (before .turn-if-arg .given))) → Typed.Mo T44
-      m35 = λ before given. s40 .next (m34 (before .before) (before .turn-if-arg .given)) given
+      abbrev pub m26 : (before : After-turn-if-arg) → (given : s25 .gives (m25 (before .before) (before .turn-if-arg .given))) → Typed.Mo T29
+      m26 = λ before given. s25 .next (m25 (before .before) (before .turn-if-arg .given)) given
 
       module _ (before· : After-turn-if-arg) where
         abbrev pub After-turn-if·own : Type 0
-        After-turn-if·own = Called.Called ps·6 r·6 (claims· .13) T43
-            (record { pos = 31; ty = Syntax.tyRef Syntax.erased Syntax.mut (Syntax.tyInt Syntax.w16); ref = λ x. x }, (Num.vAt 15 λ x. x, (Bool.bAt 28 λ x. x, tt))) (m34 (before· .before) (before·
+        After-turn-if·own = Called.Called ps·3 r·3 (claims· .7) T28
+            (record { pos = 29; ty = Syntax.tyRef Syntax.erased Syntax.mut (Syntax.tyInt Syntax.w16); ref = λ x. x }, (Num.vAt 17 λ x. x, (Bool.bAt 26 λ x. x, tt))) (m25 (before· .before) (before·
             .turn-if-arg .given))
 
       pub record After-turn-if : Type 0 where
         pub before : After-turn-if-arg
         pub turn-if : After-turn-if·own before
 
-      abbrev pub After-turn-if·gave : (c : After-turn-if) → s40 .gives (m34 (c .before .before) (c .before .turn-if-arg .given))
-      After-turn-if·gave = λ c. Called.given ps·6 r·6 (claims· .13) T43
-          (record { pos = 31; ty = Syntax.tyRef Syntax.erased Syntax.mut (Syntax.tyInt Syntax.w16); ref = λ x. x }, (Num.vAt 15 λ x. x, (Bool.bAt 28 λ x. x, tt))) (m34 (c .before .before) (c .before
+      abbrev pub After-turn-if·gave : (c : After-turn-if) → s25 .gives (m25 (c .before .before) (c .before .turn-if-arg .given))
+      After-turn-if·gave = λ c. Called.given ps·3 r·3 (claims· .7) T28
+          (record { pos = 29; ty = Syntax.tyRef Syntax.erased Syntax.mut (Syntax.tyInt Syntax.w16); ref = λ x. x }, (Num.vAt 17 λ x. x, (Bool.bAt 26 λ x. x, tt))) (m25 (c .before .before) (c .before
           .turn-if-arg .given)) (c .turn-if)
 
-      abbrev pub m36 : (before : After-turn-if-arg) → (given : s40 .gives (m34 (before .before) (before .turn-if-arg .given))) → Typed.Mo T45
-      m36 = λ before given. s41 (m35 before given)
+      abbrev pub m27 : (before : After-turn-if-arg) → (given : s25 .gives (m25 (before .before) (before .turn-if-arg .given))) → Typed.Mo T30
+      m27 = λ before given. s26 (m26 before given)
 
-      abbrev pub m37 : (before : After-turn-if-arg) → (given : s40 .gives (m34 (before .before) (before .turn-if-arg .given))) → Typed.Mo T46
-      m37 = λ before given. s42 (m36 before given)
+      abbrev pub m28 : (before : After-turn-if-arg) → (given : s25 .gives (m25 (before .before) (before .turn-if-arg .given))) → Typed.Mo T31
+      m28 = λ before given. s27 (m27 before given)
 
-      abbrev pub m38 : (before : After-turn-if) → (given : s44 .gives (m37 (before .before) (After-turn-if·gave before))) → Typed.Mo T48
-      m38 = λ before given. s44 .next (m37 (before .before) (After-turn-if·gave before)) given
+      abbrev pub m29 : (before : After-turn-if) → (given : s29 .gives (m28 (before .before) (After-turn-if·gave before))) → Typed.Mo T33
+      m29 = λ before given. s29 .next (m28 (before .before) (After-turn-if·gave before)) given
 
       module _ (before· : After-turn-if) where
-        pub record After-lines2·own : Type 0 where
-          pub given : s44 .gives (m37 (before· .before) (After-turn-if·gave before·))
+        pub record After-lines·own : Type 0 where
+          pub given : s29 .gives (m28 (before· .before) (After-turn-if·gave before·))
 
-      pub record After-lines2 : Type 0 where
+      pub record After-lines : Type 0 where
         pub before : After-turn-if
-        pub lines2 : After-lines2·own before
+        pub lines : After-lines·own before
 
-      abbrev pub m39 : (before : After-lines2) → (given : s45 .gives (m38 (before .before) (before .lines2 .given))) → Typed.Mo T49
-      m39 = λ before given. s45 .next (m38 (before .before) (before .lines2 .given)) given
+      abbrev pub m30 : (before : After-lines) → (given : s30 .gives (m29 (before .before) (before .lines .given))) → Typed.Mo T34
+      m30 = λ before given. s30 .next (m29 (before .before) (before .lines .given)) given
 
-      module _ (before· : After-lines2) where
-        pub record After-slice-known4·own : Type 0 where
-          pub given : s45 .gives (m38 (before· .before) (before· .lines2 .given))
+      module _ (before· : After-lines) where
+        pub record After-slice-known3·own : Type 0 where
+          pub given : s30 .gives (m29 (before· .before) (before· .lines .given))
 
-      pub record After-slice-known4 : Type 0 where
-        pub before : After-lines2
-        pub slice-known4 : After-slice-known4·own before
+      pub record After-slice-known3 : Type 0 where
+        pub before : After-lines
+        pub slice-known3 : After-slice-known3·own before
 
-      abbrev pub Need-base-of-requires-2 : Type 0
-      Need-base-of-requires-2 = (c : After-slice-known4) → s47 .asks (m39 (c .before) (c .slice-known4 .given))
+      abbrev pub Need-base-of-requires : Type 0
+      Need-base-of-requires = (c : After-slice-known3) → s32 .asks (m30 (c .before) (c .slice-known3 .given))
 
-      abbrev pub m40 : (before : After-slice-known4) → (given : s47 .gives (m39 (before .before) (before .slice-known4 .given))) → Typed.Mo T51
-      m40 = λ before given. s47 .next (m39 (before .before) (before .slice-known4 .given)) given
+      abbrev pub m31 : (before : After-slice-known3) → (given : s32 .gives (m30 (before .before) (before .slice-known3 .given))) → Typed.Mo T36
+      m31 = λ before given. s32 .next (m30 (before .before) (before .slice-known3 .given)) given
 
-      module _ (before· : After-slice-known4) where
-        abbrev pub After-base-of2·own : Type 0
-        After-base-of2·own = Called.Called ps·2 r·2 (claims· .5) T49
-            (record { pos = 2; ty = Syntax.tyRef (Syntax.named 1) Syntax.imm (Syntax.tyInt Syntax.w8); ref = λ x. x }, (Num.vAt 18 λ x. x, tt)) (m39 (before· .before) (before· .slice-known4 .given))
+      module _ (before· : After-slice-known3) where
+        abbrev pub After-base-of·own : Type 0
+        After-base-of·own = Called.Called ps·4 r·4 (claims· .9) T34 (record { pos = 2; ty = Syntax.tyRef (Syntax.named 1) Syntax.imm (Syntax.tyInt Syntax.w8); ref = λ x. x }, (Num.vAt 21 λ x. x, tt))
+            (m30 (before· .before) (before· .slice-known3 .given))
 
-      pub record After-base-of2 : Type 0 where
-        pub before : After-slice-known4
-        pub base-of2 : After-base-of2·own before
+      pub record After-base-of : Type 0 where
+        pub before : After-slice-known3
+        pub base-of : After-base-of·own before
 
-      abbrev pub After-base-of2·gave : (c : After-base-of2) → s47 .gives (m39 (c .before .before) (c .before .slice-known4 .given))
-      After-base-of2·gave = λ c. Called.given ps·2 r·2 (claims· .5) T49
-          (record { pos = 2; ty = Syntax.tyRef (Syntax.named 1) Syntax.imm (Syntax.tyInt Syntax.w8); ref = λ x. x }, (Num.vAt 18 λ x. x, tt)) (m39 (c .before .before) (c .before .slice-known4 .given)) (c
-          .base-of2)
+      abbrev pub After-base-of·gave : (c : After-base-of) → s32 .gives (m30 (c .before .before) (c .before .slice-known3 .given))
+      After-base-of·gave = λ c. Called.given ps·4 r·4 (claims· .9) T34
+          (record { pos = 2; ty = Syntax.tyRef (Syntax.named 1) Syntax.imm (Syntax.tyInt Syntax.w8); ref = λ x. x }, (Num.vAt 21 λ x. x, tt)) (m30 (c .before .before) (c .before .slice-known3 .given)) (c
+          .base-of)
 
-      abbrev pub m41 : (before : After-base-of2) → (given : s49 .gives (m40 (before .before) (After-base-of2·gave before))) → Typed.Mo T53
-      m41 = λ before given. s49 .next (m40 (before .before) (After-base-of2·gave before)) given
+      abbrev pub m32 : (before : After-base-of) → (given : s34 .gives (m31 (before .before) (After-base-of·gave before))) → Typed.Mo T38
+      m32 = λ before given. s34 .next (m31 (before .before) (After-base-of·gave before)) given
 
-      abbrev pub m42 : (before : After-base-of2) → (given : s49 .gives (m40 (before .before) (After-base-of2·gave before))) → Typed.Mo T54
-      m42 = λ before given. s50 .next (m41 before given)
+      abbrev pub m33 : (before : After-base-of) → (given : s34 .gives (m31 (before .before) (After-base-of·gave before))) → Typed.Mo T39
+      m33 = λ before given. s35 .next (m32 before given)
 
-      module _ (before· : After-base-of2) where
+      module _ (before· : After-base-of) where
         pub record After-restart-arg·own : Type 0 where
-          pub given : s49 .gives (m40 (before· .before) (After-base-of2·gave before·))
+          pub given : s34 .gives (m31 (before· .before) (After-base-of·gave before·))
 
       pub record After-restart-arg : Type 0 where
-        pub before : After-base-of2
+        pub before : After-base-of
         pub restart-arg : After-restart-arg·own before
 
       abbrev pub Need-is-restarted-requires : Type 0
-      Need-is-restarted-requires = (c : After-restart-arg) → s51 .asks (m42 (c .before) (c .restart-arg .given))
+      Need-is-restarted-requires = (c : After-restart-arg) → s36 .asks (m33 (c .before) (c .restart-arg .given))
 
-      abbrev pub m43 : (before : After-restart-arg) → (given : s51 .gives (m42 (before .before) (before .restart-arg .given))) → Typed.Mo T55
-      m43 = λ before given. s51 .next (m42 (before .before) (before .restart-arg .given)) given
+      abbrev pub m34 : (before : After-restart-arg) → (given : s36 .gives (m33 (before .before) (before .restart-arg .given))) → Typed.Mo T40
+      m34 = λ before given. s36 .next (m33 (before .before) (before .restart-arg .given)) given
 
       module _ (before· : After-restart-arg) where
         abbrev pub After-is-restarted·own : Type 0
-        After-is-restarted·own = Called.Called ps·7 r·7 (claims· .15) T54
-            (record { pos = 2; ty = Syntax.tyRef (Syntax.named 1) Syntax.imm (Syntax.tyInt Syntax.w8); ref = λ x. x }, (Num.vAt 18 λ x. x, tt)) (m42 (before· .before) (before· .restart-arg .given))
+        After-is-restarted·own = Called.Called ps·5 r·5 (claims· .11) T39
+            (record { pos = 2; ty = Syntax.tyRef (Syntax.named 1) Syntax.imm (Syntax.tyInt Syntax.w8); ref = λ x. x }, (Num.vAt 21 λ x. x, tt)) (m33 (before· .before) (before· .restart-arg .given))
 
       pub record After-is-restarted : Type 0 where
         pub before : After-restart-arg
         pub is-restarted : After-is-restarted·own before
 
-      abbrev pub After-is-restarted·gave : (c : After-is-restarted) → s51 .gives (m42 (c .before .before) (c .before .restart-arg .given))
-      After-is-restarted·gave = λ c. Called.given ps·7 r·7 (claims· .15) T54
-          (record { pos = 2; ty = Syntax.tyRef (Syntax.named 1) Syntax.imm (Syntax.tyInt Syntax.w8); ref = λ x. x }, (Num.vAt 18 λ x. x, tt)) (m42 (c .before .before) (c .before .restart-arg .given)) (c
+      abbrev pub After-is-restarted·gave : (c : After-is-restarted) → s36 .gives (m33 (c .before .before) (c .before .restart-arg .given))
+      After-is-restarted·gave = λ c. Called.given ps·5 r·5 (claims· .11) T39
+          (record { pos = 2; ty = Syntax.tyRef (Syntax.named 1) Syntax.imm (Syntax.tyInt Syntax.w8); ref = λ x. x }, (Num.vAt 21 λ x. x, tt)) (m33 (c .before .before) (c .before .restart-arg .given)) (c
           .is-restarted)
 
       abbrev pub Need-restart-requires : Type 0
-      Need-restart-requires = (c : After-is-restarted) → s52 .asks (m43 (c .before) (After-is-restarted·gave c))
+      Need-restart-requires = (c : After-is-restarted) → s37 .asks (m34 (c .before) (After-is-restarted·gave c))
 
-      abbrev pub m44 : (before : After-is-restarted) → (given : s52 .gives (m43 (before .before) (After-is-restarted·gave before))) → Typed.Mo T56
-      m44 = λ before given. s52 .next (m43 (before .before) (After-is-restarted·gave before)) given
+      abbrev pub m35 : (before : After-is-restarted) → (given : s37 .gives (m34 (before .before) (After-is-restarted·gave before))) → Typed.Mo T41
+      m35 = λ before given. s37 .next (m34 (before .before) (After-is-restarted·gave before)) given
 
       module _ (before· : After-is-restarted) where
         abbrev pub After-restart·own : Type 0
-        After-restart·own = Called.Called ps·8 r·8 (claims· .17) T55
-            (record { pos = 33; ty = Syntax.tyRef Syntax.erased Syntax.mut Element.behind; ref = λ x. x }, (Num.vAt 13 λ x. x, (Num.vAt 19 λ x. x, (Bool.bAt 28 λ x. x, tt)))) (m43 (before· .before)
+        After-restart·own = Called.Called ps·6 r·6 (claims· .13) T40
+            (record { pos = 31; ty = Syntax.tyRef Syntax.erased Syntax.mut Element.behind; ref = λ x. x }, (Num.vAt 15 λ x. x, (Num.vAt 22 λ x. x, (Bool.bAt 26 λ x. x, tt)))) (m34 (before· .before)
             (After-is-restarted·gave before·))
 
       pub record After-restart : Type 0 where
         pub before : After-is-restarted
         pub restart : After-restart·own before
 
-      abbrev pub After-restart·gave : (c : After-restart) → s52 .gives (m43 (c .before .before) (After-is-restarted·gave (c .before)))
-      After-restart·gave = λ c. Called.given ps·8 r·8 (claims· .17) T55
-          (record { pos = 33; ty = Syntax.tyRef Syntax.erased Syntax.mut Element.behind; ref = λ x. x }, (Num.vAt 13 λ x. x, (Num.vAt 19 λ x. x, (Bool.bAt 28 λ x. x, tt)))) (m43 (c .before .before)
+      abbrev pub After-restart·gave : (c : After-restart) → s37 .gives (m34 (c .before .before) (After-is-restarted·gave (c .before)))
+      After-restart·gave = λ c. Called.given ps·6 r·6 (claims· .13) T40
+          (record { pos = 31; ty = Syntax.tyRef Syntax.erased Syntax.mut Element.behind; ref = λ x. x }, (Num.vAt 15 λ x. x, (Num.vAt 22 λ x. x, (Bool.bAt 26 λ x. x, tt)))) (m34 (c .before .before)
           (After-is-restarted·gave (c .before))) (c .restart)
 
-      abbrev pub m45 : (before : After-is-restarted) → (given : s52 .gives (m43 (before .before) (After-is-restarted·gave before))) → Typed.Mo T57
-      m45 = λ before given. s53 (m44 before given)
+      abbrev pub m36 : (before : After-is-restarted) → (given : s37 .gives (m34 (before .before) (After-is-restarted·gave before))) → Typed.Mo T42
+      m36 = λ before given. s38 (m35 before given)
 
-      abbrev pub m46 : (before : After-is-restarted) → (given : s52 .gives (m43 (before .before) (After-is-restarted·gave before))) → Typed.Mo T58
-      m46 = λ before given. s54 (m45 before given)
+      abbrev pub m37 : (before : After-is-restarted) → (given : s37 .gives (m34 (before .before) (After-is-restarted·gave before))) → Typed.Mo T43
+      m37 = λ before given. s39 (m36 before given)
 
-      abbrev pub m47 : (before : After-restart) → (given : s56 .gives (m46 (before .before) (After-restart·gave before))) → Typed.Mo T60
-      m47 = λ before given. s56 .next (m46 (before .before) (After-restart·gave before)) given
+      abbrev pub m38 : (before : After-restart) → (given : s41 .gives (m37 (before .before) (After-restart·gave before))) → Typed.Mo T45
+      m38 = λ before given. s41 .next (m37 (before .before) (After-restart·gave before)) given
 
       module _ (before· : After-restart) where
-        pub record After-rs2·own : Type 0 where
-          pub given : s56 .gives (m46 (before· .before) (After-restart·gave before·))
+        pub record After-rs·own : Type 0 where
+          pub given : s41 .gives (m37 (before· .before) (After-restart·gave before·))
 
-      pub record After-rs2 : Type 0 where
+      pub record After-rs : Type 0 where
         pub before : After-restart
-        pub rs2 : After-rs2·own before
+        pub rs : After-rs·own before
 
-      abbrev pub m48 : (before : After-rs2) → (given : s59 .gives (m47 (before .before) (before .rs2 .given))) → Typed.Mo T63
-      m48 = λ before given. s59 .next (m47 (before .before) (before .rs2 .given)) given
+      abbrev pub m39 : (before : After-rs) → (given : s44 .gives (m38 (before .before) (before .rs .given))) → Typed.Mo T48
+      m39 = λ before given. s44 .next (m38 (before .before) (before .rs .given)) given
 
-      abbrev pub m49 : (before : After-rs2) → (given : s59 .gives (m47 (before .before) (before .rs2 .given))) → Typed.Mo T64
-      m49 = λ before given. s60 .next (m48 before given)
+      abbrev pub m40 : (before : After-rs) → (given : s44 .gives (m38 (before .before) (before .rs .given))) → Typed.Mo T49
+      m40 = λ before given. s45 .next (m39 before given)
 
-      module _ (before· : After-rs2) where
+      module _ (before· : After-rs) where
         pub record After-line-arg·own : Type 0 where
-          pub given : s59 .gives (m47 (before· .before) (before· .rs2 .given))
+          pub given : s44 .gives (m38 (before· .before) (before· .rs .given))
 
       pub record After-line-arg : Type 0 where
-        pub before : After-rs2
+        pub before : After-rs
         pub line-arg : After-line-arg·own before
 
-      abbrev pub m50 : (before : After-line-arg) → (given : s62 .gives (m49 (before .before) (before .line-arg .given))) → Typed.Mo T66
-      m50 = λ before given. s62 .next (m49 (before .before) (before .line-arg .given)) given
+      abbrev pub m41 : (before : After-line-arg) → (given : s47 .gives (m40 (before .before) (before .line-arg .given))) → Typed.Mo T51
+      m41 = λ before given. s47 .next (m40 (before .before) (before .line-arg .given)) given
 
-      abbrev pub m51 : (before : After-line-arg) → (given : s62 .gives (m49 (before .before) (before .line-arg .given))) → Typed.Mo T67
-      m51 = λ before given. s63 .next (m50 before given)
+      abbrev pub m42 : (before : After-line-arg) → (given : s47 .gives (m40 (before .before) (before .line-arg .given))) → Typed.Mo T52
+      m42 = λ before given. s48 .next (m41 before given)
 
       module _ (before· : After-line-arg) where
         pub record After-line-arg2·own : Type 0 where
-          pub given : s62 .gives (m49 (before· .before) (before· .line-arg .given))
+          pub given : s47 .gives (m40 (before· .before) (before· .line-arg .given))
 
       pub record After-line-arg2 : Type 0 where
         pub before : After-line-arg
         pub line-arg2 : After-line-arg2·own before
 
-      abbrev pub m52 : (before : After-line-arg2) → (given : s65 .gives (m51 (before .before) (before .line-arg2 .given))) → Typed.Mo T69
-      m52 = λ before given. s65 .next (m51 (before .before) (before .line-arg2 .given)) given
+      abbrev pub m43 : (before : After-line-arg2) → (given : s50 .gives (m42 (before .before) (before .line-arg2 .given))) → Typed.Mo T54
+      m43 = λ before given. s50 .next (m42 (before .before) (before .line-arg2 .given)) given
 
-      abbrev pub m53 : (before : After-line-arg2) → (given : s65 .gives (m51 (before .before) (before .line-arg2 .given))) → Typed.Mo T70
-      m53 = λ before given. s66 .next (m52 before given)
+      abbrev pub m44 : (before : After-line-arg2) → (given : s50 .gives (m42 (before .before) (before .line-arg2 .given))) → Typed.Mo T55
+      m44 = λ before given. s51 .next (m43 before given)
 
       module _ (before· : After-line-arg2) where
         pub record After-line-arg3·own : Type 0 where
-          pub given : s65 .gives (m51 (before· .before) (before· .line-arg2 .given))
+          pub given : s50 .gives (m42 (before· .before) (before· .line-arg2 .given))
 
       pub record After-line-arg3 : Type 0 where
         pub before : After-line-arg2
         pub line-arg3 : After-line-arg3·own before
 
       abbrev pub Need-quantisers-in-requires : Type 0
-      Need-quantisers-in-requires = (c : After-line-arg3) → s67 .asks (m53 (c .before) (c .line-arg3 .given))
+      Need-quantisers-in-requires = (c : After-line-arg3) → s52 .asks (m44 (c .before) (c .line-arg3 .given))
 
-      abbrev pub m54 : (before : After-line-arg3) → (given : s67 .gives (m53 (before .before) (before .line-arg3 .given))) → Typed.Mo T71
-      m54 = λ before given. s67 .next (m53 (before .before) (before .line-arg3 .given)) given
+      abbrev pub m45 : (before : After-line-arg3) → (given : s52 .gives (m44 (before .before) (before .line-arg3 .given))) → Typed.Mo T56
+      m45 = λ before given. s52 .next (m44 (before .before) (before .line-arg3 .given)) given
 
       module _ (before· : After-line-arg3) where
         abbrev pub After-quantisers-in·own : Type 0
-        After-quantisers-in·own = Called.Called ps·9 r·9 (claims· .19) T70 (record { pos = 12; st = List.[]; d = 0; at = λ x. x }, (Num.vAt 13 λ x. x, (Num.vAt 19 λ x. x, tt))) (m53 (before· .before)
+        After-quantisers-in·own = Called.Called ps·7 r·7 (claims· .15) T55 (record { pos = 14; st = List.[]; d = 0; at = λ x. x }, (Num.vAt 15 λ x. x, (Num.vAt 22 λ x. x, tt))) (m44 (before· .before)
             (before· .line-arg3 .given))
 
       pub record After-quantisers-in : Type 0 where
         pub before : After-line-arg3
         pub quantisers-in : After-quantisers-in·own before
 
-      abbrev pub After-quantisers-in·gave : (c : After-quantisers-in) → s67 .gives (m53 (c .before .before) (c .before .line-arg3 .given))
-      After-quantisers-in·gave = λ c. Called.given ps·9 r·9 (claims· .19) T70 (record { pos = 12; st = List.[]; d = 0; at = λ x. x }, (Num.vAt 13 λ x. x, (Num.vAt 19 λ x. x, tt))) (m53 (c .before
+      abbrev pub After-quantisers-in·gave : (c : After-quantisers-in) → s52 .gives (m44 (c .before .before) (c .before .line-arg3 .given))
+      After-quantisers-in·gave = λ c. Called.given ps·7 r·7 (claims· .15) T55 (record { pos = 14; st = List.[]; d = 0; at = λ x. x }, (Num.vAt 15 λ x. x, (Num.vAt 22 λ x. x, tt))) (m44 (c .before
           .before) (c .before .line-arg3 .given)) (c .quantisers-in)
 
       abbrev pub Need-line-requires : Type 0
-      Need-line-requires = (c : After-quantisers-in) → s68 .asks (m54 (c .before) (After-quantisers-in·gave c))
+      Need-line-requires = (c : After-quantisers-in) → s53 .asks (m45 (c .before) (After-quantisers-in·gave c))
 
-      abbrev pub m55 : (before : After-quantisers-in) → (given : s68 .gives (m54 (before .before) (After-quantisers-in·gave before))) → Typed.Mo T72
-      m55 = λ before given. s68 .next (m54 (before .before) (After-quantisers-in·gave before)) given
+      abbrev pub m46 : (before : After-quantisers-in) → (given : s53 .gives (m45 (before .before) (After-quantisers-in·gave before))) → Typed.Mo T57
+      m46 = λ before given. s53 .next (m45 (before .before) (After-quantisers-in·gave before)) given
 
       module _ (before· : After-quantisers-in) where
         abbrev pub After-line·own : Type 0
-        After-line·own = Called.Called ps·10 r·10 (claims· .21) T71 (
+        After-line·own = Called.Called ps·8 r·8 (claims· .17) T56 (
           record { pos = 1; ty = Syntax.tyRef (Syntax.named 0) Syntax.imm (Syntax.tyInt Syntax.w8); ref = λ x. x },
           (
-            record { pos = 16; st = List.[]; d = 0; at = λ x. x },
+            record { pos = 18; st = List.[]; d = 0; at = λ x. x },
             (
-              record { pos = 35; ty = Syntax.tyRef Syntax.erased Syntax.mut (Syntax.tyInt Syntax.w16); ref = λ x. x },
+              record { pos = 33; ty = Syntax.tyRef Syntax.erased Syntax.mut (Syntax.tyInt Syntax.w16); ref = λ x. x },
               (
-                record { pos = 37; ty = Syntax.tyRef Syntax.erased Syntax.mut Element.behind; ref = λ x. x },
+                record { pos = 35; ty = Syntax.tyRef Syntax.erased Syntax.mut Element.behind; ref = λ x. x },
                 (
-                  record { pos = 39; ty = Syntax.tyRef Syntax.erased Syntax.mut (Syntax.tyInt Syntax.w16); ref = λ x. x },
+                  record { pos = 37; ty = Syntax.tyRef Syntax.erased Syntax.mut (Syntax.tyInt Syntax.w16); ref = λ x. x },
                   (
                     record { pos = 6; st = List.[]; d = 0; at = λ x. x },
                     (
-                      record { pos = 40; st = List.[]; d = 0; at = λ x. x },
+                      record { pos = 38; st = List.[]; d = 0; at = λ x. x },
                       (
                         record { pos = 7; ty = Syntax.tyRef (Syntax.named 5) Syntax.imm (Syntax.tyArray (Syntax.tyInt Syntax.w16) 768); ref = λ x. x },
-                        (record { pos = 8; st = List.[]; d = 0; at = λ x. x }, (record { pos = 9; st = List.[]; d = 0; at = λ x. x }, (Num.vAt 18 λ x. x, (Bool.bAt 11 λ x. x, tt)))),
+                        (record { pos = 8; st = List.[]; d = 0; at = λ x. x }, (record { pos = 9; st = List.[]; d = 0; at = λ x. x }, (Num.vAt 21 λ x. x, (Bool.bAt 13 λ x. x, tt)))),
                       ),
                     ),
                   ),
@@ -6894,31 +6215,31 @@ module _ (claims· : Claims) where
               ),
             ),
           ),
-        ) (m54 (before· .before)
+        ) (m45 (before· .before)
             (After-quantisers-in·gave before·))
 
       pub record After-line : Type 0 where
         pub before : After-quantisers-in
         pub line : After-line·own before
 
-      abbrev pub After-line·gave : (c : After-line) → s68 .gives (m54 (c .before .before) (After-quantisers-in·gave (c .before)))
-      After-line·gave = λ c. Called.given ps·10 r·10 (claims· .21) T71 (
+      abbrev pub After-line·gave : (c : After-line) → s53 .gives (m45 (c .before .before) (After-quantisers-in·gave (c .before)))
+      After-line·gave = λ c. Called.given ps·8 r·8 (claims· .17) T56 (
         record { pos = 1; ty = Syntax.tyRef (Syntax.named 0) Syntax.imm (Syntax.tyInt Syntax.w8); ref = λ x. x },
         (
-          record { pos = 16; st = List.[]; d = 0; at = λ x. x },
+          record { pos = 18; st = List.[]; d = 0; at = λ x. x },
           (
-            record { pos = 35; ty = Syntax.tyRef Syntax.erased Syntax.mut (Syntax.tyInt Syntax.w16); ref = λ x. x },
+            record { pos = 33; ty = Syntax.tyRef Syntax.erased Syntax.mut (Syntax.tyInt Syntax.w16); ref = λ x. x },
             (
-              record { pos = 37; ty = Syntax.tyRef Syntax.erased Syntax.mut Element.behind; ref = λ x. x },
+              record { pos = 35; ty = Syntax.tyRef Syntax.erased Syntax.mut Element.behind; ref = λ x. x },
               (
-                record { pos = 39; ty = Syntax.tyRef Syntax.erased Syntax.mut (Syntax.tyInt Syntax.w16); ref = λ x. x },
+                record { pos = 37; ty = Syntax.tyRef Syntax.erased Syntax.mut (Syntax.tyInt Syntax.w16); ref = λ x. x },
                 (
                   record { pos = 6; st = List.[]; d = 0; at = λ x. x },
                   (
-                    record { pos = 40; st = List.[]; d = 0; at = λ x. x },
+                    record { pos = 38; st = List.[]; d = 0; at = λ x. x },
                     (
                       record { pos = 7; ty = Syntax.tyRef (Syntax.named 5) Syntax.imm (Syntax.tyArray (Syntax.tyInt Syntax.w16) 768); ref = λ x. x },
-                      (record { pos = 8; st = List.[]; d = 0; at = λ x. x }, (record { pos = 9; st = List.[]; d = 0; at = λ x. x }, (Num.vAt 18 λ x. x, (Bool.bAt 11 λ x. x, tt)))),
+                      (record { pos = 8; st = List.[]; d = 0; at = λ x. x }, (record { pos = 9; st = List.[]; d = 0; at = λ x. x }, (Num.vAt 21 λ x. x, (Bool.bAt 13 λ x. x, tt)))),
                     ),
                   ),
                 ),
@@ -6926,598 +6247,607 @@ module _ (claims· : Claims) where
             ),
           ),
         ),
-      ) (m54 (c .before .before)
+      ) (m45 (c .before .before)
           (After-quantisers-in·gave (c .before))) (c .line)
 
-      abbrev W5 : (before : After-quantisers-in) → (given : s68 .gives (m54 (before .before) (After-quantisers-in·gave before))) → Typed.Want O5
-      W5 = λ before given. Typed.wantNext T73 O3 (at77 (W3 (before .before .before .before .before .before .before .before .before .before .before .before .before .before .before .before) (before
+      abbrev W5 : (before : After-quantisers-in) → (given : s53 .gives (m45 (before .before) (After-quantisers-in·gave before))) → Typed.Want O5
+      W5 = λ before given. Typed.wantNext T58 O3 (at79 (W3 (before .before .before .before .before .before .before .before .before .before .before .before .before .before .before .before) (before
           .before .before .before .before .before .before .before .before .before .before .before .before .before .before .loop .lines) (before .before .before .before .before .before .before .before
           .before .before .before .before .before .before .before .loop .rs) (before .before .before .before .before .before .before .before .before .before .before .before .before .before .before .loop
           .image) (before .before .before .before .before .before .before .before .before .before .before .before .before .before .before .loop .place) (before .before .before .before .before .before
           .before .before .before .before .before .before .before .before .before .loop .tight-lines) (before .before .before .before .before .before .before .before .before .before .before .before
-          .before .before .before .loop .n))) (W3 (before .before .before .before .before .before .before .before .before .before .before .before .before .before .before .before) (before .before .before
+          .before .before .before .loop .i))) (W3 (before .before .before .before .before .before .before .before .before .before .before .before .before .before .before .before) (before .before .before
           .before .before .before .before .before .before .before .before .before .before .before .before .loop .lines) (before .before .before .before .before .before .before .before .before .before
           .before .before .before .before .before .loop .rs) (before .before .before .before .before .before .before .before .before .before .before .before .before .before .before .loop .image) (before
           .before .before .before .before .before .before .before .before .before .before .before .before .before .before .loop .place) (before .before .before .before .before .before .before .before
           .before .before .before .before .before .before .before .loop .tight-lines) (before .before .before .before .before .before .before .before .before .before .before .before .before .before
-          .before .loop .n))
+          .before .loop .i))
 
-      abbrev pub m56 : (before : After-quantisers-in) → (given : s68 .gives (m54 (before .before) (After-quantisers-in·gave before))) → Typed.Mo T74
-      m56 = λ before given. s69 (m55 before given)
+      abbrev pub m47 : (before : After-quantisers-in) → (given : s53 .gives (m45 (before .before) (After-quantisers-in·gave before))) → Typed.Mo T59
+      m47 = λ before given. s54 (m46 before given)
 
-      abbrev pub m57 : (before : After-line) → (given : s71 .gives (m56 (before .before) (After-line·gave before))) → Typed.Mo T76
-      m57 = λ before given. s71 .next (m56 (before .before) (After-line·gave before)) given
+      abbrev pub m48 : (before : After-line) → (given : s56 .gives (m47 (before .before) (After-line·gave before))) → Typed.Mo T61
+      m48 = λ before given. s56 .next (m47 (before .before) (After-line·gave before)) given
 
       module _ (before· : After-line) where
-        pub record After-lines3·own : Type 0 where
-          pub given : s71 .gives (m56 (before· .before) (After-line·gave before·))
+        pub record After-lines2·own : Type 0 where
+          pub given : s56 .gives (m47 (before· .before) (After-line·gave before·))
 
-      pub record After-lines3 : Type 0 where
+      pub record After-lines2 : Type 0 where
         pub before : After-line
-        pub lines3 : After-lines3·own before
+        pub lines2 : After-lines2·own before
 
-      abbrev pub m58 : (before : After-lines3) → (given : s72 .gives (m57 (before .before) (before .lines3 .given))) → Typed.Mo T77
-      m58 = λ before given. s72 .next (m57 (before .before) (before .lines3 .given)) given
+      abbrev pub m49 : (before : After-lines2) → (given : s57 .gives (m48 (before .before) (before .lines2 .given))) → Typed.Mo T62
+      m49 = λ before given. s57 .next (m48 (before .before) (before .lines2 .given)) given
 
-      module _ (before· : After-lines3) where
-        pub record After-slice-known5·own : Type 0 where
-          pub given : s72 .gives (m57 (before· .before) (before· .lines3 .given))
+      module _ (before· : After-lines2) where
+        pub record After-slice-known4·own : Type 0 where
+          pub given : s57 .gives (m48 (before· .before) (before· .lines2 .given))
 
-      pub record After-slice-known5 : Type 0 where
-        pub before : After-lines3
-        pub slice-known5 : After-slice-known5·own before
+      pub record After-slice-known4 : Type 0 where
+        pub before : After-lines2
+        pub slice-known4 : After-slice-known4·own before
 
-      abbrev pub m59 : (before : After-slice-known5) → (given : s75 .gives (m58 (before .before) (before .slice-known5 .given))) → Typed.Mo T80
-      m59 = λ before given. s75 .next (m58 (before .before) (before .slice-known5 .given)) given
+      abbrev pub m50 : (before : After-slice-known4) → (given : s60 .gives (m49 (before .before) (before .slice-known4 .given))) → Typed.Mo T65
+      m50 = λ before given. s60 .next (m49 (before .before) (before .slice-known4 .given)) given
 
-      module _ (before· : After-slice-known5) where
-        pub record After-rs3·own : Type 0 where
-          pub given : s75 .gives (m58 (before· .before) (before· .slice-known5 .given))
+      module _ (before· : After-slice-known4) where
+        pub record After-rs2·own : Type 0 where
+          pub given : s60 .gives (m49 (before· .before) (before· .slice-known4 .given))
 
-      pub record After-rs3 : Type 0 where
-        pub before : After-slice-known5
-        pub rs3 : After-rs3·own before
+      pub record After-rs2 : Type 0 where
+        pub before : After-slice-known4
+        pub rs2 : After-rs2·own before
 
-      abbrev pub m60 : (before : After-rs3) → (given : s78 .gives (m59 (before .before) (before .rs3 .given))) → Typed.Mo T83
-      m60 = λ before given. s78 .next (m59 (before .before) (before .rs3 .given)) given
+      abbrev pub m51 : (before : After-rs2) → (given : s63 .gives (m50 (before .before) (before .rs2 .given))) → Typed.Mo T68
+      m51 = λ before given. s63 .next (m50 (before .before) (before .rs2 .given)) given
 
-      module _ (before· : After-rs3) where
+      module _ (before· : After-rs2) where
         pub record After-image·own : Type 0 where
-          pub given : s78 .gives (m59 (before· .before) (before· .rs3 .given))
+          pub given : s63 .gives (m50 (before· .before) (before· .rs2 .given))
 
       pub record After-image : Type 0 where
-        pub before : After-rs3
+        pub before : After-rs2
         pub image : After-image·own before
 
-      abbrev pub m61 : (before : After-image) → (given : s79 .gives (m60 (before .before) (before .image .given))) → Typed.Mo T84
-      m61 = λ before given. s79 .next (m60 (before .before) (before .image .given)) given
+      abbrev pub m52 : (before : After-image) → (given : s64 .gives (m51 (before .before) (before .image .given))) → Typed.Mo T69
+      m52 = λ before given. s64 .next (m51 (before .before) (before .image .given)) given
 
       module _ (before· : After-image) where
-        pub record After-slice-known6·own : Type 0 where
-          pub given : s79 .gives (m60 (before· .before) (before· .image .given))
+        pub record After-slice-known5·own : Type 0 where
+          pub given : s64 .gives (m51 (before· .before) (before· .image .given))
 
-      pub record After-slice-known6 : Type 0 where
+      pub record After-slice-known5 : Type 0 where
         pub before : After-image
-        pub slice-known6 : After-slice-known6·own before
+        pub slice-known5 : After-slice-known5·own before
 
-      module _ (before· : After-slice-known6) where
+      module _ (before· : After-slice-known5) where
         pub record At-match-keys1·own : Type 0 where
-          pub keys1 : Run.OneOf (List._∷_ 0 List.[]) (Declared.tagOf Lined.the-type (Row.get 20 (T84 .locals) (m61 (before· .before) (before· .slice-known6 .given))))
+          pub keys1 : Run.OneOf (List._∷_ 0 List.[]) (Declared.tagOf Lined.the-type (Row.get 23 (T69 .locals) (m52 (before· .before) (before· .slice-known5 .given))))
 
       pub record At-match-keys1 : Type 0 where
-        pub before : After-slice-known6
+        pub before : After-slice-known5
         pub match : At-match-keys1·own before
 
       abbrev pub Need-enum-known-got : Type 0
-      Need-enum-known-got = (c : At-match-keys1) → s81 .asks (m61 (c .before .before) (c .before .slice-known6 .given))
+      Need-enum-known-got = (c : At-match-keys1) → s66 .asks (m52 (c .before .before) (c .before .slice-known5 .given))
 
-      abbrev pub m62 : (before : At-match-keys1) → (given : s81 .gives (m61 (before .before .before) (before .before .slice-known6 .given))) → Typed.Mo T86
-      m62 = λ before given. s81 .next (m61 (before .before .before) (before .before .slice-known6 .given)) given
+      abbrev pub m53 : (before : At-match-keys1) → (given : s66 .gives (m52 (before .before .before) (before .before .slice-known5 .given))) → Typed.Mo T71
+      m53 = λ before given. s66 .next (m52 (before .before .before) (before .before .slice-known5 .given)) given
 
       module _ (before· : At-match-keys1) where
         pub record After-got·own : Type 0 where
-          pub given : s81 .gives (m61 (before· .before .before) (before· .before .slice-known6 .given))
+          pub given : s66 .gives (m52 (before· .before .before) (before· .before .slice-known5 .given))
 
       pub record After-got : Type 0 where
         pub before : At-match-keys1
         pub got : After-got·own before
 
-      abbrev pub m63 : (before : After-got) → (given : s82 .gives (m62 (before .before) (before .got .given))) → Typed.Mo T87
-      m63 = λ before given. s82 .next (m62 (before .before) (before .got .given)) given
+      abbrev pub m54 : (before : After-got) → (given : s67 .gives (m53 (before .before) (before .got .given))) → Typed.Mo T72
+      m54 = λ before given. s67 .next (m53 (before .before) (before .got .given)) given
 
-      abbrev pub m64 : (before : After-got) → (given : s82 .gives (m62 (before .before) (before .got .given))) → Typed.Mo T88
-      m64 = λ before given. s83 (m63 before given)
+      abbrev pub m55 : (before : After-got) → (given : s67 .gives (m53 (before .before) (before .got .given))) → Typed.Mo T73
+      m55 = λ before given. s68 (m54 before given)
 
-      abbrev pub m65 : (before : After-got) → (given : s82 .gives (m62 (before .before) (before .got .given))) → Typed.Mo T89
-      m65 = λ before given. s84 (m64 before given)
+      abbrev pub m56 : (before : After-got) → (given : s67 .gives (m53 (before .before) (before .got .given))) → Typed.Mo T74
+      m56 = λ before given. s69 (m55 before given)
 
-      abbrev pub m66 : (before : After-got) → (given : s82 .gives (m62 (before .before) (before .got .given))) → Typed.Mo T90
-      m66 = λ before given. s85 (m65 before given)
+      abbrev pub m57 : (before : After-got) → (given : s67 .gives (m53 (before .before) (before .got .given))) → Typed.Mo T75
+      m57 = λ before given. s70 (m56 before given)
 
       module _ (before· : After-got) where
         pub record After-known-told·own : Type 0 where
-          pub given : s82 .gives (m62 (before· .before) (before· .got .given))
+          pub given : s67 .gives (m53 (before· .before) (before· .got .given))
 
       pub record After-known-told : Type 0 where
         pub before : After-got
         pub known-told : After-known-told·own before
 
-      module _ (before· : After-slice-known6) where
+      module _ (before· : After-slice-known5) where
         pub record At-match-keys2·own : Type 0 where
-          pub keys2 : Run.OneOf (List._∷_ 1 List.[]) (Declared.tagOf Lined.the-type (Row.get 20 (T84 .locals) (m61 (before· .before) (before· .slice-known6 .given))))
+          pub keys2 : Run.OneOf (List._∷_ 1 List.[]) (Declared.tagOf Lined.the-type (Row.get 23 (T69 .locals) (m52 (before· .before) (before· .slice-known5 .given))))
 
       pub record At-match-keys2 : Type 0 where
-        pub before : After-slice-known6
+        pub before : After-slice-known5
         pub match : At-match-keys2·own before
 
       abbrev pub Need-enum-told : Type 0
-      Need-enum-told = (c : At-match-keys2) → s86 .asks (m61 (c .before .before) (c .before .slice-known6 .given))
+      Need-enum-told = (c : At-match-keys2) → s71 .asks (m52 (c .before .before) (c .before .slice-known5 .given))
 
-      abbrev pub m67 : (before : At-match-keys2) → (given : s86 .gives (m61 (before .before .before) (before .before .slice-known6 .given))) → Typed.Mo T91
-      m67 = λ before given. s86 .next (m61 (before .before .before) (before .before .slice-known6 .given)) given
+      abbrev pub m58 : (before : At-match-keys2) → (given : s71 .gives (m52 (before .before .before) (before .before .slice-known5 .given))) → Typed.Mo T76
+      m58 = λ before given. s71 .next (m52 (before .before .before) (before .before .slice-known5 .given)) given
 
-      abbrev pub m68 : (before : At-match-keys2) → (given : s86 .gives (m61 (before .before .before) (before .before .slice-known6 .given))) → Typed.Mo T92
-      m68 = λ before given. s87 (m67 before given)
+      abbrev pub m59 : (before : At-match-keys2) → (given : s71 .gives (m52 (before .before .before) (before .before .slice-known5 .given))) → Typed.Mo T77
+      m59 = λ before given. s72 (m58 before given)
 
-      abbrev pub m69 : (before : At-match-keys2) → (given : s86 .gives (m61 (before .before .before) (before .before .slice-known6 .given))) → Typed.Mo T93
-      m69 = λ before given. s88 (m68 before given)
+      abbrev pub m60 : (before : At-match-keys2) → (given : s71 .gives (m52 (before .before .before) (before .before .slice-known5 .given))) → Typed.Mo T78
+      m60 = λ before given. s73 (m59 before given)
 
-      abbrev pub m70 : (before : At-match-keys2) → (given : s86 .gives (m61 (before .before .before) (before .before .slice-known6 .given))) → Typed.Mo T94
-      m70 = λ before given. s89 (m69 before given)
+      abbrev pub m61 : (before : At-match-keys2) → (given : s71 .gives (m52 (before .before .before) (before .before .slice-known5 .given))) → Typed.Mo T79
+      m61 = λ before given. s74 (m60 before given)
 
-      abbrev pub m71 : (before : At-match-keys2) → (given : s86 .gives (m61 (before .before .before) (before .before .slice-known6 .given))) → Typed.Mo T95
-      m71 = λ before given. s90 (m70 before given)
+      abbrev pub m62 : (before : At-match-keys2) → (given : s71 .gives (m52 (before .before .before) (before .before .slice-known5 .given))) → Typed.Mo T80
+      m62 = λ before given. s75 (m61 before given)
 
-      abbrev pub m72 : (before : At-match-keys2) → (given : s86 .gives (m61 (before .before .before) (before .before .slice-known6 .given))) → Typed.Mo T96
-      m72 = λ before given. s91 (m71 before given)
+      abbrev pub m63 : (before : At-match-keys2) → (given : s71 .gives (m52 (before .before .before) (before .before .slice-known5 .given))) → Typed.Mo T81
+      m63 = λ before given. s76 (m62 before given)
 
       module _ (before· : At-match-keys2) where
         pub record After-enum-told·own : Type 0 where
-          pub given : s86 .gives (m61 (before· .before .before) (before· .before .slice-known6 .given))
+          pub given : s71 .gives (m52 (before· .before .before) (before· .before .slice-known5 .given))
 
       pub record After-enum-told : Type 0 where
         pub before : At-match-keys2
         pub enum-told : After-enum-told·own before
 
-      abbrev pub m73 : (before : After-enum-told) → (given : s93 .gives (m72 (before .before) (before .enum-told .given))) → Typed.Mo T98
-      m73 = λ before given. s93 .next (m72 (before .before) (before .enum-told .given)) given
+      abbrev pub m64 : (before : After-enum-told) → (given : s78 .gives (m63 (before .before) (before .enum-told .given))) → Typed.Mo T83
+      m64 = λ before given. s78 .next (m63 (before .before) (before .enum-told .given)) given
 
-      abbrev pub m74 : (before : After-enum-told) → (given : s93 .gives (m72 (before .before) (before .enum-told .given))) → Typed.Mo T99
-      m74 = λ before given. s94 .next (m73 before given)
+      abbrev pub m65 : (before : After-enum-told) → (given : s78 .gives (m63 (before .before) (before .enum-told .given))) → Typed.Mo T84
+      m65 = λ before given. s79 .next (m64 before given)
 
       module _ (before· : After-enum-told) where
         pub record After-zero-line-arg·own : Type 0 where
-          pub given : s93 .gives (m72 (before· .before) (before· .enum-told .given))
+          pub given : s78 .gives (m63 (before· .before) (before· .enum-told .given))
 
       pub record After-zero-line-arg : Type 0 where
         pub before : After-enum-told
         pub zero-line-arg : After-zero-line-arg·own before
 
       abbrev pub Need-zero-line-requires : Type 0
-      Need-zero-line-requires = (c : After-zero-line-arg) → s95 .asks (m74 (c .before) (c .zero-line-arg .given))
+      Need-zero-line-requires = (c : After-zero-line-arg) → s80 .asks (m65 (c .before) (c .zero-line-arg .given))
 
-      abbrev pub m75 : (before : After-zero-line-arg) → (given : s95 .gives (m74 (before .before) (before .zero-line-arg .given))) → Typed.Mo T100
-      m75 = λ before given. s95 .next (m74 (before .before) (before .zero-line-arg .given)) given
+      abbrev pub m66 : (before : After-zero-line-arg) → (given : s80 .gives (m65 (before .before) (before .zero-line-arg .given))) → Typed.Mo T85
+      m66 = λ before given. s80 .next (m65 (before .before) (before .zero-line-arg .given)) given
 
       module _ (before· : After-zero-line-arg) where
         abbrev pub After-zero-line·own : Type 0
-        After-zero-line·own = Called.Called ps·11 r·11 (claims· .23) T99 (
-          record { pos = 43; ty = Syntax.tyRef Syntax.erased Syntax.mut (Syntax.tyInt Syntax.w16); ref = λ x. x },
-          (record { pos = 9; st = List.[]; d = 0; at = λ x. x }, (Num.vAt 18 λ x. x, (Bool.bAt 11 λ x. x, tt))),
-        ) (m74 (before· .before) (before· .zero-line-arg .given))
+        After-zero-line·own = Called.Called ps·9 r·9 (claims· .19) T84 (
+          record { pos = 41; ty = Syntax.tyRef Syntax.erased Syntax.mut (Syntax.tyInt Syntax.w16); ref = λ x. x },
+          (record { pos = 9; st = List.[]; d = 0; at = λ x. x }, (Num.vAt 21 λ x. x, (Bool.bAt 13 λ x. x, tt))),
+        ) (m65 (before· .before) (before· .zero-line-arg .given))
 
       pub record After-zero-line : Type 0 where
         pub before : After-zero-line-arg
         pub zero-line : After-zero-line·own before
 
-      abbrev pub After-zero-line·gave : (c : After-zero-line) → s95 .gives (m74 (c .before .before) (c .before .zero-line-arg .given))
-      After-zero-line·gave = λ c. Called.given ps·11 r·11 (claims· .23) T99 (
-        record { pos = 43; ty = Syntax.tyRef Syntax.erased Syntax.mut (Syntax.tyInt Syntax.w16); ref = λ x. x },
-        (record { pos = 9; st = List.[]; d = 0; at = λ x. x }, (Num.vAt 18 λ x. x, (Bool.bAt 11 λ x. x, tt))),
-      ) (m74 (c .before .before) (c .before .zero-line-arg .given)) (c .zero-line)
+      abbrev pub After-zero-line·gave : (c : After-zero-line) → s80 .gives (m65 (c .before .before) (c .before .zero-line-arg .given))
+      After-zero-line·gave = λ c. Called.given ps·9 r·9 (claims· .19) T84 (
+        record { pos = 41; ty = Syntax.tyRef Syntax.erased Syntax.mut (Syntax.tyInt Syntax.w16); ref = λ x. x },
+        (record { pos = 9; st = List.[]; d = 0; at = λ x. x }, (Num.vAt 21 λ x. x, (Bool.bAt 13 λ x. x, tt))),
+      ) (m65 (c .before .before) (c .before .zero-line-arg .given)) (c .zero-line)
 
-      abbrev pub m76 : (before : After-zero-line-arg) → (given : s95 .gives (m74 (before .before) (before .zero-line-arg .given))) → Typed.Mo T101
-      m76 = λ before given. s96 (m75 before given)
+      abbrev pub m67 : (before : After-zero-line-arg) → (given : s80 .gives (m65 (before .before) (before .zero-line-arg .given))) → Typed.Mo T86
+      m67 = λ before given. s81 (m66 before given)
 
-      abbrev pub m77 : (before : After-zero-line-arg) → (given : s95 .gives (m74 (before .before) (before .zero-line-arg .given))) → Typed.Mo T102
-      m77 = λ before given. s97 (m76 before given)
+      abbrev pub m68 : (before : After-zero-line-arg) → (given : s80 .gives (m65 (before .before) (before .zero-line-arg .given))) → Typed.Mo T87
+      m68 = λ before given. s82 (m67 before given)
 
-      abbrev pub m78 : (before : After-zero-line) → (given : s99 .gives (m77 (before .before) (After-zero-line·gave before))) → Typed.Mo T104
-      m78 = λ before given. s99 .next (m77 (before .before) (After-zero-line·gave before)) given
+      abbrev pub m69 : (before : After-zero-line) → (given : s84 .gives (m68 (before .before) (After-zero-line·gave before))) → Typed.Mo T89
+      m69 = λ before given. s84 .next (m68 (before .before) (After-zero-line·gave before)) given
 
       module _ (before· : After-zero-line) where
         pub record After-image2·own : Type 0 where
-          pub given : s99 .gives (m77 (before· .before) (After-zero-line·gave before·))
+          pub given : s84 .gives (m68 (before· .before) (After-zero-line·gave before·))
 
       pub record After-image2 : Type 0 where
         pub before : After-zero-line
         pub image2 : After-image2·own before
 
-      abbrev pub m79 : (before : After-image2) → (given : s100 .gives (m78 (before .before) (before .image2 .given))) → Typed.Mo T105
-      m79 = λ before given. s100 .next (m78 (before .before) (before .image2 .given)) given
+      abbrev pub m70 : (before : After-image2) → (given : s85 .gives (m69 (before .before) (before .image2 .given))) → Typed.Mo T90
+      m70 = λ before given. s85 .next (m69 (before .before) (before .image2 .given)) given
 
       module _ (before· : After-image2) where
-        pub record After-slice-known7·own : Type 0 where
-          pub given : s100 .gives (m78 (before· .before) (before· .image2 .given))
+        pub record After-slice-known6·own : Type 0 where
+          pub given : s85 .gives (m69 (before· .before) (before· .image2 .given))
 
-      pub record After-slice-known7 : Type 0 where
+      pub record After-slice-known6 : Type 0 where
         pub before : After-image2
-        pub slice-known7 : After-slice-known7·own before
-
-      abbrev pub Need-totals-at-requires : Type 0
-      Need-totals-at-requires = (c : After-slice-known7) → s102 .asks (m79 (c .before) (c .slice-known7 .given))
-
-      abbrev pub m80 : (before : After-slice-known7) → (given : s102 .gives (m79 (before .before) (before .slice-known7 .given))) → Typed.Mo T107
-      m80 = λ before given. s102 .next (m79 (before .before) (before .slice-known7 .given)) given
-
-      module _ (before· : After-slice-known7) where
-        abbrev pub After-totals-at·own : Type 0
-        After-totals-at·own = Called.Called ps·12 r·12 (claims· .25) T105 (record { pos = 16; st = List.[]; d = 0; at = λ x. x }, tt) (m79 (before· .before) (before· .slice-known7 .given))
-
-      pub record After-totals-at : Type 0 where
-        pub before : After-slice-known7
-        pub totals-at : After-totals-at·own before
-
-      abbrev pub After-totals-at·gave : (c : After-totals-at) → s102 .gives (m79 (c .before .before) (c .before .slice-known7 .given))
-      After-totals-at·gave = λ c. Called.given ps·12 r·12 (claims· .25) T105 (record { pos = 16; st = List.[]; d = 0; at = λ x. x }, tt) (m79 (c .before .before) (c .before .slice-known7 .given)) (c
-          .totals-at)
-
-      abbrev pub m81 : (before : After-slice-known7) → (given : s102 .gives (m79 (before .before) (before .slice-known7 .given))) → Typed.Mo T108
-      m81 = λ before given. s103 (m80 before given)
-
-      abbrev pub m82 : (before : After-slice-known7) → (given : s102 .gives (m79 (before .before) (before .slice-known7 .given))) → Typed.Mo T109
-      m82 = λ before given. s104 (m81 before given)
-
-      abbrev pub m83 : (before : After-slice-known7) → (given : s102 .gives (m79 (before .before) (before .slice-known7 .given))) → Typed.Mo T110
-      m83 = λ before given. s105 (m82 before given)
-
-      abbrev pub m84 : (before : After-slice-known7) → (given : s102 .gives (m79 (before .before) (before .slice-known7 .given))) → Typed.Mo T111
-      m84 = λ before given. s106 (m83 before given)
-
-      abbrev pub m85 : (before : After-slice-known7) → (given : s102 .gives (m79 (before .before) (before .slice-known7 .given))) → Typed.Mo T112
-      m85 = λ before given. s107 (m84 before given)
-
-      abbrev pub m86 : (before : After-slice-known7) → (given : s102 .gives (m79 (before .before) (before .slice-known7 .given))) → Typed.Mo T113
-      m86 = λ before given. s108 (m85 before given)
-
-      abbrev pub m87 : (before : After-slice-known7) → (given : s102 .gives (m79 (before .before) (before .slice-known7 .given))) → Typed.Mo T114
-      m87 = λ before given. s109 (m86 before given)
-
-      abbrev pub m88 : (before : After-slice-known7) → (given : s102 .gives (m79 (before .before) (before .slice-known7 .given))) → Typed.Mo T115
-      m88 = λ before given. s110 (m87 before given)
-
-      abbrev pub m89 : (before : After-slice-known7) → (given : s102 .gives (m79 (before .before) (before .slice-known7 .given))) → Typed.Mo T116
-      m89 = λ before given. s111 (m88 before given)
-
-      abbrev pub m90 : (before : After-slice-known7) → (given : s102 .gives (m79 (before .before) (before .slice-known7 .given))) → Typed.Mo T117
-      m90 = λ before given. s112 (m89 before given)
-
-      abbrev pub Need-same-length : Type 0
-      Need-same-length = (c : After-totals-at) → MutSlice.SameLen (Row.get 3 (T117 .locals) (m90 (c .before) (After-totals-at·gave c))) (dens (c .before .before .before .before .before .before .before
-          .before .before .before .before .before .before .before .before .before .before .before .before .before .before .before .before .before .before .before .before .before .before .before .before
-          .before .before .before .before .before .before .before .before .before .before .before .before .κs) (c .before .before .before .before .before .before .before .before .before .before .before
-          .before .before .before .before .before .before .before .before .before .before .before .before .before .before .before .before .before .before .before .before .before .before .before .before
-          .before .before .before .before .before .before .before .before .args) .1 .1 .0)
-
-      abbrev pub Need-same-length-2 : Type 0
-      Need-same-length-2 = (c : After-totals-at) → MutSlice.SameLen (Row.get 4 (T117 .locals) (m90 (c .before) (After-totals-at·gave c))) (dens (c .before .before .before .before .before .before
-          .before .before .before .before .before .before .before .before .before .before .before .before .before .before .before .before .before .before .before .before .before .before .before .before
-          .before .before .before .before .before .before .before .before .before .before .before .before .before .κs) (c .before .before .before .before .before .before .before .before .before .before
-          .before .before .before .before .before .before .before .before .before .before .before .before .before .before .before .before .before .before .before .before .before .before .before .before
-          .before .before .before .before .before .before .before .before .before .args) .1 .1 .1 .0)
-
-      abbrev pub Need-same-length-3 : Type 0
-      Need-same-length-3 = (c : After-totals-at) → MutSlice.SameLen (Row.get 5 (T117 .locals) (m90 (c .before) (After-totals-at·gave c))) (dens (c .before .before .before .before .before .before
-          .before .before .before .before .before .before .before .before .before .before .before .before .before .before .before .before .before .before .before .before .before .before .before .before
-          .before .before .before .before .before .before .before .before .before .before .before .before .before .κs) (c .before .before .before .before .before .before .before .before .before .before
-          .before .before .before .before .before .before .before .before .before .before .before .before .before .before .before .before .before .before .before .before .before .before .before .before
-          .before .before .before .before .before .before .before .before .before .args) .1 .1 .1 .1 .0)
-
-      abbrev pub Need-returns : Type 0
-      Need-returns = (c : After-totals-at) → Post· (c .before .before .before .before .before .before .before .before .before .before .before .before .before .before .before .before .before .before
-          .before .before .before .before .before .before .before .before .before .before .before .before .before .before .before .before .before .before .before .before .before .before .before .before
-          .before .κs) (dens (c .before .before .before .before .before .before .before .before .before .before .before .before .before .before .before .before .before .before .before .before .before
-          .before .before .before .before .before .before .before .before .before .before .before .before .before .before .before .before .before .before .before .before .before .before .κs) (c .before
-          .before .before .before .before .before .before .before .before .before .before .before .before .before .before .before .before .before .before .before .before .before .before .before .before
-          .before .before .before .before .before .before .before .before .before .before .before .before .before .before .before .before .before .before .args)) (Function.resV r (c .before .before
-          .before .before .before .before .before .before .before .before .before .before .before .before .before .before .before .before .before .before .before .before .before .before .before .before
-          .before .before .before .before .before .before .before .before .before .before .before .before .before .before .before .before .before .κs) (m90 (c .before) (After-totals-at·gave c) .0))
-          (Clauses.atExit (Kinds.endedOf 6 ps r) (c .before .before .before .before .before .before .before .before .before .before .before .before .before .before .before .before .before .before .before
-          .before .before .before .before .before .before .before .before .before .before .before .before .before .before .before .before .before .before .before .before .before .before .before .before
-          .κs) (dens (c .before .before .before .before .before .before .before .before .before .before .before .before .before .before .before .before .before .before .before .before .before .before
-          .before .before .before .before .before .before .before .before .before .before .before .before .before .before .before .before .before .before .before .before .before .κs) (c .before .before
-          .before .before .before .before .before .before .before .before .before .before .before .before .before .before .before .before .before .before .before .before .before .before .before .before
-          .before .before .before .before .before .before .before .before .before .before .before .before .before .before .before .before .before .args)) (Enter.lastsP (c .before .before .before .before
-          .before .before .before .before .before .before .before .before .before .before .before .before .before .before .before .before .before .before .before .before .before .before .before .before
-          .before .before .before .before .before .before .before .before .before .before .before .before .before .before .before .κs) 1 ps xs (dens (c .before .before .before .before .before .before
-          .before .before .before .before .before .before .before .before .before .before .before .before .before .before .before .before .before .before .before .before .before .before .before .before
-          .before .before .before .before .before .before .before .before .before .before .before .before .before .κs) (c .before .before .before .before .before .before .before .before .before .before
-          .before .before .before .before .before .before .before .before .before .before .before .before .before .before .before .before .before .before .before .before .before .before .before .before
-          .before .before .before .before .before .before .before .before .before .args)) (m90 (c .before) (After-totals-at·gave c) .1)))
-
-      abbrev pub m91 : (before : After-got) → (given : s82 .gives (m62 (before .before) (before .got .given))) → Typed.Mo T118
-      m91 = λ before given. s113 (m66 before given)
-
-      abbrev pub m92 : (before : After-got) → (given : s82 .gives (m62 (before .before) (before .got .given))) → Typed.Mo T119
-      m92 = λ before given. s114 (m91 before given)
+        pub slice-known6 : After-slice-known6·own before
 
       abbrev pub Need-totals-at-requires-2 : Type 0
-      Need-totals-at-requires-2 = (c : After-known-told) → s115 .asks (m92 (c .before) (c .known-told .given))
+      Need-totals-at-requires-2 = (c : After-slice-known6) → s87 .asks (m70 (c .before) (c .slice-known6 .given))
 
-      abbrev pub m93 : (before : After-known-told) → (given : s115 .gives (m92 (before .before) (before .known-told .given))) → Typed.Mo T120
-      m93 = λ before given. s115 .next (m92 (before .before) (before .known-told .given)) given
+      abbrev pub m71 : (before : After-slice-known6) → (given : s87 .gives (m70 (before .before) (before .slice-known6 .given))) → Typed.Mo T92
+      m71 = λ before given. s87 .next (m70 (before .before) (before .slice-known6 .given)) given
 
-      module _ (before· : After-known-told) where
+      module _ (before· : After-slice-known6) where
         abbrev pub After-totals-at2·own : Type 0
-        After-totals-at2·own = Called.Called ps·12 r·12 (claims· .25) T119 (record { pos = 16; st = List.[]; d = 0; at = λ x. x }, tt) (m92 (before· .before) (before· .known-told .given))
+        After-totals-at2·own = Called.Called ps·1 r·1 (claims· .3) T90 (record { pos = 18; st = List.[]; d = 0; at = λ x. x }, tt) (m70 (before· .before) (before· .slice-known6 .given))
 
       pub record After-totals-at2 : Type 0 where
-        pub before : After-known-told
+        pub before : After-slice-known6
         pub totals-at2 : After-totals-at2·own before
 
-      abbrev pub After-totals-at2·gave : (c : After-totals-at2) → s115 .gives (m92 (c .before .before) (c .before .known-told .given))
-      After-totals-at2·gave = λ c. Called.given ps·12 r·12 (claims· .25) T119 (record { pos = 16; st = List.[]; d = 0; at = λ x. x }, tt) (m92 (c .before .before) (c .before .known-told .given)) (c
+      abbrev pub After-totals-at2·gave : (c : After-totals-at2) → s87 .gives (m70 (c .before .before) (c .before .slice-known6 .given))
+      After-totals-at2·gave = λ c. Called.given ps·1 r·1 (claims· .3) T90 (record { pos = 18; st = List.[]; d = 0; at = λ x. x }, tt) (m70 (c .before .before) (c .before .slice-known6 .given)) (c
           .totals-at2)
 
+      abbrev pub m72 : (before : After-slice-known6) → (given : s87 .gives (m70 (before .before) (before .slice-known6 .given))) → Typed.Mo T93
+      m72 = λ before given. s88 (m71 before given)
+
+      abbrev pub m73 : (before : After-slice-known6) → (given : s87 .gives (m70 (before .before) (before .slice-known6 .given))) → Typed.Mo T94
+      m73 = λ before given. s89 (m72 before given)
+
+      abbrev pub m74 : (before : After-slice-known6) → (given : s87 .gives (m70 (before .before) (before .slice-known6 .given))) → Typed.Mo T95
+      m74 = λ before given. s90 (m73 before given)
+
+      abbrev pub m75 : (before : After-slice-known6) → (given : s87 .gives (m70 (before .before) (before .slice-known6 .given))) → Typed.Mo T96
+      m75 = λ before given. s91 (m74 before given)
+
+      abbrev pub m76 : (before : After-slice-known6) → (given : s87 .gives (m70 (before .before) (before .slice-known6 .given))) → Typed.Mo T97
+      m76 = λ before given. s92 (m75 before given)
+
+      abbrev pub m77 : (before : After-slice-known6) → (given : s87 .gives (m70 (before .before) (before .slice-known6 .given))) → Typed.Mo T98
+      m77 = λ before given. s93 (m76 before given)
+
+      abbrev pub m78 : (before : After-slice-known6) → (given : s87 .gives (m70 (before .before) (before .slice-known6 .given))) → Typed.Mo T99
+      m78 = λ before given. s94 (m77 before given)
+
+      abbrev pub m79 : (before : After-slice-known6) → (given : s87 .gives (m70 (before .before) (before .slice-known6 .given))) → Typed.Mo T100
+      m79 = λ before given. s95 (m78 before given)
+
+      abbrev pub m80 : (before : After-slice-known6) → (given : s87 .gives (m70 (before .before) (before .slice-known6 .given))) → Typed.Mo T101
+      m80 = λ before given. s96 (m79 before given)
+
+      abbrev pub m81 : (before : After-slice-known6) → (given : s87 .gives (m70 (before .before) (before .slice-known6 .given))) → Typed.Mo T102
+      m81 = λ before given. s97 (m80 before given)
+
+      abbrev pub m82 : (before : After-slice-known6) → (given : s87 .gives (m70 (before .before) (before .slice-known6 .given))) → Typed.Mo T103
+      m82 = λ before given. s98 (m81 before given)
+
+      abbrev pub m83 : (before : After-slice-known6) → (given : s87 .gives (m70 (before .before) (before .slice-known6 .given))) → Typed.Mo T104
+      m83 = λ before given. s99 (m82 before given)
+
+      abbrev pub Need-same-length : Type 0
+      Need-same-length = (c : After-totals-at2) → MutSlice.SameLen (Row.get 3 (T104 .locals) (m83 (c .before) (After-totals-at2·gave c))) (dens (c .before .before .before .before .before .before
+          .before .before .before .before .before .before .before .before .before .before .before .before .before .before .before .before .before .before .before .before .before .before .before .before
+          .before .before .before .before .before .κs) (c .before .before .before .before .before .before .before .before .before .before .before .before .before .before .before .before .before .before
+          .before .before .before .before .before .before .before .before .before .before .before .before .before .before .before .before .before .args) .1 .1 .0)
+
+      abbrev pub Need-same-length-2 : Type 0
+      Need-same-length-2 = (c : After-totals-at2) → MutSlice.SameLen (Row.get 4 (T104 .locals) (m83 (c .before) (After-totals-at2·gave c))) (dens (c .before .before .before .before .before .before
+          .before .before .before .before .before .before .before .before .before .before .before .before .before .before .before .before .before .before .before .before .before .before .before .before
+          .before .before .before .before .before .κs) (c .before .before .before .before .before .before .before .before .before .before .before .before .before .before .before .before .before .before
+          .before .before .before .before .before .before .before .before .before .before .before .before .before .before .before .before .before .args) .1 .1 .1 .0)
+
+      abbrev pub Need-same-length-3 : Type 0
+      Need-same-length-3 = (c : After-totals-at2) → MutSlice.SameLen (Row.get 5 (T104 .locals) (m83 (c .before) (After-totals-at2·gave c))) (dens (c .before .before .before .before .before .before
+          .before .before .before .before .before .before .before .before .before .before .before .before .before .before .before .before .before .before .before .before .before .before .before .before
+          .before .before .before .before .before .κs) (c .before .before .before .before .before .before .before .before .before .before .before .before .before .before .before .before .before .before
+          .before .before .before .before .before .before .before .before .before .before .before .before .before .before .before .before .before .args) .1 .1 .1 .1 .0)
+
+      abbrev pub Need-returns : Type 0
+      Need-returns = (c : After-totals-at2) → Post· (c .before .before .before .before .before .before .before .before .before .before .before .before .before .before .before .before .before .before
+          .before .before .before .before .before .before .before .before .before .before .before .before .before .before .before .before .before .κs) (dens (c .before .before .before .before .before
+          .before .before .before .before .before .before .before .before .before .before .before .before .before .before .before .before .before .before .before .before .before .before .before .before
+          .before .before .before .before .before .before .κs) (c .before .before .before .before .before .before .before .before .before .before .before .before .before .before .before .before .before
+          .before .before .before .before .before .before .before .before .before .before .before .before .before .before .before .before .before .before .args)) (Function.resV r (c .before .before
+          .before .before .before .before .before .before .before .before .before .before .before .before .before .before .before .before .before .before .before .before .before .before .before .before
+          .before .before .before .before .before .before .before .before .before .κs) (m83 (c .before) (After-totals-at2·gave c) .0)) (Clauses.atExit (Kinds.endedOf 6 ps r) (c .before .before .before
+          .before .before .before .before .before .before .before .before .before .before .before .before .before .before .before .before .before .before .before .before .before .before .before .before
+          .before .before .before .before .before .before .before .before .κs) (dens (c .before .before .before .before .before .before .before .before .before .before .before .before .before .before
+          .before .before .before .before .before .before .before .before .before .before .before .before .before .before .before .before .before .before .before .before .before .κs) (c .before .before
+          .before .before .before .before .before .before .before .before .before .before .before .before .before .before .before .before .before .before .before .before .before .before .before .before
+          .before .before .before .before .before .before .before .before .before .args)) (Enter.lastsP (c .before .before .before .before .before .before .before .before .before .before .before .before
+          .before .before .before .before .before .before .before .before .before .before .before .before .before .before .before .before .before .before .before .before .before .before .before .κs) 1 ps
+          xs (dens (c .before .before .before .before .before .before .before .before .before .before .before .before .before .before .before .before .before .before .before .before .before .before
+          .before .before .before .before .before .before .before .before .before .before .before .before .before .κs) (c .before .before .before .before .before .before .before .before .before .before
+          .before .before .before .before .before .before .before .before .before .before .before .before .before .before .before .before .before .before .before .before .before .before .before .before
+          .before .args)) (m83 (c .before) (After-totals-at2·gave c) .1)))
+
+      abbrev pub m84 : (before : After-got) → (given : s67 .gives (m53 (before .before) (before .got .given))) → Typed.Mo T105
+      m84 = λ before given. s100 (m57 before given)
+
+      abbrev pub m85 : (before : After-got) → (given : s67 .gives (m53 (before .before) (before .got .given))) → Typed.Mo T106
+      m85 = λ before given. s101 (m84 before given)
+
+      abbrev pub Need-totals-at-requires-3 : Type 0
+      Need-totals-at-requires-3 = (c : After-known-told) → s102 .asks (m85 (c .before) (c .known-told .given))
+
+      abbrev pub m86 : (before : After-known-told) → (given : s102 .gives (m85 (before .before) (before .known-told .given))) → Typed.Mo T107
+      m86 = λ before given. s102 .next (m85 (before .before) (before .known-told .given)) given
+
+      module _ (before· : After-known-told) where
+        abbrev pub After-totals-at3·own : Type 0
+        After-totals-at3·own = Called.Called ps·1 r·1 (claims· .3) T106 (record { pos = 18; st = List.[]; d = 0; at = λ x. x }, tt) (m85 (before· .before) (before· .known-told .given))
+
+      pub record After-totals-at3 : Type 0 where
+        pub before : After-known-told
+        pub totals-at3 : After-totals-at3·own before
+
+      abbrev pub After-totals-at3·gave : (c : After-totals-at3) → s102 .gives (m85 (c .before .before) (c .before .known-told .given))
+      After-totals-at3·gave = λ c. Called.given ps·1 r·1 (claims· .3) T106 (record { pos = 18; st = List.[]; d = 0; at = λ x. x }, tt) (m85 (c .before .before) (c .before .known-told .given)) (c
+          .totals-at3)
+
       abbrev pub Need-with-line-requires : Type 0
-      Need-with-line-requires = (c : After-totals-at2) → s116 .asks (m93 (c .before) (After-totals-at2·gave c))
+      Need-with-line-requires = (c : After-totals-at3) → s103 .asks (m86 (c .before) (After-totals-at3·gave c))
 
-      abbrev pub m94 : (before : After-totals-at2) → (given : s116 .gives (m93 (before .before) (After-totals-at2·gave before))) → Typed.Mo T121
-      m94 = λ before given. s116 .next (m93 (before .before) (After-totals-at2·gave before)) given
+      abbrev pub m87 : (before : After-totals-at3) → (given : s103 .gives (m86 (before .before) (After-totals-at3·gave before))) → Typed.Mo T108
+      m87 = λ before given. s103 .next (m86 (before .before) (After-totals-at3·gave before)) given
 
-      module _ (before· : After-totals-at2) where
+      module _ (before· : After-totals-at3) where
         abbrev pub After-with-line·own : Type 0
-        After-with-line·own = Called.Called ps·13 r·13 (claims· .27) T120 (
-          record { pos = 17; st = List.[]; d = 0; at = λ x. x },
-          (Num.vAt 18 λ x. x, (Bool.bFld 16 (List._∷_ (Syntax.field 1) List.[]) 8 λ x. Place.struct .as-values x .1 .0, (record { pos = 45; st = List.[]; d = 0; at = λ x. x }, tt))),
-        ) (m93 (before·
-            .before) (After-totals-at2·gave before·))
+        After-with-line·own = Called.Called ps·10 r·10 (claims· .21) T107 (
+          record { pos = 19; st = List.[]; d = 0; at = λ x. x },
+          (Num.vAt 20 λ x. x, (Bool.bFld 18 (List._∷_ (Syntax.field 1) List.[]) 8 λ x. Place.struct .as-values x .1 .0, (record { pos = 43; st = List.[]; d = 0; at = λ x. x }, tt))),
+        ) (m86 (before·
+            .before) (After-totals-at3·gave before·))
 
       pub record After-with-line : Type 0 where
-        pub before : After-totals-at2
+        pub before : After-totals-at3
         pub with-line : After-with-line·own before
 
-      abbrev pub After-with-line·gave : (c : After-with-line) → s116 .gives (m93 (c .before .before) (After-totals-at2·gave (c .before)))
-      After-with-line·gave = λ c. Called.given ps·13 r·13 (claims· .27) T120 (
-        record { pos = 17; st = List.[]; d = 0; at = λ x. x },
-        (Num.vAt 18 λ x. x, (Bool.bFld 16 (List._∷_ (Syntax.field 1) List.[]) 8 λ x. Place.struct .as-values x .1 .0, (record { pos = 45; st = List.[]; d = 0; at = λ x. x }, tt))),
-      ) (m93 (c .before
-          .before) (After-totals-at2·gave (c .before))) (c .with-line)
+      abbrev pub After-with-line·gave : (c : After-with-line) → s103 .gives (m86 (c .before .before) (After-totals-at3·gave (c .before)))
+      After-with-line·gave = λ c. Called.given ps·10 r·10 (claims· .21) T107 (
+        record { pos = 19; st = List.[]; d = 0; at = λ x. x },
+        (Num.vAt 20 λ x. x, (Bool.bFld 18 (List._∷_ (Syntax.field 1) List.[]) 8 λ x. Place.struct .as-values x .1 .0, (record { pos = 43; st = List.[]; d = 0; at = λ x. x }, tt))),
+      ) (m86 (c .before
+          .before) (After-totals-at3·gave (c .before))) (c .with-line)
 
-      abbrev pub m95 : (before : After-totals-at2) → (given : s116 .gives (m93 (before .before) (After-totals-at2·gave before))) → Typed.Mo T122
-      m95 = λ before given. s117 (m94 before given)
+      abbrev pub m88 : (before : After-totals-at3) → (given : s103 .gives (m86 (before .before) (After-totals-at3·gave before))) → Typed.Mo T109
+      m88 = λ before given. s104 (m87 before given)
 
-      abbrev pub m96 : (before : After-with-line) → (given : s119 .gives (m95 (before .before) (After-with-line·gave before))) → Typed.Mo T124
-      m96 = λ before given. s119 .next (m95 (before .before) (After-with-line·gave before)) given
+      abbrev pub m89 : (before : After-with-line) → (given : s106 .gives (m88 (before .before) (After-with-line·gave before))) → Typed.Mo T111
+      m89 = λ before given. s106 .next (m88 (before .before) (After-with-line·gave before)) given
 
-      abbrev pub m97 : (before : After-with-line) → (given : s119 .gives (m95 (before .before) (After-with-line·gave before))) → Typed.Mo T125
-      m97 = λ before given. s120 .next (m96 before given)
+      abbrev pub m90 : (before : After-with-line) → (given : s106 .gives (m88 (before .before) (After-with-line·gave before))) → Typed.Mo T112
+      m90 = λ before given. s107 .next (m89 before given)
 
       module _ (before· : After-with-line) where
         pub record After-emit-line-if-arg·own : Type 0 where
-          pub given : s119 .gives (m95 (before· .before) (After-with-line·gave before·))
+          pub given : s106 .gives (m88 (before· .before) (After-with-line·gave before·))
 
       pub record After-emit-line-if-arg : Type 0 where
         pub before : After-with-line
         pub emit-line-if-arg : After-emit-line-if-arg·own before
 
-      abbrev pub m98 : (before : After-emit-line-if-arg) → (given : s122 .gives (m97 (before .before) (before .emit-line-if-arg .given))) → Typed.Mo T127
-      m98 = λ before given. s122 .next (m97 (before .before) (before .emit-line-if-arg .given)) given
+      abbrev pub m91 : (before : After-emit-line-if-arg) → (given : s109 .gives (m90 (before .before) (before .emit-line-if-arg .given))) → Typed.Mo T114
+      m91 = λ before given. s109 .next (m90 (before .before) (before .emit-line-if-arg .given)) given
 
-      abbrev pub m99 : (before : After-emit-line-if-arg) → (given : s122 .gives (m97 (before .before) (before .emit-line-if-arg .given))) → Typed.Mo T128
-      m99 = λ before given. s123 .next (m98 before given)
+      abbrev pub m92 : (before : After-emit-line-if-arg) → (given : s109 .gives (m90 (before .before) (before .emit-line-if-arg .given))) → Typed.Mo T115
+      m92 = λ before given. s110 .next (m91 before given)
 
-      abbrev pub m100 : (before : After-emit-line-if-arg) → (given : s122 .gives (m97 (before .before) (before .emit-line-if-arg .given))) → Typed.Mo T129
-      m100 = λ before given. s124 .next (m99 before given)
+      abbrev pub m93 : (before : After-emit-line-if-arg) → (given : s109 .gives (m90 (before .before) (before .emit-line-if-arg .given))) → Typed.Mo T116
+      m93 = λ before given. s111 .next (m92 before given)
 
       module _ (before· : After-emit-line-if-arg) where
         pub record After-emit-line-if-arg2·own : Type 0 where
-          pub given : s122 .gives (m97 (before· .before) (before· .emit-line-if-arg .given))
+          pub given : s109 .gives (m90 (before· .before) (before· .emit-line-if-arg .given))
 
       pub record After-emit-line-if-arg2 : Type 0 where
         pub before : After-emit-line-if-arg
         pub emit-line-if-arg2 : After-emit-line-if-arg2·own before
 
       abbrev pub Need-emit-line-if-requires : Type 0
-      Need-emit-line-if-requires = (c : After-emit-line-if-arg2) → s125 .asks (m100 (c .before) (c .emit-line-if-arg2 .given))
+      Need-emit-line-if-requires = (c : After-emit-line-if-arg2) → s112 .asks (m93 (c .before) (c .emit-line-if-arg2 .given))
 
-      abbrev pub m101 : (before : After-emit-line-if-arg2) → (given : s125 .gives (m100 (before .before) (before .emit-line-if-arg2 .given))) → Typed.Mo T130
-      m101 = λ before given. s125 .next (m100 (before .before) (before .emit-line-if-arg2 .given)) given
+      abbrev pub m94 : (before : After-emit-line-if-arg2) → (given : s112 .gives (m93 (before .before) (before .emit-line-if-arg2 .given))) → Typed.Mo T117
+      m94 = λ before given. s112 .next (m93 (before .before) (before .emit-line-if-arg2 .given)) given
 
       module _ (before· : After-emit-line-if-arg2) where
         abbrev pub After-emit-line-if·own : Type 0
-        After-emit-line-if·own = Called.Called ps·14 r·14 (claims· .29) T129 (
-          record { pos = 47; ty = Syntax.tyRef Syntax.erased Syntax.imm (Syntax.tyInt Syntax.w16); ref = λ x. x },
+        After-emit-line-if·own = Called.Called ps·11 r·11 (claims· .23) T116 (
+          record { pos = 45; ty = Syntax.tyRef Syntax.erased Syntax.imm (Syntax.tyInt Syntax.w16); ref = λ x. x },
           (
-            record { pos = 49; ty = Syntax.tyRef Syntax.erased Syntax.mut (Syntax.tyInt Syntax.w16); ref = λ x. x },
+            record { pos = 47; ty = Syntax.tyRef Syntax.erased Syntax.mut (Syntax.tyInt Syntax.w16); ref = λ x. x },
             (
-              Num.vAt 15 λ x. x,
+              Num.vAt 17 λ x. x,
               (
-                Bool.bAt 14 λ x. x,
+                Bool.bAt 16 λ x. x,
                 (
                   record { pos = 7; ty = Syntax.tyRef (Syntax.named 5) Syntax.imm (Syntax.tyArray (Syntax.tyInt Syntax.w16) 768); ref = λ x. x },
-                  (record { pos = 8; st = List.[]; d = 0; at = λ x. x }, (record { pos = 9; st = List.[]; d = 0; at = λ x. x }, (Num.vAt 18 λ x. x, (Bool.bAt 28 λ x. x, tt)))),
+                  (record { pos = 8; st = List.[]; d = 0; at = λ x. x }, (record { pos = 9; st = List.[]; d = 0; at = λ x. x }, (Num.vAt 21 λ x. x, (Bool.bAt 26 λ x. x, tt)))),
                 ),
               ),
             ),
           ),
-        ) (m100 (before· .before)
+        ) (m93 (before· .before)
             (before· .emit-line-if-arg2 .given))
 
       pub record After-emit-line-if : Type 0 where
         pub before : After-emit-line-if-arg2
         pub emit-line-if : After-emit-line-if·own before
 
-      abbrev pub After-emit-line-if·gave : (c : After-emit-line-if) → s125 .gives (m100 (c .before .before) (c .before .emit-line-if-arg2 .given))
-      After-emit-line-if·gave = λ c. Called.given ps·14 r·14 (claims· .29) T129 (
-        record { pos = 47; ty = Syntax.tyRef Syntax.erased Syntax.imm (Syntax.tyInt Syntax.w16); ref = λ x. x },
+      abbrev pub After-emit-line-if·gave : (c : After-emit-line-if) → s112 .gives (m93 (c .before .before) (c .before .emit-line-if-arg2 .given))
+      After-emit-line-if·gave = λ c. Called.given ps·11 r·11 (claims· .23) T116 (
+        record { pos = 45; ty = Syntax.tyRef Syntax.erased Syntax.imm (Syntax.tyInt Syntax.w16); ref = λ x. x },
         (
-          record { pos = 49; ty = Syntax.tyRef Syntax.erased Syntax.mut (Syntax.tyInt Syntax.w16); ref = λ x. x },
+          record { pos = 47; ty = Syntax.tyRef Syntax.erased Syntax.mut (Syntax.tyInt Syntax.w16); ref = λ x. x },
           (
-            Num.vAt 15 λ x. x,
+            Num.vAt 17 λ x. x,
             (
-              Bool.bAt 14 λ x. x,
+              Bool.bAt 16 λ x. x,
               (
                 record { pos = 7; ty = Syntax.tyRef (Syntax.named 5) Syntax.imm (Syntax.tyArray (Syntax.tyInt Syntax.w16) 768); ref = λ x. x },
-                (record { pos = 8; st = List.[]; d = 0; at = λ x. x }, (record { pos = 9; st = List.[]; d = 0; at = λ x. x }, (Num.vAt 18 λ x. x, (Bool.bAt 28 λ x. x, tt)))),
+                (record { pos = 8; st = List.[]; d = 0; at = λ x. x }, (record { pos = 9; st = List.[]; d = 0; at = λ x. x }, (Num.vAt 21 λ x. x, (Bool.bAt 26 λ x. x, tt)))),
               ),
             ),
           ),
         ),
-      ) (m100 (c .before .before) (c
+      ) (m93 (c .before .before) (c
           .before .emit-line-if-arg2 .given)) (c .emit-line-if)
 
-      abbrev pub m102 : (before : After-emit-line-if-arg2) → (given : s125 .gives (m100 (before .before) (before .emit-line-if-arg2 .given))) → Typed.Mo T131
-      m102 = λ before given. s126 (m101 before given)
+      abbrev pub m95 : (before : After-emit-line-if-arg2) → (given : s112 .gives (m93 (before .before) (before .emit-line-if-arg2 .given))) → Typed.Mo T118
+      m95 = λ before given. s113 (m94 before given)
 
-      abbrev pub m103 : (before : After-emit-line-if-arg2) → (given : s125 .gives (m100 (before .before) (before .emit-line-if-arg2 .given))) → Typed.Mo T132
-      m103 = λ before given. s127 (m102 before given)
+      abbrev pub m96 : (before : After-emit-line-if-arg2) → (given : s112 .gives (m93 (before .before) (before .emit-line-if-arg2 .given))) → Typed.Mo T119
+      m96 = λ before given. s114 (m95 before given)
 
-      abbrev pub m104 : (before : After-emit-line-if-arg2) → (given : s125 .gives (m100 (before .before) (before .emit-line-if-arg2 .given))) → Typed.Mo T133
-      m104 = λ before given. s128 (m103 before given)
+      abbrev pub m97 : (before : After-emit-line-if-arg2) → (given : s112 .gives (m93 (before .before) (before .emit-line-if-arg2 .given))) → Typed.Mo T120
+      m97 = λ before given. s115 (m96 before given)
 
-      abbrev pub m105 : (before : After-emit-line-if-arg2) → (given : s125 .gives (m100 (before .before) (before .emit-line-if-arg2 .given))) → Typed.Mo T135
-      m105 = λ before given. s130 (m104 before given)
+      abbrev pub m98 : (before : After-emit-line-if-arg2) → (given : s112 .gives (m93 (before .before) (before .emit-line-if-arg2 .given))) → Typed.Mo T122
+      m98 = λ before given. s117 (m97 before given)
 
-      abbrev pub m106 : (before : After-emit-line-if) → (given : s133 .gives (m105 (before .before) (After-emit-line-if·gave before))) → Typed.Mo T138
-      m106 = λ before given. s133 .next (m105 (before .before) (After-emit-line-if·gave before)) given
+      abbrev pub m99 : (before : After-emit-line-if) → (given : s120 .gives (m98 (before .before) (After-emit-line-if·gave before))) → Typed.Mo T125
+      m99 = λ before given. s120 .next (m98 (before .before) (After-emit-line-if·gave before)) given
 
       module _ (before· : After-emit-line-if) where
         pub record After-image3·own : Type 0 where
-          pub given : s133 .gives (m105 (before· .before) (After-emit-line-if·gave before·))
+          pub given : s120 .gives (m98 (before· .before) (After-emit-line-if·gave before·))
 
       pub record After-image3 : Type 0 where
         pub before : After-emit-line-if
         pub image3 : After-image3·own before
 
-      abbrev pub m107 : (before : After-image3) → (given : s134 .gives (m106 (before .before) (before .image3 .given))) → Typed.Mo T139
-      m107 = λ before given. s134 .next (m106 (before .before) (before .image3 .given)) given
+      abbrev pub m100 : (before : After-image3) → (given : s121 .gives (m99 (before .before) (before .image3 .given))) → Typed.Mo T126
+      m100 = λ before given. s121 .next (m99 (before .before) (before .image3 .given)) given
 
       module _ (before· : After-image3) where
-        pub record After-slice-known8·own : Type 0 where
-          pub given : s134 .gives (m106 (before· .before) (before· .image3 .given))
+        pub record After-slice-known7·own : Type 0 where
+          pub given : s121 .gives (m99 (before· .before) (before· .image3 .given))
 
-      pub record After-slice-known8 : Type 0 where
+      pub record After-slice-known7 : Type 0 where
         pub before : After-image3
-        pub slice-known8 : After-slice-known8·own before
+        pub slice-known7 : After-slice-known7·own before
 
-      abbrev pub Need-add-n : Type 0
-      Need-add-n = (c : After-slice-known8) → s136 .asks (m107 (c .before) (c .slice-known8 .given))
+      abbrev pub Need-add-i : Type 0
+      Need-add-i = (c : After-slice-known7) → s123 .asks (m100 (c .before) (c .slice-known7 .given))
 
-      abbrev pub m108 : (before : After-image3) → (given : s134 .gives (m106 (before .before) (before .image3 .given))) → Typed.Mo T141
-      m108 = λ before given. s136 .next (m107 before given)
+      abbrev pub m101 : (before : After-image3) → (given : s121 .gives (m99 (before .before) (before .image3 .given))) → Typed.Mo T128
+      m101 = λ before given. s123 .next (m100 before given)
 
-      abbrev pub m109 : (before : After-image3) → (given : s134 .gives (m106 (before .before) (before .image3 .given))) → Typed.Mo T142
-      m109 = λ before given. s137 (m108 before given)
+      abbrev pub m102 : (before : After-image3) → (given : s121 .gives (m99 (before .before) (before .image3 .given))) → Typed.Mo T129
+      m102 = λ before given. s124 (m101 before given)
+
+      abbrev pub m103 : (before : After-image3) → (given : s121 .gives (m99 (before .before) (before .image3 .given))) → Typed.Mo T130
+      m103 = λ before given. s125 (m102 before given)
 
       abbrev pub Need-loop-less : Type 0
-      Need-loop-less = (c : After-slice-known8) → Nat._<_ (μ·0 (Row.get 1 (T30 .locals) (m23 (c .before .before .before .before .before .before .before .before .before .before .before .before .before
+      Need-loop-less = (c : After-slice-known7) → Nat._<_ (μ·0 (Row.get 1 (T14 .locals) (m13 (c .before .before .before .before .before .before .before .before .before .before .before .before .before
           .before .before .before .before .before .before .before .before .before .before .before .before .before .before .before .before .before .before .before) (After-no-lines·gave (c .before .before
           .before .before .before .before .before .before .before .before .before .before .before .before .before .before .before .before .before .before .before .before .before .before .before .before
-          .before .before .before .before .before))) .now) (Row.get 2 (T30 .locals) (m23 (c .before .before .before .before .before .before .before .before .before .before .before .before .before .before
+          .before .before .before .before .before))) .now) (Row.get 2 (T14 .locals) (m13 (c .before .before .before .before .before .before .before .before .before .before .before .before .before .before
           .before .before .before .before .before .before .before .before .before .before .before .before .before .before .before .before .before .before) (After-no-lines·gave (c .before .before .before
           .before .before .before .before .before .before .before .before .before .before .before .before .before .before .before .before .before .before .before .before .before .before .before .before
-          .before .before .before .before))) .now) (Row.get 3 (T30 .locals) (m23 (c .before .before .before .before .before .before .before .before .before .before .before .before .before .before .before
+          .before .before .before .before))) .now) (Row.get 3 (T14 .locals) (m13 (c .before .before .before .before .before .before .before .before .before .before .before .before .before .before .before
           .before .before .before .before .before .before .before .before .before .before .before .before .before .before .before .before .before) (After-no-lines·gave (c .before .before .before .before
           .before .before .before .before .before .before .before .before .before .before .before .before .before .before .before .before .before .before .before .before .before .before .before .before
-          .before .before .before))) .now) (Row.get 4 (T30 .locals) (m23 (c .before .before .before .before .before .before .before .before .before .before .before .before .before .before .before .before
+          .before .before .before))) .now) (Row.get 4 (T14 .locals) (m13 (c .before .before .before .before .before .before .before .before .before .before .before .before .before .before .before .before
           .before .before .before .before .before .before .before .before .before .before .before .before .before .before .before .before) (After-no-lines·gave (c .before .before .before .before .before
           .before .before .before .before .before .before .before .before .before .before .before .before .before .before .before .before .before .before .before .before .before .before .before .before
-          .before .before))) .now) (Row.get 5 (T30 .locals) (m23 (c .before .before .before .before .before .before .before .before .before .before .before .before .before .before .before .before .before
+          .before .before))) .now) (Row.get 5 (T14 .locals) (m13 (c .before .before .before .before .before .before .before .before .before .before .before .before .before .before .before .before .before
           .before .before .before .before .before .before .before .before .before .before .before .before .before .before .before) (After-no-lines·gave (c .before .before .before .before .before .before
           .before .before .before .before .before .before .before .before .before .before .before .before .before .before .before .before .before .before .before .before .before .before .before .before
-          .before))) .now) (Row.get 6 (T30 .locals) (m23 (c .before .before .before .before .before .before .before .before .before .before .before .before .before .before .before .before .before .before
+          .before))) .now) (Row.get 6 (T14 .locals) (m13 (c .before .before .before .before .before .before .before .before .before .before .before .before .before .before .before .before .before .before
           .before .before .before .before .before .before .before .before .before .before .before .before .before .before) (After-no-lines·gave (c .before .before .before .before .before .before .before
           .before .before .before .before .before .before .before .before .before .before .before .before .before .before .before .before .before .before .before .before .before .before .before
-          .before)))) (Row.get 7 (T30 .locals) (m23 (c .before .before .before .before .before .before .before .before .before .before .before .before .before .before .before .before .before .before
+          .before)))) (Row.get 7 (T14 .locals) (m13 (c .before .before .before .before .before .before .before .before .before .before .before .before .before .before .before .before .before .before
           .before .before .before .before .before .before .before .before .before .before .before .before .before .before) (After-no-lines·gave (c .before .before .before .before .before .before .before
           .before .before .before .before .before .before .before .before .before .before .before .before .before .before .before .before .before .before .before .before .before .before .before .before)))
-          .now) (Row.get 8 (T30 .locals) (m23 (c .before .before .before .before .before .before .before .before .before .before .before .before .before .before .before .before .before .before .before
+          .now) (Row.get 8 (T14 .locals) (m13 (c .before .before .before .before .before .before .before .before .before .before .before .before .before .before .before .before .before .before .before
           .before .before .before .before .before .before .before .before .before .before .before .before .before) (After-no-lines·gave (c .before .before .before .before .before .before .before .before
           .before .before .before .before .before .before .before .before .before .before .before .before .before .before .before .before .before .before .before .before .before .before .before))))
-          (Row.get 9 (T30 .locals) (m23 (c .before .before .before .before .before .before .before .before .before .before .before .before .before .before .before .before .before .before .before .before
+          (Row.get 9 (T14 .locals) (m13 (c .before .before .before .before .before .before .before .before .before .before .before .before .before .before .before .before .before .before .before .before
           .before .before .before .before .before .before .before .before .before .before .before .before) (After-no-lines·gave (c .before .before .before .before .before .before .before .before .before
           .before .before .before .before .before .before .before .before .before .before .before .before .before .before .before .before .before .before .before .before .before .before)))) (Row.get 10
-          (T30 .locals) (m23 (c .before .before .before .before .before .before .before .before .before .before .before .before .before .before .before .before .before .before .before .before .before
+          (T14 .locals) (m13 (c .before .before .before .before .before .before .before .before .before .before .before .before .before .before .before .before .before .before .before .before .before
           .before .before .before .before .before .before .before .before .before .before .before) (After-no-lines·gave (c .before .before .before .before .before .before .before .before .before .before
-          .before .before .before .before .before .before .before .before .before .before .before .before .before .before .before .before .before .before .before .before .before)))) (Row.get 11 (T30
-          .locals) (m23 (c .before .before .before .before .before .before .before .before .before .before .before .before .before .before .before .before .before .before .before .before .before .before
+          .before .before .before .before .before .before .before .before .before .before .before .before .before .before .before .before .before .before .before .before .before)))) (Row.get 12 (T14
+          .locals) (m13 (c .before .before .before .before .before .before .before .before .before .before .before .before .before .before .before .before .before .before .before .before .before .before
           .before .before .before .before .before .before .before .before .before .before) (After-no-lines·gave (c .before .before .before .before .before .before .before .before .before .before .before
-          .before .before .before .before .before .before .before .before .before .before .before .before .before .before .before .before .before .before .before .before)))) (Row.get 12 (T30 .locals) (m23
+          .before .before .before .before .before .before .before .before .before .before .before .before .before .before .before .before .before .before .before .before)))) (Row.get 13 (T14 .locals) (m13
           (c .before .before .before .before .before .before .before .before .before .before .before .before .before .before .before .before .before .before .before .before .before .before .before .before
           .before .before .before .before .before .before .before .before) (After-no-lines·gave (c .before .before .before .before .before .before .before .before .before .before .before .before .before
-          .before .before .before .before .before .before .before .before .before .before .before .before .before .before .before .before .before .before)))) (Row.get 13 (T30 .locals) (m23 (c .before
+          .before .before .before .before .before .before .before .before .before .before .before .before .before .before .before .before .before .before)))) (Row.get 14 (T14 .locals) (m13 (c .before
           .before .before .before .before .before .before .before .before .before .before .before .before .before .before .before .before .before .before .before .before .before .before .before .before
           .before .before .before .before .before .before .before) (After-no-lines·gave (c .before .before .before .before .before .before .before .before .before .before .before .before .before .before
-          .before .before .before .before .before .before .before .before .before .before .before .before .before .before .before .before .before)))) (Row.get 14 (T30 .locals) (m23 (c .before .before
+          .before .before .before .before .before .before .before .before .before .before .before .before .before .before .before .before .before)))) (Row.get 15 (T14 .locals) (m13 (c .before .before
           .before .before .before .before .before .before .before .before .before .before .before .before .before .before .before .before .before .before .before .before .before .before .before .before
           .before .before .before .before .before .before) (After-no-lines·gave (c .before .before .before .before .before .before .before .before .before .before .before .before .before .before .before
-          .before .before .before .before .before .before .before .before .before .before .before .before .before .before .before .before)))) (Row.get 15 (T30 .locals) (m23 (c .before .before .before
+          .before .before .before .before .before .before .before .before .before .before .before .before .before .before .before .before)))) (Row.get 16 (T14 .locals) (m13 (c .before .before .before
           .before .before .before .before .before .before .before .before .before .before .before .before .before .before .before .before .before .before .before .before .before .before .before .before
           .before .before .before .before .before) (After-no-lines·gave (c .before .before .before .before .before .before .before .before .before .before .before .before .before .before .before .before
-          .before .before .before .before .before .before .before .before .before .before .before .before .before .before .before)))) (Row.get 16 (T30 .locals) (m23 (c .before .before .before .before
+          .before .before .before .before .before .before .before .before .before .before .before .before .before .before .before)))) (Row.get 17 (T14 .locals) (m13 (c .before .before .before .before
           .before .before .before .before .before .before .before .before .before .before .before .before .before .before .before .before .before .before .before .before .before .before .before .before
           .before .before .before .before) (After-no-lines·gave (c .before .before .before .before .before .before .before .before .before .before .before .before .before .before .before .before .before
-          .before .before .before .before .before .before .before .before .before .before .before .before .before .before)))) (Row.get 17 (T30 .locals) (m23 (c .before .before .before .before .before
+          .before .before .before .before .before .before .before .before .before .before .before .before .before .before)))) (Row.get 18 (T14 .locals) (m13 (c .before .before .before .before .before
           .before .before .before .before .before .before .before .before .before .before .before .before .before .before .before .before .before .before .before .before .before .before .before .before
           .before .before .before) (After-no-lines·gave (c .before .before .before .before .before .before .before .before .before .before .before .before .before .before .before .before .before .before
-          .before .before .before .before .before .before .before .before .before .before .before .before .before)))) (Row.get 18 (T30 .locals) (m23 (c .before .before .before .before .before .before
+          .before .before .before .before .before .before .before .before .before .before .before .before .before)))) (Row.get 19 (T14 .locals) (m13 (c .before .before .before .before .before .before
           .before .before .before .before .before .before .before .before .before .before .before .before .before .before .before .before .before .before .before .before .before .before .before .before
           .before .before) (After-no-lines·gave (c .before .before .before .before .before .before .before .before .before .before .before .before .before .before .before .before .before .before .before
-          .before .before .before .before .before .before .before .before .before .before .before .before)))) (Row.get 3 (T30 .locals) (m109 (c .before) (c .slice-known8 .given)) .now) (Row.get 4 (T30
-          .locals) (m109 (c .before) (c .slice-known8 .given)) .now) (Row.get 5 (T30 .locals) (m109 (c .before) (c .slice-known8 .given)) .now) (Row.get 16 (T30 .locals) (m109 (c .before) (c .slice-known8
-          .given))) (Row.get 17 (T30 .locals) (m109 (c .before) (c .slice-known8 .given))) (Row.get 18 (T30 .locals) (m109 (c .before) (c .slice-known8 .given)))) (μ·0 (Row.get 1 (T30 .locals) (m23 (c
-          .before .before .before .before .before .before .before .before .before .before .before .before .before .before .before .before .before .before .before .before .before .before .before .before
-          .before .before .before .before .before .before .before .before) (After-no-lines·gave (c .before .before .before .before .before .before .before .before .before .before .before .before .before
-          .before .before .before .before .before .before .before .before .before .before .before .before .before .before .before .before .before .before))) .now) (Row.get 2 (T30 .locals) (m23 (c .before
-          .before .before .before .before .before .before .before .before .before .before .before .before .before .before .before .before .before .before .before .before .before .before .before .before
-          .before .before .before .before .before .before .before) (After-no-lines·gave (c .before .before .before .before .before .before .before .before .before .before .before .before .before .before
-          .before .before .before .before .before .before .before .before .before .before .before .before .before .before .before .before .before))) .now) (Row.get 3 (T30 .locals) (m23 (c .before .before
-          .before .before .before .before .before .before .before .before .before .before .before .before .before .before .before .before .before .before .before .before .before .before .before .before
-          .before .before .before .before .before .before) (After-no-lines·gave (c .before .before .before .before .before .before .before .before .before .before .before .before .before .before .before
-          .before .before .before .before .before .before .before .before .before .before .before .before .before .before .before .before))) .now) (Row.get 4 (T30 .locals) (m23 (c .before .before .before
-          .before .before .before .before .before .before .before .before .before .before .before .before .before .before .before .before .before .before .before .before .before .before .before .before
-          .before .before .before .before .before) (After-no-lines·gave (c .before .before .before .before .before .before .before .before .before .before .before .before .before .before .before .before
-          .before .before .before .before .before .before .before .before .before .before .before .before .before .before .before))) .now) (Row.get 5 (T30 .locals) (m23 (c .before .before .before .before
-          .before .before .before .before .before .before .before .before .before .before .before .before .before .before .before .before .before .before .before .before .before .before .before .before
-          .before .before .before .before) (After-no-lines·gave (c .before .before .before .before .before .before .before .before .before .before .before .before .before .before .before .before .before
-          .before .before .before .before .before .before .before .before .before .before .before .before .before .before))) .now) (Row.get 6 (T30 .locals) (m23 (c .before .before .before .before .before
-          .before .before .before .before .before .before .before .before .before .before .before .before .before .before .before .before .before .before .before .before .before .before .before .before
-          .before .before .before) (After-no-lines·gave (c .before .before .before .before .before .before .before .before .before .before .before .before .before .before .before .before .before .before
-          .before .before .before .before .before .before .before .before .before .before .before .before .before)))) (Row.get 7 (T30 .locals) (m23 (c .before .before .before .before .before .before
-          .before .before .before .before .before .before .before .before .before .before .before .before .before .before .before .before .before .before .before .before .before .before .before .before
-          .before .before) (After-no-lines·gave (c .before .before .before .before .before .before .before .before .before .before .before .before .before .before .before .before .before .before .before
-          .before .before .before .before .before .before .before .before .before .before .before .before))) .now) (Row.get 8 (T30 .locals) (m23 (c .before .before .before .before .before .before .before
+          .before .before .before .before .before .before .before .before .before .before .before .before)))) (Row.get 20 (T14 .locals) (m13 (c .before .before .before .before .before .before .before
           .before .before .before .before .before .before .before .before .before .before .before .before .before .before .before .before .before .before .before .before .before .before .before .before
           .before) (After-no-lines·gave (c .before .before .before .before .before .before .before .before .before .before .before .before .before .before .before .before .before .before .before .before
-          .before .before .before .before .before .before .before .before .before .before .before)))) (Row.get 9 (T30 .locals) (m23 (c .before .before .before .before .before .before .before .before
+          .before .before .before .before .before .before .before .before .before .before .before)))) (Row.get 3 (T14 .locals) (m103 (c .before) (c .slice-known7 .given)) .now) (Row.get 4 (T14 .locals)
+          (m103 (c .before) (c .slice-known7 .given)) .now) (Row.get 5 (T14 .locals) (m103 (c .before) (c .slice-known7 .given)) .now) (Row.get 18 (T14 .locals) (m103 (c .before) (c .slice-known7
+          .given))) (Row.get 19 (T14 .locals) (m103 (c .before) (c .slice-known7 .given))) (Row.get 20 (T14 .locals) (m103 (c .before) (c .slice-known7 .given)))) (μ·0 (Row.get 1 (T14 .locals) (m13 (c
+          .before .before .before .before .before .before .before .before .before .before .before .before .before .before .before .before .before .before .before .before .before .before .before .before
+          .before .before .before .before .before .before .before .before) (After-no-lines·gave (c .before .before .before .before .before .before .before .before .before .before .before .before .before
+          .before .before .before .before .before .before .before .before .before .before .before .before .before .before .before .before .before .before))) .now) (Row.get 2 (T14 .locals) (m13 (c .before
+          .before .before .before .before .before .before .before .before .before .before .before .before .before .before .before .before .before .before .before .before .before .before .before .before
+          .before .before .before .before .before .before .before) (After-no-lines·gave (c .before .before .before .before .before .before .before .before .before .before .before .before .before .before
+          .before .before .before .before .before .before .before .before .before .before .before .before .before .before .before .before .before))) .now) (Row.get 3 (T14 .locals) (m13 (c .before .before
+          .before .before .before .before .before .before .before .before .before .before .before .before .before .before .before .before .before .before .before .before .before .before .before .before
+          .before .before .before .before .before .before) (After-no-lines·gave (c .before .before .before .before .before .before .before .before .before .before .before .before .before .before .before
+          .before .before .before .before .before .before .before .before .before .before .before .before .before .before .before .before))) .now) (Row.get 4 (T14 .locals) (m13 (c .before .before .before
+          .before .before .before .before .before .before .before .before .before .before .before .before .before .before .before .before .before .before .before .before .before .before .before .before
+          .before .before .before .before .before) (After-no-lines·gave (c .before .before .before .before .before .before .before .before .before .before .before .before .before .before .before .before
+          .before .before .before .before .before .before .before .before .before .before .before .before .before .before .before))) .now) (Row.get 5 (T14 .locals) (m13 (c .before .before .before .before
+          .before .before .before .before .before .before .before .before .before .before .before .before .before .before .before .before .before .before .before .before .before .before .before .before
+          .before .before .before .before) (After-no-lines·gave (c .before .before .before .before .before .before .before .before .before .before .before .before .before .before .before .before .before
+          .before .before .before .before .before .before .before .before .before .before .before .before .before .before))) .now) (Row.get 6 (T14 .locals) (m13 (c .before .before .before .before .before
+          .before .before .before .before .before .before .before .before .before .before .before .before .before .before .before .before .before .before .before .before .before .before .before .before
+          .before .before .before) (After-no-lines·gave (c .before .before .before .before .before .before .before .before .before .before .before .before .before .before .before .before .before .before
+          .before .before .before .before .before .before .before .before .before .before .before .before .before)))) (Row.get 7 (T14 .locals) (m13 (c .before .before .before .before .before .before
+          .before .before .before .before .before .before .before .before .before .before .before .before .before .before .before .before .before .before .before .before .before .before .before .before
+          .before .before) (After-no-lines·gave (c .before .before .before .before .before .before .before .before .before .before .before .before .before .before .before .before .before .before .before
+          .before .before .before .before .before .before .before .before .before .before .before .before))) .now) (Row.get 8 (T14 .locals) (m13 (c .before .before .before .before .before .before .before
+          .before .before .before .before .before .before .before .before .before .before .before .before .before .before .before .before .before .before .before .before .before .before .before .before
+          .before) (After-no-lines·gave (c .before .before .before .before .before .before .before .before .before .before .before .before .before .before .before .before .before .before .before .before
+          .before .before .before .before .before .before .before .before .before .before .before)))) (Row.get 9 (T14 .locals) (m13 (c .before .before .before .before .before .before .before .before
           .before .before .before .before .before .before .before .before .before .before .before .before .before .before .before .before .before .before .before .before .before .before .before .before)
           (After-no-lines·gave (c .before .before .before .before .before .before .before .before .before .before .before .before .before .before .before .before .before .before .before .before .before
-          .before .before .before .before .before .before .before .before .before .before)))) (Row.get 10 (T30 .locals) (m23 (c .before .before .before .before .before .before .before .before .before
+          .before .before .before .before .before .before .before .before .before .before)))) (Row.get 10 (T14 .locals) (m13 (c .before .before .before .before .before .before .before .before .before
           .before .before .before .before .before .before .before .before .before .before .before .before .before .before .before .before .before .before .before .before .before .before .before)
           (After-no-lines·gave (c .before .before .before .before .before .before .before .before .before .before .before .before .before .before .before .before .before .before .before .before .before
-          .before .before .before .before .before .before .before .before .before .before)))) (Row.get 11 (T30 .locals) (m23 (c .before .before .before .before .before .before .before .before .before
+          .before .before .before .before .before .before .before .before .before .before)))) (Row.get 12 (T14 .locals) (m13 (c .before .before .before .before .before .before .before .before .before
           .before .before .before .before .before .before .before .before .before .before .before .before .before .before .before .before .before .before .before .before .before .before .before)
           (After-no-lines·gave (c .before .before .before .before .before .before .before .before .before .before .before .before .before .before .before .before .before .before .before .before .before
-          .before .before .before .before .before .before .before .before .before .before)))) (Row.get 12 (T30 .locals) (m23 (c .before .before .before .before .before .before .before .before .before
+          .before .before .before .before .before .before .before .before .before .before)))) (Row.get 13 (T14 .locals) (m13 (c .before .before .before .before .before .before .before .before .before
           .before .before .before .before .before .before .before .before .before .before .before .before .before .before .before .before .before .before .before .before .before .before .before)
           (After-no-lines·gave (c .before .before .before .before .before .before .before .before .before .before .before .before .before .before .before .before .before .before .before .before .before
-          .before .before .before .before .before .before .before .before .before .before)))) (Row.get 13 (T30 .locals) (m23 (c .before .before .before .before .before .before .before .before .before
+          .before .before .before .before .before .before .before .before .before .before)))) (Row.get 14 (T14 .locals) (m13 (c .before .before .before .before .before .before .before .before .before
           .before .before .before .before .before .before .before .before .before .before .before .before .before .before .before .before .before .before .before .before .before .before .before)
           (After-no-lines·gave (c .before .before .before .before .before .before .before .before .before .before .before .before .before .before .before .before .before .before .before .before .before
-          .before .before .before .before .before .before .before .before .before .before)))) (Row.get 14 (T30 .locals) (m23 (c .before .before .before .before .before .before .before .before .before
+          .before .before .before .before .before .before .before .before .before .before)))) (Row.get 15 (T14 .locals) (m13 (c .before .before .before .before .before .before .before .before .before
           .before .before .before .before .before .before .before .before .before .before .before .before .before .before .before .before .before .before .before .before .before .before .before)
           (After-no-lines·gave (c .before .before .before .before .before .before .before .before .before .before .before .before .before .before .before .before .before .before .before .before .before
-          .before .before .before .before .before .before .before .before .before .before)))) (Row.get 15 (T30 .locals) (m23 (c .before .before .before .before .before .before .before .before .before
+          .before .before .before .before .before .before .before .before .before .before)))) (Row.get 16 (T14 .locals) (m13 (c .before .before .before .before .before .before .before .before .before
           .before .before .before .before .before .before .before .before .before .before .before .before .before .before .before .before .before .before .before .before .before .before .before)
           (After-no-lines·gave (c .before .before .before .before .before .before .before .before .before .before .before .before .before .before .before .before .before .before .before .before .before
-          .before .before .before .before .before .before .before .before .before .before)))) (Row.get 16 (T30 .locals) (m23 (c .before .before .before .before .before .before .before .before .before
+          .before .before .before .before .before .before .before .before .before .before)))) (Row.get 17 (T14 .locals) (m13 (c .before .before .before .before .before .before .before .before .before
           .before .before .before .before .before .before .before .before .before .before .before .before .before .before .before .before .before .before .before .before .before .before .before)
           (After-no-lines·gave (c .before .before .before .before .before .before .before .before .before .before .before .before .before .before .before .before .before .before .before .before .before
-          .before .before .before .before .before .before .before .before .before .before)))) (Row.get 17 (T30 .locals) (m23 (c .before .before .before .before .before .before .before .before .before
+          .before .before .before .before .before .before .before .before .before .before)))) (Row.get 18 (T14 .locals) (m13 (c .before .before .before .before .before .before .before .before .before
           .before .before .before .before .before .before .before .before .before .before .before .before .before .before .before .before .before .before .before .before .before .before .before)
           (After-no-lines·gave (c .before .before .before .before .before .before .before .before .before .before .before .before .before .before .before .before .before .before .before .before .before
-          .before .before .before .before .before .before .before .before .before .before)))) (Row.get 18 (T30 .locals) (m23 (c .before .before .before .before .before .before .before .before .before
+          .before .before .before .before .before .before .before .before .before .before)))) (Row.get 19 (T14 .locals) (m13 (c .before .before .before .before .before .before .before .before .before
+          .before .before .before .before .before .before .before .before .before .before .before .before .before .before .before .before .before .before .before .before .before .before .before)
+          (After-no-lines·gave (c .before .before .before .before .before .before .before .before .before .before .before .before .before .before .before .before .before .before .before .before .before
+          .before .before .before .before .before .before .before .before .before .before)))) (Row.get 20 (T14 .locals) (m13 (c .before .before .before .before .before .before .before .before .before
           .before .before .before .before .before .before .before .before .before .before .before .before .before .before .before .before .before .before .before .before .before .before .before)
           (After-no-lines·gave (c .before .before .before .before .before .before .before .before .before .before .before .before .before .before .before .before .before .before .before .before .before
           .before .before .before .before .before .before .before .before .before .before)))) (c .before .before .before .before .before .before .before .before .before .before .before .before .before
@@ -7528,192 +6858,186 @@ module _ (claims· : Claims) where
           .before .before .before .before .before .before .before .before .before .before .before .before .before .before .before .before .before .loop .place) (c .before .before .before .before .before
           .before .before .before .before .before .before .before .before .before .before .before .before .before .before .before .before .before .before .before .before .before .before .before .before
           .before .loop .tight-lines) (c .before .before .before .before .before .before .before .before .before .before .before .before .before .before .before .before .before .before .before .before
-          .before .before .before .before .before .before .before .before .before .before .loop .n))
+          .before .before .before .before .before .before .before .before .before .before .loop .i))
 
       abbrev pub Need-loop-again : Type 0
-      Need-loop-again = (c : After-slice-known8) → Inv·0 (Row.get 1 (T30 .locals) (m23 (c .before .before .before .before .before .before .before .before .before .before .before .before .before
+      Need-loop-again = (c : After-slice-known7) → Inv·0 (Row.get 1 (T14 .locals) (m13 (c .before .before .before .before .before .before .before .before .before .before .before .before .before
           .before .before .before .before .before .before .before .before .before .before .before .before .before .before .before .before .before .before .before) (After-no-lines·gave (c .before .before
           .before .before .before .before .before .before .before .before .before .before .before .before .before .before .before .before .before .before .before .before .before .before .before .before
-          .before .before .before .before .before))) .now) (Row.get 2 (T30 .locals) (m23 (c .before .before .before .before .before .before .before .before .before .before .before .before .before .before
+          .before .before .before .before .before))) .now) (Row.get 2 (T14 .locals) (m13 (c .before .before .before .before .before .before .before .before .before .before .before .before .before .before
           .before .before .before .before .before .before .before .before .before .before .before .before .before .before .before .before .before .before) (After-no-lines·gave (c .before .before .before
           .before .before .before .before .before .before .before .before .before .before .before .before .before .before .before .before .before .before .before .before .before .before .before .before
-          .before .before .before .before))) .now) (Row.get 3 (T30 .locals) (m23 (c .before .before .before .before .before .before .before .before .before .before .before .before .before .before .before
+          .before .before .before .before))) .now) (Row.get 3 (T14 .locals) (m13 (c .before .before .before .before .before .before .before .before .before .before .before .before .before .before .before
           .before .before .before .before .before .before .before .before .before .before .before .before .before .before .before .before .before) (After-no-lines·gave (c .before .before .before .before
           .before .before .before .before .before .before .before .before .before .before .before .before .before .before .before .before .before .before .before .before .before .before .before .before
-          .before .before .before))) .now) (Row.get 4 (T30 .locals) (m23 (c .before .before .before .before .before .before .before .before .before .before .before .before .before .before .before .before
+          .before .before .before))) .now) (Row.get 4 (T14 .locals) (m13 (c .before .before .before .before .before .before .before .before .before .before .before .before .before .before .before .before
           .before .before .before .before .before .before .before .before .before .before .before .before .before .before .before .before) (After-no-lines·gave (c .before .before .before .before .before
           .before .before .before .before .before .before .before .before .before .before .before .before .before .before .before .before .before .before .before .before .before .before .before .before
-          .before .before))) .now) (Row.get 5 (T30 .locals) (m23 (c .before .before .before .before .before .before .before .before .before .before .before .before .before .before .before .before .before
+          .before .before))) .now) (Row.get 5 (T14 .locals) (m13 (c .before .before .before .before .before .before .before .before .before .before .before .before .before .before .before .before .before
           .before .before .before .before .before .before .before .before .before .before .before .before .before .before .before) (After-no-lines·gave (c .before .before .before .before .before .before
           .before .before .before .before .before .before .before .before .before .before .before .before .before .before .before .before .before .before .before .before .before .before .before .before
-          .before))) .now) (Row.get 6 (T30 .locals) (m23 (c .before .before .before .before .before .before .before .before .before .before .before .before .before .before .before .before .before .before
+          .before))) .now) (Row.get 6 (T14 .locals) (m13 (c .before .before .before .before .before .before .before .before .before .before .before .before .before .before .before .before .before .before
           .before .before .before .before .before .before .before .before .before .before .before .before .before .before) (After-no-lines·gave (c .before .before .before .before .before .before .before
           .before .before .before .before .before .before .before .before .before .before .before .before .before .before .before .before .before .before .before .before .before .before .before
-          .before)))) (Row.get 7 (T30 .locals) (m23 (c .before .before .before .before .before .before .before .before .before .before .before .before .before .before .before .before .before .before
+          .before)))) (Row.get 7 (T14 .locals) (m13 (c .before .before .before .before .before .before .before .before .before .before .before .before .before .before .before .before .before .before
           .before .before .before .before .before .before .before .before .before .before .before .before .before .before) (After-no-lines·gave (c .before .before .before .before .before .before .before
           .before .before .before .before .before .before .before .before .before .before .before .before .before .before .before .before .before .before .before .before .before .before .before .before)))
-          .now) (Row.get 8 (T30 .locals) (m23 (c .before .before .before .before .before .before .before .before .before .before .before .before .before .before .before .before .before .before .before
+          .now) (Row.get 8 (T14 .locals) (m13 (c .before .before .before .before .before .before .before .before .before .before .before .before .before .before .before .before .before .before .before
           .before .before .before .before .before .before .before .before .before .before .before .before .before) (After-no-lines·gave (c .before .before .before .before .before .before .before .before
           .before .before .before .before .before .before .before .before .before .before .before .before .before .before .before .before .before .before .before .before .before .before .before))))
-          (Row.get 9 (T30 .locals) (m23 (c .before .before .before .before .before .before .before .before .before .before .before .before .before .before .before .before .before .before .before .before
+          (Row.get 9 (T14 .locals) (m13 (c .before .before .before .before .before .before .before .before .before .before .before .before .before .before .before .before .before .before .before .before
           .before .before .before .before .before .before .before .before .before .before .before .before) (After-no-lines·gave (c .before .before .before .before .before .before .before .before .before
           .before .before .before .before .before .before .before .before .before .before .before .before .before .before .before .before .before .before .before .before .before .before)))) (Row.get 10
-          (T30 .locals) (m23 (c .before .before .before .before .before .before .before .before .before .before .before .before .before .before .before .before .before .before .before .before .before
+          (T14 .locals) (m13 (c .before .before .before .before .before .before .before .before .before .before .before .before .before .before .before .before .before .before .before .before .before
           .before .before .before .before .before .before .before .before .before .before .before) (After-no-lines·gave (c .before .before .before .before .before .before .before .before .before .before
-          .before .before .before .before .before .before .before .before .before .before .before .before .before .before .before .before .before .before .before .before .before)))) (Row.get 11 (T30
-          .locals) (m23 (c .before .before .before .before .before .before .before .before .before .before .before .before .before .before .before .before .before .before .before .before .before .before
+          .before .before .before .before .before .before .before .before .before .before .before .before .before .before .before .before .before .before .before .before .before)))) (Row.get 12 (T14
+          .locals) (m13 (c .before .before .before .before .before .before .before .before .before .before .before .before .before .before .before .before .before .before .before .before .before .before
           .before .before .before .before .before .before .before .before .before .before) (After-no-lines·gave (c .before .before .before .before .before .before .before .before .before .before .before
-          .before .before .before .before .before .before .before .before .before .before .before .before .before .before .before .before .before .before .before .before)))) (Row.get 12 (T30 .locals) (m23
+          .before .before .before .before .before .before .before .before .before .before .before .before .before .before .before .before .before .before .before .before)))) (Row.get 13 (T14 .locals) (m13
           (c .before .before .before .before .before .before .before .before .before .before .before .before .before .before .before .before .before .before .before .before .before .before .before .before
           .before .before .before .before .before .before .before .before) (After-no-lines·gave (c .before .before .before .before .before .before .before .before .before .before .before .before .before
-          .before .before .before .before .before .before .before .before .before .before .before .before .before .before .before .before .before .before)))) (Row.get 13 (T30 .locals) (m23 (c .before
+          .before .before .before .before .before .before .before .before .before .before .before .before .before .before .before .before .before .before)))) (Row.get 14 (T14 .locals) (m13 (c .before
           .before .before .before .before .before .before .before .before .before .before .before .before .before .before .before .before .before .before .before .before .before .before .before .before
           .before .before .before .before .before .before .before) (After-no-lines·gave (c .before .before .before .before .before .before .before .before .before .before .before .before .before .before
-          .before .before .before .before .before .before .before .before .before .before .before .before .before .before .before .before .before)))) (Row.get 14 (T30 .locals) (m23 (c .before .before
+          .before .before .before .before .before .before .before .before .before .before .before .before .before .before .before .before .before)))) (Row.get 15 (T14 .locals) (m13 (c .before .before
           .before .before .before .before .before .before .before .before .before .before .before .before .before .before .before .before .before .before .before .before .before .before .before .before
           .before .before .before .before .before .before) (After-no-lines·gave (c .before .before .before .before .before .before .before .before .before .before .before .before .before .before .before
-          .before .before .before .before .before .before .before .before .before .before .before .before .before .before .before .before)))) (Row.get 15 (T30 .locals) (m23 (c .before .before .before
+          .before .before .before .before .before .before .before .before .before .before .before .before .before .before .before .before)))) (Row.get 16 (T14 .locals) (m13 (c .before .before .before
           .before .before .before .before .before .before .before .before .before .before .before .before .before .before .before .before .before .before .before .before .before .before .before .before
           .before .before .before .before .before) (After-no-lines·gave (c .before .before .before .before .before .before .before .before .before .before .before .before .before .before .before .before
-          .before .before .before .before .before .before .before .before .before .before .before .before .before .before .before)))) (Row.get 16 (T30 .locals) (m23 (c .before .before .before .before
+          .before .before .before .before .before .before .before .before .before .before .before .before .before .before .before)))) (Row.get 17 (T14 .locals) (m13 (c .before .before .before .before
           .before .before .before .before .before .before .before .before .before .before .before .before .before .before .before .before .before .before .before .before .before .before .before .before
           .before .before .before .before) (After-no-lines·gave (c .before .before .before .before .before .before .before .before .before .before .before .before .before .before .before .before .before
-          .before .before .before .before .before .before .before .before .before .before .before .before .before .before)))) (Row.get 17 (T30 .locals) (m23 (c .before .before .before .before .before
+          .before .before .before .before .before .before .before .before .before .before .before .before .before .before)))) (Row.get 18 (T14 .locals) (m13 (c .before .before .before .before .before
           .before .before .before .before .before .before .before .before .before .before .before .before .before .before .before .before .before .before .before .before .before .before .before .before
           .before .before .before) (After-no-lines·gave (c .before .before .before .before .before .before .before .before .before .before .before .before .before .before .before .before .before .before
-          .before .before .before .before .before .before .before .before .before .before .before .before .before)))) (Row.get 18 (T30 .locals) (m23 (c .before .before .before .before .before .before
+          .before .before .before .before .before .before .before .before .before .before .before .before .before)))) (Row.get 19 (T14 .locals) (m13 (c .before .before .before .before .before .before
           .before .before .before .before .before .before .before .before .before .before .before .before .before .before .before .before .before .before .before .before .before .before .before .before
           .before .before) (After-no-lines·gave (c .before .before .before .before .before .before .before .before .before .before .before .before .before .before .before .before .before .before .before
-          .before .before .before .before .before .before .before .before .before .before .before .before)))) (Row.get 3 (T30 .locals) (m109 (c .before) (c .slice-known8 .given)) .now) (Row.get 4 (T30
-          .locals) (m109 (c .before) (c .slice-known8 .given)) .now) (Row.get 5 (T30 .locals) (m109 (c .before) (c .slice-known8 .given)) .now) (Row.get 16 (T30 .locals) (m109 (c .before) (c .slice-known8
-          .given))) (Row.get 17 (T30 .locals) (m109 (c .before) (c .slice-known8 .given))) (Row.get 18 (T30 .locals) (m109 (c .before) (c .slice-known8 .given)))
+          .before .before .before .before .before .before .before .before .before .before .before .before)))) (Row.get 20 (T14 .locals) (m13 (c .before .before .before .before .before .before .before
+          .before .before .before .before .before .before .before .before .before .before .before .before .before .before .before .before .before .before .before .before .before .before .before .before
+          .before) (After-no-lines·gave (c .before .before .before .before .before .before .before .before .before .before .before .before .before .before .before .before .before .before .before .before
+          .before .before .before .before .before .before .before .before .before .before .before)))) (Row.get 3 (T14 .locals) (m103 (c .before) (c .slice-known7 .given)) .now) (Row.get 4 (T14 .locals)
+          (m103 (c .before) (c .slice-known7 .given)) .now) (Row.get 5 (T14 .locals) (m103 (c .before) (c .slice-known7 .given)) .now) (Row.get 18 (T14 .locals) (m103 (c .before) (c .slice-known7
+          .given))) (Row.get 19 (T14 .locals) (m103 (c .before) (c .slice-known7 .given))) (Row.get 20 (T14 .locals) (m103 (c .before) (c .slice-known7 .given)))
 
-      abbrev pub Need-totals-at-requires-3 : Type 0
-      Need-totals-at-requires-3 = (c : After-loop) → s138 .asks (m31 (c .before))
+      abbrev pub Need-totals-at-requires-4 : Type 0
+      Need-totals-at-requires-4 = (c : After-loop) → s126 .asks (m21 (c .before))
 
-      abbrev pub m110 : (before : After-loop) → (given : s138 .gives (m31 (before .before))) → Typed.Mo T143
-      m110 = λ before given. s138 .next (m31 (before .before)) given
+      abbrev pub m104 : (before : After-loop) → (given : s126 .gives (m21 (before .before))) → Typed.Mo T131
+      m104 = λ before given. s126 .next (m21 (before .before)) given
 
       module _ (before· : After-loop) where
-        abbrev pub After-totals-at3·own : Type 0
-        After-totals-at3·own = Called.Called ps·12 r·12 (claims· .25) T31 (record { pos = 16; st = List.[]; d = 0; at = λ x. x }, tt) (m31 (before· .before))
+        abbrev pub After-totals-at4·own : Type 0
+        After-totals-at4·own = Called.Called ps·1 r·1 (claims· .3) T15 (record { pos = 18; st = List.[]; d = 0; at = λ x. x }, tt) (m21 (before· .before))
 
-      pub record After-totals-at3 : Type 0 where
+      pub record After-totals-at4 : Type 0 where
         pub before : After-loop
-        pub totals-at3 : After-totals-at3·own before
+        pub totals-at4 : After-totals-at4·own before
 
-      abbrev pub After-totals-at3·gave : (c : After-totals-at3) → s138 .gives (m31 (c .before .before))
-      After-totals-at3·gave = λ c. Called.given ps·12 r·12 (claims· .25) T31 (record { pos = 16; st = List.[]; d = 0; at = λ x. x }, tt) (m31 (c .before .before)) (c .totals-at3)
+      abbrev pub After-totals-at4·gave : (c : After-totals-at4) → s126 .gives (m21 (c .before .before))
+      After-totals-at4·gave = λ c. Called.given ps·1 r·1 (claims· .3) T15 (record { pos = 18; st = List.[]; d = 0; at = λ x. x }, tt) (m21 (c .before .before)) (c .totals-at4)
 
-      abbrev pub m111 : (before : After-loop) → (given : s138 .gives (m31 (before .before))) → Typed.Mo T144
-      m111 = λ before given. s139 (m110 before given)
+      abbrev pub m105 : (before : After-loop) → (given : s126 .gives (m21 (before .before))) → Typed.Mo T132
+      m105 = λ before given. s127 (m104 before given)
 
-      abbrev pub m112 : (before : After-loop) → (given : s138 .gives (m31 (before .before))) → Typed.Mo T145
-      m112 = λ before given. s140 (m111 before given)
+      abbrev pub m106 : (before : After-loop) → (given : s126 .gives (m21 (before .before))) → Typed.Mo T133
+      m106 = λ before given. s128 (m105 before given)
 
-      abbrev pub m113 : (before : After-loop) → (given : s138 .gives (m31 (before .before))) → Typed.Mo T146
-      m113 = λ before given. s141 (m112 before given)
+      abbrev pub m107 : (before : After-loop) → (given : s126 .gives (m21 (before .before))) → Typed.Mo T134
+      m107 = λ before given. s129 (m106 before given)
 
-      abbrev pub m114 : (before : After-loop) → (given : s138 .gives (m31 (before .before))) → Typed.Mo T147
-      m114 = λ before given. s142 (m113 before given)
+      abbrev pub m108 : (before : After-loop) → (given : s126 .gives (m21 (before .before))) → Typed.Mo T135
+      m108 = λ before given. s130 (m107 before given)
 
-      abbrev pub m115 : (before : After-loop) → (given : s138 .gives (m31 (before .before))) → Typed.Mo T148
-      m115 = λ before given. s143 (m114 before given)
+      abbrev pub m109 : (before : After-loop) → (given : s126 .gives (m21 (before .before))) → Typed.Mo T136
+      m109 = λ before given. s131 (m108 before given)
 
-      abbrev pub m116 : (before : After-loop) → (given : s138 .gives (m31 (before .before))) → Typed.Mo T149
-      m116 = λ before given. s144 (m115 before given)
+      abbrev pub m110 : (before : After-loop) → (given : s126 .gives (m21 (before .before))) → Typed.Mo T137
+      m110 = λ before given. s132 (m109 before given)
 
-      abbrev pub m117 : (before : After-loop) → (given : s138 .gives (m31 (before .before))) → Typed.Mo T150
-      m117 = λ before given. s145 (m116 before given)
+      abbrev pub m111 : (before : After-loop) → (given : s126 .gives (m21 (before .before))) → Typed.Mo T138
+      m111 = λ before given. s133 (m110 before given)
 
-      abbrev pub m118 : (before : After-loop) → (given : s138 .gives (m31 (before .before))) → Typed.Mo T151
-      m118 = λ before given. s146 (m117 before given)
+      abbrev pub m112 : (before : After-loop) → (given : s126 .gives (m21 (before .before))) → Typed.Mo T139
+      m112 = λ before given. s134 (m111 before given)
 
-      abbrev pub m119 : (before : After-loop) → (given : s138 .gives (m31 (before .before))) → Typed.Mo T152
-      m119 = λ before given. s147 (m118 before given)
+      abbrev pub m113 : (before : After-loop) → (given : s126 .gives (m21 (before .before))) → Typed.Mo T140
+      m113 = λ before given. s135 (m112 before given)
 
-      abbrev pub m120 : (before : After-loop) → (given : s138 .gives (m31 (before .before))) → Typed.Mo T153
-      m120 = λ before given. s148 (m119 before given)
+      abbrev pub m114 : (before : After-loop) → (given : s126 .gives (m21 (before .before))) → Typed.Mo T141
+      m114 = λ before given. s136 (m113 before given)
+
+      abbrev pub m115 : (before : After-loop) → (given : s126 .gives (m21 (before .before))) → Typed.Mo T142
+      m115 = λ before given. s137 (m114 before given)
 
       abbrev pub Need-same-length-4 : Type 0
-      Need-same-length-4 = (c : After-totals-at3) → MutSlice.SameLen (Row.get 3 (T153 .locals) (m120 (c .before) (After-totals-at3·gave c))) (dens (c .before .before .before .before .before .before
-          .before .before .before .before .before .before .before .before .before .before .before .before .κs) (c .before .before .before .before .before .before .before .before .before .before .before
-          .before .before .before .before .before .before .before .args) .1 .1 .0)
+      Need-same-length-4 = (c : After-totals-at4) → MutSlice.SameLen (Row.get 3 (T142 .locals) (m115 (c .before) (After-totals-at4·gave c))) (dens (c .before .before .before .before .before .before
+          .before .before .before .before .κs) (c .before .before .before .before .before .before .before .before .before .before .args) .1 .1 .0)
 
       abbrev pub Need-same-length-5 : Type 0
-      Need-same-length-5 = (c : After-totals-at3) → MutSlice.SameLen (Row.get 4 (T153 .locals) (m120 (c .before) (After-totals-at3·gave c))) (dens (c .before .before .before .before .before .before
-          .before .before .before .before .before .before .before .before .before .before .before .before .κs) (c .before .before .before .before .before .before .before .before .before .before .before
-          .before .before .before .before .before .before .before .args) .1 .1 .1 .0)
+      Need-same-length-5 = (c : After-totals-at4) → MutSlice.SameLen (Row.get 4 (T142 .locals) (m115 (c .before) (After-totals-at4·gave c))) (dens (c .before .before .before .before .before .before
+          .before .before .before .before .κs) (c .before .before .before .before .before .before .before .before .before .before .args) .1 .1 .1 .0)
 
       abbrev pub Need-same-length-6 : Type 0
-      Need-same-length-6 = (c : After-totals-at3) → MutSlice.SameLen (Row.get 5 (T153 .locals) (m120 (c .before) (After-totals-at3·gave c))) (dens (c .before .before .before .before .before .before
-          .before .before .before .before .before .before .before .before .before .before .before .before .κs) (c .before .before .before .before .before .before .before .before .before .before .before
-          .before .before .before .before .before .before .before .args) .1 .1 .1 .1 .0)
+      Need-same-length-6 = (c : After-totals-at4) → MutSlice.SameLen (Row.get 5 (T142 .locals) (m115 (c .before) (After-totals-at4·gave c))) (dens (c .before .before .before .before .before .before
+          .before .before .before .before .κs) (c .before .before .before .before .before .before .before .before .before .before .args) .1 .1 .1 .1 .0)
 
       abbrev pub Need-returns-2 : Type 0
-      Need-returns-2 = (c : After-totals-at3) → Post· (c .before .before .before .before .before .before .before .before .before .before .before .before .before .before .before .before .before .before
-          .κs) (dens (c .before .before .before .before .before .before .before .before .before .before .before .before .before .before .before .before .before .before .κs) (c .before .before .before
-          .before .before .before .before .before .before .before .before .before .before .before .before .before .before .before .args)) (Function.resV r (c .before .before .before .before .before
-          .before .before .before .before .before .before .before .before .before .before .before .before .before .κs) (m120 (c .before) (After-totals-at3·gave c) .0)) (Clauses.atExit (Kinds.endedOf 6 ps
-          r) (c .before .before .before .before .before .before .before .before .before .before .before .before .before .before .before .before .before .before .κs) (dens (c .before .before .before
-          .before .before .before .before .before .before .before .before .before .before .before .before .before .before .before .κs) (c .before .before .before .before .before .before .before .before
-          .before .before .before .before .before .before .before .before .before .before .args)) (Enter.lastsP (c .before .before .before .before .before .before .before .before .before .before .before
-          .before .before .before .before .before .before .before .κs) 1 ps xs (dens (c .before .before .before .before .before .before .before .before .before .before .before .before .before .before
-          .before .before .before .before .κs) (c .before .before .before .before .before .before .before .before .before .before .before .before .before .before .before .before .before .before .args))
-          (m120 (c .before) (After-totals-at3·gave c) .1)))
+      Need-returns-2 = (c : After-totals-at4) → Post· (c .before .before .before .before .before .before .before .before .before .before .κs) (dens (c .before .before .before .before .before .before
+          .before .before .before .before .κs) (c .before .before .before .before .before .before .before .before .before .before .args)) (Function.resV r (c .before .before .before .before .before
+          .before .before .before .before .before .κs) (m115 (c .before) (After-totals-at4·gave c) .0)) (Clauses.atExit (Kinds.endedOf 6 ps r) (c .before .before .before .before .before .before .before
+          .before .before .before .κs) (dens (c .before .before .before .before .before .before .before .before .before .before .κs) (c .before .before .before .before .before .before .before .before
+          .before .before .args)) (Enter.lastsP (c .before .before .before .before .before .before .before .before .before .before .κs) 1 ps xs (dens (c .before .before .before .before .before .before
+          .before .before .before .before .κs) (c .before .before .before .before .before .before .before .before .before .before .args)) (m115 (c .before) (After-totals-at4·gave c) .1)))
 
-      module _ (width-requires : Need-width-requires) (clear-requires : Need-clear-requires) (base-of-requires : Need-base-of-requires) (start-records-requires : Need-start-records-requires)
-          (start-place-requires : Need-start-place-requires) (no-lines-requires : Need-no-lines-requires) (loop-holds : Need-loop-holds) (turn-if-requires : Need-turn-if-requires) (base-of-requires-2 :
-          Need-base-of-requires-2) (is-restarted-requires : Need-is-restarted-requires) (restart-requires : Need-restart-requires) (quantisers-in-requires : Need-quantisers-in-requires) (line-requires :
-          Need-line-requires) (enum-known-got : Need-enum-known-got) (enum-told : Need-enum-told) (zero-line-requires : Need-zero-line-requires) (totals-at-requires : Need-totals-at-requires) (same-length
-          : Need-same-length) (same-length-2 : Need-same-length-2) (same-length-3 : Need-same-length-3) (returns : Need-returns) (totals-at-requires-2 : Need-totals-at-requires-2) (with-line-requires :
-          Need-with-line-requires) (emit-line-if-requires : Need-emit-line-if-requires) (add-n : Need-add-n) (loop-less : Need-loop-less) (loop-again : Need-loop-again) (totals-at-requires-3 :
-          Need-totals-at-requires-3) (same-length-4 : Need-same-length-4) (same-length-5 : Need-same-length-5) (same-length-6 : Need-same-length-6) (returns-2 : Need-returns-2) where
-        lay23 : (c : After-totals-at3) → at126 (W0 (c .before .before .before .before .before .before .before .before .before .before .before .before .before .before .before .before .before .before
-            .κs) (c .before .before .before .before .before .before .before .before .before .before .before .before .before .before .before .before .before .before .args)) (m110 (c .before)
-            (After-totals-at3·gave c))
-        lay23 = λ c. (
+      module _ (width-requires : Need-width-requires) (totals-at-requires : Need-totals-at-requires) (no-lines-requires : Need-no-lines-requires) (loop-holds : Need-loop-holds) (add-n : Need-add-n)
+          (turn-if-requires : Need-turn-if-requires) (base-of-requires : Need-base-of-requires) (is-restarted-requires : Need-is-restarted-requires) (restart-requires : Need-restart-requires)
+          (quantisers-in-requires : Need-quantisers-in-requires) (line-requires : Need-line-requires) (enum-known-got : Need-enum-known-got) (enum-told : Need-enum-told) (zero-line-requires :
+          Need-zero-line-requires) (totals-at-requires-2 : Need-totals-at-requires-2) (same-length : Need-same-length) (same-length-2 : Need-same-length-2) (same-length-3 : Need-same-length-3) (returns :
+          Need-returns) (totals-at-requires-3 : Need-totals-at-requires-3) (with-line-requires : Need-with-line-requires) (emit-line-if-requires : Need-emit-line-if-requires) (add-i : Need-add-i)
+          (loop-less : Need-loop-less) (loop-again : Need-loop-again) (totals-at-requires-4 : Need-totals-at-requires-4) (same-length-4 : Need-same-length-4) (same-length-5 : Need-same-length-5)
+          (same-length-6 : Need-same-length-6) (returns-2 : Need-returns-2) where
+        lay20 : (c : After-totals-at4) → at130 (W0 (c .before .before .before .before .before .before .before .before .before .before .κs) (c .before .before .before .before .before .before .before
+            .before .before .before .args)) (m104 (c .before) (After-totals-at4·gave c))
+        lay20 = λ c. (
           (
             Path'.refl,
             (
               Path'.refl,
               (
-                MutSlice.fix-len (Row.get 3 (T153 .locals) (m120 (c .before) (After-totals-at3·gave c)) .ptr) (Row.get 3 (T153 .locals) (m120 (c .before) (After-totals-at3·gave c)) .name) (Row.get 3 (T153
-                    .locals) (m120 (c .before) (After-totals-at3·gave c)) .now) (dens (c .before .before .before .before .before .before .before .before .before .before .before .before .before .before .before
-                    .before .before .before .κs) (c .before .before .before .before .before .before .before .before .before .before .before .before .before .before .before .before .before .before .args) .1 .1 .0
-                    .now) (same-length-4 record { before = c .before; totals-at3 = c .totals-at3 }),
+                MutSlice.fix-len (Row.get 3 (T142 .locals) (m115 (c .before) (After-totals-at4·gave c)) .ptr) (Row.get 3 (T142 .locals) (m115 (c .before) (After-totals-at4·gave c)) .name) (Row.get 3 (T142
+                    .locals) (m115 (c .before) (After-totals-at4·gave c)) .now) (dens (c .before .before .before .before .before .before .before .before .before .before .κs) (c .before .before .before .before
+                    .before .before .before .before .before .before .args) .1 .1 .0 .now) (same-length-4 record { before = c .before; totals-at4 = c .totals-at4 }),
                 (
-                  MutSlice.fix-len (Row.get 4 (T153 .locals) (m120 (c .before) (After-totals-at3·gave c)) .ptr) (Row.get 4 (T153 .locals) (m120 (c .before) (After-totals-at3·gave c)) .name) (Row.get 4 (T153
-                      .locals) (m120 (c .before) (After-totals-at3·gave c)) .now) (dens (c .before .before .before .before .before .before .before .before .before .before .before .before .before .before .before
-                      .before .before .before .κs) (c .before .before .before .before .before .before .before .before .before .before .before .before .before .before .before .before .before .before .args) .1 .1 .1
-                      .0 .now) (same-length-5 record { before = c .before; totals-at3 = c .totals-at3 }),
+                  MutSlice.fix-len (Row.get 4 (T142 .locals) (m115 (c .before) (After-totals-at4·gave c)) .ptr) (Row.get 4 (T142 .locals) (m115 (c .before) (After-totals-at4·gave c)) .name) (Row.get 4 (T142
+                      .locals) (m115 (c .before) (After-totals-at4·gave c)) .now) (dens (c .before .before .before .before .before .before .before .before .before .before .κs) (c .before .before .before .before
+                      .before .before .before .before .before .before .args) .1 .1 .1 .0 .now) (same-length-5 record { before = c .before; totals-at4 = c .totals-at4 }),
                   (
-                    MutSlice.fix-len (Row.get 5 (T153 .locals) (m120 (c .before) (After-totals-at3·gave c)) .ptr) (Row.get 5 (T153 .locals) (m120 (c .before) (After-totals-at3·gave c)) .name) (Row.get 5 (T153
-                        .locals) (m120 (c .before) (After-totals-at3·gave c)) .now) (dens (c .before .before .before .before .before .before .before .before .before .before .before .before .before .before .before
-                        .before .before .before .κs) (c .before .before .before .before .before .before .before .before .before .before .before .before .before .before .before .before .before .before .args) .1 .1 .1
-                        .1 .0 .now) (same-length-6 record { before = c .before; totals-at3 = c .totals-at3 }),
-                    (tt, (Path'.refl, (tt, (tt, (tt, (tt, (tt, tt))))))),
+                    MutSlice.fix-len (Row.get 5 (T142 .locals) (m115 (c .before) (After-totals-at4·gave c)) .ptr) (Row.get 5 (T142 .locals) (m115 (c .before) (After-totals-at4·gave c)) .name) (Row.get 5 (T142
+                        .locals) (m115 (c .before) (After-totals-at4·gave c)) .now) (dens (c .before .before .before .before .before .before .before .before .before .before .κs) (c .before .before .before .before
+                        .before .before .before .before .before .before .args) .1 .1 .1 .1 .0 .now) (same-length-6 record { before = c .before; totals-at4 = c .totals-at4 }),
+                    (tt, (Path'.refl, (tt, (tt, (tt, (tt, (tt, (tt, (tt, tt))))))))),
                   ),
                 ),
               ),
             ),
           ),
-          returns-2 record
-              { before = c .before; totals-at3 = c .totals-at3 },
+          returns-2 record { before = c .before; totals-at4 = c .totals-at4 },
         )
 
-        lay22 : (c : After-loop) → at127 (W0 (c .before .before .before .before .before .before .before .before .before .before .before .before .before .before .before .before .before .κs) (c .before
-            .before .before .before .before .before .before .before .before .before .before .before .before .before .before .before .before .args)) (m31 (c .before))
-        lay22 = λ c. (
-          totals-at-requires-3 record { before = c .before; loop-test = c .loop-test },
-          λ g. lay23 record {
+        lay19 : (c : After-loop) → at131 (W0 (c .before .before .before .before .before .before .before .before .before .κs) (c .before .before .before .before .before .before .before .before .before
+            .args)) (m21 (c .before))
+        lay19 = λ c. (
+          totals-at-requires-4 record { before = c .before; loop-test = c .loop-test },
+          λ g. lay20 record {
             before = record { before = c .before; loop-test = c .loop-test };
-            totals-at3 = Called.called ps·12 r·12 (claims· .25) T31 (record { pos = 16; st = List.[]; d = 0; at = λ x. x }, tt) (m31 (c
+            totals-at4 = Called.called ps·1 r·1 (claims· .3) T15 (record { pos = 18; st = List.[]; d = 0; at = λ x. x }, tt) (m21 (c
                 .before)) g;
           },
         )
 
-        lay21 : (c : After-emit-line-if) → at64 (W3 (c .before .before .before .before .before .before .before .before .before .before .before .before .before .before .before .before .before .before
+        lay18 : (c : After-emit-line-if) → at66 (W3 (c .before .before .before .before .before .before .before .before .before .before .before .before .before .before .before .before .before .before
             .before .before .before .before .before .before .before .before .before .before .before) (c .before .before .before .before .before .before .before .before .before .before .before .before
             .before .before .before .before .before .before .before .before .before .before .before .before .before .before .before .before .loop .lines) (c .before .before .before .before .before .before
             .before .before .before .before .before .before .before .before .before .before .before .before .before .before .before .before .before .before .before .before .before .before .loop .rs) (c
@@ -7722,153 +7046,159 @@ module _ (claims· : Claims) where
             .before .before .before .before .before .before .before .before .before .before .loop .place) (c .before .before .before .before .before .before .before .before .before .before .before .before
             .before .before .before .before .before .before .before .before .before .before .before .before .before .before .before .before .loop .tight-lines) (c .before .before .before .before .before
             .before .before .before .before .before .before .before .before .before .before .before .before .before .before .before .before .before .before .before .before .before .before .before .loop
-            .n)) (m101 (c .before) (After-emit-line-if·gave c))
-        lay21 = λ c. (
+            .i)) (m94 (c .before) (After-emit-line-if·gave c))
+        lay18 = λ c. (
           Path'.refl,
           λ g. λ g'. (
-            add-n record { before = record { before = record { before = c .before; emit-line-if = c .emit-line-if }; image3 = record { given = g } }; slice-known8 = record { given = g' } },
+            add-i record { before = record { before = record { before = c .before; emit-line-if = c .emit-line-if }; image3 = record { given = g } }; slice-known7 = record { given = g' } },
             (
-              μ·0 (Row.get 1 (T30 .locals) (m23 (c .before .before .before .before .before .before .before .before .before .before .before .before .before .before .before .before .before .before .before
+              μ·0 (Row.get 1 (T14 .locals) (m13 (c .before .before .before .before .before .before .before .before .before .before .before .before .before .before .before .before .before .before .before
                   .before .before .before .before .before .before .before .before .before .before .before) (After-no-lines·gave (c .before .before .before .before .before .before .before .before .before .before
-                  .before .before .before .before .before .before .before .before .before .before .before .before .before .before .before .before .before .before .before))) .now) (Row.get 2 (T30 .locals) (m23
+                  .before .before .before .before .before .before .before .before .before .before .before .before .before .before .before .before .before .before .before))) .now) (Row.get 2 (T14 .locals) (m13
                   (c .before .before .before .before .before .before .before .before .before .before .before .before .before .before .before .before .before .before .before .before .before .before .before
                   .before .before .before .before .before .before .before) (After-no-lines·gave (c .before .before .before .before .before .before .before .before .before .before .before .before .before .before
-                  .before .before .before .before .before .before .before .before .before .before .before .before .before .before .before))) .now) (Row.get 3 (T30 .locals) (m23 (c .before .before .before
+                  .before .before .before .before .before .before .before .before .before .before .before .before .before .before .before))) .now) (Row.get 3 (T14 .locals) (m13 (c .before .before .before
                   .before .before .before .before .before .before .before .before .before .before .before .before .before .before .before .before .before .before .before .before .before .before .before .before
                   .before .before .before) (After-no-lines·gave (c .before .before .before .before .before .before .before .before .before .before .before .before .before .before .before .before .before .before
-                  .before .before .before .before .before .before .before .before .before .before .before))) .now) (Row.get 4 (T30 .locals) (m23 (c .before .before .before .before .before .before .before
+                  .before .before .before .before .before .before .before .before .before .before .before))) .now) (Row.get 4 (T14 .locals) (m13 (c .before .before .before .before .before .before .before
                   .before .before .before .before .before .before .before .before .before .before .before .before .before .before .before .before .before .before .before .before .before .before .before)
                   (After-no-lines·gave (c .before .before .before .before .before .before .before .before .before .before .before .before .before .before .before .before .before .before .before .before .before
-                  .before .before .before .before .before .before .before .before))) .now) (Row.get 5 (T30 .locals) (m23 (c .before .before .before .before .before .before .before .before .before .before
+                  .before .before .before .before .before .before .before .before))) .now) (Row.get 5 (T14 .locals) (m13 (c .before .before .before .before .before .before .before .before .before .before
                   .before .before .before .before .before .before .before .before .before .before .before .before .before .before .before .before .before .before .before .before) (After-no-lines·gave (c .before
                   .before .before .before .before .before .before .before .before .before .before .before .before .before .before .before .before .before .before .before .before .before .before .before .before
-                  .before .before .before .before))) .now) (Row.get 6 (T30 .locals) (m23 (c .before .before .before .before .before .before .before .before .before .before .before .before .before .before
+                  .before .before .before .before))) .now) (Row.get 6 (T14 .locals) (m13 (c .before .before .before .before .before .before .before .before .before .before .before .before .before .before
                   .before .before .before .before .before .before .before .before .before .before .before .before .before .before .before .before) (After-no-lines·gave (c .before .before .before .before .before
                   .before .before .before .before .before .before .before .before .before .before .before .before .before .before .before .before .before .before .before .before .before .before .before
-                  .before)))) (Row.get 7 (T30 .locals) (m23 (c .before .before .before .before .before .before .before .before .before .before .before .before .before .before .before .before .before .before
+                  .before)))) (Row.get 7 (T14 .locals) (m13 (c .before .before .before .before .before .before .before .before .before .before .before .before .before .before .before .before .before .before
                   .before .before .before .before .before .before .before .before .before .before .before .before) (After-no-lines·gave (c .before .before .before .before .before .before .before .before .before
-                  .before .before .before .before .before .before .before .before .before .before .before .before .before .before .before .before .before .before .before .before))) .now) (Row.get 8 (T30
-                  .locals) (m23 (c .before .before .before .before .before .before .before .before .before .before .before .before .before .before .before .before .before .before .before .before .before .before
+                  .before .before .before .before .before .before .before .before .before .before .before .before .before .before .before .before .before .before .before .before))) .now) (Row.get 8 (T14
+                  .locals) (m13 (c .before .before .before .before .before .before .before .before .before .before .before .before .before .before .before .before .before .before .before .before .before .before
                   .before .before .before .before .before .before .before .before) (After-no-lines·gave (c .before .before .before .before .before .before .before .before .before .before .before .before .before
-                  .before .before .before .before .before .before .before .before .before .before .before .before .before .before .before .before)))) (Row.get 9 (T30 .locals) (m23 (c .before .before .before
+                  .before .before .before .before .before .before .before .before .before .before .before .before .before .before .before .before)))) (Row.get 9 (T14 .locals) (m13 (c .before .before .before
                   .before .before .before .before .before .before .before .before .before .before .before .before .before .before .before .before .before .before .before .before .before .before .before .before
                   .before .before .before) (After-no-lines·gave (c .before .before .before .before .before .before .before .before .before .before .before .before .before .before .before .before .before .before
-                  .before .before .before .before .before .before .before .before .before .before .before)))) (Row.get 10 (T30 .locals) (m23 (c .before .before .before .before .before .before .before .before
+                  .before .before .before .before .before .before .before .before .before .before .before)))) (Row.get 10 (T14 .locals) (m13 (c .before .before .before .before .before .before .before .before
                   .before .before .before .before .before .before .before .before .before .before .before .before .before .before .before .before .before .before .before .before .before .before)
                   (After-no-lines·gave (c .before .before .before .before .before .before .before .before .before .before .before .before .before .before .before .before .before .before .before .before .before
-                  .before .before .before .before .before .before .before .before)))) (Row.get 11 (T30 .locals) (m23 (c .before .before .before .before .before .before .before .before .before .before .before
+                  .before .before .before .before .before .before .before .before)))) (Row.get 12 (T14 .locals) (m13 (c .before .before .before .before .before .before .before .before .before .before .before
                   .before .before .before .before .before .before .before .before .before .before .before .before .before .before .before .before .before .before .before) (After-no-lines·gave (c .before .before
                   .before .before .before .before .before .before .before .before .before .before .before .before .before .before .before .before .before .before .before .before .before .before .before .before
-                  .before .before .before)))) (Row.get 12 (T30 .locals) (m23 (c .before .before .before .before .before .before .before .before .before .before .before .before .before .before .before .before
+                  .before .before .before)))) (Row.get 13 (T14 .locals) (m13 (c .before .before .before .before .before .before .before .before .before .before .before .before .before .before .before .before
                   .before .before .before .before .before .before .before .before .before .before .before .before .before .before) (After-no-lines·gave (c .before .before .before .before .before .before .before
-                  .before .before .before .before .before .before .before .before .before .before .before .before .before .before .before .before .before .before .before .before .before .before)))) (Row.get 13
-                  (T30 .locals) (m23 (c .before .before .before .before .before .before .before .before .before .before .before .before .before .before .before .before .before .before .before .before .before
+                  .before .before .before .before .before .before .before .before .before .before .before .before .before .before .before .before .before .before .before .before .before .before)))) (Row.get 14
+                  (T14 .locals) (m13 (c .before .before .before .before .before .before .before .before .before .before .before .before .before .before .before .before .before .before .before .before .before
                   .before .before .before .before .before .before .before .before .before) (After-no-lines·gave (c .before .before .before .before .before .before .before .before .before .before .before .before
-                  .before .before .before .before .before .before .before .before .before .before .before .before .before .before .before .before .before)))) (Row.get 14 (T30 .locals) (m23 (c .before .before
+                  .before .before .before .before .before .before .before .before .before .before .before .before .before .before .before .before .before)))) (Row.get 15 (T14 .locals) (m13 (c .before .before
                   .before .before .before .before .before .before .before .before .before .before .before .before .before .before .before .before .before .before .before .before .before .before .before .before
                   .before .before .before .before) (After-no-lines·gave (c .before .before .before .before .before .before .before .before .before .before .before .before .before .before .before .before .before
-                  .before .before .before .before .before .before .before .before .before .before .before .before)))) (Row.get 15 (T30 .locals) (m23 (c .before .before .before .before .before .before .before
+                  .before .before .before .before .before .before .before .before .before .before .before .before)))) (Row.get 16 (T14 .locals) (m13 (c .before .before .before .before .before .before .before
                   .before .before .before .before .before .before .before .before .before .before .before .before .before .before .before .before .before .before .before .before .before .before .before)
                   (After-no-lines·gave (c .before .before .before .before .before .before .before .before .before .before .before .before .before .before .before .before .before .before .before .before .before
-                  .before .before .before .before .before .before .before .before)))) (Row.get 16 (T30 .locals) (m23 (c .before .before .before .before .before .before .before .before .before .before .before
+                  .before .before .before .before .before .before .before .before)))) (Row.get 17 (T14 .locals) (m13 (c .before .before .before .before .before .before .before .before .before .before .before
                   .before .before .before .before .before .before .before .before .before .before .before .before .before .before .before .before .before .before .before) (After-no-lines·gave (c .before .before
                   .before .before .before .before .before .before .before .before .before .before .before .before .before .before .before .before .before .before .before .before .before .before .before .before
-                  .before .before .before)))) (Row.get 17 (T30 .locals) (m23 (c .before .before .before .before .before .before .before .before .before .before .before .before .before .before .before .before
+                  .before .before .before)))) (Row.get 18 (T14 .locals) (m13 (c .before .before .before .before .before .before .before .before .before .before .before .before .before .before .before .before
                   .before .before .before .before .before .before .before .before .before .before .before .before .before .before) (After-no-lines·gave (c .before .before .before .before .before .before .before
-                  .before .before .before .before .before .before .before .before .before .before .before .before .before .before .before .before .before .before .before .before .before .before)))) (Row.get 18
-                  (T30 .locals) (m23 (c .before .before .before .before .before .before .before .before .before .before .before .before .before .before .before .before .before .before .before .before .before
+                  .before .before .before .before .before .before .before .before .before .before .before .before .before .before .before .before .before .before .before .before .before .before)))) (Row.get 19
+                  (T14 .locals) (m13 (c .before .before .before .before .before .before .before .before .before .before .before .before .before .before .before .before .before .before .before .before .before
                   .before .before .before .before .before .before .before .before .before) (After-no-lines·gave (c .before .before .before .before .before .before .before .before .before .before .before .before
-                  .before .before .before .before .before .before .before .before .before .before .before .before .before .before .before .before .before)))) (Row.get 3 (T30 .locals) (m109 record
-                  { before = record { before = c .before; emit-line-if = c .emit-line-if }; image3 = record { given = g } } g') .now) (Row.get 4 (T30 .locals) (m109 record
-                  { before = record { before = c .before; emit-line-if = c .emit-line-if }; image3 = record { given = g } } g') .now) (Row.get 5 (T30 .locals) (m109 record
-                  { before = record { before = c .before; emit-line-if = c .emit-line-if }; image3 = record { given = g } } g') .now) (Row.get 16 (T30 .locals) (m109 record
-                  { before = record { before = c .before; emit-line-if = c .emit-line-if }; image3 = record { given = g } } g')) (Row.get 17 (T30 .locals) (m109 record
-                  { before = record { before = c .before; emit-line-if = c .emit-line-if }; image3 = record { given = g } } g')) (Row.get 18 (T30 .locals) (m109 record
+                  .before .before .before .before .before .before .before .before .before .before .before .before .before .before .before .before .before)))) (Row.get 20 (T14 .locals) (m13 (c .before .before
+                  .before .before .before .before .before .before .before .before .before .before .before .before .before .before .before .before .before .before .before .before .before .before .before .before
+                  .before .before .before .before) (After-no-lines·gave (c .before .before .before .before .before .before .before .before .before .before .before .before .before .before .before .before .before
+                  .before .before .before .before .before .before .before .before .before .before .before .before)))) (Row.get 3 (T14 .locals) (m103 record
+                  { before = record { before = c .before; emit-line-if = c .emit-line-if }; image3 = record { given = g } } g') .now) (Row.get 4 (T14 .locals) (m103 record
+                  { before = record { before = c .before; emit-line-if = c .emit-line-if }; image3 = record { given = g } } g') .now) (Row.get 5 (T14 .locals) (m103 record
+                  { before = record { before = c .before; emit-line-if = c .emit-line-if }; image3 = record { given = g } } g') .now) (Row.get 18 (T14 .locals) (m103 record
+                  { before = record { before = c .before; emit-line-if = c .emit-line-if }; image3 = record { given = g } } g')) (Row.get 19 (T14 .locals) (m103 record
+                  { before = record { before = c .before; emit-line-if = c .emit-line-if }; image3 = record { given = g } } g')) (Row.get 20 (T14 .locals) (m103 record
                   { before = record { before = c .before; emit-line-if = c .emit-line-if }; image3 = record { given = g } } g')),
               loop-less record
-                  { before = record { before = record { before = c .before; emit-line-if = c .emit-line-if }; image3 = record { given = g } }; slice-known8 = record { given = g' } },
+                  { before = record { before = record { before = c .before; emit-line-if = c .emit-line-if }; image3 = record { given = g } }; slice-known7 = record { given = g' } },
               (
                 (
-                  Row.get 3 (T30 .locals) (m109 record { before = record { before = c .before; emit-line-if = c .emit-line-if }; image3 = record { given = g } } g') .now,
-                  Row.get 4 (T30 .locals) (m109 record
+                  Row.get 3 (T14 .locals) (m103 record { before = record { before = c .before; emit-line-if = c .emit-line-if }; image3 = record { given = g } } g') .now,
+                  Row.get 4 (T14 .locals) (m103 record
                       { before = record { before = c .before; emit-line-if = c .emit-line-if }; image3 = record { given = g } } g') .now,
-                  Row.get 5 (T30 .locals) (m109 record
+                  Row.get 5 (T14 .locals) (m103 record
                       { before = record { before = c .before; emit-line-if = c .emit-line-if }; image3 = record { given = g } } g') .now,
-                  Row.get 16 (T30 .locals) (m109 record
+                  Row.get 18 (T14 .locals) (m103 record
                       { before = record { before = c .before; emit-line-if = c .emit-line-if }; image3 = record { given = g } } g'),
-                  Row.get 17 (T30 .locals) (m109 record
+                  Row.get 19 (T14 .locals) (m103 record
                       { before = record { before = c .before; emit-line-if = c .emit-line-if }; image3 = record { given = g } } g'),
-                  Row.get 18 (T30 .locals) (m109 record
+                  Row.get 20 (T14 .locals) (m103 record
                       { before = record { before = c .before; emit-line-if = c .emit-line-if }; image3 = record { given = g } } g'),
                 ),
-                Path'.refl {a = m109 record
+                Path'.refl {a = m103 record
                     { before = record { before = c .before; emit-line-if = c .emit-line-if }; image3 = record { given = g } } g'},
                 loop-again record
-                    { before = record { before = record { before = c .before; emit-line-if = c .emit-line-if }; image3 = record { given = g } }; slice-known8 = record { given = g' } },
+                    { before = record { before = record { before = c .before; emit-line-if = c .emit-line-if }; image3 = record { given = g } }; slice-known7 = record { given = g' } },
                 Path'.refl {a = μ·0
-                    (Row.get 1 (T30 .locals) (m23 (c .before .before .before .before .before .before .before .before .before .before .before .before .before .before .before .before .before .before .before .before
+                    (Row.get 1 (T14 .locals) (m13 (c .before .before .before .before .before .before .before .before .before .before .before .before .before .before .before .before .before .before .before .before
                     .before .before .before .before .before .before .before .before .before .before) (After-no-lines·gave (c .before .before .before .before .before .before .before .before .before .before .before
-                    .before .before .before .before .before .before .before .before .before .before .before .before .before .before .before .before .before .before))) .now) (Row.get 2 (T30 .locals) (m23 (c
+                    .before .before .before .before .before .before .before .before .before .before .before .before .before .before .before .before .before .before))) .now) (Row.get 2 (T14 .locals) (m13 (c
                     .before .before .before .before .before .before .before .before .before .before .before .before .before .before .before .before .before .before .before .before .before .before .before .before
                     .before .before .before .before .before .before) (After-no-lines·gave (c .before .before .before .before .before .before .before .before .before .before .before .before .before .before .before
-                    .before .before .before .before .before .before .before .before .before .before .before .before .before .before))) .now) (Row.get 3 (T30 .locals) (m23 (c .before .before .before .before
+                    .before .before .before .before .before .before .before .before .before .before .before .before .before .before))) .now) (Row.get 3 (T14 .locals) (m13 (c .before .before .before .before
                     .before .before .before .before .before .before .before .before .before .before .before .before .before .before .before .before .before .before .before .before .before .before .before .before
                     .before .before) (After-no-lines·gave (c .before .before .before .before .before .before .before .before .before .before .before .before .before .before .before .before .before .before .before
-                    .before .before .before .before .before .before .before .before .before .before))) .now) (Row.get 4 (T30 .locals) (m23 (c .before .before .before .before .before .before .before .before
+                    .before .before .before .before .before .before .before .before .before .before))) .now) (Row.get 4 (T14 .locals) (m13 (c .before .before .before .before .before .before .before .before
                     .before .before .before .before .before .before .before .before .before .before .before .before .before .before .before .before .before .before .before .before .before .before)
                     (After-no-lines·gave (c .before .before .before .before .before .before .before .before .before .before .before .before .before .before .before .before .before .before .before .before .before
-                    .before .before .before .before .before .before .before .before))) .now) (Row.get 5 (T30 .locals) (m23 (c .before .before .before .before .before .before .before .before .before .before
+                    .before .before .before .before .before .before .before .before))) .now) (Row.get 5 (T14 .locals) (m13 (c .before .before .before .before .before .before .before .before .before .before
                     .before .before .before .before .before .before .before .before .before .before .before .before .before .before .before .before .before .before .before .before) (After-no-lines·gave (c .before
                     .before .before .before .before .before .before .before .before .before .before .before .before .before .before .before .before .before .before .before .before .before .before .before .before
-                    .before .before .before .before))) .now) (Row.get 6 (T30 .locals) (m23 (c .before .before .before .before .before .before .before .before .before .before .before .before .before .before
+                    .before .before .before .before))) .now) (Row.get 6 (T14 .locals) (m13 (c .before .before .before .before .before .before .before .before .before .before .before .before .before .before
                     .before .before .before .before .before .before .before .before .before .before .before .before .before .before .before .before) (After-no-lines·gave (c .before .before .before .before .before
                     .before .before .before .before .before .before .before .before .before .before .before .before .before .before .before .before .before .before .before .before .before .before .before
-                    .before)))) (Row.get 7 (T30 .locals) (m23 (c .before .before .before .before .before .before .before .before .before .before .before .before .before .before .before .before .before .before
+                    .before)))) (Row.get 7 (T14 .locals) (m13 (c .before .before .before .before .before .before .before .before .before .before .before .before .before .before .before .before .before .before
                     .before .before .before .before .before .before .before .before .before .before .before .before) (After-no-lines·gave (c .before .before .before .before .before .before .before .before .before
-                    .before .before .before .before .before .before .before .before .before .before .before .before .before .before .before .before .before .before .before .before))) .now) (Row.get 8 (T30
-                    .locals) (m23 (c .before .before .before .before .before .before .before .before .before .before .before .before .before .before .before .before .before .before .before .before .before .before
+                    .before .before .before .before .before .before .before .before .before .before .before .before .before .before .before .before .before .before .before .before))) .now) (Row.get 8 (T14
+                    .locals) (m13 (c .before .before .before .before .before .before .before .before .before .before .before .before .before .before .before .before .before .before .before .before .before .before
                     .before .before .before .before .before .before .before .before) (After-no-lines·gave (c .before .before .before .before .before .before .before .before .before .before .before .before .before
-                    .before .before .before .before .before .before .before .before .before .before .before .before .before .before .before .before)))) (Row.get 9 (T30 .locals) (m23 (c .before .before .before
+                    .before .before .before .before .before .before .before .before .before .before .before .before .before .before .before .before)))) (Row.get 9 (T14 .locals) (m13 (c .before .before .before
                     .before .before .before .before .before .before .before .before .before .before .before .before .before .before .before .before .before .before .before .before .before .before .before .before
                     .before .before .before) (After-no-lines·gave (c .before .before .before .before .before .before .before .before .before .before .before .before .before .before .before .before .before .before
-                    .before .before .before .before .before .before .before .before .before .before .before)))) (Row.get 10 (T30 .locals) (m23 (c .before .before .before .before .before .before .before .before
+                    .before .before .before .before .before .before .before .before .before .before .before)))) (Row.get 10 (T14 .locals) (m13 (c .before .before .before .before .before .before .before .before
                     .before .before .before .before .before .before .before .before .before .before .before .before .before .before .before .before .before .before .before .before .before .before)
                     (After-no-lines·gave (c .before .before .before .before .before .before .before .before .before .before .before .before .before .before .before .before .before .before .before .before .before
-                    .before .before .before .before .before .before .before .before)))) (Row.get 11 (T30 .locals) (m23 (c .before .before .before .before .before .before .before .before .before .before .before
+                    .before .before .before .before .before .before .before .before)))) (Row.get 12 (T14 .locals) (m13 (c .before .before .before .before .before .before .before .before .before .before .before
                     .before .before .before .before .before .before .before .before .before .before .before .before .before .before .before .before .before .before .before) (After-no-lines·gave (c .before .before
                     .before .before .before .before .before .before .before .before .before .before .before .before .before .before .before .before .before .before .before .before .before .before .before .before
-                    .before .before .before)))) (Row.get 12 (T30 .locals) (m23 (c .before .before .before .before .before .before .before .before .before .before .before .before .before .before .before .before
+                    .before .before .before)))) (Row.get 13 (T14 .locals) (m13 (c .before .before .before .before .before .before .before .before .before .before .before .before .before .before .before .before
                     .before .before .before .before .before .before .before .before .before .before .before .before .before .before) (After-no-lines·gave (c .before .before .before .before .before .before .before
-                    .before .before .before .before .before .before .before .before .before .before .before .before .before .before .before .before .before .before .before .before .before .before)))) (Row.get 13
-                    (T30 .locals) (m23 (c .before .before .before .before .before .before .before .before .before .before .before .before .before .before .before .before .before .before .before .before .before
+                    .before .before .before .before .before .before .before .before .before .before .before .before .before .before .before .before .before .before .before .before .before .before)))) (Row.get 14
+                    (T14 .locals) (m13 (c .before .before .before .before .before .before .before .before .before .before .before .before .before .before .before .before .before .before .before .before .before
                     .before .before .before .before .before .before .before .before .before) (After-no-lines·gave (c .before .before .before .before .before .before .before .before .before .before .before .before
-                    .before .before .before .before .before .before .before .before .before .before .before .before .before .before .before .before .before)))) (Row.get 14 (T30 .locals) (m23 (c .before .before
+                    .before .before .before .before .before .before .before .before .before .before .before .before .before .before .before .before .before)))) (Row.get 15 (T14 .locals) (m13 (c .before .before
                     .before .before .before .before .before .before .before .before .before .before .before .before .before .before .before .before .before .before .before .before .before .before .before .before
                     .before .before .before .before) (After-no-lines·gave (c .before .before .before .before .before .before .before .before .before .before .before .before .before .before .before .before .before
-                    .before .before .before .before .before .before .before .before .before .before .before .before)))) (Row.get 15 (T30 .locals) (m23 (c .before .before .before .before .before .before .before
+                    .before .before .before .before .before .before .before .before .before .before .before .before)))) (Row.get 16 (T14 .locals) (m13 (c .before .before .before .before .before .before .before
                     .before .before .before .before .before .before .before .before .before .before .before .before .before .before .before .before .before .before .before .before .before .before .before)
                     (After-no-lines·gave (c .before .before .before .before .before .before .before .before .before .before .before .before .before .before .before .before .before .before .before .before .before
-                    .before .before .before .before .before .before .before .before)))) (Row.get 16 (T30 .locals) (m23 (c .before .before .before .before .before .before .before .before .before .before .before
+                    .before .before .before .before .before .before .before .before)))) (Row.get 17 (T14 .locals) (m13 (c .before .before .before .before .before .before .before .before .before .before .before
                     .before .before .before .before .before .before .before .before .before .before .before .before .before .before .before .before .before .before .before) (After-no-lines·gave (c .before .before
                     .before .before .before .before .before .before .before .before .before .before .before .before .before .before .before .before .before .before .before .before .before .before .before .before
-                    .before .before .before)))) (Row.get 17 (T30 .locals) (m23 (c .before .before .before .before .before .before .before .before .before .before .before .before .before .before .before .before
+                    .before .before .before)))) (Row.get 18 (T14 .locals) (m13 (c .before .before .before .before .before .before .before .before .before .before .before .before .before .before .before .before
                     .before .before .before .before .before .before .before .before .before .before .before .before .before .before) (After-no-lines·gave (c .before .before .before .before .before .before .before
-                    .before .before .before .before .before .before .before .before .before .before .before .before .before .before .before .before .before .before .before .before .before .before)))) (Row.get 18
-                    (T30 .locals) (m23 (c .before .before .before .before .before .before .before .before .before .before .before .before .before .before .before .before .before .before .before .before .before
+                    .before .before .before .before .before .before .before .before .before .before .before .before .before .before .before .before .before .before .before .before .before .before)))) (Row.get 19
+                    (T14 .locals) (m13 (c .before .before .before .before .before .before .before .before .before .before .before .before .before .before .before .before .before .before .before .before .before
                     .before .before .before .before .before .before .before .before .before) (After-no-lines·gave (c .before .before .before .before .before .before .before .before .before .before .before .before
-                    .before .before .before .before .before .before .before .before .before .before .before .before .before .before .before .before .before)))) (Row.get 3 (T30 .locals) (m109 record
-                    { before = record { before = c .before; emit-line-if = c .emit-line-if }; image3 = record { given = g } } g') .now) (Row.get 4 (T30 .locals) (m109 record
-                    { before = record { before = c .before; emit-line-if = c .emit-line-if }; image3 = record { given = g } } g') .now) (Row.get 5 (T30 .locals) (m109 record
-                    { before = record { before = c .before; emit-line-if = c .emit-line-if }; image3 = record { given = g } } g') .now) (Row.get 16 (T30 .locals) (m109 record
-                    { before = record { before = c .before; emit-line-if = c .emit-line-if }; image3 = record { given = g } } g')) (Row.get 17 (T30 .locals) (m109 record
-                    { before = record { before = c .before; emit-line-if = c .emit-line-if }; image3 = record { given = g } } g')) (Row.get 18 (T30 .locals) (m109 record
+                    .before .before .before .before .before .before .before .before .before .before .before .before .before .before .before .before .before)))) (Row.get 20 (T14 .locals) (m13 (c .before .before
+                    .before .before .before .before .before .before .before .before .before .before .before .before .before .before .before .before .before .before .before .before .before .before .before .before
+                    .before .before .before .before) (After-no-lines·gave (c .before .before .before .before .before .before .before .before .before .before .before .before .before .before .before .before .before
+                    .before .before .before .before .before .before .before .before .before .before .before .before)))) (Row.get 3 (T14 .locals) (m103 record
+                    { before = record { before = c .before; emit-line-if = c .emit-line-if }; image3 = record { given = g } } g') .now) (Row.get 4 (T14 .locals) (m103 record
+                    { before = record { before = c .before; emit-line-if = c .emit-line-if }; image3 = record { given = g } } g') .now) (Row.get 5 (T14 .locals) (m103 record
+                    { before = record { before = c .before; emit-line-if = c .emit-line-if }; image3 = record { given = g } } g') .now) (Row.get 18 (T14 .locals) (m103 record
+                    { before = record { before = c .before; emit-line-if = c .emit-line-if }; image3 = record { given = g } } g')) (Row.get 19 (T14 .locals) (m103 record
+                    { before = record { before = c .before; emit-line-if = c .emit-line-if }; image3 = record { given = g } } g')) (Row.get 20 (T14 .locals) (m103 record
                     { before = record { before = c .before; emit-line-if = c .emit-line-if }; image3 = record { given = g } } g'))},
               ),
             ),
           ),
         )
 
-        lay20 : (c : After-with-line) → at73 (W3 (c .before .before .before .before .before .before .before .before .before .before .before .before .before .before .before .before .before .before
+        lay17 : (c : After-with-line) → at75 (W3 (c .before .before .before .before .before .before .before .before .before .before .before .before .before .before .before .before .before .before
             .before .before .before .before .before .before .before .before) (c .before .before .before .before .before .before .before .before .before .before .before .before .before .before .before
             .before .before .before .before .before .before .before .before .before .before .loop .lines) (c .before .before .before .before .before .before .before .before .before .before .before .before
             .before .before .before .before .before .before .before .before .before .before .before .before .before .loop .rs) (c .before .before .before .before .before .before .before .before .before
@@ -7876,8 +7206,8 @@ module _ (claims· : Claims) where
             .before .before .before .before .before .before .before .before .before .before .before .before .before .before .before .before .before .before .before .loop .place) (c .before .before .before
             .before .before .before .before .before .before .before .before .before .before .before .before .before .before .before .before .before .before .before .before .before .before .loop
             .tight-lines) (c .before .before .before .before .before .before .before .before .before .before .before .before .before .before .before .before .before .before .before .before .before .before
-            .before .before .before .loop .n)) (m94 (c .before) (After-with-line·gave c))
-        lay20 = λ c. λ g. (
+            .before .before .before .loop .i)) (m87 (c .before) (After-with-line·gave c))
+        lay17 = λ c. λ g. (
           Path'.refl,
           λ g'. (
             Path'.refl,
@@ -7886,27 +7216,27 @@ module _ (claims· : Claims) where
               (
                 emit-line-if-requires record
                     { before = record { before = record { before = c .before; with-line = c .with-line }; emit-line-if-arg = record { given = g } }; emit-line-if-arg2 = record { given = g' } },
-                λ g''. lay21
+                λ g''. lay18
                     record {
                       before = record
                           { before = record { before = record { before = c .before; with-line = c .with-line }; emit-line-if-arg = record { given = g } }; emit-line-if-arg2 = record { given = g' } };
                       emit-line-if =
-                          Called.called ps·14 r·14 (claims· .29) T129 (
-                            record { pos = 47; ty = Syntax.tyRef Syntax.erased Syntax.imm (Syntax.tyInt Syntax.w16); ref = λ x. x },
+                          Called.called ps·11 r·11 (claims· .23) T116 (
+                            record { pos = 45; ty = Syntax.tyRef Syntax.erased Syntax.imm (Syntax.tyInt Syntax.w16); ref = λ x. x },
                             (
-                              record { pos = 49; ty = Syntax.tyRef Syntax.erased Syntax.mut (Syntax.tyInt Syntax.w16); ref = λ x. x },
+                              record { pos = 47; ty = Syntax.tyRef Syntax.erased Syntax.mut (Syntax.tyInt Syntax.w16); ref = λ x. x },
                               (
-                                Num.vAt 15 λ x. x,
+                                Num.vAt 17 λ x. x,
                                 (
-                                  Bool.bAt 14 λ x. x,
+                                  Bool.bAt 16 λ x. x,
                                   (
                                     record { pos = 7; ty = Syntax.tyRef (Syntax.named 5) Syntax.imm (Syntax.tyArray (Syntax.tyInt Syntax.w16) 768); ref = λ x. x },
-                                    (record { pos = 8; st = List.[]; d = 0; at = λ x. x }, (record { pos = 9; st = List.[]; d = 0; at = λ x. x }, (Num.vAt 18 λ x. x, (Bool.bAt 28 λ x. x, tt)))),
+                                    (record { pos = 8; st = List.[]; d = 0; at = λ x. x }, (record { pos = 9; st = List.[]; d = 0; at = λ x. x }, (Num.vAt 21 λ x. x, (Bool.bAt 26 λ x. x, tt)))),
                                   ),
                                 ),
                               ),
                             ),
-                          ) (m100 record
+                          ) (m93 record
                           { before = record { before = c .before; with-line = c .with-line }; emit-line-if-arg = record { given = g } } g') g'';
                     },
               ),
@@ -7914,105 +7244,101 @@ module _ (claims· : Claims) where
           ),
         )
 
-        lay19 : (c : After-totals-at2) → at74 (W3 (c .before .before .before .before .before .before .before .before .before .before .before .before .before .before .before .before .before .before
+        lay16 : (c : After-totals-at3) → at76 (W3 (c .before .before .before .before .before .before .before .before .before .before .before .before .before .before .before .before .before .before
             .before .before .before .before .before .before .before) (c .before .before .before .before .before .before .before .before .before .before .before .before .before .before .before .before
             .before .before .before .before .before .before .before .before .loop .lines) (c .before .before .before .before .before .before .before .before .before .before .before .before .before .before
             .before .before .before .before .before .before .before .before .before .before .loop .rs) (c .before .before .before .before .before .before .before .before .before .before .before .before
             .before .before .before .before .before .before .before .before .before .before .before .before .loop .image) (c .before .before .before .before .before .before .before .before .before .before
             .before .before .before .before .before .before .before .before .before .before .before .before .before .before .loop .place) (c .before .before .before .before .before .before .before .before
             .before .before .before .before .before .before .before .before .before .before .before .before .before .before .before .before .loop .tight-lines) (c .before .before .before .before .before
-            .before .before .before .before .before .before .before .before .before .before .before .before .before .before .before .before .before .before .before .loop .n)) (m93 (c .before)
-            (After-totals-at2·gave c))
-        lay19 = λ c. (
-          with-line-requires record { before = c .before; totals-at2 = c .totals-at2 },
-          λ g. lay20 record {
-            before = record { before = c .before; totals-at2 = c .totals-at2 };
-            with-line = Called.called ps·13 r·13 (claims· .27) T120 (
-              record { pos = 17; st = List.[]; d = 0; at = λ x. x },
-              (Num.vAt 18 λ x. x, (Bool.bFld 16 (List._∷_ (Syntax.field 1) List.[]) 8 λ x. Place.struct .as-values x .1 .0, (record { pos = 45; st = List.[]; d = 0; at = λ x. x }, tt))),
-            ) (m93 (c .before)
-                (After-totals-at2·gave c)) g;
+            .before .before .before .before .before .before .before .before .before .before .before .before .before .before .before .before .before .before .before .loop .i)) (m86 (c .before)
+            (After-totals-at3·gave c))
+        lay16 = λ c. (
+          with-line-requires record { before = c .before; totals-at3 = c .totals-at3 },
+          λ g. lay17 record {
+            before = record { before = c .before; totals-at3 = c .totals-at3 };
+            with-line = Called.called ps·10 r·10 (claims· .21) T107 (
+              record { pos = 19; st = List.[]; d = 0; at = λ x. x },
+              (Num.vAt 20 λ x. x, (Bool.bFld 18 (List._∷_ (Syntax.field 1) List.[]) 8 λ x. Place.struct .as-values x .1 .0, (record { pos = 43; st = List.[]; d = 0; at = λ x. x }, tt))),
+            ) (m86 (c .before)
+                (After-totals-at3·gave c)) g;
           },
         )
 
-        lay18 : (c : After-known-told) → at77 (W3 (c .before .before .before .before .before .before .before .before .before .before .before .before .before .before .before .before .before .before
+        lay15 : (c : After-known-told) → at79 (W3 (c .before .before .before .before .before .before .before .before .before .before .before .before .before .before .before .before .before .before
             .before .before .before .before .before .before) (c .before .before .before .before .before .before .before .before .before .before .before .before .before .before .before .before .before
             .before .before .before .before .before .before .loop .lines) (c .before .before .before .before .before .before .before .before .before .before .before .before .before .before .before .before
             .before .before .before .before .before .before .before .loop .rs) (c .before .before .before .before .before .before .before .before .before .before .before .before .before .before .before
             .before .before .before .before .before .before .before .before .loop .image) (c .before .before .before .before .before .before .before .before .before .before .before .before .before .before
             .before .before .before .before .before .before .before .before .before .loop .place) (c .before .before .before .before .before .before .before .before .before .before .before .before .before
             .before .before .before .before .before .before .before .before .before .before .loop .tight-lines) (c .before .before .before .before .before .before .before .before .before .before .before
-            .before .before .before .before .before .before .before .before .before .before .before .before .loop .n)) (m66 (c .before) (c .known-told .given))
-        lay18 = λ c. (
-          totals-at-requires-2 record { before = c .before; known-told = c .known-told },
-          λ g. lay19 record {
+            .before .before .before .before .before .before .before .before .before .before .before .before .loop .i)) (m57 (c .before) (c .known-told .given))
+        lay15 = λ c. (
+          totals-at-requires-3 record { before = c .before; known-told = c .known-told },
+          λ g. lay16 record {
             before = record { before = c .before; known-told = c .known-told };
-            totals-at2 = Called.called ps·12 r·12 (claims· .25) T119 (record { pos = 16; st = List.[]; d = 0; at = λ x. x }, tt) (m92
-                (c .before) (c .known-told .given)) g;
+            totals-at3 = Called.called ps·1 r·1 (claims· .3) T106 (record { pos = 18; st = List.[]; d = 0; at = λ x. x }, tt) (m85 (c
+                .before) (c .known-told .given)) g;
           },
         )
 
-        lay17 : (c : After-totals-at) → at23 (W5 (c .before .before .before .before .before .before .before .before .before .before .before .before .before) (After-line·gave (c .before .before .before
-            .before .before .before .before .before .before .before .before .before))) (m80 (c .before) (After-totals-at·gave c))
-        lay17 = λ c. (
+        lay14 : (c : After-totals-at2) → at25 (W5 (c .before .before .before .before .before .before .before .before .before .before .before .before .before) (After-line·gave (c .before .before
+            .before .before .before .before .before .before .before .before .before .before))) (m71 (c .before) (After-totals-at2·gave c))
+        lay14 = λ c. (
           (
             Path'.refl,
             (
               Path'.refl,
               (
-                MutSlice.fix-len (Row.get 3 (T117 .locals) (m90 (c .before) (After-totals-at·gave c)) .ptr) (Row.get 3 (T117 .locals) (m90 (c .before) (After-totals-at·gave c)) .name) (Row.get 3 (T117
-                    .locals) (m90 (c .before) (After-totals-at·gave c)) .now) (dens (c .before .before .before .before .before .before .before .before .before .before .before .before .before .before .before
+                MutSlice.fix-len (Row.get 3 (T104 .locals) (m83 (c .before) (After-totals-at2·gave c)) .ptr) (Row.get 3 (T104 .locals) (m83 (c .before) (After-totals-at2·gave c)) .name) (Row.get 3 (T104
+                    .locals) (m83 (c .before) (After-totals-at2·gave c)) .now) (dens (c .before .before .before .before .before .before .before .before .before .before .before .before .before .before .before
+                    .before .before .before .before .before .before .before .before .before .before .before .before .before .before .before .before .before .before .before .before .κs) (c .before .before .before
                     .before .before .before .before .before .before .before .before .before .before .before .before .before .before .before .before .before .before .before .before .before .before .before .before
-                    .before .before .before .before .κs) (c .before .before .before .before .before .before .before .before .before .before .before .before .before .before .before .before .before .before .before
-                    .before .before .before .before .before .before .before .before .before .before .before .before .before .before .before .before .before .before .before .before .before .before .before .before
-                    .args) .1 .1 .0 .now) (same-length record { before = c .before; totals-at = c .totals-at }),
+                    .before .before .before .before .before .before .before .before .args) .1 .1 .0 .now) (same-length record { before = c .before; totals-at2 = c .totals-at2 }),
                 (
-                  MutSlice.fix-len (Row.get 4 (T117 .locals) (m90 (c .before) (After-totals-at·gave c)) .ptr) (Row.get 4 (T117 .locals) (m90 (c .before) (After-totals-at·gave c)) .name) (Row.get 4 (T117
-                      .locals) (m90 (c .before) (After-totals-at·gave c)) .now) (dens (c .before .before .before .before .before .before .before .before .before .before .before .before .before .before .before
+                  MutSlice.fix-len (Row.get 4 (T104 .locals) (m83 (c .before) (After-totals-at2·gave c)) .ptr) (Row.get 4 (T104 .locals) (m83 (c .before) (After-totals-at2·gave c)) .name) (Row.get 4 (T104
+                      .locals) (m83 (c .before) (After-totals-at2·gave c)) .now) (dens (c .before .before .before .before .before .before .before .before .before .before .before .before .before .before .before
+                      .before .before .before .before .before .before .before .before .before .before .before .before .before .before .before .before .before .before .before .before .κs) (c .before .before .before
                       .before .before .before .before .before .before .before .before .before .before .before .before .before .before .before .before .before .before .before .before .before .before .before .before
-                      .before .before .before .before .κs) (c .before .before .before .before .before .before .before .before .before .before .before .before .before .before .before .before .before .before .before
-                      .before .before .before .before .before .before .before .before .before .before .before .before .before .before .before .before .before .before .before .before .before .before .before .before
-                      .args) .1 .1 .1 .0 .now) (same-length-2 record { before = c .before; totals-at = c .totals-at }),
+                      .before .before .before .before .before .before .before .before .args) .1 .1 .1 .0 .now) (same-length-2 record { before = c .before; totals-at2 = c .totals-at2 }),
                   (
-                    MutSlice.fix-len (Row.get 5 (T117 .locals) (m90 (c .before) (After-totals-at·gave c)) .ptr) (Row.get 5 (T117 .locals) (m90 (c .before) (After-totals-at·gave c)) .name) (Row.get 5 (T117
-                        .locals) (m90 (c .before) (After-totals-at·gave c)) .now) (dens (c .before .before .before .before .before .before .before .before .before .before .before .before .before .before .before
+                    MutSlice.fix-len (Row.get 5 (T104 .locals) (m83 (c .before) (After-totals-at2·gave c)) .ptr) (Row.get 5 (T104 .locals) (m83 (c .before) (After-totals-at2·gave c)) .name) (Row.get 5 (T104
+                        .locals) (m83 (c .before) (After-totals-at2·gave c)) .now) (dens (c .before .before .before .before .before .before .before .before .before .before .before .before .before .before .before
+                        .before .before .before .before .before .before .before .before .before .before .before .before .before .before .before .before .before .before .before .before .κs) (c .before .before .before
                         .before .before .before .before .before .before .before .before .before .before .before .before .before .before .before .before .before .before .before .before .before .before .before .before
-                        .before .before .before .before .κs) (c .before .before .before .before .before .before .before .before .before .before .before .before .before .before .before .before .before .before .before
-                        .before .before .before .before .before .before .before .before .before .before .before .before .before .before .before .before .before .before .before .before .before .before .before .before
-                        .args) .1 .1 .1 .1 .0 .now) (same-length-3 record { before = c .before; totals-at = c .totals-at }),
-                    (tt, (Path'.refl, (tt, (tt, (tt, (tt, (tt, tt))))))),
+                        .before .before .before .before .before .before .before .before .args) .1 .1 .1 .1 .0 .now) (same-length-3 record { before = c .before; totals-at2 = c .totals-at2 }),
+                    (tt, (Path'.refl, (tt, (tt, (tt, (tt, (tt, (tt, (tt, tt))))))))),
                   ),
                 ),
               ),
             ),
           ),
-          returns record
-              { before = c .before; totals-at = c .totals-at },
+          returns record { before = c .before; totals-at2 = c .totals-at2 },
         )
 
-        lay16 : (c : After-zero-line) → at30 (W5 (c .before .before .before .before .before .before .before .before .before .before) (After-line·gave (c .before .before .before .before .before .before
-            .before .before .before))) (m75 (c .before) (After-zero-line·gave c))
-        lay16 = λ c. (
+        lay13 : (c : After-zero-line) → at32 (W5 (c .before .before .before .before .before .before .before .before .before .before) (After-line·gave (c .before .before .before .before .before .before
+            .before .before .before))) (m66 (c .before) (After-zero-line·gave c))
+        lay13 = λ c. (
           Path'.refl,
           λ g. λ g'. (
-            totals-at-requires record { before = record { before = record { before = c .before; zero-line = c .zero-line }; image2 = record { given = g } }; slice-known7 = record { given = g' } },
+            totals-at-requires-2 record { before = record { before = record { before = c .before; zero-line = c .zero-line }; image2 = record { given = g } }; slice-known6 = record { given = g' } },
             λ
-                g''. lay17 record {
-                  before = record { before = record { before = record { before = c .before; zero-line = c .zero-line }; image2 = record { given = g } }; slice-known7 = record { given = g' } };
-                  totals-at =
-                      Called.called ps·12 r·12 (claims· .25) T105 (record { pos = 16; st = List.[]; d = 0; at = λ x. x }, tt) (m79 record
+                g''. lay14 record {
+                  before = record { before = record { before = record { before = c .before; zero-line = c .zero-line }; image2 = record { given = g } }; slice-known6 = record { given = g' } };
+                  totals-at2 =
+                      Called.called ps·1 r·1 (claims· .3) T90 (record { pos = 18; st = List.[]; d = 0; at = λ x. x }, tt) (m70 record
                       { before = record { before = c .before; zero-line = c .zero-line }; image2 = record { given = g } } g') g'';
                 },
           ),
         )
 
-        lay15 : (c : After-line) → at78 (W3 (c .before .before .before .before .before .before .before .before .before .before .before .before .before .before .before .before) (c .before .before
+        lay12 : (c : After-line) → at80 (W3 (c .before .before .before .before .before .before .before .before .before .before .before .before .before .before .before .before) (c .before .before
             .before .before .before .before .before .before .before .before .before .before .before .before .before .loop .lines) (c .before .before .before .before .before .before .before .before .before
             .before .before .before .before .before .before .loop .rs) (c .before .before .before .before .before .before .before .before .before .before .before .before .before .before .before .loop
             .image) (c .before .before .before .before .before .before .before .before .before .before .before .before .before .before .before .loop .place) (c .before .before .before .before .before
             .before .before .before .before .before .before .before .before .before .before .loop .tight-lines) (c .before .before .before .before .before .before .before .before .before .before .before
-            .before .before .before .before .loop .n)) (m55 (c .before) (After-line·gave c))
-        lay15 = λ c. (
+            .before .before .before .before .loop .i)) (m46 (c .before) (After-line·gave c))
+        lay12 = λ c. (
           Path'.refl,
           λ g. λ g'. (
             Path'.refl,
@@ -8024,33 +7350,33 @@ module _ (claims· : Claims) where
                     before = record {
                       before = record {
                         before = record {
-                          before = record { before = record { before = record { before = c .before; line = c .line }; lines3 = record { given = g } }; slice-known5 = record { given = g' } };
-                          rs3 = record {
+                          before = record { before = record { before = record { before = c .before; line = c .line }; lines2 = record { given = g } }; slice-known4 = record { given = g' } };
+                          rs2 = record {
                             given =
                                 g'';
                           };
                         };
                         image = record { given = g'3 };
                       };
-                      slice-known6 = record { given = g'4 };
+                      slice-known5 = record { given = g'4 };
                     };
                     match = record { keys1 = k };
                   },
-                  λ g'5. λ g'6. lay18 record {
+                  λ g'5. λ g'6. lay15 record {
                     before = record {
                       before = record {
                         before = record {
                           before = record {
                             before = record {
-                              before = record { before = record { before = record { before = c .before; line = c .line }; lines3 = record { given = g } }; slice-known5 = record { given = g' } };
-                              rs3 = record {
+                              before = record { before = record { before = record { before = c .before; line = c .line }; lines2 = record { given = g } }; slice-known4 = record { given = g' } };
+                              rs2 = record {
                                 given =
                                     g'';
                               };
                             };
                             image = record { given = g'3 };
                           };
-                          slice-known6 = record { given = g'4 };
+                          slice-known5 = record { given = g'4 };
                         };
                         match = record { keys1 = k };
                       };
@@ -8065,15 +7391,15 @@ module _ (claims· : Claims) where
                       before = record {
                         before = record {
                           before = record {
-                            before = record { before = record { before = record { before = c .before; line = c .line }; lines3 = record { given = g } }; slice-known5 = record { given = g' } };
-                            rs3 = record {
+                            before = record { before = record { before = record { before = c .before; line = c .line }; lines2 = record { given = g } }; slice-known4 = record { given = g' } };
+                            rs2 = record {
                               given =
                                   g'';
                             };
                           };
                           image = record { given = g'3 };
                         };
-                        slice-known6 = record { given = g'4 };
+                        slice-known5 = record { given = g'4 };
                       };
                       match = record { keys2 = k };
                     },
@@ -8086,15 +7412,15 @@ module _ (claims· : Claims) where
                               before = record {
                                 before = record {
                                   before = record {
-                                    before = record { before = record { before = record { before = c .before; line = c .line }; lines3 = record { given = g } }; slice-known5 = record { given = g' } };
-                                    rs3 = record {
+                                    before = record { before = record { before = record { before = c .before; line = c .line }; lines2 = record { given = g } }; slice-known4 = record { given = g' } };
+                                    rs2 = record {
                                       given =
                                           g'';
                                     };
                                   };
                                   image = record { given = g'3 };
                                 };
-                                slice-known6 = record { given = g'4 };
+                                slice-known5 = record { given = g'4 };
                               };
                               match = record { keys2 = k };
                             };
@@ -8105,22 +7431,22 @@ module _ (claims· : Claims) where
                                 g'8;
                           };
                         },
-                        λ g'9. lay16 record {
+                        λ g'9. lay13 record {
                           before = record {
                             before = record {
                               before = record {
                                 before = record {
                                   before = record {
                                     before = record {
-                                      before = record { before = record { before = record { before = c .before; line = c .line }; lines3 = record { given = g } }; slice-known5 = record { given = g' } };
-                                      rs3 = record {
+                                      before = record { before = record { before = record { before = c .before; line = c .line }; lines2 = record { given = g } }; slice-known4 = record { given = g' } };
+                                      rs2 = record {
                                         given =
                                             g'';
                                       };
                                     };
                                     image = record { given = g'3 };
                                   };
-                                  slice-known6 = record { given = g'4 };
+                                  slice-known5 = record { given = g'4 };
                                 };
                                 match = record { keys2 = k };
                               };
@@ -8131,23 +7457,23 @@ module _ (claims· : Claims) where
                                   g'8;
                             };
                           };
-                          zero-line = Called.called ps·11 r·11 (claims· .23) T99 (
-                            record { pos = 43; ty = Syntax.tyRef Syntax.erased Syntax.mut (Syntax.tyInt Syntax.w16); ref = λ x. x },
-                            (record { pos = 9; st = List.[]; d = 0; at = λ x. x }, (Num.vAt 18 λ x. x, (Bool.bAt 11 λ x. x, tt))),
-                          ) (m74 record {
+                          zero-line = Called.called ps·9 r·9 (claims· .19) T84 (
+                            record { pos = 41; ty = Syntax.tyRef Syntax.erased Syntax.mut (Syntax.tyInt Syntax.w16); ref = λ x. x },
+                            (record { pos = 9; st = List.[]; d = 0; at = λ x. x }, (Num.vAt 21 λ x. x, (Bool.bAt 13 λ x. x, tt))),
+                          ) (m65 record {
                             before = record {
                               before = record {
                                 before = record {
                                   before = record {
-                                    before = record { before = record { before = record { before = c .before; line = c .line }; lines3 = record { given = g } }; slice-known5 = record { given = g' } };
-                                    rs3 = record {
+                                    before = record { before = record { before = record { before = c .before; line = c .line }; lines2 = record { given = g } }; slice-known4 = record { given = g' } };
+                                    rs2 = record {
                                       given =
                                           g'';
                                     };
                                   };
                                   image = record { given = g'3 };
                                 };
-                                slice-known6 = record { given = g'4 };
+                                slice-known5 = record { given = g'4 };
                               };
                               match = record { keys2 = k };
                             };
@@ -8159,19 +7485,19 @@ module _ (claims· : Claims) where
                   ),
                   Match.each-below 2
                       (λ j. (Unit {0} × (Run.OneOf (List._∷_ 0 List.[]) j → ⊥)) × (Run.OneOf (List._∷_ 1 List.[]) j → ⊥) → ⊥) (λ n. n .1 Path'.refl, (λ n. n .0 .1 Path'.refl, tt)) (Declared.tagOf Lined.the-type
-                      (Row.get 20 (T84 .locals) (m61 record {
+                      (Row.get 23 (T69 .locals) (m52 record {
                         before = record {
-                          before = record { before = record { before = record { before = c .before; line = c .line }; lines3 = record { given = g } }; slice-known5 = record { given = g' } };
-                          rs3 = record {
+                          before = record { before = record { before = record { before = c .before; line = c .line }; lines2 = record { given = g } }; slice-known4 = record { given = g' } };
+                          rs2 = record {
                             given =
                                 g'';
                           };
                         };
                         image = record { given = g'3 };
-                      } g'4))) (Match.tag-small Lined.the-type (Row.get 20 (T84 .locals) (m61 record {
+                      } g'4))) (Match.tag-small Lined.the-type (Row.get 23 (T69 .locals) (m52 record {
                         before = record {
-                          before = record { before = record { before = record { before = c .before; line = c .line }; lines3 = record { given = g } }; slice-known5 = record { given = g' } };
-                          rs3 = record {
+                          before = record { before = record { before = record { before = c .before; line = c .line }; lines2 = record { given = g } }; slice-known4 = record { given = g' } };
+                          rs2 = record {
                             given =
                                 g'';
                           };
@@ -8184,33 +7510,33 @@ module _ (claims· : Claims) where
           ),
         )
 
-        lay14 : (c : After-quantisers-in) → at79 (W3 (c .before .before .before .before .before .before .before .before .before .before .before .before .before .before .before) (c .before .before
+        lay11 : (c : After-quantisers-in) → at81 (W3 (c .before .before .before .before .before .before .before .before .before .before .before .before .before .before .before) (c .before .before
             .before .before .before .before .before .before .before .before .before .before .before .before .loop .lines) (c .before .before .before .before .before .before .before .before .before .before
             .before .before .before .before .loop .rs) (c .before .before .before .before .before .before .before .before .before .before .before .before .before .before .loop .image) (c .before .before
             .before .before .before .before .before .before .before .before .before .before .before .before .loop .place) (c .before .before .before .before .before .before .before .before .before .before
-            .before .before .before .before .loop .tight-lines) (c .before .before .before .before .before .before .before .before .before .before .before .before .before .before .loop .n)) (m54 (c
+            .before .before .before .before .loop .tight-lines) (c .before .before .before .before .before .before .before .before .before .before .before .before .before .before .loop .i)) (m45 (c
             .before) (After-quantisers-in·gave c))
-        lay14 = λ c. (
+        lay11 = λ c. (
           line-requires record { before = c .before; quantisers-in = c .quantisers-in },
-          λ g. lay15 record {
+          λ g. lay12 record {
             before = record { before = c .before; quantisers-in = c .quantisers-in };
-            line = Called.called ps·10 r·10 (claims· .21) T71 (
+            line = Called.called ps·8 r·8 (claims· .17) T56 (
               record { pos = 1; ty = Syntax.tyRef (Syntax.named 0) Syntax.imm (Syntax.tyInt Syntax.w8); ref = λ x. x },
               (
-                record { pos = 16; st = List.[]; d = 0; at = λ x. x },
+                record { pos = 18; st = List.[]; d = 0; at = λ x. x },
                 (
-                  record { pos = 35; ty = Syntax.tyRef Syntax.erased Syntax.mut (Syntax.tyInt Syntax.w16); ref = λ x. x },
+                  record { pos = 33; ty = Syntax.tyRef Syntax.erased Syntax.mut (Syntax.tyInt Syntax.w16); ref = λ x. x },
                   (
-                    record { pos = 37; ty = Syntax.tyRef Syntax.erased Syntax.mut Element.behind; ref = λ x. x },
+                    record { pos = 35; ty = Syntax.tyRef Syntax.erased Syntax.mut Element.behind; ref = λ x. x },
                     (
-                      record { pos = 39; ty = Syntax.tyRef Syntax.erased Syntax.mut (Syntax.tyInt Syntax.w16); ref = λ x. x },
+                      record { pos = 37; ty = Syntax.tyRef Syntax.erased Syntax.mut (Syntax.tyInt Syntax.w16); ref = λ x. x },
                       (
                         record { pos = 6; st = List.[]; d = 0; at = λ x. x },
                         (
-                          record { pos = 40; st = List.[]; d = 0; at = λ x. x },
+                          record { pos = 38; st = List.[]; d = 0; at = λ x. x },
                           (
                             record { pos = 7; ty = Syntax.tyRef (Syntax.named 5) Syntax.imm (Syntax.tyArray (Syntax.tyInt Syntax.w16) 768); ref = λ x. x },
-                            (record { pos = 8; st = List.[]; d = 0; at = λ x. x }, (record { pos = 9; st = List.[]; d = 0; at = λ x. x }, (Num.vAt 18 λ x. x, (Bool.bAt 11 λ x. x, tt)))),
+                            (record { pos = 8; st = List.[]; d = 0; at = λ x. x }, (record { pos = 9; st = List.[]; d = 0; at = λ x. x }, (Num.vAt 21 λ x. x, (Bool.bAt 13 λ x. x, tt)))),
                           ),
                         ),
                       ),
@@ -8218,16 +7544,16 @@ module _ (claims· : Claims) where
                   ),
                 ),
               ),
-            ) (m54 (c .before)
+            ) (m45 (c .before)
                 (After-quantisers-in·gave c)) g;
           },
         )
 
-        lay13 : (c : After-restart) → at94 (W3 (c .before .before .before .before .before .before .before .before .before .before) (c .before .before .before .before .before .before .before .before
+        lay10 : (c : After-restart) → at96 (W3 (c .before .before .before .before .before .before .before .before .before .before) (c .before .before .before .before .before .before .before .before
             .before .loop .lines) (c .before .before .before .before .before .before .before .before .before .loop .rs) (c .before .before .before .before .before .before .before .before .before .loop
             .image) (c .before .before .before .before .before .before .before .before .before .loop .place) (c .before .before .before .before .before .before .before .before .before .loop .tight-lines)
-            (c .before .before .before .before .before .before .before .before .before .loop .n)) (m44 (c .before) (After-restart·gave c))
-        lay13 = λ c. (
+            (c .before .before .before .before .before .before .before .before .before .loop .i)) (m35 (c .before) (After-restart·gave c))
+        lay10 = λ c. (
           Path'.refl,
           λ g. λ g'. (
             Path'.refl,
@@ -8238,26 +7564,26 @@ module _ (claims· : Claims) where
                 (
                   quantisers-in-requires record {
                     before = record {
-                      before = record { before = record { before = record { before = c .before; restart = c .restart }; rs2 = record { given = g } }; line-arg = record { given = g' } };
+                      before = record { before = record { before = record { before = c .before; restart = c .restart }; rs = record { given = g } }; line-arg = record { given = g' } };
                       line-arg2 = record {
                         given = g'';
                       };
                     };
                     line-arg3 = record { given = g'3 };
                   },
-                  λ g'4. lay14 record {
+                  λ g'4. lay11 record {
                     before = record {
                       before = record {
-                        before = record { before = record { before = record { before = c .before; restart = c .restart }; rs2 = record { given = g } }; line-arg = record { given = g' } };
+                        before = record { before = record { before = record { before = c .before; restart = c .restart }; rs = record { given = g } }; line-arg = record { given = g' } };
                         line-arg2 = record {
                           given = g'';
                         };
                       };
                       line-arg3 = record { given = g'3 };
                     };
-                    quantisers-in = Called.called ps·9 r·9 (claims· .19) T70
-                        (record { pos = 12; st = List.[]; d = 0; at = λ x. x }, (Num.vAt 13 λ x. x, (Num.vAt 19 λ x. x, tt))) (m53 record {
-                          before = record { before = record { before = record { before = c .before; restart = c .restart }; rs2 = record { given = g } }; line-arg = record { given = g' } };
+                    quantisers-in = Called.called ps·7 r·7 (claims· .15) T55
+                        (record { pos = 14; st = List.[]; d = 0; at = λ x. x }, (Num.vAt 15 λ x. x, (Num.vAt 22 λ x. x, tt))) (m44 record {
+                          before = record { before = record { before = record { before = c .before; restart = c .restart }; rs = record { given = g } }; line-arg = record { given = g' } };
                           line-arg2 = record {
                             given = g'';
                           };
@@ -8269,111 +7595,114 @@ module _ (claims· : Claims) where
           ),
         )
 
-        lay12 : (c : After-is-restarted) → at95 (W3 (c .before .before .before .before .before .before .before .before .before) (c .before .before .before .before .before .before .before .before .loop
+        lay9 : (c : After-is-restarted) → at97 (W3 (c .before .before .before .before .before .before .before .before .before) (c .before .before .before .before .before .before .before .before .loop
             .lines) (c .before .before .before .before .before .before .before .before .loop .rs) (c .before .before .before .before .before .before .before .before .loop .image) (c .before .before
             .before .before .before .before .before .before .loop .place) (c .before .before .before .before .before .before .before .before .loop .tight-lines) (c .before .before .before .before .before
-            .before .before .before .loop .n)) (m43 (c .before) (After-is-restarted·gave c))
-        lay12 = λ c. (
+            .before .before .before .loop .i)) (m34 (c .before) (After-is-restarted·gave c))
+        lay9 = λ c. (
           restart-requires record { before = c .before; is-restarted = c .is-restarted },
-          λ g. lay13 record {
+          λ g. lay10 record {
             before = record { before = c .before; is-restarted = c .is-restarted };
-            restart = Called.called ps·8 r·8 (claims· .17) T55
-                (record { pos = 33; ty = Syntax.tyRef Syntax.erased Syntax.mut Element.behind; ref = λ x. x }, (Num.vAt 13 λ x. x, (Num.vAt 19 λ x. x, (Bool.bAt 28 λ x. x, tt)))) (m43 (c .before)
+            restart = Called.called ps·6 r·6 (claims· .13) T40
+                (record { pos = 31; ty = Syntax.tyRef Syntax.erased Syntax.mut Element.behind; ref = λ x. x }, (Num.vAt 15 λ x. x, (Num.vAt 22 λ x. x, (Bool.bAt 26 λ x. x, tt)))) (m34 (c .before)
                 (After-is-restarted·gave c)) g;
           },
         )
 
-        lay11 : (c : After-base-of2) → at99 (W3 (c .before .before .before .before .before .before .before) (c .before .before .before .before .before .before .loop .lines) (c .before .before .before
+        lay8 : (c : After-base-of) → at101 (W3 (c .before .before .before .before .before .before .before) (c .before .before .before .before .before .before .loop .lines) (c .before .before .before
             .before .before .before .loop .rs) (c .before .before .before .before .before .before .loop .image) (c .before .before .before .before .before .before .loop .place) (c .before .before .before
-            .before .before .before .loop .tight-lines) (c .before .before .before .before .before .before .loop .n)) (m40 (c .before) (After-base-of2·gave c))
-        lay11 = λ c. λ g. (
+            .before .before .before .loop .tight-lines) (c .before .before .before .before .before .before .loop .i)) (m31 (c .before) (After-base-of·gave c))
+        lay8 = λ c. λ g. (
           Path'.refl,
           (
-            is-restarted-requires record { before = record { before = c .before; base-of2 = c .base-of2 }; restart-arg = record { given = g } },
-            λ g'. lay12 record {
-              before = record { before = record { before = c .before; base-of2 = c .base-of2 }; restart-arg = record { given = g } };
-              is-restarted = Called.called ps·7 r·7 (claims· .15) T54
-                  (record { pos = 2; ty = Syntax.tyRef (Syntax.named 1) Syntax.imm (Syntax.tyInt Syntax.w8); ref = λ x. x }, (Num.vAt 18 λ x. x, tt)) (m42 record { before = c .before; base-of2 = c .base-of2 }
-                  g) g';
+            is-restarted-requires record { before = record { before = c .before; base-of = c .base-of }; restart-arg = record { given = g } },
+            λ g'. lay9 record {
+              before = record { before = record { before = c .before; base-of = c .base-of }; restart-arg = record { given = g } };
+              is-restarted = Called.called ps·5 r·5 (claims· .11) T39
+                  (record { pos = 2; ty = Syntax.tyRef (Syntax.named 1) Syntax.imm (Syntax.tyInt Syntax.w8); ref = λ x. x }, (Num.vAt 21 λ x. x, tt)) (m33 record { before = c .before; base-of = c .base-of } g)
+                  g';
             },
           ),
         )
 
-        lay10 : (c : After-turn-if) → at106 (W3 (c .before .before .before .before) (c .before .before .before .loop .lines) (c .before .before .before .loop .rs) (c .before .before .before .loop
-            .image) (c .before .before .before .loop .place) (c .before .before .before .loop .tight-lines) (c .before .before .before .loop .n)) (m35 (c .before) (After-turn-if·gave c))
-        lay10 = λ c. (
+        lay7 : (c : After-turn-if) → at108 (W3 (c .before .before .before .before) (c .before .before .before .loop .lines) (c .before .before .before .loop .rs) (c .before .before .before .loop
+            .image) (c .before .before .before .loop .place) (c .before .before .before .loop .tight-lines) (c .before .before .before .loop .i)) (m26 (c .before) (After-turn-if·gave c))
+        lay7 = λ c. (
           Path'.refl,
           λ g. λ g'. (
-            base-of-requires-2 record { before = record { before = record { before = c .before; turn-if = c .turn-if }; lines2 = record { given = g } }; slice-known4 = record { given = g' } },
-            λ g''.
-                lay11 record {
-                  before = record { before = record { before = record { before = c .before; turn-if = c .turn-if }; lines2 = record { given = g } }; slice-known4 = record { given = g' } };
-                  base-of2 =
-                      Called.called ps·2 r·2 (claims· .5) T49 (record { pos = 2; ty = Syntax.tyRef (Syntax.named 1) Syntax.imm (Syntax.tyInt Syntax.w8); ref = λ x. x }, (Num.vAt 18 λ x. x, tt)) (m39 record
-                      { before = record { before = c .before; turn-if = c .turn-if }; lines2 = record { given = g } } g') g'';
+            base-of-requires record { before = record { before = record { before = c .before; turn-if = c .turn-if }; lines = record { given = g } }; slice-known3 = record { given = g' } },
+            λ g''. lay8
+                record {
+                  before = record { before = record { before = record { before = c .before; turn-if = c .turn-if }; lines = record { given = g } }; slice-known3 = record { given = g' } };
+                  base-of =
+                      Called.called ps·4 r·4 (claims· .9) T34 (record { pos = 2; ty = Syntax.tyRef (Syntax.named 1) Syntax.imm (Syntax.tyInt Syntax.w8); ref = λ x. x }, (Num.vAt 21 λ x. x, tt)) (m30 record
+                      { before = record { before = c .before; turn-if = c .turn-if }; lines = record { given = g } } g') g'';
                 },
           ),
         )
 
-        lay9 : (c : In-loop) → at111 (W3 (c .before .before) (c .before .loop .lines) (c .before .loop .rs) (c .before .loop .image) (c .before .loop .place) (c .before .loop .tight-lines) (c .before
-            .loop .n)) (m26 (c .before))
-        lay9 = λ c. λ g. (
-          Path'.refl,
-          (
-            tt,
+        lay6 : (c : In-loop) → at114 (W3 (c .before .before) (c .before .loop .lines) (c .before .loop .rs) (c .before .loop .image) (c .before .loop .place) (c .before .loop .tight-lines) (c .before
+            .loop .i)) (m16 (c .before))
+        lay6 = λ c. (
+          add-n record { before = c .before; loop-test = c .loop-test },
+          λ g. (
+            Path'.refl,
             (
-              turn-if-requires record { before = record { before = c .before; loop-test = c .loop-test }; turn-if-arg = record { given = g } },
-              λ g'. lay10 record {
-                before = record { before = record { before = c .before; loop-test = c .loop-test }; turn-if-arg = record { given = g } };
-                turn-if = Called.called ps·6 r·6 (claims· .13) T43
-                    (record { pos = 31; ty = Syntax.tyRef Syntax.erased Syntax.mut (Syntax.tyInt Syntax.w16); ref = λ x. x }, (Num.vAt 15 λ x. x, (Bool.bAt 28 λ x. x, tt))) (m34 record
-                    { before = c .before; loop-test = c .loop-test } g) g';
-              },
+              tt,
+              (
+                turn-if-requires record { before = record { before = c .before; loop-test = c .loop-test }; turn-if-arg = record { given = g } },
+                λ g'. lay7 record {
+                  before = record { before = record { before = c .before; loop-test = c .loop-test }; turn-if-arg = record { given = g } };
+                  turn-if = Called.called ps·3 r·3 (claims· .7) T28
+                      (record { pos = 29; ty = Syntax.tyRef Syntax.erased Syntax.mut (Syntax.tyInt Syntax.w16); ref = λ x. x }, (Num.vAt 17 λ x. x, (Bool.bAt 26 λ x. x, tt))) (m25 record
+                      { before = c .before; loop-test = c .loop-test } g) g';
+                },
+              ),
             ),
           ),
         )
 
-        lay8 : (c : After-loop) → at7 (W4 (c .before .before) (c .before .loop .lines) (c .before .loop .rs) (c .before .loop .image) (c .before .loop .place) (c .before .loop .tight-lines) (c .before
-            .loop .n)) (m25 (c .before .before) (c .before .loop .lines) (c .before .loop .rs) (c .before .loop .image) (c .before .loop .place) (c .before .loop .tight-lines) (c .before .loop .n))
-        lay8 = λ c. lay22 record { before = c .before; loop-test = c .loop-test }
+        lay5 : (c : After-loop) → at7 (W4 (c .before .before) (c .before .loop .lines) (c .before .loop .rs) (c .before .loop .image) (c .before .loop .place) (c .before .loop .tight-lines) (c .before
+            .loop .i)) (m15 (c .before .before) (c .before .loop .lines) (c .before .loop .rs) (c .before .loop .image) (c .before .loop .place) (c .before .loop .tight-lines) (c .before .loop .i))
+        lay5 = λ c. lay19 record { before = c .before; loop-test = c .loop-test }
 
-        lay7 : (c : In-loop) → at1 (W4 (c .before .before) (c .before .loop .lines) (c .before .loop .rs) (c .before .loop .image) (c .before .loop .place) (c .before .loop .tight-lines) (c .before
-            .loop .n)) (m25 (c .before .before) (c .before .loop .lines) (c .before .loop .rs) (c .before .loop .image) (c .before .loop .place) (c .before .loop .tight-lines) (c .before .loop .n))
-        lay7 = λ c. lay9 record { before = c .before; loop-test = c .loop-test }
+        lay4 : (c : In-loop) → at1 (W4 (c .before .before) (c .before .loop .lines) (c .before .loop .rs) (c .before .loop .image) (c .before .loop .place) (c .before .loop .tight-lines) (c .before
+            .loop .i)) (m15 (c .before .before) (c .before .loop .lines) (c .before .loop .rs) (c .before .loop .image) (c .before .loop .place) (c .before .loop .tight-lines) (c .before .loop .i))
+        lay4 = λ c. lay6 record { before = c .before; loop-test = c .loop-test }
 
-        lay6 : (c : After-no-lines) → at129 (W0 (c .before .before .before .before .before .before .before .before .before .before .before .before .before .before .before .κs) (c .before .before
-            .before .before .before .before .before .before .before .before .before .before .before .before .before .args)) (m22 (c .before) (After-no-lines·gave c))
-        lay6 = λ c. (
+        lay3 : (c : After-no-lines) → at134 (W0 (c .before .before .before .before .before .before .before .κs) (c .before .before .before .before .before .before .before .args)) (m11 (c .before)
+            (After-no-lines·gave c))
+        lay3 = λ c. (
           (
             (
-              Row.get 3 (T30 .locals) (m23 (c .before) (After-no-lines·gave c)) .now,
-              Row.get 4 (T30 .locals) (m23 (c .before) (After-no-lines·gave c)) .now,
-              Row.get 5 (T30 .locals) (m23 (c .before)
+              Row.get 3 (T14 .locals) (m13 (c .before) (After-no-lines·gave c)) .now,
+              Row.get 4 (T14 .locals) (m13 (c .before) (After-no-lines·gave c)) .now,
+              Row.get 5 (T14 .locals) (m13 (c .before)
                   (After-no-lines·gave c)) .now,
-              Row.get 16 (T30 .locals) (m23 (c .before) (After-no-lines·gave c)),
-              Row.get 17 (T30 .locals) (m23 (c .before) (After-no-lines·gave c)),
-              Row.get 18 (T30 .locals)
-                  (m23 (c .before) (After-no-lines·gave c)),
+              Row.get 18 (T14 .locals) (m13 (c .before) (After-no-lines·gave c)),
+              Row.get 19 (T14 .locals) (m13 (c .before) (After-no-lines·gave c)),
+              Row.get 20 (T14 .locals)
+                  (m13 (c .before) (After-no-lines·gave c)),
             ),
-            Path'.refl {a = m23 (c .before) (After-no-lines·gave c)},
+            Path'.refl {a = m13 (c .before) (After-no-lines·gave c)},
             loop-holds record { before = c .before; no-lines = c .no-lines },
           ),
           λ vs inv. (
             tt,
             (
-              λ taken. lay7 record {
+              λ taken. lay4 record {
                 before = record
-                    { before = record { before = c .before; no-lines = c .no-lines }; loop = record { lines = vs .0; rs = vs .1; image = vs .2; place = vs .3; tight-lines = vs .4; n = vs .5; inv = inv } };
+                    { before = record { before = c .before; no-lines = c .no-lines }; loop = record { lines = vs .0; rs = vs .1; image = vs .2; place = vs .3; tight-lines = vs .4; i = vs .5; inv = inv } };
                 loop-test = record {
-                  taken = Tests.ltb-true (Row.get 18 (T30 .locals) (m24 record { before = c .before; no-lines = c .no-lines } (vs .0) (vs .1) (vs .2) (vs .3) (vs .4) (vs .5))) (Row.get 10 (T30 .locals) (m24
+                  taken = Tests.ltb-true (Row.get 20 (T14 .locals) (m14 record { before = c .before; no-lines = c .no-lines } (vs .0) (vs .1) (vs .2) (vs .3) (vs .4) (vs .5))) (Row.get 12 (T14 .locals) (m14
                       record { before = c .before; no-lines = c .no-lines } (vs .0) (vs .1) (vs .2) (vs .3) (vs .4) (vs .5))) taken;
                 };
               },
-              λ left. lay8 record {
+              λ left. lay5 record {
                 before = record
-                    { before = record { before = c .before; no-lines = c .no-lines }; loop = record { lines = vs .0; rs = vs .1; image = vs .2; place = vs .3; tight-lines = vs .4; n = vs .5; inv = inv } };
+                    { before = record { before = c .before; no-lines = c .no-lines }; loop = record { lines = vs .0; rs = vs .1; image = vs .2; place = vs .3; tight-lines = vs .4; i = vs .5; inv = inv } };
                 loop-test = record {
-                  left = Tests.ltb-false (Row.get 18 (T30 .locals) (m24 record { before = c .before; no-lines = c .no-lines } (vs .0) (vs .1) (vs .2) (vs .3) (vs .4) (vs .5))) (Row.get 10 (T30 .locals) (m24
+                  left = Tests.ltb-false (Row.get 20 (T14 .locals) (m14 record { before = c .before; no-lines = c .no-lines } (vs .0) (vs .1) (vs .2) (vs .3) (vs .4) (vs .5))) (Row.get 12 (T14 .locals) (m14
                       record { before = c .before; no-lines = c .no-lines } (vs .0) (vs .1) (vs .2) (vs .3) (vs .4) (vs .5))) left;
                 };
               },
@@ -8381,79 +7710,28 @@ module _ (claims· : Claims) where
           ),
         )
 
-        lay5 : (c : After-start-place) → at130 (W0 (c .before .before .before .before .before .before .before .before .before .before .before .before .before .before .κs) (c .before .before .before
-            .before .before .before .before .before .before .before .before .before .before .before .args)) (m21 (c .before) (After-start-place·gave c))
-        lay5 = λ c. (
-          no-lines-requires record { before = c .before; start-place = c .start-place },
-          λ g. lay6 record
-              { before = record { before = c .before; start-place = c .start-place }; no-lines = Called.called ps·5 r·5 (claims· .11) T28 tt (m21 (c .before) (After-start-place·gave c)) g },
-        )
-
-        lay4 : (c : After-start-records) → at136 (W0 (c .before .before .before .before .before .before .before .before .before .before .before .before .κs) (c .before .before .before .before .before
-            .before .before .before .before .before .before .before .args)) (m17 (c .before) (After-start-records·gave c))
-        lay4 = λ c. (
-          Path'.refl,
-          λ g. (
-            start-place-requires record { before = record { before = c .before; start-records = c .start-records }; rs = record { given = g } },
-            λ g'. lay5 record {
-              before = record { before = record { before = c .before; start-records = c .start-records }; rs = record { given = g } };
-              start-place = Called.called ps·4 r·4 (claims· .9) T26 tt (m20 record
-                  { before = c .before; start-records = c .start-records } g) g';
-            },
-          ),
-        )
-
-        lay3 : (c : After-base-of) → at137 (W0 (c .before .before .before .before .before .before .before .before .before .before .before .κs) (c .before .before .before .before .before .before
-            .before .before .before .before .before .args)) (m16 (c .before) (After-base-of·gave c))
-        lay3 = λ c. (
-          start-records-requires record { before = c .before; base-of = c .base-of },
-          λ g. lay4 record {
-            before = record { before = c .before; base-of = c .base-of };
-            start-records = Called.called ps·3 r·3 (claims· .7) T21
-                (record { pos = 26; ty = Syntax.tyRef Syntax.erased Syntax.mut Element.behind; ref = λ x. x }, (Num.vAt 13 λ x. x, (Num.vAt 27 λ x. x, tt))) (m16 (c .before) (After-base-of·gave c)) g;
+        lay2 : (c : After-totals-at) → at136 (W0 (c .before .before .before .before .before .before .κs) (c .before .before .before .before .before .before .args)) (m9 (c .before)
+            (After-totals-at·gave c))
+        lay2 = λ c. (
+          no-lines-requires record { before = c .before; totals-at = c .totals-at },
+          λ g. lay3 record {
+            before = record { before = c .before; totals-at = c .totals-at };
+            no-lines = Called.called ps·2 r·2 (claims· .5) T11 (record { pos = 25; st = List.[]; d = 0; at = λ x. x }, tt) (m10 (c
+                .before) (After-totals-at·gave c)) g;
           },
         )
 
-        lay2 : (c : After-clear) → at146 (W0 (c .before .before .before .before .before .before .before .κs) (c .before .before .before .before .before .before .before .args)) (m10 (c .before)
-            (After-clear·gave c))
-        lay2 = λ c. (
-          Path'.refl,
-          λ g. λ g'. λ g''. (
-            Path'.refl,
-            (
-              base-of-requires record {
-                before = record { before = record { before = record { before = c .before; clear = c .clear }; lines = record { given = g } }; slice-known3 = record { given = g' } };
-                start-records-arg =
-                    record { given = g'' };
-              },
-              λ g'3. lay3 record {
-                before = record {
-                  before = record { before = record { before = record { before = c .before; clear = c .clear }; lines = record { given = g } }; slice-known3 = record { given = g' } };
-                  start-records-arg =
-                      record { given = g'' };
-                };
-                base-of = Called.called ps·2 r·2 (claims· .5) T20
-                    (record { pos = 2; ty = Syntax.tyRef (Syntax.named 1) Syntax.imm (Syntax.tyInt Syntax.w8); ref = λ x. x }, (Num.vLit 0, tt)) (m15 record
-                    { before = record { before = record { before = c .before; clear = c .clear }; lines = record { given = g } }; slice-known3 = record { given = g' } } g'') g'3;
-              },
-            ),
-          ),
+        lay1 : (c : After-width) → at138 (W0 (c .before .before .before .before .before .κs) (c .before .before .before .before .before .args)) (m7 (c .before) (After-width·gave c))
+        lay1 = λ c. (
+          totals-at-requires record { before = c .before; width = c .width },
+          λ g. lay2 record {
+            before = record { before = c .before; width = c .width };
+            totals-at = Called.called ps·1 r·1 (claims· .3) T9 (record { pos = 11; st = List.[]; d = 0; at = λ x. x }, tt) (m8 (c .before)
+                (After-width·gave c)) g;
+          },
         )
 
-        lay1 : (c : After-width) → at150 (W0 (c .before .before .before .before .before .κs) (c .before .before .before .before .before .args)) (m7 (c .before) (After-width·gave c))
-        lay1 = λ c. λ g. (
-          Path'.refl,
-          (
-            clear-requires record { before = record { before = c .before; width = c .width }; clear-arg = record { given = g } },
-            λ g'. lay2 record {
-              before = record { before = record { before = c .before; width = c .width }; clear-arg = record { given = g } };
-              clear = Called.called ps·1 r·1 (claims· .3) T11
-                  (record { pos = 24; ty = Syntax.tyRef Syntax.erased Syntax.mut (Syntax.tyInt Syntax.w16); ref = λ x. x }, tt) (m9 record { before = c .before; width = c .width } g) g';
-            },
-          ),
-        )
-
-        pub laid : (c : Start) → at157 (W0 (c .κs) (c .args)) (m0 (c .κs) (c .args))
+        pub laid : (c : Start) → at145 (W0 (c .κs) (c .args)) (m0 (c .κs) (c .args))
         laid = λ c. λ g. λ g'. λ g''. λ g'3. (
           width-requires record {
             before = record
@@ -8466,7 +7744,7 @@ module _ (claims· : Claims) where
                   { before = record { before = record { before = c; shared-slice-known = record { given = g } }; shared-slice-known2 = record { given = g' } }; slice-known = record { given = g'' } };
               slice-known2 = record { given = g'3 };
             };
-            width = Called.called ps·0 r·0 (claims· .1) T7 (Bool.bAt 14 λ x. x, tt) (m6 record
+            width = Called.called ps·0 r·0 (claims· .1) T7 (Bool.bAt 16 λ x. x, tt) (m6 record
                 { before = record { before = record { before = c; shared-slice-known = record { given = g } }; shared-slice-known2 = record { given = g' } }; slice-known = record { given = g'' } } g'3) g'4;
           },
         )
@@ -8487,25 +7765,26 @@ module _ (claims· : Claims) where
               tile = a .1 .1 .1 .1 .1 .1 .1
                   .0;
               part = a .1 .1 .1 .1 .1 .1 .1 .1 .0;
-              count = a .1 .1 .1 .1 .1 .1 .1 .1 .1 .0;
-              windowed = a .1 .1 .1 .1 .1 .1 .1 .1 .1 .1 .0;
-              entries = a .1 .1 .1 .1 .1 .1 .1 .1 .1 .1 .1 .0;
+              first = a .1 .1 .1 .1 .1 .1 .1 .1 .1 .0;
+              from = a .1 .1 .1 .1 .1 .1 .1 .1 .1 .1 .0;
+              more = a .1 .1 .1 .1 .1 .1 .1 .1 .1 .1 .1 .0;
+              windowed = a .1 .1
+                  .1 .1 .1 .1 .1 .1 .1 .1 .1 .1 .0;
+              entries = a .1 .1 .1 .1 .1 .1 .1 .1 .1 .1 .1 .1 .1 .0;
             };
-            good =
-                good;
-            fits = record { count = record { fits = good .1 .1 .1 .1 .1 .1 .1 .1 .1 .0 .1 } };
+            good = good;
+            fits = record
+                { first = record { fits = good .1 .1 .1 .1 .1 .1 .1 .1 .1 .0 .1 }; more = record { fits = good .1 .1 .1 .1 .1 .1 .1 .1 .1 .1 .1 .0 .1 } };
             pre = pre;
           }
 
         module _ {M : Type 1} (𝓤 : URA.URA M) (H : Wp.Heap 𝓤) (A : Atoms.Atoms 𝓤) (W : Kit.Given 𝓤 H A) (𝓣 : Wp.Tables 𝓤 H) (known0 : Plain.Known 𝓤 H A W 𝓣 0 ps·0 r·0 (claims· .0) (claims· .1)
-            "map::width") (known1 : Plain.Known 𝓤 H A W 𝓣 1 ps·1 r·1 (claims· .2) (claims· .3) "lines::clear") (known2 : Plain.Known 𝓤 H A W 𝓣 1 ps·2 r·2 (claims· .4) (claims· .5) "cameras::base_of")
-            (known3 : Plain.Known 𝓤 H A W 𝓣 1 ps·3 r·3 (claims· .6) (claims· .7) "block::records::start_records") (known4 : Plain.Known 𝓤 H A W 𝓣 0 ps·4 r·4 (claims· .8) (claims· .9)
-            "block::reading::start_place") (known5 : Plain.Known 𝓤 H A W 𝓣 0 ps·5 r·5 (claims· .10) (claims· .11) "block::reading::no_lines") (known6 : Plain.Known 𝓤 H A W 𝓣 1 ps·6 r·6 (claims· .12)
-            (claims· .13) "lines::turn_if") (known7 : Plain.Known 𝓤 H A W 𝓣 1 ps·7 r·7 (claims· .14) (claims· .15) "block::reading::is_restarted") (known8 : Plain.Known 𝓤 H A W 𝓣 1 ps·8 r·8 (claims· .16)
-            (claims· .17) "block::records::restart") (known9 : Plain.Known 𝓤 H A W 𝓣 0 ps·9 r·9 (claims· .18) (claims· .19) "block::reading::quantisers_in") (known10 : Plain.Known 𝓤 H A W 𝓣 5 ps·10 r·10
-            (claims· .20) (claims· .21) "block::reading::line") (known11 : Plain.Known 𝓤 H A W 𝓣 1 ps·11 r·11 (claims· .22) (claims· .23) "map::windows::zero_line") (known12 : Plain.Known 𝓤 H A W 𝓣 0
-            ps·12 r·12 (claims· .24) (claims· .25) "block::reading::totals_at") (known13 : Plain.Known 𝓤 H A W 𝓣 0 ps·13 r·13 (claims· .26) (claims· .27) "totals::with_line") (known14 : Plain.Known 𝓤 H A
-            W 𝓣 3 ps·14 r·14 (claims· .28) (claims· .29) "map::windows::emit_line_if") where
+            "map::width") (known1 : Plain.Known 𝓤 H A W 𝓣 0 ps·1 r·1 (claims· .2) (claims· .3) "block::reading::totals_at") (known2 : Plain.Known 𝓤 H A W 𝓣 0 ps·2 r·2 (claims· .4) (claims· .5)
+            "block::reading::no_lines") (known3 : Plain.Known 𝓤 H A W 𝓣 1 ps·3 r·3 (claims· .6) (claims· .7) "lines::turn_if") (known4 : Plain.Known 𝓤 H A W 𝓣 1 ps·4 r·4 (claims· .8) (claims· .9)
+            "cameras::base_of") (known5 : Plain.Known 𝓤 H A W 𝓣 1 ps·5 r·5 (claims· .10) (claims· .11) "block::reading::is_restarted") (known6 : Plain.Known 𝓤 H A W 𝓣 1 ps·6 r·6 (claims· .12) (claims·
+            .13) "block::records::restart") (known7 : Plain.Known 𝓤 H A W 𝓣 0 ps·7 r·7 (claims· .14) (claims· .15) "block::reading::quantisers_in") (known8 : Plain.Known 𝓤 H A W 𝓣 5 ps·8 r·8 (claims· .16)
+            (claims· .17) "block::reading::line") (known9 : Plain.Known 𝓤 H A W 𝓣 1 ps·9 r·9 (claims· .18) (claims· .19) "map::windows::zero_line") (known10 : Plain.Known 𝓤 H A W 𝓣 0 ps·10 r·10 (claims·
+            .20) (claims· .21) "totals::with_line") (known11 : Plain.Known 𝓤 H A W 𝓣 3 ps·11 r·11 (claims· .22) (claims· .23) "map::windows::emit_line_if") where
           pub spec : Statement.Triple 𝓤 (Wp.WpFn 𝓤 H (𝓣 .C) (𝓣 .Λ) (Function.fnOf 6 ps r xs m hs body)) (Function.plainOf 𝓤 H A 6 ps r Pre· Post·)
           spec = Plain.t-fn-plain 𝓤 H A W 𝓣 6 ps r xs m hs body (λ κs qs bs. Φ) (λ κs qs bs bd. typed κs qs 𝓤 H A W 𝓣
-              (known0, known1, known2, known3, known4, known5, known6, known7, known8, known9, known10, known11, known12, known13, known14) bs bd) Pre· Post· asked
+              (known0, known1, known2, known3, known4, known5, known6, known7, known8, known9, known10, known11) bs bd) Pre· Post· asked

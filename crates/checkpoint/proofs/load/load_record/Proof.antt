@@ -1,0 +1,49 @@
+-- `checkpoint::load::load_record` meets its contract. Assumes nothing.
+use borrow.Author.Needs.{needs}
+use mathlib.Core.Bool.{Bool, true, false, _&&_}
+use mathlib.Core.List.{List}
+use mathlib.Core.Path.{_≡_}
+use Prim.Native.Nat.{ℕ, _*_, _%_, min}
+use lib.Dec.{leb}
+use Rattle.statistics.specs.Statistics.{largestResidual}
+use Rattle.statistics.specs.declared.Record.{Record}
+use Rattle.checkpoint.specs.Checkpoints.{sumIn, nIn, loadedRecord}
+use Rattle.checkpoint.proofs.load.load_record.Statement.{statement}
+use Rattle.checkpoint.proofs.load.load_record.Tie as tie
+
+module _ (lossless : Bool) (start : Record) (s : List ℕ) (j : ℕ) where
+  unused : (lossless && leb 41 (j % 56)) ≡ true → start ≡ loadedRecord lossless start s j
+  unfolding loadedRecord
+  unused e = rw e
+
+  used : (sum n cut : ℕ) → (lossless && leb 41 (j % 56)) ≡ false → sum ≡ sumIn s j → n ≡ nIn s j → cut ≡ min sum (n * largestResidual)
+      → record { sum = cut; n = n } ≡ loadedRecord lossless start s j
+  unfolding loadedRecord
+  used sum n cut e f g h = rw (e, h, f, g)
+
+returns : tie.Need-returns
+returns c = unused _ _ _ _ (c .if1 .taken)
+
+returns-2 : tie.Need-returns-2
+returns-2 c =
+    let n = c .before in
+    let s = n .before in
+    used _ _ _ _ _ _ _ (s .before .if1 .left) (s .be-at .ensures .0) (n .be-at2 .ensures .0) (c .smaller .ensures .0)
+
+pub load-record-spec : {M : Type 1} → statement M
+load-record-spec =
+    tie.close
+    (tie.spec
+    returns
+    (λ c. search needs)
+    (λ c. search needs)
+    (λ c κs. search needs)
+    (λ c. search needs)
+    (λ c. search needs)
+    (λ c. search needs)
+    (λ c. search needs)
+    (λ c κs. search needs)
+    (λ c. search needs)
+    (λ c. search needs)
+    (λ c κs. search needs)
+    returns-2)

@@ -1,0 +1,14 @@
+-- `checkpoint::set_byte` meets its contract. Assumes nothing.
+use borrow.Author.Needs.{needs}
+use mathlib.Core.Path.{_≡_, _∙_, ap}
+use Prim.Native.Nat.{ℕ, _%_}
+use Rattle.statistics.specs.declared.Record.{Record}
+use Rattle.checkpoint.specs.Checkpoints.{recordByte}
+use Rattle.checkpoint.proofs.set_byte.Statement.{statement}
+use Rattle.checkpoint.proofs.set_byte.Tie as tie
+
+returns : tie.Need-returns
+returns c = c .record-byte .ensures ∙ ap (λ (r : Record). recordByte r (c .before .before .args .i % 5)) (c .before .stored-record .ensures)
+
+pub set-byte-spec : {M : Type 1} → statement M
+set-byte-spec = tie.close (tie.spec (λ c κs. search needs) (λ c κs. search needs) returns)

@@ -1,0 +1,2 @@
+-- The definitions of stored states.
+pub mod Checkpoints

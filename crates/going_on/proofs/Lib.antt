@@ -1,0 +1,11 @@
+-- The proof.
+pub mod CountLaws
+pub mod FlatLaws
+pub mod NearLaws
+pub mod GuardLaws
+pub mod LoadedLaws
+pub mod ResumedLaws
+pub mod RangeLaws
+pub mod TotalLaws
+pub mod CallLaws
+pub mod GoingOnHolds

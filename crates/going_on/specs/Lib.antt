@@ -1,0 +1,2 @@
+-- What going on from a stored state gives.
+pub mod GoingOn
