@@ -1,3 +1,4 @@
+-- Laws on how calls begin.
 pub mod BeginningLaws
 pub mod CallLaws
 pub mod SampleLaws

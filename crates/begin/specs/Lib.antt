@@ -1,2 +1,3 @@
+-- The definitions of how calls begin.
 pub mod Beginnings
 pub mod Counted

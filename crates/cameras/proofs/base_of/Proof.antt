@@ -1,3 +1,4 @@
+-- `cameras::base_of` meets its contract: the base of a line, 0 where there is no base row. Assumes nothing.
 use borrow.Author.Needs.{needs}
 use mathlib.Core.Path.{_≡_, refl, sym, ap, _∙_}
 use Prim.Native.Nat.{ℕ, suc, _+_, _-_, _≤_, _<_}

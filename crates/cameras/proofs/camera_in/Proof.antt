@@ -1,3 +1,4 @@
+-- `cameras::camera_in` meets its contract: any number but 1 is camera 2. Assumes nothing.
 use borrow.Author.Tests.{eq-eqb, ne-eqb}
 use Rattle.cameras.proofs.camera_in.Statement.{statement}
 use Rattle.cameras.proofs.camera_in.Tie as tie

@@ -1,3 +1,4 @@
+-- `cameras::end_stream` meets its contract: all holds of the camera are given back. Assumes nothing.
 use borrow.Author.Needs.{needs}
 use mathlib.Core.Path.{_≡_, refl, sym, ap, _∙_}
 use Prim.Native.Nat.{ℕ, suc, _+_, _-_, _≤_, _<_}

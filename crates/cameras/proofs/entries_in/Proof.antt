@@ -1,3 +1,4 @@
+-- `cameras::entries_in` meets its contract: the words of all entries, eight for each. Assumes nothing.
 use Rattle.cameras.specs.Words.{entriesIn}
 use borrow.Author.Needs.{needs}
 use Rattle.cameras.proofs.entries_in.Statement.{statement}

@@ -1,3 +1,4 @@
+-- `cameras::entry_in` meets its contract: the eight words of an entry. Assumes nothing.
 use Rattle.cameras.specs.Words.{entryIn}
 use mathlib.Core.Path.{refl}
 use borrow.Author.Needs.{needs}

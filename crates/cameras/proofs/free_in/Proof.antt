@@ -1,3 +1,4 @@
+-- `cameras::free_in` meets its contract: the lowest entry that nobody holds, or 16. Assumes nothing.
 use borrow.Author.Needs.{needs}
 use mathlib.Core.Bool.{not}
 use mathlib.Core.Path.{_≡_, refl, sym, ap, _∙_}

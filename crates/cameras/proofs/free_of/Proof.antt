@@ -1,3 +1,4 @@
+-- `cameras::free_of` meets its contract: the entry without the holds of one camera. Assumes nothing.
 use borrow.Author.Needs.{needs}
 use Rattle.cameras.proofs.free_of.Statement.{statement}
 use Rattle.cameras.proofs.free_of.Tie as tie

@@ -1,3 +1,4 @@
+-- `cameras::held_by` meets its contract: an entry held by one camera more. Assumes nothing.
 use borrow.Author.Needs.{needs}
 use Rattle.cameras.proofs.held_by.Statement.{statement}
 use Rattle.cameras.proofs.held_by.Tie as tie

@@ -1,3 +1,4 @@
+-- `cameras::is_pair` meets its contract: depth and base, and that somebody holds it. Assumes nothing.
 use borrow.Author.Needs.{needs}
 use Rattle.cameras.proofs.is_pair.Statement.{statement}
 use Rattle.cameras.proofs.is_pair.Tie as tie

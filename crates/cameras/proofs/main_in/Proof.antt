@@ -1,3 +1,4 @@
+-- `cameras::main_in` meets its contract: the main quantiser of a held pair, or computed anew. Assumes nothing.
 use borrow.Author.Needs.{needs}
 use mathlib.Core.Path.{_≡_, refl, sym, ap, _∙_}
 use Prim.Native.Nat.{ℕ, suc, _+_, _-_, _≤_, _<_}

@@ -1,3 +1,4 @@
+-- `cameras::mended_entry` meets its contract: a held entry gets the numbers of its pair, or is held no longer. Assumes nothing.
 use borrow.Author.Needs.{needs}
 use borrow.Author.Tests.{not-true, not-false, leb-true, ltb-true}
 use mathlib.Core.Bool.{_&&_}

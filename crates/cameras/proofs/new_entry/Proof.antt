@@ -1,3 +1,4 @@
+-- `cameras::new_entry` meets its contract: the numbers of a pair, held by one camera. Assumes nothing.
 use borrow.Author.Needs.{needs}
 use Rattle.cameras.proofs.new_entry.Statement.{statement}
 use Rattle.cameras.proofs.new_entry.Tie as tie

@@ -1,3 +1,4 @@
+-- `cameras::pair_in` meets its contract: the lowest held entry of a pair. Assumes nothing.
 use borrow.Author.Needs.{needs}
 use mathlib.Core.Bool.{not}
 use mathlib.Core.Path.{_≡_, refl, sym, _∙_}

@@ -1,3 +1,4 @@
+-- `cameras::take` meets its contract: a held entry is shared, or else the lowest free one is taken. Assumes nothing.
 use borrow.Author.Needs.{needs}
 use mathlib.Core.Path.{_≡_, refl, sym, ap, _∙_}
 use Prim.Native.Nat.{ℕ, suc, _+_, _-_, _≤_, _<_}

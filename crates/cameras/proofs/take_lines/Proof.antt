@@ -1,3 +1,4 @@
+-- `cameras::take_lines` meets its contract: line by line, until one has no entry. Assumes nothing.
 use borrow.Author.Needs.{needs}
 use borrow.Author.Tests.{not-true, not-false, leb-true, ltb-true}
 use mathlib.Core.Path.{_≡_, refl, sym, ap, _∙_}

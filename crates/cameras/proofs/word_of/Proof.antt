@@ -1,3 +1,4 @@
+-- `cameras::word_of` meets its contract: one of the eight words of an entry. Assumes nothing.
 use mathlib.Core.List.{[], _∷_}
 use mathlib.Core.Path.{_≡_}
 use Prim.Native.Nat.{ℕ}

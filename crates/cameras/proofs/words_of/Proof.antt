@@ -1,3 +1,4 @@
+-- `cameras::words_of` meets its contract: the words of all entries. Assumes nothing.
 use borrow.Author.Needs.{needs}
 use borrow.Author.Tests.{lt-ltb}
 use mathlib.Core.Path.{_≡_, refl, _∙_}
