@@ -39,11 +39,11 @@ fn change(r: &mut Random, h: &mut Header) {
         5 => h.rounded_width = r.pick(&[0, 0x2FF, 0x300, 0x4200, 0x4500, any, h.width, near(h.rounded_width)]),
         6 => {
             let less = h.rounded_width.wrapping_sub(768);
-            h.width = r.pick(&[0, 0x2E8, 0x300, 0x4200, 0x4218, any, less, less + 24, h.rounded_width, near(h.width)]);
+            h.width = r.pick(&[0, 0x2E8, 0x300, 0x4200, 0x4218, any, less, less.wrapping_add(24), h.rounded_width, near(h.width)]);
         }
         7 => h.block_size = near(0x300),
         8 => h.blocks = r.pick(&[0, 1, 16, 17, h.blocks.wrapping_add(1), h.blocks.wrapping_sub(1)]),
-        9 => h.lines = r.pick(&[0, 1, 0xAAB, 0xAAC, h.lines + 1, any]),
+        9 => h.lines = r.pick(&[0, 1, 0xAAB, 0xAAC, h.lines.wrapping_add(1), any]),
         // Consistent, and yet wider than the rounded width.
         _ => h.width = h.rounded_width.wrapping_add(24 * r.within(1, 40) as u16),
     }
