@@ -8,3 +8,4 @@ pub mod StepPuts
 pub mod SitePuts
 pub mod TurnPuts
 pub mod PassLaws
+pub mod BoundLaws
