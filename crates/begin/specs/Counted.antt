@@ -1,7 +1,7 @@
 -- What follows once a walk has counted the bits of a set: an answer, or the walk that stores them. Assumes nothing.
-use mathlib.Core.Bool.{Bool, cond}
-use Prim.Native.Nat.{ℕ}
-use lib.Dec.{ltb}
+use mathlib.Core.Bool.{Bool, false, cond, _&&_, _||_}
+use Prim.Native.Nat.{ℕ, _*_}
+use lib.Dec.{leb, ltb}
 use Rattle.bits.specs.BitLists.{blockBytes}
 use Rattle.bits.specs.declared.BitPosition.{BitPosition}
 use Rattle.stream.specs.declared.BlockLength.the-variants.{Length, Refused}
@@ -10,6 +10,11 @@ use Rattle.writing.specs.declared.Put.{Put}
 use Rattle.writing.specs.declared.Put.the-variants.{At, Wrong}
 use Rattle.begin.specs.declared.Next.{Next}
 use Rattle.begin.specs.declared.Next.the-variants.{Answer, Store}
+
+-- nothing of a set can be refused any more, and so its bits are not counted first: it is to be written; Bayer has codes alone, and only a strict set is held to
+-- the predictions of interpolated samples; and no block of so many lines is longer than the room for it
+abbrev pub isSure : (measure xtrans strict : Bool) (bits lines room : ℕ) → Bool
+isSure measure xtrans strict bits lines room = cond (measure || (xtrans && strict)) false (leb (lines * 2304 * bits) room)
 
 -- the length of a set that is only measured; else refusal 13, or there is room for the block
 abbrev pub lengthNext : BitPosition → Bool → ℕ → Next

@@ -11,6 +11,7 @@ pub mod SampleLaws
 pub mod WrittenLaws
 pub mod WalkLaws
 pub mod AnswerLaws
+pub mod BoundLaws
 pub mod DecodeLaws
 pub mod BadCodeLaws
 pub mod TightLaws

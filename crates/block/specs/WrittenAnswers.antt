@@ -3,7 +3,7 @@ use mathlib.Core.Bool.{Bool, true, false, cond}
 use mathlib.Core.List.{List, [], _++_}
 use mathlib.Core.Option.{Option, none, some}
 use mathlib.Core.Path.{_≡_}
-use Prim.Native.Nat.{ℕ, _+_}
+use Prim.Native.Nat.{ℕ, _+_, _≤_}
 use lib.Dec.{ltb}
 use lib.ListN.{length, drop}
 use Rattle.statistics.specs.declared.Record.{Record}
@@ -87,6 +87,18 @@ exactAnswer F bases lines t = setAnswer F bases lines t (length (writtenBlock F 
 abbrev pub writtenOut : BlockLength → List ℕ → List ℕ → List ℕ
 writtenOut (Length n) block out = block ++ drop n out
 writtenOut (Refused x) block out = out
+
+-- ---- bits that are stored
+
+-- a set of which no sample is wrong, and whose block the output has room for
+pub record Storable (F : Form) (bases : List ℕ) (lines : ℕ) (t out : List ℕ) : Type 0 where
+  pub right : (writeLines F bases t lines) .wrong ≡ none
+  pub room : length (writtenBlock F bases lines t) ≤ length out
+
+-- the answer is the length of the block, and the block is at the start of the output
+pub record Stored (block out out' : List ℕ) (answer : BlockLength) : Type 0 where
+  pub answered : answer ≡ Length (length block)
+  pub output : out' ≡ writtenOut (Length (length block)) block out
 
 -- ---- a call
 

@@ -14,7 +14,7 @@ ghost use Rattle.block.specs.Blocks.{AllInRange};
 ghost use Rattle.begin.specs.Beginnings.{FitsOn, writingBegins, lossyBegins};
 ghost use Rattle.block.specs.Lent.{Outputs, Scratch, ScratchOf};
 ghost use Rattle.block.specs.WrittenBlocks.{isStrict, writeLines, SetWanted, writtenBlock};
-ghost use Rattle.block.specs.WrittenAnswers.{passesFrom, LineWritten, SetWritten, measuredAnswer, setAnswer, roomFor, outputOf};
+ghost use Rattle.block.specs.WrittenAnswers.{passesFrom, LineWritten, SetWritten, measuredAnswer, setAnswer, roomFor, outputOf, Storable, Stored};
 ghost use Rattle.block.specs.WrittenAnswers.{LeftWritten, LeftLossy, LeftMeasured, LeftBy};
 use crate::Form;
 use crate::form_of;
@@ -175,7 +175,34 @@ fn write_walk(
     done
 }
 
-// A set whose samples with a code are in range: its bits are counted first, and stored only where they can be and are to be.
+// A set of which no sample is wrong, and whose block the output has room for: its bits are stored.
+fn write_stored(
+    samples: &[u16],
+    out: &mut [u8],
+    lines: &mut [u16],
+    rs: &mut [Record],
+    form: Form,
+    bases: &[u8],
+    count: usize,
+) -> BlockLength
+    requires { ⌜ (count < 2 ^ 16) × ((length (now samples) ≡ setSize (widthOf (form .xtrans)) count) × SetWanted form (now samples)) ⌝ }
+    requires { ⌜ Depth (form .bits) × ScratchOf (form .xtrans) (now lines) (now rs) ⌝ }
+    requires { ⌜ Storable form (now bases) count (now samples) (now out) ⌝ }
+    ensures { λ r. ⌜ Stored (writtenBlock form (now (bases .entry)) count (now (samples .entry))) (now (out .entry)) (now (out .exit)) r ⌝ }
+    ensures { λ _. ⌜ (now (lines .exit) ≡ zeroLines (widthOf (form .xtrans))) × (now (rs .exit) ≡ clearRecords) ⌝ }
+{
+    let done = write_walk(samples, out, true, lines, rs, form, bases, count);
+    match done {
+        Put::Wrong(j) => BlockLength::Refused(Refusal::NotPredicted(j)),
+        Put::At(end) => {
+            bits::fill_tail(out, end);
+            BlockLength::Length(begin::block_bytes(end))
+        }
+    }
+}
+
+// A set whose samples with a code are in range. Its bits are stored at once where nothing can be refused any more; else they are counted first, and
+// stored only where they can be and are to be.
 fn write_measured(
     samples: &[u16],
     out: &mut [u8],
@@ -194,15 +221,15 @@ fn write_measured(
         × (now (out .exit) ≡ outputOf measure r block (now (out .entry))) ⌝ }
     ensures { λ _. ⌜ (now (lines .exit) ≡ zeroLines (widthOf (form .xtrans))) × (now (rs .exit) ≡ clearRecords) ⌝ }
 {
+    let strict = is_strict(bases);
+    if begin::is_sure(measure, form.xtrans, strict, form.bits, count, out.len()) {
+        return write_stored(samples, out, lines, rs, form, bases, count);
+    }
     let counted = write_walk(samples, out, false, lines, rs, form, bases, count);
     let next = begin::after_counting(counted, measure, out.len());
     match next {
         Next::Answer(a) => a,
-        Next::Store(end) => {
-            write_walk(samples, out, true, lines, rs, form, bases, count);
-            bits::fill_tail(out, end);
-            BlockLength::Length(begin::block_bytes(end))
-        }
+        Next::Store(_) => write_stored(samples, out, lines, rs, form, bases, count),
     }
 }
 
