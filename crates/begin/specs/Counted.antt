@@ -1,5 +1,5 @@
 -- What follows once a walk has counted the bits of a set: an answer, or the walk that stores them. Assumes nothing.
-use mathlib.Core.Bool.{Bool, false, cond, _&&_, _||_}
+use mathlib.Core.Bool.{Bool, false, cond}
 use Prim.Native.Nat.{ℕ, _*_}
 use lib.Dec.{leb, ltb}
 use Rattle.bits.specs.BitLists.{blockBytes}
@@ -11,10 +11,9 @@ use Rattle.writing.specs.declared.Put.the-variants.{At, Wrong}
 use Rattle.begin.specs.declared.Next.{Next}
 use Rattle.begin.specs.declared.Next.the-variants.{Answer, Store}
 
--- nothing of a set can be refused any more, and so its bits are not counted first: it is to be written; Bayer has codes alone, and only a strict set is held to
--- the predictions of interpolated samples; and no block of so many lines is longer than the room for it
-abbrev pub isSure : (measure xtrans strict : Bool) (bits lines room : ℕ) → Bool
-isSure measure xtrans strict bits lines room = cond (measure || (xtrans && strict)) false (leb (lines * 2304 * bits) room)
+-- a set is to be written, and no block of so many lines is longer than the room for it
+abbrev pub isAmple : Bool → (bits lines room : ℕ) → Bool
+isAmple measure bits lines room = cond measure false (leb (lines * 2304 * bits) room)
 
 -- the length of a set that is only measured; else refusal 13, or there is room for the block
 abbrev pub lengthNext : BitPosition → Bool → ℕ → Next

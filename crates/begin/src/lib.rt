@@ -14,7 +14,7 @@ ghost use Rattle.begin.specs.Beginnings.{regionBegins, wholeOf, isWhole,
 ghost use Rattle.begin.specs.Beginnings.{windowedBegins, withBlock, blockBegins, withCount, withSet};
 ghost use Rattle.begin.specs.Beginnings.{writingBegins, withBases, lossyBegins, isIgnored, firstAbove};
 ghost use Rattle.bits.specs.BitLists.{blockBytes};
-ghost use Rattle.begin.specs.Counted.{isSure, lengthNext, nextOf};
+ghost use Rattle.begin.specs.Counted.{isAmple, lengthNext, nextOf};
 use bits::BitPosition;
 use region::Checked;
 use region::Rect;
@@ -317,20 +317,12 @@ pub fn first_above(samples: &[u16], m: u32, xtrans: bool, strict: bool) -> usize
 
 // ---- a set whose bits are to be stored
 
-// Whether nothing of a set can be refused any more: it is to be written, all its samples have codes or are not held to predictions, and no block of so many
-// lines is longer than the output.
-pub fn is_sure(
-    measure: bool,
-    xtrans: bool,
-    strict: bool,
-    bits: u32,
-    lines: usize,
-    room: usize,
-) -> bool
+// Whether a set is to be written, and no block of so many lines is longer than the output, whatever its samples are.
+pub fn is_ample(measure: bool, bits: u32, lines: usize, room: usize) -> bool
     requires { ⌜ (bits ≤ 16) × (lines < 2 ^ 16) ⌝ }
-    ensures { λ r. ⌜ r ≡ isSure measure xtrans strict bits lines room ⌝ }
+    ensures { λ r. ⌜ r ≡ isAmple measure bits lines room ⌝ }
 {
-    if measure | (xtrans & strict) {
+    if measure {
         return false;
     }
     lines * 2304 * (bits as usize) <= room

@@ -190,7 +190,7 @@ module _ (F : Form) (bases : List ℕ) (count : ℕ) (t out : List ℕ) where
   -- ---- what is stored then
 
   pub next-store : (out₁ : List ℕ) (r : Put) (measure : Bool) (end : BitPosition) → SetWritten (writeLines F bases t count) false out out₁ r
-      → nextOf r measure (length out₁) ≡ Store end → (measure ≡ false) × Storable F bases count t out₁ × (out₁ ≡ out)
+      → nextOf r measure (length out₁) ≡ Store end → (measure ≡ false) × Storable F bases count t (length out₁) × (out₁ ≡ out)
   next-store out₁ (Wrong i) measure end s e = let no : _≡_ {A = ℕ} 0 1 = cc in absurd (omega arith)
   next-store out₁ (At at) measure end s e = go measure refl (ltb (length out₁) (blockBytes (at .0))) refl e
     where
@@ -199,25 +199,25 @@ module _ (F : Form) (bases : List ℕ) (count : ℕ) (t out : List ℕ) where
 
       go : (m : Bool) → measure ≡ m → (b : Bool) → ltb (length out₁) (blockBytes (at .0)) ≡ b
           → cond m (Answer (Length (blockBytes (at .0)))) (cond b (Answer (Refused ShortOutput)) (Store at)) ≡ Store end
-          → (measure ≡ false) × Storable F bases count t out₁ × (out₁ ≡ out)
+          → (measure ≡ false) × Storable F bases count t (length out₁) × (out₁ ≡ out)
       go true em b eb f = let no : _≡_ {A = ℕ} 0 1 = cc in absurd (omega arith)
       go false em true eb f = let no : _≡_ {A = ℕ} 0 1 = cc in absurd (omega arith)
       go false em false eb f =
-          (em, record { right = k .right; room = omega (arith, ltb-false (length out₁) (blockBytes (at .0)) eb, needed out₁ at k) }, k .kept)
+          (em, record { right = k .right; enough = omega (arith, ltb-false (length out₁) (blockBytes (at .0)) eb, needed out₁ at k) }, k .kept)
 
   -- the answer for a block that was stored in such an output
-  pub stored-answer : (out₁ out' : List ℕ) (measure : Bool) (a : BlockLength) → measure ≡ false → out₁ ≡ out → Storable F bases count t out₁
+  pub stored-answer : (out₁ out' : List ℕ) (measure : Bool) (a : BlockLength) → measure ≡ false → out₁ ≡ out → Storable F bases count t (length out₁)
       → Stored (writtenBlock F bases count t) out₁ out' a → Answered measure a out'
   unfolding measuredAnswer
   stored-answer out₁ out' measure a em e k s =
-      let room : length (writtenBlock F bases count t) ≤ length out = rw e at (k .room) in
+      let room : length (writtenBlock F bases count t) ≤ length out = rw e at (k .enough) in
       rw (em, s .answered) (rw (k .right, le-ltb (length out) (length (writtenBlock F bases count t)) room), s .output ∙ rw e)
 
 -- a walk that stores such a set
-module _ (F : Form) (bases : List ℕ) (count : ℕ) (t out : List ℕ) (k : Storable F bases count t out) where
+module _ (F : Form) (bases : List ℕ) (count : ℕ) (t out : List ℕ) (k : Storable F bases count t (length out)) where
   -- there is room for the bits
   pub store-room : Room true out 0 ((writeLines F bases t count) .bits)
-  store-room e = omega (arith, k .room, block-length F bases count t)
+  store-room e = omega (arith, k .enough, block-length F bases count t)
 
   module _ (out₁ : List ℕ) (r : Put) (s : SetWritten (writeLines F bases t count) true out out₁ r) where
     put : IsSetPut none (writeLines F bases t count) true out out₁ r
@@ -234,7 +234,7 @@ module _ (F : Form) (bases : List ℕ) (count : ℕ) (t out : List ℕ) (k : Sto
           ap (λ (a : BitPosition). a .0) q
 
       pub tail-room : blockBytes (end .0) ≤ length out
-      tail-room = omega (arith, k .room, block-length F bases count t, end-is)
+      tail-room = omega (arith, k .enough, block-length F bases count t, end-is)
 
       pub stored : (out₂ : List ℕ) → out₂ ≡ filled (end .0) out₁ → (n : ℕ) → n ≡ blockBytes (end .0)
           → Stored (writtenBlock F bases count t) out out₂ (Length n)

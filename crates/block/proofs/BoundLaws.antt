@@ -1,6 +1,6 @@
 -- No block of so many lines is longer than its bound, and which sets cannot go wrong: a line has 4608 codes, and a tight code has at most 4·bits bits. Assumes nothing.
 use borrow.Author.Tests.{leb-true}
-use mathlib.Core.Bool.{Bool, true, false, cond, _&&_, _||_}
+use mathlib.Core.Bool.{Bool, true, false, cond, _&&_}
 use mathlib.Core.List.{List, [], _∷_, _++_}
 use mathlib.Core.Option.{none}
 use mathlib.Core.Path.{_≡_, refl, sym, _∙_}
@@ -17,7 +17,7 @@ use Rattle.steps.specs.declared.Plan.{Plan}
 use Rattle.steps.proofs.ScheduleLaws.{codes, lineSteps, bayer-codes, x-trans-codes}
 use Rattle.writing.specs.Puts.{Within}
 use Rattle.writing.proofs.BoundLaws.{pass-most, pass-sure}
-use Rattle.begin.specs.Counted.{isSure}
+use Rattle.begin.specs.Counted.{isAmple}
 use Rattle.block.specs.Records.{baseOf}
 use Rattle.block.specs.WrittenAnswers.{Storable}
 use Rattle.block.specs.WrittenBlocks.{WriteState, repeats, enterWriting, writePassAt, beforeWriting, isStrict, writeLine, startWriting, writeLines, writtenBlock, SetWanted}
@@ -107,19 +107,17 @@ module _ (F : Form) (bases t : List ℕ) (s : (F .xtrans && isStrict bases) ≡ 
 
 -- ---- what may be stored at once
 
-sure-parts : (measure sure ample : Bool) → cond (measure || sure) false ample ≡ true → (measure ≡ false) × (sure ≡ false) × (ample ≡ true)
-sure-parts true s a e = let no : _≡_ {A = ℕ} 0 1 = cc in absurd (omega arith)
-sure-parts false true a e = let no : _≡_ {A = ℕ} 0 1 = cc in absurd (omega arith)
-sure-parts false false a e = (refl, refl, e)
+ample-parts : (measure ample : Bool) → cond measure false ample ≡ true → (measure ≡ false) × (ample ≡ true)
+ample-parts true a e = let no : _≡_ {A = ℕ} 0 1 = cc in absurd (omega arith)
+ample-parts false a e = (refl, e)
 
-pub sure-storable : (F : Form) → Depth (F .bits) → (bases : List ℕ) (count : ℕ) (t : List ℕ) → SetWanted F t → (out : List ℕ) (measure strict r : Bool)
-    → strict ≡ isStrict bases
-    → r ≡ isSure measure (F .xtrans) strict (F .bits) count (length out) → r ≡ true → (measure ≡ false) × Storable F bases count t out
-sure-storable F depth bases count t wanted out measure strict r es e er =
-    let p = sure-parts measure (F .xtrans && strict) (leb (count * 2304 * F .bits) (length out)) (sym e ∙ er) in (
+pub ample-storable : (F : Form) → Depth (F .bits) → (bases : List ℕ) (count : ℕ) (t : List ℕ) → SetWanted F t → (room : ℕ) (measure r : Bool)
+    → r ≡ isAmple measure (F .bits) count room → r ≡ true → (writeLines F bases t count) .wrong ≡ none → (measure ≡ false) × Storable F bases count t room
+ample-storable F depth bases count t wanted room measure r e er right =
+    let p = ample-parts measure (leb (count * 2304 * F .bits) room) (sym e ∙ er) in (
       p .0,
       record {
-        right = lines-sure F bases t (rw es at (p .1)) count;
-        room = omega (arith, block-most F depth t wanted bases count, leb-true (count * 2304 * F .bits) (length out) (p .2));
+        right = right;
+        enough = omega (arith, block-most F depth t wanted bases count, leb-true (count * 2304 * F .bits) room (p .1));
       },
     )

@@ -12,6 +12,7 @@ pub mod WrittenLaws
 pub mod WalkLaws
 pub mod AnswerLaws
 pub mod BoundLaws
+pub mod LookLaws
 pub mod DecodeLaws
 pub mod BadCodeLaws
 pub mod TightLaws

@@ -29,6 +29,13 @@ use Rattle.block.specs.declared.Form.{Form}
 unfoldable pub passesFrom : Form → ℕ → Bool → List ℕ → ℕ → ℕ → List ℕ → List Record → WriteState
 passesFrom F q strict t n i lines rs = repeats (writePassAt F q strict t n) i (record { lines = lines; records = rs; bits = []; wrong = none })
 
+-- writing these passes of a lossless line, from these lines on and whatever the records are, meets no wrong sample, and leaves those lines
+abbrev pub RightPasses : Form → (t : List ℕ) (n i : ℕ) (lines lines' : List ℕ) → Type 0
+RightPasses F t n i lines lines' =
+    (rs : List Record) (b : List Bool)
+    → let z = repeats (writePassAt F 0 true t n) i (record { lines = lines; records = rs; bits = b; wrong = none }) in
+    (z .lines ≡ lines') × (z .wrong ≡ none)
+
 -- lines that were written up to the state z, from no bits on: the position after their bits, or the first interpolated sample that is not its
 -- prediction; then lines and records are left free, and so is the output where it is stored
 abbrev pub IsLinePut : Option ℕ → WriteState → ℕ → Bool → (out lines' : List ℕ) → List Record → (out' : List ℕ) → Put → Type 0
@@ -90,10 +97,10 @@ writtenOut (Refused x) block out = out
 
 -- ---- bits that are stored
 
--- a set of which no sample is wrong, and whose block the output has room for
-pub record Storable (F : Form) (bases : List ℕ) (lines : ℕ) (t out : List ℕ) : Type 0 where
+-- a set of which no sample is wrong, and for whose block there is room
+pub record Storable (F : Form) (bases : List ℕ) (lines : ℕ) (t : List ℕ) (room : ℕ) : Type 0 where
   pub right : (writeLines F bases t lines) .wrong ≡ none
-  pub room : length (writtenBlock F bases lines t) ≤ length out
+  pub enough : length (writtenBlock F bases lines t) ≤ room
 
 -- the answer is the length of the block, and the block is at the start of the output
 pub record Stored (block out out' : List ℕ) (answer : BlockLength) : Type 0 where

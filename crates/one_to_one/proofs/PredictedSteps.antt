@@ -28,27 +28,6 @@ use Rattle.writing.proofs.WriteLaws.{wanted, write-coded, write-interpolated, w
 
 -- ---- one step
 
--- with base 0 the nearest sample is the wanted one
-pub given-exact : (bits v : ℕ) (c : Context) → c .prediction ≤ largest bits → v ≤ largest bits
-    → givenSample bits 0 (wantedCode bits 0 v c (lookOf 0 c)) c (lookOf 0 c) ≡ v
-unfolding quantiserOf
-given-exact bits v c hc hv = rw (look-lossless c) exact
-  where
-    M : ℕ
-    M = largest bits
-
-    negative : Bool
-    negative = (gradientOf 0 9 (c .first) (c .second)) .negative
-
-    total : ℕ
-    total = (usedQuantiser bits 0 0) .total
-
-    wide : M + 2 * 0 < total * (2 * 0 + 1)
-    wide = total-wide bits 0
-
-    exact : sampleOf M 0 total negative (c .prediction) (codeNear 0 total negative (c .prediction) v) ≡ v
-    exact = let near = near-back M 0 total wide negative (c .prediction) v hc hv .1 in omega (arith, near .0, near .1)
-
 module _ (bits W : ℕ) (t : List ℕ) (n : ℕ) (x : Step) (r : Writing) where
   -- the sample goes to its place, whatever it is
   pub step-set : (v : ℕ) × ((writeStep bits 0 W true t n x r) .lines ≡ set (r .lines) (cell W x) v)

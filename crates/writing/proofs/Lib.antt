@@ -9,3 +9,4 @@ pub mod SitePuts
 pub mod TurnPuts
 pub mod PassLaws
 pub mod BoundLaws
+pub mod LookLaws

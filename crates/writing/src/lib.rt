@@ -21,6 +21,10 @@ use steps::Quantisers;
 use steps::Set;
 use steps::Spot;
 
+mod looking;
+
+pub use looking::look_pass;
+
 // The position after some samples, or the index in the set of an interpolated one that is not its prediction.
 pub enum Put {
     At(BitPosition),

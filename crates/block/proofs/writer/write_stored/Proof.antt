@@ -15,8 +15,9 @@ start w = w .before .before .before .before .before .before .before .before
 
 write-walk-requires : tie.Need-write-walk-requires
 write-walk-requires c κs =
-    let a = c .before .before .before .before .before .before .before .pre in
-    (a .0, (a .1 .0, store-room _ _ _ _ _ (a .1 .1)))
+    let s = c .before .before .before .before .before .before .before in
+    let a = s .pre in
+    (a .0, (a .1 .0, store-room _ _ _ _ (s .args .out .now) (a .1 .1)))
 
 fill-tail-requires : tie.Need-fill-tail-requires
 fill-tail-requires c κs =
