@@ -8,7 +8,6 @@ use Prim.Native.Nat.{ℕ, _+_, _-_, _*_, _≤_, _<_}
 use native.Mathlib.Omega.{arith}
 use lib.Dec.{eqb}
 use lib.ListN.{getD, set}
-use Rattle.statistics.specs.declared.Record.{Record}
 use Rattle.quantiser.specs.Quantisers.{largest, quantiserOf, gradientOf}
 use Rattle.quantiser.proofs.QuantiserLaws.{total-wide}
 use Rattle.prediction.specs.declared.Context.{Context}
