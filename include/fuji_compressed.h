@@ -105,16 +105,16 @@ void fuji_bad_code(const uint8_t *stream, size_t stream_length, size_t block, si
 
 /* Writes the tight block of a set of colour lines to the start of the output: for each line of six rows red 2 to 4, green 7 to 12 and blue 15 to 17,
  * with 384 samples each (X-Trans: 512). Its length is handed back, a multiple of 16 bytes of which the last are filled with zero bits, and 0 where it is
- * refused; then the output is as it was. */
+ * refused; then the output is as it was. With fuji_length_bound bytes of output or more the block is written in one walk, with fewer in two. */
 void fuji_write_block(const uint8_t *header, size_t header_length, const uint16_t *samples, size_t samples_length, uint8_t *out,
                       size_t out_length, uint16_t *scratch, size_t scratch_length, fuji_record *records, size_t records_length,
                       size_t length[1], size_t refusal[4]);
 
 /* Writes the block of such a set under a lossy header, with one base byte for each line of six rows, to the start of the output; it has no base row, which is the
  * stream's. Each sample that has a code reads back within the base of the quantiser that coded it, which is at most that of its line. X-Trans interpolates some
- * samples, and those of the set are ignored there. The length is as above. Each code has at most 4 * bits bits, so that lines * 2304 * bits bytes of output are enough;
- * unlike that of tight blocks this bound is not proved. Refusals 1, 2, 16, 17, 9, 10, 11 and 13, in this order; then the length is 0, and the output is as it was. Up
- * to 10 scratch is as it was too. */
+ * samples, and those of the set are ignored there. The length is as above. Each code has at most 4 * bits bits, so that lines * 2304 * bits bytes of output are enough,
+ * and with so many it is written in one walk. Refusals 1, 2, 16, 17, 9, 10, 11 and 13, in this order; then the length is 0, and the output is as it was. Up to 10 scratch
+ * is as it was too. */
 void fuji_write_lossy(const uint8_t *header, size_t header_length, const uint8_t *bases, size_t bases_length, const uint16_t *samples,
                       size_t samples_length, uint8_t *out, size_t out_length, uint16_t *scratch, size_t scratch_length,
                       fuji_record *records, size_t records_length, size_t length[1], size_t refusal[4]);

@@ -1,7 +1,7 @@
 #!/usr/bin/env python3
-"""Counts the machine instructions that decoding takes for each code, and its conditional branches that go both ways. README.md says how.
+"""Counts the machine instructions that decoding, writing or measuring takes for each code, and its conditional branches that go both ways. README.md says how.
 
-usage: tools/count.py [--noise N,N..] [--kinds KIND,KIND..] [--lines N] [--side ours|windowed|rust] [--lines-only] [--branches]
+usage: tools/count.py [--noise N,N..] [--kinds KIND,KIND..] [--lines N] [--side ours|windowed|rust|write|exact|measure] [--lines-only] [--branches]
 """
 import argparse
 import os
@@ -13,7 +13,14 @@ ROOT = os.path.dirname(os.path.dirname(os.path.abspath(__file__)))
 BENCH = os.path.join(ROOT, "rust", "target", "release", "bench")
 KINDS = ["bayer-lossless", "xtrans-lossless", "bayer-lossy", "xtrans-lossy"]
 # What is counted: a function for C, or the original's two calls.
-COUNTED = {"ours": "fuji_decode", "windowed": "fuji_decode_region_windowed", "rust": "*time_theirs*"}
+COUNTED = {
+    "ours": "fuji_decode",
+    "windowed": "fuji_decode_region_windowed",
+    "rust": "*time_theirs*",
+    "write": "fuji_write_*",
+    "exact": "fuji_write_*",
+    "measure": "fuji_measure_block",
+}
 CODES_A_LINE = 4608
 # A branch is shown if it is met in so many codes, and if its rarer way is taken so often.
 LEAST_MET = 0.02
@@ -21,7 +28,7 @@ LEAST_RARE = 0.02
 
 
 def run(kind, noise, lines, side, out, branches):
-    """The instructions of one decode, by callgrind; `out` gets its file."""
+    """The instructions of one call, by callgrind; `out` gets its file."""
     words = ["valgrind", "--tool=callgrind", "--callgrind-out-file=" + out, "--toggle-collect=" + COUNTED[side]]
     if branches:
         words += ["--dump-instr=yes", "--collect-jumps=yes"]

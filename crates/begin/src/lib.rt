@@ -15,7 +15,7 @@ ghost use Rattle.begin.specs.Beginnings.{regionBegins, wholeOf, isWhole,
 ghost use Rattle.begin.specs.Beginnings.{windowedBegins, withBlock, blockBegins, withCount, withSet, withResumed, resumeBegins};
 ghost use Rattle.begin.specs.Beginnings.{writingBegins, withBases, lossyBegins, isIgnored, firstAbove};
 ghost use Rattle.bits.specs.BitLists.{blockBytes};
-ghost use Rattle.begin.specs.Counted.{lengthNext, nextOf};
+ghost use Rattle.begin.specs.Counted.{isAmple, lengthNext, nextOf};
 use bits::BitPosition;
 use region::Checked;
 use region::Rect;
@@ -352,6 +352,19 @@ pub fn first_above(samples: &[u16], m: u32, xtrans: bool, strict: bool) -> usize
         i = i + 1;
     }
     i
+}
+
+// ---- a set whose bits are to be stored
+
+// Whether a set is to be written, and no block of so many lines is longer than the output, whatever its samples are.
+pub fn is_ample(measure: bool, bits: u32, lines: usize, room: usize) -> bool
+    requires { ⌜ (bits ≤ 16) × (lines < 2 ^ 16) ⌝ }
+    ensures { λ r. ⌜ r ≡ isAmple measure bits lines room ⌝ }
+{
+    if measure {
+        return false;
+    }
+    lines * 2304 * (bits as usize) <= room
 }
 
 // ---- a set whose bits were counted

@@ -33,7 +33,7 @@ use Rattle.writing.specs.declared.Put.the-variants.{At, Wrong}
 use Rattle.block.specs.WrittenBlocks.{isStrict, writeLines, writtenBlock, tightBlock, SetWanted, FitSet}
 use Rattle.block.specs.WrittenAnswers.{predictedAnswer, rangeAnswer, measuredAnswer}
 use Rattle.block.specs.WrittenAnswers.{aboveIn, setAnswer, writtenAnswer}
-use Rattle.block.specs.WriterParts.{IsSetPut, SetWritten, roomFor, outputOf}
+use Rattle.block.specs.WriterParts.{IsSetPut, SetWritten, roomFor, outputOf, Storable, Stored}
 use Rattle.block.specs.declared.Form.{Form}
 use Rattle.block.proofs.LineLaws.{width-in-range}
 
@@ -81,7 +81,7 @@ none-wanted F bases t e n i below =
 
 -- ---- the block
 
-block-length : (F : Form) (bases : List ℕ) (count : ℕ) (t : List ℕ)
+pub block-length : (F : Form) (bases : List ℕ) (count : ℕ) (t : List ℕ)
     → length (writtenBlock F bases count t) ≡ blockBytes (length ((writeLines F bases t count) .bits))
 unfolding writtenBlock bytesOf
 block-length F bases count t = length-packed _ _
@@ -190,43 +190,63 @@ module _ (F : Form) (bases : List ℕ) (count : ℕ) (t out : List ℕ) where
 
   -- ---- what is stored then
 
-  pub record Stores (measure : Bool) (out₁ : List ℕ) (end : BitPosition) : Type 0 where
-    pub counted : Counted out₁ end
-    pub writes : measure ≡ false
-    pub room : blockBytes (end .0) ≤ length out₁
-
   pub next-store : (out₁ : List ℕ) (r : Put) (measure : Bool) (end : BitPosition) → SetWritten (writeLines F bases t count) false out out₁ r
-      → nextOf r measure (length out₁) ≡ Store end → Stores measure out₁ end
+      → nextOf r measure (length out₁) ≡ Store end → (measure ≡ false) × Storable F bases count t (length out₁) × (out₁ ≡ out)
   next-store out₁ (Wrong i) measure end s e = let no : _≡_ {A = ℕ} 0 1 = cc in absurd (omega arith)
   next-store out₁ (At at) measure end s e = go measure refl (ltb (length out₁) (blockBytes (at .0))) refl e
     where
+      k : Counted out₁ at
+      k = counted-right out₁ at s
+
       go : (m : Bool) → measure ≡ m → (b : Bool) → ltb (length out₁) (blockBytes (at .0)) ≡ b
-          → cond m (Answer (Length (blockBytes (at .0)))) (cond b (Answer (Refused ShortOutput)) (Store at)) ≡ Store end → Stores measure out₁ end
+          → cond m (Answer (Length (blockBytes (at .0)))) (cond b (Answer (Refused ShortOutput)) (Store at)) ≡ Store end
+          → (measure ≡ false) × Storable F bases count t (length out₁) × (out₁ ≡ out)
       go true em b eb f = let no : _≡_ {A = ℕ} 0 1 = cc in absurd (omega arith)
       go false em true eb f = let no : _≡_ {A = ℕ} 0 1 = cc in absurd (omega arith)
       go false em false eb f =
-          let q : at ≡ end = cc in
-          subst (λ (x : BitPosition). Stores measure out₁ x) q
-          (record { counted = counted-right out₁ at s; writes = em; room = ltb-false (length out₁) (blockBytes (at .0)) eb })
+          (em, record { right = k .right; enough = omega (arith, ltb-false (length out₁) (blockBytes (at .0)) eb, needed out₁ at k) }, k .kept)
 
-  module _ (measure : Bool) (out₁ : List ℕ) (end : BitPosition) (k : Stores measure out₁ end) where
-    -- there is room for the bits
-    pub store-room : Room true out₁ 0 ((writeLines F bases t count) .bits)
-    store-room e = omega (arith, k .room, k .counted .position)
+  -- the answer for a block that was stored in such an output
+  pub stored-answer : (out₁ out' : List ℕ) (measure : Bool) (a : BlockLength) → measure ≡ false → out₁ ≡ out → Storable F bases count t (length out₁)
+      → Stored (writtenBlock F bases count t) out₁ out' a → Answered measure a out'
+  unfolding measuredAnswer
+  stored-answer out₁ out' measure a em e k s =
+      let room : length (writtenBlock F bases count t) ≤ length out = rw e at (k .enough) in
+      rw (em, s .answered) (rw (k .right, le-ltb (length out) (length (writtenBlock F bases count t)) room), s .output ∙ rw e)
 
-    pub stored : (out₂ : List ℕ) (r₂ : Put) → SetWritten (writeLines F bases t count) true out₁ out₂ r₂ → (out₃ : List ℕ) → out₃ ≡ filled (end .0) out₂
-        → (n : ℕ) → n ≡ blockBytes (end .0) → Answered measure (Length n) out₃
-    unfolding measuredAnswer writtenBlock
-    stored out₂ r₂ s out₃ e n en =
-        let c = k .counted in
-        let l : List Bool = (writeLines F bases t count) .bits in
-        let p : IsSetPut none (writeLines F bases t count) true out₁ out₂ r₂ = rw (c .right) at (s .are) in
-        let f : blockBytes (length l) ≡ n = sym (en ∙ rw (c .position)) in
-        let room : length (writtenBlock F bases count t) ≤ length out = omega (arith, k .room, needed out₁ end c, ap length (c .kept)) in
-        rw (k .writes) (
-          rw (c .right, le-ltb (length out) (length (writtenBlock F bases count t)) room, en ∙ needed out₁ end c),
-          e ∙ rw (c .position, p .1) (fill-all out₁ l ∙ rw (c .kept, f)),
-        )
+-- a walk that stores such a set
+module _ (F : Form) (bases : List ℕ) (count : ℕ) (t out : List ℕ) (k : Storable F bases count t (length out)) where
+  -- there is room for the bits
+  pub store-room : Room true out 0 ((writeLines F bases t count) .bits)
+  store-room e = omega (arith, k .enough, block-length F bases count t)
+
+  module _ (out₁ : List ℕ) (r : Put) (s : SetWritten (writeLines F bases t count) true out out₁ r) where
+    put : IsSetPut none (writeLines F bases t count) true out out₁ r
+    put = rw (k .right) at (s .are)
+
+    pub never-wrong : {X : Type 0} (j : ℕ) → r ≡ Wrong j → X
+    never-wrong j e = clash _ j (sym (put .0) ∙ e)
+
+    module _ (end : BitPosition) (e : r ≡ At end) where
+      end-is : end .0 ≡ length ((writeLines F bases t count) .bits)
+      end-is =
+          let f : At end ≡ At (record { 0 = length ((writeLines F bases t count) .bits) }) = sym e ∙ put .0 in
+          let q : end ≡ record { 0 = length ((writeLines F bases t count) .bits) } = cc in
+          ap (λ (a : BitPosition). a .0) q
+
+      pub tail-room : blockBytes (end .0) ≤ length out
+      tail-room = omega (arith, k .enough, block-length F bases count t, end-is)
+
+      pub stored : (out₂ : List ℕ) → out₂ ≡ filled (end .0) out₁ → (n : ℕ) → n ≡ blockBytes (end .0)
+          → Stored (writtenBlock F bases count t) out out₂ (Length n)
+      unfolding writtenBlock
+      stored out₂ eo n en =
+          let l : List Bool = (writeLines F bases t count) .bits in
+          let m : length (writtenBlock F bases count t) ≡ blockBytes (length l) = block-length F bases count t in
+          record {
+            answered = ap Length (en ∙ rw end-is (sym m));
+            output = eo ∙ rw (end-is, put .1) (fill-all out l ∙ rw (sym m));
+          }
 
 -- ---- the answer for any set
 

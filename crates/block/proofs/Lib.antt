@@ -14,6 +14,8 @@ pub mod LoadLaws
 pub mod WrittenLaws
 pub mod WalkLaws
 pub mod AnswerLaws
+pub mod BoundLaws
+pub mod LookLaws
 pub mod CountLaws
 pub mod DecodeLaws
 pub mod ResumedLaws

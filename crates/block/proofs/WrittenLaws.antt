@@ -3,7 +3,8 @@ use mathlib.Core.Bool.{Bool}
 use mathlib.Core.List.{List, [], _++_, append-nil}
 use mathlib.Core.Option.{none}
 use mathlib.Core.Path.{_≡_, refl, ap}
-use Prim.Native.Nat.{ℕ, zero, suc}
+use Prim.Native.Nat.{ℕ, zero, suc, _≤_, _<_}
+use native.Mathlib.Omega.{arith}
 use Rattle.map.specs.Places.{widthOf}
 use Rattle.steps.specs.Steps.{planOf, passSteps}
 use Rattle.steps.specs.declared.Plan.{Plan}
@@ -41,6 +42,13 @@ module _ {A : Type 0} (f : ℕ → A → A) where
   unfolding repeats
   repeats-back Q each zero r q = q
   repeats-back Q each (suc n) r q = repeats-back Q each n r (each n (repeats f n r) q)
+
+  -- what holds of i of them holds of one more
+  pub repeats-through : (Q : ℕ → A → Type 0) (m : ℕ) → ((i : ℕ) → i < m → (r : A) → Q i r → Q (suc i) (f i r)) → (n : ℕ) → n ≤ m → (r : A) → Q 0 r
+      → Q n (repeats f n r)
+  unfolding repeats
+  repeats-through Q m each zero h r q = q
+  repeats-through Q m each (suc n) h r q = each n (omega arith) (repeats f n r) (repeats-through Q m each n (omega arith) r q)
 
 -- ---- passes and lines
 

@@ -1,6 +1,8 @@
 // The writer: a set of colour lines becomes a block, tight where it is lossless, or is only measured.
 ghost use mathlib.Core.Path.{_≡_};
+ghost use mathlib.Core.Bool.{true, false};
 ghost use mathlib.Core.List.{[]};
+ghost use mathlib.Core.Option.{none};
 ghost use Prim.Native.Nat.{_+_, _*_, _^_, _≤_, _<_};
 ghost use lib.ListN.{length};
 ghost use Rattle.lines.specs.ColourLines.{zeroLines};
@@ -16,7 +18,7 @@ ghost use Rattle.block.specs.Lent.{Outputs, Scratch, ScratchOf};
 ghost use Rattle.block.specs.WrittenBlocks.{isStrict, writeLines, SetWanted, writtenBlock};
 ghost use Rattle.block.specs.WrittenAnswers.{measuredAnswer, setAnswer};
 ghost use Rattle.block.specs.WrittenAnswers.{LeftWritten, LeftLossy, LeftMeasured};
-ghost use Rattle.block.specs.WriterParts.{passesFrom, LineWritten, SetWritten, roomFor, outputOf, LeftBy};
+ghost use Rattle.block.specs.WriterParts.{passesFrom, LineWritten, SetWritten, roomFor, outputOf, RightPasses, Storable, Stored, LeftBy};
 use crate::Form;
 use crate::form_of;
 use crate::reading::is_restarted;
@@ -176,7 +178,109 @@ fn write_walk(
     done
 }
 
-// A set whose samples with a code are in range: its bits are counted first, and stored only where they can be and are to be.
+// Line n of a lossless set: whether its interpolated samples are their predictions.
+fn look_line(samples: &[u16], n: usize, lines: &mut [u16], form: Form) -> bool
+    requires { ⌜ (n < 2 ^ 16) × (((n + 1) * lineSize (widthOf (form .xtrans)) ≤ length (now samples)) × SetWanted form (now samples)) ⌝ }
+    requires { ⌜ Depth (form .bits) × ((length (now lines) ≡ 18 * (widthOf (form .xtrans) + 2)) × Within (largest (form .bits)) (now lines)) ⌝ }
+    ensures { λ r. ⌜ (r ≡ true → RightPasses form (now (samples .entry)) n 6 (now (lines .entry)) (now (lines .exit))) ⌝ }
+{
+    let bits = form.bits;
+    let xtrans = form.xtrans;
+    let w = width(xtrans);
+    let mut i: usize = 0;
+    while i < 6 {
+        let p = steps::plan_at(i, xtrans);
+        lines::set_guards(lines, w, p.first);
+        lines::set_guards(lines, w, p.second);
+        if !writing::look_pass(samples, n, lines, w, p, bits) {
+            return false;
+        }
+        i = i + 1;
+    }
+    true
+}
+
+// All lines.
+fn look_lines(samples: &[u16], lines: &mut [u16], form: Form, count: usize) -> bool
+    requires { ⌜ (count < 2 ^ 16) × ((length (now samples) ≡ setSize (widthOf (form .xtrans)) count) × SetWanted form (now samples)) ⌝ }
+    requires { ⌜ Depth (form .bits) × (length (now lines) ≡ 18 * (widthOf (form .xtrans) + 2)) ⌝ }
+    ensures { λ r. ⌜ (r ≡ true → (writeLines form [] (now (samples .entry)) count) .wrong ≡ none) ⌝ }
+{
+    let w = width(form.xtrans);
+    lines::clear(lines);
+    let mut n: usize = 0;
+    while n < count {
+        lines::turn(lines, w);
+        if !look_line(samples, n, lines, form) {
+            return false;
+        }
+        n = n + 1;
+    }
+    true
+}
+
+// Whether no sample of a set is wrong. Bayer has codes alone, and only a set without bases is held to predictions: so only lossless X-Trans sets are
+// looked at.
+fn is_right(samples: &[u16], lines: &mut [u16], form: Form, bases: &[u8], count: usize) -> bool
+    requires { ⌜ (count < 2 ^ 16) × ((length (now samples) ≡ setSize (widthOf (form .xtrans)) count) × SetWanted form (now samples)) ⌝ }
+    requires { ⌜ Depth (form .bits) × (length (now lines) ≡ 18 * (widthOf (form .xtrans) + 2)) ⌝ }
+    ensures { λ r. ⌜ (r ≡ true → (writeLines form (now (bases .entry)) (now (samples .entry)) count) .wrong ≡ none) ⌝ }
+{
+    if form.xtrans & is_strict(bases) {
+        return look_lines(samples, lines, form, count);
+    }
+    true
+}
+
+// Whether nothing of a set can be refused any more, so that its bits need not be counted before they are stored. Where it is not, the walk that counts says
+// what is refused.
+fn is_sure(
+    samples: &[u16],
+    lines: &mut [u16],
+    form: Form,
+    bases: &[u8],
+    count: usize,
+    measure: bool,
+    room: usize,
+) -> bool
+    requires { ⌜ (count < 2 ^ 16) × ((length (now samples) ≡ setSize (widthOf (form .xtrans)) count) × SetWanted form (now samples)) ⌝ }
+    requires { ⌜ Depth (form .bits) × (length (now lines) ≡ 18 * (widthOf (form .xtrans) + 2)) ⌝ }
+    ensures { λ r. ⌜ (r ≡ true → (measure ≡ false) × Storable form (now (bases .entry)) count (now (samples .entry)) room) ⌝ }
+{
+    if begin::is_ample(measure, form.bits, count, room) {
+        return is_right(samples, lines, form, bases, count);
+    }
+    false
+}
+
+// A set of which no sample is wrong, and whose block the output has room for: its bits are stored.
+fn write_stored(
+    samples: &[u16],
+    out: &mut [u8],
+    lines: &mut [u16],
+    rs: &mut [Record],
+    form: Form,
+    bases: &[u8],
+    count: usize,
+) -> BlockLength
+    requires { ⌜ (count < 2 ^ 16) × ((length (now samples) ≡ setSize (widthOf (form .xtrans)) count) × SetWanted form (now samples)) ⌝ }
+    requires { ⌜ Depth (form .bits) × ScratchOf (form .xtrans) (now lines) (now rs) ⌝ }
+    requires { ⌜ Storable form (now bases) count (now samples) (length (now out)) ⌝ }
+    ensures { λ r. ⌜ Stored (writtenBlock form (now (bases .entry)) count (now (samples .entry))) (now (out .entry)) (now (out .exit)) r ⌝ }
+    ensures { λ _. ⌜ (now (lines .exit) ≡ zeroLines (widthOf (form .xtrans))) × (now (rs .exit) ≡ clearRecords) ⌝ }
+{
+    let done = write_walk(samples, out, true, lines, rs, form, bases, count);
+    match done {
+        Put::Wrong(j) => BlockLength::Refused(Refusal::NotPredicted(j)),
+        Put::At(end) => {
+            bits::fill_tail(out, end);
+            BlockLength::Length(begin::block_bytes(end))
+        }
+    }
+}
+
+// A set whose samples with a code are in range. Its bits are stored at once where nothing can be refused any more; else they are counted first, and
+// stored only where they can be and are to be.
 fn write_measured(
     samples: &[u16],
     out: &mut [u8],
@@ -195,15 +299,14 @@ fn write_measured(
         × (now (out .exit) ≡ outputOf measure r block (now (out .entry))) ⌝ }
     ensures { λ _. ⌜ (now (lines .exit) ≡ zeroLines (widthOf (form .xtrans))) × (now (rs .exit) ≡ clearRecords) ⌝ }
 {
+    if is_sure(samples, lines, form, bases, count, measure, out.len()) {
+        return write_stored(samples, out, lines, rs, form, bases, count);
+    }
     let counted = write_walk(samples, out, false, lines, rs, form, bases, count);
     let next = begin::after_counting(counted, measure, out.len());
     match next {
         Next::Answer(a) => a,
-        Next::Store(end) => {
-            write_walk(samples, out, true, lines, rs, form, bases, count);
-            bits::fill_tail(out, end);
-            BlockLength::Length(begin::block_bytes(end))
-        }
+        Next::Store(_) => write_stored(samples, out, lines, rs, form, bases, count),
     }
 }
 

@@ -1,19 +1,16 @@
 -- A tight code has at most 4·bits bits, and a line 4608 codes. Assumes nothing.
 use mathlib.Core.Bool.{Bool, true, false, cond}
-use mathlib.Core.List.{List, [], _∷_, _++_}
+use mathlib.Core.List.{List, [], _∷_}
 use mathlib.Core.Option.{Option, none, some, Option·some-injective}
 use mathlib.Core.Path.{_≡_, refl, _∙_}
-use Prim.Native.Nat.{ℕ, zero, suc, _+_, _*_, _^_, _≤_, _<_}
-use native.Mathlib.Nat.{mul-le-mul-right, pow-suc}
+use Prim.Native.Nat.{ℕ, zero, suc, _+_, _*_, _^_, _≤_}
 use native.Mathlib.Omega.{arith}
 use lib.Dec.{leb}
 use lib.ListN.{length, getD}
-use lib.Pow.{pow-pos, pow-mono}
 use Rattle.numbers.proofs.BoolLaws.{both}
-use Rattle.numbers.proofs.OrderLaws.{split}
 use Rattle.statistics.specs.Statistics.{kOf}
 use Rattle.statistics.proofs.RecordLaws.{k-least}
-use Rattle.quantiser.specs.Quantisers.{largest, quantiserOf}
+use Rattle.quantiser.specs.Quantisers.{largest}
 use Rattle.prediction.specs.declared.Context.{Context}
 use Rattle.code.specs.Codes.{shortCode, longCode, codeAt}
 use Rattle.code.specs.Samples.{choiceOf}
@@ -28,15 +25,17 @@ use Rattle.steps.specs.Contexts.{lookOf, usedQuantiser, noRecord, stepPlace, st
 use Rattle.steps.specs.declared.Look.{Look}
 use Rattle.steps.specs.declared.Plan.{Plan}
 use Rattle.steps.specs.Values.{Depth}
-use Rattle.steps.proofs.ScheduleLaws.{codes, lineSteps, bayer-codes, x-trans-codes}
+use Rattle.steps.proofs.ScheduleLaws.{codes, lineSteps}
 use Rattle.pass.specs.Readings.{Reading, interpolate, takeCode, taken, readStep, reads, readPass}
-use Rattle.writing.proofs.LosslessLaws.{code-numbers, lossless}
+use Rattle.writing.proofs.BoundLaws.{short-most, four}
+use Rattle.writing.proofs.LosslessLaws.{lossless}
 use Rattle.pass.proofs.FrameLaws.{first-then}
 use Rattle.map.specs.Places.{widthOf}
 use Rattle.stream.proofs.HeaderLaws.{ruled}
 use Rattle.block.specs.Blocks.{State, runs, enter, leave, passAt, endLine, readLine, beforeLine, readLineAt, startState, readLines}
 use Rattle.block.specs.Images.{formOf}
 use Rattle.block.specs.declared.Form.{Form}
+use Rattle.block.proofs.BoundLaws.{codes-append, line-codes}
 use Rattle.block.proofs.RunLaws.{then-both, runs-last}
 use Rattle.one_to_one.specs.Lengths.{Bounds}
 use Rattle.one_to_one.proofs.BlockLaws.{tail-was}
@@ -44,17 +43,6 @@ use Rattle.one_to_one.proofs.BlockLaws.{tail-was}
 -- ---- one code
 
 module _ (M : ℕ) (s : List ℕ) (p k limit raw : ℕ) (small : M ≤ 2 ^ raw) (low : k ≤ 15) (wide : 15 ≤ limit + raw) where
-  -- a short code has fewer than limit zeros, and none where k is above raw
-  short-most : (z : ℕ) → z < limit → z * 2 ^ k ≤ M → z + 1 + k ≤ limit + 1 + raw
-  short-most z h v =
-      split k raw (λ l. omega arith)
-      (λ l. split 1 z
-      (λ g. let m : 1 * 2 ^ k ≤ z * 2 ^ k = mul-le-mul-right (2 ^ k) g in
-      let d : 2 ^ suc raw ≤ 2 ^ k = pow-mono l in
-      let e : 2 ^ suc raw ≡ 2 ^ raw * 2 = pow-suc 2 raw in
-      absurd (omega (arith, pow-pos raw)))
-      (λ g. omega arith))
-
   code-most : (x : Code) → codeAt s p k limit raw ≡ Read x → isTight M x ≡ true → x .after .0 ≤ p + (limit + 1 + raw)
   code-most x e t =
       code-cases s p k limit raw {X = x .after .0 ≤ p + (limit + 1 + raw)}
@@ -62,7 +50,7 @@ module _ (M : ℕ) (s : List ℕ) (p k limit raw : ℕ) (small : M ≤ 2 ^ raw) 
       (λ z r h g.
       let is : shortCode s p k z ≡ x = cc in
       let v : shortCode s p k z .value ≤ M = tight-small M (shortCode s p k z) (rw (← is) at t) in
-      rw (← is) (omega (arith, short-most z h (omega (arith, v)))))
+      rw (← is) (omega (arith, short-most k limit raw low wide z h (omega (arith, v, small)))))
       (λ z r h g.
       let is : longCode s p k limit raw z ≡ x = cc in
       let l = tight-long M s p k limit raw z (rw (← is) at t) in
@@ -76,11 +64,6 @@ record Went (from at : ℕ) (was : Bool) (most : ℕ) : Type 0 where
   within : at ≤ from + most
 
 module _ (bits W : ℕ) (s : List ℕ) (depth : Depth bits) where
-  -- limit + 1 + raw
-  four : (usedQuantiser bits 0 0) .limit + 1 + (usedQuantiser bits 0 0) .raw ≡ 4 * bits
-  unfolding quantiserOf
-  four = omega (arith, code-numbers bits 0 9 (depth .0) (depth .1) .2, depth .0)
-
   step-most : (x : Step) (r z : Reading) → readStep bits 0 W s x r ≡ some z → z .tight ≡ true
       → Went (r .at .0) (z .at .0) (r .tight) (cond (x .coded) 1 0 * (4 * bits))
   unfolding readStep lookOf choiceOf
@@ -117,8 +100,8 @@ module _ (bits W : ℕ) (s : List ℕ) (depth : Depth bits) where
           let ts = both (r .tight) (isTight (largest bits) d) (rw (← is) at t) in
           let n = lossless bits (omega (arith, depth .0)) (depth .1) .raw in
           let low = k-least (getD (r .set) slot noRecord) .capped in
-          let m = code-most (largest bits) s (r .at .0) k limit raw n low (omega (arith, four, depth .0)) d eg (ts .1) in
-          record { tight = ts .0; within = rw (← is) (omega (arith, m, four)) }
+          let m = code-most (largest bits) s (r .at .0) k limit raw n low (omega (arith, four bits 0 9 depth, depth .0)) d eg (ts .1) in
+          record { tight = ts .0; within = rw (← is) (omega (arith, m, four bits 0 9 depth)) }
       go false g eg f =
           let y : Reading = interpolate i c r in
           let is : y ≡ z = Option·some-injective y z f in
@@ -132,16 +115,6 @@ module _ (bits W : ℕ) (s : List ℕ) (depth : Depth bits) where
       let after = steps-most l (f .0) z (f .2) t in
       let first = step-most x r (f .0) (f .1) (after .tight) in
       record { tight = first .tight; within = omega (arith, first .within, after .within) }
-
-codes-append : (a b : List Step) → codes (a ++ b) ≡ codes a + codes b
-unfolding codes
-codes-append [] b = omega arith
-codes-append (x ∷ a) b = omega (arith, codes-append a b)
-
--- Bayer and X-Trans lines have as many codes
-line-codes : (xtrans : Bool) → codes (lineSteps (widthOf xtrans) xtrans) ≡ 4608
-line-codes true = x-trans-codes
-line-codes false = bayer-codes
 
 module _ (F : Form) (s : List ℕ) (depth : Depth (F .bits)) where
   abbrev W : ℕ

@@ -10,44 +10,18 @@ use lib.ListN.{length, getD, set, length-set}
 use lib.Seq.{getD-set-other, getD-set-same}
 use borrow.Author.Tests.{eq-eqb, eqb-true}
 use Rattle.steps.specs.Steps.{Step}
-use Rattle.steps.specs.Contexts.{usedQuantiser, lookOf, evenIn, contextIn, stepPlace, stepContext}
+use Rattle.steps.specs.Contexts.{evenIn, contextIn, stepContext}
 use Rattle.steps.proofs.ContextLaws.{context-le}
-use Rattle.steps.proofs.LookLaws.{look-lossless}
-use Rattle.quantiser.specs.Quantisers.{largest, quantiserOf, gradientOf}
-use Rattle.quantiser.proofs.QuantiserLaws.{total-wide}
-use Rattle.code.specs.Samples.{sampleOf}
-use Rattle.code.specs.Nearest.{codeNear}
-use Rattle.code.proofs.NearLaws.{near-back}
-use Rattle.prediction.specs.declared.Context.{Context}
+use Rattle.quantiser.specs.Quantisers.{largest}
 use Rattle.prediction.specs.Predictions.{evenPrediction, evenContext}
 use Rattle.writing.specs.Puts.{Within}
-use Rattle.writing.specs.Writings.{Writing, orSecond, wantedCode, givenSample, writeStep, writes}
+use Rattle.writing.specs.Writings.{Writing, orSecond, writeStep, writes}
 use Rattle.steps.proofs.OrderLaws.{All, cell, Apart}
+use Rattle.writing.proofs.LookLaws.{given-exact}
 use Rattle.writing.proofs.StepPuts.{step-within}
 use Rattle.writing.proofs.WriteLaws.{wanted, write-coded, write-interpolated, writes-right}
 
 -- ---- one step
-
--- with base 0 the nearest sample is the wanted one
-pub given-exact : (bits v : ℕ) (c : Context) → c .prediction ≤ largest bits → v ≤ largest bits
-    → givenSample bits 0 (wantedCode bits 0 v c (lookOf 0 c)) c (lookOf 0 c) ≡ v
-unfolding quantiserOf
-given-exact bits v c hc hv = rw (look-lossless c) exact
-  where
-    M : ℕ
-    M = largest bits
-
-    negative : Bool
-    negative = (gradientOf 0 9 (c .first) (c .second)) .negative
-
-    total : ℕ
-    total = (usedQuantiser bits 0 0) .total
-
-    wide : M + 2 * 0 < total * (2 * 0 + 1)
-    wide = total-wide bits 0
-
-    exact : sampleOf M 0 total negative (c .prediction) (codeNear 0 total negative (c .prediction) v) ≡ v
-    exact = let near = near-back M 0 total wide negative (c .prediction) v hc hv .1 in omega (arith, near .0, near .1)
 
 module _ (bits W : ℕ) (t : List ℕ) (n : ℕ) (x : Step) (r : Writing) where
   -- the sample goes to its place, whatever it is

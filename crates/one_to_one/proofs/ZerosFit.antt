@@ -20,7 +20,7 @@ use Rattle.writing.proofs.WriteLaws.{wanted, write-coded, write-interpolated}
 use Rattle.block.specs.WrittenBlocks.{WriteState, repeats, enterWriting, writePassAt, beforeWriting, writeLine, startWriting, writeLines, FitSet}
 use Rattle.block.specs.declared.Form.{Form}
 use Rattle.block.proofs.SampleLaws.{zeros-le, guarded-le, turned-le}
-use Rattle.one_to_one.proofs.PredictedSteps.{given-exact}
+use Rattle.writing.proofs.LookLaws.{given-exact}
 
 module _ (F : Form) (t : List ℕ) (none-above : (j : ℕ) → getD t j 0 ≤ 0) where
   abbrev W : ℕ

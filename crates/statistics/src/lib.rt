@@ -47,7 +47,8 @@ impl Record {
         too_small_from(self.sum, self.n, 0)
     }
 
-    // The same k without a search: the lengths of sum and n in binary digits tell it but for one.
+    // The same k, from the lengths of sum and n in binary digits, which tell it but for one: so there is one number that may be too small, and LLVM makes
+    // no loop of it.
     pub fn k_by_lengths(self) -> u32
         requires { ⌜ InRange self ⌝ }
         ensures { λ r. ⌜ (r ≡ kOf self) × (r ≤ 15) ⌝ }
@@ -56,7 +57,13 @@ impl Record {
             u32::leading_zeros(self.n),
             u32::leading_zeros(self.sum),
         );
-        numbers::smaller(15, least + numbers::flag(self.n << least < self.sum))
+        let mut k = least;
+        let mut j = least;
+        while j < least + 1 {
+            k += numbers::flag(self.n << j < self.sum);
+            j += 1;
+        }
+        numbers::smaller(15, k)
     }
 
     // The record after a residual of that size. `halved` is 1 where both are to be halved, so that there is no branch.

@@ -8,3 +8,5 @@ pub mod StepPuts
 pub mod SitePuts
 pub mod TurnPuts
 pub mod PassLaws
+pub mod BoundLaws
+pub mod LookLaws

@@ -17,7 +17,8 @@ use Rattle.code.specs.Samples.{residualOf}
 use Rattle.code.specs.Tight.{codeBits}
 use Rattle.steps.specs.Steps.{Step, stepAt}
 use Rattle.steps.specs.Contexts.{usedBase, usedWeight, usedQuantiser, noRecord}
-use Rattle.steps.specs.Values.{zipRecords, SetInRange}
+use Rattle.steps.specs.Values.{zipRecords, SetInRange, AreKs}
+use Rattle.steps.proofs.KLaws.{kept-k}
 use Rattle.steps.proofs.TableLaws.{limit-is, raw-is}
 use Rattle.writing.specs.Puts.{LineNumbers, putIf, Room, Within, Wanted, CodingAsks, CodedAs, bitsOfSample, setOfSample, StepsRoom, StepsPut}
 use Rattle.writing.specs.declared.Coding.{Coding}
@@ -52,6 +53,9 @@ pub met : {bits q W : ℕ} {strict : Bool} {t : List ℕ} {n : ℕ} {y : Step} {
     → Done bits q W strict t n y store from lines sums ns out lines' sums' ns' out' at
     → Done bits q W strict t n y store from lines sums ns out lines″ sums″ ns″ out″ at″
 met eo el es en ea d = rw (eo, el, es, en, ea) d
+
+pub ks-met : {sums sums″ ns ns″ ks ks″ : List ℕ} → sums″ ≡ sums → ns″ ≡ ns → ks″ ≡ ks → AreKs (zipRecords sums ns) ks → AreKs (zipRecords sums″ ns″) ks″
+ks-met es en ek h = rw (es, en, ek) h
 
 -- ---- two steps
 
@@ -147,9 +151,14 @@ module _ {bits q : ℕ} {totals raws limits : List ℕ} {W : ℕ} {strict : Bool
       site-value = let p : 2 ^ bits ≤ 2 ^ 16 = pow-mono (s .ready .numbers .depth .1) in omega (arith, ec .value-le)
 
       module _ {old : Record} (eo : (old ≡ getD (zipRecords sums ns) (c .slot) noRecord) × InRange old) where
-        -- what `update_at` asks
-        pub site-update : ((c .code < 63 * 2 ^ 15) × ((c .slot < 112) × InRange old)) × SetInRange (zipRecords sums ns)
-        site-update = ((omega (arith, ec .code-lt, numbers .4), (ec .slot-lt, eo .1)), s .ready .records)
+        module _ {ks : List ℕ} (hk : AreKs (zipRecords sums ns) ks) where
+          -- what `update_with_k` asks
+          pub site-update : ((c .code < 63 * 2 ^ 15) × ((c .slot < 112) × InRange old)) × (SetInRange (zipRecords sums ns) × AreKs (zipRecords sums ns) ks)
+          site-update = ((omega (arith, ec .code-lt, numbers .4), (ec .slot-lt, eo .1)), (s .ready .records, hk))
+
+          -- the k that is kept for it
+          pub site-k : {k : ℕ} → k ≡ getD ks (c .slot) 0 → (k ≡ kOf old) × (k ≤ 15)
+          site-k ek = kept-k hk (ec .slot-lt) (eo .0) ek
 
         module _ {k : ℕ} (ek : (k ≡ kOf old) × (k ≤ 15)) where
           abbrev limit : ℕ
@@ -182,16 +191,17 @@ module _ {bits q : ℕ} {totals raws limits : List ℕ} {W : ℕ} {strict : Bool
           unfolding setOfSample
           set-is = rw (eo .0, ec .slot, ec .code, ev)
 
-          pub site-done : {after : BitPosition} {out' sums' ns' : List ℕ}
+          pub site-done : {after : BitPosition} {out' sums' ns' ks' : List ℕ}
               → (after .0 ≡ from .0 + length (codeBits k limit raw (c .code))) × (out' ≡ putIf store out (from .0) (codeBits k limit raw (c .code)))
               → length out' ≡ length out
-              → (zipRecords sums' ns' ≡ set (zipRecords sums ns) (c .slot) (updated old ((residualOf (c .code)) .size))) × SetInRange (zipRecords sums' ns')
+              → (zipRecords sums' ns' ≡ set (zipRecords sums ns) (c .slot) (updated old ((residualOf (c .code)) .size)))
+              × (SetInRange (zipRecords sums' ns') × AreKs (zipRecords sums' ns') ks')
               → Done bits q W strict t n (stepAt line p coded) store from lines sums ns out (set lines (i + 1) (c .value)) sums' ns' out' after
-          site-done {after} {out'} {sums'} {ns'} put same new =
+          site-done {after} {out'} {sums'} {ns'} {ks'} put same new =
               let g = rw bits-are at put in
               record {
                 put = sample-coded (s .sample) bits q strict store coded (from .0) sums ns out sums' ns' out' after (c .value) ct (g .0) (g .1) (new .0 ∙ set-is) (rw ev at (ec .value));
-                records = new .1;
+                records = new .1 .0;
                 same = same;
                 long = length-set lines (i + 1) (c .value);
               }

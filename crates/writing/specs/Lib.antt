@@ -2,3 +2,4 @@
 pub mod Sets
 pub mod Writings
 pub mod Puts
+pub mod Looks

@@ -9,7 +9,7 @@ ghost use Rattle.code.specs.Samples.{sampleOf};
 ghost use Rattle.code.specs.Tight.{stepsUp, residualUp, codeOfResidual, codeFor, codeBits, codeLength};
 ghost use Rattle.code.specs.Nearest.{codeNear};
 ghost use Rattle.steps.specs.Steps.{evenPart, oddPart};
-ghost use Rattle.steps.specs.Values.{zipRecords, SetInRange, Depth};
+ghost use Rattle.steps.specs.Values.{zipRecords, SetInRange, AreKs, Depth};
 ghost use Rattle.writing.specs.Sets.{rankOf, indexIn, lineSize};
 ghost use Rattle.writing.specs.Writings.{writePass};
 ghost use Rattle.writing.specs.Puts.{codeNumber, putIf, Room, CodingAsks, CodedAs, StepsAsk, StepsPut, wrongAt, begunWriting, WriteAsks, WriteGives};
@@ -20,6 +20,10 @@ use steps::Plan;
 use steps::Quantisers;
 use steps::Set;
 use steps::Spot;
+
+mod looking;
+
+pub use looking::look_pass;
 
 // The position after some samples, or the index in the set of an interpolated one that is not its prediction.
 pub enum Put {
@@ -242,6 +246,7 @@ fn write_even(
     lines: &mut [u16],
     sums: &mut [u32; 112],
     ns: &mut [u32; 112],
+    ks: &mut [u32; 112],
     spot: Spot,
     strict: bool,
     base: u32,
@@ -251,10 +256,12 @@ fn write_even(
 ) -> Put
     requires { ⌜ StepsAsk spot base strict (now totals) (now raws) (now limits) (now samples) n (evenPart (spot .w) (spot .plan) (spot .p)) store from
         (now lines) (now sums) (now ns) (now out) ⌝ }
+    requires { ⌜ AreKs (zipRecords (now sums) (now ns)) (now ks) ⌝ }
     ensures { λ r. ⌜ StepsPut (spot .bits) base (spot .w) strict (now (samples .entry)) n (evenPart (spot .w) (spot .plan) (spot .p)) store (from .0)
         (now (lines .entry)) (now (sums .entry)) (now (ns .entry)) (now (out .entry))
         (now (lines .exit)) (now (sums .exit)) (now (ns .exit)) (now (out .exit)) r ⌝ }
     ensures { λ _. ⌜ SetInRange (zipRecords (now (sums .exit)) (now (ns .exit))) ⌝ }
+    ensures { λ _. ⌜ AreKs (zipRecords (now (sums .exit)) (now (ns .exit))) (now (ks .exit)) ⌝ }
 {
     let w = spot.w;
     let p = spot.p;
@@ -276,12 +283,12 @@ fn write_even(
             out,
             store,
             at,
-            old.k(),
+            steps::k_at(ks, c.slot),
             limits[choice],
             raws[choice],
             c.code,
         );
-        steps::update_at(sums, ns, c.slot, old, c.code);
+        steps::update_with_k(sums, ns, ks, c.slot, old, c.code);
     } else {
         if is_wrong(strict, v, x.prediction) {
             return Put::Wrong(j);
@@ -301,12 +308,12 @@ fn write_even(
             out,
             store,
             at,
-            old.k(),
+            steps::k_at(ks, c.slot),
             limits[choice],
             raws[choice],
             c.code,
         );
-        steps::update_at(sums, ns, c.slot, old, c.code);
+        steps::update_with_k(sums, ns, ks, c.slot, old, c.code);
     } else {
         if is_wrong(strict, v, x.prediction) {
             return Put::Wrong(j);
@@ -326,6 +333,7 @@ fn write_odd(
     lines: &mut [u16],
     sums: &mut [u32; 112],
     ns: &mut [u32; 112],
+    ks: &mut [u32; 112],
     spot: Spot,
     strict: bool,
     base: u32,
@@ -336,10 +344,12 @@ fn write_odd(
     requires { ⌜ StepsAsk spot base strict (now totals) (now raws) (now limits) (now samples) n (oddPart (spot .plan) (spot .p)) store from
         (now lines) (now sums) (now ns) (now out) ⌝ }
     requires { ⌜ spot .p < spot .w + 7 ⌝ }
+    requires { ⌜ AreKs (zipRecords (now sums) (now ns)) (now ks) ⌝ }
     ensures { λ r. ⌜ StepsPut (spot .bits) base (spot .w) strict (now (samples .entry)) n (oddPart (spot .plan) (spot .p)) store (from .0)
         (now (lines .entry)) (now (sums .entry)) (now (ns .entry)) (now (out .entry))
         (now (lines .exit)) (now (sums .exit)) (now (ns .exit)) (now (out .exit)) r ⌝ }
     ensures { λ _. ⌜ SetInRange (zipRecords (now (sums .exit)) (now (ns .exit))) ⌝ }
+    ensures { λ _. ⌜ AreKs (zipRecords (now (sums .exit)) (now (ns .exit))) (now (ks .exit)) ⌝ }
 {
     let w = spot.w;
     let p = spot.p;
@@ -360,12 +370,12 @@ fn write_odd(
         out,
         store,
         from,
-        old.k(),
+        steps::k_at(ks, c.slot),
         limits[choice],
         raws[choice],
         c.code,
     );
-    steps::update_at(sums, ns, c.slot, old, c.code);
+    steps::update_with_k(sums, ns, ks, c.slot, old, c.code);
     let i = steps::left_of(w, plan.second, q);
     let j = index_in(w, n, plan.second, q);
     let x = steps::context_at(lines, w + 2, i, q);
@@ -378,12 +388,12 @@ fn write_odd(
         out,
         store,
         at,
-        old.k(),
+        steps::k_at(ks, c.slot),
         limits[choice],
         raws[choice],
         c.code,
     );
-    steps::update_at(sums, ns, c.slot, old, c.code);
+    steps::update_with_k(sums, ns, ks, c.slot, old, c.code);
     Put::At(after)
 }
 
@@ -412,6 +422,7 @@ pub fn write_pass(
     let base = qs.base;
     let mut sums = set.sums;
     let mut ns = set.ns;
+    let mut ks = steps::ks_of(&sums, &ns);
     let mut at = from;
     let mut p = 0;
     while p < w + 8 {
@@ -424,6 +435,7 @@ pub fn write_pass(
             lines,
             &mut sums,
             &mut ns,
+            &mut ks,
             Spot { w, bits, plan, p },
             strict,
             base,
@@ -448,6 +460,7 @@ pub fn write_pass(
             lines,
             &mut sums,
             &mut ns,
+            &mut ks,
             Spot { w, bits, plan, p },
             strict,
             base,

@@ -143,10 +143,15 @@ impl Picture {
         set
     }
 
-    /// Rounds of reading, writing, reading; all ours.
-    fn write_against_read(&self, xtrans: bool) -> Rounds {
+    /// The bytes that no block of this picture's lines exceeds.
+    fn bound(&self) -> usize {
+        self.height as usize / 6 * 2304 * 14
+    }
+
+    /// Rounds of reading, writing to an output of so many bytes, reading; all ours.
+    fn write_against_read(&self, xtrans: bool, room: usize) -> Rounds {
         let (set, mut image, mut scratch) = (self.set(xtrans), self.image(), Scratch::new());
-        let mut out = vec![0; self.stream.len()];
+        let mut out = vec![0; room];
         rounds(|| {
             let before = self.time_ours(&mut image, &mut scratch);
             [before, self.time_write(&set, &mut out, &mut scratch), self.time_ours(&mut image, &mut scratch)]
@@ -313,9 +318,10 @@ fn say(name: &str, ratio: Option<f64>) {
     }
 }
 
-/// Decodes one block once, so that a tool can count its instructions (tools/count.py): KIND NOISE LINES ours|windowed|rust.
+/// Decodes one block once, or writes or measures it, so that a tool can count the instructions (tools/count.py):
+/// KIND NOISE LINES ours|windowed|rust|write|exact|measure. The output of `write` has the bytes that no block exceeds, that of `exact` the block's.
 fn count(words: &[String]) {
-    let [kind, noise, lines, side] = words else { panic!("count KIND NOISE LINES ours|windowed|rust") };
+    let [kind, noise, lines, side] = words else { panic!("count KIND NOISE LINES ours|windowed|rust|write|exact|measure") };
     let (_, xtrans, lossy) = KINDS.into_iter().find(|(name, ..)| name == kind).expect("a kind");
     let picture = Picture::new(1, lines.parse().expect("lines"), xtrans, lossy, noise.parse().expect("a noise"));
     let mut image = picture.image();
@@ -323,7 +329,13 @@ fn count(words: &[String]) {
         "ours" => picture.time_ours(&mut image, &mut Scratch::new()),
         "windowed" => picture.time_windowed(&mut image, &mut Scratch::windowed()),
         "rust" => picture.time_theirs(&mut image),
-        _ => panic!("ours, windowed or rust"),
+        "write" => picture.time_write(&picture.set(xtrans), &mut vec![0; picture.bound()], &mut Scratch::new()),
+        "exact" => {
+            let exact = FujiCompressed::new(&picture.stream).unwrap().block(0).unwrap().len();
+            picture.time_write(&picture.set(xtrans), &mut vec![0; exact], &mut Scratch::new())
+        }
+        "measure" => picture.time_measure(&picture.set(xtrans), &mut Scratch::new()),
+        _ => panic!("ours, windowed, rust, write, exact or measure"),
     };
 }
 
@@ -348,12 +360,18 @@ fn measure_kind((name, xtrans, lossy): (&str, bool, bool), blocks: u16, lines: u
     let title = format!("{foot}, the last tenth of one block of 2731 lines");
     say(&foot, measure(&title, ["decode_region", "resume_region"], &tall, tall.foot_against_top()));
     let colours = if xtrans { "xtrans" } else { "bayer" };
-    let write = one.write_against_read(xtrans);
+    let exact = FujiCompressed::new(&one.stream).unwrap().block(0).unwrap().len();
+    let (write, short) = (one.write_against_read(xtrans, one.bound()), one.write_against_read(xtrans, exact));
     let entries = if lossy {
-        vec![("write-lossy", "write_lossy", write)]
+        vec![("write-lossy", "write_lossy", write), ("write-lossy-exact", "write_lossy", short)]
     } else {
-        let (tight, exact) = (one.tight_against_ordinary(), one.measure_against_read(xtrans));
-        vec![("tight", "read_tight", tight), ("write", "write_block", write), ("measure", "measure_block", exact)]
+        let (tight, measured) = (one.tight_against_ordinary(), one.measure_against_read(xtrans));
+        vec![
+            ("tight", "read_tight", tight),
+            ("write", "write_block", write),
+            ("write-exact", "write_block", short),
+            ("measure", "measure_block", measured),
+        ]
     };
     for (entry, function, rounds) in entries {
         let name = format!("{entry}-{colours}");

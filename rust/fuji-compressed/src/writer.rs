@@ -3,7 +3,8 @@ use crate::{Refusal, Result, Scratch, ffi};
 
 /// Writes the tight block of a set of colour lines to the start of `out`, and gives its length: for each line of six rows red 2 to 4, green 7 to 12
 /// and blue 15 to 17, with 384 samples each (X-Trans: 512). The length is a multiple of 16: the last bytes are filled with zero bits. Of the header the
-/// first 16 bytes count. Refusals 1, 2, 8, 9, 11, 12 and 13; each leaves `out` as it was.
+/// first 16 bytes count. With `FujiHeader::length_bound` bytes of output or more the block is written in one walk, with fewer in two. Refusals 1, 2, 8, 9, 11, 12 and 13; each
+/// leaves `out` as it was.
 pub fn write_block(header: &[u8], samples: &[u16], out: &mut [u8]) -> Result<usize> {
     write_block_with(&mut Scratch::new(), header, samples, out)
 }
@@ -32,8 +33,8 @@ pub fn write_block_with(scratch: &mut Scratch, header: &[u8], samples: &[u16], o
 
 /// Writes the block of such a set under a lossy header to the start of `out`, with one base byte for each line of six rows, and gives its length. A sample that has a
 /// code reads back within the base of the quantiser that coded it, which is at most that of its line; where X-Trans interpolates, the set's samples are ignored. The
-/// base row of the stream is not part of the block. Each code has at most 4·bits bits, so that lines·2304·bits bytes are enough; unlike that of tight blocks this bound
-/// is not proved. Refusals 1, 2, 16, 17, 9, 11 and 13, in this order; each leaves `out` as it was.
+/// base row of the stream is not part of the block. Each code has at most 4·bits bits, so that lines·2304·bits bytes are enough, and with so many it is written in one
+/// walk. Refusals 1, 2, 16, 17, 9, 11 and 13, in this order; each leaves `out` as it was.
 ///
 /// ```
 /// use fuji_compressed::{plan_bases, write_lossy};

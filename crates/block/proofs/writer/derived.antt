@@ -6,4 +6,5 @@ pub mod write_lines
 pub mod write_lossy
 pub mod write_measured
 pub mod write_set
+pub mod write_stored
 pub mod write_walk

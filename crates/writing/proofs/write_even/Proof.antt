@@ -9,9 +9,10 @@ use native.Mathlib.Omega.{arith}
 use lib.ListN.{length}
 use Rattle.quantiser.specs.Quantisers.{largest}
 use Rattle.steps.specs.Steps.{Step, stepAt, interpolated, evenSteps}
+use Rattle.steps.specs.Values.{zipRecords, AreKs}
 use Rattle.writing.proofs.StepPuts.{sample-at, same-room, same-wanted, same-steps, no-even, even-due, ends}
-use Rattle.writing.proofs.SitePuts.{Ready, Done, met, first-ready, second-ready, two-puts, Site, site-code, site-value}
-use Rattle.writing.proofs.SitePuts.{site-right, site-wrong, site-record, site-update, site-room, site-done}
+use Rattle.writing.proofs.SitePuts.{Ready, Done, met, ks-met, first-ready, second-ready, two-puts, Site, site-code, site-value}
+use Rattle.writing.proofs.SitePuts.{site-right, site-wrong, site-record, site-update, site-k, site-room, site-done}
 use Rattle.writing.proofs.write_even.Statement.{statement}
 use Rattle.writing.proofs.write_even.Tie as tie
 
@@ -19,7 +20,7 @@ returns : tie.Need-returns
 returns c =
     let s = c .before .before .before .before in
     let a = s .args in
-    (no-even (a .spot .bits) (a .base) (a .spot .w) (a .strict) (a .samples .now) (a .n) (a .spot .plan) (a .spot .p) (a .store) (a .from) (a .lines .now) (a .sums .now) (a .ns .now) (a .out .now) (c .if1 .taken), s .pre .records)
+    (no-even (a .spot .bits) (a .base) (a .spot .w) (a .strict) (a .samples .now) (a .n) (a .spot .plan) (a .spot .p) (a .store) (a .from) (a .lines .now) (a .sums .now) (a .ns .now) (a .out .now) (c .if1 .taken), (s .pre .0 .records, s .pre .1))
 
 -- ---- the first sample
 
@@ -40,7 +41,7 @@ two : (c : tie.Else1) → let a = entry c .args in
     (evenSteps (a .spot .plan) (a .spot .p)) (a .store) (a .from) (a .lines .now) (a .sums .now) (a .ns .now) (a .out .now)
 two c =
     let a = entry c .args in
-    let p = entry c .pre in
+    let p = entry c .pre .0 in
     let due = even-due (a .spot .plan) (a .spot .w) (a .spot .p) (c .if1 .left) in
     record {
       numbers = p .numbers;
@@ -61,7 +62,7 @@ site : (c : tie.After-context-at) → let a = entry (begun c) .args in
 site c =
     record {
       ready = first-ready (two (begun c));
-      sample = sample-at (entry (begun c) .pre .plan .first-low) (c .before .before .before .left-of .ensures .0) (c .before .before .index-in .ensures .0) (c .context-at .ensures .0);
+      sample = sample-at (entry (begun c) .pre .0 .plan .first-low) (c .before .before .before .left-of .ensures .0) (c .before .before .index-in .ensures .0) (c .context-at .ensures .0);
       ranges = c .context-at .ensures .1;
     }
 
@@ -81,7 +82,7 @@ place c = placed (c .before .before)
 room : (c : tie.After-context-at) → let i = c .before .before .before .left-of .result in
     (i + 1 < length (entry (begun c) .args .lines .now)) × (i + 1 < 2 ^ 14)
 room c =
-    let p = entry (begun c) .pre in
+    let p = entry (begun c) .pre .0 in
     let i = c .before .before .before .left-of .ensures .1 .1 in
     (omega (arith, i, p .long), omega (arith, i, p .width))
 
@@ -93,23 +94,23 @@ record-at-requires c κs =
     let d = c .before .before .before in
     site-record (site (place d)) (d .before .before .before .u16-to-u32 .ensures .0) (asked (d .before)) (d .coded-as .ensures)
 
-abbrev coded : tie.After-k → tie.After-coded-as
-coded c = c .before .before .before .before .before .before
+abbrev coded : tie.After-k-at → tie.After-coded-as
+coded c = c .before .before .before .before .before .before .before
 
 put-code-requires : tie.Need-put-code-requires
 put-code-requires c κs =
     let k = c .before .before in
     let d = coded k in
-    site-room (site (place d)) (d .before .before .before .u16-to-u32 .ensures .0) (asked (d .before)) (d .coded-as .ensures) (k .before .before .record-at .ensures) (k .k .ensures)
+    site-room (site (place d)) (d .before .before .before .u16-to-u32 .ensures .0) (asked (d .before)) (d .coded-as .ensures) (k .before .before .before .record-at .ensures) (site-k (site (place d)) (d .before .before .before .u16-to-u32 .ensures .0) (asked (d .before)) (d .coded-as .ensures) (k .before .before .before .record-at .ensures) (entry (begun (place d)) .pre .1) (k .k-at .ensures))
 
-abbrev kept : tie.After-put-code → tie.After-k
+abbrev kept : tie.After-put-code → tie.After-k-at
 kept c = c .before .before .before
 
-update-at-requires : tie.Need-update-at-requires
-update-at-requires c κs =
-    let k = kept (c .before .before .before .before) in
+update-with-k-requires : tie.Need-update-with-k-requires
+update-with-k-requires c κs =
+    let k = kept (c .before .before .before .before .before) in
     let d = coded k in
-    site-update (site (place d)) (d .before .before .before .u16-to-u32 .ensures .0) (asked (d .before)) (d .coded-as .ensures) (k .before .before .record-at .ensures)
+    site-update (site (place d)) (d .before .before .before .u16-to-u32 .ensures .0) (asked (d .before)) (d .coded-as .ensures) (k .before .before .before .record-at .ensures) (entry (begun (place d)) .pre .1)
 
 returns-2 : tie.Need-returns-2
 returns-2 c =
@@ -118,7 +119,7 @@ returns-2 c =
     let e = begun x in
     let a = entry e .args in
     let wrong = site-wrong (site x) (h .before .u16-to-u32 .ensures .0) (c .before .is-wrong .ensures) (sym (h .has-code .ensures) ∙ c .before .before .if2 .left) (c .if3 .taken) in
-    (same-steps (even-due (a .spot .plan) (a .spot .w) (a .spot .p) (e .if1 .left)) (ends wrong (second-step e ∷ []) refl), two e .records)
+    (same-steps (even-due (a .spot .plan) (a .spot .w) (a .spot .p) (e .if1 .left)) (ends wrong (second-step e ∷ []) refl), (two e .records, entry e .pre .1))
 
 -- ---- where the two ways to it meet
 
@@ -137,10 +138,15 @@ done c =
     let v = c .before .before .u16-to-u32 .ensures .0 in
     let is = sym (c .before .has-code .ensures) in
     ⊎-elim
-    (λ w. met (w .16) (w .17) (w .18) (w .19) (w .20)
-    (site-done (site x) v (is ∙ w .0 .taken) (w .1 .ensures) (w .5 .ensures) (w .7 .ensures) (w .10 .ensures) (w .10 .kept .0) (w .15 .ensures)))
-    (λ w. met (w .4) (w .5) (w .6) (w .7) (w .8) (site-right (site x) v (w .1 .ensures) (is ∙ w .0 .left) (w .2 .left)))
+    (λ w. met (w .18) (w .19) (w .20) (w .21) (w .23)
+    (site-done (site x) v (is ∙ w .0 .taken) (w .1 .ensures) (w .5 .ensures)
+    (site-k (site x) v (is ∙ w .0 .taken) (w .1 .ensures) (w .5 .ensures) (start c .pre .1) (w .8 .ensures)) (w .11 .ensures) (w .11 .kept .0) (w .17 .ensures)))
+    (λ w. met (w .4) (w .5) (w .6) (w .7) (w .9) (site-right (site x) v (w .1 .ensures) (is ∙ w .0 .left) (w .2 .left)))
     (c .if2 .came)
+
+done-ks : (c : tie.Joined2) → AreKs (zipRecords (c .if2 .sums) (c .if2 .ns)) (c .if2 .ks)
+done-ks c =
+    ⊎-elim (λ w. ks-met (w .20) (w .21) (w .22) (w .17 .ensures .1 .1)) (λ w. ks-met (w .6) (w .7) (w .8) (start c .pre .1)) (c .if2 .came)
 
 -- ---- the second sample
 
@@ -154,7 +160,7 @@ site-2 : (c : tie.After-context-at2) → let d = one c in let a = start d .args 
 site-2 c =
     record {
       ready = second-ready (two (begun (there (one c)))) (done (one c));
-      sample = sample-at (start (one c) .pre .plan .second-low) (c .before .before .before .left-of2 .ensures .0) (c .before .before .index-in2 .ensures .0) (c .context-at2 .ensures .0);
+      sample = sample-at (start (one c) .pre .0 .plan .second-low) (c .before .before .before .left-of2 .ensures .0) (c .before .before .index-in2 .ensures .0) (c .context-at2 .ensures .0);
       ranges = c .context-at2 .ensures .1;
     }
 
@@ -163,20 +169,20 @@ inside : (c : tie.After-index-in2) → let d = c .before .before in let i = c .b
     (i + 2 < length (d .if2 .lines)) × (i + 2 < 2 ^ 14) × (j < length (start d .args .samples .now))
 inside c =
     let d = c .before .before in
-    let p = start d .pre in
+    let p = start d .pre .0 in
     let i = c .before .left-of2 .ensures .1 .1 in
     (omega (arith, i, p .long, done d .long), omega (arith, i, p .width), omega (arith, c .index-in2 .ensures .1, p .samples))
 
 index-in-requires-2 : tie.Need-index-in-requires-2
 index-in-requires-2 c κs =
     let d = c .before in
-    let p = start d .pre in
+    let p = start d .pre .0 in
     (p .width, (begun (there d) .if1 .left, (p .line, (p .plan .second-low, p .plan .second-high))))
 
 context-at-requires-2 : tie.Need-context-at-requires-2
 context-at-requires-2 c κs =
     let i = inside (c .before) in
-    (omega (arith, start (c .before .before .before) .pre .width), (c .before .before .left-of2 .ensures .1 .0, i .0))
+    (omega (arith, start (c .before .before .before) .pre .0 .width), (c .before .before .left-of2 .ensures .1 .0, i .0))
 
 abbrev placed-2 : tie.After-has-code2 → tie.After-context-at2
 placed-2 c = c .before .before .before
@@ -198,23 +204,23 @@ record-at-requires-2 c κs =
     let d = c .before .before .before in
     site-record (site-2 (place-2 d)) (d .before .before .before .u16-to-u322 .ensures .0) (asked-2 (d .before)) (d .coded-as2 .ensures)
 
-abbrev coded-2 : tie.After-k2 → tie.After-coded-as2
-coded-2 c = c .before .before .before .before .before .before
+abbrev coded-2 : tie.After-k-at2 → tie.After-coded-as2
+coded-2 c = c .before .before .before .before .before .before .before
 
 put-code-requires-2 : tie.Need-put-code-requires-2
 put-code-requires-2 c κs =
     let k = c .before .before in
     let d = coded-2 k in
-    site-room (site-2 (place-2 d)) (d .before .before .before .u16-to-u322 .ensures .0) (asked-2 (d .before)) (d .coded-as2 .ensures) (k .before .before .record-at2 .ensures) (k .k2 .ensures)
+    site-room (site-2 (place-2 d)) (d .before .before .before .u16-to-u322 .ensures .0) (asked-2 (d .before)) (d .coded-as2 .ensures) (k .before .before .before .record-at2 .ensures) (site-k (site-2 (place-2 d)) (d .before .before .before .u16-to-u322 .ensures .0) (asked-2 (d .before)) (d .coded-as2 .ensures) (k .before .before .before .record-at2 .ensures) (done-ks (one (place-2 d))) (k .k-at2 .ensures))
 
-abbrev kept-2 : tie.After-put-code2 → tie.After-k2
+abbrev kept-2 : tie.After-put-code2 → tie.After-k-at2
 kept-2 c = c .before .before .before
 
-update-at-requires-2 : tie.Need-update-at-requires-2
-update-at-requires-2 c κs =
-    let k = kept-2 (c .before .before .before .before) in
+update-with-k-requires-2 : tie.Need-update-with-k-requires-2
+update-with-k-requires-2 c κs =
+    let k = kept-2 (c .before .before .before .before .before) in
     let d = coded-2 k in
-    site-update (site-2 (place-2 d)) (d .before .before .before .u16-to-u322 .ensures .0) (asked-2 (d .before)) (d .coded-as2 .ensures) (k .before .before .record-at2 .ensures)
+    site-update (site-2 (place-2 d)) (d .before .before .before .u16-to-u322 .ensures .0) (asked-2 (d .before)) (d .coded-as2 .ensures) (k .before .before .before .record-at2 .ensures) (done-ks (one (place-2 d)))
 
 abbrev judged : tie.Then5 → tie.After-has-code2
 judged c = c .before .before .before
@@ -226,12 +232,12 @@ returns-3 c =
     let d = one x in
     let a = start d .args in
     let wrong = site-wrong (site-2 x) (h .before .u16-to-u322 .ensures .0) (c .before .is-wrong2 .ensures) (sym (h .has-code2 .ensures) ∙ c .before .before .if4 .left) (c .if5 .taken) in
-    (same-steps (even-due (a .spot .plan) (a .spot .w) (a .spot .p) (begun (there d) .if1 .left)) (two-puts (two (begun (there d))) (done d) wrong), done d .records)
+    (same-steps (even-due (a .spot .plan) (a .spot .w) (a .spot .p) (begun (there d) .if1 .left)) (two-puts (two (begun (there d))) (done d) wrong), (done d .records, done-ks d))
 
-abbrev put-2 : tie.After-update-at2 → tie.After-put-code2
-put-2 c = c .before .before .before .before .before
+abbrev put-2 : tie.After-update-with-k2 → tie.After-put-code2
+put-2 c = c .before .before .before .before .before .before
 
-abbrev first : tie.After-update-at2 → tie.Joined2
+abbrev first : tie.After-update-with-k2 → tie.Joined2
 first c = one (place-2 (coded-2 (kept-2 (put-2 c))))
 
 returns-4 : tie.Need-returns-4
@@ -241,9 +247,9 @@ returns-4 c =
     let o = first c in
     let a = start o .args in
     let e =
-    site-done (site-2 (place-2 d)) (d .before .before .before .u16-to-u322 .ensures .0) (asked-2 (d .before)) (d .coded-as2 .ensures) (k .before .before .record-at2 .ensures) (k .k2 .ensures)
-    (put-2 c .put-code2 .ensures) (put-2 c .put-code2 .kept .0) (c .update-at2 .ensures) in
-    (same-steps (even-due (a .spot .plan) (a .spot .w) (a .spot .p) (begun (there o) .if1 .left)) (two-puts (two (begun (there o))) (done o) (e .put)), e .records)
+    site-done (site-2 (place-2 d)) (d .before .before .before .u16-to-u322 .ensures .0) (asked-2 (d .before)) (d .coded-as2 .ensures) (k .before .before .before .record-at2 .ensures) (site-k (site-2 (place-2 d)) (d .before .before .before .u16-to-u322 .ensures .0) (asked-2 (d .before)) (d .coded-as2 .ensures) (k .before .before .before .record-at2 .ensures) (done-ks (one (place-2 d))) (k .k-at2 .ensures))
+    (put-2 c .put-code2 .ensures) (put-2 c .put-code2 .kept .0) (c .update-with-k2 .ensures) in
+    (same-steps (even-due (a .spot .plan) (a .spot .w) (a .spot .p) (begun (there o) .if1 .left)) (two-puts (two (begun (there o))) (done o) (e .put)), (e .records, c .update-with-k2 .ensures .1 .1))
 
 abbrev let-be : tie.After-struct-known4 → tie.After-has-code2
 let-be c = c .before .before .before .before
@@ -255,7 +261,7 @@ returns-5 c =
     let d = one x in
     let a = start d .args in
     let e = site-right (site-2 x) (h .before .u16-to-u322 .ensures .0) (c .before .before .is-wrong2 .ensures) (sym (h .has-code2 .ensures) ∙ c .before .before .before .if4 .left) (c .before .if5 .left) in
-    (same-steps (even-due (a .spot .plan) (a .spot .w) (a .spot .p) (begun (there d) .if1 .left)) (two-puts (two (begun (there d))) (done d) (e .put)), e .records)
+    (same-steps (even-due (a .spot .plan) (a .spot .w) (a .spot .p) (begun (there d) .if1 .left)) (two-puts (two (begun (there d))) (done d) (e .put)), (e .records, done-ks d))
 
 pub write-even-spec : {M : Type 1} → statement M
 write-even-spec =
@@ -272,8 +278,8 @@ write-even-spec =
     (λ c κs. search needs)
     coded-as-requires
     (λ c. search (needs, small (c .before)))
-    (λ c. search (needs, room (place (c .before))))
-    (λ c. search (needs, room (place (c .before))))
+    (λ c. omega (arith, room (place (c .before)) .1))
+    (λ c. omega (arith, room (place (c .before)) .1))
     (λ c. room (place (c .before)) .0)
     record-at-requires
     (λ c κs. search needs)
@@ -282,14 +288,14 @@ write-even-spec =
     (λ c. search needs)
     (λ c. search needs)
     put-code-requires
-    update-at-requires
+    update-with-k-requires
     (λ c κs. search needs)
     (λ c. search needs)
     returns-2
     (λ c. search needs)
-    (λ c. search needs)
-    (λ c. search needs)
-    (λ c. search needs)
+    (λ c. omega (arith, room (placed (c .before .before .before .before)) .1))
+    (λ c. omega (arith, room (placed (c .before .before .before .before)) .1))
+    (λ c. room (placed (c .before .before .before .before)) .0)
     (λ c κs. search needs)
     index-in-requires-2
     (λ c. search needs)
@@ -300,8 +306,8 @@ write-even-spec =
     (λ c κs. search needs)
     coded-as-requires-2
     (λ c. search (needs, small-2 (c .before)))
-    (λ c. search (needs, inside (place-2 (c .before) .before .before)))
-    (λ c. search (needs, inside (place-2 (c .before) .before .before)))
+    (λ c. omega (arith, inside (place-2 (c .before) .before .before) .1))
+    (λ c. omega (arith, inside (place-2 (c .before) .before .before) .1))
     (λ c. omega (arith, inside (place-2 (c .before) .before .before) .0))
     record-at-requires-2
     (λ c κs. search needs)
@@ -310,14 +316,14 @@ write-even-spec =
     (λ c. search needs)
     (λ c. search needs)
     put-code-requires-2
-    update-at-requires-2
+    update-with-k-requires-2
     (λ c κs. search needs)
     (λ c. done (one (placed-2 (judged c))) .same)
     (λ c. done (one (placed-2 (judged c))) .long)
     returns-3
     (λ c. search needs)
-    (λ c. search (needs, inside (placed-2 (let-be c) .before .before)))
-    (λ c. search (needs, inside (placed-2 (let-be c) .before .before)))
+    (λ c. omega (arith, inside (placed-2 (let-be c) .before .before) .1))
+    (λ c. omega (arith, inside (placed-2 (let-be c) .before .before) .1))
     (λ c. omega (arith, inside (placed-2 (let-be c) .before .before) .0))
     (λ c. put-2 c .put-code2 .kept .0 ∙ done (first c) .same)
     (λ c. search (needs, done (first c) .long))

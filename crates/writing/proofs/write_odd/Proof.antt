@@ -11,7 +11,7 @@ use Rattle.writing.specs.Puts.{Wanted}
 use Rattle.quantiser.specs.Quantisers.{largest}
 use Rattle.writing.proofs.StepPuts.{sample-at, same-room, same-wanted, same-steps, no-odd, odd-due}
 use Rattle.writing.proofs.SitePuts.{Ready, Done, first-ready, second-ready, two-puts, Site, site-code}
-use Rattle.writing.proofs.SitePuts.{site-value, site-record, site-update, site-room, site-done}
+use Rattle.writing.proofs.SitePuts.{site-value, site-record, site-update, site-k, site-room, site-done}
 use Rattle.writing.proofs.write_odd.Statement.{statement}
 use Rattle.writing.proofs.write_odd.Tie as tie
 
@@ -19,7 +19,7 @@ returns : tie.Need-returns
 returns c =
     let s = c .before .before .before .before in
     let a = s .args in
-    (no-odd (a .spot .bits) (a .base) (a .spot .w) (a .strict) (a .samples .now) (a .n) (a .spot .plan) (a .spot .p) (a .store) (a .from) (a .lines .now) (a .sums .now) (a .ns .now) (a .out .now) (c .if1 .taken), s .pre .0 .records)
+    (no-odd (a .spot .bits) (a .base) (a .spot .w) (a .strict) (a .samples .now) (a .n) (a .spot .plan) (a .spot .p) (a .store) (a .from) (a .lines .now) (a .sums .now) (a .ns .now) (a .out .now) (c .if1 .taken), (s .pre .0 .records, s .pre .1 .1))
 
 -- ---- the first sample
 
@@ -82,59 +82,59 @@ record-at-requires c κs =
     let d = c .before .before .before in
     site-record (site (place d)) (d .before .u16-to-u32 .ensures .0) refl (d .coded-as .ensures)
 
-abbrev coded : tie.After-k → tie.After-coded-as
-coded c = c .before .before .before .before .before .before
+abbrev coded : tie.After-k-at → tie.After-coded-as
+coded c = c .before .before .before .before .before .before .before
 
 put-code-requires : tie.Need-put-code-requires
 put-code-requires c κs =
     let k = c .before .before in
     let d = coded k in
-    site-room (site (place d)) (d .before .u16-to-u32 .ensures .0) refl (d .coded-as .ensures) (k .before .before .record-at .ensures) (k .k .ensures)
+    site-room (site (place d)) (d .before .u16-to-u32 .ensures .0) refl (d .coded-as .ensures) (k .before .before .before .record-at .ensures) (site-k (site (place d)) (d .before .u16-to-u32 .ensures .0) refl (d .coded-as .ensures) (k .before .before .before .record-at .ensures) (entry (begun (place d)) .pre .1 .1) (k .k-at .ensures))
 
-abbrev kept : tie.After-put-code → tie.After-k
+abbrev kept : tie.After-put-code → tie.After-k-at
 kept c = c .before .before .before
 
-update-at-requires : tie.Need-update-at-requires
-update-at-requires c κs =
-    let k = kept (c .before .before .before .before) in
+update-with-k-requires : tie.Need-update-with-k-requires
+update-with-k-requires c κs =
+    let k = kept (c .before .before .before .before .before) in
     let d = coded k in
-    site-update (site (place d)) (d .before .u16-to-u32 .ensures .0) refl (d .coded-as .ensures) (k .before .before .record-at .ensures)
+    site-update (site (place d)) (d .before .u16-to-u32 .ensures .0) refl (d .coded-as .ensures) (k .before .before .before .record-at .ensures) (entry (begun (place d)) .pre .1 .1)
 
 -- ---- what is held after it
 
-abbrev put : tie.After-update-at → tie.After-put-code
-put c = c .before .before .before .before .before
+abbrev put : tie.After-update-with-k → tie.After-put-code
+put c = c .before .before .before .before .before .before
 
-abbrev there : tie.After-update-at → tie.After-coded-as
+abbrev there : tie.After-update-with-k → tie.After-coded-as
 there c = coded (kept (put c))
 
-abbrev start : tie.After-update-at → tie.Start
+abbrev start : tie.After-update-with-k → tie.Start
 start c = entry (begun (place (there c)))
 
-abbrev lines₁ : tie.After-update-at → List ℕ
+abbrev lines₁ : tie.After-update-with-k → List ℕ
 lines₁ c = set (start c .args .lines .now) (place (there c) .before .before .before .left-of .result + 1) (there c .coded-as .result .value)
 
-done : (c : tie.After-update-at) → let a = start c .args in let new = c .update-at .last in
+done : (c : tie.After-update-with-k) → let a = start c .args in let new = c .update-with-k .last in
     Done (a .spot .bits) (a .base) (a .spot .w) (a .strict) (a .samples .now) (a .n) (stepAt (a .spot .plan .first) (a .spot .p - 7) true) (a .store)
     (a .from) (a .lines .now) (a .sums .now) (a .ns .now) (a .out .now)
     (lines₁ c) (new .0) (new .1 .0) (put c .put-code .last .0) (put c .put-code .result)
 done c =
     let k = kept (put c) in
     let d = coded k in
-    site-done (site (place d)) (d .before .u16-to-u32 .ensures .0) refl (d .coded-as .ensures) (k .before .before .record-at .ensures) (k .k .ensures)
-    (put c .put-code .ensures) (put c .put-code .kept .0) (c .update-at .ensures)
+    site-done (site (place d)) (d .before .u16-to-u32 .ensures .0) refl (d .coded-as .ensures) (k .before .before .before .record-at .ensures) (site-k (site (place d)) (d .before .u16-to-u32 .ensures .0) refl (d .coded-as .ensures) (k .before .before .before .record-at .ensures) (entry (begun (place d)) .pre .1 .1) (k .k-at .ensures))
+    (put c .put-code .ensures) (put c .put-code .kept .0) (c .update-with-k .ensures)
 
 -- ---- the second sample
 
-line-in : (c : tie.After-update-at) → let a = start c .args .spot in (a .w ≤ 512) × ((a .p - 7 < a .w) × ((2 ≤ a .plan .second) × (a .plan .second ≤ 17)))
+line-in : (c : tie.After-update-with-k) → let a = start c .args .spot in (a .w ≤ 512) × ((a .p - 7 < a .w) × ((2 ≤ a .plan .second) × (a .plan .second ≤ 17)))
 line-in c =
     let p = start c .pre in
-    (p .0 .width, (omega (arith, p .1, begun (place (there c)) .if1 .left), (p .0 .plan .second-low, p .0 .plan .second-high)))
+    (p .0 .width, (omega (arith, p .1 .0, begun (place (there c)) .if1 .left), (p .0 .plan .second-low, p .0 .plan .second-high)))
 
-abbrev one : tie.After-context-at2 → tie.After-update-at
+abbrev one : tie.After-context-at2 → tie.After-update-with-k
 one c = c .before .before .before .before
 
-site-2 : (c : tie.After-context-at2) → let d = one c in let a = start d .args in let new = d .update-at .last in
+site-2 : (c : tie.After-context-at2) → let d = one c in let a = start d .args in let new = d .update-with-k .last in
     Site (a .spot .bits) (a .base) (a .totals .now) (a .raws .now) (a .limits .now) (a .spot .w) (a .strict) (a .samples .now) (a .n)
     (a .spot .plan .second) (a .spot .p - 7) true (a .store) (put d .put-code .result) (lines₁ d) (new .0) (new .1 .0) (put d .put-code .last .0)
     (c .before .before .before .left-of2 .result) (c .before .before .index-in2 .result) (c .context-at2 .result)
@@ -183,28 +183,28 @@ record-at-requires-2 c κs =
     let d = c .before .before .before in
     site-record (site-2 (place-2 d)) (d .before .u16-to-u322 .ensures .0) refl (d .coded-as2 .ensures)
 
-abbrev coded-2 : tie.After-k2 → tie.After-coded-as2
-coded-2 c = c .before .before .before .before .before .before
+abbrev coded-2 : tie.After-k-at2 → tie.After-coded-as2
+coded-2 c = c .before .before .before .before .before .before .before
 
 put-code-requires-2 : tie.Need-put-code-requires-2
 put-code-requires-2 c κs =
     let k = c .before .before in
     let d = coded-2 k in
-    site-room (site-2 (place-2 d)) (d .before .u16-to-u322 .ensures .0) refl (d .coded-as2 .ensures) (k .before .before .record-at2 .ensures) (k .k2 .ensures)
+    site-room (site-2 (place-2 d)) (d .before .u16-to-u322 .ensures .0) refl (d .coded-as2 .ensures) (k .before .before .before .record-at2 .ensures) (site-k (site-2 (place-2 d)) (d .before .u16-to-u322 .ensures .0) refl (d .coded-as2 .ensures) (k .before .before .before .record-at2 .ensures) (one (place-2 d) .update-with-k .ensures .1 .1) (k .k-at2 .ensures))
 
-abbrev kept-2 : tie.After-put-code2 → tie.After-k2
+abbrev kept-2 : tie.After-put-code2 → tie.After-k-at2
 kept-2 c = c .before .before .before
 
-update-at-requires-2 : tie.Need-update-at-requires-2
-update-at-requires-2 c κs =
-    let k = kept-2 (c .before .before .before .before) in
+update-with-k-requires-2 : tie.Need-update-with-k-requires-2
+update-with-k-requires-2 c κs =
+    let k = kept-2 (c .before .before .before .before .before) in
     let d = coded-2 k in
-    site-update (site-2 (place-2 d)) (d .before .u16-to-u322 .ensures .0) refl (d .coded-as2 .ensures) (k .before .before .record-at2 .ensures)
+    site-update (site-2 (place-2 d)) (d .before .u16-to-u322 .ensures .0) refl (d .coded-as2 .ensures) (k .before .before .before .record-at2 .ensures) (one (place-2 d) .update-with-k .ensures .1 .1)
 
-abbrev put-2 : tie.After-update-at2 → tie.After-put-code2
-put-2 c = c .before .before .before .before .before
+abbrev put-2 : tie.After-update-with-k2 → tie.After-put-code2
+put-2 c = c .before .before .before .before .before .before
 
-abbrev first : tie.After-update-at2 → tie.After-update-at
+abbrev first : tie.After-update-with-k2 → tie.After-update-with-k
 first c = one (place-2 (coded-2 (kept-2 (put-2 c))))
 
 returns-2 : tie.Need-returns-2
@@ -214,9 +214,9 @@ returns-2 c =
     let o = first c in
     let a = start o .args in
     let e =
-    site-done (site-2 (place-2 d)) (d .before .u16-to-u322 .ensures .0) refl (d .coded-as2 .ensures) (k .before .before .record-at2 .ensures) (k .k2 .ensures)
-    (put-2 c .put-code2 .ensures) (put-2 c .put-code2 .kept .0) (c .update-at2 .ensures) in
-    (same-steps (odd-due (a .spot .plan) (a .spot .w) (a .spot .p) (begun (place (there o)) .if1 .left)) (two-puts (two (begun (place (there o)))) (done o) (e .put)), e .records)
+    site-done (site-2 (place-2 d)) (d .before .u16-to-u322 .ensures .0) refl (d .coded-as2 .ensures) (k .before .before .before .record-at2 .ensures) (site-k (site-2 (place-2 d)) (d .before .u16-to-u322 .ensures .0) refl (d .coded-as2 .ensures) (k .before .before .before .record-at2 .ensures) (one (place-2 d) .update-with-k .ensures .1 .1) (k .k-at2 .ensures))
+    (put-2 c .put-code2 .ensures) (put-2 c .put-code2 .kept .0) (c .update-with-k2 .ensures) in
+    (same-steps (odd-due (a .spot .plan) (a .spot .w) (a .spot .p) (begun (place (there o)) .if1 .left)) (two-puts (two (begun (place (there o)))) (done o) (e .put)), (e .records, c .update-with-k2 .ensures .1 .1))
 
 pub write-odd-spec : {M : Type 1} → statement M
 write-odd-spec =
@@ -243,7 +243,7 @@ write-odd-spec =
     (λ c. search needs)
     (λ c. search needs)
     put-code-requires
-    update-at-requires
+    update-with-k-requires
     left-of-requires-2
     index-in-requires-2
     (λ c. search needs)
@@ -263,7 +263,7 @@ write-odd-spec =
     (λ c. search needs)
     (λ c. search needs)
     put-code-requires-2
-    update-at-requires-2
+    update-with-k-requires-2
     (λ c. put-2 c .put-code2 .kept .0 ∙ done (first c) .same)
     (λ c. search needs)
     returns-2)

@@ -8,7 +8,7 @@ use native.Mathlib.Omega.{arith}
 use lib.ListN.{length}
 use Rattle.bits.specs.declared.BitPosition.{BitPosition}
 use Rattle.steps.specs.Steps.{evenPart, oddPart, turnSteps, upto}
-use Rattle.steps.specs.Values.{zipRecords, SetInRange}
+use Rattle.steps.specs.Values.{zipRecords, SetInRange, AreKs}
 use Rattle.steps.specs.declared.Plan.{Plan}
 use Rattle.steps.proofs.TableLaws.{are-quantisers}
 use Rattle.quantiser.specs.Quantisers.{largest}
@@ -22,29 +22,30 @@ use Rattle.writing.proofs.write_pass.Tie as tie
 
 -- what is known before each turn: the turns before position p have put their bits
 record Turns (bits q W : ℕ) (strict : Bool) (totals raws limits t : List ℕ) (n : ℕ) (P : Plan) (store : Bool) (from : BitPosition)
-    (lines₀ sums₀ ns₀ out₀ lines sums ns out : List ℕ) (at : BitPosition) (p : ℕ) : Type 0 where
+    (lines₀ sums₀ ns₀ out₀ lines sums ns ks out : List ℕ) (at : BitPosition) (p : ℕ) : Type 0 where
   numbers : LineNumbers bits q totals raws limits
   even : p % 2 ≡ 0
   last : p ≤ W + 8
   same-lines : length lines ≡ length lines₀
   same-output : length out ≡ length out₀
   records : SetInRange (zipRecords sums ns)
+  ks-kept : AreKs (zipRecords sums ns) ks
   put : StepsPut bits q W strict t n (upto (turnSteps W P) (p / 2)) store (from .0) lines₀ sums₀ ns₀ out₀ lines sums ns out (At at)
 
 abbrev Inv-loop : tie.InvT-loop
-Inv-loop samples n out₀ store lines₀ w plan bits strict totals raws limits base sums₀ ns₀ at₀ p₀ out lines sums ns at p =
-    Turns bits base w strict totals raws limits samples n plan store at₀ lines₀ sums₀ ns₀ out₀ lines sums ns out at p
+Inv-loop samples n out₀ store lines₀ w plan bits strict totals raws limits base sums₀ ns₀ ks₀ at₀ p₀ out lines sums ns ks at p =
+    Turns bits base w strict totals raws limits samples n plan store at₀ lines₀ sums₀ ns₀ out₀ lines sums ns ks out at p
 
 abbrev μ-loop : tie.MeasureT-loop
-μ-loop samples n out₀ store lines₀ w plan bits strict totals raws limits base sums₀ ns₀ at₀ p₀ out lines sums ns at p = w + 8 - p
+μ-loop samples n out₀ store lines₀ w plan bits strict totals raws limits base sums₀ ns₀ ks₀ at₀ p₀ out lines sums ns ks at p = w + 8 - p
 
 abbrev entry : tie.At-loop Inv-loop μ-loop → tie.Start Inv-loop μ-loop
-entry c = c .before .before .before .before .before .before .before .before .before
+entry c = c .before .before .before .before .before .before .before .before .before .before .before .before
 
 loop-holds : tie.Need-loop-holds Inv-loop μ-loop
 unfolding upto
 loop-holds c =
-    let s = c .before .before .before .before .before .before .before .before in
+    let s = c .before .before .before .before .before .before .before .before .before .before .before in
     record {
       numbers = record { depth = s .pre .depth; base = s .pre .base; quantisers = are-quantisers (s .args .bits) (s .args .qs) (s .pre .quantisers) };
       even = refl;
@@ -52,6 +53,7 @@ loop-holds c =
       same-lines = refl;
       same-output = refl;
       records = s .pre .records;
+      ks-kept = c .ks-of .ensures;
       put = no-puts _ _ _ _ _ _ _ _ _ _ _ _;
     }
 
@@ -79,27 +81,29 @@ room-even c =
 
 write-even-requires : tie.Need-write-even-requires Inv-loop μ-loop
 write-even-requires c κs =
-    let l = c .before .before .before .before .before .before .before in
+    let l = c .before .before .before .before .before .before .before .before in
     let v = l .before .loop .inv in
     let s = entry (l .before) in
     let a = s .args in
-    let p = s .pre in
-    record {
-      width = p .high;
-      plan = p .plan;
-      numbers = v .numbers;
-      line = p .line;
-      samples = p .samples;
-      wanted = wanted-even (largest (a .bits)) (a .w) (a .samples .now) (a .n) (a .plan) (l .before .loop .p) (v .even) (p .even) (l .loop-test .taken) (p .wanted);
-      long = omega (arith, p .long, v .same-lines);
-      held = within-after (v .put) refl (p .held);
-      records = v .records;
-      low = omega (arith, p .position, position-after (v .put) refl (p .depth .1), before-le (a .w) (a .plan) (l .before .loop .p), l .loop-test .taken, p .high);
-      room = room-after (v .put) refl (evenPart (a .w) (a .plan) (l .before .loop .p)) (v .same-output) (room-even l);
-    }
+    let p = s .pre in (
+      record {
+        width = p .high;
+        plan = p .plan;
+        numbers = v .numbers;
+        line = p .line;
+        samples = p .samples;
+        wanted = wanted-even (largest (a .bits)) (a .w) (a .samples .now) (a .n) (a .plan) (l .before .loop .p) (v .even) (p .even) (l .loop-test .taken) (p .wanted);
+        long = omega (arith, p .long, v .same-lines);
+        held = within-after (v .put) refl (p .held);
+        records = v .records;
+        low = omega (arith, p .position, position-after (v .put) refl (p .depth .1), before-le (a .w) (a .plan) (l .before .loop .p), l .loop-test .taken, p .high);
+        room = room-after (v .put) refl (evenPart (a .w) (a .plan) (l .before .loop .p)) (v .same-output) (room-even l);
+      },
+      v .ks-kept,
+    )
 
 abbrev turn : tie.After-write-even Inv-loop μ-loop → tie.In-loop Inv-loop μ-loop
-turn c = c .before .before .before .before .before .before .before .before
+turn c = c .before .before .before .before .before .before .before .before .before
 
 -- what stands after it
 evens : (c : tie.After-write-even Inv-loop μ-loop) → let a = entry (turn c .before) .args in let p = turn c .before .loop .p in let z = c .write-even .last in
@@ -123,7 +127,7 @@ returns c =
           (turn-wrong (a .bits) (a .qs .base) (a .w) (a .strict) (a .samples .now) (a .n) (a .plan) (a .store) (a .from .0) (a .lines .now) (a .set .sums) (a .set .ns) (a .out .now) (l .before .loop .p)
           (l .before .loop .inv .even) (s .pre .even) (l .loop-test .taken) _ _ _ _ _ _ w (ends (evens e) (oddPart (a .plan) (l .before .loop .p)) w))
           _ w refl (c .wrong-at .ensures);
-      records = e .write-even .ensures .1;
+      records = e .write-even .ensures .1 .0;
     }
 
 -- ---- the odd position
@@ -133,7 +137,7 @@ first c = c .before .before .before .before .before .before .before
 
 write-odd-requires : tie.Need-write-odd-requires Inv-loop μ-loop
 write-odd-requires c κs =
-    let k = c .before .before .before .before .before .before .before in
+    let k = c .before .before .before .before .before .before .before .before in
     let e = first k in
     let l = turn e in
     let v = l .before .loop .inv in
@@ -152,15 +156,15 @@ write-odd-requires c κs =
         wanted = wanted-odd (largest (a .bits)) (a .w) (a .samples .now) (a .n) (a .plan) (l .before .loop .p) (v .even) (p .even) lt (p .wanted);
         long = omega (arith, p .long, v .same-lines, kept .1 .1 .1 .1 .1 .0);
         held = within-after (evens e) at (p .held);
-        records = e .write-even .ensures .1;
+        records = e .write-even .ensures .1 .0;
         low = omega (arith, p .position, position-after (evens e) at (p .depth .1), before-evens-le (a .w) (a .plan) (l .before .loop .p), lt, p .high);
         room = room-after (evens e) at (oddPart (a .plan) (l .before .loop .p)) (kept .1 .1 .0 ∙ v .same-output) (room l);
       },
-      omega (arith, lt, v .even, p .even),
+      (omega (arith, lt, v .even, p .even), e .write-even .ensures .1 .1),
     )
 
 abbrev known : tie.After-write-odd Inv-loop μ-loop → tie.After-known-told Inv-loop μ-loop
-known c = c .before .before .before .before .before .before .before .before
+known c = c .before .before .before .before .before .before .before .before .before
 
 odds : (c : tie.After-write-odd Inv-loop μ-loop) → let l = turn (first (known c)) in let a = entry (l .before) .args in let p = l .before .loop .p in
     let z = c .write-odd .last in
@@ -186,7 +190,7 @@ returns-2 c =
           (turn-wrong (a .bits) (a .qs .base) (a .w) (a .strict) (a .samples .now) (a .n) (a .plan) (a .store) (a .from .0) (a .lines .now) (a .set .sums) (a .set .ns) (a .out .now) (l .before .loop .p)
           (l .before .loop .inv .even) (s .pre .even) (l .loop-test .taken) _ _ _ _ _ _ w (odds o))
           _ w refl (c .wrong-at2 .ensures);
-      records = o .write-odd .ensures .1;
+      records = o .write-odd .ensures .1 .0;
     }
 
 -- ---- the turn's end
@@ -223,7 +227,8 @@ loop-again c =
       last = omega (arith, v .even, l .loop-test .taken, s .pre .even);
       same-lines = k .1;
       same-output = k .0;
-      records = o .write-odd .ensures .1;
+      records = o .write-odd .ensures .1 .0;
+      ks-kept = o .write-odd .ensures .1 .1;
       put = same-steps (turn-more (a .w) (a .plan) (l .before .loop .p) (v .even)) (answered (c .before .odds .given .1) (odds o));
     }
 
@@ -243,6 +248,7 @@ write-pass-spec =
     (tie.spec
     Inv-loop
     μ-loop
+    (λ c κs. search needs)
     loop-holds
     (λ c. search needs)
     write-even-requires
