@@ -215,8 +215,8 @@ impl Round {
         is(theirs == mine, || format!("{camera:?}, {region:?} of {} bytes, {got:?}: the images differ", bytes.len()))
     }
 
-    /// A state of a block that the region touches is stored after some line, and gone on from: the original's samples from the next line on, in that block's columns, and its answer
-    /// for that block.
+    /// A state of a block that the region touches is stored after some line, and gone on from: the original's samples from the next line on, in that block's columns, and its
+    /// answer for that block.
     fn resumed(
         &mut self,
         bytes: &[u8],
@@ -226,41 +226,37 @@ impl Round {
         theirs: &[u16],
         got: Result<(), Refusal>,
     ) -> Checked {
-        let (Ok(stream), true) =
-            (FujiCompressed::new(bytes), got.is_ok_and(|()| region.width * region.height > 0) || got.is_err_and(|r| r.number == 14))
-        else {
-            return Ok(());
-        };
+        let is_read = got.is_ok_and(|()| region.width * region.height > 0) || got.is_err_and(|r| r.number == 14);
+        let (Ok(stream), true) = (FujiCompressed::new(bytes), is_read) else { return Ok(()) };
         let (first, last) = (region.x / 768, (region.x + region.width - 1) / 768);
         let block = first + self.random.below((last - first + 1) as u64) as u32;
-        let line = self.random.below(stream.header.lines as u64 + 1) as usize;
-        let mut state = vec![0; stream.header.checkpoint_size()];
-        let stored = stream.store_checkpoint_with(&mut self.scratch, block as usize, line, &mut state).answer;
-        self.tally.count("store_checkpoint", stored.map_or_else(|r| r.number, |()| 0));
-        // Columns of that block, from its top to the line that is stored after: what the original reads of them.
-        let up_to = |height: u32| {
-            let (left, right) = (region.x.max(768 * block), (region.x + region.width).min(768 * (block + 1)));
-            truncated_place(bytes, Rect::new(left, 0, right - left, height))
-        };
-        if line >= stream.header.lines as usize {
-            return is(stored.is_err_and(|r| r.number == 21), || format!("storing after line {line}: {stored:?}"));
-        }
-        let place = up_to(6 * (line as u32 + 1));
-        is(stored.err().map(|r| (r.block, r.line)) == place, || format!("storing after line {line}: {stored:?} and {place:?}"))?;
-        if stored.is_err() {
-            return Ok(());
-        }
+        let line = self.random.below(stream.header.lines as u64 + 1) as u32;
+        let Some(state) = self.stored(&stream, bytes, block, line)? else { return Ok(()) };
         let mut mine = before.to_vec();
         let on = stream.resume_region_with(&mut self.scratch, block as usize, &state, &mut mine, region, tile).answer;
         self.tally.count("resume_region", on.map_or_else(|r| r.number, |()| 0));
-        let place = up_to(region.y + region.height);
+        let place = truncated_place(bytes, Rect::new(768 * block, region.y, 1, region.height));
         is(on.err().map(|r| (r.block, r.line)) == place, || format!("going on in {region:?} after line {line}: {on:?} and {place:?}"))?;
-        let is_filled = |i: usize| {
-            let (column, row) = (region.x as usize + i % region.width as usize, region.y as usize + i / region.width as usize);
-            i < region.width as usize * region.height as usize && column / 768 == block as usize && row / 6 > line
+        let is_filled = |i: u32| {
+            let (column, row) = (region.x + i % region.width, region.y + i / region.width);
+            i < region.width * region.height && column / 768 == block && row / 6 > line
         };
-        let right = (0..mine.len()).all(|i| mine[i] == if is_filled(i) { theirs[i] } else { before[i] });
+        let right = (0..mine.len()).all(|i| mine[i] == if is_filled(i as u32) { theirs[i] } else { before[i] });
         is(right, || format!("going on in {region:?} of {} bytes after line {line}: the images differ", bytes.len()))
+    }
+
+    /// The state of a block after a line, if the original reads the lines up to it; there may be no such line.
+    fn stored(&mut self, stream: &FujiCompressed, bytes: &[u8], block: u32, line: u32) -> Result<Option<Vec<u8>>, String> {
+        let mut state = vec![0; stream.header.checkpoint_size()];
+        let answer = stream.store_checkpoint_with(&mut self.scratch, block as usize, line as usize, &mut state).answer;
+        self.tally.count("store_checkpoint", answer.map_or_else(|r| r.number, |()| 0));
+        if line >= stream.header.lines {
+            is(answer.is_err_and(|r| r.number == 21), || format!("storing after line {line}: {answer:?}"))?;
+            return Ok(None);
+        }
+        let place = truncated_place(bytes, Rect::new(768 * block, 0, 1, 6 * (line + 1)));
+        is(answer.err().map(|r| (r.block, r.line)) == place, || format!("storing after line {line}: {answer:?} and {place:?}"))?;
+        Ok(answer.is_ok().then_some(state))
     }
 
     /// The same region in windows: the same answer, and the original's image but for the rows of truncated lines.
