@@ -95,19 +95,25 @@ impl FujiCompressed<'_> {
             return serial(image);
         }
         let parts = parts_of(&mut image[..size], region);
-        let mut rooms = rooms(threads.clamp(1, parts.len()), region);
-        let Some(own) = rooms.pop() else {
+        let rooms = rooms(threads.clamp(1, parts.len()), region);
+        if rooms.is_empty() {
             // There is no memory for a block's columns, and one thread needs none.
             return serial(image);
-        };
-        let (queue, lowest) = (Mutex::new(parts.into_iter()), Mutex::new(None));
-        let work = |room| self.work(entry, room, &queue, &lowest, tile, done);
-        thread::scope(|scope| {
-            for room in rooms {
-                // A thread that cannot be had is one less.
-                let _ = thread::Builder::new().spawn_scoped(scope, move || work(room));
+        }
+        let (rooms, queue, lowest) = (Mutex::new(rooms.into_iter()), Mutex::new(parts.into_iter()), Mutex::new(None));
+        let work = || {
+            let room = rooms.lock().unwrap().next();
+            if let Some(room) = room {
+                self.work(entry, room, &queue, &lowest, tile, done);
             }
-            work(own);
+        };
+        let count = rooms.lock().unwrap().len();
+        // This thread only waits, if it can: where it works too, a new one may have to share its processor.
+        thread::scope(|scope| {
+            let has_thread = |_| count > 1 && thread::Builder::new().spawn_scoped(scope, work).is_ok();
+            if (0..count).filter(|i| has_thread(*i)).count() == 0 {
+                work();
+            }
         });
         lowest.into_inner().unwrap().map_or(Ok(()), Err)
     }
