@@ -372,7 +372,7 @@ fn states_of_random_bytes() {
             (d, parsed)
         })
         .collect();
-    for round in 0..10_000 {
+    for round in 0..12_000 {
         let (d, h) = &made[round % 4];
         let mut s: Vec<u8> = (0..h.checkpoint_size()).map(|_| random.number() as u8).collect();
         s[..16].copy_from_slice(&d[..16]);
@@ -405,5 +405,5 @@ fn states_of_random_bytes() {
             _ => panic!("round {round}: {refusal:?}"),
         }
     }
-    assert!(loaded == 8750 && read > 1000, "{loaded} loaded, {read} with lines");
+    assert!(loaded == 10_500 && read > 1000, "{loaded} loaded, {read} with lines");
 }
