@@ -87,7 +87,8 @@ fn width_refusal(c: Width) -> [usize; 4]
 // The header alone.
 #[no_mangle]
 pub extern "C" fn fuji_parse(d: &[u8], header: &mut [usize; 9], refusal: &mut [usize; 4])
-    ensures { λ _. ⌜ (now (header .exit) ≡ parsedWords (parseOf (now (d .entry)))) × (now (refusal .exit) ≡ parsedRefusal (parseOf (now (d .entry)))) ⌝ }
+    ensures { λ _. ⌜ (now (header .exit) ≡ parsedWords (parseOf (now (d .entry))))
+        × (now (refusal .exit) ≡ parsedRefusal (parseOf (now (d .entry)))) ⌝ }
 {
     let x = FujiHeader::parse(d);
     let w = parsed_words(x);
@@ -99,7 +100,8 @@ pub extern "C" fn fuji_parse(d: &[u8], header: &mut [usize; 9], refusal: &mut [u
 // The header of a stream that opens.
 #[no_mangle]
 pub extern "C" fn fuji_open(d: &[u8], header: &mut [usize; 9], refusal: &mut [usize; 4])
-    ensures { λ _. ⌜ (now (header .exit) ≡ parsedWords (openOf (now (d .entry)))) × (now (refusal .exit) ≡ parsedRefusal (openOf (now (d .entry)))) ⌝ }
+    ensures { λ _. ⌜ (now (header .exit) ≡ parsedWords (openOf (now (d .entry))))
+        × (now (refusal .exit) ≡ parsedRefusal (openOf (now (d .entry)))) ⌝ }
 {
     let x = stream::open(d);
     let w = parsed_words(x);
@@ -135,7 +137,8 @@ pub extern "C" fn fuji_block_range(
     range: &mut [usize; 2],
     refusal: &mut [usize; 4],
 )
-    ensures { λ _. ⌜ (now (range .exit) ≡ rangedWords (rangeOf (now (d .entry)) b)) × (now (refusal .exit) ≡ rangedRefusal (rangeOf (now (d .entry)) b)) ⌝ }
+    ensures { λ _. ⌜ (now (range .exit) ≡ rangedWords (rangeOf (now (d .entry)) b))
+        × (now (refusal .exit) ≡ rangedRefusal (rangeOf (now (d .entry)) b)) ⌝ }
 {
     let x = stream::block_range(d, b);
     let w = ranged_words(x);
@@ -152,7 +155,8 @@ pub extern "C" fn fuji_base_row_range(
     range: &mut [usize; 2],
     refusal: &mut [usize; 4],
 )
-    ensures { λ _. ⌜ (now (range .exit) ≡ rangedWords (rowOf (now (d .entry)) b)) × (now (refusal .exit) ≡ rangedRefusal (rowOf (now (d .entry)) b)) ⌝ }
+    ensures { λ _. ⌜ (now (range .exit) ≡ rangedWords (rowOf (now (d .entry)) b))
+        × (now (refusal .exit) ≡ rangedRefusal (rowOf (now (d .entry)) b)) ⌝ }
 {
     let x = stream::base_row_range(d, b);
     let w = ranged_words(x);

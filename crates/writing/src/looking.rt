@@ -49,7 +49,8 @@ fn look_two(
     first: bool,
     second: bool,
 ) -> bool
-    requires { ⌜ LookAsks spot (now samples) n (stepAt (spot .plan .first) (spot .p) first ∷ stepAt (spot .plan .second) (spot .p) second ∷ []) (now lines) ⌝ }
+    requires { ⌜ LookAsks spot (now samples) n
+        (stepAt (spot .plan .first) (spot .p) first ∷ stepAt (spot .plan .second) (spot .p) second ∷ []) (now lines) ⌝ }
     requires { ⌜ spot .p < spot .w ⌝ }
     ensures { λ r. ⌜ (r ≡ true → Right (spot .bits) (spot .w) (now (samples .entry)) n
         (stepAt (spot .plan .first) (spot .p) first ∷ stepAt (spot .plan .second) (spot .p) second ∷ []) (now (lines .entry)) (now (lines .exit))) ⌝ }
