@@ -43,7 +43,7 @@ pub fn samples_needed(xtrans: bool) -> usize
 fn is_short_scratch(xtrans: bool, samples: usize, records: usize) -> bool
     ensures { λ r. ⌜ r ≡ isShortScratch xtrans samples records ⌝ }
 {
-    (samples < samples_needed(xtrans)) | (records < 336)
+    limits::is_short(samples, samples_needed(xtrans)) | limits::is_short(records, 336)
 }
 
 // Refusal 10, which comes last.
@@ -119,7 +119,7 @@ pub fn whole(width: usize, height: usize) -> Rect
 fn is_whole(h: FujiHeader, width: usize, height: usize) -> bool
     ensures { λ r. ⌜ r ≡ isWhole h width height ⌝ }
 {
-    (width == h.width as usize) & (height == h.height as usize)
+    limits::is_size(width, height, h.width as usize, h.height as usize)
 }
 
 fn image_in(
@@ -364,7 +364,7 @@ pub fn is_ample(measure: bool, bits: u32, lines: usize, room: usize) -> bool
     if measure {
         return false;
     }
-    lines * 2304 * (bits as usize) <= room
+    !limits::is_short(room, limits::most_bytes(lines, bits as usize))
 }
 
 // ---- a set whose bits were counted
@@ -383,13 +383,6 @@ pub fn block_bytes(at: BitPosition) -> usize
     end.0
 }
 
-// Refusal 13, for a block of so many bytes.
-fn is_short(room: usize, needed: usize) -> bool
-    ensures { λ r. ⌜ r ≡ ltb room needed ⌝ }
-{
-    room < needed
-}
-
 fn length_next(end: BitPosition, measure: bool, room: usize) -> Next
     ensures { λ r. ⌜ r ≡ lengthNext end measure room ⌝ }
 {
@@ -397,7 +390,7 @@ fn length_next(end: BitPosition, measure: bool, room: usize) -> Next
     if measure {
         return Next::Answer(BlockLength::Length(needed));
     }
-    if is_short(room, needed) {
+    if limits::is_short(room, needed) {
         return Next::Answer(BlockLength::Refused(Refusal::ShortOutput));
     }
     Next::Store(end)

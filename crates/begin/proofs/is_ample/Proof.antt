@@ -1,28 +1,27 @@
 -- `begin::is_ample` meets its contract. Assumes nothing.
 use borrow.Author.Needs.{needs}
-use Prim.Native.Nat.{ℕ, _*_, _^_, _≤_, _<_}
-use native.Mathlib.Nat.{mul-le-mul-left}
-use native.Mathlib.Omega.{arith}
+use borrow.Author.Tests.{lt-leb, le-leb, ltb-true, ltb-false}
+use mathlib.Core.Bool.{Bool, true, false, not}
+use mathlib.Core.Path.{_≡_, sym, _∙_}
+use Prim.Native.Nat.{ℕ, _*_}
+use lib.Dec.{leb, ltb}
+use Rattle.begin.specs.Counted.{isAmple}
 use Rattle.begin.proofs.is_ample.Statement.{statement}
 use Rattle.begin.proofs.is_ample.Tie as tie
 
--- below 2^16·2304·16
-small : (bits lines : ℕ) → (bits ≤ 16) × (lines < 2 ^ 16) → lines * 2304 * bits < 2 ^ 32
-small bits lines k =
-    let m : lines * 2304 * bits ≤ lines * 2304 * 16 = mul-le-mul-left (lines * 2304) (k .0) in
-    omega (arith, k .1)
+-- room that is not short is enough
+enough : (room n : ℕ) (b : Bool) → b ≡ ltb room n → not b ≡ leb n room
+enough room n true e = sym (lt-leb n room (ltb-true room n (sym e)))
+enough room n false e = sym (le-leb n room (ltb-false room n (sym e)))
 
 returns : tie.Need-returns
 returns c = rw (c .if1 .taken)
 
-mul-result : tie.Need-mul-result
-mul-result c = search needs
-
-mul-result-2 : tie.Need-mul-result-2
-mul-result-2 c = search (needs, small _ _ (c .before .pre))
+written : (measure b : Bool) (bits lines room n : ℕ) → measure ≡ false → n ≡ lines * 2304 * bits → b ≡ ltb room n → not b ≡ isAmple measure bits lines room
+written measure b bits lines room n m e f = rw m (rw e at (enough room n b f))
 
 returns-2 : tie.Need-returns-2
-returns-2 c = rw (c .if1 .left)
+returns-2 c = let s = c .before in written _ _ _ _ _ _ (s .before .if1 .left) (s .most-bytes .ensures) (c .is-short .ensures)
 
 pub is-ample-spec : {M : Type 1} → statement M
-is-ample-spec = tie.close (tie.spec returns mul-result mul-result-2 returns-2)
+is-ample-spec = tie.close (tie.spec returns (λ c κs. search needs) (λ c κs. search needs) returns-2)
