@@ -8,8 +8,8 @@ use Rattle.stream.specs.declared.BlockLength.the-variants.{Length, Refused}
 use Rattle.stream.specs.declared.Refusal.the-variants.{NotPredicted, ShortOutput}
 use Rattle.writing.specs.declared.Put.{Put}
 use Rattle.writing.specs.declared.Put.the-variants.{At, Wrong}
-use Rattle.begin.specs.declared.Next.{Next}
-use Rattle.begin.specs.declared.Next.the-variants.{Answer, Store}
+use Rattle.counted.specs.declared.Next.{Next}
+use Rattle.counted.specs.declared.Next.the-variants.{Answer, Store}
 
 -- a set is to be written, and no block of so many lines is longer than the room for it
 abbrev pub isAmple : Bool → (bits lines room : ℕ) → Bool

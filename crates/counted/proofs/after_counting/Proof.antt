@@ -1,12 +1,12 @@
--- `begin::after_counting` meets its contract, by the two ways in which counting ends. Assumes nothing.
+-- `counted::after_counting` meets its contract, by the two ways in which counting ends. Assumes nothing.
 use borrow.Author.Needs.{needs}
 use mathlib.Core.Bool.{Bool}
 use mathlib.Core.Path.{_≡_, _∙_}
 use Prim.Native.Nat.{ℕ}
 use Rattle.writing.specs.declared.Put.{Put}
-use Rattle.begin.specs.Counted.{nextOf}
-use Rattle.begin.proofs.after_counting.Statement.{statement}
-use Rattle.begin.proofs.after_counting.Tie as tie
+use Rattle.counted.specs.Counted.{nextOf}
+use Rattle.counted.proofs.after_counting.Statement.{statement}
+use Rattle.counted.proofs.after_counting.Tie as tie
 
 same : (counted x : Put) (measure : Bool) (room : ℕ) → counted ≡ x → nextOf x measure room ≡ nextOf counted measure room
 same counted x measure room e = rw e

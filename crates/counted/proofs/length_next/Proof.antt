@@ -1,4 +1,4 @@
--- `begin::length_next` meets its contract: the length, refusal 13, or the walk that stores. Assumes nothing.
+-- `counted::length_next` meets its contract: the length, refusal 13, or the walk that stores. Assumes nothing.
 use borrow.Author.Needs.{needs}
 use mathlib.Core.Bool.{Bool, true, false}
 use mathlib.Core.Path.{_≡_, sym, _∙_}
@@ -8,10 +8,10 @@ use Rattle.bits.specs.BitLists.{blockBytes}
 use Rattle.bits.specs.declared.BitPosition.{BitPosition}
 use Rattle.stream.specs.declared.BlockLength.the-variants.{Length, Refused}
 use Rattle.stream.specs.declared.Refusal.the-variants.{ShortOutput}
-use Rattle.begin.specs.Counted.{lengthNext}
-use Rattle.begin.specs.declared.Next.the-variants.{Answer, Store}
-use Rattle.begin.proofs.length_next.Statement.{statement}
-use Rattle.begin.proofs.length_next.Tie as tie
+use Rattle.counted.specs.Counted.{lengthNext}
+use Rattle.counted.specs.declared.Next.the-variants.{Answer, Store}
+use Rattle.counted.proofs.length_next.Statement.{statement}
+use Rattle.counted.proofs.length_next.Tie as tie
 
 module _ (end : BitPosition) (measure : Bool) (room n : ℕ) (e : n ≡ blockBytes (end .0)) where
   measured : measure ≡ true → Answer (Length n) ≡ lengthNext end measure room

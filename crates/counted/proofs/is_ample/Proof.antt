@@ -1,13 +1,13 @@
--- `begin::is_ample` meets its contract. Assumes nothing.
+-- `counted::is_ample` meets its contract. Assumes nothing.
 use borrow.Author.Needs.{needs}
 use borrow.Author.Tests.{lt-leb, le-leb, ltb-true, ltb-false}
 use mathlib.Core.Bool.{Bool, true, false, not}
 use mathlib.Core.Path.{_≡_, sym, _∙_}
 use Prim.Native.Nat.{ℕ, _*_}
 use lib.Dec.{leb, ltb}
-use Rattle.begin.specs.Counted.{isAmple}
-use Rattle.begin.proofs.is_ample.Statement.{statement}
-use Rattle.begin.proofs.is_ample.Tie as tie
+use Rattle.counted.specs.Counted.{isAmple}
+use Rattle.counted.proofs.is_ample.Statement.{statement}
+use Rattle.counted.proofs.is_ample.Tie as tie
 
 -- room that is not short is enough
 enough : (room n : ℕ) (b : Bool) → b ≡ ltb room n → not b ≡ leb n room
