@@ -239,7 +239,13 @@ pub fn after_block(
     requires { ⌜ AllNumbered (entries .all) × (linesWithEntry camera bits (now bases) (entries .all) found ≡ found) ⌝ }
     ensures { λ r. ⌜ (r .all ≡ afterLines camera bits (now (bases .entry)) (entries .all) (takingLines read found)) × AllNumbered (r .all) ⌝ }
 {
-    let took = take_lines(camera, entries, bits, bases, limits::lines_taking(read, found));
+    let took = take_lines(
+        camera,
+        entries,
+        bits,
+        bases,
+        limits::lines_taking(read, found),
+    );
     took.entries
 }
 
