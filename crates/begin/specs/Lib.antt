@@ -1,3 +1,2 @@
 -- The definitions of how calls begin.
 pub mod Beginnings
-pub mod Counted

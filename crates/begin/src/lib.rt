@@ -14,16 +14,11 @@ ghost use Rattle.begin.specs.Beginnings.{samplesNeeded, isShortScratch, 
 ghost use Rattle.begin.specs.Beginnings.{regionBegins, wholeOf, isWhole, withSize, imageBegins};
 ghost use Rattle.begin.specs.Beginnings.{windowedBegins, withBlock, blockBegins, withCount, withSet, withResumed, resumeBegins};
 ghost use Rattle.begin.specs.Beginnings.{writingBegins, withBases, lossyBegins, isIgnored, firstAbove};
-ghost use Rattle.bits.specs.BitLists.{blockBytes};
-ghost use Rattle.begin.specs.Counted.{isAmple, lengthNext, nextOf};
-use bits::BitPosition;
 use region::Checked;
 use region::Rect;
-use stream::BlockLength;
 use stream::FujiHeader;
 use stream::Parsed;
 use stream::Refusal;
-use writing::Put;
 
 // How decoding begins: a refusal, nothing to do, or a stream with this header is read. The reading of one block and the writer always have something
 // to do: they begin with a refusal or a header, as `Parsed` has them.
@@ -43,7 +38,7 @@ pub fn samples_needed(xtrans: bool) -> usize
 fn is_short_scratch(xtrans: bool, samples: usize, records: usize) -> bool
     ensures { λ r. ⌜ r ≡ isShortScratch xtrans samples records ⌝ }
 {
-    (samples < samples_needed(xtrans)) | (records < 336)
+    limits::is_short(samples, samples_needed(xtrans)) | limits::is_short(records, 336)
 }
 
 // Refusal 10, which comes last.
@@ -119,7 +114,7 @@ pub fn whole(width: usize, height: usize) -> Rect
 fn is_whole(h: FujiHeader, width: usize, height: usize) -> bool
     ensures { λ r. ⌜ r ≡ isWhole h width height ⌝ }
 {
-    (width == h.width as usize) & (height == h.height as usize)
+    limits::is_size(width, height, h.width as usize, h.height as usize)
 }
 
 fn image_in(
@@ -352,63 +347,4 @@ pub fn first_above(samples: &[u16], m: u32, xtrans: bool, strict: bool) -> usize
         i = i + 1;
     }
     i
-}
-
-// ---- a set whose bits are to be stored
-
-// Whether a set is to be written, and no block of so many lines is longer than the output, whatever its samples are.
-pub fn is_ample(measure: bool, bits: u32, lines: usize, room: usize) -> bool
-    requires { ⌜ (bits ≤ 16) × (lines < 2 ^ 16) ⌝ }
-    ensures { λ r. ⌜ r ≡ isAmple measure bits lines room ⌝ }
-{
-    if measure {
-        return false;
-    }
-    lines * 2304 * (bits as usize) <= room
-}
-
-// ---- a set whose bits were counted
-
-// What follows then: an answer, or the walk that stores the bits, which end here.
-pub enum Next {
-    Answer(BlockLength),
-    Store(BitPosition),
-}
-
-// The bytes of a tight block that has bits up to this position.
-pub fn block_bytes(at: BitPosition) -> usize
-    ensures { λ r. ⌜ r ≡ blockBytes (at .0) ⌝ }
-{
-    let end = at.block_bytes();
-    end.0
-}
-
-// Refusal 13, for a block of so many bytes.
-fn is_short(room: usize, needed: usize) -> bool
-    ensures { λ r. ⌜ r ≡ ltb room needed ⌝ }
-{
-    room < needed
-}
-
-fn length_next(end: BitPosition, measure: bool, room: usize) -> Next
-    ensures { λ r. ⌜ r ≡ lengthNext end measure room ⌝ }
-{
-    let needed = block_bytes(end);
-    if measure {
-        return Next::Answer(BlockLength::Length(needed));
-    }
-    if is_short(room, needed) {
-        return Next::Answer(BlockLength::Refused(Refusal::ShortOutput));
-    }
-    Next::Store(end)
-}
-
-// Refusal 12 comes first. A set that is only measured needs no room for its block.
-pub fn after_counting(counted: Put, measure: bool, room: usize) -> Next
-    ensures { λ r. ⌜ r ≡ nextOf counted measure room ⌝ }
-{
-    match counted {
-        Put::Wrong(j) => Next::Answer(BlockLength::Refused(Refusal::NotPredicted(j))),
-        Put::At(end) => length_next(end, measure, room),
-    }
 }

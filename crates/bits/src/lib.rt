@@ -46,7 +46,7 @@ impl BitPosition {
     pub fn block_bytes(self) -> ByteOffset
         ensures { λ r. ⌜ r .0 ≡ (self .0 + 127) / 128 * 16 ⌝ }
     {
-        ByteOffset(((self.0 / 128 + (self.0 % 128 + 127) / 128) * 16) as usize)
+        ByteOffset(limits::block_bytes(self.0))
     }
 
     // The position n bits on. Positions end at 2^64 - 1.
@@ -161,8 +161,7 @@ pub fn is_past(block: &[u8], at: BitPosition) -> bool
     requires { ⌜ length (now block) < 2 ^ 32 ⌝ }
     ensures { λ r. ⌜ r ≡ ltb (8 * length (now (block .entry)) + 7) (at .0) ⌝ }
 {
-    let end = 8 * (block.len() as u64) + 7;
-    end < at.0
+    limits::is_past_end(block.len(), at.0)
 }
 
 // Whether a tight block may end at this position: its length is the bits rounded up to a multiple of 16 bytes, and no one bit is left.

@@ -26,8 +26,8 @@ use Rattle.writing.proofs.SetLaws.{colour-line-at, position-at}
 use Rattle.writing.proofs.TurnPuts.{coded-wanted}
 use Rattle.steps.specs.Steps.{isInterpolated}
 use Rattle.begin.specs.Beginnings.{isIgnored, firstAbove}
-use Rattle.begin.specs.Counted.{nextOf}
-use Rattle.begin.specs.declared.Next.the-variants.{Answer, Store}
+use Rattle.counted.specs.Counted.{nextOf}
+use Rattle.counted.specs.declared.Next.the-variants.{Answer, Store}
 use Rattle.writing.specs.declared.Put.{Put}
 use Rattle.writing.specs.declared.Put.the-variants.{At, Wrong}
 use Rattle.block.specs.WrittenBlocks.{isStrict, writeLines, writtenBlock, tightBlock, SetWanted, FitSet}

@@ -17,7 +17,7 @@ use Rattle.steps.specs.declared.Plan.{Plan}
 use Rattle.steps.proofs.ScheduleLaws.{codes, lineSteps, bayer-codes, x-trans-codes}
 use Rattle.writing.specs.Puts.{Within}
 use Rattle.writing.proofs.BoundLaws.{pass-most, pass-sure}
-use Rattle.begin.specs.Counted.{isAmple}
+use Rattle.counted.specs.Counted.{isAmple}
 use Rattle.block.specs.Records.{baseOf}
 use Rattle.block.specs.WriterParts.{Storable}
 use Rattle.block.specs.WrittenBlocks.{WriteState, repeats, enterWriting, writePassAt, beforeWriting, isStrict, writeLine, startWriting, writeLines, writtenBlock, SetWanted}

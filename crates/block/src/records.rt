@@ -38,10 +38,10 @@ fn restarted_record(old: Record, bits: u32, base: u32, j: usize) -> Record
     requires { ⌜ Depth bits × (base < 256) ⌝ }
     ensures { λ r. ⌜ r ≡ cond (ltb (j % 56) 41) (startRecord bits base j) old ⌝ }
 {
-    if j % 56 < 41 {
-        return start_record(bits, base, j);
+    if limits::is_flat(j) {
+        return old;
     }
-    old
+    start_record(bits, base, j)
 }
 
 pub(crate) fn cleared() -> Record

@@ -29,10 +29,10 @@ use crate::records::restart;
 use crate::records::start_records;
 use crate::records::store_set;
 use crate::tight::line_count;
-use begin::Next;
 use begin::first_above;
 use bits::BitPosition;
 use cameras::base_of;
+use counted::Next;
 use map::width;
 use statistics::Record;
 use steps::Quantisers;
@@ -247,7 +247,7 @@ fn is_sure(
     requires { ⌜ Depth (form .bits) × (length (now lines) ≡ 18 * (widthOf (form .xtrans) + 2)) ⌝ }
     ensures { λ r. ⌜ (r ≡ true → (measure ≡ false) × Storable form (now (bases .entry)) count (now (samples .entry)) room) ⌝ }
 {
-    if begin::is_ample(measure, form.bits, count, room) {
+    if counted::is_ample(measure, form.bits, count, room) {
         return is_right(samples, lines, form, bases, count);
     }
     false
@@ -274,7 +274,7 @@ fn write_stored(
         Put::Wrong(j) => BlockLength::Refused(Refusal::NotPredicted(j)),
         Put::At(end) => {
             bits::fill_tail(out, end);
-            BlockLength::Length(begin::block_bytes(end))
+            BlockLength::Length(counted::block_bytes(end))
         }
     }
 }
@@ -303,7 +303,7 @@ fn write_measured(
         return write_stored(samples, out, lines, rs, form, bases, count);
     }
     let counted = write_walk(samples, out, false, lines, rs, form, bases, count);
-    let next = begin::after_counting(counted, measure, out.len());
+    let next = counted::after_counting(counted, measure, out.len());
     match next {
         Next::Answer(a) => a,
         Next::Store(_) => write_stored(samples, out, lines, rs, form, bases, count),

@@ -226,16 +226,6 @@ pub fn take_lines(camera: Camera, entries: Entries, bits: u32, bases: &[u8], cou
     }
 }
 
-// How many lines of a block take an entry, if `found` have one and `read` were read: the truncated line takes one too.
-fn lines_taking(read: usize, found: usize) -> usize
-    ensures { λ r. ⌜ (r ≡ takingLines read found) × (r ≤ found) ⌝ }
-{
-    if read < found {
-        return read + 1;
-    }
-    found
-}
-
 // The entries after the block.
 pub fn after_block(
     camera: Camera,
@@ -249,7 +239,13 @@ pub fn after_block(
     requires { ⌜ AllNumbered (entries .all) × (linesWithEntry camera bits (now bases) (entries .all) found ≡ found) ⌝ }
     ensures { λ r. ⌜ (r .all ≡ afterLines camera bits (now (bases .entry)) (entries .all) (takingLines read found)) × AllNumbered (r .all) ⌝ }
 {
-    let took = take_lines(camera, entries, bits, bases, lines_taking(read, found));
+    let took = take_lines(
+        camera,
+        entries,
+        bits,
+        bases,
+        limits::lines_taking(read, found),
+    );
     took.entries
 }
 
@@ -257,7 +253,7 @@ pub fn after_block(
 pub fn is_stopped(read: usize, found: usize, count: usize) -> bool
     ensures { λ r. ⌜ r ≡ isStopped read found count ⌝ }
 {
-    (found < count) & (found <= read)
+    limits::is_stopped(read, found, count)
 }
 
 // What a call hands back: a refused one gives back all holds of its camera.

@@ -60,7 +60,7 @@ pub fn store_head(out: &mut [u8], d: &[u8], block: usize, line: usize, at: u64)
 fn stored_record(lossless: bool, j: usize, r: Record) -> Record
     ensures { λ t. ⌜ t ≡ storedRecord lossless j r ⌝ }
 {
-    if lossless & (41 <= j % 56) {
+    if lossless & limits::is_flat(j) {
         return Record { sum: 0, n: 1 };
     }
     r

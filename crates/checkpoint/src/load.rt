@@ -47,7 +47,7 @@ fn is_bad_record(s: &[u8], j: usize) -> bool
 {
     let sum = be_at(s, 27 + 5 * j, 4);
     let n = be_at(s, 27 + 5 * j + 4, 1);
-    (67_108_864 <= sum) | ((n < 1) | (64 < n))
+    limits::is_no_record(sum, n)
 }
 
 fn has_bad_record(s: &[u8]) -> bool
@@ -94,7 +94,7 @@ fn is_bad_place(s: &[u8], lines: usize, bytes: usize) -> bool
 {
     let next = be_at(s, 17, 2);
     let at = be_at(s, 19, 8);
-    ((lines as u64) < next) | (8 * (bytes as u64) + 7 < at)
+    ((lines as u64) < next) | limits::is_past_end(bytes, at)
 }
 
 fn is_bad(s: &[u8], b: Bounds) -> bool
@@ -160,7 +160,7 @@ pub fn load_record(s: &[u8], j: usize, lossless: bool, start: Record) -> Record
     requires { ⌜ (1707 ≤ length (now s)) × (j < 336) ⌝ }
     ensures { λ r. ⌜ r ≡ loadedRecord lossless start (now (s .entry)) j ⌝ }
 {
-    if lossless & (41 <= j % 56) {
+    if lossless & limits::is_flat(j) {
         return start;
     }
     let sum = be_at(s, 27 + 5 * j, 4) as u32;

@@ -3,7 +3,6 @@
 ghost use mathlib.Core.Path.{_≡_};
 ghost use mathlib.Core.Bool.{true, false, not, _&&_};
 ghost use Prim.Native.Nat.{_+_, _*_, _^_, _≤_, _<_};
-ghost use lib.Dec.{leb, ltb};
 ghost use lib.ListN.{length, getD, set};
 ghost use Rattle.plan.specs.Records.{isDigit, numberAt, endOf};
 ghost use Rattle.plan.specs.Readings.{fieldOf, FieldInside, rowOf, RowInside, IsRead, Marked, Balanced, amissIn, Filled, Written};
@@ -93,13 +92,6 @@ fn read_field(d: &[u8], i: usize, mark: u32) -> Field
     Field::Bad
 }
 
-// Whether a record does not run backwards, does not pass the last line, and has a base up to 255.
-fn is_allowed(lines: usize, first: usize, last: usize, base: u32) -> bool
-    ensures { λ r. ⌜ r ≡ (leb first last && ltb last lines && leb base 255) ⌝ }
-{
-    (first <= last) & (last < lines) & (base <= 255)
-}
-
 // The record that starts at i.
 fn read_row(d: &[u8], i: usize, lines: usize) -> Row
     requires { ⌜ i ≤ length (now d) ⌝ }
@@ -117,7 +109,7 @@ fn read_row(d: &[u8], i: usize, lines: usize) -> Row
     let Field::Number(base, next) = c else {
         return Row::Bad;
     };
-    if is_allowed(lines, first as usize, last as usize, base) {
+    if limits::is_allowed(lines, first as usize, last as usize, base) {
         return Row::Good(first as usize, last as usize, base, next);
     }
     Row::Bad

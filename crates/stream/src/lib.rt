@@ -5,7 +5,7 @@ ghost use lib.ListN.{length};
 ghost use Rattle.stream.specs.Refusals.{refusalWords};
 ghost use Rattle.stream.specs.Headers.{byteAt, be16, headerOf, within, kindRules, sizeRules, countRules, parseOf, Ruled, widthAnswer};
 ghost use Rattle.stream.specs.Lengths.{boundAnswer, lengthWord, lengthRefusal};
-ghost use Rattle.stream.specs.Streams.{padded, sizeOf, rowLength, rowStart, firstShort, openIn, openOf, Opened, sizesBefore};
+ghost use Rattle.stream.specs.Streams.{sizeOf, rowLength, rowStart, firstShort, openIn, openOf, Opened, sizesBefore};
 ghost use Rattle.stream.specs.Streams.{blockStart, cut, rangeIn, rangeOf, rowIn, rowOf, partOf, Short, Inside};
 use bits::ByteOffset;
 
@@ -211,7 +211,7 @@ impl FujiHeader {
     pub fn parse(d: &[u8]) -> Parsed
         ensures { λ r. ⌜ r ≡ parseOf (now (d .entry)) ⌝ }
     {
-        if d.len() < 16 {
+        if limits::is_short(d.len(), 16) {
             return Parsed::Refused(Refusal::ShortHeader);
         }
         let h = read_header(d);
@@ -232,10 +232,7 @@ fn columns(h: FujiHeader, i: u32) -> Width
     if blocks <= i {
         return Width::Refused(Refusal::NoBlock);
     }
-    if i + 1 == blocks {
-        return Width::Columns(width - 768 * i);
-    }
-    Width::Columns(768)
+    Width::Columns(limits::block_columns(width, blocks, i))
 }
 
 // The columns of block i.
@@ -259,7 +256,7 @@ fn bound_in(h: FujiHeader) -> BlockLength
     if !lossless {
         return BlockLength::Refused(Refusal::Lossy);
     }
-    BlockLength::Length(lines * 2304 * bits)
+    BlockLength::Length(limits::most_bytes(lines, bits))
 }
 
 // A length that no tight block under this header exceeds: a line has 4608 codes, and each has at most 4·bits bits.
@@ -271,14 +268,6 @@ pub fn length_bound(d: &[u8]) -> BlockLength
         Parsed::Refused(r) => BlockLength::Refused(r),
         Parsed::Header(h) => bound_in(h),
     }
-}
-
-// Padded to 16.
-fn padded(n: usize) -> usize
-    requires { ⌜ n < 2 ^ 32 ⌝ }
-    ensures { λ r. ⌜ (r ≡ padded n) × (r ≤ n + 15) ⌝ }
-{
-    (n + 15) / 16 * 16
 }
 
 // The size of block b.
@@ -307,7 +296,7 @@ fn row_start(h: FujiHeader, b: usize) -> usize
     ensures { λ r. ⌜ (r ≡ rowStart h b) × (r < 2 ^ 16) ⌝ }
 {
     let blocks = h.blocks as usize;
-    16 + padded(4 * blocks) + b * padded(row_length(h))
+    16 + limits::padded(4 * blocks) + b * limits::padded(row_length(h))
 }
 
 // The lowest block whose base row is not whole, or the number of blocks.
@@ -319,7 +308,7 @@ fn first_short(d: &[u8], h: FujiHeader) -> usize
     let row = row_length(h);
     let mut b = 0usize;
     while b < blocks {
-        if d.len() < row_start(h, b) + row {
+        if limits::ends_past(d.len(), row_start(h, b), row) {
             return b;
         }
         b += 1;

@@ -1,4 +1,5 @@
 -- `checkpoint::stored_record` meets its contract, by its test. Assumes nothing.
+use borrow.Author.Needs.{needs}
 use mathlib.Core.Bool.{Bool, true, false, _&&_}
 use mathlib.Core.Path.{_≡_}
 use Prim.Native.Nat.{ℕ, _%_}
@@ -9,19 +10,19 @@ use Rattle.checkpoint.proofs.stored_record.Statement.{statement}
 use Rattle.checkpoint.proofs.stored_record.Tie as tie
 
 module _ (lossless : Bool) (j : ℕ) (r : Record) where
-  unused : (lossless && leb 41 (j % 56)) ≡ true → record { sum = 0; n = 1 } ≡ storedRecord lossless j r
+  unused : (f : Bool) → f ≡ leb 41 (j % 56) → (lossless && f) ≡ true → record { sum = 0; n = 1 } ≡ storedRecord lossless j r
   unfolding storedRecord
-  unused e = rw e
+  unused f ef e = rw (← ef, e)
 
-  used : (lossless && leb 41 (j % 56)) ≡ false → r ≡ storedRecord lossless j r
+  used : (f : Bool) → f ≡ leb 41 (j % 56) → (lossless && f) ≡ false → r ≡ storedRecord lossless j r
   unfolding storedRecord
-  used e = rw e
+  used f ef e = rw (← ef, e)
 
 returns : tie.Need-returns
-returns c = unused _ _ _ (c .if1 .taken)
+returns c = unused _ _ _ _ (c .before .is-flat .ensures) (c .if1 .taken)
 
 returns-2 : tie.Need-returns-2
-returns-2 c = used _ _ _ (c .if1 .left)
+returns-2 c = used _ _ _ _ (c .before .is-flat .ensures) (c .if1 .left)
 
 pub stored-record-spec : {M : Type 1} → statement M
-stored-record-spec = tie.close (tie.spec returns returns-2)
+stored-record-spec = tie.close (tie.spec (λ c κs. search needs) returns returns-2)

@@ -1,28 +1,27 @@
 -- `stream::bound_in` meets its contract. Assumes nothing.
 use borrow.Author.Needs.{needs}
 use borrow.Author.Tests.{not-true, not-false}
-use Prim.Native.Nat.{_*_, _^_, _≤_, _<_}
-use native.Mathlib.Nat.{mul-le-mul-left}
-use native.Mathlib.Omega.{arith}
-use Rattle.stream.specs.Headers.{Ruled}
+use mathlib.Core.Bool.{true}
+use mathlib.Core.Path.{_≡_}
+use Prim.Native.Nat.{ℕ}
+use Rattle.stream.specs.Lengths.{lengthBound, boundAnswer}
+use Rattle.stream.specs.declared.BlockLength.the-variants.{Length}
 use Rattle.stream.specs.declared.FujiHeader.{FujiHeader}
+use Rattle.stream.specs.declared.Parsed.the-variants.{Header}
 use Rattle.stream.proofs.bound_in.Statement.{statement}
 use Rattle.stream.proofs.bound_in.Tie as tie
 
--- at most 2731·2304·16
-small : (h : FujiHeader) → Ruled h → h .lines * 2304 * h .bits < 2 ^ 27
-small h k =
-    let m : h .lines * 2304 * h .bits ≤ h .lines * 2304 * 16 = mul-le-mul-left (h .lines * 2304) (k .bits-high) in
-    omega (arith, k .lines-high)
+bounded : (h : FujiHeader) (n : ℕ) → h .lossless ≡ true → n ≡ lengthBound h → Length n ≡ boundAnswer (Header h)
+bounded h n l e = rw (l, e)
 
 returns : tie.Need-returns
 returns c = simp (not-true (c .before .before .before .args .h .lossless) (c .if1 .taken))
 
-mul-t8 : tie.Need-mul-t8
-mul-t8 c = let b = c .before .before .before in search (needs, small (b .args .h) (b .pre))
-
 returns-2 : tie.Need-returns-2
-returns-2 c = simp (not-false (c .before .before .before .args .h .lossless) (c .if1 .left))
+returns-2 c =
+    let s = c .before in
+    let h = s .before .before .before .args .h in
+    bounded h _ (not-false (h .lossless) (s .if1 .left)) (c .most-bytes .ensures)
 
 pub bound-in-spec : {M : Type 1} → statement M
-bound-in-spec = tie.close (tie.spec (λ c. search needs) (λ c. search needs) returns (λ c. search needs) mul-t8 returns-2)
+bound-in-spec = tie.close (tie.spec (λ c. search needs) (λ c. search needs) returns (λ c κs. search needs) returns-2)

@@ -1,11 +1,12 @@
 -- `stream::first_short` meets its contract. The invariant: the search from b on gives what the search from 0 on gives; the measure: the blocks
 -- from b on. Assumes nothing.
 use borrow.Author.Needs.{needs}
-use borrow.Author.Tests.{lt-ltb, le-ltb}
+use mathlib.Core.Bool.{true, false}
 use mathlib.Core.List.{List}
 use mathlib.Core.Path.{_≡_, sym, _∙_}
 use Prim.Native.Nat.{ℕ, _+_, _-_, _≤_, _<_}
 use native.Mathlib.Omega.{arith}
+use lib.Dec.{ltb}
 use lib.ListN.{length}
 use Rattle.numbers.specs.Numbers.{leastFrom}
 use Rattle.numbers.proofs.LeastLaws.{least-last, least-here, least-next}
@@ -30,26 +31,29 @@ start d h = let e : h .blocks - 0 ≡ h .blocks = omega arith in rw e
 
 module _ (d : List ℕ) (h : FujiHeader) (blocks b at row : ℕ) (ea : at ≡ rowStart h b) (er : row ≡ rowLength h)
     (inv : firstShort d h ≡ shortFrom d h blocks b) where
-  here : length d < at + row → b ≡ firstShort d h
-  here l = sym (inv ∙ least-here (blocks - b) (λ i. isShort d h i) b (lt-ltb (length d) (rowStart h b + rowLength h) (rw (← ea, ← er) l)))
+  here : ltb (length d) (at + row) ≡ true → b ≡ firstShort d h
+  here l = sym (inv ∙ least-here (blocks - b) (λ i. isShort d h i) b (rw (← ea, ← er) l))
 
-  next : b < blocks → at + row ≤ length d → firstShort d h ≡ shortFrom d h blocks (b + 1)
+  next : b < blocks → ltb (length d) (at + row) ≡ false → firstShort d h ≡ shortFrom d h blocks (b + 1)
   next k l =
       let e : blocks - b - 1 ≡ blocks - (b + 1) = omega arith in
-      inv ∙ least-next (blocks - b) (λ i. isShort d h i) b (omega arith) (le-ltb (length d) (rowStart h b + rowLength h) (rw (← ea, ← er) l)) ∙ rw e
+      inv ∙ least-next (blocks - b) (λ i. isShort d h i) b (omega arith) (rw (← ea, ← er) l) ∙ rw e
 
 loop-holds : tie.Need-loop-holds Inv-loop μ-loop
 loop-holds c = (search needs, start _ _)
 
 returns : tie.Need-returns Inv-loop μ-loop
 returns c =
-    let s = c .before .before .before .before in
-    here _ _ _ _ _ _ (c .before .row-start .ensures .0) (s .row-length .ensures .0) (c .before .before .before .loop .inv .1) (c .if1 .taken)
+    let p = c .before .before in
+    let s = p .before .before .before in
+    here _ _ _ _ _ _ (p .row-start .ensures .0) (s .row-length .ensures .0) (p .before .before .loop .inv .1) (sym (c .before .ends-past .ensures) ∙ c .if1 .taken)
 
 loop-again : tie.Need-loop-again Inv-loop μ-loop
 loop-again c =
-    let s = c .before .before .before .before in
-    (search needs, next _ _ _ _ _ _ (c .before .row-start .ensures .0) (s .row-length .ensures .0) (c .before .before .before .loop .inv .1) (c .before .before .loop-test .taken) (c .if1 .left))
+    let p = c .before .before in
+    let s = p .before .before .before in
+    let short = sym (c .before .ends-past .ensures) ∙ c .if1 .left in
+    (search needs, next _ _ _ _ _ _ (p .row-start .ensures .0) (s .row-length .ensures .0) (p .before .before .loop .inv .1) (p .before .loop-test .taken) short)
 
 returns-2 : tie.Need-returns-2 Inv-loop μ-loop
 returns-2 c =

@@ -1,20 +1,20 @@
 -- `checkpoint::load::is_bad_record` meets its contract. Assumes nothing.
 use borrow.Author.Needs.{needs}
-use mathlib.Core.Bool.{_||_}
+use mathlib.Core.Bool.{Bool, _||_}
 use mathlib.Core.List.{List}
-use mathlib.Core.Path.{_≡_}
+use mathlib.Core.Path.{_≡_, _∙_}
 use Prim.Native.Nat.{ℕ, _^_}
 use lib.Dec.{leb, ltb}
 use Rattle.checkpoint.specs.Checkpoints.{sumIn, nIn, badRecord}
 use Rattle.checkpoint.proofs.load.is_bad_record.Statement.{statement}
 use Rattle.checkpoint.proofs.load.is_bad_record.Tie as tie
 
-judged : (s : List ℕ) (j sum n : ℕ) → sum ≡ sumIn s j → n ≡ nIn s j → (leb (2 ^ 26) sum || (ltb n 1 || ltb 64 n)) ≡ badRecord s j
+judged : (s : List ℕ) (j sum n : ℕ) (b : Bool) → b ≡ (leb (2 ^ 26) sum || (ltb n 1 || ltb 64 n)) → sum ≡ sumIn s j → n ≡ nIn s j → b ≡ badRecord s j
 unfolding badRecord
-judged s j sum n e f = rw (e, f)
+judged s j sum n b h e f = h ∙ rw (e, f)
 
 returns : tie.Need-returns
-returns c = judged _ _ _ _ (c .before .be-at .ensures .0) (c .be-at2 .ensures .0)
+returns c = let n = c .before in judged _ _ _ _ _ (c .is-no-record .ensures) (n .before .be-at .ensures .0) (n .be-at2 .ensures .0)
 
 pub is-bad-record-spec : {M : Type 1} → statement M
 is-bad-record-spec =
@@ -26,5 +26,6 @@ is-bad-record-spec =
     (λ c. search needs)
     (λ c. search needs)
     (λ c. search needs)
+    (λ c κs. search needs)
     (λ c κs. search needs)
     returns)

@@ -12,28 +12,30 @@ use Rattle.checkpoint.proofs.load.load_record.Statement.{statement}
 use Rattle.checkpoint.proofs.load.load_record.Tie as tie
 
 module _ (lossless : Bool) (start : Record) (s : List ℕ) (j : ℕ) where
-  unused : (lossless && leb 41 (j % 56)) ≡ true → start ≡ loadedRecord lossless start s j
+  unused : (f : Bool) → f ≡ leb 41 (j % 56) → (lossless && f) ≡ true → start ≡ loadedRecord lossless start s j
   unfolding loadedRecord
-  unused e = rw e
+  unused f ef e = rw (← ef, e)
 
-  used : (sum n cut : ℕ) → (lossless && leb 41 (j % 56)) ≡ false → sum ≡ sumIn s j → n ≡ nIn s j → cut ≡ min sum (n * largestResidual)
+  used : (flat : Bool) (sum n cut : ℕ) → flat ≡ leb 41 (j % 56) → (lossless && flat) ≡ false → sum ≡ sumIn s j → n ≡ nIn s j → cut ≡ min sum (n * largestResidual)
       → record { sum = cut; n = n } ≡ loadedRecord lossless start s j
   unfolding loadedRecord
-  used sum n cut e f g h = rw (e, h, f, g)
+  used flat sum n cut ef e f g h = rw (← ef, e, h, f, g)
 
 returns : tie.Need-returns
-returns c = unused _ _ _ _ (c .if1 .taken)
+returns c = unused _ _ _ _ _ (c .before .is-flat .ensures) (c .if1 .taken)
 
 returns-2 : tie.Need-returns-2
 returns-2 c =
     let n = c .before in
     let s = n .before in
-    used _ _ _ _ _ _ _ (s .before .if1 .left) (s .be-at .ensures .0) (n .be-at2 .ensures .0) (c .smaller .ensures .0)
+    let t = s .before in
+    used _ _ _ _ _ _ _ _ (t .before .is-flat .ensures) (t .if1 .left) (s .be-at .ensures .0) (n .be-at2 .ensures .0) (c .smaller .ensures .0)
 
 pub load-record-spec : {M : Type 1} → statement M
 load-record-spec =
     tie.close
     (tie.spec
+    (λ c κs. search needs)
     returns
     (λ c. search needs)
     (λ c. search needs)

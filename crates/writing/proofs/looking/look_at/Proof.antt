@@ -16,7 +16,8 @@ returns c e = absurd (false≢true e)
 returns-2 : tie.Need-returns-2
 returns-2 c e =
     let s = c .before .before .before .before .before .before in
-    sample-looked _ _ _ _ _ _ _ _ _ (c .before .before .before .left-of .ensures .0) (c .before .before .index-in .ensures .0)
+    let a = s .args in
+    sample-looked (a .w) (a .samples .now) (a .n) (a .line) (a .p) (a .coded) (a .lines .now) _ _ (c .before .before .before .left-of .ensures .0) (c .before .before .index-in .ensures .0)
     (λ f. ⊎-elim
     (λ w. sym (w .3 .ensures .0) ∙ (w .5 .left ∙ ap (λ (x : Context). x .prediction) (context-is _ _ _ _ (s .pre .0 .1 .1 .1 .0) (c .before .before .before .left-of .ensures .0) (w .2 .ensures .0))))
     (λ w. absurd (false≢true (sym f ∙ not-false _ (w .left)))) (c .if1 .came))

@@ -304,7 +304,7 @@ abbrev b15 : Syntax.Body
 b15 = Syntax.call "bits::fill_tail" (List._∷_ (Syntax.copy (Syntax.place 21 List.[])) (List._∷_ (Syntax.copy (Syntax.place 10 List.[])) List.[])) (Syntax.place 19 List.[])
 
 abbrev b16 : Syntax.Body
-b16 = Syntax.call "begin::block_bytes" (List._∷_ (Syntax.copy (Syntax.place 10 List.[])) List.[]) (Syntax.place 22 List.[])
+b16 = Syntax.call "counted::block_bytes" (List._∷_ (Syntax.copy (Syntax.place 10 List.[])) List.[]) (Syntax.place 22 List.[])
 
 abbrev b17 : Syntax.Body
 b17 = Syntax.assign (Syntax.place 17 List.[]) (Syntax.aggregate (List._∷_ (Syntax.int Syntax.w8 0) (List._∷_ (Syntax.copy (Syntax.place 22 List.[])) List.[])))
@@ -986,7 +986,7 @@ module _ (claims· : Claims) where
       abbrev pub Closed : Type 2
       Closed = (𝓤 : URA.URA M) (H : Wp.Heap 𝓤) (A : Atoms.Atoms 𝓤) (W : Kit.Given 𝓤 H A) (𝓣 : Wp.Tables 𝓤 H) (known0 : Plain.Known 𝓤 H A W 𝓣 5 ps·0 r·0 (claims· .0) (claims· .1)
           "block::writer::write_walk") (known1 : Plain.Known 𝓤 H A W 𝓣 1 ps·1 r·1 (claims· .2) (claims· .3) "bits::fill_tail") (known2 : Plain.Known 𝓤 H A W 𝓣 0 ps·2 r·2 (claims· .4) (claims· .5)
-          "begin::block_bytes") → Statement.Triple 𝓤 (Wp.WpFn 𝓤 H (𝓣 .C) (𝓣 .Λ) (Function.fnOf 5 ps r xs m hs body)) (Function.plainOf 𝓤 H A 5 ps r Pre· Post·)
+          "counted::block_bytes") → Statement.Triple 𝓤 (Wp.WpFn 𝓤 H (𝓣 .C) (𝓣 .Λ) (Function.fnOf 5 ps r xs m hs body)) (Function.plainOf 𝓤 H A 5 ps r Pre· Post·)
 
     module _ where
       abbrev at0 : Typed.TF T33 O1
@@ -1157,7 +1157,7 @@ module _ (claims· : Claims) where
       module _ {M : Type 1} (𝓤 : URA.URA M) (H : Wp.Heap 𝓤) (A : Atoms.Atoms 𝓤) (W : Kit.Given 𝓤 H A) (𝓣 : Wp.Tables 𝓤 H) where
         abbrev Knowns : Type 1
         Knowns = Plain.Known 𝓤 H A W 𝓣 5 ps·0 r·0 (claims· .0) (claims· .1) "block::writer::write_walk" × Plain.Known 𝓤 H A W 𝓣 1 ps·1 r·1 (claims· .2) (claims· .3) "bits::fill_tail" × Plain.Known 𝓤 H
-            A W 𝓣 0 ps·2 r·2 (claims· .4) (claims· .5) "begin::block_bytes"
+            A W 𝓣 0 ps·2 r·2 (claims· .4) (claims· .5) "counted::block_bytes"
 
       module _ (κs : Lifetimes.Lfts 5) (qs : Lifetimes.Shares 5) where
         abbrev g3 : List.List Row.Entry
@@ -1840,7 +1840,7 @@ module _ (claims· : Claims) where
           d7 = Typed.g-pre 𝓤 H A W 𝓣 E G50 G51 b17 Δ1 (Typed.pass T50 T51 s48) at6 (Scalar.g-room 𝓤 H A W E G50 10 y3 (Local.room-whole 𝓤 H A W (Declared'.row BitPosition.the-type) y3 Path'.refl)) d6
 
           d8 : Typed.Typed 𝓤 H A 𝓣 E G49 b18 Δ1 at8
-          d8 = Typed.s-seq 𝓤 H A W 𝓣 E G49 G50 b16 b17 Δ1 (Typed.both s47) at7 (Plain.t-call-plain 𝓤 H A W 𝓣 0 ps·2 r·2 (claims· .4) (claims· .5) "begin::block_bytes" (known .2) E (λ pos β. β) G49
+          d8 = Typed.s-seq 𝓤 H A W 𝓣 E G49 G50 b16 b17 Δ1 (Typed.both s47) at7 (Plain.t-call-plain 𝓤 H A W 𝓣 0 ps·2 r·2 (claims· .4) (claims· .5) "counted::block_bytes" (known .2) E (λ pos β. β) G49
               (record { pos = 10; st = List.[]; d = 0; at = λ x. x }, tt) 22 List.[] (Call.sub-id 𝓤 H A W (G49 .slots)) (
                 (
                   Yields.yields-copy 𝓤 H A W (λ ρ. Unit) (Declared'.row BitPosition.the-type) Path'.refl (Copies.cStruct BitPosition.the-type Laws.the-laws Laws.the-copy .copy 𝓤 H A W) (Rows.whole
@@ -3035,6 +3035,6 @@ module _ (claims· : Claims) where
 
         module _ {M : Type 1} (𝓤 : URA.URA M) (H : Wp.Heap 𝓤) (A : Atoms.Atoms 𝓤) (W : Kit.Given 𝓤 H A) (𝓣 : Wp.Tables 𝓤 H) (known0 : Plain.Known 𝓤 H A W 𝓣 5 ps·0 r·0 (claims· .0) (claims· .1)
             "block::writer::write_walk") (known1 : Plain.Known 𝓤 H A W 𝓣 1 ps·1 r·1 (claims· .2) (claims· .3) "bits::fill_tail") (known2 : Plain.Known 𝓤 H A W 𝓣 0 ps·2 r·2 (claims· .4) (claims· .5)
-            "begin::block_bytes") where
+            "counted::block_bytes") where
           pub spec : Statement.Triple 𝓤 (Wp.WpFn 𝓤 H (𝓣 .C) (𝓣 .Λ) (Function.fnOf 5 ps r xs m hs body)) (Function.plainOf 𝓤 H A 5 ps r Pre· Post·)
           spec = Plain.t-fn-plain 𝓤 H A W 𝓣 5 ps r xs m hs body (λ κs qs bs. Φ) (λ κs qs bs bd. typed κs qs 𝓤 H A W 𝓣 (known0, known1, known2) bs bd) Pre· Post· asked

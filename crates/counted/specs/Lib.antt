@@ -1,0 +1,2 @@
+-- The definitions of what follows once the bits of a set are counted.
+pub mod Counted
