@@ -1,6 +1,7 @@
 // Blocks: read, decoded, read tightly, and written. The types of the answers are here, the functions in a module for each role.
 ghost use mathlib.Core.Path.{_≡_};
 ghost use Rattle.block.specs.Images.{formOf};
+ghost use Rattle.block.specs.Words.{answerWords};
 use cameras::Entries;
 use code::Place;
 use stream::FujiHeader;
@@ -8,16 +9,14 @@ use stream::Refusal;
 use totals::TightLines;
 use totals::Totals;
 
-mod c;
-mod checkpoints;
-mod decoding;
+pub mod checkpoints;
+pub mod decoding;
 mod reading;
 mod records;
-mod sharing;
-mod tight;
-mod writer;
+pub mod sharing;
+pub mod tight;
+pub mod writer;
 
-pub use c::answer_words;
 pub use checkpoints::resume_region;
 pub use checkpoints::store_checkpoint;
 pub use decoding::decode;
@@ -76,5 +75,15 @@ pub(crate) fn form_of(h: FujiHeader) -> Form
     Form {
         bits: h.bits,
         xtrans: h.xtrans,
+    }
+}
+
+// A refusal's four words, all 0 where nothing is refused.
+pub fn answer_words(a: Decoded) -> [usize; 4]
+    ensures { λ w. ⌜ w ≡ answerWords a ⌝ }
+{
+    match a {
+        Decoded::Done => [0; 4],
+        Decoded::Refused(r) => stream::refusal_words(r),
     }
 }
