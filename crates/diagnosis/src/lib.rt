@@ -9,6 +9,7 @@ ghost use Rattle.map.specs.Places.{Fits};
 ghost use Rattle.stream.specs.Streams.{openOf};
 ghost use Rattle.stream.specs.declared.Parsed.the-variants.{Header};
 ghost use Rattle.block.specs.Images.{formOf};
+ghost use Rattle.block.specs.Words.{answerWords};
 ghost use Rattle.diagnosis.specs.Faults.{gives15, answerAt, faultAt, lowest, findingOf, answerOf, faultOf, reasonWord, spotWords, faultWords};
 ghost use Rattle.diagnosis.specs.Texts.{heading, numberText, field, reasonText, codeText, tailRecord, textOf, Put};
 use bits::BitPosition;
@@ -289,7 +290,7 @@ pub fn report(d: &[u8], out: &mut [u8; 256]) -> usize
 // ---- for C
 
 // What the tight reading answers for block b of the stream d, with scratch of its own.
-pub fn answer_of(d: &[u8], b: usize) -> Decoded
+fn answer_of(d: &[u8], b: usize) -> Decoded
     ensures { λ a. ⌜ a ≡ answerOf (now (d .entry)) b ⌝ }
 {
     let begins = begin::block_begins(d, b, true, 9252, 336);
@@ -299,7 +300,7 @@ pub fn answer_of(d: &[u8], b: usize) -> Decoded
     }
 }
 
-pub fn fault_of(d: &[u8], b: usize, answer: Decoded) -> Fault
+fn fault_of(d: &[u8], b: usize, answer: Decoded) -> Fault
     requires { ⌜ answer ≡ answerOf (now d) b ⌝ }
     ensures { λ r. ⌜ r ≡ faultOf (now (d .entry)) b ⌝ }
 {
@@ -335,7 +336,7 @@ fn spot_words(x: BadSpot) -> [usize; 6]
     ]
 }
 
-pub fn fault_words(f: Fault) -> [usize; 6]
+fn fault_words(f: Fault) -> [usize; 6]
     ensures { λ w. ⌜ w ≡ faultWords f ⌝ }
 {
     match f {
@@ -343,4 +344,19 @@ pub fn fault_words(f: Fault) -> [usize; 6]
         Fault::Code(x) => spot_words(x),
         Fault::Tail(lines, at) => [lines, 0, 0, 0, at.0 as usize, 4],
     }
+}
+
+// Why block b is not tight: line, pass, colour line, position, first bit and reason of its first bad code, or line, bit and reason of its tail, all 0 where
+// it does not give 15; and the words of what the tight reading answers.
+#[no_mangle]
+pub extern "C" fn fuji_bad_code(d: &[u8], b: usize, spot: &mut [usize; 6], refusal: &mut [usize; 4])
+    ensures { λ _. ⌜ (now (spot .exit) ≡ faultWords (faultOf (now (d .entry)) b)) ×
+        (now (refusal .exit) ≡ answerWords (answerOf (now (d .entry)) b)) ⌝ }
+{
+    let a = answer_of(d, b);
+    let f = fault_of(d, b, a);
+    let w = fault_words(f);
+    *spot = w;
+    let r = block::answer_words(a);
+    *refusal = r;
 }

@@ -1,8 +1,7 @@
-// Reading a block, reading it tightly, and why it is not tight.
+// Reading a block, and reading it tightly.
 ghost use mathlib.Core.Path.{_≡_};
 ghost use Rattle.block.specs.Lent.{Scratch};
 ghost use Rattle.block.specs.Words.{answerWords, totalsWords, ToldRead, ToldTight};
-ghost use Rattle.diagnosis.specs.Faults.{answerOf, faultOf, faultWords};
 use block::Counted;
 use block::answer_words;
 use block::read_block;
@@ -66,19 +65,4 @@ pub extern "C" fn fuji_read_tight(
     let w = counted_refusal(a);
     *totals = t;
     *refusal = w;
-}
-
-// Why block b is not tight: line, pass, colour line, position, first bit and reason of its first bad code, or line, bit and reason of its tail, all 0 where
-// it does not give 15; and the words of what the tight reading answers.
-#[no_mangle]
-pub extern "C" fn fuji_bad_code(d: &[u8], b: usize, spot: &mut [usize; 6], refusal: &mut [usize; 4])
-    ensures { λ _. ⌜ (now (spot .exit) ≡ faultWords (faultOf (now (d .entry)) b)) ×
-        (now (refusal .exit) ≡ answerWords (answerOf (now (d .entry)) b)) ⌝ }
-{
-    let a = diagnosis::answer_of(d, b);
-    let f = diagnosis::fault_of(d, b, a);
-    let w = diagnosis::fault_words(f);
-    *spot = w;
-    let r = answer_words(a);
-    *refusal = r;
 }

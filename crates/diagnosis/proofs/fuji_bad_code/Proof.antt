@@ -1,10 +1,10 @@
--- `fuji_compressed::reading::fuji_bad_code` meets its contract. Assumes nothing.
+-- `diagnosis::fuji_bad_code` meets its contract. Assumes nothing.
 use borrow.Author.Needs.{needs}
 use mathlib.Core.Path.{ap, _∙_}
 use Rattle.block.specs.Words.{answerWords}
 use Rattle.diagnosis.specs.Faults.{faultWords}
-use Rattle.fuji_compressed.proofs.reading.fuji_bad_code.Statement.{statement}
-use Rattle.fuji_compressed.proofs.reading.fuji_bad_code.Tie as tie
+use Rattle.diagnosis.proofs.fuji_bad_code.Statement.{statement}
+use Rattle.diagnosis.proofs.fuji_bad_code.Tie as tie
 
 returns : tie.Need-returns
 returns c =
