@@ -8,7 +8,7 @@ ghost use lib.ListN.{length};
 ghost use Rattle.region.specs.Regions.{checkedOf};
 ghost use Rattle.steps.specs.Steps.{isInterpolated};
 ghost use Rattle.stream.specs.declared.Parsed.the-variants.{Header};
-ghost use Rattle.writing.specs.Sets.{setSize, lineOfRank, colourLineAt, positionAt};
+ghost use Rattle.lines.specs.Sets.{setSize, lineOfRank, colourLineAt, positionAt};
 ghost use Rattle.map.specs.Places.{widthOf};
 ghost use Rattle.begin.specs.Beginnings.{samplesNeeded, isShortScratch, withScratch, begun, withRegion};
 ghost use Rattle.begin.specs.Beginnings.{regionBegins, wholeOf, isWhole, withSize, imageBegins};
@@ -17,13 +17,13 @@ ghost use Rattle.begin.specs.Beginnings.{writingBegins, withBases, lossy
 ghost use Rattle.bits.specs.BitLists.{blockBytes};
 ghost use Rattle.begin.specs.Counted.{isAmple, lengthNext, nextOf};
 use bits::BitPosition;
+use output::Put;
 use region::Checked;
 use region::Rect;
 use stream::BlockLength;
 use stream::FujiHeader;
 use stream::Parsed;
 use stream::Refusal;
-use writing::Put;
 
 // How decoding begins: a refusal, nothing to do, or a stream with this header is read. The reading of one block and the writer always have something
 // to do: they begin with a refusal or a header, as `Parsed` has them.

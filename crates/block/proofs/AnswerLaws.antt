@@ -19,7 +19,7 @@ use Rattle.stream.specs.declared.BlockLength.the-variants.{Length, Refused}
 use Rattle.stream.specs.declared.Refusal.{Refusal}
 use Rattle.stream.specs.declared.Refusal.the-variants.{AboveLargest, NotPredicted, ShortOutput}
 use Rattle.map.specs.Places.{widthOf}
-use Rattle.writing.specs.Sets.{setSize, lineOfRank, indexIn}
+use Rattle.lines.specs.Sets.{setSize, lineOfRank, indexIn}
 use Rattle.output.specs.Output.{putBits}
 use Rattle.writing.specs.Puts.{Room, Within}
 use Rattle.writing.proofs.SetLaws.{colour-line-at, position-at}
@@ -28,8 +28,8 @@ use Rattle.steps.specs.Steps.{isInterpolated}
 use Rattle.begin.specs.Beginnings.{isIgnored, firstAbove}
 use Rattle.begin.specs.Counted.{nextOf}
 use Rattle.begin.specs.declared.Next.the-variants.{Answer, Store}
-use Rattle.writing.specs.declared.Put.{Put}
-use Rattle.writing.specs.declared.Put.the-variants.{At, Wrong}
+use Rattle.output.specs.declared.Put.{Put}
+use Rattle.output.specs.declared.Put.the-variants.{At, Wrong}
 use Rattle.block.specs.WrittenBlocks.{isStrict, writeLines, writtenBlock, tightBlock, SetWanted, FitSet}
 use Rattle.block.specs.WrittenAnswers.{predictedAnswer, rangeAnswer, measuredAnswer}
 use Rattle.block.specs.WrittenAnswers.{aboveIn, setAnswer, writtenAnswer}

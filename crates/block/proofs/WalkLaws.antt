@@ -18,12 +18,12 @@ use Rattle.steps.specs.Values.{recordsOf}
 use Rattle.steps.specs.Steps.{planOf, passSteps}
 use Rattle.steps.specs.declared.Plan.{Plan}
 use Rattle.steps.specs.declared.Set.{Set}
-use Rattle.writing.specs.Sets.{lineSize, setSize}
+use Rattle.lines.specs.Sets.{lineSize, setSize}
 use Rattle.writing.specs.Puts.{putIf, Room, Within, Wanted, IsPassPut}
 use Rattle.writing.specs.Writings.{Writing, writePass}
 use Rattle.writing.specs.declared.PassPut.{PassPut}
-use Rattle.writing.specs.declared.Put.{Put}
-use Rattle.writing.specs.declared.Put.the-variants.{At, Wrong}
+use Rattle.output.specs.declared.Put.{Put}
+use Rattle.output.specs.declared.Put.the-variants.{At, Wrong}
 use Rattle.writing.proofs.PassLaws.{pass-within, pass-wrong, pass-short}
 use Rattle.output.proofs.PutLaws.{put-none, put-more}
 use Rattle.block.specs.Records.{startRecords, restartedMain, baseOf, isRestarted, setOf, putSet}

@@ -10,8 +10,8 @@ use Rattle.stream.specs.declared.BlockLength.{BlockLength}
 use Rattle.stream.specs.declared.BlockLength.the-variants.{Length}
 use Rattle.stream.specs.declared.Parsed.{Parsed}
 use Rattle.writing.specs.Puts.{putIf}
-use Rattle.writing.specs.declared.Put.{Put}
-use Rattle.writing.specs.declared.Put.the-variants.{At, Wrong}
+use Rattle.output.specs.declared.Put.{Put}
+use Rattle.output.specs.declared.Put.the-variants.{At, Wrong}
 use Rattle.block.specs.Lent.{Outputs, scratchOf}
 use Rattle.block.specs.WrittenAnswers.{writtenOut, LeftLossy, MeasuredWith}
 use Rattle.block.specs.WrittenBlocks.{WriteState, repeats, writePassAt, writeLines, writtenBlock}

@@ -12,7 +12,7 @@ use Rattle.quantiser.specs.Quantisers.{largest}
 use Rattle.steps.specs.Steps.{planOf, passSteps}
 use Rattle.steps.specs.declared.Plan.{Plan}
 use Rattle.map.specs.Places.{widthOf}
-use Rattle.writing.specs.Sets.{setSize}
+use Rattle.lines.specs.Sets.{setSize}
 use Rattle.writing.specs.Writings.{Writing, writePass}
 use Rattle.writing.specs.Puts.{Wanted}
 use Rattle.block.specs.Records.{baseOf, setOf, putSet}

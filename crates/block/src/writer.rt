@@ -9,7 +9,7 @@ ghost use Rattle.lines.specs.ColourLines.{zeroLines};
 ghost use Rattle.map.specs.Places.{widthOf};
 ghost use Rattle.steps.specs.Values.{quantisersOf, Depth};
 ghost use Rattle.quantiser.specs.Quantisers.{largest};
-ghost use Rattle.writing.specs.Sets.{lineSize, setSize};
+ghost use Rattle.lines.specs.Sets.{lineSize, setSize};
 ghost use Rattle.writing.specs.Puts.{Room, Within};
 ghost use Rattle.block.specs.Records.{clearRecords};
 ghost use Rattle.block.specs.Walks.{AllInRange};
@@ -34,12 +34,12 @@ use begin::first_above;
 use bits::BitPosition;
 use cameras::base_of;
 use map::width;
+use output::Put;
 use statistics::Record;
 use steps::Quantisers;
 use stream::BlockLength;
 use stream::Parsed;
 use stream::Refusal;
-use writing::Put;
 
 // A lossless block has no bases, and its set is held to the predictions of interpolated samples.
 fn is_strict(bases: &[u8]) -> bool

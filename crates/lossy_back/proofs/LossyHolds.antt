@@ -14,7 +14,7 @@ use Rattle.pass.specs.Readings.{andThen}
 use Rattle.read_back.specs.UsedBases.{IsNear}
 use Rattle.read_back.proofs.ListBack.{base-le}
 use Rattle.map.specs.Places.{widthOf}
-use Rattle.writing.specs.Sets.{lineSize, setSize, lineOfRank, indexIn, lineAt, colourLineAt, positionAt}
+use Rattle.lines.specs.Sets.{lineSize, setSize, lineOfRank, indexIn, lineAt, colourLineAt, positionAt}
 use Rattle.writing.proofs.SetLaws.{passes-lines, line-lt, rank-lt, position-lt, index-at}
 use Rattle.stream.specs.declared.BlockLength.the-variants.{Length}
 use Rattle.stream.specs.declared.FujiHeader.{FujiHeader}

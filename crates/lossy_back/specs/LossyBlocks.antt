@@ -12,7 +12,7 @@ use Rattle.steps.specs.Steps.{planOf, passSteps, isInterpolated}
 use Rattle.pass.specs.Readings.{andThen}
 use Rattle.read_back.specs.UsedBases.{baseInSteps, IsNear}
 use Rattle.map.specs.Places.{widthOf}
-use Rattle.writing.specs.Sets.{setSize, lineAt, colourLineAt, positionAt}
+use Rattle.lines.specs.Sets.{setSize, lineAt, colourLineAt, positionAt}
 use Rattle.stream.specs.Headers.{parseOf}
 use Rattle.stream.specs.Refusals.{noRefusal}
 use Rattle.stream.specs.declared.BlockLength.{BlockLength}

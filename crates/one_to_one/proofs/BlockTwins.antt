@@ -9,7 +9,7 @@ use lib.ListN.{getD, length-replicate}
 use Rattle.quantiser.specs.Quantisers.{largest}
 use Rattle.pass.specs.Readings.{andThen}
 use Rattle.map.specs.Places.{widthOf}
-use Rattle.writing.specs.Sets.{indexIn}
+use Rattle.lines.specs.Sets.{indexIn}
 use Rattle.steps.specs.Values.{Depth}
 use Rattle.steps.specs.Steps.{planOf}
 use Rattle.read_back.proofs.PassBack.{place-exact}

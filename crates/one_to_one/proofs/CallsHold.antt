@@ -20,7 +20,7 @@ use Rattle.stream.specs.declared.Refusal.the-variants.{ShortScratch}
 use Rattle.stream.specs.declared.Parsed.the-variants as Parsing
 use Rattle.stream.proofs.RefusalLaws.{number-low}
 use Rattle.begin.specs.Beginnings.{samplesNeeded, recordsNeeded, withScratch, writingBegins}
-use Rattle.writing.specs.Sets.{setSize}
+use Rattle.lines.specs.Sets.{setSize}
 use Rattle.block.specs.Images.{formOf}
 use Rattle.block.specs.Lent.{Outputs}
 use Rattle.block.specs.WrittenAnswers.{LeftWritten, SetWriting, writtenOut}

@@ -15,7 +15,7 @@ use Rattle.steps.specs.Values.{Depth}
 use Rattle.map.specs.Places.{widthOf}
 use Rattle.stream.proofs.HeaderLaws.{ruled}
 use Rattle.stream.proofs.StreamLaws.{row-lossless}
-use Rattle.writing.specs.Sets.{lineSize, setSize, lineAt, positionAt}
+use Rattle.lines.specs.Sets.{lineSize, setSize, lineAt, positionAt}
 use Rattle.writing.proofs.LosslessLaws.{Lossless, lossless}
 use Rattle.writing.proofs.TurnPuts.{coded-wanted}
 use Rattle.writing.proofs.SetLaws.{line-lt, rank-lt, position-lt, index-at}

@@ -23,7 +23,7 @@ use Rattle.stream.specs.declared.Refusal.{Refusal}
 use Rattle.stream.specs.declared.Refusal.the-variants.{ShortHeader, BadHeader, Lossy, WrongCount, ShortScratch, AboveLargest, NotPredicted, ShortOutput}
 use Rattle.begin.specs.Beginnings.{isShortScratch, withParsed, writingBegins}
 use Rattle.begin.proofs.CallLaws.{writing-goes}
-use Rattle.writing.specs.Sets.{setSize}
+use Rattle.lines.specs.Sets.{setSize}
 use Rattle.block.specs.Images.{formOf}
 use Rattle.block.specs.WrittenAnswers.{predictedAnswer, rangeAnswer, measuredAnswer, aboveIn, setAnswer, writtenAnswer, exactAnswer, LeftWritten, LeftMeasured}
 use Rattle.block.specs.WrittenBlocks.{writeLines, tightBlock}

@@ -14,7 +14,7 @@ use Rattle.steps.specs.Steps.{planOf}
 use Rattle.steps.specs.Values.{Depth}
 use Rattle.lines.proofs.LineLaws.{length-turned}
 use Rattle.map.specs.Places.{widthOf}
-use Rattle.writing.specs.Sets.{lineOfRank}
+use Rattle.lines.specs.Sets.{lineOfRank}
 use Rattle.read_back.proofs.PassBack.{Holds, place-same}
 use Rattle.writing.proofs.LosslessLaws.{Lossless}
 use Rattle.block.specs.Blocks.{State, runs, passAt, endLine, readLine, beforeLine, readLineAt}

@@ -15,7 +15,7 @@ use Rattle.lines.specs.ColourLines.{zeroLines, guarded, turned}
 use Rattle.lines.proofs.LineLaws.{length-turned}
 use Rattle.lines.proofs.MoveLaws.{turned-at}
 use Rattle.map.specs.Places.{widthOf}
-use Rattle.writing.specs.Sets.{indexIn}
+use Rattle.lines.specs.Sets.{indexIn}
 use Rattle.quantiser.specs.Quantisers.{largest}
 use Rattle.writing.specs.Puts.{Within}
 use Rattle.writing.specs.Writings.{writePass}

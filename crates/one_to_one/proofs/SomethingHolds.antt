@@ -17,7 +17,7 @@ use Rattle.stream.proofs.HeaderLaws.{ruled}
 use Rattle.region.specs.Regions.{Accepted, firstBlock, lastBlock, lineCount}
 use Rattle.region.specs.declared.Rect.{Rect}
 use Rattle.region.proofs.RegionLaws.{block-inside, block-order, lines-inside}
-use Rattle.writing.specs.Sets.{setSize}
+use Rattle.lines.specs.Sets.{setSize}
 use Rattle.block.specs.Blocks.{State, readLineAt, startState, readLines}
 use Rattle.begin.specs.declared.Beginning.the-variants.{Reading}
 use Rattle.begin.proofs.CallLaws.{region-reads}

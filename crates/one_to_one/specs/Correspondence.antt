@@ -12,7 +12,7 @@ use Rattle.stream.specs.Streams.{openOf}
 use Rattle.stream.specs.declared.BlockLength.the-variants.{Length}
 use Rattle.stream.specs.declared.FujiHeader.{FujiHeader}
 use Rattle.stream.specs.declared.Parsed.the-variants.{Header}
-use Rattle.writing.specs.Sets.{setSize, lineOfRank, indexIn}
+use Rattle.lines.specs.Sets.{setSize, lineOfRank, indexIn}
 use Rattle.block.specs.Blocks.{readLines, linesOf}
 use Rattle.block.specs.Images.{formOf, basesIn}
 use Rattle.block.specs.TightBlocks.{Tight, setRead, tightAnswer}

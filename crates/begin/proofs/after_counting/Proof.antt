@@ -3,7 +3,7 @@ use borrow.Author.Needs.{needs}
 use mathlib.Core.Bool.{Bool}
 use mathlib.Core.Path.{_≡_, _∙_}
 use Prim.Native.Nat.{ℕ}
-use Rattle.writing.specs.declared.Put.{Put}
+use Rattle.output.specs.declared.Put.{Put}
 use Rattle.begin.specs.Counted.{nextOf}
 use Rattle.begin.proofs.after_counting.Statement.{statement}
 use Rattle.begin.proofs.after_counting.Tie as tie

@@ -10,7 +10,7 @@ use lib.ListN.{length}
 use Rattle.map.specs.Places.{widthOf}
 use Rattle.stream.specs.declared.BlockLength.{BlockLength}
 use Rattle.stream.specs.declared.FujiHeader.{FujiHeader}
-use Rattle.writing.specs.Sets.{setSize}
+use Rattle.lines.specs.Sets.{setSize}
 use Rattle.block.specs.Images.{formOf}
 use Rattle.block.specs.Lent.{Outputs}
 use Rattle.block.specs.WrittenAnswers.{setAnswer}

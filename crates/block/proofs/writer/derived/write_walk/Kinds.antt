@@ -2,8 +2,8 @@
 use Rattle.block.proofs.Element
 use Rattle.block.proofs.Form
 use Rattle.block.proofs.Form.Laws
-use Rattle.writing.proofs.Put
-use Rattle.writing.proofs.Put.Laws as Laws'
+use Rattle.output.proofs.Put
+use Rattle.output.proofs.Put.Laws as Laws'
 use borrow.Fn.Kinds
 use borrow.Kind.MutSlice
 use borrow.Kind.ShrSlice

@@ -13,8 +13,8 @@ use Rattle.steps.proofs.Set
 use Rattle.steps.proofs.Set.Laws as Laws'4
 use Rattle.writing.proofs.PassPut
 use Rattle.writing.proofs.PassPut.Laws as Laws'5
-use Rattle.writing.proofs.Put
-use Rattle.writing.proofs.Put.Laws as Laws'6
+use Rattle.output.proofs.Put
+use Rattle.output.proofs.Put.Laws as Laws'6
 use borrow.Author.Called
 use borrow.Author.Tests
 use borrow.Enum.Make

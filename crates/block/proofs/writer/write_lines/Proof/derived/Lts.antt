@@ -7,8 +7,8 @@ use Rattle.block.proofs.Form
 use Rattle.block.proofs.Form.Laws as Laws'
 use Rattle.steps.proofs.Quantisers
 use Rattle.steps.proofs.Quantisers.Laws as Laws''
-use Rattle.writing.proofs.Put
-use Rattle.writing.proofs.Put.Laws as Laws'3
+use Rattle.output.proofs.Put
+use Rattle.output.proofs.Put.Laws as Laws'3
 use borrow.Author.Called
 use borrow.Author.Tests
 use borrow.Enum.Known

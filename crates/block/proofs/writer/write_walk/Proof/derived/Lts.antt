@@ -3,8 +3,8 @@ use Rattle.block.proofs.Element
 use Prim.Native.Nat
 use Rattle.block.proofs.Form
 use Rattle.block.proofs.Form.Laws
-use Rattle.writing.proofs.Put
-use Rattle.writing.proofs.Put.Laws as Laws'
+use Rattle.output.proofs.Put
+use Rattle.output.proofs.Put.Laws as Laws'
 use borrow.Author.Called
 use borrow.Fn.Any
 use borrow.Fn.Call
