@@ -65,9 +65,14 @@ class Crate:
         for f in self.kinds:
             if f not in self.item:
                 sys.exit(f"tools/lend.txt: {self.name} has no function {f}")
-        self.lower = crates[self.home].load(crates) if self.record and self.home else None
+        self.lower = self.called(crates) if self.record and self.home else {}
         self.far = self.lent() if self.lower else self.methods() if self.home else {}
         return self
+
+    def called(self, crates):
+        """The functions over slices of S of other crates that are called, each with its crate."""
+        used = sorted(set(re.findall(r"^use (\w+)::(\w+);", "".join(self.files.values()), flags=re.M)))
+        return {f: crates[x].load(crates) for x, f in used if x in crates and f in crates[x].kinds}
 
     def of(self, kind):
         return [f for f in self.kinds if self.kinds[f] == kind]
@@ -100,15 +105,14 @@ class Crate:
         sys.exit(f"tools/lend.txt: {f} of {self.name} needs a value of {r}")
 
     def lent(self):
-        """The functions over slices of S of the crate below that are called: in the twin they are in a module, `lent`."""
-        used = set(re.findall(r"^use " + self.home + r"::(\w+);", "".join(self.files.values()), flags=re.M))
-        heads = {f: self.lower.item[f]["head"] for f in self.lower.kinds if f in used}
-        self.module.update({f: "lent" for f in heads})
+        """These in the twin, where they are in a module, `lent`."""
+        self.module.update({f: "lent" for f in self.lower})
+        heads = {f: c.item[f]["head"] for f, c in self.lower.items()}
         return {f: function(head, self.dummy(f, head)) for f, head in heads.items()}
 
-    def there(self, f, sep):
-        """The place of a function of `far` in the crate that has it."""
-        return self.lower.below(f, sep) if self.lower else self.pump + sep + f
+    def there(self, f):
+        """The crate that has a function of `far`, and the function's place in it."""
+        return (self.lower[f].name, self.lower[f].below(f, "::")) if f in self.lower else (self.home, self.pump + "::" + f)
 
     def methods(self):
         """The methods of P that are called, as functions of the twin: P is the array there, and has none."""
@@ -145,11 +149,13 @@ def twin_small(c, real):
     return with_modules(c, files)
 
 def lent_module(c):
-    """The functions of the crate below, with what their modules use for their heads."""
-    text, modules = "".join(c.far.values()), {c.lower.module[f] for f in c.far}
-    uses = {u for m in modules for u in re.findall(r"^use [^\n]*\n", c.lower.files[m], flags=re.M)}
+    """The functions of the crates below, with what their modules use for their heads."""
+    text, uses = "".join(c.far.values()), set()
+    for f, low in c.lower.items():
+        own = re.findall(r"^use [^\n]*\n", low.files[low.module[f]], flags=re.M)
+        uses |= {re.sub(r"crate::(?:\w+::)?", low.name + "::", u) for u in own}
     kept = [u for u in sorted(uses) if re.search(r"\b" + re.search(r"(\w+);", u)[1] + r"\b(?!\()", text)]
-    return "".join(kept).replace("use crate::", f"use {c.home}::") + text
+    return "".join(kept) + text
 
 def kept_use(c, line, there):
     name = re.search(r"(\w+);", line)[1]
@@ -189,7 +195,7 @@ def twin_carry(c):
                 text = re.sub(r"\bp\." + f + r"\(", f + "(p, ", text)
             text = re.sub(c.pump + r"<('\w+)>", r"[&\1 [u8]; 1]", text)
         if c.lower:
-            text = re.sub(r"^use " + c.home + "::(" + "|".join(c.far) + ");", r"use crate::lent::\1;", text, flags=re.M) + ("" if module else "mod lent;\n")
+            text = re.sub(r"^use \w+::(" + "|".join(c.far) + ");", r"use crate::lent::\1;", text, flags=re.M) + ("" if module else "mod lent;\n")
         if c.record:
             text = re.sub(r"(&(?:'\w+ )?(?:mut )?)\[" + c.record + r"\]", r"\1[" + ARR + "]", text)
         files[module] = trivial(text)
@@ -288,14 +294,16 @@ def moved(c, text):
     for x, y in patterns(c, text):
         text = re.sub(x, y, text)
     for f in [g for g in c.kinds if c.kinds[g] != "own"] + list(c.far):
-        cited = f"Rattle.{c.home}.proofs." + c.lower.cited(f, ".") if c.lower and f in c.far else f"{P}." + c.cited(f, ".")
+        low = c.lower.get(f)
+        cited = f"Rattle.{low.name}.proofs." + low.cited(f, ".") if low else f"{P}." + c.cited(f, ".")
         text = re.sub(re.escape(c.path(f)) + r"\.(Kinds|Reads)\b", cited + r".\1", text)
     for f in c.far:                                            # the name that it has where it is, for the one that it has in the twin
-        there, calls = f"Rattle.{c.home}.proofs." + c.there(f, "."), lambda crate, place: f"calls-{crate}·{place}".replace("_", "-")
+        home, place = c.there(f)
+        there, calls = f"Rattle.{home}.proofs." + place.replace("::", "."), lambda crate, p: f"calls-{crate}·{p}".replace("_", "-")
         text = re.sub(r"^use " + re.escape(c.path(f)) + r"$", f"use {there} as {f}", text, flags=re.M)
         text = re.sub(re.escape(c.path(f) + ".") + r"(Met|Symbol)\b", there + r".\1", text)
-        text = text.replace(f'"{c.name}::{c.below(f, "::")}"', f'"{c.home}::{c.there(f, "::")}"')
-        text = re.sub(r"\b" + calls(c.name, c.below(f, "·")) + r"(?![\w-])", calls(c.home, c.there(f, "·")), text)
+        text = text.replace(f'"{c.name}::{c.below(f, "::")}"', f'"{home}::{place}"')
+        text = re.sub(r"\b" + calls(c.name, c.below(f, "·")) + r"(?![\w-])", calls(home, place.replace("::", "·")), text)
     for f in c.kinds:
         text = re.sub(re.escape(c.path(f)) + r"\.(Lts|Tie)(?![\w-])", c.path(f) + r".Proof.derived.\1", text)
     lines = [l for l in text.split("\n") if not l.startswith("-- the `use` lines") and "antt refused" not in l]

@@ -1,4 +1,4 @@
-// Blocks: read, decoded, read tightly, and written. The types of the answers are here, the functions in a module for each role.
+// Blocks: read, decoded, and read tightly. The types of the answers are here, the functions in a module for each role.
 ghost use mathlib.Core.Path.{_≡_};
 ghost use Rattle.block.specs.Images.{formOf};
 ghost use Rattle.block.specs.Words.{answerWords};
@@ -12,10 +12,9 @@ use totals::Totals;
 pub mod checkpoints;
 pub mod decoding;
 mod reading;
-mod records;
+pub mod records;
 pub mod sharing;
 pub mod tight;
-pub mod writer;
 
 pub use checkpoints::resume_region;
 pub use checkpoints::store_checkpoint;
@@ -23,15 +22,20 @@ pub use decoding::decode;
 pub use decoding::decode_region;
 pub use decoding::decode_region_alone;
 pub use decoding::decode_region_windowed;
+pub use reading::is_restarted;
+pub use reading::quantisers_of;
 pub use reading::walk_alone;
+pub use records::clear_records;
+pub use records::load_set;
+pub use records::restart;
 pub use records::start_record;
+pub use records::start_records;
+pub use records::store_set;
 pub use sharing::decode_region_shared;
+pub use tight::line_count;
 pub use tight::read_block;
 pub use tight::read_tight;
 pub use tight::tight_answer;
-pub use writer::measure_block;
-pub use writer::write_block;
-pub use writer::write_lossy;
 
 pub struct Form {
     pub bits: u32,
@@ -69,7 +73,7 @@ pub struct Counted {
     pub totals: Totals,
 }
 
-pub(crate) fn form_of(h: FujiHeader) -> Form
+pub fn form_of(h: FujiHeader) -> Form
     ensures { λ r. ⌜ r ≡ formOf h ⌝ }
 {
     Form {

@@ -1,9 +1,9 @@
 // Writing a block, without loss and with it, and measuring what would be written.
 ghost use Rattle.block.specs.Lent.{Scratch, Outputs};
-ghost use Rattle.block.specs.Words.{ToldWritten, ToldLossy, ToldMeasured};
-use block::measure_block;
-use block::write_block;
-use block::write_lossy;
+ghost use Rattle.block_writer.specs.Words.{ToldWritten, ToldLossy, ToldMeasured};
+use block_writer::measure_block;
+use block_writer::write_block;
+use block_writer::write_lossy;
 use statistics::Record;
 
 // `write_block` for C.

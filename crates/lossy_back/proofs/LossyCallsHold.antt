@@ -27,9 +27,9 @@ use Rattle.begin.specs.Beginnings.{isShortScratch, withLossy, lossyBegins}
 use Rattle.begin.proofs.CallLaws.{lossy-goes}
 use Rattle.block.specs.Images.{formOf}
 use Rattle.block.specs.Lent.{Outputs}
-use Rattle.block.specs.Words.{ToldLossy}
-use Rattle.block.specs.WrittenAnswers.{lengthAnswer, predictedAnswer, rangeAnswer, measuredAnswer, aboveIn, setAnswer, writtenOut, SetWriting, LeftLossy}
-use Rattle.block.specs.WrittenBlocks.{writeLines, writtenBlock}
+use Rattle.block_writer.specs.Words.{ToldLossy}
+use Rattle.block_writer.specs.WrittenAnswers.{lengthAnswer, predictedAnswer, rangeAnswer, measuredAnswer, aboveIn, setAnswer, writtenOut, SetWriting, LeftLossy}
+use Rattle.block_writer.specs.WrittenBlocks.{writeLines, writtenBlock}
 use Rattle.block.specs.declared.Form.{Form}
 use Rattle.lossy_back.specs.LossyBlocks.{lossyOf, LossyWritten, LossyCalls}
 use Rattle.lossy_back.proofs.NeverWrong.{not-strict, never-wrong}

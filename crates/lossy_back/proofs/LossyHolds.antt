@@ -22,10 +22,10 @@ use Rattle.stream.proofs.HeaderLaws.{ruled}
 use Rattle.block.specs.Records.{baseOf}
 use Rattle.block.specs.Blocks.{readLines, linesOf}
 use Rattle.block.specs.Images.{formOf}
-use Rattle.block.specs.WrittenAnswers.{aboveIn, measuredAnswer, setAnswer}
-use Rattle.block.specs.WrittenBlocks.{writeLines, writtenBlock}
+use Rattle.block_writer.specs.WrittenAnswers.{aboveIn, measuredAnswer, setAnswer}
+use Rattle.block_writer.specs.WrittenBlocks.{writeLines, writtenBlock}
 use Rattle.block.specs.declared.Form.{Form}
-use Rattle.block.proofs.AnswerLaws.{none-wanted}
+use Rattle.block_writer.proofs.AnswerLaws.{none-wanted}
 use Rattle.block.proofs.LineLaws.{width-in-range}
 use Rattle.one_to_one.proofs.BlockTwins.{Shown}
 use Rattle.one_to_one.proofs.WrittenBack.{ReadWhole, read-whole}

@@ -27,9 +27,9 @@ use Rattle.block.specs.Blocks.{State, enter, runs, passAt, beforeLine, readLine
 use Rattle.block.specs.Images.{formOf}
 use Rattle.block.specs.Lent.{Outputs}
 use Rattle.block.specs.TightBlocks.{readSample}
-use Rattle.block.specs.Words.{ToldLossy}
-use Rattle.block.specs.WrittenAnswers.{aboveIn, setAnswer, LeftLossy}
-use Rattle.block.specs.WrittenBlocks.{writtenBlock}
+use Rattle.block_writer.specs.Words.{ToldLossy}
+use Rattle.block_writer.specs.WrittenAnswers.{aboveIn, setAnswer, LeftLossy}
+use Rattle.block_writer.specs.WrittenBlocks.{writtenBlock}
 use Rattle.block.specs.declared.Form.{Form}
 
 -- ---- the base by which a sample was coded

@@ -22,7 +22,7 @@ use Rattle.writing.proofs.SetLaws.{line-lt, rank-lt, position-lt, index-at}
 use Rattle.block.specs.Blocks.{State}
 use Rattle.block.specs.Images.{formOf}
 use Rattle.block.specs.TightBlocks.{Tight, setRead}
-use Rattle.block.specs.WrittenBlocks.{WriteState, writeLines, writtenBlock, tightBlock, SetWanted, FitSet}
+use Rattle.block_writer.specs.WrittenBlocks.{WriteState, writeLines, writtenBlock, tightBlock, SetWanted, FitSet}
 use Rattle.block.specs.declared.Form.{Form}
 use Rattle.block.proofs.LineLaws.{width-in-range}
 use Rattle.one_to_one.specs.Correspondence.{Bytes, TightBlockOf, Correspondence, CorrespondenceOfHeaders, NoBases}

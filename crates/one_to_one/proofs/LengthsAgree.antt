@@ -25,8 +25,8 @@ use Rattle.begin.specs.Beginnings.{isShortScratch, withParsed, writingBegins}
 use Rattle.begin.proofs.CallLaws.{writing-goes}
 use Rattle.lines.specs.Sets.{setSize}
 use Rattle.block.specs.Images.{formOf}
-use Rattle.block.specs.WrittenAnswers.{predictedAnswer, rangeAnswer, measuredAnswer, aboveIn, setAnswer, writtenAnswer, exactAnswer, LeftWritten, LeftMeasured}
-use Rattle.block.specs.WrittenBlocks.{writeLines, tightBlock}
+use Rattle.block_writer.specs.WrittenAnswers.{predictedAnswer, rangeAnswer, measuredAnswer, aboveIn, setAnswer, writtenAnswer, exactAnswer, LeftWritten, LeftMeasured}
+use Rattle.block_writer.specs.WrittenBlocks.{writeLines, tightBlock}
 use Rattle.block.specs.declared.Form.{Form}
 use Rattle.one_to_one.specs.Lengths.{Agrees, AgreementOfCalls, MeasuredWithinBound}
 use Rattle.one_to_one.proofs.BoundHolds.{bounds}

@@ -24,13 +24,13 @@ use Rattle.begin.proofs.CallLaws.{region-reads}
 use Rattle.block.specs.Images.{formOf, bytesIn, linesRead, readIn, answerOf, Decoding, Left}
 use Rattle.block.specs.Lent.{Buffers}
 use Rattle.block.specs.TightBlocks.{Tight}
-use Rattle.block.specs.WrittenBlocks.{writeLines, writtenBlock, tightBlock}
+use Rattle.block_writer.specs.WrittenBlocks.{writeLines, writtenBlock, tightBlock}
 use Rattle.block.specs.declared.Decoded.{Decoded}
 use Rattle.block.specs.declared.Decoded.the-variants.{Done}
 use Rattle.block.specs.declared.Form.{Form}
 use Rattle.block.proofs.DecodeLaws.{all-read}
 use Rattle.block.proofs.RunLaws.{runs-stay}
-use Rattle.block.proofs.WalkLaws.{lines-short}
+use Rattle.block_writer.proofs.WalkLaws.{lines-short}
 use Rattle.one_to_one.specs.Correspondence.{Bytes}
 use Rattle.one_to_one.specs.AcceptedStreams.{regionOf, SomethingAccepted}
 use Rattle.one_to_one.proofs.CorrespondenceHolds.{correspondence-of-headers, no-bases}

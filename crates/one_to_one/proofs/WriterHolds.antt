@@ -8,10 +8,10 @@ use Rattle.lines.specs.Sets.{setSize}
 use Rattle.stream.specs.declared.BlockLength.{BlockLength}
 use Rattle.stream.specs.declared.BlockLength.the-variants.{Length}
 use Rattle.block.specs.Images.{formOf}
-use Rattle.block.specs.WrittenBlocks.{tightBlock, FitSet}
-use Rattle.block.specs.WrittenAnswers.{writtenAnswer, writtenOut}
+use Rattle.block_writer.specs.WrittenBlocks.{tightBlock, FitSet}
+use Rattle.block_writer.specs.WrittenAnswers.{writtenAnswer, writtenOut}
 use Rattle.block.specs.declared.Form.{Form}
-use Rattle.block.proofs.AnswerLaws.{written-fits, fits-written}
+use Rattle.block_writer.proofs.AnswerLaws.{written-fits, fits-written}
 use Rattle.one_to_one.specs.Correspondence.{Correspondence, TightBlockOf, WrittenWhole, CorrespondenceOfWriters}
 use Rattle.one_to_one.proofs.CorrespondenceHolds.{correspondence-of-headers}
 use Rattle.one_to_one.proofs.PredictedBlocks.{fits-is}

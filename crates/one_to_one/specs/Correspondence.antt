@@ -16,8 +16,8 @@ use Rattle.lines.specs.Sets.{setSize, lineOfRank, indexIn}
 use Rattle.block.specs.Blocks.{readLines, linesOf}
 use Rattle.block.specs.Images.{formOf, basesIn}
 use Rattle.block.specs.TightBlocks.{Tight, setRead, tightAnswer}
-use Rattle.block.specs.WrittenBlocks.{tightBlock}
-use Rattle.block.specs.WrittenAnswers.{writtenAnswer, writtenOut}
+use Rattle.block_writer.specs.WrittenBlocks.{tightBlock}
+use Rattle.block_writer.specs.WrittenAnswers.{writtenAnswer, writtenOut}
 use Rattle.block.specs.declared.Decoded.the-variants.{Done}
 use Rattle.block.specs.declared.Form.{Form}
 use Rattle.one_to_one.specs.PredictedSets.{PredictedSet}
