@@ -1,5 +1,5 @@
--- Written by tools/lend.py from Rattle's derivation of the twin of `block`; not edited by hand. Assumes nothing.
+-- Written by tools/lend.py from Rattle's derivation of the twin of `block_writer`; not edited by hand. Assumes nothing.
 use Rattle.block.proofs.Element
 use Rattle.stream.proofs.BlockLength
 use Rattle.stream.proofs.BlockLength.Laws
 use Rattle.stream.proofs.Parsed

@@ -1,6 +1,6 @@
--- Written by tools/lend.py from Rattle's derivation of the twin of `block`; not edited by hand. Assumes nothing.
-use Rattle.block.proofs.writer.write_in
-use Rattle.block.proofs.writer.derived.write_in.Kinds
+-- Written by tools/lend.py from Rattle's derivation of the twin of `block_writer`; not edited by hand. Assumes nothing.
+use Rattle.block_writer.proofs.write_in
+use Rattle.block_writer.proofs.derived.write_in.Kinds
 use base.Logic
 use borrow.Fn.Kinds as Kinds'
 use borrow.Fn.Learn

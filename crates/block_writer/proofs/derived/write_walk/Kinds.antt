@@ -1,7 +1,7 @@
--- Written by tools/lend.py from Rattle's derivation of the twin of `block`; not edited by hand. Assumes nothing.
+-- Written by tools/lend.py from Rattle's derivation of the twin of `block_writer`; not edited by hand. Assumes nothing.
 use Rattle.block.proofs.Element
 use Rattle.block.proofs.Form
 use Rattle.block.proofs.Form.Laws
 use Rattle.output.proofs.Put
 use Rattle.output.proofs.Put.Laws as Laws'
 use borrow.Fn.Kinds

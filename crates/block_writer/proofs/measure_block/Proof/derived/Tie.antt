@@ -1,16 +1,16 @@
--- Written by tools/lend.py from Rattle's derivation of the twin of `block`; not edited by hand. Assumes nothing.
+-- Written by tools/lend.py from Rattle's derivation of the twin of `block_writer`; not edited by hand. Assumes nothing.
 use Rattle.begin.proofs.writing_begins.Met
 use Rattle.begin.proofs.writing_begins.Reads
 use Rattle.begin.proofs.writing_begins.Symbol
-use Rattle.block.proofs.writer.measure_block.Code
-use Rattle.block.proofs.writer.measure_block.Key
-use Rattle.block.proofs.writer.derived.measure_block.Kinds
-use Rattle.block.proofs.writer.measure_block.Proof.derived.Lts
-use Rattle.block.proofs.writer.derived.measure_block.Reads as Reads'
-use Rattle.block.proofs.writer.measure_block.Statement
-use Rattle.block.proofs.writer.write_in.Met as Met'
-use Rattle.block.proofs.writer.derived.write_in.Reads as Reads''
-use Rattle.block.proofs.writer.write_in.Symbol as Symbol'
+use Rattle.block_writer.proofs.measure_block.Code
+use Rattle.block_writer.proofs.measure_block.Key
+use Rattle.block_writer.proofs.derived.measure_block.Kinds
+use Rattle.block_writer.proofs.measure_block.Proof.derived.Lts
+use Rattle.block_writer.proofs.derived.measure_block.Reads as Reads'
+use Rattle.block_writer.proofs.measure_block.Statement
+use Rattle.block_writer.proofs.write_in.Met as Met'
+use Rattle.block_writer.proofs.derived.write_in.Reads as Reads''
+use Rattle.block_writer.proofs.write_in.Symbol as Symbol'
 use borrow.Fn.Run
 use borrow.Fn.Written
 use contract.Running
@@ -97,4 +97,4 @@ module _ {M : Type 1} where
       { M = M; 𝓤 = 𝓤; H = H; 𝓜 = 𝓜; 𝓖 = 𝓖; 𝓡 = 𝓡 } Code.env Key.name Code.function (Code.unfolded 𝓤 H 𝓜 𝓡) (λ κs a g. tt) (λ κs. Reads'.owns κs record { M = M; 𝓤 = 𝓤; H = H; 𝓜 = 𝓜; 𝓖 = 𝓖; 𝓡 = 𝓡 })
       (Reads'.passes record { M = M; 𝓤 = 𝓤; H = H; 𝓜 = 𝓜; 𝓖 = 𝓖; 𝓡 = 𝓡 }) λ g. closed 𝓤 H (𝓖 .A) (Running.givenOf 𝓤 H 𝓜 𝓖) (Run.Over 𝓤 H 𝓜 𝓖 𝓡 Code.env) (Reads.known record
       { M = M; 𝓤 = 𝓤; H = H; 𝓜 = 𝓜; 𝓖 = 𝓖; 𝓡 = 𝓡 } Code.env Symbol.name Symbol.routine Code.calls-begin·writing-begins (Met.met 𝓤 H 𝓜 𝓖 𝓡)) (Reads''.known record
-      { M = M; 𝓤 = 𝓤; H = H; 𝓜 = 𝓜; 𝓖 = 𝓖; 𝓡 = 𝓡 } Code.env Symbol'.name Symbol'.routine Code.calls-block·writer·write-in (Met'.met 𝓤 H 𝓜 𝓖 𝓡))
+      { M = M; 𝓤 = 𝓤; H = H; 𝓜 = 𝓜; 𝓖 = 𝓖; 𝓡 = 𝓡 } Code.env Symbol'.name Symbol'.routine Code.calls-block-writer·write-in (Met'.met 𝓤 H 𝓜 𝓖 𝓡))

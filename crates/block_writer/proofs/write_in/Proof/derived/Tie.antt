@@ -1,22 +1,22 @@
--- Written by tools/lend.py from Rattle's derivation of the twin of `block`; not edited by hand. Assumes nothing.
+-- Written by tools/lend.py from Rattle's derivation of the twin of `block_writer`; not edited by hand. Assumes nothing.
 use Rattle.begin.proofs.samples_needed.Met
 use Rattle.begin.proofs.samples_needed.Reads
 use Rattle.begin.proofs.samples_needed.Symbol
 use Rattle.block.proofs.form_of.Met as Met'
 use Rattle.block.proofs.form_of.Reads as Reads'
 use Rattle.block.proofs.form_of.Symbol as Symbol'
-use Rattle.block.proofs.tight.line_count.Met as Met''
-use Rattle.block.proofs.tight.line_count.Reads as Reads''
-use Rattle.block.proofs.tight.line_count.Symbol as Symbol''
-use Rattle.block.proofs.writer.write_in.Code
-use Rattle.block.proofs.writer.write_in.Key
-use Rattle.block.proofs.writer.derived.write_in.Kinds
-use Rattle.block.proofs.writer.write_in.Proof.derived.Lts
-use Rattle.block.proofs.writer.derived.write_in.Reads as Reads'3
-use Rattle.block.proofs.writer.write_in.Statement
-use Rattle.block.proofs.writer.write_set.Met as Met'3
-use Rattle.block.proofs.writer.derived.write_set.Reads as Reads'4
-use Rattle.block.proofs.writer.write_set.Symbol as Symbol'3
+use Rattle.block.proofs.line_count.Met as Met''
+use Rattle.block.proofs.line_count.Reads as Reads''
+use Rattle.block.proofs.line_count.Symbol as Symbol''
+use Rattle.block_writer.proofs.write_in.Code
+use Rattle.block_writer.proofs.write_in.Key
+use Rattle.block_writer.proofs.derived.write_in.Kinds
+use Rattle.block_writer.proofs.write_in.Proof.derived.Lts
+use Rattle.block_writer.proofs.derived.write_in.Reads as Reads'3
+use Rattle.block_writer.proofs.write_in.Statement
+use Rattle.block_writer.proofs.write_set.Met as Met'3
+use Rattle.block_writer.proofs.derived.write_set.Reads as Reads'4
+use Rattle.block_writer.proofs.write_set.Symbol as Symbol'3
 use borrow.Fn.Run
 use borrow.Fn.Written
 use contract.Running
@@ -162,5 +162,5 @@ module _ {M : Type 1} where
       (Reads'3.passes record { M = M; 𝓤 = 𝓤; H = H; 𝓜 = 𝓜; 𝓖 = 𝓖; 𝓡 = 𝓡 }) λ g. closed 𝓤 H (𝓖 .A) (Running.givenOf 𝓤 H 𝓜 𝓖) (Run.Over 𝓤 H 𝓜 𝓖 𝓡 Code.env) (Reads.known record
       { M = M; 𝓤 = 𝓤; H = H; 𝓜 = 𝓜; 𝓖 = 𝓖; 𝓡 = 𝓡 } Code.env Symbol.name Symbol.routine Code.calls-begin·samples-needed (Met.met 𝓤 H 𝓜 𝓖 𝓡)) (Reads'.known record
       { M = M; 𝓤 = 𝓤; H = H; 𝓜 = 𝓜; 𝓖 = 𝓖; 𝓡 = 𝓡 } Code.env Symbol'.name Symbol'.routine Code.calls-block·form-of (Met'.met 𝓤 H 𝓜 𝓖 𝓡)) (Reads''.known record { M = M; 𝓤 = 𝓤; H = H; 𝓜 = 𝓜; 𝓖 = 𝓖; 𝓡 = 𝓡 }
-      Code.env Symbol''.name Symbol''.routine Code.calls-block·tight·line-count (Met''.met 𝓤 H 𝓜 𝓖 𝓡)) (Reads'4.known record { M = M; 𝓤 = 𝓤; H = H; 𝓜 = 𝓜; 𝓖 = 𝓖; 𝓡 = 𝓡 } Code.env Symbol'3.name
-      Symbol'3.routine Code.calls-block·writer·write-set (Met'3.met 𝓤 H 𝓜 𝓖 𝓡))
+      Code.env Symbol''.name Symbol''.routine Code.calls-block·line-count (Met''.met 𝓤 H 𝓜 𝓖 𝓡)) (Reads'4.known record { M = M; 𝓤 = 𝓤; H = H; 𝓜 = 𝓜; 𝓖 = 𝓖; 𝓡 = 𝓡 } Code.env Symbol'3.name Symbol'3.routine
+      Code.calls-block-writer·write-set (Met'3.met 𝓤 H 𝓜 𝓖 𝓡))

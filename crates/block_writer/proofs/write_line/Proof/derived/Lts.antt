@@ -1,20 +1,20 @@
--- Written by tools/lend.py from Rattle's derivation of the twin of `block`; not edited by hand. Assumes nothing.
+-- Written by tools/lend.py from Rattle's derivation of the twin of `block_writer`; not edited by hand. Assumes nothing.
 use Rattle.block.proofs.Element
 use Prim.Native.Nat
 use Rattle.bits.proofs.BitPosition
 use Rattle.bits.proofs.BitPosition.Laws
 use Rattle.block.proofs.Form
 use Rattle.block.proofs.Form.Laws as Laws'
-use Rattle.steps.proofs.Plan
-use Rattle.steps.proofs.Plan.Laws as Laws''
-use Rattle.steps.proofs.Quantisers
-use Rattle.steps.proofs.Quantisers.Laws as Laws'3
-use Rattle.steps.proofs.Set
-use Rattle.steps.proofs.Set.Laws as Laws'4
-use Rattle.writing.proofs.PassPut
-use Rattle.writing.proofs.PassPut.Laws as Laws'5
 use Rattle.output.proofs.Put
-use Rattle.output.proofs.Put.Laws as Laws'6
+use Rattle.output.proofs.Put.Laws as Laws''
+use Rattle.steps.proofs.Plan
+use Rattle.steps.proofs.Plan.Laws as Laws'3
+use Rattle.steps.proofs.Quantisers
+use Rattle.steps.proofs.Quantisers.Laws as Laws'4
+use Rattle.steps.proofs.Set
+use Rattle.steps.proofs.Set.Laws as Laws'5
+use Rattle.writing.proofs.PassPut
+use Rattle.writing.proofs.PassPut.Laws as Laws'6
 use borrow.Author.Called
 use borrow.Author.Tests
 use borrow.Enum.Make
@@ -156,17 +156,17 @@ ps = List._∷_ (ShrSlice.pShrS (Referent.rtF (Referent.fInt Syntax.w16)) 0 tt) 
     }) (List._∷_ (Value.pVal record {
       ty = Declared'.row Quantisers.the-type;
       one = Path'.refl;
-      val = Laws'8.val Quantisers.the-type Laws'3.the-laws;
-      tells = Laws'8.tells Quantisers.the-type Laws'3.the-laws;
+      val = Laws'8.val Quantisers.the-type Laws'4.the-laws;
+      tells = Laws'8.tells Quantisers.the-type Laws'4.the-laws;
       still = Laws'8.still
-          Quantisers.the-type Laws'3.the-copy Exit.yes;
+          Quantisers.the-type Laws'4.the-copy Exit.yes;
       row = Rows.whole (Declared'.row Quantisers.the-type);
       rd = λ x. x;
       mk = λ x. x;
     } λ M 𝓤 H A W. record {
-      copies = Laws'8.copy Quantisers.the-type Laws'3.the-copy 𝓤 H A W;
-      lawful = Laws'8.lawful Quantisers.the-type Laws'3.the-laws 𝓤 H A W;
-      makes = Laws'8.makes Quantisers.the-type Laws'3.the-plain 𝓤 H A;
+      copies = Laws'8.copy Quantisers.the-type Laws'4.the-copy 𝓤 H A W;
+      lawful = Laws'8.lawful Quantisers.the-type Laws'4.the-laws 𝓤 H A W;
+      makes = Laws'8.makes Quantisers.the-type Laws'4.the-plain 𝓤 H A;
       in-mem = Local.mem-whole 𝓤 H A W (Declared'.row Quantisers.the-type);
       of-mem = Local.whole-mem 𝓤 H A W (Declared'.row Quantisers.the-type);
     }) (List._∷_ Bool.pBool List.[])))))))))
@@ -175,17 +175,17 @@ abbrev pub r : Kinds.RK 4
 r = Value.rVal record {
   ty = Declared.row Put.the-type;
   one = Path'.refl;
-  val = Laws'7.val Put.the-type Laws'6.the-laws;
-  tells = Laws'7.tells Put.the-type Laws'6.the-laws;
-  still = Laws'7.still Put.the-type Laws'6.the-copy
+  val = Laws'7.val Put.the-type Laws''.the-laws;
+  tells = Laws'7.tells Put.the-type Laws''.the-laws;
+  still = Laws'7.still Put.the-type Laws''.the-copy
       Exit.yes;
   row = Rows.whole (Declared.row Put.the-type);
   rd = λ x. x;
   mk = λ x. x;
 } λ M 𝓤 H A W. record {
-  copies = Laws'7.copy Put.the-type Laws'6.the-copy 𝓤 H A W;
-  lawful = Laws'7.lawful Put.the-type Laws'6.the-laws 𝓤 H A W tt;
-  makes = Laws'7.makes Put.the-type Laws'6.the-plain 𝓤 H A;
+  copies = Laws'7.copy Put.the-type Laws''.the-copy 𝓤 H A W;
+  lawful = Laws'7.lawful Put.the-type Laws''.the-laws 𝓤 H A W tt;
+  makes = Laws'7.makes Put.the-type Laws''.the-plain 𝓤 H A;
   in-mem =
       Local.mem-whole 𝓤 H A W (Declared.row Put.the-type);
   of-mem = Local.whole-mem 𝓤 H A W (Declared.row Put.the-type);
@@ -214,17 +214,17 @@ abbrev pub r·1 : Kinds.RK 0
 r·1 = Value.rVal record {
   ty = Declared'.row Plan.the-type;
   one = Path'.refl;
-  val = Laws'8.val Plan.the-type Laws''.the-laws;
-  tells = Laws'8.tells Plan.the-type Laws''.the-laws;
+  val = Laws'8.val Plan.the-type Laws'3.the-laws;
+  tells = Laws'8.tells Plan.the-type Laws'3.the-laws;
   still = Laws'8.still Plan.the-type
-      Laws''.the-copy Exit.yes;
+      Laws'3.the-copy Exit.yes;
   row = Rows.whole (Declared'.row Plan.the-type);
   rd = λ x. x;
   mk = λ x. x;
 } λ M 𝓤 H A W. record {
-  copies = Laws'8.copy Plan.the-type Laws''.the-copy 𝓤 H A W;
-  lawful = Laws'8.lawful Plan.the-type Laws''.the-laws 𝓤 H A W;
-  makes = Laws'8.makes Plan.the-type Laws''.the-plain 𝓤 H A;
+  copies = Laws'8.copy Plan.the-type Laws'3.the-copy 𝓤 H A W;
+  lawful = Laws'8.lawful Plan.the-type Laws'3.the-laws 𝓤 H A W;
+  makes = Laws'8.makes Plan.the-type Laws'3.the-plain 𝓤 H A;
   in-mem =
       Local.mem-whole 𝓤 H A W (Declared'.row Plan.the-type);
   of-mem = Local.whole-mem 𝓤 H A W (Declared'.row Plan.the-type);
@@ -243,17 +243,17 @@ abbrev pub r·3 : Kinds.RK 1
 r·3 = Value.rVal record {
   ty = Declared'.row Set.the-type;
   one = Path'.refl;
-  val = Laws'8.val Set.the-type Laws'4.the-laws;
-  tells = Laws'8.tells Set.the-type Laws'4.the-laws;
-  still = Laws'8.still Set.the-type Laws'4.the-copy
+  val = Laws'8.val Set.the-type Laws'5.the-laws;
+  tells = Laws'8.tells Set.the-type Laws'5.the-laws;
+  still = Laws'8.still Set.the-type Laws'5.the-copy
       Exit.yes;
   row = Rows.whole (Declared'.row Set.the-type);
   rd = λ x. x;
   mk = λ x. x;
 } λ M 𝓤 H A W. record {
-  copies = Laws'8.copy Set.the-type Laws'4.the-copy 𝓤 H A W;
-  lawful = Laws'8.lawful Set.the-type Laws'4.the-laws 𝓤 H A W;
-  makes = Laws'8.makes Set.the-type Laws'4.the-plain 𝓤 H A;
+  copies = Laws'8.copy Set.the-type Laws'5.the-copy 𝓤 H A W;
+  lawful = Laws'8.lawful Set.the-type Laws'5.the-laws 𝓤 H A W;
+  makes = Laws'8.makes Set.the-type Laws'5.the-plain 𝓤 H A;
   in-mem =
       Local.mem-whole 𝓤 H A W (Declared'.row Set.the-type);
   of-mem = Local.whole-mem 𝓤 H A W (Declared'.row Set.the-type);
@@ -281,51 +281,51 @@ ps·4 = List._∷_ (ShrSlice.pShrS (Referent.rtF (Referent.fInt Syntax.w16)) 0 t
     Syntax.w16)) 2 tt) (List._∷_ (Value.pVal record {
       ty = Declared'.row Set.the-type;
       one = Path'.refl;
-      val = Laws'8.val Set.the-type Laws'4.the-laws;
-      tells = Laws'8.tells Set.the-type Laws'4.the-laws;
-      still = Laws'8.still Set.the-type Laws'4.the-copy
+      val = Laws'8.val Set.the-type Laws'5.the-laws;
+      tells = Laws'8.tells Set.the-type Laws'5.the-laws;
+      still = Laws'8.still Set.the-type Laws'5.the-copy
           Exit.yes;
       row = Rows.whole (Declared'.row Set.the-type);
       rd = λ x. x;
       mk = λ x. x;
     } λ M 𝓤 H A W. record {
-      copies = Laws'8.copy Set.the-type Laws'4.the-copy 𝓤 H A W;
-      lawful = Laws'8.lawful Set.the-type Laws'4.the-laws 𝓤 H A W;
-      makes = Laws'8.makes Set.the-type Laws'4.the-plain 𝓤 H A;
+      copies = Laws'8.copy Set.the-type Laws'5.the-copy 𝓤 H A W;
+      lawful = Laws'8.lawful Set.the-type Laws'5.the-laws 𝓤 H A W;
+      makes = Laws'8.makes Set.the-type Laws'5.the-plain 𝓤 H A;
       in-mem =
           Local.mem-whole 𝓤 H A W (Declared'.row Set.the-type);
       of-mem = Local.whole-mem 𝓤 H A W (Declared'.row Set.the-type);
     }) (List._∷_ (Num.pNum Syntax.w64) (List._∷_ (Value.pVal record {
       ty = Declared'.row Plan.the-type;
       one = Path'.refl;
-      val = Laws'8.val Plan.the-type Laws''.the-laws;
-      tells = Laws'8.tells Plan.the-type Laws''.the-laws;
+      val = Laws'8.val Plan.the-type Laws'3.the-laws;
+      tells = Laws'8.tells Plan.the-type Laws'3.the-laws;
       still = Laws'8.still Plan.the-type
-          Laws''.the-copy Exit.yes;
+          Laws'3.the-copy Exit.yes;
       row = Rows.whole (Declared'.row Plan.the-type);
       rd = λ x. x;
       mk = λ x. x;
     } λ M 𝓤 H A W. record {
-      copies = Laws'8.copy Plan.the-type Laws''.the-copy 𝓤 H A W;
-      lawful = Laws'8.lawful Plan.the-type Laws''.the-laws 𝓤 H A W;
-      makes = Laws'8.makes Plan.the-type Laws''.the-plain 𝓤 H A;
+      copies = Laws'8.copy Plan.the-type Laws'3.the-copy 𝓤 H A W;
+      lawful = Laws'8.lawful Plan.the-type Laws'3.the-laws 𝓤 H A W;
+      makes = Laws'8.makes Plan.the-type Laws'3.the-plain 𝓤 H A;
       in-mem =
           Local.mem-whole 𝓤 H A W (Declared'.row Plan.the-type);
       of-mem = Local.whole-mem 𝓤 H A W (Declared'.row Plan.the-type);
     }) (List._∷_ (Value.pVal record {
       ty = Declared'.row Quantisers.the-type;
       one = Path'.refl;
-      val = Laws'8.val Quantisers.the-type Laws'3.the-laws;
-      tells = Laws'8.tells Quantisers.the-type Laws'3.the-laws;
+      val = Laws'8.val Quantisers.the-type Laws'4.the-laws;
+      tells = Laws'8.tells Quantisers.the-type Laws'4.the-laws;
       still = Laws'8.still
-          Quantisers.the-type Laws'3.the-copy Exit.yes;
+          Quantisers.the-type Laws'4.the-copy Exit.yes;
       row = Rows.whole (Declared'.row Quantisers.the-type);
       rd = λ x. x;
       mk = λ x. x;
     } λ M 𝓤 H A W. record {
-      copies = Laws'8.copy Quantisers.the-type Laws'3.the-copy 𝓤 H A W;
-      lawful = Laws'8.lawful Quantisers.the-type Laws'3.the-laws 𝓤 H A W;
-      makes = Laws'8.makes Quantisers.the-type Laws'3.the-plain 𝓤 H A;
+      copies = Laws'8.copy Quantisers.the-type Laws'4.the-copy 𝓤 H A W;
+      lawful = Laws'8.lawful Quantisers.the-type Laws'4.the-laws 𝓤 H A W;
+      makes = Laws'8.makes Quantisers.the-type Laws'4.the-plain 𝓤 H A;
       in-mem = Local.mem-whole 𝓤 H A W (Declared'.row Quantisers.the-type);
       of-mem = Local.whole-mem 𝓤 H A W (Declared'.row Quantisers.the-type);
     }) (List._∷_ (Num.pNum Syntax.w32) (List._∷_ Bool.pBool
@@ -335,17 +335,17 @@ abbrev pub r·4 : Kinds.RK 3
 r·4 = Value.rVal record {
   ty = Declared'.row PassPut.the-type;
   one = Path'.refl;
-  val = Laws'8.val PassPut.the-type Laws'5.the-laws;
-  tells = Laws'8.tells PassPut.the-type Laws'5.the-laws;
+  val = Laws'8.val PassPut.the-type Laws'6.the-laws;
+  tells = Laws'8.tells PassPut.the-type Laws'6.the-laws;
   still = Laws'8.still PassPut.the-type
-      Laws'5.the-copy Exit.yes;
+      Laws'6.the-copy Exit.yes;
   row = Rows.whole (Declared'.row PassPut.the-type);
   rd = λ x. x;
   mk = λ x. x;
 } λ M 𝓤 H A W. record {
-  copies = Laws'8.copy PassPut.the-type Laws'5.the-copy 𝓤 H A W;
-  lawful = Laws'8.lawful PassPut.the-type Laws'5.the-laws 𝓤 H A W;
-  makes = Laws'8.makes PassPut.the-type Laws'5.the-plain 𝓤 H A;
+  copies = Laws'8.copy PassPut.the-type Laws'6.the-copy 𝓤 H A W;
+  lawful = Laws'8.lawful PassPut.the-type Laws'6.the-laws 𝓤 H A W;
+  makes = Laws'8.makes PassPut.the-type Laws'6.the-plain 𝓤 H A;
   in-mem =
       Local.mem-whole 𝓤 H A W (Declared'.row PassPut.the-type);
   of-mem = Local.whole-mem 𝓤 H A W (Declared'.row PassPut.the-type);
@@ -355,17 +355,17 @@ abbrev pub ps·5 : List.List (Kinds.PK 1)
 ps·5 = List._∷_ (MutSlice.pMutS (Element.type) 0 tt) (List._∷_ (Num.pNum Syntax.w64) (List._∷_ (Value.pVal record {
   ty = Declared'.row Set.the-type;
   one = Path'.refl;
-  val = Laws'8.val Set.the-type Laws'4.the-laws;
-  tells = Laws'8.tells Set.the-type Laws'4.the-laws;
-  still = Laws'8.still Set.the-type Laws'4.the-copy
+  val = Laws'8.val Set.the-type Laws'5.the-laws;
+  tells = Laws'8.tells Set.the-type Laws'5.the-laws;
+  still = Laws'8.still Set.the-type Laws'5.the-copy
       Exit.yes;
   row = Rows.whole (Declared'.row Set.the-type);
   rd = λ x. x;
   mk = λ x. x;
 } λ M 𝓤 H A W. record {
-  copies = Laws'8.copy Set.the-type Laws'4.the-copy 𝓤 H A W;
-  lawful = Laws'8.lawful Set.the-type Laws'4.the-laws 𝓤 H A W;
-  makes = Laws'8.makes Set.the-type Laws'4.the-plain 𝓤 H A;
+  copies = Laws'8.copy Set.the-type Laws'5.the-copy 𝓤 H A W;
+  lawful = Laws'8.lawful Set.the-type Laws'5.the-laws 𝓤 H A W;
+  makes = Laws'8.makes Set.the-type Laws'5.the-plain 𝓤 H A;
   in-mem =
       Local.mem-whole 𝓤 H A W (Declared'.row Set.the-type);
   of-mem = Local.whole-mem 𝓤 H A W (Declared'.row Set.the-type);
@@ -624,8 +624,8 @@ Claims = Kinds.In 0 ps·0 × Kinds.Out 0 ps·0 r·0 × Kinds.In 0 ps·1 × Kinds
 abbrev pub e0 : Row.Entry
 e0 = (
   0,
-  Rows.any-gone (Syntax.tyEnum (List._∷_ 119 (List._∷_ 114 (List._∷_ 105 (List._∷_ 116 (List._∷_ 105 (List._∷_ 110 (List._∷_ 103 (List._∷_ 58 (List._∷_ 58 (List._∷_ 80 (List._∷_ 117 (List._∷_ 116
-      List.[])))))))))))) (Syntax.ttcons (Syntax.tcons y6 Syntax.tnil) (Syntax.ttcons (Syntax.tcons (Syntax.tyInt Syntax.w64) Syntax.tnil) Syntax.ttnil))),
+  Rows.any-gone (Syntax.tyEnum (List._∷_ 111 (List._∷_ 117 (List._∷_ 116 (List._∷_ 112 (List._∷_ 117 (List._∷_ 116 (List._∷_ 58 (List._∷_ 58 (List._∷_ 80 (List._∷_ 117 (List._∷_ 116
+      List.[]))))))))))) (Syntax.ttcons (Syntax.tcons y6 Syntax.tnil) (Syntax.ttcons (Syntax.tcons (Syntax.tyInt Syntax.w64) Syntax.tnil) Syntax.ttnil))),
 )
 
 abbrev pub e1 : Row.Entry
@@ -1549,7 +1549,7 @@ module _ (claims· : Claims) where
   s55 = λ bs. Know.k-sl-known (Referent.fInt Syntax.w16) T58 6 2 (Syntax.tyRef (Syntax.named 2) Syntax.mut (Syntax.tyInt Syntax.w16)) Row.off 0 λ x. x
 
   abbrev s57 : (bs : List.List Nat.ℕ) → Typed.Mo T59 → Typed.Mo T61
-  s57 = λ bs. Scalar.n-use T59 (Scalar.oFld 18 (List._∷_ (Syntax.field 0) List.[]) Syntax.tyBool 0 (Reads.fieldV PassPut.the-type Laws'5.the-laws 0)) 19 (Rows.sc-here Row.sBool) (Row.sBool .of)
+  s57 = λ bs. Scalar.n-use T59 (Scalar.oFld 18 (List._∷_ (Syntax.field 0) List.[]) Syntax.tyBool 0 (Reads.fieldV PassPut.the-type Laws'6.the-laws 0)) 19 (Rows.sc-here Row.sBool) (Row.sBool .of)
 
   abbrev s58 : (bs : List.List Nat.ℕ) → Typed.Asks T61 T62
   s58 = λ bs. Scalar.k-op1 T61 Syntax.bitNot (Scalar.oAt 19 Syntax.tyBool (Row.valS Row.sBool)) 21 (Rows.sc-here Row.sBool) (Row.sBool .of)
@@ -2863,18 +2863,18 @@ module _ (claims· : Claims) where
               Path'.refl)) d14
 
           d16 : Typed.Typed 𝓤 H A 𝓣 E G66 b28 Δ5 (at16 bs)
-          d16 = Typed.s-seq 𝓤 H A W 𝓣 E G66 G67 b26 b27 Δ5 (Typed.pass T66 T67 (s62 bs)) (at15 bs) (Make.t-enum-make-wt 𝓤 H A W E 𝓣 Put.the-type Laws'6.the-laws Laws'6.the-plain tt G66 0 (List._∷_
-              (Scalar.oInt Syntax.w8 1) (List._∷_ (Scalar.oFld 18 (List._∷_ (Syntax.field 1) List.[]) (Syntax.tyInt Syntax.w64) 8 (Reads.fieldV PassPut.the-type Laws'5.the-laws 1)) List.[])) (λ m.
+          d16 = Typed.s-seq 𝓤 H A W 𝓣 E G66 G67 b26 b27 Δ5 (Typed.pass T66 T67 (s62 bs)) (at15 bs) (Make.t-enum-make-wt 𝓤 H A W E 𝓣 Put.the-type Laws''.the-laws Laws''.the-plain tt G66 0 (List._∷_
+              (Scalar.oInt Syntax.w8 1) (List._∷_ (Scalar.oFld 18 (List._∷_ (Syntax.field 1) List.[]) (Syntax.tyInt Syntax.w64) 8 (Reads.fieldV PassPut.the-type Laws'6.the-laws 1)) List.[])) (λ m.
               Put.enum .make (Logic.inr (Logic.inl (PassPut.struct .as-values (m .1 .1 .1 .1 .1 .1 .1 .1 .1 .1 .1 .1 .1 .1 .1 .1 .1 .1 .0) .1 .0, tt)))) (Reads'.room-gone 𝓤 H A (Syntax.tyEnum (List._∷_
-              119 (List._∷_ 114 (List._∷_ 105 (List._∷_ 116 (List._∷_ 105 (List._∷_ 110 (List._∷_ 103 (List._∷_ 58 (List._∷_ 58 (List._∷_ 80 (List._∷_ 117 (List._∷_ 116 List.[])))))))))))) (Syntax.ttcons
-              (Syntax.tcons y6 Syntax.tnil) (Syntax.ttcons (Syntax.tcons (Syntax.tyInt Syntax.w64) Syntax.tnil) Syntax.ttnil))))
-              (tt, ((Reads.reads-field 𝓤 H A W PassPut.the-type Laws'5.the-laws 1 (Syntax.tyInt Syntax.w64) 8 Path'.refl, Path'.refl), tt)) Path'.refl (λ m wa. Make.made-val Put.the-type Laws'6.the-laws
-              (List._∷_ (Laws'6.the-laws .1 .0 .0 .val (PassPut.struct .as-values (m .1 .1 .1 .1 .1 .1 .1 .1 .1 .1 .1 .1 .1 .1 .1 .1 .1 .1 .0) .1 .0)) List.[]) (Put.enum .make (Logic.inr (Logic.inl
+              111 (List._∷_ 117 (List._∷_ 116 (List._∷_ 112 (List._∷_ 117 (List._∷_ 116 (List._∷_ 58 (List._∷_ 58 (List._∷_ 80 (List._∷_ 117 (List._∷_ 116 List.[]))))))))))) (Syntax.ttcons (Syntax.tcons
+              y6 Syntax.tnil) (Syntax.ttcons (Syntax.tcons (Syntax.tyInt Syntax.w64) Syntax.tnil) Syntax.ttnil))))
+              (tt, ((Reads.reads-field 𝓤 H A W PassPut.the-type Laws'6.the-laws 1 (Syntax.tyInt Syntax.w64) 8 Path'.refl, Path'.refl), tt)) Path'.refl (λ m wa. Make.made-val Put.the-type Laws''.the-laws
+              (List._∷_ (Laws''.the-laws .1 .0 .0 .val (PassPut.struct .as-values (m .1 .1 .1 .1 .1 .1 .1 .1 .1 .1 .1 .1 .1 .1 .1 .1 .1 .1 .0) .1 .0)) List.[]) (Put.enum .make (Logic.inr (Logic.inl
               (PassPut.struct .as-values (m .1 .1 .1 .1 .1 .1 .1 .1 .1 .1 .1 .1 .1 .1 .1 .1 .1 .1 .0) .1 .0, tt))))
-              (Signed.made-wt Field.u64-field (Laws'6.the-laws .1 .0 .0) Make'.u64-wt (PassPut.struct .as-values (m .1 .1 .1 .1 .1 .1 .1 .1 .1 .1 .1 .1 .1 .1 .1 .1 .1 .1 .0) .1 .0), tt) (wa .1)) λ m wa.
-              Make.made-is Put.the-type Laws'6.the-laws (List._∷_ (Laws'6.the-laws .1 .0 .0 .val (PassPut.struct .as-values (m .1 .1 .1 .1 .1 .1 .1 .1 .1 .1 .1 .1 .1 .1 .1 .1 .1 .1 .0) .1 .0)) List.[])
+              (Signed.made-wt Field.u64-field (Laws''.the-laws .1 .0 .0) Make'.u64-wt (PassPut.struct .as-values (m .1 .1 .1 .1 .1 .1 .1 .1 .1 .1 .1 .1 .1 .1 .1 .1 .1 .1 .0) .1 .0), tt) (wa .1)) λ m wa.
+              Make.made-is Put.the-type Laws''.the-laws (List._∷_ (Laws''.the-laws .1 .0 .0 .val (PassPut.struct .as-values (m .1 .1 .1 .1 .1 .1 .1 .1 .1 .1 .1 .1 .1 .1 .1 .1 .1 .1 .0) .1 .0)) List.[])
               (Put.enum .make (Logic.inr (Logic.inl (PassPut.struct .as-values (m .1 .1 .1 .1 .1 .1 .1 .1 .1 .1 .1 .1 .1 .1 .1 .1 .1 .1 .0) .1 .0, tt))))
-              (Signed.made-wt Field.u64-field (Laws'6.the-laws .1 .0 .0) Make'.u64-wt (PassPut.struct .as-values (m .1 .1 .1 .1 .1 .1 .1 .1 .1 .1 .1 .1 .1 .1 .1 .1 .1 .1 .0) .1 .0), tt) (wa .1)) d15
+              (Signed.made-wt Field.u64-field (Laws''.the-laws .1 .0 .0) Make'.u64-wt (PassPut.struct .as-values (m .1 .1 .1 .1 .1 .1 .1 .1 .1 .1 .1 .1 .1 .1 .1 .1 .1 .1 .0) .1 .0), tt) (wa .1)) d15
 
           d17 : Typed.Typed 𝓤 H A 𝓣 E G65 b28 Δ5 (at17 bs)
           d17 = Typed.g-pre 𝓤 H A W 𝓣 E G65 G66 b28 Δ5 (Typed.pass T65 T66 (s61 bs)) (at16 bs) (Scalar.g-room 𝓤 H A W E G65 21 Syntax.tyBool (Scalar.room-sc 𝓤 H A W Row.sBool)) d16
@@ -2926,7 +2926,7 @@ module _ (claims· : Claims) where
               .1 .1 .1 .1 .1 .1 .1 .1 .1 .1 .1 .1 .1 .0) (u .1 .1 .1 .1 .1 .1 .1 .1 .1 .1 .1 .1 .1 .1 .1 .1 .1 .1 .0) (At.getAt (PassPut.the-type .parts) 2 (PassPut.struct .as-values (u .1 .1 .1 .1 .1 .1
               .1 .1 .1 .1 .1 .1 .1 .1 .1 .1 .1 .1 .0))) (At.getAt (PassPut.the-type .parts) 2 (PassPut.struct .as-values (u .1 .1 .1 .1 .1 .1 .1 .1 .1 .1 .1 .1 .1 .1 .1 .1 .1 .1 .0)))
               (Row.hd 0 (Row.tl (Row.tl (Row.tl (Row.tl (Row.tl (Row.tl (Row.tl (Row.tl (Row.tl (Row.tl (Row.tl (Row.tl (Row.tl (Row.tl (Row.tl (Row.tl (Row.tl (Row.tl bs)))))))))))))))))), 0)
-              (Behind.look-at 𝓤 H A W q PassPut.the-type Laws'5.the-laws 2 16 Path'.refl Path'.refl
+              (Behind.look-at 𝓤 H A W q PassPut.the-type Laws'6.the-laws 2 16 Path'.refl Path'.refl
               (Row.hd 0 (Row.tl (Row.tl (Row.tl (Row.tl (Row.tl (Row.tl (Row.tl (Row.tl (Row.tl (Row.tl (Row.tl (Row.tl (Row.tl (Row.tl (Row.tl (Row.tl (Row.tl (Row.tl bs)))))))))))))))))), 0) (u .1 .1 .1
               .1 .1 .1 .1 .1 .1 .1 .1 .1 .1 .1 .1 .1 .1 .1 .0) (PassPut.struct .as-values (u .1 .1 .1 .1 .1 .1 .1 .1 .1 .1 .1 .1 .1 .1 .1 .1 .1 .1 .0)) Path'.refl)) (Reads'.room-gone 𝓤 H A y6)
               (Yields.makes-mem 𝓤 H A W (λ ρ. Unit) (Declared'.row BitPosition.the-type) Path'.refl (Rows.whole (Declared'.row BitPosition.the-type)) (λ x. x) λ ρ told. Local.whole-mem 𝓤 H A W
@@ -2967,10 +2967,10 @@ module _ (claims· : Claims) where
                     Element.behind) 9,
                 Path'.refl,
                 (
-                  (Reads.reads-field 𝓤 H A W Plan.the-type Laws''.the-laws 2 (Syntax.tyInt Syntax.w64) 16 Path'.refl, Path'.refl),
+                  (Reads.reads-field 𝓤 H A W Plan.the-type Laws'3.the-laws 2 (Syntax.tyInt Syntax.w64) 16 Path'.refl, Path'.refl),
                   (
                     (
-                      Yields.yields-copy 𝓤 H A W (λ ρ. Unit) (Declared'.row Set.the-type) Path'.refl (Copies.cStruct Set.the-type Laws'4.the-laws Laws'4.the-copy .copy 𝓤 H A W) (Rows.whole (Declared'.row
+                      Yields.yields-copy 𝓤 H A W (λ ρ. Unit) (Declared'.row Set.the-type) Path'.refl (Copies.cStruct Set.the-type Laws'5.the-laws Laws'5.the-copy .copy 𝓤 H A W) (Rows.whole (Declared'.row
                           Set.the-type)) (λ x. x) (λ x. x) (λ ρ told. Local.mem-whole 𝓤 H A W (Declared'.row Set.the-type) ρ) λ ρ told. Local.whole-mem 𝓤 H A W (Declared'.row Set.the-type) ρ,
                       Path'.refl,
                     ),
@@ -3013,7 +3013,7 @@ module _ (claims· : Claims) where
 
           d36 : Typed.Typed 𝓤 H A 𝓣 E G63 b41 Δ3 (at36 bs)
           d36 = Typed.s-seq 𝓤 H A W 𝓣 E G63 G78 b31 b40 Δ3 (Typed.both (s73 bs)) (at35 bs) (WayStmt.t-way-copy-out 𝓤 H A W E 𝓣 (Declared'.row Set.the-type) Path'.refl (Copies.cStruct Set.the-type
-              Laws'4.the-laws Laws'4.the-copy .copy 𝓤 H A W) (λ ρ. Unit) G63 (Row.out 18 (G63 .locals)) (λ u. Row.drop 18 (G63 .locals) u) (G63 .slots) 18 (λ t. List._∷_ (Syntax.field 3) t) y2 y2 20
+              Laws'5.the-laws Laws'5.the-copy .copy 𝓤 H A W) (λ ρ. Unit) G63 (Row.out 18 (G63 .locals)) (λ u. Row.drop 18 (G63 .locals) u) (G63 .slots) 18 (λ t. List._∷_ (Syntax.field 3) t) y2 y2 20
               (Rows.whole (Declared'.row Set.the-type)) (λ x. x) (λ u. At.getAt (PassPut.the-type .parts) 3 (PassPut.struct .as-values (u .1 .1 .1 .1 .1 .1 .1 .1 .1 .1 .1 .1 .1 .1 .1 .1 .1 .1 .0))) (λ u.
               (Row.hd 0 (Row.tl (Row.tl (Row.tl (Row.tl (Row.tl (Row.tl (Row.tl (Row.tl (Row.tl (Row.tl (Row.tl (Row.tl (Row.tl (Row.tl (Row.tl (Row.tl (Row.tl (Row.tl bs)))))))))))))))))), Nat._+_ 0 24))
               (λ T′. record { locals = Row.setRow 18 (18, Rows.whole (Declared'.row PassPut.the-type)) T′; slots = G63 .slots }) (λ u T′ m′. Row.set 18 (18, Rows.whole (Declared'.row PassPut.the-type))
@@ -3029,7 +3029,7 @@ module _ (claims· : Claims) where
               .1 .1 .1 .1 .1 .1 .1 .1 .1 .1 .0) (u .1 .1 .1 .1 .1 .1 .1 .1 .1 .1 .1 .1 .1 .1 .1 .1 .1 .1 .0) (At.getAt (PassPut.the-type .parts) 3 (PassPut.struct .as-values (u .1 .1 .1 .1 .1 .1 .1 .1 .1
               .1 .1 .1 .1 .1 .1 .1 .1 .1 .0))) (At.getAt (PassPut.the-type .parts) 3 (PassPut.struct .as-values (u .1 .1 .1 .1 .1 .1 .1 .1 .1 .1 .1 .1 .1 .1 .1 .1 .1 .1 .0)))
               (Row.hd 0 (Row.tl (Row.tl (Row.tl (Row.tl (Row.tl (Row.tl (Row.tl (Row.tl (Row.tl (Row.tl (Row.tl (Row.tl (Row.tl (Row.tl (Row.tl (Row.tl (Row.tl (Row.tl bs)))))))))))))))))), 0)
-              (Behind.look-at 𝓤 H A W q PassPut.the-type Laws'5.the-laws 3 24 Path'.refl Path'.refl
+              (Behind.look-at 𝓤 H A W q PassPut.the-type Laws'6.the-laws 3 24 Path'.refl Path'.refl
               (Row.hd 0 (Row.tl (Row.tl (Row.tl (Row.tl (Row.tl (Row.tl (Row.tl (Row.tl (Row.tl (Row.tl (Row.tl (Row.tl (Row.tl (Row.tl (Row.tl (Row.tl (Row.tl (Row.tl bs)))))))))))))))))), 0) (u .1 .1 .1
               .1 .1 .1 .1 .1 .1 .1 .1 .1 .1 .1 .1 .1 .1 .1 .0) (PassPut.struct .as-values (u .1 .1 .1 .1 .1 .1 .1 .1 .1 .1 .1 .1 .1 .1 .1 .1 .1 .1 .0)) Path'.refl)) (Reads'.room-gone 𝓤 H A y2)
               (Yields.makes-mem 𝓤 H A W (λ ρ. Unit) (Declared'.row Set.the-type) Path'.refl (Rows.whole (Declared'.row Set.the-type)) (λ x. x) λ ρ told. Local.whole-mem 𝓤 H A W (Declared'.row
@@ -3045,8 +3045,8 @@ module _ (claims· : Claims) where
 
           d39 : Typed.Typed 𝓤 H A 𝓣 E G60 b44 Δ3 (at39 bs)
           d39 = Typed.s-seq 𝓤 H A W 𝓣 E G60 G61 b24 b43 Δ3 (Typed.pass T59 T61 (s57 bs)) (at38 bs) (Scalar.t-use 𝓤 H A W E 𝓣 G60 (Scalar.oFld 18 (List._∷_ (Syntax.field 0) List.[]) Syntax.tyBool 0
-              (Reads.fieldV PassPut.the-type Laws'5.the-laws 0)) 19 (Rows.sc-here Row.sBool) Syntax.tyBool (Row.valS Row.sBool) (Row.sBool .of)
-              (Reads.reads-field 𝓤 H A W PassPut.the-type Laws'5.the-laws 0 Syntax.tyBool 0 Path'.refl, Path'.refl) (Reads'.room-gone 𝓤 H A Syntax.tyBool) (Scalar.holds-sc 𝓤 H A W Row.sBool) Path'.refl (λ
+              (Reads.fieldV PassPut.the-type Laws'6.the-laws 0)) 19 (Rows.sc-here Row.sBool) Syntax.tyBool (Row.valS Row.sBool) (Row.sBool .of)
+              (Reads.reads-field 𝓤 H A W PassPut.the-type Laws'6.the-laws 0 Syntax.tyBool 0 Path'.refl, Path'.refl) (Reads'.room-gone 𝓤 H A Syntax.tyBool) (Scalar.holds-sc 𝓤 H A W Row.sBool) Path'.refl (λ
               u. Path'.refl) λ u. tt) d38
 
           d40 : Typed.Typed 𝓤 H A 𝓣 E G59 b44 Δ3 (at40 bs)
@@ -3143,7 +3143,7 @@ module _ (claims· : Claims) where
                           Path'.refl,
                           (
                             (
-                              Yields.yields-copy 𝓤 H A W (λ ρ. Unit) (Declared'.row Set.the-type) Path'.refl (Copies.cStruct Set.the-type Laws'4.the-laws Laws'4.the-copy .copy 𝓤 H A W) (Rows.whole (Declared'.row
+                              Yields.yields-copy 𝓤 H A W (λ ρ. Unit) (Declared'.row Set.the-type) Path'.refl (Copies.cStruct Set.the-type Laws'5.the-laws Laws'5.the-copy .copy 𝓤 H A W) (Rows.whole (Declared'.row
                                   Set.the-type)) (λ x. x) (λ x. x) (λ ρ told. Local.mem-whole 𝓤 H A W (Declared'.row Set.the-type) ρ) λ ρ told. Local.whole-mem 𝓤 H A W (Declared'.row Set.the-type) ρ,
                               Path'.refl,
                             ),
@@ -3151,13 +3151,13 @@ module _ (claims· : Claims) where
                               (Scalar.reads-sc 𝓤 H A W (Row.sInt Syntax.w64), Path'.refl),
                               (
                                 (
-                                  Yields.yields-copy 𝓤 H A W (λ ρ. Unit) (Declared'.row Plan.the-type) Path'.refl (Copies.cStruct Plan.the-type Laws''.the-laws Laws''.the-copy .copy 𝓤 H A W) (Rows.whole (Declared'.row
+                                  Yields.yields-copy 𝓤 H A W (λ ρ. Unit) (Declared'.row Plan.the-type) Path'.refl (Copies.cStruct Plan.the-type Laws'3.the-laws Laws'3.the-copy .copy 𝓤 H A W) (Rows.whole (Declared'.row
                                       Plan.the-type)) (λ x. x) (λ x. x) (λ ρ told. Local.mem-whole 𝓤 H A W (Declared'.row Plan.the-type) ρ) λ ρ told. Local.whole-mem 𝓤 H A W (Declared'.row Plan.the-type) ρ,
                                   Path'.refl,
                                 ),
                                 (
                                   (
-                                    Yields.yields-copy 𝓤 H A W (λ ρ. Unit) (Declared'.row Quantisers.the-type) Path'.refl (Copies.cStruct Quantisers.the-type Laws'3.the-laws Laws'3.the-copy .copy 𝓤 H A W) (Rows.whole
+                                    Yields.yields-copy 𝓤 H A W (λ ρ. Unit) (Declared'.row Quantisers.the-type) Path'.refl (Copies.cStruct Quantisers.the-type Laws'4.the-laws Laws'4.the-copy .copy 𝓤 H A W) (Rows.whole
                                         (Declared'.row Quantisers.the-type)) (λ x. x) (λ x. x) (λ ρ told. Local.mem-whole 𝓤 H A W (Declared'.row Quantisers.the-type) ρ) λ ρ told. Local.whole-mem 𝓤 H A W (Declared'.row
                                         Quantisers.the-type) ρ,
                                     Path'.refl,
@@ -3267,7 +3267,7 @@ module _ (claims· : Claims) where
                 Mut.reads-mslice 𝓤 H A W (Element.type) (Syntax.tyRef Syntax.erased Syntax.mut
                     Element.behind) 6,
                 Path'.refl,
-                ((Reads.reads-field 𝓤 H A W Plan.the-type Laws''.the-laws 2 (Syntax.tyInt Syntax.w64) 16 Path'.refl, Path'.refl), tt),
+                ((Reads.reads-field 𝓤 H A W Plan.the-type Laws'3.the-laws 2 (Syntax.tyInt Syntax.w64) 16 Path'.refl, Path'.refl), tt),
               ) (Reads'.room-gone 𝓤 H A y2) (tt, tt)
               Path'.refl) d59
 
@@ -3332,7 +3332,7 @@ module _ (claims· : Claims) where
                 Mut.reads-mslice 𝓤 H A W (Referent.rtF
                     (Referent.fInt Syntax.w16)) (Syntax.tyRef Syntax.erased Syntax.mut (Syntax.tyInt Syntax.w16)) 5,
                 Path'.refl,
-                ((Scalar.reads-sc 𝓤 H A W (Row.sInt Syntax.w64), Path'.refl), ((Reads.reads-field 𝓤 H A W Plan.the-type Laws''.the-laws 1 (Syntax.tyInt Syntax.w64) 8 Path'.refl, Path'.refl), tt)),
+                ((Scalar.reads-sc 𝓤 H A W (Row.sInt Syntax.w64), Path'.refl), ((Reads.reads-field 𝓤 H A W Plan.the-type Laws'3.the-laws 1 (Syntax.tyInt Syntax.w64) 8 Path'.refl, Path'.refl), tt)),
               )
               (Reads'.room-gone 𝓤 H A Syntax.tyUnit) (tt, tt) Path'.refl) d68
 
@@ -3401,7 +3401,7 @@ module _ (claims· : Claims) where
                 Mut.reads-mslice 𝓤 H A W (Referent.rtF
                     (Referent.fInt Syntax.w16)) (Syntax.tyRef Syntax.erased Syntax.mut (Syntax.tyInt Syntax.w16)) 4,
                 Path'.refl,
-                ((Scalar.reads-sc 𝓤 H A W (Row.sInt Syntax.w64), Path'.refl), ((Reads.reads-field 𝓤 H A W Plan.the-type Laws''.the-laws 0 (Syntax.tyInt Syntax.w64) 0 Path'.refl, Path'.refl), tt)),
+                ((Scalar.reads-sc 𝓤 H A W (Row.sInt Syntax.w64), Path'.refl), ((Reads.reads-field 𝓤 H A W Plan.the-type Laws'3.the-laws 0 (Syntax.tyInt Syntax.w64) 0 Path'.refl, Path'.refl), tt)),
               )
               (Reads'.room-gone 𝓤 H A Syntax.tyUnit) (tt, tt) Path'.refl) d77
 
@@ -3497,16 +3497,16 @@ module _ (claims· : Claims) where
               d94
 
           d96 : Typed.Typed 𝓤 H A 𝓣 E G12 b66 Δ0 (at96 bs)
-          d96 = Typed.s-seq 𝓤 H A W 𝓣 E G12 G93 b64 b65 Δ0 (Typed.pass T12 T93 (s88 bs)) (at95 bs) (Make.t-enum-make-wt 𝓤 H A W E 𝓣 Put.the-type Laws'6.the-laws Laws'6.the-plain tt G12 0 (List._∷_
+          d96 = Typed.s-seq 𝓤 H A W 𝓣 E G12 G93 b64 b65 Δ0 (Typed.pass T12 T93 (s88 bs)) (at95 bs) (Make.t-enum-make-wt 𝓤 H A W E 𝓣 Put.the-type Laws''.the-laws Laws''.the-plain tt G12 0 (List._∷_
               (Scalar.oInt Syntax.w8 0) (List._∷_ (Scalar.oAt 14 y6 (Laws'8.val BitPosition.the-type Laws.the-laws)) List.[])) (λ m. Put.enum .make (Logic.inl
-              (m .1 .1 .1 .1 .1 .1 .1 .1 .1 .1 .1 .1 .1 .1 .0, tt))) (Reads'.room-gone 𝓤 H A (Syntax.tyEnum (List._∷_ 119 (List._∷_ 114 (List._∷_ 105 (List._∷_ 116 (List._∷_ 105 (List._∷_ 110 (List._∷_
-              103 (List._∷_ 58 (List._∷_ 58 (List._∷_ 80 (List._∷_ 117 (List._∷_ 116 List.[])))))))))))) (Syntax.ttcons (Syntax.tcons y6 Syntax.tnil) (Syntax.ttcons (Syntax.tcons (Syntax.tyInt Syntax.w64)
-              Syntax.tnil) Syntax.ttnil)))) (tt, ((Reads.reads-struct 𝓤 H A W BitPosition.the-type Laws.the-laws, Path'.refl), tt)) Path'.refl (λ m wa. Make.made-val Put.the-type Laws'6.the-laws (List._∷_
-              (Laws'8.val BitPosition.the-type Laws.the-laws (m .1 .1 .1 .1 .1 .1 .1 .1 .1 .1 .1 .1 .1 .1 .0)) List.[]) (Put.enum .make (Logic.inl (m .1 .1 .1 .1 .1 .1 .1 .1 .1 .1 .1 .1 .1 .1 .0, tt))) (
+              (m .1 .1 .1 .1 .1 .1 .1 .1 .1 .1 .1 .1 .1 .1 .0, tt))) (Reads'.room-gone 𝓤 H A (Syntax.tyEnum (List._∷_ 111 (List._∷_ 117 (List._∷_ 116 (List._∷_ 112 (List._∷_ 117 (List._∷_ 116 (List._∷_ 58
+              (List._∷_ 58 (List._∷_ 80 (List._∷_ 117 (List._∷_ 116 List.[]))))))))))) (Syntax.ttcons (Syntax.tcons y6 Syntax.tnil) (Syntax.ttcons (Syntax.tcons (Syntax.tyInt Syntax.w64) Syntax.tnil)
+              Syntax.ttnil)))) (tt, ((Reads.reads-struct 𝓤 H A W BitPosition.the-type Laws.the-laws, Path'.refl), tt)) Path'.refl (λ m wa. Make.made-val Put.the-type Laws''.the-laws (List._∷_ (Laws'8.val
+              BitPosition.the-type Laws.the-laws (m .1 .1 .1 .1 .1 .1 .1 .1 .1 .1 .1 .1 .1 .1 .0)) List.[]) (Put.enum .make (Logic.inl (m .1 .1 .1 .1 .1 .1 .1 .1 .1 .1 .1 .1 .1 .1 .0, tt))) (
                 Signed.made-wt BitPosition.the-field Laws.the-field-laws (Make'.struct-wt BitPosition.the-type Laws.the-laws (Make'.u64-wt, tt)) (BitPosition.the-type .to (m .1 .1 .1 .1 .1 .1 .1 .1 .1 .1
                     .1 .1 .1 .1 .0)),
                 tt,
-              ) (wa .1)) λ m wa. Make.made-is Put.the-type Laws'6.the-laws (List._∷_ (Laws'8.val BitPosition.the-type Laws.the-laws (m .1 .1 .1 .1 .1 .1 .1 .1 .1 .1 .1 .1 .1 .1 .0))
+              ) (wa .1)) λ m wa. Make.made-is Put.the-type Laws''.the-laws (List._∷_ (Laws'8.val BitPosition.the-type Laws.the-laws (m .1 .1 .1 .1 .1 .1 .1 .1 .1 .1 .1 .1 .1 .1 .0))
               List.[]) (Put.enum .make (Logic.inl (m .1 .1 .1 .1 .1 .1 .1 .1 .1 .1 .1 .1 .1 .1 .0, tt))) (
                 Signed.made-wt BitPosition.the-field Laws.the-field-laws (Make'.struct-wt BitPosition.the-type Laws.the-laws (Make'.u64-wt, tt)) (BitPosition.the-type .to (m .1 .1 .1 .1 .1 .1 .1 .1 .1 .1
                     .1 .1 .1 .1 .0)),
@@ -3619,18 +3619,18 @@ module _ (claims· : Claims) where
           pub qs : Kinds.Den {n = 4} κs (Value.pVal record {
             ty = Declared'.row Quantisers.the-type;
             one = Path'.refl;
-            val = Laws'8.val Quantisers.the-type Laws'3.the-laws;
-            tells = Laws'8.tells Quantisers.the-type Laws'3.the-laws;
+            val = Laws'8.val Quantisers.the-type Laws'4.the-laws;
+            tells = Laws'8.tells Quantisers.the-type Laws'4.the-laws;
             still =
-                Laws'8.still Quantisers.the-type Laws'3.the-copy Exit.yes;
+                Laws'8.still Quantisers.the-type Laws'4.the-copy Exit.yes;
             row = Rows.whole (Declared'.row Quantisers.the-type);
             rd = λ x. x;
             mk = λ x. x;
           } λ M 𝓤 H A W. record {
-            copies = Laws'8.copy Quantisers.the-type Laws'3.the-copy 𝓤 H A W;
-            lawful = Laws'8.lawful Quantisers.the-type Laws'3.the-laws 𝓤 H A W;
+            copies = Laws'8.copy Quantisers.the-type Laws'4.the-copy 𝓤 H A W;
+            lawful = Laws'8.lawful Quantisers.the-type Laws'4.the-laws 𝓤 H A W;
             makes = Laws'8.makes Quantisers.the-type
-                Laws'3.the-plain 𝓤 H A;
+                Laws'4.the-plain 𝓤 H A;
             in-mem = Local.mem-whole 𝓤 H A W (Declared'.row Quantisers.the-type);
             of-mem = Local.whole-mem 𝓤 H A W (Declared'.row Quantisers.the-type);
           })

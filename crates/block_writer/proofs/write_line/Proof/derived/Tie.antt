@@ -1,16 +1,16 @@
--- Written by tools/lend.py from Rattle's derivation of the twin of `block`; not edited by hand. Assumes nothing.
+-- Written by tools/lend.py from Rattle's derivation of the twin of `block_writer`; not edited by hand. Assumes nothing.
 use Rattle.block.proofs.records.load_set.Met
 use Rattle.block.proofs.records.derived.load_set.Reads
 use Rattle.block.proofs.records.load_set.Symbol
 use Rattle.block.proofs.records.store_set.Met as Met'
 use Rattle.block.proofs.records.derived.store_set.Reads as Reads'
 use Rattle.block.proofs.records.store_set.Symbol as Symbol'
-use Rattle.block.proofs.writer.write_line.Code
-use Rattle.block.proofs.writer.write_line.Key
-use Rattle.block.proofs.writer.derived.write_line.Kinds
-use Rattle.block.proofs.writer.write_line.Proof.derived.Lts
-use Rattle.block.proofs.writer.derived.write_line.Reads as Reads''
-use Rattle.block.proofs.writer.write_line.Statement
+use Rattle.block_writer.proofs.write_line.Code
+use Rattle.block_writer.proofs.write_line.Key
+use Rattle.block_writer.proofs.derived.write_line.Kinds
+use Rattle.block_writer.proofs.write_line.Proof.derived.Lts
+use Rattle.block_writer.proofs.derived.write_line.Reads as Reads''
+use Rattle.block_writer.proofs.write_line.Statement
 use Rattle.lines.proofs.set_guards.Met as Met''
 use Rattle.lines.proofs.set_guards.Reads as Reads'3
 use Rattle.lines.proofs.set_guards.Symbol as Symbol''

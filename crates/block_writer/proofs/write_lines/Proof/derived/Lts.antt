@@ -1,14 +1,14 @@
--- Written by tools/lend.py from Rattle's derivation of the twin of `block`; not edited by hand. Assumes nothing.
+-- Written by tools/lend.py from Rattle's derivation of the twin of `block_writer`; not edited by hand. Assumes nothing.
 use Rattle.block.proofs.Element
 use Prim.Native.Nat
 use Rattle.bits.proofs.BitPosition
 use Rattle.bits.proofs.BitPosition.Laws
 use Rattle.block.proofs.Form
 use Rattle.block.proofs.Form.Laws as Laws'
-use Rattle.steps.proofs.Quantisers
-use Rattle.steps.proofs.Quantisers.Laws as Laws''
 use Rattle.output.proofs.Put
-use Rattle.output.proofs.Put.Laws as Laws'3
+use Rattle.output.proofs.Put.Laws as Laws''
+use Rattle.steps.proofs.Quantisers
+use Rattle.steps.proofs.Quantisers.Laws as Laws'3
 use borrow.Author.Called
 use borrow.Author.Tests
 use borrow.Enum.Known
@@ -123,17 +123,17 @@ abbrev pub r : Kinds.RK 5
 r = Value.rVal record {
   ty = Declared.row Put.the-type;
   one = Path'.refl;
-  val = Laws'4.val Put.the-type Laws'3.the-laws;
-  tells = Laws'4.tells Put.the-type Laws'3.the-laws;
-  still = Laws'4.still Put.the-type Laws'3.the-copy
+  val = Laws'4.val Put.the-type Laws''.the-laws;
+  tells = Laws'4.tells Put.the-type Laws''.the-laws;
+  still = Laws'4.still Put.the-type Laws''.the-copy
       Exit.yes;
   row = Rows.whole (Declared.row Put.the-type);
   rd = λ x. x;
   mk = λ x. x;
 } λ M 𝓤 H A W. record {
-  copies = Laws'4.copy Put.the-type Laws'3.the-copy 𝓤 H A W;
-  lawful = Laws'4.lawful Put.the-type Laws'3.the-laws 𝓤 H A W tt;
-  makes = Laws'4.makes Put.the-type Laws'3.the-plain 𝓤 H A;
+  copies = Laws'4.copy Put.the-type Laws''.the-copy 𝓤 H A W;
+  lawful = Laws'4.lawful Put.the-type Laws''.the-laws 𝓤 H A W tt;
+  makes = Laws'4.makes Put.the-type Laws''.the-plain 𝓤 H A;
   in-mem =
       Local.mem-whole 𝓤 H A W (Declared.row Put.the-type);
   of-mem = Local.whole-mem 𝓤 H A W (Declared.row Put.the-type);
@@ -141,12 +141,12 @@ r = Value.rVal record {
 
 abbrev pub xs : List.List Syntax.Ty
 xs = List._∷_ (Syntax.tyInt Syntax.w32) (List._∷_ (Syntax.tyInt Syntax.w64) (List._∷_ Syntax.tyBool (List._∷_ y4 (List._∷_ (Syntax.tyInt Syntax.w64) (List._∷_ (Syntax.tyInt Syntax.w32) (List._∷_
-    (Syntax.tyEnum (List._∷_ 119 (List._∷_ 114 (List._∷_ 105 (List._∷_ 116 (List._∷_ 105 (List._∷_ 110 (List._∷_ 103 (List._∷_ 58 (List._∷_ 58 (List._∷_ 80 (List._∷_ 117 (List._∷_ 116 List.[]))))))))))))
-    (Syntax.ttcons (Syntax.tcons y4 Syntax.tnil) (Syntax.ttcons (Syntax.tcons (Syntax.tyInt Syntax.w64) Syntax.tnil) Syntax.ttnil))) (List._∷_ y4 (List._∷_ Syntax.tyUnit (List._∷_ (Syntax.tyRef
-    Syntax.erased Syntax.mut (Syntax.tyInt Syntax.w16)) (List._∷_ y1 (List._∷_ (Syntax.tyRef Syntax.erased Syntax.mut Element.behind) (List._∷_ y3 (List._∷_ (Syntax.tyInt Syntax.w32) (List._∷_
-    Syntax.tyBool (List._∷_ Syntax.tyUnit (List._∷_ (Syntax.tyRef Syntax.erased Syntax.mut (Syntax.tyInt Syntax.w16)) (List._∷_ y1 (List._∷_ (Syntax.tyRef Syntax.erased Syntax.mut Element.behind)
-    (List._∷_ y3 (List._∷_ (Syntax.tyRef Syntax.erased Syntax.mut (Syntax.tyInt Syntax.w8)) (List._∷_ y2 (List._∷_ (Syntax.tyRef Syntax.erased Syntax.mut (Syntax.tyInt Syntax.w16)) (List._∷_ y1 (List._∷_
-    (Syntax.tyRef Syntax.erased Syntax.mut Element.behind) (List._∷_ y3 (List._∷_ y0 List.[]))))))))))))))))))))))))))
+    (Syntax.tyEnum (List._∷_ 111 (List._∷_ 117 (List._∷_ 116 (List._∷_ 112 (List._∷_ 117 (List._∷_ 116 (List._∷_ 58 (List._∷_ 58 (List._∷_ 80 (List._∷_ 117 (List._∷_ 116 List.[]))))))))))) (Syntax.ttcons
+    (Syntax.tcons y4 Syntax.tnil) (Syntax.ttcons (Syntax.tcons (Syntax.tyInt Syntax.w64) Syntax.tnil) Syntax.ttnil))) (List._∷_ y4 (List._∷_ Syntax.tyUnit (List._∷_ (Syntax.tyRef Syntax.erased Syntax.mut
+    (Syntax.tyInt Syntax.w16)) (List._∷_ y1 (List._∷_ (Syntax.tyRef Syntax.erased Syntax.mut Element.behind) (List._∷_ y3 (List._∷_ (Syntax.tyInt Syntax.w32) (List._∷_ Syntax.tyBool (List._∷_
+    Syntax.tyUnit (List._∷_ (Syntax.tyRef Syntax.erased Syntax.mut (Syntax.tyInt Syntax.w16)) (List._∷_ y1 (List._∷_ (Syntax.tyRef Syntax.erased Syntax.mut Element.behind) (List._∷_ y3 (List._∷_
+    (Syntax.tyRef Syntax.erased Syntax.mut (Syntax.tyInt Syntax.w8)) (List._∷_ y2 (List._∷_ (Syntax.tyRef Syntax.erased Syntax.mut (Syntax.tyInt Syntax.w16)) (List._∷_ y1 (List._∷_ (Syntax.tyRef
+    Syntax.erased Syntax.mut Element.behind) (List._∷_ y3 (List._∷_ y0 List.[]))))))))))))))))))))))))))
 
 abbrev pub m : Nat.ℕ
 m = 7
@@ -206,17 +206,17 @@ abbrev pub r·8 : Kinds.RK 0
 r·8 = Value.rVal record {
   ty = Declared'.row Quantisers.the-type;
   one = Path'.refl;
-  val = Laws'5.val Quantisers.the-type Laws''.the-laws;
-  tells = Laws'5.tells Quantisers.the-type Laws''.the-laws;
+  val = Laws'5.val Quantisers.the-type Laws'3.the-laws;
+  tells = Laws'5.tells Quantisers.the-type Laws'3.the-laws;
   still = Laws'5.still
-      Quantisers.the-type Laws''.the-copy Exit.yes;
+      Quantisers.the-type Laws'3.the-copy Exit.yes;
   row = Rows.whole (Declared'.row Quantisers.the-type);
   rd = λ x. x;
   mk = λ x. x;
 } λ M 𝓤 H A W. record {
-  copies = Laws'5.copy Quantisers.the-type Laws''.the-copy 𝓤 H A W;
-  lawful = Laws'5.lawful Quantisers.the-type Laws''.the-laws 𝓤 H A W;
-  makes = Laws'5.makes Quantisers.the-type Laws''.the-plain 𝓤 H A;
+  copies = Laws'5.copy Quantisers.the-type Laws'3.the-copy 𝓤 H A W;
+  lawful = Laws'5.lawful Quantisers.the-type Laws'3.the-laws 𝓤 H A W;
+  makes = Laws'5.makes Quantisers.the-type Laws'3.the-plain 𝓤 H A;
   in-mem = Local.mem-whole 𝓤 H A W (Declared'.row Quantisers.the-type);
   of-mem = Local.whole-mem 𝓤 H A W (Declared'.row Quantisers.the-type);
 }
@@ -260,17 +260,17 @@ ps·9 = List._∷_ (ShrSlice.pShrS (Referent.rtF (Referent.fInt Syntax.w16)) 0 t
     }) (List._∷_ (Value.pVal record {
       ty = Declared'.row Quantisers.the-type;
       one = Path'.refl;
-      val = Laws'5.val Quantisers.the-type Laws''.the-laws;
-      tells = Laws'5.tells Quantisers.the-type Laws''.the-laws;
+      val = Laws'5.val Quantisers.the-type Laws'3.the-laws;
+      tells = Laws'5.tells Quantisers.the-type Laws'3.the-laws;
       still = Laws'5.still
-          Quantisers.the-type Laws''.the-copy Exit.yes;
+          Quantisers.the-type Laws'3.the-copy Exit.yes;
       row = Rows.whole (Declared'.row Quantisers.the-type);
       rd = λ x. x;
       mk = λ x. x;
     } λ M 𝓤 H A W. record {
-      copies = Laws'5.copy Quantisers.the-type Laws''.the-copy 𝓤 H A W;
-      lawful = Laws'5.lawful Quantisers.the-type Laws''.the-laws 𝓤 H A W;
-      makes = Laws'5.makes Quantisers.the-type Laws''.the-plain 𝓤 H A;
+      copies = Laws'5.copy Quantisers.the-type Laws'3.the-copy 𝓤 H A W;
+      lawful = Laws'5.lawful Quantisers.the-type Laws'3.the-laws 𝓤 H A W;
+      makes = Laws'5.makes Quantisers.the-type Laws'3.the-plain 𝓤 H A;
       in-mem = Local.mem-whole 𝓤 H A W (Declared'.row Quantisers.the-type);
       of-mem = Local.whole-mem 𝓤 H A W (Declared'.row Quantisers.the-type);
     }) (List._∷_ Bool.pBool List.[])))))))))
@@ -279,17 +279,17 @@ abbrev pub r·9 : Kinds.RK 4
 r·9 = Value.rVal record {
   ty = Declared.row Put.the-type;
   one = Path'.refl;
-  val = Laws'4.val Put.the-type Laws'3.the-laws;
-  tells = Laws'4.tells Put.the-type Laws'3.the-laws;
-  still = Laws'4.still Put.the-type Laws'3.the-copy
+  val = Laws'4.val Put.the-type Laws''.the-laws;
+  tells = Laws'4.tells Put.the-type Laws''.the-laws;
+  still = Laws'4.still Put.the-type Laws''.the-copy
       Exit.yes;
   row = Rows.whole (Declared.row Put.the-type);
   rd = λ x. x;
   mk = λ x. x;
 } λ M 𝓤 H A W. record {
-  copies = Laws'4.copy Put.the-type Laws'3.the-copy 𝓤 H A W;
-  lawful = Laws'4.lawful Put.the-type Laws'3.the-laws 𝓤 H A W tt;
-  makes = Laws'4.makes Put.the-type Laws'3.the-plain 𝓤 H A;
+  copies = Laws'4.copy Put.the-type Laws''.the-copy 𝓤 H A W;
+  lawful = Laws'4.lawful Put.the-type Laws''.the-laws 𝓤 H A W tt;
+  makes = Laws'4.makes Put.the-type Laws''.the-plain 𝓤 H A;
   in-mem =
       Local.mem-whole 𝓤 H A W (Declared.row Put.the-type);
   of-mem = Local.whole-mem 𝓤 H A W (Declared.row Put.the-type);
@@ -310,7 +310,7 @@ abbrev b1 : Syntax.Body
 b1 = Syntax.call "map::width" (List._∷_ (Syntax.copy (Syntax.place 6 (List._∷_ (Syntax.field 1) List.[]))) List.[]) (Syntax.place 10 List.[])
 
 abbrev b2 : Syntax.Body
-b2 = Syntax.call "block::writer::is_strict" (List._∷_ (Syntax.copy (Syntax.place 7 List.[])) List.[]) (Syntax.place 11 List.[])
+b2 = Syntax.call "block_writer::is_strict" (List._∷_ (Syntax.copy (Syntax.place 7 List.[])) List.[]) (Syntax.place 11 List.[])
 
 abbrev b3 : Syntax.Body
 b3 = Syntax.assign (Syntax.place 18 List.[]) (Syntax.addrOf (Syntax.place 4 (List._∷_ (Syntax.field 0) (List._∷_ (Syntax.deref (Syntax.tyInt Syntax.w16)) List.[]))))
@@ -404,7 +404,7 @@ abbrev b30 : Syntax.Body
 b30 = Syntax.call "block::reading::quantisers_of" (List._∷_ (Syntax.copy (Syntax.place 9 List.[])) (List._∷_ (Syntax.copy (Syntax.place 14 List.[])) List.[])) (Syntax.place 35 List.[])
 
 abbrev b31 : Syntax.Body
-b31 = Syntax.call "block::writer::write_line" (List._∷_ (Syntax.copy (Syntax.place 1 List.[])) (List._∷_ (Syntax.copy (Syntax.place 13 List.[])) (List._∷_ (Syntax.copy (Syntax.place 30 List.[]))
+b31 = Syntax.call "block_writer::write_line" (List._∷_ (Syntax.copy (Syntax.place 1 List.[])) (List._∷_ (Syntax.copy (Syntax.place 13 List.[])) (List._∷_ (Syntax.copy (Syntax.place 30 List.[]))
     (List._∷_ (Syntax.copy (Syntax.place 3 List.[])) (List._∷_ (Syntax.copy (Syntax.place 12 List.[])) (List._∷_ (Syntax.copy (Syntax.place 32 List.[])) (List._∷_ (Syntax.copy (Syntax.place 34 List.[]))
     (List._∷_ (Syntax.copy (Syntax.place 6 List.[])) (List._∷_ (Syntax.copy (Syntax.place 35 List.[])) (List._∷_ (Syntax.copy (Syntax.place 11 List.[])) List.[])))))))))) (Syntax.place 15 List.[])
 
@@ -555,8 +555,8 @@ Claims = Kinds.In 0 ps·0 × Kinds.Out 0 ps·0 r·0 × Kinds.In 1 ps·1 × Kinds
 abbrev pub e0 : Row.Entry
 e0 = (
   0,
-  Rows.any-gone (Syntax.tyEnum (List._∷_ 119 (List._∷_ 114 (List._∷_ 105 (List._∷_ 116 (List._∷_ 105 (List._∷_ 110 (List._∷_ 103 (List._∷_ 58 (List._∷_ 58 (List._∷_ 80 (List._∷_ 117 (List._∷_ 116
-      List.[])))))))))))) (Syntax.ttcons (Syntax.tcons y4 Syntax.tnil) (Syntax.ttcons (Syntax.tcons (Syntax.tyInt Syntax.w64) Syntax.tnil) Syntax.ttnil))),
+  Rows.any-gone (Syntax.tyEnum (List._∷_ 111 (List._∷_ 117 (List._∷_ 116 (List._∷_ 112 (List._∷_ 117 (List._∷_ 116 (List._∷_ 58 (List._∷_ 58 (List._∷_ 80 (List._∷_ 117 (List._∷_ 116
+      List.[]))))))))))) (Syntax.ttcons (Syntax.tcons y4 Syntax.tnil) (Syntax.ttcons (Syntax.tcons (Syntax.tyInt Syntax.w64) Syntax.tnil) Syntax.ttnil))),
 )
 
 abbrev pub e1 : Row.Entry
@@ -601,8 +601,8 @@ e13 = (14, Rows.sc-here (Row.sInt Syntax.w32))
 abbrev pub e14 : Row.Entry
 e14 = (
   15,
-  Rows.any-gone (Syntax.tyEnum (List._∷_ 119 (List._∷_ 114 (List._∷_ 105 (List._∷_ 116 (List._∷_ 105 (List._∷_ 110 (List._∷_ 103 (List._∷_ 58 (List._∷_ 58 (List._∷_ 80 (List._∷_ 117 (List._∷_ 116
-      List.[])))))))))))) (Syntax.ttcons (Syntax.tcons y4 Syntax.tnil) (Syntax.ttcons (Syntax.tcons (Syntax.tyInt Syntax.w64) Syntax.tnil) Syntax.ttnil))),
+  Rows.any-gone (Syntax.tyEnum (List._∷_ 111 (List._∷_ 117 (List._∷_ 116 (List._∷_ 112 (List._∷_ 117 (List._∷_ 116 (List._∷_ 58 (List._∷_ 58 (List._∷_ 80 (List._∷_ 117 (List._∷_ 116
+      List.[]))))))))))) (Syntax.ttcons (Syntax.tcons y4 Syntax.tnil) (Syntax.ttcons (Syntax.tcons (Syntax.tyInt Syntax.w64) Syntax.tnil) Syntax.ttnil))),
 )
 
 abbrev pub e15 : Row.Entry
@@ -1545,8 +1545,8 @@ module _ (claims· : Claims) where
       ),
     ),
   ) 15 (List._∷_ 0 (List._∷_ 9 (List._∷_ 10 (List._∷_ 11
-      List.[])))) (Syntax.tyEnum (List._∷_ 119 (List._∷_ 114 (List._∷_ 105 (List._∷_ 116 (List._∷_ 105 (List._∷_ 110 (List._∷_ 103 (List._∷_ 58 (List._∷_ 58 (List._∷_ 80 (List._∷_ 117 (List._∷_ 116
-      List.[])))))))))))) (Syntax.ttcons (Syntax.tcons y4 Syntax.tnil) (Syntax.ttcons (Syntax.tcons (Syntax.tyInt Syntax.w64) Syntax.tnil) Syntax.ttnil)))
+      List.[])))) (Syntax.tyEnum (List._∷_ 111 (List._∷_ 117 (List._∷_ 116 (List._∷_ 112 (List._∷_ 117 (List._∷_ 116 (List._∷_ 58 (List._∷_ 58 (List._∷_ 80 (List._∷_ 117 (List._∷_ 116 List.[])))))))))))
+      (Syntax.ttcons (Syntax.tcons y4 Syntax.tnil) (Syntax.ttcons (Syntax.tcons (Syntax.tyInt Syntax.w64) Syntax.tnil) Syntax.ttnil)))
 
   abbrev s64 : Typed.Mo T67 → Typed.Mo T69
   s64 = Scalar.n-room T67 12 y4
@@ -1575,14 +1575,14 @@ module _ (claims· : Claims) where
   s77 = Known.k-enum-known Put.enum 0 T80 15 λ x. x
 
   abbrev s78 : Typed.Gives T82 T83
-  s78 = Known.k-known-told Put.enum Laws'3.the-laws 0 T82 15 λ x. x
+  s78 = Known.k-known-told Put.enum Laws''.the-laws 0 T82 15 λ x. x
 
   abbrev s79 : Typed.Mo T83 → Typed.Mo T84
   s79 = Make'.n-make (Declared'.row BitPosition.the-type) T83 16 λ m. m .1 .1 .1 .1 .1 .1 .1 .1 .1 .1 .1 .1 .1 .1 .1 .0 .0
 
   abbrev s80 : Typed.Mo T84 → Typed.Mo T85
-  s80 = Scalar.n-room T84 15 (Syntax.tyEnum (List._∷_ 119 (List._∷_ 114 (List._∷_ 105 (List._∷_ 116 (List._∷_ 105 (List._∷_ 110 (List._∷_ 103 (List._∷_ 58 (List._∷_ 58 (List._∷_ 80 (List._∷_ 117
-      (List._∷_ 116 List.[])))))))))))) (Syntax.ttcons (Syntax.tcons y4 Syntax.tnil) (Syntax.ttcons (Syntax.tcons (Syntax.tyInt Syntax.w64) Syntax.tnil) Syntax.ttnil)))
+  s80 = Scalar.n-room T84 15 (Syntax.tyEnum (List._∷_ 111 (List._∷_ 117 (List._∷_ 116 (List._∷_ 112 (List._∷_ 117 (List._∷_ 116 (List._∷_ 58 (List._∷_ 58 (List._∷_ 80 (List._∷_ 117 (List._∷_ 116
+      List.[]))))))))))) (Syntax.ttcons (Syntax.tcons y4 Syntax.tnil) (Syntax.ttcons (Syntax.tcons (Syntax.tyInt Syntax.w64) Syntax.tnil) Syntax.ttnil)))
 
   abbrev s81 : Typed.Both T80 T86
   s81 = Known.k-enum-told Put.enum 1 T80 15 λ x. x
@@ -1594,8 +1594,8 @@ module _ (claims· : Claims) where
   s83 = LocalCopy.n-val-copy T87 15 0 (Declared.row Put.the-type) (Rows.whole (Declared.row Put.the-type)) (Rows.whole (Declared.row Put.the-type)) (λ x. x) (λ x. x) λ x. x
 
   abbrev s84 : Typed.Mo T88 → Typed.Mo T89
-  s84 = Scalar.n-room T88 15 (Syntax.tyEnum (List._∷_ 119 (List._∷_ 114 (List._∷_ 105 (List._∷_ 116 (List._∷_ 105 (List._∷_ 110 (List._∷_ 103 (List._∷_ 58 (List._∷_ 58 (List._∷_ 80 (List._∷_ 117
-      (List._∷_ 116 List.[])))))))))))) (Syntax.ttcons (Syntax.tcons y4 Syntax.tnil) (Syntax.ttcons (Syntax.tcons (Syntax.tyInt Syntax.w64) Syntax.tnil) Syntax.ttnil)))
+  s84 = Scalar.n-room T88 15 (Syntax.tyEnum (List._∷_ 111 (List._∷_ 117 (List._∷_ 116 (List._∷_ 112 (List._∷_ 117 (List._∷_ 116 (List._∷_ 58 (List._∷_ 58 (List._∷_ 80 (List._∷_ 117 (List._∷_ 116
+      List.[]))))))))))) (Syntax.ttcons (Syntax.tcons y4 Syntax.tnil) (Syntax.ttcons (Syntax.tcons (Syntax.tyInt Syntax.w64) Syntax.tnil) Syntax.ttnil)))
 
   abbrev s85 : Typed.Mo T89 → Typed.Mo T90
   s85 = Scalar.n-room T89 3 Syntax.tyBool
@@ -1668,12 +1668,12 @@ module _ (claims· : Claims) where
     module _ (M : Type 1) where
       abbrev pub Closed : Type 2
       Closed = (𝓤 : URA.URA M) (H : Wp.Heap 𝓤) (A : Atoms.Atoms 𝓤) (W : Kit.Given 𝓤 H A) (𝓣 : Wp.Tables 𝓤 H) (known0 : Plain.Known 𝓤 H A W 𝓣 0 ps·0 r·0 (claims· .0) (claims· .1) "map::width") (known1
-          : Plain.Known 𝓤 H A W 𝓣 1 ps·1 r·1 (claims· .2) (claims· .3) "block::writer::is_strict") (known2 : Plain.Known 𝓤 H A W 𝓣 1 ps·2 r·2 (claims· .4) (claims· .5) "lines::clear") (known3 :
-          Plain.Known 𝓤 H A W 𝓣 1 ps·3 r·3 (claims· .6) (claims· .7) "cameras::base_of") (known4 : Plain.Known 𝓤 H A W 𝓣 1 ps·4 r·4 (claims· .8) (claims· .9) "block::records::start_records") (known5 :
-          Plain.Known 𝓤 H A W 𝓣 1 ps·5 r·5 (claims· .10) (claims· .11) "lines::turn") (known6 : Plain.Known 𝓤 H A W 𝓣 1 ps·6 r·6 (claims· .12) (claims· .13) "block::reading::is_restarted") (known7 :
-          Plain.Known 𝓤 H A W 𝓣 1 ps·7 r·7 (claims· .14) (claims· .15) "block::records::restart") (known8 : Plain.Known 𝓤 H A W 𝓣 0 ps·8 r·8 (claims· .16) (claims· .17) "block::reading::quantisers_of")
-          (known9 : Plain.Known 𝓤 H A W 𝓣 4 ps·9 r·9 (claims· .18) (claims· .19) "block::writer::write_line") → Statement.Triple 𝓤 (Wp.WpFn 𝓤 H (𝓣 .C) (𝓣 .Λ) (Function.fnOf 5 ps r xs m hs body))
-          (Function.plainOf 𝓤 H A 5 ps r Pre· Post·)
+          : Plain.Known 𝓤 H A W 𝓣 1 ps·1 r·1 (claims· .2) (claims· .3) "block_writer::is_strict") (known2 : Plain.Known 𝓤 H A W 𝓣 1 ps·2 r·2 (claims· .4) (claims· .5) "lines::clear") (known3 : Plain.Known
+          𝓤 H A W 𝓣 1 ps·3 r·3 (claims· .6) (claims· .7) "cameras::base_of") (known4 : Plain.Known 𝓤 H A W 𝓣 1 ps·4 r·4 (claims· .8) (claims· .9) "block::records::start_records") (known5 : Plain.Known 𝓤 H
+          A W 𝓣 1 ps·5 r·5 (claims· .10) (claims· .11) "lines::turn") (known6 : Plain.Known 𝓤 H A W 𝓣 1 ps·6 r·6 (claims· .12) (claims· .13) "block::reading::is_restarted") (known7 : Plain.Known 𝓤 H A W 𝓣
+          1 ps·7 r·7 (claims· .14) (claims· .15) "block::records::restart") (known8 : Plain.Known 𝓤 H A W 𝓣 0 ps·8 r·8 (claims· .16) (claims· .17) "block::reading::quantisers_of") (known9 : Plain.Known 𝓤
+          H A W 𝓣 4 ps·9 r·9 (claims· .18) (claims· .19) "block_writer::write_line") → Statement.Triple 𝓤 (Wp.WpFn 𝓤 H (𝓣 .C) (𝓣 .Λ) (Function.fnOf 5 ps r xs m hs body)) (Function.plainOf 𝓤 H A 5 ps r
+          Pre· Post·)
 
     module _ (Inv·0 : InvT-loop) (μ·0 : MeasureT-loop) where
       abbrev at0 : Typed.TF T34 O4
@@ -2024,11 +2024,11 @@ module _ (claims· : Claims) where
 
       module _ {M : Type 1} (𝓤 : URA.URA M) (H : Wp.Heap 𝓤) (A : Atoms.Atoms 𝓤) (W : Kit.Given 𝓤 H A) (𝓣 : Wp.Tables 𝓤 H) where
         abbrev Knowns : Type 1
-        Knowns = Plain.Known 𝓤 H A W 𝓣 0 ps·0 r·0 (claims· .0) (claims· .1) "map::width" × Plain.Known 𝓤 H A W 𝓣 1 ps·1 r·1 (claims· .2) (claims· .3) "block::writer::is_strict" × Plain.Known 𝓤 H A W 𝓣
+        Knowns = Plain.Known 𝓤 H A W 𝓣 0 ps·0 r·0 (claims· .0) (claims· .1) "map::width" × Plain.Known 𝓤 H A W 𝓣 1 ps·1 r·1 (claims· .2) (claims· .3) "block_writer::is_strict" × Plain.Known 𝓤 H A W 𝓣
             1 ps·2 r·2 (claims· .4) (claims· .5) "lines::clear" × Plain.Known 𝓤 H A W 𝓣 1 ps·3 r·3 (claims· .6) (claims· .7) "cameras::base_of" × Plain.Known 𝓤 H A W 𝓣 1 ps·4 r·4 (claims· .8) (claims· .9)
             "block::records::start_records" × Plain.Known 𝓤 H A W 𝓣 1 ps·5 r·5 (claims· .10) (claims· .11) "lines::turn" × Plain.Known 𝓤 H A W 𝓣 1 ps·6 r·6 (claims· .12) (claims· .13)
             "block::reading::is_restarted" × Plain.Known 𝓤 H A W 𝓣 1 ps·7 r·7 (claims· .14) (claims· .15) "block::records::restart" × Plain.Known 𝓤 H A W 𝓣 0 ps·8 r·8 (claims· .16) (claims· .17)
-            "block::reading::quantisers_of" × Plain.Known 𝓤 H A W 𝓣 4 ps·9 r·9 (claims· .18) (claims· .19) "block::writer::write_line"
+            "block::reading::quantisers_of" × Plain.Known 𝓤 H A W 𝓣 4 ps·9 r·9 (claims· .18) (claims· .19) "block_writer::write_line"
 
       module _ (κs : Lifetimes.Lfts 5) (qs : Lifetimes.Shares 5) where
         abbrev g7 : List.List Row.Entry
@@ -3000,21 +3000,21 @@ module _ (claims· : Claims) where
           d6 = Typed.s-typed 𝓤 H A W 𝓣 E G83 b32 Δ5 (λ Ψ. Typed.pass T83 T84 s79 (Typed.pass T84 T85 s80 Ψ)) tt (Typed.g-post 𝓤 H A W 𝓣 E G83 G84 G85 b32 (Typed.pass T83 T84 s79) (Typed.pass T84 T85
               s80) (CopyOut.t-copy-told 𝓤 H A W E 𝓣 (Declared'.row BitPosition.the-type) Path'.refl (Laws'5.val BitPosition.the-type Laws.the-laws) (Laws'5.lawful BitPosition.the-type Laws.the-laws 𝓤 H A
               W) (Laws'5.makes BitPosition.the-type Laws.the-plain 𝓤 H A) G83 16 (Scalar.oFld 15 (List._∷_ (Syntax.variant 0) (List._∷_ (Syntax.field 1) List.[])) y4 8 λ v. Laws'5.val BitPosition.the-type
-              Laws.the-laws (v .0)) (λ m. m .1 .1 .1 .1 .1 .1 .1 .1 .1 .1 .1 .1 .1 .1 .1 .0 .0) (λ m. Laws'4.Fields (Declared.variants Put.the-type) (Laws'4.spellss (Put.enum .parts) Laws'3.the-laws)
+              Laws.the-laws (v .0)) (λ m. m .1 .1 .1 .1 .1 .1 .1 .1 .1 .1 .1 .1 .1 .1 .1 .0 .0) (λ m. Laws'4.Fields (Declared.variants Put.the-type) (Laws'4.spellss (Put.enum .parts) Laws''.the-laws)
               (Put.the-type .to (Known.at Put.enum 0 (m .1 .1 .1 .1 .1 .1 .1 .1 .1 .1 .1 .1 .1 .1 .1 .0)))) (Reads'.room-gone 𝓤 H A y4) (
-                Match.reads-payload 𝓤 H A W Put.enum Laws'3.the-laws 0 Path'.refl Path'.refl (λ v. Val.vcons (Laws'5.val BitPosition.the-type Laws.the-laws (v .0)) Val.vnil) (λ v. Path'.refl) 0 y4 8
+                Match.reads-payload 𝓤 H A W Put.enum Laws''.the-laws 0 Path'.refl Path'.refl (λ v. Val.vcons (Laws'5.val BitPosition.the-type Laws.the-laws (v .0)) Val.vnil) (λ v. Path'.refl) 0 y4 8
                     Path'.refl,
                 Path'.refl,
               ) Path'.refl (λ ρ m. Make'.tells-row 𝓤 H A W E ρ (Row.out 16 (G83 .locals)) m 15 (Laws'4.Fields (Declared.variants Put.the-type) (Laws'4.spellss (Put.enum .parts)
-              Laws'3.the-laws) (Put.the-type .to (Known.at Put.enum 0 (m .1 .1 .1 .1 .1 .1 .1 .1 .1 .1 .1 .1 .1 .1 .1 .0)))) (Known.known-is 𝓤 H A W E Put.enum 0 Laws'3.the-laws ρ 15 (m .1 .1 .1 .1 .1 .1
-              .1 .1 .1 .1 .1 .1 .1 .1 .1 .0))) (λ m k wa. Path'.refl) λ m k wa. k .0) (Scalar.g-room 𝓤 H A W E G84 15 (Syntax.tyEnum (List._∷_ 119 (List._∷_ 114 (List._∷_ 105 (List._∷_ 116 (List._∷_ 105
-              (List._∷_ 110 (List._∷_ 103 (List._∷_ 58 (List._∷_ 58 (List._∷_ 80 (List._∷_ 117 (List._∷_ 116 List.[])))))))))))) (Syntax.ttcons (Syntax.tcons y4 Syntax.tnil) (Syntax.ttcons (Syntax.tcons
-              (Syntax.tyInt Syntax.w64) Syntax.tnil) Syntax.ttnil))) (Local.room-whole 𝓤 H A W (Known.Known Put.enum 0) (Syntax.tyEnum (List._∷_ 119 (List._∷_ 114 (List._∷_ 105 (List._∷_ 116 (List._∷_ 105
-              (List._∷_ 110 (List._∷_ 103 (List._∷_ 58 (List._∷_ 58 (List._∷_ 80 (List._∷_ 117 (List._∷_ 116 List.[])))))))))))) (Syntax.ttcons (Syntax.tcons y4 Syntax.tnil) (Syntax.ttcons (Syntax.tcons
-              (Syntax.tyInt Syntax.w64) Syntax.tnil) Syntax.ttnil))) Path'.refl)))
+              Laws''.the-laws) (Put.the-type .to (Known.at Put.enum 0 (m .1 .1 .1 .1 .1 .1 .1 .1 .1 .1 .1 .1 .1 .1 .1 .0)))) (Known.known-is 𝓤 H A W E Put.enum 0 Laws''.the-laws ρ 15 (m .1 .1 .1 .1 .1 .1
+              .1 .1 .1 .1 .1 .1 .1 .1 .1 .0))) (λ m k wa. Path'.refl) λ m k wa. k .0) (Scalar.g-room 𝓤 H A W E G84 15 (Syntax.tyEnum (List._∷_ 111 (List._∷_ 117 (List._∷_ 116 (List._∷_ 112 (List._∷_ 117
+              (List._∷_ 116 (List._∷_ 58 (List._∷_ 58 (List._∷_ 80 (List._∷_ 117 (List._∷_ 116 List.[]))))))))))) (Syntax.ttcons (Syntax.tcons y4 Syntax.tnil) (Syntax.ttcons (Syntax.tcons (Syntax.tyInt
+              Syntax.w64) Syntax.tnil) Syntax.ttnil))) (Local.room-whole 𝓤 H A W (Known.Known Put.enum 0) (Syntax.tyEnum (List._∷_ 111 (List._∷_ 117 (List._∷_ 116 (List._∷_ 112 (List._∷_ 117 (List._∷_ 116
+              (List._∷_ 58 (List._∷_ 58 (List._∷_ 80 (List._∷_ 117 (List._∷_ 116 List.[]))))))))))) (Syntax.ttcons (Syntax.tcons y4 Syntax.tnil) (Syntax.ttcons (Syntax.tcons (Syntax.tyInt Syntax.w64)
+              Syntax.tnil) Syntax.ttnil))) Path'.refl)))
 
           d7 : Typed.Typed 𝓤 H A 𝓣 E G82 b32 Δ5 at7
-          d7 = Typed.g-pre 𝓤 H A W 𝓣 E G82 G83 b32 Δ5 (Typed.give s78) at6 (Known.g-known-told 𝓤 H A W E Put.enum 0 G82 15 Laws'3.the-laws (λ x. x) (Reads'.as-is 𝓤 H A (Rows.whole (Known.Known
+          d7 = Typed.g-pre 𝓤 H A W 𝓣 E G82 G83 b32 Δ5 (Typed.give s78) at6 (Known.g-known-told 𝓤 H A W E Put.enum 0 G82 15 Laws''.the-laws (λ x. x) (Reads'.as-is 𝓤 H A (Rows.whole (Known.Known
               Put.enum 0)))) d6
 
           d8 : Typed.Typed 𝓤 H A 𝓣 E G81 b32 Δ5 at8
@@ -3045,24 +3045,23 @@ module _ (claims· : Claims) where
           d16 = Typed.g-pre 𝓤 H A W 𝓣 E G89 G90 b34 Δ5 (Typed.pass T89 T90 s85) at15 (Scalar.g-room 𝓤 H A W E G89 3 Syntax.tyBool (Scalar.room-sc 𝓤 H A W Row.sBool)) d15
 
           d17 : Typed.Typed 𝓤 H A 𝓣 E G88 b34 Δ5 at17
-          d17 = Typed.g-pre 𝓤 H A W 𝓣 E G88 G89 b34 Δ5 (Typed.pass T88 T89 s84) at16 (Scalar.g-room 𝓤 H A W E G88 15 (Syntax.tyEnum (List._∷_ 119 (List._∷_ 114 (List._∷_ 105 (List._∷_ 116 (List._∷_
-              105 (List._∷_ 110 (List._∷_ 103 (List._∷_ 58 (List._∷_ 58 (List._∷_ 80 (List._∷_ 117 (List._∷_ 116 List.[])))))))))))) (Syntax.ttcons (Syntax.tcons y4 Syntax.tnil) (Syntax.ttcons
-              (Syntax.tcons (Syntax.tyInt Syntax.w64) Syntax.tnil) Syntax.ttnil))) (Local.room-whole 𝓤 H A W (Declared.row Put.the-type) (Syntax.tyEnum (List._∷_ 119 (List._∷_ 114 (List._∷_ 105 (List._∷_
-              116 (List._∷_ 105 (List._∷_ 110 (List._∷_ 103 (List._∷_ 58 (List._∷_ 58 (List._∷_ 80 (List._∷_ 117 (List._∷_ 116 List.[])))))))))))) (Syntax.ttcons (Syntax.tcons y4 Syntax.tnil)
-              (Syntax.ttcons (Syntax.tcons (Syntax.tyInt Syntax.w64) Syntax.tnil) Syntax.ttnil))) Path'.refl)) d16
+          d17 = Typed.g-pre 𝓤 H A W 𝓣 E G88 G89 b34 Δ5 (Typed.pass T88 T89 s84) at16 (Scalar.g-room 𝓤 H A W E G88 15 (Syntax.tyEnum (List._∷_ 111 (List._∷_ 117 (List._∷_ 116 (List._∷_ 112 (List._∷_
+              117 (List._∷_ 116 (List._∷_ 58 (List._∷_ 58 (List._∷_ 80 (List._∷_ 117 (List._∷_ 116 List.[]))))))))))) (Syntax.ttcons (Syntax.tcons y4 Syntax.tnil) (Syntax.ttcons (Syntax.tcons
+              (Syntax.tyInt Syntax.w64) Syntax.tnil) Syntax.ttnil))) (Local.room-whole 𝓤 H A W (Declared.row Put.the-type) (Syntax.tyEnum (List._∷_ 111 (List._∷_ 117 (List._∷_ 116 (List._∷_ 112 (List._∷_
+              117 (List._∷_ 116 (List._∷_ 58 (List._∷_ 58 (List._∷_ 80 (List._∷_ 117 (List._∷_ 116 List.[]))))))))))) (Syntax.ttcons (Syntax.tcons y4 Syntax.tnil) (Syntax.ttcons (Syntax.tcons
+              (Syntax.tyInt Syntax.w64) Syntax.tnil) Syntax.ttnil))) Path'.refl)) d16
 
           d18 : Typed.Typed 𝓤 H A 𝓣 E G87 b35 Δ5 at18
-          d18 = Typed.s-seq 𝓤 H A W 𝓣 E G87 G88 b33 b34 Δ5 (Typed.pass T87 T88 s83) at17 (LocalCopy.t-val-copy 𝓤 H A W E 𝓣 (λ ρ. Unit) G87 15 0 (Declared.row Put.the-type) (Syntax.tyEnum (List._∷_ 119
-              (List._∷_ 114 (List._∷_ 105 (List._∷_ 116 (List._∷_ 105 (List._∷_ 110 (List._∷_ 103 (List._∷_ 58 (List._∷_ 58 (List._∷_ 80 (List._∷_ 117 (List._∷_ 116 List.[])))))))))))) (Syntax.ttcons
-              (Syntax.tcons y4 Syntax.tnil) (Syntax.ttcons (Syntax.tcons (Syntax.tyInt Syntax.w64) Syntax.tnil) Syntax.ttnil))) (Syntax.tyEnum (List._∷_ 119 (List._∷_ 114 (List._∷_ 105 (List._∷_ 116
-              (List._∷_ 105 (List._∷_ 110 (List._∷_ 103 (List._∷_ 58 (List._∷_ 58 (List._∷_ 80 (List._∷_ 117 (List._∷_ 116 List.[])))))))))))) (Syntax.ttcons (Syntax.tcons y4 Syntax.tnil) (Syntax.ttcons
-              (Syntax.tcons (Syntax.tyInt Syntax.w64) Syntax.tnil) Syntax.ttnil))) (Rows.whole (Declared.row Put.the-type)) (Rows.whole (Declared.row Put.the-type)) (λ x. x) (λ x. x) (λ x. x) Path'.refl
-              (Own.told-none 𝓤 H A (G87 .slots)) (Yields.yields-copy 𝓤 H A W (λ ρ. Unit) (Declared.row Put.the-type) Path'.refl (Copies.cEnum Put.the-type Laws'3.the-laws Laws'3.the-copy .copy 𝓤 H A W)
-              (Rows.whole (Declared.row Put.the-type)) (λ x. x) (λ x. x) (λ ρ told. Local.mem-whole 𝓤 H A W (Declared.row Put.the-type) ρ) λ ρ told. Local.whole-mem 𝓤 H A W (Declared.row Put.the-type) ρ)
-              (Reads'.room-gone 𝓤 H A (Syntax.tyEnum (List._∷_ 119 (List._∷_ 114 (List._∷_ 105 (List._∷_ 116 (List._∷_ 105 (List._∷_ 110 (List._∷_ 103 (List._∷_ 58 (List._∷_ 58 (List._∷_ 80 (List._∷_ 117
-              (List._∷_ 116 List.[])))))))))))) (Syntax.ttcons (Syntax.tcons y4 Syntax.tnil) (Syntax.ttcons (Syntax.tcons (Syntax.tyInt Syntax.w64) Syntax.tnil) Syntax.ttnil)))) (Yields.makes-mem 𝓤 H A W
-              (λ ρ. Unit) (Declared.row Put.the-type) Path'.refl (Rows.whole (Declared.row Put.the-type)) (λ x. x) λ ρ told. Local.whole-mem 𝓤 H A W (Declared.row Put.the-type) ρ) Path'.refl Path'.refl)
-              d17
+          d18 = Typed.s-seq 𝓤 H A W 𝓣 E G87 G88 b33 b34 Δ5 (Typed.pass T87 T88 s83) at17 (LocalCopy.t-val-copy 𝓤 H A W E 𝓣 (λ ρ. Unit) G87 15 0 (Declared.row Put.the-type) (Syntax.tyEnum (List._∷_ 111
+              (List._∷_ 117 (List._∷_ 116 (List._∷_ 112 (List._∷_ 117 (List._∷_ 116 (List._∷_ 58 (List._∷_ 58 (List._∷_ 80 (List._∷_ 117 (List._∷_ 116 List.[]))))))))))) (Syntax.ttcons (Syntax.tcons y4
+              Syntax.tnil) (Syntax.ttcons (Syntax.tcons (Syntax.tyInt Syntax.w64) Syntax.tnil) Syntax.ttnil))) (Syntax.tyEnum (List._∷_ 111 (List._∷_ 117 (List._∷_ 116 (List._∷_ 112 (List._∷_ 117
+              (List._∷_ 116 (List._∷_ 58 (List._∷_ 58 (List._∷_ 80 (List._∷_ 117 (List._∷_ 116 List.[]))))))))))) (Syntax.ttcons (Syntax.tcons y4 Syntax.tnil) (Syntax.ttcons (Syntax.tcons (Syntax.tyInt
+              Syntax.w64) Syntax.tnil) Syntax.ttnil))) (Rows.whole (Declared.row Put.the-type)) (Rows.whole (Declared.row Put.the-type)) (λ x. x) (λ x. x) (λ x. x) Path'.refl (Own.told-none 𝓤 H A (G87
+              .slots)) (Yields.yields-copy 𝓤 H A W (λ ρ. Unit) (Declared.row Put.the-type) Path'.refl (Copies.cEnum Put.the-type Laws''.the-laws Laws''.the-copy .copy 𝓤 H A W) (Rows.whole (Declared.row
+              Put.the-type)) (λ x. x) (λ x. x) (λ ρ told. Local.mem-whole 𝓤 H A W (Declared.row Put.the-type) ρ) λ ρ told. Local.whole-mem 𝓤 H A W (Declared.row Put.the-type) ρ) (Reads'.room-gone 𝓤 H A
+              (Syntax.tyEnum (List._∷_ 111 (List._∷_ 117 (List._∷_ 116 (List._∷_ 112 (List._∷_ 117 (List._∷_ 116 (List._∷_ 58 (List._∷_ 58 (List._∷_ 80 (List._∷_ 117 (List._∷_ 116 List.[])))))))))))
+              (Syntax.ttcons (Syntax.tcons y4 Syntax.tnil) (Syntax.ttcons (Syntax.tcons (Syntax.tyInt Syntax.w64) Syntax.tnil) Syntax.ttnil)))) (Yields.makes-mem 𝓤 H A W (λ ρ. Unit) (Declared.row
+              Put.the-type) Path'.refl (Rows.whole (Declared.row Put.the-type)) (λ x. x) λ ρ told. Local.whole-mem 𝓤 H A W (Declared.row Put.the-type) ρ) Path'.refl Path'.refl) d17
 
           d19 : Typed.Typed 𝓤 H A 𝓣 E G86 b35 Δ5 at19
           d19 = Typed.g-pre 𝓤 H A W 𝓣 E G86 G87 b35 Δ5 (Typed.pass T86 T87 s82) at18 (Scalar.g-room 𝓤 H A W E G86 6 y5 (Local.room-whole 𝓤 H A W (Declared'.row Form.the-type) y5 Path'.refl)) d18
@@ -3074,7 +3073,7 @@ module _ (claims· : Claims) where
           d21 = Switch.t-switch-on 𝓤 H A W E 𝓣 G81 (Scalar.oFld 15 (List._∷_ (Syntax.variant 0) (List._∷_ (Syntax.field 0) List.[])) (Syntax.tyInt Syntax.w8) 0 λ x. Val.vint Syntax.w8 (Declared.tagOf
               Put.the-type x)) Syntax.w8 (λ u. Declared.tagOf Put.the-type (u .1 .1 .1 .1 .1 .1 .1 .1 .1 .1 .1 .1 .1 .1 .1 .0)) (Syntax.arm (List._∷_ 0 List.[]) b32 (Syntax.arm (List._∷_ 1 List.[]) b35
               Syntax.noDefault)) Δ5 (at8, (at20, tt))
-              (Match.reads-tag 𝓤 H A W Put.the-type Laws'3.the-laws (Rows.whole (Declared.row Put.the-type)) 0 (λ x. x) (Whole.reads-enum 𝓤 H A W Put.the-type Laws'3.the-laws), Path'.refl) (λ u.
+              (Match.reads-tag 𝓤 H A W Put.the-type Laws''.the-laws (Rows.whole (Declared.row Put.the-type)) 0 (λ x. x) (Whole.reads-enum 𝓤 H A W Put.the-type Laws''.the-laws), Path'.refl) (λ u.
               Path'.refl) (d8, (d20, tt))
 
           d22 : Typed.Typed 𝓤 H A 𝓣 E G80 b36 Δ5 at22
@@ -3154,7 +3153,7 @@ module _ (claims· : Claims) where
           d38 = Typed.t-seq 𝓤 H A W 𝓣 E G67 G68 b36 b39 Δ3 at34 at37 d34 d37
 
           d39 : Typed.Typed 𝓤 H A 𝓣 E G66 b41 Δ3 at39
-          d39 = Typed.s-seq 𝓤 H A W 𝓣 E G66 G67 b31 b40 Δ3 (Typed.both s63) at38 (Plain.t-call-plain 𝓤 H A W 𝓣 4 ps·9 r·9 (claims· .18) (claims· .19) "block::writer::write_line" (known .9) E (λ pos β.
+          d39 = Typed.s-seq 𝓤 H A W 𝓣 E G66 G67 b31 b40 Δ3 (Typed.both s63) at38 (Plain.t-call-plain 𝓤 H A W 𝓣 4 ps·9 r·9 (claims· .18) (claims· .19) "block_writer::write_line" (known .9) E (λ pos β.
               β) G66 (
                 record { pos = 1; ty = Syntax.tyRef (Syntax.named 0) Syntax.imm (Syntax.tyInt Syntax.w16); ref = λ x. x },
                 (
@@ -3216,7 +3215,7 @@ module _ (claims· : Claims) where
                               ),
                               (
                                 (
-                                  Yields.yields-copy 𝓤 H A W (λ ρ. Unit) (Declared'.row Quantisers.the-type) Path'.refl (Copies.cStruct Quantisers.the-type Laws''.the-laws Laws''.the-copy .copy 𝓤 H A W) (Rows.whole
+                                  Yields.yields-copy 𝓤 H A W (λ ρ. Unit) (Declared'.row Quantisers.the-type) Path'.refl (Copies.cStruct Quantisers.the-type Laws'3.the-laws Laws'3.the-copy .copy 𝓤 H A W) (Rows.whole
                                       (Declared'.row Quantisers.the-type)) (λ x. x) (λ x. x) (λ ρ told. Local.mem-whole 𝓤 H A W (Declared'.row Quantisers.the-type) ρ) λ ρ told. Local.whole-mem 𝓤 H A W (Declared'.row
                                       Quantisers.the-type) ρ,
                                   Path'.refl,
@@ -3230,9 +3229,9 @@ module _ (claims· : Claims) where
                     ),
                   ),
                 ),
-              ) (Reads'.room-gone 𝓤 H A (Syntax.tyEnum (List._∷_ 119 (List._∷_ 114 (List._∷_ 105 (List._∷_
-              116 (List._∷_ 105 (List._∷_ 110 (List._∷_ 103 (List._∷_ 58 (List._∷_ 58 (List._∷_ 80 (List._∷_ 117 (List._∷_ 116 List.[])))))))))))) (Syntax.ttcons (Syntax.tcons y4 Syntax.tnil)
-              (Syntax.ttcons (Syntax.tcons (Syntax.tyInt Syntax.w64) Syntax.tnil) Syntax.ttnil)))) (tt, (tt, (tt, (tt, tt)))) Path'.refl) d38
+              ) (Reads'.room-gone 𝓤 H A (Syntax.tyEnum (List._∷_ 111 (List._∷_ 117 (List._∷_ 116 (List._∷_
+              112 (List._∷_ 117 (List._∷_ 116 (List._∷_ 58 (List._∷_ 58 (List._∷_ 80 (List._∷_ 117 (List._∷_ 116 List.[]))))))))))) (Syntax.ttcons (Syntax.tcons y4 Syntax.tnil) (Syntax.ttcons
+              (Syntax.tcons (Syntax.tyInt Syntax.w64) Syntax.tnil) Syntax.ttnil)))) (tt, (tt, (tt, (tt, tt)))) Path'.refl) d38
 
           d40 : Typed.Typed 𝓤 H A 𝓣 E G65 b42 Δ3 at40
           d40 = Typed.s-seq 𝓤 H A W 𝓣 E G65 G66 b30 b41 Δ3 (Typed.both s62) at39 (Plain.t-call-plain 𝓤 H A W 𝓣 0 ps·8 r·8 (claims· .16) (claims· .17) "block::reading::quantisers_of" (known .8) E (λ
@@ -3557,16 +3556,16 @@ module _ (claims· : Claims) where
           d82 = Typed.g-pre 𝓤 H A W 𝓣 E G101 G102 b62 Δ0 (Typed.pass T101 T102 s97) at81 (Scalar.g-room 𝓤 H A W E G101 9 (Syntax.tyInt Syntax.w32) (Scalar.room-sc 𝓤 H A W (Row.sInt Syntax.w32))) d81
 
           d83 : Typed.Typed 𝓤 H A 𝓣 E G30 b63 Δ0 at83
-          d83 = Typed.s-seq 𝓤 H A W 𝓣 E G30 G101 b61 b62 Δ0 (Typed.pass T30 T101 s96) at82 (Make.t-enum-make-wt 𝓤 H A W E 𝓣 Put.the-type Laws'3.the-laws Laws'3.the-plain tt G30 0 (List._∷_
+          d83 = Typed.s-seq 𝓤 H A W 𝓣 E G30 G101 b61 b62 Δ0 (Typed.pass T30 T101 s96) at82 (Make.t-enum-make-wt 𝓤 H A W E 𝓣 Put.the-type Laws''.the-laws Laws''.the-plain tt G30 0 (List._∷_
               (Scalar.oInt Syntax.w8 0) (List._∷_ (Scalar.oAt 12 y4 (Laws'5.val BitPosition.the-type Laws.the-laws)) List.[])) (λ m. Put.enum .make (Logic.inl
-              (m .1 .1 .1 .1 .1 .1 .1 .1 .1 .1 .1 .1 .0, tt))) (Reads'.room-gone 𝓤 H A (Syntax.tyEnum (List._∷_ 119 (List._∷_ 114 (List._∷_ 105 (List._∷_ 116 (List._∷_ 105 (List._∷_ 110 (List._∷_ 103
-              (List._∷_ 58 (List._∷_ 58 (List._∷_ 80 (List._∷_ 117 (List._∷_ 116 List.[])))))))))))) (Syntax.ttcons (Syntax.tcons y4 Syntax.tnil) (Syntax.ttcons (Syntax.tcons (Syntax.tyInt Syntax.w64)
-              Syntax.tnil) Syntax.ttnil)))) (tt, ((Reads.reads-struct 𝓤 H A W BitPosition.the-type Laws.the-laws, Path'.refl), tt)) Path'.refl (λ m wa. Make.made-val Put.the-type Laws'3.the-laws (List._∷_
-              (Laws'5.val BitPosition.the-type Laws.the-laws (m .1 .1 .1 .1 .1 .1 .1 .1 .1 .1 .1 .1 .0)) List.[]) (Put.enum .make (Logic.inl (m .1 .1 .1 .1 .1 .1 .1 .1 .1 .1 .1 .1 .0, tt))) (
+              (m .1 .1 .1 .1 .1 .1 .1 .1 .1 .1 .1 .1 .0, tt))) (Reads'.room-gone 𝓤 H A (Syntax.tyEnum (List._∷_ 111 (List._∷_ 117 (List._∷_ 116 (List._∷_ 112 (List._∷_ 117 (List._∷_ 116 (List._∷_ 58
+              (List._∷_ 58 (List._∷_ 80 (List._∷_ 117 (List._∷_ 116 List.[]))))))))))) (Syntax.ttcons (Syntax.tcons y4 Syntax.tnil) (Syntax.ttcons (Syntax.tcons (Syntax.tyInt Syntax.w64) Syntax.tnil)
+              Syntax.ttnil)))) (tt, ((Reads.reads-struct 𝓤 H A W BitPosition.the-type Laws.the-laws, Path'.refl), tt)) Path'.refl (λ m wa. Make.made-val Put.the-type Laws''.the-laws (List._∷_ (Laws'5.val
+              BitPosition.the-type Laws.the-laws (m .1 .1 .1 .1 .1 .1 .1 .1 .1 .1 .1 .1 .0)) List.[]) (Put.enum .make (Logic.inl (m .1 .1 .1 .1 .1 .1 .1 .1 .1 .1 .1 .1 .0, tt))) (
                 Signed.made-wt BitPosition.the-field Laws.the-field-laws (Make'.struct-wt BitPosition.the-type Laws.the-laws (Make'.u64-wt, tt)) (BitPosition.the-type .to (m .1 .1 .1 .1 .1 .1 .1 .1 .1 .1
                     .1 .1 .0)),
                 tt,
-              ) (wa .1)) λ m wa. Make.made-is Put.the-type Laws'3.the-laws (List._∷_ (Laws'5.val BitPosition.the-type Laws.the-laws (m .1 .1 .1 .1 .1 .1 .1 .1 .1 .1 .1 .1 .0)) List.[])
+              ) (wa .1)) λ m wa. Make.made-is Put.the-type Laws''.the-laws (List._∷_ (Laws'5.val BitPosition.the-type Laws.the-laws (m .1 .1 .1 .1 .1 .1 .1 .1 .1 .1 .1 .1 .0)) List.[])
               (Put.enum .make (Logic.inl (m .1 .1 .1 .1 .1 .1 .1 .1 .1 .1 .1 .1 .0, tt))) (
                 Signed.made-wt BitPosition.the-field Laws.the-field-laws (Make'.struct-wt BitPosition.the-type Laws.the-laws (Make'.u64-wt, tt)) (BitPosition.the-type .to (m .1 .1 .1 .1 .1 .1 .1 .1 .1 .1
                     .1 .1 .0)),
@@ -3730,8 +3729,8 @@ module _ (claims· : Claims) where
               d104
 
           d106 : Typed.Typed 𝓤 H A 𝓣 E G7 b74 Δ0 at106
-          d106 = Typed.s-seq 𝓤 H A W 𝓣 E G7 G8 b2 b73 Δ0 (Typed.both s6) at105 (Plain.t-call-plain 𝓤 H A W 𝓣 1 ps·1 r·1 (claims· .2) (claims· .3) "block::writer::is_strict" (known .1) E (λ pos β. β)
-              G7 (record { pos = 7; ty = Syntax.tyRef (Syntax.named 4) Syntax.imm (Syntax.tyInt Syntax.w8); ref = λ x. x }, tt) 11 (List._∷_ 4 List.[]) (Call.sub-id 𝓤 H A W (G7 .slots)) (
+          d106 = Typed.s-seq 𝓤 H A W 𝓣 E G7 G8 b2 b73 Δ0 (Typed.both s6) at105 (Plain.t-call-plain 𝓤 H A W 𝓣 1 ps·1 r·1 (claims· .2) (claims· .3) "block_writer::is_strict" (known .1) E (λ pos β. β) G7
+              (record { pos = 7; ty = Syntax.tyRef (Syntax.named 4) Syntax.imm (Syntax.tyInt Syntax.w8); ref = λ x. x }, tt) 11 (List._∷_ 4 List.[]) (Call.sub-id 𝓤 H A W (G7 .slots)) (
                 ShrSlice.spares-sslice 𝓤 H A W (Referent.rtF (Referent.fInt Syntax.w8)) (Syntax.tyRef (Syntax.named 4) Syntax.imm (Syntax.tyInt Syntax.w8)) 4,
                 Shared.reads-sslice 𝓤 H A W (Referent.rtF
                     (Referent.fInt Syntax.w8)) (Syntax.tyRef (Syntax.named 4) Syntax.imm (Syntax.tyInt Syntax.w8)) 4,
@@ -5513,11 +5512,11 @@ module _ (claims· : Claims) where
           }
 
         module _ {M : Type 1} (𝓤 : URA.URA M) (H : Wp.Heap 𝓤) (A : Atoms.Atoms 𝓤) (W : Kit.Given 𝓤 H A) (𝓣 : Wp.Tables 𝓤 H) (known0 : Plain.Known 𝓤 H A W 𝓣 0 ps·0 r·0 (claims· .0) (claims· .1)
-            "map::width") (known1 : Plain.Known 𝓤 H A W 𝓣 1 ps·1 r·1 (claims· .2) (claims· .3) "block::writer::is_strict") (known2 : Plain.Known 𝓤 H A W 𝓣 1 ps·2 r·2 (claims· .4) (claims· .5)
+            "map::width") (known1 : Plain.Known 𝓤 H A W 𝓣 1 ps·1 r·1 (claims· .2) (claims· .3) "block_writer::is_strict") (known2 : Plain.Known 𝓤 H A W 𝓣 1 ps·2 r·2 (claims· .4) (claims· .5)
             "lines::clear") (known3 : Plain.Known 𝓤 H A W 𝓣 1 ps·3 r·3 (claims· .6) (claims· .7) "cameras::base_of") (known4 : Plain.Known 𝓤 H A W 𝓣 1 ps·4 r·4 (claims· .8) (claims· .9)
             "block::records::start_records") (known5 : Plain.Known 𝓤 H A W 𝓣 1 ps·5 r·5 (claims· .10) (claims· .11) "lines::turn") (known6 : Plain.Known 𝓤 H A W 𝓣 1 ps·6 r·6 (claims· .12) (claims· .13)
             "block::reading::is_restarted") (known7 : Plain.Known 𝓤 H A W 𝓣 1 ps·7 r·7 (claims· .14) (claims· .15) "block::records::restart") (known8 : Plain.Known 𝓤 H A W 𝓣 0 ps·8 r·8 (claims· .16)
-            (claims· .17) "block::reading::quantisers_of") (known9 : Plain.Known 𝓤 H A W 𝓣 4 ps·9 r·9 (claims· .18) (claims· .19) "block::writer::write_line") where
+            (claims· .17) "block::reading::quantisers_of") (known9 : Plain.Known 𝓤 H A W 𝓣 4 ps·9 r·9 (claims· .18) (claims· .19) "block_writer::write_line") where
           pub spec : Statement.Triple 𝓤 (Wp.WpFn 𝓤 H (𝓣 .C) (𝓣 .Λ) (Function.fnOf 5 ps r xs m hs body)) (Function.plainOf 𝓤 H A 5 ps r Pre· Post·)
           spec = Plain.t-fn-plain 𝓤 H A W 𝓣 5 ps r xs m hs body (λ κs qs bs. Φ) (λ κs qs bs bd. typed κs qs 𝓤 H A W 𝓣 (known0, known1, known2, known3, known4, known5, known6, known7, known8, known9)
               bs bd) Pre· Post· asked

@@ -1,14 +1,14 @@
--- Written by tools/lend.py from Rattle's derivation of the twin of `block`; not edited by hand. Assumes nothing.
+-- Written by tools/lend.py from Rattle's derivation of the twin of `block_writer`; not edited by hand. Assumes nothing.
 use Rattle.block.proofs.Element
 use Prim.Native.Nat
 use Rattle.begin.proofs.Next
 use Rattle.begin.proofs.Next.Laws
 use Rattle.block.proofs.Form
 use Rattle.block.proofs.Form.Laws as Laws'
-use Rattle.stream.proofs.BlockLength
-use Rattle.stream.proofs.BlockLength.Laws as Laws''
 use Rattle.output.proofs.Put
-use Rattle.output.proofs.Put.Laws as Laws'3
+use Rattle.output.proofs.Put.Laws as Laws''
+use Rattle.stream.proofs.BlockLength
+use Rattle.stream.proofs.BlockLength.Laws as Laws'3
 use borrow.Author.Called
 use borrow.Enum.Known
 use borrow.Enum.Match
@@ -111,37 +111,37 @@ abbrev pub r : Kinds.RK 5
 r = Value.rVal record {
   ty = Declared.row BlockLength.the-type;
   one = Path'.refl;
-  val = Laws'4.val BlockLength.the-type Laws''.the-laws;
-  tells = Laws'4.tells BlockLength.the-type Laws''.the-laws;
+  val = Laws'4.val BlockLength.the-type Laws'3.the-laws;
+  tells = Laws'4.tells BlockLength.the-type Laws'3.the-laws;
   still = Laws'4.still
-      BlockLength.the-type Laws''.the-copy Exit.yes;
+      BlockLength.the-type Laws'3.the-copy Exit.yes;
   row = Rows.whole (Declared.row BlockLength.the-type);
   rd = λ x. x;
   mk = λ x. x;
 } λ M 𝓤 H A W. record {
-  copies = Laws'4.copy BlockLength.the-type Laws''.the-copy 𝓤 H A W;
-  lawful = Laws'4.lawful BlockLength.the-type Laws''.the-laws 𝓤 H A W tt;
-  makes = Laws'4.makes BlockLength.the-type Laws''.the-plain
+  copies = Laws'4.copy BlockLength.the-type Laws'3.the-copy 𝓤 H A W;
+  lawful = Laws'4.lawful BlockLength.the-type Laws'3.the-laws 𝓤 H A W tt;
+  makes = Laws'4.makes BlockLength.the-type Laws'3.the-plain
       𝓤 H A;
   in-mem = Local.mem-whole 𝓤 H A W (Declared.row BlockLength.the-type);
   of-mem = Local.whole-mem 𝓤 H A W (Declared.row BlockLength.the-type);
 }
 
 abbrev pub xs : List.List Syntax.Ty
-xs = List._∷_ (Syntax.tyEnum (List._∷_ 119 (List._∷_ 114 (List._∷_ 105 (List._∷_ 116 (List._∷_ 105 (List._∷_ 110 (List._∷_ 103 (List._∷_ 58 (List._∷_ 58 (List._∷_ 80 (List._∷_ 117 (List._∷_ 116
-    List.[])))))))))))) (Syntax.ttcons (Syntax.tcons y3 Syntax.tnil) (Syntax.ttcons (Syntax.tcons (Syntax.tyInt Syntax.w64) Syntax.tnil) Syntax.ttnil))) (List._∷_ (Syntax.tyEnum (List._∷_ 98 (List._∷_ 101
-    (List._∷_ 103 (List._∷_ 105 (List._∷_ 110 (List._∷_ 58 (List._∷_ 58 (List._∷_ 78 (List._∷_ 101 (List._∷_ 120 (List._∷_ 116 List.[]))))))))))) (Syntax.ttcons (Syntax.tcons (Syntax.tyEnum (List._∷_ 115
-    (List._∷_ 116 (List._∷_ 114 (List._∷_ 101 (List._∷_ 97 (List._∷_ 109 (List._∷_ 58 (List._∷_ 58 (List._∷_ 66 (List._∷_ 108 (List._∷_ 111 (List._∷_ 99 (List._∷_ 107 (List._∷_ 76 (List._∷_ 101 (List._∷_
-    110 (List._∷_ 103 (List._∷_ 116 (List._∷_ 104 List.[]))))))))))))))))))) (Syntax.ttcons (Syntax.tcons (Syntax.tyInt Syntax.w64) Syntax.tnil) (Syntax.ttcons (Syntax.tcons (Syntax.tyEnum (List._∷_ 115
-    (List._∷_ 116 (List._∷_ 114 (List._∷_ 101 (List._∷_ 97 (List._∷_ 109 (List._∷_ 58 (List._∷_ 58 (List._∷_ 82 (List._∷_ 101 (List._∷_ 102 (List._∷_ 117 (List._∷_ 115 (List._∷_ 97 (List._∷_ 108
-    List.[]))))))))))))))) (Syntax.ttcons Syntax.tnil (Syntax.ttcons Syntax.tnil (Syntax.ttcons Syntax.tnil (Syntax.ttcons (Syntax.tcons (Syntax.tyInt Syntax.w64) Syntax.tnil) (Syntax.ttcons Syntax.tnil
-    (Syntax.ttcons Syntax.tnil (Syntax.ttcons Syntax.tnil (Syntax.ttcons Syntax.tnil (Syntax.ttcons Syntax.tnil (Syntax.ttcons Syntax.tnil (Syntax.ttcons (Syntax.tcons (Syntax.tyInt Syntax.w64)
-    Syntax.tnil) (Syntax.ttcons (Syntax.tcons (Syntax.tyInt Syntax.w64) Syntax.tnil) (Syntax.ttcons Syntax.tnil (Syntax.ttcons (Syntax.tcons (Syntax.tyInt Syntax.w64) (Syntax.tcons (Syntax.tyInt
-    Syntax.w64) Syntax.tnil)) (Syntax.ttcons (Syntax.tcons (Syntax.tyInt Syntax.w64) Syntax.tnil) (Syntax.ttcons Syntax.tnil (Syntax.ttcons Syntax.tnil (Syntax.ttcons (Syntax.tcons (Syntax.tyInt
-    Syntax.w64) Syntax.tnil) (Syntax.ttcons (Syntax.tcons (Syntax.tyInt Syntax.w64) Syntax.tnil) (Syntax.ttcons (Syntax.tcons (Syntax.tyInt Syntax.w64) Syntax.tnil) (Syntax.ttcons Syntax.tnil
-    (Syntax.ttcons Syntax.tnil (Syntax.ttcons (Syntax.tcons (Syntax.tyInt Syntax.w64) (Syntax.tcons (Syntax.tyInt Syntax.w64) Syntax.tnil)) (Syntax.ttcons Syntax.tnil Syntax.ttnil)))))))))))))))))))))))))
-    Syntax.tnil) Syntax.ttnil))) Syntax.tnil) (Syntax.ttcons (Syntax.tcons y3 Syntax.tnil) Syntax.ttnil))) (List._∷_ (Syntax.tyEnum (List._∷_ 115 (List._∷_ 116 (List._∷_ 114 (List._∷_ 101 (List._∷_ 97
-    (List._∷_ 109 (List._∷_ 58 (List._∷_ 58 (List._∷_ 66 (List._∷_ 108 (List._∷_ 111 (List._∷_ 99 (List._∷_ 107 (List._∷_ 76 (List._∷_ 101 (List._∷_ 110 (List._∷_ 103 (List._∷_ 116 (List._∷_ 104
+xs = List._∷_ (Syntax.tyEnum (List._∷_ 111 (List._∷_ 117 (List._∷_ 116 (List._∷_ 112 (List._∷_ 117 (List._∷_ 116 (List._∷_ 58 (List._∷_ 58 (List._∷_ 80 (List._∷_ 117 (List._∷_ 116 List.[])))))))))))
+    (Syntax.ttcons (Syntax.tcons y3 Syntax.tnil) (Syntax.ttcons (Syntax.tcons (Syntax.tyInt Syntax.w64) Syntax.tnil) Syntax.ttnil))) (List._∷_ (Syntax.tyEnum (List._∷_ 98 (List._∷_ 101 (List._∷_ 103
+    (List._∷_ 105 (List._∷_ 110 (List._∷_ 58 (List._∷_ 58 (List._∷_ 78 (List._∷_ 101 (List._∷_ 120 (List._∷_ 116 List.[]))))))))))) (Syntax.ttcons (Syntax.tcons (Syntax.tyEnum (List._∷_ 115 (List._∷_ 116
+    (List._∷_ 114 (List._∷_ 101 (List._∷_ 97 (List._∷_ 109 (List._∷_ 58 (List._∷_ 58 (List._∷_ 66 (List._∷_ 108 (List._∷_ 111 (List._∷_ 99 (List._∷_ 107 (List._∷_ 76 (List._∷_ 101 (List._∷_ 110 (List._∷_
+    103 (List._∷_ 116 (List._∷_ 104 List.[]))))))))))))))))))) (Syntax.ttcons (Syntax.tcons (Syntax.tyInt Syntax.w64) Syntax.tnil) (Syntax.ttcons (Syntax.tcons (Syntax.tyEnum (List._∷_ 115 (List._∷_ 116
+    (List._∷_ 114 (List._∷_ 101 (List._∷_ 97 (List._∷_ 109 (List._∷_ 58 (List._∷_ 58 (List._∷_ 82 (List._∷_ 101 (List._∷_ 102 (List._∷_ 117 (List._∷_ 115 (List._∷_ 97 (List._∷_ 108 List.[])))))))))))))))
+    (Syntax.ttcons Syntax.tnil (Syntax.ttcons Syntax.tnil (Syntax.ttcons Syntax.tnil (Syntax.ttcons (Syntax.tcons (Syntax.tyInt Syntax.w64) Syntax.tnil) (Syntax.ttcons Syntax.tnil (Syntax.ttcons
+    Syntax.tnil (Syntax.ttcons Syntax.tnil (Syntax.ttcons Syntax.tnil (Syntax.ttcons Syntax.tnil (Syntax.ttcons Syntax.tnil (Syntax.ttcons (Syntax.tcons (Syntax.tyInt Syntax.w64) Syntax.tnil)
+    (Syntax.ttcons (Syntax.tcons (Syntax.tyInt Syntax.w64) Syntax.tnil) (Syntax.ttcons Syntax.tnil (Syntax.ttcons (Syntax.tcons (Syntax.tyInt Syntax.w64) (Syntax.tcons (Syntax.tyInt Syntax.w64)
+    Syntax.tnil)) (Syntax.ttcons (Syntax.tcons (Syntax.tyInt Syntax.w64) Syntax.tnil) (Syntax.ttcons Syntax.tnil (Syntax.ttcons Syntax.tnil (Syntax.ttcons (Syntax.tcons (Syntax.tyInt Syntax.w64)
+    Syntax.tnil) (Syntax.ttcons (Syntax.tcons (Syntax.tyInt Syntax.w64) Syntax.tnil) (Syntax.ttcons (Syntax.tcons (Syntax.tyInt Syntax.w64) Syntax.tnil) (Syntax.ttcons Syntax.tnil (Syntax.ttcons
+    Syntax.tnil (Syntax.ttcons (Syntax.tcons (Syntax.tyInt Syntax.w64) (Syntax.tcons (Syntax.tyInt Syntax.w64) Syntax.tnil)) (Syntax.ttcons Syntax.tnil Syntax.ttnil))))))))))))))))))))))))) Syntax.tnil)
+    Syntax.ttnil))) Syntax.tnil) (Syntax.ttcons (Syntax.tcons y3 Syntax.tnil) Syntax.ttnil))) (List._∷_ (Syntax.tyEnum (List._∷_ 115 (List._∷_ 116 (List._∷_ 114 (List._∷_ 101 (List._∷_ 97 (List._∷_ 109
+    (List._∷_ 58 (List._∷_ 58 (List._∷_ 66 (List._∷_ 108 (List._∷_ 111 (List._∷_ 99 (List._∷_ 107 (List._∷_ 76 (List._∷_ 101 (List._∷_ 110 (List._∷_ 103 (List._∷_ 116 (List._∷_ 104
     List.[]))))))))))))))))))) (Syntax.ttcons (Syntax.tcons (Syntax.tyInt Syntax.w64) Syntax.tnil) (Syntax.ttcons (Syntax.tcons (Syntax.tyEnum (List._∷_ 115 (List._∷_ 116 (List._∷_ 114 (List._∷_ 101
     (List._∷_ 97 (List._∷_ 109 (List._∷_ 58 (List._∷_ 58 (List._∷_ 82 (List._∷_ 101 (List._∷_ 102 (List._∷_ 117 (List._∷_ 115 (List._∷_ 97 (List._∷_ 108 List.[]))))))))))))))) (Syntax.ttcons Syntax.tnil
     (Syntax.ttcons Syntax.tnil (Syntax.ttcons Syntax.tnil (Syntax.ttcons (Syntax.tcons (Syntax.tyInt Syntax.w64) Syntax.tnil) (Syntax.ttcons Syntax.tnil (Syntax.ttcons Syntax.tnil (Syntax.ttcons
@@ -219,17 +219,17 @@ abbrev pub r·1 : Kinds.RK 5
 r·1 = Value.rVal record {
   ty = Declared.row BlockLength.the-type;
   one = Path'.refl;
-  val = Laws'4.val BlockLength.the-type Laws''.the-laws;
-  tells = Laws'4.tells BlockLength.the-type Laws''.the-laws;
+  val = Laws'4.val BlockLength.the-type Laws'3.the-laws;
+  tells = Laws'4.tells BlockLength.the-type Laws'3.the-laws;
   still = Laws'4.still
-      BlockLength.the-type Laws''.the-copy Exit.yes;
+      BlockLength.the-type Laws'3.the-copy Exit.yes;
   row = Rows.whole (Declared.row BlockLength.the-type);
   rd = λ x. x;
   mk = λ x. x;
 } λ M 𝓤 H A W. record {
-  copies = Laws'4.copy BlockLength.the-type Laws''.the-copy 𝓤 H A W;
-  lawful = Laws'4.lawful BlockLength.the-type Laws''.the-laws 𝓤 H A W tt;
-  makes = Laws'4.makes BlockLength.the-type Laws''.the-plain
+  copies = Laws'4.copy BlockLength.the-type Laws'3.the-copy 𝓤 H A W;
+  lawful = Laws'4.lawful BlockLength.the-type Laws'3.the-laws 𝓤 H A W tt;
+  makes = Laws'4.makes BlockLength.the-type Laws'3.the-plain
       𝓤 H A;
   in-mem = Local.mem-whole 𝓤 H A W (Declared.row BlockLength.the-type);
   of-mem = Local.whole-mem 𝓤 H A W (Declared.row BlockLength.the-type);
@@ -261,17 +261,17 @@ abbrev pub r·2 : Kinds.RK 5
 r·2 = Value.rVal record {
   ty = Declared.row Put.the-type;
   one = Path'.refl;
-  val = Laws'4.val Put.the-type Laws'3.the-laws;
-  tells = Laws'4.tells Put.the-type Laws'3.the-laws;
-  still = Laws'4.still Put.the-type Laws'3.the-copy
+  val = Laws'4.val Put.the-type Laws''.the-laws;
+  tells = Laws'4.tells Put.the-type Laws''.the-laws;
+  still = Laws'4.still Put.the-type Laws''.the-copy
       Exit.yes;
   row = Rows.whole (Declared.row Put.the-type);
   rd = λ x. x;
   mk = λ x. x;
 } λ M 𝓤 H A W. record {
-  copies = Laws'4.copy Put.the-type Laws'3.the-copy 𝓤 H A W;
-  lawful = Laws'4.lawful Put.the-type Laws'3.the-laws 𝓤 H A W tt;
-  makes = Laws'4.makes Put.the-type Laws'3.the-plain 𝓤 H A;
+  copies = Laws'4.copy Put.the-type Laws''.the-copy 𝓤 H A W;
+  lawful = Laws'4.lawful Put.the-type Laws''.the-laws 𝓤 H A W tt;
+  makes = Laws'4.makes Put.the-type Laws''.the-plain 𝓤 H A;
   in-mem =
       Local.mem-whole 𝓤 H A W (Declared.row Put.the-type);
   of-mem = Local.whole-mem 𝓤 H A W (Declared.row Put.the-type);
@@ -281,17 +281,17 @@ abbrev pub ps·3 : List.List (Kinds.PK 0)
 ps·3 = List._∷_ (Value.pVal record {
   ty = Declared.row Put.the-type;
   one = Path'.refl;
-  val = Laws'4.val Put.the-type Laws'3.the-laws;
-  tells = Laws'4.tells Put.the-type Laws'3.the-laws;
-  still = Laws'4.still Put.the-type Laws'3.the-copy
+  val = Laws'4.val Put.the-type Laws''.the-laws;
+  tells = Laws'4.tells Put.the-type Laws''.the-laws;
+  still = Laws'4.still Put.the-type Laws''.the-copy
       Exit.yes;
   row = Rows.whole (Declared.row Put.the-type);
   rd = λ x. x;
   mk = λ x. x;
 } λ M 𝓤 H A W. record {
-  copies = Laws'4.copy Put.the-type Laws'3.the-copy 𝓤 H A W;
-  lawful = Laws'4.lawful Put.the-type Laws'3.the-laws 𝓤 H A W tt;
-  makes = Laws'4.makes Put.the-type Laws'3.the-plain 𝓤 H A;
+  copies = Laws'4.copy Put.the-type Laws''.the-copy 𝓤 H A W;
+  lawful = Laws'4.lawful Put.the-type Laws''.the-laws 𝓤 H A W tt;
+  makes = Laws'4.makes Put.the-type Laws''.the-plain 𝓤 H A;
   in-mem =
       Local.mem-whole 𝓤 H A W (Declared.row Put.the-type);
   of-mem = Local.whole-mem 𝓤 H A W (Declared.row Put.the-type);
@@ -335,7 +335,7 @@ abbrev b2 : Syntax.Body
 b2 = Syntax.assign (Syntax.place 15 List.[]) (Syntax.rvOpd (Syntax.copy (Syntax.place 2 (List._∷_ (Syntax.field 1) List.[]))))
 
 abbrev b3 : Syntax.Body
-b3 = Syntax.call "block::writer::is_sure" (List._∷_ (Syntax.copy (Syntax.place 1 List.[])) (List._∷_ (Syntax.copy (Syntax.place 14 List.[])) (List._∷_ (Syntax.copy (Syntax.place 6 List.[])) (List._∷_
+b3 = Syntax.call "block_writer::is_sure" (List._∷_ (Syntax.copy (Syntax.place 1 List.[])) (List._∷_ (Syntax.copy (Syntax.place 14 List.[])) (List._∷_ (Syntax.copy (Syntax.place 6 List.[])) (List._∷_
     (Syntax.copy (Syntax.place 7 List.[])) (List._∷_ (Syntax.copy (Syntax.place 8 List.[])) (List._∷_ (Syntax.copy (Syntax.place 3 List.[])) (List._∷_ (Syntax.copy (Syntax.place 15 List.[]))
     List.[]))))))) (Syntax.place 12 List.[])
 
@@ -358,7 +358,7 @@ abbrev b9 : Syntax.Body
 b9 = Syntax.assign (Syntax.place 21 List.[]) (Syntax.aggregate (List._∷_ (Syntax.copy (Syntax.place 20 List.[])) (List._∷_ (Syntax.copy (Syntax.place 5 (List._∷_ (Syntax.field 1) List.[]))) List.[])))
 
 abbrev b10 : Syntax.Body
-b10 = Syntax.call "block::writer::write_stored" (List._∷_ (Syntax.copy (Syntax.place 1 List.[])) (List._∷_ (Syntax.copy (Syntax.place 17 List.[])) (List._∷_ (Syntax.copy (Syntax.place 19 List.[]))
+b10 = Syntax.call "block_writer::write_stored" (List._∷_ (Syntax.copy (Syntax.place 1 List.[])) (List._∷_ (Syntax.copy (Syntax.place 17 List.[])) (List._∷_ (Syntax.copy (Syntax.place 19 List.[]))
     (List._∷_ (Syntax.copy (Syntax.place 21 List.[])) (List._∷_ (Syntax.copy (Syntax.place 6 List.[])) (List._∷_ (Syntax.copy (Syntax.place 7 List.[])) (List._∷_ (Syntax.copy (Syntax.place 8 List.[]))
     List.[]))))))) (Syntax.place 0 List.[])
 
@@ -414,7 +414,7 @@ b26 = Syntax.assign (Syntax.place 27 List.[]) (Syntax.aggregate (List._∷_ (Syn
     List.[])))
 
 abbrev b27 : Syntax.Body
-b27 = Syntax.call "block::writer::write_walk" (List._∷_ (Syntax.copy (Syntax.place 1 List.[])) (List._∷_ (Syntax.copy (Syntax.place 23 List.[])) (List._∷_ Syntax.opdFalse (List._∷_ (Syntax.copy
+b27 = Syntax.call "block_writer::write_walk" (List._∷_ (Syntax.copy (Syntax.place 1 List.[])) (List._∷_ (Syntax.copy (Syntax.place 23 List.[])) (List._∷_ Syntax.opdFalse (List._∷_ (Syntax.copy
     (Syntax.place 25 List.[])) (List._∷_ (Syntax.copy (Syntax.place 27 List.[])) (List._∷_ (Syntax.copy (Syntax.place 6 List.[])) (List._∷_ (Syntax.copy (Syntax.place 7 List.[])) (List._∷_ (Syntax.copy
     (Syntax.place 8 List.[])) List.[])))))))) (Syntax.place 9 List.[])
 
@@ -456,7 +456,7 @@ b38 = Syntax.assign (Syntax.place 34 List.[]) (Syntax.aggregate (List._∷_ (Syn
     List.[])))
 
 abbrev b39 : Syntax.Body
-b39 = Syntax.call "block::writer::write_stored" (List._∷_ (Syntax.copy (Syntax.place 1 List.[])) (List._∷_ (Syntax.copy (Syntax.place 30 List.[])) (List._∷_ (Syntax.copy (Syntax.place 32 List.[]))
+b39 = Syntax.call "block_writer::write_stored" (List._∷_ (Syntax.copy (Syntax.place 1 List.[])) (List._∷_ (Syntax.copy (Syntax.place 30 List.[])) (List._∷_ (Syntax.copy (Syntax.place 32 List.[]))
     (List._∷_ (Syntax.copy (Syntax.place 34 List.[])) (List._∷_ (Syntax.copy (Syntax.place 6 List.[])) (List._∷_ (Syntax.copy (Syntax.place 7 List.[])) (List._∷_ (Syntax.copy (Syntax.place 8 List.[]))
     List.[]))))))) (Syntax.place 28 List.[])
 
@@ -795,8 +795,8 @@ e66 = (8, Rows.sc-here (Row.sInt Syntax.w64))
 abbrev pub e67 : Row.Entry
 e67 = (
   9,
-  Rows.any-gone (Syntax.tyEnum (List._∷_ 119 (List._∷_ 114 (List._∷_ 105 (List._∷_ 116 (List._∷_ 105 (List._∷_ 110 (List._∷_ 103 (List._∷_ 58 (List._∷_ 58 (List._∷_ 80 (List._∷_ 117 (List._∷_ 116
-      List.[])))))))))))) (Syntax.ttcons (Syntax.tcons y3 Syntax.tnil) (Syntax.ttcons (Syntax.tcons (Syntax.tyInt Syntax.w64) Syntax.tnil) Syntax.ttnil))),
+  Rows.any-gone (Syntax.tyEnum (List._∷_ 111 (List._∷_ 117 (List._∷_ 116 (List._∷_ 112 (List._∷_ 117 (List._∷_ 116 (List._∷_ 58 (List._∷_ 58 (List._∷_ 80 (List._∷_ 117 (List._∷_ 116
+      List.[]))))))))))) (Syntax.ttcons (Syntax.tcons y3 Syntax.tnil) (Syntax.ttcons (Syntax.tcons (Syntax.tyInt Syntax.w64) Syntax.tnil) Syntax.ttnil))),
 )
 
 abbrev pub e68 : Row.Entry
@@ -1473,9 +1473,8 @@ module _ (claims· : Claims) where
       ),
     ),
   ) 9
-      (List._∷_ 0 (List._∷_ 9 (List._∷_ 10 (List._∷_ 11 (List._∷_ 4 List.[]))))) (Syntax.tyEnum (List._∷_ 119 (List._∷_ 114 (List._∷_ 105 (List._∷_ 116 (List._∷_ 105 (List._∷_ 110 (List._∷_ 103 (List._∷_
-      58 (List._∷_ 58 (List._∷_ 80 (List._∷_ 117 (List._∷_ 116 List.[])))))))))))) (Syntax.ttcons (Syntax.tcons y3 Syntax.tnil) (Syntax.ttcons (Syntax.tcons (Syntax.tyInt Syntax.w64) Syntax.tnil)
-      Syntax.ttnil)))
+      (List._∷_ 0 (List._∷_ 9 (List._∷_ 10 (List._∷_ 11 (List._∷_ 4 List.[]))))) (Syntax.tyEnum (List._∷_ 111 (List._∷_ 117 (List._∷_ 116 (List._∷_ 112 (List._∷_ 117 (List._∷_ 116 (List._∷_ 58 (List._∷_
+      58 (List._∷_ 80 (List._∷_ 117 (List._∷_ 116 List.[]))))))))))) (Syntax.ttcons (Syntax.tcons y3 Syntax.tnil) (Syntax.ttcons (Syntax.tcons (Syntax.tyInt Syntax.w64) Syntax.tnil) Syntax.ttnil)))
 
   abbrev s51 : Typed.Both T52 T54
   s51 = Relend.k-back-sl (Referent.rtF (Referent.fInt Syntax.w8)) T52 23 2 1 9 (Syntax.tyRef (Syntax.named 1) Syntax.mut (Syntax.tyInt Syntax.w8)) (Syntax.tyRef Syntax.erased Syntax.mut (Syntax.tyInt
@@ -1512,8 +1511,8 @@ module _ (claims· : Claims) where
       (Syntax.ttcons Syntax.tnil Syntax.ttnil))))))))))))))))))))))))) Syntax.tnil) Syntax.ttnil))) Syntax.tnil) (Syntax.ttcons (Syntax.tcons y3 Syntax.tnil) Syntax.ttnil)))
 
   abbrev s63 : Typed.Mo T65 → Typed.Mo T67
-  s63 = Scalar.n-room T65 9 (Syntax.tyEnum (List._∷_ 119 (List._∷_ 114 (List._∷_ 105 (List._∷_ 116 (List._∷_ 105 (List._∷_ 110 (List._∷_ 103 (List._∷_ 58 (List._∷_ 58 (List._∷_ 80 (List._∷_ 117
-      (List._∷_ 116 List.[])))))))))))) (Syntax.ttcons (Syntax.tcons y3 Syntax.tnil) (Syntax.ttcons (Syntax.tcons (Syntax.tyInt Syntax.w64) Syntax.tnil) Syntax.ttnil)))
+  s63 = Scalar.n-room T65 9 (Syntax.tyEnum (List._∷_ 111 (List._∷_ 117 (List._∷_ 116 (List._∷_ 112 (List._∷_ 117 (List._∷_ 116 (List._∷_ 58 (List._∷_ 58 (List._∷_ 80 (List._∷_ 117 (List._∷_ 116
+      List.[]))))))))))) (Syntax.ttcons (Syntax.tcons y3 Syntax.tnil) (Syntax.ttcons (Syntax.tcons (Syntax.tyInt Syntax.w64) Syntax.tnil) Syntax.ttnil)))
 
   abbrev s64 : Typed.Mo T67 → Typed.Mo T68
   s64 = Scalar.n-room T67 15 (Syntax.tyInt Syntax.w64)
@@ -1669,9 +1668,9 @@ module _ (claims· : Claims) where
     module _ (M : Type 1) where
       abbrev pub Closed : Type 2
       Closed = (𝓤 : URA.URA M) (H : Wp.Heap 𝓤) (A : Atoms.Atoms 𝓤) (W : Kit.Given 𝓤 H A) (𝓣 : Wp.Tables 𝓤 H) (known0 : Plain.Known 𝓤 H A W 𝓣 3 ps·0 r·0 (claims· .0) (claims· .1)
-          "block::writer::is_sure") (known1 : Plain.Known 𝓤 H A W 𝓣 5 ps·1 r·1 (claims· .2) (claims· .3) "block::writer::write_stored") (known2 : Plain.Known 𝓤 H A W 𝓣 5 ps·2 r·2 (claims· .4) (claims· .5)
-          "block::writer::write_walk") (known3 : Plain.Known 𝓤 H A W 𝓣 0 ps·3 r·3 (claims· .6) (claims· .7) "begin::after_counting") → Statement.Triple 𝓤 (Wp.WpFn 𝓤 H (𝓣 .C) (𝓣 .Λ) (Function.fnOf 5 ps r
-          xs m hs body)) (Function.plainOf 𝓤 H A 5 ps r Pre· Post·)
+          "block_writer::is_sure") (known1 : Plain.Known 𝓤 H A W 𝓣 5 ps·1 r·1 (claims· .2) (claims· .3) "block_writer::write_stored") (known2 : Plain.Known 𝓤 H A W 𝓣 5 ps·2 r·2 (claims· .4) (claims· .5)
+          "block_writer::write_walk") (known3 : Plain.Known 𝓤 H A W 𝓣 0 ps·3 r·3 (claims· .6) (claims· .7) "begin::after_counting") → Statement.Triple 𝓤 (Wp.WpFn 𝓤 H (𝓣 .C) (𝓣 .Λ) (Function.fnOf 5 ps r xs
+          m hs body)) (Function.plainOf 𝓤 H A 5 ps r Pre· Post·)
 
     module _ where
       abbrev at0 : Typed.TF T41 O1
@@ -1961,8 +1960,8 @@ module _ (claims· : Claims) where
 
       module _ {M : Type 1} (𝓤 : URA.URA M) (H : Wp.Heap 𝓤) (A : Atoms.Atoms 𝓤) (W : Kit.Given 𝓤 H A) (𝓣 : Wp.Tables 𝓤 H) where
         abbrev Knowns : Type 1
-        Knowns = Plain.Known 𝓤 H A W 𝓣 3 ps·0 r·0 (claims· .0) (claims· .1) "block::writer::is_sure" × Plain.Known 𝓤 H A W 𝓣 5 ps·1 r·1 (claims· .2) (claims· .3) "block::writer::write_stored" ×
-            Plain.Known 𝓤 H A W 𝓣 5 ps·2 r·2 (claims· .4) (claims· .5) "block::writer::write_walk" × Plain.Known 𝓤 H A W 𝓣 0 ps·3 r·3 (claims· .6) (claims· .7) "begin::after_counting"
+        Knowns = Plain.Known 𝓤 H A W 𝓣 3 ps·0 r·0 (claims· .0) (claims· .1) "block_writer::is_sure" × Plain.Known 𝓤 H A W 𝓣 5 ps·1 r·1 (claims· .2) (claims· .3) "block_writer::write_stored" ×
+            Plain.Known 𝓤 H A W 𝓣 5 ps·2 r·2 (claims· .4) (claims· .5) "block_writer::write_walk" × Plain.Known 𝓤 H A W 𝓣 0 ps·3 r·3 (claims· .6) (claims· .7) "begin::after_counting"
 
       module _ (κs : Lifetimes.Lfts 5) (qs : Lifetimes.Shares 5) where
         abbrev g4 : List.List Row.Entry
@@ -3010,7 +3009,7 @@ module _ (claims· : Claims) where
           d14 = Typed.g-pre 𝓤 H A W 𝓣 E G27 G28 b11 Δ1 (Typed.pass T27 T28 s25) at13 (Scalar.g-room 𝓤 H A W E G27 6 y4 (Local.room-whole 𝓤 H A W (Declared'.row Form.the-type) y4 Path'.refl)) d13
 
           d15 : Typed.Typed 𝓤 H A 𝓣 E G26 b12 Δ1 at15
-          d15 = Typed.s-seq 𝓤 H A W 𝓣 E G26 G27 b10 b11 Δ1 (Typed.both s24) at14 (Plain.t-call-plain 𝓤 H A W 𝓣 5 ps·1 r·1 (claims· .2) (claims· .3) "block::writer::write_stored" (known .1) E (λ pos β.
+          d15 = Typed.s-seq 𝓤 H A W 𝓣 E G26 G27 b10 b11 Δ1 (Typed.both s24) at14 (Plain.t-call-plain 𝓤 H A W 𝓣 5 ps·1 r·1 (claims· .2) (claims· .3) "block_writer::write_stored" (known .1) E (λ pos β.
               β) G26 (
                 record { pos = 1; ty = Syntax.tyRef (Syntax.named 0) Syntax.imm (Syntax.tyInt Syntax.w16); ref = λ x. x },
                 (
@@ -3232,7 +3231,7 @@ module _ (claims· : Claims) where
               (Syntax.ttcons (Syntax.tcons (Syntax.tyInt Syntax.w64) Syntax.tnil) (Syntax.ttcons Syntax.tnil (Syntax.ttcons Syntax.tnil (Syntax.ttcons (Syntax.tcons (Syntax.tyInt Syntax.w64) (Syntax.tcons
               (Syntax.tyInt Syntax.w64) Syntax.tnil)) (Syntax.ttcons Syntax.tnil Syntax.ttnil))))))))))))))))))))))))) Syntax.tnil) Syntax.ttnil))) (Rows.whole (Declared.row BlockLength.the-type))
               (Rows.whole (Declared.row BlockLength.the-type)) (λ x. x) (λ x. x) (λ x. x) Path'.refl (Own.told-none 𝓤 H A (G73 .slots)) (Yields.yields-copy 𝓤 H A W (λ ρ. Unit) (Declared.row
-              BlockLength.the-type) Path'.refl (Copies.cEnum BlockLength.the-type Laws''.the-laws Laws''.the-copy .copy 𝓤 H A W) (Rows.whole (Declared.row BlockLength.the-type)) (λ x. x) (λ x. x) (λ ρ
+              BlockLength.the-type) Path'.refl (Copies.cEnum BlockLength.the-type Laws'3.the-laws Laws'3.the-copy .copy 𝓤 H A W) (Rows.whole (Declared.row BlockLength.the-type)) (λ x. x) (λ x. x) (λ ρ
               told. Local.mem-whole 𝓤 H A W (Declared.row BlockLength.the-type) ρ) λ ρ told. Local.whole-mem 𝓤 H A W (Declared.row BlockLength.the-type) ρ) (Reads.room-gone 𝓤 H A (Syntax.tyEnum (List._∷_
               115 (List._∷_ 116 (List._∷_ 114 (List._∷_ 101 (List._∷_ 97 (List._∷_ 109 (List._∷_ 58 (List._∷_ 58 (List._∷_ 66 (List._∷_ 108 (List._∷_ 111 (List._∷_ 99 (List._∷_ 107 (List._∷_ 76 (List._∷_
               101 (List._∷_ 110 (List._∷_ 103 (List._∷_ 116 (List._∷_ 104 List.[]))))))))))))))))))) (Syntax.ttcons (Syntax.tcons (Syntax.tyInt Syntax.w64) Syntax.tnil) (Syntax.ttcons (Syntax.tcons
@@ -3294,7 +3293,7 @@ module _ (claims· : Claims) where
 
           d36 : Typed.Typed 𝓤 H A 𝓣 E G71 b32 Δ2 at36
           d36 = Typed.s-seq 𝓤 H A W 𝓣 E G71 G72 b30 b31 Δ2 (Typed.pass T71 T72 s68) at35 (CopyOut.t-copy-told 𝓤 H A W E 𝓣 (Declared.row BlockLength.the-type) Path'.refl (Laws'4.val
-              BlockLength.the-type Laws''.the-laws) (Laws'4.lawful BlockLength.the-type Laws''.the-laws 𝓤 H A W tt) (Laws'4.makes BlockLength.the-type Laws''.the-plain 𝓤 H A) G71 11 (Scalar.oFld 10
+              BlockLength.the-type Laws'3.the-laws) (Laws'4.lawful BlockLength.the-type Laws'3.the-laws 𝓤 H A W tt) (Laws'4.makes BlockLength.the-type Laws'3.the-plain 𝓤 H A) G71 11 (Scalar.oFld 10
               (List._∷_ (Syntax.variant 0) (List._∷_ (Syntax.field 1) List.[])) (Syntax.tyEnum (List._∷_ 115 (List._∷_ 116 (List._∷_ 114 (List._∷_ 101 (List._∷_ 97 (List._∷_ 109 (List._∷_ 58 (List._∷_ 58
               (List._∷_ 66 (List._∷_ 108 (List._∷_ 111 (List._∷_ 99 (List._∷_ 107 (List._∷_ 76 (List._∷_ 101 (List._∷_ 110 (List._∷_ 103 (List._∷_ 116 (List._∷_ 104 List.[])))))))))))))))))))
               (Syntax.ttcons (Syntax.tcons (Syntax.tyInt Syntax.w64) Syntax.tnil) (Syntax.ttcons (Syntax.tcons (Syntax.tyEnum (List._∷_ 115 (List._∷_ 116 (List._∷_ 114 (List._∷_ 101 (List._∷_ 97 (List._∷_
@@ -3305,7 +3304,7 @@ module _ (claims· : Claims) where
               (Syntax.tcons (Syntax.tyInt Syntax.w64) Syntax.tnil) (Syntax.ttcons Syntax.tnil (Syntax.ttcons Syntax.tnil (Syntax.ttcons (Syntax.tcons (Syntax.tyInt Syntax.w64) Syntax.tnil) (Syntax.ttcons
               (Syntax.tcons (Syntax.tyInt Syntax.w64) Syntax.tnil) (Syntax.ttcons (Syntax.tcons (Syntax.tyInt Syntax.w64) Syntax.tnil) (Syntax.ttcons Syntax.tnil (Syntax.ttcons Syntax.tnil (Syntax.ttcons
               (Syntax.tcons (Syntax.tyInt Syntax.w64) (Syntax.tcons (Syntax.tyInt Syntax.w64) Syntax.tnil)) (Syntax.ttcons Syntax.tnil Syntax.ttnil))))))))))))))))))))))))) Syntax.tnil) Syntax.ttnil))) 8
-              λ v. Laws'4.val BlockLength.the-type Laws''.the-laws (v .0)) (λ m. m .1 .1 .1 .1 .1 .1 .1 .1 .1 .1 .0 .0) (λ m. Laws'4.Fields (Declared.variants Next.the-type) (Laws'4.spellss (Next.enum
+              λ v. Laws'4.val BlockLength.the-type Laws'3.the-laws (v .0)) (λ m. m .1 .1 .1 .1 .1 .1 .1 .1 .1 .1 .0 .0) (λ m. Laws'4.Fields (Declared.variants Next.the-type) (Laws'4.spellss (Next.enum
               .parts) Laws.the-laws) (Next.the-type .to (Known.at Next.enum 0 (m .1 .1 .1 .1 .1 .1 .1 .1 .1 .1 .0)))) (Reads.room-gone 𝓤 H A (Syntax.tyEnum (List._∷_ 115 (List._∷_ 116 (List._∷_ 114
               (List._∷_ 101 (List._∷_ 97 (List._∷_ 109 (List._∷_ 58 (List._∷_ 58 (List._∷_ 66 (List._∷_ 108 (List._∷_ 111 (List._∷_ 99 (List._∷_ 107 (List._∷_ 76 (List._∷_ 101 (List._∷_ 110 (List._∷_ 103
               (List._∷_ 116 (List._∷_ 104 List.[]))))))))))))))))))) (Syntax.ttcons (Syntax.tcons (Syntax.tyInt Syntax.w64) Syntax.tnil) (Syntax.ttcons (Syntax.tcons (Syntax.tyEnum (List._∷_ 115 (List._∷_
@@ -3317,7 +3316,7 @@ module _ (claims· : Claims) where
               (Syntax.tyInt Syntax.w64) Syntax.tnil) (Syntax.ttcons (Syntax.tcons (Syntax.tyInt Syntax.w64) Syntax.tnil) (Syntax.ttcons (Syntax.tcons (Syntax.tyInt Syntax.w64) Syntax.tnil) (Syntax.ttcons
               Syntax.tnil (Syntax.ttcons Syntax.tnil (Syntax.ttcons (Syntax.tcons (Syntax.tyInt Syntax.w64) (Syntax.tcons (Syntax.tyInt Syntax.w64) Syntax.tnil)) (Syntax.ttcons Syntax.tnil
               Syntax.ttnil))))))))))))))))))))))))) Syntax.tnil) Syntax.ttnil)))) (
-                Match.reads-payload 𝓤 H A W Next.enum Laws.the-laws 0 Path'.refl Path'.refl (λ v. Val.vcons (Laws'4.val BlockLength.the-type Laws''.the-laws (v .0)) Val.vnil) (λ v. Path'.refl) 0
+                Match.reads-payload 𝓤 H A W Next.enum Laws.the-laws 0 Path'.refl Path'.refl (λ v. Val.vcons (Laws'4.val BlockLength.the-type Laws'3.the-laws (v .0)) Val.vnil) (λ v. Path'.refl) 0
                     (Syntax.tyEnum (List._∷_ 115 (List._∷_ 116 (List._∷_ 114 (List._∷_ 101 (List._∷_ 97 (List._∷_ 109 (List._∷_ 58 (List._∷_ 58 (List._∷_ 66 (List._∷_ 108 (List._∷_ 111 (List._∷_ 99 (List._∷_
                     107 (List._∷_ 76 (List._∷_ 101 (List._∷_ 110 (List._∷_ 103 (List._∷_ 116 (List._∷_ 104 List.[]))))))))))))))))))) (Syntax.ttcons (Syntax.tcons (Syntax.tyInt Syntax.w64) Syntax.tnil)
                     (Syntax.ttcons (Syntax.tcons (Syntax.tyEnum (List._∷_ 115 (List._∷_ 116 (List._∷_ 114 (List._∷_ 101 (List._∷_ 97 (List._∷_ 109 (List._∷_ 58 (List._∷_ 58 (List._∷_ 82 (List._∷_ 101 (List._∷_
@@ -3355,7 +3354,7 @@ module _ (claims· : Claims) where
               Ψ. Ψ) (Typed.g-post 𝓤 H A W 𝓣 E G86 G91 G92 b39 (λ Ψ. Typed.both s83 (Typed.pass T87 T88 s84 (Typed.both s86 (Typed.give s87 Ψ)))) (λ Ψ. Ψ) (Typed.g-post 𝓤 H A W 𝓣 E G86 G90 G91 b39 (λ Ψ.
               Typed.both s83 (Typed.pass T87 T88 s84 (Typed.both s86 Ψ))) (Typed.give s87) (Typed.g-post 𝓤 H A W 𝓣 E G86 G89 G90 b39 (λ Ψ. Typed.both s83 (Typed.pass T87 T88 s84 Ψ)) (Typed.both s86)
               (Typed.g-post 𝓤 H A W 𝓣 E G86 G88 G89 b39 (λ Ψ. Typed.both s83 (Typed.pass T87 T88 s84 Ψ)) (λ Ψ. Ψ) (Typed.g-post 𝓤 H A W 𝓣 E G86 G87 G88 b39 (Typed.both s83) (Typed.pass T87 T88 s84)
-              (Plain.t-call-plain 𝓤 H A W 𝓣 5 ps·1 r·1 (claims· .2) (claims· .3) "block::writer::write_stored" (known .1) E (λ pos β. β) G86 (
+              (Plain.t-call-plain 𝓤 H A W 𝓣 5 ps·1 r·1 (claims· .2) (claims· .3) "block_writer::write_stored" (known .1) E (λ pos β. β) G86 (
                 record { pos = 1; ty = Syntax.tyRef (Syntax.named 0) Syntax.imm (Syntax.tyInt Syntax.w16); ref = λ x. x },
                 (
                   record { pos = 30; ty = Syntax.tyRef Syntax.erased Syntax.mut (Syntax.tyInt Syntax.w8); ref = λ x. x },
@@ -3577,11 +3576,11 @@ module _ (claims· : Claims) where
           d53 = Typed.g-pre 𝓤 H A W 𝓣 E G67 G68 b46 Δ2 (Typed.pass T67 T68 s64) at52 (Scalar.g-room 𝓤 H A W E G67 15 (Syntax.tyInt Syntax.w64) (Scalar.room-sc 𝓤 H A W (Row.sInt Syntax.w64))) d52
 
           d54 : Typed.Typed 𝓤 H A 𝓣 E G65 b46 Δ2 at54
-          d54 = Typed.g-pre 𝓤 H A W 𝓣 E G65 G67 b46 Δ2 (Typed.pass T65 T67 s63) at53 (Scalar.g-room 𝓤 H A W E G65 9 (Syntax.tyEnum (List._∷_ 119 (List._∷_ 114 (List._∷_ 105 (List._∷_ 116 (List._∷_ 105
-              (List._∷_ 110 (List._∷_ 103 (List._∷_ 58 (List._∷_ 58 (List._∷_ 80 (List._∷_ 117 (List._∷_ 116 List.[])))))))))))) (Syntax.ttcons (Syntax.tcons y3 Syntax.tnil) (Syntax.ttcons (Syntax.tcons
-              (Syntax.tyInt Syntax.w64) Syntax.tnil) Syntax.ttnil))) (Local.room-whole 𝓤 H A W (Declared.row Put.the-type) (Syntax.tyEnum (List._∷_ 119 (List._∷_ 114 (List._∷_ 105 (List._∷_ 116 (List._∷_
-              105 (List._∷_ 110 (List._∷_ 103 (List._∷_ 58 (List._∷_ 58 (List._∷_ 80 (List._∷_ 117 (List._∷_ 116 List.[])))))))))))) (Syntax.ttcons (Syntax.tcons y3 Syntax.tnil) (Syntax.ttcons
-              (Syntax.tcons (Syntax.tyInt Syntax.w64) Syntax.tnil) Syntax.ttnil))) Path'.refl)) d53
+          d54 = Typed.g-pre 𝓤 H A W 𝓣 E G65 G67 b46 Δ2 (Typed.pass T65 T67 s63) at53 (Scalar.g-room 𝓤 H A W E G65 9 (Syntax.tyEnum (List._∷_ 111 (List._∷_ 117 (List._∷_ 116 (List._∷_ 112 (List._∷_ 117
+              (List._∷_ 116 (List._∷_ 58 (List._∷_ 58 (List._∷_ 80 (List._∷_ 117 (List._∷_ 116 List.[]))))))))))) (Syntax.ttcons (Syntax.tcons y3 Syntax.tnil) (Syntax.ttcons (Syntax.tcons (Syntax.tyInt
+              Syntax.w64) Syntax.tnil) Syntax.ttnil))) (Local.room-whole 𝓤 H A W (Declared.row Put.the-type) (Syntax.tyEnum (List._∷_ 111 (List._∷_ 117 (List._∷_ 116 (List._∷_ 112 (List._∷_ 117 (List._∷_
+              116 (List._∷_ 58 (List._∷_ 58 (List._∷_ 80 (List._∷_ 117 (List._∷_ 116 List.[]))))))))))) (Syntax.ttcons (Syntax.tcons y3 Syntax.tnil) (Syntax.ttcons (Syntax.tcons (Syntax.tyInt Syntax.w64)
+              Syntax.tnil) Syntax.ttnil))) Path'.refl)) d53
 
           d55 : Typed.Typed 𝓤 H A 𝓣 E G103 b48 Δ0 at55
           d55 = Typed.t-return 𝓤 H A W 𝓣 E Δ0 tt
@@ -3637,7 +3636,7 @@ module _ (claims· : Claims) where
               Syntax.tnil) (Syntax.ttcons (Syntax.tcons (Syntax.tyInt Syntax.w64) Syntax.tnil) (Syntax.ttcons (Syntax.tcons (Syntax.tyInt Syntax.w64) Syntax.tnil) (Syntax.ttcons Syntax.tnil (Syntax.ttcons
               Syntax.tnil (Syntax.ttcons (Syntax.tcons (Syntax.tyInt Syntax.w64) (Syntax.tcons (Syntax.tyInt Syntax.w64) Syntax.tnil)) (Syntax.ttcons Syntax.tnil Syntax.ttnil)))))))))))))))))))))))))
               Syntax.tnil) Syntax.ttnil))) (Rows.whole (Declared.row BlockLength.the-type)) (Rows.whole (Declared.row BlockLength.the-type)) (λ x. x) (λ x. x) (λ x. x) Path'.refl (Own.told-none 𝓤 H A (G66
-              .slots)) (Yields.yields-copy 𝓤 H A W (λ ρ. Unit) (Declared.row BlockLength.the-type) Path'.refl (Copies.cEnum BlockLength.the-type Laws''.the-laws Laws''.the-copy .copy 𝓤 H A W) (Rows.whole
+              .slots)) (Yields.yields-copy 𝓤 H A W (λ ρ. Unit) (Declared.row BlockLength.the-type) Path'.refl (Copies.cEnum BlockLength.the-type Laws'3.the-laws Laws'3.the-copy .copy 𝓤 H A W) (Rows.whole
               (Declared.row BlockLength.the-type)) (λ x. x) (λ x. x) (λ ρ told. Local.mem-whole 𝓤 H A W (Declared.row BlockLength.the-type) ρ) λ ρ told. Local.whole-mem 𝓤 H A W (Declared.row
               BlockLength.the-type) ρ) (Reads.room-gone 𝓤 H A (Syntax.tyEnum (List._∷_ 115 (List._∷_ 116 (List._∷_ 114 (List._∷_ 101 (List._∷_ 97 (List._∷_ 109 (List._∷_ 58 (List._∷_ 58 (List._∷_ 66
               (List._∷_ 108 (List._∷_ 111 (List._∷_ 99 (List._∷_ 107 (List._∷_ 76 (List._∷_ 101 (List._∷_ 110 (List._∷_ 103 (List._∷_ 116 (List._∷_ 104 List.[]))))))))))))))))))) (Syntax.ttcons
@@ -3659,7 +3658,7 @@ module _ (claims· : Claims) where
           d61 = Typed.s-seq 𝓤 H A W 𝓣 E G64 G65 b29 b50 Δ0 (Typed.both s62) at60 (Plain.t-call-plain 𝓤 H A W 𝓣 0 ps·3 r·3 (claims· .6) (claims· .7) "begin::after_counting" (known .3) E (λ pos β. β)
               G64 (record { pos = 9; st = List.[]; d = 0; at = λ x. x }, (Bool.bAt 3 λ x. x, (Num.vAt 15 λ x. x, tt))) 10 List.[] (Call.sub-id 𝓤 H A W (G64 .slots)) (
                 (
-                  Yields.yields-copy 𝓤 H A W (λ ρ. Unit) (Declared.row Put.the-type) Path'.refl (Copies.cEnum Put.the-type Laws'3.the-laws Laws'3.the-copy .copy 𝓤 H A W) (Rows.whole (Declared.row
+                  Yields.yields-copy 𝓤 H A W (λ ρ. Unit) (Declared.row Put.the-type) Path'.refl (Copies.cEnum Put.the-type Laws''.the-laws Laws''.the-copy .copy 𝓤 H A W) (Rows.whole (Declared.row
                       Put.the-type)) (λ x. x) (λ x. x) (λ ρ told. Local.mem-whole 𝓤 H A W (Declared.row Put.the-type) ρ) λ ρ told. Local.whole-mem 𝓤 H A W (Declared.row Put.the-type) ρ,
                   Path'.refl,
                 ),
@@ -3731,8 +3730,8 @@ module _ (claims· : Claims) where
           d73 = Typed.g-pre 𝓤 H A W 𝓣 E G52 G53 b52 Δ0 (λ Ψ. Ψ) at72 (Lifetime.g-end 𝓤 H A W E G52 9 Path'.refl) d72
 
           d74 : Typed.Typed 𝓤 H A 𝓣 E G51 b53 Δ0 at74
-          d74 = Typed.s-seq 𝓤 H A W 𝓣 E G51 G52 b27 b52 Δ0 (Typed.both s49) at73 (Plain.t-call-plain 𝓤 H A W 𝓣 5 ps·2 r·2 (claims· .4) (claims· .5) "block::writer::write_walk" (known .2) E (λ pos β.
-              β) G51 (
+          d74 = Typed.s-seq 𝓤 H A W 𝓣 E G51 G52 b27 b52 Δ0 (Typed.both s49) at73 (Plain.t-call-plain 𝓤 H A W 𝓣 5 ps·2 r·2 (claims· .4) (claims· .5) "block_writer::write_walk" (known .2) E (λ pos β. β)
+              G51 (
                 record { pos = 1; ty = Syntax.tyRef (Syntax.named 0) Syntax.imm (Syntax.tyInt Syntax.w16); ref = λ x. x },
                 (
                   record { pos = 23; ty = Syntax.tyRef Syntax.erased Syntax.mut (Syntax.tyInt Syntax.w8); ref = λ x. x },
@@ -3792,9 +3791,9 @@ module _ (claims· : Claims) where
                   ),
                 ),
               )
-              (Reads.room-gone 𝓤 H A (Syntax.tyEnum (List._∷_ 119 (List._∷_ 114 (List._∷_ 105 (List._∷_ 116 (List._∷_ 105 (List._∷_ 110 (List._∷_ 103 (List._∷_ 58 (List._∷_ 58 (List._∷_ 80 (List._∷_ 117
-              (List._∷_ 116 List.[])))))))))))) (Syntax.ttcons (Syntax.tcons y3 Syntax.tnil) (Syntax.ttcons (Syntax.tcons (Syntax.tyInt Syntax.w64) Syntax.tnil) Syntax.ttnil))))
-              (tt, (tt, (tt, (tt, (tt, tt))))) Path'.refl) d73
+              (Reads.room-gone 𝓤 H A (Syntax.tyEnum (List._∷_ 111 (List._∷_ 117 (List._∷_ 116 (List._∷_ 112 (List._∷_ 117 (List._∷_ 116 (List._∷_ 58 (List._∷_ 58 (List._∷_ 80 (List._∷_ 117 (List._∷_ 116
+              List.[]))))))))))) (Syntax.ttcons (Syntax.tcons y3 Syntax.tnil) (Syntax.ttcons (Syntax.tcons (Syntax.tyInt Syntax.w64) Syntax.tnil) Syntax.ttnil)))) (tt, (tt, (tt, (tt, (tt, tt)))))
+              Path'.refl) d73
 
           d75 : Typed.Typed 𝓤 H A 𝓣 E G50 b54 Δ0 at75
           d75 = Typed.s-seq 𝓤 H A W 𝓣 E G50 G51 b26 b53 Δ0 (Typed.ask s48) at74 (Relend.t-sl-aggregate 𝓤 H A W E (Element.type) 𝓣 (Relend.asMut (Element.type)) G50 26 27 11 (Syntax.tyRef Syntax.erased
@@ -3901,7 +3900,7 @@ module _ (claims· : Claims) where
           d84 = Typed.t-seq 𝓤 H A W 𝓣 E G10 G11 b20 b59 Δ0 at33 at83 d33 d83
 
           d85 : Typed.Typed 𝓤 H A 𝓣 E G9 b61 Δ0 at85
-          d85 = Typed.s-seq 𝓤 H A W 𝓣 E G9 G10 b3 b60 Δ0 (Typed.both s8) at84 (Plain.t-call-plain 𝓤 H A W 𝓣 3 ps·0 r·0 (claims· .0) (claims· .1) "block::writer::is_sure" (known .0) E (λ pos β. β) G9 (
+          d85 = Typed.s-seq 𝓤 H A W 𝓣 E G9 G10 b3 b60 Δ0 (Typed.both s8) at84 (Plain.t-call-plain 𝓤 H A W 𝓣 3 ps·0 r·0 (claims· .0) (claims· .1) "block_writer::is_sure" (known .0) E (λ pos β. β) G9 (
             record { pos = 1; ty = Syntax.tyRef (Syntax.named 0) Syntax.imm (Syntax.tyInt Syntax.w16); ref = λ x. x },
             (
               record { pos = 14; ty = Syntax.tyRef Syntax.erased Syntax.mut (Syntax.tyInt Syntax.w16); ref = λ x. x },
@@ -5405,7 +5404,7 @@ module _ (claims· : Claims) where
           }
 
         module _ {M : Type 1} (𝓤 : URA.URA M) (H : Wp.Heap 𝓤) (A : Atoms.Atoms 𝓤) (W : Kit.Given 𝓤 H A) (𝓣 : Wp.Tables 𝓤 H) (known0 : Plain.Known 𝓤 H A W 𝓣 3 ps·0 r·0 (claims· .0) (claims· .1)
-            "block::writer::is_sure") (known1 : Plain.Known 𝓤 H A W 𝓣 5 ps·1 r·1 (claims· .2) (claims· .3) "block::writer::write_stored") (known2 : Plain.Known 𝓤 H A W 𝓣 5 ps·2 r·2 (claims· .4) (claims·
-            .5) "block::writer::write_walk") (known3 : Plain.Known 𝓤 H A W 𝓣 0 ps·3 r·3 (claims· .6) (claims· .7) "begin::after_counting") where
+            "block_writer::is_sure") (known1 : Plain.Known 𝓤 H A W 𝓣 5 ps·1 r·1 (claims· .2) (claims· .3) "block_writer::write_stored") (known2 : Plain.Known 𝓤 H A W 𝓣 5 ps·2 r·2 (claims· .4) (claims· .5)
+            "block_writer::write_walk") (known3 : Plain.Known 𝓤 H A W 𝓣 0 ps·3 r·3 (claims· .6) (claims· .7) "begin::after_counting") where
           pub spec : Statement.Triple 𝓤 (Wp.WpFn 𝓤 H (𝓣 .C) (𝓣 .Λ) (Function.fnOf 5 ps r xs m hs body)) (Function.plainOf 𝓤 H A 5 ps r Pre· Post·)
           spec = Plain.t-fn-plain 𝓤 H A W 𝓣 5 ps r xs m hs body (λ κs qs bs. Φ) (λ κs qs bs bd. typed κs qs 𝓤 H A W 𝓣 (known0, known1, known2, known3) bs bd) Pre· Post· asked

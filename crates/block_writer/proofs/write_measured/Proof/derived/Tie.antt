@@ -1,22 +1,22 @@
--- Written by tools/lend.py from Rattle's derivation of the twin of `block`; not edited by hand. Assumes nothing.
+-- Written by tools/lend.py from Rattle's derivation of the twin of `block_writer`; not edited by hand. Assumes nothing.
 use Rattle.begin.proofs.after_counting.Met
 use Rattle.begin.proofs.after_counting.Reads
 use Rattle.begin.proofs.after_counting.Symbol
-use Rattle.block.proofs.writer.is_sure.Met as Met'
-use Rattle.block.proofs.writer.is_sure.Reads as Reads'
-use Rattle.block.proofs.writer.is_sure.Symbol as Symbol'
-use Rattle.block.proofs.writer.write_measured.Code
-use Rattle.block.proofs.writer.write_measured.Key
-use Rattle.block.proofs.writer.derived.write_measured.Kinds
-use Rattle.block.proofs.writer.write_measured.Proof.derived.Lts
-use Rattle.block.proofs.writer.derived.write_measured.Reads as Reads''
-use Rattle.block.proofs.writer.write_measured.Statement
-use Rattle.block.proofs.writer.write_stored.Met as Met''
-use Rattle.block.proofs.writer.derived.write_stored.Reads as Reads'3
-use Rattle.block.proofs.writer.write_stored.Symbol as Symbol''
-use Rattle.block.proofs.writer.write_walk.Met as Met'3
-use Rattle.block.proofs.writer.derived.write_walk.Reads as Reads'4
-use Rattle.block.proofs.writer.write_walk.Symbol as Symbol'3
+use Rattle.block_writer.proofs.is_sure.Met as Met'
+use Rattle.block_writer.proofs.is_sure.Reads as Reads'
+use Rattle.block_writer.proofs.is_sure.Symbol as Symbol'
+use Rattle.block_writer.proofs.write_measured.Code
+use Rattle.block_writer.proofs.write_measured.Key
+use Rattle.block_writer.proofs.derived.write_measured.Kinds
+use Rattle.block_writer.proofs.write_measured.Proof.derived.Lts
+use Rattle.block_writer.proofs.derived.write_measured.Reads as Reads''
+use Rattle.block_writer.proofs.write_measured.Statement
+use Rattle.block_writer.proofs.write_stored.Met as Met''
+use Rattle.block_writer.proofs.derived.write_stored.Reads as Reads'3
+use Rattle.block_writer.proofs.write_stored.Symbol as Symbol''
+use Rattle.block_writer.proofs.write_walk.Met as Met'3
+use Rattle.block_writer.proofs.derived.write_walk.Reads as Reads'4
+use Rattle.block_writer.proofs.write_walk.Symbol as Symbol'3
 use borrow.Fn.Run
 use borrow.Fn.Written
 use contract.Running
@@ -229,7 +229,7 @@ module _ {M : Type 1} where
   close = λ closed 𝓤 H 𝓜 𝓖 𝓡. Written.close 5 Kinds.ps Kinds.r Reads''.Ghost Reads''.requires Reads''.ensures Reads''.pre-read Reads''.Pinned Reads''.Owned Reads''.post-read record
       { M = M; 𝓤 = 𝓤; H = H; 𝓜 = 𝓜; 𝓖 = 𝓖; 𝓡 = 𝓡 } Code.env Key.name Code.function (Code.unfolded 𝓤 H 𝓜 𝓡) (λ κs a g. tt) (λ κs. Reads''.owns κs record { M = M; 𝓤 = 𝓤; H = H; 𝓜 = 𝓜; 𝓖 = 𝓖; 𝓡 = 𝓡 })
       (Reads''.passes record { M = M; 𝓤 = 𝓤; H = H; 𝓜 = 𝓜; 𝓖 = 𝓖; 𝓡 = 𝓡 }) λ g. closed 𝓤 H (𝓖 .A) (Running.givenOf 𝓤 H 𝓜 𝓖) (Run.Over 𝓤 H 𝓜 𝓖 𝓡 Code.env) (Reads'.known record
-      { M = M; 𝓤 = 𝓤; H = H; 𝓜 = 𝓜; 𝓖 = 𝓖; 𝓡 = 𝓡 } Code.env Symbol'.name Symbol'.routine Code.calls-block·writer·is-sure (Met'.met 𝓤 H 𝓜 𝓖 𝓡)) (Reads'3.known record
-      { M = M; 𝓤 = 𝓤; H = H; 𝓜 = 𝓜; 𝓖 = 𝓖; 𝓡 = 𝓡 } Code.env Symbol''.name Symbol''.routine Code.calls-block·writer·write-stored (Met''.met 𝓤 H 𝓜 𝓖 𝓡)) (Reads'4.known record
-      { M = M; 𝓤 = 𝓤; H = H; 𝓜 = 𝓜; 𝓖 = 𝓖; 𝓡 = 𝓡 } Code.env Symbol'3.name Symbol'3.routine Code.calls-block·writer·write-walk (Met'3.met 𝓤 H 𝓜 𝓖 𝓡)) (Reads.known record
+      { M = M; 𝓤 = 𝓤; H = H; 𝓜 = 𝓜; 𝓖 = 𝓖; 𝓡 = 𝓡 } Code.env Symbol'.name Symbol'.routine Code.calls-block-writer·is-sure (Met'.met 𝓤 H 𝓜 𝓖 𝓡)) (Reads'3.known record
+      { M = M; 𝓤 = 𝓤; H = H; 𝓜 = 𝓜; 𝓖 = 𝓖; 𝓡 = 𝓡 } Code.env Symbol''.name Symbol''.routine Code.calls-block-writer·write-stored (Met''.met 𝓤 H 𝓜 𝓖 𝓡)) (Reads'4.known record
+      { M = M; 𝓤 = 𝓤; H = H; 𝓜 = 𝓜; 𝓖 = 𝓖; 𝓡 = 𝓡 } Code.env Symbol'3.name Symbol'3.routine Code.calls-block-writer·write-walk (Met'3.met 𝓤 H 𝓜 𝓖 𝓡)) (Reads.known record
       { M = M; 𝓤 = 𝓤; H = H; 𝓜 = 𝓜; 𝓖 = 𝓖; 𝓡 = 𝓡 } Code.env Symbol.name Symbol.routine Code.calls-begin·after-counting (Met.met 𝓤 H 𝓜 𝓖 𝓡))

@@ -1,8 +1,8 @@
--- Written by tools/lend.py from Rattle's derivation of the twin of `block`; not edited by hand. Assumes nothing.
+-- Written by tools/lend.py from Rattle's derivation of the twin of `block_writer`; not edited by hand. Assumes nothing.
 use Rattle.block.proofs.Element
 use Prim.Native.Nat
 use Rattle.block.proofs.Form
 use Rattle.block.proofs.Form.Laws
 use Rattle.stream.proofs.BlockLength
 use Rattle.stream.proofs.BlockLength.Laws as Laws'
 use Rattle.stream.proofs.Refusal
@@ -218,7 +218,7 @@ abbrev b0 : Syntax.Body
 b0 = Syntax.call "quantiser::largest" (List._∷_ (Syntax.copy (Syntax.place 6 (List._∷_ (Syntax.field 0) List.[]))) List.[]) (Syntax.place 9 List.[])
 
 abbrev b1 : Syntax.Body
-b1 = Syntax.call "block::writer::is_strict" (List._∷_ (Syntax.copy (Syntax.place 7 List.[])) List.[]) (Syntax.place 11 List.[])
+b1 = Syntax.call "block_writer::is_strict" (List._∷_ (Syntax.copy (Syntax.place 7 List.[])) List.[]) (Syntax.place 11 List.[])
 
 abbrev b2 : Syntax.Body
 b2 = Syntax.call "begin::first_above" (List._∷_ (Syntax.copy (Syntax.place 1 List.[])) (List._∷_ (Syntax.copy (Syntax.place 9 List.[])) (List._∷_ (Syntax.copy (Syntax.place 6 (List._∷_ (Syntax.field
@@ -309,7 +309,7 @@ b29 = Syntax.assign (Syntax.place 24 List.[]) (Syntax.aggregate (List._∷_ (Syn
     List.[])))
 
 abbrev b30 : Syntax.Body
-b30 = Syntax.call "block::writer::write_measured" (List._∷_ (Syntax.copy (Syntax.place 1 List.[])) (List._∷_ (Syntax.copy (Syntax.place 20 List.[])) (List._∷_ (Syntax.copy (Syntax.place 3 List.[]))
+b30 = Syntax.call "block_writer::write_measured" (List._∷_ (Syntax.copy (Syntax.place 1 List.[])) (List._∷_ (Syntax.copy (Syntax.place 20 List.[])) (List._∷_ (Syntax.copy (Syntax.place 3 List.[]))
     (List._∷_ (Syntax.copy (Syntax.place 22 List.[])) (List._∷_ (Syntax.copy (Syntax.place 24 List.[])) (List._∷_ (Syntax.copy (Syntax.place 6 List.[])) (List._∷_ (Syntax.copy (Syntax.place 7 List.[]))
     (List._∷_ (Syntax.copy (Syntax.place 8 List.[])) List.[])))))))) (Syntax.place 0 List.[])
 
@@ -1060,9 +1060,9 @@ module _ (claims· : Claims) where
     module _ (M : Type 1) where
       abbrev pub Closed : Type 2
       Closed = (𝓤 : URA.URA M) (H : Wp.Heap 𝓤) (A : Atoms.Atoms 𝓤) (W : Kit.Given 𝓤 H A) (𝓣 : Wp.Tables 𝓤 H) (known0 : Plain.Known 𝓤 H A W 𝓣 0 ps·0 r·0 (claims· .0) (claims· .1) "quantiser::largest")
-          (known1 : Plain.Known 𝓤 H A W 𝓣 1 ps·1 r·1 (claims· .2) (claims· .3) "block::writer::is_strict") (known2 : Plain.Known 𝓤 H A W 𝓣 1 ps·2 r·2 (claims· .4) (claims· .5) "begin::first_above")
-          (known3 : Plain.Known 𝓤 H A W 𝓣 1 ps·3 r·3 (claims· .6) (claims· .7) "lines::clear") (known4 : Plain.Known 𝓤 H A W 𝓣 1 ps·4 r·4 (claims· .8) (claims· .9) "block::records::clear_records") (known5
-          : Plain.Known 𝓤 H A W 𝓣 5 ps·5 r·5 (claims· .10) (claims· .11) "block::writer::write_measured") → Statement.Triple 𝓤 (Wp.WpFn 𝓤 H (𝓣 .C) (𝓣 .Λ) (Function.fnOf 5 ps r xs m hs body))
+          (known1 : Plain.Known 𝓤 H A W 𝓣 1 ps·1 r·1 (claims· .2) (claims· .3) "block_writer::is_strict") (known2 : Plain.Known 𝓤 H A W 𝓣 1 ps·2 r·2 (claims· .4) (claims· .5) "begin::first_above") (known3
+          : Plain.Known 𝓤 H A W 𝓣 1 ps·3 r·3 (claims· .6) (claims· .7) "lines::clear") (known4 : Plain.Known 𝓤 H A W 𝓣 1 ps·4 r·4 (claims· .8) (claims· .9) "block::records::clear_records") (known5 :
+          Plain.Known 𝓤 H A W 𝓣 5 ps·5 r·5 (claims· .10) (claims· .11) "block_writer::write_measured") → Statement.Triple 𝓤 (Wp.WpFn 𝓤 H (𝓣 .C) (𝓣 .Λ) (Function.fnOf 5 ps r xs m hs body))
           (Function.plainOf 𝓤 H A 5 ps r Pre· Post·)
 
     module _ where
@@ -1278,9 +1278,9 @@ module _ (claims· : Claims) where
 
       module _ {M : Type 1} (𝓤 : URA.URA M) (H : Wp.Heap 𝓤) (A : Atoms.Atoms 𝓤) (W : Kit.Given 𝓤 H A) (𝓣 : Wp.Tables 𝓤 H) where
         abbrev Knowns : Type 1
-        Knowns = Plain.Known 𝓤 H A W 𝓣 0 ps·0 r·0 (claims· .0) (claims· .1) "quantiser::largest" × Plain.Known 𝓤 H A W 𝓣 1 ps·1 r·1 (claims· .2) (claims· .3) "block::writer::is_strict" × Plain.Known 𝓤
+        Knowns = Plain.Known 𝓤 H A W 𝓣 0 ps·0 r·0 (claims· .0) (claims· .1) "quantiser::largest" × Plain.Known 𝓤 H A W 𝓣 1 ps·1 r·1 (claims· .2) (claims· .3) "block_writer::is_strict" × Plain.Known 𝓤
             H A W 𝓣 1 ps·2 r·2 (claims· .4) (claims· .5) "begin::first_above" × Plain.Known 𝓤 H A W 𝓣 1 ps·3 r·3 (claims· .6) (claims· .7) "lines::clear" × Plain.Known 𝓤 H A W 𝓣 1 ps·4 r·4 (claims· .8)
-            (claims· .9) "block::records::clear_records" × Plain.Known 𝓤 H A W 𝓣 5 ps·5 r·5 (claims· .10) (claims· .11) "block::writer::write_measured"
+            (claims· .9) "block::records::clear_records" × Plain.Known 𝓤 H A W 𝓣 5 ps·5 r·5 (claims· .10) (claims· .11) "block_writer::write_measured"
 
       module _ (κs : Lifetimes.Lfts 5) (qs : Lifetimes.Shares 5) where
         abbrev g11 : List.List Row.Entry
@@ -2230,8 +2230,8 @@ module _ (claims· : Claims) where
           d47 = Typed.g-pre 𝓤 H A W 𝓣 E G50 G51 b31 Δ0 (Typed.pass T50 T51 s48) at46 (Scalar.g-room 𝓤 H A W E G50 6 y3 (Local.room-whole 𝓤 H A W (Declared'.row Form.the-type) y3 Path'.refl)) d46
 
           d48 : Typed.Typed 𝓤 H A 𝓣 E G49 b32 Δ0 at48
-          d48 = Typed.s-seq 𝓤 H A W 𝓣 E G49 G50 b30 b31 Δ0 (Typed.both s47) at47 (Plain.t-call-plain 𝓤 H A W 𝓣 5 ps·5 r·5 (claims· .10) (claims· .11) "block::writer::write_measured" (known .5) E (λ
-              pos β. β) G49 (
+          d48 = Typed.s-seq 𝓤 H A W 𝓣 E G49 G50 b30 b31 Δ0 (Typed.both s47) at47 (Plain.t-call-plain 𝓤 H A W 𝓣 5 ps·5 r·5 (claims· .10) (claims· .11) "block_writer::write_measured" (known .5) E (λ pos
+              β. β) G49 (
                 record { pos = 1; ty = Syntax.tyRef (Syntax.named 0) Syntax.imm (Syntax.tyInt Syntax.w16); ref = λ x. x },
                 (
                   record { pos = 20; ty = Syntax.tyRef Syntax.erased Syntax.mut (Syntax.tyInt Syntax.w8); ref = λ x. x },
@@ -2394,7 +2394,7 @@ module _ (claims· : Claims) where
               (Syntax.tyInt Syntax.w64)) (tt, tt) Path'.refl) d61
 
           d63 : Typed.Typed 𝓤 H A 𝓣 E G6 b43 Δ0 at63
-          d63 = Typed.s-seq 𝓤 H A W 𝓣 E G6 G7 b1 b42 Δ0 (Typed.both s5) at62 (Plain.t-call-plain 𝓤 H A W 𝓣 1 ps·1 r·1 (claims· .2) (claims· .3) "block::writer::is_strict" (known .1) E (λ pos β. β) G6
+          d63 = Typed.s-seq 𝓤 H A W 𝓣 E G6 G7 b1 b42 Δ0 (Typed.both s5) at62 (Plain.t-call-plain 𝓤 H A W 𝓣 1 ps·1 r·1 (claims· .2) (claims· .3) "block_writer::is_strict" (known .1) E (λ pos β. β) G6
               (record { pos = 7; ty = Syntax.tyRef (Syntax.named 4) Syntax.imm (Syntax.tyInt Syntax.w8); ref = λ x. x }, tt) 11 (List._∷_ 4 List.[]) (Call.sub-id 𝓤 H A W (G6 .slots)) (
                 ShrSlice.spares-sslice 𝓤 H A W (Referent.rtF (Referent.fInt Syntax.w8)) (Syntax.tyRef (Syntax.named 4) Syntax.imm (Syntax.tyInt Syntax.w8)) 4,
                 Shared.reads-sslice 𝓤 H A W (Referent.rtF
@@ -3285,8 +3285,8 @@ module _ (claims· : Claims) where
           }
 
         module _ {M : Type 1} (𝓤 : URA.URA M) (H : Wp.Heap 𝓤) (A : Atoms.Atoms 𝓤) (W : Kit.Given 𝓤 H A) (𝓣 : Wp.Tables 𝓤 H) (known0 : Plain.Known 𝓤 H A W 𝓣 0 ps·0 r·0 (claims· .0) (claims· .1)
-            "quantiser::largest") (known1 : Plain.Known 𝓤 H A W 𝓣 1 ps·1 r·1 (claims· .2) (claims· .3) "block::writer::is_strict") (known2 : Plain.Known 𝓤 H A W 𝓣 1 ps·2 r·2 (claims· .4) (claims· .5)
+            "quantiser::largest") (known1 : Plain.Known 𝓤 H A W 𝓣 1 ps·1 r·1 (claims· .2) (claims· .3) "block_writer::is_strict") (known2 : Plain.Known 𝓤 H A W 𝓣 1 ps·2 r·2 (claims· .4) (claims· .5)
             "begin::first_above") (known3 : Plain.Known 𝓤 H A W 𝓣 1 ps·3 r·3 (claims· .6) (claims· .7) "lines::clear") (known4 : Plain.Known 𝓤 H A W 𝓣 1 ps·4 r·4 (claims· .8) (claims· .9)
-            "block::records::clear_records") (known5 : Plain.Known 𝓤 H A W 𝓣 5 ps·5 r·5 (claims· .10) (claims· .11) "block::writer::write_measured") where
+            "block::records::clear_records") (known5 : Plain.Known 𝓤 H A W 𝓣 5 ps·5 r·5 (claims· .10) (claims· .11) "block_writer::write_measured") where
           pub spec : Statement.Triple 𝓤 (Wp.WpFn 𝓤 H (𝓣 .C) (𝓣 .Λ) (Function.fnOf 5 ps r xs m hs body)) (Function.plainOf 𝓤 H A 5 ps r Pre· Post·)
           spec = Plain.t-fn-plain 𝓤 H A W 𝓣 5 ps r xs m hs body (λ κs qs bs. Φ) (λ κs qs bs bd. typed κs qs 𝓤 H A W 𝓣 (known0, known1, known2, known3, known4, known5) bs bd) Pre· Post· asked

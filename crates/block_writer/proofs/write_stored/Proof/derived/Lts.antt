@@ -1,16 +1,16 @@
--- Written by tools/lend.py from Rattle's derivation of the twin of `block`; not edited by hand. Assumes nothing.
+-- Written by tools/lend.py from Rattle's derivation of the twin of `block_writer`; not edited by hand. Assumes nothing.
 use Rattle.block.proofs.Element
 use Prim.Native.Nat
 use Rattle.bits.proofs.BitPosition
 use Rattle.bits.proofs.BitPosition.Laws
 use Rattle.block.proofs.Form
 use Rattle.block.proofs.Form.Laws as Laws'
-use Rattle.stream.proofs.BlockLength
-use Rattle.stream.proofs.BlockLength.Laws as Laws''
-use Rattle.stream.proofs.Refusal
-use Rattle.stream.proofs.Refusal.Laws as Laws'3
 use Rattle.output.proofs.Put
-use Rattle.output.proofs.Put.Laws as Laws'4
+use Rattle.output.proofs.Put.Laws as Laws''
+use Rattle.stream.proofs.BlockLength
+use Rattle.stream.proofs.BlockLength.Laws as Laws'3
+use Rattle.stream.proofs.Refusal
+use Rattle.stream.proofs.Refusal.Laws as Laws'4
 use borrow.Author.Called
 use borrow.Enum.Known
 use borrow.Enum.Make
@@ -118,26 +118,26 @@ abbrev pub r : Kinds.RK 5
 r = Value.rVal record {
   ty = Declared.row BlockLength.the-type;
   one = Path'.refl;
-  val = Laws'5.val BlockLength.the-type Laws''.the-laws;
-  tells = Laws'5.tells BlockLength.the-type Laws''.the-laws;
+  val = Laws'5.val BlockLength.the-type Laws'3.the-laws;
+  tells = Laws'5.tells BlockLength.the-type Laws'3.the-laws;
   still = Laws'5.still
-      BlockLength.the-type Laws''.the-copy Exit.yes;
+      BlockLength.the-type Laws'3.the-copy Exit.yes;
   row = Rows.whole (Declared.row BlockLength.the-type);
   rd = λ x. x;
   mk = λ x. x;
 } λ M 𝓤 H A W. record {
-  copies = Laws'5.copy BlockLength.the-type Laws''.the-copy 𝓤 H A W;
-  lawful = Laws'5.lawful BlockLength.the-type Laws''.the-laws 𝓤 H A W tt;
-  makes = Laws'5.makes BlockLength.the-type Laws''.the-plain
+  copies = Laws'5.copy BlockLength.the-type Laws'3.the-copy 𝓤 H A W;
+  lawful = Laws'5.lawful BlockLength.the-type Laws'3.the-laws 𝓤 H A W tt;
+  makes = Laws'5.makes BlockLength.the-type Laws'3.the-plain
       𝓤 H A;
   in-mem = Local.mem-whole 𝓤 H A W (Declared.row BlockLength.the-type);
   of-mem = Local.whole-mem 𝓤 H A W (Declared.row BlockLength.the-type);
 }
 
 abbrev pub xs : List.List Syntax.Ty
-xs = List._∷_ (Syntax.tyEnum (List._∷_ 119 (List._∷_ 114 (List._∷_ 105 (List._∷_ 116 (List._∷_ 105 (List._∷_ 110 (List._∷_ 103 (List._∷_ 58 (List._∷_ 58 (List._∷_ 80 (List._∷_ 117 (List._∷_ 116
-    List.[])))))))))))) (Syntax.ttcons (Syntax.tcons y3 Syntax.tnil) (Syntax.ttcons (Syntax.tcons (Syntax.tyInt Syntax.w64) Syntax.tnil) Syntax.ttnil))) (List._∷_ (Syntax.tyInt Syntax.w64) (List._∷_ y3
-    (List._∷_ (Syntax.tyRef Syntax.erased Syntax.mut (Syntax.tyInt Syntax.w8)) (List._∷_ y1 (List._∷_ (Syntax.tyRef Syntax.erased Syntax.mut (Syntax.tyInt Syntax.w16)) (List._∷_ y0 (List._∷_ (Syntax.tyRef
+xs = List._∷_ (Syntax.tyEnum (List._∷_ 111 (List._∷_ 117 (List._∷_ 116 (List._∷_ 112 (List._∷_ 117 (List._∷_ 116 (List._∷_ 58 (List._∷_ 58 (List._∷_ 80 (List._∷_ 117 (List._∷_ 116 List.[])))))))))))
+    (Syntax.ttcons (Syntax.tcons y3 Syntax.tnil) (Syntax.ttcons (Syntax.tcons (Syntax.tyInt Syntax.w64) Syntax.tnil) Syntax.ttnil))) (List._∷_ (Syntax.tyInt Syntax.w64) (List._∷_ y3 (List._∷_
+    (Syntax.tyRef Syntax.erased Syntax.mut (Syntax.tyInt Syntax.w8)) (List._∷_ y1 (List._∷_ (Syntax.tyRef Syntax.erased Syntax.mut (Syntax.tyInt Syntax.w16)) (List._∷_ y0 (List._∷_ (Syntax.tyRef
     Syntax.erased Syntax.mut Element.behind) (List._∷_ y2 (List._∷_ (Syntax.tyEnum (List._∷_ 115 (List._∷_ 116 (List._∷_ 114 (List._∷_ 101 (List._∷_ 97 (List._∷_ 109 (List._∷_ 58 (List._∷_ 58 (List._∷_ 66
     (List._∷_ 108 (List._∷_ 111 (List._∷_ 99 (List._∷_ 107 (List._∷_ 76 (List._∷_ 101 (List._∷_ 110 (List._∷_ 103 (List._∷_ 116 (List._∷_ 104 List.[]))))))))))))))))))) (Syntax.ttcons (Syntax.tcons
     (Syntax.tyInt Syntax.w64) Syntax.tnil) (Syntax.ttcons (Syntax.tcons (Syntax.tyEnum (List._∷_ 115 (List._∷_ 116 (List._∷_ 114 (List._∷_ 101 (List._∷_ 97 (List._∷_ 109 (List._∷_ 58 (List._∷_ 58
@@ -186,17 +186,17 @@ abbrev pub r·0 : Kinds.RK 5
 r·0 = Value.rVal record {
   ty = Declared.row Put.the-type;
   one = Path'.refl;
-  val = Laws'5.val Put.the-type Laws'4.the-laws;
-  tells = Laws'5.tells Put.the-type Laws'4.the-laws;
-  still = Laws'5.still Put.the-type Laws'4.the-copy
+  val = Laws'5.val Put.the-type Laws''.the-laws;
+  tells = Laws'5.tells Put.the-type Laws''.the-laws;
+  still = Laws'5.still Put.the-type Laws''.the-copy
       Exit.yes;
   row = Rows.whole (Declared.row Put.the-type);
   rd = λ x. x;
   mk = λ x. x;
 } λ M 𝓤 H A W. record {
-  copies = Laws'5.copy Put.the-type Laws'4.the-copy 𝓤 H A W;
-  lawful = Laws'5.lawful Put.the-type Laws'4.the-laws 𝓤 H A W tt;
-  makes = Laws'5.makes Put.the-type Laws'4.the-plain 𝓤 H A;
+  copies = Laws'5.copy Put.the-type Laws''.the-copy 𝓤 H A W;
+  lawful = Laws'5.lawful Put.the-type Laws''.the-laws 𝓤 H A W tt;
+  makes = Laws'5.makes Put.the-type Laws''.the-plain 𝓤 H A;
   in-mem =
       Local.mem-whole 𝓤 H A W (Declared.row Put.the-type);
   of-mem = Local.whole-mem 𝓤 H A W (Declared.row Put.the-type);
@@ -271,7 +271,7 @@ abbrev b5 : Syntax.Body
 b5 = Syntax.assign (Syntax.place 16 List.[]) (Syntax.aggregate (List._∷_ (Syntax.copy (Syntax.place 15 List.[])) (List._∷_ (Syntax.copy (Syntax.place 4 (List._∷_ (Syntax.field 1) List.[]))) List.[])))
 
 abbrev b6 : Syntax.Body
-b6 = Syntax.call "block::writer::write_walk" (List._∷_ (Syntax.copy (Syntax.place 1 List.[])) (List._∷_ (Syntax.copy (Syntax.place 12 List.[])) (List._∷_ Syntax.opdTrue (List._∷_ (Syntax.copy
+b6 = Syntax.call "block_writer::write_walk" (List._∷_ (Syntax.copy (Syntax.place 1 List.[])) (List._∷_ (Syntax.copy (Syntax.place 12 List.[])) (List._∷_ Syntax.opdTrue (List._∷_ (Syntax.copy
     (Syntax.place 14 List.[])) (List._∷_ (Syntax.copy (Syntax.place 16 List.[])) (List._∷_ (Syntax.copy (Syntax.place 5 List.[])) (List._∷_ (Syntax.copy (Syntax.place 6 List.[])) (List._∷_ (Syntax.copy
     (Syntax.place 7 List.[])) List.[])))))))) (Syntax.place 8 List.[])
 
@@ -518,8 +518,8 @@ e37 = (7, Rows.sc-here (Row.sInt Syntax.w64))
 abbrev pub e38 : Row.Entry
 e38 = (
   8,
-  Rows.any-gone (Syntax.tyEnum (List._∷_ 119 (List._∷_ 114 (List._∷_ 105 (List._∷_ 116 (List._∷_ 105 (List._∷_ 110 (List._∷_ 103 (List._∷_ 58 (List._∷_ 58 (List._∷_ 80 (List._∷_ 117 (List._∷_ 116
-      List.[])))))))))))) (Syntax.ttcons (Syntax.tcons y3 Syntax.tnil) (Syntax.ttcons (Syntax.tcons (Syntax.tyInt Syntax.w64) Syntax.tnil) Syntax.ttnil))),
+  Rows.any-gone (Syntax.tyEnum (List._∷_ 111 (List._∷_ 117 (List._∷_ 116 (List._∷_ 112 (List._∷_ 117 (List._∷_ 116 (List._∷_ 58 (List._∷_ 58 (List._∷_ 80 (List._∷_ 117 (List._∷_ 116
+      List.[]))))))))))) (Syntax.ttcons (Syntax.tcons y3 Syntax.tnil) (Syntax.ttcons (Syntax.tcons (Syntax.tyInt Syntax.w64) Syntax.tnil) Syntax.ttnil))),
 )
 
 abbrev pub e39 : Row.Entry
@@ -857,9 +857,8 @@ module _ (claims· : Claims) where
       ),
     ),
   ) 8
-      (List._∷_ 0 (List._∷_ 5 (List._∷_ 6 (List._∷_ 7 (List._∷_ 4 List.[]))))) (Syntax.tyEnum (List._∷_ 119 (List._∷_ 114 (List._∷_ 105 (List._∷_ 116 (List._∷_ 105 (List._∷_ 110 (List._∷_ 103 (List._∷_ 58
-      (List._∷_ 58 (List._∷_ 80 (List._∷_ 117 (List._∷_ 116 List.[])))))))))))) (Syntax.ttcons (Syntax.tcons y3 Syntax.tnil) (Syntax.ttcons (Syntax.tcons (Syntax.tyInt Syntax.w64) Syntax.tnil)
-      Syntax.ttnil)))
+      (List._∷_ 0 (List._∷_ 5 (List._∷_ 6 (List._∷_ 7 (List._∷_ 4 List.[]))))) (Syntax.tyEnum (List._∷_ 111 (List._∷_ 117 (List._∷_ 116 (List._∷_ 112 (List._∷_ 117 (List._∷_ 116 (List._∷_ 58 (List._∷_ 58
+      (List._∷_ 80 (List._∷_ 117 (List._∷_ 116 List.[]))))))))))) (Syntax.ttcons (Syntax.tcons y3 Syntax.tnil) (Syntax.ttcons (Syntax.tcons (Syntax.tyInt Syntax.w64) Syntax.tnil) Syntax.ttnil)))
 
   abbrev s14 : Typed.Mo T15 → Typed.Mo T17
   s14 = Scalar.n-room T15 5 y4
@@ -885,15 +884,15 @@ module _ (claims· : Claims) where
   s26 = Known.k-enum-known Put.enum 1 T27 8 λ x. x
 
   abbrev s27 : Typed.Gives T29 T30
-  s27 = Known.k-known-told Put.enum Laws'4.the-laws 1 T29 8 λ x. x
+  s27 = Known.k-known-told Put.enum Laws''.the-laws 1 T29 8 λ x. x
 
   abbrev s28 : Typed.Mo T30 → Typed.Mo T31
-  s28 = Scalar.n-use T30 (Scalar.oFld 8 (List._∷_ (Syntax.variant 1) (List._∷_ (Syntax.field 1) List.[])) (Syntax.tyInt Syntax.w64) 8 λ v. Laws'4.the-laws .1 .0 .0 .val (v .0)) 9 (Rows.sc-here
+  s28 = Scalar.n-use T30 (Scalar.oFld 8 (List._∷_ (Syntax.variant 1) (List._∷_ (Syntax.field 1) List.[])) (Syntax.tyInt Syntax.w64) 8 λ v. Laws''.the-laws .1 .0 .0 .val (v .0)) 9 (Rows.sc-here
       (Row.sInt Syntax.w64)) (Row.sInt Syntax.w64 .of)
 
   abbrev s29 : Typed.Mo T31 → Typed.Mo T32
-  s29 = Scalar.n-room T31 8 (Syntax.tyEnum (List._∷_ 119 (List._∷_ 114 (List._∷_ 105 (List._∷_ 116 (List._∷_ 105 (List._∷_ 110 (List._∷_ 103 (List._∷_ 58 (List._∷_ 58 (List._∷_ 80 (List._∷_ 117
-      (List._∷_ 116 List.[])))))))))))) (Syntax.ttcons (Syntax.tcons y3 Syntax.tnil) (Syntax.ttcons (Syntax.tcons (Syntax.tyInt Syntax.w64) Syntax.tnil) Syntax.ttnil)))
+  s29 = Scalar.n-room T31 8 (Syntax.tyEnum (List._∷_ 111 (List._∷_ 117 (List._∷_ 116 (List._∷_ 112 (List._∷_ 117 (List._∷_ 116 (List._∷_ 58 (List._∷_ 58 (List._∷_ 80 (List._∷_ 117 (List._∷_ 116
+      List.[]))))))))))) (Syntax.ttcons (Syntax.tcons y3 Syntax.tnil) (Syntax.ttcons (Syntax.tcons (Syntax.tyInt Syntax.w64) Syntax.tnil) Syntax.ttnil)))
 
   abbrev s30 : Typed.Mo T32 → Typed.Mo T33
   s30 = Make.n-enum-make Refusal.the-type T32 18 λ m. Refusal.enum .make (Logic.inr (Logic.inr (Logic.inr (Logic.inr (Logic.inr (Logic.inr (Logic.inr (Logic.inr (Logic.inr (Logic.inr (Logic.inr
@@ -919,14 +918,14 @@ module _ (claims· : Claims) where
   s34 = Known.k-enum-known Put.enum 0 T27 8 λ x. x
 
   abbrev s35 : Typed.Gives T37 T38
-  s35 = Known.k-known-told Put.enum Laws'4.the-laws 0 T37 8 λ x. x
+  s35 = Known.k-known-told Put.enum Laws''.the-laws 0 T37 8 λ x. x
 
   abbrev s36 : Typed.Mo T38 → Typed.Mo T39
   s36 = Make'.n-make (Declared'.row BitPosition.the-type) T38 10 λ m. m .1 .1 .1 .1 .1 .1 .1 .1 .0 .0
 
   abbrev s37 : Typed.Mo T39 → Typed.Mo T40
-  s37 = Scalar.n-room T39 8 (Syntax.tyEnum (List._∷_ 119 (List._∷_ 114 (List._∷_ 105 (List._∷_ 116 (List._∷_ 105 (List._∷_ 110 (List._∷_ 103 (List._∷_ 58 (List._∷_ 58 (List._∷_ 80 (List._∷_ 117
-      (List._∷_ 116 List.[])))))))))))) (Syntax.ttcons (Syntax.tcons y3 Syntax.tnil) (Syntax.ttcons (Syntax.tcons (Syntax.tyInt Syntax.w64) Syntax.tnil) Syntax.ttnil)))
+  s37 = Scalar.n-room T39 8 (Syntax.tyEnum (List._∷_ 111 (List._∷_ 117 (List._∷_ 116 (List._∷_ 112 (List._∷_ 117 (List._∷_ 116 (List._∷_ 58 (List._∷_ 58 (List._∷_ 80 (List._∷_ 117 (List._∷_ 116
+      List.[]))))))))))) (Syntax.ttcons (Syntax.tcons y3 Syntax.tnil) (Syntax.ttcons (Syntax.tcons (Syntax.tyInt Syntax.w64) Syntax.tnil) Syntax.ttnil)))
 
   abbrev s39 : Typed.Gives T40 T42
   s39 = Relend.k-sl-relend (Referent.rtF (Referent.fInt Syntax.w8)) T40 2 20 1 8 (Syntax.tyRef (Syntax.named 1) Syntax.mut (Syntax.tyInt Syntax.w8)) (Syntax.tyRef Syntax.erased Syntax.mut
@@ -985,7 +984,7 @@ module _ (claims· : Claims) where
     module _ (M : Type 1) where
       abbrev pub Closed : Type 2
       Closed = (𝓤 : URA.URA M) (H : Wp.Heap 𝓤) (A : Atoms.Atoms 𝓤) (W : Kit.Given 𝓤 H A) (𝓣 : Wp.Tables 𝓤 H) (known0 : Plain.Known 𝓤 H A W 𝓣 5 ps·0 r·0 (claims· .0) (claims· .1)
-          "block::writer::write_walk") (known1 : Plain.Known 𝓤 H A W 𝓣 1 ps·1 r·1 (claims· .2) (claims· .3) "bits::fill_tail") (known2 : Plain.Known 𝓤 H A W 𝓣 0 ps·2 r·2 (claims· .4) (claims· .5)
+          "block_writer::write_walk") (known1 : Plain.Known 𝓤 H A W 𝓣 1 ps·1 r·1 (claims· .2) (claims· .3) "bits::fill_tail") (known2 : Plain.Known 𝓤 H A W 𝓣 0 ps·2 r·2 (claims· .4) (claims· .5)
           "begin::block_bytes") → Statement.Triple 𝓤 (Wp.WpFn 𝓤 H (𝓣 .C) (𝓣 .Λ) (Function.fnOf 5 ps r xs m hs body)) (Function.plainOf 𝓤 H A 5 ps r Pre· Post·)
 
     module _ where
@@ -1156,7 +1155,7 @@ module _ (claims· : Claims) where
 
       module _ {M : Type 1} (𝓤 : URA.URA M) (H : Wp.Heap 𝓤) (A : Atoms.Atoms 𝓤) (W : Kit.Given 𝓤 H A) (𝓣 : Wp.Tables 𝓤 H) where
         abbrev Knowns : Type 1
-        Knowns = Plain.Known 𝓤 H A W 𝓣 5 ps·0 r·0 (claims· .0) (claims· .1) "block::writer::write_walk" × Plain.Known 𝓤 H A W 𝓣 1 ps·1 r·1 (claims· .2) (claims· .3) "bits::fill_tail" × Plain.Known 𝓤 H
+        Knowns = Plain.Known 𝓤 H A W 𝓣 5 ps·0 r·0 (claims· .0) (claims· .1) "block_writer::write_walk" × Plain.Known 𝓤 H A W 𝓣 1 ps·1 r·1 (claims· .2) (claims· .3) "bits::fill_tail" × Plain.Known 𝓤 H
             A W 𝓣 0 ps·2 r·2 (claims· .4) (claims· .5) "begin::block_bytes"
 
       module _ (κs : Lifetimes.Lfts 5) (qs : Lifetimes.Shares 5) where
@@ -1639,7 +1638,7 @@ module _ (claims· : Claims) where
           d0 : Typed.Typed 𝓤 H A 𝓣 E G33 b9 Δ1 at0
           d0 = Typed.s-typed 𝓤 H A W 𝓣 E G33 b9 Δ1 (λ Ψ. Typed.pass T33 T34 s31 (Typed.pass T34 T35 s32 (Typed.pass T35 T36 s33 Ψ))) tt (Typed.g-post 𝓤 H A W 𝓣 E G33 G35 G36 b9 (λ Ψ. Typed.pass T33
               T34 s31 (Typed.pass T34 T35 s32 Ψ)) (Typed.pass T35 T36 s33) (Typed.g-post 𝓤 H A W 𝓣 E G33 G34 G35 b9 (Typed.pass T33 T34 s31) (Typed.pass T34 T35 s32) (Make.t-enum-make-wt 𝓤 H A W E 𝓣
-              BlockLength.the-type Laws''.the-laws Laws''.the-plain tt G33 17 (List._∷_ (Scalar.oInt Syntax.w8 1) (List._∷_ (Scalar.oAt 18 (Syntax.tyEnum (List._∷_ 115 (List._∷_ 116 (List._∷_ 114
+              BlockLength.the-type Laws'3.the-laws Laws'3.the-plain tt G33 17 (List._∷_ (Scalar.oInt Syntax.w8 1) (List._∷_ (Scalar.oAt 18 (Syntax.tyEnum (List._∷_ 115 (List._∷_ 116 (List._∷_ 114
               (List._∷_ 101 (List._∷_ 97 (List._∷_ 109 (List._∷_ 58 (List._∷_ 58 (List._∷_ 82 (List._∷_ 101 (List._∷_ 102 (List._∷_ 117 (List._∷_ 115 (List._∷_ 97 (List._∷_ 108 List.[])))))))))))))))
               (Syntax.ttcons Syntax.tnil (Syntax.ttcons Syntax.tnil (Syntax.ttcons Syntax.tnil (Syntax.ttcons (Syntax.tcons (Syntax.tyInt Syntax.w64) Syntax.tnil) (Syntax.ttcons Syntax.tnil (Syntax.ttcons
               Syntax.tnil (Syntax.ttcons Syntax.tnil (Syntax.ttcons Syntax.tnil (Syntax.ttcons Syntax.tnil (Syntax.ttcons Syntax.tnil (Syntax.ttcons (Syntax.tcons (Syntax.tyInt Syntax.w64) Syntax.tnil)
@@ -1647,7 +1646,7 @@ module _ (claims· : Claims) where
               Syntax.tnil)) (Syntax.ttcons (Syntax.tcons (Syntax.tyInt Syntax.w64) Syntax.tnil) (Syntax.ttcons Syntax.tnil (Syntax.ttcons Syntax.tnil (Syntax.ttcons (Syntax.tcons (Syntax.tyInt Syntax.w64)
               Syntax.tnil) (Syntax.ttcons (Syntax.tcons (Syntax.tyInt Syntax.w64) Syntax.tnil) (Syntax.ttcons (Syntax.tcons (Syntax.tyInt Syntax.w64) Syntax.tnil) (Syntax.ttcons Syntax.tnil (Syntax.ttcons
               Syntax.tnil (Syntax.ttcons (Syntax.tcons (Syntax.tyInt Syntax.w64) (Syntax.tcons (Syntax.tyInt Syntax.w64) Syntax.tnil)) (Syntax.ttcons Syntax.tnil Syntax.ttnil)))))))))))))))))))))))))
-              (Laws'5.val Refusal.the-type Laws'3.the-laws)) List.[])) (λ m. BlockLength.enum .make (Logic.inr (Logic.inl (m .1 .1 .1 .1 .1 .1 .1 .1 .1 .1 .1 .1 .1 .1 .1 .1 .1 .1 .0, tt))))
+              (Laws'5.val Refusal.the-type Laws'4.the-laws)) List.[])) (λ m. BlockLength.enum .make (Logic.inr (Logic.inl (m .1 .1 .1 .1 .1 .1 .1 .1 .1 .1 .1 .1 .1 .1 .1 .1 .1 .1 .0, tt))))
               (Reads.room-gone 𝓤 H A (Syntax.tyEnum (List._∷_ 115 (List._∷_ 116 (List._∷_ 114 (List._∷_ 101 (List._∷_ 97 (List._∷_ 109 (List._∷_ 58 (List._∷_ 58 (List._∷_ 66 (List._∷_ 108 (List._∷_ 111
               (List._∷_ 99 (List._∷_ 107 (List._∷_ 76 (List._∷_ 101 (List._∷_ 110 (List._∷_ 103 (List._∷_ 116 (List._∷_ 104 List.[]))))))))))))))))))) (Syntax.ttcons (Syntax.tcons (Syntax.tyInt
               Syntax.w64) Syntax.tnil) (Syntax.ttcons (Syntax.tcons (Syntax.tyEnum (List._∷_ 115 (List._∷_ 116 (List._∷_ 114 (List._∷_ 101 (List._∷_ 97 (List._∷_ 109 (List._∷_ 58 (List._∷_ 58 (List._∷_ 82
@@ -1658,10 +1657,10 @@ module _ (claims· : Claims) where
               (Syntax.ttcons Syntax.tnil (Syntax.ttcons Syntax.tnil (Syntax.ttcons (Syntax.tcons (Syntax.tyInt Syntax.w64) Syntax.tnil) (Syntax.ttcons (Syntax.tcons (Syntax.tyInt Syntax.w64) Syntax.tnil)
               (Syntax.ttcons (Syntax.tcons (Syntax.tyInt Syntax.w64) Syntax.tnil) (Syntax.ttcons Syntax.tnil (Syntax.ttcons Syntax.tnil (Syntax.ttcons (Syntax.tcons (Syntax.tyInt Syntax.w64) (Syntax.tcons
               (Syntax.tyInt Syntax.w64) Syntax.tnil)) (Syntax.ttcons Syntax.tnil Syntax.ttnil))))))))))))))))))))))))) Syntax.tnil) Syntax.ttnil))))
-              (tt, ((Whole.reads-enum 𝓤 H A W Refusal.the-type Laws'3.the-laws, Path'.refl), tt)) Path'.refl (λ m wa. Make.made-val BlockLength.the-type Laws''.the-laws (List._∷_ (Laws'5.val
-              Refusal.the-type Laws'3.the-laws (m .1 .1 .1 .1 .1 .1 .1 .1 .1 .1 .1 .1 .1 .1 .1 .1 .1 .1 .0)) List.[]) (BlockLength.enum .make (Logic.inr (Logic.inl
+              (tt, ((Whole.reads-enum 𝓤 H A W Refusal.the-type Laws'4.the-laws, Path'.refl), tt)) Path'.refl (λ m wa. Make.made-val BlockLength.the-type Laws'3.the-laws (List._∷_ (Laws'5.val
+              Refusal.the-type Laws'4.the-laws (m .1 .1 .1 .1 .1 .1 .1 .1 .1 .1 .1 .1 .1 .1 .1 .1 .1 .1 .0)) List.[]) (BlockLength.enum .make (Logic.inr (Logic.inl
               (m .1 .1 .1 .1 .1 .1 .1 .1 .1 .1 .1 .1 .1 .1 .1 .1 .1 .1 .0, tt)))) (
-                Signed.made-wt Refusal.the-field Laws'3.the-field-laws (Whole.enum-wt Refusal.the-type Laws'3.the-laws (
+                Signed.made-wt Refusal.the-field Laws'4.the-field-laws (Whole.enum-wt Refusal.the-type Laws'4.the-laws (
                   tt,
                   (
                     tt,
@@ -1706,10 +1705,10 @@ module _ (claims· : Claims) where
                 ))
                     (Refusal.the-type .to (m .1 .1 .1 .1 .1 .1 .1 .1 .1 .1 .1 .1 .1 .1 .1 .1 .1 .1 .0)),
                 tt,
-              ) (wa .1)) λ m wa. Make.made-is BlockLength.the-type Laws''.the-laws (List._∷_ (Laws'5.val
-              Refusal.the-type Laws'3.the-laws (m .1 .1 .1 .1 .1 .1 .1 .1 .1 .1 .1 .1 .1 .1 .1 .1 .1 .1 .0)) List.[]) (BlockLength.enum .make (Logic.inr (Logic.inl
+              ) (wa .1)) λ m wa. Make.made-is BlockLength.the-type Laws'3.the-laws (List._∷_ (Laws'5.val
+              Refusal.the-type Laws'4.the-laws (m .1 .1 .1 .1 .1 .1 .1 .1 .1 .1 .1 .1 .1 .1 .1 .1 .1 .1 .0)) List.[]) (BlockLength.enum .make (Logic.inr (Logic.inl
               (m .1 .1 .1 .1 .1 .1 .1 .1 .1 .1 .1 .1 .1 .1 .1 .1 .1 .1 .0, tt)))) (
-                Signed.made-wt Refusal.the-field Laws'3.the-field-laws (Whole.enum-wt Refusal.the-type Laws'3.the-laws (
+                Signed.made-wt Refusal.the-field Laws'4.the-field-laws (Whole.enum-wt Refusal.the-type Laws'4.the-laws (
                   tt,
                   (
                     tt,
@@ -1773,7 +1772,7 @@ module _ (claims· : Claims) where
               Syntax.ttnil))))))))))))))))))))))))) Path'.refl)))
 
           d1 : Typed.Typed 𝓤 H A 𝓣 E G32 b10 Δ1 at1
-          d1 = Typed.s-seq 𝓤 H A W 𝓣 E G32 G33 b8 b9 Δ1 (Typed.pass T32 T33 s30) at0 (Make.t-enum-make-wt 𝓤 H A W E 𝓣 Refusal.the-type Laws'3.the-laws Laws'3.the-plain tt G32 18 (List._∷_ (Scalar.oInt
+          d1 = Typed.s-seq 𝓤 H A W 𝓣 E G32 G33 b8 b9 Δ1 (Typed.pass T32 T33 s30) at0 (Make.t-enum-make-wt 𝓤 H A W E 𝓣 Refusal.the-type Laws'4.the-laws Laws'4.the-plain tt G32 18 (List._∷_ (Scalar.oInt
               Syntax.w8 11) (List._∷_ (Scalar.oAt 9 (Syntax.tyInt Syntax.w64) (Row.valS (Row.sInt Syntax.w64))) List.[])) (λ m. Refusal.enum .make (Logic.inr (Logic.inr (Logic.inr (Logic.inr (Logic.inr
               (Logic.inr (Logic.inr (Logic.inr (Logic.inr (Logic.inr (Logic.inr (Logic.inl (m .1 .1 .1 .1 .1 .1 .1 .1 .1 .0, tt)))))))))))))) (Reads.room-gone 𝓤 H A (Syntax.tyEnum (List._∷_ 115 (List._∷_
               116 (List._∷_ 114 (List._∷_ 101 (List._∷_ 97 (List._∷_ 109 (List._∷_ 58 (List._∷_ 58 (List._∷_ 82 (List._∷_ 101 (List._∷_ 102 (List._∷_ 117 (List._∷_ 115 (List._∷_ 97 (List._∷_ 108
@@ -1783,32 +1782,32 @@ module _ (claims· : Claims) where
               (Syntax.tyInt Syntax.w64) Syntax.tnil)) (Syntax.ttcons (Syntax.tcons (Syntax.tyInt Syntax.w64) Syntax.tnil) (Syntax.ttcons Syntax.tnil (Syntax.ttcons Syntax.tnil (Syntax.ttcons (Syntax.tcons
               (Syntax.tyInt Syntax.w64) Syntax.tnil) (Syntax.ttcons (Syntax.tcons (Syntax.tyInt Syntax.w64) Syntax.tnil) (Syntax.ttcons (Syntax.tcons (Syntax.tyInt Syntax.w64) Syntax.tnil) (Syntax.ttcons
               Syntax.tnil (Syntax.ttcons Syntax.tnil (Syntax.ttcons (Syntax.tcons (Syntax.tyInt Syntax.w64) (Syntax.tcons (Syntax.tyInt Syntax.w64) Syntax.tnil)) (Syntax.ttcons Syntax.tnil
-              Syntax.ttnil)))))))))))))))))))))))))) (tt, ((Scalar.reads-sc 𝓤 H A W (Row.sInt Syntax.w64), Path'.refl), tt)) Path'.refl (λ m wa. Make.made-val Refusal.the-type Laws'3.the-laws (List._∷_
-              (Laws'3.the-laws .1 .1 .1 .1 .1 .1 .1 .1 .1 .1 .1 .0 .0 .val (m .1 .1 .1 .1 .1 .1 .1 .1 .1 .0)) List.[]) (Refusal.enum .make (Logic.inr (Logic.inr (Logic.inr (Logic.inr (Logic.inr (Logic.inr
+              Syntax.ttnil)))))))))))))))))))))))))) (tt, ((Scalar.reads-sc 𝓤 H A W (Row.sInt Syntax.w64), Path'.refl), tt)) Path'.refl (λ m wa. Make.made-val Refusal.the-type Laws'4.the-laws (List._∷_
+              (Laws'4.the-laws .1 .1 .1 .1 .1 .1 .1 .1 .1 .1 .1 .0 .0 .val (m .1 .1 .1 .1 .1 .1 .1 .1 .1 .0)) List.[]) (Refusal.enum .make (Logic.inr (Logic.inr (Logic.inr (Logic.inr (Logic.inr (Logic.inr
               (Logic.inr (Logic.inr (Logic.inr (Logic.inr (Logic.inr (Logic.inl (m .1 .1 .1 .1 .1 .1 .1 .1 .1 .0, tt))))))))))))))
-              (Signed.made-wt Field.u64-field (Laws'3.the-laws .1 .1 .1 .1 .1 .1 .1 .1 .1 .1 .1 .0 .0) Make'.u64-wt (m .1 .1 .1 .1 .1 .1 .1 .1 .1 .0), tt) (wa .1)) λ m wa. Make.made-is Refusal.the-type
-              Laws'3.the-laws (List._∷_ (Laws'3.the-laws .1 .1 .1 .1 .1 .1 .1 .1 .1 .1 .1 .0 .0 .val (m .1 .1 .1 .1 .1 .1 .1 .1 .1 .0)) List.[]) (Refusal.enum .make (Logic.inr (Logic.inr (Logic.inr
+              (Signed.made-wt Field.u64-field (Laws'4.the-laws .1 .1 .1 .1 .1 .1 .1 .1 .1 .1 .1 .0 .0) Make'.u64-wt (m .1 .1 .1 .1 .1 .1 .1 .1 .1 .0), tt) (wa .1)) λ m wa. Make.made-is Refusal.the-type
+              Laws'4.the-laws (List._∷_ (Laws'4.the-laws .1 .1 .1 .1 .1 .1 .1 .1 .1 .1 .1 .0 .0 .val (m .1 .1 .1 .1 .1 .1 .1 .1 .1 .0)) List.[]) (Refusal.enum .make (Logic.inr (Logic.inr (Logic.inr
               (Logic.inr (Logic.inr (Logic.inr (Logic.inr (Logic.inr (Logic.inr (Logic.inr (Logic.inr (Logic.inl (m .1 .1 .1 .1 .1 .1 .1 .1 .1 .0, tt))))))))))))))
-              (Signed.made-wt Field.u64-field (Laws'3.the-laws .1 .1 .1 .1 .1 .1 .1 .1 .1 .1 .1 .0 .0) Make'.u64-wt (m .1 .1 .1 .1 .1 .1 .1 .1 .1 .0), tt) (wa .1)) d0
+              (Signed.made-wt Field.u64-field (Laws'4.the-laws .1 .1 .1 .1 .1 .1 .1 .1 .1 .1 .1 .0 .0) Make'.u64-wt (m .1 .1 .1 .1 .1 .1 .1 .1 .1 .0), tt) (wa .1)) d0
 
           d2 : Typed.Typed 𝓤 H A 𝓣 E G31 b10 Δ1 at2
-          d2 = Typed.g-pre 𝓤 H A W 𝓣 E G31 G32 b10 Δ1 (Typed.pass T31 T32 s29) at1 (Scalar.g-room 𝓤 H A W E G31 8 (Syntax.tyEnum (List._∷_ 119 (List._∷_ 114 (List._∷_ 105 (List._∷_ 116 (List._∷_ 105
-              (List._∷_ 110 (List._∷_ 103 (List._∷_ 58 (List._∷_ 58 (List._∷_ 80 (List._∷_ 117 (List._∷_ 116 List.[])))))))))))) (Syntax.ttcons (Syntax.tcons y3 Syntax.tnil) (Syntax.ttcons (Syntax.tcons
-              (Syntax.tyInt Syntax.w64) Syntax.tnil) Syntax.ttnil))) (Local.room-whole 𝓤 H A W (Known.Known Put.enum 1) (Syntax.tyEnum (List._∷_ 119 (List._∷_ 114 (List._∷_ 105 (List._∷_ 116 (List._∷_ 105
-              (List._∷_ 110 (List._∷_ 103 (List._∷_ 58 (List._∷_ 58 (List._∷_ 80 (List._∷_ 117 (List._∷_ 116 List.[])))))))))))) (Syntax.ttcons (Syntax.tcons y3 Syntax.tnil) (Syntax.ttcons (Syntax.tcons
-              (Syntax.tyInt Syntax.w64) Syntax.tnil) Syntax.ttnil))) Path'.refl)) d1
+          d2 = Typed.g-pre 𝓤 H A W 𝓣 E G31 G32 b10 Δ1 (Typed.pass T31 T32 s29) at1 (Scalar.g-room 𝓤 H A W E G31 8 (Syntax.tyEnum (List._∷_ 111 (List._∷_ 117 (List._∷_ 116 (List._∷_ 112 (List._∷_ 117
+              (List._∷_ 116 (List._∷_ 58 (List._∷_ 58 (List._∷_ 80 (List._∷_ 117 (List._∷_ 116 List.[]))))))))))) (Syntax.ttcons (Syntax.tcons y3 Syntax.tnil) (Syntax.ttcons (Syntax.tcons (Syntax.tyInt
+              Syntax.w64) Syntax.tnil) Syntax.ttnil))) (Local.room-whole 𝓤 H A W (Known.Known Put.enum 1) (Syntax.tyEnum (List._∷_ 111 (List._∷_ 117 (List._∷_ 116 (List._∷_ 112 (List._∷_ 117 (List._∷_ 116
+              (List._∷_ 58 (List._∷_ 58 (List._∷_ 80 (List._∷_ 117 (List._∷_ 116 List.[]))))))))))) (Syntax.ttcons (Syntax.tcons y3 Syntax.tnil) (Syntax.ttcons (Syntax.tcons (Syntax.tyInt Syntax.w64)
+              Syntax.tnil) Syntax.ttnil))) Path'.refl)) d1
 
           d3 : Typed.Typed 𝓤 H A 𝓣 E G30 b11 Δ1 at3
           d3 = Typed.s-seq 𝓤 H A W 𝓣 E G30 G31 b7 b10 Δ1 (Typed.pass T30 T31 s28) at2 (Scalar.t-use 𝓤 H A W E 𝓣 G30 (Scalar.oFld 8 (List._∷_ (Syntax.variant 1) (List._∷_ (Syntax.field 1) List.[]))
-              (Syntax.tyInt Syntax.w64) 8 λ v. Laws'4.the-laws .1 .0 .0 .val (v .0)) 9 (Rows.sc-here (Row.sInt Syntax.w64)) (Syntax.tyInt Syntax.w64) (Row.valS (Row.sInt Syntax.w64)) (Row.sInt Syntax.w64
+              (Syntax.tyInt Syntax.w64) 8 λ v. Laws''.the-laws .1 .0 .0 .val (v .0)) 9 (Rows.sc-here (Row.sInt Syntax.w64)) (Syntax.tyInt Syntax.w64) (Row.valS (Row.sInt Syntax.w64)) (Row.sInt Syntax.w64
               .of) (
-                Match.reads-payload 𝓤 H A W Put.enum Laws'4.the-laws 1 Path'.refl Path'.refl (λ v. Val.vcons (Laws'4.the-laws .1 .0 .0 .val (v .0)) Val.vnil) (λ v. Path'.refl) 0 (Syntax.tyInt Syntax.w64) 8
+                Match.reads-payload 𝓤 H A W Put.enum Laws''.the-laws 1 Path'.refl Path'.refl (λ v. Val.vcons (Laws''.the-laws .1 .0 .0 .val (v .0)) Val.vnil) (λ v. Path'.refl) 0 (Syntax.tyInt Syntax.w64) 8
                     Path'.refl,
                 Path'.refl,
               ) (Reads.room-gone 𝓤 H A (Syntax.tyInt Syntax.w64)) (Scalar.holds-sc 𝓤 H A W (Row.sInt Syntax.w64)) Path'.refl (λ u. Path'.refl) λ u. tt) d2
 
           d4 : Typed.Typed 𝓤 H A 𝓣 E G29 b11 Δ1 at4
-          d4 = Typed.g-pre 𝓤 H A W 𝓣 E G29 G30 b11 Δ1 (Typed.give s27) at3 (Known.g-known-told 𝓤 H A W E Put.enum 1 G29 8 Laws'4.the-laws (λ x. x) (Reads.as-is 𝓤 H A (Rows.whole (Known.Known Put.enum
+          d4 = Typed.g-pre 𝓤 H A W 𝓣 E G29 G30 b11 Δ1 (Typed.give s27) at3 (Known.g-known-told 𝓤 H A W E Put.enum 1 G29 8 Laws''.the-laws (λ x. x) (Reads.as-is 𝓤 H A (Rows.whole (Known.Known Put.enum
               1)))) d3
 
           d5 : Typed.Typed 𝓤 H A 𝓣 E G28 b11 Δ1 at5
@@ -1816,7 +1815,7 @@ module _ (claims· : Claims) where
 
           d6 : Typed.Typed 𝓤 H A 𝓣 E G51 b17 Δ1 at6
           d6 = Typed.s-typed 𝓤 H A W 𝓣 E G51 b17 Δ1 (λ Ψ. Typed.pass T51 T52 s49 (Typed.pass T52 T53 s50 Ψ)) tt (Typed.g-post 𝓤 H A W 𝓣 E G51 G52 G53 b17 (Typed.pass T51 T52 s49) (Typed.pass T52 T53
-              s50) (Make.t-enum-make-wt 𝓤 H A W E 𝓣 BlockLength.the-type Laws''.the-laws Laws''.the-plain tt G51 17 (List._∷_ (Scalar.oInt Syntax.w8 0) (List._∷_ (Scalar.oAt 22 (Syntax.tyInt Syntax.w64)
+              s50) (Make.t-enum-make-wt 𝓤 H A W E 𝓣 BlockLength.the-type Laws'3.the-laws Laws'3.the-plain tt G51 17 (List._∷_ (Scalar.oInt Syntax.w8 0) (List._∷_ (Scalar.oAt 22 (Syntax.tyInt Syntax.w64)
               (Row.valS (Row.sInt Syntax.w64))) List.[])) (λ m. BlockLength.enum .make (Logic.inl (m .1 .1 .1 .1 .1 .1 .1 .1 .1 .1 .1 .1 .1 .1 .1 .1 .1 .1 .1 .1 .1 .1 .0, tt))) (Reads.room-gone 𝓤 H A
               (Syntax.tyEnum (List._∷_ 115 (List._∷_ 116 (List._∷_ 114 (List._∷_ 101 (List._∷_ 97 (List._∷_ 109 (List._∷_ 58 (List._∷_ 58 (List._∷_ 66 (List._∷_ 108 (List._∷_ 111 (List._∷_ 99 (List._∷_
               107 (List._∷_ 76 (List._∷_ 101 (List._∷_ 110 (List._∷_ 103 (List._∷_ 116 (List._∷_ 104 List.[]))))))))))))))))))) (Syntax.ttcons (Syntax.tcons (Syntax.tyInt Syntax.w64) Syntax.tnil)
@@ -1828,12 +1827,12 @@ module _ (claims· : Claims) where
               (Syntax.ttcons Syntax.tnil (Syntax.ttcons Syntax.tnil (Syntax.ttcons (Syntax.tcons (Syntax.tyInt Syntax.w64) Syntax.tnil) (Syntax.ttcons (Syntax.tcons (Syntax.tyInt Syntax.w64) Syntax.tnil)
               (Syntax.ttcons (Syntax.tcons (Syntax.tyInt Syntax.w64) Syntax.tnil) (Syntax.ttcons Syntax.tnil (Syntax.ttcons Syntax.tnil (Syntax.ttcons (Syntax.tcons (Syntax.tyInt Syntax.w64) (Syntax.tcons
               (Syntax.tyInt Syntax.w64) Syntax.tnil)) (Syntax.ttcons Syntax.tnil Syntax.ttnil))))))))))))))))))))))))) Syntax.tnil) Syntax.ttnil))))
-              (tt, ((Scalar.reads-sc 𝓤 H A W (Row.sInt Syntax.w64), Path'.refl), tt)) Path'.refl (λ m wa. Make.made-val BlockLength.the-type Laws''.the-laws (List._∷_ (Laws''.the-laws .0 .0 .val (m .1 .1
+              (tt, ((Scalar.reads-sc 𝓤 H A W (Row.sInt Syntax.w64), Path'.refl), tt)) Path'.refl (λ m wa. Make.made-val BlockLength.the-type Laws'3.the-laws (List._∷_ (Laws'3.the-laws .0 .0 .val (m .1 .1
               .1 .1 .1 .1 .1 .1 .1 .1 .1 .1 .1 .1 .1 .1 .1 .1 .1 .1 .1 .1 .0)) List.[]) (BlockLength.enum .make (Logic.inl (m .1 .1 .1 .1 .1 .1 .1 .1 .1 .1 .1 .1 .1 .1 .1 .1 .1 .1 .1 .1 .1 .1 .0, tt)))
-              (Signed.made-wt Field.u64-field (Laws''.the-laws .0 .0) Make'.u64-wt (m .1 .1 .1 .1 .1 .1 .1 .1 .1 .1 .1 .1 .1 .1 .1 .1 .1 .1 .1 .1 .1 .1 .0), tt) (wa .1)) λ m wa. Make.made-is
-              BlockLength.the-type Laws''.the-laws (List._∷_ (Laws''.the-laws .0 .0 .val (m .1 .1 .1 .1 .1 .1 .1 .1 .1 .1 .1 .1 .1 .1 .1 .1 .1 .1 .1 .1 .1 .1 .0)) List.[]) (BlockLength.enum .make
+              (Signed.made-wt Field.u64-field (Laws'3.the-laws .0 .0) Make'.u64-wt (m .1 .1 .1 .1 .1 .1 .1 .1 .1 .1 .1 .1 .1 .1 .1 .1 .1 .1 .1 .1 .1 .1 .0), tt) (wa .1)) λ m wa. Make.made-is
+              BlockLength.the-type Laws'3.the-laws (List._∷_ (Laws'3.the-laws .0 .0 .val (m .1 .1 .1 .1 .1 .1 .1 .1 .1 .1 .1 .1 .1 .1 .1 .1 .1 .1 .1 .1 .1 .1 .0)) List.[]) (BlockLength.enum .make
               (Logic.inl (m .1 .1 .1 .1 .1 .1 .1 .1 .1 .1 .1 .1 .1 .1 .1 .1 .1 .1 .1 .1 .1 .1 .0, tt)))
-              (Signed.made-wt Field.u64-field (Laws''.the-laws .0 .0) Make'.u64-wt (m .1 .1 .1 .1 .1 .1 .1 .1 .1 .1 .1 .1 .1 .1 .1 .1 .1 .1 .1 .1 .1 .1 .0), tt) (wa .1)) (Scalar.g-room 𝓤 H A W E G52 22
+              (Signed.made-wt Field.u64-field (Laws'3.the-laws .0 .0) Make'.u64-wt (m .1 .1 .1 .1 .1 .1 .1 .1 .1 .1 .1 .1 .1 .1 .1 .1 .1 .1 .1 .1 .1 .1 .0), tt) (wa .1)) (Scalar.g-room 𝓤 H A W E G52 22
               (Syntax.tyInt Syntax.w64) (Scalar.room-sc 𝓤 H A W (Row.sInt Syntax.w64))))
 
           d7 : Typed.Typed 𝓤 H A 𝓣 E G50 b17 Δ1 at7
@@ -1911,26 +1910,26 @@ module _ (claims· : Claims) where
               (tt, (tt, (tt, (tt, (tt, (tt, (tt, (tt, (tt, (tt, (tt, (tt, (tt, (tt, (tt, (tt, (tt, (tt, (tt, (tt, (tt, (tt, (tt, tt)))))))))))))))))))))))) d16
 
           d18 : Typed.Typed 𝓤 H A 𝓣 E G39 b21 Δ1 at18
-          d18 = Typed.g-pre 𝓤 H A W 𝓣 E G39 G40 b21 Δ1 (Typed.pass T39 T40 s37) at17 (Scalar.g-room 𝓤 H A W E G39 8 (Syntax.tyEnum (List._∷_ 119 (List._∷_ 114 (List._∷_ 105 (List._∷_ 116 (List._∷_ 105
-              (List._∷_ 110 (List._∷_ 103 (List._∷_ 58 (List._∷_ 58 (List._∷_ 80 (List._∷_ 117 (List._∷_ 116 List.[])))))))))))) (Syntax.ttcons (Syntax.tcons y3 Syntax.tnil) (Syntax.ttcons (Syntax.tcons
-              (Syntax.tyInt Syntax.w64) Syntax.tnil) Syntax.ttnil))) (Local.room-whole 𝓤 H A W (Known.Known Put.enum 0) (Syntax.tyEnum (List._∷_ 119 (List._∷_ 114 (List._∷_ 105 (List._∷_ 116 (List._∷_ 105
-              (List._∷_ 110 (List._∷_ 103 (List._∷_ 58 (List._∷_ 58 (List._∷_ 80 (List._∷_ 117 (List._∷_ 116 List.[])))))))))))) (Syntax.ttcons (Syntax.tcons y3 Syntax.tnil) (Syntax.ttcons (Syntax.tcons
-              (Syntax.tyInt Syntax.w64) Syntax.tnil) Syntax.ttnil))) Path'.refl)) d17
+          d18 = Typed.g-pre 𝓤 H A W 𝓣 E G39 G40 b21 Δ1 (Typed.pass T39 T40 s37) at17 (Scalar.g-room 𝓤 H A W E G39 8 (Syntax.tyEnum (List._∷_ 111 (List._∷_ 117 (List._∷_ 116 (List._∷_ 112 (List._∷_ 117
+              (List._∷_ 116 (List._∷_ 58 (List._∷_ 58 (List._∷_ 80 (List._∷_ 117 (List._∷_ 116 List.[]))))))))))) (Syntax.ttcons (Syntax.tcons y3 Syntax.tnil) (Syntax.ttcons (Syntax.tcons (Syntax.tyInt
+              Syntax.w64) Syntax.tnil) Syntax.ttnil))) (Local.room-whole 𝓤 H A W (Known.Known Put.enum 0) (Syntax.tyEnum (List._∷_ 111 (List._∷_ 117 (List._∷_ 116 (List._∷_ 112 (List._∷_ 117 (List._∷_ 116
+              (List._∷_ 58 (List._∷_ 58 (List._∷_ 80 (List._∷_ 117 (List._∷_ 116 List.[]))))))))))) (Syntax.ttcons (Syntax.tcons y3 Syntax.tnil) (Syntax.ttcons (Syntax.tcons (Syntax.tyInt Syntax.w64)
+              Syntax.tnil) Syntax.ttnil))) Path'.refl)) d17
 
           d19 : Typed.Typed 𝓤 H A 𝓣 E G38 b22 Δ1 at19
           d19 = Typed.s-seq 𝓤 H A W 𝓣 E G38 G39 b12 b21 Δ1 (Typed.pass T38 T39 s36) at18 (CopyOut.t-copy-told 𝓤 H A W E 𝓣 (Declared'.row BitPosition.the-type) Path'.refl (Laws'6.val
               BitPosition.the-type Laws.the-laws) (Laws'6.lawful BitPosition.the-type Laws.the-laws 𝓤 H A W) (Laws'6.makes BitPosition.the-type Laws.the-plain 𝓤 H A) G38 10 (Scalar.oFld 8 (List._∷_
               (Syntax.variant 0) (List._∷_ (Syntax.field 1) List.[])) y3 8 λ v. Laws'6.val BitPosition.the-type Laws.the-laws (v .0)) (λ m. m .1 .1 .1 .1 .1 .1 .1 .1 .0 .0) (λ m. Laws'5.Fields
-              (Declared.variants Put.the-type) (Laws'5.spellss (Put.enum .parts) Laws'4.the-laws) (Put.the-type .to (Known.at Put.enum 0 (m .1 .1 .1 .1 .1 .1 .1 .1 .0)))) (Reads.room-gone 𝓤 H A y3) (
-                Match.reads-payload 𝓤 H A W Put.enum Laws'4.the-laws 0 Path'.refl Path'.refl (λ v. Val.vcons (Laws'6.val BitPosition.the-type Laws.the-laws (v .0)) Val.vnil) (λ v. Path'.refl) 0 y3 8
+              (Declared.variants Put.the-type) (Laws'5.spellss (Put.enum .parts) Laws''.the-laws) (Put.the-type .to (Known.at Put.enum 0 (m .1 .1 .1 .1 .1 .1 .1 .1 .0)))) (Reads.room-gone 𝓤 H A y3) (
+                Match.reads-payload 𝓤 H A W Put.enum Laws''.the-laws 0 Path'.refl Path'.refl (λ v. Val.vcons (Laws'6.val BitPosition.the-type Laws.the-laws (v .0)) Val.vnil) (λ v. Path'.refl) 0 y3 8
                     Path'.refl,
                 Path'.refl,
               ) Path'.refl (λ ρ m. Make'.tells-row 𝓤 H A W E ρ (Row.out 10 (G38 .locals)) m 8 (Laws'5.Fields (Declared.variants Put.the-type) (Laws'5.spellss (Put.enum .parts)
-              Laws'4.the-laws) (Put.the-type .to (Known.at Put.enum 0 (m .1 .1 .1 .1 .1 .1 .1 .1 .0)))) (Known.known-is 𝓤 H A W E Put.enum 0 Laws'4.the-laws ρ 8 (m .1 .1 .1 .1 .1 .1 .1 .1 .0))) (λ m k wa.
+              Laws''.the-laws) (Put.the-type .to (Known.at Put.enum 0 (m .1 .1 .1 .1 .1 .1 .1 .1 .0)))) (Known.known-is 𝓤 H A W E Put.enum 0 Laws''.the-laws ρ 8 (m .1 .1 .1 .1 .1 .1 .1 .1 .0))) (λ m k wa.
               Path'.refl) λ m k wa. k .0) d18
 
           d20 : Typed.Typed 𝓤 H A 𝓣 E G37 b22 Δ1 at20
-          d20 = Typed.g-pre 𝓤 H A W 𝓣 E G37 G38 b22 Δ1 (Typed.give s35) at19 (Known.g-known-told 𝓤 H A W E Put.enum 0 G37 8 Laws'4.the-laws (λ x. x) (Reads.as-is 𝓤 H A (Rows.whole (Known.Known
+          d20 = Typed.g-pre 𝓤 H A W 𝓣 E G37 G38 b22 Δ1 (Typed.give s35) at19 (Known.g-known-told 𝓤 H A W E Put.enum 0 G37 8 Laws''.the-laws (λ x. x) (Reads.as-is 𝓤 H A (Rows.whole (Known.Known
               Put.enum 0)))) d19
 
           d21 : Typed.Typed 𝓤 H A 𝓣 E G28 b22 Δ1 at21
@@ -1940,7 +1939,7 @@ module _ (claims· : Claims) where
           d22 = Switch.t-switch-on 𝓤 H A W E 𝓣 G28 (Scalar.oFld 8 (List._∷_ (Syntax.variant 0) (List._∷_ (Syntax.field 0) List.[])) (Syntax.tyInt Syntax.w8) 0 λ x. Val.vint Syntax.w8 (Declared.tagOf
               Put.the-type x)) Syntax.w8 (λ u. Declared.tagOf Put.the-type (u .1 .1 .1 .1 .1 .1 .1 .1 .0)) (Syntax.arm (List._∷_ 1 List.[]) b11 (Syntax.arm (List._∷_ 0 List.[]) b22 Syntax.noDefault)) Δ1
               (at5, (at21, tt))
-              (Match.reads-tag 𝓤 H A W Put.the-type Laws'4.the-laws (Rows.whole (Declared.row Put.the-type)) 0 (λ x. x) (Whole.reads-enum 𝓤 H A W Put.the-type Laws'4.the-laws), Path'.refl) (λ u.
+              (Match.reads-tag 𝓤 H A W Put.the-type Laws''.the-laws (Rows.whole (Declared.row Put.the-type)) 0 (λ x. x) (Whole.reads-enum 𝓤 H A W Put.the-type Laws''.the-laws), Path'.refl) (λ u.
               Path'.refl) (d5, (d21, tt))
 
           d23 : Typed.Typed 𝓤 H A 𝓣 E G27 b23 Δ1 at23
@@ -2043,7 +2042,7 @@ module _ (claims· : Claims) where
               Syntax.tnil) (Syntax.ttcons (Syntax.tcons (Syntax.tyInt Syntax.w64) Syntax.tnil) (Syntax.ttcons (Syntax.tcons (Syntax.tyInt Syntax.w64) Syntax.tnil) (Syntax.ttcons Syntax.tnil (Syntax.ttcons
               Syntax.tnil (Syntax.ttcons (Syntax.tcons (Syntax.tyInt Syntax.w64) (Syntax.tcons (Syntax.tyInt Syntax.w64) Syntax.tnil)) (Syntax.ttcons Syntax.tnil Syntax.ttnil)))))))))))))))))))))))))
               Syntax.tnil) Syntax.ttnil))) (Rows.whole (Declared.row BlockLength.the-type)) (Rows.whole (Declared.row BlockLength.the-type)) (λ x. x) (λ x. x) (λ x. x) Path'.refl (Own.told-none 𝓤 H A (G16
-              .slots)) (Yields.yields-copy 𝓤 H A W (λ ρ. Unit) (Declared.row BlockLength.the-type) Path'.refl (Copies.cEnum BlockLength.the-type Laws''.the-laws Laws''.the-copy .copy 𝓤 H A W) (Rows.whole
+              .slots)) (Yields.yields-copy 𝓤 H A W (λ ρ. Unit) (Declared.row BlockLength.the-type) Path'.refl (Copies.cEnum BlockLength.the-type Laws'3.the-laws Laws'3.the-copy .copy 𝓤 H A W) (Rows.whole
               (Declared.row BlockLength.the-type)) (λ x. x) (λ x. x) (λ ρ told. Local.mem-whole 𝓤 H A W (Declared.row BlockLength.the-type) ρ) λ ρ told. Local.whole-mem 𝓤 H A W (Declared.row
               BlockLength.the-type) ρ) (Reads.room-gone 𝓤 H A (Syntax.tyEnum (List._∷_ 115 (List._∷_ 116 (List._∷_ 114 (List._∷_ 101 (List._∷_ 97 (List._∷_ 109 (List._∷_ 58 (List._∷_ 58 (List._∷_ 66
               (List._∷_ 108 (List._∷_ 111 (List._∷_ 99 (List._∷_ 107 (List._∷_ 76 (List._∷_ 101 (List._∷_ 110 (List._∷_ 103 (List._∷_ 116 (List._∷_ 104 List.[]))))))))))))))))))) (Syntax.ttcons
@@ -2062,7 +2061,7 @@ module _ (claims· : Claims) where
           d39 = Typed.t-seq 𝓤 H A W 𝓣 E G15 G16 b23 b26 Δ0 at34 at38 d34 d38
 
           d40 : Typed.Typed 𝓤 H A 𝓣 E G14 b28 Δ0 at40
-          d40 = Typed.s-seq 𝓤 H A W 𝓣 E G14 G15 b6 b27 Δ0 (Typed.both s13) at39 (Plain.t-call-plain 𝓤 H A W 𝓣 5 ps·0 r·0 (claims· .0) (claims· .1) "block::writer::write_walk" (known .0) E (λ pos β. β)
+          d40 = Typed.s-seq 𝓤 H A W 𝓣 E G14 G15 b6 b27 Δ0 (Typed.both s13) at39 (Plain.t-call-plain 𝓤 H A W 𝓣 5 ps·0 r·0 (claims· .0) (claims· .1) "block_writer::write_walk" (known .0) E (λ pos β. β)
               G14 (
                 record { pos = 1; ty = Syntax.tyRef (Syntax.named 0) Syntax.imm (Syntax.tyInt Syntax.w16); ref = λ x. x },
                 (
@@ -2123,9 +2122,9 @@ module _ (claims· : Claims) where
                   ),
                 ),
               )
-              (Reads.room-gone 𝓤 H A (Syntax.tyEnum (List._∷_ 119 (List._∷_ 114 (List._∷_ 105 (List._∷_ 116 (List._∷_ 105 (List._∷_ 110 (List._∷_ 103 (List._∷_ 58 (List._∷_ 58 (List._∷_ 80 (List._∷_ 117
-              (List._∷_ 116 List.[])))))))))))) (Syntax.ttcons (Syntax.tcons y3 Syntax.tnil) (Syntax.ttcons (Syntax.tcons (Syntax.tyInt Syntax.w64) Syntax.tnil) Syntax.ttnil))))
-              (tt, (tt, (tt, (tt, (tt, tt))))) Path'.refl) d39
+              (Reads.room-gone 𝓤 H A (Syntax.tyEnum (List._∷_ 111 (List._∷_ 117 (List._∷_ 116 (List._∷_ 112 (List._∷_ 117 (List._∷_ 116 (List._∷_ 58 (List._∷_ 58 (List._∷_ 80 (List._∷_ 117 (List._∷_ 116
+              List.[]))))))))))) (Syntax.ttcons (Syntax.tcons y3 Syntax.tnil) (Syntax.ttcons (Syntax.tcons (Syntax.tyInt Syntax.w64) Syntax.tnil) Syntax.ttnil)))) (tt, (tt, (tt, (tt, (tt, tt)))))
+              Path'.refl) d39
 
           d41 : Typed.Typed 𝓤 H A 𝓣 E G13 b29 Δ0 at41
           d41 = Typed.s-seq 𝓤 H A W 𝓣 E G13 G14 b5 b28 Δ0 (Typed.ask s12) at40 (Relend.t-sl-aggregate 𝓤 H A W E (Element.type) 𝓣 (Relend.asMut (Element.type)) G13 15 16 7 (Syntax.tyRef Syntax.erased
@@ -3034,7 +3033,7 @@ module _ (claims· : Claims) where
           }
 
         module _ {M : Type 1} (𝓤 : URA.URA M) (H : Wp.Heap 𝓤) (A : Atoms.Atoms 𝓤) (W : Kit.Given 𝓤 H A) (𝓣 : Wp.Tables 𝓤 H) (known0 : Plain.Known 𝓤 H A W 𝓣 5 ps·0 r·0 (claims· .0) (claims· .1)
-            "block::writer::write_walk") (known1 : Plain.Known 𝓤 H A W 𝓣 1 ps·1 r·1 (claims· .2) (claims· .3) "bits::fill_tail") (known2 : Plain.Known 𝓤 H A W 𝓣 0 ps·2 r·2 (claims· .4) (claims· .5)
+            "block_writer::write_walk") (known1 : Plain.Known 𝓤 H A W 𝓣 1 ps·1 r·1 (claims· .2) (claims· .3) "bits::fill_tail") (known2 : Plain.Known 𝓤 H A W 𝓣 0 ps·2 r·2 (claims· .4) (claims· .5)
             "begin::block_bytes") where
           pub spec : Statement.Triple 𝓤 (Wp.WpFn 𝓤 H (𝓣 .C) (𝓣 .Λ) (Function.fnOf 5 ps r xs m hs body)) (Function.plainOf 𝓤 H A 5 ps r Pre· Post·)
           spec = Plain.t-fn-plain 𝓤 H A W 𝓣 5 ps r xs m hs body (λ κs qs bs. Φ) (λ κs qs bs bd. typed κs qs 𝓤 H A W 𝓣 (known0, known1, known2) bs bd) Pre· Post· asked

@@ -1,19 +1,19 @@
--- Written by tools/lend.py from Rattle's derivation of the twin of `block`; not edited by hand. Assumes nothing.
+-- Written by tools/lend.py from Rattle's derivation of the twin of `block_writer`; not edited by hand. Assumes nothing.
 use Rattle.begin.proofs.block_bytes.Met
 use Rattle.begin.proofs.block_bytes.Reads
 use Rattle.begin.proofs.block_bytes.Symbol
 use Rattle.bits.proofs.fill_tail.Met as Met'
 use Rattle.bits.proofs.fill_tail.Reads as Reads'
 use Rattle.bits.proofs.fill_tail.Symbol as Symbol'
-use Rattle.block.proofs.writer.write_stored.Code
-use Rattle.block.proofs.writer.write_stored.Key
-use Rattle.block.proofs.writer.derived.write_stored.Kinds
-use Rattle.block.proofs.writer.write_stored.Proof.derived.Lts
-use Rattle.block.proofs.writer.derived.write_stored.Reads as Reads''
-use Rattle.block.proofs.writer.write_stored.Statement
-use Rattle.block.proofs.writer.write_walk.Met as Met''
-use Rattle.block.proofs.writer.derived.write_walk.Reads as Reads'3
-use Rattle.block.proofs.writer.write_walk.Symbol as Symbol''
+use Rattle.block_writer.proofs.write_stored.Code
+use Rattle.block_writer.proofs.write_stored.Key
+use Rattle.block_writer.proofs.derived.write_stored.Kinds
+use Rattle.block_writer.proofs.write_stored.Proof.derived.Lts
+use Rattle.block_writer.proofs.derived.write_stored.Reads as Reads''
+use Rattle.block_writer.proofs.write_stored.Statement
+use Rattle.block_writer.proofs.write_walk.Met as Met''
+use Rattle.block_writer.proofs.derived.write_walk.Reads as Reads'3
+use Rattle.block_writer.proofs.write_walk.Symbol as Symbol''
 use borrow.Fn.Run
 use borrow.Fn.Written
 use contract.Running
@@ -145,6 +145,6 @@ module _ {M : Type 1} where
   close = λ closed 𝓤 H 𝓜 𝓖 𝓡. Written.close 5 Kinds.ps Kinds.r Reads''.Ghost Reads''.requires Reads''.ensures Reads''.pre-read Reads''.Pinned Reads''.Owned Reads''.post-read record
       { M = M; 𝓤 = 𝓤; H = H; 𝓜 = 𝓜; 𝓖 = 𝓖; 𝓡 = 𝓡 } Code.env Key.name Code.function (Code.unfolded 𝓤 H 𝓜 𝓡) (λ κs a g. tt) (λ κs. Reads''.owns κs record { M = M; 𝓤 = 𝓤; H = H; 𝓜 = 𝓜; 𝓖 = 𝓖; 𝓡 = 𝓡 })
       (Reads''.passes record { M = M; 𝓤 = 𝓤; H = H; 𝓜 = 𝓜; 𝓖 = 𝓖; 𝓡 = 𝓡 }) λ g. closed 𝓤 H (𝓖 .A) (Running.givenOf 𝓤 H 𝓜 𝓖) (Run.Over 𝓤 H 𝓜 𝓖 𝓡 Code.env) (Reads'3.known record
-      { M = M; 𝓤 = 𝓤; H = H; 𝓜 = 𝓜; 𝓖 = 𝓖; 𝓡 = 𝓡 } Code.env Symbol''.name Symbol''.routine Code.calls-block·writer·write-walk (Met''.met 𝓤 H 𝓜 𝓖 𝓡)) (Reads'.known record
+      { M = M; 𝓤 = 𝓤; H = H; 𝓜 = 𝓜; 𝓖 = 𝓖; 𝓡 = 𝓡 } Code.env Symbol''.name Symbol''.routine Code.calls-block-writer·write-walk (Met''.met 𝓤 H 𝓜 𝓖 𝓡)) (Reads'.known record
       { M = M; 𝓤 = 𝓤; H = H; 𝓜 = 𝓜; 𝓖 = 𝓖; 𝓡 = 𝓡 } Code.env Symbol'.name Symbol'.routine Code.calls-bits·fill-tail (Met'.met 𝓤 H 𝓜 𝓖 𝓡)) (Reads.known record { M = M; 𝓤 = 𝓤; H = H; 𝓜 = 𝓜; 𝓖 = 𝓖; 𝓡 = 𝓡 }
       Code.env Symbol.name Symbol.routine Code.calls-begin·block-bytes (Met.met 𝓤 H 𝓜 𝓖 𝓡))

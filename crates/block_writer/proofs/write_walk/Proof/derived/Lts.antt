@@ -1,8 +1,8 @@
--- Written by tools/lend.py from Rattle's derivation of the twin of `block`; not edited by hand. Assumes nothing.
+-- Written by tools/lend.py from Rattle's derivation of the twin of `block_writer`; not edited by hand. Assumes nothing.
 use Rattle.block.proofs.Element
 use Prim.Native.Nat
 use Rattle.block.proofs.Form
 use Rattle.block.proofs.Form.Laws
 use Rattle.output.proofs.Put
 use Rattle.output.proofs.Put.Laws as Laws'
 use borrow.Author.Called
@@ -117,11 +117,11 @@ r = Value.rVal record {
 }
 
 abbrev pub xs : List.List Syntax.Ty
-xs = List._∷_ (Syntax.tyEnum (List._∷_ 119 (List._∷_ 114 (List._∷_ 105 (List._∷_ 116 (List._∷_ 105 (List._∷_ 110 (List._∷_ 103 (List._∷_ 58 (List._∷_ 58 (List._∷_ 80 (List._∷_ 117 (List._∷_ 116
-    List.[])))))))))))) (Syntax.ttcons (Syntax.tcons y3 Syntax.tnil) (Syntax.ttcons (Syntax.tcons (Syntax.tyInt Syntax.w64) Syntax.tnil) Syntax.ttnil))) (List._∷_ (Syntax.tyRef Syntax.erased Syntax.mut
-    (Syntax.tyInt Syntax.w8)) (List._∷_ y1 (List._∷_ (Syntax.tyRef Syntax.erased Syntax.mut (Syntax.tyInt Syntax.w16)) (List._∷_ y0 (List._∷_ (Syntax.tyRef Syntax.erased Syntax.mut Element.behind)
-    (List._∷_ y2 (List._∷_ Syntax.tyUnit (List._∷_ (Syntax.tyRef Syntax.erased Syntax.mut (Syntax.tyInt Syntax.w16)) (List._∷_ y0 (List._∷_ (Syntax.tyRef Syntax.erased Syntax.mut Element.behind) (List._∷_
-    y2 List.[])))))))))))
+xs = List._∷_ (Syntax.tyEnum (List._∷_ 111 (List._∷_ 117 (List._∷_ 116 (List._∷_ 112 (List._∷_ 117 (List._∷_ 116 (List._∷_ 58 (List._∷_ 58 (List._∷_ 80 (List._∷_ 117 (List._∷_ 116 List.[])))))))))))
+    (Syntax.ttcons (Syntax.tcons y3 Syntax.tnil) (Syntax.ttcons (Syntax.tcons (Syntax.tyInt Syntax.w64) Syntax.tnil) Syntax.ttnil))) (List._∷_ (Syntax.tyRef Syntax.erased Syntax.mut (Syntax.tyInt
+    Syntax.w8)) (List._∷_ y1 (List._∷_ (Syntax.tyRef Syntax.erased Syntax.mut (Syntax.tyInt Syntax.w16)) (List._∷_ y0 (List._∷_ (Syntax.tyRef Syntax.erased Syntax.mut Element.behind) (List._∷_ y2
+    (List._∷_ Syntax.tyUnit (List._∷_ (Syntax.tyRef Syntax.erased Syntax.mut (Syntax.tyInt Syntax.w16)) (List._∷_ y0 (List._∷_ (Syntax.tyRef Syntax.erased Syntax.mut Element.behind) (List._∷_ y2
+    List.[])))))))))))
 
 abbrev pub m : Nat.ℕ
 m = 5
@@ -205,7 +205,7 @@ abbrev b5 : Syntax.Body
 b5 = Syntax.assign (Syntax.place 15 List.[]) (Syntax.aggregate (List._∷_ (Syntax.copy (Syntax.place 14 List.[])) (List._∷_ (Syntax.copy (Syntax.place 5 (List._∷_ (Syntax.field 1) List.[]))) List.[])))
 
 abbrev b6 : Syntax.Body
-b6 = Syntax.call "block::writer::write_lines" (List._∷_ (Syntax.copy (Syntax.place 1 List.[])) (List._∷_ (Syntax.copy (Syntax.place 11 List.[])) (List._∷_ (Syntax.copy (Syntax.place 3 List.[]))
+b6 = Syntax.call "block_writer::write_lines" (List._∷_ (Syntax.copy (Syntax.place 1 List.[])) (List._∷_ (Syntax.copy (Syntax.place 11 List.[])) (List._∷_ (Syntax.copy (Syntax.place 3 List.[]))
     (List._∷_ (Syntax.copy (Syntax.place 13 List.[])) (List._∷_ (Syntax.copy (Syntax.place 15 List.[])) (List._∷_ (Syntax.copy (Syntax.place 6 List.[])) (List._∷_ (Syntax.copy (Syntax.place 7 List.[]))
     (List._∷_ (Syntax.copy (Syntax.place 8 List.[])) List.[])))))))) (Syntax.place 9 List.[])
 
@@ -285,8 +285,8 @@ Claims = Kinds.In 5 ps·0 × Kinds.Out 5 ps·0 r·0 × Kinds.In 1 ps·1 × Kinds
 abbrev pub e0 : Row.Entry
 e0 = (
   0,
-  Rows.any-gone (Syntax.tyEnum (List._∷_ 119 (List._∷_ 114 (List._∷_ 105 (List._∷_ 116 (List._∷_ 105 (List._∷_ 110 (List._∷_ 103 (List._∷_ 58 (List._∷_ 58 (List._∷_ 80 (List._∷_ 117 (List._∷_ 116
-      List.[])))))))))))) (Syntax.ttcons (Syntax.tcons y3 Syntax.tnil) (Syntax.ttcons (Syntax.tcons (Syntax.tyInt Syntax.w64) Syntax.tnil) Syntax.ttnil))),
+  Rows.any-gone (Syntax.tyEnum (List._∷_ 111 (List._∷_ 117 (List._∷_ 116 (List._∷_ 112 (List._∷_ 117 (List._∷_ 116 (List._∷_ 58 (List._∷_ 58 (List._∷_ 80 (List._∷_ 117 (List._∷_ 116
+      List.[]))))))))))) (Syntax.ttcons (Syntax.tcons y3 Syntax.tnil) (Syntax.ttcons (Syntax.tcons (Syntax.tyInt Syntax.w64) Syntax.tnil) Syntax.ttnil))),
 )
 
 abbrev pub e1 : Row.Entry
@@ -403,8 +403,8 @@ e37 = (8, Rows.sc-here (Row.sInt Syntax.w64))
 abbrev pub e38 : Row.Entry
 e38 = (
   9,
-  Rows.any-gone (Syntax.tyEnum (List._∷_ 119 (List._∷_ 114 (List._∷_ 105 (List._∷_ 116 (List._∷_ 105 (List._∷_ 110 (List._∷_ 103 (List._∷_ 58 (List._∷_ 58 (List._∷_ 80 (List._∷_ 117 (List._∷_ 116
-      List.[])))))))))))) (Syntax.ttcons (Syntax.tcons y3 Syntax.tnil) (Syntax.ttcons (Syntax.tcons (Syntax.tyInt Syntax.w64) Syntax.tnil) Syntax.ttnil))),
+  Rows.any-gone (Syntax.tyEnum (List._∷_ 111 (List._∷_ 117 (List._∷_ 116 (List._∷_ 112 (List._∷_ 117 (List._∷_ 116 (List._∷_ 58 (List._∷_ 58 (List._∷_ 80 (List._∷_ 117 (List._∷_ 116
+      List.[]))))))))))) (Syntax.ttcons (Syntax.tcons y3 Syntax.tnil) (Syntax.ttcons (Syntax.tcons (Syntax.tyInt Syntax.w64) Syntax.tnil) Syntax.ttnil))),
 )
 
 abbrev pub e39 : Row.Entry
@@ -670,9 +670,8 @@ module _ (claims· : Claims) where
       ),
     ),
   ) 9
-      (List._∷_ 0 (List._∷_ 5 (List._∷_ 6 (List._∷_ 7 (List._∷_ 4 List.[]))))) (Syntax.tyEnum (List._∷_ 119 (List._∷_ 114 (List._∷_ 105 (List._∷_ 116 (List._∷_ 105 (List._∷_ 110 (List._∷_ 103 (List._∷_ 58
-      (List._∷_ 58 (List._∷_ 80 (List._∷_ 117 (List._∷_ 116 List.[])))))))))))) (Syntax.ttcons (Syntax.tcons y3 Syntax.tnil) (Syntax.ttcons (Syntax.tcons (Syntax.tyInt Syntax.w64) Syntax.tnil)
-      Syntax.ttnil)))
+      (List._∷_ 0 (List._∷_ 5 (List._∷_ 6 (List._∷_ 7 (List._∷_ 4 List.[]))))) (Syntax.tyEnum (List._∷_ 111 (List._∷_ 117 (List._∷_ 116 (List._∷_ 112 (List._∷_ 117 (List._∷_ 116 (List._∷_ 58 (List._∷_ 58
+      (List._∷_ 80 (List._∷_ 117 (List._∷_ 116 List.[]))))))))))) (Syntax.ttcons (Syntax.tcons y3 Syntax.tnil) (Syntax.ttcons (Syntax.tcons (Syntax.tyInt Syntax.w64) Syntax.tnil) Syntax.ttnil)))
 
   abbrev s14 : Typed.Mo T15 → Typed.Mo T16
   s14 = Scalar.n-room T15 6 y4
@@ -736,8 +735,8 @@ module _ (claims· : Claims) where
   s43 = LocalCopy.n-val-copy T43 9 0 (Declared.row Put.the-type) (Rows.whole (Declared.row Put.the-type)) (Rows.whole (Declared.row Put.the-type)) (λ x. x) (λ x. x) λ x. x
 
   abbrev s44 : Typed.Mo T45 → Typed.Mo T46
-  s44 = Scalar.n-room T45 9 (Syntax.tyEnum (List._∷_ 119 (List._∷_ 114 (List._∷_ 105 (List._∷_ 116 (List._∷_ 105 (List._∷_ 110 (List._∷_ 103 (List._∷_ 58 (List._∷_ 58 (List._∷_ 80 (List._∷_ 117
-      (List._∷_ 116 List.[])))))))))))) (Syntax.ttcons (Syntax.tcons y3 Syntax.tnil) (Syntax.ttcons (Syntax.tcons (Syntax.tyInt Syntax.w64) Syntax.tnil) Syntax.ttnil)))
+  s44 = Scalar.n-room T45 9 (Syntax.tyEnum (List._∷_ 111 (List._∷_ 117 (List._∷_ 116 (List._∷_ 112 (List._∷_ 117 (List._∷_ 116 (List._∷_ 58 (List._∷_ 58 (List._∷_ 80 (List._∷_ 117 (List._∷_ 116
+      List.[]))))))))))) (Syntax.ttcons (Syntax.tcons y3 Syntax.tnil) (Syntax.ttcons (Syntax.tcons (Syntax.tyInt Syntax.w64) Syntax.tnil) Syntax.ttnil)))
 
   abbrev s45 : Typed.Mo T46 → Typed.Mo T47
   s45 = Scalar.n-room T46 3 Syntax.tyBool
@@ -749,7 +748,7 @@ module _ (claims· : Claims) where
     module _ (M : Type 1) where
       abbrev pub Closed : Type 2
       Closed = (𝓤 : URA.URA M) (H : Wp.Heap 𝓤) (A : Atoms.Atoms 𝓤) (W : Kit.Given 𝓤 H A) (𝓣 : Wp.Tables 𝓤 H) (known0 : Plain.Known 𝓤 H A W 𝓣 5 ps·0 r·0 (claims· .0) (claims· .1)
-          "block::writer::write_lines") (known1 : Plain.Known 𝓤 H A W 𝓣 1 ps·1 r·1 (claims· .2) (claims· .3) "lines::clear") (known2 : Plain.Known 𝓤 H A W 𝓣 1 ps·2 r·2 (claims· .4) (claims· .5)
+          "block_writer::write_lines") (known1 : Plain.Known 𝓤 H A W 𝓣 1 ps·1 r·1 (claims· .2) (claims· .3) "lines::clear") (known2 : Plain.Known 𝓤 H A W 𝓣 1 ps·2 r·2 (claims· .4) (claims· .5)
           "block::records::clear_records") → Statement.Triple 𝓤 (Wp.WpFn 𝓤 H (𝓣 .C) (𝓣 .Λ) (Function.fnOf 5 ps r xs m hs body)) (Function.plainOf 𝓤 H A 5 ps r Pre· Post·)
 
     module _ where
@@ -902,7 +901,7 @@ module _ (claims· : Claims) where
 
       module _ {M : Type 1} (𝓤 : URA.URA M) (H : Wp.Heap 𝓤) (A : Atoms.Atoms 𝓤) (W : Kit.Given 𝓤 H A) (𝓣 : Wp.Tables 𝓤 H) where
         abbrev Knowns : Type 1
-        Knowns = Plain.Known 𝓤 H A W 𝓣 5 ps·0 r·0 (claims· .0) (claims· .1) "block::writer::write_lines" × Plain.Known 𝓤 H A W 𝓣 1 ps·1 r·1 (claims· .2) (claims· .3) "lines::clear" × Plain.Known 𝓤 H A
+        Knowns = Plain.Known 𝓤 H A W 𝓣 5 ps·0 r·0 (claims· .0) (claims· .1) "block_writer::write_lines" × Plain.Known 𝓤 H A W 𝓣 1 ps·1 r·1 (claims· .2) (claims· .3) "lines::clear" × Plain.Known 𝓤 H A
             W 𝓣 1 ps·2 r·2 (claims· .4) (claims· .5) "block::records::clear_records"
 
       module _ (κs : Lifetimes.Lfts 5) (qs : Lifetimes.Shares 5) where
@@ -1358,24 +1357,23 @@ module _ (claims· : Claims) where
           d2 = Typed.g-pre 𝓤 H A W 𝓣 E G46 G47 b14 Δ0 (Typed.pass T46 T47 s45) at1 (Scalar.g-room 𝓤 H A W E G46 3 Syntax.tyBool (Scalar.room-sc 𝓤 H A W Row.sBool)) d1
 
           d3 : Typed.Typed 𝓤 H A 𝓣 E G45 b14 Δ0 at3
-          d3 = Typed.g-pre 𝓤 H A W 𝓣 E G45 G46 b14 Δ0 (Typed.pass T45 T46 s44) at2 (Scalar.g-room 𝓤 H A W E G45 9 (Syntax.tyEnum (List._∷_ 119 (List._∷_ 114 (List._∷_ 105 (List._∷_ 116 (List._∷_ 105
-              (List._∷_ 110 (List._∷_ 103 (List._∷_ 58 (List._∷_ 58 (List._∷_ 80 (List._∷_ 117 (List._∷_ 116 List.[])))))))))))) (Syntax.ttcons (Syntax.tcons y3 Syntax.tnil) (Syntax.ttcons (Syntax.tcons
-              (Syntax.tyInt Syntax.w64) Syntax.tnil) Syntax.ttnil))) (Local.room-whole 𝓤 H A W (Declared.row Put.the-type) (Syntax.tyEnum (List._∷_ 119 (List._∷_ 114 (List._∷_ 105 (List._∷_ 116 (List._∷_
-              105 (List._∷_ 110 (List._∷_ 103 (List._∷_ 58 (List._∷_ 58 (List._∷_ 80 (List._∷_ 117 (List._∷_ 116 List.[])))))))))))) (Syntax.ttcons (Syntax.tcons y3 Syntax.tnil) (Syntax.ttcons
-              (Syntax.tcons (Syntax.tyInt Syntax.w64) Syntax.tnil) Syntax.ttnil))) Path'.refl)) d2
+          d3 = Typed.g-pre 𝓤 H A W 𝓣 E G45 G46 b14 Δ0 (Typed.pass T45 T46 s44) at2 (Scalar.g-room 𝓤 H A W E G45 9 (Syntax.tyEnum (List._∷_ 111 (List._∷_ 117 (List._∷_ 116 (List._∷_ 112 (List._∷_ 117
+              (List._∷_ 116 (List._∷_ 58 (List._∷_ 58 (List._∷_ 80 (List._∷_ 117 (List._∷_ 116 List.[]))))))))))) (Syntax.ttcons (Syntax.tcons y3 Syntax.tnil) (Syntax.ttcons (Syntax.tcons (Syntax.tyInt
+              Syntax.w64) Syntax.tnil) Syntax.ttnil))) (Local.room-whole 𝓤 H A W (Declared.row Put.the-type) (Syntax.tyEnum (List._∷_ 111 (List._∷_ 117 (List._∷_ 116 (List._∷_ 112 (List._∷_ 117 (List._∷_
+              116 (List._∷_ 58 (List._∷_ 58 (List._∷_ 80 (List._∷_ 117 (List._∷_ 116 List.[]))))))))))) (Syntax.ttcons (Syntax.tcons y3 Syntax.tnil) (Syntax.ttcons (Syntax.tcons (Syntax.tyInt Syntax.w64)
+              Syntax.tnil) Syntax.ttnil))) Path'.refl)) d2
 
           d4 : Typed.Typed 𝓤 H A 𝓣 E G44 b15 Δ0 at4
-          d4 = Typed.s-seq 𝓤 H A W 𝓣 E G44 G45 b13 b14 Δ0 (Typed.pass T43 T45 s43) at3 (LocalCopy.t-val-copy 𝓤 H A W E 𝓣 (λ ρ. Unit) G44 9 0 (Declared.row Put.the-type) (Syntax.tyEnum (List._∷_ 119
-              (List._∷_ 114 (List._∷_ 105 (List._∷_ 116 (List._∷_ 105 (List._∷_ 110 (List._∷_ 103 (List._∷_ 58 (List._∷_ 58 (List._∷_ 80 (List._∷_ 117 (List._∷_ 116 List.[])))))))))))) (Syntax.ttcons
-              (Syntax.tcons y3 Syntax.tnil) (Syntax.ttcons (Syntax.tcons (Syntax.tyInt Syntax.w64) Syntax.tnil) Syntax.ttnil))) (Syntax.tyEnum (List._∷_ 119 (List._∷_ 114 (List._∷_ 105 (List._∷_ 116
-              (List._∷_ 105 (List._∷_ 110 (List._∷_ 103 (List._∷_ 58 (List._∷_ 58 (List._∷_ 80 (List._∷_ 117 (List._∷_ 116 List.[])))))))))))) (Syntax.ttcons (Syntax.tcons y3 Syntax.tnil) (Syntax.ttcons
-              (Syntax.tcons (Syntax.tyInt Syntax.w64) Syntax.tnil) Syntax.ttnil))) (Rows.whole (Declared.row Put.the-type)) (Rows.whole (Declared.row Put.the-type)) (λ x. x) (λ x. x) (λ x. x) Path'.refl
-              (Own.told-none 𝓤 H A (G44 .slots)) (Yields.yields-copy 𝓤 H A W (λ ρ. Unit) (Declared.row Put.the-type) Path'.refl (Copies.cEnum Put.the-type Laws'.the-laws Laws'.the-copy .copy 𝓤 H A W)
-              (Rows.whole (Declared.row Put.the-type)) (λ x. x) (λ x. x) (λ ρ told. Local.mem-whole 𝓤 H A W (Declared.row Put.the-type) ρ) λ ρ told. Local.whole-mem 𝓤 H A W (Declared.row Put.the-type) ρ)
-              (Reads.room-gone 𝓤 H A (Syntax.tyEnum (List._∷_ 119 (List._∷_ 114 (List._∷_ 105 (List._∷_ 116 (List._∷_ 105 (List._∷_ 110 (List._∷_ 103 (List._∷_ 58 (List._∷_ 58 (List._∷_ 80 (List._∷_ 117
-              (List._∷_ 116 List.[])))))))))))) (Syntax.ttcons (Syntax.tcons y3 Syntax.tnil) (Syntax.ttcons (Syntax.tcons (Syntax.tyInt Syntax.w64) Syntax.tnil) Syntax.ttnil)))) (Yields.makes-mem 𝓤 H A W
-              (λ ρ. Unit) (Declared.row Put.the-type) Path'.refl (Rows.whole (Declared.row Put.the-type)) (λ x. x) λ ρ told. Local.whole-mem 𝓤 H A W (Declared.row Put.the-type) ρ) Path'.refl Path'.refl)
-              d3
+          d4 = Typed.s-seq 𝓤 H A W 𝓣 E G44 G45 b13 b14 Δ0 (Typed.pass T43 T45 s43) at3 (LocalCopy.t-val-copy 𝓤 H A W E 𝓣 (λ ρ. Unit) G44 9 0 (Declared.row Put.the-type) (Syntax.tyEnum (List._∷_ 111
+              (List._∷_ 117 (List._∷_ 116 (List._∷_ 112 (List._∷_ 117 (List._∷_ 116 (List._∷_ 58 (List._∷_ 58 (List._∷_ 80 (List._∷_ 117 (List._∷_ 116 List.[]))))))))))) (Syntax.ttcons (Syntax.tcons y3
+              Syntax.tnil) (Syntax.ttcons (Syntax.tcons (Syntax.tyInt Syntax.w64) Syntax.tnil) Syntax.ttnil))) (Syntax.tyEnum (List._∷_ 111 (List._∷_ 117 (List._∷_ 116 (List._∷_ 112 (List._∷_ 117
+              (List._∷_ 116 (List._∷_ 58 (List._∷_ 58 (List._∷_ 80 (List._∷_ 117 (List._∷_ 116 List.[]))))))))))) (Syntax.ttcons (Syntax.tcons y3 Syntax.tnil) (Syntax.ttcons (Syntax.tcons (Syntax.tyInt
+              Syntax.w64) Syntax.tnil) Syntax.ttnil))) (Rows.whole (Declared.row Put.the-type)) (Rows.whole (Declared.row Put.the-type)) (λ x. x) (λ x. x) (λ x. x) Path'.refl (Own.told-none 𝓤 H A (G44
+              .slots)) (Yields.yields-copy 𝓤 H A W (λ ρ. Unit) (Declared.row Put.the-type) Path'.refl (Copies.cEnum Put.the-type Laws'.the-laws Laws'.the-copy .copy 𝓤 H A W) (Rows.whole (Declared.row
+              Put.the-type)) (λ x. x) (λ x. x) (λ ρ told. Local.mem-whole 𝓤 H A W (Declared.row Put.the-type) ρ) λ ρ told. Local.whole-mem 𝓤 H A W (Declared.row Put.the-type) ρ) (Reads.room-gone 𝓤 H A
+              (Syntax.tyEnum (List._∷_ 111 (List._∷_ 117 (List._∷_ 116 (List._∷_ 112 (List._∷_ 117 (List._∷_ 116 (List._∷_ 58 (List._∷_ 58 (List._∷_ 80 (List._∷_ 117 (List._∷_ 116 List.[])))))))))))
+              (Syntax.ttcons (Syntax.tcons y3 Syntax.tnil) (Syntax.ttcons (Syntax.tcons (Syntax.tyInt Syntax.w64) Syntax.tnil) Syntax.ttnil)))) (Yields.makes-mem 𝓤 H A W (λ ρ. Unit) (Declared.row
+              Put.the-type) Path'.refl (Rows.whole (Declared.row Put.the-type)) (λ x. x) λ ρ told. Local.whole-mem 𝓤 H A W (Declared.row Put.the-type) ρ) Path'.refl Path'.refl) d3
 
           d5 : Typed.Typed 𝓤 H A 𝓣 E G43 b15 Δ0 at5
           d5 = Typed.g-pre 𝓤 H A W 𝓣 E G43 G44 b15 Δ0 (λ Ψ. Ψ) at4 (Lifetime.g-forget 𝓤 H A W E G43 9 Row.dead Path'.refl) d4
@@ -1518,8 +1516,8 @@ module _ (claims· : Claims) where
           d33 = Typed.g-pre 𝓤 H A W 𝓣 E G15 G16 b21 Δ0 (Typed.pass T15 T16 s14) at32 (Scalar.g-room 𝓤 H A W E G15 6 y4 (Local.room-whole 𝓤 H A W (Declared'.row Form.the-type) y4 Path'.refl)) d32
 
           d34 : Typed.Typed 𝓤 H A 𝓣 E G14 b22 Δ0 at34
-          d34 = Typed.s-seq 𝓤 H A W 𝓣 E G14 G15 b6 b21 Δ0 (Typed.both s13) at33 (Plain.t-call-plain 𝓤 H A W 𝓣 5 ps·0 r·0 (claims· .0) (claims· .1) "block::writer::write_lines" (known .0) E (λ pos β.
-              β) G14 (
+          d34 = Typed.s-seq 𝓤 H A W 𝓣 E G14 G15 b6 b21 Δ0 (Typed.both s13) at33 (Plain.t-call-plain 𝓤 H A W 𝓣 5 ps·0 r·0 (claims· .0) (claims· .1) "block_writer::write_lines" (known .0) E (λ pos β. β)
+              G14 (
                 record { pos = 1; ty = Syntax.tyRef (Syntax.named 0) Syntax.imm (Syntax.tyInt Syntax.w16); ref = λ x. x },
                 (
                   record { pos = 11; ty = Syntax.tyRef Syntax.erased Syntax.mut (Syntax.tyInt Syntax.w8); ref = λ x. x },
@@ -1579,9 +1577,9 @@ module _ (claims· : Claims) where
                   ),
                 ),
               )
-              (Reads.room-gone 𝓤 H A (Syntax.tyEnum (List._∷_ 119 (List._∷_ 114 (List._∷_ 105 (List._∷_ 116 (List._∷_ 105 (List._∷_ 110 (List._∷_ 103 (List._∷_ 58 (List._∷_ 58 (List._∷_ 80 (List._∷_ 117
-              (List._∷_ 116 List.[])))))))))))) (Syntax.ttcons (Syntax.tcons y3 Syntax.tnil) (Syntax.ttcons (Syntax.tcons (Syntax.tyInt Syntax.w64) Syntax.tnil) Syntax.ttnil))))
-              (tt, (tt, (tt, (tt, (tt, tt))))) Path'.refl) d33
+              (Reads.room-gone 𝓤 H A (Syntax.tyEnum (List._∷_ 111 (List._∷_ 117 (List._∷_ 116 (List._∷_ 112 (List._∷_ 117 (List._∷_ 116 (List._∷_ 58 (List._∷_ 58 (List._∷_ 80 (List._∷_ 117 (List._∷_ 116
+              List.[]))))))))))) (Syntax.ttcons (Syntax.tcons y3 Syntax.tnil) (Syntax.ttcons (Syntax.tcons (Syntax.tyInt Syntax.w64) Syntax.tnil) Syntax.ttnil)))) (tt, (tt, (tt, (tt, (tt, tt)))))
+              Path'.refl) d33
 
           d35 : Typed.Typed 𝓤 H A 𝓣 E G13 b23 Δ0 at35
           d35 = Typed.s-seq 𝓤 H A W 𝓣 E G13 G14 b5 b22 Δ0 (Typed.ask s12) at34 (Relend.t-sl-aggregate 𝓤 H A W E (Element.type) 𝓣 (Relend.asMut (Element.type)) G13 14 15 7 (Syntax.tyRef Syntax.erased
@@ -2270,7 +2268,7 @@ module _ (claims· : Claims) where
           }
 
         module _ {M : Type 1} (𝓤 : URA.URA M) (H : Wp.Heap 𝓤) (A : Atoms.Atoms 𝓤) (W : Kit.Given 𝓤 H A) (𝓣 : Wp.Tables 𝓤 H) (known0 : Plain.Known 𝓤 H A W 𝓣 5 ps·0 r·0 (claims· .0) (claims· .1)
-            "block::writer::write_lines") (known1 : Plain.Known 𝓤 H A W 𝓣 1 ps·1 r·1 (claims· .2) (claims· .3) "lines::clear") (known2 : Plain.Known 𝓤 H A W 𝓣 1 ps·2 r·2 (claims· .4) (claims· .5)
+            "block_writer::write_lines") (known1 : Plain.Known 𝓤 H A W 𝓣 1 ps·1 r·1 (claims· .2) (claims· .3) "lines::clear") (known2 : Plain.Known 𝓤 H A W 𝓣 1 ps·2 r·2 (claims· .4) (claims· .5)
             "block::records::clear_records") where
           pub spec : Statement.Triple 𝓤 (Wp.WpFn 𝓤 H (𝓣 .C) (𝓣 .Λ) (Function.fnOf 5 ps r xs m hs body)) (Function.plainOf 𝓤 H A 5 ps r Pre· Post·)
           spec = Plain.t-fn-plain 𝓤 H A W 𝓣 5 ps r xs m hs body (λ κs qs bs. Φ) (λ κs qs bs bd. typed κs qs 𝓤 H A W 𝓣 (known0, known1, known2) bs bd) Pre· Post· asked

@@ -1,16 +1,16 @@
--- Written by tools/lend.py from Rattle's derivation of the twin of `block`; not edited by hand. Assumes nothing.
+-- Written by tools/lend.py from Rattle's derivation of the twin of `block_writer`; not edited by hand. Assumes nothing.
 use Rattle.block.proofs.records.clear_records.Met
 use Rattle.block.proofs.records.derived.clear_records.Reads
 use Rattle.block.proofs.records.clear_records.Symbol
-use Rattle.block.proofs.writer.write_lines.Met as Met'
-use Rattle.block.proofs.writer.derived.write_lines.Reads as Reads'
-use Rattle.block.proofs.writer.write_lines.Symbol as Symbol'
-use Rattle.block.proofs.writer.write_walk.Code
-use Rattle.block.proofs.writer.write_walk.Key
-use Rattle.block.proofs.writer.derived.write_walk.Kinds
-use Rattle.block.proofs.writer.write_walk.Proof.derived.Lts
-use Rattle.block.proofs.writer.derived.write_walk.Reads as Reads''
-use Rattle.block.proofs.writer.write_walk.Statement
+use Rattle.block_writer.proofs.write_lines.Met as Met'
+use Rattle.block_writer.proofs.derived.write_lines.Reads as Reads'
+use Rattle.block_writer.proofs.write_lines.Symbol as Symbol'
+use Rattle.block_writer.proofs.write_walk.Code
+use Rattle.block_writer.proofs.write_walk.Key
+use Rattle.block_writer.proofs.derived.write_walk.Kinds
+use Rattle.block_writer.proofs.write_walk.Proof.derived.Lts
+use Rattle.block_writer.proofs.derived.write_walk.Reads as Reads''
+use Rattle.block_writer.proofs.write_walk.Statement
 use Rattle.lines.proofs.clear.Met as Met''
 use Rattle.lines.proofs.clear.Reads as Reads'3
 use Rattle.lines.proofs.clear.Symbol as Symbol''
@@ -113,6 +113,6 @@ module _ {M : Type 1} where
   close = λ closed 𝓤 H 𝓜 𝓖 𝓡. Written.close 5 Kinds.ps Kinds.r Reads''.Ghost Reads''.requires Reads''.ensures Reads''.pre-read Reads''.Pinned Reads''.Owned Reads''.post-read record
       { M = M; 𝓤 = 𝓤; H = H; 𝓜 = 𝓜; 𝓖 = 𝓖; 𝓡 = 𝓡 } Code.env Key.name Code.function (Code.unfolded 𝓤 H 𝓜 𝓡) (λ κs a g. tt) (λ κs. Reads''.owns κs record { M = M; 𝓤 = 𝓤; H = H; 𝓜 = 𝓜; 𝓖 = 𝓖; 𝓡 = 𝓡 })
       (Reads''.passes record { M = M; 𝓤 = 𝓤; H = H; 𝓜 = 𝓜; 𝓖 = 𝓖; 𝓡 = 𝓡 }) λ g. closed 𝓤 H (𝓖 .A) (Running.givenOf 𝓤 H 𝓜 𝓖) (Run.Over 𝓤 H 𝓜 𝓖 𝓡 Code.env) (Reads'.known record
-      { M = M; 𝓤 = 𝓤; H = H; 𝓜 = 𝓜; 𝓖 = 𝓖; 𝓡 = 𝓡 } Code.env Symbol'.name Symbol'.routine Code.calls-block·writer·write-lines (Met'.met 𝓤 H 𝓜 𝓖 𝓡)) (Reads'3.known record
+      { M = M; 𝓤 = 𝓤; H = H; 𝓜 = 𝓜; 𝓖 = 𝓖; 𝓡 = 𝓡 } Code.env Symbol'.name Symbol'.routine Code.calls-block-writer·write-lines (Met'.met 𝓤 H 𝓜 𝓖 𝓡)) (Reads'3.known record
       { M = M; 𝓤 = 𝓤; H = H; 𝓜 = 𝓜; 𝓖 = 𝓖; 𝓡 = 𝓡 } Code.env Symbol''.name Symbol''.routine Code.calls-lines·clear (Met''.met 𝓤 H 𝓜 𝓖 𝓡)) (Reads.known record { M = M; 𝓤 = 𝓤; H = H; 𝓜 = 𝓜; 𝓖 = 𝓖; 𝓡 = 𝓡 }
       Code.env Symbol.name Symbol.routine Code.calls-block·records·clear-records (Met.met 𝓤 H 𝓜 𝓖 𝓡))
