@@ -213,11 +213,9 @@ def below(c):
             need.append(x)
             todo += lines[x].split(":")[1].split()
     put(f"{d}/crates.txt", "\n".join(lines[x] for x in need))
-    for x in need:
-        if x != c.name:
-            shutil.copytree(f"crates/{x}", f"{d}/crates/{x}")
-    for x in ("rlib", "stamp"):
-        shutil.copytree(f"target/{x}", f"{d}/target/{x}")
+    for x in [f"crates/{x}" for x in need if x != c.name] + ["target/rlib", "target/stamp"]:
+        os.makedirs(os.path.dirname(f"{d}/{x}"), exist_ok=True)
+        os.symlink(os.path.abspath(x), f"{d}/{x}")
     return d
 
 def generate(c, d, twin, files, bare=""):
