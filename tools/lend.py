@@ -20,6 +20,7 @@ The borrow checker's rules hold of every element type, and only its front refuse
 The check admits each derivation over the real function's MIR and contract, or refuses it: nothing here is trusted.
 """
 import filecmp, os, re, shutil, subprocess, sys
+from concurrent.futures import ThreadPoolExecutor
 sys.dont_write_bytecode = True
 from lend_layout import laid_out
 SIZE = os.environ.get("SIZE", "2")
@@ -43,14 +44,14 @@ class Crate:
         self.name, self.record, self.pump, self.home = name, "", "", ""
         for kind, what in zip(words[::2], words[1::2]):
             if kind == "record":
-                self.record = what
+                self.home, _, self.record = what.rpartition("::")
             elif kind == "pump":
                 self.home, _, self.pump = what.rpartition("::")
             else:
                 sys.exit(f"tools/lend.txt: {name} has neither a record nor a pump, but '{kind}'")
         self.kinds, self.values = {}, {}
 
-    def load(self):
+    def load(self, crates):
         d = f"crates/{self.name}/src"
         self.root = "main" if os.path.exists(f"{d}/main.rt") else "lib"
         self.files = {"": read(f"{d}/{self.root}.rt")}
@@ -65,8 +66,14 @@ class Crate:
         for f in self.kinds:
             if f not in self.item:
                 sys.exit(f"tools/lend.txt: {self.name} has no function {f}")
-        self.far = self.methods() if self.home else {}
+        self.lower = self.called(crates) if self.record and self.home else {}
+        self.far = self.lent() if self.lower else self.methods() if self.home else {}
         return self
+
+    def called(self, crates):
+        """The functions over slices of S of other crates that are called, each with its crate."""
+        used = sorted(set(re.findall(r"^use (\w+)::(\w+);", "".join(self.files.values()), flags=re.M)))
+        return {f: crates[x].load(crates) for x, f in used if x in crates and f in crates[x].kinds}
 
     def of(self, kind):
         return [f for f in self.kinds if self.kinds[f] == kind]
@@ -88,6 +95,8 @@ class Crate:
             return "    " + self.values[f]
         r = re.search(r"->\s*(.+?)\s*(?:\n|$)", head)
         r = r[1].strip() if r else "()"
+        if r in self.values:
+            return "    " + self.values[r]
         if r == "()":
             return ""
         if r == "bool":
@@ -95,6 +104,16 @@ class Crate:
         if re.fullmatch(r"[ui](8|16|32|64|size)", r):
             return "    0"
         sys.exit(f"tools/lend.txt: {f} of {self.name} needs a value of {r}")
+
+    def lent(self):
+        """These in the twin, where they are in a module, `lent`."""
+        self.module.update({f: "lent" for f in self.lower})
+        heads = {f: c.item[f]["head"] for f, c in self.lower.items()}
+        return {f: function(head, self.dummy(f, head)) for f, head in heads.items()}
+
+    def there(self, f):
+        """The crate that has a function of `far`, and the function's place in it."""
+        return (self.lower[f].name, self.lower[f].below(f, "::")) if f in self.lower else (self.home, self.pump + "::" + f)
 
     def methods(self):
         """The methods of P that are called, as functions of the twin: P is the array there, and has none."""
@@ -130,6 +149,15 @@ def twin_small(c, real):
         files[m] = "".join(uses) + re.sub(r"\b" + c.record + r"\b", ARR, text)
     return with_modules(c, files)
 
+def lent_module(c):
+    """The functions of the crates below, with what their modules use for their heads."""
+    text, uses = "".join(c.far.values()), set()
+    for f, low in c.lower.items():
+        own = re.findall(r"^use [^\n]*\n", low.files[low.module[f]], flags=re.M)
+        uses |= {re.sub(r"crate::(?:\w+::)?", low.name + "::", u) for u in own}
+    kept = [u for u in sorted(uses) if re.search(r"\b" + re.search(r"(\w+);", u)[1] + r"\b(?!\()", text)]
+    return "".join(kept) + text
+
 def kept_use(c, line, there):
     name = re.search(r"(\w+);", line)[1]
     return name != c.record and (name not in c.item or name in there)
@@ -158,8 +186,8 @@ def twin_carry(c):
         other = c.kinds.get(f) in ("touch", "own")
         return function(m["head"], c.dummy(f, m["head"]) if other else m["body"])
     files = {}
-    for module, text in c.files.items():
-        text = ITEM.sub(one, text)
+    for module, text in list(c.files.items()) + ([("lent", lent_module(c))] if c.lower else []):
+        text = text if module == "lent" else ITEM.sub(one, text)
         if c.pump and not module:
             text += ("fn main() {}\n" if "main" in gone else "") + "".join(c.far.values())
             text = re.sub(r"use " + c.home + "::" + c.pump + ";\n", "", text)
@@ -167,6 +195,8 @@ def twin_carry(c):
                 text = re.sub(r"\bp\." + f + r"\(\)", f + "(p)", text)
                 text = re.sub(r"\bp\." + f + r"\(", f + "(p, ", text)
             text = re.sub(c.pump + r"<('\w+)>", r"[&\1 [u8]; 1]", text)
+        if c.lower:
+            text = re.sub(r"^use \w+::(" + "|".join(c.far) + ");", r"use crate::lent::\1;", text, flags=re.M) + ("" if module else "mod lent;\n")
         if c.record:
             text = re.sub(r"(&(?:'\w+ )?(?:mut )?)\[" + c.record + r"\]", r"\1[" + ARR + "]", text)
         files[module] = trivial(text)
@@ -184,11 +214,9 @@ def below(c):
             need.append(x)
             todo += lines[x].split(":")[1].split()
     put(f"{d}/crates.txt", "\n".join(lines[x] for x in need))
-    for x in need:
-        if x != c.name:
-            shutil.copytree(f"crates/{x}", f"{d}/crates/{x}")
-    for x in ("rlib", "stamp"):
-        shutil.copytree(f"target/{x}", f"{d}/target/{x}")
+    for x in [f"crates/{x}" for x in need if x != c.name] + ["target/rlib", "target/stamp"]:
+        os.makedirs(os.path.dirname(f"{d}/{x}"), exist_ok=True)
+        os.symlink(os.path.abspath(x), f"{d}/{x}")
     return d
 
 def generate(c, d, twin, files, bare=""):
@@ -265,20 +293,23 @@ def moved(c, text):
     for x, y in patterns(c, text):
         text = re.sub(x, y, text)
     for f in [g for g in c.kinds if c.kinds[g] != "own"] + list(c.far):
-        text = re.sub(re.escape(c.path(f)) + r"\.(Kinds|Reads)\b", f"{P}." + c.cited(f, ".") + r".\1", text)
-    for f in c.far:                                            # a method's own name, where the twin has a function
-        there, calls = f"Rattle.{c.home}.proofs.{c.pump}.{f}", f.replace("_", "-")
-        text = re.sub(r"^use " + re.escape(f"{P}.{f}") + r"$", f"use {there} as {f}", text, flags=re.M)
-        text = re.sub(re.escape(f"{P}.{f}.") + r"(Met|Symbol)\b", there + r".\1", text)
-        text = text.replace(f'"{c.name}::{f}"', f'"{c.home}::{c.pump}::{f}"')
-        text = re.sub(r"\bcalls-" + c.name.replace("_", "-") + "·" + calls + r"(?![\w-])", f"calls-{c.home}·{c.pump}·{calls}", text)
+        low = c.lower.get(f)
+        cited = f"Rattle.{low.name}.proofs." + low.cited(f, ".") if low else f"{P}." + c.cited(f, ".")
+        text = re.sub(re.escape(c.path(f)) + r"\.(Kinds|Reads)\b", cited + r".\1", text)
+    for f in c.far:                                            # the name that it has where it is, for the one that it has in the twin
+        home, place = c.there(f)
+        there, calls = f"Rattle.{home}.proofs." + place.replace("::", "."), lambda crate, p: f"calls-{crate}·{p}".replace("_", "-")
+        text = re.sub(r"^use " + re.escape(c.path(f)) + r"$", f"use {there} as {f}", text, flags=re.M)
+        text = re.sub(re.escape(c.path(f) + ".") + r"(Met|Symbol)\b", there + r".\1", text)
+        text = text.replace(f'"{c.name}::{c.below(f, "::")}"', f'"{home}::{place}"')
+        text = re.sub(r"\b" + calls(c.name, c.below(f, "·")) + r"(?![\w-])", calls(home, place.replace("::", "·")), text)
     for f in c.kinds:
         text = re.sub(re.escape(c.path(f)) + r"\.(Lts|Tie)(?![\w-])", c.path(f) + r".Proof.derived.\1", text)
     lines = [l for l in text.split("\n") if not l.startswith("-- the `use` lines") and "antt refused" not in l]
     first = next(i for i, l in enumerate(lines) if l.startswith("use "))
     for m in ("Element", "Held"):
         if m + "." in text:
-            lines.insert(first, f"use Rattle.{c.home}.proofs.{m}" if m == "Held" and c.home else f"use {P}.{m}")
+            lines.insert(first, f"use Rattle.{c.home}.proofs.{m}" if c.home else f"use {P}.{m}")
     lines.insert(0, f"-- Written by tools/lend.py from Rattle's derivation of the twin of `{c.name}`; not edited by hand. Assumes nothing.")
     return laid_out(lines)
 
@@ -297,9 +328,13 @@ def place(c, root, f, to):
         put(f"{to}/{c.below(f, '/')}/Proof/derived/{m}.antt", moved(c, read(made)))
     put(f"{to}/{c.below(f, '/')}/Proof/derived.antt", "pub mod Lts\npub mod Tie")
 
+def copied(c):
+    """The methods of P: their crate has no Kinds and Reads of them, and so this one does."""
+    return list(c.far) if c.pump else []
+
 def declare(c, to):
     """`mod` lines for what callers cite."""
-    for d in {os.path.dirname(f"{to}/{c.cited(f, '/')}") for f in list(c.kinds) + list(c.far)}:
+    for d in {os.path.dirname(f"{to}/{c.cited(f, '/')}") for f in list(c.kinds) + copied(c)}:
         for f in [x for x in os.listdir(d) if not x.endswith(".antt")] if os.path.isdir(d) else []:
             put(f"{d}/{f}.antt", "pub mod Kinds\npub mod Reads")
             put(f"{d}.antt", "\n".join(f"pub mod {x}" for x in sorted(os.listdir(d)) if not x.endswith(".antt")))
@@ -310,7 +345,7 @@ def make(c, to, only=()):
         wanted = [f for f in c.of(kind) if not only or f in only]
         if wanted:
             root = generate(c, d, kind, twin_carry(c) if kind == "carry" else twin_small(c, c.of(kind)))
-            for f in wanted + [f for f in c.far if os.path.isdir(f"{root}/{f}")]:
+            for f in wanted + [f for f in copied(c) if os.path.isdir(f"{root}/{f}")]:
                 place(c, root, f, to)
     declare(c, to)
     shutil.rmtree(f"{d}/target")
@@ -338,15 +373,16 @@ def derived_files(folder):
         found |= {os.path.relpath(f"{d}/{x}", folder) for x in files if "/derived/" in f"{d}/{x}" or x == "derived.antt"}
     return found
 
-def check(crates):
+def check(crates, wanted):
     """All anew, beside the committed ones."""
     d, bad = f"{WORK}/made", 0
     shutil.rmtree(d, ignore_errors=True)
-    for c in crates:
-        make(c.load(), f"{d}/crates/{c.name}/proofs")
-    put(f"{d}/crates.txt", "\n".join(f"{c.name}:" for c in crates))
+    # a crate's twins are in a folder of their own, and Rattle writes nearly all of the time
+    with ThreadPoolExecutor(os.cpu_count()) as pool:
+        list(pool.map(lambda c: make(c.load(crates), f"{d}/crates/{c.name}/proofs"), wanted))
+    put(f"{d}/crates.txt", "\n".join(f"{c.name}:" for c in wanted))
     subprocess.run(["rt", "fmt"], cwd=d, capture_output=True)
-    for c in crates:
+    for c in wanted:
         made, there = f"{d}/crates/{c.name}/proofs", f"crates/{c.name}/proofs"
         new, old = derived_files(made), derived_files(there)
         for x in sorted(new | old):
@@ -386,10 +422,10 @@ def main():
     checked, first = "--check" in words, "--skeleton" in words
     words = [w for w in words if not w.startswith("--")]
     if checked:
-        return check([crates[w] for w in words or crates])
+        return check(crates, [crates[w] for w in words or crates])
     if not words or words[0] not in crates:
         sys.exit("usage: lend.py CRATE [FUNCTION..] | lend.py --check [CRATE..] | lend.py --skeleton CRATE FUNCTION")
-    c = crates[words[0]].load()
+    c = crates[words[0]].load(crates)
     for f in words[1:]:
         if f not in c.kinds:
             sys.exit(f"tools/lend.txt: {c.name} lists no function {f}")

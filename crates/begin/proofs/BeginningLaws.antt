@@ -15,7 +15,7 @@ use Rattle.stream.specs.declared.Parsed.the-variants as Parsing
 use Rattle.stream.specs.declared.Refusal.the-variants.{NoBlock, WrongSize, Lossy, WrongCount, ShortScratch, Lossless, WrongBases}
 use Rattle.region.specs.Regions.{checkedOf}
 use Rattle.region.specs.declared.Rect.{Rect}
-use Rattle.writing.specs.Sets.{setSize}
+use Rattle.lines.specs.Sets.{setSize}
 use Rattle.begin.specs.Beginnings.{isShortScratch, withScratch, withRegion, withStream, regionBegins}
 use Rattle.begin.specs.Beginnings.{wholeOf, isWhole, withSize, withPicture, imageBegins, withResumed, resumeBegins}
 use Rattle.begin.specs.Beginnings.{withBlock, withOpened, blockBegins, withCount, withSet, withParsed, writingBegins, withBases, withLossy, lossyBegins}

@@ -22,7 +22,7 @@ use Rattle.region.specs.declared.Rect.{Rect}
 use Rattle.region.specs.declared.Checked.{Checked}
 use Rattle.region.specs.declared.Checked.the-variants as Check
 use Rattle.region.proofs.CheckLaws.{accepted}
-use Rattle.writing.specs.Sets.{setSize}
+use Rattle.lines.specs.Sets.{setSize}
 use Rattle.begin.specs.Beginnings.{samplesNeeded, recordsNeeded, isShortScratch, withScratch, begun, withRegion, withStream, regionBegins}
 use Rattle.begin.specs.Beginnings.{wholeOf, isWhole, withPicture, withResumed, resumeBegins}
 use Rattle.begin.specs.Beginnings.{imageBegins, withOpened, blockBegins, withCount, withParsed, writingBegins, withLossy, lossyBegins}

@@ -18,7 +18,7 @@ use Rattle.region.specs.declared.Rect.{Rect}
 use Rattle.region.specs.declared.Checked.{Checked}
 use Rattle.region.specs.declared.Checked.the-variants as Check
 use Rattle.steps.specs.Steps.{isInterpolated}
-use Rattle.writing.specs.Sets.{setSize, colourLineAt, positionAt}
+use Rattle.lines.specs.Sets.{setSize, colourLineAt, positionAt}
 use Rattle.begin.specs.declared.Beginning.{Beginning}
 use Rattle.begin.specs.declared.Beginning.the-variants.{Refused, Nothing, Reading}
 

@@ -8,7 +8,7 @@ ghost use lib.ListN.{length};
 ghost use Rattle.region.specs.Regions.{checkedOf};
 ghost use Rattle.steps.specs.Steps.{isInterpolated};
 ghost use Rattle.stream.specs.declared.Parsed.the-variants.{Header};
-ghost use Rattle.writing.specs.Sets.{setSize, lineOfRank, colourLineAt, positionAt};
+ghost use Rattle.lines.specs.Sets.{setSize, lineOfRank, colourLineAt, positionAt};
 ghost use Rattle.map.specs.Places.{widthOf};
 ghost use Rattle.begin.specs.Beginnings.{samplesNeeded, isShortScratch, withScratch, begun, withRegion};
 ghost use Rattle.begin.specs.Beginnings.{regionBegins, wholeOf, isWhole, withSize, imageBegins};

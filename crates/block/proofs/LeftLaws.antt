@@ -1,6 +1,6 @@
 -- What a call leaves, by how it begins; the form of its header; and scratch of which the first part is lent. Assumes nothing.
 use borrow.Rule.Slice.PartMut.{putMid}
-use mathlib.Core.Bool.{Bool, true, false}
+use mathlib.Core.Bool.{Bool}
 use mathlib.Core.List.{List, _++_}
 use mathlib.Core.Path.{_≡_, refl}
 use Prim.Native.Nat.{ℕ, _-_}
@@ -12,8 +12,6 @@ use Rattle.map.specs.Places.{widthOf}
 use Rattle.steps.specs.Values.{Depth}
 use Rattle.totals.specs.Totals.{noTotals}
 use Rattle.stream.specs.Headers.{Ruled}
-use Rattle.stream.specs.declared.BlockLength.{BlockLength}
-use Rattle.stream.specs.declared.BlockLength.the-variants as Block
 use Rattle.stream.specs.declared.FujiHeader.{FujiHeader}
 use Rattle.stream.specs.declared.Parsed.{Parsed}
 use Rattle.stream.specs.declared.Parsed.the-variants as Parsing
@@ -31,9 +29,6 @@ use Rattle.block.specs.Totals.{refusedBy}
 use Rattle.block.specs.Storing.{Storing, StoredBy}
 use Rattle.block.specs.Resuming.{Resuming, ResumedBy}
 use Rattle.block.specs.BlockReadings.{BlockReading, LeftBlock}
-use Rattle.block.specs.WrittenAnswers.{setAnswer, exactAnswer}
-use Rattle.block.specs.WriterParts.{roomFor, outputOf, LeftBy}
-use Rattle.block.specs.WrittenBlocks.{writtenBlock}
 use Rattle.block.specs.declared.Counted.{Counted}
 use Rattle.block.specs.declared.Decoded.{Decoded}
 use Rattle.block.specs.declared.Decoded.the-variants.{Done, Refused}
@@ -92,26 +87,6 @@ module _ (expected : FujiHeader → Counted) (before : Scratch) (begins : Parsed
   pub block-read : (h : FujiHeader) → begins ≡ Parsing.Header h → (after : Scratch) (a : Counted) → BlockReading h (expected h) before after a
       → LeftBlock begins expected before after a
   block-read h e after a l = rw e l
-
-module _ (bases t : List ℕ) (before : Outputs) (begins : Parsed) where
-  pub written-refused : (measure : Bool) (x : Refusal) → begins ≡ Parsing.Refused x → LeftBy measure bases t begins before before (Block.Refused x)
-  written-refused true x e = rw e ((refl, refl), refl)
-  written-refused false x e = rw e (refl, refl)
-
-  pub written-set : (measure : Bool) (h : FujiHeader) → begins ≡ Parsing.Header h → (after : Outputs) (a : BlockLength)
-      → let block = writtenBlock (formOf h) bases (h .lines) t in
-      a ≡ setAnswer (formOf h) bases (h .lines) t (roomFor measure block (before .out)) → after .out ≡ outputOf measure a block (before .out)
-      → after .lines ≡ clearedLines (h .xtrans) (before .lines) → after .records ≡ clearedRecords (before .records)
-      → LeftBy measure bases t begins before after a
-  unfolding exactAnswer
-  written-set true h e after a answered output lines records = rw e (record { answered = answered; lines = lines; records = records }, output)
-  written-set false h e after a answered output lines records =
-      rw e (record { answered = answered; output = output; lines = lines; records = records })
-
--- by what its beginning is
-pub left-by : (measure : Bool) (bases t : List ℕ) (begins named : Parsed) (before after : Outputs) (a : BlockLength) → begins ≡ named
-    → LeftBy measure bases t begins before after a → LeftBy measure bases t named before after a
-left-by measure bases t begins named before after a e l = rw e at l
 
 -- ---- the form of a header
 

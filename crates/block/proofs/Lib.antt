@@ -11,11 +11,6 @@ pub mod KeepLaws
 pub mod StoredLaws
 pub mod SampleLaws
 pub mod LoadLaws
-pub mod WrittenLaws
-pub mod WalkLaws
-pub mod AnswerLaws
-pub mod BoundLaws
-pub mod LookLaws
 pub mod CountLaws
 pub mod DecodeLaws
 pub mod ResumedLaws

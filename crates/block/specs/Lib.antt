@@ -8,7 +8,6 @@ pub mod Images
 pub mod BadCodes
 pub mod BadSpots
 pub mod TightBlocks
-pub mod WrittenBlocks
 pub mod Totals
 pub mod Checkpoints
 pub mod Storing
@@ -17,8 +16,6 @@ pub mod Calls
 pub mod BlockReadings
 pub mod Sharing
 pub mod Words
-pub mod WrittenAnswers
-pub mod WriterParts
 pub mod WindowedImages
 pub mod WindowedLines
 pub mod WindowedAgreement

@@ -9,7 +9,7 @@ use lib.ListN.{getD}
 use Rattle.bits.specs.BitLists.{isTail}
 use Rattle.map.specs.Places.{widthOf}
 use Rattle.stream.specs.declared.Refusal.the-variants.{Truncated, NotTight}
-use Rattle.writing.specs.Sets.{setSize, lineAt, colourLineAt, positionAt}
+use Rattle.lines.specs.Sets.{setSize, lineAt, colourLineAt, positionAt}
 use Rattle.block.specs.Records.{table}
 use Rattle.block.specs.Blocks.{State, readLines, linesOf}
 use Rattle.block.specs.Images.{linesRead}

@@ -2,16 +2,12 @@
 use mathlib.Core.List.{List, [], _∷_}
 use mathlib.Core.Path.{_≡_}
 use Prim.Native.Nat.{ℕ}
-use lib.ListN.{length}
-use Rattle.stream.specs.Lengths.{lengthWord, lengthRefusal}
 use Rattle.stream.specs.Refusals.{refusalWords, noRefusal}
-use Rattle.stream.specs.declared.BlockLength.{BlockLength}
 use Rattle.region.specs.declared.Rect.{Rect}
 use Rattle.totals.specs.declared.Totals.{Totals}
 use Rattle.cameras.specs.Words.{entriesIn, AreWords}
 use Rattle.cameras.specs.declared.Camera.{Camera}
 use Rattle.cameras.specs.declared.Entry.{Entry}
-use Rattle.begin.specs.Beginnings.{writingBegins, lossyBegins}
 use Rattle.begin.specs.declared.Beginning.{Beginning}
 use Rattle.block.specs.Images.{Left}
 use Rattle.block.specs.WindowedImages.{LeftWindowed}
@@ -20,7 +16,6 @@ use Rattle.block.specs.Lent.{Buffers, Scratch, Outputs}
 use Rattle.block.specs.BlockReadings.{LeftRead, LeftTight}
 use Rattle.block.specs.Storing.{LeftStored}
 use Rattle.block.specs.Resuming.{LeftResumed}
-use Rattle.block.specs.WrittenAnswers.{LeftWritten, LeftLossy, LeftMeasured}
 use Rattle.block.specs.declared.Counted.{Counted}
 use Rattle.block.specs.declared.Decoded.{Decoded}
 use Rattle.block.specs.declared.Decoded.the-variants.{Done, Refused}
@@ -77,22 +72,3 @@ pub record ToldResumed (d : List ℕ) (b : ℕ) (s : List ℕ) (r : Rect) (tile 
   pub left : LeftResumed d b s r tile before after answer
   pub told-totals : totals ≡ totalsWords (answer .totals)
   pub told : words ≡ answerWords (answer .answer)
-
--- the writer's, with the length, 0 where it is refused
-pub record ToldWritten (d t : List ℕ) (before after : Outputs) (size words : List ℕ) : Type 0 where
-  pub answer : BlockLength
-  pub left : LeftWritten t (writingBegins d (length t) (length (before .lines)) (length (before .records))) before after answer
-  pub told-size : size ≡ lengthWord answer
-  pub told : words ≡ lengthRefusal answer
-
-pub record ToldLossy (d bases t : List ℕ) (before after : Outputs) (size words : List ℕ) : Type 0 where
-  pub answer : BlockLength
-  pub left : LeftLossy bases t (lossyBegins d (length bases) (length t) (length (before .lines)) (length (before .records))) before after answer
-  pub told-size : size ≡ lengthWord answer
-  pub told : words ≡ lengthRefusal answer
-
-pub record ToldMeasured (d t : List ℕ) (before after : Scratch) (size words : List ℕ) : Type 0 where
-  pub answer : BlockLength
-  pub left : LeftMeasured t (writingBegins d (length t) (length (before .lines)) (length (before .records))) before after answer
-  pub told-size : size ≡ lengthWord answer
-  pub told : words ≡ lengthRefusal answer

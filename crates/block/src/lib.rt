@@ -1,6 +1,7 @@
-// Blocks: read, decoded, read tightly, and written. The types of the answers are here, the functions in a module for each role.
+// Blocks: read, decoded, and read tightly. The types of the answers are here, the functions in a module for each role.
 ghost use mathlib.Core.Path.{_≡_};
 ghost use Rattle.block.specs.Images.{formOf};
+ghost use Rattle.block.specs.Words.{answerWords};
 use cameras::Entries;
 use code::Place;
 use stream::FujiHeader;
@@ -8,31 +9,33 @@ use stream::Refusal;
 use totals::TightLines;
 use totals::Totals;
 
-mod c;
-mod checkpoints;
-mod decoding;
+pub mod checkpoints;
+pub mod decoding;
 mod reading;
-mod records;
-mod sharing;
-mod tight;
-mod writer;
+pub mod records;
+pub mod sharing;
+pub mod tight;
 
-pub use c::answer_words;
 pub use checkpoints::resume_region;
 pub use checkpoints::store_checkpoint;
 pub use decoding::decode;
 pub use decoding::decode_region;
 pub use decoding::decode_region_alone;
 pub use decoding::decode_region_windowed;
+pub use reading::is_restarted;
+pub use reading::quantisers_of;
 pub use reading::walk_alone;
+pub use records::clear_records;
+pub use records::load_set;
+pub use records::restart;
 pub use records::start_record;
+pub use records::start_records;
+pub use records::store_set;
 pub use sharing::decode_region_shared;
+pub use tight::line_count;
 pub use tight::read_block;
 pub use tight::read_tight;
 pub use tight::tight_answer;
-pub use writer::measure_block;
-pub use writer::write_block;
-pub use writer::write_lossy;
 
 pub struct Form {
     pub bits: u32,
@@ -70,11 +73,21 @@ pub struct Counted {
     pub totals: Totals,
 }
 
-pub(crate) fn form_of(h: FujiHeader) -> Form
+pub fn form_of(h: FujiHeader) -> Form
     ensures { λ r. ⌜ r ≡ formOf h ⌝ }
 {
     Form {
         bits: h.bits,
         xtrans: h.xtrans,
+    }
+}
+
+// A refusal's four words, all 0 where nothing is refused.
+pub fn answer_words(a: Decoded) -> [usize; 4]
+    ensures { λ w. ⌜ w ≡ answerWords a ⌝ }
+{
+    match a {
+        Decoded::Done => [0; 4],
+        Decoded::Refused(r) => stream::refusal_words(r),
     }
 }

@@ -33,7 +33,7 @@ use steps::Quantisers;
 use totals::TightLines;
 use totals::Totals;
 
-pub(crate) fn is_restarted(bases: &[u8], n: usize) -> bool
+pub fn is_restarted(bases: &[u8], n: usize) -> bool
     ensures { λ r. ⌜ r ≡ isRestarted (now (bases .entry)) n ⌝ }
 {
     if n == 0 {
@@ -58,7 +58,7 @@ fn quantisers_with(m: Quantiser, bits: u32, base: u32) -> Quantisers
     }
 }
 
-pub(crate) fn quantisers_of(bits: u32, base: u32) -> Quantisers
+pub fn quantisers_of(bits: u32, base: u32) -> Quantisers
     requires { ⌜ Depth bits × (base < 256) ⌝ }
     ensures { λ r. ⌜ r ≡ quantisersOf bits base ⌝ }
 {

@@ -65,7 +65,7 @@ fn update(rs: &mut [Record], i: usize, r: Record)
 }
 
 // All records start.
-pub(crate) fn start_records(rs: &mut [Record], bits: u32, base: u32)
+pub fn start_records(rs: &mut [Record], bits: u32, base: u32)
     requires { ⌜ (length (now rs) ≡ 336) × (Depth bits × (base < 256)) ⌝ }
     ensures { λ _. ⌜ now (rs .exit) ≡ startRecords bits base ⌝ }
 {
@@ -92,7 +92,7 @@ fn restart_main(rs: &mut [Record], bits: u32, base: u32)
 }
 
 // The main records start anew where that is wanted.
-pub(crate) fn restart(rs: &mut [Record], bits: u32, base: u32, wanted: bool)
+pub fn restart(rs: &mut [Record], bits: u32, base: u32, wanted: bool)
     requires { ⌜ (length (now rs) ≡ 336) × (Depth bits × (base < 256)) ⌝ }
     ensures { λ _. ⌜ now (rs .exit) ≡ cond wanted (restartedMain bits base (now (rs .entry))) (now (rs .entry)) ⌝ }
 {
@@ -117,7 +117,7 @@ pub(crate) fn load_records(rs: &mut [Record], s: &[u8], lossless: bool, bits: u3
 }
 
 // All records as scratch is left.
-pub(crate) fn clear_records(rs: &mut [Record])
+pub fn clear_records(rs: &mut [Record])
     requires { ⌜ length (now rs) ≡ 336 ⌝ }
     ensures { λ _. ⌜ now (rs .exit) ≡ clearRecords ⌝ }
 {
@@ -129,7 +129,7 @@ pub(crate) fn clear_records(rs: &mut [Record])
 }
 
 // Set g, for a pass.
-pub(crate) fn load_set(rs: &mut [Record], g: usize) -> Set
+pub fn load_set(rs: &mut [Record], g: usize) -> Set
     requires { ⌜ (length (now rs) ≡ 336) × (g < 3) ⌝ }
     ensures { λ r. ⌜ (recordsOf r ≡ setOf g (now (rs .entry))) × (now (rs .exit) ≡ now (rs .entry)) ⌝ }
 {
@@ -146,7 +146,7 @@ pub(crate) fn load_set(rs: &mut [Record], g: usize) -> Set
 }
 
 // Set g, after a pass.
-pub(crate) fn store_set(rs: &mut [Record], g: usize, set: Set)
+pub fn store_set(rs: &mut [Record], g: usize, set: Set)
     requires { ⌜ (length (now rs) ≡ 336) × (g < 3) ⌝ }
     ensures { λ _. ⌜ now (rs .exit) ≡ putSet g (recordsOf set) (now (rs .entry)) ⌝ }
 {

@@ -94,7 +94,7 @@ pub(crate) fn no_part() -> Part
     }
 }
 
-pub(crate) fn line_count(h: FujiHeader) -> usize
+pub fn line_count(h: FujiHeader) -> usize
     ensures { λ r. ⌜ r ≡ h .lines ⌝ }
 {
     h.lines as usize

@@ -10,7 +10,7 @@ use lib.Dec.{ltb, eqb}
 use lib.ListN.{length, drop}
 use borrow.Author.Tests.{ltb-false}
 use Rattle.map.specs.Places.{widthOf}
-use Rattle.writing.specs.Sets.{setSize}
+use Rattle.lines.specs.Sets.{setSize}
 use Rattle.stream.specs.Headers.{headerOf, allRules, parseOf}
 use Rattle.stream.specs.Lengths.{lengthWord, lengthRefusal}
 use Rattle.stream.specs.Refusals.{refusalNumber, noRefusal}
@@ -27,9 +27,9 @@ use Rattle.begin.specs.Beginnings.{isShortScratch, withLossy, lossyBegins}
 use Rattle.begin.proofs.CallLaws.{lossy-goes}
 use Rattle.block.specs.Images.{formOf}
 use Rattle.block.specs.Lent.{Outputs}
-use Rattle.block.specs.Words.{ToldLossy}
-use Rattle.block.specs.WrittenAnswers.{lengthAnswer, predictedAnswer, rangeAnswer, measuredAnswer, aboveIn, setAnswer, writtenOut, SetWriting, LeftLossy}
-use Rattle.block.specs.WrittenBlocks.{writeLines, writtenBlock}
+use Rattle.block_writer.specs.Words.{ToldLossy}
+use Rattle.block_writer.specs.WrittenAnswers.{lengthAnswer, predictedAnswer, rangeAnswer, measuredAnswer, aboveIn, setAnswer, writtenOut, SetWriting, LeftLossy}
+use Rattle.block_writer.specs.WrittenBlocks.{writeLines, writtenBlock}
 use Rattle.block.specs.declared.Form.{Form}
 use Rattle.lossy_back.specs.LossyBlocks.{lossyOf, LossyWritten, LossyCalls}
 use Rattle.lossy_back.proofs.NeverWrong.{not-strict, never-wrong}

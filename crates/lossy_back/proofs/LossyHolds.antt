@@ -14,7 +14,7 @@ use Rattle.pass.specs.Readings.{andThen}
 use Rattle.read_back.specs.UsedBases.{IsNear}
 use Rattle.read_back.proofs.ListBack.{base-le}
 use Rattle.map.specs.Places.{widthOf}
-use Rattle.writing.specs.Sets.{lineSize, setSize, lineOfRank, indexIn, lineAt, colourLineAt, positionAt}
+use Rattle.lines.specs.Sets.{lineSize, setSize, lineOfRank, indexIn, lineAt, colourLineAt, positionAt}
 use Rattle.writing.proofs.SetLaws.{passes-lines, line-lt, rank-lt, position-lt, index-at}
 use Rattle.stream.specs.declared.BlockLength.the-variants.{Length}
 use Rattle.stream.specs.declared.FujiHeader.{FujiHeader}
@@ -22,10 +22,10 @@ use Rattle.stream.proofs.HeaderLaws.{ruled}
 use Rattle.block.specs.Records.{baseOf}
 use Rattle.block.specs.Blocks.{readLines, linesOf}
 use Rattle.block.specs.Images.{formOf}
-use Rattle.block.specs.WrittenAnswers.{aboveIn, measuredAnswer, setAnswer}
-use Rattle.block.specs.WrittenBlocks.{writeLines, writtenBlock}
+use Rattle.block_writer.specs.WrittenAnswers.{aboveIn, measuredAnswer, setAnswer}
+use Rattle.block_writer.specs.WrittenBlocks.{writeLines, writtenBlock}
 use Rattle.block.specs.declared.Form.{Form}
-use Rattle.block.proofs.AnswerLaws.{none-wanted}
+use Rattle.block_writer.proofs.AnswerLaws.{none-wanted}
 use Rattle.block.proofs.LineLaws.{width-in-range}
 use Rattle.one_to_one.proofs.BlockTwins.{Shown}
 use Rattle.one_to_one.proofs.WrittenBack.{ReadWhole, read-whole}

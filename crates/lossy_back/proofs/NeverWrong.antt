@@ -13,7 +13,7 @@ use Rattle.map.specs.Places.{widthOf}
 use Rattle.writing.specs.Writings.{Writing, orSecond, writeStep, writes, writePass}
 use Rattle.writing.proofs.WriteLaws.{write-coded, write-interpolated}
 use Rattle.block.specs.Records.{baseOf}
-use Rattle.block.specs.WrittenBlocks.{WriteState, repeats, enterWriting, writePassAt, beforeWriting, isStrict, writeLine, startWriting, writeLines}
+use Rattle.block_writer.specs.WrittenBlocks.{WriteState, repeats, enterWriting, writePassAt, beforeWriting, isStrict, writeLine, startWriting, writeLines}
 use Rattle.block.specs.declared.Form.{Form}
 
 pub not-strict : (bases : List ℕ) → 1 ≤ length bases → isStrict bases ≡ false

@@ -5,7 +5,7 @@ use mathlib.Core.List.{[], _∷_}
 use mathlib.Core.Option.{none, some}
 use mathlib.Core.Path.{_≡_, refl}
 use Rattle.steps.specs.Steps.{isInterpolated}
-use Rattle.writing.specs.Sets.{lineOfRank}
+use Rattle.lines.specs.Sets.{lineOfRank}
 use Rattle.begin.specs.Beginnings.{isIgnored, firstAbove}
 
 ignored-0 : isIgnored true false 0 ≡ true

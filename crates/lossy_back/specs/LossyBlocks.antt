@@ -12,7 +12,7 @@ use Rattle.steps.specs.Steps.{planOf, passSteps, isInterpolated}
 use Rattle.pass.specs.Readings.{andThen}
 use Rattle.read_back.specs.UsedBases.{baseInSteps, IsNear}
 use Rattle.map.specs.Places.{widthOf}
-use Rattle.writing.specs.Sets.{setSize, lineAt, colourLineAt, positionAt}
+use Rattle.lines.specs.Sets.{setSize, lineAt, colourLineAt, positionAt}
 use Rattle.stream.specs.Headers.{parseOf}
 use Rattle.stream.specs.Refusals.{noRefusal}
 use Rattle.stream.specs.declared.BlockLength.{BlockLength}
@@ -27,9 +27,9 @@ use Rattle.block.specs.Blocks.{State, enter, runs, passAt, beforeLine, readLine
 use Rattle.block.specs.Images.{formOf}
 use Rattle.block.specs.Lent.{Outputs}
 use Rattle.block.specs.TightBlocks.{readSample}
-use Rattle.block.specs.Words.{ToldLossy}
-use Rattle.block.specs.WrittenAnswers.{aboveIn, setAnswer, LeftLossy}
-use Rattle.block.specs.WrittenBlocks.{writtenBlock}
+use Rattle.block_writer.specs.Words.{ToldLossy}
+use Rattle.block_writer.specs.WrittenAnswers.{aboveIn, setAnswer, LeftLossy}
+use Rattle.block_writer.specs.WrittenBlocks.{writtenBlock}
 use Rattle.block.specs.declared.Form.{Form}
 
 -- ---- the base by which a sample was coded

@@ -14,7 +14,7 @@ use Rattle.bits.specs.BitLists.{bitsOf, blockBytes, isTail}
 use Rattle.bits.proofs.PackLaws.{room, spare-zeros, zeros-spare}
 use Rattle.quantiser.specs.Quantisers.{largest}
 use Rattle.map.specs.Places.{widthOf}
-use Rattle.writing.specs.Sets.{setSize, lineOfRank, indexIn, lineAt, colourLineAt, positionAt}
+use Rattle.lines.specs.Sets.{setSize, lineOfRank, indexIn, lineAt, colourLineAt, positionAt}
 use Rattle.numbers.proofs.BoolLaws.{both}
 use Rattle.writing.proofs.SetLaws.{index-lt, line-at, colour-line-at, position-at}
 use Rattle.block.specs.Blocks.{State, readLines, linesOf}

@@ -9,17 +9,17 @@ use lib.ListN.{getD, length-replicate}
 use Rattle.quantiser.specs.Quantisers.{largest}
 use Rattle.pass.specs.Readings.{andThen}
 use Rattle.map.specs.Places.{widthOf}
-use Rattle.writing.specs.Sets.{indexIn}
+use Rattle.lines.specs.Sets.{indexIn}
 use Rattle.steps.specs.Values.{Depth}
 use Rattle.steps.specs.Steps.{planOf}
 use Rattle.read_back.proofs.PassBack.{place-exact}
 use Rattle.writing.proofs.LosslessLaws.{Lossless}
 use Rattle.writing.proofs.SetLaws.{passes-lines}
 use Rattle.block.specs.Blocks.{State, runs, readLineAt, startState, readLines, linesOf}
-use Rattle.block.specs.WrittenBlocks.{writeLine, startWriting, writeLines, SetWanted}
+use Rattle.block_writer.specs.WrittenBlocks.{writeLine, startWriting, writeLines, SetWanted}
 use Rattle.block.specs.declared.Form.{Form}
 use Rattle.block.proofs.SampleLaws.{zeros-le}
-use Rattle.block.proofs.WrittenLaws.{line-adds, line-right}
+use Rattle.block_writer.proofs.WrittenLaws.{line-adds, line-right}
 use Rattle.one_to_one.proofs.RunTwins.{writeStateOf, CleanState, StoredState, StateForward, stored-before, Each, runs-forward, runs-backward}
 use Rattle.one_to_one.proofs.PassTwins.{SoundState}
 use Rattle.one_to_one.proofs.LineTwins.{LineHolds, LineLeft, line-sound, line-forward, line-backward}

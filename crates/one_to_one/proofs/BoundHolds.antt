@@ -35,7 +35,7 @@ use Rattle.stream.proofs.HeaderLaws.{ruled}
 use Rattle.block.specs.Blocks.{State, runs, enter, leave, passAt, endLine, readLine, beforeLine, readLineAt, startState, readLines}
 use Rattle.block.specs.Images.{formOf}
 use Rattle.block.specs.declared.Form.{Form}
-use Rattle.block.proofs.BoundLaws.{codes-append, line-codes}
+use Rattle.block_writer.proofs.BoundLaws.{codes-append, line-codes}
 use Rattle.block.proofs.RunLaws.{then-both, runs-last}
 use Rattle.one_to_one.specs.Lengths.{Bounds}
 use Rattle.one_to_one.proofs.BlockLaws.{tail-was}

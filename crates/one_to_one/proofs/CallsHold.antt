@@ -20,12 +20,12 @@ use Rattle.stream.specs.declared.Refusal.the-variants.{ShortScratch}
 use Rattle.stream.specs.declared.Parsed.the-variants as Parsing
 use Rattle.stream.proofs.RefusalLaws.{number-low}
 use Rattle.begin.specs.Beginnings.{samplesNeeded, recordsNeeded, withScratch, writingBegins}
-use Rattle.writing.specs.Sets.{setSize}
+use Rattle.lines.specs.Sets.{setSize}
 use Rattle.block.specs.Images.{formOf}
 use Rattle.block.specs.Lent.{Outputs}
-use Rattle.block.specs.WrittenAnswers.{LeftWritten, SetWriting, writtenOut}
-use Rattle.block.specs.WrittenBlocks.{tightBlock}
-use Rattle.block.proofs.AnswerLaws.{written-fits}
+use Rattle.block_writer.specs.WrittenAnswers.{LeftWritten, SetWriting, writtenOut}
+use Rattle.block_writer.specs.WrittenBlocks.{tightBlock}
+use Rattle.block_writer.proofs.AnswerLaws.{written-fits}
 use Rattle.one_to_one.specs.Correspondence.{TightBlockOf}
 use Rattle.one_to_one.specs.Calls.{LongEnough, Starts, CorrespondenceOfCalls, CorrespondenceOfCallsFromC}
 use Rattle.one_to_one.proofs.CorrespondenceHolds.{correspondence-of-headers}

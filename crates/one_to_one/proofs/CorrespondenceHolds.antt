@@ -15,14 +15,14 @@ use Rattle.steps.specs.Values.{Depth}
 use Rattle.map.specs.Places.{widthOf}
 use Rattle.stream.proofs.HeaderLaws.{ruled}
 use Rattle.stream.proofs.StreamLaws.{row-lossless}
-use Rattle.writing.specs.Sets.{lineSize, setSize, lineAt, positionAt}
+use Rattle.lines.specs.Sets.{lineSize, setSize, lineAt, positionAt}
 use Rattle.writing.proofs.LosslessLaws.{Lossless, lossless}
 use Rattle.writing.proofs.TurnPuts.{coded-wanted}
 use Rattle.writing.proofs.SetLaws.{line-lt, rank-lt, position-lt, index-at}
 use Rattle.block.specs.Blocks.{State}
 use Rattle.block.specs.Images.{formOf}
 use Rattle.block.specs.TightBlocks.{Tight, setRead}
-use Rattle.block.specs.WrittenBlocks.{WriteState, writeLines, writtenBlock, tightBlock, SetWanted, FitSet}
+use Rattle.block_writer.specs.WrittenBlocks.{WriteState, writeLines, writtenBlock, tightBlock, SetWanted, FitSet}
 use Rattle.block.specs.declared.Form.{Form}
 use Rattle.block.proofs.LineLaws.{width-in-range}
 use Rattle.one_to_one.specs.Correspondence.{Bytes, TightBlockOf, Correspondence, CorrespondenceOfHeaders, NoBases}

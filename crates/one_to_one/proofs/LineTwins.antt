@@ -14,16 +14,16 @@ use Rattle.steps.specs.Steps.{planOf}
 use Rattle.steps.specs.Values.{Depth}
 use Rattle.lines.proofs.LineLaws.{length-turned}
 use Rattle.map.specs.Places.{widthOf}
-use Rattle.writing.specs.Sets.{lineOfRank}
+use Rattle.lines.specs.Sets.{lineOfRank}
 use Rattle.read_back.proofs.PassBack.{Holds, place-same}
 use Rattle.writing.proofs.LosslessLaws.{Lossless}
 use Rattle.block.specs.Blocks.{State, runs, passAt, endLine, readLine, beforeLine, readLineAt}
 use Rattle.block.specs.Records.{baseOf}
-use Rattle.block.specs.WrittenBlocks.{writePassAt, isStrict, writeLine, SetWanted}
+use Rattle.block_writer.specs.WrittenBlocks.{writePassAt, isStrict, writeLine, SetWanted}
 use Rattle.block.specs.declared.Form.{Form}
 use Rattle.block.proofs.RunLaws.{runs-keep}
 use Rattle.block.proofs.SampleLaws.{turned-le}
-use Rattle.block.proofs.WrittenLaws.{passAt-adds, passAt-right}
+use Rattle.block_writer.proofs.WrittenLaws.{passAt-adds, passAt-right}
 use Rattle.steps.proofs.PlanLaws.{NotOf, other-lines}
 use Rattle.writing.proofs.SetLaws.{lines-passes}
 use Rattle.one_to_one.proofs.RunTwins.{writeStateOf, CleanState, StoredState, StateForward, StateBack, stored-before, Each, runs-forward, runs-backward}

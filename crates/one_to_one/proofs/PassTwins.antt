@@ -24,7 +24,7 @@ use Rattle.read_back.proofs.PassBack.{Holds, pass-leaves, PlaceLeft, pass-forwa
 use Rattle.read_back.proofs.Together.{Sound}
 use Rattle.block.specs.Blocks.{State, enter, leave, passAt}
 use Rattle.block.specs.Records.{putSet}
-use Rattle.block.specs.WrittenBlocks.{leaveWriting, writePassAt, SetWanted}
+use Rattle.block_writer.specs.WrittenBlocks.{leaveWriting, writePassAt, SetWanted}
 use Rattle.block.specs.declared.Form.{Form}
 use Rattle.block.proofs.LineLaws.{width-in-range}
 use Rattle.block.proofs.SampleLaws.{guarded-le}

@@ -15,18 +15,18 @@ use Rattle.lines.specs.ColourLines.{zeroLines, guarded, turned}
 use Rattle.lines.proofs.LineLaws.{length-turned}
 use Rattle.lines.proofs.MoveLaws.{turned-at}
 use Rattle.map.specs.Places.{widthOf}
-use Rattle.writing.specs.Sets.{indexIn}
+use Rattle.lines.specs.Sets.{indexIn}
 use Rattle.quantiser.specs.Quantisers.{largest}
 use Rattle.writing.specs.Puts.{Within}
 use Rattle.writing.specs.Writings.{writePass}
 use Rattle.steps.proofs.OrderLaws.{all-both, pass-all, all-pass}
 use Rattle.steps.proofs.PlanLaws.{interpolated-even, steps-coded}
-use Rattle.block.specs.WrittenBlocks.{WriteState, repeats, enterWriting, writePassAt, beforeWriting, writeLine, startWriting, writeLines, FitSet}
+use Rattle.block_writer.specs.WrittenBlocks.{WriteState, repeats, enterWriting, writePassAt, beforeWriting, writeLine, startWriting, writeLines, FitSet}
 use Rattle.block.specs.declared.Form.{Form}
 use Rattle.block.proofs.LineLaws.{width-in-range}
 use Rattle.block.proofs.SampleLaws.{zeros-le, guarded-le, turned-le}
-use Rattle.block.proofs.WalkLaws.{passAt-within, lines-within}
-use Rattle.block.proofs.WrittenLaws.{passAt-right, line-right}
+use Rattle.block_writer.proofs.WalkLaws.{passAt-within, lines-within}
+use Rattle.block_writer.proofs.WrittenLaws.{passAt-right, line-right}
 use Rattle.one_to_one.specs.PredictedSets.{sampleAt, predictionIn, PredictedSet}
 use Rattle.one_to_one.proofs.PredictedSteps.{place, AllRight, writes-wrong}
 use Rattle.one_to_one.proofs.PredictedPasses.{ready, LineOf, lines-of, each-before, early-coded, Owner, before, first, second, owner, all-in-pass}

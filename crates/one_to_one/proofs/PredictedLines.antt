@@ -17,7 +17,7 @@ use Rattle.steps.specs.declared.Plan.{Plan}
 use Rattle.lines.specs.ColourLines.{guarded}
 use Rattle.lines.proofs.LineLaws.{length-guarded}
 use Rattle.lines.proofs.MoveLaws.{place-is, samples-stay, guard-leaves, left-guard}
-use Rattle.writing.specs.Sets.{indexIn}
+use Rattle.lines.specs.Sets.{indexIn}
 use Rattle.quantiser.specs.Quantisers.{largest}
 use Rattle.writing.specs.Puts.{Within}
 use Rattle.writing.specs.Writings.{Writing, writes}

@@ -10,9 +10,9 @@ use Rattle.bits.specs.BitLists.{bitsOf}
 use Rattle.numbers.proofs.OrderLaws.{split}
 use Rattle.read_back.proofs.Together.{Clean, Stored, stored-cut, Together, Back, together-then, back-then}
 use Rattle.block.specs.Blocks.{State, runs}
-use Rattle.block.specs.WrittenBlocks.{WriteState, repeats}
+use Rattle.block_writer.specs.WrittenBlocks.{WriteState, repeats}
 use Rattle.block.proofs.RunLaws.{runs-last, runs-keep}
-use Rattle.block.proofs.WrittenLaws.{afterBits, afreshState}
+use Rattle.block_writer.proofs.WrittenLaws.{afterBits, afreshState}
 
 -- what writing goes on after a clean reading of s
 abbrev pub writeStateOf : List ℕ → State → WriteState

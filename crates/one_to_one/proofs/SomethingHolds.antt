@@ -17,20 +17,20 @@ use Rattle.stream.proofs.HeaderLaws.{ruled}
 use Rattle.region.specs.Regions.{Accepted, firstBlock, lastBlock, lineCount}
 use Rattle.region.specs.declared.Rect.{Rect}
 use Rattle.region.proofs.RegionLaws.{block-inside, block-order, lines-inside}
-use Rattle.writing.specs.Sets.{setSize}
+use Rattle.lines.specs.Sets.{setSize}
 use Rattle.block.specs.Blocks.{State, readLineAt, startState, readLines}
 use Rattle.begin.specs.declared.Beginning.the-variants.{Reading}
 use Rattle.begin.proofs.CallLaws.{region-reads}
 use Rattle.block.specs.Images.{formOf, bytesIn, linesRead, readIn, answerOf, Decoding, Left}
 use Rattle.block.specs.Lent.{Buffers}
 use Rattle.block.specs.TightBlocks.{Tight}
-use Rattle.block.specs.WrittenBlocks.{writeLines, writtenBlock, tightBlock}
+use Rattle.block_writer.specs.WrittenBlocks.{writeLines, writtenBlock, tightBlock}
 use Rattle.block.specs.declared.Decoded.{Decoded}
 use Rattle.block.specs.declared.Decoded.the-variants.{Done}
 use Rattle.block.specs.declared.Form.{Form}
 use Rattle.block.proofs.DecodeLaws.{all-read}
 use Rattle.block.proofs.RunLaws.{runs-stay}
-use Rattle.block.proofs.WalkLaws.{lines-short}
+use Rattle.block_writer.proofs.WalkLaws.{lines-short}
 use Rattle.one_to_one.specs.Correspondence.{Bytes}
 use Rattle.one_to_one.specs.AcceptedStreams.{regionOf, SomethingAccepted}
 use Rattle.one_to_one.proofs.CorrespondenceHolds.{correspondence-of-headers, no-bases}

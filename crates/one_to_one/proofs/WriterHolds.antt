@@ -4,14 +4,14 @@ use mathlib.Core.Path.{_≡_, ap}
 use Prim.Native.Nat.{ℕ, _≤_}
 use lib.ListN.{length}
 use Rattle.map.specs.Places.{widthOf}
-use Rattle.writing.specs.Sets.{setSize}
+use Rattle.lines.specs.Sets.{setSize}
 use Rattle.stream.specs.declared.BlockLength.{BlockLength}
 use Rattle.stream.specs.declared.BlockLength.the-variants.{Length}
 use Rattle.block.specs.Images.{formOf}
-use Rattle.block.specs.WrittenBlocks.{tightBlock, FitSet}
-use Rattle.block.specs.WrittenAnswers.{writtenAnswer, writtenOut}
+use Rattle.block_writer.specs.WrittenBlocks.{tightBlock, FitSet}
+use Rattle.block_writer.specs.WrittenAnswers.{writtenAnswer, writtenOut}
 use Rattle.block.specs.declared.Form.{Form}
-use Rattle.block.proofs.AnswerLaws.{written-fits, fits-written}
+use Rattle.block_writer.proofs.AnswerLaws.{written-fits, fits-written}
 use Rattle.one_to_one.specs.Correspondence.{Correspondence, TightBlockOf, WrittenWhole, CorrespondenceOfWriters}
 use Rattle.one_to_one.proofs.CorrespondenceHolds.{correspondence-of-headers}
 use Rattle.one_to_one.proofs.PredictedBlocks.{fits-is}

@@ -11,7 +11,7 @@ use Rattle.bits.proofs.ListLaws.{length-bits}
 use Rattle.bits.proofs.PackLaws.{length-bytesOf, bits-bytesOf}
 use Rattle.steps.specs.Values.{Depth}
 use Rattle.block.specs.Blocks.{State, readLines}
-use Rattle.block.specs.WrittenBlocks.{WriteState, writeLines, writtenBlock, SetWanted}
+use Rattle.block_writer.specs.WrittenBlocks.{WriteState, writeLines, writtenBlock, SetWanted}
 use Rattle.block.specs.declared.Form.{Form}
 use Rattle.one_to_one.proofs.BlockLaws.{Tail, tail-is}
 use Rattle.one_to_one.proofs.BlockTwins.{Shown, lines-forward}

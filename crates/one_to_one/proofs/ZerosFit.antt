@@ -14,10 +14,10 @@ use Rattle.steps.specs.declared.Plan.{Plan}
 use Rattle.steps.proofs.ContextLaws.{AllLe, context-le, stored-le}
 use Rattle.map.specs.Places.{widthOf}
 use Rattle.lines.specs.ColourLines.{guarded}
-use Rattle.writing.specs.Sets.{setSize, indexIn}
+use Rattle.lines.specs.Sets.{setSize, indexIn}
 use Rattle.writing.specs.Writings.{Writing, wantedCode, givenSample, writeStep, writes, writePass}
 use Rattle.writing.proofs.WriteLaws.{wanted, write-coded, write-interpolated}
-use Rattle.block.specs.WrittenBlocks.{WriteState, repeats, enterWriting, writePassAt, beforeWriting, writeLine, startWriting, writeLines, FitSet}
+use Rattle.block_writer.specs.WrittenBlocks.{WriteState, repeats, enterWriting, writePassAt, beforeWriting, writeLine, startWriting, writeLines, FitSet}
 use Rattle.block.specs.declared.Form.{Form}
 use Rattle.block.proofs.SampleLaws.{zeros-le, guarded-le, turned-le}
 use Rattle.writing.proofs.LookLaws.{given-exact}

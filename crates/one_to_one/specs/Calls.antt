@@ -16,8 +16,8 @@ use Rattle.stream.specs.declared.Parsed.the-variants.{Header}
 use Rattle.begin.specs.Beginnings.{samplesNeeded, recordsNeeded, writingBegins}
 use Rattle.block.specs.Images.{formOf}
 use Rattle.block.specs.Lent.{Outputs}
-use Rattle.block.specs.Words.{ToldWritten}
-use Rattle.block.specs.WrittenAnswers.{LeftWritten}
+use Rattle.block_writer.specs.Words.{ToldWritten}
+use Rattle.block_writer.specs.WrittenAnswers.{LeftWritten}
 use Rattle.one_to_one.specs.Correspondence.{TightBlockOf}
 
 -- the output has room for the block, and scratch is not refused by 10

@@ -17,7 +17,7 @@ use Rattle.begin.specs.Beginnings.{writingBegins}
 use Rattle.block.specs.Images.{formOf}
 use Rattle.block.specs.Lent.{Scratch, Outputs}
 use Rattle.block.specs.TightBlocks.{Tight}
-use Rattle.block.specs.WrittenAnswers.{LeftWritten, LeftMeasured}
+use Rattle.block_writer.specs.WrittenAnswers.{LeftWritten, LeftMeasured}
 
 -- no tight block under a lossless header is longer than the bound that `length_bound` answers
 abbrev pub Bounds : Type 0

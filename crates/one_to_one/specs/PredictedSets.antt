@@ -9,7 +9,7 @@ use Rattle.quantiser.specs.Quantisers.{largest}
 use Rattle.prediction.specs.Predictions.{evenPrediction}
 use Rattle.steps.specs.Steps.{isInterpolated}
 use Rattle.map.specs.Places.{widthOf}
-use Rattle.writing.specs.Sets.{setSize, indexIn}
+use Rattle.lines.specs.Sets.{setSize, indexIn}
 use Rattle.block.specs.declared.Form.{Form}
 
 -- the first two lines of each colour are the last two of the line before: 0 and 1 were 3 and 4, 5 and 6 were 11 and 12, 13 and 14 were 16 and 17

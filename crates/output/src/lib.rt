@@ -8,6 +8,12 @@ ghost use Rattle.output.specs.Output.{putBits};
 use bits::BitPosition;
 use numbers::u8_to_u32;
 
+// The position after some samples that are written, or the index in the set of an interpolated one that is not its prediction.
+pub enum Put {
+    At(BitPosition),
+    Wrong(usize),
+}
+
 // The next t of the last `left` bits of a number.
 fn next_bits(value: u64, left: u32, t: u32) -> u32
     requires { ⌜ (1 ≤ t) × ((t ≤ 8) × ((t ≤ left) × (left ≤ 64))) ⌝ }

@@ -15,7 +15,7 @@ use Rattle.steps.proofs.OrderLaws.{All, all-both, place-is, pass-all, all-pass,
 use Rattle.steps.proofs.PlanLaws.{CodedIn}
 use Rattle.pass.specs.Readings.{Reading, readPass}
 use Rattle.writing.specs.Puts.{Wanted}
-use Rattle.writing.specs.Sets.{indexIn}
+use Rattle.lines.specs.Sets.{indexIn}
 use Rattle.writing.specs.Writings.{writePass}
 use Rattle.writing.proofs.LosslessLaws.{Lossless}
 use Rattle.pass.proofs.FrameLaws.{steps-leave}

@@ -32,7 +32,7 @@ use Rattle.steps.specs.declared.Look.{Look}
 use Rattle.steps.proofs.ContextLaws.{context-le}
 use Rattle.pass.specs.Readings.{Reading, interpolate, takeCode, readStep}
 use Rattle.pass.proofs.StepLaws.{step-interpolated, step-read}
-use Rattle.writing.specs.Sets.{indexIn}
+use Rattle.lines.specs.Sets.{indexIn}
 use Rattle.writing.specs.Writings.{writeStep}
 use Rattle.writing.proofs.LosslessLaws.{code-numbers}
 use Rattle.writing.proofs.WriteLaws.{wanted, write-coded, write-interpolated}

@@ -21,7 +21,7 @@ use Rattle.steps.proofs.ContextLaws.{context-le}
 use Rattle.steps.proofs.LookLaws.{look-lossless}
 use Rattle.writing.specs.Looks.{SampleLooked, Right}
 use Rattle.writing.specs.Puts.{Within, Wanted}
-use Rattle.writing.specs.Sets.{indexIn}
+use Rattle.lines.specs.Sets.{indexIn}
 use Rattle.writing.specs.Writings.{Writing, givenSample, wantedCode, writeStep, writes}
 use Rattle.writing.proofs.StepPuts.{writes-within}
 use Rattle.writing.proofs.WriteLaws.{wanted, write-coded, write-interpolated, writes-append}

@@ -10,7 +10,7 @@ use borrow.Author.Tests.{lt-ltb, le-ltb}
 use Rattle.numbers.proofs.OrderLaws.{split}
 use Rattle.steps.specs.Steps.{planOf}
 use Rattle.steps.proofs.PlanLaws.{firstLine, secondLine, lines-are, each-pass}
-use Rattle.writing.specs.Sets.{lineSize, setSize, rankOf, lineOfRank, indexIn, lineAt, colourLineAt, positionAt}
+use Rattle.lines.specs.Sets.{lineSize, setSize, rankOf, lineOfRank, indexIn, lineAt, colourLineAt, positionAt}
 
 pub rank-of-line : (c : ℕ) → c < 12 → rankOf (lineOfRank c) ≡ c
 unfolding rankOf lineOfRank

@@ -22,8 +22,8 @@ use Rattle.steps.proofs.KLaws.{kept-k}
 use Rattle.steps.proofs.TableLaws.{limit-is, raw-is}
 use Rattle.writing.specs.Puts.{LineNumbers, putIf, Room, Within, Wanted, CodingAsks, CodedAs, bitsOfSample, setOfSample, StepsRoom, StepsPut}
 use Rattle.writing.specs.declared.Coding.{Coding}
-use Rattle.writing.specs.declared.Put.{Put}
-use Rattle.writing.specs.declared.Put.the-variants.{At, Wrong}
+use Rattle.output.specs.declared.Put.{Put}
+use Rattle.output.specs.declared.Put.the-variants.{At, Wrong}
 use Rattle.writing.proofs.LosslessLaws.{code-numbers}
 use Rattle.writing.proofs.StepPuts.{Sample, prediction-le, sample-room, sample-coded, sample-right, sample-wrong}
 use Rattle.writing.proofs.StepPuts.{first-room, room-after, goes-on, within-after, position-after}

@@ -26,11 +26,11 @@ use Rattle.steps.specs.declared.Look.{Look}
 use Rattle.steps.specs.declared.Plan.{Plan}
 use Rattle.steps.proofs.ContextLaws.{context-le, context-is, stored-le}
 use Rattle.steps.proofs.TableLaws.{numbers-le}
-use Rattle.writing.specs.Sets.{indexIn}
+use Rattle.lines.specs.Sets.{indexIn}
 use Rattle.writing.specs.Writings.{Writing, orSecond, writeStep, writes}
 use Rattle.writing.specs.Puts.{putIf, Room, Within, Wanted, bitsOfSample, valueOfSample, setOfSample, startOf, StepsRoom, IsPut, StepsPut}
-use Rattle.writing.specs.declared.Put.{Put}
-use Rattle.writing.specs.declared.Put.the-variants.{At, Wrong}
+use Rattle.output.specs.declared.Put.{Put}
+use Rattle.output.specs.declared.Put.the-variants.{At, Wrong}
 use Rattle.writing.proofs.WriteLaws.{wanted, write-coded, write-interpolated, after, writes-append, writes-after, writes-add}
 use Rattle.output.proofs.PutLaws.{put-none, put-more}
 

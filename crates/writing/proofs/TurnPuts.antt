@@ -14,11 +14,11 @@ use Rattle.steps.specs.declared.Plan.{Plan}
 use Rattle.steps.proofs.OrderLaws.{All, pass-all}
 use Rattle.steps.proofs.PlanLaws.{CodedIn, steps-coded}
 use Rattle.steps.proofs.TurnLaws.{turn-is, evens-le, turns-le}
-use Rattle.writing.specs.Sets.{lineOfRank, indexIn}
+use Rattle.lines.specs.Sets.{lineOfRank, indexIn}
 use Rattle.writing.specs.Writings.{Writing, writes, writePass}
 use Rattle.writing.specs.Puts.{Room, Within, Wanted, startOf, StepsRoom, IsPut, StepsPut, wrongAt, IsPassPut}
-use Rattle.writing.specs.declared.Put.{Put}
-use Rattle.writing.specs.declared.Put.the-variants.{At, Wrong}
+use Rattle.output.specs.declared.Put.{Put}
+use Rattle.output.specs.declared.Put.the-variants.{At, Wrong}
 use Rattle.writing.specs.declared.PassPut.{PassPut}
 use Rattle.writing.proofs.SetLaws.{lines-passes}
 use Rattle.writing.proofs.StepPuts.{first-room, ends}

@@ -9,7 +9,7 @@ use Rattle.prediction.specs.declared.Context.{Context}
 use Rattle.steps.specs.Contexts.{stepPlace, stepContext, stepLook, stepSlot}
 use Rattle.steps.specs.Steps.{Step, passSteps}
 use Rattle.steps.specs.declared.Plan.{Plan}
-use Rattle.writing.specs.Sets.{indexIn}
+use Rattle.lines.specs.Sets.{indexIn}
 use Rattle.writing.specs.Writings.{Writing, orSecond, passOver, putCode, writeStep, writes, writePass}
 
 -- ---- one step

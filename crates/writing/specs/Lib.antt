@@ -1,5 +1,4 @@
 -- The definitions of writing.
-pub mod Sets
 pub mod Writings
 pub mod Puts
 pub mod Looks

@@ -13,7 +13,7 @@ use Rattle.steps.specs.Values.{Depth, PlanInRange}
 use Rattle.steps.specs.declared.Plan.{Plan}
 use Rattle.steps.specs.declared.Spot.{Spot}
 use Rattle.writing.specs.Puts.{Within, Wanted}
-use Rattle.writing.specs.Sets.{lineSize, indexIn}
+use Rattle.lines.specs.Sets.{lineSize, indexIn}
 use Rattle.writing.specs.Writings.{writes}
 
 -- one sample that is right: it stands in the lines afterwards, and is its prediction where it is interpolated

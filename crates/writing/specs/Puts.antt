@@ -23,11 +23,11 @@ use Rattle.steps.specs.declared.Plan.{Plan}
 use Rattle.steps.specs.declared.Quantisers.{Quantisers}
 use Rattle.steps.specs.declared.Set.{Set}
 use Rattle.steps.specs.declared.Spot.{Spot}
-use Rattle.writing.specs.Sets.{lineSize, indexIn}
+use Rattle.lines.specs.Sets.{lineSize, indexIn}
 use Rattle.writing.specs.Writings.{Writing, wantedCode, givenSample, writes, writePass}
 use Rattle.writing.specs.declared.Coding.{Coding}
-use Rattle.writing.specs.declared.Put.{Put}
-use Rattle.writing.specs.declared.Put.the-variants.{At, Wrong}
+use Rattle.output.specs.declared.Put.{Put}
+use Rattle.output.specs.declared.Put.the-variants.{At, Wrong}
 use Rattle.writing.specs.declared.PassPut.{PassPut}
 
 -- the bits of a tight code as one number, zeros before it

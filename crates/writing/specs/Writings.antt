@@ -17,7 +17,7 @@ use Rattle.steps.specs.Steps.{Step, passSteps}
 use Rattle.steps.specs.Contexts.{usedQuantiser, noRecord, stepPlace, stepContext, stepLook, stepSlot}
 use Rattle.steps.specs.declared.Plan.{Plan}
 use Rattle.steps.specs.declared.Look.{Look}
-use Rattle.writing.specs.Sets.{indexIn}
+use Rattle.lines.specs.Sets.{indexIn}
 
 -- what a pass writes and changes: the colour lines, the records of its set, the bits so far, and the index of the first interpolated sample, in
 -- coding order, that is not its prediction

@@ -10,11 +10,12 @@ ghost use Rattle.code.specs.Tight.{stepsUp, residualUp, codeOfResidual, codeFor
 ghost use Rattle.code.specs.Nearest.{codeNear};
 ghost use Rattle.steps.specs.Steps.{evenPart, oddPart};
 ghost use Rattle.steps.specs.Values.{zipRecords, SetInRange, AreKs, Depth};
-ghost use Rattle.writing.specs.Sets.{rankOf, indexIn, lineSize};
+ghost use Rattle.lines.specs.Sets.{rankOf, indexIn, lineSize};
 ghost use Rattle.writing.specs.Writings.{writePass};
 ghost use Rattle.writing.specs.Puts.{codeNumber, putIf, Room, CodingAsks, CodedAs, StepsAsk, StepsPut, wrongAt, begunWriting, WriteAsks, WriteGives};
 use bits::BitPosition;
 use numbers::u16_to_u32;
+use output::Put;
 use prediction::Context;
 use steps::Plan;
 use steps::Quantisers;
@@ -24,12 +25,6 @@ use steps::Spot;
 mod looking;
 
 pub use looking::look_pass;
-
-// The position after some samples, or the index in the set of an interpolated one that is not its prediction.
-pub enum Put {
-    At(BitPosition),
-    Wrong(usize),
-}
 
 // A pass: the position after it and its set; or the index of a wrong sample.
 pub struct PassPut {

@@ -6,7 +6,7 @@ ghost use mathlib.Core.List.{[], _∷_};
 ghost use Prim.Native.Nat.{_+_, _*_, _^_, _≤_, _<_};
 ghost use lib.ListN.{length};
 ghost use Rattle.steps.specs.Steps.{stepAt, evenPart, oddPart, passSteps};
-ghost use Rattle.writing.specs.Sets.{lineSize};
+ghost use Rattle.lines.specs.Sets.{lineSize};
 ghost use Rattle.writing.specs.Looks.{SampleLooked, LookAsks, Right, PassLookAsks};
 use crate::index_in;
 use numbers::u16_to_u32;

@@ -7,7 +7,7 @@ use native.Mathlib.Nat.{mod-lt, div-lt-iff-lt-mul}
 use native.Mathlib.Omega.{arith}
 use Rattle.map.specs.Places.{widthOf}
 use Rattle.steps.specs.Steps.{isInterpolated}
-use Rattle.writing.specs.Sets.{lineOfRank, colourLineAt, positionAt}
+use Rattle.lines.specs.Sets.{lineOfRank, colourLineAt, positionAt}
 use Rattle.begin.proofs.is_interpolated_at.Statement.{statement}
 use Rattle.begin.proofs.is_interpolated_at.Tie as tie
 

@@ -1,7 +1,7 @@
 -- `begin::line_of_rank` meets its contract. Assumes nothing.
 use borrow.Author.Needs.{needs}
 use borrow.Author.Tests.{lt-ltb, le-ltb}
-use Rattle.writing.specs.Sets.{lineOfRank}
+use Rattle.lines.specs.Sets.{lineOfRank}
 use Rattle.begin.proofs.line_of_rank.Statement.{statement}
 use Rattle.begin.proofs.line_of_rank.Tie as tie
 

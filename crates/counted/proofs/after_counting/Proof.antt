@@ -3,7 +3,7 @@ use borrow.Author.Needs.{needs}
 use mathlib.Core.Bool.{Bool}
 use mathlib.Core.Path.{_≡_, _∙_}
 use Prim.Native.Nat.{ℕ}
-use Rattle.writing.specs.declared.Put.{Put}
+use Rattle.output.specs.declared.Put.{Put}
 use Rattle.counted.specs.Counted.{nextOf}
 use Rattle.counted.proofs.after_counting.Statement.{statement}
 use Rattle.counted.proofs.after_counting.Tie as tie

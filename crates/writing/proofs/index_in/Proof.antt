@@ -5,7 +5,7 @@ use Prim.Native.Nat.{ℕ, _+_, _*_, _^_, _≤_, _<_}
 use native.Mathlib.Nat.{mul-le-mul, add-assoc}
 use native.Mathlib.Omega.{arith}
 use lib.Arith.{digits-lt}
-use Rattle.writing.specs.Sets.{rankOf, indexIn}
+use Rattle.lines.specs.Sets.{rankOf, indexIn}
 use Rattle.writing.proofs.index_in.Statement.{statement}
 use Rattle.writing.proofs.index_in.Tie as tie
 

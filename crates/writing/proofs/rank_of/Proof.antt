@@ -1,7 +1,7 @@
 -- `writing::rank_of` meets its contract. Assumes nothing.
 use borrow.Author.Needs.{needs}
 use borrow.Author.Tests.{lt-ltb, le-ltb}
-use Rattle.writing.specs.Sets.{rankOf}
+use Rattle.lines.specs.Sets.{rankOf}
 use Rattle.writing.proofs.rank_of.Statement.{statement}
 use Rattle.writing.proofs.rank_of.Tie as tie
 

@@ -13,7 +13,7 @@ use Rattle.steps.specs.declared.Plan.{Plan}
 use Rattle.steps.proofs.TableLaws.{are-quantisers}
 use Rattle.quantiser.specs.Quantisers.{largest}
 use Rattle.writing.specs.Puts.{LineNumbers, StepsPut, StepsRoom}
-use Rattle.writing.specs.declared.Put.the-variants.{At}
+use Rattle.output.specs.declared.Put.the-variants.{At}
 use Rattle.writing.proofs.StepPuts.{no-puts, ends, room-after, goes-on, within-after, position-after, same-steps, answered}
 use Rattle.writing.proofs.TurnPuts.{before, turn-more, all-turns, before-le, before-evens-le, wanted-even}
 use Rattle.writing.proofs.TurnPuts.{wanted-odd, room-turn, room-evens, turn-wrong, pass-right, pass-wrong}

@@ -1,0 +1,5 @@
+-- The definitions of writing a block.
+pub mod WrittenBlocks
+pub mod WrittenAnswers
+pub mod WriterParts
+pub mod Words

@@ -1,2 +1,0 @@
--- A law that the proofs of exports share.
-pub mod ExportLaws

@@ -1,0 +1,2 @@
+-- A law that the proofs share.
+pub mod SameWords

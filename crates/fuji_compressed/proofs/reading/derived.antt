@@ -1,0 +1,2 @@
+pub mod fuji_read_block
+pub mod fuji_read_tight

@@ -1,0 +1,42 @@
+-- A header, a width and a range as words, all 0 where it is refused, and a refusal's words, all 0 where there is none. Assumes nothing.
+use mathlib.Core.List.{List, [], _∷_}
+use Prim.Native.Nat.{ℕ}
+use lib.ListN.{replicate}
+use Rattle.numbers.specs.Numbers.{flag}
+use Rattle.stream.specs.Refusals.{refusalWords, noRefusal}
+use Rattle.stream.specs.declared.FujiHeader.{FujiHeader}
+use Rattle.stream.specs.declared.Parsed.{Parsed}
+use Rattle.stream.specs.declared.Parsed.the-variants as Parsing
+use Rattle.stream.specs.declared.Ranged.{Ranged}
+use Rattle.stream.specs.declared.Ranged.the-variants as Range
+use Rattle.stream.specs.declared.Width.{Width}
+use Rattle.stream.specs.declared.Width.the-variants as Columns
+
+abbrev pub headerWords : FujiHeader → List ℕ
+headerWords h =
+    flag (h .lossless) ∷ flag (h .xtrans) ∷ h .bits ∷ h .height ∷ h .«rounded_width» ∷ h .width ∷ h .«block_size» ∷ h .blocks ∷ h .lines ∷ []
+
+abbrev pub parsedWords : Parsed → List ℕ
+parsedWords (Parsing.Header h) = headerWords h
+parsedWords (Parsing.Refused r) = replicate 9 0
+
+abbrev pub parsedRefusal : Parsed → List ℕ
+parsedRefusal (Parsing.Header h) = noRefusal
+parsedRefusal (Parsing.Refused r) = refusalWords r
+
+-- an offset and a length
+abbrev pub rangedWords : Ranged → List ℕ
+rangedWords (Range.At from n) = from .0 ∷ n ∷ []
+rangedWords (Range.Refused r) = replicate 2 0
+
+abbrev pub rangedRefusal : Ranged → List ℕ
+rangedRefusal (Range.At from n) = noRefusal
+rangedRefusal (Range.Refused r) = refusalWords r
+
+abbrev pub widthWords : Width → List ℕ
+widthWords (Columns.Columns n) = n ∷ []
+widthWords (Columns.Refused r) = replicate 1 0
+
+abbrev pub widthRefusal : Width → List ℕ
+widthRefusal (Columns.Columns n) = noRefusal
+widthRefusal (Columns.Refused r) = refusalWords r
