@@ -51,13 +51,16 @@ serves-small q used m h = (
   rw (lt-leb (3 * q + 18) m (omega arith), lt-leb (3 * used + 18) m (omega arith)),
   rw (lt-leb (5 * q + 67) m (omega arith), lt-leb (5 * used + 67) m (omega arith)),
   rw (lt-leb (7 * q + 276) m (omega arith), lt-leb (7 * used + 276) m (omega arith)),
+  omega arith,
+  omega arith,
+  omega arith,
 )
 
 -- so they serve a sample, by which the used base is chosen
 pub serves : (q m : ℕ) (x : Context) → m ≤ flatnessOf x → Serves (thresholdsFor q (usedBase q (choiceOf q (flatnessOf x)))) m
 serves q m x h =
     choice-cases q (flatnessOf x)
-    (λ e. rw e (refl, refl, refl))
+    (λ e. rw e (refl, refl, refl, omega arith, omega arith, omega arith))
     (λ i e l f. serves-small q (usedBase q (choiceOf q (flatnessOf x))) m (omega arith))
 
 -- what is chosen is one of four
