@@ -32,7 +32,7 @@ use Rattle.steps.specs.declared.Set.{Set}
 use Rattle.steps.proofs.ContextLaws.{context-is}
 use Rattle.steps.proofs.TableLaws.{total-is, raw-is, limit-is, total-small, reader-small}
 use Rattle.pass.specs.Readings.{Reading, taken, readStep, reads}
-use Rattle.pass.specs.Pairs.{readingAt, held, begun, placeOf, IsPair, IsPassed}
+use Rattle.pass.specs.Pairs.{readingAt, placeAt, held, begun, placeOf, IsPair, IsPassed}
 use Rattle.pass.specs.declared.Pair.{Pair}
 use Rattle.pass.specs.declared.Pair.the-variants.{At, CutOff}
 use Rattle.pass.specs.declared.Passed.{Passed}
@@ -152,9 +152,10 @@ module _ (m k limit raw : ℕ) (s : List ℕ) (from : Place) {at : BitPosition} 
 
 -- ---- where two ways meet, the same lists have other names
 
-pub met : {lines lines′ sums sums′ ns ns′ : List ℕ} {from from′ : Place} → lines ≡ lines′ → sums ≡ sums′ → ns ≡ ns′ → from ≡ from′
-    → held lines sums ns from ≡ held lines′ sums′ ns′ from′
-met el es en ef = rw (el, es, en, ef)
+pub met : {lines lines′ sums sums′ ns ns′ : List ℕ} {at at′ : BitPosition} {tight tight′ : Bool} {long long′ : ℕ}
+    → lines ≡ lines′ → sums ≡ sums′ → ns ≡ ns′ → at ≡ at′ → tight ≡ tight′ → long ≡ long′
+    → held lines sums ns (placeAt at tight long) ≡ held lines′ sums′ ns′ (placeAt at′ tight′ long′)
+met el es en ea et eo = rw (el, es, en, ea, et, eo)
 
 module _ {y z : Reading} (e : y ≡ z) where
   pub step-met : {bits q W : ℕ} {s : List ℕ} {x : Step} {r : Reading} → StepGives bits q W s x r (some z) → StepGives bits q W s x r (some y)
