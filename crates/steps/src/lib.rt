@@ -323,7 +323,8 @@ pub fn update_at(sums: &mut [u32; 112], ns: &mut [u32; 112], slot: usize, old: R
     ns[slot] = new.n;
 }
 
-// The k of each record of a set. Reading keeps them beside the set: it needs one for each code, and finding it then would hold the code up.
+// The k of each record of a set. Reading keeps them beside the set: it needs one for each code, and finding it then would hold the code up. Where the sum
+// is small it is 0, and nothing is stored: LLVM makes a shorter loop of a store that need not be made than of four at once.
 pub fn ks_of(sums: &[u32; 112], ns: &[u32; 112]) -> [u32; 112]
     requires { ⌜ SetInRange (zipRecords (now sums) (now ns)) ⌝ }
     ensures { λ r. ⌜ AreKs (zipRecords (now (sums .entry)) (now (ns .entry))) r ⌝ }
@@ -331,7 +332,10 @@ pub fn ks_of(sums: &[u32; 112], ns: &[u32; 112]) -> [u32; 112]
     let mut ks = [0u32; 112];
     let mut j = 0usize;
     while j < 112 {
-        ks[j] = record_at(sums, ns, j).k_by_lengths();
+        let t = record_at(sums, ns, j);
+        if t.n < t.sum {
+            ks[j] = t.k_by_lengths();
+        }
         j += 1;
     }
     ks

@@ -93,7 +93,7 @@ middle c = held (c .if1 .lines) (c .if1 .sums) (c .if1 .ns) (placeAt (c .if1 .at
 
 record Met (c : tie.Joined1 Inv-loop μ-loop) : Type 0 where
   read : let a = entry (c .before) .args in let l = c .before .before .loop in
-      StepsGive (a .bits) (a .qs .base) (a .w) (a .block .now) (evenPart (a .w) (a .plan) (l .p)) 
+      StepsGive (a .bits) (a .qs .base) (a .w) (a .block .now) (evenPart (a .w) (a .plan) (l .p))
       (held (l .lines) (l .sums) (l .ns) (placeAt (l .at) (l .tight) (l .long))) (some (middle c))
   in-range : SetInRange (middle c .set)
   ks-kept : AreKs (middle c .set) (c .if1 .ks)

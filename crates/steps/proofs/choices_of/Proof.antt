@@ -13,8 +13,17 @@ returns c =
     let b3 = b4 .before in
     let b2 = b3 .before in
     let b1 = b2 .before in
-    rw (b1 .choice .ensures .0, b2 .choice2 .ensures .0, b3 .choice3 .ensures .0, b4 .choice4 .ensures .0, b5 .choice5 .ensures .0, b6 .choice6 .ensures .0,
-    b7 .choice7 .ensures .0, b8 .choice8 .ensures .0, c .choice9 .ensures .0)
+    rw (
+      b1 .choice .ensures .0,
+      b2 .choice2 .ensures .0,
+      b3 .choice3 .ensures .0,
+      b4 .choice4 .ensures .0,
+      b5 .choice5 .ensures .0,
+      b6 .choice6 .ensures .0,
+      b7 .choice7 .ensures .0,
+      b8 .choice8 .ensures .0,
+      c .choice9 .ensures .0,
+    )
 
 pub choices-of-spec : {M : Type 1} → statement M
 choices-of-spec =
