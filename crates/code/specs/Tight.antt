@@ -2,16 +2,21 @@
 use mathlib.Core.Bool.{Bool, true, false, cond, _&&_}
 use mathlib.Core.List.{List, _∷_, _++_}
 use Prim.Native.Nat.{ℕ, suc, _+_, _-_, _*_, _/_, _%_, _^_}
+use lib.Count.{leadingZeros}
 use lib.Dec.{leb, ltb}
 use lib.ListN.{replicate}
 use Rattle.numbers.specs.declared.Signed.{Signed}
+use Rattle.bits.specs.Bits.{wordAt}
 use Rattle.bits.specs.BitLists.{binary}
 use Rattle.numbers.specs.Numbers.{flag}
+use Rattle.code.specs.Codes.{shortCode}
 use Rattle.code.specs.declared.Code.{Code}
 use Rattle.code.specs.declared.Coded.{Coded}
 use Rattle.code.specs.declared.Coded.the-variants.{Read, Truncated}
 use Rattle.code.specs.declared.Taken.{Taken}
 use Rattle.code.specs.declared.Taken.the-variants as Take
+use Rattle.code.specs.declared.Short.{Short}
+use Rattle.code.specs.declared.Short.the-variants as Brief
 
 -- how far it is from u up to v, where 0 follows M: (v − u) modulo M + 1
 unfoldable pub stepsUp : ℕ → ℕ → ℕ → ℕ
@@ -57,3 +62,10 @@ isTight M c = leb (c .value) M && c .minimal
 abbrev pub takenOf : ℕ → Bool → ℕ → Coded → Taken
 takenOf M tight long (Read c) = Take.Read (c .value) (c .after) (tight && isTight M c) (long + flag (c .long))
 takenOf M tight long Truncated = Take.Truncated
+
+-- the common case, at once: the word at p has its first one bit among 42, after fewer zeros than limit, and the short code there has a value up to M
+unfoldable pub shortAt : ℕ → ℕ → ℕ → List ℕ → ℕ → Short
+shortAt M k limit s p =
+    let w = wordAt s p in
+    let c = shortCode s p k (leadingZeros 64 w) in
+    cond (leb (2 ^ 22) w && ltb (c .zeros) limit && leb (c .value) M) (Brief.Code (c .value) (c .after)) Brief.Other

@@ -7,7 +7,7 @@ ghost use lib.ListN.{length};
 ghost use Rattle.bits.specs.Bits.{wordAt};
 ghost use Rattle.code.specs.Codes.{codeAt, Bounds, Small};
 ghost use Rattle.code.specs.Samples.{choiceOf, residualOf, wrap, Moved, sampleOf};
-ghost use Rattle.code.specs.Tight.{codeOfResidual, isTight, takenOf};
+ghost use Rattle.code.specs.Tight.{codeOfResidual, isTight, takenOf, shortAt};
 ghost use Rattle.code.specs.Nearest.{codeNear};
 use bits::BitPosition;
 use bits::BitPumpMsb;
@@ -35,6 +35,12 @@ pub struct Place {
     pub at: BitPosition,
     pub tight: bool,
     pub long: u64,
+}
+
+// A short code that is tight: its value and the position after it. Or whatever else is there, which the slow reader takes.
+pub enum Short {
+    Code(u32, BitPosition),
+    Other,
 }
 
 // What a pass takes of a code: its value, and where the reading is after it, in parts. As one struct that would go through memory, for the slow
@@ -118,8 +124,8 @@ pub fn is_tight(m: u32, code: Code) -> bool
     (code.value <= m) & code.minimal
 }
 
-// What a pass takes of the code at `at`, whatever it is. It is kept out of the fast reader.
-fn take_any(
+// What a pass takes of the code at `at`, whatever it is. It is called from several places, and so LLVM does not take it into the loop.
+pub fn take_any(
     s: &[u8],
     at: BitPosition,
     tight: bool,
@@ -143,33 +149,28 @@ fn take_any(
     Taken::Read(c.value, after, still_tight, now_long)
 }
 
-// The same from a place on, and at once in the common case: zeros, one bit and low bits stand in one word of 57 bits or more, and the value is at most
-// m. Such a code is short and tight, so that the verdict and the count go on as they are. The slow reader has three calls here, so that LLVM does
-// not take it into this function.
-pub fn take_code(s: &[u8], from: Place, m: u32, k: u32, limit: u32, raw: u32) -> Taken
-    requires { ⌜ (length (now s) < 2 ^ 32) × ((k ≤ 15) × ((limit < 64) × (raw ≤ 16))) ⌝ }
-    requires { ⌜ from .long ≤ from .at .0 ⌝ }
-    ensures { λ r. ⌜ (r ≡ takenOf m (from .tight) (from .long) (codeAt (now (s .entry)) (from .at .0) k limit raw)) × Small r ⌝ }
+// The same at once in the common case: zeros, one bit and low bits stand in one word of 57 bits or more, and the value is at most m. Such a code is
+// short and tight, so that the verdict and the count go on as they are, and are not asked for.
+pub fn short_code(s: &[u8], at: BitPosition, m: u32, k: u32, limit: u32) -> Short
+    requires { ⌜ (length (now s) < 2 ^ 32) × ((k ≤ 15) × (limit < 64)) ⌝ }
+    ensures { λ r. ⌜ r ≡ shortAt m k limit (now (s .entry)) (at .0) ⌝ }
 {
-    let at = from.at;
-    let tight = from.tight;
-    let long = from.long;
     let w = next_word(s, at);
     // At most 41 zeros: with the one bit and 15 low bits they are in the word.
-    if w >= 0x40_0000 {
-        let zeros = u64::leading_zeros(w);
-        if zeros < limit {
-            let used = zeros + 1 + k;
-            let low = (w >> (64 - used)) as u32 - (1 << k);
-            let value = (zeros << k) + low;
-            if value <= m {
-                return Taken::Read(value, BitPosition(at.0 + used as u64), tight, long);
-            }
-            return take_any(s, at, tight, long, m, k, limit, raw);
-        }
-        return take_any(s, at, tight, long, m, k, limit, raw);
+    if w < 0x40_0000 {
+        return Short::Other;
     }
-    take_any(s, at, tight, long, m, k, limit, raw)
+    let zeros = u64::leading_zeros(w);
+    if limit <= zeros {
+        return Short::Other;
+    }
+    let used = zeros + 1 + k;
+    let low = (w >> (64 - used)) as u32 - (1 << k);
+    let value = (zeros << k) + low;
+    if m < value {
+        return Short::Other;
+    }
+    Short::Code(value, BitPosition(at.0 + used as u64))
 }
 
 // The flatness from which on a quantiser is passed over: the main one is used where all three are.

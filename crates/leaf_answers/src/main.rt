@@ -9,7 +9,7 @@ use answers::Tally;
 use answers::word;
 use bits::BitPosition;
 use code::Coded;
-use code::Place;
+use code::Short;
 use code::Taken;
 use numbers::Signed;
 use prediction::Context;
@@ -244,6 +244,18 @@ fn readers_agree(coded: Coded, taken: Taken) -> bool {
     (value == got.value) & (at.0 == after.0)
 }
 
+// Whether a short code that is taken at once is the code that was read.
+fn short_agrees(coded: Coded, found: Short) -> bool {
+    let Short::Code(value, at) = found else {
+        return true;
+    };
+    let Coded::Read(got) = coded else {
+        return false;
+    };
+    let after = got.after;
+    (value == got.value) & (at.0 == after.0)
+}
+
 // Kind 6, from the reading of the code on.
 fn reading_agrees(w: [u32; 12], s: &[u8], c: Context, q: Quantiser, m: u32) -> bool
     requires { ⌜ (length (now s) < 2 ^ 32) × (ContextRanges c × (QuantiserRanges q × (m < 2 ^ 16))) ⌝ }
@@ -257,14 +269,11 @@ fn reading_agrees(w: [u32; 12], s: &[u8], c: Context, q: Quantiser, m: u32) -> b
     }
     let record = Record { sum: w[7], n };
     let at = BitPosition(w[2] as u64);
-    let from = Place {
-        at,
-        tight: true,
-        long: 0,
-    };
-    let coded = code::read_code(s, at, record.k(), q.limit, q.raw);
-    let taken = code::take_code(s, from, m, record.k(), q.limit, q.raw);
-    coded_agrees(w, c, q, m, coded) & readers_agree(coded, taken)
+    let k = record.k();
+    let coded = code::read_code(s, at, k, q.limit, q.raw);
+    let taken = code::take_any(s, at, true, 0, m, k, q.limit, q.raw);
+    let found = code::short_code(s, at, m, k, q.limit);
+    coded_agrees(w, c, q, m, coded) & readers_agree(coded, taken) & short_agrees(coded, found)
 }
 
 // Kind 6, from the flatness on.

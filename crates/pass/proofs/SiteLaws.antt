@@ -11,15 +11,19 @@ use Rattle.statistics.specs.Statistics.{kOf, updated}
 use Rattle.statistics.specs.declared.Record.{Record}
 use Rattle.quantiser.specs.Quantisers.{largest}
 use Rattle.prediction.specs.declared.Context.{Context}
-use Rattle.code.specs.Codes.{codeAt}
+use Rattle.bits.specs.declared.BitPosition.{BitPosition}
+use Rattle.code.specs.Codes.{codeAt, Small}
 use Rattle.code.specs.Samples.{residualOf, sampleOf}
-use Rattle.code.specs.Tight.{isTight, takenOf}
+use Rattle.code.specs.Tight.{isTight, takenOf, shortAt}
 use Rattle.code.specs.declared.Code.{Code}
 use Rattle.code.specs.declared.Coded.{Coded}
 use Rattle.code.specs.declared.Coded.the-variants.{Read, Truncated}
 use Rattle.code.specs.declared.Place.{Place}
+use Rattle.code.specs.declared.Short.{Short}
+use Rattle.code.specs.declared.Short.the-variants as Brief
 use Rattle.code.specs.declared.Taken.{Taken}
 use Rattle.code.specs.declared.Taken.the-variants as Take
+use Rattle.code.proofs.ShortLaws.{short-taken}
 use Rattle.steps.specs.Steps.{Step, stepAt}
 use Rattle.steps.specs.Contexts.{contextIn, usedQuantiser, lookOf, slotOf, noRecord}
 use Rattle.steps.specs.Values.{contextAt, zipRecords, SetInRange, AreKs, recordsOf, AreQuantisers}
@@ -28,7 +32,7 @@ use Rattle.steps.specs.declared.Set.{Set}
 use Rattle.steps.proofs.ContextLaws.{context-is}
 use Rattle.steps.proofs.TableLaws.{total-is, raw-is, limit-is, total-small, reader-small}
 use Rattle.pass.specs.Readings.{Reading, taken, readStep, reads}
-use Rattle.pass.specs.Pairs.{readingAt, held, begun, placeOf, IsPair, IsPassed}
+use Rattle.pass.specs.Pairs.{readingAt, placeAt, held, begun, placeOf, IsPair, IsPassed}
 use Rattle.pass.specs.declared.Pair.{Pair}
 use Rattle.pass.specs.declared.Pair.the-variants.{At, CutOff}
 use Rattle.pass.specs.declared.Passed.{Passed}
@@ -129,11 +133,29 @@ module _ {bits q W line p : ℕ} {s lines sums ns totals raws limits : List ℕ}
     site-read {value} {v} {after} {new} e em ev es =
         record { is = site-got coded from k ec ek ∙ got-some from after m v value new (code from k) (sym eg ∙ e) em ev es }
 
+-- ---- what is taken of the code at a place: at once, or by the slow reader
+
+pub record Takes (m k limit raw : ℕ) (s : List ℕ) (from : Place) (at : BitPosition) (tight : Bool) (long value : ℕ) : Type 0 where
+  pub is : Take.Read value at tight long ≡ takenOf m (from .tight) (from .long) (codeAt s (from .at .0) k limit raw)
+  pub small : value < 63 * 2 ^ 15
+
+module _ (m k limit raw : ℕ) (s : List ℕ) (from : Place) {at : BitPosition} {tight : Bool} {long value : ℕ} where
+  pub at-once : {got : Short} {after : BitPosition} {v : ℕ} → k ≤ 15 → limit < 64 → got ≡ shortAt m k limit s (from .at .0) → got ≡ Brief.Code v after
+      → at ≡ after → tight ≡ from .tight → long ≡ from .long → value ≡ v → Takes m k limit raw s from at tight long value
+  at-once {got} {after} {v} hk hl e g ea et el ev =
+      let t = short-taken m k limit raw s (from .at .0) (from .tight) (from .long) v after hk hl (sym e ∙ g) in
+      record { is = rw (ea, et, el, ev) (t .0); small = rw ev (t .1) }
+
+  pub slowly : {got : Taken} {after : BitPosition} {t : Bool} {l v : ℕ} → got ≡ takenOf m (from .tight) (from .long) (codeAt s (from .at .0) k limit raw)
+      → Small got → got ≡ Take.Read v after t l → at ≡ after → tight ≡ t → long ≡ l → value ≡ v → Takes m k limit raw s from at tight long value
+  slowly e b g ea et el ev = record { is = rw (ea, et, el, ev) (sym g ∙ e); small = rw ev (rw g at b) }
+
 -- ---- where two ways meet, the same lists have other names
 
-pub met : {lines lines′ sums sums′ ns ns′ : List ℕ} {from from′ : Place} → lines ≡ lines′ → sums ≡ sums′ → ns ≡ ns′ → from ≡ from′
-    → held lines sums ns from ≡ held lines′ sums′ ns′ from′
-met el es en ef = rw (el, es, en, ef)
+pub met : {lines lines′ sums sums′ ns ns′ : List ℕ} {at at′ : BitPosition} {tight tight′ : Bool} {long long′ : ℕ}
+    → lines ≡ lines′ → sums ≡ sums′ → ns ≡ ns′ → at ≡ at′ → tight ≡ tight′ → long ≡ long′
+    → held lines sums ns (placeAt at tight long) ≡ held lines′ sums′ ns′ (placeAt at′ tight′ long′)
+met el es en ea et eo = rw (el, es, en, ea, et, eo)
 
 module _ {y z : Reading} (e : y ≡ z) where
   pub step-met : {bits q W : ℕ} {s : List ℕ} {x : Step} {r : Reading} → StepGives bits q W s x r (some z) → StepGives bits q W s x r (some y)
@@ -157,25 +179,29 @@ module _ {bits q W : ℕ} {s : List ℕ} {l : List Step} {r : Reading} (lines su
   pub pair-cut-off : StepsGive bits q W s l r none → IsPair (reads bits q W s l r) lines sums ns CutOff
   pair-cut-off e = rw (e .are) refl
 
-  pub pair-at : {after : Place} → StepsGive bits q W s l r (some (held lines sums ns after)) → IsPair (reads bits q W s l r) lines sums ns (At after)
+  pub pair-at : {after : Place} → StepsGive bits q W s l r (some (held lines sums ns after))
+      → IsPair (reads bits q W s l r) lines sums ns (At (after .at) (after .tight) (after .long))
   pair-at e = rw (e .are) (refl, refl, refl)
 
 was-none : (o : Option Reading) (lines sums ns : List ℕ) (r : Pair) → IsPair o lines sums ns r → r ≡ CutOff → o ≡ none
 was-none none lines sums ns r h e = refl
 was-none (some z) lines sums ns r h e = let no : _≡_ {A = ℕ} 0 1 = cc in absurd (omega arith)
 
-was-some : (o : Option Reading) (lines sums ns : List ℕ) (r : Pair) (after : Place) → IsPair o lines sums ns r → r ≡ At after
+was-some : (o : Option Reading) (lines sums ns : List ℕ) (r : Pair) (after : Place) → IsPair o lines sums ns r
+    → r ≡ At (after .at) (after .tight) (after .long)
     → o ≡ some (held lines sums ns after)
 was-some none lines sums ns r after h e = let no : _≡_ {A = ℕ} 0 1 = cc in absurd (omega arith)
 was-some (some z) lines sums ns r after h e =
-    let a : placeOf z ≡ after = cc in
-    rw (h .1, h .2, ← a)
+    let a : z .at ≡ after .at = cc in
+    let b : z .tight ≡ after .tight = cc in
+    let c : z .long ≡ after .long = cc in
+    rw (h .1, h .2, ← a, ← b, ← c)
 
 module _ (bits q W : ℕ) (s : List ℕ) (l : List Step) (r : Reading) (lines sums ns : List ℕ) {k : Pair} (h : IsPair (reads bits q W s l r) lines sums ns k) where
   pub pair-was-cut-off : k ≡ CutOff → StepsGive bits q W s l r none
   pair-was-cut-off e = record { are = was-none (reads bits q W s l r) lines sums ns k h e }
 
-  pub pair-was-at : {after : Place} → k ≡ At after → StepsGive bits q W s l r (some (held lines sums ns after))
+  pub pair-was-at : {after : Place} → k ≡ At (after .at) (after .tight) (after .long) → StepsGive bits q W s l r (some (held lines sums ns after))
   pair-was-at {after} e = record { are = was-some (reads bits q W s l r) lines sums ns k after h e }
 
 -- ---- what a pass hands back, and what is known of it by a caller

@@ -1,14 +1,15 @@
 -- What the functions of a pass ask for, and what they hand back. Assumes nothing.
-use mathlib.Core.Bool.{true, false}
+use mathlib.Core.Bool.{Bool, true, false}
 use mathlib.Core.List.{List}
 use mathlib.Core.Option.{Option, none, some}
 use mathlib.Core.Path.{_≡_}
 use Prim.Native.Nat.{ℕ, _+_, _*_, _%_, _^_, _≤_, _<_}
 use lib.ListN.{length}
+use Rattle.bits.specs.declared.BitPosition.{BitPosition}
 use Rattle.statistics.specs.declared.Record.{Record}
 use Rattle.code.specs.declared.Place.{Place}
 use Rattle.steps.specs.Steps.{Step}
-use Rattle.steps.specs.Values.{zipRecords, recordsOf, SetInRange, AreKs, quantisersOf, AreQuantisers, Depth, PlanInRange}
+use Rattle.steps.specs.Values.{zipRecords, recordsOf, SetInRange, AreKs, choicesOf, quantisersOf, AreQuantisers, Depth, PlanInRange}
 use Rattle.steps.specs.declared.Plan.{Plan}
 use Rattle.steps.specs.declared.Quantisers.{Quantisers}
 use Rattle.steps.specs.declared.Set.{Set}
@@ -29,6 +30,10 @@ held lines sums ns from = readingAt lines (zipRecords sums ns) from
 abbrev pub begun : List ℕ → Set → Place → Reading
 begun lines t from = readingAt lines (recordsOf t) from
 
+-- a place from its parts
+abbrev pub placeAt : BitPosition → Bool → ℕ → Place
+placeAt at tight long = record { at = at; tight = tight; long = long }
+
 -- where a reading is
 abbrev pub placeOf : Reading → Place
 placeOf z = record { at = z .at; tight = z .tight; long = z .long }
@@ -39,7 +44,7 @@ PlanFits W P lines = ((P .first + 1) * (W + 2) ≤ length lines) × ((P .second 
 
 -- ---- the two samples of a position
 
-pub record PairAsks (spot : Spot) (q : ℕ) (from : Place) (s lines sums ns ks totals raws limits : List ℕ) : Type 0 where
+pub record PairAsks (spot : Spot) (q : ℕ) (from : Place) (s lines sums ns ks choices totals raws limits : List ℕ) : Type 0 where
   pub bytes : length s < 2 ^ 32
   pub width : spot .w ≤ 512
   pub inside : spot .p < spot .w
@@ -47,6 +52,7 @@ pub record PairAsks (spot : Spot) (q : ℕ) (from : Place) (s lines sums ns ks t
   pub plan : PlanInRange (spot .plan)
   pub depth : Depth (spot .bits)
   pub base : q < 256
+  pub chosen : choices ≡ choicesOf q
   pub quantisers : AreQuantisers (spot .bits) q totals raws limits
   pub records : SetInRange (zipRecords sums ns)
   pub ks-kept : AreKs (zipRecords sums ns) ks
@@ -56,7 +62,7 @@ pub record PairAsks (spot : Spot) (q : ℕ) (from : Place) (s lines sums ns ks t
 abbrev pub IsPair : Option Reading → List ℕ → List ℕ → List ℕ → Pair → Type 0
 IsPair none lines sums ns r = r ≡ CutOff
 IsPair (some z) lines sums ns r =
-    (r ≡ At (placeOf z)) × (lines ≡ z .lines) × (zipRecords sums ns ≡ z .set)
+    (r ≡ At (z .at) (z .tight) (z .long)) × (lines ≡ z .lines) × (zipRecords sums ns ≡ z .set)
 
 pub record PairGives (spot : Spot) (q : ℕ) (s : List ℕ) (l : List Step) (from : Reading) (lines sums ns ks : List ℕ) (r : Pair) : Type 0 where
   pub answer : IsPair (reads (spot .bits) q (spot .w) s l from) lines sums ns r

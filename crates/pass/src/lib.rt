@@ -1,20 +1,20 @@
 // One pass over two colour lines: the hot loop of reading. The set of statistics comes by value and goes back by value; the colour lines are lent.
 ghost use mathlib.Core.Path.{_≡_};
-ghost use Prim.Native.Nat.{_*_, _^_, _≤_, _<_};
-ghost use Rattle.code.specs.Samples.{sampleOf};
 ghost use Rattle.steps.specs.Steps.{evenSteps, oddSteps};
 ghost use Rattle.pass.specs.Windows.{windowLine, windowPlan};
-ghost use Rattle.pass.specs.Pairs.{PairAsks, PairGives, PassAsks, PassGives, held, begun};
+ghost use Rattle.pass.specs.Pairs.{PairAsks, PairGives, PassAsks, PassGives, placeAt, held, begun};
+use bits::BitPosition;
 use code::Place;
+use code::Short;
 use code::Taken;
 use steps::Plan;
 use steps::Quantisers;
 use steps::Set;
 use steps::Spot;
 
-// Where the reading is after two samples; or that no one bit was left.
+// Where the reading is after two samples, in parts; or that no one bit was left.
 pub enum Pair {
-    At(Place),
+    At(BitPosition, bool, u64),
     CutOff,
 }
 
@@ -54,127 +54,187 @@ pub fn window_plan(p: Plan, windowed: bool) -> Plan
     p
 }
 
-// The sample of a code. A lossless line, with base 0, comes first: its step is 1 there.
-fn sample_of(m: u32, base: u32, total: u32, negative: bool, prediction: u32, code: u32) -> u32
-    requires { ⌜ (m < 2 ^ 16) × ((base < 256) × ((total ≤ 2 ^ 16) × ((prediction < 2 ^ 16) × (code < 63 * 2 ^ 15)))) ⌝ }
-    ensures { λ r. ⌜ (r ≡ sampleOf m base total negative prediction code) × (r ≤ m) ⌝ }
-{
-    if base == 0 {
-        return code::sample(m, 0, total, negative, prediction, code);
-    }
-    code::sample(m, base, total, negative, prediction, code)
-}
-
-// The two samples at an even position p. It is called from one place only, and so it is taken into the loop.
+// The two samples at an even position p. It is called from one place only, and so it is taken into the loop. Where a code is short and tight, the verdict
+// and the count are not touched: as parts of what a reader hands back they would go through memory.
 fn even_pair(
     block: &[u8],
-    from: Place,
+    from: BitPosition,
+    from_tight: bool,
+    from_long: u64,
     lines: &mut [u16],
     sums: &mut [u32; 112],
     ns: &mut [u32; 112],
     ks: &mut [u32; 112],
     spot: Spot,
     base: u32,
+    choices: &[u32; 9],
     totals: &[u32; 4],
     raws: &[u32; 4],
     limits: &[u32; 4],
 ) -> Pair
-    requires { ⌜ PairAsks spot base from (now block) (now lines) (now sums) (now ns) (now ks) (now totals) (now raws) (now limits) ⌝ }
+    requires { ⌜ PairAsks spot base (placeAt from «from_tight» «from_long») (now block) (now lines) (now sums) (now ns) (now ks)
+        (now choices) (now totals) (now raws) (now limits) ⌝ }
     ensures { λ r. ⌜ PairGives spot base (now (block .entry)) (evenSteps (spot .plan) (spot .p))
-        (held (now (lines .entry)) (now (sums .entry)) (now (ns .entry)) from)
+        (held (now (lines .entry)) (now (sums .entry)) (now (ns .entry)) (placeAt from «from_tight» «from_long»))
         (now (lines .exit)) (now (sums .exit)) (now (ns .exit)) (now (ks .exit)) r ⌝ }
 {
     let m = quantiser::largest(spot.bits);
     let w = spot.w;
     let p = spot.p;
     let plan = spot.plan;
-    let mut place = from;
+    let mut at = from;
+    let mut tight = from_tight;
+    let mut long = from_long;
     let i = steps::left_of(w, plan.first, p);
     let x = steps::context_at(lines, w + 2, i, p);
     if steps::has_code(plan.first_rule, p) {
-        let h = steps::look_of(base, x);
+        let h = steps::look_by(base, choices, x);
         let q = h.choice;
         let j = steps::slot_of(p, h.place);
         let old = steps::record_at(sums, ns, j);
-        let got = code::take_code(block, place, m, steps::k_at(ks, j), limits[q], raws[q]);
-        let Taken::Read(value, at, tight, long) = got else {
-            return Pair::CutOff;
-        };
-        lines[i + 1] = sample_of(m, h.base, totals[q], h.negative, x.prediction, value) as u16;
+        let k = steps::k_at(ks, j);
+        let mut value: u32 = 0;
+        let found = code::short_code(block, at, m, k, limits[q]);
+        match found {
+            Short::Code(v, after) => {
+                value = v;
+                at = after;
+            }
+            Short::Other => {
+                let got = code::take_any(block, at, tight, long, m, k, limits[q], raws[q]);
+                let Taken::Read(v, after, still_tight, now_long) = got else {
+                    return Pair::CutOff;
+                };
+                value = v;
+                at = after;
+                tight = still_tight;
+                long = now_long;
+            }
+        }
+        lines[i + 1] = code::sample(m, h.base, totals[q], h.negative, x.prediction, value) as u16;
         steps::update_with_k(sums, ns, ks, j, old, value);
-        place = Place { at, tight, long };
     } else {
         lines[i + 1] = x.prediction as u16;
     }
     let i = steps::left_of(w, plan.second, p);
     let x = steps::context_at(lines, w + 2, i, p);
     if steps::has_code(plan.second_rule, p) {
-        let h = steps::look_of(base, x);
+        let h = steps::look_by(base, choices, x);
         let q = h.choice;
         let j = steps::slot_of(p, h.place);
         let old = steps::record_at(sums, ns, j);
-        let got = code::take_code(block, place, m, steps::k_at(ks, j), limits[q], raws[q]);
-        let Taken::Read(value, at, tight, long) = got else {
-            return Pair::CutOff;
-        };
-        lines[i + 1] = sample_of(m, h.base, totals[q], h.negative, x.prediction, value) as u16;
+        let k = steps::k_at(ks, j);
+        let mut value: u32 = 0;
+        let found = code::short_code(block, at, m, k, limits[q]);
+        match found {
+            Short::Code(v, after) => {
+                value = v;
+                at = after;
+            }
+            Short::Other => {
+                let got = code::take_any(block, at, tight, long, m, k, limits[q], raws[q]);
+                let Taken::Read(v, after, still_tight, now_long) = got else {
+                    return Pair::CutOff;
+                };
+                value = v;
+                at = after;
+                tight = still_tight;
+                long = now_long;
+            }
+        }
+        lines[i + 1] = code::sample(m, h.base, totals[q], h.negative, x.prediction, value) as u16;
         steps::update_with_k(sums, ns, ks, j, old, value);
-        place = Place { at, tight, long };
     } else {
         lines[i + 1] = x.prediction as u16;
     }
-    Pair::At(place)
+    Pair::At(at, tight, long)
 }
 
 // The two samples at an odd position p.
 fn odd_pair(
     block: &[u8],
-    from: Place,
+    from: BitPosition,
+    from_tight: bool,
+    from_long: u64,
     lines: &mut [u16],
     sums: &mut [u32; 112],
     ns: &mut [u32; 112],
     ks: &mut [u32; 112],
     spot: Spot,
     base: u32,
+    choices: &[u32; 9],
     totals: &[u32; 4],
     raws: &[u32; 4],
     limits: &[u32; 4],
 ) -> Pair
-    requires { ⌜ PairAsks spot base from (now block) (now lines) (now sums) (now ns) (now ks) (now totals) (now raws) (now limits) ⌝ }
+    requires { ⌜ PairAsks spot base (placeAt from «from_tight» «from_long») (now block) (now lines) (now sums) (now ns) (now ks)
+        (now choices) (now totals) (now raws) (now limits) ⌝ }
     ensures { λ r. ⌜ PairGives spot base (now (block .entry)) (oddSteps (spot .plan) (spot .p))
-        (held (now (lines .entry)) (now (sums .entry)) (now (ns .entry)) from)
+        (held (now (lines .entry)) (now (sums .entry)) (now (ns .entry)) (placeAt from «from_tight» «from_long»))
         (now (lines .exit)) (now (sums .exit)) (now (ns .exit)) (now (ks .exit)) r ⌝ }
 {
     let m = quantiser::largest(spot.bits);
     let w = spot.w;
     let p = spot.p;
     let plan = spot.plan;
+    let mut at = from;
+    let mut tight = from_tight;
+    let mut long = from_long;
     let i = steps::left_of(w, plan.first, p);
     let x = steps::context_at(lines, w + 2, i, p);
-    let h = steps::look_of(base, x);
+    let h = steps::look_by(base, choices, x);
     let q = h.choice;
     let j = steps::slot_of(p, h.place);
     let old = steps::record_at(sums, ns, j);
-    let got = code::take_code(block, from, m, steps::k_at(ks, j), limits[q], raws[q]);
-    let Taken::Read(value, at, tight, long) = got else {
-        return Pair::CutOff;
-    };
-    lines[i + 1] = sample_of(m, h.base, totals[q], h.negative, x.prediction, value) as u16;
+    let k = steps::k_at(ks, j);
+    let mut value: u32 = 0;
+    let found = code::short_code(block, at, m, k, limits[q]);
+    match found {
+        Short::Code(v, after) => {
+            value = v;
+            at = after;
+        }
+        Short::Other => {
+            let got = code::take_any(block, at, tight, long, m, k, limits[q], raws[q]);
+            let Taken::Read(v, after, still_tight, now_long) = got else {
+                return Pair::CutOff;
+            };
+            value = v;
+            at = after;
+            tight = still_tight;
+            long = now_long;
+        }
+    }
+    lines[i + 1] = code::sample(m, h.base, totals[q], h.negative, x.prediction, value) as u16;
     steps::update_with_k(sums, ns, ks, j, old, value);
     let i = steps::left_of(w, plan.second, p);
     let x = steps::context_at(lines, w + 2, i, p);
-    let h = steps::look_of(base, x);
+    let h = steps::look_by(base, choices, x);
     let q = h.choice;
     let j = steps::slot_of(p, h.place);
     let old = steps::record_at(sums, ns, j);
-    let between = Place { at, tight, long };
-    let got = code::take_code(block, between, m, steps::k_at(ks, j), limits[q], raws[q]);
-    let Taken::Read(value, at, tight, long) = got else {
-        return Pair::CutOff;
-    };
-    lines[i + 1] = sample_of(m, h.base, totals[q], h.negative, x.prediction, value) as u16;
+    let k = steps::k_at(ks, j);
+    let mut value: u32 = 0;
+    let found = code::short_code(block, at, m, k, limits[q]);
+    match found {
+        Short::Code(v, after) => {
+            value = v;
+            at = after;
+        }
+        Short::Other => {
+            let got = code::take_any(block, at, tight, long, m, k, limits[q], raws[q]);
+            let Taken::Read(v, after, still_tight, now_long) = got else {
+                return Pair::CutOff;
+            };
+            value = v;
+            at = after;
+            tight = still_tight;
+            long = now_long;
+        }
+    }
+    lines[i + 1] = code::sample(m, h.base, totals[q], h.negative, x.prediction, value) as u16;
     steps::update_with_k(sums, ns, ks, j, old, value);
-    Pair::At(Place { at, tight, long })
+    Pair::At(at, tight, long)
 }
 
 // A pass: at each turn an even position, and the odd one seven before it, where they are positions of the line.
@@ -194,40 +254,50 @@ pub fn pass(
     let mut sums = set.sums;
     let mut ns = set.ns;
     let mut ks = steps::ks_of(&sums, &ns);
+    let choices = steps::choices_of(qs.base);
     let totals = qs.totals;
     let raws = qs.raws;
     let limits = qs.limits;
     let base = qs.base;
-    let mut place = from;
+    let mut at = from.at;
+    let mut tight = from.tight;
+    let mut long = from.long;
     let mut p = 0usize;
     while p < w + 8 {
         if p < w {
             let got = even_pair(
                 block,
-                place,
+                at,
+                tight,
+                long,
                 lines,
                 &mut sums,
                 &mut ns,
                 &mut ks,
                 Spot { w, bits, plan, p },
                 base,
+                &choices,
                 &totals,
                 &raws,
                 &limits,
             );
-            let Pair::At(after) = got else {
+            let Pair::At(after, still_tight, now_long) = got else {
                 return Passed {
                     ok: false,
-                    place,
+                    place: from,
                     set: Set { sums, ns },
                 };
             };
-            place = after;
+            at = after;
+            tight = still_tight;
+            long = now_long;
         }
         if p >= 8 {
             let got = odd_pair(
                 block,
-                place,
+                at,
+                tight,
+                long,
                 lines,
                 &mut sums,
                 &mut ns,
@@ -239,24 +309,27 @@ pub fn pass(
                     p: p - 7,
                 },
                 base,
+                &choices,
                 &totals,
                 &raws,
                 &limits,
             );
-            let Pair::At(after) = got else {
+            let Pair::At(after, still_tight, now_long) = got else {
                 return Passed {
                     ok: false,
-                    place,
+                    place: from,
                     set: Set { sums, ns },
                 };
             };
-            place = after;
+            at = after;
+            tight = still_tight;
+            long = now_long;
         }
         p += 2;
     }
     Passed {
         ok: true,
-        place,
+        place: Place { at, tight, long },
         set: Set { sums, ns },
     }
 }

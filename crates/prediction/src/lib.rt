@@ -15,8 +15,10 @@ pub struct Context {
 fn dropped(rf: u32, rc: u32, rd: u32, f: u32, c: u32, d: u32) -> u32
     ensures { λ r. ⌜ (r ≡ droppedOf rf rc rd f c d) × (r ≤ rf + rc + rd) ⌝ }
 {
-    let other = numbers::pick(numbers::larger(f, c) < d, rd, rf);
-    numbers::pick(numbers::larger(f, d) < c, rc, other)
+    let first = numbers::pick(f < c, rc, rf);
+    let second = numbers::pick(f < d, rd, rf);
+    let other = numbers::pick(c < d, second, rf);
+    numbers::pick(d < c, first, other)
 }
 
 fn even_prediction(rf: u32, rc: u32, rb: u32, rd: u32) -> u32

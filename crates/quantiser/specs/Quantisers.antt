@@ -55,10 +55,12 @@ startSum Q = max 2 ((Q .total + 32) / 64)
 abbrev pub thresholdsOf : ℕ → Thresholds
 thresholdsOf q = record { base = q; second = 3 * q + 18; third = 5 * q + 67; fourth = 7 * q + 276 }
 
--- thresholds serve a difference of size m if it has reached the second, the third and the fourth just where it has reached those of their base
+-- thresholds serve a difference of size m if it has reached the second, the third and the fourth just where it has reached those of their base, and none
+-- of these is 0
 abbrev pub Serves : Thresholds → ℕ → Type 0
 Serves t m =
     (leb (t .second) m ≡ leb (3 * t .base + 18) m) × (leb (t .third) m ≡ leb (5 * t .base + 67) m) × (leb (t .fourth) m ≡ leb (7 * t .base + 276) m)
+    × (1 ≤ t .second) × (1 ≤ t .third) × (1 ≤ t .fourth)
 
 -- the size of the level of a difference of size m by these thresholds
 unfoldable pub levelSize : ℕ → ℕ → ℕ

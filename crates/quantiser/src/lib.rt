@@ -110,11 +110,12 @@ impl Thresholds {
     }
 }
 
-// 1 if m has reached the threshold, else 0.
+// 1 if m has reached the threshold, else 0. It is above the number before it: so asked, LLVM adds the carry of the test.
 fn reached(threshold: u32, m: u32) -> u32
+    requires { ⌜ 1 ≤ threshold ⌝ }
     ensures { λ r. ⌜ (r ≡ flag (leb threshold m)) × (r ≤ 1) ⌝ }
 {
-    numbers::flag(threshold <= m)
+    numbers::flag(threshold - 1 < m)
 }
 
 // The size of the level of a difference of size m: the thresholds that it has reached, the first one passed, counted without a branch.

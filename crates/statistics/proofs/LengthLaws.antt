@@ -4,7 +4,8 @@ use mathlib.Core.Path.{_≡_, refl}
 use Prim.Native.Nat.{ℕ, suc, _+_, _-_, _*_, _^_, _≤_, _<_, min, max}
 use native.Mathlib.Omega.{arith}
 use native.Mathlib.Nat.{lt-of-lt-of-le, mul-pos, mul-le-mul-right, pow-succ'}
-use lib.Count.{leadingZeros, leading-top, leading-length}
+use lib.Bits.{bitOr, or-lt, or-add-and, and-le-l, and-le-r}
+use lib.Count.{leadingZeros, leading-top, leading-length, leading-unique}
 use lib.Dec.{ltb}
 use lib.Pow.{pow-add, pow-mono, pow-pos, shl-lt}
 use borrow.Author.Tests.{ltb-true, ltb-false}
@@ -13,6 +14,26 @@ use Rattle.numbers.proofs.OrderLaws.{split}
 use Rattle.statistics.specs.Statistics.{kOf, InRange}
 use Rattle.statistics.specs.declared.Record.{Record}
 use Rattle.statistics.proofs.RecordLaws.{k-least, sum-lt}
+
+-- of two numbers, digit by digit, the leading zeros are those of the longer one
+or-least : (a b : ℕ) → (a ≤ bitOr a b) × (b ≤ bitOr a b)
+or-least a b = (omega (arith, or-add-and a b, and-le-r a b), omega (arith, or-add-and a b, and-le-l a b))
+
+pub leading-or : (k a b : ℕ) → a < 2 ^ k → b < 2 ^ k → leadingZeros k (bitOr a b) ≡ min (leadingZeros k a) (leadingZeros k b)
+leading-or k a b ha hb =
+    let p = leading-length k a ha in
+    let q = leading-length k b hb in
+    let least = or-least a b in
+    split (p .0) (q .0)
+    (λ le.
+    let top = or-lt (q .0) a b (lt-of-lt-of-le (p .2) (pow-mono le)) (q .2) in
+    let e = leading-unique k (bitOr a b) (leadingZeros k b) (q .0) (q .1) top (omega (arith, q .3, least .1)) in
+    omega (arith, e, p .1, q .1))
+    (λ lt.
+    let le : q .0 ≤ p .0 = omega arith in
+    let top = or-lt (p .0) a b (p .2) (lt-of-lt-of-le (q .2) (pow-mono le)) in
+    let e = leading-unique k (bitOr a b) (leadingZeros k a) (p .0) (p .1) top (omega (arith, p .3, least .0)) in
+    omega (arith, e, p .1, q .1))
 
 -- what the lengths tell: no number below e is enough, and e + 1 is; the machine's shift by e loses nothing
 pub record Near (sum n e : ℕ) : Type 0 where

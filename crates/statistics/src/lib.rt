@@ -1,6 +1,7 @@
 // The adaptive statistics: a record gives the number k of a code's low bits, and each residual changes it.
 ghost use mathlib.Core.Path.{_≡_};
 ghost use Prim.Native.Nat.{_+_, _-_, _*_, _^_, _≤_, _<_};
+ghost use lib.Count.{leadingZeros};
 ghost use Rattle.numbers.specs.Numbers.{leastFrom};
 ghost use Rattle.statistics.specs.Statistics.{enough, kOf, updated, largestResidual, InRange};
 
@@ -38,6 +39,13 @@ fn too_small_from(sum: u32, n: u32, k: u32) -> u32
     count
 }
 
+// By how many binary digits sum is longer than n, 0 where it is not. Both together are as long as the longer one, so that nothing is compared.
+fn longer(sum: u32, n: u32) -> u32
+    ensures { λ r. ⌜ r ≡ leadingZeros 32 n - leadingZeros 32 sum ⌝ }
+{
+    u32::leading_zeros(n) - u32::leading_zeros(sum | n)
+}
+
 impl Record {
     // The k of the record.
     pub fn k(self) -> u32
@@ -53,10 +61,7 @@ impl Record {
         requires { ⌜ InRange self ⌝ }
         ensures { λ r. ⌜ (r ≡ kOf self) × (r ≤ 15) ⌝ }
     {
-        let least = numbers::saturating_sub(
-            u32::leading_zeros(self.n),
-            u32::leading_zeros(self.sum),
-        );
+        let least = longer(self.sum, self.n);
         let mut k = least;
         let mut j = least;
         while j < least + 1 {

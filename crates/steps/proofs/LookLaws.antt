@@ -1,9 +1,10 @@
 -- What the coding of a sample goes by: which quantiser is chosen, and that its record is one of 56. Assumes nothing.
-use mathlib.Core.Bool.{Bool, true, false, _&&_, false≢true}
-use mathlib.Core.Path.{_≡_, refl}
-use Prim.Native.Nat.{ℕ, suc, _+_, _-_, _*_, _≤_, _<_}
+use mathlib.Core.Bool.{Bool, true, false, _&&_, and-false, false≢true}
+use mathlib.Core.Path.{_≡_, refl, sym, _∙_}
+use Prim.Native.Nat.{ℕ, zero, suc, _+_, _-_, _*_, _≤_, _<_, min}
 use native.Mathlib.Omega.{arith}
 use lib.Dec.{leb, lit<}
+use lib.ListN.{getD}
 use borrow.Author.Tests.{leb-true, lt-leb, ne-eqb}
 use Rattle.quantiser.specs.Quantisers.{Serves, gradientOf}
 use Rattle.quantiser.specs.declared.Thresholds.{Thresholds}
@@ -11,7 +12,10 @@ use Rattle.quantiser.proofs.GradientLaws.{main-le, flat-le}
 use Rattle.prediction.specs.Predictions.{flatnessOf}
 use Rattle.prediction.specs.declared.Context.{Context}
 use Rattle.code.specs.Samples.{choiceOf}
+use Rattle.numbers.proofs.OrderLaws.{split}
 use Rattle.steps.specs.Contexts.{usedBase, lookOf}
+use Rattle.steps.specs.Values.{choicesOf}
+use Rattle.steps.specs.declared.Look.{Look}
 
 either {ℓ} : {X : Type ℓ} (t : Bool) → (t ≡ true → X) → (t ≡ false → X) → X
 either true f g = f refl
@@ -33,6 +37,29 @@ choice-cases q f main flat =
     (λ c. flat 2 (rw (a, b, c)) (lit< tt) (leb-true f 7 (second (leb 3 q) (leb f 7) c)))
     (λ c. main (rw (a, b, c)))))
 
+-- the choices for flatness 0 to 8, as they are listed; for more nothing else is chosen
+listed : (q f : ℕ) → f < 9 → getD (choicesOf q) f 0 ≡ choiceOf q f
+listed q zero h = refl
+listed q (suc zero) h = refl
+listed q (suc (suc zero)) h = refl
+listed q (suc (suc (suc zero))) h = refl
+listed q (suc (suc (suc (suc zero)))) h = refl
+listed q (suc (suc (suc (suc (suc zero))))) h = refl
+listed q (suc (suc (suc (suc (suc (suc zero)))))) h = refl
+listed q (suc (suc (suc (suc (suc (suc (suc zero))))))) h = refl
+listed q (suc (suc (suc (suc (suc (suc (suc (suc zero)))))))) h = refl
+listed q (suc (suc (suc (suc (suc (suc (suc (suc (suc f))))))))) h = absurd (omega arith)
+
+no-flat : (q f : ℕ) → 8 ≤ f → choiceOf q f ≡ 0
+unfolding choiceOf
+no-flat q f h = rw (lt-leb f 5 (omega arith), lt-leb f 6 (omega arith), lt-leb f 7 h, and-false (leb 1 q), and-false (leb 2 q), and-false (leb 3 q))
+
+pub choice-listed : (q f : ℕ) → getD (choicesOf q) (min 8 f) 0 ≡ choiceOf q f
+choice-listed q f =
+    split 8 f
+    (λ le. let m : min 8 f ≡ 8 = omega arith in rw m (no-flat q 8 (omega arith) ∙ sym (no-flat q f le)))
+    (λ lt. let m : min 8 f ≡ f = omega arith in rw m (listed q f (omega arith)))
+
 -- so the record is one of 56
 pub place-lt : (q : ℕ) (x : Context) → (lookOf q x) .place < 56
 unfolding lookOf
@@ -51,13 +78,16 @@ serves-small q used m h = (
   rw (lt-leb (3 * q + 18) m (omega arith), lt-leb (3 * used + 18) m (omega arith)),
   rw (lt-leb (5 * q + 67) m (omega arith), lt-leb (5 * used + 67) m (omega arith)),
   rw (lt-leb (7 * q + 276) m (omega arith), lt-leb (7 * used + 276) m (omega arith)),
+  omega arith,
+  omega arith,
+  omega arith,
 )
 
 -- so they serve a sample, by which the used base is chosen
 pub serves : (q m : ℕ) (x : Context) → m ≤ flatnessOf x → Serves (thresholdsFor q (usedBase q (choiceOf q (flatnessOf x)))) m
 serves q m x h =
     choice-cases q (flatnessOf x)
-    (λ e. rw e (refl, refl, refl))
+    (λ e. rw e (refl, refl, refl, omega arith, omega arith, omega arith))
     (λ i e l f. serves-small q (usedBase q (choiceOf q (flatnessOf x))) m (omega arith))
 
 -- what is chosen is one of four
@@ -74,3 +104,8 @@ pub look-lossless : (x : Context)
     }
 unfolding lookOf choiceOf
 look-lossless x = refl
+
+-- what holds of a lossless line holds where the line's base is 0
+pub in-lossless : {q : ℕ} (x : Context) {r : Look} → q ≡ 0 → (r ≡ lookOf 0 x) × ((r .choice ≤ 3) × ((r .base < 256) × (r .place < 56)))
+    → (r ≡ lookOf q x) × ((r .choice ≤ 3) × ((r .base < 256) × (r .place < 56)))
+in-lossless x e h = rw e h

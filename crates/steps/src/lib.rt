@@ -4,11 +4,11 @@ ghost use mathlib.Core.Bool.{true, not};
 ghost use Prim.Native.Nat.{_+_, _*_, _^_, _≤_, _<_};
 ghost use lib.ListN.{length, getD, set};
 ghost use Rattle.statistics.specs.Statistics.{updated, InRange};
-ghost use Rattle.prediction.specs.Predictions.{ContextRanges};
-ghost use Rattle.code.specs.Samples.{residualOf};
+ghost use Rattle.prediction.specs.Predictions.{ContextRanges, flatnessOf};
+ghost use Rattle.code.specs.Samples.{residualOf, choiceOf};
 ghost use Rattle.steps.specs.Steps.{interpolated, planOf, isInterpolated};
 ghost use Rattle.steps.specs.Contexts.{usedBase, usedWeight, placeOf, lookOf, slotOf, noRecord};
-ghost use Rattle.steps.specs.Values.{zipRecords, SetInRange, AreKs, evenAt, oddAt, contextAt};
+ghost use Rattle.steps.specs.Values.{zipRecords, SetInRange, AreKs, choicesOf, evenAt, oddAt, contextAt};
 use numbers::u16_to_u32;
 use prediction::Context;
 use statistics::Record;
@@ -213,22 +213,26 @@ fn place_of(choice: u32, size: u32) -> usize
     (36 + 5 * choice + size) as usize
 }
 
-// What a sample's coding goes by. A lossless line, with base 0, comes first: its thresholds are constants there. In a lossy one the thresholds of the
-// line's base serve flat quantisers too, whose differences are small; so only the first threshold waits for the choice.
-pub fn look_of(base: u32, x: Context) -> Look
-    requires { ⌜ (base < 256) × ContextRanges x ⌝ }
+// What a sample's coding goes by in a lossless line, with base 0: its thresholds are constants.
+fn lossless_look(x: Context) -> Look
+    requires { ⌜ ContextRanges x ⌝ }
+    ensures { λ r. ⌜ (r ≡ lookOf 0 x) × ((r .choice ≤ 3) × ((r .base < 256) × (r .place < 56))) ⌝ }
+{
+    let g = quantiser::gradient(0, 9, x.first, x.second);
+    Look {
+        choice: 0,
+        base: 0,
+        negative: g.negative,
+        place: g.size as usize,
+    }
+}
+
+// The same in any line, once its quantiser is chosen. The thresholds of the line's base serve flat quantisers too, whose differences are small; so only
+// the first threshold waits for the choice.
+fn look_with(base: u32, choice: u32, x: Context) -> Look
+    requires { ⌜ (base < 256) × ((choice ≤ 3) × ((choice ≡ choiceOf base (flatnessOf x)) × ContextRanges x)) ⌝ }
     ensures { λ r. ⌜ (r ≡ lookOf base x) × ((r .choice ≤ 3) × ((r .base < 256) × (r .place < 56))) ⌝ }
 {
-    if base == 0 {
-        let g = quantiser::gradient(0, 9, x.first, x.second);
-        return Look {
-            choice: 0,
-            base: 0,
-            negative: g.negative,
-            place: g.size as usize,
-        };
-    }
-    let choice = code::choice(base, x.flatness());
     let used = used_base(choice, base);
     let t = quantiser::thresholds_of(base).with_base(used);
     let g = quantiser::gradient_by(t, used_weight(choice), x.first, x.second);
@@ -238,6 +242,53 @@ pub fn look_of(base: u32, x: Context) -> Look
         negative: g.negative,
         place: place_of(choice, g.size),
     }
+}
+
+// What a sample's coding goes by. A lossless line comes first.
+pub fn look_of(base: u32, x: Context) -> Look
+    requires { ⌜ (base < 256) × ContextRanges x ⌝ }
+    ensures { λ r. ⌜ (r ≡ lookOf base x) × ((r .choice ≤ 3) × ((r .base < 256) × (r .place < 56))) ⌝ }
+{
+    if base == 0 {
+        return lossless_look(x);
+    }
+    look_with(base, code::choice(base, x.flatness()), x)
+}
+
+// The quantisers that a line with that base chooses for flatness 0 to 7, and from 8 on.
+pub fn choices_of(base: u32) -> [u32; 9]
+    ensures { λ r. ⌜ r ≡ choicesOf base ⌝ }
+{
+    [
+        code::choice(base, 0),
+        code::choice(base, 1),
+        code::choice(base, 2),
+        code::choice(base, 3),
+        code::choice(base, 4),
+        code::choice(base, 5),
+        code::choice(base, 6),
+        code::choice(base, 7),
+        code::choice(base, 8),
+    ]
+}
+
+// The quantiser for a flatness, by them. Reading has one to choose for each code, and a list of nine is shorter than three tests.
+fn choice_by(base: u32, choices: &[u32; 9], flatness: u32) -> u32
+    requires { ⌜ now choices ≡ choicesOf base ⌝ }
+    ensures { λ r. ⌜ (r ≡ choiceOf base flatness) × (r ≤ 3) ⌝ }
+{
+    choices[numbers::smaller(8, flatness) as usize]
+}
+
+// `look_of` for whoever has the choices of the line's base at hand.
+pub fn look_by(base: u32, choices: &[u32; 9], x: Context) -> Look
+    requires { ⌜ (base < 256) × ((now choices ≡ choicesOf base) × ContextRanges x) ⌝ }
+    ensures { λ r. ⌜ (r ≡ lookOf base x) × ((r .choice ≤ 3) × ((r .base < 256) × (r .place < 56))) ⌝ }
+{
+    if base == 0 {
+        return lossless_look(x);
+    }
+    look_with(base, choice_by(base, choices, x.flatness()), x)
 }
 
 // Where the record of a sample at position p is in its set, if it is at that place among the 56 of its parity.
@@ -272,7 +323,8 @@ pub fn update_at(sums: &mut [u32; 112], ns: &mut [u32; 112], slot: usize, old: R
     ns[slot] = new.n;
 }
 
-// The k of each record of a set. Reading keeps them beside the set: it needs one for each code, and finding it then would hold the code up.
+// The k of each record of a set. Reading keeps them beside the set: it needs one for each code, and finding it then would hold the code up. Where the sum
+// is small it is 0, and nothing is stored: LLVM makes a shorter loop of a store that need not be made than of four at once.
 pub fn ks_of(sums: &[u32; 112], ns: &[u32; 112]) -> [u32; 112]
     requires { ⌜ SetInRange (zipRecords (now sums) (now ns)) ⌝ }
     ensures { λ r. ⌜ AreKs (zipRecords (now (sums .entry)) (now (ns .entry))) r ⌝ }
@@ -280,7 +332,10 @@ pub fn ks_of(sums: &[u32; 112], ns: &[u32; 112]) -> [u32; 112]
     let mut ks = [0u32; 112];
     let mut j = 0usize;
     while j < 112 {
-        ks[j] = record_at(sums, ns, j).k_by_lengths();
+        let t = record_at(sums, ns, j);
+        if t.n < t.sum {
+            ks[j] = t.k_by_lengths();
+        }
         j += 1;
     }
     ks

@@ -10,7 +10,7 @@ use Rattle.quantiser.proofs.gradient.Statement.{statement}
 use Rattle.quantiser.proofs.gradient.Tie as tie
 
 own : (t : Thresholds) (q m : ℕ) → t ≡ thresholdsOf q → Serves t m
-own t q m e = rw e (refl, refl, refl)
+own t q m e = rw e (refl, refl, refl, omega arith, omega arith, omega arith)
 
 base : (t : Thresholds) (q : ℕ) → t ≡ thresholdsOf q → q < 256 → t .base < 256
 base t q e h = rw e h

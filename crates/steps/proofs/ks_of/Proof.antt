@@ -1,11 +1,12 @@
 -- `steps::ks_of` meets its contract: the ks of the records before j are there. Assumes nothing.
 use borrow.Author.Needs.{needs}
+use mathlib.Core.Logic.{⊎-elim}
 use mathlib.Core.Path.{refl, ap, _∙_}
-use Prim.Native.Nat.{_-_, _≤_}
+use Prim.Native.Nat.{_+_, _-_, _≤_}
 use native.Mathlib.Omega.{arith}
 use Rattle.statistics.specs.Statistics.{kOf}
 use Rattle.steps.specs.Values.{zipRecords}
-use Rattle.steps.proofs.KLaws.{KsUpto, one-more-k}
+use Rattle.steps.proofs.KLaws.{KsUpto, zeros, one-more-k, one-more-zero, ks-named}
 use Rattle.steps.proofs.ks_of.Statement.{statement}
 use Rattle.steps.proofs.ks_of.Tie as tie
 
@@ -16,12 +17,23 @@ abbrev μ-loop : tie.MeasureT-loop
 μ-loop sums ns ks₀ j₀ ks j = 112 - j
 
 loop-holds : tie.Need-loop-holds Inv-loop μ-loop
-loop-holds c = (omega arith, record { all = search needs; each = λ j h. absurd (omega arith) })
+loop-holds c = (omega arith, record { all = search needs; each = λ j h. absurd (omega arith); rest = λ j h. zeros 112 j })
+
+-- the record of this turn
+abbrev turn : tie.Joined1 Inv-loop μ-loop → tie.In-loop Inv-loop μ-loop
+turn c = c .before .before .before
 
 loop-again : tie.Need-loop-again Inv-loop μ-loop
 loop-again c =
-    let l = c .before .before .before .loop in
-    (search needs, one-more-k (l .inv .1) (search needs) (c .k-by-lengths .ensures .0 ∙ ap kOf (c .before .record-at .ensures .0)))
+    let t = turn c in
+    let l = t .before .loop in
+    let r = c .before .before .record-at in
+    let upto : KsUpto (l .j + 1) (zipRecords (t .before .before .args .sums .now) (t .before .before .args .ns .now)) (c .if1 .ks) =
+    ⊎-elim
+    (λ w. ks-named (w .2) (one-more-k (l .inv .1) (t .loop-test .taken) (w .1 .ensures .0 ∙ ap kOf (r .ensures .0))))
+    (λ w. ks-named (w .1) (one-more-zero (r .result) (l .inv .1) (r .ensures .0) (r .ensures .1 .some) (w .0 .left)))
+    (c .if1 .came) in
+    (omega (arith, t .loop-test .taken), upto)
 
 returns : tie.Need-returns Inv-loop μ-loop
 returns c =

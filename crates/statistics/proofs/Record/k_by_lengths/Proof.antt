@@ -28,8 +28,8 @@ abbrev μ-loop : tie.MeasureT-loop
 μ-loop self least k₀ j₀ k j = least + 1 - j
 
 -- `least` is near k
-is-near : (c : tie.After-saturating-sub Inv-loop μ-loop) → let t = c .before .before .before .args .self in Near (t .sum) (t .n) (c .saturating-sub .result)
-is-near c = let s = c .before .before .before in lengths-near (s .args .self) (s .pre) (c .saturating-sub .ensures)
+is-near : (c : tie.After-longer Inv-loop μ-loop) → let t = c .before .args .self in Near (t .sum) (t .n) (c .longer .result)
+is-near c = let s = c .before in lengths-near (s .args .self) (s .pre) (c .longer .ensures)
 
 first : (t : Record) (e k j : ℕ) → Sofar t e k j → j < e + 1 → (j ≡ e) × (k ≡ e)
 first t e k j v lt = ⊎-elim (λ w. w) (λ w. absurd (omega (arith, w .0, lt))) v
@@ -50,7 +50,7 @@ loop-holds c = inl (refl, refl)
 abbrev turn : tie.After-flag Inv-loop μ-loop → tie.In-loop Inv-loop μ-loop
 turn c = c .before .before .before
 
-small : (l : tie.At-loop Inv-loop μ-loop) → l .before .saturating-sub .result < 32
+small : (l : tie.At-loop Inv-loop μ-loop) → l .before .longer .result < 32
 small l = is-near (l .before) .small
 
 shl-flag : tie.Need-shl-flag Inv-loop μ-loop
@@ -71,7 +71,7 @@ loop-again c = let t = turn c in more _ _ _ _ _ (t .before .loop .inv) (t .loop-
 returns : tie.Need-returns Inv-loop μ-loop
 returns c =
     let l = c .before .before in
-    let s = l .before .before .before .before in
+    let s = l .before .before in
     found (s .args .self) _ _ _ (c .smaller .result) (s .pre) (is-near (l .before)) (l .loop .inv) (c .before .loop-test .left) (c .smaller .ensures .0)
 
 pub k-by-lengths-spec : {M : Type 1} → statement M
