@@ -377,9 +377,10 @@ def check(crates, wanted):
     """All anew, beside the committed ones."""
     d, bad = f"{WORK}/made", 0
     shutil.rmtree(d, ignore_errors=True)
-    # a crate's twins are in a folder of their own, and Rattle writes nearly all of the time
+    loaded = [c.load(crates) for c in wanted]
+    # A crate's twins are in a folder of their own, and nearly all of the time is Rattle's: so crates are made side by side.
     with ThreadPoolExecutor(os.cpu_count()) as pool:
-        list(pool.map(lambda c: make(c.load(crates), f"{d}/crates/{c.name}/proofs"), wanted))
+        list(pool.map(lambda c: make(c, f"{d}/crates/{c.name}/proofs"), loaded))
     put(f"{d}/crates.txt", "\n".join(f"{c.name}:" for c in wanted))
     subprocess.run(["rt", "fmt"], cwd=d, capture_output=True)
     for c in wanted:
