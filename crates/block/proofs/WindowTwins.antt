@@ -18,6 +18,7 @@ use Rattle.map.specs.Places.{widthOf}
 use Rattle.map.proofs.PartLaws.{by-test}
 use Rattle.steps.specs.Steps.{planOf}
 use Rattle.steps.specs.declared.Plan.{Plan}
+use Rattle.steps.proofs.KLaws.{zeros}
 use Rattle.pass.specs.Readings.{Reading, readPass}
 use Rattle.pass.specs.Pairs.{readingAt}
 use Rattle.pass.specs.Windows.{windowLine, placed, windowPlan}
@@ -304,13 +305,8 @@ held-turn true W l v v' long e H =
     })
 
 -- a block starts with 0 everywhere
-zero-at : (n i : ℕ) → _≡_ {A = ℕ} (getD (replicate n 0) i 0) 0
-zero-at zero i = refl
-zero-at (suc n) zero = refl
-zero-at (suc n) (suc i) = zero-at n i
-
 zeros-same : (W L k n m : ℕ) → Latest W L k (replicate n 0) (replicate m 0)
-zeros-same W L k n m = record { above = λ p h. zero-at n _ ∙ sym (zero-at m _); line = λ d h. zero-at n _ ∙ sym (zero-at m _) }
+zeros-same W L k n m = record { above = λ p h. zeros n _ ∙ sym (zeros m _); line = λ d h. zeros n _ ∙ sym (zeros m _) }
 
 pub held-start : (windowed xtrans : Bool) (v : List ℕ) → v ≡ zerosIn windowed xtrans → Held windowed (widthOf xtrans) 6 (zeroLines (widthOf xtrans)) v
 held-start false xtrans v e = e

@@ -1,22 +1,12 @@
 -- Predictions lie among the samples that they are made from. Assumes nothing.
 use mathlib.Core.Bool.{Bool, true, false, cond, _&&_, _||_}
 use mathlib.Core.Path.{_≡_, refl}
-use Prim.Native.Nat.{ℕ, _+_, _-_, _*_, _/_, _≤_, _<_, max}
+use Prim.Native.Nat.{ℕ, _+_, _-_, _*_, _/_, _≤_, _<_}
 use native.Mathlib.Omega.{arith}
 use lib.Dec.{ltb}
-use borrow.Author.Tests.{lt-ltb, le-ltb}
 use Rattle.numbers.specs.Numbers.{distance}
-use Rattle.numbers.proofs.OrderLaws.{split, cond-le}
+use Rattle.numbers.proofs.OrderLaws.{cond-le}
 use Rattle.prediction.specs.Predictions.{most, droppedOf, evenPrediction, extreme, oddPrediction}
-
--- a is more than both others exactly where it is more than the larger of them
-pub most-is : (a b c : ℕ) → ltb (max b c) a ≡ most a b c
-most-is a b c =
-    split a b
-    (λ h. rw (le-ltb (max b c) a (omega arith), le-ltb b a h))
-    (λ h. split a c
-    (λ k. rw (le-ltb (max b c) a (omega arith), lt-ltb b a h, le-ltb c a k))
-    (λ k. rw (lt-ltb (max b c) a (omega arith), lt-ltb b a h, lt-ltb c a k)))
 
 -- what is dropped is one of the three
 pub dropped-le : (rf rc rd : ℕ) (s t : Bool) → cond s rc (cond t rd rf) ≤ rf + rc + rd
