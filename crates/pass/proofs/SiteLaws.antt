@@ -3,13 +3,14 @@ use mathlib.Core.Bool.{Bool, true, false, _&&_, false≢true}
 use mathlib.Core.List.{List}
 use mathlib.Core.Option.{Option, none, some}
 use mathlib.Core.Path.{_≡_, refl, sym, ap, _∙_}
-use Prim.Native.Nat.{ℕ, _+_, _*_, _^_, _≤_, _<_}
+use Prim.Native.Nat.{ℕ, _+_, _-_, _*_, _^_, _≤_, _<_}
 use native.Mathlib.Omega.{arith}
 use lib.ListN.{length, getD, set}
 use Rattle.numbers.specs.Numbers.{flag}
 use Rattle.statistics.specs.Statistics.{kOf, updated}
 use Rattle.statistics.specs.declared.Record.{Record}
-use Rattle.quantiser.specs.Quantisers.{largest}
+use Rattle.quantiser.specs.Quantisers.{largest, quantiserOf}
+use Rattle.quantiser.specs.declared.Quantiser.{Quantiser}
 use Rattle.prediction.specs.declared.Context.{Context}
 use Rattle.bits.specs.declared.BitPosition.{BitPosition}
 use Rattle.code.specs.Codes.{codeAt, Small}
@@ -23,13 +24,13 @@ use Rattle.code.specs.declared.Taken.{Taken}
 use Rattle.code.specs.declared.Taken.the-variants as Take
 use Rattle.steps.specs.Steps.{Step, stepAt}
 use Rattle.steps.specs.Contexts.{usedBase, usedWeight, usedQuantiser, lookOf, slotOf, noRecord}
-use Rattle.steps.specs.Values.{contextAt, zipRecords, SetInRange, AreKs, recordsOf, quantisersOf, AreQuantisers}
+use Rattle.steps.specs.Values.{contextAt, zipRecords, SetInRange, AreKs, recordsOf, quantisersOf, Depth}
 use Rattle.steps.specs.declared.Look.{Look}
 use Rattle.steps.specs.declared.Set.{Set}
 use Rattle.steps.proofs.ContextLaws.{context-is}
-use Rattle.steps.proofs.TableLaws.{limit-at, numbers-le, total-is, raw-is, total-small, reader-small}
+use Rattle.steps.proofs.TableLaws.{total-at, limit-at, numbers-le}
 use Rattle.pass.specs.Readings.{Reading, taken, readStep, reads}
-use Rattle.pass.specs.Sites.{siteOf, codingOf}
+use Rattle.pass.specs.Sites.{siteOf, codingOf, RawFits}
 use Rattle.pass.specs.Pairs.{readingAt, placeAt, held, begun, placeOf, IsPair, IsPassed}
 use Rattle.pass.specs.declared.Site.{Site}
 use Rattle.pass.specs.declared.Coding.{Coding}
@@ -69,6 +70,14 @@ limit-known bits q i limits e h b =
     let is : getD limits i 0 ≡ (usedQuantiser bits q i) .limit = rw e (limit-at bits q i h) in
     (is, rw is (numbers-le bits (usedBase q i) (usedWeight i) b .2))
 
+-- its raw bits, by it
+raw-by-limit : (bits q weight : ℕ) → Depth bits
+    → RawFits bits ((quantiserOf bits q weight) .limit) × (4 * bits - 1 - (quantiserOf bits q weight) .limit ≡ (quantiserOf bits q weight) .raw)
+unfolding quantiserOf
+raw-by-limit bits q weight d =
+    let n = numbers-le bits q weight (d .1) in
+    (record { depth = d .1; low = omega (arith, n .1, d .0); high = omega (arith, n .1, d .0) }, omega (arith, n .1, d .0))
+
 -- by the answers of the leaves
 pub coding-is : (bits q p : ℕ) (x : Context) (l : List Record) {j k m limit : ℕ} {h : Look} {old : Record} → h ≡ lookOf q x → j ≡ slotOf p (h .place)
     → old ≡ getD l j noRecord → k ≡ kOf old → m ≡ largest bits → limit ≡ (usedQuantiser bits q (h .choice)) .limit
@@ -78,28 +87,33 @@ coding-is bits q p x l eh ej eo ek em el = rw (el, em, ek, eo, ej, eh)
 
 -- ---- a sample that is coded as c says
 
-pub record CodedAt (bits q W line p : ℕ) (s lines sums ns totals raws limits : List ℕ) (t : Site) (c : Coding) : Type 0 where
+pub record CodedAt (bits q W line p : ℕ) (s lines sums ns totals : List ℕ) (t : Site) (c : Coding) : Type 0 where
   pub placed : Placed W line p lines t
   pub coding : c ≡ codingOf bits q p (t .context) (zipRecords sums ns)
   pub four : c .look .choice ≤ 3
-  pub depth : bits ≤ 16
-  pub quantisers : AreQuantisers bits q totals raws limits
+  pub depth : Depth bits
+  pub summed : totals ≡ (quantisersOf bits q) .totals
 
-module _ {bits q W line p : ℕ} {s lines sums ns totals raws limits : List ℕ} {t : Site} {c : Coding}
-    (y : CodedAt bits q W line p s lines sums ns totals raws limits t c) where
-  -- the ranges of what the leaves ask
-  pub raw-small : getD raws (c .look .choice) 0 ≤ 16
-  raw-small = reader-small bits q totals raws limits (y .quantisers) (c .look .choice) (y .four) (y .depth) .1
-
-  pub total-known : getD totals (c .look .choice) 0 ≤ 2 ^ 16
-  total-known = total-small bits q totals raws limits (y .quantisers) (c .look .choice) (y .four) (y .depth)
+module _ {bits q W line p : ℕ} {s lines sums ns totals : List ℕ} {t : Site} {c : Coding} (y : CodedAt bits q W line p s lines sums ns totals t c) where
+  abbrev used : Quantiser
+  used = usedQuantiser bits q (c .look .choice)
 
   -- the numbers of the quantiser
-  used-total : getD totals (c .look .choice) 0 ≡ (usedQuantiser bits q (c .look .choice)) .total
-  used-total = total-is bits q totals raws limits (y .quantisers) (c .look .choice) (y .four)
+  used-total : getD totals (c .look .choice) 0 ≡ used .total
+  used-total = rw (y .summed) (total-at bits q (c .look .choice) (y .four))
 
-  used-raw : getD raws (c .look .choice) 0 ≡ (usedQuantiser bits q (c .look .choice)) .raw
-  used-raw = raw-is bits q totals raws limits (y .quantisers) (c .look .choice) (y .four)
+  pub total-known : getD totals (c .look .choice) 0 ≤ 2 ^ 16
+  total-known = rw used-total (numbers-le bits (usedBase q (c .look .choice)) (usedWeight (c .look .choice)) (y .depth .1) .0)
+
+  used-limit : c .limit ≡ used .limit
+  unfolding codingOf
+  used-limit = rw (y .coding) refl
+
+  pub raw-fits : RawFits bits (c .limit)
+  raw-fits = rw used-limit (raw-by-limit bits (usedBase q (c .look .choice)) (usedWeight (c .look .choice)) (y .depth) .0)
+
+  used-raw : 4 * bits - 1 - c .limit ≡ used .raw
+  used-raw = rw used-limit (raw-by-limit bits (usedBase q (c .look .choice)) (usedWeight (c .look .choice)) (y .depth) .1)
 
   -- the record that was there
   is-old : c .old ≡ getD (zipRecords sums ns) (c .slot) noRecord
@@ -112,7 +126,7 @@ module _ {bits q W line p : ℕ} {s lines sums ns totals raws limits : List ℕ}
 
   -- the code that is there
   abbrev code : Place → Coded
-  code from = codeAt s (from .at .0) (c .k) (c .limit) (getD raws (c .look .choice) 0)
+  code from = codeAt s (from .at .0) (c .k) (c .limit) (4 * bits - 1 - c .limit)
 
   -- the step, by it
   site-got : (coded : Bool) (from : Place) → coded ≡ true

@@ -48,3 +48,9 @@ pub record CodingAsks (bits q : ℕ) (x : Context) (choices limits sums ns ks : 
   pub limited : limits ≡ (quantisersOf bits q) .limits
   pub records : SetInRange (zipRecords sums ns)
   pub ks-kept : AreKs (zipRecords sums ns) ks
+
+-- the raw bits of a quantiser are known by its limit: 4·bits − 1 − limit, and there are at most 16
+pub record RawFits (bits limit : ℕ) : Type 0 where
+  pub depth : bits ≤ 16
+  pub low : limit + 1 ≤ 4 * bits
+  pub high : 4 * bits ≤ limit + 17

@@ -1,6 +1,6 @@
 // One pass over two colour lines: the hot loop of reading. The set of statistics comes by value and goes back by value; the colour lines are lent.
 ghost use mathlib.Core.Path.{_≡_};
-ghost use Prim.Native.Nat.{_+_, _*_, _^_, _≤_, _<_};
+ghost use Prim.Native.Nat.{_+_, _-_, _*_, _^_, _≤_, _<_};
 ghost use lib.ListN.{length, getD, set};
 ghost use Rattle.prediction.specs.Predictions.{ContextRanges};
 ghost use Rattle.code.specs.Codes.{codeAt, Small};
@@ -9,7 +9,7 @@ ghost use Rattle.code.specs.Tight.{takenOf};
 ghost use Rattle.steps.specs.Steps.{evenSteps, oddSteps};
 ghost use Rattle.steps.specs.Values.{zipRecords};
 ghost use Rattle.pass.specs.Windows.{windowLine, windowPlan};
-ghost use Rattle.pass.specs.Sites.{siteOf, SiteRanges, codingOf, CodingRanges, CodingAsks};
+ghost use Rattle.pass.specs.Sites.{siteOf, SiteRanges, codingOf, CodingRanges, CodingAsks, RawFits};
 ghost use Rattle.pass.specs.Pairs.{PairAsks, PairGives, PassAsks, PassGives, placeAt, held, begun};
 use bits::BitPosition;
 use code::Place;
@@ -96,7 +96,7 @@ fn site_at(lines: &[u16], w: usize, line: usize, p: usize) -> Site
     }
 }
 
-// How the sample at position p with that context is coded. The total and the raw bits of its quantiser are seldom asked for, and left where they are.
+// How the sample at position p with that context is coded. The total of its quantiser is seldom asked for, and left where it is.
 fn coding_at(
     bits: u32,
     p: usize,
@@ -134,18 +134,17 @@ fn in_parts(t: Taken) -> Taken
     Taken::Read(value, at, tight, long)
 }
 
-// What is taken of a sample's code: at once where it is short and tight, and else by the slow reader. That one is called in two ways that differ: with one
-// LLVM takes it in here, and then this is too large to be taken into the loop.
-fn taken(block: &[u8], at: BitPosition, tight: bool, long: u64, c: Coding, raws: &[u32; 4]) -> Taken
-    requires { ⌜ (length (now block) < 2 ^ 32) × ((c .k ≤ 15) × ((c .limit < 64) × ((c .look .choice ≤ 3) × (getD (now raws) (c .look .choice) 0 ≤ 16)))) ⌝ }
+// What is taken of a sample's code: at once where it is short and tight, and else by the slow reader, which is asked for the raw bits too. It is called in
+// two ways that differ: with one LLVM takes it in here, and then this is too large to be taken into the loop.
+fn taken(block: &[u8], at: BitPosition, tight: bool, long: u64, c: Coding, bits: u32) -> Taken
+    requires { ⌜ (length (now block) < 2 ^ 32) × ((c .k ≤ 15) × ((c .limit < 64) × RawFits bits (c .limit))) ⌝ }
     requires { ⌜ long ≤ at .0 ⌝ }
     ensures { λ r. ⌜ (r ≡ takenOf (c .m) tight long
-        (codeAt (now (block .entry)) (at .0) (c .k) (c .limit) (getD (now (raws .entry)) (c .look .choice) 0))) × Small r ⌝ }
+        (codeAt (now (block .entry)) (at .0) (c .k) (c .limit) (4 * bits - 1 - c .limit))) × Small r ⌝ }
 {
     let found = code::short_code(block, at, c.m, c.k, c.limit);
     let Short::Code(value, after) = found else {
-        let choice = c.look.choice;
-        let raw = raws[choice];
+        let raw = 4 * bits - 1 - c.limit;
         if c.k == 0 {
             return in_parts(code::take_any(block, at, tight, long, c.m, 0, c.limit, raw));
         }
@@ -198,11 +197,10 @@ fn even_pair(
     base: u32,
     choices: &[u32; 9],
     totals: &[u32; 4],
-    raws: &[u32; 4],
     limits: &[u32; 4],
 ) -> Pair
     requires { ⌜ PairAsks spot base (placeAt from «from_tight» «from_long») (now block) (now lines) (now sums) (now ns) (now ks)
-        (now choices) (now totals) (now raws) (now limits) ⌝ }
+        (now choices) (now totals) (now limits) ⌝ }
     ensures { λ r. ⌜ PairGives spot base (now (block .entry)) (evenSteps (spot .plan) (spot .p))
         (held (now (lines .entry)) (now (sums .entry)) (now (ns .entry)) (placeAt from «from_tight» «from_long»))
         (now (lines .exit)) (now (sums .exit)) (now (ns .exit)) (now (ks .exit)) r ⌝ }
@@ -223,7 +221,7 @@ fn even_pair(
             ns,
             ks,
         );
-        let got = taken(block, from, from_tight, from_long, c, raws);
+        let got = taken(block, from, from_tight, from_long, c, spot.bits);
         let Taken::Read(code, after, still_tight, now_long) = got else {
             return Pair::CutOff;
         };
@@ -248,7 +246,7 @@ fn even_pair(
             ns,
             ks,
         );
-        let got = taken(block, at, tight, long, c, raws);
+        let got = taken(block, at, tight, long, c, spot.bits);
         let Taken::Read(code, after, still_tight, now_long) = got else {
             return Pair::CutOff;
         };
@@ -274,11 +272,10 @@ fn odd_pair(
     base: u32,
     choices: &[u32; 9],
     totals: &[u32; 4],
-    raws: &[u32; 4],
     limits: &[u32; 4],
 ) -> Pair
     requires { ⌜ PairAsks spot base (placeAt from «from_tight» «from_long») (now block) (now lines) (now sums) (now ns) (now ks)
-        (now choices) (now totals) (now raws) (now limits) ⌝ }
+        (now choices) (now totals) (now limits) ⌝ }
     ensures { λ r. ⌜ PairGives spot base (now (block .entry)) (oddSteps (spot .plan) (spot .p))
         (held (now (lines .entry)) (now (sums .entry)) (now (ns .entry)) (placeAt from «from_tight» «from_long»))
         (now (lines .exit)) (now (sums .exit)) (now (ns .exit)) (now (ks .exit)) r ⌝ }
@@ -295,7 +292,7 @@ fn odd_pair(
         ns,
         ks,
     );
-    let got = taken(block, from, from_tight, from_long, c, raws);
+    let got = taken(block, from, from_tight, from_long, c, spot.bits);
     let Taken::Read(code, at, tight, long) = got else {
         return Pair::CutOff;
     };
@@ -313,7 +310,7 @@ fn odd_pair(
         ns,
         ks,
     );
-    let got = taken(block, at, tight, long, c, raws);
+    let got = taken(block, at, tight, long, c, spot.bits);
     let Taken::Read(code, after, still_tight, now_long) = got else {
         return Pair::CutOff;
     };
@@ -341,7 +338,6 @@ pub fn pass(
     let mut ks = steps::ks_of(&sums, &ns);
     let choices = steps::choices_of(qs.base);
     let totals = qs.totals;
-    let raws = qs.raws;
     let limits = qs.limits;
     let base = qs.base;
     let mut at = from.at;
@@ -363,7 +359,6 @@ pub fn pass(
                 base,
                 &choices,
                 &totals,
-                &raws,
                 &limits,
             );
             let Pair::At(after, still_tight, now_long) = got else {
@@ -396,7 +391,6 @@ pub fn pass(
                 base,
                 &choices,
                 &totals,
-                &raws,
                 &limits,
             );
             let Pair::At(after, still_tight, now_long) = got else {

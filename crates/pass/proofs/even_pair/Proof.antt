@@ -13,7 +13,7 @@ use Rattle.pass.specs.Readings.{Reading}
 use Rattle.pass.specs.Pairs.{placeAt, held}
 use Rattle.pass.proofs.RangeLaws.{step-keeps}
 use Rattle.pass.proofs.StepLaws.{StepGives, two-steps, first-none}
-use Rattle.pass.proofs.SiteLaws.{Placed, site-interpolated, CodedAt, raw-small, total-known, site-cut-off, site-read, taken-small}
+use Rattle.pass.proofs.SiteLaws.{Placed, site-interpolated, CodedAt, raw-fits, total-known, site-cut-off, site-read, taken-small}
 use Rattle.pass.proofs.SiteLaws.{met, step-met, ranges-met, ks-met, length-met, pair-cut-off, pair-at}
 use Rattle.pass.proofs.even_pair.Statement.{statement}
 use Rattle.pass.proofs.even_pair.Tie as tie
@@ -31,22 +31,22 @@ placed c = record { is = c .before .site-at .ensures .0 }
 
 first : (c : tie.After-coding-at) → let t = asked c in let a = entry t .args in
     CodedAt (a .spot .bits) (a .base) (a .spot .w) (a .spot .plan .first) (a .spot .p) (a .block .now) (a .lines .now) (a .sums .now) (a .ns .now)
-    (a .totals .now) (a .raws .now) (a .limits .now) (t .before .site-at .result) (c .coding-at .result)
+    (a .totals .now) (t .before .site-at .result) (c .coding-at .result)
 first c =
     let p = entry (asked c) .pre in
     record {
       placed = placed (asked c);
       coding = c .coding-at .ensures .0;
       four = c .coding-at .ensures .1 .choice;
-      depth = p .depth .1;
-      quantisers = p .quantisers;
+      depth = p .depth;
+      summed = p .summed;
     }
 
 taken-requires : tie.Need-taken-requires
 taken-requires c κs =
     let r = c .coding-at .ensures .1 in
     let p = entry (asked c) .pre in
-    ((p .bytes, (r .k, (r .limit, (r .choice, raw-small (first c))))), p .counted)
+    ((p .bytes, (r .k, (r .limit, raw-fits (first c)))), p .counted)
 
 returns : tie.Need-returns
 returns c =
@@ -140,7 +140,7 @@ coding-at-requires-2 c κs =
       base = p .base;
       chosen = p .chosen;
       context = t .before .site-at2 .ensures .1 .context;
-      limited = p .quantisers .limit;
+      limited = p .limited;
       records = m .in-range;
       ks-kept = m .ks-kept;
     }
@@ -153,21 +153,21 @@ begun c = joined (asked-2 c)
 
 second : (c : tie.After-coding-at2) → let j = begun c in let a = entry (j .before) .args in
     CodedAt (a .spot .bits) (a .base) (a .spot .w) (a .spot .plan .second) (a .spot .p) (a .block .now) (j .if1 .lines) (j .if1 .sums) (j .if1 .ns)
-    (a .totals .now) (a .raws .now) (a .limits .now) (asked-2 c .before .site-at2 .result) (c .coding-at2 .result)
+    (a .totals .now) (asked-2 c .before .site-at2 .result) (c .coding-at2 .result)
 second c =
     let p = entry (begun c .before) .pre in
     record {
       placed = placed-2 (asked-2 c);
       coding = c .coding-at2 .ensures .0;
       four = c .coding-at2 .ensures .1 .choice;
-      depth = p .depth .1;
-      quantisers = p .quantisers;
+      depth = p .depth;
+      summed = p .summed;
     }
 
 taken-requires-2 : tie.Need-taken-requires-2
 taken-requires-2 c κs =
     let r = c .coding-at2 .ensures .1 in
-    ((entry (begun c .before) .pre .bytes, (r .k, (r .limit, (r .choice, raw-small (second c))))), counted (begun c))
+    ((entry (begun c .before) .pre .bytes, (r .k, (r .limit, raw-fits (second c)))), counted (begun c))
 
 -- it has a code
 coded-2 : (c : tie.After-coding-at2) → let a = entry (begun c .before) .args in not (interpolated (a .spot .plan .«second_rule») (a .spot .p)) ≡ true

@@ -14,7 +14,7 @@ use Rattle.pass.specs.Readings.{Reading}
 use Rattle.pass.specs.Pairs.{placeAt, held}
 use Rattle.pass.proofs.RangeLaws.{step-keeps}
 use Rattle.pass.proofs.StepLaws.{StepGives, two-steps, first-none}
-use Rattle.pass.proofs.SiteLaws.{CodedAt, raw-small, total-known, site-cut-off, site-read, taken-small, pair-cut-off, pair-at}
+use Rattle.pass.proofs.SiteLaws.{CodedAt, raw-fits, total-known, site-cut-off, site-read, taken-small, pair-cut-off, pair-at}
 use Rattle.pass.proofs.odd_pair.Statement.{statement}
 use Rattle.pass.proofs.odd_pair.Tie as tie
 
@@ -28,21 +28,21 @@ entry c = sited c .before .before .before .before
 
 first : (c : tie.After-coding-at) → let a = entry c .args in
     CodedAt (a .spot .bits) (a .base) (a .spot .w) (a .spot .plan .first) (a .spot .p) (a .block .now) (a .lines .now) (a .sums .now) (a .ns .now)
-    (a .totals .now) (a .raws .now) (a .limits .now) (sited c .site-at .result) (c .coding-at .result)
+    (a .totals .now) (sited c .site-at .result) (c .coding-at .result)
 first c =
     let p = entry c .pre in
     record {
       placed = record { is = sited c .site-at .ensures .0 };
       coding = c .coding-at .ensures .0;
       four = c .coding-at .ensures .1 .choice;
-      depth = p .depth .1;
-      quantisers = p .quantisers;
+      depth = p .depth;
+      summed = p .summed;
     }
 
 taken-requires : tie.Need-taken-requires
 taken-requires c κs =
     let r = c .coding-at .ensures .1 in
-    ((entry c .pre .bytes, (r .k, (r .limit, (r .choice, raw-small (first c))))), entry c .pre .counted)
+    ((entry c .pre .bytes, (r .k, (r .limit, raw-fits (first c)))), entry c .pre .counted)
 
 returns : tie.Need-returns
 returns c =
@@ -125,7 +125,7 @@ coding-at-requires-2 c κs =
       base = p .base;
       chosen = p .chosen;
       context = s .site-at2 .ensures .1 .context;
-      limited = p .quantisers .limit;
+      limited = p .limited;
       records = in-range i;
       ks-kept = ks-kept i;
     }
@@ -138,21 +138,21 @@ one c = sited-2 c .before .before
 
 second : (c : tie.After-coding-at2) → let i = one c in let a = entry (origin i) .args in
     CodedAt (a .spot .bits) (a .base) (a .spot .w) (a .spot .plan .second) (a .spot .p) (a .block .now) (lines₁ i) (i .update-with-k .last .0)
-    (i .update-with-k .last .1 .0) (a .totals .now) (a .raws .now) (a .limits .now) (sited-2 c .site-at2 .result) (c .coding-at2 .result)
+    (i .update-with-k .last .1 .0) (a .totals .now) (sited-2 c .site-at2 .result) (c .coding-at2 .result)
 second c =
     let p = entry (origin (one c)) .pre in
     record {
       placed = record { is = sited-2 c .site-at2 .ensures .0 };
       coding = c .coding-at2 .ensures .0;
       four = c .coding-at2 .ensures .1 .choice;
-      depth = p .depth .1;
-      quantisers = p .quantisers;
+      depth = p .depth;
+      summed = p .summed;
     }
 
 taken-requires-2 : tie.Need-taken-requires-2
 taken-requires-2 c κs =
     let r = c .coding-at2 .ensures .1 in
-    ((entry (origin (one c)) .pre .bytes, (r .k, (r .limit, (r .choice, raw-small (second c))))), counted (one c))
+    ((entry (origin (one c)) .pre .bytes, (r .k, (r .limit, raw-fits (second c)))), counted (one c))
 
 returns-2 : tie.Need-returns-2
 returns-2 c =
