@@ -2,7 +2,6 @@
 ghost use mathlib.Core.Path.{_≡_};
 ghost use Prim.Native.Nat.{_+_, _-_, _*_, _^_, _≤_, _<_};
 ghost use lib.ListN.{length, getD, set};
-ghost use Rattle.prediction.specs.Predictions.{ContextRanges};
 ghost use Rattle.code.specs.Codes.{codeAt, Small};
 ghost use Rattle.code.specs.Samples.{sampleOf};
 ghost use Rattle.code.specs.Tight.{takenOf};
@@ -81,7 +80,8 @@ pub fn window_plan(p: Plan, windowed: bool) -> Plan
     p
 }
 
-// ---- one sample. What follows is small enough to be taken into the loop from each of its four places.
+// ---- one sample. Each of these is small enough to be taken into the loop from every place that calls it. Made of them, the pairs have half the statements and
+// half the locals, by whose product their check time goes.
 
 // The sample at position p of a colour line.
 fn site_at(lines: &[u16], w: usize, line: usize, p: usize) -> Site
@@ -182,8 +182,7 @@ fn put_prediction(lines: &mut [u16], t: Site)
 
 // ---- the two samples of a position
 
-// The two samples at an even position p. It is called from one place only, and so it is taken into the loop. Where a code is short and tight, the verdict
-// and the count are not touched: as parts of what a reader hands back they would go through memory.
+// The two samples at an even position p. It is called from one place only, and so it is taken into the loop.
 fn even_pair(
     block: &[u8],
     from: BitPosition,

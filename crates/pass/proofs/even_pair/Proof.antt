@@ -26,7 +26,8 @@ entry c = c .before .before .before .before .before
 abbrev asked : tie.After-coding-at → tie.After-has-code
 asked c = c .before .before .before .before .before
 
-placed : (c : tie.After-has-code) → let a = entry c .args in Placed (a .spot .w) (a .spot .plan .first) (a .spot .p) (a .lines .now) (c .before .site-at .result)
+placed : (c : tie.After-has-code) → let a = entry c .args in
+    Placed (a .spot .w) (a .spot .plan .first) (a .spot .p) (a .lines .now) (c .before .site-at .result)
 placed c = record { is = c .before .site-at .ensures .0 }
 
 first : (c : tie.After-coding-at) → let t = asked c in let a = entry t .args in
@@ -60,7 +61,8 @@ put-sample-requires : tie.Need-put-sample-requires
 put-sample-requires c κs =
     let r = c .before .before .before .before in
     let o = r .before in
-    (asked o .before .site-at .ensures .1, (o .coding-at .ensures .1, (total-known (first o), taken-small (r .taken .ensures .1) (c .before .before .got .given .1))))
+    let small = taken-small (r .taken .ensures .1) (c .before .before .got .given .1) in
+    (asked o .before .site-at .ensures .1, (o .coding-at .ensures .1, (total-known (first o), small)))
 
 update-with-k-requires : tie.Need-update-with-k-requires
 update-with-k-requires c κs =
@@ -68,7 +70,8 @@ update-with-k-requires c κs =
     let r = s .before .before .before .before .before in
     let o = r .before in
     let p = entry (asked o) .pre in
-    ((taken-small (r .taken .ensures .1) (s .before .before .before .got .given .1), (o .coding-at .ensures .1 .slot, o .coding-at .ensures .1 .old)), (p .records, p .ks-kept))
+    let small = taken-small (r .taken .ensures .1) (s .before .before .before .got .given .1) in
+    ((small, (o .coding-at .ensures .1 .slot, o .coding-at .ensures .1 .old)), (p .records, p .ks-kept))
 
 -- ---- where the two ways to it meet
 
@@ -90,8 +93,9 @@ one c =
     let coded = sym (t .has-code .ensures) in
     ⊎-elim
     (λ w.
+    let i : tie.After-coding-at-arg = record { before = record { before = t; if1 = w .0 }; coding-at-arg = w .1 } in
     let o : tie.After-coding-at =
-    record { before = record { before = record { before = record { before = record { before = t; if1 = w .0 }; coding-at-arg = w .1 }; coding-at-arg2 = w .2 }; coding-at-arg3 = w .3 }; coding-at = w .4 } in
+    record { before = record { before = record { before = i; coding-at-arg2 = w .2 }; coding-at-arg3 = w .3 }; coding-at = w .4 } in
     let m = met (w .17) (w .18) (w .19) (w .21) (w .22) (w .23) in
     let new = w .16 .ensures in
     record {
@@ -185,7 +189,8 @@ put-sample-requires-2 : tie.Need-put-sample-requires-2
 put-sample-requires-2 c κs =
     let r = c .before .before .before .before in
     let o = r .before in
-    (asked-2 o .before .site-at2 .ensures .1, (o .coding-at2 .ensures .1, (total-known (second o), taken-small (r .taken2 .ensures .1) (c .before .before .got2 .given .1))))
+    let small = taken-small (r .taken2 .ensures .1) (c .before .before .got2 .given .1) in
+    (asked-2 o .before .site-at2 .ensures .1, (o .coding-at2 .ensures .1, (total-known (second o), small)))
 
 abbrev read-2 : tie.After-put-sample2 → tie.After-taken2
 read-2 c = c .before .before .before .before .before
@@ -196,7 +201,8 @@ update-with-k-requires-2 c κs =
     let r = read-2 s in
     let o = r .before in
     let m = one (begun o) in
-    ((taken-small (r .taken2 .ensures .1) (s .before .before .before .got2 .given .1), (o .coding-at2 .ensures .1 .slot, o .coding-at2 .ensures .1 .old)), (m .in-range, m .ks-kept))
+    let small = taken-small (r .taken2 .ensures .1) (s .before .before .before .got2 .given .1) in
+    ((small, (o .coding-at2 .ensures .1 .slot, o .coding-at2 .ensures .1 .old)), (m .in-range, m .ks-kept))
 
 abbrev put-2 : tie.After-update-with-k2 → tie.After-put-sample2
 put-2 c = c .before .before .before .before .before .before
@@ -221,7 +227,8 @@ returns-4 c =
     let t = s .before .before .before in
     let m = one (joined t) in
     let coded = sym (t .has-code2 .ensures) ∙ s .before .before .if2 .left in
-    record { answer = pair-at _ _ _ (two-steps (m .read) (site-interpolated (placed-2 t) coded (s .put-prediction2 .ensures))); records = m .in-range; ks-kept = m .ks-kept }
+    let read = two-steps (m .read) (site-interpolated (placed-2 t) coded (s .put-prediction2 .ensures)) in
+    record { answer = pair-at _ _ _ read; records = m .in-range; ks-kept = m .ks-kept }
 
 pub even-pair-spec : {M : Type 1} → statement M
 even-pair-spec =

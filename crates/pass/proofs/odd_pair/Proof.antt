@@ -66,7 +66,8 @@ update-with-k-requires c κs =
     let s = c .before .before .before .before .before in
     let r = read s in
     let o = r .before in
-    ((taken-small (r .taken .ensures .1) (s .before .before .before .got .given .1), (o .coding-at .ensures .1 .slot, o .coding-at .ensures .1 .old)), (entry o .pre .records, entry o .pre .ks-kept))
+    let small = taken-small (r .taken .ensures .1) (s .before .before .before .got .given .1) in
+    ((small, (o .coding-at .ensures .1 .slot, o .coding-at .ensures .1 .old)), (entry o .pre .records, entry o .pre .ks-kept))
 
 -- ---- what is held after it
 
@@ -165,7 +166,8 @@ put-sample-requires-2 : tie.Need-put-sample-requires-2
 put-sample-requires-2 c κs =
     let r = c .before .before .before .before in
     let o = r .before in
-    (sited-2 o .site-at2 .ensures .1, (o .coding-at2 .ensures .1, (total-known (second o), taken-small (r .taken2 .ensures .1) (c .before .before .got2 .given .1))))
+    let small = taken-small (r .taken2 .ensures .1) (c .before .before .got2 .given .1) in
+    (sited-2 o .site-at2 .ensures .1, (o .coding-at2 .ensures .1, (total-known (second o), small)))
 
 abbrev read-2 : tie.After-put-sample2 → tie.After-taken2
 read-2 c = c .before .before .before .before .before
@@ -175,7 +177,8 @@ update-with-k-requires-2 c κs =
     let s = c .before .before .before .before .before in
     let r = read-2 s in
     let o = r .before in
-    ((taken-small (r .taken2 .ensures .1) (s .before .before .before .got2 .given .1), (o .coding-at2 .ensures .1 .slot, o .coding-at2 .ensures .1 .old)), (in-range (one o), ks-kept (one o)))
+    let small = taken-small (r .taken2 .ensures .1) (s .before .before .before .got2 .given .1) in
+    ((small, (o .coding-at2 .ensures .1 .slot, o .coding-at2 .ensures .1 .old)), (in-range (one o), ks-kept (one o)))
 
 abbrev put-2 : tie.After-update-with-k2 → tie.After-put-sample2
 put-2 c = c .before .before .before .before .before .before
