@@ -1,5 +1,4 @@
 -- `trace::trace_line` meets its contract: i passes have been walked, with tight codes alone. Assumes nothing.
-use borrow.Author.Needs.{needs}
 use borrow.Rule.Slice.PartMut.{midOf, putMid, same-len-mid, mid-len}
 use mathlib.Core.Path.{_≡_, refl, sym, _∙_}
 use Prim.Native.Nat.{ℕ, _+_, _-_, _*_, _%_, _≤_, _<_}
@@ -55,7 +54,7 @@ loop-holds : tie.Need-loop-holds Inv-loop μ-loop
 loop-holds c =
     let a = c .before .before .before .before .before in
     let w = width-in-range (a .args .form .xtrans) _ (c .width .ensures) in
-    (search needs, (c .width .ensures, w .0, w .1, w .2), (rw (c .width .ensures) (a .pre .room), a .pre .for-sums, a .pre .for-ns), a .pre .records, passes-none _ _ _ _)
+    (omega arith, (c .width .ensures, w .0, w .1, w .2), (rw (c .width .ensures) (a .pre .room), a .pre .for-sums, a .pre .for-ns), a .pre .records, passes-none _ _ _ _)
 
 set-guards-requires : tie.Need-set-guards-requires Inv-loop μ-loop
 set-guards-requires c κs =
@@ -224,21 +223,21 @@ trace-line-spec =
     (tie.spec
     Inv-loop
     μ-loop
-    (λ c κs. search needs)
+    (λ c κs. tt)
     loop-holds
-    (λ c κs. search needs)
+    (λ c κs. c .loop-test .taken)
     set-guards-requires
     set-guards-requires-2
-    (λ c. search (needs, one-of-three c))
-    (λ c. search (needs, one-of-three c))
-    (λ c. search (needs, one-of-three (c .before)))
-    (λ c. search (needs, one-of-three (c .before)))
-    (λ c. search (needs, one-of-three (c .before), looped (c .before) .loop .inv .2))
-    (λ c. search (needs, one-of-three (c .before), looped (c .before) .loop .inv .2))
-    (λ c. search (needs, one-of-three (c .before .before)))
-    (λ c. search (needs, one-of-three (c .before .before)))
-    (λ c. search (needs, one-of-three (c .before .before), looped (c .before .before) .loop .inv .2))
-    (λ c. search (needs, one-of-three (c .before .before), looped (c .before .before) .loop .inv .2))
+    (λ c. omega (arith, one-of-three c))
+    (λ c. omega (arith, one-of-three c))
+    (λ c. omega (arith, one-of-three (c .before)))
+    (λ c. omega (arith, one-of-three (c .before)))
+    (λ c. omega (arith, one-of-three (c .before), looped (c .before) .loop .inv .2))
+    (λ c. omega (arith, one-of-three (c .before), looped (c .before) .loop .inv .2))
+    (λ c. omega (arith, one-of-three (c .before .before)))
+    (λ c. omega (arith, one-of-three (c .before .before)))
+    (λ c. omega (arith, one-of-three (c .before .before), looped (c .before .before) .loop .inv .2))
+    (λ c. omega (arith, one-of-three (c .before .before), looped (c .before .before) .loop .inv .2))
     trace-pass-requires
     (λ c. c .match .keys1)
     (λ c. lines-long (walked c) ∙ entry-lines (looped (lent (walked c))))
@@ -248,7 +247,7 @@ trace-line-spec =
     (λ c. omega (arith, test (went c)))
     (λ c. omega (arith, test (went c)))
     loop-again
-    (λ c κs. search needs)
+    (λ c κs. c .before .before .before .before .before .before .before .pre .bytes)
     (λ c. entry-lines (c .before .before .before))
     (λ c. entry-sums (c .before .before .before))
     (λ c. entry-ns (c .before .before .before))

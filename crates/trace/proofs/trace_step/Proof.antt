@@ -1,11 +1,10 @@
 -- `trace::trace_step` meets its contract: a sample that is interpolated, cut off, bad or read, by the answers of the leaves. Assumes nothing.
-use borrow.Author.Needs.{needs}
 use borrow.Author.Tests.{not-true, not-false}
 use mathlib.Core.Bool.{true}
-use mathlib.Core.Path.{_≡_, sym, _∙_}
+use mathlib.Core.Path.{_≡_, refl, sym, _∙_}
 use Prim.Native.Nat.{ℕ, _+_, _^_, _≤_, _<_}
 use native.Mathlib.Omega.{arith}
-use lib.ListN.{length}
+use lib.ListN.{length, set, length-set}
 use Rattle.steps.specs.Contexts.{contextIn}
 use Rattle.steps.proofs.ContextLaws.{context-is}
 use Rattle.block.specs.BadCodes.{badAt}
@@ -55,6 +54,16 @@ room c =
     let p = entry c .pre .0 in
     let i = c .before .before .left-of .ensures .1 .1 in
     (omega (arith, i, p .room), omega (arith, i, p .width))
+
+stored : (c : tie.After-context-at) (v : ℕ)
+    → length (set (entry c .args .lines .now) (c .before .before .left-of .result + 1) v) ≡ length (entry c .args .lines .now)
+stored c v = length-set (entry c .args .lines .now) (c .before .before .left-of .result + 1) v
+
+context-at-requires : tie.Need-context-at-requires
+context-at-requires c κs =
+    let p = c .before .before .before .before .before .before .before .before .before .pre .0 in
+    let i = c .before .left-of .ensures .1 in
+    (omega (arith, p .width), (i .0, omega (arith, i .1, p .room)))
 
 left-of-requires : tie.Need-left-of-requires
 left-of-requires c κs =
@@ -178,42 +187,42 @@ trace-step-spec =
     tie.close
     (tie.spec
     returns
-    (λ c κs. search needs)
+    (λ c κs. c .before .before .before .before .before .before .pre .0 .depth .1)
     left-of-requires
-    (λ c. search needs)
-    (λ c κs. search needs)
-    (λ c. search needs)
-    (λ c. search needs)
-    (λ c. search needs)
-    (λ c. search needs)
-    (λ c. search needs)
+    (λ c. omega (arith, c .before .before .before .before .before .before .before .before .before .pre .0 .width))
+    context-at-requires
+    (λ c. omega (arith, c .before .before .context-at .ensures .1 .prediction))
+    (λ c. omega (arith, room (c .before .before) .1))
+    (λ c. omega (arith, room (c .before .before) .1))
+    (λ c. room (c .before .before) .0)
+    (λ c. stored (c .before .before) _)
     returns-2
-    (λ c κs. search needs)
-    (λ c κs. search needs)
-    (λ c κs. search needs)
-    (λ c κs. search needs)
+    (λ c κs. (omega arith, c .before .context-at .ensures .1))
+    (λ c κs. c .look-of .ensures .1 .1 .1)
+    (λ c κs. let p = c .before .before .before .before .before .before .before .before .before .before .before .before .before .before .before .pre .0 in ((c .before .before .slot-of .ensures .1, (p .for-sums, p .for-ns)), p .records))
+    (λ c κs. let r = c .record-in .ensures .1 in (r .some, r .most))
     read-code-requires
-    (λ c. search needs)
-    (λ c. search needs)
-    (λ c. search needs)
-    (λ c. search needs)
-    (λ c. search needs)
+    (λ c. c .match .keys1)
+    (λ c. c .match .keys2)
+    (λ c. refl)
+    (λ c. refl)
+    (λ c. refl)
     returns-3
-    (λ c κs. search needs)
-    (λ c. search needs)
+    (λ c κs. c .before .before .before .before .before .k .ensures .1)
+    (λ c. c .match2 .keys1)
     bad-spot-requires
-    (λ c. search needs)
+    (λ c. c .match2 .keys2)
     sample-requires
-    (λ c. search (needs, small (kept (read (judged c))) (c .sample .ensures .1)))
-    (λ c. search (needs, room (seen (kept (read (judged c))))))
-    (λ c. search (needs, room (seen (kept (read (judged c))))))
+    (λ c. omega (arith, small (kept (read (judged c))) (c .sample .ensures .1)))
+    (λ c. omega (arith, room (seen (kept (read (judged c)))) .1))
+    (λ c. omega (arith, room (seen (kept (read (judged c)))) .1))
     (λ c. room (seen (kept (read (judged c)))) .0)
     update-in-requires
-    (λ c. search needs)
-    (λ c. search needs)
-    (λ c. search needs)
+    (λ c. refl)
+    (λ c. refl)
+    (λ c. refl)
     returns-4
-    (λ c. search needs)
-    (λ c. search needs)
-    (λ c. search needs)
+    (λ c. stored (seen (kept (read (judged (c .before .before .before .before .before .before .before))))) _)
+    (λ c. c .before .before .before .before .update-in .kept .0)
+    (λ c. c .before .before .before .before .update-in .kept .1 .0)
     returns-5)
