@@ -81,8 +81,12 @@ module _ (W : ℕ) (P : Plan) where
       → (((X ++ quarter W P u) ++ quarter W P (suc u)) ++ quarter W P (suc (suc u))) ++ quarter W P (suc (suc (suc u))) ≡ X ++ turnSteps W P t
   unfolding turnSteps
   turn-four X t u e =
-      rw (is-0 u t (omega arith) (omega arith), is-1 (suc u) t (omega arith) (omega arith), is-2 (suc (suc u)) t (omega arith) (omega arith),
-      is-3 (suc (suc (suc u))) t (omega arith) (omega arith))
+      rw (
+        is-0 u t (omega arith) (omega arith),
+        is-1 (suc u) t (omega arith) (omega arith),
+        is-2 (suc (suc u)) t (omega arith) (omega arith),
+        is-3 (suc (suc (suc u))) t (omega arith) (omega arith),
+      )
       (four X (ltb (2 * t) W) (leb 8 (2 * t)) (stepOf ((evenDue W (P .first) (P .«first_rule») (2 * t)) .x))
       (stepOf ((evenDue W (P .second) (P .«second_rule») (2 * t)) .x)) (stepOf ((oddDue (P .first) (2 * t)) .x)) (stepOf ((oddDue (P .second) (2 * t)) .x)))
 
