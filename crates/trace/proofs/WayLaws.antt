@@ -123,9 +123,6 @@ module _ {A C : Type 0} (f : A → Way C) {here : BitPosition → A} {o : Way A}
   pub then-cut : {there : BitPosition → C} → r ≡ CutOff → Says there o' CutOff
   then-cut k = record { is = e ∙ cut-then f o (was-cut h k) }
 
-  pub then-at : {there : BitPosition → C} {at : BitPosition} {r' : Traced} → r ≡ At at → Says there (f (here at)) r' → Says there o' r'
-  then-at k g = says-is (e ∙ on-then f o _ (was-at h k)) g
-
   -- it does not go on
   pub then-stops : {there : BitPosition → C} (x : Traced) → r ≡ x → Stops x → Says there o' x
   then-stops (Bad b) k g = then-bad k

@@ -1,5 +1,4 @@
 -- `trace::even_due` meets its contract. Assumes nothing.
-use mathlib.Core.Path.{refl}
 use Rattle.trace.proofs.even_due.Statement.{statement}
 use Rattle.trace.proofs.even_due.Tie as tie
 
