@@ -12,11 +12,10 @@ use denote.Enum.Declared.{tagOf, declared}
 use Rattle.bits.specs.declared.BitPosition.{BitPosition}
 use Rattle.steps.specs.Steps.{Step, upto}
 use Rattle.pass.specs.Readings.{Reading, readStep, andThen, reads}
-use Rattle.block.specs.Blocks.{State}
 use Rattle.block.specs.BadCodes.{BadCode, badAt, stepReason, badInSteps}
 use Rattle.trace.specs.Ways.{Way, found, cut-off, on, wayOf, spotOf, stepOf, ifDue, plain, stepWay, stepsWay}
 use Rattle.trace.proofs.PlainLaws.{steps-plain, bad-plain, step-plain}
-use Rattle.trace.specs.Traces.{Said, Says, Ends}
+use Rattle.trace.specs.Traces.{Said, Says}
 use Rattle.trace.proofs.Traced.{enum}
 use Rattle.trace.specs.declared.BadSpot.{BadSpot}
 use Rattle.trace.specs.declared.Sample.{Sample}
@@ -110,11 +109,6 @@ pub no-place : (r : Traced) → (tagOf (declared enum) r ≡ 0) ⊎ (tagOf (decl
 no-place (Bad x) h = tt
 no-place (At at) h = ⊎-elim (λ e. absurd (omega (arith, e))) (λ e. absurd (omega (arith, e))) h
 no-place CutOff h = tt
-
-pub ends : {here : BitPosition → State} {o : Way State} (r : Traced) → Stops r → Says here o r → Ends o r
-ends (Bad x) g h = h .is
-ends (At at) g h = absurd g
-ends CutOff g h = h .is
 
 module _ {A C : Type 0} (f : A → Way C) {here : BitPosition → A} {o : Way A} {o' : Way C} {r : Traced} (e : o' ≡ thenWay o f) (h : Says here o r) where
   pub then-bad : {there : BitPosition → C} {x : BadSpot} → r ≡ Bad x → Says there o' (Bad x)

@@ -12,8 +12,8 @@ use Rattle.block.specs.Walks.{AllInRange}
 use Rattle.block.proofs.RangeLaws.{all-started}
 use Rattle.trace.specs.Ways.{on, blockWay}
 use Rattle.trace.specs.Traces.{cleanState, Says}
-use Rattle.trace.proofs.WayLaws.{turn-at, turn-stops, no-place, ends}
-use Rattle.trace.proofs.LineLaws.{lineAtWay, lines-next, lines-none, line-says, zero-length}
+use Rattle.trace.proofs.WayLaws.{turn-at, turn-stops, no-place}
+use Rattle.trace.proofs.LineLaws.{lineAtWay, lines-next, lines-none, line-says, zero-length, ends-says}
 use Rattle.trace.proofs.trace_lines.Statement.{statement}
 use Rattle.trace.proofs.trace_lines.Tie as tie
 
@@ -95,8 +95,7 @@ returns c =
     let l = looped (turned d) .loop in
     let a = entry (begun (looped (turned d))) .args in
     let r = d .trace-line .result in
-    let stops = no-place r (c .match .keys2) in
-    ends r stops (turn-stops _ _ (lines-next (a .form) (a .block .now)) (test d) (l .inv .5) (said d) r refl stops)
+    ends-says _ _ _ (turn-stops _ _ (lines-next (a .form) (a .block .now)) (test d) (l .inv .5) (said d) r refl (no-place r (c .match .keys2)))
 
 loop-again : tie.Need-loop-again Inv-loop μ-loop
 loop-again c =
