@@ -75,7 +75,7 @@ fn quantisers_in(entries: Entries, bits: u32, base: u32) -> Quantisers
 }
 
 // Where a block starts.
-pub(crate) fn start_place() -> Place
+pub fn start_place() -> Place
     ensures { λ r. ⌜ r ≡ startPlace ⌝ }
 {
     let at = BitPosition(0);
@@ -197,7 +197,7 @@ fn line(
 // `more` lines of a block from line `first` on, each put into the image as soon as it is read. They begin at this place, with what scratch
 // holds, and leave in it what the last of them left. In windows a truncated line's rows become 0. A line's main quantiser is that of its entry; whoever
 // has no entries gives none.
-pub(crate) fn read_lines(
+pub fn read_lines(
     block: &[u8],
     bases: &[u8],
     lines: &mut [u16],
