@@ -17,14 +17,14 @@ pub mod tight;
 
 pub use decoding::decode;
 pub use decoding::decode_region;
-pub use decoding::decode_region_alone;
 pub use decoding::decode_region_windowed;
 pub use reading::is_restarted;
 pub use reading::quantisers_of;
 pub use reading::read_lines;
 pub use reading::start_place;
-pub use reading::walk_alone;
+pub use reading::walk;
 pub use records::clear_records;
+pub use records::cleared;
 pub use records::load_set;
 pub use records::restart;
 pub use records::start_record;

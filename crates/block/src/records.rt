@@ -43,7 +43,7 @@ fn restarted_record(old: Record, bits: u32, base: u32, j: usize) -> Record
     start_record(bits, base, j)
 }
 
-pub(crate) fn cleared() -> Record
+pub fn cleared() -> Record
     ensures { λ r. ⌜ r ≡ record { sum = 0; n = 1 } ⌝ }
 {
     Record { sum: 0, n: 1 }

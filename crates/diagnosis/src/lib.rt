@@ -1,20 +1,27 @@
 // Why a stream is not tight: the lowest block that the tight reading refuses with 15, the spot and the reason, and their text.
 ghost use mathlib.Core.Path.{_≡_};
 ghost use mathlib.Core.Bool.{true};
-ghost use mathlib.Core.List.{[], _∷_, _++_};
-ghost use Prim.Native.Nat.{_+_, _≤_};
+ghost use mathlib.Core.List.{_++_};
+ghost use Prim.Native.Nat.{_+_, _^_, _≤_, _<_};
 ghost use lib.ListN.{length, drop};
 ghost use Rattle.io.specs.Counts.{Counts};
 ghost use Rattle.map.specs.Places.{Fits};
+ghost use Rattle.steps.specs.Values.{Depth};
 ghost use Rattle.stream.specs.Streams.{openOf};
 ghost use Rattle.stream.specs.declared.Parsed.the-variants.{Header};
-ghost use Rattle.block.specs.Images.{formOf};
+ghost use Rattle.block.specs.Walks.{Shown, shownLines, IsWalked};
 ghost use Rattle.block.specs.Words.{answerWords};
 ghost use Rattle.diagnosis.specs.Faults.{gives15, answerAt, faultAt, lowest, findingOf, answerOf, faultOf, reasonWord, spotWords, faultWords};
 ghost use Rattle.diagnosis.specs.Texts.{heading, numberText, field, reasonText, codeText, tailRecord, textOf, Put};
 use bits::BitPosition;
 use block::Decoded;
 use block::Form;
+use block::Walked;
+use block::cleared;
+use block::form_of;
+use block::line_count;
+use block::no_part;
+use block::walk;
 use map::Part;
 use stream::FujiHeader;
 use stream::Parsed;
@@ -52,33 +59,39 @@ fn gives_15(a: Decoded) -> bool
     }
 }
 
-// A part of no column and no row: a walk to it shows nothing.
-fn no_part() -> Part
-    ensures { λ r. ⌜ Fits r (0 ∷ []) ⌝ }
+// A walk with scratch of its own, for whoever has none to lend.
+pub fn walk_alone(
+    block: &[u8],
+    bases: &[u8],
+    image: &mut [u16],
+    form: Form,
+    tile: [u8; 36],
+    part: Part,
+    count: usize,
+) -> Walked
+    requires { ⌜ (length (now block) < 2 ^ 32) × (Depth (form .bits) × (count < 2 ^ 16)) ⌝ }
+    requires { ⌜ Fits part (now image) ⌝ }
+    ensures { λ r. ⌜ IsWalked form (now (bases .entry)) (now (block .entry)) count r ⌝ }
+    ensures { λ r. ⌜ Shown form (now (bases .entry)) (now (block .entry)) tile part (shownLines r count) (now (image .entry)) (now (image .exit)) ⌝ }
 {
-    Part {
-        left: 0,
-        right: 0,
-        start: 0,
-        stride: 1,
-        top: 0,
-        bottom: 0,
-    }
-}
-
-fn form_of(h: FujiHeader) -> Form
-    ensures { λ r. ⌜ r ≡ formOf h ⌝ }
-{
-    Form {
-        bits: h.bits,
-        xtrans: h.xtrans,
-    }
-}
-
-fn line_count(h: FujiHeader) -> usize
-    ensures { λ r. ⌜ r ≡ h .lines ⌝ }
-{
-    h.lines as usize
+    let places = map::xtrans_places();
+    let mut lines = [0u16; 9252];
+    let mut rs = [cleared(); 336];
+    let used = begin::samples_needed(form.xtrans);
+    walk(
+        block,
+        bases,
+        &mut lines[0..used],
+        &mut rs,
+        image,
+        form,
+        &places,
+        tile,
+        part,
+        count,
+        false,
+        cameras::no_entries(),
+    )
 }
 
 // What the tight reading answers for block b, with scratch of its own.
@@ -91,7 +104,7 @@ fn answer_at(d: &[u8], h: FujiHeader, b: usize) -> Decoded
     let block = stream::block_bytes(d, b);
     let bases = stream::base_row(d, b);
     let mut nothing = [0u16; 1];
-    let got = block::walk_alone(
+    let got = walk_alone(
         block,
         bases,
         &mut nothing,

@@ -1,4 +1,4 @@
--- `block::decode_region_alone` meets its contract: what `decode_region` leaves, without scratch. Assumes nothing.
+-- `alone::decode_region_alone` meets its contract: what `decode_region` leaves, without scratch. Assumes nothing.
 mod derived
 use borrow.Author.Needs.{needs}
 use mathlib.Core.List.{List}
@@ -9,11 +9,11 @@ use Rattle.region.specs.declared.Rect.{Rect}
 use Rattle.begin.specs.Beginnings.{regionBegins}
 use Rattle.begin.specs.declared.Beginning.{Beginning}
 use Rattle.begin.specs.declared.Beginning.the-variants as Begin
 use Rattle.block.specs.Images.{Left, LeftImage}
 use Rattle.block.specs.Lent.{Buffers}
 use Rattle.block.specs.declared.Decoded.{Decoded}
-use Rattle.block.proofs.decoding.decode_region_alone.Statement.{statement}
-use Rattle.block.proofs.decoding.decode_region_alone.Proof.derived.Tie as tie
+use Rattle.alone.proofs.decode_region_alone.Statement.{statement}
+use Rattle.alone.proofs.decode_region_alone.Proof.derived.Tie as tie
 
 -- the image and the answer of what is left
 image-of : (d : List ℕ) (r : Rect) (tile : List ℕ) (b : Beginning) (before after : Buffers) (a : Decoded)

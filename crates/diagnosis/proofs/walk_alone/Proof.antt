@@ -1,9 +1,9 @@
--- `block::walk_alone` meets its contract: its own scratch is long enough. Assumes nothing.
+-- `diagnosis::walk_alone` meets its contract: its own scratch is long enough. Assumes nothing.
 mod derived
 use borrow.Author.Needs.{needs}
 use native.Mathlib.Omega.{arith}
-use Rattle.block.proofs.reading.walk_alone.Statement.{statement}
-use Rattle.block.proofs.reading.walk_alone.Proof.derived.Tie as tie
+use Rattle.diagnosis.proofs.walk_alone.Statement.{statement}
+use Rattle.diagnosis.proofs.walk_alone.Proof.derived.Tie as tie
 
 part-lines-end : tie.Need-part-lines-end
 part-lines-end c = omega (arith, c .samples-needed .ensures .1)
