@@ -1,9 +1,9 @@
--- `diagnosis::put_tail` meets its contract: one field after the other. Assumes nothing.
+-- `findings::put_tail` meets its contract: one field after the other. Assumes nothing.
 use borrow.Author.Needs.{needs}
 use native.Mathlib.Omega.{arith}
-use Rattle.diagnosis.proofs.TextLaws.{put-both}
-use Rattle.diagnosis.proofs.put_tail.Statement.{statement}
-use Rattle.diagnosis.proofs.put_tail.Tie as tie
+use Rattle.findings.proofs.TextLaws.{put-both}
+use Rattle.findings.proofs.put_tail.Statement.{statement}
+use Rattle.findings.proofs.put_tail.Tie as tie
 
 returns : tie.Need-returns
 returns c =

@@ -1,9 +1,9 @@
--- `diagnosis::put_field` meets its contract. Assumes nothing.
+-- `findings::put_field` meets its contract. Assumes nothing.
 use borrow.Author.Needs.{needs}
 use native.Mathlib.Omega.{arith}
-use Rattle.diagnosis.proofs.TextLaws.{put-both}
-use Rattle.diagnosis.proofs.put_field.Statement.{statement}
-use Rattle.diagnosis.proofs.put_field.Tie as tie
+use Rattle.findings.proofs.TextLaws.{put-both}
+use Rattle.findings.proofs.put_field.Statement.{statement}
+use Rattle.findings.proofs.put_field.Tie as tie
 
 returns : tie.Need-returns
 returns c =

@@ -1,10 +1,10 @@
--- `diagnosis::put_reason` meets its contract. Assumes nothing.
+-- `findings::put_reason` meets its contract. Assumes nothing.
 use borrow.Author.Needs.{needs}
 use lib.Dec.{lit≤}
 use Rattle.trace.specs.declared.Reason.the-variants.{Large, Escape, Zeros}
-use Rattle.diagnosis.proofs.TextLaws.{put-word}
-use Rattle.diagnosis.proofs.put_reason.Statement.{statement}
-use Rattle.diagnosis.proofs.put_reason.Tie as tie
+use Rattle.findings.proofs.TextLaws.{put-word}
+use Rattle.findings.proofs.put_reason.Statement.{statement}
+use Rattle.findings.proofs.put_reason.Tie as tie
 
 returns : tie.Need-returns
 returns c = let p = c .before .before in put-word _ Large (p .before .before .before .enum-told .given .1) (lit≤ tt) (p .put .ensures)

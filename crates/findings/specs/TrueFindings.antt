@@ -24,11 +24,12 @@ use Rattle.block.specs.TightBlocks.{tightAnswer}
 use Rattle.block.specs.declared.Decoded.the-variants as Answer
 use Rattle.trace.specs.Ways.{spotOf}
 use Rattle.trace.specs.declared.BadSpot.{BadSpot}
-use Rattle.diagnosis.specs.Faults.{faultAt, findingOf}
+use Rattle.diagnosis.specs.Faults.{faultAt}
+use Rattle.findings.specs.Findings.{findingOf}
 use Rattle.diagnosis.specs.declared.Fault.{Fault}
 use Rattle.diagnosis.specs.declared.Fault.the-variants as Fault
-use Rattle.diagnosis.specs.declared.Finding.{Finding}
-use Rattle.diagnosis.specs.declared.Finding.the-variants.{Refused, Nothing, Code, Tail}
+use Rattle.findings.specs.declared.Finding.{Finding}
+use Rattle.findings.specs.declared.Finding.the-variants.{Refused, Nothing, Code, Tail}
 
 -- ---- a block
 

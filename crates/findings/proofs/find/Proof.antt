@@ -1,9 +1,9 @@
--- `diagnosis::find` meets its contract, by the two ways in which opening ends. Assumes nothing.
+-- `findings::find` meets its contract, by the two ways in which opening ends. Assumes nothing.
 use borrow.Author.Needs.{needs}
 use mathlib.Core.Path.{sym, _∙_}
-use Rattle.diagnosis.proofs.FaultLaws.{find-refused, find-lossless, find-lossy}
-use Rattle.diagnosis.proofs.find.Statement.{statement}
-use Rattle.diagnosis.proofs.find.Tie as tie
+use Rattle.findings.proofs.FindingLaws.{find-refused, find-lossless, find-lossy}
+use Rattle.findings.proofs.find.Statement.{statement}
+use Rattle.findings.proofs.find.Tie as tie
 
 find-in-requires : tie.Need-find-in-requires
 find-in-requires c κs =

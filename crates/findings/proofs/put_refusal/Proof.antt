@@ -1,4 +1,4 @@
--- `diagnosis::put_refusal` meets its contract. Assumes nothing.
+-- `findings::put_refusal` meets its contract. Assumes nothing.
 use borrow.Author.Needs.{needs}
 use mathlib.Core.List.{List, [], _∷_, _++_}
 use mathlib.Core.Path.{_≡_}
@@ -7,11 +7,11 @@ use native.Mathlib.Omega.{arith}
 use lib.ListN.{getD}
 use Rattle.stream.specs.Refusals.{refusalWords}
 use Rattle.stream.specs.declared.Refusal.{Refusal}
-use Rattle.diagnosis.specs.Texts.{numberText, textOf}
-use Rattle.diagnosis.specs.declared.Finding.the-variants.{Refused}
-use Rattle.diagnosis.proofs.TextLaws.{put-both, put-same}
-use Rattle.diagnosis.proofs.put_refusal.Statement.{statement}
-use Rattle.diagnosis.proofs.put_refusal.Tie as tie
+use Rattle.findings.specs.Texts.{numberText, textOf}
+use Rattle.findings.specs.declared.Finding.the-variants.{Refused}
+use Rattle.findings.proofs.TextLaws.{put-both, put-same}
+use Rattle.findings.proofs.put_refusal.Statement.{statement}
+use Rattle.findings.proofs.put_refusal.Tie as tie
 
 of-refusal : (x : Refusal) (w : List ℕ) → w ≡ refusalWords x → numberText (getD w 0 0) ++ 10 ∷ [] ≡ textOf (Refused x)
 unfolding textOf

@@ -28,12 +28,13 @@ use Rattle.block.proofs.BadCodeLaws.{bad-in}
 use Rattle.block.proofs.DecodeLaws.{was-read}
 use Rattle.trace.specs.Ways.{spotOf}
 use Rattle.trace.specs.declared.BadSpot.{BadSpot}
-use Rattle.diagnosis.specs.Faults.{gives15, whyNot, faultAt, foundAt, orLater, lowest, findingIn, findingOf}
-use Rattle.diagnosis.specs.TrueFindings.{Why, TrueFault, FaultTrue, TruncatedPassed, NoneBelow, Lowest, TrueFinding, FindingTrue}
+use Rattle.diagnosis.specs.Faults.{gives15, whyNot, faultAt}
+use Rattle.findings.specs.Findings.{foundAt, orLater, lowest, findingIn, findingOf}
+use Rattle.findings.specs.TrueFindings.{Why, TrueFault, FaultTrue, TruncatedPassed, NoneBelow, Lowest, TrueFinding, FindingTrue}
 use Rattle.diagnosis.specs.declared.Fault.{Fault}
 use Rattle.diagnosis.specs.declared.Fault.the-variants as Fault
-use Rattle.diagnosis.specs.declared.Finding.{Finding}
-use Rattle.diagnosis.specs.declared.Finding.the-variants.{Refused, Nothing, Code, Tail}
+use Rattle.findings.specs.declared.Finding.{Finding}
+use Rattle.findings.specs.declared.Finding.the-variants.{Refused, Nothing, Code, Tail}
 
 clash : {X : Type 0} → _≡_ {A = ℕ} 0 1 → X
 clash e = absurd (omega arith)

@@ -1,11 +1,11 @@
--- `diagnosis::report` meets its contract: the text stands at the start of the buffer. Assumes nothing.
+-- `findings::report` meets its contract: the text stands at the start of the buffer. Assumes nothing.
 use borrow.Author.Needs.{needs}
 use mathlib.Core.Path.{ap}
 use native.Mathlib.Omega.{arith}
-use Rattle.diagnosis.specs.Texts.{textOf}
-use Rattle.diagnosis.proofs.TextLaws.{counts, put-same, put-start}
-use Rattle.diagnosis.proofs.report.Statement.{statement}
-use Rattle.diagnosis.proofs.report.Tie as tie
+use Rattle.findings.specs.Texts.{textOf}
+use Rattle.findings.proofs.TextLaws.{counts, put-same, put-start}
+use Rattle.findings.proofs.report.Statement.{statement}
+use Rattle.findings.proofs.report.Tie as tie
 
 returns : tie.Need-returns
 returns c =

@@ -1,14 +1,14 @@
--- `diagnosis::find_in` meets its contract: no block before b has a fault. Assumes nothing.
+-- `findings::find_in` meets its contract: no block before b has a fault. Assumes nothing.
 use borrow.Author.Needs.{needs}
 use mathlib.Core.Path.{_≡_, refl}
 use Prim.Native.Nat.{_-_, _≤_}
 use native.Mathlib.Omega.{arith}
 use Rattle.stream.proofs.StreamLaws.{opened}
-use Rattle.diagnosis.specs.Faults.{lowest}
-use Rattle.diagnosis.specs.declared.Finding.the-variants.{Nothing}
-use Rattle.diagnosis.proofs.FaultLaws.{lowest-none, lowest-more, lowest-code, lowest-tail, lowest-done}
-use Rattle.diagnosis.proofs.find_in.Statement.{statement}
-use Rattle.diagnosis.proofs.find_in.Tie as tie
+use Rattle.findings.specs.Findings.{lowest}
+use Rattle.findings.specs.declared.Finding.the-variants.{Nothing}
+use Rattle.findings.proofs.FindingLaws.{lowest-none, lowest-more, lowest-code, lowest-tail, lowest-done}
+use Rattle.findings.proofs.find_in.Statement.{statement}
+use Rattle.findings.proofs.find_in.Tie as tie
 
 abbrev Inv-loop : tie.InvT-loop
 Inv-loop d h blocks b₀ b = (b ≤ blocks) × ((blocks ≡ h .blocks) × (blocks ≤ 16)) × (lowest d h b ≡ Nothing)

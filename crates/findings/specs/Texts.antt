@@ -12,8 +12,8 @@ use Rattle.trace.specs.declared.BadSpot.{BadSpot}
 use Rattle.trace.specs.declared.Reason.{Reason}
 use Rattle.trace.specs.declared.Reason.the-variants.{Large, Escape, Zeros}
 use Rattle.bits.specs.declared.BitPosition.{BitPosition}
-use Rattle.diagnosis.specs.declared.Finding.{Finding}
-use Rattle.diagnosis.specs.declared.Finding.the-variants.{Refused, Nothing, Code, Tail}
+use Rattle.findings.specs.declared.Finding.{Finding}
+use Rattle.findings.specs.declared.Finding.the-variants.{Refused, Nothing, Code, Tail}
 
 abbrev pub tab : ℕ
 tab = 9

@@ -4,8 +4,8 @@ use mathlib.Core.Path.{_≡_, refl}
 use Rattle.numbers.specs.Numbers.{leastFrom}
 use Rattle.stream.specs.declared.Refusal.the-variants.{ShortHeader, ShortBases, Lossy}
 use Rattle.trace.specs.declared.Reason.the-variants.{Escape}
-use Rattle.diagnosis.specs.Texts.{heading, numberText, textOf}
-use Rattle.diagnosis.specs.declared.Finding.the-variants.{Refused, Nothing, Code, Tail}
+use Rattle.findings.specs.Texts.{heading, numberText, textOf}
+use Rattle.findings.specs.declared.Finding.the-variants.{Refused, Nothing, Code, Tail}
 
 -- `0 0 1 2 0 0 escape`, with tabs for the blanks
 example : textOf (Code 0 (record { line = 0; pass = 1; colour = 2; position = 0; at = record { 0 = 0 }; reason = Escape }))

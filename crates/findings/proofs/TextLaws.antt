@@ -13,7 +13,7 @@ use Rattle.io.specs.Digits.{digits, Fewest}
 use Rattle.numbers.specs.Numbers.{leastFrom}
 use Rattle.numbers.proofs.LeastLaws.{least-is}
 use Rattle.trace.specs.declared.Reason.{Reason}
-use Rattle.diagnosis.specs.Texts.{reasonText, numberText, Put}
+use Rattle.findings.specs.Texts.{reasonText, numberText, Put}
 
 -- ---- one text, and then another
 
