@@ -228,7 +228,7 @@ b7 = Syntax.assign (Syntax.place 24 List.[]) (Syntax.aggregate (List._∷_ (Synt
     List.[])))
 
 abbrev b8 : Syntax.Body
-b8 = Syntax.call "block::checkpoints::resume_region" (List._∷_ (Syntax.copy (Syntax.place 1 List.[])) (List._∷_ (Syntax.copy (Syntax.place 2 List.[])) (List._∷_ (Syntax.copy (Syntax.place 3 List.[]))
+b8 = Syntax.call "block_states::resume_region" (List._∷_ (Syntax.copy (Syntax.place 1 List.[])) (List._∷_ (Syntax.copy (Syntax.place 2 List.[])) (List._∷_ (Syntax.copy (Syntax.place 3 List.[]))
     (List._∷_ (Syntax.copy (Syntax.place 14 List.[])) (List._∷_ (Syntax.copy (Syntax.place 15 List.[])) (List._∷_ (Syntax.copy (Syntax.place 20 List.[])) (List._∷_ (Syntax.copy (Syntax.place 22 List.[]))
     (List._∷_ (Syntax.copy (Syntax.place 24 List.[])) List.[])))))))) (Syntax.place 16 List.[])
 
@@ -794,9 +794,8 @@ module _ (claims· : Claims) where
     module _ (M : Type 1) where
       abbrev pub Closed : Type 2
       Closed = (𝓤 : URA.URA M) (H : Wp.Heap 𝓤) (A : Atoms.Atoms 𝓤) (W : Kit.Given 𝓤 H A) (𝓣 : Wp.Tables 𝓤 H) (known0 : Plain.Known 𝓤 H A W 𝓣 5 ps·0 r·0 (claims· .0) (claims· .1)
-          "block::checkpoints::resume_region") (known1 : Plain.Known 𝓤 H A W 𝓣 0 ps·1 r·1 (claims· .2) (claims· .3) "fuji_compressed::reading::totals_words") (known2 : Plain.Known 𝓤 H A W 𝓣 0 ps·2 r·2
-          (claims· .4) (claims· .5) "fuji_compressed::reading::counted_refusal") → Statement.Triple 𝓤 (Wp.WpFn 𝓤 H (𝓣 .C) (𝓣 .Λ) (Function.fnOf 8 ps r xs m hs body)) (Function.plainOf 𝓤 H A 8 ps r Pre·
-          Post·)
+          "block_states::resume_region") (known1 : Plain.Known 𝓤 H A W 𝓣 0 ps·1 r·1 (claims· .2) (claims· .3) "fuji_compressed::reading::totals_words") (known2 : Plain.Known 𝓤 H A W 𝓣 0 ps·2 r·2 (claims·
+          .4) (claims· .5) "fuji_compressed::reading::counted_refusal") → Statement.Triple 𝓤 (Wp.WpFn 𝓤 H (𝓣 .C) (𝓣 .Λ) (Function.fnOf 8 ps r xs m hs body)) (Function.plainOf 𝓤 H A 8 ps r Pre· Post·)
 
     module _ where
       abbrev at0 : Typed.TF T44 O0
@@ -936,7 +935,7 @@ module _ (claims· : Claims) where
 
       module _ {M : Type 1} (𝓤 : URA.URA M) (H : Wp.Heap 𝓤) (A : Atoms.Atoms 𝓤) (W : Kit.Given 𝓤 H A) (𝓣 : Wp.Tables 𝓤 H) where
         abbrev Knowns : Type 1
-        Knowns = Plain.Known 𝓤 H A W 𝓣 5 ps·0 r·0 (claims· .0) (claims· .1) "block::checkpoints::resume_region" × Plain.Known 𝓤 H A W 𝓣 0 ps·1 r·1 (claims· .2) (claims· .3)
+        Knowns = Plain.Known 𝓤 H A W 𝓣 5 ps·0 r·0 (claims· .0) (claims· .1) "block_states::resume_region" × Plain.Known 𝓤 H A W 𝓣 0 ps·1 r·1 (claims· .2) (claims· .3)
             "fuji_compressed::reading::totals_words" × Plain.Known 𝓤 H A W 𝓣 0 ps·2 r·2 (claims· .4) (claims· .5) "fuji_compressed::reading::counted_refusal"
 
       module _ (κs : Lifetimes.Lfts 8) (qs : Lifetimes.Shares 8) where
@@ -1514,8 +1513,8 @@ module _ (claims· : Claims) where
           d26 = Typed.g-pre 𝓤 H A W 𝓣 E G18 G19 b19 Δ0 (Typed.pass T18 T19 s17) at25 (Scalar.g-room 𝓤 H A W E G18 14 y0 (Local.room-whole 𝓤 H A W (Declared.row Rect.the-type) y0 Path'.refl)) d25
 
           d27 : Typed.Typed 𝓤 H A 𝓣 E G17 b20 Δ0 at27
-          d27 = Typed.s-seq 𝓤 H A W 𝓣 E G17 G18 b8 b19 Δ0 (Typed.both s16) at26 (Plain.t-call-plain 𝓤 H A W 𝓣 5 ps·0 r·0 (claims· .0) (claims· .1) "block::checkpoints::resume_region" (known .0) E (λ
-              pos β. β) G17 (
+          d27 = Typed.s-seq 𝓤 H A W 𝓣 E G17 G18 b8 b19 Δ0 (Typed.both s16) at26 (Plain.t-call-plain 𝓤 H A W 𝓣 5 ps·0 r·0 (claims· .0) (claims· .1) "block_states::resume_region" (known .0) E (λ pos β.
+              β) G17 (
                 record { pos = 1; ty = Syntax.tyRef (Syntax.named 0) Syntax.imm (Syntax.tyInt Syntax.w8); ref = λ x. x },
                 (
                   Num.vAt 2 λ x. x,
@@ -2284,7 +2283,7 @@ module _ (claims· : Claims) where
           }
 
         module _ {M : Type 1} (𝓤 : URA.URA M) (H : Wp.Heap 𝓤) (A : Atoms.Atoms 𝓤) (W : Kit.Given 𝓤 H A) (𝓣 : Wp.Tables 𝓤 H) (known0 : Plain.Known 𝓤 H A W 𝓣 5 ps·0 r·0 (claims· .0) (claims· .1)
-            "block::checkpoints::resume_region") (known1 : Plain.Known 𝓤 H A W 𝓣 0 ps·1 r·1 (claims· .2) (claims· .3) "fuji_compressed::reading::totals_words") (known2 : Plain.Known 𝓤 H A W 𝓣 0 ps·2 r·2
+            "block_states::resume_region") (known1 : Plain.Known 𝓤 H A W 𝓣 0 ps·1 r·1 (claims· .2) (claims· .3) "fuji_compressed::reading::totals_words") (known2 : Plain.Known 𝓤 H A W 𝓣 0 ps·2 r·2
             (claims· .4) (claims· .5) "fuji_compressed::reading::counted_refusal") where
           pub spec : Statement.Triple 𝓤 (Wp.WpFn 𝓤 H (𝓣 .C) (𝓣 .Λ) (Function.fnOf 8 ps r xs m hs body)) (Function.plainOf 𝓤 H A 8 ps r Pre· Post·)
           spec = Plain.t-fn-plain 𝓤 H A W 𝓣 8 ps r xs m hs body (λ κs qs bs. Φ) (λ κs qs bs bd. typed κs qs 𝓤 H A W 𝓣 (known0, known1, known2) bs bd) Pre· Post· asked
