@@ -16,7 +16,7 @@ The borrow checker's rules hold of every element type, and only its front refuse
   3. puts the struct in the array's place, and writes below crates/CRATE/proofs, M being the function's module, if it has one:
        M/derived/F/Kinds, Reads       what a caller of F cites
        M/F/Proof/derived/Lts, Tie     F's derivation over the MIR, and its needs at F's contract
-     lend_layout.py gives a name to what a derivation says again and again, and breaks its lines.
+     lend_names.py gives names to what a derivation says again and again, and lend_layout.py breaks its lines.
 The check admits each derivation over the real function's MIR and contract, or refuses it: nothing here is trusted.
 """
 import filecmp, os, re, shutil, subprocess, sys
@@ -74,6 +74,14 @@ class Crate:
         """The functions over slices of S of other crates that are called, and those that make an S by value, each with its crate."""
         used = sorted(set(re.findall(r"^use (\w+)::(\w+);", "".join(self.files.values()), flags=re.M)))
         return {f: crates[x].load(crates) for x, f in used if x in crates and (f in crates[x].kinds or f in crates[x].values)}
+
+    def words(self):
+        """The words of the proofs that are written by hand."""
+        if not hasattr(self, "own_words"):
+            d = f"crates/{self.name}/proofs"
+            own = [f"{p}/{x}" for p, _, files in os.walk(d) for x in files if x.endswith(".antt") and "/derived/" not in f"{p}/{x}"]
+            self.own_words = {w for x in own for w in re.findall(r"[\w·-]+", read(x))}
+        return self.own_words
 
     def of(self, kind):
         return [f for f in self.kinds if self.kinds[f] == kind]
@@ -324,7 +332,7 @@ def moved(c, text):
         if m + "." in text:
             lines.insert(first, f"use Rattle.{c.home}.proofs.{m}" if c.home else f"use {P}.{m}")
     lines.insert(0, f"-- Written by tools/lend.py from Rattle's derivation of the twin of `{c.name}`; not edited by hand. Assumes nothing.")
-    return laid_out(lines)
+    return laid_out(lines, c.words())
 
 # ---- what is written
 

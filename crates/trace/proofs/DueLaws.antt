@@ -95,7 +95,8 @@ module _ (W : ℕ) (P : Plan) where
   quarters zero = refl
   quarters (suc t) =
       let e : 4 * suc t ≡ suc (suc (suc (suc (4 * t)))) = omega arith in
-      rw e (next-four (quarter W P) (4 * t) ∙ (turn-four (upto (quarter W P) (4 * t)) t (4 * t) refl ∙ ap (λ (l : List Step). l ++ turnSteps W P t) (quarters t)))
+      rw e (next-four (quarter W P) (4 * t) ∙ (turn-four (upto (quarter W P) (4 * t)) t (4 * t) refl ∙ ap (λ (l : List Step). l ++ turnSteps W P t)
+      (quarters t)))
 
 -- a pass is so many of them
 pub pass-is : (t : Stage) (s : List ℕ) (P : Plan) (n : ℕ) → n ≡ 4 * (t .w / 2 + 4) → (r : Reading)

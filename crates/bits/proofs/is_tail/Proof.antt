@@ -45,4 +45,5 @@ returns-3 c =
 pub is-tail-spec : {M : Type 1} → statement M
 is-tail-spec =
     tie.close
-    (tie.spec (λ c κs. tt) returns (λ c κs. omega (arith, c .before .before .before .before .pre)) (λ c. c .match .keys1) (λ c. c .match .keys2) returns-2 returns-3)
+    (tie.spec (λ c κs. tt) returns (λ c κs. omega (arith, c .before .before .before .before .pre)) (λ c. c .match .keys1) (λ c. c .match .keys2)
+    returns-2 returns-3)

@@ -10,4 +10,5 @@ returns c = byte-is _ _ _
 pub be-byte-spec : {M : Type 1} → statement M
 be-byte-spec =
     tie.close
-    (tie.spec (λ c. omega (arith, c .pre)) (λ c. omega (arith, c .pre)) (λ c. omega (arith, c .pre)) (λ c. omega (arith, c .pre)) (λ c. omega (arith, c .pre)) (λ c. omega (arith, c .pre)) returns)
+    (tie.spec (λ c. omega (arith, c .pre)) (λ c. omega (arith, c .pre)) (λ c. omega (arith, c .pre)) (λ c. omega (arith, c .pre)) (λ c. omega
+    (arith, c .pre)) (λ c. omega (arith, c .pre)) returns)

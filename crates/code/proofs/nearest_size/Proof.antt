@@ -9,4 +9,5 @@ returns : tie.Need-returns
 returns c = let p = c .pre in (refl, size-lt _ _ (p .0) (p .1))
 
 pub nearest-size-spec : {M : Type 1} → statement M
-nearest-size-spec = tie.close (tie.spec (λ c. omega (arith, c .pre)) (λ c. omega (arith, c .pre)) (λ c. omega (arith, c .pre)) (λ c. omega (arith, c .pre)) returns)
+nearest-size-spec = tie.close (tie.spec (λ c. omega (arith, c .pre)) (λ c. omega (arith, c .pre)) (λ c. omega (arith, c .pre)) (λ c. omega
+    (arith, c .pre)) returns)

@@ -20,4 +20,5 @@ returns-3 c = (simp (ne-eqb _ _ (c .before .if1 .left), ne-eqb _ _ (c .if2 .left
 
 pub colour-line-spec : {M : Type 1} → statement M
 colour-line-spec =
-    tie.close (tie.spec (λ c. omega (arith, c .before .pre)) returns (λ c. omega (arith, c .before .before .pre)) returns-2 (λ c. omega (arith, c .before .before .pre)) returns-3)
+    tie.close (tie.spec (λ c. omega (arith, c .before .pre)) returns (λ c. omega (arith, c .before .before .pre)) returns-2 (λ c. omega
+    (arith, c .before .before .pre)) returns-3)

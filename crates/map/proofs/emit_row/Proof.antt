@@ -35,7 +35,20 @@ emit-three-requires c κs =
     let z = eqb-true (l .column) 0 (t .0) in
     let y = leb-true (l .p + 6) (s .args .right) (t .1) in (
       (s .pre .0 .1 .0, (s .pre .1 .0 .0, s .pre .1 .1)),
-      (omega (arith, l .inv .3), (lit≤ tt, (omega (arith, y, s .pre .0 .1 .1), (omega (arith, l .inv .2 .kept, y, l .inv .0, s .pre .1 .0 .1), starts-inside (s .args .xtrans) (s .args .w) (s .args .tile) _ (s .args .r) (c .before .before .before .before .before .starts-of .ensures) (s .pre .0 .1 .0) (s .pre .0 .0))))),
+      (
+        omega (arith, l .inv .3),
+        (
+          lit≤ tt,
+          (
+            omega (arith, y, s .pre .0 .1 .1),
+            (
+              omega (arith, l .inv .2 .kept, y, l .inv .0, s .pre .1 .0 .1),
+              starts-inside (s .args .xtrans) (s .args .w) (s .args .tile) _ (s .args .r) (c
+                  .before .before .before .before .before .starts-of .ensures) (s .pre .0 .1 .0) (s .pre .0 .0),
+            ),
+          ),
+        ),
+      ),
     )
 
 emit-three-requires-2 : tie.Need-emit-three-requires-2 Inv-loop μ-loop
@@ -46,7 +59,21 @@ emit-three-requires-2 c κs =
     let z = eqb-true (l .column) 0 (t .0) in
     let y = leb-true (l .p + 6) (s .args .right) (t .1) in (
       (s .pre .0 .1 .0, (s .pre .1 .0 .0, s .pre .1 .1)),
-      (omega (arith, l .inv .3), (lit≤ tt, (omega (arith, y, s .pre .0 .1 .1), (omega (arith, l .inv .2 .kept, y, l .inv .0, s .pre .1 .0 .1, c .before .before .before .before .emit-three .ensures .1), starts-inside (s .args .xtrans) (s .args .w) (s .args .tile) _ (s .args .r) (c .before .before .before .before .before .before .before .before .before .before .starts-of .ensures) (s .pre .0 .1 .0) (s .pre .0 .0))))),
+      (
+        omega (arith, l .inv .3),
+        (
+          lit≤ tt,
+          (
+            omega (arith, y, s .pre .0 .1 .1),
+            (
+              omega (arith, l .inv .2 .kept, y, l .inv .0, s .pre .1 .0 .1, c .before .before .before .before .emit-three .ensures .1),
+              starts-inside (s
+                  .args .xtrans) (s .args .w) (s .args .tile) _ (s .args .r) (c .before .before .before .before .before .before .before .before .before .before
+                  .starts-of .ensures) (s .pre .0 .1 .0) (s .pre .0 .0),
+            ),
+          ),
+        ),
+      ),
     )
 
 loop-again : tie.Need-loop-again Inv-loop μ-loop
@@ -69,7 +96,17 @@ emit-sample-requires c κs =
     let s = c .before .before .before .before .before .before .before .before in
     let l = c .before .before .before .before .loop in (
       (s .pre .0 .1 .0, (s .pre .1 .0 .0, s .pre .1 .1)),
-      (l .inv .3, (omega (arith, t, s .pre .0 .1 .1), (omega (arith, l .inv .2 .kept, t, l .inv .0, s .pre .1 .0 .1), starts-inside (s .args .xtrans) (s .args .w) (s .args .tile) _ (s .args .r) (c .before .before .before .before .before .starts-of .ensures) (s .pre .0 .1 .0) (s .pre .0 .0)))),
+      (
+        l .inv .3,
+        (
+          omega (arith, t, s .pre .0 .1 .1),
+          (
+            omega (arith, l .inv .2 .kept, t, l .inv .0, s .pre .1 .0 .1),
+            starts-inside (s .args .xtrans) (s .args .w) (s .args .tile) _ (s .args .r) (c
+                .before .before .before .before .before .starts-of .ensures) (s .pre .0 .1 .0) (s .pre .0 .0),
+          ),
+        ),
+      ),
     )
 
 loop-again-2 : tie.Need-loop-again-2 Inv-loop μ-loop
@@ -98,18 +135,48 @@ emit-row-spec =
     starts-of-requires
     loop-holds
     (λ c. c .before .loop .inv .0)
-    (λ c. omega (arith, c .before .loop .inv .0, c .loop-test .taken, c .before .before .before .before .before .pre .1 .0 .1, c .before .before .before .before .before .good))
+    (λ c. omega (
+      arith,
+      c .before .loop .inv .0,
+      c .loop-test .taken,
+      c .before .before .before .before .before .pre .1 .0 .1,
+      c .before .before .before .before
+          .before .good,
+    ))
     (λ c. omega (arith, c .loop-test .taken, c .before .before .before .before .before .pre .0 .1 .1))
     emit-three-requires
-    (λ c. omega (arith, c .before .before .before .before .before .before .before .before .loop .inv .0, c .before .before .before .before .before .before .before .loop-test .taken, c .before .before .before .before .before .before .before .before .before .before .before .before .pre .1 .0 .1, c .before .before .before .before .before .before .before .before .before .before .before .before .good))
-    (λ c. omega (arith, c .before .before .before .before .before .before .before .before .loop-test .taken, c .before .before .before .before .before .before .before .before .before .before .before .before .before .pre .0 .1 .1))
+    (λ c. omega (
+      arith,
+      c .before .before .before .before .before .before .before .before .loop .inv .0,
+      c .before .before .before .before .before .before .before
+          .loop-test .taken,
+      c .before .before .before .before .before .before .before .before .before .before .before .before .pre .1 .0 .1,
+      c .before
+          .before .before .before .before .before .before .before .before .before .before .before .good,
+    ))
+    (λ c. omega (
+      arith,
+      c .before .before .before .before .before .before .before .before .loop-test .taken,
+      c .before .before .before .before .before .before
+          .before .before .before .before .before .before .before .pre .0 .1 .1,
+    ))
     emit-three-requires-2
-    (λ c. omega (arith, c .before .before .before .before .before .before .before .before .before .before .before .loop-test .taken, c .before .before .before .before .before .before .before .before .before .before .before .before .before .before .before .before .pre .0 .1 .1))
+    (λ c. omega (
+      arith,
+      c .before .before .before .before .before .before .before .before .before .before .before .loop-test .taken,
+      c .before .before .before
+          .before .before .before .before .before .before .before .before .before .before .before .before .before .pre .0 .1 .1,
+    ))
     (λ c. omega (arith, c .before .before .before .before .before .before .before .before .before .before .before .loop-test .taken))
     loop-again
     emit-sample-requires
     (λ c κs. omega (arith, c .before .before .before .before .before .before .before .loop .inv .3))
-    (λ c. omega (arith, c .before .before .before .before .before .before .before .loop-test .taken, c .before .before .before .before .before .before .before .before .before .before .before .before .pre .0 .1 .1))
+    (λ c. omega (
+      arith,
+      c .before .before .before .before .before .before .before .loop-test .taken,
+      c .before .before .before .before .before .before .before
+          .before .before .before .before .before .pre .0 .1 .1,
+    ))
     (λ c. omega (arith, c .before .before .before .before .before .before .before .loop-test .taken))
     loop-again-2
     (λ c. c .before .loop .inv .2 .kept)

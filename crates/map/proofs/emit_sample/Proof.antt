@@ -12,4 +12,5 @@ returns c =
     (ap (set (a .image .now) (a .i)) (c .sample-at .ensures), length-set (a .image .now) (a .i) (c .sample-at .result))
 
 pub emit-sample-spec : {M : Type 1} → statement M
-emit-sample-spec = tie.close (tie.spec (λ c κs. search needs) (λ c. omega (arith, c .before .before .before .pre)) (λ c. omega (arith, c .before .before .before .pre)) (λ c. search needs) returns)
+emit-sample-spec = tie.close (tie.spec (λ c κs. search needs) (λ c. omega (arith, c .before .before .before .pre)) (λ c. omega
+    (arith, c .before .before .before .pre)) (λ c. search needs) returns)

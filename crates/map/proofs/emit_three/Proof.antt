@@ -41,9 +41,15 @@ emit-three-spec =
     (λ c. omega (arith, c .before .before .before .before .before .before .before .pre .1))
     (λ c. omega (arith, c .before .before .before .before .before .before .before .pre .1))
     emit-sample-requires-2
-    (λ c. omega (arith, c .before .before .before .before .before .before .before .before .before .before .before .pre .1, c .before .before .before .before .before .before .before .before .before .before .before .good))
+    (λ c. omega (
+      arith,
+      c .before .before .before .before .before .before .before .before .before .before .before .pre .1,
+      c .before .before .before .before
+          .before .before .before .before .before .before .before .good,
+    ))
     (λ c. omega (arith, c .before .before .before .before .before .before .before .before .before .before .before .pre .1))
     (λ c. omega (arith, c .before .before .before .before .before .before .before .before .before .before .before .pre .1))
     emit-sample-requires-3
-    (λ c. c .before .before .emit-sample3 .ensures .1 ∙ (c .before .before .before .before .before .before .emit-sample2 .ensures .1 ∙ c .before .before .before .before .before .before .before .before .before .before .emit-sample .ensures .1))
+    (λ c. c .before .before .emit-sample3 .ensures .1 ∙ (c .before .before .before .before .before .before .emit-sample2 .ensures .1 ∙ c .before
+    .before .before .before .before .before .before .before .before .before .emit-sample .ensures .1))
     returns)

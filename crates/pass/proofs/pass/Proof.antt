@@ -37,7 +37,15 @@ abbrev μ-loop : tie.MeasureT-loop
 
 loop-holds : tie.Need-loop-holds Inv-loop μ-loop
 unfolding upto
-loop-holds c = record { even = refl; last = omega arith; same = refl; records = c .before .before .before .before .before .before .before .before .before .before .before .pre .records; ks-kept = c .before .before .before .before .ks-of .ensures; read = no-steps }
+loop-holds c = record {
+  even = refl;
+  last = omega arith;
+  same = refl;
+  records = c .before .before .before .before .before .before .before .before .before .before .before
+      .pre .records;
+  ks-kept = c .before .before .before .before .ks-of .ensures;
+  read = no-steps;
+}
 
 abbrev entry : tie.In-loop Inv-loop μ-loop → tie.Start Inv-loop μ-loop
 entry c = c .before .before .before .before .before .before .before .before .before .before .before .before .before
@@ -214,13 +222,15 @@ pass-spec =
     even-pair-requires
     (λ c. search needs)
     (λ c. search needs)
-    (λ c. let e = c .before .before .before .before in e .even-pair .kept .1 .1 .1 .1 .0 ∙ e .before .before .before .before .before .before .before .before .before .before .loop .inv .same)
+    (λ c. let e = c .before .before .before .before in e .even-pair .kept .1 .1 .1 .1 .0 ∙ e .before .before .before .before .before .before .before
+    .before .before .before .loop .inv .same)
     returns
     (λ c. search needs)
     odd-pair-requires
     (λ c. search needs)
     (λ c. search needs)
-    (λ c. let o = c .before .before .before .before in o .odd-pair .kept .1 .1 .1 .1 .0 ∙ evens (o .before .before .before .before .before .before .before .before .before) .same)
+    (λ c. let o = c .before .before .before .before in o .odd-pair .kept .1 .1 .1 .1 .0 ∙ evens (o .before .before .before .before .before .before
+    .before .before .before) .same)
     returns-2
     (λ c. search needs)
     (λ c. search needs)

@@ -20,4 +20,5 @@ returns c = by-list _ _ _ _ (c .before .before .pre) (c .before .smaller .ensure
 
 pub choice-by-spec : {M : Type 1} → statement M
 choice-by-spec =
-    tie.close (tie.spec (λ c κs. tt) (λ c. omega (arith, c .smaller .ensures)) (λ c. omega (arith, c .smaller .ensures)) (λ c. omega (arith, c .smaller .ensures)) returns)
+    tie.close (tie.spec (λ c κs. tt) (λ c. omega (arith, c .smaller .ensures)) (λ c. omega (arith, c .smaller .ensures)) (λ c. omega
+    (arith, c .smaller .ensures)) returns)

@@ -51,5 +51,12 @@ odd-context-spec =
     (λ c. omega (arith, c .before .before .before .before .before .before .before .before .before .pre))
     (λ c. omega (arith, c .before .before .before .before .before .before .before .before .before .before .pre))
     (λ c κs. tt)
-    (λ c κs. omega (arith, c .before .before .before .before .before .before .before .before .u16-to-u32 .ensures, c .before .before .before .before .before .before .u16-to-u322 .ensures, c .before .before .before .before .u16-to-u323 .ensures, c .before .before .u16-to-u324 .ensures))
+    (λ c κs. omega (
+      arith,
+      c .before .before .before .before .before .before .before .before .u16-to-u32 .ensures,
+      c .before .before .before .before .before .before
+          .u16-to-u322 .ensures,
+      c .before .before .before .before .u16-to-u323 .ensures,
+      c .before .before .u16-to-u324 .ensures,
+    ))
     returns)

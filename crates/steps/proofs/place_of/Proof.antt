@@ -12,4 +12,5 @@ returns-2 c = simp (ne-eqb _ _ (c .if1 .left))
 
 pub place-of-spec : {M : Type 1} → statement M
 place-of-spec =
-    tie.close (tie.spec returns (λ c. omega (arith, c .before .pre)) (λ c. omega (arith, c .before .pre)) (λ c. omega (arith, c .before .pre)) (λ c. omega (arith, c .before .pre)) returns-2)
+    tie.close (tie.spec returns (λ c. omega (arith, c .before .pre)) (λ c. omega (arith, c .before .pre)) (λ c. omega (arith, c .before .pre)) (λ c.
+    omega (arith, c .before .pre)) returns-2)

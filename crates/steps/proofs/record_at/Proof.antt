@@ -13,4 +13,5 @@ returns c =
     (sym (record-is (a .sums .now) (a .ns .now) (p .1) (a .slot) (p .0)), record-in-range (a .sums .now) (a .ns .now) (p .1) (a .slot) (p .0))
 
 pub record-at-spec : {M : Type 1} → statement M
-record-at-spec = tie.close (tie.spec (λ c. omega (arith, c .pre)) (λ c. omega (arith, c .pre)) (λ c. omega (arith, c .before .pre)) (λ c. omega (arith, c .before .pre)) returns)
+record-at-spec = tie.close (tie.spec (λ c. omega (arith, c .pre)) (λ c. omega (arith, c .pre)) (λ c. omega (arith, c .before .pre)) (λ c. omega
+    (arith, c .before .pre)) returns)

@@ -24,4 +24,5 @@ returns-2 c =
     bounded h _ (not-false (h .lossless) (s .if1 .left)) (c .most-bytes .ensures)
 
 pub bound-in-spec : {M : Type 1} → statement M
-bound-in-spec = tie.close (tie.spec (λ c. omega (arith, c .before .pre)) (λ c. omega (arith, c .before .before .pre)) returns (λ c κs. omega (arith, c .before .before .before .pre)) returns-2)
+bound-in-spec = tie.close (tie.spec (λ c. omega (arith, c .before .pre)) (λ c. omega (arith, c .before .before .pre)) returns (λ c κs. omega
+    (arith, c .before .before .before .pre)) returns-2)

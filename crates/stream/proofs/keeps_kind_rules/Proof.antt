@@ -11,4 +11,5 @@ returns c = rw (c .before .before .before .byte .ensures .0, c .before .before .
 pub keeps-kind-rules-spec : {M : Type 1} → statement M
 keeps-kind-rules-spec =
     tie.close
-    (tie.spec (λ c κs. omega (arith, c .before .pre)) (λ c κs. omega (arith, c .before .before .pre)) (λ c κs. omega (arith, c .before .before .before .pre)) (λ c κs. omega (arith, c .before .before .before .before .pre)) returns)
+    (tie.spec (λ c κs. omega (arith, c .before .pre)) (λ c κs. omega (arith, c .before .before .pre)) (λ c κs. omega
+    (arith, c .before .before .before .pre)) (λ c κs. omega (arith, c .before .before .before .before .pre)) returns)

@@ -5,7 +5,13 @@ use Rattle.stream.proofs.keeps_size_rules.Tie as tie
 
 returns : tie.Need-returns
 unfolding sizeRules
-returns c = rw (c .before .before .before .before .is-within .ensures, c .before .before .before .is-within2 .ensures, c .before .before .is-within3 .ensures, c .before .saturating-sub .ensures)
+returns c = rw (
+  c .before .before .before .before .is-within .ensures,
+  c .before .before .before .is-within2 .ensures,
+  c .before .before .is-within3 .ensures,
+  c
+      .before .saturating-sub .ensures,
+)
 
 pub keeps-size-rules-spec : {M : Type 1} → statement M
 keeps-size-rules-spec =

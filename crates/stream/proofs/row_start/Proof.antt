@@ -10,7 +10,8 @@ rows-le : (b n : ℕ) → b ≤ 16 → n ≤ 2746 → b * n ≤ 43936
 rows-le b n hb hn = let p : b * n ≤ 16 * n = mul-le-mul-right n hb in omega arith
 
 rows : (c : tie.After-padded2) → c .before .before .before .before .args .b * c .padded2 .result ≤ 43936
-rows c = rows-le _ _ (c .before .before .before .before .pre .1) (omega (arith, c .padded2 .ensures .1, c .before .row-length .ensures .1, c .before .before .before .before .pre .0 .lines-high))
+rows c = rows-le _ _ (c .before .before .before .before .pre .1) (omega
+    (arith, c .padded2 .ensures .1, c .before .row-length .ensures .1, c .before .before .before .before .pre .0 .lines-high))
 
 mul-result : tie.Need-mul-result
 mul-result c = omega (arith, rows c)

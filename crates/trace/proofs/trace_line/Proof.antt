@@ -53,8 +53,13 @@ went c = c .before .before .before .before .before .before .before .before .befo
 loop-holds : tie.Need-loop-holds Inv-loop μ-loop
 loop-holds c =
     let a = c .before .before .before .before .before in
-    let w = width-in-range (a .args .form .xtrans) _ (c .width .ensures) in
-    (omega arith, (c .width .ensures, w .0, w .1, w .2), (rw (c .width .ensures) (a .pre .room), a .pre .for-sums, a .pre .for-ns), a .pre .records, passes-none _ _ _ _)
+    let w = width-in-range (a .args .form .xtrans) _ (c .width .ensures) in (
+      omega arith,
+      (c .width .ensures, w .0, w .1, w .2),
+      (rw (c .width .ensures) (a .pre .room), a .pre .for-sums, a .pre .for-ns),
+      a .pre .records,
+      passes-none _ _ _ _,
+    )
 
 set-guards-requires : tie.Need-set-guards-requires Inv-loop μ-loop
 set-guards-requires c κs =

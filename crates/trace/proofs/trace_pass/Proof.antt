@@ -72,7 +72,8 @@ module _ (d : tie.After-trace-step Inv-loop μ-loop) where
   said =
       let l = looped d .loop in
       let a = start (looped d) .args in
-      says-is (due-steps (a .stage) (a .block .now) (a .plan) (l .u) (given d .due-at .result) (given d .due-at .ensures) (clean (l .lines) (l .sums) (l .ns) (l .at))) (d .trace-step .ensures .says)
+      says-is (due-steps (a .stage) (a .block .now) (a .plan) (l .u) (given d .due-at .result) (given d .due-at .ensures) (clean (l .lines) (l .sums)
+      (l .ns) (l .at))) (d .trace-step .ensures .says)
 
   test : looped d .loop .u < 4 * (start (looped d) .args .stage .w / 2 + 4)
   test = given d .before .loop-test .taken
@@ -94,7 +95,8 @@ returns c =
     let r = d .trace-step .result in
     record {
       says = says-is (pass-is (a .stage) (a .block .now) (a .plan) _ refl _)
-          (turn-stops _ _ (steps-next (a .stage) (a .block .now) (quarter (a .stage .w) (a .plan)) _) (test d) (l .inv .4) (said d) r refl (no-place r (c .match .keys2)));
+          (turn-stops _ _ (steps-next (a .stage) (a .block .now) (quarter (a .stage .w) (a .plan)) _) (test d) (l .inv .4) (said d) r refl (no-place r
+          (c .match .keys2)));
       records = d .trace-step .ensures .records;
     }
 

@@ -105,7 +105,8 @@ returns-2 : tie.Need-returns-2
 returns-2 c =
     let k = c .before .before in
     record {
-      says = says-is (as-step k) (record { is = interpolated _ _ _ _ _ _ _ _ _ _ _ (k .before .before .left-of .ensures .0) (found k) (not-true _ (c .before .if2 .taken)) });
+      says = says-is (as-step k) (record
+          { is = interpolated _ _ _ _ _ _ _ _ _ _ _ (k .before .before .left-of .ensures .0) (found k) (not-true _ (c .before .if2 .taken)) });
       records = entry k .pre .0 .records;
     }
 
@@ -119,7 +120,8 @@ returns-3 c =
     let r = c .before .before in
     let o = kept r in
     record {
-      says = says-is (as-step (seen o)) (record { is = step-cut _ _ (here o) (coded o) (r .before .k .ensures .0) (r .read-code .ensures .0) (c .enum-told .given .1) });
+      says = says-is (as-step (seen o)) (record
+          { is = step-cut _ _ (here o) (coded o) (r .before .k .ensures .0) (r .read-code .ensures .0) (c .enum-told .given .1) });
       records = entry (seen o) .pre .0 .records;
     }
 
@@ -199,7 +201,8 @@ trace-step-spec =
     returns-2
     (λ c κs. (omega arith, c .before .context-at .ensures .1))
     (λ c κs. c .look-of .ensures .1 .1 .1)
-    (λ c κs. let p = c .before .before .before .before .before .before .before .before .before .before .before .before .before .before .before .pre .0 in ((c .before .before .slot-of .ensures .1, (p .for-sums, p .for-ns)), p .records))
+    (λ c κs. let p = c .before .before .before .before .before .before .before .before .before .before .before .before .before .before .before .pre .0
+    in ((c .before .before .slot-of .ensures .1, (p .for-sums, p .for-ns)), p .records))
     (λ c κs. let r = c .record-in .ensures .1 in (r .some, r .most))
     read-code-requires
     (λ c. c .match .keys1)

@@ -18,4 +18,5 @@ returns : tie.Need-returns
 returns c = let n = c .before in judged _ _ _ _ _ _ (c .is-past-end .ensures) (n .before .be-at .ensures .0) (n .be-at2 .ensures .0)
 
 pub is-bad-place-spec : {M : Type 1} → statement M
-is-bad-place-spec = tie.close (tie.spec (λ c κs. omega (arith, c .before .pre)) (λ c κs. omega (arith, c .before .before .pre)) (λ c κs. omega (arith, c .before .before .before .pre)) returns)
+is-bad-place-spec = tie.close (tie.spec (λ c κs. omega (arith, c .before .pre)) (λ c κs. omega (arith, c .before .before .pre)) (λ c κs. omega
+    (arith, c .before .before .before .pre)) returns)

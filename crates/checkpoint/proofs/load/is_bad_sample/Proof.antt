@@ -16,4 +16,5 @@ returns : tie.Need-returns
 returns c = judged _ _ _ _ _ (c .before .power .ensures .0) (c .be-at .ensures .0)
 
 pub is-bad-sample-spec : {M : Type 1} → statement M
-is-bad-sample-spec = tie.close (tie.spec (λ c κs. omega (arith, c .before .pre)) (λ c. omega (arith, c .before .before .pre)) (λ c. omega (arith, c .before .before .pre)) (λ c κs. omega (arith, c .before .before .pre)) returns)
+is-bad-sample-spec = tie.close (tie.spec (λ c κs. omega (arith, c .before .pre)) (λ c. omega (arith, c .before .before .pre)) (λ c. omega
+    (arith, c .before .before .pre)) (λ c κs. omega (arith, c .before .before .pre)) returns)

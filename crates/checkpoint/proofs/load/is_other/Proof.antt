@@ -27,4 +27,5 @@ returns-2 c = by-block _ _ _ _ (sym (c .before .before .before .has-other-header
 
 pub is-other-spec : {M : Type 1} → statement M
 is-other-spec =
-    tie.close (tie.spec (λ c κs. omega (arith, c .before .before .pre)) returns (λ c. omega (arith, c .before .before .before .before .before .pre)) (λ c κs. tt) returns-2)
+    tie.close (tie.spec (λ c κs. omega (arith, c .before .before .pre)) returns (λ c. omega (arith, c .before .before .before .before .before .pre))
+    (λ c κs. tt) returns-2)

@@ -18,4 +18,6 @@ returns c =
     both _ _ _ _ _ (s .before .load-six .ensures) (g .before .set-near-guards .ensures)
 
 pub load-lines-spec : {M : Type 1} → statement M
-load-lines-spec = tie.close (tie.spec (λ c κs. c .before .before .before .pre) (λ c κs. omega (arith, c .before .before .before .before .before .before .before .pre)) (λ c. omega (arith, c .before .before .before .before .before .before .before .before .before .before .pre)) returns)
+load-lines-spec = tie.close (tie.spec (λ c κs. c .before .before .before .pre) (λ c κs. omega
+    (arith, c .before .before .before .before .before .before .before .pre)) (λ c. omega
+    (arith, c .before .before .before .before .before .before .before .before .before .before .pre)) returns)

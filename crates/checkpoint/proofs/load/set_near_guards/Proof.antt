@@ -20,4 +20,7 @@ returns c =
     all-three _ _ _ _ _ (m₁ .before .set-guards .ensures) (m₂ .before .set-guards2 .ensures) (m₃ .before .set-guards3 .ensures)
 
 pub set-near-guards-spec : {M : Type 1} → statement M
-set-near-guards-spec = tie.close (tie.spec (λ c κs. omega (arith, c .before .before .pre)) (λ c κs. omega (arith, c .before .before .before .before .before .before .pre)) (λ c κs. omega (arith, c .before .before .before .before .before .before .before .before .before .before .pre)) (λ c. omega (arith, c .before .before .before .before .before .before .before .before .before .before .before .before .before .pre)) returns)
+set-near-guards-spec = tie.close (tie.spec (λ c κs. omega (arith, c .before .before .pre)) (λ c κs. omega
+    (arith, c .before .before .before .before .before .before .pre)) (λ c κs. omega
+    (arith, c .before .before .before .before .before .before .before .before .before .before .pre)) (λ c. omega
+    (arith, c .before .before .before .before .before .before .before .before .before .before .before .before .before .pre)) returns)

@@ -64,9 +64,24 @@ emit-cell-spec =
     returns-3
     mul-at
     add-at
-    (λ c. omega (arith, c .before .before .before .before .before .before .before .pre .0 .1 .1 .1 .1, c .before .before .before .before .before .before .before .good))
-    (λ c. omega (arith, c .before .before .before .before .before .before .before .pre .0 .1 .1 .1 .1, c .before .before .before .before .before .before .before .good))
-    (λ c. omega (arith, c .before .before .before .before .before .before .before .pre .0 .1 .1 .1 .1, c .before .before .before .before .before .before .before .good))
+    (λ c. omega (
+      arith,
+      c .before .before .before .before .before .before .before .pre .0 .1 .1 .1 .1,
+      c .before .before .before .before .before .before .before
+          .good,
+    ))
+    (λ c. omega (
+      arith,
+      c .before .before .before .before .before .before .before .pre .0 .1 .1 .1 .1,
+      c .before .before .before .before .before .before .before
+          .good,
+    ))
+    (λ c. omega (
+      arith,
+      c .before .before .before .before .before .before .before .pre .0 .1 .1 .1 .1,
+      c .before .before .before .before .before .before .before
+          .good,
+    ))
     emit-column-requires
     (λ c. c .before .before .emit-column .kept .1 .0)
     returns-4)

@@ -17,4 +17,5 @@ returns-2 : tie.Need-returns-2
 returns-2 c = not-wanted _ _ _ _ (c .if1 .left)
 
 pub emit-line-if-spec : {M : Type 1} → statement M
-emit-line-if-spec = tie.close (tie.spec emit-line-requires (λ c. omega (arith, c .before .before .before .before .before .before .before .pre)) returns returns-2)
+emit-line-if-spec = tie.close (tie.spec emit-line-requires (λ c. omega (arith, c .before .before .before .before .before .before .before .pre))
+    returns returns-2)

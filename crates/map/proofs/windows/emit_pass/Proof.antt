@@ -28,4 +28,5 @@ returns-2 c =
 
 pub emit-pass-spec : {M : Type 1} → statement M
 emit-pass-spec =
-    tie.close (tie.spec returns (λ c κs. search needs) emit-colour-requires-2 (λ c. omega (arith, c .before .before .before .before .before .before .before .before .before .before .before .pre)) returns-2)
+    tie.close (tie.spec returns (λ c κs. search needs) emit-colour-requires-2 (λ c. omega
+    (arith, c .before .before .before .before .before .before .before .before .before .before .before .pre)) returns-2)

@@ -1,4 +1,9 @@
 -- Written by tools/lend.py from Rattle's derivation of the twin of `block_states`; not edited by hand. Assumes nothing.
+use borrow.Fn.Args.{ArgsT}
+use Rattle.bits.proofs.Values
+use Rattle.bits.proofs.Values.{on}
+use Rattle.bits.proofs.Values.{n16, n8, u16, u32, u64, u8}
+use mathlib.Core.List.{_∷_, []}
 use Rattle.block.proofs.Element
 use Prim.Native.Nat
 use Rattle.steps.proofs.Set
@@ -18,7 +23,6 @@ use borrow.Kind.MutSlice
 use borrow.Kind.Num
 use borrow.Kind.ShrSlice
 use borrow.Kind.Unit as Unit'
-use borrow.Kind.Value
 use borrow.Rule.Lifetime
 use borrow.Rule.Local
 use borrow.Rule.Scalar
@@ -26,9 +30,7 @@ use borrow.Rule.Slice.Know
 use borrow.Rule.Slice.Mut
 use borrow.Rule.Slice.Relend
 use borrow.Rule.Slice.Shared
-use borrow.Rule.Yields
 use borrow.Struct.Reads
-use borrow.Table.Copies
 use borrow.Table.Reads as Reads'
 use borrow.Table.Referent
 use borrow.Table.Row
@@ -36,9 +38,7 @@ use borrow.Table.Rows
 use borrow.Table.Typed
 use contract.Lifetimes
 use denote.Array
-use denote.Exit
 use denote.Struct.Declared
-use denote.Struct.Laws as Laws''
 use denote.Triple.Clauses
 use denote.Triple.Statement
 use ghost.Atoms
@@ -53,217 +53,172 @@ use prog.Wp
 use types.Kit
 
 abbrev pub y0 : Syntax.Ty
-y0 = Syntax.tyStruct (List._∷_ 115 (List._∷_ 116 (List._∷_ 101 (List._∷_ 112 (List._∷_ 115 (List._∷_ 58 (List._∷_ 58 (List._∷_ 83 (List._∷_ 101 (List._∷_ 116 List.[])))))))))) (Syntax.tcons
-    (Syntax.tyArray (Syntax.tyInt Syntax.w32) 112) (Syntax.tcons (Syntax.tyArray (Syntax.tyInt Syntax.w32) 112) Syntax.tnil))
+y0 = Syntax.tyArray u32 112
 
 abbrev pub y1 : Syntax.Ty
-y1 = Syntax.tyStruct (List._∷_ 115 (List._∷_ 116 (List._∷_ 114 (List._∷_ 101 (List._∷_ 97 (List._∷_ 109 (List._∷_ 58 (List._∷_ 58 (List._∷_ 70 (List._∷_ 117 (List._∷_ 106 (List._∷_ 105 (List._∷_ 72
-    (List._∷_ 101 (List._∷_ 97 (List._∷_ 100 (List._∷_ 101 (List._∷_ 114 List.[])))))))))))))))))) (Syntax.tcons Syntax.tyBool (Syntax.tcons Syntax.tyBool (Syntax.tcons (Syntax.tyInt Syntax.w32)
-    (Syntax.tcons (Syntax.tyInt Syntax.w32) (Syntax.tcons (Syntax.tyInt Syntax.w32) (Syntax.tcons (Syntax.tyInt Syntax.w32) (Syntax.tcons (Syntax.tyInt Syntax.w32) (Syntax.tcons (Syntax.tyInt Syntax.w32)
-    (Syntax.tcons (Syntax.tyInt Syntax.w32) Syntax.tnil)))))))))
+y1 = Syntax.tyRef (Syntax.named 0) Syntax.mut u8
 
 abbrev pub y2 : Syntax.Ty
-y2 = Syntax.tyStruct (List._∷_ 38 (List._∷_ 91 (List._∷_ 93 List.[]))) (Syntax.tcons (Syntax.tyRef Syntax.erased Syntax.mut (Syntax.tyInt Syntax.w8)) (Syntax.tcons (Syntax.tyInt Syntax.w64)
-    Syntax.tnil))
+y2 = Syntax.tyRef (Syntax.named 1) Syntax.imm u8
 
 abbrev pub y3 : Syntax.Ty
-y3 = Syntax.tyStruct (List._∷_ 38 (List._∷_ 91 (List._∷_ 93 List.[]))) (Syntax.tcons (Syntax.tyRef Syntax.erased Syntax.mut Element.behind) (Syntax.tcons (Syntax.tyInt Syntax.w64) Syntax.tnil))
+y3 = Syntax.tyRef (Syntax.named 2) Syntax.imm u16
+
+abbrev pub y4 : Syntax.Ty
+y4 = Syntax.tyRef (Syntax.named 3) Syntax.mut Element.behind
+
+abbrev pub y5 : Syntax.Ty
+y5 = Syntax.tyRef Syntax.erased Syntax.mut Element.behind
+
+abbrev pub y6 : Syntax.Ty
+y6 = Syntax.tyRef Syntax.erased Syntax.mut u8
+
+abbrev pub y7 : Syntax.Ty
+y7 = Syntax.tyStruct (115 ∷ 116 ∷ 114 ∷ 101 ∷ 97 ∷ 109 ∷ 58 ∷ 58 ∷ 70 ∷ 117 ∷ 106 ∷ 105 ∷ 72 ∷ 101 ∷ 97 ∷ 100 ∷ 101 ∷ 114 ∷ []) (Syntax.tcons Syntax.tyBool (Syntax.tcons Syntax.tyBool (Syntax.tcons
+    u32 (Syntax.tcons u32 (Syntax.tcons u32 (Syntax.tcons u32 (Syntax.tcons u32 (Syntax.tcons u32 (Syntax.tcons u32 Syntax.tnil)))))))))
+
+abbrev pub y8 : Syntax.Ty
+y8 = Syntax.tyStruct (115 ∷ 116 ∷ 101 ∷ 112 ∷ 115 ∷ 58 ∷ 58 ∷ 83 ∷ 101 ∷ 116 ∷ []) (Syntax.tcons y0 (Syntax.tcons y0 Syntax.tnil))
+
+abbrev pub y9 : Syntax.Ty
+y9 = Syntax.tyStruct (38 ∷ 91 ∷ 93 ∷ []) (Syntax.tcons y5 (Syntax.tcons u64 Syntax.tnil))
+
+abbrev pub y10 : Syntax.Ty
+y10 = Syntax.tyStruct (38 ∷ 91 ∷ 93 ∷ []) (Syntax.tcons y6 (Syntax.tcons u64 Syntax.tnil))
 
 abbrev pub ps : List.List (Kinds.PK 4)
-ps = List._∷_ (MutSlice.pMutS (Referent.rtF (Referent.fInt Syntax.w8)) 0 tt) (List._∷_ (ShrSlice.pShrS (Referent.rtF (Referent.fInt Syntax.w8)) 1 tt) (List._∷_ (Value.pVal record {
-  ty = Declared.row FujiHeader.the-type;
-  one = Path'.refl;
-  val = Laws''.val FujiHeader.the-type Laws'.the-laws;
-  tells = Laws''.tells FujiHeader.the-type Laws'.the-laws;
-  still = Laws''.still
-      FujiHeader.the-type Laws'.the-copy Exit.yes;
-  row = Rows.whole (Declared.row FujiHeader.the-type);
-  rd = λ x. x;
-  mk = λ x. x;
-} λ M 𝓤 H A W. record {
-  copies = Laws''.copy FujiHeader.the-type Laws'.the-copy 𝓤 H A W;
-  lawful = Laws''.lawful FujiHeader.the-type Laws'.the-laws 𝓤 H A W;
-  makes = Laws''.makes FujiHeader.the-type Laws'.the-plain 𝓤 H A;
-  in-mem = Local.mem-whole 𝓤 H A W (Declared.row FujiHeader.the-type);
-  of-mem = Local.whole-mem 𝓤 H A W (Declared.row FujiHeader.the-type);
-}) (List._∷_ (Num.pNum Syntax.w64) (List._∷_ (Num.pNum
-    Syntax.w64) (List._∷_ (Num.pNum Syntax.w64) (List._∷_ (ShrSlice.pShrS (Referent.rtF (Referent.fInt Syntax.w16)) 2 tt) (List._∷_ (MutSlice.pMutS (Element.type) 3 tt) List.[])))))))
+ps = (MutSlice.pMutS n8 0 tt) ∷ (ShrSlice.pShrS n8 1 tt) ∷ (Values.struct FujiHeader.the-type Laws'.the-laws Laws'.the-copy Laws'.the-plain) ∷ (Num.pNum Syntax.w64) ∷ (Num.pNum Syntax.w64) ∷ (Num.pNum
+    Syntax.w64) ∷ (ShrSlice.pShrS n16 2 tt) ∷ (MutSlice.pMutS (Element.type) 3 tt) ∷ []
 
 abbrev pub r : Kinds.RK 4
 r = Unit'.rUnit
 
 abbrev pub xs : List.List Syntax.Ty
-xs = List._∷_ Syntax.tyBool (List._∷_ Syntax.tyUnit (List._∷_ (Syntax.tyRef Syntax.erased Syntax.mut (Syntax.tyInt Syntax.w8)) (List._∷_ y2 (List._∷_ (Syntax.tyRef Syntax.erased Syntax.mut
-    (Syntax.tyInt Syntax.w8)) (List._∷_ y2 (List._∷_ y0 (List._∷_ (Syntax.tyRef Syntax.erased Syntax.mut Element.behind) (List._∷_ y3 (List._∷_ (Syntax.tyRef Syntax.erased Syntax.mut (Syntax.tyInt
-    Syntax.w8)) (List._∷_ y2 (List._∷_ (Syntax.tyRef Syntax.erased Syntax.mut Element.behind) (List._∷_ y3 (List._∷_ (Syntax.tyRef Syntax.erased Syntax.mut (Syntax.tyInt Syntax.w8)) (List._∷_ y2 (List._∷_
-    (Syntax.tyRef Syntax.erased Syntax.mut Element.behind) (List._∷_ y3 (List._∷_ (Syntax.tyRef Syntax.erased Syntax.mut (Syntax.tyInt Syntax.w8)) (List._∷_ y2 (List._∷_ (Syntax.tyInt Syntax.w64)
-    List.[])))))))))))))))))))
+xs = Syntax.tyBool ∷ Syntax.tyUnit ∷ y6 ∷ y10 ∷ y6 ∷ y10 ∷ y8 ∷ y5 ∷ y9 ∷ y6 ∷ y10 ∷ y5 ∷ y9 ∷ y6 ∷ y10 ∷ y5 ∷ y9 ∷ y6 ∷ y10 ∷ u64 ∷ []
 
 abbrev pub m : Nat.ℕ
 m = 8
 
 abbrev pub ps·0 : List.List (Kinds.PK 2)
-ps·0 = List._∷_ (MutSlice.pMutS (Referent.rtF (Referent.fInt Syntax.w8)) 0 tt) (List._∷_ (ShrSlice.pShrS (Referent.rtF (Referent.fInt Syntax.w8)) 1 tt) (List._∷_ (Num.pNum Syntax.w64) (List._∷_
-    (Num.pNum Syntax.w64) (List._∷_ (Num.pNum Syntax.w64) List.[]))))
+ps·0 = (MutSlice.pMutS n8 0 tt) ∷ (ShrSlice.pShrS n8 1 tt) ∷ (Num.pNum Syntax.w64) ∷ (Num.pNum Syntax.w64) ∷ (Num.pNum Syntax.w64) ∷ []
 
 abbrev pub r·0 : Kinds.RK 2
 r·0 = Unit'.rUnit
 
 abbrev pub ps·1 : List.List (Kinds.PK 1)
-ps·1 = List._∷_ (MutSlice.pMutS (Element.type) 0 tt) (List._∷_ (Num.pNum Syntax.w64) List.[])
+ps·1 = (MutSlice.pMutS (Element.type) 0 tt) ∷ (Num.pNum Syntax.w64) ∷ []
 
 abbrev pub r·1 : Kinds.RK 1
-r·1 = Value.rVal record {
-  ty = Declared.row Set.the-type;
-  one = Path'.refl;
-  val = Laws''.val Set.the-type Laws.the-laws;
-  tells = Laws''.tells Set.the-type Laws.the-laws;
-  still = Laws''.still Set.the-type Laws.the-copy
-      Exit.yes;
-  row = Rows.whole (Declared.row Set.the-type);
-  rd = λ x. x;
-  mk = λ x. x;
-} λ M 𝓤 H A W. record {
-  copies = Laws''.copy Set.the-type Laws.the-copy 𝓤 H A W;
-  lawful = Laws''.lawful Set.the-type Laws.the-laws 𝓤 H A W;
-  makes = Laws''.makes Set.the-type Laws.the-plain 𝓤 H A;
-  in-mem = Local.mem-whole 𝓤
-      H A W (Declared.row Set.the-type);
-  of-mem = Local.whole-mem 𝓤 H A W (Declared.row Set.the-type);
-}
+r·1 = Values.struct-result Set.the-type Laws.the-laws Laws.the-copy Laws.the-plain
 
 abbrev pub ps·2 : List.List (Kinds.PK 1)
-ps·2 = List._∷_ (MutSlice.pMutS (Referent.rtF (Referent.fInt Syntax.w8)) 0 tt) (List._∷_ (Num.pNum Syntax.w64) (List._∷_ (Value.pVal record {
-  ty = Declared.row Set.the-type;
-  one = Path'.refl;
-  val = Laws''.val Set.the-type Laws.the-laws;
-  tells = Laws''.tells Set.the-type Laws.the-laws;
-  still = Laws''.still Set.the-type Laws.the-copy
-      Exit.yes;
-  row = Rows.whole (Declared.row Set.the-type);
-  rd = λ x. x;
-  mk = λ x. x;
-} λ M 𝓤 H A W. record {
-  copies = Laws''.copy Set.the-type Laws.the-copy 𝓤 H A W;
-  lawful = Laws''.lawful Set.the-type Laws.the-laws 𝓤 H A W;
-  makes = Laws''.makes Set.the-type Laws.the-plain 𝓤 H A;
-  in-mem = Local.mem-whole 𝓤
-      H A W (Declared.row Set.the-type);
-  of-mem = Local.whole-mem 𝓤 H A W (Declared.row Set.the-type);
-}) (List._∷_ Bool.pBool List.[])))
+ps·2 = (MutSlice.pMutS n8 0 tt) ∷ (Num.pNum Syntax.w64) ∷ (Values.struct Set.the-type Laws.the-laws Laws.the-copy Laws.the-plain) ∷ Bool.pBool ∷ []
 
 abbrev pub r·2 : Kinds.RK 1
 r·2 = Unit'.rUnit
 
 abbrev pub ps·3 : List.List (Kinds.PK 0)
-ps·3 = List._∷_ Bool.pBool List.[]
+ps·3 = Bool.pBool ∷ []
 
 abbrev pub r·3 : Kinds.RK 0
 r·3 = Num.rNum Syntax.w64
 
 abbrev pub ps·4 : List.List (Kinds.PK 2)
-ps·4 = List._∷_ (MutSlice.pMutS (Referent.rtF (Referent.fInt Syntax.w8)) 0 tt) (List._∷_ (ShrSlice.pShrS (Referent.rtF (Referent.fInt Syntax.w16)) 1 tt) (List._∷_ (Num.pNum Syntax.w64) List.[]))
+ps·4 = (MutSlice.pMutS n8 0 tt) ∷ (ShrSlice.pShrS n16 1 tt) ∷ (Num.pNum Syntax.w64) ∷ []
 
 abbrev pub r·4 : Kinds.RK 2
 r·4 = Unit'.rUnit
 
 abbrev pub hs : List.List Syntax.Home
-hs = List._∷_ Syntax.valueLocal (List._∷_ Syntax.valueLocal (List._∷_ Syntax.valueLocal (List._∷_ Syntax.valueLocal (List._∷_ Syntax.valueLocal (List._∷_ Syntax.valueLocal (List._∷_ Syntax.valueLocal
-    (List._∷_ Syntax.valueLocal (List._∷_ Syntax.valueLocal (List._∷_ Syntax.valueLocal (List._∷_ Syntax.valueLocal (List._∷_ Syntax.valueLocal (List._∷_ Syntax.valueLocal (List._∷_ Syntax.valueLocal
-    (List._∷_ Syntax.valueLocal (List._∷_ Syntax.valueLocal (List._∷_ Syntax.valueLocal (List._∷_ Syntax.valueLocal (List._∷_ Syntax.valueLocal (List._∷_ Syntax.valueLocal (List._∷_ Syntax.valueLocal
-    (List._∷_ Syntax.valueLocal (List._∷_ Syntax.valueLocal (List._∷_ Syntax.valueLocal (List._∷_ Syntax.valueLocal (List._∷_ Syntax.valueLocal (List._∷_ Syntax.valueLocal (List._∷_ Syntax.valueLocal
-    (List._∷_ Syntax.valueLocal List.[]))))))))))))))))))))))))))))
+hs = Syntax.valueLocal ∷ Syntax.valueLocal ∷ Syntax.valueLocal ∷ Syntax.valueLocal ∷ Syntax.valueLocal ∷ Syntax.valueLocal ∷ Syntax.valueLocal ∷ Syntax.valueLocal ∷ Syntax.valueLocal ∷
+    Syntax.valueLocal ∷ Syntax.valueLocal ∷ Syntax.valueLocal ∷ Syntax.valueLocal ∷ Syntax.valueLocal ∷ Syntax.valueLocal ∷ Syntax.valueLocal ∷ Syntax.valueLocal ∷ Syntax.valueLocal ∷ Syntax.valueLocal ∷
+    Syntax.valueLocal ∷ Syntax.valueLocal ∷ Syntax.valueLocal ∷ Syntax.valueLocal ∷ Syntax.valueLocal ∷ Syntax.valueLocal ∷ Syntax.valueLocal ∷ Syntax.valueLocal ∷ Syntax.valueLocal ∷ Syntax.valueLocal ∷
+    []
 
 abbrev b0 : Syntax.Body
-b0 = Syntax.assign (Syntax.place 9 List.[]) (Syntax.rvOpd (Syntax.copy (Syntax.place 3 (List._∷_ (Syntax.field 0) List.[]))))
+b0 = Syntax.assign (Syntax.place 9 []) (Syntax.rvOpd (Syntax.copy (Syntax.place 3 ((Syntax.field 0) ∷ []))))
 
 abbrev b1 : Syntax.Body
-b1 = Syntax.assign (Syntax.place 11 List.[]) (Syntax.addrOf (Syntax.place 1 (List._∷_ (Syntax.field 0) (List._∷_ (Syntax.deref (Syntax.tyInt Syntax.w8)) List.[]))))
+b1 = Syntax.assign (Syntax.place 11 []) (Syntax.addrOf (Syntax.place 1 ((Syntax.field 0) ∷ (Syntax.deref u8) ∷ [])))
 
 abbrev b2 : Syntax.Body
-b2 = Syntax.assign (Syntax.place 12 List.[]) (Syntax.aggregate (List._∷_ (Syntax.copy (Syntax.place 11 List.[])) (List._∷_ (Syntax.copy (Syntax.place 1 (List._∷_ (Syntax.field 1) List.[]))) List.[])))
+b2 = Syntax.assign (Syntax.place 12 []) (Syntax.aggregate ((Syntax.copy (Syntax.place 11 [])) ∷ (Syntax.copy (Syntax.place 1 ((Syntax.field 1) ∷ []))) ∷ []))
 
 abbrev b3 : Syntax.Body
-b3 = Syntax.call "checkpoint::store_head" (List._∷_ (Syntax.copy (Syntax.place 12 List.[])) (List._∷_ (Syntax.copy (Syntax.place 2 List.[])) (List._∷_ (Syntax.copy (Syntax.place 4 List.[])) (List._∷_
-    (Syntax.copy (Syntax.place 5 List.[])) (List._∷_ (Syntax.copy (Syntax.place 6 List.[])) List.[]))))) (Syntax.place 10 List.[])
+b3 = Syntax.call "checkpoint::store_head" ((Syntax.copy (Syntax.place 12 [])) ∷ (Syntax.copy (Syntax.place 2 [])) ∷ (Syntax.copy (Syntax.place 4 [])) ∷ (Syntax.copy (Syntax.place 5 [])) ∷ (Syntax.copy
+    (Syntax.place 6 [])) ∷ []) (Syntax.place 10 [])
 
 abbrev b4 : Syntax.Body
-b4 = Syntax.assign (Syntax.place 13 List.[]) (Syntax.addrOf (Syntax.place 1 (List._∷_ (Syntax.field 0) (List._∷_ (Syntax.deref (Syntax.tyInt Syntax.w8)) List.[]))))
+b4 = Syntax.assign (Syntax.place 13 []) (Syntax.addrOf (Syntax.place 1 ((Syntax.field 0) ∷ (Syntax.deref u8) ∷ [])))
 
 abbrev b5 : Syntax.Body
-b5 = Syntax.assign (Syntax.place 14 List.[]) (Syntax.aggregate (List._∷_ (Syntax.copy (Syntax.place 13 List.[])) (List._∷_ (Syntax.copy (Syntax.place 1 (List._∷_ (Syntax.field 1) List.[]))) List.[])))
+b5 = Syntax.assign (Syntax.place 14 []) (Syntax.aggregate ((Syntax.copy (Syntax.place 13 [])) ∷ (Syntax.copy (Syntax.place 1 ((Syntax.field 1) ∷ []))) ∷ []))
 
 abbrev b6 : Syntax.Body
-b6 = Syntax.assign (Syntax.place 16 List.[]) (Syntax.addrOf (Syntax.place 8 (List._∷_ (Syntax.field 0) (List._∷_ (Syntax.deref (Element.held)) List.[]))))
+b6 = Syntax.assign (Syntax.place 16 []) (Syntax.addrOf (Syntax.place 8 ((Syntax.field 0) ∷ (Syntax.deref (Element.held)) ∷ [])))
 
 abbrev b7 : Syntax.Body
-b7 = Syntax.assign (Syntax.place 17 List.[]) (Syntax.aggregate (List._∷_ (Syntax.copy (Syntax.place 16 List.[])) (List._∷_ (Syntax.copy (Syntax.place 8 (List._∷_ (Syntax.field 1) List.[]))) List.[])))
+b7 = Syntax.assign (Syntax.place 17 []) (Syntax.aggregate ((Syntax.copy (Syntax.place 16 [])) ∷ (Syntax.copy (Syntax.place 8 ((Syntax.field 1) ∷ []))) ∷ []))
 
 abbrev b8 : Syntax.Body
-b8 = Syntax.call "block::records::load_set" (List._∷_ (Syntax.copy (Syntax.place 17 List.[])) (List._∷_ (Syntax.int Syntax.w64 0) List.[])) (Syntax.place 15 List.[])
+b8 = Syntax.call "block::records::load_set" ((Syntax.copy (Syntax.place 17 [])) ∷ (Syntax.int Syntax.w64 0) ∷ []) (Syntax.place 15 [])
 
 abbrev b9 : Syntax.Body
-b9 = Syntax.call "checkpoint::store_set" (List._∷_ (Syntax.copy (Syntax.place 14 List.[])) (List._∷_ (Syntax.int Syntax.w64 0) (List._∷_ (Syntax.copy (Syntax.place 15 List.[])) (List._∷_ (Syntax.copy
-    (Syntax.place 9 List.[])) List.[])))) (Syntax.place 10 List.[])
+b9 = Syntax.call "checkpoint::store_set" ((Syntax.copy (Syntax.place 14 [])) ∷ (Syntax.int Syntax.w64 0) ∷ (Syntax.copy (Syntax.place 15 [])) ∷ (Syntax.copy (Syntax.place 9 [])) ∷ []) (Syntax.place 10
+    [])
 
 abbrev b10 : Syntax.Body
-b10 = Syntax.assign (Syntax.place 18 List.[]) (Syntax.addrOf (Syntax.place 1 (List._∷_ (Syntax.field 0) (List._∷_ (Syntax.deref (Syntax.tyInt Syntax.w8)) List.[]))))
+b10 = Syntax.assign (Syntax.place 18 []) (Syntax.addrOf (Syntax.place 1 ((Syntax.field 0) ∷ (Syntax.deref u8) ∷ [])))
 
 abbrev b11 : Syntax.Body
-b11 = Syntax.assign (Syntax.place 19 List.[]) (Syntax.aggregate (List._∷_ (Syntax.copy (Syntax.place 18 List.[])) (List._∷_ (Syntax.copy (Syntax.place 1 (List._∷_ (Syntax.field 1) List.[])))
-    List.[])))
+b11 = Syntax.assign (Syntax.place 19 []) (Syntax.aggregate ((Syntax.copy (Syntax.place 18 [])) ∷ (Syntax.copy (Syntax.place 1 ((Syntax.field 1) ∷ []))) ∷ []))
 
 abbrev b12 : Syntax.Body
-b12 = Syntax.assign (Syntax.place 20 List.[]) (Syntax.addrOf (Syntax.place 8 (List._∷_ (Syntax.field 0) (List._∷_ (Syntax.deref (Element.held)) List.[]))))
+b12 = Syntax.assign (Syntax.place 20 []) (Syntax.addrOf (Syntax.place 8 ((Syntax.field 0) ∷ (Syntax.deref (Element.held)) ∷ [])))
 
 abbrev b13 : Syntax.Body
-b13 = Syntax.assign (Syntax.place 21 List.[]) (Syntax.aggregate (List._∷_ (Syntax.copy (Syntax.place 20 List.[])) (List._∷_ (Syntax.copy (Syntax.place 8 (List._∷_ (Syntax.field 1) List.[])))
-    List.[])))
+b13 = Syntax.assign (Syntax.place 21 []) (Syntax.aggregate ((Syntax.copy (Syntax.place 20 [])) ∷ (Syntax.copy (Syntax.place 8 ((Syntax.field 1) ∷ []))) ∷ []))
 
 abbrev b14 : Syntax.Body
-b14 = Syntax.call "block::records::load_set" (List._∷_ (Syntax.copy (Syntax.place 21 List.[])) (List._∷_ (Syntax.int Syntax.w64 1) List.[])) (Syntax.place 15 List.[])
+b14 = Syntax.call "block::records::load_set" ((Syntax.copy (Syntax.place 21 [])) ∷ (Syntax.int Syntax.w64 1) ∷ []) (Syntax.place 15 [])
 
 abbrev b15 : Syntax.Body
-b15 = Syntax.call "checkpoint::store_set" (List._∷_ (Syntax.copy (Syntax.place 19 List.[])) (List._∷_ (Syntax.int Syntax.w64 1) (List._∷_ (Syntax.copy (Syntax.place 15 List.[])) (List._∷_ (Syntax.copy
-    (Syntax.place 9 List.[])) List.[])))) (Syntax.place 10 List.[])
+b15 = Syntax.call "checkpoint::store_set" ((Syntax.copy (Syntax.place 19 [])) ∷ (Syntax.int Syntax.w64 1) ∷ (Syntax.copy (Syntax.place 15 [])) ∷ (Syntax.copy (Syntax.place 9 [])) ∷ []) (Syntax.place
+    10 [])
 
 abbrev b16 : Syntax.Body
-b16 = Syntax.assign (Syntax.place 22 List.[]) (Syntax.addrOf (Syntax.place 1 (List._∷_ (Syntax.field 0) (List._∷_ (Syntax.deref (Syntax.tyInt Syntax.w8)) List.[]))))
+b16 = Syntax.assign (Syntax.place 22 []) (Syntax.addrOf (Syntax.place 1 ((Syntax.field 0) ∷ (Syntax.deref u8) ∷ [])))
 
 abbrev b17 : Syntax.Body
-b17 = Syntax.assign (Syntax.place 23 List.[]) (Syntax.aggregate (List._∷_ (Syntax.copy (Syntax.place 22 List.[])) (List._∷_ (Syntax.copy (Syntax.place 1 (List._∷_ (Syntax.field 1) List.[])))
-    List.[])))
+b17 = Syntax.assign (Syntax.place 23 []) (Syntax.aggregate ((Syntax.copy (Syntax.place 22 [])) ∷ (Syntax.copy (Syntax.place 1 ((Syntax.field 1) ∷ []))) ∷ []))
 
 abbrev b18 : Syntax.Body
-b18 = Syntax.assign (Syntax.place 24 List.[]) (Syntax.addrOf (Syntax.place 8 (List._∷_ (Syntax.field 0) (List._∷_ (Syntax.deref (Element.held)) List.[]))))
+b18 = Syntax.assign (Syntax.place 24 []) (Syntax.addrOf (Syntax.place 8 ((Syntax.field 0) ∷ (Syntax.deref (Element.held)) ∷ [])))
 
 abbrev b19 : Syntax.Body
-b19 = Syntax.assign (Syntax.place 25 List.[]) (Syntax.aggregate (List._∷_ (Syntax.copy (Syntax.place 24 List.[])) (List._∷_ (Syntax.copy (Syntax.place 8 (List._∷_ (Syntax.field 1) List.[])))
-    List.[])))
+b19 = Syntax.assign (Syntax.place 25 []) (Syntax.aggregate ((Syntax.copy (Syntax.place 24 [])) ∷ (Syntax.copy (Syntax.place 8 ((Syntax.field 1) ∷ []))) ∷ []))
 
 abbrev b20 : Syntax.Body
-b20 = Syntax.call "block::records::load_set" (List._∷_ (Syntax.copy (Syntax.place 25 List.[])) (List._∷_ (Syntax.int Syntax.w64 2) List.[])) (Syntax.place 15 List.[])
+b20 = Syntax.call "block::records::load_set" ((Syntax.copy (Syntax.place 25 [])) ∷ (Syntax.int Syntax.w64 2) ∷ []) (Syntax.place 15 [])
 
 abbrev b21 : Syntax.Body
-b21 = Syntax.call "checkpoint::store_set" (List._∷_ (Syntax.copy (Syntax.place 23 List.[])) (List._∷_ (Syntax.int Syntax.w64 2) (List._∷_ (Syntax.copy (Syntax.place 15 List.[])) (List._∷_ (Syntax.copy
-    (Syntax.place 9 List.[])) List.[])))) (Syntax.place 10 List.[])
+b21 = Syntax.call "checkpoint::store_set" ((Syntax.copy (Syntax.place 23 [])) ∷ (Syntax.int Syntax.w64 2) ∷ (Syntax.copy (Syntax.place 15 [])) ∷ (Syntax.copy (Syntax.place 9 [])) ∷ []) (Syntax.place
+    10 [])
 
 abbrev b22 : Syntax.Body
-b22 = Syntax.assign (Syntax.place 26 List.[]) (Syntax.addrOf (Syntax.place 1 (List._∷_ (Syntax.field 0) (List._∷_ (Syntax.deref (Syntax.tyInt Syntax.w8)) List.[]))))
+b22 = Syntax.assign (Syntax.place 26 []) (Syntax.addrOf (Syntax.place 1 ((Syntax.field 0) ∷ (Syntax.deref u8) ∷ [])))
 
 abbrev b23 : Syntax.Body
-b23 = Syntax.assign (Syntax.place 27 List.[]) (Syntax.aggregate (List._∷_ (Syntax.copy (Syntax.place 26 List.[])) (List._∷_ (Syntax.copy (Syntax.place 1 (List._∷_ (Syntax.field 1) List.[])))
-    List.[])))
+b23 = Syntax.assign (Syntax.place 27 []) (Syntax.aggregate ((Syntax.copy (Syntax.place 26 [])) ∷ (Syntax.copy (Syntax.place 1 ((Syntax.field 1) ∷ []))) ∷ []))
 
 abbrev b24 : Syntax.Body
-b24 = Syntax.call "map::width" (List._∷_ (Syntax.copy (Syntax.place 3 (List._∷_ (Syntax.field 1) List.[]))) List.[]) (Syntax.place 28 List.[])
+b24 = Syntax.call "map::width" ((Syntax.copy (Syntax.place 3 ((Syntax.field 1) ∷ []))) ∷ []) (Syntax.place 28 [])
 
 abbrev b25 : Syntax.Body
-b25 = Syntax.call "checkpoint::store_lines" (List._∷_ (Syntax.copy (Syntax.place 27 List.[])) (List._∷_ (Syntax.copy (Syntax.place 7 List.[])) (List._∷_ (Syntax.copy (Syntax.place 28 List.[]))
-    List.[]))) (Syntax.place 10 List.[])
+b25 = Syntax.call "checkpoint::store_lines" ((Syntax.copy (Syntax.place 27 [])) ∷ (Syntax.copy (Syntax.place 7 [])) ∷ (Syntax.copy (Syntax.place 28 [])) ∷ []) (Syntax.place 10 [])
 
 abbrev b26 : Syntax.Body
-b26 = Syntax.assign (Syntax.place 0 List.[]) (Syntax.rvOpd Syntax.opdUnit)
+b26 = Syntax.assign (Syntax.place 0 []) (Syntax.rvOpd Syntax.opdUnit)
 
 abbrev b27 : Syntax.Body
 b27 = Syntax.return
@@ -271,14 +226,8 @@ b27 = Syntax.return
 abbrev b28 : Syntax.Body
 b28 = Syntax.seq b26 b27
 
-abbrev b29 : Syntax.Body
-b29 = Syntax.seq b25 b28
-
-abbrev b30 : Syntax.Body
-b30 = Syntax.seq b24 b29
-
 abbrev b31 : Syntax.Body
-b31 = Syntax.seq b23 b30
+b31 = Syntax.seq b23 (Syntax.seq b24 (Syntax.seq b25 b28))
 
 abbrev b32 : Syntax.Body
 b32 = Syntax.seq b22 b31
@@ -286,65 +235,32 @@ b32 = Syntax.seq b22 b31
 abbrev b33 : Syntax.Body
 b33 = Syntax.seq b21 b32
 
-abbrev b34 : Syntax.Body
-b34 = Syntax.seq b20 b33
-
-abbrev b35 : Syntax.Body
-b35 = Syntax.seq b19 b34
-
 abbrev b36 : Syntax.Body
-b36 = Syntax.seq b18 b35
-
-abbrev b37 : Syntax.Body
-b37 = Syntax.seq b17 b36
+b36 = Syntax.seq b18 (Syntax.seq b19 (Syntax.seq b20 b33))
 
 abbrev b38 : Syntax.Body
-b38 = Syntax.seq b16 b37
+b38 = Syntax.seq b16 (Syntax.seq b17 b36)
 
 abbrev b39 : Syntax.Body
 b39 = Syntax.seq b15 b38
 
-abbrev b40 : Syntax.Body
-b40 = Syntax.seq b14 b39
-
-abbrev b41 : Syntax.Body
-b41 = Syntax.seq b13 b40
-
 abbrev b42 : Syntax.Body
-b42 = Syntax.seq b12 b41
-
-abbrev b43 : Syntax.Body
-b43 = Syntax.seq b11 b42
+b42 = Syntax.seq b12 (Syntax.seq b13 (Syntax.seq b14 b39))
 
 abbrev b44 : Syntax.Body
-b44 = Syntax.seq b10 b43
+b44 = Syntax.seq b10 (Syntax.seq b11 b42)
 
 abbrev b45 : Syntax.Body
 b45 = Syntax.seq b9 b44
 
-abbrev b46 : Syntax.Body
-b46 = Syntax.seq b8 b45
-
-abbrev b47 : Syntax.Body
-b47 = Syntax.seq b7 b46
-
 abbrev b48 : Syntax.Body
-b48 = Syntax.seq b6 b47
-
-abbrev b49 : Syntax.Body
-b49 = Syntax.seq b5 b48
+b48 = Syntax.seq b6 (Syntax.seq b7 (Syntax.seq b8 b45))
 
 abbrev b50 : Syntax.Body
-b50 = Syntax.seq b4 b49
-
-abbrev b51 : Syntax.Body
-b51 = Syntax.seq b3 b50
-
-abbrev b52 : Syntax.Body
-b52 = Syntax.seq b2 b51
+b50 = Syntax.seq b4 (Syntax.seq b5 b48)
 
 abbrev b53 : Syntax.Body
-b53 = Syntax.seq b1 b52
+b53 = Syntax.seq b1 (Syntax.seq b2 (Syntax.seq b3 b50))
 
 abbrev b54 : Syntax.Body
 b54 = Syntax.seq b0 b53
@@ -356,774 +272,583 @@ abbrev pub Claims : Type 1
 Claims = Kinds.In 2 ps·0 × Kinds.Out 2 ps·0 r·0 × Kinds.In 1 ps·1 × Kinds.Out 1 ps·1 r·1 × Kinds.In 1 ps·2 × Kinds.Out 1 ps·2 r·2 × Kinds.In 0 ps·3 × Kinds.Out 0 ps·3 r·3 × Kinds.In 2 ps·4 × Kinds.Out
     2 ps·4 r·4
 
-abbrev pub e0 : Row.Entry
-e0 = (0, Rows.any-gone Syntax.tyUnit)
+abbrev pub v0 : Row.Row
+v0 = Rows.any-gone y6
 
-abbrev pub e1 : Row.Entry
-e1 = (0, Rows.sc-here Row.sUnit)
+abbrev pub v1 : Row.Row
+v1 = Rows.sc-here (Row.sInt Syntax.w64)
 
-abbrev pub e2 : Row.Entry
-e2 = (1, Mut.mslice (Referent.rtF (Referent.fInt Syntax.w8)) (Syntax.tyRef (Syntax.named 0) Syntax.mut (Syntax.tyInt Syntax.w8)) 0)
+abbrev pub v2 : Row.Row
+v2 = Rows.any-gone y10
 
-abbrev pub e3 : Row.Entry
-e3 = (1, Relend.mslice-owed (Referent.rtF (Referent.fInt Syntax.w8)) (Syntax.tyRef (Syntax.named 0) Syntax.mut (Syntax.tyInt Syntax.w8)) 0 11 Row.off)
+abbrev pub v3 : Row.Row
+v3 = Rows.any-gone Syntax.tyUnit
 
-abbrev pub e4 : Row.Entry
-e4 = (1, Relend.mslice-owed (Referent.rtF (Referent.fInt Syntax.w8)) (Syntax.tyRef (Syntax.named 0) Syntax.mut (Syntax.tyInt Syntax.w8)) 0 4 Row.off)
+abbrev pub v4 : Row.Row
+v4 = Rows.any-gone y5
 
-abbrev pub e5 : Row.Entry
-e5 = (1, Relend.mslice-owed (Referent.rtF (Referent.fInt Syntax.w8)) (Syntax.tyRef (Syntax.named 0) Syntax.mut (Syntax.tyInt Syntax.w8)) 0 5 Row.off)
+abbrev pub v5 : Row.Row
+v5 = Rows.sslice n8 y2 1
 
-abbrev pub e6 : Row.Entry
-e6 = (1, Relend.mslice-owed (Referent.rtF (Referent.fInt Syntax.w8)) (Syntax.tyRef (Syntax.named 0) Syntax.mut (Syntax.tyInt Syntax.w8)) 0 7 Row.off)
+abbrev pub v6 : Row.Row
+v6 = Rows.sslice n16 y3 2
 
-abbrev pub e7 : Row.Entry
-e7 = (1, Relend.mslice-owed (Referent.rtF (Referent.fInt Syntax.w8)) (Syntax.tyRef (Syntax.named 0) Syntax.mut (Syntax.tyInt Syntax.w8)) 0 9 Row.off)
+abbrev pub v7 : Row.Row
+v7 = Rows.any-gone y9
 
-abbrev pub e8 : Row.Entry
-e8 = (10, Rows.any-gone Syntax.tyUnit)
+abbrev pub v8 : Row.Row
+v8 = Rows.sc-here Row.sBool
 
-abbrev pub e9 : Row.Entry
-e9 = (10, Rows.sc-here Row.sUnit)
+abbrev pub v9 : Row.Row
+v9 = Rows.whole (Declared.row FujiHeader.the-type)
 
-abbrev pub e10 : Row.Entry
-e10 = (11, Relend.msptr (Referent.rtF (Referent.fInt Syntax.w8)) (Syntax.tyRef Syntax.erased Syntax.mut (Syntax.tyInt Syntax.w8)) 4)
+abbrev pub v10 : Row.Row
+v10 = Mut.mslice (Element.type) y4 3
 
-abbrev pub e11 : Row.Entry
-e11 = (11, Rows.any-gone (Syntax.tyRef Syntax.erased Syntax.mut (Syntax.tyInt Syntax.w8)))
+abbrev pub v11 : Row.Row
+v11 = Rows.any-gone y8
 
-abbrev pub e12 : Row.Entry
-e12 = (12, Mut.msleft (Referent.rtF (Referent.fInt Syntax.w8)) (Syntax.tyRef Syntax.erased Syntax.mut (Syntax.tyInt Syntax.w8)))
+abbrev pub v12 : Row.Row
+v12 = Rows.any-gone u64
 
-abbrev pub e13 : Row.Entry
-e13 = (12, Mut.mslice (Referent.rtF (Referent.fInt Syntax.w8)) (Syntax.tyRef Syntax.erased Syntax.mut (Syntax.tyInt Syntax.w8)) 4)
+abbrev pub v13 : Row.Row
+v13 = Rows.whole (Declared.row Set.the-type)
 
-abbrev pub e14 : Row.Entry
-e14 = (12, Rows.any-gone y2)
+abbrev pub v14 : Row.Row
+v14 = Rows.sc-here Row.sUnit
 
-abbrev pub e15 : Row.Entry
-e15 = (13, Relend.msptr (Referent.rtF (Referent.fInt Syntax.w8)) (Syntax.tyRef Syntax.erased Syntax.mut (Syntax.tyInt Syntax.w8)) 5)
+abbrev pub v15 : Row.Row
+v15 = Mut.msleft n8 y6
 
-abbrev pub e16 : Row.Entry
-e16 = (13, Rows.any-gone (Syntax.tyRef Syntax.erased Syntax.mut (Syntax.tyInt Syntax.w8)))
+abbrev pub v16 : Row.Row
+v16 = Rows.any-gone y7
 
-abbrev pub e17 : Row.Entry
-e17 = (14, Mut.msleft (Referent.rtF (Referent.fInt Syntax.w8)) (Syntax.tyRef Syntax.erased Syntax.mut (Syntax.tyInt Syntax.w8)))
+abbrev pub v17 : Row.Row
+v17 = Mut.mslice n8 y1 0
 
-abbrev pub e18 : Row.Entry
-e18 = (14, Mut.mslice (Referent.rtF (Referent.fInt Syntax.w8)) (Syntax.tyRef Syntax.erased Syntax.mut (Syntax.tyInt Syntax.w8)) 5)
+abbrev pub v18 : Row.Row
+v18 = Relend.mslice-owed n8 y1 0 5 Row.off
 
-abbrev pub e19 : Row.Entry
-e19 = (14, Rows.any-gone y2)
+abbrev pub v19 : Row.Row
+v19 = Mut.mslice n8 y6 5
 
-abbrev pub e20 : Row.Entry
-e20 = (15, Rows.any-gone y0)
+abbrev pub v20 : Row.Row
+v20 = Rows.any-gone Syntax.tyBool
 
-abbrev pub e21 : Row.Entry
-e21 = (15, Rows.whole (Declared.row Set.the-type))
+abbrev pub v21 : Row.Row
+v21 = Relend.mslice-owed n8 y1 0 7 Row.off
 
-abbrev pub e22 : Row.Entry
-e22 = (16, Rows.any-gone (Syntax.tyRef Syntax.erased Syntax.mut Element.behind))
+abbrev pub v22 : Row.Row
+v22 = Relend.mslice-owed n8 y1 0 9 Row.off
 
-abbrev pub e23 : Row.Entry
-e23 = (17, Rows.any-gone y3)
+abbrev pub v23 : Row.Row
+v23 = Relend.mslice-owed n8 y1 0 4 Row.off
 
-abbrev pub e24 : Row.Entry
-e24 = (18, Rows.any-gone (Syntax.tyRef Syntax.erased Syntax.mut (Syntax.tyInt Syntax.w8)))
+abbrev pub v24 : Row.Row
+v24 = Mut.mslice n8 y6 7
 
-abbrev pub e25 : Row.Entry
-e25 = (19, Mut.mslice (Referent.rtF (Referent.fInt Syntax.w8)) (Syntax.tyRef Syntax.erased Syntax.mut (Syntax.tyInt Syntax.w8)) 7)
+abbrev pub v25 : Row.Row
+v25 = Mut.mslice n8 y6 9
 
-abbrev pub e26 : Row.Entry
-e26 = (19, Rows.any-gone y2)
+abbrev pub v26 : Row.Row
+v26 = Mut.msleft (Element.type) y5
 
-abbrev pub e27 : Row.Entry
-e27 = (2, Rows.sslice (Referent.rtF (Referent.fInt Syntax.w8)) (Syntax.tyRef (Syntax.named 1) Syntax.imm (Syntax.tyInt Syntax.w8)) 1)
-
-abbrev pub e28 : Row.Entry
-e28 = (20, Rows.any-gone (Syntax.tyRef Syntax.erased Syntax.mut Element.behind))
-
-abbrev pub e29 : Row.Entry
-e29 = (21, Rows.any-gone y3)
-
-abbrev pub e30 : Row.Entry
-e30 = (22, Rows.any-gone (Syntax.tyRef Syntax.erased Syntax.mut (Syntax.tyInt Syntax.w8)))
-
-abbrev pub e31 : Row.Entry
-e31 = (23, Mut.mslice (Referent.rtF (Referent.fInt Syntax.w8)) (Syntax.tyRef Syntax.erased Syntax.mut (Syntax.tyInt Syntax.w8)) 9)
-
-abbrev pub e32 : Row.Entry
-e32 = (23, Rows.any-gone y2)
-
-abbrev pub e33 : Row.Entry
-e33 = (24, Rows.any-gone (Syntax.tyRef Syntax.erased Syntax.mut Element.behind))
-
-abbrev pub e34 : Row.Entry
-e34 = (25, Rows.any-gone y3)
-
-abbrev pub e35 : Row.Entry
-e35 = (26, Rows.any-gone (Syntax.tyRef Syntax.erased Syntax.mut (Syntax.tyInt Syntax.w8)))
-
-abbrev pub e36 : Row.Entry
-e36 = (27, Mut.msleft (Referent.rtF (Referent.fInt Syntax.w8)) (Syntax.tyRef Syntax.erased Syntax.mut (Syntax.tyInt Syntax.w8)))
-
-abbrev pub e37 : Row.Entry
-e37 = (27, Mut.mslice (Referent.rtF (Referent.fInt Syntax.w8)) (Syntax.tyRef Syntax.erased Syntax.mut (Syntax.tyInt Syntax.w8)) 11)
-
-abbrev pub e38 : Row.Entry
-e38 = (27, Rows.any-gone y2)
-
-abbrev pub e39 : Row.Entry
-e39 = (28, Rows.any-gone (Syntax.tyInt Syntax.w64))
-
-abbrev pub e40 : Row.Entry
-e40 = (28, Rows.sc-here (Row.sInt Syntax.w64))
-
-abbrev pub e41 : Row.Entry
-e41 = (3, Rows.any-gone y1)
-
-abbrev pub e42 : Row.Entry
-e42 = (3, Rows.whole (Declared.row FujiHeader.the-type))
-
-abbrev pub e43 : Row.Entry
-e43 = (4, Rows.any-gone (Syntax.tyInt Syntax.w64))
-
-abbrev pub e44 : Row.Entry
-e44 = (4, Rows.sc-here (Row.sInt Syntax.w64))
-
-abbrev pub e45 : Row.Entry
-e45 = (5, Rows.any-gone (Syntax.tyInt Syntax.w64))
-
-abbrev pub e46 : Row.Entry
-e46 = (5, Rows.sc-here (Row.sInt Syntax.w64))
-
-abbrev pub e47 : Row.Entry
-e47 = (6, Rows.sc-here (Row.sInt Syntax.w64))
-
-abbrev pub e48 : Row.Entry
-e48 = (7, Rows.sslice (Referent.rtF (Referent.fInt Syntax.w16)) (Syntax.tyRef (Syntax.named 2) Syntax.imm (Syntax.tyInt Syntax.w16)) 2)
-
-abbrev pub e49 : Row.Entry
-e49 = (8, Mut.mslice (Element.type) (Syntax.tyRef (Syntax.named 3) Syntax.mut Element.behind) 3)
-
-abbrev pub e50 : Row.Entry
-e50 = (8, Relend.mslice-owed (Element.type) (Syntax.tyRef (Syntax.named 3) Syntax.mut Element.behind) 3 10 Row.off)
-
-abbrev pub e51 : Row.Entry
-e51 = (8, Relend.mslice-owed (Element.type) (Syntax.tyRef (Syntax.named 3) Syntax.mut Element.behind) 3 6 Row.off)
-
-abbrev pub e52 : Row.Entry
-e52 = (8, Relend.mslice-owed (Element.type) (Syntax.tyRef (Syntax.named 3) Syntax.mut Element.behind) 3 8 Row.off)
-
-abbrev pub e53 : Row.Entry
-e53 = (9, Rows.any-gone Syntax.tyBool)
-
-abbrev pub e54 : Row.Entry
-e54 = (9, Rows.sc-here Row.sBool)
+abbrev pub v27 : Row.Row
+v27 = Relend.mslice-owed n8 y1 0 11 Row.off
 
 abbrev pub t0 : List.List Row.Entry
-t0 = List._∷_ e0 (List._∷_ e2 (List._∷_ e27 (List._∷_ e42 (List._∷_ e44 (List._∷_ e46 (List._∷_ e47 (List._∷_ e48 (List._∷_ e49 (List._∷_ e53 (List._∷_ e8 (List._∷_ e11 (List._∷_ e14 (List._∷_ e16
-    (List._∷_ e19 (List._∷_ e20 List.[])))))))))))))))
+t0 = (0, v3) ∷ (1, v17) ∷ (2, v5) ∷ (3, v9) ∷ (4, v1) ∷ (5, v1) ∷ (6, v1) ∷ (7, v6) ∷ (8, v10) ∷ (9, v20) ∷ (10, v3) ∷ (11, v0) ∷ (12, v2) ∷ (13, v0) ∷ (14, v2) ∷ (15, v11) ∷ []
 
 abbrev pub t1 : List.List Row.Entry
-t1 = List._∷_ e22 (List._∷_ e23 (List._∷_ e24 (List._∷_ e26 (List._∷_ e28 (List._∷_ e29 (List._∷_ e30 (List._∷_ e32 (List._∷_ e33 (List._∷_ e34 (List._∷_ e35 (List._∷_ e38 (List._∷_ e39
-    List.[]))))))))))))
+t1 = (16, v4) ∷ (17, v7) ∷ (18, v0) ∷ (19, v2) ∷ (20, v4) ∷ (21, v7) ∷ (22, v0) ∷ (23, v2) ∷ (24, v4) ∷ (25, v7) ∷ (26, v0) ∷ (27, v2) ∷ (28, v12) ∷ []
 
 abbrev pub t2 : List.List Row.Entry
-t2 = List._∷_ e1 (List._∷_ e2 (List._∷_ e27 (List._∷_ e41 (List._∷_ e43 (List._∷_ e45 (List._∷_ (6, Rows.any-gone (Syntax.tyInt Syntax.w64)) (List._∷_ e48 (List._∷_ e49 (List._∷_ e53 (List._∷_ e8
-    (List._∷_ e11 (List._∷_ e14 (List._∷_ e16 (List._∷_ e19 (List._∷_ e20 List.[])))))))))))))))
+t2 = (0, v14) ∷ (1, v17) ∷ (2, v5) ∷ (3, v16) ∷ (4, v12) ∷ (5, v12) ∷ (6, v12) ∷ (7, v6) ∷ (8, v10) ∷ (9, v20) ∷ (10, v3) ∷ (11, v0) ∷ (12, v2) ∷ (13, v0) ∷ (14, v2) ∷ (15, v11) ∷ []
 
 abbrev pub t3 : List.List Row.Entry
-t3 = List._∷_ e0 (List._∷_ e2 (List._∷_ e27 (List._∷_ e42 (List._∷_ e44 (List._∷_ e46 (List._∷_ e47 (List._∷_ e48 (List._∷_ e49 (List._∷_ e54 (List._∷_ e8 (List._∷_ e11 (List._∷_ e14 (List._∷_ e16
-    (List._∷_ e19 (List._∷_ e20 List.[])))))))))))))))
+t3 = (0, v3) ∷ (1, v17) ∷ (2, v5) ∷ (3, v9) ∷ (4, v1) ∷ (5, v1) ∷ (6, v1) ∷ (7, v6) ∷ (8, v10) ∷ (9, v8) ∷ (10, v3) ∷ (11, v0) ∷ (12, v2) ∷ (13, v0) ∷ (14, v2) ∷ (15, v11) ∷ []
 
 abbrev pub t4 : List.List Row.Entry
-t4 = List._∷_ e0 (List._∷_ e4 (List._∷_ e27 (List._∷_ e42 (List._∷_ e44 (List._∷_ e46 (List._∷_ e47 (List._∷_ e48 (List._∷_ e49 (List._∷_ e54 (List._∷_ e8 (List._∷_ e10 (List._∷_ e14 (List._∷_ e16
-    (List._∷_ e19 (List._∷_ e20 List.[])))))))))))))))
+t4 = (0, v3) ∷ (1, v23) ∷ (2, v5) ∷ (3, v9) ∷ (4, v1) ∷ (5, v1) ∷ (6, v1) ∷ (7, v6) ∷ (8, v10) ∷ (9, v8) ∷ (10, v3) ∷ (11, Relend.msptr n8 y6 4) ∷ (12, v2) ∷ (13, v0) ∷ (14, v2) ∷ (15, v11) ∷ []
 
 abbrev pub t5 : List.List Row.Entry
-t5 = List._∷_ e0 (List._∷_ e4 (List._∷_ e27 (List._∷_ e42 (List._∷_ e44 (List._∷_ e46 (List._∷_ e47 (List._∷_ e48 (List._∷_ e49 (List._∷_ e54 (List._∷_ e8 (List._∷_ e11 (List._∷_ e13 (List._∷_ e16
-    (List._∷_ e19 (List._∷_ e20 List.[])))))))))))))))
+t5 = (0, v3) ∷ (1, v23) ∷ (2, v5) ∷ (3, v9) ∷ (4, v1) ∷ (5, v1) ∷ (6, v1) ∷ (7, v6) ∷ (8, v10) ∷ (9, v8) ∷ (10, v3) ∷ (11, v0) ∷ (12, Mut.mslice n8 y6 4) ∷ (13, v0) ∷ (14, v2) ∷ (15, v11) ∷ []
 
 abbrev pub t6 : List.List Row.Entry
-t6 = List._∷_ e0 (List._∷_ e4 (List._∷_ e27 (List._∷_ e42 (List._∷_ e44 (List._∷_ e46 (List._∷_ e47 (List._∷_ e48 (List._∷_ e49 (List._∷_ e54 (List._∷_ e9 (List._∷_ e11 (List._∷_ e12 (List._∷_ e16
-    (List._∷_ e19 (List._∷_ e20 List.[])))))))))))))))
+t6 = (0, v3) ∷ (1, v23) ∷ (2, v5) ∷ (3, v9) ∷ (4, v1) ∷ (5, v1) ∷ (6, v1) ∷ (7, v6) ∷ (8, v10) ∷ (9, v8) ∷ (10, v14) ∷ (11, v0) ∷ (12, v15) ∷ (13, v0) ∷ (14, v2) ∷ (15, v11) ∷ []
 
 abbrev pub t7 : List.List Row.Entry
-t7 = List._∷_ e0 (List._∷_ e4 (List._∷_ e27 (List._∷_ e42 (List._∷_ e44 (List._∷_ e46 (List._∷_ e47 (List._∷_ e48 (List._∷_ e49 (List._∷_ e54 (List._∷_ e8 (List._∷_ e11 (List._∷_ e12 (List._∷_ e16
-    (List._∷_ e19 (List._∷_ e20 List.[])))))))))))))))
+t7 = (0, v3) ∷ (1, v23) ∷ (2, v5) ∷ (3, v9) ∷ (4, v1) ∷ (5, v1) ∷ (6, v1) ∷ (7, v6) ∷ (8, v10) ∷ (9, v8) ∷ (10, v3) ∷ (11, v0) ∷ (12, v15) ∷ (13, v0) ∷ (14, v2) ∷ (15, v11) ∷ []
 
 abbrev pub t8 : List.List Row.Entry
-t8 = List._∷_ e0 (List._∷_ e5 (List._∷_ e27 (List._∷_ e42 (List._∷_ e44 (List._∷_ e46 (List._∷_ e47 (List._∷_ e48 (List._∷_ e49 (List._∷_ e54 (List._∷_ e8 (List._∷_ e11 (List._∷_ e14 (List._∷_ e15
-    (List._∷_ e19 (List._∷_ e20 List.[])))))))))))))))
+t8 = (0, v3) ∷ (1, v18) ∷ (2, v5) ∷ (3, v9) ∷ (4, v1) ∷ (5, v1) ∷ (6, v1) ∷ (7, v6) ∷ (8, v10) ∷ (9, v8) ∷ (10, v3) ∷ (11, v0) ∷ (12, v2) ∷ (13, Relend.msptr n8 y6 5) ∷ (14, v2) ∷ (15, v11) ∷ []
 
 abbrev pub t9 : List.List Row.Entry
-t9 = List._∷_ e0 (List._∷_ e5 (List._∷_ e27 (List._∷_ e42 (List._∷_ e44 (List._∷_ e46 (List._∷_ e47 (List._∷_ e48 (List._∷_ e49 (List._∷_ e54 (List._∷_ e8 (List._∷_ e11 (List._∷_ e14 (List._∷_ e16
-    (List._∷_ e18 (List._∷_ e20 List.[])))))))))))))))
+t9 = (0, v3) ∷ (1, v18) ∷ (2, v5) ∷ (3, v9) ∷ (4, v1) ∷ (5, v1) ∷ (6, v1) ∷ (7, v6) ∷ (8, v10) ∷ (9, v8) ∷ (10, v3) ∷ (11, v0) ∷ (12, v2) ∷ (13, v0) ∷ (14, v19) ∷ (15, v11) ∷ []
 
 abbrev pub t10 : List.List Row.Entry
-t10 = List._∷_ e0 (List._∷_ e5 (List._∷_ e27 (List._∷_ e42 (List._∷_ e44 (List._∷_ e46 (List._∷_ e47 (List._∷_ e48 (List._∷_ e51 (List._∷_ e54 (List._∷_ e8 (List._∷_ e11 (List._∷_ e14 (List._∷_ e16
-    (List._∷_ e18 (List._∷_ e20 List.[])))))))))))))))
+t10 = (0, v3) ∷ (1, v18) ∷ (2, v5) ∷ (3, v9) ∷ (4, v1) ∷ (5, v1) ∷ (6, v1) ∷ (7, v6) ∷ (8, Relend.mslice-owed (Element.type) y4 3 6 Row.off) ∷ (9, v8) ∷ (10, v3) ∷ (11, v0) ∷ (12, v2) ∷ (13, v0) ∷
+    (14, v19) ∷ (15, v11) ∷ []
 
 abbrev pub t11 : List.List Row.Entry
-t11 = List._∷_ (16, Relend.msptr (Element.type) (Syntax.tyRef Syntax.erased Syntax.mut Element.behind) 6) (List._∷_ e23 (List._∷_ e24 (List._∷_ e26 (List._∷_ e28 (List._∷_ e29 (List._∷_ e30 (List._∷_
-    e32 (List._∷_ e33 (List._∷_ e34 (List._∷_ e35 (List._∷_ e38 (List._∷_ e39 List.[]))))))))))))
+t11 = (16, Relend.msptr (Element.type) y5 6) ∷ (17, v7) ∷ (18, v0) ∷ (19, v2) ∷ (20, v4) ∷ (21, v7) ∷ (22, v0) ∷ (23, v2) ∷ (24, v4) ∷ (25, v7) ∷ (26, v0) ∷ (27, v2) ∷ (28, v12) ∷ []
 
 abbrev pub t12 : List.List Row.Entry
-t12 = List._∷_ e22 (List._∷_ (17, Mut.mslice (Element.type) (Syntax.tyRef Syntax.erased Syntax.mut Element.behind) 6) (List._∷_ e24 (List._∷_ e26 (List._∷_ e28 (List._∷_ e29 (List._∷_ e30 (List._∷_
-    e32 (List._∷_ e33 (List._∷_ e34 (List._∷_ e35 (List._∷_ e38 (List._∷_ e39 List.[]))))))))))))
+t12 = (16, v4) ∷ (17, Mut.mslice (Element.type) y5 6) ∷ (18, v0) ∷ (19, v2) ∷ (20, v4) ∷ (21, v7) ∷ (22, v0) ∷ (23, v2) ∷ (24, v4) ∷ (25, v7) ∷ (26, v0) ∷ (27, v2) ∷ (28, v12) ∷ []
 
 abbrev pub t13 : List.List Row.Entry
-t13 = List._∷_ e0 (List._∷_ e5 (List._∷_ e27 (List._∷_ e42 (List._∷_ e44 (List._∷_ e46 (List._∷_ e47 (List._∷_ e48 (List._∷_ e51 (List._∷_ e54 (List._∷_ e8 (List._∷_ e11 (List._∷_ e14 (List._∷_ e16
-    (List._∷_ e18 (List._∷_ e21 List.[])))))))))))))))
+t13 = (0, v3) ∷ (1, v18) ∷ (2, v5) ∷ (3, v9) ∷ (4, v1) ∷ (5, v1) ∷ (6, v1) ∷ (7, v6) ∷ (8, Relend.mslice-owed (Element.type) y4 3 6 Row.off) ∷ (9, v8) ∷ (10, v3) ∷ (11, v0) ∷ (12, v2) ∷ (13, v0) ∷
+    (14, v19) ∷ (15, v13) ∷ []
 
 abbrev pub t14 : List.List Row.Entry
-t14 = List._∷_ e22 (List._∷_ (17, Mut.msleft (Element.type) (Syntax.tyRef Syntax.erased Syntax.mut Element.behind)) (List._∷_ e24 (List._∷_ e26 (List._∷_ e28 (List._∷_ e29 (List._∷_ e30 (List._∷_ e32
-    (List._∷_ e33 (List._∷_ e34 (List._∷_ e35 (List._∷_ e38 (List._∷_ e39 List.[]))))))))))))
+t14 = (16, v4) ∷ (17, v26) ∷ (18, v0) ∷ (19, v2) ∷ (20, v4) ∷ (21, v7) ∷ (22, v0) ∷ (23, v2) ∷ (24, v4) ∷ (25, v7) ∷ (26, v0) ∷ (27, v2) ∷ (28, v12) ∷ []
 
 abbrev pub t15 : List.List Row.Entry
-t15 = List._∷_ e0 (List._∷_ e5 (List._∷_ e27 (List._∷_ e42 (List._∷_ e44 (List._∷_ e46 (List._∷_ e47 (List._∷_ e48 (List._∷_ e49 (List._∷_ e54 (List._∷_ e8 (List._∷_ e11 (List._∷_ e14 (List._∷_ e16
-    (List._∷_ e18 (List._∷_ e21 List.[])))))))))))))))
+t15 = (0, v3) ∷ (1, v18) ∷ (2, v5) ∷ (3, v9) ∷ (4, v1) ∷ (5, v1) ∷ (6, v1) ∷ (7, v6) ∷ (8, v10) ∷ (9, v8) ∷ (10, v3) ∷ (11, v0) ∷ (12, v2) ∷ (13, v0) ∷ (14, v19) ∷ (15, v13) ∷ []
 
 abbrev pub t16 : List.List Row.Entry
-t16 = List._∷_ e0 (List._∷_ e5 (List._∷_ e27 (List._∷_ e42 (List._∷_ e44 (List._∷_ e46 (List._∷_ e47 (List._∷_ e48 (List._∷_ e49 (List._∷_ e54 (List._∷_ e9 (List._∷_ e11 (List._∷_ e14 (List._∷_ e16
-    (List._∷_ e17 (List._∷_ e21 List.[])))))))))))))))
+t16 = (0, v3) ∷ (1, v18) ∷ (2, v5) ∷ (3, v9) ∷ (4, v1) ∷ (5, v1) ∷ (6, v1) ∷ (7, v6) ∷ (8, v10) ∷ (9, v8) ∷ (10, v14) ∷ (11, v0) ∷ (12, v2) ∷ (13, v0) ∷ (14, v15) ∷ (15, v13) ∷ []
 
 abbrev pub t17 : List.List Row.Entry
-t17 = List._∷_ e0 (List._∷_ e5 (List._∷_ e27 (List._∷_ e42 (List._∷_ e44 (List._∷_ e46 (List._∷_ e47 (List._∷_ e48 (List._∷_ e49 (List._∷_ e54 (List._∷_ e8 (List._∷_ e11 (List._∷_ e14 (List._∷_ e16
-    (List._∷_ e17 (List._∷_ e21 List.[])))))))))))))))
+t17 = (0, v3) ∷ (1, v18) ∷ (2, v5) ∷ (3, v9) ∷ (4, v1) ∷ (5, v1) ∷ (6, v1) ∷ (7, v6) ∷ (8, v10) ∷ (9, v8) ∷ (10, v3) ∷ (11, v0) ∷ (12, v2) ∷ (13, v0) ∷ (14, v15) ∷ (15, v13) ∷ []
 
 abbrev pub t18 : List.List Row.Entry
-t18 = List._∷_ e0 (List._∷_ e5 (List._∷_ e27 (List._∷_ e42 (List._∷_ e44 (List._∷_ e46 (List._∷_ e47 (List._∷_ e48 (List._∷_ e49 (List._∷_ e54 (List._∷_ e8 (List._∷_ e11 (List._∷_ e14 (List._∷_ e16
-    (List._∷_ e17 (List._∷_ e20 List.[])))))))))))))))
+t18 = (0, v3) ∷ (1, v18) ∷ (2, v5) ∷ (3, v9) ∷ (4, v1) ∷ (5, v1) ∷ (6, v1) ∷ (7, v6) ∷ (8, v10) ∷ (9, v8) ∷ (10, v3) ∷ (11, v0) ∷ (12, v2) ∷ (13, v0) ∷ (14, v15) ∷ (15, v11) ∷ []
 
 abbrev pub t19 : List.List Row.Entry
-t19 = List._∷_ e0 (List._∷_ e6 (List._∷_ e27 (List._∷_ e42 (List._∷_ e44 (List._∷_ e46 (List._∷_ e47 (List._∷_ e48 (List._∷_ e49 (List._∷_ e54 (List._∷_ e8 (List._∷_ e11 (List._∷_ e14 (List._∷_ e16
-    (List._∷_ e19 (List._∷_ e20 List.[])))))))))))))))
+t19 = (0, v3) ∷ (1, v21) ∷ (2, v5) ∷ (3, v9) ∷ (4, v1) ∷ (5, v1) ∷ (6, v1) ∷ (7, v6) ∷ (8, v10) ∷ (9, v8) ∷ (10, v3) ∷ (11, v0) ∷ (12, v2) ∷ (13, v0) ∷ (14, v2) ∷ (15, v11) ∷ []
 
 abbrev pub t20 : List.List Row.Entry
-t20 = List._∷_ e22 (List._∷_ e23 (List._∷_ (18, Relend.msptr (Referent.rtF (Referent.fInt Syntax.w8)) (Syntax.tyRef Syntax.erased Syntax.mut (Syntax.tyInt Syntax.w8)) 7) (List._∷_ e26 (List._∷_ e28
-    (List._∷_ e29 (List._∷_ e30 (List._∷_ e32 (List._∷_ e33 (List._∷_ e34 (List._∷_ e35 (List._∷_ e38 (List._∷_ e39 List.[]))))))))))))
+t20 = (16, v4) ∷ (17, v7) ∷ (18, Relend.msptr n8 y6 7) ∷ (19, v2) ∷ (20, v4) ∷ (21, v7) ∷ (22, v0) ∷ (23, v2) ∷ (24, v4) ∷ (25, v7) ∷ (26, v0) ∷ (27, v2) ∷ (28, v12) ∷ []
 
 abbrev pub t21 : List.List Row.Entry
-t21 = List._∷_ e22 (List._∷_ e23 (List._∷_ e24 (List._∷_ e25 (List._∷_ e28 (List._∷_ e29 (List._∷_ e30 (List._∷_ e32 (List._∷_ e33 (List._∷_ e34 (List._∷_ e35 (List._∷_ e38 (List._∷_ e39
-    List.[]))))))))))))
+t21 = (16, v4) ∷ (17, v7) ∷ (18, v0) ∷ (19, v24) ∷ (20, v4) ∷ (21, v7) ∷ (22, v0) ∷ (23, v2) ∷ (24, v4) ∷ (25, v7) ∷ (26, v0) ∷ (27, v2) ∷ (28, v12) ∷ []
 
 abbrev pub t22 : List.List Row.Entry
-t22 = List._∷_ e0 (List._∷_ e6 (List._∷_ e27 (List._∷_ e42 (List._∷_ e44 (List._∷_ e46 (List._∷_ e47 (List._∷_ e48 (List._∷_ e52 (List._∷_ e54 (List._∷_ e8 (List._∷_ e11 (List._∷_ e14 (List._∷_ e16
-    (List._∷_ e19 (List._∷_ e20 List.[])))))))))))))))
+t22 = (0, v3) ∷ (1, v21) ∷ (2, v5) ∷ (3, v9) ∷ (4, v1) ∷ (5, v1) ∷ (6, v1) ∷ (7, v6) ∷ (8, Relend.mslice-owed (Element.type) y4 3 8 Row.off) ∷ (9, v8) ∷ (10, v3) ∷ (11, v0) ∷ (12, v2) ∷ (13, v0) ∷
+    (14, v2) ∷ (15, v11) ∷ []
 
 abbrev pub t23 : List.List Row.Entry
-t23 = List._∷_ e22 (List._∷_ e23 (List._∷_ e24 (List._∷_ e25 (List._∷_ (20, Relend.msptr (Element.type) (Syntax.tyRef Syntax.erased Syntax.mut Element.behind) 8) (List._∷_ e29 (List._∷_ e30 (List._∷_
-    e32 (List._∷_ e33 (List._∷_ e34 (List._∷_ e35 (List._∷_ e38 (List._∷_ e39 List.[]))))))))))))
+t23 = (16, v4) ∷ (17, v7) ∷ (18, v0) ∷ (19, v24) ∷ (20, Relend.msptr (Element.type) y5 8) ∷ (21, v7) ∷ (22, v0) ∷ (23, v2) ∷ (24, v4) ∷ (25, v7) ∷ (26, v0) ∷ (27, v2) ∷ (28, v12) ∷ []
 
 abbrev pub t24 : List.List Row.Entry
-t24 = List._∷_ e22 (List._∷_ e23 (List._∷_ e24 (List._∷_ e25 (List._∷_ e28 (List._∷_ (21, Mut.mslice (Element.type) (Syntax.tyRef Syntax.erased Syntax.mut Element.behind) 8) (List._∷_ e30 (List._∷_
-    e32 (List._∷_ e33 (List._∷_ e34 (List._∷_ e35 (List._∷_ e38 (List._∷_ e39 List.[]))))))))))))
+t24 = (16, v4) ∷ (17, v7) ∷ (18, v0) ∷ (19, v24) ∷ (20, v4) ∷ (21, Mut.mslice (Element.type) y5 8) ∷ (22, v0) ∷ (23, v2) ∷ (24, v4) ∷ (25, v7) ∷ (26, v0) ∷ (27, v2) ∷ (28, v12) ∷ []
 
 abbrev pub t25 : List.List Row.Entry
-t25 = List._∷_ e0 (List._∷_ e6 (List._∷_ e27 (List._∷_ e42 (List._∷_ e44 (List._∷_ e46 (List._∷_ e47 (List._∷_ e48 (List._∷_ e52 (List._∷_ e54 (List._∷_ e8 (List._∷_ e11 (List._∷_ e14 (List._∷_ e16
-    (List._∷_ e19 (List._∷_ e21 List.[])))))))))))))))
+t25 = (0, v3) ∷ (1, v21) ∷ (2, v5) ∷ (3, v9) ∷ (4, v1) ∷ (5, v1) ∷ (6, v1) ∷ (7, v6) ∷ (8, Relend.mslice-owed (Element.type) y4 3 8 Row.off) ∷ (9, v8) ∷ (10, v3) ∷ (11, v0) ∷ (12, v2) ∷ (13, v0) ∷
+    (14, v2) ∷ (15, v13) ∷ []
 
 abbrev pub t26 : List.List Row.Entry
-t26 = List._∷_ e22 (List._∷_ e23 (List._∷_ e24 (List._∷_ e25 (List._∷_ e28 (List._∷_ (21, Mut.msleft (Element.type) (Syntax.tyRef Syntax.erased Syntax.mut Element.behind)) (List._∷_ e30 (List._∷_ e32
-    (List._∷_ e33 (List._∷_ e34 (List._∷_ e35 (List._∷_ e38 (List._∷_ e39 List.[]))))))))))))
+t26 = (16, v4) ∷ (17, v7) ∷ (18, v0) ∷ (19, v24) ∷ (20, v4) ∷ (21, v26) ∷ (22, v0) ∷ (23, v2) ∷ (24, v4) ∷ (25, v7) ∷ (26, v0) ∷ (27, v2) ∷ (28, v12) ∷ []
 
 abbrev pub t27 : List.List Row.Entry
-t27 = List._∷_ e0 (List._∷_ e6 (List._∷_ e27 (List._∷_ e42 (List._∷_ e44 (List._∷_ e46 (List._∷_ e47 (List._∷_ e48 (List._∷_ e49 (List._∷_ e54 (List._∷_ e8 (List._∷_ e11 (List._∷_ e14 (List._∷_ e16
-    (List._∷_ e19 (List._∷_ e21 List.[])))))))))))))))
+t27 = (0, v3) ∷ (1, v21) ∷ (2, v5) ∷ (3, v9) ∷ (4, v1) ∷ (5, v1) ∷ (6, v1) ∷ (7, v6) ∷ (8, v10) ∷ (9, v8) ∷ (10, v3) ∷ (11, v0) ∷ (12, v2) ∷ (13, v0) ∷ (14, v2) ∷ (15, v13) ∷ []
 
 abbrev pub t28 : List.List Row.Entry
-t28 = List._∷_ e0 (List._∷_ e6 (List._∷_ e27 (List._∷_ e42 (List._∷_ e44 (List._∷_ e46 (List._∷_ e47 (List._∷_ e48 (List._∷_ e49 (List._∷_ e54 (List._∷_ e9 (List._∷_ e11 (List._∷_ e14 (List._∷_ e16
-    (List._∷_ e19 (List._∷_ e21 List.[])))))))))))))))
+t28 = (0, v3) ∷ (1, v21) ∷ (2, v5) ∷ (3, v9) ∷ (4, v1) ∷ (5, v1) ∷ (6, v1) ∷ (7, v6) ∷ (8, v10) ∷ (9, v8) ∷ (10, v14) ∷ (11, v0) ∷ (12, v2) ∷ (13, v0) ∷ (14, v2) ∷ (15, v13) ∷ []
 
 abbrev pub t29 : List.List Row.Entry
-t29 = List._∷_ e22 (List._∷_ e23 (List._∷_ e24 (List._∷_ (19, Mut.msleft (Referent.rtF (Referent.fInt Syntax.w8)) (Syntax.tyRef Syntax.erased Syntax.mut (Syntax.tyInt Syntax.w8))) (List._∷_ e28
-    (List._∷_ e29 (List._∷_ e30 (List._∷_ e32 (List._∷_ e33 (List._∷_ e34 (List._∷_ e35 (List._∷_ e38 (List._∷_ e39 List.[]))))))))))))
+t29 = (16, v4) ∷ (17, v7) ∷ (18, v0) ∷ (19, v15) ∷ (20, v4) ∷ (21, v7) ∷ (22, v0) ∷ (23, v2) ∷ (24, v4) ∷ (25, v7) ∷ (26, v0) ∷ (27, v2) ∷ (28, v12) ∷ []
 
 abbrev pub t30 : List.List Row.Entry
-t30 = List._∷_ e0 (List._∷_ e7 (List._∷_ e27 (List._∷_ e42 (List._∷_ e44 (List._∷_ e46 (List._∷_ e47 (List._∷_ e48 (List._∷_ e49 (List._∷_ e54 (List._∷_ e8 (List._∷_ e11 (List._∷_ e14 (List._∷_ e16
-    (List._∷_ e19 (List._∷_ e20 List.[])))))))))))))))
+t30 = (0, v3) ∷ (1, v22) ∷ (2, v5) ∷ (3, v9) ∷ (4, v1) ∷ (5, v1) ∷ (6, v1) ∷ (7, v6) ∷ (8, v10) ∷ (9, v8) ∷ (10, v3) ∷ (11, v0) ∷ (12, v2) ∷ (13, v0) ∷ (14, v2) ∷ (15, v11) ∷ []
 
 abbrev pub t31 : List.List Row.Entry
-t31 = List._∷_ e22 (List._∷_ e23 (List._∷_ e24 (List._∷_ e26 (List._∷_ e28 (List._∷_ e29 (List._∷_
-    (22, Relend.msptr (Referent.rtF (Referent.fInt Syntax.w8)) (Syntax.tyRef Syntax.erased Syntax.mut (Syntax.tyInt Syntax.w8)) 9) (List._∷_ e32 (List._∷_ e33 (List._∷_ e34 (List._∷_ e35 (List._∷_ e38
-    (List._∷_ e39 List.[]))))))))))))
+t31 = (16, v4) ∷ (17, v7) ∷ (18, v0) ∷ (19, v2) ∷ (20, v4) ∷ (21, v7) ∷ (22, Relend.msptr n8 y6 9) ∷ (23, v2) ∷ (24, v4) ∷ (25, v7) ∷ (26, v0) ∷ (27, v2) ∷ (28, v12) ∷ []
 
 abbrev pub t32 : List.List Row.Entry
-t32 = List._∷_ e22 (List._∷_ e23 (List._∷_ e24 (List._∷_ e26 (List._∷_ e28 (List._∷_ e29 (List._∷_ e30 (List._∷_ e31 (List._∷_ e33 (List._∷_ e34 (List._∷_ e35 (List._∷_ e38 (List._∷_ e39
-    List.[]))))))))))))
+t32 = (16, v4) ∷ (17, v7) ∷ (18, v0) ∷ (19, v2) ∷ (20, v4) ∷ (21, v7) ∷ (22, v0) ∷ (23, v25) ∷ (24, v4) ∷ (25, v7) ∷ (26, v0) ∷ (27, v2) ∷ (28, v12) ∷ []
 
 abbrev pub t33 : List.List Row.Entry
-t33 = List._∷_ e0 (List._∷_ e7 (List._∷_ e27 (List._∷_ e42 (List._∷_ e44 (List._∷_ e46 (List._∷_ e47 (List._∷_ e48 (List._∷_ e50 (List._∷_ e54 (List._∷_ e8 (List._∷_ e11 (List._∷_ e14 (List._∷_ e16
-    (List._∷_ e19 (List._∷_ e20 List.[])))))))))))))))
+t33 = (0, v3) ∷ (1, v22) ∷ (2, v5) ∷ (3, v9) ∷ (4, v1) ∷ (5, v1) ∷ (6, v1) ∷ (7, v6) ∷ (8, Relend.mslice-owed (Element.type) y4 3 10 Row.off) ∷ (9, v8) ∷ (10, v3) ∷ (11, v0) ∷ (12, v2) ∷ (13, v0) ∷
+    (14, v2) ∷ (15, v11) ∷ []
 
 abbrev pub t34 : List.List Row.Entry
-t34 = List._∷_ e22 (List._∷_ e23 (List._∷_ e24 (List._∷_ e26 (List._∷_ e28 (List._∷_ e29 (List._∷_ e30 (List._∷_ e31 (List._∷_
-    (24, Relend.msptr (Element.type) (Syntax.tyRef Syntax.erased Syntax.mut Element.behind) 10) (List._∷_ e34 (List._∷_ e35 (List._∷_ e38 (List._∷_ e39 List.[]))))))))))))
+t34 = (16, v4) ∷ (17, v7) ∷ (18, v0) ∷ (19, v2) ∷ (20, v4) ∷ (21, v7) ∷ (22, v0) ∷ (23, v25) ∷ (24, Relend.msptr (Element.type) y5 10) ∷ (25, v7) ∷ (26, v0) ∷ (27, v2) ∷ (28, v12) ∷ []
 
 abbrev pub t35 : List.List Row.Entry
-t35 = List._∷_ e22 (List._∷_ e23 (List._∷_ e24 (List._∷_ e26 (List._∷_ e28 (List._∷_ e29 (List._∷_ e30 (List._∷_ e31 (List._∷_ e33 (List._∷_
-    (25, Mut.mslice (Element.type) (Syntax.tyRef Syntax.erased Syntax.mut Element.behind) 10) (List._∷_ e35 (List._∷_ e38 (List._∷_ e39 List.[]))))))))))))
+t35 = (16, v4) ∷ (17, v7) ∷ (18, v0) ∷ (19, v2) ∷ (20, v4) ∷ (21, v7) ∷ (22, v0) ∷ (23, v25) ∷ (24, v4) ∷ (25, Mut.mslice (Element.type) y5 10) ∷ (26, v0) ∷ (27, v2) ∷ (28, v12) ∷ []
 
 abbrev pub t36 : List.List Row.Entry
-t36 = List._∷_ e0 (List._∷_ e7 (List._∷_ e27 (List._∷_ e42 (List._∷_ e44 (List._∷_ e46 (List._∷_ e47 (List._∷_ e48 (List._∷_ e50 (List._∷_ e54 (List._∷_ e8 (List._∷_ e11 (List._∷_ e14 (List._∷_ e16
-    (List._∷_ e19 (List._∷_ e21 List.[])))))))))))))))
+t36 = (0, v3) ∷ (1, v22) ∷ (2, v5) ∷ (3, v9) ∷ (4, v1) ∷ (5, v1) ∷ (6, v1) ∷ (7, v6) ∷ (8, Relend.mslice-owed (Element.type) y4 3 10 Row.off) ∷ (9, v8) ∷ (10, v3) ∷ (11, v0) ∷ (12, v2) ∷ (13, v0) ∷
+    (14, v2) ∷ (15, v13) ∷ []
 
 abbrev pub t37 : List.List Row.Entry
-t37 = List._∷_ e22 (List._∷_ e23 (List._∷_ e24 (List._∷_ e26 (List._∷_ e28 (List._∷_ e29 (List._∷_ e30 (List._∷_ e31 (List._∷_ e33 (List._∷_
-    (25, Mut.msleft (Element.type) (Syntax.tyRef Syntax.erased Syntax.mut Element.behind)) (List._∷_ e35 (List._∷_ e38 (List._∷_ e39 List.[]))))))))))))
+t37 = (16, v4) ∷ (17, v7) ∷ (18, v0) ∷ (19, v2) ∷ (20, v4) ∷ (21, v7) ∷ (22, v0) ∷ (23, v25) ∷ (24, v4) ∷ (25, v26) ∷ (26, v0) ∷ (27, v2) ∷ (28, v12) ∷ []
 
 abbrev pub t38 : List.List Row.Entry
-t38 = List._∷_ e0 (List._∷_ e7 (List._∷_ e27 (List._∷_ e42 (List._∷_ e44 (List._∷_ e46 (List._∷_ e47 (List._∷_ e48 (List._∷_ e49 (List._∷_ e54 (List._∷_ e8 (List._∷_ e11 (List._∷_ e14 (List._∷_ e16
-    (List._∷_ e19 (List._∷_ e21 List.[])))))))))))))))
+t38 = (0, v3) ∷ (1, v22) ∷ (2, v5) ∷ (3, v9) ∷ (4, v1) ∷ (5, v1) ∷ (6, v1) ∷ (7, v6) ∷ (8, v10) ∷ (9, v8) ∷ (10, v3) ∷ (11, v0) ∷ (12, v2) ∷ (13, v0) ∷ (14, v2) ∷ (15, v13) ∷ []
 
 abbrev pub t39 : List.List Row.Entry
-t39 = List._∷_ e0 (List._∷_ e7 (List._∷_ e27 (List._∷_ e42 (List._∷_ e44 (List._∷_ e46 (List._∷_ e47 (List._∷_ e48 (List._∷_ e49 (List._∷_ e54 (List._∷_ e9 (List._∷_ e11 (List._∷_ e14 (List._∷_ e16
-    (List._∷_ e19 (List._∷_ e21 List.[])))))))))))))))
+t39 = (0, v3) ∷ (1, v22) ∷ (2, v5) ∷ (3, v9) ∷ (4, v1) ∷ (5, v1) ∷ (6, v1) ∷ (7, v6) ∷ (8, v10) ∷ (9, v8) ∷ (10, v14) ∷ (11, v0) ∷ (12, v2) ∷ (13, v0) ∷ (14, v2) ∷ (15, v13) ∷ []
 
 abbrev pub t40 : List.List Row.Entry
-t40 = List._∷_ e22 (List._∷_ e23 (List._∷_ e24 (List._∷_ e26 (List._∷_ e28 (List._∷_ e29 (List._∷_ e30 (List._∷_
-    (23, Mut.msleft (Referent.rtF (Referent.fInt Syntax.w8)) (Syntax.tyRef Syntax.erased Syntax.mut (Syntax.tyInt Syntax.w8))) (List._∷_ e33 (List._∷_ e34 (List._∷_ e35 (List._∷_ e38 (List._∷_ e39
-    List.[]))))))))))))
+t40 = (16, v4) ∷ (17, v7) ∷ (18, v0) ∷ (19, v2) ∷ (20, v4) ∷ (21, v7) ∷ (22, v0) ∷ (23, v15) ∷ (24, v4) ∷ (25, v7) ∷ (26, v0) ∷ (27, v2) ∷ (28, v12) ∷ []
 
 abbrev pub t41 : List.List Row.Entry
-t41 = List._∷_ e0 (List._∷_ e3 (List._∷_ e27 (List._∷_ e42 (List._∷_ e44 (List._∷_ e46 (List._∷_ e47 (List._∷_ e48 (List._∷_ e49 (List._∷_ e54 (List._∷_ e8 (List._∷_ e11 (List._∷_ e14 (List._∷_ e16
-    (List._∷_ e19 (List._∷_ e20 List.[])))))))))))))))
+t41 = (0, v3) ∷ (1, v27) ∷ (2, v5) ∷ (3, v9) ∷ (4, v1) ∷ (5, v1) ∷ (6, v1) ∷ (7, v6) ∷ (8, v10) ∷ (9, v8) ∷ (10, v3) ∷ (11, v0) ∷ (12, v2) ∷ (13, v0) ∷ (14, v2) ∷ (15, v11) ∷ []
 
 abbrev pub t42 : List.List Row.Entry
-t42 = List._∷_ e22 (List._∷_ e23 (List._∷_ e24 (List._∷_ e26 (List._∷_ e28 (List._∷_ e29 (List._∷_ e30 (List._∷_ e32 (List._∷_ e33 (List._∷_ e34 (List._∷_
-    (26, Relend.msptr (Referent.rtF (Referent.fInt Syntax.w8)) (Syntax.tyRef Syntax.erased Syntax.mut (Syntax.tyInt Syntax.w8)) 11) (List._∷_ e38 (List._∷_ e39 List.[]))))))))))))
+t42 = (16, v4) ∷ (17, v7) ∷ (18, v0) ∷ (19, v2) ∷ (20, v4) ∷ (21, v7) ∷ (22, v0) ∷ (23, v2) ∷ (24, v4) ∷ (25, v7) ∷ (26, Relend.msptr n8 y6 11) ∷ (27, v2) ∷ (28, v12) ∷ []
 
 abbrev pub t43 : List.List Row.Entry
-t43 = List._∷_ e22 (List._∷_ e23 (List._∷_ e24 (List._∷_ e26 (List._∷_ e28 (List._∷_ e29 (List._∷_ e30 (List._∷_ e32 (List._∷_ e33 (List._∷_ e34 (List._∷_ e35 (List._∷_ e37 (List._∷_ e39
-    List.[]))))))))))))
+t43 = (16, v4) ∷ (17, v7) ∷ (18, v0) ∷ (19, v2) ∷ (20, v4) ∷ (21, v7) ∷ (22, v0) ∷ (23, v2) ∷ (24, v4) ∷ (25, v7) ∷ (26, v0) ∷ (27, Mut.mslice n8 y6 11) ∷ (28, v12) ∷ []
 
 abbrev pub t44 : List.List Row.Entry
-t44 = List._∷_ e22 (List._∷_ e23 (List._∷_ e24 (List._∷_ e26 (List._∷_ e28 (List._∷_ e29 (List._∷_ e30 (List._∷_ e32 (List._∷_ e33 (List._∷_ e34 (List._∷_ e35 (List._∷_ e37 (List._∷_ e40
-    List.[]))))))))))))
+t44 = (16, v4) ∷ (17, v7) ∷ (18, v0) ∷ (19, v2) ∷ (20, v4) ∷ (21, v7) ∷ (22, v0) ∷ (23, v2) ∷ (24, v4) ∷ (25, v7) ∷ (26, v0) ∷ (27, Mut.mslice n8 y6 11) ∷ (28, v1) ∷ []
 
 abbrev pub t45 : List.List Row.Entry
-t45 = List._∷_ e0 (List._∷_ e3 (List._∷_ e27 (List._∷_ e41 (List._∷_ e44 (List._∷_ e46 (List._∷_ e47 (List._∷_ e48 (List._∷_ e49 (List._∷_ e54 (List._∷_ e8 (List._∷_ e11 (List._∷_ e14 (List._∷_ e16
-    (List._∷_ e19 (List._∷_ e20 List.[])))))))))))))))
+t45 = (0, v3) ∷ (1, v27) ∷ (2, v5) ∷ (3, v16) ∷ (4, v1) ∷ (5, v1) ∷ (6, v1) ∷ (7, v6) ∷ (8, v10) ∷ (9, v8) ∷ (10, v3) ∷ (11, v0) ∷ (12, v2) ∷ (13, v0) ∷ (14, v2) ∷ (15, v11) ∷ []
 
 abbrev pub t46 : List.List Row.Entry
-t46 = List._∷_ e0 (List._∷_ e3 (List._∷_ e27 (List._∷_ e41 (List._∷_ e44 (List._∷_ e46 (List._∷_ e47 (List._∷_ e48 (List._∷_ e49 (List._∷_ e54 (List._∷_ e9 (List._∷_ e11 (List._∷_ e14 (List._∷_ e16
-    (List._∷_ e19 (List._∷_ e20 List.[])))))))))))))))
+t46 = (0, v3) ∷ (1, v27) ∷ (2, v5) ∷ (3, v16) ∷ (4, v1) ∷ (5, v1) ∷ (6, v1) ∷ (7, v6) ∷ (8, v10) ∷ (9, v8) ∷ (10, v14) ∷ (11, v0) ∷ (12, v2) ∷ (13, v0) ∷ (14, v2) ∷ (15, v11) ∷ []
 
 abbrev pub t47 : List.List Row.Entry
-t47 = List._∷_ e22 (List._∷_ e23 (List._∷_ e24 (List._∷_ e26 (List._∷_ e28 (List._∷_ e29 (List._∷_ e30 (List._∷_ e32 (List._∷_ e33 (List._∷_ e34 (List._∷_ e35 (List._∷_ e36 (List._∷_ e40
-    List.[]))))))))))))
+t47 = (16, v4) ∷ (17, v7) ∷ (18, v0) ∷ (19, v2) ∷ (20, v4) ∷ (21, v7) ∷ (22, v0) ∷ (23, v2) ∷ (24, v4) ∷ (25, v7) ∷ (26, v0) ∷ (27, v15) ∷ (28, v1) ∷ []
 
 abbrev pub t48 : List.List Row.Entry
-t48 = List._∷_ e22 (List._∷_ e23 (List._∷_ e24 (List._∷_ e26 (List._∷_ e28 (List._∷_ e29 (List._∷_ e30 (List._∷_ e32 (List._∷_ e33 (List._∷_ e34 (List._∷_ e35 (List._∷_ e36 (List._∷_ e39
-    List.[]))))))))))))
+t48 = (16, v4) ∷ (17, v7) ∷ (18, v0) ∷ (19, v2) ∷ (20, v4) ∷ (21, v7) ∷ (22, v0) ∷ (23, v2) ∷ (24, v4) ∷ (25, v7) ∷ (26, v0) ∷ (27, v15) ∷ (28, v12) ∷ []
 
 abbrev pub t49 : List.List Row.Entry
-t49 = List._∷_ e0 (List._∷_ e2 (List._∷_ e27 (List._∷_ e41 (List._∷_ e44 (List._∷_ e46 (List._∷_ e47 (List._∷_ e48 (List._∷_ e49 (List._∷_ e54 (List._∷_ e8 (List._∷_ e11 (List._∷_ e14 (List._∷_ e16
-    (List._∷_ e19 (List._∷_ e20 List.[])))))))))))))))
+t49 = (0, v3) ∷ (1, v17) ∷ (2, v5) ∷ (3, v16) ∷ (4, v1) ∷ (5, v1) ∷ (6, v1) ∷ (7, v6) ∷ (8, v10) ∷ (9, v8) ∷ (10, v3) ∷ (11, v0) ∷ (12, v2) ∷ (13, v0) ∷ (14, v2) ∷ (15, v11) ∷ []
 
 abbrev pub t50 : List.List Row.Entry
-t50 = List._∷_ e1 (List._∷_ e2 (List._∷_ e27 (List._∷_ e41 (List._∷_ e44 (List._∷_ e46 (List._∷_ e47 (List._∷_ e48 (List._∷_ e49 (List._∷_ e54 (List._∷_ e8 (List._∷_ e11 (List._∷_ e14 (List._∷_ e16
-    (List._∷_ e19 (List._∷_ e20 List.[])))))))))))))))
+t50 = (0, v14) ∷ (1, v17) ∷ (2, v5) ∷ (3, v16) ∷ (4, v1) ∷ (5, v1) ∷ (6, v1) ∷ (7, v6) ∷ (8, v10) ∷ (9, v8) ∷ (10, v3) ∷ (11, v0) ∷ (12, v2) ∷ (13, v0) ∷ (14, v2) ∷ (15, v11) ∷ []
 
 abbrev pub t51 : List.List Row.Entry
-t51 = List._∷_ e1 (List._∷_ e2 (List._∷_ e27 (List._∷_ e41 (List._∷_ e44 (List._∷_ e46 (List._∷_ e47 (List._∷_ e48 (List._∷_ e49 (List._∷_ e53 (List._∷_ e8 (List._∷_ e11 (List._∷_ e14 (List._∷_ e16
-    (List._∷_ e19 (List._∷_ e20 List.[])))))))))))))))
+t51 = (0, v14) ∷ (1, v17) ∷ (2, v5) ∷ (3, v16) ∷ (4, v1) ∷ (5, v1) ∷ (6, v1) ∷ (7, v6) ∷ (8, v10) ∷ (9, v20) ∷ (10, v3) ∷ (11, v0) ∷ (12, v2) ∷ (13, v0) ∷ (14, v2) ∷ (15, v11) ∷ []
 
 abbrev pub t52 : List.List Row.Entry
-t52 = List._∷_ e1 (List._∷_ e2 (List._∷_ e27 (List._∷_ e41 (List._∷_ e43 (List._∷_ e46 (List._∷_ e47 (List._∷_ e48 (List._∷_ e49 (List._∷_ e53 (List._∷_ e8 (List._∷_ e11 (List._∷_ e14 (List._∷_ e16
-    (List._∷_ e19 (List._∷_ e20 List.[])))))))))))))))
+t52 = (0, v14) ∷ (1, v17) ∷ (2, v5) ∷ (3, v16) ∷ (4, v12) ∷ (5, v1) ∷ (6, v1) ∷ (7, v6) ∷ (8, v10) ∷ (9, v20) ∷ (10, v3) ∷ (11, v0) ∷ (12, v2) ∷ (13, v0) ∷ (14, v2) ∷ (15, v11) ∷ []
 
 abbrev pub t53 : List.List Row.Entry
-t53 = List._∷_ e1 (List._∷_ e2 (List._∷_ e27 (List._∷_ e41 (List._∷_ e43 (List._∷_ e45 (List._∷_ e47 (List._∷_ e48 (List._∷_ e49 (List._∷_ e53 (List._∷_ e8 (List._∷_ e11 (List._∷_ e14 (List._∷_ e16
-    (List._∷_ e19 (List._∷_ e20 List.[])))))))))))))))
+t53 = (0, v14) ∷ (1, v17) ∷ (2, v5) ∷ (3, v16) ∷ (4, v12) ∷ (5, v12) ∷ (6, v1) ∷ (7, v6) ∷ (8, v10) ∷ (9, v20) ∷ (10, v3) ∷ (11, v0) ∷ (12, v2) ∷ (13, v0) ∷ (14, v2) ∷ (15, v11) ∷ []
 
 abbrev pub T0 : Row.Cx
-T0 = record { locals = List._++_ t0 t1; slots = List.[] }
+T0 = record { locals = List._++_ t0 t1; slots = [] }
 
 abbrev pub T1 : Row.Cx
-T1 = record { locals = List._++_ t2 t1; slots = List.[] }
-
-abbrev pub T2 : Row.Cx
-T2 = record { locals = List._++_ t0 t1; slots = List.[] }
-
-abbrev pub T3 : Row.Cx
-T3 = record { locals = List._++_ t0 t1; slots = List.[] }
-
-abbrev pub T4 : Row.Cx
-T4 = record { locals = List._++_ t0 t1; slots = List.[] }
+T1 = record { locals = List._++_ t2 t1; slots = [] }
 
 abbrev pub T5 : Row.Cx
-T5 = record { locals = List._++_ t3 t1; slots = List.[] }
+T5 = record { locals = List._++_ t3 t1; slots = [] }
 
 abbrev pub T7 : Row.Cx
-T7 = record { locals = List._++_ t4 t1; slots = List.[] }
+T7 = record { locals = List._++_ t4 t1; slots = [] }
 
 abbrev pub T8 : Row.Cx
-T8 = record { locals = List._++_ t5 t1; slots = List.[] }
+T8 = record { locals = List._++_ t5 t1; slots = [] }
 
 abbrev pub T9 : Row.Cx
-T9 = record { locals = List._++_ t6 t1; slots = List.[] }
+T9 = record { locals = List._++_ t6 t1; slots = [] }
 
 abbrev pub T10 : Row.Cx
-T10 = record { locals = List._++_ t7 t1; slots = List.[] }
-
-abbrev pub T12 : Row.Cx
-T12 = record { locals = List._++_ t3 t1; slots = List.[] }
-
-abbrev pub T13 : Row.Cx
-T13 = record { locals = List._++_ t3 t1; slots = List.[] }
+T10 = record { locals = List._++_ t7 t1; slots = [] }
 
 abbrev pub T16 : Row.Cx
-T16 = record { locals = List._++_ t8 t1; slots = List.[] }
+T16 = record { locals = List._++_ t8 t1; slots = [] }
 
 abbrev pub T17 : Row.Cx
-T17 = record { locals = List._++_ t9 t1; slots = List.[] }
+T17 = record { locals = List._++_ t9 t1; slots = [] }
 
 abbrev pub T19 : Row.Cx
-T19 = record { locals = List._++_ t10 t11; slots = List.[] }
+T19 = record { locals = List._++_ t10 t11; slots = [] }
 
 abbrev pub T20 : Row.Cx
-T20 = record { locals = List._++_ t10 t12; slots = List.[] }
+T20 = record { locals = List._++_ t10 t12; slots = [] }
 
 abbrev pub T21 : Row.Cx
-T21 = record { locals = List._++_ t13 t14; slots = List.[] }
+T21 = record { locals = List._++_ t13 t14; slots = [] }
 
 abbrev pub T23 : Row.Cx
-T23 = record { locals = List._++_ t15 t1; slots = List.[] }
+T23 = record { locals = List._++_ t15 t1; slots = [] }
 
 abbrev pub T25 : Row.Cx
-T25 = record { locals = List._++_ t16 t1; slots = List.[] }
+T25 = record { locals = List._++_ t16 t1; slots = [] }
 
 abbrev pub T26 : Row.Cx
-T26 = record { locals = List._++_ t17 t1; slots = List.[] }
+T26 = record { locals = List._++_ t17 t1; slots = [] }
 
 abbrev pub T27 : Row.Cx
-T27 = record { locals = List._++_ t18 t1; slots = List.[] }
-
-abbrev pub T29 : Row.Cx
-T29 = record { locals = List._++_ t3 t1; slots = List.[] }
-
-abbrev pub T30 : Row.Cx
-T30 = record { locals = List._++_ t3 t1; slots = List.[] }
+T27 = record { locals = List._++_ t18 t1; slots = [] }
 
 abbrev pub T33 : Row.Cx
-T33 = record { locals = List._++_ t19 t20; slots = List.[] }
+T33 = record { locals = List._++_ t19 t20; slots = [] }
 
 abbrev pub T34 : Row.Cx
-T34 = record { locals = List._++_ t19 t21; slots = List.[] }
+T34 = record { locals = List._++_ t19 t21; slots = [] }
 
 abbrev pub T36 : Row.Cx
-T36 = record { locals = List._++_ t22 t23; slots = List.[] }
+T36 = record { locals = List._++_ t22 t23; slots = [] }
 
 abbrev pub T37 : Row.Cx
-T37 = record { locals = List._++_ t22 t24; slots = List.[] }
+T37 = record { locals = List._++_ t22 t24; slots = [] }
 
 abbrev pub T38 : Row.Cx
-T38 = record { locals = List._++_ t25 t26; slots = List.[] }
+T38 = record { locals = List._++_ t25 t26; slots = [] }
 
 abbrev pub T40 : Row.Cx
-T40 = record { locals = List._++_ t27 t21; slots = List.[] }
+T40 = record { locals = List._++_ t27 t21; slots = [] }
 
 abbrev pub T42 : Row.Cx
-T42 = record { locals = List._++_ t28 t29; slots = List.[] }
+T42 = record { locals = List._++_ t28 t29; slots = [] }
 
 abbrev pub T43 : Row.Cx
-T43 = record { locals = List._++_ t27 t29; slots = List.[] }
+T43 = record { locals = List._++_ t27 t29; slots = [] }
 
 abbrev pub T44 : Row.Cx
-T44 = record { locals = List._++_ t19 t29; slots = List.[] }
-
-abbrev pub T46 : Row.Cx
-T46 = record { locals = List._++_ t3 t1; slots = List.[] }
-
-abbrev pub T47 : Row.Cx
-T47 = record { locals = List._++_ t3 t1; slots = List.[] }
+T44 = record { locals = List._++_ t19 t29; slots = [] }
 
 abbrev pub T50 : Row.Cx
-T50 = record { locals = List._++_ t30 t31; slots = List.[] }
+T50 = record { locals = List._++_ t30 t31; slots = [] }
 
 abbrev pub T51 : Row.Cx
-T51 = record { locals = List._++_ t30 t32; slots = List.[] }
+T51 = record { locals = List._++_ t30 t32; slots = [] }
 
 abbrev pub T53 : Row.Cx
-T53 = record { locals = List._++_ t33 t34; slots = List.[] }
+T53 = record { locals = List._++_ t33 t34; slots = [] }
 
 abbrev pub T54 : Row.Cx
-T54 = record { locals = List._++_ t33 t35; slots = List.[] }
+T54 = record { locals = List._++_ t33 t35; slots = [] }
 
 abbrev pub T55 : Row.Cx
-T55 = record { locals = List._++_ t36 t37; slots = List.[] }
+T55 = record { locals = List._++_ t36 t37; slots = [] }
 
 abbrev pub T57 : Row.Cx
-T57 = record { locals = List._++_ t38 t32; slots = List.[] }
+T57 = record { locals = List._++_ t38 t32; slots = [] }
 
 abbrev pub T59 : Row.Cx
-T59 = record { locals = List._++_ t39 t40; slots = List.[] }
+T59 = record { locals = List._++_ t39 t40; slots = [] }
 
 abbrev pub T60 : Row.Cx
-T60 = record { locals = List._++_ t38 t40; slots = List.[] }
+T60 = record { locals = List._++_ t38 t40; slots = [] }
 
 abbrev pub T61 : Row.Cx
-T61 = record { locals = List._++_ t30 t40; slots = List.[] }
-
-abbrev pub T63 : Row.Cx
-T63 = record { locals = List._++_ t3 t1; slots = List.[] }
-
-abbrev pub T64 : Row.Cx
-T64 = record { locals = List._++_ t3 t1; slots = List.[] }
+T61 = record { locals = List._++_ t30 t40; slots = [] }
 
 abbrev pub T67 : Row.Cx
-T67 = record { locals = List._++_ t41 t42; slots = List.[] }
+T67 = record { locals = List._++_ t41 t42; slots = [] }
 
 abbrev pub T68 : Row.Cx
-T68 = record { locals = List._++_ t41 t43; slots = List.[] }
+T68 = record { locals = List._++_ t41 t43; slots = [] }
 
 abbrev pub T69 : Row.Cx
-T69 = record { locals = List._++_ t41 t44; slots = List.[] }
+T69 = record { locals = List._++_ t41 t44; slots = [] }
 
 abbrev pub T70 : Row.Cx
-T70 = record { locals = List._++_ t45 t44; slots = List.[] }
+T70 = record { locals = List._++_ t45 t44; slots = [] }
 
 abbrev pub T71 : Row.Cx
-T71 = record { locals = List._++_ t46 t47; slots = List.[] }
+T71 = record { locals = List._++_ t46 t47; slots = [] }
 
 abbrev pub T72 : Row.Cx
-T72 = record { locals = List._++_ t45 t47; slots = List.[] }
+T72 = record { locals = List._++_ t45 t47; slots = [] }
 
 abbrev pub T73 : Row.Cx
-T73 = record { locals = List._++_ t45 t48; slots = List.[] }
+T73 = record { locals = List._++_ t45 t48; slots = [] }
 
 abbrev pub T75 : Row.Cx
-T75 = record { locals = List._++_ t49 t1; slots = List.[] }
-
-abbrev pub T76 : Row.Cx
-T76 = record { locals = List._++_ t49 t1; slots = List.[] }
+T75 = record { locals = List._++_ t49 t1; slots = [] }
 
 abbrev pub T78 : Row.Cx
-T78 = record { locals = List._++_ t50 t1; slots = List.[] }
+T78 = record { locals = List._++_ t50 t1; slots = [] }
 
 abbrev pub T79 : Row.Cx
-T79 = record { locals = List._++_ t51 t1; slots = List.[] }
+T79 = record { locals = List._++_ t51 t1; slots = [] }
 
 abbrev pub T80 : Row.Cx
-T80 = record { locals = List._++_ t52 t1; slots = List.[] }
+T80 = record { locals = List._++_ t52 t1; slots = [] }
 
 abbrev pub T81 : Row.Cx
-T81 = record { locals = List._++_ t53 t1; slots = List.[] }
-
-abbrev pub T82 : Row.Cx
-T82 = record { locals = List._++_ t2 t1; slots = List.[] }
+T81 = record { locals = List._++_ t53 t1; slots = [] }
 
 abbrev pub O0 : Typed.Outs
-O0 = record { next = Option.none; exits = List.[]; returns = Option.some T1 }
+O0 = record { next = Option.none; exits = []; returns = Option.some T1 }
 
 module _ (claims· : Claims) where
-  abbrev s0 : Typed.Gives T0 T2
-  s0 = Know.k-sl-known (Referent.fInt Syntax.w8) T0 1 0 (Syntax.tyRef (Syntax.named 0) Syntax.mut (Syntax.tyInt Syntax.w8)) Row.off 0 λ x. x
+  abbrev s0 : Typed.Gives T0 T0
+  s0 = Know.k-sl-known (Referent.fInt Syntax.w8) T0 1 0 y1 Row.off 0 λ x. x
 
-  abbrev s1 : Typed.Gives T2 T3
-  s1 = Know.k-shs-known (Referent.fInt Syntax.w8) T2 2 1 (Syntax.tyRef (Syntax.named 1) Syntax.imm (Syntax.tyInt Syntax.w8)) Row.off 0 λ x. x
+  abbrev s1 : Typed.Gives T0 T0
+  s1 = Know.k-shs-known (Referent.fInt Syntax.w8) T0 2 1 y2 Row.off 0 λ x. x
 
-  abbrev s2 : Typed.Gives T3 T4
-  s2 = Know.k-shs-known (Referent.fInt Syntax.w16) T3 7 2 (Syntax.tyRef (Syntax.named 2) Syntax.imm (Syntax.tyInt Syntax.w16)) Row.off 0 λ x. x
+  abbrev s2 : Typed.Gives T0 T0
+  s2 = Know.k-shs-known (Referent.fInt Syntax.w16) T0 7 2 y3 Row.off 0 λ x. x
 
-  abbrev s3 : Typed.Mo T4 → Typed.Mo T5
-  s3 = Scalar.n-use T4 (Scalar.oFld 3 (List._∷_ (Syntax.field 0) List.[]) Syntax.tyBool 0 (Reads.fieldV FujiHeader.the-type Laws'.the-laws 0)) 9 (Rows.sc-here Row.sBool) (Row.sBool .of)
+  abbrev s3 : Typed.Mo T0 → Typed.Mo T5
+  s3 = Scalar.n-use T0 (Scalar.oFld 3 ((Syntax.field 0) ∷ []) Syntax.tyBool 0 (Reads.fieldV FujiHeader.the-type Laws'.the-laws 0)) 9 (Rows.sc-here Row.sBool) (Row.sBool .of)
 
   abbrev s5 : Typed.Gives T5 T7
-  s5 = Relend.k-sl-relend (Referent.rtF (Referent.fInt Syntax.w8)) T5 1 11 0 4 (Syntax.tyRef (Syntax.named 0) Syntax.mut (Syntax.tyInt Syntax.w8)) (Syntax.tyRef Syntax.erased Syntax.mut (Syntax.tyInt
-      Syntax.w8)) Row.off λ x. x
+  s5 = Relend.k-sl-relend n8 T5 1 11 0 4 y1 y6 Row.off λ x. x
 
   abbrev s6 : Typed.Asks T7 T8
-  s6 = Relend.k-sl-aggregate (Referent.rtF (Referent.fInt Syntax.w8)) (Relend.asMut (Referent.rtF (Referent.fInt Syntax.w8))) T7 11 12 4 (Syntax.tyRef Syntax.erased Syntax.mut (Syntax.tyInt
-      Syntax.w8)) (Syntax.tyRef Syntax.erased Syntax.mut (Syntax.tyInt Syntax.w8)) (λ x. x) (Scalar.oFld 1 (List._∷_ (Syntax.field 1) List.[]) (Syntax.tyInt Syntax.w64) 8 λ v. Shared.lenV (v .0))
+  s6 = Relend.k-sl-aggregate n8 (Relend.asMut n8) T7 11 12 4 y6 y6 (λ x. x) (Scalar.oFld 1 ((Syntax.field 1) ∷ []) u64 8 λ v. Shared.lenV (v .0))
+
+  abbrev pub a0 : ArgsT ps·0 (T8 .locals)
+  a0 = (record { pos = 12; ty = y6; ref = λ x. x }, (record { pos = 2; ty = y2; ref = λ x. x }, (Num.vAt 4 λ x. x, (Num.vAt 5 λ x. x, (Num.vAt 6 λ x. x, tt)))))
 
   abbrev s7 : Typed.Both T8 T9
-  s7 = Call.callB ps·0 r·0 (claims· .0) (claims· .1) T8 (
-    record { pos = 12; ty = Syntax.tyRef Syntax.erased Syntax.mut (Syntax.tyInt Syntax.w8); ref = λ x. x },
-    (record { pos = 2; ty = Syntax.tyRef (Syntax.named 1) Syntax.imm (Syntax.tyInt Syntax.w8); ref = λ x. x }, (Num.vAt 4 λ x. x, (Num.vAt 5 λ x. x, (Num.vAt 6 λ x. x, tt)))),
-  ) 10 (List._∷_ 4 (List._∷_
-      1 List.[])) Syntax.tyUnit
+  s7 = Call.callB ps·0 r·0 (claims· .0) (claims· .1) T8 a0 10 (4 ∷ 1 ∷ []) Syntax.tyUnit
 
   abbrev s8 : Typed.Mo T9 → Typed.Mo T10
   s8 = Scalar.n-room T9 10 Syntax.tyUnit
 
-  abbrev s10 : Typed.Both T10 T12
-  s10 = Relend.k-back-sl (Referent.rtF (Referent.fInt Syntax.w8)) T10 12 1 0 4 (Syntax.tyRef (Syntax.named 0) Syntax.mut (Syntax.tyInt Syntax.w8)) (Syntax.tyRef Syntax.erased Syntax.mut (Syntax.tyInt
-      Syntax.w8)) Row.off (λ x. x) λ x. x
+  abbrev s10 : Typed.Both T10 T5
+  s10 = Relend.k-back-sl n8 T10 12 1 0 4 y1 y6 Row.off (λ x. x) λ x. x
 
-  abbrev s11 : Typed.Gives T12 T13
-  s11 = Know.k-sl-known (Referent.fInt Syntax.w8) T12 1 0 (Syntax.tyRef (Syntax.named 0) Syntax.mut (Syntax.tyInt Syntax.w8)) Row.off 0 λ x. x
+  abbrev s11 : Typed.Gives T5 T5
+  s11 = Know.k-sl-known (Referent.fInt Syntax.w8) T5 1 0 y1 Row.off 0 λ x. x
 
-  abbrev s14 : Typed.Gives T13 T16
-  s14 = Relend.k-sl-relend (Referent.rtF (Referent.fInt Syntax.w8)) T13 1 13 0 5 (Syntax.tyRef (Syntax.named 0) Syntax.mut (Syntax.tyInt Syntax.w8)) (Syntax.tyRef Syntax.erased Syntax.mut
-      (Syntax.tyInt Syntax.w8)) Row.off λ x. x
+  abbrev s14 : Typed.Gives T5 T16
+  s14 = Relend.k-sl-relend n8 T5 1 13 0 5 y1 y6 Row.off λ x. x
 
   abbrev s15 : Typed.Asks T16 T17
-  s15 = Relend.k-sl-aggregate (Referent.rtF (Referent.fInt Syntax.w8)) (Relend.asMut (Referent.rtF (Referent.fInt Syntax.w8))) T16 13 14 5 (Syntax.tyRef Syntax.erased Syntax.mut (Syntax.tyInt
-      Syntax.w8)) (Syntax.tyRef Syntax.erased Syntax.mut (Syntax.tyInt Syntax.w8)) (λ x. x) (Scalar.oFld 1 (List._∷_ (Syntax.field 1) List.[]) (Syntax.tyInt Syntax.w64) 8 λ v. Shared.lenV (v .0))
+  s15 = Relend.k-sl-aggregate n8 (Relend.asMut n8) T16 13 14 5 y6 y6 (λ x. x) (Scalar.oFld 1 ((Syntax.field 1) ∷ []) u64 8 λ v. Shared.lenV (v .0))
 
   abbrev s17 : Typed.Gives T17 T19
-  s17 = Relend.k-sl-relend (Element.type) T17 8 16 3 6 (Syntax.tyRef (Syntax.named 3) Syntax.mut Element.behind) (Syntax.tyRef Syntax.erased Syntax.mut Element.behind) Row.off λ x. x
+  s17 = Relend.k-sl-relend (Element.type) T17 8 16 3 6 y4 y5 Row.off λ x. x
 
   abbrev s18 : Typed.Asks T19 T20
-  s18 = Relend.k-sl-aggregate (Element.type) (Relend.asMut (Element.type)) T19 16 17 6 (Syntax.tyRef Syntax.erased Syntax.mut Element.behind) (Syntax.tyRef Syntax.erased Syntax.mut Element.behind) (λ
-      x. x) (Scalar.oFld 8 (List._∷_ (Syntax.field 1) List.[]) (Syntax.tyInt Syntax.w64) 8 λ v. Shared.lenV (v .0))
+  s18 = Relend.k-sl-aggregate (Element.type) (Relend.asMut (Element.type)) T19 16 17 6 y5 y5 (λ x. x) (Scalar.oFld 8 ((Syntax.field 1) ∷ []) u64 8 λ v. Shared.lenV (v .0))
 
   abbrev s19 : Typed.Both T20 T21
-  s19 = Call.callB ps·1 r·1 (claims· .2) (claims· .3) T20 (record { pos = 17; ty = Syntax.tyRef Syntax.erased Syntax.mut Element.behind; ref = λ x. x }, (Num.vLit 0, tt)) 15 (List._∷_ 6 List.[]) y0
+  s19 = Call.callB ps·1 r·1 (claims· .2) (claims· .3) T20 (record { pos = 17; ty = y5; ref = λ x. x }, (Num.vLit 0, tt)) 15 (6 ∷ []) y8
 
   abbrev s21 : Typed.Both T21 T23
-  s21 = Relend.k-back-sl (Element.type) T21 17 8 3 6 (Syntax.tyRef (Syntax.named 3) Syntax.mut Element.behind) (Syntax.tyRef Syntax.erased Syntax.mut Element.behind) Row.off (λ x. x) λ x. x
+  s21 = Relend.k-back-sl (Element.type) T21 17 8 3 6 y4 y5 Row.off (λ x. x) λ x. x
+
+  abbrev pub a1 : ArgsT ps·2 (T23 .locals)
+  a1 = (record { pos = 14; ty = y6; ref = λ x. x }, (Num.vLit 0, (record { pos = 15; st = []; d = 0; at = λ x. x }, (Bool.bAt 9 λ x. x, tt))))
 
   abbrev s23 : Typed.Both T23 T25
-  s23 = Call.callB ps·2 r·2 (claims· .4) (claims· .5) T23 (
-    record { pos = 14; ty = Syntax.tyRef Syntax.erased Syntax.mut (Syntax.tyInt Syntax.w8); ref = λ x. x },
-    (Num.vLit 0, (record { pos = 15; st = List.[]; d = 0; at = λ x. x }, (Bool.bAt 9 λ x. x, tt))),
-  ) 10 (List._∷_ 5 List.[]) Syntax.tyUnit
+  s23 = Call.callB ps·2 r·2 (claims· .4) (claims· .5) T23 a1 10 (5 ∷ []) Syntax.tyUnit
 
   abbrev s24 : Typed.Mo T25 → Typed.Mo T26
   s24 = Scalar.n-room T25 10 Syntax.tyUnit
 
   abbrev s25 : Typed.Mo T26 → Typed.Mo T27
-  s25 = Scalar.n-room T26 15 y0
+  s25 = Scalar.n-room T26 15 y8
 
-  abbrev s27 : Typed.Both T27 T29
-  s27 = Relend.k-back-sl (Referent.rtF (Referent.fInt Syntax.w8)) T27 14 1 0 5 (Syntax.tyRef (Syntax.named 0) Syntax.mut (Syntax.tyInt Syntax.w8)) (Syntax.tyRef Syntax.erased Syntax.mut (Syntax.tyInt
-      Syntax.w8)) Row.off (λ x. x) λ x. x
+  abbrev s27 : Typed.Both T27 T5
+  s27 = Relend.k-back-sl n8 T27 14 1 0 5 y1 y6 Row.off (λ x. x) λ x. x
 
-  abbrev s28 : Typed.Gives T29 T30
-  s28 = Know.k-sl-known (Referent.fInt Syntax.w8) T29 1 0 (Syntax.tyRef (Syntax.named 0) Syntax.mut (Syntax.tyInt Syntax.w8)) Row.off 0 λ x. x
+  abbrev s28 : Typed.Gives T5 T5
+  s28 = Know.k-sl-known (Referent.fInt Syntax.w8) T5 1 0 y1 Row.off 0 λ x. x
 
-  abbrev s31 : Typed.Gives T30 T33
-  s31 = Relend.k-sl-relend (Referent.rtF (Referent.fInt Syntax.w8)) T30 1 18 0 7 (Syntax.tyRef (Syntax.named 0) Syntax.mut (Syntax.tyInt Syntax.w8)) (Syntax.tyRef Syntax.erased Syntax.mut
-      (Syntax.tyInt Syntax.w8)) Row.off λ x. x
+  abbrev s31 : Typed.Gives T5 T33
+  s31 = Relend.k-sl-relend n8 T5 1 18 0 7 y1 y6 Row.off λ x. x
 
   abbrev s32 : Typed.Asks T33 T34
-  s32 = Relend.k-sl-aggregate (Referent.rtF (Referent.fInt Syntax.w8)) (Relend.asMut (Referent.rtF (Referent.fInt Syntax.w8))) T33 18 19 7 (Syntax.tyRef Syntax.erased Syntax.mut (Syntax.tyInt
-      Syntax.w8)) (Syntax.tyRef Syntax.erased Syntax.mut (Syntax.tyInt Syntax.w8)) (λ x. x) (Scalar.oFld 1 (List._∷_ (Syntax.field 1) List.[]) (Syntax.tyInt Syntax.w64) 8 λ v. Shared.lenV (v .0))
+  s32 = Relend.k-sl-aggregate n8 (Relend.asMut n8) T33 18 19 7 y6 y6 (λ x. x) (Scalar.oFld 1 ((Syntax.field 1) ∷ []) u64 8 λ v. Shared.lenV (v .0))
 
   abbrev s34 : Typed.Gives T34 T36
-  s34 = Relend.k-sl-relend (Element.type) T34 8 20 3 8 (Syntax.tyRef (Syntax.named 3) Syntax.mut Element.behind) (Syntax.tyRef Syntax.erased Syntax.mut Element.behind) Row.off λ x. x
+  s34 = Relend.k-sl-relend (Element.type) T34 8 20 3 8 y4 y5 Row.off λ x. x
 
   abbrev s35 : Typed.Asks T36 T37
-  s35 = Relend.k-sl-aggregate (Element.type) (Relend.asMut (Element.type)) T36 20 21 8 (Syntax.tyRef Syntax.erased Syntax.mut Element.behind) (Syntax.tyRef Syntax.erased Syntax.mut Element.behind) (λ
-      x. x) (Scalar.oFld 8 (List._∷_ (Syntax.field 1) List.[]) (Syntax.tyInt Syntax.w64) 8 λ v. Shared.lenV (v .0))
+  s35 = Relend.k-sl-aggregate (Element.type) (Relend.asMut (Element.type)) T36 20 21 8 y5 y5 (λ x. x) (Scalar.oFld 8 ((Syntax.field 1) ∷ []) u64 8 λ v. Shared.lenV (v .0))
 
   abbrev s36 : Typed.Both T37 T38
-  s36 = Call.callB ps·1 r·1 (claims· .2) (claims· .3) T37 (record { pos = 21; ty = Syntax.tyRef Syntax.erased Syntax.mut Element.behind; ref = λ x. x }, (Num.vLit 1, tt)) 15 (List._∷_ 8 List.[]) y0
+  s36 = Call.callB ps·1 r·1 (claims· .2) (claims· .3) T37 (record { pos = 21; ty = y5; ref = λ x. x }, (Num.vLit 1, tt)) 15 (8 ∷ []) y8
 
   abbrev s38 : Typed.Both T38 T40
-  s38 = Relend.k-back-sl (Element.type) T38 21 8 3 8 (Syntax.tyRef (Syntax.named 3) Syntax.mut Element.behind) (Syntax.tyRef Syntax.erased Syntax.mut Element.behind) Row.off (λ x. x) λ x. x
+  s38 = Relend.k-back-sl (Element.type) T38 21 8 3 8 y4 y5 Row.off (λ x. x) λ x. x
+
+  abbrev pub a2 : ArgsT ps·2 (T40 .locals)
+  a2 = (record { pos = 19; ty = y6; ref = λ x. x }, (Num.vLit 1, (record { pos = 15; st = []; d = 0; at = λ x. x }, (Bool.bAt 9 λ x. x, tt))))
 
   abbrev s40 : Typed.Both T40 T42
-  s40 = Call.callB ps·2 r·2 (claims· .4) (claims· .5) T40 (
-    record { pos = 19; ty = Syntax.tyRef Syntax.erased Syntax.mut (Syntax.tyInt Syntax.w8); ref = λ x. x },
-    (Num.vLit 1, (record { pos = 15; st = List.[]; d = 0; at = λ x. x }, (Bool.bAt 9 λ x. x, tt))),
-  ) 10 (List._∷_ 7 List.[]) Syntax.tyUnit
+  s40 = Call.callB ps·2 r·2 (claims· .4) (claims· .5) T40 a2 10 (7 ∷ []) Syntax.tyUnit
 
   abbrev s41 : Typed.Mo T42 → Typed.Mo T43
   s41 = Scalar.n-room T42 10 Syntax.tyUnit
 
   abbrev s42 : Typed.Mo T43 → Typed.Mo T44
-  s42 = Scalar.n-room T43 15 y0
+  s42 = Scalar.n-room T43 15 y8
 
-  abbrev s44 : Typed.Both T44 T46
-  s44 = Relend.k-back-sl (Referent.rtF (Referent.fInt Syntax.w8)) T44 19 1 0 7 (Syntax.tyRef (Syntax.named 0) Syntax.mut (Syntax.tyInt Syntax.w8)) (Syntax.tyRef Syntax.erased Syntax.mut (Syntax.tyInt
-      Syntax.w8)) Row.off (λ x. x) λ x. x
+  abbrev s44 : Typed.Both T44 T5
+  s44 = Relend.k-back-sl n8 T44 19 1 0 7 y1 y6 Row.off (λ x. x) λ x. x
 
-  abbrev s45 : Typed.Gives T46 T47
-  s45 = Know.k-sl-known (Referent.fInt Syntax.w8) T46 1 0 (Syntax.tyRef (Syntax.named 0) Syntax.mut (Syntax.tyInt Syntax.w8)) Row.off 0 λ x. x
+  abbrev s45 : Typed.Gives T5 T5
+  s45 = Know.k-sl-known (Referent.fInt Syntax.w8) T5 1 0 y1 Row.off 0 λ x. x
 
-  abbrev s48 : Typed.Gives T47 T50
-  s48 = Relend.k-sl-relend (Referent.rtF (Referent.fInt Syntax.w8)) T47 1 22 0 9 (Syntax.tyRef (Syntax.named 0) Syntax.mut (Syntax.tyInt Syntax.w8)) (Syntax.tyRef Syntax.erased Syntax.mut
-      (Syntax.tyInt Syntax.w8)) Row.off λ x. x
+  abbrev s48 : Typed.Gives T5 T50
+  s48 = Relend.k-sl-relend n8 T5 1 22 0 9 y1 y6 Row.off λ x. x
 
   abbrev s49 : Typed.Asks T50 T51
-  s49 = Relend.k-sl-aggregate (Referent.rtF (Referent.fInt Syntax.w8)) (Relend.asMut (Referent.rtF (Referent.fInt Syntax.w8))) T50 22 23 9 (Syntax.tyRef Syntax.erased Syntax.mut (Syntax.tyInt
-      Syntax.w8)) (Syntax.tyRef Syntax.erased Syntax.mut (Syntax.tyInt Syntax.w8)) (λ x. x) (Scalar.oFld 1 (List._∷_ (Syntax.field 1) List.[]) (Syntax.tyInt Syntax.w64) 8 λ v. Shared.lenV (v .0))
+  s49 = Relend.k-sl-aggregate n8 (Relend.asMut n8) T50 22 23 9 y6 y6 (λ x. x) (Scalar.oFld 1 ((Syntax.field 1) ∷ []) u64 8 λ v. Shared.lenV (v .0))
 
   abbrev s51 : Typed.Gives T51 T53
-  s51 = Relend.k-sl-relend (Element.type) T51 8 24 3 10 (Syntax.tyRef (Syntax.named 3) Syntax.mut Element.behind) (Syntax.tyRef Syntax.erased Syntax.mut Element.behind) Row.off λ x. x
+  s51 = Relend.k-sl-relend (Element.type) T51 8 24 3 10 y4 y5 Row.off λ x. x
 
   abbrev s52 : Typed.Asks T53 T54
-  s52 = Relend.k-sl-aggregate (Element.type) (Relend.asMut (Element.type)) T53 24 25 10 (Syntax.tyRef Syntax.erased Syntax.mut Element.behind) (Syntax.tyRef Syntax.erased Syntax.mut Element.behind) (λ
-      x. x) (Scalar.oFld 8 (List._∷_ (Syntax.field 1) List.[]) (Syntax.tyInt Syntax.w64) 8 λ v. Shared.lenV (v .0))
+  s52 = Relend.k-sl-aggregate (Element.type) (Relend.asMut (Element.type)) T53 24 25 10 y5 y5 (λ x. x) (Scalar.oFld 8 ((Syntax.field 1) ∷ []) u64 8 λ v. Shared.lenV (v .0))
 
   abbrev s53 : Typed.Both T54 T55
-  s53 = Call.callB ps·1 r·1 (claims· .2) (claims· .3) T54 (record { pos = 25; ty = Syntax.tyRef Syntax.erased Syntax.mut Element.behind; ref = λ x. x }, (Num.vLit 2, tt)) 15 (List._∷_ 10 List.[]) y0
+  s53 = Call.callB ps·1 r·1 (claims· .2) (claims· .3) T54 (record { pos = 25; ty = y5; ref = λ x. x }, (Num.vLit 2, tt)) 15 (10 ∷ []) y8
 
   abbrev s55 : Typed.Both T55 T57
-  s55 = Relend.k-back-sl (Element.type) T55 25 8 3 10 (Syntax.tyRef (Syntax.named 3) Syntax.mut Element.behind) (Syntax.tyRef Syntax.erased Syntax.mut Element.behind) Row.off (λ x. x) λ x. x
+  s55 = Relend.k-back-sl (Element.type) T55 25 8 3 10 y4 y5 Row.off (λ x. x) λ x. x
+
+  abbrev pub a3 : ArgsT ps·2 (T57 .locals)
+  a3 = (record { pos = 23; ty = y6; ref = λ x. x }, (Num.vLit 2, (record { pos = 15; st = []; d = 0; at = λ x. x }, (Bool.bAt 9 λ x. x, tt))))
 
   abbrev s57 : Typed.Both T57 T59
-  s57 = Call.callB ps·2 r·2 (claims· .4) (claims· .5) T57 (
-    record { pos = 23; ty = Syntax.tyRef Syntax.erased Syntax.mut (Syntax.tyInt Syntax.w8); ref = λ x. x },
-    (Num.vLit 2, (record { pos = 15; st = List.[]; d = 0; at = λ x. x }, (Bool.bAt 9 λ x. x, tt))),
-  ) 10 (List._∷_ 9 List.[]) Syntax.tyUnit
+  s57 = Call.callB ps·2 r·2 (claims· .4) (claims· .5) T57 a3 10 (9 ∷ []) Syntax.tyUnit
 
   abbrev s58 : Typed.Mo T59 → Typed.Mo T60
   s58 = Scalar.n-room T59 10 Syntax.tyUnit
 
   abbrev s59 : Typed.Mo T60 → Typed.Mo T61
-  s59 = Scalar.n-room T60 15 y0
+  s59 = Scalar.n-room T60 15 y8
 
-  abbrev s61 : Typed.Both T61 T63
-  s61 = Relend.k-back-sl (Referent.rtF (Referent.fInt Syntax.w8)) T61 23 1 0 9 (Syntax.tyRef (Syntax.named 0) Syntax.mut (Syntax.tyInt Syntax.w8)) (Syntax.tyRef Syntax.erased Syntax.mut (Syntax.tyInt
-      Syntax.w8)) Row.off (λ x. x) λ x. x
+  abbrev s61 : Typed.Both T61 T5
+  s61 = Relend.k-back-sl n8 T61 23 1 0 9 y1 y6 Row.off (λ x. x) λ x. x
 
-  abbrev s62 : Typed.Gives T63 T64
-  s62 = Know.k-sl-known (Referent.fInt Syntax.w8) T63 1 0 (Syntax.tyRef (Syntax.named 0) Syntax.mut (Syntax.tyInt Syntax.w8)) Row.off 0 λ x. x
+  abbrev s62 : Typed.Gives T5 T5
+  s62 = Know.k-sl-known (Referent.fInt Syntax.w8) T5 1 0 y1 Row.off 0 λ x. x
 
-  abbrev s65 : Typed.Gives T64 T67
-  s65 = Relend.k-sl-relend (Referent.rtF (Referent.fInt Syntax.w8)) T64 1 26 0 11 (Syntax.tyRef (Syntax.named 0) Syntax.mut (Syntax.tyInt Syntax.w8)) (Syntax.tyRef Syntax.erased Syntax.mut
-      (Syntax.tyInt Syntax.w8)) Row.off λ x. x
+  abbrev s65 : Typed.Gives T5 T67
+  s65 = Relend.k-sl-relend n8 T5 1 26 0 11 y1 y6 Row.off λ x. x
 
   abbrev s66 : Typed.Asks T67 T68
-  s66 = Relend.k-sl-aggregate (Referent.rtF (Referent.fInt Syntax.w8)) (Relend.asMut (Referent.rtF (Referent.fInt Syntax.w8))) T67 26 27 11 (Syntax.tyRef Syntax.erased Syntax.mut (Syntax.tyInt
-      Syntax.w8)) (Syntax.tyRef Syntax.erased Syntax.mut (Syntax.tyInt Syntax.w8)) (λ x. x) (Scalar.oFld 1 (List._∷_ (Syntax.field 1) List.[]) (Syntax.tyInt Syntax.w64) 8 λ v. Shared.lenV (v .0))
+  s66 = Relend.k-sl-aggregate n8 (Relend.asMut n8) T67 26 27 11 y6 y6 (λ x. x) (Scalar.oFld 1 ((Syntax.field 1) ∷ []) u64 8 λ v. Shared.lenV (v .0))
 
   abbrev s67 : Typed.Both T68 T69
-  s67 = Call.callB ps·3 r·3 (claims· .6) (claims· .7) T68 (Bool.bFld 3 (List._∷_ (Syntax.field 1) List.[]) 1 λ x. FujiHeader.struct .as-values x .1 .0, tt) 28 List.[] (Syntax.tyInt Syntax.w64)
+  s67 = Call.callB ps·3 r·3 (claims· .6) (claims· .7) T68 (Bool.bFld 3 ((Syntax.field 1) ∷ []) 1 λ x. FujiHeader.struct .as-values x .1 .0, tt) 28 [] u64
 
   abbrev s68 : Typed.Mo T69 → Typed.Mo T70
-  s68 = Scalar.n-room T69 3 y1
+  s68 = Scalar.n-room T69 3 y7
 
   abbrev s69 : Typed.Both T70 T71
-  s69 = Call.callB ps·4 r·4 (claims· .8) (claims· .9) T70 (
-    record { pos = 27; ty = Syntax.tyRef Syntax.erased Syntax.mut (Syntax.tyInt Syntax.w8); ref = λ x. x },
-    (record { pos = 7; ty = Syntax.tyRef (Syntax.named 2) Syntax.imm (Syntax.tyInt Syntax.w16); ref = λ x. x }, (Num.vAt 28 λ x. x, tt)),
-  ) 10 (List._∷_ 11 (List._∷_ 2 List.[])) Syntax.tyUnit
+  s69 = Call.callB ps·4 r·4 (claims· .8) (claims· .9) T70 (record { pos = 27; ty = y6; ref = λ x. x }, (record { pos = 7; ty = y3; ref = λ x. x }, (Num.vAt 28 λ x. x, tt))) 10 (11 ∷ 2 ∷ [])
+      Syntax.tyUnit
 
   abbrev s70 : Typed.Mo T71 → Typed.Mo T72
   s70 = Scalar.n-room T71 10 Syntax.tyUnit
 
   abbrev s71 : Typed.Mo T72 → Typed.Mo T73
-  s71 = Scalar.n-room T72 28 (Syntax.tyInt Syntax.w64)
+  s71 = Scalar.n-room T72 28 u64
 
   abbrev s73 : Typed.Both T73 T75
-  s73 = Relend.k-back-sl (Referent.rtF (Referent.fInt Syntax.w8)) T73 27 1 0 11 (Syntax.tyRef (Syntax.named 0) Syntax.mut (Syntax.tyInt Syntax.w8)) (Syntax.tyRef Syntax.erased Syntax.mut (Syntax.tyInt
-      Syntax.w8)) Row.off (λ x. x) λ x. x
+  s73 = Relend.k-back-sl n8 T73 27 1 0 11 y1 y6 Row.off (λ x. x) λ x. x
 
-  abbrev s74 : Typed.Gives T75 T76
-  s74 = Know.k-sl-known (Referent.fInt Syntax.w8) T75 1 0 (Syntax.tyRef (Syntax.named 0) Syntax.mut (Syntax.tyInt Syntax.w8)) Row.off 0 λ x. x
+  abbrev s74 : Typed.Gives T75 T75
+  s74 = Know.k-sl-known (Referent.fInt Syntax.w8) T75 1 0 y1 Row.off 0 λ x. x
 
-  abbrev s76 : Typed.Mo T76 → Typed.Mo T78
-  s76 = Scalar.n-use T76 Scalar.oUnit 0 (Rows.sc-here Row.sUnit) (Row.sUnit .of)
+  abbrev s76 : Typed.Mo T75 → Typed.Mo T78
+  s76 = Scalar.n-use T75 Scalar.oUnit 0 (Rows.sc-here Row.sUnit) (Row.sUnit .of)
 
   abbrev s77 : Typed.Mo T78 → Typed.Mo T79
   s77 = Scalar.n-room T78 9 Syntax.tyBool
 
   abbrev s78 : Typed.Mo T79 → Typed.Mo T80
-  s78 = Scalar.n-room T79 4 (Syntax.tyInt Syntax.w64)
+  s78 = Scalar.n-room T79 4 u64
 
   abbrev s79 : Typed.Mo T80 → Typed.Mo T81
-  s79 = Scalar.n-room T80 5 (Syntax.tyInt Syntax.w64)
+  s79 = Scalar.n-room T80 5 u64
 
-  abbrev s80 : Typed.Mo T81 → Typed.Mo T82
-  s80 = Scalar.n-room T81 6 (Syntax.tyInt Syntax.w64)
+  abbrev s80 : Typed.Mo T81 → Typed.Mo T1
+  s80 = Scalar.n-room T81 6 u64
 
   module _ (Pre· : (κs : Lifetimes.Lfts 4) → Kinds.Dens κs ps → Type 0) (Post· : (κs : Lifetimes.Lfts 4) → (a : Kinds.Dens κs ps) → Kinds.Plain 4 ps r κs) where
     module _ (M : Type 1) where
@@ -1134,11 +859,11 @@ module _ (claims· : Claims) where
           "checkpoint::store_lines") → Statement.Triple 𝓤 (Wp.WpFn 𝓤 H (𝓣 .C) (𝓣 .Λ) (Function.fnOf 4 ps r xs m hs body)) (Function.plainOf 𝓤 H A 4 ps r Pre· Post·)
 
     module _ where
-      abbrev at0 : Typed.TF T82 O0
+      abbrev at0 : Typed.TF T1 O0
       at0 = Typed.atRet O0
 
       abbrev at1 : Typed.TF T81 O0
-      at1 = λ Ψ. Typed.pass T81 T82 s80 (at0 Ψ)
+      at1 = λ Ψ. Typed.pass T81 T1 s80 (at0 Ψ)
 
       abbrev at2 : Typed.TF T80 O0
       at2 = λ Ψ. Typed.pass T80 T81 s79 (at1 Ψ)
@@ -1149,23 +874,17 @@ module _ (claims· : Claims) where
       abbrev at4 : Typed.TF T78 O0
       at4 = λ Ψ. Typed.pass T78 T79 s77 (at3 Ψ)
 
-      abbrev at5 : Typed.TF T76 O0
-      at5 = λ Ψ. Typed.pass T76 T78 s76 (at4 Ψ)
-
-      abbrev at6 : Typed.TF T76 O0
-      at6 = λ Ψ. at5 Ψ
+      abbrev at5 : Typed.TF T75 O0
+      at5 = λ Ψ. Typed.pass T75 T78 s76 (at4 Ψ)
 
       abbrev at7 : Typed.TF T75 O0
-      at7 = λ Ψ. Typed.give s74 (at6 Ψ)
+      at7 = λ Ψ. Typed.give s74 (at5 Ψ)
 
       abbrev at8 : Typed.TF T73 O0
       at8 = λ Ψ. Typed.both s73 (at7 Ψ)
 
-      abbrev at9 : Typed.TF T73 O0
-      at9 = λ Ψ. at8 Ψ
-
       abbrev at10 : Typed.TF T72 O0
-      at10 = λ Ψ. Typed.pass T72 T73 s71 (at9 Ψ)
+      at10 = λ Ψ. Typed.pass T72 T73 s71 (at8 Ψ)
 
       abbrev at11 : Typed.TF T71 O0
       at11 = λ Ψ. Typed.pass T71 T72 s70 (at10 Ψ)
@@ -1182,26 +901,17 @@ module _ (claims· : Claims) where
       abbrev at15 : Typed.TF T67 O0
       at15 = λ Ψ. Typed.ask s66 (at14 Ψ)
 
-      abbrev at16 : Typed.TF T64 O0
+      abbrev at16 : Typed.TF T5 O0
       at16 = λ Ψ. Typed.give s65 (at15 Ψ)
 
-      abbrev at17 : Typed.TF T64 O0
-      at17 = λ Ψ. at16 Ψ
-
-      abbrev at18 : Typed.TF T64 O0
-      at18 = λ Ψ. at17 Ψ
-
-      abbrev at19 : Typed.TF T63 O0
-      at19 = λ Ψ. Typed.give s62 (at18 Ψ)
+      abbrev at19 : Typed.TF T5 O0
+      at19 = λ Ψ. Typed.give s62 (at16 Ψ)
 
       abbrev at20 : Typed.TF T61 O0
       at20 = λ Ψ. Typed.both s61 (at19 Ψ)
 
-      abbrev at21 : Typed.TF T61 O0
-      at21 = λ Ψ. at20 Ψ
-
       abbrev at22 : Typed.TF T60 O0
-      at22 = λ Ψ. Typed.pass T60 T61 s59 (at21 Ψ)
+      at22 = λ Ψ. Typed.pass T60 T61 s59 (at20 Ψ)
 
       abbrev at23 : Typed.TF T59 O0
       at23 = λ Ψ. Typed.pass T59 T60 s58 (at22 Ψ)
@@ -1209,17 +919,11 @@ module _ (claims· : Claims) where
       abbrev at24 : Typed.TF T57 O0
       at24 = λ Ψ. Typed.both s57 (at23 Ψ)
 
-      abbrev at25 : Typed.TF T57 O0
-      at25 = λ Ψ. at24 Ψ
-
       abbrev at26 : Typed.TF T55 O0
-      at26 = λ Ψ. Typed.both s55 (at25 Ψ)
-
-      abbrev at27 : Typed.TF T55 O0
-      at27 = λ Ψ. at26 Ψ
+      at26 = λ Ψ. Typed.both s55 (at24 Ψ)
 
       abbrev at28 : Typed.TF T54 O0
-      at28 = λ Ψ. Typed.both s53 (at27 Ψ)
+      at28 = λ Ψ. Typed.both s53 (at26 Ψ)
 
       abbrev at29 : Typed.TF T53 O0
       at29 = λ Ψ. Typed.ask s52 (at28 Ψ)
@@ -1227,32 +931,20 @@ module _ (claims· : Claims) where
       abbrev at30 : Typed.TF T51 O0
       at30 = λ Ψ. Typed.give s51 (at29 Ψ)
 
-      abbrev at31 : Typed.TF T51 O0
-      at31 = λ Ψ. at30 Ψ
-
       abbrev at32 : Typed.TF T50 O0
-      at32 = λ Ψ. Typed.ask s49 (at31 Ψ)
+      at32 = λ Ψ. Typed.ask s49 (at30 Ψ)
 
-      abbrev at33 : Typed.TF T47 O0
+      abbrev at33 : Typed.TF T5 O0
       at33 = λ Ψ. Typed.give s48 (at32 Ψ)
 
-      abbrev at34 : Typed.TF T47 O0
-      at34 = λ Ψ. at33 Ψ
-
-      abbrev at35 : Typed.TF T47 O0
-      at35 = λ Ψ. at34 Ψ
-
-      abbrev at36 : Typed.TF T46 O0
-      at36 = λ Ψ. Typed.give s45 (at35 Ψ)
+      abbrev at36 : Typed.TF T5 O0
+      at36 = λ Ψ. Typed.give s45 (at33 Ψ)
 
       abbrev at37 : Typed.TF T44 O0
       at37 = λ Ψ. Typed.both s44 (at36 Ψ)
 
-      abbrev at38 : Typed.TF T44 O0
-      at38 = λ Ψ. at37 Ψ
-
       abbrev at39 : Typed.TF T43 O0
-      at39 = λ Ψ. Typed.pass T43 T44 s42 (at38 Ψ)
+      at39 = λ Ψ. Typed.pass T43 T44 s42 (at37 Ψ)
 
       abbrev at40 : Typed.TF T42 O0
       at40 = λ Ψ. Typed.pass T42 T43 s41 (at39 Ψ)
@@ -1260,17 +952,11 @@ module _ (claims· : Claims) where
       abbrev at41 : Typed.TF T40 O0
       at41 = λ Ψ. Typed.both s40 (at40 Ψ)
 
-      abbrev at42 : Typed.TF T40 O0
-      at42 = λ Ψ. at41 Ψ
-
       abbrev at43 : Typed.TF T38 O0
-      at43 = λ Ψ. Typed.both s38 (at42 Ψ)
-
-      abbrev at44 : Typed.TF T38 O0
-      at44 = λ Ψ. at43 Ψ
+      at43 = λ Ψ. Typed.both s38 (at41 Ψ)
 
       abbrev at45 : Typed.TF T37 O0
-      at45 = λ Ψ. Typed.both s36 (at44 Ψ)
+      at45 = λ Ψ. Typed.both s36 (at43 Ψ)
 
       abbrev at46 : Typed.TF T36 O0
       at46 = λ Ψ. Typed.ask s35 (at45 Ψ)
@@ -1278,32 +964,20 @@ module _ (claims· : Claims) where
       abbrev at47 : Typed.TF T34 O0
       at47 = λ Ψ. Typed.give s34 (at46 Ψ)
 
-      abbrev at48 : Typed.TF T34 O0
-      at48 = λ Ψ. at47 Ψ
-
       abbrev at49 : Typed.TF T33 O0
-      at49 = λ Ψ. Typed.ask s32 (at48 Ψ)
+      at49 = λ Ψ. Typed.ask s32 (at47 Ψ)
 
-      abbrev at50 : Typed.TF T30 O0
+      abbrev at50 : Typed.TF T5 O0
       at50 = λ Ψ. Typed.give s31 (at49 Ψ)
 
-      abbrev at51 : Typed.TF T30 O0
-      at51 = λ Ψ. at50 Ψ
-
-      abbrev at52 : Typed.TF T30 O0
-      at52 = λ Ψ. at51 Ψ
-
-      abbrev at53 : Typed.TF T29 O0
-      at53 = λ Ψ. Typed.give s28 (at52 Ψ)
+      abbrev at53 : Typed.TF T5 O0
+      at53 = λ Ψ. Typed.give s28 (at50 Ψ)
 
       abbrev at54 : Typed.TF T27 O0
       at54 = λ Ψ. Typed.both s27 (at53 Ψ)
 
-      abbrev at55 : Typed.TF T27 O0
-      at55 = λ Ψ. at54 Ψ
-
       abbrev at56 : Typed.TF T26 O0
-      at56 = λ Ψ. Typed.pass T26 T27 s25 (at55 Ψ)
+      at56 = λ Ψ. Typed.pass T26 T27 s25 (at54 Ψ)
 
       abbrev at57 : Typed.TF T25 O0
       at57 = λ Ψ. Typed.pass T25 T26 s24 (at56 Ψ)
@@ -1311,17 +985,11 @@ module _ (claims· : Claims) where
       abbrev at58 : Typed.TF T23 O0
       at58 = λ Ψ. Typed.both s23 (at57 Ψ)
 
-      abbrev at59 : Typed.TF T23 O0
-      at59 = λ Ψ. at58 Ψ
-
       abbrev at60 : Typed.TF T21 O0
-      at60 = λ Ψ. Typed.both s21 (at59 Ψ)
-
-      abbrev at61 : Typed.TF T21 O0
-      at61 = λ Ψ. at60 Ψ
+      at60 = λ Ψ. Typed.both s21 (at58 Ψ)
 
       abbrev at62 : Typed.TF T20 O0
-      at62 = λ Ψ. Typed.both s19 (at61 Ψ)
+      at62 = λ Ψ. Typed.both s19 (at60 Ψ)
 
       abbrev at63 : Typed.TF T19 O0
       at63 = λ Ψ. Typed.ask s18 (at62 Ψ)
@@ -1329,32 +997,20 @@ module _ (claims· : Claims) where
       abbrev at64 : Typed.TF T17 O0
       at64 = λ Ψ. Typed.give s17 (at63 Ψ)
 
-      abbrev at65 : Typed.TF T17 O0
-      at65 = λ Ψ. at64 Ψ
-
       abbrev at66 : Typed.TF T16 O0
-      at66 = λ Ψ. Typed.ask s15 (at65 Ψ)
+      at66 = λ Ψ. Typed.ask s15 (at64 Ψ)
 
-      abbrev at67 : Typed.TF T13 O0
+      abbrev at67 : Typed.TF T5 O0
       at67 = λ Ψ. Typed.give s14 (at66 Ψ)
 
-      abbrev at68 : Typed.TF T13 O0
-      at68 = λ Ψ. at67 Ψ
-
-      abbrev at69 : Typed.TF T13 O0
-      at69 = λ Ψ. at68 Ψ
-
-      abbrev at70 : Typed.TF T12 O0
-      at70 = λ Ψ. Typed.give s11 (at69 Ψ)
+      abbrev at70 : Typed.TF T5 O0
+      at70 = λ Ψ. Typed.give s11 (at67 Ψ)
 
       abbrev at71 : Typed.TF T10 O0
       at71 = λ Ψ. Typed.both s10 (at70 Ψ)
 
-      abbrev at72 : Typed.TF T10 O0
-      at72 = λ Ψ. at71 Ψ
-
       abbrev at73 : Typed.TF T9 O0
-      at73 = λ Ψ. Typed.pass T9 T10 s8 (at72 Ψ)
+      at73 = λ Ψ. Typed.pass T9 T10 s8 (at71 Ψ)
 
       abbrev at74 : Typed.TF T8 O0
       at74 = λ Ψ. Typed.both s7 (at73 Ψ)
@@ -1365,16 +1021,13 @@ module _ (claims· : Claims) where
       abbrev at76 : Typed.TF T5 O0
       at76 = λ Ψ. Typed.give s5 (at75 Ψ)
 
-      abbrev at77 : Typed.TF T5 O0
-      at77 = λ Ψ. at76 Ψ
+      abbrev at78 : Typed.TF T0 O0
+      at78 = λ Ψ. Typed.pass T0 T5 s3 (at76 Ψ)
 
-      abbrev at78 : Typed.TF T4 O0
-      at78 = λ Ψ. Typed.pass T4 T5 s3 (at77 Ψ)
-
-      abbrev at79 : Typed.TF T3 O0
+      abbrev at79 : Typed.TF T0 O0
       at79 = λ Ψ. Typed.give s2 (at78 Ψ)
 
-      abbrev at80 : Typed.TF T2 O0
+      abbrev at80 : Typed.TF T0 O0
       at80 = λ Ψ. Typed.give s1 (at79 Ψ)
 
       abbrev at81 : Typed.TF T0 O0
@@ -1390,1192 +1043,648 @@ module _ (claims· : Claims) where
             (claims· .8) (claims· .9) "checkpoint::store_lines"
 
       module _ (κs : Lifetimes.Lfts 4) (qs : Lifetimes.Shares 4) where
+        abbrev k0 : Row.Life
+        k0 = Row.lease (κs .0) (qs .0)
+
+        abbrev k1 : Row.Life
+        k1 = Row.lease (κs .1 .0) (qs .1 .0)
+
+        abbrev k2 : Row.Life
+        k2 = Row.lease (κs .1 .1 .0) (qs .1 .1 .0)
+
+        abbrev k3 : Row.Life
+        k3 = Row.lease (κs .1 .1 .1 .0) (qs .1 .1 .1 .0)
+
+        abbrev l0 : List.List Row.Life
+        l0 = Row.off ∷ k1 ∷ k2 ∷ Row.off ∷ Row.off ∷ Row.alive ∷ Row.alive ∷ Row.off ∷ Row.off ∷ Row.off ∷ Row.off ∷ Row.off ∷ []
+
+        abbrev l1 : List.List Row.Life
+        l1 = Row.off ∷ k1 ∷ k2 ∷ Row.off ∷ Row.off ∷ Row.off ∷ Row.off ∷ Row.alive ∷ Row.alive ∷ Row.off ∷ Row.off ∷ Row.off ∷ []
+
+        abbrev l2 : List.List Row.Life
+        l2 = Row.off ∷ k1 ∷ k2 ∷ Row.off ∷ Row.off ∷ Row.off ∷ Row.off ∷ Row.off ∷ Row.off ∷ Row.alive ∷ Row.alive ∷ Row.off ∷ []
+
+        abbrev l3 : List.List Row.Life
+        l3 = Row.off ∷ k1 ∷ k2 ∷ k3 ∷ Row.alive ∷ Row.off ∷ Row.off ∷ Row.off ∷ Row.off ∷ Row.off ∷ Row.off ∷ Row.off ∷ []
+
+        abbrev l4 : List.List Row.Life
+        l4 = Row.off ∷ k1 ∷ k2 ∷ k3 ∷ Row.off ∷ Row.alive ∷ Row.off ∷ Row.off ∷ Row.off ∷ Row.off ∷ Row.off ∷ Row.off ∷ []
+
+        abbrev l5 : List.List Row.Life
+        l5 = Row.off ∷ k1 ∷ k2 ∷ k3 ∷ Row.off ∷ Row.off ∷ Row.off ∷ Row.alive ∷ Row.off ∷ Row.off ∷ Row.off ∷ Row.off ∷ []
+
+        abbrev l6 : List.List Row.Life
+        l6 = Row.off ∷ k1 ∷ k2 ∷ k3 ∷ Row.off ∷ Row.off ∷ Row.off ∷ Row.off ∷ Row.off ∷ Row.alive ∷ Row.off ∷ Row.off ∷ []
+
+        abbrev l7 : List.List Row.Life
+        l7 = Row.off ∷ k1 ∷ k2 ∷ k3 ∷ Row.off ∷ Row.off ∷ Row.off ∷ Row.off ∷ Row.off ∷ Row.off ∷ Row.off ∷ Row.alive ∷ []
+
+        abbrev l8 : List.List Row.Life
+        l8 = k0 ∷ k1 ∷ k2 ∷ k3 ∷ Row.dead ∷ Row.off ∷ Row.off ∷ Row.off ∷ Row.off ∷ Row.off ∷ Row.off ∷ Row.off ∷ []
+
+        abbrev l9 : List.List Row.Life
+        l9 = k0 ∷ k1 ∷ k2 ∷ k3 ∷ Row.off ∷ Row.dead ∷ Row.off ∷ Row.off ∷ Row.off ∷ Row.off ∷ Row.off ∷ Row.off ∷ []
+
+        abbrev l10 : List.List Row.Life
+        l10 = k0 ∷ k1 ∷ k2 ∷ k3 ∷ Row.off ∷ Row.off ∷ Row.off ∷ Row.dead ∷ Row.off ∷ Row.off ∷ Row.off ∷ Row.off ∷ []
+
+        abbrev l11 : List.List Row.Life
+        l11 = k0 ∷ k1 ∷ k2 ∷ k3 ∷ Row.off ∷ Row.off ∷ Row.off ∷ Row.off ∷ Row.off ∷ Row.dead ∷ Row.off ∷ Row.off ∷ []
+
+        abbrev l12 : List.List Row.Life
+        l12 = k0 ∷ k1 ∷ k2 ∷ k3 ∷ Row.off ∷ Row.off ∷ Row.off ∷ Row.off ∷ Row.off ∷ Row.off ∷ Row.off ∷ Row.dead ∷ []
+
+        abbrev l13 : List.List Row.Life
+        l13 = k0 ∷ k1 ∷ k2 ∷ k3 ∷ Row.off ∷ Row.off ∷ Row.off ∷ Row.off ∷ Row.off ∷ Row.off ∷ Row.off ∷ Row.off ∷ []
+
+        abbrev h0 : Row.Row
+        h0 = Relend.mslice-owed n8 y1 0 5 k0
+
+        abbrev h1 : Row.Row
+        h1 = Relend.mslice-owed n8 y1 0 7 k0
+
+        abbrev h2 : Row.Row
+        h2 = Relend.mslice-owed n8 y1 0 9 k0
+
+        abbrev h3 : Row.Row
+        h3 = Relend.mslice-owed n8 y1 0 4 k0
+
+        abbrev h4 : Row.Row
+        h4 = Relend.mslice-owed n8 y1 0 11 k0
+
         abbrev g4 : List.List Row.Entry
-        g4 = List._∷_ e0 (List._∷_ (1, Relend.mslice-owed (Referent.rtF (Referent.fInt Syntax.w8)) (Syntax.tyRef (Syntax.named 0) Syntax.mut (Syntax.tyInt Syntax.w8)) 0 4 (Row.lease (κs .0) (qs .0)))
-            (List._∷_ e27 (List._∷_ e42 (List._∷_ e44 (List._∷_ e46 (List._∷_ e47 (List._∷_ e48 (List._∷_ e49 (List._∷_ e54 (List._∷_ e8 (List._∷_ e10 (List._∷_ e14 (List._∷_ e16 (List._∷_ e19 (List._∷_
-            e20 List.[])))))))))))))))
+        g4 = (0, v3) ∷ (1, h3) ∷ (2, v5) ∷ (3, v9) ∷ (4, v1) ∷ (5, v1) ∷ (6, v1) ∷ (7, v6) ∷ (8, v10) ∷ (9, v8) ∷ (10, v3) ∷ (11, Relend.msptr n8 y6 4) ∷ (12, v2) ∷ (13, v0) ∷ (14, v2) ∷ (15, v11) ∷
+            []
 
         abbrev g5 : List.List Row.Entry
-        g5 = List._∷_ e0 (List._∷_ (1, Relend.mslice-owed (Referent.rtF (Referent.fInt Syntax.w8)) (Syntax.tyRef (Syntax.named 0) Syntax.mut (Syntax.tyInt Syntax.w8)) 0 4 (Row.lease (κs .0) (qs .0)))
-            (List._∷_ e27 (List._∷_ e42 (List._∷_ e44 (List._∷_ e46 (List._∷_ e47 (List._∷_ e48 (List._∷_ e49 (List._∷_ e54 (List._∷_ e8 (List._∷_ e11 (List._∷_ e13 (List._∷_ e16 (List._∷_ e19 (List._∷_
-            e20 List.[])))))))))))))))
+        g5 = (0, v3) ∷ (1, h3) ∷ (2, v5) ∷ (3, v9) ∷ (4, v1) ∷ (5, v1) ∷ (6, v1) ∷ (7, v6) ∷ (8, v10) ∷ (9, v8) ∷ (10, v3) ∷ (11, v0) ∷ (12, Mut.mslice n8 y6 4) ∷ (13, v0) ∷ (14, v2) ∷ (15, v11) ∷ []
 
         abbrev g6 : List.List Row.Entry
-        g6 = List._∷_ e0 (List._∷_ (1, Relend.mslice-owed (Referent.rtF (Referent.fInt Syntax.w8)) (Syntax.tyRef (Syntax.named 0) Syntax.mut (Syntax.tyInt Syntax.w8)) 0 4 (Row.lease (κs .0) (qs .0)))
-            (List._∷_ e27 (List._∷_ e42 (List._∷_ e44 (List._∷_ e46 (List._∷_ e47 (List._∷_ e48 (List._∷_ e49 (List._∷_ e54 (List._∷_ e9 (List._∷_ e11 (List._∷_ e12 (List._∷_ e16 (List._∷_ e19 (List._∷_
-            e20 List.[])))))))))))))))
+        g6 = (0, v3) ∷ (1, h3) ∷ (2, v5) ∷ (3, v9) ∷ (4, v1) ∷ (5, v1) ∷ (6, v1) ∷ (7, v6) ∷ (8, v10) ∷ (9, v8) ∷ (10, v14) ∷ (11, v0) ∷ (12, v15) ∷ (13, v0) ∷ (14, v2) ∷ (15, v11) ∷ []
 
         abbrev g7 : List.List Row.Entry
-        g7 = List._∷_ e0 (List._∷_ (1, Relend.mslice-owed (Referent.rtF (Referent.fInt Syntax.w8)) (Syntax.tyRef (Syntax.named 0) Syntax.mut (Syntax.tyInt Syntax.w8)) 0 4 (Row.lease (κs .0) (qs .0)))
-            (List._∷_ e27 (List._∷_ e42 (List._∷_ e44 (List._∷_ e46 (List._∷_ e47 (List._∷_ e48 (List._∷_ e49 (List._∷_ e54 (List._∷_ e8 (List._∷_ e11 (List._∷_ e12 (List._∷_ e16 (List._∷_ e19 (List._∷_
-            e20 List.[])))))))))))))))
+        g7 = (0, v3) ∷ (1, h3) ∷ (2, v5) ∷ (3, v9) ∷ (4, v1) ∷ (5, v1) ∷ (6, v1) ∷ (7, v6) ∷ (8, v10) ∷ (9, v8) ∷ (10, v3) ∷ (11, v0) ∷ (12, v15) ∷ (13, v0) ∷ (14, v2) ∷ (15, v11) ∷ []
 
         abbrev g8 : List.List Row.Entry
-        g8 = List._∷_ e0 (List._∷_ (1, Relend.mslice-owed (Referent.rtF (Referent.fInt Syntax.w8)) (Syntax.tyRef (Syntax.named 0) Syntax.mut (Syntax.tyInt Syntax.w8)) 0 5 (Row.lease (κs .0) (qs .0)))
-            (List._∷_ e27 (List._∷_ e42 (List._∷_ e44 (List._∷_ e46 (List._∷_ e47 (List._∷_ e48 (List._∷_ e49 (List._∷_ e54 (List._∷_ e8 (List._∷_ e11 (List._∷_ e14 (List._∷_ e15 (List._∷_ e19 (List._∷_
-            e20 List.[])))))))))))))))
+        g8 = (0, v3) ∷ (1, h0) ∷ (2, v5) ∷ (3, v9) ∷ (4, v1) ∷ (5, v1) ∷ (6, v1) ∷ (7, v6) ∷ (8, v10) ∷ (9, v8) ∷ (10, v3) ∷ (11, v0) ∷ (12, v2) ∷ (13, Relend.msptr n8 y6 5) ∷ (14, v2) ∷ (15, v11) ∷
+            []
 
         abbrev g9 : List.List Row.Entry
-        g9 = List._∷_ e0 (List._∷_ (1, Relend.mslice-owed (Referent.rtF (Referent.fInt Syntax.w8)) (Syntax.tyRef (Syntax.named 0) Syntax.mut (Syntax.tyInt Syntax.w8)) 0 5 (Row.lease (κs .0) (qs .0)))
-            (List._∷_ e27 (List._∷_ e42 (List._∷_ e44 (List._∷_ e46 (List._∷_ e47 (List._∷_ e48 (List._∷_ e49 (List._∷_ e54 (List._∷_ e8 (List._∷_ e11 (List._∷_ e14 (List._∷_ e16 (List._∷_ e18 (List._∷_
-            e20 List.[])))))))))))))))
+        g9 = (0, v3) ∷ (1, h0) ∷ (2, v5) ∷ (3, v9) ∷ (4, v1) ∷ (5, v1) ∷ (6, v1) ∷ (7, v6) ∷ (8, v10) ∷ (9, v8) ∷ (10, v3) ∷ (11, v0) ∷ (12, v2) ∷ (13, v0) ∷ (14, v19) ∷ (15, v11) ∷ []
 
         abbrev g10 : List.List Row.Entry
-        g10 = List._∷_ e0 (List._∷_ (1, Relend.mslice-owed (Referent.rtF (Referent.fInt Syntax.w8)) (Syntax.tyRef (Syntax.named 0) Syntax.mut (Syntax.tyInt Syntax.w8)) 0 5 (Row.lease (κs .0) (qs .0)))
-            (List._∷_ e27 (List._∷_ e42 (List._∷_ e44 (List._∷_ e46 (List._∷_ e47 (List._∷_ e48 (List._∷_
-            (8, Relend.mslice-owed (Element.type) (Syntax.tyRef (Syntax.named 3) Syntax.mut Element.behind) 3 6 (Row.lease (κs .1 .1 .1 .0) (qs .1 .1 .1 .0))) (List._∷_ e54 (List._∷_ e8 (List._∷_ e11
-            (List._∷_ e14 (List._∷_ e16 (List._∷_ e18 (List._∷_ e20 List.[])))))))))))))))
+        g10 = (0, v3) ∷ (1, h0) ∷ (2, v5) ∷ (3, v9) ∷ (4, v1) ∷ (5, v1) ∷ (6, v1) ∷ (7, v6) ∷ (8, Relend.mslice-owed (Element.type) y4 3 6 k3) ∷ (9, v8) ∷ (10, v3) ∷ (11, v0) ∷ (12, v2) ∷ (13, v0) ∷
+            (14, v19) ∷ (15, v11) ∷ []
 
         abbrev g13 : List.List Row.Entry
-        g13 = List._∷_ e0 (List._∷_ (1, Relend.mslice-owed (Referent.rtF (Referent.fInt Syntax.w8)) (Syntax.tyRef (Syntax.named 0) Syntax.mut (Syntax.tyInt Syntax.w8)) 0 5 (Row.lease (κs .0) (qs .0)))
-            (List._∷_ e27 (List._∷_ e42 (List._∷_ e44 (List._∷_ e46 (List._∷_ e47 (List._∷_ e48 (List._∷_
-            (8, Relend.mslice-owed (Element.type) (Syntax.tyRef (Syntax.named 3) Syntax.mut Element.behind) 3 6 (Row.lease (κs .1 .1 .1 .0) (qs .1 .1 .1 .0))) (List._∷_ e54 (List._∷_ e8 (List._∷_ e11
-            (List._∷_ e14 (List._∷_ e16 (List._∷_ e18 (List._∷_ e21 List.[])))))))))))))))
+        g13 = (0, v3) ∷ (1, h0) ∷ (2, v5) ∷ (3, v9) ∷ (4, v1) ∷ (5, v1) ∷ (6, v1) ∷ (7, v6) ∷ (8, Relend.mslice-owed (Element.type) y4 3 6 k3) ∷ (9, v8) ∷ (10, v3) ∷ (11, v0) ∷ (12, v2) ∷ (13, v0) ∷
+            (14, v19) ∷ (15, v13) ∷ []
 
         abbrev g15 : List.List Row.Entry
-        g15 = List._∷_ e0 (List._∷_ (1, Relend.mslice-owed (Referent.rtF (Referent.fInt Syntax.w8)) (Syntax.tyRef (Syntax.named 0) Syntax.mut (Syntax.tyInt Syntax.w8)) 0 5 (Row.lease (κs .0) (qs .0)))
-            (List._∷_ e27 (List._∷_ e42 (List._∷_ e44 (List._∷_ e46 (List._∷_ e47 (List._∷_ e48 (List._∷_ e49 (List._∷_ e54 (List._∷_ e8 (List._∷_ e11 (List._∷_ e14 (List._∷_ e16 (List._∷_ e18 (List._∷_
-            e21 List.[])))))))))))))))
+        g15 = (0, v3) ∷ (1, h0) ∷ (2, v5) ∷ (3, v9) ∷ (4, v1) ∷ (5, v1) ∷ (6, v1) ∷ (7, v6) ∷ (8, v10) ∷ (9, v8) ∷ (10, v3) ∷ (11, v0) ∷ (12, v2) ∷ (13, v0) ∷ (14, v19) ∷ (15, v13) ∷ []
 
         abbrev g16 : List.List Row.Entry
-        g16 = List._∷_ e0 (List._∷_ (1, Relend.mslice-owed (Referent.rtF (Referent.fInt Syntax.w8)) (Syntax.tyRef (Syntax.named 0) Syntax.mut (Syntax.tyInt Syntax.w8)) 0 5 (Row.lease (κs .0) (qs .0)))
-            (List._∷_ e27 (List._∷_ e42 (List._∷_ e44 (List._∷_ e46 (List._∷_ e47 (List._∷_ e48 (List._∷_ e49 (List._∷_ e54 (List._∷_ e9 (List._∷_ e11 (List._∷_ e14 (List._∷_ e16 (List._∷_ e17 (List._∷_
-            e21 List.[])))))))))))))))
+        g16 = (0, v3) ∷ (1, h0) ∷ (2, v5) ∷ (3, v9) ∷ (4, v1) ∷ (5, v1) ∷ (6, v1) ∷ (7, v6) ∷ (8, v10) ∷ (9, v8) ∷ (10, v14) ∷ (11, v0) ∷ (12, v2) ∷ (13, v0) ∷ (14, v15) ∷ (15, v13) ∷ []
 
         abbrev g17 : List.List Row.Entry
-        g17 = List._∷_ e0 (List._∷_ (1, Relend.mslice-owed (Referent.rtF (Referent.fInt Syntax.w8)) (Syntax.tyRef (Syntax.named 0) Syntax.mut (Syntax.tyInt Syntax.w8)) 0 5 (Row.lease (κs .0) (qs .0)))
-            (List._∷_ e27 (List._∷_ e42 (List._∷_ e44 (List._∷_ e46 (List._∷_ e47 (List._∷_ e48 (List._∷_ e49 (List._∷_ e54 (List._∷_ e8 (List._∷_ e11 (List._∷_ e14 (List._∷_ e16 (List._∷_ e17 (List._∷_
-            e21 List.[])))))))))))))))
+        g17 = (0, v3) ∷ (1, h0) ∷ (2, v5) ∷ (3, v9) ∷ (4, v1) ∷ (5, v1) ∷ (6, v1) ∷ (7, v6) ∷ (8, v10) ∷ (9, v8) ∷ (10, v3) ∷ (11, v0) ∷ (12, v2) ∷ (13, v0) ∷ (14, v15) ∷ (15, v13) ∷ []
 
         abbrev g18 : List.List Row.Entry
-        g18 = List._∷_ e0 (List._∷_ (1, Relend.mslice-owed (Referent.rtF (Referent.fInt Syntax.w8)) (Syntax.tyRef (Syntax.named 0) Syntax.mut (Syntax.tyInt Syntax.w8)) 0 5 (Row.lease (κs .0) (qs .0)))
-            (List._∷_ e27 (List._∷_ e42 (List._∷_ e44 (List._∷_ e46 (List._∷_ e47 (List._∷_ e48 (List._∷_ e49 (List._∷_ e54 (List._∷_ e8 (List._∷_ e11 (List._∷_ e14 (List._∷_ e16 (List._∷_ e17 (List._∷_
-            e20 List.[])))))))))))))))
+        g18 = (0, v3) ∷ (1, h0) ∷ (2, v5) ∷ (3, v9) ∷ (4, v1) ∷ (5, v1) ∷ (6, v1) ∷ (7, v6) ∷ (8, v10) ∷ (9, v8) ∷ (10, v3) ∷ (11, v0) ∷ (12, v2) ∷ (13, v0) ∷ (14, v15) ∷ (15, v11) ∷ []
 
         abbrev g19 : List.List Row.Entry
-        g19 = List._∷_ e0 (List._∷_ (1, Relend.mslice-owed (Referent.rtF (Referent.fInt Syntax.w8)) (Syntax.tyRef (Syntax.named 0) Syntax.mut (Syntax.tyInt Syntax.w8)) 0 7 (Row.lease (κs .0) (qs .0)))
-            (List._∷_ e27 (List._∷_ e42 (List._∷_ e44 (List._∷_ e46 (List._∷_ e47 (List._∷_ e48 (List._∷_ e49 (List._∷_ e54 (List._∷_ e8 (List._∷_ e11 (List._∷_ e14 (List._∷_ e16 (List._∷_ e19 (List._∷_
-            e20 List.[])))))))))))))))
+        g19 = (0, v3) ∷ (1, h1) ∷ (2, v5) ∷ (3, v9) ∷ (4, v1) ∷ (5, v1) ∷ (6, v1) ∷ (7, v6) ∷ (8, v10) ∷ (9, v8) ∷ (10, v3) ∷ (11, v0) ∷ (12, v2) ∷ (13, v0) ∷ (14, v2) ∷ (15, v11) ∷ []
 
         abbrev g22 : List.List Row.Entry
-        g22 = List._∷_ e0 (List._∷_ (1, Relend.mslice-owed (Referent.rtF (Referent.fInt Syntax.w8)) (Syntax.tyRef (Syntax.named 0) Syntax.mut (Syntax.tyInt Syntax.w8)) 0 7 (Row.lease (κs .0) (qs .0)))
-            (List._∷_ e27 (List._∷_ e42 (List._∷_ e44 (List._∷_ e46 (List._∷_ e47 (List._∷_ e48 (List._∷_
-            (8, Relend.mslice-owed (Element.type) (Syntax.tyRef (Syntax.named 3) Syntax.mut Element.behind) 3 8 (Row.lease (κs .1 .1 .1 .0) (qs .1 .1 .1 .0))) (List._∷_ e54 (List._∷_ e8 (List._∷_ e11
-            (List._∷_ e14 (List._∷_ e16 (List._∷_ e19 (List._∷_ e20 List.[])))))))))))))))
+        g22 = (0, v3) ∷ (1, h1) ∷ (2, v5) ∷ (3, v9) ∷ (4, v1) ∷ (5, v1) ∷ (6, v1) ∷ (7, v6) ∷ (8, Relend.mslice-owed (Element.type) y4 3 8 k3) ∷ (9, v8) ∷ (10, v3) ∷ (11, v0) ∷ (12, v2) ∷ (13, v0) ∷
+            (14, v2) ∷ (15, v11) ∷ []
 
         abbrev g25 : List.List Row.Entry
-        g25 = List._∷_ e0 (List._∷_ (1, Relend.mslice-owed (Referent.rtF (Referent.fInt Syntax.w8)) (Syntax.tyRef (Syntax.named 0) Syntax.mut (Syntax.tyInt Syntax.w8)) 0 7 (Row.lease (κs .0) (qs .0)))
-            (List._∷_ e27 (List._∷_ e42 (List._∷_ e44 (List._∷_ e46 (List._∷_ e47 (List._∷_ e48 (List._∷_
-            (8, Relend.mslice-owed (Element.type) (Syntax.tyRef (Syntax.named 3) Syntax.mut Element.behind) 3 8 (Row.lease (κs .1 .1 .1 .0) (qs .1 .1 .1 .0))) (List._∷_ e54 (List._∷_ e8 (List._∷_ e11
-            (List._∷_ e14 (List._∷_ e16 (List._∷_ e19 (List._∷_ e21 List.[])))))))))))))))
+        g25 = (0, v3) ∷ (1, h1) ∷ (2, v5) ∷ (3, v9) ∷ (4, v1) ∷ (5, v1) ∷ (6, v1) ∷ (7, v6) ∷ (8, Relend.mslice-owed (Element.type) y4 3 8 k3) ∷ (9, v8) ∷ (10, v3) ∷ (11, v0) ∷ (12, v2) ∷ (13, v0) ∷
+            (14, v2) ∷ (15, v13) ∷ []
 
         abbrev g27 : List.List Row.Entry
-        g27 = List._∷_ e0 (List._∷_ (1, Relend.mslice-owed (Referent.rtF (Referent.fInt Syntax.w8)) (Syntax.tyRef (Syntax.named 0) Syntax.mut (Syntax.tyInt Syntax.w8)) 0 7 (Row.lease (κs .0) (qs .0)))
-            (List._∷_ e27 (List._∷_ e42 (List._∷_ e44 (List._∷_ e46 (List._∷_ e47 (List._∷_ e48 (List._∷_ e49 (List._∷_ e54 (List._∷_ e8 (List._∷_ e11 (List._∷_ e14 (List._∷_ e16 (List._∷_ e19 (List._∷_
-            e21 List.[])))))))))))))))
+        g27 = (0, v3) ∷ (1, h1) ∷ (2, v5) ∷ (3, v9) ∷ (4, v1) ∷ (5, v1) ∷ (6, v1) ∷ (7, v6) ∷ (8, v10) ∷ (9, v8) ∷ (10, v3) ∷ (11, v0) ∷ (12, v2) ∷ (13, v0) ∷ (14, v2) ∷ (15, v13) ∷ []
 
         abbrev g28 : List.List Row.Entry
-        g28 = List._∷_ e0 (List._∷_ (1, Relend.mslice-owed (Referent.rtF (Referent.fInt Syntax.w8)) (Syntax.tyRef (Syntax.named 0) Syntax.mut (Syntax.tyInt Syntax.w8)) 0 7 (Row.lease (κs .0) (qs .0)))
-            (List._∷_ e27 (List._∷_ e42 (List._∷_ e44 (List._∷_ e46 (List._∷_ e47 (List._∷_ e48 (List._∷_ e49 (List._∷_ e54 (List._∷_ e9 (List._∷_ e11 (List._∷_ e14 (List._∷_ e16 (List._∷_ e19 (List._∷_
-            e21 List.[])))))))))))))))
+        g28 = (0, v3) ∷ (1, h1) ∷ (2, v5) ∷ (3, v9) ∷ (4, v1) ∷ (5, v1) ∷ (6, v1) ∷ (7, v6) ∷ (8, v10) ∷ (9, v8) ∷ (10, v14) ∷ (11, v0) ∷ (12, v2) ∷ (13, v0) ∷ (14, v2) ∷ (15, v13) ∷ []
 
         abbrev g30 : List.List Row.Entry
-        g30 = List._∷_ e0 (List._∷_ (1, Relend.mslice-owed (Referent.rtF (Referent.fInt Syntax.w8)) (Syntax.tyRef (Syntax.named 0) Syntax.mut (Syntax.tyInt Syntax.w8)) 0 9 (Row.lease (κs .0) (qs .0)))
-            (List._∷_ e27 (List._∷_ e42 (List._∷_ e44 (List._∷_ e46 (List._∷_ e47 (List._∷_ e48 (List._∷_ e49 (List._∷_ e54 (List._∷_ e8 (List._∷_ e11 (List._∷_ e14 (List._∷_ e16 (List._∷_ e19 (List._∷_
-            e20 List.[])))))))))))))))
+        g30 = (0, v3) ∷ (1, h2) ∷ (2, v5) ∷ (3, v9) ∷ (4, v1) ∷ (5, v1) ∷ (6, v1) ∷ (7, v6) ∷ (8, v10) ∷ (9, v8) ∷ (10, v3) ∷ (11, v0) ∷ (12, v2) ∷ (13, v0) ∷ (14, v2) ∷ (15, v11) ∷ []
 
         abbrev g33 : List.List Row.Entry
-        g33 = List._∷_ e0 (List._∷_ (1, Relend.mslice-owed (Referent.rtF (Referent.fInt Syntax.w8)) (Syntax.tyRef (Syntax.named 0) Syntax.mut (Syntax.tyInt Syntax.w8)) 0 9 (Row.lease (κs .0) (qs .0)))
-            (List._∷_ e27 (List._∷_ e42 (List._∷_ e44 (List._∷_ e46 (List._∷_ e47 (List._∷_ e48 (List._∷_
-            (8, Relend.mslice-owed (Element.type) (Syntax.tyRef (Syntax.named 3) Syntax.mut Element.behind) 3 10 (Row.lease (κs .1 .1 .1 .0) (qs .1 .1 .1 .0))) (List._∷_ e54 (List._∷_ e8 (List._∷_ e11
-            (List._∷_ e14 (List._∷_ e16 (List._∷_ e19 (List._∷_ e20 List.[])))))))))))))))
+        g33 = (0, v3) ∷ (1, h2) ∷ (2, v5) ∷ (3, v9) ∷ (4, v1) ∷ (5, v1) ∷ (6, v1) ∷ (7, v6) ∷ (8, Relend.mslice-owed (Element.type) y4 3 10 k3) ∷ (9, v8) ∷ (10, v3) ∷ (11, v0) ∷ (12, v2) ∷ (13, v0) ∷
+            (14, v2) ∷ (15, v11) ∷ []
 
         abbrev g36 : List.List Row.Entry
-        g36 = List._∷_ e0 (List._∷_ (1, Relend.mslice-owed (Referent.rtF (Referent.fInt Syntax.w8)) (Syntax.tyRef (Syntax.named 0) Syntax.mut (Syntax.tyInt Syntax.w8)) 0 9 (Row.lease (κs .0) (qs .0)))
-            (List._∷_ e27 (List._∷_ e42 (List._∷_ e44 (List._∷_ e46 (List._∷_ e47 (List._∷_ e48 (List._∷_
-            (8, Relend.mslice-owed (Element.type) (Syntax.tyRef (Syntax.named 3) Syntax.mut Element.behind) 3 10 (Row.lease (κs .1 .1 .1 .0) (qs .1 .1 .1 .0))) (List._∷_ e54 (List._∷_ e8 (List._∷_ e11
-            (List._∷_ e14 (List._∷_ e16 (List._∷_ e19 (List._∷_ e21 List.[])))))))))))))))
+        g36 = (0, v3) ∷ (1, h2) ∷ (2, v5) ∷ (3, v9) ∷ (4, v1) ∷ (5, v1) ∷ (6, v1) ∷ (7, v6) ∷ (8, Relend.mslice-owed (Element.type) y4 3 10 k3) ∷ (9, v8) ∷ (10, v3) ∷ (11, v0) ∷ (12, v2) ∷ (13, v0) ∷
+            (14, v2) ∷ (15, v13) ∷ []
 
         abbrev g38 : List.List Row.Entry
-        g38 = List._∷_ e0 (List._∷_ (1, Relend.mslice-owed (Referent.rtF (Referent.fInt Syntax.w8)) (Syntax.tyRef (Syntax.named 0) Syntax.mut (Syntax.tyInt Syntax.w8)) 0 9 (Row.lease (κs .0) (qs .0)))
-            (List._∷_ e27 (List._∷_ e42 (List._∷_ e44 (List._∷_ e46 (List._∷_ e47 (List._∷_ e48 (List._∷_ e49 (List._∷_ e54 (List._∷_ e8 (List._∷_ e11 (List._∷_ e14 (List._∷_ e16 (List._∷_ e19 (List._∷_
-            e21 List.[])))))))))))))))
+        g38 = (0, v3) ∷ (1, h2) ∷ (2, v5) ∷ (3, v9) ∷ (4, v1) ∷ (5, v1) ∷ (6, v1) ∷ (7, v6) ∷ (8, v10) ∷ (9, v8) ∷ (10, v3) ∷ (11, v0) ∷ (12, v2) ∷ (13, v0) ∷ (14, v2) ∷ (15, v13) ∷ []
 
         abbrev g39 : List.List Row.Entry
-        g39 = List._∷_ e0 (List._∷_ (1, Relend.mslice-owed (Referent.rtF (Referent.fInt Syntax.w8)) (Syntax.tyRef (Syntax.named 0) Syntax.mut (Syntax.tyInt Syntax.w8)) 0 9 (Row.lease (κs .0) (qs .0)))
-            (List._∷_ e27 (List._∷_ e42 (List._∷_ e44 (List._∷_ e46 (List._∷_ e47 (List._∷_ e48 (List._∷_ e49 (List._∷_ e54 (List._∷_ e9 (List._∷_ e11 (List._∷_ e14 (List._∷_ e16 (List._∷_ e19 (List._∷_
-            e21 List.[])))))))))))))))
+        g39 = (0, v3) ∷ (1, h2) ∷ (2, v5) ∷ (3, v9) ∷ (4, v1) ∷ (5, v1) ∷ (6, v1) ∷ (7, v6) ∷ (8, v10) ∷ (9, v8) ∷ (10, v14) ∷ (11, v0) ∷ (12, v2) ∷ (13, v0) ∷ (14, v2) ∷ (15, v13) ∷ []
 
         abbrev g41 : List.List Row.Entry
-        g41 = List._∷_ e0 (List._∷_
-            (1, Relend.mslice-owed (Referent.rtF (Referent.fInt Syntax.w8)) (Syntax.tyRef (Syntax.named 0) Syntax.mut (Syntax.tyInt Syntax.w8)) 0 11 (Row.lease (κs .0) (qs .0))) (List._∷_ e27 (List._∷_
-            e42 (List._∷_ e44 (List._∷_ e46 (List._∷_ e47 (List._∷_ e48 (List._∷_ e49 (List._∷_ e54 (List._∷_ e8 (List._∷_ e11 (List._∷_ e14 (List._∷_ e16 (List._∷_ e19 (List._∷_ e20
-            List.[])))))))))))))))
+        g41 = (0, v3) ∷ (1, h4) ∷ (2, v5) ∷ (3, v9) ∷ (4, v1) ∷ (5, v1) ∷ (6, v1) ∷ (7, v6) ∷ (8, v10) ∷ (9, v8) ∷ (10, v3) ∷ (11, v0) ∷ (12, v2) ∷ (13, v0) ∷ (14, v2) ∷ (15, v11) ∷ []
 
         abbrev g45 : List.List Row.Entry
-        g45 = List._∷_ e0 (List._∷_
-            (1, Relend.mslice-owed (Referent.rtF (Referent.fInt Syntax.w8)) (Syntax.tyRef (Syntax.named 0) Syntax.mut (Syntax.tyInt Syntax.w8)) 0 11 (Row.lease (κs .0) (qs .0))) (List._∷_ e27 (List._∷_
-            e41 (List._∷_ e44 (List._∷_ e46 (List._∷_ e47 (List._∷_ e48 (List._∷_ e49 (List._∷_ e54 (List._∷_ e8 (List._∷_ e11 (List._∷_ e14 (List._∷_ e16 (List._∷_ e19 (List._∷_ e20
-            List.[])))))))))))))))
+        g45 = (0, v3) ∷ (1, h4) ∷ (2, v5) ∷ (3, v16) ∷ (4, v1) ∷ (5, v1) ∷ (6, v1) ∷ (7, v6) ∷ (8, v10) ∷ (9, v8) ∷ (10, v3) ∷ (11, v0) ∷ (12, v2) ∷ (13, v0) ∷ (14, v2) ∷ (15, v11) ∷ []
 
         abbrev g46 : List.List Row.Entry
-        g46 = List._∷_ e0 (List._∷_
-            (1, Relend.mslice-owed (Referent.rtF (Referent.fInt Syntax.w8)) (Syntax.tyRef (Syntax.named 0) Syntax.mut (Syntax.tyInt Syntax.w8)) 0 11 (Row.lease (κs .0) (qs .0))) (List._∷_ e27 (List._∷_
-            e41 (List._∷_ e44 (List._∷_ e46 (List._∷_ e47 (List._∷_ e48 (List._∷_ e49 (List._∷_ e54 (List._∷_ e9 (List._∷_ e11 (List._∷_ e14 (List._∷_ e16 (List._∷_ e19 (List._∷_ e20
-            List.[])))))))))))))))
-
-        abbrev G0 : Row.Cx
-        G0 = record {
-          locals = List._++_ t0 t1;
-          slots = List._∷_ (Row.lease (κs .0) (qs .0)) (List._∷_ (Row.lease (κs .1 .0) (qs .1 .0)) (List._∷_ (Row.lease (κs .1 .1 .0) (qs .1 .1 .0)) (List._∷_ (Row.lease (κs
-              .1 .1 .1 .0) (qs .1 .1 .1 .0)) (List._∷_ Row.off (List._∷_ Row.off (List._∷_ Row.off (List._∷_ Row.off (List._∷_ Row.off (List._∷_ Row.off (List._∷_ Row.off (List._∷_ Row.off
-              List.[])))))))))));
-        }
-
-        abbrev G1 : Row.Cx
-        G1 = record {
-          locals = List._++_ t2 t1;
-          slots = List._∷_ (Row.lease (κs .0) (qs .0)) (List._∷_ (Row.lease (κs .1 .0) (qs .1 .0)) (List._∷_ (Row.lease (κs .1 .1 .0) (qs .1 .1 .0)) (List._∷_ (Row.lease (κs
-              .1 .1 .1 .0) (qs .1 .1 .1 .0)) (List._∷_ Row.off (List._∷_ Row.off (List._∷_ Row.off (List._∷_ Row.off (List._∷_ Row.off (List._∷_ Row.off (List._∷_ Row.off (List._∷_ Row.off
-              List.[])))))))))));
-        }
-
-        abbrev G2 : Row.Cx
-        G2 = record {
-          locals = List._++_ t0 t1;
-          slots = List._∷_ (Row.lease (κs .0) (qs .0)) (List._∷_ (Row.lease (κs .1 .0) (qs .1 .0)) (List._∷_ (Row.lease (κs .1 .1 .0) (qs .1 .1 .0)) (List._∷_ (Row.lease (κs
-              .1 .1 .1 .0) (qs .1 .1 .1 .0)) (List._∷_ Row.off (List._∷_ Row.off (List._∷_ Row.off (List._∷_ Row.off (List._∷_ Row.off (List._∷_ Row.off (List._∷_ Row.off (List._∷_ Row.off
-              List.[])))))))))));
-        }
-
-        abbrev G3 : Row.Cx
-        G3 = record {
-          locals = List._++_ t0 t1;
-          slots = List._∷_ (Row.lease (κs .0) (qs .0)) (List._∷_ (Row.lease (κs .1 .0) (qs .1 .0)) (List._∷_ (Row.lease (κs .1 .1 .0) (qs .1 .1 .0)) (List._∷_ (Row.lease (κs
-              .1 .1 .1 .0) (qs .1 .1 .1 .0)) (List._∷_ Row.off (List._∷_ Row.off (List._∷_ Row.off (List._∷_ Row.off (List._∷_ Row.off (List._∷_ Row.off (List._∷_ Row.off (List._∷_ Row.off
-              List.[])))))))))));
-        }
-
-        abbrev G4 : Row.Cx
-        G4 = record {
-          locals = List._++_ t0 t1;
-          slots = List._∷_ (Row.lease (κs .0) (qs .0)) (List._∷_ (Row.lease (κs .1 .0) (qs .1 .0)) (List._∷_ (Row.lease (κs .1 .1 .0) (qs .1 .1 .0)) (List._∷_ (Row.lease (κs
-              .1 .1 .1 .0) (qs .1 .1 .1 .0)) (List._∷_ Row.off (List._∷_ Row.off (List._∷_ Row.off (List._∷_ Row.off (List._∷_ Row.off (List._∷_ Row.off (List._∷_ Row.off (List._∷_ Row.off
-              List.[])))))))))));
-        }
-
-        abbrev G5 : Row.Cx
-        G5 = record {
-          locals = List._++_ t3 t1;
-          slots = List._∷_ (Row.lease (κs .0) (qs .0)) (List._∷_ (Row.lease (κs .1 .0) (qs .1 .0)) (List._∷_ (Row.lease (κs .1 .1 .0) (qs .1 .1 .0)) (List._∷_ (Row.lease (κs
-              .1 .1 .1 .0) (qs .1 .1 .1 .0)) (List._∷_ Row.off (List._∷_ Row.off (List._∷_ Row.off (List._∷_ Row.off (List._∷_ Row.off (List._∷_ Row.off (List._∷_ Row.off (List._∷_ Row.off
-              List.[])))))))))));
-        }
+        g46 = (0, v3) ∷ (1, h4) ∷ (2, v5) ∷ (3, v16) ∷ (4, v1) ∷ (5, v1) ∷ (6, v1) ∷ (7, v6) ∷ (8, v10) ∷ (9, v8) ∷ (10, v14) ∷ (11, v0) ∷ (12, v2) ∷ (13, v0) ∷ (14, v2) ∷ (15, v11) ∷ []
 
         abbrev G6 : Row.Cx
-        G6 = record {
-          locals = List._++_ t3 t1;
-          slots = List._∷_ (Row.lease (κs .0) (qs .0)) (List._∷_ (Row.lease (κs .1 .0) (qs .1 .0)) (List._∷_ (Row.lease (κs .1 .1 .0) (qs .1 .1 .0)) (List._∷_ (Row.lease (κs
-              .1 .1 .1 .0) (qs .1 .1 .1 .0)) (List._∷_ Row.alive (List._∷_ Row.off (List._∷_ Row.off (List._∷_ Row.off (List._∷_ Row.off (List._∷_ Row.off (List._∷_ Row.off (List._∷_ Row.off
-              List.[])))))))))));
-        }
+        G6 = record { locals = List._++_ t3 t1; slots = k0 ∷ k1 ∷ k2 ∷ k3 ∷ Row.alive ∷ Row.off ∷ Row.off ∷ Row.off ∷ Row.off ∷ Row.off ∷ Row.off ∷ Row.off ∷ [] }
 
         abbrev G7 : Row.Cx
-        G7 = record {
-          locals = List._++_ g4 t1;
-          slots = List._∷_ Row.off (List._∷_ (Row.lease (κs .1 .0) (qs .1 .0)) (List._∷_ (Row.lease (κs .1 .1 .0) (qs .1 .1 .0)) (List._∷_ (Row.lease (κs .1 .1 .1 .0) (qs .1
-              .1 .1 .0)) (List._∷_ Row.alive (List._∷_ Row.off (List._∷_ Row.off (List._∷_ Row.off (List._∷_ Row.off (List._∷_ Row.off (List._∷_ Row.off (List._∷_ Row.off List.[])))))))))));
-        }
+        G7 = record { locals = List._++_ g4 t1; slots = l3 }
 
         abbrev G8 : Row.Cx
-        G8 = record {
-          locals = List._++_ g5 t1;
-          slots = List._∷_ Row.off (List._∷_ (Row.lease (κs .1 .0) (qs .1 .0)) (List._∷_ (Row.lease (κs .1 .1 .0) (qs .1 .1 .0)) (List._∷_ (Row.lease (κs .1 .1 .1 .0) (qs .1
-              .1 .1 .0)) (List._∷_ Row.alive (List._∷_ Row.off (List._∷_ Row.off (List._∷_ Row.off (List._∷_ Row.off (List._∷_ Row.off (List._∷_ Row.off (List._∷_ Row.off List.[])))))))))));
-        }
+        G8 = record { locals = List._++_ g5 t1; slots = l3 }
 
         abbrev G9 : Row.Cx
-        G9 = record {
-          locals = List._++_ g6 t1;
-          slots = List._∷_ Row.off (List._∷_ (Row.lease (κs .1 .0) (qs .1 .0)) (List._∷_ (Row.lease (κs .1 .1 .0) (qs .1 .1 .0)) (List._∷_ (Row.lease (κs .1 .1 .1 .0) (qs .1
-              .1 .1 .0)) (List._∷_ Row.alive (List._∷_ Row.off (List._∷_ Row.off (List._∷_ Row.off (List._∷_ Row.off (List._∷_ Row.off (List._∷_ Row.off (List._∷_ Row.off List.[])))))))))));
-        }
+        G9 = record { locals = List._++_ g6 t1; slots = l3 }
 
         abbrev G10 : Row.Cx
-        G10 = record {
-          locals = List._++_ g7 t1;
-          slots = List._∷_ Row.off (List._∷_ (Row.lease (κs .1 .0) (qs .1 .0)) (List._∷_ (Row.lease (κs .1 .1 .0) (qs .1 .1 .0)) (List._∷_ (Row.lease (κs .1 .1 .1 .0) (qs .1
-              .1 .1 .0)) (List._∷_ Row.alive (List._∷_ Row.off (List._∷_ Row.off (List._∷_ Row.off (List._∷_ Row.off (List._∷_ Row.off (List._∷_ Row.off (List._∷_ Row.off List.[])))))))))));
-        }
+        G10 = record { locals = List._++_ g7 t1; slots = l3 }
 
         abbrev G11 : Row.Cx
-        G11 = record {
-          locals = List._++_ g7 t1;
-          slots = List._∷_ Row.off (List._∷_ (Row.lease (κs .1 .0) (qs .1 .0)) (List._∷_ (Row.lease (κs .1 .1 .0) (qs .1 .1 .0)) (List._∷_ (Row.lease (κs .1 .1 .1 .0) (qs .1
-              .1 .1 .0)) (List._∷_ Row.dead (List._∷_ Row.off (List._∷_ Row.off (List._∷_ Row.off (List._∷_ Row.off (List._∷_ Row.off (List._∷_ Row.off (List._∷_ Row.off List.[])))))))))));
-        }
-
-        abbrev G12 : Row.Cx
-        G12 = record {
-          locals = List._++_ t3 t1;
-          slots = List._∷_ (Row.lease (κs .0) (qs .0)) (List._∷_ (Row.lease (κs .1 .0) (qs .1 .0)) (List._∷_ (Row.lease (κs .1 .1 .0) (qs .1 .1 .0)) (List._∷_ (Row.lease (κs
-              .1 .1 .1 .0) (qs .1 .1 .1 .0)) (List._∷_ Row.dead (List._∷_ Row.off (List._∷_ Row.off (List._∷_ Row.off (List._∷_ Row.off (List._∷_ Row.off (List._∷_ Row.off (List._∷_ Row.off
-              List.[])))))))))));
-        }
-
-        abbrev G13 : Row.Cx
-        G13 = record {
-          locals = List._++_ t3 t1;
-          slots = List._∷_ (Row.lease (κs .0) (qs .0)) (List._∷_ (Row.lease (κs .1 .0) (qs .1 .0)) (List._∷_ (Row.lease (κs .1 .1 .0) (qs .1 .1 .0)) (List._∷_ (Row.lease (κs
-              .1 .1 .1 .0) (qs .1 .1 .1 .0)) (List._∷_ Row.dead (List._∷_ Row.off (List._∷_ Row.off (List._∷_ Row.off (List._∷_ Row.off (List._∷_ Row.off (List._∷_ Row.off (List._∷_ Row.off
-              List.[])))))))))));
-        }
-
-        abbrev G14 : Row.Cx
-        G14 = record {
-          locals = List._++_ t3 t1;
-          slots = List._∷_ (Row.lease (κs .0) (qs .0)) (List._∷_ (Row.lease (κs .1 .0) (qs .1 .0)) (List._∷_ (Row.lease (κs .1 .1 .0) (qs .1 .1 .0)) (List._∷_ (Row.lease (κs
-              .1 .1 .1 .0) (qs .1 .1 .1 .0)) (List._∷_ Row.off (List._∷_ Row.off (List._∷_ Row.off (List._∷_ Row.off (List._∷_ Row.off (List._∷_ Row.off (List._∷_ Row.off (List._∷_ Row.off
-              List.[])))))))))));
-        }
+        G11 = record { locals = List._++_ g7 t1; slots = Row.off ∷ k1 ∷ k2 ∷ k3 ∷ Row.dead ∷ Row.off ∷ Row.off ∷ Row.off ∷ Row.off ∷ Row.off ∷ Row.off ∷ Row.off ∷ [] }
 
         abbrev G15 : Row.Cx
-        G15 = record {
-          locals = List._++_ t3 t1;
-          slots = List._∷_ (Row.lease (κs .0) (qs .0)) (List._∷_ (Row.lease (κs .1 .0) (qs .1 .0)) (List._∷_ (Row.lease (κs .1 .1 .0) (qs .1 .1 .0)) (List._∷_ (Row.lease (κs
-              .1 .1 .1 .0) (qs .1 .1 .1 .0)) (List._∷_ Row.off (List._∷_ Row.alive (List._∷_ Row.off (List._∷_ Row.off (List._∷_ Row.off (List._∷_ Row.off (List._∷_ Row.off (List._∷_ Row.off
-              List.[])))))))))));
-        }
+        G15 = record { locals = List._++_ t3 t1; slots = k0 ∷ k1 ∷ k2 ∷ k3 ∷ Row.off ∷ Row.alive ∷ Row.off ∷ Row.off ∷ Row.off ∷ Row.off ∷ Row.off ∷ Row.off ∷ [] }
 
         abbrev G16 : Row.Cx
-        G16 = record {
-          locals = List._++_ g8 t1;
-          slots = List._∷_ Row.off (List._∷_ (Row.lease (κs .1 .0) (qs .1 .0)) (List._∷_ (Row.lease (κs .1 .1 .0) (qs .1 .1 .0)) (List._∷_ (Row.lease (κs .1 .1 .1 .0) (qs .1
-              .1 .1 .0)) (List._∷_ Row.off (List._∷_ Row.alive (List._∷_ Row.off (List._∷_ Row.off (List._∷_ Row.off (List._∷_ Row.off (List._∷_ Row.off (List._∷_ Row.off List.[])))))))))));
-        }
+        G16 = record { locals = List._++_ g8 t1; slots = l4 }
 
         abbrev G17 : Row.Cx
-        G17 = record {
-          locals = List._++_ g9 t1;
-          slots = List._∷_ Row.off (List._∷_ (Row.lease (κs .1 .0) (qs .1 .0)) (List._∷_ (Row.lease (κs .1 .1 .0) (qs .1 .1 .0)) (List._∷_ (Row.lease (κs .1 .1 .1 .0) (qs .1
-              .1 .1 .0)) (List._∷_ Row.off (List._∷_ Row.alive (List._∷_ Row.off (List._∷_ Row.off (List._∷_ Row.off (List._∷_ Row.off (List._∷_ Row.off (List._∷_ Row.off List.[])))))))))));
-        }
+        G17 = record { locals = List._++_ g9 t1; slots = l4 }
 
         abbrev G18 : Row.Cx
-        G18 = record {
-          locals = List._++_ g9 t1;
-          slots = List._∷_ Row.off (List._∷_ (Row.lease (κs .1 .0) (qs .1 .0)) (List._∷_ (Row.lease (κs .1 .1 .0) (qs .1 .1 .0)) (List._∷_ (Row.lease (κs .1 .1 .1 .0) (qs .1
-              .1 .1 .0)) (List._∷_ Row.off (List._∷_ Row.alive (List._∷_ Row.alive (List._∷_ Row.off (List._∷_ Row.off (List._∷_ Row.off (List._∷_ Row.off (List._∷_ Row.off List.[])))))))))));
-        }
+        G18 = record { locals = List._++_ g9 t1; slots = Row.off ∷ k1 ∷ k2 ∷ k3 ∷ Row.off ∷ Row.alive ∷ Row.alive ∷ Row.off ∷ Row.off ∷ Row.off ∷ Row.off ∷ Row.off ∷ [] }
 
         abbrev G19 : Row.Cx
-        G19 = record {
-          locals = List._++_ g10 t11;
-          slots = List._∷_ Row.off (List._∷_ (Row.lease (κs .1 .0) (qs .1 .0)) (List._∷_ (Row.lease (κs .1 .1 .0) (qs .1 .1 .0)) (List._∷_ Row.off (List._∷_ Row.off
-              (List._∷_ Row.alive (List._∷_ Row.alive (List._∷_ Row.off (List._∷_ Row.off (List._∷_ Row.off (List._∷_ Row.off (List._∷_ Row.off List.[])))))))))));
-        }
+        G19 = record { locals = List._++_ g10 t11; slots = l0 }
 
         abbrev G20 : Row.Cx
-        G20 = record {
-          locals = List._++_ g10 t12;
-          slots = List._∷_ Row.off (List._∷_ (Row.lease (κs .1 .0) (qs .1 .0)) (List._∷_ (Row.lease (κs .1 .1 .0) (qs .1 .1 .0)) (List._∷_ Row.off (List._∷_ Row.off
-              (List._∷_ Row.alive (List._∷_ Row.alive (List._∷_ Row.off (List._∷_ Row.off (List._∷_ Row.off (List._∷_ Row.off (List._∷_ Row.off List.[])))))))))));
-        }
+        G20 = record { locals = List._++_ g10 t12; slots = l0 }
 
         abbrev G21 : Row.Cx
-        G21 = record {
-          locals = List._++_ g13 t14;
-          slots = List._∷_ Row.off (List._∷_ (Row.lease (κs .1 .0) (qs .1 .0)) (List._∷_ (Row.lease (κs .1 .1 .0) (qs .1 .1 .0)) (List._∷_ Row.off (List._∷_ Row.off
-              (List._∷_ Row.alive (List._∷_ Row.alive (List._∷_ Row.off (List._∷_ Row.off (List._∷_ Row.off (List._∷_ Row.off (List._∷_ Row.off List.[])))))))))));
-        }
+        G21 = record { locals = List._++_ g13 t14; slots = l0 }
 
         abbrev G22 : Row.Cx
-        G22 = record {
-          locals = List._++_ g13 t14;
-          slots = List._∷_ Row.off (List._∷_ (Row.lease (κs .1 .0) (qs .1 .0)) (List._∷_ (Row.lease (κs .1 .1 .0) (qs .1 .1 .0)) (List._∷_ Row.off (List._∷_ Row.off
-              (List._∷_ Row.alive (List._∷_ Row.dead (List._∷_ Row.off (List._∷_ Row.off (List._∷_ Row.off (List._∷_ Row.off (List._∷_ Row.off List.[])))))))))));
-        }
+        G22 = record { locals = List._++_ g13 t14; slots = Row.off ∷ k1 ∷ k2 ∷ Row.off ∷ Row.off ∷ Row.alive ∷ Row.dead ∷ Row.off ∷ Row.off ∷ Row.off ∷ Row.off ∷ Row.off ∷ [] }
 
         abbrev G23 : Row.Cx
-        G23 = record {
-          locals = List._++_ g15 t1;
-          slots = List._∷_ Row.off (List._∷_ (Row.lease (κs .1 .0) (qs .1 .0)) (List._∷_ (Row.lease (κs .1 .1 .0) (qs .1 .1 .0)) (List._∷_ (Row.lease (κs .1 .1 .1 .0) (qs .1
-              .1 .1 .0)) (List._∷_ Row.off (List._∷_ Row.alive (List._∷_ Row.dead (List._∷_ Row.off (List._∷_ Row.off (List._∷_ Row.off (List._∷_ Row.off (List._∷_ Row.off List.[])))))))))));
-        }
+        G23 = record { locals = List._++_ g15 t1; slots = Row.off ∷ k1 ∷ k2 ∷ k3 ∷ Row.off ∷ Row.alive ∷ Row.dead ∷ Row.off ∷ Row.off ∷ Row.off ∷ Row.off ∷ Row.off ∷ [] }
 
         abbrev G24 : Row.Cx
-        G24 = record {
-          locals = List._++_ g15 t1;
-          slots = List._∷_ Row.off (List._∷_ (Row.lease (κs .1 .0) (qs .1 .0)) (List._∷_ (Row.lease (κs .1 .1 .0) (qs .1 .1 .0)) (List._∷_ (Row.lease (κs .1 .1 .1 .0) (qs .1
-              .1 .1 .0)) (List._∷_ Row.off (List._∷_ Row.alive (List._∷_ Row.off (List._∷_ Row.off (List._∷_ Row.off (List._∷_ Row.off (List._∷_ Row.off (List._∷_ Row.off List.[])))))))))));
-        }
+        G24 = record { locals = List._++_ g15 t1; slots = l4 }
 
         abbrev G25 : Row.Cx
-        G25 = record {
-          locals = List._++_ g16 t1;
-          slots = List._∷_ Row.off (List._∷_ (Row.lease (κs .1 .0) (qs .1 .0)) (List._∷_ (Row.lease (κs .1 .1 .0) (qs .1 .1 .0)) (List._∷_ (Row.lease (κs .1 .1 .1 .0) (qs .1
-              .1 .1 .0)) (List._∷_ Row.off (List._∷_ Row.alive (List._∷_ Row.off (List._∷_ Row.off (List._∷_ Row.off (List._∷_ Row.off (List._∷_ Row.off (List._∷_ Row.off List.[])))))))))));
-        }
+        G25 = record { locals = List._++_ g16 t1; slots = l4 }
 
         abbrev G26 : Row.Cx
-        G26 = record {
-          locals = List._++_ g17 t1;
-          slots = List._∷_ Row.off (List._∷_ (Row.lease (κs .1 .0) (qs .1 .0)) (List._∷_ (Row.lease (κs .1 .1 .0) (qs .1 .1 .0)) (List._∷_ (Row.lease (κs .1 .1 .1 .0) (qs .1
-              .1 .1 .0)) (List._∷_ Row.off (List._∷_ Row.alive (List._∷_ Row.off (List._∷_ Row.off (List._∷_ Row.off (List._∷_ Row.off (List._∷_ Row.off (List._∷_ Row.off List.[])))))))))));
-        }
+        G26 = record { locals = List._++_ g17 t1; slots = l4 }
 
         abbrev G27 : Row.Cx
-        G27 = record {
-          locals = List._++_ g18 t1;
-          slots = List._∷_ Row.off (List._∷_ (Row.lease (κs .1 .0) (qs .1 .0)) (List._∷_ (Row.lease (κs .1 .1 .0) (qs .1 .1 .0)) (List._∷_ (Row.lease (κs .1 .1 .1 .0) (qs .1
-              .1 .1 .0)) (List._∷_ Row.off (List._∷_ Row.alive (List._∷_ Row.off (List._∷_ Row.off (List._∷_ Row.off (List._∷_ Row.off (List._∷_ Row.off (List._∷_ Row.off List.[])))))))))));
-        }
+        G27 = record { locals = List._++_ g18 t1; slots = l4 }
 
         abbrev G28 : Row.Cx
-        G28 = record {
-          locals = List._++_ g18 t1;
-          slots = List._∷_ Row.off (List._∷_ (Row.lease (κs .1 .0) (qs .1 .0)) (List._∷_ (Row.lease (κs .1 .1 .0) (qs .1 .1 .0)) (List._∷_ (Row.lease (κs .1 .1 .1 .0) (qs .1
-              .1 .1 .0)) (List._∷_ Row.off (List._∷_ Row.dead (List._∷_ Row.off (List._∷_ Row.off (List._∷_ Row.off (List._∷_ Row.off (List._∷_ Row.off (List._∷_ Row.off List.[])))))))))));
-        }
-
-        abbrev G29 : Row.Cx
-        G29 = record {
-          locals = List._++_ t3 t1;
-          slots = List._∷_ (Row.lease (κs .0) (qs .0)) (List._∷_ (Row.lease (κs .1 .0) (qs .1 .0)) (List._∷_ (Row.lease (κs .1 .1 .0) (qs .1 .1 .0)) (List._∷_ (Row.lease (κs
-              .1 .1 .1 .0) (qs .1 .1 .1 .0)) (List._∷_ Row.off (List._∷_ Row.dead (List._∷_ Row.off (List._∷_ Row.off (List._∷_ Row.off (List._∷_ Row.off (List._∷_ Row.off (List._∷_ Row.off
-              List.[])))))))))));
-        }
-
-        abbrev G30 : Row.Cx
-        G30 = record {
-          locals = List._++_ t3 t1;
-          slots = List._∷_ (Row.lease (κs .0) (qs .0)) (List._∷_ (Row.lease (κs .1 .0) (qs .1 .0)) (List._∷_ (Row.lease (κs .1 .1 .0) (qs .1 .1 .0)) (List._∷_ (Row.lease (κs
-              .1 .1 .1 .0) (qs .1 .1 .1 .0)) (List._∷_ Row.off (List._∷_ Row.dead (List._∷_ Row.off (List._∷_ Row.off (List._∷_ Row.off (List._∷_ Row.off (List._∷_ Row.off (List._∷_ Row.off
-              List.[])))))))))));
-        }
-
-        abbrev G31 : Row.Cx
-        G31 = record {
-          locals = List._++_ t3 t1;
-          slots = List._∷_ (Row.lease (κs .0) (qs .0)) (List._∷_ (Row.lease (κs .1 .0) (qs .1 .0)) (List._∷_ (Row.lease (κs .1 .1 .0) (qs .1 .1 .0)) (List._∷_ (Row.lease (κs
-              .1 .1 .1 .0) (qs .1 .1 .1 .0)) (List._∷_ Row.off (List._∷_ Row.off (List._∷_ Row.off (List._∷_ Row.off (List._∷_ Row.off (List._∷_ Row.off (List._∷_ Row.off (List._∷_ Row.off
-              List.[])))))))))));
-        }
+        G28 = record { locals = List._++_ g18 t1; slots = Row.off ∷ k1 ∷ k2 ∷ k3 ∷ Row.off ∷ Row.dead ∷ Row.off ∷ Row.off ∷ Row.off ∷ Row.off ∷ Row.off ∷ Row.off ∷ [] }
 
         abbrev G32 : Row.Cx
-        G32 = record {
-          locals = List._++_ t3 t1;
-          slots = List._∷_ (Row.lease (κs .0) (qs .0)) (List._∷_ (Row.lease (κs .1 .0) (qs .1 .0)) (List._∷_ (Row.lease (κs .1 .1 .0) (qs .1 .1 .0)) (List._∷_ (Row.lease (κs
-              .1 .1 .1 .0) (qs .1 .1 .1 .0)) (List._∷_ Row.off (List._∷_ Row.off (List._∷_ Row.off (List._∷_ Row.alive (List._∷_ Row.off (List._∷_ Row.off (List._∷_ Row.off (List._∷_ Row.off
-              List.[])))))))))));
-        }
+        G32 = record { locals = List._++_ t3 t1; slots = k0 ∷ k1 ∷ k2 ∷ k3 ∷ Row.off ∷ Row.off ∷ Row.off ∷ Row.alive ∷ Row.off ∷ Row.off ∷ Row.off ∷ Row.off ∷ [] }
 
         abbrev G33 : Row.Cx
-        G33 = record {
-          locals = List._++_ g19 t20;
-          slots = List._∷_ Row.off (List._∷_ (Row.lease (κs .1 .0) (qs .1 .0)) (List._∷_ (Row.lease (κs .1 .1 .0) (qs .1 .1 .0)) (List._∷_ (Row.lease (κs .1 .1 .1 .0) (qs
-              .1 .1 .1 .0)) (List._∷_ Row.off (List._∷_ Row.off (List._∷_ Row.off (List._∷_ Row.alive (List._∷_ Row.off (List._∷_ Row.off (List._∷_ Row.off (List._∷_ Row.off List.[])))))))))));
-        }
+        G33 = record { locals = List._++_ g19 t20; slots = l5 }
 
         abbrev G34 : Row.Cx
-        G34 = record {
-          locals = List._++_ g19 t21;
-          slots = List._∷_ Row.off (List._∷_ (Row.lease (κs .1 .0) (qs .1 .0)) (List._∷_ (Row.lease (κs .1 .1 .0) (qs .1 .1 .0)) (List._∷_ (Row.lease (κs .1 .1 .1 .0) (qs
-              .1 .1 .1 .0)) (List._∷_ Row.off (List._∷_ Row.off (List._∷_ Row.off (List._∷_ Row.alive (List._∷_ Row.off (List._∷_ Row.off (List._∷_ Row.off (List._∷_ Row.off List.[])))))))))));
-        }
+        G34 = record { locals = List._++_ g19 t21; slots = l5 }
 
         abbrev G35 : Row.Cx
-        G35 = record {
-          locals = List._++_ g19 t21;
-          slots = List._∷_ Row.off (List._∷_ (Row.lease (κs .1 .0) (qs .1 .0)) (List._∷_ (Row.lease (κs .1 .1 .0) (qs .1 .1 .0)) (List._∷_ (Row.lease (κs .1 .1 .1 .0) (qs
-              .1 .1 .1 .0)) (List._∷_ Row.off (List._∷_ Row.off (List._∷_ Row.off (List._∷_ Row.alive (List._∷_ Row.alive (List._∷_ Row.off (List._∷_ Row.off (List._∷_ Row.off List.[])))))))))));
-        }
+        G35 = record { locals = List._++_ g19 t21; slots = Row.off ∷ k1 ∷ k2 ∷ k3 ∷ Row.off ∷ Row.off ∷ Row.off ∷ Row.alive ∷ Row.alive ∷ Row.off ∷ Row.off ∷ Row.off ∷ [] }
 
         abbrev G36 : Row.Cx
-        G36 = record {
-          locals = List._++_ g22 t23;
-          slots = List._∷_ Row.off (List._∷_ (Row.lease (κs .1 .0) (qs .1 .0)) (List._∷_ (Row.lease (κs .1 .1 .0) (qs .1 .1 .0)) (List._∷_ Row.off (List._∷_ Row.off
-              (List._∷_ Row.off (List._∷_ Row.off (List._∷_ Row.alive (List._∷_ Row.alive (List._∷_ Row.off (List._∷_ Row.off (List._∷_ Row.off List.[])))))))))));
-        }
+        G36 = record { locals = List._++_ g22 t23; slots = l1 }
 
         abbrev G37 : Row.Cx
-        G37 = record {
-          locals = List._++_ g22 t24;
-          slots = List._∷_ Row.off (List._∷_ (Row.lease (κs .1 .0) (qs .1 .0)) (List._∷_ (Row.lease (κs .1 .1 .0) (qs .1 .1 .0)) (List._∷_ Row.off (List._∷_ Row.off
-              (List._∷_ Row.off (List._∷_ Row.off (List._∷_ Row.alive (List._∷_ Row.alive (List._∷_ Row.off (List._∷_ Row.off (List._∷_ Row.off List.[])))))))))));
-        }
+        G37 = record { locals = List._++_ g22 t24; slots = l1 }
 
         abbrev G38 : Row.Cx
-        G38 = record {
-          locals = List._++_ g25 t26;
-          slots = List._∷_ Row.off (List._∷_ (Row.lease (κs .1 .0) (qs .1 .0)) (List._∷_ (Row.lease (κs .1 .1 .0) (qs .1 .1 .0)) (List._∷_ Row.off (List._∷_ Row.off
-              (List._∷_ Row.off (List._∷_ Row.off (List._∷_ Row.alive (List._∷_ Row.alive (List._∷_ Row.off (List._∷_ Row.off (List._∷_ Row.off List.[])))))))))));
-        }
+        G38 = record { locals = List._++_ g25 t26; slots = l1 }
 
         abbrev G39 : Row.Cx
-        G39 = record {
-          locals = List._++_ g25 t26;
-          slots = List._∷_ Row.off (List._∷_ (Row.lease (κs .1 .0) (qs .1 .0)) (List._∷_ (Row.lease (κs .1 .1 .0) (qs .1 .1 .0)) (List._∷_ Row.off (List._∷_ Row.off
-              (List._∷_ Row.off (List._∷_ Row.off (List._∷_ Row.alive (List._∷_ Row.dead (List._∷_ Row.off (List._∷_ Row.off (List._∷_ Row.off List.[])))))))))));
-        }
+        G39 = record { locals = List._++_ g25 t26; slots = Row.off ∷ k1 ∷ k2 ∷ Row.off ∷ Row.off ∷ Row.off ∷ Row.off ∷ Row.alive ∷ Row.dead ∷ Row.off ∷ Row.off ∷ Row.off ∷ [] }
 
         abbrev G40 : Row.Cx
-        G40 = record {
-          locals = List._++_ g27 t21;
-          slots = List._∷_ Row.off (List._∷_ (Row.lease (κs .1 .0) (qs .1 .0)) (List._∷_ (Row.lease (κs .1 .1 .0) (qs .1 .1 .0)) (List._∷_ (Row.lease (κs .1 .1 .1 .0) (qs
-              .1 .1 .1 .0)) (List._∷_ Row.off (List._∷_ Row.off (List._∷_ Row.off (List._∷_ Row.alive (List._∷_ Row.dead (List._∷_ Row.off (List._∷_ Row.off (List._∷_ Row.off List.[])))))))))));
-        }
+        G40 = record { locals = List._++_ g27 t21; slots = Row.off ∷ k1 ∷ k2 ∷ k3 ∷ Row.off ∷ Row.off ∷ Row.off ∷ Row.alive ∷ Row.dead ∷ Row.off ∷ Row.off ∷ Row.off ∷ [] }
 
         abbrev G41 : Row.Cx
-        G41 = record {
-          locals = List._++_ g27 t21;
-          slots = List._∷_ Row.off (List._∷_ (Row.lease (κs .1 .0) (qs .1 .0)) (List._∷_ (Row.lease (κs .1 .1 .0) (qs .1 .1 .0)) (List._∷_ (Row.lease (κs .1 .1 .1 .0) (qs
-              .1 .1 .1 .0)) (List._∷_ Row.off (List._∷_ Row.off (List._∷_ Row.off (List._∷_ Row.alive (List._∷_ Row.off (List._∷_ Row.off (List._∷_ Row.off (List._∷_ Row.off List.[])))))))))));
-        }
+        G41 = record { locals = List._++_ g27 t21; slots = l5 }
 
         abbrev G42 : Row.Cx
-        G42 = record {
-          locals = List._++_ g28 t29;
-          slots = List._∷_ Row.off (List._∷_ (Row.lease (κs .1 .0) (qs .1 .0)) (List._∷_ (Row.lease (κs .1 .1 .0) (qs .1 .1 .0)) (List._∷_ (Row.lease (κs .1 .1 .1 .0) (qs
-              .1 .1 .1 .0)) (List._∷_ Row.off (List._∷_ Row.off (List._∷_ Row.off (List._∷_ Row.alive (List._∷_ Row.off (List._∷_ Row.off (List._∷_ Row.off (List._∷_ Row.off List.[])))))))))));
-        }
+        G42 = record { locals = List._++_ g28 t29; slots = l5 }
 
         abbrev G43 : Row.Cx
-        G43 = record {
-          locals = List._++_ g27 t29;
-          slots = List._∷_ Row.off (List._∷_ (Row.lease (κs .1 .0) (qs .1 .0)) (List._∷_ (Row.lease (κs .1 .1 .0) (qs .1 .1 .0)) (List._∷_ (Row.lease (κs .1 .1 .1 .0) (qs
-              .1 .1 .1 .0)) (List._∷_ Row.off (List._∷_ Row.off (List._∷_ Row.off (List._∷_ Row.alive (List._∷_ Row.off (List._∷_ Row.off (List._∷_ Row.off (List._∷_ Row.off List.[])))))))))));
-        }
+        G43 = record { locals = List._++_ g27 t29; slots = l5 }
 
         abbrev G44 : Row.Cx
-        G44 = record {
-          locals = List._++_ g19 t29;
-          slots = List._∷_ Row.off (List._∷_ (Row.lease (κs .1 .0) (qs .1 .0)) (List._∷_ (Row.lease (κs .1 .1 .0) (qs .1 .1 .0)) (List._∷_ (Row.lease (κs .1 .1 .1 .0) (qs
-              .1 .1 .1 .0)) (List._∷_ Row.off (List._∷_ Row.off (List._∷_ Row.off (List._∷_ Row.alive (List._∷_ Row.off (List._∷_ Row.off (List._∷_ Row.off (List._∷_ Row.off List.[])))))))))));
-        }
+        G44 = record { locals = List._++_ g19 t29; slots = l5 }
 
         abbrev G45 : Row.Cx
-        G45 = record {
-          locals = List._++_ g19 t29;
-          slots = List._∷_ Row.off (List._∷_ (Row.lease (κs .1 .0) (qs .1 .0)) (List._∷_ (Row.lease (κs .1 .1 .0) (qs .1 .1 .0)) (List._∷_ (Row.lease (κs .1 .1 .1 .0) (qs
-              .1 .1 .1 .0)) (List._∷_ Row.off (List._∷_ Row.off (List._∷_ Row.off (List._∷_ Row.dead (List._∷_ Row.off (List._∷_ Row.off (List._∷_ Row.off (List._∷_ Row.off List.[])))))))))));
-        }
-
-        abbrev G46 : Row.Cx
-        G46 = record {
-          locals = List._++_ t3 t1;
-          slots = List._∷_ (Row.lease (κs .0) (qs .0)) (List._∷_ (Row.lease (κs .1 .0) (qs .1 .0)) (List._∷_ (Row.lease (κs .1 .1 .0) (qs .1 .1 .0)) (List._∷_ (Row.lease (κs
-              .1 .1 .1 .0) (qs .1 .1 .1 .0)) (List._∷_ Row.off (List._∷_ Row.off (List._∷_ Row.off (List._∷_ Row.dead (List._∷_ Row.off (List._∷_ Row.off (List._∷_ Row.off (List._∷_ Row.off
-              List.[])))))))))));
-        }
-
-        abbrev G47 : Row.Cx
-        G47 = record {
-          locals = List._++_ t3 t1;
-          slots = List._∷_ (Row.lease (κs .0) (qs .0)) (List._∷_ (Row.lease (κs .1 .0) (qs .1 .0)) (List._∷_ (Row.lease (κs .1 .1 .0) (qs .1 .1 .0)) (List._∷_ (Row.lease (κs
-              .1 .1 .1 .0) (qs .1 .1 .1 .0)) (List._∷_ Row.off (List._∷_ Row.off (List._∷_ Row.off (List._∷_ Row.dead (List._∷_ Row.off (List._∷_ Row.off (List._∷_ Row.off (List._∷_ Row.off
-              List.[])))))))))));
-        }
-
-        abbrev G48 : Row.Cx
-        G48 = record {
-          locals = List._++_ t3 t1;
-          slots = List._∷_ (Row.lease (κs .0) (qs .0)) (List._∷_ (Row.lease (κs .1 .0) (qs .1 .0)) (List._∷_ (Row.lease (κs .1 .1 .0) (qs .1 .1 .0)) (List._∷_ (Row.lease (κs
-              .1 .1 .1 .0) (qs .1 .1 .1 .0)) (List._∷_ Row.off (List._∷_ Row.off (List._∷_ Row.off (List._∷_ Row.off (List._∷_ Row.off (List._∷_ Row.off (List._∷_ Row.off (List._∷_ Row.off
-              List.[])))))))))));
-        }
+        G45 = record { locals = List._++_ g19 t29; slots = Row.off ∷ k1 ∷ k2 ∷ k3 ∷ Row.off ∷ Row.off ∷ Row.off ∷ Row.dead ∷ Row.off ∷ Row.off ∷ Row.off ∷ Row.off ∷ [] }
 
         abbrev G49 : Row.Cx
-        G49 = record {
-          locals = List._++_ t3 t1;
-          slots = List._∷_ (Row.lease (κs .0) (qs .0)) (List._∷_ (Row.lease (κs .1 .0) (qs .1 .0)) (List._∷_ (Row.lease (κs .1 .1 .0) (qs .1 .1 .0)) (List._∷_ (Row.lease (κs
-              .1 .1 .1 .0) (qs .1 .1 .1 .0)) (List._∷_ Row.off (List._∷_ Row.off (List._∷_ Row.off (List._∷_ Row.off (List._∷_ Row.off (List._∷_ Row.alive (List._∷_ Row.off (List._∷_ Row.off
-              List.[])))))))))));
-        }
+        G49 = record { locals = List._++_ t3 t1; slots = k0 ∷ k1 ∷ k2 ∷ k3 ∷ Row.off ∷ Row.off ∷ Row.off ∷ Row.off ∷ Row.off ∷ Row.alive ∷ Row.off ∷ Row.off ∷ [] }
 
         abbrev G50 : Row.Cx
-        G50 = record {
-          locals = List._++_ g30 t31;
-          slots = List._∷_ Row.off (List._∷_ (Row.lease (κs .1 .0) (qs .1 .0)) (List._∷_ (Row.lease (κs .1 .1 .0) (qs .1 .1 .0)) (List._∷_ (Row.lease (κs .1 .1 .1 .0) (qs
-              .1 .1 .1 .0)) (List._∷_ Row.off (List._∷_ Row.off (List._∷_ Row.off (List._∷_ Row.off (List._∷_ Row.off (List._∷_ Row.alive (List._∷_ Row.off (List._∷_ Row.off List.[])))))))))));
-        }
+        G50 = record { locals = List._++_ g30 t31; slots = l6 }
 
         abbrev G51 : Row.Cx
-        G51 = record {
-          locals = List._++_ g30 t32;
-          slots = List._∷_ Row.off (List._∷_ (Row.lease (κs .1 .0) (qs .1 .0)) (List._∷_ (Row.lease (κs .1 .1 .0) (qs .1 .1 .0)) (List._∷_ (Row.lease (κs .1 .1 .1 .0) (qs
-              .1 .1 .1 .0)) (List._∷_ Row.off (List._∷_ Row.off (List._∷_ Row.off (List._∷_ Row.off (List._∷_ Row.off (List._∷_ Row.alive (List._∷_ Row.off (List._∷_ Row.off List.[])))))))))));
-        }
+        G51 = record { locals = List._++_ g30 t32; slots = l6 }
 
         abbrev G52 : Row.Cx
-        G52 = record {
-          locals = List._++_ g30 t32;
-          slots = List._∷_ Row.off (List._∷_ (Row.lease (κs .1 .0) (qs .1 .0)) (List._∷_ (Row.lease (κs .1 .1 .0) (qs .1 .1 .0)) (List._∷_ (Row.lease (κs .1 .1 .1 .0) (qs
-              .1 .1 .1 .0)) (List._∷_ Row.off (List._∷_ Row.off (List._∷_ Row.off (List._∷_ Row.off (List._∷_ Row.off (List._∷_ Row.alive (List._∷_ Row.alive (List._∷_ Row.off List.[])))))))))));
-        }
+        G52 = record { locals = List._++_ g30 t32; slots = Row.off ∷ k1 ∷ k2 ∷ k3 ∷ Row.off ∷ Row.off ∷ Row.off ∷ Row.off ∷ Row.off ∷ Row.alive ∷ Row.alive ∷ Row.off ∷ [] }
 
         abbrev G53 : Row.Cx
-        G53 = record {
-          locals = List._++_ g33 t34;
-          slots = List._∷_ Row.off (List._∷_ (Row.lease (κs .1 .0) (qs .1 .0)) (List._∷_ (Row.lease (κs .1 .1 .0) (qs .1 .1 .0)) (List._∷_ Row.off (List._∷_ Row.off
-              (List._∷_ Row.off (List._∷_ Row.off (List._∷_ Row.off (List._∷_ Row.off (List._∷_ Row.alive (List._∷_ Row.alive (List._∷_ Row.off List.[])))))))))));
-        }
+        G53 = record { locals = List._++_ g33 t34; slots = l2 }
 
         abbrev G54 : Row.Cx
-        G54 = record {
-          locals = List._++_ g33 t35;
-          slots = List._∷_ Row.off (List._∷_ (Row.lease (κs .1 .0) (qs .1 .0)) (List._∷_ (Row.lease (κs .1 .1 .0) (qs .1 .1 .0)) (List._∷_ Row.off (List._∷_ Row.off
-              (List._∷_ Row.off (List._∷_ Row.off (List._∷_ Row.off (List._∷_ Row.off (List._∷_ Row.alive (List._∷_ Row.alive (List._∷_ Row.off List.[])))))))))));
-        }
+        G54 = record { locals = List._++_ g33 t35; slots = l2 }
 
         abbrev G55 : Row.Cx
-        G55 = record {
-          locals = List._++_ g36 t37;
-          slots = List._∷_ Row.off (List._∷_ (Row.lease (κs .1 .0) (qs .1 .0)) (List._∷_ (Row.lease (κs .1 .1 .0) (qs .1 .1 .0)) (List._∷_ Row.off (List._∷_ Row.off
-              (List._∷_ Row.off (List._∷_ Row.off (List._∷_ Row.off (List._∷_ Row.off (List._∷_ Row.alive (List._∷_ Row.alive (List._∷_ Row.off List.[])))))))))));
-        }
+        G55 = record { locals = List._++_ g36 t37; slots = l2 }
 
         abbrev G56 : Row.Cx
-        G56 = record {
-          locals = List._++_ g36 t37;
-          slots = List._∷_ Row.off (List._∷_ (Row.lease (κs .1 .0) (qs .1 .0)) (List._∷_ (Row.lease (κs .1 .1 .0) (qs .1 .1 .0)) (List._∷_ Row.off (List._∷_ Row.off
-              (List._∷_ Row.off (List._∷_ Row.off (List._∷_ Row.off (List._∷_ Row.off (List._∷_ Row.alive (List._∷_ Row.dead (List._∷_ Row.off List.[])))))))))));
-        }
+        G56 = record { locals = List._++_ g36 t37; slots = Row.off ∷ k1 ∷ k2 ∷ Row.off ∷ Row.off ∷ Row.off ∷ Row.off ∷ Row.off ∷ Row.off ∷ Row.alive ∷ Row.dead ∷ Row.off ∷ [] }
 
         abbrev G57 : Row.Cx
-        G57 = record {
-          locals = List._++_ g38 t32;
-          slots = List._∷_ Row.off (List._∷_ (Row.lease (κs .1 .0) (qs .1 .0)) (List._∷_ (Row.lease (κs .1 .1 .0) (qs .1 .1 .0)) (List._∷_ (Row.lease (κs .1 .1 .1 .0) (qs
-              .1 .1 .1 .0)) (List._∷_ Row.off (List._∷_ Row.off (List._∷_ Row.off (List._∷_ Row.off (List._∷_ Row.off (List._∷_ Row.alive (List._∷_ Row.dead (List._∷_ Row.off List.[])))))))))));
-        }
+        G57 = record { locals = List._++_ g38 t32; slots = Row.off ∷ k1 ∷ k2 ∷ k3 ∷ Row.off ∷ Row.off ∷ Row.off ∷ Row.off ∷ Row.off ∷ Row.alive ∷ Row.dead ∷ Row.off ∷ [] }
 
         abbrev G58 : Row.Cx
-        G58 = record {
-          locals = List._++_ g38 t32;
-          slots = List._∷_ Row.off (List._∷_ (Row.lease (κs .1 .0) (qs .1 .0)) (List._∷_ (Row.lease (κs .1 .1 .0) (qs .1 .1 .0)) (List._∷_ (Row.lease (κs .1 .1 .1 .0) (qs
-              .1 .1 .1 .0)) (List._∷_ Row.off (List._∷_ Row.off (List._∷_ Row.off (List._∷_ Row.off (List._∷_ Row.off (List._∷_ Row.alive (List._∷_ Row.off (List._∷_ Row.off List.[])))))))))));
-        }
+        G58 = record { locals = List._++_ g38 t32; slots = l6 }
 
         abbrev G59 : Row.Cx
-        G59 = record {
-          locals = List._++_ g39 t40;
-          slots = List._∷_ Row.off (List._∷_ (Row.lease (κs .1 .0) (qs .1 .0)) (List._∷_ (Row.lease (κs .1 .1 .0) (qs .1 .1 .0)) (List._∷_ (Row.lease (κs .1 .1 .1 .0) (qs
-              .1 .1 .1 .0)) (List._∷_ Row.off (List._∷_ Row.off (List._∷_ Row.off (List._∷_ Row.off (List._∷_ Row.off (List._∷_ Row.alive (List._∷_ Row.off (List._∷_ Row.off List.[])))))))))));
-        }
+        G59 = record { locals = List._++_ g39 t40; slots = l6 }
 
         abbrev G60 : Row.Cx
-        G60 = record {
-          locals = List._++_ g38 t40;
-          slots = List._∷_ Row.off (List._∷_ (Row.lease (κs .1 .0) (qs .1 .0)) (List._∷_ (Row.lease (κs .1 .1 .0) (qs .1 .1 .0)) (List._∷_ (Row.lease (κs .1 .1 .1 .0) (qs
-              .1 .1 .1 .0)) (List._∷_ Row.off (List._∷_ Row.off (List._∷_ Row.off (List._∷_ Row.off (List._∷_ Row.off (List._∷_ Row.alive (List._∷_ Row.off (List._∷_ Row.off List.[])))))))))));
-        }
+        G60 = record { locals = List._++_ g38 t40; slots = l6 }
 
         abbrev G61 : Row.Cx
-        G61 = record {
-          locals = List._++_ g30 t40;
-          slots = List._∷_ Row.off (List._∷_ (Row.lease (κs .1 .0) (qs .1 .0)) (List._∷_ (Row.lease (κs .1 .1 .0) (qs .1 .1 .0)) (List._∷_ (Row.lease (κs .1 .1 .1 .0) (qs
-              .1 .1 .1 .0)) (List._∷_ Row.off (List._∷_ Row.off (List._∷_ Row.off (List._∷_ Row.off (List._∷_ Row.off (List._∷_ Row.alive (List._∷_ Row.off (List._∷_ Row.off List.[])))))))))));
-        }
+        G61 = record { locals = List._++_ g30 t40; slots = l6 }
 
         abbrev G62 : Row.Cx
-        G62 = record {
-          locals = List._++_ g30 t40;
-          slots = List._∷_ Row.off (List._∷_ (Row.lease (κs .1 .0) (qs .1 .0)) (List._∷_ (Row.lease (κs .1 .1 .0) (qs .1 .1 .0)) (List._∷_ (Row.lease (κs .1 .1 .1 .0) (qs
-              .1 .1 .1 .0)) (List._∷_ Row.off (List._∷_ Row.off (List._∷_ Row.off (List._∷_ Row.off (List._∷_ Row.off (List._∷_ Row.dead (List._∷_ Row.off (List._∷_ Row.off List.[])))))))))));
-        }
-
-        abbrev G63 : Row.Cx
-        G63 = record {
-          locals = List._++_ t3 t1;
-          slots = List._∷_ (Row.lease (κs .0) (qs .0)) (List._∷_ (Row.lease (κs .1 .0) (qs .1 .0)) (List._∷_ (Row.lease (κs .1 .1 .0) (qs .1 .1 .0)) (List._∷_ (Row.lease (κs
-              .1 .1 .1 .0) (qs .1 .1 .1 .0)) (List._∷_ Row.off (List._∷_ Row.off (List._∷_ Row.off (List._∷_ Row.off (List._∷_ Row.off (List._∷_ Row.dead (List._∷_ Row.off (List._∷_ Row.off
-              List.[])))))))))));
-        }
-
-        abbrev G64 : Row.Cx
-        G64 = record {
-          locals = List._++_ t3 t1;
-          slots = List._∷_ (Row.lease (κs .0) (qs .0)) (List._∷_ (Row.lease (κs .1 .0) (qs .1 .0)) (List._∷_ (Row.lease (κs .1 .1 .0) (qs .1 .1 .0)) (List._∷_ (Row.lease (κs
-              .1 .1 .1 .0) (qs .1 .1 .1 .0)) (List._∷_ Row.off (List._∷_ Row.off (List._∷_ Row.off (List._∷_ Row.off (List._∷_ Row.off (List._∷_ Row.dead (List._∷_ Row.off (List._∷_ Row.off
-              List.[])))))))))));
-        }
-
-        abbrev G65 : Row.Cx
-        G65 = record {
-          locals = List._++_ t3 t1;
-          slots = List._∷_ (Row.lease (κs .0) (qs .0)) (List._∷_ (Row.lease (κs .1 .0) (qs .1 .0)) (List._∷_ (Row.lease (κs .1 .1 .0) (qs .1 .1 .0)) (List._∷_ (Row.lease (κs
-              .1 .1 .1 .0) (qs .1 .1 .1 .0)) (List._∷_ Row.off (List._∷_ Row.off (List._∷_ Row.off (List._∷_ Row.off (List._∷_ Row.off (List._∷_ Row.off (List._∷_ Row.off (List._∷_ Row.off
-              List.[])))))))))));
-        }
+        G62 = record { locals = List._++_ g30 t40; slots = Row.off ∷ k1 ∷ k2 ∷ k3 ∷ Row.off ∷ Row.off ∷ Row.off ∷ Row.off ∷ Row.off ∷ Row.dead ∷ Row.off ∷ Row.off ∷ [] }
 
         abbrev G66 : Row.Cx
-        G66 = record {
-          locals = List._++_ t3 t1;
-          slots = List._∷_ (Row.lease (κs .0) (qs .0)) (List._∷_ (Row.lease (κs .1 .0) (qs .1 .0)) (List._∷_ (Row.lease (κs .1 .1 .0) (qs .1 .1 .0)) (List._∷_ (Row.lease (κs
-              .1 .1 .1 .0) (qs .1 .1 .1 .0)) (List._∷_ Row.off (List._∷_ Row.off (List._∷_ Row.off (List._∷_ Row.off (List._∷_ Row.off (List._∷_ Row.off (List._∷_ Row.off (List._∷_ Row.alive
-              List.[])))))))))));
-        }
+        G66 = record { locals = List._++_ t3 t1; slots = k0 ∷ k1 ∷ k2 ∷ k3 ∷ Row.off ∷ Row.off ∷ Row.off ∷ Row.off ∷ Row.off ∷ Row.off ∷ Row.off ∷ Row.alive ∷ [] }
 
         abbrev G67 : Row.Cx
-        G67 = record {
-          locals = List._++_ g41 t42;
-          slots = List._∷_ Row.off (List._∷_ (Row.lease (κs .1 .0) (qs .1 .0)) (List._∷_ (Row.lease (κs .1 .1 .0) (qs .1 .1 .0)) (List._∷_ (Row.lease (κs .1 .1 .1 .0) (qs
-              .1 .1 .1 .0)) (List._∷_ Row.off (List._∷_ Row.off (List._∷_ Row.off (List._∷_ Row.off (List._∷_ Row.off (List._∷_ Row.off (List._∷_ Row.off (List._∷_ Row.alive List.[])))))))))));
-        }
+        G67 = record { locals = List._++_ g41 t42; slots = l7 }
 
         abbrev G68 : Row.Cx
-        G68 = record {
-          locals = List._++_ g41 t43;
-          slots = List._∷_ Row.off (List._∷_ (Row.lease (κs .1 .0) (qs .1 .0)) (List._∷_ (Row.lease (κs .1 .1 .0) (qs .1 .1 .0)) (List._∷_ (Row.lease (κs .1 .1 .1 .0) (qs
-              .1 .1 .1 .0)) (List._∷_ Row.off (List._∷_ Row.off (List._∷_ Row.off (List._∷_ Row.off (List._∷_ Row.off (List._∷_ Row.off (List._∷_ Row.off (List._∷_ Row.alive List.[])))))))))));
-        }
+        G68 = record { locals = List._++_ g41 t43; slots = l7 }
 
         abbrev G69 : Row.Cx
-        G69 = record {
-          locals = List._++_ g41 t44;
-          slots = List._∷_ Row.off (List._∷_ (Row.lease (κs .1 .0) (qs .1 .0)) (List._∷_ (Row.lease (κs .1 .1 .0) (qs .1 .1 .0)) (List._∷_ (Row.lease (κs .1 .1 .1 .0) (qs
-              .1 .1 .1 .0)) (List._∷_ Row.off (List._∷_ Row.off (List._∷_ Row.off (List._∷_ Row.off (List._∷_ Row.off (List._∷_ Row.off (List._∷_ Row.off (List._∷_ Row.alive List.[])))))))))));
-        }
+        G69 = record { locals = List._++_ g41 t44; slots = l7 }
 
         abbrev G70 : Row.Cx
-        G70 = record {
-          locals = List._++_ g45 t44;
-          slots = List._∷_ Row.off (List._∷_ (Row.lease (κs .1 .0) (qs .1 .0)) (List._∷_ (Row.lease (κs .1 .1 .0) (qs .1 .1 .0)) (List._∷_ (Row.lease (κs .1 .1 .1 .0) (qs
-              .1 .1 .1 .0)) (List._∷_ Row.off (List._∷_ Row.off (List._∷_ Row.off (List._∷_ Row.off (List._∷_ Row.off (List._∷_ Row.off (List._∷_ Row.off (List._∷_ Row.alive List.[])))))))))));
-        }
+        G70 = record { locals = List._++_ g45 t44; slots = l7 }
 
         abbrev G71 : Row.Cx
-        G71 = record {
-          locals = List._++_ g46 t47;
-          slots = List._∷_ Row.off (List._∷_ (Row.lease (κs .1 .0) (qs .1 .0)) (List._∷_ (Row.lease (κs .1 .1 .0) (qs .1 .1 .0)) (List._∷_ (Row.lease (κs .1 .1 .1 .0) (qs
-              .1 .1 .1 .0)) (List._∷_ Row.off (List._∷_ Row.off (List._∷_ Row.off (List._∷_ Row.off (List._∷_ Row.off (List._∷_ Row.off (List._∷_ Row.off (List._∷_ Row.alive List.[])))))))))));
-        }
+        G71 = record { locals = List._++_ g46 t47; slots = l7 }
 
         abbrev G72 : Row.Cx
-        G72 = record {
-          locals = List._++_ g45 t47;
-          slots = List._∷_ Row.off (List._∷_ (Row.lease (κs .1 .0) (qs .1 .0)) (List._∷_ (Row.lease (κs .1 .1 .0) (qs .1 .1 .0)) (List._∷_ (Row.lease (κs .1 .1 .1 .0) (qs
-              .1 .1 .1 .0)) (List._∷_ Row.off (List._∷_ Row.off (List._∷_ Row.off (List._∷_ Row.off (List._∷_ Row.off (List._∷_ Row.off (List._∷_ Row.off (List._∷_ Row.alive List.[])))))))))));
-        }
+        G72 = record { locals = List._++_ g45 t47; slots = l7 }
 
         abbrev G73 : Row.Cx
-        G73 = record {
-          locals = List._++_ g45 t48;
-          slots = List._∷_ Row.off (List._∷_ (Row.lease (κs .1 .0) (qs .1 .0)) (List._∷_ (Row.lease (κs .1 .1 .0) (qs .1 .1 .0)) (List._∷_ (Row.lease (κs .1 .1 .1 .0) (qs
-              .1 .1 .1 .0)) (List._∷_ Row.off (List._∷_ Row.off (List._∷_ Row.off (List._∷_ Row.off (List._∷_ Row.off (List._∷_ Row.off (List._∷_ Row.off (List._∷_ Row.alive List.[])))))))))));
-        }
+        G73 = record { locals = List._++_ g45 t48; slots = l7 }
 
         abbrev G74 : Row.Cx
-        G74 = record {
-          locals = List._++_ g45 t48;
-          slots = List._∷_ Row.off (List._∷_ (Row.lease (κs .1 .0) (qs .1 .0)) (List._∷_ (Row.lease (κs .1 .1 .0) (qs .1 .1 .0)) (List._∷_ (Row.lease (κs .1 .1 .1 .0) (qs
-              .1 .1 .1 .0)) (List._∷_ Row.off (List._∷_ Row.off (List._∷_ Row.off (List._∷_ Row.off (List._∷_ Row.off (List._∷_ Row.off (List._∷_ Row.off (List._∷_ Row.dead List.[])))))))))));
-        }
-
-        abbrev G75 : Row.Cx
-        G75 = record {
-          locals = List._++_ t49 t1;
-          slots = List._∷_ (Row.lease (κs .0) (qs .0)) (List._∷_ (Row.lease (κs .1 .0) (qs .1 .0)) (List._∷_ (Row.lease (κs .1 .1 .0) (qs .1 .1 .0)) (List._∷_ (Row.lease (κs
-              .1 .1 .1 .0) (qs .1 .1 .1 .0)) (List._∷_ Row.off (List._∷_ Row.off (List._∷_ Row.off (List._∷_ Row.off (List._∷_ Row.off (List._∷_ Row.off (List._∷_ Row.off (List._∷_ Row.dead
-              List.[])))))))))));
-        }
-
-        abbrev G76 : Row.Cx
-        G76 = record {
-          locals = List._++_ t49 t1;
-          slots = List._∷_ (Row.lease (κs .0) (qs .0)) (List._∷_ (Row.lease (κs .1 .0) (qs .1 .0)) (List._∷_ (Row.lease (κs .1 .1 .0) (qs .1 .1 .0)) (List._∷_ (Row.lease (κs
-              .1 .1 .1 .0) (qs .1 .1 .1 .0)) (List._∷_ Row.off (List._∷_ Row.off (List._∷_ Row.off (List._∷_ Row.off (List._∷_ Row.off (List._∷_ Row.off (List._∷_ Row.off (List._∷_ Row.dead
-              List.[])))))))))));
-        }
-
-        abbrev G77 : Row.Cx
-        G77 = record {
-          locals = List._++_ t49 t1;
-          slots = List._∷_ (Row.lease (κs .0) (qs .0)) (List._∷_ (Row.lease (κs .1 .0) (qs .1 .0)) (List._∷_ (Row.lease (κs .1 .1 .0) (qs .1 .1 .0)) (List._∷_ (Row.lease (κs
-              .1 .1 .1 .0) (qs .1 .1 .1 .0)) (List._∷_ Row.off (List._∷_ Row.off (List._∷_ Row.off (List._∷_ Row.off (List._∷_ Row.off (List._∷_ Row.off (List._∷_ Row.off (List._∷_ Row.off
-              List.[])))))))))));
-        }
-
-        abbrev G78 : Row.Cx
-        G78 = record {
-          locals = List._++_ t50 t1;
-          slots = List._∷_ (Row.lease (κs .0) (qs .0)) (List._∷_ (Row.lease (κs .1 .0) (qs .1 .0)) (List._∷_ (Row.lease (κs .1 .1 .0) (qs .1 .1 .0)) (List._∷_ (Row.lease (κs
-              .1 .1 .1 .0) (qs .1 .1 .1 .0)) (List._∷_ Row.off (List._∷_ Row.off (List._∷_ Row.off (List._∷_ Row.off (List._∷_ Row.off (List._∷_ Row.off (List._∷_ Row.off (List._∷_ Row.off
-              List.[])))))))))));
-        }
-
-        abbrev G79 : Row.Cx
-        G79 = record {
-          locals = List._++_ t51 t1;
-          slots = List._∷_ (Row.lease (κs .0) (qs .0)) (List._∷_ (Row.lease (κs .1 .0) (qs .1 .0)) (List._∷_ (Row.lease (κs .1 .1 .0) (qs .1 .1 .0)) (List._∷_ (Row.lease (κs
-              .1 .1 .1 .0) (qs .1 .1 .1 .0)) (List._∷_ Row.off (List._∷_ Row.off (List._∷_ Row.off (List._∷_ Row.off (List._∷_ Row.off (List._∷_ Row.off (List._∷_ Row.off (List._∷_ Row.off
-              List.[])))))))))));
-        }
-
-        abbrev G80 : Row.Cx
-        G80 = record {
-          locals = List._++_ t52 t1;
-          slots = List._∷_ (Row.lease (κs .0) (qs .0)) (List._∷_ (Row.lease (κs .1 .0) (qs .1 .0)) (List._∷_ (Row.lease (κs .1 .1 .0) (qs .1 .1 .0)) (List._∷_ (Row.lease (κs
-              .1 .1 .1 .0) (qs .1 .1 .1 .0)) (List._∷_ Row.off (List._∷_ Row.off (List._∷_ Row.off (List._∷_ Row.off (List._∷_ Row.off (List._∷_ Row.off (List._∷_ Row.off (List._∷_ Row.off
-              List.[])))))))))));
-        }
-
-        abbrev G81 : Row.Cx
-        G81 = record {
-          locals = List._++_ t53 t1;
-          slots = List._∷_ (Row.lease (κs .0) (qs .0)) (List._∷_ (Row.lease (κs .1 .0) (qs .1 .0)) (List._∷_ (Row.lease (κs .1 .1 .0) (qs .1 .1 .0)) (List._∷_ (Row.lease (κs
-              .1 .1 .1 .0) (qs .1 .1 .1 .0)) (List._∷_ Row.off (List._∷_ Row.off (List._∷_ Row.off (List._∷_ Row.off (List._∷_ Row.off (List._∷_ Row.off (List._∷_ Row.off (List._∷_ Row.off
-              List.[])))))))))));
-        }
-
-        abbrev G82 : Row.Cx
-        G82 = record {
-          locals = List._++_ t2 t1;
-          slots = List._∷_ (Row.lease (κs .0) (qs .0)) (List._∷_ (Row.lease (κs .1 .0) (qs .1 .0)) (List._∷_ (Row.lease (κs .1 .1 .0) (qs .1 .1 .0)) (List._∷_ (Row.lease (κs
-              .1 .1 .1 .0) (qs .1 .1 .1 .0)) (List._∷_ Row.off (List._∷_ Row.off (List._∷_ Row.off (List._∷_ Row.off (List._∷_ Row.off (List._∷_ Row.off (List._∷_ Row.off (List._∷_ Row.off
-              List.[])))))))))));
-        }
+        G74 = record { locals = List._++_ g45 t48; slots = Row.off ∷ k1 ∷ k2 ∷ k3 ∷ Row.off ∷ Row.off ∷ Row.off ∷ Row.off ∷ Row.off ∷ Row.off ∷ Row.off ∷ Row.dead ∷ [] }
 
         abbrev Δ0 : Typed.Outs
-        Δ0 = record { next = Option.none; exits = List.[]; returns = Option.some G1 }
+        Δ0 = record { next = Option.none; exits = []; returns = Option.some (on T1 l13) }
 
         module _ {M : Type 1} (𝓤 : URA.URA M) (H : Wp.Heap 𝓤) (A : Atoms.Atoms 𝓤) (W : Kit.Given 𝓤 H A) (𝓣 : Wp.Tables 𝓤 H) (known : Knowns 𝓤 H A W 𝓣) (bs : List.List Nat.ℕ) (bd : Lifetimes.AllOutlive
             4 (Kinds.osR r) κs) where
           abbrev E : Wp.Env 𝓤 H
-          E = Frame.EnvOf 𝓤 H (List._∷_ (Kinds.tyR r) (Enter.tysP ps xs)) bs
+          E = Frame.EnvOf 𝓤 H ((Kinds.tyR r) ∷ (Enter.tysP ps xs)) bs
 
-          d0 : Typed.Typed 𝓤 H A 𝓣 E G82 b27 Δ0 at0
+          d0 : Typed.Typed 𝓤 H A 𝓣 E (on T1 l13) b27 Δ0 at0
           d0 = Typed.t-return 𝓤 H A W 𝓣 E Δ0 tt
 
-          d1 : Typed.Typed 𝓤 H A 𝓣 E G81 b27 Δ0 at1
-          d1 = Typed.g-pre 𝓤 H A W 𝓣 E G81 G82 b27 Δ0 (Typed.pass T81 T82 s80) at0 (Scalar.g-room 𝓤 H A W E G81 6 (Syntax.tyInt Syntax.w64) (Scalar.room-sc 𝓤 H A W (Row.sInt Syntax.w64))) d0
+          d1 : Typed.Typed 𝓤 H A 𝓣 E (on T81 l13) b27 Δ0 at1
+          d1 = Typed.g-pre 𝓤 H A W 𝓣 E (on T81 l13) (on T1 l13) b27 Δ0 (Typed.pass T81 T1 s80) at0 (Scalar.g-room 𝓤 H A W E (on T81 l13) 6 u64 (Scalar.room-sc 𝓤 H A W (Row.sInt Syntax.w64))) d0
 
-          d2 : Typed.Typed 𝓤 H A 𝓣 E G80 b27 Δ0 at2
-          d2 = Typed.g-pre 𝓤 H A W 𝓣 E G80 G81 b27 Δ0 (Typed.pass T80 T81 s79) at1 (Scalar.g-room 𝓤 H A W E G80 5 (Syntax.tyInt Syntax.w64) (Scalar.room-sc 𝓤 H A W (Row.sInt Syntax.w64))) d1
+          d2 : Typed.Typed 𝓤 H A 𝓣 E (on T80 l13) b27 Δ0 at2
+          d2 = Typed.g-pre 𝓤 H A W 𝓣 E (on T80 l13) (on T81 l13) b27 Δ0 (Typed.pass T80 T81 s79) at1 (Scalar.g-room 𝓤 H A W E (on T80 l13) 5 u64 (Scalar.room-sc 𝓤 H A W (Row.sInt Syntax.w64))) d1
 
-          d3 : Typed.Typed 𝓤 H A 𝓣 E G79 b27 Δ0 at3
-          d3 = Typed.g-pre 𝓤 H A W 𝓣 E G79 G80 b27 Δ0 (Typed.pass T79 T80 s78) at2 (Scalar.g-room 𝓤 H A W E G79 4 (Syntax.tyInt Syntax.w64) (Scalar.room-sc 𝓤 H A W (Row.sInt Syntax.w64))) d2
+          d3 : Typed.Typed 𝓤 H A 𝓣 E (on T79 l13) b27 Δ0 at3
+          d3 = Typed.g-pre 𝓤 H A W 𝓣 E (on T79 l13) (on T80 l13) b27 Δ0 (Typed.pass T79 T80 s78) at2 (Scalar.g-room 𝓤 H A W E (on T79 l13) 4 u64 (Scalar.room-sc 𝓤 H A W (Row.sInt Syntax.w64))) d2
 
-          d4 : Typed.Typed 𝓤 H A 𝓣 E G78 b27 Δ0 at4
-          d4 = Typed.g-pre 𝓤 H A W 𝓣 E G78 G79 b27 Δ0 (Typed.pass T78 T79 s77) at3 (Scalar.g-room 𝓤 H A W E G78 9 Syntax.tyBool (Scalar.room-sc 𝓤 H A W Row.sBool)) d3
+          d4 : Typed.Typed 𝓤 H A 𝓣 E (on T78 l13) b27 Δ0 at4
+          d4 = Typed.g-pre 𝓤 H A W 𝓣 E (on T78 l13) (on T79 l13) b27 Δ0 (Typed.pass T78 T79 s77) at3 (Scalar.g-room 𝓤 H A W E (on T78 l13) 9 Syntax.tyBool (Scalar.room-sc 𝓤 H A W Row.sBool)) d3
 
-          d5 : Typed.Typed 𝓤 H A 𝓣 E G77 b28 Δ0 at5
-          d5 = Typed.s-seq 𝓤 H A W 𝓣 E G77 G78 b26 b27 Δ0 (Typed.pass T76 T78 s76) at4 (Scalar.t-use 𝓤 H A W E 𝓣 G77 Scalar.oUnit 0 (Rows.sc-here Row.sUnit) Syntax.tyUnit (Row.valS Row.sUnit)
-              (Row.sUnit .of) tt (Reads'.room-gone 𝓤 H A Syntax.tyUnit) (Scalar.holds-sc 𝓤 H A W Row.sUnit) Path'.refl (λ u. Path'.refl) λ u. tt) d4
+          d5 : Typed.Typed 𝓤 H A 𝓣 E (on T75 l13) b28 Δ0 at5
+          d5 = Typed.s-seq 𝓤 H A W 𝓣 E (on T75 l13) (on T78 l13) b26 b27 Δ0 (Typed.pass T75 T78 s76) at4 (Scalar.t-use 𝓤 H A W E 𝓣 (on T75 l13) Scalar.oUnit 0 (Rows.sc-here Row.sUnit) Syntax.tyUnit
+              (Row.valS Row.sUnit) (Row.sUnit .of) tt (Reads'.room-gone 𝓤 H A Syntax.tyUnit) (Scalar.holds-sc 𝓤 H A W Row.sUnit) Path'.refl (λ u. Path'.refl) λ u. tt) d4
 
-          d6 : Typed.Typed 𝓤 H A 𝓣 E G76 b28 Δ0 at6
-          d6 = Typed.g-pre 𝓤 H A W 𝓣 E G76 G77 b28 Δ0 (λ Ψ. Ψ) at5 (Lifetime.g-forget 𝓤 H A W E G76 11 Row.dead Path'.refl) d5
+          d6 : Typed.Typed 𝓤 H A 𝓣 E (on T75 l12) b28 Δ0 at5
+          d6 = Typed.g-pre 𝓤 H A W 𝓣 E (on T75 l12) (on T75 l13) b28 Δ0 (λ Ψ. Ψ) at5 (Lifetime.g-forget 𝓤 H A W E (on T75 l12) 11 Row.dead Path'.refl) d5
 
-          d7 : Typed.Typed 𝓤 H A 𝓣 E G75 b28 Δ0 at7
-          d7 = Typed.g-pre 𝓤 H A W 𝓣 E G75 G76 b28 Δ0 (Typed.give s74) at6 (Know.g-sl-known 𝓤 H A W (Referent.fInt Syntax.w8) E G75 1 0 (Syntax.tyRef (Syntax.named 0) Syntax.mut (Syntax.tyInt
-              Syntax.w8)) (Row.lease (κs .0) (qs .0)) 0 (λ x. x) record { fits = Dec'.lit< tt } (Reads'.as-is 𝓤 H A (Mut.mslice (Referent.rtF (Referent.fInt Syntax.w8)) (Syntax.tyRef (Syntax.named 0)
-              Syntax.mut (Syntax.tyInt Syntax.w8)) 0)) Path'.refl tt) d6
+          d7 : Typed.Typed 𝓤 H A 𝓣 E (on T75 l12) b28 Δ0 at7
+          d7 = Typed.g-pre 𝓤 H A W 𝓣 E (on T75 l12) (on T75 l12) b28 Δ0 (Typed.give s74) at5 (Know.g-sl-known 𝓤 H A W (Referent.fInt Syntax.w8) E (on T75 l12) 1 0 y1 k0 0 (λ x. x) record
+              { fits = Dec'.lit< tt } (Reads'.as-is 𝓤 H A (Mut.mslice n8 y1 0)) Path'.refl tt) d6
 
           d8 : Typed.Typed 𝓤 H A 𝓣 E G74 b28 Δ0 at8
-          d8 = Typed.g-pre 𝓤 H A W 𝓣 E G74 G75 b28 Δ0 (Typed.both s73) at7 (Relend.g-back-sl 𝓤 H A W E (Referent.rtF (Referent.fInt Syntax.w8)) G74 27 1 0 11 (Syntax.tyRef (Syntax.named 0) Syntax.mut
-              (Syntax.tyInt Syntax.w8)) (Syntax.tyRef Syntax.erased Syntax.mut (Syntax.tyInt Syntax.w8)) (Row.lease (κs .0) (qs .0)) (λ x. x) (λ x. x) (Reads'.as-is 𝓤 H A (Mut.msleft (Referent.rtF
-              (Referent.fInt Syntax.w8)) (Syntax.tyRef Syntax.erased Syntax.mut (Syntax.tyInt Syntax.w8)))) (Reads'.as-is 𝓤 H A (Relend.mslice-owed (Referent.rtF (Referent.fInt Syntax.w8)) (Syntax.tyRef
-              (Syntax.named 0) Syntax.mut (Syntax.tyInt Syntax.w8)) 0 11 (Row.lease (κs .0) (qs .0)))) Path'.refl Path'.refl) d7
+          d8 = Typed.g-pre 𝓤 H A W 𝓣 E G74 (on T75 l12) b28 Δ0 (Typed.both s73) at7 (Relend.g-back-sl 𝓤 H A W E n8 G74 27 1 0 11 y1 y6 k0 (λ x. x) (λ x. x) (Reads'.as-is 𝓤 H A (Mut.msleft n8 y6))
+              (Reads'.as-is 𝓤 H A (Relend.mslice-owed n8 y1 0 11 k0)) Path'.refl Path'.refl) d7
 
-          d9 : Typed.Typed 𝓤 H A 𝓣 E G73 b28 Δ0 at9
+          d9 : Typed.Typed 𝓤 H A 𝓣 E G73 b28 Δ0 at8
           d9 = Typed.g-pre 𝓤 H A W 𝓣 E G73 G74 b28 Δ0 (λ Ψ. Ψ) at8 (Lifetime.g-end 𝓤 H A W E G73 11 Path'.refl) d8
 
           d10 : Typed.Typed 𝓤 H A 𝓣 E G72 b28 Δ0 at10
-          d10 = Typed.g-pre 𝓤 H A W 𝓣 E G72 G73 b28 Δ0 (Typed.pass T72 T73 s71) at9 (Scalar.g-room 𝓤 H A W E G72 28 (Syntax.tyInt Syntax.w64) (Scalar.room-sc 𝓤 H A W (Row.sInt Syntax.w64))) d9
+          d10 = Typed.g-pre 𝓤 H A W 𝓣 E G72 G73 b28 Δ0 (Typed.pass T72 T73 s71) at8 (Scalar.g-room 𝓤 H A W E G72 28 u64 (Scalar.room-sc 𝓤 H A W (Row.sInt Syntax.w64))) d9
 
           d11 : Typed.Typed 𝓤 H A 𝓣 E G71 b28 Δ0 at11
           d11 = Typed.g-pre 𝓤 H A W 𝓣 E G71 G72 b28 Δ0 (Typed.pass T71 T72 s70) at10 (Scalar.g-room 𝓤 H A W E G71 10 Syntax.tyUnit (Scalar.room-sc 𝓤 H A W Row.sUnit)) d10
 
-          d12 : Typed.Typed 𝓤 H A 𝓣 E G70 b29 Δ0 at12
+          d12 : Typed.Typed 𝓤 H A 𝓣 E G70 (Syntax.seq b25 b28) Δ0 at12
           d12 = Typed.s-seq 𝓤 H A W 𝓣 E G70 G71 b25 b28 Δ0 (Typed.both s69) at11 (Plain.t-call-plain 𝓤 H A W 𝓣 2 ps·4 r·4 (claims· .8) (claims· .9) "checkpoint::store_lines" (known .4) E (λ pos β. β)
-              G70 (
-                record { pos = 27; ty = Syntax.tyRef Syntax.erased Syntax.mut (Syntax.tyInt Syntax.w8); ref = λ x. x },
-                (record { pos = 7; ty = Syntax.tyRef (Syntax.named 2) Syntax.imm (Syntax.tyInt Syntax.w16); ref = λ x. x }, (Num.vAt 28 λ x. x, tt)),
-              ) 10 (List._∷_ 11 (List._∷_ 2 List.[])) (Call.sub-id 𝓤 H
-              A W (G70 .slots)) (
-                Reads'.as-is 𝓤 H A (Mut.mslice (Referent.rtF (Referent.fInt Syntax.w8)) (Syntax.tyRef Syntax.erased Syntax.mut (Syntax.tyInt Syntax.w8)) 11),
-                Mut.reads-mslice 𝓤 H A W (Referent.rtF
-                    (Referent.fInt Syntax.w8)) (Syntax.tyRef Syntax.erased Syntax.mut (Syntax.tyInt Syntax.w8)) 11,
+              G70 (record { pos = 27; ty = y6; ref = λ x. x }, (record { pos = 7; ty = y3; ref = λ x. x }, (Num.vAt 28 λ x. x, tt))) 10 (11 ∷ 2 ∷ []) (Call.sub-id 𝓤 H A W (G70 .slots)) (
+                Reads'.as-is 𝓤 H A (Mut.mslice n8 y6 11),
+                Mut.reads-mslice 𝓤 H A W n8 y6 11,
                 Path'.refl,
-                (
-                  ShrSlice.spares-sslice 𝓤 H A W (Referent.rtF (Referent.fInt Syntax.w16)) (Syntax.tyRef (Syntax.named 2) Syntax.imm (Syntax.tyInt Syntax.w16)) 2,
-                  Shared.reads-sslice 𝓤 H A W (Referent.rtF
-                      (Referent.fInt Syntax.w16)) (Syntax.tyRef (Syntax.named 2) Syntax.imm (Syntax.tyInt Syntax.w16)) 2,
-                  Path'.refl,
-                  ((Scalar.reads-sc 𝓤 H A W (Row.sInt Syntax.w64), Path'.refl), tt),
-                ),
-              )
-              (Reads'.room-gone 𝓤 H A Syntax.tyUnit) (tt, (tt, tt)) Path'.refl) d11
+                (ShrSlice.spares-sslice 𝓤 H A W n16 y3 2, Shared.reads-sslice 𝓤 H A W n16 y3 2, Path'.refl, ((Scalar.reads-sc 𝓤 H A W (Row.sInt Syntax.w64), Path'.refl), tt)),
+              ) (Reads'.room-gone 𝓤 H A
+              Syntax.tyUnit) (tt, (tt, tt)) Path'.refl) d11
 
-          d13 : Typed.Typed 𝓤 H A 𝓣 E G69 b29 Δ0 at13
-          d13 = Typed.g-pre 𝓤 H A W 𝓣 E G69 G70 b29 Δ0 (Typed.pass T69 T70 s68) at12 (Scalar.g-room 𝓤 H A W E G69 3 y1 (Local.room-whole 𝓤 H A W (Declared.row FujiHeader.the-type) y1 Path'.refl)) d12
+          d13 : Typed.Typed 𝓤 H A 𝓣 E G69 (Syntax.seq b25 b28) Δ0 at13
+          d13 = Typed.g-pre 𝓤 H A W 𝓣 E G69 G70 (Syntax.seq b25 b28) Δ0 (Typed.pass T69 T70 s68) at12 (Scalar.g-room 𝓤 H A W E G69 3 y7 (Local.room-whole 𝓤 H A W (Declared.row FujiHeader.the-type) y7
+              Path'.refl)) d12
 
-          d14 : Typed.Typed 𝓤 H A 𝓣 E G68 b30 Δ0 at14
-          d14 = Typed.s-seq 𝓤 H A W 𝓣 E G68 G69 b24 b29 Δ0 (Typed.both s67) at13 (Plain.t-call-plain 𝓤 H A W 𝓣 0 ps·3 r·3 (claims· .6) (claims· .7) "map::width" (known .3) E (λ pos β. β) G68
-              (Bool.bFld 3 (List._∷_ (Syntax.field 1) List.[]) 1 λ x. FujiHeader.struct .as-values x .1 .0, tt) 28 List.[] (Call.sub-id 𝓤 H A W (G68 .slots))
-              ((Reads.reads-field 𝓤 H A W FujiHeader.the-type Laws'.the-laws 1 Syntax.tyBool 1 Path'.refl, Path'.refl), tt) (Reads'.room-gone 𝓤 H A (Syntax.tyInt Syntax.w64)) tt Path'.refl) d13
+          d14 : Typed.Typed 𝓤 H A 𝓣 E G68 (Syntax.seq b24 (Syntax.seq b25 b28)) Δ0 at14
+          d14 = Typed.s-seq 𝓤 H A W 𝓣 E G68 G69 b24 (Syntax.seq b25 b28) Δ0 (Typed.both s67) at13 (Plain.t-call-plain 𝓤 H A W 𝓣 0 ps·3 r·3 (claims· .6) (claims· .7) "map::width" (known .3) E (λ pos β.
+              β) G68 (Bool.bFld 3 ((Syntax.field 1) ∷ []) 1 λ x. FujiHeader.struct .as-values x .1 .0, tt) 28 [] (Call.sub-id 𝓤 H A W (G68 .slots))
+              ((Reads.reads-field 𝓤 H A W FujiHeader.the-type Laws'.the-laws 1 Syntax.tyBool 1 Path'.refl, Path'.refl), tt) (Reads'.room-gone 𝓤 H A u64) tt Path'.refl) d13
 
           d15 : Typed.Typed 𝓤 H A 𝓣 E G67 b31 Δ0 at15
-          d15 = Typed.s-seq 𝓤 H A W 𝓣 E G67 G68 b23 b30 Δ0 (Typed.ask s66) at14 (Relend.t-sl-aggregate 𝓤 H A W E (Referent.rtF (Referent.fInt Syntax.w8)) 𝓣 (Relend.asMut (Referent.rtF (Referent.fInt
-              Syntax.w8))) G67 26 27 11 (Syntax.tyRef Syntax.erased Syntax.mut (Syntax.tyInt Syntax.w8)) (Syntax.tyRef Syntax.erased Syntax.mut (Syntax.tyInt Syntax.w8)) (λ x. x) (Scalar.oFld 1 (List._∷_
-              (Syntax.field 1) List.[]) (Syntax.tyInt Syntax.w64) 8 λ v. Shared.lenV (v .0)) (Reads'.as-is 𝓤 H A (Relend.msptr (Referent.rtF (Referent.fInt Syntax.w8)) (Syntax.tyRef Syntax.erased
-              Syntax.mut (Syntax.tyInt Syntax.w8)) 11)) (Reads'.room-gone 𝓤 H A y2) (
-                Relend.reads-owed-len 𝓤 H A W (Referent.rtF (Referent.fInt Syntax.w8)) (Syntax.tyRef (Syntax.named 0) Syntax.mut (Syntax.tyInt Syntax.w8)) 0 11 (Row.lease (κs .0) (qs .0)) 8 Path'.refl,
-                Path'.refl,
-              ) Path'.refl Path'.refl λ b o k. tt) d14
+          d15 = Typed.s-seq 𝓤 H A W 𝓣 E G67 G68 b23 (Syntax.seq b24 (Syntax.seq b25 b28)) Δ0 (Typed.ask s66) at14 (Relend.t-sl-aggregate 𝓤 H A W E n8 𝓣 (Relend.asMut n8) G67 26 27 11 y6 y6 (λ x. x)
+              (Scalar.oFld 1 ((Syntax.field 1) ∷ []) u64 8 λ v. Shared.lenV (v .0)) (Reads'.as-is 𝓤 H A (Relend.msptr n8 y6 11)) (Reads'.room-gone 𝓤 H A y10)
+              (Relend.reads-owed-len 𝓤 H A W n8 y1 0 11 k0 8 Path'.refl, Path'.refl) Path'.refl Path'.refl λ b o k. tt) d14
 
           d16 : Typed.Typed 𝓤 H A 𝓣 E G66 b32 Δ0 at16
-          d16 = Typed.s-seq 𝓤 H A W 𝓣 E G66 G67 b22 b31 Δ0 (Typed.give s65) at15 (Relend.t-sl-relend 𝓤 H A W E (Referent.rtF (Referent.fInt Syntax.w8)) 𝓣 G66 1 26 0 11 (Syntax.tyRef (Syntax.named 0)
-              Syntax.mut (Syntax.tyInt Syntax.w8)) (Syntax.tyRef Syntax.erased Syntax.mut (Syntax.tyInt Syntax.w8)) (Row.lease (κs .0) (qs .0)) 0 (λ x. x) (Reads'.as-is 𝓤 H A (Mut.mslice (Referent.rtF
-              (Referent.fInt Syntax.w8)) (Syntax.tyRef (Syntax.named 0) Syntax.mut (Syntax.tyInt Syntax.w8)) 0)) (Reads'.room-gone 𝓤 H A (Syntax.tyRef Syntax.erased Syntax.mut (Syntax.tyInt Syntax.w8)))
-              Path'.refl tt Path'.refl Path'.refl Path'.refl λ b o. tt) d15
+          d16 = Typed.s-seq 𝓤 H A W 𝓣 E G66 G67 b22 b31 Δ0 (Typed.give s65) at15 (Relend.t-sl-relend 𝓤 H A W E n8 𝓣 G66 1 26 0 11 y1 y6 k0 0 (λ x. x) (Reads'.as-is 𝓤 H A (Mut.mslice n8 y1 0))
+              (Reads'.room-gone 𝓤 H A y6) Path'.refl tt Path'.refl Path'.refl Path'.refl λ b o. tt) d15
 
-          d17 : Typed.Typed 𝓤 H A 𝓣 E G65 b32 Δ0 at17
-          d17 = Typed.g-pre 𝓤 H A W 𝓣 E G65 G66 b32 Δ0 (λ Ψ. Ψ) at16 (Lifetime.g-begin 𝓤 H A W E G65 11
+          d17 : Typed.Typed 𝓤 H A 𝓣 E (on T5 l13) b32 Δ0 at16
+          d17 = Typed.g-pre 𝓤 H A W 𝓣 E (on T5 l13) G66 b32 Δ0 (λ Ψ. Ψ) at16 (Lifetime.g-begin 𝓤 H A W E (on T5 l13) 11
               (tt, (tt, (tt, (tt, (tt, (tt, (tt, (tt, (tt, (tt, (tt, (tt, (tt, (tt, (tt, (tt, (tt, (tt, (tt, (tt, (tt, (tt, (tt, (tt, (tt, (tt, (tt, (tt, (tt, tt)))))))))))))))))))))))))))))) d16
 
-          d18 : Typed.Typed 𝓤 H A 𝓣 E G64 b32 Δ0 at18
-          d18 = Typed.g-pre 𝓤 H A W 𝓣 E G64 G65 b32 Δ0 (λ Ψ. Ψ) at17 (Lifetime.g-forget 𝓤 H A W E G64 9 Row.dead Path'.refl) d17
+          d18 : Typed.Typed 𝓤 H A 𝓣 E (on T5 l11) b32 Δ0 at16
+          d18 = Typed.g-pre 𝓤 H A W 𝓣 E (on T5 l11) (on T5 l13) b32 Δ0 (λ Ψ. Ψ) at16 (Lifetime.g-forget 𝓤 H A W E (on T5 l11) 9 Row.dead Path'.refl) d17
 
-          d19 : Typed.Typed 𝓤 H A 𝓣 E G63 b32 Δ0 at19
-          d19 = Typed.g-pre 𝓤 H A W 𝓣 E G63 G64 b32 Δ0 (Typed.give s62) at18 (Know.g-sl-known 𝓤 H A W (Referent.fInt Syntax.w8) E G63 1 0 (Syntax.tyRef (Syntax.named 0) Syntax.mut (Syntax.tyInt
-              Syntax.w8)) (Row.lease (κs .0) (qs .0)) 0 (λ x. x) record { fits = Dec'.lit< tt } (Reads'.as-is 𝓤 H A (Mut.mslice (Referent.rtF (Referent.fInt Syntax.w8)) (Syntax.tyRef (Syntax.named 0)
-              Syntax.mut (Syntax.tyInt Syntax.w8)) 0)) Path'.refl tt) d18
+          d19 : Typed.Typed 𝓤 H A 𝓣 E (on T5 l11) b32 Δ0 at19
+          d19 = Typed.g-pre 𝓤 H A W 𝓣 E (on T5 l11) (on T5 l11) b32 Δ0 (Typed.give s62) at16 (Know.g-sl-known 𝓤 H A W (Referent.fInt Syntax.w8) E (on T5 l11) 1 0 y1 k0 0 (λ x. x) record
+              { fits = Dec'.lit< tt } (Reads'.as-is 𝓤 H A (Mut.mslice n8 y1 0)) Path'.refl tt) d18
 
           d20 : Typed.Typed 𝓤 H A 𝓣 E G62 b32 Δ0 at20
-          d20 = Typed.g-pre 𝓤 H A W 𝓣 E G62 G63 b32 Δ0 (Typed.both s61) at19 (Relend.g-back-sl 𝓤 H A W E (Referent.rtF (Referent.fInt Syntax.w8)) G62 23 1 0 9 (Syntax.tyRef (Syntax.named 0) Syntax.mut
-              (Syntax.tyInt Syntax.w8)) (Syntax.tyRef Syntax.erased Syntax.mut (Syntax.tyInt Syntax.w8)) (Row.lease (κs .0) (qs .0)) (λ x. x) (λ x. x) (Reads'.as-is 𝓤 H A (Mut.msleft (Referent.rtF
-              (Referent.fInt Syntax.w8)) (Syntax.tyRef Syntax.erased Syntax.mut (Syntax.tyInt Syntax.w8)))) (Reads'.as-is 𝓤 H A (Relend.mslice-owed (Referent.rtF (Referent.fInt Syntax.w8)) (Syntax.tyRef
-              (Syntax.named 0) Syntax.mut (Syntax.tyInt Syntax.w8)) 0 9 (Row.lease (κs .0) (qs .0)))) Path'.refl Path'.refl) d19
+          d20 = Typed.g-pre 𝓤 H A W 𝓣 E G62 (on T5 l11) b32 Δ0 (Typed.both s61) at19 (Relend.g-back-sl 𝓤 H A W E n8 G62 23 1 0 9 y1 y6 k0 (λ x. x) (λ x. x) (Reads'.as-is 𝓤 H A (Mut.msleft n8 y6))
+              (Reads'.as-is 𝓤 H A (Relend.mslice-owed n8 y1 0 9 k0)) Path'.refl Path'.refl) d19
 
-          d21 : Typed.Typed 𝓤 H A 𝓣 E G61 b32 Δ0 at21
+          d21 : Typed.Typed 𝓤 H A 𝓣 E G61 b32 Δ0 at20
           d21 = Typed.g-pre 𝓤 H A W 𝓣 E G61 G62 b32 Δ0 (λ Ψ. Ψ) at20 (Lifetime.g-end 𝓤 H A W E G61 9 Path'.refl) d20
 
           d22 : Typed.Typed 𝓤 H A 𝓣 E G60 b32 Δ0 at22
-          d22 = Typed.g-pre 𝓤 H A W 𝓣 E G60 G61 b32 Δ0 (Typed.pass T60 T61 s59) at21 (Scalar.g-room 𝓤 H A W E G60 15 y0 (Local.room-whole 𝓤 H A W (Declared.row Set.the-type) y0 Path'.refl)) d21
+          d22 = Typed.g-pre 𝓤 H A W 𝓣 E G60 G61 b32 Δ0 (Typed.pass T60 T61 s59) at20 (Scalar.g-room 𝓤 H A W E G60 15 y8 (Local.room-whole 𝓤 H A W (Declared.row Set.the-type) y8 Path'.refl)) d21
 
           d23 : Typed.Typed 𝓤 H A 𝓣 E G59 b32 Δ0 at23
           d23 = Typed.g-pre 𝓤 H A W 𝓣 E G59 G60 b32 Δ0 (Typed.pass T59 T60 s58) at22 (Scalar.g-room 𝓤 H A W E G59 10 Syntax.tyUnit (Scalar.room-sc 𝓤 H A W Row.sUnit)) d22
 
           d24 : Typed.Typed 𝓤 H A 𝓣 E G58 b33 Δ0 at24
           d24 = Typed.s-seq 𝓤 H A W 𝓣 E G58 G59 b21 b32 Δ0 (Typed.both s57) at23 (Plain.t-call-plain 𝓤 H A W 𝓣 1 ps·2 r·2 (claims· .4) (claims· .5) "checkpoint::store_set" (known .2) E (λ pos β. β)
-              G58 (
-                record { pos = 23; ty = Syntax.tyRef Syntax.erased Syntax.mut (Syntax.tyInt Syntax.w8); ref = λ x. x },
-                (Num.vLit 2, (record { pos = 15; st = List.[]; d = 0; at = λ x. x }, (Bool.bAt 9 λ x. x, tt))),
-              ) 10 (List._∷_ 9 List.[]) (Call.sub-id 𝓤 H A W (G58 .slots)) (
-                Reads'.as-is 𝓤 H A (Mut.mslice (Referent.rtF (Referent.fInt Syntax.w8)) (Syntax.tyRef Syntax.erased Syntax.mut (Syntax.tyInt Syntax.w8)) 9),
-                Mut.reads-mslice 𝓤 H A W (Referent.rtF
-                    (Referent.fInt Syntax.w8)) (Syntax.tyRef Syntax.erased Syntax.mut (Syntax.tyInt Syntax.w8)) 9,
+              G58 (record { pos = 23; ty = y6; ref = λ x. x }, (Num.vLit 2, (record { pos = 15; st = []; d = 0; at = λ x. x }, (Bool.bAt 9 λ x. x, tt)))) 10 (9 ∷ []) (Call.sub-id 𝓤 H A W (G58 .slots)) (
+                Reads'.as-is 𝓤 H A (Mut.mslice n8 y6 9),
+                Mut.reads-mslice 𝓤 H A W n8 y6 9,
                 Path'.refl,
-                (
-                  tt,
-                  (
-                    (
-                      Yields.yields-copy 𝓤 H A W (λ ρ. Unit) (Declared.row Set.the-type) Path'.refl (Copies.cStruct Set.the-type Laws.the-laws Laws.the-copy .copy 𝓤 H A W) (Rows.whole (Declared.row
-                          Set.the-type)) (λ x. x) (λ x. x) (λ ρ told. Local.mem-whole 𝓤 H A W (Declared.row Set.the-type) ρ) λ ρ told. Local.whole-mem 𝓤 H A W (Declared.row Set.the-type) ρ,
-                      Path'.refl,
-                    ),
-                    ((Scalar.reads-sc 𝓤 H A W Row.sBool, Path'.refl), tt),
-                  ),
-                ),
-              ) (Reads'.room-gone 𝓤 H A Syntax.tyUnit) (tt, tt) Path'.refl) d23
+                (tt, ((Values.struct-copied 𝓤 H A W Set.the-type Laws.the-laws Laws.the-copy, Path'.refl), ((Scalar.reads-sc 𝓤 H A W Row.sBool, Path'.refl), tt))),
+              ) (Reads'.room-gone 𝓤 H A Syntax.tyUnit)
+              (tt, tt) Path'.refl) d23
 
-          d25 : Typed.Typed 𝓤 H A 𝓣 E G57 b33 Δ0 at25
+          d25 : Typed.Typed 𝓤 H A 𝓣 E G57 b33 Δ0 at24
           d25 = Typed.g-pre 𝓤 H A W 𝓣 E G57 G58 b33 Δ0 (λ Ψ. Ψ) at24 (Lifetime.g-forget 𝓤 H A W E G57 10 Row.dead Path'.refl) d24
 
           d26 : Typed.Typed 𝓤 H A 𝓣 E G56 b33 Δ0 at26
-          d26 = Typed.g-pre 𝓤 H A W 𝓣 E G56 G57 b33 Δ0 (Typed.both s55) at25 (Relend.g-back-sl 𝓤 H A W E (Element.type) G56 25 8 3 10 (Syntax.tyRef (Syntax.named 3) Syntax.mut Element.behind)
-              (Syntax.tyRef Syntax.erased Syntax.mut Element.behind) (Row.lease (κs .1 .1 .1 .0) (qs .1 .1 .1 .0)) (λ x. x) (λ x. x) (Reads'.as-is 𝓤 H A (Mut.msleft (Element.type) (Syntax.tyRef
-              Syntax.erased Syntax.mut Element.behind))) (Reads'.as-is 𝓤 H A (Relend.mslice-owed (Element.type) (Syntax.tyRef (Syntax.named 3) Syntax.mut Element.behind) 3 10 (Row.lease (κs .1 .1 .1 .0)
-              (qs .1 .1 .1 .0)))) Path'.refl Path'.refl) d25
+          d26 = Typed.g-pre 𝓤 H A W 𝓣 E G56 G57 b33 Δ0 (Typed.both s55) at24 (Relend.g-back-sl 𝓤 H A W E (Element.type) G56 25 8 3 10 y4 y5 k3 (λ x. x) (λ x. x) (Reads'.as-is 𝓤 H A (Mut.msleft
+              (Element.type) y5)) (Reads'.as-is 𝓤 H A (Relend.mslice-owed (Element.type) y4 3 10 k3)) Path'.refl Path'.refl) d25
 
-          d27 : Typed.Typed 𝓤 H A 𝓣 E G55 b33 Δ0 at27
+          d27 : Typed.Typed 𝓤 H A 𝓣 E G55 b33 Δ0 at26
           d27 = Typed.g-pre 𝓤 H A W 𝓣 E G55 G56 b33 Δ0 (λ Ψ. Ψ) at26 (Lifetime.g-end 𝓤 H A W E G55 10 Path'.refl) d26
 
-          d28 : Typed.Typed 𝓤 H A 𝓣 E G54 b34 Δ0 at28
-          d28 = Typed.s-seq 𝓤 H A W 𝓣 E G54 G55 b20 b33 Δ0 (Typed.both s53) at27 (Plain.t-call-plain 𝓤 H A W 𝓣 1 ps·1 r·1 (claims· .2) (claims· .3) "block::records::load_set" (known .1) E (λ pos β. β)
-              G54 (record { pos = 25; ty = Syntax.tyRef Syntax.erased Syntax.mut Element.behind; ref = λ x. x }, (Num.vLit 2, tt)) 15 (List._∷_ 10 List.[]) (Call.sub-id 𝓤 H A W (G54 .slots)) (
-                Reads'.as-is 𝓤 H A (Mut.mslice (Element.type) (Syntax.tyRef Syntax.erased Syntax.mut Element.behind) 10),
-                Mut.reads-mslice 𝓤 H A W (Element.type) (Syntax.tyRef Syntax.erased Syntax.mut
-                    Element.behind) 10,
-                Path'.refl,
-                (tt, tt),
-              ) (Reads'.room-gone 𝓤 H A y0) (tt, tt) Path'.refl) d27
+          d28 : Typed.Typed 𝓤 H A 𝓣 E G54 (Syntax.seq b20 b33) Δ0 at28
+          d28 = Typed.s-seq 𝓤 H A W 𝓣 E G54 G55 b20 b33 Δ0 (Typed.both s53) at26 (Plain.t-call-plain 𝓤 H A W 𝓣 1 ps·1 r·1 (claims· .2) (claims· .3) "block::records::load_set" (known .1) E (λ pos β. β)
+              G54 (record { pos = 25; ty = y5; ref = λ x. x }, (Num.vLit 2, tt)) 15 (10 ∷ []) (Call.sub-id 𝓤 H A W (G54 .slots))
+              (Reads'.as-is 𝓤 H A (Mut.mslice (Element.type) y5 10), Mut.reads-mslice 𝓤 H A W (Element.type) y5 10, Path'.refl, (tt, tt)) (Reads'.room-gone 𝓤 H A y8) (tt, tt) Path'.refl) d27
 
-          d29 : Typed.Typed 𝓤 H A 𝓣 E G53 b35 Δ0 at29
-          d29 = Typed.s-seq 𝓤 H A W 𝓣 E G53 G54 b19 b34 Δ0 (Typed.ask s52) at28 (Relend.t-sl-aggregate 𝓤 H A W E (Element.type) 𝓣 (Relend.asMut (Element.type)) G53 24 25 10 (Syntax.tyRef Syntax.erased
-              Syntax.mut Element.behind) (Syntax.tyRef Syntax.erased Syntax.mut Element.behind) (λ x. x) (Scalar.oFld 8 (List._∷_ (Syntax.field 1) List.[]) (Syntax.tyInt Syntax.w64) 8 λ v. Shared.lenV (v
-              .0)) (Reads'.as-is 𝓤 H A (Relend.msptr (Element.type) (Syntax.tyRef Syntax.erased Syntax.mut Element.behind) 10)) (Reads'.room-gone 𝓤 H A y3)
-              (Relend.reads-owed-len 𝓤 H A W (Element.type) (Syntax.tyRef (Syntax.named 3) Syntax.mut Element.behind) 3 10 (Row.lease (κs .1 .1 .1 .0) (qs .1 .1 .1 .0)) 8 Path'.refl, Path'.refl)
-              Path'.refl Path'.refl λ b o k. tt) d28
+          d29 : Typed.Typed 𝓤 H A 𝓣 E G53 (Syntax.seq b19 (Syntax.seq b20 b33)) Δ0 at29
+          d29 = Typed.s-seq 𝓤 H A W 𝓣 E G53 G54 b19 (Syntax.seq b20 b33) Δ0 (Typed.ask s52) at28 (Relend.t-sl-aggregate 𝓤 H A W E (Element.type) 𝓣 (Relend.asMut (Element.type)) G53 24 25 10 y5 y5 (λ
+              x. x) (Scalar.oFld 8 ((Syntax.field 1) ∷ []) u64 8 λ v. Shared.lenV (v .0)) (Reads'.as-is 𝓤 H A (Relend.msptr (Element.type) y5 10)) (Reads'.room-gone 𝓤 H A y9)
+              (Relend.reads-owed-len 𝓤 H A W (Element.type) y4 3 10 k3 8 Path'.refl, Path'.refl) Path'.refl Path'.refl λ b o k. tt) d28
 
           d30 : Typed.Typed 𝓤 H A 𝓣 E G52 b36 Δ0 at30
-          d30 = Typed.s-seq 𝓤 H A W 𝓣 E G52 G53 b18 b35 Δ0 (Typed.give s51) at29 (Relend.t-sl-relend 𝓤 H A W E (Element.type) 𝓣 G52 8 24 3 10 (Syntax.tyRef (Syntax.named 3) Syntax.mut Element.behind)
-              (Syntax.tyRef Syntax.erased Syntax.mut Element.behind) (Row.lease (κs .1 .1 .1 .0) (qs .1 .1 .1 .0)) 0 (λ x. x) (Reads'.as-is 𝓤 H A (Mut.mslice (Element.type) (Syntax.tyRef (Syntax.named 3)
-              Syntax.mut Element.behind) 3)) (Reads'.room-gone 𝓤 H A (Syntax.tyRef Syntax.erased Syntax.mut Element.behind)) Path'.refl tt Path'.refl Path'.refl Path'.refl λ b o. tt) d29
+          d30 = Typed.s-seq 𝓤 H A W 𝓣 E G52 G53 b18 (Syntax.seq b19 (Syntax.seq b20 b33)) Δ0 (Typed.give s51) at29 (Relend.t-sl-relend 𝓤 H A W E (Element.type) 𝓣 G52 8 24 3 10 y4 y5 k3 0 (λ x. x)
+              (Reads'.as-is 𝓤 H A (Mut.mslice (Element.type) y4 3)) (Reads'.room-gone 𝓤 H A y5) Path'.refl tt Path'.refl Path'.refl Path'.refl λ b o. tt) d29
 
-          d31 : Typed.Typed 𝓤 H A 𝓣 E G51 b36 Δ0 at31
+          d31 : Typed.Typed 𝓤 H A 𝓣 E G51 b36 Δ0 at30
           d31 = Typed.g-pre 𝓤 H A W 𝓣 E G51 G52 b36 Δ0 (λ Ψ. Ψ) at30 (Lifetime.g-begin 𝓤 H A W E G51 10
               (tt, ((tt, tt), (tt, (tt, (tt, (tt, (tt, (tt, (tt, (tt, (tt, (tt, (tt, (tt, (tt, (tt, (tt, (tt, (tt, (tt, (tt, (tt, (tt, (tt, (tt, (tt, (tt, (tt, (tt, tt)))))))))))))))))))))))))))))) d30
 
-          d32 : Typed.Typed 𝓤 H A 𝓣 E G50 b37 Δ0 at32
-          d32 = Typed.s-seq 𝓤 H A W 𝓣 E G50 G51 b17 b36 Δ0 (Typed.ask s49) at31 (Relend.t-sl-aggregate 𝓤 H A W E (Referent.rtF (Referent.fInt Syntax.w8)) 𝓣 (Relend.asMut (Referent.rtF (Referent.fInt
-              Syntax.w8))) G50 22 23 9 (Syntax.tyRef Syntax.erased Syntax.mut (Syntax.tyInt Syntax.w8)) (Syntax.tyRef Syntax.erased Syntax.mut (Syntax.tyInt Syntax.w8)) (λ x. x) (Scalar.oFld 1 (List._∷_
-              (Syntax.field 1) List.[]) (Syntax.tyInt Syntax.w64) 8 λ v. Shared.lenV (v .0)) (Reads'.as-is 𝓤 H A (Relend.msptr (Referent.rtF (Referent.fInt Syntax.w8)) (Syntax.tyRef Syntax.erased
-              Syntax.mut (Syntax.tyInt Syntax.w8)) 9)) (Reads'.room-gone 𝓤 H A y2) (
-                Relend.reads-owed-len 𝓤 H A W (Referent.rtF (Referent.fInt Syntax.w8)) (Syntax.tyRef (Syntax.named 0) Syntax.mut (Syntax.tyInt Syntax.w8)) 0 9 (Row.lease (κs .0) (qs .0)) 8 Path'.refl,
-                Path'.refl,
-              ) Path'.refl Path'.refl λ b o k. tt) d31
+          d32 : Typed.Typed 𝓤 H A 𝓣 E G50 (Syntax.seq b17 b36) Δ0 at32
+          d32 = Typed.s-seq 𝓤 H A W 𝓣 E G50 G51 b17 b36 Δ0 (Typed.ask s49) at30 (Relend.t-sl-aggregate 𝓤 H A W E n8 𝓣 (Relend.asMut n8) G50 22 23 9 y6 y6 (λ x. x) (Scalar.oFld 1 ((Syntax.field 1) ∷
+              []) u64 8 λ v. Shared.lenV (v .0)) (Reads'.as-is 𝓤 H A (Relend.msptr n8 y6 9)) (Reads'.room-gone 𝓤 H A y10) (Relend.reads-owed-len 𝓤 H A W n8 y1 0 9 k0 8 Path'.refl, Path'.refl) Path'.refl
+              Path'.refl λ b o k. tt) d31
 
           d33 : Typed.Typed 𝓤 H A 𝓣 E G49 b38 Δ0 at33
-          d33 = Typed.s-seq 𝓤 H A W 𝓣 E G49 G50 b16 b37 Δ0 (Typed.give s48) at32 (Relend.t-sl-relend 𝓤 H A W E (Referent.rtF (Referent.fInt Syntax.w8)) 𝓣 G49 1 22 0 9 (Syntax.tyRef (Syntax.named 0)
-              Syntax.mut (Syntax.tyInt Syntax.w8)) (Syntax.tyRef Syntax.erased Syntax.mut (Syntax.tyInt Syntax.w8)) (Row.lease (κs .0) (qs .0)) 0 (λ x. x) (Reads'.as-is 𝓤 H A (Mut.mslice (Referent.rtF
-              (Referent.fInt Syntax.w8)) (Syntax.tyRef (Syntax.named 0) Syntax.mut (Syntax.tyInt Syntax.w8)) 0)) (Reads'.room-gone 𝓤 H A (Syntax.tyRef Syntax.erased Syntax.mut (Syntax.tyInt Syntax.w8)))
-              Path'.refl tt Path'.refl Path'.refl Path'.refl λ b o. tt) d32
+          d33 = Typed.s-seq 𝓤 H A W 𝓣 E G49 G50 b16 (Syntax.seq b17 b36) Δ0 (Typed.give s48) at32 (Relend.t-sl-relend 𝓤 H A W E n8 𝓣 G49 1 22 0 9 y1 y6 k0 0 (λ x. x) (Reads'.as-is 𝓤 H A (Mut.mslice n8
+              y1 0)) (Reads'.room-gone 𝓤 H A y6) Path'.refl tt Path'.refl Path'.refl Path'.refl λ b o. tt) d32
 
-          d34 : Typed.Typed 𝓤 H A 𝓣 E G48 b38 Δ0 at34
-          d34 = Typed.g-pre 𝓤 H A W 𝓣 E G48 G49 b38 Δ0 (λ Ψ. Ψ) at33 (Lifetime.g-begin 𝓤 H A W E G48 9
+          d34 : Typed.Typed 𝓤 H A 𝓣 E (on T5 l13) b38 Δ0 at33
+          d34 = Typed.g-pre 𝓤 H A W 𝓣 E (on T5 l13) G49 b38 Δ0 (λ Ψ. Ψ) at33 (Lifetime.g-begin 𝓤 H A W E (on T5 l13) 9
               (tt, (tt, (tt, (tt, (tt, (tt, (tt, (tt, (tt, (tt, (tt, (tt, (tt, (tt, (tt, (tt, (tt, (tt, (tt, (tt, (tt, (tt, (tt, (tt, (tt, (tt, (tt, (tt, (tt, tt)))))))))))))))))))))))))))))) d33
 
-          d35 : Typed.Typed 𝓤 H A 𝓣 E G47 b38 Δ0 at35
-          d35 = Typed.g-pre 𝓤 H A W 𝓣 E G47 G48 b38 Δ0 (λ Ψ. Ψ) at34 (Lifetime.g-forget 𝓤 H A W E G47 7 Row.dead Path'.refl) d34
+          d35 : Typed.Typed 𝓤 H A 𝓣 E (on T5 l10) b38 Δ0 at33
+          d35 = Typed.g-pre 𝓤 H A W 𝓣 E (on T5 l10) (on T5 l13) b38 Δ0 (λ Ψ. Ψ) at33 (Lifetime.g-forget 𝓤 H A W E (on T5 l10) 7 Row.dead Path'.refl) d34
 
-          d36 : Typed.Typed 𝓤 H A 𝓣 E G46 b38 Δ0 at36
-          d36 = Typed.g-pre 𝓤 H A W 𝓣 E G46 G47 b38 Δ0 (Typed.give s45) at35 (Know.g-sl-known 𝓤 H A W (Referent.fInt Syntax.w8) E G46 1 0 (Syntax.tyRef (Syntax.named 0) Syntax.mut (Syntax.tyInt
-              Syntax.w8)) (Row.lease (κs .0) (qs .0)) 0 (λ x. x) record { fits = Dec'.lit< tt } (Reads'.as-is 𝓤 H A (Mut.mslice (Referent.rtF (Referent.fInt Syntax.w8)) (Syntax.tyRef (Syntax.named 0)
-              Syntax.mut (Syntax.tyInt Syntax.w8)) 0)) Path'.refl tt) d35
+          d36 : Typed.Typed 𝓤 H A 𝓣 E (on T5 l10) b38 Δ0 at36
+          d36 = Typed.g-pre 𝓤 H A W 𝓣 E (on T5 l10) (on T5 l10) b38 Δ0 (Typed.give s45) at33 (Know.g-sl-known 𝓤 H A W (Referent.fInt Syntax.w8) E (on T5 l10) 1 0 y1 k0 0 (λ x. x) record
+              { fits = Dec'.lit< tt } (Reads'.as-is 𝓤 H A (Mut.mslice n8 y1 0)) Path'.refl tt) d35
 
           d37 : Typed.Typed 𝓤 H A 𝓣 E G45 b38 Δ0 at37
-          d37 = Typed.g-pre 𝓤 H A W 𝓣 E G45 G46 b38 Δ0 (Typed.both s44) at36 (Relend.g-back-sl 𝓤 H A W E (Referent.rtF (Referent.fInt Syntax.w8)) G45 19 1 0 7 (Syntax.tyRef (Syntax.named 0) Syntax.mut
-              (Syntax.tyInt Syntax.w8)) (Syntax.tyRef Syntax.erased Syntax.mut (Syntax.tyInt Syntax.w8)) (Row.lease (κs .0) (qs .0)) (λ x. x) (λ x. x) (Reads'.as-is 𝓤 H A (Mut.msleft (Referent.rtF
-              (Referent.fInt Syntax.w8)) (Syntax.tyRef Syntax.erased Syntax.mut (Syntax.tyInt Syntax.w8)))) (Reads'.as-is 𝓤 H A (Relend.mslice-owed (Referent.rtF (Referent.fInt Syntax.w8)) (Syntax.tyRef
-              (Syntax.named 0) Syntax.mut (Syntax.tyInt Syntax.w8)) 0 7 (Row.lease (κs .0) (qs .0)))) Path'.refl Path'.refl) d36
+          d37 = Typed.g-pre 𝓤 H A W 𝓣 E G45 (on T5 l10) b38 Δ0 (Typed.both s44) at36 (Relend.g-back-sl 𝓤 H A W E n8 G45 19 1 0 7 y1 y6 k0 (λ x. x) (λ x. x) (Reads'.as-is 𝓤 H A (Mut.msleft n8 y6))
+              (Reads'.as-is 𝓤 H A (Relend.mslice-owed n8 y1 0 7 k0)) Path'.refl Path'.refl) d36
 
-          d38 : Typed.Typed 𝓤 H A 𝓣 E G44 b38 Δ0 at38
+          d38 : Typed.Typed 𝓤 H A 𝓣 E G44 b38 Δ0 at37
           d38 = Typed.g-pre 𝓤 H A W 𝓣 E G44 G45 b38 Δ0 (λ Ψ. Ψ) at37 (Lifetime.g-end 𝓤 H A W E G44 7 Path'.refl) d37
 
           d39 : Typed.Typed 𝓤 H A 𝓣 E G43 b38 Δ0 at39
-          d39 = Typed.g-pre 𝓤 H A W 𝓣 E G43 G44 b38 Δ0 (Typed.pass T43 T44 s42) at38 (Scalar.g-room 𝓤 H A W E G43 15 y0 (Local.room-whole 𝓤 H A W (Declared.row Set.the-type) y0 Path'.refl)) d38
+          d39 = Typed.g-pre 𝓤 H A W 𝓣 E G43 G44 b38 Δ0 (Typed.pass T43 T44 s42) at37 (Scalar.g-room 𝓤 H A W E G43 15 y8 (Local.room-whole 𝓤 H A W (Declared.row Set.the-type) y8 Path'.refl)) d38
 
           d40 : Typed.Typed 𝓤 H A 𝓣 E G42 b38 Δ0 at40
           d40 = Typed.g-pre 𝓤 H A W 𝓣 E G42 G43 b38 Δ0 (Typed.pass T42 T43 s41) at39 (Scalar.g-room 𝓤 H A W E G42 10 Syntax.tyUnit (Scalar.room-sc 𝓤 H A W Row.sUnit)) d39
 
           d41 : Typed.Typed 𝓤 H A 𝓣 E G41 b39 Δ0 at41
           d41 = Typed.s-seq 𝓤 H A W 𝓣 E G41 G42 b15 b38 Δ0 (Typed.both s40) at40 (Plain.t-call-plain 𝓤 H A W 𝓣 1 ps·2 r·2 (claims· .4) (claims· .5) "checkpoint::store_set" (known .2) E (λ pos β. β)
-              G41 (
-                record { pos = 19; ty = Syntax.tyRef Syntax.erased Syntax.mut (Syntax.tyInt Syntax.w8); ref = λ x. x },
-                (Num.vLit 1, (record { pos = 15; st = List.[]; d = 0; at = λ x. x }, (Bool.bAt 9 λ x. x, tt))),
-              ) 10 (List._∷_ 7 List.[]) (Call.sub-id 𝓤 H A W (G41 .slots)) (
-                Reads'.as-is 𝓤 H A (Mut.mslice (Referent.rtF (Referent.fInt Syntax.w8)) (Syntax.tyRef Syntax.erased Syntax.mut (Syntax.tyInt Syntax.w8)) 7),
-                Mut.reads-mslice 𝓤 H A W (Referent.rtF
-                    (Referent.fInt Syntax.w8)) (Syntax.tyRef Syntax.erased Syntax.mut (Syntax.tyInt Syntax.w8)) 7,
+              G41 (record { pos = 19; ty = y6; ref = λ x. x }, (Num.vLit 1, (record { pos = 15; st = []; d = 0; at = λ x. x }, (Bool.bAt 9 λ x. x, tt)))) 10 (7 ∷ []) (Call.sub-id 𝓤 H A W (G41 .slots)) (
+                Reads'.as-is 𝓤 H A (Mut.mslice n8 y6 7),
+                Mut.reads-mslice 𝓤 H A W n8 y6 7,
                 Path'.refl,
-                (
-                  tt,
-                  (
-                    (
-                      Yields.yields-copy 𝓤 H A W (λ ρ. Unit) (Declared.row Set.the-type) Path'.refl (Copies.cStruct Set.the-type Laws.the-laws Laws.the-copy .copy 𝓤 H A W) (Rows.whole (Declared.row
-                          Set.the-type)) (λ x. x) (λ x. x) (λ ρ told. Local.mem-whole 𝓤 H A W (Declared.row Set.the-type) ρ) λ ρ told. Local.whole-mem 𝓤 H A W (Declared.row Set.the-type) ρ,
-                      Path'.refl,
-                    ),
-                    ((Scalar.reads-sc 𝓤 H A W Row.sBool, Path'.refl), tt),
-                  ),
-                ),
-              ) (Reads'.room-gone 𝓤 H A Syntax.tyUnit) (tt, tt) Path'.refl) d40
+                (tt, ((Values.struct-copied 𝓤 H A W Set.the-type Laws.the-laws Laws.the-copy, Path'.refl), ((Scalar.reads-sc 𝓤 H A W Row.sBool, Path'.refl), tt))),
+              ) (Reads'.room-gone 𝓤 H A Syntax.tyUnit)
+              (tt, tt) Path'.refl) d40
 
-          d42 : Typed.Typed 𝓤 H A 𝓣 E G40 b39 Δ0 at42
+          d42 : Typed.Typed 𝓤 H A 𝓣 E G40 b39 Δ0 at41
           d42 = Typed.g-pre 𝓤 H A W 𝓣 E G40 G41 b39 Δ0 (λ Ψ. Ψ) at41 (Lifetime.g-forget 𝓤 H A W E G40 8 Row.dead Path'.refl) d41
 
           d43 : Typed.Typed 𝓤 H A 𝓣 E G39 b39 Δ0 at43
-          d43 = Typed.g-pre 𝓤 H A W 𝓣 E G39 G40 b39 Δ0 (Typed.both s38) at42 (Relend.g-back-sl 𝓤 H A W E (Element.type) G39 21 8 3 8 (Syntax.tyRef (Syntax.named 3) Syntax.mut Element.behind)
-              (Syntax.tyRef Syntax.erased Syntax.mut Element.behind) (Row.lease (κs .1 .1 .1 .0) (qs .1 .1 .1 .0)) (λ x. x) (λ x. x) (Reads'.as-is 𝓤 H A (Mut.msleft (Element.type) (Syntax.tyRef
-              Syntax.erased Syntax.mut Element.behind))) (Reads'.as-is 𝓤 H A (Relend.mslice-owed (Element.type) (Syntax.tyRef (Syntax.named 3) Syntax.mut Element.behind) 3 8 (Row.lease (κs .1 .1 .1 .0)
-              (qs .1 .1 .1 .0)))) Path'.refl Path'.refl) d42
+          d43 = Typed.g-pre 𝓤 H A W 𝓣 E G39 G40 b39 Δ0 (Typed.both s38) at41 (Relend.g-back-sl 𝓤 H A W E (Element.type) G39 21 8 3 8 y4 y5 k3 (λ x. x) (λ x. x) (Reads'.as-is 𝓤 H A (Mut.msleft
+              (Element.type) y5)) (Reads'.as-is 𝓤 H A (Relend.mslice-owed (Element.type) y4 3 8 k3)) Path'.refl Path'.refl) d42
 
-          d44 : Typed.Typed 𝓤 H A 𝓣 E G38 b39 Δ0 at44
+          d44 : Typed.Typed 𝓤 H A 𝓣 E G38 b39 Δ0 at43
           d44 = Typed.g-pre 𝓤 H A W 𝓣 E G38 G39 b39 Δ0 (λ Ψ. Ψ) at43 (Lifetime.g-end 𝓤 H A W E G38 8 Path'.refl) d43
 
-          d45 : Typed.Typed 𝓤 H A 𝓣 E G37 b40 Δ0 at45
-          d45 = Typed.s-seq 𝓤 H A W 𝓣 E G37 G38 b14 b39 Δ0 (Typed.both s36) at44 (Plain.t-call-plain 𝓤 H A W 𝓣 1 ps·1 r·1 (claims· .2) (claims· .3) "block::records::load_set" (known .1) E (λ pos β. β)
-              G37 (record { pos = 21; ty = Syntax.tyRef Syntax.erased Syntax.mut Element.behind; ref = λ x. x }, (Num.vLit 1, tt)) 15 (List._∷_ 8 List.[]) (Call.sub-id 𝓤 H A W (G37 .slots)) (
-                Reads'.as-is 𝓤 H A (Mut.mslice (Element.type) (Syntax.tyRef Syntax.erased Syntax.mut Element.behind) 8),
-                Mut.reads-mslice 𝓤 H A W (Element.type) (Syntax.tyRef Syntax.erased Syntax.mut
-                    Element.behind) 8,
-                Path'.refl,
-                (tt, tt),
-              ) (Reads'.room-gone 𝓤 H A y0) (tt, tt) Path'.refl) d44
+          d45 : Typed.Typed 𝓤 H A 𝓣 E G37 (Syntax.seq b14 b39) Δ0 at45
+          d45 = Typed.s-seq 𝓤 H A W 𝓣 E G37 G38 b14 b39 Δ0 (Typed.both s36) at43 (Plain.t-call-plain 𝓤 H A W 𝓣 1 ps·1 r·1 (claims· .2) (claims· .3) "block::records::load_set" (known .1) E (λ pos β. β)
+              G37 (record { pos = 21; ty = y5; ref = λ x. x }, (Num.vLit 1, tt)) 15 (8 ∷ []) (Call.sub-id 𝓤 H A W (G37 .slots))
+              (Reads'.as-is 𝓤 H A (Mut.mslice (Element.type) y5 8), Mut.reads-mslice 𝓤 H A W (Element.type) y5 8, Path'.refl, (tt, tt)) (Reads'.room-gone 𝓤 H A y8) (tt, tt) Path'.refl) d44
 
-          d46 : Typed.Typed 𝓤 H A 𝓣 E G36 b41 Δ0 at46
-          d46 = Typed.s-seq 𝓤 H A W 𝓣 E G36 G37 b13 b40 Δ0 (Typed.ask s35) at45 (Relend.t-sl-aggregate 𝓤 H A W E (Element.type) 𝓣 (Relend.asMut (Element.type)) G36 20 21 8 (Syntax.tyRef Syntax.erased
-              Syntax.mut Element.behind) (Syntax.tyRef Syntax.erased Syntax.mut Element.behind) (λ x. x) (Scalar.oFld 8 (List._∷_ (Syntax.field 1) List.[]) (Syntax.tyInt Syntax.w64) 8 λ v. Shared.lenV (v
-              .0)) (Reads'.as-is 𝓤 H A (Relend.msptr (Element.type) (Syntax.tyRef Syntax.erased Syntax.mut Element.behind) 8)) (Reads'.room-gone 𝓤 H A y3)
-              (Relend.reads-owed-len 𝓤 H A W (Element.type) (Syntax.tyRef (Syntax.named 3) Syntax.mut Element.behind) 3 8 (Row.lease (κs .1 .1 .1 .0) (qs .1 .1 .1 .0)) 8 Path'.refl, Path'.refl) Path'.refl
-              Path'.refl λ b o k. tt) d45
+          d46 : Typed.Typed 𝓤 H A 𝓣 E G36 (Syntax.seq b13 (Syntax.seq b14 b39)) Δ0 at46
+          d46 = Typed.s-seq 𝓤 H A W 𝓣 E G36 G37 b13 (Syntax.seq b14 b39) Δ0 (Typed.ask s35) at45 (Relend.t-sl-aggregate 𝓤 H A W E (Element.type) 𝓣 (Relend.asMut (Element.type)) G36 20 21 8 y5 y5 (λ x.
+              x) (Scalar.oFld 8 ((Syntax.field 1) ∷ []) u64 8 λ v. Shared.lenV (v .0)) (Reads'.as-is 𝓤 H A (Relend.msptr (Element.type) y5 8)) (Reads'.room-gone 𝓤 H A y9)
+              (Relend.reads-owed-len 𝓤 H A W (Element.type) y4 3 8 k3 8 Path'.refl, Path'.refl) Path'.refl Path'.refl λ b o k. tt) d45
 
           d47 : Typed.Typed 𝓤 H A 𝓣 E G35 b42 Δ0 at47
-          d47 = Typed.s-seq 𝓤 H A W 𝓣 E G35 G36 b12 b41 Δ0 (Typed.give s34) at46 (Relend.t-sl-relend 𝓤 H A W E (Element.type) 𝓣 G35 8 20 3 8 (Syntax.tyRef (Syntax.named 3) Syntax.mut Element.behind)
-              (Syntax.tyRef Syntax.erased Syntax.mut Element.behind) (Row.lease (κs .1 .1 .1 .0) (qs .1 .1 .1 .0)) 0 (λ x. x) (Reads'.as-is 𝓤 H A (Mut.mslice (Element.type) (Syntax.tyRef (Syntax.named 3)
-              Syntax.mut Element.behind) 3)) (Reads'.room-gone 𝓤 H A (Syntax.tyRef Syntax.erased Syntax.mut Element.behind)) Path'.refl tt Path'.refl Path'.refl Path'.refl λ b o. tt) d46
+          d47 = Typed.s-seq 𝓤 H A W 𝓣 E G35 G36 b12 (Syntax.seq b13 (Syntax.seq b14 b39)) Δ0 (Typed.give s34) at46 (Relend.t-sl-relend 𝓤 H A W E (Element.type) 𝓣 G35 8 20 3 8 y4 y5 k3 0 (λ x. x)
+              (Reads'.as-is 𝓤 H A (Mut.mslice (Element.type) y4 3)) (Reads'.room-gone 𝓤 H A y5) Path'.refl tt Path'.refl Path'.refl Path'.refl λ b o. tt) d46
 
-          d48 : Typed.Typed 𝓤 H A 𝓣 E G34 b42 Δ0 at48
+          d48 : Typed.Typed 𝓤 H A 𝓣 E G34 b42 Δ0 at47
           d48 = Typed.g-pre 𝓤 H A W 𝓣 E G34 G35 b42 Δ0 (λ Ψ. Ψ) at47 (Lifetime.g-begin 𝓤 H A W E G34 8
               (tt, ((tt, tt), (tt, (tt, (tt, (tt, (tt, (tt, (tt, (tt, (tt, (tt, (tt, (tt, (tt, (tt, (tt, (tt, (tt, (tt, (tt, (tt, (tt, (tt, (tt, (tt, (tt, (tt, (tt, tt)))))))))))))))))))))))))))))) d47
 
-          d49 : Typed.Typed 𝓤 H A 𝓣 E G33 b43 Δ0 at49
-          d49 = Typed.s-seq 𝓤 H A W 𝓣 E G33 G34 b11 b42 Δ0 (Typed.ask s32) at48 (Relend.t-sl-aggregate 𝓤 H A W E (Referent.rtF (Referent.fInt Syntax.w8)) 𝓣 (Relend.asMut (Referent.rtF (Referent.fInt
-              Syntax.w8))) G33 18 19 7 (Syntax.tyRef Syntax.erased Syntax.mut (Syntax.tyInt Syntax.w8)) (Syntax.tyRef Syntax.erased Syntax.mut (Syntax.tyInt Syntax.w8)) (λ x. x) (Scalar.oFld 1 (List._∷_
-              (Syntax.field 1) List.[]) (Syntax.tyInt Syntax.w64) 8 λ v. Shared.lenV (v .0)) (Reads'.as-is 𝓤 H A (Relend.msptr (Referent.rtF (Referent.fInt Syntax.w8)) (Syntax.tyRef Syntax.erased
-              Syntax.mut (Syntax.tyInt Syntax.w8)) 7)) (Reads'.room-gone 𝓤 H A y2) (
-                Relend.reads-owed-len 𝓤 H A W (Referent.rtF (Referent.fInt Syntax.w8)) (Syntax.tyRef (Syntax.named 0) Syntax.mut (Syntax.tyInt Syntax.w8)) 0 7 (Row.lease (κs .0) (qs .0)) 8 Path'.refl,
-                Path'.refl,
-              ) Path'.refl Path'.refl λ b o k. tt) d48
+          d49 : Typed.Typed 𝓤 H A 𝓣 E G33 (Syntax.seq b11 b42) Δ0 at49
+          d49 = Typed.s-seq 𝓤 H A W 𝓣 E G33 G34 b11 b42 Δ0 (Typed.ask s32) at47 (Relend.t-sl-aggregate 𝓤 H A W E n8 𝓣 (Relend.asMut n8) G33 18 19 7 y6 y6 (λ x. x) (Scalar.oFld 1 ((Syntax.field 1) ∷
+              []) u64 8 λ v. Shared.lenV (v .0)) (Reads'.as-is 𝓤 H A (Relend.msptr n8 y6 7)) (Reads'.room-gone 𝓤 H A y10) (Relend.reads-owed-len 𝓤 H A W n8 y1 0 7 k0 8 Path'.refl, Path'.refl) Path'.refl
+              Path'.refl λ b o k. tt) d48
 
           d50 : Typed.Typed 𝓤 H A 𝓣 E G32 b44 Δ0 at50
-          d50 = Typed.s-seq 𝓤 H A W 𝓣 E G32 G33 b10 b43 Δ0 (Typed.give s31) at49 (Relend.t-sl-relend 𝓤 H A W E (Referent.rtF (Referent.fInt Syntax.w8)) 𝓣 G32 1 18 0 7 (Syntax.tyRef (Syntax.named 0)
-              Syntax.mut (Syntax.tyInt Syntax.w8)) (Syntax.tyRef Syntax.erased Syntax.mut (Syntax.tyInt Syntax.w8)) (Row.lease (κs .0) (qs .0)) 0 (λ x. x) (Reads'.as-is 𝓤 H A (Mut.mslice (Referent.rtF
-              (Referent.fInt Syntax.w8)) (Syntax.tyRef (Syntax.named 0) Syntax.mut (Syntax.tyInt Syntax.w8)) 0)) (Reads'.room-gone 𝓤 H A (Syntax.tyRef Syntax.erased Syntax.mut (Syntax.tyInt Syntax.w8)))
-              Path'.refl tt Path'.refl Path'.refl Path'.refl λ b o. tt) d49
+          d50 = Typed.s-seq 𝓤 H A W 𝓣 E G32 G33 b10 (Syntax.seq b11 b42) Δ0 (Typed.give s31) at49 (Relend.t-sl-relend 𝓤 H A W E n8 𝓣 G32 1 18 0 7 y1 y6 k0 0 (λ x. x) (Reads'.as-is 𝓤 H A (Mut.mslice n8
+              y1 0)) (Reads'.room-gone 𝓤 H A y6) Path'.refl tt Path'.refl Path'.refl Path'.refl λ b o. tt) d49
 
-          d51 : Typed.Typed 𝓤 H A 𝓣 E G31 b44 Δ0 at51
-          d51 = Typed.g-pre 𝓤 H A W 𝓣 E G31 G32 b44 Δ0 (λ Ψ. Ψ) at50 (Lifetime.g-begin 𝓤 H A W E G31 7
+          d51 : Typed.Typed 𝓤 H A 𝓣 E (on T5 l13) b44 Δ0 at50
+          d51 = Typed.g-pre 𝓤 H A W 𝓣 E (on T5 l13) G32 b44 Δ0 (λ Ψ. Ψ) at50 (Lifetime.g-begin 𝓤 H A W E (on T5 l13) 7
               (tt, (tt, (tt, (tt, (tt, (tt, (tt, (tt, (tt, (tt, (tt, (tt, (tt, (tt, (tt, (tt, (tt, (tt, (tt, (tt, (tt, (tt, (tt, (tt, (tt, (tt, (tt, (tt, (tt, tt)))))))))))))))))))))))))))))) d50
 
-          d52 : Typed.Typed 𝓤 H A 𝓣 E G30 b44 Δ0 at52
-          d52 = Typed.g-pre 𝓤 H A W 𝓣 E G30 G31 b44 Δ0 (λ Ψ. Ψ) at51 (Lifetime.g-forget 𝓤 H A W E G30 5 Row.dead Path'.refl) d51
+          d52 : Typed.Typed 𝓤 H A 𝓣 E (on T5 l9) b44 Δ0 at50
+          d52 = Typed.g-pre 𝓤 H A W 𝓣 E (on T5 l9) (on T5 l13) b44 Δ0 (λ Ψ. Ψ) at50 (Lifetime.g-forget 𝓤 H A W E (on T5 l9) 5 Row.dead Path'.refl) d51
 
-          d53 : Typed.Typed 𝓤 H A 𝓣 E G29 b44 Δ0 at53
-          d53 = Typed.g-pre 𝓤 H A W 𝓣 E G29 G30 b44 Δ0 (Typed.give s28) at52 (Know.g-sl-known 𝓤 H A W (Referent.fInt Syntax.w8) E G29 1 0 (Syntax.tyRef (Syntax.named 0) Syntax.mut (Syntax.tyInt
-              Syntax.w8)) (Row.lease (κs .0) (qs .0)) 0 (λ x. x) record { fits = Dec'.lit< tt } (Reads'.as-is 𝓤 H A (Mut.mslice (Referent.rtF (Referent.fInt Syntax.w8)) (Syntax.tyRef (Syntax.named 0)
-              Syntax.mut (Syntax.tyInt Syntax.w8)) 0)) Path'.refl tt) d52
+          d53 : Typed.Typed 𝓤 H A 𝓣 E (on T5 l9) b44 Δ0 at53
+          d53 = Typed.g-pre 𝓤 H A W 𝓣 E (on T5 l9) (on T5 l9) b44 Δ0 (Typed.give s28) at50 (Know.g-sl-known 𝓤 H A W (Referent.fInt Syntax.w8) E (on T5 l9) 1 0 y1 k0 0 (λ x. x) record
+              { fits = Dec'.lit< tt } (Reads'.as-is 𝓤 H A (Mut.mslice n8 y1 0)) Path'.refl tt) d52
 
           d54 : Typed.Typed 𝓤 H A 𝓣 E G28 b44 Δ0 at54
-          d54 = Typed.g-pre 𝓤 H A W 𝓣 E G28 G29 b44 Δ0 (Typed.both s27) at53 (Relend.g-back-sl 𝓤 H A W E (Referent.rtF (Referent.fInt Syntax.w8)) G28 14 1 0 5 (Syntax.tyRef (Syntax.named 0) Syntax.mut
-              (Syntax.tyInt Syntax.w8)) (Syntax.tyRef Syntax.erased Syntax.mut (Syntax.tyInt Syntax.w8)) (Row.lease (κs .0) (qs .0)) (λ x. x) (λ x. x) (Reads'.as-is 𝓤 H A (Mut.msleft (Referent.rtF
-              (Referent.fInt Syntax.w8)) (Syntax.tyRef Syntax.erased Syntax.mut (Syntax.tyInt Syntax.w8)))) (Reads'.as-is 𝓤 H A (Relend.mslice-owed (Referent.rtF (Referent.fInt Syntax.w8)) (Syntax.tyRef
-              (Syntax.named 0) Syntax.mut (Syntax.tyInt Syntax.w8)) 0 5 (Row.lease (κs .0) (qs .0)))) Path'.refl Path'.refl) d53
+          d54 = Typed.g-pre 𝓤 H A W 𝓣 E G28 (on T5 l9) b44 Δ0 (Typed.both s27) at53 (Relend.g-back-sl 𝓤 H A W E n8 G28 14 1 0 5 y1 y6 k0 (λ x. x) (λ x. x) (Reads'.as-is 𝓤 H A (Mut.msleft n8 y6))
+              (Reads'.as-is 𝓤 H A (Relend.mslice-owed n8 y1 0 5 k0)) Path'.refl Path'.refl) d53
 
-          d55 : Typed.Typed 𝓤 H A 𝓣 E G27 b44 Δ0 at55
+          d55 : Typed.Typed 𝓤 H A 𝓣 E G27 b44 Δ0 at54
           d55 = Typed.g-pre 𝓤 H A W 𝓣 E G27 G28 b44 Δ0 (λ Ψ. Ψ) at54 (Lifetime.g-end 𝓤 H A W E G27 5 Path'.refl) d54
 
           d56 : Typed.Typed 𝓤 H A 𝓣 E G26 b44 Δ0 at56
-          d56 = Typed.g-pre 𝓤 H A W 𝓣 E G26 G27 b44 Δ0 (Typed.pass T26 T27 s25) at55 (Scalar.g-room 𝓤 H A W E G26 15 y0 (Local.room-whole 𝓤 H A W (Declared.row Set.the-type) y0 Path'.refl)) d55
+          d56 = Typed.g-pre 𝓤 H A W 𝓣 E G26 G27 b44 Δ0 (Typed.pass T26 T27 s25) at54 (Scalar.g-room 𝓤 H A W E G26 15 y8 (Local.room-whole 𝓤 H A W (Declared.row Set.the-type) y8 Path'.refl)) d55
 
           d57 : Typed.Typed 𝓤 H A 𝓣 E G25 b44 Δ0 at57
           d57 = Typed.g-pre 𝓤 H A W 𝓣 E G25 G26 b44 Δ0 (Typed.pass T25 T26 s24) at56 (Scalar.g-room 𝓤 H A W E G25 10 Syntax.tyUnit (Scalar.room-sc 𝓤 H A W Row.sUnit)) d56
 
           d58 : Typed.Typed 𝓤 H A 𝓣 E G24 b45 Δ0 at58
-          d58 = Typed.s-seq 𝓤 H A W 𝓣 E G24 G25 b9 b44 Δ0 (Typed.both s23) at57 (Plain.t-call-plain 𝓤 H A W 𝓣 1 ps·2 r·2 (claims· .4) (claims· .5) "checkpoint::store_set" (known .2) E (λ pos β. β) G24 (
-            record { pos = 14; ty = Syntax.tyRef Syntax.erased Syntax.mut (Syntax.tyInt Syntax.w8); ref = λ x. x },
-            (Num.vLit 0, (record { pos = 15; st = List.[]; d = 0; at = λ x. x }, (Bool.bAt 9 λ x. x, tt))),
-          ) 10 (List._∷_ 5 List.[]) (Call.sub-id 𝓤 H A W (G24 .slots)) (
-            Reads'.as-is 𝓤 H A (Mut.mslice (Referent.rtF (Referent.fInt Syntax.w8)) (Syntax.tyRef Syntax.erased Syntax.mut (Syntax.tyInt Syntax.w8)) 5),
-            Mut.reads-mslice 𝓤 H A W (Referent.rtF
-                (Referent.fInt Syntax.w8)) (Syntax.tyRef Syntax.erased Syntax.mut (Syntax.tyInt Syntax.w8)) 5,
-            Path'.refl,
-            (
-              tt,
-              (
-                (
-                  Yields.yields-copy 𝓤 H A W (λ ρ. Unit) (Declared.row Set.the-type) Path'.refl (Copies.cStruct Set.the-type Laws.the-laws Laws.the-copy .copy 𝓤 H A W) (Rows.whole (Declared.row
-                      Set.the-type)) (λ x. x) (λ x. x) (λ ρ told. Local.mem-whole 𝓤 H A W (Declared.row Set.the-type) ρ) λ ρ told. Local.whole-mem 𝓤 H A W (Declared.row Set.the-type) ρ,
-                  Path'.refl,
-                ),
-                ((Scalar.reads-sc 𝓤 H A W Row.sBool, Path'.refl), tt),
-              ),
-            ),
-          ) (Reads'.room-gone 𝓤 H A Syntax.tyUnit) (tt, tt) Path'.refl) d57
+          d58 = Typed.s-seq 𝓤 H A W 𝓣 E G24 G25 b9 b44 Δ0 (Typed.both s23) at57 (Plain.t-call-plain 𝓤 H A W 𝓣 1 ps·2 r·2 (claims· .4) (claims· .5) "checkpoint::store_set" (known .2) E (λ pos β. β) G24
+              (record { pos = 14; ty = y6; ref = λ x. x }, (Num.vLit 0, (record { pos = 15; st = []; d = 0; at = λ x. x }, (Bool.bAt 9 λ x. x, tt)))) 10 (5 ∷ []) (Call.sub-id 𝓤 H A W (G24 .slots)) (
+                Reads'.as-is 𝓤 H A (Mut.mslice n8 y6 5),
+                Mut.reads-mslice 𝓤 H A W n8 y6 5,
+                Path'.refl,
+                (tt, ((Values.struct-copied 𝓤 H A W Set.the-type Laws.the-laws Laws.the-copy, Path'.refl), ((Scalar.reads-sc 𝓤 H A W Row.sBool, Path'.refl), tt))),
+              ) (Reads'.room-gone 𝓤 H A Syntax.tyUnit)
+              (tt, tt) Path'.refl) d57
 
-          d59 : Typed.Typed 𝓤 H A 𝓣 E G23 b45 Δ0 at59
+          d59 : Typed.Typed 𝓤 H A 𝓣 E G23 b45 Δ0 at58
           d59 = Typed.g-pre 𝓤 H A W 𝓣 E G23 G24 b45 Δ0 (λ Ψ. Ψ) at58 (Lifetime.g-forget 𝓤 H A W E G23 6 Row.dead Path'.refl) d58
 
           d60 : Typed.Typed 𝓤 H A 𝓣 E G22 b45 Δ0 at60
-          d60 = Typed.g-pre 𝓤 H A W 𝓣 E G22 G23 b45 Δ0 (Typed.both s21) at59 (Relend.g-back-sl 𝓤 H A W E (Element.type) G22 17 8 3 6 (Syntax.tyRef (Syntax.named 3) Syntax.mut Element.behind)
-              (Syntax.tyRef Syntax.erased Syntax.mut Element.behind) (Row.lease (κs .1 .1 .1 .0) (qs .1 .1 .1 .0)) (λ x. x) (λ x. x) (Reads'.as-is 𝓤 H A (Mut.msleft (Element.type) (Syntax.tyRef
-              Syntax.erased Syntax.mut Element.behind))) (Reads'.as-is 𝓤 H A (Relend.mslice-owed (Element.type) (Syntax.tyRef (Syntax.named 3) Syntax.mut Element.behind) 3 6 (Row.lease (κs .1 .1 .1 .0)
-              (qs .1 .1 .1 .0)))) Path'.refl Path'.refl) d59
+          d60 = Typed.g-pre 𝓤 H A W 𝓣 E G22 G23 b45 Δ0 (Typed.both s21) at58 (Relend.g-back-sl 𝓤 H A W E (Element.type) G22 17 8 3 6 y4 y5 k3 (λ x. x) (λ x. x) (Reads'.as-is 𝓤 H A (Mut.msleft
+              (Element.type) y5)) (Reads'.as-is 𝓤 H A (Relend.mslice-owed (Element.type) y4 3 6 k3)) Path'.refl Path'.refl) d59
 
-          d61 : Typed.Typed 𝓤 H A 𝓣 E G21 b45 Δ0 at61
+          d61 : Typed.Typed 𝓤 H A 𝓣 E G21 b45 Δ0 at60
           d61 = Typed.g-pre 𝓤 H A W 𝓣 E G21 G22 b45 Δ0 (λ Ψ. Ψ) at60 (Lifetime.g-end 𝓤 H A W E G21 6 Path'.refl) d60
 
-          d62 : Typed.Typed 𝓤 H A 𝓣 E G20 b46 Δ0 at62
-          d62 = Typed.s-seq 𝓤 H A W 𝓣 E G20 G21 b8 b45 Δ0 (Typed.both s19) at61 (Plain.t-call-plain 𝓤 H A W 𝓣 1 ps·1 r·1 (claims· .2) (claims· .3) "block::records::load_set" (known .1) E (λ pos β. β)
-              G20 (record { pos = 17; ty = Syntax.tyRef Syntax.erased Syntax.mut Element.behind; ref = λ x. x }, (Num.vLit 0, tt)) 15 (List._∷_ 6 List.[]) (Call.sub-id 𝓤 H A W (G20 .slots)) (
-                Reads'.as-is 𝓤 H A (Mut.mslice (Element.type) (Syntax.tyRef Syntax.erased Syntax.mut Element.behind) 6),
-                Mut.reads-mslice 𝓤 H A W (Element.type) (Syntax.tyRef Syntax.erased Syntax.mut
-                    Element.behind) 6,
-                Path'.refl,
-                (tt, tt),
-              ) (Reads'.room-gone 𝓤 H A y0) (tt, tt) Path'.refl) d61
+          d62 : Typed.Typed 𝓤 H A 𝓣 E G20 (Syntax.seq b8 b45) Δ0 at62
+          d62 = Typed.s-seq 𝓤 H A W 𝓣 E G20 G21 b8 b45 Δ0 (Typed.both s19) at60 (Plain.t-call-plain 𝓤 H A W 𝓣 1 ps·1 r·1 (claims· .2) (claims· .3) "block::records::load_set" (known .1) E (λ pos β. β)
+              G20 (record { pos = 17; ty = y5; ref = λ x. x }, (Num.vLit 0, tt)) 15 (6 ∷ []) (Call.sub-id 𝓤 H A W (G20 .slots))
+              (Reads'.as-is 𝓤 H A (Mut.mslice (Element.type) y5 6), Mut.reads-mslice 𝓤 H A W (Element.type) y5 6, Path'.refl, (tt, tt)) (Reads'.room-gone 𝓤 H A y8) (tt, tt) Path'.refl) d61
 
-          d63 : Typed.Typed 𝓤 H A 𝓣 E G19 b47 Δ0 at63
-          d63 = Typed.s-seq 𝓤 H A W 𝓣 E G19 G20 b7 b46 Δ0 (Typed.ask s18) at62 (Relend.t-sl-aggregate 𝓤 H A W E (Element.type) 𝓣 (Relend.asMut (Element.type)) G19 16 17 6 (Syntax.tyRef Syntax.erased
-              Syntax.mut Element.behind) (Syntax.tyRef Syntax.erased Syntax.mut Element.behind) (λ x. x) (Scalar.oFld 8 (List._∷_ (Syntax.field 1) List.[]) (Syntax.tyInt Syntax.w64) 8 λ v. Shared.lenV (v
-              .0)) (Reads'.as-is 𝓤 H A (Relend.msptr (Element.type) (Syntax.tyRef Syntax.erased Syntax.mut Element.behind) 6)) (Reads'.room-gone 𝓤 H A y3)
-              (Relend.reads-owed-len 𝓤 H A W (Element.type) (Syntax.tyRef (Syntax.named 3) Syntax.mut Element.behind) 3 6 (Row.lease (κs .1 .1 .1 .0) (qs .1 .1 .1 .0)) 8 Path'.refl, Path'.refl) Path'.refl
-              Path'.refl λ b o k. tt) d62
+          d63 : Typed.Typed 𝓤 H A 𝓣 E G19 (Syntax.seq b7 (Syntax.seq b8 b45)) Δ0 at63
+          d63 = Typed.s-seq 𝓤 H A W 𝓣 E G19 G20 b7 (Syntax.seq b8 b45) Δ0 (Typed.ask s18) at62 (Relend.t-sl-aggregate 𝓤 H A W E (Element.type) 𝓣 (Relend.asMut (Element.type)) G19 16 17 6 y5 y5 (λ x.
+              x) (Scalar.oFld 8 ((Syntax.field 1) ∷ []) u64 8 λ v. Shared.lenV (v .0)) (Reads'.as-is 𝓤 H A (Relend.msptr (Element.type) y5 6)) (Reads'.room-gone 𝓤 H A y9)
+              (Relend.reads-owed-len 𝓤 H A W (Element.type) y4 3 6 k3 8 Path'.refl, Path'.refl) Path'.refl Path'.refl λ b o k. tt) d62
 
           d64 : Typed.Typed 𝓤 H A 𝓣 E G18 b48 Δ0 at64
-          d64 = Typed.s-seq 𝓤 H A W 𝓣 E G18 G19 b6 b47 Δ0 (Typed.give s17) at63 (Relend.t-sl-relend 𝓤 H A W E (Element.type) 𝓣 G18 8 16 3 6 (Syntax.tyRef (Syntax.named 3) Syntax.mut Element.behind)
-              (Syntax.tyRef Syntax.erased Syntax.mut Element.behind) (Row.lease (κs .1 .1 .1 .0) (qs .1 .1 .1 .0)) 0 (λ x. x) (Reads'.as-is 𝓤 H A (Mut.mslice (Element.type) (Syntax.tyRef (Syntax.named 3)
-              Syntax.mut Element.behind) 3)) (Reads'.room-gone 𝓤 H A (Syntax.tyRef Syntax.erased Syntax.mut Element.behind)) Path'.refl tt Path'.refl Path'.refl Path'.refl λ b o. tt) d63
+          d64 = Typed.s-seq 𝓤 H A W 𝓣 E G18 G19 b6 (Syntax.seq b7 (Syntax.seq b8 b45)) Δ0 (Typed.give s17) at63 (Relend.t-sl-relend 𝓤 H A W E (Element.type) 𝓣 G18 8 16 3 6 y4 y5 k3 0 (λ x. x)
+              (Reads'.as-is 𝓤 H A (Mut.mslice (Element.type) y4 3)) (Reads'.room-gone 𝓤 H A y5) Path'.refl tt Path'.refl Path'.refl Path'.refl λ b o. tt) d63
 
-          d65 : Typed.Typed 𝓤 H A 𝓣 E G17 b48 Δ0 at65
+          d65 : Typed.Typed 𝓤 H A 𝓣 E G17 b48 Δ0 at64
           d65 = Typed.g-pre 𝓤 H A W 𝓣 E G17 G18 b48 Δ0 (λ Ψ. Ψ) at64 (Lifetime.g-begin 𝓤 H A W E G17 6
               (tt, ((tt, tt), (tt, (tt, (tt, (tt, (tt, (tt, (tt, (tt, (tt, (tt, (tt, (tt, (tt, (tt, (tt, (tt, (tt, (tt, (tt, (tt, (tt, (tt, (tt, (tt, (tt, (tt, (tt, tt)))))))))))))))))))))))))))))) d64
 
-          d66 : Typed.Typed 𝓤 H A 𝓣 E G16 b49 Δ0 at66
-          d66 = Typed.s-seq 𝓤 H A W 𝓣 E G16 G17 b5 b48 Δ0 (Typed.ask s15) at65 (Relend.t-sl-aggregate 𝓤 H A W E (Referent.rtF (Referent.fInt Syntax.w8)) 𝓣 (Relend.asMut (Referent.rtF (Referent.fInt
-              Syntax.w8))) G16 13 14 5 (Syntax.tyRef Syntax.erased Syntax.mut (Syntax.tyInt Syntax.w8)) (Syntax.tyRef Syntax.erased Syntax.mut (Syntax.tyInt Syntax.w8)) (λ x. x) (Scalar.oFld 1 (List._∷_
-              (Syntax.field 1) List.[]) (Syntax.tyInt Syntax.w64) 8 λ v. Shared.lenV (v .0)) (Reads'.as-is 𝓤 H A (Relend.msptr (Referent.rtF (Referent.fInt Syntax.w8)) (Syntax.tyRef Syntax.erased
-              Syntax.mut (Syntax.tyInt Syntax.w8)) 5)) (Reads'.room-gone 𝓤 H A y2) (
-                Relend.reads-owed-len 𝓤 H A W (Referent.rtF (Referent.fInt Syntax.w8)) (Syntax.tyRef (Syntax.named 0) Syntax.mut (Syntax.tyInt Syntax.w8)) 0 5 (Row.lease (κs .0) (qs .0)) 8 Path'.refl,
-                Path'.refl,
-              ) Path'.refl Path'.refl λ b o k. tt) d65
+          d66 : Typed.Typed 𝓤 H A 𝓣 E G16 (Syntax.seq b5 b48) Δ0 at66
+          d66 = Typed.s-seq 𝓤 H A W 𝓣 E G16 G17 b5 b48 Δ0 (Typed.ask s15) at64 (Relend.t-sl-aggregate 𝓤 H A W E n8 𝓣 (Relend.asMut n8) G16 13 14 5 y6 y6 (λ x. x) (Scalar.oFld 1 ((Syntax.field 1) ∷ [])
+              u64 8 λ v. Shared.lenV (v .0)) (Reads'.as-is 𝓤 H A (Relend.msptr n8 y6 5)) (Reads'.room-gone 𝓤 H A y10) (Relend.reads-owed-len 𝓤 H A W n8 y1 0 5 k0 8 Path'.refl, Path'.refl) Path'.refl
+              Path'.refl λ b o k. tt) d65
 
           d67 : Typed.Typed 𝓤 H A 𝓣 E G15 b50 Δ0 at67
-          d67 = Typed.s-seq 𝓤 H A W 𝓣 E G15 G16 b4 b49 Δ0 (Typed.give s14) at66 (Relend.t-sl-relend 𝓤 H A W E (Referent.rtF (Referent.fInt Syntax.w8)) 𝓣 G15 1 13 0 5 (Syntax.tyRef (Syntax.named 0)
-              Syntax.mut (Syntax.tyInt Syntax.w8)) (Syntax.tyRef Syntax.erased Syntax.mut (Syntax.tyInt Syntax.w8)) (Row.lease (κs .0) (qs .0)) 0 (λ x. x) (Reads'.as-is 𝓤 H A (Mut.mslice (Referent.rtF
-              (Referent.fInt Syntax.w8)) (Syntax.tyRef (Syntax.named 0) Syntax.mut (Syntax.tyInt Syntax.w8)) 0)) (Reads'.room-gone 𝓤 H A (Syntax.tyRef Syntax.erased Syntax.mut (Syntax.tyInt Syntax.w8)))
-              Path'.refl tt Path'.refl Path'.refl Path'.refl λ b o. tt) d66
+          d67 = Typed.s-seq 𝓤 H A W 𝓣 E G15 G16 b4 (Syntax.seq b5 b48) Δ0 (Typed.give s14) at66 (Relend.t-sl-relend 𝓤 H A W E n8 𝓣 G15 1 13 0 5 y1 y6 k0 0 (λ x. x) (Reads'.as-is 𝓤 H A (Mut.mslice n8
+              y1 0)) (Reads'.room-gone 𝓤 H A y6) Path'.refl tt Path'.refl Path'.refl Path'.refl λ b o. tt) d66
 
-          d68 : Typed.Typed 𝓤 H A 𝓣 E G14 b50 Δ0 at68
-          d68 = Typed.g-pre 𝓤 H A W 𝓣 E G14 G15 b50 Δ0 (λ Ψ. Ψ) at67 (Lifetime.g-begin 𝓤 H A W E G14 5
+          d68 : Typed.Typed 𝓤 H A 𝓣 E (on T5 l13) b50 Δ0 at67
+          d68 = Typed.g-pre 𝓤 H A W 𝓣 E (on T5 l13) G15 b50 Δ0 (λ Ψ. Ψ) at67 (Lifetime.g-begin 𝓤 H A W E (on T5 l13) 5
               (tt, (tt, (tt, (tt, (tt, (tt, (tt, (tt, (tt, (tt, (tt, (tt, (tt, (tt, (tt, (tt, (tt, (tt, (tt, (tt, (tt, (tt, (tt, (tt, (tt, (tt, (tt, (tt, (tt, tt)))))))))))))))))))))))))))))) d67
 
-          d69 : Typed.Typed 𝓤 H A 𝓣 E G13 b50 Δ0 at69
-          d69 = Typed.g-pre 𝓤 H A W 𝓣 E G13 G14 b50 Δ0 (λ Ψ. Ψ) at68 (Lifetime.g-forget 𝓤 H A W E G13 4 Row.dead Path'.refl) d68
+          d69 : Typed.Typed 𝓤 H A 𝓣 E (on T5 l8) b50 Δ0 at67
+          d69 = Typed.g-pre 𝓤 H A W 𝓣 E (on T5 l8) (on T5 l13) b50 Δ0 (λ Ψ. Ψ) at67 (Lifetime.g-forget 𝓤 H A W E (on T5 l8) 4 Row.dead Path'.refl) d68
 
-          d70 : Typed.Typed 𝓤 H A 𝓣 E G12 b50 Δ0 at70
-          d70 = Typed.g-pre 𝓤 H A W 𝓣 E G12 G13 b50 Δ0 (Typed.give s11) at69 (Know.g-sl-known 𝓤 H A W (Referent.fInt Syntax.w8) E G12 1 0 (Syntax.tyRef (Syntax.named 0) Syntax.mut (Syntax.tyInt
-              Syntax.w8)) (Row.lease (κs .0) (qs .0)) 0 (λ x. x) record { fits = Dec'.lit< tt } (Reads'.as-is 𝓤 H A (Mut.mslice (Referent.rtF (Referent.fInt Syntax.w8)) (Syntax.tyRef (Syntax.named 0)
-              Syntax.mut (Syntax.tyInt Syntax.w8)) 0)) Path'.refl tt) d69
+          d70 : Typed.Typed 𝓤 H A 𝓣 E (on T5 l8) b50 Δ0 at70
+          d70 = Typed.g-pre 𝓤 H A W 𝓣 E (on T5 l8) (on T5 l8) b50 Δ0 (Typed.give s11) at67 (Know.g-sl-known 𝓤 H A W (Referent.fInt Syntax.w8) E (on T5 l8) 1 0 y1 k0 0 (λ x. x) record
+              { fits = Dec'.lit< tt } (Reads'.as-is 𝓤 H A (Mut.mslice n8 y1 0)) Path'.refl tt) d69
 
           d71 : Typed.Typed 𝓤 H A 𝓣 E G11 b50 Δ0 at71
-          d71 = Typed.g-pre 𝓤 H A W 𝓣 E G11 G12 b50 Δ0 (Typed.both s10) at70 (Relend.g-back-sl 𝓤 H A W E (Referent.rtF (Referent.fInt Syntax.w8)) G11 12 1 0 4 (Syntax.tyRef (Syntax.named 0) Syntax.mut
-              (Syntax.tyInt Syntax.w8)) (Syntax.tyRef Syntax.erased Syntax.mut (Syntax.tyInt Syntax.w8)) (Row.lease (κs .0) (qs .0)) (λ x. x) (λ x. x) (Reads'.as-is 𝓤 H A (Mut.msleft (Referent.rtF
-              (Referent.fInt Syntax.w8)) (Syntax.tyRef Syntax.erased Syntax.mut (Syntax.tyInt Syntax.w8)))) (Reads'.as-is 𝓤 H A (Relend.mslice-owed (Referent.rtF (Referent.fInt Syntax.w8)) (Syntax.tyRef
-              (Syntax.named 0) Syntax.mut (Syntax.tyInt Syntax.w8)) 0 4 (Row.lease (κs .0) (qs .0)))) Path'.refl Path'.refl) d70
+          d71 = Typed.g-pre 𝓤 H A W 𝓣 E G11 (on T5 l8) b50 Δ0 (Typed.both s10) at70 (Relend.g-back-sl 𝓤 H A W E n8 G11 12 1 0 4 y1 y6 k0 (λ x. x) (λ x. x) (Reads'.as-is 𝓤 H A (Mut.msleft n8 y6))
+              (Reads'.as-is 𝓤 H A (Relend.mslice-owed n8 y1 0 4 k0)) Path'.refl Path'.refl) d70
 
-          d72 : Typed.Typed 𝓤 H A 𝓣 E G10 b50 Δ0 at72
+          d72 : Typed.Typed 𝓤 H A 𝓣 E G10 b50 Δ0 at71
           d72 = Typed.g-pre 𝓤 H A W 𝓣 E G10 G11 b50 Δ0 (λ Ψ. Ψ) at71 (Lifetime.g-end 𝓤 H A W E G10 4 Path'.refl) d71
 
           d73 : Typed.Typed 𝓤 H A 𝓣 E G9 b50 Δ0 at73
-          d73 = Typed.g-pre 𝓤 H A W 𝓣 E G9 G10 b50 Δ0 (Typed.pass T9 T10 s8) at72 (Scalar.g-room 𝓤 H A W E G9 10 Syntax.tyUnit (Scalar.room-sc 𝓤 H A W Row.sUnit)) d72
+          d73 = Typed.g-pre 𝓤 H A W 𝓣 E G9 G10 b50 Δ0 (Typed.pass T9 T10 s8) at71 (Scalar.g-room 𝓤 H A W E G9 10 Syntax.tyUnit (Scalar.room-sc 𝓤 H A W Row.sUnit)) d72
 
-          d74 : Typed.Typed 𝓤 H A 𝓣 E G8 b51 Δ0 at74
-          d74 = Typed.s-seq 𝓤 H A W 𝓣 E G8 G9 b3 b50 Δ0 (Typed.both s7) at73 (Plain.t-call-plain 𝓤 H A W 𝓣 2 ps·0 r·0 (claims· .0) (claims· .1) "checkpoint::store_head" (known .0) E (λ pos β. β) G8 (
-            record { pos = 12; ty = Syntax.tyRef Syntax.erased Syntax.mut (Syntax.tyInt Syntax.w8); ref = λ x. x },
-            (record { pos = 2; ty = Syntax.tyRef (Syntax.named 1) Syntax.imm (Syntax.tyInt Syntax.w8); ref = λ x. x }, (Num.vAt 4 λ x. x, (Num.vAt 5 λ x. x, (Num.vAt 6 λ x. x, tt)))),
-          ) 10 (List._∷_ 4
-              (List._∷_ 1 List.[])) (Call.sub-id 𝓤 H A W (G8 .slots)) (
-                Reads'.as-is 𝓤 H A (Mut.mslice (Referent.rtF (Referent.fInt Syntax.w8)) (Syntax.tyRef Syntax.erased Syntax.mut (Syntax.tyInt Syntax.w8)) 4),
-                Mut.reads-mslice 𝓤 H A W (Referent.rtF
-                    (Referent.fInt Syntax.w8)) (Syntax.tyRef Syntax.erased Syntax.mut (Syntax.tyInt Syntax.w8)) 4,
+          d74 : Typed.Typed 𝓤 H A 𝓣 E G8 (Syntax.seq b3 b50) Δ0 at74
+          d74 = Typed.s-seq 𝓤 H A W 𝓣 E G8 G9 b3 b50 Δ0 (Typed.both s7) at73 (Plain.t-call-plain 𝓤 H A W 𝓣 2 ps·0 r·0 (claims· .0) (claims· .1) "checkpoint::store_head" (known .0) E (λ pos β. β) G8
+              (record { pos = 12; ty = y6; ref = λ x. x }, (record { pos = 2; ty = y2; ref = λ x. x }, (Num.vAt 4 λ x. x, (Num.vAt 5 λ x. x, (Num.vAt 6 λ x. x, tt))))) 10 (4 ∷ 1 ∷ []) (Call.sub-id 𝓤 H A
+              W (G8 .slots)) (
+                Reads'.as-is 𝓤 H A (Mut.mslice n8 y6 4),
+                Mut.reads-mslice 𝓤 H A W n8 y6 4,
                 Path'.refl,
                 (
-                  ShrSlice.spares-sslice 𝓤 H A W (Referent.rtF (Referent.fInt Syntax.w8)) (Syntax.tyRef (Syntax.named 1) Syntax.imm (Syntax.tyInt Syntax.w8)) 1,
-                  Shared.reads-sslice 𝓤 H A W (Referent.rtF
-                      (Referent.fInt Syntax.w8)) (Syntax.tyRef (Syntax.named 1) Syntax.imm (Syntax.tyInt Syntax.w8)) 1,
+                  ShrSlice.spares-sslice 𝓤 H A W n8 y2 1,
+                  Shared.reads-sslice 𝓤 H A W n8 y2 1,
                   Path'.refl,
                   (
                     (Scalar.reads-sc 𝓤 H A W (Row.sInt Syntax.w64), Path'.refl),
@@ -2585,75 +1694,49 @@ module _ (claims· : Claims) where
               ) (Reads'.room-gone 𝓤 H A Syntax.tyUnit) (tt, (tt, tt))
               Path'.refl) d73
 
-          d75 : Typed.Typed 𝓤 H A 𝓣 E G7 b52 Δ0 at75
-          d75 = Typed.s-seq 𝓤 H A W 𝓣 E G7 G8 b2 b51 Δ0 (Typed.ask s6) at74 (Relend.t-sl-aggregate 𝓤 H A W E (Referent.rtF (Referent.fInt Syntax.w8)) 𝓣 (Relend.asMut (Referent.rtF (Referent.fInt
-              Syntax.w8))) G7 11 12 4 (Syntax.tyRef Syntax.erased Syntax.mut (Syntax.tyInt Syntax.w8)) (Syntax.tyRef Syntax.erased Syntax.mut (Syntax.tyInt Syntax.w8)) (λ x. x) (Scalar.oFld 1 (List._∷_
-              (Syntax.field 1) List.[]) (Syntax.tyInt Syntax.w64) 8 λ v. Shared.lenV (v .0)) (Reads'.as-is 𝓤 H A (Relend.msptr (Referent.rtF (Referent.fInt Syntax.w8)) (Syntax.tyRef Syntax.erased
-              Syntax.mut (Syntax.tyInt Syntax.w8)) 4)) (Reads'.room-gone 𝓤 H A y2) (
-                Relend.reads-owed-len 𝓤 H A W (Referent.rtF (Referent.fInt Syntax.w8)) (Syntax.tyRef (Syntax.named 0) Syntax.mut (Syntax.tyInt Syntax.w8)) 0 4 (Row.lease (κs .0) (qs .0)) 8 Path'.refl,
-                Path'.refl,
-              ) Path'.refl Path'.refl λ b o k. tt) d74
+          d75 : Typed.Typed 𝓤 H A 𝓣 E G7 (Syntax.seq b2 (Syntax.seq b3 b50)) Δ0 at75
+          d75 = Typed.s-seq 𝓤 H A W 𝓣 E G7 G8 b2 (Syntax.seq b3 b50) Δ0 (Typed.ask s6) at74 (Relend.t-sl-aggregate 𝓤 H A W E n8 𝓣 (Relend.asMut n8) G7 11 12 4 y6 y6 (λ x. x) (Scalar.oFld 1
+              ((Syntax.field 1) ∷ []) u64 8 λ v. Shared.lenV (v .0)) (Reads'.as-is 𝓤 H A (Relend.msptr n8 y6 4)) (Reads'.room-gone 𝓤 H A y10)
+              (Relend.reads-owed-len 𝓤 H A W n8 y1 0 4 k0 8 Path'.refl, Path'.refl) Path'.refl Path'.refl λ b o k. tt) d74
 
           d76 : Typed.Typed 𝓤 H A 𝓣 E G6 b53 Δ0 at76
-          d76 = Typed.s-seq 𝓤 H A W 𝓣 E G6 G7 b1 b52 Δ0 (Typed.give s5) at75 (Relend.t-sl-relend 𝓤 H A W E (Referent.rtF (Referent.fInt Syntax.w8)) 𝓣 G6 1 11 0 4 (Syntax.tyRef (Syntax.named 0)
-              Syntax.mut (Syntax.tyInt Syntax.w8)) (Syntax.tyRef Syntax.erased Syntax.mut (Syntax.tyInt Syntax.w8)) (Row.lease (κs .0) (qs .0)) 0 (λ x. x) (Reads'.as-is 𝓤 H A (Mut.mslice (Referent.rtF
-              (Referent.fInt Syntax.w8)) (Syntax.tyRef (Syntax.named 0) Syntax.mut (Syntax.tyInt Syntax.w8)) 0)) (Reads'.room-gone 𝓤 H A (Syntax.tyRef Syntax.erased Syntax.mut (Syntax.tyInt Syntax.w8)))
-              Path'.refl tt Path'.refl Path'.refl Path'.refl λ b o. tt) d75
+          d76 = Typed.s-seq 𝓤 H A W 𝓣 E G6 G7 b1 (Syntax.seq b2 (Syntax.seq b3 b50)) Δ0 (Typed.give s5) at75 (Relend.t-sl-relend 𝓤 H A W E n8 𝓣 G6 1 11 0 4 y1 y6 k0 0 (λ x. x) (Reads'.as-is 𝓤 H A
+              (Mut.mslice n8 y1 0)) (Reads'.room-gone 𝓤 H A y6) Path'.refl tt Path'.refl Path'.refl Path'.refl λ b o. tt) d75
 
-          d77 : Typed.Typed 𝓤 H A 𝓣 E G5 b53 Δ0 at77
-          d77 = Typed.g-pre 𝓤 H A W 𝓣 E G5 G6 b53 Δ0 (λ Ψ. Ψ) at76 (Lifetime.g-begin 𝓤 H A W E G5 4
+          d77 : Typed.Typed 𝓤 H A 𝓣 E (on T5 l13) b53 Δ0 at76
+          d77 = Typed.g-pre 𝓤 H A W 𝓣 E (on T5 l13) G6 b53 Δ0 (λ Ψ. Ψ) at76 (Lifetime.g-begin 𝓤 H A W E (on T5 l13) 4
               (tt, (tt, (tt, (tt, (tt, (tt, (tt, (tt, (tt, (tt, (tt, (tt, (tt, (tt, (tt, (tt, (tt, (tt, (tt, (tt, (tt, (tt, (tt, (tt, (tt, (tt, (tt, (tt, (tt, tt)))))))))))))))))))))))))))))) d76
 
-          d78 : Typed.Typed 𝓤 H A 𝓣 E G4 b54 Δ0 at78
-          d78 = Typed.s-seq 𝓤 H A W 𝓣 E G4 G5 b0 b53 Δ0 (Typed.pass T4 T5 s3) at77 (Scalar.t-use 𝓤 H A W E 𝓣 G4 (Scalar.oFld 3 (List._∷_ (Syntax.field 0) List.[]) Syntax.tyBool 0 (Reads.fieldV
-              FujiHeader.the-type Laws'.the-laws 0)) 9 (Rows.sc-here Row.sBool) Syntax.tyBool (Row.valS Row.sBool) (Row.sBool .of)
+          d78 : Typed.Typed 𝓤 H A 𝓣 E (on T0 l13) b54 Δ0 at78
+          d78 = Typed.s-seq 𝓤 H A W 𝓣 E (on T0 l13) (on T5 l13) b0 b53 Δ0 (Typed.pass T0 T5 s3) at76 (Scalar.t-use 𝓤 H A W E 𝓣 (on T0 l13) (Scalar.oFld 3 ((Syntax.field 0) ∷ []) Syntax.tyBool 0
+              (Reads.fieldV FujiHeader.the-type Laws'.the-laws 0)) 9 (Rows.sc-here Row.sBool) Syntax.tyBool (Row.valS Row.sBool) (Row.sBool .of)
               (Reads.reads-field 𝓤 H A W FujiHeader.the-type Laws'.the-laws 0 Syntax.tyBool 0 Path'.refl, Path'.refl) (Reads'.room-gone 𝓤 H A Syntax.tyBool) (Scalar.holds-sc 𝓤 H A W Row.sBool) Path'.refl
               (λ u. Path'.refl) λ u. tt) d77
 
-          d79 : Typed.Typed 𝓤 H A 𝓣 E G3 b54 Δ0 at79
-          d79 = Typed.g-pre 𝓤 H A W 𝓣 E G3 G4 b54 Δ0 (Typed.give s2) at78 (Know.g-shs-known 𝓤 H A W (Referent.fInt Syntax.w16) E G3 7 2 (Syntax.tyRef (Syntax.named 2) Syntax.imm (Syntax.tyInt
-              Syntax.w16)) (Row.lease (κs .1 .1 .0) (qs .1 .1 .0)) 0 (λ x. x) record { fits = Dec'.lit< tt } (Reads'.as-is 𝓤 H A (Rows.sslice (Referent.rtF (Referent.fInt Syntax.w16)) (Syntax.tyRef
-              (Syntax.named 2) Syntax.imm (Syntax.tyInt Syntax.w16)) 2)) Path'.refl tt) d78
+          d79 : Typed.Typed 𝓤 H A 𝓣 E (on T0 l13) b54 Δ0 at79
+          d79 = Typed.g-pre 𝓤 H A W 𝓣 E (on T0 l13) (on T0 l13) b54 Δ0 (Typed.give s2) at78 (Know.g-shs-known 𝓤 H A W (Referent.fInt Syntax.w16) E (on T0 l13) 7 2 y3 k2 0 (λ x. x) record
+              { fits = Dec'.lit< tt } (Reads'.as-is 𝓤 H A (Rows.sslice n16 y3 2)) Path'.refl tt) d78
 
-          d80 : Typed.Typed 𝓤 H A 𝓣 E G2 b54 Δ0 at80
-          d80 = Typed.g-pre 𝓤 H A W 𝓣 E G2 G3 b54 Δ0 (Typed.give s1) at79 (Know.g-shs-known 𝓤 H A W (Referent.fInt Syntax.w8) E G2 2 1 (Syntax.tyRef (Syntax.named 1) Syntax.imm (Syntax.tyInt
-              Syntax.w8)) (Row.lease (κs .1 .0) (qs .1 .0)) 0 (λ x. x) record { fits = Dec'.lit< tt } (Reads'.as-is 𝓤 H A (Rows.sslice (Referent.rtF (Referent.fInt Syntax.w8)) (Syntax.tyRef (Syntax.named
-              1) Syntax.imm (Syntax.tyInt Syntax.w8)) 1)) Path'.refl tt) d79
+          d80 : Typed.Typed 𝓤 H A 𝓣 E (on T0 l13) b54 Δ0 at80
+          d80 = Typed.g-pre 𝓤 H A W 𝓣 E (on T0 l13) (on T0 l13) b54 Δ0 (Typed.give s1) at79 (Know.g-shs-known 𝓤 H A W (Referent.fInt Syntax.w8) E (on T0 l13) 2 1 y2 k1 0 (λ x. x) record
+              { fits = Dec'.lit< tt } (Reads'.as-is 𝓤 H A (Rows.sslice n8 y2 1)) Path'.refl tt) d79
 
-          d81 : Typed.Typed 𝓤 H A 𝓣 E G0 b54 Δ0 at81
-          d81 = Typed.g-pre 𝓤 H A W 𝓣 E G0 G2 b54 Δ0 (Typed.give s0) at80 (Know.g-sl-known 𝓤 H A W (Referent.fInt Syntax.w8) E G0 1 0 (Syntax.tyRef (Syntax.named 0) Syntax.mut (Syntax.tyInt
-              Syntax.w8)) (Row.lease (κs .0) (qs .0)) 0 (λ x. x) record { fits = Dec'.lit< tt } (Reads'.as-is 𝓤 H A (Mut.mslice (Referent.rtF (Referent.fInt Syntax.w8)) (Syntax.tyRef (Syntax.named 0)
-              Syntax.mut (Syntax.tyInt Syntax.w8)) 0)) Path'.refl tt) d80
+          d81 : Typed.Typed 𝓤 H A 𝓣 E (on T0 l13) b54 Δ0 at81
+          d81 = Typed.g-pre 𝓤 H A W 𝓣 E (on T0 l13) (on T0 l13) b54 Δ0 (Typed.give s0) at80 (Know.g-sl-known 𝓤 H A W (Referent.fInt Syntax.w8) E (on T0 l13) 1 0 y1 k0 0 (λ x. x) record
+              { fits = Dec'.lit< tt } (Reads'.as-is 𝓤 H A (Mut.mslice n8 y1 0)) Path'.refl tt) d80
 
           pub typed : Typed.Typed 𝓤 H A 𝓣 E (Function.Γin 4 ps r xs m κs qs) b54 (Function.Δret 4 ps r xs m κs qs) Φ
           typed = d81
 
       module _ (κs : Lifetimes.Lfts 4) where
         pub record Args : Type 0 where
-          pub state : Kinds.Den {n = 4} κs (MutSlice.pMutS (Referent.rtF (Referent.fInt Syntax.w8)) 0 tt)
-          pub d : Kinds.Den {n = 4} κs (ShrSlice.pShrS (Referent.rtF (Referent.fInt Syntax.w8)) 1 tt)
-          pub h : Kinds.Den {n = 4} κs (Value.pVal record {
-            ty = Declared.row FujiHeader.the-type;
-            one = Path'.refl;
-            val = Laws''.val FujiHeader.the-type Laws'.the-laws;
-            tells = Laws''.tells FujiHeader.the-type Laws'.the-laws;
-            still = Laws''.still
-                FujiHeader.the-type Laws'.the-copy Exit.yes;
-            row = Rows.whole (Declared.row FujiHeader.the-type);
-            rd = λ x. x;
-            mk = λ x. x;
-          } λ M 𝓤 H A W. record {
-            copies = Laws''.copy FujiHeader.the-type Laws'.the-copy 𝓤 H A W;
-            lawful = Laws''.lawful FujiHeader.the-type Laws'.the-laws 𝓤 H A W;
-            makes = Laws''.makes FujiHeader.the-type Laws'.the-plain
-                𝓤 H A;
-            in-mem = Local.mem-whole 𝓤 H A W (Declared.row FujiHeader.the-type);
-            of-mem = Local.whole-mem 𝓤 H A W (Declared.row FujiHeader.the-type);
-          })
+          pub state : Kinds.Den {n = 4} κs (MutSlice.pMutS n8 0 tt)
+          pub d : Kinds.Den {n = 4} κs (ShrSlice.pShrS n8 1 tt)
+          pub h : Kinds.Den {n = 4} κs (Values.struct FujiHeader.the-type Laws'.the-laws Laws'.the-copy Laws'.the-plain)
           pub b : Kinds.Den {n = 4} κs (Num.pNum Syntax.w64)
           pub line : Kinds.Den {n = 4} κs (Num.pNum Syntax.w64)
           pub at : Kinds.Den {n = 4} κs (Num.pNum Syntax.w64)
-          pub lines : Kinds.Den {n = 4} κs (ShrSlice.pShrS (Referent.rtF (Referent.fInt Syntax.w16)) 2 tt)
+          pub lines : Kinds.Den {n = 4} κs (ShrSlice.pShrS n16 2 tt)
           pub rs : Kinds.Den {n = 4} κs (MutSlice.pMutS (Element.type) 3 tt)
 
         abbrev pub dens : (a : Args) → Kinds.Dens κs ps
@@ -2683,7 +1766,7 @@ module _ (claims· : Claims) where
         pub fits : Ranges κs args
         pub pre : Pre· κs (dens κs args)
 
-      abbrev pub m1 : (before : Start) → (given : s0 .gives (m0 (before .κs) (before .args))) → Typed.Mo T2
+      abbrev pub m1 : (before : Start) → (given : s0 .gives (m0 (before .κs) (before .args))) → Typed.Mo T0
       m1 = λ before given. s0 .next (m0 (before .κs) (before .args)) given
 
       module _ (before· : Start) where
@@ -2694,7 +1777,7 @@ module _ (claims· : Claims) where
         pub before : Start
         pub slice-known : After-slice-known·own before
 
-      abbrev pub m2 : (before : After-slice-known) → (given : s1 .gives (m1 (before .before) (before .slice-known .given))) → Typed.Mo T3
+      abbrev pub m2 : (before : After-slice-known) → (given : s1 .gives (m1 (before .before) (before .slice-known .given))) → Typed.Mo T0
       m2 = λ before given. s1 .next (m1 (before .before) (before .slice-known .given)) given
 
       module _ (before· : After-slice-known) where
@@ -2705,11 +1788,8 @@ module _ (claims· : Claims) where
         pub before : After-slice-known
         pub shared-slice-known : After-shared-slice-known·own before
 
-      abbrev pub m3 : (before : After-shared-slice-known) → (given : s2 .gives (m2 (before .before) (before .shared-slice-known .given))) → Typed.Mo T4
-      m3 = λ before given. s2 .next (m2 (before .before) (before .shared-slice-known .given)) given
-
       abbrev pub m4 : (before : After-shared-slice-known) → (given : s2 .gives (m2 (before .before) (before .shared-slice-known .given))) → Typed.Mo T5
-      m4 = λ before given. s3 (m3 before given)
+      m4 = λ before given. s3 (s2 .next (m2 (before .before) (before .shared-slice-known .given)) given)
 
       module _ (before· : After-shared-slice-known) where
         pub record After-shared-slice-known2·own : Type 0 where
@@ -2719,11 +1799,8 @@ module _ (claims· : Claims) where
         pub before : After-shared-slice-known
         pub shared-slice-known2 : After-shared-slice-known2·own before
 
-      abbrev pub m5 : (before : After-shared-slice-known2) → (given : s5 .gives (m4 (before .before) (before .shared-slice-known2 .given))) → Typed.Mo T7
-      m5 = λ before given. s5 .next (m4 (before .before) (before .shared-slice-known2 .given)) given
-
       abbrev pub m6 : (before : After-shared-slice-known2) → (given : s5 .gives (m4 (before .before) (before .shared-slice-known2 .given))) → Typed.Mo T8
-      m6 = λ before given. s6 .next (m5 before given)
+      m6 = λ before given. s6 .next (s5 .next (m4 (before .before) (before .shared-slice-known2 .given)) given)
 
       module _ (before· : After-shared-slice-known2) where
         pub record After-store-head-arg·own : Type 0 where
@@ -2741,27 +1818,22 @@ module _ (claims· : Claims) where
 
       module _ (before· : After-store-head-arg) where
         abbrev pub After-store-head·own : Type 0
-        After-store-head·own = Called.Called ps·0 r·0 (claims· .1) T8 (
-          record { pos = 12; ty = Syntax.tyRef Syntax.erased Syntax.mut (Syntax.tyInt Syntax.w8); ref = λ x. x },
-          (record { pos = 2; ty = Syntax.tyRef (Syntax.named 1) Syntax.imm (Syntax.tyInt Syntax.w8); ref = λ x. x }, (Num.vAt 4 λ x. x, (Num.vAt 5 λ x. x, (Num.vAt 6 λ x. x, tt)))),
-        ) (m6 (before·
-            .before) (before· .store-head-arg .given))
+        After-store-head·own = Called.Called ps·0 r·0 (claims· .1) T8 a0 (m6 (before· .before) (before· .store-head-arg .given))
 
       pub record After-store-head : Type 0 where
         pub before : After-store-head-arg
         pub store-head : After-store-head·own before
 
+      abbrev pub After-store-head·start : After-store-head → Start
+      After-store-head·start = λ c. c .before .before .before .before .before
+
       abbrev pub After-store-head·gave : (c : After-store-head) → s7 .gives (m6 (c .before .before) (c .before .store-head-arg .given))
-      After-store-head·gave = λ c. Called.given ps·0 r·0 (claims· .1) T8 (
-        record { pos = 12; ty = Syntax.tyRef Syntax.erased Syntax.mut (Syntax.tyInt Syntax.w8); ref = λ x. x },
-        (record { pos = 2; ty = Syntax.tyRef (Syntax.named 1) Syntax.imm (Syntax.tyInt Syntax.w8); ref = λ x. x }, (Num.vAt 4 λ x. x, (Num.vAt 5 λ x. x, (Num.vAt 6 λ x. x, tt)))),
-      ) (m6 (c .before
-          .before) (c .before .store-head-arg .given)) (c .store-head)
+      After-store-head·gave = λ c. Called.given ps·0 r·0 (claims· .1) T8 a0 (m6 (c .before .before) (c .before .store-head-arg .given)) (c .store-head)
 
       abbrev pub m8 : (before : After-store-head-arg) → (given : s7 .gives (m6 (before .before) (before .store-head-arg .given))) → Typed.Mo T10
       m8 = λ before given. s8 (m7 before given)
 
-      abbrev pub m9 : (before : After-store-head) → (given : s10 .gives (m8 (before .before) (After-store-head·gave before))) → Typed.Mo T12
+      abbrev pub m9 : (before : After-store-head) → (given : s10 .gives (m8 (before .before) (After-store-head·gave before))) → Typed.Mo T5
       m9 = λ before given. s10 .next (m8 (before .before) (After-store-head·gave before)) given
 
       module _ (before· : After-store-head) where
@@ -2772,7 +1844,7 @@ module _ (claims· : Claims) where
         pub before : After-store-head
         pub state : After-state·own before
 
-      abbrev pub m10 : (before : After-state) → (given : s11 .gives (m9 (before .before) (before .state .given))) → Typed.Mo T13
+      abbrev pub m10 : (before : After-state) → (given : s11 .gives (m9 (before .before) (before .state .given))) → Typed.Mo T5
       m10 = λ before given. s11 .next (m9 (before .before) (before .state .given)) given
 
       module _ (before· : After-state) where
@@ -2783,11 +1855,8 @@ module _ (claims· : Claims) where
         pub before : After-state
         pub slice-known2 : After-slice-known2·own before
 
-      abbrev pub m11 : (before : After-slice-known2) → (given : s14 .gives (m10 (before .before) (before .slice-known2 .given))) → Typed.Mo T16
-      m11 = λ before given. s14 .next (m10 (before .before) (before .slice-known2 .given)) given
-
       abbrev pub m12 : (before : After-slice-known2) → (given : s14 .gives (m10 (before .before) (before .slice-known2 .given))) → Typed.Mo T17
-      m12 = λ before given. s15 .next (m11 before given)
+      m12 = λ before given. s15 .next (s14 .next (m10 (before .before) (before .slice-known2 .given)) given)
 
       module _ (before· : After-slice-known2) where
         pub record After-store-set-arg·own : Type 0 where
@@ -2797,11 +1866,8 @@ module _ (claims· : Claims) where
         pub before : After-slice-known2
         pub store-set-arg : After-store-set-arg·own before
 
-      abbrev pub m13 : (before : After-store-set-arg) → (given : s17 .gives (m12 (before .before) (before .store-set-arg .given))) → Typed.Mo T19
-      m13 = λ before given. s17 .next (m12 (before .before) (before .store-set-arg .given)) given
-
       abbrev pub m14 : (before : After-store-set-arg) → (given : s17 .gives (m12 (before .before) (before .store-set-arg .given))) → Typed.Mo T20
-      m14 = λ before given. s18 .next (m13 before given)
+      m14 = λ before given. s18 .next (s17 .next (m12 (before .before) (before .store-set-arg .given)) given)
 
       module _ (before· : After-store-set-arg) where
         pub record After-load-set-arg·own : Type 0 where
@@ -2819,16 +1885,18 @@ module _ (claims· : Claims) where
 
       module _ (before· : After-load-set-arg) where
         abbrev pub After-load-set·own : Type 0
-        After-load-set·own = Called.Called ps·1 r·1 (claims· .3) T20 (record { pos = 17; ty = Syntax.tyRef Syntax.erased Syntax.mut Element.behind; ref = λ x. x }, (Num.vLit 0, tt)) (m14 (before·
-            .before) (before· .load-set-arg .given))
+        After-load-set·own = Called.Called ps·1 r·1 (claims· .3) T20 (record { pos = 17; ty = y5; ref = λ x. x }, (Num.vLit 0, tt)) (m14 (before· .before) (before· .load-set-arg .given))
 
       pub record After-load-set : Type 0 where
         pub before : After-load-set-arg
         pub load-set : After-load-set·own before
 
+      abbrev pub After-load-set·start : After-load-set → Start
+      After-load-set·start = λ c. c .before .before .before .before .before .before .before .before .before .before
+
       abbrev pub After-load-set·gave : (c : After-load-set) → s19 .gives (m14 (c .before .before) (c .before .load-set-arg .given))
-      After-load-set·gave = λ c. Called.given ps·1 r·1 (claims· .3) T20 (record { pos = 17; ty = Syntax.tyRef Syntax.erased Syntax.mut Element.behind; ref = λ x. x }, (Num.vLit 0, tt)) (m14 (c
-          .before .before) (c .before .load-set-arg .given)) (c .load-set)
+      After-load-set·gave = λ c. Called.given ps·1 r·1 (claims· .3) T20 (record { pos = 17; ty = y5; ref = λ x. x }, (Num.vLit 0, tt)) (m14 (c .before .before) (c .before .load-set-arg .given)) (c
+          .load-set)
 
       abbrev pub m16 : (before : After-load-set) → (given : s21 .gives (m15 (before .before) (After-load-set·gave before))) → Typed.Mo T23
       m16 = λ before given. s21 .next (m15 (before .before) (After-load-set·gave before)) given
@@ -2849,28 +1917,22 @@ module _ (claims· : Claims) where
 
       module _ (before· : After-rs) where
         abbrev pub After-store-set·own : Type 0
-        After-store-set·own = Called.Called ps·2 r·2 (claims· .5) T23 (
-          record { pos = 14; ty = Syntax.tyRef Syntax.erased Syntax.mut (Syntax.tyInt Syntax.w8); ref = λ x. x },
-          (Num.vLit 0, (record { pos = 15; st = List.[]; d = 0; at = λ x. x }, (Bool.bAt 9 λ x. x, tt))),
-        ) (m16 (before· .before) (before· .rs .given))
+        After-store-set·own = Called.Called ps·2 r·2 (claims· .5) T23 a1 (m16 (before· .before) (before· .rs .given))
 
       pub record After-store-set : Type 0 where
         pub before : After-rs
         pub store-set : After-store-set·own before
 
-      abbrev pub After-store-set·gave : (c : After-store-set) → s23 .gives (m16 (c .before .before) (c .before .rs .given))
-      After-store-set·gave = λ c. Called.given ps·2 r·2 (claims· .5) T23 (
-        record { pos = 14; ty = Syntax.tyRef Syntax.erased Syntax.mut (Syntax.tyInt Syntax.w8); ref = λ x. x },
-        (Num.vLit 0, (record { pos = 15; st = List.[]; d = 0; at = λ x. x }, (Bool.bAt 9 λ x. x, tt))),
-      ) (m16 (c .before .before) (c .before .rs .given)) (c .store-set)
+      abbrev pub After-store-set·start : After-store-set → Start
+      After-store-set·start = λ c. c .before .before .before .before .before .before .before .before .before .before .before .before
 
-      abbrev pub m18 : (before : After-rs) → (given : s23 .gives (m16 (before .before) (before .rs .given))) → Typed.Mo T26
-      m18 = λ before given. s24 (m17 before given)
+      abbrev pub After-store-set·gave : (c : After-store-set) → s23 .gives (m16 (c .before .before) (c .before .rs .given))
+      After-store-set·gave = λ c. Called.given ps·2 r·2 (claims· .5) T23 a1 (m16 (c .before .before) (c .before .rs .given)) (c .store-set)
 
       abbrev pub m19 : (before : After-rs) → (given : s23 .gives (m16 (before .before) (before .rs .given))) → Typed.Mo T27
-      m19 = λ before given. s25 (m18 before given)
+      m19 = λ before given. s25 (s24 (m17 before given))
 
-      abbrev pub m20 : (before : After-store-set) → (given : s27 .gives (m19 (before .before) (After-store-set·gave before))) → Typed.Mo T29
+      abbrev pub m20 : (before : After-store-set) → (given : s27 .gives (m19 (before .before) (After-store-set·gave before))) → Typed.Mo T5
       m20 = λ before given. s27 .next (m19 (before .before) (After-store-set·gave before)) given
 
       module _ (before· : After-store-set) where
@@ -2881,7 +1943,7 @@ module _ (claims· : Claims) where
         pub before : After-store-set
         pub state2 : After-state2·own before
 
-      abbrev pub m21 : (before : After-state2) → (given : s28 .gives (m20 (before .before) (before .state2 .given))) → Typed.Mo T30
+      abbrev pub m21 : (before : After-state2) → (given : s28 .gives (m20 (before .before) (before .state2 .given))) → Typed.Mo T5
       m21 = λ before given. s28 .next (m20 (before .before) (before .state2 .given)) given
 
       module _ (before· : After-state2) where
@@ -2892,11 +1954,8 @@ module _ (claims· : Claims) where
         pub before : After-state2
         pub slice-known3 : After-slice-known3·own before
 
-      abbrev pub m22 : (before : After-slice-known3) → (given : s31 .gives (m21 (before .before) (before .slice-known3 .given))) → Typed.Mo T33
-      m22 = λ before given. s31 .next (m21 (before .before) (before .slice-known3 .given)) given
-
       abbrev pub m23 : (before : After-slice-known3) → (given : s31 .gives (m21 (before .before) (before .slice-known3 .given))) → Typed.Mo T34
-      m23 = λ before given. s32 .next (m22 before given)
+      m23 = λ before given. s32 .next (s31 .next (m21 (before .before) (before .slice-known3 .given)) given)
 
       module _ (before· : After-slice-known3) where
         pub record After-store-set-arg2·own : Type 0 where
@@ -2906,11 +1965,8 @@ module _ (claims· : Claims) where
         pub before : After-slice-known3
         pub store-set-arg2 : After-store-set-arg2·own before
 
-      abbrev pub m24 : (before : After-store-set-arg2) → (given : s34 .gives (m23 (before .before) (before .store-set-arg2 .given))) → Typed.Mo T36
-      m24 = λ before given. s34 .next (m23 (before .before) (before .store-set-arg2 .given)) given
-
       abbrev pub m25 : (before : After-store-set-arg2) → (given : s34 .gives (m23 (before .before) (before .store-set-arg2 .given))) → Typed.Mo T37
-      m25 = λ before given. s35 .next (m24 before given)
+      m25 = λ before given. s35 .next (s34 .next (m23 (before .before) (before .store-set-arg2 .given)) given)
 
       module _ (before· : After-store-set-arg2) where
         pub record After-load-set-arg2·own : Type 0 where
@@ -2928,16 +1984,18 @@ module _ (claims· : Claims) where
 
       module _ (before· : After-load-set-arg2) where
         abbrev pub After-load-set2·own : Type 0
-        After-load-set2·own = Called.Called ps·1 r·1 (claims· .3) T37 (record { pos = 21; ty = Syntax.tyRef Syntax.erased Syntax.mut Element.behind; ref = λ x. x }, (Num.vLit 1, tt)) (m25 (before·
-            .before) (before· .load-set-arg2 .given))
+        After-load-set2·own = Called.Called ps·1 r·1 (claims· .3) T37 (record { pos = 21; ty = y5; ref = λ x. x }, (Num.vLit 1, tt)) (m25 (before· .before) (before· .load-set-arg2 .given))
 
       pub record After-load-set2 : Type 0 where
         pub before : After-load-set-arg2
         pub load-set2 : After-load-set2·own before
 
+      abbrev pub After-load-set2·start : After-load-set2 → Start
+      After-load-set2·start = λ c. c .before .before .before .before .before .before .before .before .before .before .before .before .before .before .before .before .before
+
       abbrev pub After-load-set2·gave : (c : After-load-set2) → s36 .gives (m25 (c .before .before) (c .before .load-set-arg2 .given))
-      After-load-set2·gave = λ c. Called.given ps·1 r·1 (claims· .3) T37 (record { pos = 21; ty = Syntax.tyRef Syntax.erased Syntax.mut Element.behind; ref = λ x. x }, (Num.vLit 1, tt)) (m25 (c
-          .before .before) (c .before .load-set-arg2 .given)) (c .load-set2)
+      After-load-set2·gave = λ c. Called.given ps·1 r·1 (claims· .3) T37 (record { pos = 21; ty = y5; ref = λ x. x }, (Num.vLit 1, tt)) (m25 (c .before .before) (c .before .load-set-arg2 .given)) (c
+          .load-set2)
 
       abbrev pub m27 : (before : After-load-set2) → (given : s38 .gives (m26 (before .before) (After-load-set2·gave before))) → Typed.Mo T40
       m27 = λ before given. s38 .next (m26 (before .before) (After-load-set2·gave before)) given
@@ -2958,28 +2016,22 @@ module _ (claims· : Claims) where
 
       module _ (before· : After-rs2) where
         abbrev pub After-store-set2·own : Type 0
-        After-store-set2·own = Called.Called ps·2 r·2 (claims· .5) T40 (
-          record { pos = 19; ty = Syntax.tyRef Syntax.erased Syntax.mut (Syntax.tyInt Syntax.w8); ref = λ x. x },
-          (Num.vLit 1, (record { pos = 15; st = List.[]; d = 0; at = λ x. x }, (Bool.bAt 9 λ x. x, tt))),
-        ) (m27 (before· .before) (before· .rs2 .given))
+        After-store-set2·own = Called.Called ps·2 r·2 (claims· .5) T40 a2 (m27 (before· .before) (before· .rs2 .given))
 
       pub record After-store-set2 : Type 0 where
         pub before : After-rs2
         pub store-set2 : After-store-set2·own before
 
-      abbrev pub After-store-set2·gave : (c : After-store-set2) → s40 .gives (m27 (c .before .before) (c .before .rs2 .given))
-      After-store-set2·gave = λ c. Called.given ps·2 r·2 (claims· .5) T40 (
-        record { pos = 19; ty = Syntax.tyRef Syntax.erased Syntax.mut (Syntax.tyInt Syntax.w8); ref = λ x. x },
-        (Num.vLit 1, (record { pos = 15; st = List.[]; d = 0; at = λ x. x }, (Bool.bAt 9 λ x. x, tt))),
-      ) (m27 (c .before .before) (c .before .rs2 .given)) (c .store-set2)
+      abbrev pub After-store-set2·start : After-store-set2 → Start
+      After-store-set2·start = λ c. c .before .before .before .before .before .before .before .before .before .before .before .before .before .before .before .before .before .before .before
 
-      abbrev pub m29 : (before : After-rs2) → (given : s40 .gives (m27 (before .before) (before .rs2 .given))) → Typed.Mo T43
-      m29 = λ before given. s41 (m28 before given)
+      abbrev pub After-store-set2·gave : (c : After-store-set2) → s40 .gives (m27 (c .before .before) (c .before .rs2 .given))
+      After-store-set2·gave = λ c. Called.given ps·2 r·2 (claims· .5) T40 a2 (m27 (c .before .before) (c .before .rs2 .given)) (c .store-set2)
 
       abbrev pub m30 : (before : After-rs2) → (given : s40 .gives (m27 (before .before) (before .rs2 .given))) → Typed.Mo T44
-      m30 = λ before given. s42 (m29 before given)
+      m30 = λ before given. s42 (s41 (m28 before given))
 
-      abbrev pub m31 : (before : After-store-set2) → (given : s44 .gives (m30 (before .before) (After-store-set2·gave before))) → Typed.Mo T46
+      abbrev pub m31 : (before : After-store-set2) → (given : s44 .gives (m30 (before .before) (After-store-set2·gave before))) → Typed.Mo T5
       m31 = λ before given. s44 .next (m30 (before .before) (After-store-set2·gave before)) given
 
       module _ (before· : After-store-set2) where
@@ -2990,7 +2042,7 @@ module _ (claims· : Claims) where
         pub before : After-store-set2
         pub state3 : After-state3·own before
 
-      abbrev pub m32 : (before : After-state3) → (given : s45 .gives (m31 (before .before) (before .state3 .given))) → Typed.Mo T47
+      abbrev pub m32 : (before : After-state3) → (given : s45 .gives (m31 (before .before) (before .state3 .given))) → Typed.Mo T5
       m32 = λ before given. s45 .next (m31 (before .before) (before .state3 .given)) given
 
       module _ (before· : After-state3) where
@@ -3001,11 +2053,8 @@ module _ (claims· : Claims) where
         pub before : After-state3
         pub slice-known4 : After-slice-known4·own before
 
-      abbrev pub m33 : (before : After-slice-known4) → (given : s48 .gives (m32 (before .before) (before .slice-known4 .given))) → Typed.Mo T50
-      m33 = λ before given. s48 .next (m32 (before .before) (before .slice-known4 .given)) given
-
       abbrev pub m34 : (before : After-slice-known4) → (given : s48 .gives (m32 (before .before) (before .slice-known4 .given))) → Typed.Mo T51
-      m34 = λ before given. s49 .next (m33 before given)
+      m34 = λ before given. s49 .next (s48 .next (m32 (before .before) (before .slice-known4 .given)) given)
 
       module _ (before· : After-slice-known4) where
         pub record After-store-set-arg3·own : Type 0 where
@@ -3015,11 +2064,8 @@ module _ (claims· : Claims) where
         pub before : After-slice-known4
         pub store-set-arg3 : After-store-set-arg3·own before
 
-      abbrev pub m35 : (before : After-store-set-arg3) → (given : s51 .gives (m34 (before .before) (before .store-set-arg3 .given))) → Typed.Mo T53
-      m35 = λ before given. s51 .next (m34 (before .before) (before .store-set-arg3 .given)) given
-
       abbrev pub m36 : (before : After-store-set-arg3) → (given : s51 .gives (m34 (before .before) (before .store-set-arg3 .given))) → Typed.Mo T54
-      m36 = λ before given. s52 .next (m35 before given)
+      m36 = λ before given. s52 .next (s51 .next (m34 (before .before) (before .store-set-arg3 .given)) given)
 
       module _ (before· : After-store-set-arg3) where
         pub record After-load-set-arg3·own : Type 0 where
@@ -3037,16 +2083,19 @@ module _ (claims· : Claims) where
 
       module _ (before· : After-load-set-arg3) where
         abbrev pub After-load-set3·own : Type 0
-        After-load-set3·own = Called.Called ps·1 r·1 (claims· .3) T54 (record { pos = 25; ty = Syntax.tyRef Syntax.erased Syntax.mut Element.behind; ref = λ x. x }, (Num.vLit 2, tt)) (m36 (before·
-            .before) (before· .load-set-arg3 .given))
+        After-load-set3·own = Called.Called ps·1 r·1 (claims· .3) T54 (record { pos = 25; ty = y5; ref = λ x. x }, (Num.vLit 2, tt)) (m36 (before· .before) (before· .load-set-arg3 .given))
 
       pub record After-load-set3 : Type 0 where
         pub before : After-load-set-arg3
         pub load-set3 : After-load-set3·own before
 
+      abbrev pub After-load-set3·start : After-load-set3 → Start
+      After-load-set3·start = λ c. c .before .before .before .before .before .before .before .before .before .before .before .before .before .before .before .before .before .before .before .before
+          .before .before .before .before
+
       abbrev pub After-load-set3·gave : (c : After-load-set3) → s53 .gives (m36 (c .before .before) (c .before .load-set-arg3 .given))
-      After-load-set3·gave = λ c. Called.given ps·1 r·1 (claims· .3) T54 (record { pos = 25; ty = Syntax.tyRef Syntax.erased Syntax.mut Element.behind; ref = λ x. x }, (Num.vLit 2, tt)) (m36 (c
-          .before .before) (c .before .load-set-arg3 .given)) (c .load-set3)
+      After-load-set3·gave = λ c. Called.given ps·1 r·1 (claims· .3) T54 (record { pos = 25; ty = y5; ref = λ x. x }, (Num.vLit 2, tt)) (m36 (c .before .before) (c .before .load-set-arg3 .given)) (c
+          .load-set3)
 
       abbrev pub m38 : (before : After-load-set3) → (given : s55 .gives (m37 (before .before) (After-load-set3·gave before))) → Typed.Mo T57
       m38 = λ before given. s55 .next (m37 (before .before) (After-load-set3·gave before)) given
@@ -3067,28 +2116,23 @@ module _ (claims· : Claims) where
 
       module _ (before· : After-rs3) where
         abbrev pub After-store-set3·own : Type 0
-        After-store-set3·own = Called.Called ps·2 r·2 (claims· .5) T57 (
-          record { pos = 23; ty = Syntax.tyRef Syntax.erased Syntax.mut (Syntax.tyInt Syntax.w8); ref = λ x. x },
-          (Num.vLit 2, (record { pos = 15; st = List.[]; d = 0; at = λ x. x }, (Bool.bAt 9 λ x. x, tt))),
-        ) (m38 (before· .before) (before· .rs3 .given))
+        After-store-set3·own = Called.Called ps·2 r·2 (claims· .5) T57 a3 (m38 (before· .before) (before· .rs3 .given))
 
       pub record After-store-set3 : Type 0 where
         pub before : After-rs3
         pub store-set3 : After-store-set3·own before
 
-      abbrev pub After-store-set3·gave : (c : After-store-set3) → s57 .gives (m38 (c .before .before) (c .before .rs3 .given))
-      After-store-set3·gave = λ c. Called.given ps·2 r·2 (claims· .5) T57 (
-        record { pos = 23; ty = Syntax.tyRef Syntax.erased Syntax.mut (Syntax.tyInt Syntax.w8); ref = λ x. x },
-        (Num.vLit 2, (record { pos = 15; st = List.[]; d = 0; at = λ x. x }, (Bool.bAt 9 λ x. x, tt))),
-      ) (m38 (c .before .before) (c .before .rs3 .given)) (c .store-set3)
+      abbrev pub After-store-set3·start : After-store-set3 → Start
+      After-store-set3·start = λ c. c .before .before .before .before .before .before .before .before .before .before .before .before .before .before .before .before .before .before .before .before
+          .before .before .before .before .before .before
 
-      abbrev pub m40 : (before : After-rs3) → (given : s57 .gives (m38 (before .before) (before .rs3 .given))) → Typed.Mo T60
-      m40 = λ before given. s58 (m39 before given)
+      abbrev pub After-store-set3·gave : (c : After-store-set3) → s57 .gives (m38 (c .before .before) (c .before .rs3 .given))
+      After-store-set3·gave = λ c. Called.given ps·2 r·2 (claims· .5) T57 a3 (m38 (c .before .before) (c .before .rs3 .given)) (c .store-set3)
 
       abbrev pub m41 : (before : After-rs3) → (given : s57 .gives (m38 (before .before) (before .rs3 .given))) → Typed.Mo T61
-      m41 = λ before given. s59 (m40 before given)
+      m41 = λ before given. s59 (s58 (m39 before given))
 
-      abbrev pub m42 : (before : After-store-set3) → (given : s61 .gives (m41 (before .before) (After-store-set3·gave before))) → Typed.Mo T63
+      abbrev pub m42 : (before : After-store-set3) → (given : s61 .gives (m41 (before .before) (After-store-set3·gave before))) → Typed.Mo T5
       m42 = λ before given. s61 .next (m41 (before .before) (After-store-set3·gave before)) given
 
       module _ (before· : After-store-set3) where
@@ -3099,7 +2143,7 @@ module _ (claims· : Claims) where
         pub before : After-store-set3
         pub state4 : After-state4·own before
 
-      abbrev pub m43 : (before : After-state4) → (given : s62 .gives (m42 (before .before) (before .state4 .given))) → Typed.Mo T64
+      abbrev pub m43 : (before : After-state4) → (given : s62 .gives (m42 (before .before) (before .state4 .given))) → Typed.Mo T5
       m43 = λ before given. s62 .next (m42 (before .before) (before .state4 .given)) given
 
       module _ (before· : After-state4) where
@@ -3110,11 +2154,8 @@ module _ (claims· : Claims) where
         pub before : After-state4
         pub slice-known5 : After-slice-known5·own before
 
-      abbrev pub m44 : (before : After-slice-known5) → (given : s65 .gives (m43 (before .before) (before .slice-known5 .given))) → Typed.Mo T67
-      m44 = λ before given. s65 .next (m43 (before .before) (before .slice-known5 .given)) given
-
       abbrev pub m45 : (before : After-slice-known5) → (given : s65 .gives (m43 (before .before) (before .slice-known5 .given))) → Typed.Mo T68
-      m45 = λ before given. s66 .next (m44 before given)
+      m45 = λ before given. s66 .next (s65 .next (m43 (before .before) (before .slice-known5 .given)) given)
 
       module _ (before· : After-slice-known5) where
         pub record After-store-lines-arg·own : Type 0 where
@@ -3132,16 +2173,20 @@ module _ (claims· : Claims) where
 
       module _ (before· : After-store-lines-arg) where
         abbrev pub After-width·own : Type 0
-        After-width·own = Called.Called ps·3 r·3 (claims· .7) T68 (Bool.bFld 3 (List._∷_ (Syntax.field 1) List.[]) 1 λ x. FujiHeader.struct .as-values x .1 .0, tt) (m45 (before· .before) (before·
-            .store-lines-arg .given))
+        After-width·own = Called.Called ps·3 r·3 (claims· .7) T68 (Bool.bFld 3 ((Syntax.field 1) ∷ []) 1 λ x. FujiHeader.struct .as-values x .1 .0, tt) (m45 (before· .before) (before· .store-lines-arg
+            .given))
 
       pub record After-width : Type 0 where
         pub before : After-store-lines-arg
         pub width : After-width·own before
 
+      abbrev pub After-width·start : After-width → Start
+      After-width·start = λ c. c .before .before .before .before .before .before .before .before .before .before .before .before .before .before .before .before .before .before .before .before .before
+          .before .before .before .before .before .before .before .before .before
+
       abbrev pub After-width·gave : (c : After-width) → s67 .gives (m45 (c .before .before) (c .before .store-lines-arg .given))
-      After-width·gave = λ c. Called.given ps·3 r·3 (claims· .7) T68 (Bool.bFld 3 (List._∷_ (Syntax.field 1) List.[]) 1 λ x. FujiHeader.struct .as-values x .1 .0, tt) (m45 (c .before .before) (c
-          .before .store-lines-arg .given)) (c .width)
+      After-width·gave = λ c. Called.given ps·3 r·3 (claims· .7) T68 (Bool.bFld 3 ((Syntax.field 1) ∷ []) 1 λ x. FujiHeader.struct .as-values x .1 .0, tt) (m45 (c .before .before) (c .before
+          .store-lines-arg .given)) (c .width)
 
       abbrev pub m47 : (before : After-store-lines-arg) → (given : s67 .gives (m45 (before .before) (before .store-lines-arg .given))) → Typed.Mo T70
       m47 = λ before given. s68 (m46 before given)
@@ -3154,27 +2199,23 @@ module _ (claims· : Claims) where
 
       module _ (before· : After-width) where
         abbrev pub After-store-lines·own : Type 0
-        After-store-lines·own = Called.Called ps·4 r·4 (claims· .9) T70 (
-          record { pos = 27; ty = Syntax.tyRef Syntax.erased Syntax.mut (Syntax.tyInt Syntax.w8); ref = λ x. x },
-          (record { pos = 7; ty = Syntax.tyRef (Syntax.named 2) Syntax.imm (Syntax.tyInt Syntax.w16); ref = λ x. x }, (Num.vAt 28 λ x. x, tt)),
-        ) (m47 (before· .before) (After-width·gave before·))
+        After-store-lines·own = Called.Called ps·4 r·4 (claims· .9) T70 (record { pos = 27; ty = y6; ref = λ x. x }, (record { pos = 7; ty = y3; ref = λ x. x }, (Num.vAt 28 λ x. x, tt))) (m47
+            (before· .before) (After-width·gave before·))
 
       pub record After-store-lines : Type 0 where
         pub before : After-width
         pub store-lines : After-store-lines·own before
 
-      abbrev pub After-store-lines·gave : (c : After-store-lines) → s69 .gives (m47 (c .before .before) (After-width·gave (c .before)))
-      After-store-lines·gave = λ c. Called.given ps·4 r·4 (claims· .9) T70 (
-        record { pos = 27; ty = Syntax.tyRef Syntax.erased Syntax.mut (Syntax.tyInt Syntax.w8); ref = λ x. x },
-        (record { pos = 7; ty = Syntax.tyRef (Syntax.named 2) Syntax.imm (Syntax.tyInt Syntax.w16); ref = λ x. x }, (Num.vAt 28 λ x. x, tt)),
-      ) (m47 (c .before .before) (After-width·gave (c .before))) (c
-          .store-lines)
+      abbrev pub After-store-lines·start : After-store-lines → Start
+      After-store-lines·start = λ c. c .before .before .before .before .before .before .before .before .before .before .before .before .before .before .before .before .before .before .before .before
+          .before .before .before .before .before .before .before .before .before .before .before
 
-      abbrev pub m49 : (before : After-width) → (given : s69 .gives (m47 (before .before) (After-width·gave before))) → Typed.Mo T72
-      m49 = λ before given. s70 (m48 before given)
+      abbrev pub After-store-lines·gave : (c : After-store-lines) → s69 .gives (m47 (c .before .before) (After-width·gave (c .before)))
+      After-store-lines·gave = λ c. Called.given ps·4 r·4 (claims· .9) T70 (record { pos = 27; ty = y6; ref = λ x. x }, (record { pos = 7; ty = y3; ref = λ x. x }, (Num.vAt 28 λ x. x, tt))) (m47 (c
+          .before .before) (After-width·gave (c .before))) (c .store-lines)
 
       abbrev pub m50 : (before : After-width) → (given : s69 .gives (m47 (before .before) (After-width·gave before))) → Typed.Mo T73
-      m50 = λ before given. s71 (m49 before given)
+      m50 = λ before given. s71 (s70 (m48 before given))
 
       abbrev pub m51 : (before : After-store-lines) → (given : s73 .gives (m50 (before .before) (After-store-lines·gave before))) → Typed.Mo T75
       m51 = λ before given. s73 .next (m50 (before .before) (After-store-lines·gave before)) given
@@ -3187,23 +2228,8 @@ module _ (claims· : Claims) where
         pub before : After-store-lines
         pub state5 : After-state5·own before
 
-      abbrev pub m52 : (before : After-state5) → (given : s74 .gives (m51 (before .before) (before .state5 .given))) → Typed.Mo T76
-      m52 = λ before given. s74 .next (m51 (before .before) (before .state5 .given)) given
-
-      abbrev pub m53 : (before : After-state5) → (given : s74 .gives (m51 (before .before) (before .state5 .given))) → Typed.Mo T78
-      m53 = λ before given. s76 (m52 before given)
-
-      abbrev pub m54 : (before : After-state5) → (given : s74 .gives (m51 (before .before) (before .state5 .given))) → Typed.Mo T79
-      m54 = λ before given. s77 (m53 before given)
-
-      abbrev pub m55 : (before : After-state5) → (given : s74 .gives (m51 (before .before) (before .state5 .given))) → Typed.Mo T80
-      m55 = λ before given. s78 (m54 before given)
-
-      abbrev pub m56 : (before : After-state5) → (given : s74 .gives (m51 (before .before) (before .state5 .given))) → Typed.Mo T81
-      m56 = λ before given. s79 (m55 before given)
-
-      abbrev pub m57 : (before : After-state5) → (given : s74 .gives (m51 (before .before) (before .state5 .given))) → Typed.Mo T82
-      m57 = λ before given. s80 (m56 before given)
+      abbrev pub m57 : (before : After-state5) → (given : s74 .gives (m51 (before .before) (before .state5 .given))) → Typed.Mo T1
+      m57 = λ before given. s80 (s79 (s78 (s77 (s76 (s74 .next (m51 (before .before) (before .state5 .given)) given)))))
 
       module _ (before· : After-state5) where
         pub record After-slice-known6·own : Type 0 where
@@ -3214,13 +2240,13 @@ module _ (claims· : Claims) where
         pub slice-known6 : After-slice-known6·own before
 
       abbrev pub Need-same-length : Type 0
-      Need-same-length = (c : After-slice-known6) → MutSlice.SameLen (Row.get 1 (T82 .locals) (m57 (c .before) (c .slice-known6 .given))) (dens (c .before .before .before .before .before .before
+      Need-same-length = (c : After-slice-known6) → MutSlice.SameLen (Row.get 1 (T1 .locals) (m57 (c .before) (c .slice-known6 .given))) (dens (c .before .before .before .before .before .before
           .before .before .before .before .before .before .before .before .before .before .before .before .before .before .before .before .before .before .before .before .before .before .before .before
           .before .before .before .κs) (c .before .before .before .before .before .before .before .before .before .before .before .before .before .before .before .before .before .before .before .before
           .before .before .before .before .before .before .before .before .before .before .before .before .before .args) .0)
 
       abbrev pub Need-same-length-2 : Type 0
-      Need-same-length-2 = (c : After-slice-known6) → MutSlice.SameLen (Row.get 8 (T82 .locals) (m57 (c .before) (c .slice-known6 .given))) (dens (c .before .before .before .before .before .before
+      Need-same-length-2 = (c : After-slice-known6) → MutSlice.SameLen (Row.get 8 (T1 .locals) (m57 (c .before) (c .slice-known6 .given))) (dens (c .before .before .before .before .before .before
           .before .before .before .before .before .before .before .before .before .before .before .before .before .before .before .before .before .before .before .before .before .before .before .before
           .before .before .before .κs) (c .before .before .before .before .before .before .before .before .before .before .before .before .before .before .before .before .before .before .before .before
           .before .before .before .before .before .before .before .before .before .before .before .before .before .args) .1 .1 .1 .1 .1 .1 .1 .0)
@@ -3246,270 +2272,143 @@ module _ (claims· : Claims) where
       module _ (store-head-requires : Need-store-head-requires) (load-set-requires : Need-load-set-requires) (store-set-requires : Need-store-set-requires) (load-set-requires-2 :
           Need-load-set-requires-2) (store-set-requires-2 : Need-store-set-requires-2) (load-set-requires-3 : Need-load-set-requires-3) (store-set-requires-3 : Need-store-set-requires-3) (width-requires :
           Need-width-requires) (store-lines-requires : Need-store-lines-requires) (same-length : Need-same-length) (same-length-2 : Need-same-length-2) (returns : Need-returns) where
-        lay9 : (c : After-store-lines) → at11 (W0 (c .before .before .before .before .before .before .before .before .before .before .before .before .before .before .before .before .before .before
-            .before .before .before .before .before .before .before .before .before .before .before .before .before .κs) (c .before .before .before .before .before .before .before .before .before .before
-            .before .before .before .before .before .before .before .before .before .before .before .before .before .before .before .before .before .before .before .before .before .args)) (m48 (c .before)
-            (After-store-lines·gave c))
+        lay9 : (c : After-store-lines) → at11 (W0 (After-store-lines·start c .κs) (After-store-lines·start c .args)) (m48 (c .before) (After-store-lines·gave c))
         lay9 = λ c. (
           Path'.refl,
-          λ g. λ g'. (
-            (
-              MutSlice.fix-len (Row.get 1 (T82 .locals) (m57 record { before = record { before = c .before; store-lines = c .store-lines }; state5 = record { given = g } } g') .ptr) (Row.get 1 (T82
-                  .locals) (m57 record { before = record { before = c .before; store-lines = c .store-lines }; state5 = record { given = g } } g') .name) (Row.get 1 (T82 .locals) (m57 record
-                  { before = record { before = c .before; store-lines = c .store-lines }; state5 = record { given = g } } g') .now) (dens (c .before .before .before .before .before .before .before .before
-                  .before .before .before .before .before .before .before .before .before .before .before .before .before .before .before .before .before .before .before .before .before .before .before .κs) (c
-                  .before .before .before .before .before .before .before .before .before .before .before .before .before .before .before .before .before .before .before .before .before .before .before .before
-                  .before .before .before .before .before .before .before .args) .0 .now) (same-length record
-                  { before = record { before = record { before = c .before; store-lines = c .store-lines }; state5 = record { given = g } }; slice-known6 = record { given = g' } }),
-              (
-                Path'.refl,
+          λ g. let c1 : After-state5 = record { before = c; state5 = record { given = g } } in λ g'. let c2 : After-slice-known6 = record
+              { before = c1; slice-known6 = record { given = g' } } in (
                 (
-                  tt,
+                  MutSlice.fix-len (Row.get 1 (T1 .locals) (m57 c1 g') .ptr) (Row.get 1 (T1 .locals) (m57 c1 g') .name) (Row.get 1 (T1 .locals) (m57 c1 g') .now) (dens (After-store-lines·start c .κs)
+                      (After-store-lines·start c .args) .0 .now) (same-length c2),
                   (
-                    tt,
+                    Path'.refl,
                     (
                       tt,
                       (
                         tt,
                         (
-                          Path'.refl,
+                          tt,
                           (
-                            MutSlice.fix-len (Row.get 8 (T82 .locals) (m57 record { before = record { before = c .before; store-lines = c .store-lines }; state5 = record { given = g } } g') .ptr) (Row.get 8 (T82
-                                .locals) (m57 record { before = record { before = c .before; store-lines = c .store-lines }; state5 = record { given = g } } g') .name) (Row.get 8 (T82 .locals) (m57 record
-                                { before = record { before = c .before; store-lines = c .store-lines }; state5 = record { given = g } } g') .now) (dens (c .before .before .before .before .before .before .before .before
-                                .before .before .before .before .before .before .before .before .before .before .before .before .before .before .before .before .before .before .before .before .before .before .before .κs) (c
-                                .before .before .before .before .before .before .before .before .before .before .before .before .before .before .before .before .before .before .before .before .before .before .before .before
-                                .before .before .before .before .before .before .before .args) .1 .1 .1 .1 .1 .1 .1 .0 .now) (same-length-2 record
-                                { before = record { before = record { before = c .before; store-lines = c .store-lines }; state5 = record { given = g } }; slice-known6 = record { given = g' } }),
                             tt,
+                            (
+                              Path'.refl,
+                              (
+                                MutSlice.fix-len (Row.get 8 (T1 .locals) (m57 c1 g') .ptr) (Row.get 8 (T1 .locals) (m57 c1 g') .name) (Row.get 8 (T1 .locals) (m57 c1 g') .now) (dens (After-store-lines·start c .κs)
+                                    (After-store-lines·start c .args) .1 .1 .1 .1 .1 .1 .1 .0 .now) (same-length-2 c2),
+                                tt,
+                              ),
+                            ),
                           ),
                         ),
                       ),
                     ),
                   ),
                 ),
+                returns c2,
               ),
-            ),
-            returns
-                record { before = record { before = record { before = c .before; store-lines = c .store-lines }; state5 = record { given = g } }; slice-known6 = record { given = g' } },
-          ),
         )
 
-        lay8 : (c : After-width) → at13 (W0 (c .before .before .before .before .before .before .before .before .before .before .before .before .before .before .before .before .before .before .before
-            .before .before .before .before .before .before .before .before .before .before .before .κs) (c .before .before .before .before .before .before .before .before .before .before .before .before
-            .before .before .before .before .before .before .before .before .before .before .before .before .before .before .before .before .before .before .args)) (m46 (c .before) (After-width·gave c))
+        lay8 : (c : After-width) → at13 (W0 (After-width·start c .κs) (After-width·start c .args)) (m46 (c .before) (After-width·gave c))
         lay8 = λ c. (
-          store-lines-requires record { before = c .before; width = c .width },
+          store-lines-requires c,
           λ g. lay9 record {
-            before = record { before = c .before; width = c .width };
-            store-lines = Called.called ps·4 r·4 (claims· .9) T70 (
-              record { pos = 27; ty = Syntax.tyRef Syntax.erased Syntax.mut (Syntax.tyInt Syntax.w8); ref = λ x. x },
-              (record { pos = 7; ty = Syntax.tyRef (Syntax.named 2) Syntax.imm (Syntax.tyInt Syntax.w16); ref = λ x. x }, (Num.vAt 28 λ x. x, tt)),
-            ) (m47 (c .before) (After-width·gave c)) g;
+            before = c;
+            store-lines = Called.called ps·4 r·4 (claims· .9) T70 (record { pos = 27; ty = y6; ref = λ x. x }, (record { pos = 7; ty = y3; ref = λ x. x }, (Num.vAt 28 λ x. x, tt))) (m47 (c
+                .before) (After-width·gave c)) g;
           },
         )
 
-        lay7 : (c : After-store-set3) → at23 (W0 (c .before .before .before .before .before .before .before .before .before .before .before .before .before .before .before .before .before .before
-            .before .before .before .before .before .before .before .before .κs) (c .before .before .before .before .before .before .before .before .before .before .before .before .before .before .before
-            .before .before .before .before .before .before .before .before .before .before .before .args)) (m39 (c .before) (After-store-set3·gave c))
+        lay7 : (c : After-store-set3) → at23 (W0 (After-store-set3·start c .κs) (After-store-set3·start c .args)) (m39 (c .before) (After-store-set3·gave c))
         lay7 = λ c. (
           Path'.refl,
-          λ g. λ g'. λ g''. (
-            Path'.refl,
-            (
-              width-requires record {
-                before = record { before = record { before = record { before = c .before; store-set3 = c .store-set3 }; state4 = record { given = g } }; slice-known5 = record { given = g' } };
-                store-lines-arg = record { given = g'' };
-              },
-              λ g'3. lay8 record {
-                before = record {
-                  before = record { before = record { before = record { before = c .before; store-set3 = c .store-set3 }; state4 = record { given = g } }; slice-known5 = record { given = g' } };
-                  store-lines-arg = record { given = g'' };
-                };
-                width = Called.called ps·3 r·3 (claims· .7) T68 (Bool.bFld 3 (List._∷_ (Syntax.field 1) List.[]) 1 λ x. FujiHeader.struct .as-values x .1 .0, tt)
-                    (m45 record { before = record { before = record { before = c .before; store-set3 = c .store-set3 }; state4 = record { given = g } }; slice-known5 = record { given = g' } } g'') g'3;
-              },
-            ),
-          ),
+          λ g. let c1 : After-state4 = record { before = c; state4 = record { given = g } } in λ g'. let c2 : After-slice-known5 = record
+              { before = c1; slice-known5 = record { given = g' } } in λ g''. let c3 : After-store-lines-arg = record { before = c2; store-lines-arg = record { given = g'' } } in (
+                Path'.refl,
+                (
+                  width-requires c3,
+                  λ g'3. lay8 record
+                      { before = c3; width = Called.called ps·3 r·3 (claims· .7) T68 (Bool.bFld 3 ((Syntax.field 1) ∷ []) 1 λ x. FujiHeader.struct .as-values x .1 .0, tt) (m45 c2 g'') g'3 },
+                ),
+              ),
         )
 
-        lay6 : (c : After-load-set3) → at27 (W0 (c .before .before .before .before .before .before .before .before .before .before .before .before .before .before .before .before .before .before
-            .before .before .before .before .before .before .κs) (c .before .before .before .before .before .before .before .before .before .before .before .before .before .before .before .before .before
-            .before .before .before .before .before .before .before .args)) (m37 (c .before) (After-load-set3·gave c))
+        lay6 : (c : After-load-set3) → at26 (W0 (After-load-set3·start c .κs) (After-load-set3·start c .args)) (m37 (c .before) (After-load-set3·gave c))
         lay6 = λ c. (
           Path'.refl,
-          λ g. (
-            store-set-requires-3 record { before = record { before = c .before; load-set3 = c .load-set3 }; rs3 = record { given = g } },
-            λ g'. lay7 record {
-              before = record { before = record { before = c .before; load-set3 = c .load-set3 }; rs3 = record { given = g } };
-              store-set3 = Called.called ps·2 r·2 (claims· .5) T57 (
-                record { pos = 23; ty = Syntax.tyRef Syntax.erased Syntax.mut (Syntax.tyInt Syntax.w8); ref = λ x. x },
-                (Num.vLit 2, (record { pos = 15; st = List.[]; d = 0; at = λ x. x }, (Bool.bAt 9 λ x. x, tt))),
-              ) (m38 record { before = c .before; load-set3 = c .load-set3 } g) g';
-            },
-          ),
+          λ g. let c1 : After-rs3 = record { before = c; rs3 = record { given = g } } in
+              (store-set-requires-3 c1, λ g'. lay7 record { before = c1; store-set3 = Called.called ps·2 r·2 (claims· .5) T57 a3 (m38 c g) g' }),
         )
 
-        lay5 : (c : After-store-set2) → at40 (W0 (c .before .before .before .before .before .before .before .before .before .before .before .before .before .before .before .before .before .before
-            .before .κs) (c .before .before .before .before .before .before .before .before .before .before .before .before .before .before .before .before .before .before .before .args)) (m28 (c .before)
-            (After-store-set2·gave c))
+        lay5 : (c : After-store-set2) → at40 (W0 (After-store-set2·start c .κs) (After-store-set2·start c .args)) (m28 (c .before) (After-store-set2·gave c))
         lay5 = λ c. (
           Path'.refl,
-          λ g. λ g'. λ g''. (
-            Path'.refl,
-            λ g'3. (
-              Path'.refl,
-              (
-                load-set-requires-3 record {
-                  before = record {
-                    before = record { before = record { before = record { before = c .before; store-set2 = c .store-set2 }; state3 = record { given = g } }; slice-known4 = record { given = g' } };
-                    store-set-arg3 = record { given = g'' };
-                  };
-                  load-set-arg3 = record { given = g'3 };
-                },
-                λ g'4. lay6 record {
-                  before = record {
-                    before = record {
-                      before = record { before = record { before = record { before = c .before; store-set2 = c .store-set2 }; state3 = record { given = g } }; slice-known4 = record { given = g' } };
-                      store-set-arg3 = record { given = g'' };
-                    };
-                    load-set-arg3 = record { given = g'3 };
-                  };
-                  load-set3 = Called.called ps·1 r·1 (claims· .3) T54
-                      (record { pos = 25; ty = Syntax.tyRef Syntax.erased Syntax.mut Element.behind; ref = λ x. x }, (Num.vLit 2, tt)) (m36 record {
-                        before = record { before = record { before = record { before = c .before; store-set2 = c .store-set2 }; state3 = record { given = g } }; slice-known4 = record { given = g' } };
-                        store-set-arg3 = record { given = g'' };
-                      } g'3) g'4;
-                },
+          λ g. let c1 : After-state3 = record { before = c; state3 = record { given = g } } in λ g'. let c2 : After-slice-known4 = record
+              { before = c1; slice-known4 = record { given = g' } } in λ g''. let c3 : After-store-set-arg3 = record { before = c2; store-set-arg3 = record { given = g'' } } in (
+                Path'.refl,
+                λ g'3. let c4 : After-load-set-arg3 = record { before = c3; load-set-arg3 = record { given = g'3 } } in (
+                  Path'.refl,
+                  (
+                    load-set-requires-3 c4,
+                    λ g'4. lay6 record
+                        { before = c4; load-set3 = Called.called ps·1 r·1 (claims· .3) T54 (record { pos = 25; ty = y5; ref = λ x. x }, (Num.vLit 2, tt)) (m36 c3 g'3) g'4 },
+                  ),
+                ),
               ),
-            ),
-          ),
         )
 
-        lay4 : (c : After-load-set2) → at44 (W0 (c .before .before .before .before .before .before .before .before .before .before .before .before .before .before .before .before .before .κs) (c
-            .before .before .before .before .before .before .before .before .before .before .before .before .before .before .before .before .before .args)) (m26 (c .before) (After-load-set2·gave c))
+        lay4 : (c : After-load-set2) → at43 (W0 (After-load-set2·start c .κs) (After-load-set2·start c .args)) (m26 (c .before) (After-load-set2·gave c))
         lay4 = λ c. (
           Path'.refl,
-          λ g. (
-            store-set-requires-2 record { before = record { before = c .before; load-set2 = c .load-set2 }; rs2 = record { given = g } },
-            λ g'. lay5 record {
-              before = record { before = record { before = c .before; load-set2 = c .load-set2 }; rs2 = record { given = g } };
-              store-set2 = Called.called ps·2 r·2 (claims· .5) T40 (
-                record { pos = 19; ty = Syntax.tyRef Syntax.erased Syntax.mut (Syntax.tyInt Syntax.w8); ref = λ x. x },
-                (Num.vLit 1, (record { pos = 15; st = List.[]; d = 0; at = λ x. x }, (Bool.bAt 9 λ x. x, tt))),
-              ) (m27 record { before = c .before; load-set2 = c .load-set2 } g) g';
-            },
-          ),
+          λ g. let c1 : After-rs2 = record { before = c; rs2 = record { given = g } } in
+              (store-set-requires-2 c1, λ g'. lay5 record { before = c1; store-set2 = Called.called ps·2 r·2 (claims· .5) T40 a2 (m27 c g) g' }),
         )
 
-        lay3 : (c : After-store-set) → at57 (W0 (c .before .before .before .before .before .before .before .before .before .before .before .before .κs) (c .before .before .before .before .before
-            .before .before .before .before .before .before .before .args)) (m17 (c .before) (After-store-set·gave c))
+        lay3 : (c : After-store-set) → at57 (W0 (After-store-set·start c .κs) (After-store-set·start c .args)) (m17 (c .before) (After-store-set·gave c))
         lay3 = λ c. (
           Path'.refl,
-          λ g. λ g'. λ g''. (
-            Path'.refl,
-            λ g'3. (
-              Path'.refl,
-              (
-                load-set-requires-2 record {
-                  before = record {
-                    before = record { before = record { before = record { before = c .before; store-set = c .store-set }; state2 = record { given = g } }; slice-known3 = record { given = g' } };
-                    store-set-arg2 = record { given = g'' };
-                  };
-                  load-set-arg2 = record { given = g'3 };
-                },
-                λ g'4. lay4 record {
-                  before = record {
-                    before = record {
-                      before = record { before = record { before = record { before = c .before; store-set = c .store-set }; state2 = record { given = g } }; slice-known3 = record { given = g' } };
-                      store-set-arg2 = record { given = g'' };
-                    };
-                    load-set-arg2 = record { given = g'3 };
-                  };
-                  load-set2 = Called.called ps·1 r·1 (claims· .3) T37
-                      (record { pos = 21; ty = Syntax.tyRef Syntax.erased Syntax.mut Element.behind; ref = λ x. x }, (Num.vLit 1, tt)) (m25 record {
-                        before = record { before = record { before = record { before = c .before; store-set = c .store-set }; state2 = record { given = g } }; slice-known3 = record { given = g' } };
-                        store-set-arg2 = record { given = g'' };
-                      } g'3) g'4;
-                },
+          λ g. let c1 : After-state2 = record { before = c; state2 = record { given = g } } in λ g'. let c2 : After-slice-known3 = record
+              { before = c1; slice-known3 = record { given = g' } } in λ g''. let c3 : After-store-set-arg2 = record { before = c2; store-set-arg2 = record { given = g'' } } in (
+                Path'.refl,
+                λ g'3. let c4 : After-load-set-arg2 = record { before = c3; load-set-arg2 = record { given = g'3 } } in (
+                  Path'.refl,
+                  (
+                    load-set-requires-2 c4,
+                    λ g'4. lay4 record
+                        { before = c4; load-set2 = Called.called ps·1 r·1 (claims· .3) T37 (record { pos = 21; ty = y5; ref = λ x. x }, (Num.vLit 1, tt)) (m25 c3 g'3) g'4 },
+                  ),
+                ),
               ),
-            ),
-          ),
         )
 
-        lay2 : (c : After-load-set) → at61 (W0 (c .before .before .before .before .before .before .before .before .before .before .κs) (c .before .before .before .before .before .before .before
-            .before .before .before .args)) (m15 (c .before) (After-load-set·gave c))
+        lay2 : (c : After-load-set) → at60 (W0 (After-load-set·start c .κs) (After-load-set·start c .args)) (m15 (c .before) (After-load-set·gave c))
         lay2 = λ c. (
           Path'.refl,
-          λ g. (
-            store-set-requires record { before = record { before = c .before; load-set = c .load-set }; rs = record { given = g } },
-            λ g'. lay3 record {
-              before = record { before = record { before = c .before; load-set = c .load-set }; rs = record { given = g } };
-              store-set = Called.called ps·2 r·2 (claims· .5) T23 (
-                record { pos = 14; ty = Syntax.tyRef Syntax.erased Syntax.mut (Syntax.tyInt Syntax.w8); ref = λ x. x },
-                (Num.vLit 0, (record { pos = 15; st = List.[]; d = 0; at = λ x. x }, (Bool.bAt 9 λ x. x, tt))),
-              ) (m16 record { before = c .before; load-set = c .load-set } g) g';
-            },
-          ),
+          λ g. let c1 : After-rs = record { before = c; rs = record { given = g } } in
+              (store-set-requires c1, λ g'. lay3 record { before = c1; store-set = Called.called ps·2 r·2 (claims· .5) T23 a1 (m16 c g) g' }),
         )
 
-        lay1 : (c : After-store-head) → at73 (W0 (c .before .before .before .before .before .κs) (c .before .before .before .before .before .args)) (m7 (c .before) (After-store-head·gave c))
+        lay1 : (c : After-store-head) → at73 (W0 (After-store-head·start c .κs) (After-store-head·start c .args)) (m7 (c .before) (After-store-head·gave c))
         lay1 = λ c. (
           Path'.refl,
-          λ g. λ g'. λ g''. (
-            Path'.refl,
-            λ g'3. (
-              Path'.refl,
-              (
-                load-set-requires record {
-                  before = record {
-                    before = record { before = record { before = record { before = c .before; store-head = c .store-head }; state = record { given = g } }; slice-known2 = record { given = g' } };
-                    store-set-arg = record { given = g'' };
-                  };
-                  load-set-arg = record { given = g'3 };
-                },
-                λ g'4. lay2 record {
-                  before = record {
-                    before = record {
-                      before = record { before = record { before = record { before = c .before; store-head = c .store-head }; state = record { given = g } }; slice-known2 = record { given = g' } };
-                      store-set-arg = record { given = g'' };
-                    };
-                    load-set-arg = record { given = g'3 };
-                  };
-                  load-set = Called.called ps·1 r·1 (claims· .3) T20
-                      (record { pos = 17; ty = Syntax.tyRef Syntax.erased Syntax.mut Element.behind; ref = λ x. x }, (Num.vLit 0, tt)) (m14 record {
-                        before = record { before = record { before = record { before = c .before; store-head = c .store-head }; state = record { given = g } }; slice-known2 = record { given = g' } };
-                        store-set-arg = record { given = g'' };
-                      } g'3) g'4;
-                },
+          λ g. let c1 : After-state = record { before = c; state = record { given = g } } in λ g'. let c2 : After-slice-known2 = record
+              { before = c1; slice-known2 = record { given = g' } } in λ g''. let c3 : After-store-set-arg = record { before = c2; store-set-arg = record { given = g'' } } in (
+                Path'.refl,
+                λ g'3. let c4 : After-load-set-arg = record { before = c3; load-set-arg = record { given = g'3 } } in (
+                  Path'.refl,
+                  (
+                    load-set-requires c4,
+                    λ g'4. lay2 record
+                        { before = c4; load-set = Called.called ps·1 r·1 (claims· .3) T20 (record { pos = 17; ty = y5; ref = λ x. x }, (Num.vLit 0, tt)) (m14 c3 g'3) g'4 },
+                  ),
+                ),
               ),
-            ),
-          ),
         )
 
         pub laid : (c : Start) → at81 (W0 (c .κs) (c .args)) (m0 (c .κs) (c .args))
-        laid = λ c. λ g. λ g'. λ g''. λ g'3. (
-          Path'.refl,
-          (
-            store-head-requires record {
-              before = record
-                  { before = record { before = record { before = c; slice-known = record { given = g } }; shared-slice-known = record { given = g' } }; shared-slice-known2 = record { given = g'' } };
-              store-head-arg = record { given = g'3 };
-            },
-            λ g'4. lay1 record {
-              before = record {
-                before = record
-                    { before = record { before = record { before = c; slice-known = record { given = g } }; shared-slice-known = record { given = g' } }; shared-slice-known2 = record { given = g'' } };
-                store-head-arg = record { given = g'3 };
-              };
-              store-head = Called.called ps·0 r·0 (claims· .1) T8 (
-                record { pos = 12; ty = Syntax.tyRef Syntax.erased Syntax.mut (Syntax.tyInt Syntax.w8); ref = λ x. x },
-                (record { pos = 2; ty = Syntax.tyRef (Syntax.named 1) Syntax.imm (Syntax.tyInt Syntax.w8); ref = λ x. x }, (Num.vAt 4 λ x. x, (Num.vAt 5 λ x. x, (Num.vAt 6 λ x. x, tt)))),
-              ) (m6 record
-                  { before = record { before = record { before = c; slice-known = record { given = g } }; shared-slice-known = record { given = g' } }; shared-slice-known2 = record { given = g'' } } g'3) g'4;
-            },
-          ),
-        )
+        laid = λ c. λ g. let c1 : After-slice-known = record { before = c; slice-known = record { given = g } } in λ g'. let c2 : After-shared-slice-known = record
+            { before = c1; shared-slice-known = record { given = g' } } in λ g''. let c3 : After-shared-slice-known2 = record { before = c2; shared-slice-known2 = record { given = g'' } } in λ g'3. let
+            c4 : After-store-head-arg = record { before = c3; store-head-arg = record { given = g'3 } } in
+            (Path'.refl, (store-head-requires c4, λ g'4. lay1 record { before = c4; store-head = Called.called ps·0 r·0 (claims· .1) T8 a0 (m6 c3 g'3) g'4 }))
 
         module _ (κs : Lifetimes.Lfts 4) (qs : Lifetimes.Shares 4) where
           pub asked : (a : Kinds.Dens κs ps) → (good : Kinds.GoodsP κs ps a) → (pre : Pre· κs a) → (bs : List.List Nat.ℕ) → Φ (Any.wantQ 4 ps r xs m κs qs a (Post· κs a)) (Function.init 4 ps r xs m κs

@@ -24,197 +24,71 @@ use borrow.Fn.Run
 use borrow.Fn.Written
 use contract.Running
 
+abbrev claims : Lts.Claims
+claims = (Reads''.Asked, Reads''.Learnt, Reads.Asked, Reads.Learnt, Reads'4.Asked, Reads'4.Learnt, Reads'5.Asked, Reads'5.Learnt, Reads'3.Asked, Reads'3.Learnt)
+
 abbrev pub Start : Type 0
-Start = Lts.Start (Reads''.Asked, Reads''.Learnt, Reads.Asked, Reads.Learnt, Reads'4.Asked, Reads'4.Learnt, Reads'5.Asked, Reads'5.Learnt, Reads'3.Asked, Reads'3.Learnt) Reads'.Pre Reads'.Post
-
-abbrev pub After-slice-known : Type 0
-After-slice-known = Lts.After-slice-known (Reads''.Asked, Reads''.Learnt, Reads.Asked, Reads.Learnt, Reads'4.Asked, Reads'4.Learnt, Reads'5.Asked, Reads'5.Learnt, Reads'3.Asked, Reads'3.Learnt)
-    Reads'.Pre Reads'.Post
-
-abbrev pub After-shared-slice-known : Type 0
-After-shared-slice-known = Lts.After-shared-slice-known
-    (Reads''.Asked, Reads''.Learnt, Reads.Asked, Reads.Learnt, Reads'4.Asked, Reads'4.Learnt, Reads'5.Asked, Reads'5.Learnt, Reads'3.Asked, Reads'3.Learnt) Reads'.Pre Reads'.Post
-
-abbrev pub After-shared-slice-known2 : Type 0
-After-shared-slice-known2 = Lts.After-shared-slice-known2
-    (Reads''.Asked, Reads''.Learnt, Reads.Asked, Reads.Learnt, Reads'4.Asked, Reads'4.Learnt, Reads'5.Asked, Reads'5.Learnt, Reads'3.Asked, Reads'3.Learnt) Reads'.Pre Reads'.Post
-
-abbrev pub After-store-head-arg : Type 0
-After-store-head-arg = Lts.After-store-head-arg (Reads''.Asked, Reads''.Learnt, Reads.Asked, Reads.Learnt, Reads'4.Asked, Reads'4.Learnt, Reads'5.Asked, Reads'5.Learnt, Reads'3.Asked, Reads'3.Learnt)
-    Reads'.Pre Reads'.Post
+Start = Lts.Start claims Reads'.Pre Reads'.Post
 
 abbrev pub After-store-head : Type 0
-After-store-head = Lts.After-store-head (Reads''.Asked, Reads''.Learnt, Reads.Asked, Reads.Learnt, Reads'4.Asked, Reads'4.Learnt, Reads'5.Asked, Reads'5.Learnt, Reads'3.Asked, Reads'3.Learnt)
-    Reads'.Pre Reads'.Post
-
-abbrev pub After-state : Type 0
-After-state = Lts.After-state (Reads''.Asked, Reads''.Learnt, Reads.Asked, Reads.Learnt, Reads'4.Asked, Reads'4.Learnt, Reads'5.Asked, Reads'5.Learnt, Reads'3.Asked, Reads'3.Learnt) Reads'.Pre
-    Reads'.Post
-
-abbrev pub After-slice-known2 : Type 0
-After-slice-known2 = Lts.After-slice-known2 (Reads''.Asked, Reads''.Learnt, Reads.Asked, Reads.Learnt, Reads'4.Asked, Reads'4.Learnt, Reads'5.Asked, Reads'5.Learnt, Reads'3.Asked, Reads'3.Learnt)
-    Reads'.Pre Reads'.Post
-
-abbrev pub After-store-set-arg : Type 0
-After-store-set-arg = Lts.After-store-set-arg (Reads''.Asked, Reads''.Learnt, Reads.Asked, Reads.Learnt, Reads'4.Asked, Reads'4.Learnt, Reads'5.Asked, Reads'5.Learnt, Reads'3.Asked, Reads'3.Learnt)
-    Reads'.Pre Reads'.Post
-
-abbrev pub After-load-set-arg : Type 0
-After-load-set-arg = Lts.After-load-set-arg (Reads''.Asked, Reads''.Learnt, Reads.Asked, Reads.Learnt, Reads'4.Asked, Reads'4.Learnt, Reads'5.Asked, Reads'5.Learnt, Reads'3.Asked, Reads'3.Learnt)
-    Reads'.Pre Reads'.Post
-
-abbrev pub After-load-set : Type 0
-After-load-set = Lts.After-load-set (Reads''.Asked, Reads''.Learnt, Reads.Asked, Reads.Learnt, Reads'4.Asked, Reads'4.Learnt, Reads'5.Asked, Reads'5.Learnt, Reads'3.Asked, Reads'3.Learnt) Reads'.Pre
-    Reads'.Post
-
-abbrev pub After-rs : Type 0
-After-rs = Lts.After-rs (Reads''.Asked, Reads''.Learnt, Reads.Asked, Reads.Learnt, Reads'4.Asked, Reads'4.Learnt, Reads'5.Asked, Reads'5.Learnt, Reads'3.Asked, Reads'3.Learnt) Reads'.Pre Reads'.Post
+After-store-head = Lts.After-store-head claims Reads'.Pre Reads'.Post
 
 abbrev pub After-store-set : Type 0
-After-store-set = Lts.After-store-set (Reads''.Asked, Reads''.Learnt, Reads.Asked, Reads.Learnt, Reads'4.Asked, Reads'4.Learnt, Reads'5.Asked, Reads'5.Learnt, Reads'3.Asked, Reads'3.Learnt) Reads'.Pre
-    Reads'.Post
-
-abbrev pub After-state2 : Type 0
-After-state2 = Lts.After-state2 (Reads''.Asked, Reads''.Learnt, Reads.Asked, Reads.Learnt, Reads'4.Asked, Reads'4.Learnt, Reads'5.Asked, Reads'5.Learnt, Reads'3.Asked, Reads'3.Learnt) Reads'.Pre
-    Reads'.Post
-
-abbrev pub After-slice-known3 : Type 0
-After-slice-known3 = Lts.After-slice-known3 (Reads''.Asked, Reads''.Learnt, Reads.Asked, Reads.Learnt, Reads'4.Asked, Reads'4.Learnt, Reads'5.Asked, Reads'5.Learnt, Reads'3.Asked, Reads'3.Learnt)
-    Reads'.Pre Reads'.Post
-
-abbrev pub After-store-set-arg2 : Type 0
-After-store-set-arg2 = Lts.After-store-set-arg2 (Reads''.Asked, Reads''.Learnt, Reads.Asked, Reads.Learnt, Reads'4.Asked, Reads'4.Learnt, Reads'5.Asked, Reads'5.Learnt, Reads'3.Asked, Reads'3.Learnt)
-    Reads'.Pre Reads'.Post
-
-abbrev pub After-load-set-arg2 : Type 0
-After-load-set-arg2 = Lts.After-load-set-arg2 (Reads''.Asked, Reads''.Learnt, Reads.Asked, Reads.Learnt, Reads'4.Asked, Reads'4.Learnt, Reads'5.Asked, Reads'5.Learnt, Reads'3.Asked, Reads'3.Learnt)
-    Reads'.Pre Reads'.Post
-
-abbrev pub After-load-set2 : Type 0
-After-load-set2 = Lts.After-load-set2 (Reads''.Asked, Reads''.Learnt, Reads.Asked, Reads.Learnt, Reads'4.Asked, Reads'4.Learnt, Reads'5.Asked, Reads'5.Learnt, Reads'3.Asked, Reads'3.Learnt) Reads'.Pre
-    Reads'.Post
-
-abbrev pub After-rs2 : Type 0
-After-rs2 = Lts.After-rs2 (Reads''.Asked, Reads''.Learnt, Reads.Asked, Reads.Learnt, Reads'4.Asked, Reads'4.Learnt, Reads'5.Asked, Reads'5.Learnt, Reads'3.Asked, Reads'3.Learnt) Reads'.Pre Reads'.Post
+After-store-set = Lts.After-store-set claims Reads'.Pre Reads'.Post
 
 abbrev pub After-store-set2 : Type 0
-After-store-set2 = Lts.After-store-set2 (Reads''.Asked, Reads''.Learnt, Reads.Asked, Reads.Learnt, Reads'4.Asked, Reads'4.Learnt, Reads'5.Asked, Reads'5.Learnt, Reads'3.Asked, Reads'3.Learnt)
-    Reads'.Pre Reads'.Post
-
-abbrev pub After-state3 : Type 0
-After-state3 = Lts.After-state3 (Reads''.Asked, Reads''.Learnt, Reads.Asked, Reads.Learnt, Reads'4.Asked, Reads'4.Learnt, Reads'5.Asked, Reads'5.Learnt, Reads'3.Asked, Reads'3.Learnt) Reads'.Pre
-    Reads'.Post
-
-abbrev pub After-slice-known4 : Type 0
-After-slice-known4 = Lts.After-slice-known4 (Reads''.Asked, Reads''.Learnt, Reads.Asked, Reads.Learnt, Reads'4.Asked, Reads'4.Learnt, Reads'5.Asked, Reads'5.Learnt, Reads'3.Asked, Reads'3.Learnt)
-    Reads'.Pre Reads'.Post
-
-abbrev pub After-store-set-arg3 : Type 0
-After-store-set-arg3 = Lts.After-store-set-arg3 (Reads''.Asked, Reads''.Learnt, Reads.Asked, Reads.Learnt, Reads'4.Asked, Reads'4.Learnt, Reads'5.Asked, Reads'5.Learnt, Reads'3.Asked, Reads'3.Learnt)
-    Reads'.Pre Reads'.Post
-
-abbrev pub After-load-set-arg3 : Type 0
-After-load-set-arg3 = Lts.After-load-set-arg3 (Reads''.Asked, Reads''.Learnt, Reads.Asked, Reads.Learnt, Reads'4.Asked, Reads'4.Learnt, Reads'5.Asked, Reads'5.Learnt, Reads'3.Asked, Reads'3.Learnt)
-    Reads'.Pre Reads'.Post
-
-abbrev pub After-load-set3 : Type 0
-After-load-set3 = Lts.After-load-set3 (Reads''.Asked, Reads''.Learnt, Reads.Asked, Reads.Learnt, Reads'4.Asked, Reads'4.Learnt, Reads'5.Asked, Reads'5.Learnt, Reads'3.Asked, Reads'3.Learnt) Reads'.Pre
-    Reads'.Post
-
-abbrev pub After-rs3 : Type 0
-After-rs3 = Lts.After-rs3 (Reads''.Asked, Reads''.Learnt, Reads.Asked, Reads.Learnt, Reads'4.Asked, Reads'4.Learnt, Reads'5.Asked, Reads'5.Learnt, Reads'3.Asked, Reads'3.Learnt) Reads'.Pre Reads'.Post
+After-store-set2 = Lts.After-store-set2 claims Reads'.Pre Reads'.Post
 
 abbrev pub After-store-set3 : Type 0
-After-store-set3 = Lts.After-store-set3 (Reads''.Asked, Reads''.Learnt, Reads.Asked, Reads.Learnt, Reads'4.Asked, Reads'4.Learnt, Reads'5.Asked, Reads'5.Learnt, Reads'3.Asked, Reads'3.Learnt)
-    Reads'.Pre Reads'.Post
-
-abbrev pub After-state4 : Type 0
-After-state4 = Lts.After-state4 (Reads''.Asked, Reads''.Learnt, Reads.Asked, Reads.Learnt, Reads'4.Asked, Reads'4.Learnt, Reads'5.Asked, Reads'5.Learnt, Reads'3.Asked, Reads'3.Learnt) Reads'.Pre
-    Reads'.Post
-
-abbrev pub After-slice-known5 : Type 0
-After-slice-known5 = Lts.After-slice-known5 (Reads''.Asked, Reads''.Learnt, Reads.Asked, Reads.Learnt, Reads'4.Asked, Reads'4.Learnt, Reads'5.Asked, Reads'5.Learnt, Reads'3.Asked, Reads'3.Learnt)
-    Reads'.Pre Reads'.Post
-
-abbrev pub After-store-lines-arg : Type 0
-After-store-lines-arg = Lts.After-store-lines-arg
-    (Reads''.Asked, Reads''.Learnt, Reads.Asked, Reads.Learnt, Reads'4.Asked, Reads'4.Learnt, Reads'5.Asked, Reads'5.Learnt, Reads'3.Asked, Reads'3.Learnt) Reads'.Pre Reads'.Post
+After-store-set3 = Lts.After-store-set3 claims Reads'.Pre Reads'.Post
 
 abbrev pub After-width : Type 0
-After-width = Lts.After-width (Reads''.Asked, Reads''.Learnt, Reads.Asked, Reads.Learnt, Reads'4.Asked, Reads'4.Learnt, Reads'5.Asked, Reads'5.Learnt, Reads'3.Asked, Reads'3.Learnt) Reads'.Pre
-    Reads'.Post
-
-abbrev pub After-store-lines : Type 0
-After-store-lines = Lts.After-store-lines (Reads''.Asked, Reads''.Learnt, Reads.Asked, Reads.Learnt, Reads'4.Asked, Reads'4.Learnt, Reads'5.Asked, Reads'5.Learnt, Reads'3.Asked, Reads'3.Learnt)
-    Reads'.Pre Reads'.Post
-
-abbrev pub After-state5 : Type 0
-After-state5 = Lts.After-state5 (Reads''.Asked, Reads''.Learnt, Reads.Asked, Reads.Learnt, Reads'4.Asked, Reads'4.Learnt, Reads'5.Asked, Reads'5.Learnt, Reads'3.Asked, Reads'3.Learnt) Reads'.Pre
-    Reads'.Post
-
-abbrev pub After-slice-known6 : Type 0
-After-slice-known6 = Lts.After-slice-known6 (Reads''.Asked, Reads''.Learnt, Reads.Asked, Reads.Learnt, Reads'4.Asked, Reads'4.Learnt, Reads'5.Asked, Reads'5.Learnt, Reads'3.Asked, Reads'3.Learnt)
-    Reads'.Pre Reads'.Post
+After-width = Lts.After-width claims Reads'.Pre Reads'.Post
 
 abbrev pub Need-store-head-requires : Type 0
-Need-store-head-requires = Lts.Need-store-head-requires
-    (Reads''.Asked, Reads''.Learnt, Reads.Asked, Reads.Learnt, Reads'4.Asked, Reads'4.Learnt, Reads'5.Asked, Reads'5.Learnt, Reads'3.Asked, Reads'3.Learnt) Reads'.Pre Reads'.Post
+Need-store-head-requires = Lts.Need-store-head-requires claims Reads'.Pre Reads'.Post
 
 abbrev pub Need-load-set-requires : Type 0
-Need-load-set-requires = Lts.Need-load-set-requires
-    (Reads''.Asked, Reads''.Learnt, Reads.Asked, Reads.Learnt, Reads'4.Asked, Reads'4.Learnt, Reads'5.Asked, Reads'5.Learnt, Reads'3.Asked, Reads'3.Learnt) Reads'.Pre Reads'.Post
+Need-load-set-requires = Lts.Need-load-set-requires claims Reads'.Pre Reads'.Post
 
 abbrev pub Need-store-set-requires : Type 0
-Need-store-set-requires = Lts.Need-store-set-requires
-    (Reads''.Asked, Reads''.Learnt, Reads.Asked, Reads.Learnt, Reads'4.Asked, Reads'4.Learnt, Reads'5.Asked, Reads'5.Learnt, Reads'3.Asked, Reads'3.Learnt) Reads'.Pre Reads'.Post
+Need-store-set-requires = Lts.Need-store-set-requires claims Reads'.Pre Reads'.Post
 
 abbrev pub Need-load-set-requires-2 : Type 0
-Need-load-set-requires-2 = Lts.Need-load-set-requires-2
-    (Reads''.Asked, Reads''.Learnt, Reads.Asked, Reads.Learnt, Reads'4.Asked, Reads'4.Learnt, Reads'5.Asked, Reads'5.Learnt, Reads'3.Asked, Reads'3.Learnt) Reads'.Pre Reads'.Post
+Need-load-set-requires-2 = Lts.Need-load-set-requires-2 claims Reads'.Pre Reads'.Post
 
 abbrev pub Need-store-set-requires-2 : Type 0
-Need-store-set-requires-2 = Lts.Need-store-set-requires-2
-    (Reads''.Asked, Reads''.Learnt, Reads.Asked, Reads.Learnt, Reads'4.Asked, Reads'4.Learnt, Reads'5.Asked, Reads'5.Learnt, Reads'3.Asked, Reads'3.Learnt) Reads'.Pre Reads'.Post
+Need-store-set-requires-2 = Lts.Need-store-set-requires-2 claims Reads'.Pre Reads'.Post
 
 abbrev pub Need-load-set-requires-3 : Type 0
-Need-load-set-requires-3 = Lts.Need-load-set-requires-3
-    (Reads''.Asked, Reads''.Learnt, Reads.Asked, Reads.Learnt, Reads'4.Asked, Reads'4.Learnt, Reads'5.Asked, Reads'5.Learnt, Reads'3.Asked, Reads'3.Learnt) Reads'.Pre Reads'.Post
+Need-load-set-requires-3 = Lts.Need-load-set-requires-3 claims Reads'.Pre Reads'.Post
 
 abbrev pub Need-store-set-requires-3 : Type 0
-Need-store-set-requires-3 = Lts.Need-store-set-requires-3
-    (Reads''.Asked, Reads''.Learnt, Reads.Asked, Reads.Learnt, Reads'4.Asked, Reads'4.Learnt, Reads'5.Asked, Reads'5.Learnt, Reads'3.Asked, Reads'3.Learnt) Reads'.Pre Reads'.Post
+Need-store-set-requires-3 = Lts.Need-store-set-requires-3 claims Reads'.Pre Reads'.Post
 
 abbrev pub Need-width-requires : Type 0
-Need-width-requires = Lts.Need-width-requires (Reads''.Asked, Reads''.Learnt, Reads.Asked, Reads.Learnt, Reads'4.Asked, Reads'4.Learnt, Reads'5.Asked, Reads'5.Learnt, Reads'3.Asked, Reads'3.Learnt)
-    Reads'.Pre Reads'.Post
+Need-width-requires = Lts.Need-width-requires claims Reads'.Pre Reads'.Post
 
 abbrev pub Need-store-lines-requires : Type 0
-Need-store-lines-requires = Lts.Need-store-lines-requires
-    (Reads''.Asked, Reads''.Learnt, Reads.Asked, Reads.Learnt, Reads'4.Asked, Reads'4.Learnt, Reads'5.Asked, Reads'5.Learnt, Reads'3.Asked, Reads'3.Learnt) Reads'.Pre Reads'.Post
+Need-store-lines-requires = Lts.Need-store-lines-requires claims Reads'.Pre Reads'.Post
 
 abbrev pub Need-same-length : Type 0
-Need-same-length = Lts.Need-same-length (Reads''.Asked, Reads''.Learnt, Reads.Asked, Reads.Learnt, Reads'4.Asked, Reads'4.Learnt, Reads'5.Asked, Reads'5.Learnt, Reads'3.Asked, Reads'3.Learnt)
-    Reads'.Pre Reads'.Post
+Need-same-length = Lts.Need-same-length claims Reads'.Pre Reads'.Post
 
 abbrev pub Need-same-length-2 : Type 0
-Need-same-length-2 = Lts.Need-same-length-2 (Reads''.Asked, Reads''.Learnt, Reads.Asked, Reads.Learnt, Reads'4.Asked, Reads'4.Learnt, Reads'5.Asked, Reads'5.Learnt, Reads'3.Asked, Reads'3.Learnt)
-    Reads'.Pre Reads'.Post
+Need-same-length-2 = Lts.Need-same-length-2 claims Reads'.Pre Reads'.Post
 
 abbrev pub Need-returns : Type 0
-Need-returns = Lts.Need-returns (Reads''.Asked, Reads''.Learnt, Reads.Asked, Reads.Learnt, Reads'4.Asked, Reads'4.Learnt, Reads'5.Asked, Reads'5.Learnt, Reads'3.Asked, Reads'3.Learnt) Reads'.Pre
-    Reads'.Post
+Need-returns = Lts.Need-returns claims Reads'.Pre Reads'.Post
 
 module _ {M : Type 1} where
   pub spec : (answer : Need-store-head-requires) → (answer : Need-load-set-requires) → (answer : Need-store-set-requires) → (answer : Need-load-set-requires-2) → (answer : Need-store-set-requires-2) →
       (answer : Need-load-set-requires-3) → (answer : Need-store-set-requires-3) → (answer : Need-width-requires) → (answer : Need-store-lines-requires) → (answer : Need-same-length) → (answer :
-      Need-same-length-2) → (answer : Need-returns) → Lts.Closed
-      (Reads''.Asked, Reads''.Learnt, Reads.Asked, Reads.Learnt, Reads'4.Asked, Reads'4.Learnt, Reads'5.Asked, Reads'5.Learnt, Reads'3.Asked, Reads'3.Learnt) Reads'.Pre Reads'.Post M
-  spec = λ answer answer' answer'' answer'3 answer'4 answer'5 answer'6 answer'7 answer'8 answer'9 answer'10 answer'11. Lts.spec
-      (Reads''.Asked, Reads''.Learnt, Reads.Asked, Reads.Learnt, Reads'4.Asked, Reads'4.Learnt, Reads'5.Asked, Reads'5.Learnt, Reads'3.Asked, Reads'3.Learnt) Reads'.Pre Reads'.Post answer answer' answer''
-      answer'3 answer'4 answer'5 answer'6 answer'7 answer'8 answer'9 answer'10 answer'11
+      Need-same-length-2) → (answer : Need-returns) → Lts.Closed claims Reads'.Pre Reads'.Post M
+  spec = λ answer answer' answer'' answer'3 answer'4 answer'5 answer'6 answer'7 answer'8 answer'9 answer'10 answer'11. Lts.spec claims Reads'.Pre Reads'.Post answer answer' answer'' answer'3 answer'4
+      answer'5 answer'6 answer'7 answer'8 answer'9 answer'10 answer'11
 
-  pub close : Lts.Closed (Reads''.Asked, Reads''.Learnt, Reads.Asked, Reads.Learnt, Reads'4.Asked, Reads'4.Learnt, Reads'5.Asked, Reads'5.Learnt, Reads'3.Asked, Reads'3.Learnt) Reads'.Pre Reads'.Post
-      M → Statement.statement M
+  pub close : Lts.Closed claims Reads'.Pre Reads'.Post M → Statement.statement M
   unfolding Code.routine Running.tablesOf
   close = λ closed 𝓤 H 𝓜 𝓖 𝓡. Written.close 4 Kinds.ps Kinds.r Reads'.Ghost Reads'.requires Reads'.ensures Reads'.pre-read Reads'.Pinned Reads'.Owned Reads'.post-read record
       { M = M; 𝓤 = 𝓤; H = H; 𝓜 = 𝓜; 𝓖 = 𝓖; 𝓡 = 𝓡 } Code.env Key.name Code.function (Code.unfolded 𝓤 H 𝓜 𝓡) (λ κs a g. tt) (λ κs. Reads'.owns κs record { M = M; 𝓤 = 𝓤; H = H; 𝓜 = 𝓜; 𝓖 = 𝓖; 𝓡 = 𝓡 })

@@ -15,48 +15,6 @@ use contract.Running
 abbrev pub Start : Type 0
 Start = Lts.Start (Reads.Asked, Reads.Learnt) Reads'.Pre Reads'.Post
 
-abbrev pub After-slice-known : Type 0
-After-slice-known = Lts.After-slice-known (Reads.Asked, Reads.Learnt) Reads'.Pre Reads'.Post
-
-abbrev pub After-shared-slice-known : Type 0
-After-shared-slice-known = Lts.After-shared-slice-known (Reads.Asked, Reads.Learnt) Reads'.Pre Reads'.Post
-
-abbrev pub After-shared-slice-known2 : Type 0
-After-shared-slice-known2 = Lts.After-shared-slice-known2 (Reads.Asked, Reads.Learnt) Reads'.Pre Reads'.Post
-
-abbrev pub At-match-keys1 : Type 0
-At-match-keys1 = Lts.At-match-keys1 (Reads.Asked, Reads.Learnt) Reads'.Pre Reads'.Post
-
-abbrev pub After-enum-told : Type 0
-After-enum-told = Lts.After-enum-told (Reads.Asked, Reads.Learnt) Reads'.Pre Reads'.Post
-
-abbrev pub At-match-keys2 : Type 0
-At-match-keys2 = Lts.At-match-keys2 (Reads.Asked, Reads.Learnt) Reads'.Pre Reads'.Post
-
-abbrev pub After-got : Type 0
-After-got = Lts.After-got (Reads.Asked, Reads.Learnt) Reads'.Pre Reads'.Post
-
-abbrev pub After-known-told : Type 0
-After-known-told = Lts.After-known-told (Reads.Asked, Reads.Learnt) Reads'.Pre Reads'.Post
-
-abbrev pub After-put-state-arg : Type 0
-After-put-state-arg = Lts.After-put-state-arg (Reads.Asked, Reads.Learnt) Reads'.Pre Reads'.Post
-
-abbrev pub After-put-state-arg2 : Type 0
-After-put-state-arg2 = Lts.After-put-state-arg2 (Reads.Asked, Reads.Learnt) Reads'.Pre Reads'.Post
-
-abbrev pub After-put-state : Type 0
-After-put-state = Lts.After-put-state (Reads.Asked, Reads.Learnt) Reads'.Pre Reads'.Post
-
-abbrev pub After-state : Type 0
-After-state = Lts.After-state (Reads.Asked, Reads.Learnt) Reads'.Pre Reads'.Post
-
-abbrev pub After-slice-known2 : Type 0
-After-slice-known2 = Lts.After-slice-known2 (Reads.Asked, Reads.Learnt) Reads'.Pre Reads'.Post
-
-abbrev pub After-rs : Type 0
-After-rs = Lts.After-rs (Reads.Asked, Reads.Learnt) Reads'.Pre Reads'.Post
-
 abbrev pub Need-enum-told : Type 0
 Need-enum-told = Lts.Need-enum-told (Reads.Asked, Reads.Learnt) Reads'.Pre Reads'.Post
 

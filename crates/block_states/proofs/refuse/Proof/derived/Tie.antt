@@ -18,61 +18,39 @@ use borrow.Fn.Run
 use borrow.Fn.Written
 use contract.Running
 
+abbrev claims : Lts.Claims
+claims = (Reads'3.Asked, Reads'3.Learnt, Reads'.Asked, Reads'.Learnt, Reads.Asked, Reads.Learnt)
+
 abbrev pub Start : Type 0
-Start = Lts.Start (Reads'3.Asked, Reads'3.Learnt, Reads'.Asked, Reads'.Learnt, Reads.Asked, Reads.Learnt) Reads''.Pre Reads''.Post
-
-abbrev pub After-slice-known : Type 0
-After-slice-known = Lts.After-slice-known (Reads'3.Asked, Reads'3.Learnt, Reads'.Asked, Reads'.Learnt, Reads.Asked, Reads.Learnt) Reads''.Pre Reads''.Post
-
-abbrev pub After-clear-arg : Type 0
-After-clear-arg = Lts.After-clear-arg (Reads'3.Asked, Reads'3.Learnt, Reads'.Asked, Reads'.Learnt, Reads.Asked, Reads.Learnt) Reads''.Pre Reads''.Post
+Start = Lts.Start claims Reads''.Pre Reads''.Post
 
 abbrev pub After-clear : Type 0
-After-clear = Lts.After-clear (Reads'3.Asked, Reads'3.Learnt, Reads'.Asked, Reads'.Learnt, Reads.Asked, Reads.Learnt) Reads''.Pre Reads''.Post
-
-abbrev pub After-lines : Type 0
-After-lines = Lts.After-lines (Reads'3.Asked, Reads'3.Learnt, Reads'.Asked, Reads'.Learnt, Reads.Asked, Reads.Learnt) Reads''.Pre Reads''.Post
-
-abbrev pub After-slice-known2 : Type 0
-After-slice-known2 = Lts.After-slice-known2 (Reads'3.Asked, Reads'3.Learnt, Reads'.Asked, Reads'.Learnt, Reads.Asked, Reads.Learnt) Reads''.Pre Reads''.Post
-
-abbrev pub After-clear-records-arg : Type 0
-After-clear-records-arg = Lts.After-clear-records-arg (Reads'3.Asked, Reads'3.Learnt, Reads'.Asked, Reads'.Learnt, Reads.Asked, Reads.Learnt) Reads''.Pre Reads''.Post
-
-abbrev pub After-clear-records : Type 0
-After-clear-records = Lts.After-clear-records (Reads'3.Asked, Reads'3.Learnt, Reads'.Asked, Reads'.Learnt, Reads.Asked, Reads.Learnt) Reads''.Pre Reads''.Post
-
-abbrev pub After-rs : Type 0
-After-rs = Lts.After-rs (Reads'3.Asked, Reads'3.Learnt, Reads'.Asked, Reads'.Learnt, Reads.Asked, Reads.Learnt) Reads''.Pre Reads''.Post
-
-abbrev pub After-refused : Type 0
-After-refused = Lts.After-refused (Reads'3.Asked, Reads'3.Learnt, Reads'.Asked, Reads'.Learnt, Reads.Asked, Reads.Learnt) Reads''.Pre Reads''.Post
+After-clear = Lts.After-clear claims Reads''.Pre Reads''.Post
 
 abbrev pub Need-clear-requires : Type 0
-Need-clear-requires = Lts.Need-clear-requires (Reads'3.Asked, Reads'3.Learnt, Reads'.Asked, Reads'.Learnt, Reads.Asked, Reads.Learnt) Reads''.Pre Reads''.Post
+Need-clear-requires = Lts.Need-clear-requires claims Reads''.Pre Reads''.Post
 
 abbrev pub Need-clear-records-requires : Type 0
-Need-clear-records-requires = Lts.Need-clear-records-requires (Reads'3.Asked, Reads'3.Learnt, Reads'.Asked, Reads'.Learnt, Reads.Asked, Reads.Learnt) Reads''.Pre Reads''.Post
+Need-clear-records-requires = Lts.Need-clear-records-requires claims Reads''.Pre Reads''.Post
 
 abbrev pub Need-refused-requires : Type 0
-Need-refused-requires = Lts.Need-refused-requires (Reads'3.Asked, Reads'3.Learnt, Reads'.Asked, Reads'.Learnt, Reads.Asked, Reads.Learnt) Reads''.Pre Reads''.Post
+Need-refused-requires = Lts.Need-refused-requires claims Reads''.Pre Reads''.Post
 
 abbrev pub Need-same-length : Type 0
-Need-same-length = Lts.Need-same-length (Reads'3.Asked, Reads'3.Learnt, Reads'.Asked, Reads'.Learnt, Reads.Asked, Reads.Learnt) Reads''.Pre Reads''.Post
+Need-same-length = Lts.Need-same-length claims Reads''.Pre Reads''.Post
 
 abbrev pub Need-same-length-2 : Type 0
-Need-same-length-2 = Lts.Need-same-length-2 (Reads'3.Asked, Reads'3.Learnt, Reads'.Asked, Reads'.Learnt, Reads.Asked, Reads.Learnt) Reads''.Pre Reads''.Post
+Need-same-length-2 = Lts.Need-same-length-2 claims Reads''.Pre Reads''.Post
 
 abbrev pub Need-returns : Type 0
-Need-returns = Lts.Need-returns (Reads'3.Asked, Reads'3.Learnt, Reads'.Asked, Reads'.Learnt, Reads.Asked, Reads.Learnt) Reads''.Pre Reads''.Post
+Need-returns = Lts.Need-returns claims Reads''.Pre Reads''.Post
 
 module _ {M : Type 1} where
   pub spec : (answer : Need-clear-requires) → (answer : Need-clear-records-requires) → (answer : Need-refused-requires) → (answer : Need-same-length) → (answer : Need-same-length-2) → (answer :
-      Need-returns) → Lts.Closed (Reads'3.Asked, Reads'3.Learnt, Reads'.Asked, Reads'.Learnt, Reads.Asked, Reads.Learnt) Reads''.Pre Reads''.Post M
-  spec = λ answer answer' answer'' answer'3 answer'4 answer'5. Lts.spec (Reads'3.Asked, Reads'3.Learnt, Reads'.Asked, Reads'.Learnt, Reads.Asked, Reads.Learnt) Reads''.Pre Reads''.Post answer answer'
-      answer'' answer'3 answer'4 answer'5
+      Need-returns) → Lts.Closed claims Reads''.Pre Reads''.Post M
+  spec = λ answer answer' answer'' answer'3 answer'4 answer'5. Lts.spec claims Reads''.Pre Reads''.Post answer answer' answer'' answer'3 answer'4 answer'5
 
-  pub close : Lts.Closed (Reads'3.Asked, Reads'3.Learnt, Reads'.Asked, Reads'.Learnt, Reads.Asked, Reads.Learnt) Reads''.Pre Reads''.Post M → Statement.statement M
+  pub close : Lts.Closed claims Reads''.Pre Reads''.Post M → Statement.statement M
   unfolding Code.routine Running.tablesOf
   close = λ closed 𝓤 H 𝓜 𝓖 𝓡. Written.close 2 Kinds.ps Kinds.r Reads''.Ghost Reads''.requires Reads''.ensures Reads''.pre-read Reads''.Pinned Reads''.Owned Reads''.post-read record
       { M = M; 𝓤 = 𝓤; H = H; 𝓜 = 𝓜; 𝓖 = 𝓖; 𝓡 = 𝓡 } Code.env Key.name Code.function (Code.unfolded 𝓤 H 𝓜 𝓡) (λ κs a g. tt) (λ κs. Reads''.owns κs record { M = M; 𝓤 = 𝓤; H = H; 𝓜 = 𝓜; 𝓖 = 𝓖; 𝓡 = 𝓡 })

@@ -18,169 +18,72 @@ use borrow.Fn.Run
 use borrow.Fn.Written
 use contract.Running
 
+abbrev claims : Lts.Claims
+claims = (Reads.Asked, Reads.Learnt, Reads'.Asked, Reads'.Learnt, Reads'3.Asked, Reads'3.Learnt)
+
 abbrev pub Start : Type 0
-Start = Lts.Start (Reads.Asked, Reads.Learnt, Reads'.Asked, Reads'.Learnt, Reads'3.Asked, Reads'3.Learnt) Reads''.Pre Reads''.Post
-
-abbrev pub After-shared-slice-known : Type 0
-After-shared-slice-known = Lts.After-shared-slice-known (Reads.Asked, Reads.Learnt, Reads'.Asked, Reads'.Learnt, Reads'3.Asked, Reads'3.Learnt) Reads''.Pre Reads''.Post
-
-abbrev pub After-shared-slice-known2 : Type 0
-After-shared-slice-known2 = Lts.After-shared-slice-known2 (Reads.Asked, Reads.Learnt, Reads'.Asked, Reads'.Learnt, Reads'3.Asked, Reads'3.Learnt) Reads''.Pre Reads''.Post
-
-abbrev pub After-slice-known : Type 0
-After-slice-known = Lts.After-slice-known (Reads.Asked, Reads.Learnt, Reads'.Asked, Reads'.Learnt, Reads'3.Asked, Reads'3.Learnt) Reads''.Pre Reads''.Post
-
-abbrev pub After-slice-known2 : Type 0
-After-slice-known2 = Lts.After-slice-known2 (Reads.Asked, Reads.Learnt, Reads'.Asked, Reads'.Learnt, Reads'3.Asked, Reads'3.Learnt) Reads''.Pre Reads''.Post
-
-abbrev pub After-checked-in : Type 0
-After-checked-in = Lts.After-checked-in (Reads.Asked, Reads.Learnt, Reads'.Asked, Reads'.Learnt, Reads'3.Asked, Reads'3.Learnt) Reads''.Pre Reads''.Post
-
-abbrev pub At-match-keys1 : Type 0
-At-match-keys1 = Lts.At-match-keys1 (Reads.Asked, Reads.Learnt, Reads'.Asked, Reads'.Learnt, Reads'3.Asked, Reads'3.Learnt) Reads''.Pre Reads''.Post
-
-abbrev pub After-enum-told : Type 0
-After-enum-told = Lts.After-enum-told (Reads.Asked, Reads.Learnt, Reads'.Asked, Reads'.Learnt, Reads'3.Asked, Reads'3.Learnt) Reads''.Pre Reads''.Post
-
-abbrev pub After-refuse-arg : Type 0
-After-refuse-arg = Lts.After-refuse-arg (Reads.Asked, Reads.Learnt, Reads'.Asked, Reads'.Learnt, Reads'3.Asked, Reads'3.Learnt) Reads''.Pre Reads''.Post
-
-abbrev pub After-refuse-arg2 : Type 0
-After-refuse-arg2 = Lts.After-refuse-arg2 (Reads.Asked, Reads.Learnt, Reads'.Asked, Reads'.Learnt, Reads'3.Asked, Reads'3.Learnt) Reads''.Pre Reads''.Post
-
-abbrev pub After-refuse : Type 0
-After-refuse = Lts.After-refuse (Reads.Asked, Reads.Learnt, Reads'.Asked, Reads'.Learnt, Reads'3.Asked, Reads'3.Learnt) Reads''.Pre Reads''.Post
-
-abbrev pub After-lines : Type 0
-After-lines = Lts.After-lines (Reads.Asked, Reads.Learnt, Reads'.Asked, Reads'.Learnt, Reads'3.Asked, Reads'3.Learnt) Reads''.Pre Reads''.Post
-
-abbrev pub After-slice-known3 : Type 0
-After-slice-known3 = Lts.After-slice-known3 (Reads.Asked, Reads.Learnt, Reads'.Asked, Reads'.Learnt, Reads'3.Asked, Reads'3.Learnt) Reads''.Pre Reads''.Post
-
-abbrev pub After-rs : Type 0
-After-rs = Lts.After-rs (Reads.Asked, Reads.Learnt, Reads'.Asked, Reads'.Learnt, Reads'3.Asked, Reads'3.Learnt) Reads''.Pre Reads''.Post
-
-abbrev pub At-match-keys2 : Type 0
-At-match-keys2 = Lts.At-match-keys2 (Reads.Asked, Reads.Learnt, Reads'.Asked, Reads'.Learnt, Reads'3.Asked, Reads'3.Learnt) Reads''.Pre Reads''.Post
-
-abbrev pub After-enum-told2 : Type 0
-After-enum-told2 = Lts.After-enum-told2 (Reads.Asked, Reads.Learnt, Reads'.Asked, Reads'.Learnt, Reads'3.Asked, Reads'3.Learnt) Reads''.Pre Reads''.Post
-
-abbrev pub After-refuse-arg3 : Type 0
-After-refuse-arg3 = Lts.After-refuse-arg3 (Reads.Asked, Reads.Learnt, Reads'.Asked, Reads'.Learnt, Reads'3.Asked, Reads'3.Learnt) Reads''.Pre Reads''.Post
-
-abbrev pub After-refuse-arg4 : Type 0
-After-refuse-arg4 = Lts.After-refuse-arg4 (Reads.Asked, Reads.Learnt, Reads'.Asked, Reads'.Learnt, Reads'3.Asked, Reads'3.Learnt) Reads''.Pre Reads''.Post
-
-abbrev pub After-refuse2 : Type 0
-After-refuse2 = Lts.After-refuse2 (Reads.Asked, Reads.Learnt, Reads'.Asked, Reads'.Learnt, Reads'3.Asked, Reads'3.Learnt) Reads''.Pre Reads''.Post
-
-abbrev pub After-lines2 : Type 0
-After-lines2 = Lts.After-lines2 (Reads.Asked, Reads.Learnt, Reads'.Asked, Reads'.Learnt, Reads'3.Asked, Reads'3.Learnt) Reads''.Pre Reads''.Post
-
-abbrev pub After-slice-known4 : Type 0
-After-slice-known4 = Lts.After-slice-known4 (Reads.Asked, Reads.Learnt, Reads'.Asked, Reads'.Learnt, Reads'3.Asked, Reads'3.Learnt) Reads''.Pre Reads''.Post
-
-abbrev pub After-rs2 : Type 0
-After-rs2 = Lts.After-rs2 (Reads.Asked, Reads.Learnt, Reads'.Asked, Reads'.Learnt, Reads'3.Asked, Reads'3.Learnt) Reads''.Pre Reads''.Post
-
-abbrev pub At-match-keys3 : Type 0
-At-match-keys3 = Lts.At-match-keys3 (Reads.Asked, Reads.Learnt, Reads'.Asked, Reads'.Learnt, Reads'3.Asked, Reads'3.Learnt) Reads''.Pre Reads''.Post
-
-abbrev pub After-checked : Type 0
-After-checked = Lts.After-checked (Reads.Asked, Reads.Learnt, Reads'.Asked, Reads'.Learnt, Reads'3.Asked, Reads'3.Learnt) Reads''.Pre Reads''.Post
-
-abbrev pub After-known-told : Type 0
-After-known-told = Lts.After-known-told (Reads.Asked, Reads.Learnt, Reads'.Asked, Reads'.Learnt, Reads'3.Asked, Reads'3.Learnt) Reads''.Pre Reads''.Post
-
-abbrev pub After-resume-lines-arg : Type 0
-After-resume-lines-arg = Lts.After-resume-lines-arg (Reads.Asked, Reads.Learnt, Reads'.Asked, Reads'.Learnt, Reads'3.Asked, Reads'3.Learnt) Reads''.Pre Reads''.Post
-
-abbrev pub After-resume-lines-arg2 : Type 0
-After-resume-lines-arg2 = Lts.After-resume-lines-arg2 (Reads.Asked, Reads.Learnt, Reads'.Asked, Reads'.Learnt, Reads'3.Asked, Reads'3.Learnt) Reads''.Pre Reads''.Post
-
-abbrev pub After-resume-lines-arg3 : Type 0
-After-resume-lines-arg3 = Lts.After-resume-lines-arg3 (Reads.Asked, Reads.Learnt, Reads'.Asked, Reads'.Learnt, Reads'3.Asked, Reads'3.Learnt) Reads''.Pre Reads''.Post
-
-abbrev pub After-resume-lines : Type 0
-After-resume-lines = Lts.After-resume-lines (Reads.Asked, Reads.Learnt, Reads'.Asked, Reads'.Learnt, Reads'3.Asked, Reads'3.Learnt) Reads''.Pre Reads''.Post
-
-abbrev pub After-image : Type 0
-After-image = Lts.After-image (Reads.Asked, Reads.Learnt, Reads'.Asked, Reads'.Learnt, Reads'3.Asked, Reads'3.Learnt) Reads''.Pre Reads''.Post
-
-abbrev pub After-slice-known5 : Type 0
-After-slice-known5 = Lts.After-slice-known5 (Reads.Asked, Reads.Learnt, Reads'.Asked, Reads'.Learnt, Reads'3.Asked, Reads'3.Learnt) Reads''.Pre Reads''.Post
-
-abbrev pub After-lines3 : Type 0
-After-lines3 = Lts.After-lines3 (Reads.Asked, Reads.Learnt, Reads'.Asked, Reads'.Learnt, Reads'3.Asked, Reads'3.Learnt) Reads''.Pre Reads''.Post
-
-abbrev pub After-slice-known6 : Type 0
-After-slice-known6 = Lts.After-slice-known6 (Reads.Asked, Reads.Learnt, Reads'.Asked, Reads'.Learnt, Reads'3.Asked, Reads'3.Learnt) Reads''.Pre Reads''.Post
-
-abbrev pub After-rs3 : Type 0
-After-rs3 = Lts.After-rs3 (Reads.Asked, Reads.Learnt, Reads'.Asked, Reads'.Learnt, Reads'3.Asked, Reads'3.Learnt) Reads''.Pre Reads''.Post
+Start = Lts.Start claims Reads''.Pre Reads''.Post
 
 abbrev pub Need-checked-in-requires : Type 0
-Need-checked-in-requires = Lts.Need-checked-in-requires (Reads.Asked, Reads.Learnt, Reads'.Asked, Reads'.Learnt, Reads'3.Asked, Reads'3.Learnt) Reads''.Pre Reads''.Post
+Need-checked-in-requires = Lts.Need-checked-in-requires claims Reads''.Pre Reads''.Post
 
 abbrev pub Need-enum-told : Type 0
-Need-enum-told = Lts.Need-enum-told (Reads.Asked, Reads.Learnt, Reads'.Asked, Reads'.Learnt, Reads'3.Asked, Reads'3.Learnt) Reads''.Pre Reads''.Post
+Need-enum-told = Lts.Need-enum-told claims Reads''.Pre Reads''.Post
 
 abbrev pub Need-refuse-requires : Type 0
-Need-refuse-requires = Lts.Need-refuse-requires (Reads.Asked, Reads.Learnt, Reads'.Asked, Reads'.Learnt, Reads'3.Asked, Reads'3.Learnt) Reads''.Pre Reads''.Post
+Need-refuse-requires = Lts.Need-refuse-requires claims Reads''.Pre Reads''.Post
 
 abbrev pub Need-enum-told-2 : Type 0
-Need-enum-told-2 = Lts.Need-enum-told-2 (Reads.Asked, Reads.Learnt, Reads'.Asked, Reads'.Learnt, Reads'3.Asked, Reads'3.Learnt) Reads''.Pre Reads''.Post
+Need-enum-told-2 = Lts.Need-enum-told-2 claims Reads''.Pre Reads''.Post
 
 abbrev pub Need-refuse-requires-2 : Type 0
-Need-refuse-requires-2 = Lts.Need-refuse-requires-2 (Reads.Asked, Reads.Learnt, Reads'.Asked, Reads'.Learnt, Reads'3.Asked, Reads'3.Learnt) Reads''.Pre Reads''.Post
+Need-refuse-requires-2 = Lts.Need-refuse-requires-2 claims Reads''.Pre Reads''.Post
 
 abbrev pub Need-enum-known-checked : Type 0
-Need-enum-known-checked = Lts.Need-enum-known-checked (Reads.Asked, Reads.Learnt, Reads'.Asked, Reads'.Learnt, Reads'3.Asked, Reads'3.Learnt) Reads''.Pre Reads''.Post
+Need-enum-known-checked = Lts.Need-enum-known-checked claims Reads''.Pre Reads''.Post
 
 abbrev pub Need-resume-lines-requires : Type 0
-Need-resume-lines-requires = Lts.Need-resume-lines-requires (Reads.Asked, Reads.Learnt, Reads'.Asked, Reads'.Learnt, Reads'3.Asked, Reads'3.Learnt) Reads''.Pre Reads''.Post
+Need-resume-lines-requires = Lts.Need-resume-lines-requires claims Reads''.Pre Reads''.Post
 
 abbrev pub Need-same-length : Type 0
-Need-same-length = Lts.Need-same-length (Reads.Asked, Reads.Learnt, Reads'.Asked, Reads'.Learnt, Reads'3.Asked, Reads'3.Learnt) Reads''.Pre Reads''.Post
+Need-same-length = Lts.Need-same-length claims Reads''.Pre Reads''.Post
 
 abbrev pub Need-same-length-2 : Type 0
-Need-same-length-2 = Lts.Need-same-length-2 (Reads.Asked, Reads.Learnt, Reads'.Asked, Reads'.Learnt, Reads'3.Asked, Reads'3.Learnt) Reads''.Pre Reads''.Post
+Need-same-length-2 = Lts.Need-same-length-2 claims Reads''.Pre Reads''.Post
 
 abbrev pub Need-returns : Type 0
-Need-returns = Lts.Need-returns (Reads.Asked, Reads.Learnt, Reads'.Asked, Reads'.Learnt, Reads'3.Asked, Reads'3.Learnt) Reads''.Pre Reads''.Post
+Need-returns = Lts.Need-returns claims Reads''.Pre Reads''.Post
 
 abbrev pub Need-same-length-3 : Type 0
-Need-same-length-3 = Lts.Need-same-length-3 (Reads.Asked, Reads.Learnt, Reads'.Asked, Reads'.Learnt, Reads'3.Asked, Reads'3.Learnt) Reads''.Pre Reads''.Post
+Need-same-length-3 = Lts.Need-same-length-3 claims Reads''.Pre Reads''.Post
 
 abbrev pub Need-same-length-4 : Type 0
-Need-same-length-4 = Lts.Need-same-length-4 (Reads.Asked, Reads.Learnt, Reads'.Asked, Reads'.Learnt, Reads'3.Asked, Reads'3.Learnt) Reads''.Pre Reads''.Post
+Need-same-length-4 = Lts.Need-same-length-4 claims Reads''.Pre Reads''.Post
 
 abbrev pub Need-returns-2 : Type 0
-Need-returns-2 = Lts.Need-returns-2 (Reads.Asked, Reads.Learnt, Reads'.Asked, Reads'.Learnt, Reads'3.Asked, Reads'3.Learnt) Reads''.Pre Reads''.Post
+Need-returns-2 = Lts.Need-returns-2 claims Reads''.Pre Reads''.Post
 
 abbrev pub Need-same-length-5 : Type 0
-Need-same-length-5 = Lts.Need-same-length-5 (Reads.Asked, Reads.Learnt, Reads'.Asked, Reads'.Learnt, Reads'3.Asked, Reads'3.Learnt) Reads''.Pre Reads''.Post
+Need-same-length-5 = Lts.Need-same-length-5 claims Reads''.Pre Reads''.Post
 
 abbrev pub Need-same-length-6 : Type 0
-Need-same-length-6 = Lts.Need-same-length-6 (Reads.Asked, Reads.Learnt, Reads'.Asked, Reads'.Learnt, Reads'3.Asked, Reads'3.Learnt) Reads''.Pre Reads''.Post
+Need-same-length-6 = Lts.Need-same-length-6 claims Reads''.Pre Reads''.Post
 
 abbrev pub Need-same-length-7 : Type 0
-Need-same-length-7 = Lts.Need-same-length-7 (Reads.Asked, Reads.Learnt, Reads'.Asked, Reads'.Learnt, Reads'3.Asked, Reads'3.Learnt) Reads''.Pre Reads''.Post
+Need-same-length-7 = Lts.Need-same-length-7 claims Reads''.Pre Reads''.Post
 
 abbrev pub Need-returns-3 : Type 0
-Need-returns-3 = Lts.Need-returns-3 (Reads.Asked, Reads.Learnt, Reads'.Asked, Reads'.Learnt, Reads'3.Asked, Reads'3.Learnt) Reads''.Pre Reads''.Post
+Need-returns-3 = Lts.Need-returns-3 claims Reads''.Pre Reads''.Post
 
 module _ {M : Type 1} where
   pub spec : (answer : Need-checked-in-requires) → (answer : Need-enum-told) → (answer : Need-refuse-requires) → (answer : Need-enum-told-2) → (answer : Need-refuse-requires-2) → (answer :
       Need-enum-known-checked) → (answer : Need-resume-lines-requires) → (answer : Need-same-length) → (answer : Need-same-length-2) → (answer : Need-returns) → (answer : Need-same-length-3) → (answer :
-      Need-same-length-4) → (answer : Need-returns-2) → (answer : Need-same-length-5) → (answer : Need-same-length-6) → (answer : Need-same-length-7) → (answer : Need-returns-3) → Lts.Closed
-      (Reads.Asked, Reads.Learnt, Reads'.Asked, Reads'.Learnt, Reads'3.Asked, Reads'3.Learnt) Reads''.Pre Reads''.Post M
-  spec = λ answer answer' answer'' answer'3 answer'4 answer'5 answer'6 answer'7 answer'8 answer'9 answer'10 answer'11 answer'12 answer'13 answer'14 answer'15 answer'16. Lts.spec
-      (Reads.Asked, Reads.Learnt, Reads'.Asked, Reads'.Learnt, Reads'3.Asked, Reads'3.Learnt) Reads''.Pre Reads''.Post answer answer' answer'' answer'3 answer'4 answer'5 answer'6 answer'7 answer'8
-      answer'9 answer'10 answer'11 answer'12 answer'13 answer'14 answer'15 answer'16
+      Need-same-length-4) → (answer : Need-returns-2) → (answer : Need-same-length-5) → (answer : Need-same-length-6) → (answer : Need-same-length-7) → (answer : Need-returns-3) → Lts.Closed claims
+      Reads''.Pre Reads''.Post M
+  spec = λ answer answer' answer'' answer'3 answer'4 answer'5 answer'6 answer'7 answer'8 answer'9 answer'10 answer'11 answer'12 answer'13 answer'14 answer'15 answer'16. Lts.spec claims Reads''.Pre
+      Reads''.Post answer answer' answer'' answer'3 answer'4 answer'5 answer'6 answer'7 answer'8 answer'9 answer'10 answer'11 answer'12 answer'13 answer'14 answer'15 answer'16
 
-  pub close : Lts.Closed (Reads.Asked, Reads.Learnt, Reads'.Asked, Reads'.Learnt, Reads'3.Asked, Reads'3.Learnt) Reads''.Pre Reads''.Post M → Statement.statement M
+  pub close : Lts.Closed claims Reads''.Pre Reads''.Post M → Statement.statement M
   unfolding Code.routine Running.tablesOf
   close = λ closed 𝓤 H 𝓜 𝓖 𝓡. Written.close 5 Kinds.ps Kinds.r Reads''.Ghost Reads''.requires Reads''.ensures Reads''.pre-read Reads''.Pinned Reads''.Owned Reads''.post-read record
       { M = M; 𝓤 = 𝓤; H = H; 𝓜 = 𝓜; 𝓖 = 𝓖; 𝓡 = 𝓡 } Code.env Key.name Code.function (Code.unfolded 𝓤 H 𝓜 𝓡) (λ κs a g. tt) (λ κs. Reads''.owns κs record { M = M; 𝓤 = 𝓤; H = H; 𝓜 = 𝓜; 𝓖 = 𝓖; 𝓡 = 𝓡 })

@@ -24,200 +24,82 @@ use borrow.Fn.Run
 use borrow.Fn.Written
 use contract.Running
 
+abbrev claims : Lts.Claims
+claims = (Reads.Asked, Reads.Learnt, Reads''.Asked, Reads''.Learnt, Reads'3.Asked, Reads'3.Learnt, Reads'.Asked, Reads'.Learnt, Reads'4.Asked, Reads'4.Learnt)
+
 abbrev pub Start : Type 0
-Start = Lts.Start (Reads.Asked, Reads.Learnt, Reads''.Asked, Reads''.Learnt, Reads'3.Asked, Reads'3.Learnt, Reads'.Asked, Reads'.Learnt, Reads'4.Asked, Reads'4.Learnt) Reads'5.Pre Reads'5.Post
-
-abbrev pub After-shared-slice-known : Type 0
-After-shared-slice-known = Lts.After-shared-slice-known
-    (Reads.Asked, Reads.Learnt, Reads''.Asked, Reads''.Learnt, Reads'3.Asked, Reads'3.Learnt, Reads'.Asked, Reads'.Learnt, Reads'4.Asked, Reads'4.Learnt) Reads'5.Pre Reads'5.Post
-
-abbrev pub After-shared-slice-known2 : Type 0
-After-shared-slice-known2 = Lts.After-shared-slice-known2
-    (Reads.Asked, Reads.Learnt, Reads''.Asked, Reads''.Learnt, Reads'3.Asked, Reads'3.Learnt, Reads'.Asked, Reads'.Learnt, Reads'4.Asked, Reads'4.Learnt) Reads'5.Pre Reads'5.Post
-
-abbrev pub After-slice-known : Type 0
-After-slice-known = Lts.After-slice-known (Reads.Asked, Reads.Learnt, Reads''.Asked, Reads''.Learnt, Reads'3.Asked, Reads'3.Learnt, Reads'.Asked, Reads'.Learnt, Reads'4.Asked, Reads'4.Learnt)
-    Reads'5.Pre Reads'5.Post
-
-abbrev pub After-slice-known2 : Type 0
-After-slice-known2 = Lts.After-slice-known2 (Reads.Asked, Reads.Learnt, Reads''.Asked, Reads''.Learnt, Reads'3.Asked, Reads'3.Learnt, Reads'.Asked, Reads'.Learnt, Reads'4.Asked, Reads'4.Learnt)
-    Reads'5.Pre Reads'5.Post
-
-abbrev pub After-resume-begins : Type 0
-After-resume-begins = Lts.After-resume-begins (Reads.Asked, Reads.Learnt, Reads''.Asked, Reads''.Learnt, Reads'3.Asked, Reads'3.Learnt, Reads'.Asked, Reads'.Learnt, Reads'4.Asked, Reads'4.Learnt)
-    Reads'5.Pre Reads'5.Post
-
-abbrev pub At-match-keys1 : Type 0
-At-match-keys1 = Lts.At-match-keys1 (Reads.Asked, Reads.Learnt, Reads''.Asked, Reads''.Learnt, Reads'3.Asked, Reads'3.Learnt, Reads'.Asked, Reads'.Learnt, Reads'4.Asked, Reads'4.Learnt) Reads'5.Pre
-    Reads'5.Post
-
-abbrev pub After-begins : Type 0
-After-begins = Lts.After-begins (Reads.Asked, Reads.Learnt, Reads''.Asked, Reads''.Learnt, Reads'3.Asked, Reads'3.Learnt, Reads'.Asked, Reads'.Learnt, Reads'4.Asked, Reads'4.Learnt) Reads'5.Pre
-    Reads'5.Post
-
-abbrev pub After-known-told : Type 0
-After-known-told = Lts.After-known-told (Reads.Asked, Reads.Learnt, Reads''.Asked, Reads''.Learnt, Reads'3.Asked, Reads'3.Learnt, Reads'.Asked, Reads'.Learnt, Reads'4.Asked, Reads'4.Learnt)
-    Reads'5.Pre Reads'5.Post
-
-abbrev pub After-refused : Type 0
-After-refused = Lts.After-refused (Reads.Asked, Reads.Learnt, Reads''.Asked, Reads''.Learnt, Reads'3.Asked, Reads'3.Learnt, Reads'.Asked, Reads'.Learnt, Reads'4.Asked, Reads'4.Learnt) Reads'5.Pre
-    Reads'5.Post
-
-abbrev pub At-match-keys2 : Type 0
-At-match-keys2 = Lts.At-match-keys2 (Reads.Asked, Reads.Learnt, Reads''.Asked, Reads''.Learnt, Reads'3.Asked, Reads'3.Learnt, Reads'.Asked, Reads'.Learnt, Reads'4.Asked, Reads'4.Learnt) Reads'5.Pre
-    Reads'5.Post
-
-abbrev pub After-enum-told : Type 0
-After-enum-told = Lts.After-enum-told (Reads.Asked, Reads.Learnt, Reads''.Asked, Reads''.Learnt, Reads'3.Asked, Reads'3.Learnt, Reads'.Asked, Reads'.Learnt, Reads'4.Asked, Reads'4.Learnt) Reads'5.Pre
-    Reads'5.Post
-
-abbrev pub After-nothing-counted : Type 0
-After-nothing-counted = Lts.After-nothing-counted (Reads.Asked, Reads.Learnt, Reads''.Asked, Reads''.Learnt, Reads'3.Asked, Reads'3.Learnt, Reads'.Asked, Reads'.Learnt, Reads'4.Asked, Reads'4.Learnt)
-    Reads'5.Pre Reads'5.Post
-
-abbrev pub At-match-keys3 : Type 0
-At-match-keys3 = Lts.At-match-keys3 (Reads.Asked, Reads.Learnt, Reads''.Asked, Reads''.Learnt, Reads'3.Asked, Reads'3.Learnt, Reads'.Asked, Reads'.Learnt, Reads'4.Asked, Reads'4.Learnt) Reads'5.Pre
-    Reads'5.Post
-
-abbrev pub After-begins2 : Type 0
-After-begins2 = Lts.After-begins2 (Reads.Asked, Reads.Learnt, Reads''.Asked, Reads''.Learnt, Reads'3.Asked, Reads'3.Learnt, Reads'.Asked, Reads'.Learnt, Reads'4.Asked, Reads'4.Learnt) Reads'5.Pre
-    Reads'5.Post
-
-abbrev pub After-known-told2 : Type 0
-After-known-told2 = Lts.After-known-told2 (Reads.Asked, Reads.Learnt, Reads''.Asked, Reads''.Learnt, Reads'3.Asked, Reads'3.Learnt, Reads'.Asked, Reads'.Learnt, Reads'4.Asked, Reads'4.Learnt)
-    Reads'5.Pre Reads'5.Post
-
-abbrev pub After-samples-needed : Type 0
-After-samples-needed = Lts.After-samples-needed (Reads.Asked, Reads.Learnt, Reads''.Asked, Reads''.Learnt, Reads'3.Asked, Reads'3.Learnt, Reads'.Asked, Reads'.Learnt, Reads'4.Asked, Reads'4.Learnt)
-    Reads'5.Pre Reads'5.Post
-
-abbrev pub After-resume-in-arg : Type 0
-After-resume-in-arg = Lts.After-resume-in-arg (Reads.Asked, Reads.Learnt, Reads''.Asked, Reads''.Learnt, Reads'3.Asked, Reads'3.Learnt, Reads'.Asked, Reads'.Learnt, Reads'4.Asked, Reads'4.Learnt)
-    Reads'5.Pre Reads'5.Post
-
-abbrev pub After-resume-in-arg2 : Type 0
-After-resume-in-arg2 = Lts.After-resume-in-arg2 (Reads.Asked, Reads.Learnt, Reads''.Asked, Reads''.Learnt, Reads'3.Asked, Reads'3.Learnt, Reads'.Asked, Reads'.Learnt, Reads'4.Asked, Reads'4.Learnt)
-    Reads'5.Pre Reads'5.Post
-
-abbrev pub After-resume-in-arg3 : Type 0
-After-resume-in-arg3 = Lts.After-resume-in-arg3 (Reads.Asked, Reads.Learnt, Reads''.Asked, Reads''.Learnt, Reads'3.Asked, Reads'3.Learnt, Reads'.Asked, Reads'.Learnt, Reads'4.Asked, Reads'4.Learnt)
-    Reads'5.Pre Reads'5.Post
-
-abbrev pub After-resume-in : Type 0
-After-resume-in = Lts.After-resume-in (Reads.Asked, Reads.Learnt, Reads''.Asked, Reads''.Learnt, Reads'3.Asked, Reads'3.Learnt, Reads'.Asked, Reads'.Learnt, Reads'4.Asked, Reads'4.Learnt) Reads'5.Pre
-    Reads'5.Post
-
-abbrev pub After-image : Type 0
-After-image = Lts.After-image (Reads.Asked, Reads.Learnt, Reads''.Asked, Reads''.Learnt, Reads'3.Asked, Reads'3.Learnt, Reads'.Asked, Reads'.Learnt, Reads'4.Asked, Reads'4.Learnt) Reads'5.Pre
-    Reads'5.Post
-
-abbrev pub After-slice-known3 : Type 0
-After-slice-known3 = Lts.After-slice-known3 (Reads.Asked, Reads.Learnt, Reads''.Asked, Reads''.Learnt, Reads'3.Asked, Reads'3.Learnt, Reads'.Asked, Reads'.Learnt, Reads'4.Asked, Reads'4.Learnt)
-    Reads'5.Pre Reads'5.Post
-
-abbrev pub After-lines : Type 0
-After-lines = Lts.After-lines (Reads.Asked, Reads.Learnt, Reads''.Asked, Reads''.Learnt, Reads'3.Asked, Reads'3.Learnt, Reads'.Asked, Reads'.Learnt, Reads'4.Asked, Reads'4.Learnt) Reads'5.Pre
-    Reads'5.Post
-
-abbrev pub After-slice-known4 : Type 0
-After-slice-known4 = Lts.After-slice-known4 (Reads.Asked, Reads.Learnt, Reads''.Asked, Reads''.Learnt, Reads'3.Asked, Reads'3.Learnt, Reads'.Asked, Reads'.Learnt, Reads'4.Asked, Reads'4.Learnt)
-    Reads'5.Pre Reads'5.Post
-
-abbrev pub After-rs : Type 0
-After-rs = Lts.After-rs (Reads.Asked, Reads.Learnt, Reads''.Asked, Reads''.Learnt, Reads'3.Asked, Reads'3.Learnt, Reads'.Asked, Reads'.Learnt, Reads'4.Asked, Reads'4.Learnt) Reads'5.Pre Reads'5.Post
+Start = Lts.Start claims Reads'5.Pre Reads'5.Post
 
 abbrev pub Need-resume-begins-requires : Type 0
-Need-resume-begins-requires = Lts.Need-resume-begins-requires
-    (Reads.Asked, Reads.Learnt, Reads''.Asked, Reads''.Learnt, Reads'3.Asked, Reads'3.Learnt, Reads'.Asked, Reads'.Learnt, Reads'4.Asked, Reads'4.Learnt) Reads'5.Pre Reads'5.Post
+Need-resume-begins-requires = Lts.Need-resume-begins-requires claims Reads'5.Pre Reads'5.Post
 
 abbrev pub Need-enum-known-begins : Type 0
-Need-enum-known-begins = Lts.Need-enum-known-begins
-    (Reads.Asked, Reads.Learnt, Reads''.Asked, Reads''.Learnt, Reads'3.Asked, Reads'3.Learnt, Reads'.Asked, Reads'.Learnt, Reads'4.Asked, Reads'4.Learnt) Reads'5.Pre Reads'5.Post
+Need-enum-known-begins = Lts.Need-enum-known-begins claims Reads'5.Pre Reads'5.Post
 
 abbrev pub Need-refused-requires : Type 0
-Need-refused-requires = Lts.Need-refused-requires (Reads.Asked, Reads.Learnt, Reads''.Asked, Reads''.Learnt, Reads'3.Asked, Reads'3.Learnt, Reads'.Asked, Reads'.Learnt, Reads'4.Asked, Reads'4.Learnt)
-    Reads'5.Pre Reads'5.Post
+Need-refused-requires = Lts.Need-refused-requires claims Reads'5.Pre Reads'5.Post
 
 abbrev pub Need-enum-told : Type 0
-Need-enum-told = Lts.Need-enum-told (Reads.Asked, Reads.Learnt, Reads''.Asked, Reads''.Learnt, Reads'3.Asked, Reads'3.Learnt, Reads'.Asked, Reads'.Learnt, Reads'4.Asked, Reads'4.Learnt) Reads'5.Pre
-    Reads'5.Post
+Need-enum-told = Lts.Need-enum-told claims Reads'5.Pre Reads'5.Post
 
 abbrev pub Need-nothing-counted-requires : Type 0
-Need-nothing-counted-requires = Lts.Need-nothing-counted-requires
-    (Reads.Asked, Reads.Learnt, Reads''.Asked, Reads''.Learnt, Reads'3.Asked, Reads'3.Learnt, Reads'.Asked, Reads'.Learnt, Reads'4.Asked, Reads'4.Learnt) Reads'5.Pre Reads'5.Post
+Need-nothing-counted-requires = Lts.Need-nothing-counted-requires claims Reads'5.Pre Reads'5.Post
 
 abbrev pub Need-enum-known-begins-2 : Type 0
-Need-enum-known-begins-2 = Lts.Need-enum-known-begins-2
-    (Reads.Asked, Reads.Learnt, Reads''.Asked, Reads''.Learnt, Reads'3.Asked, Reads'3.Learnt, Reads'.Asked, Reads'.Learnt, Reads'4.Asked, Reads'4.Learnt) Reads'5.Pre Reads'5.Post
+Need-enum-known-begins-2 = Lts.Need-enum-known-begins-2 claims Reads'5.Pre Reads'5.Post
 
 abbrev pub Need-samples-needed-requires : Type 0
-Need-samples-needed-requires = Lts.Need-samples-needed-requires
-    (Reads.Asked, Reads.Learnt, Reads''.Asked, Reads''.Learnt, Reads'3.Asked, Reads'3.Learnt, Reads'.Asked, Reads'.Learnt, Reads'4.Asked, Reads'4.Learnt) Reads'5.Pre Reads'5.Post
+Need-samples-needed-requires = Lts.Need-samples-needed-requires claims Reads'5.Pre Reads'5.Post
 
 abbrev pub Need-sub-resume-in : Type 0
-Need-sub-resume-in = Lts.Need-sub-resume-in (Reads.Asked, Reads.Learnt, Reads''.Asked, Reads''.Learnt, Reads'3.Asked, Reads'3.Learnt, Reads'.Asked, Reads'.Learnt, Reads'4.Asked, Reads'4.Learnt)
-    Reads'5.Pre Reads'5.Post
+Need-sub-resume-in = Lts.Need-sub-resume-in claims Reads'5.Pre Reads'5.Post
 
 abbrev pub Need-part-resume-in-start : Type 0
-Need-part-resume-in-start = Lts.Need-part-resume-in-start
-    (Reads.Asked, Reads.Learnt, Reads''.Asked, Reads''.Learnt, Reads'3.Asked, Reads'3.Learnt, Reads'.Asked, Reads'.Learnt, Reads'4.Asked, Reads'4.Learnt) Reads'5.Pre Reads'5.Post
+Need-part-resume-in-start = Lts.Need-part-resume-in-start claims Reads'5.Pre Reads'5.Post
 
 abbrev pub Need-part-resume-in-end : Type 0
-Need-part-resume-in-end = Lts.Need-part-resume-in-end
-    (Reads.Asked, Reads.Learnt, Reads''.Asked, Reads''.Learnt, Reads'3.Asked, Reads'3.Learnt, Reads'.Asked, Reads'.Learnt, Reads'4.Asked, Reads'4.Learnt) Reads'5.Pre Reads'5.Post
+Need-part-resume-in-end = Lts.Need-part-resume-in-end claims Reads'5.Pre Reads'5.Post
 
 abbrev pub Need-sub-resume-in-2 : Type 0
-Need-sub-resume-in-2 = Lts.Need-sub-resume-in-2 (Reads.Asked, Reads.Learnt, Reads''.Asked, Reads''.Learnt, Reads'3.Asked, Reads'3.Learnt, Reads'.Asked, Reads'.Learnt, Reads'4.Asked, Reads'4.Learnt)
-    Reads'5.Pre Reads'5.Post
+Need-sub-resume-in-2 = Lts.Need-sub-resume-in-2 claims Reads'5.Pre Reads'5.Post
 
 abbrev pub Need-part-resume-in-start-2 : Type 0
-Need-part-resume-in-start-2 = Lts.Need-part-resume-in-start-2
-    (Reads.Asked, Reads.Learnt, Reads''.Asked, Reads''.Learnt, Reads'3.Asked, Reads'3.Learnt, Reads'.Asked, Reads'.Learnt, Reads'4.Asked, Reads'4.Learnt) Reads'5.Pre Reads'5.Post
+Need-part-resume-in-start-2 = Lts.Need-part-resume-in-start-2 claims Reads'5.Pre Reads'5.Post
 
 abbrev pub Need-part-resume-in-end-2 : Type 0
-Need-part-resume-in-end-2 = Lts.Need-part-resume-in-end-2
-    (Reads.Asked, Reads.Learnt, Reads''.Asked, Reads''.Learnt, Reads'3.Asked, Reads'3.Learnt, Reads'.Asked, Reads'.Learnt, Reads'4.Asked, Reads'4.Learnt) Reads'5.Pre Reads'5.Post
+Need-part-resume-in-end-2 = Lts.Need-part-resume-in-end-2 claims Reads'5.Pre Reads'5.Post
 
 abbrev pub Need-resume-in-requires : Type 0
-Need-resume-in-requires = Lts.Need-resume-in-requires
-    (Reads.Asked, Reads.Learnt, Reads''.Asked, Reads''.Learnt, Reads'3.Asked, Reads'3.Learnt, Reads'.Asked, Reads'.Learnt, Reads'4.Asked, Reads'4.Learnt) Reads'5.Pre Reads'5.Post
+Need-resume-in-requires = Lts.Need-resume-in-requires claims Reads'5.Pre Reads'5.Post
 
 abbrev pub Need-returns : Type 0
-Need-returns = Lts.Need-returns (Reads.Asked, Reads.Learnt, Reads''.Asked, Reads''.Learnt, Reads'3.Asked, Reads'3.Learnt, Reads'.Asked, Reads'.Learnt, Reads'4.Asked, Reads'4.Learnt) Reads'5.Pre
-    Reads'5.Post
+Need-returns = Lts.Need-returns claims Reads'5.Pre Reads'5.Post
 
 abbrev pub Need-returns-2 : Type 0
-Need-returns-2 = Lts.Need-returns-2 (Reads.Asked, Reads.Learnt, Reads''.Asked, Reads''.Learnt, Reads'3.Asked, Reads'3.Learnt, Reads'.Asked, Reads'.Learnt, Reads'4.Asked, Reads'4.Learnt) Reads'5.Pre
-    Reads'5.Post
+Need-returns-2 = Lts.Need-returns-2 claims Reads'5.Pre Reads'5.Post
 
 abbrev pub Need-same-length : Type 0
-Need-same-length = Lts.Need-same-length (Reads.Asked, Reads.Learnt, Reads''.Asked, Reads''.Learnt, Reads'3.Asked, Reads'3.Learnt, Reads'.Asked, Reads'.Learnt, Reads'4.Asked, Reads'4.Learnt)
-    Reads'5.Pre Reads'5.Post
+Need-same-length = Lts.Need-same-length claims Reads'5.Pre Reads'5.Post
 
 abbrev pub Need-same-length-2 : Type 0
-Need-same-length-2 = Lts.Need-same-length-2 (Reads.Asked, Reads.Learnt, Reads''.Asked, Reads''.Learnt, Reads'3.Asked, Reads'3.Learnt, Reads'.Asked, Reads'.Learnt, Reads'4.Asked, Reads'4.Learnt)
-    Reads'5.Pre Reads'5.Post
+Need-same-length-2 = Lts.Need-same-length-2 claims Reads'5.Pre Reads'5.Post
 
 abbrev pub Need-same-length-3 : Type 0
-Need-same-length-3 = Lts.Need-same-length-3 (Reads.Asked, Reads.Learnt, Reads''.Asked, Reads''.Learnt, Reads'3.Asked, Reads'3.Learnt, Reads'.Asked, Reads'.Learnt, Reads'4.Asked, Reads'4.Learnt)
-    Reads'5.Pre Reads'5.Post
+Need-same-length-3 = Lts.Need-same-length-3 claims Reads'5.Pre Reads'5.Post
 
 abbrev pub Need-returns-3 : Type 0
-Need-returns-3 = Lts.Need-returns-3 (Reads.Asked, Reads.Learnt, Reads''.Asked, Reads''.Learnt, Reads'3.Asked, Reads'3.Learnt, Reads'.Asked, Reads'.Learnt, Reads'4.Asked, Reads'4.Learnt) Reads'5.Pre
-    Reads'5.Post
+Need-returns-3 = Lts.Need-returns-3 claims Reads'5.Pre Reads'5.Post
 
 module _ {M : Type 1} where
   pub spec : (answer : Need-resume-begins-requires) → (answer : Need-enum-known-begins) → (answer : Need-refused-requires) → (answer : Need-enum-told) → (answer : Need-nothing-counted-requires) →
       (answer : Need-enum-known-begins-2) → (answer : Need-samples-needed-requires) → (answer : Need-sub-resume-in) → (answer : Need-part-resume-in-start) → (answer : Need-part-resume-in-end) → (answer :
       Need-sub-resume-in-2) → (answer : Need-part-resume-in-start-2) → (answer : Need-part-resume-in-end-2) → (answer : Need-resume-in-requires) → (answer : Need-returns) → (answer : Need-returns-2) →
-      (answer : Need-same-length) → (answer : Need-same-length-2) → (answer : Need-same-length-3) → (answer : Need-returns-3) → Lts.Closed
-      (Reads.Asked, Reads.Learnt, Reads''.Asked, Reads''.Learnt, Reads'3.Asked, Reads'3.Learnt, Reads'.Asked, Reads'.Learnt, Reads'4.Asked, Reads'4.Learnt) Reads'5.Pre Reads'5.Post M
+      (answer : Need-same-length) → (answer : Need-same-length-2) → (answer : Need-same-length-3) → (answer : Need-returns-3) → Lts.Closed claims Reads'5.Pre Reads'5.Post M
   spec = λ answer answer' answer'' answer'3 answer'4 answer'5 answer'6 answer'7 answer'8 answer'9 answer'10 answer'11 answer'12 answer'13 answer'14 answer'15 answer'16 answer'17 answer'18 answer'19.
-      Lts.spec (Reads.Asked, Reads.Learnt, Reads''.Asked, Reads''.Learnt, Reads'3.Asked, Reads'3.Learnt, Reads'.Asked, Reads'.Learnt, Reads'4.Asked, Reads'4.Learnt) Reads'5.Pre Reads'5.Post answer answer'
-      answer'' answer'3 answer'4 answer'5 answer'6 answer'7 answer'8 answer'9 answer'10 answer'11 answer'12 answer'13 answer'14 answer'15 answer'16 answer'17 answer'18 answer'19
+      Lts.spec claims Reads'5.Pre Reads'5.Post answer answer' answer'' answer'3 answer'4 answer'5 answer'6 answer'7 answer'8 answer'9 answer'10 answer'11 answer'12 answer'13 answer'14 answer'15 answer'16
+      answer'17 answer'18 answer'19
 
-  pub close : Lts.Closed (Reads.Asked, Reads.Learnt, Reads''.Asked, Reads''.Learnt, Reads'3.Asked, Reads'3.Learnt, Reads'.Asked, Reads'.Learnt, Reads'4.Asked, Reads'4.Learnt) Reads'5.Pre Reads'5.Post
-      M → Statement.statement M
+  pub close : Lts.Closed claims Reads'5.Pre Reads'5.Post M → Statement.statement M
   unfolding Code.routine Running.tablesOf
   close = λ closed 𝓤 H 𝓜 𝓖 𝓡. Written.close 5 Kinds.ps Kinds.r Reads'5.Ghost Reads'5.requires Reads'5.ensures Reads'5.pre-read Reads'5.Pinned Reads'5.Owned Reads'5.post-read record
       { M = M; 𝓤 = 𝓤; H = H; 𝓜 = 𝓜; 𝓖 = 𝓖; 𝓡 = 𝓡 } Code.env Key.name Code.function (Code.unfolded 𝓤 H 𝓜 𝓡) (λ κs a g. tt) (λ κs. Reads'5.owns κs record { M = M; 𝓤 = 𝓤; H = H; 𝓜 = 𝓜; 𝓖 = 𝓖; 𝓡 = 𝓡 })

@@ -1,4 +1,9 @@
 -- Written by tools/lend.py from Rattle's derivation of the twin of `block_states`; not edited by hand. Assumes nothing.
+use borrow.Fn.Args.{ArgsT}
+use Rattle.bits.proofs.Values
+use Rattle.bits.proofs.Values.{on}
+use Rattle.bits.proofs.Values.{n16, n8, u16, u32, u64, u8}
+use mathlib.Core.List.{_∷_, []}
 use Rattle.block.proofs.Element
 use Prim.Native.Nat
 use Rattle.block.proofs.Counted
@@ -24,7 +29,6 @@ use borrow.Kind.Bool
 use borrow.Kind.MutSlice
 use borrow.Kind.Num
 use borrow.Kind.ShrSlice
-use borrow.Kind.Value
 use borrow.Rule.Lifetime
 use borrow.Rule.Local
 use borrow.Rule.LocalCopy
@@ -40,7 +44,6 @@ use borrow.Rule.Yields
 use borrow.Struct.CopyOut
 use borrow.Struct.Make
 use borrow.Struct.Reads
-use borrow.Table.Copies
 use borrow.Table.Elements
 use borrow.Table.Own
 use borrow.Table.Reads as Reads'
@@ -52,7 +55,6 @@ use contract.Lifetimes
 use denote.Array
 use denote.Enum.Declared
 use denote.Enum.Laws as Laws'4
-use denote.Exit
 use denote.Struct.Declared as Declared'
 use denote.Struct.Laws as Laws'5
 use denote.Triple.Clauses
@@ -71,323 +73,187 @@ use types.Kit
 use types.Run
 
 abbrev pub y0 : Syntax.Ty
-y0 = Syntax.tyStruct (List._∷_ 115 (List._∷_ 116 (List._∷_ 114 (List._∷_ 101 (List._∷_ 97 (List._∷_ 109 (List._∷_ 58 (List._∷_ 58 (List._∷_ 70 (List._∷_ 117 (List._∷_ 106 (List._∷_ 105 (List._∷_ 72
-    (List._∷_ 101 (List._∷_ 97 (List._∷_ 100 (List._∷_ 101 (List._∷_ 114 List.[])))))))))))))))))) (Syntax.tcons Syntax.tyBool (Syntax.tcons Syntax.tyBool (Syntax.tcons (Syntax.tyInt Syntax.w32)
-    (Syntax.tcons (Syntax.tyInt Syntax.w32) (Syntax.tcons (Syntax.tyInt Syntax.w32) (Syntax.tcons (Syntax.tyInt Syntax.w32) (Syntax.tcons (Syntax.tyInt Syntax.w32) (Syntax.tcons (Syntax.tyInt Syntax.w32)
-    (Syntax.tcons (Syntax.tyInt Syntax.w32) Syntax.tnil)))))))))
+y0 = Syntax.tyEnum (115 ∷ 116 ∷ 114 ∷ 101 ∷ 97 ∷ 109 ∷ 58 ∷ 58 ∷ 82 ∷ 101 ∷ 102 ∷ 117 ∷ 115 ∷ 97 ∷ 108 ∷ []) (Syntax.ttcons Syntax.tnil (Syntax.ttcons Syntax.tnil (Syntax.ttcons Syntax.tnil
+    (Syntax.ttcons (Syntax.tcons u64 Syntax.tnil) (Syntax.ttcons Syntax.tnil (Syntax.ttcons Syntax.tnil (Syntax.ttcons Syntax.tnil (Syntax.ttcons Syntax.tnil (Syntax.ttcons Syntax.tnil (Syntax.ttcons
+    Syntax.tnil (Syntax.ttcons (Syntax.tcons u64 Syntax.tnil) (Syntax.ttcons (Syntax.tcons u64 Syntax.tnil) (Syntax.ttcons Syntax.tnil (Syntax.ttcons (Syntax.tcons u64 (Syntax.tcons u64 Syntax.tnil))
+    (Syntax.ttcons (Syntax.tcons u64 Syntax.tnil) (Syntax.ttcons Syntax.tnil (Syntax.ttcons Syntax.tnil (Syntax.ttcons (Syntax.tcons u64 Syntax.tnil) (Syntax.ttcons (Syntax.tcons u64 Syntax.tnil)
+    (Syntax.ttcons (Syntax.tcons u64 Syntax.tnil) (Syntax.ttcons Syntax.tnil (Syntax.ttcons Syntax.tnil (Syntax.ttcons (Syntax.tcons u64 (Syntax.tcons u64 Syntax.tnil)) (Syntax.ttcons Syntax.tnil
+    Syntax.ttnil))))))))))))))))))))))))
 
 abbrev pub y1 : Syntax.Ty
-y1 = Syntax.tyStruct (List._∷_ 116 (List._∷_ 111 (List._∷_ 116 (List._∷_ 97 (List._∷_ 108 (List._∷_ 115 (List._∷_ 58 (List._∷_ 58 (List._∷_ 84 (List._∷_ 111 (List._∷_ 116 (List._∷_ 97 (List._∷_ 108
-    (List._∷_ 115 List.[])))))))))))))) (Syntax.tcons (Syntax.tyInt Syntax.w64) (Syntax.tcons (Syntax.tyInt Syntax.w64) Syntax.tnil))
+y1 = Syntax.tyRef (Syntax.named 0) Syntax.imm u8
 
 abbrev pub y2 : Syntax.Ty
-y2 = Syntax.tyStruct (List._∷_ 38 (List._∷_ 91 (List._∷_ 93 List.[]))) (Syntax.tcons (Syntax.tyRef Syntax.erased Syntax.mut (Syntax.tyInt Syntax.w16)) (Syntax.tcons (Syntax.tyInt Syntax.w64)
-    Syntax.tnil))
+y2 = Syntax.tyRef (Syntax.named 1) Syntax.mut u8
 
 abbrev pub y3 : Syntax.Ty
-y3 = Syntax.tyStruct (List._∷_ 38 (List._∷_ 91 (List._∷_ 93 List.[]))) (Syntax.tcons (Syntax.tyRef Syntax.erased Syntax.mut (Syntax.tyInt Syntax.w8)) (Syntax.tcons (Syntax.tyInt Syntax.w64)
-    Syntax.tnil))
+y3 = Syntax.tyRef (Syntax.named 2) Syntax.mut u16
 
 abbrev pub y4 : Syntax.Ty
-y4 = Syntax.tyStruct (List._∷_ 38 (List._∷_ 91 (List._∷_ 93 List.[]))) (Syntax.tcons (Syntax.tyRef Syntax.erased Syntax.mut Element.behind) (Syntax.tcons (Syntax.tyInt Syntax.w64) Syntax.tnil))
+y4 = Syntax.tyRef (Syntax.named 3) Syntax.mut Element.behind
 
 abbrev pub y5 : Syntax.Ty
-y5 = Syntax.tyStruct (List._∷_ 98 (List._∷_ 108 (List._∷_ 111 (List._∷_ 99 (List._∷_ 107 (List._∷_ 58 (List._∷_ 58 (List._∷_ 67 (List._∷_ 111 (List._∷_ 117 (List._∷_ 110 (List._∷_ 116 (List._∷_ 101
-    (List._∷_ 100 List.[])))))))))))))) (Syntax.tcons (Syntax.tyEnum (List._∷_ 98 (List._∷_ 108 (List._∷_ 111 (List._∷_ 99 (List._∷_ 107 (List._∷_ 58 (List._∷_ 58 (List._∷_ 68 (List._∷_ 101 (List._∷_ 99
-    (List._∷_ 111 (List._∷_ 100 (List._∷_ 101 (List._∷_ 100 List.[])))))))))))))) (Syntax.ttcons Syntax.tnil (Syntax.ttcons (Syntax.tcons (Syntax.tyEnum (List._∷_ 115 (List._∷_ 116 (List._∷_ 114 (List._∷_
-    101 (List._∷_ 97 (List._∷_ 109 (List._∷_ 58 (List._∷_ 58 (List._∷_ 82 (List._∷_ 101 (List._∷_ 102 (List._∷_ 117 (List._∷_ 115 (List._∷_ 97 (List._∷_ 108 List.[]))))))))))))))) (Syntax.ttcons
-    Syntax.tnil (Syntax.ttcons Syntax.tnil (Syntax.ttcons Syntax.tnil (Syntax.ttcons (Syntax.tcons (Syntax.tyInt Syntax.w64) Syntax.tnil) (Syntax.ttcons Syntax.tnil (Syntax.ttcons Syntax.tnil
-    (Syntax.ttcons Syntax.tnil (Syntax.ttcons Syntax.tnil (Syntax.ttcons Syntax.tnil (Syntax.ttcons Syntax.tnil (Syntax.ttcons (Syntax.tcons (Syntax.tyInt Syntax.w64) Syntax.tnil) (Syntax.ttcons
-    (Syntax.tcons (Syntax.tyInt Syntax.w64) Syntax.tnil) (Syntax.ttcons Syntax.tnil (Syntax.ttcons (Syntax.tcons (Syntax.tyInt Syntax.w64) (Syntax.tcons (Syntax.tyInt Syntax.w64) Syntax.tnil))
-    (Syntax.ttcons (Syntax.tcons (Syntax.tyInt Syntax.w64) Syntax.tnil) (Syntax.ttcons Syntax.tnil (Syntax.ttcons Syntax.tnil (Syntax.ttcons (Syntax.tcons (Syntax.tyInt Syntax.w64) Syntax.tnil)
-    (Syntax.ttcons (Syntax.tcons (Syntax.tyInt Syntax.w64) Syntax.tnil) (Syntax.ttcons (Syntax.tcons (Syntax.tyInt Syntax.w64) Syntax.tnil) (Syntax.ttcons Syntax.tnil (Syntax.ttcons Syntax.tnil
-    (Syntax.ttcons (Syntax.tcons (Syntax.tyInt Syntax.w64) (Syntax.tcons (Syntax.tyInt Syntax.w64) Syntax.tnil)) (Syntax.ttcons Syntax.tnil Syntax.ttnil))))))))))))))))))))))))) Syntax.tnil)
-    Syntax.ttnil))) (Syntax.tcons y1 Syntax.tnil))
+y5 = Syntax.tyRef Syntax.erased Syntax.mut Element.behind
+
+abbrev pub y6 : Syntax.Ty
+y6 = Syntax.tyRef Syntax.erased Syntax.mut u16
+
+abbrev pub y7 : Syntax.Ty
+y7 = Syntax.tyRef Syntax.erased Syntax.mut u8
+
+abbrev pub y8 : Syntax.Ty
+y8 = Syntax.tyStruct (115 ∷ 116 ∷ 114 ∷ 101 ∷ 97 ∷ 109 ∷ 58 ∷ 58 ∷ 70 ∷ 117 ∷ 106 ∷ 105 ∷ 72 ∷ 101 ∷ 97 ∷ 100 ∷ 101 ∷ 114 ∷ []) (Syntax.tcons Syntax.tyBool (Syntax.tcons Syntax.tyBool (Syntax.tcons
+    u32 (Syntax.tcons u32 (Syntax.tcons u32 (Syntax.tcons u32 (Syntax.tcons u32 (Syntax.tcons u32 (Syntax.tcons u32 Syntax.tnil)))))))))
+
+abbrev pub y9 : Syntax.Ty
+y9 = Syntax.tyStruct (116 ∷ 111 ∷ 116 ∷ 97 ∷ 108 ∷ 115 ∷ 58 ∷ 58 ∷ 84 ∷ 111 ∷ 116 ∷ 97 ∷ 108 ∷ 115 ∷ []) (Syntax.tcons u64 (Syntax.tcons u64 Syntax.tnil))
+
+abbrev pub y10 : Syntax.Ty
+y10 = Syntax.tyEnum (115 ∷ 116 ∷ 114 ∷ 101 ∷ 97 ∷ 109 ∷ 58 ∷ 58 ∷ 80 ∷ 97 ∷ 114 ∷ 115 ∷ 101 ∷ 100 ∷ []) (Syntax.ttcons (Syntax.tcons y8 Syntax.tnil) (Syntax.ttcons (Syntax.tcons y0 Syntax.tnil)
+    Syntax.ttnil))
+
+abbrev pub y11 : Syntax.Ty
+y11 = Syntax.tyEnum (98 ∷ 108 ∷ 111 ∷ 99 ∷ 107 ∷ 58 ∷ 58 ∷ 68 ∷ 101 ∷ 99 ∷ 111 ∷ 100 ∷ 101 ∷ 100 ∷ []) (Syntax.ttcons Syntax.tnil (Syntax.ttcons (Syntax.tcons y0 Syntax.tnil) Syntax.ttnil))
+
+abbrev pub y12 : Syntax.Ty
+y12 = Syntax.tyStruct (38 ∷ 91 ∷ 93 ∷ []) (Syntax.tcons y5 (Syntax.tcons u64 Syntax.tnil))
+
+abbrev pub y13 : Syntax.Ty
+y13 = Syntax.tyStruct (38 ∷ 91 ∷ 93 ∷ []) (Syntax.tcons y6 (Syntax.tcons u64 Syntax.tnil))
+
+abbrev pub y14 : Syntax.Ty
+y14 = Syntax.tyStruct (38 ∷ 91 ∷ 93 ∷ []) (Syntax.tcons y7 (Syntax.tcons u64 Syntax.tnil))
+
+abbrev pub y15 : Syntax.Ty
+y15 = Syntax.tyStruct (98 ∷ 108 ∷ 111 ∷ 99 ∷ 107 ∷ 58 ∷ 58 ∷ 67 ∷ 111 ∷ 117 ∷ 110 ∷ 116 ∷ 101 ∷ 100 ∷ []) (Syntax.tcons y11 (Syntax.tcons y9 Syntax.tnil))
 
 abbrev pub ps : List.List (Kinds.PK 4)
-ps = List._∷_ (ShrSlice.pShrS (Referent.rtF (Referent.fInt Syntax.w8)) 0 tt) (List._∷_ (Num.pNum Syntax.w64) (List._∷_ (Num.pNum Syntax.w64) (List._∷_ (MutSlice.pMutS (Referent.rtF (Referent.fInt
-    Syntax.w8)) 1 tt) (List._∷_ (MutSlice.pMutS (Referent.rtF (Referent.fInt Syntax.w16)) 2 tt) (List._∷_ (MutSlice.pMutS (Element.type) 3 tt) List.[])))))
+ps = (ShrSlice.pShrS n8 0 tt) ∷ (Num.pNum Syntax.w64) ∷ (Num.pNum Syntax.w64) ∷ (MutSlice.pMutS n8 1 tt) ∷ (MutSlice.pMutS n16 2 tt) ∷ (MutSlice.pMutS (Element.type) 3 tt) ∷ []
 
 abbrev pub r : Kinds.RK 4
-r = Value.rVal record {
-  ty = Declared'.row Counted.the-type;
-  one = Path'.refl;
-  val = Laws'5.val Counted.the-type Laws.the-laws;
-  tells = Laws'5.tells Counted.the-type Laws.the-laws;
-  still = Laws'5.still Counted.the-type
-      Laws.the-copy Exit.yes;
-  row = Rows.whole (Declared'.row Counted.the-type);
-  rd = λ x. x;
-  mk = λ x. x;
-} λ M 𝓤 H A W. record {
-  copies = Laws'5.copy Counted.the-type Laws.the-copy 𝓤 H A W;
-  lawful = Laws'5.lawful Counted.the-type Laws.the-laws 𝓤 H A W;
-  makes = Laws'5.makes Counted.the-type Laws.the-plain 𝓤 H A;
-  in-mem =
-      Local.mem-whole 𝓤 H A W (Declared'.row Counted.the-type);
-  of-mem = Local.whole-mem 𝓤 H A W (Declared'.row Counted.the-type);
-}
+r = Values.struct-result Counted.the-type Laws.the-laws Laws.the-copy Laws.the-plain
 
 abbrev pub xs : List.List Syntax.Ty
-xs = List._∷_ (Syntax.tyEnum (List._∷_ 115 (List._∷_ 116 (List._∷_ 114 (List._∷_ 101 (List._∷_ 97 (List._∷_ 109 (List._∷_ 58 (List._∷_ 58 (List._∷_ 80 (List._∷_ 97 (List._∷_ 114 (List._∷_ 115
-    (List._∷_ 101 (List._∷_ 100 List.[])))))))))))))) (Syntax.ttcons (Syntax.tcons y0 Syntax.tnil) (Syntax.ttcons (Syntax.tcons (Syntax.tyEnum (List._∷_ 115 (List._∷_ 116 (List._∷_ 114 (List._∷_ 101
-    (List._∷_ 97 (List._∷_ 109 (List._∷_ 58 (List._∷_ 58 (List._∷_ 82 (List._∷_ 101 (List._∷_ 102 (List._∷_ 117 (List._∷_ 115 (List._∷_ 97 (List._∷_ 108 List.[]))))))))))))))) (Syntax.ttcons Syntax.tnil
-    (Syntax.ttcons Syntax.tnil (Syntax.ttcons Syntax.tnil (Syntax.ttcons (Syntax.tcons (Syntax.tyInt Syntax.w64) Syntax.tnil) (Syntax.ttcons Syntax.tnil (Syntax.ttcons Syntax.tnil (Syntax.ttcons
-    Syntax.tnil (Syntax.ttcons Syntax.tnil (Syntax.ttcons Syntax.tnil (Syntax.ttcons Syntax.tnil (Syntax.ttcons (Syntax.tcons (Syntax.tyInt Syntax.w64) Syntax.tnil) (Syntax.ttcons (Syntax.tcons
-    (Syntax.tyInt Syntax.w64) Syntax.tnil) (Syntax.ttcons Syntax.tnil (Syntax.ttcons (Syntax.tcons (Syntax.tyInt Syntax.w64) (Syntax.tcons (Syntax.tyInt Syntax.w64) Syntax.tnil)) (Syntax.ttcons
-    (Syntax.tcons (Syntax.tyInt Syntax.w64) Syntax.tnil) (Syntax.ttcons Syntax.tnil (Syntax.ttcons Syntax.tnil (Syntax.ttcons (Syntax.tcons (Syntax.tyInt Syntax.w64) Syntax.tnil) (Syntax.ttcons
-    (Syntax.tcons (Syntax.tyInt Syntax.w64) Syntax.tnil) (Syntax.ttcons (Syntax.tcons (Syntax.tyInt Syntax.w64) Syntax.tnil) (Syntax.ttcons Syntax.tnil (Syntax.ttcons Syntax.tnil (Syntax.ttcons
-    (Syntax.tcons (Syntax.tyInt Syntax.w64) (Syntax.tcons (Syntax.tyInt Syntax.w64) Syntax.tnil)) (Syntax.ttcons Syntax.tnil Syntax.ttnil))))))))))))))))))))))))) Syntax.tnil) Syntax.ttnil))) (List._∷_
-    (Syntax.tyEnum (List._∷_ 115 (List._∷_ 116 (List._∷_ 114 (List._∷_ 101 (List._∷_ 97 (List._∷_ 109 (List._∷_ 58 (List._∷_ 58 (List._∷_ 82 (List._∷_ 101 (List._∷_ 102 (List._∷_ 117 (List._∷_ 115
-    (List._∷_ 97 (List._∷_ 108 List.[]))))))))))))))) (Syntax.ttcons Syntax.tnil (Syntax.ttcons Syntax.tnil (Syntax.ttcons Syntax.tnil (Syntax.ttcons (Syntax.tcons (Syntax.tyInt Syntax.w64) Syntax.tnil)
-    (Syntax.ttcons Syntax.tnil (Syntax.ttcons Syntax.tnil (Syntax.ttcons Syntax.tnil (Syntax.ttcons Syntax.tnil (Syntax.ttcons Syntax.tnil (Syntax.ttcons Syntax.tnil (Syntax.ttcons (Syntax.tcons
-    (Syntax.tyInt Syntax.w64) Syntax.tnil) (Syntax.ttcons (Syntax.tcons (Syntax.tyInt Syntax.w64) Syntax.tnil) (Syntax.ttcons Syntax.tnil (Syntax.ttcons (Syntax.tcons (Syntax.tyInt Syntax.w64)
-    (Syntax.tcons (Syntax.tyInt Syntax.w64) Syntax.tnil)) (Syntax.ttcons (Syntax.tcons (Syntax.tyInt Syntax.w64) Syntax.tnil) (Syntax.ttcons Syntax.tnil (Syntax.ttcons Syntax.tnil (Syntax.ttcons
-    (Syntax.tcons (Syntax.tyInt Syntax.w64) Syntax.tnil) (Syntax.ttcons (Syntax.tcons (Syntax.tyInt Syntax.w64) Syntax.tnil) (Syntax.ttcons (Syntax.tcons (Syntax.tyInt Syntax.w64) Syntax.tnil)
-    (Syntax.ttcons Syntax.tnil (Syntax.ttcons Syntax.tnil (Syntax.ttcons (Syntax.tcons (Syntax.tyInt Syntax.w64) (Syntax.tcons (Syntax.tyInt Syntax.w64) Syntax.tnil)) (Syntax.ttcons Syntax.tnil
-    Syntax.ttnil))))))))))))))))))))))))) (List._∷_ y0 (List._∷_ (Syntax.tyInt Syntax.w64) (List._∷_ (Syntax.tyInt Syntax.w64) (List._∷_ (Syntax.tyInt Syntax.w64) (List._∷_ y5 (List._∷_ (Syntax.tyRef
-    Syntax.erased Syntax.mut (Syntax.tyInt Syntax.w8)) (List._∷_ y3 (List._∷_ Syntax.tyPtr (List._∷_ (Syntax.tyInt Syntax.w64) (List._∷_ (Syntax.tyRef Syntax.erased Syntax.mut (Syntax.tyInt Syntax.w16))
-    (List._∷_ y2 (List._∷_ Syntax.tyPtr (List._∷_ (Syntax.tyInt Syntax.w64) (List._∷_ (Syntax.tyRef Syntax.erased Syntax.mut Element.behind) (List._∷_ y4 List.[]))))))))))))))))
+xs = y10 ∷ y0 ∷ y8 ∷ u64 ∷ u64 ∷ u64 ∷ y15 ∷ y7 ∷ y14 ∷ Syntax.tyPtr ∷ u64 ∷ y6 ∷ y13 ∷ Syntax.tyPtr ∷ u64 ∷ y5 ∷ y12 ∷ []
 
 abbrev pub m : Nat.ℕ
 m = 3
 
 abbrev pub ps·0 : List.List (Kinds.PK 1)
-ps·0 = List._∷_ (ShrSlice.pShrS (Referent.rtF (Referent.fInt Syntax.w8)) 0 tt) (List._∷_ (Num.pNum Syntax.w64) (List._∷_ Bool.pBool (List._∷_ (Num.pNum Syntax.w64) (List._∷_ (Num.pNum Syntax.w64)
-    List.[]))))
+ps·0 = (ShrSlice.pShrS n8 0 tt) ∷ (Num.pNum Syntax.w64) ∷ Bool.pBool ∷ (Num.pNum Syntax.w64) ∷ (Num.pNum Syntax.w64) ∷ []
 
 abbrev pub r·0 : Kinds.RK 1
-r·0 = Value.rVal record {
-  ty = Declared.row Parsed.the-type;
-  one = Path'.refl;
-  val = Laws'4.val Parsed.the-type Laws''.the-laws;
-  tells = Laws'4.tells Parsed.the-type Laws''.the-laws;
-  still = Laws'4.still Parsed.the-type
-      Laws''.the-copy Exit.yes;
-  row = Rows.whole (Declared.row Parsed.the-type);
-  rd = λ x. x;
-  mk = λ x. x;
-} λ M 𝓤 H A W. record {
-  copies = Laws'4.copy Parsed.the-type Laws''.the-copy 𝓤 H A W;
-  lawful = Laws'4.lawful Parsed.the-type Laws''.the-laws 𝓤 H A W tt;
-  makes = Laws'4.makes Parsed.the-type Laws''.the-plain 𝓤 H A;
-  in-mem =
-      Local.mem-whole 𝓤 H A W (Declared.row Parsed.the-type);
-  of-mem = Local.whole-mem 𝓤 H A W (Declared.row Parsed.the-type);
-}
+r·0 = Values.enum-result Parsed.the-type Laws''.the-laws Laws''.the-copy Laws''.the-plain tt
 
 abbrev pub ps·1 : List.List (Kinds.PK 0)
-ps·1 = List._∷_ (Value.pVal record {
-  ty = Declared.row Refusal.the-type;
-  one = Path'.refl;
-  val = Laws'4.val Refusal.the-type Laws'3.the-laws;
-  tells = Laws'4.tells Refusal.the-type Laws'3.the-laws;
-  still = Laws'4.still Refusal.the-type
-      Laws'3.the-copy Exit.yes;
-  row = Rows.whole (Declared.row Refusal.the-type);
-  rd = λ x. x;
-  mk = λ x. x;
-} λ M 𝓤 H A W. record {
-  copies = Laws'4.copy Refusal.the-type Laws'3.the-copy 𝓤 H A W;
-  lawful = Laws'4.lawful Refusal.the-type Laws'3.the-laws 𝓤 H A W tt;
-  makes = Laws'4.makes Refusal.the-type Laws'3.the-plain 𝓤 H A;
-  in-mem = Local.mem-whole 𝓤 H A W (Declared.row Refusal.the-type);
-  of-mem = Local.whole-mem 𝓤 H A W (Declared.row Refusal.the-type);
-}) List.[]
+ps·1 = (Values.enum Refusal.the-type Laws'3.the-laws Laws'3.the-copy Laws'3.the-plain tt) ∷ []
 
 abbrev pub r·1 : Kinds.RK 0
-r·1 = Value.rVal record {
-  ty = Declared'.row Counted.the-type;
-  one = Path'.refl;
-  val = Laws'5.val Counted.the-type Laws.the-laws;
-  tells = Laws'5.tells Counted.the-type Laws.the-laws;
-  still = Laws'5.still Counted.the-type
-      Laws.the-copy Exit.yes;
-  row = Rows.whole (Declared'.row Counted.the-type);
-  rd = λ x. x;
-  mk = λ x. x;
-} λ M 𝓤 H A W. record {
-  copies = Laws'5.copy Counted.the-type Laws.the-copy 𝓤 H A W;
-  lawful = Laws'5.lawful Counted.the-type Laws.the-laws 𝓤 H A W;
-  makes = Laws'5.makes Counted.the-type Laws.the-plain 𝓤 H A;
-  in-mem =
-      Local.mem-whole 𝓤 H A W (Declared'.row Counted.the-type);
-  of-mem = Local.whole-mem 𝓤 H A W (Declared'.row Counted.the-type);
-}
+r·1 = Values.struct-result Counted.the-type Laws.the-laws Laws.the-copy Laws.the-plain
 
 abbrev pub ps·2 : List.List (Kinds.PK 0)
-ps·2 = List._∷_ Bool.pBool List.[]
+ps·2 = Bool.pBool ∷ []
 
 abbrev pub r·2 : Kinds.RK 0
 r·2 = Num.rNum Syntax.w64
 
 abbrev pub ps·3 : List.List (Kinds.PK 4)
-ps·3 = List._∷_ (ShrSlice.pShrS (Referent.rtF (Referent.fInt Syntax.w8)) 0 tt) (List._∷_ (Value.pVal record {
-  ty = Declared'.row FujiHeader.the-type;
-  one = Path'.refl;
-  val = Laws'5.val FujiHeader.the-type Laws'.the-laws;
-  tells = Laws'5.tells FujiHeader.the-type Laws'.the-laws;
-  still = Laws'5.still
-      FujiHeader.the-type Laws'.the-copy Exit.yes;
-  row = Rows.whole (Declared'.row FujiHeader.the-type);
-  rd = λ x. x;
-  mk = λ x. x;
-} λ M 𝓤 H A W. record {
-  copies = Laws'5.copy FujiHeader.the-type Laws'.the-copy 𝓤 H A W;
-  lawful = Laws'5.lawful FujiHeader.the-type Laws'.the-laws 𝓤 H A W;
-  makes = Laws'5.makes FujiHeader.the-type Laws'.the-plain 𝓤 H A;
-  in-mem = Local.mem-whole 𝓤 H A W (Declared'.row FujiHeader.the-type);
-  of-mem = Local.whole-mem 𝓤 H A W (Declared'.row FujiHeader.the-type);
-}) (List._∷_ (Num.pNum Syntax.w64) (List._∷_ (Num.pNum
-    Syntax.w64) (List._∷_ (MutSlice.pMutS (Referent.rtF (Referent.fInt Syntax.w8)) 1 tt) (List._∷_ (MutSlice.pMutS (Referent.rtF (Referent.fInt Syntax.w16)) 2 tt) (List._∷_ (MutSlice.pMutS (Element.type)
-    3 tt) List.[]))))))
+ps·3 = (ShrSlice.pShrS n8 0 tt) ∷ (Values.struct FujiHeader.the-type Laws'.the-laws Laws'.the-copy Laws'.the-plain) ∷ (Num.pNum Syntax.w64) ∷ (Num.pNum Syntax.w64) ∷ (MutSlice.pMutS n8 1 tt) ∷
+    (MutSlice.pMutS n16 2 tt) ∷ (MutSlice.pMutS (Element.type) 3 tt) ∷ []
 
 abbrev pub r·3 : Kinds.RK 4
-r·3 = Value.rVal record {
-  ty = Declared'.row Counted.the-type;
-  one = Path'.refl;
-  val = Laws'5.val Counted.the-type Laws.the-laws;
-  tells = Laws'5.tells Counted.the-type Laws.the-laws;
-  still = Laws'5.still Counted.the-type
-      Laws.the-copy Exit.yes;
-  row = Rows.whole (Declared'.row Counted.the-type);
-  rd = λ x. x;
-  mk = λ x. x;
-} λ M 𝓤 H A W. record {
-  copies = Laws'5.copy Counted.the-type Laws.the-copy 𝓤 H A W;
-  lawful = Laws'5.lawful Counted.the-type Laws.the-laws 𝓤 H A W;
-  makes = Laws'5.makes Counted.the-type Laws.the-plain 𝓤 H A;
-  in-mem =
-      Local.mem-whole 𝓤 H A W (Declared'.row Counted.the-type);
-  of-mem = Local.whole-mem 𝓤 H A W (Declared'.row Counted.the-type);
-}
+r·3 = Values.struct-result Counted.the-type Laws.the-laws Laws.the-copy Laws.the-plain
 
 abbrev pub hs : List.List Syntax.Home
-hs = List._∷_ Syntax.valueLocal (List._∷_ Syntax.valueLocal (List._∷_ Syntax.valueLocal (List._∷_ Syntax.valueLocal (List._∷_ Syntax.valueLocal (List._∷_ Syntax.valueLocal (List._∷_ Syntax.valueLocal
-    (List._∷_ Syntax.valueLocal (List._∷_ Syntax.valueLocal (List._∷_ Syntax.valueLocal (List._∷_ Syntax.valueLocal (List._∷_ Syntax.valueLocal (List._∷_ Syntax.valueLocal (List._∷_ Syntax.valueLocal
-    (List._∷_ Syntax.valueLocal (List._∷_ Syntax.valueLocal (List._∷_ Syntax.valueLocal (List._∷_ Syntax.valueLocal (List._∷_ Syntax.valueLocal (List._∷_ Syntax.valueLocal (List._∷_ Syntax.valueLocal
-    (List._∷_ Syntax.valueLocal (List._∷_ Syntax.valueLocal (List._∷_ Syntax.valueLocal List.[])))))))))))))))))))))))
+hs = Syntax.valueLocal ∷ Syntax.valueLocal ∷ Syntax.valueLocal ∷ Syntax.valueLocal ∷ Syntax.valueLocal ∷ Syntax.valueLocal ∷ Syntax.valueLocal ∷ Syntax.valueLocal ∷ Syntax.valueLocal ∷
+    Syntax.valueLocal ∷ Syntax.valueLocal ∷ Syntax.valueLocal ∷ Syntax.valueLocal ∷ Syntax.valueLocal ∷ Syntax.valueLocal ∷ Syntax.valueLocal ∷ Syntax.valueLocal ∷ Syntax.valueLocal ∷ Syntax.valueLocal ∷
+    Syntax.valueLocal ∷ Syntax.valueLocal ∷ Syntax.valueLocal ∷ Syntax.valueLocal ∷ Syntax.valueLocal ∷ []
 
 abbrev b0 : Syntax.Body
-b0 = Syntax.assign (Syntax.place 11 List.[]) (Syntax.rvOpd (Syntax.copy (Syntax.place 5 (List._∷_ (Syntax.field 1) List.[]))))
+b0 = Syntax.assign (Syntax.place 11 []) (Syntax.rvOpd (Syntax.copy (Syntax.place 5 ((Syntax.field 1) ∷ []))))
 
 abbrev b1 : Syntax.Body
-b1 = Syntax.assign (Syntax.place 12 List.[]) (Syntax.rvOpd (Syntax.copy (Syntax.place 6 (List._∷_ (Syntax.field 1) List.[]))))
+b1 = Syntax.assign (Syntax.place 12 []) (Syntax.rvOpd (Syntax.copy (Syntax.place 6 ((Syntax.field 1) ∷ []))))
 
 abbrev b2 : Syntax.Body
-b2 = Syntax.call "begin::block_begins" (List._∷_ (Syntax.copy (Syntax.place 1 List.[])) (List._∷_ (Syntax.copy (Syntax.place 2 List.[])) (List._∷_ Syntax.opdFalse (List._∷_ (Syntax.copy (Syntax.place
-    11 List.[])) (List._∷_ (Syntax.copy (Syntax.place 12 List.[])) List.[]))))) (Syntax.place 7 List.[])
+b2 = Syntax.call "begin::block_begins" ((Syntax.copy (Syntax.place 1 [])) ∷ (Syntax.copy (Syntax.place 2 [])) ∷ Syntax.opdFalse ∷ (Syntax.copy (Syntax.place 11 [])) ∷ (Syntax.copy (Syntax.place 12
+    [])) ∷ []) (Syntax.place 7 [])
 
 abbrev b3 : Syntax.Body
-b3 = Syntax.assign (Syntax.place 8 List.[]) (Syntax.rvOpd (Syntax.copy (Syntax.place 7 (List._∷_ (Syntax.variant 1) (List._∷_ (Syntax.field 1) List.[])))))
+b3 = Syntax.assign (Syntax.place 8 []) (Syntax.rvOpd (Syntax.copy (Syntax.place 7 ((Syntax.variant 1) ∷ (Syntax.field 1) ∷ []))))
 
 abbrev b4 : Syntax.Body
-b4 = Syntax.call "block::tight::refused" (List._∷_ (Syntax.copy (Syntax.place 8 List.[])) List.[]) (Syntax.place 13 List.[])
+b4 = Syntax.call "block::tight::refused" ((Syntax.copy (Syntax.place 8 [])) ∷ []) (Syntax.place 13 [])
 
 abbrev b5 : Syntax.Body
 b5 = Syntax.seq b3 b4
 
 abbrev b6 : Syntax.Body
-b6 = Syntax.assign (Syntax.place 9 List.[]) (Syntax.rvOpd (Syntax.copy (Syntax.place 7 (List._∷_ (Syntax.variant 0) (List._∷_ (Syntax.field 1) List.[])))))
+b6 = Syntax.assign (Syntax.place 9 []) (Syntax.rvOpd (Syntax.copy (Syntax.place 7 ((Syntax.variant 0) ∷ (Syntax.field 1) ∷ []))))
 
 abbrev b7 : Syntax.Body
-b7 = Syntax.call "begin::samples_needed" (List._∷_ (Syntax.copy (Syntax.place 9 (List._∷_ (Syntax.field 1) List.[]))) List.[]) (Syntax.place 10 List.[])
+b7 = Syntax.call "begin::samples_needed" ((Syntax.copy (Syntax.place 9 ((Syntax.field 1) ∷ []))) ∷ []) (Syntax.place 10 [])
 
 abbrev b8 : Syntax.Body
-b8 = Syntax.assign (Syntax.place 14 List.[]) (Syntax.addrOf (Syntax.place 4 (List._∷_ (Syntax.field 0) (List._∷_ (Syntax.deref (Syntax.tyInt Syntax.w8)) List.[]))))
+b8 = Syntax.assign (Syntax.place 14 []) (Syntax.addrOf (Syntax.place 4 ((Syntax.field 0) ∷ (Syntax.deref u8) ∷ [])))
 
 abbrev b9 : Syntax.Body
-b9 = Syntax.assign (Syntax.place 15 List.[]) (Syntax.aggregate (List._∷_ (Syntax.copy (Syntax.place 14 List.[])) (List._∷_ (Syntax.copy (Syntax.place 4 (List._∷_ (Syntax.field 1) List.[]))) List.[])))
+b9 = Syntax.assign (Syntax.place 15 []) (Syntax.aggregate ((Syntax.copy (Syntax.place 14 [])) ∷ (Syntax.copy (Syntax.place 4 ((Syntax.field 1) ∷ []))) ∷ []))
 
 abbrev b10 : Syntax.Body
-b10 = Syntax.assign (Syntax.place 16 List.[]) (Syntax.op2 Syntax.offset (Syntax.copy (Syntax.place 5 (List._∷_ (Syntax.field 0) List.[]))) (Syntax.int Syntax.w64 0))
+b10 = Syntax.assign (Syntax.place 16 []) (Syntax.op2 Syntax.offset (Syntax.copy (Syntax.place 5 ((Syntax.field 0) ∷ []))) (Syntax.int Syntax.w64 0))
 
 abbrev b11 : Syntax.Body
-b11 = Syntax.assign (Syntax.place 17 List.[]) (Syntax.op2 (Syntax.sub Syntax.unsigned) (Syntax.copy (Syntax.place 10 List.[])) (Syntax.int Syntax.w64 0))
+b11 = Syntax.assign (Syntax.place 17 []) (Syntax.op2 (Syntax.sub Syntax.unsigned) (Syntax.copy (Syntax.place 10 [])) (Syntax.int Syntax.w64 0))
 
 abbrev b12 : Syntax.Body
-b12 = Syntax.assign (Syntax.place 18 List.[]) (Syntax.addrOf (Syntax.place 16 (List._∷_ (Syntax.deref (Syntax.tyInt Syntax.w16)) List.[])))
+b12 = Syntax.assign (Syntax.place 18 []) (Syntax.addrOf (Syntax.place 16 ((Syntax.deref u16) ∷ [])))
 
 abbrev b13 : Syntax.Body
-b13 = Syntax.assign (Syntax.place 19 List.[]) (Syntax.aggregate (List._∷_ (Syntax.copy (Syntax.place 18 List.[])) (List._∷_ (Syntax.copy (Syntax.place 17 List.[])) List.[])))
+b13 = Syntax.assign (Syntax.place 19 []) (Syntax.aggregate ((Syntax.copy (Syntax.place 18 [])) ∷ (Syntax.copy (Syntax.place 17 [])) ∷ []))
 
 abbrev b14 : Syntax.Body
-b14 = Syntax.assign (Syntax.place 20 List.[]) (Syntax.op2 Syntax.offset (Syntax.copy (Syntax.place 6 (List._∷_ (Syntax.field 0) List.[]))) (Syntax.int Syntax.w64 0))
+b14 = Syntax.assign (Syntax.place 20 []) (Syntax.op2 Syntax.offset (Syntax.copy (Syntax.place 6 ((Syntax.field 0) ∷ []))) (Syntax.int Syntax.w64 0))
 
 abbrev b15 : Syntax.Body
-b15 = Syntax.assign (Syntax.place 21 List.[]) (Syntax.op2 (Syntax.sub Syntax.unsigned) (Syntax.int Syntax.w64 336) (Syntax.int Syntax.w64 0))
+b15 = Syntax.assign (Syntax.place 21 []) (Syntax.op2 (Syntax.sub Syntax.unsigned) (Syntax.int Syntax.w64 336) (Syntax.int Syntax.w64 0))
 
 abbrev b16 : Syntax.Body
-b16 = Syntax.assign (Syntax.place 22 List.[]) (Syntax.addrOf (Syntax.place 20 (List._∷_ (Syntax.deref (Element.held)) List.[])))
+b16 = Syntax.assign (Syntax.place 22 []) (Syntax.addrOf (Syntax.place 20 ((Syntax.deref (Element.held)) ∷ [])))
 
 abbrev b17 : Syntax.Body
-b17 = Syntax.assign (Syntax.place 23 List.[]) (Syntax.aggregate (List._∷_ (Syntax.copy (Syntax.place 22 List.[])) (List._∷_ (Syntax.copy (Syntax.place 21 List.[])) List.[])))
+b17 = Syntax.assign (Syntax.place 23 []) (Syntax.aggregate ((Syntax.copy (Syntax.place 22 [])) ∷ (Syntax.copy (Syntax.place 21 [])) ∷ []))
 
 abbrev b18 : Syntax.Body
-b18 = Syntax.call "block_states::store_in" (List._∷_ (Syntax.copy (Syntax.place 1 List.[])) (List._∷_ (Syntax.copy (Syntax.place 9 List.[])) (List._∷_ (Syntax.copy (Syntax.place 2 List.[])) (List._∷_
-    (Syntax.copy (Syntax.place 3 List.[])) (List._∷_ (Syntax.copy (Syntax.place 15 List.[])) (List._∷_ (Syntax.copy (Syntax.place 19 List.[])) (List._∷_ (Syntax.copy (Syntax.place 23 List.[]))
-    List.[]))))))) (Syntax.place 13 List.[])
-
-abbrev b19 : Syntax.Body
-b19 = Syntax.seq b17 b18
-
-abbrev b20 : Syntax.Body
-b20 = Syntax.seq b16 b19
+b18 = Syntax.call "block_states::store_in" ((Syntax.copy (Syntax.place 1 [])) ∷ (Syntax.copy (Syntax.place 9 [])) ∷ (Syntax.copy (Syntax.place 2 [])) ∷ (Syntax.copy (Syntax.place 3 [])) ∷ (Syntax.copy
+    (Syntax.place 15 [])) ∷ (Syntax.copy (Syntax.place 19 [])) ∷ (Syntax.copy (Syntax.place 23 [])) ∷ []) (Syntax.place 13 [])
 
 abbrev b21 : Syntax.Body
-b21 = Syntax.seq b15 b20
-
-abbrev b22 : Syntax.Body
-b22 = Syntax.seq b14 b21
-
-abbrev b23 : Syntax.Body
-b23 = Syntax.seq b13 b22
+b21 = Syntax.seq b15 (Syntax.seq b16 (Syntax.seq b17 b18))
 
 abbrev b24 : Syntax.Body
-b24 = Syntax.seq b12 b23
-
-abbrev b25 : Syntax.Body
-b25 = Syntax.seq b11 b24
-
-abbrev b26 : Syntax.Body
-b26 = Syntax.seq b10 b25
+b24 = Syntax.seq b12 (Syntax.seq b13 (Syntax.seq b14 b21))
 
 abbrev b27 : Syntax.Body
-b27 = Syntax.seq b9 b26
-
-abbrev b28 : Syntax.Body
-b28 = Syntax.seq b8 b27
-
-abbrev b29 : Syntax.Body
-b29 = Syntax.seq b7 b28
+b27 = Syntax.seq b9 (Syntax.seq b10 (Syntax.seq b11 b24))
 
 abbrev b30 : Syntax.Body
-b30 = Syntax.seq b6 b29
+b30 = Syntax.seq b6 (Syntax.seq b7 (Syntax.seq b8 b27))
 
 abbrev b31 : Syntax.Body
-b31 = Syntax.switch (Syntax.copy (Syntax.place 7 (List._∷_ (Syntax.variant 0) (List._∷_ (Syntax.field 0) List.[])))) (Syntax.arm (List._∷_ 1 List.[]) b5 (Syntax.arm (List._∷_ 0 List.[]) b30
-    Syntax.noDefault))
+b31 = Syntax.switch (Syntax.copy (Syntax.place 7 ((Syntax.variant 0) ∷ (Syntax.field 0) ∷ []))) (Syntax.arm (1 ∷ []) b5 (Syntax.arm (0 ∷ []) b30 Syntax.noDefault))
 
 abbrev b32 : Syntax.Body
-b32 = Syntax.assign (Syntax.place 0 List.[]) (Syntax.rvOpd (Syntax.copy (Syntax.place 13 List.[])))
+b32 = Syntax.assign (Syntax.place 0 []) (Syntax.rvOpd (Syntax.copy (Syntax.place 13 [])))
 
 abbrev b33 : Syntax.Body
 b33 = Syntax.return
 
-abbrev b34 : Syntax.Body
-b34 = Syntax.seq b32 b33
-
-abbrev b35 : Syntax.Body
-b35 = Syntax.seq b31 b34
-
 abbrev b36 : Syntax.Body
-b36 = Syntax.seq b2 b35
-
-abbrev b37 : Syntax.Body
-b37 = Syntax.seq b1 b36
+b36 = Syntax.seq b2 (Syntax.seq b31 (Syntax.seq b32 b33))
 
 abbrev b38 : Syntax.Body
-b38 = Syntax.seq b0 b37
+b38 = Syntax.seq b0 (Syntax.seq b1 b36)
 
 abbrev pub body : Syntax.Body
 body = b38
@@ -395,684 +261,490 @@ body = b38
 abbrev pub Claims : Type 1
 Claims = Kinds.In 1 ps·0 × Kinds.Out 1 ps·0 r·0 × Kinds.In 0 ps·1 × Kinds.Out 0 ps·1 r·1 × Kinds.In 0 ps·2 × Kinds.Out 0 ps·2 r·2 × Kinds.In 4 ps·3 × Kinds.Out 4 ps·3 r·3
 
-abbrev pub e0 : Row.Entry
-e0 = (0, Rows.any-gone y5)
+abbrev pub v0 : Row.Row
+v0 = Rows.any-gone u64
 
-abbrev pub e1 : Row.Entry
-e1 = (0, Rows.whole (Declared'.row Counted.the-type))
+abbrev pub v1 : Row.Row
+v1 = Rows.sc-here (Row.sInt Syntax.w64)
 
-abbrev pub e2 : Row.Entry
-e2 = (1, Rows.sslice (Referent.rtF (Referent.fInt Syntax.w8)) (Syntax.tyRef (Syntax.named 0) Syntax.imm (Syntax.tyInt Syntax.w8)) 0)
+abbrev pub v2 : Row.Row
+v2 = Rows.any-gone y15
 
-abbrev pub e3 : Row.Entry
-e3 = (10, Rows.any-gone (Syntax.tyInt Syntax.w64))
+abbrev pub v3 : Row.Row
+v3 = Rows.sslice n8 y1 0
 
-abbrev pub e4 : Row.Entry
-e4 = (10, Rows.sc-here (Row.sInt Syntax.w64))
+abbrev pub v4 : Row.Row
+v4 = Rows.any-gone y7
 
-abbrev pub e5 : Row.Entry
-e5 = (11, Rows.any-gone (Syntax.tyInt Syntax.w64))
+abbrev pub v5 : Row.Row
+v5 = Rows.any-gone y0
 
-abbrev pub e6 : Row.Entry
-e6 = (11, Rows.sc-here (Row.sInt Syntax.w64))
+abbrev pub v6 : Row.Row
+v6 = Rows.any-gone y10
 
-abbrev pub e7 : Row.Entry
-e7 = (12, Rows.any-gone (Syntax.tyInt Syntax.w64))
+abbrev pub v7 : Row.Row
+v7 = Mut.mslice n16 y3 2
 
-abbrev pub e8 : Row.Entry
-e8 = (12, Rows.sc-here (Row.sInt Syntax.w64))
+abbrev pub v8 : Row.Row
+v8 = Mut.mslice (Element.type) y4 3
 
-abbrev pub e9 : Row.Entry
-e9 = (13, Rows.any-gone y5)
+abbrev pub v9 : Row.Row
+v9 = Rows.any-gone y14
 
-abbrev pub e10 : Row.Entry
-e10 = (13, Rows.whole (Declared'.row Counted.the-type))
+abbrev pub v10 : Row.Row
+v10 = Rows.any-gone y8
 
-abbrev pub e11 : Row.Entry
-e11 = (14, Relend.msptr (Referent.rtF (Referent.fInt Syntax.w8)) (Syntax.tyRef Syntax.erased Syntax.mut (Syntax.tyInt Syntax.w8)) 4)
+abbrev pub v11 : Row.Row
+v11 = Rows.any-gone Syntax.tyPtr
 
-abbrev pub e12 : Row.Entry
-e12 = (14, Rows.any-gone (Syntax.tyRef Syntax.erased Syntax.mut (Syntax.tyInt Syntax.w8)))
+abbrev pub v12 : Row.Row
+v12 = Mut.mslice n8 y2 1
 
-abbrev pub e13 : Row.Entry
-e13 = (15, Mut.msleft (Referent.rtF (Referent.fInt Syntax.w8)) (Syntax.tyRef Syntax.erased Syntax.mut (Syntax.tyInt Syntax.w8)))
+abbrev pub v13 : Row.Row
+v13 = Rows.whole (Declared'.row Counted.the-type)
 
-abbrev pub e14 : Row.Entry
-e14 = (15, Mut.mslice (Referent.rtF (Referent.fInt Syntax.w8)) (Syntax.tyRef Syntax.erased Syntax.mut (Syntax.tyInt Syntax.w8)) 4)
+abbrev pub v14 : Row.Row
+v14 = Rows.any-gone y6
 
-abbrev pub e15 : Row.Entry
-e15 = (15, Rows.any-gone y3)
+abbrev pub v15 : Row.Row
+v15 = Rows.any-gone y5
 
-abbrev pub e16 : Row.Entry
-e16 = (16, Rows.any-gone Syntax.tyPtr)
+abbrev pub v16 : Row.Row
+v16 = Rows.whole (Declared'.row FujiHeader.the-type)
 
-abbrev pub e17 : Row.Entry
-e17 = (16, Rows.sc-here Row.sPtr)
+abbrev pub v17 : Row.Row
+v17 = Rows.any-gone y12
 
-abbrev pub e18 : Row.Entry
-e18 = (17, Rows.any-gone (Syntax.tyInt Syntax.w64))
+abbrev pub v18 : Row.Row
+v18 = Mut.mslice n16 y6 5
 
-abbrev pub e19 : Row.Entry
-e19 = (17, Rows.sc-here (Row.sInt Syntax.w64))
+abbrev pub v19 : Row.Row
+v19 = Relend.mslice-owed n8 y2 1 4 Row.off
 
-abbrev pub e20 : Row.Entry
-e20 = (18, Relend.msptr (Referent.rtF (Referent.fInt Syntax.w16)) (Syntax.tyRef Syntax.erased Syntax.mut (Syntax.tyInt Syntax.w16)) 5)
+abbrev pub v20 : Row.Row
+v20 = Rows.any-gone y13
 
-abbrev pub e21 : Row.Entry
-e21 = (18, Rows.any-gone (Syntax.tyRef Syntax.erased Syntax.mut (Syntax.tyInt Syntax.w16)))
+abbrev pub v21 : Row.Row
+v21 = Mut.mslice n8 y7 4
 
-abbrev pub e22 : Row.Entry
-e22 = (19, Mut.mslice (Referent.rtF (Referent.fInt Syntax.w16)) (Syntax.tyRef Syntax.erased Syntax.mut (Syntax.tyInt Syntax.w16)) 5)
+abbrev pub v22 : Row.Row
+v22 = Rows.sc-here Row.sPtr
 
-abbrev pub e23 : Row.Entry
-e23 = (19, Rows.any-gone y2)
+abbrev pub v23 : Row.Row
+v23 = PartMut.mslice-owedM n16 y3 2 5 Row.off
 
-abbrev pub e24 : Row.Entry
-e24 = (2, Rows.any-gone (Syntax.tyInt Syntax.w64))
+abbrev pub v24 : Row.Row
+v24 = PartMut.mslice-owedM (Element.type) y4 3 6 Row.off
 
-abbrev pub e25 : Row.Entry
-e25 = (2, Rows.sc-here (Row.sInt Syntax.w64))
+abbrev pub v25 : Row.Row
+v25 = Mut.msleft n8 y7
 
-abbrev pub e26 : Row.Entry
-e26 = (20, Rows.any-gone Syntax.tyPtr)
+abbrev pub v26 : Row.Row
+v26 = Rows.whole (Declared.row Parsed.the-type)
 
-abbrev pub e27 : Row.Entry
-e27 = (20, Rows.sc-here Row.sPtr)
-
-abbrev pub e28 : Row.Entry
-e28 = (21, Rows.any-gone (Syntax.tyInt Syntax.w64))
-
-abbrev pub e29 : Row.Entry
-e29 = (21, Rows.sc-here (Row.sInt Syntax.w64))
-
-abbrev pub e30 : Row.Entry
-e30 = (22, Relend.msptr (Element.type) (Syntax.tyRef Syntax.erased Syntax.mut Element.behind) 6)
-
-abbrev pub e31 : Row.Entry
-e31 = (22, Rows.any-gone (Syntax.tyRef Syntax.erased Syntax.mut Element.behind))
-
-abbrev pub e32 : Row.Entry
-e32 = (23, Mut.msleft (Element.type) (Syntax.tyRef Syntax.erased Syntax.mut Element.behind))
-
-abbrev pub e33 : Row.Entry
-e33 = (23, Mut.mslice (Element.type) (Syntax.tyRef Syntax.erased Syntax.mut Element.behind) 6)
-
-abbrev pub e34 : Row.Entry
-e34 = (23, Rows.any-gone y4)
-
-abbrev pub e35 : Row.Entry
-e35 = (3, Rows.sc-here (Row.sInt Syntax.w64))
-
-abbrev pub e36 : Row.Entry
-e36 = (4, Mut.mslice (Referent.rtF (Referent.fInt Syntax.w8)) (Syntax.tyRef (Syntax.named 1) Syntax.mut (Syntax.tyInt Syntax.w8)) 1)
-
-abbrev pub e37 : Row.Entry
-e37 = (4, Relend.mslice-owed (Referent.rtF (Referent.fInt Syntax.w8)) (Syntax.tyRef (Syntax.named 1) Syntax.mut (Syntax.tyInt Syntax.w8)) 1 4 Row.off)
-
-abbrev pub e38 : Row.Entry
-e38 = (5, Mut.mslice (Referent.rtF (Referent.fInt Syntax.w16)) (Syntax.tyRef (Syntax.named 2) Syntax.mut (Syntax.tyInt Syntax.w16)) 2)
-
-abbrev pub e39 : Row.Entry
-e39 = (5, PartMut.mslice-owedM (Referent.rtF (Referent.fInt Syntax.w16)) (Syntax.tyRef (Syntax.named 2) Syntax.mut (Syntax.tyInt Syntax.w16)) 2 5 Row.off)
-
-abbrev pub e40 : Row.Entry
-e40 = (6, Mut.mslice (Element.type) (Syntax.tyRef (Syntax.named 3) Syntax.mut Element.behind) 3)
-
-abbrev pub e41 : Row.Entry
-e41 = (6, PartMut.mslice-owedM (Element.type) (Syntax.tyRef (Syntax.named 3) Syntax.mut Element.behind) 3 6 Row.off)
-
-abbrev pub e42 : Row.Entry
-e42 = (
-  7,
-  Rows.any-gone (Syntax.tyEnum (List._∷_ 115 (List._∷_ 116 (List._∷_ 114 (List._∷_ 101 (List._∷_ 97 (List._∷_ 109 (List._∷_ 58 (List._∷_ 58 (List._∷_ 80 (List._∷_ 97 (List._∷_ 114 (List._∷_ 115
-      (List._∷_ 101 (List._∷_ 100 List.[])))))))))))))) (Syntax.ttcons (Syntax.tcons y0 Syntax.tnil) (Syntax.ttcons (Syntax.tcons (Syntax.tyEnum (List._∷_ 115 (List._∷_ 116 (List._∷_ 114 (List._∷_ 101
-      (List._∷_ 97 (List._∷_ 109 (List._∷_ 58 (List._∷_ 58 (List._∷_ 82 (List._∷_ 101 (List._∷_ 102 (List._∷_ 117 (List._∷_ 115 (List._∷_ 97 (List._∷_ 108 List.[]))))))))))))))) (Syntax.ttcons Syntax.tnil
-      (Syntax.ttcons Syntax.tnil (Syntax.ttcons Syntax.tnil (Syntax.ttcons (Syntax.tcons (Syntax.tyInt Syntax.w64) Syntax.tnil) (Syntax.ttcons Syntax.tnil (Syntax.ttcons Syntax.tnil (Syntax.ttcons
-      Syntax.tnil (Syntax.ttcons Syntax.tnil (Syntax.ttcons Syntax.tnil (Syntax.ttcons Syntax.tnil (Syntax.ttcons (Syntax.tcons (Syntax.tyInt Syntax.w64) Syntax.tnil) (Syntax.ttcons (Syntax.tcons
-      (Syntax.tyInt Syntax.w64) Syntax.tnil) (Syntax.ttcons Syntax.tnil (Syntax.ttcons (Syntax.tcons (Syntax.tyInt Syntax.w64) (Syntax.tcons (Syntax.tyInt Syntax.w64) Syntax.tnil)) (Syntax.ttcons
-      (Syntax.tcons (Syntax.tyInt Syntax.w64) Syntax.tnil) (Syntax.ttcons Syntax.tnil (Syntax.ttcons Syntax.tnil (Syntax.ttcons (Syntax.tcons (Syntax.tyInt Syntax.w64) Syntax.tnil) (Syntax.ttcons
-      (Syntax.tcons (Syntax.tyInt Syntax.w64) Syntax.tnil) (Syntax.ttcons (Syntax.tcons (Syntax.tyInt Syntax.w64) Syntax.tnil) (Syntax.ttcons Syntax.tnil (Syntax.ttcons Syntax.tnil (Syntax.ttcons
-      (Syntax.tcons (Syntax.tyInt Syntax.w64) (Syntax.tcons (Syntax.tyInt Syntax.w64) Syntax.tnil)) (Syntax.ttcons Syntax.tnil Syntax.ttnil))))))))))))))))))))))))) Syntax.tnil) Syntax.ttnil))),
-)
-
-abbrev pub e43 : Row.Entry
-e43 = (7, Rows.whole (Declared.row Parsed.the-type))
-
-abbrev pub e44 : Row.Entry
-e44 = (7, Rows.whole (Known.Known Parsed.enum 0))
-
-abbrev pub e45 : Row.Entry
-e45 = (7, Rows.whole (Known.Known Parsed.enum 1))
-
-abbrev pub e46 : Row.Entry
-e46 = (
-  8,
-  Rows.any-gone (Syntax.tyEnum (List._∷_ 115 (List._∷_ 116 (List._∷_ 114 (List._∷_ 101 (List._∷_ 97 (List._∷_ 109 (List._∷_ 58 (List._∷_ 58 (List._∷_ 82 (List._∷_ 101 (List._∷_ 102 (List._∷_ 117
-      (List._∷_ 115 (List._∷_ 97 (List._∷_ 108 List.[]))))))))))))))) (Syntax.ttcons Syntax.tnil (Syntax.ttcons Syntax.tnil (Syntax.ttcons Syntax.tnil (Syntax.ttcons (Syntax.tcons (Syntax.tyInt Syntax.w64)
-      Syntax.tnil) (Syntax.ttcons Syntax.tnil (Syntax.ttcons Syntax.tnil (Syntax.ttcons Syntax.tnil (Syntax.ttcons Syntax.tnil (Syntax.ttcons Syntax.tnil (Syntax.ttcons Syntax.tnil (Syntax.ttcons
-      (Syntax.tcons (Syntax.tyInt Syntax.w64) Syntax.tnil) (Syntax.ttcons (Syntax.tcons (Syntax.tyInt Syntax.w64) Syntax.tnil) (Syntax.ttcons Syntax.tnil (Syntax.ttcons (Syntax.tcons (Syntax.tyInt
-      Syntax.w64) (Syntax.tcons (Syntax.tyInt Syntax.w64) Syntax.tnil)) (Syntax.ttcons (Syntax.tcons (Syntax.tyInt Syntax.w64) Syntax.tnil) (Syntax.ttcons Syntax.tnil (Syntax.ttcons Syntax.tnil
-      (Syntax.ttcons (Syntax.tcons (Syntax.tyInt Syntax.w64) Syntax.tnil) (Syntax.ttcons (Syntax.tcons (Syntax.tyInt Syntax.w64) Syntax.tnil) (Syntax.ttcons (Syntax.tcons (Syntax.tyInt Syntax.w64)
-      Syntax.tnil) (Syntax.ttcons Syntax.tnil (Syntax.ttcons Syntax.tnil (Syntax.ttcons (Syntax.tcons (Syntax.tyInt Syntax.w64) (Syntax.tcons (Syntax.tyInt Syntax.w64) Syntax.tnil)) (Syntax.ttcons
-      Syntax.tnil Syntax.ttnil))))))))))))))))))))))))),
-)
-
-abbrev pub e47 : Row.Entry
-e47 = (8, Rows.whole (Declared.row Refusal.the-type))
-
-abbrev pub e48 : Row.Entry
-e48 = (9, Rows.any-gone y0)
-
-abbrev pub e49 : Row.Entry
-e49 = (9, Rows.whole (Declared'.row FujiHeader.the-type))
+abbrev pub v27 : Row.Row
+v27 = Rows.whole (Declared.row Refusal.the-type)
 
 abbrev pub t0 : List.List Row.Entry
-t0 = List._∷_ e0 (List._∷_ e2 (List._∷_ e25 (List._∷_ e35 (List._∷_ e36 (List._∷_ e38 (List._∷_ e40 (List._∷_ e42 (List._∷_ e46 (List._∷_ e48 (List._∷_ e3 (List._∷_ e5 (List._∷_ e7 (List._∷_ e9
-    (List._∷_ e12 (List._∷_ e15 List.[])))))))))))))))
+t0 = (0, v2) ∷ (1, v3) ∷ (2, v1) ∷ (3, v1) ∷ (4, v12) ∷ (5, v7) ∷ (6, v8) ∷ (7, v6) ∷ (8, v5) ∷ (9, v10) ∷ (10, v0) ∷ (11, v0) ∷ (12, v0) ∷ (13, v2) ∷ (14, v4) ∷ (15, v9) ∷ []
 
 abbrev pub t1 : List.List Row.Entry
-t1 = List._∷_ e16 (List._∷_ e18 (List._∷_ e21 (List._∷_ e23 (List._∷_ e26 (List._∷_ e28 (List._∷_ e31 (List._∷_ e34 List.[])))))))
+t1 = (16, v11) ∷ (17, v0) ∷ (18, v14) ∷ (19, v20) ∷ (20, v11) ∷ (21, v0) ∷ (22, v15) ∷ (23, v17) ∷ []
 
 abbrev pub t2 : List.List Row.Entry
-t2 = List._∷_ e1 (List._∷_ e2 (List._∷_ e24 (List._∷_ (3, Rows.any-gone (Syntax.tyInt Syntax.w64)) (List._∷_ e36 (List._∷_ e38 (List._∷_ e40 (List._∷_ e42 (List._∷_ e46 (List._∷_ e48 (List._∷_ e3
-    (List._∷_ e5 (List._∷_ e7 (List._∷_ e9 (List._∷_ e12 (List._∷_ e15 List.[])))))))))))))))
+t2 = (0, v13) ∷ (1, v3) ∷ (2, v0) ∷ (3, v0) ∷ (4, v12) ∷ (5, v7) ∷ (6, v8) ∷ (7, v6) ∷ (8, v5) ∷ (9, v10) ∷ (10, v0) ∷ (11, v0) ∷ (12, v0) ∷ (13, v2) ∷ (14, v4) ∷ (15, v9) ∷ []
 
 abbrev pub t3 : List.List Row.Entry
-t3 = List._∷_ e0 (List._∷_ e2 (List._∷_ e25 (List._∷_ e35 (List._∷_ e36 (List._∷_ e38 (List._∷_ e40 (List._∷_ e42 (List._∷_ e46 (List._∷_ e48 (List._∷_ e3 (List._∷_ e6 (List._∷_ e7 (List._∷_ e9
-    (List._∷_ e12 (List._∷_ e15 List.[])))))))))))))))
+t3 = (0, v2) ∷ (1, v3) ∷ (2, v1) ∷ (3, v1) ∷ (4, v12) ∷ (5, v7) ∷ (6, v8) ∷ (7, v6) ∷ (8, v5) ∷ (9, v10) ∷ (10, v0) ∷ (11, v1) ∷ (12, v0) ∷ (13, v2) ∷ (14, v4) ∷ (15, v9) ∷ []
 
 abbrev pub t4 : List.List Row.Entry
-t4 = List._∷_ e0 (List._∷_ e2 (List._∷_ e25 (List._∷_ e35 (List._∷_ e36 (List._∷_ e38 (List._∷_ e40 (List._∷_ e42 (List._∷_ e46 (List._∷_ e48 (List._∷_ e3 (List._∷_ e6 (List._∷_ e8 (List._∷_ e9
-    (List._∷_ e12 (List._∷_ e15 List.[])))))))))))))))
+t4 = (0, v2) ∷ (1, v3) ∷ (2, v1) ∷ (3, v1) ∷ (4, v12) ∷ (5, v7) ∷ (6, v8) ∷ (7, v6) ∷ (8, v5) ∷ (9, v10) ∷ (10, v0) ∷ (11, v1) ∷ (12, v1) ∷ (13, v2) ∷ (14, v4) ∷ (15, v9) ∷ []
 
 abbrev pub t5 : List.List Row.Entry
-t5 = List._∷_ e0 (List._∷_ e2 (List._∷_ e25 (List._∷_ e35 (List._∷_ e36 (List._∷_ e38 (List._∷_ e40 (List._∷_ e43 (List._∷_ e46 (List._∷_ e48 (List._∷_ e3 (List._∷_ e6 (List._∷_ e8 (List._∷_ e9
-    (List._∷_ e12 (List._∷_ e15 List.[])))))))))))))))
+t5 = (0, v2) ∷ (1, v3) ∷ (2, v1) ∷ (3, v1) ∷ (4, v12) ∷ (5, v7) ∷ (6, v8) ∷ (7, v26) ∷ (8, v5) ∷ (9, v10) ∷ (10, v0) ∷ (11, v1) ∷ (12, v1) ∷ (13, v2) ∷ (14, v4) ∷ (15, v9) ∷ []
 
 abbrev pub t6 : List.List Row.Entry
-t6 = List._∷_ e0 (List._∷_ e2 (List._∷_ e25 (List._∷_ e35 (List._∷_ e36 (List._∷_ e38 (List._∷_ e40 (List._∷_ e42 (List._∷_ e46 (List._∷_ e48 (List._∷_ e3 (List._∷_ e5 (List._∷_ e7 (List._∷_ e10
-    (List._∷_ e12 (List._∷_ e15 List.[])))))))))))))))
+t6 = (0, v2) ∷ (1, v3) ∷ (2, v1) ∷ (3, v1) ∷ (4, v12) ∷ (5, v7) ∷ (6, v8) ∷ (7, v6) ∷ (8, v5) ∷ (9, v10) ∷ (10, v0) ∷ (11, v0) ∷ (12, v0) ∷ (13, v13) ∷ (14, v4) ∷ (15, v9) ∷ []
 
 abbrev pub t7 : List.List Row.Entry
-t7 = List._∷_ e0 (List._∷_ e2 (List._∷_ e25 (List._∷_ e35 (List._∷_ e36 (List._∷_ e38 (List._∷_ e40 (List._∷_ e43 (List._∷_ e46 (List._∷_ e48 (List._∷_ e3 (List._∷_ e5 (List._∷_ e8 (List._∷_ e9
-    (List._∷_ e12 (List._∷_ e15 List.[])))))))))))))))
+t7 = (0, v2) ∷ (1, v3) ∷ (2, v1) ∷ (3, v1) ∷ (4, v12) ∷ (5, v7) ∷ (6, v8) ∷ (7, v26) ∷ (8, v5) ∷ (9, v10) ∷ (10, v0) ∷ (11, v0) ∷ (12, v1) ∷ (13, v2) ∷ (14, v4) ∷ (15, v9) ∷ []
 
 abbrev pub t8 : List.List Row.Entry
-t8 = List._∷_ e0 (List._∷_ e2 (List._∷_ e25 (List._∷_ e35 (List._∷_ e36 (List._∷_ e38 (List._∷_ e40 (List._∷_ e43 (List._∷_ e46 (List._∷_ e48 (List._∷_ e3 (List._∷_ e5 (List._∷_ e7 (List._∷_ e9
-    (List._∷_ e12 (List._∷_ e15 List.[])))))))))))))))
+t8 = (0, v2) ∷ (1, v3) ∷ (2, v1) ∷ (3, v1) ∷ (4, v12) ∷ (5, v7) ∷ (6, v8) ∷ (7, v26) ∷ (8, v5) ∷ (9, v10) ∷ (10, v0) ∷ (11, v0) ∷ (12, v0) ∷ (13, v2) ∷ (14, v4) ∷ (15, v9) ∷ []
 
 abbrev pub t9 : List.List Row.Entry
-t9 = List._∷_ e0 (List._∷_ e2 (List._∷_ e25 (List._∷_ e35 (List._∷_ e36 (List._∷_ e38 (List._∷_ e40 (List._∷_ e45 (List._∷_ e46 (List._∷_ e48 (List._∷_ e3 (List._∷_ e5 (List._∷_ e7 (List._∷_ e9
-    (List._∷_ e12 (List._∷_ e15 List.[])))))))))))))))
+t9 = (0, v2) ∷ (1, v3) ∷ (2, v1) ∷ (3, v1) ∷ (4, v12) ∷ (5, v7) ∷ (6, v8) ∷ (7, Rows.whole (Known.Known Parsed.enum 1)) ∷ (8, v5) ∷ (9, v10) ∷ (10, v0) ∷ (11, v0) ∷ (12, v0) ∷ (13, v2) ∷ (14, v4) ∷
+    (15, v9) ∷ []
 
 abbrev pub t10 : List.List Row.Entry
-t10 = List._∷_ e0 (List._∷_ e2 (List._∷_ e25 (List._∷_ e35 (List._∷_ e36 (List._∷_ e38 (List._∷_ e40 (List._∷_ e45 (List._∷_ e47 (List._∷_ e48 (List._∷_ e3 (List._∷_ e5 (List._∷_ e7 (List._∷_ e9
-    (List._∷_ e12 (List._∷_ e15 List.[])))))))))))))))
+t10 = (0, v2) ∷ (1, v3) ∷ (2, v1) ∷ (3, v1) ∷ (4, v12) ∷ (5, v7) ∷ (6, v8) ∷ (7, Rows.whole (Known.Known Parsed.enum 1)) ∷ (8, v27) ∷ (9, v10) ∷ (10, v0) ∷ (11, v0) ∷ (12, v0) ∷ (13, v2) ∷ (14, v4) ∷
+    (15, v9) ∷ []
 
 abbrev pub t11 : List.List Row.Entry
-t11 = List._∷_ e0 (List._∷_ e2 (List._∷_ e25 (List._∷_ e35 (List._∷_ e36 (List._∷_ e38 (List._∷_ e40 (List._∷_ e42 (List._∷_ e47 (List._∷_ e48 (List._∷_ e3 (List._∷_ e5 (List._∷_ e7 (List._∷_ e9
-    (List._∷_ e12 (List._∷_ e15 List.[])))))))))))))))
+t11 = (0, v2) ∷ (1, v3) ∷ (2, v1) ∷ (3, v1) ∷ (4, v12) ∷ (5, v7) ∷ (6, v8) ∷ (7, v6) ∷ (8, v27) ∷ (9, v10) ∷ (10, v0) ∷ (11, v0) ∷ (12, v0) ∷ (13, v2) ∷ (14, v4) ∷ (15, v9) ∷ []
 
 abbrev pub t12 : List.List Row.Entry
-t12 = List._∷_ e0 (List._∷_ e2 (List._∷_ e25 (List._∷_ e35 (List._∷_ e36 (List._∷_ e38 (List._∷_ e40 (List._∷_ e42 (List._∷_ e47 (List._∷_ e48 (List._∷_ e3 (List._∷_ e5 (List._∷_ e7 (List._∷_ e10
-    (List._∷_ e12 (List._∷_ e15 List.[])))))))))))))))
+t12 = (0, v2) ∷ (1, v3) ∷ (2, v1) ∷ (3, v1) ∷ (4, v12) ∷ (5, v7) ∷ (6, v8) ∷ (7, v6) ∷ (8, v27) ∷ (9, v10) ∷ (10, v0) ∷ (11, v0) ∷ (12, v0) ∷ (13, v13) ∷ (14, v4) ∷ (15, v9) ∷ []
 
 abbrev pub t13 : List.List Row.Entry
-t13 = List._∷_ e0 (List._∷_ e2 (List._∷_ e25 (List._∷_ e35 (List._∷_ e36 (List._∷_ e38 (List._∷_ e40 (List._∷_ e44 (List._∷_ e46 (List._∷_ e48 (List._∷_ e3 (List._∷_ e5 (List._∷_ e7 (List._∷_ e9
-    (List._∷_ e12 (List._∷_ e15 List.[])))))))))))))))
+t13 = (0, v2) ∷ (1, v3) ∷ (2, v1) ∷ (3, v1) ∷ (4, v12) ∷ (5, v7) ∷ (6, v8) ∷ (7, Rows.whole (Known.Known Parsed.enum 0)) ∷ (8, v5) ∷ (9, v10) ∷ (10, v0) ∷ (11, v0) ∷ (12, v0) ∷ (13, v2) ∷ (14, v4) ∷
+    (15, v9) ∷ []
 
 abbrev pub t14 : List.List Row.Entry
-t14 = List._∷_ e0 (List._∷_ e2 (List._∷_ e25 (List._∷_ e35 (List._∷_ e36 (List._∷_ e38 (List._∷_ e40 (List._∷_ e44 (List._∷_ e46 (List._∷_ e49 (List._∷_ e3 (List._∷_ e5 (List._∷_ e7 (List._∷_ e9
-    (List._∷_ e12 (List._∷_ e15 List.[])))))))))))))))
+t14 = (0, v2) ∷ (1, v3) ∷ (2, v1) ∷ (3, v1) ∷ (4, v12) ∷ (5, v7) ∷ (6, v8) ∷ (7, Rows.whole (Known.Known Parsed.enum 0)) ∷ (8, v5) ∷ (9, v16) ∷ (10, v0) ∷ (11, v0) ∷ (12, v0) ∷ (13, v2) ∷ (14, v4) ∷
+    (15, v9) ∷ []
 
 abbrev pub t15 : List.List Row.Entry
-t15 = List._∷_ e0 (List._∷_ e2 (List._∷_ e25 (List._∷_ e35 (List._∷_ e36 (List._∷_ e38 (List._∷_ e40 (List._∷_ e42 (List._∷_ e46 (List._∷_ e49 (List._∷_ e3 (List._∷_ e5 (List._∷_ e7 (List._∷_ e9
-    (List._∷_ e12 (List._∷_ e15 List.[])))))))))))))))
+t15 = (0, v2) ∷ (1, v3) ∷ (2, v1) ∷ (3, v1) ∷ (4, v12) ∷ (5, v7) ∷ (6, v8) ∷ (7, v6) ∷ (8, v5) ∷ (9, v16) ∷ (10, v0) ∷ (11, v0) ∷ (12, v0) ∷ (13, v2) ∷ (14, v4) ∷ (15, v9) ∷ []
 
 abbrev pub t16 : List.List Row.Entry
-t16 = List._∷_ e0 (List._∷_ e2 (List._∷_ e25 (List._∷_ e35 (List._∷_ e36 (List._∷_ e38 (List._∷_ e40 (List._∷_ e42 (List._∷_ e46 (List._∷_ e49 (List._∷_ e4 (List._∷_ e5 (List._∷_ e7 (List._∷_ e9
-    (List._∷_ e12 (List._∷_ e15 List.[])))))))))))))))
+t16 = (0, v2) ∷ (1, v3) ∷ (2, v1) ∷ (3, v1) ∷ (4, v12) ∷ (5, v7) ∷ (6, v8) ∷ (7, v6) ∷ (8, v5) ∷ (9, v16) ∷ (10, v1) ∷ (11, v0) ∷ (12, v0) ∷ (13, v2) ∷ (14, v4) ∷ (15, v9) ∷ []
 
 abbrev pub t17 : List.List Row.Entry
-t17 = List._∷_ e0 (List._∷_ e2 (List._∷_ e25 (List._∷_ e35 (List._∷_ e37 (List._∷_ e38 (List._∷_ e40 (List._∷_ e42 (List._∷_ e46 (List._∷_ e49 (List._∷_ e4 (List._∷_ e5 (List._∷_ e7 (List._∷_ e9
-    (List._∷_ e11 (List._∷_ e15 List.[])))))))))))))))
+t17 = (0, v2) ∷ (1, v3) ∷ (2, v1) ∷ (3, v1) ∷ (4, v19) ∷ (5, v7) ∷ (6, v8) ∷ (7, v6) ∷ (8, v5) ∷ (9, v16) ∷ (10, v1) ∷ (11, v0) ∷ (12, v0) ∷ (13, v2) ∷ (14, Relend.msptr n8 y7 4) ∷ (15, v9) ∷ []
 
 abbrev pub t18 : List.List Row.Entry
-t18 = List._∷_ e0 (List._∷_ e2 (List._∷_ e25 (List._∷_ e35 (List._∷_ e37 (List._∷_ e38 (List._∷_ e40 (List._∷_ e42 (List._∷_ e46 (List._∷_ e49 (List._∷_ e4 (List._∷_ e5 (List._∷_ e7 (List._∷_ e9
-    (List._∷_ e12 (List._∷_ e14 List.[])))))))))))))))
+t18 = (0, v2) ∷ (1, v3) ∷ (2, v1) ∷ (3, v1) ∷ (4, v19) ∷ (5, v7) ∷ (6, v8) ∷ (7, v6) ∷ (8, v5) ∷ (9, v16) ∷ (10, v1) ∷ (11, v0) ∷ (12, v0) ∷ (13, v2) ∷ (14, v4) ∷ (15, v21) ∷ []
 
 abbrev pub t19 : List.List Row.Entry
-t19 = List._∷_ e17 (List._∷_ e18 (List._∷_ e21 (List._∷_ e23 (List._∷_ e26 (List._∷_ e28 (List._∷_ e31 (List._∷_ e34 List.[])))))))
+t19 = (16, v22) ∷ (17, v0) ∷ (18, v14) ∷ (19, v20) ∷ (20, v11) ∷ (21, v0) ∷ (22, v15) ∷ (23, v17) ∷ []
 
 abbrev pub t20 : List.List Row.Entry
-t20 = List._∷_ e17 (List._∷_ e19 (List._∷_ e21 (List._∷_ e23 (List._∷_ e26 (List._∷_ e28 (List._∷_ e31 (List._∷_ e34 List.[])))))))
+t20 = (16, v22) ∷ (17, v1) ∷ (18, v14) ∷ (19, v20) ∷ (20, v11) ∷ (21, v0) ∷ (22, v15) ∷ (23, v17) ∷ []
 
 abbrev pub t21 : List.List Row.Entry
-t21 = List._∷_ e0 (List._∷_ e2 (List._∷_ e25 (List._∷_ e35 (List._∷_ e37 (List._∷_ e39 (List._∷_ e40 (List._∷_ e42 (List._∷_ e46 (List._∷_ e49 (List._∷_ e4 (List._∷_ e5 (List._∷_ e7 (List._∷_ e9
-    (List._∷_ e12 (List._∷_ e14 List.[])))))))))))))))
+t21 = (0, v2) ∷ (1, v3) ∷ (2, v1) ∷ (3, v1) ∷ (4, v19) ∷ (5, v23) ∷ (6, v8) ∷ (7, v6) ∷ (8, v5) ∷ (9, v16) ∷ (10, v1) ∷ (11, v0) ∷ (12, v0) ∷ (13, v2) ∷ (14, v4) ∷ (15, v21) ∷ []
 
 abbrev pub t22 : List.List Row.Entry
-t22 = List._∷_ e17 (List._∷_ e19 (List._∷_ e20 (List._∷_ e23 (List._∷_ e26 (List._∷_ e28 (List._∷_ e31 (List._∷_ e34 List.[])))))))
+t22 = (16, v22) ∷ (17, v1) ∷ (18, Relend.msptr n16 y6 5) ∷ (19, v20) ∷ (20, v11) ∷ (21, v0) ∷ (22, v15) ∷ (23, v17) ∷ []
 
 abbrev pub t23 : List.List Row.Entry
-t23 = List._∷_ e16 (List._∷_ e19 (List._∷_ e20 (List._∷_ e23 (List._∷_ e26 (List._∷_ e28 (List._∷_ e31 (List._∷_ e34 List.[])))))))
+t23 = (16, v11) ∷ (17, v1) ∷ (18, Relend.msptr n16 y6 5) ∷ (19, v20) ∷ (20, v11) ∷ (21, v0) ∷ (22, v15) ∷ (23, v17) ∷ []
 
 abbrev pub t24 : List.List Row.Entry
-t24 = List._∷_ e16 (List._∷_ e19 (List._∷_ e21 (List._∷_ e22 (List._∷_ e26 (List._∷_ e28 (List._∷_ e31 (List._∷_ e34 List.[])))))))
+t24 = (16, v11) ∷ (17, v1) ∷ (18, v14) ∷ (19, v18) ∷ (20, v11) ∷ (21, v0) ∷ (22, v15) ∷ (23, v17) ∷ []
 
 abbrev pub t25 : List.List Row.Entry
-t25 = List._∷_ e16 (List._∷_ e18 (List._∷_ e21 (List._∷_ e22 (List._∷_ e26 (List._∷_ e28 (List._∷_ e31 (List._∷_ e34 List.[])))))))
+t25 = (16, v11) ∷ (17, v0) ∷ (18, v14) ∷ (19, v18) ∷ (20, v11) ∷ (21, v0) ∷ (22, v15) ∷ (23, v17) ∷ []
 
 abbrev pub t26 : List.List Row.Entry
-t26 = List._∷_ e16 (List._∷_ e18 (List._∷_ e21 (List._∷_ e22 (List._∷_ e27 (List._∷_ e28 (List._∷_ e31 (List._∷_ e34 List.[])))))))
+t26 = (16, v11) ∷ (17, v0) ∷ (18, v14) ∷ (19, v18) ∷ (20, v22) ∷ (21, v0) ∷ (22, v15) ∷ (23, v17) ∷ []
 
 abbrev pub t27 : List.List Row.Entry
-t27 = List._∷_ e16 (List._∷_ e18 (List._∷_ e21 (List._∷_ e22 (List._∷_ e27 (List._∷_ e29 (List._∷_ e31 (List._∷_ e34 List.[])))))))
+t27 = (16, v11) ∷ (17, v0) ∷ (18, v14) ∷ (19, v18) ∷ (20, v22) ∷ (21, v1) ∷ (22, v15) ∷ (23, v17) ∷ []
 
 abbrev pub t28 : List.List Row.Entry
-t28 = List._∷_ e0 (List._∷_ e2 (List._∷_ e25 (List._∷_ e35 (List._∷_ e37 (List._∷_ e39 (List._∷_ e41 (List._∷_ e42 (List._∷_ e46 (List._∷_ e49 (List._∷_ e4 (List._∷_ e5 (List._∷_ e7 (List._∷_ e9
-    (List._∷_ e12 (List._∷_ e14 List.[])))))))))))))))
+t28 = (0, v2) ∷ (1, v3) ∷ (2, v1) ∷ (3, v1) ∷ (4, v19) ∷ (5, v23) ∷ (6, v24) ∷ (7, v6) ∷ (8, v5) ∷ (9, v16) ∷ (10, v1) ∷ (11, v0) ∷ (12, v0) ∷ (13, v2) ∷ (14, v4) ∷ (15, v21) ∷ []
 
 abbrev pub t29 : List.List Row.Entry
-t29 = List._∷_ e16 (List._∷_ e18 (List._∷_ e21 (List._∷_ e22 (List._∷_ e27 (List._∷_ e29 (List._∷_ e30 (List._∷_ e34 List.[])))))))
+t29 = (16, v11) ∷ (17, v0) ∷ (18, v14) ∷ (19, v18) ∷ (20, v22) ∷ (21, v1) ∷ (22, Relend.msptr (Element.type) y5 6) ∷ (23, v17) ∷ []
 
 abbrev pub t30 : List.List Row.Entry
-t30 = List._∷_ e16 (List._∷_ e18 (List._∷_ e21 (List._∷_ e22 (List._∷_ e26 (List._∷_ e29 (List._∷_ e30 (List._∷_ e34 List.[])))))))
+t30 = (16, v11) ∷ (17, v0) ∷ (18, v14) ∷ (19, v18) ∷ (20, v11) ∷ (21, v1) ∷ (22, Relend.msptr (Element.type) y5 6) ∷ (23, v17) ∷ []
 
 abbrev pub t31 : List.List Row.Entry
-t31 = List._∷_ e16 (List._∷_ e18 (List._∷_ e21 (List._∷_ e22 (List._∷_ e26 (List._∷_ e29 (List._∷_ e31 (List._∷_ e33 List.[])))))))
+t31 = (16, v11) ∷ (17, v0) ∷ (18, v14) ∷ (19, v18) ∷ (20, v11) ∷ (21, v1) ∷ (22, v15) ∷ (23, Mut.mslice (Element.type) y5 6) ∷ []
 
 abbrev pub t32 : List.List Row.Entry
-t32 = List._∷_ e16 (List._∷_ e18 (List._∷_ e21 (List._∷_ e22 (List._∷_ e26 (List._∷_ e28 (List._∷_ e31 (List._∷_ e33 List.[])))))))
+t32 = (16, v11) ∷ (17, v0) ∷ (18, v14) ∷ (19, v18) ∷ (20, v11) ∷ (21, v0) ∷ (22, v15) ∷ (23, Mut.mslice (Element.type) y5 6) ∷ []
 
 abbrev pub t33 : List.List Row.Entry
-t33 = List._∷_ e0 (List._∷_ e2 (List._∷_ e25 (List._∷_ e35 (List._∷_ e37 (List._∷_ e39 (List._∷_ e41 (List._∷_ e42 (List._∷_ e46 (List._∷_ e49 (List._∷_ e4 (List._∷_ e5 (List._∷_ e7 (List._∷_ e10
-    (List._∷_ e12 (List._∷_ e13 List.[])))))))))))))))
+t33 = (0, v2) ∷ (1, v3) ∷ (2, v1) ∷ (3, v1) ∷ (4, v19) ∷ (5, v23) ∷ (6, v24) ∷ (7, v6) ∷ (8, v5) ∷ (9, v16) ∷ (10, v1) ∷ (11, v0) ∷ (12, v0) ∷ (13, v13) ∷ (14, v4) ∷ (15, v25) ∷ []
 
 abbrev pub t34 : List.List Row.Entry
-t34 = List._∷_ e16 (List._∷_ e18 (List._∷_ e21 (List._∷_ (19, Mut.msleft (Referent.rtF (Referent.fInt Syntax.w16)) (Syntax.tyRef Syntax.erased Syntax.mut (Syntax.tyInt Syntax.w16))) (List._∷_ e26
-    (List._∷_ e28 (List._∷_ e31 (List._∷_ e32 List.[])))))))
+t34 = (16, v11) ∷ (17, v0) ∷ (18, v14) ∷ (19, Mut.msleft n16 y6) ∷ (20, v11) ∷ (21, v0) ∷ (22, v15) ∷ (23, Mut.msleft (Element.type) y5) ∷ []
 
 abbrev pub t35 : List.List Row.Entry
-t35 = List._∷_ e0 (List._∷_ e2 (List._∷_ e25 (List._∷_ e35 (List._∷_ e37 (List._∷_ e39 (List._∷_ e41 (List._∷_ e42 (List._∷_ e46 (List._∷_ e48 (List._∷_ e4 (List._∷_ e5 (List._∷_ e7 (List._∷_ e10
-    (List._∷_ e12 (List._∷_ e13 List.[])))))))))))))))
+t35 = (0, v2) ∷ (1, v3) ∷ (2, v1) ∷ (3, v1) ∷ (4, v19) ∷ (5, v23) ∷ (6, v24) ∷ (7, v6) ∷ (8, v5) ∷ (9, v10) ∷ (10, v1) ∷ (11, v0) ∷ (12, v0) ∷ (13, v13) ∷ (14, v4) ∷ (15, v25) ∷ []
 
 abbrev pub t36 : List.List Row.Entry
-t36 = List._∷_ e0 (List._∷_ e2 (List._∷_ e25 (List._∷_ e35 (List._∷_ e37 (List._∷_ e39 (List._∷_ e41 (List._∷_ e42 (List._∷_ e46 (List._∷_ e48 (List._∷_ e3 (List._∷_ e5 (List._∷_ e7 (List._∷_ e10
-    (List._∷_ e12 (List._∷_ e13 List.[])))))))))))))))
+t36 = (0, v2) ∷ (1, v3) ∷ (2, v1) ∷ (3, v1) ∷ (4, v19) ∷ (5, v23) ∷ (6, v24) ∷ (7, v6) ∷ (8, v5) ∷ (9, v10) ∷ (10, v0) ∷ (11, v0) ∷ (12, v0) ∷ (13, v13) ∷ (14, v4) ∷ (15, v25) ∷ []
 
 abbrev pub t37 : List.List Row.Entry
-t37 = List._∷_ e0 (List._∷_ e2 (List._∷_ e25 (List._∷_ e35 (List._∷_ e36 (List._∷_ e39 (List._∷_ e41 (List._∷_ e42 (List._∷_ e46 (List._∷_ e48 (List._∷_ e3 (List._∷_ e5 (List._∷_ e7 (List._∷_ e10
-    (List._∷_ e12 (List._∷_ e15 List.[])))))))))))))))
+t37 = (0, v2) ∷ (1, v3) ∷ (2, v1) ∷ (3, v1) ∷ (4, v12) ∷ (5, v23) ∷ (6, v24) ∷ (7, v6) ∷ (8, v5) ∷ (9, v10) ∷ (10, v0) ∷ (11, v0) ∷ (12, v0) ∷ (13, v13) ∷ (14, v4) ∷ (15, v9) ∷ []
 
 abbrev pub t38 : List.List Row.Entry
-t38 = List._∷_ e0 (List._∷_ e2 (List._∷_ e25 (List._∷_ e35 (List._∷_ e36 (List._∷_ e38 (List._∷_ e41 (List._∷_ e42 (List._∷_ e46 (List._∷_ e48 (List._∷_ e3 (List._∷_ e5 (List._∷_ e7 (List._∷_ e10
-    (List._∷_ e12 (List._∷_ e15 List.[])))))))))))))))
+t38 = (0, v2) ∷ (1, v3) ∷ (2, v1) ∷ (3, v1) ∷ (4, v12) ∷ (5, v7) ∷ (6, v24) ∷ (7, v6) ∷ (8, v5) ∷ (9, v10) ∷ (10, v0) ∷ (11, v0) ∷ (12, v0) ∷ (13, v13) ∷ (14, v4) ∷ (15, v9) ∷ []
 
 abbrev pub t39 : List.List Row.Entry
-t39 = List._∷_ e16 (List._∷_ e18 (List._∷_ e21 (List._∷_ e23 (List._∷_ e26 (List._∷_ e28 (List._∷_ e31 (List._∷_ e32 List.[])))))))
+t39 = (16, v11) ∷ (17, v0) ∷ (18, v14) ∷ (19, v20) ∷ (20, v11) ∷ (21, v0) ∷ (22, v15) ∷ (23, Mut.msleft (Element.type) y5) ∷ []
 
 abbrev pub t40 : List.List Row.Entry
-t40 = List._∷_ e1 (List._∷_ e2 (List._∷_ e25 (List._∷_ e35 (List._∷_ e36 (List._∷_ e38 (List._∷_ e40 (List._∷_ e42 (List._∷_ e46 (List._∷_ e48 (List._∷_ e3 (List._∷_ e5 (List._∷_ e7 (List._∷_ e10
-    (List._∷_ e12 (List._∷_ e15 List.[])))))))))))))))
+t40 = (0, v13) ∷ (1, v3) ∷ (2, v1) ∷ (3, v1) ∷ (4, v12) ∷ (5, v7) ∷ (6, v8) ∷ (7, v6) ∷ (8, v5) ∷ (9, v10) ∷ (10, v0) ∷ (11, v0) ∷ (12, v0) ∷ (13, v13) ∷ (14, v4) ∷ (15, v9) ∷ []
 
 abbrev pub t41 : List.List Row.Entry
-t41 = List._∷_ e1 (List._∷_ e2 (List._∷_ e25 (List._∷_ e35 (List._∷_ e36 (List._∷_ e38 (List._∷_ e40 (List._∷_ e42 (List._∷_ e46 (List._∷_ e48 (List._∷_ e3 (List._∷_ e5 (List._∷_ e7 (List._∷_ e9
-    (List._∷_ e12 (List._∷_ e15 List.[])))))))))))))))
+t41 = (0, v13) ∷ (1, v3) ∷ (2, v1) ∷ (3, v1) ∷ (4, v12) ∷ (5, v7) ∷ (6, v8) ∷ (7, v6) ∷ (8, v5) ∷ (9, v10) ∷ (10, v0) ∷ (11, v0) ∷ (12, v0) ∷ (13, v2) ∷ (14, v4) ∷ (15, v9) ∷ []
 
 abbrev pub t42 : List.List Row.Entry
-t42 = List._∷_ e1 (List._∷_ e2 (List._∷_ e24 (List._∷_ e35 (List._∷_ e36 (List._∷_ e38 (List._∷_ e40 (List._∷_ e42 (List._∷_ e46 (List._∷_ e48 (List._∷_ e3 (List._∷_ e5 (List._∷_ e7 (List._∷_ e9
-    (List._∷_ e12 (List._∷_ e15 List.[])))))))))))))))
+t42 = (0, v13) ∷ (1, v3) ∷ (2, v0) ∷ (3, v1) ∷ (4, v12) ∷ (5, v7) ∷ (6, v8) ∷ (7, v6) ∷ (8, v5) ∷ (9, v10) ∷ (10, v0) ∷ (11, v0) ∷ (12, v0) ∷ (13, v2) ∷ (14, v4) ∷ (15, v9) ∷ []
 
 abbrev pub T0 : Row.Cx
-T0 = record { locals = List._++_ t0 t1; slots = List.[] }
+T0 = record { locals = List._++_ t0 t1; slots = [] }
 
 abbrev pub T1 : Row.Cx
-T1 = record { locals = List._++_ t2 t1; slots = List.[] }
-
-abbrev pub T2 : Row.Cx
-T2 = record { locals = List._++_ t0 t1; slots = List.[] }
-
-abbrev pub T3 : Row.Cx
-T3 = record { locals = List._++_ t0 t1; slots = List.[] }
-
-abbrev pub T4 : Row.Cx
-T4 = record { locals = List._++_ t0 t1; slots = List.[] }
+T1 = record { locals = List._++_ t2 t1; slots = [] }
 
 abbrev pub T5 : Row.Cx
-T5 = record { locals = List._++_ t3 t1; slots = List.[] }
+T5 = record { locals = List._++_ t3 t1; slots = [] }
 
 abbrev pub T6 : Row.Cx
-T6 = record { locals = List._++_ t4 t1; slots = List.[] }
+T6 = record { locals = List._++_ t4 t1; slots = [] }
 
 abbrev pub T7 : Row.Cx
-T7 = record { locals = List._++_ t5 t1; slots = List.[] }
+T7 = record { locals = List._++_ t5 t1; slots = [] }
 
 abbrev pub T8 : Row.Cx
-T8 = record { locals = List._++_ t6 t1; slots = List.[] }
+T8 = record { locals = List._++_ t6 t1; slots = [] }
 
 abbrev pub T9 : Row.Cx
-T9 = record { locals = List._++_ t7 t1; slots = List.[] }
+T9 = record { locals = List._++_ t7 t1; slots = [] }
 
 abbrev pub T10 : Row.Cx
-T10 = record { locals = List._++_ t8 t1; slots = List.[] }
+T10 = record { locals = List._++_ t8 t1; slots = [] }
 
 abbrev pub T11 : Row.Cx
-T11 = record { locals = List._++_ t9 t1; slots = List.[] }
-
-abbrev pub T12 : Row.Cx
-T12 = record { locals = List._++_ t9 t1; slots = List.[] }
+T11 = record { locals = List._++_ t9 t1; slots = [] }
 
 abbrev pub T13 : Row.Cx
-T13 = record { locals = List._++_ t10 t1; slots = List.[] }
+T13 = record { locals = List._++_ t10 t1; slots = [] }
 
 abbrev pub T14 : Row.Cx
-T14 = record { locals = List._++_ t11 t1; slots = List.[] }
+T14 = record { locals = List._++_ t11 t1; slots = [] }
 
 abbrev pub T15 : Row.Cx
-T15 = record { locals = List._++_ t12 t1; slots = List.[] }
-
-abbrev pub T16 : Row.Cx
-T16 = record { locals = List._++_ t6 t1; slots = List.[] }
+T15 = record { locals = List._++_ t12 t1; slots = [] }
 
 abbrev pub T17 : Row.Cx
-T17 = record { locals = List._++_ t13 t1; slots = List.[] }
-
-abbrev pub T18 : Row.Cx
-T18 = record { locals = List._++_ t13 t1; slots = List.[] }
+T17 = record { locals = List._++_ t13 t1; slots = [] }
 
 abbrev pub T19 : Row.Cx
-T19 = record { locals = List._++_ t14 t1; slots = List.[] }
+T19 = record { locals = List._++_ t14 t1; slots = [] }
 
 abbrev pub T20 : Row.Cx
-T20 = record { locals = List._++_ t15 t1; slots = List.[] }
+T20 = record { locals = List._++_ t15 t1; slots = [] }
 
 abbrev pub T21 : Row.Cx
-T21 = record { locals = List._++_ t16 t1; slots = List.[] }
+T21 = record { locals = List._++_ t16 t1; slots = [] }
 
 abbrev pub T23 : Row.Cx
-T23 = record { locals = List._++_ t17 t1; slots = List.[] }
+T23 = record { locals = List._++_ t17 t1; slots = [] }
 
 abbrev pub T24 : Row.Cx
-T24 = record { locals = List._++_ t18 t1; slots = List.[] }
+T24 = record { locals = List._++_ t18 t1; slots = [] }
 
 abbrev pub T25 : Row.Cx
-T25 = record { locals = List._++_ t18 t19; slots = List.[] }
+T25 = record { locals = List._++_ t18 t19; slots = [] }
 
 abbrev pub T26 : Row.Cx
-T26 = record { locals = List._++_ t18 t20; slots = List.[] }
+T26 = record { locals = List._++_ t18 t20; slots = [] }
 
 abbrev pub T28 : Row.Cx
-T28 = record { locals = List._++_ t21 t22; slots = List.[] }
+T28 = record { locals = List._++_ t21 t22; slots = [] }
 
 abbrev pub T29 : Row.Cx
-T29 = record { locals = List._++_ t21 t23; slots = List.[] }
+T29 = record { locals = List._++_ t21 t23; slots = [] }
 
 abbrev pub T30 : Row.Cx
-T30 = record { locals = List._++_ t21 t24; slots = List.[] }
+T30 = record { locals = List._++_ t21 t24; slots = [] }
 
 abbrev pub T31 : Row.Cx
-T31 = record { locals = List._++_ t21 t25; slots = List.[] }
+T31 = record { locals = List._++_ t21 t25; slots = [] }
 
 abbrev pub T32 : Row.Cx
-T32 = record { locals = List._++_ t21 t26; slots = List.[] }
+T32 = record { locals = List._++_ t21 t26; slots = [] }
 
 abbrev pub T33 : Row.Cx
-T33 = record { locals = List._++_ t21 t27; slots = List.[] }
+T33 = record { locals = List._++_ t21 t27; slots = [] }
 
 abbrev pub T35 : Row.Cx
-T35 = record { locals = List._++_ t28 t29; slots = List.[] }
+T35 = record { locals = List._++_ t28 t29; slots = [] }
 
 abbrev pub T36 : Row.Cx
-T36 = record { locals = List._++_ t28 t30; slots = List.[] }
+T36 = record { locals = List._++_ t28 t30; slots = [] }
 
 abbrev pub T37 : Row.Cx
-T37 = record { locals = List._++_ t28 t31; slots = List.[] }
+T37 = record { locals = List._++_ t28 t31; slots = [] }
 
 abbrev pub T38 : Row.Cx
-T38 = record { locals = List._++_ t28 t32; slots = List.[] }
+T38 = record { locals = List._++_ t28 t32; slots = [] }
 
 abbrev pub T39 : Row.Cx
-T39 = record { locals = List._++_ t33 t34; slots = List.[] }
+T39 = record { locals = List._++_ t33 t34; slots = [] }
 
 abbrev pub T40 : Row.Cx
-T40 = record { locals = List._++_ t35 t34; slots = List.[] }
+T40 = record { locals = List._++_ t35 t34; slots = [] }
 
 abbrev pub T41 : Row.Cx
-T41 = record { locals = List._++_ t36 t34; slots = List.[] }
+T41 = record { locals = List._++_ t36 t34; slots = [] }
 
 abbrev pub T43 : Row.Cx
-T43 = record { locals = List._++_ t37 t34; slots = List.[] }
-
-abbrev pub T44 : Row.Cx
-T44 = record { locals = List._++_ t37 t34; slots = List.[] }
+T43 = record { locals = List._++_ t37 t34; slots = [] }
 
 abbrev pub T47 : Row.Cx
-T47 = record { locals = List._++_ t38 t39; slots = List.[] }
-
-abbrev pub T48 : Row.Cx
-T48 = record { locals = List._++_ t38 t39; slots = List.[] }
-
-abbrev pub T51 : Row.Cx
-T51 = record { locals = List._++_ t6 t1; slots = List.[] }
+T47 = record { locals = List._++_ t38 t39; slots = [] }
 
 abbrev pub T53 : Row.Cx
-T53 = record { locals = List._++_ t40 t1; slots = List.[] }
+T53 = record { locals = List._++_ t40 t1; slots = [] }
 
 abbrev pub T54 : Row.Cx
-T54 = record { locals = List._++_ t41 t1; slots = List.[] }
+T54 = record { locals = List._++_ t41 t1; slots = [] }
 
 abbrev pub T55 : Row.Cx
-T55 = record { locals = List._++_ t42 t1; slots = List.[] }
-
-abbrev pub T56 : Row.Cx
-T56 = record { locals = List._++_ t2 t1; slots = List.[] }
+T55 = record { locals = List._++_ t42 t1; slots = [] }
 
 abbrev pub O0 : Typed.Outs
-O0 = record { next = Option.none; exits = List.[]; returns = Option.some T1 }
+O0 = record { next = Option.none; exits = []; returns = Option.some T1 }
 
 abbrev pub O1 : Typed.Outs
 O1 = Typed.withNext (Option.some T8) O0
 
 module _ (claims· : Claims) where
-  abbrev s0 : Typed.Gives T0 T2
-  s0 = Know.k-shs-known (Referent.fInt Syntax.w8) T0 1 0 (Syntax.tyRef (Syntax.named 0) Syntax.imm (Syntax.tyInt Syntax.w8)) Row.off 0 λ x. x
+  abbrev s0 : Typed.Gives T0 T0
+  s0 = Know.k-shs-known (Referent.fInt Syntax.w8) T0 1 0 y1 Row.off 0 λ x. x
 
-  abbrev s1 : Typed.Gives T2 T3
-  s1 = Know.k-sl-known (Referent.fInt Syntax.w8) T2 4 1 (Syntax.tyRef (Syntax.named 1) Syntax.mut (Syntax.tyInt Syntax.w8)) Row.off 0 λ x. x
+  abbrev s1 : Typed.Gives T0 T0
+  s1 = Know.k-sl-known (Referent.fInt Syntax.w8) T0 4 1 y2 Row.off 0 λ x. x
 
-  abbrev s2 : Typed.Gives T3 T4
-  s2 = Know.k-sl-known (Referent.fInt Syntax.w16) T3 5 2 (Syntax.tyRef (Syntax.named 2) Syntax.mut (Syntax.tyInt Syntax.w16)) Row.off 0 λ x. x
+  abbrev s2 : Typed.Gives T0 T0
+  s2 = Know.k-sl-known (Referent.fInt Syntax.w16) T0 5 2 y3 Row.off 0 λ x. x
 
-  abbrev s3 : Typed.Mo T4 → Typed.Mo T5
-  s3 = Scalar.n-use T4 (Scalar.oFld 5 (List._∷_ (Syntax.field 1) List.[]) (Syntax.tyInt Syntax.w64) 8 Shared.lenV) 11 (Rows.sc-here (Row.sInt Syntax.w64)) (Row.sInt Syntax.w64 .of)
+  abbrev s3 : Typed.Mo T0 → Typed.Mo T5
+  s3 = Scalar.n-use T0 (Scalar.oFld 5 ((Syntax.field 1) ∷ []) u64 8 Shared.lenV) 11 (Rows.sc-here (Row.sInt Syntax.w64)) (Row.sInt Syntax.w64 .of)
 
   abbrev s4 : Typed.Mo T5 → Typed.Mo T6
-  s4 = Scalar.n-use T5 (Scalar.oFld 6 (List._∷_ (Syntax.field 1) List.[]) (Syntax.tyInt Syntax.w64) 8 Shared.lenV) 12 (Rows.sc-here (Row.sInt Syntax.w64)) (Row.sInt Syntax.w64 .of)
+  s4 = Scalar.n-use T5 (Scalar.oFld 6 ((Syntax.field 1) ∷ []) u64 8 Shared.lenV) 12 (Rows.sc-here (Row.sInt Syntax.w64)) (Row.sInt Syntax.w64 .of)
+
+  abbrev pub a0 : ArgsT ps·0 (T6 .locals)
+  a0 = (record { pos = 1; ty = y1; ref = λ x. x }, (Num.vAt 2 λ x. x, (Bool.bLit Bool'.false, (Num.vAt 11 λ x. x, (Num.vAt 12 λ x. x, tt)))))
 
   abbrev s5 : Typed.Both T6 T7
-  s5 = Call.callB ps·0 r·0 (claims· .0) (claims· .1) T6
-      (record { pos = 1; ty = Syntax.tyRef (Syntax.named 0) Syntax.imm (Syntax.tyInt Syntax.w8); ref = λ x. x }, (Num.vAt 2 λ x. x, (Bool.bLit Bool'.false, (Num.vAt 11 λ x. x, (Num.vAt 12 λ x. x, tt)))))
-      7 (List._∷_ 0 List.[]) (Syntax.tyEnum (List._∷_ 115 (List._∷_ 116 (List._∷_ 114 (List._∷_ 101 (List._∷_ 97 (List._∷_ 109 (List._∷_ 58 (List._∷_ 58 (List._∷_ 80 (List._∷_ 97 (List._∷_ 114 (List._∷_
-      115 (List._∷_ 101 (List._∷_ 100 List.[])))))))))))))) (Syntax.ttcons (Syntax.tcons y0 Syntax.tnil) (Syntax.ttcons (Syntax.tcons (Syntax.tyEnum (List._∷_ 115 (List._∷_ 116 (List._∷_ 114 (List._∷_ 101
-      (List._∷_ 97 (List._∷_ 109 (List._∷_ 58 (List._∷_ 58 (List._∷_ 82 (List._∷_ 101 (List._∷_ 102 (List._∷_ 117 (List._∷_ 115 (List._∷_ 97 (List._∷_ 108 List.[]))))))))))))))) (Syntax.ttcons Syntax.tnil
-      (Syntax.ttcons Syntax.tnil (Syntax.ttcons Syntax.tnil (Syntax.ttcons (Syntax.tcons (Syntax.tyInt Syntax.w64) Syntax.tnil) (Syntax.ttcons Syntax.tnil (Syntax.ttcons Syntax.tnil (Syntax.ttcons
-      Syntax.tnil (Syntax.ttcons Syntax.tnil (Syntax.ttcons Syntax.tnil (Syntax.ttcons Syntax.tnil (Syntax.ttcons (Syntax.tcons (Syntax.tyInt Syntax.w64) Syntax.tnil) (Syntax.ttcons (Syntax.tcons
-      (Syntax.tyInt Syntax.w64) Syntax.tnil) (Syntax.ttcons Syntax.tnil (Syntax.ttcons (Syntax.tcons (Syntax.tyInt Syntax.w64) (Syntax.tcons (Syntax.tyInt Syntax.w64) Syntax.tnil)) (Syntax.ttcons
-      (Syntax.tcons (Syntax.tyInt Syntax.w64) Syntax.tnil) (Syntax.ttcons Syntax.tnil (Syntax.ttcons Syntax.tnil (Syntax.ttcons (Syntax.tcons (Syntax.tyInt Syntax.w64) Syntax.tnil) (Syntax.ttcons
-      (Syntax.tcons (Syntax.tyInt Syntax.w64) Syntax.tnil) (Syntax.ttcons (Syntax.tcons (Syntax.tyInt Syntax.w64) Syntax.tnil) (Syntax.ttcons Syntax.tnil (Syntax.ttcons Syntax.tnil (Syntax.ttcons
-      (Syntax.tcons (Syntax.tyInt Syntax.w64) (Syntax.tcons (Syntax.tyInt Syntax.w64) Syntax.tnil)) (Syntax.ttcons Syntax.tnil Syntax.ttnil))))))))))))))))))))))))) Syntax.tnil) Syntax.ttnil)))
+  s5 = Call.callB ps·0 r·0 (claims· .0) (claims· .1) T6 a0 7 (0 ∷ []) y10
 
   abbrev s6 : Typed.Mo T7 → Typed.Mo T9
-  s6 = Scalar.n-room T7 11 (Syntax.tyInt Syntax.w64)
+  s6 = Scalar.n-room T7 11 u64
 
   abbrev s7 : Typed.Mo T9 → Typed.Mo T10
-  s7 = Scalar.n-room T9 12 (Syntax.tyInt Syntax.w64)
+  s7 = Scalar.n-room T9 12 u64
 
   abbrev s8 : Typed.Both T10 T11
   s8 = Known.k-enum-known Parsed.enum 1 T10 7 λ x. x
 
-  abbrev s9 : Typed.Gives T11 T12
+  abbrev s9 : Typed.Gives T11 T11
   s9 = Known.k-known-told Parsed.enum Laws''.the-laws 1 T11 7 λ x. x
 
-  abbrev s10 : Typed.Mo T12 → Typed.Mo T13
-  s10 = Make.n-make (Declared.row Refusal.the-type) T12 8 λ m. m .1 .1 .1 .1 .1 .1 .1 .0 .0
+  abbrev s10 : Typed.Mo T11 → Typed.Mo T13
+  s10 = Make.n-make (Declared.row Refusal.the-type) T11 8 λ m. m .1 .1 .1 .1 .1 .1 .1 .0 .0
 
   abbrev s11 : Typed.Mo T13 → Typed.Mo T14
-  s11 = Scalar.n-room T13 7 (Syntax.tyEnum (List._∷_ 115 (List._∷_ 116 (List._∷_ 114 (List._∷_ 101 (List._∷_ 97 (List._∷_ 109 (List._∷_ 58 (List._∷_ 58 (List._∷_ 80 (List._∷_ 97 (List._∷_ 114
-      (List._∷_ 115 (List._∷_ 101 (List._∷_ 100 List.[])))))))))))))) (Syntax.ttcons (Syntax.tcons y0 Syntax.tnil) (Syntax.ttcons (Syntax.tcons (Syntax.tyEnum (List._∷_ 115 (List._∷_ 116 (List._∷_ 114
-      (List._∷_ 101 (List._∷_ 97 (List._∷_ 109 (List._∷_ 58 (List._∷_ 58 (List._∷_ 82 (List._∷_ 101 (List._∷_ 102 (List._∷_ 117 (List._∷_ 115 (List._∷_ 97 (List._∷_ 108 List.[])))))))))))))))
-      (Syntax.ttcons Syntax.tnil (Syntax.ttcons Syntax.tnil (Syntax.ttcons Syntax.tnil (Syntax.ttcons (Syntax.tcons (Syntax.tyInt Syntax.w64) Syntax.tnil) (Syntax.ttcons Syntax.tnil (Syntax.ttcons
-      Syntax.tnil (Syntax.ttcons Syntax.tnil (Syntax.ttcons Syntax.tnil (Syntax.ttcons Syntax.tnil (Syntax.ttcons Syntax.tnil (Syntax.ttcons (Syntax.tcons (Syntax.tyInt Syntax.w64) Syntax.tnil)
-      (Syntax.ttcons (Syntax.tcons (Syntax.tyInt Syntax.w64) Syntax.tnil) (Syntax.ttcons Syntax.tnil (Syntax.ttcons (Syntax.tcons (Syntax.tyInt Syntax.w64) (Syntax.tcons (Syntax.tyInt Syntax.w64)
-      Syntax.tnil)) (Syntax.ttcons (Syntax.tcons (Syntax.tyInt Syntax.w64) Syntax.tnil) (Syntax.ttcons Syntax.tnil (Syntax.ttcons Syntax.tnil (Syntax.ttcons (Syntax.tcons (Syntax.tyInt Syntax.w64)
-      Syntax.tnil) (Syntax.ttcons (Syntax.tcons (Syntax.tyInt Syntax.w64) Syntax.tnil) (Syntax.ttcons (Syntax.tcons (Syntax.tyInt Syntax.w64) Syntax.tnil) (Syntax.ttcons Syntax.tnil (Syntax.ttcons
-      Syntax.tnil (Syntax.ttcons (Syntax.tcons (Syntax.tyInt Syntax.w64) (Syntax.tcons (Syntax.tyInt Syntax.w64) Syntax.tnil)) (Syntax.ttcons Syntax.tnil Syntax.ttnil))))))))))))))))))))))))) Syntax.tnil)
-      Syntax.ttnil)))
+  s11 = Scalar.n-room T13 7 y10
 
   abbrev s12 : Typed.Both T14 T15
-  s12 = Call.callB ps·1 r·1 (claims· .2) (claims· .3) T14 (record { pos = 8; st = List.[]; d = 0; at = λ x. x }, tt) 13 List.[] y5
+  s12 = Call.callB ps·1 r·1 (claims· .2) (claims· .3) T14 (record { pos = 8; st = []; d = 0; at = λ x. x }, tt) 13 [] y15
 
-  abbrev s13 : Typed.Mo T15 → Typed.Mo T16
-  s13 = Scalar.n-room T15 8 (Syntax.tyEnum (List._∷_ 115 (List._∷_ 116 (List._∷_ 114 (List._∷_ 101 (List._∷_ 97 (List._∷_ 109 (List._∷_ 58 (List._∷_ 58 (List._∷_ 82 (List._∷_ 101 (List._∷_ 102
-      (List._∷_ 117 (List._∷_ 115 (List._∷_ 97 (List._∷_ 108 List.[]))))))))))))))) (Syntax.ttcons Syntax.tnil (Syntax.ttcons Syntax.tnil (Syntax.ttcons Syntax.tnil (Syntax.ttcons (Syntax.tcons
-      (Syntax.tyInt Syntax.w64) Syntax.tnil) (Syntax.ttcons Syntax.tnil (Syntax.ttcons Syntax.tnil (Syntax.ttcons Syntax.tnil (Syntax.ttcons Syntax.tnil (Syntax.ttcons Syntax.tnil (Syntax.ttcons
-      Syntax.tnil (Syntax.ttcons (Syntax.tcons (Syntax.tyInt Syntax.w64) Syntax.tnil) (Syntax.ttcons (Syntax.tcons (Syntax.tyInt Syntax.w64) Syntax.tnil) (Syntax.ttcons Syntax.tnil (Syntax.ttcons
-      (Syntax.tcons (Syntax.tyInt Syntax.w64) (Syntax.tcons (Syntax.tyInt Syntax.w64) Syntax.tnil)) (Syntax.ttcons (Syntax.tcons (Syntax.tyInt Syntax.w64) Syntax.tnil) (Syntax.ttcons Syntax.tnil
-      (Syntax.ttcons Syntax.tnil (Syntax.ttcons (Syntax.tcons (Syntax.tyInt Syntax.w64) Syntax.tnil) (Syntax.ttcons (Syntax.tcons (Syntax.tyInt Syntax.w64) Syntax.tnil) (Syntax.ttcons (Syntax.tcons
-      (Syntax.tyInt Syntax.w64) Syntax.tnil) (Syntax.ttcons Syntax.tnil (Syntax.ttcons Syntax.tnil (Syntax.ttcons (Syntax.tcons (Syntax.tyInt Syntax.w64) (Syntax.tcons (Syntax.tyInt Syntax.w64)
-      Syntax.tnil)) (Syntax.ttcons Syntax.tnil Syntax.ttnil)))))))))))))))))))))))))
+  abbrev s13 : Typed.Mo T15 → Typed.Mo T8
+  s13 = Scalar.n-room T15 8 y0
 
   abbrev s14 : Typed.Both T10 T17
   s14 = Known.k-enum-known Parsed.enum 0 T10 7 λ x. x
 
-  abbrev s15 : Typed.Gives T17 T18
+  abbrev s15 : Typed.Gives T17 T17
   s15 = Known.k-known-told Parsed.enum Laws''.the-laws 0 T17 7 λ x. x
 
-  abbrev s16 : Typed.Mo T18 → Typed.Mo T19
-  s16 = Make.n-make (Declared'.row FujiHeader.the-type) T18 9 λ m. m .1 .1 .1 .1 .1 .1 .1 .0 .0
+  abbrev s16 : Typed.Mo T17 → Typed.Mo T19
+  s16 = Make.n-make (Declared'.row FujiHeader.the-type) T17 9 λ m. m .1 .1 .1 .1 .1 .1 .1 .0 .0
 
   abbrev s17 : Typed.Mo T19 → Typed.Mo T20
-  s17 = Scalar.n-room T19 7 (Syntax.tyEnum (List._∷_ 115 (List._∷_ 116 (List._∷_ 114 (List._∷_ 101 (List._∷_ 97 (List._∷_ 109 (List._∷_ 58 (List._∷_ 58 (List._∷_ 80 (List._∷_ 97 (List._∷_ 114
-      (List._∷_ 115 (List._∷_ 101 (List._∷_ 100 List.[])))))))))))))) (Syntax.ttcons (Syntax.tcons y0 Syntax.tnil) (Syntax.ttcons (Syntax.tcons (Syntax.tyEnum (List._∷_ 115 (List._∷_ 116 (List._∷_ 114
-      (List._∷_ 101 (List._∷_ 97 (List._∷_ 109 (List._∷_ 58 (List._∷_ 58 (List._∷_ 82 (List._∷_ 101 (List._∷_ 102 (List._∷_ 117 (List._∷_ 115 (List._∷_ 97 (List._∷_ 108 List.[])))))))))))))))
-      (Syntax.ttcons Syntax.tnil (Syntax.ttcons Syntax.tnil (Syntax.ttcons Syntax.tnil (Syntax.ttcons (Syntax.tcons (Syntax.tyInt Syntax.w64) Syntax.tnil) (Syntax.ttcons Syntax.tnil (Syntax.ttcons
-      Syntax.tnil (Syntax.ttcons Syntax.tnil (Syntax.ttcons Syntax.tnil (Syntax.ttcons Syntax.tnil (Syntax.ttcons Syntax.tnil (Syntax.ttcons (Syntax.tcons (Syntax.tyInt Syntax.w64) Syntax.tnil)
-      (Syntax.ttcons (Syntax.tcons (Syntax.tyInt Syntax.w64) Syntax.tnil) (Syntax.ttcons Syntax.tnil (Syntax.ttcons (Syntax.tcons (Syntax.tyInt Syntax.w64) (Syntax.tcons (Syntax.tyInt Syntax.w64)
-      Syntax.tnil)) (Syntax.ttcons (Syntax.tcons (Syntax.tyInt Syntax.w64) Syntax.tnil) (Syntax.ttcons Syntax.tnil (Syntax.ttcons Syntax.tnil (Syntax.ttcons (Syntax.tcons (Syntax.tyInt Syntax.w64)
-      Syntax.tnil) (Syntax.ttcons (Syntax.tcons (Syntax.tyInt Syntax.w64) Syntax.tnil) (Syntax.ttcons (Syntax.tcons (Syntax.tyInt Syntax.w64) Syntax.tnil) (Syntax.ttcons Syntax.tnil (Syntax.ttcons
-      Syntax.tnil (Syntax.ttcons (Syntax.tcons (Syntax.tyInt Syntax.w64) (Syntax.tcons (Syntax.tyInt Syntax.w64) Syntax.tnil)) (Syntax.ttcons Syntax.tnil Syntax.ttnil))))))))))))))))))))))))) Syntax.tnil)
-      Syntax.ttnil)))
+  s17 = Scalar.n-room T19 7 y10
 
   abbrev s18 : Typed.Both T20 T21
-  s18 = Call.callB ps·2 r·2 (claims· .4) (claims· .5) T20 (Bool.bFld 9 (List._∷_ (Syntax.field 1) List.[]) 1 λ x. FujiHeader.struct .as-values x .1 .0, tt) 10 List.[] (Syntax.tyInt Syntax.w64)
+  s18 = Call.callB ps·2 r·2 (claims· .4) (claims· .5) T20 (Bool.bFld 9 ((Syntax.field 1) ∷ []) 1 λ x. FujiHeader.struct .as-values x .1 .0, tt) 10 [] u64
 
   abbrev s20 : Typed.Gives T21 T23
-  s20 = Relend.k-sl-relend (Referent.rtF (Referent.fInt Syntax.w8)) T21 4 14 1 4 (Syntax.tyRef (Syntax.named 1) Syntax.mut (Syntax.tyInt Syntax.w8)) (Syntax.tyRef Syntax.erased Syntax.mut
-      (Syntax.tyInt Syntax.w8)) Row.off λ x. x
+  s20 = Relend.k-sl-relend n8 T21 4 14 1 4 y2 y7 Row.off λ x. x
 
   abbrev s21 : Typed.Asks T23 T24
-  s21 = Relend.k-sl-aggregate (Referent.rtF (Referent.fInt Syntax.w8)) (Relend.asMut (Referent.rtF (Referent.fInt Syntax.w8))) T23 14 15 4 (Syntax.tyRef Syntax.erased Syntax.mut (Syntax.tyInt
-      Syntax.w8)) (Syntax.tyRef Syntax.erased Syntax.mut (Syntax.tyInt Syntax.w8)) (λ x. x) (Scalar.oFld 4 (List._∷_ (Syntax.field 1) List.[]) (Syntax.tyInt Syntax.w64) 8 λ v. Shared.lenV (v .0))
+  s21 = Relend.k-sl-aggregate n8 (Relend.asMut n8) T23 14 15 4 y7 y7 (λ x. x) (Scalar.oFld 4 ((Syntax.field 1) ∷ []) u64 8 λ v. Shared.lenV (v .0))
 
   abbrev s22 : Typed.Asks T24 T25
-  s22 = Scalar.k-op2 T24 Syntax.offset (Scalar.oFld 5 (List._∷_ (Syntax.field 0) List.[]) (Syntax.tyRef (Syntax.named 2) Syntax.mut (Syntax.tyInt Syntax.w16)) 0 Reads'.ptrVal) (Scalar.oInt Syntax.w64
-      0) 16 (Rows.sc-here Row.sPtr) (Row.sPtr .of)
+  s22 = Scalar.k-op2 T24 Syntax.offset (Scalar.oFld 5 ((Syntax.field 0) ∷ []) y3 0 Reads'.ptrVal) (Scalar.oInt Syntax.w64 0) 16 (Rows.sc-here Row.sPtr) (Row.sPtr .of)
 
   abbrev s23 : Typed.Asks T25 T26
-  s23 = Scalar.k-op2 T25 (Syntax.sub Syntax.unsigned) (Scalar.oAt 10 (Syntax.tyInt Syntax.w64) (Row.valS (Row.sInt Syntax.w64))) (Scalar.oInt Syntax.w64 0) 17 (Rows.sc-here (Row.sInt Syntax.w64))
-      (Row.sInt Syntax.w64 .of)
+  s23 = Scalar.k-op2 T25 (Syntax.sub Syntax.unsigned) (Scalar.oAt 10 u64 (Row.valS (Row.sInt Syntax.w64))) (Scalar.oInt Syntax.w64 0) 17 (Rows.sc-here (Row.sInt Syntax.w64)) (Row.sInt Syntax.w64 .of)
 
   abbrev s25 : Typed.Both T26 T28
-  s25 = PartMut.k-sl-relendᵐ (Referent.rtF (Referent.fInt Syntax.w16)) T26 5 16 18 2 5 (Syntax.tyRef (Syntax.named 2) Syntax.mut (Syntax.tyInt Syntax.w16)) (Syntax.tyRef Syntax.erased Syntax.mut
-      (Syntax.tyInt Syntax.w16)) Row.off (Shared.bySize 2) (λ x. x) (λ x. x) (λ u. 0) λ u. u .1 .1 .1 .1 .1 .1 .1 .1 .1 .1 .0
+  s25 = PartMut.k-sl-relendᵐ n16 T26 5 16 18 2 5 y3 y6 Row.off (Shared.bySize 2) (λ x. x) (λ x. x) (λ u. 0) λ u. u .1 .1 .1 .1 .1 .1 .1 .1 .1 .1 .0
 
   abbrev s26 : Typed.Mo T28 → Typed.Mo T29
   s26 = Scalar.n-room T28 16 Syntax.tyPtr
 
   abbrev s27 : Typed.Asks T29 T30
-  s27 = Relend.k-sl-aggregate (Referent.rtF (Referent.fInt Syntax.w16)) (Relend.asMut (Referent.rtF (Referent.fInt Syntax.w16))) T29 18 19 5 (Syntax.tyRef Syntax.erased Syntax.mut (Syntax.tyInt
-      Syntax.w16)) (Syntax.tyRef Syntax.erased Syntax.mut (Syntax.tyInt Syntax.w16)) (λ x. x) (Scalar.oAt 17 (Syntax.tyInt Syntax.w64) (Row.valS (Row.sInt Syntax.w64)))
+  s27 = Relend.k-sl-aggregate n16 (Relend.asMut n16) T29 18 19 5 y6 y6 (λ x. x) (Scalar.oAt 17 u64 (Row.valS (Row.sInt Syntax.w64)))
 
   abbrev s28 : Typed.Mo T30 → Typed.Mo T31
-  s28 = Scalar.n-room T30 17 (Syntax.tyInt Syntax.w64)
+  s28 = Scalar.n-room T30 17 u64
 
   abbrev s29 : Typed.Asks T31 T32
-  s29 = Scalar.k-op2 T31 Syntax.offset (Scalar.oFld 6 (List._∷_ (Syntax.field 0) List.[]) (Syntax.tyRef (Syntax.named 3) Syntax.mut Element.behind) 0 Reads'.ptrVal) (Scalar.oInt Syntax.w64 0) 20
-      (Rows.sc-here Row.sPtr) (Row.sPtr .of)
+  s29 = Scalar.k-op2 T31 Syntax.offset (Scalar.oFld 6 ((Syntax.field 0) ∷ []) y4 0 Reads'.ptrVal) (Scalar.oInt Syntax.w64 0) 20 (Rows.sc-here Row.sPtr) (Row.sPtr .of)
 
   abbrev s30 : Typed.Asks T32 T33
   s30 = Scalar.k-op2 T32 (Syntax.sub Syntax.unsigned) (Scalar.oInt Syntax.w64 336) (Scalar.oInt Syntax.w64 0) 21 (Rows.sc-here (Row.sInt Syntax.w64)) (Row.sInt Syntax.w64 .of)
 
   abbrev s32 : Typed.Both T33 T35
-  s32 = PartMut.k-sl-relendᵐ (Element.type) T33 6 20 22 3 6 (Syntax.tyRef (Syntax.named 3) Syntax.mut Element.behind) (Syntax.tyRef Syntax.erased Syntax.mut Element.behind) Row.off (Shared.bySize 8)
-      (λ x. x) (λ x. x) (λ u. 0) λ u. 336
+  s32 = PartMut.k-sl-relendᵐ (Element.type) T33 6 20 22 3 6 y4 y5 Row.off (Shared.bySize 8) (λ x. x) (λ x. x) (λ u. 0) λ u. 336
 
   abbrev s33 : Typed.Mo T35 → Typed.Mo T36
   s33 = Scalar.n-room T35 20 Syntax.tyPtr
 
   abbrev s34 : Typed.Asks T36 T37
-  s34 = Relend.k-sl-aggregate (Element.type) (Relend.asMut (Element.type)) T36 22 23 6 (Syntax.tyRef Syntax.erased Syntax.mut Element.behind) (Syntax.tyRef Syntax.erased Syntax.mut Element.behind) (λ
-      x. x) (Scalar.oAt 21 (Syntax.tyInt Syntax.w64) (Row.valS (Row.sInt Syntax.w64)))
+  s34 = Relend.k-sl-aggregate (Element.type) (Relend.asMut (Element.type)) T36 22 23 6 y5 y5 (λ x. x) (Scalar.oAt 21 u64 (Row.valS (Row.sInt Syntax.w64)))
 
   abbrev s35 : Typed.Mo T37 → Typed.Mo T38
-  s35 = Scalar.n-room T37 21 (Syntax.tyInt Syntax.w64)
+  s35 = Scalar.n-room T37 21 u64
+
+  abbrev pub a1 : ArgsT ps·3 (T38 .locals)
+  a1 = (
+    record { pos = 1; ty = y1; ref = λ x. x },
+    (
+      record { pos = 9; st = []; d = 0; at = λ x. x },
+      (Num.vAt 2 λ x. x, (Num.vAt 3 λ x. x, (record { pos = 15; ty = y7; ref = λ x. x }, (record { pos = 19; ty = y6; ref = λ x. x }, (record { pos = 23; ty = y5; ref = λ x. x }, tt))))),
+    ),
+  )
 
   abbrev s36 : Typed.Both T38 T39
-  s36 = Call.callB ps·3 r·3 (claims· .6) (claims· .7) T38 (
-    record { pos = 1; ty = Syntax.tyRef (Syntax.named 0) Syntax.imm (Syntax.tyInt Syntax.w8); ref = λ x. x },
-    (
-      record { pos = 9; st = List.[]; d = 0; at = λ x. x },
-      (
-        Num.vAt 2 λ x. x,
-        (
-          Num.vAt 3 λ x. x,
-          (
-            record { pos = 15; ty = Syntax.tyRef Syntax.erased Syntax.mut (Syntax.tyInt Syntax.w8); ref = λ x. x },
-            (
-              record { pos = 19; ty = Syntax.tyRef Syntax.erased Syntax.mut (Syntax.tyInt Syntax.w16); ref = λ x. x },
-              (record { pos = 23; ty = Syntax.tyRef Syntax.erased Syntax.mut Element.behind; ref = λ x. x }, tt),
-            ),
-          ),
-        ),
-      ),
-    ),
-  ) 13 (List._∷_ 0 (List._∷_ 4 (List._∷_ 5 (List._∷_ 6 List.[])))) y5
+  s36 = Call.callB ps·3 r·3 (claims· .6) (claims· .7) T38 a1 13 (0 ∷ 4 ∷ 5 ∷ 6 ∷ []) y15
 
   abbrev s37 : Typed.Mo T39 → Typed.Mo T40
-  s37 = Scalar.n-room T39 9 y0
+  s37 = Scalar.n-room T39 9 y8
 
   abbrev s38 : Typed.Mo T40 → Typed.Mo T41
-  s38 = Scalar.n-room T40 10 (Syntax.tyInt Syntax.w64)
+  s38 = Scalar.n-room T40 10 u64
 
   abbrev s40 : Typed.Both T41 T43
-  s40 = Relend.k-back-sl (Referent.rtF (Referent.fInt Syntax.w8)) T41 15 4 1 4 (Syntax.tyRef (Syntax.named 1) Syntax.mut (Syntax.tyInt Syntax.w8)) (Syntax.tyRef Syntax.erased Syntax.mut (Syntax.tyInt
-      Syntax.w8)) Row.off (λ x. x) λ x. x
+  s40 = Relend.k-back-sl n8 T41 15 4 1 4 y2 y7 Row.off (λ x. x) λ x. x
 
-  abbrev s41 : Typed.Gives T43 T44
-  s41 = Know.k-sl-known (Referent.fInt Syntax.w8) T43 4 1 (Syntax.tyRef (Syntax.named 1) Syntax.mut (Syntax.tyInt Syntax.w8)) Row.off 0 λ x. x
+  abbrev s41 : Typed.Gives T43 T43
+  s41 = Know.k-sl-known (Referent.fInt Syntax.w8) T43 4 1 y2 Row.off 0 λ x. x
 
-  abbrev s44 : Typed.Both T44 T47
-  s44 = PartMut.k-back-slᵐ (Referent.rtF (Referent.fInt Syntax.w16)) T44 19 5 2 5 (Syntax.tyRef (Syntax.named 2) Syntax.mut (Syntax.tyInt Syntax.w16)) (Syntax.tyRef Syntax.erased Syntax.mut
-      (Syntax.tyInt Syntax.w16)) Row.off (λ x. x) λ x. x
+  abbrev s44 : Typed.Both T43 T47
+  s44 = PartMut.k-back-slᵐ n16 T43 19 5 2 5 y3 y6 Row.off (λ x. x) λ x. x
 
-  abbrev s45 : Typed.Gives T47 T48
-  s45 = Know.k-sl-known (Referent.fInt Syntax.w16) T47 5 2 (Syntax.tyRef (Syntax.named 2) Syntax.mut (Syntax.tyInt Syntax.w16)) Row.off 0 λ x. x
+  abbrev s45 : Typed.Gives T47 T47
+  s45 = Know.k-sl-known (Referent.fInt Syntax.w16) T47 5 2 y3 Row.off 0 λ x. x
 
-  abbrev s48 : Typed.Both T48 T51
-  s48 = PartMut.k-back-slᵐ (Element.type) T48 23 6 3 6 (Syntax.tyRef (Syntax.named 3) Syntax.mut Element.behind) (Syntax.tyRef Syntax.erased Syntax.mut Element.behind) Row.off (λ x. x) λ x. x
+  abbrev s48 : Typed.Both T47 T8
+  s48 = PartMut.k-back-slᵐ (Element.type) T47 23 6 3 6 y4 y5 Row.off (λ x. x) λ x. x
 
   abbrev s50 : Typed.Mo T8 → Typed.Mo T53
   s50 = LocalCopy.n-val-copy T8 13 0 (Declared'.row Counted.the-type) (Rows.whole (Declared'.row Counted.the-type)) (Rows.whole (Declared'.row Counted.the-type)) (λ x. x) (λ x. x) λ x. x
 
   abbrev s51 : Typed.Mo T53 → Typed.Mo T54
-  s51 = Scalar.n-room T53 13 y5
+  s51 = Scalar.n-room T53 13 y15
 
   abbrev s52 : Typed.Mo T54 → Typed.Mo T55
-  s52 = Scalar.n-room T54 2 (Syntax.tyInt Syntax.w64)
+  s52 = Scalar.n-room T54 2 u64
 
-  abbrev s53 : Typed.Mo T55 → Typed.Mo T56
-  s53 = Scalar.n-room T55 3 (Syntax.tyInt Syntax.w64)
+  abbrev s53 : Typed.Mo T55 → Typed.Mo T1
+  s53 = Scalar.n-room T55 3 u64
 
   module _ (Pre· : (κs : Lifetimes.Lfts 4) → Kinds.Dens κs ps → Type 0) (Post· : (κs : Lifetimes.Lfts 4) → (a : Kinds.Dens κs ps) → Kinds.Plain 4 ps r κs) where
     module _ (M : Type 1) where
@@ -1084,13 +756,13 @@ module _ (claims· : Claims) where
 
     module _ where
       abbrev at0 : Typed.TF T14 O1
-      at0 = λ Ψ. Typed.both s12 (Typed.pass T15 T16 s13 (Typed.atNext O1 Ψ))
+      at0 = λ Ψ. Typed.both s12 (Typed.pass T15 T8 s13 (Typed.atNext O1 Ψ))
 
       abbrev at1 : Typed.TF T13 O1
       at1 = λ Ψ. Typed.pass T13 T14 s11 (at0 Ψ)
 
-      abbrev at2 : Typed.TF T12 O1
-      at2 = λ Ψ. Typed.pass T12 T13 s10 (at1 Ψ)
+      abbrev at2 : Typed.TF T11 O1
+      at2 = λ Ψ. Typed.pass T11 T13 s10 (at1 Ψ)
 
       abbrev at3 : Typed.TF T11 O1
       at3 = λ Ψ. Typed.give s9 (at2 Ψ)
@@ -1113,11 +785,8 @@ module _ (claims· : Claims) where
       abbrev at9 : Typed.TF T33 O1
       at9 = λ Ψ. Typed.both s32 (at8 Ψ)
 
-      abbrev at10 : Typed.TF T33 O1
-      at10 = λ Ψ. at9 Ψ
-
       abbrev at11 : Typed.TF T32 O1
-      at11 = λ Ψ. Typed.ask s30 (at10 Ψ)
+      at11 = λ Ψ. Typed.ask s30 (at9 Ψ)
 
       abbrev at12 : Typed.TF T31 O1
       at12 = λ Ψ. Typed.ask s29 (at11 Ψ)
@@ -1134,11 +803,8 @@ module _ (claims· : Claims) where
       abbrev at16 : Typed.TF T26 O1
       at16 = λ Ψ. Typed.both s25 (at15 Ψ)
 
-      abbrev at17 : Typed.TF T26 O1
-      at17 = λ Ψ. at16 Ψ
-
       abbrev at18 : Typed.TF T25 O1
-      at18 = λ Ψ. Typed.ask s23 (at17 Ψ)
+      at18 = λ Ψ. Typed.ask s23 (at16 Ψ)
 
       abbrev at19 : Typed.TF T24 O1
       at19 = λ Ψ. Typed.ask s22 (at18 Ψ)
@@ -1149,17 +815,14 @@ module _ (claims· : Claims) where
       abbrev at21 : Typed.TF T21 O1
       at21 = λ Ψ. Typed.give s20 (at20 Ψ)
 
-      abbrev at22 : Typed.TF T21 O1
-      at22 = λ Ψ. at21 Ψ
-
       abbrev at23 : Typed.TF T20 O1
-      at23 = λ Ψ. Typed.both s18 (at22 Ψ)
+      at23 = λ Ψ. Typed.both s18 (at21 Ψ)
 
       abbrev at24 : Typed.TF T19 O1
       at24 = λ Ψ. Typed.pass T19 T20 s17 (at23 Ψ)
 
-      abbrev at25 : Typed.TF T18 O1
-      at25 = λ Ψ. Typed.pass T18 T19 s16 (at24 Ψ)
+      abbrev at25 : Typed.TF T17 O1
+      at25 = λ Ψ. Typed.pass T17 T19 s16 (at24 Ψ)
 
       abbrev at26 : Typed.TF T17 O1
       at26 = λ Ψ. Typed.give s15 (at25 Ψ)
@@ -1168,7 +831,7 @@ module _ (claims· : Claims) where
       at27 = λ Ψ. Typed.both s14 (at26 Ψ)
 
       abbrev at28 : Typed.TF T10 O1
-      at28 = Switch.Φswitch T10 O1 7 (λ x. Declared.tagOf Parsed.the-type x) (Syntax.arm (List._∷_ 1 List.[]) b5 (Syntax.arm (List._∷_ 0 List.[]) b30 Syntax.noDefault)) (at4, (at27, tt))
+      at28 = Switch.Φswitch T10 O1 7 (λ x. Declared.tagOf Parsed.the-type x) (Syntax.arm (1 ∷ []) b5 (Syntax.arm (0 ∷ []) b30 Syntax.noDefault)) (at4, (at27, tt))
 
       abbrev at29 : Typed.TF T9 O1
       at29 = λ Ψ. Typed.pass T9 T10 s7 (at28 Ψ)
@@ -1176,11 +839,11 @@ module _ (claims· : Claims) where
       abbrev at30 : Typed.TF T7 O1
       at30 = λ Ψ. Typed.pass T7 T9 s6 (at29 Ψ)
 
-      abbrev at31 : Typed.TF T56 O0
+      abbrev at31 : Typed.TF T1 O0
       at31 = Typed.atRet O0
 
       abbrev at32 : Typed.TF T55 O0
-      at32 = λ Ψ. Typed.pass T55 T56 s53 (at31 Ψ)
+      at32 = λ Ψ. Typed.pass T55 T1 s53 (at31 Ψ)
 
       abbrev at33 : Typed.TF T54 O0
       at33 = λ Ψ. Typed.pass T54 T55 s52 (at32 Ψ)
@@ -1200,13 +863,13 @@ module _ (claims· : Claims) where
       abbrev at38 : Typed.TF T5 O0
       at38 = λ Ψ. Typed.pass T5 T6 s4 (at37 Ψ)
 
-      abbrev at39 : Typed.TF T4 O0
-      at39 = λ Ψ. Typed.pass T4 T5 s3 (at38 Ψ)
+      abbrev at39 : Typed.TF T0 O0
+      at39 = λ Ψ. Typed.pass T0 T5 s3 (at38 Ψ)
 
-      abbrev at40 : Typed.TF T3 O0
+      abbrev at40 : Typed.TF T0 O0
       at40 = λ Ψ. Typed.give s2 (at39 Ψ)
 
-      abbrev at41 : Typed.TF T2 O0
+      abbrev at41 : Typed.TF T0 O0
       at41 = λ Ψ. Typed.give s1 (at40 Ψ)
 
       abbrev at42 : Typed.TF T0 O0
@@ -1221,882 +884,436 @@ module _ (claims· : Claims) where
             A W 𝓣 0 ps·2 r·2 (claims· .4) (claims· .5) "begin::samples_needed" × Plain.Known 𝓤 H A W 𝓣 4 ps·3 r·3 (claims· .6) (claims· .7) "block_states::store_in"
 
       module _ (κs : Lifetimes.Lfts 4) (qs : Lifetimes.Shares 4) where
+        abbrev k0 : Row.Life
+        k0 = Row.lease (κs .0) (qs .0)
+
+        abbrev k1 : Row.Life
+        k1 = Row.lease (κs .1 .0) (qs .1 .0)
+
+        abbrev k2 : Row.Life
+        k2 = Row.lease (κs .1 .1 .0) (qs .1 .1 .0)
+
+        abbrev k3 : Row.Life
+        k3 = Row.lease (κs .1 .1 .1 .0) (qs .1 .1 .1 .0)
+
+        abbrev l0 : List.List Row.Life
+        l0 = k0 ∷ Row.off ∷ Row.off ∷ Row.off ∷ Row.alive ∷ Row.alive ∷ Row.alive ∷ []
+
+        abbrev l1 : List.List Row.Life
+        l1 = k0 ∷ Row.off ∷ Row.off ∷ k3 ∷ Row.alive ∷ Row.alive ∷ Row.off ∷ []
+
+        abbrev l2 : List.List Row.Life
+        l2 = k0 ∷ Row.off ∷ k2 ∷ k3 ∷ Row.alive ∷ Row.off ∷ Row.off ∷ []
+
+        abbrev l3 : List.List Row.Life
+        l3 = k0 ∷ k1 ∷ Row.off ∷ Row.off ∷ Row.dead ∷ Row.alive ∷ Row.alive ∷ []
+
+        abbrev l4 : List.List Row.Life
+        l4 = k0 ∷ k1 ∷ k2 ∷ Row.off ∷ Row.off ∷ Row.dead ∷ Row.alive ∷ []
+
+        abbrev l5 : List.List Row.Life
+        l5 = k0 ∷ k1 ∷ k2 ∷ k3 ∷ Row.off ∷ Row.off ∷ Row.off ∷ []
+
+        abbrev h0 : Row.Row
+        h0 = Relend.mslice-owed n8 y2 1 4 k1
+
+        abbrev h1 : Row.Row
+        h1 = PartMut.mslice-owedM n16 y3 2 5 k2
+
+        abbrev h2 : Row.Row
+        h2 = PartMut.mslice-owedM (Element.type) y4 3 6 k3
+
         abbrev g17 : List.List Row.Entry
-        g17 = List._∷_ e0 (List._∷_ e2 (List._∷_ e25 (List._∷_ e35 (List._∷_
-            (4, Relend.mslice-owed (Referent.rtF (Referent.fInt Syntax.w8)) (Syntax.tyRef (Syntax.named 1) Syntax.mut (Syntax.tyInt Syntax.w8)) 1 4 (Row.lease (κs .1 .0) (qs .1 .0))) (List._∷_ e38
-            (List._∷_ e40 (List._∷_ e42 (List._∷_ e46 (List._∷_ e49 (List._∷_ e4 (List._∷_ e5 (List._∷_ e7 (List._∷_ e9 (List._∷_ e11 (List._∷_ e15 List.[])))))))))))))))
+        g17 = (0, v2) ∷ (1, v3) ∷ (2, v1) ∷ (3, v1) ∷ (4, h0) ∷ (5, v7) ∷ (6, v8) ∷ (7, v6) ∷ (8, v5) ∷ (9, v16) ∷ (10, v1) ∷ (11, v0) ∷ (12, v0) ∷ (13, v2) ∷ (14, Relend.msptr n8 y7 4) ∷ (15, v9) ∷
+            []
 
         abbrev g18 : List.List Row.Entry
-        g18 = List._∷_ e0 (List._∷_ e2 (List._∷_ e25 (List._∷_ e35 (List._∷_
-            (4, Relend.mslice-owed (Referent.rtF (Referent.fInt Syntax.w8)) (Syntax.tyRef (Syntax.named 1) Syntax.mut (Syntax.tyInt Syntax.w8)) 1 4 (Row.lease (κs .1 .0) (qs .1 .0))) (List._∷_ e38
-            (List._∷_ e40 (List._∷_ e42 (List._∷_ e46 (List._∷_ e49 (List._∷_ e4 (List._∷_ e5 (List._∷_ e7 (List._∷_ e9 (List._∷_ e12 (List._∷_ e14 List.[])))))))))))))))
+        g18 = (0, v2) ∷ (1, v3) ∷ (2, v1) ∷ (3, v1) ∷ (4, h0) ∷ (5, v7) ∷ (6, v8) ∷ (7, v6) ∷ (8, v5) ∷ (9, v16) ∷ (10, v1) ∷ (11, v0) ∷ (12, v0) ∷ (13, v2) ∷ (14, v4) ∷ (15, v21) ∷ []
 
         abbrev g21 : List.List Row.Entry
-        g21 = List._∷_ e0 (List._∷_ e2 (List._∷_ e25 (List._∷_ e35 (List._∷_
-            (4, Relend.mslice-owed (Referent.rtF (Referent.fInt Syntax.w8)) (Syntax.tyRef (Syntax.named 1) Syntax.mut (Syntax.tyInt Syntax.w8)) 1 4 (Row.lease (κs .1 .0) (qs .1 .0))) (List._∷_
-            (5, PartMut.mslice-owedM (Referent.rtF (Referent.fInt Syntax.w16)) (Syntax.tyRef (Syntax.named 2) Syntax.mut (Syntax.tyInt Syntax.w16)) 2 5 (Row.lease (κs .1 .1 .0) (qs .1 .1 .0))) (List._∷_
-            e40 (List._∷_ e42 (List._∷_ e46 (List._∷_ e49 (List._∷_ e4 (List._∷_ e5 (List._∷_ e7 (List._∷_ e9 (List._∷_ e12 (List._∷_ e14 List.[])))))))))))))))
+        g21 = (0, v2) ∷ (1, v3) ∷ (2, v1) ∷ (3, v1) ∷ (4, h0) ∷ (5, h1) ∷ (6, v8) ∷ (7, v6) ∷ (8, v5) ∷ (9, v16) ∷ (10, v1) ∷ (11, v0) ∷ (12, v0) ∷ (13, v2) ∷ (14, v4) ∷ (15, v21) ∷ []
 
         abbrev g28 : List.List Row.Entry
-        g28 = List._∷_ e0 (List._∷_ e2 (List._∷_ e25 (List._∷_ e35 (List._∷_
-            (4, Relend.mslice-owed (Referent.rtF (Referent.fInt Syntax.w8)) (Syntax.tyRef (Syntax.named 1) Syntax.mut (Syntax.tyInt Syntax.w8)) 1 4 (Row.lease (κs .1 .0) (qs .1 .0))) (List._∷_
-            (5, PartMut.mslice-owedM (Referent.rtF (Referent.fInt Syntax.w16)) (Syntax.tyRef (Syntax.named 2) Syntax.mut (Syntax.tyInt Syntax.w16)) 2 5 (Row.lease (κs .1 .1 .0) (qs .1 .1 .0))) (List._∷_
-            (6, PartMut.mslice-owedM (Element.type) (Syntax.tyRef (Syntax.named 3) Syntax.mut Element.behind) 3 6 (Row.lease (κs .1 .1 .1 .0) (qs .1 .1 .1 .0))) (List._∷_ e42 (List._∷_ e46 (List._∷_ e49
-            (List._∷_ e4 (List._∷_ e5 (List._∷_ e7 (List._∷_ e9 (List._∷_ e12 (List._∷_ e14 List.[])))))))))))))))
+        g28 = (0, v2) ∷ (1, v3) ∷ (2, v1) ∷ (3, v1) ∷ (4, h0) ∷ (5, h1) ∷ (6, h2) ∷ (7, v6) ∷ (8, v5) ∷ (9, v16) ∷ (10, v1) ∷ (11, v0) ∷ (12, v0) ∷ (13, v2) ∷ (14, v4) ∷ (15, v21) ∷ []
 
         abbrev g33 : List.List Row.Entry
-        g33 = List._∷_ e0 (List._∷_ e2 (List._∷_ e25 (List._∷_ e35 (List._∷_
-            (4, Relend.mslice-owed (Referent.rtF (Referent.fInt Syntax.w8)) (Syntax.tyRef (Syntax.named 1) Syntax.mut (Syntax.tyInt Syntax.w8)) 1 4 (Row.lease (κs .1 .0) (qs .1 .0))) (List._∷_
-            (5, PartMut.mslice-owedM (Referent.rtF (Referent.fInt Syntax.w16)) (Syntax.tyRef (Syntax.named 2) Syntax.mut (Syntax.tyInt Syntax.w16)) 2 5 (Row.lease (κs .1 .1 .0) (qs .1 .1 .0))) (List._∷_
-            (6, PartMut.mslice-owedM (Element.type) (Syntax.tyRef (Syntax.named 3) Syntax.mut Element.behind) 3 6 (Row.lease (κs .1 .1 .1 .0) (qs .1 .1 .1 .0))) (List._∷_ e42 (List._∷_ e46 (List._∷_ e49
-            (List._∷_ e4 (List._∷_ e5 (List._∷_ e7 (List._∷_ e10 (List._∷_ e12 (List._∷_ e13 List.[])))))))))))))))
+        g33 = (0, v2) ∷ (1, v3) ∷ (2, v1) ∷ (3, v1) ∷ (4, h0) ∷ (5, h1) ∷ (6, h2) ∷ (7, v6) ∷ (8, v5) ∷ (9, v16) ∷ (10, v1) ∷ (11, v0) ∷ (12, v0) ∷ (13, v13) ∷ (14, v4) ∷ (15, v25) ∷ []
 
         abbrev g35 : List.List Row.Entry
-        g35 = List._∷_ e0 (List._∷_ e2 (List._∷_ e25 (List._∷_ e35 (List._∷_
-            (4, Relend.mslice-owed (Referent.rtF (Referent.fInt Syntax.w8)) (Syntax.tyRef (Syntax.named 1) Syntax.mut (Syntax.tyInt Syntax.w8)) 1 4 (Row.lease (κs .1 .0) (qs .1 .0))) (List._∷_
-            (5, PartMut.mslice-owedM (Referent.rtF (Referent.fInt Syntax.w16)) (Syntax.tyRef (Syntax.named 2) Syntax.mut (Syntax.tyInt Syntax.w16)) 2 5 (Row.lease (κs .1 .1 .0) (qs .1 .1 .0))) (List._∷_
-            (6, PartMut.mslice-owedM (Element.type) (Syntax.tyRef (Syntax.named 3) Syntax.mut Element.behind) 3 6 (Row.lease (κs .1 .1 .1 .0) (qs .1 .1 .1 .0))) (List._∷_ e42 (List._∷_ e46 (List._∷_ e48
-            (List._∷_ e4 (List._∷_ e5 (List._∷_ e7 (List._∷_ e10 (List._∷_ e12 (List._∷_ e13 List.[])))))))))))))))
+        g35 = (0, v2) ∷ (1, v3) ∷ (2, v1) ∷ (3, v1) ∷ (4, h0) ∷ (5, h1) ∷ (6, h2) ∷ (7, v6) ∷ (8, v5) ∷ (9, v10) ∷ (10, v1) ∷ (11, v0) ∷ (12, v0) ∷ (13, v13) ∷ (14, v4) ∷ (15, v25) ∷ []
 
         abbrev g36 : List.List Row.Entry
-        g36 = List._∷_ e0 (List._∷_ e2 (List._∷_ e25 (List._∷_ e35 (List._∷_
-            (4, Relend.mslice-owed (Referent.rtF (Referent.fInt Syntax.w8)) (Syntax.tyRef (Syntax.named 1) Syntax.mut (Syntax.tyInt Syntax.w8)) 1 4 (Row.lease (κs .1 .0) (qs .1 .0))) (List._∷_
-            (5, PartMut.mslice-owedM (Referent.rtF (Referent.fInt Syntax.w16)) (Syntax.tyRef (Syntax.named 2) Syntax.mut (Syntax.tyInt Syntax.w16)) 2 5 (Row.lease (κs .1 .1 .0) (qs .1 .1 .0))) (List._∷_
-            (6, PartMut.mslice-owedM (Element.type) (Syntax.tyRef (Syntax.named 3) Syntax.mut Element.behind) 3 6 (Row.lease (κs .1 .1 .1 .0) (qs .1 .1 .1 .0))) (List._∷_ e42 (List._∷_ e46 (List._∷_ e48
-            (List._∷_ e3 (List._∷_ e5 (List._∷_ e7 (List._∷_ e10 (List._∷_ e12 (List._∷_ e13 List.[])))))))))))))))
+        g36 = (0, v2) ∷ (1, v3) ∷ (2, v1) ∷ (3, v1) ∷ (4, h0) ∷ (5, h1) ∷ (6, h2) ∷ (7, v6) ∷ (8, v5) ∷ (9, v10) ∷ (10, v0) ∷ (11, v0) ∷ (12, v0) ∷ (13, v13) ∷ (14, v4) ∷ (15, v25) ∷ []
 
         abbrev g37 : List.List Row.Entry
-        g37 = List._∷_ e0 (List._∷_ e2 (List._∷_ e25 (List._∷_ e35 (List._∷_ e36 (List._∷_
-            (5, PartMut.mslice-owedM (Referent.rtF (Referent.fInt Syntax.w16)) (Syntax.tyRef (Syntax.named 2) Syntax.mut (Syntax.tyInt Syntax.w16)) 2 5 (Row.lease (κs .1 .1 .0) (qs .1 .1 .0))) (List._∷_
-            (6, PartMut.mslice-owedM (Element.type) (Syntax.tyRef (Syntax.named 3) Syntax.mut Element.behind) 3 6 (Row.lease (κs .1 .1 .1 .0) (qs .1 .1 .1 .0))) (List._∷_ e42 (List._∷_ e46 (List._∷_ e48
-            (List._∷_ e3 (List._∷_ e5 (List._∷_ e7 (List._∷_ e10 (List._∷_ e12 (List._∷_ e15 List.[])))))))))))))))
+        g37 = (0, v2) ∷ (1, v3) ∷ (2, v1) ∷ (3, v1) ∷ (4, v12) ∷ (5, h1) ∷ (6, h2) ∷ (7, v6) ∷ (8, v5) ∷ (9, v10) ∷ (10, v0) ∷ (11, v0) ∷ (12, v0) ∷ (13, v13) ∷ (14, v4) ∷ (15, v9) ∷ []
 
         abbrev g38 : List.List Row.Entry
-        g38 = List._∷_ e0 (List._∷_ e2 (List._∷_ e25 (List._∷_ e35 (List._∷_ e36 (List._∷_ e38 (List._∷_
-            (6, PartMut.mslice-owedM (Element.type) (Syntax.tyRef (Syntax.named 3) Syntax.mut Element.behind) 3 6 (Row.lease (κs .1 .1 .1 .0) (qs .1 .1 .1 .0))) (List._∷_ e42 (List._∷_ e46 (List._∷_ e48
-            (List._∷_ e3 (List._∷_ e5 (List._∷_ e7 (List._∷_ e10 (List._∷_ e12 (List._∷_ e15 List.[])))))))))))))))
-
-        abbrev G0 : Row.Cx
-        G0 = record {
-          locals = List._++_ t0 t1;
-          slots = List._∷_ (Row.lease (κs .0) (qs .0)) (List._∷_ (Row.lease (κs .1 .0) (qs .1 .0)) (List._∷_ (Row.lease (κs .1 .1 .0) (qs .1 .1 .0)) (List._∷_ (Row.lease (κs
-              .1 .1 .1 .0) (qs .1 .1 .1 .0)) (List._∷_ Row.off (List._∷_ Row.off (List._∷_ Row.off List.[]))))));
-        }
-
-        abbrev G1 : Row.Cx
-        G1 = record {
-          locals = List._++_ t2 t1;
-          slots = List._∷_ (Row.lease (κs .0) (qs .0)) (List._∷_ (Row.lease (κs .1 .0) (qs .1 .0)) (List._∷_ (Row.lease (κs .1 .1 .0) (qs .1 .1 .0)) (List._∷_ (Row.lease (κs
-              .1 .1 .1 .0) (qs .1 .1 .1 .0)) (List._∷_ Row.off (List._∷_ Row.off (List._∷_ Row.off List.[]))))));
-        }
-
-        abbrev G2 : Row.Cx
-        G2 = record {
-          locals = List._++_ t0 t1;
-          slots = List._∷_ (Row.lease (κs .0) (qs .0)) (List._∷_ (Row.lease (κs .1 .0) (qs .1 .0)) (List._∷_ (Row.lease (κs .1 .1 .0) (qs .1 .1 .0)) (List._∷_ (Row.lease (κs
-              .1 .1 .1 .0) (qs .1 .1 .1 .0)) (List._∷_ Row.off (List._∷_ Row.off (List._∷_ Row.off List.[]))))));
-        }
-
-        abbrev G3 : Row.Cx
-        G3 = record {
-          locals = List._++_ t0 t1;
-          slots = List._∷_ (Row.lease (κs .0) (qs .0)) (List._∷_ (Row.lease (κs .1 .0) (qs .1 .0)) (List._∷_ (Row.lease (κs .1 .1 .0) (qs .1 .1 .0)) (List._∷_ (Row.lease (κs
-              .1 .1 .1 .0) (qs .1 .1 .1 .0)) (List._∷_ Row.off (List._∷_ Row.off (List._∷_ Row.off List.[]))))));
-        }
-
-        abbrev G4 : Row.Cx
-        G4 = record {
-          locals = List._++_ t0 t1;
-          slots = List._∷_ (Row.lease (κs .0) (qs .0)) (List._∷_ (Row.lease (κs .1 .0) (qs .1 .0)) (List._∷_ (Row.lease (κs .1 .1 .0) (qs .1 .1 .0)) (List._∷_ (Row.lease (κs
-              .1 .1 .1 .0) (qs .1 .1 .1 .0)) (List._∷_ Row.off (List._∷_ Row.off (List._∷_ Row.off List.[]))))));
-        }
-
-        abbrev G5 : Row.Cx
-        G5 = record {
-          locals = List._++_ t3 t1;
-          slots = List._∷_ (Row.lease (κs .0) (qs .0)) (List._∷_ (Row.lease (κs .1 .0) (qs .1 .0)) (List._∷_ (Row.lease (κs .1 .1 .0) (qs .1 .1 .0)) (List._∷_ (Row.lease (κs
-              .1 .1 .1 .0) (qs .1 .1 .1 .0)) (List._∷_ Row.off (List._∷_ Row.off (List._∷_ Row.off List.[]))))));
-        }
-
-        abbrev G6 : Row.Cx
-        G6 = record {
-          locals = List._++_ t4 t1;
-          slots = List._∷_ (Row.lease (κs .0) (qs .0)) (List._∷_ (Row.lease (κs .1 .0) (qs .1 .0)) (List._∷_ (Row.lease (κs .1 .1 .0) (qs .1 .1 .0)) (List._∷_ (Row.lease (κs
-              .1 .1 .1 .0) (qs .1 .1 .1 .0)) (List._∷_ Row.off (List._∷_ Row.off (List._∷_ Row.off List.[]))))));
-        }
-
-        abbrev G7 : Row.Cx
-        G7 = record {
-          locals = List._++_ t5 t1;
-          slots = List._∷_ (Row.lease (κs .0) (qs .0)) (List._∷_ (Row.lease (κs .1 .0) (qs .1 .0)) (List._∷_ (Row.lease (κs .1 .1 .0) (qs .1 .1 .0)) (List._∷_ (Row.lease (κs
-              .1 .1 .1 .0) (qs .1 .1 .1 .0)) (List._∷_ Row.off (List._∷_ Row.off (List._∷_ Row.off List.[]))))));
-        }
-
-        abbrev G8 : Row.Cx
-        G8 = record {
-          locals = List._++_ t6 t1;
-          slots = List._∷_ (Row.lease (κs .0) (qs .0)) (List._∷_ (Row.lease (κs .1 .0) (qs .1 .0)) (List._∷_ (Row.lease (κs .1 .1 .0) (qs .1 .1 .0)) (List._∷_ (Row.lease (κs
-              .1 .1 .1 .0) (qs .1 .1 .1 .0)) (List._∷_ Row.off (List._∷_ Row.off (List._∷_ Row.off List.[]))))));
-        }
-
-        abbrev G9 : Row.Cx
-        G9 = record {
-          locals = List._++_ t7 t1;
-          slots = List._∷_ (Row.lease (κs .0) (qs .0)) (List._∷_ (Row.lease (κs .1 .0) (qs .1 .0)) (List._∷_ (Row.lease (κs .1 .1 .0) (qs .1 .1 .0)) (List._∷_ (Row.lease (κs
-              .1 .1 .1 .0) (qs .1 .1 .1 .0)) (List._∷_ Row.off (List._∷_ Row.off (List._∷_ Row.off List.[]))))));
-        }
-
-        abbrev G10 : Row.Cx
-        G10 = record {
-          locals = List._++_ t8 t1;
-          slots = List._∷_ (Row.lease (κs .0) (qs .0)) (List._∷_ (Row.lease (κs .1 .0) (qs .1 .0)) (List._∷_ (Row.lease (κs .1 .1 .0) (qs .1 .1 .0)) (List._∷_ (Row.lease (κs
-              .1 .1 .1 .0) (qs .1 .1 .1 .0)) (List._∷_ Row.off (List._∷_ Row.off (List._∷_ Row.off List.[]))))));
-        }
-
-        abbrev G11 : Row.Cx
-        G11 = record {
-          locals = List._++_ t9 t1;
-          slots = List._∷_ (Row.lease (κs .0) (qs .0)) (List._∷_ (Row.lease (κs .1 .0) (qs .1 .0)) (List._∷_ (Row.lease (κs .1 .1 .0) (qs .1 .1 .0)) (List._∷_ (Row.lease (κs
-              .1 .1 .1 .0) (qs .1 .1 .1 .0)) (List._∷_ Row.off (List._∷_ Row.off (List._∷_ Row.off List.[]))))));
-        }
-
-        abbrev G12 : Row.Cx
-        G12 = record {
-          locals = List._++_ t9 t1;
-          slots = List._∷_ (Row.lease (κs .0) (qs .0)) (List._∷_ (Row.lease (κs .1 .0) (qs .1 .0)) (List._∷_ (Row.lease (κs .1 .1 .0) (qs .1 .1 .0)) (List._∷_ (Row.lease (κs
-              .1 .1 .1 .0) (qs .1 .1 .1 .0)) (List._∷_ Row.off (List._∷_ Row.off (List._∷_ Row.off List.[]))))));
-        }
-
-        abbrev G13 : Row.Cx
-        G13 = record {
-          locals = List._++_ t10 t1;
-          slots = List._∷_ (Row.lease (κs .0) (qs .0)) (List._∷_ (Row.lease (κs .1 .0) (qs .1 .0)) (List._∷_ (Row.lease (κs .1 .1 .0) (qs .1 .1 .0)) (List._∷_ (Row.lease (κs
-              .1 .1 .1 .0) (qs .1 .1 .1 .0)) (List._∷_ Row.off (List._∷_ Row.off (List._∷_ Row.off List.[]))))));
-        }
-
-        abbrev G14 : Row.Cx
-        G14 = record {
-          locals = List._++_ t11 t1;
-          slots = List._∷_ (Row.lease (κs .0) (qs .0)) (List._∷_ (Row.lease (κs .1 .0) (qs .1 .0)) (List._∷_ (Row.lease (κs .1 .1 .0) (qs .1 .1 .0)) (List._∷_ (Row.lease (κs
-              .1 .1 .1 .0) (qs .1 .1 .1 .0)) (List._∷_ Row.off (List._∷_ Row.off (List._∷_ Row.off List.[]))))));
-        }
-
-        abbrev G15 : Row.Cx
-        G15 = record {
-          locals = List._++_ t12 t1;
-          slots = List._∷_ (Row.lease (κs .0) (qs .0)) (List._∷_ (Row.lease (κs .1 .0) (qs .1 .0)) (List._∷_ (Row.lease (κs .1 .1 .0) (qs .1 .1 .0)) (List._∷_ (Row.lease (κs
-              .1 .1 .1 .0) (qs .1 .1 .1 .0)) (List._∷_ Row.off (List._∷_ Row.off (List._∷_ Row.off List.[]))))));
-        }
-
-        abbrev G16 : Row.Cx
-        G16 = record {
-          locals = List._++_ t6 t1;
-          slots = List._∷_ (Row.lease (κs .0) (qs .0)) (List._∷_ (Row.lease (κs .1 .0) (qs .1 .0)) (List._∷_ (Row.lease (κs .1 .1 .0) (qs .1 .1 .0)) (List._∷_ (Row.lease (κs
-              .1 .1 .1 .0) (qs .1 .1 .1 .0)) (List._∷_ Row.off (List._∷_ Row.off (List._∷_ Row.off List.[]))))));
-        }
-
-        abbrev G17 : Row.Cx
-        G17 = record {
-          locals = List._++_ t13 t1;
-          slots = List._∷_ (Row.lease (κs .0) (qs .0)) (List._∷_ (Row.lease (κs .1 .0) (qs .1 .0)) (List._∷_ (Row.lease (κs .1 .1 .0) (qs .1 .1 .0)) (List._∷_ (Row.lease (κs
-              .1 .1 .1 .0) (qs .1 .1 .1 .0)) (List._∷_ Row.off (List._∷_ Row.off (List._∷_ Row.off List.[]))))));
-        }
-
-        abbrev G18 : Row.Cx
-        G18 = record {
-          locals = List._++_ t13 t1;
-          slots = List._∷_ (Row.lease (κs .0) (qs .0)) (List._∷_ (Row.lease (κs .1 .0) (qs .1 .0)) (List._∷_ (Row.lease (κs .1 .1 .0) (qs .1 .1 .0)) (List._∷_ (Row.lease (κs
-              .1 .1 .1 .0) (qs .1 .1 .1 .0)) (List._∷_ Row.off (List._∷_ Row.off (List._∷_ Row.off List.[]))))));
-        }
-
-        abbrev G19 : Row.Cx
-        G19 = record {
-          locals = List._++_ t14 t1;
-          slots = List._∷_ (Row.lease (κs .0) (qs .0)) (List._∷_ (Row.lease (κs .1 .0) (qs .1 .0)) (List._∷_ (Row.lease (κs .1 .1 .0) (qs .1 .1 .0)) (List._∷_ (Row.lease (κs
-              .1 .1 .1 .0) (qs .1 .1 .1 .0)) (List._∷_ Row.off (List._∷_ Row.off (List._∷_ Row.off List.[]))))));
-        }
-
-        abbrev G20 : Row.Cx
-        G20 = record {
-          locals = List._++_ t15 t1;
-          slots = List._∷_ (Row.lease (κs .0) (qs .0)) (List._∷_ (Row.lease (κs .1 .0) (qs .1 .0)) (List._∷_ (Row.lease (κs .1 .1 .0) (qs .1 .1 .0)) (List._∷_ (Row.lease (κs
-              .1 .1 .1 .0) (qs .1 .1 .1 .0)) (List._∷_ Row.off (List._∷_ Row.off (List._∷_ Row.off List.[]))))));
-        }
-
-        abbrev G21 : Row.Cx
-        G21 = record {
-          locals = List._++_ t16 t1;
-          slots = List._∷_ (Row.lease (κs .0) (qs .0)) (List._∷_ (Row.lease (κs .1 .0) (qs .1 .0)) (List._∷_ (Row.lease (κs .1 .1 .0) (qs .1 .1 .0)) (List._∷_ (Row.lease (κs
-              .1 .1 .1 .0) (qs .1 .1 .1 .0)) (List._∷_ Row.off (List._∷_ Row.off (List._∷_ Row.off List.[]))))));
-        }
+        g38 = (0, v2) ∷ (1, v3) ∷ (2, v1) ∷ (3, v1) ∷ (4, v12) ∷ (5, v7) ∷ (6, h2) ∷ (7, v6) ∷ (8, v5) ∷ (9, v10) ∷ (10, v0) ∷ (11, v0) ∷ (12, v0) ∷ (13, v13) ∷ (14, v4) ∷ (15, v9) ∷ []
 
         abbrev G22 : Row.Cx
-        G22 = record {
-          locals = List._++_ t16 t1;
-          slots = List._∷_ (Row.lease (κs .0) (qs .0)) (List._∷_ (Row.lease (κs .1 .0) (qs .1 .0)) (List._∷_ (Row.lease (κs .1 .1 .0) (qs .1 .1 .0)) (List._∷_ (Row.lease (κs
-              .1 .1 .1 .0) (qs .1 .1 .1 .0)) (List._∷_ Row.alive (List._∷_ Row.off (List._∷_ Row.off List.[]))))));
-        }
+        G22 = record { locals = List._++_ t16 t1; slots = k0 ∷ k1 ∷ k2 ∷ k3 ∷ Row.alive ∷ Row.off ∷ Row.off ∷ [] }
 
         abbrev G23 : Row.Cx
-        G23 = record {
-          locals = List._++_ g17 t1;
-          slots = List._∷_ (Row.lease (κs .0) (qs .0)) (List._∷_ Row.off (List._∷_ (Row.lease (κs .1 .1 .0) (qs .1 .1 .0)) (List._∷_ (Row.lease (κs .1 .1 .1 .0) (qs .1 .1 .1
-              .0)) (List._∷_ Row.alive (List._∷_ Row.off (List._∷_ Row.off List.[]))))));
-        }
+        G23 = record { locals = List._++_ g17 t1; slots = l2 }
 
         abbrev G24 : Row.Cx
-        G24 = record {
-          locals = List._++_ g18 t1;
-          slots = List._∷_ (Row.lease (κs .0) (qs .0)) (List._∷_ Row.off (List._∷_ (Row.lease (κs .1 .1 .0) (qs .1 .1 .0)) (List._∷_ (Row.lease (κs .1 .1 .1 .0) (qs .1 .1 .1
-              .0)) (List._∷_ Row.alive (List._∷_ Row.off (List._∷_ Row.off List.[]))))));
-        }
+        G24 = record { locals = List._++_ g18 t1; slots = l2 }
 
         abbrev G25 : Row.Cx
-        G25 = record {
-          locals = List._++_ g18 t19;
-          slots = List._∷_ (Row.lease (κs .0) (qs .0)) (List._∷_ Row.off (List._∷_ (Row.lease (κs .1 .1 .0) (qs .1 .1 .0)) (List._∷_ (Row.lease (κs .1 .1 .1 .0) (qs .1 .1
-              .1 .0)) (List._∷_ Row.alive (List._∷_ Row.off (List._∷_ Row.off List.[]))))));
-        }
+        G25 = record { locals = List._++_ g18 t19; slots = l2 }
 
         abbrev G26 : Row.Cx
-        G26 = record {
-          locals = List._++_ g18 t20;
-          slots = List._∷_ (Row.lease (κs .0) (qs .0)) (List._∷_ Row.off (List._∷_ (Row.lease (κs .1 .1 .0) (qs .1 .1 .0)) (List._∷_ (Row.lease (κs .1 .1 .1 .0) (qs .1 .1
-              .1 .0)) (List._∷_ Row.alive (List._∷_ Row.off (List._∷_ Row.off List.[]))))));
-        }
+        G26 = record { locals = List._++_ g18 t20; slots = l2 }
 
         abbrev G27 : Row.Cx
-        G27 = record {
-          locals = List._++_ g18 t20;
-          slots = List._∷_ (Row.lease (κs .0) (qs .0)) (List._∷_ Row.off (List._∷_ (Row.lease (κs .1 .1 .0) (qs .1 .1 .0)) (List._∷_ (Row.lease (κs .1 .1 .1 .0) (qs .1 .1
-              .1 .0)) (List._∷_ Row.alive (List._∷_ Row.alive (List._∷_ Row.off List.[]))))));
-        }
+        G27 = record { locals = List._++_ g18 t20; slots = k0 ∷ Row.off ∷ k2 ∷ k3 ∷ Row.alive ∷ Row.alive ∷ Row.off ∷ [] }
 
         abbrev G28 : Row.Cx
-        G28 = record {
-          locals = List._++_ g21 t22;
-          slots = List._∷_ (Row.lease (κs .0) (qs .0)) (List._∷_ Row.off (List._∷_ Row.off (List._∷_ (Row.lease (κs .1 .1 .1 .0) (qs .1 .1 .1 .0)) (List._∷_ Row.alive
-              (List._∷_ Row.alive (List._∷_ Row.off List.[]))))));
-        }
+        G28 = record { locals = List._++_ g21 t22; slots = l1 }
 
         abbrev G29 : Row.Cx
-        G29 = record {
-          locals = List._++_ g21 t23;
-          slots = List._∷_ (Row.lease (κs .0) (qs .0)) (List._∷_ Row.off (List._∷_ Row.off (List._∷_ (Row.lease (κs .1 .1 .1 .0) (qs .1 .1 .1 .0)) (List._∷_ Row.alive
-              (List._∷_ Row.alive (List._∷_ Row.off List.[]))))));
-        }
+        G29 = record { locals = List._++_ g21 t23; slots = l1 }
 
         abbrev G30 : Row.Cx
-        G30 = record {
-          locals = List._++_ g21 t24;
-          slots = List._∷_ (Row.lease (κs .0) (qs .0)) (List._∷_ Row.off (List._∷_ Row.off (List._∷_ (Row.lease (κs .1 .1 .1 .0) (qs .1 .1 .1 .0)) (List._∷_ Row.alive
-              (List._∷_ Row.alive (List._∷_ Row.off List.[]))))));
-        }
+        G30 = record { locals = List._++_ g21 t24; slots = l1 }
 
         abbrev G31 : Row.Cx
-        G31 = record {
-          locals = List._++_ g21 t25;
-          slots = List._∷_ (Row.lease (κs .0) (qs .0)) (List._∷_ Row.off (List._∷_ Row.off (List._∷_ (Row.lease (κs .1 .1 .1 .0) (qs .1 .1 .1 .0)) (List._∷_ Row.alive
-              (List._∷_ Row.alive (List._∷_ Row.off List.[]))))));
-        }
+        G31 = record { locals = List._++_ g21 t25; slots = l1 }
 
         abbrev G32 : Row.Cx
-        G32 = record {
-          locals = List._++_ g21 t26;
-          slots = List._∷_ (Row.lease (κs .0) (qs .0)) (List._∷_ Row.off (List._∷_ Row.off (List._∷_ (Row.lease (κs .1 .1 .1 .0) (qs .1 .1 .1 .0)) (List._∷_ Row.alive
-              (List._∷_ Row.alive (List._∷_ Row.off List.[]))))));
-        }
+        G32 = record { locals = List._++_ g21 t26; slots = l1 }
 
         abbrev G33 : Row.Cx
-        G33 = record {
-          locals = List._++_ g21 t27;
-          slots = List._∷_ (Row.lease (κs .0) (qs .0)) (List._∷_ Row.off (List._∷_ Row.off (List._∷_ (Row.lease (κs .1 .1 .1 .0) (qs .1 .1 .1 .0)) (List._∷_ Row.alive
-              (List._∷_ Row.alive (List._∷_ Row.off List.[]))))));
-        }
+        G33 = record { locals = List._++_ g21 t27; slots = l1 }
 
         abbrev G34 : Row.Cx
-        G34 = record {
-          locals = List._++_ g21 t27;
-          slots = List._∷_ (Row.lease (κs .0) (qs .0)) (List._∷_ Row.off (List._∷_ Row.off (List._∷_ (Row.lease (κs .1 .1 .1 .0) (qs .1 .1 .1 .0)) (List._∷_ Row.alive
-              (List._∷_ Row.alive (List._∷_ Row.alive List.[]))))));
-        }
+        G34 = record { locals = List._++_ g21 t27; slots = k0 ∷ Row.off ∷ Row.off ∷ k3 ∷ Row.alive ∷ Row.alive ∷ Row.alive ∷ [] }
 
         abbrev G35 : Row.Cx
-        G35 = record {
-          locals = List._++_ g28 t29;
-          slots = List._∷_ (Row.lease (κs .0) (qs .0)) (List._∷_ Row.off (List._∷_ Row.off (List._∷_ Row.off (List._∷_ Row.alive (List._∷_ Row.alive (List._∷_ Row.alive
-              List.[]))))));
-        }
+        G35 = record { locals = List._++_ g28 t29; slots = l0 }
 
         abbrev G36 : Row.Cx
-        G36 = record {
-          locals = List._++_ g28 t30;
-          slots = List._∷_ (Row.lease (κs .0) (qs .0)) (List._∷_ Row.off (List._∷_ Row.off (List._∷_ Row.off (List._∷_ Row.alive (List._∷_ Row.alive (List._∷_ Row.alive
-              List.[]))))));
-        }
+        G36 = record { locals = List._++_ g28 t30; slots = l0 }
 
         abbrev G37 : Row.Cx
-        G37 = record {
-          locals = List._++_ g28 t31;
-          slots = List._∷_ (Row.lease (κs .0) (qs .0)) (List._∷_ Row.off (List._∷_ Row.off (List._∷_ Row.off (List._∷_ Row.alive (List._∷_ Row.alive (List._∷_ Row.alive
-              List.[]))))));
-        }
+        G37 = record { locals = List._++_ g28 t31; slots = l0 }
 
         abbrev G38 : Row.Cx
-        G38 = record {
-          locals = List._++_ g28 t32;
-          slots = List._∷_ (Row.lease (κs .0) (qs .0)) (List._∷_ Row.off (List._∷_ Row.off (List._∷_ Row.off (List._∷_ Row.alive (List._∷_ Row.alive (List._∷_ Row.alive
-              List.[]))))));
-        }
+        G38 = record { locals = List._++_ g28 t32; slots = l0 }
 
         abbrev G39 : Row.Cx
-        G39 = record {
-          locals = List._++_ g33 t34;
-          slots = List._∷_ (Row.lease (κs .0) (qs .0)) (List._∷_ Row.off (List._∷_ Row.off (List._∷_ Row.off (List._∷_ Row.alive (List._∷_ Row.alive (List._∷_ Row.alive
-              List.[]))))));
-        }
+        G39 = record { locals = List._++_ g33 t34; slots = l0 }
 
         abbrev G40 : Row.Cx
-        G40 = record {
-          locals = List._++_ g35 t34;
-          slots = List._∷_ (Row.lease (κs .0) (qs .0)) (List._∷_ Row.off (List._∷_ Row.off (List._∷_ Row.off (List._∷_ Row.alive (List._∷_ Row.alive (List._∷_ Row.alive
-              List.[]))))));
-        }
+        G40 = record { locals = List._++_ g35 t34; slots = l0 }
 
         abbrev G41 : Row.Cx
-        G41 = record {
-          locals = List._++_ g36 t34;
-          slots = List._∷_ (Row.lease (κs .0) (qs .0)) (List._∷_ Row.off (List._∷_ Row.off (List._∷_ Row.off (List._∷_ Row.alive (List._∷_ Row.alive (List._∷_ Row.alive
-              List.[]))))));
-        }
+        G41 = record { locals = List._++_ g36 t34; slots = l0 }
 
         abbrev G42 : Row.Cx
-        G42 = record {
-          locals = List._++_ g36 t34;
-          slots = List._∷_ (Row.lease (κs .0) (qs .0)) (List._∷_ Row.off (List._∷_ Row.off (List._∷_ Row.off (List._∷_ Row.dead (List._∷_ Row.alive (List._∷_ Row.alive
-              List.[]))))));
-        }
+        G42 = record { locals = List._++_ g36 t34; slots = k0 ∷ Row.off ∷ Row.off ∷ Row.off ∷ Row.dead ∷ Row.alive ∷ Row.alive ∷ [] }
 
         abbrev G43 : Row.Cx
-        G43 = record {
-          locals = List._++_ g37 t34;
-          slots = List._∷_ (Row.lease (κs .0) (qs .0)) (List._∷_ (Row.lease (κs .1 .0) (qs .1 .0)) (List._∷_ Row.off (List._∷_ Row.off (List._∷_ Row.dead (List._∷_
-              Row.alive (List._∷_ Row.alive List.[]))))));
-        }
-
-        abbrev G44 : Row.Cx
-        G44 = record {
-          locals = List._++_ g37 t34;
-          slots = List._∷_ (Row.lease (κs .0) (qs .0)) (List._∷_ (Row.lease (κs .1 .0) (qs .1 .0)) (List._∷_ Row.off (List._∷_ Row.off (List._∷_ Row.dead (List._∷_
-              Row.alive (List._∷_ Row.alive List.[]))))));
-        }
+        G43 = record { locals = List._++_ g37 t34; slots = l3 }
 
         abbrev G45 : Row.Cx
-        G45 = record {
-          locals = List._++_ g37 t34;
-          slots = List._∷_ (Row.lease (κs .0) (qs .0)) (List._∷_ (Row.lease (κs .1 .0) (qs .1 .0)) (List._∷_ Row.off (List._∷_ Row.off (List._∷_ Row.off (List._∷_ Row.alive
-              (List._∷_ Row.alive List.[]))))));
-        }
+        G45 = record { locals = List._++_ g37 t34; slots = k0 ∷ k1 ∷ Row.off ∷ Row.off ∷ Row.off ∷ Row.alive ∷ Row.alive ∷ [] }
 
         abbrev G46 : Row.Cx
-        G46 = record {
-          locals = List._++_ g37 t34;
-          slots = List._∷_ (Row.lease (κs .0) (qs .0)) (List._∷_ (Row.lease (κs .1 .0) (qs .1 .0)) (List._∷_ Row.off (List._∷_ Row.off (List._∷_ Row.off (List._∷_ Row.dead
-              (List._∷_ Row.alive List.[]))))));
-        }
+        G46 = record { locals = List._++_ g37 t34; slots = k0 ∷ k1 ∷ Row.off ∷ Row.off ∷ Row.off ∷ Row.dead ∷ Row.alive ∷ [] }
 
         abbrev G47 : Row.Cx
-        G47 = record {
-          locals = List._++_ g38 t39;
-          slots = List._∷_ (Row.lease (κs .0) (qs .0)) (List._∷_ (Row.lease (κs .1 .0) (qs .1 .0)) (List._∷_ (Row.lease (κs .1 .1 .0) (qs .1 .1 .0)) (List._∷_ Row.off
-              (List._∷_ Row.off (List._∷_ Row.dead (List._∷_ Row.alive List.[]))))));
-        }
-
-        abbrev G48 : Row.Cx
-        G48 = record {
-          locals = List._++_ g38 t39;
-          slots = List._∷_ (Row.lease (κs .0) (qs .0)) (List._∷_ (Row.lease (κs .1 .0) (qs .1 .0)) (List._∷_ (Row.lease (κs .1 .1 .0) (qs .1 .1 .0)) (List._∷_ Row.off
-              (List._∷_ Row.off (List._∷_ Row.dead (List._∷_ Row.alive List.[]))))));
-        }
+        G47 = record { locals = List._++_ g38 t39; slots = l4 }
 
         abbrev G49 : Row.Cx
-        G49 = record {
-          locals = List._++_ g38 t39;
-          slots = List._∷_ (Row.lease (κs .0) (qs .0)) (List._∷_ (Row.lease (κs .1 .0) (qs .1 .0)) (List._∷_ (Row.lease (κs .1 .1 .0) (qs .1 .1 .0)) (List._∷_ Row.off
-              (List._∷_ Row.off (List._∷_ Row.off (List._∷_ Row.alive List.[]))))));
-        }
+        G49 = record { locals = List._++_ g38 t39; slots = k0 ∷ k1 ∷ k2 ∷ Row.off ∷ Row.off ∷ Row.off ∷ Row.alive ∷ [] }
 
         abbrev G50 : Row.Cx
-        G50 = record {
-          locals = List._++_ g38 t39;
-          slots = List._∷_ (Row.lease (κs .0) (qs .0)) (List._∷_ (Row.lease (κs .1 .0) (qs .1 .0)) (List._∷_ (Row.lease (κs .1 .1 .0) (qs .1 .1 .0)) (List._∷_ Row.off
-              (List._∷_ Row.off (List._∷_ Row.off (List._∷_ Row.dead List.[]))))));
-        }
+        G50 = record { locals = List._++_ g38 t39; slots = k0 ∷ k1 ∷ k2 ∷ Row.off ∷ Row.off ∷ Row.off ∷ Row.dead ∷ [] }
 
         abbrev G51 : Row.Cx
-        G51 = record {
-          locals = List._++_ t6 t1;
-          slots = List._∷_ (Row.lease (κs .0) (qs .0)) (List._∷_ (Row.lease (κs .1 .0) (qs .1 .0)) (List._∷_ (Row.lease (κs .1 .1 .0) (qs .1 .1 .0)) (List._∷_ (Row.lease (κs
-              .1 .1 .1 .0) (qs .1 .1 .1 .0)) (List._∷_ Row.off (List._∷_ Row.off (List._∷_ Row.dead List.[]))))));
-        }
-
-        abbrev G52 : Row.Cx
-        G52 = record {
-          locals = List._++_ t6 t1;
-          slots = List._∷_ (Row.lease (κs .0) (qs .0)) (List._∷_ (Row.lease (κs .1 .0) (qs .1 .0)) (List._∷_ (Row.lease (κs .1 .1 .0) (qs .1 .1 .0)) (List._∷_ (Row.lease (κs
-              .1 .1 .1 .0) (qs .1 .1 .1 .0)) (List._∷_ Row.off (List._∷_ Row.off (List._∷_ Row.off List.[]))))));
-        }
-
-        abbrev G53 : Row.Cx
-        G53 = record {
-          locals = List._++_ t40 t1;
-          slots = List._∷_ (Row.lease (κs .0) (qs .0)) (List._∷_ (Row.lease (κs .1 .0) (qs .1 .0)) (List._∷_ (Row.lease (κs .1 .1 .0) (qs .1 .1 .0)) (List._∷_ (Row.lease (κs
-              .1 .1 .1 .0) (qs .1 .1 .1 .0)) (List._∷_ Row.off (List._∷_ Row.off (List._∷_ Row.off List.[]))))));
-        }
-
-        abbrev G54 : Row.Cx
-        G54 = record {
-          locals = List._++_ t41 t1;
-          slots = List._∷_ (Row.lease (κs .0) (qs .0)) (List._∷_ (Row.lease (κs .1 .0) (qs .1 .0)) (List._∷_ (Row.lease (κs .1 .1 .0) (qs .1 .1 .0)) (List._∷_ (Row.lease (κs
-              .1 .1 .1 .0) (qs .1 .1 .1 .0)) (List._∷_ Row.off (List._∷_ Row.off (List._∷_ Row.off List.[]))))));
-        }
-
-        abbrev G55 : Row.Cx
-        G55 = record {
-          locals = List._++_ t42 t1;
-          slots = List._∷_ (Row.lease (κs .0) (qs .0)) (List._∷_ (Row.lease (κs .1 .0) (qs .1 .0)) (List._∷_ (Row.lease (κs .1 .1 .0) (qs .1 .1 .0)) (List._∷_ (Row.lease (κs
-              .1 .1 .1 .0) (qs .1 .1 .1 .0)) (List._∷_ Row.off (List._∷_ Row.off (List._∷_ Row.off List.[]))))));
-        }
-
-        abbrev G56 : Row.Cx
-        G56 = record {
-          locals = List._++_ t2 t1;
-          slots = List._∷_ (Row.lease (κs .0) (qs .0)) (List._∷_ (Row.lease (κs .1 .0) (qs .1 .0)) (List._∷_ (Row.lease (κs .1 .1 .0) (qs .1 .1 .0)) (List._∷_ (Row.lease (κs
-              .1 .1 .1 .0) (qs .1 .1 .1 .0)) (List._∷_ Row.off (List._∷_ Row.off (List._∷_ Row.off List.[]))))));
-        }
+        G51 = record { locals = List._++_ t6 t1; slots = k0 ∷ k1 ∷ k2 ∷ k3 ∷ Row.off ∷ Row.off ∷ Row.dead ∷ [] }
 
         abbrev Δ0 : Typed.Outs
-        Δ0 = record { next = Option.none; exits = List.[]; returns = Option.some G1 }
+        Δ0 = record { next = Option.none; exits = []; returns = Option.some (on T1 l5) }
 
         abbrev Δ1 : Typed.Outs
-        Δ1 = Typed.withNext (Option.some G8) Δ0
+        Δ1 = Typed.withNext (Option.some (on T8 l5)) Δ0
 
         module _ {M : Type 1} (𝓤 : URA.URA M) (H : Wp.Heap 𝓤) (A : Atoms.Atoms 𝓤) (W : Kit.Given 𝓤 H A) (𝓣 : Wp.Tables 𝓤 H) (known : Knowns 𝓤 H A W 𝓣) (bs : List.List Nat.ℕ) (bd : Lifetimes.AllOutlive
             4 (Kinds.osR r) κs) where
           abbrev E : Wp.Env 𝓤 H
-          E = Frame.EnvOf 𝓤 H (List._∷_ (Kinds.tyR r) (Enter.tysP ps xs)) bs
+          E = Frame.EnvOf 𝓤 H ((Kinds.tyR r) ∷ (Enter.tysP ps xs)) bs
 
-          d0 : Typed.Typed 𝓤 H A 𝓣 E G14 b4 Δ1 at0
-          d0 = Typed.s-typed 𝓤 H A W 𝓣 E G14 b4 Δ1 (λ Ψ. Typed.both s12 (Typed.pass T15 T16 s13 Ψ)) tt (Typed.g-post 𝓤 H A W 𝓣 E G14 G15 G16 b4 (Typed.both s12) (Typed.pass T15 T16 s13)
-              (Plain.t-call-plain 𝓤 H A W 𝓣 0 ps·1 r·1 (claims· .2) (claims· .3) "block::tight::refused" (known .1) E (λ pos β. β) G14 (record { pos = 8; st = List.[]; d = 0; at = λ x. x }, tt) 13 List.[]
-              (Call.sub-id 𝓤 H A W (G14 .slots)) (
-                (
-                  Yields.yields-copy 𝓤 H A W (λ ρ. Unit) (Declared.row Refusal.the-type) Path'.refl (Copies.cEnum Refusal.the-type Laws'3.the-laws Laws'3.the-copy .copy 𝓤 H A W) (Rows.whole (Declared.row
-                      Refusal.the-type)) (λ x. x) (λ x. x) (λ ρ told. Local.mem-whole 𝓤 H A W (Declared.row Refusal.the-type) ρ) λ ρ told. Local.whole-mem 𝓤 H A W (Declared.row Refusal.the-type) ρ,
-                  Path'.refl,
-                ),
-                tt,
-              ) (Reads'.room-gone 𝓤 H A y5) tt Path'.refl) (Scalar.g-room 𝓤 H A W E G15 8 (Syntax.tyEnum (List._∷_ 115 (List._∷_ 116 (List._∷_ 114 (List._∷_ 101 (List._∷_ 97 (List._∷_ 109 (List._∷_ 58
-              (List._∷_ 58 (List._∷_ 82 (List._∷_ 101 (List._∷_ 102 (List._∷_ 117 (List._∷_ 115 (List._∷_ 97 (List._∷_ 108 List.[]))))))))))))))) (Syntax.ttcons Syntax.tnil (Syntax.ttcons Syntax.tnil
-              (Syntax.ttcons Syntax.tnil (Syntax.ttcons (Syntax.tcons (Syntax.tyInt Syntax.w64) Syntax.tnil) (Syntax.ttcons Syntax.tnil (Syntax.ttcons Syntax.tnil (Syntax.ttcons Syntax.tnil (Syntax.ttcons
-              Syntax.tnil (Syntax.ttcons Syntax.tnil (Syntax.ttcons Syntax.tnil (Syntax.ttcons (Syntax.tcons (Syntax.tyInt Syntax.w64) Syntax.tnil) (Syntax.ttcons (Syntax.tcons (Syntax.tyInt Syntax.w64)
-              Syntax.tnil) (Syntax.ttcons Syntax.tnil (Syntax.ttcons (Syntax.tcons (Syntax.tyInt Syntax.w64) (Syntax.tcons (Syntax.tyInt Syntax.w64) Syntax.tnil)) (Syntax.ttcons (Syntax.tcons
-              (Syntax.tyInt Syntax.w64) Syntax.tnil) (Syntax.ttcons Syntax.tnil (Syntax.ttcons Syntax.tnil (Syntax.ttcons (Syntax.tcons (Syntax.tyInt Syntax.w64) Syntax.tnil) (Syntax.ttcons (Syntax.tcons
-              (Syntax.tyInt Syntax.w64) Syntax.tnil) (Syntax.ttcons (Syntax.tcons (Syntax.tyInt Syntax.w64) Syntax.tnil) (Syntax.ttcons Syntax.tnil (Syntax.ttcons Syntax.tnil (Syntax.ttcons (Syntax.tcons
-              (Syntax.tyInt Syntax.w64) (Syntax.tcons (Syntax.tyInt Syntax.w64) Syntax.tnil)) (Syntax.ttcons Syntax.tnil Syntax.ttnil))))))))))))))))))))))))) (Local.room-whole 𝓤 H A W (Declared.row
-              Refusal.the-type) (Syntax.tyEnum (List._∷_ 115 (List._∷_ 116 (List._∷_ 114 (List._∷_ 101 (List._∷_ 97 (List._∷_ 109 (List._∷_ 58 (List._∷_ 58 (List._∷_ 82 (List._∷_ 101 (List._∷_ 102
-              (List._∷_ 117 (List._∷_ 115 (List._∷_ 97 (List._∷_ 108 List.[]))))))))))))))) (Syntax.ttcons Syntax.tnil (Syntax.ttcons Syntax.tnil (Syntax.ttcons Syntax.tnil (Syntax.ttcons (Syntax.tcons
-              (Syntax.tyInt Syntax.w64) Syntax.tnil) (Syntax.ttcons Syntax.tnil (Syntax.ttcons Syntax.tnil (Syntax.ttcons Syntax.tnil (Syntax.ttcons Syntax.tnil (Syntax.ttcons Syntax.tnil (Syntax.ttcons
-              Syntax.tnil (Syntax.ttcons (Syntax.tcons (Syntax.tyInt Syntax.w64) Syntax.tnil) (Syntax.ttcons (Syntax.tcons (Syntax.tyInt Syntax.w64) Syntax.tnil) (Syntax.ttcons Syntax.tnil (Syntax.ttcons
-              (Syntax.tcons (Syntax.tyInt Syntax.w64) (Syntax.tcons (Syntax.tyInt Syntax.w64) Syntax.tnil)) (Syntax.ttcons (Syntax.tcons (Syntax.tyInt Syntax.w64) Syntax.tnil) (Syntax.ttcons Syntax.tnil
-              (Syntax.ttcons Syntax.tnil (Syntax.ttcons (Syntax.tcons (Syntax.tyInt Syntax.w64) Syntax.tnil) (Syntax.ttcons (Syntax.tcons (Syntax.tyInt Syntax.w64) Syntax.tnil) (Syntax.ttcons
-              (Syntax.tcons (Syntax.tyInt Syntax.w64) Syntax.tnil) (Syntax.ttcons Syntax.tnil (Syntax.ttcons Syntax.tnil (Syntax.ttcons (Syntax.tcons (Syntax.tyInt Syntax.w64) (Syntax.tcons (Syntax.tyInt
-              Syntax.w64) Syntax.tnil)) (Syntax.ttcons Syntax.tnil Syntax.ttnil))))))))))))))))))))))))) Path'.refl)))
+          d0 : Typed.Typed 𝓤 H A 𝓣 E (on T14 l5) b4 Δ1 at0
+          d0 = Typed.s-typed 𝓤 H A W 𝓣 E (on T14 l5) b4 Δ1 (λ Ψ. Typed.both s12 (Typed.pass T15 T8 s13 Ψ)) tt (Typed.g-post 𝓤 H A W 𝓣 E (on T14 l5) (on T15 l5) (on T8 l5) b4 (Typed.both s12)
+              (Typed.pass T15 T8 s13) (Plain.t-call-plain 𝓤 H A W 𝓣 0 ps·1 r·1 (claims· .2) (claims· .3) "block::tight::refused" (known .1) E (λ pos β. β) (on T14 l5)
+              (record { pos = 8; st = []; d = 0; at = λ x. x }, tt) 13 [] (Call.sub-id 𝓤 H A W ((on T14 l5) .slots))
+              ((Values.enum-copied 𝓤 H A W Refusal.the-type Laws'3.the-laws Laws'3.the-copy, Path'.refl), tt) (Reads'.room-gone 𝓤 H A y15) tt Path'.refl) (Scalar.g-room 𝓤 H A W E (on T15 l5) 8 y0
+              (Local.room-whole 𝓤 H A W (Declared.row Refusal.the-type) y0 Path'.refl)))
 
-          d1 : Typed.Typed 𝓤 H A 𝓣 E G13 b4 Δ1 at1
-          d1 = Typed.g-pre 𝓤 H A W 𝓣 E G13 G14 b4 Δ1 (Typed.pass T13 T14 s11) at0 (Scalar.g-room 𝓤 H A W E G13 7 (Syntax.tyEnum (List._∷_ 115 (List._∷_ 116 (List._∷_ 114 (List._∷_ 101 (List._∷_ 97
-              (List._∷_ 109 (List._∷_ 58 (List._∷_ 58 (List._∷_ 80 (List._∷_ 97 (List._∷_ 114 (List._∷_ 115 (List._∷_ 101 (List._∷_ 100 List.[])))))))))))))) (Syntax.ttcons (Syntax.tcons y0 Syntax.tnil)
-              (Syntax.ttcons (Syntax.tcons (Syntax.tyEnum (List._∷_ 115 (List._∷_ 116 (List._∷_ 114 (List._∷_ 101 (List._∷_ 97 (List._∷_ 109 (List._∷_ 58 (List._∷_ 58 (List._∷_ 82 (List._∷_ 101 (List._∷_
-              102 (List._∷_ 117 (List._∷_ 115 (List._∷_ 97 (List._∷_ 108 List.[]))))))))))))))) (Syntax.ttcons Syntax.tnil (Syntax.ttcons Syntax.tnil (Syntax.ttcons Syntax.tnil (Syntax.ttcons
-              (Syntax.tcons (Syntax.tyInt Syntax.w64) Syntax.tnil) (Syntax.ttcons Syntax.tnil (Syntax.ttcons Syntax.tnil (Syntax.ttcons Syntax.tnil (Syntax.ttcons Syntax.tnil (Syntax.ttcons Syntax.tnil
-              (Syntax.ttcons Syntax.tnil (Syntax.ttcons (Syntax.tcons (Syntax.tyInt Syntax.w64) Syntax.tnil) (Syntax.ttcons (Syntax.tcons (Syntax.tyInt Syntax.w64) Syntax.tnil) (Syntax.ttcons Syntax.tnil
-              (Syntax.ttcons (Syntax.tcons (Syntax.tyInt Syntax.w64) (Syntax.tcons (Syntax.tyInt Syntax.w64) Syntax.tnil)) (Syntax.ttcons (Syntax.tcons (Syntax.tyInt Syntax.w64) Syntax.tnil)
-              (Syntax.ttcons Syntax.tnil (Syntax.ttcons Syntax.tnil (Syntax.ttcons (Syntax.tcons (Syntax.tyInt Syntax.w64) Syntax.tnil) (Syntax.ttcons (Syntax.tcons (Syntax.tyInt Syntax.w64) Syntax.tnil)
-              (Syntax.ttcons (Syntax.tcons (Syntax.tyInt Syntax.w64) Syntax.tnil) (Syntax.ttcons Syntax.tnil (Syntax.ttcons Syntax.tnil (Syntax.ttcons (Syntax.tcons (Syntax.tyInt Syntax.w64) (Syntax.tcons
-              (Syntax.tyInt Syntax.w64) Syntax.tnil)) (Syntax.ttcons Syntax.tnil Syntax.ttnil))))))))))))))))))))))))) Syntax.tnil) Syntax.ttnil))) (Local.room-whole 𝓤 H A W (Known.Known Parsed.enum 1)
-              (Syntax.tyEnum (List._∷_ 115 (List._∷_ 116 (List._∷_ 114 (List._∷_ 101 (List._∷_ 97 (List._∷_ 109 (List._∷_ 58 (List._∷_ 58 (List._∷_ 80 (List._∷_ 97 (List._∷_ 114 (List._∷_ 115 (List._∷_
-              101 (List._∷_ 100 List.[])))))))))))))) (Syntax.ttcons (Syntax.tcons y0 Syntax.tnil) (Syntax.ttcons (Syntax.tcons (Syntax.tyEnum (List._∷_ 115 (List._∷_ 116 (List._∷_ 114 (List._∷_ 101
-              (List._∷_ 97 (List._∷_ 109 (List._∷_ 58 (List._∷_ 58 (List._∷_ 82 (List._∷_ 101 (List._∷_ 102 (List._∷_ 117 (List._∷_ 115 (List._∷_ 97 (List._∷_ 108 List.[]))))))))))))))) (Syntax.ttcons
-              Syntax.tnil (Syntax.ttcons Syntax.tnil (Syntax.ttcons Syntax.tnil (Syntax.ttcons (Syntax.tcons (Syntax.tyInt Syntax.w64) Syntax.tnil) (Syntax.ttcons Syntax.tnil (Syntax.ttcons Syntax.tnil
-              (Syntax.ttcons Syntax.tnil (Syntax.ttcons Syntax.tnil (Syntax.ttcons Syntax.tnil (Syntax.ttcons Syntax.tnil (Syntax.ttcons (Syntax.tcons (Syntax.tyInt Syntax.w64) Syntax.tnil) (Syntax.ttcons
-              (Syntax.tcons (Syntax.tyInt Syntax.w64) Syntax.tnil) (Syntax.ttcons Syntax.tnil (Syntax.ttcons (Syntax.tcons (Syntax.tyInt Syntax.w64) (Syntax.tcons (Syntax.tyInt Syntax.w64) Syntax.tnil))
-              (Syntax.ttcons (Syntax.tcons (Syntax.tyInt Syntax.w64) Syntax.tnil) (Syntax.ttcons Syntax.tnil (Syntax.ttcons Syntax.tnil (Syntax.ttcons (Syntax.tcons (Syntax.tyInt Syntax.w64) Syntax.tnil)
-              (Syntax.ttcons (Syntax.tcons (Syntax.tyInt Syntax.w64) Syntax.tnil) (Syntax.ttcons (Syntax.tcons (Syntax.tyInt Syntax.w64) Syntax.tnil) (Syntax.ttcons Syntax.tnil (Syntax.ttcons Syntax.tnil
-              (Syntax.ttcons (Syntax.tcons (Syntax.tyInt Syntax.w64) (Syntax.tcons (Syntax.tyInt Syntax.w64) Syntax.tnil)) (Syntax.ttcons Syntax.tnil Syntax.ttnil))))))))))))))))))))))))) Syntax.tnil)
-              Syntax.ttnil))) Path'.refl)) d0
+          d1 : Typed.Typed 𝓤 H A 𝓣 E (on T13 l5) b4 Δ1 at1
+          d1 = Typed.g-pre 𝓤 H A W 𝓣 E (on T13 l5) (on T14 l5) b4 Δ1 (Typed.pass T13 T14 s11) at0 (Scalar.g-room 𝓤 H A W E (on T13 l5) 7 y10 (Local.room-whole 𝓤 H A W (Known.Known Parsed.enum 1) y10
+              Path'.refl)) d0
 
-          d2 : Typed.Typed 𝓤 H A 𝓣 E G12 b5 Δ1 at2
-          d2 = Typed.s-seq 𝓤 H A W 𝓣 E G12 G13 b3 b4 Δ1 (Typed.pass T12 T13 s10) at1 (CopyOut.t-copy-told 𝓤 H A W E 𝓣 (Declared.row Refusal.the-type) Path'.refl (Laws'4.val Refusal.the-type
-              Laws'3.the-laws) (Laws'4.lawful Refusal.the-type Laws'3.the-laws 𝓤 H A W tt) (Laws'4.makes Refusal.the-type Laws'3.the-plain 𝓤 H A) G12 8 (Scalar.oFld 7 (List._∷_ (Syntax.variant 1)
-              (List._∷_ (Syntax.field 1) List.[])) (Syntax.tyEnum (List._∷_ 115 (List._∷_ 116 (List._∷_ 114 (List._∷_ 101 (List._∷_ 97 (List._∷_ 109 (List._∷_ 58 (List._∷_ 58 (List._∷_ 82 (List._∷_ 101
-              (List._∷_ 102 (List._∷_ 117 (List._∷_ 115 (List._∷_ 97 (List._∷_ 108 List.[]))))))))))))))) (Syntax.ttcons Syntax.tnil (Syntax.ttcons Syntax.tnil (Syntax.ttcons Syntax.tnil (Syntax.ttcons
-              (Syntax.tcons (Syntax.tyInt Syntax.w64) Syntax.tnil) (Syntax.ttcons Syntax.tnil (Syntax.ttcons Syntax.tnil (Syntax.ttcons Syntax.tnil (Syntax.ttcons Syntax.tnil (Syntax.ttcons Syntax.tnil
-              (Syntax.ttcons Syntax.tnil (Syntax.ttcons (Syntax.tcons (Syntax.tyInt Syntax.w64) Syntax.tnil) (Syntax.ttcons (Syntax.tcons (Syntax.tyInt Syntax.w64) Syntax.tnil) (Syntax.ttcons Syntax.tnil
-              (Syntax.ttcons (Syntax.tcons (Syntax.tyInt Syntax.w64) (Syntax.tcons (Syntax.tyInt Syntax.w64) Syntax.tnil)) (Syntax.ttcons (Syntax.tcons (Syntax.tyInt Syntax.w64) Syntax.tnil)
-              (Syntax.ttcons Syntax.tnil (Syntax.ttcons Syntax.tnil (Syntax.ttcons (Syntax.tcons (Syntax.tyInt Syntax.w64) Syntax.tnil) (Syntax.ttcons (Syntax.tcons (Syntax.tyInt Syntax.w64) Syntax.tnil)
-              (Syntax.ttcons (Syntax.tcons (Syntax.tyInt Syntax.w64) Syntax.tnil) (Syntax.ttcons Syntax.tnil (Syntax.ttcons Syntax.tnil (Syntax.ttcons (Syntax.tcons (Syntax.tyInt Syntax.w64) (Syntax.tcons
-              (Syntax.tyInt Syntax.w64) Syntax.tnil)) (Syntax.ttcons Syntax.tnil Syntax.ttnil))))))))))))))))))))))))) 8 λ v. Laws'4.val Refusal.the-type Laws'3.the-laws (v .0)) (λ m. m .1 .1 .1 .1 .1 .1
-              .1 .0 .0) (λ m. Laws'4.Fields (Declared.variants Parsed.the-type) (Laws'4.spellss (Parsed.enum .parts) Laws''.the-laws) (Parsed.the-type .to (Known.at Parsed.enum 1 (m .1 .1 .1 .1 .1 .1 .1
-              .0)))) (Reads'.room-gone 𝓤 H A (Syntax.tyEnum (List._∷_ 115 (List._∷_ 116 (List._∷_ 114 (List._∷_ 101 (List._∷_ 97 (List._∷_ 109 (List._∷_ 58 (List._∷_ 58 (List._∷_ 82 (List._∷_ 101
-              (List._∷_ 102 (List._∷_ 117 (List._∷_ 115 (List._∷_ 97 (List._∷_ 108 List.[]))))))))))))))) (Syntax.ttcons Syntax.tnil (Syntax.ttcons Syntax.tnil (Syntax.ttcons Syntax.tnil (Syntax.ttcons
-              (Syntax.tcons (Syntax.tyInt Syntax.w64) Syntax.tnil) (Syntax.ttcons Syntax.tnil (Syntax.ttcons Syntax.tnil (Syntax.ttcons Syntax.tnil (Syntax.ttcons Syntax.tnil (Syntax.ttcons Syntax.tnil
-              (Syntax.ttcons Syntax.tnil (Syntax.ttcons (Syntax.tcons (Syntax.tyInt Syntax.w64) Syntax.tnil) (Syntax.ttcons (Syntax.tcons (Syntax.tyInt Syntax.w64) Syntax.tnil) (Syntax.ttcons Syntax.tnil
-              (Syntax.ttcons (Syntax.tcons (Syntax.tyInt Syntax.w64) (Syntax.tcons (Syntax.tyInt Syntax.w64) Syntax.tnil)) (Syntax.ttcons (Syntax.tcons (Syntax.tyInt Syntax.w64) Syntax.tnil)
-              (Syntax.ttcons Syntax.tnil (Syntax.ttcons Syntax.tnil (Syntax.ttcons (Syntax.tcons (Syntax.tyInt Syntax.w64) Syntax.tnil) (Syntax.ttcons (Syntax.tcons (Syntax.tyInt Syntax.w64) Syntax.tnil)
-              (Syntax.ttcons (Syntax.tcons (Syntax.tyInt Syntax.w64) Syntax.tnil) (Syntax.ttcons Syntax.tnil (Syntax.ttcons Syntax.tnil (Syntax.ttcons (Syntax.tcons (Syntax.tyInt Syntax.w64) (Syntax.tcons
-              (Syntax.tyInt Syntax.w64) Syntax.tnil)) (Syntax.ttcons Syntax.tnil Syntax.ttnil)))))))))))))))))))))))))) (
-                Match.reads-payload 𝓤 H A W Parsed.enum Laws''.the-laws 1 Path'.refl Path'.refl (λ v. Val.vcons (Laws'4.val Refusal.the-type Laws'3.the-laws (v .0)) Val.vnil) (λ v. Path'.refl) 0
-                    (Syntax.tyEnum (List._∷_ 115 (List._∷_ 116 (List._∷_ 114 (List._∷_ 101 (List._∷_ 97 (List._∷_ 109 (List._∷_ 58 (List._∷_ 58 (List._∷_ 82 (List._∷_ 101 (List._∷_ 102 (List._∷_ 117 (List._∷_
-                    115 (List._∷_ 97 (List._∷_ 108 List.[]))))))))))))))) (Syntax.ttcons Syntax.tnil (Syntax.ttcons Syntax.tnil (Syntax.ttcons Syntax.tnil (Syntax.ttcons (Syntax.tcons (Syntax.tyInt Syntax.w64)
-                    Syntax.tnil) (Syntax.ttcons Syntax.tnil (Syntax.ttcons Syntax.tnil (Syntax.ttcons Syntax.tnil (Syntax.ttcons Syntax.tnil (Syntax.ttcons Syntax.tnil (Syntax.ttcons Syntax.tnil (Syntax.ttcons
-                    (Syntax.tcons (Syntax.tyInt Syntax.w64) Syntax.tnil) (Syntax.ttcons (Syntax.tcons (Syntax.tyInt Syntax.w64) Syntax.tnil) (Syntax.ttcons Syntax.tnil (Syntax.ttcons (Syntax.tcons (Syntax.tyInt
-                    Syntax.w64) (Syntax.tcons (Syntax.tyInt Syntax.w64) Syntax.tnil)) (Syntax.ttcons (Syntax.tcons (Syntax.tyInt Syntax.w64) Syntax.tnil) (Syntax.ttcons Syntax.tnil (Syntax.ttcons Syntax.tnil
-                    (Syntax.ttcons (Syntax.tcons (Syntax.tyInt Syntax.w64) Syntax.tnil) (Syntax.ttcons (Syntax.tcons (Syntax.tyInt Syntax.w64) Syntax.tnil) (Syntax.ttcons (Syntax.tcons (Syntax.tyInt Syntax.w64)
-                    Syntax.tnil) (Syntax.ttcons Syntax.tnil (Syntax.ttcons Syntax.tnil (Syntax.ttcons (Syntax.tcons (Syntax.tyInt Syntax.w64) (Syntax.tcons (Syntax.tyInt Syntax.w64) Syntax.tnil)) (Syntax.ttcons
-                    Syntax.tnil Syntax.ttnil))))))))))))))))))))))))) 8 Path'.refl,
+          d2 : Typed.Typed 𝓤 H A 𝓣 E (on T11 l5) b5 Δ1 at2
+          d2 = Typed.s-seq 𝓤 H A W 𝓣 E (on T11 l5) (on T13 l5) b3 b4 Δ1 (Typed.pass T11 T13 s10) at1 (CopyOut.t-copy-told 𝓤 H A W E 𝓣 (Declared.row Refusal.the-type) Path'.refl (Laws'4.val
+              Refusal.the-type Laws'3.the-laws) (Laws'4.lawful Refusal.the-type Laws'3.the-laws 𝓤 H A W tt) (Laws'4.makes Refusal.the-type Laws'3.the-plain 𝓤 H A) (on T11 l5) 8 (Scalar.oFld 7
+              ((Syntax.variant 1) ∷ (Syntax.field 1) ∷ []) y0 8 λ v. Laws'4.val Refusal.the-type Laws'3.the-laws (v .0)) (λ m. m .1 .1 .1 .1 .1 .1 .1 .0 .0) (λ m. Laws'4.Fields (Declared.variants
+              Parsed.the-type) (Laws'4.spellss (Parsed.enum .parts) Laws''.the-laws) (Parsed.the-type .to (Known.at Parsed.enum 1 (m .1 .1 .1 .1 .1 .1 .1 .0)))) (Reads'.room-gone 𝓤 H A y0) (
+                Match.reads-payload 𝓤 H A W Parsed.enum Laws''.the-laws 1 Path'.refl Path'.refl (λ v. Val.vcons (Laws'4.val Refusal.the-type Laws'3.the-laws (v .0)) Val.vnil) (λ v. Path'.refl) 0 y0 8
+                    Path'.refl,
                 Path'.refl,
-              ) Path'.refl (λ ρ m. Make.tells-row 𝓤 H A W E ρ (Row.out 8 (G12 .locals)) m 7 (Laws'4.Fields (Declared.variants
-              Parsed.the-type) (Laws'4.spellss (Parsed.enum .parts) Laws''.the-laws) (Parsed.the-type .to (Known.at Parsed.enum 1 (m .1 .1 .1 .1 .1 .1 .1 .0)))) (Known.known-is 𝓤 H A W E Parsed.enum 1
-              Laws''.the-laws ρ 7 (m .1 .1 .1 .1 .1 .1 .1 .0))) (λ m k wa. Path'.refl) λ m k wa. k .0) d1
+              ) Path'.refl (λ ρ m. Make.tells-row 𝓤 H A W E ρ (Row.out 8 ((on T11 l5) .locals)) m 7 (Laws'4.Fields (Declared.variants Parsed.the-type) (Laws'4.spellss (Parsed.enum
+              .parts) Laws''.the-laws) (Parsed.the-type .to (Known.at Parsed.enum 1 (m .1 .1 .1 .1 .1 .1 .1 .0)))) (Known.known-is 𝓤 H A W E Parsed.enum 1 Laws''.the-laws ρ 7 (m .1 .1 .1 .1 .1 .1 .1 .0)))
+              (λ m k wa. Path'.refl) λ m k wa. k .0) d1
 
-          d3 : Typed.Typed 𝓤 H A 𝓣 E G11 b5 Δ1 at3
-          d3 = Typed.g-pre 𝓤 H A W 𝓣 E G11 G12 b5 Δ1 (Typed.give s9) at2 (Known.g-known-told 𝓤 H A W E Parsed.enum 1 G11 7 Laws''.the-laws (λ x. x) (Reads'.as-is 𝓤 H A (Rows.whole (Known.Known
-              Parsed.enum 1)))) d2
+          d3 : Typed.Typed 𝓤 H A 𝓣 E (on T11 l5) b5 Δ1 at3
+          d3 = Typed.g-pre 𝓤 H A W 𝓣 E (on T11 l5) (on T11 l5) b5 Δ1 (Typed.give s9) at2 (Known.g-known-told 𝓤 H A W E Parsed.enum 1 (on T11 l5) 7 Laws''.the-laws (λ x. x) (Reads'.as-is 𝓤 H A
+              (Rows.whole (Known.Known Parsed.enum 1)))) d2
 
-          d4 : Typed.Typed 𝓤 H A 𝓣 E G10 b5 Δ1 at4
-          d4 = Typed.g-pre 𝓤 H A W 𝓣 E G10 G11 b5 Δ1 (Typed.both s8) at3 (Known.g-enum-known 𝓤 H A W E Parsed.enum 1 G10 7 (λ x. x) (Reads'.as-is 𝓤 H A (Rows.whole (Declared.row Parsed.the-type)))) d3
+          d4 : Typed.Typed 𝓤 H A 𝓣 E (on T10 l5) b5 Δ1 at4
+          d4 = Typed.g-pre 𝓤 H A W 𝓣 E (on T10 l5) (on T11 l5) b5 Δ1 (Typed.both s8) at3 (Known.g-enum-known 𝓤 H A W E Parsed.enum 1 (on T10 l5) 7 (λ x. x) (Reads'.as-is 𝓤 H A (Rows.whole
+              (Declared.row Parsed.the-type)))) d3
 
           d5 : Typed.Typed 𝓤 H A 𝓣 E G38 b18 Δ1 at5
           d5 = Typed.s-typed 𝓤 H A W 𝓣 E G38 b18 Δ1 (λ Ψ. Typed.both s36 (Typed.pass T39 T40 s37 (Typed.pass T40 T41 s38 (Typed.both s40 (Typed.give s41 (Typed.both s44 (Typed.give s45 (Typed.both s48
-              Ψ)))))))) tt (Typed.g-post 𝓤 H A W 𝓣 E G38 G51 G52 b18 (λ Ψ. Typed.both s36 (Typed.pass T39 T40 s37 (Typed.pass T40 T41 s38 (Typed.both s40 (Typed.give s41 (Typed.both s44 (Typed.give s45
-              (Typed.both s48 Ψ)))))))) (λ Ψ. Ψ) (Typed.g-post 𝓤 H A W 𝓣 E G38 G50 G51 b18 (λ Ψ. Typed.both s36 (Typed.pass T39 T40 s37 (Typed.pass T40 T41 s38 (Typed.both s40 (Typed.give s41 (Typed.both
-              s44 (Typed.give s45 Ψ))))))) (Typed.both s48) (Typed.g-post 𝓤 H A W 𝓣 E G38 G49 G50 b18 (λ Ψ. Typed.both s36 (Typed.pass T39 T40 s37 (Typed.pass T40 T41 s38 (Typed.both s40 (Typed.give s41
-              (Typed.both s44 (Typed.give s45 Ψ))))))) (λ Ψ. Ψ) (Typed.g-post 𝓤 H A W 𝓣 E G38 G48 G49 b18 (λ Ψ. Typed.both s36 (Typed.pass T39 T40 s37 (Typed.pass T40 T41 s38 (Typed.both s40 (Typed.give
-              s41 (Typed.both s44 (Typed.give s45 Ψ))))))) (λ Ψ. Ψ) (Typed.g-post 𝓤 H A W 𝓣 E G38 G47 G48 b18 (λ Ψ. Typed.both s36 (Typed.pass T39 T40 s37 (Typed.pass T40 T41 s38 (Typed.both s40
-              (Typed.give s41 (Typed.both s44 Ψ)))))) (Typed.give s45) (Typed.g-post 𝓤 H A W 𝓣 E G38 G46 G47 b18 (λ Ψ. Typed.both s36 (Typed.pass T39 T40 s37 (Typed.pass T40 T41 s38 (Typed.both s40
-              (Typed.give s41 Ψ))))) (Typed.both s44) (Typed.g-post 𝓤 H A W 𝓣 E G38 G45 G46 b18 (λ Ψ. Typed.both s36 (Typed.pass T39 T40 s37 (Typed.pass T40 T41 s38 (Typed.both s40 (Typed.give s41 Ψ)))))
-              (λ Ψ. Ψ) (Typed.g-post 𝓤 H A W 𝓣 E G38 G44 G45 b18 (λ Ψ. Typed.both s36 (Typed.pass T39 T40 s37 (Typed.pass T40 T41 s38 (Typed.both s40 (Typed.give s41 Ψ))))) (λ Ψ. Ψ) (Typed.g-post 𝓤 H A W
-              𝓣 E G38 G43 G44 b18 (λ Ψ. Typed.both s36 (Typed.pass T39 T40 s37 (Typed.pass T40 T41 s38 (Typed.both s40 Ψ)))) (Typed.give s41) (Typed.g-post 𝓤 H A W 𝓣 E G38 G42 G43 b18 (λ Ψ. Typed.both s36
-              (Typed.pass T39 T40 s37 (Typed.pass T40 T41 s38 Ψ))) (Typed.both s40) (Typed.g-post 𝓤 H A W 𝓣 E G38 G41 G42 b18 (λ Ψ. Typed.both s36 (Typed.pass T39 T40 s37 (Typed.pass T40 T41 s38 Ψ))) (λ
-              Ψ. Ψ) (Typed.g-post 𝓤 H A W 𝓣 E G38 G40 G41 b18 (λ Ψ. Typed.both s36 (Typed.pass T39 T40 s37 Ψ)) (Typed.pass T40 T41 s38) (Typed.g-post 𝓤 H A W 𝓣 E G38 G39 G40 b18 (Typed.both s36)
-              (Typed.pass T39 T40 s37) (Plain.t-call-plain 𝓤 H A W 𝓣 4 ps·3 r·3 (claims· .6) (claims· .7) "block_states::store_in" (known .3) E (λ pos β. β) G38 (
-                record { pos = 1; ty = Syntax.tyRef (Syntax.named 0) Syntax.imm (Syntax.tyInt Syntax.w8); ref = λ x. x },
+              Ψ)))))))) tt (Typed.g-post 𝓤 H A W 𝓣 E G38 G51 (on T8 l5) b18 (λ Ψ. Typed.both s36 (Typed.pass T39 T40 s37 (Typed.pass T40 T41 s38 (Typed.both s40 (Typed.give s41 (Typed.both s44 (Typed.give
+              s45 (Typed.both s48 Ψ)))))))) (λ Ψ. Ψ) (Typed.g-post 𝓤 H A W 𝓣 E G38 G50 G51 b18 (λ Ψ. Typed.both s36 (Typed.pass T39 T40 s37 (Typed.pass T40 T41 s38 (Typed.both s40 (Typed.give s41
+              (Typed.both s44 (Typed.give s45 Ψ))))))) (Typed.both s48) (Typed.g-post 𝓤 H A W 𝓣 E G38 G49 G50 b18 (λ Ψ. Typed.both s36 (Typed.pass T39 T40 s37 (Typed.pass T40 T41 s38 (Typed.both s40
+              (Typed.give s41 (Typed.both s44 (Typed.give s45 Ψ))))))) (λ Ψ. Ψ) (Typed.g-post 𝓤 H A W 𝓣 E G38 G47 G49 b18 (λ Ψ. Typed.both s36 (Typed.pass T39 T40 s37 (Typed.pass T40 T41 s38 (Typed.both
+              s40 (Typed.give s41 (Typed.both s44 (Typed.give s45 Ψ))))))) (λ Ψ. Ψ) (Typed.g-post 𝓤 H A W 𝓣 E G38 G47 G47 b18 (λ Ψ. Typed.both s36 (Typed.pass T39 T40 s37 (Typed.pass T40 T41 s38
+              (Typed.both s40 (Typed.give s41 (Typed.both s44 Ψ)))))) (Typed.give s45) (Typed.g-post 𝓤 H A W 𝓣 E G38 G46 G47 b18 (λ Ψ. Typed.both s36 (Typed.pass T39 T40 s37 (Typed.pass T40 T41 s38
+              (Typed.both s40 (Typed.give s41 Ψ))))) (Typed.both s44) (Typed.g-post 𝓤 H A W 𝓣 E G38 G45 G46 b18 (λ Ψ. Typed.both s36 (Typed.pass T39 T40 s37 (Typed.pass T40 T41 s38 (Typed.both s40
+              (Typed.give s41 Ψ))))) (λ Ψ. Ψ) (Typed.g-post 𝓤 H A W 𝓣 E G38 G43 G45 b18 (λ Ψ. Typed.both s36 (Typed.pass T39 T40 s37 (Typed.pass T40 T41 s38 (Typed.both s40 (Typed.give s41 Ψ))))) (λ Ψ. Ψ)
+              (Typed.g-post 𝓤 H A W 𝓣 E G38 G43 G43 b18 (λ Ψ. Typed.both s36 (Typed.pass T39 T40 s37 (Typed.pass T40 T41 s38 (Typed.both s40 Ψ)))) (Typed.give s41) (Typed.g-post 𝓤 H A W 𝓣 E G38 G42 G43
+              b18 (λ Ψ. Typed.both s36 (Typed.pass T39 T40 s37 (Typed.pass T40 T41 s38 Ψ))) (Typed.both s40) (Typed.g-post 𝓤 H A W 𝓣 E G38 G41 G42 b18 (λ Ψ. Typed.both s36 (Typed.pass T39 T40 s37
+              (Typed.pass T40 T41 s38 Ψ))) (λ Ψ. Ψ) (Typed.g-post 𝓤 H A W 𝓣 E G38 G40 G41 b18 (λ Ψ. Typed.both s36 (Typed.pass T39 T40 s37 Ψ)) (Typed.pass T40 T41 s38) (Typed.g-post 𝓤 H A W 𝓣 E G38 G39
+              G40 b18 (Typed.both s36) (Typed.pass T39 T40 s37) (Plain.t-call-plain 𝓤 H A W 𝓣 4 ps·3 r·3 (claims· .6) (claims· .7) "block_states::store_in" (known .3) E (λ pos β. β) G38 (
+                record { pos = 1; ty = y1; ref = λ x. x },
                 (
-                  record { pos = 9; st = List.[]; d = 0; at = λ x. x },
-                  (
-                    Num.vAt 2 λ x. x,
-                    (
-                      Num.vAt 3 λ x. x,
-                      (
-                        record { pos = 15; ty = Syntax.tyRef Syntax.erased Syntax.mut (Syntax.tyInt Syntax.w8); ref = λ x. x },
-                        (
-                          record { pos = 19; ty = Syntax.tyRef Syntax.erased Syntax.mut (Syntax.tyInt Syntax.w16); ref = λ x. x },
-                          (record { pos = 23; ty = Syntax.tyRef Syntax.erased Syntax.mut Element.behind; ref = λ x. x }, tt),
-                        ),
-                      ),
-                    ),
-                  ),
+                  record { pos = 9; st = []; d = 0; at = λ x. x },
+                  (Num.vAt 2 λ x. x, (Num.vAt 3 λ x. x, (record { pos = 15; ty = y7; ref = λ x. x }, (record { pos = 19; ty = y6; ref = λ x. x }, (record { pos = 23; ty = y5; ref = λ x. x }, tt))))),
                 ),
-              ) 13 (List._∷_ 0 (List._∷_ 4 (List._∷_ 5 (List._∷_ 6 List.[])))) (Call.sub-id 𝓤 H A W
-              (G38 .slots)) (
-                ShrSlice.spares-sslice 𝓤 H A W (Referent.rtF (Referent.fInt Syntax.w8)) (Syntax.tyRef (Syntax.named 0) Syntax.imm (Syntax.tyInt Syntax.w8)) 0,
-                Shared.reads-sslice 𝓤 H A W (Referent.rtF
-                    (Referent.fInt Syntax.w8)) (Syntax.tyRef (Syntax.named 0) Syntax.imm (Syntax.tyInt Syntax.w8)) 0,
+              ) 13
+              (0 ∷ 4 ∷ 5 ∷ 6 ∷ []) (Call.sub-id 𝓤 H A W (G38 .slots)) (
+                ShrSlice.spares-sslice 𝓤 H A W n8 y1 0,
+                Shared.reads-sslice 𝓤 H A W n8 y1 0,
                 Path'.refl,
                 (
-                  (
-                    Yields.yields-copy 𝓤 H A W (λ ρ. Unit) (Declared'.row FujiHeader.the-type) Path'.refl (Copies.cStruct FujiHeader.the-type Laws'.the-laws Laws'.the-copy .copy 𝓤 H A W) (Rows.whole
-                        (Declared'.row FujiHeader.the-type)) (λ x. x) (λ x. x) (λ ρ told. Local.mem-whole 𝓤 H A W (Declared'.row FujiHeader.the-type) ρ) λ ρ told. Local.whole-mem 𝓤 H A W (Declared'.row
-                        FujiHeader.the-type) ρ,
-                    Path'.refl,
-                  ),
+                  (Values.struct-copied 𝓤 H A W FujiHeader.the-type Laws'.the-laws Laws'.the-copy, Path'.refl),
                   (
                     (Scalar.reads-sc 𝓤 H A W (Row.sInt Syntax.w64), Path'.refl),
                     (
                       (Scalar.reads-sc 𝓤 H A W (Row.sInt Syntax.w64), Path'.refl),
                       (
-                        Reads'.as-is 𝓤 H A (Mut.mslice (Referent.rtF (Referent.fInt Syntax.w8)) (Syntax.tyRef Syntax.erased Syntax.mut (Syntax.tyInt Syntax.w8)) 4),
-                        Mut.reads-mslice 𝓤 H A W (Referent.rtF
-                            (Referent.fInt Syntax.w8)) (Syntax.tyRef Syntax.erased Syntax.mut (Syntax.tyInt Syntax.w8)) 4,
+                        Reads'.as-is 𝓤 H A (Mut.mslice n8 y7 4),
+                        Mut.reads-mslice 𝓤 H A W n8 y7 4,
                         Path'.refl,
                         (
-                          Reads'.as-is 𝓤 H A (Mut.mslice (Referent.rtF (Referent.fInt Syntax.w16)) (Syntax.tyRef Syntax.erased Syntax.mut (Syntax.tyInt Syntax.w16)) 5),
-                          Mut.reads-mslice 𝓤 H A W (Referent.rtF
-                              (Referent.fInt Syntax.w16)) (Syntax.tyRef Syntax.erased Syntax.mut (Syntax.tyInt Syntax.w16)) 5,
+                          Reads'.as-is 𝓤 H A (Mut.mslice n16 y6 5),
+                          Mut.reads-mslice 𝓤 H A W n16 y6 5,
                           Path'.refl,
-                          (
-                            Reads'.as-is 𝓤 H A (Mut.mslice (Element.type) (Syntax.tyRef Syntax.erased Syntax.mut Element.behind) 6),
-                            Mut.reads-mslice 𝓤 H A W (Element.type) (Syntax.tyRef Syntax.erased Syntax.mut
-                                Element.behind) 6,
-                            Path'.refl,
-                            tt,
-                          ),
+                          (Reads'.as-is 𝓤 H A (Mut.mslice (Element.type) y5 6), Mut.reads-mslice 𝓤 H A W (Element.type) y5 6, Path'.refl, tt),
                         ),
                       ),
                     ),
                   ),
                 ),
-              ) (Reads'.room-gone 𝓤 H A y5) (tt, (tt, (tt, (tt, tt)))) Path'.refl) (Scalar.g-room 𝓤 H A W E G39 9 y0 (Local.room-whole 𝓤 H A W (Declared'.row
-              FujiHeader.the-type) y0 Path'.refl))) (Scalar.g-room 𝓤 H A W E G40 10 (Syntax.tyInt Syntax.w64) (Scalar.room-sc 𝓤 H A W (Row.sInt Syntax.w64)))) (Lifetime.g-end 𝓤 H A W E G41 4 Path'.refl))
-              (Relend.g-back-sl 𝓤 H A W E (Referent.rtF (Referent.fInt Syntax.w8)) G42 15 4 1 4 (Syntax.tyRef (Syntax.named 1) Syntax.mut (Syntax.tyInt Syntax.w8)) (Syntax.tyRef Syntax.erased Syntax.mut
-              (Syntax.tyInt Syntax.w8)) (Row.lease (κs .1 .0) (qs .1 .0)) (λ x. x) (λ x. x) (Reads'.as-is 𝓤 H A (Mut.msleft (Referent.rtF (Referent.fInt Syntax.w8)) (Syntax.tyRef Syntax.erased Syntax.mut
-              (Syntax.tyInt Syntax.w8)))) (Reads'.as-is 𝓤 H A (Relend.mslice-owed (Referent.rtF (Referent.fInt Syntax.w8)) (Syntax.tyRef (Syntax.named 1) Syntax.mut (Syntax.tyInt Syntax.w8)) 1 4
-              (Row.lease (κs .1 .0) (qs .1 .0)))) Path'.refl Path'.refl)) (Know.g-sl-known 𝓤 H A W (Referent.fInt Syntax.w8) E G43 4 1 (Syntax.tyRef (Syntax.named 1) Syntax.mut (Syntax.tyInt Syntax.w8))
-              (Row.lease (κs .1 .0) (qs .1 .0)) 0 (λ x. x) record { fits = Dec'.lit< tt } (Reads'.as-is 𝓤 H A (Mut.mslice (Referent.rtF (Referent.fInt Syntax.w8)) (Syntax.tyRef (Syntax.named 1) Syntax.mut
-              (Syntax.tyInt Syntax.w8)) 1)) Path'.refl tt)) (Lifetime.g-forget 𝓤 H A W E G44 4 Row.dead Path'.refl)) (Lifetime.g-end 𝓤 H A W E G45 5 Path'.refl)) (PartMut.g-back-slᵐ 𝓤 H A W E
-              (Referent.rtF (Referent.fInt Syntax.w16)) G46 19 5 2 5 (Syntax.tyRef (Syntax.named 2) Syntax.mut (Syntax.tyInt Syntax.w16)) (Syntax.tyRef Syntax.erased Syntax.mut (Syntax.tyInt Syntax.w16))
-              (Row.lease (κs .1 .1 .0) (qs .1 .1 .0)) (λ x. x) (λ x. x) (Reads'.as-is 𝓤 H A (Mut.msleft (Referent.rtF (Referent.fInt Syntax.w16)) (Syntax.tyRef Syntax.erased Syntax.mut (Syntax.tyInt
-              Syntax.w16)))) (Reads'.as-is 𝓤 H A (PartMut.mslice-owedM (Referent.rtF (Referent.fInt Syntax.w16)) (Syntax.tyRef (Syntax.named 2) Syntax.mut (Syntax.tyInt Syntax.w16)) 2 5 (Row.lease (κs .1
-              .1 .0) (qs .1 .1 .0)))) Path'.refl Path'.refl)) (Know.g-sl-known 𝓤 H A W (Referent.fInt Syntax.w16) E G47 5 2 (Syntax.tyRef (Syntax.named 2) Syntax.mut (Syntax.tyInt Syntax.w16)) (Row.lease
-              (κs .1 .1 .0) (qs .1 .1 .0)) 0 (λ x. x) record { fits = Dec'.lit< tt } (Reads'.as-is 𝓤 H A (Mut.mslice (Referent.rtF (Referent.fInt Syntax.w16)) (Syntax.tyRef (Syntax.named 2) Syntax.mut
-              (Syntax.tyInt Syntax.w16)) 2)) Path'.refl tt)) (Lifetime.g-forget 𝓤 H A W E G48 5 Row.dead Path'.refl)) (Lifetime.g-end 𝓤 H A W E G49 6 Path'.refl)) (PartMut.g-back-slᵐ 𝓤 H A W E
-              (Element.type) G50 23 6 3 6 (Syntax.tyRef (Syntax.named 3) Syntax.mut Element.behind) (Syntax.tyRef Syntax.erased Syntax.mut Element.behind) (Row.lease (κs .1 .1 .1 .0) (qs .1 .1 .1 .0)) (λ
-              x. x) (λ x. x) (Reads'.as-is 𝓤 H A (Mut.msleft (Element.type) (Syntax.tyRef Syntax.erased Syntax.mut Element.behind))) (Reads'.as-is 𝓤 H A (PartMut.mslice-owedM (Element.type) (Syntax.tyRef
-              (Syntax.named 3) Syntax.mut Element.behind) 3 6 (Row.lease (κs .1 .1 .1 .0) (qs .1 .1 .1 .0)))) Path'.refl Path'.refl)) (Lifetime.g-forget 𝓤 H A W E G51 6 Row.dead Path'.refl))
+              ) (Reads'.room-gone 𝓤 H A y15) (tt, (tt, (tt, (tt, tt)))) Path'.refl)
+              (Scalar.g-room 𝓤 H A W E G39 9 y8 (Local.room-whole 𝓤 H A W (Declared'.row FujiHeader.the-type) y8 Path'.refl))) (Scalar.g-room 𝓤 H A W E G40 10 u64 (Scalar.room-sc 𝓤 H A W (Row.sInt
+              Syntax.w64)))) (Lifetime.g-end 𝓤 H A W E G41 4 Path'.refl)) (Relend.g-back-sl 𝓤 H A W E n8 G42 15 4 1 4 y2 y7 k1 (λ x. x) (λ x. x) (Reads'.as-is 𝓤 H A (Mut.msleft n8 y7)) (Reads'.as-is 𝓤 H A
+              (Relend.mslice-owed n8 y2 1 4 k1)) Path'.refl Path'.refl)) (Know.g-sl-known 𝓤 H A W (Referent.fInt Syntax.w8) E G43 4 1 y2 k1 0 (λ x. x) record { fits = Dec'.lit< tt } (Reads'.as-is 𝓤 H A
+              (Mut.mslice n8 y2 1)) Path'.refl tt)) (Lifetime.g-forget 𝓤 H A W E G43 4 Row.dead Path'.refl)) (Lifetime.g-end 𝓤 H A W E G45 5 Path'.refl)) (PartMut.g-back-slᵐ 𝓤 H A W E n16 G46 19 5 2 5 y3
+              y6 k2 (λ x. x) (λ x. x) (Reads'.as-is 𝓤 H A (Mut.msleft n16 y6)) (Reads'.as-is 𝓤 H A (PartMut.mslice-owedM n16 y3 2 5 k2)) Path'.refl Path'.refl)) (Know.g-sl-known 𝓤 H A W (Referent.fInt
+              Syntax.w16) E G47 5 2 y3 k2 0 (λ x. x) record { fits = Dec'.lit< tt } (Reads'.as-is 𝓤 H A (Mut.mslice n16 y3 2)) Path'.refl tt)) (Lifetime.g-forget 𝓤 H A W E G47 5 Row.dead Path'.refl))
+              (Lifetime.g-end 𝓤 H A W E G49 6 Path'.refl)) (PartMut.g-back-slᵐ 𝓤 H A W E (Element.type) G50 23 6 3 6 y4 y5 k3 (λ x. x) (λ x. x) (Reads'.as-is 𝓤 H A (Mut.msleft (Element.type) y5))
+              (Reads'.as-is 𝓤 H A (PartMut.mslice-owedM (Element.type) y4 3 6 k3)) Path'.refl Path'.refl)) (Lifetime.g-forget 𝓤 H A W E G51 6 Row.dead Path'.refl))
 
           d6 : Typed.Typed 𝓤 H A 𝓣 E G37 b18 Δ1 at6
-          d6 = Typed.g-pre 𝓤 H A W 𝓣 E G37 G38 b18 Δ1 (Typed.pass T37 T38 s35) at5 (Scalar.g-room 𝓤 H A W E G37 21 (Syntax.tyInt Syntax.w64) (Scalar.room-sc 𝓤 H A W (Row.sInt Syntax.w64))) d5
+          d6 = Typed.g-pre 𝓤 H A W 𝓣 E G37 G38 b18 Δ1 (Typed.pass T37 T38 s35) at5 (Scalar.g-room 𝓤 H A W E G37 21 u64 (Scalar.room-sc 𝓤 H A W (Row.sInt Syntax.w64))) d5
 
-          d7 : Typed.Typed 𝓤 H A 𝓣 E G36 b19 Δ1 at7
-          d7 = Typed.s-seq 𝓤 H A W 𝓣 E G36 G37 b17 b18 Δ1 (Typed.ask s34) at6 (Relend.t-sl-aggregate 𝓤 H A W E (Element.type) 𝓣 (Relend.asMut (Element.type)) G36 22 23 6 (Syntax.tyRef Syntax.erased
-              Syntax.mut Element.behind) (Syntax.tyRef Syntax.erased Syntax.mut Element.behind) (λ x. x) (Scalar.oAt 21 (Syntax.tyInt Syntax.w64) (Row.valS (Row.sInt Syntax.w64))) (Reads'.as-is 𝓤 H A
-              (Relend.msptr (Element.type) (Syntax.tyRef Syntax.erased Syntax.mut Element.behind) 6)) (Reads'.room-gone 𝓤 H A y4) (Scalar.reads-sc 𝓤 H A W (Row.sInt Syntax.w64), Path'.refl) Path'.refl
-              Path'.refl λ b o k. tt) d6
+          d7 : Typed.Typed 𝓤 H A 𝓣 E G36 (Syntax.seq b17 b18) Δ1 at7
+          d7 = Typed.s-seq 𝓤 H A W 𝓣 E G36 G37 b17 b18 Δ1 (Typed.ask s34) at6 (Relend.t-sl-aggregate 𝓤 H A W E (Element.type) 𝓣 (Relend.asMut (Element.type)) G36 22 23 6 y5 y5 (λ x. x) (Scalar.oAt 21
+              u64 (Row.valS (Row.sInt Syntax.w64))) (Reads'.as-is 𝓤 H A (Relend.msptr (Element.type) y5 6)) (Reads'.room-gone 𝓤 H A y12) (Scalar.reads-sc 𝓤 H A W (Row.sInt Syntax.w64), Path'.refl)
+              Path'.refl Path'.refl λ b o k. tt) d6
 
-          d8 : Typed.Typed 𝓤 H A 𝓣 E G35 b19 Δ1 at8
-          d8 = Typed.g-pre 𝓤 H A W 𝓣 E G35 G36 b19 Δ1 (Typed.pass T35 T36 s33) at7 (Scalar.g-room 𝓤 H A W E G35 20 Syntax.tyPtr (Scalar.room-sc 𝓤 H A W Row.sPtr)) d7
+          d8 : Typed.Typed 𝓤 H A 𝓣 E G35 (Syntax.seq b17 b18) Δ1 at8
+          d8 = Typed.g-pre 𝓤 H A W 𝓣 E G35 G36 (Syntax.seq b17 b18) Δ1 (Typed.pass T35 T36 s33) at7 (Scalar.g-room 𝓤 H A W E G35 20 Syntax.tyPtr (Scalar.room-sc 𝓤 H A W Row.sPtr)) d7
 
-          d9 : Typed.Typed 𝓤 H A 𝓣 E G34 b20 Δ1 at9
-          d9 = Typed.s-seq 𝓤 H A W 𝓣 E G34 G35 b16 b19 Δ1 (Typed.both s32) at8 (PartMut.t-sl-relendᵐ 𝓤 H A W E (Element.type) 𝓣 G34 6 20 22 3 6 (Element.held) (Syntax.tyRef (Syntax.named 3) Syntax.mut
-              Element.behind) (Syntax.tyRef Syntax.erased Syntax.mut Element.behind) (Row.lease (κs .1 .1 .1 .0) (qs .1 .1 .1 .0)) (Shared.bySize 8) (λ x. x) (λ x. x) (λ u. 0) (λ u. 336) (λ i o.
-              Elements.at-mul o 8 i) (Reads'.as-is 𝓤 H A (Mut.mslice (Element.type) (Syntax.tyRef (Syntax.named 3) Syntax.mut Element.behind) 3)) (Reads'.as-is 𝓤 H A (Rows.sc-here Row.sPtr))
-              (Reads'.room-gone 𝓤 H A (Syntax.tyRef Syntax.erased Syntax.mut Element.behind)) Path'.refl tt Path'.refl Path'.refl λ b o. tt) d8
+          d9 : Typed.Typed 𝓤 H A 𝓣 E G34 (Syntax.seq b16 (Syntax.seq b17 b18)) Δ1 at9
+          d9 = Typed.s-seq 𝓤 H A W 𝓣 E G34 G35 b16 (Syntax.seq b17 b18) Δ1 (Typed.both s32) at8 (PartMut.t-sl-relendᵐ 𝓤 H A W E (Element.type) 𝓣 G34 6 20 22 3 6 (Element.held) y4 y5 k3 (Shared.bySize
+              8) (λ x. x) (λ x. x) (λ u. 0) (λ u. 336) (λ i o. Elements.at-mul o 8 i) (Reads'.as-is 𝓤 H A (Mut.mslice (Element.type) y4 3)) (Reads'.as-is 𝓤 H A (Rows.sc-here Row.sPtr)) (Reads'.room-gone 𝓤
+              H A y5) Path'.refl tt Path'.refl Path'.refl λ b o. tt) d8
 
-          d10 : Typed.Typed 𝓤 H A 𝓣 E G33 b20 Δ1 at10
-          d10 = Typed.g-pre 𝓤 H A W 𝓣 E G33 G34 b20 Δ1 (λ Ψ. Ψ) at9 (Lifetime.g-begin 𝓤 H A W E G33 6
+          d10 : Typed.Typed 𝓤 H A 𝓣 E G33 (Syntax.seq b16 (Syntax.seq b17 b18)) Δ1 at9
+          d10 = Typed.g-pre 𝓤 H A W 𝓣 E G33 G34 (Syntax.seq b16 (Syntax.seq b17 b18)) Δ1 (λ Ψ. Ψ) at9 (Lifetime.g-begin 𝓤 H A W E G33 6
               (tt, (tt, (tt, (tt, ((tt, tt), ((tt, tt), (tt, (tt, (tt, (tt, (tt, (tt, (tt, (tt, (tt, (tt, (tt, (tt, (tt, (tt, (tt, (tt, (tt, (tt, tt))))))))))))))))))))))))) d9
 
           d11 : Typed.Typed 𝓤 H A 𝓣 E G32 b21 Δ1 at11
-          d11 = Typed.s-seq 𝓤 H A W 𝓣 E G32 G33 b15 b20 Δ1 (Typed.ask s30) at10 (Scalar.t-op2 𝓤 H A W E 𝓣 G32 (Syntax.sub Syntax.unsigned) (Scalar.oInt Syntax.w64 336) (Scalar.oInt Syntax.w64 0) 21
-              (Rows.sc-here (Row.sInt Syntax.w64)) (Syntax.tyInt Syntax.w64) (Row.valS (Row.sInt Syntax.w64)) (Row.sInt Syntax.w64 .of) tt tt (Reads'.room-gone 𝓤 H A (Syntax.tyInt Syntax.w64))
-              (Scalar.holds-sc 𝓤 H A W (Row.sInt Syntax.w64)) Path'.refl (λ u. Path'.refl) λ u. tt) d10
+          d11 = Typed.s-seq 𝓤 H A W 𝓣 E G32 G33 b15 (Syntax.seq b16 (Syntax.seq b17 b18)) Δ1 (Typed.ask s30) at9 (Scalar.t-op2 𝓤 H A W E 𝓣 G32 (Syntax.sub Syntax.unsigned) (Scalar.oInt Syntax.w64 336)
+              (Scalar.oInt Syntax.w64 0) 21 (Rows.sc-here (Row.sInt Syntax.w64)) u64 (Row.valS (Row.sInt Syntax.w64)) (Row.sInt Syntax.w64 .of) tt tt (Reads'.room-gone 𝓤 H A u64) (Scalar.holds-sc 𝓤 H A W
+              (Row.sInt Syntax.w64)) Path'.refl (λ u. Path'.refl) λ u. tt) d10
 
-          d12 : Typed.Typed 𝓤 H A 𝓣 E G31 b22 Δ1 at12
-          d12 = Typed.s-seq 𝓤 H A W 𝓣 E G31 G32 b14 b21 Δ1 (Typed.ask s29) at11 (Scalar.t-op2 𝓤 H A W E 𝓣 G31 Syntax.offset (Scalar.oFld 6 (List._∷_ (Syntax.field 0) List.[]) (Syntax.tyRef
-              (Syntax.named 3) Syntax.mut Element.behind) 0 Reads'.ptrVal) (Scalar.oInt Syntax.w64 0) 20 (Rows.sc-here Row.sPtr) Syntax.tyPtr (Row.valS Row.sPtr) (Row.sPtr .of)
-              (Mut.reads-mslice-ptr 𝓤 H A W (Element.type) (Syntax.tyRef (Syntax.named 3) Syntax.mut Element.behind) 3 0 Path'.refl, Path'.refl) tt (Reads'.room-gone 𝓤 H A Syntax.tyPtr) (Scalar.holds-sc 𝓤
-              H A W Row.sPtr) Path'.refl (λ u. Path'.refl) λ u. tt) d11
+          d12 : Typed.Typed 𝓤 H A 𝓣 E G31 (Syntax.seq b14 b21) Δ1 at12
+          d12 = Typed.s-seq 𝓤 H A W 𝓣 E G31 G32 b14 b21 Δ1 (Typed.ask s29) at11 (Scalar.t-op2 𝓤 H A W E 𝓣 G31 Syntax.offset (Scalar.oFld 6 ((Syntax.field 0) ∷ []) y4 0 Reads'.ptrVal) (Scalar.oInt
+              Syntax.w64 0) 20 (Rows.sc-here Row.sPtr) Syntax.tyPtr (Row.valS Row.sPtr) (Row.sPtr .of) (Mut.reads-mslice-ptr 𝓤 H A W (Element.type) y4 3 0 Path'.refl, Path'.refl) tt (Reads'.room-gone 𝓤 H
+              A Syntax.tyPtr) (Scalar.holds-sc 𝓤 H A W Row.sPtr) Path'.refl (λ u. Path'.refl) λ u. tt) d11
 
-          d13 : Typed.Typed 𝓤 H A 𝓣 E G30 b22 Δ1 at13
-          d13 = Typed.g-pre 𝓤 H A W 𝓣 E G30 G31 b22 Δ1 (Typed.pass T30 T31 s28) at12 (Scalar.g-room 𝓤 H A W E G30 17 (Syntax.tyInt Syntax.w64) (Scalar.room-sc 𝓤 H A W (Row.sInt Syntax.w64))) d12
+          d13 : Typed.Typed 𝓤 H A 𝓣 E G30 (Syntax.seq b14 b21) Δ1 at13
+          d13 = Typed.g-pre 𝓤 H A W 𝓣 E G30 G31 (Syntax.seq b14 b21) Δ1 (Typed.pass T30 T31 s28) at12 (Scalar.g-room 𝓤 H A W E G30 17 u64 (Scalar.room-sc 𝓤 H A W (Row.sInt Syntax.w64))) d12
 
-          d14 : Typed.Typed 𝓤 H A 𝓣 E G29 b23 Δ1 at14
-          d14 = Typed.s-seq 𝓤 H A W 𝓣 E G29 G30 b13 b22 Δ1 (Typed.ask s27) at13 (Relend.t-sl-aggregate 𝓤 H A W E (Referent.rtF (Referent.fInt Syntax.w16)) 𝓣 (Relend.asMut (Referent.rtF (Referent.fInt
-              Syntax.w16))) G29 18 19 5 (Syntax.tyRef Syntax.erased Syntax.mut (Syntax.tyInt Syntax.w16)) (Syntax.tyRef Syntax.erased Syntax.mut (Syntax.tyInt Syntax.w16)) (λ x. x) (Scalar.oAt 17
-              (Syntax.tyInt Syntax.w64) (Row.valS (Row.sInt Syntax.w64))) (Reads'.as-is 𝓤 H A (Relend.msptr (Referent.rtF (Referent.fInt Syntax.w16)) (Syntax.tyRef Syntax.erased Syntax.mut (Syntax.tyInt
-              Syntax.w16)) 5)) (Reads'.room-gone 𝓤 H A y2) (Scalar.reads-sc 𝓤 H A W (Row.sInt Syntax.w64), Path'.refl) Path'.refl Path'.refl λ b o k. tt) d13
+          d14 : Typed.Typed 𝓤 H A 𝓣 E G29 (Syntax.seq b13 (Syntax.seq b14 b21)) Δ1 at14
+          d14 = Typed.s-seq 𝓤 H A W 𝓣 E G29 G30 b13 (Syntax.seq b14 b21) Δ1 (Typed.ask s27) at13 (Relend.t-sl-aggregate 𝓤 H A W E n16 𝓣 (Relend.asMut n16) G29 18 19 5 y6 y6 (λ x. x) (Scalar.oAt 17 u64
+              (Row.valS (Row.sInt Syntax.w64))) (Reads'.as-is 𝓤 H A (Relend.msptr n16 y6 5)) (Reads'.room-gone 𝓤 H A y13) (Scalar.reads-sc 𝓤 H A W (Row.sInt Syntax.w64), Path'.refl) Path'.refl Path'.refl
+              λ b o k. tt) d13
 
-          d15 : Typed.Typed 𝓤 H A 𝓣 E G28 b23 Δ1 at15
-          d15 = Typed.g-pre 𝓤 H A W 𝓣 E G28 G29 b23 Δ1 (Typed.pass T28 T29 s26) at14 (Scalar.g-room 𝓤 H A W E G28 16 Syntax.tyPtr (Scalar.room-sc 𝓤 H A W Row.sPtr)) d14
+          d15 : Typed.Typed 𝓤 H A 𝓣 E G28 (Syntax.seq b13 (Syntax.seq b14 b21)) Δ1 at15
+          d15 = Typed.g-pre 𝓤 H A W 𝓣 E G28 G29 (Syntax.seq b13 (Syntax.seq b14 b21)) Δ1 (Typed.pass T28 T29 s26) at14 (Scalar.g-room 𝓤 H A W E G28 16 Syntax.tyPtr (Scalar.room-sc 𝓤 H A W Row.sPtr))
+              d14
 
           d16 : Typed.Typed 𝓤 H A 𝓣 E G27 b24 Δ1 at16
-          d16 = Typed.s-seq 𝓤 H A W 𝓣 E G27 G28 b12 b23 Δ1 (Typed.both s25) at15 (PartMut.t-sl-relendᵐ 𝓤 H A W E (Referent.rtF (Referent.fInt Syntax.w16)) 𝓣 G27 5 16 18 2 5 (Syntax.tyInt Syntax.w16)
-              (Syntax.tyRef (Syntax.named 2) Syntax.mut (Syntax.tyInt Syntax.w16)) (Syntax.tyRef Syntax.erased Syntax.mut (Syntax.tyInt Syntax.w16)) (Row.lease (κs .1 .1 .0) (qs .1 .1 .0)) (Shared.bySize
-              2) (λ x. x) (λ x. x) (λ u. 0) (λ u. u .1 .1 .1 .1 .1 .1 .1 .1 .1 .1 .0) (λ i o. Elements.at-mul o 2 i) (Reads'.as-is 𝓤 H A (Mut.mslice (Referent.rtF (Referent.fInt Syntax.w16)) (Syntax.tyRef
-              (Syntax.named 2) Syntax.mut (Syntax.tyInt Syntax.w16)) 2)) (Reads'.as-is 𝓤 H A (Rows.sc-here Row.sPtr)) (Reads'.room-gone 𝓤 H A (Syntax.tyRef Syntax.erased Syntax.mut (Syntax.tyInt
-              Syntax.w16))) Path'.refl tt Path'.refl Path'.refl λ b o. tt) d15
+          d16 = Typed.s-seq 𝓤 H A W 𝓣 E G27 G28 b12 (Syntax.seq b13 (Syntax.seq b14 b21)) Δ1 (Typed.both s25) at15 (PartMut.t-sl-relendᵐ 𝓤 H A W E n16 𝓣 G27 5 16 18 2 5 u16 y3 y6 k2 (Shared.bySize 2)
+              (λ x. x) (λ x. x) (λ u. 0) (λ u. u .1 .1 .1 .1 .1 .1 .1 .1 .1 .1 .0) (λ i o. Elements.at-mul o 2 i) (Reads'.as-is 𝓤 H A (Mut.mslice n16 y3 2)) (Reads'.as-is 𝓤 H A (Rows.sc-here Row.sPtr))
+              (Reads'.room-gone 𝓤 H A y6) Path'.refl tt Path'.refl Path'.refl λ b o. tt) d15
 
-          d17 : Typed.Typed 𝓤 H A 𝓣 E G26 b24 Δ1 at17
+          d17 : Typed.Typed 𝓤 H A 𝓣 E G26 b24 Δ1 at16
           d17 = Typed.g-pre 𝓤 H A W 𝓣 E G26 G27 b24 Δ1 (λ Ψ. Ψ) at16 (Lifetime.g-begin 𝓤 H A W E G26 5
               (tt, (tt, (tt, (tt, ((tt, tt), (tt, (tt, (tt, (tt, (tt, (tt, (tt, (tt, (tt, (tt, (tt, (tt, (tt, (tt, (tt, (tt, (tt, (tt, (tt, tt))))))))))))))))))))))))) d16
 
-          d18 : Typed.Typed 𝓤 H A 𝓣 E G25 b25 Δ1 at18
-          d18 = Typed.s-seq 𝓤 H A W 𝓣 E G25 G26 b11 b24 Δ1 (Typed.ask s23) at17 (Scalar.t-op2 𝓤 H A W E 𝓣 G25 (Syntax.sub Syntax.unsigned) (Scalar.oAt 10 (Syntax.tyInt Syntax.w64) (Row.valS (Row.sInt
-              Syntax.w64))) (Scalar.oInt Syntax.w64 0) 17 (Rows.sc-here (Row.sInt Syntax.w64)) (Syntax.tyInt Syntax.w64) (Row.valS (Row.sInt Syntax.w64)) (Row.sInt Syntax.w64 .of)
-              (Scalar.reads-sc 𝓤 H A W (Row.sInt Syntax.w64), Path'.refl) tt (Reads'.room-gone 𝓤 H A (Syntax.tyInt Syntax.w64)) (Scalar.holds-sc 𝓤 H A W (Row.sInt Syntax.w64)) Path'.refl (λ u. Path'.refl)
-              λ u. tt) d17
+          d18 : Typed.Typed 𝓤 H A 𝓣 E G25 (Syntax.seq b11 b24) Δ1 at18
+          d18 = Typed.s-seq 𝓤 H A W 𝓣 E G25 G26 b11 b24 Δ1 (Typed.ask s23) at16 (Scalar.t-op2 𝓤 H A W E 𝓣 G25 (Syntax.sub Syntax.unsigned) (Scalar.oAt 10 u64 (Row.valS (Row.sInt Syntax.w64)))
+              (Scalar.oInt Syntax.w64 0) 17 (Rows.sc-here (Row.sInt Syntax.w64)) u64 (Row.valS (Row.sInt Syntax.w64)) (Row.sInt Syntax.w64 .of) (Scalar.reads-sc 𝓤 H A W (Row.sInt Syntax.w64), Path'.refl)
+              tt (Reads'.room-gone 𝓤 H A u64) (Scalar.holds-sc 𝓤 H A W (Row.sInt Syntax.w64)) Path'.refl (λ u. Path'.refl) λ u. tt) d17
 
-          d19 : Typed.Typed 𝓤 H A 𝓣 E G24 b26 Δ1 at19
-          d19 = Typed.s-seq 𝓤 H A W 𝓣 E G24 G25 b10 b25 Δ1 (Typed.ask s22) at18 (Scalar.t-op2 𝓤 H A W E 𝓣 G24 Syntax.offset (Scalar.oFld 5 (List._∷_ (Syntax.field 0) List.[]) (Syntax.tyRef
-              (Syntax.named 2) Syntax.mut (Syntax.tyInt Syntax.w16)) 0 Reads'.ptrVal) (Scalar.oInt Syntax.w64 0) 16 (Rows.sc-here Row.sPtr) Syntax.tyPtr (Row.valS Row.sPtr) (Row.sPtr .of)
-              (Mut.reads-mslice-ptr 𝓤 H A W (Referent.rtF (Referent.fInt Syntax.w16)) (Syntax.tyRef (Syntax.named 2) Syntax.mut (Syntax.tyInt Syntax.w16)) 2 0 Path'.refl, Path'.refl) tt (Reads'.room-gone
-              𝓤 H A Syntax.tyPtr) (Scalar.holds-sc 𝓤 H A W Row.sPtr) Path'.refl (λ u. Path'.refl) λ u. tt) d18
+          d19 : Typed.Typed 𝓤 H A 𝓣 E G24 (Syntax.seq b10 (Syntax.seq b11 b24)) Δ1 at19
+          d19 = Typed.s-seq 𝓤 H A W 𝓣 E G24 G25 b10 (Syntax.seq b11 b24) Δ1 (Typed.ask s22) at18 (Scalar.t-op2 𝓤 H A W E 𝓣 G24 Syntax.offset (Scalar.oFld 5 ((Syntax.field 0) ∷ []) y3 0 Reads'.ptrVal)
+              (Scalar.oInt Syntax.w64 0) 16 (Rows.sc-here Row.sPtr) Syntax.tyPtr (Row.valS Row.sPtr) (Row.sPtr .of) (Mut.reads-mslice-ptr 𝓤 H A W n16 y3 2 0 Path'.refl, Path'.refl) tt (Reads'.room-gone 𝓤
+              H A Syntax.tyPtr) (Scalar.holds-sc 𝓤 H A W Row.sPtr) Path'.refl (λ u. Path'.refl) λ u. tt) d18
 
           d20 : Typed.Typed 𝓤 H A 𝓣 E G23 b27 Δ1 at20
-          d20 = Typed.s-seq 𝓤 H A W 𝓣 E G23 G24 b9 b26 Δ1 (Typed.ask s21) at19 (Relend.t-sl-aggregate 𝓤 H A W E (Referent.rtF (Referent.fInt Syntax.w8)) 𝓣 (Relend.asMut (Referent.rtF (Referent.fInt
-              Syntax.w8))) G23 14 15 4 (Syntax.tyRef Syntax.erased Syntax.mut (Syntax.tyInt Syntax.w8)) (Syntax.tyRef Syntax.erased Syntax.mut (Syntax.tyInt Syntax.w8)) (λ x. x) (Scalar.oFld 4 (List._∷_
-              (Syntax.field 1) List.[]) (Syntax.tyInt Syntax.w64) 8 λ v. Shared.lenV (v .0)) (Reads'.as-is 𝓤 H A (Relend.msptr (Referent.rtF (Referent.fInt Syntax.w8)) (Syntax.tyRef Syntax.erased
-              Syntax.mut (Syntax.tyInt Syntax.w8)) 4)) (Reads'.room-gone 𝓤 H A y3) (
-                Relend.reads-owed-len 𝓤 H A W (Referent.rtF (Referent.fInt Syntax.w8)) (Syntax.tyRef (Syntax.named 1) Syntax.mut (Syntax.tyInt Syntax.w8)) 1 4 (Row.lease (κs .1 .0) (qs .1 .0)) 8
-                    Path'.refl,
-                Path'.refl,
-              ) Path'.refl Path'.refl λ b o k. tt) d19
+          d20 = Typed.s-seq 𝓤 H A W 𝓣 E G23 G24 b9 (Syntax.seq b10 (Syntax.seq b11 b24)) Δ1 (Typed.ask s21) at19 (Relend.t-sl-aggregate 𝓤 H A W E n8 𝓣 (Relend.asMut n8) G23 14 15 4 y7 y7 (λ x. x)
+              (Scalar.oFld 4 ((Syntax.field 1) ∷ []) u64 8 λ v. Shared.lenV (v .0)) (Reads'.as-is 𝓤 H A (Relend.msptr n8 y7 4)) (Reads'.room-gone 𝓤 H A y14)
+              (Relend.reads-owed-len 𝓤 H A W n8 y2 1 4 k1 8 Path'.refl, Path'.refl) Path'.refl Path'.refl λ b o k. tt) d19
 
-          d21 : Typed.Typed 𝓤 H A 𝓣 E G22 b28 Δ1 at21
-          d21 = Typed.s-seq 𝓤 H A W 𝓣 E G22 G23 b8 b27 Δ1 (Typed.give s20) at20 (Relend.t-sl-relend 𝓤 H A W E (Referent.rtF (Referent.fInt Syntax.w8)) 𝓣 G22 4 14 1 4 (Syntax.tyRef (Syntax.named 1)
-              Syntax.mut (Syntax.tyInt Syntax.w8)) (Syntax.tyRef Syntax.erased Syntax.mut (Syntax.tyInt Syntax.w8)) (Row.lease (κs .1 .0) (qs .1 .0)) 0 (λ x. x) (Reads'.as-is 𝓤 H A (Mut.mslice
-              (Referent.rtF (Referent.fInt Syntax.w8)) (Syntax.tyRef (Syntax.named 1) Syntax.mut (Syntax.tyInt Syntax.w8)) 1)) (Reads'.room-gone 𝓤 H A (Syntax.tyRef Syntax.erased Syntax.mut (Syntax.tyInt
-              Syntax.w8))) Path'.refl tt Path'.refl Path'.refl Path'.refl λ b o. tt) d20
+          d21 : Typed.Typed 𝓤 H A 𝓣 E G22 (Syntax.seq b8 b27) Δ1 at21
+          d21 = Typed.s-seq 𝓤 H A W 𝓣 E G22 G23 b8 b27 Δ1 (Typed.give s20) at20 (Relend.t-sl-relend 𝓤 H A W E n8 𝓣 G22 4 14 1 4 y2 y7 k1 0 (λ x. x) (Reads'.as-is 𝓤 H A (Mut.mslice n8 y2 1))
+              (Reads'.room-gone 𝓤 H A y7) Path'.refl tt Path'.refl Path'.refl Path'.refl λ b o. tt) d20
 
-          d22 : Typed.Typed 𝓤 H A 𝓣 E G21 b28 Δ1 at22
-          d22 = Typed.g-pre 𝓤 H A W 𝓣 E G21 G22 b28 Δ1 (λ Ψ. Ψ) at21 (Lifetime.g-begin 𝓤 H A W E G21 4
+          d22 : Typed.Typed 𝓤 H A 𝓣 E (on T21 l5) (Syntax.seq b8 b27) Δ1 at21
+          d22 = Typed.g-pre 𝓤 H A W 𝓣 E (on T21 l5) G22 (Syntax.seq b8 b27) Δ1 (λ Ψ. Ψ) at21 (Lifetime.g-begin 𝓤 H A W E (on T21 l5) 4
               (tt, (tt, (tt, (tt, (tt, (tt, (tt, (tt, (tt, (tt, (tt, (tt, (tt, (tt, (tt, (tt, (tt, (tt, (tt, (tt, (tt, (tt, (tt, (tt, tt))))))))))))))))))))))))) d21
 
-          d23 : Typed.Typed 𝓤 H A 𝓣 E G20 b29 Δ1 at23
-          d23 = Typed.s-seq 𝓤 H A W 𝓣 E G20 G21 b7 b28 Δ1 (Typed.both s18) at22 (Plain.t-call-plain 𝓤 H A W 𝓣 0 ps·2 r·2 (claims· .4) (claims· .5) "begin::samples_needed" (known .2) E (λ pos β. β) G20
-              (Bool.bFld 9 (List._∷_ (Syntax.field 1) List.[]) 1 λ x. FujiHeader.struct .as-values x .1 .0, tt) 10 List.[] (Call.sub-id 𝓤 H A W (G20 .slots))
-              ((Reads.reads-field 𝓤 H A W FujiHeader.the-type Laws'.the-laws 1 Syntax.tyBool 1 Path'.refl, Path'.refl), tt) (Reads'.room-gone 𝓤 H A (Syntax.tyInt Syntax.w64)) tt Path'.refl) d22
+          d23 : Typed.Typed 𝓤 H A 𝓣 E (on T20 l5) (Syntax.seq b7 (Syntax.seq b8 b27)) Δ1 at23
+          d23 = Typed.s-seq 𝓤 H A W 𝓣 E (on T20 l5) (on T21 l5) b7 (Syntax.seq b8 b27) Δ1 (Typed.both s18) at21 (Plain.t-call-plain 𝓤 H A W 𝓣 0 ps·2 r·2 (claims· .4) (claims· .5)
+              "begin::samples_needed" (known .2) E (λ pos β. β) (on T20 l5) (Bool.bFld 9 ((Syntax.field 1) ∷ []) 1 λ x. FujiHeader.struct .as-values x .1 .0, tt) 10 [] (Call.sub-id 𝓤 H A W ((on T20 l5)
+              .slots)) ((Reads.reads-field 𝓤 H A W FujiHeader.the-type Laws'.the-laws 1 Syntax.tyBool 1 Path'.refl, Path'.refl), tt) (Reads'.room-gone 𝓤 H A u64) tt Path'.refl) d22
 
-          d24 : Typed.Typed 𝓤 H A 𝓣 E G19 b29 Δ1 at24
-          d24 = Typed.g-pre 𝓤 H A W 𝓣 E G19 G20 b29 Δ1 (Typed.pass T19 T20 s17) at23 (Scalar.g-room 𝓤 H A W E G19 7 (Syntax.tyEnum (List._∷_ 115 (List._∷_ 116 (List._∷_ 114 (List._∷_ 101 (List._∷_ 97
-              (List._∷_ 109 (List._∷_ 58 (List._∷_ 58 (List._∷_ 80 (List._∷_ 97 (List._∷_ 114 (List._∷_ 115 (List._∷_ 101 (List._∷_ 100 List.[])))))))))))))) (Syntax.ttcons (Syntax.tcons y0 Syntax.tnil)
-              (Syntax.ttcons (Syntax.tcons (Syntax.tyEnum (List._∷_ 115 (List._∷_ 116 (List._∷_ 114 (List._∷_ 101 (List._∷_ 97 (List._∷_ 109 (List._∷_ 58 (List._∷_ 58 (List._∷_ 82 (List._∷_ 101 (List._∷_
-              102 (List._∷_ 117 (List._∷_ 115 (List._∷_ 97 (List._∷_ 108 List.[]))))))))))))))) (Syntax.ttcons Syntax.tnil (Syntax.ttcons Syntax.tnil (Syntax.ttcons Syntax.tnil (Syntax.ttcons
-              (Syntax.tcons (Syntax.tyInt Syntax.w64) Syntax.tnil) (Syntax.ttcons Syntax.tnil (Syntax.ttcons Syntax.tnil (Syntax.ttcons Syntax.tnil (Syntax.ttcons Syntax.tnil (Syntax.ttcons Syntax.tnil
-              (Syntax.ttcons Syntax.tnil (Syntax.ttcons (Syntax.tcons (Syntax.tyInt Syntax.w64) Syntax.tnil) (Syntax.ttcons (Syntax.tcons (Syntax.tyInt Syntax.w64) Syntax.tnil) (Syntax.ttcons Syntax.tnil
-              (Syntax.ttcons (Syntax.tcons (Syntax.tyInt Syntax.w64) (Syntax.tcons (Syntax.tyInt Syntax.w64) Syntax.tnil)) (Syntax.ttcons (Syntax.tcons (Syntax.tyInt Syntax.w64) Syntax.tnil)
-              (Syntax.ttcons Syntax.tnil (Syntax.ttcons Syntax.tnil (Syntax.ttcons (Syntax.tcons (Syntax.tyInt Syntax.w64) Syntax.tnil) (Syntax.ttcons (Syntax.tcons (Syntax.tyInt Syntax.w64) Syntax.tnil)
-              (Syntax.ttcons (Syntax.tcons (Syntax.tyInt Syntax.w64) Syntax.tnil) (Syntax.ttcons Syntax.tnil (Syntax.ttcons Syntax.tnil (Syntax.ttcons (Syntax.tcons (Syntax.tyInt Syntax.w64) (Syntax.tcons
-              (Syntax.tyInt Syntax.w64) Syntax.tnil)) (Syntax.ttcons Syntax.tnil Syntax.ttnil))))))))))))))))))))))))) Syntax.tnil) Syntax.ttnil))) (Local.room-whole 𝓤 H A W (Known.Known Parsed.enum 0)
-              (Syntax.tyEnum (List._∷_ 115 (List._∷_ 116 (List._∷_ 114 (List._∷_ 101 (List._∷_ 97 (List._∷_ 109 (List._∷_ 58 (List._∷_ 58 (List._∷_ 80 (List._∷_ 97 (List._∷_ 114 (List._∷_ 115 (List._∷_
-              101 (List._∷_ 100 List.[])))))))))))))) (Syntax.ttcons (Syntax.tcons y0 Syntax.tnil) (Syntax.ttcons (Syntax.tcons (Syntax.tyEnum (List._∷_ 115 (List._∷_ 116 (List._∷_ 114 (List._∷_ 101
-              (List._∷_ 97 (List._∷_ 109 (List._∷_ 58 (List._∷_ 58 (List._∷_ 82 (List._∷_ 101 (List._∷_ 102 (List._∷_ 117 (List._∷_ 115 (List._∷_ 97 (List._∷_ 108 List.[]))))))))))))))) (Syntax.ttcons
-              Syntax.tnil (Syntax.ttcons Syntax.tnil (Syntax.ttcons Syntax.tnil (Syntax.ttcons (Syntax.tcons (Syntax.tyInt Syntax.w64) Syntax.tnil) (Syntax.ttcons Syntax.tnil (Syntax.ttcons Syntax.tnil
-              (Syntax.ttcons Syntax.tnil (Syntax.ttcons Syntax.tnil (Syntax.ttcons Syntax.tnil (Syntax.ttcons Syntax.tnil (Syntax.ttcons (Syntax.tcons (Syntax.tyInt Syntax.w64) Syntax.tnil) (Syntax.ttcons
-              (Syntax.tcons (Syntax.tyInt Syntax.w64) Syntax.tnil) (Syntax.ttcons Syntax.tnil (Syntax.ttcons (Syntax.tcons (Syntax.tyInt Syntax.w64) (Syntax.tcons (Syntax.tyInt Syntax.w64) Syntax.tnil))
-              (Syntax.ttcons (Syntax.tcons (Syntax.tyInt Syntax.w64) Syntax.tnil) (Syntax.ttcons Syntax.tnil (Syntax.ttcons Syntax.tnil (Syntax.ttcons (Syntax.tcons (Syntax.tyInt Syntax.w64) Syntax.tnil)
-              (Syntax.ttcons (Syntax.tcons (Syntax.tyInt Syntax.w64) Syntax.tnil) (Syntax.ttcons (Syntax.tcons (Syntax.tyInt Syntax.w64) Syntax.tnil) (Syntax.ttcons Syntax.tnil (Syntax.ttcons Syntax.tnil
-              (Syntax.ttcons (Syntax.tcons (Syntax.tyInt Syntax.w64) (Syntax.tcons (Syntax.tyInt Syntax.w64) Syntax.tnil)) (Syntax.ttcons Syntax.tnil Syntax.ttnil))))))))))))))))))))))))) Syntax.tnil)
-              Syntax.ttnil))) Path'.refl)) d23
+          d24 : Typed.Typed 𝓤 H A 𝓣 E (on T19 l5) (Syntax.seq b7 (Syntax.seq b8 b27)) Δ1 at24
+          d24 = Typed.g-pre 𝓤 H A W 𝓣 E (on T19 l5) (on T20 l5) (Syntax.seq b7 (Syntax.seq b8 b27)) Δ1 (Typed.pass T19 T20 s17) at23 (Scalar.g-room 𝓤 H A W E (on T19 l5) 7 y10 (Local.room-whole 𝓤 H A
+              W (Known.Known Parsed.enum 0) y10 Path'.refl)) d23
 
-          d25 : Typed.Typed 𝓤 H A 𝓣 E G18 b30 Δ1 at25
-          d25 = Typed.s-seq 𝓤 H A W 𝓣 E G18 G19 b6 b29 Δ1 (Typed.pass T18 T19 s16) at24 (CopyOut.t-copy-told 𝓤 H A W E 𝓣 (Declared'.row FujiHeader.the-type) Path'.refl (Laws'5.val FujiHeader.the-type
-              Laws'.the-laws) (Laws'5.lawful FujiHeader.the-type Laws'.the-laws 𝓤 H A W) (Laws'5.makes FujiHeader.the-type Laws'.the-plain 𝓤 H A) G18 9 (Scalar.oFld 7 (List._∷_ (Syntax.variant 0)
-              (List._∷_ (Syntax.field 1) List.[])) y0 4 λ v. Laws'5.val FujiHeader.the-type Laws'.the-laws (v .0)) (λ m. m .1 .1 .1 .1 .1 .1 .1 .0 .0) (λ m. Laws'4.Fields (Declared.variants
-              Parsed.the-type) (Laws'4.spellss (Parsed.enum .parts) Laws''.the-laws) (Parsed.the-type .to (Known.at Parsed.enum 0 (m .1 .1 .1 .1 .1 .1 .1 .0)))) (Reads'.room-gone 𝓤 H A y0) (
-                Match.reads-payload 𝓤 H A W Parsed.enum Laws''.the-laws 0 Path'.refl Path'.refl (λ v. Val.vcons (Laws'5.val FujiHeader.the-type Laws'.the-laws (v .0)) Val.vnil) (λ v. Path'.refl) 0 y0 4
+          d25 : Typed.Typed 𝓤 H A 𝓣 E (on T17 l5) b30 Δ1 at25
+          d25 = Typed.s-seq 𝓤 H A W 𝓣 E (on T17 l5) (on T19 l5) b6 (Syntax.seq b7 (Syntax.seq b8 b27)) Δ1 (Typed.pass T17 T19 s16) at24 (CopyOut.t-copy-told 𝓤 H A W E 𝓣 (Declared'.row
+              FujiHeader.the-type) Path'.refl (Laws'5.val FujiHeader.the-type Laws'.the-laws) (Laws'5.lawful FujiHeader.the-type Laws'.the-laws 𝓤 H A W) (Laws'5.makes FujiHeader.the-type Laws'.the-plain 𝓤
+              H A) (on T17 l5) 9 (Scalar.oFld 7 ((Syntax.variant 0) ∷ (Syntax.field 1) ∷ []) y8 4 λ v. Laws'5.val FujiHeader.the-type Laws'.the-laws (v .0)) (λ m. m .1 .1 .1 .1 .1 .1 .1 .0 .0) (λ m.
+              Laws'4.Fields (Declared.variants Parsed.the-type) (Laws'4.spellss (Parsed.enum .parts) Laws''.the-laws) (Parsed.the-type .to (Known.at Parsed.enum 0 (m .1 .1 .1 .1 .1 .1 .1 .0))))
+              (Reads'.room-gone 𝓤 H A y8) (
+                Match.reads-payload 𝓤 H A W Parsed.enum Laws''.the-laws 0 Path'.refl Path'.refl (λ v. Val.vcons (Laws'5.val FujiHeader.the-type Laws'.the-laws (v .0)) Val.vnil) (λ v. Path'.refl) 0 y8 4
                     Path'.refl,
                 Path'.refl,
-              ) Path'.refl (λ ρ m. Make.tells-row 𝓤 H A W E ρ (Row.out 9 (G18 .locals)) m 7 (Laws'4.Fields (Declared.variants Parsed.the-type) (Laws'4.spellss (Parsed.enum .parts)
-              Laws''.the-laws) (Parsed.the-type .to (Known.at Parsed.enum 0 (m .1 .1 .1 .1 .1 .1 .1 .0)))) (Known.known-is 𝓤 H A W E Parsed.enum 0 Laws''.the-laws ρ 7 (m .1 .1 .1 .1 .1 .1 .1 .0))) (λ m k
-              wa. Path'.refl) λ m k wa. k .0) d24
+              ) Path'.refl (λ ρ m. Make.tells-row 𝓤 H A W E ρ (Row.out 9 ((on T17 l5) .locals)) m 7 (Laws'4.Fields (Declared.variants Parsed.the-type) (Laws'4.spellss (Parsed.enum
+              .parts) Laws''.the-laws) (Parsed.the-type .to (Known.at Parsed.enum 0 (m .1 .1 .1 .1 .1 .1 .1 .0)))) (Known.known-is 𝓤 H A W E Parsed.enum 0 Laws''.the-laws ρ 7 (m .1 .1 .1 .1 .1 .1 .1 .0)))
+              (λ m k wa. Path'.refl) λ m k wa. k .0) d24
 
-          d26 : Typed.Typed 𝓤 H A 𝓣 E G17 b30 Δ1 at26
-          d26 = Typed.g-pre 𝓤 H A W 𝓣 E G17 G18 b30 Δ1 (Typed.give s15) at25 (Known.g-known-told 𝓤 H A W E Parsed.enum 0 G17 7 Laws''.the-laws (λ x. x) (Reads'.as-is 𝓤 H A (Rows.whole (Known.Known
-              Parsed.enum 0)))) d25
+          d26 : Typed.Typed 𝓤 H A 𝓣 E (on T17 l5) b30 Δ1 at26
+          d26 = Typed.g-pre 𝓤 H A W 𝓣 E (on T17 l5) (on T17 l5) b30 Δ1 (Typed.give s15) at25 (Known.g-known-told 𝓤 H A W E Parsed.enum 0 (on T17 l5) 7 Laws''.the-laws (λ x. x) (Reads'.as-is 𝓤 H A
+              (Rows.whole (Known.Known Parsed.enum 0)))) d25
 
-          d27 : Typed.Typed 𝓤 H A 𝓣 E G10 b30 Δ1 at27
-          d27 = Typed.g-pre 𝓤 H A W 𝓣 E G10 G17 b30 Δ1 (Typed.both s14) at26 (Known.g-enum-known 𝓤 H A W E Parsed.enum 0 G10 7 (λ x. x) (Reads'.as-is 𝓤 H A (Rows.whole (Declared.row
-              Parsed.the-type)))) d26
+          d27 : Typed.Typed 𝓤 H A 𝓣 E (on T10 l5) b30 Δ1 at27
+          d27 = Typed.g-pre 𝓤 H A W 𝓣 E (on T10 l5) (on T17 l5) b30 Δ1 (Typed.both s14) at26 (Known.g-enum-known 𝓤 H A W E Parsed.enum 0 (on T10 l5) 7 (λ x. x) (Reads'.as-is 𝓤 H A (Rows.whole
+              (Declared.row Parsed.the-type)))) d26
 
-          d28 : Typed.Typed 𝓤 H A 𝓣 E G10 b31 Δ1 at28
-          d28 = Switch.t-switch-on 𝓤 H A W E 𝓣 G10 (Scalar.oFld 7 (List._∷_ (Syntax.variant 0) (List._∷_ (Syntax.field 0) List.[])) (Syntax.tyInt Syntax.w8) 0 λ x. Val.vint Syntax.w8 (Declared.tagOf
-              Parsed.the-type x)) Syntax.w8 (λ u. Declared.tagOf Parsed.the-type (u .1 .1 .1 .1 .1 .1 .1 .0)) (Syntax.arm (List._∷_ 1 List.[]) b5 (Syntax.arm (List._∷_ 0 List.[]) b30 Syntax.noDefault)) Δ1
-              (at4, (at27, tt))
+          d28 : Typed.Typed 𝓤 H A 𝓣 E (on T10 l5) b31 Δ1 at28
+          d28 = Switch.t-switch-on 𝓤 H A W E 𝓣 (on T10 l5) (Scalar.oFld 7 ((Syntax.variant 0) ∷ (Syntax.field 0) ∷ []) u8 0 λ x. Val.vint Syntax.w8 (Declared.tagOf Parsed.the-type x)) Syntax.w8 (λ u.
+              Declared.tagOf Parsed.the-type (u .1 .1 .1 .1 .1 .1 .1 .0)) (Syntax.arm (1 ∷ []) b5 (Syntax.arm (0 ∷ []) b30 Syntax.noDefault)) Δ1 (at4, (at27, tt))
               (Match.reads-tag 𝓤 H A W Parsed.the-type Laws''.the-laws (Rows.whole (Declared.row Parsed.the-type)) 0 (λ x. x) (Whole.reads-enum 𝓤 H A W Parsed.the-type Laws''.the-laws), Path'.refl) (λ u.
               Path'.refl) (d4, (d27, tt))
 
-          d29 : Typed.Typed 𝓤 H A 𝓣 E G9 b31 Δ1 at29
-          d29 = Typed.g-pre 𝓤 H A W 𝓣 E G9 G10 b31 Δ1 (Typed.pass T9 T10 s7) at28 (Scalar.g-room 𝓤 H A W E G9 12 (Syntax.tyInt Syntax.w64) (Scalar.room-sc 𝓤 H A W (Row.sInt Syntax.w64))) d28
+          d29 : Typed.Typed 𝓤 H A 𝓣 E (on T9 l5) b31 Δ1 at29
+          d29 = Typed.g-pre 𝓤 H A W 𝓣 E (on T9 l5) (on T10 l5) b31 Δ1 (Typed.pass T9 T10 s7) at28 (Scalar.g-room 𝓤 H A W E (on T9 l5) 12 u64 (Scalar.room-sc 𝓤 H A W (Row.sInt Syntax.w64))) d28
 
-          d30 : Typed.Typed 𝓤 H A 𝓣 E G7 b31 Δ1 at30
-          d30 = Typed.g-pre 𝓤 H A W 𝓣 E G7 G9 b31 Δ1 (Typed.pass T7 T9 s6) at29 (Scalar.g-room 𝓤 H A W E G7 11 (Syntax.tyInt Syntax.w64) (Scalar.room-sc 𝓤 H A W (Row.sInt Syntax.w64))) d29
+          d30 : Typed.Typed 𝓤 H A 𝓣 E (on T7 l5) b31 Δ1 at30
+          d30 = Typed.g-pre 𝓤 H A W 𝓣 E (on T7 l5) (on T9 l5) b31 Δ1 (Typed.pass T7 T9 s6) at29 (Scalar.g-room 𝓤 H A W E (on T7 l5) 11 u64 (Scalar.room-sc 𝓤 H A W (Row.sInt Syntax.w64))) d29
 
-          d31 : Typed.Typed 𝓤 H A 𝓣 E G56 b33 Δ0 at31
+          d31 : Typed.Typed 𝓤 H A 𝓣 E (on T1 l5) b33 Δ0 at31
           d31 = Typed.t-return 𝓤 H A W 𝓣 E Δ0 tt
 
-          d32 : Typed.Typed 𝓤 H A 𝓣 E G55 b33 Δ0 at32
-          d32 = Typed.g-pre 𝓤 H A W 𝓣 E G55 G56 b33 Δ0 (Typed.pass T55 T56 s53) at31 (Scalar.g-room 𝓤 H A W E G55 3 (Syntax.tyInt Syntax.w64) (Scalar.room-sc 𝓤 H A W (Row.sInt Syntax.w64))) d31
+          d32 : Typed.Typed 𝓤 H A 𝓣 E (on T55 l5) b33 Δ0 at32
+          d32 = Typed.g-pre 𝓤 H A W 𝓣 E (on T55 l5) (on T1 l5) b33 Δ0 (Typed.pass T55 T1 s53) at31 (Scalar.g-room 𝓤 H A W E (on T55 l5) 3 u64 (Scalar.room-sc 𝓤 H A W (Row.sInt Syntax.w64))) d31
 
-          d33 : Typed.Typed 𝓤 H A 𝓣 E G54 b33 Δ0 at33
-          d33 = Typed.g-pre 𝓤 H A W 𝓣 E G54 G55 b33 Δ0 (Typed.pass T54 T55 s52) at32 (Scalar.g-room 𝓤 H A W E G54 2 (Syntax.tyInt Syntax.w64) (Scalar.room-sc 𝓤 H A W (Row.sInt Syntax.w64))) d32
+          d33 : Typed.Typed 𝓤 H A 𝓣 E (on T54 l5) b33 Δ0 at33
+          d33 = Typed.g-pre 𝓤 H A W 𝓣 E (on T54 l5) (on T55 l5) b33 Δ0 (Typed.pass T54 T55 s52) at32 (Scalar.g-room 𝓤 H A W E (on T54 l5) 2 u64 (Scalar.room-sc 𝓤 H A W (Row.sInt Syntax.w64))) d32
 
-          d34 : Typed.Typed 𝓤 H A 𝓣 E G53 b33 Δ0 at34
-          d34 = Typed.g-pre 𝓤 H A W 𝓣 E G53 G54 b33 Δ0 (Typed.pass T53 T54 s51) at33 (Scalar.g-room 𝓤 H A W E G53 13 y5 (Local.room-whole 𝓤 H A W (Declared'.row Counted.the-type) y5 Path'.refl)) d33
+          d34 : Typed.Typed 𝓤 H A 𝓣 E (on T53 l5) b33 Δ0 at34
+          d34 = Typed.g-pre 𝓤 H A W 𝓣 E (on T53 l5) (on T54 l5) b33 Δ0 (Typed.pass T53 T54 s51) at33 (Scalar.g-room 𝓤 H A W E (on T53 l5) 13 y15 (Local.room-whole 𝓤 H A W (Declared'.row
+              Counted.the-type) y15 Path'.refl)) d33
 
-          d35 : Typed.Typed 𝓤 H A 𝓣 E G8 b34 Δ0 at35
-          d35 = Typed.s-seq 𝓤 H A W 𝓣 E G8 G53 b32 b33 Δ0 (Typed.pass T8 T53 s50) at34 (LocalCopy.t-val-copy 𝓤 H A W E 𝓣 (λ ρ. Unit) G8 13 0 (Declared'.row Counted.the-type) y5 y5 (Rows.whole
-              (Declared'.row Counted.the-type)) (Rows.whole (Declared'.row Counted.the-type)) (λ x. x) (λ x. x) (λ x. x) Path'.refl (Own.told-none 𝓤 H A (G8 .slots)) (Yields.yields-copy 𝓤 H A W (λ ρ.
-              Unit) (Declared'.row Counted.the-type) Path'.refl (Copies.cStruct Counted.the-type Laws.the-laws Laws.the-copy .copy 𝓤 H A W) (Rows.whole (Declared'.row Counted.the-type)) (λ x. x) (λ x. x)
-              (λ ρ told. Local.mem-whole 𝓤 H A W (Declared'.row Counted.the-type) ρ) λ ρ told. Local.whole-mem 𝓤 H A W (Declared'.row Counted.the-type) ρ) (Reads'.room-gone 𝓤 H A y5) (Yields.makes-mem 𝓤 H
-              A W (λ ρ. Unit) (Declared'.row Counted.the-type) Path'.refl (Rows.whole (Declared'.row Counted.the-type)) (λ x. x) λ ρ told. Local.whole-mem 𝓤 H A W (Declared'.row Counted.the-type) ρ)
-              Path'.refl Path'.refl) d34
+          d35 : Typed.Typed 𝓤 H A 𝓣 E (on T8 l5) (Syntax.seq b32 b33) Δ0 at35
+          d35 = Typed.s-seq 𝓤 H A W 𝓣 E (on T8 l5) (on T53 l5) b32 b33 Δ0 (Typed.pass T8 T53 s50) at34 (LocalCopy.t-val-copy 𝓤 H A W E 𝓣 (λ ρ. Unit) (on T8 l5) 13 0 (Declared'.row Counted.the-type)
+              y15 y15 (Rows.whole (Declared'.row Counted.the-type)) (Rows.whole (Declared'.row Counted.the-type)) (λ x. x) (λ x. x) (λ x. x) Path'.refl (Own.told-none 𝓤 H A ((on T8 l5) .slots))
+              (Values.struct-copied 𝓤 H A W Counted.the-type Laws.the-laws Laws.the-copy) (Reads'.room-gone 𝓤 H A y15) (Yields.makes-mem 𝓤 H A W (λ ρ. Unit) (Declared'.row Counted.the-type) Path'.refl
+              (Rows.whole (Declared'.row Counted.the-type)) (λ x. x) λ ρ told. Local.whole-mem 𝓤 H A W (Declared'.row Counted.the-type) ρ) Path'.refl Path'.refl) d34
 
-          d36 : Typed.Typed 𝓤 H A 𝓣 E G7 b35 Δ0 at36
-          d36 = Typed.t-seq 𝓤 H A W 𝓣 E G7 G8 b31 b34 Δ0 at30 at35 d30 d35
+          d36 : Typed.Typed 𝓤 H A 𝓣 E (on T7 l5) (Syntax.seq b31 (Syntax.seq b32 b33)) Δ0 at36
+          d36 = Typed.t-seq 𝓤 H A W 𝓣 E (on T7 l5) (on T8 l5) b31 (Syntax.seq b32 b33) Δ0 at30 at35 d30 d35
 
-          d37 : Typed.Typed 𝓤 H A 𝓣 E G6 b36 Δ0 at37
-          d37 = Typed.s-seq 𝓤 H A W 𝓣 E G6 G7 b2 b35 Δ0 (Typed.both s5) at36 (Plain.t-call-plain 𝓤 H A W 𝓣 1 ps·0 r·0 (claims· .0) (claims· .1) "begin::block_begins" (known .0) E (λ pos β. β) G6 (
-            record { pos = 1; ty = Syntax.tyRef (Syntax.named 0) Syntax.imm (Syntax.tyInt Syntax.w8); ref = λ x. x },
-            (Num.vAt 2 λ x. x, (Bool.bLit Bool'.false, (Num.vAt 11 λ x. x, (Num.vAt 12 λ x. x, tt)))),
-          ) 7 (List._∷_ 0 List.[]) (Call.sub-id 𝓤 H A W (G6 .slots)) (
-            ShrSlice.spares-sslice 𝓤 H A W (Referent.rtF (Referent.fInt Syntax.w8)) (Syntax.tyRef (Syntax.named 0) Syntax.imm (Syntax.tyInt Syntax.w8)) 0,
-            Shared.reads-sslice 𝓤 H A W (Referent.rtF
-                (Referent.fInt Syntax.w8)) (Syntax.tyRef (Syntax.named 0) Syntax.imm (Syntax.tyInt Syntax.w8)) 0,
-            Path'.refl,
-            (
-              (Scalar.reads-sc 𝓤 H A W (Row.sInt Syntax.w64), Path'.refl),
-              (tt, ((Scalar.reads-sc 𝓤 H A W (Row.sInt Syntax.w64), Path'.refl), ((Scalar.reads-sc 𝓤 H A W (Row.sInt Syntax.w64), Path'.refl), tt))),
-            ),
-          ) (Reads'.room-gone 𝓤 H A (Syntax.tyEnum (List._∷_ 115
-              (List._∷_ 116 (List._∷_ 114 (List._∷_ 101 (List._∷_ 97 (List._∷_ 109 (List._∷_ 58 (List._∷_ 58 (List._∷_ 80 (List._∷_ 97 (List._∷_ 114 (List._∷_ 115 (List._∷_ 101 (List._∷_ 100
-              List.[])))))))))))))) (Syntax.ttcons (Syntax.tcons y0 Syntax.tnil) (Syntax.ttcons (Syntax.tcons (Syntax.tyEnum (List._∷_ 115 (List._∷_ 116 (List._∷_ 114 (List._∷_ 101 (List._∷_ 97 (List._∷_
-              109 (List._∷_ 58 (List._∷_ 58 (List._∷_ 82 (List._∷_ 101 (List._∷_ 102 (List._∷_ 117 (List._∷_ 115 (List._∷_ 97 (List._∷_ 108 List.[]))))))))))))))) (Syntax.ttcons Syntax.tnil (Syntax.ttcons
-              Syntax.tnil (Syntax.ttcons Syntax.tnil (Syntax.ttcons (Syntax.tcons (Syntax.tyInt Syntax.w64) Syntax.tnil) (Syntax.ttcons Syntax.tnil (Syntax.ttcons Syntax.tnil (Syntax.ttcons Syntax.tnil
-              (Syntax.ttcons Syntax.tnil (Syntax.ttcons Syntax.tnil (Syntax.ttcons Syntax.tnil (Syntax.ttcons (Syntax.tcons (Syntax.tyInt Syntax.w64) Syntax.tnil) (Syntax.ttcons (Syntax.tcons
-              (Syntax.tyInt Syntax.w64) Syntax.tnil) (Syntax.ttcons Syntax.tnil (Syntax.ttcons (Syntax.tcons (Syntax.tyInt Syntax.w64) (Syntax.tcons (Syntax.tyInt Syntax.w64) Syntax.tnil)) (Syntax.ttcons
-              (Syntax.tcons (Syntax.tyInt Syntax.w64) Syntax.tnil) (Syntax.ttcons Syntax.tnil (Syntax.ttcons Syntax.tnil (Syntax.ttcons (Syntax.tcons (Syntax.tyInt Syntax.w64) Syntax.tnil) (Syntax.ttcons
-              (Syntax.tcons (Syntax.tyInt Syntax.w64) Syntax.tnil) (Syntax.ttcons (Syntax.tcons (Syntax.tyInt Syntax.w64) Syntax.tnil) (Syntax.ttcons Syntax.tnil (Syntax.ttcons Syntax.tnil (Syntax.ttcons
-              (Syntax.tcons (Syntax.tyInt Syntax.w64) (Syntax.tcons (Syntax.tyInt Syntax.w64) Syntax.tnil)) (Syntax.ttcons Syntax.tnil Syntax.ttnil))))))))))))))))))))))))) Syntax.tnil) Syntax.ttnil))))
-              (tt, tt) Path'.refl) d36
+          d37 : Typed.Typed 𝓤 H A 𝓣 E (on T6 l5) b36 Δ0 at37
+          d37 = Typed.s-seq 𝓤 H A W 𝓣 E (on T6 l5) (on T7 l5) b2 (Syntax.seq b31 (Syntax.seq b32 b33)) Δ0 (Typed.both s5) at36 (Plain.t-call-plain 𝓤 H A W 𝓣 1 ps·0 r·0 (claims· .0) (claims· .1)
+              "begin::block_begins" (known .0) E (λ pos β. β) (on T6 l5)
+              (record { pos = 1; ty = y1; ref = λ x. x }, (Num.vAt 2 λ x. x, (Bool.bLit Bool'.false, (Num.vAt 11 λ x. x, (Num.vAt 12 λ x. x, tt))))) 7 (0 ∷ []) (Call.sub-id 𝓤 H A W ((on T6 l5) .slots)) (
+                ShrSlice.spares-sslice 𝓤 H A W n8 y1 0,
+                Shared.reads-sslice 𝓤 H A W n8 y1 0,
+                Path'.refl,
+                (
+                  (Scalar.reads-sc 𝓤 H A W (Row.sInt Syntax.w64), Path'.refl),
+                  (tt, ((Scalar.reads-sc 𝓤 H A W (Row.sInt Syntax.w64), Path'.refl), ((Scalar.reads-sc 𝓤 H A W (Row.sInt Syntax.w64), Path'.refl), tt))),
+                ),
+              ) (Reads'.room-gone 𝓤 H A y10) (tt, tt) Path'.refl) d36
 
-          d38 : Typed.Typed 𝓤 H A 𝓣 E G5 b37 Δ0 at38
-          d38 = Typed.s-seq 𝓤 H A W 𝓣 E G5 G6 b1 b36 Δ0 (Typed.pass T5 T6 s4) at37 (Scalar.t-use 𝓤 H A W E 𝓣 G5 (Scalar.oFld 6 (List._∷_ (Syntax.field 1) List.[]) (Syntax.tyInt Syntax.w64) 8
-              Shared.lenV) 12 (Rows.sc-here (Row.sInt Syntax.w64)) (Syntax.tyInt Syntax.w64) (Row.valS (Row.sInt Syntax.w64)) (Row.sInt Syntax.w64 .of)
-              (Mut.reads-mslice-len 𝓤 H A W (Element.type) (Syntax.tyRef (Syntax.named 3) Syntax.mut Element.behind) 3 8 Path'.refl, Path'.refl) (Reads'.room-gone 𝓤 H A (Syntax.tyInt Syntax.w64))
-              (Scalar.holds-sc 𝓤 H A W (Row.sInt Syntax.w64)) Path'.refl (λ u. Path'.refl) λ u. tt) d37
+          d38 : Typed.Typed 𝓤 H A 𝓣 E (on T5 l5) (Syntax.seq b1 b36) Δ0 at38
+          d38 = Typed.s-seq 𝓤 H A W 𝓣 E (on T5 l5) (on T6 l5) b1 b36 Δ0 (Typed.pass T5 T6 s4) at37 (Scalar.t-use 𝓤 H A W E 𝓣 (on T5 l5) (Scalar.oFld 6 ((Syntax.field 1) ∷ []) u64 8 Shared.lenV) 12
+              (Rows.sc-here (Row.sInt Syntax.w64)) u64 (Row.valS (Row.sInt Syntax.w64)) (Row.sInt Syntax.w64 .of) (Mut.reads-mslice-len 𝓤 H A W (Element.type) y4 3 8 Path'.refl, Path'.refl)
+              (Reads'.room-gone 𝓤 H A u64) (Scalar.holds-sc 𝓤 H A W (Row.sInt Syntax.w64)) Path'.refl (λ u. Path'.refl) λ u. tt) d37
 
-          d39 : Typed.Typed 𝓤 H A 𝓣 E G4 b38 Δ0 at39
-          d39 = Typed.s-seq 𝓤 H A W 𝓣 E G4 G5 b0 b37 Δ0 (Typed.pass T4 T5 s3) at38 (Scalar.t-use 𝓤 H A W E 𝓣 G4 (Scalar.oFld 5 (List._∷_ (Syntax.field 1) List.[]) (Syntax.tyInt Syntax.w64) 8
-              Shared.lenV) 11 (Rows.sc-here (Row.sInt Syntax.w64)) (Syntax.tyInt Syntax.w64) (Row.valS (Row.sInt Syntax.w64)) (Row.sInt Syntax.w64 .of)
-              (Mut.reads-mslice-len 𝓤 H A W (Referent.rtF (Referent.fInt Syntax.w16)) (Syntax.tyRef (Syntax.named 2) Syntax.mut (Syntax.tyInt Syntax.w16)) 2 8 Path'.refl, Path'.refl) (Reads'.room-gone 𝓤 H
-              A (Syntax.tyInt Syntax.w64)) (Scalar.holds-sc 𝓤 H A W (Row.sInt Syntax.w64)) Path'.refl (λ u. Path'.refl) λ u. tt) d38
+          d39 : Typed.Typed 𝓤 H A 𝓣 E (on T0 l5) b38 Δ0 at39
+          d39 = Typed.s-seq 𝓤 H A W 𝓣 E (on T0 l5) (on T5 l5) b0 (Syntax.seq b1 b36) Δ0 (Typed.pass T0 T5 s3) at38 (Scalar.t-use 𝓤 H A W E 𝓣 (on T0 l5) (Scalar.oFld 5 ((Syntax.field 1) ∷ []) u64 8
+              Shared.lenV) 11 (Rows.sc-here (Row.sInt Syntax.w64)) u64 (Row.valS (Row.sInt Syntax.w64)) (Row.sInt Syntax.w64 .of) (Mut.reads-mslice-len 𝓤 H A W n16 y3 2 8 Path'.refl, Path'.refl)
+              (Reads'.room-gone 𝓤 H A u64) (Scalar.holds-sc 𝓤 H A W (Row.sInt Syntax.w64)) Path'.refl (λ u. Path'.refl) λ u. tt) d38
 
-          d40 : Typed.Typed 𝓤 H A 𝓣 E G3 b38 Δ0 at40
-          d40 = Typed.g-pre 𝓤 H A W 𝓣 E G3 G4 b38 Δ0 (Typed.give s2) at39 (Know.g-sl-known 𝓤 H A W (Referent.fInt Syntax.w16) E G3 5 2 (Syntax.tyRef (Syntax.named 2) Syntax.mut (Syntax.tyInt
-              Syntax.w16)) (Row.lease (κs .1 .1 .0) (qs .1 .1 .0)) 0 (λ x. x) record { fits = Dec'.lit< tt } (Reads'.as-is 𝓤 H A (Mut.mslice (Referent.rtF (Referent.fInt Syntax.w16)) (Syntax.tyRef
-              (Syntax.named 2) Syntax.mut (Syntax.tyInt Syntax.w16)) 2)) Path'.refl tt) d39
+          d40 : Typed.Typed 𝓤 H A 𝓣 E (on T0 l5) b38 Δ0 at40
+          d40 = Typed.g-pre 𝓤 H A W 𝓣 E (on T0 l5) (on T0 l5) b38 Δ0 (Typed.give s2) at39 (Know.g-sl-known 𝓤 H A W (Referent.fInt Syntax.w16) E (on T0 l5) 5 2 y3 k2 0 (λ x. x) record
+              { fits = Dec'.lit< tt } (Reads'.as-is 𝓤 H A (Mut.mslice n16 y3 2)) Path'.refl tt) d39
 
-          d41 : Typed.Typed 𝓤 H A 𝓣 E G2 b38 Δ0 at41
-          d41 = Typed.g-pre 𝓤 H A W 𝓣 E G2 G3 b38 Δ0 (Typed.give s1) at40 (Know.g-sl-known 𝓤 H A W (Referent.fInt Syntax.w8) E G2 4 1 (Syntax.tyRef (Syntax.named 1) Syntax.mut (Syntax.tyInt
-              Syntax.w8)) (Row.lease (κs .1 .0) (qs .1 .0)) 0 (λ x. x) record { fits = Dec'.lit< tt } (Reads'.as-is 𝓤 H A (Mut.mslice (Referent.rtF (Referent.fInt Syntax.w8)) (Syntax.tyRef (Syntax.named
-              1) Syntax.mut (Syntax.tyInt Syntax.w8)) 1)) Path'.refl tt) d40
+          d41 : Typed.Typed 𝓤 H A 𝓣 E (on T0 l5) b38 Δ0 at41
+          d41 = Typed.g-pre 𝓤 H A W 𝓣 E (on T0 l5) (on T0 l5) b38 Δ0 (Typed.give s1) at40 (Know.g-sl-known 𝓤 H A W (Referent.fInt Syntax.w8) E (on T0 l5) 4 1 y2 k1 0 (λ x. x) record
+              { fits = Dec'.lit< tt } (Reads'.as-is 𝓤 H A (Mut.mslice n8 y2 1)) Path'.refl tt) d40
 
-          d42 : Typed.Typed 𝓤 H A 𝓣 E G0 b38 Δ0 at42
-          d42 = Typed.g-pre 𝓤 H A W 𝓣 E G0 G2 b38 Δ0 (Typed.give s0) at41 (Know.g-shs-known 𝓤 H A W (Referent.fInt Syntax.w8) E G0 1 0 (Syntax.tyRef (Syntax.named 0) Syntax.imm (Syntax.tyInt
-              Syntax.w8)) (Row.lease (κs .0) (qs .0)) 0 (λ x. x) record { fits = Dec'.lit< tt } (Reads'.as-is 𝓤 H A (Rows.sslice (Referent.rtF (Referent.fInt Syntax.w8)) (Syntax.tyRef (Syntax.named 0)
-              Syntax.imm (Syntax.tyInt Syntax.w8)) 0)) Path'.refl tt) d41
+          d42 : Typed.Typed 𝓤 H A 𝓣 E (on T0 l5) b38 Δ0 at42
+          d42 = Typed.g-pre 𝓤 H A W 𝓣 E (on T0 l5) (on T0 l5) b38 Δ0 (Typed.give s0) at41 (Know.g-shs-known 𝓤 H A W (Referent.fInt Syntax.w8) E (on T0 l5) 1 0 y1 k0 0 (λ x. x) record
+              { fits = Dec'.lit< tt } (Reads'.as-is 𝓤 H A (Rows.sslice n8 y1 0)) Path'.refl tt) d41
 
           pub typed : Typed.Typed 𝓤 H A 𝓣 E (Function.Γin 4 ps r xs m κs qs) b38 (Function.Δret 4 ps r xs m κs qs) Φ
           typed = d42
 
       module _ (κs : Lifetimes.Lfts 4) where
         pub record Args : Type 0 where
-          pub d : Kinds.Den {n = 4} κs (ShrSlice.pShrS (Referent.rtF (Referent.fInt Syntax.w8)) 0 tt)
+          pub d : Kinds.Den {n = 4} κs (ShrSlice.pShrS n8 0 tt)
           pub b : Kinds.Den {n = 4} κs (Num.pNum Syntax.w64)
           pub line : Kinds.Den {n = 4} κs (Num.pNum Syntax.w64)
-          pub state : Kinds.Den {n = 4} κs (MutSlice.pMutS (Referent.rtF (Referent.fInt Syntax.w8)) 1 tt)
-          pub lines : Kinds.Den {n = 4} κs (MutSlice.pMutS (Referent.rtF (Referent.fInt Syntax.w16)) 2 tt)
+          pub state : Kinds.Den {n = 4} κs (MutSlice.pMutS n8 1 tt)
+          pub lines : Kinds.Den {n = 4} κs (MutSlice.pMutS n16 2 tt)
           pub rs : Kinds.Den {n = 4} κs (MutSlice.pMutS (Element.type) 3 tt)
 
         abbrev pub dens : (a : Args) → Kinds.Dens κs ps
@@ -2125,7 +1342,7 @@ module _ (claims· : Claims) where
         pub fits : Ranges κs args
         pub pre : Pre· κs (dens κs args)
 
-      abbrev pub m1 : (before : Start) → (given : s0 .gives (m0 (before .κs) (before .args))) → Typed.Mo T2
+      abbrev pub m1 : (before : Start) → (given : s0 .gives (m0 (before .κs) (before .args))) → Typed.Mo T0
       m1 = λ before given. s0 .next (m0 (before .κs) (before .args)) given
 
       module _ (before· : Start) where
@@ -2136,7 +1353,7 @@ module _ (claims· : Claims) where
         pub before : Start
         pub shared-slice-known : After-shared-slice-known·own before
 
-      abbrev pub m2 : (before : After-shared-slice-known) → (given : s1 .gives (m1 (before .before) (before .shared-slice-known .given))) → Typed.Mo T3
+      abbrev pub m2 : (before : After-shared-slice-known) → (given : s1 .gives (m1 (before .before) (before .shared-slice-known .given))) → Typed.Mo T0
       m2 = λ before given. s1 .next (m1 (before .before) (before .shared-slice-known .given)) given
 
       module _ (before· : After-shared-slice-known) where
@@ -2147,14 +1364,8 @@ module _ (claims· : Claims) where
         pub before : After-shared-slice-known
         pub slice-known : After-slice-known·own before
 
-      abbrev pub m3 : (before : After-slice-known) → (given : s2 .gives (m2 (before .before) (before .slice-known .given))) → Typed.Mo T4
-      m3 = λ before given. s2 .next (m2 (before .before) (before .slice-known .given)) given
-
-      abbrev pub m4 : (before : After-slice-known) → (given : s2 .gives (m2 (before .before) (before .slice-known .given))) → Typed.Mo T5
-      m4 = λ before given. s3 (m3 before given)
-
       abbrev pub m5 : (before : After-slice-known) → (given : s2 .gives (m2 (before .before) (before .slice-known .given))) → Typed.Mo T6
-      m5 = λ before given. s4 (m4 before given)
+      m5 = λ before given. s4 (s3 (s2 .next (m2 (before .before) (before .slice-known .given)) given))
 
       module _ (before· : After-slice-known) where
         pub record After-slice-known2·own : Type 0 where
@@ -2172,34 +1383,28 @@ module _ (claims· : Claims) where
 
       module _ (before· : After-slice-known2) where
         abbrev pub After-block-begins·own : Type 0
-        After-block-begins·own = Called.Called ps·0 r·0 (claims· .1) T6 (
-          record { pos = 1; ty = Syntax.tyRef (Syntax.named 0) Syntax.imm (Syntax.tyInt Syntax.w8); ref = λ x. x },
-          (Num.vAt 2 λ x. x, (Bool.bLit Bool'.false, (Num.vAt 11 λ x. x, (Num.vAt 12 λ x. x, tt)))),
-        ) (m5 (before· .before) (before· .slice-known2 .given))
+        After-block-begins·own = Called.Called ps·0 r·0 (claims· .1) T6 a0 (m5 (before· .before) (before· .slice-known2 .given))
 
       pub record After-block-begins : Type 0 where
         pub before : After-slice-known2
         pub block-begins : After-block-begins·own before
 
+      abbrev pub After-block-begins·start : After-block-begins → Start
+      After-block-begins·start = λ c. c .before .before .before .before
+
       abbrev pub After-block-begins·gave : (c : After-block-begins) → s5 .gives (m5 (c .before .before) (c .before .slice-known2 .given))
-      After-block-begins·gave = λ c. Called.given ps·0 r·0 (claims· .1) T6 (
-        record { pos = 1; ty = Syntax.tyRef (Syntax.named 0) Syntax.imm (Syntax.tyInt Syntax.w8); ref = λ x. x },
-        (Num.vAt 2 λ x. x, (Bool.bLit Bool'.false, (Num.vAt 11 λ x. x, (Num.vAt 12 λ x. x, tt)))),
-      ) (m5 (c .before .before) (c .before .slice-known2 .given)) (c .block-begins)
+      After-block-begins·gave = λ c. Called.given ps·0 r·0 (claims· .1) T6 a0 (m5 (c .before .before) (c .before .slice-known2 .given)) (c .block-begins)
 
       abbrev W1 : (before : After-slice-known2) → (given : s5 .gives (m5 (before .before) (before .slice-known2 .given))) → Typed.Want O1
       W1 = λ before given. Typed.wantNext T8 O0 (at35 (W0 (before .before .before .before .κs) (before .before .before .before .args))) (W0 (before .before .before .before .κs) (before .before .before
           .before .args))
 
-      abbrev pub m7 : (before : After-slice-known2) → (given : s5 .gives (m5 (before .before) (before .slice-known2 .given))) → Typed.Mo T9
-      m7 = λ before given. s6 (m6 before given)
-
       abbrev pub m8 : (before : After-slice-known2) → (given : s5 .gives (m5 (before .before) (before .slice-known2 .given))) → Typed.Mo T10
-      m8 = λ before given. s7 (m7 before given)
+      m8 = λ before given. s7 (s6 (m6 before given))
 
       module _ (before· : After-block-begins) where
         pub record At-match-keys1·own : Type 0 where
-          pub keys1 : Run.OneOf (List._∷_ 1 List.[]) (Declared.tagOf Parsed.the-type (Row.get 7 (T10 .locals) (m8 (before· .before) (After-block-begins·gave before·))))
+          pub keys1 : Run.OneOf (1 ∷ []) (Declared.tagOf Parsed.the-type (Row.get 7 (T10 .locals) (m8 (before· .before) (After-block-begins·gave before·))))
 
       pub record At-match-keys1 : Type 0 where
         pub before : After-block-begins
@@ -2219,14 +1424,8 @@ module _ (claims· : Claims) where
         pub before : At-match-keys1
         pub begins : After-begins·own before
 
-      abbrev pub m10 : (before : After-begins) → (given : s9 .gives (m9 (before .before) (before .begins .given))) → Typed.Mo T12
-      m10 = λ before given. s9 .next (m9 (before .before) (before .begins .given)) given
-
-      abbrev pub m11 : (before : After-begins) → (given : s9 .gives (m9 (before .before) (before .begins .given))) → Typed.Mo T13
-      m11 = λ before given. s10 (m10 before given)
-
       abbrev pub m12 : (before : After-begins) → (given : s9 .gives (m9 (before .before) (before .begins .given))) → Typed.Mo T14
-      m12 = λ before given. s11 (m11 before given)
+      m12 = λ before given. s11 (s10 (s9 .next (m9 (before .before) (before .begins .given)) given))
 
       module _ (before· : After-begins) where
         pub record After-known-told·own : Type 0 where
@@ -2239,26 +1438,26 @@ module _ (claims· : Claims) where
       abbrev pub Need-refused-requires : Type 0
       Need-refused-requires = (c : After-known-told) → s12 .asks (m12 (c .before) (c .known-told .given))
 
-      abbrev pub m13 : (before : After-known-told) → (given : s12 .gives (m12 (before .before) (before .known-told .given))) → Typed.Mo T15
-      m13 = λ before given. s12 .next (m12 (before .before) (before .known-told .given)) given
-
-      abbrev pub m14 : (before : After-known-told) → (given : s12 .gives (m12 (before .before) (before .known-told .given))) → Typed.Mo T16
-      m14 = λ before given. s13 (m13 before given)
+      abbrev pub m14 : (before : After-known-told) → (given : s12 .gives (m12 (before .before) (before .known-told .given))) → Typed.Mo T8
+      m14 = λ before given. s13 (s12 .next (m12 (before .before) (before .known-told .given)) given)
 
       module _ (before· : After-known-told) where
         abbrev pub After-refused·own : Type 0
-        After-refused·own = Called.Called ps·1 r·1 (claims· .3) T14 (record { pos = 8; st = List.[]; d = 0; at = λ x. x }, tt) (m12 (before· .before) (before· .known-told .given))
+        After-refused·own = Called.Called ps·1 r·1 (claims· .3) T14 (record { pos = 8; st = []; d = 0; at = λ x. x }, tt) (m12 (before· .before) (before· .known-told .given))
 
       pub record After-refused : Type 0 where
         pub before : After-known-told
         pub refused : After-refused·own before
 
+      abbrev pub After-refused·start : After-refused → Start
+      After-refused·start = λ c. c .before .before .before .before .before .before .before .before
+
       abbrev pub After-refused·gave : (c : After-refused) → s12 .gives (m12 (c .before .before) (c .before .known-told .given))
-      After-refused·gave = λ c. Called.given ps·1 r·1 (claims· .3) T14 (record { pos = 8; st = List.[]; d = 0; at = λ x. x }, tt) (m12 (c .before .before) (c .before .known-told .given)) (c .refused)
+      After-refused·gave = λ c. Called.given ps·1 r·1 (claims· .3) T14 (record { pos = 8; st = []; d = 0; at = λ x. x }, tt) (m12 (c .before .before) (c .before .known-told .given)) (c .refused)
 
       module _ (before· : After-block-begins) where
         pub record At-match-keys2·own : Type 0 where
-          pub keys2 : Run.OneOf (List._∷_ 0 List.[]) (Declared.tagOf Parsed.the-type (Row.get 7 (T10 .locals) (m8 (before· .before) (After-block-begins·gave before·))))
+          pub keys2 : Run.OneOf (0 ∷ []) (Declared.tagOf Parsed.the-type (Row.get 7 (T10 .locals) (m8 (before· .before) (After-block-begins·gave before·))))
 
       pub record At-match-keys2 : Type 0 where
         pub before : After-block-begins
@@ -2278,14 +1477,8 @@ module _ (claims· : Claims) where
         pub before : At-match-keys2
         pub begins2 : After-begins2·own before
 
-      abbrev pub m16 : (before : After-begins2) → (given : s15 .gives (m15 (before .before) (before .begins2 .given))) → Typed.Mo T18
-      m16 = λ before given. s15 .next (m15 (before .before) (before .begins2 .given)) given
-
-      abbrev pub m17 : (before : After-begins2) → (given : s15 .gives (m15 (before .before) (before .begins2 .given))) → Typed.Mo T19
-      m17 = λ before given. s16 (m16 before given)
-
       abbrev pub m18 : (before : After-begins2) → (given : s15 .gives (m15 (before .before) (before .begins2 .given))) → Typed.Mo T20
-      m18 = λ before given. s17 (m17 before given)
+      m18 = λ before given. s17 (s16 (s15 .next (m15 (before .before) (before .begins2 .given)) given))
 
       module _ (before· : After-begins2) where
         pub record After-known-told2·own : Type 0 where
@@ -2303,25 +1496,19 @@ module _ (claims· : Claims) where
 
       module _ (before· : After-known-told2) where
         abbrev pub After-samples-needed·own : Type 0
-        After-samples-needed·own = Called.Called ps·2 r·2 (claims· .5) T20 (Bool.bFld 9 (List._∷_ (Syntax.field 1) List.[]) 1 λ x. FujiHeader.struct .as-values x .1 .0, tt) (m18 (before· .before)
-            (before· .known-told2 .given))
+        After-samples-needed·own = Called.Called ps·2 r·2 (claims· .5) T20 (Bool.bFld 9 ((Syntax.field 1) ∷ []) 1 λ x. FujiHeader.struct .as-values x .1 .0, tt) (m18 (before· .before) (before·
+            .known-told2 .given))
 
       pub record After-samples-needed : Type 0 where
         pub before : After-known-told2
         pub samples-needed : After-samples-needed·own before
 
       abbrev pub After-samples-needed·gave : (c : After-samples-needed) → s18 .gives (m18 (c .before .before) (c .before .known-told2 .given))
-      After-samples-needed·gave = λ c. Called.given ps·2 r·2 (claims· .5) T20 (Bool.bFld 9 (List._∷_ (Syntax.field 1) List.[]) 1 λ x. FujiHeader.struct .as-values x .1 .0, tt) (m18 (c .before .before)
-          (c .before .known-told2 .given)) (c .samples-needed)
-
-      abbrev pub m20 : (before : After-samples-needed) → (given : s20 .gives (m19 (before .before) (After-samples-needed·gave before))) → Typed.Mo T23
-      m20 = λ before given. s20 .next (m19 (before .before) (After-samples-needed·gave before)) given
-
-      abbrev pub m21 : (before : After-samples-needed) → (given : s20 .gives (m19 (before .before) (After-samples-needed·gave before))) → Typed.Mo T24
-      m21 = λ before given. s21 .next (m20 before given)
+      After-samples-needed·gave = λ c. Called.given ps·2 r·2 (claims· .5) T20 (Bool.bFld 9 ((Syntax.field 1) ∷ []) 1 λ x. FujiHeader.struct .as-values x .1 .0, tt) (m18 (c .before .before) (c .before
+          .known-told2 .given)) (c .samples-needed)
 
       abbrev pub m22 : (before : After-samples-needed) → (given : s20 .gives (m19 (before .before) (After-samples-needed·gave before))) → Typed.Mo T25
-      m22 = λ before given. s22 .next (m21 before given)
+      m22 = λ before given. s22 .next (s21 .next (s20 .next (m19 (before .before) (After-samples-needed·gave before)) given))
 
       module _ (before· : After-samples-needed) where
         pub record After-store-in-arg·own : Type 0 where
@@ -2343,20 +1530,11 @@ module _ (claims· : Claims) where
       abbrev pub Need-part-store-in-end : Type 0
       Need-part-store-in-end = (c : After-store-in-arg) → PartAt.PartTo T26 5 16 (λ x. x) (λ u. u .1 .1 .1 .1 .1 .1 .1 .1 .1 .1 .0) (m23 (c .before) (c .store-in-arg .given))
 
-      abbrev pub m24 : (before : After-store-in-arg) → (given : s25 .gives (m23 (before .before) (before .store-in-arg .given))) → Typed.Mo T28
-      m24 = λ before given. s25 .next (m23 (before .before) (before .store-in-arg .given)) given
-
       abbrev pub m25 : (before : After-store-in-arg) → (given : s25 .gives (m23 (before .before) (before .store-in-arg .given))) → Typed.Mo T29
-      m25 = λ before given. s26 (m24 before given)
-
-      abbrev pub m26 : (before : After-store-in-arg) → (given : s25 .gives (m23 (before .before) (before .store-in-arg .given))) → Typed.Mo T30
-      m26 = λ before given. s27 .next (m25 before given)
-
-      abbrev pub m27 : (before : After-store-in-arg) → (given : s25 .gives (m23 (before .before) (before .store-in-arg .given))) → Typed.Mo T31
-      m27 = λ before given. s28 (m26 before given)
+      m25 = λ before given. s26 (s25 .next (m23 (before .before) (before .store-in-arg .given)) given)
 
       abbrev pub m28 : (before : After-store-in-arg) → (given : s25 .gives (m23 (before .before) (before .store-in-arg .given))) → Typed.Mo T32
-      m28 = λ before given. s29 .next (m27 before given)
+      m28 = λ before given. s29 .next (s28 (s27 .next (m25 before given)))
 
       module _ (before· : After-store-in-arg) where
         pub record After-store-in-arg2·own : Type 0 where
@@ -2378,17 +1556,11 @@ module _ (claims· : Claims) where
       abbrev pub Need-part-store-in-end-2 : Type 0
       Need-part-store-in-end-2 = (c : After-store-in-arg2) → PartAt.PartTo T33 6 20 (λ x. x) (λ u. 336) (m29 (c .before) (c .store-in-arg2 .given))
 
-      abbrev pub m30 : (before : After-store-in-arg2) → (given : s32 .gives (m29 (before .before) (before .store-in-arg2 .given))) → Typed.Mo T35
-      m30 = λ before given. s32 .next (m29 (before .before) (before .store-in-arg2 .given)) given
-
       abbrev pub m31 : (before : After-store-in-arg2) → (given : s32 .gives (m29 (before .before) (before .store-in-arg2 .given))) → Typed.Mo T36
-      m31 = λ before given. s33 (m30 before given)
-
-      abbrev pub m32 : (before : After-store-in-arg2) → (given : s32 .gives (m29 (before .before) (before .store-in-arg2 .given))) → Typed.Mo T37
-      m32 = λ before given. s34 .next (m31 before given)
+      m31 = λ before given. s33 (s32 .next (m29 (before .before) (before .store-in-arg2 .given)) given)
 
       abbrev pub m33 : (before : After-store-in-arg2) → (given : s32 .gives (m29 (before .before) (before .store-in-arg2 .given))) → Typed.Mo T38
-      m33 = λ before given. s35 (m32 before given)
+      m33 = λ before given. s35 (s34 .next (m31 before given))
 
       module _ (before· : After-store-in-arg2) where
         pub record After-store-in-arg3·own : Type 0 where
@@ -2401,61 +1573,19 @@ module _ (claims· : Claims) where
       abbrev pub Need-store-in-requires : Type 0
       Need-store-in-requires = (c : After-store-in-arg3) → s36 .asks (m33 (c .before) (c .store-in-arg3 .given))
 
-      abbrev pub m34 : (before : After-store-in-arg3) → (given : s36 .gives (m33 (before .before) (before .store-in-arg3 .given))) → Typed.Mo T39
-      m34 = λ before given. s36 .next (m33 (before .before) (before .store-in-arg3 .given)) given
-
-      abbrev pub m35 : (before : After-store-in-arg3) → (given : s36 .gives (m33 (before .before) (before .store-in-arg3 .given))) → Typed.Mo T40
-      m35 = λ before given. s37 (m34 before given)
-
       abbrev pub m36 : (before : After-store-in-arg3) → (given : s36 .gives (m33 (before .before) (before .store-in-arg3 .given))) → Typed.Mo T41
-      m36 = λ before given. s38 (m35 before given)
+      m36 = λ before given. s38 (s37 (s36 .next (m33 (before .before) (before .store-in-arg3 .given)) given))
 
       module _ (before· : After-store-in-arg3) where
         abbrev pub After-store-in·own : Type 0
-        After-store-in·own = Called.Called ps·3 r·3 (claims· .7) T38 (
-          record { pos = 1; ty = Syntax.tyRef (Syntax.named 0) Syntax.imm (Syntax.tyInt Syntax.w8); ref = λ x. x },
-          (
-            record { pos = 9; st = List.[]; d = 0; at = λ x. x },
-            (
-              Num.vAt 2 λ x. x,
-              (
-                Num.vAt 3 λ x. x,
-                (
-                  record { pos = 15; ty = Syntax.tyRef Syntax.erased Syntax.mut (Syntax.tyInt Syntax.w8); ref = λ x. x },
-                  (
-                    record { pos = 19; ty = Syntax.tyRef Syntax.erased Syntax.mut (Syntax.tyInt Syntax.w16); ref = λ x. x },
-                    (record { pos = 23; ty = Syntax.tyRef Syntax.erased Syntax.mut Element.behind; ref = λ x. x }, tt),
-                  ),
-                ),
-              ),
-            ),
-          ),
-        ) (m33 (before· .before) (before· .store-in-arg3 .given))
+        After-store-in·own = Called.Called ps·3 r·3 (claims· .7) T38 a1 (m33 (before· .before) (before· .store-in-arg3 .given))
 
       pub record After-store-in : Type 0 where
         pub before : After-store-in-arg3
         pub store-in : After-store-in·own before
 
       abbrev pub After-store-in·gave : (c : After-store-in) → s36 .gives (m33 (c .before .before) (c .before .store-in-arg3 .given))
-      After-store-in·gave = λ c. Called.given ps·3 r·3 (claims· .7) T38 (
-        record { pos = 1; ty = Syntax.tyRef (Syntax.named 0) Syntax.imm (Syntax.tyInt Syntax.w8); ref = λ x. x },
-        (
-          record { pos = 9; st = List.[]; d = 0; at = λ x. x },
-          (
-            Num.vAt 2 λ x. x,
-            (
-              Num.vAt 3 λ x. x,
-              (
-                record { pos = 15; ty = Syntax.tyRef Syntax.erased Syntax.mut (Syntax.tyInt Syntax.w8); ref = λ x. x },
-                (
-                  record { pos = 19; ty = Syntax.tyRef Syntax.erased Syntax.mut (Syntax.tyInt Syntax.w16); ref = λ x. x },
-                  (record { pos = 23; ty = Syntax.tyRef Syntax.erased Syntax.mut Element.behind; ref = λ x. x }, tt),
-                ),
-              ),
-            ),
-          ),
-        ),
-      ) (m33 (c .before .before) (c .before .store-in-arg3 .given)) (c .store-in)
+      After-store-in·gave = λ c. Called.given ps·3 r·3 (claims· .7) T38 a1 (m33 (c .before .before) (c .before .store-in-arg3 .given)) (c .store-in)
 
       abbrev pub m37 : (before : After-store-in) → (given : s40 .gives (m36 (before .before) (After-store-in·gave before))) → Typed.Mo T43
       m37 = λ before given. s40 .next (m36 (before .before) (After-store-in·gave before)) given
@@ -2468,7 +1598,7 @@ module _ (claims· : Claims) where
         pub before : After-store-in
         pub state : After-state·own before
 
-      abbrev pub m38 : (before : After-state) → (given : s41 .gives (m37 (before .before) (before .state .given))) → Typed.Mo T44
+      abbrev pub m38 : (before : After-state) → (given : s41 .gives (m37 (before .before) (before .state .given))) → Typed.Mo T43
       m38 = λ before given. s41 .next (m37 (before .before) (before .state .given)) given
 
       module _ (before· : After-state) where
@@ -2490,7 +1620,7 @@ module _ (claims· : Claims) where
         pub before : After-slice-known3
         pub lines : After-lines·own before
 
-      abbrev pub m40 : (before : After-lines) → (given : s45 .gives (m39 (before .before) (before .lines .given))) → Typed.Mo T48
+      abbrev pub m40 : (before : After-lines) → (given : s45 .gives (m39 (before .before) (before .lines .given))) → Typed.Mo T47
       m40 = λ before given. s45 .next (m39 (before .before) (before .lines .given)) given
 
       module _ (before· : After-lines) where
@@ -2501,7 +1631,7 @@ module _ (claims· : Claims) where
         pub before : After-lines
         pub slice-known4 : After-slice-known4·own before
 
-      abbrev pub m41 : (before : After-slice-known4) → (given : s48 .gives (m40 (before .before) (before .slice-known4 .given))) → Typed.Mo T51
+      abbrev pub m41 : (before : After-slice-known4) → (given : s48 .gives (m40 (before .before) (before .slice-known4 .given))) → Typed.Mo T8
       m41 = λ before given. s48 .next (m40 (before .before) (before .slice-known4 .given)) given
 
       module _ (before· : After-slice-known4) where
@@ -2512,17 +1642,11 @@ module _ (claims· : Claims) where
         pub before : After-slice-known4
         pub rs : After-rs·own before
 
-      abbrev pub m42 : (before : After-known-told) → (given : s12 .gives (m12 (before .before) (before .known-told .given))) → Typed.Mo T53
-      m42 = λ before given. s50 (m14 before given)
+      abbrev pub After-rs·start : After-rs → Start
+      After-rs·start = λ c. c .before .before .before .before .before .before .before .before .before .before .before .before .before .before .before .before .before
 
-      abbrev pub m43 : (before : After-known-told) → (given : s12 .gives (m12 (before .before) (before .known-told .given))) → Typed.Mo T54
-      m43 = λ before given. s51 (m42 before given)
-
-      abbrev pub m44 : (before : After-known-told) → (given : s12 .gives (m12 (before .before) (before .known-told .given))) → Typed.Mo T55
-      m44 = λ before given. s52 (m43 before given)
-
-      abbrev pub m45 : (before : After-known-told) → (given : s12 .gives (m12 (before .before) (before .known-told .given))) → Typed.Mo T56
-      m45 = λ before given. s53 (m44 before given)
+      abbrev pub m45 : (before : After-known-told) → (given : s12 .gives (m12 (before .before) (before .known-told .given))) → Typed.Mo T1
+      m45 = λ before given. s53 (s52 (s51 (s50 (m14 before given))))
 
       abbrev pub Need-returns : Type 0
       Need-returns = (c : After-refused) → Post· (c .before .before .before .before .before .before .before .before .κs) (dens (c .before .before .before .before .before .before .before .before .κs)
@@ -2532,30 +1656,21 @@ module _ (claims· : Claims) where
           xs (dens (c .before .before .before .before .before .before .before .before .κs) (c .before .before .before .before .before .before .before .before .args)) (m45 (c .before) (After-refused·gave
           c) .1)))
 
-      abbrev pub m46 : (before : After-slice-known4) → (given : s48 .gives (m40 (before .before) (before .slice-known4 .given))) → Typed.Mo T53
-      m46 = λ before given. s50 (m41 before given)
-
-      abbrev pub m47 : (before : After-slice-known4) → (given : s48 .gives (m40 (before .before) (before .slice-known4 .given))) → Typed.Mo T54
-      m47 = λ before given. s51 (m46 before given)
-
-      abbrev pub m48 : (before : After-slice-known4) → (given : s48 .gives (m40 (before .before) (before .slice-known4 .given))) → Typed.Mo T55
-      m48 = λ before given. s52 (m47 before given)
-
-      abbrev pub m49 : (before : After-slice-known4) → (given : s48 .gives (m40 (before .before) (before .slice-known4 .given))) → Typed.Mo T56
-      m49 = λ before given. s53 (m48 before given)
+      abbrev pub m49 : (before : After-slice-known4) → (given : s48 .gives (m40 (before .before) (before .slice-known4 .given))) → Typed.Mo T1
+      m49 = λ before given. s53 (s52 (s51 (s50 (m41 before given))))
 
       abbrev pub Need-same-length : Type 0
-      Need-same-length = (c : After-rs) → MutSlice.SameLen (Row.get 4 (T56 .locals) (m49 (c .before) (c .rs .given))) (dens (c .before .before .before .before .before .before .before .before .before
+      Need-same-length = (c : After-rs) → MutSlice.SameLen (Row.get 4 (T1 .locals) (m49 (c .before) (c .rs .given))) (dens (c .before .before .before .before .before .before .before .before .before
           .before .before .before .before .before .before .before .before .κs) (c .before .before .before .before .before .before .before .before .before .before .before .before .before .before .before
           .before .before .args) .1 .1 .1 .0)
 
       abbrev pub Need-same-length-2 : Type 0
-      Need-same-length-2 = (c : After-rs) → MutSlice.SameLen (Row.get 5 (T56 .locals) (m49 (c .before) (c .rs .given))) (dens (c .before .before .before .before .before .before .before .before .before
+      Need-same-length-2 = (c : After-rs) → MutSlice.SameLen (Row.get 5 (T1 .locals) (m49 (c .before) (c .rs .given))) (dens (c .before .before .before .before .before .before .before .before .before
           .before .before .before .before .before .before .before .before .κs) (c .before .before .before .before .before .before .before .before .before .before .before .before .before .before .before
           .before .before .args) .1 .1 .1 .1 .0)
 
       abbrev pub Need-same-length-3 : Type 0
-      Need-same-length-3 = (c : After-rs) → MutSlice.SameLen (Row.get 6 (T56 .locals) (m49 (c .before) (c .rs .given))) (dens (c .before .before .before .before .before .before .before .before .before
+      Need-same-length-3 = (c : After-rs) → MutSlice.SameLen (Row.get 6 (T1 .locals) (m49 (c .before) (c .rs .given))) (dens (c .before .before .before .before .before .before .before .before .before
           .before .before .before .before .before .before .before .before .κs) (c .before .before .before .before .before .before .before .before .before .before .before .before .before .before .before
           .before .before .args) .1 .1 .1 .1 .1 .0)
 
@@ -2574,8 +1689,7 @@ module _ (claims· : Claims) where
           Need-enum-known-begins-2) (samples-needed-requires : Need-samples-needed-requires) (sub-store-in : Need-sub-store-in) (part-store-in-start : Need-part-store-in-start) (part-store-in-end :
           Need-part-store-in-end) (sub-store-in-2 : Need-sub-store-in-2) (part-store-in-start-2 : Need-part-store-in-start-2) (part-store-in-end-2 : Need-part-store-in-end-2) (store-in-requires :
           Need-store-in-requires) (returns : Need-returns) (same-length : Need-same-length) (same-length-2 : Need-same-length-2) (same-length-3 : Need-same-length-3) (returns-2 : Need-returns-2) where
-        lay4 : (c : After-rs) → at35 (W0 (c .before .before .before .before .before .before .before .before .before .before .before .before .before .before .before .before .before .κs) (c .before
-            .before .before .before .before .before .before .before .before .before .before .before .before .before .before .before .before .args)) (m41 (c .before) (c .rs .given))
+        lay4 : (c : After-rs) → at35 (W0 (After-rs·start c .κs) (After-rs·start c .args)) (m41 (c .before) (c .rs .given))
         lay4 = λ c. (
           (
             Path'.refl,
@@ -2584,20 +1698,14 @@ module _ (claims· : Claims) where
               (
                 tt,
                 (
-                  MutSlice.fix-len (Row.get 4 (T56 .locals) (m49 (c .before) (c .rs .given)) .ptr) (Row.get 4 (T56 .locals) (m49 (c .before) (c .rs .given)) .name) (Row.get 4 (T56 .locals) (m49 (c .before) (c
-                      .rs .given)) .now) (dens (c .before .before .before .before .before .before .before .before .before .before .before .before .before .before .before .before .before .κs) (c .before .before
-                      .before .before .before .before .before .before .before .before .before .before .before .before .before .before .before .args) .1 .1 .1 .0 .now) (same-length record
-                      { before = c .before; rs = c .rs }),
+                  MutSlice.fix-len (Row.get 4 (T1 .locals) (m49 (c .before) (c .rs .given)) .ptr) (Row.get 4 (T1 .locals) (m49 (c .before) (c .rs .given)) .name) (Row.get 4 (T1 .locals) (m49 (c .before) (c .rs
+                      .given)) .now) (dens (After-rs·start c .κs) (After-rs·start c .args) .1 .1 .1 .0 .now) (same-length c),
                   (
-                    MutSlice.fix-len (Row.get 5 (T56 .locals) (m49 (c .before) (c .rs .given)) .ptr) (Row.get 5 (T56 .locals) (m49 (c .before) (c .rs .given)) .name) (Row.get 5 (T56 .locals) (m49 (c .before) (c
-                        .rs .given)) .now) (dens (c .before .before .before .before .before .before .before .before .before .before .before .before .before .before .before .before .before .κs) (c .before .before
-                        .before .before .before .before .before .before .before .before .before .before .before .before .before .before .before .args) .1 .1 .1 .1 .0 .now) (same-length-2 record
-                        { before = c .before; rs = c .rs }),
+                    MutSlice.fix-len (Row.get 5 (T1 .locals) (m49 (c .before) (c .rs .given)) .ptr) (Row.get 5 (T1 .locals) (m49 (c .before) (c .rs .given)) .name) (Row.get 5 (T1 .locals) (m49 (c .before) (c .rs
+                        .given)) .now) (dens (After-rs·start c .κs) (After-rs·start c .args) .1 .1 .1 .1 .0 .now) (same-length-2 c),
                     (
-                      MutSlice.fix-len (Row.get 6 (T56 .locals) (m49 (c .before) (c .rs .given)) .ptr) (Row.get 6 (T56 .locals) (m49 (c .before) (c .rs .given)) .name) (Row.get 6 (T56 .locals) (m49 (c .before) (c
-                          .rs .given)) .now) (dens (c .before .before .before .before .before .before .before .before .before .before .before .before .before .before .before .before .before .κs) (c .before .before
-                          .before .before .before .before .before .before .before .before .before .before .before .before .before .before .before .args) .1 .1 .1 .1 .1 .0 .now) (same-length-3 record
-                          { before = c .before; rs = c .rs }),
+                      MutSlice.fix-len (Row.get 6 (T1 .locals) (m49 (c .before) (c .rs .given)) .ptr) (Row.get 6 (T1 .locals) (m49 (c .before) (c .rs .given)) .name) (Row.get 6 (T1 .locals) (m49 (c .before) (c .rs
+                          .given)) .now) (dens (After-rs·start c .κs) (After-rs·start c .args) .1 .1 .1 .1 .1 .0 .now) (same-length-3 c),
                       tt,
                     ),
                   ),
@@ -2605,107 +1713,52 @@ module _ (claims· : Claims) where
               ),
             ),
           ),
-          returns-2 record { before = c .before; rs = c .rs },
+          returns-2 c,
         )
 
-        lay3 : (c : After-refused) → at35 (W0 (c .before .before .before .before .before .before .before .before .κs) (c .before .before .before .before .before .before .before .before .args)) (m14 (c
-            .before) (After-refused·gave c))
-        lay3 = λ c. ((Path'.refl, (tt, (tt, (Path'.refl, (Path'.refl, (Path'.refl, tt)))))), returns record { before = c .before; refused = c .refused })
+        lay3 : (c : After-refused) → at35 (W0 (After-refused·start c .κs) (After-refused·start c .args)) (m14 (c .before) (After-refused·gave c))
+        lay3 = λ c. ((Path'.refl, (tt, (tt, (Path'.refl, (Path'.refl, (Path'.refl, tt)))))), returns c)
 
-        lay2 : (c : After-samples-needed) → at22 (W1 (c .before .before .before .before .before) (After-block-begins·gave (c .before .before .before .before))) (m19 (c .before)
+        lay2 : (c : After-samples-needed) → at21 (W1 (c .before .before .before .before .before) (After-block-begins·gave (c .before .before .before .before))) (m19 (c .before)
             (After-samples-needed·gave c))
-        lay2 = λ c. λ g. (
+        lay2 = λ c. λ g. let c1 : After-store-in-arg = record { before = c; store-in-arg = record { given = g } } in (
           Path'.refl,
           (
             tt,
             (
-              sub-store-in record { before = record { before = c .before; samples-needed = c .samples-needed }; store-in-arg = record { given = g } },
+              sub-store-in c1,
               (
-                (
-                  Path'.refl,
-                  Path'.refl,
-                  part-store-in-start record { before = record { before = c .before; samples-needed = c .samples-needed }; store-in-arg = record { given = g } },
-                  part-store-in-end
-                      record { before = record { before = c .before; samples-needed = c .samples-needed }; store-in-arg = record { given = g } },
-                ),
-                λ g'. (
-                  Relend.count-is T29 18 19 (λ x. x) (λ u. u .1 .1 .1 .1 .1 .1 .1 .1 .1 .1 .1 .1 .1 .1 .1 .1 .1 .0) (m25 record
-                      { before = record { before = c .before; samples-needed = c .samples-needed }; store-in-arg = record { given = g } } g') (g' .1),
+                (Path'.refl, Path'.refl, part-store-in-start c1, part-store-in-end c1),
+                λ g'. let c2 : After-store-in-arg2 = record { before = c1; store-in-arg2 = record { given = g' } } in (
+                  Relend.count-is T29 18 19 (λ x. x) (λ u. u .1 .1 .1 .1 .1 .1 .1 .1 .1 .1 .1 .1 .1 .1 .1 .1 .1 .0) (m25 c1 g') (g' .1),
                   (
                     tt,
                     (
-                      sub-store-in-2 record
-                          { before = record { before = record { before = c .before; samples-needed = c .samples-needed }; store-in-arg = record { given = g } }; store-in-arg2 = record { given = g' } },
+                      sub-store-in-2 c2,
                       (
-                        (
-                          Path'.refl,
-                          Path'.refl,
-                          part-store-in-start-2 record
-                              { before = record { before = record { before = c .before; samples-needed = c .samples-needed }; store-in-arg = record { given = g } }; store-in-arg2 = record { given = g' } },
-                          part-store-in-end-2 record
-                              { before = record { before = record { before = c .before; samples-needed = c .samples-needed }; store-in-arg = record { given = g } }; store-in-arg2 = record { given = g' } },
-                        ),
-                        λ g''. (
-                          Relend.count-is T36 22 23 (λ x. x) (λ u. u .1 .1 .1 .1 .1 .1 .1 .1 .1 .1 .1 .1 .1 .1 .1 .1 .1 .1 .1 .1 .1 .0) (m31 record
-                              { before = record { before = record { before = c .before; samples-needed = c .samples-needed }; store-in-arg = record { given = g } }; store-in-arg2 = record { given = g' } } g'') (g'' .1),
+                        (Path'.refl, Path'.refl, part-store-in-start-2 c2, part-store-in-end-2 c2),
+                        λ g''. let c3 : After-store-in-arg3 = record { before = c2; store-in-arg3 = record { given = g'' } } in (
+                          Relend.count-is T36 22 23 (λ x. x) (λ u. u .1 .1 .1 .1 .1 .1 .1 .1 .1 .1 .1 .1 .1 .1 .1 .1 .1 .1 .1 .1 .1 .0) (m31 c2 g'') (g'' .1),
                           (
-                            store-in-requires record {
-                              before = record
-                                  { before = record { before = record { before = c .before; samples-needed = c .samples-needed }; store-in-arg = record { given = g } }; store-in-arg2 = record { given = g' } };
-                              store-in-arg3
-                                  = record { given = g'' };
-                            },
-                            λ g'3. (
-                              Path'.refl,
-                              λ g'4. λ g'5. (
-                                Path'.refl,
-                                λ g'6. λ g'7. (
-                                  Path'.refl,
-                                  λ g'8. lay4 record {
-                                    before = record {
-                                      before = record {
-                                        before = record {
-                                          before = record {
-                                            before = record {
-                                              before = record {
-                                                before = record
-                                                    { before = record { before = record { before = c .before; samples-needed = c .samples-needed }; store-in-arg = record { given = g } }; store-in-arg2 = record { given = g' } };
-                                                store-in-arg3
-                                                    = record { given = g'' };
-                                              };
-                                              store-in = Called.called ps·3 r·3 (claims· .7) T38 (
-                                                record { pos = 1; ty = Syntax.tyRef (Syntax.named 0) Syntax.imm (Syntax.tyInt Syntax.w8); ref = λ x. x },
-                                                (
-                                                  record { pos = 9; st = List.[]; d = 0; at = λ x. x },
-                                                  (
-                                                    Num.vAt 2 λ x. x,
-                                                    (
-                                                      Num.vAt 3 λ x. x,
-                                                      (
-                                                        record { pos = 15; ty = Syntax.tyRef Syntax.erased Syntax.mut (Syntax.tyInt Syntax.w8); ref = λ x. x },
-                                                        (
-                                                          record { pos = 19; ty = Syntax.tyRef Syntax.erased Syntax.mut (Syntax.tyInt Syntax.w16); ref = λ x. x },
-                                                          (record { pos = 23; ty = Syntax.tyRef Syntax.erased Syntax.mut Element.behind; ref = λ x. x }, tt),
-                                                        ),
-                                                      ),
-                                                    ),
-                                                  ),
-                                                ),
-                                              ) (m33 record
-                                                  { before = record { before = record { before = c .before; samples-needed = c .samples-needed }; store-in-arg = record { given = g } }; store-in-arg2 = record { given = g' } } g'') g'3;
-                                            };
-                                            state = record { given = g'4 };
-                                          };
-                                          slice-known3 = record { given = g'5 };
-                                        };
-                                        lines = record { given = g'6 };
-                                      };
-                                      slice-known4 = record { given = g'7 };
-                                    };
-                                    rs = record { given = g'8 };
-                                  },
+                            store-in-requires c3,
+                            λ g'3. let c4 : After-store-in = record {
+                              before = c3;
+                              store-in = Called.called ps·3 r·3 (claims· .7) T38 (
+                                record { pos = 1; ty = y1; ref = λ x. x },
+                                (
+                                  record { pos = 9; st = []; d = 0; at = λ x. x },
+                                  (Num.vAt 2 λ x. x, (Num.vAt 3 λ x. x, (record { pos = 15; ty = y7; ref = λ x. x }, (record { pos = 19; ty = y6; ref = λ x. x }, (record { pos = 23; ty = y5; ref = λ x. x }, tt))))),
                                 ),
-                              ),
+                              ) (m33
+                                  c2 g'') g'3;
+                            } in (
+                              Path'.refl,
+                              λ g'4. let c5 : After-state = record { before = c4; state = record { given = g'4 } } in λ g'5. let c6 : After-slice-known3 = record
+                                  { before = c5; slice-known3 = record { given = g'5 } } in (
+                                    Path'.refl,
+                                    λ g'6. let c7 : After-lines = record { before = c6; lines = record { given = g'6 } } in λ g'7. let c8 : After-slice-known4 = record
+                                        { before = c7; slice-known4 = record { given = g'7 } } in (Path'.refl, λ g'8. lay4 record { before = c8; rs = record { given = g'8 } }),
+                                  ),
                             ),
                           ),
                         ),
@@ -2718,69 +1771,33 @@ module _ (claims· : Claims) where
           ),
         )
 
-        lay1 : (c : After-block-begins) → at36 (W0 (c .before .before .before .before .κs) (c .before .before .before .before .args)) (m6 (c .before) (After-block-begins·gave c))
+        lay1 : (c : After-block-begins) → at36 (W0 (After-block-begins·start c .κs) (After-block-begins·start c .args)) (m6 (c .before) (After-block-begins·gave c))
         lay1 = λ c. (
-          λ k. (
-            enum-known-begins record { before = record { before = c .before; block-begins = c .block-begins }; match = record { keys1 = k } },
-            λ g. λ g'. (
-              refused-requires record {
-                before = record { before = record { before = record { before = c .before; block-begins = c .block-begins }; match = record { keys1 = k } }; begins = record { given = g } };
-                known-told =
-                    record { given = g' };
-              },
-              λ g''. lay3 record {
-                before = record {
-                  before = record { before = record { before = record { before = c .before; block-begins = c .block-begins }; match = record { keys1 = k } }; begins = record { given = g } };
-                  known-told =
-                      record { given = g' };
-                };
-                refused = Called.called ps·1 r·1 (claims· .3) T14 (record { pos = 8; st = List.[]; d = 0; at = λ x. x }, tt) (m12 record
-                    { before = record { before = record { before = c .before; block-begins = c .block-begins }; match = record { keys1 = k } }; begins = record { given = g } } g') g'';
-              },
-            ),
+          λ k. let c1 : At-match-keys1 = record { before = c; match = record { keys1 = k } } in (
+            enum-known-begins c1,
+            λ g. let c2 : After-begins = record { before = c1; begins = record { given = g } } in λ g'. let c3 : After-known-told = record
+                { before = c2; known-told = record { given = g' } } in
+                (refused-requires c3, λ g''. lay3 record { before = c3; refused = Called.called ps·1 r·1 (claims· .3) T14 (record { pos = 8; st = []; d = 0; at = λ x. x }, tt) (m12 c2 g') g'' }),
           ),
           (
-            λ k. (
-              enum-known-begins-2 record { before = record { before = c .before; block-begins = c .block-begins }; match = record { keys2 = k } },
-              λ g. λ g'3. (
-                samples-needed-requires record {
-                  before = record { before = record { before = record { before = c .before; block-begins = c .block-begins }; match = record { keys2 = k } }; begins2 = record { given = g } };
-                  known-told2 =
-                      record { given = g'3 };
-                },
-                λ g'4. lay2 record {
-                  before = record {
-                    before = record { before = record { before = record { before = c .before; block-begins = c .block-begins }; match = record { keys2 = k } }; begins2 = record { given = g } };
-                    known-told2 =
-                        record { given = g'3 };
-                  };
-                  samples-needed = Called.called ps·2 r·2 (claims· .5) T20 (Bool.bFld 9 (List._∷_ (Syntax.field 1) List.[]) 1 λ x. FujiHeader.struct .as-values x .1 .0, tt) (m18
-                      record { before = record { before = record { before = c .before; block-begins = c .block-begins }; match = record { keys2 = k } }; begins2 = record { given = g } } g'3) g'4;
-                },
-              ),
+            λ k. let c4 : At-match-keys2 = record { before = c; match = record { keys2 = k } } in (
+              enum-known-begins-2 c4,
+              λ g. let c5 : After-begins2 = record { before = c4; begins2 = record { given = g } } in λ g'3. let c6 : After-known-told2 = record
+                  { before = c5; known-told2 = record { given = g'3 } } in (
+                    samples-needed-requires c6,
+                    λ g'4. lay2 record
+                        { before = c6; samples-needed = Called.called ps·2 r·2 (claims· .5) T20 (Bool.bFld 9 ((Syntax.field 1) ∷ []) 1 λ x. FujiHeader.struct .as-values x .1 .0, tt) (m18 c5 g'3) g'4 },
+                  ),
             ),
-            Match.each-below 2 (λ j. (Unit {0} × (Run.OneOf (List._∷_ 1 List.[]) j → ⊥)) × (Run.OneOf (List._∷_ 0 List.[]) j → ⊥) → ⊥) (λ n. n .0 .1 Path'.refl, (λ n. n .1 Path'.refl, tt)) (Declared.tagOf
-                Parsed.the-type (Row.get 7 (T10 .locals) (m8 (c .before) (After-block-begins·gave c)))) (Match.tag-small Parsed.the-type (Row.get 7 (T10 .locals) (m8 (c .before) (After-block-begins·gave
-                c)))),
+            Match.each-below 2 (λ j. (Unit {0} × (Run.OneOf (1 ∷ []) j → ⊥)) × (Run.OneOf (0 ∷ []) j → ⊥) → ⊥) (λ n. n .0 .1 Path'.refl, (λ n. n .1 Path'.refl, tt)) (Declared.tagOf Parsed.the-type
+                (Row.get 7 (T10 .locals) (m8 (c .before) (After-block-begins·gave c)))) (Match.tag-small Parsed.the-type (Row.get 7 (T10 .locals) (m8 (c .before) (After-block-begins·gave c)))),
           ),
         )
 
         pub laid : (c : Start) → at42 (W0 (c .κs) (c .args)) (m0 (c .κs) (c .args))
-        laid = λ c. λ g. λ g'. λ g''. (
-          block-begins-requires record
-              { before = record { before = record { before = c; shared-slice-known = record { given = g } }; slice-known = record { given = g' } }; slice-known2 = record { given = g'' } },
-          λ g'3. lay1
-              record {
-                before = record
-                    { before = record { before = record { before = c; shared-slice-known = record { given = g } }; slice-known = record { given = g' } }; slice-known2 = record { given = g'' } };
-                block-begins =
-                    Called.called ps·0 r·0 (claims· .1) T6 (
-                      record { pos = 1; ty = Syntax.tyRef (Syntax.named 0) Syntax.imm (Syntax.tyInt Syntax.w8); ref = λ x. x },
-                      (Num.vAt 2 λ x. x, (Bool.bLit Bool'.false, (Num.vAt 11 λ x. x, (Num.vAt 12 λ x. x, tt)))),
-                    ) (m5 record
-                    { before = record { before = c; shared-slice-known = record { given = g } }; slice-known = record { given = g' } } g'') g'3;
-              },
-        )
+        laid = λ c. λ g. let c1 : After-shared-slice-known = record { before = c; shared-slice-known = record { given = g } } in λ g'. let c2 : After-slice-known = record
+            { before = c1; slice-known = record { given = g' } } in λ g''. let c3 : After-slice-known2 = record { before = c2; slice-known2 = record { given = g'' } } in
+            (block-begins-requires c3, λ g'3. lay1 record { before = c3; block-begins = Called.called ps·0 r·0 (claims· .1) T6 a0 (m5 c2 g'') g'3 })
 
         module _ (κs : Lifetimes.Lfts 4) (qs : Lifetimes.Shares 4) where
           pub asked : (a : Kinds.Dens κs ps) → (good : Kinds.GoodsP κs ps a) → (pre : Pre· κs a) → (bs : List.List Nat.ℕ) → Φ (Any.wantQ 4 ps r xs m κs qs a (Post· κs a)) (Function.init 4 ps r xs m κs

@@ -18,126 +18,56 @@ use borrow.Fn.Run
 use borrow.Fn.Written
 use contract.Running
 
+abbrev claims : Lts.Claims
+claims = (Reads''.Asked, Reads''.Learnt, Reads.Asked, Reads.Learnt, Reads'3.Asked, Reads'3.Learnt)
+
 abbrev pub Start : Type 0
-Start = Lts.Start (Reads''.Asked, Reads''.Learnt, Reads.Asked, Reads.Learnt, Reads'3.Asked, Reads'3.Learnt) Reads'.Pre Reads'.Post
-
-abbrev pub After-shared-slice-known : Type 0
-After-shared-slice-known = Lts.After-shared-slice-known (Reads''.Asked, Reads''.Learnt, Reads.Asked, Reads.Learnt, Reads'3.Asked, Reads'3.Learnt) Reads'.Pre Reads'.Post
-
-abbrev pub After-slice-known : Type 0
-After-slice-known = Lts.After-slice-known (Reads''.Asked, Reads''.Learnt, Reads.Asked, Reads.Learnt, Reads'3.Asked, Reads'3.Learnt) Reads'.Pre Reads'.Post
-
-abbrev pub After-slice-known2 : Type 0
-After-slice-known2 = Lts.After-slice-known2 (Reads''.Asked, Reads''.Learnt, Reads.Asked, Reads.Learnt, Reads'3.Asked, Reads'3.Learnt) Reads'.Pre Reads'.Post
-
-abbrev pub After-store-judged : Type 0
-After-store-judged = Lts.After-store-judged (Reads''.Asked, Reads''.Learnt, Reads.Asked, Reads.Learnt, Reads'3.Asked, Reads'3.Learnt) Reads'.Pre Reads'.Post
-
-abbrev pub At-match-keys1 : Type 0
-At-match-keys1 = Lts.At-match-keys1 (Reads''.Asked, Reads''.Learnt, Reads.Asked, Reads.Learnt, Reads'3.Asked, Reads'3.Learnt) Reads'.Pre Reads'.Post
-
-abbrev pub After-judged : Type 0
-After-judged = Lts.After-judged (Reads''.Asked, Reads''.Learnt, Reads.Asked, Reads.Learnt, Reads'3.Asked, Reads'3.Learnt) Reads'.Pre Reads'.Post
-
-abbrev pub After-known-told : Type 0
-After-known-told = Lts.After-known-told (Reads''.Asked, Reads''.Learnt, Reads.Asked, Reads.Learnt, Reads'3.Asked, Reads'3.Learnt) Reads'.Pre Reads'.Post
-
-abbrev pub After-refuse-arg : Type 0
-After-refuse-arg = Lts.After-refuse-arg (Reads''.Asked, Reads''.Learnt, Reads.Asked, Reads.Learnt, Reads'3.Asked, Reads'3.Learnt) Reads'.Pre Reads'.Post
-
-abbrev pub After-refuse-arg2 : Type 0
-After-refuse-arg2 = Lts.After-refuse-arg2 (Reads''.Asked, Reads''.Learnt, Reads.Asked, Reads.Learnt, Reads'3.Asked, Reads'3.Learnt) Reads'.Pre Reads'.Post
-
-abbrev pub After-refuse : Type 0
-After-refuse = Lts.After-refuse (Reads''.Asked, Reads''.Learnt, Reads.Asked, Reads.Learnt, Reads'3.Asked, Reads'3.Learnt) Reads'.Pre Reads'.Post
-
-abbrev pub After-lines : Type 0
-After-lines = Lts.After-lines (Reads''.Asked, Reads''.Learnt, Reads.Asked, Reads.Learnt, Reads'3.Asked, Reads'3.Learnt) Reads'.Pre Reads'.Post
-
-abbrev pub After-slice-known3 : Type 0
-After-slice-known3 = Lts.After-slice-known3 (Reads''.Asked, Reads''.Learnt, Reads.Asked, Reads.Learnt, Reads'3.Asked, Reads'3.Learnt) Reads'.Pre Reads'.Post
-
-abbrev pub After-rs : Type 0
-After-rs = Lts.After-rs (Reads''.Asked, Reads''.Learnt, Reads.Asked, Reads.Learnt, Reads'3.Asked, Reads'3.Learnt) Reads'.Pre Reads'.Post
-
-abbrev pub At-match-keys2 : Type 0
-At-match-keys2 = Lts.At-match-keys2 (Reads''.Asked, Reads''.Learnt, Reads.Asked, Reads.Learnt, Reads'3.Asked, Reads'3.Learnt) Reads'.Pre Reads'.Post
-
-abbrev pub After-enum-told : Type 0
-After-enum-told = Lts.After-enum-told (Reads''.Asked, Reads''.Learnt, Reads.Asked, Reads.Learnt, Reads'3.Asked, Reads'3.Learnt) Reads'.Pre Reads'.Post
-
-abbrev pub After-store-state-arg : Type 0
-After-store-state-arg = Lts.After-store-state-arg (Reads''.Asked, Reads''.Learnt, Reads.Asked, Reads.Learnt, Reads'3.Asked, Reads'3.Learnt) Reads'.Pre Reads'.Post
-
-abbrev pub After-store-state-arg2 : Type 0
-After-store-state-arg2 = Lts.After-store-state-arg2 (Reads''.Asked, Reads''.Learnt, Reads.Asked, Reads.Learnt, Reads'3.Asked, Reads'3.Learnt) Reads'.Pre Reads'.Post
-
-abbrev pub After-store-state-arg3 : Type 0
-After-store-state-arg3 = Lts.After-store-state-arg3 (Reads''.Asked, Reads''.Learnt, Reads.Asked, Reads.Learnt, Reads'3.Asked, Reads'3.Learnt) Reads'.Pre Reads'.Post
-
-abbrev pub After-store-state : Type 0
-After-store-state = Lts.After-store-state (Reads''.Asked, Reads''.Learnt, Reads.Asked, Reads.Learnt, Reads'3.Asked, Reads'3.Learnt) Reads'.Pre Reads'.Post
-
-abbrev pub After-state : Type 0
-After-state = Lts.After-state (Reads''.Asked, Reads''.Learnt, Reads.Asked, Reads.Learnt, Reads'3.Asked, Reads'3.Learnt) Reads'.Pre Reads'.Post
-
-abbrev pub After-slice-known4 : Type 0
-After-slice-known4 = Lts.After-slice-known4 (Reads''.Asked, Reads''.Learnt, Reads.Asked, Reads.Learnt, Reads'3.Asked, Reads'3.Learnt) Reads'.Pre Reads'.Post
-
-abbrev pub After-lines2 : Type 0
-After-lines2 = Lts.After-lines2 (Reads''.Asked, Reads''.Learnt, Reads.Asked, Reads.Learnt, Reads'3.Asked, Reads'3.Learnt) Reads'.Pre Reads'.Post
-
-abbrev pub After-slice-known5 : Type 0
-After-slice-known5 = Lts.After-slice-known5 (Reads''.Asked, Reads''.Learnt, Reads.Asked, Reads.Learnt, Reads'3.Asked, Reads'3.Learnt) Reads'.Pre Reads'.Post
-
-abbrev pub After-rs2 : Type 0
-After-rs2 = Lts.After-rs2 (Reads''.Asked, Reads''.Learnt, Reads.Asked, Reads.Learnt, Reads'3.Asked, Reads'3.Learnt) Reads'.Pre Reads'.Post
+Start = Lts.Start claims Reads'.Pre Reads'.Post
 
 abbrev pub Need-store-judged-requires : Type 0
-Need-store-judged-requires = Lts.Need-store-judged-requires (Reads''.Asked, Reads''.Learnt, Reads.Asked, Reads.Learnt, Reads'3.Asked, Reads'3.Learnt) Reads'.Pre Reads'.Post
+Need-store-judged-requires = Lts.Need-store-judged-requires claims Reads'.Pre Reads'.Post
 
 abbrev pub Need-enum-known-judged : Type 0
-Need-enum-known-judged = Lts.Need-enum-known-judged (Reads''.Asked, Reads''.Learnt, Reads.Asked, Reads.Learnt, Reads'3.Asked, Reads'3.Learnt) Reads'.Pre Reads'.Post
+Need-enum-known-judged = Lts.Need-enum-known-judged claims Reads'.Pre Reads'.Post
 
 abbrev pub Need-refuse-requires : Type 0
-Need-refuse-requires = Lts.Need-refuse-requires (Reads''.Asked, Reads''.Learnt, Reads.Asked, Reads.Learnt, Reads'3.Asked, Reads'3.Learnt) Reads'.Pre Reads'.Post
+Need-refuse-requires = Lts.Need-refuse-requires claims Reads'.Pre Reads'.Post
 
 abbrev pub Need-enum-told : Type 0
-Need-enum-told = Lts.Need-enum-told (Reads''.Asked, Reads''.Learnt, Reads.Asked, Reads.Learnt, Reads'3.Asked, Reads'3.Learnt) Reads'.Pre Reads'.Post
+Need-enum-told = Lts.Need-enum-told claims Reads'.Pre Reads'.Post
 
 abbrev pub Need-store-state-requires : Type 0
-Need-store-state-requires = Lts.Need-store-state-requires (Reads''.Asked, Reads''.Learnt, Reads.Asked, Reads.Learnt, Reads'3.Asked, Reads'3.Learnt) Reads'.Pre Reads'.Post
+Need-store-state-requires = Lts.Need-store-state-requires claims Reads'.Pre Reads'.Post
 
 abbrev pub Need-same-length : Type 0
-Need-same-length = Lts.Need-same-length (Reads''.Asked, Reads''.Learnt, Reads.Asked, Reads.Learnt, Reads'3.Asked, Reads'3.Learnt) Reads'.Pre Reads'.Post
+Need-same-length = Lts.Need-same-length claims Reads'.Pre Reads'.Post
 
 abbrev pub Need-same-length-2 : Type 0
-Need-same-length-2 = Lts.Need-same-length-2 (Reads''.Asked, Reads''.Learnt, Reads.Asked, Reads.Learnt, Reads'3.Asked, Reads'3.Learnt) Reads'.Pre Reads'.Post
+Need-same-length-2 = Lts.Need-same-length-2 claims Reads'.Pre Reads'.Post
 
 abbrev pub Need-returns : Type 0
-Need-returns = Lts.Need-returns (Reads''.Asked, Reads''.Learnt, Reads.Asked, Reads.Learnt, Reads'3.Asked, Reads'3.Learnt) Reads'.Pre Reads'.Post
+Need-returns = Lts.Need-returns claims Reads'.Pre Reads'.Post
 
 abbrev pub Need-same-length-3 : Type 0
-Need-same-length-3 = Lts.Need-same-length-3 (Reads''.Asked, Reads''.Learnt, Reads.Asked, Reads.Learnt, Reads'3.Asked, Reads'3.Learnt) Reads'.Pre Reads'.Post
+Need-same-length-3 = Lts.Need-same-length-3 claims Reads'.Pre Reads'.Post
 
 abbrev pub Need-same-length-4 : Type 0
-Need-same-length-4 = Lts.Need-same-length-4 (Reads''.Asked, Reads''.Learnt, Reads.Asked, Reads.Learnt, Reads'3.Asked, Reads'3.Learnt) Reads'.Pre Reads'.Post
+Need-same-length-4 = Lts.Need-same-length-4 claims Reads'.Pre Reads'.Post
 
 abbrev pub Need-same-length-5 : Type 0
-Need-same-length-5 = Lts.Need-same-length-5 (Reads''.Asked, Reads''.Learnt, Reads.Asked, Reads.Learnt, Reads'3.Asked, Reads'3.Learnt) Reads'.Pre Reads'.Post
+Need-same-length-5 = Lts.Need-same-length-5 claims Reads'.Pre Reads'.Post
 
 abbrev pub Need-returns-2 : Type 0
-Need-returns-2 = Lts.Need-returns-2 (Reads''.Asked, Reads''.Learnt, Reads.Asked, Reads.Learnt, Reads'3.Asked, Reads'3.Learnt) Reads'.Pre Reads'.Post
+Need-returns-2 = Lts.Need-returns-2 claims Reads'.Pre Reads'.Post
 
 module _ {M : Type 1} where
   pub spec : (answer : Need-store-judged-requires) → (answer : Need-enum-known-judged) → (answer : Need-refuse-requires) → (answer : Need-enum-told) → (answer : Need-store-state-requires) → (answer :
       Need-same-length) → (answer : Need-same-length-2) → (answer : Need-returns) → (answer : Need-same-length-3) → (answer : Need-same-length-4) → (answer : Need-same-length-5) → (answer :
-      Need-returns-2) → Lts.Closed (Reads''.Asked, Reads''.Learnt, Reads.Asked, Reads.Learnt, Reads'3.Asked, Reads'3.Learnt) Reads'.Pre Reads'.Post M
-  spec = λ answer answer' answer'' answer'3 answer'4 answer'5 answer'6 answer'7 answer'8 answer'9 answer'10 answer'11. Lts.spec
-      (Reads''.Asked, Reads''.Learnt, Reads.Asked, Reads.Learnt, Reads'3.Asked, Reads'3.Learnt) Reads'.Pre Reads'.Post answer answer' answer'' answer'3 answer'4 answer'5 answer'6 answer'7 answer'8
-      answer'9 answer'10 answer'11
+      Need-returns-2) → Lts.Closed claims Reads'.Pre Reads'.Post M
+  spec = λ answer answer' answer'' answer'3 answer'4 answer'5 answer'6 answer'7 answer'8 answer'9 answer'10 answer'11. Lts.spec claims Reads'.Pre Reads'.Post answer answer' answer'' answer'3 answer'4
+      answer'5 answer'6 answer'7 answer'8 answer'9 answer'10 answer'11
 
-  pub close : Lts.Closed (Reads''.Asked, Reads''.Learnt, Reads.Asked, Reads.Learnt, Reads'3.Asked, Reads'3.Learnt) Reads'.Pre Reads'.Post M → Statement.statement M
+  pub close : Lts.Closed claims Reads'.Pre Reads'.Post M → Statement.statement M
   unfolding Code.routine Running.tablesOf
   close = λ closed 𝓤 H 𝓜 𝓖 𝓡. Written.close 4 Kinds.ps Kinds.r Reads'.Ghost Reads'.requires Reads'.ensures Reads'.pre-read Reads'.Pinned Reads'.Owned Reads'.post-read record
       { M = M; 𝓤 = 𝓤; H = H; 𝓜 = 𝓜; 𝓖 = 𝓖; 𝓡 = 𝓡 } Code.env Key.name Code.function (Code.unfolded 𝓤 H 𝓜 𝓡) (λ κs a g. tt) (λ κs. Reads'.owns κs record { M = M; 𝓤 = 𝓤; H = H; 𝓜 = 𝓜; 𝓖 = 𝓖; 𝓡 = 𝓡 })

@@ -1,4 +1,8 @@
 -- Written by tools/lend.py from Rattle's derivation of the twin of `diagnosis`; not edited by hand. Assumes nothing.
+use Rattle.bits.proofs.Values
+use Rattle.bits.proofs.Values.{on}
+use Rattle.bits.proofs.Values.{n16, n8, u16, u32, u64, u8}
+use mathlib.Core.List.{_∷_, []}
 use Rattle.block.proofs.Element
 use Prim.Native.Nat
 use Rattle.block.proofs.Form
@@ -23,7 +27,6 @@ use borrow.Kind.MutSlice
 use borrow.Kind.Num
 use borrow.Kind.ShrRef
 use borrow.Kind.ShrSlice
-use borrow.Kind.Value
 use borrow.Rule.Array.Borrow
 use borrow.Rule.Array.Gives
 use borrow.Rule.Array.Init
@@ -54,12 +57,9 @@ use borrow.Table.Typed
 use contract.Lifetimes
 use denote.Array as Array'
 use denote.Enum.Declared
-use denote.Enum.Laws as Laws'4
-use denote.Exit
 use denote.Plain as Plain'
 use denote.Steps
 use denote.Struct.Declared as Declared'
-use denote.Struct.Laws as Laws'5
 use denote.Triple.Clauses
 use denote.Triple.Statement
 use ghost.Atoms
@@ -75,348 +75,207 @@ use prog.Wp
 use types.Kit
 
 abbrev pub y0 : Syntax.Ty
-y0 = Syntax.tyStruct (List._∷_ 109 (List._∷_ 97 (List._∷_ 112 (List._∷_ 58 (List._∷_ 58 (List._∷_ 80 (List._∷_ 97 (List._∷_ 114 (List._∷_ 116 List.[]))))))))) (Syntax.tcons (Syntax.tyInt Syntax.w64)
-    (Syntax.tcons (Syntax.tyInt Syntax.w64) (Syntax.tcons (Syntax.tyInt Syntax.w64) (Syntax.tcons (Syntax.tyInt Syntax.w64) (Syntax.tcons (Syntax.tyInt Syntax.w64) (Syntax.tcons (Syntax.tyInt Syntax.w64)
-    Syntax.tnil))))))
+y0 = Syntax.tyArray (Element.held) 336
 
 abbrev pub y1 : Syntax.Ty
-y1 = Syntax.tyStruct (List._∷_ 113 (List._∷_ 117 (List._∷_ 97 (List._∷_ 110 (List._∷_ 116 (List._∷_ 105 (List._∷_ 115 (List._∷_ 101 (List._∷_ 114 (List._∷_ 58 (List._∷_ 58 (List._∷_ 81 (List._∷_ 117
-    (List._∷_ 97 (List._∷_ 110 (List._∷_ 116 (List._∷_ 105 (List._∷_ 115 (List._∷_ 101 (List._∷_ 114 List.[])))))))))))))))))))) (Syntax.tcons (Syntax.tyInt Syntax.w32) (Syntax.tcons (Syntax.tyInt
-    Syntax.w32) (Syntax.tcons (Syntax.tyInt Syntax.w32) (Syntax.tcons (Syntax.tyInt Syntax.w32) (Syntax.tcons (Syntax.tyInt Syntax.w32) Syntax.tnil)))))
+y1 = Syntax.tyArray Element.behind 336
 
 abbrev pub y2 : Syntax.Ty
-y2 = Syntax.tyStruct (List._∷_ 116 (List._∷_ 111 (List._∷_ 116 (List._∷_ 97 (List._∷_ 108 (List._∷_ 115 (List._∷_ 58 (List._∷_ 58 (List._∷_ 84 (List._∷_ 111 (List._∷_ 116 (List._∷_ 97 (List._∷_ 108
-    (List._∷_ 115 List.[])))))))))))))) (Syntax.tcons (Syntax.tyInt Syntax.w64) (Syntax.tcons (Syntax.tyInt Syntax.w64) Syntax.tnil))
+y2 = Syntax.tyArray u16 768
 
 abbrev pub y3 : Syntax.Ty
-y3 = Syntax.tyStruct (List._∷_ 38 (List._∷_ 91 (List._∷_ 93 List.[]))) (Syntax.tcons (Syntax.tyRef Syntax.erased Syntax.mut (Syntax.tyInt Syntax.w16)) (Syntax.tcons (Syntax.tyInt Syntax.w64)
-    Syntax.tnil))
+y3 = Syntax.tyArray u16 9252
 
 abbrev pub y4 : Syntax.Ty
-y4 = Syntax.tyStruct (List._∷_ 38 (List._∷_ 91 (List._∷_ 93 List.[]))) (Syntax.tcons (Syntax.tyRef Syntax.erased Syntax.mut Element.behind) (Syntax.tcons (Syntax.tyInt Syntax.w64) Syntax.tnil))
+y4 = Syntax.tyArray u8 36
 
 abbrev pub y5 : Syntax.Ty
-y5 = Syntax.tyStruct (List._∷_ 98 (List._∷_ 108 (List._∷_ 111 (List._∷_ 99 (List._∷_ 107 (List._∷_ 58 (List._∷_ 58 (List._∷_ 70 (List._∷_ 111 (List._∷_ 114 (List._∷_ 109 List.[])))))))))))
-    (Syntax.tcons (Syntax.tyInt Syntax.w32) (Syntax.tcons Syntax.tyBool Syntax.tnil))
+y5 = Syntax.tyRef (Syntax.named 0) Syntax.imm u8
 
 abbrev pub y6 : Syntax.Ty
-y6 = Syntax.tyStruct (List._∷_ 116 (List._∷_ 111 (List._∷_ 116 (List._∷_ 97 (List._∷_ 108 (List._∷_ 115 (List._∷_ 58 (List._∷_ 58 (List._∷_ 84 (List._∷_ 105 (List._∷_ 103 (List._∷_ 104 (List._∷_ 116
-    (List._∷_ 76 (List._∷_ 105 (List._∷_ 110 (List._∷_ 101 (List._∷_ 115 List.[])))))))))))))))))) (Syntax.tcons (Syntax.tyInt Syntax.w64) (Syntax.tcons y2 Syntax.tnil))
+y6 = Syntax.tyRef (Syntax.named 1) Syntax.imm u8
 
 abbrev pub y7 : Syntax.Ty
-y7 = Syntax.tyStruct (List._∷_ 99 (List._∷_ 97 (List._∷_ 109 (List._∷_ 101 (List._∷_ 114 (List._∷_ 97 (List._∷_ 115 (List._∷_ 58 (List._∷_ 58 (List._∷_ 69 (List._∷_ 110 (List._∷_ 116 (List._∷_ 114
-    (List._∷_ 121 List.[])))))))))))))) (Syntax.tcons (Syntax.tyInt Syntax.w32) (Syntax.tcons y1 (Syntax.tcons Syntax.tyBool (Syntax.tcons Syntax.tyBool Syntax.tnil))))
+y7 = Syntax.tyRef (Syntax.named 2) Syntax.mut u16
 
 abbrev pub y8 : Syntax.Ty
-y8 = Syntax.tyStruct (List._∷_ 99 (List._∷_ 97 (List._∷_ 109 (List._∷_ 101 (List._∷_ 114 (List._∷_ 97 (List._∷_ 115 (List._∷_ 58 (List._∷_ 58 (List._∷_ 69 (List._∷_ 110 (List._∷_ 116 (List._∷_ 114
-    (List._∷_ 105 (List._∷_ 101 (List._∷_ 115 List.[])))))))))))))))) (Syntax.tcons (Syntax.tyArray y7 16) Syntax.tnil)
+y8 = Syntax.tyRef Syntax.erased Syntax.mut Element.behind
+
+abbrev pub y9 : Syntax.Ty
+y9 = Syntax.tyRef Syntax.erased Syntax.mut u16
+
+abbrev pub y10 : Syntax.Ty
+y10 = Syntax.tyStruct (109 ∷ 97 ∷ 112 ∷ 58 ∷ 58 ∷ 80 ∷ 97 ∷ 114 ∷ 116 ∷ []) (Syntax.tcons u64 (Syntax.tcons u64 (Syntax.tcons u64 (Syntax.tcons u64 (Syntax.tcons u64 (Syntax.tcons u64
+    Syntax.tnil))))))
+
+abbrev pub y11 : Syntax.Ty
+y11 = Syntax.tyStruct (113 ∷ 117 ∷ 97 ∷ 110 ∷ 116 ∷ 105 ∷ 115 ∷ 101 ∷ 114 ∷ 58 ∷ 58 ∷ 81 ∷ 117 ∷ 97 ∷ 110 ∷ 116 ∷ 105 ∷ 115 ∷ 101 ∷ 114 ∷ []) (Syntax.tcons u32 (Syntax.tcons u32 (Syntax.tcons u32
+    (Syntax.tcons u32 (Syntax.tcons u32 Syntax.tnil)))))
+
+abbrev pub y12 : Syntax.Ty
+y12 = Syntax.tyStruct (116 ∷ 111 ∷ 116 ∷ 97 ∷ 108 ∷ 115 ∷ 58 ∷ 58 ∷ 84 ∷ 111 ∷ 116 ∷ 97 ∷ 108 ∷ 115 ∷ []) (Syntax.tcons u64 (Syntax.tcons u64 Syntax.tnil))
+
+abbrev pub y13 : Syntax.Ty
+y13 = Syntax.tyStruct (98 ∷ 108 ∷ 111 ∷ 99 ∷ 107 ∷ 58 ∷ 58 ∷ 70 ∷ 111 ∷ 114 ∷ 109 ∷ []) (Syntax.tcons u32 (Syntax.tcons Syntax.tyBool Syntax.tnil))
+
+abbrev pub y14 : Syntax.Ty
+y14 = Syntax.tyRef Syntax.erased Syntax.imm y2
+
+abbrev pub y15 : Syntax.Ty
+y15 = Syntax.tyRef Syntax.erased Syntax.mut y1
+
+abbrev pub y16 : Syntax.Ty
+y16 = Syntax.tyStruct (116 ∷ 111 ∷ 116 ∷ 97 ∷ 108 ∷ 115 ∷ 58 ∷ 58 ∷ 84 ∷ 105 ∷ 103 ∷ 104 ∷ 116 ∷ 76 ∷ 105 ∷ 110 ∷ 101 ∷ 115 ∷ []) (Syntax.tcons u64 (Syntax.tcons y12 Syntax.tnil))
+
+abbrev pub y17 : Syntax.Ty
+y17 = Syntax.tyStruct (38 ∷ 91 ∷ 93 ∷ []) (Syntax.tcons y8 (Syntax.tcons u64 Syntax.tnil))
+
+abbrev pub y18 : Syntax.Ty
+y18 = Syntax.tyStruct (38 ∷ 91 ∷ 93 ∷ []) (Syntax.tcons y9 (Syntax.tcons u64 Syntax.tnil))
+
+abbrev pub y19 : Syntax.Ty
+y19 = Syntax.tyStruct (99 ∷ 97 ∷ 109 ∷ 101 ∷ 114 ∷ 97 ∷ 115 ∷ 58 ∷ 58 ∷ 69 ∷ 110 ∷ 116 ∷ 114 ∷ 121 ∷ []) (Syntax.tcons u32 (Syntax.tcons y11 (Syntax.tcons Syntax.tyBool (Syntax.tcons Syntax.tyBool
+    Syntax.tnil))))
+
+abbrev pub y20 : Syntax.Ty
+y20 = Syntax.tyArray y19 16
+
+abbrev pub y21 : Syntax.Ty
+y21 = Syntax.tyEnum (98 ∷ 108 ∷ 111 ∷ 99 ∷ 107 ∷ 58 ∷ 58 ∷ 87 ∷ 97 ∷ 108 ∷ 107 ∷ 101 ∷ 100 ∷ []) (Syntax.ttcons (Syntax.tcons y12 (Syntax.tcons y16 Syntax.tnil)) (Syntax.ttcons (Syntax.tcons u64
+    (Syntax.tcons y12 Syntax.tnil)) Syntax.ttnil))
+
+abbrev pub y22 : Syntax.Ty
+y22 = Syntax.tyStruct (99 ∷ 97 ∷ 109 ∷ 101 ∷ 114 ∷ 97 ∷ 115 ∷ 58 ∷ 58 ∷ 69 ∷ 110 ∷ 116 ∷ 114 ∷ 105 ∷ 101 ∷ 115 ∷ []) (Syntax.tcons y20 Syntax.tnil)
 
 abbrev pub ps : List.List (Kinds.PK 3)
-ps = List._∷_ (ShrSlice.pShrS (Referent.rtF (Referent.fInt Syntax.w8)) 0 tt) (List._∷_ (ShrSlice.pShrS (Referent.rtF (Referent.fInt Syntax.w8)) 1 tt) (List._∷_ (MutSlice.pMutS (Referent.rtF
-    (Referent.fInt Syntax.w16)) 2 tt) (List._∷_ (Value.pVal record {
-      ty = Declared'.row Form.the-type;
-      one = Path'.refl;
-      val = Laws'5.val Form.the-type Laws.the-laws;
-      tells = Laws'5.tells Form.the-type Laws.the-laws;
-      still = Laws'5.still Form.the-type Laws.the-copy
-          Exit.yes;
-      row = Rows'.whole (Declared'.row Form.the-type);
-      rd = λ x. x;
-      mk = λ x. x;
-    } λ M 𝓤 H A W. record {
-      copies = Laws'5.copy Form.the-type Laws.the-copy 𝓤 H A W;
-      lawful = Laws'5.lawful Form.the-type Laws.the-laws 𝓤 H A W;
-      makes = Laws'5.makes Form.the-type Laws.the-plain 𝓤 H A;
-      in-mem =
-          Local.mem-whole 𝓤 H A W (Declared'.row Form.the-type);
-      of-mem = Local.whole-mem 𝓤 H A W (Declared'.row Form.the-type);
-    }) (List._∷_ (Array.pArr (Array.eInt Syntax.w8) (Array.eInt-laws Syntax.w8) 36)
-    (List._∷_ (Value.pVal record {
-      ty = Declared'.row Part.the-type;
-      one = Path'.refl;
-      val = Laws'5.val Part.the-type Laws'3.the-laws;
-      tells = Laws'5.tells Part.the-type Laws'3.the-laws;
-      still = Laws'5.still Part.the-type
-          Laws'3.the-copy Exit.yes;
-      row = Rows'.whole (Declared'.row Part.the-type);
-      rd = λ x. x;
-      mk = λ x. x;
-    } λ M 𝓤 H A W. record {
-      copies = Laws'5.copy Part.the-type Laws'3.the-copy 𝓤 H A W;
-      lawful = Laws'5.lawful Part.the-type Laws'3.the-laws 𝓤 H A W;
-      makes = Laws'5.makes Part.the-type Laws'3.the-plain 𝓤 H A;
-      in-mem =
-          Local.mem-whole 𝓤 H A W (Declared'.row Part.the-type);
-      of-mem = Local.whole-mem 𝓤 H A W (Declared'.row Part.the-type);
-    }) (List._∷_ (Num.pNum Syntax.w64) List.[]))))))
+ps = (ShrSlice.pShrS n8 0 tt) ∷ (ShrSlice.pShrS n8 1 tt) ∷ (MutSlice.pMutS n16 2 tt) ∷ (Values.struct Form.the-type Laws.the-laws Laws.the-copy Laws.the-plain) ∷ (Array.pArr (Array.eInt Syntax.w8)
+    (Array.eInt-laws Syntax.w8) 36) ∷ (Values.struct Part.the-type Laws'3.the-laws Laws'3.the-copy Laws'3.the-plain) ∷ (Num.pNum Syntax.w64) ∷ []
 
 abbrev pub r : Kinds.RK 3
-r = Value.rVal record {
-  ty = Declared.row Walked.the-type;
-  one = Path'.refl;
-  val = Laws'4.val Walked.the-type Laws'.the-laws;
-  tells = Laws'4.tells Walked.the-type Laws'.the-laws;
-  still = Laws'4.still Walked.the-type
-      Laws'.the-copy Exit.yes;
-  row = Rows'.whole (Declared.row Walked.the-type);
-  rd = λ x. x;
-  mk = λ x. x;
-} λ M 𝓤 H A W. record {
-  copies = Laws'4.copy Walked.the-type Laws'.the-copy 𝓤 H A W;
-  lawful = Laws'4.lawful Walked.the-type Laws'.the-laws 𝓤 H A W tt;
-  makes = Laws'4.makes Walked.the-type Laws'.the-plain 𝓤 H A;
-  in-mem =
-      Local.mem-whole 𝓤 H A W (Declared.row Walked.the-type);
-  of-mem = Local.whole-mem 𝓤 H A W (Declared.row Walked.the-type);
-}
+r = Values.enum-result Walked.the-type Laws'.the-laws Laws'.the-copy Laws'.the-plain tt
 
 abbrev pub xs : List.List Syntax.Ty
-xs = List._∷_ (Syntax.tyArray (Syntax.tyInt Syntax.w16) 768) (List._∷_ (Syntax.tyArray (Syntax.tyInt Syntax.w16) 9252) (List._∷_ (Syntax.tyArray (Element.held) 336) (List._∷_ (Syntax.tyInt Syntax.w64)
-    (List._∷_ (Syntax.tyArray (Syntax.tyInt Syntax.w16) 768) (List._∷_ (Element.held) (List._∷_ Syntax.tyPtr (List._∷_ Syntax.tyPtr (List._∷_ (Syntax.tyInt Syntax.w64) (List._∷_ (Syntax.tyRef
-    Syntax.erased Syntax.mut (Syntax.tyInt Syntax.w16)) (List._∷_ y3 (List._∷_ (Syntax.tyRef Syntax.erased Syntax.mut (Syntax.tyArray Element.behind 336)) (List._∷_ y4 (List._∷_ (Syntax.tyRef
-    Syntax.erased Syntax.mut (Syntax.tyInt Syntax.w16)) (List._∷_ y3 (List._∷_ (Syntax.tyRef Syntax.erased Syntax.imm (Syntax.tyArray (Syntax.tyInt Syntax.w16) 768)) (List._∷_ y8 List.[]))))))))))))))))
+xs = y2 ∷ y3 ∷ y0 ∷ u64 ∷ y2 ∷ (Element.held) ∷ Syntax.tyPtr ∷ Syntax.tyPtr ∷ u64 ∷ y9 ∷ y18 ∷ y15 ∷ y17 ∷ y9 ∷ y18 ∷ y14 ∷ y22 ∷ []
 
 abbrev pub m : Nat.ℕ
 m = 4
 
 abbrev pub ps·0 : List.List (Kinds.PK 0)
-ps·0 = List.[]
+ps·0 = []
 
 abbrev pub r·0 : Kinds.RK 0
 r·0 = Array.rArr (Array.eInt Syntax.w16) (Array.eInt-laws Syntax.w16) 768
 
 abbrev pub ps·1 : List.List (Kinds.PK 0)
-ps·1 = List.[]
+ps·1 = []
 
 abbrev pub r·1 : Kinds.RK 0
 r·1 = Element.result
 
 abbrev pub ps·2 : List.List (Kinds.PK 0)
-ps·2 = List._∷_ Bool.pBool List.[]
+ps·2 = Bool.pBool ∷ []
 
 abbrev pub r·2 : Kinds.RK 0
 r·2 = Num.rNum Syntax.w64
 
 abbrev pub ps·3 : List.List (Kinds.PK 0)
-ps·3 = List.[]
+ps·3 = []
 
 abbrev pub r·3 : Kinds.RK 0
-r·3 = Value.rVal record {
-  ty = Declared'.row Entries.the-type;
-  one = Path'.refl;
-  val = Laws'5.val Entries.the-type Laws''.the-laws;
-  tells = Laws'5.tells Entries.the-type Laws''.the-laws;
-  still = Laws'5.still Entries.the-type
-      Laws''.the-copy Exit.yes;
-  row = Rows'.whole (Declared'.row Entries.the-type);
-  rd = λ x. x;
-  mk = λ x. x;
-} λ M 𝓤 H A W. record {
-  copies = Laws'5.copy Entries.the-type Laws''.the-copy 𝓤 H A W;
-  lawful = Laws'5.lawful Entries.the-type Laws''.the-laws 𝓤 H A W;
-  makes = Laws'5.makes Entries.the-type Laws''.the-plain 𝓤 H A;
-  in-mem =
-      Local.mem-whole 𝓤 H A W (Declared'.row Entries.the-type);
-  of-mem = Local.whole-mem 𝓤 H A W (Declared'.row Entries.the-type);
-}
+r·3 = Values.struct-result Entries.the-type Laws''.the-laws Laws''.the-copy Laws''.the-plain
 
 abbrev pub ps·4 : List.List (Kinds.PK 6)
-ps·4 = List._∷_ (ShrSlice.pShrS (Referent.rtF (Referent.fInt Syntax.w8)) 0 tt) (List._∷_ (ShrSlice.pShrS (Referent.rtF (Referent.fInt Syntax.w8)) 1 tt) (List._∷_ (MutSlice.pMutS (Referent.rtF
-    (Referent.fInt Syntax.w16)) 2 tt) (List._∷_ (MutSlice.pMutS (Element.type) 3 tt) (List._∷_ (MutSlice.pMutS (Referent.rtF (Referent.fInt Syntax.w16)) 4 tt) (List._∷_ (Value.pVal record {
-      ty = Declared'.row Form.the-type;
-      one = Path'.refl;
-      val = Laws'5.val Form.the-type Laws.the-laws;
-      tells = Laws'5.tells Form.the-type Laws.the-laws;
-      still = Laws'5.still Form.the-type Laws.the-copy
-          Exit.yes;
-      row = Rows'.whole (Declared'.row Form.the-type);
-      rd = λ x. x;
-      mk = λ x. x;
-    } λ M 𝓤 H A W. record {
-      copies = Laws'5.copy Form.the-type Laws.the-copy 𝓤 H A W;
-      lawful = Laws'5.lawful Form.the-type Laws.the-laws 𝓤 H A W;
-      makes = Laws'5.makes Form.the-type Laws.the-plain 𝓤 H A;
-      in-mem =
-          Local.mem-whole 𝓤 H A W (Declared'.row Form.the-type);
-      of-mem = Local.whole-mem 𝓤 H A W (Declared'.row Form.the-type);
-    }) (List._∷_ (ShrRef.pShr (Array'.Array (Referent.rtF (Referent.fInt Syntax.w16))
-    768) 5 tt) (List._∷_ (Array.pArr (Array.eInt Syntax.w8) (Array.eInt-laws Syntax.w8) 36) (List._∷_ (Value.pVal record {
-      ty = Declared'.row Part.the-type;
-      one = Path'.refl;
-      val = Laws'5.val Part.the-type Laws'3.the-laws;
-      tells = Laws'5.tells Part.the-type Laws'3.the-laws;
-      still = Laws'5.still Part.the-type
-          Laws'3.the-copy Exit.yes;
-      row = Rows'.whole (Declared'.row Part.the-type);
-      rd = λ x. x;
-      mk = λ x. x;
-    } λ M 𝓤 H A W. record {
-      copies = Laws'5.copy Part.the-type Laws'3.the-copy 𝓤 H A W;
-      lawful = Laws'5.lawful Part.the-type Laws'3.the-laws 𝓤 H A W;
-      makes = Laws'5.makes Part.the-type Laws'3.the-plain 𝓤 H A;
-      in-mem =
-          Local.mem-whole 𝓤 H A W (Declared'.row Part.the-type);
-      of-mem = Local.whole-mem 𝓤 H A W (Declared'.row Part.the-type);
-    }) (List._∷_ (Num.pNum Syntax.w64) (List._∷_ Bool.pBool (List._∷_ (Value.pVal
-    record {
-      ty = Declared'.row Entries.the-type;
-      one = Path'.refl;
-      val = Laws'5.val Entries.the-type Laws''.the-laws;
-      tells = Laws'5.tells Entries.the-type Laws''.the-laws;
-      still = Laws'5.still Entries.the-type
-          Laws''.the-copy Exit.yes;
-      row = Rows'.whole (Declared'.row Entries.the-type);
-      rd = λ x. x;
-      mk = λ x. x;
-    } λ M 𝓤 H A W. record {
-      copies = Laws'5.copy Entries.the-type Laws''.the-copy 𝓤 H A W;
-      lawful = Laws'5.lawful Entries.the-type Laws''.the-laws 𝓤 H A W;
-      makes = Laws'5.makes Entries.the-type Laws''.the-plain 𝓤 H A;
-      in-mem =
-          Local.mem-whole 𝓤 H A W (Declared'.row Entries.the-type);
-      of-mem = Local.whole-mem 𝓤 H A W (Declared'.row Entries.the-type);
-    }) List.[])))))))))))
+ps·4 = (ShrSlice.pShrS n8 0 tt) ∷ (ShrSlice.pShrS n8 1 tt) ∷ (MutSlice.pMutS n16 2 tt) ∷ (MutSlice.pMutS (Element.type) 3 tt) ∷ (MutSlice.pMutS n16 4 tt) ∷ (Values.struct Form.the-type Laws.the-laws
+    Laws.the-copy Laws.the-plain) ∷ (ShrRef.pShr (Array'.Array n16 768) 5 tt) ∷ (Array.pArr (Array.eInt Syntax.w8) (Array.eInt-laws Syntax.w8) 36) ∷ (Values.struct Part.the-type Laws'3.the-laws
+    Laws'3.the-copy Laws'3.the-plain) ∷ (Num.pNum Syntax.w64) ∷ Bool.pBool ∷ (Values.struct Entries.the-type Laws''.the-laws Laws''.the-copy Laws''.the-plain) ∷ []
 
 abbrev pub r·4 : Kinds.RK 6
-r·4 = Value.rVal record {
-  ty = Declared.row Walked.the-type;
-  one = Path'.refl;
-  val = Laws'4.val Walked.the-type Laws'.the-laws;
-  tells = Laws'4.tells Walked.the-type Laws'.the-laws;
-  still = Laws'4.still Walked.the-type
-      Laws'.the-copy Exit.yes;
-  row = Rows'.whole (Declared.row Walked.the-type);
-  rd = λ x. x;
-  mk = λ x. x;
-} λ M 𝓤 H A W. record {
-  copies = Laws'4.copy Walked.the-type Laws'.the-copy 𝓤 H A W;
-  lawful = Laws'4.lawful Walked.the-type Laws'.the-laws 𝓤 H A W tt;
-  makes = Laws'4.makes Walked.the-type Laws'.the-plain 𝓤 H A;
-  in-mem =
-      Local.mem-whole 𝓤 H A W (Declared.row Walked.the-type);
-  of-mem = Local.whole-mem 𝓤 H A W (Declared.row Walked.the-type);
-}
+r·4 = Values.enum-result Walked.the-type Laws'.the-laws Laws'.the-copy Laws'.the-plain tt
 
 abbrev pub hs : List.List Syntax.Home
-hs = List._∷_ Syntax.valueLocal (List._∷_ Syntax.valueLocal (List._∷_ Syntax.valueLocal (List._∷_ Syntax.valueLocal (List._∷_ Syntax.valueLocal (List._∷_ Syntax.valueLocal (List._∷_ Syntax.valueLocal
-    (List._∷_ Syntax.valueLocal (List._∷_ Syntax.memorySlot (List._∷_ Syntax.memorySlot (List._∷_ Syntax.memorySlot (List._∷_ Syntax.valueLocal (List._∷_ Syntax.valueLocal (List._∷_ Syntax.valueLocal
-    (List._∷_ Syntax.valueLocal (List._∷_ Syntax.valueLocal (List._∷_ Syntax.valueLocal (List._∷_ Syntax.valueLocal (List._∷_ Syntax.valueLocal (List._∷_ Syntax.valueLocal (List._∷_ Syntax.valueLocal
-    (List._∷_ Syntax.valueLocal (List._∷_ Syntax.valueLocal (List._∷_ Syntax.valueLocal (List._∷_ Syntax.valueLocal List.[]))))))))))))))))))))))))
+hs = Syntax.valueLocal ∷ Syntax.valueLocal ∷ Syntax.valueLocal ∷ Syntax.valueLocal ∷ Syntax.valueLocal ∷ Syntax.valueLocal ∷ Syntax.valueLocal ∷ Syntax.valueLocal ∷ Syntax.memorySlot ∷
+    Syntax.memorySlot ∷ Syntax.memorySlot ∷ Syntax.valueLocal ∷ Syntax.valueLocal ∷ Syntax.valueLocal ∷ Syntax.valueLocal ∷ Syntax.valueLocal ∷ Syntax.valueLocal ∷ Syntax.valueLocal ∷ Syntax.valueLocal ∷
+    Syntax.valueLocal ∷ Syntax.valueLocal ∷ Syntax.valueLocal ∷ Syntax.valueLocal ∷ Syntax.valueLocal ∷ Syntax.valueLocal ∷ []
 
 abbrev b0 : Syntax.Body
-b0 = Syntax.call "map::xtrans_places" List.[] (Syntax.place 12 List.[])
+b0 = Syntax.call "map::xtrans_places" [] (Syntax.place 12 [])
 
 abbrev b1 : Syntax.Body
-b1 = Syntax.assign (Syntax.place 8 List.[]) (Syntax.rvOpd (Syntax.copy (Syntax.place 12 List.[])))
+b1 = Syntax.assign (Syntax.place 8 []) (Syntax.rvOpd (Syntax.copy (Syntax.place 12 [])))
 
 abbrev b2 : Syntax.Body
-b2 = Syntax.assign (Syntax.place 9 List.[]) (Syntax.repeat (Syntax.int Syntax.w16 0) 9252)
+b2 = Syntax.assign (Syntax.place 9 []) (Syntax.repeat (Syntax.int Syntax.w16 0) 9252)
 
 abbrev b3 : Syntax.Body
-b3 = Syntax.call "block::records::cleared" List.[] (Syntax.place 13 List.[])
+b3 = Syntax.call "block::records::cleared" [] (Syntax.place 13 [])
 
 abbrev b4 : Syntax.Body
-b4 = Syntax.assign (Syntax.place 10 List.[]) (Syntax.repeat (Syntax.copy (Syntax.place 13 List.[])) 336)
+b4 = Syntax.assign (Syntax.place 10 []) (Syntax.repeat (Syntax.copy (Syntax.place 13 [])) 336)
 
 abbrev b5 : Syntax.Body
-b5 = Syntax.call "begin::samples_needed" (List._∷_ (Syntax.copy (Syntax.place 4 (List._∷_ (Syntax.field 1) List.[]))) List.[]) (Syntax.place 11 List.[])
+b5 = Syntax.call "begin::samples_needed" ((Syntax.copy (Syntax.place 4 ((Syntax.field 1) ∷ []))) ∷ []) (Syntax.place 11 [])
 
 abbrev b6 : Syntax.Body
-b6 = Syntax.assign (Syntax.place 14 List.[]) (Syntax.addrOf (Syntax.place 9 List.[]))
+b6 = Syntax.assign (Syntax.place 14 []) (Syntax.addrOf (Syntax.place 9 []))
 
 abbrev b7 : Syntax.Body
-b7 = Syntax.assign (Syntax.place 15 List.[]) (Syntax.op2 Syntax.offset (Syntax.copy (Syntax.place 14 List.[])) (Syntax.int Syntax.w64 0))
+b7 = Syntax.assign (Syntax.place 15 []) (Syntax.op2 Syntax.offset (Syntax.copy (Syntax.place 14 [])) (Syntax.int Syntax.w64 0))
 
 abbrev b8 : Syntax.Body
-b8 = Syntax.assign (Syntax.place 16 List.[]) (Syntax.op2 (Syntax.sub Syntax.unsigned) (Syntax.copy (Syntax.place 11 List.[])) (Syntax.int Syntax.w64 0))
+b8 = Syntax.assign (Syntax.place 16 []) (Syntax.op2 (Syntax.sub Syntax.unsigned) (Syntax.copy (Syntax.place 11 [])) (Syntax.int Syntax.w64 0))
 
 abbrev b9 : Syntax.Body
-b9 = Syntax.assign (Syntax.place 17 List.[]) (Syntax.addrOf (Syntax.place 15 (List._∷_ (Syntax.deref (Syntax.tyInt Syntax.w16)) List.[])))
+b9 = Syntax.assign (Syntax.place 17 []) (Syntax.addrOf (Syntax.place 15 ((Syntax.deref u16) ∷ [])))
 
 abbrev b10 : Syntax.Body
-b10 = Syntax.assign (Syntax.place 18 List.[]) (Syntax.aggregate (List._∷_ (Syntax.copy (Syntax.place 17 List.[])) (List._∷_ (Syntax.copy (Syntax.place 16 List.[])) List.[])))
+b10 = Syntax.assign (Syntax.place 18 []) (Syntax.aggregate ((Syntax.copy (Syntax.place 17 [])) ∷ (Syntax.copy (Syntax.place 16 [])) ∷ []))
 
 abbrev b11 : Syntax.Body
-b11 = Syntax.assign (Syntax.place 19 List.[]) (Syntax.addrOf (Syntax.place 10 List.[]))
+b11 = Syntax.assign (Syntax.place 19 []) (Syntax.addrOf (Syntax.place 10 []))
 
 abbrev b12 : Syntax.Body
-b12 = Syntax.assign (Syntax.place 20 List.[]) (Syntax.aggregate (List._∷_ (Syntax.copy (Syntax.place 19 List.[])) (List._∷_ (Syntax.int Syntax.w64 336) List.[])))
+b12 = Syntax.assign (Syntax.place 20 []) (Syntax.aggregate ((Syntax.copy (Syntax.place 19 [])) ∷ (Syntax.int Syntax.w64 336) ∷ []))
 
 abbrev b13 : Syntax.Body
-b13 = Syntax.assign (Syntax.place 21 List.[]) (Syntax.addrOf (Syntax.place 3 (List._∷_ (Syntax.field 0) (List._∷_ (Syntax.deref (Syntax.tyInt Syntax.w16)) List.[]))))
+b13 = Syntax.assign (Syntax.place 21 []) (Syntax.addrOf (Syntax.place 3 ((Syntax.field 0) ∷ (Syntax.deref u16) ∷ [])))
 
 abbrev b14 : Syntax.Body
-b14 = Syntax.assign (Syntax.place 22 List.[]) (Syntax.aggregate (List._∷_ (Syntax.copy (Syntax.place 21 List.[])) (List._∷_ (Syntax.copy (Syntax.place 3 (List._∷_ (Syntax.field 1) List.[])))
-    List.[])))
+b14 = Syntax.assign (Syntax.place 22 []) (Syntax.aggregate ((Syntax.copy (Syntax.place 21 [])) ∷ (Syntax.copy (Syntax.place 3 ((Syntax.field 1) ∷ []))) ∷ []))
 
 abbrev b15 : Syntax.Body
-b15 = Syntax.assign (Syntax.place 23 List.[]) (Syntax.addrOf (Syntax.place 8 List.[]))
+b15 = Syntax.assign (Syntax.place 23 []) (Syntax.addrOf (Syntax.place 8 []))
 
 abbrev b16 : Syntax.Body
-b16 = Syntax.call "cameras::no_entries" List.[] (Syntax.place 24 List.[])
+b16 = Syntax.call "cameras::no_entries" [] (Syntax.place 24 [])
 
 abbrev b17 : Syntax.Body
-b17 = Syntax.call "block::reading::walk" (List._∷_ (Syntax.copy (Syntax.place 1 List.[])) (List._∷_ (Syntax.copy (Syntax.place 2 List.[])) (List._∷_ (Syntax.copy (Syntax.place 18 List.[])) (List._∷_
-    (Syntax.copy (Syntax.place 20 List.[])) (List._∷_ (Syntax.copy (Syntax.place 22 List.[])) (List._∷_ (Syntax.copy (Syntax.place 4 List.[])) (List._∷_ (Syntax.copy (Syntax.place 23 List.[])) (List._∷_
-    (Syntax.copy (Syntax.place 5 List.[])) (List._∷_ (Syntax.copy (Syntax.place 6 List.[])) (List._∷_ (Syntax.copy (Syntax.place 7 List.[])) (List._∷_ Syntax.opdFalse (List._∷_ (Syntax.copy (Syntax.place
-    24 List.[])) List.[])))))))))))) (Syntax.place 0 List.[])
+b17 = Syntax.call "block::reading::walk" ((Syntax.copy (Syntax.place 1 [])) ∷ (Syntax.copy (Syntax.place 2 [])) ∷ (Syntax.copy (Syntax.place 18 [])) ∷ (Syntax.copy (Syntax.place 20 [])) ∷ (Syntax.copy
+    (Syntax.place 22 [])) ∷ (Syntax.copy (Syntax.place 4 [])) ∷ (Syntax.copy (Syntax.place 23 [])) ∷ (Syntax.copy (Syntax.place 5 [])) ∷ (Syntax.copy (Syntax.place 6 [])) ∷ (Syntax.copy (Syntax.place 7
+    [])) ∷ Syntax.opdFalse ∷ (Syntax.copy (Syntax.place 24 [])) ∷ []) (Syntax.place 0 [])
 
 abbrev b18 : Syntax.Body
 b18 = Syntax.return
 
-abbrev b19 : Syntax.Body
-b19 = Syntax.seq b17 b18
-
-abbrev b20 : Syntax.Body
-b20 = Syntax.seq b16 b19
-
 abbrev b21 : Syntax.Body
-b21 = Syntax.seq b15 b20
-
-abbrev b22 : Syntax.Body
-b22 = Syntax.seq b14 b21
-
-abbrev b23 : Syntax.Body
-b23 = Syntax.seq b13 b22
+b21 = Syntax.seq b15 (Syntax.seq b16 (Syntax.seq b17 b18))
 
 abbrev b24 : Syntax.Body
-b24 = Syntax.seq b12 b23
+b24 = Syntax.seq b12 (Syntax.seq b13 (Syntax.seq b14 b21))
 
 abbrev b25 : Syntax.Body
 b25 = Syntax.seq b11 b24
 
-abbrev b26 : Syntax.Body
-b26 = Syntax.seq b10 b25
-
-abbrev b27 : Syntax.Body
-b27 = Syntax.seq b9 b26
-
 abbrev b28 : Syntax.Body
-b28 = Syntax.seq b8 b27
-
-abbrev b29 : Syntax.Body
-b29 = Syntax.seq b7 b28
-
-abbrev b30 : Syntax.Body
-b30 = Syntax.seq b6 b29
+b28 = Syntax.seq b8 (Syntax.seq b9 (Syntax.seq b10 b25))
 
 abbrev b31 : Syntax.Body
-b31 = Syntax.seq b5 b30
-
-abbrev b32 : Syntax.Body
-b32 = Syntax.seq b4 b31
-
-abbrev b33 : Syntax.Body
-b33 = Syntax.seq b3 b32
+b31 = Syntax.seq b5 (Syntax.seq b6 (Syntax.seq b7 b28))
 
 abbrev b34 : Syntax.Body
-b34 = Syntax.seq b2 b33
-
-abbrev b35 : Syntax.Body
-b35 = Syntax.seq b1 b34
+b34 = Syntax.seq b2 (Syntax.seq b3 (Syntax.seq b4 b31))
 
 abbrev b36 : Syntax.Body
-b36 = Syntax.seq b0 b35
+b36 = Syntax.seq b0 (Syntax.seq b1 b34)
 
 abbrev pub body : Syntax.Body
 body = b36
@@ -425,505 +284,422 @@ abbrev pub Claims : Type 1
 Claims = Kinds.In 0 ps·0 × Kinds.Out 0 ps·0 r·0 × Kinds.In 0 ps·1 × Kinds.Out 0 ps·1 r·1 × Kinds.In 0 ps·2 × Kinds.Out 0 ps·2 r·2 × Kinds.In 0 ps·3 × Kinds.Out 0 ps·3 r·3 × Kinds.In 6 ps·4 × Kinds.Out
     6 ps·4 r·4
 
-abbrev pub e0 : Row.Entry
-e0 = (
-  0,
-  Rows'.any-gone (Syntax.tyEnum (List._∷_ 98 (List._∷_ 108 (List._∷_ 111 (List._∷_ 99 (List._∷_ 107 (List._∷_ 58 (List._∷_ 58 (List._∷_ 87 (List._∷_ 97 (List._∷_ 108 (List._∷_ 107 (List._∷_ 101
-      (List._∷_ 100 List.[]))))))))))))) (Syntax.ttcons (Syntax.tcons y2 (Syntax.tcons y6 Syntax.tnil)) (Syntax.ttcons (Syntax.tcons (Syntax.tyInt Syntax.w64) (Syntax.tcons y2 Syntax.tnil)) Syntax.ttnil))),
-)
+abbrev pub v0 : Row.Row
+v0 = Rows'.any-gone Syntax.tyPtr
 
-abbrev pub e1 : Row.Entry
-e1 = (0, Rows'.whole (Declared.row Walked.the-type))
+abbrev pub v1 : Row.Row
+v1 = Rows'.sc-here (Row.sInt Syntax.w64)
 
-abbrev pub e2 : Row.Entry
-e2 = (1, Rows'.sslice (Referent.rtF (Referent.fInt Syntax.w8)) (Syntax.tyRef (Syntax.named 0) Syntax.imm (Syntax.tyInt Syntax.w8)) 0)
+abbrev pub v2 : Row.Row
+v2 = Rows'.any-gone y2
 
-abbrev pub e3 : Row.Entry
-e3 = (10, Rows'.any-gone (Syntax.tyArray (Element.held) 336))
+abbrev pub v3 : Row.Row
+v3 = Rows'.sslice n8 y5 0
 
-abbrev pub e4 : Row.Entry
-e4 = (10, Rows.arr-owed (Element.type) 336 4)
+abbrev pub v4 : Row.Row
+v4 = Rows'.sslice n8 y6 1
 
-abbrev pub e5 : Row.Entry
-e5 = (10, Rows.arrF (Element.type) 336 0)
+abbrev pub v5 : Row.Row
+v5 = Rows'.any-gone (Element.held)
 
-abbrev pub e6 : Row.Entry
-e6 = (11, Rows'.any-gone (Syntax.tyInt Syntax.w64))
+abbrev pub v6 : Row.Row
+v6 = Rows'.any-gone u64
 
-abbrev pub e7 : Row.Entry
-e7 = (11, Rows'.sc-here (Row.sInt Syntax.w64))
+abbrev pub v7 : Row.Row
+v7 = Rows'.any-gone y9
 
-abbrev pub e8 : Row.Entry
-e8 = (12, Rows'.any-gone (Syntax.tyArray (Syntax.tyInt Syntax.w16) 768))
+abbrev pub v8 : Row.Row
+v8 = Rows'.whole (Declared'.row Part.the-type)
 
-abbrev pub e9 : Row.Entry
-e9 = (12, Rows.arrF (Referent.rtF (Referent.fInt Syntax.w16)) 768 0)
+abbrev pub v9 : Row.Row
+v9 = Rows.arrF n8 36 0
 
-abbrev pub e10 : Row.Entry
-e10 = (13, Element.row)
+abbrev pub v10 : Row.Row
+v10 = Rows'.whole (Declared'.row Form.the-type)
 
-abbrev pub e11 : Row.Entry
-e11 = (13, Rows'.any-gone (Element.held))
+abbrev pub v11 : Row.Row
+v11 = Rows'.whole (Declared.row Walked.the-type)
 
-abbrev pub e12 : Row.Entry
-e12 = (14, Rows'.any-gone Syntax.tyPtr)
+abbrev pub v12 : Row.Row
+v12 = Rows'.any-gone y21
 
-abbrev pub e13 : Row.Entry
-e13 = (14, Rows'.sc-here Row.sPtr)
+abbrev pub v13 : Row.Row
+v13 = Mut.mslice n16 y7 2
 
-abbrev pub e14 : Row.Entry
-e14 = (15, Rows'.any-gone Syntax.tyPtr)
+abbrev pub v14 : Row.Row
+v14 = Rows'.sc-shr (Rows.arrF n16 768 0) (Array'.Array n16 768) (λ x. x) 6
 
-abbrev pub e15 : Row.Entry
-e15 = (15, Rows'.sc-here Row.sPtr)
+abbrev pub v15 : Row.Row
+v15 = Rows'.any-gone y13
 
-abbrev pub e16 : Row.Entry
-e16 = (16, Rows'.any-gone (Syntax.tyInt Syntax.w64))
+abbrev pub v16 : Row.Row
+v16 = Rows.arrF n16 768 0
 
-abbrev pub e17 : Row.Entry
-e17 = (16, Rows'.sc-here (Row.sInt Syntax.w64))
+abbrev pub v17 : Row.Row
+v17 = Rows.arr-owed (Element.type) 336 4
 
-abbrev pub e18 : Row.Entry
-e18 = (17, Rows'.any-gone (Syntax.tyRef Syntax.erased Syntax.mut (Syntax.tyInt Syntax.w16)))
+abbrev pub v18 : Row.Row
+v18 = Rows'.any-gone y4
 
-abbrev pub e19 : Row.Entry
-e19 = (18, Mut.msleft (Referent.rtF (Referent.fInt Syntax.w16)) (Syntax.tyRef Syntax.erased Syntax.mut (Syntax.tyInt Syntax.w16)))
+abbrev pub v19 : Row.Row
+v19 = Rows.arr-owedM n16 9252 3
 
-abbrev pub e20 : Row.Entry
-e20 = (18, Mut.mslice (Referent.rtF (Referent.fInt Syntax.w16)) (Syntax.tyRef Syntax.erased Syntax.mut (Syntax.tyInt Syntax.w16)) 3)
+abbrev pub v20 : Row.Row
+v20 = Rows'.any-gone y10
 
-abbrev pub e21 : Row.Entry
-e21 = (18, Rows'.any-gone y3)
+abbrev pub v21 : Row.Row
+v21 = Rows'.any-gone y15
 
-abbrev pub e22 : Row.Entry
-e22 = (19, Rows'.any-gone (Syntax.tyRef Syntax.erased Syntax.mut (Syntax.tyArray Element.behind 336)))
+abbrev pub v22 : Row.Row
+v22 = Rows'.any-gone y3
 
-abbrev pub e23 : Row.Entry
-e23 = (2, Rows'.sslice (Referent.rtF (Referent.fInt Syntax.w8)) (Syntax.tyRef (Syntax.named 1) Syntax.imm (Syntax.tyInt Syntax.w8)) 1)
+abbrev pub v23 : Row.Row
+v23 = Rows'.any-gone y0
 
-abbrev pub e24 : Row.Entry
-e24 = (20, Mut.msleft (Element.type) (Syntax.tyRef Syntax.erased Syntax.mut Element.behind))
+abbrev pub v24 : Row.Row
+v24 = Rows'.any-gone y18
 
-abbrev pub e25 : Row.Entry
-e25 = (20, Mut.mslice (Element.type) (Syntax.tyRef Syntax.erased Syntax.mut Element.behind) 4)
+abbrev pub v25 : Row.Row
+v25 = Rows'.any-gone y14
 
-abbrev pub e26 : Row.Entry
-e26 = (20, Rows'.any-gone y4)
+abbrev pub v26 : Row.Row
+v26 = Rows'.any-gone y22
 
-abbrev pub e27 : Row.Entry
-e27 = (21, Rows'.any-gone (Syntax.tyRef Syntax.erased Syntax.mut (Syntax.tyInt Syntax.w16)))
+abbrev pub v27 : Row.Row
+v27 = Rows.arrF n16 9252 0
 
-abbrev pub e28 : Row.Entry
-e28 = (22, Mut.msleft (Referent.rtF (Referent.fInt Syntax.w16)) (Syntax.tyRef Syntax.erased Syntax.mut (Syntax.tyInt Syntax.w16)))
+abbrev pub v28 : Row.Row
+v28 = Relend.mslice-owed n16 y7 2 5 Row.off
 
-abbrev pub e29 : Row.Entry
-e29 = (22, Mut.mslice (Referent.rtF (Referent.fInt Syntax.w16)) (Syntax.tyRef Syntax.erased Syntax.mut (Syntax.tyInt Syntax.w16)) 5)
+abbrev pub v29 : Row.Row
+v29 = Rows.arrF (Element.type) 336 0
 
-abbrev pub e30 : Row.Entry
-e30 = (22, Rows'.any-gone y3)
+abbrev pub v30 : Row.Row
+v30 = Mut.mslice n16 y9 3
 
-abbrev pub e31 : Row.Entry
-e31 = (23, Rows'.any-gone (Syntax.tyRef Syntax.erased Syntax.imm (Syntax.tyArray (Syntax.tyInt Syntax.w16) 768)))
+abbrev pub v31 : Row.Row
+v31 = Mut.msleft n16 y9
 
-abbrev pub e32 : Row.Entry
-e32 = (23, Rows'.sref (Array'.Array (Referent.rtF (Referent.fInt Syntax.w16)) 768) (Syntax.tyRef Syntax.erased Syntax.imm (Syntax.tyArray (Syntax.tyInt Syntax.w16) 768)) 6)
+abbrev pub v32 : Row.Row
+v32 = Rows'.any-gone y17
 
-abbrev pub e33 : Row.Entry
-e33 = (24, Rows'.any-gone y8)
+abbrev pub v33 : Row.Row
+v33 = Rows'.sc-here Row.sPtr
 
-abbrev pub e34 : Row.Entry
-e34 = (24, Rows'.whole (Declared'.row Entries.the-type))
+abbrev pub v34 : Row.Row
+v34 = Mut.mslice (Element.type) y8 4
 
-abbrev pub e35 : Row.Entry
-e35 = (3, Mut.mslice (Referent.rtF (Referent.fInt Syntax.w16)) (Syntax.tyRef (Syntax.named 2) Syntax.mut (Syntax.tyInt Syntax.w16)) 2)
+abbrev pub v35 : Row.Row
+v35 = Mut.msleft (Element.type) y8
 
-abbrev pub e36 : Row.Entry
-e36 = (3, Relend.mslice-owed (Referent.rtF (Referent.fInt Syntax.w16)) (Syntax.tyRef (Syntax.named 2) Syntax.mut (Syntax.tyInt Syntax.w16)) 2 5 Row.off)
+abbrev pub v36 : Row.Row
+v36 = Element.row
 
-abbrev pub e37 : Row.Entry
-e37 = (4, Rows'.any-gone y5)
+abbrev pub v37 : Row.Row
+v37 = Mut.mslice n16 y9 5
 
-abbrev pub e38 : Row.Entry
-e38 = (4, Rows'.whole (Declared'.row Form.the-type))
+abbrev pub v38 : Row.Row
+v38 = Rows'.sref (Array'.Array n16 768) y14 6
 
-abbrev pub e39 : Row.Entry
-e39 = (5, Rows'.any-gone (Syntax.tyArray (Syntax.tyInt Syntax.w8) 36))
-
-abbrev pub e40 : Row.Entry
-e40 = (5, Rows.arrF (Referent.rtF (Referent.fInt Syntax.w8)) 36 0)
-
-abbrev pub e41 : Row.Entry
-e41 = (6, Rows'.any-gone y0)
-
-abbrev pub e42 : Row.Entry
-e42 = (6, Rows'.whole (Declared'.row Part.the-type))
-
-abbrev pub e43 : Row.Entry
-e43 = (7, Rows'.sc-here (Row.sInt Syntax.w64))
-
-abbrev pub e44 : Row.Entry
-e44 = (8, Rows'.any-gone (Syntax.tyArray (Syntax.tyInt Syntax.w16) 768))
-
-abbrev pub e45 : Row.Entry
-e45 = (8, Rows'.sc-shr (Rows.arrF (Referent.rtF (Referent.fInt Syntax.w16)) 768 0) (Array'.Array (Referent.rtF (Referent.fInt Syntax.w16)) 768) (λ x. x) 6)
-
-abbrev pub e46 : Row.Entry
-e46 = (8, Rows.arrF (Referent.rtF (Referent.fInt Syntax.w16)) 768 0)
-
-abbrev pub e47 : Row.Entry
-e47 = (9, Rows'.any-gone (Syntax.tyArray (Syntax.tyInt Syntax.w16) 9252))
-
-abbrev pub e48 : Row.Entry
-e48 = (9, Rows.arr-owedM (Referent.rtF (Referent.fInt Syntax.w16)) 9252 3)
-
-abbrev pub e49 : Row.Entry
-e49 = (9, Rows.arrF (Referent.rtF (Referent.fInt Syntax.w16)) 9252 0)
+abbrev pub v39 : Row.Row
+v39 = Rows'.whole (Declared'.row Entries.the-type)
 
 abbrev pub t0 : List.List Row.Entry
-t0 = List._∷_ e0 (List._∷_ e2 (List._∷_ e23 (List._∷_ e35 (List._∷_ e38 (List._∷_ e40 (List._∷_ e42 (List._∷_ e43 (List._∷_ e44 (List._∷_ e47 (List._∷_ e3 (List._∷_ e6 (List._∷_ e8 (List._∷_ e11
-    (List._∷_ e12 (List._∷_ e14 List.[])))))))))))))))
+t0 = (0, v12) ∷ (1, v3) ∷ (2, v4) ∷ (3, v13) ∷ (4, v10) ∷ (5, v9) ∷ (6, v8) ∷ (7, v1) ∷ (8, v2) ∷ (9, v22) ∷ (10, v23) ∷ (11, v6) ∷ (12, v2) ∷ (13, v5) ∷ (14, v0) ∷ (15, v0) ∷ []
 
 abbrev pub t1 : List.List Row.Entry
-t1 = List._∷_ e16 (List._∷_ e18 (List._∷_ e21 (List._∷_ e22 (List._∷_ e26 (List._∷_ e27 (List._∷_ e30 (List._∷_ e31 (List._∷_ e33 List.[]))))))))
+t1 = (16, v6) ∷ (17, v7) ∷ (18, v24) ∷ (19, v21) ∷ (20, v32) ∷ (21, v7) ∷ (22, v24) ∷ (23, v25) ∷ (24, v26) ∷ []
 
 abbrev pub t2 : List.List Row.Entry
-t2 = List._∷_ e1 (List._∷_ e2 (List._∷_ e23 (List._∷_ e35 (List._∷_ e37 (List._∷_ e39 (List._∷_ e41 (List._∷_ (7, Rows'.any-gone (Syntax.tyInt Syntax.w64)) (List._∷_ e44 (List._∷_ e47 (List._∷_ e3
-    (List._∷_ e6 (List._∷_ e8 (List._∷_ e11 (List._∷_ e12 (List._∷_ e14 List.[])))))))))))))))
+t2 = (0, v11) ∷ (1, v3) ∷ (2, v4) ∷ (3, v13) ∷ (4, v15) ∷ (5, v18) ∷ (6, v20) ∷ (7, v6) ∷ (8, v2) ∷ (9, v22) ∷ (10, v23) ∷ (11, v6) ∷ (12, v2) ∷ (13, v5) ∷ (14, v0) ∷ (15, v0) ∷ []
 
 abbrev pub t3 : List.List Row.Entry
-t3 = List._∷_ e0 (List._∷_ e2 (List._∷_ e23 (List._∷_ e35 (List._∷_ e38 (List._∷_ e40 (List._∷_ e42 (List._∷_ e43 (List._∷_ e44 (List._∷_ e47 (List._∷_ e3 (List._∷_ e6 (List._∷_ e9 (List._∷_ e11
-    (List._∷_ e12 (List._∷_ e14 List.[])))))))))))))))
+t3 = (0, v12) ∷ (1, v3) ∷ (2, v4) ∷ (3, v13) ∷ (4, v10) ∷ (5, v9) ∷ (6, v8) ∷ (7, v1) ∷ (8, v2) ∷ (9, v22) ∷ (10, v23) ∷ (11, v6) ∷ (12, v16) ∷ (13, v5) ∷ (14, v0) ∷ (15, v0) ∷ []
 
 abbrev pub t4 : List.List Row.Entry
-t4 = List._∷_ e0 (List._∷_ e2 (List._∷_ e23 (List._∷_ e35 (List._∷_ e38 (List._∷_ e40 (List._∷_ e42 (List._∷_ e43 (List._∷_ e46 (List._∷_ e47 (List._∷_ e3 (List._∷_ e6 (List._∷_ e9 (List._∷_ e11
-    (List._∷_ e12 (List._∷_ e14 List.[])))))))))))))))
+t4 = (0, v12) ∷ (1, v3) ∷ (2, v4) ∷ (3, v13) ∷ (4, v10) ∷ (5, v9) ∷ (6, v8) ∷ (7, v1) ∷ (8, v16) ∷ (9, v22) ∷ (10, v23) ∷ (11, v6) ∷ (12, v16) ∷ (13, v5) ∷ (14, v0) ∷ (15, v0) ∷ []
 
 abbrev pub t5 : List.List Row.Entry
-t5 = List._∷_ e0 (List._∷_ e2 (List._∷_ e23 (List._∷_ e35 (List._∷_ e38 (List._∷_ e40 (List._∷_ e42 (List._∷_ e43 (List._∷_ e46 (List._∷_ e47 (List._∷_ e3 (List._∷_ e6 (List._∷_ e8 (List._∷_ e11
-    (List._∷_ e12 (List._∷_ e14 List.[])))))))))))))))
+t5 = (0, v12) ∷ (1, v3) ∷ (2, v4) ∷ (3, v13) ∷ (4, v10) ∷ (5, v9) ∷ (6, v8) ∷ (7, v1) ∷ (8, v16) ∷ (9, v22) ∷ (10, v23) ∷ (11, v6) ∷ (12, v2) ∷ (13, v5) ∷ (14, v0) ∷ (15, v0) ∷ []
 
 abbrev pub t6 : List.List Row.Entry
-t6 = List._∷_ e0 (List._∷_ e2 (List._∷_ e23 (List._∷_ e35 (List._∷_ e38 (List._∷_ e40 (List._∷_ e42 (List._∷_ e43 (List._∷_ e46 (List._∷_
-    (9, Rows'.whole (Array'.Array (Referent.rtF (Referent.fInt Syntax.w16)) 9252)) (List._∷_ e3 (List._∷_ e6 (List._∷_ e8 (List._∷_ e11 (List._∷_ e12 (List._∷_ e14 List.[])))))))))))))))
+t6 = (0, v12) ∷ (1, v3) ∷ (2, v4) ∷ (3, v13) ∷ (4, v10) ∷ (5, v9) ∷ (6, v8) ∷ (7, v1) ∷ (8, v16) ∷ (9, Rows'.whole (Array'.Array n16 9252)) ∷ (10, v23) ∷ (11, v6) ∷ (12, v2) ∷ (13, v5) ∷ (14, v0) ∷
+    (15, v0) ∷ []
 
 abbrev pub t7 : List.List Row.Entry
-t7 = List._∷_ e0 (List._∷_ e2 (List._∷_ e23 (List._∷_ e35 (List._∷_ e38 (List._∷_ e40 (List._∷_ e42 (List._∷_ e43 (List._∷_ e46 (List._∷_ e49 (List._∷_ e3 (List._∷_ e6 (List._∷_ e8 (List._∷_ e11
-    (List._∷_ e12 (List._∷_ e14 List.[])))))))))))))))
+t7 = (0, v12) ∷ (1, v3) ∷ (2, v4) ∷ (3, v13) ∷ (4, v10) ∷ (5, v9) ∷ (6, v8) ∷ (7, v1) ∷ (8, v16) ∷ (9, v27) ∷ (10, v23) ∷ (11, v6) ∷ (12, v2) ∷ (13, v5) ∷ (14, v0) ∷ (15, v0) ∷ []
 
 abbrev pub t8 : List.List Row.Entry
-t8 = List._∷_ e0 (List._∷_ e2 (List._∷_ e23 (List._∷_ e35 (List._∷_ e38 (List._∷_ e40 (List._∷_ e42 (List._∷_ e43 (List._∷_ e46 (List._∷_ e49 (List._∷_ e3 (List._∷_ e6 (List._∷_ e8 (List._∷_ e10
-    (List._∷_ e12 (List._∷_ e14 List.[])))))))))))))))
+t8 = (0, v12) ∷ (1, v3) ∷ (2, v4) ∷ (3, v13) ∷ (4, v10) ∷ (5, v9) ∷ (6, v8) ∷ (7, v1) ∷ (8, v16) ∷ (9, v27) ∷ (10, v23) ∷ (11, v6) ∷ (12, v2) ∷ (13, v36) ∷ (14, v0) ∷ (15, v0) ∷ []
 
 abbrev pub t9 : List.List Row.Entry
-t9 = List._∷_ e0 (List._∷_ e2 (List._∷_ e23 (List._∷_ e35 (List._∷_ e38 (List._∷_ e40 (List._∷_ e42 (List._∷_ e43 (List._∷_ e46 (List._∷_ e49 (List._∷_
-    (10, Rows'.whole (Array'.Array (Element.type) 336)) (List._∷_ e6 (List._∷_ e8 (List._∷_ e10 (List._∷_ e12 (List._∷_ e14 List.[])))))))))))))))
+t9 = (0, v12) ∷ (1, v3) ∷ (2, v4) ∷ (3, v13) ∷ (4, v10) ∷ (5, v9) ∷ (6, v8) ∷ (7, v1) ∷ (8, v16) ∷ (9, v27) ∷ (10, Rows'.whole (Array'.Array (Element.type) 336)) ∷ (11, v6) ∷ (12, v2) ∷ (13, v36) ∷
+    (14, v0) ∷ (15, v0) ∷ []
 
 abbrev pub t10 : List.List Row.Entry
-t10 = List._∷_ e0 (List._∷_ e2 (List._∷_ e23 (List._∷_ e35 (List._∷_ e38 (List._∷_ e40 (List._∷_ e42 (List._∷_ e43 (List._∷_ e46 (List._∷_ e49 (List._∷_ e5 (List._∷_ e6 (List._∷_ e8 (List._∷_ e10
-    (List._∷_ e12 (List._∷_ e14 List.[])))))))))))))))
+t10 = (0, v12) ∷ (1, v3) ∷ (2, v4) ∷ (3, v13) ∷ (4, v10) ∷ (5, v9) ∷ (6, v8) ∷ (7, v1) ∷ (8, v16) ∷ (9, v27) ∷ (10, v29) ∷ (11, v6) ∷ (12, v2) ∷ (13, v36) ∷ (14, v0) ∷ (15, v0) ∷ []
 
 abbrev pub t11 : List.List Row.Entry
-t11 = List._∷_ e0 (List._∷_ e2 (List._∷_ e23 (List._∷_ e35 (List._∷_ e38 (List._∷_ e40 (List._∷_ e42 (List._∷_ e43 (List._∷_ e46 (List._∷_ e49 (List._∷_ e5 (List._∷_ e6 (List._∷_ e8 (List._∷_ e11
-    (List._∷_ e12 (List._∷_ e14 List.[])))))))))))))))
+t11 = (0, v12) ∷ (1, v3) ∷ (2, v4) ∷ (3, v13) ∷ (4, v10) ∷ (5, v9) ∷ (6, v8) ∷ (7, v1) ∷ (8, v16) ∷ (9, v27) ∷ (10, v29) ∷ (11, v6) ∷ (12, v2) ∷ (13, v5) ∷ (14, v0) ∷ (15, v0) ∷ []
 
 abbrev pub t12 : List.List Row.Entry
-t12 = List._∷_ e0 (List._∷_ e2 (List._∷_ e23 (List._∷_ e35 (List._∷_ e38 (List._∷_ e40 (List._∷_ e42 (List._∷_ e43 (List._∷_ e46 (List._∷_ e49 (List._∷_ e5 (List._∷_ e7 (List._∷_ e8 (List._∷_ e11
-    (List._∷_ e12 (List._∷_ e14 List.[])))))))))))))))
+t12 = (0, v12) ∷ (1, v3) ∷ (2, v4) ∷ (3, v13) ∷ (4, v10) ∷ (5, v9) ∷ (6, v8) ∷ (7, v1) ∷ (8, v16) ∷ (9, v27) ∷ (10, v29) ∷ (11, v1) ∷ (12, v2) ∷ (13, v5) ∷ (14, v0) ∷ (15, v0) ∷ []
 
 abbrev pub t13 : List.List Row.Entry
-t13 = List._∷_ e0 (List._∷_ e2 (List._∷_ e23 (List._∷_ e35 (List._∷_ e38 (List._∷_ e40 (List._∷_ e42 (List._∷_ e43 (List._∷_ e46 (List._∷_ e49 (List._∷_ e5 (List._∷_ e7 (List._∷_ e8 (List._∷_ e11
-    (List._∷_ e13 (List._∷_ e14 List.[])))))))))))))))
+t13 = (0, v12) ∷ (1, v3) ∷ (2, v4) ∷ (3, v13) ∷ (4, v10) ∷ (5, v9) ∷ (6, v8) ∷ (7, v1) ∷ (8, v16) ∷ (9, v27) ∷ (10, v29) ∷ (11, v1) ∷ (12, v2) ∷ (13, v5) ∷ (14, v33) ∷ (15, v0) ∷ []
 
 abbrev pub t14 : List.List Row.Entry
-t14 = List._∷_ e0 (List._∷_ e2 (List._∷_ e23 (List._∷_ e35 (List._∷_ e38 (List._∷_ e40 (List._∷_ e42 (List._∷_ e43 (List._∷_ e46 (List._∷_ e49 (List._∷_ e5 (List._∷_ e7 (List._∷_ e8 (List._∷_ e11
-    (List._∷_ e13 (List._∷_ e15 List.[])))))))))))))))
+t14 = (0, v12) ∷ (1, v3) ∷ (2, v4) ∷ (3, v13) ∷ (4, v10) ∷ (5, v9) ∷ (6, v8) ∷ (7, v1) ∷ (8, v16) ∷ (9, v27) ∷ (10, v29) ∷ (11, v1) ∷ (12, v2) ∷ (13, v5) ∷ (14, v33) ∷ (15, v33) ∷ []
 
 abbrev pub t15 : List.List Row.Entry
-t15 = List._∷_ e0 (List._∷_ e2 (List._∷_ e23 (List._∷_ e35 (List._∷_ e38 (List._∷_ e40 (List._∷_ e42 (List._∷_ e43 (List._∷_ e46 (List._∷_ e49 (List._∷_ e5 (List._∷_ e7 (List._∷_ e8 (List._∷_ e11
-    (List._∷_ e12 (List._∷_ e15 List.[])))))))))))))))
+t15 = (0, v12) ∷ (1, v3) ∷ (2, v4) ∷ (3, v13) ∷ (4, v10) ∷ (5, v9) ∷ (6, v8) ∷ (7, v1) ∷ (8, v16) ∷ (9, v27) ∷ (10, v29) ∷ (11, v1) ∷ (12, v2) ∷ (13, v5) ∷ (14, v0) ∷ (15, v33) ∷ []
 
 abbrev pub t16 : List.List Row.Entry
-t16 = List._∷_ e17 (List._∷_ e18 (List._∷_ e21 (List._∷_ e22 (List._∷_ e26 (List._∷_ e27 (List._∷_ e30 (List._∷_ e31 (List._∷_ e33 List.[]))))))))
+t16 = (16, v1) ∷ (17, v7) ∷ (18, v24) ∷ (19, v21) ∷ (20, v32) ∷ (21, v7) ∷ (22, v24) ∷ (23, v25) ∷ (24, v26) ∷ []
 
 abbrev pub t17 : List.List Row.Entry
-t17 = List._∷_ e0 (List._∷_ e2 (List._∷_ e23 (List._∷_ e35 (List._∷_ e38 (List._∷_ e40 (List._∷_ e42 (List._∷_ e43 (List._∷_ e46 (List._∷_ e48 (List._∷_ e5 (List._∷_ e7 (List._∷_ e8 (List._∷_ e11
-    (List._∷_ e12 (List._∷_ e15 List.[])))))))))))))))
+t17 = (0, v12) ∷ (1, v3) ∷ (2, v4) ∷ (3, v13) ∷ (4, v10) ∷ (5, v9) ∷ (6, v8) ∷ (7, v1) ∷ (8, v16) ∷ (9, v19) ∷ (10, v29) ∷ (11, v1) ∷ (12, v2) ∷ (13, v5) ∷ (14, v0) ∷ (15, v33) ∷ []
 
 abbrev pub t18 : List.List Row.Entry
-t18 = List._∷_ e17 (List._∷_ (17, Relend.msptr (Referent.rtF (Referent.fInt Syntax.w16)) (Syntax.tyRef Syntax.erased Syntax.mut (Syntax.tyInt Syntax.w16)) 3) (List._∷_ e21 (List._∷_ e22 (List._∷_ e26
-    (List._∷_ e27 (List._∷_ e30 (List._∷_ e31 (List._∷_ e33 List.[]))))))))
+t18 = (16, v1) ∷ (17, Relend.msptr n16 y9 3) ∷ (18, v24) ∷ (19, v21) ∷ (20, v32) ∷ (21, v7) ∷ (22, v24) ∷ (23, v25) ∷ (24, v26) ∷ []
 
 abbrev pub t19 : List.List Row.Entry
-t19 = List._∷_ e0 (List._∷_ e2 (List._∷_ e23 (List._∷_ e35 (List._∷_ e38 (List._∷_ e40 (List._∷_ e42 (List._∷_ e43 (List._∷_ e46 (List._∷_ e48 (List._∷_ e5 (List._∷_ e7 (List._∷_ e8 (List._∷_ e11
-    (List._∷_ e12 (List._∷_ e14 List.[])))))))))))))))
+t19 = (0, v12) ∷ (1, v3) ∷ (2, v4) ∷ (3, v13) ∷ (4, v10) ∷ (5, v9) ∷ (6, v8) ∷ (7, v1) ∷ (8, v16) ∷ (9, v19) ∷ (10, v29) ∷ (11, v1) ∷ (12, v2) ∷ (13, v5) ∷ (14, v0) ∷ (15, v0) ∷ []
 
 abbrev pub t20 : List.List Row.Entry
-t20 = List._∷_ e17 (List._∷_ e18 (List._∷_ e20 (List._∷_ e22 (List._∷_ e26 (List._∷_ e27 (List._∷_ e30 (List._∷_ e31 (List._∷_ e33 List.[]))))))))
+t20 = (16, v1) ∷ (17, v7) ∷ (18, v30) ∷ (19, v21) ∷ (20, v32) ∷ (21, v7) ∷ (22, v24) ∷ (23, v25) ∷ (24, v26) ∷ []
 
 abbrev pub t21 : List.List Row.Entry
-t21 = List._∷_ e16 (List._∷_ e18 (List._∷_ e20 (List._∷_ e22 (List._∷_ e26 (List._∷_ e27 (List._∷_ e30 (List._∷_ e31 (List._∷_ e33 List.[]))))))))
+t21 = (16, v6) ∷ (17, v7) ∷ (18, v30) ∷ (19, v21) ∷ (20, v32) ∷ (21, v7) ∷ (22, v24) ∷ (23, v25) ∷ (24, v26) ∷ []
 
 abbrev pub t22 : List.List Row.Entry
-t22 = List._∷_ e0 (List._∷_ e2 (List._∷_ e23 (List._∷_ e35 (List._∷_ e38 (List._∷_ e40 (List._∷_ e42 (List._∷_ e43 (List._∷_ e46 (List._∷_ e48 (List._∷_ e4 (List._∷_ e7 (List._∷_ e8 (List._∷_ e11
-    (List._∷_ e12 (List._∷_ e14 List.[])))))))))))))))
+t22 = (0, v12) ∷ (1, v3) ∷ (2, v4) ∷ (3, v13) ∷ (4, v10) ∷ (5, v9) ∷ (6, v8) ∷ (7, v1) ∷ (8, v16) ∷ (9, v19) ∷ (10, v17) ∷ (11, v1) ∷ (12, v2) ∷ (13, v5) ∷ (14, v0) ∷ (15, v0) ∷ []
 
 abbrev pub t23 : List.List Row.Entry
-t23 = List._∷_ e16 (List._∷_ e18 (List._∷_ e20 (List._∷_ (19, Relend.msptr (Element.type) (Syntax.tyRef Syntax.erased Syntax.mut (Syntax.tyArray Element.behind 336)) 4) (List._∷_ e26 (List._∷_ e27
-    (List._∷_ e30 (List._∷_ e31 (List._∷_ e33 List.[]))))))))
+t23 = (16, v6) ∷ (17, v7) ∷ (18, v30) ∷ (19, Relend.msptr (Element.type) y15 4) ∷ (20, v32) ∷ (21, v7) ∷ (22, v24) ∷ (23, v25) ∷ (24, v26) ∷ []
 
 abbrev pub t24 : List.List Row.Entry
-t24 = List._∷_ e16 (List._∷_ e18 (List._∷_ e20 (List._∷_ e22 (List._∷_ e25 (List._∷_ e27 (List._∷_ e30 (List._∷_ e31 (List._∷_ e33 List.[]))))))))
+t24 = (16, v6) ∷ (17, v7) ∷ (18, v30) ∷ (19, v21) ∷ (20, v34) ∷ (21, v7) ∷ (22, v24) ∷ (23, v25) ∷ (24, v26) ∷ []
 
 abbrev pub t25 : List.List Row.Entry
-t25 = List._∷_ e0 (List._∷_ e2 (List._∷_ e23 (List._∷_ e36 (List._∷_ e38 (List._∷_ e40 (List._∷_ e42 (List._∷_ e43 (List._∷_ e46 (List._∷_ e48 (List._∷_ e4 (List._∷_ e7 (List._∷_ e8 (List._∷_ e11
-    (List._∷_ e12 (List._∷_ e14 List.[])))))))))))))))
+t25 = (0, v12) ∷ (1, v3) ∷ (2, v4) ∷ (3, v28) ∷ (4, v10) ∷ (5, v9) ∷ (6, v8) ∷ (7, v1) ∷ (8, v16) ∷ (9, v19) ∷ (10, v17) ∷ (11, v1) ∷ (12, v2) ∷ (13, v5) ∷ (14, v0) ∷ (15, v0) ∷ []
 
 abbrev pub t26 : List.List Row.Entry
-t26 = List._∷_ e16 (List._∷_ e18 (List._∷_ e20 (List._∷_ e22 (List._∷_ e25 (List._∷_
-    (21, Relend.msptr (Referent.rtF (Referent.fInt Syntax.w16)) (Syntax.tyRef Syntax.erased Syntax.mut (Syntax.tyInt Syntax.w16)) 5) (List._∷_ e30 (List._∷_ e31 (List._∷_ e33 List.[]))))))))
+t26 = (16, v6) ∷ (17, v7) ∷ (18, v30) ∷ (19, v21) ∷ (20, v34) ∷ (21, Relend.msptr n16 y9 5) ∷ (22, v24) ∷ (23, v25) ∷ (24, v26) ∷ []
 
 abbrev pub t27 : List.List Row.Entry
-t27 = List._∷_ e16 (List._∷_ e18 (List._∷_ e20 (List._∷_ e22 (List._∷_ e25 (List._∷_ e27 (List._∷_ e29 (List._∷_ e31 (List._∷_ e33 List.[]))))))))
+t27 = (16, v6) ∷ (17, v7) ∷ (18, v30) ∷ (19, v21) ∷ (20, v34) ∷ (21, v7) ∷ (22, v37) ∷ (23, v25) ∷ (24, v26) ∷ []
 
 abbrev pub t28 : List.List Row.Entry
-t28 = List._∷_ e0 (List._∷_ e2 (List._∷_ e23 (List._∷_ e36 (List._∷_ e38 (List._∷_ e40 (List._∷_ e42 (List._∷_ e43 (List._∷_ e45 (List._∷_ e48 (List._∷_ e4 (List._∷_ e7 (List._∷_ e8 (List._∷_ e11
-    (List._∷_ e12 (List._∷_ e14 List.[])))))))))))))))
+t28 = (0, v12) ∷ (1, v3) ∷ (2, v4) ∷ (3, v28) ∷ (4, v10) ∷ (5, v9) ∷ (6, v8) ∷ (7, v1) ∷ (8, v14) ∷ (9, v19) ∷ (10, v17) ∷ (11, v1) ∷ (12, v2) ∷ (13, v5) ∷ (14, v0) ∷ (15, v0) ∷ []
 
 abbrev pub t29 : List.List Row.Entry
-t29 = List._∷_ e16 (List._∷_ e18 (List._∷_ e20 (List._∷_ e22 (List._∷_ e25 (List._∷_ e27 (List._∷_ e29 (List._∷_ e32 (List._∷_ e33 List.[]))))))))
+t29 = (16, v6) ∷ (17, v7) ∷ (18, v30) ∷ (19, v21) ∷ (20, v34) ∷ (21, v7) ∷ (22, v37) ∷ (23, v38) ∷ (24, v26) ∷ []
 
 abbrev pub t30 : List.List Row.Entry
-t30 = List._∷_ e16 (List._∷_ e18 (List._∷_ e20 (List._∷_ e22 (List._∷_ e25 (List._∷_ e27 (List._∷_ e29 (List._∷_ e32 (List._∷_ e34 List.[]))))))))
+t30 = (16, v6) ∷ (17, v7) ∷ (18, v30) ∷ (19, v21) ∷ (20, v34) ∷ (21, v7) ∷ (22, v37) ∷ (23, v38) ∷ (24, v39) ∷ []
 
 abbrev pub t31 : List.List Row.Entry
-t31 = List._∷_ e1 (List._∷_ e2 (List._∷_ e23 (List._∷_ e36 (List._∷_ e38 (List._∷_ e40 (List._∷_ e42 (List._∷_ e43 (List._∷_ e45 (List._∷_ e48 (List._∷_ e4 (List._∷_ e7 (List._∷_ e8 (List._∷_ e11
-    (List._∷_ e12 (List._∷_ e14 List.[])))))))))))))))
+t31 = (0, v11) ∷ (1, v3) ∷ (2, v4) ∷ (3, v28) ∷ (4, v10) ∷ (5, v9) ∷ (6, v8) ∷ (7, v1) ∷ (8, v14) ∷ (9, v19) ∷ (10, v17) ∷ (11, v1) ∷ (12, v2) ∷ (13, v5) ∷ (14, v0) ∷ (15, v0) ∷ []
 
 abbrev pub t32 : List.List Row.Entry
-t32 = List._∷_ e16 (List._∷_ e18 (List._∷_ e19 (List._∷_ e22 (List._∷_ e24 (List._∷_ e27 (List._∷_ e28 (List._∷_ e32 (List._∷_ e34 List.[]))))))))
+t32 = (16, v6) ∷ (17, v7) ∷ (18, v31) ∷ (19, v21) ∷ (20, v35) ∷ (21, v7) ∷ (22, v31) ∷ (23, v38) ∷ (24, v39) ∷ []
 
 abbrev pub t33 : List.List Row.Entry
-t33 = List._∷_ e16 (List._∷_ e18 (List._∷_ e19 (List._∷_ e22 (List._∷_ e24 (List._∷_ e27 (List._∷_ e28 (List._∷_ e31 (List._∷_ e34 List.[]))))))))
+t33 = (16, v6) ∷ (17, v7) ∷ (18, v31) ∷ (19, v21) ∷ (20, v35) ∷ (21, v7) ∷ (22, v31) ∷ (23, v25) ∷ (24, v39) ∷ []
 
 abbrev pub t34 : List.List Row.Entry
-t34 = List._∷_ e1 (List._∷_ e2 (List._∷_ e23 (List._∷_ e36 (List._∷_ e37 (List._∷_ e40 (List._∷_ e42 (List._∷_ e43 (List._∷_ e45 (List._∷_ e48 (List._∷_ e4 (List._∷_ e7 (List._∷_ e8 (List._∷_ e11
-    (List._∷_ e12 (List._∷_ e14 List.[])))))))))))))))
+t34 = (0, v11) ∷ (1, v3) ∷ (2, v4) ∷ (3, v28) ∷ (4, v15) ∷ (5, v9) ∷ (6, v8) ∷ (7, v1) ∷ (8, v14) ∷ (9, v19) ∷ (10, v17) ∷ (11, v1) ∷ (12, v2) ∷ (13, v5) ∷ (14, v0) ∷ (15, v0) ∷ []
 
 abbrev pub t35 : List.List Row.Entry
-t35 = List._∷_ e1 (List._∷_ e2 (List._∷_ e23 (List._∷_ e36 (List._∷_ e37 (List._∷_ e39 (List._∷_ e42 (List._∷_ e43 (List._∷_ e45 (List._∷_ e48 (List._∷_ e4 (List._∷_ e7 (List._∷_ e8 (List._∷_ e11
-    (List._∷_ e12 (List._∷_ e14 List.[])))))))))))))))
+t35 = (0, v11) ∷ (1, v3) ∷ (2, v4) ∷ (3, v28) ∷ (4, v15) ∷ (5, v18) ∷ (6, v8) ∷ (7, v1) ∷ (8, v14) ∷ (9, v19) ∷ (10, v17) ∷ (11, v1) ∷ (12, v2) ∷ (13, v5) ∷ (14, v0) ∷ (15, v0) ∷ []
 
 abbrev pub t36 : List.List Row.Entry
-t36 = List._∷_ e1 (List._∷_ e2 (List._∷_ e23 (List._∷_ e36 (List._∷_ e37 (List._∷_ e39 (List._∷_ e41 (List._∷_ e43 (List._∷_ e45 (List._∷_ e48 (List._∷_ e4 (List._∷_ e7 (List._∷_ e8 (List._∷_ e11
-    (List._∷_ e12 (List._∷_ e14 List.[])))))))))))))))
+t36 = (0, v11) ∷ (1, v3) ∷ (2, v4) ∷ (3, v28) ∷ (4, v15) ∷ (5, v18) ∷ (6, v20) ∷ (7, v1) ∷ (8, v14) ∷ (9, v19) ∷ (10, v17) ∷ (11, v1) ∷ (12, v2) ∷ (13, v5) ∷ (14, v0) ∷ (15, v0) ∷ []
 
 abbrev pub t37 : List.List Row.Entry
-t37 = List._∷_ e1 (List._∷_ e2 (List._∷_ e23 (List._∷_ e36 (List._∷_ e37 (List._∷_ e39 (List._∷_ e41 (List._∷_ e43 (List._∷_ e45 (List._∷_ e48 (List._∷_ e4 (List._∷_ e6 (List._∷_ e8 (List._∷_ e11
-    (List._∷_ e12 (List._∷_ e14 List.[])))))))))))))))
+t37 = (0, v11) ∷ (1, v3) ∷ (2, v4) ∷ (3, v28) ∷ (4, v15) ∷ (5, v18) ∷ (6, v20) ∷ (7, v1) ∷ (8, v14) ∷ (9, v19) ∷ (10, v17) ∷ (11, v6) ∷ (12, v2) ∷ (13, v5) ∷ (14, v0) ∷ (15, v0) ∷ []
 
 abbrev pub t38 : List.List Row.Entry
-t38 = List._∷_ e16 (List._∷_ e18 (List._∷_ e19 (List._∷_ e22 (List._∷_ e24 (List._∷_ e27 (List._∷_ e28 (List._∷_ e31 (List._∷_ e33 List.[]))))))))
+t38 = (16, v6) ∷ (17, v7) ∷ (18, v31) ∷ (19, v21) ∷ (20, v35) ∷ (21, v7) ∷ (22, v31) ∷ (23, v25) ∷ (24, v26) ∷ []
 
 abbrev pub t39 : List.List Row.Entry
-t39 = List._∷_ e1 (List._∷_ e2 (List._∷_ e23 (List._∷_ e36 (List._∷_ e37 (List._∷_ e39 (List._∷_ e41 (List._∷_ e43 (List._∷_ e45 (List._∷_ e49 (List._∷_ e4 (List._∷_ e6 (List._∷_ e8 (List._∷_ e11
-    (List._∷_ e12 (List._∷_ e14 List.[])))))))))))))))
+t39 = (0, v11) ∷ (1, v3) ∷ (2, v4) ∷ (3, v28) ∷ (4, v15) ∷ (5, v18) ∷ (6, v20) ∷ (7, v1) ∷ (8, v14) ∷ (9, v27) ∷ (10, v17) ∷ (11, v6) ∷ (12, v2) ∷ (13, v5) ∷ (14, v0) ∷ (15, v0) ∷ []
 
 abbrev pub t40 : List.List Row.Entry
-t40 = List._∷_ e16 (List._∷_ e18 (List._∷_ e21 (List._∷_ e22 (List._∷_ e24 (List._∷_ e27 (List._∷_ e28 (List._∷_ e31 (List._∷_ e33 List.[]))))))))
+t40 = (16, v6) ∷ (17, v7) ∷ (18, v24) ∷ (19, v21) ∷ (20, v35) ∷ (21, v7) ∷ (22, v31) ∷ (23, v25) ∷ (24, v26) ∷ []
 
 abbrev pub t41 : List.List Row.Entry
-t41 = List._∷_ e1 (List._∷_ e2 (List._∷_ e23 (List._∷_ e36 (List._∷_ e37 (List._∷_ e39 (List._∷_ e41 (List._∷_ e43 (List._∷_ e45 (List._∷_ e47 (List._∷_ e4 (List._∷_ e6 (List._∷_ e8 (List._∷_ e11
-    (List._∷_ e12 (List._∷_ e14 List.[])))))))))))))))
+t41 = (0, v11) ∷ (1, v3) ∷ (2, v4) ∷ (3, v28) ∷ (4, v15) ∷ (5, v18) ∷ (6, v20) ∷ (7, v1) ∷ (8, v14) ∷ (9, v22) ∷ (10, v17) ∷ (11, v6) ∷ (12, v2) ∷ (13, v5) ∷ (14, v0) ∷ (15, v0) ∷ []
 
 abbrev pub t42 : List.List Row.Entry
-t42 = List._∷_ e1 (List._∷_ e2 (List._∷_ e23 (List._∷_ e36 (List._∷_ e37 (List._∷_ e39 (List._∷_ e41 (List._∷_ e43 (List._∷_ e45 (List._∷_ e47 (List._∷_ e5 (List._∷_ e6 (List._∷_ e8 (List._∷_ e11
-    (List._∷_ e12 (List._∷_ e14 List.[])))))))))))))))
+t42 = (0, v11) ∷ (1, v3) ∷ (2, v4) ∷ (3, v28) ∷ (4, v15) ∷ (5, v18) ∷ (6, v20) ∷ (7, v1) ∷ (8, v14) ∷ (9, v22) ∷ (10, v29) ∷ (11, v6) ∷ (12, v2) ∷ (13, v5) ∷ (14, v0) ∷ (15, v0) ∷ []
 
 abbrev pub t43 : List.List Row.Entry
-t43 = List._∷_ e16 (List._∷_ e18 (List._∷_ e21 (List._∷_ e22 (List._∷_ e26 (List._∷_ e27 (List._∷_ e28 (List._∷_ e31 (List._∷_ e33 List.[]))))))))
+t43 = (16, v6) ∷ (17, v7) ∷ (18, v24) ∷ (19, v21) ∷ (20, v32) ∷ (21, v7) ∷ (22, v31) ∷ (23, v25) ∷ (24, v26) ∷ []
 
 abbrev pub t44 : List.List Row.Entry
-t44 = List._∷_ e1 (List._∷_ e2 (List._∷_ e23 (List._∷_ e36 (List._∷_ e37 (List._∷_ e39 (List._∷_ e41 (List._∷_ e43 (List._∷_ e45 (List._∷_ e47 (List._∷_ e3 (List._∷_ e6 (List._∷_ e8 (List._∷_ e11
-    (List._∷_ e12 (List._∷_ e14 List.[])))))))))))))))
+t44 = (0, v11) ∷ (1, v3) ∷ (2, v4) ∷ (3, v28) ∷ (4, v15) ∷ (5, v18) ∷ (6, v20) ∷ (7, v1) ∷ (8, v14) ∷ (9, v22) ∷ (10, v23) ∷ (11, v6) ∷ (12, v2) ∷ (13, v5) ∷ (14, v0) ∷ (15, v0) ∷ []
 
 abbrev pub t45 : List.List Row.Entry
-t45 = List._∷_ e1 (List._∷_ e2 (List._∷_ e23 (List._∷_ e35 (List._∷_ e37 (List._∷_ e39 (List._∷_ e41 (List._∷_ e43 (List._∷_ e45 (List._∷_ e47 (List._∷_ e3 (List._∷_ e6 (List._∷_ e8 (List._∷_ e11
-    (List._∷_ e12 (List._∷_ e14 List.[])))))))))))))))
+t45 = (0, v11) ∷ (1, v3) ∷ (2, v4) ∷ (3, v13) ∷ (4, v15) ∷ (5, v18) ∷ (6, v20) ∷ (7, v1) ∷ (8, v14) ∷ (9, v22) ∷ (10, v23) ∷ (11, v6) ∷ (12, v2) ∷ (13, v5) ∷ (14, v0) ∷ (15, v0) ∷ []
 
 abbrev pub t46 : List.List Row.Entry
-t46 = List._∷_ e1 (List._∷_ e2 (List._∷_ e23 (List._∷_ e35 (List._∷_ e37 (List._∷_ e39 (List._∷_ e41 (List._∷_ e43 (List._∷_ e46 (List._∷_ e47 (List._∷_ e3 (List._∷_ e6 (List._∷_ e8 (List._∷_ e11
-    (List._∷_ e12 (List._∷_ e14 List.[])))))))))))))))
+t46 = (0, v11) ∷ (1, v3) ∷ (2, v4) ∷ (3, v13) ∷ (4, v15) ∷ (5, v18) ∷ (6, v20) ∷ (7, v1) ∷ (8, v16) ∷ (9, v22) ∷ (10, v23) ∷ (11, v6) ∷ (12, v2) ∷ (13, v5) ∷ (14, v0) ∷ (15, v0) ∷ []
 
 abbrev pub t47 : List.List Row.Entry
-t47 = List._∷_ e1 (List._∷_ e2 (List._∷_ e23 (List._∷_ e35 (List._∷_ e37 (List._∷_ e39 (List._∷_ e41 (List._∷_ e43 (List._∷_ e44 (List._∷_ e47 (List._∷_ e3 (List._∷_ e6 (List._∷_ e8 (List._∷_ e11
-    (List._∷_ e12 (List._∷_ e14 List.[])))))))))))))))
+t47 = (0, v11) ∷ (1, v3) ∷ (2, v4) ∷ (3, v13) ∷ (4, v15) ∷ (5, v18) ∷ (6, v20) ∷ (7, v1) ∷ (8, v2) ∷ (9, v22) ∷ (10, v23) ∷ (11, v6) ∷ (12, v2) ∷ (13, v5) ∷ (14, v0) ∷ (15, v0) ∷ []
 
 abbrev pub T0 : Row.Cx
-T0 = record { locals = List._++_ t0 t1; slots = List.[] }
+T0 = record { locals = List._++_ t0 t1; slots = [] }
 
 abbrev pub T1 : Row.Cx
-T1 = record { locals = List._++_ t2 t1; slots = List.[] }
-
-abbrev pub T2 : Row.Cx
-T2 = record { locals = List._++_ t0 t1; slots = List.[] }
-
-abbrev pub T3 : Row.Cx
-T3 = record { locals = List._++_ t0 t1; slots = List.[] }
-
-abbrev pub T4 : Row.Cx
-T4 = record { locals = List._++_ t0 t1; slots = List.[] }
+T1 = record { locals = List._++_ t2 t1; slots = [] }
 
 abbrev pub T5 : Row.Cx
-T5 = record { locals = List._++_ t3 t1; slots = List.[] }
+T5 = record { locals = List._++_ t3 t1; slots = [] }
 
 abbrev pub T6 : Row.Cx
-T6 = record { locals = List._++_ t4 t1; slots = List.[] }
+T6 = record { locals = List._++_ t4 t1; slots = [] }
 
 abbrev pub T7 : Row.Cx
-T7 = record { locals = List._++_ t5 t1; slots = List.[] }
+T7 = record { locals = List._++_ t5 t1; slots = [] }
 
 abbrev pub T8 : Row.Cx
-T8 = record { locals = List._++_ t6 t1; slots = List.[] }
+T8 = record { locals = List._++_ t6 t1; slots = [] }
 
 abbrev pub T9 : Row.Cx
-T9 = record { locals = List._++_ t7 t1; slots = List.[] }
+T9 = record { locals = List._++_ t7 t1; slots = [] }
 
 abbrev pub T10 : Row.Cx
-T10 = record { locals = List._++_ t8 t1; slots = List.[] }
+T10 = record { locals = List._++_ t8 t1; slots = [] }
 
 abbrev pub T11 : Row.Cx
-T11 = record { locals = List._++_ t9 t1; slots = List.[] }
+T11 = record { locals = List._++_ t9 t1; slots = [] }
 
 abbrev pub T12 : Row.Cx
-T12 = record { locals = List._++_ t10 t1; slots = List.[] }
+T12 = record { locals = List._++_ t10 t1; slots = [] }
 
 abbrev pub T13 : Row.Cx
-T13 = record { locals = List._++_ t11 t1; slots = List.[] }
+T13 = record { locals = List._++_ t11 t1; slots = [] }
 
 abbrev pub T14 : Row.Cx
-T14 = record { locals = List._++_ t12 t1; slots = List.[] }
+T14 = record { locals = List._++_ t12 t1; slots = [] }
 
 abbrev pub T15 : Row.Cx
-T15 = record { locals = List._++_ t13 t1; slots = List.[] }
+T15 = record { locals = List._++_ t13 t1; slots = [] }
 
 abbrev pub T16 : Row.Cx
-T16 = record { locals = List._++_ t14 t1; slots = List.[] }
+T16 = record { locals = List._++_ t14 t1; slots = [] }
 
 abbrev pub T17 : Row.Cx
-T17 = record { locals = List._++_ t15 t1; slots = List.[] }
+T17 = record { locals = List._++_ t15 t1; slots = [] }
 
 abbrev pub T18 : Row.Cx
-T18 = record { locals = List._++_ t15 t16; slots = List.[] }
+T18 = record { locals = List._++_ t15 t16; slots = [] }
 
 abbrev pub T20 : Row.Cx
-T20 = record { locals = List._++_ t17 t18; slots = List.[] }
+T20 = record { locals = List._++_ t17 t18; slots = [] }
 
 abbrev pub T21 : Row.Cx
-T21 = record { locals = List._++_ t19 t18; slots = List.[] }
+T21 = record { locals = List._++_ t19 t18; slots = [] }
 
 abbrev pub T22 : Row.Cx
-T22 = record { locals = List._++_ t19 t20; slots = List.[] }
+T22 = record { locals = List._++_ t19 t20; slots = [] }
 
 abbrev pub T23 : Row.Cx
-T23 = record { locals = List._++_ t19 t21; slots = List.[] }
+T23 = record { locals = List._++_ t19 t21; slots = [] }
 
 abbrev pub T25 : Row.Cx
-T25 = record { locals = List._++_ t22 t23; slots = List.[] }
+T25 = record { locals = List._++_ t22 t23; slots = [] }
 
 abbrev pub T26 : Row.Cx
-T26 = record { locals = List._++_ t22 t24; slots = List.[] }
+T26 = record { locals = List._++_ t22 t24; slots = [] }
 
 abbrev pub T28 : Row.Cx
-T28 = record { locals = List._++_ t25 t26; slots = List.[] }
+T28 = record { locals = List._++_ t25 t26; slots = [] }
 
 abbrev pub T29 : Row.Cx
-T29 = record { locals = List._++_ t25 t27; slots = List.[] }
+T29 = record { locals = List._++_ t25 t27; slots = [] }
 
 abbrev pub T31 : Row.Cx
-T31 = record { locals = List._++_ t28 t29; slots = List.[] }
+T31 = record { locals = List._++_ t28 t29; slots = [] }
 
 abbrev pub T32 : Row.Cx
-T32 = record { locals = List._++_ t28 t30; slots = List.[] }
+T32 = record { locals = List._++_ t28 t30; slots = [] }
 
 abbrev pub T33 : Row.Cx
-T33 = record { locals = List._++_ t31 t32; slots = List.[] }
+T33 = record { locals = List._++_ t31 t32; slots = [] }
 
 abbrev pub T34 : Row.Cx
-T34 = record { locals = List._++_ t31 t33; slots = List.[] }
+T34 = record { locals = List._++_ t31 t33; slots = [] }
 
 abbrev pub T35 : Row.Cx
-T35 = record { locals = List._++_ t34 t33; slots = List.[] }
+T35 = record { locals = List._++_ t34 t33; slots = [] }
 
 abbrev pub T36 : Row.Cx
-T36 = record { locals = List._++_ t35 t33; slots = List.[] }
+T36 = record { locals = List._++_ t35 t33; slots = [] }
 
 abbrev pub T37 : Row.Cx
-T37 = record { locals = List._++_ t36 t33; slots = List.[] }
+T37 = record { locals = List._++_ t36 t33; slots = [] }
 
 abbrev pub T38 : Row.Cx
-T38 = record { locals = List._++_ t37 t33; slots = List.[] }
+T38 = record { locals = List._++_ t37 t33; slots = [] }
 
 abbrev pub T39 : Row.Cx
-T39 = record { locals = List._++_ t37 t38; slots = List.[] }
+T39 = record { locals = List._++_ t37 t38; slots = [] }
 
 abbrev pub T41 : Row.Cx
-T41 = record { locals = List._++_ t39 t40; slots = List.[] }
+T41 = record { locals = List._++_ t39 t40; slots = [] }
 
 abbrev pub T43 : Row.Cx
-T43 = record { locals = List._++_ t41 t40; slots = List.[] }
+T43 = record { locals = List._++_ t41 t40; slots = [] }
 
 abbrev pub T45 : Row.Cx
-T45 = record { locals = List._++_ t42 t43; slots = List.[] }
+T45 = record { locals = List._++_ t42 t43; slots = [] }
 
 abbrev pub T47 : Row.Cx
-T47 = record { locals = List._++_ t44 t43; slots = List.[] }
+T47 = record { locals = List._++_ t44 t43; slots = [] }
 
 abbrev pub T49 : Row.Cx
-T49 = record { locals = List._++_ t45 t1; slots = List.[] }
-
-abbrev pub T50 : Row.Cx
-T50 = record { locals = List._++_ t45 t1; slots = List.[] }
+T49 = record { locals = List._++_ t45 t1; slots = [] }
 
 abbrev pub T53 : Row.Cx
-T53 = record { locals = List._++_ t46 t1; slots = List.[] }
+T53 = record { locals = List._++_ t46 t1; slots = [] }
 
 abbrev pub T55 : Row.Cx
-T55 = record { locals = List._++_ t47 t1; slots = List.[] }
-
-abbrev pub T56 : Row.Cx
-T56 = record { locals = List._++_ t2 t1; slots = List.[] }
+T55 = record { locals = List._++_ t47 t1; slots = [] }
 
 abbrev pub O0 : Typed.Outs
-O0 = record { next = Option.none; exits = List.[]; returns = Option.some T1 }
+O0 = record { next = Option.none; exits = []; returns = Option.some T1 }
 
 module _ (claims· : Claims) where
-  abbrev s0 : (bs : List.List Nat.ℕ) → Typed.Gives T0 T2
-  s0 = λ bs. Know.k-shs-known (Referent.fInt Syntax.w8) T0 1 0 (Syntax.tyRef (Syntax.named 0) Syntax.imm (Syntax.tyInt Syntax.w8)) Row.off 0 λ x. x
+  abbrev s0 : (bs : List.List Nat.ℕ) → Typed.Gives T0 T0
+  s0 = λ bs. Know.k-shs-known (Referent.fInt Syntax.w8) T0 1 0 y5 Row.off 0 λ x. x
 
-  abbrev s1 : (bs : List.List Nat.ℕ) → Typed.Gives T2 T3
-  s1 = λ bs. Know.k-shs-known (Referent.fInt Syntax.w8) T2 2 1 (Syntax.tyRef (Syntax.named 1) Syntax.imm (Syntax.tyInt Syntax.w8)) Row.off 0 λ x. x
+  abbrev s1 : (bs : List.List Nat.ℕ) → Typed.Gives T0 T0
+  s1 = λ bs. Know.k-shs-known (Referent.fInt Syntax.w8) T0 2 1 y6 Row.off 0 λ x. x
 
-  abbrev s2 : (bs : List.List Nat.ℕ) → Typed.Gives T3 T4
-  s2 = λ bs. Know.k-sl-known (Referent.fInt Syntax.w16) T3 3 2 (Syntax.tyRef (Syntax.named 2) Syntax.mut (Syntax.tyInt Syntax.w16)) Row.off 0 λ x. x
+  abbrev s2 : (bs : List.List Nat.ℕ) → Typed.Gives T0 T0
+  s2 = λ bs. Know.k-sl-known (Referent.fInt Syntax.w16) T0 3 2 y7 Row.off 0 λ x. x
 
-  abbrev s3 : (bs : List.List Nat.ℕ) → Typed.Both T4 T5
-  s3 = λ bs. Call.callB ps·0 r·0 (claims· .0) (claims· .1) T4 tt 12 List.[] (Syntax.tyArray (Syntax.tyInt Syntax.w16) 768)
+  abbrev s3 : (bs : List.List Nat.ℕ) → Typed.Both T0 T5
+  s3 = λ bs. Call.callB ps·0 r·0 (claims· .0) (claims· .1) T0 tt 12 [] y2
 
   abbrev s4 : (bs : List.List Nat.ℕ) → Typed.Mo T5 → Typed.Mo T6
-  s4 = λ bs. LocalCopy.n-val-copy T5 12 8 (Array'.Array (Referent.rtF (Referent.fInt Syntax.w16)) 768) (Rows.arrF (Referent.rtF (Referent.fInt Syntax.w16)) 768 0) (Rows.arrF (Referent.rtF
-      (Referent.fInt Syntax.w16)) 768 0) (λ x. x) (λ x. x) λ x. x
+  s4 = λ bs. LocalCopy.n-val-copy T5 12 8 (Array'.Array n16 768) (Rows.arrF n16 768 0) (Rows.arrF n16 768 0) (λ x. x) (λ x. x) λ x. x
 
   abbrev s5 : (bs : List.List Nat.ℕ) → Typed.Mo T6 → Typed.Mo T7
-  s5 = λ bs. Scalar.n-room T6 12 (Syntax.tyArray (Syntax.tyInt Syntax.w16) 768)
+  s5 = λ bs. Scalar.n-room T6 12 y2
 
   abbrev s6 : (bs : List.List Nat.ℕ) → Typed.Mo T7 → Typed.Mo T8
-  s6 = λ bs. Repeat.n-repeat (Referent.rtF (Referent.fInt Syntax.w16)) 9252 T7 9 λ m. 0
+  s6 = λ bs. Repeat.n-repeat n16 9252 T7 9 λ m. 0
 
   abbrev s7 : (bs : List.List Nat.ℕ) → Typed.Mo T8 → Typed.Mo T9
-  s7 = λ bs. AtSlots.n-as-by T8 9 (Rows.arrF (Referent.rtF (Referent.fInt Syntax.w16)) 9252 0) λ x. x
+  s7 = λ bs. AtSlots.n-as-by T8 9 (Rows.arrF n16 9252 0) λ x. x
 
   abbrev s8 : (bs : List.List Nat.ℕ) → Typed.Both T9 T10
-  s8 = λ bs. Call.callB ps·1 r·1 (claims· .2) (claims· .3) T9 tt 13 List.[] (Element.held)
+  s8 = λ bs. Call.callB ps·1 r·1 (claims· .2) (claims· .3) T9 tt 13 [] (Element.held)
 
   abbrev s9 : (bs : List.List Nat.ℕ) → Typed.Mo T10 → Typed.Mo T11
   s9 = λ bs. Repeat.n-repeat (Element.type) 336 T10 10 λ m. m .1 .1 .1 .1 .1 .1 .1 .1 .1 .1 .1 .1 .1 .0
@@ -935,7 +711,7 @@ module _ (claims· : Claims) where
   s11 = λ bs. Scalar.n-room T12 13 (Element.held)
 
   abbrev s12 : (bs : List.List Nat.ℕ) → Typed.Both T13 T14
-  s12 = λ bs. Call.callB ps·2 r·2 (claims· .4) (claims· .5) T13 (Bool.bFld 4 (List._∷_ (Syntax.field 1) List.[]) 4 λ x. Form.struct .as-values x .1 .0, tt) 11 List.[] (Syntax.tyInt Syntax.w64)
+  s12 = λ bs. Call.callB ps·2 r·2 (claims· .4) (claims· .5) T13 (Bool.bFld 4 ((Syntax.field 1) ∷ []) 4 λ x. Form.struct .as-values x .1 .0, tt) 11 [] u64
 
   abbrev s13 : (bs : List.List Nat.ℕ) → Typed.Mo T14 → Typed.Mo T15
   s13 = λ bs. Init.n-addr T14 (Row.hd 0 (Row.tl (Row.tl (Row.tl (Row.tl (Row.tl (Row.tl (Row.tl (Row.tl (Row.tl bs)))))))))) 14
@@ -947,63 +723,58 @@ module _ (claims· : Claims) where
   s15 = λ bs. Scalar.n-room T16 14 Syntax.tyPtr
 
   abbrev s16 : (bs : List.List Nat.ℕ) → Typed.Asks T17 T18
-  s16 = λ bs. Scalar.k-op2 T17 (Syntax.sub Syntax.unsigned) (Scalar.oAt 11 (Syntax.tyInt Syntax.w64) (Row.valS (Row.sInt Syntax.w64))) (Scalar.oInt Syntax.w64 0) 16 (Rows'.sc-here (Row.sInt
-      Syntax.w64)) (Row.sInt Syntax.w64 .of)
+  s16 = λ bs. Scalar.k-op2 T17 (Syntax.sub Syntax.unsigned) (Scalar.oAt 11 u64 (Row.valS (Row.sInt Syntax.w64))) (Scalar.oInt Syntax.w64 0) 16 (Rows'.sc-here (Row.sInt Syntax.w64)) (Row.sInt
+      Syntax.w64 .of)
 
   abbrev s18 : (bs : List.List Nat.ℕ) → Typed.Both T18 T20
-  s18 = λ bs. PartMut.k-arr-borrowᵐ (Referent.rtF (Referent.fInt Syntax.w16)) T18 (Row.hd 0 (Row.tl (Row.tl (Row.tl (Row.tl (Row.tl (Row.tl (Row.tl (Row.tl (Row.tl bs)))))))))) 9 15 17 9252 3
-      (Syntax.tyRef Syntax.erased Syntax.mut (Syntax.tyInt Syntax.w16)) (Shared.bySize 2) (λ x. x) (λ x. x) (λ u. 0) λ u. u .1 .1 .1 .1 .1 .1 .1 .1 .1 .1 .1 .0
+  s18 = λ bs. PartMut.k-arr-borrowᵐ n16 T18 (Row.hd 0 (Row.tl (Row.tl (Row.tl (Row.tl (Row.tl (Row.tl (Row.tl (Row.tl (Row.tl bs)))))))))) 9 15 17 9252 3 y9 (Shared.bySize 2) (λ x. x) (λ x. x) (λ u.
+      0) λ u. u .1 .1 .1 .1 .1 .1 .1 .1 .1 .1 .1 .0
 
   abbrev s19 : (bs : List.List Nat.ℕ) → Typed.Mo T20 → Typed.Mo T21
   s19 = λ bs. Scalar.n-room T20 15 Syntax.tyPtr
 
   abbrev s20 : (bs : List.List Nat.ℕ) → Typed.Asks T21 T22
-  s20 = λ bs. Relend.k-sl-aggregate (Referent.rtF (Referent.fInt Syntax.w16)) (Relend.asMut (Referent.rtF (Referent.fInt Syntax.w16))) T21 17 18 3 (Syntax.tyRef Syntax.erased Syntax.mut (Syntax.tyInt
-      Syntax.w16)) (Syntax.tyRef Syntax.erased Syntax.mut (Syntax.tyInt Syntax.w16)) (λ x. x) (Scalar.oAt 16 (Syntax.tyInt Syntax.w64) (Row.valS (Row.sInt Syntax.w64)))
+  s20 = λ bs. Relend.k-sl-aggregate n16 (Relend.asMut n16) T21 17 18 3 y9 y9 (λ x. x) (Scalar.oAt 16 u64 (Row.valS (Row.sInt Syntax.w64)))
 
   abbrev s21 : (bs : List.List Nat.ℕ) → Typed.Mo T22 → Typed.Mo T23
-  s21 = λ bs. Scalar.n-room T22 16 (Syntax.tyInt Syntax.w64)
+  s21 = λ bs. Scalar.n-room T22 16 u64
 
   abbrev s23 : (bs : List.List Nat.ℕ) → Typed.Gives T23 T25
-  s23 = λ bs. Borrow.k-arr-borrow (Element.type) T23 (Row.hd 0 (Row.tl (Row.tl (Row.tl (Row.tl (Row.tl (Row.tl (Row.tl (Row.tl (Row.tl (Row.tl bs))))))))))) 10 19 336 4 (Syntax.tyRef Syntax.erased
-      Syntax.mut (Syntax.tyArray Element.behind 336)) λ x. x
+  s23 = λ bs. Borrow.k-arr-borrow (Element.type) T23 (Row.hd 0 (Row.tl (Row.tl (Row.tl (Row.tl (Row.tl (Row.tl (Row.tl (Row.tl (Row.tl (Row.tl bs))))))))))) 10 19 336 4 y15 λ x. x
 
   abbrev s24 : (bs : List.List Nat.ℕ) → Typed.Asks T25 T26
-  s24 = λ bs. Relend.k-sl-aggregate (Element.type) (Relend.asMut (Element.type)) T25 19 20 4 (Syntax.tyRef Syntax.erased Syntax.mut (Syntax.tyArray Element.behind 336)) (Syntax.tyRef Syntax.erased
-      Syntax.mut Element.behind) (λ x. x) (Scalar.oInt Syntax.w64 336)
+  s24 = λ bs. Relend.k-sl-aggregate (Element.type) (Relend.asMut (Element.type)) T25 19 20 4 y15 y8 (λ x. x) (Scalar.oInt Syntax.w64 336)
 
   abbrev s26 : (bs : List.List Nat.ℕ) → Typed.Gives T26 T28
-  s26 = λ bs. Relend.k-sl-relend (Referent.rtF (Referent.fInt Syntax.w16)) T26 3 21 2 5 (Syntax.tyRef (Syntax.named 2) Syntax.mut (Syntax.tyInt Syntax.w16)) (Syntax.tyRef Syntax.erased Syntax.mut
-      (Syntax.tyInt Syntax.w16)) Row.off λ x. x
+  s26 = λ bs. Relend.k-sl-relend n16 T26 3 21 2 5 y7 y9 Row.off λ x. x
 
   abbrev s27 : (bs : List.List Nat.ℕ) → Typed.Asks T28 T29
-  s27 = λ bs. Relend.k-sl-aggregate (Referent.rtF (Referent.fInt Syntax.w16)) (Relend.asMut (Referent.rtF (Referent.fInt Syntax.w16))) T28 21 22 5 (Syntax.tyRef Syntax.erased Syntax.mut (Syntax.tyInt
-      Syntax.w16)) (Syntax.tyRef Syntax.erased Syntax.mut (Syntax.tyInt Syntax.w16)) (λ x. x) (Scalar.oFld 3 (List._∷_ (Syntax.field 1) List.[]) (Syntax.tyInt Syntax.w64) 8 λ v. Shared.lenV (v .0))
+  s27 = λ bs. Relend.k-sl-aggregate n16 (Relend.asMut n16) T28 21 22 5 y9 y9 (λ x. x) (Scalar.oFld 3 ((Syntax.field 1) ∷ []) u64 8 λ v. Shared.lenV (v .0))
 
   abbrev s29 : (bs : List.List Nat.ℕ) → Typed.Gives T29 T31
-  s29 = λ bs. Local.k-sc-share T29 8 23 6 (Array'.Array (Referent.rtF (Referent.fInt Syntax.w16)) 768) (Syntax.tyRef Syntax.erased Syntax.imm (Syntax.tyArray (Syntax.tyInt Syntax.w16) 768)) λ x. x
+  s29 = λ bs. Local.k-sc-share T29 8 23 6 (Array'.Array n16 768) y14 λ x. x
 
   abbrev s30 : (bs : List.List Nat.ℕ) → Typed.Both T31 T32
-  s30 = λ bs. Call.callB ps·3 r·3 (claims· .6) (claims· .7) T31 tt 24 List.[] y8
+  s30 = λ bs. Call.callB ps·3 r·3 (claims· .6) (claims· .7) T31 tt 24 [] y22
 
   abbrev s31 : (bs : List.List Nat.ℕ) → Typed.Both T32 T33
   s31 = λ bs. Call.callB ps·4 r·4 (claims· .8) (claims· .9) T32 (
-    record { pos = 1; ty = Syntax.tyRef (Syntax.named 0) Syntax.imm (Syntax.tyInt Syntax.w8); ref = λ x. x },
+    record { pos = 1; ty = y5; ref = λ x. x },
     (
-      record { pos = 2; ty = Syntax.tyRef (Syntax.named 1) Syntax.imm (Syntax.tyInt Syntax.w8); ref = λ x. x },
+      record { pos = 2; ty = y6; ref = λ x. x },
       (
-        record { pos = 18; ty = Syntax.tyRef Syntax.erased Syntax.mut (Syntax.tyInt Syntax.w16); ref = λ x. x },
+        record { pos = 18; ty = y9; ref = λ x. x },
         (
-          record { pos = 20; ty = Syntax.tyRef Syntax.erased Syntax.mut Element.behind; ref = λ x. x },
+          record { pos = 20; ty = y8; ref = λ x. x },
           (
-            record { pos = 22; ty = Syntax.tyRef Syntax.erased Syntax.mut (Syntax.tyInt Syntax.w16); ref = λ x. x },
+            record { pos = 22; ty = y9; ref = λ x. x },
             (
-              record { pos = 4; st = List.[]; d = 0; at = λ x. x },
+              record { pos = 4; st = []; d = 0; at = λ x. x },
               (
-                record { pos = 23; ty = Syntax.tyRef Syntax.erased Syntax.imm (Syntax.tyArray (Syntax.tyInt Syntax.w16) 768); ref = λ x. x },
+                record { pos = 23; ty = y14; ref = λ x. x },
                 (
-                  record { pos = 5; st = List.[]; d = 0; at = λ x. x },
-                  (record { pos = 6; st = List.[]; d = 0; at = λ x. x }, (Num.vAt 7 λ x. x, (Bool.bLit Bool'.false, (record { pos = 24; st = List.[]; d = 0; at = λ x. x }, tt)))),
+                  record { pos = 5; st = []; d = 0; at = λ x. x },
+                  (record { pos = 6; st = []; d = 0; at = λ x. x }, (Num.vAt 7 λ x. x, (Bool.bLit Bool'.false, (record { pos = 24; st = []; d = 0; at = λ x. x }, tt)))),
                 ),
               ),
             ),
@@ -1011,56 +782,52 @@ module _ (claims· : Claims) where
         ),
       ),
     ),
-  ) 0 (List._∷_ 0 (List._∷_ 1
-      (List._∷_ 3 (List._∷_ 4 (List._∷_ 5 (List._∷_ 6 List.[])))))) (Syntax.tyEnum (List._∷_ 98 (List._∷_ 108 (List._∷_ 111 (List._∷_ 99 (List._∷_ 107 (List._∷_ 58 (List._∷_ 58 (List._∷_ 87 (List._∷_ 97
-      (List._∷_ 108 (List._∷_ 107 (List._∷_ 101 (List._∷_ 100 List.[]))))))))))))) (Syntax.ttcons (Syntax.tcons y2 (Syntax.tcons y6 Syntax.tnil)) (Syntax.ttcons (Syntax.tcons (Syntax.tyInt Syntax.w64)
-      (Syntax.tcons y2 Syntax.tnil)) Syntax.ttnil)))
+  ) 0 (0 ∷ 1 ∷ 3 ∷ 4 ∷ 5 ∷ 6 ∷ []) y21
 
   abbrev s32 : (bs : List.List Nat.ℕ) → Typed.Mo T33 → Typed.Mo T34
-  s32 = λ bs. Scalar.n-room T33 23 (Syntax.tyRef Syntax.erased Syntax.imm (Syntax.tyArray (Syntax.tyInt Syntax.w16) 768))
+  s32 = λ bs. Scalar.n-room T33 23 y14
 
   abbrev s33 : (bs : List.List Nat.ℕ) → Typed.Mo T34 → Typed.Mo T35
-  s33 = λ bs. Scalar.n-room T34 4 y5
+  s33 = λ bs. Scalar.n-room T34 4 y13
 
   abbrev s34 : (bs : List.List Nat.ℕ) → Typed.Mo T35 → Typed.Mo T36
-  s34 = λ bs. Scalar.n-room T35 5 (Syntax.tyArray (Syntax.tyInt Syntax.w8) 36)
+  s34 = λ bs. Scalar.n-room T35 5 y4
 
   abbrev s35 : (bs : List.List Nat.ℕ) → Typed.Mo T36 → Typed.Mo T37
-  s35 = λ bs. Scalar.n-room T36 6 y0
+  s35 = λ bs. Scalar.n-room T36 6 y10
 
   abbrev s36 : (bs : List.List Nat.ℕ) → Typed.Mo T37 → Typed.Mo T38
-  s36 = λ bs. Scalar.n-room T37 11 (Syntax.tyInt Syntax.w64)
+  s36 = λ bs. Scalar.n-room T37 11 u64
 
   abbrev s37 : (bs : List.List Nat.ℕ) → Typed.Mo T38 → Typed.Mo T39
-  s37 = λ bs. Scalar.n-room T38 24 y8
+  s37 = λ bs. Scalar.n-room T38 24 y22
 
   abbrev s39 : (bs : List.List Nat.ℕ) → Typed.Both T39 T41
-  s39 = λ bs. PartMut.k-back-arrᵐ (Referent.rtF (Referent.fInt Syntax.w16)) T39 18 9 3 9252 (Syntax.tyRef Syntax.erased Syntax.mut (Syntax.tyInt Syntax.w16)) (λ x. x) λ x. x
+  s39 = λ bs. PartMut.k-back-arrᵐ n16 T39 18 9 3 9252 y9 (λ x. x) λ x. x
 
   abbrev s41 : (bs : List.List Nat.ℕ) → Typed.Mo T41 → Typed.Mo T43
-  s41 = λ bs. Scalar.n-room T41 9 (Syntax.tyArray (Syntax.tyInt Syntax.w16) 9252)
+  s41 = λ bs. Scalar.n-room T41 9 y3
 
   abbrev s43 : (bs : List.List Nat.ℕ) → Typed.Both T43 T45
-  s43 = λ bs. Borrow.k-back-arr (Element.type) T43 20 10 4 336 (Syntax.tyRef Syntax.erased Syntax.mut Element.behind) (λ x. x) λ x. x
+  s43 = λ bs. Borrow.k-back-arr (Element.type) T43 20 10 4 336 y8 (λ x. x) λ x. x
 
   abbrev s45 : (bs : List.List Nat.ℕ) → Typed.Mo T45 → Typed.Mo T47
-  s45 = λ bs. Scalar.n-room T45 10 (Syntax.tyArray (Element.held) 336)
+  s45 = λ bs. Scalar.n-room T45 10 y0
 
   abbrev s47 : (bs : List.List Nat.ℕ) → Typed.Both T47 T49
-  s47 = λ bs. Relend.k-back-sl (Referent.rtF (Referent.fInt Syntax.w16)) T47 22 3 2 5 (Syntax.tyRef (Syntax.named 2) Syntax.mut (Syntax.tyInt Syntax.w16)) (Syntax.tyRef Syntax.erased Syntax.mut
-      (Syntax.tyInt Syntax.w16)) Row.off (λ x. x) λ x. x
+  s47 = λ bs. Relend.k-back-sl n16 T47 22 3 2 5 y7 y9 Row.off (λ x. x) λ x. x
 
-  abbrev s48 : (bs : List.List Nat.ℕ) → Typed.Gives T49 T50
-  s48 = λ bs. Know.k-sl-known (Referent.fInt Syntax.w16) T49 3 2 (Syntax.tyRef (Syntax.named 2) Syntax.mut (Syntax.tyInt Syntax.w16)) Row.off 0 λ x. x
+  abbrev s48 : (bs : List.List Nat.ℕ) → Typed.Gives T49 T49
+  s48 = λ bs. Know.k-sl-known (Referent.fInt Syntax.w16) T49 3 2 y7 Row.off 0 λ x. x
 
-  abbrev s51 : (bs : List.List Nat.ℕ) → Typed.Mo T50 → Typed.Mo T53
-  s51 = λ bs. Local.n-back-shr T50 8 6 (Rows.arrF (Referent.rtF (Referent.fInt Syntax.w16)) 768 0) λ x. x
+  abbrev s51 : (bs : List.List Nat.ℕ) → Typed.Mo T49 → Typed.Mo T53
+  s51 = λ bs. Local.n-back-shr T49 8 6 (Rows.arrF n16 768 0) λ x. x
 
   abbrev s53 : (bs : List.List Nat.ℕ) → Typed.Mo T53 → Typed.Mo T55
-  s53 = λ bs. Scalar.n-room T53 8 (Syntax.tyArray (Syntax.tyInt Syntax.w16) 768)
+  s53 = λ bs. Scalar.n-room T53 8 y2
 
-  abbrev s54 : (bs : List.List Nat.ℕ) → Typed.Mo T55 → Typed.Mo T56
-  s54 = λ bs. Scalar.n-room T55 7 (Syntax.tyInt Syntax.w64)
+  abbrev s54 : (bs : List.List Nat.ℕ) → Typed.Mo T55 → Typed.Mo T1
+  s54 = λ bs. Scalar.n-room T55 7 u64
 
   module _ (Pre· : (κs : Lifetimes.Lfts 3) → Kinds.Dens κs ps → Type 0) (Post· : (κs : Lifetimes.Lfts 3) → (a : Kinds.Dens κs ps) → Kinds.Plain 3 ps r κs) where
     module _ (M : Type 1) where
@@ -1071,62 +838,38 @@ module _ (claims· : Claims) where
           Statement.Triple 𝓤 (Wp.WpFn 𝓤 H (𝓣 .C) (𝓣 .Λ) (Function.fnOf 3 ps r xs m hs body)) (Function.plainOf 𝓤 H A 3 ps r Pre· Post·)
 
     module _ where
-      abbrev at0 : (bs : List.List Nat.ℕ) → Typed.TF T56 O0
+      abbrev at0 : (bs : List.List Nat.ℕ) → Typed.TF T1 O0
       at0 = λ bs. Typed.atRet O0
 
       abbrev at1 : (bs : List.List Nat.ℕ) → Typed.TF T55 O0
-      at1 = λ bs. λ Ψ. Typed.pass T55 T56 (s54 bs) (at0 bs Ψ)
+      at1 = λ bs. λ Ψ. Typed.pass T55 T1 (s54 bs) (at0 bs Ψ)
 
       abbrev at2 : (bs : List.List Nat.ℕ) → Typed.TF T53 O0
       at2 = λ bs. λ Ψ. Typed.pass T53 T55 (s53 bs) (at1 bs Ψ)
 
-      abbrev at3 : (bs : List.List Nat.ℕ) → Typed.TF T53 O0
-      at3 = λ bs. λ Ψ. at2 bs Ψ
-
-      abbrev at4 : (bs : List.List Nat.ℕ) → Typed.TF T50 O0
-      at4 = λ bs. λ Ψ. Typed.pass T50 T53 (s51 bs) (at3 bs Ψ)
-
-      abbrev at5 : (bs : List.List Nat.ℕ) → Typed.TF T50 O0
-      at5 = λ bs. λ Ψ. at4 bs Ψ
-
-      abbrev at6 : (bs : List.List Nat.ℕ) → Typed.TF T50 O0
-      at6 = λ bs. λ Ψ. at5 bs Ψ
+      abbrev at4 : (bs : List.List Nat.ℕ) → Typed.TF T49 O0
+      at4 = λ bs. λ Ψ. Typed.pass T49 T53 (s51 bs) (at2 bs Ψ)
 
       abbrev at7 : (bs : List.List Nat.ℕ) → Typed.TF T49 O0
-      at7 = λ bs. λ Ψ. Typed.give (s48 bs) (at6 bs Ψ)
+      at7 = λ bs. λ Ψ. Typed.give (s48 bs) (at4 bs Ψ)
 
       abbrev at8 : (bs : List.List Nat.ℕ) → Typed.TF T47 O0
       at8 = λ bs. λ Ψ. Typed.both (s47 bs) (at7 bs Ψ)
 
-      abbrev at9 : (bs : List.List Nat.ℕ) → Typed.TF T47 O0
-      at9 = λ bs. λ Ψ. at8 bs Ψ
-
       abbrev at10 : (bs : List.List Nat.ℕ) → Typed.TF T45 O0
-      at10 = λ bs. λ Ψ. Typed.pass T45 T47 (s45 bs) (at9 bs Ψ)
-
-      abbrev at11 : (bs : List.List Nat.ℕ) → Typed.TF T45 O0
-      at11 = λ bs. λ Ψ. at10 bs Ψ
+      at10 = λ bs. λ Ψ. Typed.pass T45 T47 (s45 bs) (at8 bs Ψ)
 
       abbrev at12 : (bs : List.List Nat.ℕ) → Typed.TF T43 O0
-      at12 = λ bs. λ Ψ. Typed.both (s43 bs) (at11 bs Ψ)
-
-      abbrev at13 : (bs : List.List Nat.ℕ) → Typed.TF T43 O0
-      at13 = λ bs. λ Ψ. at12 bs Ψ
+      at12 = λ bs. λ Ψ. Typed.both (s43 bs) (at10 bs Ψ)
 
       abbrev at14 : (bs : List.List Nat.ℕ) → Typed.TF T41 O0
-      at14 = λ bs. λ Ψ. Typed.pass T41 T43 (s41 bs) (at13 bs Ψ)
-
-      abbrev at15 : (bs : List.List Nat.ℕ) → Typed.TF T41 O0
-      at15 = λ bs. λ Ψ. at14 bs Ψ
+      at14 = λ bs. λ Ψ. Typed.pass T41 T43 (s41 bs) (at12 bs Ψ)
 
       abbrev at16 : (bs : List.List Nat.ℕ) → Typed.TF T39 O0
-      at16 = λ bs. λ Ψ. Typed.both (s39 bs) (at15 bs Ψ)
-
-      abbrev at17 : (bs : List.List Nat.ℕ) → Typed.TF T39 O0
-      at17 = λ bs. λ Ψ. at16 bs Ψ
+      at16 = λ bs. λ Ψ. Typed.both (s39 bs) (at14 bs Ψ)
 
       abbrev at18 : (bs : List.List Nat.ℕ) → Typed.TF T38 O0
-      at18 = λ bs. λ Ψ. Typed.pass T38 T39 (s37 bs) (at17 bs Ψ)
+      at18 = λ bs. λ Ψ. Typed.pass T38 T39 (s37 bs) (at16 bs Ψ)
 
       abbrev at19 : (bs : List.List Nat.ℕ) → Typed.TF T37 O0
       at19 = λ bs. λ Ψ. Typed.pass T37 T38 (s36 bs) (at18 bs Ψ)
@@ -1152,29 +895,20 @@ module _ (claims· : Claims) where
       abbrev at26 : (bs : List.List Nat.ℕ) → Typed.TF T29 O0
       at26 = λ bs. λ Ψ. Typed.give (s29 bs) (at25 bs Ψ)
 
-      abbrev at27 : (bs : List.List Nat.ℕ) → Typed.TF T29 O0
-      at27 = λ bs. λ Ψ. at26 bs Ψ
-
       abbrev at28 : (bs : List.List Nat.ℕ) → Typed.TF T28 O0
-      at28 = λ bs. λ Ψ. Typed.ask (s27 bs) (at27 bs Ψ)
+      at28 = λ bs. λ Ψ. Typed.ask (s27 bs) (at26 bs Ψ)
 
       abbrev at29 : (bs : List.List Nat.ℕ) → Typed.TF T26 O0
       at29 = λ bs. λ Ψ. Typed.give (s26 bs) (at28 bs Ψ)
 
-      abbrev at30 : (bs : List.List Nat.ℕ) → Typed.TF T26 O0
-      at30 = λ bs. λ Ψ. at29 bs Ψ
-
       abbrev at31 : (bs : List.List Nat.ℕ) → Typed.TF T25 O0
-      at31 = λ bs. λ Ψ. Typed.ask (s24 bs) (at30 bs Ψ)
+      at31 = λ bs. λ Ψ. Typed.ask (s24 bs) (at29 bs Ψ)
 
       abbrev at32 : (bs : List.List Nat.ℕ) → Typed.TF T23 O0
       at32 = λ bs. λ Ψ. Typed.give (s23 bs) (at31 bs Ψ)
 
-      abbrev at33 : (bs : List.List Nat.ℕ) → Typed.TF T23 O0
-      at33 = λ bs. λ Ψ. at32 bs Ψ
-
       abbrev at34 : (bs : List.List Nat.ℕ) → Typed.TF T22 O0
-      at34 = λ bs. λ Ψ. Typed.pass T22 T23 (s21 bs) (at33 bs Ψ)
+      at34 = λ bs. λ Ψ. Typed.pass T22 T23 (s21 bs) (at32 bs Ψ)
 
       abbrev at35 : (bs : List.List Nat.ℕ) → Typed.TF T21 O0
       at35 = λ bs. λ Ψ. Typed.ask (s20 bs) (at34 bs Ψ)
@@ -1185,11 +919,8 @@ module _ (claims· : Claims) where
       abbrev at37 : (bs : List.List Nat.ℕ) → Typed.TF T18 O0
       at37 = λ bs. λ Ψ. Typed.both (s18 bs) (at36 bs Ψ)
 
-      abbrev at38 : (bs : List.List Nat.ℕ) → Typed.TF T18 O0
-      at38 = λ bs. λ Ψ. at37 bs Ψ
-
       abbrev at39 : (bs : List.List Nat.ℕ) → Typed.TF T17 O0
-      at39 = λ bs. λ Ψ. Typed.ask (s16 bs) (at38 bs Ψ)
+      at39 = λ bs. λ Ψ. Typed.ask (s16 bs) (at37 bs Ψ)
 
       abbrev at40 : (bs : List.List Nat.ℕ) → Typed.TF T16 O0
       at40 = λ bs. λ Ψ. Typed.pass T16 T17 (s15 bs) (at39 bs Ψ)
@@ -1227,13 +958,13 @@ module _ (claims· : Claims) where
       abbrev at51 : (bs : List.List Nat.ℕ) → Typed.TF T5 O0
       at51 = λ bs. λ Ψ. Typed.pass T5 T6 (s4 bs) (at50 bs Ψ)
 
-      abbrev at52 : (bs : List.List Nat.ℕ) → Typed.TF T4 O0
+      abbrev at52 : (bs : List.List Nat.ℕ) → Typed.TF T0 O0
       at52 = λ bs. λ Ψ. Typed.both (s3 bs) (at51 bs Ψ)
 
-      abbrev at53 : (bs : List.List Nat.ℕ) → Typed.TF T3 O0
+      abbrev at53 : (bs : List.List Nat.ℕ) → Typed.TF T0 O0
       at53 = λ bs. λ Ψ. Typed.give (s2 bs) (at52 bs Ψ)
 
-      abbrev at54 : (bs : List.List Nat.ℕ) → Typed.TF T2 O0
+      abbrev at54 : (bs : List.List Nat.ℕ) → Typed.TF T0 O0
       at54 = λ bs. λ Ψ. Typed.give (s1 bs) (at53 bs Ψ)
 
       abbrev at55 : (bs : List.List Nat.ℕ) → Typed.TF T0 O0
@@ -1249,581 +980,264 @@ module _ (claims· : Claims) where
             (claims· .8) (claims· .9) "block::reading::walk"
 
       module _ (κs : Lifetimes.Lfts 3) (qs : Lifetimes.Shares 3) where
+        abbrev k0 : Row.Life
+        k0 = Row.lease (κs .0) (qs .0)
+
+        abbrev k1 : Row.Life
+        k1 = Row.lease (κs .1 .0) (qs .1 .0)
+
+        abbrev k2 : Row.Life
+        k2 = Row.lease (κs .1 .1 .0) (qs .1 .1 .0)
+
+        abbrev l0 : List.List Row.Life
+        l0 = k0 ∷ k1 ∷ Row.off ∷ Row.alive ∷ Row.alive ∷ Row.alive ∷ Row.alive ∷ []
+
+        abbrev l1 : List.List Row.Life
+        l1 = k0 ∷ k1 ∷ Row.off ∷ Row.alive ∷ Row.alive ∷ Row.alive ∷ Row.off ∷ []
+
+        abbrev l2 : List.List Row.Life
+        l2 = k0 ∷ k1 ∷ Row.off ∷ Row.dead ∷ Row.alive ∷ Row.alive ∷ Row.alive ∷ []
+
+        abbrev l3 : List.List Row.Life
+        l3 = k0 ∷ k1 ∷ Row.off ∷ Row.off ∷ Row.alive ∷ Row.alive ∷ Row.alive ∷ []
+
+        abbrev l4 : List.List Row.Life
+        l4 = k0 ∷ k1 ∷ Row.off ∷ Row.off ∷ Row.dead ∷ Row.alive ∷ Row.alive ∷ []
+
+        abbrev l5 : List.List Row.Life
+        l5 = k0 ∷ k1 ∷ Row.off ∷ Row.off ∷ Row.off ∷ Row.alive ∷ Row.alive ∷ []
+
+        abbrev l6 : List.List Row.Life
+        l6 = k0 ∷ k1 ∷ k2 ∷ Row.alive ∷ Row.alive ∷ Row.off ∷ Row.off ∷ []
+
+        abbrev l7 : List.List Row.Life
+        l7 = k0 ∷ k1 ∷ k2 ∷ Row.alive ∷ Row.off ∷ Row.off ∷ Row.off ∷ []
+
+        abbrev l8 : List.List Row.Life
+        l8 = k0 ∷ k1 ∷ k2 ∷ Row.off ∷ Row.off ∷ Row.dead ∷ Row.alive ∷ []
+
+        abbrev l9 : List.List Row.Life
+        l9 = k0 ∷ k1 ∷ k2 ∷ Row.off ∷ Row.off ∷ Row.off ∷ Row.dead ∷ []
+
+        abbrev l10 : List.List Row.Life
+        l10 = k0 ∷ k1 ∷ k2 ∷ Row.off ∷ Row.off ∷ Row.off ∷ Row.off ∷ []
+
+        abbrev h0 : Row.Row
+        h0 = Relend.mslice-owed n16 y7 2 5 k2
+
         abbrev g25 : List.List Row.Entry
-        g25 = List._∷_ e0 (List._∷_ e2 (List._∷_ e23 (List._∷_
-            (3, Relend.mslice-owed (Referent.rtF (Referent.fInt Syntax.w16)) (Syntax.tyRef (Syntax.named 2) Syntax.mut (Syntax.tyInt Syntax.w16)) 2 5 (Row.lease (κs .1 .1 .0) (qs .1 .1 .0))) (List._∷_ e38
-            (List._∷_ e40 (List._∷_ e42 (List._∷_ e43 (List._∷_ e46 (List._∷_ e48 (List._∷_ e4 (List._∷_ e7 (List._∷_ e8 (List._∷_ e11 (List._∷_ e12 (List._∷_ e14 List.[])))))))))))))))
+        g25 = (0, v12) ∷ (1, v3) ∷ (2, v4) ∷ (3, h0) ∷ (4, v10) ∷ (5, v9) ∷ (6, v8) ∷ (7, v1) ∷ (8, v16) ∷ (9, v19) ∷ (10, v17) ∷ (11, v1) ∷ (12, v2) ∷ (13, v5) ∷ (14, v0) ∷ (15, v0) ∷ []
 
         abbrev g28 : List.List Row.Entry
-        g28 = List._∷_ e0 (List._∷_ e2 (List._∷_ e23 (List._∷_
-            (3, Relend.mslice-owed (Referent.rtF (Referent.fInt Syntax.w16)) (Syntax.tyRef (Syntax.named 2) Syntax.mut (Syntax.tyInt Syntax.w16)) 2 5 (Row.lease (κs .1 .1 .0) (qs .1 .1 .0))) (List._∷_ e38
-            (List._∷_ e40 (List._∷_ e42 (List._∷_ e43 (List._∷_ e45 (List._∷_ e48 (List._∷_ e4 (List._∷_ e7 (List._∷_ e8 (List._∷_ e11 (List._∷_ e12 (List._∷_ e14 List.[])))))))))))))))
+        g28 = (0, v12) ∷ (1, v3) ∷ (2, v4) ∷ (3, h0) ∷ (4, v10) ∷ (5, v9) ∷ (6, v8) ∷ (7, v1) ∷ (8, v14) ∷ (9, v19) ∷ (10, v17) ∷ (11, v1) ∷ (12, v2) ∷ (13, v5) ∷ (14, v0) ∷ (15, v0) ∷ []
 
         abbrev g31 : List.List Row.Entry
-        g31 = List._∷_ e1 (List._∷_ e2 (List._∷_ e23 (List._∷_
-            (3, Relend.mslice-owed (Referent.rtF (Referent.fInt Syntax.w16)) (Syntax.tyRef (Syntax.named 2) Syntax.mut (Syntax.tyInt Syntax.w16)) 2 5 (Row.lease (κs .1 .1 .0) (qs .1 .1 .0))) (List._∷_ e38
-            (List._∷_ e40 (List._∷_ e42 (List._∷_ e43 (List._∷_ e45 (List._∷_ e48 (List._∷_ e4 (List._∷_ e7 (List._∷_ e8 (List._∷_ e11 (List._∷_ e12 (List._∷_ e14 List.[])))))))))))))))
+        g31 = (0, v11) ∷ (1, v3) ∷ (2, v4) ∷ (3, h0) ∷ (4, v10) ∷ (5, v9) ∷ (6, v8) ∷ (7, v1) ∷ (8, v14) ∷ (9, v19) ∷ (10, v17) ∷ (11, v1) ∷ (12, v2) ∷ (13, v5) ∷ (14, v0) ∷ (15, v0) ∷ []
 
         abbrev g34 : List.List Row.Entry
-        g34 = List._∷_ e1 (List._∷_ e2 (List._∷_ e23 (List._∷_
-            (3, Relend.mslice-owed (Referent.rtF (Referent.fInt Syntax.w16)) (Syntax.tyRef (Syntax.named 2) Syntax.mut (Syntax.tyInt Syntax.w16)) 2 5 (Row.lease (κs .1 .1 .0) (qs .1 .1 .0))) (List._∷_ e37
-            (List._∷_ e40 (List._∷_ e42 (List._∷_ e43 (List._∷_ e45 (List._∷_ e48 (List._∷_ e4 (List._∷_ e7 (List._∷_ e8 (List._∷_ e11 (List._∷_ e12 (List._∷_ e14 List.[])))))))))))))))
+        g34 = (0, v11) ∷ (1, v3) ∷ (2, v4) ∷ (3, h0) ∷ (4, v15) ∷ (5, v9) ∷ (6, v8) ∷ (7, v1) ∷ (8, v14) ∷ (9, v19) ∷ (10, v17) ∷ (11, v1) ∷ (12, v2) ∷ (13, v5) ∷ (14, v0) ∷ (15, v0) ∷ []
 
         abbrev g35 : List.List Row.Entry
-        g35 = List._∷_ e1 (List._∷_ e2 (List._∷_ e23 (List._∷_
-            (3, Relend.mslice-owed (Referent.rtF (Referent.fInt Syntax.w16)) (Syntax.tyRef (Syntax.named 2) Syntax.mut (Syntax.tyInt Syntax.w16)) 2 5 (Row.lease (κs .1 .1 .0) (qs .1 .1 .0))) (List._∷_ e37
-            (List._∷_ e39 (List._∷_ e42 (List._∷_ e43 (List._∷_ e45 (List._∷_ e48 (List._∷_ e4 (List._∷_ e7 (List._∷_ e8 (List._∷_ e11 (List._∷_ e12 (List._∷_ e14 List.[])))))))))))))))
+        g35 = (0, v11) ∷ (1, v3) ∷ (2, v4) ∷ (3, h0) ∷ (4, v15) ∷ (5, v18) ∷ (6, v8) ∷ (7, v1) ∷ (8, v14) ∷ (9, v19) ∷ (10, v17) ∷ (11, v1) ∷ (12, v2) ∷ (13, v5) ∷ (14, v0) ∷ (15, v0) ∷ []
 
         abbrev g36 : List.List Row.Entry
-        g36 = List._∷_ e1 (List._∷_ e2 (List._∷_ e23 (List._∷_
-            (3, Relend.mslice-owed (Referent.rtF (Referent.fInt Syntax.w16)) (Syntax.tyRef (Syntax.named 2) Syntax.mut (Syntax.tyInt Syntax.w16)) 2 5 (Row.lease (κs .1 .1 .0) (qs .1 .1 .0))) (List._∷_ e37
-            (List._∷_ e39 (List._∷_ e41 (List._∷_ e43 (List._∷_ e45 (List._∷_ e48 (List._∷_ e4 (List._∷_ e7 (List._∷_ e8 (List._∷_ e11 (List._∷_ e12 (List._∷_ e14 List.[])))))))))))))))
+        g36 = (0, v11) ∷ (1, v3) ∷ (2, v4) ∷ (3, h0) ∷ (4, v15) ∷ (5, v18) ∷ (6, v20) ∷ (7, v1) ∷ (8, v14) ∷ (9, v19) ∷ (10, v17) ∷ (11, v1) ∷ (12, v2) ∷ (13, v5) ∷ (14, v0) ∷ (15, v0) ∷ []
 
         abbrev g37 : List.List Row.Entry
-        g37 = List._∷_ e1 (List._∷_ e2 (List._∷_ e23 (List._∷_
-            (3, Relend.mslice-owed (Referent.rtF (Referent.fInt Syntax.w16)) (Syntax.tyRef (Syntax.named 2) Syntax.mut (Syntax.tyInt Syntax.w16)) 2 5 (Row.lease (κs .1 .1 .0) (qs .1 .1 .0))) (List._∷_ e37
-            (List._∷_ e39 (List._∷_ e41 (List._∷_ e43 (List._∷_ e45 (List._∷_ e48 (List._∷_ e4 (List._∷_ e6 (List._∷_ e8 (List._∷_ e11 (List._∷_ e12 (List._∷_ e14 List.[])))))))))))))))
+        g37 = (0, v11) ∷ (1, v3) ∷ (2, v4) ∷ (3, h0) ∷ (4, v15) ∷ (5, v18) ∷ (6, v20) ∷ (7, v1) ∷ (8, v14) ∷ (9, v19) ∷ (10, v17) ∷ (11, v6) ∷ (12, v2) ∷ (13, v5) ∷ (14, v0) ∷ (15, v0) ∷ []
 
         abbrev g39 : List.List Row.Entry
-        g39 = List._∷_ e1 (List._∷_ e2 (List._∷_ e23 (List._∷_
-            (3, Relend.mslice-owed (Referent.rtF (Referent.fInt Syntax.w16)) (Syntax.tyRef (Syntax.named 2) Syntax.mut (Syntax.tyInt Syntax.w16)) 2 5 (Row.lease (κs .1 .1 .0) (qs .1 .1 .0))) (List._∷_ e37
-            (List._∷_ e39 (List._∷_ e41 (List._∷_ e43 (List._∷_ e45 (List._∷_ e49 (List._∷_ e4 (List._∷_ e6 (List._∷_ e8 (List._∷_ e11 (List._∷_ e12 (List._∷_ e14 List.[])))))))))))))))
+        g39 = (0, v11) ∷ (1, v3) ∷ (2, v4) ∷ (3, h0) ∷ (4, v15) ∷ (5, v18) ∷ (6, v20) ∷ (7, v1) ∷ (8, v14) ∷ (9, v27) ∷ (10, v17) ∷ (11, v6) ∷ (12, v2) ∷ (13, v5) ∷ (14, v0) ∷ (15, v0) ∷ []
 
         abbrev g41 : List.List Row.Entry
-        g41 = List._∷_ e1 (List._∷_ e2 (List._∷_ e23 (List._∷_
-            (3, Relend.mslice-owed (Referent.rtF (Referent.fInt Syntax.w16)) (Syntax.tyRef (Syntax.named 2) Syntax.mut (Syntax.tyInt Syntax.w16)) 2 5 (Row.lease (κs .1 .1 .0) (qs .1 .1 .0))) (List._∷_ e37
-            (List._∷_ e39 (List._∷_ e41 (List._∷_ e43 (List._∷_ e45 (List._∷_ e47 (List._∷_ e4 (List._∷_ e6 (List._∷_ e8 (List._∷_ e11 (List._∷_ e12 (List._∷_ e14 List.[])))))))))))))))
+        g41 = (0, v11) ∷ (1, v3) ∷ (2, v4) ∷ (3, h0) ∷ (4, v15) ∷ (5, v18) ∷ (6, v20) ∷ (7, v1) ∷ (8, v14) ∷ (9, v22) ∷ (10, v17) ∷ (11, v6) ∷ (12, v2) ∷ (13, v5) ∷ (14, v0) ∷ (15, v0) ∷ []
 
         abbrev g42 : List.List Row.Entry
-        g42 = List._∷_ e1 (List._∷_ e2 (List._∷_ e23 (List._∷_
-            (3, Relend.mslice-owed (Referent.rtF (Referent.fInt Syntax.w16)) (Syntax.tyRef (Syntax.named 2) Syntax.mut (Syntax.tyInt Syntax.w16)) 2 5 (Row.lease (κs .1 .1 .0) (qs .1 .1 .0))) (List._∷_ e37
-            (List._∷_ e39 (List._∷_ e41 (List._∷_ e43 (List._∷_ e45 (List._∷_ e47 (List._∷_ e5 (List._∷_ e6 (List._∷_ e8 (List._∷_ e11 (List._∷_ e12 (List._∷_ e14 List.[])))))))))))))))
+        g42 = (0, v11) ∷ (1, v3) ∷ (2, v4) ∷ (3, h0) ∷ (4, v15) ∷ (5, v18) ∷ (6, v20) ∷ (7, v1) ∷ (8, v14) ∷ (9, v22) ∷ (10, v29) ∷ (11, v6) ∷ (12, v2) ∷ (13, v5) ∷ (14, v0) ∷ (15, v0) ∷ []
 
         abbrev g44 : List.List Row.Entry
-        g44 = List._∷_ e1 (List._∷_ e2 (List._∷_ e23 (List._∷_
-            (3, Relend.mslice-owed (Referent.rtF (Referent.fInt Syntax.w16)) (Syntax.tyRef (Syntax.named 2) Syntax.mut (Syntax.tyInt Syntax.w16)) 2 5 (Row.lease (κs .1 .1 .0) (qs .1 .1 .0))) (List._∷_ e37
-            (List._∷_ e39 (List._∷_ e41 (List._∷_ e43 (List._∷_ e45 (List._∷_ e47 (List._∷_ e3 (List._∷_ e6 (List._∷_ e8 (List._∷_ e11 (List._∷_ e12 (List._∷_ e14 List.[])))))))))))))))
-
-        abbrev G0 : Row.Cx
-        G0 = record {
-          locals = List._++_ t0 t1;
-          slots = List._∷_ (Row.lease (κs .0) (qs .0)) (List._∷_ (Row.lease (κs .1 .0) (qs .1 .0)) (List._∷_ (Row.lease (κs .1 .1 .0) (qs .1 .1 .0)) (List._∷_ Row.off
-              (List._∷_ Row.off (List._∷_ Row.off (List._∷_ Row.off List.[]))))));
-        }
-
-        abbrev G1 : Row.Cx
-        G1 = record {
-          locals = List._++_ t2 t1;
-          slots = List._∷_ (Row.lease (κs .0) (qs .0)) (List._∷_ (Row.lease (κs .1 .0) (qs .1 .0)) (List._∷_ (Row.lease (κs .1 .1 .0) (qs .1 .1 .0)) (List._∷_ Row.off
-              (List._∷_ Row.off (List._∷_ Row.off (List._∷_ Row.off List.[]))))));
-        }
-
-        abbrev G2 : Row.Cx
-        G2 = record {
-          locals = List._++_ t0 t1;
-          slots = List._∷_ (Row.lease (κs .0) (qs .0)) (List._∷_ (Row.lease (κs .1 .0) (qs .1 .0)) (List._∷_ (Row.lease (κs .1 .1 .0) (qs .1 .1 .0)) (List._∷_ Row.off
-              (List._∷_ Row.off (List._∷_ Row.off (List._∷_ Row.off List.[]))))));
-        }
-
-        abbrev G3 : Row.Cx
-        G3 = record {
-          locals = List._++_ t0 t1;
-          slots = List._∷_ (Row.lease (κs .0) (qs .0)) (List._∷_ (Row.lease (κs .1 .0) (qs .1 .0)) (List._∷_ (Row.lease (κs .1 .1 .0) (qs .1 .1 .0)) (List._∷_ Row.off
-              (List._∷_ Row.off (List._∷_ Row.off (List._∷_ Row.off List.[]))))));
-        }
-
-        abbrev G4 : Row.Cx
-        G4 = record {
-          locals = List._++_ t0 t1;
-          slots = List._∷_ (Row.lease (κs .0) (qs .0)) (List._∷_ (Row.lease (κs .1 .0) (qs .1 .0)) (List._∷_ (Row.lease (κs .1 .1 .0) (qs .1 .1 .0)) (List._∷_ Row.off
-              (List._∷_ Row.off (List._∷_ Row.off (List._∷_ Row.off List.[]))))));
-        }
-
-        abbrev G5 : Row.Cx
-        G5 = record {
-          locals = List._++_ t3 t1;
-          slots = List._∷_ (Row.lease (κs .0) (qs .0)) (List._∷_ (Row.lease (κs .1 .0) (qs .1 .0)) (List._∷_ (Row.lease (κs .1 .1 .0) (qs .1 .1 .0)) (List._∷_ Row.off
-              (List._∷_ Row.off (List._∷_ Row.off (List._∷_ Row.off List.[]))))));
-        }
-
-        abbrev G6 : Row.Cx
-        G6 = record {
-          locals = List._++_ t4 t1;
-          slots = List._∷_ (Row.lease (κs .0) (qs .0)) (List._∷_ (Row.lease (κs .1 .0) (qs .1 .0)) (List._∷_ (Row.lease (κs .1 .1 .0) (qs .1 .1 .0)) (List._∷_ Row.off
-              (List._∷_ Row.off (List._∷_ Row.off (List._∷_ Row.off List.[]))))));
-        }
-
-        abbrev G7 : Row.Cx
-        G7 = record {
-          locals = List._++_ t5 t1;
-          slots = List._∷_ (Row.lease (κs .0) (qs .0)) (List._∷_ (Row.lease (κs .1 .0) (qs .1 .0)) (List._∷_ (Row.lease (κs .1 .1 .0) (qs .1 .1 .0)) (List._∷_ Row.off
-              (List._∷_ Row.off (List._∷_ Row.off (List._∷_ Row.off List.[]))))));
-        }
-
-        abbrev G8 : Row.Cx
-        G8 = record {
-          locals = List._++_ t6 t1;
-          slots = List._∷_ (Row.lease (κs .0) (qs .0)) (List._∷_ (Row.lease (κs .1 .0) (qs .1 .0)) (List._∷_ (Row.lease (κs .1 .1 .0) (qs .1 .1 .0)) (List._∷_ Row.off
-              (List._∷_ Row.off (List._∷_ Row.off (List._∷_ Row.off List.[]))))));
-        }
-
-        abbrev G9 : Row.Cx
-        G9 = record {
-          locals = List._++_ t7 t1;
-          slots = List._∷_ (Row.lease (κs .0) (qs .0)) (List._∷_ (Row.lease (κs .1 .0) (qs .1 .0)) (List._∷_ (Row.lease (κs .1 .1 .0) (qs .1 .1 .0)) (List._∷_ Row.off
-              (List._∷_ Row.off (List._∷_ Row.off (List._∷_ Row.off List.[]))))));
-        }
-
-        abbrev G10 : Row.Cx
-        G10 = record {
-          locals = List._++_ t8 t1;
-          slots = List._∷_ (Row.lease (κs .0) (qs .0)) (List._∷_ (Row.lease (κs .1 .0) (qs .1 .0)) (List._∷_ (Row.lease (κs .1 .1 .0) (qs .1 .1 .0)) (List._∷_ Row.off
-              (List._∷_ Row.off (List._∷_ Row.off (List._∷_ Row.off List.[]))))));
-        }
-
-        abbrev G11 : Row.Cx
-        G11 = record {
-          locals = List._++_ t9 t1;
-          slots = List._∷_ (Row.lease (κs .0) (qs .0)) (List._∷_ (Row.lease (κs .1 .0) (qs .1 .0)) (List._∷_ (Row.lease (κs .1 .1 .0) (qs .1 .1 .0)) (List._∷_ Row.off
-              (List._∷_ Row.off (List._∷_ Row.off (List._∷_ Row.off List.[]))))));
-        }
-
-        abbrev G12 : Row.Cx
-        G12 = record {
-          locals = List._++_ t10 t1;
-          slots = List._∷_ (Row.lease (κs .0) (qs .0)) (List._∷_ (Row.lease (κs .1 .0) (qs .1 .0)) (List._∷_ (Row.lease (κs .1 .1 .0) (qs .1 .1 .0)) (List._∷_ Row.off
-              (List._∷_ Row.off (List._∷_ Row.off (List._∷_ Row.off List.[]))))));
-        }
-
-        abbrev G13 : Row.Cx
-        G13 = record {
-          locals = List._++_ t11 t1;
-          slots = List._∷_ (Row.lease (κs .0) (qs .0)) (List._∷_ (Row.lease (κs .1 .0) (qs .1 .0)) (List._∷_ (Row.lease (κs .1 .1 .0) (qs .1 .1 .0)) (List._∷_ Row.off
-              (List._∷_ Row.off (List._∷_ Row.off (List._∷_ Row.off List.[]))))));
-        }
-
-        abbrev G14 : Row.Cx
-        G14 = record {
-          locals = List._++_ t12 t1;
-          slots = List._∷_ (Row.lease (κs .0) (qs .0)) (List._∷_ (Row.lease (κs .1 .0) (qs .1 .0)) (List._∷_ (Row.lease (κs .1 .1 .0) (qs .1 .1 .0)) (List._∷_ Row.off
-              (List._∷_ Row.off (List._∷_ Row.off (List._∷_ Row.off List.[]))))));
-        }
-
-        abbrev G15 : Row.Cx
-        G15 = record {
-          locals = List._++_ t13 t1;
-          slots = List._∷_ (Row.lease (κs .0) (qs .0)) (List._∷_ (Row.lease (κs .1 .0) (qs .1 .0)) (List._∷_ (Row.lease (κs .1 .1 .0) (qs .1 .1 .0)) (List._∷_ Row.off
-              (List._∷_ Row.off (List._∷_ Row.off (List._∷_ Row.off List.[]))))));
-        }
-
-        abbrev G16 : Row.Cx
-        G16 = record {
-          locals = List._++_ t14 t1;
-          slots = List._∷_ (Row.lease (κs .0) (qs .0)) (List._∷_ (Row.lease (κs .1 .0) (qs .1 .0)) (List._∷_ (Row.lease (κs .1 .1 .0) (qs .1 .1 .0)) (List._∷_ Row.off
-              (List._∷_ Row.off (List._∷_ Row.off (List._∷_ Row.off List.[]))))));
-        }
-
-        abbrev G17 : Row.Cx
-        G17 = record {
-          locals = List._++_ t15 t1;
-          slots = List._∷_ (Row.lease (κs .0) (qs .0)) (List._∷_ (Row.lease (κs .1 .0) (qs .1 .0)) (List._∷_ (Row.lease (κs .1 .1 .0) (qs .1 .1 .0)) (List._∷_ Row.off
-              (List._∷_ Row.off (List._∷_ Row.off (List._∷_ Row.off List.[]))))));
-        }
-
-        abbrev G18 : Row.Cx
-        G18 = record {
-          locals = List._++_ t15 t16;
-          slots = List._∷_ (Row.lease (κs .0) (qs .0)) (List._∷_ (Row.lease (κs .1 .0) (qs .1 .0)) (List._∷_ (Row.lease (κs .1 .1 .0) (qs .1 .1 .0)) (List._∷_ Row.off
-              (List._∷_ Row.off (List._∷_ Row.off (List._∷_ Row.off List.[]))))));
-        }
-
-        abbrev G19 : Row.Cx
-        G19 = record {
-          locals = List._++_ t15 t16;
-          slots = List._∷_ (Row.lease (κs .0) (qs .0)) (List._∷_ (Row.lease (κs .1 .0) (qs .1 .0)) (List._∷_ (Row.lease (κs .1 .1 .0) (qs .1 .1 .0)) (List._∷_ Row.alive
-              (List._∷_ Row.off (List._∷_ Row.off (List._∷_ Row.off List.[]))))));
-        }
-
-        abbrev G20 : Row.Cx
-        G20 = record {
-          locals = List._++_ t17 t18;
-          slots = List._∷_ (Row.lease (κs .0) (qs .0)) (List._∷_ (Row.lease (κs .1 .0) (qs .1 .0)) (List._∷_ (Row.lease (κs .1 .1 .0) (qs .1 .1 .0)) (List._∷_ Row.alive
-              (List._∷_ Row.off (List._∷_ Row.off (List._∷_ Row.off List.[]))))));
-        }
-
-        abbrev G21 : Row.Cx
-        G21 = record {
-          locals = List._++_ t19 t18;
-          slots = List._∷_ (Row.lease (κs .0) (qs .0)) (List._∷_ (Row.lease (κs .1 .0) (qs .1 .0)) (List._∷_ (Row.lease (κs .1 .1 .0) (qs .1 .1 .0)) (List._∷_ Row.alive
-              (List._∷_ Row.off (List._∷_ Row.off (List._∷_ Row.off List.[]))))));
-        }
-
-        abbrev G22 : Row.Cx
-        G22 = record {
-          locals = List._++_ t19 t20;
-          slots = List._∷_ (Row.lease (κs .0) (qs .0)) (List._∷_ (Row.lease (κs .1 .0) (qs .1 .0)) (List._∷_ (Row.lease (κs .1 .1 .0) (qs .1 .1 .0)) (List._∷_ Row.alive
-              (List._∷_ Row.off (List._∷_ Row.off (List._∷_ Row.off List.[]))))));
-        }
-
-        abbrev G23 : Row.Cx
-        G23 = record {
-          locals = List._++_ t19 t21;
-          slots = List._∷_ (Row.lease (κs .0) (qs .0)) (List._∷_ (Row.lease (κs .1 .0) (qs .1 .0)) (List._∷_ (Row.lease (κs .1 .1 .0) (qs .1 .1 .0)) (List._∷_ Row.alive
-              (List._∷_ Row.off (List._∷_ Row.off (List._∷_ Row.off List.[]))))));
-        }
-
-        abbrev G24 : Row.Cx
-        G24 = record {
-          locals = List._++_ t19 t21;
-          slots = List._∷_ (Row.lease (κs .0) (qs .0)) (List._∷_ (Row.lease (κs .1 .0) (qs .1 .0)) (List._∷_ (Row.lease (κs .1 .1 .0) (qs .1 .1 .0)) (List._∷_ Row.alive
-              (List._∷_ Row.alive (List._∷_ Row.off (List._∷_ Row.off List.[]))))));
-        }
-
-        abbrev G25 : Row.Cx
-        G25 = record {
-          locals = List._++_ t22 t23;
-          slots = List._∷_ (Row.lease (κs .0) (qs .0)) (List._∷_ (Row.lease (κs .1 .0) (qs .1 .0)) (List._∷_ (Row.lease (κs .1 .1 .0) (qs .1 .1 .0)) (List._∷_ Row.alive
-              (List._∷_ Row.alive (List._∷_ Row.off (List._∷_ Row.off List.[]))))));
-        }
-
-        abbrev G26 : Row.Cx
-        G26 = record {
-          locals = List._++_ t22 t24;
-          slots = List._∷_ (Row.lease (κs .0) (qs .0)) (List._∷_ (Row.lease (κs .1 .0) (qs .1 .0)) (List._∷_ (Row.lease (κs .1 .1 .0) (qs .1 .1 .0)) (List._∷_ Row.alive
-              (List._∷_ Row.alive (List._∷_ Row.off (List._∷_ Row.off List.[]))))));
-        }
+        g44 = (0, v11) ∷ (1, v3) ∷ (2, v4) ∷ (3, h0) ∷ (4, v15) ∷ (5, v18) ∷ (6, v20) ∷ (7, v1) ∷ (8, v14) ∷ (9, v22) ∷ (10, v23) ∷ (11, v6) ∷ (12, v2) ∷ (13, v5) ∷ (14, v0) ∷ (15, v0) ∷ []
 
         abbrev G27 : Row.Cx
-        G27 = record {
-          locals = List._++_ t22 t24;
-          slots = List._∷_ (Row.lease (κs .0) (qs .0)) (List._∷_ (Row.lease (κs .1 .0) (qs .1 .0)) (List._∷_ (Row.lease (κs .1 .1 .0) (qs .1 .1 .0)) (List._∷_ Row.alive
-              (List._∷_ Row.alive (List._∷_ Row.alive (List._∷_ Row.off List.[]))))));
-        }
+        G27 = record { locals = List._++_ t22 t24; slots = k0 ∷ k1 ∷ k2 ∷ Row.alive ∷ Row.alive ∷ Row.alive ∷ Row.off ∷ [] }
 
         abbrev G28 : Row.Cx
-        G28 = record {
-          locals = List._++_ g25 t26;
-          slots = List._∷_ (Row.lease (κs .0) (qs .0)) (List._∷_ (Row.lease (κs .1 .0) (qs .1 .0)) (List._∷_ Row.off (List._∷_ Row.alive (List._∷_ Row.alive (List._∷_
-              Row.alive (List._∷_ Row.off List.[]))))));
-        }
+        G28 = record { locals = List._++_ g25 t26; slots = l1 }
 
         abbrev G29 : Row.Cx
-        G29 = record {
-          locals = List._++_ g25 t27;
-          slots = List._∷_ (Row.lease (κs .0) (qs .0)) (List._∷_ (Row.lease (κs .1 .0) (qs .1 .0)) (List._∷_ Row.off (List._∷_ Row.alive (List._∷_ Row.alive (List._∷_
-              Row.alive (List._∷_ Row.off List.[]))))));
-        }
+        G29 = record { locals = List._++_ g25 t27; slots = l1 }
 
         abbrev G30 : Row.Cx
-        G30 = record {
-          locals = List._++_ g25 t27;
-          slots = List._∷_ (Row.lease (κs .0) (qs .0)) (List._∷_ (Row.lease (κs .1 .0) (qs .1 .0)) (List._∷_ Row.off (List._∷_ Row.alive (List._∷_ Row.alive (List._∷_
-              Row.alive (List._∷_ Row.alive List.[]))))));
-        }
+        G30 = record { locals = List._++_ g25 t27; slots = l0 }
 
         abbrev G31 : Row.Cx
-        G31 = record {
-          locals = List._++_ g28 t29;
-          slots = List._∷_ (Row.lease (κs .0) (qs .0)) (List._∷_ (Row.lease (κs .1 .0) (qs .1 .0)) (List._∷_ Row.off (List._∷_ Row.alive (List._∷_ Row.alive (List._∷_
-              Row.alive (List._∷_ Row.alive List.[]))))));
-        }
+        G31 = record { locals = List._++_ g28 t29; slots = l0 }
 
         abbrev G32 : Row.Cx
-        G32 = record {
-          locals = List._++_ g28 t30;
-          slots = List._∷_ (Row.lease (κs .0) (qs .0)) (List._∷_ (Row.lease (κs .1 .0) (qs .1 .0)) (List._∷_ Row.off (List._∷_ Row.alive (List._∷_ Row.alive (List._∷_
-              Row.alive (List._∷_ Row.alive List.[]))))));
-        }
+        G32 = record { locals = List._++_ g28 t30; slots = l0 }
 
         abbrev G33 : Row.Cx
-        G33 = record {
-          locals = List._++_ g31 t32;
-          slots = List._∷_ (Row.lease (κs .0) (qs .0)) (List._∷_ (Row.lease (κs .1 .0) (qs .1 .0)) (List._∷_ Row.off (List._∷_ Row.alive (List._∷_ Row.alive (List._∷_
-              Row.alive (List._∷_ Row.alive List.[]))))));
-        }
+        G33 = record { locals = List._++_ g31 t32; slots = l0 }
 
         abbrev G34 : Row.Cx
-        G34 = record {
-          locals = List._++_ g31 t33;
-          slots = List._∷_ (Row.lease (κs .0) (qs .0)) (List._∷_ (Row.lease (κs .1 .0) (qs .1 .0)) (List._∷_ Row.off (List._∷_ Row.alive (List._∷_ Row.alive (List._∷_
-              Row.alive (List._∷_ Row.alive List.[]))))));
-        }
+        G34 = record { locals = List._++_ g31 t33; slots = l0 }
 
         abbrev G35 : Row.Cx
-        G35 = record {
-          locals = List._++_ g34 t33;
-          slots = List._∷_ (Row.lease (κs .0) (qs .0)) (List._∷_ (Row.lease (κs .1 .0) (qs .1 .0)) (List._∷_ Row.off (List._∷_ Row.alive (List._∷_ Row.alive (List._∷_
-              Row.alive (List._∷_ Row.alive List.[]))))));
-        }
+        G35 = record { locals = List._++_ g34 t33; slots = l0 }
 
         abbrev G36 : Row.Cx
-        G36 = record {
-          locals = List._++_ g35 t33;
-          slots = List._∷_ (Row.lease (κs .0) (qs .0)) (List._∷_ (Row.lease (κs .1 .0) (qs .1 .0)) (List._∷_ Row.off (List._∷_ Row.alive (List._∷_ Row.alive (List._∷_
-              Row.alive (List._∷_ Row.alive List.[]))))));
-        }
+        G36 = record { locals = List._++_ g35 t33; slots = l0 }
 
         abbrev G37 : Row.Cx
-        G37 = record {
-          locals = List._++_ g36 t33;
-          slots = List._∷_ (Row.lease (κs .0) (qs .0)) (List._∷_ (Row.lease (κs .1 .0) (qs .1 .0)) (List._∷_ Row.off (List._∷_ Row.alive (List._∷_ Row.alive (List._∷_
-              Row.alive (List._∷_ Row.alive List.[]))))));
-        }
+        G37 = record { locals = List._++_ g36 t33; slots = l0 }
 
         abbrev G38 : Row.Cx
-        G38 = record {
-          locals = List._++_ g37 t33;
-          slots = List._∷_ (Row.lease (κs .0) (qs .0)) (List._∷_ (Row.lease (κs .1 .0) (qs .1 .0)) (List._∷_ Row.off (List._∷_ Row.alive (List._∷_ Row.alive (List._∷_
-              Row.alive (List._∷_ Row.alive List.[]))))));
-        }
+        G38 = record { locals = List._++_ g37 t33; slots = l0 }
 
         abbrev G39 : Row.Cx
-        G39 = record {
-          locals = List._++_ g37 t38;
-          slots = List._∷_ (Row.lease (κs .0) (qs .0)) (List._∷_ (Row.lease (κs .1 .0) (qs .1 .0)) (List._∷_ Row.off (List._∷_ Row.alive (List._∷_ Row.alive (List._∷_
-              Row.alive (List._∷_ Row.alive List.[]))))));
-        }
+        G39 = record { locals = List._++_ g37 t38; slots = l0 }
 
         abbrev G40 : Row.Cx
-        G40 = record {
-          locals = List._++_ g37 t38;
-          slots = List._∷_ (Row.lease (κs .0) (qs .0)) (List._∷_ (Row.lease (κs .1 .0) (qs .1 .0)) (List._∷_ Row.off (List._∷_ Row.dead (List._∷_ Row.alive (List._∷_
-              Row.alive (List._∷_ Row.alive List.[]))))));
-        }
+        G40 = record { locals = List._++_ g37 t38; slots = l2 }
 
         abbrev G41 : Row.Cx
-        G41 = record {
-          locals = List._++_ g39 t40;
-          slots = List._∷_ (Row.lease (κs .0) (qs .0)) (List._∷_ (Row.lease (κs .1 .0) (qs .1 .0)) (List._∷_ Row.off (List._∷_ Row.dead (List._∷_ Row.alive (List._∷_
-              Row.alive (List._∷_ Row.alive List.[]))))));
-        }
+        G41 = record { locals = List._++_ g39 t40; slots = l2 }
 
         abbrev G42 : Row.Cx
-        G42 = record {
-          locals = List._++_ g39 t40;
-          slots = List._∷_ (Row.lease (κs .0) (qs .0)) (List._∷_ (Row.lease (κs .1 .0) (qs .1 .0)) (List._∷_ Row.off (List._∷_ Row.off (List._∷_ Row.alive (List._∷_
-              Row.alive (List._∷_ Row.alive List.[]))))));
-        }
+        G42 = record { locals = List._++_ g39 t40; slots = l3 }
 
         abbrev G43 : Row.Cx
-        G43 = record {
-          locals = List._++_ g41 t40;
-          slots = List._∷_ (Row.lease (κs .0) (qs .0)) (List._∷_ (Row.lease (κs .1 .0) (qs .1 .0)) (List._∷_ Row.off (List._∷_ Row.off (List._∷_ Row.alive (List._∷_
-              Row.alive (List._∷_ Row.alive List.[]))))));
-        }
+        G43 = record { locals = List._++_ g41 t40; slots = l3 }
 
         abbrev G44 : Row.Cx
-        G44 = record {
-          locals = List._++_ g41 t40;
-          slots = List._∷_ (Row.lease (κs .0) (qs .0)) (List._∷_ (Row.lease (κs .1 .0) (qs .1 .0)) (List._∷_ Row.off (List._∷_ Row.off (List._∷_ Row.dead (List._∷_
-              Row.alive (List._∷_ Row.alive List.[]))))));
-        }
+        G44 = record { locals = List._++_ g41 t40; slots = l4 }
 
         abbrev G45 : Row.Cx
-        G45 = record {
-          locals = List._++_ g42 t43;
-          slots = List._∷_ (Row.lease (κs .0) (qs .0)) (List._∷_ (Row.lease (κs .1 .0) (qs .1 .0)) (List._∷_ Row.off (List._∷_ Row.off (List._∷_ Row.dead (List._∷_
-              Row.alive (List._∷_ Row.alive List.[]))))));
-        }
+        G45 = record { locals = List._++_ g42 t43; slots = l4 }
 
         abbrev G46 : Row.Cx
-        G46 = record {
-          locals = List._++_ g42 t43;
-          slots = List._∷_ (Row.lease (κs .0) (qs .0)) (List._∷_ (Row.lease (κs .1 .0) (qs .1 .0)) (List._∷_ Row.off (List._∷_ Row.off (List._∷_ Row.off (List._∷_ Row.alive
-              (List._∷_ Row.alive List.[]))))));
-        }
+        G46 = record { locals = List._++_ g42 t43; slots = l5 }
 
         abbrev G47 : Row.Cx
-        G47 = record {
-          locals = List._++_ g44 t43;
-          slots = List._∷_ (Row.lease (κs .0) (qs .0)) (List._∷_ (Row.lease (κs .1 .0) (qs .1 .0)) (List._∷_ Row.off (List._∷_ Row.off (List._∷_ Row.off (List._∷_ Row.alive
-              (List._∷_ Row.alive List.[]))))));
-        }
+        G47 = record { locals = List._++_ g44 t43; slots = l5 }
 
         abbrev G48 : Row.Cx
-        G48 = record {
-          locals = List._++_ g44 t43;
-          slots = List._∷_ (Row.lease (κs .0) (qs .0)) (List._∷_ (Row.lease (κs .1 .0) (qs .1 .0)) (List._∷_ Row.off (List._∷_ Row.off (List._∷_ Row.off (List._∷_ Row.dead
-              (List._∷_ Row.alive List.[]))))));
-        }
-
-        abbrev G49 : Row.Cx
-        G49 = record {
-          locals = List._++_ t45 t1;
-          slots = List._∷_ (Row.lease (κs .0) (qs .0)) (List._∷_ (Row.lease (κs .1 .0) (qs .1 .0)) (List._∷_ (Row.lease (κs .1 .1 .0) (qs .1 .1 .0)) (List._∷_ Row.off
-              (List._∷_ Row.off (List._∷_ Row.dead (List._∷_ Row.alive List.[]))))));
-        }
-
-        abbrev G50 : Row.Cx
-        G50 = record {
-          locals = List._++_ t45 t1;
-          slots = List._∷_ (Row.lease (κs .0) (qs .0)) (List._∷_ (Row.lease (κs .1 .0) (qs .1 .0)) (List._∷_ (Row.lease (κs .1 .1 .0) (qs .1 .1 .0)) (List._∷_ Row.off
-              (List._∷_ Row.off (List._∷_ Row.dead (List._∷_ Row.alive List.[]))))));
-        }
+        G48 = record { locals = List._++_ g44 t43; slots = k0 ∷ k1 ∷ Row.off ∷ Row.off ∷ Row.off ∷ Row.dead ∷ Row.alive ∷ [] }
 
         abbrev G51 : Row.Cx
-        G51 = record {
-          locals = List._++_ t45 t1;
-          slots = List._∷_ (Row.lease (κs .0) (qs .0)) (List._∷_ (Row.lease (κs .1 .0) (qs .1 .0)) (List._∷_ (Row.lease (κs .1 .1 .0) (qs .1 .1 .0)) (List._∷_ Row.off
-              (List._∷_ Row.off (List._∷_ Row.off (List._∷_ Row.alive List.[]))))));
-        }
-
-        abbrev G52 : Row.Cx
-        G52 = record {
-          locals = List._++_ t45 t1;
-          slots = List._∷_ (Row.lease (κs .0) (qs .0)) (List._∷_ (Row.lease (κs .1 .0) (qs .1 .0)) (List._∷_ (Row.lease (κs .1 .1 .0) (qs .1 .1 .0)) (List._∷_ Row.off
-              (List._∷_ Row.off (List._∷_ Row.off (List._∷_ Row.dead List.[]))))));
-        }
-
-        abbrev G53 : Row.Cx
-        G53 = record {
-          locals = List._++_ t46 t1;
-          slots = List._∷_ (Row.lease (κs .0) (qs .0)) (List._∷_ (Row.lease (κs .1 .0) (qs .1 .0)) (List._∷_ (Row.lease (κs .1 .1 .0) (qs .1 .1 .0)) (List._∷_ Row.off
-              (List._∷_ Row.off (List._∷_ Row.off (List._∷_ Row.dead List.[]))))));
-        }
-
-        abbrev G54 : Row.Cx
-        G54 = record {
-          locals = List._++_ t46 t1;
-          slots = List._∷_ (Row.lease (κs .0) (qs .0)) (List._∷_ (Row.lease (κs .1 .0) (qs .1 .0)) (List._∷_ (Row.lease (κs .1 .1 .0) (qs .1 .1 .0)) (List._∷_ Row.off
-              (List._∷_ Row.off (List._∷_ Row.off (List._∷_ Row.off List.[]))))));
-        }
-
-        abbrev G55 : Row.Cx
-        G55 = record {
-          locals = List._++_ t47 t1;
-          slots = List._∷_ (Row.lease (κs .0) (qs .0)) (List._∷_ (Row.lease (κs .1 .0) (qs .1 .0)) (List._∷_ (Row.lease (κs .1 .1 .0) (qs .1 .1 .0)) (List._∷_ Row.off
-              (List._∷_ Row.off (List._∷_ Row.off (List._∷_ Row.off List.[]))))));
-        }
-
-        abbrev G56 : Row.Cx
-        G56 = record {
-          locals = List._++_ t2 t1;
-          slots = List._∷_ (Row.lease (κs .0) (qs .0)) (List._∷_ (Row.lease (κs .1 .0) (qs .1 .0)) (List._∷_ (Row.lease (κs .1 .1 .0) (qs .1 .1 .0)) (List._∷_ Row.off
-              (List._∷_ Row.off (List._∷_ Row.off (List._∷_ Row.off List.[]))))));
-        }
+        G51 = record { locals = List._++_ t45 t1; slots = k0 ∷ k1 ∷ k2 ∷ Row.off ∷ Row.off ∷ Row.off ∷ Row.alive ∷ [] }
 
         abbrev Δ0 : Typed.Outs
-        Δ0 = record { next = Option.none; exits = List.[]; returns = Option.some G1 }
+        Δ0 = record { next = Option.none; exits = []; returns = Option.some (on T1 l10) }
 
         module _ {M : Type 1} (𝓤 : URA.URA M) (H : Wp.Heap 𝓤) (A : Atoms.Atoms 𝓤) (W : Kit.Given 𝓤 H A) (𝓣 : Wp.Tables 𝓤 H) (known : Knowns 𝓤 H A W 𝓣) (bs : List.List Nat.ℕ) (bd : Lifetimes.AllOutlive
             3 (Kinds.osR r) κs) where
           abbrev E : Wp.Env 𝓤 H
-          E = Frame.EnvOf 𝓤 H (List._∷_ (Kinds.tyR r) (Enter.tysP ps xs)) bs
+          E = Frame.EnvOf 𝓤 H ((Kinds.tyR r) ∷ (Enter.tysP ps xs)) bs
 
-          d0 : Typed.Typed 𝓤 H A 𝓣 E G56 b18 Δ0 (at0 bs)
+          d0 : Typed.Typed 𝓤 H A 𝓣 E (on T1 l10) b18 Δ0 (at0 bs)
           d0 = Typed.t-return 𝓤 H A W 𝓣 E Δ0 tt
 
-          d1 : Typed.Typed 𝓤 H A 𝓣 E G55 b18 Δ0 (at1 bs)
-          d1 = Typed.g-pre 𝓤 H A W 𝓣 E G55 G56 b18 Δ0 (Typed.pass T55 T56 (s54 bs)) (at0 bs) (Scalar.g-room 𝓤 H A W E G55 7 (Syntax.tyInt Syntax.w64) (Scalar.room-sc 𝓤 H A W (Row.sInt Syntax.w64))) d0
+          d1 : Typed.Typed 𝓤 H A 𝓣 E (on T55 l10) b18 Δ0 (at1 bs)
+          d1 = Typed.g-pre 𝓤 H A W 𝓣 E (on T55 l10) (on T1 l10) b18 Δ0 (Typed.pass T55 T1 (s54 bs)) (at0 bs) (Scalar.g-room 𝓤 H A W E (on T55 l10) 7 u64 (Scalar.room-sc 𝓤 H A W (Row.sInt Syntax.w64)))
+              d0
 
-          d2 : Typed.Typed 𝓤 H A 𝓣 E G54 b18 Δ0 (at2 bs)
-          d2 = Typed.g-pre 𝓤 H A W 𝓣 E G54 G55 b18 Δ0 (Typed.pass T53 T55 (s53 bs)) (at1 bs) (Scalar.g-room 𝓤 H A W E G54 8 (Syntax.tyArray (Syntax.tyInt Syntax.w16) 768) (Init.room-arr 𝓤 H A W
-              (Referent.rtF (Referent.fInt Syntax.w16)) 768 0 768 Path'.refl)) d1
+          d2 : Typed.Typed 𝓤 H A 𝓣 E (on T53 l10) b18 Δ0 (at2 bs)
+          d2 = Typed.g-pre 𝓤 H A W 𝓣 E (on T53 l10) (on T55 l10) b18 Δ0 (Typed.pass T53 T55 (s53 bs)) (at1 bs) (Scalar.g-room 𝓤 H A W E (on T53 l10) 8 y2 (Init.room-arr 𝓤 H A W n16 768 0 768
+              Path'.refl)) d1
 
-          d3 : Typed.Typed 𝓤 H A 𝓣 E G53 b18 Δ0 (at3 bs)
-          d3 = Typed.g-pre 𝓤 H A W 𝓣 E G53 G54 b18 Δ0 (λ Ψ. Ψ) (at2 bs) (Lifetime.g-forget 𝓤 H A W E G53 6 Row.dead Path'.refl) d2
+          d3 : Typed.Typed 𝓤 H A 𝓣 E (on T53 l9) b18 Δ0 (at2 bs)
+          d3 = Typed.g-pre 𝓤 H A W 𝓣 E (on T53 l9) (on T53 l10) b18 Δ0 (λ Ψ. Ψ) (at2 bs) (Lifetime.g-forget 𝓤 H A W E (on T53 l9) 6 Row.dead Path'.refl) d2
 
-          d4 : Typed.Typed 𝓤 H A 𝓣 E G52 b18 Δ0 (at4 bs)
-          d4 = Typed.g-pre 𝓤 H A W 𝓣 E G52 G53 b18 Δ0 (Typed.pass T50 T53 (s51 bs)) (at3 bs) (Local.g-back-shr 𝓤 H A W E G52 8 6 (Rows.arrF (Referent.rtF (Referent.fInt Syntax.w16)) 768 0)
-              (Array'.Array (Referent.rtF (Referent.fInt Syntax.w16)) 768) (λ x. x) (λ x. x) (Reads'.as-is 𝓤 H A (Rows'.sc-shr (Rows.arrF (Referent.rtF (Referent.fInt Syntax.w16)) 768 0) (Array'.Array
-              (Referent.rtF (Referent.fInt Syntax.w16)) 768) (λ x. x) 6)) (Local.home-of 𝓤 H A (Rows.arrF (Referent.rtF (Referent.fInt Syntax.w16)) 768 0) (Array'.Array (Referent.rtF (Referent.fInt
-              Syntax.w16)) 768) (λ x. x) (λ x. x) (Whole.arr-mem 𝓤 H A W (Referent.rtF (Referent.fInt Syntax.w16)) 768 tt) λ x k. Path'.refl) Path'.refl) d3
+          d4 : Typed.Typed 𝓤 H A 𝓣 E (on T49 l9) b18 Δ0 (at4 bs)
+          d4 = Typed.g-pre 𝓤 H A W 𝓣 E (on T49 l9) (on T53 l9) b18 Δ0 (Typed.pass T49 T53 (s51 bs)) (at2 bs) (Local.g-back-shr 𝓤 H A W E (on T49 l9) 8 6 (Rows.arrF n16 768 0) (Array'.Array n16 768) (λ
+              x. x) (λ x. x) (Reads'.as-is 𝓤 H A (Rows'.sc-shr (Rows.arrF n16 768 0) (Array'.Array n16 768) (λ x. x) 6)) (Local.home-of 𝓤 H A (Rows.arrF n16 768 0) (Array'.Array n16 768) (λ x. x) (λ x. x)
+              (Whole.arr-mem 𝓤 H A W n16 768 tt) λ x k. Path'.refl) Path'.refl) d3
 
-          d5 : Typed.Typed 𝓤 H A 𝓣 E G51 b18 Δ0 (at5 bs)
-          d5 = Typed.g-pre 𝓤 H A W 𝓣 E G51 G52 b18 Δ0 (λ Ψ. Ψ) (at4 bs) (Lifetime.g-end 𝓤 H A W E G51 6 Path'.refl) d4
+          d5 : Typed.Typed 𝓤 H A 𝓣 E G51 b18 Δ0 (at4 bs)
+          d5 = Typed.g-pre 𝓤 H A W 𝓣 E G51 (on T49 l9) b18 Δ0 (λ Ψ. Ψ) (at4 bs) (Lifetime.g-end 𝓤 H A W E G51 6 Path'.refl) d4
 
-          d6 : Typed.Typed 𝓤 H A 𝓣 E G50 b18 Δ0 (at6 bs)
-          d6 = Typed.g-pre 𝓤 H A W 𝓣 E G50 G51 b18 Δ0 (λ Ψ. Ψ) (at5 bs) (Lifetime.g-forget 𝓤 H A W E G50 5 Row.dead Path'.refl) d5
+          d6 : Typed.Typed 𝓤 H A 𝓣 E (on T49 l8) b18 Δ0 (at4 bs)
+          d6 = Typed.g-pre 𝓤 H A W 𝓣 E (on T49 l8) G51 b18 Δ0 (λ Ψ. Ψ) (at4 bs) (Lifetime.g-forget 𝓤 H A W E (on T49 l8) 5 Row.dead Path'.refl) d5
 
-          d7 : Typed.Typed 𝓤 H A 𝓣 E G49 b18 Δ0 (at7 bs)
-          d7 = Typed.g-pre 𝓤 H A W 𝓣 E G49 G50 b18 Δ0 (Typed.give (s48 bs)) (at6 bs) (Know.g-sl-known 𝓤 H A W (Referent.fInt Syntax.w16) E G49 3 2 (Syntax.tyRef (Syntax.named 2) Syntax.mut
-              (Syntax.tyInt Syntax.w16)) (Row.lease (κs .1 .1 .0) (qs .1 .1 .0)) 0 (λ x. x) record { fits = Dec'.lit< tt } (Reads'.as-is 𝓤 H A (Mut.mslice (Referent.rtF (Referent.fInt Syntax.w16))
-              (Syntax.tyRef (Syntax.named 2) Syntax.mut (Syntax.tyInt Syntax.w16)) 2)) Path'.refl tt) d6
+          d7 : Typed.Typed 𝓤 H A 𝓣 E (on T49 l8) b18 Δ0 (at7 bs)
+          d7 = Typed.g-pre 𝓤 H A W 𝓣 E (on T49 l8) (on T49 l8) b18 Δ0 (Typed.give (s48 bs)) (at4 bs) (Know.g-sl-known 𝓤 H A W (Referent.fInt Syntax.w16) E (on T49 l8) 3 2 y7 k2 0 (λ x. x) record
+              { fits = Dec'.lit< tt } (Reads'.as-is 𝓤 H A (Mut.mslice n16 y7 2)) Path'.refl tt) d6
 
           d8 : Typed.Typed 𝓤 H A 𝓣 E G48 b18 Δ0 (at8 bs)
-          d8 = Typed.g-pre 𝓤 H A W 𝓣 E G48 G49 b18 Δ0 (Typed.both (s47 bs)) (at7 bs) (Relend.g-back-sl 𝓤 H A W E (Referent.rtF (Referent.fInt Syntax.w16)) G48 22 3 2 5 (Syntax.tyRef (Syntax.named 2)
-              Syntax.mut (Syntax.tyInt Syntax.w16)) (Syntax.tyRef Syntax.erased Syntax.mut (Syntax.tyInt Syntax.w16)) (Row.lease (κs .1 .1 .0) (qs .1 .1 .0)) (λ x. x) (λ x. x) (Reads'.as-is 𝓤 H A
-              (Mut.msleft (Referent.rtF (Referent.fInt Syntax.w16)) (Syntax.tyRef Syntax.erased Syntax.mut (Syntax.tyInt Syntax.w16)))) (Reads'.as-is 𝓤 H A (Relend.mslice-owed (Referent.rtF (Referent.fInt
-              Syntax.w16)) (Syntax.tyRef (Syntax.named 2) Syntax.mut (Syntax.tyInt Syntax.w16)) 2 5 (Row.lease (κs .1 .1 .0) (qs .1 .1 .0)))) Path'.refl Path'.refl) d7
+          d8 = Typed.g-pre 𝓤 H A W 𝓣 E G48 (on T49 l8) b18 Δ0 (Typed.both (s47 bs)) (at7 bs) (Relend.g-back-sl 𝓤 H A W E n16 G48 22 3 2 5 y7 y9 k2 (λ x. x) (λ x. x) (Reads'.as-is 𝓤 H A (Mut.msleft n16
+              y9)) (Reads'.as-is 𝓤 H A (Relend.mslice-owed n16 y7 2 5 k2)) Path'.refl Path'.refl) d7
 
-          d9 : Typed.Typed 𝓤 H A 𝓣 E G47 b18 Δ0 (at9 bs)
+          d9 : Typed.Typed 𝓤 H A 𝓣 E G47 b18 Δ0 (at8 bs)
           d9 = Typed.g-pre 𝓤 H A W 𝓣 E G47 G48 b18 Δ0 (λ Ψ. Ψ) (at8 bs) (Lifetime.g-end 𝓤 H A W E G47 5 Path'.refl) d8
 
           d10 : Typed.Typed 𝓤 H A 𝓣 E G46 b18 Δ0 (at10 bs)
-          d10 = Typed.g-pre 𝓤 H A W 𝓣 E G46 G47 b18 Δ0 (Typed.pass T45 T47 (s45 bs)) (at9 bs) (Scalar.g-room 𝓤 H A W E G46 10 (Syntax.tyArray (Element.held) 336) (Init.room-arr 𝓤 H A W (Element.type)
-              336 0 336 Path'.refl)) d9
+          d10 = Typed.g-pre 𝓤 H A W 𝓣 E G46 G47 b18 Δ0 (Typed.pass T45 T47 (s45 bs)) (at8 bs) (Scalar.g-room 𝓤 H A W E G46 10 y0 (Init.room-arr 𝓤 H A W (Element.type) 336 0 336 Path'.refl)) d9
 
-          d11 : Typed.Typed 𝓤 H A 𝓣 E G45 b18 Δ0 (at11 bs)
+          d11 : Typed.Typed 𝓤 H A 𝓣 E G45 b18 Δ0 (at10 bs)
           d11 = Typed.g-pre 𝓤 H A W 𝓣 E G45 G46 b18 Δ0 (λ Ψ. Ψ) (at10 bs) (Lifetime.g-forget 𝓤 H A W E G45 4 Row.dead Path'.refl) d10
 
           d12 : Typed.Typed 𝓤 H A 𝓣 E G44 b18 Δ0 (at12 bs)
-          d12 = Typed.g-pre 𝓤 H A W 𝓣 E G44 G45 b18 Δ0 (Typed.both (s43 bs)) (at11 bs) (Borrow.g-back-arr 𝓤 H A W E (Element.type) G44 20 10 4 336 (Syntax.tyRef Syntax.erased Syntax.mut
-              Element.behind) (λ x. x) (λ x. x) (Reads'.as-is 𝓤 H A (Mut.msleft (Element.type) (Syntax.tyRef Syntax.erased Syntax.mut Element.behind))) (Reads'.as-is 𝓤 H A (Rows.arr-owed (Element.type)
-              336 4)) Path'.refl) d11
+          d12 = Typed.g-pre 𝓤 H A W 𝓣 E G44 G45 b18 Δ0 (Typed.both (s43 bs)) (at10 bs) (Borrow.g-back-arr 𝓤 H A W E (Element.type) G44 20 10 4 336 y8 (λ x. x) (λ x. x) (Reads'.as-is 𝓤 H A (Mut.msleft
+              (Element.type) y8)) (Reads'.as-is 𝓤 H A (Rows.arr-owed (Element.type) 336 4)) Path'.refl) d11
 
-          d13 : Typed.Typed 𝓤 H A 𝓣 E G43 b18 Δ0 (at13 bs)
+          d13 : Typed.Typed 𝓤 H A 𝓣 E G43 b18 Δ0 (at12 bs)
           d13 = Typed.g-pre 𝓤 H A W 𝓣 E G43 G44 b18 Δ0 (λ Ψ. Ψ) (at12 bs) (Lifetime.g-end 𝓤 H A W E G43 4 Path'.refl) d12
 
           d14 : Typed.Typed 𝓤 H A 𝓣 E G42 b18 Δ0 (at14 bs)
-          d14 = Typed.g-pre 𝓤 H A W 𝓣 E G42 G43 b18 Δ0 (Typed.pass T41 T43 (s41 bs)) (at13 bs) (Scalar.g-room 𝓤 H A W E G42 9 (Syntax.tyArray (Syntax.tyInt Syntax.w16) 9252) (Init.room-arr 𝓤 H A W
-              (Referent.rtF (Referent.fInt Syntax.w16)) 9252 0 9252 Path'.refl)) d13
+          d14 = Typed.g-pre 𝓤 H A W 𝓣 E G42 G43 b18 Δ0 (Typed.pass T41 T43 (s41 bs)) (at12 bs) (Scalar.g-room 𝓤 H A W E G42 9 y3 (Init.room-arr 𝓤 H A W n16 9252 0 9252 Path'.refl)) d13
 
-          d15 : Typed.Typed 𝓤 H A 𝓣 E G41 b18 Δ0 (at15 bs)
+          d15 : Typed.Typed 𝓤 H A 𝓣 E G41 b18 Δ0 (at14 bs)
           d15 = Typed.g-pre 𝓤 H A W 𝓣 E G41 G42 b18 Δ0 (λ Ψ. Ψ) (at14 bs) (Lifetime.g-forget 𝓤 H A W E G41 3 Row.dead Path'.refl) d14
 
           d16 : Typed.Typed 𝓤 H A 𝓣 E G40 b18 Δ0 (at16 bs)
-          d16 = Typed.g-pre 𝓤 H A W 𝓣 E G40 G41 b18 Δ0 (Typed.both (s39 bs)) (at15 bs) (PartMut.g-back-arrᵐ 𝓤 H A W E (Referent.rtF (Referent.fInt Syntax.w16)) G40 18 9 3 9252 (Syntax.tyRef
-              Syntax.erased Syntax.mut (Syntax.tyInt Syntax.w16)) (λ x. x) (λ x. x) (Reads'.as-is 𝓤 H A (Mut.msleft (Referent.rtF (Referent.fInt Syntax.w16)) (Syntax.tyRef Syntax.erased Syntax.mut
-              (Syntax.tyInt Syntax.w16)))) (Reads'.as-is 𝓤 H A (Rows.arr-owedM (Referent.rtF (Referent.fInt Syntax.w16)) 9252 3)) Path'.refl) d15
+          d16 = Typed.g-pre 𝓤 H A W 𝓣 E G40 G41 b18 Δ0 (Typed.both (s39 bs)) (at14 bs) (PartMut.g-back-arrᵐ 𝓤 H A W E n16 G40 18 9 3 9252 y9 (λ x. x) (λ x. x) (Reads'.as-is 𝓤 H A (Mut.msleft n16 y9))
+              (Reads'.as-is 𝓤 H A (Rows.arr-owedM n16 9252 3)) Path'.refl) d15
 
-          d17 : Typed.Typed 𝓤 H A 𝓣 E G39 b18 Δ0 (at17 bs)
+          d17 : Typed.Typed 𝓤 H A 𝓣 E G39 b18 Δ0 (at16 bs)
           d17 = Typed.g-pre 𝓤 H A W 𝓣 E G39 G40 b18 Δ0 (λ Ψ. Ψ) (at16 bs) (Lifetime.g-end 𝓤 H A W E G39 3 Path'.refl) d16
 
           d18 : Typed.Typed 𝓤 H A 𝓣 E G38 b18 Δ0 (at18 bs)
-          d18 = Typed.g-pre 𝓤 H A W 𝓣 E G38 G39 b18 Δ0 (Typed.pass T38 T39 (s37 bs)) (at17 bs) (Scalar.g-room 𝓤 H A W E G38 24 y8 (Local.room-whole 𝓤 H A W (Declared'.row Entries.the-type) y8
+          d18 = Typed.g-pre 𝓤 H A W 𝓣 E G38 G39 b18 Δ0 (Typed.pass T38 T39 (s37 bs)) (at16 bs) (Scalar.g-room 𝓤 H A W E G38 24 y22 (Local.room-whole 𝓤 H A W (Declared'.row Entries.the-type) y22
               Path'.refl)) d17
 
           d19 : Typed.Typed 𝓤 H A 𝓣 E G37 b18 Δ0 (at19 bs)
-          d19 = Typed.g-pre 𝓤 H A W 𝓣 E G37 G38 b18 Δ0 (Typed.pass T37 T38 (s36 bs)) (at18 bs) (Scalar.g-room 𝓤 H A W E G37 11 (Syntax.tyInt Syntax.w64) (Scalar.room-sc 𝓤 H A W (Row.sInt Syntax.w64)))
-              d18
+          d19 = Typed.g-pre 𝓤 H A W 𝓣 E G37 G38 b18 Δ0 (Typed.pass T37 T38 (s36 bs)) (at18 bs) (Scalar.g-room 𝓤 H A W E G37 11 u64 (Scalar.room-sc 𝓤 H A W (Row.sInt Syntax.w64))) d18
 
           d20 : Typed.Typed 𝓤 H A 𝓣 E G36 b18 Δ0 (at20 bs)
-          d20 = Typed.g-pre 𝓤 H A W 𝓣 E G36 G37 b18 Δ0 (Typed.pass T36 T37 (s35 bs)) (at19 bs) (Scalar.g-room 𝓤 H A W E G36 6 y0 (Local.room-whole 𝓤 H A W (Declared'.row Part.the-type) y0 Path'.refl))
-              d19
+          d20 = Typed.g-pre 𝓤 H A W 𝓣 E G36 G37 b18 Δ0 (Typed.pass T36 T37 (s35 bs)) (at19 bs) (Scalar.g-room 𝓤 H A W E G36 6 y10 (Local.room-whole 𝓤 H A W (Declared'.row Part.the-type) y10
+              Path'.refl)) d19
 
           d21 : Typed.Typed 𝓤 H A 𝓣 E G35 b18 Δ0 (at21 bs)
-          d21 = Typed.g-pre 𝓤 H A W 𝓣 E G35 G36 b18 Δ0 (Typed.pass T35 T36 (s34 bs)) (at20 bs) (Scalar.g-room 𝓤 H A W E G35 5 (Syntax.tyArray (Syntax.tyInt Syntax.w8) 36) (Init.room-arr 𝓤 H A W
-              (Referent.rtF (Referent.fInt Syntax.w8)) 36 0 36 Path'.refl)) d20
+          d21 = Typed.g-pre 𝓤 H A W 𝓣 E G35 G36 b18 Δ0 (Typed.pass T35 T36 (s34 bs)) (at20 bs) (Scalar.g-room 𝓤 H A W E G35 5 y4 (Init.room-arr 𝓤 H A W n8 36 0 36 Path'.refl)) d20
 
           d22 : Typed.Typed 𝓤 H A 𝓣 E G34 b18 Δ0 (at22 bs)
-          d22 = Typed.g-pre 𝓤 H A W 𝓣 E G34 G35 b18 Δ0 (Typed.pass T34 T35 (s33 bs)) (at21 bs) (Scalar.g-room 𝓤 H A W E G34 4 y5 (Local.room-whole 𝓤 H A W (Declared'.row Form.the-type) y5 Path'.refl))
-              d21
+          d22 = Typed.g-pre 𝓤 H A W 𝓣 E G34 G35 b18 Δ0 (Typed.pass T34 T35 (s33 bs)) (at21 bs) (Scalar.g-room 𝓤 H A W E G34 4 y13 (Local.room-whole 𝓤 H A W (Declared'.row Form.the-type) y13
+              Path'.refl)) d21
 
           d23 : Typed.Typed 𝓤 H A 𝓣 E G33 b18 Δ0 (at23 bs)
-          d23 = Typed.g-pre 𝓤 H A W 𝓣 E G33 G34 b18 Δ0 (Typed.pass T33 T34 (s32 bs)) (at22 bs) (Local.g-drop-sref 𝓤 H A W E G33 23 6 (Array'.Array (Referent.rtF (Referent.fInt Syntax.w16)) 768)
-              (Syntax.tyRef Syntax.erased Syntax.imm (Syntax.tyArray (Syntax.tyInt Syntax.w16) 768)) (λ x. x) (Reads'.as-is 𝓤 H A (Rows'.sref (Array'.Array (Referent.rtF (Referent.fInt Syntax.w16)) 768)
-              (Syntax.tyRef Syntax.erased Syntax.imm (Syntax.tyArray (Syntax.tyInt Syntax.w16) 768)) 6))) d22
+          d23 = Typed.g-pre 𝓤 H A W 𝓣 E G33 G34 b18 Δ0 (Typed.pass T33 T34 (s32 bs)) (at22 bs) (Local.g-drop-sref 𝓤 H A W E G33 23 6 (Array'.Array n16 768) y14 (λ x. x) (Reads'.as-is 𝓤 H A (Rows'.sref
+              (Array'.Array n16 768) y14 6))) d22
 
-          d24 : Typed.Typed 𝓤 H A 𝓣 E G32 b19 Δ0 (at24 bs)
+          d24 : Typed.Typed 𝓤 H A 𝓣 E G32 (Syntax.seq b17 b18) Δ0 (at24 bs)
           d24 = Typed.s-seq 𝓤 H A W 𝓣 E G32 G33 b17 b18 Δ0 (Typed.both (s31 bs)) (at23 bs) (Plain.t-call-plain 𝓤 H A W 𝓣 6 ps·4 r·4 (claims· .8) (claims· .9) "block::reading::walk" (known .4) E (λ pos
               β. β) G32 (
-                record { pos = 1; ty = Syntax.tyRef (Syntax.named 0) Syntax.imm (Syntax.tyInt Syntax.w8); ref = λ x. x },
+                record { pos = 1; ty = y5; ref = λ x. x },
                 (
-                  record { pos = 2; ty = Syntax.tyRef (Syntax.named 1) Syntax.imm (Syntax.tyInt Syntax.w8); ref = λ x. x },
+                  record { pos = 2; ty = y6; ref = λ x. x },
                   (
-                    record { pos = 18; ty = Syntax.tyRef Syntax.erased Syntax.mut (Syntax.tyInt Syntax.w16); ref = λ x. x },
+                    record { pos = 18; ty = y9; ref = λ x. x },
                     (
-                      record { pos = 20; ty = Syntax.tyRef Syntax.erased Syntax.mut Element.behind; ref = λ x. x },
+                      record { pos = 20; ty = y8; ref = λ x. x },
                       (
-                        record { pos = 22; ty = Syntax.tyRef Syntax.erased Syntax.mut (Syntax.tyInt Syntax.w16); ref = λ x. x },
+                        record { pos = 22; ty = y9; ref = λ x. x },
                         (
-                          record { pos = 4; st = List.[]; d = 0; at = λ x. x },
+                          record { pos = 4; st = []; d = 0; at = λ x. x },
                           (
-                            record { pos = 23; ty = Syntax.tyRef Syntax.erased Syntax.imm (Syntax.tyArray (Syntax.tyInt Syntax.w16) 768); ref = λ x. x },
+                            record { pos = 23; ty = y14; ref = λ x. x },
                             (
-                              record { pos = 5; st = List.[]; d = 0; at = λ x. x },
-                              (record { pos = 6; st = List.[]; d = 0; at = λ x. x }, (Num.vAt 7 λ x. x, (Bool.bLit Bool'.false, (record { pos = 24; st = List.[]; d = 0; at = λ x. x }, tt)))),
+                              record { pos = 5; st = []; d = 0; at = λ x. x },
+                              (record { pos = 6; st = []; d = 0; at = λ x. x }, (Num.vAt 7 λ x. x, (Bool.bLit Bool'.false, (record { pos = 24; st = []; d = 0; at = λ x. x }, tt)))),
                             ),
                           ),
                         ),
@@ -1831,65 +1245,38 @@ module _ (claims· : Claims) where
                     ),
                   ),
                 ),
-              ) 0 (List._∷_ 0
-              (List._∷_ 1 (List._∷_ 3 (List._∷_ 4 (List._∷_ 5 (List._∷_ 6 List.[])))))) (Call.sub-id 𝓤 H A W (G32 .slots)) (
-                ShrSlice.spares-sslice 𝓤 H A W (Referent.rtF (Referent.fInt Syntax.w8)) (Syntax.tyRef (Syntax.named 0) Syntax.imm (Syntax.tyInt Syntax.w8)) 0,
-                Shared.reads-sslice 𝓤 H A W (Referent.rtF
-                    (Referent.fInt Syntax.w8)) (Syntax.tyRef (Syntax.named 0) Syntax.imm (Syntax.tyInt Syntax.w8)) 0,
+              ) 0 (0 ∷ 1 ∷ 3 ∷ 4 ∷ 5 ∷ 6 ∷ [])
+              (Call.sub-id 𝓤 H A W (G32 .slots)) (
+                ShrSlice.spares-sslice 𝓤 H A W n8 y5 0,
+                Shared.reads-sslice 𝓤 H A W n8 y5 0,
                 Path'.refl,
                 (
-                  ShrSlice.spares-sslice 𝓤 H A W (Referent.rtF (Referent.fInt Syntax.w8)) (Syntax.tyRef (Syntax.named 1) Syntax.imm (Syntax.tyInt Syntax.w8)) 1,
-                  Shared.reads-sslice 𝓤 H A W (Referent.rtF
-                      (Referent.fInt Syntax.w8)) (Syntax.tyRef (Syntax.named 1) Syntax.imm (Syntax.tyInt Syntax.w8)) 1,
+                  ShrSlice.spares-sslice 𝓤 H A W n8 y6 1,
+                  Shared.reads-sslice 𝓤 H A W n8 y6 1,
                   Path'.refl,
                   (
-                    Reads'.as-is 𝓤 H A (Mut.mslice (Referent.rtF (Referent.fInt Syntax.w16)) (Syntax.tyRef Syntax.erased Syntax.mut (Syntax.tyInt Syntax.w16)) 3),
-                    Mut.reads-mslice 𝓤 H A W (Referent.rtF
-                        (Referent.fInt Syntax.w16)) (Syntax.tyRef Syntax.erased Syntax.mut (Syntax.tyInt Syntax.w16)) 3,
+                    Reads'.as-is 𝓤 H A (Mut.mslice n16 y9 3),
+                    Mut.reads-mslice 𝓤 H A W n16 y9 3,
                     Path'.refl,
                     (
-                      Reads'.as-is 𝓤 H A (Mut.mslice (Element.type) (Syntax.tyRef Syntax.erased Syntax.mut Element.behind) 4),
-                      Mut.reads-mslice 𝓤 H A W (Element.type) (Syntax.tyRef Syntax.erased Syntax.mut
-                          Element.behind) 4,
+                      Reads'.as-is 𝓤 H A (Mut.mslice (Element.type) y8 4),
+                      Mut.reads-mslice 𝓤 H A W (Element.type) y8 4,
                       Path'.refl,
                       (
-                        Reads'.as-is 𝓤 H A (Mut.mslice (Referent.rtF (Referent.fInt Syntax.w16)) (Syntax.tyRef Syntax.erased Syntax.mut (Syntax.tyInt Syntax.w16)) 5),
-                        Mut.reads-mslice 𝓤 H A W (Referent.rtF
-                            (Referent.fInt Syntax.w16)) (Syntax.tyRef Syntax.erased Syntax.mut (Syntax.tyInt Syntax.w16)) 5,
+                        Reads'.as-is 𝓤 H A (Mut.mslice n16 y9 5),
+                        Mut.reads-mslice 𝓤 H A W n16 y9 5,
                         Path'.refl,
                         (
+                          (Values.struct-copied 𝓤 H A W Form.the-type Laws.the-laws Laws.the-copy, Path'.refl),
                           (
-                            Yields.yields-copy 𝓤 H A W (λ ρ. Unit) (Declared'.row Form.the-type) Path'.refl (Copies.cStruct Form.the-type Laws.the-laws Laws.the-copy .copy 𝓤 H A W) (Rows'.whole (Declared'.row
-                                Form.the-type)) (λ x. x) (λ x. x) (λ ρ told. Local.mem-whole 𝓤 H A W (Declared'.row Form.the-type) ρ) λ ρ told. Local.whole-mem 𝓤 H A W (Declared'.row Form.the-type) ρ,
-                            Path'.refl,
-                          ),
-                          (
-                            ShrRef.spares-sref 𝓤 H A W (Array'.Array (Referent.rtF (Referent.fInt Syntax.w16)) 768) (Syntax.tyRef Syntax.erased Syntax.imm (Syntax.tyArray (Syntax.tyInt Syntax.w16) 768)) 6,
-                            Reads'.reads-sref 𝓤 H A W (Array'.Array (Referent.rtF (Referent.fInt Syntax.w16)) 768) (Syntax.tyRef Syntax.erased Syntax.imm (Syntax.tyArray (Syntax.tyInt Syntax.w16) 768)) 6,
+                            ShrRef.spares-sref 𝓤 H A W (Array'.Array n16 768) y14 6,
+                            Reads'.reads-sref 𝓤 H A W (Array'.Array n16 768) y14 6,
                             Path'.refl,
                             (
                               (Array.arr-yields 𝓤 H A W (Array.eInt Syntax.w8) (Array.eInt-laws Syntax.w8) 36, Path'.refl),
                               (
-                                (
-                                  Yields.yields-copy 𝓤 H A W (λ ρ. Unit) (Declared'.row Part.the-type) Path'.refl (Copies.cStruct Part.the-type Laws'3.the-laws Laws'3.the-copy .copy 𝓤 H A W) (Rows'.whole (Declared'.row
-                                      Part.the-type)) (λ x. x) (λ x. x) (λ ρ told. Local.mem-whole 𝓤 H A W (Declared'.row Part.the-type) ρ) λ ρ told. Local.whole-mem 𝓤 H A W (Declared'.row Part.the-type) ρ,
-                                  Path'.refl,
-                                ),
-                                (
-                                  (Scalar.reads-sc 𝓤 H A W (Row.sInt Syntax.w64), Path'.refl),
-                                  (
-                                    tt,
-                                    (
-                                      (
-                                        Yields.yields-copy 𝓤 H A W (λ ρ. Unit) (Declared'.row Entries.the-type) Path'.refl (Copies.cStruct Entries.the-type Laws''.the-laws Laws''.the-copy .copy 𝓤 H A W) (Rows'.whole
-                                            (Declared'.row Entries.the-type)) (λ x. x) (λ x. x) (λ ρ told. Local.mem-whole 𝓤 H A W (Declared'.row Entries.the-type) ρ) λ ρ told. Local.whole-mem 𝓤 H A W (Declared'.row Entries.the-type)
-                                            ρ,
-                                        Path'.refl,
-                                      ),
-                                      tt,
-                                    ),
-                                  ),
-                                ),
+                                (Values.struct-copied 𝓤 H A W Part.the-type Laws'3.the-laws Laws'3.the-copy, Path'.refl),
+                                ((Scalar.reads-sc 𝓤 H A W (Row.sInt Syntax.w64), Path'.refl), (tt, ((Values.struct-copied 𝓤 H A W Entries.the-type Laws''.the-laws Laws''.the-copy, Path'.refl), tt))),
                               ),
                             ),
                           ),
@@ -1898,207 +1285,158 @@ module _ (claims· : Claims) where
                     ),
                   ),
                 ),
-              ) (Reads'.room-gone 𝓤 H A (Syntax.tyEnum (List._∷_ 98 (List._∷_ 108 (List._∷_ 111 (List._∷_ 99 (List._∷_ 107 (List._∷_ 58 (List._∷_ 58 (List._∷_ 87 (List._∷_ 97
-              (List._∷_ 108 (List._∷_ 107 (List._∷_ 101 (List._∷_ 100 List.[]))))))))))))) (Syntax.ttcons (Syntax.tcons y2 (Syntax.tcons y6 Syntax.tnil)) (Syntax.ttcons (Syntax.tcons (Syntax.tyInt
-              Syntax.w64) (Syntax.tcons y2 Syntax.tnil)) Syntax.ttnil)))) (tt, (tt, (tt, (tt, (tt, (tt, tt)))))) Path'.refl) d23
+              )
+              (Reads'.room-gone 𝓤 H A y21) (tt, (tt, (tt, (tt, (tt, (tt, tt)))))) Path'.refl) d23
 
-          d25 : Typed.Typed 𝓤 H A 𝓣 E G31 b20 Δ0 (at25 bs)
-          d25 = Typed.s-seq 𝓤 H A W 𝓣 E G31 G32 b16 b19 Δ0 (Typed.both (s30 bs)) (at24 bs) (Plain.t-call-plain 𝓤 H A W 𝓣 0 ps·3 r·3 (claims· .6) (claims· .7) "cameras::no_entries" (known .3) E (λ pos
-              β. β) G31 tt 24 List.[] (Call.sub-id 𝓤 H A W (G31 .slots)) tt (Reads'.room-gone 𝓤 H A y8) tt Path'.refl) d24
+          d25 : Typed.Typed 𝓤 H A 𝓣 E G31 (Syntax.seq b16 (Syntax.seq b17 b18)) Δ0 (at25 bs)
+          d25 = Typed.s-seq 𝓤 H A W 𝓣 E G31 G32 b16 (Syntax.seq b17 b18) Δ0 (Typed.both (s30 bs)) (at24 bs) (Plain.t-call-plain 𝓤 H A W 𝓣 0 ps·3 r·3 (claims· .6) (claims· .7) "cameras::no_entries"
+              (known .3) E (λ pos β. β) G31 tt 24 [] (Call.sub-id 𝓤 H A W (G31 .slots)) tt (Reads'.room-gone 𝓤 H A y22) tt Path'.refl) d24
 
           d26 : Typed.Typed 𝓤 H A 𝓣 E G30 b21 Δ0 (at26 bs)
-          d26 = Typed.s-seq 𝓤 H A W 𝓣 E G30 G31 b15 b20 Δ0 (Typed.give (s29 bs)) (at25 bs) (Local.t-sc-share 𝓤 H A W E 𝓣 G30 8 23 6 (Array'.Array (Referent.rtF (Referent.fInt Syntax.w16)) 768)
-              (Syntax.tyRef Syntax.erased Syntax.imm (Syntax.tyArray (Syntax.tyInt Syntax.w16) 768)) (λ x. x) (Whole.mem-arr 𝓤 H A W (Referent.rtF (Referent.fInt Syntax.w16)) 768) (Reads'.room-gone 𝓤 H A
-              (Syntax.tyRef Syntax.erased Syntax.imm (Syntax.tyArray (Syntax.tyInt Syntax.w16) 768))) Path'.refl λ b o. tt) d25
+          d26 = Typed.s-seq 𝓤 H A W 𝓣 E G30 G31 b15 (Syntax.seq b16 (Syntax.seq b17 b18)) Δ0 (Typed.give (s29 bs)) (at25 bs) (Local.t-sc-share 𝓤 H A W E 𝓣 G30 8 23 6 (Array'.Array n16 768) y14 (λ x.
+              x) (Whole.mem-arr 𝓤 H A W n16 768) (Reads'.room-gone 𝓤 H A y14) Path'.refl λ b o. tt) d25
 
-          d27 : Typed.Typed 𝓤 H A 𝓣 E G29 b21 Δ0 (at27 bs)
+          d27 : Typed.Typed 𝓤 H A 𝓣 E G29 b21 Δ0 (at26 bs)
           d27 = Typed.g-pre 𝓤 H A W 𝓣 E G29 G30 b21 Δ0 (λ Ψ. Ψ) (at26 bs) (Lifetime.g-begin 𝓤 H A W E G29 6
               (tt, (tt, (tt, ((tt, tt), (tt, (tt, (tt, (tt, (tt, (tt, (tt, (tt, (tt, (tt, (tt, (tt, (tt, (tt, (tt, (tt, (tt, (tt, (tt, (tt, (tt, tt)))))))))))))))))))))))))) d26
 
-          d28 : Typed.Typed 𝓤 H A 𝓣 E G28 b22 Δ0 (at28 bs)
-          d28 = Typed.s-seq 𝓤 H A W 𝓣 E G28 G29 b14 b21 Δ0 (Typed.ask (s27 bs)) (at27 bs) (Relend.t-sl-aggregate 𝓤 H A W E (Referent.rtF (Referent.fInt Syntax.w16)) 𝓣 (Relend.asMut (Referent.rtF
-              (Referent.fInt Syntax.w16))) G28 21 22 5 (Syntax.tyRef Syntax.erased Syntax.mut (Syntax.tyInt Syntax.w16)) (Syntax.tyRef Syntax.erased Syntax.mut (Syntax.tyInt Syntax.w16)) (λ x. x)
-              (Scalar.oFld 3 (List._∷_ (Syntax.field 1) List.[]) (Syntax.tyInt Syntax.w64) 8 λ v. Shared.lenV (v .0)) (Reads'.as-is 𝓤 H A (Relend.msptr (Referent.rtF (Referent.fInt Syntax.w16))
-              (Syntax.tyRef Syntax.erased Syntax.mut (Syntax.tyInt Syntax.w16)) 5)) (Reads'.room-gone 𝓤 H A y3) (
-                Relend.reads-owed-len 𝓤 H A W (Referent.rtF (Referent.fInt Syntax.w16)) (Syntax.tyRef (Syntax.named 2) Syntax.mut (Syntax.tyInt Syntax.w16)) 2 5 (Row.lease (κs .1 .1 .0) (qs .1 .1 .0)) 8
-                    Path'.refl,
-                Path'.refl,
-              ) Path'.refl Path'.refl λ b o k. tt) d27
+          d28 : Typed.Typed 𝓤 H A 𝓣 E G28 (Syntax.seq b14 b21) Δ0 (at28 bs)
+          d28 = Typed.s-seq 𝓤 H A W 𝓣 E G28 G29 b14 b21 Δ0 (Typed.ask (s27 bs)) (at26 bs) (Relend.t-sl-aggregate 𝓤 H A W E n16 𝓣 (Relend.asMut n16) G28 21 22 5 y9 y9 (λ x. x) (Scalar.oFld 3
+              ((Syntax.field 1) ∷ []) u64 8 λ v. Shared.lenV (v .0)) (Reads'.as-is 𝓤 H A (Relend.msptr n16 y9 5)) (Reads'.room-gone 𝓤 H A y18)
+              (Relend.reads-owed-len 𝓤 H A W n16 y7 2 5 k2 8 Path'.refl, Path'.refl) Path'.refl Path'.refl λ b o k. tt) d27
 
-          d29 : Typed.Typed 𝓤 H A 𝓣 E G27 b23 Δ0 (at29 bs)
-          d29 = Typed.s-seq 𝓤 H A W 𝓣 E G27 G28 b13 b22 Δ0 (Typed.give (s26 bs)) (at28 bs) (Relend.t-sl-relend 𝓤 H A W E (Referent.rtF (Referent.fInt Syntax.w16)) 𝓣 G27 3 21 2 5 (Syntax.tyRef
-              (Syntax.named 2) Syntax.mut (Syntax.tyInt Syntax.w16)) (Syntax.tyRef Syntax.erased Syntax.mut (Syntax.tyInt Syntax.w16)) (Row.lease (κs .1 .1 .0) (qs .1 .1 .0)) 0 (λ x. x) (Reads'.as-is 𝓤 H
-              A (Mut.mslice (Referent.rtF (Referent.fInt Syntax.w16)) (Syntax.tyRef (Syntax.named 2) Syntax.mut (Syntax.tyInt Syntax.w16)) 2)) (Reads'.room-gone 𝓤 H A (Syntax.tyRef Syntax.erased
-              Syntax.mut (Syntax.tyInt Syntax.w16))) Path'.refl tt Path'.refl Path'.refl Path'.refl λ b o. tt) d28
+          d29 : Typed.Typed 𝓤 H A 𝓣 E G27 (Syntax.seq b13 (Syntax.seq b14 b21)) Δ0 (at29 bs)
+          d29 = Typed.s-seq 𝓤 H A W 𝓣 E G27 G28 b13 (Syntax.seq b14 b21) Δ0 (Typed.give (s26 bs)) (at28 bs) (Relend.t-sl-relend 𝓤 H A W E n16 𝓣 G27 3 21 2 5 y7 y9 k2 0 (λ x. x) (Reads'.as-is 𝓤 H A
+              (Mut.mslice n16 y7 2)) (Reads'.room-gone 𝓤 H A y9) Path'.refl tt Path'.refl Path'.refl Path'.refl λ b o. tt) d28
 
-          d30 : Typed.Typed 𝓤 H A 𝓣 E G26 b23 Δ0 (at30 bs)
-          d30 = Typed.g-pre 𝓤 H A W 𝓣 E G26 G27 b23 Δ0 (λ Ψ. Ψ) (at29 bs) (Lifetime.g-begin 𝓤 H A W E G26 5
+          d30 : Typed.Typed 𝓤 H A 𝓣 E (on T26 l6) (Syntax.seq b13 (Syntax.seq b14 b21)) Δ0 (at29 bs)
+          d30 = Typed.g-pre 𝓤 H A W 𝓣 E (on T26 l6) G27 (Syntax.seq b13 (Syntax.seq b14 b21)) Δ0 (λ Ψ. Ψ) (at29 bs) (Lifetime.g-begin 𝓤 H A W E (on T26 l6) 5
               (tt, (tt, (tt, (tt, (tt, (tt, (tt, (tt, (tt, (tt, (tt, (tt, (tt, (tt, (tt, (tt, (tt, (tt, (tt, (tt, (tt, (tt, (tt, (tt, (tt, tt)))))))))))))))))))))))))) d29
 
-          d31 : Typed.Typed 𝓤 H A 𝓣 E G25 b24 Δ0 (at31 bs)
-          d31 = Typed.s-seq 𝓤 H A W 𝓣 E G25 G26 b12 b23 Δ0 (Typed.ask (s24 bs)) (at30 bs) (Relend.t-sl-aggregate 𝓤 H A W E (Element.type) 𝓣 (Relend.asMut (Element.type)) G25 19 20 4 (Syntax.tyRef
-              Syntax.erased Syntax.mut (Syntax.tyArray Element.behind 336)) (Syntax.tyRef Syntax.erased Syntax.mut Element.behind) (λ x. x) (Scalar.oInt Syntax.w64 336) (Reads'.as-is 𝓤 H A (Relend.msptr
-              (Element.type) (Syntax.tyRef Syntax.erased Syntax.mut (Syntax.tyArray Element.behind 336)) 4)) (Reads'.room-gone 𝓤 H A y4) tt Path'.refl Path'.refl λ b o k. tt) d30
+          d31 : Typed.Typed 𝓤 H A 𝓣 E (on T25 l6) b24 Δ0 (at31 bs)
+          d31 = Typed.s-seq 𝓤 H A W 𝓣 E (on T25 l6) (on T26 l6) b12 (Syntax.seq b13 (Syntax.seq b14 b21)) Δ0 (Typed.ask (s24 bs)) (at29 bs) (Relend.t-sl-aggregate 𝓤 H A W E (Element.type) 𝓣
+              (Relend.asMut (Element.type)) (on T25 l6) 19 20 4 y15 y8 (λ x. x) (Scalar.oInt Syntax.w64 336) (Reads'.as-is 𝓤 H A (Relend.msptr (Element.type) y15 4)) (Reads'.room-gone 𝓤 H A y17) tt
+              Path'.refl Path'.refl λ b o k. tt) d30
 
-          d32 : Typed.Typed 𝓤 H A 𝓣 E G24 b25 Δ0 (at32 bs)
-          d32 = Typed.s-seq 𝓤 H A W 𝓣 E G24 G25 b11 b24 Δ0 (Typed.give (s23 bs)) (at31 bs) (Borrow.t-arr-borrow 𝓤 H A W E 𝓣 (Element.type) G24 10 19 336 4 (Syntax.tyRef Syntax.erased Syntax.mut
-              (Syntax.tyArray Element.behind 336)) (λ x. x) (Reads'.as-is 𝓤 H A (Rows.arrF (Element.type) 336 0)) (Reads'.room-gone 𝓤 H A (Syntax.tyRef Syntax.erased Syntax.mut (Syntax.tyArray
-              Element.behind 336))) Path'.refl (λ b o. tt) (Dec'.lit< tt, Dec'.lit< tt)) d31
+          d32 : Typed.Typed 𝓤 H A 𝓣 E (on T23 l6) b25 Δ0 (at32 bs)
+          d32 = Typed.s-seq 𝓤 H A W 𝓣 E (on T23 l6) (on T25 l6) b11 b24 Δ0 (Typed.give (s23 bs)) (at31 bs) (Borrow.t-arr-borrow 𝓤 H A W E 𝓣 (Element.type) (on T23 l6) 10 19 336 4 y15 (λ x. x)
+              (Reads'.as-is 𝓤 H A (Rows.arrF (Element.type) 336 0)) (Reads'.room-gone 𝓤 H A y15) Path'.refl (λ b o. tt) (Dec'.lit< tt, Dec'.lit< tt)) d31
 
-          d33 : Typed.Typed 𝓤 H A 𝓣 E G23 b25 Δ0 (at33 bs)
-          d33 = Typed.g-pre 𝓤 H A W 𝓣 E G23 G24 b25 Δ0 (λ Ψ. Ψ) (at32 bs) (Lifetime.g-begin 𝓤 H A W E G23 4
+          d33 : Typed.Typed 𝓤 H A 𝓣 E (on T23 l7) b25 Δ0 (at32 bs)
+          d33 = Typed.g-pre 𝓤 H A W 𝓣 E (on T23 l7) (on T23 l6) b25 Δ0 (λ Ψ. Ψ) (at32 bs) (Lifetime.g-begin 𝓤 H A W E (on T23 l7) 4
               (tt, (tt, (tt, (tt, (tt, (tt, (tt, (tt, (tt, (tt, (tt, (tt, (tt, (tt, (tt, (tt, (tt, (tt, (tt, (tt, (tt, (tt, (tt, (tt, (tt, tt)))))))))))))))))))))))))) d32
 
-          d34 : Typed.Typed 𝓤 H A 𝓣 E G22 b25 Δ0 (at34 bs)
-          d34 = Typed.g-pre 𝓤 H A W 𝓣 E G22 G23 b25 Δ0 (Typed.pass T22 T23 (s21 bs)) (at33 bs) (Scalar.g-room 𝓤 H A W E G22 16 (Syntax.tyInt Syntax.w64) (Scalar.room-sc 𝓤 H A W (Row.sInt Syntax.w64)))
-              d33
+          d34 : Typed.Typed 𝓤 H A 𝓣 E (on T22 l7) b25 Δ0 (at34 bs)
+          d34 = Typed.g-pre 𝓤 H A W 𝓣 E (on T22 l7) (on T23 l7) b25 Δ0 (Typed.pass T22 T23 (s21 bs)) (at32 bs) (Scalar.g-room 𝓤 H A W E (on T22 l7) 16 u64 (Scalar.room-sc 𝓤 H A W (Row.sInt
+              Syntax.w64))) d33
 
-          d35 : Typed.Typed 𝓤 H A 𝓣 E G21 b26 Δ0 (at35 bs)
-          d35 = Typed.s-seq 𝓤 H A W 𝓣 E G21 G22 b10 b25 Δ0 (Typed.ask (s20 bs)) (at34 bs) (Relend.t-sl-aggregate 𝓤 H A W E (Referent.rtF (Referent.fInt Syntax.w16)) 𝓣 (Relend.asMut (Referent.rtF
-              (Referent.fInt Syntax.w16))) G21 17 18 3 (Syntax.tyRef Syntax.erased Syntax.mut (Syntax.tyInt Syntax.w16)) (Syntax.tyRef Syntax.erased Syntax.mut (Syntax.tyInt Syntax.w16)) (λ x. x)
-              (Scalar.oAt 16 (Syntax.tyInt Syntax.w64) (Row.valS (Row.sInt Syntax.w64))) (Reads'.as-is 𝓤 H A (Relend.msptr (Referent.rtF (Referent.fInt Syntax.w16)) (Syntax.tyRef Syntax.erased Syntax.mut
-              (Syntax.tyInt Syntax.w16)) 3)) (Reads'.room-gone 𝓤 H A y3) (Scalar.reads-sc 𝓤 H A W (Row.sInt Syntax.w64), Path'.refl) Path'.refl Path'.refl λ b o k. tt) d34
+          d35 : Typed.Typed 𝓤 H A 𝓣 E (on T21 l7) (Syntax.seq b10 b25) Δ0 (at35 bs)
+          d35 = Typed.s-seq 𝓤 H A W 𝓣 E (on T21 l7) (on T22 l7) b10 b25 Δ0 (Typed.ask (s20 bs)) (at34 bs) (Relend.t-sl-aggregate 𝓤 H A W E n16 𝓣 (Relend.asMut n16) (on T21 l7) 17 18 3 y9 y9 (λ x. x)
+              (Scalar.oAt 16 u64 (Row.valS (Row.sInt Syntax.w64))) (Reads'.as-is 𝓤 H A (Relend.msptr n16 y9 3)) (Reads'.room-gone 𝓤 H A y18) (Scalar.reads-sc 𝓤 H A W (Row.sInt Syntax.w64), Path'.refl)
+              Path'.refl Path'.refl λ b o k. tt) d34
 
-          d36 : Typed.Typed 𝓤 H A 𝓣 E G20 b26 Δ0 (at36 bs)
-          d36 = Typed.g-pre 𝓤 H A W 𝓣 E G20 G21 b26 Δ0 (Typed.pass T20 T21 (s19 bs)) (at35 bs) (Scalar.g-room 𝓤 H A W E G20 15 Syntax.tyPtr (Scalar.room-sc 𝓤 H A W Row.sPtr)) d35
+          d36 : Typed.Typed 𝓤 H A 𝓣 E (on T20 l7) (Syntax.seq b10 b25) Δ0 (at36 bs)
+          d36 = Typed.g-pre 𝓤 H A W 𝓣 E (on T20 l7) (on T21 l7) (Syntax.seq b10 b25) Δ0 (Typed.pass T20 T21 (s19 bs)) (at35 bs) (Scalar.g-room 𝓤 H A W E (on T20 l7) 15 Syntax.tyPtr (Scalar.room-sc 𝓤 H
+              A W Row.sPtr)) d35
 
-          d37 : Typed.Typed 𝓤 H A 𝓣 E G19 b27 Δ0 (at37 bs)
-          d37 = Typed.s-seq 𝓤 H A W 𝓣 E G19 G20 b9 b26 Δ0 (Typed.both (s18 bs)) (at36 bs) (PartMut.t-arr-borrowᵐ 𝓤 H A W E 𝓣 (Referent.rtF (Referent.fInt Syntax.w16)) G19 9 15 17 9252 3 (Syntax.tyInt
-              Syntax.w16) (Syntax.tyRef Syntax.erased Syntax.mut (Syntax.tyInt Syntax.w16)) (Shared.bySize 2) (λ x. x) (λ x. x) (λ u. 0) (λ u. u .1 .1 .1 .1 .1 .1 .1 .1 .1 .1 .1 .0) (λ i o.
-              Elements.at-mul o 2 i) (Reads'.as-is 𝓤 H A (Rows.arrF (Referent.rtF (Referent.fInt Syntax.w16)) 9252 0)) (Reads'.as-is 𝓤 H A (Rows'.sc-here Row.sPtr)) (Reads'.room-gone 𝓤 H A (Syntax.tyRef
-              Syntax.erased Syntax.mut (Syntax.tyInt Syntax.w16))) Path'.refl Path'.refl (λ b o. tt) (Dec'.lit< tt, Dec'.lit< tt)) d36
+          d37 : Typed.Typed 𝓤 H A 𝓣 E (on T18 l7) (Syntax.seq b9 (Syntax.seq b10 b25)) Δ0 (at37 bs)
+          d37 = Typed.s-seq 𝓤 H A W 𝓣 E (on T18 l7) (on T20 l7) b9 (Syntax.seq b10 b25) Δ0 (Typed.both (s18 bs)) (at36 bs) (PartMut.t-arr-borrowᵐ 𝓤 H A W E 𝓣 n16 (on T18 l7) 9 15 17 9252 3 u16 y9
+              (Shared.bySize 2) (λ x. x) (λ x. x) (λ u. 0) (λ u. u .1 .1 .1 .1 .1 .1 .1 .1 .1 .1 .1 .0) (λ i o. Elements.at-mul o 2 i) (Reads'.as-is 𝓤 H A (Rows.arrF n16 9252 0)) (Reads'.as-is 𝓤 H A
+              (Rows'.sc-here Row.sPtr)) (Reads'.room-gone 𝓤 H A y9) Path'.refl Path'.refl (λ b o. tt) (Dec'.lit< tt, Dec'.lit< tt)) d36
 
-          d38 : Typed.Typed 𝓤 H A 𝓣 E G18 b27 Δ0 (at38 bs)
-          d38 = Typed.g-pre 𝓤 H A W 𝓣 E G18 G19 b27 Δ0 (λ Ψ. Ψ) (at37 bs) (Lifetime.g-begin 𝓤 H A W E G18 3
+          d38 : Typed.Typed 𝓤 H A 𝓣 E (on T18 l10) (Syntax.seq b9 (Syntax.seq b10 b25)) Δ0 (at37 bs)
+          d38 = Typed.g-pre 𝓤 H A W 𝓣 E (on T18 l10) (on T18 l7) (Syntax.seq b9 (Syntax.seq b10 b25)) Δ0 (λ Ψ. Ψ) (at37 bs) (Lifetime.g-begin 𝓤 H A W E (on T18 l10) 3
               (tt, (tt, (tt, (tt, (tt, (tt, (tt, (tt, (tt, (tt, (tt, (tt, (tt, (tt, (tt, (tt, (tt, (tt, (tt, (tt, (tt, (tt, (tt, (tt, (tt, tt)))))))))))))))))))))))))) d37
 
-          d39 : Typed.Typed 𝓤 H A 𝓣 E G17 b28 Δ0 (at39 bs)
-          d39 = Typed.s-seq 𝓤 H A W 𝓣 E G17 G18 b8 b27 Δ0 (Typed.ask (s16 bs)) (at38 bs) (Scalar.t-op2 𝓤 H A W E 𝓣 G17 (Syntax.sub Syntax.unsigned) (Scalar.oAt 11 (Syntax.tyInt Syntax.w64) (Row.valS
-              (Row.sInt Syntax.w64))) (Scalar.oInt Syntax.w64 0) 16 (Rows'.sc-here (Row.sInt Syntax.w64)) (Syntax.tyInt Syntax.w64) (Row.valS (Row.sInt Syntax.w64)) (Row.sInt Syntax.w64 .of)
-              (Scalar.reads-sc 𝓤 H A W (Row.sInt Syntax.w64), Path'.refl) tt (Reads'.room-gone 𝓤 H A (Syntax.tyInt Syntax.w64)) (Scalar.holds-sc 𝓤 H A W (Row.sInt Syntax.w64)) Path'.refl (λ u. Path'.refl)
-              λ u. tt) d38
+          d39 : Typed.Typed 𝓤 H A 𝓣 E (on T17 l10) b28 Δ0 (at39 bs)
+          d39 = Typed.s-seq 𝓤 H A W 𝓣 E (on T17 l10) (on T18 l10) b8 (Syntax.seq b9 (Syntax.seq b10 b25)) Δ0 (Typed.ask (s16 bs)) (at37 bs) (Scalar.t-op2 𝓤 H A W E 𝓣 (on T17 l10) (Syntax.sub
+              Syntax.unsigned) (Scalar.oAt 11 u64 (Row.valS (Row.sInt Syntax.w64))) (Scalar.oInt Syntax.w64 0) 16 (Rows'.sc-here (Row.sInt Syntax.w64)) u64 (Row.valS (Row.sInt Syntax.w64)) (Row.sInt
+              Syntax.w64 .of) (Scalar.reads-sc 𝓤 H A W (Row.sInt Syntax.w64), Path'.refl) tt (Reads'.room-gone 𝓤 H A u64) (Scalar.holds-sc 𝓤 H A W (Row.sInt Syntax.w64)) Path'.refl (λ u. Path'.refl) λ u.
+              tt) d38
 
-          d40 : Typed.Typed 𝓤 H A 𝓣 E G16 b28 Δ0 (at40 bs)
-          d40 = Typed.g-pre 𝓤 H A W 𝓣 E G16 G17 b28 Δ0 (Typed.pass T16 T17 (s15 bs)) (at39 bs) (Scalar.g-room 𝓤 H A W E G16 14 Syntax.tyPtr (Scalar.room-sc 𝓤 H A W Row.sPtr)) d39
+          d40 : Typed.Typed 𝓤 H A 𝓣 E (on T16 l10) b28 Δ0 (at40 bs)
+          d40 = Typed.g-pre 𝓤 H A W 𝓣 E (on T16 l10) (on T17 l10) b28 Δ0 (Typed.pass T16 T17 (s15 bs)) (at39 bs) (Scalar.g-room 𝓤 H A W E (on T16 l10) 14 Syntax.tyPtr (Scalar.room-sc 𝓤 H A W
+              Row.sPtr)) d39
 
-          d41 : Typed.Typed 𝓤 H A 𝓣 E G15 b29 Δ0 (at41 bs)
-          d41 = Typed.s-seq 𝓤 H A W 𝓣 E G15 G16 b7 b28 Δ0 (Typed.ask (s14 bs)) (at40 bs) (Scalar.t-op2 𝓤 H A W E 𝓣 G15 Syntax.offset (Scalar.oAt 14 Syntax.tyPtr (Row.valS Row.sPtr)) (Scalar.oInt
-              Syntax.w64 0) 15 (Rows'.sc-here Row.sPtr) Syntax.tyPtr (Row.valS Row.sPtr) (Row.sPtr .of) (Scalar.reads-sc 𝓤 H A W Row.sPtr, Path'.refl) tt (Reads'.room-gone 𝓤 H A Syntax.tyPtr)
-              (Scalar.holds-sc 𝓤 H A W Row.sPtr) Path'.refl (λ u. Path'.refl) λ u. tt) d40
+          d41 : Typed.Typed 𝓤 H A 𝓣 E (on T15 l10) (Syntax.seq b7 b28) Δ0 (at41 bs)
+          d41 = Typed.s-seq 𝓤 H A W 𝓣 E (on T15 l10) (on T16 l10) b7 b28 Δ0 (Typed.ask (s14 bs)) (at40 bs) (Scalar.t-op2 𝓤 H A W E 𝓣 (on T15 l10) Syntax.offset (Scalar.oAt 14 Syntax.tyPtr (Row.valS
+              Row.sPtr)) (Scalar.oInt Syntax.w64 0) 15 (Rows'.sc-here Row.sPtr) Syntax.tyPtr (Row.valS Row.sPtr) (Row.sPtr .of) (Scalar.reads-sc 𝓤 H A W Row.sPtr, Path'.refl) tt (Reads'.room-gone 𝓤 H A
+              Syntax.tyPtr) (Scalar.holds-sc 𝓤 H A W Row.sPtr) Path'.refl (λ u. Path'.refl) λ u. tt) d40
 
-          d42 : Typed.Typed 𝓤 H A 𝓣 E G14 b30 Δ0 (at42 bs)
-          d42 = Typed.s-seq 𝓤 H A W 𝓣 E G14 G15 b6 b29 Δ0 (Typed.pass T14 T15 (s13 bs)) (at41 bs) (Init.t-addr 𝓤 H A W E 𝓣 G14 14 9 (Reads'.room-gone 𝓤 H A Syntax.tyPtr) Path'.refl) d41
+          d42 : Typed.Typed 𝓤 H A 𝓣 E (on T14 l10) (Syntax.seq b6 (Syntax.seq b7 b28)) Δ0 (at42 bs)
+          d42 = Typed.s-seq 𝓤 H A W 𝓣 E (on T14 l10) (on T15 l10) b6 (Syntax.seq b7 b28) Δ0 (Typed.pass T14 T15 (s13 bs)) (at41 bs) (Init.t-addr 𝓤 H A W E 𝓣 (on T14 l10) 14 9 (Reads'.room-gone 𝓤 H A
+              Syntax.tyPtr) Path'.refl) d41
 
-          d43 : Typed.Typed 𝓤 H A 𝓣 E G13 b31 Δ0 (at43 bs)
-          d43 = Typed.s-seq 𝓤 H A W 𝓣 E G13 G14 b5 b30 Δ0 (Typed.both (s12 bs)) (at42 bs) (Plain.t-call-plain 𝓤 H A W 𝓣 0 ps·2 r·2 (claims· .4) (claims· .5) "begin::samples_needed" (known .2) E (λ pos
-              β. β) G13 (Bool.bFld 4 (List._∷_ (Syntax.field 1) List.[]) 4 λ x. Form.struct .as-values x .1 .0, tt) 11 List.[] (Call.sub-id 𝓤 H A W (G13 .slots))
-              ((Reads.reads-field 𝓤 H A W Form.the-type Laws.the-laws 1 Syntax.tyBool 4 Path'.refl, Path'.refl), tt) (Reads'.room-gone 𝓤 H A (Syntax.tyInt Syntax.w64)) tt Path'.refl) d42
+          d43 : Typed.Typed 𝓤 H A 𝓣 E (on T13 l10) b31 Δ0 (at43 bs)
+          d43 = Typed.s-seq 𝓤 H A W 𝓣 E (on T13 l10) (on T14 l10) b5 (Syntax.seq b6 (Syntax.seq b7 b28)) Δ0 (Typed.both (s12 bs)) (at42 bs) (Plain.t-call-plain 𝓤 H A W 𝓣 0 ps·2 r·2 (claims· .4)
+              (claims· .5) "begin::samples_needed" (known .2) E (λ pos β. β) (on T13 l10) (Bool.bFld 4 ((Syntax.field 1) ∷ []) 4 λ x. Form.struct .as-values x .1 .0, tt) 11 [] (Call.sub-id 𝓤 H A W ((on
+              T13 l10) .slots)) ((Reads.reads-field 𝓤 H A W Form.the-type Laws.the-laws 1 Syntax.tyBool 4 Path'.refl, Path'.refl), tt) (Reads'.room-gone 𝓤 H A u64) tt Path'.refl) d42
 
-          d44 : Typed.Typed 𝓤 H A 𝓣 E G12 b31 Δ0 (at44 bs)
-          d44 = Typed.g-pre 𝓤 H A W 𝓣 E G12 G13 b31 Δ0 (Typed.pass T12 T13 (s11 bs)) (at43 bs) (Scalar.g-room 𝓤 H A W E G12 13 (Element.held) (Element.room 𝓤 H A W)) d43
+          d44 : Typed.Typed 𝓤 H A 𝓣 E (on T12 l10) b31 Δ0 (at44 bs)
+          d44 = Typed.g-pre 𝓤 H A W 𝓣 E (on T12 l10) (on T13 l10) b31 Δ0 (Typed.pass T12 T13 (s11 bs)) (at43 bs) (Scalar.g-room 𝓤 H A W E (on T12 l10) 13 (Element.held) (Element.room 𝓤 H A W)) d43
 
-          d45 : Typed.Typed 𝓤 H A 𝓣 E G11 b31 Δ0 (at45 bs)
-          d45 = Typed.g-pre 𝓤 H A W 𝓣 E G11 G12 b31 Δ0 (Typed.pass T11 T12 (s10 bs)) (at44 bs) (AtSlots.g-as-by 𝓤 H A W E (λ ρ. Unit) G11 10 (Rows.arrF (Element.type) 336 0) (λ x. x) (Own.told-none 𝓤
-              H A (G11 .slots)) λ ρ told. Repeat.whole-arr 𝓤 H A W (Element.type) 336 tt ρ) d44
+          d45 : Typed.Typed 𝓤 H A 𝓣 E (on T11 l10) b31 Δ0 (at45 bs)
+          d45 = Typed.g-pre 𝓤 H A W 𝓣 E (on T11 l10) (on T12 l10) b31 Δ0 (Typed.pass T11 T12 (s10 bs)) (at44 bs) (AtSlots.g-as-by 𝓤 H A W E (λ ρ. Unit) (on T11 l10) 10 (Rows.arrF (Element.type) 336 0)
+              (λ x. x) (Own.told-none 𝓤 H A ((on T11 l10) .slots)) λ ρ told. Repeat.whole-arr 𝓤 H A W (Element.type) 336 tt ρ) d44
 
-          d46 : Typed.Typed 𝓤 H A 𝓣 E G10 b32 Δ0 (at46 bs)
-          d46 = Typed.s-seq 𝓤 H A W 𝓣 E G10 G11 b4 b31 Δ0 (Typed.pass T10 T11 (s9 bs)) (at45 bs) (Repeat.t-repeat-by 𝓤 H A W E 𝓣 (Element.type) (Element.lawful 𝓤 H A W) (Element.copies .copy 𝓤 H A W)
-              336 G10 10 (Scalar.oAt 13 (Element.held) λ x. Steps.only (Element.copies .vals x)) (λ m. m .1 .1 .1 .1 .1 .1 .1 .1 .1 .1 .1 .1 .1 .0) (λ ρ. Unit) (Reads'.room-gone 𝓤 H A (Syntax.tyArray
-              (Element.held) 336)) (Element.reads 𝓤 H A W, Path'.refl) Path'.refl (Own.told-none 𝓤 H A (G10 .slots)) λ ρ m pf wa. Gives.elem-local 𝓤 H A W E ρ (Element.type) (λ x. Steps.only
-              (Element.copies .vals x)) (Element.copies .tells) (Row.out 10 (G10 .locals)) m (λ ρ. Unit) pf 13 (Element.held) (λ x. x) (Yields.yields-copy 𝓤 H A W (λ ρ. Unit) (Element.type) Path'.refl
-              (Element.copies .copy 𝓤 H A W) (Element.row) (λ x. x) (λ x. x) (λ ρ told. Element.in-mem 𝓤 H A W ρ) λ ρ told. Element.of-mem 𝓤 H A W ρ)) d45
+          d46 : Typed.Typed 𝓤 H A 𝓣 E (on T10 l10) (Syntax.seq b4 b31) Δ0 (at46 bs)
+          d46 = Typed.s-seq 𝓤 H A W 𝓣 E (on T10 l10) (on T11 l10) b4 b31 Δ0 (Typed.pass T10 T11 (s9 bs)) (at45 bs) (Repeat.t-repeat-by 𝓤 H A W E 𝓣 (Element.type) (Element.lawful 𝓤 H A W)
+              (Element.copies .copy 𝓤 H A W) 336 (on T10 l10) 10 (Scalar.oAt 13 (Element.held) λ x. Steps.only (Element.copies .vals x)) (λ m. m .1 .1 .1 .1 .1 .1 .1 .1 .1 .1 .1 .1 .1 .0) (λ ρ. Unit)
+              (Reads'.room-gone 𝓤 H A y0) (Element.reads 𝓤 H A W, Path'.refl) Path'.refl (Own.told-none 𝓤 H A ((on T10 l10) .slots)) λ ρ m pf wa. Gives.elem-local 𝓤 H A W E ρ (Element.type) (λ x.
+              Steps.only (Element.copies .vals x)) (Element.copies .tells) (Row.out 10 ((on T10 l10) .locals)) m (λ ρ. Unit) pf 13 (Element.held) (λ x. x) (Yields.yields-copy 𝓤 H A W (λ ρ. Unit)
+              (Element.type) Path'.refl (Element.copies .copy 𝓤 H A W) (Element.row) (λ x. x) (λ x. x) (λ ρ told. Element.in-mem 𝓤 H A W ρ) λ ρ told. Element.of-mem 𝓤 H A W ρ)) d45
 
-          d47 : Typed.Typed 𝓤 H A 𝓣 E G9 b33 Δ0 (at47 bs)
-          d47 = Typed.s-seq 𝓤 H A W 𝓣 E G9 G10 b3 b32 Δ0 (Typed.both (s8 bs)) (at46 bs) (Plain.t-call-plain 𝓤 H A W 𝓣 0 ps·1 r·1 (claims· .2) (claims· .3) "block::records::cleared" (known .1) E (λ pos
-              β. β) G9 tt 13 List.[] (Call.sub-id 𝓤 H A W (G9 .slots)) tt (Reads'.room-gone 𝓤 H A (Element.held)) tt Path'.refl) d46
+          d47 : Typed.Typed 𝓤 H A 𝓣 E (on T9 l10) (Syntax.seq b3 (Syntax.seq b4 b31)) Δ0 (at47 bs)
+          d47 = Typed.s-seq 𝓤 H A W 𝓣 E (on T9 l10) (on T10 l10) b3 (Syntax.seq b4 b31) Δ0 (Typed.both (s8 bs)) (at46 bs) (Plain.t-call-plain 𝓤 H A W 𝓣 0 ps·1 r·1 (claims· .2) (claims· .3)
+              "block::records::cleared" (known .1) E (λ pos β. β) (on T9 l10) tt 13 [] (Call.sub-id 𝓤 H A W ((on T9 l10) .slots)) tt (Reads'.room-gone 𝓤 H A (Element.held)) tt Path'.refl) d46
 
-          d48 : Typed.Typed 𝓤 H A 𝓣 E G8 b33 Δ0 (at48 bs)
-          d48 = Typed.g-pre 𝓤 H A W 𝓣 E G8 G9 b33 Δ0 (Typed.pass T8 T9 (s7 bs)) (at47 bs) (AtSlots.g-as-by 𝓤 H A W E (λ ρ. Unit) G8 9 (Rows.arrF (Referent.rtF (Referent.fInt Syntax.w16)) 9252 0) (λ x.
-              x) (Own.told-none 𝓤 H A (G8 .slots)) λ ρ told. Repeat.whole-arr 𝓤 H A W (Referent.rtF (Referent.fInt Syntax.w16)) 9252 tt ρ) d47
+          d48 : Typed.Typed 𝓤 H A 𝓣 E (on T8 l10) (Syntax.seq b3 (Syntax.seq b4 b31)) Δ0 (at48 bs)
+          d48 = Typed.g-pre 𝓤 H A W 𝓣 E (on T8 l10) (on T9 l10) (Syntax.seq b3 (Syntax.seq b4 b31)) Δ0 (Typed.pass T8 T9 (s7 bs)) (at47 bs) (AtSlots.g-as-by 𝓤 H A W E (λ ρ. Unit) (on T8 l10) 9
+              (Rows.arrF n16 9252 0) (λ x. x) (Own.told-none 𝓤 H A ((on T8 l10) .slots)) λ ρ told. Repeat.whole-arr 𝓤 H A W n16 9252 tt ρ) d47
 
-          d49 : Typed.Typed 𝓤 H A 𝓣 E G7 b34 Δ0 (at49 bs)
-          d49 = Typed.s-seq 𝓤 H A W 𝓣 E G7 G8 b2 b33 Δ0 (Typed.pass T7 T8 (s6 bs)) (at48 bs) (Repeat.t-repeat 𝓤 H A W E 𝓣 (Referent.rtF (Referent.fInt Syntax.w16)) (Plain'.uint-lawful 𝓤 H A W
-              Syntax.w16) (Copies.cRf (Referent.fInt Syntax.w16) .copy 𝓤 H A W) (Plain'.uint-makes 𝓤 H A W Syntax.w16) 9252 G7 9 (Scalar.oInt Syntax.w16 0) (λ m. 0) (Reads'.room-gone 𝓤 H A (Syntax.tyArray
-              (Syntax.tyInt Syntax.w16) 9252)) tt Path'.refl λ m wa. (Path'.refl, Dec'.lit< tt)) d48
+          d49 : Typed.Typed 𝓤 H A 𝓣 E (on T7 l10) b34 Δ0 (at49 bs)
+          d49 = Typed.s-seq 𝓤 H A W 𝓣 E (on T7 l10) (on T8 l10) b2 (Syntax.seq b3 (Syntax.seq b4 b31)) Δ0 (Typed.pass T7 T8 (s6 bs)) (at48 bs) (Repeat.t-repeat 𝓤 H A W E 𝓣 n16 (Plain'.uint-lawful 𝓤 H
+              A W Syntax.w16) (Copies.cRf (Referent.fInt Syntax.w16) .copy 𝓤 H A W) (Plain'.uint-makes 𝓤 H A W Syntax.w16) 9252 (on T7 l10) 9 (Scalar.oInt Syntax.w16 0) (λ m. 0) (Reads'.room-gone 𝓤 H A
+              y3) tt Path'.refl λ m wa. (Path'.refl, Dec'.lit< tt)) d48
 
-          d50 : Typed.Typed 𝓤 H A 𝓣 E G6 b34 Δ0 (at50 bs)
-          d50 = Typed.g-pre 𝓤 H A W 𝓣 E G6 G7 b34 Δ0 (Typed.pass T6 T7 (s5 bs)) (at49 bs) (Scalar.g-room 𝓤 H A W E G6 12 (Syntax.tyArray (Syntax.tyInt Syntax.w16) 768) (Init.room-arr 𝓤 H A W
-              (Referent.rtF (Referent.fInt Syntax.w16)) 768 0 768 Path'.refl)) d49
+          d50 : Typed.Typed 𝓤 H A 𝓣 E (on T6 l10) b34 Δ0 (at50 bs)
+          d50 = Typed.g-pre 𝓤 H A W 𝓣 E (on T6 l10) (on T7 l10) b34 Δ0 (Typed.pass T6 T7 (s5 bs)) (at49 bs) (Scalar.g-room 𝓤 H A W E (on T6 l10) 12 y2 (Init.room-arr 𝓤 H A W n16 768 0 768 Path'.refl))
+              d49
 
-          d51 : Typed.Typed 𝓤 H A 𝓣 E G5 b35 Δ0 (at51 bs)
-          d51 = Typed.s-seq 𝓤 H A W 𝓣 E G5 G6 b1 b34 Δ0 (Typed.pass T5 T6 (s4 bs)) (at50 bs) (LocalCopy.t-val-copy 𝓤 H A W E 𝓣 (λ ρ. Unit) G5 12 8 (Array'.Array (Referent.rtF (Referent.fInt
-              Syntax.w16)) 768) (Syntax.tyArray (Syntax.tyInt Syntax.w16) 768) (Syntax.tyArray (Syntax.tyInt Syntax.w16) 768) (Rows.arrF (Referent.rtF (Referent.fInt Syntax.w16)) 768 0) (Rows.arrF
-              (Referent.rtF (Referent.fInt Syntax.w16)) 768 0) (λ x. x) (λ x. x) (λ x. x) Path'.refl (Own.told-none 𝓤 H A (G5 .slots)) (Yields.yields-copy 𝓤 H A W (λ ρ. Unit) (Array'.Array (Referent.rtF
-              (Referent.fInt Syntax.w16)) 768) Path'.refl (Copies.cArr (Referent.rtF (Referent.fInt Syntax.w16)) (Copies.cRf (Referent.fInt Syntax.w16)) 768 .copy 𝓤 H A W) (Rows.arrF (Referent.rtF
-              (Referent.fInt Syntax.w16)) 768 0) (λ x. x) (λ x. x) (λ ρ told. Whole.mem-arr 𝓤 H A W (Referent.rtF (Referent.fInt Syntax.w16)) 768 ρ) λ ρ told. Whole.arr-mem 𝓤 H A W (Referent.rtF
-              (Referent.fInt Syntax.w16)) 768 tt ρ) (Reads'.room-gone 𝓤 H A (Syntax.tyArray (Syntax.tyInt Syntax.w16) 768)) (Yields.makes-mem 𝓤 H A W (λ ρ. Unit) (Array'.Array (Referent.rtF (Referent.fInt
-              Syntax.w16)) 768) Path'.refl (Rows.arrF (Referent.rtF (Referent.fInt Syntax.w16)) 768 0) (λ x. x) λ ρ told. Whole.arr-mem 𝓤 H A W (Referent.rtF (Referent.fInt Syntax.w16)) 768 tt ρ)
-              Path'.refl Path'.refl) d50
+          d51 : Typed.Typed 𝓤 H A 𝓣 E (on T5 l10) (Syntax.seq b1 b34) Δ0 (at51 bs)
+          d51 = Typed.s-seq 𝓤 H A W 𝓣 E (on T5 l10) (on T6 l10) b1 b34 Δ0 (Typed.pass T5 T6 (s4 bs)) (at50 bs) (LocalCopy.t-val-copy 𝓤 H A W E 𝓣 (λ ρ. Unit) (on T5 l10) 12 8 (Array'.Array n16 768) y2
+              y2 (Rows.arrF n16 768 0) (Rows.arrF n16 768 0) (λ x. x) (λ x. x) (λ x. x) Path'.refl (Own.told-none 𝓤 H A ((on T5 l10) .slots)) (Yields.yields-copy 𝓤 H A W (λ ρ. Unit) (Array'.Array n16 768)
+              Path'.refl (Copies.cArr n16 (Copies.cRf (Referent.fInt Syntax.w16)) 768 .copy 𝓤 H A W) (Rows.arrF n16 768 0) (λ x. x) (λ x. x) (λ ρ told. Whole.mem-arr 𝓤 H A W n16 768 ρ) λ ρ told.
+              Whole.arr-mem 𝓤 H A W n16 768 tt ρ) (Reads'.room-gone 𝓤 H A y2) (Yields.makes-mem 𝓤 H A W (λ ρ. Unit) (Array'.Array n16 768) Path'.refl (Rows.arrF n16 768 0) (λ x. x) λ ρ told. Whole.arr-mem
+              𝓤 H A W n16 768 tt ρ) Path'.refl Path'.refl) d50
 
-          d52 : Typed.Typed 𝓤 H A 𝓣 E G4 b36 Δ0 (at52 bs)
-          d52 = Typed.s-seq 𝓤 H A W 𝓣 E G4 G5 b0 b35 Δ0 (Typed.both (s3 bs)) (at51 bs) (Plain.t-call-plain 𝓤 H A W 𝓣 0 ps·0 r·0 (claims· .0) (claims· .1) "map::xtrans_places" (known .0) E (λ pos β. β)
-              G4 tt 12 List.[] (Call.sub-id 𝓤 H A W (G4 .slots)) tt (Reads'.room-gone 𝓤 H A (Syntax.tyArray (Syntax.tyInt Syntax.w16) 768)) tt Path'.refl) d51
+          d52 : Typed.Typed 𝓤 H A 𝓣 E (on T0 l10) b36 Δ0 (at52 bs)
+          d52 = Typed.s-seq 𝓤 H A W 𝓣 E (on T0 l10) (on T5 l10) b0 (Syntax.seq b1 b34) Δ0 (Typed.both (s3 bs)) (at51 bs) (Plain.t-call-plain 𝓤 H A W 𝓣 0 ps·0 r·0 (claims· .0) (claims· .1)
+              "map::xtrans_places" (known .0) E (λ pos β. β) (on T0 l10) tt 12 [] (Call.sub-id 𝓤 H A W ((on T0 l10) .slots)) tt (Reads'.room-gone 𝓤 H A y2) tt Path'.refl) d51
 
-          d53 : Typed.Typed 𝓤 H A 𝓣 E G3 b36 Δ0 (at53 bs)
-          d53 = Typed.g-pre 𝓤 H A W 𝓣 E G3 G4 b36 Δ0 (Typed.give (s2 bs)) (at52 bs) (Know.g-sl-known 𝓤 H A W (Referent.fInt Syntax.w16) E G3 3 2 (Syntax.tyRef (Syntax.named 2) Syntax.mut (Syntax.tyInt
-              Syntax.w16)) (Row.lease (κs .1 .1 .0) (qs .1 .1 .0)) 0 (λ x. x) record { fits = Dec'.lit< tt } (Reads'.as-is 𝓤 H A (Mut.mslice (Referent.rtF (Referent.fInt Syntax.w16)) (Syntax.tyRef
-              (Syntax.named 2) Syntax.mut (Syntax.tyInt Syntax.w16)) 2)) Path'.refl tt) d52
+          d53 : Typed.Typed 𝓤 H A 𝓣 E (on T0 l10) b36 Δ0 (at53 bs)
+          d53 = Typed.g-pre 𝓤 H A W 𝓣 E (on T0 l10) (on T0 l10) b36 Δ0 (Typed.give (s2 bs)) (at52 bs) (Know.g-sl-known 𝓤 H A W (Referent.fInt Syntax.w16) E (on T0 l10) 3 2 y7 k2 0 (λ x. x) record
+              { fits = Dec'.lit< tt } (Reads'.as-is 𝓤 H A (Mut.mslice n16 y7 2)) Path'.refl tt) d52
 
-          d54 : Typed.Typed 𝓤 H A 𝓣 E G2 b36 Δ0 (at54 bs)
-          d54 = Typed.g-pre 𝓤 H A W 𝓣 E G2 G3 b36 Δ0 (Typed.give (s1 bs)) (at53 bs) (Know.g-shs-known 𝓤 H A W (Referent.fInt Syntax.w8) E G2 2 1 (Syntax.tyRef (Syntax.named 1) Syntax.imm (Syntax.tyInt
-              Syntax.w8)) (Row.lease (κs .1 .0) (qs .1 .0)) 0 (λ x. x) record { fits = Dec'.lit< tt } (Reads'.as-is 𝓤 H A (Rows'.sslice (Referent.rtF (Referent.fInt Syntax.w8)) (Syntax.tyRef (Syntax.named
-              1) Syntax.imm (Syntax.tyInt Syntax.w8)) 1)) Path'.refl tt) d53
+          d54 : Typed.Typed 𝓤 H A 𝓣 E (on T0 l10) b36 Δ0 (at54 bs)
+          d54 = Typed.g-pre 𝓤 H A W 𝓣 E (on T0 l10) (on T0 l10) b36 Δ0 (Typed.give (s1 bs)) (at53 bs) (Know.g-shs-known 𝓤 H A W (Referent.fInt Syntax.w8) E (on T0 l10) 2 1 y6 k1 0 (λ x. x) record
+              { fits = Dec'.lit< tt } (Reads'.as-is 𝓤 H A (Rows'.sslice n8 y6 1)) Path'.refl tt) d53
 
-          d55 : Typed.Typed 𝓤 H A 𝓣 E G0 b36 Δ0 (at55 bs)
-          d55 = Typed.g-pre 𝓤 H A W 𝓣 E G0 G2 b36 Δ0 (Typed.give (s0 bs)) (at54 bs) (Know.g-shs-known 𝓤 H A W (Referent.fInt Syntax.w8) E G0 1 0 (Syntax.tyRef (Syntax.named 0) Syntax.imm (Syntax.tyInt
-              Syntax.w8)) (Row.lease (κs .0) (qs .0)) 0 (λ x. x) record { fits = Dec'.lit< tt } (Reads'.as-is 𝓤 H A (Rows'.sslice (Referent.rtF (Referent.fInt Syntax.w8)) (Syntax.tyRef (Syntax.named 0)
-              Syntax.imm (Syntax.tyInt Syntax.w8)) 0)) Path'.refl tt) d54
+          d55 : Typed.Typed 𝓤 H A 𝓣 E (on T0 l10) b36 Δ0 (at55 bs)
+          d55 = Typed.g-pre 𝓤 H A W 𝓣 E (on T0 l10) (on T0 l10) b36 Δ0 (Typed.give (s0 bs)) (at54 bs) (Know.g-shs-known 𝓤 H A W (Referent.fInt Syntax.w8) E (on T0 l10) 1 0 y5 k0 0 (λ x. x) record
+              { fits = Dec'.lit< tt } (Reads'.as-is 𝓤 H A (Rows'.sslice n8 y5 0)) Path'.refl tt) d54
 
           pub typed : Typed.Typed 𝓤 H A 𝓣 E (Function.Γin 3 ps r xs m κs qs) b36 (Function.Δret 3 ps r xs m κs qs) (Φ bs)
           typed = d55
 
       module _ (κs : Lifetimes.Lfts 3) where
         pub record Args : Type 0 where
-          pub block : Kinds.Den {n = 3} κs (ShrSlice.pShrS (Referent.rtF (Referent.fInt Syntax.w8)) 0 tt)
-          pub bases : Kinds.Den {n = 3} κs (ShrSlice.pShrS (Referent.rtF (Referent.fInt Syntax.w8)) 1 tt)
-          pub image : Kinds.Den {n = 3} κs (MutSlice.pMutS (Referent.rtF (Referent.fInt Syntax.w16)) 2 tt)
-          pub form : Kinds.Den {n = 3} κs (Value.pVal record {
-            ty = Declared'.row Form.the-type;
-            one = Path'.refl;
-            val = Laws'5.val Form.the-type Laws.the-laws;
-            tells = Laws'5.tells Form.the-type Laws.the-laws;
-            still = Laws'5.still Form.the-type
-                Laws.the-copy Exit.yes;
-            row = Rows'.whole (Declared'.row Form.the-type);
-            rd = λ x. x;
-            mk = λ x. x;
-          } λ M 𝓤 H A W. record {
-            copies = Laws'5.copy Form.the-type Laws.the-copy 𝓤 H A W;
-            lawful = Laws'5.lawful Form.the-type Laws.the-laws 𝓤 H A W;
-            makes = Laws'5.makes Form.the-type Laws.the-plain 𝓤 H A;
-            in-mem =
-                Local.mem-whole 𝓤 H A W (Declared'.row Form.the-type);
-            of-mem = Local.whole-mem 𝓤 H A W (Declared'.row Form.the-type);
-          })
+          pub block : Kinds.Den {n = 3} κs (ShrSlice.pShrS n8 0 tt)
+          pub bases : Kinds.Den {n = 3} κs (ShrSlice.pShrS n8 1 tt)
+          pub image : Kinds.Den {n = 3} κs (MutSlice.pMutS n16 2 tt)
+          pub form : Kinds.Den {n = 3} κs (Values.struct Form.the-type Laws.the-laws Laws.the-copy Laws.the-plain)
           pub tile : Kinds.Den {n = 3} κs (Array.pArr (Array.eInt Syntax.w8) (Array.eInt-laws Syntax.w8) 36)
-          pub part : Kinds.Den {n = 3} κs (Value.pVal record {
-            ty = Declared'.row Part.the-type;
-            one = Path'.refl;
-            val = Laws'5.val Part.the-type Laws'3.the-laws;
-            tells = Laws'5.tells Part.the-type Laws'3.the-laws;
-            still = Laws'5.still Part.the-type
-                Laws'3.the-copy Exit.yes;
-            row = Rows'.whole (Declared'.row Part.the-type);
-            rd = λ x. x;
-            mk = λ x. x;
-          } λ M 𝓤 H A W. record {
-            copies = Laws'5.copy Part.the-type Laws'3.the-copy 𝓤 H A W;
-            lawful = Laws'5.lawful Part.the-type Laws'3.the-laws 𝓤 H A W;
-            makes = Laws'5.makes Part.the-type Laws'3.the-plain 𝓤 H A;
-            in-mem
-                = Local.mem-whole 𝓤 H A W (Declared'.row Part.the-type);
-            of-mem = Local.whole-mem 𝓤 H A W (Declared'.row Part.the-type);
-          })
+          pub part : Kinds.Den {n = 3} κs (Values.struct Part.the-type Laws'3.the-laws Laws'3.the-copy Laws'3.the-plain)
           pub count : Kinds.Den {n = 3} κs (Num.pNum Syntax.w64)
 
         abbrev pub dens : (a : Args) → Kinds.Dens κs ps
@@ -2127,7 +1465,7 @@ module _ (claims· : Claims) where
         pub fits : Ranges κs args
         pub pre : Pre· κs (dens κs args)
 
-      abbrev pub m1 : (before : Start) → (given : s0 (before .blocks) .gives (m0 (before .κs) (before .args) (before .blocks))) → Typed.Mo T2
+      abbrev pub m1 : (before : Start) → (given : s0 (before .blocks) .gives (m0 (before .κs) (before .args) (before .blocks))) → Typed.Mo T0
       m1 = λ before given. s0 (before .blocks) .next (m0 (before .κs) (before .args) (before .blocks)) given
 
       module _ (before· : Start) where
@@ -2138,7 +1476,7 @@ module _ (claims· : Claims) where
         pub before : Start
         pub shared-slice-known : After-shared-slice-known·own before
 
-      abbrev pub m2 : (before : After-shared-slice-known) → (given : s1 (before .before .blocks) .gives (m1 (before .before) (before .shared-slice-known .given))) → Typed.Mo T3
+      abbrev pub m2 : (before : After-shared-slice-known) → (given : s1 (before .before .blocks) .gives (m1 (before .before) (before .shared-slice-known .given))) → Typed.Mo T0
       m2 = λ before given. s1 (before .before .blocks) .next (m1 (before .before) (before .shared-slice-known .given)) given
 
       module _ (before· : After-shared-slice-known) where
@@ -2149,7 +1487,7 @@ module _ (claims· : Claims) where
         pub before : After-shared-slice-known
         pub shared-slice-known2 : After-shared-slice-known2·own before
 
-      abbrev pub m3 : (before : After-shared-slice-known2) → (given : s2 (before .before .before .blocks) .gives (m2 (before .before) (before .shared-slice-known2 .given))) → Typed.Mo T4
+      abbrev pub m3 : (before : After-shared-slice-known2) → (given : s2 (before .before .before .blocks) .gives (m2 (before .before) (before .shared-slice-known2 .given))) → Typed.Mo T0
       m3 = λ before given. s2 (before .before .before .blocks) .next (m2 (before .before) (before .shared-slice-known2 .given)) given
 
       module _ (before· : After-shared-slice-known2) where
@@ -2168,26 +1506,21 @@ module _ (claims· : Claims) where
 
       module _ (before· : After-slice-known) where
         abbrev pub After-xtrans-places·own : Type 0
-        After-xtrans-places·own = Called.Called ps·0 r·0 (claims· .1) T4 tt (m3 (before· .before) (before· .slice-known .given))
+        After-xtrans-places·own = Called.Called ps·0 r·0 (claims· .1) T0 tt (m3 (before· .before) (before· .slice-known .given))
 
       pub record After-xtrans-places : Type 0 where
         pub before : After-slice-known
         pub xtrans-places : After-xtrans-places·own before
 
+      abbrev pub After-xtrans-places·start : After-xtrans-places → Start
+      After-xtrans-places·start = λ c. c .before .before .before .before
+
       abbrev pub After-xtrans-places·gave : (c : After-xtrans-places) → s3 (c .before .before .before .before .blocks) .gives (m3 (c .before .before) (c .before .slice-known .given))
-      After-xtrans-places·gave = λ c. Called.given ps·0 r·0 (claims· .1) T4 tt (m3 (c .before .before) (c .before .slice-known .given)) (c .xtrans-places)
-
-      abbrev pub m5 : (before : After-slice-known) → (given : s3 (before .before .before .before .blocks) .gives (m3 (before .before) (before .slice-known .given))) → Typed.Mo T6
-      m5 = λ before given. s4 (before .before .before .before .blocks) (m4 before given)
-
-      abbrev pub m6 : (before : After-slice-known) → (given : s3 (before .before .before .before .blocks) .gives (m3 (before .before) (before .slice-known .given))) → Typed.Mo T7
-      m6 = λ before given. s5 (before .before .before .before .blocks) (m5 before given)
-
-      abbrev pub m7 : (before : After-slice-known) → (given : s3 (before .before .before .before .blocks) .gives (m3 (before .before) (before .slice-known .given))) → Typed.Mo T8
-      m7 = λ before given. s6 (before .before .before .before .blocks) (m6 before given)
+      After-xtrans-places·gave = λ c. Called.given ps·0 r·0 (claims· .1) T0 tt (m3 (c .before .before) (c .before .slice-known .given)) (c .xtrans-places)
 
       abbrev pub m8 : (before : After-slice-known) → (given : s3 (before .before .before .before .blocks) .gives (m3 (before .before) (before .slice-known .given))) → Typed.Mo T9
-      m8 = λ before given. s7 (before .before .before .before .blocks) (m7 before given)
+      m8 = λ before given. s7 (before .before .before .before .blocks) (s6 (before .before .before .before .blocks) (s5 (before .before .before .before .blocks) (s4 (before .before .before .before
+          .blocks) (m4 before given))))
 
       abbrev pub Need-cleared-requires : Type 0
       Need-cleared-requires = (c : After-xtrans-places) → s8 (c .before .before .before .before .blocks) .asks (m8 (c .before) (After-xtrans-places·gave c))
@@ -2203,17 +1536,15 @@ module _ (claims· : Claims) where
         pub before : After-xtrans-places
         pub cleared : After-cleared·own before
 
+      abbrev pub After-cleared·start : After-cleared → Start
+      After-cleared·start = λ c. c .before .before .before .before .before
+
       abbrev pub After-cleared·gave : (c : After-cleared) → s8 (c .before .before .before .before .before .blocks) .gives (m8 (c .before .before) (After-xtrans-places·gave (c .before)))
       After-cleared·gave = λ c. Called.given ps·1 r·1 (claims· .3) T9 tt (m8 (c .before .before) (After-xtrans-places·gave (c .before))) (c .cleared)
 
-      abbrev pub m10 : (before : After-xtrans-places) → (given : s8 (before .before .before .before .before .blocks) .gives (m8 (before .before) (After-xtrans-places·gave before))) → Typed.Mo T11
-      m10 = λ before given. s9 (before .before .before .before .before .blocks) (m9 before given)
-
-      abbrev pub m11 : (before : After-xtrans-places) → (given : s8 (before .before .before .before .before .blocks) .gives (m8 (before .before) (After-xtrans-places·gave before))) → Typed.Mo T12
-      m11 = λ before given. s10 (before .before .before .before .before .blocks) (m10 before given)
-
       abbrev pub m12 : (before : After-xtrans-places) → (given : s8 (before .before .before .before .before .blocks) .gives (m8 (before .before) (After-xtrans-places·gave before))) → Typed.Mo T13
-      m12 = λ before given. s11 (before .before .before .before .before .blocks) (m11 before given)
+      m12 = λ before given. s11 (before .before .before .before .before .blocks) (s10 (before .before .before .before .before .blocks) (s9 (before .before .before .before .before .blocks) (m9 before
+          given)))
 
       abbrev pub Need-samples-needed-requires : Type 0
       Need-samples-needed-requires = (c : After-cleared) → s12 (c .before .before .before .before .before .blocks) .asks (m12 (c .before) (After-cleared·gave c))
@@ -2223,26 +1554,24 @@ module _ (claims· : Claims) where
 
       module _ (before· : After-cleared) where
         abbrev pub After-samples-needed·own : Type 0
-        After-samples-needed·own = Called.Called ps·2 r·2 (claims· .5) T13 (Bool.bFld 4 (List._∷_ (Syntax.field 1) List.[]) 4 λ x. Form.struct .as-values x .1 .0, tt) (m12 (before· .before)
-            (After-cleared·gave before·))
+        After-samples-needed·own = Called.Called ps·2 r·2 (claims· .5) T13 (Bool.bFld 4 ((Syntax.field 1) ∷ []) 4 λ x. Form.struct .as-values x .1 .0, tt) (m12 (before· .before) (After-cleared·gave
+            before·))
 
       pub record After-samples-needed : Type 0 where
         pub before : After-cleared
         pub samples-needed : After-samples-needed·own before
 
+      abbrev pub After-samples-needed·start : After-samples-needed → Start
+      After-samples-needed·start = λ c. c .before .before .before .before .before .before
+
       abbrev pub After-samples-needed·gave : (c : After-samples-needed) → s12 (c .before .before .before .before .before .before .blocks) .gives (m12 (c .before .before) (After-cleared·gave (c
           .before)))
-      After-samples-needed·gave = λ c. Called.given ps·2 r·2 (claims· .5) T13 (Bool.bFld 4 (List._∷_ (Syntax.field 1) List.[]) 4 λ x. Form.struct .as-values x .1 .0, tt) (m12 (c .before .before)
+      After-samples-needed·gave = λ c. Called.given ps·2 r·2 (claims· .5) T13 (Bool.bFld 4 ((Syntax.field 1) ∷ []) 4 λ x. Form.struct .as-values x .1 .0, tt) (m12 (c .before .before)
           (After-cleared·gave (c .before))) (c .samples-needed)
 
-      abbrev pub m14 : (before : After-cleared) → (given : s12 (before .before .before .before .before .before .blocks) .gives (m12 (before .before) (After-cleared·gave before))) → Typed.Mo T15
-      m14 = λ before given. s13 (before .before .before .before .before .before .blocks) (m13 before given)
-
-      abbrev pub m15 : (before : After-cleared) → (given : s12 (before .before .before .before .before .before .blocks) .gives (m12 (before .before) (After-cleared·gave before))) → Typed.Mo T16
-      m15 = λ before given. s14 (before .before .before .before .before .before .blocks) .next (m14 before given)
-
       abbrev pub m16 : (before : After-cleared) → (given : s12 (before .before .before .before .before .before .blocks) .gives (m12 (before .before) (After-cleared·gave before))) → Typed.Mo T17
-      m16 = λ before given. s15 (before .before .before .before .before .before .blocks) (m15 before given)
+      m16 = λ before given. s15 (before .before .before .before .before .before .blocks) (s14 (before .before .before .before .before .before .blocks) .next (s13 (before .before .before .before
+          .before .before .blocks) (m13 before given)))
 
       abbrev pub Need-sub-walk : Type 0
       Need-sub-walk = (c : After-samples-needed) → s16 (c .before .before .before .before .before .before .blocks) .asks (m16 (c .before) (After-samples-needed·gave c))
@@ -2257,21 +1586,14 @@ module _ (claims· : Claims) where
       Need-part-lines-end = (c : After-samples-needed) → PartAt.PartTo T18 9 15 (λ x. record { ptr = (0, 0); name = 0; now = x }) (λ u. u .1 .1 .1 .1 .1 .1 .1 .1 .1 .1 .1 .0) (m17 (c .before)
           (After-samples-needed·gave c))
 
-      abbrev pub m18 : (before : After-samples-needed) → (given : s18 (before .before .before .before .before .before .before .blocks) .gives (m17 (before .before) (After-samples-needed·gave before)))
-          → Typed.Mo T20
-      m18 = λ before given. s18 (before .before .before .before .before .before .before .blocks) .next (m17 (before .before) (After-samples-needed·gave before)) given
-
       abbrev pub m19 : (before : After-samples-needed) → (given : s18 (before .before .before .before .before .before .before .blocks) .gives (m17 (before .before) (After-samples-needed·gave before)))
           → Typed.Mo T21
-      m19 = λ before given. s19 (before .before .before .before .before .before .before .blocks) (m18 before given)
-
-      abbrev pub m20 : (before : After-samples-needed) → (given : s18 (before .before .before .before .before .before .before .blocks) .gives (m17 (before .before) (After-samples-needed·gave before)))
-          → Typed.Mo T22
-      m20 = λ before given. s20 (before .before .before .before .before .before .before .blocks) .next (m19 before given)
+      m19 = λ before given. s19 (before .before .before .before .before .before .before .blocks) (s18 (before .before .before .before .before .before .before .blocks) .next (m17 (before .before)
+          (After-samples-needed·gave before)) given)
 
       abbrev pub m21 : (before : After-samples-needed) → (given : s18 (before .before .before .before .before .before .before .blocks) .gives (m17 (before .before) (After-samples-needed·gave before)))
           → Typed.Mo T23
-      m21 = λ before given. s21 (before .before .before .before .before .before .before .blocks) (m20 before given)
+      m21 = λ before given. s21 (before .before .before .before .before .before .before .blocks) (s20 (before .before .before .before .before .before .before .blocks) .next (m19 before given))
 
       module _ (before· : After-samples-needed) where
         pub record After-lines·own : Type 0 where
@@ -2300,13 +1622,10 @@ module _ (claims· : Claims) where
           T26
       m23 = λ before given. s24 (before .before .before .before .before .before .before .before .blocks) .next (m22 before given)
 
-      abbrev pub m24 : (before : After-rs) → (given : s26 (before .before .before .before .before .before .before .before .before .blocks) .gives (m23 (before .before) (before .rs .given))) → Typed.Mo
-          T28
-      m24 = λ before given. s26 (before .before .before .before .before .before .before .before .before .blocks) .next (m23 (before .before) (before .rs .given)) given
-
       abbrev pub m25 : (before : After-rs) → (given : s26 (before .before .before .before .before .before .before .before .before .blocks) .gives (m23 (before .before) (before .rs .given))) → Typed.Mo
           T29
-      m25 = λ before given. s27 (before .before .before .before .before .before .before .before .before .blocks) .next (m24 before given)
+      m25 = λ before given. s27 (before .before .before .before .before .before .before .before .before .blocks) .next (s26 (before .before .before .before .before .before .before .before .before
+          .blocks) .next (m23 (before .before) (before .rs .given)) given)
 
       module _ (before· : After-rs) where
         pub record After-walk-arg·own : Type 0 where
@@ -2343,6 +1662,9 @@ module _ (claims· : Claims) where
         pub before : After-places
         pub no-entries : After-no-entries·own before
 
+      abbrev pub After-no-entries·start : After-no-entries → Start
+      After-no-entries·start = λ c. c .before .before .before .before .before .before .before .before .before .before .before
+
       abbrev pub After-no-entries·gave : (c : After-no-entries) → s30 (c .before .before .before .before .before .before .before .before .before .before .before .blocks) .gives (m26 (c .before
           .before) (c .before .places .given))
       After-no-entries·gave = λ c. Called.given ps·3 r·3 (claims· .7) T31 tt (m26 (c .before .before) (c .before .places .given)) (c .no-entries)
@@ -2359,22 +1681,22 @@ module _ (claims· : Claims) where
       module _ (before· : After-no-entries) where
         abbrev pub After-walk·own : Type 0
         After-walk·own = Called.Called ps·4 r·4 (claims· .9) T32 (
-          record { pos = 1; ty = Syntax.tyRef (Syntax.named 0) Syntax.imm (Syntax.tyInt Syntax.w8); ref = λ x. x },
+          record { pos = 1; ty = y5; ref = λ x. x },
           (
-            record { pos = 2; ty = Syntax.tyRef (Syntax.named 1) Syntax.imm (Syntax.tyInt Syntax.w8); ref = λ x. x },
+            record { pos = 2; ty = y6; ref = λ x. x },
             (
-              record { pos = 18; ty = Syntax.tyRef Syntax.erased Syntax.mut (Syntax.tyInt Syntax.w16); ref = λ x. x },
+              record { pos = 18; ty = y9; ref = λ x. x },
               (
-                record { pos = 20; ty = Syntax.tyRef Syntax.erased Syntax.mut Element.behind; ref = λ x. x },
+                record { pos = 20; ty = y8; ref = λ x. x },
                 (
-                  record { pos = 22; ty = Syntax.tyRef Syntax.erased Syntax.mut (Syntax.tyInt Syntax.w16); ref = λ x. x },
+                  record { pos = 22; ty = y9; ref = λ x. x },
                   (
-                    record { pos = 4; st = List.[]; d = 0; at = λ x. x },
+                    record { pos = 4; st = []; d = 0; at = λ x. x },
                     (
-                      record { pos = 23; ty = Syntax.tyRef Syntax.erased Syntax.imm (Syntax.tyArray (Syntax.tyInt Syntax.w16) 768); ref = λ x. x },
+                      record { pos = 23; ty = y14; ref = λ x. x },
                       (
-                        record { pos = 5; st = List.[]; d = 0; at = λ x. x },
-                        (record { pos = 6; st = List.[]; d = 0; at = λ x. x }, (Num.vAt 7 λ x. x, (Bool.bLit Bool'.false, (record { pos = 24; st = List.[]; d = 0; at = λ x. x }, tt)))),
+                        record { pos = 5; st = []; d = 0; at = λ x. x },
+                        (record { pos = 6; st = []; d = 0; at = λ x. x }, (Num.vAt 7 λ x. x, (Bool.bLit Bool'.false, (record { pos = 24; st = []; d = 0; at = λ x. x }, tt)))),
                       ),
                     ),
                   ),
@@ -2389,25 +1711,28 @@ module _ (claims· : Claims) where
         pub before : After-no-entries
         pub walk : After-walk·own before
 
+      abbrev pub After-walk·start : After-walk → Start
+      After-walk·start = λ c. c .before .before .before .before .before .before .before .before .before .before .before .before
+
       abbrev pub After-walk·gave : (c : After-walk) → s31 (c .before .before .before .before .before .before .before .before .before .before .before .before .blocks) .gives (m27 (c .before .before)
           (After-no-entries·gave (c .before)))
       After-walk·gave = λ c. Called.given ps·4 r·4 (claims· .9) T32 (
-        record { pos = 1; ty = Syntax.tyRef (Syntax.named 0) Syntax.imm (Syntax.tyInt Syntax.w8); ref = λ x. x },
+        record { pos = 1; ty = y5; ref = λ x. x },
         (
-          record { pos = 2; ty = Syntax.tyRef (Syntax.named 1) Syntax.imm (Syntax.tyInt Syntax.w8); ref = λ x. x },
+          record { pos = 2; ty = y6; ref = λ x. x },
           (
-            record { pos = 18; ty = Syntax.tyRef Syntax.erased Syntax.mut (Syntax.tyInt Syntax.w16); ref = λ x. x },
+            record { pos = 18; ty = y9; ref = λ x. x },
             (
-              record { pos = 20; ty = Syntax.tyRef Syntax.erased Syntax.mut Element.behind; ref = λ x. x },
+              record { pos = 20; ty = y8; ref = λ x. x },
               (
-                record { pos = 22; ty = Syntax.tyRef Syntax.erased Syntax.mut (Syntax.tyInt Syntax.w16); ref = λ x. x },
+                record { pos = 22; ty = y9; ref = λ x. x },
                 (
-                  record { pos = 4; st = List.[]; d = 0; at = λ x. x },
+                  record { pos = 4; st = []; d = 0; at = λ x. x },
                   (
-                    record { pos = 23; ty = Syntax.tyRef Syntax.erased Syntax.imm (Syntax.tyArray (Syntax.tyInt Syntax.w16) 768); ref = λ x. x },
+                    record { pos = 23; ty = y14; ref = λ x. x },
                     (
-                      record { pos = 5; st = List.[]; d = 0; at = λ x. x },
-                      (record { pos = 6; st = List.[]; d = 0; at = λ x. x }, (Num.vAt 7 λ x. x, (Bool.bLit Bool'.false, (record { pos = 24; st = List.[]; d = 0; at = λ x. x }, tt)))),
+                      record { pos = 5; st = []; d = 0; at = λ x. x },
+                      (record { pos = 6; st = []; d = 0; at = λ x. x }, (Num.vAt 7 λ x. x, (Bool.bLit Bool'.false, (record { pos = 24; st = []; d = 0; at = λ x. x }, tt)))),
                     ),
                   ),
                 ),
@@ -2418,38 +1743,17 @@ module _ (claims· : Claims) where
       ) (m27 (c .before .before)
           (After-no-entries·gave (c .before))) (c .walk)
 
-      abbrev pub m29 : (before : After-no-entries) → (given : s31 (before .before .before .before .before .before .before .before .before .before .before .before .blocks) .gives (m27 (before .before)
-          (After-no-entries·gave before))) → Typed.Mo T34
-      m29 = λ before given. s32 (before .before .before .before .before .before .before .before .before .before .before .before .blocks) (m28 before given)
-
-      abbrev pub m30 : (before : After-no-entries) → (given : s31 (before .before .before .before .before .before .before .before .before .before .before .before .blocks) .gives (m27 (before .before)
-          (After-no-entries·gave before))) → Typed.Mo T35
-      m30 = λ before given. s33 (before .before .before .before .before .before .before .before .before .before .before .before .blocks) (m29 before given)
-
-      abbrev pub m31 : (before : After-no-entries) → (given : s31 (before .before .before .before .before .before .before .before .before .before .before .before .blocks) .gives (m27 (before .before)
-          (After-no-entries·gave before))) → Typed.Mo T36
-      m31 = λ before given. s34 (before .before .before .before .before .before .before .before .before .before .before .before .blocks) (m30 before given)
-
-      abbrev pub m32 : (before : After-no-entries) → (given : s31 (before .before .before .before .before .before .before .before .before .before .before .before .blocks) .gives (m27 (before .before)
-          (After-no-entries·gave before))) → Typed.Mo T37
-      m32 = λ before given. s35 (before .before .before .before .before .before .before .before .before .before .before .before .blocks) (m31 before given)
-
-      abbrev pub m33 : (before : After-no-entries) → (given : s31 (before .before .before .before .before .before .before .before .before .before .before .before .blocks) .gives (m27 (before .before)
-          (After-no-entries·gave before))) → Typed.Mo T38
-      m33 = λ before given. s36 (before .before .before .before .before .before .before .before .before .before .before .before .blocks) (m32 before given)
-
       abbrev pub m34 : (before : After-no-entries) → (given : s31 (before .before .before .before .before .before .before .before .before .before .before .before .blocks) .gives (m27 (before .before)
           (After-no-entries·gave before))) → Typed.Mo T39
-      m34 = λ before given. s37 (before .before .before .before .before .before .before .before .before .before .before .before .blocks) (m33 before given)
-
-      abbrev pub m35 : (before : After-walk) → (given : s39 (before .before .before .before .before .before .before .before .before .before .before .before .before .blocks) .gives (m34 (before
-          .before) (After-walk·gave before))) → Typed.Mo T41
-      m35 = λ before given. s39 (before .before .before .before .before .before .before .before .before .before .before .before .before .blocks) .next (m34 (before .before) (After-walk·gave before))
-          given
+      m34 = λ before given. s37 (before .before .before .before .before .before .before .before .before .before .before .before .blocks) (s36 (before .before .before .before .before .before .before
+          .before .before .before .before .before .blocks) (s35 (before .before .before .before .before .before .before .before .before .before .before .before .blocks) (s34 (before .before .before
+          .before .before .before .before .before .before .before .before .before .blocks) (s33 (before .before .before .before .before .before .before .before .before .before .before .before .blocks)
+          (s32 (before .before .before .before .before .before .before .before .before .before .before .before .blocks) (m28 before given))))))
 
       abbrev pub m36 : (before : After-walk) → (given : s39 (before .before .before .before .before .before .before .before .before .before .before .before .before .blocks) .gives (m34 (before
           .before) (After-walk·gave before))) → Typed.Mo T43
-      m36 = λ before given. s41 (before .before .before .before .before .before .before .before .before .before .before .before .before .blocks) (m35 before given)
+      m36 = λ before given. s41 (before .before .before .before .before .before .before .before .before .before .before .before .before .blocks) (s39 (before .before .before .before .before .before
+          .before .before .before .before .before .before .before .blocks) .next (m34 (before .before) (After-walk·gave before)) given)
 
       module _ (before· : After-walk) where
         pub record After-lines2·own : Type 0 where
@@ -2459,14 +1763,10 @@ module _ (claims· : Claims) where
         pub before : After-walk
         pub lines2 : After-lines2·own before
 
-      abbrev pub m37 : (before : After-lines2) → (given : s43 (before .before .before .before .before .before .before .before .before .before .before .before .before .before .blocks) .gives (m36
-          (before .before) (before .lines2 .given))) → Typed.Mo T45
-      m37 = λ before given. s43 (before .before .before .before .before .before .before .before .before .before .before .before .before .before .blocks) .next (m36 (before .before) (before .lines2
-          .given)) given
-
       abbrev pub m38 : (before : After-lines2) → (given : s43 (before .before .before .before .before .before .before .before .before .before .before .before .before .before .blocks) .gives (m36
           (before .before) (before .lines2 .given))) → Typed.Mo T47
-      m38 = λ before given. s45 (before .before .before .before .before .before .before .before .before .before .before .before .before .before .blocks) (m37 before given)
+      m38 = λ before given. s45 (before .before .before .before .before .before .before .before .before .before .before .before .before .before .blocks) (s43 (before .before .before .before .before
+          .before .before .before .before .before .before .before .before .before .blocks) .next (m36 (before .before) (before .lines2 .given)) given)
 
       module _ (before· : After-lines2) where
         pub record After-rs2·own : Type 0 where
@@ -2491,22 +1791,12 @@ module _ (claims· : Claims) where
         pub before : After-rs2
         pub image : After-image·own before
 
-      abbrev pub m40 : (before : After-image) → (given : s48 (before .before .before .before .before .before .before .before .before .before .before .before .before .before .before .before .blocks)
-          .gives (m39 (before .before) (before .image .given))) → Typed.Mo T50
-      m40 = λ before given. s48 (before .before .before .before .before .before .before .before .before .before .before .before .before .before .before .before .blocks) .next (m39 (before .before)
-          (before .image .given)) given
-
-      abbrev pub m41 : (before : After-image) → (given : s48 (before .before .before .before .before .before .before .before .before .before .before .before .before .before .before .before .blocks)
-          .gives (m39 (before .before) (before .image .given))) → Typed.Mo T53
-      m41 = λ before given. s51 (before .before .before .before .before .before .before .before .before .before .before .before .before .before .before .before .blocks) (m40 before given)
-
-      abbrev pub m42 : (before : After-image) → (given : s48 (before .before .before .before .before .before .before .before .before .before .before .before .before .before .before .before .blocks)
-          .gives (m39 (before .before) (before .image .given))) → Typed.Mo T55
-      m42 = λ before given. s53 (before .before .before .before .before .before .before .before .before .before .before .before .before .before .before .before .blocks) (m41 before given)
-
       abbrev pub m43 : (before : After-image) → (given : s48 (before .before .before .before .before .before .before .before .before .before .before .before .before .before .before .before .blocks)
-          .gives (m39 (before .before) (before .image .given))) → Typed.Mo T56
-      m43 = λ before given. s54 (before .before .before .before .before .before .before .before .before .before .before .before .before .before .before .before .blocks) (m42 before given)
+          .gives (m39 (before .before) (before .image .given))) → Typed.Mo T1
+      m43 = λ before given. s54 (before .before .before .before .before .before .before .before .before .before .before .before .before .before .before .before .blocks) (s53 (before .before .before
+          .before .before .before .before .before .before .before .before .before .before .before .before .before .blocks) (s51 (before .before .before .before .before .before .before .before .before
+          .before .before .before .before .before .before .before .blocks) (s48 (before .before .before .before .before .before .before .before .before .before .before .before .before .before .before
+          .before .blocks) .next (m39 (before .before) (before .image .given)) given)))
 
       module _ (before· : After-image) where
         pub record After-slice-known2·own : Type 0 where
@@ -2518,7 +1808,7 @@ module _ (claims· : Claims) where
         pub slice-known2 : After-slice-known2·own before
 
       abbrev pub Need-same-length : Type 0
-      Need-same-length = (c : After-slice-known2) → MutSlice.SameLen (Row.get 3 (T56 .locals) (m43 (c .before) (c .slice-known2 .given))) (dens (c .before .before .before .before .before .before
+      Need-same-length = (c : After-slice-known2) → MutSlice.SameLen (Row.get 3 (T1 .locals) (m43 (c .before) (c .slice-known2 .given))) (dens (c .before .before .before .before .before .before
           .before .before .before .before .before .before .before .before .before .before .κs) (c .before .before .before .before .before .before .before .before .before .before .before .before .before
           .before .before .before .args) .1 .1 .0)
 
@@ -2536,78 +1826,56 @@ module _ (claims· : Claims) where
       module _ (xtrans-places-requires : Need-xtrans-places-requires) (cleared-requires : Need-cleared-requires) (samples-needed-requires : Need-samples-needed-requires) (sub-walk : Need-sub-walk)
           (part-lines-start : Need-part-lines-start) (part-lines-end : Need-part-lines-end) (slice-aggregate-walk : Need-slice-aggregate-walk) (no-entries-requires : Need-no-entries-requires)
           (walk-requires : Need-walk-requires) (same-length : Need-same-length) (returns : Need-returns) where
-        lay5 : (c : After-walk) → at23 (c .before .before .before .before .before .before .before .before .before .before .before .before .blocks) (W0 (c .before .before .before .before .before
-            .before .before .before .before .before .before .before .κs) (c .before .before .before .before .before .before .before .before .before .before .before .before .args) (c .before .before
-            .before .before .before .before .before .before .before .before .before .before .blocks)) (m28 (c .before) (After-walk·gave c))
+        lay5 : (c : After-walk) → at23 (c .before .before .before .before .before .before .before .before .before .before .before .before .blocks) (W0 (After-walk·start c .κs) (After-walk·start c
+            .args) (c .before .before .before .before .before .before .before .before .before .before .before .before .blocks)) (m28 (c .before) (After-walk·gave c))
         lay5 = λ c. (
           Path'.refl,
-          λ g. (
+          λ g. let c1 : After-lines2 = record { before = c; lines2 = record { given = g } } in (
             Path'.refl,
-            λ g'. (
+            λ g'. let c2 : After-rs2 = record { before = c1; rs2 = record { given = g' } } in (
               Path'.refl,
-              λ g''. λ g'3. (
-                (
-                  Path'.refl,
-                  (
-                    Path'.refl,
+              λ g''. let c3 : After-image = record { before = c2; image = record { given = g'' } } in λ g'3. let c4 : After-slice-known2 = record
+                  { before = c3; slice-known2 = record { given = g'3 } } in (
                     (
-                      MutSlice.fix-len (Row.get 3 (T56 .locals) (m43 record {
-                        before = record { before = record { before = record { before = c .before; walk = c .walk }; lines2 = record { given = g } }; rs2 = record { given = g' } };
-                        image = record { given = g'' };
-                      } g'3) .ptr) (Row.get 3 (T56 .locals) (m43 record {
-                        before = record { before = record { before = record { before = c .before; walk = c .walk }; lines2 = record { given = g } }; rs2 = record { given = g' } };
-                        image = record { given = g'' };
-                      } g'3) .name) (Row.get 3 (T56 .locals) (m43 record {
-                        before = record { before = record { before = record { before = c .before; walk = c .walk }; lines2 = record { given = g } }; rs2 = record { given = g' } };
-                        image = record { given = g'' };
-                      } g'3) .now) (dens (c .before .before .before .before .before .before .before .before .before .before .before .before .κs) (c .before .before .before .before .before .before .before .before
-                          .before .before .before .before .args) .1 .1 .0 .now) (same-length record {
-                            before = record {
-                              before = record { before = record { before = record { before = c .before; walk = c .walk }; lines2 = record { given = g } }; rs2 = record { given = g' } };
-                              image = record { given = g'' };
-                            };
-                            slice-known2 = record { given = g'3 };
-                          }),
-                      (tt, (tt, (tt, (tt, tt)))),
+                      Path'.refl,
+                      (
+                        Path'.refl,
+                        (
+                          MutSlice.fix-len (Row.get 3 (T1 .locals) (m43 c3 g'3) .ptr) (Row.get 3 (T1 .locals) (m43 c3 g'3) .name) (Row.get 3 (T1 .locals) (m43 c3 g'3) .now) (dens (After-walk·start c .κs)
+                              (After-walk·start c .args) .1 .1 .0 .now) (same-length c4),
+                          (tt, (tt, (tt, (tt, tt)))),
+                        ),
+                      ),
                     ),
+                    returns c4,
                   ),
-                ),
-                returns record {
-                  before = record {
-                    before = record { before = record { before = record { before = c .before; walk = c .walk }; lines2 = record { given = g } }; rs2 = record { given = g' } };
-                    image = record { given = g'' };
-                  };
-                  slice-known2 = record { given = g'3 };
-                },
-              ),
             ),
           ),
         )
 
-        lay4 : (c : After-no-entries) → at24 (c .before .before .before .before .before .before .before .before .before .before .before .blocks) (W0 (c .before .before .before .before .before .before
-            .before .before .before .before .before .κs) (c .before .before .before .before .before .before .before .before .before .before .before .args) (c .before .before .before .before .before
-            .before .before .before .before .before .before .blocks)) (m27 (c .before) (After-no-entries·gave c))
+        lay4 : (c : After-no-entries) → at24 (c .before .before .before .before .before .before .before .before .before .before .before .blocks) (W0 (After-no-entries·start c .κs)
+            (After-no-entries·start c .args) (c .before .before .before .before .before .before .before .before .before .before .before .blocks)) (m27 (c .before) (After-no-entries·gave c))
         lay4 = λ c. (
-          walk-requires record { before = c .before; no-entries = c .no-entries },
+          walk-requires c,
           λ g. lay5 record {
-            before = record { before = c .before; no-entries = c .no-entries };
+            before = c;
             walk = Called.called ps·4 r·4 (claims· .9) T32 (
-              record { pos = 1; ty = Syntax.tyRef (Syntax.named 0) Syntax.imm (Syntax.tyInt Syntax.w8); ref = λ x. x },
+              record { pos = 1; ty = y5; ref = λ x. x },
               (
-                record { pos = 2; ty = Syntax.tyRef (Syntax.named 1) Syntax.imm (Syntax.tyInt Syntax.w8); ref = λ x. x },
+                record { pos = 2; ty = y6; ref = λ x. x },
                 (
-                  record { pos = 18; ty = Syntax.tyRef Syntax.erased Syntax.mut (Syntax.tyInt Syntax.w16); ref = λ x. x },
+                  record { pos = 18; ty = y9; ref = λ x. x },
                   (
-                    record { pos = 20; ty = Syntax.tyRef Syntax.erased Syntax.mut Element.behind; ref = λ x. x },
+                    record { pos = 20; ty = y8; ref = λ x. x },
                     (
-                      record { pos = 22; ty = Syntax.tyRef Syntax.erased Syntax.mut (Syntax.tyInt Syntax.w16); ref = λ x. x },
+                      record { pos = 22; ty = y9; ref = λ x. x },
                       (
-                        record { pos = 4; st = List.[]; d = 0; at = λ x. x },
+                        record { pos = 4; st = []; d = 0; at = λ x. x },
                         (
-                          record { pos = 23; ty = Syntax.tyRef Syntax.erased Syntax.imm (Syntax.tyArray (Syntax.tyInt Syntax.w16) 768); ref = λ x. x },
+                          record { pos = 23; ty = y14; ref = λ x. x },
                           (
-                            record { pos = 5; st = List.[]; d = 0; at = λ x. x },
-                            (record { pos = 6; st = List.[]; d = 0; at = λ x. x }, (Num.vAt 7 λ x. x, (Bool.bLit Bool'.false, (record { pos = 24; st = List.[]; d = 0; at = λ x. x }, tt)))),
+                            record { pos = 5; st = []; d = 0; at = λ x. x },
+                            (record { pos = 6; st = []; d = 0; at = λ x. x }, (Num.vAt 7 λ x. x, (Bool.bLit Bool'.false, (record { pos = 24; st = []; d = 0; at = λ x. x }, tt)))),
                           ),
                         ),
                       ),
@@ -2620,91 +1888,49 @@ module _ (claims· : Claims) where
           },
         )
 
-        lay3 : (c : After-samples-needed) → at42 (c .before .before .before .before .before .before .blocks) (W0 (c .before .before .before .before .before .before .κs) (c .before .before .before
-            .before .before .before .args) (c .before .before .before .before .before .before .blocks)) (m13 (c .before) (After-samples-needed·gave c))
+        lay3 : (c : After-samples-needed) → at42 (c .before .before .before .before .before .before .blocks) (W0 (After-samples-needed·start c .κs) (After-samples-needed·start c .args) (c .before
+            .before .before .before .before .before .blocks)) (m13 (c .before) (After-samples-needed·gave c))
         lay3 = λ c. (
           tt,
           (
-            sub-walk record { before = c .before; samples-needed = c .samples-needed },
+            sub-walk c,
             (
-              (
-                Path'.refl,
-                Path'.refl,
-                part-lines-start record { before = c .before; samples-needed = c .samples-needed },
-                part-lines-end record
-                    { before = c .before; samples-needed = c .samples-needed },
-              ),
-              λ g. (
-                Relend.count-is T21 17 18 (λ x. x) (λ u. u .1 .1 .1 .1 .1 .1 .1 .1 .1 .1 .1 .1 .1 .1 .1 .1 .0) (m19 record { before = c .before; samples-needed = c .samples-needed } g) (g .1),
-                λ g'. (
-                  Relend.count-is T25 19 20 (λ x. x) (λ u. 336) (m22 record { before = record { before = c .before; samples-needed = c .samples-needed }; lines = record { given = g } } g')
-                      (slice-aggregate-walk record { before = record { before = record { before = c .before; samples-needed = c .samples-needed }; lines = record { given = g } }; rs = record { given = g' } }),
-                  λ
-                      g''. (
+              (Path'.refl, Path'.refl, part-lines-start c, part-lines-end c),
+              λ g. let c1 : After-lines = record { before = c; lines = record { given = g } } in (
+                Relend.count-is T21 17 18 (λ x. x) (λ u. u .1 .1 .1 .1 .1 .1 .1 .1 .1 .1 .1 .1 .1 .1 .1 .1 .0) (m19 c g) (g .1),
+                λ g'. let c2 : After-rs = record { before = c1; rs = record { given = g' } }
+                    in (
+                      Relend.count-is T25 19 20 (λ x. x) (λ u. 336) (m22 c1 g') (slice-aggregate-walk c2),
+                      λ g''. let c3 : After-walk-arg = record { before = c2; walk-arg = record { given = g'' } } in (
                         Path'.refl,
-                        λ g'3. (
-                          no-entries-requires record {
-                            before = record {
-                              before = record { before = record { before = record { before = c .before; samples-needed = c .samples-needed }; lines = record { given = g } }; rs = record { given = g' } };
-                              walk-arg =
-                                  record { given = g'' };
-                            };
-                            places = record { given = g'3 };
-                          },
-                          λ g'4. lay4 record {
-                            before = record {
-                              before = record {
-                                before = record { before = record { before = record { before = c .before; samples-needed = c .samples-needed }; lines = record { given = g } }; rs = record { given = g' } };
-                                walk-arg =
-                                    record { given = g'' };
-                              };
-                              places = record { given = g'3 };
-                            };
-                            no-entries = Called.called ps·3 r·3 (claims· .7) T31 tt (m26 record {
-                              before = record { before = record { before = record { before = c .before; samples-needed = c .samples-needed }; lines = record { given = g } }; rs = record { given = g' } };
-                              walk-arg =
-                                  record { given = g'' };
-                            } g'3) g'4;
-                          },
-                        ),
+                        λ g'3. let c4 : After-places = record { before = c3; places = record { given = g'3 } } in
+                            (no-entries-requires c4, λ g'4. lay4 record { before = c4; no-entries = Called.called ps·3 r·3 (claims· .7) T31 tt (m26 c3 g'3) g'4 }),
                       ),
-                ),
+                    ),
               ),
             ),
           ),
         )
 
-        lay2 : (c : After-cleared) → at46 (c .before .before .before .before .before .blocks) (W0 (c .before .before .before .before .before .κs) (c .before .before .before .before .before .args) (c
-            .before .before .before .before .before .blocks)) (m9 (c .before) (After-cleared·gave c))
+        lay2 : (c : After-cleared) → at46 (c .before .before .before .before .before .blocks) (W0 (After-cleared·start c .κs) (After-cleared·start c .args) (c .before .before .before .before .before
+            .blocks)) (m9 (c .before) (After-cleared·gave c))
         lay2 = λ c. (
-          samples-needed-requires record { before = c .before; cleared = c .cleared },
+          samples-needed-requires c,
           λ g. lay3 record {
-            before = record { before = c .before; cleared = c .cleared };
-            samples-needed = Called.called ps·2 r·2 (claims· .5) T13
-                (Bool.bFld 4 (List._∷_ (Syntax.field 1) List.[]) 4 λ x. Form.struct .as-values x .1 .0, tt) (m12 (c .before) (After-cleared·gave c)) g;
+            before = c;
+            samples-needed = Called.called ps·2 r·2 (claims· .5) T13 (Bool.bFld 4 ((Syntax.field 1) ∷ []) 4 λ x. Form.struct .as-values x .1 .0, tt) (m12 (c .before) (After-cleared·gave c))
+                g;
           },
         )
 
-        lay1 : (c : After-xtrans-places) → at51 (c .before .before .before .before .blocks) (W0 (c .before .before .before .before .κs) (c .before .before .before .before .args) (c .before .before
-            .before .before .blocks)) (m4 (c .before) (After-xtrans-places·gave c))
-        lay1 = λ c. (
-          cleared-requires record { before = c .before; xtrans-places = c .xtrans-places },
-          λ g. lay2 record
-              { before = record { before = c .before; xtrans-places = c .xtrans-places }; cleared = Called.called ps·1 r·1 (claims· .3) T9 tt (m8 (c .before) (After-xtrans-places·gave c)) g },
-        )
+        lay1 : (c : After-xtrans-places) → at51 (c .before .before .before .before .blocks) (W0 (After-xtrans-places·start c .κs) (After-xtrans-places·start c .args) (c .before .before .before .before
+            .blocks)) (m4 (c .before) (After-xtrans-places·gave c))
+        lay1 = λ c. (cleared-requires c, λ g. lay2 record { before = c; cleared = Called.called ps·1 r·1 (claims· .3) T9 tt (m8 (c .before) (After-xtrans-places·gave c)) g })
 
         pub laid : (c : Start) → at55 (c .blocks) (W0 (c .κs) (c .args) (c .blocks)) (m0 (c .κs) (c .args) (c .blocks))
-        laid = λ c. λ g. λ g'. λ g''. (
-          xtrans-places-requires record
-              { before = record { before = record { before = c; shared-slice-known = record { given = g } }; shared-slice-known2 = record { given = g' } }; slice-known = record { given = g'' } },
-          λ g'3.
-              lay1 record {
-                before = record
-                    { before = record { before = record { before = c; shared-slice-known = record { given = g } }; shared-slice-known2 = record { given = g' } }; slice-known = record { given = g'' } };
-                xtrans-places = Called.called ps·0 r·0 (claims· .1) T4 tt (m3 record { before = record { before = c; shared-slice-known = record { given = g } }; shared-slice-known2 = record { given = g' } }
-                    g'') g'3;
-              },
-        )
+        laid = λ c. λ g. let c1 : After-shared-slice-known = record { before = c; shared-slice-known = record { given = g } } in λ g'. let c2 : After-shared-slice-known2 = record
+            { before = c1; shared-slice-known2 = record { given = g' } } in λ g''. let c3 : After-slice-known = record { before = c2; slice-known = record { given = g'' } } in
+            (xtrans-places-requires c3, λ g'3. lay1 record { before = c3; xtrans-places = Called.called ps·0 r·0 (claims· .1) T0 tt (m3 c2 g'') g'3 })
 
         module _ (κs : Lifetimes.Lfts 3) (qs : Lifetimes.Shares 3) where
           pub asked : (a : Kinds.Dens κs ps) → (good : Kinds.GoodsP κs ps a) → (pre : Pre· κs a) → (bs : List.List Nat.ℕ) → Φ bs (Any.wantQ 3 ps r xs m κs qs a (Post· κs a)) (Function.init 3 ps r xs m

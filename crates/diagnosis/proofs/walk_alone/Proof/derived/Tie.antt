@@ -24,125 +24,53 @@ use borrow.Fn.Run
 use borrow.Fn.Written
 use contract.Running
 
+abbrev claims : Lts.Claims
+claims = (Reads'5.Asked, Reads'5.Learnt, Reads''.Asked, Reads''.Learnt, Reads.Asked, Reads.Learnt, Reads'.Asked, Reads'.Learnt, Reads'3.Asked, Reads'3.Learnt)
+
 abbrev pub Start : Type 0
-Start = Lts.Start (Reads'5.Asked, Reads'5.Learnt, Reads''.Asked, Reads''.Learnt, Reads.Asked, Reads.Learnt, Reads'.Asked, Reads'.Learnt, Reads'3.Asked, Reads'3.Learnt) Reads'4.Pre Reads'4.Post
-
-abbrev pub After-shared-slice-known : Type 0
-After-shared-slice-known = Lts.After-shared-slice-known
-    (Reads'5.Asked, Reads'5.Learnt, Reads''.Asked, Reads''.Learnt, Reads.Asked, Reads.Learnt, Reads'.Asked, Reads'.Learnt, Reads'3.Asked, Reads'3.Learnt) Reads'4.Pre Reads'4.Post
-
-abbrev pub After-shared-slice-known2 : Type 0
-After-shared-slice-known2 = Lts.After-shared-slice-known2
-    (Reads'5.Asked, Reads'5.Learnt, Reads''.Asked, Reads''.Learnt, Reads.Asked, Reads.Learnt, Reads'.Asked, Reads'.Learnt, Reads'3.Asked, Reads'3.Learnt) Reads'4.Pre Reads'4.Post
-
-abbrev pub After-slice-known : Type 0
-After-slice-known = Lts.After-slice-known (Reads'5.Asked, Reads'5.Learnt, Reads''.Asked, Reads''.Learnt, Reads.Asked, Reads.Learnt, Reads'.Asked, Reads'.Learnt, Reads'3.Asked, Reads'3.Learnt)
-    Reads'4.Pre Reads'4.Post
-
-abbrev pub After-xtrans-places : Type 0
-After-xtrans-places = Lts.After-xtrans-places (Reads'5.Asked, Reads'5.Learnt, Reads''.Asked, Reads''.Learnt, Reads.Asked, Reads.Learnt, Reads'.Asked, Reads'.Learnt, Reads'3.Asked, Reads'3.Learnt)
-    Reads'4.Pre Reads'4.Post
-
-abbrev pub After-cleared : Type 0
-After-cleared = Lts.After-cleared (Reads'5.Asked, Reads'5.Learnt, Reads''.Asked, Reads''.Learnt, Reads.Asked, Reads.Learnt, Reads'.Asked, Reads'.Learnt, Reads'3.Asked, Reads'3.Learnt) Reads'4.Pre
-    Reads'4.Post
-
-abbrev pub After-samples-needed : Type 0
-After-samples-needed = Lts.After-samples-needed (Reads'5.Asked, Reads'5.Learnt, Reads''.Asked, Reads''.Learnt, Reads.Asked, Reads.Learnt, Reads'.Asked, Reads'.Learnt, Reads'3.Asked, Reads'3.Learnt)
-    Reads'4.Pre Reads'4.Post
-
-abbrev pub After-lines : Type 0
-After-lines = Lts.After-lines (Reads'5.Asked, Reads'5.Learnt, Reads''.Asked, Reads''.Learnt, Reads.Asked, Reads.Learnt, Reads'.Asked, Reads'.Learnt, Reads'3.Asked, Reads'3.Learnt) Reads'4.Pre
-    Reads'4.Post
-
-abbrev pub After-rs : Type 0
-After-rs = Lts.After-rs (Reads'5.Asked, Reads'5.Learnt, Reads''.Asked, Reads''.Learnt, Reads.Asked, Reads.Learnt, Reads'.Asked, Reads'.Learnt, Reads'3.Asked, Reads'3.Learnt) Reads'4.Pre Reads'4.Post
-
-abbrev pub After-walk-arg : Type 0
-After-walk-arg = Lts.After-walk-arg (Reads'5.Asked, Reads'5.Learnt, Reads''.Asked, Reads''.Learnt, Reads.Asked, Reads.Learnt, Reads'.Asked, Reads'.Learnt, Reads'3.Asked, Reads'3.Learnt) Reads'4.Pre
-    Reads'4.Post
-
-abbrev pub After-places : Type 0
-After-places = Lts.After-places (Reads'5.Asked, Reads'5.Learnt, Reads''.Asked, Reads''.Learnt, Reads.Asked, Reads.Learnt, Reads'.Asked, Reads'.Learnt, Reads'3.Asked, Reads'3.Learnt) Reads'4.Pre
-    Reads'4.Post
-
-abbrev pub After-no-entries : Type 0
-After-no-entries = Lts.After-no-entries (Reads'5.Asked, Reads'5.Learnt, Reads''.Asked, Reads''.Learnt, Reads.Asked, Reads.Learnt, Reads'.Asked, Reads'.Learnt, Reads'3.Asked, Reads'3.Learnt)
-    Reads'4.Pre Reads'4.Post
-
-abbrev pub After-walk : Type 0
-After-walk = Lts.After-walk (Reads'5.Asked, Reads'5.Learnt, Reads''.Asked, Reads''.Learnt, Reads.Asked, Reads.Learnt, Reads'.Asked, Reads'.Learnt, Reads'3.Asked, Reads'3.Learnt) Reads'4.Pre
-    Reads'4.Post
-
-abbrev pub After-lines2 : Type 0
-After-lines2 = Lts.After-lines2 (Reads'5.Asked, Reads'5.Learnt, Reads''.Asked, Reads''.Learnt, Reads.Asked, Reads.Learnt, Reads'.Asked, Reads'.Learnt, Reads'3.Asked, Reads'3.Learnt) Reads'4.Pre
-    Reads'4.Post
-
-abbrev pub After-rs2 : Type 0
-After-rs2 = Lts.After-rs2 (Reads'5.Asked, Reads'5.Learnt, Reads''.Asked, Reads''.Learnt, Reads.Asked, Reads.Learnt, Reads'.Asked, Reads'.Learnt, Reads'3.Asked, Reads'3.Learnt) Reads'4.Pre Reads'4.Post
-
-abbrev pub After-image : Type 0
-After-image = Lts.After-image (Reads'5.Asked, Reads'5.Learnt, Reads''.Asked, Reads''.Learnt, Reads.Asked, Reads.Learnt, Reads'.Asked, Reads'.Learnt, Reads'3.Asked, Reads'3.Learnt) Reads'4.Pre
-    Reads'4.Post
-
-abbrev pub After-slice-known2 : Type 0
-After-slice-known2 = Lts.After-slice-known2 (Reads'5.Asked, Reads'5.Learnt, Reads''.Asked, Reads''.Learnt, Reads.Asked, Reads.Learnt, Reads'.Asked, Reads'.Learnt, Reads'3.Asked, Reads'3.Learnt)
-    Reads'4.Pre Reads'4.Post
+Start = Lts.Start claims Reads'4.Pre Reads'4.Post
 
 abbrev pub Need-xtrans-places-requires : Type 0
-Need-xtrans-places-requires = Lts.Need-xtrans-places-requires
-    (Reads'5.Asked, Reads'5.Learnt, Reads''.Asked, Reads''.Learnt, Reads.Asked, Reads.Learnt, Reads'.Asked, Reads'.Learnt, Reads'3.Asked, Reads'3.Learnt) Reads'4.Pre Reads'4.Post
+Need-xtrans-places-requires = Lts.Need-xtrans-places-requires claims Reads'4.Pre Reads'4.Post
 
 abbrev pub Need-cleared-requires : Type 0
-Need-cleared-requires = Lts.Need-cleared-requires (Reads'5.Asked, Reads'5.Learnt, Reads''.Asked, Reads''.Learnt, Reads.Asked, Reads.Learnt, Reads'.Asked, Reads'.Learnt, Reads'3.Asked, Reads'3.Learnt)
-    Reads'4.Pre Reads'4.Post
+Need-cleared-requires = Lts.Need-cleared-requires claims Reads'4.Pre Reads'4.Post
 
 abbrev pub Need-samples-needed-requires : Type 0
-Need-samples-needed-requires = Lts.Need-samples-needed-requires
-    (Reads'5.Asked, Reads'5.Learnt, Reads''.Asked, Reads''.Learnt, Reads.Asked, Reads.Learnt, Reads'.Asked, Reads'.Learnt, Reads'3.Asked, Reads'3.Learnt) Reads'4.Pre Reads'4.Post
+Need-samples-needed-requires = Lts.Need-samples-needed-requires claims Reads'4.Pre Reads'4.Post
 
 abbrev pub Need-sub-walk : Type 0
-Need-sub-walk = Lts.Need-sub-walk (Reads'5.Asked, Reads'5.Learnt, Reads''.Asked, Reads''.Learnt, Reads.Asked, Reads.Learnt, Reads'.Asked, Reads'.Learnt, Reads'3.Asked, Reads'3.Learnt) Reads'4.Pre
-    Reads'4.Post
+Need-sub-walk = Lts.Need-sub-walk claims Reads'4.Pre Reads'4.Post
 
 abbrev pub Need-part-lines-start : Type 0
-Need-part-lines-start = Lts.Need-part-lines-start (Reads'5.Asked, Reads'5.Learnt, Reads''.Asked, Reads''.Learnt, Reads.Asked, Reads.Learnt, Reads'.Asked, Reads'.Learnt, Reads'3.Asked, Reads'3.Learnt)
-    Reads'4.Pre Reads'4.Post
+Need-part-lines-start = Lts.Need-part-lines-start claims Reads'4.Pre Reads'4.Post
 
 abbrev pub Need-part-lines-end : Type 0
-Need-part-lines-end = Lts.Need-part-lines-end (Reads'5.Asked, Reads'5.Learnt, Reads''.Asked, Reads''.Learnt, Reads.Asked, Reads.Learnt, Reads'.Asked, Reads'.Learnt, Reads'3.Asked, Reads'3.Learnt)
-    Reads'4.Pre Reads'4.Post
+Need-part-lines-end = Lts.Need-part-lines-end claims Reads'4.Pre Reads'4.Post
 
 abbrev pub Need-slice-aggregate-walk : Type 0
-Need-slice-aggregate-walk = Lts.Need-slice-aggregate-walk
-    (Reads'5.Asked, Reads'5.Learnt, Reads''.Asked, Reads''.Learnt, Reads.Asked, Reads.Learnt, Reads'.Asked, Reads'.Learnt, Reads'3.Asked, Reads'3.Learnt) Reads'4.Pre Reads'4.Post
+Need-slice-aggregate-walk = Lts.Need-slice-aggregate-walk claims Reads'4.Pre Reads'4.Post
 
 abbrev pub Need-no-entries-requires : Type 0
-Need-no-entries-requires = Lts.Need-no-entries-requires
-    (Reads'5.Asked, Reads'5.Learnt, Reads''.Asked, Reads''.Learnt, Reads.Asked, Reads.Learnt, Reads'.Asked, Reads'.Learnt, Reads'3.Asked, Reads'3.Learnt) Reads'4.Pre Reads'4.Post
+Need-no-entries-requires = Lts.Need-no-entries-requires claims Reads'4.Pre Reads'4.Post
 
 abbrev pub Need-walk-requires : Type 0
-Need-walk-requires = Lts.Need-walk-requires (Reads'5.Asked, Reads'5.Learnt, Reads''.Asked, Reads''.Learnt, Reads.Asked, Reads.Learnt, Reads'.Asked, Reads'.Learnt, Reads'3.Asked, Reads'3.Learnt)
-    Reads'4.Pre Reads'4.Post
+Need-walk-requires = Lts.Need-walk-requires claims Reads'4.Pre Reads'4.Post
 
 abbrev pub Need-same-length : Type 0
-Need-same-length = Lts.Need-same-length (Reads'5.Asked, Reads'5.Learnt, Reads''.Asked, Reads''.Learnt, Reads.Asked, Reads.Learnt, Reads'.Asked, Reads'.Learnt, Reads'3.Asked, Reads'3.Learnt)
-    Reads'4.Pre Reads'4.Post
+Need-same-length = Lts.Need-same-length claims Reads'4.Pre Reads'4.Post
 
 abbrev pub Need-returns : Type 0
-Need-returns = Lts.Need-returns (Reads'5.Asked, Reads'5.Learnt, Reads''.Asked, Reads''.Learnt, Reads.Asked, Reads.Learnt, Reads'.Asked, Reads'.Learnt, Reads'3.Asked, Reads'3.Learnt) Reads'4.Pre
-    Reads'4.Post
+Need-returns = Lts.Need-returns claims Reads'4.Pre Reads'4.Post
 
 module _ {M : Type 1} where
   pub spec : (answer : Need-xtrans-places-requires) → (answer : Need-cleared-requires) → (answer : Need-samples-needed-requires) → (answer : Need-sub-walk) → (answer : Need-part-lines-start) → (answer
       : Need-part-lines-end) → (answer : Need-slice-aggregate-walk) → (answer : Need-no-entries-requires) → (answer : Need-walk-requires) → (answer : Need-same-length) → (answer : Need-returns) →
-      Lts.Closed (Reads'5.Asked, Reads'5.Learnt, Reads''.Asked, Reads''.Learnt, Reads.Asked, Reads.Learnt, Reads'.Asked, Reads'.Learnt, Reads'3.Asked, Reads'3.Learnt) Reads'4.Pre Reads'4.Post M
-  spec = λ answer answer' answer'' answer'3 answer'4 answer'5 answer'6 answer'7 answer'8 answer'9 answer'10. Lts.spec
-      (Reads'5.Asked, Reads'5.Learnt, Reads''.Asked, Reads''.Learnt, Reads.Asked, Reads.Learnt, Reads'.Asked, Reads'.Learnt, Reads'3.Asked, Reads'3.Learnt) Reads'4.Pre Reads'4.Post answer answer' answer''
-      answer'3 answer'4 answer'5 answer'6 answer'7 answer'8 answer'9 answer'10
+      Lts.Closed claims Reads'4.Pre Reads'4.Post M
+  spec = λ answer answer' answer'' answer'3 answer'4 answer'5 answer'6 answer'7 answer'8 answer'9 answer'10. Lts.spec claims Reads'4.Pre Reads'4.Post answer answer' answer'' answer'3 answer'4 answer'5
+      answer'6 answer'7 answer'8 answer'9 answer'10
 
-  pub close : Lts.Closed (Reads'5.Asked, Reads'5.Learnt, Reads''.Asked, Reads''.Learnt, Reads.Asked, Reads.Learnt, Reads'.Asked, Reads'.Learnt, Reads'3.Asked, Reads'3.Learnt) Reads'4.Pre Reads'4.Post
-      M → Statement.statement M
+  pub close : Lts.Closed claims Reads'4.Pre Reads'4.Post M → Statement.statement M
   unfolding Code.routine Running.tablesOf
   close = λ closed 𝓤 H 𝓜 𝓖 𝓡. Written.close 3 Kinds.ps Kinds.r Reads'4.Ghost Reads'4.requires Reads'4.ensures Reads'4.pre-read Reads'4.Pinned Reads'4.Owned Reads'4.post-read record
       { M = M; 𝓤 = 𝓤; H = H; 𝓜 = 𝓜; 𝓖 = 𝓖; 𝓡 = 𝓡 } Code.env Key.name Code.function (Code.unfolded 𝓤 H 𝓜 𝓡) (λ κs a g. tt) (λ κs. Reads'4.owns κs record { M = M; 𝓤 = 𝓤; H = H; 𝓜 = 𝓜; 𝓖 = 𝓖; 𝓡 = 𝓡 })
