@@ -16,7 +16,7 @@ The borrow checker's rules hold of every element type, and only its front refuse
   3. puts the struct in the array's place, and writes below crates/CRATE/proofs, M being the function's module, if it has one:
        M/derived/F/Kinds, Reads       what a caller of F cites
        M/F/Proof/derived/Lts, Tie     F's derivation over the MIR, and its needs at F's contract
-     lend_layout.py gives a name to what a derivation says again and again, and breaks its lines.
+     lend_names.py gives names to what a derivation says again and again, and lend_layout.py breaks its lines.
 The check admits each derivation over the real function's MIR and contract, or refuses it: nothing here is trusted.
 """
 import filecmp, os, re, shutil, subprocess, sys
@@ -71,12 +71,24 @@ class Crate:
         return self
 
     def called(self, crates):
-        """The functions over slices of S of other crates that are called, each with its crate."""
+        """The functions over slices of S of other crates that are called, and those that make an S by value, each with its crate."""
         used = sorted(set(re.findall(r"^use (\w+)::(\w+);", "".join(self.files.values()), flags=re.M)))
-        return {f: crates[x].load(crates) for x, f in used if x in crates and f in crates[x].kinds}
+        return {f: crates[x].load(crates) for x, f in used if x in crates and (f in crates[x].kinds or f in crates[x].values)}
+
+    def words(self):
+        """The words of the proofs that are written by hand."""
+        if not hasattr(self, "own_words"):
+            d = f"crates/{self.name}/proofs"
+            own = [f"{p}/{x}" for p, _, files in os.walk(d) for x in files if x.endswith(".antt") and "/derived/" not in f"{p}/{x}"]
+            self.own_words = {w for x in own for w in re.findall(r"[\w·-]+", read(x))}
+        return self.own_words
 
     def of(self, kind):
         return [f for f in self.kinds if self.kinds[f] == kind]
+
+    def slices(self):
+        """Those functions of other crates that take a slice."""
+        return [f for f in self.lower if f in self.lower[f].kinds]
 
     def below(self, f, sep):
         """The function's place: its module and its name."""
@@ -139,20 +151,28 @@ def function(head, body):
 
 def twin_small(c, real):
     """S is the array by value too. The twin has these functions and, with other bodies, those that they call, and nothing else."""
-    called = {g for f in real for g in c.item if g not in real and re.search(r"(?<![\w:.])" + g + r"\(", c.item[f]["body"])}
+    calls = lambda g: any(re.search(r"(?<![\w:.])" + g + r"\(", c.item[f]["body"]) for f in real)
+    called, lent = {g for g in c.item if g not in real and calls(g)}, [g for g in c.lower if calls(g)]
+    there, array = {*called, *real, *lent}, lambda text: re.sub(r"\b" + c.record + r"\b", ARR, text)
     files = {}
     for m, text in c.files.items():
         own = [f for f in c.item if c.module[f] == m and f in called | set(real)]
-        uses = [u for u in re.findall(r"^(?:pub )?use [^\n]*\n", text, flags=re.M) if own and kept_use(c, u, called | set(real))]
+        uses = [u for u in re.findall(r"^(?:pub )?use [^\n]*\n", text, flags=re.M) if own and kept_use(c, u, there)]
         types = re.findall(r"^pub (?:struct|enum) \w+ \{\n.*?^\}\n", text, flags=re.S | re.M)
         text = "".join(types) + "\n".join(function(c.item[f]["head"], c.item[f]["body"] if f in real else c.dummy(f, c.item[f]["head"])) for f in own)
-        files[m] = "".join(uses) + re.sub(r"\b" + c.record + r"\b", ARR, text)
+        files[m] = from_lent("".join(uses), lent) + array(text)
+    if lent:
+        files["lent"] = lent_module(c, lent, array)
     return with_modules(c, files)
 
-def lent_module(c):
-    """The functions of the crates below, with what their modules use for their heads."""
-    text, uses = "".join(c.far.values()), set()
-    for f, low in c.lower.items():
+def from_lent(text, lent):
+    """These functions of other crates are used from the module `lent`."""
+    return re.sub(r"^use \w+::(" + "|".join(lent) + ");", r"use crate::lent::\1;", text, flags=re.M) if lent else text
+
+def lent_module(c, lent, array=lambda text: text):
+    """These functions of the crates below, with what their modules use for their heads."""
+    text, uses = array("".join(c.far[f] for f in lent)), set()
+    for low, f in ((c.lower[f], f) for f in lent):
         own = re.findall(r"^use [^\n]*\n", low.files[low.module[f]], flags=re.M)
         uses |= {re.sub(r"crate::(?:\w+::)?", low.name + "::", u) for u in own}
     kept = [u for u in sorted(uses) if re.search(r"\b" + re.search(r"(\w+);", u)[1] + r"\b(?!\()", text)]
@@ -160,13 +180,13 @@ def lent_module(c):
 
 def kept_use(c, line, there):
     name = re.search(r"(\w+);", line)[1]
-    return name != c.record and (name not in c.item or name in there)
+    return name != c.record and (name in there or name not in c.item and name not in c.lower)
 
 def with_modules(c, files):
     """The root declares the modules that have something."""
     whole = {m: trivial(t) for m, t in files.items() if t or not m}
     uses = re.findall(r"^use [^\n]*\n", c.files[""], flags=re.M)
-    names = [u for u in uses if re.search(r"(\w+);", u)[1] != c.record and u not in files[""]]
+    names = [u for u in uses if re.search(r"(\w+);", u)[1] not in (c.record, *c.lower) and u not in files[""]]
     whole[""] = whole[""].split("\n", 1)[0] + "\n" + "".join(f"mod {m};\n" for m in whole if m) + "".join(names) + whole[""].split("\n", 1)[1]
     return whole
 
@@ -185,8 +205,8 @@ def twin_carry(c):
             return ""
         other = c.kinds.get(f) in ("touch", "own")
         return function(m["head"], c.dummy(f, m["head"]) if other else m["body"])
-    files = {}
-    for module, text in list(c.files.items()) + ([("lent", lent_module(c))] if c.lower else []):
+    files, lent = {}, c.slices()
+    for module, text in list(c.files.items()) + ([("lent", lent_module(c, lent))] if lent else []):
         text = text if module == "lent" else ITEM.sub(one, text)
         if c.pump and not module:
             text += ("fn main() {}\n" if "main" in gone else "") + "".join(c.far.values())
@@ -195,8 +215,8 @@ def twin_carry(c):
                 text = re.sub(r"\bp\." + f + r"\(\)", f + "(p)", text)
                 text = re.sub(r"\bp\." + f + r"\(", f + "(p, ", text)
             text = re.sub(c.pump + r"<('\w+)>", r"[&\1 [u8]; 1]", text)
-        if c.lower:
-            text = re.sub(r"^use \w+::(" + "|".join(c.far) + ");", r"use crate::lent::\1;", text, flags=re.M) + ("" if module else "mod lent;\n")
+        if lent:
+            text = from_lent(text, lent) + ("" if module else "mod lent;\n")
         if c.record:
             text = re.sub(r"(&(?:'\w+ )?(?:mut )?)\[" + c.record + r"\]", r"\1[" + ARR + "]", text)
         files[module] = trivial(text)
@@ -294,7 +314,8 @@ def moved(c, text):
         text = re.sub(x, y, text)
     for f in [g for g in c.kinds if c.kinds[g] != "own"] + list(c.far):
         low = c.lower.get(f)
-        cited = f"Rattle.{low.name}.proofs." + low.cited(f, ".") if low else f"{P}." + c.cited(f, ".")
+        place = low and (low.cited if f in low.kinds else low.below)(f, ".")
+        cited = f"Rattle.{low.name}.proofs.{place}" if low else f"{P}." + c.cited(f, ".")
         text = re.sub(re.escape(c.path(f)) + r"\.(Kinds|Reads)\b", cited + r".\1", text)
     for f in c.far:                                            # the name that it has where it is, for the one that it has in the twin
         home, place = c.there(f)
@@ -311,13 +332,13 @@ def moved(c, text):
         if m + "." in text:
             lines.insert(first, f"use Rattle.{c.home}.proofs.{m}" if c.home else f"use {P}.{m}")
     lines.insert(0, f"-- Written by tools/lend.py from Rattle's derivation of the twin of `{c.name}`; not edited by hand. Assumes nothing.")
-    return laid_out(lines)
+    return laid_out(lines, c.words())
 
 # ---- what is written
 
 def place(c, root, f, to):
     """The derivation of f, from the folder that Rattle wrote."""
-    for m in ("Kinds", "Reads"):
+    for m in ("Kinds", "Reads") if c.kinds.get(f) != "own" else ():
         put(f"{to}/{c.cited(f, '/')}/{m}.antt", moved(c, read(f"{root}/{c.below(f, '/')}/{m}.antt")))
     if f in c.far:
         return

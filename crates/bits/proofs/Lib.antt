@@ -8,3 +8,4 @@ pub mod PumpMakes
 pub mod PumpPeeks
 pub mod PumpLends
 pub mod Held
+pub mod Values

@@ -10,7 +10,6 @@ use Rattle.statistics.specs.declared.Record.{Record}
 use Rattle.lines.specs.ColourLines.{zeroLines}
 use Rattle.map.specs.Places.{widthOf}
 use Rattle.steps.specs.Values.{Depth}
-use Rattle.totals.specs.Totals.{noTotals}
 use Rattle.stream.specs.Headers.{Ruled}
 use Rattle.stream.specs.declared.FujiHeader.{FujiHeader}
 use Rattle.stream.specs.declared.Parsed.{Parsed}
@@ -23,11 +22,9 @@ use Rattle.begin.specs.declared.Beginning.the-variants as Begin
 use Rattle.block.specs.Images.{formOf, Decoding, Left}
 use Rattle.block.specs.WindowedImages.{windowSize, WindowedDecoding, LeftWindowed}
 use Rattle.block.specs.WindowedLines.{ScratchIn, zerosIn}
-use Rattle.block.specs.Lent.{Buffers, Scratch, Outputs, clearedLines, clearedRecords}
+use Rattle.block.specs.Lent.{Buffers, Scratch, clearedLines, clearedRecords}
 use Rattle.block.specs.Records.{clearRecords}
 use Rattle.block.specs.Totals.{refusedBy}
-use Rattle.block.specs.Storing.{Storing, StoredBy}
-use Rattle.block.specs.Resuming.{Resuming, ResumedBy}
 use Rattle.block.specs.BlockReadings.{BlockReading, LeftBlock}
 use Rattle.block.specs.declared.Counted.{Counted}
 use Rattle.block.specs.declared.Decoded.{Decoded}
@@ -59,27 +56,7 @@ module _ (d : List ℕ) (r : Rect) (tile : List ℕ) (before : Buffers) (begins 
       → LeftWindowed d r tile begins before after a
   windowed-reading h e after a l = rw e l
 
--- going on
-module _ (d : List ℕ) (b : ℕ) (s : List ℕ) (r : Rect) (tile : List ℕ) (before : Buffers) (begins : Beginning) where
-  pub resumed-refused : (x : Refusal) → begins ≡ Begin.Refused x → (a : Counted) → a ≡ refusedBy x → ResumedBy d b s r tile begins before before a
-  resumed-refused x e a f = rw e (f, refl)
-
-  pub resumed-nothing : begins ≡ Begin.Nothing → (a : Counted) → a ≡ record { answer = Done; totals = noTotals } → ResumedBy d b s r tile begins before before a
-  resumed-nothing e a f = rw e (f, refl)
-
-  pub resumed-reading : (h : FujiHeader) → begins ≡ Begin.Reading h → (after : Buffers) (a : Counted) → Resuming d b h s r tile before after a
-      → ResumedBy d b s r tile begins before after a
-  resumed-reading h e after a l = rw e l
-
--- storing
-module _ (d : List ℕ) (b n : ℕ) (before : Outputs) (begins : Parsed) where
-  pub stored-refused : (x : Refusal) → begins ≡ Parsing.Refused x → (a : Counted) → a ≡ refusedBy x → StoredBy d b n begins before before a
-  stored-refused x e a f = rw e (f, refl)
-
-  pub stored-reading : (h : FujiHeader) → begins ≡ Parsing.Header h → (after : Outputs) (a : Counted) → Storing d b n h before after a
-      → StoredBy d b n begins before after a
-  stored-reading h e after a l = rw e l
-
+-- reading one block
 module _ (expected : FujiHeader → Counted) (before : Scratch) (begins : Parsed) where
   pub block-refused : (x : Refusal) → begins ≡ Parsing.Refused x → (a : Counted) → a ≡ refusedBy x → LeftBlock begins expected before before a
   block-refused x e a f = rw e (f, refl)

@@ -8,13 +8,9 @@ pub mod ResumeLaws
 pub mod LineLaws
 pub mod BlockLaws
 pub mod KeepLaws
-pub mod StoredLaws
 pub mod SampleLaws
-pub mod LoadLaws
 pub mod CountLaws
 pub mod DecodeLaws
-pub mod ResumedLaws
-pub mod StoringLaws
 pub mod BadCodeLaws
 pub mod TightLaws
 pub mod TotalLaws

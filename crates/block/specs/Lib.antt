@@ -9,10 +9,6 @@ pub mod BadCodes
 pub mod BadSpots
 pub mod TightBlocks
 pub mod Totals
-pub mod Checkpoints
-pub mod Storing
-pub mod Resuming
-pub mod Calls
 pub mod BlockReadings
 pub mod Sharing
 pub mod Words

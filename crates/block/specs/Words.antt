@@ -12,10 +12,8 @@ use Rattle.begin.specs.declared.Beginning.{Beginning}
 use Rattle.block.specs.Images.{Left}
 use Rattle.block.specs.WindowedImages.{LeftWindowed}
 use Rattle.block.specs.Sharing.{LeftShared}
-use Rattle.block.specs.Lent.{Buffers, Scratch, Outputs}
+use Rattle.block.specs.Lent.{Buffers, Scratch}
 use Rattle.block.specs.BlockReadings.{LeftRead, LeftTight}
-use Rattle.block.specs.Storing.{LeftStored}
-use Rattle.block.specs.Resuming.{LeftResumed}
 use Rattle.block.specs.declared.Counted.{Counted}
 use Rattle.block.specs.declared.Decoded.{Decoded}
 use Rattle.block.specs.declared.Decoded.the-variants.{Done, Refused}
@@ -58,17 +56,5 @@ pub record ToldRead (d : List ℕ) (b : ℕ) (before after : Scratch) (totals wo
 pub record ToldTight (d : List ℕ) (b : ℕ) (before after : Scratch) (totals words : List ℕ) : Type 0 where
   pub answer : Counted
   pub left : LeftTight d b before after answer
-  pub told-totals : totals ≡ totalsWords (answer .totals)
-  pub told : words ≡ answerWords (answer .answer)
-
-pub record ToldStored (d : List ℕ) (b n : ℕ) (before after : Outputs) (totals words : List ℕ) : Type 0 where
-  pub answer : Counted
-  pub left : LeftStored d b n before after answer
-  pub told-totals : totals ≡ totalsWords (answer .totals)
-  pub told : words ≡ answerWords (answer .answer)
-
-pub record ToldResumed (d : List ℕ) (b : ℕ) (s : List ℕ) (r : Rect) (tile : List ℕ) (before after : Buffers) (totals words : List ℕ) : Type 0 where
-  pub answer : Counted
-  pub left : LeftResumed d b s r tile before after answer
   pub told-totals : totals ≡ totalsWords (answer .totals)
   pub told : words ≡ answerWords (answer .answer)

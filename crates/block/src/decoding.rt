@@ -3,7 +3,7 @@ ghost use mathlib.Core.Path.{_≡_};
 ghost use Prim.Native.Nat.{_+_, _-_};
 ghost use lib.ListN.{length};
 ghost use Rattle.block.specs.Records.{clearRecords};
-ghost use Rattle.block.specs.Images.{orElse, walkedAnswer, answerOf, Left, LeftImage};
+ghost use Rattle.block.specs.Images.{orElse, walkedAnswer, answerOf, Left};
 ghost use Rattle.block.specs.Lent.{Buffers};
 ghost use Rattle.block.specs.WindowedImages.{LeftWindowed};
 ghost use Rattle.block.specs.WindowedLines.{ScratchIn, zerosIn, PicturedIn};
@@ -15,7 +15,6 @@ use crate::Decoded;
 use crate::Walked;
 use crate::form_of;
 use crate::reading::walk;
-use crate::records::cleared;
 use begin::Beginning;
 use map::width;
 use region::Rect;
@@ -191,15 +190,4 @@ pub fn decode(
             )
         }
     }
-}
-
-// `decode_region` with scratch of its own, for whoever has none to lend.
-pub fn decode_region_alone(d: &[u8], r: Rect, tile: [u8; 36], image: &mut [u16]) -> Decoded
-    ensures { λ a.
-        let begins = regionBegins (now (d .entry)) r (length (now (image .entry))) 9252 336 in
-        ⌜ LeftImage (now (d .entry)) r tile begins (now (image .entry)) (now (image .exit)) a ⌝ }
-{
-    let mut lines = [0u16; 9252];
-    let mut rs = [cleared(); 336];
-    decode_region(d, r, tile, image, &mut lines, &mut rs)
 }

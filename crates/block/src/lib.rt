@@ -9,32 +9,35 @@ use stream::Refusal;
 use totals::TightLines;
 use totals::Totals;
 
-pub mod checkpoints;
 pub mod decoding;
-mod reading;
+pub mod reading;
 pub mod records;
 pub mod sharing;
 pub mod tight;
 
-pub use checkpoints::resume_region;
-pub use checkpoints::store_checkpoint;
 pub use decoding::decode;
 pub use decoding::decode_region;
-pub use decoding::decode_region_alone;
 pub use decoding::decode_region_windowed;
 pub use reading::is_restarted;
 pub use reading::quantisers_of;
-pub use reading::walk_alone;
+pub use reading::read_lines;
+pub use reading::start_place;
+pub use reading::walk;
 pub use records::clear_records;
+pub use records::cleared;
 pub use records::load_set;
 pub use records::restart;
 pub use records::start_record;
 pub use records::start_records;
 pub use records::store_set;
+pub use records::update;
 pub use sharing::decode_region_shared;
 pub use tight::line_count;
+pub use tight::no_part;
+pub use tight::read_answer;
 pub use tight::read_block;
 pub use tight::read_tight;
+pub use tight::refused;
 pub use tight::tight_answer;
 
 pub struct Form {

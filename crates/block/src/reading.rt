@@ -8,14 +8,13 @@ ghost use Rattle.map.specs.Places.{widthOf, ArePlaces, Fits};
 ghost use Rattle.steps.specs.Values.{quantisersOf, Depth};
 ghost use Rattle.block.specs.Lent.{Buffers};
 ghost use Rattle.block.specs.Records.{isRestarted, clearRecords};
-ghost use Rattle.block.specs.Walks.{startPlace, totalsAt, AllInRange, Shown, shownLines, IsWalked};
+ghost use Rattle.block.specs.Walks.{startPlace, totalsAt, AllInRange, IsWalked};
 ghost use Rattle.block.specs.WindowedLines.{samplesIn, ScratchIn, zerosIn, PassPlaced, LineReadIn, OnlyLine, ShownIn};
 ghost use Rattle.block.specs.WindowedLines.{LinesReadOn, Stands};
 use crate::Form;
 use crate::Lined;
 use crate::Walked;
 use crate::records::clear_records;
-use crate::records::cleared;
 use crate::records::load_set;
 use crate::records::restart;
 use crate::records::start_records;
@@ -75,7 +74,7 @@ fn quantisers_in(entries: Entries, bits: u32, base: u32) -> Quantisers
 }
 
 // Where a block starts.
-pub(crate) fn start_place() -> Place
+pub fn start_place() -> Place
     ensures { λ r. ⌜ r ≡ startPlace ⌝ }
 {
     let at = BitPosition(0);
@@ -197,7 +196,7 @@ fn line(
 // `more` lines of a block from line `first` on, each put into the image as soon as it is read. They begin at this place, with what scratch
 // holds, and leave in it what the last of them left. In windows a truncated line's rows become 0. A line's main quantiser is that of its entry; whoever
 // has no entries gives none.
-pub(crate) fn read_lines(
+pub fn read_lines(
     block: &[u8],
     bases: &[u8],
     lines: &mut [u16],
@@ -262,7 +261,7 @@ pub(crate) fn read_lines(
 
 // A walk over the first `count` lines of a block: the one reading that all calls share. Lines that are read go to the part of the image; whoever
 // wants none gives an empty part. Scratch is cleared afterwards, whatever it held before.
-pub(crate) fn walk(
+pub fn walk(
     block: &[u8],
     bases: &[u8],
     lines: &mut [u16],
@@ -305,39 +304,4 @@ pub(crate) fn walk(
     lines::clear(lines);
     clear_records(rs);
     walked
-}
-
-// A walk with scratch of its own, for whoever has none to lend.
-pub fn walk_alone(
-    block: &[u8],
-    bases: &[u8],
-    image: &mut [u16],
-    form: Form,
-    tile: [u8; 36],
-    part: Part,
-    count: usize,
-) -> Walked
-    requires { ⌜ (length (now block) < 2 ^ 32) × (Depth (form .bits) × (count < 2 ^ 16)) ⌝ }
-    requires { ⌜ Fits part (now image) ⌝ }
-    ensures { λ r. ⌜ IsWalked form (now (bases .entry)) (now (block .entry)) count r ⌝ }
-    ensures { λ r. ⌜ Shown form (now (bases .entry)) (now (block .entry)) tile part (shownLines r count) (now (image .entry)) (now (image .exit)) ⌝ }
-{
-    let places = map::xtrans_places();
-    let mut lines = [0u16; 9252];
-    let mut rs = [cleared(); 336];
-    let used = begin::samples_needed(form.xtrans);
-    walk(
-        block,
-        bases,
-        &mut lines[0..used],
-        &mut rs,
-        image,
-        form,
-        &places,
-        tile,
-        part,
-        count,
-        false,
-        cameras::no_entries(),
-    )
 }

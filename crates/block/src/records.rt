@@ -5,10 +5,9 @@ ghost use mathlib.Core.Bool.{cond};
 ghost use Prim.Native.Nat.{_%_, _≤_, _<_};
 ghost use lib.Dec.{ltb};
 ghost use lib.ListN.{length, getD, set};
-ghost use Rattle.checkpoint.specs.Checkpoints.{loadedRecord};
 ghost use Rattle.steps.specs.Contexts.{noRecord};
 ghost use Rattle.steps.specs.Values.{recordsOf, Depth};
-ghost use Rattle.block.specs.Records.{table, startRecord, startRecords, restartedMain, setOf, putSet, clearRecords};
+ghost use Rattle.block.specs.Records.{startRecord, startRecords, restartedMain, setOf, putSet, clearRecords};
 use quantiser::Quantiser;
 use statistics::Record;
 use steps::Set;
@@ -44,7 +43,7 @@ fn restarted_record(old: Record, bits: u32, base: u32, j: usize) -> Record
     start_record(bits, base, j)
 }
 
-pub(crate) fn cleared() -> Record
+pub fn cleared() -> Record
     ensures { λ r. ⌜ r ≡ record { sum = 0; n = 1 } ⌝ }
 {
     Record { sum: 0, n: 1 }
@@ -57,7 +56,7 @@ fn fetch(rs: &mut [Record], i: usize) -> Record
     rs[i]
 }
 
-fn update(rs: &mut [Record], i: usize, r: Record)
+pub fn update(rs: &mut [Record], i: usize, r: Record)
     requires { ⌜ i < length (now rs) ⌝ }
     ensures { λ _. ⌜ now (rs .exit) ≡ set (now (rs .entry)) i r ⌝ }
 {
@@ -98,21 +97,6 @@ pub fn restart(rs: &mut [Record], bits: u32, base: u32, wanted: bool)
 {
     if wanted {
         restart_main(rs, bits, base);
-    }
-}
-
-// The records that stored bytes hold.
-pub(crate) fn load_records(rs: &mut [Record], s: &[u8], lossless: bool, bits: u32, base: u32)
-    requires { ⌜ (1707 ≤ length (now s)) × (length (now rs) ≡ 336) ⌝ }
-    requires { ⌜ Depth bits × (base < 256) ⌝ }
-    ensures { λ _. ⌜ now (rs .exit) ≡ table (λ j. loadedRecord lossless (startRecord bits base j) (now (s .entry)) j) 336 ⌝ }
-{
-    let mut j: usize = 0;
-    while j < 336 {
-        let start = start_record(bits, base, j);
-        let r = checkpoint::load_record(s, j, lossless, start);
-        update(rs, j, r);
-        j = j + 1;
     }
 }
 

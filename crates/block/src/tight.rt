@@ -29,7 +29,7 @@ use stream::Parsed;
 use stream::Refusal;
 
 // A call that is refused before it reads has counted nothing.
-pub(crate) fn refused(x: Refusal) -> Counted
+pub fn refused(x: Refusal) -> Counted
     ensures { λ r. ⌜ r ≡ refusedBy x ⌝ }
 {
     let answer = Decoded::Refused(x);
@@ -38,7 +38,7 @@ pub(crate) fn refused(x: Refusal) -> Counted
 }
 
 // What the ordinary reading answers for block b, once a walk over its lines has said this.
-pub(crate) fn read_answer(b: usize, got: Walked) -> Counted
+pub fn read_answer(b: usize, got: Walked) -> Counted
     ensures { λ r. ⌜ r ≡ walkedCounted b got ⌝ }
 {
     match got {
@@ -81,7 +81,7 @@ pub fn tight_answer(s: &[u8], form: Form, b: usize, count: usize, got: Walked) -
 }
 
 // A part of no column and no row: a walk to it shows nothing.
-pub(crate) fn no_part() -> Part
+pub fn no_part() -> Part
     ensures { λ r. ⌜ ((image : List ℕ) → Fits r image) ⌝ }
 {
     Part {

@@ -123,7 +123,7 @@ fn agrees(block: &[u8; 40000], bases: &[u8; 3], want: &[u8; 36864], s: Sizes, co
     let n = s.block;
     let row = &bases[..];
     let bytes = &block[..];
-    let r = block::walk_alone(
+    let r = diagnosis::walk_alone(
         &bytes[0..n],
         &row[0..m],
         &mut image,

@@ -1,5 +1,2 @@
--- Laws of the report.
-pub mod TextLaws
+-- Laws of the fault of a block.
 pub mod FaultLaws
-pub mod TrueFindingLaws
-pub mod ReportCases

@@ -1,16 +1,14 @@
--- Why a block is not tight, and the lowest such block of a stream. Assumes nothing.
+-- Why a block is not tight. Assumes nothing.
 use mathlib.Core.Bool.{Bool, false, cond}
 use mathlib.Core.List.{List, [], _∷_}
 use mathlib.Core.Option.{Option, none, some}
-use Prim.Native.Nat.{ℕ, zero, suc}
+use Prim.Native.Nat.{ℕ}
 use lib.Dec.{eqb}
 use lib.ListN.{replicate}
 use Rattle.stream.specs.Refusals.{refusalNumber}
-use Rattle.stream.specs.Streams.{openOf}
 use Rattle.stream.specs.declared.FujiHeader.{FujiHeader}
 use Rattle.stream.specs.declared.Parsed.{Parsed}
 use Rattle.stream.specs.declared.Parsed.the-variants as Parsing
-use Rattle.stream.specs.declared.Refusal.the-variants.{Lossy}
 use Rattle.begin.specs.Beginnings.{tightBegins}
 use Rattle.block.specs.Blocks.{State, readLines}
 use Rattle.block.specs.Images.{formOf, bytesIn}
@@ -24,8 +22,6 @@ use Rattle.trace.specs.declared.Reason.{Reason}
 use Rattle.trace.specs.declared.Reason.the-variants.{Large, Escape, Zeros}
 use Rattle.diagnosis.specs.declared.Fault.{Fault}
 use Rattle.diagnosis.specs.declared.Fault.the-variants as Fault
-use Rattle.diagnosis.specs.declared.Finding.{Finding}
-use Rattle.diagnosis.specs.declared.Finding.the-variants.{Refused, Nothing, Code, Tail}
 
 -- ---- a block
 
@@ -49,33 +45,6 @@ faultAt d h b =
     cond (gives15 (answerAt d h b))
     (whyNot (h .lines) (firstBad (formOf h) [] (bytesIn d b) (h .lines)) (readLines (formOf h) [] (bytesIn d b) (h .lines)))
     Fault.None
-
--- ---- a stream
-
-abbrev pub foundAt : ℕ → Fault → Finding
-foundAt b Fault.None = Nothing
-foundAt b (Fault.Code x) = Code b x
-foundAt b (Fault.Tail lines at) = Tail b lines at
-
--- a finding, or else that of a later block
-abbrev pub orLater : Finding → Finding → Finding
-orLater Nothing f = f
-orLater (Refused x) f = Refused x
-orLater (Code b x) f = Code b x
-orLater (Tail b lines at) f = Tail b lines at
-
--- the lowest of the first n blocks that has a fault
-unfoldable pub lowest : List ℕ → FujiHeader → ℕ → Finding
-lowest d h zero = Nothing
-lowest d h (suc n) = orLater (lowest d h n) (foundAt n (faultAt d h n))
-
--- refusals 1 to 4, then 8
-abbrev pub findingIn : List ℕ → Parsed → Finding
-findingIn d (Parsing.Refused x) = Refused x
-findingIn d (Parsing.Header h) = cond (h .lossless) (lowest d h (h .blocks)) (Refused Lossy)
-
-unfoldable pub findingOf : List ℕ → Finding
-findingOf d = findingIn d (openOf d)
 
 -- ---- one block, for C: the tight reading's answer with scratch of its own, and the fault
 

@@ -1,4 +1,2 @@
--- The definitions of the report on a stream that is not tight.
+-- The definitions of why a block is not tight.
 pub mod Faults
-pub mod Texts
-pub mod TrueFindings

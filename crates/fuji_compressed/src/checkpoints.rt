@@ -1,11 +1,11 @@
 // The state between two lines of a block: stored, and taken up again.
 ghost use Rattle.region.specs.declared.Rect.{Rect};
 ghost use Rattle.block.specs.Lent.{Buffers, Outputs};
-ghost use Rattle.block.specs.Words.{ToldStored, ToldResumed};
+ghost use Rattle.block_states.specs.Words.{ToldStored, ToldResumed};
 use crate::reading::counted_refusal;
 use crate::reading::totals_words;
-use block::resume_region;
-use block::store_checkpoint;
+use block_states::resume_region;
+use block_states::store_checkpoint;
 use region::Rect;
 use statistics::Record;
 

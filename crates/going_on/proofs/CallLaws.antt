@@ -26,10 +26,10 @@ use Rattle.begin.specs.Beginnings.{readBegins, regionBegins, resumeBegins, with
 use Rattle.begin.specs.declared.Beginning.the-variants.{Refused, Reading}
 use Rattle.begin.proofs.CallLaws.{region-reads, block-reads}
 use Rattle.block.specs.Blocks.{State, readLines}
-use Rattle.block.specs.Checkpoints.{savedOf}
+use Rattle.block_states.specs.Checkpoints.{savedOf}
 use Rattle.block.specs.Images.{formOf, bytesIn, basesIn, isRead, linesRead, blockAnswer}
 use Rattle.block.specs.Lent.{Outputs}
-use Rattle.block.specs.Storing.{storedCounted, Storing, StoredBy, LeftStored}
+use Rattle.block_states.specs.Storing.{storedCounted, Storing, StoredBy, LeftStored}
 use Rattle.block.specs.Totals.{counted, refusedBy}
 use Rattle.block.specs.declared.Counted.{Counted}
 use Rattle.block.specs.declared.Decoded.the-variants as Answer

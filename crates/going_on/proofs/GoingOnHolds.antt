@@ -20,7 +20,7 @@ use Rattle.region.proofs.RegionLaws.{block-touched}
 use Rattle.checkpoint.specs.Checkpoints.{sizeOfCheckpoint, nextLine}
 use Rattle.block.specs.Blocks.{State, readLines}
 use Rattle.block.specs.Images.{formOf, bytesIn, basesIn, readIn, lineOf, isDecoded, decodedSample}
-use Rattle.block.specs.Resuming.{linesResumed, isTouched, resumedIn, isResumed, resumedSample, checkedIn, Resumed, Resuming}
+use Rattle.block_states.specs.Resuming.{linesResumed, isTouched, resumedIn, isResumed, resumedSample, checkedIn, Resumed, Resuming}
 use Rattle.block.specs.declared.Counted.{Counted}
 use Rattle.going_on.specs.GoingOn.{isLater, AsFromTop, GoingOn, InRangeFromAny}
 use Rattle.going_on.proofs.CallLaws.{header-same, resume-reads, Stored, has-stored}

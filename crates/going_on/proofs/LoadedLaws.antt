@@ -20,12 +20,12 @@ use Rattle.checkpoint.proofs.ByteLaws.{put-length}
 use Rattle.checkpoint.proofs.LoadedLines.{loaded-sample, left-of-4, right-of-4, left-of-12, right-of-12, left-of-17, right-of-17}
 use Rattle.checkpoint.proofs.StateLaws.{Storable, record-back, sample-back, position-back}
 use Rattle.block.specs.Blocks.{State, readLines}
-use Rattle.block.specs.Checkpoints.{savedOf, loadedState}
+use Rattle.block_states.specs.Checkpoints.{savedOf, loadedState}
 use Rattle.block.specs.Records.{table, startRecord, baseOf}
 use Rattle.block.specs.WindowedLines.{Latest, Windows}
 use Rattle.block.specs.declared.Form.{Form}
-use Rattle.block.proofs.LoadLaws.{read-storable}
-use Rattle.block.proofs.StoredLaws.{records-in-range}
+use Rattle.block_states.proofs.LoadLaws.{read-storable}
+use Rattle.block_states.proofs.StoredLaws.{records-in-range}
 use Rattle.block.proofs.TableLaws.{table-length, table-getD}
 use Rattle.going_on.proofs.FlatLaws.{flat-stay}
 use Rattle.going_on.proofs.GuardLaws.{Ends, read-long, read-ends}

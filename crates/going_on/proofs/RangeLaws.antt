@@ -22,9 +22,9 @@ use Rattle.checkpoint.specs.Checkpoints.{withGuards, loadedLines}
 use Rattle.checkpoint.specs.declared.load.Checked.the-variants.{Bad, Other, At}
 use Rattle.checkpoint.proofs.RangeLaws.{sample-in-range}
 use Rattle.block.specs.Blocks.{State, enter, passAt, readFrom, linesOf}
-use Rattle.block.specs.Checkpoints.{loadedState}
+use Rattle.block_states.specs.Checkpoints.{loadedState}
 use Rattle.block.specs.Images.{formOf, bytesIn, basesIn}
-use Rattle.block.specs.Resuming.{resumedAfter, resumedPicture}
+use Rattle.block_states.specs.Resuming.{resumedAfter, resumedPicture}
 use Rattle.block.specs.declared.Form.{Form}
 use Rattle.block.proofs.KeepLaws.{left-by, from-keeps}
 use Rattle.block.proofs.SampleLaws.{zeros-le, guarded-le, turned-le}

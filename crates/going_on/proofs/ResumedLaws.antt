@@ -26,13 +26,13 @@ use Rattle.checkpoint.specs.Checkpoints.{IsCheckpoint, nextLine, positionIn}
 use Rattle.checkpoint.specs.declared.load.Checked.the-variants.{At}
 use Rattle.checkpoint.proofs.StateLaws.{Storable, next-back, position-back}
 use Rattle.block.specs.Blocks.{State, readLines, linesOf}
-use Rattle.block.specs.Checkpoints.{savedOf, loadedState}
+use Rattle.block_states.specs.Checkpoints.{savedOf, loadedState}
 use Rattle.block.specs.Images.{formOf, bytesIn, basesIn, isRead, linesRead, readIn, pictureSample, blockAnswer}
-use Rattle.block.specs.Resuming.{resumedAfter, linesResumed, isTouched, resumedPicture, resumedAnswer, checkedIn}
+use Rattle.block_states.specs.Resuming.{resumedAfter, linesResumed, isTouched, resumedPicture, resumedAnswer, checkedIn}
 use Rattle.block.specs.declared.Decoded.the-variants.{Done, Refused}
 use Rattle.block.specs.declared.Form.{Form}
 use Rattle.block.proofs.DecodeLaws.{stay-none, all-read}
-use Rattle.block.proofs.LoadLaws.{read-loads}
+use Rattle.block_states.proofs.LoadLaws.{read-loads}
 use Rattle.block.proofs.ResumeLaws.{goes-on, from-none}
 use Rattle.going_on.proofs.CountLaws.{Both}
 use Rattle.going_on.proofs.LoadedLaws.{ok, loaded-near}

@@ -13,7 +13,7 @@ use Rattle.region.specs.declared.Rect.{Rect}
 use Rattle.checkpoint.specs.Checkpoints.{nextLine, positionIn}
 use Rattle.block.specs.Blocks.{State, runs, readLineAt, startState, readLines, totalsIn, totalsAfter}
 use Rattle.block.specs.Images.{formOf, bytesIn, basesIn, isRead, readIn}
-use Rattle.block.specs.Resuming.{resumedAfter, linesResumed, isTouched, linesWanted, resumedIn, resumedTotals}
+use Rattle.block_states.specs.Resuming.{resumedAfter, linesResumed, isTouched, linesWanted, resumedIn, resumedTotals}
 use Rattle.block.specs.Totals.{usedBits, gathered, gatherFrom, codesInLine, blockCodes, sumOf}
 use Rattle.block.specs.declared.Form.{Form}
 use Rattle.block.proofs.TotalLaws.{totals-true}

@@ -19,8 +19,8 @@ use Rattle.begin.specs.declared.Beginning.the-variants.{Reading}
 use Rattle.block.specs.Blocks.{readLines, totalsAfter}
 use Rattle.block.specs.Images.{formOf, bytesIn, basesIn, isRead, readIn, lineOf, isDecoded, decodedSample, blockAnswer}
 use Rattle.block.specs.Lent.{Buffers, Outputs}
-use Rattle.block.specs.Resuming.{isTouched, isResumed, checkedIn, LeftResumed}
-use Rattle.block.specs.Storing.{LeftStored}
+use Rattle.block_states.specs.Resuming.{isTouched, isResumed, checkedIn, LeftResumed}
+use Rattle.block_states.specs.Storing.{LeftStored}
 use Rattle.block.specs.declared.Counted.{Counted}
 use Rattle.block.specs.declared.Decoded.the-variants.{Done}
 

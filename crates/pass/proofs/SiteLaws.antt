@@ -3,152 +3,174 @@ use mathlib.Core.Bool.{Bool, true, false, _&&_, false≢true}
 use mathlib.Core.List.{List}
 use mathlib.Core.Option.{Option, none, some}
 use mathlib.Core.Path.{_≡_, refl, sym, ap, _∙_}
-use Prim.Native.Nat.{ℕ, _+_, _*_, _^_, _≤_, _<_}
+use Prim.Native.Nat.{ℕ, _+_, _-_, _*_, _^_, _≤_, _<_}
 use native.Mathlib.Omega.{arith}
 use lib.ListN.{length, getD, set}
 use Rattle.numbers.specs.Numbers.{flag}
 use Rattle.statistics.specs.Statistics.{kOf, updated}
 use Rattle.statistics.specs.declared.Record.{Record}
-use Rattle.quantiser.specs.Quantisers.{largest}
+use Rattle.quantiser.specs.Quantisers.{largest, quantiserOf}
+use Rattle.quantiser.specs.declared.Quantiser.{Quantiser}
 use Rattle.prediction.specs.declared.Context.{Context}
 use Rattle.bits.specs.declared.BitPosition.{BitPosition}
 use Rattle.code.specs.Codes.{codeAt, Small}
 use Rattle.code.specs.Samples.{residualOf, sampleOf}
-use Rattle.code.specs.Tight.{isTight, takenOf, shortAt}
+use Rattle.code.specs.Tight.{isTight, takenOf}
 use Rattle.code.specs.declared.Code.{Code}
 use Rattle.code.specs.declared.Coded.{Coded}
 use Rattle.code.specs.declared.Coded.the-variants.{Read, Truncated}
 use Rattle.code.specs.declared.Place.{Place}
-use Rattle.code.specs.declared.Short.{Short}
-use Rattle.code.specs.declared.Short.the-variants as Brief
 use Rattle.code.specs.declared.Taken.{Taken}
 use Rattle.code.specs.declared.Taken.the-variants as Take
-use Rattle.code.proofs.ShortLaws.{short-taken}
 use Rattle.steps.specs.Steps.{Step, stepAt}
-use Rattle.steps.specs.Contexts.{contextIn, usedQuantiser, lookOf, slotOf, noRecord}
-use Rattle.steps.specs.Values.{contextAt, zipRecords, SetInRange, AreKs, recordsOf, AreQuantisers}
+use Rattle.steps.specs.Contexts.{usedBase, usedWeight, usedQuantiser, lookOf, slotOf, noRecord}
+use Rattle.steps.specs.Values.{contextAt, zipRecords, SetInRange, AreKs, recordsOf, quantisersOf, Depth}
 use Rattle.steps.specs.declared.Look.{Look}
 use Rattle.steps.specs.declared.Set.{Set}
 use Rattle.steps.proofs.ContextLaws.{context-is}
-use Rattle.steps.proofs.TableLaws.{total-is, raw-is, limit-is, total-small, reader-small}
+use Rattle.steps.proofs.TableLaws.{total-at, limit-at, numbers-le}
 use Rattle.pass.specs.Readings.{Reading, taken, readStep, reads}
+use Rattle.pass.specs.Sites.{siteOf, codingOf, RawFits}
 use Rattle.pass.specs.Pairs.{readingAt, placeAt, held, begun, placeOf, IsPair, IsPassed}
+use Rattle.pass.specs.declared.Site.{Site}
+use Rattle.pass.specs.declared.Coding.{Coding}
 use Rattle.pass.specs.declared.Pair.{Pair}
 use Rattle.pass.specs.declared.Pair.the-variants.{At, CutOff}
 use Rattle.pass.specs.declared.Passed.{Passed}
 use Rattle.pass.proofs.StepLaws.{StepGives, StepsGive}
 
--- ---- the context of a sample at position p of a line: it goes after place i
+-- ---- the site of a sample at position p of a line
 
-pub record Placed (W line p : ℕ) (lines : List ℕ) (i : ℕ) (x : Context) : Type 0 where
-  pub place : i ≡ line * (W + 2) + p
-  pub context : x ≡ contextIn W lines line p
+pub record Placed (W line p : ℕ) (lines : List ℕ) (t : Site) : Type 0 where
+  pub is : t ≡ siteOf W lines line p
 
 -- as the program finds it
-pub placed-at : {W line p i : ℕ} {lines : List ℕ} {x : Context} → 2 ≤ line → i ≡ line * (W + 2) + p → x ≡ contextAt lines (W + 2) i p
-    → Placed W line p lines i x
-placed-at {W} {line} {p} {i} {lines} low place context = record { place = place; context = context-is W line p lines low place context }
+pub site-is : (W line p : ℕ) (lines : List ℕ) {i : ℕ} {x : Context} → 2 ≤ line → i ≡ line * (W + 2) + p → x ≡ contextAt lines (W + 2) i p
+    → _≡_ {A = Site} (record { place = i; context = x }) (siteOf W lines line p)
+unfolding siteOf
+site-is W line p lines low place context = rw (context-is W line p lines low place context, place)
 
 -- its right neighbour stands before the line's end
 pub line-end : (W line p : ℕ) {i : ℕ} → p < W → i ≡ line * (W + 2) + p → i + 2 < (line + 1) * (W + 2)
 line-end W line p h e = omega arith
 
 -- an interpolated sample is its prediction
-pub site-interpolated : {bits q W line p i : ℕ} {s lines : List ℕ} {x : Context} {coded : Bool} {records : List Record} {from : Place}
-    → Placed W line p lines i x → coded ≡ false
-    → StepGives bits q W s (stepAt line p coded) (readingAt lines records from) (some (readingAt (set lines (i + 1) (x .prediction)) records from))
-unfolding readStep
-site-interpolated l e = record { is = rw (e, l .context, l .place) }
+pub site-interpolated : {bits q W line p : ℕ} {s lines new : List ℕ} {t : Site} {coded : Bool} {records : List Record} {from : Place}
+    → Placed W line p lines t → coded ≡ false → new ≡ set lines (t .place + 1) (t .context .prediction)
+    → StepGives bits q W s (stepAt line p coded) (readingAt lines records from) (some (readingAt new records from))
+unfolding readStep siteOf
+site-interpolated t e el = record { is = rw (el, e, t .is) }
 
--- ---- a sample that is coded as h says, by the record at j of its set
+-- ---- how a sample is coded
 
-pub record Site (bits q W line p : ℕ) (s lines sums ns totals raws limits : List ℕ) (i : ℕ) (x : Context) (h : Look) (j : ℕ) (old : Record) : Type 0 where
-  pub placed : Placed W line p lines i x
-  pub look : h ≡ lookOf q x
-  pub four : h .choice ≤ 3
-  pub slot : j ≡ slotOf p (h .place)
-  pub record-is : old ≡ getD (zipRecords sums ns) j noRecord
-  pub depth : bits ≤ 16
-  pub quantisers : AreQuantisers bits q totals raws limits
+-- the limit of the quantiser that is chosen
+pub limit-known : (bits q i : ℕ) (limits : List ℕ) → limits ≡ (quantisersOf bits q) .limits → i ≤ 3 → bits ≤ 16
+    → (getD limits i 0 ≡ (usedQuantiser bits q i) .limit) × (getD limits i 0 < 64)
+limit-known bits q i limits e h b =
+    let is : getD limits i 0 ≡ (usedQuantiser bits q i) .limit = rw e (limit-at bits q i h) in
+    (is, rw is (numbers-le bits (usedBase q i) (usedWeight i) b .2))
 
-module _ {bits q W line p : ℕ} {s lines sums ns totals raws limits : List ℕ} {i : ℕ} {x : Context} {h : Look} {j : ℕ} {old : Record}
-    (t : Site bits q W line p s lines sums ns totals raws limits i x h j old) where
-  -- the ranges of what the leaves ask
-  pub site-reader : (getD limits (h .choice) 0 < 64) × (getD raws (h .choice) 0 ≤ 16)
-  site-reader = reader-small bits q totals raws limits (t .quantisers) (h .choice) (t .four) (t .depth)
+-- its raw bits, by it
+raw-by-limit : (bits q weight : ℕ) → Depth bits
+    → RawFits bits ((quantiserOf bits q weight) .limit) × (4 * bits - 1 - (quantiserOf bits q weight) .limit ≡ (quantiserOf bits q weight) .raw)
+unfolding quantiserOf
+raw-by-limit bits q weight d =
+    let n = numbers-le bits q weight (d .1) in
+    (record { depth = d .1; low = omega (arith, n .1, d .0); high = omega (arith, n .1, d .0) }, omega (arith, n .1, d .0))
 
-  pub site-total : getD totals (h .choice) 0 ≤ 2 ^ 16
-  site-total = total-small bits q totals raws limits (t .quantisers) (h .choice) (t .four) (t .depth)
+-- by the answers of the leaves
+pub coding-is : (bits q p : ℕ) (x : Context) (l : List Record) {j k m limit : ℕ} {h : Look} {old : Record} → h ≡ lookOf q x → j ≡ slotOf p (h .place)
+    → old ≡ getD l j noRecord → k ≡ kOf old → m ≡ largest bits → limit ≡ (usedQuantiser bits q (h .choice)) .limit
+    → _≡_ {A = Coding} (record { look = h; slot = j; old = old; k = k; m = m; limit = limit }) (codingOf bits q p x l)
+unfolding codingOf
+coding-is bits q p x l eh ej eo ek em el = rw (el, em, ek, eo, ej, eh)
+
+-- ---- a sample that is coded as c says
+
+pub record CodedAt (bits q W line p : ℕ) (s lines sums ns totals : List ℕ) (t : Site) (c : Coding) : Type 0 where
+  pub placed : Placed W line p lines t
+  pub coding : c ≡ codingOf bits q p (t .context) (zipRecords sums ns)
+  pub four : c .look .choice ≤ 3
+  pub depth : Depth bits
+  pub summed : totals ≡ (quantisersOf bits q) .totals
+
+module _ {bits q W line p : ℕ} {s lines sums ns totals : List ℕ} {t : Site} {c : Coding} (y : CodedAt bits q W line p s lines sums ns totals t c) where
+  abbrev used : Quantiser
+  used = usedQuantiser bits q (c .look .choice)
 
   -- the numbers of the quantiser
-  used-total : getD totals (h .choice) 0 ≡ (usedQuantiser bits q (h .choice)) .total
-  used-total = total-is bits q totals raws limits (t .quantisers) (h .choice) (t .four)
+  used-total : getD totals (c .look .choice) 0 ≡ used .total
+  used-total = rw (y .summed) (total-at bits q (c .look .choice) (y .four))
 
-  used-raw : getD raws (h .choice) 0 ≡ (usedQuantiser bits q (h .choice)) .raw
-  used-raw = raw-is bits q totals raws limits (t .quantisers) (h .choice) (t .four)
+  pub total-known : getD totals (c .look .choice) 0 ≤ 2 ^ 16
+  total-known = rw used-total (numbers-le bits (usedBase q (c .look .choice)) (usedWeight (c .look .choice)) (y .depth .1) .0)
 
-  used-limit : getD limits (h .choice) 0 ≡ (usedQuantiser bits q (h .choice)) .limit
-  used-limit = limit-is bits q totals raws limits (t .quantisers) (h .choice) (t .four)
+  used-limit : c .limit ≡ used .limit
+  unfolding codingOf
+  used-limit = rw (y .coding) refl
+
+  pub raw-fits : RawFits bits (c .limit)
+  raw-fits = rw used-limit (raw-by-limit bits (usedBase q (c .look .choice)) (usedWeight (c .look .choice)) (y .depth) .0)
+
+  used-raw : 4 * bits - 1 - c .limit ≡ used .raw
+  used-raw = rw used-limit (raw-by-limit bits (usedBase q (c .look .choice)) (usedWeight (c .look .choice)) (y .depth) .1)
+
+  -- the record that was there
+  is-old : c .old ≡ getD (zipRecords sums ns) (c .slot) noRecord
+  unfolding codingOf
+  is-old = rw (y .coding) refl
+
+  is-largest : c .m ≡ largest bits
+  unfolding codingOf
+  is-largest = ap (λ (z : Coding). z .m) (y .coding)
 
   -- the code that is there
-  abbrev code : Place → ℕ → Coded
-  code from k = codeAt s (from .at .0) k (getD limits (h .choice) 0) (getD raws (h .choice) 0)
+  abbrev code : Place → Coded
+  code from = codeAt s (from .at .0) (c .k) (c .limit) (4 * bits - 1 - c .limit)
 
   -- the step, by it
-  site-got : (coded : Bool) (from : Place) (k : ℕ) → coded ≡ true → k ≡ kOf old
+  site-got : (coded : Bool) (from : Place) → coded ≡ true
       → readStep bits q W s (stepAt line p coded) (held lines sums ns from)
-      ≡ taken bits q i j x h (held lines sums ns from) (code from k)
-  unfolding readStep
-  site-got coded from k ec ek =
-      rw (ek, used-limit, used-raw, t .record-is, ec, t .slot, t .look, t .placed .context, t .placed .place)
+      ≡ taken bits q (t .place) (c .slot) (t .context) (c .look) (held lines sums ns from) (code from)
+  unfolding readStep codingOf siteOf
+  site-got coded from e = rw (used-raw, e, y .coding, y .placed .is)
 
   -- and by what was taken of it
-  got-none : (from : Place) (m : ℕ) (o : Coded) → takenOf m (from .tight) (from .long) o ≡ Take.Truncated
-      → taken bits q i j x h (held lines sums ns from) o ≡ none
-  got-none from m Truncated e = refl
-  got-none from m (Read c) e = let no : _≡_ {A = ℕ} 0 1 = cc in absurd (omega arith)
+  got-none : (from : Place) (o : Coded) → takenOf (c .m) (from .tight) (from .long) o ≡ Take.Truncated
+      → taken bits q (t .place) (c .slot) (t .context) (c .look) (held lines sums ns from) o ≡ none
+  got-none from Truncated e = refl
+  got-none from (Read o) e = let no : _≡_ {A = ℕ} 0 1 = cc in absurd (omega arith)
 
-  got-some : (from after : Place) (m v value : ℕ) (new : List Record) (o : Coded)
-      → takenOf m (from .tight) (from .long) o ≡ Take.Read value (after .at) (after .tight) (after .long) → m ≡ largest bits
-      → v ≡ sampleOf m (h .base) (getD totals (h .choice) 0) (h .negative) (x .prediction) value
-      → new ≡ set (zipRecords sums ns) j (updated old ((residualOf value) .size))
-      → taken bits q i j x h (held lines sums ns from) o ≡ some (readingAt (set lines (i + 1) v) new after)
-  got-some from after m v value new Truncated e em ev es = let no : _≡_ {A = ℕ} 0 1 = cc in absurd (omega arith)
-  got-some from after m v value new (Read c) e em ev es =
-      let a : c .after ≡ after .at = cc in
-      let b : c .value ≡ value = cc in
-      let d : from .tight && isTight m c ≡ after .tight = cc in
-      let f : from .long + flag (c .long) ≡ after .long = cc in
-      rw (es, ev, ← a, ← b, ← d, ← f, em, t .record-is, used-total)
+  got-some : (from after : Place) (value : ℕ) (new : List ℕ) (records : List Record) (o : Coded)
+      → takenOf (c .m) (from .tight) (from .long) o ≡ Take.Read value (after .at) (after .tight) (after .long)
+      → new ≡ set lines (t .place + 1) (sampleOf (c .m) (c .look .base) (getD totals (c .look .choice) 0) (c .look .negative) (t .context .prediction) value)
+      → records ≡ set (zipRecords sums ns) (c .slot) (updated (c .old) ((residualOf value) .size))
+      → taken bits q (t .place) (c .slot) (t .context) (c .look) (held lines sums ns from) o ≡ some (readingAt new records after)
+  got-some from after value new records Truncated e el es = let no : _≡_ {A = ℕ} 0 1 = cc in absurd (omega arith)
+  got-some from after value new records (Read o) e el es =
+      let a : o .after ≡ after .at = cc in
+      let b : o .value ≡ value = cc in
+      let d : from .tight && isTight (c .m) o ≡ after .tight = cc in
+      let f : from .long + flag (o .long) ≡ after .long = cc in
+      rw (es, el, ← a, ← b, ← d, ← f, is-largest, is-old, used-total)
 
-  module _ {coded : Bool} {from : Place} {k : ℕ} (m : ℕ) {got : Taken} (ec : coded ≡ true) (ek : k ≡ kOf old)
-      (eg : got ≡ takenOf m (from .tight) (from .long) (code from k)) where
+  module _ {coded : Bool} {from : Place} {got : Taken} (ed : coded ≡ true)
+      (eg : got ≡ takenOf (c .m) (from .tight) (from .long) (code from)) where
     pub site-cut-off : got ≡ Take.Truncated → StepGives bits q W s (stepAt line p coded) (held lines sums ns from) none
-    site-cut-off e = record { is = site-got coded from k ec ek ∙ got-none from m (code from k) (sym eg ∙ e) }
+    site-cut-off e = record { is = site-got coded from ed ∙ got-none from (code from) (sym eg ∙ e) }
 
-    pub site-read : {value v : ℕ} {after : Place} {new : List Record} → got ≡ Take.Read value (after .at) (after .tight) (after .long) → m ≡ largest bits
-        → v ≡ sampleOf m (h .base) (getD totals (h .choice) 0) (h .negative) (x .prediction) value
-        → new ≡ set (zipRecords sums ns) j (updated old ((residualOf value) .size))
-        → StepGives bits q W s (stepAt line p coded) (held lines sums ns from) (some (readingAt (set lines (i + 1) v) new after))
-    site-read {value} {v} {after} {new} e em ev es =
-        record { is = site-got coded from k ec ek ∙ got-some from after m v value new (code from k) (sym eg ∙ e) em ev es }
+    pub site-read : {value : ℕ} {after : Place} {new : List ℕ} {records : List Record} → got ≡ Take.Read value (after .at) (after .tight) (after .long)
+        → new ≡ set lines (t .place + 1)
+        (sampleOf (c .m) (c .look .base) (getD totals (c .look .choice) 0) (c .look .negative) (t .context .prediction) value)
+        → records ≡ set (zipRecords sums ns) (c .slot) (updated (c .old) ((residualOf value) .size))
+        → StepGives bits q W s (stepAt line p coded) (held lines sums ns from) (some (readingAt new records after))
+    site-read {value} {after} {new} {records} e el es =
+        record { is = site-got coded from ed ∙ got-some from after value new records (code from) (sym eg ∙ e) el es }
 
--- ---- what is taken of the code at a place: at once, or by the slow reader
-
-pub record Takes (m k limit raw : ℕ) (s : List ℕ) (from : Place) (at : BitPosition) (tight : Bool) (long value : ℕ) : Type 0 where
-  pub is : Take.Read value at tight long ≡ takenOf m (from .tight) (from .long) (codeAt s (from .at .0) k limit raw)
-  pub small : value < 63 * 2 ^ 15
-
-module _ (m k limit raw : ℕ) (s : List ℕ) (from : Place) {at : BitPosition} {tight : Bool} {long value : ℕ} where
-  pub at-once : {got : Short} {after : BitPosition} {v : ℕ} → k ≤ 15 → limit < 64 → got ≡ shortAt m k limit s (from .at .0) → got ≡ Brief.Code v after
-      → at ≡ after → tight ≡ from .tight → long ≡ from .long → value ≡ v → Takes m k limit raw s from at tight long value
-  at-once {got} {after} {v} hk hl e g ea et el ev =
-      let t = short-taken m k limit raw s (from .at .0) (from .tight) (from .long) v after hk hl (sym e ∙ g) in
-      record { is = rw (ea, et, el, ev) (t .0); small = rw ev (t .1) }
-
-  pub slowly : {got : Taken} {after : BitPosition} {t : Bool} {l v : ℕ} → got ≡ takenOf m (from .tight) (from .long) (codeAt s (from .at .0) k limit raw)
-      → Small got → got ≡ Take.Read v after t l → at ≡ after → tight ≡ t → long ≡ l → value ≡ v → Takes m k limit raw s from at tight long value
-  slowly e b g ea et el ev = record { is = rw (ea, et, el, ev) (sym g ∙ e); small = rw ev (rw g at b) }
+-- a code that was taken is small
+pub taken-small : {got : Taken} {value : ℕ} {at : BitPosition} {tight : Bool} {long : ℕ} → Small got → got ≡ Take.Read value at tight long
+    → value < 63 * 2 ^ 15
+taken-small h e = rw e at h
 
 -- ---- where two ways meet, the same lists have other names
 

@@ -1,4 +1,5 @@
 -- The definitions of reading a pass.
 pub mod Readings
+pub mod Sites
 pub mod Pairs
 pub mod Windows

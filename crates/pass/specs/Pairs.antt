@@ -9,7 +9,7 @@ use Rattle.bits.specs.declared.BitPosition.{BitPosition}
 use Rattle.statistics.specs.declared.Record.{Record}
 use Rattle.code.specs.declared.Place.{Place}
 use Rattle.steps.specs.Steps.{Step}
-use Rattle.steps.specs.Values.{zipRecords, recordsOf, SetInRange, AreKs, choicesOf, quantisersOf, AreQuantisers, Depth, PlanInRange}
+use Rattle.steps.specs.Values.{zipRecords, recordsOf, SetInRange, AreKs, choicesOf, quantisersOf, Depth, PlanInRange}
 use Rattle.steps.specs.declared.Plan.{Plan}
 use Rattle.steps.specs.declared.Quantisers.{Quantisers}
 use Rattle.steps.specs.declared.Set.{Set}
@@ -44,7 +44,7 @@ PlanFits W P lines = ((P .first + 1) * (W + 2) ≤ length lines) × ((P .second 
 
 -- ---- the two samples of a position
 
-pub record PairAsks (spot : Spot) (q : ℕ) (from : Place) (s lines sums ns ks choices totals raws limits : List ℕ) : Type 0 where
+pub record PairAsks (spot : Spot) (q : ℕ) (from : Place) (s lines sums ns ks choices totals limits : List ℕ) : Type 0 where
   pub bytes : length s < 2 ^ 32
   pub width : spot .w ≤ 512
   pub inside : spot .p < spot .w
@@ -53,7 +53,8 @@ pub record PairAsks (spot : Spot) (q : ℕ) (from : Place) (s lines sums ns ks c
   pub depth : Depth (spot .bits)
   pub base : q < 256
   pub chosen : choices ≡ choicesOf q
-  pub quantisers : AreQuantisers (spot .bits) q totals raws limits
+  pub summed : totals ≡ (quantisersOf (spot .bits) q) .totals
+  pub limited : limits ≡ (quantisersOf (spot .bits) q) .limits
   pub records : SetInRange (zipRecords sums ns)
   pub ks-kept : AreKs (zipRecords sums ns) ks
   pub counted : from .long ≤ from .at .0

@@ -1,16 +1,42 @@
 // One pass over two colour lines: the hot loop of reading. The set of statistics comes by value and goes back by value; the colour lines are lent.
 ghost use mathlib.Core.Path.{_≡_};
+ghost use Prim.Native.Nat.{_+_, _-_, _*_, _^_, _≤_, _<_};
+ghost use lib.ListN.{length, getD, set};
+ghost use Rattle.code.specs.Codes.{codeAt, Small};
+ghost use Rattle.code.specs.Samples.{sampleOf};
+ghost use Rattle.code.specs.Tight.{takenOf};
 ghost use Rattle.steps.specs.Steps.{evenSteps, oddSteps};
+ghost use Rattle.steps.specs.Values.{zipRecords};
 ghost use Rattle.pass.specs.Windows.{windowLine, windowPlan};
+ghost use Rattle.pass.specs.Sites.{siteOf, SiteRanges, codingOf, CodingRanges, CodingAsks, RawFits};
 ghost use Rattle.pass.specs.Pairs.{PairAsks, PairGives, PassAsks, PassGives, placeAt, held, begun};
 use bits::BitPosition;
 use code::Place;
 use code::Short;
 use code::Taken;
+use prediction::Context;
+use statistics::Record;
+use steps::Look;
 use steps::Plan;
 use steps::Quantisers;
 use steps::Set;
 use steps::Spot;
+
+// Where a sample stands: one place before it among the colour lines, and its context.
+pub struct Site {
+    pub place: usize,
+    pub context: Context,
+}
+
+// How a sample is coded: what that goes by, its record's place in the set, that record and its k, the largest sample, and the limit of its quantiser.
+pub struct Coding {
+    pub look: Look,
+    pub slot: usize,
+    pub old: Record,
+    pub k: u32,
+    pub m: u32,
+    pub limit: u32,
+}
 
 // Where the reading is after two samples, in parts; or that no one bit was left.
 pub enum Pair {
@@ -54,8 +80,109 @@ pub fn window_plan(p: Plan, windowed: bool) -> Plan
     p
 }
 
-// The two samples at an even position p. It is called from one place only, and so it is taken into the loop. Where a code is short and tight, the verdict
-// and the count are not touched: as parts of what a reader hands back they would go through memory.
+// ---- one sample. Each of these is small enough to be taken into the loop from every place that calls it. Made of them, the pairs have half the statements and
+// half the locals, by whose product their check time goes.
+
+// The sample at position p of a colour line.
+fn site_at(lines: &[u16], w: usize, line: usize, p: usize) -> Site
+    requires { ⌜ (w ≤ 512) × ((p < w) × ((2 ≤ line) × (line ≤ 17))) ⌝ }
+    requires { ⌜ (line + 1) * (w + 2) ≤ length (now lines) ⌝ }
+    ensures { λ r. ⌜ (r ≡ siteOf w (now (lines .entry)) line p) × SiteRanges (now (lines .entry)) r ⌝ }
+{
+    let place = steps::left_of(w, line, p);
+    Site {
+        place,
+        context: steps::context_at(lines, w + 2, place, p),
+    }
+}
+
+// How the sample at position p with that context is coded. The total of its quantiser is seldom asked for, and left where it is.
+fn coding_at(
+    bits: u32,
+    p: usize,
+    x: Context,
+    base: u32,
+    choices: &[u32; 9],
+    limits: &[u32; 4],
+    sums: &[u32; 112],
+    ns: &[u32; 112],
+    ks: &[u32; 112],
+) -> Coding
+    requires { ⌜ CodingAsks bits base x (now choices) (now limits) (now sums) (now ns) (now ks) ⌝ }
+    ensures { λ r. ⌜ (r ≡ codingOf bits base p x (zipRecords (now (sums .entry)) (now (ns .entry)))) × CodingRanges r ⌝ }
+{
+    let look = steps::look_by(base, choices, x);
+    let choice = look.choice;
+    let slot = steps::slot_of(p, look.place);
+    Coding {
+        look,
+        slot,
+        old: steps::record_at(sums, ns, slot),
+        k: steps::k_at(ks, slot),
+        m: quantiser::largest(bits),
+        limit: limits[choice],
+    }
+}
+
+// What the slow reader took, put together anew. As it is it lies in memory, and whatever is taken at once would go there too.
+fn in_parts(t: Taken) -> Taken
+    ensures { λ r. ⌜ r ≡ t ⌝ }
+{
+    let Taken::Read(value, at, tight, long) = t else {
+        return Taken::Truncated;
+    };
+    Taken::Read(value, at, tight, long)
+}
+
+// What is taken of a sample's code: at once where it is short and tight, and else by the slow reader, which is asked for the raw bits too. It is called in
+// two ways that differ: with one LLVM takes it in here, and then this is too large to be taken into the loop.
+fn taken(block: &[u8], at: BitPosition, tight: bool, long: u64, c: Coding, bits: u32) -> Taken
+    requires { ⌜ (length (now block) < 2 ^ 32) × ((c .k ≤ 15) × ((c .limit < 64) × RawFits bits (c .limit))) ⌝ }
+    requires { ⌜ long ≤ at .0 ⌝ }
+    ensures { λ r. ⌜ (r ≡ takenOf (c .m) tight long
+        (codeAt (now (block .entry)) (at .0) (c .k) (c .limit) (4 * bits - 1 - c .limit))) × Small r ⌝ }
+{
+    let found = code::short_code(block, at, c.m, c.k, c.limit);
+    let Short::Code(value, after) = found else {
+        let raw = 4 * bits - 1 - c.limit;
+        if c.k == 0 {
+            return in_parts(code::take_any(block, at, tight, long, c.m, 0, c.limit, raw));
+        }
+        return in_parts(code::take_any(block, at, tight, long, c.m, c.k, c.limit, raw));
+    };
+    Taken::Read(value, after, tight, long)
+}
+
+// The sample of a code is put in its place.
+fn put_sample(lines: &mut [u16], t: Site, c: Coding, totals: &[u32; 4], code: u32)
+    requires { ⌜ SiteRanges (now lines) t × (CodingRanges c × ((getD (now totals) (c .look .choice) 0 ≤ 2 ^ 16) × (code < 63 * 2 ^ 15))) ⌝ }
+    ensures { λ _. ⌜ now (lines .exit) ≡ set (now (lines .entry)) (t .place + 1)
+        (sampleOf (c .m) (c .look .base) (getD (now (totals .entry)) (c .look .choice) 0) (c .look .negative) (t .context .prediction) code) ⌝ }
+{
+    let choice = c.look.choice;
+    let i = t.place + 1;
+    lines[i] = code::sample(
+        c.m,
+        c.look.base,
+        totals[choice],
+        c.look.negative,
+        t.context.prediction,
+        code,
+    ) as u16;
+}
+
+// An interpolated sample, its prediction, is put there.
+fn put_prediction(lines: &mut [u16], t: Site)
+    requires { ⌜ SiteRanges (now lines) t ⌝ }
+    ensures { λ _. ⌜ now (lines .exit) ≡ set (now (lines .entry)) (t .place + 1) (t .context .prediction) ⌝ }
+{
+    let i = t.place + 1;
+    lines[i] = t.context.prediction as u16;
+}
+
+// ---- the two samples of a position
+
+// The two samples at an even position p. It is called from one place only, and so it is taken into the loop.
 fn even_pair(
     block: &[u8],
     from: BitPosition,
@@ -69,84 +196,64 @@ fn even_pair(
     base: u32,
     choices: &[u32; 9],
     totals: &[u32; 4],
-    raws: &[u32; 4],
     limits: &[u32; 4],
 ) -> Pair
     requires { ⌜ PairAsks spot base (placeAt from «from_tight» «from_long») (now block) (now lines) (now sums) (now ns) (now ks)
-        (now choices) (now totals) (now raws) (now limits) ⌝ }
+        (now choices) (now totals) (now limits) ⌝ }
     ensures { λ r. ⌜ PairGives spot base (now (block .entry)) (evenSteps (spot .plan) (spot .p))
         (held (now (lines .entry)) (now (sums .entry)) (now (ns .entry)) (placeAt from «from_tight» «from_long»))
         (now (lines .exit)) (now (sums .exit)) (now (ns .exit)) (now (ks .exit)) r ⌝ }
 {
-    let m = quantiser::largest(spot.bits);
-    let w = spot.w;
-    let p = spot.p;
-    let plan = spot.plan;
     let mut at = from;
     let mut tight = from_tight;
     let mut long = from_long;
-    let i = steps::left_of(w, plan.first, p);
-    let x = steps::context_at(lines, w + 2, i, p);
-    if steps::has_code(plan.first_rule, p) {
-        let h = steps::look_by(base, choices, x);
-        let q = h.choice;
-        let j = steps::slot_of(p, h.place);
-        let old = steps::record_at(sums, ns, j);
-        let k = steps::k_at(ks, j);
-        let mut value: u32 = 0;
-        let found = code::short_code(block, at, m, k, limits[q]);
-        match found {
-            Short::Code(v, after) => {
-                value = v;
-                at = after;
-            }
-            Short::Other => {
-                let got = code::take_any(block, at, tight, long, m, k, limits[q], raws[q]);
-                let Taken::Read(v, after, still_tight, now_long) = got else {
-                    return Pair::CutOff;
-                };
-                value = v;
-                at = after;
-                tight = still_tight;
-                long = now_long;
-            }
-        }
-        lines[i + 1] = code::sample(m, h.base, totals[q], h.negative, x.prediction, value) as u16;
-        steps::update_with_k(sums, ns, ks, j, old, value);
+    let t = site_at(lines, spot.w, spot.plan.first, spot.p);
+    if steps::has_code(spot.plan.first_rule, spot.p) {
+        let c = coding_at(
+            spot.bits,
+            spot.p,
+            t.context,
+            base,
+            choices,
+            limits,
+            sums,
+            ns,
+            ks,
+        );
+        let got = taken(block, from, from_tight, from_long, c, spot.bits);
+        let Taken::Read(code, after, still_tight, now_long) = got else {
+            return Pair::CutOff;
+        };
+        put_sample(lines, t, c, totals, code);
+        steps::update_with_k(sums, ns, ks, c.slot, c.old, code);
+        at = after;
+        tight = still_tight;
+        long = now_long;
     } else {
-        lines[i + 1] = x.prediction as u16;
+        put_prediction(lines, t);
     }
-    let i = steps::left_of(w, plan.second, p);
-    let x = steps::context_at(lines, w + 2, i, p);
-    if steps::has_code(plan.second_rule, p) {
-        let h = steps::look_by(base, choices, x);
-        let q = h.choice;
-        let j = steps::slot_of(p, h.place);
-        let old = steps::record_at(sums, ns, j);
-        let k = steps::k_at(ks, j);
-        let mut value: u32 = 0;
-        let found = code::short_code(block, at, m, k, limits[q]);
-        match found {
-            Short::Code(v, after) => {
-                value = v;
-                at = after;
-            }
-            Short::Other => {
-                let got = code::take_any(block, at, tight, long, m, k, limits[q], raws[q]);
-                let Taken::Read(v, after, still_tight, now_long) = got else {
-                    return Pair::CutOff;
-                };
-                value = v;
-                at = after;
-                tight = still_tight;
-                long = now_long;
-            }
-        }
-        lines[i + 1] = code::sample(m, h.base, totals[q], h.negative, x.prediction, value) as u16;
-        steps::update_with_k(sums, ns, ks, j, old, value);
-    } else {
-        lines[i + 1] = x.prediction as u16;
+    let t = site_at(lines, spot.w, spot.plan.second, spot.p);
+    if steps::has_code(spot.plan.second_rule, spot.p) {
+        let c = coding_at(
+            spot.bits,
+            spot.p,
+            t.context,
+            base,
+            choices,
+            limits,
+            sums,
+            ns,
+            ks,
+        );
+        let got = taken(block, at, tight, long, c, spot.bits);
+        let Taken::Read(code, after, still_tight, now_long) = got else {
+            return Pair::CutOff;
+        };
+        put_sample(lines, t, c, totals, code);
+        steps::update_with_k(sums, ns, ks, c.slot, c.old, code);
+        return Pair::At(after, still_tight, now_long);
     }
+    put_prediction(lines, t);
     Pair::At(at, tight, long)
 }
 
@@ -164,77 +271,51 @@ fn odd_pair(
     base: u32,
     choices: &[u32; 9],
     totals: &[u32; 4],
-    raws: &[u32; 4],
     limits: &[u32; 4],
 ) -> Pair
     requires { ⌜ PairAsks spot base (placeAt from «from_tight» «from_long») (now block) (now lines) (now sums) (now ns) (now ks)
-        (now choices) (now totals) (now raws) (now limits) ⌝ }
+        (now choices) (now totals) (now limits) ⌝ }
     ensures { λ r. ⌜ PairGives spot base (now (block .entry)) (oddSteps (spot .plan) (spot .p))
         (held (now (lines .entry)) (now (sums .entry)) (now (ns .entry)) (placeAt from «from_tight» «from_long»))
         (now (lines .exit)) (now (sums .exit)) (now (ns .exit)) (now (ks .exit)) r ⌝ }
 {
-    let m = quantiser::largest(spot.bits);
-    let w = spot.w;
-    let p = spot.p;
-    let plan = spot.plan;
-    let mut at = from;
-    let mut tight = from_tight;
-    let mut long = from_long;
-    let i = steps::left_of(w, plan.first, p);
-    let x = steps::context_at(lines, w + 2, i, p);
-    let h = steps::look_by(base, choices, x);
-    let q = h.choice;
-    let j = steps::slot_of(p, h.place);
-    let old = steps::record_at(sums, ns, j);
-    let k = steps::k_at(ks, j);
-    let mut value: u32 = 0;
-    let found = code::short_code(block, at, m, k, limits[q]);
-    match found {
-        Short::Code(v, after) => {
-            value = v;
-            at = after;
-        }
-        Short::Other => {
-            let got = code::take_any(block, at, tight, long, m, k, limits[q], raws[q]);
-            let Taken::Read(v, after, still_tight, now_long) = got else {
-                return Pair::CutOff;
-            };
-            value = v;
-            at = after;
-            tight = still_tight;
-            long = now_long;
-        }
-    }
-    lines[i + 1] = code::sample(m, h.base, totals[q], h.negative, x.prediction, value) as u16;
-    steps::update_with_k(sums, ns, ks, j, old, value);
-    let i = steps::left_of(w, plan.second, p);
-    let x = steps::context_at(lines, w + 2, i, p);
-    let h = steps::look_by(base, choices, x);
-    let q = h.choice;
-    let j = steps::slot_of(p, h.place);
-    let old = steps::record_at(sums, ns, j);
-    let k = steps::k_at(ks, j);
-    let mut value: u32 = 0;
-    let found = code::short_code(block, at, m, k, limits[q]);
-    match found {
-        Short::Code(v, after) => {
-            value = v;
-            at = after;
-        }
-        Short::Other => {
-            let got = code::take_any(block, at, tight, long, m, k, limits[q], raws[q]);
-            let Taken::Read(v, after, still_tight, now_long) = got else {
-                return Pair::CutOff;
-            };
-            value = v;
-            at = after;
-            tight = still_tight;
-            long = now_long;
-        }
-    }
-    lines[i + 1] = code::sample(m, h.base, totals[q], h.negative, x.prediction, value) as u16;
-    steps::update_with_k(sums, ns, ks, j, old, value);
-    Pair::At(at, tight, long)
+    let t = site_at(lines, spot.w, spot.plan.first, spot.p);
+    let c = coding_at(
+        spot.bits,
+        spot.p,
+        t.context,
+        base,
+        choices,
+        limits,
+        sums,
+        ns,
+        ks,
+    );
+    let got = taken(block, from, from_tight, from_long, c, spot.bits);
+    let Taken::Read(code, at, tight, long) = got else {
+        return Pair::CutOff;
+    };
+    put_sample(lines, t, c, totals, code);
+    steps::update_with_k(sums, ns, ks, c.slot, c.old, code);
+    let t = site_at(lines, spot.w, spot.plan.second, spot.p);
+    let c = coding_at(
+        spot.bits,
+        spot.p,
+        t.context,
+        base,
+        choices,
+        limits,
+        sums,
+        ns,
+        ks,
+    );
+    let got = taken(block, at, tight, long, c, spot.bits);
+    let Taken::Read(code, after, still_tight, now_long) = got else {
+        return Pair::CutOff;
+    };
+    put_sample(lines, t, c, totals, code);
+    steps::update_with_k(sums, ns, ks, c.slot, c.old, code);
+    Pair::At(after, still_tight, now_long)
 }
 
 // A pass: at each turn an even position, and the odd one seven before it, where they are positions of the line.
@@ -256,7 +337,6 @@ pub fn pass(
     let mut ks = steps::ks_of(&sums, &ns);
     let choices = steps::choices_of(qs.base);
     let totals = qs.totals;
-    let raws = qs.raws;
     let limits = qs.limits;
     let base = qs.base;
     let mut at = from.at;
@@ -278,7 +358,6 @@ pub fn pass(
                 base,
                 &choices,
                 &totals,
-                &raws,
                 &limits,
             );
             let Pair::At(after, still_tight, now_long) = got else {
@@ -311,7 +390,6 @@ pub fn pass(
                 base,
                 &choices,
                 &totals,
-                &raws,
                 &limits,
             );
             let Pair::At(after, still_tight, now_long) = got else {

@@ -88,7 +88,7 @@ fn agrees(bytes: &[u8; 80000], want: &[u8; 56000], s: Sizes, r: Rect, tile: [u8;
     let m = s.image;
     let all = &bytes[..];
     let mut image = [0x5a5au16; 28000];
-    let a = block::decode_region_alone(&all[0..n], r, tile, &mut image[0..m]);
+    let a = alone::decode_region_alone(&all[0..n], r, tile, &mut image[0..m]);
     answer_agrees(a, s) & image_agrees(&image, want, m)
 }
 

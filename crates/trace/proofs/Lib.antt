@@ -1,5 +1,6 @@
 -- Laws of the second walk.
 pub mod PlainLaws
 pub mod WayLaws
+mod DueLaws
 pub mod SampleLaws
 pub mod LineLaws

@@ -1,22 +1,24 @@
 -- Ways one after the other, and what answers say of them. Assumes nothing.
-use borrow.Author.Tests.{lt-ltb, le-ltb, le-leb, lt-leb}
-use mathlib.Core.Bool.{Bool, not}
+use mathlib.Core.Bool.{Bool, true, false}
 use mathlib.Core.List.{List, [], _∷_, _++_}
+use mathlib.Core.Logic.{_⊎_, ⊎-elim}
 use mathlib.Core.Option.{Option, none, some, orElse, Option·map}
 use mathlib.Core.Path.{_≡_, refl, sym, ap, _∙_, subst}
-use Prim.Native.Nat.{ℕ, zero, suc, _+_, _-_, _*_, _/_, _≤_, _<_}
+use Prim.Native.Nat.{ℕ, zero, suc, _+_, _-_, _<_}
 use native.Mathlib.Nat.{add-zero, add-suc}
 use native.Mathlib.Numerals.{add-one}
 use native.Mathlib.Omega.{arith}
+use denote.Enum.Declared.{tagOf, declared}
 use Rattle.bits.specs.declared.BitPosition.{BitPosition}
-use Rattle.steps.specs.Steps.{Step, stepAt, interpolated, evenPart, oddPart, oddSteps, turnSteps, upto, passSteps}
-use Rattle.steps.specs.declared.Plan.{Plan}
+use Rattle.steps.specs.Steps.{Step, upto}
 use Rattle.pass.specs.Readings.{Reading, readStep, andThen, reads}
 use Rattle.block.specs.BadCodes.{BadCode, badAt, stepReason, badInSteps}
-use Rattle.trace.specs.Ways.{Way, found, cut-off, on, wayOf, spotOf, plain, stepWay, stepsWay}
+use Rattle.trace.specs.Ways.{Way, found, cut-off, on, wayOf, spotOf, stepOf, ifDue, plain, stepWay, stepsWay}
 use Rattle.trace.proofs.PlainLaws.{steps-plain, bad-plain, step-plain}
 use Rattle.trace.specs.Traces.{Said, Says}
+use Rattle.trace.proofs.Traced.{enum}
 use Rattle.trace.specs.declared.BadSpot.{BadSpot}
+use Rattle.trace.specs.declared.Sample.{Sample}
 use Rattle.trace.specs.declared.Stage.{Stage}
 use Rattle.trace.specs.declared.Traced.{Traced}
 use Rattle.trace.specs.declared.Traced.the-variants.{Bad, At, CutOff}
@@ -97,6 +99,17 @@ was-at {here = here} {o = o} h e = subst (Said here o) e (h .is)
 pub says-is : {A : Type 0} {there : BitPosition → A} {o o' : Way A} {r : Traced} → o ≡ o' → Says there o' r → Says there o r
 says-is e h = rw e h
 
+-- an answer that is no place, by the number of its variant
+abbrev pub Stops : Traced → Type 0
+Stops (Bad x) = Unit {0}
+Stops (At at) = ⊥
+Stops CutOff = Unit {0}
+
+pub no-place : (r : Traced) → (tagOf (declared enum) r ≡ 0) ⊎ (tagOf (declared enum) r ≡ 2) → Stops r
+no-place (Bad x) h = tt
+no-place (At at) h = ⊎-elim (λ e. absurd (omega (arith, e))) (λ e. absurd (omega (arith, e))) h
+no-place CutOff h = tt
+
 module _ {A C : Type 0} (f : A → Way C) {here : BitPosition → A} {o : Way A} {o' : Way C} {r : Traced} (e : o' ≡ thenWay o f) (h : Says here o r) where
   pub then-bad : {there : BitPosition → C} {x : BadSpot} → r ≡ Bad x → Says there o' (Bad x)
   then-bad k = let g = was-bad h k in record { is = (g .0, e ∙ found-then f o (g .0) (g .1), g .2) }
@@ -104,8 +117,11 @@ module _ {A C : Type 0} (f : A → Way C) {here : BitPosition → A} {o : Way A}
   pub then-cut : {there : BitPosition → C} → r ≡ CutOff → Says there o' CutOff
   then-cut k = record { is = e ∙ cut-then f o (was-cut h k) }
 
-  pub then-at : {there : BitPosition → C} {at : BitPosition} {r' : Traced} → r ≡ At at → Says there (f (here at)) r' → Says there o' r'
-  then-at k g = says-is (e ∙ on-then f o _ (was-at h k)) g
+  -- it does not go on
+  pub then-stops : {there : BitPosition → C} (x : Traced) → r ≡ x → Stops x → Says there o' x
+  then-stops (Bad b) k g = then-bad k
+  then-stops (At at) k g = absurd g
+  then-stops CutOff k g = then-cut k
 
 -- ---- turns of a loop
 
@@ -140,6 +156,11 @@ module _ {A : Type 0} (W : ℕ → Way A) (g : ℕ → A → Way A) (next : (n :
         let f : n + 1 + (N - (n + 1)) ≡ N = omega arith in
         record { is = rw f at (cut-stays (n + 1) (N - (n + 1)) (one-more ∙ was-cut h e)) }
 
+    pub turn-stops : (x : Traced) → r ≡ x → Stops x → Says here (W N) x
+    turn-stops (Bad b) e k = turn-bad e
+    turn-stops (At at) e k = absurd k
+    turn-stops CutOff e k = turn-cut e
+
 -- ---- steps
 
 module _ (t : Stage) (s : List ℕ) where
@@ -169,37 +190,17 @@ module _ (t : Stage) (s : List ℕ) where
       ∙ sym (then-assoc (stepWay t s x r) (λ z. stepsWay t s k z) (λ z. stepsWay t s l z))
       ∙ ap (λ (m : Way Reading). thenWay m (λ z. stepsWay t s l z)) (sym (steps-first x k r))
 
-  pub steps-two : (x y : Step) (r : Reading) → stepsWay t s (x ∷ y ∷ []) r ≡ thenWay (stepWay t s x r) (λ z. stepWay t s y z)
-  steps-two x y r =
-      steps-first x (y ∷ []) r
-      ∙ then-same (stepWay t s x r) _ _ (λ z. steps-first y [] z ∙ then-same (stepWay t s y z) _ _ (λ w. steps-none w) ∙ step-none y z)
+  steps-one : (x : Step) (r : Reading) → stepsWay t s (x ∷ []) r ≡ stepWay t s x r
+  steps-one x r = steps-first x [] r ∙ then-same (stepWay t s x r) _ _ (λ z. steps-none z) ∙ step-none x r
 
-  -- the parts of a turn
-  module _ (W : ℕ) (P : Plan) (p : ℕ) (r : Reading) where
-    pub even-over : W ≤ p → stepsWay t s (evenPart W P p) r ≡ on (plain r)
-    even-over h = rw (le-ltb p W h) (steps-none r)
+  -- a step that the pass may have
+  pub due-one : (due : Bool) (x : Sample) (r : Reading) → due ≡ true → stepsWay t s (ifDue due x) r ≡ stepWay t s (stepOf x) r
+  due-one due x r e = rw e (steps-one (stepOf x) r)
 
-    pub even-here : (c d : Bool) → p < W → c ≡ not (interpolated (P .«first_rule») p) → d ≡ not (interpolated (P .«second_rule») p)
-        → stepsWay t s (evenPart W P p) r ≡ stepsWay t s (stepAt (P .first) p c ∷ stepAt (P .second) p d ∷ []) r
-    even-here c d h ec ed = rw (lt-ltb p W h, ec, ed)
+  pub due-none : (due : Bool) (x : Sample) (r : Reading) → due ≡ false → stepsWay t s (ifDue due x) r ≡ on (plain r)
+  due-none due x r e = rw e (steps-none r)
 
-    pub odd-over : p < 8 → stepsWay t s (oddPart P p) r ≡ on (plain r)
-    odd-over h = rw (lt-leb 8 p h) (steps-none r)
-
-    pub odd-here : 8 ≤ p → stepsWay t s (oddPart P p) r ≡ stepsWay t s (oddSteps P (p - 7)) r
-    odd-here h = rw (le-leb 8 p h)
-
-  pub steps-turn : (W : ℕ) (P : Plan) (n : ℕ) (r : Reading)
-      → stepsWay t s (turnSteps W P n) r ≡ thenWay (stepsWay t s (evenPart W P (2 * n)) r) (λ z. stepsWay t s (oddPart P (2 * n)) z)
-  unfolding turnSteps
-  steps-turn W P n r = steps-append (evenPart W P (2 * n)) (oddPart P (2 * n)) r
-
-  -- turns of a pass
+  -- steps of a pass
   pub steps-next : (f : ℕ → List Step) (r : Reading) (n : ℕ) → stepsWay t s (upto f (suc n)) r ≡ thenWay (stepsWay t s (upto f n) r) (λ z. stepsWay t s (f n) z)
   unfolding upto
   steps-next f r n = steps-append (upto f n) (f n) r
-
-  -- a pass is so many of them
-  pub pass-is : (P : Plan) (n : ℕ) → n ≡ t .w / 2 + 4 → (r : Reading) → stepsWay t s (passSteps (t .w) P) r ≡ stepsWay t s (upto (turnSteps (t .w) P) n) r
-  unfolding passSteps
-  pass-is P n e r = rw e

@@ -55,10 +55,6 @@ pub record Inside (t : Stage) (x : Sample) : Type 0 where
   pub high : x .line ≤ 17
   pub position : x .position < t .w
 
-pub record StepAsks (t : Stage) (x : Sample) (s lines sums ns : List ℕ) : Type 0 where
-  pub stage : StageAsks t s lines sums ns
-  pub inside : Inside t x
-
 -- the steps of a pass
 pub record PassAsks (t : Stage) (P : Plan) (s lines sums ns : List ℕ) : Type 0 where
   pub stage : StageAsks t s lines sums ns

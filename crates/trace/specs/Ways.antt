@@ -1,8 +1,11 @@
 -- How a reading goes that looks for a bad code: by the definitions of reading, and of the first bad code. Assumes nothing.
-use mathlib.Core.List.{List, []}
+use mathlib.Core.Bool.{Bool, true, cond, not}
+use mathlib.Core.List.{List, [], _∷_}
 use mathlib.Core.Option.{Option, none, some, Option·map}
-use Prim.Native.Nat.{ℕ, _+_}
-use Rattle.steps.specs.Steps.{Step, stepAt}
+use Prim.Native.Nat.{ℕ, _+_, _-_, _*_, _/_, _%_}
+use lib.Dec.{eqb, ltb, leb}
+use Rattle.steps.specs.Steps.{Step, interpolated, stepAt}
+use Rattle.steps.specs.declared.Plan.{Plan}
 use Rattle.pass.specs.Readings.{Reading, readStep, andThen, reads}
 use Rattle.block.specs.Blocks.{State, runs, passAt, endLine, readLines}
 use Rattle.block.specs.BadCodes.{Reason, too-large, short-fits, too-many-zeros, BadCode, stepReason, badAt, badInSteps, firstFound, badInPass, firstBad}
@@ -12,6 +15,7 @@ use Rattle.trace.specs.declared.Reason.the-variants.{Large, Escape, Zero
 use Rattle.trace.specs.declared.Verdict.{Verdict}
 use Rattle.trace.specs.declared.Verdict.the-variants.{Good, Bad}
 use Rattle.trace.specs.declared.BadSpot.{BadSpot}
+use Rattle.trace.specs.declared.Due.{Due}
 use Rattle.trace.specs.declared.Sample.{Sample}
 use Rattle.trace.specs.declared.Stage.{Stage}
 
@@ -40,6 +44,26 @@ spotOf b =
 
 abbrev pub stepOf : Sample → Step
 stepOf x = stepAt (x .line) (x .position) (x .coded)
+
+-- ---- the samples of a pass, four in each turn
+
+-- a step that the pass may have
+abbrev pub ifDue : Bool → Sample → List Step
+ifDue due x = cond due (stepOf x ∷ []) []
+
+-- at the even position p, if it is one of the line; and at the odd position seven before p, once positions 0 to 8 are done
+abbrev pub evenDue : ℕ → ℕ → ℕ → ℕ → Due
+evenDue W line rule p = record { due = ltb p W; x = record { line = line; position = p; coded = not (interpolated rule p) } }
+
+abbrev pub oddDue : ℕ → ℕ → Due
+oddDue line p = record { due = leb 8 p; x = record { line = line; position = p - 7; coded = true } }
+
+-- number u: of each turn the two at its even position, and then the two at its odd one
+unfoldable pub dueAt : ℕ → Plan → ℕ → Due
+dueAt W P u =
+    let p = 2 * (u / 4) in
+    cond (eqb (u % 4) 0) (evenDue W (P .first) (P .«first_rule») p)
+    (cond (eqb (u % 4) 1) (evenDue W (P .second) (P .«second_rule») p) (cond (eqb (u % 4) 2) (oddDue (P .first) p) (oddDue (P .second) p)))
 
 -- ---- ways
 

@@ -1,20 +1,20 @@
 // A second walk over a block that is not tight, one sample at a time. It stops at the first bad code and says where it stands and why it is bad. Only
 // lossless blocks are walked: base 0, no restarts after the first line.
 ghost use mathlib.Core.Path.{_≡_};
-ghost use mathlib.Core.List.{[], _∷_};
+ghost use mathlib.Core.Bool.{true};
 ghost use Prim.Native.Nat.{_+_, _*_, _/_, _^_, _≤_, _<_};
 ghost use lib.ListN.{length, getD, set};
 ghost use Rattle.statistics.specs.Statistics.{updated, InRange};
 ghost use Rattle.code.specs.Samples.{residualOf};
 ghost use Rattle.lines.specs.ColourLines.{zeroLines};
 ghost use Rattle.map.specs.Places.{widthOf};
-ghost use Rattle.steps.specs.Steps.{evenPart, oddPart, turnSteps, passSteps};
+ghost use Rattle.steps.specs.Steps.{passSteps};
 ghost use Rattle.steps.specs.Contexts.{noRecord};
 ghost use Rattle.steps.specs.Values.{zipRecords, SetInRange, Depth};
 ghost use Rattle.block.specs.Records.{startRecords};
 ghost use Rattle.block.specs.BadCodes.{reasonOf};
-ghost use Rattle.trace.specs.Ways.{verdictOf, stepOf, stepWay, stepsWay, lineWay, blockWay};
-ghost use Rattle.trace.specs.Traces.{clean, Inside, StepAsks, PassAsks, Gives, cleanState, LineAsks, LineGives, Ends};
+ghost use Rattle.trace.specs.Ways.{verdictOf, ifDue, evenDue, oddDue, dueAt, stepsWay, lineWay, blockWay};
+ghost use Rattle.trace.specs.Traces.{clean, Inside, StageAsks, PassAsks, Gives, cleanState, LineAsks, LineGives, Ends};
 use bits::BitPosition;
 use bits::is_past;
 use block::Form;
@@ -134,7 +134,7 @@ fn bad_spot(stage: Stage, x: Sample, at: BitPosition, reason: Reason) -> BadSpot
     }
 }
 
-// One sample is read, or its code is bad.
+// One sample is read, if it is due, or its code is bad.
 fn trace_step(
     block: &[u8],
     from: BitPosition,
@@ -142,13 +142,17 @@ fn trace_step(
     sums: &mut [u32],
     ns: &mut [u32],
     stage: Stage,
+    due: bool,
     x: Sample,
 ) -> Traced
-    requires { ⌜ StepAsks stage x (now block) (now lines) (now sums) (now ns) ⌝ }
+    requires { ⌜ StageAsks stage (now block) (now lines) (now sums) (now ns) × (due ≡ true → Inside stage x) ⌝ }
     ensures { λ r.
         let before = clean (now (lines .entry)) (now (sums .entry)) (now (ns .entry)) from in
-        ⌜ Gives (stepWay stage (now (block .entry)) (stepOf x) before) (now (lines .exit)) (now (sums .exit)) (now (ns .exit)) r ⌝ }
+        ⌜ Gives (stepsWay stage (now (block .entry)) (ifDue due x) before) (now (lines .exit)) (now (sums .exit)) (now (ns .exit)) r ⌝ }
 {
+    if !due {
+        return Traced::At(from);
+    }
     let w = stage.w;
     let p = x.position;
     let coded = x.coded;
@@ -189,118 +193,66 @@ fn trace_step(
 
 // ---- the samples of a pass
 
-// Two samples, one after the other.
-fn trace_pair(
-    block: &[u8],
-    from: BitPosition,
-    lines: &mut [u16],
-    sums: &mut [u32],
-    ns: &mut [u32],
-    stage: Stage,
+// A sample of a pass, and whether the pass has it.
+struct Due {
+    due: bool,
     x: Sample,
-    y: Sample,
-) -> Traced
-    requires { ⌜ StepAsks stage x (now block) (now lines) (now sums) (now ns) × Inside stage y ⌝ }
-    ensures { λ r.
-        let before = clean (now (lines .entry)) (now (sums .entry)) (now (ns .entry)) from in
-        ⌜ Gives (stepsWay stage (now (block .entry)) (stepOf x ∷ stepOf y ∷ []) before) (now (lines .exit)) (now (sums .exit)) (now (ns .exit)) r ⌝ }
+}
+
+// At an even position p, if it is one of the line.
+fn even_due(w: usize, line: usize, rule: u32, p: usize) -> Due
+    ensures { λ r. ⌜ r ≡ evenDue w line rule p ⌝ }
 {
-    let got = trace_step(block, from, lines, sums, ns, stage, x);
-    match got {
-        Traced::Bad(b) => Traced::Bad(b),
-        Traced::CutOff => Traced::CutOff,
-        Traced::At(at) => trace_step(block, at, lines, sums, ns, stage, y),
+    Due {
+        due: p < w,
+        x: Sample {
+            line,
+            position: p,
+            coded: steps::has_code(rule, p),
+        },
     }
 }
 
-// The two samples at an even position p, if it is one of the line.
-fn trace_even(
-    block: &[u8],
-    from: BitPosition,
-    lines: &mut [u16],
-    sums: &mut [u32],
-    ns: &mut [u32],
-    stage: Stage,
-    plan: Plan,
-    p: usize,
-) -> Traced
-    requires { ⌜ PassAsks stage plan (now block) (now lines) (now sums) (now ns) ⌝ }
-    ensures { λ r.
-        let before = clean (now (lines .entry)) (now (sums .entry)) (now (ns .entry)) from in
-        ⌜ Gives (stepsWay stage (now (block .entry)) (evenPart (stage .w) plan p) before) (now (lines .exit)) (now (sums .exit)) (now (ns .exit)) r ⌝ }
-{
-    let w = stage.w;
-    if w <= p {
-        return Traced::At(from);
-    }
-    let x = Sample {
-        line: plan.first,
-        position: p,
-        coded: steps::has_code(plan.first_rule, p),
-    };
-    let y = Sample {
-        line: plan.second,
-        position: p,
-        coded: steps::has_code(plan.second_rule, p),
-    };
-    trace_pair(block, from, lines, sums, ns, stage, x, y)
-}
-
-// The two samples at the odd position seven before p, once positions 0 to 8 are done.
-fn trace_odd(
-    block: &[u8],
-    from: BitPosition,
-    lines: &mut [u16],
-    sums: &mut [u32],
-    ns: &mut [u32],
-    stage: Stage,
-    plan: Plan,
-    p: usize,
-) -> Traced
-    requires { ⌜ PassAsks stage plan (now block) (now lines) (now sums) (now ns) × (p < stage .w + 7) ⌝ }
-    ensures { λ r.
-        let before = clean (now (lines .entry)) (now (sums .entry)) (now (ns .entry)) from in
-        ⌜ Gives (stepsWay stage (now (block .entry)) (oddPart plan p) before) (now (lines .exit)) (now (sums .exit)) (now (ns .exit)) r ⌝ }
+// At the odd position seven before p, once positions 0 to 8 are done.
+fn odd_due(line: usize, p: usize) -> Due
+    ensures { λ r. ⌜ r ≡ oddDue line p ⌝ }
 {
     if p < 8 {
-        return Traced::At(from);
+        return Due {
+            due: false,
+            x: Sample {
+                line,
+                position: 0,
+                coded: true,
+            },
+        };
     }
-    let x = Sample {
-        line: plan.first,
-        position: p - 7,
-        coded: true,
-    };
-    let y = Sample {
-        line: plan.second,
-        position: p - 7,
-        coded: true,
-    };
-    trace_pair(block, from, lines, sums, ns, stage, x, y)
+    Due {
+        due: true,
+        x: Sample {
+            line,
+            position: p - 7,
+            coded: true,
+        },
+    }
 }
 
-// Turn t of a pass.
-fn trace_turn(
-    block: &[u8],
-    from: BitPosition,
-    lines: &mut [u16],
-    sums: &mut [u32],
-    ns: &mut [u32],
-    stage: Stage,
-    plan: Plan,
-    t: usize,
-) -> Traced
-    requires { ⌜ PassAsks stage plan (now block) (now lines) (now sums) (now ns) × (t < stage .w / 2 + 4) ⌝ }
-    ensures { λ r.
-        let before = clean (now (lines .entry)) (now (sums .entry)) (now (ns .entry)) from in
-        ⌜ Gives (stepsWay stage (now (block .entry)) (turnSteps (stage .w) plan t) before) (now (lines .exit)) (now (sums .exit)) (now (ns .exit)) r ⌝ }
+// Number u of a pass, which has four in each turn: one loop over them takes a function, where a turn, its two positions and a pair of samples took four.
+fn due_at(w: usize, plan: Plan, u: usize) -> Due
+    ensures { λ r. ⌜ r ≡ dueAt w plan u ⌝ }
 {
-    let p = 2 * t;
-    let got = trace_even(block, from, lines, sums, ns, stage, plan, p);
-    match got {
-        Traced::Bad(b) => Traced::Bad(b),
-        Traced::CutOff => Traced::CutOff,
-        Traced::At(at) => trace_odd(block, at, lines, sums, ns, stage, plan, p),
+    let p = 2 * (u / 4);
+    let k = u % 4;
+    if k == 0 {
+        return even_due(w, plan.first, plan.first_rule, p);
     }
+    if k == 1 {
+        return even_due(w, plan.second, plan.second_rule, p);
+    }
+    if k == 2 {
+        return odd_due(plan.first, p);
+    }
+    odd_due(plan.second, p)
 }
 
 // A pass, on the records of its set.
@@ -318,17 +270,18 @@ fn trace_pass(
         let before = clean (now (lines .entry)) (now (sums .entry)) (now (ns .entry)) from in
         ⌜ Gives (stepsWay stage (now (block .entry)) (passSteps (stage .w) plan) before) (now (lines .exit)) (now (sums .exit)) (now (ns .exit)) r ⌝ }
 {
-    let turns = stage.w / 2 + 4;
+    let w = stage.w;
+    let end = 4 * (w / 2 + 4);
     let mut at = from;
-    let mut t: usize = 0;
-    while t < turns {
-        let got = trace_turn(block, at, lines, sums, ns, stage, plan, t);
-        match got {
-            Traced::Bad(b) => return Traced::Bad(b),
-            Traced::CutOff => return Traced::CutOff,
-            Traced::At(after) => at = after,
-        }
-        t = t + 1;
+    let mut u: usize = 0;
+    while u < end {
+        let d = due_at(w, plan, u);
+        let got = trace_step(block, at, lines, sums, ns, stage, d.due, d.x);
+        let Traced::At(after) = got else {
+            return got;
+        };
+        at = after;
+        u = u + 1;
     }
     Traced::At(at)
 }
@@ -378,11 +331,10 @@ fn trace_line(
             stage,
             p,
         );
-        match got {
-            Traced::Bad(b) => return Traced::Bad(b),
-            Traced::CutOff => return Traced::CutOff,
-            Traced::At(after) => at = after,
-        }
+        let Traced::At(after) = got else {
+            return got;
+        };
+        at = after;
         i = i + 1;
     }
     if is_past(block, at) {
@@ -427,11 +379,10 @@ fn trace_lines(
     while n < count {
         lines::turn(lines, w);
         let got = trace_line(block, at, lines, sums, ns, form, q, n);
-        match got {
-            Traced::Bad(b) => return Traced::Bad(b),
-            Traced::CutOff => return Traced::CutOff,
-            Traced::At(after) => at = after,
-        }
+        let Traced::At(after) = got else {
+            return got;
+        };
+        at = after;
         n = n + 1;
     }
     Traced::At(at)

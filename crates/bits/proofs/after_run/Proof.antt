@@ -28,4 +28,4 @@ returns : tie.Need-returns
 returns c = one-is _ _ _ (c .before .before .run .given .1)
 
 pub after-run-spec : {M : Type 1} → statement M
-after-run-spec = tie.close (tie.spec (λ c. search needs) add-t5 add-t6 (λ c. search needs) returns (λ c. search needs))
+after-run-spec = tie.close (tie.spec (λ c. c .match .keys1) add-t5 add-t6 (λ c. c .match .keys2) returns (λ c. search needs))

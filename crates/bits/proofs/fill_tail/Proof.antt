@@ -70,12 +70,12 @@ fill-tail-spec =
     (tie.spec
     Inv-loop
     μ-loop
-    (λ c κs. search needs)
-    (λ c κs. search needs)
+    (λ c κs. tt)
+    (λ c κs. tt)
     loop-holds
-    (λ c. search needs)
-    (λ c. search needs)
-    (λ c. search needs)
+    (λ c. omega (arith, c .before .loop .inv))
+    (λ c. omega (arith, c .before .loop .inv))
+    (λ c. omega (arith, c .before .before .before .before .before .pre))
     loop-again
-    (λ c. search needs)
+    (λ c. omega (arith, c .before .before .before .before .before .pre))
     returns)

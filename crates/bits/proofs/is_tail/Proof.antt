@@ -1,11 +1,11 @@
 -- `bits::is_tail` meets its contract: no one bit is left exactly where all bits to the end are 0. Assumes nothing.
-use borrow.Author.Needs.{needs}
 use borrow.Author.Tests.{ne-eqb, eq-eqb}
 use mathlib.Core.Bool.{true, false}
 use mathlib.Core.List.{List}
 use mathlib.Core.Path.{_≡_, refl, sym, _∙_}
 use Prim.Native.Nat.{ℕ, _+_, _-_, _*_, _/_}
 use lib.ListN.{length}
+use native.Mathlib.Omega.{arith}
 use Rattle.bits.specs.Bits.{bitsAt, zeroRun}
 use Rattle.bits.specs.BitLists.{blockBytes, isTail}
 use Rattle.bits.specs.declared.ZeroRun.{ZeroRun}
@@ -45,4 +45,5 @@ returns-3 c =
 pub is-tail-spec : {M : Type 1} → statement M
 is-tail-spec =
     tie.close
-    (tie.spec (λ c κs. search needs) returns (λ c κs. search needs) (λ c. search needs) (λ c. search needs) returns-2 returns-3)
+    (tie.spec (λ c κs. tt) returns (λ c κs. omega (arith, c .before .before .before .before .pre)) (λ c. c .match .keys1) (λ c. c .match .keys2)
+    returns-2 returns-3)

@@ -1,9 +1,9 @@
 -- `bits::load64` meets its contract: two groups of four bytes are 64 bits, by `be64-bits`. Assumes nothing.
-use borrow.Author.Needs.{needs}
 use mathlib.Core.Path.{_≡_}
 use mathlib.Core.List.{List}
 use Prim.Native.Nat.{ℕ, _+_, _*_, _<_}
 use lib.ListN.{getD}
+use native.Mathlib.Omega.{arith}
 use Rattle.bits.specs.Bits.{bitsAt, be32}
 use Rattle.bits.proofs.BitLaws.{be64-bits}
 use Rattle.bits.proofs.load64.Statement.{statement}
@@ -13,19 +13,19 @@ loaded : (s : List ℕ) (i a b : ℕ) → ((k : ℕ) → getD s k 0 < 256) → a
 loaded s i a b h ea eb = rw (ea, eb) (be64-bits s i h)
 
 load32-requires : tie.Need-load32-requires
-load32-requires c κs = search needs
+load32-requires c κs = omega (arith, c .before .pre)
 
 mul-result : tie.Need-mul-result
-mul-result c = search needs
+mul-result c = omega (arith, c .load32 .ensures)
 
 add-load32 : tie.Need-add-load32
-add-load32 c = search needs
+add-load32 c = omega (arith, c .before .before .pre)
 
 load32-requires-2 : tie.Need-load32-requires-2
-load32-requires-2 c κs = search needs
+load32-requires-2 c κs = omega (arith, c .before .before .pre)
 
 add-result : tie.Need-add-result
-add-result c = search needs
+add-result c = omega (arith, c .before .load32 .ensures, c .load322 .ensures)
 
 returns : tie.Need-returns
 returns c = loaded _ _ _ _ (λ k. c .before .before .shared-slice-known .given k .fits) (c .before .load32 .ensures .0) (c .load322 .ensures .0)

@@ -6,6 +6,7 @@ use Prim.Native.Nat.{ℕ, _-_, _*_, _/_, _%_, _^_, _≤_, _<_}
 use native.Mathlib.Nat.{lt-of-lt-of-le}
 use lib.Pow.{pow-mono}
 use mir.Facts.{fits-bits}
+use native.Mathlib.Omega.{arith}
 use Rattle.bits.specs.Bits.{bitsAt}
 use Rattle.bits.proofs.BitLaws.{bitsAt-lt, bitsAt-window}
 use Rattle.bits.proofs.peek_at.Statement.{statement}
@@ -18,25 +19,25 @@ peeked-lt : (s : List ℕ) (p n i w : ℕ) → n ≤ 32 → i ≡ p / 8 → w �
 peeked-lt s p n i w h ei ew = rw (peeked s p n i w h ei ew) (lt-of-lt-of-le (bitsAt-lt s p n) (pow-mono h))
 
 counted-requires : tie.Need-counted-requires
-counted-requires c κs = search needs
+counted-requires c κs = tt
 
 byte-requires : tie.Need-byte-requires
-byte-requires c κs = search needs
+byte-requires c κs = tt
 
 window-requires : tie.Need-window-requires
-window-requires c κs = search needs
+window-requires c κs = omega (arith, c .byte .ensures)
 
 shl-result : tie.Need-shl-result
 shl-result c = search needs
 
 sub-result : tie.Need-sub-result
-sub-result c = search needs
+sub-result c = omega (arith, c .before .before .before .counted .ensures)
 
 cast-result : tie.Need-cast-result
-cast-result c = search needs
+cast-result c = omega (arith, c .before .before .before .counted .ensures)
 
 shr-result : tie.Need-shr-result
-shr-result c = search needs
+shr-result c = omega (arith, c .before .before .before .counted .ensures)
 
 cast-result-2 : tie.Need-cast-result-2
 cast-result-2 c =

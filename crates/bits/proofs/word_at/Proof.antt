@@ -5,6 +5,7 @@ use mathlib.Core.Path.{_≡_}
 use mathlib.Core.List.{List}
 use Prim.Native.Nat.{ℕ, _+_, _*_, _/_, _%_, _^_, _≤_, _<_}
 use lib.ListN.{length}
+use native.Mathlib.Omega.{arith}
 use Rattle.bits.specs.Bits.{bitsAt, wordAt}
 use Rattle.bits.proofs.BitLaws.{shifted-window}
 use Rattle.bits.proofs.word_at.Statement.{statement}
@@ -19,13 +20,13 @@ unfolding wordAt
 gone s p i ei h = rw (lt-leb _ _ (rw ei at h))
 
 byte-requires : tie.Need-byte-requires
-byte-requires c κs = search needs
+byte-requires c κs = tt
 
 add-if1 : tie.Need-add-if1
-add-if1 c = search needs
+add-if1 c = omega (arith, c .before .byte .ensures)
 
 load64-requires : tie.Need-load64-requires
-load64-requires c κs = search needs
+load64-requires c κs = omega (arith, c .before .before .byte .ensures)
 
 shl-result : tie.Need-shl-result
 shl-result c = search needs

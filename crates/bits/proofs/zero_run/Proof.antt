@@ -1,5 +1,4 @@
 -- `bits::zero_run` meets its contract. The invariant: no one bit from `at` up to `here`; the measure: the bytes from `from` on. Assumes nothing.
-use borrow.Author.Needs.{needs}
 use mathlib.Core.Path.{_≡_}
 use mathlib.Core.List.{List}
 use Prim.Native.Nat.{ℕ, _+_, _-_, _*_, _/_, _%_, _^_, _≤_}
@@ -36,20 +35,20 @@ again s p q from next le f n h k =
     (omega arith, omega arith, rw e (zero-join s p (q - p) ((q / 8 + 8) * 8 - q) h (rw g k)))
 
 byte-requires : tie.Need-byte-requires Inv-loop μ-loop
-byte-requires c κs = search needs
+byte-requires c κs = tt
 
 loop-holds : tie.Need-loop-holds Inv-loop μ-loop
 unfolding bitsAt
 loop-holds c = (le-refl _, c .byte .ensures, rw sub-self)
 
 window-requires : tie.Need-window-requires Inv-loop μ-loop
-window-requires c κs = search needs
+window-requires c κs = omega (arith, c .before .before .loop .inv)
 
 shl-w : tie.Need-shl-w Inv-loop μ-loop
-shl-w c = search needs
+shl-w c = omega (arith, c .before .before .before .before .loop .inv)
 
 sub-t10 : tie.Need-sub-t10 Inv-loop μ-loop
-sub-t10 c = search needs
+sub-t10 c = omega (arith, c .before .before .before .before .before .before .before .before .before .before .pre)
 
 cast-t12 : tie.Need-cast-t12 Inv-loop μ-loop
 cast-t12 c = fits-below {n = 64} tt (leading-le 64 _)
@@ -67,13 +66,13 @@ returns c =
     run-one _ _ q _ (l .inv .0) (l .inv .2) (o .0) (o .1)
 
 add-t6 : tie.Need-add-t6 Inv-loop μ-loop
-add-t6 c = search needs
+add-t6 c = omega (arith, c .before .before .before .before .before .before .loop .inv)
 
 first-bit-requires : tie.Need-first-bit-requires Inv-loop μ-loop
-first-bit-requires c κs = search needs
+first-bit-requires c κs = omega (arith, c .before .before .before .before .before .before .loop .inv)
 
 loop-less : tie.Need-loop-less Inv-loop μ-loop
-loop-less c = search needs
+loop-less c = omega (arith, c .before .before .before .before .before .before .before .before .before .before .pre)
 
 loop-again : tie.Need-loop-again Inv-loop μ-loop
 loop-again c =

@@ -1,5 +1,4 @@
 pub mod decode
 pub mod decode_blocks
 pub mod decode_region
-pub mod decode_region_alone
 pub mod decode_region_windowed

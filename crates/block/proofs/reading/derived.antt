@@ -1,4 +1,3 @@
 pub mod line
 pub mod read_lines
 pub mod walk
-pub mod walk_alone

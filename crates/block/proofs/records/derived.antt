@@ -1,6 +1,5 @@
 pub mod clear_records
 pub mod fetch
-pub mod load_records
 pub mod load_set
 pub mod restart
 pub mod restart_main

@@ -1,5 +1,4 @@
 -- `cameras::after_block` meets its contract: all lines that take an entry have one. Assumes nothing.
-use borrow.Author.Needs.{needs}
 use mathlib.Core.Path.{_≡_, sym, _∙_}
 use mathlib.Core.List.{List}
 use Prim.Native.Nat.{ℕ, _≤_}
@@ -30,4 +29,4 @@ returns c =
     (settled _ _ _ _ _ _ _ _ _ (s .pre .1 .1) (k .0) (k .1) (t .0 .0) (t .1 .0), t .1 .1)
 
 pub after-block-spec : {M : Type 1} → statement M
-after-block-spec = tie.close (tie.spec (λ c κs. search needs) take-lines-requires returns)
+after-block-spec = tie.close (tie.spec (λ c κs. tt) take-lines-requires returns)

@@ -19,11 +19,11 @@ shared-slice-read-u8-to-u32 c = search needs
 
 -- src/lib.rt:43:9
 u8-to-u32-requires : tie.Need-u8-to-u32-requires
-u8-to-u32-requires c κs = search needs
+u8-to-u32-requires c κs = tt
 
 -- src/lib.rt:43:9
 returns : tie.Need-returns
-returns c = search needs
+returns c = omega (arith, c .u8-to-u32 .ensures)
 
 -- src/lib.rt:39:1
 returns-2 : tie.Need-returns-2

@@ -1,5 +1,4 @@
 -- `cameras::end_stream` meets its contract: all holds of the camera are given back. Assumes nothing.
-use borrow.Author.Needs.{needs}
 use mathlib.Core.Path.{_≡_, refl, sym, ap, _∙_}
 use Prim.Native.Nat.{ℕ, suc, _+_, _-_, _≤_, _<_}
 use native.Mathlib.Nat.{add-zero}
@@ -25,31 +24,31 @@ loop-holds c = (omega arith, each-start _ _)
 
 -- src/lib.rt:238:17
 mul-old : tie.Need-mul-old Inv-loop μ-loop
-mul-old c = search needs
+mul-old c = omega (arith, c .before .loop .inv)
 
 -- src/lib.rt:238:17
 element-copy-out-old : tie.Need-element-copy-out-old Inv-loop μ-loop
-element-copy-out-old c = search needs
+element-copy-out-old c = omega (arith, c .before .loop .inv)
 
 -- src/lib.rt:239:24
 free-of-requires : tie.Need-free-of-requires Inv-loop μ-loop
-free-of-requires c κs = search needs
+free-of-requires c κs = tt
 
 -- src/lib.rt:239:9
 mul-t7 : tie.Need-mul-t7 Inv-loop μ-loop
-mul-t7 c = search needs
+mul-t7 c = omega (arith, c .before .before .before .loop .inv)
 
 -- src/lib.rt:239:9
 element-set-from-after : tie.Need-element-set-from-after Inv-loop μ-loop
-element-set-from-after c = search needs
+element-set-from-after c = omega (arith, c .before .before .before .loop .inv)
 
 -- src/lib.rt:240:9
 add-i : tie.Need-add-i Inv-loop μ-loop
-add-i c = search needs
+add-i c = omega (arith, c .before .before .before .loop .inv)
 
 -- src/lib.rt:237:5
 loop-less : tie.Need-loop-less Inv-loop μ-loop
-loop-less c = search needs
+loop-less c = omega (arith, c .before .before .before .loop .inv)
 
 -- src/lib.rt:237:5
 loop-again : tie.Need-loop-again Inv-loop μ-loop

@@ -1,5 +1,4 @@
 -- `cameras::free_in` meets its contract: the lowest entry that nobody holds, or 16. Assumes nothing.
-use borrow.Author.Needs.{needs}
 use mathlib.Core.Bool.{not}
 use mathlib.Core.Path.{_≡_, refl, sym, ap, _∙_}
 use Prim.Native.Nat.{_-_, _≤_}
@@ -24,15 +23,15 @@ loop-holds c = (omega arith, refl)
 
 -- src/lib.rt:93:17
 mul-e : tie.Need-mul-e Inv-loop μ-loop
-mul-e c = search needs
+mul-e c = omega (arith, c .before .loop .inv)
 
 -- src/lib.rt:93:17
 element-copy-out-e : tie.Need-element-copy-out-e Inv-loop μ-loop
-element-copy-out-e c = search needs
+element-copy-out-e c = omega (arith, c .before .loop .inv)
 
 -- src/lib.rt:94:13
 is-held-requires : tie.Need-is-held-requires Inv-loop μ-loop
-is-held-requires c κs = search needs
+is-held-requires c κs = tt
 
 -- src/lib.rt:95:13
 returns : tie.Need-returns Inv-loop μ-loop
@@ -41,11 +40,11 @@ returns c = found (λ j. not (isHeld (entryAt (c .before .before .before .before
 
 -- src/lib.rt:97:9
 add-j : tie.Need-add-j Inv-loop μ-loop
-add-j c = search needs
+add-j c = omega (arith, c .before .before .before .before .loop .inv)
 
 -- src/lib.rt:92:5
 loop-less : tie.Need-loop-less Inv-loop μ-loop
-loop-less c = search needs
+loop-less c = omega (arith, c .before .before .before .before .loop .inv)
 
 -- src/lib.rt:92:5
 loop-again : tie.Need-loop-again Inv-loop μ-loop

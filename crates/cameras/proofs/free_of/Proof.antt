@@ -1,5 +1,4 @@
 -- `cameras::free_of` meets its contract: the entry without the holds of one camera. Assumes nothing.
-use borrow.Author.Needs.{needs}
 use Rattle.cameras.proofs.free_of.Statement.{statement}
 use Rattle.cameras.proofs.free_of.Tie as tie
 use Rattle.cameras.proofs.free_of.Reads as reads
@@ -7,11 +6,11 @@ use Rattle.cameras.proofs.free_of.Lts as lts
 
 -- src/lib.rt:127:24
 enum-told : tie.Need-enum-told
-enum-told c = search needs
+enum-told c = c .match .keys1
 
 -- src/lib.rt:133:24
 enum-told-2 : tie.Need-enum-told-2
-enum-told-2 c = search needs
+enum-told-2 c = c .match .keys2
 
 -- src/lib.rt:122:1
 returns : tie.Need-returns

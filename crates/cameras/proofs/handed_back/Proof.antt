@@ -18,4 +18,4 @@ returns c =
     refused (a .camera) (a .refused) (a .entries .all) _ (c .before .if1 .taken) (c .end-stream .ensures)
 
 pub handed-back-spec : {M : Type 1} → statement M
-handed-back-spec = tie.close (tie.spec (λ c κs. search needs) returns (λ c. search needs))
+handed-back-spec = tie.close (tie.spec (λ c κs. tt) returns (λ c. search needs))

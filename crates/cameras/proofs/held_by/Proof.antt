@@ -1,5 +1,4 @@
 -- `cameras::held_by` meets its contract: an entry held by one camera more. Assumes nothing.
-use borrow.Author.Needs.{needs}
 use Rattle.cameras.proofs.held_by.Statement.{statement}
 use Rattle.cameras.proofs.held_by.Tie as tie
 use Rattle.cameras.proofs.held_by.Reads as reads
@@ -7,11 +6,11 @@ use Rattle.cameras.proofs.held_by.Lts as lts
 
 -- src/lib.rt:107:24
 enum-told : tie.Need-enum-told
-enum-told c = search needs
+enum-told c = c .match .keys1
 
 -- src/lib.rt:113:24
 enum-told-2 : tie.Need-enum-told-2
-enum-told-2 c = search needs
+enum-told-2 c = c .match .keys2
 
 -- src/lib.rt:102:1
 returns : tie.Need-returns

@@ -1,5 +1,4 @@
 -- `cameras::is_pair` meets its contract: depth and base, and that somebody holds it. Assumes nothing.
-use borrow.Author.Needs.{needs}
 use Rattle.cameras.proofs.is_pair.Statement.{statement}
 use Rattle.cameras.proofs.is_pair.Tie as tie
 use Rattle.cameras.proofs.is_pair.Reads as reads
@@ -8,7 +7,7 @@ use Rattle.cameras.proofs.is_held.Reads as is-held-reads
 
 -- src/lib.rt:69:5
 is-held-requires : tie.Need-is-held-requires
-is-held-requires c κs = search needs
+is-held-requires c κs = tt
 
 -- src/lib.rt:65:1
 returns : tie.Need-returns

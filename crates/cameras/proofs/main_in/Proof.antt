@@ -1,5 +1,4 @@
 -- `cameras::main_in` meets its contract: the main quantiser of a held pair, or computed anew. Assumes nothing.
-use borrow.Author.Needs.{needs}
 use mathlib.Core.Path.{_≡_, refl, sym, ap, _∙_}
 use Prim.Native.Nat.{ℕ, suc, _+_, _-_, _≤_, _<_}
 use native.Mathlib.Nat.{add-zero}
@@ -16,15 +15,15 @@ use Rattle.quantiser.proofs.Quantiser.main.Reads as main-reads
 
 -- src/lib.rt:285:9
 pair-in-requires : tie.Need-pair-in-requires
-pair-in-requires c κs = search needs
+pair-in-requires c κs = tt
 
 -- src/lib.rt:287:17
 mul-e : tie.Need-mul-e
-mul-e c = search needs
+mul-e c = omega (arith, c .before .pair-in .ensures)
 
 -- src/lib.rt:287:17
 element-copy-out-e : tie.Need-element-copy-out-e
-element-copy-out-e c = search needs
+element-copy-out-e c = omega (arith, c .before .pair-in .ensures)
 
 -- src/lib.rt:288:9
 returns : tie.Need-returns
@@ -32,11 +31,11 @@ returns c = pair-main _ _ _ _ (c .before .before .before .before .pre .1) (c .be
 
 -- src/lib.rt:290:5
 main-requires : tie.Need-main-requires
-main-requires c κs = search needs
+main-requires c κs = omega (arith, c .before .before .pre)
 
 -- src/lib.rt:280:1
 returns-2 : tie.Need-returns-2
-returns-2 c = search needs
+returns-2 c = c .main .ensures .0
 
 pub main-in-spec : {M : Type 1} → statement M
 main-in-spec =

@@ -1,5 +1,4 @@
 -- `cameras::mended` meets its contract: entry by entry. Assumes nothing.
-use borrow.Author.Needs.{needs}
 use mathlib.Core.Path.{_≡_, refl, sym, ap, _∙_}
 use Prim.Native.Nat.{ℕ, suc, _+_, _-_, _≤_, _<_}
 use native.Mathlib.Nat.{add-zero}
@@ -25,31 +24,31 @@ loop-holds c = (omega arith, each-start _ _)
 
 -- src/lib.rt:272:17
 mul-e : tie.Need-mul-e Inv-loop μ-loop
-mul-e c = search needs
+mul-e c = omega (arith, c .before .loop .inv)
 
 -- src/lib.rt:272:17
 element-copy-out-e : tie.Need-element-copy-out-e Inv-loop μ-loop
-element-copy-out-e c = search needs
+element-copy-out-e c = omega (arith, c .before .loop .inv)
 
 -- src/lib.rt:273:24
 mended-entry-requires : tie.Need-mended-entry-requires Inv-loop μ-loop
-mended-entry-requires c κs = search needs
+mended-entry-requires c κs = tt
 
 -- src/lib.rt:273:9
 mul-t6 : tie.Need-mul-t6 Inv-loop μ-loop
-mul-t6 c = search needs
+mul-t6 c = omega (arith, c .before .before .before .loop .inv)
 
 -- src/lib.rt:273:9
 element-set-from-after : tie.Need-element-set-from-after Inv-loop μ-loop
-element-set-from-after c = search needs
+element-set-from-after c = omega (arith, c .before .before .before .loop .inv)
 
 -- src/lib.rt:274:9
 add-i : tie.Need-add-i Inv-loop μ-loop
-add-i c = search needs
+add-i c = omega (arith, c .before .before .before .loop .inv)
 
 -- src/lib.rt:271:5
 loop-less : tie.Need-loop-less Inv-loop μ-loop
-loop-less c = search needs
+loop-less c = omega (arith, c .before .before .before .loop .inv)
 
 -- src/lib.rt:271:5
 loop-again : tie.Need-loop-again Inv-loop μ-loop

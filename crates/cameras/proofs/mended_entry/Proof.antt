@@ -1,5 +1,4 @@
 -- `cameras::mended_entry` meets its contract: a held entry gets the numbers of its pair, or is held no longer. Assumes nothing.
-use borrow.Author.Needs.{needs}
 use borrow.Author.Tests.{not-true, not-false, leb-true, ltb-true}
 use mathlib.Core.Bool.{_&&_}
 use lib.Dec.{leb, ltb}
@@ -21,7 +20,7 @@ use Rattle.quantiser.proofs.Quantiser.main.Reads as main-reads
 
 -- src/lib.rt:249:9
 is-held-requires : tie.Need-is-held-requires
-is-held-requires c κs = search needs
+is-held-requires c κs = tt
 
 -- src/lib.rt:250:9
 returns : tie.Need-returns
@@ -41,7 +40,7 @@ returns-2 c = let e = c .before .before .before .before .before .before .before 
 
 -- src/lib.rt:262:5
 no-entry-requires : tie.Need-no-entry-requires
-no-entry-requires c κs = search needs
+no-entry-requires c κs = tt
 
 -- src/lib.rt:246:1
 returns-3 : tie.Need-returns-3

@@ -1,5 +1,4 @@
 -- `cameras::new_entry` meets its contract: the numbers of a pair, held by one camera. Assumes nothing.
-use borrow.Author.Needs.{needs}
 use Rattle.cameras.proofs.new_entry.Statement.{statement}
 use Rattle.cameras.proofs.new_entry.Tie as tie
 use Rattle.cameras.proofs.new_entry.Reads as reads
@@ -9,11 +8,11 @@ use Rattle.quantiser.proofs.Quantiser.main.Reads as main-reads
 
 -- src/lib.rt:146:9
 main-requires : tie.Need-main-requires
-main-requires c κs = search needs
+main-requires c κs = c .pre
 
 -- src/lib.rt:147:5
 held-by-requires : tie.Need-held-by-requires
-held-by-requires c κs = search needs
+held-by-requires c κs = tt
 
 -- src/lib.rt:142:1
 returns : tie.Need-returns

@@ -1,5 +1,4 @@
 -- `cameras::no_entries` meets its contract. Assumes nothing.
-use borrow.Author.Needs.{needs}
 use mathlib.Core.Bool.{false≢true}
 use mathlib.Core.Path.{_≡_, refl, sym, ap, _∙_, subst}
 use Prim.Native.Nat.{ℕ}
@@ -20,4 +19,4 @@ returns : tie.Need-returns
 returns c = none _ (c .no-entry .ensures)
 
 pub no-entries-spec : {M : Type 1} → statement M
-no-entries-spec = tie.close (tie.spec (λ c κs. search needs) returns)
+no-entries-spec = tie.close (tie.spec (λ c κs. tt) returns)

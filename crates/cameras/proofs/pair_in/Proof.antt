@@ -1,5 +1,4 @@
 -- `cameras::pair_in` meets its contract: the lowest held entry of a pair. Assumes nothing.
-use borrow.Author.Needs.{needs}
 use mathlib.Core.Bool.{not}
 use mathlib.Core.Path.{_≡_, refl, sym, _∙_}
 use Prim.Native.Nat.{_-_, _≤_}
@@ -24,15 +23,15 @@ loop-holds c = (omega arith, refl)
 
 -- src/lib.rt:78:17
 mul-e : tie.Need-mul-e Inv-loop μ-loop
-mul-e c = search needs
+mul-e c = omega (arith, c .before .loop .inv)
 
 -- src/lib.rt:78:17
 element-copy-out-e : tie.Need-element-copy-out-e Inv-loop μ-loop
-element-copy-out-e c = search needs
+element-copy-out-e c = omega (arith, c .before .loop .inv)
 
 -- src/lib.rt:79:12
 is-pair-requires : tie.Need-is-pair-requires Inv-loop μ-loop
-is-pair-requires c κs = search needs
+is-pair-requires c κs = tt
 
 -- src/lib.rt:80:13
 returns : tie.Need-returns Inv-loop μ-loop
@@ -41,11 +40,11 @@ returns c = found (λ j. isPair (c .before .before .before .before .before .args
 
 -- src/lib.rt:82:9
 add-i : tie.Need-add-i Inv-loop μ-loop
-add-i c = search needs
+add-i c = omega (arith, c .before .before .before .before .loop .inv)
 
 -- src/lib.rt:77:5
 loop-less : tie.Need-loop-less Inv-loop μ-loop
-loop-less c = search needs
+loop-less c = omega (arith, c .before .before .before .before .loop .inv)
 
 -- src/lib.rt:77:5
 loop-again : tie.Need-loop-again Inv-loop μ-loop

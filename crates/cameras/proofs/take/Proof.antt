@@ -1,5 +1,4 @@
 -- `cameras::take` meets its contract: a held entry is shared, or else the lowest free one is taken. Assumes nothing.
-use borrow.Author.Needs.{needs}
 use mathlib.Core.Path.{_≡_, refl, sym, ap, _∙_}
 use Prim.Native.Nat.{ℕ, suc, _+_, _-_, _≤_, _<_}
 use native.Mathlib.Nat.{add-zero}
@@ -18,27 +17,27 @@ use Rattle.cameras.proofs.pair_in.Reads as pair-in-reads
 
 -- src/lib.rt:179:9
 pair-in-requires : tie.Need-pair-in-requires
-pair-in-requires c κs = search needs
+pair-in-requires c κs = tt
 
 -- src/lib.rt:181:17
 mul-e : tie.Need-mul-e
-mul-e c = search needs
+mul-e c = omega (arith, c .before .pair-in .ensures)
 
 -- src/lib.rt:181:17
 element-copy-out-e : tie.Need-element-copy-out-e
-element-copy-out-e c = search needs
+element-copy-out-e c = omega (arith, c .before .pair-in .ensures)
 
 -- src/lib.rt:182:24
 held-by-requires : tie.Need-held-by-requires
-held-by-requires c κs = search needs
+held-by-requires c κs = tt
 
 -- src/lib.rt:182:9
 mul-t10 : tie.Need-mul-t10
-mul-t10 c = search needs
+mul-t10 c = omega (arith, c .before .before .before .pair-in .ensures)
 
 -- src/lib.rt:182:9
 element-set-from-after : tie.Need-element-set-from-after
-element-set-from-after c = search needs
+element-set-from-after c = omega (arith, c .before .before .before .pair-in .ensures)
 
 -- src/lib.rt:183:9
 returns : tie.Need-returns
@@ -46,19 +45,19 @@ returns c = pair-taken _ _ _ _ _ (c .before .before .before .pair-in .ensures .0
 
 -- src/lib.rt:188:9
 free-in-requires : tie.Need-free-in-requires
-free-in-requires c κs = search needs
+free-in-requires c κs = tt
 
 -- src/lib.rt:190:24
 new-entry-requires : tie.Need-new-entry-requires
-new-entry-requires c κs = search needs
+new-entry-requires c κs = c .before .before .before .before .pre
 
 -- src/lib.rt:190:9
 mul-t18 : tie.Need-mul-t18
-mul-t18 c = search needs
+mul-t18 c = omega (arith, c .before .before .free-in .ensures)
 
 -- src/lib.rt:190:9
 element-set-from-after-2 : tie.Need-element-set-from-after-2
-element-set-from-after-2 c = search needs
+element-set-from-after-2 c = omega (arith, c .before .before .free-in .ensures)
 
 -- src/lib.rt:191:9
 returns-2 : tie.Need-returns-2

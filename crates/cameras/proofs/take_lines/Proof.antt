@@ -1,5 +1,4 @@
 -- `cameras::take_lines` meets its contract: line by line, until one has no entry. Assumes nothing.
-use borrow.Author.Needs.{needs}
 use borrow.Author.Tests.{not-true, not-false, leb-true, ltb-true}
 use mathlib.Core.Path.{_≡_, refl, sym, ap, _∙_}
 use Prim.Native.Nat.{ℕ, suc, _+_, _-_, _≤_, _<_}
@@ -29,11 +28,11 @@ loop-holds c = (omega arith, took-none _ _ _ _, lines-none _ _ _ _, c .before .p
 
 -- src/lib.rt:214:47
 base-of-requires : tie.Need-base-of-requires Inv-loop μ-loop
-base-of-requires c κs = search needs
+base-of-requires c κs = tt
 
 -- src/lib.rt:214:13
 take-requires : tie.Need-take-requires Inv-loop μ-loop
-take-requires c κs = search needs
+take-requires c κs = omega (arith, c .before .before .before .before .pre)
 
 -- src/lib.rt:217:13
 returns : tie.Need-returns Inv-loop μ-loop
@@ -44,11 +43,11 @@ returns c =
 
 -- src/lib.rt:223:9
 add-n : tie.Need-add-n Inv-loop μ-loop
-add-n c = search needs
+add-n c = omega (arith, c .before .before .before .before .before .loop .inv)
 
 -- src/lib.rt:213:5
 loop-less : tie.Need-loop-less Inv-loop μ-loop
-loop-less c = search needs
+loop-less c = omega (arith, c .before .before .before .before .before .before .before .pre)
 
 -- src/lib.rt:213:5
 loop-again : tie.Need-loop-again Inv-loop μ-loop

@@ -3,10 +3,10 @@ use mathlib.Core.List.{[], _∷_}
 use mathlib.Core.Path.{_≡_}
 use Prim.Native.Nat.{ℕ}
 use lib.ListN.{getD}
+use native.Mathlib.Omega.{arith}
 use Rattle.numbers.specs.Numbers.{flag}
 use Rattle.cameras.specs.Words.{wordsOf}
 use Rattle.cameras.specs.declared.Entry.{Entry}
-use borrow.Author.Needs.{needs}
 use Rattle.cameras.proofs.word_of.Statement.{statement}
 use Rattle.cameras.proofs.word_of.Tie as tie
 use Rattle.cameras.proofs.word_of.Reads as reads
@@ -15,19 +15,19 @@ use Rattle.numbers.proofs.flag.Reads as flag-reads
 
 -- src/lib.rt:348:9
 flag-requires : tie.Need-flag-requires
-flag-requires c κs = search needs
+flag-requires c κs = tt
 
 -- src/lib.rt:349:9
 flag-requires-2 : tie.Need-flag-requires-2
-flag-requires-2 c κs = search needs
+flag-requires-2 c κs = tt
 
 -- src/lib.rt:351:5
 mul-result : tie.Need-mul-result
-mul-result c = search needs
+mul-result c = omega (arith, c .before .before .before .pre)
 
 -- src/lib.rt:351:5
 array-read-result : tie.Need-array-read-result
-array-read-result c = search needs
+array-read-result c = c .before .before .before .pre
 
 -- src/lib.rt:336:1
 words : (e : Entry) (k a b : ℕ) → a ≡ flag (e .one) → b ≡ flag (e .two)

@@ -1,5 +1,4 @@
 -- `cameras::words_of` meets its contract: the words of all entries. Assumes nothing.
-use borrow.Author.Needs.{needs}
 use borrow.Author.Tests.{lt-ltb}
 use mathlib.Core.Path.{_≡_, refl, _∙_}
 use mathlib.Core.List.{List}
@@ -43,19 +42,19 @@ word-of-requires c κs = omega arith
 
 -- src/lib.rt:361:9
 mul-words : tie.Need-mul-words Inv-loop μ-loop
-mul-words c = search needs
+mul-words c = omega (arith, c .before .before .before .loop .inv)
 
 -- src/lib.rt:361:9
 array-write-words : tie.Need-array-write-words Inv-loop μ-loop
-array-write-words c = search needs
+array-write-words c = omega (arith, c .before .before .before .loop .inv)
 
 -- src/lib.rt:362:9
 add-k : tie.Need-add-k Inv-loop μ-loop
-add-k c = search needs
+add-k c = omega (arith, c .before .before .before .loop .inv)
 
 -- src/lib.rt:359:5
 loop-less : tie.Need-loop-less Inv-loop μ-loop
-loop-less c = search needs
+loop-less c = omega (arith, c .word-of .ensures)
 
 -- src/lib.rt:359:5
 loop-again : tie.Need-loop-again Inv-loop μ-loop

@@ -1,5 +1,5 @@
 -- `checkpoint::be_byte` meets its contract. Assumes nothing.
-use borrow.Author.Needs.{needs}
+use native.Mathlib.Omega.{arith}
 use Rattle.checkpoint.proofs.ByteLaws.{byte-is}
 use Rattle.checkpoint.proofs.be_byte.Statement.{statement}
 use Rattle.checkpoint.proofs.be_byte.Tie as tie
@@ -10,4 +10,5 @@ returns c = byte-is _ _ _
 pub be-byte-spec : {M : Type 1} → statement M
 be-byte-spec =
     tie.close
-    (tie.spec (λ c. search needs) (λ c. search needs) (λ c. search needs) (λ c. search needs) (λ c. search needs) (λ c. search needs) returns)
+    (tie.spec (λ c. omega (arith, c .pre)) (λ c. omega (arith, c .pre)) (λ c. omega (arith, c .pre)) (λ c. omega (arith, c .pre)) (λ c. omega
+    (arith, c .pre)) (λ c. omega (arith, c .pre)) returns)

@@ -43,13 +43,13 @@ pub head-byte-spec : {M : Type 1} → statement M
 head-byte-spec =
     tie.close
     (tie.spec
-    (λ c. search needs)
+    (λ c. omega (arith, c .before .before .before .pre))
     returns
     (λ c κs. search needs)
     returns-2
-    (λ c. search needs)
-    (λ c κs. search needs)
+    (λ c. omega (arith, c .before .before .before .before .pre))
+    (λ c κs. omega (arith, c .before .before .before .before .pre))
     returns-3
-    (λ c. search needs)
-    (λ c κs. search needs)
+    (λ c. omega (arith, c .before .before .before .before .pre))
+    (λ c κs. omega (arith, c .before .before .before .before .pre))
     returns-4)

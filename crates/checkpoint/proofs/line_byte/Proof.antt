@@ -1,5 +1,4 @@
 -- `checkpoint::line_byte` meets its contract. Assumes nothing.
-use borrow.Author.Needs.{needs}
 use mathlib.Core.List.{List}
 use mathlib.Core.Path.{_≡_}
 use Prim.Native.Nat.{ℕ, _+_, _*_, _/_, _%_, _≤_, _<_}
@@ -41,16 +40,16 @@ pub line-byte-spec : {M : Type 1} → statement M
 line-byte-spec =
     tie.close
     (tie.spec
-    (λ c. search needs)
-    (λ c κs. search needs)
-    (λ c κs. search needs)
-    (λ c. search needs)
+    (λ c. omega (arith, c .before .pre))
+    (λ c κs. tt)
+    (λ c κs. omega (arith, c .before .before .pre))
+    (λ c. omega (arith, c .before .before .before .pre))
     add-at
     add-at-2
-    (λ c. search needs)
+    (λ c. omega (arith, c .before .before .before .pre))
     mul-u16-to-u32
     shared-slice-read-u16-to-u32
-    (λ c κs. search needs)
-    (λ c. search needs)
-    (λ c κs. search needs)
+    (λ c κs. tt)
+    (λ c. omega (arith, c .u16-to-u32 .ensures))
+    (λ c κs. omega (arith, c .before .before .before .before .before .pre))
     returns)

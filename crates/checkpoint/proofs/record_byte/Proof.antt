@@ -28,10 +28,10 @@ pub record-byte-spec : {M : Type 1} → statement M
 record-byte-spec =
     tie.close
     (tie.spec
-    (λ c. search needs)
-    (λ c. search needs)
-    (λ c κs. search needs)
+    (λ c. omega (arith, c .before .pre))
+    (λ c. omega (arith, c .before .before .pre))
+    (λ c κs. omega (arith, c .before .before .pre))
     returns
-    (λ c. search needs)
+    (λ c. omega (arith, c .before .before .pre))
     (λ c κs. search needs)
     returns-2)

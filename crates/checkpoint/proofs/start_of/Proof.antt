@@ -1,5 +1,4 @@
 -- `checkpoint::start_of` meets its contract: a line ends before the 18th does. Assumes nothing.
-use borrow.Author.Needs.{needs}
 use mathlib.Core.Path.{refl}
 use native.Mathlib.Omega.{arith}
 use Rattle.checkpoint.proofs.ByteLaws.{line-inside}
@@ -13,4 +12,4 @@ returns : tie.Need-returns
 returns c = (refl, omega (arith, line-inside (c .args .w) (c .args .l) (c .pre .1)))
 
 pub start-of-spec : {M : Type 1} → statement M
-start-of-spec = tie.close (tie.spec (λ c. search needs) mul-result returns)
+start-of-spec = tie.close (tie.spec (λ c. omega (arith, c .pre)) mul-result returns)

@@ -35,12 +35,12 @@ store-head-spec =
     (tie.spec
     Inv-loop
     μ-loop
-    (λ c. search needs)
+    (λ c. omega (arith, c .before .before .pre))
     loop-holds
-    (λ c κs. search needs)
-    (λ c. search needs)
-    (λ c. search needs)
-    (λ c. search needs)
+    (λ c κs. omega (arith, c .before .before .before .before .pre))
+    (λ c. omega (arith, c .before .before .loop .inv))
+    (λ c. omega (arith, c .before .before .loop .inv))
+    (λ c. omega (arith, c .before .before .before .before .before .pre))
     loop-again
-    (λ c. search needs)
+    (λ c. omega (arith, c .before .before .before .before .pre))
     returns)

@@ -51,18 +51,18 @@ store-set-spec =
     (tie.spec
     Inv-loop
     μ-loop
-    (λ c. search needs)
-    (λ c. search needs)
+    (λ c. omega (arith, c .before .pre))
+    (λ c. omega (arith, c .before .pre))
     loop-holds
-    (λ c. search needs)
-    (λ c. search needs)
-    (λ c. search needs)
-    (λ c. search needs)
-    (λ c κs. search needs)
-    (λ c. search needs)
-    (λ c. search needs)
-    (λ c. search needs)
-    (λ c. search needs)
+    (λ c. omega (arith, c .before .loop .inv))
+    (λ c. omega (arith, c .before .loop .inv))
+    (λ c. omega (arith, c .before .loop .inv))
+    (λ c. omega (arith, c .before .loop .inv))
+    (λ c κs. tt)
+    (λ c. omega (arith, c .before .before .before .before .before .before .pre))
+    (λ c. omega (arith, c .before .before .before .before .before .before .pre))
+    (λ c. omega (arith, c .before .before .loop .inv))
+    (λ c. omega (arith, c .before .before .before .before .before .before .pre))
     loop-again
-    (λ c. search needs)
+    (λ c. omega (arith, c .before .before .before .before .before .pre))
     returns)

@@ -1,5 +1,4 @@
 -- `checkpoint::stored_record` meets its contract, by its test. Assumes nothing.
-use borrow.Author.Needs.{needs}
 use mathlib.Core.Bool.{Bool, true, false, _&&_}
 use mathlib.Core.Path.{_≡_}
 use Prim.Native.Nat.{ℕ, _%_}
@@ -25,4 +24,4 @@ returns-2 : tie.Need-returns-2
 returns-2 c = used _ _ _ _ (c .before .is-flat .ensures) (c .if1 .left)
 
 pub stored-record-spec : {M : Type 1} → statement M
-stored-record-spec = tie.close (tie.spec (λ c κs. search needs) returns returns-2)
+stored-record-spec = tie.close (tie.spec (λ c κs. tt) returns returns-2)

@@ -72,13 +72,13 @@ pub choice-spec : {M : Type 1} → statement M
 choice-spec =
     tie.close
     (tie.spec
-    (λ c κs. search needs)
-    (λ c κs. search needs)
-    (λ c κs. search needs)
-    (λ c κs. search needs)
-    (λ c κs. search needs)
-    (λ c κs. search needs)
-    (λ c. search needs)
-    (λ c. search needs)
-    (λ c. search needs)
+    (λ c κs. tt)
+    (λ c κs. tt)
+    (λ c κs. tt)
+    (λ c κs. tt)
+    (λ c κs. tt)
+    (λ c κs. tt)
+    (λ c. omega (arith, c .before .before .before .before .flag .ensures, c .before .before .flag2 .ensures))
+    (λ c. omega (arith, c .before .before .before .before .flag .ensures, c .before .before .flag2 .ensures, c .flag3 .ensures))
+    (λ c. omega (arith, c .before .before .before .before .flag .ensures, c .before .before .flag2 .ensures, c .flag3 .ensures))
     returns)

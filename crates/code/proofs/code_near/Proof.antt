@@ -1,5 +1,4 @@
 -- `code::code_near` meets its contract: the nearest residual, or the one that is total away from it. Assumes nothing.
-use borrow.Author.Needs.{needs}
 use mathlib.Core.Path.{ap, _∙_}
 use native.Mathlib.Omega.{arith}
 use Rattle.numbers.specs.declared.Signed.{Signed}
@@ -31,11 +30,11 @@ pub code-near-spec : {M : Type 1} → statement M
 code-near-spec =
     tie.close
     (tie.spec
-    (λ c κs. search needs)
+    (λ c κs. tt)
     nearest-size-requires
-    (λ c κs. search needs)
-    (λ c κs. search needs)
+    (λ c κs. tt)
+    (λ c κs. omega (arith, c .before .nearest-size .ensures))
     returns
-    (λ c κs. search needs)
-    (λ c κs. search needs)
+    (λ c κs. tt)
+    (λ c κs. omega (arith, c .saturating-sub .ensures))
     returns-2)

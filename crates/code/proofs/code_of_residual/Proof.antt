@@ -1,5 +1,5 @@
 -- `code::code_of_residual` meets its contract. Assumes nothing.
-use borrow.Author.Needs.{needs}
+use native.Mathlib.Omega.{arith}
 use Rattle.code.specs.Tight.{codeOfResidual}
 use Rattle.code.proofs.code_of_residual.Statement.{statement}
 use Rattle.code.proofs.code_of_residual.Tie as tie
@@ -13,4 +13,4 @@ unfolding codeOfResidual
 returns-2 c = simp (c .if1 .left)
 
 pub code-of-residual-spec : {M : Type 1} → statement M
-code-of-residual-spec = tie.close (tie.spec (λ c. search needs) (λ c κs. search needs) returns (λ c. search needs) returns-2)
+code-of-residual-spec = tie.close (tie.spec (λ c. omega (arith, c .before .pre)) (λ c κs. tt) returns (λ c. omega (arith, c .before .pre)) returns-2)

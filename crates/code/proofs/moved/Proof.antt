@@ -1,5 +1,5 @@
 -- `code::moved` meets its contract, by its two cases. Assumes nothing.
-use borrow.Author.Needs.{needs}
+use native.Mathlib.Omega.{arith}
 use Rattle.code.proofs.moved.Statement.{statement}
 use Rattle.code.proofs.moved.Tie as tie
 
@@ -10,4 +10,4 @@ returns-2 : tie.Need-returns-2
 returns-2 c = rw (c .if1 .left)
 
 pub moved-spec : {M : Type 1} → statement M
-moved-spec = tie.close (tie.spec (λ c κs. search needs) returns (λ c. search needs) returns-2)
+moved-spec = tie.close (tie.spec (λ c κs. tt) returns (λ c. omega (arith, c .before .pre)) returns-2)

@@ -103,10 +103,10 @@ pub sample-spec : {M : Type 1} → statement M
 sample-spec =
     tie.close
     (tie.spec
-    (λ c. search needs)
-    (λ c. search needs)
-    (λ c κs. search needs)
-    (λ c κs. search needs)
+    (λ c. omega (arith, c .pre))
+    (λ c. omega (arith, c .pre))
+    (λ c κs. tt)
+    (λ c κs. omega (arith, c .before .pre))
     mul-d
     moved-requires
     returns

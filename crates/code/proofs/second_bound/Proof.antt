@@ -1,5 +1,4 @@
 -- `code::second_bound` meets its contract. Assumes nothing.
-use borrow.Author.Needs.{needs}
 use borrow.Author.Tests.{lt-ltb, le-ltb}
 use Rattle.code.proofs.second_bound.Statement.{statement}
 use Rattle.code.proofs.second_bound.Tie as tie
@@ -11,4 +10,4 @@ returns-2 : tie.Need-returns-2
 returns-2 c = simp (le-ltb _ _ (c .if1 .left))
 
 pub second-bound-spec : {M : Type 1} → statement M
-second-bound-spec = tie.close (tie.spec (λ c κs. search needs) returns returns-2)
+second-bound-spec = tie.close (tie.spec (λ c κs. tt) returns returns-2)

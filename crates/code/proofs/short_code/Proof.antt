@@ -1,5 +1,4 @@
 -- `code::short_code` meets its contract: its three tests, and the code that the word has. Assumes nothing.
-use borrow.Author.Needs.{needs}
 use borrow.Author.Tests.{lt-ltb, le-ltb, le-leb, lt-leb}
 use mathlib.Core.Path.{_≡_, _∙_}
 use mathlib.Core.List.{List}
@@ -104,20 +103,20 @@ pub short-code-spec : {M : Type 1} → statement M
 short-code-spec =
     tie.close
     (tie.spec
-    (λ c κs. search needs)
+    (λ c κs. tt)
     returns
     returns-2
-    (λ c. search needs)
-    (λ c. search needs)
+    (λ c. omega (arith, c .before .before .next-word .ensures))
+    (λ c. omega (arith, c .before .before .before .before .pre))
     sub-low
-    (λ c. search needs)
-    (λ c. search needs)
+    (λ c. omega (arith, c .before .before .before .before .pre))
+    (λ c. omega (arith, c .before .before .before .before .pre))
     cast-low-2
-    (λ c. search needs)
+    (λ c. omega (arith, c .before .before .before .before .pre))
     sub-low-2
-    (λ c. search needs)
+    (λ c. omega (arith, c .before .before .before .before .pre))
     add-value
     returns-3
-    (λ c. search needs)
+    (λ c. omega (arith, c .before .before .before .before .before .pre))
     add-after
     returns-4)

@@ -1,5 +1,4 @@
 -- `code::take_any` meets its contract: by the answer of the reader. A code is read inside the block, so that the count stays small. Assumes nothing.
-use borrow.Author.Needs.{needs}
 use mathlib.Core.Bool.{Bool, _&&_}
 use mathlib.Core.List.{List}
 use mathlib.Core.Path.{_≡_, sym, _∙_}
@@ -47,12 +46,12 @@ pub take-any-spec : {M : Type 1} → statement M
 take-any-spec =
     tie.close
     (tie.spec
-    (λ c κs. search needs)
-    (λ c. search needs)
-    (λ c. search needs)
+    (λ c κs. omega (arith, c .before .pre))
+    (λ c. c .match .keys1)
+    (λ c. c .match .keys2)
     returns
-    (λ c κs. search needs)
-    (λ c κs. search needs)
-    (λ c. search needs)
+    (λ c κs. tt)
+    (λ c κs. tt)
+    (λ c. omega (arith, c .flag .ensures))
     add-now-long
     returns-2)

@@ -1,6 +1,7 @@
 -- `code::wrap` meets its contract, by its three cases. Assumes nothing.
 use borrow.Author.Needs.{needs}
 use borrow.Author.Tests.{lt-ltb, le-ltb}
+use native.Mathlib.Omega.{arith}
 use Rattle.code.specs.Samples.{wrap}
 use Rattle.code.proofs.wrap.Statement.{statement}
 use Rattle.code.proofs.wrap.Tie as tie
@@ -24,17 +25,17 @@ pub wrap-spec : {M : Type 1} → statement M
 wrap-spec =
     tie.close
     (tie.spec
-    (λ c. search needs)
-    (λ c. search needs)
-    (λ c κs. search needs)
-    (λ c κs. search needs)
+    (λ c. omega (arith, c .pre))
+    (λ c. omega (arith, c .before .pre))
+    (λ c κs. tt)
+    (λ c κs. tt)
     returns
-    (λ c. search needs)
-    (λ c. search needs)
-    (λ c. search needs)
-    (λ c κs. search needs)
-    (λ c κs. search needs)
+    (λ c. omega (arith, c .before .pre))
+    (λ c. omega (arith, c .before .pre))
+    (λ c. omega (arith, c .before .before .pre))
+    (λ c κs. tt)
+    (λ c κs. tt)
     returns-2
-    (λ c κs. search needs)
-    (λ c κs. search needs)
+    (λ c κs. tt)
+    (λ c κs. tt)
     returns-3)

@@ -26,8 +26,11 @@ walk-alone-requires c κs =
     let n = y .before in
     let f = n .before in
     let s = f .before .before in
-    let k = opened (s .args .d .now) (s .args .h) (s .pre .0) .ruled in
-    ((y .block-bytes .ensures .1, (form-depth _ (s .args .h) (f .form-of .ensures) k, omega (arith, k .lines-high, n .line-count .ensures))), c .no-part .ensures)
+    let k = opened (s .args .d .now) (s .args .h) (s .pre .0) .ruled in (
+      (y .block-bytes .ensures .1, (form-depth _ (s .args .h) (f .form-of .ensures) k, omega (arith, k .lines-high, n .line-count .ensures))),
+      c
+          .no-part .ensures _,
+    )
 
 without-bases : (d : List ℕ) (h : FujiHeader) (b n : ℕ) (F : Form) (bases s : List ℕ) (w : Walked) → openOf d ≡ Header h → h .lossless ≡ true
     → bases ≡ basesIn d b

@@ -1,6 +1,7 @@
 -- `map::colour_line` meets its contract, by its three cases. Assumes nothing.
 use borrow.Author.Needs.{needs}
 use borrow.Author.Tests.{eq-eqb, ne-eqb}
+use native.Mathlib.Omega.{arith}
 use Rattle.map.specs.Places.{colourLine}
 use Rattle.map.proofs.colour_line.Statement.{statement}
 use Rattle.map.proofs.colour_line.Tie as tie
@@ -19,4 +20,5 @@ returns-3 c = (simp (ne-eqb _ _ (c .before .if1 .left), ne-eqb _ _ (c .if2 .left
 
 pub colour-line-spec : {M : Type 1} → statement M
 colour-line-spec =
-    tie.close (tie.spec (λ c. search needs) returns (λ c. search needs) returns-2 (λ c. search needs) returns-3)
+    tie.close (tie.spec (λ c. omega (arith, c .before .pre)) returns (λ c. omega (arith, c .before .before .pre)) returns-2 (λ c. omega
+    (arith, c .before .before .pre)) returns-3)

@@ -49,8 +49,8 @@ emit-line-spec =
     μ-loop
     loop-holds
     emit-part-row-requires
-    (λ c. search needs)
-    (λ c. search needs)
+    (λ c. omega (arith, c .before .before .before .before .before .loop .inv))
+    (λ c. omega (arith, c .before .before .before .before .before .before .before .before .pre))
     loop-again
-    (λ c. search needs)
+    (λ c. omega (arith, c .before .before .before .before .pre))
     returns)

@@ -1,5 +1,4 @@
 -- `map::emit_part_row` meets its contract: the row is above the part, below it, or one of its rows. Assumes nothing.
-use borrow.Author.Needs.{needs}
 use native.Mathlib.Omega.{arith}
 use Rattle.map.proofs.PartLaws.{put-none, put-row, row-inside}
 use Rattle.map.proofs.emit_part_row.Statement.{statement}
@@ -40,12 +39,12 @@ pub emit-part-row-spec : {M : Type 1} → statement M
 emit-part-row-spec =
     tie.close
     (tie.spec
-    (λ c. search needs)
-    (λ c. search needs)
+    (λ c. omega (arith, c .before .before .pre))
+    (λ c. omega (arith, c .before .before .pre))
     returns
     returns-2
     mul-at
     add-at
     emit-row-requires
-    (λ c. search needs)
+    (λ c. omega (arith, c .before .before .before .before .before .before .before .before .pre))
     returns-3)

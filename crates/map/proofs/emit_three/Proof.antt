@@ -1,5 +1,4 @@
 -- `map::emit_three` meets its contract: three samples, one after the other. Assumes nothing.
-use borrow.Author.Needs.{needs}
 use mathlib.Core.List.{List}
 use mathlib.Core.Path.{_≡_, _∙_}
 use Prim.Native.Nat.{ℕ, _+_}
@@ -38,13 +37,19 @@ emit-three-spec =
     tie.close
     (tie.spec
     emit-sample-requires
-    (λ c. search needs)
-    (λ c. search needs)
-    (λ c. search needs)
+    (λ c. omega (arith, c .before .before .before .before .before .before .before .pre .1, c .before .before .before .before .before .before .before .good))
+    (λ c. omega (arith, c .before .before .before .before .before .before .before .pre .1))
+    (λ c. omega (arith, c .before .before .before .before .before .before .before .pre .1))
     emit-sample-requires-2
-    (λ c. search needs)
-    (λ c. search needs)
-    (λ c. search needs)
+    (λ c. omega (
+      arith,
+      c .before .before .before .before .before .before .before .before .before .before .before .pre .1,
+      c .before .before .before .before
+          .before .before .before .before .before .before .before .good,
+    ))
+    (λ c. omega (arith, c .before .before .before .before .before .before .before .before .before .before .before .pre .1))
+    (λ c. omega (arith, c .before .before .before .before .before .before .before .before .before .before .before .pre .1))
     emit-sample-requires-3
-    (λ c. search needs)
+    (λ c. c .before .before .emit-sample3 .ensures .1 ∙ (c .before .before .before .before .before .before .emit-sample2 .ensures .1 ∙ c .before
+    .before .before .before .before .before .before .before .before .before .emit-sample .ensures .1))
     returns)

@@ -1,5 +1,4 @@
 -- `map::line_start` meets its contract. Assumes nothing.
-use borrow.Author.Needs.{needs}
 use Prim.Native.Nat.{ℕ, _*_, _≤_}
 use native.Mathlib.Nat.{mul-le-mul}
 use native.Mathlib.Omega.{arith}
@@ -19,4 +18,4 @@ returns : tie.Need-returns
 returns c = rw (c .colour-line .ensures .0)
 
 pub line-start-spec : {M : Type 1} → statement M
-line-start-spec = tie.close (tie.spec (λ c κs. search needs) mul-result add-result returns)
+line-start-spec = tie.close (tie.spec (λ c κs. omega (arith, c .pre)) mul-result add-result returns)

@@ -1,5 +1,5 @@
 -- `map::place_in` meets its contract. Assumes nothing.
-use borrow.Author.Needs.{needs}
+use native.Mathlib.Omega.{arith}
 use Rattle.map.specs.Places.{placeIn}
 use Rattle.map.proofs.place_in.Statement.{statement}
 use Rattle.map.proofs.place_in.Tie as tie
@@ -13,4 +13,4 @@ unfolding placeIn
 returns-2 c = simp (c .if1 .left)
 
 pub place-in-spec : {M : Type 1} → statement M
-place-in-spec = tie.close (tie.spec (λ c. search needs) (λ c. search needs) (λ c κs. search needs) returns returns-2)
+place-in-spec = tie.close (tie.spec (λ c. omega (arith, c .before .pre)) (λ c. omega (arith, c .before .pre)) (λ c κs. tt) returns returns-2)

@@ -29,4 +29,5 @@ returns c =
 pub sample-at-spec : {M : Type 1} → statement M
 sample-at-spec =
     tie.close
-    (tie.spec (λ c. search needs) (λ c. search needs) (λ c κs. search needs) add-result mul-result-2 shared-slice-read-result returns)
+    (tie.spec (λ c. omega (arith, c .before .pre)) (λ c. omega (arith, c .before .pre)) (λ c κs. search needs) add-result mul-result-2
+    shared-slice-read-result returns)

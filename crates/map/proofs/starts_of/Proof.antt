@@ -1,5 +1,4 @@
 -- `map::starts_of` meets its contract, entry by entry. Assumes nothing.
-use borrow.Author.Needs.{needs}
 use mathlib.Core.List.{List, [], _∷_}
 use mathlib.Core.Path.{_≡_}
 use Prim.Native.Nat.{ℕ, zero, suc, _+_, _*_, _<_}
@@ -41,22 +40,22 @@ pub starts-of-spec : {M : Type 1} → statement M
 starts-of-spec =
     tie.close
     (tie.spec
-    (λ c. search needs)
-    (λ c. search needs)
-    (λ c κs. search needs)
-    (λ c. search needs)
-    (λ c. search needs)
-    (λ c κs. search needs)
-    (λ c. search needs)
-    (λ c. search needs)
-    (λ c κs. search needs)
-    (λ c. search needs)
-    (λ c. search needs)
-    (λ c κs. search needs)
-    (λ c. search needs)
-    (λ c. search needs)
-    (λ c κs. search needs)
-    (λ c. search needs)
-    (λ c. search needs)
-    (λ c κs. search needs)
+    (λ c. omega (arith, c .pre .0))
+    (λ c. omega (arith, c .pre .0))
+    (λ c κs. c .pre)
+    (λ c. omega (arith, c .before .pre .0))
+    (λ c. omega (arith, c .before .pre .0))
+    (λ c κs. c .before .pre)
+    (λ c. omega (arith, c .before .before .pre .0))
+    (λ c. omega (arith, c .before .before .pre .0))
+    (λ c κs. c .before .before .pre)
+    (λ c. omega (arith, c .before .before .before .pre .0))
+    (λ c. omega (arith, c .before .before .before .pre .0))
+    (λ c κs. c .before .before .before .pre)
+    (λ c. omega (arith, c .before .before .before .before .pre .0))
+    (λ c. omega (arith, c .before .before .before .before .pre .0))
+    (λ c κs. c .before .before .before .before .pre)
+    (λ c. omega (arith, c .before .before .before .before .before .pre .0))
+    (λ c. omega (arith, c .before .before .before .before .before .pre .0))
+    (λ c κs. c .before .before .before .before .before .pre)
     returns)

@@ -29,22 +29,30 @@ record Turns (bits q W : ℕ) (s : List ℕ) (P : Plan) (p : ℕ) (ks : List ℕ
   read : StepsGive bits q W s (upto (turnSteps W P) (p / 2)) r₀ (some r)
 
 abbrev Inv-loop : tie.InvT-loop
-Inv-loop block from lines₀ w plan bits sums₀ ns₀ ks₀ choices totals raws limits base at₀ tight₀ long₀ p₀ lines sums ns ks at tight long p =
+Inv-loop block from lines₀ w plan bits sums₀ ns₀ ks₀ choices totals limits base at₀ tight₀ long₀ p₀ lines sums ns ks at tight long p =
     Turns bits base w block plan p ks (held lines₀ sums₀ ns₀ (placeAt at₀ tight₀ long₀)) (held lines sums ns (placeAt at tight long))
 
 abbrev μ-loop : tie.MeasureT-loop
-μ-loop block from lines₀ w plan bits sums₀ ns₀ ks₀ choices totals raws limits base at₀ tight₀ long₀ p₀ lines sums ns ks at tight long p = w + 8 - p
+μ-loop block from lines₀ w plan bits sums₀ ns₀ ks₀ choices totals limits base at₀ tight₀ long₀ p₀ lines sums ns ks at tight long p = w + 8 - p
 
 loop-holds : tie.Need-loop-holds Inv-loop μ-loop
 unfolding upto
-loop-holds c = record { even = refl; last = omega arith; same = refl; records = c .before .before .before .before .before .before .before .before .before .before .before .before .pre .records; ks-kept = c .before .before .before .before .before .ks-of .ensures; read = no-steps }
+loop-holds c = record {
+  even = refl;
+  last = omega arith;
+  same = refl;
+  records = c .before .before .before .before .before .before .before .before .before .before .before
+      .pre .records;
+  ks-kept = c .before .before .before .before .ks-of .ensures;
+  read = no-steps;
+}
 
 abbrev entry : tie.In-loop Inv-loop μ-loop → tie.Start Inv-loop μ-loop
-entry c = c .before .before .before .before .before .before .before .before .before .before .before .before .before .before
+entry c = c .before .before .before .before .before .before .before .before .before .before .before .before .before
 
 -- the choices are those of the line's base
-chosen : (c : tie.In-loop Inv-loop μ-loop) → c .before .before .before .before .before .before .choices-of .result ≡ choicesOf (entry c .args .qs .base)
-chosen c = c .before .before .before .before .before .before .choices-of .ensures
+chosen : (c : tie.In-loop Inv-loop μ-loop) → c .before .before .before .before .before .choices-of .result ≡ choicesOf (entry c .args .qs .base)
+chosen c = c .before .before .before .before .before .choices-of .ensures
 
 -- there are no more long codes than bits
 counted : (c : tie.In-loop Inv-loop μ-loop) → c .before .loop .long ≤ c .before .loop .at .0
@@ -56,7 +64,7 @@ counted c =
 
 even-pair-requires : tie.Need-even-pair-requires Inv-loop μ-loop
 even-pair-requires c κs =
-    let t = c .before .before .before .before .before .before .before .before in
+    let t = c .before .before .before .before .before .before .before in
     let p = entry (t .before) .pre in
     let l = t .before .before .loop .inv in
     record {
@@ -68,7 +76,8 @@ even-pair-requires c κs =
       depth = p .depth;
       base = p .base;
       chosen = chosen (t .before);
-      quantisers = are-quantisers _ _ (p .quantisers);
+      summed = are-quantisers _ _ (p .quantisers) .total;
+      limited = are-quantisers _ _ (p .quantisers) .limit;
       records = l .records;
       ks-kept = l .ks-kept;
       counted = counted (t .before);
@@ -77,7 +86,7 @@ even-pair-requires c κs =
 returns : tie.Need-returns Inv-loop μ-loop
 returns c =
     let e = c .before .before .before .before in
-    let t = e .before .before .before .before .before .before .before .before .before in
+    let t = e .before .before .before .before .before .before .before .before in
     let s = entry (t .before) in
     let l = t .before .before .loop .inv in
     let cut = pair-was-cut-off _ _ _ _ _ _ _ _ _ (e .even-pair .ensures .answer) (c .enum-told .given .1) in
@@ -105,12 +114,12 @@ evens c =
     let l = c .before .before .loop .inv in
     ⊎-elim
     (λ w.
-    let m = met (w .15) (w .16) (w .17) (w .19) (w .20) (w .21) in
+    let m = met (w .14) (w .15) (w .16) (w .18) (w .19) (w .20) in
     record {
-      read = steps-met m (evens-here P _ (w .0 .taken) (pair-was-at _ _ _ _ _ _ _ _ _ (w .9 .ensures .answer) (w .13 .given .1)));
-      in-range = ranges-met m (w .9 .ensures .records);
-      ks-kept = ks-met m (w .18) (w .9 .ensures .ks-kept);
-      same = length-met m ∙ (w .9 .kept .1 .1 .1 .1 .0 ∙ l .same);
+      read = steps-met m (evens-here P _ (w .0 .taken) (pair-was-at _ _ _ _ _ _ _ _ _ (w .8 .ensures .answer) (w .12 .given .1)));
+      in-range = ranges-met m (w .8 .ensures .records);
+      ks-kept = ks-met m (w .17) (w .8 .ensures .ks-kept);
+      same = length-met m ∙ (w .8 .kept .1 .1 .1 .1 .0 ∙ l .same);
     })
     (λ w.
     let m = met (w .1) (w .2) (w .3) (w .5) (w .6) (w .7) in
@@ -126,7 +135,7 @@ evens c =
 
 odd-pair-requires : tie.Need-odd-pair-requires Inv-loop μ-loop
 odd-pair-requires c κs =
-    let t = c .before .before .before .before .before .before .before .before in
+    let t = c .before .before .before .before .before .before .before in
     let j = t .before in
     let p = entry (j .before) .pre in
     let even = j .before .before .loop .inv .even in
@@ -139,7 +148,8 @@ odd-pair-requires c κs =
       depth = p .depth;
       base = p .base;
       chosen = chosen (j .before);
-      quantisers = are-quantisers _ _ (p .quantisers);
+      summed = are-quantisers _ _ (p .quantisers) .total;
+      limited = are-quantisers _ _ (p .quantisers) .limit;
       records = evens j .in-range;
       ks-kept = evens j .ks-kept;
       counted = reads-keep _ _ _ _ (p .depth .1) _ _ _ (evens j .read .are) .counted (counted (j .before));
@@ -148,7 +158,7 @@ odd-pair-requires c κs =
 returns-2 : tie.Need-returns-2 Inv-loop μ-loop
 returns-2 c =
     let o = c .before .before .before .before in
-    let t = o .before .before .before .before .before .before .before .before .before in
+    let t = o .before .before .before .before .before .before .before .before in
     let j = t .before in
     let s = entry (j .before) in
     let l = j .before .before .loop .inv in
@@ -169,14 +179,14 @@ loop-again c =
     let e = evens (c .before) in
     ⊎-elim
     (λ w.
-    let m = met (w .15) (w .16) (w .17) (w .19) (w .20) (w .21) in
-    let odds = odds-here P _ (w .0 .taken) (pair-was-at _ _ _ _ _ _ _ _ _ (w .9 .ensures .answer) (w .13 .given .1)) in
+    let m = met (w .14) (w .15) (w .16) (w .18) (w .19) (w .20) in
+    let odds = odds-here P _ (w .0 .taken) (pair-was-at _ _ _ _ _ _ _ _ _ (w .8 .ensures .answer) (w .12 .given .1)) in
     record {
       even = omega (arith, l .even);
       last = omega (arith, l .even, test, s .pre .even);
-      same = length-met m ∙ (w .9 .kept .1 .1 .1 .1 .0 ∙ e .same);
-      records = ranges-met m (w .9 .ensures .records);
-      ks-kept = ks-met m (w .18) (w .9 .ensures .ks-kept);
+      same = length-met m ∙ (w .8 .kept .1 .1 .1 .1 .0 ∙ e .same);
+      records = ranges-met m (w .8 .ensures .records);
+      ks-kept = ks-met m (w .17) (w .8 .ensures .ks-kept);
       read = turn-more P _ (l .read) (l .even) (e .read) (steps-met m odds);
     })
     (λ w.
@@ -212,13 +222,15 @@ pass-spec =
     even-pair-requires
     (λ c. search needs)
     (λ c. search needs)
-    (λ c. let e = c .before .before .before .before in e .even-pair .kept .1 .1 .1 .1 .0 ∙ e .before .before .before .before .before .before .before .before .before .before .before .loop .inv .same)
+    (λ c. let e = c .before .before .before .before in e .even-pair .kept .1 .1 .1 .1 .0 ∙ e .before .before .before .before .before .before .before
+    .before .before .before .loop .inv .same)
     returns
     (λ c. search needs)
     odd-pair-requires
     (λ c. search needs)
     (λ c. search needs)
-    (λ c. let o = c .before .before .before .before in o .odd-pair .kept .1 .1 .1 .1 .0 ∙ evens (o .before .before .before .before .before .before .before .before .before .before) .same)
+    (λ c. let o = c .before .before .before .before in o .odd-pair .kept .1 .1 .1 .1 .0 ∙ evens (o .before .before .before .before .before .before
+    .before .before .before) .same)
     returns-2
     (λ c. search needs)
     (λ c. search needs)

@@ -1,9 +1,9 @@
 -- `steps::choice_by` meets its contract: what is chosen for 8 is chosen for every greater flatness. Assumes nothing.
-use borrow.Author.Needs.{needs}
 use mathlib.Core.List.{List}
 use mathlib.Core.Path.{_≡_}
 use Prim.Native.Nat.{ℕ, _≤_, min}
 use lib.ListN.{getD}
+use native.Mathlib.Omega.{arith}
 use Rattle.code.specs.Samples.{choiceOf}
 use Rattle.steps.specs.Values.{choicesOf}
 use Rattle.steps.proofs.LookLaws.{choice-listed, choice-le}
@@ -20,4 +20,5 @@ returns c = by-list _ _ _ _ (c .before .before .pre) (c .before .smaller .ensure
 
 pub choice-by-spec : {M : Type 1} → statement M
 choice-by-spec =
-    tie.close (tie.spec (λ c κs. search needs) (λ c. search needs) (λ c. search needs) (λ c. search needs) returns)
+    tie.close (tie.spec (λ c κs. tt) (λ c. omega (arith, c .smaller .ensures)) (λ c. omega (arith, c .smaller .ensures)) (λ c. omega
+    (arith, c .smaller .ensures)) returns)

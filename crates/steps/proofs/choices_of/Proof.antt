@@ -1,5 +1,4 @@
 -- `steps::choices_of` meets its contract: the answers for nine flatnesses. Assumes nothing.
-use borrow.Author.Needs.{needs}
 use Rattle.steps.proofs.choices_of.Statement.{statement}
 use Rattle.steps.proofs.choices_of.Tie as tie
 
@@ -29,13 +28,13 @@ pub choices-of-spec : {M : Type 1} → statement M
 choices-of-spec =
     tie.close
     (tie.spec
-    (λ c κs. search needs)
-    (λ c κs. search needs)
-    (λ c κs. search needs)
-    (λ c κs. search needs)
-    (λ c κs. search needs)
-    (λ c κs. search needs)
-    (λ c κs. search needs)
-    (λ c κs. search needs)
-    (λ c κs. search needs)
+    (λ c κs. tt)
+    (λ c κs. tt)
+    (λ c κs. tt)
+    (λ c κs. tt)
+    (λ c κs. tt)
+    (λ c κs. tt)
+    (λ c κs. tt)
+    (λ c κs. tt)
+    (λ c κs. tt)
     returns)

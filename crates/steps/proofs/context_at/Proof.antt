@@ -1,5 +1,4 @@
 -- `steps::context_at` meets its contract. Assumes nothing.
-use borrow.Author.Needs.{needs}
 use borrow.Author.Tests.{eq-eqb, ne-eqb}
 use mathlib.Core.List.{List}
 use mathlib.Core.Path.{_≡_, _∙_}
@@ -24,4 +23,4 @@ returns-2 : tie.Need-returns-2
 returns-2 c = (c .odd-context .ensures .0 ∙ odd _ _ _ _ (c .before .if1 .left), c .odd-context .ensures .1)
 
 pub context-at-spec : {M : Type 1} → statement M
-context-at-spec = tie.close (tie.spec (λ c κs. search needs) returns (λ c κs. search needs) returns-2)
+context-at-spec = tie.close (tie.spec (λ c κs. c .before .before .pre) returns (λ c κs. c .before .before .pre) returns-2)

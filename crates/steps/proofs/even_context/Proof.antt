@@ -1,9 +1,9 @@
 -- `steps::even_context` meets its contract. Assumes nothing.
-use borrow.Author.Needs.{needs}
 use mathlib.Core.List.{List}
 use mathlib.Core.Path.{_≡_}
 use Prim.Native.Nat.{ℕ, _+_, _-_, _*_}
 use lib.ListN.{getD}
+use native.Mathlib.Omega.{arith}
 use Rattle.prediction.specs.Predictions.{evenContext}
 use Rattle.prediction.specs.declared.Context.{Context}
 use Rattle.steps.specs.Values.{evenAt}
@@ -28,25 +28,32 @@ pub even-context-spec : {M : Type 1} → statement M
 even-context-spec =
     tie.close
     (tie.spec
-    (λ c. search needs)
-    (λ c. search needs)
-    (λ c. search needs)
-    (λ c. search needs)
-    (λ c. search needs)
-    (λ c κs. search needs)
-    (λ c. search needs)
-    (λ c. search needs)
-    (λ c. search needs)
-    (λ c κs. search needs)
-    (λ c. search needs)
-    (λ c. search needs)
-    (λ c. search needs)
-    (λ c. search needs)
-    (λ c κs. search needs)
-    (λ c. search needs)
-    (λ c. search needs)
-    (λ c. search needs)
-    (λ c. search needs)
-    (λ c κs. search needs)
-    (λ c κs. search needs)
+    (λ c. omega (arith, c .before .pre))
+    (λ c. omega (arith, c .before .pre))
+    (λ c. omega (arith, c .before .pre))
+    (λ c. omega (arith, c .before .pre))
+    (λ c. omega (arith, c .before .before .pre))
+    (λ c κs. tt)
+    (λ c. omega (arith, c .before .before .before .pre))
+    (λ c. omega (arith, c .before .before .before .pre))
+    (λ c. omega (arith, c .before .before .before .before .pre))
+    (λ c κs. tt)
+    (λ c. omega (arith, c .before .before .before .before .before .pre))
+    (λ c. omega (arith, c .before .before .before .before .before .pre))
+    (λ c. omega (arith, c .before .before .before .before .before .pre))
+    (λ c. omega (arith, c .before .before .before .before .before .before .pre))
+    (λ c κs. tt)
+    (λ c. omega (arith, c .before .before .before .before .before .before .before .pre))
+    (λ c. omega (arith, c .before .before .before .before .before .before .before .pre))
+    (λ c. omega (arith, c .before .before .before .before .before .before .before .pre))
+    (λ c. omega (arith, c .before .before .before .before .before .before .before .before .pre))
+    (λ c κs. tt)
+    (λ c κs. omega (
+      arith,
+      c .before .before .before .before .before .before .u16-to-u32 .ensures,
+      c .before .before .before .before .u16-to-u322 .ensures,
+      c .before
+          .before .u16-to-u323 .ensures,
+      c .u16-to-u324 .ensures,
+    ))
     returns)

@@ -47,11 +47,11 @@ ks-of-spec =
     Inv-loop
     μ-loop
     loop-holds
-    (λ c κs. search needs)
-    (λ c κs. search needs)
-    (λ c. search needs)
-    (λ c. search needs)
-    (λ c. search needs)
-    (λ c. search needs)
+    (λ c κs. omega (arith, c .before .before .pre))
+    (λ c κs. omega (arith, c .before .before .record-at .ensures))
+    (λ c. omega (arith, c .before .before .before .before .before .loop .inv))
+    (λ c. omega (arith, c .before .before .before .before .before .loop .inv))
+    (λ c. omega (arith, c .before .before .before .before .loop .inv))
+    (λ c. omega (arith, c .before .before .before .before .before .pre))
     loop-again
     returns)

@@ -27,4 +27,4 @@ returns : tie.Need-returns
 returns c = (refl, here c)
 
 pub left-of-spec : {M : Type 1} → statement M
-left-of-spec = tie.close (tie.spec (λ c. search needs) mul-result add-result-2 returns)
+left-of-spec = tie.close (tie.spec (λ c. omega (arith, c .pre)) mul-result add-result-2 returns)

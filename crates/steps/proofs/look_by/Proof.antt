@@ -2,6 +2,7 @@
 use borrow.Author.Needs.{needs}
 use mathlib.Core.Path.{_≡_, ap, _∙_}
 use Prim.Native.Nat.{ℕ}
+use native.Mathlib.Omega.{arith}
 use Rattle.code.specs.Samples.{choiceOf}
 use Rattle.steps.proofs.LookLaws.{in-lossless}
 use Rattle.steps.proofs.look_by.Statement.{statement}
@@ -20,9 +21,9 @@ pub look-by-spec : {M : Type 1} → statement M
 look-by-spec =
     tie.close
     (tie.spec
-    (λ c κs. search needs)
+    (λ c κs. omega (arith, c .before .pre))
     returns
-    (λ c κs. search needs)
+    (λ c κs. omega (arith, c .before .pre))
     (λ c κs. search needs)
     look-with-requires
-    (λ c. search needs))
+    (λ c. c .look-with .ensures))

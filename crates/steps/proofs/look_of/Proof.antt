@@ -1,7 +1,7 @@
 -- `steps::look_of` meets its contract: a lossless line, or any other by the choice that it makes. Assumes nothing.
-use borrow.Author.Needs.{needs}
 use mathlib.Core.Path.{_≡_, ap, _∙_}
 use Prim.Native.Nat.{ℕ}
+use native.Mathlib.Omega.{arith}
 use Rattle.code.specs.Samples.{choiceOf}
 use Rattle.steps.proofs.LookLaws.{in-lossless}
 use Rattle.steps.proofs.look_of.Statement.{statement}
@@ -20,9 +20,9 @@ pub look-of-spec : {M : Type 1} → statement M
 look-of-spec =
     tie.close
     (tie.spec
-    (λ c κs. search needs)
+    (λ c κs. omega (arith, c .before .pre))
     returns
-    (λ c κs. search needs)
-    (λ c κs. search needs)
+    (λ c κs. omega (arith, c .before .pre))
+    (λ c κs. tt)
     look-with-requires
-    (λ c. search needs))
+    (λ c. c .look-with .ensures))

@@ -1,5 +1,4 @@
 -- `steps::look_with` meets its contract; the bound of the place is a law of the definition. Assumes nothing.
-use borrow.Author.Needs.{needs}
 use mathlib.Core.Path.{_≡_, ap, _∙_}
 use Prim.Native.Nat.{ℕ, _≤_}
 use native.Mathlib.Omega.{arith}
@@ -59,10 +58,10 @@ pub look-with-spec : {M : Type 1} → statement M
 look-with-spec =
     tie.close
     (tie.spec
-    (λ c κs. search needs)
-    (λ c κs. search needs)
-    (λ c κs. search needs)
-    (λ c κs. search needs)
+    (λ c κs. omega (arith, c .pre))
+    (λ c κs. omega (arith, c .before .pre))
+    (λ c κs. tt)
+    (λ c κs. tt)
     gradient-by-requires
-    (λ c κs. search needs)
+    (λ c κs. omega (arith, c .before .before .before .before .before .pre))
     returns)

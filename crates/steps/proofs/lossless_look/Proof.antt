@@ -23,4 +23,4 @@ returns c =
     (lossless _ _ (g .ensures .0), (zero-le, (lit< tt, omega (arith, g .ensures .1))))
 
 pub lossless-look-spec : {M : Type 1} → statement M
-lossless-look-spec = tie.close (tie.spec (λ c κs. search needs) (λ c. search needs) returns)
+lossless-look-spec = tie.close (tie.spec (λ c κs. search needs) (λ c. omega (arith, c .before .gradient .ensures)) returns)

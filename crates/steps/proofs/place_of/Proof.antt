@@ -1,6 +1,6 @@
 -- `steps::place_of` meets its contract. Assumes nothing.
-use borrow.Author.Needs.{needs}
 use borrow.Author.Tests.{eq-eqb, ne-eqb}
+use native.Mathlib.Omega.{arith}
 use Rattle.steps.proofs.place_of.Statement.{statement}
 use Rattle.steps.proofs.place_of.Tie as tie
 
@@ -12,4 +12,5 @@ returns-2 c = simp (ne-eqb _ _ (c .if1 .left))
 
 pub place-of-spec : {M : Type 1} → statement M
 place-of-spec =
-    tie.close (tie.spec returns (λ c. search needs) (λ c. search needs) (λ c. search needs) (λ c. search needs) returns-2)
+    tie.close (tie.spec returns (λ c. omega (arith, c .before .pre)) (λ c. omega (arith, c .before .pre)) (λ c. omega (arith, c .before .pre)) (λ c.
+    omega (arith, c .before .pre)) returns-2)

@@ -1,5 +1,5 @@
 -- `steps::plan_at` meets its contract: the table is the list of the passes. Assumes nothing.
-use borrow.Author.Needs.{needs}
+use native.Mathlib.Omega.{arith}
 use Rattle.steps.specs.Steps.{planOf}
 use Rattle.steps.proofs.plan_at.Statement.{statement}
 use Rattle.steps.proofs.plan_at.Tie as tie
@@ -13,4 +13,4 @@ unfolding planOf
 returns-2 c = rw (c .if1 .left)
 
 pub plan-at-spec : {M : Type 1} → statement M
-plan-at-spec = tie.close (tie.spec (λ c. search needs) (λ c. search needs) returns returns-2)
+plan-at-spec = tie.close (tie.spec (λ c. omega (arith, c .pre)) (λ c. c .pre) returns returns-2)

@@ -1,6 +1,6 @@
 -- `steps::record_at` meets its contract. Assumes nothing.
-use borrow.Author.Needs.{needs}
 use mathlib.Core.Path.{sym}
+use native.Mathlib.Omega.{arith}
 use Rattle.steps.proofs.ZipLaws.{record-is, record-in-range}
 use Rattle.steps.proofs.record_at.Statement.{statement}
 use Rattle.steps.proofs.record_at.Tie as tie
@@ -13,4 +13,5 @@ returns c =
     (sym (record-is (a .sums .now) (a .ns .now) (p .1) (a .slot) (p .0)), record-in-range (a .sums .now) (a .ns .now) (p .1) (a .slot) (p .0))
 
 pub record-at-spec : {M : Type 1} → statement M
-record-at-spec = tie.close (tie.spec (λ c. search needs) (λ c. search needs) (λ c. search needs) (λ c. search needs) returns)
+record-at-spec = tie.close (tie.spec (λ c. omega (arith, c .pre)) (λ c. omega (arith, c .pre)) (λ c. omega (arith, c .before .pre)) (λ c. omega
+    (arith, c .before .pre)) returns)

@@ -1,6 +1,6 @@
 -- `steps::update_at` meets its contract. Assumes nothing.
-use borrow.Author.Needs.{needs}
 use mathlib.Core.Path.{_∙_}
+use native.Mathlib.Omega.{arith}
 use Rattle.steps.proofs.ZipLaws.{zip-set, stored-in-range}
 use Rattle.steps.proofs.update_at.Statement.{statement}
 use Rattle.steps.proofs.update_at.Tie as tie
@@ -16,10 +16,10 @@ pub update-at-spec : {M : Type 1} → statement M
 update-at-spec =
     tie.close
     (tie.spec
-    (λ c κs. search needs)
-    (λ c κs. search needs)
-    (λ c. search needs)
-    (λ c. search needs)
-    (λ c. search needs)
-    (λ c. search needs)
+    (λ c κs. omega (arith, c .pre))
+    (λ c κs. omega (arith, c .before .pre))
+    (λ c. omega (arith, c .before .before .pre))
+    (λ c. omega (arith, c .before .before .pre))
+    (λ c. omega (arith, c .before .before .pre))
+    (λ c. omega (arith, c .before .before .pre))
     returns)

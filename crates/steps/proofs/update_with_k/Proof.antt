@@ -1,6 +1,7 @@
 -- `steps::update_with_k` meets its contract. Assumes nothing.
 use borrow.Author.Needs.{needs}
 use mathlib.Core.Path.{ap, _∙_}
+use native.Mathlib.Omega.{arith}
 use Rattle.statistics.specs.Statistics.{kOf}
 use Rattle.steps.proofs.KLaws.{stored-k}
 use Rattle.steps.proofs.update_with_k.Statement.{statement}
@@ -19,7 +20,7 @@ update-with-k-spec =
     (tie.spec
     (λ c κs. search needs)
     (λ c κs. search needs)
-    (λ c κs. search needs)
-    (λ c. search needs)
-    (λ c. search needs)
+    (λ c κs. omega (arith, c .record-at .ensures))
+    (λ c. omega (arith, c .before .before .before .before .before .before .before .pre))
+    (λ c. omega (arith, c .before .before .before .before .before .before .before .pre))
     returns)

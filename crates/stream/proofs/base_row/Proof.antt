@@ -1,5 +1,4 @@
 -- `stream::base_row` meets its contract: its range lies in the bytes, by `row-inside`. Assumes nothing.
-use borrow.Author.Needs.{needs}
 use mathlib.Core.List.{List}
 use mathlib.Core.Path.{_≡_, ap, _∙_}
 use Prim.Native.Nat.{ℕ}
@@ -19,4 +18,4 @@ returns : tie.Need-returns
 returns c = c .part .ensures ∙ ap (partOf _) (c .before .base-row-range .ensures)
 
 pub base-row-spec : {M : Type 1} → statement M
-base-row-spec = tie.close (tie.spec (λ c κs. search needs) part-requires returns)
+base-row-spec = tie.close (tie.spec (λ c κs. tt) part-requires returns)

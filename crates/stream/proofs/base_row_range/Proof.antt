@@ -1,5 +1,4 @@
 -- `stream::base_row_range` meets its contract, by the two ways in which opening ends. Assumes nothing.
-use borrow.Author.Needs.{needs}
 use mathlib.Core.Path.{sym, _∙_}
 use Rattle.stream.proofs.StreamLaws.{opened, row-refused, row-opened}
 use Rattle.stream.proofs.base_row_range.Statement.{statement}
@@ -17,4 +16,4 @@ returns-2 c =
 
 pub base-row-range-spec : {M : Type 1} → statement M
 base-row-range-spec =
-    tie.close (tie.spec (λ c κs. search needs) (λ c. search needs) (λ c. search needs) row-in-requires returns returns-2)
+    tie.close (tie.spec (λ c κs. tt) (λ c. c .match .keys1) (λ c. c .match .keys2) row-in-requires returns returns-2)

@@ -1,5 +1,4 @@
 -- `stream::block_bytes` meets its contract: its range lies in the bytes, by `range-inside`. Assumes nothing.
-use borrow.Author.Needs.{needs}
 use mathlib.Core.List.{List}
 use mathlib.Core.Path.{_≡_, ap, _∙_}
 use Prim.Native.Nat.{ℕ, _^_, _<_}
@@ -25,4 +24,4 @@ returns c =
     (c .part .ensures ∙ ap (partOf _) (r .ensures .0), short (c .before .before .before .args .d .now) _ (r .result) (c .part .ensures) (r .ensures .1))
 
 pub block-bytes-spec : {M : Type 1} → statement M
-block-bytes-spec = tie.close (tie.spec (λ c κs. search needs) part-requires returns)
+block-bytes-spec = tie.close (tie.spec (λ c κs. tt) part-requires returns)

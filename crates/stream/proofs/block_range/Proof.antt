@@ -1,5 +1,4 @@
 -- `stream::block_range` meets its contract, by the two ways in which opening ends. Assumes nothing.
-use borrow.Author.Needs.{needs}
 use mathlib.Core.Path.{sym, _∙_}
 use Rattle.stream.proofs.StreamLaws.{opened, range-refused, range-opened}
 use Rattle.stream.proofs.block_range.Statement.{statement}
@@ -18,4 +17,4 @@ returns-2 c =
 
 pub block-range-spec : {M : Type 1} → statement M
 block-range-spec =
-    tie.close (tie.spec (λ c κs. search needs) (λ c. search needs) (λ c. search needs) range-in-requires returns returns-2)
+    tie.close (tie.spec (λ c κs. tt) (λ c. c .match .keys1) (λ c. c .match .keys2) range-in-requires returns returns-2)

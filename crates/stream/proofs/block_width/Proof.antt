@@ -1,5 +1,4 @@
 -- `stream::block_width` meets its contract, by the two ways in which parsing ends. Assumes nothing.
-use borrow.Author.Needs.{needs}
 use mathlib.Core.Path.{_≡_, sym, _∙_}
 use Prim.Native.Nat.{ℕ}
 use Rattle.stream.specs.Headers.{widthAnswer}
@@ -31,4 +30,4 @@ returns-2 c =
 
 pub block-width-spec : {M : Type 1} → statement M
 block-width-spec =
-    tie.close (tie.spec (λ c κs. search needs) (λ c. search needs) (λ c. search needs) columns-requires returns returns-2)
+    tie.close (tie.spec (λ c κs. tt) (λ c. c .match .keys1) (λ c. c .match .keys2) columns-requires returns returns-2)

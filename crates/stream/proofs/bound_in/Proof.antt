@@ -1,9 +1,9 @@
 -- `stream::bound_in` meets its contract. Assumes nothing.
-use borrow.Author.Needs.{needs}
 use borrow.Author.Tests.{not-true, not-false}
 use mathlib.Core.Bool.{true}
 use mathlib.Core.Path.{_≡_}
 use Prim.Native.Nat.{ℕ}
+use native.Mathlib.Omega.{arith}
 use Rattle.stream.specs.Lengths.{lengthBound, boundAnswer}
 use Rattle.stream.specs.declared.BlockLength.the-variants.{Length}
 use Rattle.stream.specs.declared.FujiHeader.{FujiHeader}
@@ -24,4 +24,5 @@ returns-2 c =
     bounded h _ (not-false (h .lossless) (s .if1 .left)) (c .most-bytes .ensures)
 
 pub bound-in-spec : {M : Type 1} → statement M
-bound-in-spec = tie.close (tie.spec (λ c. search needs) (λ c. search needs) returns (λ c κs. search needs) returns-2)
+bound-in-spec = tie.close (tie.spec (λ c. omega (arith, c .before .pre)) (λ c. omega (arith, c .before .before .pre)) returns (λ c κs. omega
+    (arith, c .before .before .before .pre)) returns-2)

@@ -1,8 +1,8 @@
 -- `stream::columns` meets its contract, by its test. Assumes nothing.
-use borrow.Author.Needs.{needs}
 use borrow.Author.Tests.{lt-ltb, le-ltb}
 use mathlib.Core.Path.{_≡_}
 use Prim.Native.Nat.{ℕ, _<_}
+use native.Mathlib.Omega.{arith}
 use Rattle.stream.specs.Headers.{columnsOf, widthAnswer}
 use Rattle.stream.specs.declared.FujiHeader.{FujiHeader}
 use Rattle.stream.specs.declared.Parsed.the-variants.{Header}
@@ -20,4 +20,4 @@ returns-2 : tie.Need-returns-2
 returns-2 c = there (c .before .before .args .h) _ _ (c .before .if1 .left) (c .block-columns .ensures)
 
 pub columns-spec : {M : Type 1} → statement M
-columns-spec = tie.close (tie.spec returns (λ c κs. search needs) returns-2)
+columns-spec = tie.close (tie.spec returns (λ c κs. omega (arith, c .before .pre)) returns-2)

@@ -65,13 +65,13 @@ first-short-spec =
     (tie.spec
     Inv-loop
     μ-loop
-    (λ c. search needs)
-    (λ c κs. search needs)
+    (λ c. omega (arith, c .before .before .pre))
+    (λ c κs. tt)
     loop-holds
-    (λ c κs. search needs)
+    (λ c κs. omega (arith, c .before .before .before .before .before .pre))
     (λ c. search needs)
     returns
-    (λ c. search needs)
-    (λ c. search needs)
+    (λ c. omega (arith, c .before .before .before .before .loop .inv))
+    (λ c. omega (arith, c .before .before .before .before .before .before .before .before .pre))
     loop-again
     returns-2)

@@ -1,12 +1,11 @@
 -- `stream::keeps_count_rules` meets its contract, rule by rule. Assumes nothing.
-use borrow.Author.Needs.{needs}
 use Rattle.stream.specs.Headers.{countRules}
 use Rattle.stream.proofs.keeps_count_rules.Statement.{statement}
 use Rattle.stream.proofs.keeps_count_rules.Tie as tie
 
 returns : tie.Need-returns
 unfolding countRules
-returns c = cc
+returns c = rw (c .before .before .before .is-within .ensures, c .before .is-within2 .ensures)
 
 pub keeps-count-rules-spec : {M : Type 1} → statement M
-keeps-count-rules-spec = tie.close (tie.spec (λ c κs. search needs) (λ c κs. search needs) returns)
+keeps-count-rules-spec = tie.close (tie.spec (λ c κs. tt) (λ c κs. tt) returns)

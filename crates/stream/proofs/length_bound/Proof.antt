@@ -1,5 +1,4 @@
 -- `stream::length_bound` meets its contract, by the two ways in which parsing ends. Assumes nothing.
-use borrow.Author.Needs.{needs}
 use mathlib.Core.Path.{sym, ap, _∙_}
 use Rattle.stream.specs.Lengths.{boundAnswer}
 use Rattle.stream.proofs.HeaderLaws.{ruled}
@@ -16,4 +15,4 @@ returns-2 : tie.Need-returns-2
 returns-2 c = c .bound-in .ensures ∙ ap boundAnswer (sym (c .before .before .parsed2 .given .1) ∙ c .before .before .before .before .parse .ensures)
 
 pub length-bound-spec : {M : Type 1} → statement M
-length-bound-spec = tie.close (tie.spec (λ c κs. search needs) (λ c. search needs) (λ c. search needs) bound-in-requires returns returns-2)
+length-bound-spec = tie.close (tie.spec (λ c κs. tt) (λ c. c .match .keys1) (λ c. c .match .keys2) bound-in-requires returns returns-2)

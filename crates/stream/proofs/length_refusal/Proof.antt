@@ -9,4 +9,4 @@ returns-2 : tie.Need-returns-2
 returns-2 c = c .refusal-words .ensures ∙ ap lengthRefusal (sym (c .before .before .a .given .1))
 
 pub length-refusal-spec : {M : Type 1} → statement M
-length-refusal-spec = tie.close (tie.spec (λ c. search needs) (λ c. search needs) (λ c κs. search needs) (λ c. search needs) returns-2)
+length-refusal-spec = tie.close (tie.spec (λ c. c .match .keys1) (λ c. c .match .keys2) (λ c κs. tt) (λ c. search needs) returns-2)

@@ -9,4 +9,4 @@ returns : tie.Need-returns
 returns c = ap lengthWord (sym (c .before .a .given .1))
 
 pub length-word-spec : {M : Type 1} → statement M
-length-word-spec = tie.close (tie.spec (λ c. search needs) (λ c. search needs) returns (λ c. search needs))
+length-word-spec = tie.close (tie.spec (λ c. c .match .keys1) (λ c. c .match .keys2) returns (λ c. search needs))

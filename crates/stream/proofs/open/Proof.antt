@@ -1,5 +1,4 @@
 -- `stream::open` meets its contract, by the two ways in which parsing ends. Assumes nothing.
-use borrow.Author.Needs.{needs}
 use mathlib.Core.Path.{sym, _∙_}
 use Rattle.stream.proofs.HeaderLaws.{ruled}
 use Rattle.stream.proofs.StreamLaws.{open-refused, open-parsed}
@@ -18,4 +17,4 @@ returns-2 c =
 
 pub open-spec : {M : Type 1} → statement M
 open-spec =
-    tie.close (tie.spec (λ c κs. search needs) (λ c. search needs) (λ c. search needs) open-in-requires returns returns-2)
+    tie.close (tie.spec (λ c κs. tt) (λ c. c .match .keys1) (λ c. c .match .keys2) open-in-requires returns returns-2)

@@ -1,5 +1,4 @@
 -- `stream::open_in` meets its contract, by its tests. Assumes nothing.
-use borrow.Author.Needs.{needs}
 use borrow.Author.Tests.{lt-ltb, le-ltb}
 use mathlib.Core.Bool.{true, false}
 use mathlib.Core.List.{List}
@@ -10,6 +9,7 @@ use Rattle.stream.specs.Streams.{sizesEnd, firstShort, openIn}
 use Rattle.stream.specs.declared.FujiHeader.{FujiHeader}
 use Rattle.stream.specs.declared.Parsed.the-variants.{Header, Refused}
 use Rattle.stream.specs.declared.Refusal.the-variants.{ShortBases}
+use native.Mathlib.Omega.{arith}
 use Rattle.stream.proofs.open_in.Statement.{statement}
 use Rattle.stream.proofs.open_in.Tie as tie
 
@@ -43,11 +43,11 @@ pub open-in-spec : {M : Type 1} → statement M
 open-in-spec =
     tie.close
     (tie.spec
-    (λ c. search needs)
-    (λ c. search needs)
-    (λ c. search needs)
+    (λ c. omega (arith, c .before .before .pre .blocks-high))
+    (λ c. omega (arith, c .before .before .pre .blocks-high))
+    (λ c. omega (arith, c .before .before .pre .blocks-high))
     returns
     returns-2
-    (λ c κs. search needs)
+    (λ c κs. c .before .before .before .before .pre)
     returns-3
     returns-4)

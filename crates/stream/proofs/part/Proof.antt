@@ -36,12 +36,12 @@ pub part-spec : {M : Type 1} → statement M
 part-spec =
     tie.close
     (tie.spec
-    (λ c. search needs)
+    (λ c. c .match .keys1)
     add-end
-    (λ c. search needs)
+    (λ c. omega arith)
     (λ c. search needs)
     part-result-end
-    (λ c. search needs)
-    (λ c. search needs)
+    (λ c. c .match .keys2)
+    (λ c. omega arith)
     returns
     (λ c. search needs))

@@ -35,12 +35,12 @@ pub range-in-spec : {M : Type 1} → statement M
 range-in-spec =
     tie.close
     (tie.spec
-    (λ c. search needs)
+    (λ c. omega (arith, c .before .before .pre))
     returns
     (λ c κs. search needs)
-    (λ c κs. search needs)
-    (λ c κs. search needs)
-    (λ c. search needs)
-    (λ c κs. search needs)
-    (λ c. search needs)
+    (λ c κs. omega (arith, c .before .before .before .before .pre))
+    (λ c κs. tt)
+    (λ c. omega (arith, c .before .before .block-start .ensures, c .before .size-of .ensures))
+    (λ c κs. tt)
+    (λ c. omega (arith, c .before .cut .ensures, c .cut2 .ensures))
     returns-2)

@@ -13,9 +13,9 @@ pub refusal-words-spec : {M : Type 1} → statement M
 refusal-words-spec =
     tie.close
     (tie.spec
-    (λ c. search needs)
-    (λ c. search needs)
-    (λ c. search needs)
+    (λ c. c .match .keys1)
+    (λ c. c .match .keys2)
+    (λ c. c .match .keys3)
     (λ c. search needs)
     (λ c. search needs)
     (λ c. search needs)

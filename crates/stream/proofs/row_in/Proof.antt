@@ -1,9 +1,9 @@
 -- `stream::row_in` meets its contract, by its test. Assumes nothing.
-use borrow.Author.Needs.{needs}
 use borrow.Author.Tests.{lt-ltb, le-ltb}
 use mathlib.Core.List.{List}
 use mathlib.Core.Path.{_≡_}
 use Prim.Native.Nat.{ℕ, _<_}
+use native.Mathlib.Omega.{arith}
 use Rattle.stream.specs.Streams.{rowLength, rowStart, cut, rowIn}
 use Rattle.stream.specs.declared.FujiHeader.{FujiHeader}
 use Rattle.stream.specs.declared.Parsed.the-variants.{Header}
@@ -28,9 +28,9 @@ pub row-in-spec : {M : Type 1} → statement M
 row-in-spec =
     tie.close
     (tie.spec
-    (λ c. search needs)
+    (λ c. omega (arith, c .before .before .pre))
     returns
-    (λ c κs. search needs)
-    (λ c κs. search needs)
-    (λ c κs. search needs)
+    (λ c κs. omega (arith, c .before .before .before .pre))
+    (λ c κs. tt)
+    (λ c κs. tt)
     returns-2)

@@ -1,5 +1,4 @@
 -- `stream::row_start` meets its contract: of 16 rows at most, each has 2746 bytes at most. Assumes nothing.
-use borrow.Author.Needs.{needs}
 use Prim.Native.Nat.{ℕ, _*_, _≤_}
 use native.Mathlib.Nat.{mul-le-mul-right}
 use native.Mathlib.Omega.{arith}
@@ -11,7 +10,8 @@ rows-le : (b n : ℕ) → b ≤ 16 → n ≤ 2746 → b * n ≤ 43936
 rows-le b n hb hn = let p : b * n ≤ 16 * n = mul-le-mul-right n hb in omega arith
 
 rows : (c : tie.After-padded2) → c .before .before .before .before .args .b * c .padded2 .result ≤ 43936
-rows c = rows-le _ _ (search needs) (search needs)
+rows c = rows-le _ _ (c .before .before .before .before .pre .1) (omega
+    (arith, c .padded2 .ensures .1, c .before .row-length .ensures .1, c .before .before .before .before .pre .0 .lines-high))
 
 mul-result : tie.Need-mul-result
 mul-result c = omega (arith, rows c)
@@ -27,12 +27,12 @@ pub row-start-spec : {M : Type 1} → statement M
 row-start-spec =
     tie.close
     (tie.spec
-    (λ c. search needs)
-    (λ c. search needs)
-    (λ c κs. search needs)
-    (λ c. search needs)
-    (λ c κs. search needs)
-    (λ c κs. search needs)
+    (λ c. omega (arith, c .before .pre .0 .blocks-high))
+    (λ c. omega (arith, c .before .pre .0 .blocks-high))
+    (λ c κs. omega (arith, c .before .pre .0 .blocks-high))
+    (λ c. omega (arith, c .padded .ensures .1, c .before .before .pre .0 .blocks-high))
+    (λ c κs. tt)
+    (λ c κs. omega (arith, c .row-length .ensures .1, c .before .before .before .pre .0 .lines-high))
     mul-result
     add-result-2
     returns)

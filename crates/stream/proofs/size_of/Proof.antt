@@ -23,12 +23,12 @@ pub size-of-spec : {M : Type 1} → statement M
 size-of-spec =
     tie.close
     (tie.spec
-    (λ c. search needs)
-    (λ c. search needs)
-    (λ c κs. search needs)
-    (λ c. search needs)
-    (λ c. search needs)
-    (λ c κs. search needs)
-    (λ c. search needs)
-    (λ c. search needs)
+    (λ c. omega (arith, c .before .pre))
+    (λ c. omega (arith, c .before .pre))
+    (λ c κs. omega (arith, c .before .pre))
+    (λ c. omega (arith, c .pair .ensures))
+    (λ c. omega (arith, c .before .before .pre))
+    (λ c κs. omega (arith, c .before .before .pre))
+    (λ c. omega (arith, c .before .pair .ensures, c .pair2 .ensures))
+    (λ c. omega (arith, c .before .pair .ensures, c .pair2 .ensures))
     returns)

@@ -39,9 +39,9 @@ sizes-before-spec =
     Inv-loop
     μ-loop
     loop-holds
-    (λ c κs. search needs)
-    (λ c. search needs)
-    (λ c. search needs)
-    (λ c. search needs)
+    (λ c κs. omega (arith, c .before .before .before .pre))
+    (λ c. omega (arith, c .size-of .ensures))
+    (λ c. omega (arith, c .before .before .loop .inv))
+    (λ c. omega (arith, c .before .before .before .before .pre))
     loop-again
     returns)

@@ -1,5 +1,4 @@
 -- `trace::trace_line` meets its contract: i passes have been walked, with tight codes alone. Assumes nothing.
-use borrow.Author.Needs.{needs}
 use borrow.Rule.Slice.PartMut.{midOf, putMid, same-len-mid, mid-len}
 use mathlib.Core.Path.{_≡_, refl, sym, _∙_}
 use Prim.Native.Nat.{ℕ, _+_, _-_, _*_, _%_, _≤_, _<_}
@@ -12,7 +11,7 @@ use Rattle.block.specs.Walks.{AllInRange}
 use Rattle.block.proofs.LineLaws.{planned, width-in-range}
 use Rattle.trace.specs.Ways.{on, passesWay}
 use Rattle.trace.specs.Traces.{cleanState, Says}
-use Rattle.trace.proofs.WayLaws.{on-then, then-bad, then-cut, turn-at, turn-bad, turn-cut}
+use Rattle.trace.proofs.WayLaws.{on-then, then-stops, turn-at, turn-stops, no-place}
 use Rattle.trace.proofs.LineLaws.{lent-in-range, back-in-range, passWay, passes-none, passes-next, line-end, end-past, end-here, pass-says}
 use Rattle.trace.proofs.trace_line.Statement.{statement}
 use Rattle.trace.proofs.trace_line.Tie as tie
@@ -45,14 +44,22 @@ looped c = planned-at (first (ready c)) .before .before
 abbrev lent : tie.After-trace-pass Inv-loop μ-loop → tie.After-struct-known Inv-loop μ-loop
 lent d = d .before .before .before .before
 
-abbrev walked : tie.After-slice-known8 Inv-loop μ-loop → tie.After-trace-pass Inv-loop μ-loop
-walked c = c .before .before .before .before .before .before
+abbrev walked : tie.At-match-keys2 Inv-loop μ-loop → tie.After-trace-pass Inv-loop μ-loop
+walked c = c .before .before .before .before .before .before .before
+
+abbrev went : tie.After-known-told Inv-loop μ-loop → tie.After-trace-pass Inv-loop μ-loop
+went c = c .before .before .before .before .before .before .before .before .before
 
 loop-holds : tie.Need-loop-holds Inv-loop μ-loop
 loop-holds c =
     let a = c .before .before .before .before .before in
-    let w = width-in-range (a .args .form .xtrans) _ (c .width .ensures) in
-    (search needs, (c .width .ensures, w .0, w .1, w .2), (rw (c .width .ensures) (a .pre .room), a .pre .for-sums, a .pre .for-ns), a .pre .records, passes-none _ _ _ _)
+    let w = width-in-range (a .args .form .xtrans) _ (c .width .ensures) in (
+      omega arith,
+      (c .width .ensures, w .0, w .1, w .2),
+      (rw (c .width .ensures) (a .pre .room), a .pre .for-sums, a .pre .for-ns),
+      a .pre .records,
+      passes-none _ _ _ _,
+    )
 
 set-guards-requires : tie.Need-set-guards-requires Inv-loop μ-loop
 set-guards-requires c κs =
@@ -166,41 +173,31 @@ entry-ns l = l .loop .inv .2 .2 ∙ sym (start l .pre .for-ns)
 
 returns : tie.Need-returns Inv-loop μ-loop
 returns c =
-    let d = walked (c .before .before .before) in
+    let d = walked c in
     let l = looped (lent d) .loop in
     let a = start (looped (lent d)) .args in
+    let r = d .trace-pass .result in
+    let stops = no-place r (c .match .keys2) in
     record {
-      says = then-bad _ (line-end (a .form) (a .block .now) (a .n) _ 6 refl)
-          (turn-bad _ _ (passes-next (a .form) (a .block .now) (a .n) _) (test d) (l .inv .4) (said d) (c .before .got .given .1)) refl;
-      records = back d;
-    }
-
-returns-2 : tie.Need-returns-2 Inv-loop μ-loop
-returns-2 c =
-    let d = walked (c .before .before) in
-    let l = looped (lent d) .loop in
-    let a = start (looped (lent d)) .args in
-    record {
-      says = then-cut _ (line-end (a .form) (a .block .now) (a .n) _ 6 refl)
-          (turn-cut _ _ (passes-next (a .form) (a .block .now) (a .n) _) (test d) (l .inv .4) (said d) (c .enum-told .given .1)) refl;
+      says = then-stops _ (line-end (a .form) (a .block .now) (a .n) _ 6 refl)
+          (turn-stops _ _ (passes-next (a .form) (a .block .now) (a .n) _) (test d) (l .inv .4) (said d) r refl stops) r refl stops;
       records = back d;
     }
 
 loop-again : tie.Need-loop-again Inv-loop μ-loop
 loop-again c =
-    let g = c .before in
-    let d = walked (g .before .before) in
+    let d = went c in
     let l = looped (lent d) .loop in
     let a = start (looped (lent d)) .args in (
       omega (arith, test d),
       l .inv .1,
       (lines-long d ∙ l .inv .2 .0, sums-long d ∙ l .inv .2 .1, ns-long d ∙ l .inv .2 .2),
       back d,
-      turn-at _ _ (passes-next (a .form) (a .block .now) (a .n) _) (test d) (l .inv .4) (said d) (g .got2 .given .1),
+      turn-at _ _ (passes-next (a .form) (a .block .now) (a .n) _) (test d) (l .inv .4) (said d) (c .before .got .given .1),
     )
 
-returns-3 : tie.Need-returns-3 Inv-loop μ-loop
-returns-3 c =
+returns-2 : tie.Need-returns-2 Inv-loop μ-loop
+returns-2 c =
     let e = c .before .before in
     let l = e .before .loop in
     let a = start (e .before) .args in
@@ -212,8 +209,8 @@ returns-3 c =
       records = l .inv .3;
     }
 
-returns-4 : tie.Need-returns-4 Inv-loop μ-loop
-returns-4 c =
+returns-3 : tie.Need-returns-3 Inv-loop μ-loop
+returns-3 c =
     let e = c .before .before in
     let l = e .before .loop in
     let a = start (e .before) .args in
@@ -231,42 +228,36 @@ trace-line-spec =
     (tie.spec
     Inv-loop
     μ-loop
-    (λ c κs. search needs)
+    (λ c κs. tt)
     loop-holds
-    (λ c κs. search needs)
+    (λ c κs. c .loop-test .taken)
     set-guards-requires
     set-guards-requires-2
-    (λ c. search (needs, one-of-three c))
-    (λ c. search (needs, one-of-three c))
-    (λ c. search (needs, one-of-three (c .before)))
-    (λ c. search (needs, one-of-three (c .before)))
-    (λ c. search (needs, one-of-three (c .before), looped (c .before) .loop .inv .2))
-    (λ c. search (needs, one-of-three (c .before), looped (c .before) .loop .inv .2))
-    (λ c. search (needs, one-of-three (c .before .before)))
-    (λ c. search (needs, one-of-three (c .before .before)))
-    (λ c. search (needs, one-of-three (c .before .before), looped (c .before .before) .loop .inv .2))
-    (λ c. search (needs, one-of-three (c .before .before), looped (c .before .before) .loop .inv .2))
+    (λ c. omega (arith, one-of-three c))
+    (λ c. omega (arith, one-of-three c))
+    (λ c. omega (arith, one-of-three (c .before)))
+    (λ c. omega (arith, one-of-three (c .before)))
+    (λ c. omega (arith, one-of-three (c .before), looped (c .before) .loop .inv .2))
+    (λ c. omega (arith, one-of-three (c .before), looped (c .before) .loop .inv .2))
+    (λ c. omega (arith, one-of-three (c .before .before)))
+    (λ c. omega (arith, one-of-three (c .before .before)))
+    (λ c. omega (arith, one-of-three (c .before .before), looped (c .before .before) .loop .inv .2))
+    (λ c. omega (arith, one-of-three (c .before .before), looped (c .before .before) .loop .inv .2))
     trace-pass-requires
-    (λ c. search needs)
-    (λ c. let d = walked (c .before .before .before) in lines-long d ∙ entry-lines (looped (lent d)))
-    (λ c. let d = walked (c .before .before .before) in sums-long d ∙ entry-sums (looped (lent d)))
-    (λ c. let d = walked (c .before .before .before) in ns-long d ∙ entry-ns (looped (lent d)))
+    (λ c. c .match .keys1)
+    (λ c. lines-long (walked c) ∙ entry-lines (looped (lent (walked c))))
+    (λ c. sums-long (walked c) ∙ entry-sums (looped (lent (walked c))))
+    (λ c. ns-long (walked c) ∙ entry-ns (looped (lent (walked c))))
     returns
-    (λ c. search needs)
-    (λ c. let d = walked (c .before .before) in lines-long d ∙ entry-lines (looped (lent d)))
-    (λ c. let d = walked (c .before .before) in sums-long d ∙ entry-sums (looped (lent d)))
-    (λ c. let d = walked (c .before .before) in ns-long d ∙ entry-ns (looped (lent d)))
-    returns-2
-    (λ c. search needs)
-    (λ c. search (needs, test (walked (c .before .before .before))))
-    (λ c. omega (arith, test (walked (c .before .before .before))))
+    (λ c. omega (arith, test (went c)))
+    (λ c. omega (arith, test (went c)))
     loop-again
-    (λ c κs. search needs)
+    (λ c κs. c .before .before .before .before .before .before .before .pre .bytes)
     (λ c. entry-lines (c .before .before .before))
     (λ c. entry-sums (c .before .before .before))
     (λ c. entry-ns (c .before .before .before))
-    returns-3
+    returns-2
     (λ c. entry-lines (c .before .before .before))
     (λ c. entry-sums (c .before .before .before))
     (λ c. entry-ns (c .before .before .before))
-    returns-4)
+    returns-3)

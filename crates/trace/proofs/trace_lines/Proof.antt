@@ -12,8 +12,8 @@ use Rattle.block.specs.Walks.{AllInRange}
 use Rattle.block.proofs.RangeLaws.{all-started}
 use Rattle.trace.specs.Ways.{on, blockWay}
 use Rattle.trace.specs.Traces.{cleanState, Says}
-use Rattle.trace.proofs.WayLaws.{turn-at, turn-bad, turn-cut, was-bad, was-cut}
-use Rattle.trace.proofs.LineLaws.{lineAtWay, lines-next, lines-none, line-says, zero-length}
+use Rattle.trace.proofs.WayLaws.{turn-at, turn-stops, no-place}
+use Rattle.trace.proofs.LineLaws.{lineAtWay, lines-next, lines-none, line-says, zero-length, ends-says}
 use Rattle.trace.proofs.trace_lines.Statement.{statement}
 use Rattle.trace.proofs.trace_lines.Tie as tie
 
@@ -38,8 +38,11 @@ turned d = d .before .before .before .before .before .before
 abbrev looped : tie.After-turn Inv-loop μ-loop → tie.At-loop Inv-loop μ-loop
 looped c = c .before .before .before
 
-abbrev walked : tie.After-slice-known9 Inv-loop μ-loop → tie.After-trace-line Inv-loop μ-loop
-walked c = c .before .before .before .before .before .before
+abbrev walked : tie.At-match-keys2 Inv-loop μ-loop → tie.After-trace-line Inv-loop μ-loop
+walked c = c .before .before .before .before .before .before .before
+
+abbrev went : tie.After-known-told Inv-loop μ-loop → tie.After-trace-line Inv-loop μ-loop
+went c = c .before .before .before .before .before .before .before .before .before
 
 loop-holds : tie.Need-loop-holds Inv-loop μ-loop
 loop-holds c =
@@ -88,22 +91,15 @@ module _ (d : tie.After-trace-line Inv-loop μ-loop) where
 
 returns : tie.Need-returns Inv-loop μ-loop
 returns c =
-    let d = walked (c .before .before .before) in
+    let d = walked c in
     let l = looped (turned d) .loop in
     let a = entry (begun (looped (turned d))) .args in
-    was-bad (turn-bad _ _ (lines-next (a .form) (a .block .now)) (test d) (l .inv .5) (said d) (c .before .got .given .1)) refl
-
-returns-2 : tie.Need-returns-2 Inv-loop μ-loop
-returns-2 c =
-    let d = walked (c .before .before) in
-    let l = looped (turned d) .loop in
-    let a = entry (begun (looped (turned d))) .args in
-    was-cut (turn-cut _ _ (lines-next (a .form) (a .block .now)) (test d) (l .inv .5) (said d) (c .enum-told .given .1)) refl
+    let r = d .trace-line .result in
+    ends-says _ _ _ (turn-stops _ _ (lines-next (a .form) (a .block .now)) (test d) (l .inv .5) (said d) r refl (no-place r (c .match .keys2)))
 
 loop-again : tie.Need-loop-again Inv-loop μ-loop
 loop-again c =
-    let g = c .before in
-    let d = walked (g .before .before) in
+    let d = went c in
     let l = looped (turned d) .loop in
     let a = entry (begun (looped (turned d))) .args in (
       omega (arith, test d),
@@ -114,12 +110,12 @@ loop-again c =
         omega (arith, d .trace-line .kept, l .inv .2),
       ),
       d .trace-line .ensures .records,
-      (λ e. absurd (omega arith)),
-      turn-at _ _ (lines-next (a .form) (a .block .now)) (test d) (l .inv .5) (said d) (g .got2 .given .1),
+      (λ e. absurd (omega (arith, e))),
+      turn-at _ _ (lines-next (a .form) (a .block .now)) (test d) (l .inv .5) (said d) (c .before .got .given .1),
     )
 
-returns-3 : tie.Need-returns-3 Inv-loop μ-loop
-returns-3 c =
+returns-2 : tie.Need-returns-2 Inv-loop μ-loop
+returns-2 c =
     let l = c .before .loop in
     let a = entry (begun (c .before)) .args in
     let e : l .n ≡ a .count = omega (arith, c .loop-test .left, l .inv .0) in
@@ -137,27 +133,21 @@ trace-lines-spec =
     (tie.spec
     Inv-loop
     μ-loop
-    (λ c κs. search needs)
+    (λ c κs. tt)
     (λ c κs. search needs)
     (λ c κs. search needs)
     loop-holds
     turn-requires
     trace-line-requires
-    (λ c. search needs)
-    (λ c. let d = walked (c .before .before .before) in omega (arith, d .trace-line .kept, turned d .turn .kept, entry-lines (looped (turned d))))
-    (λ c. let d = walked (c .before .before .before) in omega (arith, d .trace-line .kept, looped (turned d) .loop .inv .2, entry (begun (looped (turned d))) .pre .1 .1))
-    (λ c. let d = walked (c .before .before .before) in omega (arith, d .trace-line .kept, looped (turned d) .loop .inv .2, entry (begun (looped (turned d))) .pre .1 .1))
+    (λ c. c .match .keys1)
+    (λ c. let d = walked c in omega (arith, d .trace-line .kept, turned d .turn .kept, entry-lines (looped (turned d))))
+    (λ c. let d = walked c in omega (arith, d .trace-line .kept, looped (turned d) .loop .inv .2, entry (begun (looped (turned d))) .pre .1 .1))
+    (λ c. let d = walked c in omega (arith, d .trace-line .kept, looped (turned d) .loop .inv .2, entry (begun (looped (turned d))) .pre .1 .1))
     returns
-    (λ c. search needs)
-    (λ c. let d = walked (c .before .before) in omega (arith, d .trace-line .kept, turned d .turn .kept, entry-lines (looped (turned d))))
-    (λ c. let d = walked (c .before .before) in omega (arith, d .trace-line .kept, looped (turned d) .loop .inv .2, entry (begun (looped (turned d))) .pre .1 .1))
-    (λ c. let d = walked (c .before .before) in omega (arith, d .trace-line .kept, looped (turned d) .loop .inv .2, entry (begun (looped (turned d))) .pre .1 .1))
-    returns-2
-    (λ c. search needs)
-    (λ c. search (needs, test (walked (c .before .before .before)), entry (begun (looped (turned (walked (c .before .before .before))))) .pre .0 .1 .1))
-    (λ c. omega (arith, test (walked (c .before .before .before))))
+    (λ c. omega (arith, test (went c), entry (begun (looped (turned (went c)))) .pre .0 .1 .1))
+    (λ c. omega (arith, test (went c)))
     loop-again
     (λ c. entry-lines (c .before))
     (λ c. omega (arith, c .before .loop .inv .2, entry (begun (c .before)) .pre .1 .1))
     (λ c. omega (arith, c .before .loop .inv .2, entry (begun (c .before)) .pre .1 .1))
-    returns-3)
+    returns-2)

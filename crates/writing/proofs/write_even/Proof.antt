@@ -1,12 +1,11 @@
 -- `writing::write_even` meets its contract: two samples, each interpolated or by the answers of the leaves. Assumes nothing.
-use borrow.Author.Needs.{needs}
 use mathlib.Core.Bool.{Bool, true, not}
 use mathlib.Core.List.{List, [], _∷_}
 use mathlib.Core.Logic.{⊎-elim}
 use mathlib.Core.Path.{_≡_, refl, sym, _∙_}
 use Prim.Native.Nat.{ℕ, _+_, _^_, _<_}
 use native.Mathlib.Omega.{arith}
-use lib.ListN.{length}
+use lib.ListN.{length, length-set}
 use Rattle.quantiser.specs.Quantisers.{largest}
 use Rattle.steps.specs.Steps.{Step, stepAt, interpolated, evenSteps}
 use Rattle.steps.specs.Values.{zipRecords, AreKs}
@@ -65,6 +64,16 @@ site c =
       sample = sample-at (entry (begun c) .pre .0 .plan .first-low) (c .before .before .before .left-of .ensures .0) (c .before .before .index-in .ensures .0) (c .context-at .ensures .0);
       ranges = c .context-at .ensures .1;
     }
+
+-- the sample comes from inside of the set
+within : (c : tie.After-context-at) → c .before .before .index-in .result < length (entry (begun c) .args .samples .now)
+within c = omega (arith, c .before .before .index-in .ensures .1, entry (begun c) .pre .0 .samples)
+
+context-at-requires : tie.Need-context-at-requires
+context-at-requires c κs =
+    let p = entry (c .before .before .before .before) .pre .0 in
+    let i = c .before .before .left-of .ensures .1 in
+    (omega (arith, p .width), (i .0, omega (arith, i .1, p .long)))
 
 abbrev placed : tie.After-has-code → tie.After-context-at
 placed c = c .before .before .before
@@ -268,66 +277,68 @@ write-even-spec =
     tie.close
     (tie.spec
     returns
-    (λ c κs. search needs)
-    (λ c κs. search needs)
-    (λ c. search needs)
-    (λ c κs. search needs)
-    (λ c. search needs)
-    (λ c. search needs)
-    (λ c κs. search needs)
-    (λ c κs. search needs)
+    (λ c κs. let p = entry (c .before) .pre .0 in (p .width, (c .before .if1 .left, (p .plan .first-low, p .plan .first-high))))
+    (λ c κs. let e = c .before .before in let p = entry e .pre .0 in (p .width, (e .if1 .left, (p .line, (p .plan .first-low, p .plan .first-high)))))
+    (λ c. omega (arith, entry (c .before .before .before .before) .pre .0 .width))
+    context-at-requires
+    (λ c. omega (arith, within c, entry (begun c) .good))
+    (λ c. within (c .before))
+    (λ c κs. tt)
+    (λ c κs. tt)
     coded-as-requires
-    (λ c. search (needs, small (c .before)))
+    (λ c. omega (arith, small (c .before)))
     (λ c. omega (arith, room (place (c .before)) .1))
     (λ c. omega (arith, room (place (c .before)) .1))
     (λ c. room (place (c .before)) .0)
     record-at-requires
-    (λ c κs. search needs)
-    (λ c. search needs)
-    (λ c. search needs)
-    (λ c. search needs)
-    (λ c. search needs)
+    (λ c κs. c .before .before .before .before .before .before .coded-as .ensures .slot-lt)
+    (λ c. omega (arith, coded c .coded-as .ensures .choice-le))
+    (λ c. omega (arith, coded c .coded-as .ensures .choice-le))
+    (λ c. omega (arith, coded (c .before) .coded-as .ensures .choice-le))
+    (λ c. omega (arith, coded (c .before) .coded-as .ensures .choice-le))
     put-code-requires
     update-with-k-requires
-    (λ c κs. search needs)
-    (λ c. search needs)
+    (λ c κs. tt)
+    (λ c. refl)
     returns-2
-    (λ c. search needs)
+    (λ c. omega (arith, c .before .before .before .before .before .before .before .context-at .ensures .1 .prediction))
     (λ c. omega (arith, room (placed (c .before .before .before .before)) .1))
     (λ c. omega (arith, room (placed (c .before .before .before .before)) .1))
     (λ c. room (placed (c .before .before .before .before)) .0)
-    (λ c κs. search needs)
+    (λ c κs. let p = start c .pre .0 in (p .width, (begun (there c) .if1 .left, (p .plan .second-low, p .plan .second-high))))
     index-in-requires-2
-    (λ c. search needs)
+    (λ c. omega (arith, start (c .before .before .before) .pre .0 .width))
     context-at-requires-2
-    (λ c. search (needs, inside (c .before .before), start (one c) .good))
+    (λ c. omega (arith, inside (c .before .before) .2, start (one c) .good))
     (λ c. inside (c .before .before .before) .2)
-    (λ c κs. search needs)
-    (λ c κs. search needs)
+    (λ c κs. tt)
+    (λ c κs. tt)
     coded-as-requires-2
-    (λ c. search (needs, small-2 (c .before)))
+    (λ c. omega (arith, small-2 (c .before)))
     (λ c. omega (arith, inside (place-2 (c .before) .before .before) .1))
     (λ c. omega (arith, inside (place-2 (c .before) .before .before) .1))
     (λ c. omega (arith, inside (place-2 (c .before) .before .before) .0))
     record-at-requires-2
-    (λ c κs. search needs)
-    (λ c. search needs)
-    (λ c. search needs)
-    (λ c. search needs)
-    (λ c. search needs)
+    (λ c κs. c .before .before .before .before .before .before .coded-as2 .ensures .slot-lt)
+    (λ c. omega (arith, coded-2 c .coded-as2 .ensures .choice-le))
+    (λ c. omega (arith, coded-2 c .coded-as2 .ensures .choice-le))
+    (λ c. omega (arith, coded-2 (c .before) .coded-as2 .ensures .choice-le))
+    (λ c. omega (arith, coded-2 (c .before) .coded-as2 .ensures .choice-le))
     put-code-requires-2
     update-with-k-requires-2
-    (λ c κs. search needs)
+    (λ c κs. tt)
     (λ c. done (one (placed-2 (judged c))) .same)
     (λ c. done (one (placed-2 (judged c))) .long)
     returns-3
-    (λ c. search needs)
+    (λ c. omega (arith, placed-2 (let-be c) .context-at2 .ensures .1 .prediction))
     (λ c. omega (arith, inside (placed-2 (let-be c) .before .before) .1))
     (λ c. omega (arith, inside (placed-2 (let-be c) .before .before) .1))
     (λ c. omega (arith, inside (placed-2 (let-be c) .before .before) .0))
     (λ c. put-2 c .put-code2 .kept .0 ∙ done (first c) .same)
-    (λ c. search (needs, done (first c) .long))
+    (λ c. let d = coded-2 (kept-2 (put-2 c)) in
+    length-set (first c .if2 .lines) (place-2 d .before .before .before .left-of2 .result + 1) (d .coded-as2 .result .value) ∙ done (first c) .long)
     returns-4
     (λ c. done (one (placed-2 (let-be c))) .same)
-    (λ c. search (needs, done (one (placed-2 (let-be c))) .long))
+    (λ c. let x = placed-2 (let-be c) in
+    length-set (one x .if2 .lines) (x .before .before .before .left-of2 .result + 1) (x .context-at2 .result .prediction) ∙ done (one x) .long)
     returns-5)

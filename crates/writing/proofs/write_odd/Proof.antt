@@ -1,5 +1,4 @@
 -- `writing::write_odd` meets its contract: two samples, each by the answers of the leaves. Assumes nothing.
-use borrow.Author.Needs.{needs}
 use mathlib.Core.Bool.{true}
 use mathlib.Core.List.{List}
 use mathlib.Core.Path.{refl, _∙_}
@@ -55,6 +54,21 @@ site c =
       sample = sample-at (entry (begun c) .pre .0 .plan .first-low) (c .before .before .before .left-of .ensures .0) (c .before .before .index-in .ensures .0) (c .context-at .ensures .0);
       ranges = c .context-at .ensures .1;
     }
+
+first-in : (c : tie.Else1) → let a = entry c .args .spot in (a .w ≤ 512) × ((a .p - 7 < a .w) × ((2 ≤ a .plan .first) × (a .plan .first ≤ 17)))
+first-in c =
+    let p = entry c .pre in
+    (p .0 .width, (omega (arith, p .1 .0, c .if1 .left), (p .0 .plan .first-low, p .0 .plan .first-high)))
+
+context-at-requires : tie.Need-context-at-requires
+context-at-requires c κs =
+    let p = entry (c .before .before .before .before) .pre .0 in
+    let i = c .before .before .left-of .ensures .1 in
+    (omega (arith, p .width), (i .0, omega (arith, i .1, p .long)))
+
+-- the sample comes from inside of the set
+within : (c : tie.After-context-at) → c .before .before .index-in .result < length (entry (begun c) .args .samples .now)
+within c = omega (arith, c .before .before .index-in .ensures .1, entry (begun c) .pre .0 .samples)
 
 abbrev placed : tie.After-u16-to-u32 → tie.After-context-at
 placed c = c .before .before
@@ -223,47 +237,48 @@ write-odd-spec =
     tie.close
     (tie.spec
     returns
-    (λ c. search needs)
-    (λ c κs. search needs)
-    (λ c κs. search needs)
-    (λ c. search needs)
-    (λ c κs. search needs)
-    (λ c. search needs)
-    (λ c. search needs)
-    (λ c κs. search needs)
+    (λ c. omega (arith, c .if1 .left))
+    (λ c κs. first-in (c .before))
+    (λ c κs. let l = first-in (c .before .before) in (l .0, (l .1 .0, (entry (c .before .before) .pre .0 .line, l .1 .1))))
+    (λ c. omega (arith, entry (c .before .before .before .before) .pre .0 .width))
+    context-at-requires
+    (λ c. omega (arith, within c, entry (begun c) .good))
+    (λ c. within (c .before))
+    (λ c κs. tt)
     coded-as-requires
-    (λ c. search (needs, small (c .before)))
-    (λ c. search (needs, room (c .before)))
-    (λ c. search (needs, room (c .before)))
+    (λ c. omega (arith, small (c .before)))
+    (λ c. omega (arith, room (c .before) .1))
+    (λ c. omega (arith, room (c .before) .1))
     (λ c. room (c .before) .0)
     record-at-requires
-    (λ c κs. search needs)
-    (λ c. search needs)
-    (λ c. search needs)
-    (λ c. search needs)
-    (λ c. search needs)
+    (λ c κs. c .before .before .before .before .before .before .coded-as .ensures .slot-lt)
+    (λ c. omega (arith, coded c .coded-as .ensures .choice-le))
+    (λ c. omega (arith, coded c .coded-as .ensures .choice-le))
+    (λ c. omega (arith, coded (c .before) .coded-as .ensures .choice-le))
+    (λ c. omega (arith, coded (c .before) .coded-as .ensures .choice-le))
     put-code-requires
     update-with-k-requires
     left-of-requires-2
     index-in-requires-2
-    (λ c. search needs)
+    (λ c. omega (arith, line-in (c .before .before .before) .0))
     context-at-requires-2
-    (λ c. search (needs, inside (c .before .before), start (one c) .good))
+    (λ c. omega (arith, inside (c .before .before) .2, start (one c) .good))
     (λ c. inside (c .before .before .before) .2)
-    (λ c κs. search needs)
+    (λ c κs. tt)
     coded-as-requires-2
-    (λ c. search (needs, small-2 (c .before)))
-    (λ c. search (needs, inside (place-2 (c .before) .before .before)))
-    (λ c. search (needs, inside (place-2 (c .before) .before .before)))
+    (λ c. omega (arith, small-2 (c .before)))
+    (λ c. omega (arith, inside (place-2 (c .before) .before .before) .1))
+    (λ c. omega (arith, inside (place-2 (c .before) .before .before) .1))
     (λ c. omega (arith, inside (place-2 (c .before) .before .before) .0))
     record-at-requires-2
-    (λ c κs. search needs)
-    (λ c. search needs)
-    (λ c. search needs)
-    (λ c. search needs)
-    (λ c. search needs)
+    (λ c κs. c .before .before .before .before .before .before .coded-as2 .ensures .slot-lt)
+    (λ c. omega (arith, coded-2 c .coded-as2 .ensures .choice-le))
+    (λ c. omega (arith, coded-2 c .coded-as2 .ensures .choice-le))
+    (λ c. omega (arith, coded-2 (c .before) .coded-as2 .ensures .choice-le))
+    (λ c. omega (arith, coded-2 (c .before) .coded-as2 .ensures .choice-le))
     put-code-requires-2
     update-with-k-requires-2
     (λ c. put-2 c .put-code2 .kept .0 ∙ done (first c) .same)
-    (λ c. search needs)
+    (λ c. let d = coded-2 (kept-2 (put-2 c)) in
+    length-set (lines₁ (first c)) (place-2 d .before .before .before .left-of2 .result + 1) (d .coded-as2 .result .value) ∙ done (first c) .long)
     returns-2)

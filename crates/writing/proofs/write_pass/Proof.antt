@@ -1,5 +1,4 @@
 -- `writing::write_pass` meets its contract: after each turn the steps of the turns so far have put their bits. Assumes nothing.
-use borrow.Author.Needs.{needs}
 use mathlib.Core.Bool.{Bool}
 use mathlib.Core.List.{List, _++_}
 use mathlib.Core.Path.{_≡_, refl, _∙_}
@@ -248,20 +247,20 @@ write-pass-spec =
     (tie.spec
     Inv-loop
     μ-loop
-    (λ c κs. search needs)
+    (λ c κs. c .before .before .before .before .before .before .before .before .before .before .pre .records)
     loop-holds
-    (λ c. search needs)
+    (λ c. omega (arith, entry c .pre .high))
     write-even-requires
-    (λ c. search needs)
-    (λ c. search needs)
-    (λ c κs. search needs)
+    (λ c. c .match .keys1)
+    (λ c. c .match .keys2)
+    (λ c κs. tt)
     (λ c. lengths-1 (c .before .before .before .before .before .before .before) .0)
     (λ c. lengths-1 (c .before .before .before .before .before .before .before) .1)
     returns
     write-odd-requires
-    (λ c. search needs)
-    (λ c. search needs)
-    (λ c κs. search needs)
+    (λ c. c .match2 .keys1)
+    (λ c. c .match2 .keys2)
+    (λ c κs. tt)
     (λ c. lengths-2 (c .before .before .before .before .before .before .before) .0)
     (λ c. lengths-2 (c .before .before .before .before .before .before .before) .1)
     returns-2

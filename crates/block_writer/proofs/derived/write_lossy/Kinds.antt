@@ -1,42 +1,18 @@
 -- Written by tools/lend.py from Rattle's derivation of the twin of `block_writer`; not edited by hand. Assumes nothing.
+use Rattle.bits.proofs.Values
+use Rattle.bits.proofs.Values.{n16, n8}
+use mathlib.Core.List.{_∷_, []}
 use Rattle.block.proofs.Element
 use Rattle.stream.proofs.BlockLength
 use Rattle.stream.proofs.BlockLength.Laws
 use borrow.Fn.Kinds
 use borrow.Kind.MutSlice
 use borrow.Kind.ShrSlice
-use borrow.Kind.Value
-use borrow.Rule.Local
-use borrow.Table.Referent
-use borrow.Table.Rows
 use denote.Array
-use denote.Enum.Declared
-use denote.Enum.Laws as Laws'
-use denote.Exit
 use mathlib.Core.List
-use mathlib.Core.Path as Path'
-use mir.Syntax
 
 abbrev pub ps : List.List (Kinds.PK 6)
-ps = List._∷_ (ShrSlice.pShrS (Referent.rtF (Referent.fInt Syntax.w8)) 0 tt) (List._∷_ (ShrSlice.pShrS (Referent.rtF (Referent.fInt Syntax.w8)) 1 tt) (List._∷_ (ShrSlice.pShrS (Referent.rtF
-    (Referent.fInt Syntax.w16)) 2 tt) (List._∷_ (MutSlice.pMutS (Referent.rtF (Referent.fInt Syntax.w8)) 3 tt) (List._∷_ (MutSlice.pMutS (Referent.rtF (Referent.fInt Syntax.w16)) 4 tt) (List._∷_
-    (MutSlice.pMutS (Element.type) 5 tt) List.[])))))
+ps = (ShrSlice.pShrS n8 0 tt) ∷ (ShrSlice.pShrS n8 1 tt) ∷ (ShrSlice.pShrS n16 2 tt) ∷ (MutSlice.pMutS n8 3 tt) ∷ (MutSlice.pMutS n16 4 tt) ∷ (MutSlice.pMutS (Element.type) 5 tt) ∷ []
 
 abbrev pub r : Kinds.RK 6
-r = Value.rVal record {
-  ty = Declared.row BlockLength.the-type;
-  one = Path'.refl;
-  val = Laws'.val BlockLength.the-type Laws.the-laws;
-  tells = Laws'.tells BlockLength.the-type Laws.the-laws;
-  still = Laws'.still
-      BlockLength.the-type Laws.the-copy Exit.yes;
-  row = Rows.whole (Declared.row BlockLength.the-type);
-  rd = λ x. x;
-  mk = λ x. x;
-} λ M 𝓤 H A W. record {
-  copies = Laws'.copy BlockLength.the-type Laws.the-copy 𝓤 H A W;
-  lawful = Laws'.lawful BlockLength.the-type Laws.the-laws 𝓤 H A W tt;
-  makes = Laws'.makes BlockLength.the-type Laws.the-plain 𝓤 H A;
-  in-mem = Local.mem-whole 𝓤 H A W (Declared.row BlockLength.the-type);
-  of-mem = Local.whole-mem 𝓤 H A W (Declared.row BlockLength.the-type);
-}
+r = Values.enum-result BlockLength.the-type Laws.the-laws Laws.the-copy Laws.the-plain tt

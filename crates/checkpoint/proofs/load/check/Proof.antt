@@ -1,5 +1,4 @@
 -- `checkpoint::load::check` meets its contract, by its two tests. Assumes nothing.
-use borrow.Author.Needs.{needs}
 use mathlib.Core.Bool.{Bool, true, false}
 use mathlib.Core.List.{List}
 use mathlib.Core.Path.{_≡_, sym, _∙_}
@@ -53,7 +52,7 @@ pub check-spec : {M : Type 1} → statement M
 check-spec =
     tie.close
     (tie.spec
-    (λ c κs. search needs)
+    (λ c κs. omega (arith, c .before .before .pre))
     returns
     is-other-requires
     returns-2

@@ -39,9 +39,9 @@ has-bad-record-spec =
     Inv-loop
     μ-loop
     loop-holds
-    (λ c κs. search needs)
+    (λ c κs. omega (arith, c .before .before .before .pre))
     returns
-    (λ c. search needs)
-    (λ c. search needs)
+    (λ c. omega (arith, c .before .before .before .loop .inv))
+    (λ c. omega (arith, c .before .before .before .before .before .pre))
     loop-again
     returns-2)

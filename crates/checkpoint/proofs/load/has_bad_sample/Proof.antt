@@ -38,11 +38,11 @@ has-bad-sample-spec =
     (tie.spec
     Inv-loop
     μ-loop
-    (λ c. search needs)
+    (λ c. omega (arith, c .before .pre))
     loop-holds
-    (λ c κs. search needs)
+    (λ c κs. omega (arith, c .before .before .before .pre))
     returns
-    (λ c. search needs)
-    (λ c. search needs)
+    (λ c. omega (arith, c .before .before .before .loop .inv))
+    (λ c. omega (arith, c .before .before .before .before .before .pre))
     loop-again
     returns-2)

@@ -1,11 +1,11 @@
 -- `checkpoint::load::is_bad` meets its contract, by the first test that holds. Assumes nothing.
-use borrow.Author.Needs.{needs}
 use borrow.Author.Tests.{eq-eqb, ne-eqb}
 use mathlib.Core.Bool.{Bool, true, false, false≢true}
 use mathlib.Core.List.{List}
 use mathlib.Core.Path.{_≡_, refl, sym, _∙_}
 use Prim.Native.Nat.{ℕ, _+_, _*_}
 use lib.ListN.{length}
+use native.Mathlib.Omega.{arith}
 use Rattle.checkpoint.specs.Checkpoints.{anyBelow, badPlace, badRecord, badSample, badCheckpoint}
 use Rattle.checkpoint.proofs.load.is_bad.Statement.{statement}
 use Rattle.checkpoint.proofs.load.is_bad.Tie as tie
@@ -58,12 +58,12 @@ pub is-bad-spec : {M : Type 1} → statement M
 is-bad-spec =
     tie.close
     (tie.spec
-    (λ c. search needs)
-    (λ c. search needs)
+    (λ c. omega (arith, c .before .before .pre))
+    (λ c. omega (arith, c .before .before .pre))
     returns
-    (λ c κs. search needs)
+    (λ c κs. omega (arith, c .before .before .before .pre))
     returns-2
-    (λ c κs. search needs)
+    (λ c κs. omega (arith, c .before .before .before .before .before .pre))
     returns-3
-    (λ c κs. search needs)
+    (λ c κs. omega (arith, c .before .before .before .before .before .before .before .pre))
     returns-4)

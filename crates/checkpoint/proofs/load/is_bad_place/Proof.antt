@@ -1,10 +1,10 @@
 -- `checkpoint::load::is_bad_place` meets its contract. Assumes nothing.
-use borrow.Author.Needs.{needs}
 use mathlib.Core.Bool.{Bool, _||_}
 use mathlib.Core.List.{List}
 use mathlib.Core.Path.{_≡_}
 use Prim.Native.Nat.{ℕ, _+_, _*_}
 use lib.Dec.{ltb}
+use native.Mathlib.Omega.{arith}
 use Rattle.checkpoint.specs.Checkpoints.{beAt, badPlace}
 use Rattle.checkpoint.proofs.load.is_bad_place.Statement.{statement}
 use Rattle.checkpoint.proofs.load.is_bad_place.Tie as tie
@@ -18,4 +18,5 @@ returns : tie.Need-returns
 returns c = let n = c .before in judged _ _ _ _ _ _ (c .is-past-end .ensures) (n .before .be-at .ensures .0) (n .be-at2 .ensures .0)
 
 pub is-bad-place-spec : {M : Type 1} → statement M
-is-bad-place-spec = tie.close (tie.spec (λ c κs. search needs) (λ c κs. search needs) (λ c κs. search needs) returns)
+is-bad-place-spec = tie.close (tie.spec (λ c κs. omega (arith, c .before .pre)) (λ c κs. omega (arith, c .before .before .pre)) (λ c κs. omega
+    (arith, c .before .before .before .pre)) returns)

@@ -1,10 +1,10 @@
 -- `checkpoint::load::is_bad_record` meets its contract. Assumes nothing.
-use borrow.Author.Needs.{needs}
 use mathlib.Core.Bool.{Bool, _||_}
 use mathlib.Core.List.{List}
 use mathlib.Core.Path.{_≡_, _∙_}
 use Prim.Native.Nat.{ℕ, _^_}
 use lib.Dec.{leb, ltb}
+use native.Mathlib.Omega.{arith}
 use Rattle.checkpoint.specs.Checkpoints.{sumIn, nIn, badRecord}
 use Rattle.checkpoint.proofs.load.is_bad_record.Statement.{statement}
 use Rattle.checkpoint.proofs.load.is_bad_record.Tie as tie
@@ -20,12 +20,12 @@ pub is-bad-record-spec : {M : Type 1} → statement M
 is-bad-record-spec =
     tie.close
     (tie.spec
-    (λ c. search needs)
-    (λ c. search needs)
-    (λ c κs. search needs)
-    (λ c. search needs)
-    (λ c. search needs)
-    (λ c. search needs)
-    (λ c κs. search needs)
-    (λ c κs. search needs)
+    (λ c. omega (arith, c .before .pre))
+    (λ c. omega (arith, c .before .pre))
+    (λ c κs. omega (arith, c .before .pre))
+    (λ c. omega (arith, c .before .before .pre))
+    (λ c. omega (arith, c .before .before .pre))
+    (λ c. omega (arith, c .before .before .pre))
+    (λ c κs. omega (arith, c .before .before .pre))
+    (λ c κs. tt)
     returns)

@@ -1,9 +1,9 @@
 -- `checkpoint::load::is_bad_sample` meets its contract. Assumes nothing.
-use borrow.Author.Needs.{needs}
 use mathlib.Core.List.{List}
 use mathlib.Core.Path.{_≡_}
 use Prim.Native.Nat.{ℕ, _^_}
 use lib.Dec.{leb}
+use native.Mathlib.Omega.{arith}
 use Rattle.checkpoint.specs.Checkpoints.{storedSample, badSample}
 use Rattle.checkpoint.proofs.load.is_bad_sample.Statement.{statement}
 use Rattle.checkpoint.proofs.load.is_bad_sample.Tie as tie
@@ -16,4 +16,5 @@ returns : tie.Need-returns
 returns c = judged _ _ _ _ _ (c .before .power .ensures .0) (c .be-at .ensures .0)
 
 pub is-bad-sample-spec : {M : Type 1} → statement M
-is-bad-sample-spec = tie.close (tie.spec (λ c κs. search needs) (λ c. search needs) (λ c. search needs) (λ c κs. search needs) returns)
+is-bad-sample-spec = tie.close (tie.spec (λ c κs. omega (arith, c .before .pre)) (λ c. omega (arith, c .before .before .pre)) (λ c. omega
+    (arith, c .before .before .pre)) (λ c κs. omega (arith, c .before .before .pre)) returns)

@@ -1,11 +1,11 @@
 -- `checkpoint::load::is_other` meets its contract. Assumes nothing.
-use borrow.Author.Needs.{needs}
 use mathlib.Core.Bool.{Bool, true, false, not, _||_}
 use mathlib.Core.List.{List}
 use mathlib.Core.Path.{_≡_, sym, _∙_}
 use Prim.Native.Nat.{ℕ}
 use lib.Dec.{eqb}
 use lib.ListN.{getD}
+use native.Mathlib.Omega.{arith}
 use Rattle.checkpoint.specs.Checkpoints.{anyBelow, otherCheckpoint}
 use Rattle.checkpoint.proofs.load.is_other.Statement.{statement}
 use Rattle.checkpoint.proofs.load.is_other.Tie as tie
@@ -27,4 +27,5 @@ returns-2 c = by-block _ _ _ _ (sym (c .before .before .before .has-other-header
 
 pub is-other-spec : {M : Type 1} → statement M
 is-other-spec =
-    tie.close (tie.spec (λ c κs. search needs) returns (λ c. search needs) (λ c κs. search needs) returns-2)
+    tie.close (tie.spec (λ c κs. omega (arith, c .before .before .pre)) returns (λ c. omega (arith, c .before .before .before .before .before .pre))
+    (λ c κs. tt) returns-2)

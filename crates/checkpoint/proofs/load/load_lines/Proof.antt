@@ -1,8 +1,8 @@
 -- `checkpoint::load::load_lines` meets its contract. Assumes nothing.
-use borrow.Author.Needs.{needs}
 use mathlib.Core.List.{List}
 use mathlib.Core.Path.{_≡_}
 use Prim.Native.Nat.{ℕ}
+use native.Mathlib.Omega.{arith}
 use Rattle.checkpoint.specs.Checkpoints.{withSix, withGuards, loadedLines}
 use Rattle.checkpoint.proofs.load.load_lines.Statement.{statement}
 use Rattle.checkpoint.proofs.load.load_lines.Tie as tie
@@ -18,4 +18,6 @@ returns c =
     both _ _ _ _ _ (s .before .load-six .ensures) (g .before .set-near-guards .ensures)
 
 pub load-lines-spec : {M : Type 1} → statement M
-load-lines-spec = tie.close (tie.spec (λ c κs. search needs) (λ c κs. search needs) (λ c. search needs) returns)
+load-lines-spec = tie.close (tie.spec (λ c κs. c .before .before .before .pre) (λ c κs. omega
+    (arith, c .before .before .before .before .before .before .before .pre)) (λ c. omega
+    (arith, c .before .before .before .before .before .before .before .before .before .before .pre)) returns)

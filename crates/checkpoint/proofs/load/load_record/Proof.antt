@@ -1,10 +1,10 @@
 -- `checkpoint::load::load_record` meets its contract. Assumes nothing.
-use borrow.Author.Needs.{needs}
 use mathlib.Core.Bool.{Bool, true, false, _&&_}
 use mathlib.Core.List.{List}
 use mathlib.Core.Path.{_≡_}
 use Prim.Native.Nat.{ℕ, _*_, _%_, min}
 use lib.Dec.{leb}
+use native.Mathlib.Omega.{arith}
 use Rattle.statistics.specs.Statistics.{largestResidual}
 use Rattle.statistics.specs.declared.Record.{Record}
 use Rattle.checkpoint.specs.Checkpoints.{sumIn, nIn, loadedRecord}
@@ -35,17 +35,17 @@ pub load-record-spec : {M : Type 1} → statement M
 load-record-spec =
     tie.close
     (tie.spec
-    (λ c κs. search needs)
+    (λ c κs. tt)
     returns
-    (λ c. search needs)
-    (λ c. search needs)
-    (λ c κs. search needs)
-    (λ c. search needs)
-    (λ c. search needs)
-    (λ c. search needs)
-    (λ c. search needs)
-    (λ c κs. search needs)
-    (λ c. search needs)
-    (λ c. search needs)
-    (λ c κs. search needs)
+    (λ c. omega (arith, c .before .before .before .pre))
+    (λ c. omega (arith, c .before .before .before .pre))
+    (λ c κs. omega (arith, c .before .before .before .pre))
+    (λ c. omega (arith, c .be-at .ensures))
+    (λ c. omega (arith, c .before .before .before .before .pre))
+    (λ c. omega (arith, c .before .before .before .before .pre))
+    (λ c. omega (arith, c .before .before .before .before .pre))
+    (λ c κs. omega (arith, c .before .before .before .before .pre))
+    (λ c. omega (arith, c .be-at2 .ensures))
+    (λ c. omega (arith, c .be-at2 .ensures))
+    (λ c κs. tt)
     returns-2)

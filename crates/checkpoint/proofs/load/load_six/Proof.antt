@@ -1,8 +1,8 @@
 -- `checkpoint::load::load_six` meets its contract, one line after the other. Assumes nothing.
-use borrow.Author.Needs.{needs}
 use mathlib.Core.List.{List}
 use mathlib.Core.Path.{_≡_}
 use Prim.Native.Nat.{ℕ}
+use native.Mathlib.Omega.{arith}
 use Rattle.checkpoint.specs.Checkpoints.{withKept, withSix}
 use Rattle.checkpoint.proofs.load.load_six.Statement.{statement}
 use Rattle.checkpoint.proofs.load.load_six.Tie as tie
@@ -27,11 +27,23 @@ pub load-six-spec : {M : Type 1} → statement M
 load-six-spec =
     tie.close
     (tie.spec
-    (λ c κs. search needs)
-    (λ c κs. search needs)
-    (λ c κs. search needs)
-    (λ c κs. search needs)
-    (λ c κs. search needs)
-    (λ c κs. search needs)
-    (λ c. search needs)
+    (λ c κs. omega (arith, c .before .before .before .pre))
+    (λ c κs. omega (arith, c .before .before .before .before .before .before .before .pre))
+    (λ c κs. omega (arith, c .before .before .before .before .before .before .before .before .before .before .before .pre))
+    (λ c κs. omega (arith, c .before .before .before .before .before .before .before .before .before .before .before .before .before .before .before .pre))
+    (λ c κs. omega (
+      arith,
+      c .before .before .before .before .before .before .before .before .before .before .before .before .before .before .before .before .before
+          .before .before .pre,
+    ))
+    (λ c κs. omega (
+      arith,
+      c .before .before .before .before .before .before .before .before .before .before .before .before .before .before .before .before .before
+          .before .before .before .before .before .before .pre,
+    ))
+    (λ c. omega (
+      arith,
+      c .before .before .before .before .before .before .before .before .before .before .before .before .before .before .before .before .before
+          .before .before .before .before .before .before .before .before .before .pre,
+    ))
     returns)

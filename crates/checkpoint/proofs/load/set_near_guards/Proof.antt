@@ -1,8 +1,8 @@
 -- `checkpoint::load::set_near_guards` meets its contract, one line after the other. Assumes nothing.
-use borrow.Author.Needs.{needs}
 use mathlib.Core.List.{List}
 use mathlib.Core.Path.{_≡_}
 use Prim.Native.Nat.{ℕ}
+use native.Mathlib.Omega.{arith}
 use Rattle.lines.specs.ColourLines.{guarded}
 use Rattle.checkpoint.specs.Checkpoints.{withGuards}
 use Rattle.checkpoint.proofs.load.set_near_guards.Statement.{statement}
@@ -20,4 +20,7 @@ returns c =
     all-three _ _ _ _ _ (m₁ .before .set-guards .ensures) (m₂ .before .set-guards2 .ensures) (m₃ .before .set-guards3 .ensures)
 
 pub set-near-guards-spec : {M : Type 1} → statement M
-set-near-guards-spec = tie.close (tie.spec (λ c κs. search needs) (λ c κs. search needs) (λ c κs. search needs) (λ c. search needs) returns)
+set-near-guards-spec = tie.close (tie.spec (λ c κs. omega (arith, c .before .before .pre)) (λ c κs. omega
+    (arith, c .before .before .before .before .before .before .pre)) (λ c κs. omega
+    (arith, c .before .before .before .before .before .before .before .before .before .before .pre)) (λ c. omega
+    (arith, c .before .before .before .before .before .before .before .before .before .before .before .before .before .pre)) returns)

@@ -1,5 +1,4 @@
 -- `map::windows::emit_cell` meets its contract: the cell shows another line, its row is not of the part, or its columns are stored. Assumes nothing.
-use borrow.Author.Needs.{needs}
 use mathlib.Core.Path.{_≡_, refl, sym, _∙_}
 use Prim.Native.Nat.{ℕ, _+_, _-_, _*_, _/_, _≤_, _<_}
 use native.Mathlib.Omega.{arith}
@@ -56,18 +55,33 @@ pub emit-cell-spec : {M : Type 1} → statement M
 emit-cell-spec =
     tie.close
     (tie.spec
-    (λ c. search needs)
-    (λ c κs. search needs)
+    (λ c. c .before .before .pre .0 .1 .0)
+    (λ c κs. omega (arith, c .before .before .pre .0 .1 .0))
     returns
-    (λ c. search needs)
-    (λ c. search needs)
+    (λ c. omega (arith, c .before .before .before .before .pre .0 .0))
+    (λ c. omega (arith, c .before .before .before .before .pre .0 .0, c .before .before .before .before .pre .0 .1 .0))
     returns-2
     returns-3
     mul-at
     add-at
-    (λ c. search needs)
-    (λ c. search needs)
-    (λ c. search needs)
+    (λ c. omega (
+      arith,
+      c .before .before .before .before .before .before .before .pre .0 .1 .1 .1 .1,
+      c .before .before .before .before .before .before .before
+          .good,
+    ))
+    (λ c. omega (
+      arith,
+      c .before .before .before .before .before .before .before .pre .0 .1 .1 .1 .1,
+      c .before .before .before .before .before .before .before
+          .good,
+    ))
+    (λ c. omega (
+      arith,
+      c .before .before .before .before .before .before .before .pre .0 .1 .1 .1 .1,
+      c .before .before .before .before .before .before .before
+          .good,
+    ))
     emit-column-requires
-    (λ c. search needs)
+    (λ c. c .before .before .emit-column .kept .1 .0)
     returns-4)

@@ -44,8 +44,8 @@ emit-colour-spec =
     μ-loop
     loop-holds
     emit-cell-requires
-    (λ c. search needs)
-    (λ c. search needs)
+    (λ c. omega (arith, c .before .before .before .before .before .loop .inv))
+    (λ c. omega (arith, c .before .before .before .before .before .before .before .before .pre))
     loop-again
-    (λ c. search needs)
+    (λ c. omega (arith, c .before .before .before .before .pre))
     returns)

@@ -40,7 +40,7 @@ value lines xtrans start p left at r h e =
     rw (q, e)
 
 first-column-requires : tie.Need-first-column-requires Inv-loop μ-loop
-first-column-requires c κs = search needs
+first-column-requires c κs = omega (arith, c .before .before .pre)
 
 loop-holds : tie.Need-loop-holds Inv-loop μ-loop
 loop-holds c =
@@ -77,12 +77,12 @@ emit-column-spec =
     (λ c. search (needs, read c))
     (λ c. search (needs, read c))
     (λ c. read (c .before))
-    (λ c. search needs)
-    (λ c. search needs)
-    (λ c. search needs)
-    (λ c. search needs)
-    (λ c. search needs)
-    (λ c. search needs)
+    (λ c. omega (arith, c .before .before .before .before .before .before .before .pre))
+    (λ c. omega (arith, c .before .before .before .before .before .before .before .pre))
+    (λ c. omega (arith, c .before .before .before .before .before .before .before .pre))
+    (λ c. omega (arith, c .before .before .before .before .before .before .before .pre))
+    (λ c. omega (arith, c .before .before .before .loop .inv))
+    (λ c. omega (arith, c .before .before .before .before .before .before .before .pre))
     loop-again
-    (λ c. search needs)
+    (λ c. omega (arith, c .before .before .before .before .before .pre))
     returns)

@@ -1,6 +1,6 @@
 -- `map::windows::emit_line_if` meets its contract. Assumes nothing.
-use borrow.Author.Needs.{needs}
 use mathlib.Core.Path.{_≡_, refl}
+use native.Mathlib.Omega.{arith}
 use Rattle.map.proofs.WindowLaws.{if-wanted, changed-none, not-wanted}
 use Rattle.map.proofs.windows.emit_line_if.Statement.{statement}
 use Rattle.map.proofs.windows.emit_line_if.Tie as tie
@@ -17,4 +17,5 @@ returns-2 : tie.Need-returns-2
 returns-2 c = not-wanted _ _ _ _ (c .if1 .left)
 
 pub emit-line-if-spec : {M : Type 1} → statement M
-emit-line-if-spec = tie.close (tie.spec emit-line-requires (λ c. search needs) returns returns-2)
+emit-line-if-spec = tie.close (tie.spec emit-line-requires (λ c. omega (arith, c .before .before .before .before .before .before .before .pre))
+    returns returns-2)

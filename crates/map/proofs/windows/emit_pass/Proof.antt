@@ -1,6 +1,7 @@
 -- `map::windows::emit_pass` meets its contract. Assumes nothing.
 use borrow.Author.Needs.{needs}
 use borrow.Author.Tests.{not-true, not-false}
+use native.Mathlib.Omega.{arith}
 use Rattle.map.proofs.PartLaws.{fits-kept}
 use Rattle.map.proofs.WindowLaws.{pass-not-wanted, pass-put}
 use Rattle.map.proofs.windows.emit_pass.Statement.{statement}
@@ -27,4 +28,5 @@ returns-2 c =
 
 pub emit-pass-spec : {M : Type 1} → statement M
 emit-pass-spec =
-    tie.close (tie.spec returns (λ c κs. search needs) emit-colour-requires-2 (λ c. search needs) returns-2)
+    tie.close (tie.spec returns (λ c κs. search needs) emit-colour-requires-2 (λ c. omega
+    (arith, c .before .before .before .before .before .before .before .before .before .before .before .pre)) returns-2)

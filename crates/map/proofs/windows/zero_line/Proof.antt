@@ -54,11 +54,11 @@ zero-line-spec =
     μ-loop
     returns
     loop-holds
-    (λ c. search needs)
-    (λ c. search needs)
+    (λ c. omega (arith, c .before .before .before .before .before .pre))
+    (λ c. omega (arith, c .before .before .before .before .before .pre))
     zero-row-requires
-    (λ c. search needs)
-    (λ c. search needs)
+    (λ c. omega (arith, c .before .before .before .before .before .loop .inv))
+    (λ c. omega (arith, c .before .before .before .before .before .before .before .before .pre))
     loop-again
-    (λ c. search needs)
+    (λ c. omega (arith, c .before .before .before .before .pre))
     returns-2)

@@ -74,8 +74,8 @@ zero-row-spec =
     (λ c. search (needs, written c))
     (λ c. search (needs, written c))
     (λ c. omega (arith, written c, c .before .loop .inv .1 .kept))
-    (λ c. search needs)
-    (λ c. search needs)
+    (λ c. omega (arith, c .before .loop .inv))
+    (λ c. omega (arith, c .before .before .before .before .pre))
     loop-again
-    (λ c. search needs)
+    (λ c. omega (arith, c .before .before .before .before .pre))
     returns-3)

@@ -1,4 +1,5 @@
 -- Written by tools/lend.py from Rattle's derivation of the twin of `pump_answers`; not edited by hand. Assumes nothing.
+use mathlib.Core.List.{_∷_, []}
 use Rattle.bits.proofs.Held
 use Prim.Native.Nat
 use borrow.Fn.Kinds
@@ -13,8 +14,8 @@ use mathlib.Core.Path as Path'
 use mir.Syntax
 
 abbrev pub ps : List.List (Kinds.PK 2)
-ps = List._∷_ (MutRefTo.pMutTo (Held.slot 1 tt) (Syntax.wrote (Held.behind (Syntax.named 1))) (λ κs. Path'.refl) Held.Value (AtSlots.one-type 2 Held.Value) 0 tt) (List._∷_ (Kinds.pNum Syntax.w32)
-    (List._∷_ (Kinds.pNum Syntax.w32) List.[]))
+ps = (MutRefTo.pMutTo (Held.slot 1 tt) (Syntax.wrote (Held.behind (Syntax.named 1))) (λ κs. Path'.refl) Held.Value (AtSlots.one-type 2 Held.Value) 0 tt) ∷ (Kinds.pNum Syntax.w32) ∷ (Kinds.pNum
+    Syntax.w32) ∷ []
 
 abbrev pub r : Kinds.RK 2
-r = Kinds.rWhere (List._∷_ record { long = 1; short = 0; long-ok = tt; short-ok = tt } List.[]) (Kinds.rNum Syntax.w32)
+r = Kinds.rWhere (record { long = 1; short = 0; long-ok = tt; short-ok = tt } ∷ []) (Kinds.rNum Syntax.w32)

@@ -1,11 +1,12 @@
 -- Written by tools/lend.py from Rattle's derivation of the twin of `pump_answers`; not edited by hand. Assumes nothing.
+use Rattle.bits.proofs.Values.{n8}
+use mathlib.Core.List.{_∷_, []}
 use Rattle.bits.proofs.Held
 use Prim.Native.Nat
 use borrow.Fn.Kinds
 use borrow.Kind.MutRefTo
 use borrow.Kind.ShrSlice
 use borrow.Rule.AtSlots
-use borrow.Table.Referent
 use denote.Ref
 use denote.Signature
 use denote.Signature.Array
@@ -14,8 +15,7 @@ use mathlib.Core.Path as Path'
 use mir.Syntax
 
 abbrev pub ps : List.List (Kinds.PK 2)
-ps = List._∷_ (MutRefTo.pMutTo (Held.slot 1 tt) (Syntax.wrote (Held.behind (Syntax.named 1))) (λ κs. Path'.refl) Held.Value (AtSlots.one-type 2 Held.Value) 0 tt) (List._∷_ (ShrSlice.pShrS
-    (Referent.rtF (Referent.fInt Syntax.w8)) 1 tt) List.[])
+ps = (MutRefTo.pMutTo (Held.slot 1 tt) (Syntax.wrote (Held.behind (Syntax.named 1))) (λ κs. Path'.refl) Held.Value (AtSlots.one-type 2 Held.Value) 0 tt) ∷ (ShrSlice.pShrS n8 1 tt) ∷ []
 
 abbrev pub r : Kinds.RK 2
-r = Kinds.rWhere (List._∷_ record { long = 1; short = 0; long-ok = tt; short-ok = tt } List.[]) (Kinds.rNum Syntax.w64)
+r = Kinds.rWhere (record { long = 1; short = 0; long-ok = tt; short-ok = tt } ∷ []) (Kinds.rNum Syntax.w64)

@@ -1,4 +1,7 @@
 -- Written by tools/lend.py from Rattle's derivation of the twin of `block`; not edited by hand. Assumes nothing.
+use Rattle.bits.proofs.Values
+use Rattle.bits.proofs.Values.{n16, n8}
+use mathlib.Core.List.{_∷_, []}
 use Rattle.block.proofs.Element
 use Rattle.block.proofs.Decoded
 use Rattle.block.proofs.Decoded.Laws
@@ -8,58 +11,13 @@ use borrow.Fn.Kinds
 use borrow.Kind.Array
 use borrow.Kind.MutSlice
 use borrow.Kind.ShrSlice
-use borrow.Kind.Value
-use borrow.Rule.Local
-use borrow.Table.Referent
-use borrow.Table.Rows
 use denote.Array as Array'
-use denote.Enum.Declared
-use denote.Enum.Laws as Laws''
-use denote.Exit
-use denote.Struct.Declared as Declared'
-use denote.Struct.Laws as Laws'3
 use mathlib.Core.List
-use mathlib.Core.Path as Path'
 use mir.Syntax
 
 abbrev pub ps : List.List (Kinds.PK 4)
-ps = List._∷_ (ShrSlice.pShrS (Referent.rtF (Referent.fInt Syntax.w8)) 0 tt) (List._∷_ (Value.pVal record {
-  ty = Declared'.row Rect.the-type;
-  one = Path'.refl;
-  val = Laws'3.val Rect.the-type Laws'.the-laws;
-  tells = Laws'3.tells Rect.the-type Laws'.the-laws;
-  still = Laws'3.still Rect.the-type
-      Laws'.the-copy Exit.yes;
-  row = Rows.whole (Declared'.row Rect.the-type);
-  rd = λ x. x;
-  mk = λ x. x;
-} λ M 𝓤 H A W. record {
-  copies = Laws'3.copy Rect.the-type Laws'.the-copy 𝓤 H A W;
-  lawful = Laws'3.lawful Rect.the-type Laws'.the-laws 𝓤 H A W;
-  makes = Laws'3.makes Rect.the-type Laws'.the-plain 𝓤 H A;
-  in-mem =
-      Local.mem-whole 𝓤 H A W (Declared'.row Rect.the-type);
-  of-mem = Local.whole-mem 𝓤 H A W (Declared'.row Rect.the-type);
-}) (List._∷_ (Array.pArr (Array.eInt Syntax.w8) (Array.eInt-laws Syntax.w8) 36)
-    (List._∷_ (MutSlice.pMutS (Referent.rtF (Referent.fInt Syntax.w16)) 1 tt) (List._∷_ (MutSlice.pMutS (Referent.rtF (Referent.fInt Syntax.w16)) 2 tt) (List._∷_ (MutSlice.pMutS (Element.type) 3 tt)
-    List.[])))))
+ps = (ShrSlice.pShrS n8 0 tt) ∷ (Values.struct Rect.the-type Laws'.the-laws Laws'.the-copy Laws'.the-plain) ∷ (Array.pArr (Array.eInt Syntax.w8) (Array.eInt-laws Syntax.w8) 36) ∷ (MutSlice.pMutS n16 1
+    tt) ∷ (MutSlice.pMutS n16 2 tt) ∷ (MutSlice.pMutS (Element.type) 3 tt) ∷ []
 
 abbrev pub r : Kinds.RK 4
-r = Value.rVal record {
-  ty = Declared.row Decoded.the-type;
-  one = Path'.refl;
-  val = Laws''.val Decoded.the-type Laws.the-laws;
-  tells = Laws''.tells Decoded.the-type Laws.the-laws;
-  still = Laws''.still Decoded.the-type
-      Laws.the-copy Exit.yes;
-  row = Rows.whole (Declared.row Decoded.the-type);
-  rd = λ x. x;
-  mk = λ x. x;
-} λ M 𝓤 H A W. record {
-  copies = Laws''.copy Decoded.the-type Laws.the-copy 𝓤 H A W;
-  lawful = Laws''.lawful Decoded.the-type Laws.the-laws 𝓤 H A W tt;
-  makes = Laws''.makes Decoded.the-type Laws.the-plain 𝓤 H A;
-  in-mem =
-      Local.mem-whole 𝓤 H A W (Declared.row Decoded.the-type);
-  of-mem = Local.whole-mem 𝓤 H A W (Declared.row Decoded.the-type);
-}
+r = Values.enum-result Decoded.the-type Laws.the-laws Laws.the-copy Laws.the-plain tt

@@ -1,4 +1,7 @@
 -- Written by tools/lend.py from Rattle's derivation of the twin of `block`; not edited by hand. Assumes nothing.
+use Rattle.bits.proofs.Values
+use Rattle.bits.proofs.Values.{n16, n8}
+use mathlib.Core.List.{_∷_, []}
 use Rattle.block.proofs.Element
 use Rattle.block.proofs.Form
 use Rattle.block.proofs.Form.Laws
@@ -14,108 +17,15 @@ use borrow.Fn.Kinds
 use borrow.Kind.Array
 use borrow.Kind.MutSlice
 use borrow.Kind.ShrSlice
-use borrow.Kind.Value
-use borrow.Rule.Local
-use borrow.Table.Referent
-use borrow.Table.Rows
 use denote.Array as Array'
-use denote.Enum.Declared
-use denote.Enum.Laws as Laws'5
-use denote.Exit
-use denote.Struct.Declared as Declared'
-use denote.Struct.Laws as Laws'6
 use mathlib.Core.List
-use mathlib.Core.Path as Path'
 use mir.Syntax
 
 abbrev pub ps : List.List (Kinds.PK 5)
-ps = List._∷_ (ShrSlice.pShrS (Referent.rtF (Referent.fInt Syntax.w8)) 0 tt) (List._∷_ (Value.pVal record {
-  ty = Declared'.row Place.the-type;
-  one = Path'.refl;
-  val = Laws'6.val Place.the-type Laws''.the-laws;
-  tells = Laws'6.tells Place.the-type Laws''.the-laws;
-  still = Laws'6.still Place.the-type
-      Laws''.the-copy Exit.yes;
-  row = Rows.whole (Declared'.row Place.the-type);
-  rd = λ x. x;
-  mk = λ x. x;
-} λ M 𝓤 H A W. record {
-  copies = Laws'6.copy Place.the-type Laws''.the-copy 𝓤 H A W;
-  lawful = Laws'6.lawful Place.the-type Laws''.the-laws 𝓤 H A W;
-  makes = Laws'6.makes Place.the-type Laws''.the-plain 𝓤 H A;
-  in-mem =
-      Local.mem-whole 𝓤 H A W (Declared'.row Place.the-type);
-  of-mem = Local.whole-mem 𝓤 H A W (Declared'.row Place.the-type);
-}) (List._∷_ (MutSlice.pMutS (Referent.rtF (Referent.fInt Syntax.w16)) 1 tt)
-    (List._∷_ (MutSlice.pMutS (Element.type) 2 tt) (List._∷_ (MutSlice.pMutS (Referent.rtF (Referent.fInt Syntax.w16)) 3 tt) (List._∷_ (Value.pVal record {
-      ty = Declared'.row Form.the-type;
-      one = Path'.refl;
-      val = Laws'6.val Form.the-type Laws.the-laws;
-      tells = Laws'6.tells Form.the-type Laws.the-laws;
-      still = Laws'6.still Form.the-type Laws.the-copy
-          Exit.yes;
-      row = Rows.whole (Declared'.row Form.the-type);
-      rd = λ x. x;
-      mk = λ x. x;
-    } λ M 𝓤 H A W. record {
-      copies = Laws'6.copy Form.the-type Laws.the-copy 𝓤 H A W;
-      lawful = Laws'6.lawful Form.the-type Laws.the-laws 𝓤 H A W;
-      makes = Laws'6.makes Form.the-type Laws.the-plain 𝓤 H A;
-      in-mem =
-          Local.mem-whole 𝓤 H A W (Declared'.row Form.the-type);
-      of-mem = Local.whole-mem 𝓤 H A W (Declared'.row Form.the-type);
-    }) (List._∷_ (Value.pVal record {
-      ty = Declared'.row Quantisers.the-type;
-      one = Path'.refl;
-      val = Laws'6.val Quantisers.the-type Laws'4.the-laws;
-      tells = Laws'6.tells Quantisers.the-type Laws'4.the-laws;
-      still = Laws'6.still
-          Quantisers.the-type Laws'4.the-copy Exit.yes;
-      row = Rows.whole (Declared'.row Quantisers.the-type);
-      rd = λ x. x;
-      mk = λ x. x;
-    } λ M 𝓤 H A W. record {
-      copies = Laws'6.copy Quantisers.the-type Laws'4.the-copy 𝓤 H A W;
-      lawful = Laws'6.lawful Quantisers.the-type Laws'4.the-laws 𝓤 H A W;
-      makes = Laws'6.makes Quantisers.the-type Laws'4.the-plain 𝓤 H A;
-      in-mem = Local.mem-whole 𝓤 H A W (Declared'.row Quantisers.the-type);
-      of-mem = Local.whole-mem 𝓤 H A W (Declared'.row Quantisers.the-type);
-    }) (List._∷_ (Kinds.pShr (Array'.Array (Referent.rtF
-    (Referent.fInt Syntax.w16)) 768) 4 tt) (List._∷_ (Array.pArr (Array.eInt Syntax.w8) (Array.eInt-laws Syntax.w8) 36) (List._∷_ (Value.pVal record {
-      ty = Declared'.row Part.the-type;
-      one = Path'.refl;
-      val = Laws'6.val Part.the-type Laws'3.the-laws;
-      tells = Laws'6.tells Part.the-type Laws'3.the-laws;
-      still = Laws'6.still Part.the-type
-          Laws'3.the-copy Exit.yes;
-      row = Rows.whole (Declared'.row Part.the-type);
-      rd = λ x. x;
-      mk = λ x. x;
-    } λ M 𝓤 H A W. record {
-      copies = Laws'6.copy Part.the-type Laws'3.the-copy 𝓤 H A W;
-      lawful = Laws'6.lawful Part.the-type Laws'3.the-laws 𝓤 H A W;
-      makes = Laws'6.makes Part.the-type Laws'3.the-plain 𝓤 H A;
-      in-mem =
-          Local.mem-whole 𝓤 H A W (Declared'.row Part.the-type);
-      of-mem = Local.whole-mem 𝓤 H A W (Declared'.row Part.the-type);
-    }) (List._∷_ (Kinds.pNum Syntax.w64) (List._∷_ Kinds.pBool List.[])))))))))))
+ps = (ShrSlice.pShrS n8 0 tt) ∷ (Values.struct Place.the-type Laws''.the-laws Laws''.the-copy Laws''.the-plain) ∷ (MutSlice.pMutS n16 1 tt) ∷ (MutSlice.pMutS (Element.type) 2 tt) ∷ (MutSlice.pMutS n16
+    3 tt) ∷ (Values.struct Form.the-type Laws.the-laws Laws.the-copy Laws.the-plain) ∷ (Values.struct Quantisers.the-type Laws'4.the-laws Laws'4.the-copy Laws'4.the-plain) ∷ (Kinds.pShr (Array'.Array n16
+    768) 4 tt) ∷ (Array.pArr (Array.eInt Syntax.w8) (Array.eInt-laws Syntax.w8) 36) ∷ (Values.struct Part.the-type Laws'3.the-laws Laws'3.the-copy Laws'3.the-plain) ∷ (Kinds.pNum Syntax.w64) ∷ Kinds.pBool
+    ∷ []
 
 abbrev pub r : Kinds.RK 5
-r = Value.rVal record {
-  ty = Declared.row Lined.the-type;
-  one = Path'.refl;
-  val = Laws'5.val Lined.the-type Laws'.the-laws;
-  tells = Laws'5.tells Lined.the-type Laws'.the-laws;
-  still = Laws'5.still Lined.the-type
-      Laws'.the-copy Exit.yes;
-  row = Rows.whole (Declared.row Lined.the-type);
-  rd = λ x. x;
-  mk = λ x. x;
-} λ M 𝓤 H A W. record {
-  copies = Laws'5.copy Lined.the-type Laws'.the-copy 𝓤 H A W;
-  lawful = Laws'5.lawful Lined.the-type Laws'.the-laws 𝓤 H A W tt;
-  makes = Laws'5.makes Lined.the-type Laws'.the-plain 𝓤 H A;
-  in-mem =
-      Local.mem-whole 𝓤 H A W (Declared.row Lined.the-type);
-  of-mem = Local.whole-mem 𝓤 H A W (Declared.row Lined.the-type);
-}
+r = Values.enum-result Lined.the-type Laws'.the-laws Laws'.the-copy Laws'.the-plain tt

@@ -1,4 +1,5 @@
 -- Written by tools/lend.py from Rattle's derivation of the twin of `block`; not edited by hand. Assumes nothing.
+use mathlib.Core.List.{_∷_, []}
 use Rattle.block.proofs.Element
 use borrow.Fn.Kinds
 use borrow.Kind.MutSlice
@@ -8,7 +9,7 @@ use mathlib.Core.List
 use mir.Syntax
 
 abbrev pub ps : List.List (Kinds.PK 1)
-ps = List._∷_ (MutSlice.pMutS (Element.type) 0 tt) List.[]
+ps = (MutSlice.pMutS (Element.type) 0 tt) ∷ []
 
 abbrev pub r : Kinds.RK 1
 r = Kinds.rUnit

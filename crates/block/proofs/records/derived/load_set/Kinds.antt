@@ -1,39 +1,18 @@
 -- Written by tools/lend.py from Rattle's derivation of the twin of `block`; not edited by hand. Assumes nothing.
+use Rattle.bits.proofs.Values
+use mathlib.Core.List.{_∷_, []}
 use Rattle.block.proofs.Element
 use Rattle.steps.proofs.Set
 use Rattle.steps.proofs.Set.Laws
 use borrow.Fn.Kinds
 use borrow.Kind.MutSlice
-use borrow.Kind.Value
-use borrow.Rule.Local
 use borrow.Table.Referent
-use borrow.Table.Rows
 use denote.Array
-use denote.Exit
-use denote.Struct.Declared
-use denote.Struct.Laws as Laws'
 use mathlib.Core.List
-use mathlib.Core.Path as Path'
 use mir.Syntax
 
 abbrev pub ps : List.List (Kinds.PK 1)
-ps = List._∷_ (MutSlice.pMutS (Element.type) 0 tt) (List._∷_ (Kinds.pNum Syntax.w64) List.[])
+ps = (MutSlice.pMutS (Element.type) 0 tt) ∷ (Kinds.pNum Syntax.w64) ∷ []
 
 abbrev pub r : Kinds.RK 1
-r = Value.rVal record {
-  ty = Declared.row Set.the-type;
-  one = Path'.refl;
-  val = Laws'.val Set.the-type Laws.the-laws;
-  tells = Laws'.tells Set.the-type Laws.the-laws;
-  still = Laws'.still Set.the-type Laws.the-copy Exit.yes;
-  row = Rows.whole (Declared.row Set.the-type);
-  rd = λ x. x;
-  mk = λ x. x;
-} λ M 𝓤 H A W. record {
-  copies = Laws'.copy Set.the-type Laws.the-copy 𝓤 H A W;
-  lawful = Laws'.lawful Set.the-type Laws.the-laws 𝓤 H A W;
-  makes = Laws'.makes Set.the-type Laws.the-plain 𝓤 H A;
-  in-mem = Local.mem-whole 𝓤 H
-      A W (Declared.row Set.the-type);
-  of-mem = Local.whole-mem 𝓤 H A W (Declared.row Set.the-type);
-}
+r = Values.struct-result Set.the-type Laws.the-laws Laws.the-copy Laws.the-plain

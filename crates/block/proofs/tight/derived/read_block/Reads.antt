@@ -42,12 +42,14 @@ module _ (κs : Lifetimes.Lfts 3) where
   abbrev pub pre-read : (a : World.ArgsD read_block.signature κs) → (g : Ghost) → Read.Read (World.In read_block.signature κs a) Read.no-know (requires a g)
   pre-read = λ a g. Read.all-models (requires a g) (λ w. search Read.reads) (λ w. Path'.refl) (λ w. Path'.refl) λ w. Path'.refl
 
-  abbrev pub ensures-1·read : (a : World.ArgsD read_block.signature κs) → (g : Ghost) → (r : World.ResD read_block.signature κs) → (s : Clauses.AtExit (Kinds'.endedOf 3 Kinds.ps Kinds.r) κs) →
-      Read.Read (Base a) (Owned r s) λ w. read_block.ensures-1 (w .𝓤) (w .H) κs (w .𝓖 .A) (w .𝓜 .mem) (w .𝓡 .run) (a .0) (a .1 .0) (a .1 .1 .0) (a .1 .1 .1 .0) record { entry = a .0; exit = s .0 } record
+  abbrev ensures-1·at : (a : World.ArgsD read_block.signature κs) → (r : World.ResD read_block.signature κs) → (s : Clauses.AtExit (Kinds'.endedOf 3 Kinds.ps Kinds.r) κs) → (w : World.World) →
+      World.Pr w
+  ensures-1·at = λ a r s w. read_block.ensures-1 (w .𝓤) (w .H) κs (w .𝓖 .A) (w .𝓜 .mem) (w .𝓡 .run) (a .0) (a .1 .0) (a .1 .1 .0) (a .1 .1 .1 .0) record { entry = a .0; exit = s .0 } record
       { entry = a .1 .0; exit = s .1 .0 } record { entry = a .1 .1 .0; exit = s .1 .1 .0 } record { entry = a .1 .1 .1 .0; exit = s .1 .1 .1 .0 } r
-  ensures-1·read = λ a g r s. Read.all-models (λ w. read_block.ensures-1 (w .𝓤) (w .H) κs (w .𝓖 .A) (w .𝓜 .mem) (w .𝓡 .run) (a .0) (a .1 .0) (a .1 .1 .0) (a .1 .1 .1 .0) record
-      { entry = a .0; exit = s .0 } record { entry = a .1 .0; exit = s .1 .0 } record { entry = a .1 .1 .0; exit = s .1 .1 .0 } record { entry = a .1 .1 .1 .0; exit = s .1 .1 .1 .0 } r) (λ w. search
-      Read.reads) (λ w. Path'.refl) (λ w. Path'.refl) λ w. Path'.refl
+
+  abbrev pub ensures-1·read : (a : World.ArgsD read_block.signature κs) → (g : Ghost) → (r : World.ResD read_block.signature κs) → (s : Clauses.AtExit (Kinds'.endedOf 3 Kinds.ps Kinds.r) κs) →
+      Read.Read (Base a) (Owned r s) (ensures-1·at a r s)
+  ensures-1·read = λ a g r s. Read.all-models (ensures-1·at a r s) (λ w. search Read.reads) (λ w. Path'.refl) (λ w. Path'.refl) λ w. Path'.refl
 
   abbrev pub post-read : (a : World.ArgsD read_block.signature κs) → (g : Ghost) → (r : World.ResD read_block.signature κs) → (s : Clauses.AtExit (Kinds'.endedOf 3 Kinds.ps Kinds.r) κs) → Read.Read
       (Base a) (Owned r s) (ensures a g r s)

@@ -1,42 +1,19 @@
 -- Written by tools/lend.py from Rattle's derivation of the twin of `block`; not edited by hand. Assumes nothing.
+use Rattle.bits.proofs.Values
+use Rattle.bits.proofs.Values.{n16, n8}
+use mathlib.Core.List.{_∷_, []}
 use Rattle.block.proofs.Element
 use Rattle.block.proofs.Counted
 use Rattle.block.proofs.Counted.Laws
 use borrow.Fn.Kinds
 use borrow.Kind.MutSlice
 use borrow.Kind.ShrSlice
-use borrow.Kind.Value
-use borrow.Rule.Local
-use borrow.Table.Referent
-use borrow.Table.Rows
 use denote.Array
-use denote.Exit
-use denote.Struct.Declared
-use denote.Struct.Laws as Laws'
 use mathlib.Core.List
-use mathlib.Core.Path as Path'
 use mir.Syntax
 
 abbrev pub ps : List.List (Kinds.PK 3)
-ps = List._∷_ (ShrSlice.pShrS (Referent.rtF (Referent.fInt Syntax.w8)) 0 tt) (List._∷_ (Kinds.pNum Syntax.w64) (List._∷_ (MutSlice.pMutS (Referent.rtF (Referent.fInt Syntax.w16)) 1 tt) (List._∷_
-    (MutSlice.pMutS (Element.type) 2 tt) List.[])))
+ps = (ShrSlice.pShrS n8 0 tt) ∷ (Kinds.pNum Syntax.w64) ∷ (MutSlice.pMutS n16 1 tt) ∷ (MutSlice.pMutS (Element.type) 2 tt) ∷ []
 
 abbrev pub r : Kinds.RK 3
-r = Value.rVal record {
-  ty = Declared.row Counted.the-type;
-  one = Path'.refl;
-  val = Laws'.val Counted.the-type Laws.the-laws;
-  tells = Laws'.tells Counted.the-type Laws.the-laws;
-  still = Laws'.still Counted.the-type
-      Laws.the-copy Exit.yes;
-  row = Rows.whole (Declared.row Counted.the-type);
-  rd = λ x. x;
-  mk = λ x. x;
-} λ M 𝓤 H A W. record {
-  copies = Laws'.copy Counted.the-type Laws.the-copy 𝓤 H A W;
-  lawful = Laws'.lawful Counted.the-type Laws.the-laws 𝓤 H A W;
-  makes = Laws'.makes Counted.the-type Laws.the-plain 𝓤 H A;
-  in-mem =
-      Local.mem-whole 𝓤 H A W (Declared.row Counted.the-type);
-  of-mem = Local.whole-mem 𝓤 H A W (Declared.row Counted.the-type);
-}
+r = Values.struct-result Counted.the-type Laws.the-laws Laws.the-copy Laws.the-plain

@@ -1,4 +1,7 @@
 -- Written by tools/lend.py from Rattle's derivation of the twin of `block`; not edited by hand. Assumes nothing.
+use Rattle.bits.proofs.Values
+use Rattle.bits.proofs.Values.{n16, n8}
+use mathlib.Core.List.{_∷_, []}
 use Rattle.block.proofs.Element
 use Rattle.block.proofs.Walked
 use Rattle.block.proofs.Walked.Laws
@@ -7,56 +10,13 @@ use Rattle.stream.proofs.FujiHeader.Laws as Laws'
 use borrow.Fn.Kinds
 use borrow.Kind.MutSlice
 use borrow.Kind.ShrSlice
-use borrow.Kind.Value
-use borrow.Rule.Local
-use borrow.Table.Referent
-use borrow.Table.Rows
 use denote.Array
-use denote.Enum.Declared
-use denote.Enum.Laws as Laws''
-use denote.Exit
-use denote.Struct.Declared as Declared'
-use denote.Struct.Laws as Laws'3
 use mathlib.Core.List
-use mathlib.Core.Path as Path'
 use mir.Syntax
 
 abbrev pub ps : List.List (Kinds.PK 3)
-ps = List._∷_ (ShrSlice.pShrS (Referent.rtF (Referent.fInt Syntax.w8)) 0 tt) (List._∷_ (Value.pVal record {
-  ty = Declared'.row FujiHeader.the-type;
-  one = Path'.refl;
-  val = Laws'3.val FujiHeader.the-type Laws'.the-laws;
-  tells = Laws'3.tells FujiHeader.the-type Laws'.the-laws;
-  still = Laws'3.still
-      FujiHeader.the-type Laws'.the-copy Exit.yes;
-  row = Rows.whole (Declared'.row FujiHeader.the-type);
-  rd = λ x. x;
-  mk = λ x. x;
-} λ M 𝓤 H A W. record {
-  copies = Laws'3.copy FujiHeader.the-type Laws'.the-copy 𝓤 H A W;
-  lawful = Laws'3.lawful FujiHeader.the-type Laws'.the-laws 𝓤 H A W;
-  makes = Laws'3.makes FujiHeader.the-type Laws'.the-plain 𝓤 H A;
-  in-mem = Local.mem-whole 𝓤 H A W (Declared'.row FujiHeader.the-type);
-  of-mem = Local.whole-mem 𝓤 H A W (Declared'.row FujiHeader.the-type);
-}) (List._∷_ (Kinds.pNum Syntax.w64) (List._∷_
-    (MutSlice.pMutS (Referent.rtF (Referent.fInt Syntax.w16)) 1 tt) (List._∷_ (MutSlice.pMutS (Element.type) 2 tt) List.[]))))
+ps = (ShrSlice.pShrS n8 0 tt) ∷ (Values.struct FujiHeader.the-type Laws'.the-laws Laws'.the-copy Laws'.the-plain) ∷ (Kinds.pNum Syntax.w64) ∷ (MutSlice.pMutS n16 1 tt) ∷ (MutSlice.pMutS (Element.type)
+    2 tt) ∷ []
 
 abbrev pub r : Kinds.RK 3
-r = Value.rVal record {
-  ty = Declared.row Walked.the-type;
-  one = Path'.refl;
-  val = Laws''.val Walked.the-type Laws.the-laws;
-  tells = Laws''.tells Walked.the-type Laws.the-laws;
-  still = Laws''.still Walked.the-type
-      Laws.the-copy Exit.yes;
-  row = Rows.whole (Declared.row Walked.the-type);
-  rd = λ x. x;
-  mk = λ x. x;
-} λ M 𝓤 H A W. record {
-  copies = Laws''.copy Walked.the-type Laws.the-copy 𝓤 H A W;
-  lawful = Laws''.lawful Walked.the-type Laws.the-laws 𝓤 H A W tt;
-  makes = Laws''.makes Walked.the-type Laws.the-plain 𝓤 H A;
-  in-mem =
-      Local.mem-whole 𝓤 H A W (Declared.row Walked.the-type);
-  of-mem = Local.whole-mem 𝓤 H A W (Declared.row Walked.the-type);
-}
+r = Values.enum-result Walked.the-type Laws.the-laws Laws.the-copy Laws.the-plain tt

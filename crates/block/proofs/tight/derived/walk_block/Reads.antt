@@ -39,43 +39,44 @@ module _ (κs : Lifetimes.Lfts 3) where
       World.World) → World.Pr w
   ensures = λ a g r s w. walk_block.clauses (w .𝓤) (w .H) (w .𝓖 .A) (w .𝓜 .mem) (w .𝓡 .run) κs a .ensures g r s
 
-  abbrev pub requires-1·read : (a : World.ArgsD walk_block.signature κs) → (g : Ghost) → Read.Read (World.In walk_block.signature κs a) Read.no-know λ w. walk_block.requires-1 (w .𝓤) (w .H) κs (w .𝓖
-      .A) (w .𝓜 .mem) (w .𝓡 .run) (a .0) (a .1 .0) (a .1 .1 .0) (a .1 .1 .1 .0) (a .1 .1 .1 .1 .0)
-  requires-1·read = λ a g. Read.all-models (λ w. walk_block.requires-1 (w .𝓤) (w .H) κs (w .𝓖 .A) (w .𝓜 .mem) (w .𝓡 .run) (a .0) (a .1 .0) (a .1 .1 .0) (a .1 .1 .1 .0) (a .1 .1 .1 .1 .0)) (λ w. search
-      Read.reads) (λ w. Path'.refl) (λ w. Path'.refl) λ w. Path'.refl
+  abbrev ensures-1·at : (a : World.ArgsD walk_block.signature κs) → (r : World.ResD walk_block.signature κs) → (s : Clauses.AtExit (Kinds'.endedOf 3 Kinds.ps Kinds.r) κs) → (w : World.World) →
+      World.Pr w
+  ensures-1·at = λ a r s w. walk_block.ensures-1 (w .𝓤) (w .H) κs (w .𝓖 .A) (w .𝓜 .mem) (w .𝓡 .run) (a .0) (a .1 .0) (a .1 .1 .0) (a .1 .1 .1 .0) (a .1 .1 .1 .1 .0) record
+      { entry = a .0; exit = s .0 } record { entry = a .1 .0; exit = s .1 .0 } record { entry = a .1 .1 .0; exit = s .1 .1 .0 } record { entry = a .1 .1 .1 .0; exit = s .1 .1 .1 .0 } record
+      { entry = a .1 .1 .1 .1 .0; exit = s .1 .1 .1 .1 .0 } r
 
-  abbrev pub requires-2·read : (a : World.ArgsD walk_block.signature κs) → (g : Ghost) → Read.Read (World.In walk_block.signature κs a) Read.no-know λ w. walk_block.requires-2 (w .𝓤) (w .H) κs (w .𝓖
-      .A) (w .𝓜 .mem) (w .𝓡 .run) (a .0) (a .1 .0) (a .1 .1 .0) (a .1 .1 .1 .0) (a .1 .1 .1 .1 .0)
-  requires-2·read = λ a g. Read.all-models (λ w. walk_block.requires-2 (w .𝓤) (w .H) κs (w .𝓖 .A) (w .𝓜 .mem) (w .𝓡 .run) (a .0) (a .1 .0) (a .1 .1 .0) (a .1 .1 .1 .0) (a .1 .1 .1 .1 .0)) (λ w. search
-      Read.reads) (λ w. Path'.refl) (λ w. Path'.refl) λ w. Path'.refl
+  abbrev ensures-2·at : (a : World.ArgsD walk_block.signature κs) → (r : World.ResD walk_block.signature κs) → (s : Clauses.AtExit (Kinds'.endedOf 3 Kinds.ps Kinds.r) κs) → (w : World.World) →
+      World.Pr w
+  ensures-2·at = λ a r s w. walk_block.ensures-2 (w .𝓤) (w .H) κs (w .𝓖 .A) (w .𝓜 .mem) (w .𝓡 .run) (a .0) (a .1 .0) (a .1 .1 .0) (a .1 .1 .1 .0) (a .1 .1 .1 .1 .0) record
+      { entry = a .0; exit = s .0 } record { entry = a .1 .0; exit = s .1 .0 } record { entry = a .1 .1 .0; exit = s .1 .1 .0 } record { entry = a .1 .1 .1 .0; exit = s .1 .1 .1 .0 } record
+      { entry = a .1 .1 .1 .1 .0; exit = s .1 .1 .1 .1 .0 } r
+
+  abbrev requires-1·at : (a : World.ArgsD walk_block.signature κs) → (w : World.World) → World.Pr w
+  requires-1·at = λ a w. walk_block.requires-1 (w .𝓤) (w .H) κs (w .𝓖 .A) (w .𝓜 .mem) (w .𝓡 .run) (a .0) (a .1 .0) (a .1 .1 .0) (a .1 .1 .1 .0) (a .1 .1 .1 .1 .0)
+
+  abbrev requires-2·at : (a : World.ArgsD walk_block.signature κs) → (w : World.World) → World.Pr w
+  requires-2·at = λ a w. walk_block.requires-2 (w .𝓤) (w .H) κs (w .𝓖 .A) (w .𝓜 .mem) (w .𝓡 .run) (a .0) (a .1 .0) (a .1 .1 .0) (a .1 .1 .1 .0) (a .1 .1 .1 .1 .0)
+
+  abbrev pub requires-1·read : (a : World.ArgsD walk_block.signature κs) → (g : Ghost) → Read.Read (World.In walk_block.signature κs a) Read.no-know (requires-1·at a)
+  requires-1·read = λ a g. Read.all-models (requires-1·at a) (λ w. search Read.reads) (λ w. Path'.refl) (λ w. Path'.refl) λ w. Path'.refl
+
+  abbrev pub requires-2·read : (a : World.ArgsD walk_block.signature κs) → (g : Ghost) → Read.Read (World.In walk_block.signature κs a) Read.no-know (requires-2·at a)
+  requires-2·read = λ a g. Read.all-models (requires-2·at a) (λ w. search Read.reads) (λ w. Path'.refl) (λ w. Path'.refl) λ w. Path'.refl
 
   abbrev pub pre-read : (a : World.ArgsD walk_block.signature κs) → (g : Ghost) → Read.Read (World.In walk_block.signature κs a) Read.no-know (requires a g)
-  pre-read = λ a g. Read.read-join (λ w. walk_block.requires-1 (w .𝓤) (w .H) κs (w .𝓖 .A) (w .𝓜 .mem) (w .𝓡 .run) (a .0) (a .1 .0) (a .1 .1 .0) (a .1 .1 .1 .0) (a .1 .1 .1 .1 .0)) (λ w.
-      walk_block.requires-2 (w .𝓤) (w .H) κs (w .𝓖 .A) (w .𝓜 .mem) (w .𝓡 .run) (a .0) (a .1 .0) (a .1 .1 .0) (a .1 .1 .1 .0) (a .1 .1 .1 .1 .0)) (requires-1·read a g) (requires-2·read a g)
+  pre-read = λ a g. Read.read-join (requires-1·at a) (requires-2·at a) (requires-1·read a g) (requires-2·read a g)
 
   abbrev pub ensures-1·read : (a : World.ArgsD walk_block.signature κs) → (g : Ghost) → (r : World.ResD walk_block.signature κs) → (s : Clauses.AtExit (Kinds'.endedOf 3 Kinds.ps Kinds.r) κs) →
-      Read.Read (Base a) (Owned r s) λ w. walk_block.ensures-1 (w .𝓤) (w .H) κs (w .𝓖 .A) (w .𝓜 .mem) (w .𝓡 .run) (a .0) (a .1 .0) (a .1 .1 .0) (a .1 .1 .1 .0) (a .1 .1 .1 .1 .0) record
-      { entry = a .0; exit = s .0 } record { entry = a .1 .0; exit = s .1 .0 } record { entry = a .1 .1 .0; exit = s .1 .1 .0 } record { entry = a .1 .1 .1 .0; exit = s .1 .1 .1 .0 } record
-      { entry = a .1 .1 .1 .1 .0; exit = s .1 .1 .1 .1 .0 } r
-  ensures-1·read = λ a g r s. Read.all-models (λ w. walk_block.ensures-1 (w .𝓤) (w .H) κs (w .𝓖 .A) (w .𝓜 .mem) (w .𝓡 .run) (a .0) (a .1 .0) (a .1 .1 .0) (a .1 .1 .1 .0) (a .1 .1 .1 .1 .0) record
-      { entry = a .0; exit = s .0 } record { entry = a .1 .0; exit = s .1 .0 } record { entry = a .1 .1 .0; exit = s .1 .1 .0 } record { entry = a .1 .1 .1 .0; exit = s .1 .1 .1 .0 } record
-      { entry = a .1 .1 .1 .1 .0; exit = s .1 .1 .1 .1 .0 } r) (λ w. search Read.reads) (λ w. Path'.refl) (λ w. Path'.refl) λ w. Path'.refl
+      Read.Read (Base a) (Owned r s) (ensures-1·at a r s)
+  ensures-1·read = λ a g r s. Read.all-models (ensures-1·at a r s) (λ w. search Read.reads) (λ w. Path'.refl) (λ w. Path'.refl) λ w. Path'.refl
 
   abbrev pub ensures-2·read : (a : World.ArgsD walk_block.signature κs) → (g : Ghost) → (r : World.ResD walk_block.signature κs) → (s : Clauses.AtExit (Kinds'.endedOf 3 Kinds.ps Kinds.r) κs) →
-      Read.Read (Base a) (Owned r s) λ w. walk_block.ensures-2 (w .𝓤) (w .H) κs (w .𝓖 .A) (w .𝓜 .mem) (w .𝓡 .run) (a .0) (a .1 .0) (a .1 .1 .0) (a .1 .1 .1 .0) (a .1 .1 .1 .1 .0) record
-      { entry = a .0; exit = s .0 } record { entry = a .1 .0; exit = s .1 .0 } record { entry = a .1 .1 .0; exit = s .1 .1 .0 } record { entry = a .1 .1 .1 .0; exit = s .1 .1 .1 .0 } record
-      { entry = a .1 .1 .1 .1 .0; exit = s .1 .1 .1 .1 .0 } r
-  ensures-2·read = λ a g r s. Read.all-models (λ w. walk_block.ensures-2 (w .𝓤) (w .H) κs (w .𝓖 .A) (w .𝓜 .mem) (w .𝓡 .run) (a .0) (a .1 .0) (a .1 .1 .0) (a .1 .1 .1 .0) (a .1 .1 .1 .1 .0) record
-      { entry = a .0; exit = s .0 } record { entry = a .1 .0; exit = s .1 .0 } record { entry = a .1 .1 .0; exit = s .1 .1 .0 } record { entry = a .1 .1 .1 .0; exit = s .1 .1 .1 .0 } record
-      { entry = a .1 .1 .1 .1 .0; exit = s .1 .1 .1 .1 .0 } r) (λ w. search Read.reads) (λ w. Path'.refl) (λ w. Path'.refl) λ w. Path'.refl
+      Read.Read (Base a) (Owned r s) (ensures-2·at a r s)
+  ensures-2·read = λ a g r s. Read.all-models (ensures-2·at a r s) (λ w. search Read.reads) (λ w. Path'.refl) (λ w. Path'.refl) λ w. Path'.refl
 
   abbrev pub post-read : (a : World.ArgsD walk_block.signature κs) → (g : Ghost) → (r : World.ResD walk_block.signature κs) → (s : Clauses.AtExit (Kinds'.endedOf 3 Kinds.ps Kinds.r) κs) → Read.Read
       (Base a) (Owned r s) (ensures a g r s)
-  post-read = λ a g r s. Read.read-join (λ w. walk_block.ensures-1 (w .𝓤) (w .H) κs (w .𝓖 .A) (w .𝓜 .mem) (w .𝓡 .run) (a .0) (a .1 .0) (a .1 .1 .0) (a .1 .1 .1 .0) (a .1 .1 .1 .1 .0) record
-      { entry = a .0; exit = s .0 } record { entry = a .1 .0; exit = s .1 .0 } record { entry = a .1 .1 .0; exit = s .1 .1 .0 } record { entry = a .1 .1 .1 .0; exit = s .1 .1 .1 .0 } record
-      { entry = a .1 .1 .1 .1 .0; exit = s .1 .1 .1 .1 .0 } r) (λ w. walk_block.ensures-2 (w .𝓤) (w .H) κs (w .𝓖 .A) (w .𝓜 .mem) (w .𝓡 .run) (a .0) (a .1 .0) (a .1 .1 .0) (a .1 .1 .1 .0) (a .1 .1 .1 .1
-      .0) record { entry = a .0; exit = s .0 } record { entry = a .1 .0; exit = s .1 .0 } record { entry = a .1 .1 .0; exit = s .1 .1 .0 } record { entry = a .1 .1 .1 .0; exit = s .1 .1 .1 .0 } record
-      { entry = a .1 .1 .1 .1 .0; exit = s .1 .1 .1 .1 .0 } r) (ensures-1·read a g r s) (ensures-2·read a g r s)
+  post-read = λ a g r s. Read.read-join (ensures-1·at a r s) (ensures-2·at a r s) (ensures-1·read a g r s) (ensures-2·read a g r s)
 
 abbrev pub Pre : Kinds'.In 3 Kinds.ps
 Pre = Written.Pre 3 Kinds.ps Kinds.r Ghost requires ensures pre-read Pinned Owned post-read tt

@@ -1,4 +1,8 @@
 -- Written by tools/lend.py from Rattle's derivation of the twin of `block_writer`; not edited by hand. Assumes nothing.
+use Rattle.bits.proofs.Values
+use Rattle.bits.proofs.Values.{on}
+use Rattle.bits.proofs.Values.{n16, n8, u16, u32, u64, u8}
+use mathlib.Core.List.{_∷_, []}
 use Rattle.block.proofs.Element
 use Prim.Native.Nat
 use Rattle.stream.proofs.BlockLength
@@ -17,7 +21,6 @@ use borrow.Kind.Bool
 use borrow.Kind.MutSlice
 use borrow.Kind.Num
 use borrow.Kind.ShrSlice
-use borrow.Kind.Value
 use borrow.Rule.Array.Borrow
 use borrow.Rule.Array.Gives
 use borrow.Rule.Array.Init
@@ -32,7 +35,6 @@ use borrow.Rule.Slice.Mut
 use borrow.Rule.Slice.PartAt
 use borrow.Rule.Slice.Relend
 use borrow.Rule.Slice.Shared
-use borrow.Rule.Yields
 use borrow.Struct.Make
 use borrow.Table.Copies
 use borrow.Table.Elements
@@ -45,8 +47,6 @@ use borrow.Table.Typed
 use contract.Lifetimes
 use denote.Array
 use denote.Enum.Declared
-use denote.Enum.Laws as Laws''
-use denote.Exit
 use denote.Plain as Plain'
 use denote.Steps
 use denote.Triple.Clauses
@@ -63,238 +63,165 @@ use prog.Wp
 use types.Kit
 
 abbrev pub y0 : Syntax.Ty
-y0 = Syntax.tyStruct (List._∷_ 115 (List._∷_ 116 (List._∷_ 114 (List._∷_ 101 (List._∷_ 97 (List._∷_ 109 (List._∷_ 58 (List._∷_ 58 (List._∷_ 70 (List._∷_ 117 (List._∷_ 106 (List._∷_ 105 (List._∷_ 72
-    (List._∷_ 101 (List._∷_ 97 (List._∷_ 100 (List._∷_ 101 (List._∷_ 114 List.[])))))))))))))))))) (Syntax.tcons Syntax.tyBool (Syntax.tcons Syntax.tyBool (Syntax.tcons (Syntax.tyInt Syntax.w32)
-    (Syntax.tcons (Syntax.tyInt Syntax.w32) (Syntax.tcons (Syntax.tyInt Syntax.w32) (Syntax.tcons (Syntax.tyInt Syntax.w32) (Syntax.tcons (Syntax.tyInt Syntax.w32) (Syntax.tcons (Syntax.tyInt Syntax.w32)
-    (Syntax.tcons (Syntax.tyInt Syntax.w32) Syntax.tnil)))))))))
+y0 = Syntax.tyArray u8 1
 
 abbrev pub y1 : Syntax.Ty
-y1 = Syntax.tyStruct (List._∷_ 38 (List._∷_ 91 (List._∷_ 93 List.[]))) (Syntax.tcons (Syntax.tyRef Syntax.erased Syntax.imm (Syntax.tyInt Syntax.w8)) (Syntax.tcons (Syntax.tyInt Syntax.w64)
-    Syntax.tnil))
+y1 = Syntax.tyEnum (115 ∷ 116 ∷ 114 ∷ 101 ∷ 97 ∷ 109 ∷ 58 ∷ 58 ∷ 82 ∷ 101 ∷ 102 ∷ 117 ∷ 115 ∷ 97 ∷ 108 ∷ []) (Syntax.ttcons Syntax.tnil (Syntax.ttcons Syntax.tnil (Syntax.ttcons Syntax.tnil
+    (Syntax.ttcons (Syntax.tcons u64 Syntax.tnil) (Syntax.ttcons Syntax.tnil (Syntax.ttcons Syntax.tnil (Syntax.ttcons Syntax.tnil (Syntax.ttcons Syntax.tnil (Syntax.ttcons Syntax.tnil (Syntax.ttcons
+    Syntax.tnil (Syntax.ttcons (Syntax.tcons u64 Syntax.tnil) (Syntax.ttcons (Syntax.tcons u64 Syntax.tnil) (Syntax.ttcons Syntax.tnil (Syntax.ttcons (Syntax.tcons u64 (Syntax.tcons u64 Syntax.tnil))
+    (Syntax.ttcons (Syntax.tcons u64 Syntax.tnil) (Syntax.ttcons Syntax.tnil (Syntax.ttcons Syntax.tnil (Syntax.ttcons (Syntax.tcons u64 Syntax.tnil) (Syntax.ttcons (Syntax.tcons u64 Syntax.tnil)
+    (Syntax.ttcons (Syntax.tcons u64 Syntax.tnil) (Syntax.ttcons Syntax.tnil (Syntax.ttcons Syntax.tnil (Syntax.ttcons (Syntax.tcons u64 (Syntax.tcons u64 Syntax.tnil)) (Syntax.ttcons Syntax.tnil
+    Syntax.ttnil))))))))))))))))))))))))
 
 abbrev pub y2 : Syntax.Ty
-y2 = Syntax.tyStruct (List._∷_ 38 (List._∷_ 91 (List._∷_ 93 List.[]))) (Syntax.tcons (Syntax.tyRef Syntax.erased Syntax.mut (Syntax.tyInt Syntax.w16)) (Syntax.tcons (Syntax.tyInt Syntax.w64)
-    Syntax.tnil))
+y2 = Syntax.tyRef (Syntax.named 0) Syntax.imm u8
 
 abbrev pub y3 : Syntax.Ty
-y3 = Syntax.tyStruct (List._∷_ 38 (List._∷_ 91 (List._∷_ 93 List.[]))) (Syntax.tcons (Syntax.tyRef Syntax.erased Syntax.mut (Syntax.tyInt Syntax.w8)) (Syntax.tcons (Syntax.tyInt Syntax.w64)
-    Syntax.tnil))
+y3 = Syntax.tyRef (Syntax.named 1) Syntax.imm u16
 
 abbrev pub y4 : Syntax.Ty
-y4 = Syntax.tyStruct (List._∷_ 38 (List._∷_ 91 (List._∷_ 93 List.[]))) (Syntax.tcons (Syntax.tyRef Syntax.erased Syntax.mut Element.behind) (Syntax.tcons (Syntax.tyInt Syntax.w64) Syntax.tnil))
+y4 = Syntax.tyRef (Syntax.named 2) Syntax.mut u16
+
+abbrev pub y5 : Syntax.Ty
+y5 = Syntax.tyRef (Syntax.named 3) Syntax.mut Element.behind
+
+abbrev pub y6 : Syntax.Ty
+y6 = Syntax.tyRef Syntax.erased Syntax.imm u8
+
+abbrev pub y7 : Syntax.Ty
+y7 = Syntax.tyRef Syntax.erased Syntax.mut Element.behind
+
+abbrev pub y8 : Syntax.Ty
+y8 = Syntax.tyRef Syntax.erased Syntax.mut u16
+
+abbrev pub y9 : Syntax.Ty
+y9 = Syntax.tyRef Syntax.erased Syntax.mut u8
+
+abbrev pub y10 : Syntax.Ty
+y10 = Syntax.tyStruct (115 ∷ 116 ∷ 114 ∷ 101 ∷ 97 ∷ 109 ∷ 58 ∷ 58 ∷ 70 ∷ 117 ∷ 106 ∷ 105 ∷ 72 ∷ 101 ∷ 97 ∷ 100 ∷ 101 ∷ 114 ∷ []) (Syntax.tcons Syntax.tyBool (Syntax.tcons Syntax.tyBool (Syntax.tcons
+    u32 (Syntax.tcons u32 (Syntax.tcons u32 (Syntax.tcons u32 (Syntax.tcons u32 (Syntax.tcons u32 (Syntax.tcons u32 Syntax.tnil)))))))))
+
+abbrev pub y11 : Syntax.Ty
+y11 = Syntax.tyEnum (115 ∷ 116 ∷ 114 ∷ 101 ∷ 97 ∷ 109 ∷ 58 ∷ 58 ∷ 66 ∷ 108 ∷ 111 ∷ 99 ∷ 107 ∷ 76 ∷ 101 ∷ 110 ∷ 103 ∷ 116 ∷ 104 ∷ []) (Syntax.ttcons (Syntax.tcons u64 Syntax.tnil) (Syntax.ttcons
+    (Syntax.tcons y1 Syntax.tnil) Syntax.ttnil))
+
+abbrev pub y12 : Syntax.Ty
+y12 = Syntax.tyEnum (115 ∷ 116 ∷ 114 ∷ 101 ∷ 97 ∷ 109 ∷ 58 ∷ 58 ∷ 80 ∷ 97 ∷ 114 ∷ 115 ∷ 101 ∷ 100 ∷ []) (Syntax.ttcons (Syntax.tcons y10 Syntax.tnil) (Syntax.ttcons (Syntax.tcons y1 Syntax.tnil)
+    Syntax.ttnil))
+
+abbrev pub y13 : Syntax.Ty
+y13 = Syntax.tyRef Syntax.erased Syntax.mut y0
+
+abbrev pub y14 : Syntax.Ty
+y14 = Syntax.tyStruct (38 ∷ 91 ∷ 93 ∷ []) (Syntax.tcons y6 (Syntax.tcons u64 Syntax.tnil))
+
+abbrev pub y15 : Syntax.Ty
+y15 = Syntax.tyStruct (38 ∷ 91 ∷ 93 ∷ []) (Syntax.tcons y9 (Syntax.tcons u64 Syntax.tnil))
 
 abbrev pub ps : List.List (Kinds.PK 4)
-ps = List._∷_ (ShrSlice.pShrS (Referent.rtF (Referent.fInt Syntax.w8)) 0 tt) (List._∷_ (ShrSlice.pShrS (Referent.rtF (Referent.fInt Syntax.w16)) 1 tt) (List._∷_ (MutSlice.pMutS (Referent.rtF
-    (Referent.fInt Syntax.w16)) 2 tt) (List._∷_ (MutSlice.pMutS (Element.type) 3 tt) List.[])))
+ps = (ShrSlice.pShrS n8 0 tt) ∷ (ShrSlice.pShrS n16 1 tt) ∷ (MutSlice.pMutS n16 2 tt) ∷ (MutSlice.pMutS (Element.type) 3 tt) ∷ []
 
 abbrev pub r : Kinds.RK 4
-r = Value.rVal record {
-  ty = Declared.row BlockLength.the-type;
-  one = Path'.refl;
-  val = Laws''.val BlockLength.the-type Laws.the-laws;
-  tells = Laws''.tells BlockLength.the-type Laws.the-laws;
-  still = Laws''.still
-      BlockLength.the-type Laws.the-copy Exit.yes;
-  row = Rows'.whole (Declared.row BlockLength.the-type);
-  rd = λ x. x;
-  mk = λ x. x;
-} λ M 𝓤 H A W. record {
-  copies = Laws''.copy BlockLength.the-type Laws.the-copy 𝓤 H A W;
-  lawful = Laws''.lawful BlockLength.the-type Laws.the-laws 𝓤 H A W tt;
-  makes = Laws''.makes BlockLength.the-type Laws.the-plain 𝓤 H A;
-  in-mem = Local.mem-whole 𝓤 H A W (Declared.row BlockLength.the-type);
-  of-mem = Local.whole-mem 𝓤 H A W (Declared.row BlockLength.the-type);
-}
+r = Values.enum-result BlockLength.the-type Laws.the-laws Laws.the-copy Laws.the-plain tt
 
 abbrev pub xs : List.List Syntax.Ty
-xs = List._∷_ (Syntax.tyArray (Syntax.tyInt Syntax.w8) 1) (List._∷_ (Syntax.tyEnum (List._∷_ 115 (List._∷_ 116 (List._∷_ 114 (List._∷_ 101 (List._∷_ 97 (List._∷_ 109 (List._∷_ 58 (List._∷_ 58
-    (List._∷_ 80 (List._∷_ 97 (List._∷_ 114 (List._∷_ 115 (List._∷_ 101 (List._∷_ 100 List.[])))))))))))))) (Syntax.ttcons (Syntax.tcons y0 Syntax.tnil) (Syntax.ttcons (Syntax.tcons (Syntax.tyEnum
-    (List._∷_ 115 (List._∷_ 116 (List._∷_ 114 (List._∷_ 101 (List._∷_ 97 (List._∷_ 109 (List._∷_ 58 (List._∷_ 58 (List._∷_ 82 (List._∷_ 101 (List._∷_ 102 (List._∷_ 117 (List._∷_ 115 (List._∷_ 97 (List._∷_
-    108 List.[]))))))))))))))) (Syntax.ttcons Syntax.tnil (Syntax.ttcons Syntax.tnil (Syntax.ttcons Syntax.tnil (Syntax.ttcons (Syntax.tcons (Syntax.tyInt Syntax.w64) Syntax.tnil) (Syntax.ttcons
-    Syntax.tnil (Syntax.ttcons Syntax.tnil (Syntax.ttcons Syntax.tnil (Syntax.ttcons Syntax.tnil (Syntax.ttcons Syntax.tnil (Syntax.ttcons Syntax.tnil (Syntax.ttcons (Syntax.tcons (Syntax.tyInt
-    Syntax.w64) Syntax.tnil) (Syntax.ttcons (Syntax.tcons (Syntax.tyInt Syntax.w64) Syntax.tnil) (Syntax.ttcons Syntax.tnil (Syntax.ttcons (Syntax.tcons (Syntax.tyInt Syntax.w64) (Syntax.tcons
-    (Syntax.tyInt Syntax.w64) Syntax.tnil)) (Syntax.ttcons (Syntax.tcons (Syntax.tyInt Syntax.w64) Syntax.tnil) (Syntax.ttcons Syntax.tnil (Syntax.ttcons Syntax.tnil (Syntax.ttcons (Syntax.tcons
-    (Syntax.tyInt Syntax.w64) Syntax.tnil) (Syntax.ttcons (Syntax.tcons (Syntax.tyInt Syntax.w64) Syntax.tnil) (Syntax.ttcons (Syntax.tcons (Syntax.tyInt Syntax.w64) Syntax.tnil) (Syntax.ttcons
-    Syntax.tnil (Syntax.ttcons Syntax.tnil (Syntax.ttcons (Syntax.tcons (Syntax.tyInt Syntax.w64) (Syntax.tcons (Syntax.tyInt Syntax.w64) Syntax.tnil)) (Syntax.ttcons Syntax.tnil
-    Syntax.ttnil))))))))))))))))))))))))) Syntax.tnil) Syntax.ttnil))) (List._∷_ (Syntax.tyInt Syntax.w64) (List._∷_ (Syntax.tyInt Syntax.w64) (List._∷_ (Syntax.tyInt Syntax.w64) (List._∷_ Syntax.tyPtr
-    (List._∷_ (Syntax.tyRef Syntax.erased Syntax.imm (Syntax.tyInt Syntax.w8)) (List._∷_ y1 (List._∷_ (Syntax.tyRef Syntax.erased Syntax.mut (Syntax.tyArray (Syntax.tyInt Syntax.w8) 1)) (List._∷_ y3
-    (List._∷_ (Syntax.tyRef Syntax.erased Syntax.mut (Syntax.tyInt Syntax.w16)) (List._∷_ y2 (List._∷_ (Syntax.tyRef Syntax.erased Syntax.mut Element.behind) (List._∷_ y4 List.[])))))))))))))
+xs = y0 ∷ y12 ∷ u64 ∷ u64 ∷ u64 ∷ Syntax.tyPtr ∷ y6 ∷ y14 ∷ y13 ∷ y15 ∷ y8 ∷ (Syntax.tyStruct (38 ∷ 91 ∷ 93 ∷ []) (Syntax.tcons y8 (Syntax.tcons u64 Syntax.tnil))) ∷ y7 ∷ (Syntax.tyStruct (38 ∷ 91 ∷
+    93 ∷ []) (Syntax.tcons y7 (Syntax.tcons u64 Syntax.tnil))) ∷ []
 
 abbrev pub m : Nat.ℕ
 m = 3
 
 abbrev pub ps·0 : List.List (Kinds.PK 1)
-ps·0 = List._∷_ (ShrSlice.pShrS (Referent.rtF (Referent.fInt Syntax.w8)) 0 tt) (List._∷_ (Num.pNum Syntax.w64) (List._∷_ (Num.pNum Syntax.w64) (List._∷_ (Num.pNum Syntax.w64) List.[])))
+ps·0 = (ShrSlice.pShrS n8 0 tt) ∷ (Num.pNum Syntax.w64) ∷ (Num.pNum Syntax.w64) ∷ (Num.pNum Syntax.w64) ∷ []
 
 abbrev pub r·0 : Kinds.RK 1
-r·0 = Value.rVal record {
-  ty = Declared.row Parsed.the-type;
-  one = Path'.refl;
-  val = Laws''.val Parsed.the-type Laws'.the-laws;
-  tells = Laws''.tells Parsed.the-type Laws'.the-laws;
-  still = Laws''.still Parsed.the-type
-      Laws'.the-copy Exit.yes;
-  row = Rows'.whole (Declared.row Parsed.the-type);
-  rd = λ x. x;
-  mk = λ x. x;
-} λ M 𝓤 H A W. record {
-  copies = Laws''.copy Parsed.the-type Laws'.the-copy 𝓤 H A W;
-  lawful = Laws''.lawful Parsed.the-type Laws'.the-laws 𝓤 H A W tt;
-  makes = Laws''.makes Parsed.the-type Laws'.the-plain 𝓤 H A;
-  in-mem =
-      Local.mem-whole 𝓤 H A W (Declared.row Parsed.the-type);
-  of-mem = Local.whole-mem 𝓤 H A W (Declared.row Parsed.the-type);
-}
+r·0 = Values.enum-result Parsed.the-type Laws'.the-laws Laws'.the-copy Laws'.the-plain tt
 
 abbrev pub ps·1 : List.List (Kinds.PK 5)
-ps·1 = List._∷_ (Value.pVal record {
-  ty = Declared.row Parsed.the-type;
-  one = Path'.refl;
-  val = Laws''.val Parsed.the-type Laws'.the-laws;
-  tells = Laws''.tells Parsed.the-type Laws'.the-laws;
-  still = Laws''.still Parsed.the-type
-      Laws'.the-copy Exit.yes;
-  row = Rows'.whole (Declared.row Parsed.the-type);
-  rd = λ x. x;
-  mk = λ x. x;
-} λ M 𝓤 H A W. record {
-  copies = Laws''.copy Parsed.the-type Laws'.the-copy 𝓤 H A W;
-  lawful = Laws''.lawful Parsed.the-type Laws'.the-laws 𝓤 H A W tt;
-  makes = Laws''.makes Parsed.the-type Laws'.the-plain 𝓤 H A;
-  in-mem =
-      Local.mem-whole 𝓤 H A W (Declared.row Parsed.the-type);
-  of-mem = Local.whole-mem 𝓤 H A W (Declared.row Parsed.the-type);
-}) (List._∷_ (ShrSlice.pShrS (Referent.rtF (Referent.fInt Syntax.w8)) 0 tt)
-    (List._∷_ (ShrSlice.pShrS (Referent.rtF (Referent.fInt Syntax.w16)) 1 tt) (List._∷_ (MutSlice.pMutS (Referent.rtF (Referent.fInt Syntax.w8)) 2 tt) (List._∷_ Bool.pBool (List._∷_ (MutSlice.pMutS
-    (Referent.rtF (Referent.fInt Syntax.w16)) 3 tt) (List._∷_ (MutSlice.pMutS (Element.type) 4 tt) List.[]))))))
+ps·1 = (Values.enum Parsed.the-type Laws'.the-laws Laws'.the-copy Laws'.the-plain tt) ∷ (ShrSlice.pShrS n8 0 tt) ∷ (ShrSlice.pShrS n16 1 tt) ∷ (MutSlice.pMutS n8 2 tt) ∷ Bool.pBool ∷ (MutSlice.pMutS
+    n16 3 tt) ∷ (MutSlice.pMutS (Element.type) 4 tt) ∷ []
 
 abbrev pub r·1 : Kinds.RK 5
-r·1 = Value.rVal record {
-  ty = Declared.row BlockLength.the-type;
-  one = Path'.refl;
-  val = Laws''.val BlockLength.the-type Laws.the-laws;
-  tells = Laws''.tells BlockLength.the-type Laws.the-laws;
-  still = Laws''.still
-      BlockLength.the-type Laws.the-copy Exit.yes;
-  row = Rows'.whole (Declared.row BlockLength.the-type);
-  rd = λ x. x;
-  mk = λ x. x;
-} λ M 𝓤 H A W. record {
-  copies = Laws''.copy BlockLength.the-type Laws.the-copy 𝓤 H A W;
-  lawful = Laws''.lawful BlockLength.the-type Laws.the-laws 𝓤 H A W tt;
-  makes = Laws''.makes BlockLength.the-type Laws.the-plain 𝓤 H A;
-  in-mem = Local.mem-whole 𝓤 H A W (Declared.row BlockLength.the-type);
-  of-mem = Local.whole-mem 𝓤 H A W (Declared.row BlockLength.the-type);
-}
+r·1 = Values.enum-result BlockLength.the-type Laws.the-laws Laws.the-copy Laws.the-plain tt
 
 abbrev pub hs : List.List Syntax.Home
-hs = List._∷_ Syntax.valueLocal (List._∷_ Syntax.valueLocal (List._∷_ Syntax.valueLocal (List._∷_ Syntax.valueLocal (List._∷_ Syntax.valueLocal (List._∷_ Syntax.memorySlot (List._∷_ Syntax.valueLocal
-    (List._∷_ Syntax.valueLocal (List._∷_ Syntax.valueLocal (List._∷_ Syntax.valueLocal (List._∷_ Syntax.valueLocal (List._∷_ Syntax.valueLocal (List._∷_ Syntax.valueLocal (List._∷_ Syntax.valueLocal
-    (List._∷_ Syntax.valueLocal (List._∷_ Syntax.valueLocal (List._∷_ Syntax.valueLocal (List._∷_ Syntax.valueLocal (List._∷_ Syntax.valueLocal List.[]))))))))))))))))))
+hs = Syntax.valueLocal ∷ Syntax.valueLocal ∷ Syntax.valueLocal ∷ Syntax.valueLocal ∷ Syntax.valueLocal ∷ Syntax.memorySlot ∷ Syntax.valueLocal ∷ Syntax.valueLocal ∷ Syntax.valueLocal ∷
+    Syntax.valueLocal ∷ Syntax.valueLocal ∷ Syntax.valueLocal ∷ Syntax.valueLocal ∷ Syntax.valueLocal ∷ Syntax.valueLocal ∷ Syntax.valueLocal ∷ Syntax.valueLocal ∷ Syntax.valueLocal ∷ Syntax.valueLocal ∷
+    []
 
 abbrev b0 : Syntax.Body
-b0 = Syntax.assign (Syntax.place 5 List.[]) (Syntax.aggregate (List._∷_ (Syntax.int Syntax.w8 0) List.[]))
+b0 = Syntax.assign (Syntax.place 5 []) (Syntax.aggregate ((Syntax.int Syntax.w8 0) ∷ []))
 
 abbrev b1 : Syntax.Body
-b1 = Syntax.assign (Syntax.place 7 List.[]) (Syntax.rvOpd (Syntax.copy (Syntax.place 2 (List._∷_ (Syntax.field 1) List.[]))))
+b1 = Syntax.assign (Syntax.place 7 []) (Syntax.rvOpd (Syntax.copy (Syntax.place 2 ((Syntax.field 1) ∷ []))))
 
 abbrev b2 : Syntax.Body
-b2 = Syntax.assign (Syntax.place 8 List.[]) (Syntax.rvOpd (Syntax.copy (Syntax.place 3 (List._∷_ (Syntax.field 1) List.[]))))
+b2 = Syntax.assign (Syntax.place 8 []) (Syntax.rvOpd (Syntax.copy (Syntax.place 3 ((Syntax.field 1) ∷ []))))
 
 abbrev b3 : Syntax.Body
-b3 = Syntax.assign (Syntax.place 9 List.[]) (Syntax.rvOpd (Syntax.copy (Syntax.place 4 (List._∷_ (Syntax.field 1) List.[]))))
+b3 = Syntax.assign (Syntax.place 9 []) (Syntax.rvOpd (Syntax.copy (Syntax.place 4 ((Syntax.field 1) ∷ []))))
 
 abbrev b4 : Syntax.Body
-b4 = Syntax.call "begin::writing_begins" (List._∷_ (Syntax.copy (Syntax.place 1 List.[])) (List._∷_ (Syntax.copy (Syntax.place 7 List.[])) (List._∷_ (Syntax.copy (Syntax.place 8 List.[])) (List._∷_
-    (Syntax.copy (Syntax.place 9 List.[])) List.[])))) (Syntax.place 6 List.[])
+b4 = Syntax.call "begin::writing_begins" ((Syntax.copy (Syntax.place 1 [])) ∷ (Syntax.copy (Syntax.place 7 [])) ∷ (Syntax.copy (Syntax.place 8 [])) ∷ (Syntax.copy (Syntax.place 9 [])) ∷ [])
+    (Syntax.place 6 [])
 
 abbrev b5 : Syntax.Body
-b5 = Syntax.assign (Syntax.place 10 List.[]) (Syntax.op2 Syntax.offset (Syntax.copy (Syntax.place 1 (List._∷_ (Syntax.field 0) List.[]))) (Syntax.int Syntax.w64 0))
+b5 = Syntax.assign (Syntax.place 10 []) (Syntax.op2 Syntax.offset (Syntax.copy (Syntax.place 1 ((Syntax.field 0) ∷ []))) (Syntax.int Syntax.w64 0))
 
 abbrev b6 : Syntax.Body
-b6 = Syntax.assign (Syntax.place 7 List.[]) (Syntax.op2 (Syntax.sub Syntax.unsigned) (Syntax.int Syntax.w64 0) (Syntax.int Syntax.w64 0))
+b6 = Syntax.assign (Syntax.place 7 []) (Syntax.op2 (Syntax.sub Syntax.unsigned) (Syntax.int Syntax.w64 0) (Syntax.int Syntax.w64 0))
 
 abbrev b7 : Syntax.Body
-b7 = Syntax.assign (Syntax.place 11 List.[]) (Syntax.addrOf (Syntax.place 10 (List._∷_ (Syntax.deref (Syntax.tyInt Syntax.w8)) List.[])))
+b7 = Syntax.assign (Syntax.place 11 []) (Syntax.addrOf (Syntax.place 10 ((Syntax.deref u8) ∷ [])))
 
 abbrev b8 : Syntax.Body
-b8 = Syntax.assign (Syntax.place 12 List.[]) (Syntax.aggregate (List._∷_ (Syntax.copy (Syntax.place 11 List.[])) (List._∷_ (Syntax.copy (Syntax.place 7 List.[])) List.[])))
+b8 = Syntax.assign (Syntax.place 12 []) (Syntax.aggregate ((Syntax.copy (Syntax.place 11 [])) ∷ (Syntax.copy (Syntax.place 7 [])) ∷ []))
 
 abbrev b9 : Syntax.Body
-b9 = Syntax.assign (Syntax.place 13 List.[]) (Syntax.addrOf (Syntax.place 5 List.[]))
+b9 = Syntax.assign (Syntax.place 13 []) (Syntax.addrOf (Syntax.place 5 []))
 
 abbrev b10 : Syntax.Body
-b10 = Syntax.assign (Syntax.place 14 List.[]) (Syntax.aggregate (List._∷_ (Syntax.copy (Syntax.place 13 List.[])) (List._∷_ (Syntax.int Syntax.w64 1) List.[])))
+b10 = Syntax.assign (Syntax.place 14 []) (Syntax.aggregate ((Syntax.copy (Syntax.place 13 [])) ∷ (Syntax.int Syntax.w64 1) ∷ []))
 
 abbrev b11 : Syntax.Body
-b11 = Syntax.assign (Syntax.place 15 List.[]) (Syntax.addrOf (Syntax.place 3 (List._∷_ (Syntax.field 0) (List._∷_ (Syntax.deref (Syntax.tyInt Syntax.w16)) List.[]))))
+b11 = Syntax.assign (Syntax.place 15 []) (Syntax.addrOf (Syntax.place 3 ((Syntax.field 0) ∷ (Syntax.deref u16) ∷ [])))
 
 abbrev b12 : Syntax.Body
-b12 = Syntax.assign (Syntax.place 16 List.[]) (Syntax.aggregate (List._∷_ (Syntax.copy (Syntax.place 15 List.[])) (List._∷_ (Syntax.copy (Syntax.place 3 (List._∷_ (Syntax.field 1) List.[])))
-    List.[])))
+b12 = Syntax.assign (Syntax.place 16 []) (Syntax.aggregate ((Syntax.copy (Syntax.place 15 [])) ∷ (Syntax.copy (Syntax.place 3 ((Syntax.field 1) ∷ []))) ∷ []))
 
 abbrev b13 : Syntax.Body
-b13 = Syntax.assign (Syntax.place 17 List.[]) (Syntax.addrOf (Syntax.place 4 (List._∷_ (Syntax.field 0) (List._∷_ (Syntax.deref (Element.held)) List.[]))))
+b13 = Syntax.assign (Syntax.place 17 []) (Syntax.addrOf (Syntax.place 4 ((Syntax.field 0) ∷ (Syntax.deref (Element.held)) ∷ [])))
 
 abbrev b14 : Syntax.Body
-b14 = Syntax.assign (Syntax.place 18 List.[]) (Syntax.aggregate (List._∷_ (Syntax.copy (Syntax.place 17 List.[])) (List._∷_ (Syntax.copy (Syntax.place 4 (List._∷_ (Syntax.field 1) List.[])))
-    List.[])))
+b14 = Syntax.assign (Syntax.place 18 []) (Syntax.aggregate ((Syntax.copy (Syntax.place 17 [])) ∷ (Syntax.copy (Syntax.place 4 ((Syntax.field 1) ∷ []))) ∷ []))
 
 abbrev b15 : Syntax.Body
-b15 = Syntax.call "block_writer::write_in" (List._∷_ (Syntax.copy (Syntax.place 6 List.[])) (List._∷_ (Syntax.copy (Syntax.place 12 List.[])) (List._∷_ (Syntax.copy (Syntax.place 2 List.[])) (List._∷_
-    (Syntax.copy (Syntax.place 14 List.[])) (List._∷_ Syntax.opdTrue (List._∷_ (Syntax.copy (Syntax.place 16 List.[])) (List._∷_ (Syntax.copy (Syntax.place 18 List.[])) List.[]))))))) (Syntax.place 0
-    List.[])
+b15 = Syntax.call "block_writer::write_in" ((Syntax.copy (Syntax.place 6 [])) ∷ (Syntax.copy (Syntax.place 12 [])) ∷ (Syntax.copy (Syntax.place 2 [])) ∷ (Syntax.copy (Syntax.place 14 [])) ∷
+    Syntax.opdTrue ∷ (Syntax.copy (Syntax.place 16 [])) ∷ (Syntax.copy (Syntax.place 18 [])) ∷ []) (Syntax.place 0 [])
 
 abbrev b16 : Syntax.Body
 b16 = Syntax.return
 
-abbrev b17 : Syntax.Body
-b17 = Syntax.seq b15 b16
-
-abbrev b18 : Syntax.Body
-b18 = Syntax.seq b14 b17
-
 abbrev b19 : Syntax.Body
-b19 = Syntax.seq b13 b18
-
-abbrev b20 : Syntax.Body
-b20 = Syntax.seq b12 b19
-
-abbrev b21 : Syntax.Body
-b21 = Syntax.seq b11 b20
+b19 = Syntax.seq b13 (Syntax.seq b14 (Syntax.seq b15 b16))
 
 abbrev b22 : Syntax.Body
-b22 = Syntax.seq b10 b21
+b22 = Syntax.seq b10 (Syntax.seq b11 (Syntax.seq b12 b19))
 
 abbrev b23 : Syntax.Body
 b23 = Syntax.seq b9 b22
 
-abbrev b24 : Syntax.Body
-b24 = Syntax.seq b8 b23
-
-abbrev b25 : Syntax.Body
-b25 = Syntax.seq b7 b24
-
 abbrev b26 : Syntax.Body
-b26 = Syntax.seq b6 b25
+b26 = Syntax.seq b6 (Syntax.seq b7 (Syntax.seq b8 b23))
 
 abbrev b27 : Syntax.Body
 b27 = Syntax.seq b5 b26
 
-abbrev b28 : Syntax.Body
-b28 = Syntax.seq b4 b27
-
-abbrev b29 : Syntax.Body
-b29 = Syntax.seq b3 b28
-
 abbrev b30 : Syntax.Body
-b30 = Syntax.seq b2 b29
-
-abbrev b31 : Syntax.Body
-b31 = Syntax.seq b1 b30
+b30 = Syntax.seq b2 (Syntax.seq b3 (Syntax.seq b4 b27))
 
 abbrev b32 : Syntax.Body
-b32 = Syntax.seq b0 b31
+b32 = Syntax.seq b0 (Syntax.seq b1 b30)
 
 abbrev pub body : Syntax.Body
 body = b32
@@ -302,524 +229,389 @@ body = b32
 abbrev pub Claims : Type 1
 Claims = Kinds.In 1 ps·0 × Kinds.Out 1 ps·0 r·0 × Kinds.In 5 ps·1 × Kinds.Out 5 ps·1 r·1
 
-abbrev pub e0 : Row.Entry
-e0 = (
-  0,
-  Rows'.any-gone (Syntax.tyEnum (List._∷_ 115 (List._∷_ 116 (List._∷_ 114 (List._∷_ 101 (List._∷_ 97 (List._∷_ 109 (List._∷_ 58 (List._∷_ 58 (List._∷_ 66 (List._∷_ 108 (List._∷_ 111 (List._∷_ 99
-      (List._∷_ 107 (List._∷_ 76 (List._∷_ 101 (List._∷_ 110 (List._∷_ 103 (List._∷_ 116 (List._∷_ 104 List.[]))))))))))))))))))) (Syntax.ttcons (Syntax.tcons (Syntax.tyInt Syntax.w64) Syntax.tnil)
-      (Syntax.ttcons (Syntax.tcons (Syntax.tyEnum (List._∷_ 115 (List._∷_ 116 (List._∷_ 114 (List._∷_ 101 (List._∷_ 97 (List._∷_ 109 (List._∷_ 58 (List._∷_ 58 (List._∷_ 82 (List._∷_ 101 (List._∷_ 102
-      (List._∷_ 117 (List._∷_ 115 (List._∷_ 97 (List._∷_ 108 List.[]))))))))))))))) (Syntax.ttcons Syntax.tnil (Syntax.ttcons Syntax.tnil (Syntax.ttcons Syntax.tnil (Syntax.ttcons (Syntax.tcons
-      (Syntax.tyInt Syntax.w64) Syntax.tnil) (Syntax.ttcons Syntax.tnil (Syntax.ttcons Syntax.tnil (Syntax.ttcons Syntax.tnil (Syntax.ttcons Syntax.tnil (Syntax.ttcons Syntax.tnil (Syntax.ttcons Syntax.tnil
-      (Syntax.ttcons (Syntax.tcons (Syntax.tyInt Syntax.w64) Syntax.tnil) (Syntax.ttcons (Syntax.tcons (Syntax.tyInt Syntax.w64) Syntax.tnil) (Syntax.ttcons Syntax.tnil (Syntax.ttcons (Syntax.tcons
-      (Syntax.tyInt Syntax.w64) (Syntax.tcons (Syntax.tyInt Syntax.w64) Syntax.tnil)) (Syntax.ttcons (Syntax.tcons (Syntax.tyInt Syntax.w64) Syntax.tnil) (Syntax.ttcons Syntax.tnil (Syntax.ttcons
-      Syntax.tnil (Syntax.ttcons (Syntax.tcons (Syntax.tyInt Syntax.w64) Syntax.tnil) (Syntax.ttcons (Syntax.tcons (Syntax.tyInt Syntax.w64) Syntax.tnil) (Syntax.ttcons (Syntax.tcons (Syntax.tyInt
-      Syntax.w64) Syntax.tnil) (Syntax.ttcons Syntax.tnil (Syntax.ttcons Syntax.tnil (Syntax.ttcons (Syntax.tcons (Syntax.tyInt Syntax.w64) (Syntax.tcons (Syntax.tyInt Syntax.w64) Syntax.tnil))
-      (Syntax.ttcons Syntax.tnil Syntax.ttnil))))))))))))))))))))))))) Syntax.tnil) Syntax.ttnil))),
-)
+abbrev pub v0 : Row.Row
+v0 = Rows'.any-gone u64
 
-abbrev pub e1 : Row.Entry
-e1 = (0, Rows'.whole (Declared.row BlockLength.the-type))
+abbrev pub v1 : Row.Row
+v1 = Rows'.sslice n8 y2 0
 
-abbrev pub e2 : Row.Entry
-e2 = (1, Rows'.sslice (Referent.rtF (Referent.fInt Syntax.w8)) (Syntax.tyRef (Syntax.named 0) Syntax.imm (Syntax.tyInt Syntax.w8)) 0)
+abbrev pub v2 : Row.Row
+v2 = Rows'.sslice n16 y3 1
 
-abbrev pub e3 : Row.Entry
-e3 = (10, Rows'.any-gone Syntax.tyPtr)
+abbrev pub v3 : Row.Row
+v3 = Rows'.any-gone y13
 
-abbrev pub e4 : Row.Entry
-e4 = (10, Rows'.sc-here Row.sPtr)
+abbrev pub v4 : Row.Row
+v4 = Rows'.any-gone y6
 
-abbrev pub e5 : Row.Entry
-e5 = (11, Relend.ssptr (Referent.rtF (Referent.fInt Syntax.w8)) (Syntax.tyRef Syntax.erased Syntax.imm (Syntax.tyInt Syntax.w8)) 0)
+abbrev pub v5 : Row.Row
+v5 = Rows'.any-gone y8
 
-abbrev pub e6 : Row.Entry
-e6 = (11, Rows'.any-gone (Syntax.tyRef Syntax.erased Syntax.imm (Syntax.tyInt Syntax.w8)))
+abbrev pub v6 : Row.Row
+v6 = Rows'.any-gone Syntax.tyPtr
 
-abbrev pub e7 : Row.Entry
-e7 = (12, Rows'.any-gone y1)
+abbrev pub v7 : Row.Row
+v7 = Rows'.any-gone y14
 
-abbrev pub e8 : Row.Entry
-e8 = (12, Rows'.sslice (Referent.rtF (Referent.fInt Syntax.w8)) (Syntax.tyRef Syntax.erased Syntax.imm (Syntax.tyInt Syntax.w8)) 0)
+abbrev pub v8 : Row.Row
+v8 = Rows'.any-gone y11
 
-abbrev pub e9 : Row.Entry
-e9 = (13, Rows'.any-gone (Syntax.tyRef Syntax.erased Syntax.mut (Syntax.tyArray (Syntax.tyInt Syntax.w8) 1)))
+abbrev pub v9 : Row.Row
+v9 = Rows'.any-gone y15
 
-abbrev pub e10 : Row.Entry
-e10 = (14, Mut.msleft (Referent.rtF (Referent.fInt Syntax.w8)) (Syntax.tyRef Syntax.erased Syntax.mut (Syntax.tyInt Syntax.w8)))
+abbrev pub v10 : Row.Row
+v10 = Mut.mslice (Element.type) y5 3
 
-abbrev pub e11 : Row.Entry
-e11 = (14, Mut.mslice (Referent.rtF (Referent.fInt Syntax.w8)) (Syntax.tyRef Syntax.erased Syntax.mut (Syntax.tyInt Syntax.w8)) 4)
+abbrev pub v11 : Row.Row
+v11 = Rows'.whole (Declared.row Parsed.the-type)
 
-abbrev pub e12 : Row.Entry
-e12 = (14, Rows'.any-gone y3)
+abbrev pub v12 : Row.Row
+v12 = Mut.mslice n16 y4 2
 
-abbrev pub e13 : Row.Entry
-e13 = (15, Relend.msptr (Referent.rtF (Referent.fInt Syntax.w16)) (Syntax.tyRef Syntax.erased Syntax.mut (Syntax.tyInt Syntax.w16)) 5)
+abbrev pub v13 : Row.Row
+v13 = Rows.arrF n8 1 0
 
-abbrev pub e14 : Row.Entry
-e14 = (15, Rows'.any-gone (Syntax.tyRef Syntax.erased Syntax.mut (Syntax.tyInt Syntax.w16)))
+abbrev pub v14 : Row.Row
+v14 = Rows'.sc-here (Row.sInt Syntax.w64)
 
-abbrev pub e15 : Row.Entry
-e15 = (16, Mut.mslice (Referent.rtF (Referent.fInt Syntax.w16)) (Syntax.tyRef Syntax.erased Syntax.mut (Syntax.tyInt Syntax.w16)) 5)
+abbrev pub v15 : Row.Row
+v15 = Rows'.any-gone y12
 
-abbrev pub e16 : Row.Entry
-e16 = (16, Rows'.any-gone y2)
+abbrev pub v16 : Row.Row
+v16 = Rows.arr-owed n8 1 4
 
-abbrev pub e17 : Row.Entry
-e17 = (17, Rows'.any-gone (Syntax.tyRef Syntax.erased Syntax.mut Element.behind))
+abbrev pub v17 : Row.Row
+v17 = Rows'.whole (Declared.row BlockLength.the-type)
 
-abbrev pub e18 : Row.Entry
-e18 = (18, Mut.msleft (Element.type) (Syntax.tyRef Syntax.erased Syntax.mut Element.behind))
+abbrev pub v18 : Row.Row
+v18 = Rows'.sslice n8 y6 0
 
-abbrev pub e19 : Row.Entry
-e19 = (18, Rows'.any-gone y4)
+abbrev pub v19 : Row.Row
+v19 = Relend.mslice-owed n16 y4 2 5 Row.off
 
-abbrev pub e20 : Row.Entry
-e20 = (2, Rows'.sslice (Referent.rtF (Referent.fInt Syntax.w16)) (Syntax.tyRef (Syntax.named 1) Syntax.imm (Syntax.tyInt Syntax.w16)) 1)
+abbrev pub v20 : Row.Row
+v20 = Mut.mslice n8 y9 4
 
-abbrev pub e21 : Row.Entry
-e21 = (3, Mut.mslice (Referent.rtF (Referent.fInt Syntax.w16)) (Syntax.tyRef (Syntax.named 2) Syntax.mut (Syntax.tyInt Syntax.w16)) 2)
+abbrev pub v21 : Row.Row
+v21 = Relend.mslice-owed (Element.type) y5 3 6 Row.off
 
-abbrev pub e22 : Row.Entry
-e22 = (3, Relend.mslice-owed (Referent.rtF (Referent.fInt Syntax.w16)) (Syntax.tyRef (Syntax.named 2) Syntax.mut (Syntax.tyInt Syntax.w16)) 2 5 Row.off)
+abbrev pub v22 : Row.Row
+v22 = Rows'.any-gone y0
 
-abbrev pub e23 : Row.Entry
-e23 = (4, Mut.mslice (Element.type) (Syntax.tyRef (Syntax.named 3) Syntax.mut Element.behind) 3)
+abbrev pub v23 : Row.Row
+v23 = Mut.msleft n8 y9
 
-abbrev pub e24 : Row.Entry
-e24 = (4, Relend.mslice-owed (Element.type) (Syntax.tyRef (Syntax.named 3) Syntax.mut Element.behind) 3 6 Row.off)
+abbrev pub v24 : Row.Row
+v24 = Rows'.any-gone y7
 
-abbrev pub e25 : Row.Entry
-e25 = (5, Rows'.any-gone (Syntax.tyArray (Syntax.tyInt Syntax.w8) 1))
+abbrev pub v25 : Row.Row
+v25 = Rows'.any-gone (Syntax.tyStruct (38 ∷ 91 ∷ 93 ∷ []) (Syntax.tcons y7 (Syntax.tcons u64 Syntax.tnil)))
 
-abbrev pub e26 : Row.Entry
-e26 = (5, Rows.arr-owed (Referent.rtF (Referent.fInt Syntax.w8)) 1 4)
+abbrev pub v26 : Row.Row
+v26 = Rows'.sc-here Row.sPtr
 
-abbrev pub e27 : Row.Entry
-e27 = (5, Rows.arrF (Referent.rtF (Referent.fInt Syntax.w8)) 1 0)
-
-abbrev pub e28 : Row.Entry
-e28 = (
-  6,
-  Rows'.any-gone (Syntax.tyEnum (List._∷_ 115 (List._∷_ 116 (List._∷_ 114 (List._∷_ 101 (List._∷_ 97 (List._∷_ 109 (List._∷_ 58 (List._∷_ 58 (List._∷_ 80 (List._∷_ 97 (List._∷_ 114 (List._∷_ 115
-      (List._∷_ 101 (List._∷_ 100 List.[])))))))))))))) (Syntax.ttcons (Syntax.tcons y0 Syntax.tnil) (Syntax.ttcons (Syntax.tcons (Syntax.tyEnum (List._∷_ 115 (List._∷_ 116 (List._∷_ 114 (List._∷_ 101
-      (List._∷_ 97 (List._∷_ 109 (List._∷_ 58 (List._∷_ 58 (List._∷_ 82 (List._∷_ 101 (List._∷_ 102 (List._∷_ 117 (List._∷_ 115 (List._∷_ 97 (List._∷_ 108 List.[]))))))))))))))) (Syntax.ttcons Syntax.tnil
-      (Syntax.ttcons Syntax.tnil (Syntax.ttcons Syntax.tnil (Syntax.ttcons (Syntax.tcons (Syntax.tyInt Syntax.w64) Syntax.tnil) (Syntax.ttcons Syntax.tnil (Syntax.ttcons Syntax.tnil (Syntax.ttcons
-      Syntax.tnil (Syntax.ttcons Syntax.tnil (Syntax.ttcons Syntax.tnil (Syntax.ttcons Syntax.tnil (Syntax.ttcons (Syntax.tcons (Syntax.tyInt Syntax.w64) Syntax.tnil) (Syntax.ttcons (Syntax.tcons
-      (Syntax.tyInt Syntax.w64) Syntax.tnil) (Syntax.ttcons Syntax.tnil (Syntax.ttcons (Syntax.tcons (Syntax.tyInt Syntax.w64) (Syntax.tcons (Syntax.tyInt Syntax.w64) Syntax.tnil)) (Syntax.ttcons
-      (Syntax.tcons (Syntax.tyInt Syntax.w64) Syntax.tnil) (Syntax.ttcons Syntax.tnil (Syntax.ttcons Syntax.tnil (Syntax.ttcons (Syntax.tcons (Syntax.tyInt Syntax.w64) Syntax.tnil) (Syntax.ttcons
-      (Syntax.tcons (Syntax.tyInt Syntax.w64) Syntax.tnil) (Syntax.ttcons (Syntax.tcons (Syntax.tyInt Syntax.w64) Syntax.tnil) (Syntax.ttcons Syntax.tnil (Syntax.ttcons Syntax.tnil (Syntax.ttcons
-      (Syntax.tcons (Syntax.tyInt Syntax.w64) (Syntax.tcons (Syntax.tyInt Syntax.w64) Syntax.tnil)) (Syntax.ttcons Syntax.tnil Syntax.ttnil))))))))))))))))))))))))) Syntax.tnil) Syntax.ttnil))),
-)
-
-abbrev pub e29 : Row.Entry
-e29 = (6, Rows'.whole (Declared.row Parsed.the-type))
-
-abbrev pub e30 : Row.Entry
-e30 = (7, Rows'.any-gone (Syntax.tyInt Syntax.w64))
-
-abbrev pub e31 : Row.Entry
-e31 = (7, Rows'.sc-here (Row.sInt Syntax.w64))
-
-abbrev pub e32 : Row.Entry
-e32 = (8, Rows'.any-gone (Syntax.tyInt Syntax.w64))
-
-abbrev pub e33 : Row.Entry
-e33 = (8, Rows'.sc-here (Row.sInt Syntax.w64))
-
-abbrev pub e34 : Row.Entry
-e34 = (9, Rows'.any-gone (Syntax.tyInt Syntax.w64))
-
-abbrev pub e35 : Row.Entry
-e35 = (9, Rows'.sc-here (Row.sInt Syntax.w64))
+abbrev pub v27 : Row.Row
+v27 = Mut.mslice n16 y8 5
 
 abbrev pub t0 : List.List Row.Entry
-t0 = List._∷_ e0 (List._∷_ e2 (List._∷_ e20 (List._∷_ e21 (List._∷_ e23 (List._∷_ e25 (List._∷_ e28 (List._∷_ e30 (List._∷_ e32 (List._∷_ e34 (List._∷_ e3 (List._∷_ e6 (List._∷_ e7 (List._∷_ e9
-    (List._∷_ e12 (List._∷_ e14 List.[])))))))))))))))
+t0 = (0, v8) ∷ (1, v1) ∷ (2, v2) ∷ (3, v12) ∷ (4, v10) ∷ (5, v22) ∷ (6, v15) ∷ (7, v0) ∷ (8, v0) ∷ (9, v0) ∷ (10, v6) ∷ (11, v4) ∷ (12, v7) ∷ (13, v3) ∷ (14, v9) ∷ (15, v5) ∷ []
 
 abbrev pub t1 : List.List Row.Entry
-t1 = List._∷_ e16 (List._∷_ e17 (List._∷_ e19 List.[]))
+t1 = (16, Rows'.any-gone (Syntax.tyStruct (38 ∷ 91 ∷ 93 ∷ []) (Syntax.tcons y8 (Syntax.tcons u64 Syntax.tnil)))) ∷ (17, v24) ∷ (18, v25) ∷ []
 
 abbrev pub t2 : List.List Row.Entry
-t2 = List._∷_ e1 (List._∷_ e2 (List._∷_ e20 (List._∷_ e21 (List._∷_ e23 (List._∷_ e25 (List._∷_ e28 (List._∷_ e30 (List._∷_ e32 (List._∷_ e34 (List._∷_ e3 (List._∷_ e6 (List._∷_ e7 (List._∷_ e9
-    (List._∷_ e12 (List._∷_ e14 List.[])))))))))))))))
+t2 = (0, v17) ∷ (1, v1) ∷ (2, v2) ∷ (3, v12) ∷ (4, v10) ∷ (5, v22) ∷ (6, v15) ∷ (7, v0) ∷ (8, v0) ∷ (9, v0) ∷ (10, v6) ∷ (11, v4) ∷ (12, v7) ∷ (13, v3) ∷ (14, v9) ∷ (15, v5) ∷ []
 
 abbrev pub t3 : List.List Row.Entry
-t3 = List._∷_ e0 (List._∷_ e2 (List._∷_ e20 (List._∷_ e21 (List._∷_ e23 (List._∷_ (5, Rows'.whole (Array.Array (Referent.rtF (Referent.fInt Syntax.w8)) 1)) (List._∷_ e28 (List._∷_ e30 (List._∷_ e32
-    (List._∷_ e34 (List._∷_ e3 (List._∷_ e6 (List._∷_ e7 (List._∷_ e9 (List._∷_ e12 (List._∷_ e14 List.[])))))))))))))))
+t3 = (0, v8) ∷ (1, v1) ∷ (2, v2) ∷ (3, v12) ∷ (4, v10) ∷ (5, Rows'.whole (Array.Array n8 1)) ∷ (6, v15) ∷ (7, v0) ∷ (8, v0) ∷ (9, v0) ∷ (10, v6) ∷ (11, v4) ∷ (12, v7) ∷ (13, v3) ∷ (14, v9) ∷ (15, v5)
+    ∷ []
 
 abbrev pub t4 : List.List Row.Entry
-t4 = List._∷_ e0 (List._∷_ e2 (List._∷_ e20 (List._∷_ e21 (List._∷_ e23 (List._∷_ e27 (List._∷_ e28 (List._∷_ e30 (List._∷_ e32 (List._∷_ e34 (List._∷_ e3 (List._∷_ e6 (List._∷_ e7 (List._∷_ e9
-    (List._∷_ e12 (List._∷_ e14 List.[])))))))))))))))
+t4 = (0, v8) ∷ (1, v1) ∷ (2, v2) ∷ (3, v12) ∷ (4, v10) ∷ (5, v13) ∷ (6, v15) ∷ (7, v0) ∷ (8, v0) ∷ (9, v0) ∷ (10, v6) ∷ (11, v4) ∷ (12, v7) ∷ (13, v3) ∷ (14, v9) ∷ (15, v5) ∷ []
 
 abbrev pub t5 : List.List Row.Entry
-t5 = List._∷_ e0 (List._∷_ e2 (List._∷_ e20 (List._∷_ e21 (List._∷_ e23 (List._∷_ e27 (List._∷_ e28 (List._∷_ e31 (List._∷_ e32 (List._∷_ e34 (List._∷_ e3 (List._∷_ e6 (List._∷_ e7 (List._∷_ e9
-    (List._∷_ e12 (List._∷_ e14 List.[])))))))))))))))
+t5 = (0, v8) ∷ (1, v1) ∷ (2, v2) ∷ (3, v12) ∷ (4, v10) ∷ (5, v13) ∷ (6, v15) ∷ (7, v14) ∷ (8, v0) ∷ (9, v0) ∷ (10, v6) ∷ (11, v4) ∷ (12, v7) ∷ (13, v3) ∷ (14, v9) ∷ (15, v5) ∷ []
 
 abbrev pub t6 : List.List Row.Entry
-t6 = List._∷_ e0 (List._∷_ e2 (List._∷_ e20 (List._∷_ e21 (List._∷_ e23 (List._∷_ e27 (List._∷_ e28 (List._∷_ e31 (List._∷_ e33 (List._∷_ e34 (List._∷_ e3 (List._∷_ e6 (List._∷_ e7 (List._∷_ e9
-    (List._∷_ e12 (List._∷_ e14 List.[])))))))))))))))
+t6 = (0, v8) ∷ (1, v1) ∷ (2, v2) ∷ (3, v12) ∷ (4, v10) ∷ (5, v13) ∷ (6, v15) ∷ (7, v14) ∷ (8, v14) ∷ (9, v0) ∷ (10, v6) ∷ (11, v4) ∷ (12, v7) ∷ (13, v3) ∷ (14, v9) ∷ (15, v5) ∷ []
 
 abbrev pub t7 : List.List Row.Entry
-t7 = List._∷_ e0 (List._∷_ e2 (List._∷_ e20 (List._∷_ e21 (List._∷_ e23 (List._∷_ e27 (List._∷_ e28 (List._∷_ e31 (List._∷_ e33 (List._∷_ e35 (List._∷_ e3 (List._∷_ e6 (List._∷_ e7 (List._∷_ e9
-    (List._∷_ e12 (List._∷_ e14 List.[])))))))))))))))
+t7 = (0, v8) ∷ (1, v1) ∷ (2, v2) ∷ (3, v12) ∷ (4, v10) ∷ (5, v13) ∷ (6, v15) ∷ (7, v14) ∷ (8, v14) ∷ (9, v14) ∷ (10, v6) ∷ (11, v4) ∷ (12, v7) ∷ (13, v3) ∷ (14, v9) ∷ (15, v5) ∷ []
 
 abbrev pub t8 : List.List Row.Entry
-t8 = List._∷_ e0 (List._∷_ e2 (List._∷_ e20 (List._∷_ e21 (List._∷_ e23 (List._∷_ e27 (List._∷_ e29 (List._∷_ e31 (List._∷_ e33 (List._∷_ e35 (List._∷_ e3 (List._∷_ e6 (List._∷_ e7 (List._∷_ e9
-    (List._∷_ e12 (List._∷_ e14 List.[])))))))))))))))
+t8 = (0, v8) ∷ (1, v1) ∷ (2, v2) ∷ (3, v12) ∷ (4, v10) ∷ (5, v13) ∷ (6, v11) ∷ (7, v14) ∷ (8, v14) ∷ (9, v14) ∷ (10, v6) ∷ (11, v4) ∷ (12, v7) ∷ (13, v3) ∷ (14, v9) ∷ (15, v5) ∷ []
 
 abbrev pub t9 : List.List Row.Entry
-t9 = List._∷_ e0 (List._∷_ e2 (List._∷_ e20 (List._∷_ e21 (List._∷_ e23 (List._∷_ e27 (List._∷_ e29 (List._∷_ e30 (List._∷_ e33 (List._∷_ e35 (List._∷_ e3 (List._∷_ e6 (List._∷_ e7 (List._∷_ e9
-    (List._∷_ e12 (List._∷_ e14 List.[])))))))))))))))
+t9 = (0, v8) ∷ (1, v1) ∷ (2, v2) ∷ (3, v12) ∷ (4, v10) ∷ (5, v13) ∷ (6, v11) ∷ (7, v0) ∷ (8, v14) ∷ (9, v14) ∷ (10, v6) ∷ (11, v4) ∷ (12, v7) ∷ (13, v3) ∷ (14, v9) ∷ (15, v5) ∷ []
 
 abbrev pub t10 : List.List Row.Entry
-t10 = List._∷_ e0 (List._∷_ e2 (List._∷_ e20 (List._∷_ e21 (List._∷_ e23 (List._∷_ e27 (List._∷_ e29 (List._∷_ e30 (List._∷_ e32 (List._∷_ e35 (List._∷_ e3 (List._∷_ e6 (List._∷_ e7 (List._∷_ e9
-    (List._∷_ e12 (List._∷_ e14 List.[])))))))))))))))
+t10 = (0, v8) ∷ (1, v1) ∷ (2, v2) ∷ (3, v12) ∷ (4, v10) ∷ (5, v13) ∷ (6, v11) ∷ (7, v0) ∷ (8, v0) ∷ (9, v14) ∷ (10, v6) ∷ (11, v4) ∷ (12, v7) ∷ (13, v3) ∷ (14, v9) ∷ (15, v5) ∷ []
 
 abbrev pub t11 : List.List Row.Entry
-t11 = List._∷_ e0 (List._∷_ e2 (List._∷_ e20 (List._∷_ e21 (List._∷_ e23 (List._∷_ e27 (List._∷_ e29 (List._∷_ e30 (List._∷_ e32 (List._∷_ e34 (List._∷_ e3 (List._∷_ e6 (List._∷_ e7 (List._∷_ e9
-    (List._∷_ e12 (List._∷_ e14 List.[])))))))))))))))
+t11 = (0, v8) ∷ (1, v1) ∷ (2, v2) ∷ (3, v12) ∷ (4, v10) ∷ (5, v13) ∷ (6, v11) ∷ (7, v0) ∷ (8, v0) ∷ (9, v0) ∷ (10, v6) ∷ (11, v4) ∷ (12, v7) ∷ (13, v3) ∷ (14, v9) ∷ (15, v5) ∷ []
 
 abbrev pub t12 : List.List Row.Entry
-t12 = List._∷_ e0 (List._∷_ e2 (List._∷_ e20 (List._∷_ e21 (List._∷_ e23 (List._∷_ e27 (List._∷_ e29 (List._∷_ e30 (List._∷_ e32 (List._∷_ e34 (List._∷_ e4 (List._∷_ e6 (List._∷_ e7 (List._∷_ e9
-    (List._∷_ e12 (List._∷_ e14 List.[])))))))))))))))
+t12 = (0, v8) ∷ (1, v1) ∷ (2, v2) ∷ (3, v12) ∷ (4, v10) ∷ (5, v13) ∷ (6, v11) ∷ (7, v0) ∷ (8, v0) ∷ (9, v0) ∷ (10, v26) ∷ (11, v4) ∷ (12, v7) ∷ (13, v3) ∷ (14, v9) ∷ (15, v5) ∷ []
 
 abbrev pub t13 : List.List Row.Entry
-t13 = List._∷_ e0 (List._∷_ e2 (List._∷_ e20 (List._∷_ e21 (List._∷_ e23 (List._∷_ e27 (List._∷_ e29 (List._∷_ e31 (List._∷_ e32 (List._∷_ e34 (List._∷_ e4 (List._∷_ e6 (List._∷_ e7 (List._∷_ e9
-    (List._∷_ e12 (List._∷_ e14 List.[])))))))))))))))
+t13 = (0, v8) ∷ (1, v1) ∷ (2, v2) ∷ (3, v12) ∷ (4, v10) ∷ (5, v13) ∷ (6, v11) ∷ (7, v14) ∷ (8, v0) ∷ (9, v0) ∷ (10, v26) ∷ (11, v4) ∷ (12, v7) ∷ (13, v3) ∷ (14, v9) ∷ (15, v5) ∷ []
 
 abbrev pub t14 : List.List Row.Entry
-t14 = List._∷_ e0 (List._∷_ e2 (List._∷_ e20 (List._∷_ e21 (List._∷_ e23 (List._∷_ e27 (List._∷_ e29 (List._∷_ e31 (List._∷_ e32 (List._∷_ e34 (List._∷_ e4 (List._∷_ e5 (List._∷_ e7 (List._∷_ e9
-    (List._∷_ e12 (List._∷_ e14 List.[])))))))))))))))
+t14 = (0, v8) ∷ (1, v1) ∷ (2, v2) ∷ (3, v12) ∷ (4, v10) ∷ (5, v13) ∷ (6, v11) ∷ (7, v14) ∷ (8, v0) ∷ (9, v0) ∷ (10, v26) ∷ (11, Relend.ssptr n8 y6 0) ∷ (12, v7) ∷ (13, v3) ∷ (14, v9) ∷ (15, v5) ∷ []
 
 abbrev pub t15 : List.List Row.Entry
-t15 = List._∷_ e0 (List._∷_ e2 (List._∷_ e20 (List._∷_ e21 (List._∷_ e23 (List._∷_ e27 (List._∷_ e29 (List._∷_ e31 (List._∷_ e32 (List._∷_ e34 (List._∷_ e3 (List._∷_ e5 (List._∷_ e7 (List._∷_ e9
-    (List._∷_ e12 (List._∷_ e14 List.[])))))))))))))))
+t15 = (0, v8) ∷ (1, v1) ∷ (2, v2) ∷ (3, v12) ∷ (4, v10) ∷ (5, v13) ∷ (6, v11) ∷ (7, v14) ∷ (8, v0) ∷ (9, v0) ∷ (10, v6) ∷ (11, Relend.ssptr n8 y6 0) ∷ (12, v7) ∷ (13, v3) ∷ (14, v9) ∷ (15, v5) ∷ []
 
 abbrev pub t16 : List.List Row.Entry
-t16 = List._∷_ e0 (List._∷_ e2 (List._∷_ e20 (List._∷_ e21 (List._∷_ e23 (List._∷_ e27 (List._∷_ e29 (List._∷_ e31 (List._∷_ e32 (List._∷_ e34 (List._∷_ e3 (List._∷_ e6 (List._∷_ e8 (List._∷_ e9
-    (List._∷_ e12 (List._∷_ e14 List.[])))))))))))))))
+t16 = (0, v8) ∷ (1, v1) ∷ (2, v2) ∷ (3, v12) ∷ (4, v10) ∷ (5, v13) ∷ (6, v11) ∷ (7, v14) ∷ (8, v0) ∷ (9, v0) ∷ (10, v6) ∷ (11, v4) ∷ (12, v18) ∷ (13, v3) ∷ (14, v9) ∷ (15, v5) ∷ []
 
 abbrev pub t17 : List.List Row.Entry
-t17 = List._∷_ e0 (List._∷_ e2 (List._∷_ e20 (List._∷_ e21 (List._∷_ e23 (List._∷_ e27 (List._∷_ e29 (List._∷_ e30 (List._∷_ e32 (List._∷_ e34 (List._∷_ e3 (List._∷_ e6 (List._∷_ e8 (List._∷_ e9
-    (List._∷_ e12 (List._∷_ e14 List.[])))))))))))))))
+t17 = (0, v8) ∷ (1, v1) ∷ (2, v2) ∷ (3, v12) ∷ (4, v10) ∷ (5, v13) ∷ (6, v11) ∷ (7, v0) ∷ (8, v0) ∷ (9, v0) ∷ (10, v6) ∷ (11, v4) ∷ (12, v18) ∷ (13, v3) ∷ (14, v9) ∷ (15, v5) ∷ []
 
 abbrev pub t18 : List.List Row.Entry
-t18 = List._∷_ e0 (List._∷_ e2 (List._∷_ e20 (List._∷_ e21 (List._∷_ e23 (List._∷_ e26 (List._∷_ e29 (List._∷_ e30 (List._∷_ e32 (List._∷_ e34 (List._∷_ e3 (List._∷_ e6 (List._∷_ e8 (List._∷_
-    (13, Relend.msptr (Referent.rtF (Referent.fInt Syntax.w8)) (Syntax.tyRef Syntax.erased Syntax.mut (Syntax.tyArray (Syntax.tyInt Syntax.w8) 1)) 4) (List._∷_ e12 (List._∷_ e14 List.[])))))))))))))))
+t18 = (0, v8) ∷ (1, v1) ∷ (2, v2) ∷ (3, v12) ∷ (4, v10) ∷ (5, v16) ∷ (6, v11) ∷ (7, v0) ∷ (8, v0) ∷ (9, v0) ∷ (10, v6) ∷ (11, v4) ∷ (12, v18) ∷ (13, Relend.msptr n8 y13 4) ∷ (14, v9) ∷ (15, v5) ∷ []
 
 abbrev pub t19 : List.List Row.Entry
-t19 = List._∷_ e0 (List._∷_ e2 (List._∷_ e20 (List._∷_ e21 (List._∷_ e23 (List._∷_ e26 (List._∷_ e29 (List._∷_ e30 (List._∷_ e32 (List._∷_ e34 (List._∷_ e3 (List._∷_ e6 (List._∷_ e8 (List._∷_ e9
-    (List._∷_ e11 (List._∷_ e14 List.[])))))))))))))))
+t19 = (0, v8) ∷ (1, v1) ∷ (2, v2) ∷ (3, v12) ∷ (4, v10) ∷ (5, v16) ∷ (6, v11) ∷ (7, v0) ∷ (8, v0) ∷ (9, v0) ∷ (10, v6) ∷ (11, v4) ∷ (12, v18) ∷ (13, v3) ∷ (14, v20) ∷ (15, v5) ∷ []
 
 abbrev pub t20 : List.List Row.Entry
-t20 = List._∷_ e0 (List._∷_ e2 (List._∷_ e20 (List._∷_ e22 (List._∷_ e23 (List._∷_ e26 (List._∷_ e29 (List._∷_ e30 (List._∷_ e32 (List._∷_ e34 (List._∷_ e3 (List._∷_ e6 (List._∷_ e8 (List._∷_ e9
-    (List._∷_ e11 (List._∷_ e13 List.[])))))))))))))))
+t20 = (0, v8) ∷ (1, v1) ∷ (2, v2) ∷ (3, v19) ∷ (4, v10) ∷ (5, v16) ∷ (6, v11) ∷ (7, v0) ∷ (8, v0) ∷ (9, v0) ∷ (10, v6) ∷ (11, v4) ∷ (12, v18) ∷ (13, v3) ∷ (14, v20) ∷ (15, Relend.msptr n16 y8 5) ∷ []
 
 abbrev pub t21 : List.List Row.Entry
-t21 = List._∷_ e0 (List._∷_ e2 (List._∷_ e20 (List._∷_ e22 (List._∷_ e23 (List._∷_ e26 (List._∷_ e29 (List._∷_ e30 (List._∷_ e32 (List._∷_ e34 (List._∷_ e3 (List._∷_ e6 (List._∷_ e8 (List._∷_ e9
-    (List._∷_ e11 (List._∷_ e14 List.[])))))))))))))))
+t21 = (0, v8) ∷ (1, v1) ∷ (2, v2) ∷ (3, v19) ∷ (4, v10) ∷ (5, v16) ∷ (6, v11) ∷ (7, v0) ∷ (8, v0) ∷ (9, v0) ∷ (10, v6) ∷ (11, v4) ∷ (12, v18) ∷ (13, v3) ∷ (14, v20) ∷ (15, v5) ∷ []
 
 abbrev pub t22 : List.List Row.Entry
-t22 = List._∷_ e15 (List._∷_ e17 (List._∷_ e19 List.[]))
+t22 = (16, v27) ∷ (17, v24) ∷ (18, v25) ∷ []
 
 abbrev pub t23 : List.List Row.Entry
-t23 = List._∷_ e0 (List._∷_ e2 (List._∷_ e20 (List._∷_ e22 (List._∷_ e24 (List._∷_ e26 (List._∷_ e29 (List._∷_ e30 (List._∷_ e32 (List._∷_ e34 (List._∷_ e3 (List._∷_ e6 (List._∷_ e8 (List._∷_ e9
-    (List._∷_ e11 (List._∷_ e14 List.[])))))))))))))))
+t23 = (0, v8) ∷ (1, v1) ∷ (2, v2) ∷ (3, v19) ∷ (4, v21) ∷ (5, v16) ∷ (6, v11) ∷ (7, v0) ∷ (8, v0) ∷ (9, v0) ∷ (10, v6) ∷ (11, v4) ∷ (12, v18) ∷ (13, v3) ∷ (14, v20) ∷ (15, v5) ∷ []
 
 abbrev pub t24 : List.List Row.Entry
-t24 = List._∷_ e15 (List._∷_ (17, Relend.msptr (Element.type) (Syntax.tyRef Syntax.erased Syntax.mut Element.behind) 6) (List._∷_ e19 List.[]))
+t24 = (16, v27) ∷ (17, Relend.msptr (Element.type) y7 6) ∷ (18, v25) ∷ []
 
 abbrev pub t25 : List.List Row.Entry
-t25 = List._∷_ e15 (List._∷_ e17 (List._∷_ (18, Mut.mslice (Element.type) (Syntax.tyRef Syntax.erased Syntax.mut Element.behind) 6) List.[]))
+t25 = (16, v27) ∷ (17, v24) ∷ (18, Mut.mslice (Element.type) y7 6) ∷ []
 
 abbrev pub t26 : List.List Row.Entry
-t26 = List._∷_ e1 (List._∷_ e2 (List._∷_ e20 (List._∷_ e22 (List._∷_ e24 (List._∷_ e26 (List._∷_ e29 (List._∷_ e30 (List._∷_ e32 (List._∷_ e34 (List._∷_ e3 (List._∷_ e6 (List._∷_ e8 (List._∷_ e9
-    (List._∷_ e10 (List._∷_ e14 List.[])))))))))))))))
+t26 = (0, v17) ∷ (1, v1) ∷ (2, v2) ∷ (3, v19) ∷ (4, v21) ∷ (5, v16) ∷ (6, v11) ∷ (7, v0) ∷ (8, v0) ∷ (9, v0) ∷ (10, v6) ∷ (11, v4) ∷ (12, v18) ∷ (13, v3) ∷ (14, v23) ∷ (15, v5) ∷ []
 
 abbrev pub t27 : List.List Row.Entry
-t27 = List._∷_ (16, Mut.msleft (Referent.rtF (Referent.fInt Syntax.w16)) (Syntax.tyRef Syntax.erased Syntax.mut (Syntax.tyInt Syntax.w16))) (List._∷_ e17 (List._∷_ e18 List.[]))
+t27 = (16, Mut.msleft n16 y8) ∷ (17, v24) ∷ (18, Mut.msleft (Element.type) y7) ∷ []
 
 abbrev pub t28 : List.List Row.Entry
-t28 = List._∷_ e1 (List._∷_ e2 (List._∷_ e20 (List._∷_ e22 (List._∷_ e24 (List._∷_ e26 (List._∷_ e29 (List._∷_ e30 (List._∷_ e32 (List._∷_ e34 (List._∷_ e3 (List._∷_ e6 (List._∷_ e7 (List._∷_ e9
-    (List._∷_ e10 (List._∷_ e14 List.[])))))))))))))))
+t28 = (0, v17) ∷ (1, v1) ∷ (2, v2) ∷ (3, v19) ∷ (4, v21) ∷ (5, v16) ∷ (6, v11) ∷ (7, v0) ∷ (8, v0) ∷ (9, v0) ∷ (10, v6) ∷ (11, v4) ∷ (12, v7) ∷ (13, v3) ∷ (14, v23) ∷ (15, v5) ∷ []
 
 abbrev pub t29 : List.List Row.Entry
-t29 = List._∷_ e1 (List._∷_ e2 (List._∷_ e20 (List._∷_ e22 (List._∷_ e24 (List._∷_ e26 (List._∷_ e28 (List._∷_ e30 (List._∷_ e32 (List._∷_ e34 (List._∷_ e3 (List._∷_ e6 (List._∷_ e7 (List._∷_ e9
-    (List._∷_ e10 (List._∷_ e14 List.[])))))))))))))))
+t29 = (0, v17) ∷ (1, v1) ∷ (2, v2) ∷ (3, v19) ∷ (4, v21) ∷ (5, v16) ∷ (6, v15) ∷ (7, v0) ∷ (8, v0) ∷ (9, v0) ∷ (10, v6) ∷ (11, v4) ∷ (12, v7) ∷ (13, v3) ∷ (14, v23) ∷ (15, v5) ∷ []
 
 abbrev pub t30 : List.List Row.Entry
-t30 = List._∷_ e1 (List._∷_ e2 (List._∷_ e20 (List._∷_ e22 (List._∷_ e24 (List._∷_ e27 (List._∷_ e28 (List._∷_ e30 (List._∷_ e32 (List._∷_ e34 (List._∷_ e3 (List._∷_ e6 (List._∷_ e7 (List._∷_ e9
-    (List._∷_ e12 (List._∷_ e14 List.[])))))))))))))))
+t30 = (0, v17) ∷ (1, v1) ∷ (2, v2) ∷ (3, v19) ∷ (4, v21) ∷ (5, v13) ∷ (6, v15) ∷ (7, v0) ∷ (8, v0) ∷ (9, v0) ∷ (10, v6) ∷ (11, v4) ∷ (12, v7) ∷ (13, v3) ∷ (14, v9) ∷ (15, v5) ∷ []
 
 abbrev pub t31 : List.List Row.Entry
-t31 = List._∷_ e1 (List._∷_ e2 (List._∷_ e20 (List._∷_ e22 (List._∷_ e24 (List._∷_ e25 (List._∷_ e28 (List._∷_ e30 (List._∷_ e32 (List._∷_ e34 (List._∷_ e3 (List._∷_ e6 (List._∷_ e7 (List._∷_ e9
-    (List._∷_ e12 (List._∷_ e14 List.[])))))))))))))))
+t31 = (0, v17) ∷ (1, v1) ∷ (2, v2) ∷ (3, v19) ∷ (4, v21) ∷ (5, v22) ∷ (6, v15) ∷ (7, v0) ∷ (8, v0) ∷ (9, v0) ∷ (10, v6) ∷ (11, v4) ∷ (12, v7) ∷ (13, v3) ∷ (14, v9) ∷ (15, v5) ∷ []
 
 abbrev pub t32 : List.List Row.Entry
-t32 = List._∷_ e1 (List._∷_ e2 (List._∷_ e20 (List._∷_ e21 (List._∷_ e24 (List._∷_ e25 (List._∷_ e28 (List._∷_ e30 (List._∷_ e32 (List._∷_ e34 (List._∷_ e3 (List._∷_ e6 (List._∷_ e7 (List._∷_ e9
-    (List._∷_ e12 (List._∷_ e14 List.[])))))))))))))))
+t32 = (0, v17) ∷ (1, v1) ∷ (2, v2) ∷ (3, v12) ∷ (4, v21) ∷ (5, v22) ∷ (6, v15) ∷ (7, v0) ∷ (8, v0) ∷ (9, v0) ∷ (10, v6) ∷ (11, v4) ∷ (12, v7) ∷ (13, v3) ∷ (14, v9) ∷ (15, v5) ∷ []
 
 abbrev pub t33 : List.List Row.Entry
-t33 = List._∷_ e16 (List._∷_ e17 (List._∷_ e18 List.[]))
+t33 = (16, Rows'.any-gone (Syntax.tyStruct (38 ∷ 91 ∷ 93 ∷ []) (Syntax.tcons y8 (Syntax.tcons u64 Syntax.tnil)))) ∷ (17, v24) ∷ (18, Mut.msleft (Element.type) y7) ∷ []
 
 abbrev pub T0 : Row.Cx
-T0 = record { locals = List._++_ t0 t1; slots = List.[] }
+T0 = record { locals = List._++_ t0 t1; slots = [] }
 
 abbrev pub T1 : Row.Cx
-T1 = record { locals = List._++_ t2 t1; slots = List.[] }
-
-abbrev pub T2 : Row.Cx
-T2 = record { locals = List._++_ t0 t1; slots = List.[] }
-
-abbrev pub T3 : Row.Cx
-T3 = record { locals = List._++_ t0 t1; slots = List.[] }
-
-abbrev pub T4 : Row.Cx
-T4 = record { locals = List._++_ t0 t1; slots = List.[] }
+T1 = record { locals = List._++_ t2 t1; slots = [] }
 
 abbrev pub T5 : Row.Cx
-T5 = record { locals = List._++_ t3 t1; slots = List.[] }
+T5 = record { locals = List._++_ t3 t1; slots = [] }
 
 abbrev pub T6 : Row.Cx
-T6 = record { locals = List._++_ t4 t1; slots = List.[] }
+T6 = record { locals = List._++_ t4 t1; slots = [] }
 
 abbrev pub T7 : Row.Cx
-T7 = record { locals = List._++_ t5 t1; slots = List.[] }
+T7 = record { locals = List._++_ t5 t1; slots = [] }
 
 abbrev pub T8 : Row.Cx
-T8 = record { locals = List._++_ t6 t1; slots = List.[] }
+T8 = record { locals = List._++_ t6 t1; slots = [] }
 
 abbrev pub T9 : Row.Cx
-T9 = record { locals = List._++_ t7 t1; slots = List.[] }
+T9 = record { locals = List._++_ t7 t1; slots = [] }
 
 abbrev pub T10 : Row.Cx
-T10 = record { locals = List._++_ t8 t1; slots = List.[] }
+T10 = record { locals = List._++_ t8 t1; slots = [] }
 
 abbrev pub T11 : Row.Cx
-T11 = record { locals = List._++_ t9 t1; slots = List.[] }
+T11 = record { locals = List._++_ t9 t1; slots = [] }
 
 abbrev pub T12 : Row.Cx
-T12 = record { locals = List._++_ t10 t1; slots = List.[] }
+T12 = record { locals = List._++_ t10 t1; slots = [] }
 
 abbrev pub T13 : Row.Cx
-T13 = record { locals = List._++_ t11 t1; slots = List.[] }
+T13 = record { locals = List._++_ t11 t1; slots = [] }
 
 abbrev pub T14 : Row.Cx
-T14 = record { locals = List._++_ t12 t1; slots = List.[] }
+T14 = record { locals = List._++_ t12 t1; slots = [] }
 
 abbrev pub T15 : Row.Cx
-T15 = record { locals = List._++_ t13 t1; slots = List.[] }
+T15 = record { locals = List._++_ t13 t1; slots = [] }
 
 abbrev pub T16 : Row.Cx
-T16 = record { locals = List._++_ t14 t1; slots = List.[] }
+T16 = record { locals = List._++_ t14 t1; slots = [] }
 
 abbrev pub T17 : Row.Cx
-T17 = record { locals = List._++_ t15 t1; slots = List.[] }
+T17 = record { locals = List._++_ t15 t1; slots = [] }
 
 abbrev pub T18 : Row.Cx
-T18 = record { locals = List._++_ t16 t1; slots = List.[] }
+T18 = record { locals = List._++_ t16 t1; slots = [] }
 
 abbrev pub T19 : Row.Cx
-T19 = record { locals = List._++_ t17 t1; slots = List.[] }
+T19 = record { locals = List._++_ t17 t1; slots = [] }
 
 abbrev pub T21 : Row.Cx
-T21 = record { locals = List._++_ t18 t1; slots = List.[] }
+T21 = record { locals = List._++_ t18 t1; slots = [] }
 
 abbrev pub T22 : Row.Cx
-T22 = record { locals = List._++_ t19 t1; slots = List.[] }
+T22 = record { locals = List._++_ t19 t1; slots = [] }
 
 abbrev pub T24 : Row.Cx
-T24 = record { locals = List._++_ t20 t1; slots = List.[] }
+T24 = record { locals = List._++_ t20 t1; slots = [] }
 
 abbrev pub T25 : Row.Cx
-T25 = record { locals = List._++_ t21 t22; slots = List.[] }
+T25 = record { locals = List._++_ t21 t22; slots = [] }
 
 abbrev pub T27 : Row.Cx
-T27 = record { locals = List._++_ t23 t24; slots = List.[] }
+T27 = record { locals = List._++_ t23 t24; slots = [] }
 
 abbrev pub T28 : Row.Cx
-T28 = record { locals = List._++_ t23 t25; slots = List.[] }
+T28 = record { locals = List._++_ t23 t25; slots = [] }
 
 abbrev pub T29 : Row.Cx
-T29 = record { locals = List._++_ t26 t27; slots = List.[] }
+T29 = record { locals = List._++_ t26 t27; slots = [] }
 
 abbrev pub T30 : Row.Cx
-T30 = record { locals = List._++_ t28 t27; slots = List.[] }
+T30 = record { locals = List._++_ t28 t27; slots = [] }
 
 abbrev pub T31 : Row.Cx
-T31 = record { locals = List._++_ t29 t27; slots = List.[] }
+T31 = record { locals = List._++_ t29 t27; slots = [] }
 
 abbrev pub T33 : Row.Cx
-T33 = record { locals = List._++_ t30 t27; slots = List.[] }
+T33 = record { locals = List._++_ t30 t27; slots = [] }
 
 abbrev pub T35 : Row.Cx
-T35 = record { locals = List._++_ t31 t27; slots = List.[] }
+T35 = record { locals = List._++_ t31 t27; slots = [] }
 
 abbrev pub T37 : Row.Cx
-T37 = record { locals = List._++_ t32 t33; slots = List.[] }
-
-abbrev pub T38 : Row.Cx
-T38 = record { locals = List._++_ t32 t33; slots = List.[] }
-
-abbrev pub T41 : Row.Cx
-T41 = record { locals = List._++_ t2 t1; slots = List.[] }
+T37 = record { locals = List._++_ t32 t33; slots = [] }
 
 abbrev pub O0 : Typed.Outs
-O0 = record { next = Option.none; exits = List.[]; returns = Option.some T1 }
+O0 = record { next = Option.none; exits = []; returns = Option.some T1 }
 
 module _ (claims· : Claims) where
-  abbrev s0 : (bs : List.List Nat.ℕ) → Typed.Gives T0 T2
-  s0 = λ bs. Know.k-shs-known (Referent.fInt Syntax.w8) T0 1 0 (Syntax.tyRef (Syntax.named 0) Syntax.imm (Syntax.tyInt Syntax.w8)) Row.off 0 λ x. x
+  abbrev s0 : (bs : List.List Nat.ℕ) → Typed.Gives T0 T0
+  s0 = λ bs. Know.k-shs-known (Referent.fInt Syntax.w8) T0 1 0 y2 Row.off 0 λ x. x
 
-  abbrev s1 : (bs : List.List Nat.ℕ) → Typed.Gives T2 T3
-  s1 = λ bs. Know.k-shs-known (Referent.fInt Syntax.w16) T2 2 1 (Syntax.tyRef (Syntax.named 1) Syntax.imm (Syntax.tyInt Syntax.w16)) Row.off 0 λ x. x
+  abbrev s1 : (bs : List.List Nat.ℕ) → Typed.Gives T0 T0
+  s1 = λ bs. Know.k-shs-known (Referent.fInt Syntax.w16) T0 2 1 y3 Row.off 0 λ x. x
 
-  abbrev s2 : (bs : List.List Nat.ℕ) → Typed.Gives T3 T4
-  s2 = λ bs. Know.k-sl-known (Referent.fInt Syntax.w16) T3 3 2 (Syntax.tyRef (Syntax.named 2) Syntax.mut (Syntax.tyInt Syntax.w16)) Row.off 0 λ x. x
+  abbrev s2 : (bs : List.List Nat.ℕ) → Typed.Gives T0 T0
+  s2 = λ bs. Know.k-sl-known (Referent.fInt Syntax.w16) T0 3 2 y4 Row.off 0 λ x. x
 
-  abbrev s3 : (bs : List.List Nat.ℕ) → Typed.Mo T4 → Typed.Mo T5
-  s3 = λ bs. Make.n-make (Array.Array (Referent.rtF (Referent.fInt Syntax.w8)) 1) T4 5 λ m. List._∷_ 0 List.[]
+  abbrev s3 : (bs : List.List Nat.ℕ) → Typed.Mo T0 → Typed.Mo T5
+  s3 = λ bs. Make.n-make (Array.Array n8 1) T0 5 λ m. 0 ∷ []
 
   abbrev s4 : (bs : List.List Nat.ℕ) → Typed.Mo T5 → Typed.Mo T6
-  s4 = λ bs. AtSlots.n-as-by T5 5 (Rows.arrF (Referent.rtF (Referent.fInt Syntax.w8)) 1 0) λ x. x
+  s4 = λ bs. AtSlots.n-as-by T5 5 (Rows.arrF n8 1 0) λ x. x
 
   abbrev s5 : (bs : List.List Nat.ℕ) → Typed.Mo T6 → Typed.Mo T7
-  s5 = λ bs. Scalar.n-use T6 (Scalar.oFld 2 (List._∷_ (Syntax.field 1) List.[]) (Syntax.tyInt Syntax.w64) 8 Shared.lenV) 7 (Rows'.sc-here (Row.sInt Syntax.w64)) (Row.sInt Syntax.w64 .of)
+  s5 = λ bs. Scalar.n-use T6 (Scalar.oFld 2 ((Syntax.field 1) ∷ []) u64 8 Shared.lenV) 7 (Rows'.sc-here (Row.sInt Syntax.w64)) (Row.sInt Syntax.w64 .of)
 
   abbrev s6 : (bs : List.List Nat.ℕ) → Typed.Mo T7 → Typed.Mo T8
-  s6 = λ bs. Scalar.n-use T7 (Scalar.oFld 3 (List._∷_ (Syntax.field 1) List.[]) (Syntax.tyInt Syntax.w64) 8 Shared.lenV) 8 (Rows'.sc-here (Row.sInt Syntax.w64)) (Row.sInt Syntax.w64 .of)
+  s6 = λ bs. Scalar.n-use T7 (Scalar.oFld 3 ((Syntax.field 1) ∷ []) u64 8 Shared.lenV) 8 (Rows'.sc-here (Row.sInt Syntax.w64)) (Row.sInt Syntax.w64 .of)
 
   abbrev s7 : (bs : List.List Nat.ℕ) → Typed.Mo T8 → Typed.Mo T9
-  s7 = λ bs. Scalar.n-use T8 (Scalar.oFld 4 (List._∷_ (Syntax.field 1) List.[]) (Syntax.tyInt Syntax.w64) 8 Shared.lenV) 9 (Rows'.sc-here (Row.sInt Syntax.w64)) (Row.sInt Syntax.w64 .of)
+  s7 = λ bs. Scalar.n-use T8 (Scalar.oFld 4 ((Syntax.field 1) ∷ []) u64 8 Shared.lenV) 9 (Rows'.sc-here (Row.sInt Syntax.w64)) (Row.sInt Syntax.w64 .of)
 
   abbrev s8 : (bs : List.List Nat.ℕ) → Typed.Both T9 T10
-  s8 = λ bs. Call.callB ps·0 r·0 (claims· .0) (claims· .1) T9
-      (record { pos = 1; ty = Syntax.tyRef (Syntax.named 0) Syntax.imm (Syntax.tyInt Syntax.w8); ref = λ x. x }, (Num.vAt 7 λ x. x, (Num.vAt 8 λ x. x, (Num.vAt 9 λ x. x, tt)))) 6 (List._∷_ 0 List.[])
-      (Syntax.tyEnum (List._∷_ 115 (List._∷_ 116 (List._∷_ 114 (List._∷_ 101 (List._∷_ 97 (List._∷_ 109 (List._∷_ 58 (List._∷_ 58 (List._∷_ 80 (List._∷_ 97 (List._∷_ 114 (List._∷_ 115 (List._∷_ 101
-      (List._∷_ 100 List.[])))))))))))))) (Syntax.ttcons (Syntax.tcons y0 Syntax.tnil) (Syntax.ttcons (Syntax.tcons (Syntax.tyEnum (List._∷_ 115 (List._∷_ 116 (List._∷_ 114 (List._∷_ 101 (List._∷_ 97
-      (List._∷_ 109 (List._∷_ 58 (List._∷_ 58 (List._∷_ 82 (List._∷_ 101 (List._∷_ 102 (List._∷_ 117 (List._∷_ 115 (List._∷_ 97 (List._∷_ 108 List.[]))))))))))))))) (Syntax.ttcons Syntax.tnil
-      (Syntax.ttcons Syntax.tnil (Syntax.ttcons Syntax.tnil (Syntax.ttcons (Syntax.tcons (Syntax.tyInt Syntax.w64) Syntax.tnil) (Syntax.ttcons Syntax.tnil (Syntax.ttcons Syntax.tnil (Syntax.ttcons
-      Syntax.tnil (Syntax.ttcons Syntax.tnil (Syntax.ttcons Syntax.tnil (Syntax.ttcons Syntax.tnil (Syntax.ttcons (Syntax.tcons (Syntax.tyInt Syntax.w64) Syntax.tnil) (Syntax.ttcons (Syntax.tcons
-      (Syntax.tyInt Syntax.w64) Syntax.tnil) (Syntax.ttcons Syntax.tnil (Syntax.ttcons (Syntax.tcons (Syntax.tyInt Syntax.w64) (Syntax.tcons (Syntax.tyInt Syntax.w64) Syntax.tnil)) (Syntax.ttcons
-      (Syntax.tcons (Syntax.tyInt Syntax.w64) Syntax.tnil) (Syntax.ttcons Syntax.tnil (Syntax.ttcons Syntax.tnil (Syntax.ttcons (Syntax.tcons (Syntax.tyInt Syntax.w64) Syntax.tnil) (Syntax.ttcons
-      (Syntax.tcons (Syntax.tyInt Syntax.w64) Syntax.tnil) (Syntax.ttcons (Syntax.tcons (Syntax.tyInt Syntax.w64) Syntax.tnil) (Syntax.ttcons Syntax.tnil (Syntax.ttcons Syntax.tnil (Syntax.ttcons
-      (Syntax.tcons (Syntax.tyInt Syntax.w64) (Syntax.tcons (Syntax.tyInt Syntax.w64) Syntax.tnil)) (Syntax.ttcons Syntax.tnil Syntax.ttnil))))))))))))))))))))))))) Syntax.tnil) Syntax.ttnil)))
+  s8 = λ bs. Call.callB ps·0 r·0 (claims· .0) (claims· .1) T9 (record { pos = 1; ty = y2; ref = λ x. x }, (Num.vAt 7 λ x. x, (Num.vAt 8 λ x. x, (Num.vAt 9 λ x. x, tt)))) 6 (0 ∷ []) y12
 
   abbrev s9 : (bs : List.List Nat.ℕ) → Typed.Mo T10 → Typed.Mo T11
-  s9 = λ bs. Scalar.n-room T10 7 (Syntax.tyInt Syntax.w64)
+  s9 = λ bs. Scalar.n-room T10 7 u64
 
   abbrev s10 : (bs : List.List Nat.ℕ) → Typed.Mo T11 → Typed.Mo T12
-  s10 = λ bs. Scalar.n-room T11 8 (Syntax.tyInt Syntax.w64)
+  s10 = λ bs. Scalar.n-room T11 8 u64
 
   abbrev s11 : (bs : List.List Nat.ℕ) → Typed.Mo T12 → Typed.Mo T13
-  s11 = λ bs. Scalar.n-room T12 9 (Syntax.tyInt Syntax.w64)
+  s11 = λ bs. Scalar.n-room T12 9 u64
 
   abbrev s12 : (bs : List.List Nat.ℕ) → Typed.Asks T13 T14
-  s12 = λ bs. Scalar.k-op2 T13 Syntax.offset (Scalar.oFld 1 (List._∷_ (Syntax.field 0) List.[]) (Syntax.tyRef (Syntax.named 0) Syntax.imm (Syntax.tyInt Syntax.w8)) 0 Reads.ptrVal) (Scalar.oInt
-      Syntax.w64 0) 10 (Rows'.sc-here Row.sPtr) (Row.sPtr .of)
+  s12 = λ bs. Scalar.k-op2 T13 Syntax.offset (Scalar.oFld 1 ((Syntax.field 0) ∷ []) y2 0 Reads.ptrVal) (Scalar.oInt Syntax.w64 0) 10 (Rows'.sc-here Row.sPtr) (Row.sPtr .of)
 
   abbrev s13 : (bs : List.List Nat.ℕ) → Typed.Asks T14 T15
   s13 = λ bs. Scalar.k-op2 T14 (Syntax.sub Syntax.unsigned) (Scalar.oInt Syntax.w64 0) (Scalar.oInt Syntax.w64 0) 7 (Rows'.sc-here (Row.sInt Syntax.w64)) (Row.sInt Syntax.w64 .of)
 
   abbrev s14 : (bs : List.List Nat.ℕ) → Typed.Both T15 T16
-  s14 = λ bs. PartAt.k-shs-part-same (Referent.rtF (Referent.fInt Syntax.w8)) T15 1 10 11 0 (Syntax.tyRef (Syntax.named 0) Syntax.imm (Syntax.tyInt Syntax.w8)) (Syntax.tyRef Syntax.erased Syntax.imm
-      (Syntax.tyInt Syntax.w8)) Row.off Shared.byByte (λ x. x) (λ x. x) (λ u. 0) λ u. 0
+  s14 = λ bs. PartAt.k-shs-part-same n8 T15 1 10 11 0 y2 y6 Row.off Shared.byByte (λ x. x) (λ x. x) (λ u. 0) λ u. 0
 
   abbrev s15 : (bs : List.List Nat.ℕ) → Typed.Mo T16 → Typed.Mo T17
   s15 = λ bs. Scalar.n-room T16 10 Syntax.tyPtr
 
   abbrev s16 : (bs : List.List Nat.ℕ) → Typed.Asks T17 T18
-  s16 = λ bs. Relend.k-sl-aggregate (Referent.rtF (Referent.fInt Syntax.w8)) (Relend.asShr (Referent.rtF (Referent.fInt Syntax.w8))) T17 11 12 0 (Syntax.tyRef Syntax.erased Syntax.imm (Syntax.tyInt
-      Syntax.w8)) (Syntax.tyRef Syntax.erased Syntax.imm (Syntax.tyInt Syntax.w8)) (λ x. x) (Scalar.oAt 7 (Syntax.tyInt Syntax.w64) (Row.valS (Row.sInt Syntax.w64)))
+  s16 = λ bs. Relend.k-sl-aggregate n8 (Relend.asShr n8) T17 11 12 0 y6 y6 (λ x. x) (Scalar.oAt 7 u64 (Row.valS (Row.sInt Syntax.w64)))
 
   abbrev s17 : (bs : List.List Nat.ℕ) → Typed.Mo T18 → Typed.Mo T19
-  s17 = λ bs. Scalar.n-room T18 7 (Syntax.tyInt Syntax.w64)
+  s17 = λ bs. Scalar.n-room T18 7 u64
 
   abbrev s19 : (bs : List.List Nat.ℕ) → Typed.Gives T19 T21
-  s19 = λ bs. Borrow.k-arr-borrow (Referent.rtF (Referent.fInt Syntax.w8)) T19 (Row.hd 0 (Row.tl (Row.tl (Row.tl (Row.tl (Row.tl bs)))))) 5 13 1 4 (Syntax.tyRef Syntax.erased Syntax.mut
-      (Syntax.tyArray (Syntax.tyInt Syntax.w8) 1)) λ x. x
+  s19 = λ bs. Borrow.k-arr-borrow n8 T19 (Row.hd 0 (Row.tl (Row.tl (Row.tl (Row.tl (Row.tl bs)))))) 5 13 1 4 y13 λ x. x
 
   abbrev s20 : (bs : List.List Nat.ℕ) → Typed.Asks T21 T22
-  s20 = λ bs. Relend.k-sl-aggregate (Referent.rtF (Referent.fInt Syntax.w8)) (Relend.asMut (Referent.rtF (Referent.fInt Syntax.w8))) T21 13 14 4 (Syntax.tyRef Syntax.erased Syntax.mut (Syntax.tyArray
-      (Syntax.tyInt Syntax.w8) 1)) (Syntax.tyRef Syntax.erased Syntax.mut (Syntax.tyInt Syntax.w8)) (λ x. x) (Scalar.oInt Syntax.w64 1)
+  s20 = λ bs. Relend.k-sl-aggregate n8 (Relend.asMut n8) T21 13 14 4 y13 y9 (λ x. x) (Scalar.oInt Syntax.w64 1)
 
   abbrev s22 : (bs : List.List Nat.ℕ) → Typed.Gives T22 T24
-  s22 = λ bs. Relend.k-sl-relend (Referent.rtF (Referent.fInt Syntax.w16)) T22 3 15 2 5 (Syntax.tyRef (Syntax.named 2) Syntax.mut (Syntax.tyInt Syntax.w16)) (Syntax.tyRef Syntax.erased Syntax.mut
-      (Syntax.tyInt Syntax.w16)) Row.off λ x. x
+  s22 = λ bs. Relend.k-sl-relend n16 T22 3 15 2 5 y4 y8 Row.off λ x. x
 
   abbrev s23 : (bs : List.List Nat.ℕ) → Typed.Asks T24 T25
-  s23 = λ bs. Relend.k-sl-aggregate (Referent.rtF (Referent.fInt Syntax.w16)) (Relend.asMut (Referent.rtF (Referent.fInt Syntax.w16))) T24 15 16 5 (Syntax.tyRef Syntax.erased Syntax.mut (Syntax.tyInt
-      Syntax.w16)) (Syntax.tyRef Syntax.erased Syntax.mut (Syntax.tyInt Syntax.w16)) (λ x. x) (Scalar.oFld 3 (List._∷_ (Syntax.field 1) List.[]) (Syntax.tyInt Syntax.w64) 8 λ v. Shared.lenV (v .0))
+  s23 = λ bs. Relend.k-sl-aggregate n16 (Relend.asMut n16) T24 15 16 5 y8 y8 (λ x. x) (Scalar.oFld 3 ((Syntax.field 1) ∷ []) u64 8 λ v. Shared.lenV (v .0))
 
   abbrev s25 : (bs : List.List Nat.ℕ) → Typed.Gives T25 T27
-  s25 = λ bs. Relend.k-sl-relend (Element.type) T25 4 17 3 6 (Syntax.tyRef (Syntax.named 3) Syntax.mut Element.behind) (Syntax.tyRef Syntax.erased Syntax.mut Element.behind) Row.off λ x. x
+  s25 = λ bs. Relend.k-sl-relend (Element.type) T25 4 17 3 6 y5 y7 Row.off λ x. x
 
   abbrev s26 : (bs : List.List Nat.ℕ) → Typed.Asks T27 T28
-  s26 = λ bs. Relend.k-sl-aggregate (Element.type) (Relend.asMut (Element.type)) T27 17 18 6 (Syntax.tyRef Syntax.erased Syntax.mut Element.behind) (Syntax.tyRef Syntax.erased Syntax.mut
-      Element.behind) (λ x. x) (Scalar.oFld 4 (List._∷_ (Syntax.field 1) List.[]) (Syntax.tyInt Syntax.w64) 8 λ v. Shared.lenV (v .0))
+  s26 = λ bs. Relend.k-sl-aggregate (Element.type) (Relend.asMut (Element.type)) T27 17 18 6 y7 y7 (λ x. x) (Scalar.oFld 4 ((Syntax.field 1) ∷ []) u64 8 λ v. Shared.lenV (v .0))
 
   abbrev s27 : (bs : List.List Nat.ℕ) → Typed.Both T28 T29
   s27 = λ bs. Call.callB ps·1 r·1 (claims· .2) (claims· .3) T28 (
-    record { pos = 6; st = List.[]; d = 0; at = λ x. x },
+    record { pos = 6; st = []; d = 0; at = λ x. x },
     (
-      record { pos = 12; ty = Syntax.tyRef Syntax.erased Syntax.imm (Syntax.tyInt Syntax.w8); ref = λ x. x },
+      record { pos = 12; ty = y6; ref = λ x. x },
       (
-        record { pos = 2; ty = Syntax.tyRef (Syntax.named 1) Syntax.imm (Syntax.tyInt Syntax.w16); ref = λ x. x },
-        (
-          record { pos = 14; ty = Syntax.tyRef Syntax.erased Syntax.mut (Syntax.tyInt Syntax.w8); ref = λ x. x },
-          (
-            Bool.bLit Bool'.true,
-            (
-              record { pos = 16; ty = Syntax.tyRef Syntax.erased Syntax.mut (Syntax.tyInt Syntax.w16); ref = λ x. x },
-              (record { pos = 18; ty = Syntax.tyRef Syntax.erased Syntax.mut Element.behind; ref = λ x. x }, tt),
-            ),
-          ),
-        ),
+        record { pos = 2; ty = y3; ref = λ x. x },
+        (record { pos = 14; ty = y9; ref = λ x. x }, (Bool.bLit Bool'.true, (record { pos = 16; ty = y8; ref = λ x. x }, (record { pos = 18; ty = y7; ref = λ x. x }, tt)))),
       ),
     ),
-  ) 0 (List._∷_ 0 (List._∷_ 1 (List._∷_ 4 (List._∷_ 5 (List._∷_ 6 List.[]))))) (Syntax.tyEnum
-      (List._∷_ 115 (List._∷_ 116 (List._∷_ 114 (List._∷_ 101 (List._∷_ 97 (List._∷_ 109 (List._∷_ 58 (List._∷_ 58 (List._∷_ 66 (List._∷_ 108 (List._∷_ 111 (List._∷_ 99 (List._∷_ 107 (List._∷_ 76
-      (List._∷_ 101 (List._∷_ 110 (List._∷_ 103 (List._∷_ 116 (List._∷_ 104 List.[]))))))))))))))))))) (Syntax.ttcons (Syntax.tcons (Syntax.tyInt Syntax.w64) Syntax.tnil) (Syntax.ttcons (Syntax.tcons
-      (Syntax.tyEnum (List._∷_ 115 (List._∷_ 116 (List._∷_ 114 (List._∷_ 101 (List._∷_ 97 (List._∷_ 109 (List._∷_ 58 (List._∷_ 58 (List._∷_ 82 (List._∷_ 101 (List._∷_ 102 (List._∷_ 117 (List._∷_ 115
-      (List._∷_ 97 (List._∷_ 108 List.[]))))))))))))))) (Syntax.ttcons Syntax.tnil (Syntax.ttcons Syntax.tnil (Syntax.ttcons Syntax.tnil (Syntax.ttcons (Syntax.tcons (Syntax.tyInt Syntax.w64) Syntax.tnil)
-      (Syntax.ttcons Syntax.tnil (Syntax.ttcons Syntax.tnil (Syntax.ttcons Syntax.tnil (Syntax.ttcons Syntax.tnil (Syntax.ttcons Syntax.tnil (Syntax.ttcons Syntax.tnil (Syntax.ttcons (Syntax.tcons
-      (Syntax.tyInt Syntax.w64) Syntax.tnil) (Syntax.ttcons (Syntax.tcons (Syntax.tyInt Syntax.w64) Syntax.tnil) (Syntax.ttcons Syntax.tnil (Syntax.ttcons (Syntax.tcons (Syntax.tyInt Syntax.w64)
-      (Syntax.tcons (Syntax.tyInt Syntax.w64) Syntax.tnil)) (Syntax.ttcons (Syntax.tcons (Syntax.tyInt Syntax.w64) Syntax.tnil) (Syntax.ttcons Syntax.tnil (Syntax.ttcons Syntax.tnil (Syntax.ttcons
-      (Syntax.tcons (Syntax.tyInt Syntax.w64) Syntax.tnil) (Syntax.ttcons (Syntax.tcons (Syntax.tyInt Syntax.w64) Syntax.tnil) (Syntax.ttcons (Syntax.tcons (Syntax.tyInt Syntax.w64) Syntax.tnil)
-      (Syntax.ttcons Syntax.tnil (Syntax.ttcons Syntax.tnil (Syntax.ttcons (Syntax.tcons (Syntax.tyInt Syntax.w64) (Syntax.tcons (Syntax.tyInt Syntax.w64) Syntax.tnil)) (Syntax.ttcons Syntax.tnil
-      Syntax.ttnil))))))))))))))))))))))))) Syntax.tnil) Syntax.ttnil)))
+  ) 0 (0 ∷ 1 ∷ 4 ∷ 5 ∷ 6 ∷ [])
+      y11
 
   abbrev s28 : (bs : List.List Nat.ℕ) → Typed.Mo T29 → Typed.Mo T30
-  s28 = λ bs. Scalar.n-room T29 12 y1
+  s28 = λ bs. Scalar.n-room T29 12 y14
 
   abbrev s29 : (bs : List.List Nat.ℕ) → Typed.Mo T30 → Typed.Mo T31
-  s29 = λ bs. Scalar.n-room T30 6 (Syntax.tyEnum (List._∷_ 115 (List._∷_ 116 (List._∷_ 114 (List._∷_ 101 (List._∷_ 97 (List._∷_ 109 (List._∷_ 58 (List._∷_ 58 (List._∷_ 80 (List._∷_ 97 (List._∷_ 114
-      (List._∷_ 115 (List._∷_ 101 (List._∷_ 100 List.[])))))))))))))) (Syntax.ttcons (Syntax.tcons y0 Syntax.tnil) (Syntax.ttcons (Syntax.tcons (Syntax.tyEnum (List._∷_ 115 (List._∷_ 116 (List._∷_ 114
-      (List._∷_ 101 (List._∷_ 97 (List._∷_ 109 (List._∷_ 58 (List._∷_ 58 (List._∷_ 82 (List._∷_ 101 (List._∷_ 102 (List._∷_ 117 (List._∷_ 115 (List._∷_ 97 (List._∷_ 108 List.[])))))))))))))))
-      (Syntax.ttcons Syntax.tnil (Syntax.ttcons Syntax.tnil (Syntax.ttcons Syntax.tnil (Syntax.ttcons (Syntax.tcons (Syntax.tyInt Syntax.w64) Syntax.tnil) (Syntax.ttcons Syntax.tnil (Syntax.ttcons
-      Syntax.tnil (Syntax.ttcons Syntax.tnil (Syntax.ttcons Syntax.tnil (Syntax.ttcons Syntax.tnil (Syntax.ttcons Syntax.tnil (Syntax.ttcons (Syntax.tcons (Syntax.tyInt Syntax.w64) Syntax.tnil)
-      (Syntax.ttcons (Syntax.tcons (Syntax.tyInt Syntax.w64) Syntax.tnil) (Syntax.ttcons Syntax.tnil (Syntax.ttcons (Syntax.tcons (Syntax.tyInt Syntax.w64) (Syntax.tcons (Syntax.tyInt Syntax.w64)
-      Syntax.tnil)) (Syntax.ttcons (Syntax.tcons (Syntax.tyInt Syntax.w64) Syntax.tnil) (Syntax.ttcons Syntax.tnil (Syntax.ttcons Syntax.tnil (Syntax.ttcons (Syntax.tcons (Syntax.tyInt Syntax.w64)
-      Syntax.tnil) (Syntax.ttcons (Syntax.tcons (Syntax.tyInt Syntax.w64) Syntax.tnil) (Syntax.ttcons (Syntax.tcons (Syntax.tyInt Syntax.w64) Syntax.tnil) (Syntax.ttcons Syntax.tnil (Syntax.ttcons
-      Syntax.tnil (Syntax.ttcons (Syntax.tcons (Syntax.tyInt Syntax.w64) (Syntax.tcons (Syntax.tyInt Syntax.w64) Syntax.tnil)) (Syntax.ttcons Syntax.tnil Syntax.ttnil))))))))))))))))))))))))) Syntax.tnil)
-      Syntax.ttnil)))
+  s29 = λ bs. Scalar.n-room T30 6 y12
 
   abbrev s31 : (bs : List.List Nat.ℕ) → Typed.Both T31 T33
-  s31 = λ bs. Borrow.k-back-arr (Referent.rtF (Referent.fInt Syntax.w8)) T31 14 5 4 1 (Syntax.tyRef Syntax.erased Syntax.mut (Syntax.tyInt Syntax.w8)) (λ x. x) λ x. x
+  s31 = λ bs. Borrow.k-back-arr n8 T31 14 5 4 1 y9 (λ x. x) λ x. x
 
   abbrev s33 : (bs : List.List Nat.ℕ) → Typed.Mo T33 → Typed.Mo T35
-  s33 = λ bs. Scalar.n-room T33 5 (Syntax.tyArray (Syntax.tyInt Syntax.w8) 1)
+  s33 = λ bs. Scalar.n-room T33 5 y0
 
   abbrev s35 : (bs : List.List Nat.ℕ) → Typed.Both T35 T37
-  s35 = λ bs. Relend.k-back-sl (Referent.rtF (Referent.fInt Syntax.w16)) T35 16 3 2 5 (Syntax.tyRef (Syntax.named 2) Syntax.mut (Syntax.tyInt Syntax.w16)) (Syntax.tyRef Syntax.erased Syntax.mut
-      (Syntax.tyInt Syntax.w16)) Row.off (λ x. x) λ x. x
+  s35 = λ bs. Relend.k-back-sl n16 T35 16 3 2 5 y4 y8 Row.off (λ x. x) λ x. x
 
-  abbrev s36 : (bs : List.List Nat.ℕ) → Typed.Gives T37 T38
-  s36 = λ bs. Know.k-sl-known (Referent.fInt Syntax.w16) T37 3 2 (Syntax.tyRef (Syntax.named 2) Syntax.mut (Syntax.tyInt Syntax.w16)) Row.off 0 λ x. x
+  abbrev s36 : (bs : List.List Nat.ℕ) → Typed.Gives T37 T37
+  s36 = λ bs. Know.k-sl-known (Referent.fInt Syntax.w16) T37 3 2 y4 Row.off 0 λ x. x
 
-  abbrev s39 : (bs : List.List Nat.ℕ) → Typed.Both T38 T41
-  s39 = λ bs. Relend.k-back-sl (Element.type) T38 18 4 3 6 (Syntax.tyRef (Syntax.named 3) Syntax.mut Element.behind) (Syntax.tyRef Syntax.erased Syntax.mut Element.behind) Row.off (λ x. x) λ x. x
+  abbrev s39 : (bs : List.List Nat.ℕ) → Typed.Both T37 T1
+  s39 = λ bs. Relend.k-back-sl (Element.type) T37 18 4 3 6 y5 y7 Row.off (λ x. x) λ x. x
 
   module _ (Pre· : (κs : Lifetimes.Lfts 4) → Kinds.Dens κs ps → Type 0) (Post· : (κs : Lifetimes.Lfts 4) → (a : Kinds.Dens κs ps) → Kinds.Plain 4 ps r κs) where
     module _ (M : Type 1) where
@@ -829,44 +621,26 @@ module _ (claims· : Claims) where
           hs body)) (Function.plainOf 𝓤 H A 4 ps r Pre· Post·)
 
     module _ where
-      abbrev at0 : (bs : List.List Nat.ℕ) → Typed.TF T41 O0
+      abbrev at0 : (bs : List.List Nat.ℕ) → Typed.TF T1 O0
       at0 = λ bs. Typed.atRet O0
 
-      abbrev at1 : (bs : List.List Nat.ℕ) → Typed.TF T41 O0
-      at1 = λ bs. λ Ψ. at0 bs Ψ
-
-      abbrev at2 : (bs : List.List Nat.ℕ) → Typed.TF T38 O0
-      at2 = λ bs. λ Ψ. Typed.both (s39 bs) (at1 bs Ψ)
-
-      abbrev at3 : (bs : List.List Nat.ℕ) → Typed.TF T38 O0
-      at3 = λ bs. λ Ψ. at2 bs Ψ
-
-      abbrev at4 : (bs : List.List Nat.ℕ) → Typed.TF T38 O0
-      at4 = λ bs. λ Ψ. at3 bs Ψ
+      abbrev at2 : (bs : List.List Nat.ℕ) → Typed.TF T37 O0
+      at2 = λ bs. λ Ψ. Typed.both (s39 bs) (at0 bs Ψ)
 
       abbrev at5 : (bs : List.List Nat.ℕ) → Typed.TF T37 O0
-      at5 = λ bs. λ Ψ. Typed.give (s36 bs) (at4 bs Ψ)
+      at5 = λ bs. λ Ψ. Typed.give (s36 bs) (at2 bs Ψ)
 
       abbrev at6 : (bs : List.List Nat.ℕ) → Typed.TF T35 O0
       at6 = λ bs. λ Ψ. Typed.both (s35 bs) (at5 bs Ψ)
 
-      abbrev at7 : (bs : List.List Nat.ℕ) → Typed.TF T35 O0
-      at7 = λ bs. λ Ψ. at6 bs Ψ
-
       abbrev at8 : (bs : List.List Nat.ℕ) → Typed.TF T33 O0
-      at8 = λ bs. λ Ψ. Typed.pass T33 T35 (s33 bs) (at7 bs Ψ)
-
-      abbrev at9 : (bs : List.List Nat.ℕ) → Typed.TF T33 O0
-      at9 = λ bs. λ Ψ. at8 bs Ψ
+      at8 = λ bs. λ Ψ. Typed.pass T33 T35 (s33 bs) (at6 bs Ψ)
 
       abbrev at10 : (bs : List.List Nat.ℕ) → Typed.TF T31 O0
-      at10 = λ bs. λ Ψ. Typed.both (s31 bs) (at9 bs Ψ)
-
-      abbrev at11 : (bs : List.List Nat.ℕ) → Typed.TF T31 O0
-      at11 = λ bs. λ Ψ. at10 bs Ψ
+      at10 = λ bs. λ Ψ. Typed.both (s31 bs) (at8 bs Ψ)
 
       abbrev at12 : (bs : List.List Nat.ℕ) → Typed.TF T30 O0
-      at12 = λ bs. λ Ψ. Typed.pass T30 T31 (s29 bs) (at11 bs Ψ)
+      at12 = λ bs. λ Ψ. Typed.pass T30 T31 (s29 bs) (at10 bs Ψ)
 
       abbrev at13 : (bs : List.List Nat.ℕ) → Typed.TF T29 O0
       at13 = λ bs. λ Ψ. Typed.pass T29 T30 (s28 bs) (at12 bs Ψ)
@@ -880,29 +654,20 @@ module _ (claims· : Claims) where
       abbrev at16 : (bs : List.List Nat.ℕ) → Typed.TF T25 O0
       at16 = λ bs. λ Ψ. Typed.give (s25 bs) (at15 bs Ψ)
 
-      abbrev at17 : (bs : List.List Nat.ℕ) → Typed.TF T25 O0
-      at17 = λ bs. λ Ψ. at16 bs Ψ
-
       abbrev at18 : (bs : List.List Nat.ℕ) → Typed.TF T24 O0
-      at18 = λ bs. λ Ψ. Typed.ask (s23 bs) (at17 bs Ψ)
+      at18 = λ bs. λ Ψ. Typed.ask (s23 bs) (at16 bs Ψ)
 
       abbrev at19 : (bs : List.List Nat.ℕ) → Typed.TF T22 O0
       at19 = λ bs. λ Ψ. Typed.give (s22 bs) (at18 bs Ψ)
 
-      abbrev at20 : (bs : List.List Nat.ℕ) → Typed.TF T22 O0
-      at20 = λ bs. λ Ψ. at19 bs Ψ
-
       abbrev at21 : (bs : List.List Nat.ℕ) → Typed.TF T21 O0
-      at21 = λ bs. λ Ψ. Typed.ask (s20 bs) (at20 bs Ψ)
+      at21 = λ bs. λ Ψ. Typed.ask (s20 bs) (at19 bs Ψ)
 
       abbrev at22 : (bs : List.List Nat.ℕ) → Typed.TF T19 O0
       at22 = λ bs. λ Ψ. Typed.give (s19 bs) (at21 bs Ψ)
 
-      abbrev at23 : (bs : List.List Nat.ℕ) → Typed.TF T19 O0
-      at23 = λ bs. λ Ψ. at22 bs Ψ
-
       abbrev at24 : (bs : List.List Nat.ℕ) → Typed.TF T18 O0
-      at24 = λ bs. λ Ψ. Typed.pass T18 T19 (s17 bs) (at23 bs Ψ)
+      at24 = λ bs. λ Ψ. Typed.pass T18 T19 (s17 bs) (at22 bs Ψ)
 
       abbrev at25 : (bs : List.List Nat.ℕ) → Typed.TF T17 O0
       at25 = λ bs. λ Ψ. Typed.ask (s16 bs) (at24 bs Ψ)
@@ -943,13 +708,13 @@ module _ (claims· : Claims) where
       abbrev at37 : (bs : List.List Nat.ℕ) → Typed.TF T5 O0
       at37 = λ bs. λ Ψ. Typed.pass T5 T6 (s4 bs) (at36 bs Ψ)
 
-      abbrev at38 : (bs : List.List Nat.ℕ) → Typed.TF T4 O0
-      at38 = λ bs. λ Ψ. Typed.pass T4 T5 (s3 bs) (at37 bs Ψ)
+      abbrev at38 : (bs : List.List Nat.ℕ) → Typed.TF T0 O0
+      at38 = λ bs. λ Ψ. Typed.pass T0 T5 (s3 bs) (at37 bs Ψ)
 
-      abbrev at39 : (bs : List.List Nat.ℕ) → Typed.TF T3 O0
+      abbrev at39 : (bs : List.List Nat.ℕ) → Typed.TF T0 O0
       at39 = λ bs. λ Ψ. Typed.give (s2 bs) (at38 bs Ψ)
 
-      abbrev at40 : (bs : List.List Nat.ℕ) → Typed.TF T2 O0
+      abbrev at40 : (bs : List.List Nat.ℕ) → Typed.TF T0 O0
       at40 = λ bs. λ Ψ. Typed.give (s1 bs) (at39 bs Ψ)
 
       abbrev at41 : (bs : List.List Nat.ℕ) → Typed.TF T0 O0
@@ -963,682 +728,360 @@ module _ (claims· : Claims) where
         Knowns = Plain.Known 𝓤 H A W 𝓣 1 ps·0 r·0 (claims· .0) (claims· .1) "begin::writing_begins" × Plain.Known 𝓤 H A W 𝓣 5 ps·1 r·1 (claims· .2) (claims· .3) "block_writer::write_in"
 
       module _ (κs : Lifetimes.Lfts 4) (qs : Lifetimes.Shares 4) where
+        abbrev k0 : Row.Life
+        k0 = Row.lease (κs .0) (qs .0)
+
+        abbrev k1 : Row.Life
+        k1 = Row.lease (κs .1 .0) (qs .1 .0)
+
+        abbrev k2 : Row.Life
+        k2 = Row.lease (κs .1 .1 .0) (qs .1 .1 .0)
+
+        abbrev k3 : Row.Life
+        k3 = Row.lease (κs .1 .1 .1 .0) (qs .1 .1 .1 .0)
+
+        abbrev l0 : List.List Row.Life
+        l0 = k0 ∷ k1 ∷ Row.off ∷ Row.off ∷ Row.alive ∷ Row.alive ∷ Row.alive ∷ []
+
+        abbrev l1 : List.List Row.Life
+        l1 = k0 ∷ k1 ∷ Row.off ∷ Row.off ∷ Row.dead ∷ Row.alive ∷ Row.alive ∷ []
+
+        abbrev l2 : List.List Row.Life
+        l2 = k0 ∷ k1 ∷ Row.off ∷ Row.off ∷ Row.off ∷ Row.alive ∷ Row.alive ∷ []
+
+        abbrev l3 : List.List Row.Life
+        l3 = k0 ∷ k1 ∷ Row.off ∷ k3 ∷ Row.alive ∷ Row.alive ∷ Row.off ∷ []
+
+        abbrev l4 : List.List Row.Life
+        l4 = k0 ∷ k1 ∷ k2 ∷ Row.off ∷ Row.off ∷ Row.dead ∷ Row.alive ∷ []
+
+        abbrev l5 : List.List Row.Life
+        l5 = k0 ∷ k1 ∷ k2 ∷ k3 ∷ Row.alive ∷ Row.off ∷ Row.off ∷ []
+
+        abbrev l6 : List.List Row.Life
+        l6 = k0 ∷ k1 ∷ k2 ∷ k3 ∷ Row.off ∷ Row.off ∷ Row.off ∷ []
+
+        abbrev h0 : Row.Row
+        h0 = Relend.mslice-owed n16 y4 2 5 k2
+
+        abbrev h1 : Row.Row
+        h1 = Relend.mslice-owed (Element.type) y5 3 6 k3
+
         abbrev g20 : List.List Row.Entry
-        g20 = List._∷_ e0 (List._∷_ e2 (List._∷_ e20 (List._∷_
-            (3, Relend.mslice-owed (Referent.rtF (Referent.fInt Syntax.w16)) (Syntax.tyRef (Syntax.named 2) Syntax.mut (Syntax.tyInt Syntax.w16)) 2 5 (Row.lease (κs .1 .1 .0) (qs .1 .1 .0))) (List._∷_ e23
-            (List._∷_ e26 (List._∷_ e29 (List._∷_ e30 (List._∷_ e32 (List._∷_ e34 (List._∷_ e3 (List._∷_ e6 (List._∷_ e8 (List._∷_ e9 (List._∷_ e11 (List._∷_ e13 List.[])))))))))))))))
+        g20 = (0, v8) ∷ (1, v1) ∷ (2, v2) ∷ (3, h0) ∷ (4, v10) ∷ (5, v16) ∷ (6, v11) ∷ (7, v0) ∷ (8, v0) ∷ (9, v0) ∷ (10, v6) ∷ (11, v4) ∷ (12, v18) ∷ (13, v3) ∷ (14, v20) ∷
+            (15, Relend.msptr n16 y8 5) ∷ []
 
         abbrev g21 : List.List Row.Entry
-        g21 = List._∷_ e0 (List._∷_ e2 (List._∷_ e20 (List._∷_
-            (3, Relend.mslice-owed (Referent.rtF (Referent.fInt Syntax.w16)) (Syntax.tyRef (Syntax.named 2) Syntax.mut (Syntax.tyInt Syntax.w16)) 2 5 (Row.lease (κs .1 .1 .0) (qs .1 .1 .0))) (List._∷_ e23
-            (List._∷_ e26 (List._∷_ e29 (List._∷_ e30 (List._∷_ e32 (List._∷_ e34 (List._∷_ e3 (List._∷_ e6 (List._∷_ e8 (List._∷_ e9 (List._∷_ e11 (List._∷_ e14 List.[])))))))))))))))
+        g21 = (0, v8) ∷ (1, v1) ∷ (2, v2) ∷ (3, h0) ∷ (4, v10) ∷ (5, v16) ∷ (6, v11) ∷ (7, v0) ∷ (8, v0) ∷ (9, v0) ∷ (10, v6) ∷ (11, v4) ∷ (12, v18) ∷ (13, v3) ∷ (14, v20) ∷ (15, v5) ∷ []
 
         abbrev g23 : List.List Row.Entry
-        g23 = List._∷_ e0 (List._∷_ e2 (List._∷_ e20 (List._∷_
-            (3, Relend.mslice-owed (Referent.rtF (Referent.fInt Syntax.w16)) (Syntax.tyRef (Syntax.named 2) Syntax.mut (Syntax.tyInt Syntax.w16)) 2 5 (Row.lease (κs .1 .1 .0) (qs .1 .1 .0))) (List._∷_
-            (4, Relend.mslice-owed (Element.type) (Syntax.tyRef (Syntax.named 3) Syntax.mut Element.behind) 3 6 (Row.lease (κs .1 .1 .1 .0) (qs .1 .1 .1 .0))) (List._∷_ e26 (List._∷_ e29 (List._∷_ e30
-            (List._∷_ e32 (List._∷_ e34 (List._∷_ e3 (List._∷_ e6 (List._∷_ e8 (List._∷_ e9 (List._∷_ e11 (List._∷_ e14 List.[])))))))))))))))
+        g23 = (0, v8) ∷ (1, v1) ∷ (2, v2) ∷ (3, h0) ∷ (4, h1) ∷ (5, v16) ∷ (6, v11) ∷ (7, v0) ∷ (8, v0) ∷ (9, v0) ∷ (10, v6) ∷ (11, v4) ∷ (12, v18) ∷ (13, v3) ∷ (14, v20) ∷ (15, v5) ∷ []
 
         abbrev g26 : List.List Row.Entry
-        g26 = List._∷_ e1 (List._∷_ e2 (List._∷_ e20 (List._∷_
-            (3, Relend.mslice-owed (Referent.rtF (Referent.fInt Syntax.w16)) (Syntax.tyRef (Syntax.named 2) Syntax.mut (Syntax.tyInt Syntax.w16)) 2 5 (Row.lease (κs .1 .1 .0) (qs .1 .1 .0))) (List._∷_
-            (4, Relend.mslice-owed (Element.type) (Syntax.tyRef (Syntax.named 3) Syntax.mut Element.behind) 3 6 (Row.lease (κs .1 .1 .1 .0) (qs .1 .1 .1 .0))) (List._∷_ e26 (List._∷_ e29 (List._∷_ e30
-            (List._∷_ e32 (List._∷_ e34 (List._∷_ e3 (List._∷_ e6 (List._∷_ e8 (List._∷_ e9 (List._∷_ e10 (List._∷_ e14 List.[])))))))))))))))
+        g26 = (0, v17) ∷ (1, v1) ∷ (2, v2) ∷ (3, h0) ∷ (4, h1) ∷ (5, v16) ∷ (6, v11) ∷ (7, v0) ∷ (8, v0) ∷ (9, v0) ∷ (10, v6) ∷ (11, v4) ∷ (12, v18) ∷ (13, v3) ∷ (14, v23) ∷ (15, v5) ∷ []
 
         abbrev g28 : List.List Row.Entry
-        g28 = List._∷_ e1 (List._∷_ e2 (List._∷_ e20 (List._∷_
-            (3, Relend.mslice-owed (Referent.rtF (Referent.fInt Syntax.w16)) (Syntax.tyRef (Syntax.named 2) Syntax.mut (Syntax.tyInt Syntax.w16)) 2 5 (Row.lease (κs .1 .1 .0) (qs .1 .1 .0))) (List._∷_
-            (4, Relend.mslice-owed (Element.type) (Syntax.tyRef (Syntax.named 3) Syntax.mut Element.behind) 3 6 (Row.lease (κs .1 .1 .1 .0) (qs .1 .1 .1 .0))) (List._∷_ e26 (List._∷_ e29 (List._∷_ e30
-            (List._∷_ e32 (List._∷_ e34 (List._∷_ e3 (List._∷_ e6 (List._∷_ e7 (List._∷_ e9 (List._∷_ e10 (List._∷_ e14 List.[])))))))))))))))
+        g28 = (0, v17) ∷ (1, v1) ∷ (2, v2) ∷ (3, h0) ∷ (4, h1) ∷ (5, v16) ∷ (6, v11) ∷ (7, v0) ∷ (8, v0) ∷ (9, v0) ∷ (10, v6) ∷ (11, v4) ∷ (12, v7) ∷ (13, v3) ∷ (14, v23) ∷ (15, v5) ∷ []
 
         abbrev g29 : List.List Row.Entry
-        g29 = List._∷_ e1 (List._∷_ e2 (List._∷_ e20 (List._∷_
-            (3, Relend.mslice-owed (Referent.rtF (Referent.fInt Syntax.w16)) (Syntax.tyRef (Syntax.named 2) Syntax.mut (Syntax.tyInt Syntax.w16)) 2 5 (Row.lease (κs .1 .1 .0) (qs .1 .1 .0))) (List._∷_
-            (4, Relend.mslice-owed (Element.type) (Syntax.tyRef (Syntax.named 3) Syntax.mut Element.behind) 3 6 (Row.lease (κs .1 .1 .1 .0) (qs .1 .1 .1 .0))) (List._∷_ e26 (List._∷_ e28 (List._∷_ e30
-            (List._∷_ e32 (List._∷_ e34 (List._∷_ e3 (List._∷_ e6 (List._∷_ e7 (List._∷_ e9 (List._∷_ e10 (List._∷_ e14 List.[])))))))))))))))
+        g29 = (0, v17) ∷ (1, v1) ∷ (2, v2) ∷ (3, h0) ∷ (4, h1) ∷ (5, v16) ∷ (6, v15) ∷ (7, v0) ∷ (8, v0) ∷ (9, v0) ∷ (10, v6) ∷ (11, v4) ∷ (12, v7) ∷ (13, v3) ∷ (14, v23) ∷ (15, v5) ∷ []
 
         abbrev g30 : List.List Row.Entry
-        g30 = List._∷_ e1 (List._∷_ e2 (List._∷_ e20 (List._∷_
-            (3, Relend.mslice-owed (Referent.rtF (Referent.fInt Syntax.w16)) (Syntax.tyRef (Syntax.named 2) Syntax.mut (Syntax.tyInt Syntax.w16)) 2 5 (Row.lease (κs .1 .1 .0) (qs .1 .1 .0))) (List._∷_
-            (4, Relend.mslice-owed (Element.type) (Syntax.tyRef (Syntax.named 3) Syntax.mut Element.behind) 3 6 (Row.lease (κs .1 .1 .1 .0) (qs .1 .1 .1 .0))) (List._∷_ e27 (List._∷_ e28 (List._∷_ e30
-            (List._∷_ e32 (List._∷_ e34 (List._∷_ e3 (List._∷_ e6 (List._∷_ e7 (List._∷_ e9 (List._∷_ e12 (List._∷_ e14 List.[])))))))))))))))
+        g30 = (0, v17) ∷ (1, v1) ∷ (2, v2) ∷ (3, h0) ∷ (4, h1) ∷ (5, v13) ∷ (6, v15) ∷ (7, v0) ∷ (8, v0) ∷ (9, v0) ∷ (10, v6) ∷ (11, v4) ∷ (12, v7) ∷ (13, v3) ∷ (14, v9) ∷ (15, v5) ∷ []
 
         abbrev g31 : List.List Row.Entry
-        g31 = List._∷_ e1 (List._∷_ e2 (List._∷_ e20 (List._∷_
-            (3, Relend.mslice-owed (Referent.rtF (Referent.fInt Syntax.w16)) (Syntax.tyRef (Syntax.named 2) Syntax.mut (Syntax.tyInt Syntax.w16)) 2 5 (Row.lease (κs .1 .1 .0) (qs .1 .1 .0))) (List._∷_
-            (4, Relend.mslice-owed (Element.type) (Syntax.tyRef (Syntax.named 3) Syntax.mut Element.behind) 3 6 (Row.lease (κs .1 .1 .1 .0) (qs .1 .1 .1 .0))) (List._∷_ e25 (List._∷_ e28 (List._∷_ e30
-            (List._∷_ e32 (List._∷_ e34 (List._∷_ e3 (List._∷_ e6 (List._∷_ e7 (List._∷_ e9 (List._∷_ e12 (List._∷_ e14 List.[])))))))))))))))
+        g31 = (0, v17) ∷ (1, v1) ∷ (2, v2) ∷ (3, h0) ∷ (4, h1) ∷ (5, v22) ∷ (6, v15) ∷ (7, v0) ∷ (8, v0) ∷ (9, v0) ∷ (10, v6) ∷ (11, v4) ∷ (12, v7) ∷ (13, v3) ∷ (14, v9) ∷ (15, v5) ∷ []
 
         abbrev g32 : List.List Row.Entry
-        g32 = List._∷_ e1 (List._∷_ e2 (List._∷_ e20 (List._∷_ e21 (List._∷_
-            (4, Relend.mslice-owed (Element.type) (Syntax.tyRef (Syntax.named 3) Syntax.mut Element.behind) 3 6 (Row.lease (κs .1 .1 .1 .0) (qs .1 .1 .1 .0))) (List._∷_ e25 (List._∷_ e28 (List._∷_ e30
-            (List._∷_ e32 (List._∷_ e34 (List._∷_ e3 (List._∷_ e6 (List._∷_ e7 (List._∷_ e9 (List._∷_ e12 (List._∷_ e14 List.[])))))))))))))))
-
-        abbrev G0 : Row.Cx
-        G0 = record {
-          locals = List._++_ t0 t1;
-          slots = List._∷_ (Row.lease (κs .0) (qs .0)) (List._∷_ (Row.lease (κs .1 .0) (qs .1 .0)) (List._∷_ (Row.lease (κs .1 .1 .0) (qs .1 .1 .0)) (List._∷_ (Row.lease (κs
-              .1 .1 .1 .0) (qs .1 .1 .1 .0)) (List._∷_ Row.off (List._∷_ Row.off (List._∷_ Row.off List.[]))))));
-        }
-
-        abbrev G1 : Row.Cx
-        G1 = record {
-          locals = List._++_ t2 t1;
-          slots = List._∷_ (Row.lease (κs .0) (qs .0)) (List._∷_ (Row.lease (κs .1 .0) (qs .1 .0)) (List._∷_ (Row.lease (κs .1 .1 .0) (qs .1 .1 .0)) (List._∷_ (Row.lease (κs
-              .1 .1 .1 .0) (qs .1 .1 .1 .0)) (List._∷_ Row.off (List._∷_ Row.off (List._∷_ Row.off List.[]))))));
-        }
-
-        abbrev G2 : Row.Cx
-        G2 = record {
-          locals = List._++_ t0 t1;
-          slots = List._∷_ (Row.lease (κs .0) (qs .0)) (List._∷_ (Row.lease (κs .1 .0) (qs .1 .0)) (List._∷_ (Row.lease (κs .1 .1 .0) (qs .1 .1 .0)) (List._∷_ (Row.lease (κs
-              .1 .1 .1 .0) (qs .1 .1 .1 .0)) (List._∷_ Row.off (List._∷_ Row.off (List._∷_ Row.off List.[]))))));
-        }
-
-        abbrev G3 : Row.Cx
-        G3 = record {
-          locals = List._++_ t0 t1;
-          slots = List._∷_ (Row.lease (κs .0) (qs .0)) (List._∷_ (Row.lease (κs .1 .0) (qs .1 .0)) (List._∷_ (Row.lease (κs .1 .1 .0) (qs .1 .1 .0)) (List._∷_ (Row.lease (κs
-              .1 .1 .1 .0) (qs .1 .1 .1 .0)) (List._∷_ Row.off (List._∷_ Row.off (List._∷_ Row.off List.[]))))));
-        }
-
-        abbrev G4 : Row.Cx
-        G4 = record {
-          locals = List._++_ t0 t1;
-          slots = List._∷_ (Row.lease (κs .0) (qs .0)) (List._∷_ (Row.lease (κs .1 .0) (qs .1 .0)) (List._∷_ (Row.lease (κs .1 .1 .0) (qs .1 .1 .0)) (List._∷_ (Row.lease (κs
-              .1 .1 .1 .0) (qs .1 .1 .1 .0)) (List._∷_ Row.off (List._∷_ Row.off (List._∷_ Row.off List.[]))))));
-        }
-
-        abbrev G5 : Row.Cx
-        G5 = record {
-          locals = List._++_ t3 t1;
-          slots = List._∷_ (Row.lease (κs .0) (qs .0)) (List._∷_ (Row.lease (κs .1 .0) (qs .1 .0)) (List._∷_ (Row.lease (κs .1 .1 .0) (qs .1 .1 .0)) (List._∷_ (Row.lease (κs
-              .1 .1 .1 .0) (qs .1 .1 .1 .0)) (List._∷_ Row.off (List._∷_ Row.off (List._∷_ Row.off List.[]))))));
-        }
-
-        abbrev G6 : Row.Cx
-        G6 = record {
-          locals = List._++_ t4 t1;
-          slots = List._∷_ (Row.lease (κs .0) (qs .0)) (List._∷_ (Row.lease (κs .1 .0) (qs .1 .0)) (List._∷_ (Row.lease (κs .1 .1 .0) (qs .1 .1 .0)) (List._∷_ (Row.lease (κs
-              .1 .1 .1 .0) (qs .1 .1 .1 .0)) (List._∷_ Row.off (List._∷_ Row.off (List._∷_ Row.off List.[]))))));
-        }
-
-        abbrev G7 : Row.Cx
-        G7 = record {
-          locals = List._++_ t5 t1;
-          slots = List._∷_ (Row.lease (κs .0) (qs .0)) (List._∷_ (Row.lease (κs .1 .0) (qs .1 .0)) (List._∷_ (Row.lease (κs .1 .1 .0) (qs .1 .1 .0)) (List._∷_ (Row.lease (κs
-              .1 .1 .1 .0) (qs .1 .1 .1 .0)) (List._∷_ Row.off (List._∷_ Row.off (List._∷_ Row.off List.[]))))));
-        }
-
-        abbrev G8 : Row.Cx
-        G8 = record {
-          locals = List._++_ t6 t1;
-          slots = List._∷_ (Row.lease (κs .0) (qs .0)) (List._∷_ (Row.lease (κs .1 .0) (qs .1 .0)) (List._∷_ (Row.lease (κs .1 .1 .0) (qs .1 .1 .0)) (List._∷_ (Row.lease (κs
-              .1 .1 .1 .0) (qs .1 .1 .1 .0)) (List._∷_ Row.off (List._∷_ Row.off (List._∷_ Row.off List.[]))))));
-        }
-
-        abbrev G9 : Row.Cx
-        G9 = record {
-          locals = List._++_ t7 t1;
-          slots = List._∷_ (Row.lease (κs .0) (qs .0)) (List._∷_ (Row.lease (κs .1 .0) (qs .1 .0)) (List._∷_ (Row.lease (κs .1 .1 .0) (qs .1 .1 .0)) (List._∷_ (Row.lease (κs
-              .1 .1 .1 .0) (qs .1 .1 .1 .0)) (List._∷_ Row.off (List._∷_ Row.off (List._∷_ Row.off List.[]))))));
-        }
-
-        abbrev G10 : Row.Cx
-        G10 = record {
-          locals = List._++_ t8 t1;
-          slots = List._∷_ (Row.lease (κs .0) (qs .0)) (List._∷_ (Row.lease (κs .1 .0) (qs .1 .0)) (List._∷_ (Row.lease (κs .1 .1 .0) (qs .1 .1 .0)) (List._∷_ (Row.lease (κs
-              .1 .1 .1 .0) (qs .1 .1 .1 .0)) (List._∷_ Row.off (List._∷_ Row.off (List._∷_ Row.off List.[]))))));
-        }
-
-        abbrev G11 : Row.Cx
-        G11 = record {
-          locals = List._++_ t9 t1;
-          slots = List._∷_ (Row.lease (κs .0) (qs .0)) (List._∷_ (Row.lease (κs .1 .0) (qs .1 .0)) (List._∷_ (Row.lease (κs .1 .1 .0) (qs .1 .1 .0)) (List._∷_ (Row.lease (κs
-              .1 .1 .1 .0) (qs .1 .1 .1 .0)) (List._∷_ Row.off (List._∷_ Row.off (List._∷_ Row.off List.[]))))));
-        }
-
-        abbrev G12 : Row.Cx
-        G12 = record {
-          locals = List._++_ t10 t1;
-          slots = List._∷_ (Row.lease (κs .0) (qs .0)) (List._∷_ (Row.lease (κs .1 .0) (qs .1 .0)) (List._∷_ (Row.lease (κs .1 .1 .0) (qs .1 .1 .0)) (List._∷_ (Row.lease (κs
-              .1 .1 .1 .0) (qs .1 .1 .1 .0)) (List._∷_ Row.off (List._∷_ Row.off (List._∷_ Row.off List.[]))))));
-        }
-
-        abbrev G13 : Row.Cx
-        G13 = record {
-          locals = List._++_ t11 t1;
-          slots = List._∷_ (Row.lease (κs .0) (qs .0)) (List._∷_ (Row.lease (κs .1 .0) (qs .1 .0)) (List._∷_ (Row.lease (κs .1 .1 .0) (qs .1 .1 .0)) (List._∷_ (Row.lease (κs
-              .1 .1 .1 .0) (qs .1 .1 .1 .0)) (List._∷_ Row.off (List._∷_ Row.off (List._∷_ Row.off List.[]))))));
-        }
-
-        abbrev G14 : Row.Cx
-        G14 = record {
-          locals = List._++_ t12 t1;
-          slots = List._∷_ (Row.lease (κs .0) (qs .0)) (List._∷_ (Row.lease (κs .1 .0) (qs .1 .0)) (List._∷_ (Row.lease (κs .1 .1 .0) (qs .1 .1 .0)) (List._∷_ (Row.lease (κs
-              .1 .1 .1 .0) (qs .1 .1 .1 .0)) (List._∷_ Row.off (List._∷_ Row.off (List._∷_ Row.off List.[]))))));
-        }
-
-        abbrev G15 : Row.Cx
-        G15 = record {
-          locals = List._++_ t13 t1;
-          slots = List._∷_ (Row.lease (κs .0) (qs .0)) (List._∷_ (Row.lease (κs .1 .0) (qs .1 .0)) (List._∷_ (Row.lease (κs .1 .1 .0) (qs .1 .1 .0)) (List._∷_ (Row.lease (κs
-              .1 .1 .1 .0) (qs .1 .1 .1 .0)) (List._∷_ Row.off (List._∷_ Row.off (List._∷_ Row.off List.[]))))));
-        }
-
-        abbrev G16 : Row.Cx
-        G16 = record {
-          locals = List._++_ t14 t1;
-          slots = List._∷_ (Row.lease (κs .0) (qs .0)) (List._∷_ (Row.lease (κs .1 .0) (qs .1 .0)) (List._∷_ (Row.lease (κs .1 .1 .0) (qs .1 .1 .0)) (List._∷_ (Row.lease (κs
-              .1 .1 .1 .0) (qs .1 .1 .1 .0)) (List._∷_ Row.off (List._∷_ Row.off (List._∷_ Row.off List.[]))))));
-        }
-
-        abbrev G17 : Row.Cx
-        G17 = record {
-          locals = List._++_ t15 t1;
-          slots = List._∷_ (Row.lease (κs .0) (qs .0)) (List._∷_ (Row.lease (κs .1 .0) (qs .1 .0)) (List._∷_ (Row.lease (κs .1 .1 .0) (qs .1 .1 .0)) (List._∷_ (Row.lease (κs
-              .1 .1 .1 .0) (qs .1 .1 .1 .0)) (List._∷_ Row.off (List._∷_ Row.off (List._∷_ Row.off List.[]))))));
-        }
-
-        abbrev G18 : Row.Cx
-        G18 = record {
-          locals = List._++_ t16 t1;
-          slots = List._∷_ (Row.lease (κs .0) (qs .0)) (List._∷_ (Row.lease (κs .1 .0) (qs .1 .0)) (List._∷_ (Row.lease (κs .1 .1 .0) (qs .1 .1 .0)) (List._∷_ (Row.lease (κs
-              .1 .1 .1 .0) (qs .1 .1 .1 .0)) (List._∷_ Row.off (List._∷_ Row.off (List._∷_ Row.off List.[]))))));
-        }
-
-        abbrev G19 : Row.Cx
-        G19 = record {
-          locals = List._++_ t17 t1;
-          slots = List._∷_ (Row.lease (κs .0) (qs .0)) (List._∷_ (Row.lease (κs .1 .0) (qs .1 .0)) (List._∷_ (Row.lease (κs .1 .1 .0) (qs .1 .1 .0)) (List._∷_ (Row.lease (κs
-              .1 .1 .1 .0) (qs .1 .1 .1 .0)) (List._∷_ Row.off (List._∷_ Row.off (List._∷_ Row.off List.[]))))));
-        }
-
-        abbrev G20 : Row.Cx
-        G20 = record {
-          locals = List._++_ t17 t1;
-          slots = List._∷_ (Row.lease (κs .0) (qs .0)) (List._∷_ (Row.lease (κs .1 .0) (qs .1 .0)) (List._∷_ (Row.lease (κs .1 .1 .0) (qs .1 .1 .0)) (List._∷_ (Row.lease (κs
-              .1 .1 .1 .0) (qs .1 .1 .1 .0)) (List._∷_ Row.alive (List._∷_ Row.off (List._∷_ Row.off List.[]))))));
-        }
-
-        abbrev G21 : Row.Cx
-        G21 = record {
-          locals = List._++_ t18 t1;
-          slots = List._∷_ (Row.lease (κs .0) (qs .0)) (List._∷_ (Row.lease (κs .1 .0) (qs .1 .0)) (List._∷_ (Row.lease (κs .1 .1 .0) (qs .1 .1 .0)) (List._∷_ (Row.lease (κs
-              .1 .1 .1 .0) (qs .1 .1 .1 .0)) (List._∷_ Row.alive (List._∷_ Row.off (List._∷_ Row.off List.[]))))));
-        }
-
-        abbrev G22 : Row.Cx
-        G22 = record {
-          locals = List._++_ t19 t1;
-          slots = List._∷_ (Row.lease (κs .0) (qs .0)) (List._∷_ (Row.lease (κs .1 .0) (qs .1 .0)) (List._∷_ (Row.lease (κs .1 .1 .0) (qs .1 .1 .0)) (List._∷_ (Row.lease (κs
-              .1 .1 .1 .0) (qs .1 .1 .1 .0)) (List._∷_ Row.alive (List._∷_ Row.off (List._∷_ Row.off List.[]))))));
-        }
+        g32 = (0, v17) ∷ (1, v1) ∷ (2, v2) ∷ (3, v12) ∷ (4, h1) ∷ (5, v22) ∷ (6, v15) ∷ (7, v0) ∷ (8, v0) ∷ (9, v0) ∷ (10, v6) ∷ (11, v4) ∷ (12, v7) ∷ (13, v3) ∷ (14, v9) ∷ (15, v5) ∷ []
 
         abbrev G23 : Row.Cx
-        G23 = record {
-          locals = List._++_ t19 t1;
-          slots = List._∷_ (Row.lease (κs .0) (qs .0)) (List._∷_ (Row.lease (κs .1 .0) (qs .1 .0)) (List._∷_ (Row.lease (κs .1 .1 .0) (qs .1 .1 .0)) (List._∷_ (Row.lease (κs
-              .1 .1 .1 .0) (qs .1 .1 .1 .0)) (List._∷_ Row.alive (List._∷_ Row.alive (List._∷_ Row.off List.[]))))));
-        }
+        G23 = record { locals = List._++_ t19 t1; slots = k0 ∷ k1 ∷ k2 ∷ k3 ∷ Row.alive ∷ Row.alive ∷ Row.off ∷ [] }
 
         abbrev G24 : Row.Cx
-        G24 = record {
-          locals = List._++_ g20 t1;
-          slots = List._∷_ (Row.lease (κs .0) (qs .0)) (List._∷_ (Row.lease (κs .1 .0) (qs .1 .0)) (List._∷_ Row.off (List._∷_ (Row.lease (κs .1 .1 .1 .0) (qs .1 .1 .1 .0))
-              (List._∷_ Row.alive (List._∷_ Row.alive (List._∷_ Row.off List.[]))))));
-        }
+        G24 = record { locals = List._++_ g20 t1; slots = l3 }
 
         abbrev G25 : Row.Cx
-        G25 = record {
-          locals = List._++_ g21 t22;
-          slots = List._∷_ (Row.lease (κs .0) (qs .0)) (List._∷_ (Row.lease (κs .1 .0) (qs .1 .0)) (List._∷_ Row.off (List._∷_ (Row.lease (κs .1 .1 .1 .0) (qs .1 .1 .1 .0))
-              (List._∷_ Row.alive (List._∷_ Row.alive (List._∷_ Row.off List.[]))))));
-        }
+        G25 = record { locals = List._++_ g21 t22; slots = l3 }
 
         abbrev G26 : Row.Cx
-        G26 = record {
-          locals = List._++_ g21 t22;
-          slots = List._∷_ (Row.lease (κs .0) (qs .0)) (List._∷_ (Row.lease (κs .1 .0) (qs .1 .0)) (List._∷_ Row.off (List._∷_ (Row.lease (κs .1 .1 .1 .0) (qs .1 .1 .1 .0))
-              (List._∷_ Row.alive (List._∷_ Row.alive (List._∷_ Row.alive List.[]))))));
-        }
+        G26 = record { locals = List._++_ g21 t22; slots = k0 ∷ k1 ∷ Row.off ∷ k3 ∷ Row.alive ∷ Row.alive ∷ Row.alive ∷ [] }
 
         abbrev G27 : Row.Cx
-        G27 = record {
-          locals = List._++_ g23 t24;
-          slots = List._∷_ (Row.lease (κs .0) (qs .0)) (List._∷_ (Row.lease (κs .1 .0) (qs .1 .0)) (List._∷_ Row.off (List._∷_ Row.off (List._∷_ Row.alive (List._∷_
-              Row.alive (List._∷_ Row.alive List.[]))))));
-        }
+        G27 = record { locals = List._++_ g23 t24; slots = l0 }
 
         abbrev G28 : Row.Cx
-        G28 = record {
-          locals = List._++_ g23 t25;
-          slots = List._∷_ (Row.lease (κs .0) (qs .0)) (List._∷_ (Row.lease (κs .1 .0) (qs .1 .0)) (List._∷_ Row.off (List._∷_ Row.off (List._∷_ Row.alive (List._∷_
-              Row.alive (List._∷_ Row.alive List.[]))))));
-        }
+        G28 = record { locals = List._++_ g23 t25; slots = l0 }
 
         abbrev G29 : Row.Cx
-        G29 = record {
-          locals = List._++_ g26 t27;
-          slots = List._∷_ (Row.lease (κs .0) (qs .0)) (List._∷_ (Row.lease (κs .1 .0) (qs .1 .0)) (List._∷_ Row.off (List._∷_ Row.off (List._∷_ Row.alive (List._∷_
-              Row.alive (List._∷_ Row.alive List.[]))))));
-        }
+        G29 = record { locals = List._++_ g26 t27; slots = l0 }
 
         abbrev G30 : Row.Cx
-        G30 = record {
-          locals = List._++_ g28 t27;
-          slots = List._∷_ (Row.lease (κs .0) (qs .0)) (List._∷_ (Row.lease (κs .1 .0) (qs .1 .0)) (List._∷_ Row.off (List._∷_ Row.off (List._∷_ Row.alive (List._∷_
-              Row.alive (List._∷_ Row.alive List.[]))))));
-        }
+        G30 = record { locals = List._++_ g28 t27; slots = l0 }
 
         abbrev G31 : Row.Cx
-        G31 = record {
-          locals = List._++_ g29 t27;
-          slots = List._∷_ (Row.lease (κs .0) (qs .0)) (List._∷_ (Row.lease (κs .1 .0) (qs .1 .0)) (List._∷_ Row.off (List._∷_ Row.off (List._∷_ Row.alive (List._∷_
-              Row.alive (List._∷_ Row.alive List.[]))))));
-        }
+        G31 = record { locals = List._++_ g29 t27; slots = l0 }
 
         abbrev G32 : Row.Cx
-        G32 = record {
-          locals = List._++_ g29 t27;
-          slots = List._∷_ (Row.lease (κs .0) (qs .0)) (List._∷_ (Row.lease (κs .1 .0) (qs .1 .0)) (List._∷_ Row.off (List._∷_ Row.off (List._∷_ Row.dead (List._∷_
-              Row.alive (List._∷_ Row.alive List.[]))))));
-        }
+        G32 = record { locals = List._++_ g29 t27; slots = l1 }
 
         abbrev G33 : Row.Cx
-        G33 = record {
-          locals = List._++_ g30 t27;
-          slots = List._∷_ (Row.lease (κs .0) (qs .0)) (List._∷_ (Row.lease (κs .1 .0) (qs .1 .0)) (List._∷_ Row.off (List._∷_ Row.off (List._∷_ Row.dead (List._∷_
-              Row.alive (List._∷_ Row.alive List.[]))))));
-        }
+        G33 = record { locals = List._++_ g30 t27; slots = l1 }
 
         abbrev G34 : Row.Cx
-        G34 = record {
-          locals = List._++_ g30 t27;
-          slots = List._∷_ (Row.lease (κs .0) (qs .0)) (List._∷_ (Row.lease (κs .1 .0) (qs .1 .0)) (List._∷_ Row.off (List._∷_ Row.off (List._∷_ Row.off (List._∷_ Row.alive
-              (List._∷_ Row.alive List.[]))))));
-        }
+        G34 = record { locals = List._++_ g30 t27; slots = l2 }
 
         abbrev G35 : Row.Cx
-        G35 = record {
-          locals = List._++_ g31 t27;
-          slots = List._∷_ (Row.lease (κs .0) (qs .0)) (List._∷_ (Row.lease (κs .1 .0) (qs .1 .0)) (List._∷_ Row.off (List._∷_ Row.off (List._∷_ Row.off (List._∷_ Row.alive
-              (List._∷_ Row.alive List.[]))))));
-        }
+        G35 = record { locals = List._++_ g31 t27; slots = l2 }
 
         abbrev G36 : Row.Cx
-        G36 = record {
-          locals = List._++_ g31 t27;
-          slots = List._∷_ (Row.lease (κs .0) (qs .0)) (List._∷_ (Row.lease (κs .1 .0) (qs .1 .0)) (List._∷_ Row.off (List._∷_ Row.off (List._∷_ Row.off (List._∷_ Row.dead
-              (List._∷_ Row.alive List.[]))))));
-        }
+        G36 = record { locals = List._++_ g31 t27; slots = k0 ∷ k1 ∷ Row.off ∷ Row.off ∷ Row.off ∷ Row.dead ∷ Row.alive ∷ [] }
 
         abbrev G37 : Row.Cx
-        G37 = record {
-          locals = List._++_ g32 t33;
-          slots = List._∷_ (Row.lease (κs .0) (qs .0)) (List._∷_ (Row.lease (κs .1 .0) (qs .1 .0)) (List._∷_ (Row.lease (κs .1 .1 .0) (qs .1 .1 .0)) (List._∷_ Row.off
-              (List._∷_ Row.off (List._∷_ Row.dead (List._∷_ Row.alive List.[]))))));
-        }
-
-        abbrev G38 : Row.Cx
-        G38 = record {
-          locals = List._++_ g32 t33;
-          slots = List._∷_ (Row.lease (κs .0) (qs .0)) (List._∷_ (Row.lease (κs .1 .0) (qs .1 .0)) (List._∷_ (Row.lease (κs .1 .1 .0) (qs .1 .1 .0)) (List._∷_ Row.off
-              (List._∷_ Row.off (List._∷_ Row.dead (List._∷_ Row.alive List.[]))))));
-        }
+        G37 = record { locals = List._++_ g32 t33; slots = l4 }
 
         abbrev G39 : Row.Cx
-        G39 = record {
-          locals = List._++_ g32 t33;
-          slots = List._∷_ (Row.lease (κs .0) (qs .0)) (List._∷_ (Row.lease (κs .1 .0) (qs .1 .0)) (List._∷_ (Row.lease (κs .1 .1 .0) (qs .1 .1 .0)) (List._∷_ Row.off
-              (List._∷_ Row.off (List._∷_ Row.off (List._∷_ Row.alive List.[]))))));
-        }
+        G39 = record { locals = List._++_ g32 t33; slots = k0 ∷ k1 ∷ k2 ∷ Row.off ∷ Row.off ∷ Row.off ∷ Row.alive ∷ [] }
 
         abbrev G40 : Row.Cx
-        G40 = record {
-          locals = List._++_ g32 t33;
-          slots = List._∷_ (Row.lease (κs .0) (qs .0)) (List._∷_ (Row.lease (κs .1 .0) (qs .1 .0)) (List._∷_ (Row.lease (κs .1 .1 .0) (qs .1 .1 .0)) (List._∷_ Row.off
-              (List._∷_ Row.off (List._∷_ Row.off (List._∷_ Row.dead List.[]))))));
-        }
+        G40 = record { locals = List._++_ g32 t33; slots = k0 ∷ k1 ∷ k2 ∷ Row.off ∷ Row.off ∷ Row.off ∷ Row.dead ∷ [] }
 
         abbrev G41 : Row.Cx
-        G41 = record {
-          locals = List._++_ t2 t1;
-          slots = List._∷_ (Row.lease (κs .0) (qs .0)) (List._∷_ (Row.lease (κs .1 .0) (qs .1 .0)) (List._∷_ (Row.lease (κs .1 .1 .0) (qs .1 .1 .0)) (List._∷_ (Row.lease (κs
-              .1 .1 .1 .0) (qs .1 .1 .1 .0)) (List._∷_ Row.off (List._∷_ Row.off (List._∷_ Row.dead List.[]))))));
-        }
-
-        abbrev G42 : Row.Cx
-        G42 = record {
-          locals = List._++_ t2 t1;
-          slots = List._∷_ (Row.lease (κs .0) (qs .0)) (List._∷_ (Row.lease (κs .1 .0) (qs .1 .0)) (List._∷_ (Row.lease (κs .1 .1 .0) (qs .1 .1 .0)) (List._∷_ (Row.lease (κs
-              .1 .1 .1 .0) (qs .1 .1 .1 .0)) (List._∷_ Row.off (List._∷_ Row.off (List._∷_ Row.off List.[]))))));
-        }
+        G41 = record { locals = List._++_ t2 t1; slots = k0 ∷ k1 ∷ k2 ∷ k3 ∷ Row.off ∷ Row.off ∷ Row.dead ∷ [] }
 
         abbrev Δ0 : Typed.Outs
-        Δ0 = record { next = Option.none; exits = List.[]; returns = Option.some G1 }
+        Δ0 = record { next = Option.none; exits = []; returns = Option.some (on T1 l6) }
 
         module _ {M : Type 1} (𝓤 : URA.URA M) (H : Wp.Heap 𝓤) (A : Atoms.Atoms 𝓤) (W : Kit.Given 𝓤 H A) (𝓣 : Wp.Tables 𝓤 H) (known : Knowns 𝓤 H A W 𝓣) (bs : List.List Nat.ℕ) (bd : Lifetimes.AllOutlive
             4 (Kinds.osR r) κs) where
           abbrev E : Wp.Env 𝓤 H
-          E = Frame.EnvOf 𝓤 H (List._∷_ (Kinds.tyR r) (Enter.tysP ps xs)) bs
+          E = Frame.EnvOf 𝓤 H ((Kinds.tyR r) ∷ (Enter.tysP ps xs)) bs
 
-          d0 : Typed.Typed 𝓤 H A 𝓣 E G42 b16 Δ0 (at0 bs)
+          d0 : Typed.Typed 𝓤 H A 𝓣 E (on T1 l6) b16 Δ0 (at0 bs)
           d0 = Typed.t-return 𝓤 H A W 𝓣 E Δ0 tt
 
-          d1 : Typed.Typed 𝓤 H A 𝓣 E G41 b16 Δ0 (at1 bs)
-          d1 = Typed.g-pre 𝓤 H A W 𝓣 E G41 G42 b16 Δ0 (λ Ψ. Ψ) (at0 bs) (Lifetime.g-forget 𝓤 H A W E G41 6 Row.dead Path'.refl) d0
+          d1 : Typed.Typed 𝓤 H A 𝓣 E G41 b16 Δ0 (at0 bs)
+          d1 = Typed.g-pre 𝓤 H A W 𝓣 E G41 (on T1 l6) b16 Δ0 (λ Ψ. Ψ) (at0 bs) (Lifetime.g-forget 𝓤 H A W E G41 6 Row.dead Path'.refl) d0
 
           d2 : Typed.Typed 𝓤 H A 𝓣 E G40 b16 Δ0 (at2 bs)
-          d2 = Typed.g-pre 𝓤 H A W 𝓣 E G40 G41 b16 Δ0 (Typed.both (s39 bs)) (at1 bs) (Relend.g-back-sl 𝓤 H A W E (Element.type) G40 18 4 3 6 (Syntax.tyRef (Syntax.named 3) Syntax.mut Element.behind)
-              (Syntax.tyRef Syntax.erased Syntax.mut Element.behind) (Row.lease (κs .1 .1 .1 .0) (qs .1 .1 .1 .0)) (λ x. x) (λ x. x) (Reads.as-is 𝓤 H A (Mut.msleft (Element.type) (Syntax.tyRef
-              Syntax.erased Syntax.mut Element.behind))) (Reads.as-is 𝓤 H A (Relend.mslice-owed (Element.type) (Syntax.tyRef (Syntax.named 3) Syntax.mut Element.behind) 3 6 (Row.lease (κs .1 .1 .1 .0) (qs
-              .1 .1 .1 .0)))) Path'.refl Path'.refl) d1
+          d2 = Typed.g-pre 𝓤 H A W 𝓣 E G40 G41 b16 Δ0 (Typed.both (s39 bs)) (at0 bs) (Relend.g-back-sl 𝓤 H A W E (Element.type) G40 18 4 3 6 y5 y7 k3 (λ x. x) (λ x. x) (Reads.as-is 𝓤 H A (Mut.msleft
+              (Element.type) y7)) (Reads.as-is 𝓤 H A (Relend.mslice-owed (Element.type) y5 3 6 k3)) Path'.refl Path'.refl) d1
 
-          d3 : Typed.Typed 𝓤 H A 𝓣 E G39 b16 Δ0 (at3 bs)
+          d3 : Typed.Typed 𝓤 H A 𝓣 E G39 b16 Δ0 (at2 bs)
           d3 = Typed.g-pre 𝓤 H A W 𝓣 E G39 G40 b16 Δ0 (λ Ψ. Ψ) (at2 bs) (Lifetime.g-end 𝓤 H A W E G39 6 Path'.refl) d2
 
-          d4 : Typed.Typed 𝓤 H A 𝓣 E G38 b16 Δ0 (at4 bs)
-          d4 = Typed.g-pre 𝓤 H A W 𝓣 E G38 G39 b16 Δ0 (λ Ψ. Ψ) (at3 bs) (Lifetime.g-forget 𝓤 H A W E G38 5 Row.dead Path'.refl) d3
+          d4 : Typed.Typed 𝓤 H A 𝓣 E G37 b16 Δ0 (at2 bs)
+          d4 = Typed.g-pre 𝓤 H A W 𝓣 E G37 G39 b16 Δ0 (λ Ψ. Ψ) (at2 bs) (Lifetime.g-forget 𝓤 H A W E G37 5 Row.dead Path'.refl) d3
 
           d5 : Typed.Typed 𝓤 H A 𝓣 E G37 b16 Δ0 (at5 bs)
-          d5 = Typed.g-pre 𝓤 H A W 𝓣 E G37 G38 b16 Δ0 (Typed.give (s36 bs)) (at4 bs) (Know.g-sl-known 𝓤 H A W (Referent.fInt Syntax.w16) E G37 3 2 (Syntax.tyRef (Syntax.named 2) Syntax.mut
-              (Syntax.tyInt Syntax.w16)) (Row.lease (κs .1 .1 .0) (qs .1 .1 .0)) 0 (λ x. x) record { fits = Dec'.lit< tt } (Reads.as-is 𝓤 H A (Mut.mslice (Referent.rtF (Referent.fInt Syntax.w16))
-              (Syntax.tyRef (Syntax.named 2) Syntax.mut (Syntax.tyInt Syntax.w16)) 2)) Path'.refl tt) d4
+          d5 = Typed.g-pre 𝓤 H A W 𝓣 E G37 G37 b16 Δ0 (Typed.give (s36 bs)) (at2 bs) (Know.g-sl-known 𝓤 H A W (Referent.fInt Syntax.w16) E G37 3 2 y4 k2 0 (λ x. x) record { fits = Dec'.lit< tt }
+              (Reads.as-is 𝓤 H A (Mut.mslice n16 y4 2)) Path'.refl tt) d4
 
           d6 : Typed.Typed 𝓤 H A 𝓣 E G36 b16 Δ0 (at6 bs)
-          d6 = Typed.g-pre 𝓤 H A W 𝓣 E G36 G37 b16 Δ0 (Typed.both (s35 bs)) (at5 bs) (Relend.g-back-sl 𝓤 H A W E (Referent.rtF (Referent.fInt Syntax.w16)) G36 16 3 2 5 (Syntax.tyRef (Syntax.named 2)
-              Syntax.mut (Syntax.tyInt Syntax.w16)) (Syntax.tyRef Syntax.erased Syntax.mut (Syntax.tyInt Syntax.w16)) (Row.lease (κs .1 .1 .0) (qs .1 .1 .0)) (λ x. x) (λ x. x) (Reads.as-is 𝓤 H A
-              (Mut.msleft (Referent.rtF (Referent.fInt Syntax.w16)) (Syntax.tyRef Syntax.erased Syntax.mut (Syntax.tyInt Syntax.w16)))) (Reads.as-is 𝓤 H A (Relend.mslice-owed (Referent.rtF (Referent.fInt
-              Syntax.w16)) (Syntax.tyRef (Syntax.named 2) Syntax.mut (Syntax.tyInt Syntax.w16)) 2 5 (Row.lease (κs .1 .1 .0) (qs .1 .1 .0)))) Path'.refl Path'.refl) d5
+          d6 = Typed.g-pre 𝓤 H A W 𝓣 E G36 G37 b16 Δ0 (Typed.both (s35 bs)) (at5 bs) (Relend.g-back-sl 𝓤 H A W E n16 G36 16 3 2 5 y4 y8 k2 (λ x. x) (λ x. x) (Reads.as-is 𝓤 H A (Mut.msleft n16 y8))
+              (Reads.as-is 𝓤 H A (Relend.mslice-owed n16 y4 2 5 k2)) Path'.refl Path'.refl) d5
 
-          d7 : Typed.Typed 𝓤 H A 𝓣 E G35 b16 Δ0 (at7 bs)
+          d7 : Typed.Typed 𝓤 H A 𝓣 E G35 b16 Δ0 (at6 bs)
           d7 = Typed.g-pre 𝓤 H A W 𝓣 E G35 G36 b16 Δ0 (λ Ψ. Ψ) (at6 bs) (Lifetime.g-end 𝓤 H A W E G35 5 Path'.refl) d6
 
           d8 : Typed.Typed 𝓤 H A 𝓣 E G34 b16 Δ0 (at8 bs)
-          d8 = Typed.g-pre 𝓤 H A W 𝓣 E G34 G35 b16 Δ0 (Typed.pass T33 T35 (s33 bs)) (at7 bs) (Scalar.g-room 𝓤 H A W E G34 5 (Syntax.tyArray (Syntax.tyInt Syntax.w8) 1) (Init.room-arr 𝓤 H A W
-              (Referent.rtF (Referent.fInt Syntax.w8)) 1 0 1 Path'.refl)) d7
+          d8 = Typed.g-pre 𝓤 H A W 𝓣 E G34 G35 b16 Δ0 (Typed.pass T33 T35 (s33 bs)) (at6 bs) (Scalar.g-room 𝓤 H A W E G34 5 y0 (Init.room-arr 𝓤 H A W n8 1 0 1 Path'.refl)) d7
 
-          d9 : Typed.Typed 𝓤 H A 𝓣 E G33 b16 Δ0 (at9 bs)
+          d9 : Typed.Typed 𝓤 H A 𝓣 E G33 b16 Δ0 (at8 bs)
           d9 = Typed.g-pre 𝓤 H A W 𝓣 E G33 G34 b16 Δ0 (λ Ψ. Ψ) (at8 bs) (Lifetime.g-forget 𝓤 H A W E G33 4 Row.dead Path'.refl) d8
 
           d10 : Typed.Typed 𝓤 H A 𝓣 E G32 b16 Δ0 (at10 bs)
-          d10 = Typed.g-pre 𝓤 H A W 𝓣 E G32 G33 b16 Δ0 (Typed.both (s31 bs)) (at9 bs) (Borrow.g-back-arr 𝓤 H A W E (Referent.rtF (Referent.fInt Syntax.w8)) G32 14 5 4 1 (Syntax.tyRef Syntax.erased
-              Syntax.mut (Syntax.tyInt Syntax.w8)) (λ x. x) (λ x. x) (Reads.as-is 𝓤 H A (Mut.msleft (Referent.rtF (Referent.fInt Syntax.w8)) (Syntax.tyRef Syntax.erased Syntax.mut (Syntax.tyInt
-              Syntax.w8)))) (Reads.as-is 𝓤 H A (Rows.arr-owed (Referent.rtF (Referent.fInt Syntax.w8)) 1 4)) Path'.refl) d9
+          d10 = Typed.g-pre 𝓤 H A W 𝓣 E G32 G33 b16 Δ0 (Typed.both (s31 bs)) (at8 bs) (Borrow.g-back-arr 𝓤 H A W E n8 G32 14 5 4 1 y9 (λ x. x) (λ x. x) (Reads.as-is 𝓤 H A (Mut.msleft n8 y9))
+              (Reads.as-is 𝓤 H A (Rows.arr-owed n8 1 4)) Path'.refl) d9
 
-          d11 : Typed.Typed 𝓤 H A 𝓣 E G31 b16 Δ0 (at11 bs)
+          d11 : Typed.Typed 𝓤 H A 𝓣 E G31 b16 Δ0 (at10 bs)
           d11 = Typed.g-pre 𝓤 H A W 𝓣 E G31 G32 b16 Δ0 (λ Ψ. Ψ) (at10 bs) (Lifetime.g-end 𝓤 H A W E G31 4 Path'.refl) d10
 
           d12 : Typed.Typed 𝓤 H A 𝓣 E G30 b16 Δ0 (at12 bs)
-          d12 = Typed.g-pre 𝓤 H A W 𝓣 E G30 G31 b16 Δ0 (Typed.pass T30 T31 (s29 bs)) (at11 bs) (Scalar.g-room 𝓤 H A W E G30 6 (Syntax.tyEnum (List._∷_ 115 (List._∷_ 116 (List._∷_ 114 (List._∷_ 101
-              (List._∷_ 97 (List._∷_ 109 (List._∷_ 58 (List._∷_ 58 (List._∷_ 80 (List._∷_ 97 (List._∷_ 114 (List._∷_ 115 (List._∷_ 101 (List._∷_ 100 List.[])))))))))))))) (Syntax.ttcons (Syntax.tcons y0
-              Syntax.tnil) (Syntax.ttcons (Syntax.tcons (Syntax.tyEnum (List._∷_ 115 (List._∷_ 116 (List._∷_ 114 (List._∷_ 101 (List._∷_ 97 (List._∷_ 109 (List._∷_ 58 (List._∷_ 58 (List._∷_ 82 (List._∷_
-              101 (List._∷_ 102 (List._∷_ 117 (List._∷_ 115 (List._∷_ 97 (List._∷_ 108 List.[]))))))))))))))) (Syntax.ttcons Syntax.tnil (Syntax.ttcons Syntax.tnil (Syntax.ttcons Syntax.tnil
-              (Syntax.ttcons (Syntax.tcons (Syntax.tyInt Syntax.w64) Syntax.tnil) (Syntax.ttcons Syntax.tnil (Syntax.ttcons Syntax.tnil (Syntax.ttcons Syntax.tnil (Syntax.ttcons Syntax.tnil (Syntax.ttcons
-              Syntax.tnil (Syntax.ttcons Syntax.tnil (Syntax.ttcons (Syntax.tcons (Syntax.tyInt Syntax.w64) Syntax.tnil) (Syntax.ttcons (Syntax.tcons (Syntax.tyInt Syntax.w64) Syntax.tnil) (Syntax.ttcons
-              Syntax.tnil (Syntax.ttcons (Syntax.tcons (Syntax.tyInt Syntax.w64) (Syntax.tcons (Syntax.tyInt Syntax.w64) Syntax.tnil)) (Syntax.ttcons (Syntax.tcons (Syntax.tyInt Syntax.w64) Syntax.tnil)
-              (Syntax.ttcons Syntax.tnil (Syntax.ttcons Syntax.tnil (Syntax.ttcons (Syntax.tcons (Syntax.tyInt Syntax.w64) Syntax.tnil) (Syntax.ttcons (Syntax.tcons (Syntax.tyInt Syntax.w64) Syntax.tnil)
-              (Syntax.ttcons (Syntax.tcons (Syntax.tyInt Syntax.w64) Syntax.tnil) (Syntax.ttcons Syntax.tnil (Syntax.ttcons Syntax.tnil (Syntax.ttcons (Syntax.tcons (Syntax.tyInt Syntax.w64) (Syntax.tcons
-              (Syntax.tyInt Syntax.w64) Syntax.tnil)) (Syntax.ttcons Syntax.tnil Syntax.ttnil))))))))))))))))))))))))) Syntax.tnil) Syntax.ttnil))) (Local.room-whole 𝓤 H A W (Declared.row Parsed.the-type)
-              (Syntax.tyEnum (List._∷_ 115 (List._∷_ 116 (List._∷_ 114 (List._∷_ 101 (List._∷_ 97 (List._∷_ 109 (List._∷_ 58 (List._∷_ 58 (List._∷_ 80 (List._∷_ 97 (List._∷_ 114 (List._∷_ 115 (List._∷_
-              101 (List._∷_ 100 List.[])))))))))))))) (Syntax.ttcons (Syntax.tcons y0 Syntax.tnil) (Syntax.ttcons (Syntax.tcons (Syntax.tyEnum (List._∷_ 115 (List._∷_ 116 (List._∷_ 114 (List._∷_ 101
-              (List._∷_ 97 (List._∷_ 109 (List._∷_ 58 (List._∷_ 58 (List._∷_ 82 (List._∷_ 101 (List._∷_ 102 (List._∷_ 117 (List._∷_ 115 (List._∷_ 97 (List._∷_ 108 List.[]))))))))))))))) (Syntax.ttcons
-              Syntax.tnil (Syntax.ttcons Syntax.tnil (Syntax.ttcons Syntax.tnil (Syntax.ttcons (Syntax.tcons (Syntax.tyInt Syntax.w64) Syntax.tnil) (Syntax.ttcons Syntax.tnil (Syntax.ttcons Syntax.tnil
-              (Syntax.ttcons Syntax.tnil (Syntax.ttcons Syntax.tnil (Syntax.ttcons Syntax.tnil (Syntax.ttcons Syntax.tnil (Syntax.ttcons (Syntax.tcons (Syntax.tyInt Syntax.w64) Syntax.tnil) (Syntax.ttcons
-              (Syntax.tcons (Syntax.tyInt Syntax.w64) Syntax.tnil) (Syntax.ttcons Syntax.tnil (Syntax.ttcons (Syntax.tcons (Syntax.tyInt Syntax.w64) (Syntax.tcons (Syntax.tyInt Syntax.w64) Syntax.tnil))
-              (Syntax.ttcons (Syntax.tcons (Syntax.tyInt Syntax.w64) Syntax.tnil) (Syntax.ttcons Syntax.tnil (Syntax.ttcons Syntax.tnil (Syntax.ttcons (Syntax.tcons (Syntax.tyInt Syntax.w64) Syntax.tnil)
-              (Syntax.ttcons (Syntax.tcons (Syntax.tyInt Syntax.w64) Syntax.tnil) (Syntax.ttcons (Syntax.tcons (Syntax.tyInt Syntax.w64) Syntax.tnil) (Syntax.ttcons Syntax.tnil (Syntax.ttcons Syntax.tnil
-              (Syntax.ttcons (Syntax.tcons (Syntax.tyInt Syntax.w64) (Syntax.tcons (Syntax.tyInt Syntax.w64) Syntax.tnil)) (Syntax.ttcons Syntax.tnil Syntax.ttnil))))))))))))))))))))))))) Syntax.tnil)
-              Syntax.ttnil))) Path'.refl)) d11
+          d12 = Typed.g-pre 𝓤 H A W 𝓣 E G30 G31 b16 Δ0 (Typed.pass T30 T31 (s29 bs)) (at10 bs) (Scalar.g-room 𝓤 H A W E G30 6 y12 (Local.room-whole 𝓤 H A W (Declared.row Parsed.the-type) y12
+              Path'.refl)) d11
 
           d13 : Typed.Typed 𝓤 H A 𝓣 E G29 b16 Δ0 (at13 bs)
-          d13 = Typed.g-pre 𝓤 H A W 𝓣 E G29 G30 b16 Δ0 (Typed.pass T29 T30 (s28 bs)) (at12 bs) (Scalar.g-room 𝓤 H A W E G29 12 y1 (Shared.room-sslice 𝓤 H A W (Referent.rtF (Referent.fInt Syntax.w8))
-              (Syntax.tyRef Syntax.erased Syntax.imm (Syntax.tyInt Syntax.w8)) 0)) d12
+          d13 = Typed.g-pre 𝓤 H A W 𝓣 E G29 G30 b16 Δ0 (Typed.pass T29 T30 (s28 bs)) (at12 bs) (Scalar.g-room 𝓤 H A W E G29 12 y14 (Shared.room-sslice 𝓤 H A W n8 y6 0)) d12
 
-          d14 : Typed.Typed 𝓤 H A 𝓣 E G28 b17 Δ0 (at14 bs)
+          d14 : Typed.Typed 𝓤 H A 𝓣 E G28 (Syntax.seq b15 b16) Δ0 (at14 bs)
           d14 = Typed.s-seq 𝓤 H A W 𝓣 E G28 G29 b15 b16 Δ0 (Typed.both (s27 bs)) (at13 bs) (Plain.t-call-plain 𝓤 H A W 𝓣 5 ps·1 r·1 (claims· .2) (claims· .3) "block_writer::write_in" (known .1) E (λ
               pos β. β) G28 (
-                record { pos = 6; st = List.[]; d = 0; at = λ x. x },
+                record { pos = 6; st = []; d = 0; at = λ x. x },
                 (
-                  record { pos = 12; ty = Syntax.tyRef Syntax.erased Syntax.imm (Syntax.tyInt Syntax.w8); ref = λ x. x },
+                  record { pos = 12; ty = y6; ref = λ x. x },
                   (
-                    record { pos = 2; ty = Syntax.tyRef (Syntax.named 1) Syntax.imm (Syntax.tyInt Syntax.w16); ref = λ x. x },
-                    (
-                      record { pos = 14; ty = Syntax.tyRef Syntax.erased Syntax.mut (Syntax.tyInt Syntax.w8); ref = λ x. x },
-                      (
-                        Bool.bLit Bool'.true,
-                        (
-                          record { pos = 16; ty = Syntax.tyRef Syntax.erased Syntax.mut (Syntax.tyInt Syntax.w16); ref = λ x. x },
-                          (record { pos = 18; ty = Syntax.tyRef Syntax.erased Syntax.mut Element.behind; ref = λ x. x }, tt),
-                        ),
-                      ),
-                    ),
+                    record { pos = 2; ty = y3; ref = λ x. x },
+                    (record { pos = 14; ty = y9; ref = λ x. x }, (Bool.bLit Bool'.true, (record { pos = 16; ty = y8; ref = λ x. x }, (record { pos = 18; ty = y7; ref = λ x. x }, tt)))),
                   ),
                 ),
-              ) 0 (List._∷_ 0 (List._∷_ 1 (List._∷_ 4 (List._∷_ 5 (List._∷_ 6 List.[])))))
-              (Call.sub-id 𝓤 H A W (G28 .slots)) (
+              ) 0 (0 ∷ 1 ∷ 4 ∷ 5 ∷
+              6 ∷ []) (Call.sub-id 𝓤 H A W (G28 .slots)) (
+                (Values.enum-copied 𝓤 H A W Parsed.the-type Laws'.the-laws Laws'.the-copy, Path'.refl),
                 (
-                  Yields.yields-copy 𝓤 H A W (λ ρ. Unit) (Declared.row Parsed.the-type) Path'.refl (Copies.cEnum Parsed.the-type Laws'.the-laws Laws'.the-copy .copy 𝓤 H A W) (Rows'.whole (Declared.row
-                      Parsed.the-type)) (λ x. x) (λ x. x) (λ ρ told. Local.mem-whole 𝓤 H A W (Declared.row Parsed.the-type) ρ) λ ρ told. Local.whole-mem 𝓤 H A W (Declared.row Parsed.the-type) ρ,
-                  Path'.refl,
-                ),
-                (
-                  ShrSlice.spares-sslice 𝓤 H A W (Referent.rtF (Referent.fInt Syntax.w8)) (Syntax.tyRef Syntax.erased Syntax.imm (Syntax.tyInt Syntax.w8)) 0,
-                  Shared.reads-sslice 𝓤 H A W (Referent.rtF
-                      (Referent.fInt Syntax.w8)) (Syntax.tyRef Syntax.erased Syntax.imm (Syntax.tyInt Syntax.w8)) 0,
+                  ShrSlice.spares-sslice 𝓤 H A W n8 y6 0,
+                  Shared.reads-sslice 𝓤 H A W n8 y6 0,
                   Path'.refl,
                   (
-                    ShrSlice.spares-sslice 𝓤 H A W (Referent.rtF (Referent.fInt Syntax.w16)) (Syntax.tyRef (Syntax.named 1) Syntax.imm (Syntax.tyInt Syntax.w16)) 1,
-                    Shared.reads-sslice 𝓤 H A W (Referent.rtF
-                        (Referent.fInt Syntax.w16)) (Syntax.tyRef (Syntax.named 1) Syntax.imm (Syntax.tyInt Syntax.w16)) 1,
+                    ShrSlice.spares-sslice 𝓤 H A W n16 y3 1,
+                    Shared.reads-sslice 𝓤 H A W n16 y3 1,
                     Path'.refl,
                     (
-                      Reads.as-is 𝓤 H A (Mut.mslice (Referent.rtF (Referent.fInt Syntax.w8)) (Syntax.tyRef Syntax.erased Syntax.mut (Syntax.tyInt Syntax.w8)) 4),
-                      Mut.reads-mslice 𝓤 H A W (Referent.rtF
-                          (Referent.fInt Syntax.w8)) (Syntax.tyRef Syntax.erased Syntax.mut (Syntax.tyInt Syntax.w8)) 4,
+                      Reads.as-is 𝓤 H A (Mut.mslice n8 y9 4),
+                      Mut.reads-mslice 𝓤 H A W n8 y9 4,
                       Path'.refl,
                       (
                         tt,
                         (
-                          Reads.as-is 𝓤 H A (Mut.mslice (Referent.rtF (Referent.fInt Syntax.w16)) (Syntax.tyRef Syntax.erased Syntax.mut (Syntax.tyInt Syntax.w16)) 5),
-                          Mut.reads-mslice 𝓤 H A W (Referent.rtF
-                              (Referent.fInt Syntax.w16)) (Syntax.tyRef Syntax.erased Syntax.mut (Syntax.tyInt Syntax.w16)) 5,
+                          Reads.as-is 𝓤 H A (Mut.mslice n16 y8 5),
+                          Mut.reads-mslice 𝓤 H A W n16 y8 5,
                           Path'.refl,
-                          (
-                            Reads.as-is 𝓤 H A (Mut.mslice (Element.type) (Syntax.tyRef Syntax.erased Syntax.mut Element.behind) 6),
-                            Mut.reads-mslice 𝓤 H A W (Element.type) (Syntax.tyRef Syntax.erased Syntax.mut
-                                Element.behind) 6,
-                            Path'.refl,
-                            tt,
-                          ),
+                          (Reads.as-is 𝓤 H A (Mut.mslice (Element.type) y7 6), Mut.reads-mslice 𝓤 H A W (Element.type) y7 6, Path'.refl, tt),
                         ),
                       ),
                     ),
                   ),
                 ),
-              ) (Reads.room-gone 𝓤 H A (Syntax.tyEnum (List._∷_ 115 (List._∷_ 116 (List._∷_ 114 (List._∷_ 101 (List._∷_ 97 (List._∷_ 109 (List._∷_ 58 (List._∷_ 58
-              (List._∷_ 66 (List._∷_ 108 (List._∷_ 111 (List._∷_ 99 (List._∷_ 107 (List._∷_ 76 (List._∷_ 101 (List._∷_ 110 (List._∷_ 103 (List._∷_ 116 (List._∷_ 104 List.[])))))))))))))))))))
-              (Syntax.ttcons (Syntax.tcons (Syntax.tyInt Syntax.w64) Syntax.tnil) (Syntax.ttcons (Syntax.tcons (Syntax.tyEnum (List._∷_ 115 (List._∷_ 116 (List._∷_ 114 (List._∷_ 101 (List._∷_ 97 (List._∷_
-              109 (List._∷_ 58 (List._∷_ 58 (List._∷_ 82 (List._∷_ 101 (List._∷_ 102 (List._∷_ 117 (List._∷_ 115 (List._∷_ 97 (List._∷_ 108 List.[]))))))))))))))) (Syntax.ttcons Syntax.tnil (Syntax.ttcons
-              Syntax.tnil (Syntax.ttcons Syntax.tnil (Syntax.ttcons (Syntax.tcons (Syntax.tyInt Syntax.w64) Syntax.tnil) (Syntax.ttcons Syntax.tnil (Syntax.ttcons Syntax.tnil (Syntax.ttcons Syntax.tnil
-              (Syntax.ttcons Syntax.tnil (Syntax.ttcons Syntax.tnil (Syntax.ttcons Syntax.tnil (Syntax.ttcons (Syntax.tcons (Syntax.tyInt Syntax.w64) Syntax.tnil) (Syntax.ttcons (Syntax.tcons
-              (Syntax.tyInt Syntax.w64) Syntax.tnil) (Syntax.ttcons Syntax.tnil (Syntax.ttcons (Syntax.tcons (Syntax.tyInt Syntax.w64) (Syntax.tcons (Syntax.tyInt Syntax.w64) Syntax.tnil)) (Syntax.ttcons
-              (Syntax.tcons (Syntax.tyInt Syntax.w64) Syntax.tnil) (Syntax.ttcons Syntax.tnil (Syntax.ttcons Syntax.tnil (Syntax.ttcons (Syntax.tcons (Syntax.tyInt Syntax.w64) Syntax.tnil) (Syntax.ttcons
-              (Syntax.tcons (Syntax.tyInt Syntax.w64) Syntax.tnil) (Syntax.ttcons (Syntax.tcons (Syntax.tyInt Syntax.w64) Syntax.tnil) (Syntax.ttcons Syntax.tnil (Syntax.ttcons Syntax.tnil (Syntax.ttcons
-              (Syntax.tcons (Syntax.tyInt Syntax.w64) (Syntax.tcons (Syntax.tyInt Syntax.w64) Syntax.tnil)) (Syntax.ttcons Syntax.tnil Syntax.ttnil))))))))))))))))))))))))) Syntax.tnil) Syntax.ttnil))))
-              (tt, (tt, (tt, (tt, (tt, tt))))) Path'.refl) d13
+              ) (Reads.room-gone 𝓤 H A y11) (tt, (tt, (tt, (tt, (tt, tt)))))
+              Path'.refl) d13
 
-          d15 : Typed.Typed 𝓤 H A 𝓣 E G27 b18 Δ0 (at15 bs)
-          d15 = Typed.s-seq 𝓤 H A W 𝓣 E G27 G28 b14 b17 Δ0 (Typed.ask (s26 bs)) (at14 bs) (Relend.t-sl-aggregate 𝓤 H A W E (Element.type) 𝓣 (Relend.asMut (Element.type)) G27 17 18 6 (Syntax.tyRef
-              Syntax.erased Syntax.mut Element.behind) (Syntax.tyRef Syntax.erased Syntax.mut Element.behind) (λ x. x) (Scalar.oFld 4 (List._∷_ (Syntax.field 1) List.[]) (Syntax.tyInt Syntax.w64) 8 λ v.
-              Shared.lenV (v .0)) (Reads.as-is 𝓤 H A (Relend.msptr (Element.type) (Syntax.tyRef Syntax.erased Syntax.mut Element.behind) 6)) (Reads.room-gone 𝓤 H A y4)
-              (Relend.reads-owed-len 𝓤 H A W (Element.type) (Syntax.tyRef (Syntax.named 3) Syntax.mut Element.behind) 3 6 (Row.lease (κs .1 .1 .1 .0) (qs .1 .1 .1 .0)) 8 Path'.refl, Path'.refl) Path'.refl
-              Path'.refl λ b o k. tt) d14
+          d15 : Typed.Typed 𝓤 H A 𝓣 E G27 (Syntax.seq b14 (Syntax.seq b15 b16)) Δ0 (at15 bs)
+          d15 = Typed.s-seq 𝓤 H A W 𝓣 E G27 G28 b14 (Syntax.seq b15 b16) Δ0 (Typed.ask (s26 bs)) (at14 bs) (Relend.t-sl-aggregate 𝓤 H A W E (Element.type) 𝓣 (Relend.asMut (Element.type)) G27 17 18 6
+              y7 y7 (λ x. x) (Scalar.oFld 4 ((Syntax.field 1) ∷ []) u64 8 λ v. Shared.lenV (v .0)) (Reads.as-is 𝓤 H A (Relend.msptr (Element.type) y7 6)) (Reads.room-gone 𝓤 H A (Syntax.tyStruct (38 ∷ 91 ∷
+              93 ∷ []) (Syntax.tcons y7 (Syntax.tcons u64 Syntax.tnil)))) (Relend.reads-owed-len 𝓤 H A W (Element.type) y5 3 6 k3 8 Path'.refl, Path'.refl) Path'.refl Path'.refl λ b o k. tt) d14
 
           d16 : Typed.Typed 𝓤 H A 𝓣 E G26 b19 Δ0 (at16 bs)
-          d16 = Typed.s-seq 𝓤 H A W 𝓣 E G26 G27 b13 b18 Δ0 (Typed.give (s25 bs)) (at15 bs) (Relend.t-sl-relend 𝓤 H A W E (Element.type) 𝓣 G26 4 17 3 6 (Syntax.tyRef (Syntax.named 3) Syntax.mut
-              Element.behind) (Syntax.tyRef Syntax.erased Syntax.mut Element.behind) (Row.lease (κs .1 .1 .1 .0) (qs .1 .1 .1 .0)) 0 (λ x. x) (Reads.as-is 𝓤 H A (Mut.mslice (Element.type) (Syntax.tyRef
-              (Syntax.named 3) Syntax.mut Element.behind) 3)) (Reads.room-gone 𝓤 H A (Syntax.tyRef Syntax.erased Syntax.mut Element.behind)) Path'.refl tt Path'.refl Path'.refl Path'.refl λ b o. tt) d15
+          d16 = Typed.s-seq 𝓤 H A W 𝓣 E G26 G27 b13 (Syntax.seq b14 (Syntax.seq b15 b16)) Δ0 (Typed.give (s25 bs)) (at15 bs) (Relend.t-sl-relend 𝓤 H A W E (Element.type) 𝓣 G26 4 17 3 6 y5 y7 k3 0 (λ
+              x. x) (Reads.as-is 𝓤 H A (Mut.mslice (Element.type) y5 3)) (Reads.room-gone 𝓤 H A y7) Path'.refl tt Path'.refl Path'.refl Path'.refl λ b o. tt) d15
 
-          d17 : Typed.Typed 𝓤 H A 𝓣 E G25 b19 Δ0 (at17 bs)
+          d17 : Typed.Typed 𝓤 H A 𝓣 E G25 b19 Δ0 (at16 bs)
           d17 = Typed.g-pre 𝓤 H A W 𝓣 E G25 G26 b19 Δ0 (λ Ψ. Ψ) (at16 bs) (Lifetime.g-begin 𝓤 H A W E G25 6
               (tt, (tt, (tt, ((tt, tt), (tt, (tt, (tt, (tt, (tt, (tt, (tt, (tt, (tt, (tt, (tt, (tt, (tt, (tt, (tt, tt)))))))))))))))))))) d16
 
-          d18 : Typed.Typed 𝓤 H A 𝓣 E G24 b20 Δ0 (at18 bs)
-          d18 = Typed.s-seq 𝓤 H A W 𝓣 E G24 G25 b12 b19 Δ0 (Typed.ask (s23 bs)) (at17 bs) (Relend.t-sl-aggregate 𝓤 H A W E (Referent.rtF (Referent.fInt Syntax.w16)) 𝓣 (Relend.asMut (Referent.rtF
-              (Referent.fInt Syntax.w16))) G24 15 16 5 (Syntax.tyRef Syntax.erased Syntax.mut (Syntax.tyInt Syntax.w16)) (Syntax.tyRef Syntax.erased Syntax.mut (Syntax.tyInt Syntax.w16)) (λ x. x)
-              (Scalar.oFld 3 (List._∷_ (Syntax.field 1) List.[]) (Syntax.tyInt Syntax.w64) 8 λ v. Shared.lenV (v .0)) (Reads.as-is 𝓤 H A (Relend.msptr (Referent.rtF (Referent.fInt Syntax.w16))
-              (Syntax.tyRef Syntax.erased Syntax.mut (Syntax.tyInt Syntax.w16)) 5)) (Reads.room-gone 𝓤 H A y2) (
-                Relend.reads-owed-len 𝓤 H A W (Referent.rtF (Referent.fInt Syntax.w16)) (Syntax.tyRef (Syntax.named 2) Syntax.mut (Syntax.tyInt Syntax.w16)) 2 5 (Row.lease (κs .1 .1 .0) (qs .1 .1 .0)) 8
-                    Path'.refl,
-                Path'.refl,
-              ) Path'.refl Path'.refl λ b o k. tt) d17
+          d18 : Typed.Typed 𝓤 H A 𝓣 E G24 (Syntax.seq b12 b19) Δ0 (at18 bs)
+          d18 = Typed.s-seq 𝓤 H A W 𝓣 E G24 G25 b12 b19 Δ0 (Typed.ask (s23 bs)) (at16 bs) (Relend.t-sl-aggregate 𝓤 H A W E n16 𝓣 (Relend.asMut n16) G24 15 16 5 y8 y8 (λ x. x) (Scalar.oFld 3
+              ((Syntax.field 1) ∷ []) u64 8 λ v. Shared.lenV (v .0)) (Reads.as-is 𝓤 H A (Relend.msptr n16 y8 5)) (Reads.room-gone 𝓤 H A (Syntax.tyStruct (38 ∷ 91 ∷ 93 ∷ []) (Syntax.tcons y8 (Syntax.tcons
+              u64 Syntax.tnil)))) (Relend.reads-owed-len 𝓤 H A W n16 y4 2 5 k2 8 Path'.refl, Path'.refl) Path'.refl Path'.refl λ b o k. tt) d17
 
-          d19 : Typed.Typed 𝓤 H A 𝓣 E G23 b21 Δ0 (at19 bs)
-          d19 = Typed.s-seq 𝓤 H A W 𝓣 E G23 G24 b11 b20 Δ0 (Typed.give (s22 bs)) (at18 bs) (Relend.t-sl-relend 𝓤 H A W E (Referent.rtF (Referent.fInt Syntax.w16)) 𝓣 G23 3 15 2 5 (Syntax.tyRef
-              (Syntax.named 2) Syntax.mut (Syntax.tyInt Syntax.w16)) (Syntax.tyRef Syntax.erased Syntax.mut (Syntax.tyInt Syntax.w16)) (Row.lease (κs .1 .1 .0) (qs .1 .1 .0)) 0 (λ x. x) (Reads.as-is 𝓤 H A
-              (Mut.mslice (Referent.rtF (Referent.fInt Syntax.w16)) (Syntax.tyRef (Syntax.named 2) Syntax.mut (Syntax.tyInt Syntax.w16)) 2)) (Reads.room-gone 𝓤 H A (Syntax.tyRef Syntax.erased Syntax.mut
-              (Syntax.tyInt Syntax.w16))) Path'.refl tt Path'.refl Path'.refl Path'.refl λ b o. tt) d18
+          d19 : Typed.Typed 𝓤 H A 𝓣 E G23 (Syntax.seq b11 (Syntax.seq b12 b19)) Δ0 (at19 bs)
+          d19 = Typed.s-seq 𝓤 H A W 𝓣 E G23 G24 b11 (Syntax.seq b12 b19) Δ0 (Typed.give (s22 bs)) (at18 bs) (Relend.t-sl-relend 𝓤 H A W E n16 𝓣 G23 3 15 2 5 y4 y8 k2 0 (λ x. x) (Reads.as-is 𝓤 H A
+              (Mut.mslice n16 y4 2)) (Reads.room-gone 𝓤 H A y8) Path'.refl tt Path'.refl Path'.refl Path'.refl λ b o. tt) d18
 
-          d20 : Typed.Typed 𝓤 H A 𝓣 E G22 b21 Δ0 (at20 bs)
-          d20 = Typed.g-pre 𝓤 H A W 𝓣 E G22 G23 b21 Δ0 (λ Ψ. Ψ) (at19 bs) (Lifetime.g-begin 𝓤 H A W E G22 5
+          d20 : Typed.Typed 𝓤 H A 𝓣 E (on T22 l5) (Syntax.seq b11 (Syntax.seq b12 b19)) Δ0 (at19 bs)
+          d20 = Typed.g-pre 𝓤 H A W 𝓣 E (on T22 l5) G23 (Syntax.seq b11 (Syntax.seq b12 b19)) Δ0 (λ Ψ. Ψ) (at19 bs) (Lifetime.g-begin 𝓤 H A W E (on T22 l5) 5
               (tt, (tt, (tt, (tt, (tt, (tt, (tt, (tt, (tt, (tt, (tt, (tt, (tt, (tt, (tt, (tt, (tt, (tt, (tt, tt)))))))))))))))))))) d19
 
-          d21 : Typed.Typed 𝓤 H A 𝓣 E G21 b22 Δ0 (at21 bs)
-          d21 = Typed.s-seq 𝓤 H A W 𝓣 E G21 G22 b10 b21 Δ0 (Typed.ask (s20 bs)) (at20 bs) (Relend.t-sl-aggregate 𝓤 H A W E (Referent.rtF (Referent.fInt Syntax.w8)) 𝓣 (Relend.asMut (Referent.rtF
-              (Referent.fInt Syntax.w8))) G21 13 14 4 (Syntax.tyRef Syntax.erased Syntax.mut (Syntax.tyArray (Syntax.tyInt Syntax.w8) 1)) (Syntax.tyRef Syntax.erased Syntax.mut (Syntax.tyInt Syntax.w8))
-              (λ x. x) (Scalar.oInt Syntax.w64 1) (Reads.as-is 𝓤 H A (Relend.msptr (Referent.rtF (Referent.fInt Syntax.w8)) (Syntax.tyRef Syntax.erased Syntax.mut (Syntax.tyArray (Syntax.tyInt Syntax.w8)
-              1)) 4)) (Reads.room-gone 𝓤 H A y3) tt Path'.refl Path'.refl λ b o k. tt) d20
+          d21 : Typed.Typed 𝓤 H A 𝓣 E (on T21 l5) b22 Δ0 (at21 bs)
+          d21 = Typed.s-seq 𝓤 H A W 𝓣 E (on T21 l5) (on T22 l5) b10 (Syntax.seq b11 (Syntax.seq b12 b19)) Δ0 (Typed.ask (s20 bs)) (at19 bs) (Relend.t-sl-aggregate 𝓤 H A W E n8 𝓣 (Relend.asMut n8) (on
+              T21 l5) 13 14 4 y13 y9 (λ x. x) (Scalar.oInt Syntax.w64 1) (Reads.as-is 𝓤 H A (Relend.msptr n8 y13 4)) (Reads.room-gone 𝓤 H A y15) tt Path'.refl Path'.refl λ b o k. tt) d20
 
-          d22 : Typed.Typed 𝓤 H A 𝓣 E G20 b23 Δ0 (at22 bs)
-          d22 = Typed.s-seq 𝓤 H A W 𝓣 E G20 G21 b9 b22 Δ0 (Typed.give (s19 bs)) (at21 bs) (Borrow.t-arr-borrow 𝓤 H A W E 𝓣 (Referent.rtF (Referent.fInt Syntax.w8)) G20 5 13 1 4 (Syntax.tyRef
-              Syntax.erased Syntax.mut (Syntax.tyArray (Syntax.tyInt Syntax.w8) 1)) (λ x. x) (Reads.as-is 𝓤 H A (Rows.arrF (Referent.rtF (Referent.fInt Syntax.w8)) 1 0)) (Reads.room-gone 𝓤 H A
-              (Syntax.tyRef Syntax.erased Syntax.mut (Syntax.tyArray (Syntax.tyInt Syntax.w8) 1))) Path'.refl (λ b o. tt) (Dec'.lit< tt, Dec'.lit< tt)) d21
+          d22 : Typed.Typed 𝓤 H A 𝓣 E (on T19 l5) b23 Δ0 (at22 bs)
+          d22 = Typed.s-seq 𝓤 H A W 𝓣 E (on T19 l5) (on T21 l5) b9 b22 Δ0 (Typed.give (s19 bs)) (at21 bs) (Borrow.t-arr-borrow 𝓤 H A W E 𝓣 n8 (on T19 l5) 5 13 1 4 y13 (λ x. x) (Reads.as-is 𝓤 H A
+              (Rows.arrF n8 1 0)) (Reads.room-gone 𝓤 H A y13) Path'.refl (λ b o. tt) (Dec'.lit< tt, Dec'.lit< tt)) d21
 
-          d23 : Typed.Typed 𝓤 H A 𝓣 E G19 b23 Δ0 (at23 bs)
-          d23 = Typed.g-pre 𝓤 H A W 𝓣 E G19 G20 b23 Δ0 (λ Ψ. Ψ) (at22 bs) (Lifetime.g-begin 𝓤 H A W E G19 4
+          d23 : Typed.Typed 𝓤 H A 𝓣 E (on T19 l6) b23 Δ0 (at22 bs)
+          d23 = Typed.g-pre 𝓤 H A W 𝓣 E (on T19 l6) (on T19 l5) b23 Δ0 (λ Ψ. Ψ) (at22 bs) (Lifetime.g-begin 𝓤 H A W E (on T19 l6) 4
               (tt, (tt, (tt, (tt, (tt, (tt, (tt, (tt, (tt, (tt, (tt, (tt, (tt, (tt, (tt, (tt, (tt, (tt, (tt, tt)))))))))))))))))))) d22
 
-          d24 : Typed.Typed 𝓤 H A 𝓣 E G18 b23 Δ0 (at24 bs)
-          d24 = Typed.g-pre 𝓤 H A W 𝓣 E G18 G19 b23 Δ0 (Typed.pass T18 T19 (s17 bs)) (at23 bs) (Scalar.g-room 𝓤 H A W E G18 7 (Syntax.tyInt Syntax.w64) (Scalar.room-sc 𝓤 H A W (Row.sInt Syntax.w64)))
-              d23
+          d24 : Typed.Typed 𝓤 H A 𝓣 E (on T18 l6) b23 Δ0 (at24 bs)
+          d24 = Typed.g-pre 𝓤 H A W 𝓣 E (on T18 l6) (on T19 l6) b23 Δ0 (Typed.pass T18 T19 (s17 bs)) (at22 bs) (Scalar.g-room 𝓤 H A W E (on T18 l6) 7 u64 (Scalar.room-sc 𝓤 H A W (Row.sInt
+              Syntax.w64))) d23
 
-          d25 : Typed.Typed 𝓤 H A 𝓣 E G17 b24 Δ0 (at25 bs)
-          d25 = Typed.s-seq 𝓤 H A W 𝓣 E G17 G18 b8 b23 Δ0 (Typed.ask (s16 bs)) (at24 bs) (Relend.t-sl-aggregate 𝓤 H A W E (Referent.rtF (Referent.fInt Syntax.w8)) 𝓣 (Relend.asShr (Referent.rtF
-              (Referent.fInt Syntax.w8))) G17 11 12 0 (Syntax.tyRef Syntax.erased Syntax.imm (Syntax.tyInt Syntax.w8)) (Syntax.tyRef Syntax.erased Syntax.imm (Syntax.tyInt Syntax.w8)) (λ x. x) (Scalar.oAt
-              7 (Syntax.tyInt Syntax.w64) (Row.valS (Row.sInt Syntax.w64))) (Reads.as-is 𝓤 H A (Relend.ssptr (Referent.rtF (Referent.fInt Syntax.w8)) (Syntax.tyRef Syntax.erased Syntax.imm (Syntax.tyInt
-              Syntax.w8)) 0)) (Reads.room-gone 𝓤 H A y1) (Scalar.reads-sc 𝓤 H A W (Row.sInt Syntax.w64), Path'.refl) Path'.refl Path'.refl λ b o k. tt) d24
+          d25 : Typed.Typed 𝓤 H A 𝓣 E (on T17 l6) (Syntax.seq b8 b23) Δ0 (at25 bs)
+          d25 = Typed.s-seq 𝓤 H A W 𝓣 E (on T17 l6) (on T18 l6) b8 b23 Δ0 (Typed.ask (s16 bs)) (at24 bs) (Relend.t-sl-aggregate 𝓤 H A W E n8 𝓣 (Relend.asShr n8) (on T17 l6) 11 12 0 y6 y6 (λ x. x)
+              (Scalar.oAt 7 u64 (Row.valS (Row.sInt Syntax.w64))) (Reads.as-is 𝓤 H A (Relend.ssptr n8 y6 0)) (Reads.room-gone 𝓤 H A y14) (Scalar.reads-sc 𝓤 H A W (Row.sInt Syntax.w64), Path'.refl)
+              Path'.refl Path'.refl λ b o k. tt) d24
 
-          d26 : Typed.Typed 𝓤 H A 𝓣 E G16 b24 Δ0 (at26 bs)
-          d26 = Typed.g-pre 𝓤 H A W 𝓣 E G16 G17 b24 Δ0 (Typed.pass T16 T17 (s15 bs)) (at25 bs) (Scalar.g-room 𝓤 H A W E G16 10 Syntax.tyPtr (Scalar.room-sc 𝓤 H A W Row.sPtr)) d25
+          d26 : Typed.Typed 𝓤 H A 𝓣 E (on T16 l6) (Syntax.seq b8 b23) Δ0 (at26 bs)
+          d26 = Typed.g-pre 𝓤 H A W 𝓣 E (on T16 l6) (on T17 l6) (Syntax.seq b8 b23) Δ0 (Typed.pass T16 T17 (s15 bs)) (at25 bs) (Scalar.g-room 𝓤 H A W E (on T16 l6) 10 Syntax.tyPtr (Scalar.room-sc 𝓤 H
+              A W Row.sPtr)) d25
 
-          d27 : Typed.Typed 𝓤 H A 𝓣 E G15 b25 Δ0 (at27 bs)
-          d27 = Typed.s-seq 𝓤 H A W 𝓣 E G15 G16 b7 b24 Δ0 (Typed.both (s14 bs)) (at26 bs) (PartAt.t-shs-part-same 𝓤 H A W E (Referent.rtF (Referent.fInt Syntax.w8)) 𝓣 (Copies.halved 𝓤 H A W
-              (Copies.cRf (Referent.fInt Syntax.w8))) G15 1 10 11 0 (Syntax.tyInt Syntax.w8) (Syntax.tyRef (Syntax.named 0) Syntax.imm (Syntax.tyInt Syntax.w8)) (Syntax.tyRef Syntax.erased Syntax.imm
-              (Syntax.tyInt Syntax.w8)) (Row.lease (κs .0) (qs .0)) Shared.byByte (λ x. x) (λ x. x) (λ u. 0) (λ u. 0) (λ i o. Elements.at-byte o i) (Reads.as-is 𝓤 H A (Rows'.sslice (Referent.rtF
-              (Referent.fInt Syntax.w8)) (Syntax.tyRef (Syntax.named 0) Syntax.imm (Syntax.tyInt Syntax.w8)) 0)) (Reads.as-is 𝓤 H A (Rows'.sc-here Row.sPtr)) (Reads.room-gone 𝓤 H A (Syntax.tyRef
-              Syntax.erased Syntax.imm (Syntax.tyInt Syntax.w8))) Path'.refl tt Path'.refl Path'.refl λ b o. tt) d26
+          d27 : Typed.Typed 𝓤 H A 𝓣 E (on T15 l6) (Syntax.seq b7 (Syntax.seq b8 b23)) Δ0 (at27 bs)
+          d27 = Typed.s-seq 𝓤 H A W 𝓣 E (on T15 l6) (on T16 l6) b7 (Syntax.seq b8 b23) Δ0 (Typed.both (s14 bs)) (at26 bs) (PartAt.t-shs-part-same 𝓤 H A W E n8 𝓣 (Copies.halved 𝓤 H A W (Copies.cRf
+              (Referent.fInt Syntax.w8))) (on T15 l6) 1 10 11 0 u8 y2 y6 k0 Shared.byByte (λ x. x) (λ x. x) (λ u. 0) (λ u. 0) (λ i o. Elements.at-byte o i) (Reads.as-is 𝓤 H A (Rows'.sslice n8 y2 0))
+              (Reads.as-is 𝓤 H A (Rows'.sc-here Row.sPtr)) (Reads.room-gone 𝓤 H A y6) Path'.refl tt Path'.refl Path'.refl λ b o. tt) d26
 
-          d28 : Typed.Typed 𝓤 H A 𝓣 E G14 b26 Δ0 (at28 bs)
-          d28 = Typed.s-seq 𝓤 H A W 𝓣 E G14 G15 b6 b25 Δ0 (Typed.ask (s13 bs)) (at27 bs) (Scalar.t-op2 𝓤 H A W E 𝓣 G14 (Syntax.sub Syntax.unsigned) (Scalar.oInt Syntax.w64 0) (Scalar.oInt Syntax.w64
-              0) 7 (Rows'.sc-here (Row.sInt Syntax.w64)) (Syntax.tyInt Syntax.w64) (Row.valS (Row.sInt Syntax.w64)) (Row.sInt Syntax.w64 .of) tt tt (Reads.room-gone 𝓤 H A (Syntax.tyInt Syntax.w64))
-              (Scalar.holds-sc 𝓤 H A W (Row.sInt Syntax.w64)) Path'.refl (λ u. Path'.refl) λ u. tt) d27
+          d28 : Typed.Typed 𝓤 H A 𝓣 E (on T14 l6) b26 Δ0 (at28 bs)
+          d28 = Typed.s-seq 𝓤 H A W 𝓣 E (on T14 l6) (on T15 l6) b6 (Syntax.seq b7 (Syntax.seq b8 b23)) Δ0 (Typed.ask (s13 bs)) (at27 bs) (Scalar.t-op2 𝓤 H A W E 𝓣 (on T14 l6) (Syntax.sub
+              Syntax.unsigned) (Scalar.oInt Syntax.w64 0) (Scalar.oInt Syntax.w64 0) 7 (Rows'.sc-here (Row.sInt Syntax.w64)) u64 (Row.valS (Row.sInt Syntax.w64)) (Row.sInt Syntax.w64 .of) tt tt
+              (Reads.room-gone 𝓤 H A u64) (Scalar.holds-sc 𝓤 H A W (Row.sInt Syntax.w64)) Path'.refl (λ u. Path'.refl) λ u. tt) d27
 
-          d29 : Typed.Typed 𝓤 H A 𝓣 E G13 b27 Δ0 (at29 bs)
-          d29 = Typed.s-seq 𝓤 H A W 𝓣 E G13 G14 b5 b26 Δ0 (Typed.ask (s12 bs)) (at28 bs) (Scalar.t-op2 𝓤 H A W E 𝓣 G13 Syntax.offset (Scalar.oFld 1 (List._∷_ (Syntax.field 0) List.[]) (Syntax.tyRef
-              (Syntax.named 0) Syntax.imm (Syntax.tyInt Syntax.w8)) 0 Reads.ptrVal) (Scalar.oInt Syntax.w64 0) 10 (Rows'.sc-here Row.sPtr) Syntax.tyPtr (Row.valS Row.sPtr) (Row.sPtr .of)
-              (Shared.reads-sslice-ptr 𝓤 H A W (Referent.rtF (Referent.fInt Syntax.w8)) (Syntax.tyRef (Syntax.named 0) Syntax.imm (Syntax.tyInt Syntax.w8)) 0 0 Path'.refl, Path'.refl) tt (Reads.room-gone
-              𝓤 H A Syntax.tyPtr) (Scalar.holds-sc 𝓤 H A W Row.sPtr) Path'.refl (λ u. Path'.refl) λ u. tt) d28
+          d29 : Typed.Typed 𝓤 H A 𝓣 E (on T13 l6) b27 Δ0 (at29 bs)
+          d29 = Typed.s-seq 𝓤 H A W 𝓣 E (on T13 l6) (on T14 l6) b5 b26 Δ0 (Typed.ask (s12 bs)) (at28 bs) (Scalar.t-op2 𝓤 H A W E 𝓣 (on T13 l6) Syntax.offset (Scalar.oFld 1 ((Syntax.field 0) ∷ []) y2 0
+              Reads.ptrVal) (Scalar.oInt Syntax.w64 0) 10 (Rows'.sc-here Row.sPtr) Syntax.tyPtr (Row.valS Row.sPtr) (Row.sPtr .of) (Shared.reads-sslice-ptr 𝓤 H A W n8 y2 0 0 Path'.refl, Path'.refl) tt
+              (Reads.room-gone 𝓤 H A Syntax.tyPtr) (Scalar.holds-sc 𝓤 H A W Row.sPtr) Path'.refl (λ u. Path'.refl) λ u. tt) d28
 
-          d30 : Typed.Typed 𝓤 H A 𝓣 E G12 b27 Δ0 (at30 bs)
-          d30 = Typed.g-pre 𝓤 H A W 𝓣 E G12 G13 b27 Δ0 (Typed.pass T12 T13 (s11 bs)) (at29 bs) (Scalar.g-room 𝓤 H A W E G12 9 (Syntax.tyInt Syntax.w64) (Scalar.room-sc 𝓤 H A W (Row.sInt Syntax.w64)))
-              d29
+          d30 : Typed.Typed 𝓤 H A 𝓣 E (on T12 l6) b27 Δ0 (at30 bs)
+          d30 = Typed.g-pre 𝓤 H A W 𝓣 E (on T12 l6) (on T13 l6) b27 Δ0 (Typed.pass T12 T13 (s11 bs)) (at29 bs) (Scalar.g-room 𝓤 H A W E (on T12 l6) 9 u64 (Scalar.room-sc 𝓤 H A W (Row.sInt
+              Syntax.w64))) d29
 
-          d31 : Typed.Typed 𝓤 H A 𝓣 E G11 b27 Δ0 (at31 bs)
-          d31 = Typed.g-pre 𝓤 H A W 𝓣 E G11 G12 b27 Δ0 (Typed.pass T11 T12 (s10 bs)) (at30 bs) (Scalar.g-room 𝓤 H A W E G11 8 (Syntax.tyInt Syntax.w64) (Scalar.room-sc 𝓤 H A W (Row.sInt Syntax.w64)))
-              d30
+          d31 : Typed.Typed 𝓤 H A 𝓣 E (on T11 l6) b27 Δ0 (at31 bs)
+          d31 = Typed.g-pre 𝓤 H A W 𝓣 E (on T11 l6) (on T12 l6) b27 Δ0 (Typed.pass T11 T12 (s10 bs)) (at30 bs) (Scalar.g-room 𝓤 H A W E (on T11 l6) 8 u64 (Scalar.room-sc 𝓤 H A W (Row.sInt
+              Syntax.w64))) d30
 
-          d32 : Typed.Typed 𝓤 H A 𝓣 E G10 b27 Δ0 (at32 bs)
-          d32 = Typed.g-pre 𝓤 H A W 𝓣 E G10 G11 b27 Δ0 (Typed.pass T10 T11 (s9 bs)) (at31 bs) (Scalar.g-room 𝓤 H A W E G10 7 (Syntax.tyInt Syntax.w64) (Scalar.room-sc 𝓤 H A W (Row.sInt Syntax.w64)))
+          d32 : Typed.Typed 𝓤 H A 𝓣 E (on T10 l6) b27 Δ0 (at32 bs)
+          d32 = Typed.g-pre 𝓤 H A W 𝓣 E (on T10 l6) (on T11 l6) b27 Δ0 (Typed.pass T10 T11 (s9 bs)) (at31 bs) (Scalar.g-room 𝓤 H A W E (on T10 l6) 7 u64 (Scalar.room-sc 𝓤 H A W (Row.sInt Syntax.w64)))
               d31
 
-          d33 : Typed.Typed 𝓤 H A 𝓣 E G9 b28 Δ0 (at33 bs)
-          d33 = Typed.s-seq 𝓤 H A W 𝓣 E G9 G10 b4 b27 Δ0 (Typed.both (s8 bs)) (at32 bs) (Plain.t-call-plain 𝓤 H A W 𝓣 1 ps·0 r·0 (claims· .0) (claims· .1) "begin::writing_begins" (known .0) E (λ pos
-              β. β) G9 (record { pos = 1; ty = Syntax.tyRef (Syntax.named 0) Syntax.imm (Syntax.tyInt Syntax.w8); ref = λ x. x }, (Num.vAt 7 λ x. x, (Num.vAt 8 λ x. x, (Num.vAt 9 λ x. x, tt)))) 6
-              (List._∷_ 0 List.[]) (Call.sub-id 𝓤 H A W (G9 .slots)) (
-                ShrSlice.spares-sslice 𝓤 H A W (Referent.rtF (Referent.fInt Syntax.w8)) (Syntax.tyRef (Syntax.named 0) Syntax.imm (Syntax.tyInt Syntax.w8)) 0,
-                Shared.reads-sslice 𝓤 H A W (Referent.rtF
-                    (Referent.fInt Syntax.w8)) (Syntax.tyRef (Syntax.named 0) Syntax.imm (Syntax.tyInt Syntax.w8)) 0,
+          d33 : Typed.Typed 𝓤 H A 𝓣 E (on T9 l6) (Syntax.seq b4 b27) Δ0 (at33 bs)
+          d33 = Typed.s-seq 𝓤 H A W 𝓣 E (on T9 l6) (on T10 l6) b4 b27 Δ0 (Typed.both (s8 bs)) (at32 bs) (Plain.t-call-plain 𝓤 H A W 𝓣 1 ps·0 r·0 (claims· .0) (claims· .1) "begin::writing_begins"
+              (known .0) E (λ pos β. β) (on T9 l6) (record { pos = 1; ty = y2; ref = λ x. x }, (Num.vAt 7 λ x. x, (Num.vAt 8 λ x. x, (Num.vAt 9 λ x. x, tt)))) 6 (0 ∷ []) (Call.sub-id 𝓤 H A W ((on T9 l6)
+              .slots)) (
+                ShrSlice.spares-sslice 𝓤 H A W n8 y2 0,
+                Shared.reads-sslice 𝓤 H A W n8 y2 0,
                 Path'.refl,
                 (
                   (Scalar.reads-sc 𝓤 H A W (Row.sInt Syntax.w64), Path'.refl),
                   ((Scalar.reads-sc 𝓤 H A W (Row.sInt Syntax.w64), Path'.refl), ((Scalar.reads-sc 𝓤 H A W (Row.sInt Syntax.w64), Path'.refl), tt)),
                 ),
-              ) (Reads.room-gone 𝓤 H A (Syntax.tyEnum (List._∷_ 115
-              (List._∷_ 116 (List._∷_ 114 (List._∷_ 101 (List._∷_ 97 (List._∷_ 109 (List._∷_ 58 (List._∷_ 58 (List._∷_ 80 (List._∷_ 97 (List._∷_ 114 (List._∷_ 115 (List._∷_ 101 (List._∷_ 100
-              List.[])))))))))))))) (Syntax.ttcons (Syntax.tcons y0 Syntax.tnil) (Syntax.ttcons (Syntax.tcons (Syntax.tyEnum (List._∷_ 115 (List._∷_ 116 (List._∷_ 114 (List._∷_ 101 (List._∷_ 97 (List._∷_
-              109 (List._∷_ 58 (List._∷_ 58 (List._∷_ 82 (List._∷_ 101 (List._∷_ 102 (List._∷_ 117 (List._∷_ 115 (List._∷_ 97 (List._∷_ 108 List.[]))))))))))))))) (Syntax.ttcons Syntax.tnil (Syntax.ttcons
-              Syntax.tnil (Syntax.ttcons Syntax.tnil (Syntax.ttcons (Syntax.tcons (Syntax.tyInt Syntax.w64) Syntax.tnil) (Syntax.ttcons Syntax.tnil (Syntax.ttcons Syntax.tnil (Syntax.ttcons Syntax.tnil
-              (Syntax.ttcons Syntax.tnil (Syntax.ttcons Syntax.tnil (Syntax.ttcons Syntax.tnil (Syntax.ttcons (Syntax.tcons (Syntax.tyInt Syntax.w64) Syntax.tnil) (Syntax.ttcons (Syntax.tcons
-              (Syntax.tyInt Syntax.w64) Syntax.tnil) (Syntax.ttcons Syntax.tnil (Syntax.ttcons (Syntax.tcons (Syntax.tyInt Syntax.w64) (Syntax.tcons (Syntax.tyInt Syntax.w64) Syntax.tnil)) (Syntax.ttcons
-              (Syntax.tcons (Syntax.tyInt Syntax.w64) Syntax.tnil) (Syntax.ttcons Syntax.tnil (Syntax.ttcons Syntax.tnil (Syntax.ttcons (Syntax.tcons (Syntax.tyInt Syntax.w64) Syntax.tnil) (Syntax.ttcons
-              (Syntax.tcons (Syntax.tyInt Syntax.w64) Syntax.tnil) (Syntax.ttcons (Syntax.tcons (Syntax.tyInt Syntax.w64) Syntax.tnil) (Syntax.ttcons Syntax.tnil (Syntax.ttcons Syntax.tnil (Syntax.ttcons
-              (Syntax.tcons (Syntax.tyInt Syntax.w64) (Syntax.tcons (Syntax.tyInt Syntax.w64) Syntax.tnil)) (Syntax.ttcons Syntax.tnil Syntax.ttnil))))))))))))))))))))))))) Syntax.tnil) Syntax.ttnil))))
-              (tt, tt) Path'.refl) d32
+              ) (Reads.room-gone 𝓤 H A y12) (tt, tt) Path'.refl) d32
 
-          d34 : Typed.Typed 𝓤 H A 𝓣 E G8 b29 Δ0 (at34 bs)
-          d34 = Typed.s-seq 𝓤 H A W 𝓣 E G8 G9 b3 b28 Δ0 (Typed.pass T8 T9 (s7 bs)) (at33 bs) (Scalar.t-use 𝓤 H A W E 𝓣 G8 (Scalar.oFld 4 (List._∷_ (Syntax.field 1) List.[]) (Syntax.tyInt Syntax.w64) 8
-              Shared.lenV) 9 (Rows'.sc-here (Row.sInt Syntax.w64)) (Syntax.tyInt Syntax.w64) (Row.valS (Row.sInt Syntax.w64)) (Row.sInt Syntax.w64 .of)
-              (Mut.reads-mslice-len 𝓤 H A W (Element.type) (Syntax.tyRef (Syntax.named 3) Syntax.mut Element.behind) 3 8 Path'.refl, Path'.refl) (Reads.room-gone 𝓤 H A (Syntax.tyInt Syntax.w64))
-              (Scalar.holds-sc 𝓤 H A W (Row.sInt Syntax.w64)) Path'.refl (λ u. Path'.refl) λ u. tt) d33
+          d34 : Typed.Typed 𝓤 H A 𝓣 E (on T8 l6) (Syntax.seq b3 (Syntax.seq b4 b27)) Δ0 (at34 bs)
+          d34 = Typed.s-seq 𝓤 H A W 𝓣 E (on T8 l6) (on T9 l6) b3 (Syntax.seq b4 b27) Δ0 (Typed.pass T8 T9 (s7 bs)) (at33 bs) (Scalar.t-use 𝓤 H A W E 𝓣 (on T8 l6) (Scalar.oFld 4 ((Syntax.field 1) ∷ [])
+              u64 8 Shared.lenV) 9 (Rows'.sc-here (Row.sInt Syntax.w64)) u64 (Row.valS (Row.sInt Syntax.w64)) (Row.sInt Syntax.w64 .of)
+              (Mut.reads-mslice-len 𝓤 H A W (Element.type) y5 3 8 Path'.refl, Path'.refl) (Reads.room-gone 𝓤 H A u64) (Scalar.holds-sc 𝓤 H A W (Row.sInt Syntax.w64)) Path'.refl (λ u. Path'.refl) λ u. tt)
+              d33
 
-          d35 : Typed.Typed 𝓤 H A 𝓣 E G7 b30 Δ0 (at35 bs)
-          d35 = Typed.s-seq 𝓤 H A W 𝓣 E G7 G8 b2 b29 Δ0 (Typed.pass T7 T8 (s6 bs)) (at34 bs) (Scalar.t-use 𝓤 H A W E 𝓣 G7 (Scalar.oFld 3 (List._∷_ (Syntax.field 1) List.[]) (Syntax.tyInt Syntax.w64) 8
-              Shared.lenV) 8 (Rows'.sc-here (Row.sInt Syntax.w64)) (Syntax.tyInt Syntax.w64) (Row.valS (Row.sInt Syntax.w64)) (Row.sInt Syntax.w64 .of)
-              (Mut.reads-mslice-len 𝓤 H A W (Referent.rtF (Referent.fInt Syntax.w16)) (Syntax.tyRef (Syntax.named 2) Syntax.mut (Syntax.tyInt Syntax.w16)) 2 8 Path'.refl, Path'.refl) (Reads.room-gone 𝓤 H
-              A (Syntax.tyInt Syntax.w64)) (Scalar.holds-sc 𝓤 H A W (Row.sInt Syntax.w64)) Path'.refl (λ u. Path'.refl) λ u. tt) d34
+          d35 : Typed.Typed 𝓤 H A 𝓣 E (on T7 l6) b30 Δ0 (at35 bs)
+          d35 = Typed.s-seq 𝓤 H A W 𝓣 E (on T7 l6) (on T8 l6) b2 (Syntax.seq b3 (Syntax.seq b4 b27)) Δ0 (Typed.pass T7 T8 (s6 bs)) (at34 bs) (Scalar.t-use 𝓤 H A W E 𝓣 (on T7 l6) (Scalar.oFld 3
+              ((Syntax.field 1) ∷ []) u64 8 Shared.lenV) 8 (Rows'.sc-here (Row.sInt Syntax.w64)) u64 (Row.valS (Row.sInt Syntax.w64)) (Row.sInt Syntax.w64 .of)
+              (Mut.reads-mslice-len 𝓤 H A W n16 y4 2 8 Path'.refl, Path'.refl) (Reads.room-gone 𝓤 H A u64) (Scalar.holds-sc 𝓤 H A W (Row.sInt Syntax.w64)) Path'.refl (λ u. Path'.refl) λ u. tt) d34
 
-          d36 : Typed.Typed 𝓤 H A 𝓣 E G6 b31 Δ0 (at36 bs)
-          d36 = Typed.s-seq 𝓤 H A W 𝓣 E G6 G7 b1 b30 Δ0 (Typed.pass T6 T7 (s5 bs)) (at35 bs) (Scalar.t-use 𝓤 H A W E 𝓣 G6 (Scalar.oFld 2 (List._∷_ (Syntax.field 1) List.[]) (Syntax.tyInt Syntax.w64) 8
-              Shared.lenV) 7 (Rows'.sc-here (Row.sInt Syntax.w64)) (Syntax.tyInt Syntax.w64) (Row.valS (Row.sInt Syntax.w64)) (Row.sInt Syntax.w64 .of)
-              (Shared.reads-sslice-len 𝓤 H A W (Referent.rtF (Referent.fInt Syntax.w16)) (Syntax.tyRef (Syntax.named 1) Syntax.imm (Syntax.tyInt Syntax.w16)) 1 8 Path'.refl, Path'.refl) (Reads.room-gone 𝓤
-              H A (Syntax.tyInt Syntax.w64)) (Scalar.holds-sc 𝓤 H A W (Row.sInt Syntax.w64)) Path'.refl (λ u. Path'.refl) λ u. tt) d35
+          d36 : Typed.Typed 𝓤 H A 𝓣 E (on T6 l6) (Syntax.seq b1 b30) Δ0 (at36 bs)
+          d36 = Typed.s-seq 𝓤 H A W 𝓣 E (on T6 l6) (on T7 l6) b1 b30 Δ0 (Typed.pass T6 T7 (s5 bs)) (at35 bs) (Scalar.t-use 𝓤 H A W E 𝓣 (on T6 l6) (Scalar.oFld 2 ((Syntax.field 1) ∷ []) u64 8
+              Shared.lenV) 7 (Rows'.sc-here (Row.sInt Syntax.w64)) u64 (Row.valS (Row.sInt Syntax.w64)) (Row.sInt Syntax.w64 .of) (Shared.reads-sslice-len 𝓤 H A W n16 y3 1 8 Path'.refl, Path'.refl)
+              (Reads.room-gone 𝓤 H A u64) (Scalar.holds-sc 𝓤 H A W (Row.sInt Syntax.w64)) Path'.refl (λ u. Path'.refl) λ u. tt) d35
 
-          d37 : Typed.Typed 𝓤 H A 𝓣 E G5 b31 Δ0 (at37 bs)
-          d37 = Typed.g-pre 𝓤 H A W 𝓣 E G5 G6 b31 Δ0 (Typed.pass T5 T6 (s4 bs)) (at36 bs) (AtSlots.g-as-by 𝓤 H A W E (λ ρ. Unit) G5 5 (Rows.arrF (Referent.rtF (Referent.fInt Syntax.w8)) 1 0) (λ x. x)
-              (Own.told-none 𝓤 H A (G5 .slots)) λ ρ told. Repeat.whole-arr 𝓤 H A W (Referent.rtF (Referent.fInt Syntax.w8)) 1 tt ρ) d36
+          d37 : Typed.Typed 𝓤 H A 𝓣 E (on T5 l6) (Syntax.seq b1 b30) Δ0 (at37 bs)
+          d37 = Typed.g-pre 𝓤 H A W 𝓣 E (on T5 l6) (on T6 l6) (Syntax.seq b1 b30) Δ0 (Typed.pass T5 T6 (s4 bs)) (at36 bs) (AtSlots.g-as-by 𝓤 H A W E (λ ρ. Unit) (on T5 l6) 5 (Rows.arrF n8 1 0) (λ x.
+              x) (Own.told-none 𝓤 H A ((on T5 l6) .slots)) λ ρ told. Repeat.whole-arr 𝓤 H A W n8 1 tt ρ) d36
 
-          d38 : Typed.Typed 𝓤 H A 𝓣 E G4 b32 Δ0 (at38 bs)
-          d38 = Typed.s-seq 𝓤 H A W 𝓣 E G4 G5 b0 b31 Δ0 (Typed.pass T4 T5 (s3 bs)) (at37 bs) (Make.t-make-wt 𝓤 H A W E 𝓣 (Array.Array (Referent.rtF (Referent.fInt Syntax.w8)) 1) Path'.refl
-              (Gives.arrayValOf λ x. Steps.only (Copies.cRf (Referent.fInt Syntax.w8) .vals x)) (Array.array-lawful 𝓤 H A W (Referent.rtF (Referent.fInt Syntax.w8)) (Plain'.uint-lawful 𝓤 H A W Syntax.w8)
-              1) (Array.array-makes 𝓤 H A W (Referent.rtF (Referent.fInt Syntax.w8)) (Plain'.uint-makes 𝓤 H A W Syntax.w8) 1) G4 5 (List._∷_ (Scalar.oInt Syntax.w8 0) List.[]) (λ m. List._∷_ 0 List.[])
-              (Reads.room-gone 𝓤 H A (Syntax.tyArray (Syntax.tyInt Syntax.w8) 1)) (tt, tt) Path'.refl (λ m wa. Path'.refl) λ m wa.
-              (List._∷_ (Row.valS (Row.sInt Syntax.w8) 0) List.[], ((Path'.refl, Path'.refl), ((Path'.refl, Dec'.lit< tt), tt)))) d37
+          d38 : Typed.Typed 𝓤 H A 𝓣 E (on T0 l6) b32 Δ0 (at38 bs)
+          d38 = Typed.s-seq 𝓤 H A W 𝓣 E (on T0 l6) (on T5 l6) b0 (Syntax.seq b1 b30) Δ0 (Typed.pass T0 T5 (s3 bs)) (at37 bs) (Make.t-make-wt 𝓤 H A W E 𝓣 (Array.Array n8 1) Path'.refl (Gives.arrayValOf
+              λ x. Steps.only (Copies.cRf (Referent.fInt Syntax.w8) .vals x)) (Array.array-lawful 𝓤 H A W n8 (Plain'.uint-lawful 𝓤 H A W Syntax.w8) 1) (Array.array-makes 𝓤 H A W n8 (Plain'.uint-makes 𝓤 H
+              A W Syntax.w8) 1) (on T0 l6) 5 ((Scalar.oInt Syntax.w8 0) ∷ []) (λ m. 0 ∷ []) (Reads.room-gone 𝓤 H A y0) (tt, tt) Path'.refl (λ m wa. Path'.refl) λ m wa.
+              ((Row.valS (Row.sInt Syntax.w8) 0) ∷ [], ((Path'.refl, Path'.refl), ((Path'.refl, Dec'.lit< tt), tt)))) d37
 
-          d39 : Typed.Typed 𝓤 H A 𝓣 E G3 b32 Δ0 (at39 bs)
-          d39 = Typed.g-pre 𝓤 H A W 𝓣 E G3 G4 b32 Δ0 (Typed.give (s2 bs)) (at38 bs) (Know.g-sl-known 𝓤 H A W (Referent.fInt Syntax.w16) E G3 3 2 (Syntax.tyRef (Syntax.named 2) Syntax.mut (Syntax.tyInt
-              Syntax.w16)) (Row.lease (κs .1 .1 .0) (qs .1 .1 .0)) 0 (λ x. x) record { fits = Dec'.lit< tt } (Reads.as-is 𝓤 H A (Mut.mslice (Referent.rtF (Referent.fInt Syntax.w16)) (Syntax.tyRef
-              (Syntax.named 2) Syntax.mut (Syntax.tyInt Syntax.w16)) 2)) Path'.refl tt) d38
+          d39 : Typed.Typed 𝓤 H A 𝓣 E (on T0 l6) b32 Δ0 (at39 bs)
+          d39 = Typed.g-pre 𝓤 H A W 𝓣 E (on T0 l6) (on T0 l6) b32 Δ0 (Typed.give (s2 bs)) (at38 bs) (Know.g-sl-known 𝓤 H A W (Referent.fInt Syntax.w16) E (on T0 l6) 3 2 y4 k2 0 (λ x. x) record
+              { fits = Dec'.lit< tt } (Reads.as-is 𝓤 H A (Mut.mslice n16 y4 2)) Path'.refl tt) d38
 
-          d40 : Typed.Typed 𝓤 H A 𝓣 E G2 b32 Δ0 (at40 bs)
-          d40 = Typed.g-pre 𝓤 H A W 𝓣 E G2 G3 b32 Δ0 (Typed.give (s1 bs)) (at39 bs) (Know.g-shs-known 𝓤 H A W (Referent.fInt Syntax.w16) E G2 2 1 (Syntax.tyRef (Syntax.named 1) Syntax.imm
-              (Syntax.tyInt Syntax.w16)) (Row.lease (κs .1 .0) (qs .1 .0)) 0 (λ x. x) record { fits = Dec'.lit< tt } (Reads.as-is 𝓤 H A (Rows'.sslice (Referent.rtF (Referent.fInt Syntax.w16))
-              (Syntax.tyRef (Syntax.named 1) Syntax.imm (Syntax.tyInt Syntax.w16)) 1)) Path'.refl tt) d39
+          d40 : Typed.Typed 𝓤 H A 𝓣 E (on T0 l6) b32 Δ0 (at40 bs)
+          d40 = Typed.g-pre 𝓤 H A W 𝓣 E (on T0 l6) (on T0 l6) b32 Δ0 (Typed.give (s1 bs)) (at39 bs) (Know.g-shs-known 𝓤 H A W (Referent.fInt Syntax.w16) E (on T0 l6) 2 1 y3 k1 0 (λ x. x) record
+              { fits = Dec'.lit< tt } (Reads.as-is 𝓤 H A (Rows'.sslice n16 y3 1)) Path'.refl tt) d39
 
-          d41 : Typed.Typed 𝓤 H A 𝓣 E G0 b32 Δ0 (at41 bs)
-          d41 = Typed.g-pre 𝓤 H A W 𝓣 E G0 G2 b32 Δ0 (Typed.give (s0 bs)) (at40 bs) (Know.g-shs-known 𝓤 H A W (Referent.fInt Syntax.w8) E G0 1 0 (Syntax.tyRef (Syntax.named 0) Syntax.imm (Syntax.tyInt
-              Syntax.w8)) (Row.lease (κs .0) (qs .0)) 0 (λ x. x) record { fits = Dec'.lit< tt } (Reads.as-is 𝓤 H A (Rows'.sslice (Referent.rtF (Referent.fInt Syntax.w8)) (Syntax.tyRef (Syntax.named 0)
-              Syntax.imm (Syntax.tyInt Syntax.w8)) 0)) Path'.refl tt) d40
+          d41 : Typed.Typed 𝓤 H A 𝓣 E (on T0 l6) b32 Δ0 (at41 bs)
+          d41 = Typed.g-pre 𝓤 H A W 𝓣 E (on T0 l6) (on T0 l6) b32 Δ0 (Typed.give (s0 bs)) (at40 bs) (Know.g-shs-known 𝓤 H A W (Referent.fInt Syntax.w8) E (on T0 l6) 1 0 y2 k0 0 (λ x. x) record
+              { fits = Dec'.lit< tt } (Reads.as-is 𝓤 H A (Rows'.sslice n8 y2 0)) Path'.refl tt) d40
 
           pub typed : Typed.Typed 𝓤 H A 𝓣 E (Function.Γin 4 ps r xs m κs qs) b32 (Function.Δret 4 ps r xs m κs qs) (Φ bs)
           typed = d41
 
       module _ (κs : Lifetimes.Lfts 4) where
         pub record Args : Type 0 where
-          pub header : Kinds.Den {n = 4} κs (ShrSlice.pShrS (Referent.rtF (Referent.fInt Syntax.w8)) 0 tt)
-          pub samples : Kinds.Den {n = 4} κs (ShrSlice.pShrS (Referent.rtF (Referent.fInt Syntax.w16)) 1 tt)
-          pub lines : Kinds.Den {n = 4} κs (MutSlice.pMutS (Referent.rtF (Referent.fInt Syntax.w16)) 2 tt)
+          pub header : Kinds.Den {n = 4} κs (ShrSlice.pShrS n8 0 tt)
+          pub samples : Kinds.Den {n = 4} κs (ShrSlice.pShrS n16 1 tt)
+          pub lines : Kinds.Den {n = 4} κs (MutSlice.pMutS n16 2 tt)
           pub rs : Kinds.Den {n = 4} κs (MutSlice.pMutS (Element.type) 3 tt)
 
         abbrev pub dens : (a : Args) → Kinds.Dens κs ps
@@ -1662,7 +1105,7 @@ module _ (claims· : Claims) where
         pub good : Kinds.GoodsP κs ps (dens κs args)
         pub pre : Pre· κs (dens κs args)
 
-      abbrev pub m1 : (before : Start) → (given : s0 (before .blocks) .gives (m0 (before .κs) (before .args) (before .blocks))) → Typed.Mo T2
+      abbrev pub m1 : (before : Start) → (given : s0 (before .blocks) .gives (m0 (before .κs) (before .args) (before .blocks))) → Typed.Mo T0
       m1 = λ before given. s0 (before .blocks) .next (m0 (before .κs) (before .args) (before .blocks)) given
 
       module _ (before· : Start) where
@@ -1673,7 +1116,7 @@ module _ (claims· : Claims) where
         pub before : Start
         pub shared-slice-known : After-shared-slice-known·own before
 
-      abbrev pub m2 : (before : After-shared-slice-known) → (given : s1 (before .before .blocks) .gives (m1 (before .before) (before .shared-slice-known .given))) → Typed.Mo T3
+      abbrev pub m2 : (before : After-shared-slice-known) → (given : s1 (before .before .blocks) .gives (m1 (before .before) (before .shared-slice-known .given))) → Typed.Mo T0
       m2 = λ before given. s1 (before .before .blocks) .next (m1 (before .before) (before .shared-slice-known .given)) given
 
       module _ (before· : After-shared-slice-known) where
@@ -1684,23 +1127,9 @@ module _ (claims· : Claims) where
         pub before : After-shared-slice-known
         pub shared-slice-known2 : After-shared-slice-known2·own before
 
-      abbrev pub m3 : (before : After-shared-slice-known2) → (given : s2 (before .before .before .blocks) .gives (m2 (before .before) (before .shared-slice-known2 .given))) → Typed.Mo T4
-      m3 = λ before given. s2 (before .before .before .blocks) .next (m2 (before .before) (before .shared-slice-known2 .given)) given
-
-      abbrev pub m4 : (before : After-shared-slice-known2) → (given : s2 (before .before .before .blocks) .gives (m2 (before .before) (before .shared-slice-known2 .given))) → Typed.Mo T5
-      m4 = λ before given. s3 (before .before .before .blocks) (m3 before given)
-
-      abbrev pub m5 : (before : After-shared-slice-known2) → (given : s2 (before .before .before .blocks) .gives (m2 (before .before) (before .shared-slice-known2 .given))) → Typed.Mo T6
-      m5 = λ before given. s4 (before .before .before .blocks) (m4 before given)
-
-      abbrev pub m6 : (before : After-shared-slice-known2) → (given : s2 (before .before .before .blocks) .gives (m2 (before .before) (before .shared-slice-known2 .given))) → Typed.Mo T7
-      m6 = λ before given. s5 (before .before .before .blocks) (m5 before given)
-
-      abbrev pub m7 : (before : After-shared-slice-known2) → (given : s2 (before .before .before .blocks) .gives (m2 (before .before) (before .shared-slice-known2 .given))) → Typed.Mo T8
-      m7 = λ before given. s6 (before .before .before .blocks) (m6 before given)
-
       abbrev pub m8 : (before : After-shared-slice-known2) → (given : s2 (before .before .before .blocks) .gives (m2 (before .before) (before .shared-slice-known2 .given))) → Typed.Mo T9
-      m8 = λ before given. s7 (before .before .before .blocks) (m7 before given)
+      m8 = λ before given. s7 (before .before .before .blocks) (s6 (before .before .before .blocks) (s5 (before .before .before .blocks) (s4 (before .before .before .blocks) (s3 (before .before
+          .before .blocks) (s2 (before .before .before .blocks) .next (m2 (before .before) (before .shared-slice-known2 .given)) given)))))
 
       module _ (before· : After-shared-slice-known2) where
         pub record After-slice-known·own : Type 0 where
@@ -1718,30 +1147,23 @@ module _ (claims· : Claims) where
 
       module _ (before· : After-slice-known) where
         abbrev pub After-writing-begins·own : Type 0
-        After-writing-begins·own = Called.Called ps·0 r·0 (claims· .1) T9
-            (record { pos = 1; ty = Syntax.tyRef (Syntax.named 0) Syntax.imm (Syntax.tyInt Syntax.w8); ref = λ x. x }, (Num.vAt 7 λ x. x, (Num.vAt 8 λ x. x, (Num.vAt 9 λ x. x, tt)))) (m8 (before·
+        After-writing-begins·own = Called.Called ps·0 r·0 (claims· .1) T9 (record { pos = 1; ty = y2; ref = λ x. x }, (Num.vAt 7 λ x. x, (Num.vAt 8 λ x. x, (Num.vAt 9 λ x. x, tt)))) (m8 (before·
             .before) (before· .slice-known .given))
 
       pub record After-writing-begins : Type 0 where
         pub before : After-slice-known
         pub writing-begins : After-writing-begins·own before
 
+      abbrev pub After-writing-begins·start : After-writing-begins → Start
+      After-writing-begins·start = λ c. c .before .before .before .before
+
       abbrev pub After-writing-begins·gave : (c : After-writing-begins) → s8 (c .before .before .before .before .blocks) .gives (m8 (c .before .before) (c .before .slice-known .given))
-      After-writing-begins·gave = λ c. Called.given ps·0 r·0 (claims· .1) T9
-          (record { pos = 1; ty = Syntax.tyRef (Syntax.named 0) Syntax.imm (Syntax.tyInt Syntax.w8); ref = λ x. x }, (Num.vAt 7 λ x. x, (Num.vAt 8 λ x. x, (Num.vAt 9 λ x. x, tt)))) (m8 (c .before
+      After-writing-begins·gave = λ c. Called.given ps·0 r·0 (claims· .1) T9 (record { pos = 1; ty = y2; ref = λ x. x }, (Num.vAt 7 λ x. x, (Num.vAt 8 λ x. x, (Num.vAt 9 λ x. x, tt)))) (m8 (c .before
           .before) (c .before .slice-known .given)) (c .writing-begins)
 
-      abbrev pub m10 : (before : After-slice-known) → (given : s8 (before .before .before .before .blocks) .gives (m8 (before .before) (before .slice-known .given))) → Typed.Mo T11
-      m10 = λ before given. s9 (before .before .before .before .blocks) (m9 before given)
-
-      abbrev pub m11 : (before : After-slice-known) → (given : s8 (before .before .before .before .blocks) .gives (m8 (before .before) (before .slice-known .given))) → Typed.Mo T12
-      m11 = λ before given. s10 (before .before .before .before .blocks) (m10 before given)
-
-      abbrev pub m12 : (before : After-slice-known) → (given : s8 (before .before .before .before .blocks) .gives (m8 (before .before) (before .slice-known .given))) → Typed.Mo T13
-      m12 = λ before given. s11 (before .before .before .before .blocks) (m11 before given)
-
       abbrev pub m13 : (before : After-slice-known) → (given : s8 (before .before .before .before .blocks) .gives (m8 (before .before) (before .slice-known .given))) → Typed.Mo T14
-      m13 = λ before given. s12 (before .before .before .before .blocks) .next (m12 before given)
+      m13 = λ before given. s12 (before .before .before .before .blocks) .next (s11 (before .before .before .before .blocks) (s10 (before .before .before .before .blocks) (s9 (before .before .before
+          .before .blocks) (m9 before given))))
 
       abbrev pub Need-sub-write-in : Type 0
       Need-sub-write-in = (c : After-writing-begins) → s13 (c .before .before .before .before .blocks) .asks (m13 (c .before) (After-writing-begins·gave c))
@@ -1755,17 +1177,12 @@ module _ (claims· : Claims) where
       abbrev pub Need-part-write-in-end : Type 0
       Need-part-write-in-end = (c : After-writing-begins) → PartAt.PartTo T15 1 10 (λ x. x) (λ u. 0) (m14 (c .before) (After-writing-begins·gave c))
 
-      abbrev pub m15 : (before : After-writing-begins) → (given : s14 (before .before .before .before .before .blocks) .gives (m14 (before .before) (After-writing-begins·gave before))) → Typed.Mo T16
-      m15 = λ before given. s14 (before .before .before .before .before .blocks) .next (m14 (before .before) (After-writing-begins·gave before)) given
-
       abbrev pub m16 : (before : After-writing-begins) → (given : s14 (before .before .before .before .before .blocks) .gives (m14 (before .before) (After-writing-begins·gave before))) → Typed.Mo T17
-      m16 = λ before given. s15 (before .before .before .before .before .blocks) (m15 before given)
-
-      abbrev pub m17 : (before : After-writing-begins) → (given : s14 (before .before .before .before .before .blocks) .gives (m14 (before .before) (After-writing-begins·gave before))) → Typed.Mo T18
-      m17 = λ before given. s16 (before .before .before .before .before .blocks) .next (m16 before given)
+      m16 = λ before given. s15 (before .before .before .before .before .blocks) (s14 (before .before .before .before .before .blocks) .next (m14 (before .before) (After-writing-begins·gave before))
+          given)
 
       abbrev pub m18 : (before : After-writing-begins) → (given : s14 (before .before .before .before .before .blocks) .gives (m14 (before .before) (After-writing-begins·gave before))) → Typed.Mo T19
-      m18 = λ before given. s17 (before .before .before .before .before .blocks) (m17 before given)
+      m18 = λ before given. s17 (before .before .before .before .before .blocks) (s16 (before .before .before .before .before .blocks) .next (m16 before given))
 
       module _ (before· : After-writing-begins) where
         pub record After-write-in-arg·own : Type 0 where
@@ -1792,11 +1209,9 @@ module _ (claims· : Claims) where
       abbrev pub m20 : (before : After-write-in-arg) → (given : s19 (before .before .before .before .before .before .blocks) .gives (m18 (before .before) (before .write-in-arg .given))) → Typed.Mo T22
       m20 = λ before given. s20 (before .before .before .before .before .before .blocks) .next (m19 before given)
 
-      abbrev pub m21 : (before : After-nothing) → (given : s22 (before .before .before .before .before .before .before .blocks) .gives (m20 (before .before) (before .nothing .given))) → Typed.Mo T24
-      m21 = λ before given. s22 (before .before .before .before .before .before .before .blocks) .next (m20 (before .before) (before .nothing .given)) given
-
       abbrev pub m22 : (before : After-nothing) → (given : s22 (before .before .before .before .before .before .before .blocks) .gives (m20 (before .before) (before .nothing .given))) → Typed.Mo T25
-      m22 = λ before given. s23 (before .before .before .before .before .before .before .blocks) .next (m21 before given)
+      m22 = λ before given. s23 (before .before .before .before .before .before .before .blocks) .next (s22 (before .before .before .before .before .before .before .blocks) .next (m20 (before .before)
+          (before .nothing .given)) given)
 
       module _ (before· : After-nothing) where
         pub record After-write-in-arg2·own : Type 0 where
@@ -1806,13 +1221,10 @@ module _ (claims· : Claims) where
         pub before : After-nothing
         pub write-in-arg2 : After-write-in-arg2·own before
 
-      abbrev pub m23 : (before : After-write-in-arg2) → (given : s25 (before .before .before .before .before .before .before .before .blocks) .gives (m22 (before .before) (before .write-in-arg2
-          .given))) → Typed.Mo T27
-      m23 = λ before given. s25 (before .before .before .before .before .before .before .before .blocks) .next (m22 (before .before) (before .write-in-arg2 .given)) given
-
       abbrev pub m24 : (before : After-write-in-arg2) → (given : s25 (before .before .before .before .before .before .before .before .blocks) .gives (m22 (before .before) (before .write-in-arg2
           .given))) → Typed.Mo T28
-      m24 = λ before given. s26 (before .before .before .before .before .before .before .before .blocks) .next (m23 before given)
+      m24 = λ before given. s26 (before .before .before .before .before .before .before .before .blocks) .next (s25 (before .before .before .before .before .before .before .before .blocks) .next (m22
+          (before .before) (before .write-in-arg2 .given)) given)
 
       module _ (before· : After-write-in-arg2) where
         pub record After-write-in-arg3·own : Type 0 where
@@ -1832,66 +1244,47 @@ module _ (claims· : Claims) where
       module _ (before· : After-write-in-arg3) where
         abbrev pub After-write-in·own : Type 0
         After-write-in·own = Called.Called ps·1 r·1 (claims· .3) T28 (
-          record { pos = 6; st = List.[]; d = 0; at = λ x. x },
+          record { pos = 6; st = []; d = 0; at = λ x. x },
           (
-            record { pos = 12; ty = Syntax.tyRef Syntax.erased Syntax.imm (Syntax.tyInt Syntax.w8); ref = λ x. x },
+            record { pos = 12; ty = y6; ref = λ x. x },
             (
-              record { pos = 2; ty = Syntax.tyRef (Syntax.named 1) Syntax.imm (Syntax.tyInt Syntax.w16); ref = λ x. x },
-              (
-                record { pos = 14; ty = Syntax.tyRef Syntax.erased Syntax.mut (Syntax.tyInt Syntax.w8); ref = λ x. x },
-                (
-                  Bool.bLit Bool'.true,
-                  (
-                    record { pos = 16; ty = Syntax.tyRef Syntax.erased Syntax.mut (Syntax.tyInt Syntax.w16); ref = λ x. x },
-                    (record { pos = 18; ty = Syntax.tyRef Syntax.erased Syntax.mut Element.behind; ref = λ x. x }, tt),
-                  ),
-                ),
-              ),
+              record { pos = 2; ty = y3; ref = λ x. x },
+              (record { pos = 14; ty = y9; ref = λ x. x }, (Bool.bLit Bool'.true, (record { pos = 16; ty = y8; ref = λ x. x }, (record { pos = 18; ty = y7; ref = λ x. x }, tt)))),
             ),
           ),
-        ) (m24 (before· .before) (before· .write-in-arg3 .given))
+        ) (m24 (before·
+            .before) (before· .write-in-arg3 .given))
 
       pub record After-write-in : Type 0 where
         pub before : After-write-in-arg3
         pub write-in : After-write-in·own before
 
+      abbrev pub After-write-in·start : After-write-in → Start
+      After-write-in·start = λ c. c .before .before .before .before .before .before .before .before .before
+
       abbrev pub After-write-in·gave : (c : After-write-in) → s27 (c .before .before .before .before .before .before .before .before .before .blocks) .gives (m24 (c .before .before) (c .before
           .write-in-arg3 .given))
       After-write-in·gave = λ c. Called.given ps·1 r·1 (claims· .3) T28 (
-        record { pos = 6; st = List.[]; d = 0; at = λ x. x },
+        record { pos = 6; st = []; d = 0; at = λ x. x },
         (
-          record { pos = 12; ty = Syntax.tyRef Syntax.erased Syntax.imm (Syntax.tyInt Syntax.w8); ref = λ x. x },
+          record { pos = 12; ty = y6; ref = λ x. x },
           (
-            record { pos = 2; ty = Syntax.tyRef (Syntax.named 1) Syntax.imm (Syntax.tyInt Syntax.w16); ref = λ x. x },
-            (
-              record { pos = 14; ty = Syntax.tyRef Syntax.erased Syntax.mut (Syntax.tyInt Syntax.w8); ref = λ x. x },
-              (
-                Bool.bLit Bool'.true,
-                (
-                  record { pos = 16; ty = Syntax.tyRef Syntax.erased Syntax.mut (Syntax.tyInt Syntax.w16); ref = λ x. x },
-                  (record { pos = 18; ty = Syntax.tyRef Syntax.erased Syntax.mut Element.behind; ref = λ x. x }, tt),
-                ),
-              ),
-            ),
+            record { pos = 2; ty = y3; ref = λ x. x },
+            (record { pos = 14; ty = y9; ref = λ x. x }, (Bool.bLit Bool'.true, (record { pos = 16; ty = y8; ref = λ x. x }, (record { pos = 18; ty = y7; ref = λ x. x }, tt)))),
           ),
         ),
-      ) (m24 (c .before .before) (c .before .write-in-arg3 .given)) (c .write-in)
-
-      abbrev pub m26 : (before : After-write-in-arg3) → (given : s27 (before .before .before .before .before .before .before .before .before .blocks) .gives (m24 (before .before) (before
-          .write-in-arg3 .given))) → Typed.Mo T30
-      m26 = λ before given. s28 (before .before .before .before .before .before .before .before .before .blocks) (m25 before given)
+      ) (m24 (c .before
+          .before) (c .before .write-in-arg3 .given)) (c .write-in)
 
       abbrev pub m27 : (before : After-write-in-arg3) → (given : s27 (before .before .before .before .before .before .before .before .before .blocks) .gives (m24 (before .before) (before
           .write-in-arg3 .given))) → Typed.Mo T31
-      m27 = λ before given. s29 (before .before .before .before .before .before .before .before .before .blocks) (m26 before given)
-
-      abbrev pub m28 : (before : After-write-in) → (given : s31 (before .before .before .before .before .before .before .before .before .before .blocks) .gives (m27 (before .before)
-          (After-write-in·gave before))) → Typed.Mo T33
-      m28 = λ before given. s31 (before .before .before .before .before .before .before .before .before .before .blocks) .next (m27 (before .before) (After-write-in·gave before)) given
+      m27 = λ before given. s29 (before .before .before .before .before .before .before .before .before .blocks) (s28 (before .before .before .before .before .before .before .before .before .blocks)
+          (m25 before given))
 
       abbrev pub m29 : (before : After-write-in) → (given : s31 (before .before .before .before .before .before .before .before .before .before .blocks) .gives (m27 (before .before)
           (After-write-in·gave before))) → Typed.Mo T35
-      m29 = λ before given. s33 (before .before .before .before .before .before .before .before .before .before .blocks) (m28 before given)
+      m29 = λ before given. s33 (before .before .before .before .before .before .before .before .before .before .blocks) (s31 (before .before .before .before .before .before .before .before .before
+          .before .blocks) .next (m27 (before .before) (After-write-in·gave before)) given)
 
       module _ (before· : After-write-in) where
         pub record After-nothing2·own : Type 0 where
@@ -1914,7 +1307,7 @@ module _ (claims· : Claims) where
         pub lines : After-lines·own before
 
       abbrev pub m31 : (before : After-lines) → (given : s36 (before .before .before .before .before .before .before .before .before .before .before .before .blocks) .gives (m30 (before .before)
-          (before .lines .given))) → Typed.Mo T38
+          (before .lines .given))) → Typed.Mo T37
       m31 = λ before given. s36 (before .before .before .before .before .before .before .before .before .before .before .before .blocks) .next (m30 (before .before) (before .lines .given)) given
 
       module _ (before· : After-lines) where
@@ -1926,7 +1319,7 @@ module _ (claims· : Claims) where
         pub slice-known2 : After-slice-known2·own before
 
       abbrev pub m32 : (before : After-slice-known2) → (given : s39 (before .before .before .before .before .before .before .before .before .before .before .before .before .blocks) .gives (m31 (before
-          .before) (before .slice-known2 .given))) → Typed.Mo T41
+          .before) (before .slice-known2 .given))) → Typed.Mo T1
       m32 = λ before given. s39 (before .before .before .before .before .before .before .before .before .before .before .before .before .blocks) .next (m31 (before .before) (before .slice-known2
           .given)) given
 
@@ -1940,11 +1333,11 @@ module _ (claims· : Claims) where
         pub rs : After-rs·own before
 
       abbrev pub Need-same-length : Type 0
-      Need-same-length = (c : After-rs) → MutSlice.SameLen (Row.get 3 (T41 .locals) (m32 (c .before) (c .rs .given))) (dens (c .before .before .before .before .before .before .before .before .before
+      Need-same-length = (c : After-rs) → MutSlice.SameLen (Row.get 3 (T1 .locals) (m32 (c .before) (c .rs .given))) (dens (c .before .before .before .before .before .before .before .before .before
           .before .before .before .before .κs) (c .before .before .before .before .before .before .before .before .before .before .before .before .before .args) .1 .1 .0)
 
       abbrev pub Need-same-length-2 : Type 0
-      Need-same-length-2 = (c : After-rs) → MutSlice.SameLen (Row.get 4 (T41 .locals) (m32 (c .before) (c .rs .given))) (dens (c .before .before .before .before .before .before .before .before .before
+      Need-same-length-2 = (c : After-rs) → MutSlice.SameLen (Row.get 4 (T1 .locals) (m32 (c .before) (c .rs .given))) (dens (c .before .before .before .before .before .before .before .before .before
           .before .before .before .before .κs) (c .before .before .before .before .before .before .before .before .before .before .before .before .before .args) .1 .1 .1 .0)
 
       abbrev pub Need-returns : Type 0
@@ -1960,144 +1353,67 @@ module _ (claims· : Claims) where
       module _ (writing-begins-requires : Need-writing-begins-requires) (sub-write-in : Need-sub-write-in) (part-write-in-start : Need-part-write-in-start) (part-write-in-end : Need-part-write-in-end)
           (slice-aggregate-write-in : Need-slice-aggregate-write-in) (write-in-requires : Need-write-in-requires) (same-length : Need-same-length) (same-length-2 : Need-same-length-2) (returns :
           Need-returns) where
-        lay2 : (c : After-write-in) → at13 (c .before .before .before .before .before .before .before .before .before .blocks) (W0 (c .before .before .before .before .before .before .before .before
-            .before .κs) (c .before .before .before .before .before .before .before .before .before .args) (c .before .before .before .before .before .before .before .before .before .blocks)) (m25 (c
-            .before) (After-write-in·gave c))
+        lay2 : (c : After-write-in) → at13 (c .before .before .before .before .before .before .before .before .before .blocks) (W0 (After-write-in·start c .κs) (After-write-in·start c .args) (c
+            .before .before .before .before .before .before .before .before .before .blocks)) (m25 (c .before) (After-write-in·gave c))
         lay2 = λ c. (
           Path'.refl,
-          λ g. (
+          λ g. let c1 : After-nothing2 = record { before = c; nothing2 = record { given = g } } in (
             Path'.refl,
-            λ g'. λ g''. (
-              Path'.refl,
-              λ g'3. (
-                (
+            λ g'. let c2 : After-lines = record { before = c1; lines = record { given = g' } } in λ g''. let c3 : After-slice-known2 = record
+                { before = c2; slice-known2 = record { given = g'' } } in (
                   Path'.refl,
-                  (
-                    Path'.refl,
+                  λ g'3. let c4 : After-rs = record { before = c3; rs = record { given = g'3 } } in (
                     (
-                      MutSlice.fix-len (Row.get 3 (T41 .locals) (m32 record {
-                        before = record { before = record { before = record { before = c .before; write-in = c .write-in }; nothing2 = record { given = g } }; lines = record { given = g' } };
-                        slice-known2 =
-                            record { given = g'' };
-                      } g'3) .ptr) (Row.get 3 (T41 .locals) (m32 record {
-                        before = record { before = record { before = record { before = c .before; write-in = c .write-in }; nothing2 = record { given = g } }; lines = record { given = g' } };
-                        slice-known2 =
-                            record { given = g'' };
-                      } g'3) .name) (Row.get 3 (T41 .locals) (m32 record {
-                        before = record { before = record { before = record { before = c .before; write-in = c .write-in }; nothing2 = record { given = g } }; lines = record { given = g' } };
-                        slice-known2 =
-                            record { given = g'' };
-                      } g'3) .now) (dens (c .before .before .before .before .before .before .before .before .before .κs) (c .before .before .before .before .before .before .before .before
-                          .before .args) .1 .1 .0 .now) (same-length record {
-                            before = record {
-                              before = record { before = record { before = record { before = c .before; write-in = c .write-in }; nothing2 = record { given = g } }; lines = record { given = g' } };
-                              slice-known2 =
-                                  record { given = g'' };
-                            };
-                            rs = record { given = g'3 };
-                          }),
+                      Path'.refl,
                       (
-                        MutSlice.fix-len (Row.get 4 (T41 .locals) (m32 record {
-                          before = record { before = record { before = record { before = c .before; write-in = c .write-in }; nothing2 = record { given = g } }; lines = record { given = g' } };
-                          slice-known2 =
-                              record { given = g'' };
-                        } g'3) .ptr) (Row.get 4 (T41 .locals) (m32 record {
-                          before = record { before = record { before = record { before = c .before; write-in = c .write-in }; nothing2 = record { given = g } }; lines = record { given = g' } };
-                          slice-known2 =
-                              record { given = g'' };
-                        } g'3) .name) (Row.get 4 (T41 .locals) (m32 record {
-                          before = record { before = record { before = record { before = c .before; write-in = c .write-in }; nothing2 = record { given = g } }; lines = record { given = g' } };
-                          slice-known2 =
-                              record { given = g'' };
-                        } g'3) .now) (dens (c .before .before .before .before .before .before .before .before .before .κs) (c .before .before .before .before .before .before .before .before
-                            .before .args) .1 .1 .1 .0 .now) (same-length-2 record {
-                              before = record {
-                                before = record { before = record { before = record { before = c .before; write-in = c .write-in }; nothing2 = record { given = g } }; lines = record { given = g' } };
-                                slice-known2 =
-                                    record { given = g'' };
-                              };
-                              rs = record { given = g'3 };
-                            }),
-                        tt,
+                        Path'.refl,
+                        (
+                          MutSlice.fix-len (Row.get 3 (T1 .locals) (m32 c3 g'3) .ptr) (Row.get 3 (T1 .locals) (m32 c3 g'3) .name) (Row.get 3 (T1 .locals) (m32 c3 g'3) .now) (dens (After-write-in·start c .κs)
+                              (After-write-in·start c .args) .1 .1 .0 .now) (same-length c4),
+                          (
+                            MutSlice.fix-len (Row.get 4 (T1 .locals) (m32 c3 g'3) .ptr) (Row.get 4 (T1 .locals) (m32 c3 g'3) .name) (Row.get 4 (T1 .locals) (m32 c3 g'3) .now) (dens (After-write-in·start c .κs)
+                                (After-write-in·start c .args) .1 .1 .1 .0 .now) (same-length-2 c4),
+                            tt,
+                          ),
+                        ),
                       ),
                     ),
+                    returns c4,
                   ),
                 ),
-                returns record {
-                  before = record {
-                    before = record { before = record { before = record { before = c .before; write-in = c .write-in }; nothing2 = record { given = g } }; lines = record { given = g' } };
-                    slice-known2 =
-                        record { given = g'' };
-                  };
-                  rs = record { given = g'3 };
-                },
-              ),
-            ),
           ),
         )
 
-        lay1 : (c : After-writing-begins) → at32 (c .before .before .before .before .blocks) (W0 (c .before .before .before .before .κs) (c .before .before .before .before .args) (c .before .before
-            .before .before .blocks)) (m9 (c .before) (After-writing-begins·gave c))
+        lay1 : (c : After-writing-begins) → at32 (c .before .before .before .before .blocks) (W0 (After-writing-begins·start c .κs) (After-writing-begins·start c .args) (c .before .before .before
+            .before .blocks)) (m9 (c .before) (After-writing-begins·gave c))
         lay1 = λ c. (
           tt,
           (
-            sub-write-in record { before = c .before; writing-begins = c .writing-begins },
+            sub-write-in c,
             (
-              (
-                Path'.refl,
-                Path'.refl,
-                part-write-in-start record { before = c .before; writing-begins = c .writing-begins },
-                part-write-in-end record
-                    { before = c .before; writing-begins = c .writing-begins },
-              ),
-              λ g. (
-                Relend.count-is T17 11 12 (λ x. x) (λ u. u .1 .1 .1 .1 .1 .1 .1 .0) (m16 record { before = c .before; writing-begins = c .writing-begins } g) (g .1),
-                λ g'. (
-                  Relend.count-is T21 13 14 (λ x. x) (λ u. 1) (m19 record { before = record { before = c .before; writing-begins = c .writing-begins }; write-in-arg = record { given = g } } g')
-                      (slice-aggregate-write-in record
-                      { before = record { before = record { before = c .before; writing-begins = c .writing-begins }; write-in-arg = record { given = g } }; nothing = record { given = g' } }),
-                  λ g''. (
+              (Path'.refl, Path'.refl, part-write-in-start c, part-write-in-end c),
+              λ g. let c1 : After-write-in-arg = record { before = c; write-in-arg = record { given = g } } in (
+                Relend.count-is T17 11 12 (λ x. x) (λ u. u .1 .1 .1 .1 .1 .1 .1 .0) (m16 c g) (g .1),
+                λ g'. let c2 : After-nothing = record { before = c1; nothing = record { given = g' } } in (
+                  Relend.count-is T21 13 14 (λ x. x) (λ u. 1) (m19 c1 g') (slice-aggregate-write-in c2),
+                  λ g''. let c3 : After-write-in-arg2 = record { before = c2; write-in-arg2 = record { given = g'' } } in (
                     Path'.refl,
-                    λ g'3. (
+                    λ g'3. let c4 : After-write-in-arg3 = record { before = c3; write-in-arg3 = record { given = g'3 } } in (
                       Path'.refl,
                       (
-                        write-in-requires record {
-                          before = record {
-                            before = record { before = record { before = record { before = c .before; writing-begins = c .writing-begins }; write-in-arg = record { given = g } }; nothing = record { given = g' } };
-                            write-in-arg2 = record { given = g'' };
-                          };
-                          write-in-arg3 = record { given = g'3 };
-                        },
+                        write-in-requires c4,
                         λ g'4. lay2 record {
-                          before = record {
-                            before = record {
-                              before = record { before = record { before = record { before = c .before; writing-begins = c .writing-begins }; write-in-arg = record { given = g } }; nothing = record { given = g' } };
-                              write-in-arg2 = record { given = g'' };
-                            };
-                            write-in-arg3 = record { given = g'3 };
-                          };
+                          before = c4;
                           write-in = Called.called ps·1 r·1 (claims· .3) T28 (
-                            record { pos = 6; st = List.[]; d = 0; at = λ x. x },
+                            record { pos = 6; st = []; d = 0; at = λ x. x },
                             (
-                              record { pos = 12; ty = Syntax.tyRef Syntax.erased Syntax.imm (Syntax.tyInt Syntax.w8); ref = λ x. x },
+                              record { pos = 12; ty = y6; ref = λ x. x },
                               (
-                                record { pos = 2; ty = Syntax.tyRef (Syntax.named 1) Syntax.imm (Syntax.tyInt Syntax.w16); ref = λ x. x },
-                                (
-                                  record { pos = 14; ty = Syntax.tyRef Syntax.erased Syntax.mut (Syntax.tyInt Syntax.w8); ref = λ x. x },
-                                  (
-                                    Bool.bLit Bool'.true,
-                                    (
-                                      record { pos = 16; ty = Syntax.tyRef Syntax.erased Syntax.mut (Syntax.tyInt Syntax.w16); ref = λ x. x },
-                                      (record { pos = 18; ty = Syntax.tyRef Syntax.erased Syntax.mut Element.behind; ref = λ x. x }, tt),
-                                    ),
-                                  ),
-                                ),
+                                record { pos = 2; ty = y3; ref = λ x. x },
+                                (record { pos = 14; ty = y9; ref = λ x. x }, (Bool.bLit Bool'.true, (record { pos = 16; ty = y8; ref = λ x. x }, (record { pos = 18; ty = y7; ref = λ x. x }, tt)))),
                               ),
                             ),
-                          ) (m24 record {
-                            before = record { before = record { before = record { before = c .before; writing-begins = c .writing-begins }; write-in-arg = record { given = g } }; nothing = record { given = g' } };
-                            write-in-arg2 = record { given = g'' };
-                          } g'3) g'4;
+                          ) (m24 c3 g'3) g'4;
                         },
                       ),
                     ),
@@ -2109,18 +1425,15 @@ module _ (claims· : Claims) where
         )
 
         pub laid : (c : Start) → at41 (c .blocks) (W0 (c .κs) (c .args) (c .blocks)) (m0 (c .κs) (c .args) (c .blocks))
-        laid = λ c. λ g. λ g'. λ g''. (
-          writing-begins-requires record
-              { before = record { before = record { before = c; shared-slice-known = record { given = g } }; shared-slice-known2 = record { given = g' } }; slice-known = record { given = g'' } },
-          λ g'3.
-              lay1 record {
-                before = record
-                    { before = record { before = record { before = c; shared-slice-known = record { given = g } }; shared-slice-known2 = record { given = g' } }; slice-known = record { given = g'' } };
-                writing-begins = Called.called ps·0 r·0 (claims· .1) T9
-                    (record { pos = 1; ty = Syntax.tyRef (Syntax.named 0) Syntax.imm (Syntax.tyInt Syntax.w8); ref = λ x. x }, (Num.vAt 7 λ x. x, (Num.vAt 8 λ x. x, (Num.vAt 9 λ x. x, tt)))) (m8 record
-                    { before = record { before = c; shared-slice-known = record { given = g } }; shared-slice-known2 = record { given = g' } } g'') g'3;
+        laid = λ c. λ g. let c1 : After-shared-slice-known = record { before = c; shared-slice-known = record { given = g } } in λ g'. let c2 : After-shared-slice-known2 = record
+            { before = c1; shared-slice-known2 = record { given = g' } } in λ g''. let c3 : After-slice-known = record { before = c2; slice-known = record { given = g'' } } in (
+              writing-begins-requires c3,
+              λ g'3. lay1 record {
+                before = c3;
+                writing-begins = Called.called ps·0 r·0 (claims· .1) T9 (record { pos = 1; ty = y2; ref = λ x. x }, (Num.vAt 7 λ x. x, (Num.vAt 8 λ x. x, (Num.vAt 9 λ x. x, tt)))) (m8 c2 g'')
+                    g'3;
               },
-        )
+            )
 
         module _ (κs : Lifetimes.Lfts 4) (qs : Lifetimes.Shares 4) where
           pub asked : (a : Kinds.Dens κs ps) → (good : Kinds.GoodsP κs ps a) → (pre : Pre· κs a) → (bs : List.List Nat.ℕ) → Φ bs (Any.wantQ 4 ps r xs m κs qs a (Post· κs a)) (Function.init 4 ps r xs m

@@ -15,83 +15,49 @@ use borrow.Fn.Run
 use borrow.Fn.Written
 use contract.Running
 
+abbrev claims : Lts.Claims
+claims = (Reads.Asked, Reads.Learnt, Reads''.Asked, Reads''.Learnt)
+
 abbrev pub Start : Type 0
-Start = Lts.Start (Reads.Asked, Reads.Learnt, Reads''.Asked, Reads''.Learnt) Reads'.Pre Reads'.Post
-
-abbrev pub After-shared-slice-known : Type 0
-After-shared-slice-known = Lts.After-shared-slice-known (Reads.Asked, Reads.Learnt, Reads''.Asked, Reads''.Learnt) Reads'.Pre Reads'.Post
-
-abbrev pub After-shared-slice-known2 : Type 0
-After-shared-slice-known2 = Lts.After-shared-slice-known2 (Reads.Asked, Reads.Learnt, Reads''.Asked, Reads''.Learnt) Reads'.Pre Reads'.Post
-
-abbrev pub After-slice-known : Type 0
-After-slice-known = Lts.After-slice-known (Reads.Asked, Reads.Learnt, Reads''.Asked, Reads''.Learnt) Reads'.Pre Reads'.Post
-
-abbrev pub After-writing-begins : Type 0
-After-writing-begins = Lts.After-writing-begins (Reads.Asked, Reads.Learnt, Reads''.Asked, Reads''.Learnt) Reads'.Pre Reads'.Post
-
-abbrev pub After-write-in-arg : Type 0
-After-write-in-arg = Lts.After-write-in-arg (Reads.Asked, Reads.Learnt, Reads''.Asked, Reads''.Learnt) Reads'.Pre Reads'.Post
-
-abbrev pub After-nothing : Type 0
-After-nothing = Lts.After-nothing (Reads.Asked, Reads.Learnt, Reads''.Asked, Reads''.Learnt) Reads'.Pre Reads'.Post
-
-abbrev pub After-write-in-arg2 : Type 0
-After-write-in-arg2 = Lts.After-write-in-arg2 (Reads.Asked, Reads.Learnt, Reads''.Asked, Reads''.Learnt) Reads'.Pre Reads'.Post
-
-abbrev pub After-write-in-arg3 : Type 0
-After-write-in-arg3 = Lts.After-write-in-arg3 (Reads.Asked, Reads.Learnt, Reads''.Asked, Reads''.Learnt) Reads'.Pre Reads'.Post
-
-abbrev pub After-write-in : Type 0
-After-write-in = Lts.After-write-in (Reads.Asked, Reads.Learnt, Reads''.Asked, Reads''.Learnt) Reads'.Pre Reads'.Post
-
-abbrev pub After-nothing2 : Type 0
-After-nothing2 = Lts.After-nothing2 (Reads.Asked, Reads.Learnt, Reads''.Asked, Reads''.Learnt) Reads'.Pre Reads'.Post
-
-abbrev pub After-lines : Type 0
-After-lines = Lts.After-lines (Reads.Asked, Reads.Learnt, Reads''.Asked, Reads''.Learnt) Reads'.Pre Reads'.Post
-
-abbrev pub After-slice-known2 : Type 0
-After-slice-known2 = Lts.After-slice-known2 (Reads.Asked, Reads.Learnt, Reads''.Asked, Reads''.Learnt) Reads'.Pre Reads'.Post
+Start = Lts.Start claims Reads'.Pre Reads'.Post
 
 abbrev pub After-rs : Type 0
-After-rs = Lts.After-rs (Reads.Asked, Reads.Learnt, Reads''.Asked, Reads''.Learnt) Reads'.Pre Reads'.Post
+After-rs = Lts.After-rs claims Reads'.Pre Reads'.Post
 
 abbrev pub Need-writing-begins-requires : Type 0
-Need-writing-begins-requires = Lts.Need-writing-begins-requires (Reads.Asked, Reads.Learnt, Reads''.Asked, Reads''.Learnt) Reads'.Pre Reads'.Post
+Need-writing-begins-requires = Lts.Need-writing-begins-requires claims Reads'.Pre Reads'.Post
 
 abbrev pub Need-sub-write-in : Type 0
-Need-sub-write-in = Lts.Need-sub-write-in (Reads.Asked, Reads.Learnt, Reads''.Asked, Reads''.Learnt) Reads'.Pre Reads'.Post
+Need-sub-write-in = Lts.Need-sub-write-in claims Reads'.Pre Reads'.Post
 
 abbrev pub Need-part-write-in-start : Type 0
-Need-part-write-in-start = Lts.Need-part-write-in-start (Reads.Asked, Reads.Learnt, Reads''.Asked, Reads''.Learnt) Reads'.Pre Reads'.Post
+Need-part-write-in-start = Lts.Need-part-write-in-start claims Reads'.Pre Reads'.Post
 
 abbrev pub Need-part-write-in-end : Type 0
-Need-part-write-in-end = Lts.Need-part-write-in-end (Reads.Asked, Reads.Learnt, Reads''.Asked, Reads''.Learnt) Reads'.Pre Reads'.Post
+Need-part-write-in-end = Lts.Need-part-write-in-end claims Reads'.Pre Reads'.Post
 
 abbrev pub Need-slice-aggregate-write-in : Type 0
-Need-slice-aggregate-write-in = Lts.Need-slice-aggregate-write-in (Reads.Asked, Reads.Learnt, Reads''.Asked, Reads''.Learnt) Reads'.Pre Reads'.Post
+Need-slice-aggregate-write-in = Lts.Need-slice-aggregate-write-in claims Reads'.Pre Reads'.Post
 
 abbrev pub Need-write-in-requires : Type 0
-Need-write-in-requires = Lts.Need-write-in-requires (Reads.Asked, Reads.Learnt, Reads''.Asked, Reads''.Learnt) Reads'.Pre Reads'.Post
+Need-write-in-requires = Lts.Need-write-in-requires claims Reads'.Pre Reads'.Post
 
 abbrev pub Need-same-length : Type 0
-Need-same-length = Lts.Need-same-length (Reads.Asked, Reads.Learnt, Reads''.Asked, Reads''.Learnt) Reads'.Pre Reads'.Post
+Need-same-length = Lts.Need-same-length claims Reads'.Pre Reads'.Post
 
 abbrev pub Need-same-length-2 : Type 0
-Need-same-length-2 = Lts.Need-same-length-2 (Reads.Asked, Reads.Learnt, Reads''.Asked, Reads''.Learnt) Reads'.Pre Reads'.Post
+Need-same-length-2 = Lts.Need-same-length-2 claims Reads'.Pre Reads'.Post
 
 abbrev pub Need-returns : Type 0
-Need-returns = Lts.Need-returns (Reads.Asked, Reads.Learnt, Reads''.Asked, Reads''.Learnt) Reads'.Pre Reads'.Post
+Need-returns = Lts.Need-returns claims Reads'.Pre Reads'.Post
 
 module _ {M : Type 1} where
   pub spec : (answer : Need-writing-begins-requires) → (answer : Need-sub-write-in) → (answer : Need-part-write-in-start) → (answer : Need-part-write-in-end) → (answer : Need-slice-aggregate-write-in)
-      → (answer : Need-write-in-requires) → (answer : Need-same-length) → (answer : Need-same-length-2) → (answer : Need-returns) → Lts.Closed (Reads.Asked, Reads.Learnt, Reads''.Asked, Reads''.Learnt)
-      Reads'.Pre Reads'.Post M
-  spec = λ answer answer' answer'' answer'3 answer'4 answer'5 answer'6 answer'7 answer'8. Lts.spec (Reads.Asked, Reads.Learnt, Reads''.Asked, Reads''.Learnt) Reads'.Pre Reads'.Post answer answer'
-      answer'' answer'3 answer'4 answer'5 answer'6 answer'7 answer'8
+      → (answer : Need-write-in-requires) → (answer : Need-same-length) → (answer : Need-same-length-2) → (answer : Need-returns) → Lts.Closed claims Reads'.Pre Reads'.Post M
+  spec = λ answer answer' answer'' answer'3 answer'4 answer'5 answer'6 answer'7 answer'8. Lts.spec claims Reads'.Pre Reads'.Post answer answer' answer'' answer'3 answer'4 answer'5 answer'6 answer'7
+      answer'8
 
-  pub close : Lts.Closed (Reads.Asked, Reads.Learnt, Reads''.Asked, Reads''.Learnt) Reads'.Pre Reads'.Post M → Statement.statement M
+  pub close : Lts.Closed claims Reads'.Pre Reads'.Post M → Statement.statement M
   unfolding Code.routine Running.tablesOf
   close = λ closed 𝓤 H 𝓜 𝓖 𝓡. Written.close 4 Kinds.ps Kinds.r Reads'.Ghost Reads'.requires Reads'.ensures Reads'.pre-read Reads'.Pinned Reads'.Owned Reads'.post-read record
       { M = M; 𝓤 = 𝓤; H = H; 𝓜 = 𝓜; 𝓖 = 𝓖; 𝓡 = 𝓡 } Code.env Key.name Code.function (Code.unfolded 𝓤 H 𝓜 𝓡) (λ κs a g. tt) (λ κs. Reads'.owns κs record { M = M; 𝓤 = 𝓤; H = H; 𝓜 = 𝓜; 𝓖 = 𝓖; 𝓡 = 𝓡 })

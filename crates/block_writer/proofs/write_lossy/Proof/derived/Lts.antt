@@ -1,4 +1,9 @@
 -- Written by tools/lend.py from Rattle's derivation of the twin of `block_writer`; not edited by hand. Assumes nothing.
+use borrow.Fn.Args.{ArgsT}
+use Rattle.bits.proofs.Values
+use Rattle.bits.proofs.Values.{on}
+use Rattle.bits.proofs.Values.{n16, n8, u16, u32, u64, u8}
+use mathlib.Core.List.{_∷_, []}
 use Rattle.block.proofs.Element
 use Prim.Native.Nat
 use Rattle.stream.proofs.BlockLength
@@ -17,7 +22,6 @@ use borrow.Kind.Bool
 use borrow.Kind.MutSlice
 use borrow.Kind.Num
 use borrow.Kind.ShrSlice
-use borrow.Kind.Value
 use borrow.Rule.Lifetime
 use borrow.Rule.Local
 use borrow.Rule.Scalar
@@ -25,8 +29,6 @@ use borrow.Rule.Slice.Know
 use borrow.Rule.Slice.Mut
 use borrow.Rule.Slice.Relend
 use borrow.Rule.Slice.Shared
-use borrow.Rule.Yields
-use borrow.Table.Copies
 use borrow.Table.Reads
 use borrow.Table.Referent
 use borrow.Table.Row
@@ -35,8 +37,6 @@ use borrow.Table.Typed
 use contract.Lifetimes
 use denote.Array
 use denote.Enum.Declared
-use denote.Enum.Laws as Laws''
-use denote.Exit
 use denote.Triple.Clauses
 use denote.Triple.Statement
 use ghost.Atoms
@@ -51,211 +51,142 @@ use prog.Wp
 use types.Kit
 
 abbrev pub y0 : Syntax.Ty
-y0 = Syntax.tyStruct (List._∷_ 115 (List._∷_ 116 (List._∷_ 114 (List._∷_ 101 (List._∷_ 97 (List._∷_ 109 (List._∷_ 58 (List._∷_ 58 (List._∷_ 70 (List._∷_ 117 (List._∷_ 106 (List._∷_ 105 (List._∷_ 72
-    (List._∷_ 101 (List._∷_ 97 (List._∷_ 100 (List._∷_ 101 (List._∷_ 114 List.[])))))))))))))))))) (Syntax.tcons Syntax.tyBool (Syntax.tcons Syntax.tyBool (Syntax.tcons (Syntax.tyInt Syntax.w32)
-    (Syntax.tcons (Syntax.tyInt Syntax.w32) (Syntax.tcons (Syntax.tyInt Syntax.w32) (Syntax.tcons (Syntax.tyInt Syntax.w32) (Syntax.tcons (Syntax.tyInt Syntax.w32) (Syntax.tcons (Syntax.tyInt Syntax.w32)
-    (Syntax.tcons (Syntax.tyInt Syntax.w32) Syntax.tnil)))))))))
+y0 = Syntax.tyEnum (115 ∷ 116 ∷ 114 ∷ 101 ∷ 97 ∷ 109 ∷ 58 ∷ 58 ∷ 82 ∷ 101 ∷ 102 ∷ 117 ∷ 115 ∷ 97 ∷ 108 ∷ []) (Syntax.ttcons Syntax.tnil (Syntax.ttcons Syntax.tnil (Syntax.ttcons Syntax.tnil
+    (Syntax.ttcons (Syntax.tcons u64 Syntax.tnil) (Syntax.ttcons Syntax.tnil (Syntax.ttcons Syntax.tnil (Syntax.ttcons Syntax.tnil (Syntax.ttcons Syntax.tnil (Syntax.ttcons Syntax.tnil (Syntax.ttcons
+    Syntax.tnil (Syntax.ttcons (Syntax.tcons u64 Syntax.tnil) (Syntax.ttcons (Syntax.tcons u64 Syntax.tnil) (Syntax.ttcons Syntax.tnil (Syntax.ttcons (Syntax.tcons u64 (Syntax.tcons u64 Syntax.tnil))
+    (Syntax.ttcons (Syntax.tcons u64 Syntax.tnil) (Syntax.ttcons Syntax.tnil (Syntax.ttcons Syntax.tnil (Syntax.ttcons (Syntax.tcons u64 Syntax.tnil) (Syntax.ttcons (Syntax.tcons u64 Syntax.tnil)
+    (Syntax.ttcons (Syntax.tcons u64 Syntax.tnil) (Syntax.ttcons Syntax.tnil (Syntax.ttcons Syntax.tnil (Syntax.ttcons (Syntax.tcons u64 (Syntax.tcons u64 Syntax.tnil)) (Syntax.ttcons Syntax.tnil
+    Syntax.ttnil))))))))))))))))))))))))
 
 abbrev pub y1 : Syntax.Ty
-y1 = Syntax.tyStruct (List._∷_ 38 (List._∷_ 91 (List._∷_ 93 List.[]))) (Syntax.tcons (Syntax.tyRef Syntax.erased Syntax.mut (Syntax.tyInt Syntax.w16)) (Syntax.tcons (Syntax.tyInt Syntax.w64)
-    Syntax.tnil))
+y1 = Syntax.tyRef (Syntax.named 0) Syntax.imm u8
 
 abbrev pub y2 : Syntax.Ty
-y2 = Syntax.tyStruct (List._∷_ 38 (List._∷_ 91 (List._∷_ 93 List.[]))) (Syntax.tcons (Syntax.tyRef Syntax.erased Syntax.mut (Syntax.tyInt Syntax.w8)) (Syntax.tcons (Syntax.tyInt Syntax.w64)
-    Syntax.tnil))
+y2 = Syntax.tyRef (Syntax.named 1) Syntax.imm u8
 
 abbrev pub y3 : Syntax.Ty
-y3 = Syntax.tyStruct (List._∷_ 38 (List._∷_ 91 (List._∷_ 93 List.[]))) (Syntax.tcons (Syntax.tyRef Syntax.erased Syntax.mut Element.behind) (Syntax.tcons (Syntax.tyInt Syntax.w64) Syntax.tnil))
+y3 = Syntax.tyRef (Syntax.named 2) Syntax.imm u16
+
+abbrev pub y4 : Syntax.Ty
+y4 = Syntax.tyRef (Syntax.named 3) Syntax.mut u8
+
+abbrev pub y5 : Syntax.Ty
+y5 = Syntax.tyRef (Syntax.named 4) Syntax.mut u16
+
+abbrev pub y6 : Syntax.Ty
+y6 = Syntax.tyRef (Syntax.named 5) Syntax.mut Element.behind
+
+abbrev pub y7 : Syntax.Ty
+y7 = Syntax.tyRef Syntax.erased Syntax.mut Element.behind
+
+abbrev pub y8 : Syntax.Ty
+y8 = Syntax.tyRef Syntax.erased Syntax.mut u16
+
+abbrev pub y9 : Syntax.Ty
+y9 = Syntax.tyRef Syntax.erased Syntax.mut u8
+
+abbrev pub y10 : Syntax.Ty
+y10 = Syntax.tyStruct (115 ∷ 116 ∷ 114 ∷ 101 ∷ 97 ∷ 109 ∷ 58 ∷ 58 ∷ 70 ∷ 117 ∷ 106 ∷ 105 ∷ 72 ∷ 101 ∷ 97 ∷ 100 ∷ 101 ∷ 114 ∷ []) (Syntax.tcons Syntax.tyBool (Syntax.tcons Syntax.tyBool (Syntax.tcons
+    u32 (Syntax.tcons u32 (Syntax.tcons u32 (Syntax.tcons u32 (Syntax.tcons u32 (Syntax.tcons u32 (Syntax.tcons u32 Syntax.tnil)))))))))
+
+abbrev pub y11 : Syntax.Ty
+y11 = Syntax.tyEnum (115 ∷ 116 ∷ 114 ∷ 101 ∷ 97 ∷ 109 ∷ 58 ∷ 58 ∷ 66 ∷ 108 ∷ 111 ∷ 99 ∷ 107 ∷ 76 ∷ 101 ∷ 110 ∷ 103 ∷ 116 ∷ 104 ∷ []) (Syntax.ttcons (Syntax.tcons u64 Syntax.tnil) (Syntax.ttcons
+    (Syntax.tcons y0 Syntax.tnil) Syntax.ttnil))
+
+abbrev pub y12 : Syntax.Ty
+y12 = Syntax.tyEnum (115 ∷ 116 ∷ 114 ∷ 101 ∷ 97 ∷ 109 ∷ 58 ∷ 58 ∷ 80 ∷ 97 ∷ 114 ∷ 115 ∷ 101 ∷ 100 ∷ []) (Syntax.ttcons (Syntax.tcons y10 Syntax.tnil) (Syntax.ttcons (Syntax.tcons y0 Syntax.tnil)
+    Syntax.ttnil))
+
+abbrev pub y13 : Syntax.Ty
+y13 = Syntax.tyStruct (38 ∷ 91 ∷ 93 ∷ []) (Syntax.tcons y8 (Syntax.tcons u64 Syntax.tnil))
+
+abbrev pub y14 : Syntax.Ty
+y14 = Syntax.tyStruct (38 ∷ 91 ∷ 93 ∷ []) (Syntax.tcons y9 (Syntax.tcons u64 Syntax.tnil))
 
 abbrev pub ps : List.List (Kinds.PK 6)
-ps = List._∷_ (ShrSlice.pShrS (Referent.rtF (Referent.fInt Syntax.w8)) 0 tt) (List._∷_ (ShrSlice.pShrS (Referent.rtF (Referent.fInt Syntax.w8)) 1 tt) (List._∷_ (ShrSlice.pShrS (Referent.rtF
-    (Referent.fInt Syntax.w16)) 2 tt) (List._∷_ (MutSlice.pMutS (Referent.rtF (Referent.fInt Syntax.w8)) 3 tt) (List._∷_ (MutSlice.pMutS (Referent.rtF (Referent.fInt Syntax.w16)) 4 tt) (List._∷_
-    (MutSlice.pMutS (Element.type) 5 tt) List.[])))))
+ps = (ShrSlice.pShrS n8 0 tt) ∷ (ShrSlice.pShrS n8 1 tt) ∷ (ShrSlice.pShrS n16 2 tt) ∷ (MutSlice.pMutS n8 3 tt) ∷ (MutSlice.pMutS n16 4 tt) ∷ (MutSlice.pMutS (Element.type) 5 tt) ∷ []
 
 abbrev pub r : Kinds.RK 6
-r = Value.rVal record {
-  ty = Declared.row BlockLength.the-type;
-  one = Path'.refl;
-  val = Laws''.val BlockLength.the-type Laws.the-laws;
-  tells = Laws''.tells BlockLength.the-type Laws.the-laws;
-  still = Laws''.still
-      BlockLength.the-type Laws.the-copy Exit.yes;
-  row = Rows.whole (Declared.row BlockLength.the-type);
-  rd = λ x. x;
-  mk = λ x. x;
-} λ M 𝓤 H A W. record {
-  copies = Laws''.copy BlockLength.the-type Laws.the-copy 𝓤 H A W;
-  lawful = Laws''.lawful BlockLength.the-type Laws.the-laws 𝓤 H A W tt;
-  makes = Laws''.makes BlockLength.the-type Laws.the-plain 𝓤 H A;
-  in-mem = Local.mem-whole 𝓤 H A W (Declared.row BlockLength.the-type);
-  of-mem = Local.whole-mem 𝓤 H A W (Declared.row BlockLength.the-type);
-}
+r = Values.enum-result BlockLength.the-type Laws.the-laws Laws.the-copy Laws.the-plain tt
 
 abbrev pub xs : List.List Syntax.Ty
-xs = List._∷_ (Syntax.tyEnum (List._∷_ 115 (List._∷_ 116 (List._∷_ 114 (List._∷_ 101 (List._∷_ 97 (List._∷_ 109 (List._∷_ 58 (List._∷_ 58 (List._∷_ 80 (List._∷_ 97 (List._∷_ 114 (List._∷_ 115
-    (List._∷_ 101 (List._∷_ 100 List.[])))))))))))))) (Syntax.ttcons (Syntax.tcons y0 Syntax.tnil) (Syntax.ttcons (Syntax.tcons (Syntax.tyEnum (List._∷_ 115 (List._∷_ 116 (List._∷_ 114 (List._∷_ 101
-    (List._∷_ 97 (List._∷_ 109 (List._∷_ 58 (List._∷_ 58 (List._∷_ 82 (List._∷_ 101 (List._∷_ 102 (List._∷_ 117 (List._∷_ 115 (List._∷_ 97 (List._∷_ 108 List.[]))))))))))))))) (Syntax.ttcons Syntax.tnil
-    (Syntax.ttcons Syntax.tnil (Syntax.ttcons Syntax.tnil (Syntax.ttcons (Syntax.tcons (Syntax.tyInt Syntax.w64) Syntax.tnil) (Syntax.ttcons Syntax.tnil (Syntax.ttcons Syntax.tnil (Syntax.ttcons
-    Syntax.tnil (Syntax.ttcons Syntax.tnil (Syntax.ttcons Syntax.tnil (Syntax.ttcons Syntax.tnil (Syntax.ttcons (Syntax.tcons (Syntax.tyInt Syntax.w64) Syntax.tnil) (Syntax.ttcons (Syntax.tcons
-    (Syntax.tyInt Syntax.w64) Syntax.tnil) (Syntax.ttcons Syntax.tnil (Syntax.ttcons (Syntax.tcons (Syntax.tyInt Syntax.w64) (Syntax.tcons (Syntax.tyInt Syntax.w64) Syntax.tnil)) (Syntax.ttcons
-    (Syntax.tcons (Syntax.tyInt Syntax.w64) Syntax.tnil) (Syntax.ttcons Syntax.tnil (Syntax.ttcons Syntax.tnil (Syntax.ttcons (Syntax.tcons (Syntax.tyInt Syntax.w64) Syntax.tnil) (Syntax.ttcons
-    (Syntax.tcons (Syntax.tyInt Syntax.w64) Syntax.tnil) (Syntax.ttcons (Syntax.tcons (Syntax.tyInt Syntax.w64) Syntax.tnil) (Syntax.ttcons Syntax.tnil (Syntax.ttcons Syntax.tnil (Syntax.ttcons
-    (Syntax.tcons (Syntax.tyInt Syntax.w64) (Syntax.tcons (Syntax.tyInt Syntax.w64) Syntax.tnil)) (Syntax.ttcons Syntax.tnil Syntax.ttnil))))))))))))))))))))))))) Syntax.tnil) Syntax.ttnil))) (List._∷_
-    (Syntax.tyInt Syntax.w64) (List._∷_ (Syntax.tyInt Syntax.w64) (List._∷_ (Syntax.tyInt Syntax.w64) (List._∷_ (Syntax.tyInt Syntax.w64) (List._∷_ (Syntax.tyRef Syntax.erased Syntax.mut (Syntax.tyInt
-    Syntax.w8)) (List._∷_ y2 (List._∷_ (Syntax.tyRef Syntax.erased Syntax.mut (Syntax.tyInt Syntax.w16)) (List._∷_ y1 (List._∷_ (Syntax.tyRef Syntax.erased Syntax.mut Element.behind) (List._∷_ y3
-    List.[]))))))))))
+xs = y12 ∷ u64 ∷ u64 ∷ u64 ∷ u64 ∷ y9 ∷ y14 ∷ y8 ∷ y13 ∷ y7 ∷ (Syntax.tyStruct (38 ∷ 91 ∷ 93 ∷ []) (Syntax.tcons y7 (Syntax.tcons u64 Syntax.tnil))) ∷ []
 
 abbrev pub m : Nat.ℕ
 m = 3
 
 abbrev pub ps·0 : List.List (Kinds.PK 1)
-ps·0 = List._∷_ (ShrSlice.pShrS (Referent.rtF (Referent.fInt Syntax.w8)) 0 tt) (List._∷_ (Num.pNum Syntax.w64) (List._∷_ (Num.pNum Syntax.w64) (List._∷_ (Num.pNum Syntax.w64) (List._∷_ (Num.pNum
-    Syntax.w64) List.[]))))
+ps·0 = (ShrSlice.pShrS n8 0 tt) ∷ (Num.pNum Syntax.w64) ∷ (Num.pNum Syntax.w64) ∷ (Num.pNum Syntax.w64) ∷ (Num.pNum Syntax.w64) ∷ []
 
 abbrev pub r·0 : Kinds.RK 1
-r·0 = Value.rVal record {
-  ty = Declared.row Parsed.the-type;
-  one = Path'.refl;
-  val = Laws''.val Parsed.the-type Laws'.the-laws;
-  tells = Laws''.tells Parsed.the-type Laws'.the-laws;
-  still = Laws''.still Parsed.the-type
-      Laws'.the-copy Exit.yes;
-  row = Rows.whole (Declared.row Parsed.the-type);
-  rd = λ x. x;
-  mk = λ x. x;
-} λ M 𝓤 H A W. record {
-  copies = Laws''.copy Parsed.the-type Laws'.the-copy 𝓤 H A W;
-  lawful = Laws''.lawful Parsed.the-type Laws'.the-laws 𝓤 H A W tt;
-  makes = Laws''.makes Parsed.the-type Laws'.the-plain 𝓤 H A;
-  in-mem =
-      Local.mem-whole 𝓤 H A W (Declared.row Parsed.the-type);
-  of-mem = Local.whole-mem 𝓤 H A W (Declared.row Parsed.the-type);
-}
+r·0 = Values.enum-result Parsed.the-type Laws'.the-laws Laws'.the-copy Laws'.the-plain tt
 
 abbrev pub ps·1 : List.List (Kinds.PK 5)
-ps·1 = List._∷_ (Value.pVal record {
-  ty = Declared.row Parsed.the-type;
-  one = Path'.refl;
-  val = Laws''.val Parsed.the-type Laws'.the-laws;
-  tells = Laws''.tells Parsed.the-type Laws'.the-laws;
-  still = Laws''.still Parsed.the-type
-      Laws'.the-copy Exit.yes;
-  row = Rows.whole (Declared.row Parsed.the-type);
-  rd = λ x. x;
-  mk = λ x. x;
-} λ M 𝓤 H A W. record {
-  copies = Laws''.copy Parsed.the-type Laws'.the-copy 𝓤 H A W;
-  lawful = Laws''.lawful Parsed.the-type Laws'.the-laws 𝓤 H A W tt;
-  makes = Laws''.makes Parsed.the-type Laws'.the-plain 𝓤 H A;
-  in-mem =
-      Local.mem-whole 𝓤 H A W (Declared.row Parsed.the-type);
-  of-mem = Local.whole-mem 𝓤 H A W (Declared.row Parsed.the-type);
-}) (List._∷_ (ShrSlice.pShrS (Referent.rtF (Referent.fInt Syntax.w8)) 0 tt)
-    (List._∷_ (ShrSlice.pShrS (Referent.rtF (Referent.fInt Syntax.w16)) 1 tt) (List._∷_ (MutSlice.pMutS (Referent.rtF (Referent.fInt Syntax.w8)) 2 tt) (List._∷_ Bool.pBool (List._∷_ (MutSlice.pMutS
-    (Referent.rtF (Referent.fInt Syntax.w16)) 3 tt) (List._∷_ (MutSlice.pMutS (Element.type) 4 tt) List.[]))))))
+ps·1 = (Values.enum Parsed.the-type Laws'.the-laws Laws'.the-copy Laws'.the-plain tt) ∷ (ShrSlice.pShrS n8 0 tt) ∷ (ShrSlice.pShrS n16 1 tt) ∷ (MutSlice.pMutS n8 2 tt) ∷ Bool.pBool ∷ (MutSlice.pMutS
+    n16 3 tt) ∷ (MutSlice.pMutS (Element.type) 4 tt) ∷ []
 
 abbrev pub r·1 : Kinds.RK 5
-r·1 = Value.rVal record {
-  ty = Declared.row BlockLength.the-type;
-  one = Path'.refl;
-  val = Laws''.val BlockLength.the-type Laws.the-laws;
-  tells = Laws''.tells BlockLength.the-type Laws.the-laws;
-  still = Laws''.still
-      BlockLength.the-type Laws.the-copy Exit.yes;
-  row = Rows.whole (Declared.row BlockLength.the-type);
-  rd = λ x. x;
-  mk = λ x. x;
-} λ M 𝓤 H A W. record {
-  copies = Laws''.copy BlockLength.the-type Laws.the-copy 𝓤 H A W;
-  lawful = Laws''.lawful BlockLength.the-type Laws.the-laws 𝓤 H A W tt;
-  makes = Laws''.makes BlockLength.the-type Laws.the-plain 𝓤 H A;
-  in-mem = Local.mem-whole 𝓤 H A W (Declared.row BlockLength.the-type);
-  of-mem = Local.whole-mem 𝓤 H A W (Declared.row BlockLength.the-type);
-}
+r·1 = Values.enum-result BlockLength.the-type Laws.the-laws Laws.the-copy Laws.the-plain tt
 
 abbrev pub hs : List.List Syntax.Home
-hs = List._∷_ Syntax.valueLocal (List._∷_ Syntax.valueLocal (List._∷_ Syntax.valueLocal (List._∷_ Syntax.valueLocal (List._∷_ Syntax.valueLocal (List._∷_ Syntax.valueLocal (List._∷_ Syntax.valueLocal
-    (List._∷_ Syntax.valueLocal (List._∷_ Syntax.valueLocal (List._∷_ Syntax.valueLocal (List._∷_ Syntax.valueLocal (List._∷_ Syntax.valueLocal (List._∷_ Syntax.valueLocal (List._∷_ Syntax.valueLocal
-    (List._∷_ Syntax.valueLocal (List._∷_ Syntax.valueLocal (List._∷_ Syntax.valueLocal (List._∷_ Syntax.valueLocal List.[])))))))))))))))))
+hs = Syntax.valueLocal ∷ Syntax.valueLocal ∷ Syntax.valueLocal ∷ Syntax.valueLocal ∷ Syntax.valueLocal ∷ Syntax.valueLocal ∷ Syntax.valueLocal ∷ Syntax.valueLocal ∷ Syntax.valueLocal ∷
+    Syntax.valueLocal ∷ Syntax.valueLocal ∷ Syntax.valueLocal ∷ Syntax.valueLocal ∷ Syntax.valueLocal ∷ Syntax.valueLocal ∷ Syntax.valueLocal ∷ Syntax.valueLocal ∷ Syntax.valueLocal ∷ []
 
 abbrev b0 : Syntax.Body
-b0 = Syntax.assign (Syntax.place 8 List.[]) (Syntax.rvOpd (Syntax.copy (Syntax.place 2 (List._∷_ (Syntax.field 1) List.[]))))
+b0 = Syntax.assign (Syntax.place 8 []) (Syntax.rvOpd (Syntax.copy (Syntax.place 2 ((Syntax.field 1) ∷ []))))
 
 abbrev b1 : Syntax.Body
-b1 = Syntax.assign (Syntax.place 9 List.[]) (Syntax.rvOpd (Syntax.copy (Syntax.place 3 (List._∷_ (Syntax.field 1) List.[]))))
+b1 = Syntax.assign (Syntax.place 9 []) (Syntax.rvOpd (Syntax.copy (Syntax.place 3 ((Syntax.field 1) ∷ []))))
 
 abbrev b2 : Syntax.Body
-b2 = Syntax.assign (Syntax.place 10 List.[]) (Syntax.rvOpd (Syntax.copy (Syntax.place 5 (List._∷_ (Syntax.field 1) List.[]))))
+b2 = Syntax.assign (Syntax.place 10 []) (Syntax.rvOpd (Syntax.copy (Syntax.place 5 ((Syntax.field 1) ∷ []))))
 
 abbrev b3 : Syntax.Body
-b3 = Syntax.assign (Syntax.place 11 List.[]) (Syntax.rvOpd (Syntax.copy (Syntax.place 6 (List._∷_ (Syntax.field 1) List.[]))))
+b3 = Syntax.assign (Syntax.place 11 []) (Syntax.rvOpd (Syntax.copy (Syntax.place 6 ((Syntax.field 1) ∷ []))))
 
 abbrev b4 : Syntax.Body
-b4 = Syntax.call "begin::lossy_begins" (List._∷_ (Syntax.copy (Syntax.place 1 List.[])) (List._∷_ (Syntax.copy (Syntax.place 8 List.[])) (List._∷_ (Syntax.copy (Syntax.place 9 List.[])) (List._∷_
-    (Syntax.copy (Syntax.place 10 List.[])) (List._∷_ (Syntax.copy (Syntax.place 11 List.[])) List.[]))))) (Syntax.place 7 List.[])
+b4 = Syntax.call "begin::lossy_begins" ((Syntax.copy (Syntax.place 1 [])) ∷ (Syntax.copy (Syntax.place 8 [])) ∷ (Syntax.copy (Syntax.place 9 [])) ∷ (Syntax.copy (Syntax.place 10 [])) ∷ (Syntax.copy
+    (Syntax.place 11 [])) ∷ []) (Syntax.place 7 [])
 
 abbrev b5 : Syntax.Body
-b5 = Syntax.assign (Syntax.place 12 List.[]) (Syntax.addrOf (Syntax.place 4 (List._∷_ (Syntax.field 0) (List._∷_ (Syntax.deref (Syntax.tyInt Syntax.w8)) List.[]))))
+b5 = Syntax.assign (Syntax.place 12 []) (Syntax.addrOf (Syntax.place 4 ((Syntax.field 0) ∷ (Syntax.deref u8) ∷ [])))
 
 abbrev b6 : Syntax.Body
-b6 = Syntax.assign (Syntax.place 13 List.[]) (Syntax.aggregate (List._∷_ (Syntax.copy (Syntax.place 12 List.[])) (List._∷_ (Syntax.copy (Syntax.place 4 (List._∷_ (Syntax.field 1) List.[]))) List.[])))
+b6 = Syntax.assign (Syntax.place 13 []) (Syntax.aggregate ((Syntax.copy (Syntax.place 12 [])) ∷ (Syntax.copy (Syntax.place 4 ((Syntax.field 1) ∷ []))) ∷ []))
 
 abbrev b7 : Syntax.Body
-b7 = Syntax.assign (Syntax.place 14 List.[]) (Syntax.addrOf (Syntax.place 5 (List._∷_ (Syntax.field 0) (List._∷_ (Syntax.deref (Syntax.tyInt Syntax.w16)) List.[]))))
+b7 = Syntax.assign (Syntax.place 14 []) (Syntax.addrOf (Syntax.place 5 ((Syntax.field 0) ∷ (Syntax.deref u16) ∷ [])))
 
 abbrev b8 : Syntax.Body
-b8 = Syntax.assign (Syntax.place 15 List.[]) (Syntax.aggregate (List._∷_ (Syntax.copy (Syntax.place 14 List.[])) (List._∷_ (Syntax.copy (Syntax.place 5 (List._∷_ (Syntax.field 1) List.[]))) List.[])))
+b8 = Syntax.assign (Syntax.place 15 []) (Syntax.aggregate ((Syntax.copy (Syntax.place 14 [])) ∷ (Syntax.copy (Syntax.place 5 ((Syntax.field 1) ∷ []))) ∷ []))
 
 abbrev b9 : Syntax.Body
-b9 = Syntax.assign (Syntax.place 16 List.[]) (Syntax.addrOf (Syntax.place 6 (List._∷_ (Syntax.field 0) (List._∷_ (Syntax.deref (Element.held)) List.[]))))
+b9 = Syntax.assign (Syntax.place 16 []) (Syntax.addrOf (Syntax.place 6 ((Syntax.field 0) ∷ (Syntax.deref (Element.held)) ∷ [])))
 
 abbrev b10 : Syntax.Body
-b10 = Syntax.assign (Syntax.place 17 List.[]) (Syntax.aggregate (List._∷_ (Syntax.copy (Syntax.place 16 List.[])) (List._∷_ (Syntax.copy (Syntax.place 6 (List._∷_ (Syntax.field 1) List.[])))
-    List.[])))
+b10 = Syntax.assign (Syntax.place 17 []) (Syntax.aggregate ((Syntax.copy (Syntax.place 16 [])) ∷ (Syntax.copy (Syntax.place 6 ((Syntax.field 1) ∷ []))) ∷ []))
 
 abbrev b11 : Syntax.Body
-b11 = Syntax.call "block_writer::write_in" (List._∷_ (Syntax.copy (Syntax.place 7 List.[])) (List._∷_ (Syntax.copy (Syntax.place 2 List.[])) (List._∷_ (Syntax.copy (Syntax.place 3 List.[])) (List._∷_
-    (Syntax.copy (Syntax.place 13 List.[])) (List._∷_ Syntax.opdFalse (List._∷_ (Syntax.copy (Syntax.place 15 List.[])) (List._∷_ (Syntax.copy (Syntax.place 17 List.[])) List.[]))))))) (Syntax.place 0
-    List.[])
+b11 = Syntax.call "block_writer::write_in" ((Syntax.copy (Syntax.place 7 [])) ∷ (Syntax.copy (Syntax.place 2 [])) ∷ (Syntax.copy (Syntax.place 3 [])) ∷ (Syntax.copy (Syntax.place 13 [])) ∷
+    Syntax.opdFalse ∷ (Syntax.copy (Syntax.place 15 [])) ∷ (Syntax.copy (Syntax.place 17 [])) ∷ []) (Syntax.place 0 [])
 
 abbrev b12 : Syntax.Body
 b12 = Syntax.return
 
-abbrev b13 : Syntax.Body
-b13 = Syntax.seq b11 b12
-
-abbrev b14 : Syntax.Body
-b14 = Syntax.seq b10 b13
-
 abbrev b15 : Syntax.Body
-b15 = Syntax.seq b9 b14
-
-abbrev b16 : Syntax.Body
-b16 = Syntax.seq b8 b15
-
-abbrev b17 : Syntax.Body
-b17 = Syntax.seq b7 b16
+b15 = Syntax.seq b9 (Syntax.seq b10 (Syntax.seq b11 b12))
 
 abbrev b18 : Syntax.Body
-b18 = Syntax.seq b6 b17
+b18 = Syntax.seq b6 (Syntax.seq b7 (Syntax.seq b8 b15))
 
 abbrev b19 : Syntax.Body
 b19 = Syntax.seq b5 b18
 
-abbrev b20 : Syntax.Body
-b20 = Syntax.seq b4 b19
-
-abbrev b21 : Syntax.Body
-b21 = Syntax.seq b3 b20
-
 abbrev b22 : Syntax.Body
-b22 = Syntax.seq b2 b21
-
-abbrev b23 : Syntax.Body
-b23 = Syntax.seq b1 b22
+b22 = Syntax.seq b2 (Syntax.seq b3 (Syntax.seq b4 b19))
 
 abbrev b24 : Syntax.Body
-b24 = Syntax.seq b0 b23
+b24 = Syntax.seq b0 (Syntax.seq b1 b22)
 
 abbrev pub body : Syntax.Body
 body = b24
@@ -263,445 +194,310 @@ body = b24
 abbrev pub Claims : Type 1
 Claims = Kinds.In 1 ps·0 × Kinds.Out 1 ps·0 r·0 × Kinds.In 5 ps·1 × Kinds.Out 5 ps·1 r·1
 
-abbrev pub e0 : Row.Entry
-e0 = (
-  0,
-  Rows.any-gone (Syntax.tyEnum (List._∷_ 115 (List._∷_ 116 (List._∷_ 114 (List._∷_ 101 (List._∷_ 97 (List._∷_ 109 (List._∷_ 58 (List._∷_ 58 (List._∷_ 66 (List._∷_ 108 (List._∷_ 111 (List._∷_ 99
-      (List._∷_ 107 (List._∷_ 76 (List._∷_ 101 (List._∷_ 110 (List._∷_ 103 (List._∷_ 116 (List._∷_ 104 List.[]))))))))))))))))))) (Syntax.ttcons (Syntax.tcons (Syntax.tyInt Syntax.w64) Syntax.tnil)
-      (Syntax.ttcons (Syntax.tcons (Syntax.tyEnum (List._∷_ 115 (List._∷_ 116 (List._∷_ 114 (List._∷_ 101 (List._∷_ 97 (List._∷_ 109 (List._∷_ 58 (List._∷_ 58 (List._∷_ 82 (List._∷_ 101 (List._∷_ 102
-      (List._∷_ 117 (List._∷_ 115 (List._∷_ 97 (List._∷_ 108 List.[]))))))))))))))) (Syntax.ttcons Syntax.tnil (Syntax.ttcons Syntax.tnil (Syntax.ttcons Syntax.tnil (Syntax.ttcons (Syntax.tcons
-      (Syntax.tyInt Syntax.w64) Syntax.tnil) (Syntax.ttcons Syntax.tnil (Syntax.ttcons Syntax.tnil (Syntax.ttcons Syntax.tnil (Syntax.ttcons Syntax.tnil (Syntax.ttcons Syntax.tnil (Syntax.ttcons Syntax.tnil
-      (Syntax.ttcons (Syntax.tcons (Syntax.tyInt Syntax.w64) Syntax.tnil) (Syntax.ttcons (Syntax.tcons (Syntax.tyInt Syntax.w64) Syntax.tnil) (Syntax.ttcons Syntax.tnil (Syntax.ttcons (Syntax.tcons
-      (Syntax.tyInt Syntax.w64) (Syntax.tcons (Syntax.tyInt Syntax.w64) Syntax.tnil)) (Syntax.ttcons (Syntax.tcons (Syntax.tyInt Syntax.w64) Syntax.tnil) (Syntax.ttcons Syntax.tnil (Syntax.ttcons
-      Syntax.tnil (Syntax.ttcons (Syntax.tcons (Syntax.tyInt Syntax.w64) Syntax.tnil) (Syntax.ttcons (Syntax.tcons (Syntax.tyInt Syntax.w64) Syntax.tnil) (Syntax.ttcons (Syntax.tcons (Syntax.tyInt
-      Syntax.w64) Syntax.tnil) (Syntax.ttcons Syntax.tnil (Syntax.ttcons Syntax.tnil (Syntax.ttcons (Syntax.tcons (Syntax.tyInt Syntax.w64) (Syntax.tcons (Syntax.tyInt Syntax.w64) Syntax.tnil))
-      (Syntax.ttcons Syntax.tnil Syntax.ttnil))))))))))))))))))))))))) Syntax.tnil) Syntax.ttnil))),
-)
+abbrev pub v0 : Row.Row
+v0 = Rows.any-gone u64
 
-abbrev pub e1 : Row.Entry
-e1 = (0, Rows.whole (Declared.row BlockLength.the-type))
+abbrev pub v1 : Row.Row
+v1 = Rows.sslice n8 y1 0
 
-abbrev pub e2 : Row.Entry
-e2 = (1, Rows.sslice (Referent.rtF (Referent.fInt Syntax.w8)) (Syntax.tyRef (Syntax.named 0) Syntax.imm (Syntax.tyInt Syntax.w8)) 0)
+abbrev pub v2 : Row.Row
+v2 = Rows.sslice n8 y2 1
 
-abbrev pub e3 : Row.Entry
-e3 = (10, Rows.any-gone (Syntax.tyInt Syntax.w64))
+abbrev pub v3 : Row.Row
+v3 = Rows.sslice n16 y3 2
 
-abbrev pub e4 : Row.Entry
-e4 = (10, Rows.sc-here (Row.sInt Syntax.w64))
+abbrev pub v4 : Row.Row
+v4 = Rows.any-gone y9
 
-abbrev pub e5 : Row.Entry
-e5 = (11, Rows.any-gone (Syntax.tyInt Syntax.w64))
+abbrev pub v5 : Row.Row
+v5 = Rows.any-gone y8
 
-abbrev pub e6 : Row.Entry
-e6 = (11, Rows.sc-here (Row.sInt Syntax.w64))
+abbrev pub v6 : Row.Row
+v6 = Rows.any-gone y11
 
-abbrev pub e7 : Row.Entry
-e7 = (12, Relend.msptr (Referent.rtF (Referent.fInt Syntax.w8)) (Syntax.tyRef Syntax.erased Syntax.mut (Syntax.tyInt Syntax.w8)) 6)
+abbrev pub v7 : Row.Row
+v7 = Rows.sc-here (Row.sInt Syntax.w64)
 
-abbrev pub e8 : Row.Entry
-e8 = (12, Rows.any-gone (Syntax.tyRef Syntax.erased Syntax.mut (Syntax.tyInt Syntax.w8)))
+abbrev pub v8 : Row.Row
+v8 = Mut.mslice (Element.type) y6 5
 
-abbrev pub e9 : Row.Entry
-e9 = (13, Mut.msleft (Referent.rtF (Referent.fInt Syntax.w8)) (Syntax.tyRef Syntax.erased Syntax.mut (Syntax.tyInt Syntax.w8)))
+abbrev pub v9 : Row.Row
+v9 = Rows.any-gone y13
 
-abbrev pub e10 : Row.Entry
-e10 = (13, Mut.mslice (Referent.rtF (Referent.fInt Syntax.w8)) (Syntax.tyRef Syntax.erased Syntax.mut (Syntax.tyInt Syntax.w8)) 6)
+abbrev pub v10 : Row.Row
+v10 = Mut.mslice n16 y5 4
 
-abbrev pub e11 : Row.Entry
-e11 = (13, Rows.any-gone y2)
+abbrev pub v11 : Row.Row
+v11 = Rows.any-gone y14
 
-abbrev pub e12 : Row.Entry
-e12 = (14, Relend.msptr (Referent.rtF (Referent.fInt Syntax.w16)) (Syntax.tyRef Syntax.erased Syntax.mut (Syntax.tyInt Syntax.w16)) 7)
+abbrev pub v12 : Row.Row
+v12 = Rows.whole (Declared.row Parsed.the-type)
 
-abbrev pub e13 : Row.Entry
-e13 = (14, Rows.any-gone (Syntax.tyRef Syntax.erased Syntax.mut (Syntax.tyInt Syntax.w16)))
+abbrev pub v13 : Row.Row
+v13 = Mut.mslice n8 y4 3
 
-abbrev pub e14 : Row.Entry
-e14 = (15, Mut.msleft (Referent.rtF (Referent.fInt Syntax.w16)) (Syntax.tyRef Syntax.erased Syntax.mut (Syntax.tyInt Syntax.w16)))
+abbrev pub v14 : Row.Row
+v14 = Rows.any-gone y12
 
-abbrev pub e15 : Row.Entry
-e15 = (15, Mut.mslice (Referent.rtF (Referent.fInt Syntax.w16)) (Syntax.tyRef Syntax.erased Syntax.mut (Syntax.tyInt Syntax.w16)) 7)
+abbrev pub v15 : Row.Row
+v15 = Rows.whole (Declared.row BlockLength.the-type)
 
-abbrev pub e16 : Row.Entry
-e16 = (15, Rows.any-gone y1)
+abbrev pub v16 : Row.Row
+v16 = Mut.mslice n8 y9 6
 
-abbrev pub e17 : Row.Entry
-e17 = (16, Rows.any-gone (Syntax.tyRef Syntax.erased Syntax.mut Element.behind))
+abbrev pub v17 : Row.Row
+v17 = Relend.mslice-owed n8 y4 3 6 Row.off
 
-abbrev pub e18 : Row.Entry
-e18 = (17, Rows.any-gone y3)
+abbrev pub v18 : Row.Row
+v18 = Relend.mslice-owed n16 y5 4 7 Row.off
 
-abbrev pub e19 : Row.Entry
-e19 = (2, Rows.sslice (Referent.rtF (Referent.fInt Syntax.w8)) (Syntax.tyRef (Syntax.named 1) Syntax.imm (Syntax.tyInt Syntax.w8)) 1)
+abbrev pub v19 : Row.Row
+v19 = Mut.msleft n16 y8
 
-abbrev pub e20 : Row.Entry
-e20 = (3, Rows.sslice (Referent.rtF (Referent.fInt Syntax.w16)) (Syntax.tyRef (Syntax.named 2) Syntax.imm (Syntax.tyInt Syntax.w16)) 2)
+abbrev pub v20 : Row.Row
+v20 = Relend.mslice-owed (Element.type) y6 5 8 Row.off
 
-abbrev pub e21 : Row.Entry
-e21 = (4, Mut.mslice (Referent.rtF (Referent.fInt Syntax.w8)) (Syntax.tyRef (Syntax.named 3) Syntax.mut (Syntax.tyInt Syntax.w8)) 3)
+abbrev pub v21 : Row.Row
+v21 = Mut.mslice n16 y8 7
 
-abbrev pub e22 : Row.Entry
-e22 = (4, Relend.mslice-owed (Referent.rtF (Referent.fInt Syntax.w8)) (Syntax.tyRef (Syntax.named 3) Syntax.mut (Syntax.tyInt Syntax.w8)) 3 6 Row.off)
+abbrev pub v22 : Row.Row
+v22 = Mut.msleft n8 y9
 
-abbrev pub e23 : Row.Entry
-e23 = (5, Mut.mslice (Referent.rtF (Referent.fInt Syntax.w16)) (Syntax.tyRef (Syntax.named 4) Syntax.mut (Syntax.tyInt Syntax.w16)) 4)
-
-abbrev pub e24 : Row.Entry
-e24 = (5, Relend.mslice-owed (Referent.rtF (Referent.fInt Syntax.w16)) (Syntax.tyRef (Syntax.named 4) Syntax.mut (Syntax.tyInt Syntax.w16)) 4 7 Row.off)
-
-abbrev pub e25 : Row.Entry
-e25 = (6, Mut.mslice (Element.type) (Syntax.tyRef (Syntax.named 5) Syntax.mut Element.behind) 5)
-
-abbrev pub e26 : Row.Entry
-e26 = (6, Relend.mslice-owed (Element.type) (Syntax.tyRef (Syntax.named 5) Syntax.mut Element.behind) 5 8 Row.off)
-
-abbrev pub e27 : Row.Entry
-e27 = (
-  7,
-  Rows.any-gone (Syntax.tyEnum (List._∷_ 115 (List._∷_ 116 (List._∷_ 114 (List._∷_ 101 (List._∷_ 97 (List._∷_ 109 (List._∷_ 58 (List._∷_ 58 (List._∷_ 80 (List._∷_ 97 (List._∷_ 114 (List._∷_ 115
-      (List._∷_ 101 (List._∷_ 100 List.[])))))))))))))) (Syntax.ttcons (Syntax.tcons y0 Syntax.tnil) (Syntax.ttcons (Syntax.tcons (Syntax.tyEnum (List._∷_ 115 (List._∷_ 116 (List._∷_ 114 (List._∷_ 101
-      (List._∷_ 97 (List._∷_ 109 (List._∷_ 58 (List._∷_ 58 (List._∷_ 82 (List._∷_ 101 (List._∷_ 102 (List._∷_ 117 (List._∷_ 115 (List._∷_ 97 (List._∷_ 108 List.[]))))))))))))))) (Syntax.ttcons Syntax.tnil
-      (Syntax.ttcons Syntax.tnil (Syntax.ttcons Syntax.tnil (Syntax.ttcons (Syntax.tcons (Syntax.tyInt Syntax.w64) Syntax.tnil) (Syntax.ttcons Syntax.tnil (Syntax.ttcons Syntax.tnil (Syntax.ttcons
-      Syntax.tnil (Syntax.ttcons Syntax.tnil (Syntax.ttcons Syntax.tnil (Syntax.ttcons Syntax.tnil (Syntax.ttcons (Syntax.tcons (Syntax.tyInt Syntax.w64) Syntax.tnil) (Syntax.ttcons (Syntax.tcons
-      (Syntax.tyInt Syntax.w64) Syntax.tnil) (Syntax.ttcons Syntax.tnil (Syntax.ttcons (Syntax.tcons (Syntax.tyInt Syntax.w64) (Syntax.tcons (Syntax.tyInt Syntax.w64) Syntax.tnil)) (Syntax.ttcons
-      (Syntax.tcons (Syntax.tyInt Syntax.w64) Syntax.tnil) (Syntax.ttcons Syntax.tnil (Syntax.ttcons Syntax.tnil (Syntax.ttcons (Syntax.tcons (Syntax.tyInt Syntax.w64) Syntax.tnil) (Syntax.ttcons
-      (Syntax.tcons (Syntax.tyInt Syntax.w64) Syntax.tnil) (Syntax.ttcons (Syntax.tcons (Syntax.tyInt Syntax.w64) Syntax.tnil) (Syntax.ttcons Syntax.tnil (Syntax.ttcons Syntax.tnil (Syntax.ttcons
-      (Syntax.tcons (Syntax.tyInt Syntax.w64) (Syntax.tcons (Syntax.tyInt Syntax.w64) Syntax.tnil)) (Syntax.ttcons Syntax.tnil Syntax.ttnil))))))))))))))))))))))))) Syntax.tnil) Syntax.ttnil))),
-)
-
-abbrev pub e28 : Row.Entry
-e28 = (7, Rows.whole (Declared.row Parsed.the-type))
-
-abbrev pub e29 : Row.Entry
-e29 = (8, Rows.any-gone (Syntax.tyInt Syntax.w64))
-
-abbrev pub e30 : Row.Entry
-e30 = (8, Rows.sc-here (Row.sInt Syntax.w64))
-
-abbrev pub e31 : Row.Entry
-e31 = (9, Rows.any-gone (Syntax.tyInt Syntax.w64))
-
-abbrev pub e32 : Row.Entry
-e32 = (9, Rows.sc-here (Row.sInt Syntax.w64))
+abbrev pub v23 : Row.Row
+v23 = Rows.any-gone y7
 
 abbrev pub t0 : List.List Row.Entry
-t0 = List._∷_ e0 (List._∷_ e2 (List._∷_ e19 (List._∷_ e20 (List._∷_ e21 (List._∷_ e23 (List._∷_ e25 (List._∷_ e27 (List._∷_ e29 (List._∷_ e31 (List._∷_ e3 (List._∷_ e5 (List._∷_ e8 (List._∷_ e11
-    (List._∷_ e13 (List._∷_ e16 List.[])))))))))))))))
+t0 = (0, v6) ∷ (1, v1) ∷ (2, v2) ∷ (3, v3) ∷ (4, v13) ∷ (5, v10) ∷ (6, v8) ∷ (7, v14) ∷ (8, v0) ∷ (9, v0) ∷ (10, v0) ∷ (11, v0) ∷ (12, v4) ∷ (13, v11) ∷ (14, v5) ∷ (15, v9) ∷ []
 
 abbrev pub t1 : List.List Row.Entry
-t1 = List._∷_ e17 (List._∷_ e18 List.[])
+t1 = (16, v23) ∷ (17, Rows.any-gone (Syntax.tyStruct (38 ∷ 91 ∷ 93 ∷ []) (Syntax.tcons y7 (Syntax.tcons u64 Syntax.tnil)))) ∷ []
 
 abbrev pub t2 : List.List Row.Entry
-t2 = List._∷_ e1 (List._∷_ e2 (List._∷_ e19 (List._∷_ e20 (List._∷_ e21 (List._∷_ e23 (List._∷_ e25 (List._∷_ e27 (List._∷_ e29 (List._∷_ e31 (List._∷_ e3 (List._∷_ e5 (List._∷_ e8 (List._∷_ e11
-    (List._∷_ e13 (List._∷_ e16 List.[])))))))))))))))
+t2 = (0, v15) ∷ (1, v1) ∷ (2, v2) ∷ (3, v3) ∷ (4, v13) ∷ (5, v10) ∷ (6, v8) ∷ (7, v14) ∷ (8, v0) ∷ (9, v0) ∷ (10, v0) ∷ (11, v0) ∷ (12, v4) ∷ (13, v11) ∷ (14, v5) ∷ (15, v9) ∷ []
 
 abbrev pub t3 : List.List Row.Entry
-t3 = List._∷_ e0 (List._∷_ e2 (List._∷_ e19 (List._∷_ e20 (List._∷_ e21 (List._∷_ e23 (List._∷_ e25 (List._∷_ e27 (List._∷_ e30 (List._∷_ e31 (List._∷_ e3 (List._∷_ e5 (List._∷_ e8 (List._∷_ e11
-    (List._∷_ e13 (List._∷_ e16 List.[])))))))))))))))
+t3 = (0, v6) ∷ (1, v1) ∷ (2, v2) ∷ (3, v3) ∷ (4, v13) ∷ (5, v10) ∷ (6, v8) ∷ (7, v14) ∷ (8, v7) ∷ (9, v0) ∷ (10, v0) ∷ (11, v0) ∷ (12, v4) ∷ (13, v11) ∷ (14, v5) ∷ (15, v9) ∷ []
 
 abbrev pub t4 : List.List Row.Entry
-t4 = List._∷_ e0 (List._∷_ e2 (List._∷_ e19 (List._∷_ e20 (List._∷_ e21 (List._∷_ e23 (List._∷_ e25 (List._∷_ e27 (List._∷_ e30 (List._∷_ e32 (List._∷_ e3 (List._∷_ e5 (List._∷_ e8 (List._∷_ e11
-    (List._∷_ e13 (List._∷_ e16 List.[])))))))))))))))
+t4 = (0, v6) ∷ (1, v1) ∷ (2, v2) ∷ (3, v3) ∷ (4, v13) ∷ (5, v10) ∷ (6, v8) ∷ (7, v14) ∷ (8, v7) ∷ (9, v7) ∷ (10, v0) ∷ (11, v0) ∷ (12, v4) ∷ (13, v11) ∷ (14, v5) ∷ (15, v9) ∷ []
 
 abbrev pub t5 : List.List Row.Entry
-t5 = List._∷_ e0 (List._∷_ e2 (List._∷_ e19 (List._∷_ e20 (List._∷_ e21 (List._∷_ e23 (List._∷_ e25 (List._∷_ e27 (List._∷_ e30 (List._∷_ e32 (List._∷_ e4 (List._∷_ e5 (List._∷_ e8 (List._∷_ e11
-    (List._∷_ e13 (List._∷_ e16 List.[])))))))))))))))
+t5 = (0, v6) ∷ (1, v1) ∷ (2, v2) ∷ (3, v3) ∷ (4, v13) ∷ (5, v10) ∷ (6, v8) ∷ (7, v14) ∷ (8, v7) ∷ (9, v7) ∷ (10, v7) ∷ (11, v0) ∷ (12, v4) ∷ (13, v11) ∷ (14, v5) ∷ (15, v9) ∷ []
 
 abbrev pub t6 : List.List Row.Entry
-t6 = List._∷_ e0 (List._∷_ e2 (List._∷_ e19 (List._∷_ e20 (List._∷_ e21 (List._∷_ e23 (List._∷_ e25 (List._∷_ e27 (List._∷_ e30 (List._∷_ e32 (List._∷_ e4 (List._∷_ e6 (List._∷_ e8 (List._∷_ e11
-    (List._∷_ e13 (List._∷_ e16 List.[])))))))))))))))
+t6 = (0, v6) ∷ (1, v1) ∷ (2, v2) ∷ (3, v3) ∷ (4, v13) ∷ (5, v10) ∷ (6, v8) ∷ (7, v14) ∷ (8, v7) ∷ (9, v7) ∷ (10, v7) ∷ (11, v7) ∷ (12, v4) ∷ (13, v11) ∷ (14, v5) ∷ (15, v9) ∷ []
 
 abbrev pub t7 : List.List Row.Entry
-t7 = List._∷_ e0 (List._∷_ e2 (List._∷_ e19 (List._∷_ e20 (List._∷_ e21 (List._∷_ e23 (List._∷_ e25 (List._∷_ e28 (List._∷_ e30 (List._∷_ e32 (List._∷_ e4 (List._∷_ e6 (List._∷_ e8 (List._∷_ e11
-    (List._∷_ e13 (List._∷_ e16 List.[])))))))))))))))
+t7 = (0, v6) ∷ (1, v1) ∷ (2, v2) ∷ (3, v3) ∷ (4, v13) ∷ (5, v10) ∷ (6, v8) ∷ (7, v12) ∷ (8, v7) ∷ (9, v7) ∷ (10, v7) ∷ (11, v7) ∷ (12, v4) ∷ (13, v11) ∷ (14, v5) ∷ (15, v9) ∷ []
 
 abbrev pub t8 : List.List Row.Entry
-t8 = List._∷_ e0 (List._∷_ e2 (List._∷_ e19 (List._∷_ e20 (List._∷_ e21 (List._∷_ e23 (List._∷_ e25 (List._∷_ e28 (List._∷_ e29 (List._∷_ e32 (List._∷_ e4 (List._∷_ e6 (List._∷_ e8 (List._∷_ e11
-    (List._∷_ e13 (List._∷_ e16 List.[])))))))))))))))
+t8 = (0, v6) ∷ (1, v1) ∷ (2, v2) ∷ (3, v3) ∷ (4, v13) ∷ (5, v10) ∷ (6, v8) ∷ (7, v12) ∷ (8, v0) ∷ (9, v7) ∷ (10, v7) ∷ (11, v7) ∷ (12, v4) ∷ (13, v11) ∷ (14, v5) ∷ (15, v9) ∷ []
 
 abbrev pub t9 : List.List Row.Entry
-t9 = List._∷_ e0 (List._∷_ e2 (List._∷_ e19 (List._∷_ e20 (List._∷_ e21 (List._∷_ e23 (List._∷_ e25 (List._∷_ e28 (List._∷_ e29 (List._∷_ e31 (List._∷_ e4 (List._∷_ e6 (List._∷_ e8 (List._∷_ e11
-    (List._∷_ e13 (List._∷_ e16 List.[])))))))))))))))
+t9 = (0, v6) ∷ (1, v1) ∷ (2, v2) ∷ (3, v3) ∷ (4, v13) ∷ (5, v10) ∷ (6, v8) ∷ (7, v12) ∷ (8, v0) ∷ (9, v0) ∷ (10, v7) ∷ (11, v7) ∷ (12, v4) ∷ (13, v11) ∷ (14, v5) ∷ (15, v9) ∷ []
 
 abbrev pub t10 : List.List Row.Entry
-t10 = List._∷_ e0 (List._∷_ e2 (List._∷_ e19 (List._∷_ e20 (List._∷_ e21 (List._∷_ e23 (List._∷_ e25 (List._∷_ e28 (List._∷_ e29 (List._∷_ e31 (List._∷_ e3 (List._∷_ e6 (List._∷_ e8 (List._∷_ e11
-    (List._∷_ e13 (List._∷_ e16 List.[])))))))))))))))
+t10 = (0, v6) ∷ (1, v1) ∷ (2, v2) ∷ (3, v3) ∷ (4, v13) ∷ (5, v10) ∷ (6, v8) ∷ (7, v12) ∷ (8, v0) ∷ (9, v0) ∷ (10, v0) ∷ (11, v7) ∷ (12, v4) ∷ (13, v11) ∷ (14, v5) ∷ (15, v9) ∷ []
 
 abbrev pub t11 : List.List Row.Entry
-t11 = List._∷_ e0 (List._∷_ e2 (List._∷_ e19 (List._∷_ e20 (List._∷_ e21 (List._∷_ e23 (List._∷_ e25 (List._∷_ e28 (List._∷_ e29 (List._∷_ e31 (List._∷_ e3 (List._∷_ e5 (List._∷_ e8 (List._∷_ e11
-    (List._∷_ e13 (List._∷_ e16 List.[])))))))))))))))
+t11 = (0, v6) ∷ (1, v1) ∷ (2, v2) ∷ (3, v3) ∷ (4, v13) ∷ (5, v10) ∷ (6, v8) ∷ (7, v12) ∷ (8, v0) ∷ (9, v0) ∷ (10, v0) ∷ (11, v0) ∷ (12, v4) ∷ (13, v11) ∷ (14, v5) ∷ (15, v9) ∷ []
 
 abbrev pub t12 : List.List Row.Entry
-t12 = List._∷_ e0 (List._∷_ e2 (List._∷_ e19 (List._∷_ e20 (List._∷_ e22 (List._∷_ e23 (List._∷_ e25 (List._∷_ e28 (List._∷_ e29 (List._∷_ e31 (List._∷_ e3 (List._∷_ e5 (List._∷_ e7 (List._∷_ e11
-    (List._∷_ e13 (List._∷_ e16 List.[])))))))))))))))
+t12 = (0, v6) ∷ (1, v1) ∷ (2, v2) ∷ (3, v3) ∷ (4, v17) ∷ (5, v10) ∷ (6, v8) ∷ (7, v12) ∷ (8, v0) ∷ (9, v0) ∷ (10, v0) ∷ (11, v0) ∷ (12, Relend.msptr n8 y9 6) ∷ (13, v11) ∷ (14, v5) ∷ (15, v9) ∷ []
 
 abbrev pub t13 : List.List Row.Entry
-t13 = List._∷_ e0 (List._∷_ e2 (List._∷_ e19 (List._∷_ e20 (List._∷_ e22 (List._∷_ e23 (List._∷_ e25 (List._∷_ e28 (List._∷_ e29 (List._∷_ e31 (List._∷_ e3 (List._∷_ e5 (List._∷_ e8 (List._∷_ e10
-    (List._∷_ e13 (List._∷_ e16 List.[])))))))))))))))
+t13 = (0, v6) ∷ (1, v1) ∷ (2, v2) ∷ (3, v3) ∷ (4, v17) ∷ (5, v10) ∷ (6, v8) ∷ (7, v12) ∷ (8, v0) ∷ (9, v0) ∷ (10, v0) ∷ (11, v0) ∷ (12, v4) ∷ (13, v16) ∷ (14, v5) ∷ (15, v9) ∷ []
 
 abbrev pub t14 : List.List Row.Entry
-t14 = List._∷_ e0 (List._∷_ e2 (List._∷_ e19 (List._∷_ e20 (List._∷_ e22 (List._∷_ e24 (List._∷_ e25 (List._∷_ e28 (List._∷_ e29 (List._∷_ e31 (List._∷_ e3 (List._∷_ e5 (List._∷_ e8 (List._∷_ e10
-    (List._∷_ e12 (List._∷_ e16 List.[])))))))))))))))
+t14 = (0, v6) ∷ (1, v1) ∷ (2, v2) ∷ (3, v3) ∷ (4, v17) ∷ (5, v18) ∷ (6, v8) ∷ (7, v12) ∷ (8, v0) ∷ (9, v0) ∷ (10, v0) ∷ (11, v0) ∷ (12, v4) ∷ (13, v16) ∷ (14, Relend.msptr n16 y8 7) ∷ (15, v9) ∷ []
 
 abbrev pub t15 : List.List Row.Entry
-t15 = List._∷_ e0 (List._∷_ e2 (List._∷_ e19 (List._∷_ e20 (List._∷_ e22 (List._∷_ e24 (List._∷_ e25 (List._∷_ e28 (List._∷_ e29 (List._∷_ e31 (List._∷_ e3 (List._∷_ e5 (List._∷_ e8 (List._∷_ e10
-    (List._∷_ e13 (List._∷_ e15 List.[])))))))))))))))
+t15 = (0, v6) ∷ (1, v1) ∷ (2, v2) ∷ (3, v3) ∷ (4, v17) ∷ (5, v18) ∷ (6, v8) ∷ (7, v12) ∷ (8, v0) ∷ (9, v0) ∷ (10, v0) ∷ (11, v0) ∷ (12, v4) ∷ (13, v16) ∷ (14, v5) ∷ (15, v21) ∷ []
 
 abbrev pub t16 : List.List Row.Entry
-t16 = List._∷_ e0 (List._∷_ e2 (List._∷_ e19 (List._∷_ e20 (List._∷_ e22 (List._∷_ e24 (List._∷_ e26 (List._∷_ e28 (List._∷_ e29 (List._∷_ e31 (List._∷_ e3 (List._∷_ e5 (List._∷_ e8 (List._∷_ e10
-    (List._∷_ e13 (List._∷_ e15 List.[])))))))))))))))
+t16 = (0, v6) ∷ (1, v1) ∷ (2, v2) ∷ (3, v3) ∷ (4, v17) ∷ (5, v18) ∷ (6, v20) ∷ (7, v12) ∷ (8, v0) ∷ (9, v0) ∷ (10, v0) ∷ (11, v0) ∷ (12, v4) ∷ (13, v16) ∷ (14, v5) ∷ (15, v21) ∷ []
 
 abbrev pub t17 : List.List Row.Entry
-t17 = List._∷_ (16, Relend.msptr (Element.type) (Syntax.tyRef Syntax.erased Syntax.mut Element.behind) 8) (List._∷_ e18 List.[])
+t17 = (16, Relend.msptr (Element.type) y7 8) ∷ (17, Rows.any-gone (Syntax.tyStruct (38 ∷ 91 ∷ 93 ∷ []) (Syntax.tcons y7 (Syntax.tcons u64 Syntax.tnil)))) ∷ []
 
 abbrev pub t18 : List.List Row.Entry
-t18 = List._∷_ e17 (List._∷_ (17, Mut.mslice (Element.type) (Syntax.tyRef Syntax.erased Syntax.mut Element.behind) 8) List.[])
+t18 = (16, v23) ∷ (17, Mut.mslice (Element.type) y7 8) ∷ []
 
 abbrev pub t19 : List.List Row.Entry
-t19 = List._∷_ e1 (List._∷_ e2 (List._∷_ e19 (List._∷_ e20 (List._∷_ e22 (List._∷_ e24 (List._∷_ e26 (List._∷_ e28 (List._∷_ e29 (List._∷_ e31 (List._∷_ e3 (List._∷_ e5 (List._∷_ e8 (List._∷_ e9
-    (List._∷_ e13 (List._∷_ e14 List.[])))))))))))))))
+t19 = (0, v15) ∷ (1, v1) ∷ (2, v2) ∷ (3, v3) ∷ (4, v17) ∷ (5, v18) ∷ (6, v20) ∷ (7, v12) ∷ (8, v0) ∷ (9, v0) ∷ (10, v0) ∷ (11, v0) ∷ (12, v4) ∷ (13, v22) ∷ (14, v5) ∷ (15, v19) ∷ []
 
 abbrev pub t20 : List.List Row.Entry
-t20 = List._∷_ e17 (List._∷_ (17, Mut.msleft (Element.type) (Syntax.tyRef Syntax.erased Syntax.mut Element.behind)) List.[])
+t20 = (16, v23) ∷ (17, Mut.msleft (Element.type) y7) ∷ []
 
 abbrev pub t21 : List.List Row.Entry
-t21 = List._∷_ e1 (List._∷_ e2 (List._∷_ e19 (List._∷_ e20 (List._∷_ e22 (List._∷_ e24 (List._∷_ e26 (List._∷_ e27 (List._∷_ e29 (List._∷_ e31 (List._∷_ e3 (List._∷_ e5 (List._∷_ e8 (List._∷_ e9
-    (List._∷_ e13 (List._∷_ e14 List.[])))))))))))))))
+t21 = (0, v15) ∷ (1, v1) ∷ (2, v2) ∷ (3, v3) ∷ (4, v17) ∷ (5, v18) ∷ (6, v20) ∷ (7, v14) ∷ (8, v0) ∷ (9, v0) ∷ (10, v0) ∷ (11, v0) ∷ (12, v4) ∷ (13, v22) ∷ (14, v5) ∷ (15, v19) ∷ []
 
 abbrev pub t22 : List.List Row.Entry
-t22 = List._∷_ e1 (List._∷_ e2 (List._∷_ e19 (List._∷_ e20 (List._∷_ e21 (List._∷_ e24 (List._∷_ e26 (List._∷_ e27 (List._∷_ e29 (List._∷_ e31 (List._∷_ e3 (List._∷_ e5 (List._∷_ e8 (List._∷_ e11
-    (List._∷_ e13 (List._∷_ e14 List.[])))))))))))))))
+t22 = (0, v15) ∷ (1, v1) ∷ (2, v2) ∷ (3, v3) ∷ (4, v13) ∷ (5, v18) ∷ (6, v20) ∷ (7, v14) ∷ (8, v0) ∷ (9, v0) ∷ (10, v0) ∷ (11, v0) ∷ (12, v4) ∷ (13, v11) ∷ (14, v5) ∷ (15, v19) ∷ []
 
 abbrev pub t23 : List.List Row.Entry
-t23 = List._∷_ e1 (List._∷_ e2 (List._∷_ e19 (List._∷_ e20 (List._∷_ e21 (List._∷_ e23 (List._∷_ e26 (List._∷_ e27 (List._∷_ e29 (List._∷_ e31 (List._∷_ e3 (List._∷_ e5 (List._∷_ e8 (List._∷_ e11
-    (List._∷_ e13 (List._∷_ e16 List.[])))))))))))))))
+t23 = (0, v15) ∷ (1, v1) ∷ (2, v2) ∷ (3, v3) ∷ (4, v13) ∷ (5, v10) ∷ (6, v20) ∷ (7, v14) ∷ (8, v0) ∷ (9, v0) ∷ (10, v0) ∷ (11, v0) ∷ (12, v4) ∷ (13, v11) ∷ (14, v5) ∷ (15, v9) ∷ []
 
 abbrev pub T0 : Row.Cx
-T0 = record { locals = List._++_ t0 t1; slots = List.[] }
+T0 = record { locals = List._++_ t0 t1; slots = [] }
 
 abbrev pub T1 : Row.Cx
-T1 = record { locals = List._++_ t2 t1; slots = List.[] }
-
-abbrev pub T2 : Row.Cx
-T2 = record { locals = List._++_ t0 t1; slots = List.[] }
-
-abbrev pub T3 : Row.Cx
-T3 = record { locals = List._++_ t0 t1; slots = List.[] }
-
-abbrev pub T4 : Row.Cx
-T4 = record { locals = List._++_ t0 t1; slots = List.[] }
-
-abbrev pub T5 : Row.Cx
-T5 = record { locals = List._++_ t0 t1; slots = List.[] }
-
-abbrev pub T6 : Row.Cx
-T6 = record { locals = List._++_ t0 t1; slots = List.[] }
+T1 = record { locals = List._++_ t2 t1; slots = [] }
 
 abbrev pub T7 : Row.Cx
-T7 = record { locals = List._++_ t3 t1; slots = List.[] }
+T7 = record { locals = List._++_ t3 t1; slots = [] }
 
 abbrev pub T8 : Row.Cx
-T8 = record { locals = List._++_ t4 t1; slots = List.[] }
+T8 = record { locals = List._++_ t4 t1; slots = [] }
 
 abbrev pub T9 : Row.Cx
-T9 = record { locals = List._++_ t5 t1; slots = List.[] }
+T9 = record { locals = List._++_ t5 t1; slots = [] }
 
 abbrev pub T10 : Row.Cx
-T10 = record { locals = List._++_ t6 t1; slots = List.[] }
+T10 = record { locals = List._++_ t6 t1; slots = [] }
 
 abbrev pub T11 : Row.Cx
-T11 = record { locals = List._++_ t7 t1; slots = List.[] }
+T11 = record { locals = List._++_ t7 t1; slots = [] }
 
 abbrev pub T12 : Row.Cx
-T12 = record { locals = List._++_ t8 t1; slots = List.[] }
+T12 = record { locals = List._++_ t8 t1; slots = [] }
 
 abbrev pub T13 : Row.Cx
-T13 = record { locals = List._++_ t9 t1; slots = List.[] }
+T13 = record { locals = List._++_ t9 t1; slots = [] }
 
 abbrev pub T14 : Row.Cx
-T14 = record { locals = List._++_ t10 t1; slots = List.[] }
+T14 = record { locals = List._++_ t10 t1; slots = [] }
 
 abbrev pub T15 : Row.Cx
-T15 = record { locals = List._++_ t11 t1; slots = List.[] }
+T15 = record { locals = List._++_ t11 t1; slots = [] }
 
 abbrev pub T17 : Row.Cx
-T17 = record { locals = List._++_ t12 t1; slots = List.[] }
+T17 = record { locals = List._++_ t12 t1; slots = [] }
 
 abbrev pub T18 : Row.Cx
-T18 = record { locals = List._++_ t13 t1; slots = List.[] }
+T18 = record { locals = List._++_ t13 t1; slots = [] }
 
 abbrev pub T20 : Row.Cx
-T20 = record { locals = List._++_ t14 t1; slots = List.[] }
+T20 = record { locals = List._++_ t14 t1; slots = [] }
 
 abbrev pub T21 : Row.Cx
-T21 = record { locals = List._++_ t15 t1; slots = List.[] }
+T21 = record { locals = List._++_ t15 t1; slots = [] }
 
 abbrev pub T23 : Row.Cx
-T23 = record { locals = List._++_ t16 t17; slots = List.[] }
+T23 = record { locals = List._++_ t16 t17; slots = [] }
 
 abbrev pub T24 : Row.Cx
-T24 = record { locals = List._++_ t16 t18; slots = List.[] }
+T24 = record { locals = List._++_ t16 t18; slots = [] }
 
 abbrev pub T25 : Row.Cx
-T25 = record { locals = List._++_ t19 t20; slots = List.[] }
+T25 = record { locals = List._++_ t19 t20; slots = [] }
 
 abbrev pub T26 : Row.Cx
-T26 = record { locals = List._++_ t21 t20; slots = List.[] }
+T26 = record { locals = List._++_ t21 t20; slots = [] }
 
 abbrev pub T28 : Row.Cx
-T28 = record { locals = List._++_ t22 t20; slots = List.[] }
-
-abbrev pub T29 : Row.Cx
-T29 = record { locals = List._++_ t22 t20; slots = List.[] }
+T28 = record { locals = List._++_ t22 t20; slots = [] }
 
 abbrev pub T32 : Row.Cx
-T32 = record { locals = List._++_ t23 t20; slots = List.[] }
-
-abbrev pub T33 : Row.Cx
-T33 = record { locals = List._++_ t23 t20; slots = List.[] }
-
-abbrev pub T36 : Row.Cx
-T36 = record { locals = List._++_ t2 t1; slots = List.[] }
+T32 = record { locals = List._++_ t23 t20; slots = [] }
 
 abbrev pub O0 : Typed.Outs
-O0 = record { next = Option.none; exits = List.[]; returns = Option.some T1 }
+O0 = record { next = Option.none; exits = []; returns = Option.some T1 }
 
 module _ (claims· : Claims) where
-  abbrev s0 : Typed.Gives T0 T2
-  s0 = Know.k-shs-known (Referent.fInt Syntax.w8) T0 1 0 (Syntax.tyRef (Syntax.named 0) Syntax.imm (Syntax.tyInt Syntax.w8)) Row.off 0 λ x. x
+  abbrev s0 : Typed.Gives T0 T0
+  s0 = Know.k-shs-known (Referent.fInt Syntax.w8) T0 1 0 y1 Row.off 0 λ x. x
 
-  abbrev s1 : Typed.Gives T2 T3
-  s1 = Know.k-shs-known (Referent.fInt Syntax.w8) T2 2 1 (Syntax.tyRef (Syntax.named 1) Syntax.imm (Syntax.tyInt Syntax.w8)) Row.off 0 λ x. x
+  abbrev s1 : Typed.Gives T0 T0
+  s1 = Know.k-shs-known (Referent.fInt Syntax.w8) T0 2 1 y2 Row.off 0 λ x. x
 
-  abbrev s2 : Typed.Gives T3 T4
-  s2 = Know.k-shs-known (Referent.fInt Syntax.w16) T3 3 2 (Syntax.tyRef (Syntax.named 2) Syntax.imm (Syntax.tyInt Syntax.w16)) Row.off 0 λ x. x
+  abbrev s2 : Typed.Gives T0 T0
+  s2 = Know.k-shs-known (Referent.fInt Syntax.w16) T0 3 2 y3 Row.off 0 λ x. x
 
-  abbrev s3 : Typed.Gives T4 T5
-  s3 = Know.k-sl-known (Referent.fInt Syntax.w8) T4 4 3 (Syntax.tyRef (Syntax.named 3) Syntax.mut (Syntax.tyInt Syntax.w8)) Row.off 0 λ x. x
+  abbrev s3 : Typed.Gives T0 T0
+  s3 = Know.k-sl-known (Referent.fInt Syntax.w8) T0 4 3 y4 Row.off 0 λ x. x
 
-  abbrev s4 : Typed.Gives T5 T6
-  s4 = Know.k-sl-known (Referent.fInt Syntax.w16) T5 5 4 (Syntax.tyRef (Syntax.named 4) Syntax.mut (Syntax.tyInt Syntax.w16)) Row.off 0 λ x. x
+  abbrev s4 : Typed.Gives T0 T0
+  s4 = Know.k-sl-known (Referent.fInt Syntax.w16) T0 5 4 y5 Row.off 0 λ x. x
 
-  abbrev s5 : Typed.Mo T6 → Typed.Mo T7
-  s5 = Scalar.n-use T6 (Scalar.oFld 2 (List._∷_ (Syntax.field 1) List.[]) (Syntax.tyInt Syntax.w64) 8 Shared.lenV) 8 (Rows.sc-here (Row.sInt Syntax.w64)) (Row.sInt Syntax.w64 .of)
+  abbrev s5 : Typed.Mo T0 → Typed.Mo T7
+  s5 = Scalar.n-use T0 (Scalar.oFld 2 ((Syntax.field 1) ∷ []) u64 8 Shared.lenV) 8 (Rows.sc-here (Row.sInt Syntax.w64)) (Row.sInt Syntax.w64 .of)
 
   abbrev s6 : Typed.Mo T7 → Typed.Mo T8
-  s6 = Scalar.n-use T7 (Scalar.oFld 3 (List._∷_ (Syntax.field 1) List.[]) (Syntax.tyInt Syntax.w64) 8 Shared.lenV) 9 (Rows.sc-here (Row.sInt Syntax.w64)) (Row.sInt Syntax.w64 .of)
+  s6 = Scalar.n-use T7 (Scalar.oFld 3 ((Syntax.field 1) ∷ []) u64 8 Shared.lenV) 9 (Rows.sc-here (Row.sInt Syntax.w64)) (Row.sInt Syntax.w64 .of)
 
   abbrev s7 : Typed.Mo T8 → Typed.Mo T9
-  s7 = Scalar.n-use T8 (Scalar.oFld 5 (List._∷_ (Syntax.field 1) List.[]) (Syntax.tyInt Syntax.w64) 8 Shared.lenV) 10 (Rows.sc-here (Row.sInt Syntax.w64)) (Row.sInt Syntax.w64 .of)
+  s7 = Scalar.n-use T8 (Scalar.oFld 5 ((Syntax.field 1) ∷ []) u64 8 Shared.lenV) 10 (Rows.sc-here (Row.sInt Syntax.w64)) (Row.sInt Syntax.w64 .of)
 
   abbrev s8 : Typed.Mo T9 → Typed.Mo T10
-  s8 = Scalar.n-use T9 (Scalar.oFld 6 (List._∷_ (Syntax.field 1) List.[]) (Syntax.tyInt Syntax.w64) 8 Shared.lenV) 11 (Rows.sc-here (Row.sInt Syntax.w64)) (Row.sInt Syntax.w64 .of)
+  s8 = Scalar.n-use T9 (Scalar.oFld 6 ((Syntax.field 1) ∷ []) u64 8 Shared.lenV) 11 (Rows.sc-here (Row.sInt Syntax.w64)) (Row.sInt Syntax.w64 .of)
 
   abbrev s9 : Typed.Both T10 T11
-  s9 = Call.callB ps·0 r·0 (claims· .0) (claims· .1) T10
-      (record { pos = 1; ty = Syntax.tyRef (Syntax.named 0) Syntax.imm (Syntax.tyInt Syntax.w8); ref = λ x. x }, (Num.vAt 8 λ x. x, (Num.vAt 9 λ x. x, (Num.vAt 10 λ x. x, (Num.vAt 11 λ x. x, tt))))) 7
-      (List._∷_ 0 List.[]) (Syntax.tyEnum (List._∷_ 115 (List._∷_ 116 (List._∷_ 114 (List._∷_ 101 (List._∷_ 97 (List._∷_ 109 (List._∷_ 58 (List._∷_ 58 (List._∷_ 80 (List._∷_ 97 (List._∷_ 114 (List._∷_ 115
-      (List._∷_ 101 (List._∷_ 100 List.[])))))))))))))) (Syntax.ttcons (Syntax.tcons y0 Syntax.tnil) (Syntax.ttcons (Syntax.tcons (Syntax.tyEnum (List._∷_ 115 (List._∷_ 116 (List._∷_ 114 (List._∷_ 101
-      (List._∷_ 97 (List._∷_ 109 (List._∷_ 58 (List._∷_ 58 (List._∷_ 82 (List._∷_ 101 (List._∷_ 102 (List._∷_ 117 (List._∷_ 115 (List._∷_ 97 (List._∷_ 108 List.[]))))))))))))))) (Syntax.ttcons Syntax.tnil
-      (Syntax.ttcons Syntax.tnil (Syntax.ttcons Syntax.tnil (Syntax.ttcons (Syntax.tcons (Syntax.tyInt Syntax.w64) Syntax.tnil) (Syntax.ttcons Syntax.tnil (Syntax.ttcons Syntax.tnil (Syntax.ttcons
-      Syntax.tnil (Syntax.ttcons Syntax.tnil (Syntax.ttcons Syntax.tnil (Syntax.ttcons Syntax.tnil (Syntax.ttcons (Syntax.tcons (Syntax.tyInt Syntax.w64) Syntax.tnil) (Syntax.ttcons (Syntax.tcons
-      (Syntax.tyInt Syntax.w64) Syntax.tnil) (Syntax.ttcons Syntax.tnil (Syntax.ttcons (Syntax.tcons (Syntax.tyInt Syntax.w64) (Syntax.tcons (Syntax.tyInt Syntax.w64) Syntax.tnil)) (Syntax.ttcons
-      (Syntax.tcons (Syntax.tyInt Syntax.w64) Syntax.tnil) (Syntax.ttcons Syntax.tnil (Syntax.ttcons Syntax.tnil (Syntax.ttcons (Syntax.tcons (Syntax.tyInt Syntax.w64) Syntax.tnil) (Syntax.ttcons
-      (Syntax.tcons (Syntax.tyInt Syntax.w64) Syntax.tnil) (Syntax.ttcons (Syntax.tcons (Syntax.tyInt Syntax.w64) Syntax.tnil) (Syntax.ttcons Syntax.tnil (Syntax.ttcons Syntax.tnil (Syntax.ttcons
-      (Syntax.tcons (Syntax.tyInt Syntax.w64) (Syntax.tcons (Syntax.tyInt Syntax.w64) Syntax.tnil)) (Syntax.ttcons Syntax.tnil Syntax.ttnil))))))))))))))))))))))))) Syntax.tnil) Syntax.ttnil)))
+  s9 = Call.callB ps·0 r·0 (claims· .0) (claims· .1) T10 (record { pos = 1; ty = y1; ref = λ x. x }, (Num.vAt 8 λ x. x, (Num.vAt 9 λ x. x, (Num.vAt 10 λ x. x, (Num.vAt 11 λ x. x, tt))))) 7 (0 ∷ [])
+      y12
 
   abbrev s10 : Typed.Mo T11 → Typed.Mo T12
-  s10 = Scalar.n-room T11 8 (Syntax.tyInt Syntax.w64)
+  s10 = Scalar.n-room T11 8 u64
 
   abbrev s11 : Typed.Mo T12 → Typed.Mo T13
-  s11 = Scalar.n-room T12 9 (Syntax.tyInt Syntax.w64)
+  s11 = Scalar.n-room T12 9 u64
 
   abbrev s12 : Typed.Mo T13 → Typed.Mo T14
-  s12 = Scalar.n-room T13 10 (Syntax.tyInt Syntax.w64)
+  s12 = Scalar.n-room T13 10 u64
 
   abbrev s13 : Typed.Mo T14 → Typed.Mo T15
-  s13 = Scalar.n-room T14 11 (Syntax.tyInt Syntax.w64)
+  s13 = Scalar.n-room T14 11 u64
 
   abbrev s15 : Typed.Gives T15 T17
-  s15 = Relend.k-sl-relend (Referent.rtF (Referent.fInt Syntax.w8)) T15 4 12 3 6 (Syntax.tyRef (Syntax.named 3) Syntax.mut (Syntax.tyInt Syntax.w8)) (Syntax.tyRef Syntax.erased Syntax.mut
-      (Syntax.tyInt Syntax.w8)) Row.off λ x. x
+  s15 = Relend.k-sl-relend n8 T15 4 12 3 6 y4 y9 Row.off λ x. x
 
   abbrev s16 : Typed.Asks T17 T18
-  s16 = Relend.k-sl-aggregate (Referent.rtF (Referent.fInt Syntax.w8)) (Relend.asMut (Referent.rtF (Referent.fInt Syntax.w8))) T17 12 13 6 (Syntax.tyRef Syntax.erased Syntax.mut (Syntax.tyInt
-      Syntax.w8)) (Syntax.tyRef Syntax.erased Syntax.mut (Syntax.tyInt Syntax.w8)) (λ x. x) (Scalar.oFld 4 (List._∷_ (Syntax.field 1) List.[]) (Syntax.tyInt Syntax.w64) 8 λ v. Shared.lenV (v .0))
+  s16 = Relend.k-sl-aggregate n8 (Relend.asMut n8) T17 12 13 6 y9 y9 (λ x. x) (Scalar.oFld 4 ((Syntax.field 1) ∷ []) u64 8 λ v. Shared.lenV (v .0))
 
   abbrev s18 : Typed.Gives T18 T20
-  s18 = Relend.k-sl-relend (Referent.rtF (Referent.fInt Syntax.w16)) T18 5 14 4 7 (Syntax.tyRef (Syntax.named 4) Syntax.mut (Syntax.tyInt Syntax.w16)) (Syntax.tyRef Syntax.erased Syntax.mut
-      (Syntax.tyInt Syntax.w16)) Row.off λ x. x
+  s18 = Relend.k-sl-relend n16 T18 5 14 4 7 y5 y8 Row.off λ x. x
 
   abbrev s19 : Typed.Asks T20 T21
-  s19 = Relend.k-sl-aggregate (Referent.rtF (Referent.fInt Syntax.w16)) (Relend.asMut (Referent.rtF (Referent.fInt Syntax.w16))) T20 14 15 7 (Syntax.tyRef Syntax.erased Syntax.mut (Syntax.tyInt
-      Syntax.w16)) (Syntax.tyRef Syntax.erased Syntax.mut (Syntax.tyInt Syntax.w16)) (λ x. x) (Scalar.oFld 5 (List._∷_ (Syntax.field 1) List.[]) (Syntax.tyInt Syntax.w64) 8 λ v. Shared.lenV (v .0))
+  s19 = Relend.k-sl-aggregate n16 (Relend.asMut n16) T20 14 15 7 y8 y8 (λ x. x) (Scalar.oFld 5 ((Syntax.field 1) ∷ []) u64 8 λ v. Shared.lenV (v .0))
 
   abbrev s21 : Typed.Gives T21 T23
-  s21 = Relend.k-sl-relend (Element.type) T21 6 16 5 8 (Syntax.tyRef (Syntax.named 5) Syntax.mut Element.behind) (Syntax.tyRef Syntax.erased Syntax.mut Element.behind) Row.off λ x. x
+  s21 = Relend.k-sl-relend (Element.type) T21 6 16 5 8 y6 y7 Row.off λ x. x
 
   abbrev s22 : Typed.Asks T23 T24
-  s22 = Relend.k-sl-aggregate (Element.type) (Relend.asMut (Element.type)) T23 16 17 8 (Syntax.tyRef Syntax.erased Syntax.mut Element.behind) (Syntax.tyRef Syntax.erased Syntax.mut Element.behind) (λ
-      x. x) (Scalar.oFld 6 (List._∷_ (Syntax.field 1) List.[]) (Syntax.tyInt Syntax.w64) 8 λ v. Shared.lenV (v .0))
+  s22 = Relend.k-sl-aggregate (Element.type) (Relend.asMut (Element.type)) T23 16 17 8 y7 y7 (λ x. x) (Scalar.oFld 6 ((Syntax.field 1) ∷ []) u64 8 λ v. Shared.lenV (v .0))
 
-  abbrev s23 : Typed.Both T24 T25
-  s23 = Call.callB ps·1 r·1 (claims· .2) (claims· .3) T24 (
-    record { pos = 7; st = List.[]; d = 0; at = λ x. x },
+  abbrev pub a0 : ArgsT ps·1 (T24 .locals)
+  a0 = (
+    record { pos = 7; st = []; d = 0; at = λ x. x },
     (
-      record { pos = 2; ty = Syntax.tyRef (Syntax.named 1) Syntax.imm (Syntax.tyInt Syntax.w8); ref = λ x. x },
+      record { pos = 2; ty = y2; ref = λ x. x },
       (
-        record { pos = 3; ty = Syntax.tyRef (Syntax.named 2) Syntax.imm (Syntax.tyInt Syntax.w16); ref = λ x. x },
-        (
-          record { pos = 13; ty = Syntax.tyRef Syntax.erased Syntax.mut (Syntax.tyInt Syntax.w8); ref = λ x. x },
-          (
-            Bool.bLit Bool'.false,
-            (
-              record { pos = 15; ty = Syntax.tyRef Syntax.erased Syntax.mut (Syntax.tyInt Syntax.w16); ref = λ x. x },
-              (record { pos = 17; ty = Syntax.tyRef Syntax.erased Syntax.mut Element.behind; ref = λ x. x }, tt),
-            ),
-          ),
-        ),
+        record { pos = 3; ty = y3; ref = λ x. x },
+        (record { pos = 13; ty = y9; ref = λ x. x }, (Bool.bLit Bool'.false, (record { pos = 15; ty = y8; ref = λ x. x }, (record { pos = 17; ty = y7; ref = λ x. x }, tt)))),
       ),
     ),
-  ) 0 (List._∷_ 1 (List._∷_ 2 (List._∷_ 6 (List._∷_ 7 (List._∷_ 8 List.[]))))) (Syntax.tyEnum
-      (List._∷_ 115 (List._∷_ 116 (List._∷_ 114 (List._∷_ 101 (List._∷_ 97 (List._∷_ 109 (List._∷_ 58 (List._∷_ 58 (List._∷_ 66 (List._∷_ 108 (List._∷_ 111 (List._∷_ 99 (List._∷_ 107 (List._∷_ 76
-      (List._∷_ 101 (List._∷_ 110 (List._∷_ 103 (List._∷_ 116 (List._∷_ 104 List.[]))))))))))))))))))) (Syntax.ttcons (Syntax.tcons (Syntax.tyInt Syntax.w64) Syntax.tnil) (Syntax.ttcons (Syntax.tcons
-      (Syntax.tyEnum (List._∷_ 115 (List._∷_ 116 (List._∷_ 114 (List._∷_ 101 (List._∷_ 97 (List._∷_ 109 (List._∷_ 58 (List._∷_ 58 (List._∷_ 82 (List._∷_ 101 (List._∷_ 102 (List._∷_ 117 (List._∷_ 115
-      (List._∷_ 97 (List._∷_ 108 List.[]))))))))))))))) (Syntax.ttcons Syntax.tnil (Syntax.ttcons Syntax.tnil (Syntax.ttcons Syntax.tnil (Syntax.ttcons (Syntax.tcons (Syntax.tyInt Syntax.w64) Syntax.tnil)
-      (Syntax.ttcons Syntax.tnil (Syntax.ttcons Syntax.tnil (Syntax.ttcons Syntax.tnil (Syntax.ttcons Syntax.tnil (Syntax.ttcons Syntax.tnil (Syntax.ttcons Syntax.tnil (Syntax.ttcons (Syntax.tcons
-      (Syntax.tyInt Syntax.w64) Syntax.tnil) (Syntax.ttcons (Syntax.tcons (Syntax.tyInt Syntax.w64) Syntax.tnil) (Syntax.ttcons Syntax.tnil (Syntax.ttcons (Syntax.tcons (Syntax.tyInt Syntax.w64)
-      (Syntax.tcons (Syntax.tyInt Syntax.w64) Syntax.tnil)) (Syntax.ttcons (Syntax.tcons (Syntax.tyInt Syntax.w64) Syntax.tnil) (Syntax.ttcons Syntax.tnil (Syntax.ttcons Syntax.tnil (Syntax.ttcons
-      (Syntax.tcons (Syntax.tyInt Syntax.w64) Syntax.tnil) (Syntax.ttcons (Syntax.tcons (Syntax.tyInt Syntax.w64) Syntax.tnil) (Syntax.ttcons (Syntax.tcons (Syntax.tyInt Syntax.w64) Syntax.tnil)
-      (Syntax.ttcons Syntax.tnil (Syntax.ttcons Syntax.tnil (Syntax.ttcons (Syntax.tcons (Syntax.tyInt Syntax.w64) (Syntax.tcons (Syntax.tyInt Syntax.w64) Syntax.tnil)) (Syntax.ttcons Syntax.tnil
-      Syntax.ttnil))))))))))))))))))))))))) Syntax.tnil) Syntax.ttnil)))
+  )
+
+  abbrev s23 : Typed.Both T24 T25
+  s23 = Call.callB ps·1 r·1 (claims· .2) (claims· .3) T24 a0 0 (1 ∷ 2 ∷ 6 ∷ 7 ∷ 8 ∷ []) y11
 
   abbrev s24 : Typed.Mo T25 → Typed.Mo T26
-  s24 = Scalar.n-room T25 7 (Syntax.tyEnum (List._∷_ 115 (List._∷_ 116 (List._∷_ 114 (List._∷_ 101 (List._∷_ 97 (List._∷_ 109 (List._∷_ 58 (List._∷_ 58 (List._∷_ 80 (List._∷_ 97 (List._∷_ 114
-      (List._∷_ 115 (List._∷_ 101 (List._∷_ 100 List.[])))))))))))))) (Syntax.ttcons (Syntax.tcons y0 Syntax.tnil) (Syntax.ttcons (Syntax.tcons (Syntax.tyEnum (List._∷_ 115 (List._∷_ 116 (List._∷_ 114
-      (List._∷_ 101 (List._∷_ 97 (List._∷_ 109 (List._∷_ 58 (List._∷_ 58 (List._∷_ 82 (List._∷_ 101 (List._∷_ 102 (List._∷_ 117 (List._∷_ 115 (List._∷_ 97 (List._∷_ 108 List.[])))))))))))))))
-      (Syntax.ttcons Syntax.tnil (Syntax.ttcons Syntax.tnil (Syntax.ttcons Syntax.tnil (Syntax.ttcons (Syntax.tcons (Syntax.tyInt Syntax.w64) Syntax.tnil) (Syntax.ttcons Syntax.tnil (Syntax.ttcons
-      Syntax.tnil (Syntax.ttcons Syntax.tnil (Syntax.ttcons Syntax.tnil (Syntax.ttcons Syntax.tnil (Syntax.ttcons Syntax.tnil (Syntax.ttcons (Syntax.tcons (Syntax.tyInt Syntax.w64) Syntax.tnil)
-      (Syntax.ttcons (Syntax.tcons (Syntax.tyInt Syntax.w64) Syntax.tnil) (Syntax.ttcons Syntax.tnil (Syntax.ttcons (Syntax.tcons (Syntax.tyInt Syntax.w64) (Syntax.tcons (Syntax.tyInt Syntax.w64)
-      Syntax.tnil)) (Syntax.ttcons (Syntax.tcons (Syntax.tyInt Syntax.w64) Syntax.tnil) (Syntax.ttcons Syntax.tnil (Syntax.ttcons Syntax.tnil (Syntax.ttcons (Syntax.tcons (Syntax.tyInt Syntax.w64)
-      Syntax.tnil) (Syntax.ttcons (Syntax.tcons (Syntax.tyInt Syntax.w64) Syntax.tnil) (Syntax.ttcons (Syntax.tcons (Syntax.tyInt Syntax.w64) Syntax.tnil) (Syntax.ttcons Syntax.tnil (Syntax.ttcons
-      Syntax.tnil (Syntax.ttcons (Syntax.tcons (Syntax.tyInt Syntax.w64) (Syntax.tcons (Syntax.tyInt Syntax.w64) Syntax.tnil)) (Syntax.ttcons Syntax.tnil Syntax.ttnil))))))))))))))))))))))))) Syntax.tnil)
-      Syntax.ttnil)))
+  s24 = Scalar.n-room T25 7 y12
 
   abbrev s26 : Typed.Both T26 T28
-  s26 = Relend.k-back-sl (Referent.rtF (Referent.fInt Syntax.w8)) T26 13 4 3 6 (Syntax.tyRef (Syntax.named 3) Syntax.mut (Syntax.tyInt Syntax.w8)) (Syntax.tyRef Syntax.erased Syntax.mut (Syntax.tyInt
-      Syntax.w8)) Row.off (λ x. x) λ x. x
+  s26 = Relend.k-back-sl n8 T26 13 4 3 6 y4 y9 Row.off (λ x. x) λ x. x
 
-  abbrev s27 : Typed.Gives T28 T29
-  s27 = Know.k-sl-known (Referent.fInt Syntax.w8) T28 4 3 (Syntax.tyRef (Syntax.named 3) Syntax.mut (Syntax.tyInt Syntax.w8)) Row.off 0 λ x. x
+  abbrev s27 : Typed.Gives T28 T28
+  s27 = Know.k-sl-known (Referent.fInt Syntax.w8) T28 4 3 y4 Row.off 0 λ x. x
 
-  abbrev s30 : Typed.Both T29 T32
-  s30 = Relend.k-back-sl (Referent.rtF (Referent.fInt Syntax.w16)) T29 15 5 4 7 (Syntax.tyRef (Syntax.named 4) Syntax.mut (Syntax.tyInt Syntax.w16)) (Syntax.tyRef Syntax.erased Syntax.mut
-      (Syntax.tyInt Syntax.w16)) Row.off (λ x. x) λ x. x
+  abbrev s30 : Typed.Both T28 T32
+  s30 = Relend.k-back-sl n16 T28 15 5 4 7 y5 y8 Row.off (λ x. x) λ x. x
 
-  abbrev s31 : Typed.Gives T32 T33
-  s31 = Know.k-sl-known (Referent.fInt Syntax.w16) T32 5 4 (Syntax.tyRef (Syntax.named 4) Syntax.mut (Syntax.tyInt Syntax.w16)) Row.off 0 λ x. x
+  abbrev s31 : Typed.Gives T32 T32
+  s31 = Know.k-sl-known (Referent.fInt Syntax.w16) T32 5 4 y5 Row.off 0 λ x. x
 
-  abbrev s34 : Typed.Both T33 T36
-  s34 = Relend.k-back-sl (Element.type) T33 17 6 5 8 (Syntax.tyRef (Syntax.named 5) Syntax.mut Element.behind) (Syntax.tyRef Syntax.erased Syntax.mut Element.behind) Row.off (λ x. x) λ x. x
+  abbrev s34 : Typed.Both T32 T1
+  s34 = Relend.k-back-sl (Element.type) T32 17 6 5 8 y6 y7 Row.off (λ x. x) λ x. x
 
   module _ (Pre· : (κs : Lifetimes.Lfts 6) → Kinds.Dens κs ps → Type 0) (Post· : (κs : Lifetimes.Lfts 6) → (a : Kinds.Dens κs ps) → Kinds.Plain 6 ps r κs) where
     module _ (M : Type 1) where
@@ -711,44 +507,26 @@ module _ (claims· : Claims) where
           (Function.plainOf 𝓤 H A 6 ps r Pre· Post·)
 
     module _ where
-      abbrev at0 : Typed.TF T36 O0
+      abbrev at0 : Typed.TF T1 O0
       at0 = Typed.atRet O0
 
-      abbrev at1 : Typed.TF T36 O0
-      at1 = λ Ψ. at0 Ψ
-
-      abbrev at2 : Typed.TF T33 O0
-      at2 = λ Ψ. Typed.both s34 (at1 Ψ)
-
-      abbrev at3 : Typed.TF T33 O0
-      at3 = λ Ψ. at2 Ψ
-
-      abbrev at4 : Typed.TF T33 O0
-      at4 = λ Ψ. at3 Ψ
+      abbrev at2 : Typed.TF T32 O0
+      at2 = λ Ψ. Typed.both s34 (at0 Ψ)
 
       abbrev at5 : Typed.TF T32 O0
-      at5 = λ Ψ. Typed.give s31 (at4 Ψ)
+      at5 = λ Ψ. Typed.give s31 (at2 Ψ)
 
-      abbrev at6 : Typed.TF T29 O0
+      abbrev at6 : Typed.TF T28 O0
       at6 = λ Ψ. Typed.both s30 (at5 Ψ)
 
-      abbrev at7 : Typed.TF T29 O0
-      at7 = λ Ψ. at6 Ψ
-
-      abbrev at8 : Typed.TF T29 O0
-      at8 = λ Ψ. at7 Ψ
-
       abbrev at9 : Typed.TF T28 O0
-      at9 = λ Ψ. Typed.give s27 (at8 Ψ)
+      at9 = λ Ψ. Typed.give s27 (at6 Ψ)
 
       abbrev at10 : Typed.TF T26 O0
       at10 = λ Ψ. Typed.both s26 (at9 Ψ)
 
-      abbrev at11 : Typed.TF T26 O0
-      at11 = λ Ψ. at10 Ψ
-
       abbrev at12 : Typed.TF T25 O0
-      at12 = λ Ψ. Typed.pass T25 T26 s24 (at11 Ψ)
+      at12 = λ Ψ. Typed.pass T25 T26 s24 (at10 Ψ)
 
       abbrev at13 : Typed.TF T24 O0
       at13 = λ Ψ. Typed.both s23 (at12 Ψ)
@@ -759,29 +537,20 @@ module _ (claims· : Claims) where
       abbrev at15 : Typed.TF T21 O0
       at15 = λ Ψ. Typed.give s21 (at14 Ψ)
 
-      abbrev at16 : Typed.TF T21 O0
-      at16 = λ Ψ. at15 Ψ
-
       abbrev at17 : Typed.TF T20 O0
-      at17 = λ Ψ. Typed.ask s19 (at16 Ψ)
+      at17 = λ Ψ. Typed.ask s19 (at15 Ψ)
 
       abbrev at18 : Typed.TF T18 O0
       at18 = λ Ψ. Typed.give s18 (at17 Ψ)
 
-      abbrev at19 : Typed.TF T18 O0
-      at19 = λ Ψ. at18 Ψ
-
       abbrev at20 : Typed.TF T17 O0
-      at20 = λ Ψ. Typed.ask s16 (at19 Ψ)
+      at20 = λ Ψ. Typed.ask s16 (at18 Ψ)
 
       abbrev at21 : Typed.TF T15 O0
       at21 = λ Ψ. Typed.give s15 (at20 Ψ)
 
-      abbrev at22 : Typed.TF T15 O0
-      at22 = λ Ψ. at21 Ψ
-
       abbrev at23 : Typed.TF T14 O0
-      at23 = λ Ψ. Typed.pass T14 T15 s13 (at22 Ψ)
+      at23 = λ Ψ. Typed.pass T14 T15 s13 (at21 Ψ)
 
       abbrev at24 : Typed.TF T13 O0
       at24 = λ Ψ. Typed.pass T13 T14 s12 (at23 Ψ)
@@ -804,19 +573,19 @@ module _ (claims· : Claims) where
       abbrev at30 : Typed.TF T7 O0
       at30 = λ Ψ. Typed.pass T7 T8 s6 (at29 Ψ)
 
-      abbrev at31 : Typed.TF T6 O0
-      at31 = λ Ψ. Typed.pass T6 T7 s5 (at30 Ψ)
+      abbrev at31 : Typed.TF T0 O0
+      at31 = λ Ψ. Typed.pass T0 T7 s5 (at30 Ψ)
 
-      abbrev at32 : Typed.TF T5 O0
+      abbrev at32 : Typed.TF T0 O0
       at32 = λ Ψ. Typed.give s4 (at31 Ψ)
 
-      abbrev at33 : Typed.TF T4 O0
+      abbrev at33 : Typed.TF T0 O0
       at33 = λ Ψ. Typed.give s3 (at32 Ψ)
 
-      abbrev at34 : Typed.TF T3 O0
+      abbrev at34 : Typed.TF T0 O0
       at34 = λ Ψ. Typed.give s2 (at33 Ψ)
 
-      abbrev at35 : Typed.TF T2 O0
+      abbrev at35 : Typed.TF T0 O0
       at35 = λ Ψ. Typed.give s1 (at34 Ψ)
 
       abbrev at36 : Typed.TF T0 O0
@@ -830,656 +599,348 @@ module _ (claims· : Claims) where
         Knowns = Plain.Known 𝓤 H A W 𝓣 1 ps·0 r·0 (claims· .0) (claims· .1) "begin::lossy_begins" × Plain.Known 𝓤 H A W 𝓣 5 ps·1 r·1 (claims· .2) (claims· .3) "block_writer::write_in"
 
       module _ (κs : Lifetimes.Lfts 6) (qs : Lifetimes.Shares 6) where
+        abbrev k0 : Row.Life
+        k0 = Row.lease (κs .0) (qs .0)
+
+        abbrev k1 : Row.Life
+        k1 = Row.lease (κs .1 .0) (qs .1 .0)
+
+        abbrev k2 : Row.Life
+        k2 = Row.lease (κs .1 .1 .0) (qs .1 .1 .0)
+
+        abbrev k3 : Row.Life
+        k3 = Row.lease (κs .1 .1 .1 .0) (qs .1 .1 .1 .0)
+
+        abbrev k4 : Row.Life
+        k4 = Row.lease (κs .1 .1 .1 .1 .0) (qs .1 .1 .1 .1 .0)
+
+        abbrev k5 : Row.Life
+        k5 = Row.lease (κs .1 .1 .1 .1 .1 .0) (qs .1 .1 .1 .1 .1 .0)
+
+        abbrev l0 : List.List Row.Life
+        l0 = k0 ∷ k1 ∷ k2 ∷ Row.off ∷ Row.off ∷ Row.off ∷ Row.alive ∷ Row.alive ∷ Row.alive ∷ []
+
+        abbrev l1 : List.List Row.Life
+        l1 = k0 ∷ k1 ∷ k2 ∷ Row.off ∷ Row.off ∷ k5 ∷ Row.alive ∷ Row.alive ∷ Row.off ∷ []
+
+        abbrev l2 : List.List Row.Life
+        l2 = k0 ∷ k1 ∷ k2 ∷ Row.off ∷ k4 ∷ k5 ∷ Row.alive ∷ Row.off ∷ Row.off ∷ []
+
+        abbrev l3 : List.List Row.Life
+        l3 = k0 ∷ k1 ∷ k2 ∷ k3 ∷ Row.off ∷ Row.off ∷ Row.dead ∷ Row.alive ∷ Row.alive ∷ []
+
+        abbrev l4 : List.List Row.Life
+        l4 = k0 ∷ k1 ∷ k2 ∷ k3 ∷ k4 ∷ Row.off ∷ Row.off ∷ Row.dead ∷ Row.alive ∷ []
+
+        abbrev l5 : List.List Row.Life
+        l5 = k0 ∷ k1 ∷ k2 ∷ k3 ∷ k4 ∷ k5 ∷ Row.off ∷ Row.off ∷ Row.off ∷ []
+
+        abbrev h0 : Row.Row
+        h0 = Relend.mslice-owed n8 y4 3 6 k3
+
+        abbrev h1 : Row.Row
+        h1 = Relend.mslice-owed n16 y5 4 7 k4
+
+        abbrev h2 : Row.Row
+        h2 = Relend.mslice-owed (Element.type) y6 5 8 k5
+
         abbrev g12 : List.List Row.Entry
-        g12 = List._∷_ e0 (List._∷_ e2 (List._∷_ e19 (List._∷_ e20 (List._∷_
-            (4, Relend.mslice-owed (Referent.rtF (Referent.fInt Syntax.w8)) (Syntax.tyRef (Syntax.named 3) Syntax.mut (Syntax.tyInt Syntax.w8)) 3 6 (Row.lease (κs .1 .1 .1 .0) (qs .1 .1 .1 .0))) (List._∷_
-            e23 (List._∷_ e25 (List._∷_ e28 (List._∷_ e29 (List._∷_ e31 (List._∷_ e3 (List._∷_ e5 (List._∷_ e7 (List._∷_ e11 (List._∷_ e13 (List._∷_ e16 List.[])))))))))))))))
+        g12 = (0, v6) ∷ (1, v1) ∷ (2, v2) ∷ (3, v3) ∷ (4, h0) ∷ (5, v10) ∷ (6, v8) ∷ (7, v12) ∷ (8, v0) ∷ (9, v0) ∷ (10, v0) ∷ (11, v0) ∷ (12, Relend.msptr n8 y9 6) ∷ (13, v11) ∷ (14, v5) ∷ (15, v9) ∷
+            []
 
         abbrev g13 : List.List Row.Entry
-        g13 = List._∷_ e0 (List._∷_ e2 (List._∷_ e19 (List._∷_ e20 (List._∷_
-            (4, Relend.mslice-owed (Referent.rtF (Referent.fInt Syntax.w8)) (Syntax.tyRef (Syntax.named 3) Syntax.mut (Syntax.tyInt Syntax.w8)) 3 6 (Row.lease (κs .1 .1 .1 .0) (qs .1 .1 .1 .0))) (List._∷_
-            e23 (List._∷_ e25 (List._∷_ e28 (List._∷_ e29 (List._∷_ e31 (List._∷_ e3 (List._∷_ e5 (List._∷_ e8 (List._∷_ e10 (List._∷_ e13 (List._∷_ e16 List.[])))))))))))))))
+        g13 = (0, v6) ∷ (1, v1) ∷ (2, v2) ∷ (3, v3) ∷ (4, h0) ∷ (5, v10) ∷ (6, v8) ∷ (7, v12) ∷ (8, v0) ∷ (9, v0) ∷ (10, v0) ∷ (11, v0) ∷ (12, v4) ∷ (13, v16) ∷ (14, v5) ∷ (15, v9) ∷ []
 
         abbrev g14 : List.List Row.Entry
-        g14 = List._∷_ e0 (List._∷_ e2 (List._∷_ e19 (List._∷_ e20 (List._∷_
-            (4, Relend.mslice-owed (Referent.rtF (Referent.fInt Syntax.w8)) (Syntax.tyRef (Syntax.named 3) Syntax.mut (Syntax.tyInt Syntax.w8)) 3 6 (Row.lease (κs .1 .1 .1 .0) (qs .1 .1 .1 .0))) (List._∷_
-            (5, Relend.mslice-owed (Referent.rtF (Referent.fInt Syntax.w16)) (Syntax.tyRef (Syntax.named 4) Syntax.mut (Syntax.tyInt Syntax.w16)) 4 7 (Row.lease (κs .1 .1 .1 .1 .0) (qs .1 .1 .1 .1 .0)))
-            (List._∷_ e25 (List._∷_ e28 (List._∷_ e29 (List._∷_ e31 (List._∷_ e3 (List._∷_ e5 (List._∷_ e8 (List._∷_ e10 (List._∷_ e12 (List._∷_ e16 List.[])))))))))))))))
+        g14 = (0, v6) ∷ (1, v1) ∷ (2, v2) ∷ (3, v3) ∷ (4, h0) ∷ (5, h1) ∷ (6, v8) ∷ (7, v12) ∷ (8, v0) ∷ (9, v0) ∷ (10, v0) ∷ (11, v0) ∷ (12, v4) ∷ (13, v16) ∷ (14, Relend.msptr n16 y8 7) ∷ (15, v9) ∷
+            []
 
         abbrev g15 : List.List Row.Entry
-        g15 = List._∷_ e0 (List._∷_ e2 (List._∷_ e19 (List._∷_ e20 (List._∷_
-            (4, Relend.mslice-owed (Referent.rtF (Referent.fInt Syntax.w8)) (Syntax.tyRef (Syntax.named 3) Syntax.mut (Syntax.tyInt Syntax.w8)) 3 6 (Row.lease (κs .1 .1 .1 .0) (qs .1 .1 .1 .0))) (List._∷_
-            (5, Relend.mslice-owed (Referent.rtF (Referent.fInt Syntax.w16)) (Syntax.tyRef (Syntax.named 4) Syntax.mut (Syntax.tyInt Syntax.w16)) 4 7 (Row.lease (κs .1 .1 .1 .1 .0) (qs .1 .1 .1 .1 .0)))
-            (List._∷_ e25 (List._∷_ e28 (List._∷_ e29 (List._∷_ e31 (List._∷_ e3 (List._∷_ e5 (List._∷_ e8 (List._∷_ e10 (List._∷_ e13 (List._∷_ e15 List.[])))))))))))))))
+        g15 = (0, v6) ∷ (1, v1) ∷ (2, v2) ∷ (3, v3) ∷ (4, h0) ∷ (5, h1) ∷ (6, v8) ∷ (7, v12) ∷ (8, v0) ∷ (9, v0) ∷ (10, v0) ∷ (11, v0) ∷ (12, v4) ∷ (13, v16) ∷ (14, v5) ∷ (15, v21) ∷ []
 
         abbrev g16 : List.List Row.Entry
-        g16 = List._∷_ e0 (List._∷_ e2 (List._∷_ e19 (List._∷_ e20 (List._∷_
-            (4, Relend.mslice-owed (Referent.rtF (Referent.fInt Syntax.w8)) (Syntax.tyRef (Syntax.named 3) Syntax.mut (Syntax.tyInt Syntax.w8)) 3 6 (Row.lease (κs .1 .1 .1 .0) (qs .1 .1 .1 .0))) (List._∷_
-            (5, Relend.mslice-owed (Referent.rtF (Referent.fInt Syntax.w16)) (Syntax.tyRef (Syntax.named 4) Syntax.mut (Syntax.tyInt Syntax.w16)) 4 7 (Row.lease (κs .1 .1 .1 .1 .0) (qs .1 .1 .1 .1 .0)))
-            (List._∷_ (6, Relend.mslice-owed (Element.type) (Syntax.tyRef (Syntax.named 5) Syntax.mut Element.behind) 5 8 (Row.lease (κs .1 .1 .1 .1 .1 .0) (qs .1 .1 .1 .1 .1 .0))) (List._∷_ e28 (List._∷_
-            e29 (List._∷_ e31 (List._∷_ e3 (List._∷_ e5 (List._∷_ e8 (List._∷_ e10 (List._∷_ e13 (List._∷_ e15 List.[])))))))))))))))
+        g16 = (0, v6) ∷ (1, v1) ∷ (2, v2) ∷ (3, v3) ∷ (4, h0) ∷ (5, h1) ∷ (6, h2) ∷ (7, v12) ∷ (8, v0) ∷ (9, v0) ∷ (10, v0) ∷ (11, v0) ∷ (12, v4) ∷ (13, v16) ∷ (14, v5) ∷ (15, v21) ∷ []
 
         abbrev g19 : List.List Row.Entry
-        g19 = List._∷_ e1 (List._∷_ e2 (List._∷_ e19 (List._∷_ e20 (List._∷_
-            (4, Relend.mslice-owed (Referent.rtF (Referent.fInt Syntax.w8)) (Syntax.tyRef (Syntax.named 3) Syntax.mut (Syntax.tyInt Syntax.w8)) 3 6 (Row.lease (κs .1 .1 .1 .0) (qs .1 .1 .1 .0))) (List._∷_
-            (5, Relend.mslice-owed (Referent.rtF (Referent.fInt Syntax.w16)) (Syntax.tyRef (Syntax.named 4) Syntax.mut (Syntax.tyInt Syntax.w16)) 4 7 (Row.lease (κs .1 .1 .1 .1 .0) (qs .1 .1 .1 .1 .0)))
-            (List._∷_ (6, Relend.mslice-owed (Element.type) (Syntax.tyRef (Syntax.named 5) Syntax.mut Element.behind) 5 8 (Row.lease (κs .1 .1 .1 .1 .1 .0) (qs .1 .1 .1 .1 .1 .0))) (List._∷_ e28 (List._∷_
-            e29 (List._∷_ e31 (List._∷_ e3 (List._∷_ e5 (List._∷_ e8 (List._∷_ e9 (List._∷_ e13 (List._∷_ e14 List.[])))))))))))))))
+        g19 = (0, v15) ∷ (1, v1) ∷ (2, v2) ∷ (3, v3) ∷ (4, h0) ∷ (5, h1) ∷ (6, h2) ∷ (7, v12) ∷ (8, v0) ∷ (9, v0) ∷ (10, v0) ∷ (11, v0) ∷ (12, v4) ∷ (13, v22) ∷ (14, v5) ∷ (15, v19) ∷ []
 
         abbrev g21 : List.List Row.Entry
-        g21 = List._∷_ e1 (List._∷_ e2 (List._∷_ e19 (List._∷_ e20 (List._∷_
-            (4, Relend.mslice-owed (Referent.rtF (Referent.fInt Syntax.w8)) (Syntax.tyRef (Syntax.named 3) Syntax.mut (Syntax.tyInt Syntax.w8)) 3 6 (Row.lease (κs .1 .1 .1 .0) (qs .1 .1 .1 .0))) (List._∷_
-            (5, Relend.mslice-owed (Referent.rtF (Referent.fInt Syntax.w16)) (Syntax.tyRef (Syntax.named 4) Syntax.mut (Syntax.tyInt Syntax.w16)) 4 7 (Row.lease (κs .1 .1 .1 .1 .0) (qs .1 .1 .1 .1 .0)))
-            (List._∷_ (6, Relend.mslice-owed (Element.type) (Syntax.tyRef (Syntax.named 5) Syntax.mut Element.behind) 5 8 (Row.lease (κs .1 .1 .1 .1 .1 .0) (qs .1 .1 .1 .1 .1 .0))) (List._∷_ e27 (List._∷_
-            e29 (List._∷_ e31 (List._∷_ e3 (List._∷_ e5 (List._∷_ e8 (List._∷_ e9 (List._∷_ e13 (List._∷_ e14 List.[])))))))))))))))
+        g21 = (0, v15) ∷ (1, v1) ∷ (2, v2) ∷ (3, v3) ∷ (4, h0) ∷ (5, h1) ∷ (6, h2) ∷ (7, v14) ∷ (8, v0) ∷ (9, v0) ∷ (10, v0) ∷ (11, v0) ∷ (12, v4) ∷ (13, v22) ∷ (14, v5) ∷ (15, v19) ∷ []
 
         abbrev g22 : List.List Row.Entry
-        g22 = List._∷_ e1 (List._∷_ e2 (List._∷_ e19 (List._∷_ e20 (List._∷_ e21 (List._∷_
-            (5, Relend.mslice-owed (Referent.rtF (Referent.fInt Syntax.w16)) (Syntax.tyRef (Syntax.named 4) Syntax.mut (Syntax.tyInt Syntax.w16)) 4 7 (Row.lease (κs .1 .1 .1 .1 .0) (qs .1 .1 .1 .1 .0)))
-            (List._∷_ (6, Relend.mslice-owed (Element.type) (Syntax.tyRef (Syntax.named 5) Syntax.mut Element.behind) 5 8 (Row.lease (κs .1 .1 .1 .1 .1 .0) (qs .1 .1 .1 .1 .1 .0))) (List._∷_ e27 (List._∷_
-            e29 (List._∷_ e31 (List._∷_ e3 (List._∷_ e5 (List._∷_ e8 (List._∷_ e11 (List._∷_ e13 (List._∷_ e14 List.[])))))))))))))))
+        g22 = (0, v15) ∷ (1, v1) ∷ (2, v2) ∷ (3, v3) ∷ (4, v13) ∷ (5, h1) ∷ (6, h2) ∷ (7, v14) ∷ (8, v0) ∷ (9, v0) ∷ (10, v0) ∷ (11, v0) ∷ (12, v4) ∷ (13, v11) ∷ (14, v5) ∷ (15, v19) ∷ []
 
         abbrev g23 : List.List Row.Entry
-        g23 = List._∷_ e1 (List._∷_ e2 (List._∷_ e19 (List._∷_ e20 (List._∷_ e21 (List._∷_ e23 (List._∷_
-            (6, Relend.mslice-owed (Element.type) (Syntax.tyRef (Syntax.named 5) Syntax.mut Element.behind) 5 8 (Row.lease (κs .1 .1 .1 .1 .1 .0) (qs .1 .1 .1 .1 .1 .0))) (List._∷_ e27 (List._∷_ e29
-            (List._∷_ e31 (List._∷_ e3 (List._∷_ e5 (List._∷_ e8 (List._∷_ e11 (List._∷_ e13 (List._∷_ e16 List.[])))))))))))))))
-
-        abbrev G0 : Row.Cx
-        G0 = record {
-          locals = List._++_ t0 t1;
-          slots = List._∷_ (Row.lease (κs .0) (qs .0)) (List._∷_ (Row.lease (κs .1 .0) (qs .1 .0)) (List._∷_ (Row.lease (κs .1 .1 .0) (qs .1 .1 .0)) (List._∷_ (Row.lease (κs
-              .1 .1 .1 .0) (qs .1 .1 .1 .0)) (List._∷_ (Row.lease (κs .1 .1 .1 .1 .0) (qs .1 .1 .1 .1 .0)) (List._∷_ (Row.lease (κs .1 .1 .1 .1 .1 .0) (qs .1 .1 .1 .1 .1 .0)) (List._∷_ Row.off (List._∷_
-              Row.off (List._∷_ Row.off List.[]))))))));
-        }
-
-        abbrev G1 : Row.Cx
-        G1 = record {
-          locals = List._++_ t2 t1;
-          slots = List._∷_ (Row.lease (κs .0) (qs .0)) (List._∷_ (Row.lease (κs .1 .0) (qs .1 .0)) (List._∷_ (Row.lease (κs .1 .1 .0) (qs .1 .1 .0)) (List._∷_ (Row.lease (κs
-              .1 .1 .1 .0) (qs .1 .1 .1 .0)) (List._∷_ (Row.lease (κs .1 .1 .1 .1 .0) (qs .1 .1 .1 .1 .0)) (List._∷_ (Row.lease (κs .1 .1 .1 .1 .1 .0) (qs .1 .1 .1 .1 .1 .0)) (List._∷_ Row.off (List._∷_
-              Row.off (List._∷_ Row.off List.[]))))))));
-        }
-
-        abbrev G2 : Row.Cx
-        G2 = record {
-          locals = List._++_ t0 t1;
-          slots = List._∷_ (Row.lease (κs .0) (qs .0)) (List._∷_ (Row.lease (κs .1 .0) (qs .1 .0)) (List._∷_ (Row.lease (κs .1 .1 .0) (qs .1 .1 .0)) (List._∷_ (Row.lease (κs
-              .1 .1 .1 .0) (qs .1 .1 .1 .0)) (List._∷_ (Row.lease (κs .1 .1 .1 .1 .0) (qs .1 .1 .1 .1 .0)) (List._∷_ (Row.lease (κs .1 .1 .1 .1 .1 .0) (qs .1 .1 .1 .1 .1 .0)) (List._∷_ Row.off (List._∷_
-              Row.off (List._∷_ Row.off List.[]))))))));
-        }
-
-        abbrev G3 : Row.Cx
-        G3 = record {
-          locals = List._++_ t0 t1;
-          slots = List._∷_ (Row.lease (κs .0) (qs .0)) (List._∷_ (Row.lease (κs .1 .0) (qs .1 .0)) (List._∷_ (Row.lease (κs .1 .1 .0) (qs .1 .1 .0)) (List._∷_ (Row.lease (κs
-              .1 .1 .1 .0) (qs .1 .1 .1 .0)) (List._∷_ (Row.lease (κs .1 .1 .1 .1 .0) (qs .1 .1 .1 .1 .0)) (List._∷_ (Row.lease (κs .1 .1 .1 .1 .1 .0) (qs .1 .1 .1 .1 .1 .0)) (List._∷_ Row.off (List._∷_
-              Row.off (List._∷_ Row.off List.[]))))))));
-        }
-
-        abbrev G4 : Row.Cx
-        G4 = record {
-          locals = List._++_ t0 t1;
-          slots = List._∷_ (Row.lease (κs .0) (qs .0)) (List._∷_ (Row.lease (κs .1 .0) (qs .1 .0)) (List._∷_ (Row.lease (κs .1 .1 .0) (qs .1 .1 .0)) (List._∷_ (Row.lease (κs
-              .1 .1 .1 .0) (qs .1 .1 .1 .0)) (List._∷_ (Row.lease (κs .1 .1 .1 .1 .0) (qs .1 .1 .1 .1 .0)) (List._∷_ (Row.lease (κs .1 .1 .1 .1 .1 .0) (qs .1 .1 .1 .1 .1 .0)) (List._∷_ Row.off (List._∷_
-              Row.off (List._∷_ Row.off List.[]))))))));
-        }
-
-        abbrev G5 : Row.Cx
-        G5 = record {
-          locals = List._++_ t0 t1;
-          slots = List._∷_ (Row.lease (κs .0) (qs .0)) (List._∷_ (Row.lease (κs .1 .0) (qs .1 .0)) (List._∷_ (Row.lease (κs .1 .1 .0) (qs .1 .1 .0)) (List._∷_ (Row.lease (κs
-              .1 .1 .1 .0) (qs .1 .1 .1 .0)) (List._∷_ (Row.lease (κs .1 .1 .1 .1 .0) (qs .1 .1 .1 .1 .0)) (List._∷_ (Row.lease (κs .1 .1 .1 .1 .1 .0) (qs .1 .1 .1 .1 .1 .0)) (List._∷_ Row.off (List._∷_
-              Row.off (List._∷_ Row.off List.[]))))))));
-        }
-
-        abbrev G6 : Row.Cx
-        G6 = record {
-          locals = List._++_ t0 t1;
-          slots = List._∷_ (Row.lease (κs .0) (qs .0)) (List._∷_ (Row.lease (κs .1 .0) (qs .1 .0)) (List._∷_ (Row.lease (κs .1 .1 .0) (qs .1 .1 .0)) (List._∷_ (Row.lease (κs
-              .1 .1 .1 .0) (qs .1 .1 .1 .0)) (List._∷_ (Row.lease (κs .1 .1 .1 .1 .0) (qs .1 .1 .1 .1 .0)) (List._∷_ (Row.lease (κs .1 .1 .1 .1 .1 .0) (qs .1 .1 .1 .1 .1 .0)) (List._∷_ Row.off (List._∷_
-              Row.off (List._∷_ Row.off List.[]))))))));
-        }
-
-        abbrev G7 : Row.Cx
-        G7 = record {
-          locals = List._++_ t3 t1;
-          slots = List._∷_ (Row.lease (κs .0) (qs .0)) (List._∷_ (Row.lease (κs .1 .0) (qs .1 .0)) (List._∷_ (Row.lease (κs .1 .1 .0) (qs .1 .1 .0)) (List._∷_ (Row.lease (κs
-              .1 .1 .1 .0) (qs .1 .1 .1 .0)) (List._∷_ (Row.lease (κs .1 .1 .1 .1 .0) (qs .1 .1 .1 .1 .0)) (List._∷_ (Row.lease (κs .1 .1 .1 .1 .1 .0) (qs .1 .1 .1 .1 .1 .0)) (List._∷_ Row.off (List._∷_
-              Row.off (List._∷_ Row.off List.[]))))))));
-        }
-
-        abbrev G8 : Row.Cx
-        G8 = record {
-          locals = List._++_ t4 t1;
-          slots = List._∷_ (Row.lease (κs .0) (qs .0)) (List._∷_ (Row.lease (κs .1 .0) (qs .1 .0)) (List._∷_ (Row.lease (κs .1 .1 .0) (qs .1 .1 .0)) (List._∷_ (Row.lease (κs
-              .1 .1 .1 .0) (qs .1 .1 .1 .0)) (List._∷_ (Row.lease (κs .1 .1 .1 .1 .0) (qs .1 .1 .1 .1 .0)) (List._∷_ (Row.lease (κs .1 .1 .1 .1 .1 .0) (qs .1 .1 .1 .1 .1 .0)) (List._∷_ Row.off (List._∷_
-              Row.off (List._∷_ Row.off List.[]))))))));
-        }
-
-        abbrev G9 : Row.Cx
-        G9 = record {
-          locals = List._++_ t5 t1;
-          slots = List._∷_ (Row.lease (κs .0) (qs .0)) (List._∷_ (Row.lease (κs .1 .0) (qs .1 .0)) (List._∷_ (Row.lease (κs .1 .1 .0) (qs .1 .1 .0)) (List._∷_ (Row.lease (κs
-              .1 .1 .1 .0) (qs .1 .1 .1 .0)) (List._∷_ (Row.lease (κs .1 .1 .1 .1 .0) (qs .1 .1 .1 .1 .0)) (List._∷_ (Row.lease (κs .1 .1 .1 .1 .1 .0) (qs .1 .1 .1 .1 .1 .0)) (List._∷_ Row.off (List._∷_
-              Row.off (List._∷_ Row.off List.[]))))))));
-        }
-
-        abbrev G10 : Row.Cx
-        G10 = record {
-          locals = List._++_ t6 t1;
-          slots = List._∷_ (Row.lease (κs .0) (qs .0)) (List._∷_ (Row.lease (κs .1 .0) (qs .1 .0)) (List._∷_ (Row.lease (κs .1 .1 .0) (qs .1 .1 .0)) (List._∷_ (Row.lease (κs
-              .1 .1 .1 .0) (qs .1 .1 .1 .0)) (List._∷_ (Row.lease (κs .1 .1 .1 .1 .0) (qs .1 .1 .1 .1 .0)) (List._∷_ (Row.lease (κs .1 .1 .1 .1 .1 .0) (qs .1 .1 .1 .1 .1 .0)) (List._∷_ Row.off (List._∷_
-              Row.off (List._∷_ Row.off List.[]))))))));
-        }
-
-        abbrev G11 : Row.Cx
-        G11 = record {
-          locals = List._++_ t7 t1;
-          slots = List._∷_ (Row.lease (κs .0) (qs .0)) (List._∷_ (Row.lease (κs .1 .0) (qs .1 .0)) (List._∷_ (Row.lease (κs .1 .1 .0) (qs .1 .1 .0)) (List._∷_ (Row.lease (κs
-              .1 .1 .1 .0) (qs .1 .1 .1 .0)) (List._∷_ (Row.lease (κs .1 .1 .1 .1 .0) (qs .1 .1 .1 .1 .0)) (List._∷_ (Row.lease (κs .1 .1 .1 .1 .1 .0) (qs .1 .1 .1 .1 .1 .0)) (List._∷_ Row.off (List._∷_
-              Row.off (List._∷_ Row.off List.[]))))))));
-        }
-
-        abbrev G12 : Row.Cx
-        G12 = record {
-          locals = List._++_ t8 t1;
-          slots = List._∷_ (Row.lease (κs .0) (qs .0)) (List._∷_ (Row.lease (κs .1 .0) (qs .1 .0)) (List._∷_ (Row.lease (κs .1 .1 .0) (qs .1 .1 .0)) (List._∷_ (Row.lease (κs
-              .1 .1 .1 .0) (qs .1 .1 .1 .0)) (List._∷_ (Row.lease (κs .1 .1 .1 .1 .0) (qs .1 .1 .1 .1 .0)) (List._∷_ (Row.lease (κs .1 .1 .1 .1 .1 .0) (qs .1 .1 .1 .1 .1 .0)) (List._∷_ Row.off (List._∷_
-              Row.off (List._∷_ Row.off List.[]))))))));
-        }
-
-        abbrev G13 : Row.Cx
-        G13 = record {
-          locals = List._++_ t9 t1;
-          slots = List._∷_ (Row.lease (κs .0) (qs .0)) (List._∷_ (Row.lease (κs .1 .0) (qs .1 .0)) (List._∷_ (Row.lease (κs .1 .1 .0) (qs .1 .1 .0)) (List._∷_ (Row.lease (κs
-              .1 .1 .1 .0) (qs .1 .1 .1 .0)) (List._∷_ (Row.lease (κs .1 .1 .1 .1 .0) (qs .1 .1 .1 .1 .0)) (List._∷_ (Row.lease (κs .1 .1 .1 .1 .1 .0) (qs .1 .1 .1 .1 .1 .0)) (List._∷_ Row.off (List._∷_
-              Row.off (List._∷_ Row.off List.[]))))))));
-        }
-
-        abbrev G14 : Row.Cx
-        G14 = record {
-          locals = List._++_ t10 t1;
-          slots = List._∷_ (Row.lease (κs .0) (qs .0)) (List._∷_ (Row.lease (κs .1 .0) (qs .1 .0)) (List._∷_ (Row.lease (κs .1 .1 .0) (qs .1 .1 .0)) (List._∷_ (Row.lease (κs
-              .1 .1 .1 .0) (qs .1 .1 .1 .0)) (List._∷_ (Row.lease (κs .1 .1 .1 .1 .0) (qs .1 .1 .1 .1 .0)) (List._∷_ (Row.lease (κs .1 .1 .1 .1 .1 .0) (qs .1 .1 .1 .1 .1 .0)) (List._∷_ Row.off (List._∷_
-              Row.off (List._∷_ Row.off List.[]))))))));
-        }
-
-        abbrev G15 : Row.Cx
-        G15 = record {
-          locals = List._++_ t11 t1;
-          slots = List._∷_ (Row.lease (κs .0) (qs .0)) (List._∷_ (Row.lease (κs .1 .0) (qs .1 .0)) (List._∷_ (Row.lease (κs .1 .1 .0) (qs .1 .1 .0)) (List._∷_ (Row.lease (κs
-              .1 .1 .1 .0) (qs .1 .1 .1 .0)) (List._∷_ (Row.lease (κs .1 .1 .1 .1 .0) (qs .1 .1 .1 .1 .0)) (List._∷_ (Row.lease (κs .1 .1 .1 .1 .1 .0) (qs .1 .1 .1 .1 .1 .0)) (List._∷_ Row.off (List._∷_
-              Row.off (List._∷_ Row.off List.[]))))))));
-        }
+        g23 = (0, v15) ∷ (1, v1) ∷ (2, v2) ∷ (3, v3) ∷ (4, v13) ∷ (5, v10) ∷ (6, h2) ∷ (7, v14) ∷ (8, v0) ∷ (9, v0) ∷ (10, v0) ∷ (11, v0) ∷ (12, v4) ∷ (13, v11) ∷ (14, v5) ∷ (15, v9) ∷ []
 
         abbrev G16 : Row.Cx
-        G16 = record {
-          locals = List._++_ t11 t1;
-          slots = List._∷_ (Row.lease (κs .0) (qs .0)) (List._∷_ (Row.lease (κs .1 .0) (qs .1 .0)) (List._∷_ (Row.lease (κs .1 .1 .0) (qs .1 .1 .0)) (List._∷_ (Row.lease (κs
-              .1 .1 .1 .0) (qs .1 .1 .1 .0)) (List._∷_ (Row.lease (κs .1 .1 .1 .1 .0) (qs .1 .1 .1 .1 .0)) (List._∷_ (Row.lease (κs .1 .1 .1 .1 .1 .0) (qs .1 .1 .1 .1 .1 .0)) (List._∷_ Row.alive (List._∷_
-              Row.off (List._∷_ Row.off List.[]))))))));
-        }
+        G16 = record { locals = List._++_ t11 t1; slots = k0 ∷ k1 ∷ k2 ∷ k3 ∷ k4 ∷ k5 ∷ Row.alive ∷ Row.off ∷ Row.off ∷ [] }
 
         abbrev G17 : Row.Cx
-        G17 = record {
-          locals = List._++_ g12 t1;
-          slots = List._∷_ (Row.lease (κs .0) (qs .0)) (List._∷_ (Row.lease (κs .1 .0) (qs .1 .0)) (List._∷_ (Row.lease (κs .1 .1 .0) (qs .1 .1 .0)) (List._∷_ Row.off
-              (List._∷_ (Row.lease (κs .1 .1 .1 .1 .0) (qs .1 .1 .1 .1 .0)) (List._∷_ (Row.lease (κs .1 .1 .1 .1 .1 .0) (qs .1 .1 .1 .1 .1 .0)) (List._∷_ Row.alive (List._∷_ Row.off (List._∷_ Row.off
-              List.[]))))))));
-        }
+        G17 = record { locals = List._++_ g12 t1; slots = l2 }
 
         abbrev G18 : Row.Cx
-        G18 = record {
-          locals = List._++_ g13 t1;
-          slots = List._∷_ (Row.lease (κs .0) (qs .0)) (List._∷_ (Row.lease (κs .1 .0) (qs .1 .0)) (List._∷_ (Row.lease (κs .1 .1 .0) (qs .1 .1 .0)) (List._∷_ Row.off
-              (List._∷_ (Row.lease (κs .1 .1 .1 .1 .0) (qs .1 .1 .1 .1 .0)) (List._∷_ (Row.lease (κs .1 .1 .1 .1 .1 .0) (qs .1 .1 .1 .1 .1 .0)) (List._∷_ Row.alive (List._∷_ Row.off (List._∷_ Row.off
-              List.[]))))))));
-        }
+        G18 = record { locals = List._++_ g13 t1; slots = l2 }
 
         abbrev G19 : Row.Cx
-        G19 = record {
-          locals = List._++_ g13 t1;
-          slots = List._∷_ (Row.lease (κs .0) (qs .0)) (List._∷_ (Row.lease (κs .1 .0) (qs .1 .0)) (List._∷_ (Row.lease (κs .1 .1 .0) (qs .1 .1 .0)) (List._∷_ Row.off
-              (List._∷_ (Row.lease (κs .1 .1 .1 .1 .0) (qs .1 .1 .1 .1 .0)) (List._∷_ (Row.lease (κs .1 .1 .1 .1 .1 .0) (qs .1 .1 .1 .1 .1 .0)) (List._∷_ Row.alive (List._∷_ Row.alive (List._∷_ Row.off
-              List.[]))))))));
-        }
+        G19 = record { locals = List._++_ g13 t1; slots = k0 ∷ k1 ∷ k2 ∷ Row.off ∷ k4 ∷ k5 ∷ Row.alive ∷ Row.alive ∷ Row.off ∷ [] }
 
         abbrev G20 : Row.Cx
-        G20 = record {
-          locals = List._++_ g14 t1;
-          slots = List._∷_ (Row.lease (κs .0) (qs .0)) (List._∷_ (Row.lease (κs .1 .0) (qs .1 .0)) (List._∷_ (Row.lease (κs .1 .1 .0) (qs .1 .1 .0)) (List._∷_ Row.off
-              (List._∷_ Row.off (List._∷_ (Row.lease (κs .1 .1 .1 .1 .1 .0) (qs .1 .1 .1 .1 .1 .0)) (List._∷_ Row.alive (List._∷_ Row.alive (List._∷_ Row.off List.[]))))))));
-        }
+        G20 = record { locals = List._++_ g14 t1; slots = l1 }
 
         abbrev G21 : Row.Cx
-        G21 = record {
-          locals = List._++_ g15 t1;
-          slots = List._∷_ (Row.lease (κs .0) (qs .0)) (List._∷_ (Row.lease (κs .1 .0) (qs .1 .0)) (List._∷_ (Row.lease (κs .1 .1 .0) (qs .1 .1 .0)) (List._∷_ Row.off
-              (List._∷_ Row.off (List._∷_ (Row.lease (κs .1 .1 .1 .1 .1 .0) (qs .1 .1 .1 .1 .1 .0)) (List._∷_ Row.alive (List._∷_ Row.alive (List._∷_ Row.off List.[]))))))));
-        }
+        G21 = record { locals = List._++_ g15 t1; slots = l1 }
 
         abbrev G22 : Row.Cx
-        G22 = record {
-          locals = List._++_ g15 t1;
-          slots = List._∷_ (Row.lease (κs .0) (qs .0)) (List._∷_ (Row.lease (κs .1 .0) (qs .1 .0)) (List._∷_ (Row.lease (κs .1 .1 .0) (qs .1 .1 .0)) (List._∷_ Row.off
-              (List._∷_ Row.off (List._∷_ (Row.lease (κs .1 .1 .1 .1 .1 .0) (qs .1 .1 .1 .1 .1 .0)) (List._∷_ Row.alive (List._∷_ Row.alive (List._∷_ Row.alive List.[]))))))));
-        }
+        G22 = record { locals = List._++_ g15 t1; slots = k0 ∷ k1 ∷ k2 ∷ Row.off ∷ Row.off ∷ k5 ∷ Row.alive ∷ Row.alive ∷ Row.alive ∷ [] }
 
         abbrev G23 : Row.Cx
-        G23 = record {
-          locals = List._++_ g16 t17;
-          slots = List._∷_ (Row.lease (κs .0) (qs .0)) (List._∷_ (Row.lease (κs .1 .0) (qs .1 .0)) (List._∷_ (Row.lease (κs .1 .1 .0) (qs .1 .1 .0)) (List._∷_ Row.off
-              (List._∷_ Row.off (List._∷_ Row.off (List._∷_ Row.alive (List._∷_ Row.alive (List._∷_ Row.alive List.[]))))))));
-        }
+        G23 = record { locals = List._++_ g16 t17; slots = l0 }
 
         abbrev G24 : Row.Cx
-        G24 = record {
-          locals = List._++_ g16 t18;
-          slots = List._∷_ (Row.lease (κs .0) (qs .0)) (List._∷_ (Row.lease (κs .1 .0) (qs .1 .0)) (List._∷_ (Row.lease (κs .1 .1 .0) (qs .1 .1 .0)) (List._∷_ Row.off
-              (List._∷_ Row.off (List._∷_ Row.off (List._∷_ Row.alive (List._∷_ Row.alive (List._∷_ Row.alive List.[]))))))));
-        }
+        G24 = record { locals = List._++_ g16 t18; slots = l0 }
 
         abbrev G25 : Row.Cx
-        G25 = record {
-          locals = List._++_ g19 t20;
-          slots = List._∷_ (Row.lease (κs .0) (qs .0)) (List._∷_ (Row.lease (κs .1 .0) (qs .1 .0)) (List._∷_ (Row.lease (κs .1 .1 .0) (qs .1 .1 .0)) (List._∷_ Row.off
-              (List._∷_ Row.off (List._∷_ Row.off (List._∷_ Row.alive (List._∷_ Row.alive (List._∷_ Row.alive List.[]))))))));
-        }
+        G25 = record { locals = List._++_ g19 t20; slots = l0 }
 
         abbrev G26 : Row.Cx
-        G26 = record {
-          locals = List._++_ g21 t20;
-          slots = List._∷_ (Row.lease (κs .0) (qs .0)) (List._∷_ (Row.lease (κs .1 .0) (qs .1 .0)) (List._∷_ (Row.lease (κs .1 .1 .0) (qs .1 .1 .0)) (List._∷_ Row.off
-              (List._∷_ Row.off (List._∷_ Row.off (List._∷_ Row.alive (List._∷_ Row.alive (List._∷_ Row.alive List.[]))))))));
-        }
+        G26 = record { locals = List._++_ g21 t20; slots = l0 }
 
         abbrev G27 : Row.Cx
-        G27 = record {
-          locals = List._++_ g21 t20;
-          slots = List._∷_ (Row.lease (κs .0) (qs .0)) (List._∷_ (Row.lease (κs .1 .0) (qs .1 .0)) (List._∷_ (Row.lease (κs .1 .1 .0) (qs .1 .1 .0)) (List._∷_ Row.off
-              (List._∷_ Row.off (List._∷_ Row.off (List._∷_ Row.dead (List._∷_ Row.alive (List._∷_ Row.alive List.[]))))))));
-        }
+        G27 = record { locals = List._++_ g21 t20; slots = k0 ∷ k1 ∷ k2 ∷ Row.off ∷ Row.off ∷ Row.off ∷ Row.dead ∷ Row.alive ∷ Row.alive ∷ [] }
 
         abbrev G28 : Row.Cx
-        G28 = record {
-          locals = List._++_ g22 t20;
-          slots = List._∷_ (Row.lease (κs .0) (qs .0)) (List._∷_ (Row.lease (κs .1 .0) (qs .1 .0)) (List._∷_ (Row.lease (κs .1 .1 .0) (qs .1 .1 .0)) (List._∷_ (Row.lease
-              (κs .1 .1 .1 .0) (qs .1 .1 .1 .0)) (List._∷_ Row.off (List._∷_ Row.off (List._∷_ Row.dead (List._∷_ Row.alive (List._∷_ Row.alive List.[]))))))));
-        }
-
-        abbrev G29 : Row.Cx
-        G29 = record {
-          locals = List._++_ g22 t20;
-          slots = List._∷_ (Row.lease (κs .0) (qs .0)) (List._∷_ (Row.lease (κs .1 .0) (qs .1 .0)) (List._∷_ (Row.lease (κs .1 .1 .0) (qs .1 .1 .0)) (List._∷_ (Row.lease
-              (κs .1 .1 .1 .0) (qs .1 .1 .1 .0)) (List._∷_ Row.off (List._∷_ Row.off (List._∷_ Row.dead (List._∷_ Row.alive (List._∷_ Row.alive List.[]))))))));
-        }
+        G28 = record { locals = List._++_ g22 t20; slots = l3 }
 
         abbrev G30 : Row.Cx
-        G30 = record {
-          locals = List._++_ g22 t20;
-          slots = List._∷_ (Row.lease (κs .0) (qs .0)) (List._∷_ (Row.lease (κs .1 .0) (qs .1 .0)) (List._∷_ (Row.lease (κs .1 .1 .0) (qs .1 .1 .0)) (List._∷_ (Row.lease
-              (κs .1 .1 .1 .0) (qs .1 .1 .1 .0)) (List._∷_ Row.off (List._∷_ Row.off (List._∷_ Row.off (List._∷_ Row.alive (List._∷_ Row.alive List.[]))))))));
-        }
+        G30 = record { locals = List._++_ g22 t20; slots = k0 ∷ k1 ∷ k2 ∷ k3 ∷ Row.off ∷ Row.off ∷ Row.off ∷ Row.alive ∷ Row.alive ∷ [] }
 
         abbrev G31 : Row.Cx
-        G31 = record {
-          locals = List._++_ g22 t20;
-          slots = List._∷_ (Row.lease (κs .0) (qs .0)) (List._∷_ (Row.lease (κs .1 .0) (qs .1 .0)) (List._∷_ (Row.lease (κs .1 .1 .0) (qs .1 .1 .0)) (List._∷_ (Row.lease
-              (κs .1 .1 .1 .0) (qs .1 .1 .1 .0)) (List._∷_ Row.off (List._∷_ Row.off (List._∷_ Row.off (List._∷_ Row.dead (List._∷_ Row.alive List.[]))))))));
-        }
+        G31 = record { locals = List._++_ g22 t20; slots = k0 ∷ k1 ∷ k2 ∷ k3 ∷ Row.off ∷ Row.off ∷ Row.off ∷ Row.dead ∷ Row.alive ∷ [] }
 
         abbrev G32 : Row.Cx
-        G32 = record {
-          locals = List._++_ g23 t20;
-          slots = List._∷_ (Row.lease (κs .0) (qs .0)) (List._∷_ (Row.lease (κs .1 .0) (qs .1 .0)) (List._∷_ (Row.lease (κs .1 .1 .0) (qs .1 .1 .0)) (List._∷_ (Row.lease
-              (κs .1 .1 .1 .0) (qs .1 .1 .1 .0)) (List._∷_ (Row.lease (κs .1 .1 .1 .1 .0) (qs .1 .1 .1 .1 .0)) (List._∷_ Row.off (List._∷_ Row.off (List._∷_ Row.dead (List._∷_ Row.alive List.[]))))))));
-        }
-
-        abbrev G33 : Row.Cx
-        G33 = record {
-          locals = List._++_ g23 t20;
-          slots = List._∷_ (Row.lease (κs .0) (qs .0)) (List._∷_ (Row.lease (κs .1 .0) (qs .1 .0)) (List._∷_ (Row.lease (κs .1 .1 .0) (qs .1 .1 .0)) (List._∷_ (Row.lease
-              (κs .1 .1 .1 .0) (qs .1 .1 .1 .0)) (List._∷_ (Row.lease (κs .1 .1 .1 .1 .0) (qs .1 .1 .1 .1 .0)) (List._∷_ Row.off (List._∷_ Row.off (List._∷_ Row.dead (List._∷_ Row.alive List.[]))))))));
-        }
+        G32 = record { locals = List._++_ g23 t20; slots = l4 }
 
         abbrev G34 : Row.Cx
-        G34 = record {
-          locals = List._++_ g23 t20;
-          slots = List._∷_ (Row.lease (κs .0) (qs .0)) (List._∷_ (Row.lease (κs .1 .0) (qs .1 .0)) (List._∷_ (Row.lease (κs .1 .1 .0) (qs .1 .1 .0)) (List._∷_ (Row.lease
-              (κs .1 .1 .1 .0) (qs .1 .1 .1 .0)) (List._∷_ (Row.lease (κs .1 .1 .1 .1 .0) (qs .1 .1 .1 .1 .0)) (List._∷_ Row.off (List._∷_ Row.off (List._∷_ Row.off (List._∷_ Row.alive List.[]))))))));
-        }
+        G34 = record { locals = List._++_ g23 t20; slots = k0 ∷ k1 ∷ k2 ∷ k3 ∷ k4 ∷ Row.off ∷ Row.off ∷ Row.off ∷ Row.alive ∷ [] }
 
         abbrev G35 : Row.Cx
-        G35 = record {
-          locals = List._++_ g23 t20;
-          slots = List._∷_ (Row.lease (κs .0) (qs .0)) (List._∷_ (Row.lease (κs .1 .0) (qs .1 .0)) (List._∷_ (Row.lease (κs .1 .1 .0) (qs .1 .1 .0)) (List._∷_ (Row.lease
-              (κs .1 .1 .1 .0) (qs .1 .1 .1 .0)) (List._∷_ (Row.lease (κs .1 .1 .1 .1 .0) (qs .1 .1 .1 .1 .0)) (List._∷_ Row.off (List._∷_ Row.off (List._∷_ Row.off (List._∷_ Row.dead List.[]))))))));
-        }
+        G35 = record { locals = List._++_ g23 t20; slots = k0 ∷ k1 ∷ k2 ∷ k3 ∷ k4 ∷ Row.off ∷ Row.off ∷ Row.off ∷ Row.dead ∷ [] }
 
         abbrev G36 : Row.Cx
-        G36 = record {
-          locals = List._++_ t2 t1;
-          slots = List._∷_ (Row.lease (κs .0) (qs .0)) (List._∷_ (Row.lease (κs .1 .0) (qs .1 .0)) (List._∷_ (Row.lease (κs .1 .1 .0) (qs .1 .1 .0)) (List._∷_ (Row.lease (κs
-              .1 .1 .1 .0) (qs .1 .1 .1 .0)) (List._∷_ (Row.lease (κs .1 .1 .1 .1 .0) (qs .1 .1 .1 .1 .0)) (List._∷_ (Row.lease (κs .1 .1 .1 .1 .1 .0) (qs .1 .1 .1 .1 .1 .0)) (List._∷_ Row.off (List._∷_
-              Row.off (List._∷_ Row.dead List.[]))))))));
-        }
-
-        abbrev G37 : Row.Cx
-        G37 = record {
-          locals = List._++_ t2 t1;
-          slots = List._∷_ (Row.lease (κs .0) (qs .0)) (List._∷_ (Row.lease (κs .1 .0) (qs .1 .0)) (List._∷_ (Row.lease (κs .1 .1 .0) (qs .1 .1 .0)) (List._∷_ (Row.lease (κs
-              .1 .1 .1 .0) (qs .1 .1 .1 .0)) (List._∷_ (Row.lease (κs .1 .1 .1 .1 .0) (qs .1 .1 .1 .1 .0)) (List._∷_ (Row.lease (κs .1 .1 .1 .1 .1 .0) (qs .1 .1 .1 .1 .1 .0)) (List._∷_ Row.off (List._∷_
-              Row.off (List._∷_ Row.off List.[]))))))));
-        }
+        G36 = record { locals = List._++_ t2 t1; slots = k0 ∷ k1 ∷ k2 ∷ k3 ∷ k4 ∷ k5 ∷ Row.off ∷ Row.off ∷ Row.dead ∷ [] }
 
         abbrev Δ0 : Typed.Outs
-        Δ0 = record { next = Option.none; exits = List.[]; returns = Option.some G1 }
+        Δ0 = record { next = Option.none; exits = []; returns = Option.some (on T1 l5) }
 
         module _ {M : Type 1} (𝓤 : URA.URA M) (H : Wp.Heap 𝓤) (A : Atoms.Atoms 𝓤) (W : Kit.Given 𝓤 H A) (𝓣 : Wp.Tables 𝓤 H) (known : Knowns 𝓤 H A W 𝓣) (bs : List.List Nat.ℕ) (bd : Lifetimes.AllOutlive
             6 (Kinds.osR r) κs) where
           abbrev E : Wp.Env 𝓤 H
-          E = Frame.EnvOf 𝓤 H (List._∷_ (Kinds.tyR r) (Enter.tysP ps xs)) bs
+          E = Frame.EnvOf 𝓤 H ((Kinds.tyR r) ∷ (Enter.tysP ps xs)) bs
 
-          d0 : Typed.Typed 𝓤 H A 𝓣 E G37 b12 Δ0 at0
+          d0 : Typed.Typed 𝓤 H A 𝓣 E (on T1 l5) b12 Δ0 at0
           d0 = Typed.t-return 𝓤 H A W 𝓣 E Δ0 tt
 
-          d1 : Typed.Typed 𝓤 H A 𝓣 E G36 b12 Δ0 at1
-          d1 = Typed.g-pre 𝓤 H A W 𝓣 E G36 G37 b12 Δ0 (λ Ψ. Ψ) at0 (Lifetime.g-forget 𝓤 H A W E G36 8 Row.dead Path'.refl) d0
+          d1 : Typed.Typed 𝓤 H A 𝓣 E G36 b12 Δ0 at0
+          d1 = Typed.g-pre 𝓤 H A W 𝓣 E G36 (on T1 l5) b12 Δ0 (λ Ψ. Ψ) at0 (Lifetime.g-forget 𝓤 H A W E G36 8 Row.dead Path'.refl) d0
 
           d2 : Typed.Typed 𝓤 H A 𝓣 E G35 b12 Δ0 at2
-          d2 = Typed.g-pre 𝓤 H A W 𝓣 E G35 G36 b12 Δ0 (Typed.both s34) at1 (Relend.g-back-sl 𝓤 H A W E (Element.type) G35 17 6 5 8 (Syntax.tyRef (Syntax.named 5) Syntax.mut Element.behind)
-              (Syntax.tyRef Syntax.erased Syntax.mut Element.behind) (Row.lease (κs .1 .1 .1 .1 .1 .0) (qs .1 .1 .1 .1 .1 .0)) (λ x. x) (λ x. x) (Reads.as-is 𝓤 H A (Mut.msleft (Element.type) (Syntax.tyRef
-              Syntax.erased Syntax.mut Element.behind))) (Reads.as-is 𝓤 H A (Relend.mslice-owed (Element.type) (Syntax.tyRef (Syntax.named 5) Syntax.mut Element.behind) 5 8 (Row.lease (κs .1 .1 .1 .1 .1
-              .0) (qs .1 .1 .1 .1 .1 .0)))) Path'.refl Path'.refl) d1
+          d2 = Typed.g-pre 𝓤 H A W 𝓣 E G35 G36 b12 Δ0 (Typed.both s34) at0 (Relend.g-back-sl 𝓤 H A W E (Element.type) G35 17 6 5 8 y6 y7 k5 (λ x. x) (λ x. x) (Reads.as-is 𝓤 H A (Mut.msleft
+              (Element.type) y7)) (Reads.as-is 𝓤 H A (Relend.mslice-owed (Element.type) y6 5 8 k5)) Path'.refl Path'.refl) d1
 
-          d3 : Typed.Typed 𝓤 H A 𝓣 E G34 b12 Δ0 at3
+          d3 : Typed.Typed 𝓤 H A 𝓣 E G34 b12 Δ0 at2
           d3 = Typed.g-pre 𝓤 H A W 𝓣 E G34 G35 b12 Δ0 (λ Ψ. Ψ) at2 (Lifetime.g-end 𝓤 H A W E G34 8 Path'.refl) d2
 
-          d4 : Typed.Typed 𝓤 H A 𝓣 E G33 b12 Δ0 at4
-          d4 = Typed.g-pre 𝓤 H A W 𝓣 E G33 G34 b12 Δ0 (λ Ψ. Ψ) at3 (Lifetime.g-forget 𝓤 H A W E G33 7 Row.dead Path'.refl) d3
+          d4 : Typed.Typed 𝓤 H A 𝓣 E G32 b12 Δ0 at2
+          d4 = Typed.g-pre 𝓤 H A W 𝓣 E G32 G34 b12 Δ0 (λ Ψ. Ψ) at2 (Lifetime.g-forget 𝓤 H A W E G32 7 Row.dead Path'.refl) d3
 
           d5 : Typed.Typed 𝓤 H A 𝓣 E G32 b12 Δ0 at5
-          d5 = Typed.g-pre 𝓤 H A W 𝓣 E G32 G33 b12 Δ0 (Typed.give s31) at4 (Know.g-sl-known 𝓤 H A W (Referent.fInt Syntax.w16) E G32 5 4 (Syntax.tyRef (Syntax.named 4) Syntax.mut (Syntax.tyInt
-              Syntax.w16)) (Row.lease (κs .1 .1 .1 .1 .0) (qs .1 .1 .1 .1 .0)) 0 (λ x. x) record { fits = Dec'.lit< tt } (Reads.as-is 𝓤 H A (Mut.mslice (Referent.rtF (Referent.fInt Syntax.w16))
-              (Syntax.tyRef (Syntax.named 4) Syntax.mut (Syntax.tyInt Syntax.w16)) 4)) Path'.refl tt) d4
+          d5 = Typed.g-pre 𝓤 H A W 𝓣 E G32 G32 b12 Δ0 (Typed.give s31) at2 (Know.g-sl-known 𝓤 H A W (Referent.fInt Syntax.w16) E G32 5 4 y5 k4 0 (λ x. x) record { fits = Dec'.lit< tt } (Reads.as-is 𝓤
+              H A (Mut.mslice n16 y5 4)) Path'.refl tt) d4
 
           d6 : Typed.Typed 𝓤 H A 𝓣 E G31 b12 Δ0 at6
-          d6 = Typed.g-pre 𝓤 H A W 𝓣 E G31 G32 b12 Δ0 (Typed.both s30) at5 (Relend.g-back-sl 𝓤 H A W E (Referent.rtF (Referent.fInt Syntax.w16)) G31 15 5 4 7 (Syntax.tyRef (Syntax.named 4) Syntax.mut
-              (Syntax.tyInt Syntax.w16)) (Syntax.tyRef Syntax.erased Syntax.mut (Syntax.tyInt Syntax.w16)) (Row.lease (κs .1 .1 .1 .1 .0) (qs .1 .1 .1 .1 .0)) (λ x. x) (λ x. x) (Reads.as-is 𝓤 H A
-              (Mut.msleft (Referent.rtF (Referent.fInt Syntax.w16)) (Syntax.tyRef Syntax.erased Syntax.mut (Syntax.tyInt Syntax.w16)))) (Reads.as-is 𝓤 H A (Relend.mslice-owed (Referent.rtF (Referent.fInt
-              Syntax.w16)) (Syntax.tyRef (Syntax.named 4) Syntax.mut (Syntax.tyInt Syntax.w16)) 4 7 (Row.lease (κs .1 .1 .1 .1 .0) (qs .1 .1 .1 .1 .0)))) Path'.refl Path'.refl) d5
+          d6 = Typed.g-pre 𝓤 H A W 𝓣 E G31 G32 b12 Δ0 (Typed.both s30) at5 (Relend.g-back-sl 𝓤 H A W E n16 G31 15 5 4 7 y5 y8 k4 (λ x. x) (λ x. x) (Reads.as-is 𝓤 H A (Mut.msleft n16 y8)) (Reads.as-is
+              𝓤 H A (Relend.mslice-owed n16 y5 4 7 k4)) Path'.refl Path'.refl) d5
 
-          d7 : Typed.Typed 𝓤 H A 𝓣 E G30 b12 Δ0 at7
+          d7 : Typed.Typed 𝓤 H A 𝓣 E G30 b12 Δ0 at6
           d7 = Typed.g-pre 𝓤 H A W 𝓣 E G30 G31 b12 Δ0 (λ Ψ. Ψ) at6 (Lifetime.g-end 𝓤 H A W E G30 7 Path'.refl) d6
 
-          d8 : Typed.Typed 𝓤 H A 𝓣 E G29 b12 Δ0 at8
-          d8 = Typed.g-pre 𝓤 H A W 𝓣 E G29 G30 b12 Δ0 (λ Ψ. Ψ) at7 (Lifetime.g-forget 𝓤 H A W E G29 6 Row.dead Path'.refl) d7
+          d8 : Typed.Typed 𝓤 H A 𝓣 E G28 b12 Δ0 at6
+          d8 = Typed.g-pre 𝓤 H A W 𝓣 E G28 G30 b12 Δ0 (λ Ψ. Ψ) at6 (Lifetime.g-forget 𝓤 H A W E G28 6 Row.dead Path'.refl) d7
 
           d9 : Typed.Typed 𝓤 H A 𝓣 E G28 b12 Δ0 at9
-          d9 = Typed.g-pre 𝓤 H A W 𝓣 E G28 G29 b12 Δ0 (Typed.give s27) at8 (Know.g-sl-known 𝓤 H A W (Referent.fInt Syntax.w8) E G28 4 3 (Syntax.tyRef (Syntax.named 3) Syntax.mut (Syntax.tyInt
-              Syntax.w8)) (Row.lease (κs .1 .1 .1 .0) (qs .1 .1 .1 .0)) 0 (λ x. x) record { fits = Dec'.lit< tt } (Reads.as-is 𝓤 H A (Mut.mslice (Referent.rtF (Referent.fInt Syntax.w8)) (Syntax.tyRef
-              (Syntax.named 3) Syntax.mut (Syntax.tyInt Syntax.w8)) 3)) Path'.refl tt) d8
+          d9 = Typed.g-pre 𝓤 H A W 𝓣 E G28 G28 b12 Δ0 (Typed.give s27) at6 (Know.g-sl-known 𝓤 H A W (Referent.fInt Syntax.w8) E G28 4 3 y4 k3 0 (λ x. x) record { fits = Dec'.lit< tt } (Reads.as-is 𝓤 H
+              A (Mut.mslice n8 y4 3)) Path'.refl tt) d8
 
           d10 : Typed.Typed 𝓤 H A 𝓣 E G27 b12 Δ0 at10
-          d10 = Typed.g-pre 𝓤 H A W 𝓣 E G27 G28 b12 Δ0 (Typed.both s26) at9 (Relend.g-back-sl 𝓤 H A W E (Referent.rtF (Referent.fInt Syntax.w8)) G27 13 4 3 6 (Syntax.tyRef (Syntax.named 3) Syntax.mut
-              (Syntax.tyInt Syntax.w8)) (Syntax.tyRef Syntax.erased Syntax.mut (Syntax.tyInt Syntax.w8)) (Row.lease (κs .1 .1 .1 .0) (qs .1 .1 .1 .0)) (λ x. x) (λ x. x) (Reads.as-is 𝓤 H A (Mut.msleft
-              (Referent.rtF (Referent.fInt Syntax.w8)) (Syntax.tyRef Syntax.erased Syntax.mut (Syntax.tyInt Syntax.w8)))) (Reads.as-is 𝓤 H A (Relend.mslice-owed (Referent.rtF (Referent.fInt Syntax.w8))
-              (Syntax.tyRef (Syntax.named 3) Syntax.mut (Syntax.tyInt Syntax.w8)) 3 6 (Row.lease (κs .1 .1 .1 .0) (qs .1 .1 .1 .0)))) Path'.refl Path'.refl) d9
+          d10 = Typed.g-pre 𝓤 H A W 𝓣 E G27 G28 b12 Δ0 (Typed.both s26) at9 (Relend.g-back-sl 𝓤 H A W E n8 G27 13 4 3 6 y4 y9 k3 (λ x. x) (λ x. x) (Reads.as-is 𝓤 H A (Mut.msleft n8 y9)) (Reads.as-is 𝓤
+              H A (Relend.mslice-owed n8 y4 3 6 k3)) Path'.refl Path'.refl) d9
 
-          d11 : Typed.Typed 𝓤 H A 𝓣 E G26 b12 Δ0 at11
+          d11 : Typed.Typed 𝓤 H A 𝓣 E G26 b12 Δ0 at10
           d11 = Typed.g-pre 𝓤 H A W 𝓣 E G26 G27 b12 Δ0 (λ Ψ. Ψ) at10 (Lifetime.g-end 𝓤 H A W E G26 6 Path'.refl) d10
 
           d12 : Typed.Typed 𝓤 H A 𝓣 E G25 b12 Δ0 at12
-          d12 = Typed.g-pre 𝓤 H A W 𝓣 E G25 G26 b12 Δ0 (Typed.pass T25 T26 s24) at11 (Scalar.g-room 𝓤 H A W E G25 7 (Syntax.tyEnum (List._∷_ 115 (List._∷_ 116 (List._∷_ 114 (List._∷_ 101 (List._∷_ 97
-              (List._∷_ 109 (List._∷_ 58 (List._∷_ 58 (List._∷_ 80 (List._∷_ 97 (List._∷_ 114 (List._∷_ 115 (List._∷_ 101 (List._∷_ 100 List.[])))))))))))))) (Syntax.ttcons (Syntax.tcons y0 Syntax.tnil)
-              (Syntax.ttcons (Syntax.tcons (Syntax.tyEnum (List._∷_ 115 (List._∷_ 116 (List._∷_ 114 (List._∷_ 101 (List._∷_ 97 (List._∷_ 109 (List._∷_ 58 (List._∷_ 58 (List._∷_ 82 (List._∷_ 101 (List._∷_
-              102 (List._∷_ 117 (List._∷_ 115 (List._∷_ 97 (List._∷_ 108 List.[]))))))))))))))) (Syntax.ttcons Syntax.tnil (Syntax.ttcons Syntax.tnil (Syntax.ttcons Syntax.tnil (Syntax.ttcons
-              (Syntax.tcons (Syntax.tyInt Syntax.w64) Syntax.tnil) (Syntax.ttcons Syntax.tnil (Syntax.ttcons Syntax.tnil (Syntax.ttcons Syntax.tnil (Syntax.ttcons Syntax.tnil (Syntax.ttcons Syntax.tnil
-              (Syntax.ttcons Syntax.tnil (Syntax.ttcons (Syntax.tcons (Syntax.tyInt Syntax.w64) Syntax.tnil) (Syntax.ttcons (Syntax.tcons (Syntax.tyInt Syntax.w64) Syntax.tnil) (Syntax.ttcons Syntax.tnil
-              (Syntax.ttcons (Syntax.tcons (Syntax.tyInt Syntax.w64) (Syntax.tcons (Syntax.tyInt Syntax.w64) Syntax.tnil)) (Syntax.ttcons (Syntax.tcons (Syntax.tyInt Syntax.w64) Syntax.tnil)
-              (Syntax.ttcons Syntax.tnil (Syntax.ttcons Syntax.tnil (Syntax.ttcons (Syntax.tcons (Syntax.tyInt Syntax.w64) Syntax.tnil) (Syntax.ttcons (Syntax.tcons (Syntax.tyInt Syntax.w64) Syntax.tnil)
-              (Syntax.ttcons (Syntax.tcons (Syntax.tyInt Syntax.w64) Syntax.tnil) (Syntax.ttcons Syntax.tnil (Syntax.ttcons Syntax.tnil (Syntax.ttcons (Syntax.tcons (Syntax.tyInt Syntax.w64) (Syntax.tcons
-              (Syntax.tyInt Syntax.w64) Syntax.tnil)) (Syntax.ttcons Syntax.tnil Syntax.ttnil))))))))))))))))))))))))) Syntax.tnil) Syntax.ttnil))) (Local.room-whole 𝓤 H A W (Declared.row Parsed.the-type)
-              (Syntax.tyEnum (List._∷_ 115 (List._∷_ 116 (List._∷_ 114 (List._∷_ 101 (List._∷_ 97 (List._∷_ 109 (List._∷_ 58 (List._∷_ 58 (List._∷_ 80 (List._∷_ 97 (List._∷_ 114 (List._∷_ 115 (List._∷_
-              101 (List._∷_ 100 List.[])))))))))))))) (Syntax.ttcons (Syntax.tcons y0 Syntax.tnil) (Syntax.ttcons (Syntax.tcons (Syntax.tyEnum (List._∷_ 115 (List._∷_ 116 (List._∷_ 114 (List._∷_ 101
-              (List._∷_ 97 (List._∷_ 109 (List._∷_ 58 (List._∷_ 58 (List._∷_ 82 (List._∷_ 101 (List._∷_ 102 (List._∷_ 117 (List._∷_ 115 (List._∷_ 97 (List._∷_ 108 List.[]))))))))))))))) (Syntax.ttcons
-              Syntax.tnil (Syntax.ttcons Syntax.tnil (Syntax.ttcons Syntax.tnil (Syntax.ttcons (Syntax.tcons (Syntax.tyInt Syntax.w64) Syntax.tnil) (Syntax.ttcons Syntax.tnil (Syntax.ttcons Syntax.tnil
-              (Syntax.ttcons Syntax.tnil (Syntax.ttcons Syntax.tnil (Syntax.ttcons Syntax.tnil (Syntax.ttcons Syntax.tnil (Syntax.ttcons (Syntax.tcons (Syntax.tyInt Syntax.w64) Syntax.tnil) (Syntax.ttcons
-              (Syntax.tcons (Syntax.tyInt Syntax.w64) Syntax.tnil) (Syntax.ttcons Syntax.tnil (Syntax.ttcons (Syntax.tcons (Syntax.tyInt Syntax.w64) (Syntax.tcons (Syntax.tyInt Syntax.w64) Syntax.tnil))
-              (Syntax.ttcons (Syntax.tcons (Syntax.tyInt Syntax.w64) Syntax.tnil) (Syntax.ttcons Syntax.tnil (Syntax.ttcons Syntax.tnil (Syntax.ttcons (Syntax.tcons (Syntax.tyInt Syntax.w64) Syntax.tnil)
-              (Syntax.ttcons (Syntax.tcons (Syntax.tyInt Syntax.w64) Syntax.tnil) (Syntax.ttcons (Syntax.tcons (Syntax.tyInt Syntax.w64) Syntax.tnil) (Syntax.ttcons Syntax.tnil (Syntax.ttcons Syntax.tnil
-              (Syntax.ttcons (Syntax.tcons (Syntax.tyInt Syntax.w64) (Syntax.tcons (Syntax.tyInt Syntax.w64) Syntax.tnil)) (Syntax.ttcons Syntax.tnil Syntax.ttnil))))))))))))))))))))))))) Syntax.tnil)
-              Syntax.ttnil))) Path'.refl)) d11
+          d12 = Typed.g-pre 𝓤 H A W 𝓣 E G25 G26 b12 Δ0 (Typed.pass T25 T26 s24) at10 (Scalar.g-room 𝓤 H A W E G25 7 y12 (Local.room-whole 𝓤 H A W (Declared.row Parsed.the-type) y12 Path'.refl)) d11
 
-          d13 : Typed.Typed 𝓤 H A 𝓣 E G24 b13 Δ0 at13
+          d13 : Typed.Typed 𝓤 H A 𝓣 E G24 (Syntax.seq b11 b12) Δ0 at13
           d13 = Typed.s-seq 𝓤 H A W 𝓣 E G24 G25 b11 b12 Δ0 (Typed.both s23) at12 (Plain.t-call-plain 𝓤 H A W 𝓣 5 ps·1 r·1 (claims· .2) (claims· .3) "block_writer::write_in" (known .1) E (λ pos β. β)
               G24 (
-                record { pos = 7; st = List.[]; d = 0; at = λ x. x },
+                record { pos = 7; st = []; d = 0; at = λ x. x },
                 (
-                  record { pos = 2; ty = Syntax.tyRef (Syntax.named 1) Syntax.imm (Syntax.tyInt Syntax.w8); ref = λ x. x },
+                  record { pos = 2; ty = y2; ref = λ x. x },
                   (
-                    record { pos = 3; ty = Syntax.tyRef (Syntax.named 2) Syntax.imm (Syntax.tyInt Syntax.w16); ref = λ x. x },
-                    (
-                      record { pos = 13; ty = Syntax.tyRef Syntax.erased Syntax.mut (Syntax.tyInt Syntax.w8); ref = λ x. x },
-                      (
-                        Bool.bLit Bool'.false,
-                        (
-                          record { pos = 15; ty = Syntax.tyRef Syntax.erased Syntax.mut (Syntax.tyInt Syntax.w16); ref = λ x. x },
-                          (record { pos = 17; ty = Syntax.tyRef Syntax.erased Syntax.mut Element.behind; ref = λ x. x }, tt),
-                        ),
-                      ),
-                    ),
+                    record { pos = 3; ty = y3; ref = λ x. x },
+                    (record { pos = 13; ty = y9; ref = λ x. x }, (Bool.bLit Bool'.false, (record { pos = 15; ty = y8; ref = λ x. x }, (record { pos = 17; ty = y7; ref = λ x. x }, tt)))),
                   ),
                 ),
-              ) 0 (List._∷_ 1 (List._∷_ 2 (List._∷_ 6 (List._∷_ 7 (List._∷_ 8 List.[])))))
-              (Call.sub-id 𝓤 H A W (G24 .slots)) (
+              ) 0 (1 ∷ 2 ∷ 6 ∷ 7 ∷
+              8 ∷ []) (Call.sub-id 𝓤 H A W (G24 .slots)) (
+                (Values.enum-copied 𝓤 H A W Parsed.the-type Laws'.the-laws Laws'.the-copy, Path'.refl),
                 (
-                  Yields.yields-copy 𝓤 H A W (λ ρ. Unit) (Declared.row Parsed.the-type) Path'.refl (Copies.cEnum Parsed.the-type Laws'.the-laws Laws'.the-copy .copy 𝓤 H A W) (Rows.whole (Declared.row
-                      Parsed.the-type)) (λ x. x) (λ x. x) (λ ρ told. Local.mem-whole 𝓤 H A W (Declared.row Parsed.the-type) ρ) λ ρ told. Local.whole-mem 𝓤 H A W (Declared.row Parsed.the-type) ρ,
-                  Path'.refl,
-                ),
-                (
-                  ShrSlice.spares-sslice 𝓤 H A W (Referent.rtF (Referent.fInt Syntax.w8)) (Syntax.tyRef (Syntax.named 1) Syntax.imm (Syntax.tyInt Syntax.w8)) 1,
-                  Shared.reads-sslice 𝓤 H A W (Referent.rtF
-                      (Referent.fInt Syntax.w8)) (Syntax.tyRef (Syntax.named 1) Syntax.imm (Syntax.tyInt Syntax.w8)) 1,
+                  ShrSlice.spares-sslice 𝓤 H A W n8 y2 1,
+                  Shared.reads-sslice 𝓤 H A W n8 y2 1,
                   Path'.refl,
                   (
-                    ShrSlice.spares-sslice 𝓤 H A W (Referent.rtF (Referent.fInt Syntax.w16)) (Syntax.tyRef (Syntax.named 2) Syntax.imm (Syntax.tyInt Syntax.w16)) 2,
-                    Shared.reads-sslice 𝓤 H A W (Referent.rtF
-                        (Referent.fInt Syntax.w16)) (Syntax.tyRef (Syntax.named 2) Syntax.imm (Syntax.tyInt Syntax.w16)) 2,
+                    ShrSlice.spares-sslice 𝓤 H A W n16 y3 2,
+                    Shared.reads-sslice 𝓤 H A W n16 y3 2,
                     Path'.refl,
                     (
-                      Reads.as-is 𝓤 H A (Mut.mslice (Referent.rtF (Referent.fInt Syntax.w8)) (Syntax.tyRef Syntax.erased Syntax.mut (Syntax.tyInt Syntax.w8)) 6),
-                      Mut.reads-mslice 𝓤 H A W (Referent.rtF
-                          (Referent.fInt Syntax.w8)) (Syntax.tyRef Syntax.erased Syntax.mut (Syntax.tyInt Syntax.w8)) 6,
+                      Reads.as-is 𝓤 H A (Mut.mslice n8 y9 6),
+                      Mut.reads-mslice 𝓤 H A W n8 y9 6,
                       Path'.refl,
                       (
                         tt,
                         (
-                          Reads.as-is 𝓤 H A (Mut.mslice (Referent.rtF (Referent.fInt Syntax.w16)) (Syntax.tyRef Syntax.erased Syntax.mut (Syntax.tyInt Syntax.w16)) 7),
-                          Mut.reads-mslice 𝓤 H A W (Referent.rtF
-                              (Referent.fInt Syntax.w16)) (Syntax.tyRef Syntax.erased Syntax.mut (Syntax.tyInt Syntax.w16)) 7,
+                          Reads.as-is 𝓤 H A (Mut.mslice n16 y8 7),
+                          Mut.reads-mslice 𝓤 H A W n16 y8 7,
                           Path'.refl,
-                          (
-                            Reads.as-is 𝓤 H A (Mut.mslice (Element.type) (Syntax.tyRef Syntax.erased Syntax.mut Element.behind) 8),
-                            Mut.reads-mslice 𝓤 H A W (Element.type) (Syntax.tyRef Syntax.erased Syntax.mut
-                                Element.behind) 8,
-                            Path'.refl,
-                            tt,
-                          ),
+                          (Reads.as-is 𝓤 H A (Mut.mslice (Element.type) y7 8), Mut.reads-mslice 𝓤 H A W (Element.type) y7 8, Path'.refl, tt),
                         ),
                       ),
                     ),
                   ),
                 ),
-              ) (Reads.room-gone 𝓤 H A (Syntax.tyEnum (List._∷_ 115 (List._∷_ 116 (List._∷_ 114 (List._∷_ 101 (List._∷_ 97 (List._∷_ 109 (List._∷_ 58 (List._∷_ 58
-              (List._∷_ 66 (List._∷_ 108 (List._∷_ 111 (List._∷_ 99 (List._∷_ 107 (List._∷_ 76 (List._∷_ 101 (List._∷_ 110 (List._∷_ 103 (List._∷_ 116 (List._∷_ 104 List.[])))))))))))))))))))
-              (Syntax.ttcons (Syntax.tcons (Syntax.tyInt Syntax.w64) Syntax.tnil) (Syntax.ttcons (Syntax.tcons (Syntax.tyEnum (List._∷_ 115 (List._∷_ 116 (List._∷_ 114 (List._∷_ 101 (List._∷_ 97 (List._∷_
-              109 (List._∷_ 58 (List._∷_ 58 (List._∷_ 82 (List._∷_ 101 (List._∷_ 102 (List._∷_ 117 (List._∷_ 115 (List._∷_ 97 (List._∷_ 108 List.[]))))))))))))))) (Syntax.ttcons Syntax.tnil (Syntax.ttcons
-              Syntax.tnil (Syntax.ttcons Syntax.tnil (Syntax.ttcons (Syntax.tcons (Syntax.tyInt Syntax.w64) Syntax.tnil) (Syntax.ttcons Syntax.tnil (Syntax.ttcons Syntax.tnil (Syntax.ttcons Syntax.tnil
-              (Syntax.ttcons Syntax.tnil (Syntax.ttcons Syntax.tnil (Syntax.ttcons Syntax.tnil (Syntax.ttcons (Syntax.tcons (Syntax.tyInt Syntax.w64) Syntax.tnil) (Syntax.ttcons (Syntax.tcons
-              (Syntax.tyInt Syntax.w64) Syntax.tnil) (Syntax.ttcons Syntax.tnil (Syntax.ttcons (Syntax.tcons (Syntax.tyInt Syntax.w64) (Syntax.tcons (Syntax.tyInt Syntax.w64) Syntax.tnil)) (Syntax.ttcons
-              (Syntax.tcons (Syntax.tyInt Syntax.w64) Syntax.tnil) (Syntax.ttcons Syntax.tnil (Syntax.ttcons Syntax.tnil (Syntax.ttcons (Syntax.tcons (Syntax.tyInt Syntax.w64) Syntax.tnil) (Syntax.ttcons
-              (Syntax.tcons (Syntax.tyInt Syntax.w64) Syntax.tnil) (Syntax.ttcons (Syntax.tcons (Syntax.tyInt Syntax.w64) Syntax.tnil) (Syntax.ttcons Syntax.tnil (Syntax.ttcons Syntax.tnil (Syntax.ttcons
-              (Syntax.tcons (Syntax.tyInt Syntax.w64) (Syntax.tcons (Syntax.tyInt Syntax.w64) Syntax.tnil)) (Syntax.ttcons Syntax.tnil Syntax.ttnil))))))))))))))))))))))))) Syntax.tnil) Syntax.ttnil))))
-              (tt, (tt, (tt, (tt, (tt, tt))))) Path'.refl) d12
+              ) (Reads.room-gone 𝓤 H A y11) (tt, (tt, (tt, (tt, (tt, tt)))))
+              Path'.refl) d12
 
-          d14 : Typed.Typed 𝓤 H A 𝓣 E G23 b14 Δ0 at14
-          d14 = Typed.s-seq 𝓤 H A W 𝓣 E G23 G24 b10 b13 Δ0 (Typed.ask s22) at13 (Relend.t-sl-aggregate 𝓤 H A W E (Element.type) 𝓣 (Relend.asMut (Element.type)) G23 16 17 8 (Syntax.tyRef Syntax.erased
-              Syntax.mut Element.behind) (Syntax.tyRef Syntax.erased Syntax.mut Element.behind) (λ x. x) (Scalar.oFld 6 (List._∷_ (Syntax.field 1) List.[]) (Syntax.tyInt Syntax.w64) 8 λ v. Shared.lenV (v
-              .0)) (Reads.as-is 𝓤 H A (Relend.msptr (Element.type) (Syntax.tyRef Syntax.erased Syntax.mut Element.behind) 8)) (Reads.room-gone 𝓤 H A y3) (
-                Relend.reads-owed-len 𝓤 H A W (Element.type) (Syntax.tyRef (Syntax.named 5) Syntax.mut Element.behind) 5 8 (Row.lease (κs .1 .1 .1 .1 .1 .0) (qs .1 .1 .1 .1 .1 .0)) 8 Path'.refl,
-                Path'.refl,
-              ) Path'.refl Path'.refl λ b o k. tt) d13
+          d14 : Typed.Typed 𝓤 H A 𝓣 E G23 (Syntax.seq b10 (Syntax.seq b11 b12)) Δ0 at14
+          d14 = Typed.s-seq 𝓤 H A W 𝓣 E G23 G24 b10 (Syntax.seq b11 b12) Δ0 (Typed.ask s22) at13 (Relend.t-sl-aggregate 𝓤 H A W E (Element.type) 𝓣 (Relend.asMut (Element.type)) G23 16 17 8 y7 y7 (λ x.
+              x) (Scalar.oFld 6 ((Syntax.field 1) ∷ []) u64 8 λ v. Shared.lenV (v .0)) (Reads.as-is 𝓤 H A (Relend.msptr (Element.type) y7 8)) (Reads.room-gone 𝓤 H A (Syntax.tyStruct (38 ∷ 91 ∷ 93 ∷ [])
+              (Syntax.tcons y7 (Syntax.tcons u64 Syntax.tnil)))) (Relend.reads-owed-len 𝓤 H A W (Element.type) y6 5 8 k5 8 Path'.refl, Path'.refl) Path'.refl Path'.refl λ b o k. tt) d13
 
           d15 : Typed.Typed 𝓤 H A 𝓣 E G22 b15 Δ0 at15
-          d15 = Typed.s-seq 𝓤 H A W 𝓣 E G22 G23 b9 b14 Δ0 (Typed.give s21) at14 (Relend.t-sl-relend 𝓤 H A W E (Element.type) 𝓣 G22 6 16 5 8 (Syntax.tyRef (Syntax.named 5) Syntax.mut Element.behind)
-              (Syntax.tyRef Syntax.erased Syntax.mut Element.behind) (Row.lease (κs .1 .1 .1 .1 .1 .0) (qs .1 .1 .1 .1 .1 .0)) 0 (λ x. x) (Reads.as-is 𝓤 H A (Mut.mslice (Element.type) (Syntax.tyRef
-              (Syntax.named 5) Syntax.mut Element.behind) 5)) (Reads.room-gone 𝓤 H A (Syntax.tyRef Syntax.erased Syntax.mut Element.behind)) Path'.refl tt Path'.refl Path'.refl Path'.refl λ b o. tt) d14
+          d15 = Typed.s-seq 𝓤 H A W 𝓣 E G22 G23 b9 (Syntax.seq b10 (Syntax.seq b11 b12)) Δ0 (Typed.give s21) at14 (Relend.t-sl-relend 𝓤 H A W E (Element.type) 𝓣 G22 6 16 5 8 y6 y7 k5 0 (λ x. x)
+              (Reads.as-is 𝓤 H A (Mut.mslice (Element.type) y6 5)) (Reads.room-gone 𝓤 H A y7) Path'.refl tt Path'.refl Path'.refl Path'.refl λ b o. tt) d14
 
-          d16 : Typed.Typed 𝓤 H A 𝓣 E G21 b15 Δ0 at16
+          d16 : Typed.Typed 𝓤 H A 𝓣 E G21 b15 Δ0 at15
           d16 = Typed.g-pre 𝓤 H A W 𝓣 E G21 G22 b15 Δ0 (λ Ψ. Ψ) at15 (Lifetime.g-begin 𝓤 H A W E G21 8
               (tt, (tt, (tt, (tt, ((tt, tt), ((tt, tt), (tt, (tt, (tt, (tt, (tt, (tt, (tt, (tt, (tt, (tt, (tt, (tt, tt))))))))))))))))))) d15
 
-          d17 : Typed.Typed 𝓤 H A 𝓣 E G20 b16 Δ0 at17
-          d17 = Typed.s-seq 𝓤 H A W 𝓣 E G20 G21 b8 b15 Δ0 (Typed.ask s19) at16 (Relend.t-sl-aggregate 𝓤 H A W E (Referent.rtF (Referent.fInt Syntax.w16)) 𝓣 (Relend.asMut (Referent.rtF (Referent.fInt
-              Syntax.w16))) G20 14 15 7 (Syntax.tyRef Syntax.erased Syntax.mut (Syntax.tyInt Syntax.w16)) (Syntax.tyRef Syntax.erased Syntax.mut (Syntax.tyInt Syntax.w16)) (λ x. x) (Scalar.oFld 5
-              (List._∷_ (Syntax.field 1) List.[]) (Syntax.tyInt Syntax.w64) 8 λ v. Shared.lenV (v .0)) (Reads.as-is 𝓤 H A (Relend.msptr (Referent.rtF (Referent.fInt Syntax.w16)) (Syntax.tyRef
-              Syntax.erased Syntax.mut (Syntax.tyInt Syntax.w16)) 7)) (Reads.room-gone 𝓤 H A y1) (
-                Relend.reads-owed-len 𝓤 H A W (Referent.rtF (Referent.fInt Syntax.w16)) (Syntax.tyRef (Syntax.named 4) Syntax.mut (Syntax.tyInt Syntax.w16)) 4 7 (Row.lease (κs .1 .1 .1 .1 .0) (qs .1 .1 .1
-                    .1 .0)) 8 Path'.refl,
-                Path'.refl,
-              ) Path'.refl Path'.refl λ b o k. tt) d16
+          d17 : Typed.Typed 𝓤 H A 𝓣 E G20 (Syntax.seq b8 b15) Δ0 at17
+          d17 = Typed.s-seq 𝓤 H A W 𝓣 E G20 G21 b8 b15 Δ0 (Typed.ask s19) at15 (Relend.t-sl-aggregate 𝓤 H A W E n16 𝓣 (Relend.asMut n16) G20 14 15 7 y8 y8 (λ x. x) (Scalar.oFld 5 ((Syntax.field 1) ∷
+              []) u64 8 λ v. Shared.lenV (v .0)) (Reads.as-is 𝓤 H A (Relend.msptr n16 y8 7)) (Reads.room-gone 𝓤 H A y13) (Relend.reads-owed-len 𝓤 H A W n16 y5 4 7 k4 8 Path'.refl, Path'.refl) Path'.refl
+              Path'.refl λ b o k. tt) d16
 
-          d18 : Typed.Typed 𝓤 H A 𝓣 E G19 b17 Δ0 at18
-          d18 = Typed.s-seq 𝓤 H A W 𝓣 E G19 G20 b7 b16 Δ0 (Typed.give s18) at17 (Relend.t-sl-relend 𝓤 H A W E (Referent.rtF (Referent.fInt Syntax.w16)) 𝓣 G19 5 14 4 7 (Syntax.tyRef (Syntax.named 4)
-              Syntax.mut (Syntax.tyInt Syntax.w16)) (Syntax.tyRef Syntax.erased Syntax.mut (Syntax.tyInt Syntax.w16)) (Row.lease (κs .1 .1 .1 .1 .0) (qs .1 .1 .1 .1 .0)) 0 (λ x. x) (Reads.as-is 𝓤 H A
-              (Mut.mslice (Referent.rtF (Referent.fInt Syntax.w16)) (Syntax.tyRef (Syntax.named 4) Syntax.mut (Syntax.tyInt Syntax.w16)) 4)) (Reads.room-gone 𝓤 H A (Syntax.tyRef Syntax.erased Syntax.mut
-              (Syntax.tyInt Syntax.w16))) Path'.refl tt Path'.refl Path'.refl Path'.refl λ b o. tt) d17
+          d18 : Typed.Typed 𝓤 H A 𝓣 E G19 (Syntax.seq b7 (Syntax.seq b8 b15)) Δ0 at18
+          d18 = Typed.s-seq 𝓤 H A W 𝓣 E G19 G20 b7 (Syntax.seq b8 b15) Δ0 (Typed.give s18) at17 (Relend.t-sl-relend 𝓤 H A W E n16 𝓣 G19 5 14 4 7 y5 y8 k4 0 (λ x. x) (Reads.as-is 𝓤 H A (Mut.mslice n16
+              y5 4)) (Reads.room-gone 𝓤 H A y8) Path'.refl tt Path'.refl Path'.refl Path'.refl λ b o. tt) d17
 
-          d19 : Typed.Typed 𝓤 H A 𝓣 E G18 b17 Δ0 at19
-          d19 = Typed.g-pre 𝓤 H A W 𝓣 E G18 G19 b17 Δ0 (λ Ψ. Ψ) at18 (Lifetime.g-begin 𝓤 H A W E G18 7
+          d19 : Typed.Typed 𝓤 H A 𝓣 E G18 (Syntax.seq b7 (Syntax.seq b8 b15)) Δ0 at18
+          d19 = Typed.g-pre 𝓤 H A W 𝓣 E G18 G19 (Syntax.seq b7 (Syntax.seq b8 b15)) Δ0 (λ Ψ. Ψ) at18 (Lifetime.g-begin 𝓤 H A W E G18 7
               (tt, (tt, (tt, (tt, ((tt, tt), (tt, (tt, (tt, (tt, (tt, (tt, (tt, (tt, (tt, (tt, (tt, (tt, (tt, tt))))))))))))))))))) d18
 
           d20 : Typed.Typed 𝓤 H A 𝓣 E G17 b18 Δ0 at20
-          d20 = Typed.s-seq 𝓤 H A W 𝓣 E G17 G18 b6 b17 Δ0 (Typed.ask s16) at19 (Relend.t-sl-aggregate 𝓤 H A W E (Referent.rtF (Referent.fInt Syntax.w8)) 𝓣 (Relend.asMut (Referent.rtF (Referent.fInt
-              Syntax.w8))) G17 12 13 6 (Syntax.tyRef Syntax.erased Syntax.mut (Syntax.tyInt Syntax.w8)) (Syntax.tyRef Syntax.erased Syntax.mut (Syntax.tyInt Syntax.w8)) (λ x. x) (Scalar.oFld 4 (List._∷_
-              (Syntax.field 1) List.[]) (Syntax.tyInt Syntax.w64) 8 λ v. Shared.lenV (v .0)) (Reads.as-is 𝓤 H A (Relend.msptr (Referent.rtF (Referent.fInt Syntax.w8)) (Syntax.tyRef Syntax.erased
-              Syntax.mut (Syntax.tyInt Syntax.w8)) 6)) (Reads.room-gone 𝓤 H A y2) (
-                Relend.reads-owed-len 𝓤 H A W (Referent.rtF (Referent.fInt Syntax.w8)) (Syntax.tyRef (Syntax.named 3) Syntax.mut (Syntax.tyInt Syntax.w8)) 3 6 (Row.lease (κs .1 .1 .1 .0) (qs .1 .1 .1 .0))
-                    8 Path'.refl,
-                Path'.refl,
-              ) Path'.refl Path'.refl λ b o k. tt) d19
+          d20 = Typed.s-seq 𝓤 H A W 𝓣 E G17 G18 b6 (Syntax.seq b7 (Syntax.seq b8 b15)) Δ0 (Typed.ask s16) at18 (Relend.t-sl-aggregate 𝓤 H A W E n8 𝓣 (Relend.asMut n8) G17 12 13 6 y9 y9 (λ x. x)
+              (Scalar.oFld 4 ((Syntax.field 1) ∷ []) u64 8 λ v. Shared.lenV (v .0)) (Reads.as-is 𝓤 H A (Relend.msptr n8 y9 6)) (Reads.room-gone 𝓤 H A y14)
+              (Relend.reads-owed-len 𝓤 H A W n8 y4 3 6 k3 8 Path'.refl, Path'.refl) Path'.refl Path'.refl λ b o k. tt) d19
 
           d21 : Typed.Typed 𝓤 H A 𝓣 E G16 b19 Δ0 at21
-          d21 = Typed.s-seq 𝓤 H A W 𝓣 E G16 G17 b5 b18 Δ0 (Typed.give s15) at20 (Relend.t-sl-relend 𝓤 H A W E (Referent.rtF (Referent.fInt Syntax.w8)) 𝓣 G16 4 12 3 6 (Syntax.tyRef (Syntax.named 3)
-              Syntax.mut (Syntax.tyInt Syntax.w8)) (Syntax.tyRef Syntax.erased Syntax.mut (Syntax.tyInt Syntax.w8)) (Row.lease (κs .1 .1 .1 .0) (qs .1 .1 .1 .0)) 0 (λ x. x) (Reads.as-is 𝓤 H A (Mut.mslice
-              (Referent.rtF (Referent.fInt Syntax.w8)) (Syntax.tyRef (Syntax.named 3) Syntax.mut (Syntax.tyInt Syntax.w8)) 3)) (Reads.room-gone 𝓤 H A (Syntax.tyRef Syntax.erased Syntax.mut (Syntax.tyInt
-              Syntax.w8))) Path'.refl tt Path'.refl Path'.refl Path'.refl λ b o. tt) d20
+          d21 = Typed.s-seq 𝓤 H A W 𝓣 E G16 G17 b5 b18 Δ0 (Typed.give s15) at20 (Relend.t-sl-relend 𝓤 H A W E n8 𝓣 G16 4 12 3 6 y4 y9 k3 0 (λ x. x) (Reads.as-is 𝓤 H A (Mut.mslice n8 y4 3))
+              (Reads.room-gone 𝓤 H A y9) Path'.refl tt Path'.refl Path'.refl Path'.refl λ b o. tt) d20
 
-          d22 : Typed.Typed 𝓤 H A 𝓣 E G15 b19 Δ0 at22
-          d22 = Typed.g-pre 𝓤 H A W 𝓣 E G15 G16 b19 Δ0 (λ Ψ. Ψ) at21 (Lifetime.g-begin 𝓤 H A W E G15 6
+          d22 : Typed.Typed 𝓤 H A 𝓣 E (on T15 l5) b19 Δ0 at21
+          d22 = Typed.g-pre 𝓤 H A W 𝓣 E (on T15 l5) G16 b19 Δ0 (λ Ψ. Ψ) at21 (Lifetime.g-begin 𝓤 H A W E (on T15 l5) 6
               (tt, (tt, (tt, (tt, (tt, (tt, (tt, (tt, (tt, (tt, (tt, (tt, (tt, (tt, (tt, (tt, (tt, (tt, tt))))))))))))))))))) d21
 
-          d23 : Typed.Typed 𝓤 H A 𝓣 E G14 b19 Δ0 at23
-          d23 = Typed.g-pre 𝓤 H A W 𝓣 E G14 G15 b19 Δ0 (Typed.pass T14 T15 s13) at22 (Scalar.g-room 𝓤 H A W E G14 11 (Syntax.tyInt Syntax.w64) (Scalar.room-sc 𝓤 H A W (Row.sInt Syntax.w64))) d22
+          d23 : Typed.Typed 𝓤 H A 𝓣 E (on T14 l5) b19 Δ0 at23
+          d23 = Typed.g-pre 𝓤 H A W 𝓣 E (on T14 l5) (on T15 l5) b19 Δ0 (Typed.pass T14 T15 s13) at21 (Scalar.g-room 𝓤 H A W E (on T14 l5) 11 u64 (Scalar.room-sc 𝓤 H A W (Row.sInt Syntax.w64))) d22
 
-          d24 : Typed.Typed 𝓤 H A 𝓣 E G13 b19 Δ0 at24
-          d24 = Typed.g-pre 𝓤 H A W 𝓣 E G13 G14 b19 Δ0 (Typed.pass T13 T14 s12) at23 (Scalar.g-room 𝓤 H A W E G13 10 (Syntax.tyInt Syntax.w64) (Scalar.room-sc 𝓤 H A W (Row.sInt Syntax.w64))) d23
+          d24 : Typed.Typed 𝓤 H A 𝓣 E (on T13 l5) b19 Δ0 at24
+          d24 = Typed.g-pre 𝓤 H A W 𝓣 E (on T13 l5) (on T14 l5) b19 Δ0 (Typed.pass T13 T14 s12) at23 (Scalar.g-room 𝓤 H A W E (on T13 l5) 10 u64 (Scalar.room-sc 𝓤 H A W (Row.sInt Syntax.w64))) d23
 
-          d25 : Typed.Typed 𝓤 H A 𝓣 E G12 b19 Δ0 at25
-          d25 = Typed.g-pre 𝓤 H A W 𝓣 E G12 G13 b19 Δ0 (Typed.pass T12 T13 s11) at24 (Scalar.g-room 𝓤 H A W E G12 9 (Syntax.tyInt Syntax.w64) (Scalar.room-sc 𝓤 H A W (Row.sInt Syntax.w64))) d24
+          d25 : Typed.Typed 𝓤 H A 𝓣 E (on T12 l5) b19 Δ0 at25
+          d25 = Typed.g-pre 𝓤 H A W 𝓣 E (on T12 l5) (on T13 l5) b19 Δ0 (Typed.pass T12 T13 s11) at24 (Scalar.g-room 𝓤 H A W E (on T12 l5) 9 u64 (Scalar.room-sc 𝓤 H A W (Row.sInt Syntax.w64))) d24
 
-          d26 : Typed.Typed 𝓤 H A 𝓣 E G11 b19 Δ0 at26
-          d26 = Typed.g-pre 𝓤 H A W 𝓣 E G11 G12 b19 Δ0 (Typed.pass T11 T12 s10) at25 (Scalar.g-room 𝓤 H A W E G11 8 (Syntax.tyInt Syntax.w64) (Scalar.room-sc 𝓤 H A W (Row.sInt Syntax.w64))) d25
+          d26 : Typed.Typed 𝓤 H A 𝓣 E (on T11 l5) b19 Δ0 at26
+          d26 = Typed.g-pre 𝓤 H A W 𝓣 E (on T11 l5) (on T12 l5) b19 Δ0 (Typed.pass T11 T12 s10) at25 (Scalar.g-room 𝓤 H A W E (on T11 l5) 8 u64 (Scalar.room-sc 𝓤 H A W (Row.sInt Syntax.w64))) d25
 
-          d27 : Typed.Typed 𝓤 H A 𝓣 E G10 b20 Δ0 at27
-          d27 = Typed.s-seq 𝓤 H A W 𝓣 E G10 G11 b4 b19 Δ0 (Typed.both s9) at26 (Plain.t-call-plain 𝓤 H A W 𝓣 1 ps·0 r·0 (claims· .0) (claims· .1) "begin::lossy_begins" (known .0) E (λ pos β. β) G10 (
-            record { pos = 1; ty = Syntax.tyRef (Syntax.named 0) Syntax.imm (Syntax.tyInt Syntax.w8); ref = λ x. x },
-            (Num.vAt 8 λ x. x, (Num.vAt 9 λ x. x, (Num.vAt 10 λ x. x, (Num.vAt 11 λ x. x, tt)))),
-          ) 7 (List._∷_ 0 List.[]) (Call.sub-id 𝓤 H A W (G10 .slots)) (
-            ShrSlice.spares-sslice 𝓤 H A W (Referent.rtF (Referent.fInt Syntax.w8)) (Syntax.tyRef (Syntax.named 0) Syntax.imm (Syntax.tyInt Syntax.w8)) 0,
-            Shared.reads-sslice 𝓤 H A W (Referent.rtF
-                (Referent.fInt Syntax.w8)) (Syntax.tyRef (Syntax.named 0) Syntax.imm (Syntax.tyInt Syntax.w8)) 0,
-            Path'.refl,
-            (
-              (Scalar.reads-sc 𝓤 H A W (Row.sInt Syntax.w64), Path'.refl),
-              (
-                (Scalar.reads-sc 𝓤 H A W (Row.sInt Syntax.w64), Path'.refl),
-                ((Scalar.reads-sc 𝓤 H A W (Row.sInt Syntax.w64), Path'.refl), ((Scalar.reads-sc 𝓤 H A W (Row.sInt Syntax.w64), Path'.refl), tt)),
-              ),
-            ),
-          ) (Reads.room-gone 𝓤 H A (Syntax.tyEnum (List._∷_ 115
-              (List._∷_ 116 (List._∷_ 114 (List._∷_ 101 (List._∷_ 97 (List._∷_ 109 (List._∷_ 58 (List._∷_ 58 (List._∷_ 80 (List._∷_ 97 (List._∷_ 114 (List._∷_ 115 (List._∷_ 101 (List._∷_ 100
-              List.[])))))))))))))) (Syntax.ttcons (Syntax.tcons y0 Syntax.tnil) (Syntax.ttcons (Syntax.tcons (Syntax.tyEnum (List._∷_ 115 (List._∷_ 116 (List._∷_ 114 (List._∷_ 101 (List._∷_ 97 (List._∷_
-              109 (List._∷_ 58 (List._∷_ 58 (List._∷_ 82 (List._∷_ 101 (List._∷_ 102 (List._∷_ 117 (List._∷_ 115 (List._∷_ 97 (List._∷_ 108 List.[]))))))))))))))) (Syntax.ttcons Syntax.tnil (Syntax.ttcons
-              Syntax.tnil (Syntax.ttcons Syntax.tnil (Syntax.ttcons (Syntax.tcons (Syntax.tyInt Syntax.w64) Syntax.tnil) (Syntax.ttcons Syntax.tnil (Syntax.ttcons Syntax.tnil (Syntax.ttcons Syntax.tnil
-              (Syntax.ttcons Syntax.tnil (Syntax.ttcons Syntax.tnil (Syntax.ttcons Syntax.tnil (Syntax.ttcons (Syntax.tcons (Syntax.tyInt Syntax.w64) Syntax.tnil) (Syntax.ttcons (Syntax.tcons
-              (Syntax.tyInt Syntax.w64) Syntax.tnil) (Syntax.ttcons Syntax.tnil (Syntax.ttcons (Syntax.tcons (Syntax.tyInt Syntax.w64) (Syntax.tcons (Syntax.tyInt Syntax.w64) Syntax.tnil)) (Syntax.ttcons
-              (Syntax.tcons (Syntax.tyInt Syntax.w64) Syntax.tnil) (Syntax.ttcons Syntax.tnil (Syntax.ttcons Syntax.tnil (Syntax.ttcons (Syntax.tcons (Syntax.tyInt Syntax.w64) Syntax.tnil) (Syntax.ttcons
-              (Syntax.tcons (Syntax.tyInt Syntax.w64) Syntax.tnil) (Syntax.ttcons (Syntax.tcons (Syntax.tyInt Syntax.w64) Syntax.tnil) (Syntax.ttcons Syntax.tnil (Syntax.ttcons Syntax.tnil (Syntax.ttcons
-              (Syntax.tcons (Syntax.tyInt Syntax.w64) (Syntax.tcons (Syntax.tyInt Syntax.w64) Syntax.tnil)) (Syntax.ttcons Syntax.tnil Syntax.ttnil))))))))))))))))))))))))) Syntax.tnil) Syntax.ttnil))))
-              (tt, tt) Path'.refl) d26
+          d27 : Typed.Typed 𝓤 H A 𝓣 E (on T10 l5) (Syntax.seq b4 b19) Δ0 at27
+          d27 = Typed.s-seq 𝓤 H A W 𝓣 E (on T10 l5) (on T11 l5) b4 b19 Δ0 (Typed.both s9) at26 (Plain.t-call-plain 𝓤 H A W 𝓣 1 ps·0 r·0 (claims· .0) (claims· .1) "begin::lossy_begins" (known .0) E (λ
+              pos β. β) (on T10 l5) (record { pos = 1; ty = y1; ref = λ x. x }, (Num.vAt 8 λ x. x, (Num.vAt 9 λ x. x, (Num.vAt 10 λ x. x, (Num.vAt 11 λ x. x, tt))))) 7 (0 ∷ []) (Call.sub-id 𝓤 H A W ((on
+              T10 l5) .slots)) (
+                ShrSlice.spares-sslice 𝓤 H A W n8 y1 0,
+                Shared.reads-sslice 𝓤 H A W n8 y1 0,
+                Path'.refl,
+                (
+                  (Scalar.reads-sc 𝓤 H A W (Row.sInt Syntax.w64), Path'.refl),
+                  (
+                    (Scalar.reads-sc 𝓤 H A W (Row.sInt Syntax.w64), Path'.refl),
+                    ((Scalar.reads-sc 𝓤 H A W (Row.sInt Syntax.w64), Path'.refl), ((Scalar.reads-sc 𝓤 H A W (Row.sInt Syntax.w64), Path'.refl), tt)),
+                  ),
+                ),
+              ) (Reads.room-gone 𝓤 H A y12) (tt, tt) Path'.refl) d26
 
-          d28 : Typed.Typed 𝓤 H A 𝓣 E G9 b21 Δ0 at28
-          d28 = Typed.s-seq 𝓤 H A W 𝓣 E G9 G10 b3 b20 Δ0 (Typed.pass T9 T10 s8) at27 (Scalar.t-use 𝓤 H A W E 𝓣 G9 (Scalar.oFld 6 (List._∷_ (Syntax.field 1) List.[]) (Syntax.tyInt Syntax.w64) 8
-              Shared.lenV) 11 (Rows.sc-here (Row.sInt Syntax.w64)) (Syntax.tyInt Syntax.w64) (Row.valS (Row.sInt Syntax.w64)) (Row.sInt Syntax.w64 .of)
-              (Mut.reads-mslice-len 𝓤 H A W (Element.type) (Syntax.tyRef (Syntax.named 5) Syntax.mut Element.behind) 5 8 Path'.refl, Path'.refl) (Reads.room-gone 𝓤 H A (Syntax.tyInt Syntax.w64))
-              (Scalar.holds-sc 𝓤 H A W (Row.sInt Syntax.w64)) Path'.refl (λ u. Path'.refl) λ u. tt) d27
+          d28 : Typed.Typed 𝓤 H A 𝓣 E (on T9 l5) (Syntax.seq b3 (Syntax.seq b4 b19)) Δ0 at28
+          d28 = Typed.s-seq 𝓤 H A W 𝓣 E (on T9 l5) (on T10 l5) b3 (Syntax.seq b4 b19) Δ0 (Typed.pass T9 T10 s8) at27 (Scalar.t-use 𝓤 H A W E 𝓣 (on T9 l5) (Scalar.oFld 6 ((Syntax.field 1) ∷ []) u64 8
+              Shared.lenV) 11 (Rows.sc-here (Row.sInt Syntax.w64)) u64 (Row.valS (Row.sInt Syntax.w64)) (Row.sInt Syntax.w64 .of)
+              (Mut.reads-mslice-len 𝓤 H A W (Element.type) y6 5 8 Path'.refl, Path'.refl) (Reads.room-gone 𝓤 H A u64) (Scalar.holds-sc 𝓤 H A W (Row.sInt Syntax.w64)) Path'.refl (λ u. Path'.refl) λ u. tt)
+              d27
 
-          d29 : Typed.Typed 𝓤 H A 𝓣 E G8 b22 Δ0 at29
-          d29 = Typed.s-seq 𝓤 H A W 𝓣 E G8 G9 b2 b21 Δ0 (Typed.pass T8 T9 s7) at28 (Scalar.t-use 𝓤 H A W E 𝓣 G8 (Scalar.oFld 5 (List._∷_ (Syntax.field 1) List.[]) (Syntax.tyInt Syntax.w64) 8
-              Shared.lenV) 10 (Rows.sc-here (Row.sInt Syntax.w64)) (Syntax.tyInt Syntax.w64) (Row.valS (Row.sInt Syntax.w64)) (Row.sInt Syntax.w64 .of)
-              (Mut.reads-mslice-len 𝓤 H A W (Referent.rtF (Referent.fInt Syntax.w16)) (Syntax.tyRef (Syntax.named 4) Syntax.mut (Syntax.tyInt Syntax.w16)) 4 8 Path'.refl, Path'.refl) (Reads.room-gone 𝓤 H
-              A (Syntax.tyInt Syntax.w64)) (Scalar.holds-sc 𝓤 H A W (Row.sInt Syntax.w64)) Path'.refl (λ u. Path'.refl) λ u. tt) d28
+          d29 : Typed.Typed 𝓤 H A 𝓣 E (on T8 l5) b22 Δ0 at29
+          d29 = Typed.s-seq 𝓤 H A W 𝓣 E (on T8 l5) (on T9 l5) b2 (Syntax.seq b3 (Syntax.seq b4 b19)) Δ0 (Typed.pass T8 T9 s7) at28 (Scalar.t-use 𝓤 H A W E 𝓣 (on T8 l5) (Scalar.oFld 5 ((Syntax.field 1)
+              ∷ []) u64 8 Shared.lenV) 10 (Rows.sc-here (Row.sInt Syntax.w64)) u64 (Row.valS (Row.sInt Syntax.w64)) (Row.sInt Syntax.w64 .of)
+              (Mut.reads-mslice-len 𝓤 H A W n16 y5 4 8 Path'.refl, Path'.refl) (Reads.room-gone 𝓤 H A u64) (Scalar.holds-sc 𝓤 H A W (Row.sInt Syntax.w64)) Path'.refl (λ u. Path'.refl) λ u. tt) d28
 
-          d30 : Typed.Typed 𝓤 H A 𝓣 E G7 b23 Δ0 at30
-          d30 = Typed.s-seq 𝓤 H A W 𝓣 E G7 G8 b1 b22 Δ0 (Typed.pass T7 T8 s6) at29 (Scalar.t-use 𝓤 H A W E 𝓣 G7 (Scalar.oFld 3 (List._∷_ (Syntax.field 1) List.[]) (Syntax.tyInt Syntax.w64) 8
-              Shared.lenV) 9 (Rows.sc-here (Row.sInt Syntax.w64)) (Syntax.tyInt Syntax.w64) (Row.valS (Row.sInt Syntax.w64)) (Row.sInt Syntax.w64 .of)
-              (Shared.reads-sslice-len 𝓤 H A W (Referent.rtF (Referent.fInt Syntax.w16)) (Syntax.tyRef (Syntax.named 2) Syntax.imm (Syntax.tyInt Syntax.w16)) 2 8 Path'.refl, Path'.refl) (Reads.room-gone 𝓤
-              H A (Syntax.tyInt Syntax.w64)) (Scalar.holds-sc 𝓤 H A W (Row.sInt Syntax.w64)) Path'.refl (λ u. Path'.refl) λ u. tt) d29
+          d30 : Typed.Typed 𝓤 H A 𝓣 E (on T7 l5) (Syntax.seq b1 b22) Δ0 at30
+          d30 = Typed.s-seq 𝓤 H A W 𝓣 E (on T7 l5) (on T8 l5) b1 b22 Δ0 (Typed.pass T7 T8 s6) at29 (Scalar.t-use 𝓤 H A W E 𝓣 (on T7 l5) (Scalar.oFld 3 ((Syntax.field 1) ∷ []) u64 8 Shared.lenV) 9
+              (Rows.sc-here (Row.sInt Syntax.w64)) u64 (Row.valS (Row.sInt Syntax.w64)) (Row.sInt Syntax.w64 .of) (Shared.reads-sslice-len 𝓤 H A W n16 y3 2 8 Path'.refl, Path'.refl) (Reads.room-gone 𝓤 H A
+              u64) (Scalar.holds-sc 𝓤 H A W (Row.sInt Syntax.w64)) Path'.refl (λ u. Path'.refl) λ u. tt) d29
 
-          d31 : Typed.Typed 𝓤 H A 𝓣 E G6 b24 Δ0 at31
-          d31 = Typed.s-seq 𝓤 H A W 𝓣 E G6 G7 b0 b23 Δ0 (Typed.pass T6 T7 s5) at30 (Scalar.t-use 𝓤 H A W E 𝓣 G6 (Scalar.oFld 2 (List._∷_ (Syntax.field 1) List.[]) (Syntax.tyInt Syntax.w64) 8
-              Shared.lenV) 8 (Rows.sc-here (Row.sInt Syntax.w64)) (Syntax.tyInt Syntax.w64) (Row.valS (Row.sInt Syntax.w64)) (Row.sInt Syntax.w64 .of)
-              (Shared.reads-sslice-len 𝓤 H A W (Referent.rtF (Referent.fInt Syntax.w8)) (Syntax.tyRef (Syntax.named 1) Syntax.imm (Syntax.tyInt Syntax.w8)) 1 8 Path'.refl, Path'.refl) (Reads.room-gone 𝓤 H
-              A (Syntax.tyInt Syntax.w64)) (Scalar.holds-sc 𝓤 H A W (Row.sInt Syntax.w64)) Path'.refl (λ u. Path'.refl) λ u. tt) d30
+          d31 : Typed.Typed 𝓤 H A 𝓣 E (on T0 l5) b24 Δ0 at31
+          d31 = Typed.s-seq 𝓤 H A W 𝓣 E (on T0 l5) (on T7 l5) b0 (Syntax.seq b1 b22) Δ0 (Typed.pass T0 T7 s5) at30 (Scalar.t-use 𝓤 H A W E 𝓣 (on T0 l5) (Scalar.oFld 2 ((Syntax.field 1) ∷ []) u64 8
+              Shared.lenV) 8 (Rows.sc-here (Row.sInt Syntax.w64)) u64 (Row.valS (Row.sInt Syntax.w64)) (Row.sInt Syntax.w64 .of) (Shared.reads-sslice-len 𝓤 H A W n8 y2 1 8 Path'.refl, Path'.refl)
+              (Reads.room-gone 𝓤 H A u64) (Scalar.holds-sc 𝓤 H A W (Row.sInt Syntax.w64)) Path'.refl (λ u. Path'.refl) λ u. tt) d30
 
-          d32 : Typed.Typed 𝓤 H A 𝓣 E G5 b24 Δ0 at32
-          d32 = Typed.g-pre 𝓤 H A W 𝓣 E G5 G6 b24 Δ0 (Typed.give s4) at31 (Know.g-sl-known 𝓤 H A W (Referent.fInt Syntax.w16) E G5 5 4 (Syntax.tyRef (Syntax.named 4) Syntax.mut (Syntax.tyInt
-              Syntax.w16)) (Row.lease (κs .1 .1 .1 .1 .0) (qs .1 .1 .1 .1 .0)) 0 (λ x. x) record { fits = Dec'.lit< tt } (Reads.as-is 𝓤 H A (Mut.mslice (Referent.rtF (Referent.fInt Syntax.w16))
-              (Syntax.tyRef (Syntax.named 4) Syntax.mut (Syntax.tyInt Syntax.w16)) 4)) Path'.refl tt) d31
+          d32 : Typed.Typed 𝓤 H A 𝓣 E (on T0 l5) b24 Δ0 at32
+          d32 = Typed.g-pre 𝓤 H A W 𝓣 E (on T0 l5) (on T0 l5) b24 Δ0 (Typed.give s4) at31 (Know.g-sl-known 𝓤 H A W (Referent.fInt Syntax.w16) E (on T0 l5) 5 4 y5 k4 0 (λ x. x) record
+              { fits = Dec'.lit< tt } (Reads.as-is 𝓤 H A (Mut.mslice n16 y5 4)) Path'.refl tt) d31
 
-          d33 : Typed.Typed 𝓤 H A 𝓣 E G4 b24 Δ0 at33
-          d33 = Typed.g-pre 𝓤 H A W 𝓣 E G4 G5 b24 Δ0 (Typed.give s3) at32 (Know.g-sl-known 𝓤 H A W (Referent.fInt Syntax.w8) E G4 4 3 (Syntax.tyRef (Syntax.named 3) Syntax.mut (Syntax.tyInt
-              Syntax.w8)) (Row.lease (κs .1 .1 .1 .0) (qs .1 .1 .1 .0)) 0 (λ x. x) record { fits = Dec'.lit< tt } (Reads.as-is 𝓤 H A (Mut.mslice (Referent.rtF (Referent.fInt Syntax.w8)) (Syntax.tyRef
-              (Syntax.named 3) Syntax.mut (Syntax.tyInt Syntax.w8)) 3)) Path'.refl tt) d32
+          d33 : Typed.Typed 𝓤 H A 𝓣 E (on T0 l5) b24 Δ0 at33
+          d33 = Typed.g-pre 𝓤 H A W 𝓣 E (on T0 l5) (on T0 l5) b24 Δ0 (Typed.give s3) at32 (Know.g-sl-known 𝓤 H A W (Referent.fInt Syntax.w8) E (on T0 l5) 4 3 y4 k3 0 (λ x. x) record
+              { fits = Dec'.lit< tt } (Reads.as-is 𝓤 H A (Mut.mslice n8 y4 3)) Path'.refl tt) d32
 
-          d34 : Typed.Typed 𝓤 H A 𝓣 E G3 b24 Δ0 at34
-          d34 = Typed.g-pre 𝓤 H A W 𝓣 E G3 G4 b24 Δ0 (Typed.give s2) at33 (Know.g-shs-known 𝓤 H A W (Referent.fInt Syntax.w16) E G3 3 2 (Syntax.tyRef (Syntax.named 2) Syntax.imm (Syntax.tyInt
-              Syntax.w16)) (Row.lease (κs .1 .1 .0) (qs .1 .1 .0)) 0 (λ x. x) record { fits = Dec'.lit< tt } (Reads.as-is 𝓤 H A (Rows.sslice (Referent.rtF (Referent.fInt Syntax.w16)) (Syntax.tyRef
-              (Syntax.named 2) Syntax.imm (Syntax.tyInt Syntax.w16)) 2)) Path'.refl tt) d33
+          d34 : Typed.Typed 𝓤 H A 𝓣 E (on T0 l5) b24 Δ0 at34
+          d34 = Typed.g-pre 𝓤 H A W 𝓣 E (on T0 l5) (on T0 l5) b24 Δ0 (Typed.give s2) at33 (Know.g-shs-known 𝓤 H A W (Referent.fInt Syntax.w16) E (on T0 l5) 3 2 y3 k2 0 (λ x. x) record
+              { fits = Dec'.lit< tt } (Reads.as-is 𝓤 H A (Rows.sslice n16 y3 2)) Path'.refl tt) d33
 
-          d35 : Typed.Typed 𝓤 H A 𝓣 E G2 b24 Δ0 at35
-          d35 = Typed.g-pre 𝓤 H A W 𝓣 E G2 G3 b24 Δ0 (Typed.give s1) at34 (Know.g-shs-known 𝓤 H A W (Referent.fInt Syntax.w8) E G2 2 1 (Syntax.tyRef (Syntax.named 1) Syntax.imm (Syntax.tyInt
-              Syntax.w8)) (Row.lease (κs .1 .0) (qs .1 .0)) 0 (λ x. x) record { fits = Dec'.lit< tt } (Reads.as-is 𝓤 H A (Rows.sslice (Referent.rtF (Referent.fInt Syntax.w8)) (Syntax.tyRef (Syntax.named
-              1) Syntax.imm (Syntax.tyInt Syntax.w8)) 1)) Path'.refl tt) d34
+          d35 : Typed.Typed 𝓤 H A 𝓣 E (on T0 l5) b24 Δ0 at35
+          d35 = Typed.g-pre 𝓤 H A W 𝓣 E (on T0 l5) (on T0 l5) b24 Δ0 (Typed.give s1) at34 (Know.g-shs-known 𝓤 H A W (Referent.fInt Syntax.w8) E (on T0 l5) 2 1 y2 k1 0 (λ x. x) record
+              { fits = Dec'.lit< tt } (Reads.as-is 𝓤 H A (Rows.sslice n8 y2 1)) Path'.refl tt) d34
 
-          d36 : Typed.Typed 𝓤 H A 𝓣 E G0 b24 Δ0 at36
-          d36 = Typed.g-pre 𝓤 H A W 𝓣 E G0 G2 b24 Δ0 (Typed.give s0) at35 (Know.g-shs-known 𝓤 H A W (Referent.fInt Syntax.w8) E G0 1 0 (Syntax.tyRef (Syntax.named 0) Syntax.imm (Syntax.tyInt
-              Syntax.w8)) (Row.lease (κs .0) (qs .0)) 0 (λ x. x) record { fits = Dec'.lit< tt } (Reads.as-is 𝓤 H A (Rows.sslice (Referent.rtF (Referent.fInt Syntax.w8)) (Syntax.tyRef (Syntax.named 0)
-              Syntax.imm (Syntax.tyInt Syntax.w8)) 0)) Path'.refl tt) d35
+          d36 : Typed.Typed 𝓤 H A 𝓣 E (on T0 l5) b24 Δ0 at36
+          d36 = Typed.g-pre 𝓤 H A W 𝓣 E (on T0 l5) (on T0 l5) b24 Δ0 (Typed.give s0) at35 (Know.g-shs-known 𝓤 H A W (Referent.fInt Syntax.w8) E (on T0 l5) 1 0 y1 k0 0 (λ x. x) record
+              { fits = Dec'.lit< tt } (Reads.as-is 𝓤 H A (Rows.sslice n8 y1 0)) Path'.refl tt) d35
 
           pub typed : Typed.Typed 𝓤 H A 𝓣 E (Function.Γin 6 ps r xs m κs qs) b24 (Function.Δret 6 ps r xs m κs qs) Φ
           typed = d36
 
       module _ (κs : Lifetimes.Lfts 6) where
         pub record Args : Type 0 where
-          pub header : Kinds.Den {n = 6} κs (ShrSlice.pShrS (Referent.rtF (Referent.fInt Syntax.w8)) 0 tt)
-          pub bases : Kinds.Den {n = 6} κs (ShrSlice.pShrS (Referent.rtF (Referent.fInt Syntax.w8)) 1 tt)
-          pub samples : Kinds.Den {n = 6} κs (ShrSlice.pShrS (Referent.rtF (Referent.fInt Syntax.w16)) 2 tt)
-          pub out : Kinds.Den {n = 6} κs (MutSlice.pMutS (Referent.rtF (Referent.fInt Syntax.w8)) 3 tt)
-          pub lines : Kinds.Den {n = 6} κs (MutSlice.pMutS (Referent.rtF (Referent.fInt Syntax.w16)) 4 tt)
+          pub header : Kinds.Den {n = 6} κs (ShrSlice.pShrS n8 0 tt)
+          pub bases : Kinds.Den {n = 6} κs (ShrSlice.pShrS n8 1 tt)
+          pub samples : Kinds.Den {n = 6} κs (ShrSlice.pShrS n16 2 tt)
+          pub out : Kinds.Den {n = 6} κs (MutSlice.pMutS n8 3 tt)
+          pub lines : Kinds.Den {n = 6} κs (MutSlice.pMutS n16 4 tt)
           pub rs : Kinds.Den {n = 6} κs (MutSlice.pMutS (Element.type) 5 tt)
 
         abbrev pub dens : (a : Args) → Kinds.Dens κs ps
@@ -1502,7 +963,7 @@ module _ (claims· : Claims) where
         pub good : Kinds.GoodsP κs ps (dens κs args)
         pub pre : Pre· κs (dens κs args)
 
-      abbrev pub m1 : (before : Start) → (given : s0 .gives (m0 (before .κs) (before .args))) → Typed.Mo T2
+      abbrev pub m1 : (before : Start) → (given : s0 .gives (m0 (before .κs) (before .args))) → Typed.Mo T0
       m1 = λ before given. s0 .next (m0 (before .κs) (before .args)) given
 
       module _ (before· : Start) where
@@ -1513,7 +974,7 @@ module _ (claims· : Claims) where
         pub before : Start
         pub shared-slice-known : After-shared-slice-known·own before
 
-      abbrev pub m2 : (before : After-shared-slice-known) → (given : s1 .gives (m1 (before .before) (before .shared-slice-known .given))) → Typed.Mo T3
+      abbrev pub m2 : (before : After-shared-slice-known) → (given : s1 .gives (m1 (before .before) (before .shared-slice-known .given))) → Typed.Mo T0
       m2 = λ before given. s1 .next (m1 (before .before) (before .shared-slice-known .given)) given
 
       module _ (before· : After-shared-slice-known) where
@@ -1524,7 +985,7 @@ module _ (claims· : Claims) where
         pub before : After-shared-slice-known
         pub shared-slice-known2 : After-shared-slice-known2·own before
 
-      abbrev pub m3 : (before : After-shared-slice-known2) → (given : s2 .gives (m2 (before .before) (before .shared-slice-known2 .given))) → Typed.Mo T4
+      abbrev pub m3 : (before : After-shared-slice-known2) → (given : s2 .gives (m2 (before .before) (before .shared-slice-known2 .given))) → Typed.Mo T0
       m3 = λ before given. s2 .next (m2 (before .before) (before .shared-slice-known2 .given)) given
 
       module _ (before· : After-shared-slice-known2) where
@@ -1535,7 +996,7 @@ module _ (claims· : Claims) where
         pub before : After-shared-slice-known2
         pub shared-slice-known3 : After-shared-slice-known3·own before
 
-      abbrev pub m4 : (before : After-shared-slice-known3) → (given : s3 .gives (m3 (before .before) (before .shared-slice-known3 .given))) → Typed.Mo T5
+      abbrev pub m4 : (before : After-shared-slice-known3) → (given : s3 .gives (m3 (before .before) (before .shared-slice-known3 .given))) → Typed.Mo T0
       m4 = λ before given. s3 .next (m3 (before .before) (before .shared-slice-known3 .given)) given
 
       module _ (before· : After-shared-slice-known3) where
@@ -1546,20 +1007,8 @@ module _ (claims· : Claims) where
         pub before : After-shared-slice-known3
         pub slice-known : After-slice-known·own before
 
-      abbrev pub m5 : (before : After-slice-known) → (given : s4 .gives (m4 (before .before) (before .slice-known .given))) → Typed.Mo T6
-      m5 = λ before given. s4 .next (m4 (before .before) (before .slice-known .given)) given
-
-      abbrev pub m6 : (before : After-slice-known) → (given : s4 .gives (m4 (before .before) (before .slice-known .given))) → Typed.Mo T7
-      m6 = λ before given. s5 (m5 before given)
-
-      abbrev pub m7 : (before : After-slice-known) → (given : s4 .gives (m4 (before .before) (before .slice-known .given))) → Typed.Mo T8
-      m7 = λ before given. s6 (m6 before given)
-
-      abbrev pub m8 : (before : After-slice-known) → (given : s4 .gives (m4 (before .before) (before .slice-known .given))) → Typed.Mo T9
-      m8 = λ before given. s7 (m7 before given)
-
       abbrev pub m9 : (before : After-slice-known) → (given : s4 .gives (m4 (before .before) (before .slice-known .given))) → Typed.Mo T10
-      m9 = λ before given. s8 (m8 before given)
+      m9 = λ before given. s8 (s7 (s6 (s5 (s4 .next (m4 (before .before) (before .slice-known .given)) given))))
 
       module _ (before· : After-slice-known) where
         pub record After-slice-known2·own : Type 0 where
@@ -1577,37 +1026,26 @@ module _ (claims· : Claims) where
 
       module _ (before· : After-slice-known2) where
         abbrev pub After-lossy-begins·own : Type 0
-        After-lossy-begins·own = Called.Called ps·0 r·0 (claims· .1) T10 (
-          record { pos = 1; ty = Syntax.tyRef (Syntax.named 0) Syntax.imm (Syntax.tyInt Syntax.w8); ref = λ x. x },
-          (Num.vAt 8 λ x. x, (Num.vAt 9 λ x. x, (Num.vAt 10 λ x. x, (Num.vAt 11 λ x. x, tt)))),
-        ) (m9 (before· .before) (before· .slice-known2 .given))
+        After-lossy-begins·own = Called.Called ps·0 r·0 (claims· .1) T10
+            (record { pos = 1; ty = y1; ref = λ x. x }, (Num.vAt 8 λ x. x, (Num.vAt 9 λ x. x, (Num.vAt 10 λ x. x, (Num.vAt 11 λ x. x, tt))))) (m9 (before· .before) (before· .slice-known2 .given))
 
       pub record After-lossy-begins : Type 0 where
         pub before : After-slice-known2
         pub lossy-begins : After-lossy-begins·own before
 
+      abbrev pub After-lossy-begins·start : After-lossy-begins → Start
+      After-lossy-begins·start = λ c. c .before .before .before .before .before .before
+
       abbrev pub After-lossy-begins·gave : (c : After-lossy-begins) → s9 .gives (m9 (c .before .before) (c .before .slice-known2 .given))
       After-lossy-begins·gave = λ c. Called.given ps·0 r·0 (claims· .1) T10
-          (record { pos = 1; ty = Syntax.tyRef (Syntax.named 0) Syntax.imm (Syntax.tyInt Syntax.w8); ref = λ x. x }, (Num.vAt 8 λ x. x, (Num.vAt 9 λ x. x, (Num.vAt 10 λ x. x, (Num.vAt 11 λ x. x, tt)))))
-          (m9 (c .before .before) (c .before .slice-known2 .given)) (c .lossy-begins)
-
-      abbrev pub m11 : (before : After-slice-known2) → (given : s9 .gives (m9 (before .before) (before .slice-known2 .given))) → Typed.Mo T12
-      m11 = λ before given. s10 (m10 before given)
-
-      abbrev pub m12 : (before : After-slice-known2) → (given : s9 .gives (m9 (before .before) (before .slice-known2 .given))) → Typed.Mo T13
-      m12 = λ before given. s11 (m11 before given)
-
-      abbrev pub m13 : (before : After-slice-known2) → (given : s9 .gives (m9 (before .before) (before .slice-known2 .given))) → Typed.Mo T14
-      m13 = λ before given. s12 (m12 before given)
+          (record { pos = 1; ty = y1; ref = λ x. x }, (Num.vAt 8 λ x. x, (Num.vAt 9 λ x. x, (Num.vAt 10 λ x. x, (Num.vAt 11 λ x. x, tt))))) (m9 (c .before .before) (c .before .slice-known2 .given)) (c
+          .lossy-begins)
 
       abbrev pub m14 : (before : After-slice-known2) → (given : s9 .gives (m9 (before .before) (before .slice-known2 .given))) → Typed.Mo T15
-      m14 = λ before given. s13 (m13 before given)
-
-      abbrev pub m15 : (before : After-lossy-begins) → (given : s15 .gives (m14 (before .before) (After-lossy-begins·gave before))) → Typed.Mo T17
-      m15 = λ before given. s15 .next (m14 (before .before) (After-lossy-begins·gave before)) given
+      m14 = λ before given. s13 (s12 (s11 (s10 (m10 before given))))
 
       abbrev pub m16 : (before : After-lossy-begins) → (given : s15 .gives (m14 (before .before) (After-lossy-begins·gave before))) → Typed.Mo T18
-      m16 = λ before given. s16 .next (m15 before given)
+      m16 = λ before given. s16 .next (s15 .next (m14 (before .before) (After-lossy-begins·gave before)) given)
 
       module _ (before· : After-lossy-begins) where
         pub record After-write-in-arg·own : Type 0 where
@@ -1617,11 +1055,8 @@ module _ (claims· : Claims) where
         pub before : After-lossy-begins
         pub write-in-arg : After-write-in-arg·own before
 
-      abbrev pub m17 : (before : After-write-in-arg) → (given : s18 .gives (m16 (before .before) (before .write-in-arg .given))) → Typed.Mo T20
-      m17 = λ before given. s18 .next (m16 (before .before) (before .write-in-arg .given)) given
-
       abbrev pub m18 : (before : After-write-in-arg) → (given : s18 .gives (m16 (before .before) (before .write-in-arg .given))) → Typed.Mo T21
-      m18 = λ before given. s19 .next (m17 before given)
+      m18 = λ before given. s19 .next (s18 .next (m16 (before .before) (before .write-in-arg .given)) given)
 
       module _ (before· : After-write-in-arg) where
         pub record After-write-in-arg2·own : Type 0 where
@@ -1631,11 +1066,8 @@ module _ (claims· : Claims) where
         pub before : After-write-in-arg
         pub write-in-arg2 : After-write-in-arg2·own before
 
-      abbrev pub m19 : (before : After-write-in-arg2) → (given : s21 .gives (m18 (before .before) (before .write-in-arg2 .given))) → Typed.Mo T23
-      m19 = λ before given. s21 .next (m18 (before .before) (before .write-in-arg2 .given)) given
-
       abbrev pub m20 : (before : After-write-in-arg2) → (given : s21 .gives (m18 (before .before) (before .write-in-arg2 .given))) → Typed.Mo T24
-      m20 = λ before given. s22 .next (m19 before given)
+      m20 = λ before given. s22 .next (s21 .next (m18 (before .before) (before .write-in-arg2 .given)) given)
 
       module _ (before· : After-write-in-arg2) where
         pub record After-write-in-arg3·own : Type 0 where
@@ -1653,50 +1085,17 @@ module _ (claims· : Claims) where
 
       module _ (before· : After-write-in-arg3) where
         abbrev pub After-write-in·own : Type 0
-        After-write-in·own = Called.Called ps·1 r·1 (claims· .3) T24 (
-          record { pos = 7; st = List.[]; d = 0; at = λ x. x },
-          (
-            record { pos = 2; ty = Syntax.tyRef (Syntax.named 1) Syntax.imm (Syntax.tyInt Syntax.w8); ref = λ x. x },
-            (
-              record { pos = 3; ty = Syntax.tyRef (Syntax.named 2) Syntax.imm (Syntax.tyInt Syntax.w16); ref = λ x. x },
-              (
-                record { pos = 13; ty = Syntax.tyRef Syntax.erased Syntax.mut (Syntax.tyInt Syntax.w8); ref = λ x. x },
-                (
-                  Bool.bLit Bool'.false,
-                  (
-                    record { pos = 15; ty = Syntax.tyRef Syntax.erased Syntax.mut (Syntax.tyInt Syntax.w16); ref = λ x. x },
-                    (record { pos = 17; ty = Syntax.tyRef Syntax.erased Syntax.mut Element.behind; ref = λ x. x }, tt),
-                  ),
-                ),
-              ),
-            ),
-          ),
-        ) (m20 (before· .before) (before· .write-in-arg3 .given))
+        After-write-in·own = Called.Called ps·1 r·1 (claims· .3) T24 a0 (m20 (before· .before) (before· .write-in-arg3 .given))
 
       pub record After-write-in : Type 0 where
         pub before : After-write-in-arg3
         pub write-in : After-write-in·own before
 
+      abbrev pub After-write-in·start : After-write-in → Start
+      After-write-in·start = λ c. c .before .before .before .before .before .before .before .before .before .before
+
       abbrev pub After-write-in·gave : (c : After-write-in) → s23 .gives (m20 (c .before .before) (c .before .write-in-arg3 .given))
-      After-write-in·gave = λ c. Called.given ps·1 r·1 (claims· .3) T24 (
-        record { pos = 7; st = List.[]; d = 0; at = λ x. x },
-        (
-          record { pos = 2; ty = Syntax.tyRef (Syntax.named 1) Syntax.imm (Syntax.tyInt Syntax.w8); ref = λ x. x },
-          (
-            record { pos = 3; ty = Syntax.tyRef (Syntax.named 2) Syntax.imm (Syntax.tyInt Syntax.w16); ref = λ x. x },
-            (
-              record { pos = 13; ty = Syntax.tyRef Syntax.erased Syntax.mut (Syntax.tyInt Syntax.w8); ref = λ x. x },
-              (
-                Bool.bLit Bool'.false,
-                (
-                  record { pos = 15; ty = Syntax.tyRef Syntax.erased Syntax.mut (Syntax.tyInt Syntax.w16); ref = λ x. x },
-                  (record { pos = 17; ty = Syntax.tyRef Syntax.erased Syntax.mut Element.behind; ref = λ x. x }, tt),
-                ),
-              ),
-            ),
-          ),
-        ),
-      ) (m20 (c .before .before) (c .before .write-in-arg3 .given)) (c .write-in)
+      After-write-in·gave = λ c. Called.given ps·1 r·1 (claims· .3) T24 a0 (m20 (c .before .before) (c .before .write-in-arg3 .given)) (c .write-in)
 
       abbrev pub m22 : (before : After-write-in-arg3) → (given : s23 .gives (m20 (before .before) (before .write-in-arg3 .given))) → Typed.Mo T26
       m22 = λ before given. s24 (m21 before given)
@@ -1712,7 +1111,7 @@ module _ (claims· : Claims) where
         pub before : After-write-in
         pub out : After-out·own before
 
-      abbrev pub m24 : (before : After-out) → (given : s27 .gives (m23 (before .before) (before .out .given))) → Typed.Mo T29
+      abbrev pub m24 : (before : After-out) → (given : s27 .gives (m23 (before .before) (before .out .given))) → Typed.Mo T28
       m24 = λ before given. s27 .next (m23 (before .before) (before .out .given)) given
 
       module _ (before· : After-out) where
@@ -1734,7 +1133,7 @@ module _ (claims· : Claims) where
         pub before : After-slice-known3
         pub lines : After-lines·own before
 
-      abbrev pub m26 : (before : After-lines) → (given : s31 .gives (m25 (before .before) (before .lines .given))) → Typed.Mo T33
+      abbrev pub m26 : (before : After-lines) → (given : s31 .gives (m25 (before .before) (before .lines .given))) → Typed.Mo T32
       m26 = λ before given. s31 .next (m25 (before .before) (before .lines .given)) given
 
       module _ (before· : After-lines) where
@@ -1745,7 +1144,7 @@ module _ (claims· : Claims) where
         pub before : After-lines
         pub slice-known4 : After-slice-known4·own before
 
-      abbrev pub m27 : (before : After-slice-known4) → (given : s34 .gives (m26 (before .before) (before .slice-known4 .given))) → Typed.Mo T36
+      abbrev pub m27 : (before : After-slice-known4) → (given : s34 .gives (m26 (before .before) (before .slice-known4 .given))) → Typed.Mo T1
       m27 = λ before given. s34 .next (m26 (before .before) (before .slice-known4 .given)) given
 
       module _ (before· : After-slice-known4) where
@@ -1757,17 +1156,17 @@ module _ (claims· : Claims) where
         pub rs : After-rs·own before
 
       abbrev pub Need-same-length : Type 0
-      Need-same-length = (c : After-rs) → MutSlice.SameLen (Row.get 4 (T36 .locals) (m27 (c .before) (c .rs .given))) (dens (c .before .before .before .before .before .before .before .before .before
+      Need-same-length = (c : After-rs) → MutSlice.SameLen (Row.get 4 (T1 .locals) (m27 (c .before) (c .rs .given))) (dens (c .before .before .before .before .before .before .before .before .before
           .before .before .before .before .before .before .κs) (c .before .before .before .before .before .before .before .before .before .before .before .before .before .before .before .args) .1 .1 .1
           .0)
 
       abbrev pub Need-same-length-2 : Type 0
-      Need-same-length-2 = (c : After-rs) → MutSlice.SameLen (Row.get 5 (T36 .locals) (m27 (c .before) (c .rs .given))) (dens (c .before .before .before .before .before .before .before .before .before
+      Need-same-length-2 = (c : After-rs) → MutSlice.SameLen (Row.get 5 (T1 .locals) (m27 (c .before) (c .rs .given))) (dens (c .before .before .before .before .before .before .before .before .before
           .before .before .before .before .before .before .κs) (c .before .before .before .before .before .before .before .before .before .before .before .before .before .before .before .args) .1 .1 .1 .1
           .0)
 
       abbrev pub Need-same-length-3 : Type 0
-      Need-same-length-3 = (c : After-rs) → MutSlice.SameLen (Row.get 6 (T36 .locals) (m27 (c .before) (c .rs .given))) (dens (c .before .before .before .before .before .before .before .before .before
+      Need-same-length-3 = (c : After-rs) → MutSlice.SameLen (Row.get 6 (T1 .locals) (m27 (c .before) (c .rs .given))) (dens (c .before .before .before .before .before .before .before .before .before
           .before .before .before .before .before .before .κs) (c .before .before .before .before .before .before .before .before .before .before .before .before .before .before .before .args) .1 .1 .1 .1
           .1 .0)
 
@@ -1783,232 +1182,65 @@ module _ (claims· : Claims) where
 
       module _ (lossy-begins-requires : Need-lossy-begins-requires) (write-in-requires : Need-write-in-requires) (same-length : Need-same-length) (same-length-2 : Need-same-length-2) (same-length-3 :
           Need-same-length-3) (returns : Need-returns) where
-        lay2 : (c : After-write-in) → at12 (W0 (c .before .before .before .before .before .before .before .before .before .before .κs) (c .before .before .before .before .before .before .before
-            .before .before .before .args)) (m21 (c .before) (After-write-in·gave c))
+        lay2 : (c : After-write-in) → at12 (W0 (After-write-in·start c .κs) (After-write-in·start c .args)) (m21 (c .before) (After-write-in·gave c))
         lay2 = λ c. (
           Path'.refl,
-          λ g. λ g'. (
-            Path'.refl,
-            λ g''. λ g'3. (
-              Path'.refl,
-              λ g'4. (
-                (
-                  Path'.refl,
-                  (
-                    Path'.refl,
-                    (
+          λ g. let c1 : After-out = record { before = c; out = record { given = g } } in λ g'. let c2 : After-slice-known3 = record { before = c1; slice-known3 = record { given = g' } }
+              in (
+                Path'.refl,
+                λ g''. let c3 : After-lines = record { before = c2; lines = record { given = g'' } } in λ g'3. let c4 : After-slice-known4 = record
+                    { before = c3; slice-known4 = record { given = g'3 } } in (
                       Path'.refl,
-                      (
-                        MutSlice.fix-len (Row.get 4 (T36 .locals) (m27 record {
-                          before = record {
-                            before = record { before = record { before = record { before = c .before; write-in = c .write-in }; out = record { given = g } }; slice-known3 = record { given = g' } };
-                            lines = record {
-                              given = g'';
-                            };
-                          };
-                          slice-known4 = record { given = g'3 };
-                        } g'4) .ptr) (Row.get 4 (T36 .locals) (m27 record {
-                          before = record {
-                            before = record { before = record { before = record { before = c .before; write-in = c .write-in }; out = record { given = g } }; slice-known3 = record { given = g' } };
-                            lines = record {
-                              given = g'';
-                            };
-                          };
-                          slice-known4 = record { given = g'3 };
-                        } g'4) .name) (Row.get 4 (T36 .locals) (m27 record {
-                          before = record {
-                            before = record { before = record { before = record { before = c .before; write-in = c .write-in }; out = record { given = g } }; slice-known3 = record { given = g' } };
-                            lines = record {
-                              given = g'';
-                            };
-                          };
-                          slice-known4 = record { given = g'3 };
-                        } g'4) .now) (dens (c .before .before .before .before .before .before .before .before .before .before .κs) (c .before .before .before
-                            .before .before .before .before .before .before .before .args) .1 .1 .1 .0 .now) (same-length record {
-                              before = record {
-                                before = record {
-                                  before = record { before = record { before = record { before = c .before; write-in = c .write-in }; out = record { given = g } }; slice-known3 = record { given = g' } };
-                                  lines = record {
-                                    given = g'';
-                                  };
-                                };
-                                slice-known4 = record { given = g'3 };
-                              };
-                              rs = record { given = g'4 };
-                            }),
+                      λ g'4. let c5 : After-rs = record { before = c4; rs = record { given = g'4 } } in (
                         (
-                          MutSlice.fix-len (Row.get 5 (T36 .locals) (m27 record {
-                            before = record {
-                              before = record { before = record { before = record { before = c .before; write-in = c .write-in }; out = record { given = g } }; slice-known3 = record { given = g' } };
-                              lines = record {
-                                given = g'';
-                              };
-                            };
-                            slice-known4 = record { given = g'3 };
-                          } g'4) .ptr) (Row.get 5 (T36 .locals) (m27 record {
-                            before = record {
-                              before = record { before = record { before = record { before = c .before; write-in = c .write-in }; out = record { given = g } }; slice-known3 = record { given = g' } };
-                              lines = record {
-                                given = g'';
-                              };
-                            };
-                            slice-known4 = record { given = g'3 };
-                          } g'4) .name) (Row.get 5 (T36 .locals) (m27 record {
-                            before = record {
-                              before = record { before = record { before = record { before = c .before; write-in = c .write-in }; out = record { given = g } }; slice-known3 = record { given = g' } };
-                              lines = record {
-                                given = g'';
-                              };
-                            };
-                            slice-known4 = record { given = g'3 };
-                          } g'4) .now) (dens (c .before .before .before .before .before .before .before .before .before .before .κs) (c .before .before .before
-                              .before .before .before .before .before .before .before .args) .1 .1 .1 .1 .0 .now) (same-length-2 record {
-                                before = record {
-                                  before = record {
-                                    before = record { before = record { before = record { before = c .before; write-in = c .write-in }; out = record { given = g } }; slice-known3 = record { given = g' } };
-                                    lines = record {
-                                      given = g'';
-                                    };
-                                  };
-                                  slice-known4 = record { given = g'3 };
-                                };
-                                rs = record { given = g'4 };
-                              }),
+                          Path'.refl,
                           (
-                            MutSlice.fix-len (Row.get 6 (T36 .locals) (m27 record {
-                              before = record {
-                                before = record { before = record { before = record { before = c .before; write-in = c .write-in }; out = record { given = g } }; slice-known3 = record { given = g' } };
-                                lines = record {
-                                  given = g'';
-                                };
-                              };
-                              slice-known4 = record { given = g'3 };
-                            } g'4) .ptr) (Row.get 6 (T36 .locals) (m27 record {
-                              before = record {
-                                before = record { before = record { before = record { before = c .before; write-in = c .write-in }; out = record { given = g } }; slice-known3 = record { given = g' } };
-                                lines = record {
-                                  given = g'';
-                                };
-                              };
-                              slice-known4 = record { given = g'3 };
-                            } g'4) .name) (Row.get 6 (T36 .locals) (m27 record {
-                              before = record {
-                                before = record { before = record { before = record { before = c .before; write-in = c .write-in }; out = record { given = g } }; slice-known3 = record { given = g' } };
-                                lines = record {
-                                  given = g'';
-                                };
-                              };
-                              slice-known4 = record { given = g'3 };
-                            } g'4) .now) (dens (c .before .before .before .before .before .before .before .before .before .before .κs) (c .before .before .before
-                                .before .before .before .before .before .before .before .args) .1 .1 .1 .1 .1 .0 .now) (same-length-3 record {
-                                  before = record {
-                                    before = record {
-                                      before = record { before = record { before = record { before = c .before; write-in = c .write-in }; out = record { given = g } }; slice-known3 = record { given = g' } };
-                                      lines = record {
-                                        given = g'';
-                                      };
-                                    };
-                                    slice-known4 = record { given = g'3 };
-                                  };
-                                  rs = record { given = g'4 };
-                                }),
-                            tt,
-                          ),
-                        ),
-                      ),
-                    ),
-                  ),
-                ),
-                returns record {
-                  before = record {
-                    before = record {
-                      before = record { before = record { before = record { before = c .before; write-in = c .write-in }; out = record { given = g } }; slice-known3 = record { given = g' } };
-                      lines = record {
-                        given = g'';
-                      };
-                    };
-                    slice-known4 = record { given = g'3 };
-                  };
-                  rs = record { given = g'4 };
-                },
-              ),
-            ),
-          ),
-        )
-
-        lay1 : (c : After-lossy-begins) → at26 (W0 (c .before .before .before .before .before .before .κs) (c .before .before .before .before .before .before .args)) (m10 (c .before)
-            (After-lossy-begins·gave c))
-        lay1 = λ c. λ g. (
-          Path'.refl,
-          λ g'. (
-            Path'.refl,
-            λ g''. (
-              Path'.refl,
-              (
-                write-in-requires record {
-                  before = record { before = record { before = record { before = c .before; lossy-begins = c .lossy-begins }; write-in-arg = record { given = g } }; write-in-arg2 = record { given = g' } };
-                  write-in-arg3 = record { given = g'' };
-                },
-                λ g'3. lay2 record {
-                  before = record {
-                    before = record { before = record { before = record { before = c .before; lossy-begins = c .lossy-begins }; write-in-arg = record { given = g } }; write-in-arg2 = record { given = g' } };
-                    write-in-arg3 = record { given = g'' };
-                  };
-                  write-in = Called.called ps·1 r·1 (claims· .3) T24 (
-                    record { pos = 7; st = List.[]; d = 0; at = λ x. x },
-                    (
-                      record { pos = 2; ty = Syntax.tyRef (Syntax.named 1) Syntax.imm (Syntax.tyInt Syntax.w8); ref = λ x. x },
-                      (
-                        record { pos = 3; ty = Syntax.tyRef (Syntax.named 2) Syntax.imm (Syntax.tyInt Syntax.w16); ref = λ x. x },
-                        (
-                          record { pos = 13; ty = Syntax.tyRef Syntax.erased Syntax.mut (Syntax.tyInt Syntax.w8); ref = λ x. x },
-                          (
-                            Bool.bLit Bool'.false,
+                            Path'.refl,
                             (
-                              record { pos = 15; ty = Syntax.tyRef Syntax.erased Syntax.mut (Syntax.tyInt Syntax.w16); ref = λ x. x },
-                              (record { pos = 17; ty = Syntax.tyRef Syntax.erased Syntax.mut Element.behind; ref = λ x. x }, tt),
+                              Path'.refl,
+                              (
+                                MutSlice.fix-len (Row.get 4 (T1 .locals) (m27 c4 g'4) .ptr) (Row.get 4 (T1 .locals) (m27 c4 g'4) .name) (Row.get 4 (T1 .locals) (m27 c4 g'4) .now) (dens (After-write-in·start c .κs)
+                                    (After-write-in·start c .args) .1 .1 .1 .0 .now) (same-length c5),
+                                (
+                                  MutSlice.fix-len (Row.get 5 (T1 .locals) (m27 c4 g'4) .ptr) (Row.get 5 (T1 .locals) (m27 c4 g'4) .name) (Row.get 5 (T1 .locals) (m27 c4 g'4) .now) (dens (After-write-in·start c .κs)
+                                      (After-write-in·start c .args) .1 .1 .1 .1 .0 .now) (same-length-2 c5),
+                                  (
+                                    MutSlice.fix-len (Row.get 6 (T1 .locals) (m27 c4 g'4) .ptr) (Row.get 6 (T1 .locals) (m27 c4 g'4) .name) (Row.get 6 (T1 .locals) (m27 c4 g'4) .now) (dens (After-write-in·start c .κs)
+                                        (After-write-in·start c .args) .1 .1 .1 .1 .1 .0 .now) (same-length-3 c5),
+                                    tt,
+                                  ),
+                                ),
+                              ),
                             ),
                           ),
                         ),
+                        returns c5,
                       ),
                     ),
-                  ) (m20 record
-                      { before = record { before = record { before = c .before; lossy-begins = c .lossy-begins }; write-in-arg = record { given = g } }; write-in-arg2 = record { given = g' } } g'') g'3;
-                },
               ),
-            ),
+        )
+
+        lay1 : (c : After-lossy-begins) → at26 (W0 (After-lossy-begins·start c .κs) (After-lossy-begins·start c .args)) (m10 (c .before) (After-lossy-begins·gave c))
+        lay1 = λ c. λ g. let c1 : After-write-in-arg = record { before = c; write-in-arg = record { given = g } } in (
+          Path'.refl,
+          λ g'. let c2 : After-write-in-arg2 = record { before = c1; write-in-arg2 = record { given = g' } } in (
+            Path'.refl,
+            λ g''. let c3 : After-write-in-arg3 = record { before = c2; write-in-arg3 = record { given = g'' } } in
+                (Path'.refl, (write-in-requires c3, λ g'3. lay2 record { before = c3; write-in = Called.called ps·1 r·1 (claims· .3) T24 a0 (m20 c2 g'') g'3 })),
           ),
         )
 
         pub laid : (c : Start) → at36 (W0 (c .κs) (c .args)) (m0 (c .κs) (c .args))
-        laid = λ c. λ g. λ g'. λ g''. λ g'3. λ g'4. (
-          lossy-begins-requires record {
-            before = record {
-              before = record
-                  { before = record { before = record { before = c; shared-slice-known = record { given = g } }; shared-slice-known2 = record { given = g' } }; shared-slice-known3 = record { given = g'' } };
-              slice-known = record { given = g'3 };
-            };
-            slice-known2 = record { given = g'4 };
-          },
-          λ g'5. lay1 record {
-            before = record {
-              before = record {
-                before = record
-                    { before = record { before = record { before = c; shared-slice-known = record { given = g } }; shared-slice-known2 = record { given = g' } }; shared-slice-known3 = record { given = g'' } };
-                slice-known = record { given = g'3 };
-              };
-              slice-known2 = record { given = g'4 };
-            };
-            lossy-begins = Called.called ps·0 r·0 (claims· .1) T10 (
-              record { pos = 1; ty = Syntax.tyRef (Syntax.named 0) Syntax.imm (Syntax.tyInt Syntax.w8); ref = λ x. x },
-              (Num.vAt 8 λ x. x, (Num.vAt 9 λ x. x, (Num.vAt 10 λ x. x, (Num.vAt 11 λ x. x, tt)))),
-            ) (m9 record {
-              before = record
-                  { before = record { before = record { before = c; shared-slice-known = record { given = g } }; shared-slice-known2 = record { given = g' } }; shared-slice-known3 = record { given = g'' } };
-              slice-known = record { given = g'3 };
-            } g'4) g'5;
-          },
-        )
+        laid = λ c. λ g. let c1 : After-shared-slice-known = record { before = c; shared-slice-known = record { given = g } } in λ g'. let c2 : After-shared-slice-known2 = record
+            { before = c1; shared-slice-known2 = record { given = g' } } in λ g''. let c3 : After-shared-slice-known3 = record { before = c2; shared-slice-known3 = record { given = g'' } } in λ g'3. let
+            c4 : After-slice-known = record { before = c3; slice-known = record { given = g'3 } } in λ g'4. let c5 : After-slice-known2 = record { before = c4; slice-known2 = record { given = g'4 } } in (
+              lossy-begins-requires c5,
+              λ g'5. lay1 record {
+                before = c5;
+                lossy-begins = Called.called ps·0 r·0 (claims· .1) T10
+                    (record { pos = 1; ty = y1; ref = λ x. x }, (Num.vAt 8 λ x. x, (Num.vAt 9 λ x. x, (Num.vAt 10 λ x. x, (Num.vAt 11 λ x. x, tt))))) (m9 c4 g'4) g'5;
+              },
+            )
 
         module _ (κs : Lifetimes.Lfts 6) (qs : Lifetimes.Shares 6) where
           pub asked : (a : Kinds.Dens κs ps) → (good : Kinds.GoodsP κs ps a) → (pre : Pre· κs a) → (bs : List.List Nat.ℕ) → Φ (Any.wantQ 6 ps r xs m κs qs a (Post· κs a)) (Function.init 6 ps r xs m κs

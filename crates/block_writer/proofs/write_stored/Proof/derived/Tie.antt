@@ -18,129 +18,68 @@ use borrow.Fn.Run
 use borrow.Fn.Written
 use contract.Running
 
+abbrev claims : Lts.Claims
+claims = (Reads''.Asked, Reads''.Learnt, Reads.Asked, Reads.Learnt, Reads'3.Asked, Reads'3.Learnt)
+
 abbrev pub Start : Type 0
-Start = Lts.Start (Reads''.Asked, Reads''.Learnt, Reads.Asked, Reads.Learnt, Reads'3.Asked, Reads'3.Learnt) Reads'.Pre Reads'.Post
-
-abbrev pub After-shared-slice-known : Type 0
-After-shared-slice-known = Lts.After-shared-slice-known (Reads''.Asked, Reads''.Learnt, Reads.Asked, Reads.Learnt, Reads'3.Asked, Reads'3.Learnt) Reads'.Pre Reads'.Post
-
-abbrev pub After-slice-known : Type 0
-After-slice-known = Lts.After-slice-known (Reads''.Asked, Reads''.Learnt, Reads.Asked, Reads.Learnt, Reads'3.Asked, Reads'3.Learnt) Reads'.Pre Reads'.Post
-
-abbrev pub After-slice-known2 : Type 0
-After-slice-known2 = Lts.After-slice-known2 (Reads''.Asked, Reads''.Learnt, Reads.Asked, Reads.Learnt, Reads'3.Asked, Reads'3.Learnt) Reads'.Pre Reads'.Post
-
-abbrev pub After-shared-slice-known2 : Type 0
-After-shared-slice-known2 = Lts.After-shared-slice-known2 (Reads''.Asked, Reads''.Learnt, Reads.Asked, Reads.Learnt, Reads'3.Asked, Reads'3.Learnt) Reads'.Pre Reads'.Post
-
-abbrev pub After-write-walk-arg : Type 0
-After-write-walk-arg = Lts.After-write-walk-arg (Reads''.Asked, Reads''.Learnt, Reads.Asked, Reads.Learnt, Reads'3.Asked, Reads'3.Learnt) Reads'.Pre Reads'.Post
-
-abbrev pub After-write-walk-arg2 : Type 0
-After-write-walk-arg2 = Lts.After-write-walk-arg2 (Reads''.Asked, Reads''.Learnt, Reads.Asked, Reads.Learnt, Reads'3.Asked, Reads'3.Learnt) Reads'.Pre Reads'.Post
-
-abbrev pub After-write-walk-arg3 : Type 0
-After-write-walk-arg3 = Lts.After-write-walk-arg3 (Reads''.Asked, Reads''.Learnt, Reads.Asked, Reads.Learnt, Reads'3.Asked, Reads'3.Learnt) Reads'.Pre Reads'.Post
+Start = Lts.Start claims Reads'.Pre Reads'.Post
 
 abbrev pub After-write-walk : Type 0
-After-write-walk = Lts.After-write-walk (Reads''.Asked, Reads''.Learnt, Reads.Asked, Reads.Learnt, Reads'3.Asked, Reads'3.Learnt) Reads'.Pre Reads'.Post
-
-abbrev pub After-out : Type 0
-After-out = Lts.After-out (Reads''.Asked, Reads''.Learnt, Reads.Asked, Reads.Learnt, Reads'3.Asked, Reads'3.Learnt) Reads'.Pre Reads'.Post
-
-abbrev pub After-slice-known3 : Type 0
-After-slice-known3 = Lts.After-slice-known3 (Reads''.Asked, Reads''.Learnt, Reads.Asked, Reads.Learnt, Reads'3.Asked, Reads'3.Learnt) Reads'.Pre Reads'.Post
-
-abbrev pub After-lines : Type 0
-After-lines = Lts.After-lines (Reads''.Asked, Reads''.Learnt, Reads.Asked, Reads.Learnt, Reads'3.Asked, Reads'3.Learnt) Reads'.Pre Reads'.Post
-
-abbrev pub After-slice-known4 : Type 0
-After-slice-known4 = Lts.After-slice-known4 (Reads''.Asked, Reads''.Learnt, Reads.Asked, Reads.Learnt, Reads'3.Asked, Reads'3.Learnt) Reads'.Pre Reads'.Post
+After-write-walk = Lts.After-write-walk claims Reads'.Pre Reads'.Post
 
 abbrev pub After-rs : Type 0
-After-rs = Lts.After-rs (Reads''.Asked, Reads''.Learnt, Reads.Asked, Reads.Learnt, Reads'3.Asked, Reads'3.Learnt) Reads'.Pre Reads'.Post
-
-abbrev pub At-match-keys1 : Type 0
-At-match-keys1 = Lts.At-match-keys1 (Reads''.Asked, Reads''.Learnt, Reads.Asked, Reads.Learnt, Reads'3.Asked, Reads'3.Learnt) Reads'.Pre Reads'.Post
-
-abbrev pub After-done : Type 0
-After-done = Lts.After-done (Reads''.Asked, Reads''.Learnt, Reads.Asked, Reads.Learnt, Reads'3.Asked, Reads'3.Learnt) Reads'.Pre Reads'.Post
+After-rs = Lts.After-rs claims Reads'.Pre Reads'.Post
 
 abbrev pub After-known-told : Type 0
-After-known-told = Lts.After-known-told (Reads''.Asked, Reads''.Learnt, Reads.Asked, Reads.Learnt, Reads'3.Asked, Reads'3.Learnt) Reads'.Pre Reads'.Post
-
-abbrev pub At-match-keys2 : Type 0
-At-match-keys2 = Lts.At-match-keys2 (Reads''.Asked, Reads''.Learnt, Reads.Asked, Reads.Learnt, Reads'3.Asked, Reads'3.Learnt) Reads'.Pre Reads'.Post
-
-abbrev pub After-done2 : Type 0
-After-done2 = Lts.After-done2 (Reads''.Asked, Reads''.Learnt, Reads.Asked, Reads.Learnt, Reads'3.Asked, Reads'3.Learnt) Reads'.Pre Reads'.Post
-
-abbrev pub After-known-told2 : Type 0
-After-known-told2 = Lts.After-known-told2 (Reads''.Asked, Reads''.Learnt, Reads.Asked, Reads.Learnt, Reads'3.Asked, Reads'3.Learnt) Reads'.Pre Reads'.Post
-
-abbrev pub After-fill-tail-arg : Type 0
-After-fill-tail-arg = Lts.After-fill-tail-arg (Reads''.Asked, Reads''.Learnt, Reads.Asked, Reads.Learnt, Reads'3.Asked, Reads'3.Learnt) Reads'.Pre Reads'.Post
-
-abbrev pub After-fill-tail : Type 0
-After-fill-tail = Lts.After-fill-tail (Reads''.Asked, Reads''.Learnt, Reads.Asked, Reads.Learnt, Reads'3.Asked, Reads'3.Learnt) Reads'.Pre Reads'.Post
-
-abbrev pub After-out2 : Type 0
-After-out2 = Lts.After-out2 (Reads''.Asked, Reads''.Learnt, Reads.Asked, Reads.Learnt, Reads'3.Asked, Reads'3.Learnt) Reads'.Pre Reads'.Post
-
-abbrev pub After-slice-known5 : Type 0
-After-slice-known5 = Lts.After-slice-known5 (Reads''.Asked, Reads''.Learnt, Reads.Asked, Reads.Learnt, Reads'3.Asked, Reads'3.Learnt) Reads'.Pre Reads'.Post
-
-abbrev pub After-block-bytes : Type 0
-After-block-bytes = Lts.After-block-bytes (Reads''.Asked, Reads''.Learnt, Reads.Asked, Reads.Learnt, Reads'3.Asked, Reads'3.Learnt) Reads'.Pre Reads'.Post
+After-known-told = Lts.After-known-told claims Reads'.Pre Reads'.Post
 
 abbrev pub Need-write-walk-requires : Type 0
-Need-write-walk-requires = Lts.Need-write-walk-requires (Reads''.Asked, Reads''.Learnt, Reads.Asked, Reads.Learnt, Reads'3.Asked, Reads'3.Learnt) Reads'.Pre Reads'.Post
+Need-write-walk-requires = Lts.Need-write-walk-requires claims Reads'.Pre Reads'.Post
 
 abbrev pub Need-enum-known-done : Type 0
-Need-enum-known-done = Lts.Need-enum-known-done (Reads''.Asked, Reads''.Learnt, Reads.Asked, Reads.Learnt, Reads'3.Asked, Reads'3.Learnt) Reads'.Pre Reads'.Post
+Need-enum-known-done = Lts.Need-enum-known-done claims Reads'.Pre Reads'.Post
 
 abbrev pub Need-enum-known-done-2 : Type 0
-Need-enum-known-done-2 = Lts.Need-enum-known-done-2 (Reads''.Asked, Reads''.Learnt, Reads.Asked, Reads.Learnt, Reads'3.Asked, Reads'3.Learnt) Reads'.Pre Reads'.Post
+Need-enum-known-done-2 = Lts.Need-enum-known-done-2 claims Reads'.Pre Reads'.Post
 
 abbrev pub Need-fill-tail-requires : Type 0
-Need-fill-tail-requires = Lts.Need-fill-tail-requires (Reads''.Asked, Reads''.Learnt, Reads.Asked, Reads.Learnt, Reads'3.Asked, Reads'3.Learnt) Reads'.Pre Reads'.Post
+Need-fill-tail-requires = Lts.Need-fill-tail-requires claims Reads'.Pre Reads'.Post
 
 abbrev pub Need-block-bytes-requires : Type 0
-Need-block-bytes-requires = Lts.Need-block-bytes-requires (Reads''.Asked, Reads''.Learnt, Reads.Asked, Reads.Learnt, Reads'3.Asked, Reads'3.Learnt) Reads'.Pre Reads'.Post
+Need-block-bytes-requires = Lts.Need-block-bytes-requires claims Reads'.Pre Reads'.Post
 
 abbrev pub Need-same-length : Type 0
-Need-same-length = Lts.Need-same-length (Reads''.Asked, Reads''.Learnt, Reads.Asked, Reads.Learnt, Reads'3.Asked, Reads'3.Learnt) Reads'.Pre Reads'.Post
+Need-same-length = Lts.Need-same-length claims Reads'.Pre Reads'.Post
 
 abbrev pub Need-same-length-2 : Type 0
-Need-same-length-2 = Lts.Need-same-length-2 (Reads''.Asked, Reads''.Learnt, Reads.Asked, Reads.Learnt, Reads'3.Asked, Reads'3.Learnt) Reads'.Pre Reads'.Post
+Need-same-length-2 = Lts.Need-same-length-2 claims Reads'.Pre Reads'.Post
 
 abbrev pub Need-same-length-3 : Type 0
-Need-same-length-3 = Lts.Need-same-length-3 (Reads''.Asked, Reads''.Learnt, Reads.Asked, Reads.Learnt, Reads'3.Asked, Reads'3.Learnt) Reads'.Pre Reads'.Post
+Need-same-length-3 = Lts.Need-same-length-3 claims Reads'.Pre Reads'.Post
 
 abbrev pub Need-returns : Type 0
-Need-returns = Lts.Need-returns (Reads''.Asked, Reads''.Learnt, Reads.Asked, Reads.Learnt, Reads'3.Asked, Reads'3.Learnt) Reads'.Pre Reads'.Post
+Need-returns = Lts.Need-returns claims Reads'.Pre Reads'.Post
 
 abbrev pub Need-same-length-4 : Type 0
-Need-same-length-4 = Lts.Need-same-length-4 (Reads''.Asked, Reads''.Learnt, Reads.Asked, Reads.Learnt, Reads'3.Asked, Reads'3.Learnt) Reads'.Pre Reads'.Post
+Need-same-length-4 = Lts.Need-same-length-4 claims Reads'.Pre Reads'.Post
 
 abbrev pub Need-same-length-5 : Type 0
-Need-same-length-5 = Lts.Need-same-length-5 (Reads''.Asked, Reads''.Learnt, Reads.Asked, Reads.Learnt, Reads'3.Asked, Reads'3.Learnt) Reads'.Pre Reads'.Post
+Need-same-length-5 = Lts.Need-same-length-5 claims Reads'.Pre Reads'.Post
 
 abbrev pub Need-same-length-6 : Type 0
-Need-same-length-6 = Lts.Need-same-length-6 (Reads''.Asked, Reads''.Learnt, Reads.Asked, Reads.Learnt, Reads'3.Asked, Reads'3.Learnt) Reads'.Pre Reads'.Post
+Need-same-length-6 = Lts.Need-same-length-6 claims Reads'.Pre Reads'.Post
 
 abbrev pub Need-returns-2 : Type 0
-Need-returns-2 = Lts.Need-returns-2 (Reads''.Asked, Reads''.Learnt, Reads.Asked, Reads.Learnt, Reads'3.Asked, Reads'3.Learnt) Reads'.Pre Reads'.Post
+Need-returns-2 = Lts.Need-returns-2 claims Reads'.Pre Reads'.Post
 
 module _ {M : Type 1} where
   pub spec : (answer : Need-write-walk-requires) → (answer : Need-enum-known-done) → (answer : Need-enum-known-done-2) → (answer : Need-fill-tail-requires) → (answer : Need-block-bytes-requires) →
       (answer : Need-same-length) → (answer : Need-same-length-2) → (answer : Need-same-length-3) → (answer : Need-returns) → (answer : Need-same-length-4) → (answer : Need-same-length-5) → (answer :
-      Need-same-length-6) → (answer : Need-returns-2) → Lts.Closed (Reads''.Asked, Reads''.Learnt, Reads.Asked, Reads.Learnt, Reads'3.Asked, Reads'3.Learnt) Reads'.Pre Reads'.Post M
-  spec = λ answer answer' answer'' answer'3 answer'4 answer'5 answer'6 answer'7 answer'8 answer'9 answer'10 answer'11 answer'12. Lts.spec
-      (Reads''.Asked, Reads''.Learnt, Reads.Asked, Reads.Learnt, Reads'3.Asked, Reads'3.Learnt) Reads'.Pre Reads'.Post answer answer' answer'' answer'3 answer'4 answer'5 answer'6 answer'7 answer'8
-      answer'9 answer'10 answer'11 answer'12
+      Need-same-length-6) → (answer : Need-returns-2) → Lts.Closed claims Reads'.Pre Reads'.Post M
+  spec = λ answer answer' answer'' answer'3 answer'4 answer'5 answer'6 answer'7 answer'8 answer'9 answer'10 answer'11 answer'12. Lts.spec claims Reads'.Pre Reads'.Post answer answer' answer'' answer'3
+      answer'4 answer'5 answer'6 answer'7 answer'8 answer'9 answer'10 answer'11 answer'12
 
-  pub close : Lts.Closed (Reads''.Asked, Reads''.Learnt, Reads.Asked, Reads.Learnt, Reads'3.Asked, Reads'3.Learnt) Reads'.Pre Reads'.Post M → Statement.statement M
+  pub close : Lts.Closed claims Reads'.Pre Reads'.Post M → Statement.statement M
   unfolding Code.routine Running.tablesOf
   close = λ closed 𝓤 H 𝓜 𝓖 𝓡. Written.close 5 Kinds.ps Kinds.r Reads'.Ghost Reads'.requires Reads'.ensures Reads'.pre-read Reads'.Pinned Reads'.Owned Reads'.post-read record
       { M = M; 𝓤 = 𝓤; H = H; 𝓜 = 𝓜; 𝓖 = 𝓖; 𝓡 = 𝓡 } Code.env Key.name Code.function (Code.unfolded 𝓤 H 𝓜 𝓡) (λ κs a g. tt) (λ κs. Reads'.owns κs record { M = M; 𝓤 = 𝓤; H = H; 𝓜 = 𝓜; 𝓖 = 𝓖; 𝓡 = 𝓡 })

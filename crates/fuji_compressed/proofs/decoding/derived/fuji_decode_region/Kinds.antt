@@ -1,17 +1,17 @@
 -- Written by tools/lend.py from Rattle's derivation of the twin of `fuji_compressed`; not edited by hand. Assumes nothing.
+use Rattle.bits.proofs.Values.{n16, n64, n8}
+use mathlib.Core.List.{_∷_, []}
 use Rattle.block.proofs.Element
 use borrow.Fn.Kinds
 use borrow.Kind.MutSlice
 use borrow.Kind.ShrSlice
-use borrow.Table.Referent
 use denote.Array
 use mathlib.Core.List
 use mir.Syntax
 
 abbrev pub ps : List.List (Kinds.PK 6)
-ps = List._∷_ (ShrSlice.pShrS (Referent.rtF (Referent.fInt Syntax.w8)) 0 tt) (List._∷_ (Kinds.pNum Syntax.w64) (List._∷_ (Kinds.pNum Syntax.w64) (List._∷_ (Kinds.pNum Syntax.w64) (List._∷_ (Kinds.pNum
-    Syntax.w64) (List._∷_ (Kinds.pShr (Array.Array (Referent.rtF (Referent.fInt Syntax.w8)) 36) 1 tt) (List._∷_ (MutSlice.pMutS (Referent.rtF (Referent.fInt Syntax.w16)) 2 tt) (List._∷_ (MutSlice.pMutS
-    (Referent.rtF (Referent.fInt Syntax.w16)) 3 tt) (List._∷_ (MutSlice.pMutS (Element.type) 4 tt) (List._∷_ (Kinds.pMut (Array.Array (Referent.rtF (Referent.fInt Syntax.w64)) 4) 5 tt) List.[])))))))))
+ps = (ShrSlice.pShrS n8 0 tt) ∷ (Kinds.pNum Syntax.w64) ∷ (Kinds.pNum Syntax.w64) ∷ (Kinds.pNum Syntax.w64) ∷ (Kinds.pNum Syntax.w64) ∷ (Kinds.pShr (Array.Array n8 36) 1 tt) ∷ (MutSlice.pMutS n16 2
+    tt) ∷ (MutSlice.pMutS n16 3 tt) ∷ (MutSlice.pMutS (Element.type) 4 tt) ∷ (Kinds.pMut (Array.Array n64 4) 5 tt) ∷ []
 
 abbrev pub r : Kinds.RK 6
 r = Kinds.rUnit

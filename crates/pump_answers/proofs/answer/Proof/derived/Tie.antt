@@ -21,84 +21,43 @@ use borrow.Fn.Run
 use borrow.Fn.Written
 use contract.Running
 
-abbrev pub Start : Type 0
-Start = Lts.Start (Reads'3.Asked, Reads'3.Learnt, Reads''.Asked, Reads''.Learnt, Reads'4.Asked, Reads'4.Learnt, Reads.Asked, Reads.Learnt) Reads'.Pre Reads'.Post
-
-abbrev pub At-match-keys1 : Type 0
-At-match-keys1 = Lts.At-match-keys1 (Reads'3.Asked, Reads'3.Learnt, Reads''.Asked, Reads''.Learnt, Reads'4.Asked, Reads'4.Learnt, Reads.Asked, Reads.Learnt) Reads'.Pre Reads'.Post
-
-abbrev pub After-peek-arg : Type 0
-After-peek-arg = Lts.After-peek-arg (Reads'3.Asked, Reads'3.Learnt, Reads''.Asked, Reads''.Learnt, Reads'4.Asked, Reads'4.Learnt, Reads.Asked, Reads.Learnt) Reads'.Pre Reads'.Post
-
-abbrev pub After-peek : Type 0
-After-peek = Lts.After-peek (Reads'3.Asked, Reads'3.Learnt, Reads''.Asked, Reads''.Learnt, Reads'4.Asked, Reads'4.Learnt, Reads.Asked, Reads.Learnt) Reads'.Pre Reads'.Post
-
-abbrev pub At-match-keys2 : Type 0
-At-match-keys2 = Lts.At-match-keys2 (Reads'3.Asked, Reads'3.Learnt, Reads''.Asked, Reads''.Learnt, Reads'4.Asked, Reads'4.Learnt, Reads.Asked, Reads.Learnt) Reads'.Pre Reads'.Post
-
-abbrev pub After-get-arg : Type 0
-After-get-arg = Lts.After-get-arg (Reads'3.Asked, Reads'3.Learnt, Reads''.Asked, Reads''.Learnt, Reads'4.Asked, Reads'4.Learnt, Reads.Asked, Reads.Learnt) Reads'.Pre Reads'.Post
-
-abbrev pub After-get : Type 0
-After-get = Lts.After-get (Reads'3.Asked, Reads'3.Learnt, Reads''.Asked, Reads''.Learnt, Reads'4.Asked, Reads'4.Learnt, Reads.Asked, Reads.Learnt) Reads'.Pre Reads'.Post
-
-abbrev pub At-match-keys3 : Type 0
-At-match-keys3 = Lts.At-match-keys3 (Reads'3.Asked, Reads'3.Learnt, Reads''.Asked, Reads''.Learnt, Reads'4.Asked, Reads'4.Learnt, Reads.Asked, Reads.Learnt) Reads'.Pre Reads'.Post
-
-abbrev pub After-skip-arg : Type 0
-After-skip-arg = Lts.After-skip-arg (Reads'3.Asked, Reads'3.Learnt, Reads''.Asked, Reads''.Learnt, Reads'4.Asked, Reads'4.Learnt, Reads.Asked, Reads.Learnt) Reads'.Pre Reads'.Post
-
-abbrev pub After-skip : Type 0
-After-skip = Lts.After-skip (Reads'3.Asked, Reads'3.Learnt, Reads''.Asked, Reads''.Learnt, Reads'4.Asked, Reads'4.Learnt, Reads.Asked, Reads.Learnt) Reads'.Pre Reads'.Post
-
-abbrev pub At-match-keys4 : Type 0
-At-match-keys4 = Lts.At-match-keys4 (Reads'3.Asked, Reads'3.Learnt, Reads''.Asked, Reads''.Learnt, Reads'4.Asked, Reads'4.Learnt, Reads.Asked, Reads.Learnt) Reads'.Pre Reads'.Post
-
-abbrev pub After-align-byte-arg : Type 0
-After-align-byte-arg = Lts.After-align-byte-arg (Reads'3.Asked, Reads'3.Learnt, Reads''.Asked, Reads''.Learnt, Reads'4.Asked, Reads'4.Learnt, Reads.Asked, Reads.Learnt) Reads'.Pre Reads'.Post
-
-abbrev pub After-align-byte : Type 0
-After-align-byte = Lts.After-align-byte (Reads'3.Asked, Reads'3.Learnt, Reads''.Asked, Reads''.Learnt, Reads'4.Asked, Reads'4.Learnt, Reads.Asked, Reads.Learnt) Reads'.Pre Reads'.Post
-
-abbrev pub At-match-rest : Type 0
-At-match-rest = Lts.At-match-rest (Reads'3.Asked, Reads'3.Learnt, Reads''.Asked, Reads''.Learnt, Reads'4.Asked, Reads'4.Learnt, Reads.Asked, Reads.Learnt) Reads'.Pre Reads'.Post
+abbrev claims : Lts.Claims
+claims = (Reads'3.Asked, Reads'3.Learnt, Reads''.Asked, Reads''.Learnt, Reads'4.Asked, Reads'4.Learnt, Reads.Asked, Reads.Learnt)
 
 abbrev pub Need-peek-requires : Type 0
-Need-peek-requires = Lts.Need-peek-requires (Reads'3.Asked, Reads'3.Learnt, Reads''.Asked, Reads''.Learnt, Reads'4.Asked, Reads'4.Learnt, Reads.Asked, Reads.Learnt) Reads'.Pre Reads'.Post
+Need-peek-requires = Lts.Need-peek-requires claims Reads'.Pre Reads'.Post
 
 abbrev pub Need-get-requires : Type 0
-Need-get-requires = Lts.Need-get-requires (Reads'3.Asked, Reads'3.Learnt, Reads''.Asked, Reads''.Learnt, Reads'4.Asked, Reads'4.Learnt, Reads.Asked, Reads.Learnt) Reads'.Pre Reads'.Post
+Need-get-requires = Lts.Need-get-requires claims Reads'.Pre Reads'.Post
 
 abbrev pub Need-skip-requires : Type 0
-Need-skip-requires = Lts.Need-skip-requires (Reads'3.Asked, Reads'3.Learnt, Reads''.Asked, Reads''.Learnt, Reads'4.Asked, Reads'4.Learnt, Reads.Asked, Reads.Learnt) Reads'.Pre Reads'.Post
+Need-skip-requires = Lts.Need-skip-requires claims Reads'.Pre Reads'.Post
 
 abbrev pub Need-align-byte-requires : Type 0
-Need-align-byte-requires = Lts.Need-align-byte-requires (Reads'3.Asked, Reads'3.Learnt, Reads''.Asked, Reads''.Learnt, Reads'4.Asked, Reads'4.Learnt, Reads.Asked, Reads.Learnt) Reads'.Pre Reads'.Post
+Need-align-byte-requires = Lts.Need-align-byte-requires claims Reads'.Pre Reads'.Post
 
 abbrev pub Need-returns : Type 0
-Need-returns = Lts.Need-returns (Reads'3.Asked, Reads'3.Learnt, Reads''.Asked, Reads''.Learnt, Reads'4.Asked, Reads'4.Learnt, Reads.Asked, Reads.Learnt) Reads'.Pre Reads'.Post
+Need-returns = Lts.Need-returns claims Reads'.Pre Reads'.Post
 
 abbrev pub Need-returns-2 : Type 0
-Need-returns-2 = Lts.Need-returns-2 (Reads'3.Asked, Reads'3.Learnt, Reads''.Asked, Reads''.Learnt, Reads'4.Asked, Reads'4.Learnt, Reads.Asked, Reads.Learnt) Reads'.Pre Reads'.Post
+Need-returns-2 = Lts.Need-returns-2 claims Reads'.Pre Reads'.Post
 
 abbrev pub Need-returns-3 : Type 0
-Need-returns-3 = Lts.Need-returns-3 (Reads'3.Asked, Reads'3.Learnt, Reads''.Asked, Reads''.Learnt, Reads'4.Asked, Reads'4.Learnt, Reads.Asked, Reads.Learnt) Reads'.Pre Reads'.Post
+Need-returns-3 = Lts.Need-returns-3 claims Reads'.Pre Reads'.Post
 
 abbrev pub Need-returns-4 : Type 0
-Need-returns-4 = Lts.Need-returns-4 (Reads'3.Asked, Reads'3.Learnt, Reads''.Asked, Reads''.Learnt, Reads'4.Asked, Reads'4.Learnt, Reads.Asked, Reads.Learnt) Reads'.Pre Reads'.Post
+Need-returns-4 = Lts.Need-returns-4 claims Reads'.Pre Reads'.Post
 
 abbrev pub Need-returns-5 : Type 0
-Need-returns-5 = Lts.Need-returns-5 (Reads'3.Asked, Reads'3.Learnt, Reads''.Asked, Reads''.Learnt, Reads'4.Asked, Reads'4.Learnt, Reads.Asked, Reads.Learnt) Reads'.Pre Reads'.Post
+Need-returns-5 = Lts.Need-returns-5 claims Reads'.Pre Reads'.Post
 
 module _ {M : Type 1} where
   pub spec : (answer : Need-peek-requires) → (answer : Need-get-requires) → (answer : Need-skip-requires) → (answer : Need-align-byte-requires) → (answer : Need-returns) → (answer : Need-returns-2) →
-      (answer : Need-returns-3) → (answer : Need-returns-4) → (answer : Need-returns-5) → Lts.Closed
-      (Reads'3.Asked, Reads'3.Learnt, Reads''.Asked, Reads''.Learnt, Reads'4.Asked, Reads'4.Learnt, Reads.Asked, Reads.Learnt) Reads'.Pre Reads'.Post M
-  spec = λ answer answer' answer'' answer'3 answer'4 answer'5 answer'6 answer'7 answer'8. Lts.spec
-      (Reads'3.Asked, Reads'3.Learnt, Reads''.Asked, Reads''.Learnt, Reads'4.Asked, Reads'4.Learnt, Reads.Asked, Reads.Learnt) Reads'.Pre Reads'.Post answer answer' answer'' answer'3 answer'4 answer'5
-      answer'6 answer'7 answer'8
+      (answer : Need-returns-3) → (answer : Need-returns-4) → (answer : Need-returns-5) → Lts.Closed claims Reads'.Pre Reads'.Post M
+  spec = λ answer answer' answer'' answer'3 answer'4 answer'5 answer'6 answer'7 answer'8. Lts.spec claims Reads'.Pre Reads'.Post answer answer' answer'' answer'3 answer'4 answer'5 answer'6 answer'7
+      answer'8
 
-  pub close : Lts.Closed (Reads'3.Asked, Reads'3.Learnt, Reads''.Asked, Reads''.Learnt, Reads'4.Asked, Reads'4.Learnt, Reads.Asked, Reads.Learnt) Reads'.Pre Reads'.Post M → Statement.statement M
+  pub close : Lts.Closed claims Reads'.Pre Reads'.Post M → Statement.statement M
   unfolding Code.routine Running.tablesOf
   close = λ closed 𝓤 H 𝓜 𝓖 𝓡. Written.close 2 Kinds.ps Kinds.r Reads'.Ghost Reads'.requires Reads'.ensures Reads'.pre-read Reads'.Pinned Reads'.Owned Reads'.post-read record
       { M = M; 𝓤 = 𝓤; H = H; 𝓜 = 𝓜; 𝓖 = 𝓖; 𝓡 = 𝓡 } Code.env Key.name Code.function (Code.unfolded 𝓤 H 𝓜 𝓡) (λ κs a g. tt) (λ κs. Reads'.owns κs record { M = M; 𝓤 = 𝓤; H = H; 𝓜 = 𝓜; 𝓖 = 𝓖; 𝓡 = 𝓡 })

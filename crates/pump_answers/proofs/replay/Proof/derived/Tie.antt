@@ -27,6 +27,9 @@ use borrow.Fn.Run
 use borrow.Fn.Written
 use contract.Running
 
+abbrev claims : Lts.Claims
+claims = (Reads'4.Asked, Reads'4.Learnt, Reads'.Asked, Reads'.Learnt, Reads''.Asked, Reads''.Learnt, Reads'3.Asked, Reads'3.Learnt, Reads.Asked, Reads.Learnt, Reads'5.Asked, Reads'5.Learnt)
+
 abbrev pub InvT-loop : Type 1
 InvT-loop = Lts.InvT-loop
 
@@ -34,143 +37,88 @@ abbrev pub MeasureT-loop : Type 0
 MeasureT-loop = Lts.MeasureT-loop
 
 abbrev pub Start : (Inv : InvT-loop) → (μ : MeasureT-loop) → Type 0
-Start = λ Inv μ. Lts.Start
-    (Reads'4.Asked, Reads'4.Learnt, Reads'.Asked, Reads'.Learnt, Reads''.Asked, Reads''.Learnt, Reads'3.Asked, Reads'3.Learnt, Reads.Asked, Reads.Learnt, Reads'5.Asked, Reads'5.Learnt) Reads'6.Pre
-    Reads'6.Post Inv μ
+Start = λ Inv μ. Lts.Start claims Reads'6.Pre Reads'6.Post Inv μ
 
 abbrev pub After-shared-slice-known : (Inv : InvT-loop) → (μ : MeasureT-loop) → Type 0
-After-shared-slice-known = λ Inv μ. Lts.After-shared-slice-known
-    (Reads'4.Asked, Reads'4.Learnt, Reads'.Asked, Reads'.Learnt, Reads''.Asked, Reads''.Learnt, Reads'3.Asked, Reads'3.Learnt, Reads.Asked, Reads.Learnt, Reads'5.Asked, Reads'5.Learnt) Reads'6.Pre
-    Reads'6.Post Inv μ
+After-shared-slice-known = λ Inv μ. Lts.After-shared-slice-known claims Reads'6.Pre Reads'6.Post Inv μ
 
 abbrev pub At-loop : (Inv : InvT-loop) → (μ : MeasureT-loop) → Type 0
-At-loop = λ Inv μ. Lts.At-loop
-    (Reads'4.Asked, Reads'4.Learnt, Reads'.Asked, Reads'.Learnt, Reads''.Asked, Reads''.Learnt, Reads'3.Asked, Reads'3.Learnt, Reads.Asked, Reads.Learnt, Reads'5.Asked, Reads'5.Learnt) Reads'6.Pre
-    Reads'6.Post Inv μ
+At-loop = λ Inv μ. Lts.At-loop claims Reads'6.Pre Reads'6.Post Inv μ
 
 abbrev pub In-loop : (Inv : InvT-loop) → (μ : MeasureT-loop) → Type 0
-In-loop = λ Inv μ. Lts.In-loop
-    (Reads'4.Asked, Reads'4.Learnt, Reads'.Asked, Reads'.Learnt, Reads''.Asked, Reads''.Learnt, Reads'3.Asked, Reads'3.Learnt, Reads.Asked, Reads.Learnt, Reads'5.Asked, Reads'5.Learnt) Reads'6.Pre
-    Reads'6.Post Inv μ
+In-loop = λ Inv μ. Lts.In-loop claims Reads'6.Pre Reads'6.Post Inv μ
 
 abbrev pub After-loop : (Inv : InvT-loop) → (μ : MeasureT-loop) → Type 0
-After-loop = λ Inv μ. Lts.After-loop
-    (Reads'4.Asked, Reads'4.Learnt, Reads'.Asked, Reads'.Learnt, Reads''.Asked, Reads''.Learnt, Reads'3.Asked, Reads'3.Learnt, Reads.Asked, Reads.Learnt, Reads'5.Asked, Reads'5.Learnt) Reads'6.Pre
-    Reads'6.Post Inv μ
+After-loop = λ Inv μ. Lts.After-loop claims Reads'6.Pre Reads'6.Post Inv μ
 
 abbrev pub After-call-at : (Inv : InvT-loop) → (μ : MeasureT-loop) → Type 0
-After-call-at = λ Inv μ. Lts.After-call-at
-    (Reads'4.Asked, Reads'4.Learnt, Reads'.Asked, Reads'.Learnt, Reads''.Asked, Reads''.Learnt, Reads'3.Asked, Reads'3.Learnt, Reads.Asked, Reads.Learnt, Reads'5.Asked, Reads'5.Learnt) Reads'6.Pre
-    Reads'6.Post Inv μ
+After-call-at = λ Inv μ. Lts.After-call-at claims Reads'6.Pre Reads'6.Post Inv μ
 
 abbrev pub After-answer-arg : (Inv : InvT-loop) → (μ : MeasureT-loop) → Type 0
-After-answer-arg = λ Inv μ. Lts.After-answer-arg
-    (Reads'4.Asked, Reads'4.Learnt, Reads'.Asked, Reads'.Learnt, Reads''.Asked, Reads''.Learnt, Reads'3.Asked, Reads'3.Learnt, Reads.Asked, Reads.Learnt, Reads'5.Asked, Reads'5.Learnt) Reads'6.Pre
-    Reads'6.Post Inv μ
+After-answer-arg = λ Inv μ. Lts.After-answer-arg claims Reads'6.Pre Reads'6.Post Inv μ
 
 abbrev pub After-answer : (Inv : InvT-loop) → (μ : MeasureT-loop) → Type 0
-After-answer = λ Inv μ. Lts.After-answer
-    (Reads'4.Asked, Reads'4.Learnt, Reads'.Asked, Reads'.Learnt, Reads''.Asked, Reads''.Learnt, Reads'3.Asked, Reads'3.Learnt, Reads.Asked, Reads.Learnt, Reads'5.Asked, Reads'5.Learnt) Reads'6.Pre
-    Reads'6.Post Inv μ
+After-answer = λ Inv μ. Lts.After-answer claims Reads'6.Pre Reads'6.Post Inv μ
 
 abbrev pub After-bit-position-arg : (Inv : InvT-loop) → (μ : MeasureT-loop) → Type 0
-After-bit-position-arg = λ Inv μ. Lts.After-bit-position-arg
-    (Reads'4.Asked, Reads'4.Learnt, Reads'.Asked, Reads'.Learnt, Reads''.Asked, Reads''.Learnt, Reads'3.Asked, Reads'3.Learnt, Reads.Asked, Reads.Learnt, Reads'5.Asked, Reads'5.Learnt) Reads'6.Pre
-    Reads'6.Post Inv μ
+After-bit-position-arg = λ Inv μ. Lts.After-bit-position-arg claims Reads'6.Pre Reads'6.Post Inv μ
 
 abbrev pub After-bit-position : (Inv : InvT-loop) → (μ : MeasureT-loop) → Type 0
-After-bit-position = λ Inv μ. Lts.After-bit-position
-    (Reads'4.Asked, Reads'4.Learnt, Reads'.Asked, Reads'.Learnt, Reads''.Asked, Reads''.Learnt, Reads'3.Asked, Reads'3.Learnt, Reads.Asked, Reads.Learnt, Reads'5.Asked, Reads'5.Learnt) Reads'6.Pre
-    Reads'6.Post Inv μ
+After-bit-position = λ Inv μ. Lts.After-bit-position claims Reads'6.Pre Reads'6.Post Inv μ
 
 abbrev pub After-byte-position-arg : (Inv : InvT-loop) → (μ : MeasureT-loop) → Type 0
-After-byte-position-arg = λ Inv μ. Lts.After-byte-position-arg
-    (Reads'4.Asked, Reads'4.Learnt, Reads'.Asked, Reads'.Learnt, Reads''.Asked, Reads''.Learnt, Reads'3.Asked, Reads'3.Learnt, Reads.Asked, Reads.Learnt, Reads'5.Asked, Reads'5.Learnt) Reads'6.Pre
-    Reads'6.Post Inv μ
+After-byte-position-arg = λ Inv μ. Lts.After-byte-position-arg claims Reads'6.Pre Reads'6.Post Inv μ
 
 abbrev pub After-byte-position : (Inv : InvT-loop) → (μ : MeasureT-loop) → Type 0
-After-byte-position = λ Inv μ. Lts.After-byte-position
-    (Reads'4.Asked, Reads'4.Learnt, Reads'.Asked, Reads'.Learnt, Reads''.Asked, Reads''.Learnt, Reads'3.Asked, Reads'3.Learnt, Reads.Asked, Reads.Learnt, Reads'5.Asked, Reads'5.Learnt) Reads'6.Pre
-    Reads'6.Post Inv μ
+After-byte-position = λ Inv μ. Lts.After-byte-position claims Reads'6.Pre Reads'6.Post Inv μ
 
 abbrev pub After-agrees : (Inv : InvT-loop) → (μ : MeasureT-loop) → Type 0
-After-agrees = λ Inv μ. Lts.After-agrees
-    (Reads'4.Asked, Reads'4.Learnt, Reads'.Asked, Reads'.Learnt, Reads''.Asked, Reads''.Learnt, Reads'3.Asked, Reads'3.Learnt, Reads.Asked, Reads.Learnt, Reads'5.Asked, Reads'5.Learnt) Reads'6.Pre
-    Reads'6.Post Inv μ
+After-agrees = λ Inv μ. Lts.After-agrees claims Reads'6.Pre Reads'6.Post Inv μ
 
 abbrev pub After-counted : (Inv : InvT-loop) → (μ : MeasureT-loop) → Type 0
-After-counted = λ Inv μ. Lts.After-counted
-    (Reads'4.Asked, Reads'4.Learnt, Reads'.Asked, Reads'.Learnt, Reads''.Asked, Reads''.Learnt, Reads'3.Asked, Reads'3.Learnt, Reads.Asked, Reads.Learnt, Reads'5.Asked, Reads'5.Learnt) Reads'6.Pre
-    Reads'6.Post Inv μ
+After-counted = λ Inv μ. Lts.After-counted claims Reads'6.Pre Reads'6.Post Inv μ
 
 abbrev pub Need-loop-holds : (Inv : InvT-loop) → (μ : MeasureT-loop) → Type 0
-Need-loop-holds = λ Inv μ. Lts.Need-loop-holds
-    (Reads'4.Asked, Reads'4.Learnt, Reads'.Asked, Reads'.Learnt, Reads''.Asked, Reads''.Learnt, Reads'3.Asked, Reads'3.Learnt, Reads.Asked, Reads.Learnt, Reads'5.Asked, Reads'5.Learnt) Reads'6.Pre
-    Reads'6.Post Inv μ
+Need-loop-holds = λ Inv μ. Lts.Need-loop-holds claims Reads'6.Pre Reads'6.Post Inv μ
 
 abbrev pub Need-call-at-requires : (Inv : InvT-loop) → (μ : MeasureT-loop) → Type 0
-Need-call-at-requires = λ Inv μ. Lts.Need-call-at-requires
-    (Reads'4.Asked, Reads'4.Learnt, Reads'.Asked, Reads'.Learnt, Reads''.Asked, Reads''.Learnt, Reads'3.Asked, Reads'3.Learnt, Reads.Asked, Reads.Learnt, Reads'5.Asked, Reads'5.Learnt) Reads'6.Pre
-    Reads'6.Post Inv μ
+Need-call-at-requires = λ Inv μ. Lts.Need-call-at-requires claims Reads'6.Pre Reads'6.Post Inv μ
 
 abbrev pub Need-answer-requires : (Inv : InvT-loop) → (μ : MeasureT-loop) → Type 0
-Need-answer-requires = λ Inv μ. Lts.Need-answer-requires
-    (Reads'4.Asked, Reads'4.Learnt, Reads'.Asked, Reads'.Learnt, Reads''.Asked, Reads''.Learnt, Reads'3.Asked, Reads'3.Learnt, Reads.Asked, Reads.Learnt, Reads'5.Asked, Reads'5.Learnt) Reads'6.Pre
-    Reads'6.Post Inv μ
+Need-answer-requires = λ Inv μ. Lts.Need-answer-requires claims Reads'6.Pre Reads'6.Post Inv μ
 
 abbrev pub Need-bit-position-requires : (Inv : InvT-loop) → (μ : MeasureT-loop) → Type 0
-Need-bit-position-requires = λ Inv μ. Lts.Need-bit-position-requires
-    (Reads'4.Asked, Reads'4.Learnt, Reads'.Asked, Reads'.Learnt, Reads''.Asked, Reads''.Learnt, Reads'3.Asked, Reads'3.Learnt, Reads.Asked, Reads.Learnt, Reads'5.Asked, Reads'5.Learnt) Reads'6.Pre
-    Reads'6.Post Inv μ
+Need-bit-position-requires = λ Inv μ. Lts.Need-bit-position-requires claims Reads'6.Pre Reads'6.Post Inv μ
 
 abbrev pub Need-byte-position-requires : (Inv : InvT-loop) → (μ : MeasureT-loop) → Type 0
-Need-byte-position-requires = λ Inv μ. Lts.Need-byte-position-requires
-    (Reads'4.Asked, Reads'4.Learnt, Reads'.Asked, Reads'.Learnt, Reads''.Asked, Reads''.Learnt, Reads'3.Asked, Reads'3.Learnt, Reads.Asked, Reads.Learnt, Reads'5.Asked, Reads'5.Learnt) Reads'6.Pre
-    Reads'6.Post Inv μ
+Need-byte-position-requires = λ Inv μ. Lts.Need-byte-position-requires claims Reads'6.Pre Reads'6.Post Inv μ
 
 abbrev pub Need-agrees-requires : (Inv : InvT-loop) → (μ : MeasureT-loop) → Type 0
-Need-agrees-requires = λ Inv μ. Lts.Need-agrees-requires
-    (Reads'4.Asked, Reads'4.Learnt, Reads'.Asked, Reads'.Learnt, Reads''.Asked, Reads''.Learnt, Reads'3.Asked, Reads'3.Learnt, Reads.Asked, Reads.Learnt, Reads'5.Asked, Reads'5.Learnt) Reads'6.Pre
-    Reads'6.Post Inv μ
+Need-agrees-requires = λ Inv μ. Lts.Need-agrees-requires claims Reads'6.Pre Reads'6.Post Inv μ
 
 abbrev pub Need-counted-requires : (Inv : InvT-loop) → (μ : MeasureT-loop) → Type 0
-Need-counted-requires = λ Inv μ. Lts.Need-counted-requires
-    (Reads'4.Asked, Reads'4.Learnt, Reads'.Asked, Reads'.Learnt, Reads''.Asked, Reads''.Learnt, Reads'3.Asked, Reads'3.Learnt, Reads.Asked, Reads.Learnt, Reads'5.Asked, Reads'5.Learnt) Reads'6.Pre
-    Reads'6.Post Inv μ
+Need-counted-requires = λ Inv μ. Lts.Need-counted-requires claims Reads'6.Pre Reads'6.Post Inv μ
 
 abbrev pub Need-add-i : (Inv : InvT-loop) → (μ : MeasureT-loop) → Type 0
-Need-add-i = λ Inv μ. Lts.Need-add-i
-    (Reads'4.Asked, Reads'4.Learnt, Reads'.Asked, Reads'.Learnt, Reads''.Asked, Reads''.Learnt, Reads'3.Asked, Reads'3.Learnt, Reads.Asked, Reads.Learnt, Reads'5.Asked, Reads'5.Learnt) Reads'6.Pre
-    Reads'6.Post Inv μ
+Need-add-i = λ Inv μ. Lts.Need-add-i claims Reads'6.Pre Reads'6.Post Inv μ
 
 abbrev pub Need-loop-less : (Inv : InvT-loop) → (μ : MeasureT-loop) → Type 0
-Need-loop-less = λ Inv μ. Lts.Need-loop-less
-    (Reads'4.Asked, Reads'4.Learnt, Reads'.Asked, Reads'.Learnt, Reads''.Asked, Reads''.Learnt, Reads'3.Asked, Reads'3.Learnt, Reads.Asked, Reads.Learnt, Reads'5.Asked, Reads'5.Learnt) Reads'6.Pre
-    Reads'6.Post Inv μ
+Need-loop-less = λ Inv μ. Lts.Need-loop-less claims Reads'6.Pre Reads'6.Post Inv μ
 
 abbrev pub Need-loop-again : (Inv : InvT-loop) → (μ : MeasureT-loop) → Type 0
-Need-loop-again = λ Inv μ. Lts.Need-loop-again
-    (Reads'4.Asked, Reads'4.Learnt, Reads'.Asked, Reads'.Learnt, Reads''.Asked, Reads''.Learnt, Reads'3.Asked, Reads'3.Learnt, Reads.Asked, Reads.Learnt, Reads'5.Asked, Reads'5.Learnt) Reads'6.Pre
-    Reads'6.Post Inv μ
+Need-loop-again = λ Inv μ. Lts.Need-loop-again claims Reads'6.Pre Reads'6.Post Inv μ
 
 abbrev pub Need-returns : (Inv : InvT-loop) → (μ : MeasureT-loop) → Type 0
-Need-returns = λ Inv μ. Lts.Need-returns
-    (Reads'4.Asked, Reads'4.Learnt, Reads'.Asked, Reads'.Learnt, Reads''.Asked, Reads''.Learnt, Reads'3.Asked, Reads'3.Learnt, Reads.Asked, Reads.Learnt, Reads'5.Asked, Reads'5.Learnt) Reads'6.Pre
-    Reads'6.Post Inv μ
+Need-returns = λ Inv μ. Lts.Need-returns claims Reads'6.Pre Reads'6.Post Inv μ
 
 module _ {M : Type 1} where
   pub spec : (Inv : InvT-loop) → (μ : MeasureT-loop) → (answer : Need-loop-holds Inv μ) → (answer : Need-call-at-requires Inv μ) → (answer : Need-answer-requires Inv μ) → (answer :
       Need-bit-position-requires Inv μ) → (answer : Need-byte-position-requires Inv μ) → (answer : Need-agrees-requires Inv μ) → (answer : Need-counted-requires Inv μ) → (answer : Need-add-i Inv μ) →
-      (answer : Need-loop-less Inv μ) → (answer : Need-loop-again Inv μ) → (answer : Need-returns Inv μ) → Lts.Closed
-      (Reads'4.Asked, Reads'4.Learnt, Reads'.Asked, Reads'.Learnt, Reads''.Asked, Reads''.Learnt, Reads'3.Asked, Reads'3.Learnt, Reads.Asked, Reads.Learnt, Reads'5.Asked, Reads'5.Learnt) Reads'6.Pre
-      Reads'6.Post M
-  spec = λ Inv μ answer answer' answer'' answer'3 answer'4 answer'5 answer'6 answer'7 answer'8 answer'9 answer'10. Lts.spec
-      (Reads'4.Asked, Reads'4.Learnt, Reads'.Asked, Reads'.Learnt, Reads''.Asked, Reads''.Learnt, Reads'3.Asked, Reads'3.Learnt, Reads.Asked, Reads.Learnt, Reads'5.Asked, Reads'5.Learnt) Reads'6.Pre
-      Reads'6.Post Inv μ answer answer' answer'' answer'3 answer'4 answer'5 answer'6 answer'7 answer'8 answer'9 answer'10
+      (answer : Need-loop-less Inv μ) → (answer : Need-loop-again Inv μ) → (answer : Need-returns Inv μ) → Lts.Closed claims Reads'6.Pre Reads'6.Post M
+  spec = λ Inv μ answer answer' answer'' answer'3 answer'4 answer'5 answer'6 answer'7 answer'8 answer'9 answer'10. Lts.spec claims Reads'6.Pre Reads'6.Post Inv μ answer answer' answer'' answer'3
+      answer'4 answer'5 answer'6 answer'7 answer'8 answer'9 answer'10
 
-  pub close : Lts.Closed
-      (Reads'4.Asked, Reads'4.Learnt, Reads'.Asked, Reads'.Learnt, Reads''.Asked, Reads''.Learnt, Reads'3.Asked, Reads'3.Learnt, Reads.Asked, Reads.Learnt, Reads'5.Asked, Reads'5.Learnt) Reads'6.Pre
-      Reads'6.Post M → Statement.statement M
+  pub close : Lts.Closed claims Reads'6.Pre Reads'6.Post M → Statement.statement M
   unfolding Code.routine Running.tablesOf
   close = λ closed 𝓤 H 𝓜 𝓖 𝓡. Written.close 2 Kinds.ps Kinds.r Reads'6.Ghost Reads'6.requires Reads'6.ensures Reads'6.pre-read Reads'6.Pinned Reads'6.Owned Reads'6.post-read record
       { M = M; 𝓤 = 𝓤; H = H; 𝓜 = 𝓜; 𝓖 = 𝓖; 𝓡 = 𝓡 } Code.env Key.name Code.function (Code.unfolded 𝓤 H 𝓜 𝓡) (λ κs a g. tt) (λ κs. Reads'6.owns κs record { M = M; 𝓤 = 𝓤; H = H; 𝓜 = 𝓜; 𝓖 = 𝓖; 𝓡 = 𝓡 })

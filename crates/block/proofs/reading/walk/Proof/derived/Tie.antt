@@ -27,222 +27,68 @@ use borrow.Fn.Run
 use borrow.Fn.Written
 use contract.Running
 
+abbrev claims : Lts.Claims
+claims = (Reads'6.Asked, Reads'6.Learnt, Reads'5.Asked, Reads'5.Learnt, Reads'4.Asked, Reads'4.Learnt, Reads'.Asked, Reads'.Learnt, Reads.Asked, Reads.Learnt, Reads'3.Asked, Reads'3.Learnt)
+
 abbrev pub Start : Type 0
-Start = Lts.Start (Reads'6.Asked, Reads'6.Learnt, Reads'5.Asked, Reads'5.Learnt, Reads'4.Asked, Reads'4.Learnt, Reads'.Asked, Reads'.Learnt, Reads.Asked, Reads.Learnt, Reads'3.Asked, Reads'3.Learnt)
-    Reads''.Pre Reads''.Post
-
-abbrev pub After-shared-slice-known : Type 0
-After-shared-slice-known = Lts.After-shared-slice-known
-    (Reads'6.Asked, Reads'6.Learnt, Reads'5.Asked, Reads'5.Learnt, Reads'4.Asked, Reads'4.Learnt, Reads'.Asked, Reads'.Learnt, Reads.Asked, Reads.Learnt, Reads'3.Asked, Reads'3.Learnt) Reads''.Pre
-    Reads''.Post
-
-abbrev pub After-shared-slice-known2 : Type 0
-After-shared-slice-known2 = Lts.After-shared-slice-known2
-    (Reads'6.Asked, Reads'6.Learnt, Reads'5.Asked, Reads'5.Learnt, Reads'4.Asked, Reads'4.Learnt, Reads'.Asked, Reads'.Learnt, Reads.Asked, Reads.Learnt, Reads'3.Asked, Reads'3.Learnt) Reads''.Pre
-    Reads''.Post
-
-abbrev pub After-slice-known : Type 0
-After-slice-known = Lts.After-slice-known
-    (Reads'6.Asked, Reads'6.Learnt, Reads'5.Asked, Reads'5.Learnt, Reads'4.Asked, Reads'4.Learnt, Reads'.Asked, Reads'.Learnt, Reads.Asked, Reads.Learnt, Reads'3.Asked, Reads'3.Learnt) Reads''.Pre
-    Reads''.Post
-
-abbrev pub After-slice-known2 : Type 0
-After-slice-known2 = Lts.After-slice-known2
-    (Reads'6.Asked, Reads'6.Learnt, Reads'5.Asked, Reads'5.Learnt, Reads'4.Asked, Reads'4.Learnt, Reads'.Asked, Reads'.Learnt, Reads.Asked, Reads.Learnt, Reads'3.Asked, Reads'3.Learnt) Reads''.Pre
-    Reads''.Post
-
-abbrev pub After-clear-arg : Type 0
-After-clear-arg = Lts.After-clear-arg
-    (Reads'6.Asked, Reads'6.Learnt, Reads'5.Asked, Reads'5.Learnt, Reads'4.Asked, Reads'4.Learnt, Reads'.Asked, Reads'.Learnt, Reads.Asked, Reads.Learnt, Reads'3.Asked, Reads'3.Learnt) Reads''.Pre
-    Reads''.Post
+Start = Lts.Start claims Reads''.Pre Reads''.Post
 
 abbrev pub After-clear : Type 0
-After-clear = Lts.After-clear
-    (Reads'6.Asked, Reads'6.Learnt, Reads'5.Asked, Reads'5.Learnt, Reads'4.Asked, Reads'4.Learnt, Reads'.Asked, Reads'.Learnt, Reads.Asked, Reads.Learnt, Reads'3.Asked, Reads'3.Learnt) Reads''.Pre
-    Reads''.Post
-
-abbrev pub After-lines : Type 0
-After-lines = Lts.After-lines
-    (Reads'6.Asked, Reads'6.Learnt, Reads'5.Asked, Reads'5.Learnt, Reads'4.Asked, Reads'4.Learnt, Reads'.Asked, Reads'.Learnt, Reads.Asked, Reads.Learnt, Reads'3.Asked, Reads'3.Learnt) Reads''.Pre
-    Reads''.Post
-
-abbrev pub After-slice-known3 : Type 0
-After-slice-known3 = Lts.After-slice-known3
-    (Reads'6.Asked, Reads'6.Learnt, Reads'5.Asked, Reads'5.Learnt, Reads'4.Asked, Reads'4.Learnt, Reads'.Asked, Reads'.Learnt, Reads.Asked, Reads.Learnt, Reads'3.Asked, Reads'3.Learnt) Reads''.Pre
-    Reads''.Post
-
-abbrev pub After-start-records-arg : Type 0
-After-start-records-arg = Lts.After-start-records-arg
-    (Reads'6.Asked, Reads'6.Learnt, Reads'5.Asked, Reads'5.Learnt, Reads'4.Asked, Reads'4.Learnt, Reads'.Asked, Reads'.Learnt, Reads.Asked, Reads.Learnt, Reads'3.Asked, Reads'3.Learnt) Reads''.Pre
-    Reads''.Post
+After-clear = Lts.After-clear claims Reads''.Pre Reads''.Post
 
 abbrev pub After-base-of : Type 0
-After-base-of = Lts.After-base-of
-    (Reads'6.Asked, Reads'6.Learnt, Reads'5.Asked, Reads'5.Learnt, Reads'4.Asked, Reads'4.Learnt, Reads'.Asked, Reads'.Learnt, Reads.Asked, Reads.Learnt, Reads'3.Asked, Reads'3.Learnt) Reads''.Pre
-    Reads''.Post
+After-base-of = Lts.After-base-of claims Reads''.Pre Reads''.Post
 
 abbrev pub After-start-records : Type 0
-After-start-records = Lts.After-start-records
-    (Reads'6.Asked, Reads'6.Learnt, Reads'5.Asked, Reads'5.Learnt, Reads'4.Asked, Reads'4.Learnt, Reads'.Asked, Reads'.Learnt, Reads.Asked, Reads.Learnt, Reads'3.Asked, Reads'3.Learnt) Reads''.Pre
-    Reads''.Post
-
-abbrev pub After-rs : Type 0
-After-rs = Lts.After-rs
-    (Reads'6.Asked, Reads'6.Learnt, Reads'5.Asked, Reads'5.Learnt, Reads'4.Asked, Reads'4.Learnt, Reads'.Asked, Reads'.Learnt, Reads.Asked, Reads.Learnt, Reads'3.Asked, Reads'3.Learnt) Reads''.Pre
-    Reads''.Post
-
-abbrev pub After-read-lines-arg : Type 0
-After-read-lines-arg = Lts.After-read-lines-arg
-    (Reads'6.Asked, Reads'6.Learnt, Reads'5.Asked, Reads'5.Learnt, Reads'4.Asked, Reads'4.Learnt, Reads'.Asked, Reads'.Learnt, Reads.Asked, Reads.Learnt, Reads'3.Asked, Reads'3.Learnt) Reads''.Pre
-    Reads''.Post
-
-abbrev pub After-read-lines-arg2 : Type 0
-After-read-lines-arg2 = Lts.After-read-lines-arg2
-    (Reads'6.Asked, Reads'6.Learnt, Reads'5.Asked, Reads'5.Learnt, Reads'4.Asked, Reads'4.Learnt, Reads'.Asked, Reads'.Learnt, Reads.Asked, Reads.Learnt, Reads'3.Asked, Reads'3.Learnt) Reads''.Pre
-    Reads''.Post
-
-abbrev pub After-read-lines-arg3 : Type 0
-After-read-lines-arg3 = Lts.After-read-lines-arg3
-    (Reads'6.Asked, Reads'6.Learnt, Reads'5.Asked, Reads'5.Learnt, Reads'4.Asked, Reads'4.Learnt, Reads'.Asked, Reads'.Learnt, Reads.Asked, Reads.Learnt, Reads'3.Asked, Reads'3.Learnt) Reads''.Pre
-    Reads''.Post
+After-start-records = Lts.After-start-records claims Reads''.Pre Reads''.Post
 
 abbrev pub After-start-place : Type 0
-After-start-place = Lts.After-start-place
-    (Reads'6.Asked, Reads'6.Learnt, Reads'5.Asked, Reads'5.Learnt, Reads'4.Asked, Reads'4.Learnt, Reads'.Asked, Reads'.Learnt, Reads.Asked, Reads.Learnt, Reads'3.Asked, Reads'3.Learnt) Reads''.Pre
-    Reads''.Post
-
-abbrev pub After-read-lines : Type 0
-After-read-lines = Lts.After-read-lines
-    (Reads'6.Asked, Reads'6.Learnt, Reads'5.Asked, Reads'5.Learnt, Reads'4.Asked, Reads'4.Learnt, Reads'.Asked, Reads'.Learnt, Reads.Asked, Reads.Learnt, Reads'3.Asked, Reads'3.Learnt) Reads''.Pre
-    Reads''.Post
-
-abbrev pub After-lines2 : Type 0
-After-lines2 = Lts.After-lines2
-    (Reads'6.Asked, Reads'6.Learnt, Reads'5.Asked, Reads'5.Learnt, Reads'4.Asked, Reads'4.Learnt, Reads'.Asked, Reads'.Learnt, Reads.Asked, Reads.Learnt, Reads'3.Asked, Reads'3.Learnt) Reads''.Pre
-    Reads''.Post
-
-abbrev pub After-slice-known4 : Type 0
-After-slice-known4 = Lts.After-slice-known4
-    (Reads'6.Asked, Reads'6.Learnt, Reads'5.Asked, Reads'5.Learnt, Reads'4.Asked, Reads'4.Learnt, Reads'.Asked, Reads'.Learnt, Reads.Asked, Reads.Learnt, Reads'3.Asked, Reads'3.Learnt) Reads''.Pre
-    Reads''.Post
-
-abbrev pub After-rs2 : Type 0
-After-rs2 = Lts.After-rs2
-    (Reads'6.Asked, Reads'6.Learnt, Reads'5.Asked, Reads'5.Learnt, Reads'4.Asked, Reads'4.Learnt, Reads'.Asked, Reads'.Learnt, Reads.Asked, Reads.Learnt, Reads'3.Asked, Reads'3.Learnt) Reads''.Pre
-    Reads''.Post
-
-abbrev pub After-image : Type 0
-After-image = Lts.After-image
-    (Reads'6.Asked, Reads'6.Learnt, Reads'5.Asked, Reads'5.Learnt, Reads'4.Asked, Reads'4.Learnt, Reads'.Asked, Reads'.Learnt, Reads.Asked, Reads.Learnt, Reads'3.Asked, Reads'3.Learnt) Reads''.Pre
-    Reads''.Post
+After-start-place = Lts.After-start-place claims Reads''.Pre Reads''.Post
 
 abbrev pub After-slice-known5 : Type 0
-After-slice-known5 = Lts.After-slice-known5
-    (Reads'6.Asked, Reads'6.Learnt, Reads'5.Asked, Reads'5.Learnt, Reads'4.Asked, Reads'4.Learnt, Reads'.Asked, Reads'.Learnt, Reads.Asked, Reads.Learnt, Reads'3.Asked, Reads'3.Learnt) Reads''.Pre
-    Reads''.Post
-
-abbrev pub After-clear-arg2 : Type 0
-After-clear-arg2 = Lts.After-clear-arg2
-    (Reads'6.Asked, Reads'6.Learnt, Reads'5.Asked, Reads'5.Learnt, Reads'4.Asked, Reads'4.Learnt, Reads'.Asked, Reads'.Learnt, Reads.Asked, Reads.Learnt, Reads'3.Asked, Reads'3.Learnt) Reads''.Pre
-    Reads''.Post
-
-abbrev pub After-clear2 : Type 0
-After-clear2 = Lts.After-clear2
-    (Reads'6.Asked, Reads'6.Learnt, Reads'5.Asked, Reads'5.Learnt, Reads'4.Asked, Reads'4.Learnt, Reads'.Asked, Reads'.Learnt, Reads.Asked, Reads.Learnt, Reads'3.Asked, Reads'3.Learnt) Reads''.Pre
-    Reads''.Post
-
-abbrev pub After-lines3 : Type 0
-After-lines3 = Lts.After-lines3
-    (Reads'6.Asked, Reads'6.Learnt, Reads'5.Asked, Reads'5.Learnt, Reads'4.Asked, Reads'4.Learnt, Reads'.Asked, Reads'.Learnt, Reads.Asked, Reads.Learnt, Reads'3.Asked, Reads'3.Learnt) Reads''.Pre
-    Reads''.Post
-
-abbrev pub After-slice-known6 : Type 0
-After-slice-known6 = Lts.After-slice-known6
-    (Reads'6.Asked, Reads'6.Learnt, Reads'5.Asked, Reads'5.Learnt, Reads'4.Asked, Reads'4.Learnt, Reads'.Asked, Reads'.Learnt, Reads.Asked, Reads.Learnt, Reads'3.Asked, Reads'3.Learnt) Reads''.Pre
-    Reads''.Post
-
-abbrev pub After-clear-records-arg : Type 0
-After-clear-records-arg = Lts.After-clear-records-arg
-    (Reads'6.Asked, Reads'6.Learnt, Reads'5.Asked, Reads'5.Learnt, Reads'4.Asked, Reads'4.Learnt, Reads'.Asked, Reads'.Learnt, Reads.Asked, Reads.Learnt, Reads'3.Asked, Reads'3.Learnt) Reads''.Pre
-    Reads''.Post
-
-abbrev pub After-clear-records : Type 0
-After-clear-records = Lts.After-clear-records
-    (Reads'6.Asked, Reads'6.Learnt, Reads'5.Asked, Reads'5.Learnt, Reads'4.Asked, Reads'4.Learnt, Reads'.Asked, Reads'.Learnt, Reads.Asked, Reads.Learnt, Reads'3.Asked, Reads'3.Learnt) Reads''.Pre
-    Reads''.Post
-
-abbrev pub After-rs3 : Type 0
-After-rs3 = Lts.After-rs3
-    (Reads'6.Asked, Reads'6.Learnt, Reads'5.Asked, Reads'5.Learnt, Reads'4.Asked, Reads'4.Learnt, Reads'.Asked, Reads'.Learnt, Reads.Asked, Reads.Learnt, Reads'3.Asked, Reads'3.Learnt) Reads''.Pre
-    Reads''.Post
+After-slice-known5 = Lts.After-slice-known5 claims Reads''.Pre Reads''.Post
 
 abbrev pub Need-clear-requires : Type 0
-Need-clear-requires = Lts.Need-clear-requires
-    (Reads'6.Asked, Reads'6.Learnt, Reads'5.Asked, Reads'5.Learnt, Reads'4.Asked, Reads'4.Learnt, Reads'.Asked, Reads'.Learnt, Reads.Asked, Reads.Learnt, Reads'3.Asked, Reads'3.Learnt) Reads''.Pre
-    Reads''.Post
+Need-clear-requires = Lts.Need-clear-requires claims Reads''.Pre Reads''.Post
 
 abbrev pub Need-base-of-requires : Type 0
-Need-base-of-requires = Lts.Need-base-of-requires
-    (Reads'6.Asked, Reads'6.Learnt, Reads'5.Asked, Reads'5.Learnt, Reads'4.Asked, Reads'4.Learnt, Reads'.Asked, Reads'.Learnt, Reads.Asked, Reads.Learnt, Reads'3.Asked, Reads'3.Learnt) Reads''.Pre
-    Reads''.Post
+Need-base-of-requires = Lts.Need-base-of-requires claims Reads''.Pre Reads''.Post
 
 abbrev pub Need-start-records-requires : Type 0
-Need-start-records-requires = Lts.Need-start-records-requires
-    (Reads'6.Asked, Reads'6.Learnt, Reads'5.Asked, Reads'5.Learnt, Reads'4.Asked, Reads'4.Learnt, Reads'.Asked, Reads'.Learnt, Reads.Asked, Reads.Learnt, Reads'3.Asked, Reads'3.Learnt) Reads''.Pre
-    Reads''.Post
+Need-start-records-requires = Lts.Need-start-records-requires claims Reads''.Pre Reads''.Post
 
 abbrev pub Need-start-place-requires : Type 0
-Need-start-place-requires = Lts.Need-start-place-requires
-    (Reads'6.Asked, Reads'6.Learnt, Reads'5.Asked, Reads'5.Learnt, Reads'4.Asked, Reads'4.Learnt, Reads'.Asked, Reads'.Learnt, Reads.Asked, Reads.Learnt, Reads'3.Asked, Reads'3.Learnt) Reads''.Pre
-    Reads''.Post
+Need-start-place-requires = Lts.Need-start-place-requires claims Reads''.Pre Reads''.Post
 
 abbrev pub Need-read-lines-requires : Type 0
-Need-read-lines-requires = Lts.Need-read-lines-requires
-    (Reads'6.Asked, Reads'6.Learnt, Reads'5.Asked, Reads'5.Learnt, Reads'4.Asked, Reads'4.Learnt, Reads'.Asked, Reads'.Learnt, Reads.Asked, Reads.Learnt, Reads'3.Asked, Reads'3.Learnt) Reads''.Pre
-    Reads''.Post
+Need-read-lines-requires = Lts.Need-read-lines-requires claims Reads''.Pre Reads''.Post
 
 abbrev pub Need-clear-requires-2 : Type 0
-Need-clear-requires-2 = Lts.Need-clear-requires-2
-    (Reads'6.Asked, Reads'6.Learnt, Reads'5.Asked, Reads'5.Learnt, Reads'4.Asked, Reads'4.Learnt, Reads'.Asked, Reads'.Learnt, Reads.Asked, Reads.Learnt, Reads'3.Asked, Reads'3.Learnt) Reads''.Pre
-    Reads''.Post
+Need-clear-requires-2 = Lts.Need-clear-requires-2 claims Reads''.Pre Reads''.Post
 
 abbrev pub Need-clear-records-requires : Type 0
-Need-clear-records-requires = Lts.Need-clear-records-requires
-    (Reads'6.Asked, Reads'6.Learnt, Reads'5.Asked, Reads'5.Learnt, Reads'4.Asked, Reads'4.Learnt, Reads'.Asked, Reads'.Learnt, Reads.Asked, Reads.Learnt, Reads'3.Asked, Reads'3.Learnt) Reads''.Pre
-    Reads''.Post
+Need-clear-records-requires = Lts.Need-clear-records-requires claims Reads''.Pre Reads''.Post
 
 abbrev pub Need-same-length : Type 0
-Need-same-length = Lts.Need-same-length
-    (Reads'6.Asked, Reads'6.Learnt, Reads'5.Asked, Reads'5.Learnt, Reads'4.Asked, Reads'4.Learnt, Reads'.Asked, Reads'.Learnt, Reads.Asked, Reads.Learnt, Reads'3.Asked, Reads'3.Learnt) Reads''.Pre
-    Reads''.Post
+Need-same-length = Lts.Need-same-length claims Reads''.Pre Reads''.Post
 
 abbrev pub Need-same-length-2 : Type 0
-Need-same-length-2 = Lts.Need-same-length-2
-    (Reads'6.Asked, Reads'6.Learnt, Reads'5.Asked, Reads'5.Learnt, Reads'4.Asked, Reads'4.Learnt, Reads'.Asked, Reads'.Learnt, Reads.Asked, Reads.Learnt, Reads'3.Asked, Reads'3.Learnt) Reads''.Pre
-    Reads''.Post
+Need-same-length-2 = Lts.Need-same-length-2 claims Reads''.Pre Reads''.Post
 
 abbrev pub Need-same-length-3 : Type 0
-Need-same-length-3 = Lts.Need-same-length-3
-    (Reads'6.Asked, Reads'6.Learnt, Reads'5.Asked, Reads'5.Learnt, Reads'4.Asked, Reads'4.Learnt, Reads'.Asked, Reads'.Learnt, Reads.Asked, Reads.Learnt, Reads'3.Asked, Reads'3.Learnt) Reads''.Pre
-    Reads''.Post
+Need-same-length-3 = Lts.Need-same-length-3 claims Reads''.Pre Reads''.Post
 
 abbrev pub Need-returns : Type 0
-Need-returns = Lts.Need-returns
-    (Reads'6.Asked, Reads'6.Learnt, Reads'5.Asked, Reads'5.Learnt, Reads'4.Asked, Reads'4.Learnt, Reads'.Asked, Reads'.Learnt, Reads.Asked, Reads.Learnt, Reads'3.Asked, Reads'3.Learnt) Reads''.Pre
-    Reads''.Post
+Need-returns = Lts.Need-returns claims Reads''.Pre Reads''.Post
 
 module _ {M : Type 1} where
   pub spec : (answer : Need-clear-requires) → (answer : Need-base-of-requires) → (answer : Need-start-records-requires) → (answer : Need-start-place-requires) → (answer : Need-read-lines-requires) →
       (answer : Need-clear-requires-2) → (answer : Need-clear-records-requires) → (answer : Need-same-length) → (answer : Need-same-length-2) → (answer : Need-same-length-3) → (answer : Need-returns) →
-      Lts.Closed (Reads'6.Asked, Reads'6.Learnt, Reads'5.Asked, Reads'5.Learnt, Reads'4.Asked, Reads'4.Learnt, Reads'.Asked, Reads'.Learnt, Reads.Asked, Reads.Learnt, Reads'3.Asked, Reads'3.Learnt)
-      Reads''.Pre Reads''.Post M
-  spec = λ answer answer' answer'' answer'3 answer'4 answer'5 answer'6 answer'7 answer'8 answer'9 answer'10. Lts.spec
-      (Reads'6.Asked, Reads'6.Learnt, Reads'5.Asked, Reads'5.Learnt, Reads'4.Asked, Reads'4.Learnt, Reads'.Asked, Reads'.Learnt, Reads.Asked, Reads.Learnt, Reads'3.Asked, Reads'3.Learnt) Reads''.Pre
-      Reads''.Post answer answer' answer'' answer'3 answer'4 answer'5 answer'6 answer'7 answer'8 answer'9 answer'10
+      Lts.Closed claims Reads''.Pre Reads''.Post M
+  spec = λ answer answer' answer'' answer'3 answer'4 answer'5 answer'6 answer'7 answer'8 answer'9 answer'10. Lts.spec claims Reads''.Pre Reads''.Post answer answer' answer'' answer'3 answer'4 answer'5
+      answer'6 answer'7 answer'8 answer'9 answer'10
 
-  pub close : Lts.Closed
-      (Reads'6.Asked, Reads'6.Learnt, Reads'5.Asked, Reads'5.Learnt, Reads'4.Asked, Reads'4.Learnt, Reads'.Asked, Reads'.Learnt, Reads.Asked, Reads.Learnt, Reads'3.Asked, Reads'3.Learnt) Reads''.Pre
-      Reads''.Post M → Statement.statement M
+  pub close : Lts.Closed claims Reads''.Pre Reads''.Post M → Statement.statement M
   unfolding Code.routine Running.tablesOf
   close = λ closed 𝓤 H 𝓜 𝓖 𝓡. Written.close 6 Kinds.ps Kinds.r Reads''.Ghost Reads''.requires Reads''.ensures Reads''.pre-read Reads''.Pinned Reads''.Owned Reads''.post-read record
       { M = M; 𝓤 = 𝓤; H = H; 𝓜 = 𝓜; 𝓖 = 𝓖; 𝓡 = 𝓡 } Code.env Key.name Code.function (Code.unfolded 𝓤 H 𝓜 𝓡) (λ κs a g. tt) (λ κs. Reads''.owns κs record { M = M; 𝓤 = 𝓤; H = H; 𝓜 = 𝓜; 𝓖 = 𝓖; 𝓡 = 𝓡 })

@@ -12,9 +12,6 @@ use contract.Running
 abbrev pub Start : Type 0
 Start = Lts.Start Reads.Pre Reads.Post
 
-abbrev pub After-result : Type 0
-After-result = Lts.After-result Reads.Pre Reads.Post
-
 abbrev pub Need-mul-result : Type 0
 Need-mul-result = Lts.Need-mul-result Reads.Pre Reads.Post
 

@@ -1,4 +1,8 @@
 -- Written by tools/lend.py from Rattle's derivation of the twin of `block`; not edited by hand. Assumes nothing.
+use Rattle.bits.proofs.Values
+use Rattle.bits.proofs.Values.{on}
+use Rattle.bits.proofs.Values.{n32, u32, u64}
+use mathlib.Core.List.{_∷_, []}
 use Rattle.block.proofs.Element
 use Prim.Native.Nat
 use Rattle.statistics.proofs.Record
@@ -17,7 +21,6 @@ use borrow.Fn.Plain
 use borrow.Kind.Array
 use borrow.Kind.MutSlice
 use borrow.Kind.Num
-use borrow.Kind.Value
 use borrow.Rule.Array.Asked
 use borrow.Rule.Array.Borrow
 use borrow.Rule.Array.Init
@@ -47,7 +50,6 @@ use borrow.Table.Rows as Rows'
 use borrow.Table.Typed
 use contract.Lifetimes
 use denote.Array as Array'
-use denote.Exit
 use denote.Plain as Plain'
 use denote.Struct.Declared
 use denote.Struct.Field
@@ -67,619 +69,423 @@ use prog.Wp
 use types.Kit
 
 abbrev pub y0 : Syntax.Ty
-y0 = Syntax.tyStruct (List._∷_ 115 (List._∷_ 116 (List._∷_ 101 (List._∷_ 112 (List._∷_ 115 (List._∷_ 58 (List._∷_ 58 (List._∷_ 83 (List._∷_ 101 (List._∷_ 116 List.[])))))))))) (Syntax.tcons
-    (Syntax.tyArray (Syntax.tyInt Syntax.w32) 112) (Syntax.tcons (Syntax.tyArray (Syntax.tyInt Syntax.w32) 112) Syntax.tnil))
+y0 = Syntax.tyArray u32 112
 
 abbrev pub y1 : Syntax.Ty
-y1 = Syntax.tyStruct (List._∷_ 115 (List._∷_ 116 (List._∷_ 97 (List._∷_ 116 (List._∷_ 105 (List._∷_ 115 (List._∷_ 116 (List._∷_ 105 (List._∷_ 99 (List._∷_ 115 (List._∷_ 58 (List._∷_ 58 (List._∷_ 82
-    (List._∷_ 101 (List._∷_ 99 (List._∷_ 111 (List._∷_ 114 (List._∷_ 100 List.[])))))))))))))))))) (Syntax.tcons (Syntax.tyInt Syntax.w32) (Syntax.tcons (Syntax.tyInt Syntax.w32) Syntax.tnil))
+y1 = Syntax.tyRef (Syntax.named 0) Syntax.mut Element.behind
 
 abbrev pub y2 : Syntax.Ty
-y2 = Syntax.tyStruct (List._∷_ 38 (List._∷_ 91 (List._∷_ 93 List.[]))) (Syntax.tcons (Syntax.tyRef Syntax.erased Syntax.mut Element.behind) (Syntax.tcons (Syntax.tyInt Syntax.w64) Syntax.tnil))
+y2 = Syntax.tyRef Syntax.erased Syntax.mut Element.behind
+
+abbrev pub y3 : Syntax.Ty
+y3 = Syntax.tyStruct (115 ∷ 116 ∷ 97 ∷ 116 ∷ 105 ∷ 115 ∷ 116 ∷ 105 ∷ 99 ∷ 115 ∷ 58 ∷ 58 ∷ 82 ∷ 101 ∷ 99 ∷ 111 ∷ 114 ∷ 100 ∷ []) (Syntax.tcons u32 (Syntax.tcons u32 Syntax.tnil))
+
+abbrev pub y4 : Syntax.Ty
+y4 = Syntax.tyStruct (115 ∷ 116 ∷ 101 ∷ 112 ∷ 115 ∷ 58 ∷ 58 ∷ 83 ∷ 101 ∷ 116 ∷ []) (Syntax.tcons y0 (Syntax.tcons y0 Syntax.tnil))
+
+abbrev pub y5 : Syntax.Ty
+y5 = Syntax.tyStruct (38 ∷ 91 ∷ 93 ∷ []) (Syntax.tcons y2 (Syntax.tcons u64 Syntax.tnil))
 
 abbrev pub ps : List.List (Kinds.PK 1)
-ps = List._∷_ (MutSlice.pMutS (Element.type) 0 tt) (List._∷_ (Num.pNum Syntax.w64) List.[])
+ps = (MutSlice.pMutS (Element.type) 0 tt) ∷ (Num.pNum Syntax.w64) ∷ []
 
 abbrev pub r : Kinds.RK 1
-r = Value.rVal record {
-  ty = Declared.row Set.the-type;
-  one = Path'.refl;
-  val = Laws''.val Set.the-type Laws'.the-laws;
-  tells = Laws''.tells Set.the-type Laws'.the-laws;
-  still = Laws''.still Set.the-type Laws'.the-copy
-      Exit.yes;
-  row = Rows'.whole (Declared.row Set.the-type);
-  rd = λ x. x;
-  mk = λ x. x;
-} λ M 𝓤 H A W. record {
-  copies = Laws''.copy Set.the-type Laws'.the-copy 𝓤 H A W;
-  lawful = Laws''.lawful Set.the-type Laws'.the-laws 𝓤 H A W;
-  makes = Laws''.makes Set.the-type Laws'.the-plain 𝓤 H A;
-  in-mem =
-      Local.mem-whole 𝓤 H A W (Declared.row Set.the-type);
-  of-mem = Local.whole-mem 𝓤 H A W (Declared.row Set.the-type);
-}
+r = Values.struct-result Set.the-type Laws'.the-laws Laws'.the-copy Laws'.the-plain
 
 abbrev pub xs : List.List Syntax.Ty
-xs = List._∷_ (Syntax.tyArray (Syntax.tyInt Syntax.w32) 112) (List._∷_ (Syntax.tyArray (Syntax.tyInt Syntax.w32) 112) (List._∷_ (Syntax.tyInt Syntax.w64) (List._∷_ y1 (List._∷_ Syntax.tyBool (List._∷_
-    (Syntax.tyRef Syntax.erased Syntax.mut Element.behind) (List._∷_ y2 (List._∷_ (Syntax.tyInt Syntax.w64) (List._∷_ (Syntax.tyInt Syntax.w64) (List._∷_ Syntax.tyPtr (List._∷_ Syntax.tyPtr (List._∷_
-    Syntax.tyPtr (List._∷_ Syntax.tyPtr (List._∷_ (Syntax.tyArray (Syntax.tyInt Syntax.w32) 112) (List._∷_ (Syntax.tyArray (Syntax.tyInt Syntax.w32) 112) List.[]))))))))))))))
+xs = y0 ∷ y0 ∷ u64 ∷ y3 ∷ Syntax.tyBool ∷ y2 ∷ y5 ∷ u64 ∷ u64 ∷ Syntax.tyPtr ∷ Syntax.tyPtr ∷ Syntax.tyPtr ∷ Syntax.tyPtr ∷ y0 ∷ y0 ∷ []
 
 abbrev pub m : Nat.ℕ
 m = 1
 
 abbrev pub ps·0 : List.List (Kinds.PK 1)
-ps·0 = List._∷_ (MutSlice.pMutS (Element.type) 0 tt) (List._∷_ (Num.pNum Syntax.w64) List.[])
+ps·0 = (MutSlice.pMutS (Element.type) 0 tt) ∷ (Num.pNum Syntax.w64) ∷ []
 
 abbrev pub r·0 : Kinds.RK 1
-r·0 = Value.rVal record {
-  ty = Declared.row Record.the-type;
-  one = Path'.refl;
-  val = Laws''.val Record.the-type Laws.the-laws;
-  tells = Laws''.tells Record.the-type Laws.the-laws;
-  still = Laws''.still Record.the-type
-      Laws.the-copy Exit.yes;
-  row = Rows'.whole (Declared.row Record.the-type);
-  rd = λ x. x;
-  mk = λ x. x;
-} λ M 𝓤 H A W. record {
-  copies = Laws''.copy Record.the-type Laws.the-copy 𝓤 H A W;
-  lawful = Laws''.lawful Record.the-type Laws.the-laws 𝓤 H A W;
-  makes = Laws''.makes Record.the-type Laws.the-plain 𝓤 H A;
-  in-mem =
-      Local.mem-whole 𝓤 H A W (Declared.row Record.the-type);
-  of-mem = Local.whole-mem 𝓤 H A W (Declared.row Record.the-type);
-}
+r·0 = Values.struct-result Record.the-type Laws.the-laws Laws.the-copy Laws.the-plain
 
 abbrev pub hs : List.List Syntax.Home
-hs = List._∷_ Syntax.valueLocal (List._∷_ Syntax.valueLocal (List._∷_ Syntax.valueLocal (List._∷_ Syntax.memorySlot (List._∷_ Syntax.memorySlot (List._∷_ Syntax.valueLocal (List._∷_ Syntax.valueLocal
-    (List._∷_ Syntax.valueLocal (List._∷_ Syntax.valueLocal (List._∷_ Syntax.valueLocal (List._∷_ Syntax.valueLocal (List._∷_ Syntax.valueLocal (List._∷_ Syntax.valueLocal (List._∷_ Syntax.valueLocal
-    (List._∷_ Syntax.valueLocal (List._∷_ Syntax.valueLocal (List._∷_ Syntax.valueLocal (List._∷_ Syntax.valueLocal List.[])))))))))))))))))
+hs = Syntax.valueLocal ∷ Syntax.valueLocal ∷ Syntax.valueLocal ∷ Syntax.memorySlot ∷ Syntax.memorySlot ∷ Syntax.valueLocal ∷ Syntax.valueLocal ∷ Syntax.valueLocal ∷ Syntax.valueLocal ∷
+    Syntax.valueLocal ∷ Syntax.valueLocal ∷ Syntax.valueLocal ∷ Syntax.valueLocal ∷ Syntax.valueLocal ∷ Syntax.valueLocal ∷ Syntax.valueLocal ∷ Syntax.valueLocal ∷ Syntax.valueLocal ∷ []
 
 abbrev b0 : Syntax.Body
-b0 = Syntax.assign (Syntax.place 3 List.[]) (Syntax.repeat (Syntax.int Syntax.w32 0) 112)
+b0 = Syntax.assign (Syntax.place 3 []) (Syntax.repeat (Syntax.int Syntax.w32 0) 112)
 
 abbrev b1 : Syntax.Body
-b1 = Syntax.assign (Syntax.place 4 List.[]) (Syntax.repeat (Syntax.int Syntax.w32 0) 112)
+b1 = Syntax.assign (Syntax.place 4 []) (Syntax.repeat (Syntax.int Syntax.w32 0) 112)
 
 abbrev b2 : Syntax.Body
-b2 = Syntax.assign (Syntax.place 5 List.[]) (Syntax.rvOpd (Syntax.int Syntax.w64 0))
+b2 = Syntax.assign (Syntax.place 5 []) (Syntax.rvOpd (Syntax.int Syntax.w64 0))
 
 abbrev b3 : Syntax.Body
-b3 = Syntax.assign (Syntax.place 7 List.[]) (Syntax.op2 (Syntax.lt Syntax.unsigned) (Syntax.copy (Syntax.place 5 List.[])) (Syntax.int Syntax.w64 112))
-
-abbrev b4 : Syntax.Body
-b4 = Syntax.skip
-
-abbrev b5 : Syntax.Body
-b5 = Syntax.exit 1
+b3 = Syntax.assign (Syntax.place 7 []) (Syntax.op2 (Syntax.lt Syntax.unsigned) (Syntax.copy (Syntax.place 5 [])) (Syntax.int Syntax.w64 112))
 
 abbrev b6 : Syntax.Body
-b6 = Syntax.cond (Syntax.copy (Syntax.place 7 List.[])) b4 b5
+b6 = Syntax.cond (Syntax.copy (Syntax.place 7 [])) Syntax.skip (Syntax.exit 1)
 
 abbrev b7 : Syntax.Body
-b7 = Syntax.assign (Syntax.place 8 List.[]) (Syntax.addrOf (Syntax.place 1 (List._∷_ (Syntax.field 0) (List._∷_ (Syntax.deref (Element.held)) List.[]))))
+b7 = Syntax.assign (Syntax.place 8 []) (Syntax.addrOf (Syntax.place 1 ((Syntax.field 0) ∷ (Syntax.deref (Element.held)) ∷ [])))
 
 abbrev b8 : Syntax.Body
-b8 = Syntax.assign (Syntax.place 9 List.[]) (Syntax.aggregate (List._∷_ (Syntax.copy (Syntax.place 8 List.[])) (List._∷_ (Syntax.copy (Syntax.place 1 (List._∷_ (Syntax.field 1) List.[]))) List.[])))
+b8 = Syntax.assign (Syntax.place 9 []) (Syntax.aggregate ((Syntax.copy (Syntax.place 8 [])) ∷ (Syntax.copy (Syntax.place 1 ((Syntax.field 1) ∷ []))) ∷ []))
 
 abbrev b9 : Syntax.Body
-b9 = Syntax.assign (Syntax.place 10 List.[]) (Syntax.op2 (Syntax.mul Syntax.unsigned) (Syntax.int Syntax.w64 112) (Syntax.copy (Syntax.place 2 List.[])))
+b9 = Syntax.assign (Syntax.place 10 []) (Syntax.op2 (Syntax.mul Syntax.unsigned) (Syntax.int Syntax.w64 112) (Syntax.copy (Syntax.place 2 [])))
 
 abbrev b10 : Syntax.Body
-b10 = Syntax.assign (Syntax.place 11 List.[]) (Syntax.op2 (Syntax.add Syntax.unsigned) (Syntax.copy (Syntax.place 10 List.[])) (Syntax.copy (Syntax.place 5 List.[])))
+b10 = Syntax.assign (Syntax.place 11 []) (Syntax.op2 (Syntax.add Syntax.unsigned) (Syntax.copy (Syntax.place 10 [])) (Syntax.copy (Syntax.place 5 [])))
 
 abbrev b11 : Syntax.Body
-b11 = Syntax.call "block::records::fetch" (List._∷_ (Syntax.copy (Syntax.place 9 List.[])) (List._∷_ (Syntax.copy (Syntax.place 11 List.[])) List.[])) (Syntax.place 6 List.[])
+b11 = Syntax.call "block::records::fetch" ((Syntax.copy (Syntax.place 9 [])) ∷ (Syntax.copy (Syntax.place 11 [])) ∷ []) (Syntax.place 6 [])
 
 abbrev b12 : Syntax.Body
-b12 = Syntax.assign (Syntax.place 10 List.[]) (Syntax.op2 (Syntax.mul Syntax.unsigned) (Syntax.copy (Syntax.place 5 List.[])) (Syntax.int Syntax.w64 4))
+b12 = Syntax.assign (Syntax.place 10 []) (Syntax.op2 (Syntax.mul Syntax.unsigned) (Syntax.copy (Syntax.place 5 [])) (Syntax.int Syntax.w64 4))
 
 abbrev b13 : Syntax.Body
-b13 = Syntax.assign (Syntax.place 12 List.[]) (Syntax.addrOf (Syntax.place 3 List.[]))
+b13 = Syntax.assign (Syntax.place 12 []) (Syntax.addrOf (Syntax.place 3 []))
 
 abbrev b14 : Syntax.Body
-b14 = Syntax.assign (Syntax.place 13 List.[]) (Syntax.op2 Syntax.offset (Syntax.copy (Syntax.place 12 List.[])) (Syntax.copy (Syntax.place 10 List.[])))
+b14 = Syntax.assign (Syntax.place 13 []) (Syntax.op2 Syntax.offset (Syntax.copy (Syntax.place 12 [])) (Syntax.copy (Syntax.place 10 [])))
 
 abbrev b15 : Syntax.Body
-b15 = Syntax.assign (Syntax.place 13 (List._∷_ (Syntax.deref (Syntax.tyInt Syntax.w32)) List.[])) (Syntax.rvOpd (Syntax.copy (Syntax.place 6 (List._∷_ (Syntax.field 0) List.[]))))
+b15 = Syntax.assign (Syntax.place 13 ((Syntax.deref u32) ∷ [])) (Syntax.rvOpd (Syntax.copy (Syntax.place 6 ((Syntax.field 0) ∷ []))))
 
 abbrev b16 : Syntax.Body
-b16 = Syntax.assign (Syntax.place 11 List.[]) (Syntax.op2 (Syntax.mul Syntax.unsigned) (Syntax.copy (Syntax.place 5 List.[])) (Syntax.int Syntax.w64 4))
+b16 = Syntax.assign (Syntax.place 11 []) (Syntax.op2 (Syntax.mul Syntax.unsigned) (Syntax.copy (Syntax.place 5 [])) (Syntax.int Syntax.w64 4))
 
 abbrev b17 : Syntax.Body
-b17 = Syntax.assign (Syntax.place 14 List.[]) (Syntax.addrOf (Syntax.place 4 List.[]))
+b17 = Syntax.assign (Syntax.place 14 []) (Syntax.addrOf (Syntax.place 4 []))
 
 abbrev b18 : Syntax.Body
-b18 = Syntax.assign (Syntax.place 15 List.[]) (Syntax.op2 Syntax.offset (Syntax.copy (Syntax.place 14 List.[])) (Syntax.copy (Syntax.place 11 List.[])))
+b18 = Syntax.assign (Syntax.place 15 []) (Syntax.op2 Syntax.offset (Syntax.copy (Syntax.place 14 [])) (Syntax.copy (Syntax.place 11 [])))
 
 abbrev b19 : Syntax.Body
-b19 = Syntax.assign (Syntax.place 15 (List._∷_ (Syntax.deref (Syntax.tyInt Syntax.w32)) List.[])) (Syntax.rvOpd (Syntax.copy (Syntax.place 6 (List._∷_ (Syntax.field 1) List.[]))))
+b19 = Syntax.assign (Syntax.place 15 ((Syntax.deref u32) ∷ [])) (Syntax.rvOpd (Syntax.copy (Syntax.place 6 ((Syntax.field 1) ∷ []))))
 
 abbrev b20 : Syntax.Body
-b20 = Syntax.assign (Syntax.place 5 List.[]) (Syntax.op2 (Syntax.add Syntax.unsigned) (Syntax.copy (Syntax.place 5 List.[])) (Syntax.int Syntax.w64 1))
-
-abbrev b21 : Syntax.Body
-b21 = Syntax.seq b19 b20
-
-abbrev b22 : Syntax.Body
-b22 = Syntax.seq b18 b21
+b20 = Syntax.assign (Syntax.place 5 []) (Syntax.op2 (Syntax.add Syntax.unsigned) (Syntax.copy (Syntax.place 5 [])) (Syntax.int Syntax.w64 1))
 
 abbrev b23 : Syntax.Body
-b23 = Syntax.seq b17 b22
+b23 = Syntax.seq b17 (Syntax.seq b18 (Syntax.seq b19 b20))
 
 abbrev b24 : Syntax.Body
 b24 = Syntax.seq b16 b23
 
-abbrev b25 : Syntax.Body
-b25 = Syntax.seq b15 b24
-
-abbrev b26 : Syntax.Body
-b26 = Syntax.seq b14 b25
-
 abbrev b27 : Syntax.Body
-b27 = Syntax.seq b13 b26
+b27 = Syntax.seq b13 (Syntax.seq b14 (Syntax.seq b15 b24))
 
 abbrev b28 : Syntax.Body
 b28 = Syntax.seq b12 b27
 
-abbrev b29 : Syntax.Body
-b29 = Syntax.seq b11 b28
-
-abbrev b30 : Syntax.Body
-b30 = Syntax.seq b10 b29
-
 abbrev b31 : Syntax.Body
-b31 = Syntax.seq b9 b30
-
-abbrev b32 : Syntax.Body
-b32 = Syntax.seq b8 b31
-
-abbrev b33 : Syntax.Body
-b33 = Syntax.seq b7 b32
+b31 = Syntax.seq b9 (Syntax.seq b10 (Syntax.seq b11 b28))
 
 abbrev b34 : Syntax.Body
-b34 = Syntax.seq b6 b33
-
-abbrev b35 : Syntax.Body
-b35 = Syntax.seq b3 b34
-
-abbrev b36 : Syntax.Body
-b36 = Syntax.loop b35
+b34 = Syntax.seq b6 (Syntax.seq b7 (Syntax.seq b8 b31))
 
 abbrev b37 : Syntax.Body
-b37 = Syntax.block b36
+b37 = Syntax.block (Syntax.loop (Syntax.seq b3 b34))
 
 abbrev b38 : Syntax.Body
-b38 = Syntax.assign (Syntax.place 16 List.[]) (Syntax.rvOpd (Syntax.copy (Syntax.place 3 List.[])))
+b38 = Syntax.assign (Syntax.place 16 []) (Syntax.rvOpd (Syntax.copy (Syntax.place 3 [])))
 
 abbrev b39 : Syntax.Body
-b39 = Syntax.assign (Syntax.place 17 List.[]) (Syntax.rvOpd (Syntax.copy (Syntax.place 4 List.[])))
+b39 = Syntax.assign (Syntax.place 17 []) (Syntax.rvOpd (Syntax.copy (Syntax.place 4 [])))
 
 abbrev b40 : Syntax.Body
-b40 = Syntax.assign (Syntax.place 0 List.[]) (Syntax.aggregate (List._∷_ (Syntax.copy (Syntax.place 16 List.[])) (List._∷_ (Syntax.copy (Syntax.place 17 List.[])) List.[])))
+b40 = Syntax.assign (Syntax.place 0 []) (Syntax.aggregate ((Syntax.copy (Syntax.place 16 [])) ∷ (Syntax.copy (Syntax.place 17 [])) ∷ []))
 
 abbrev b41 : Syntax.Body
 b41 = Syntax.return
 
-abbrev b42 : Syntax.Body
-b42 = Syntax.seq b40 b41
-
-abbrev b43 : Syntax.Body
-b43 = Syntax.seq b39 b42
-
 abbrev b44 : Syntax.Body
-b44 = Syntax.seq b38 b43
-
-abbrev b45 : Syntax.Body
-b45 = Syntax.seq b37 b44
-
-abbrev b46 : Syntax.Body
-b46 = Syntax.seq b2 b45
+b44 = Syntax.seq b38 (Syntax.seq b39 (Syntax.seq b40 b41))
 
 abbrev b47 : Syntax.Body
-b47 = Syntax.seq b1 b46
-
-abbrev b48 : Syntax.Body
-b48 = Syntax.seq b0 b47
+b47 = Syntax.seq b1 (Syntax.seq b2 (Syntax.seq b37 b44))
 
 abbrev pub body : Syntax.Body
-body = b48
+body = (Syntax.seq b0 b47)
 
 abbrev pub Claims : Type 1
 Claims = Kinds.In 1 ps·0 × Kinds.Out 1 ps·0 r·0
 
-abbrev pub e0 : Row.Entry
-e0 = (0, Rows'.any-gone y0)
+abbrev pub v0 : Row.Row
+v0 = Rows'.any-gone Syntax.tyPtr
 
-abbrev pub e1 : Row.Entry
-e1 = (0, Rows'.whole (Declared.row (Apart.apartT Set.the-type)))
+abbrev pub v1 : Row.Row
+v1 = Rows'.sc-here (Row.sInt Syntax.w64)
 
-abbrev pub e2 : Row.Entry
-e2 = (1, Mut.mslice (Element.type) (Syntax.tyRef (Syntax.named 0) Syntax.mut Element.behind) 0)
+abbrev pub v2 : Row.Row
+v2 = Rows'.any-gone u64
 
-abbrev pub e3 : Row.Entry
-e3 = (1, Relend.mslice-owed (Element.type) (Syntax.tyRef (Syntax.named 0) Syntax.mut Element.behind) 0 1 Row.off)
+abbrev pub v3 : Row.Row
+v3 = Rows.arrF n32 112 0
 
-abbrev pub e4 : Row.Entry
-e4 = (10, Rows'.any-gone (Syntax.tyInt Syntax.w64))
+abbrev pub v4 : Row.Row
+v4 = Rows'.any-gone Syntax.tyBool
 
-abbrev pub e5 : Row.Entry
-e5 = (10, Rows'.sc-here (Row.sInt Syntax.w64))
+abbrev pub v5 : Row.Row
+v5 = Rows'.any-gone y2
 
-abbrev pub e6 : Row.Entry
-e6 = (11, Rows'.any-gone (Syntax.tyInt Syntax.w64))
+abbrev pub v6 : Row.Row
+v6 = Rows'.any-gone y4
 
-abbrev pub e7 : Row.Entry
-e7 = (11, Rows'.sc-here (Row.sInt Syntax.w64))
+abbrev pub v7 : Row.Row
+v7 = Rows'.any-gone y5
 
-abbrev pub e8 : Row.Entry
-e8 = (12, Rows'.any-gone Syntax.tyPtr)
+abbrev pub v8 : Row.Row
+v8 = Mut.mslice (Element.type) y1 0
 
-abbrev pub e9 : Row.Entry
-e9 = (12, Rows'.sc-here Row.sPtr)
+abbrev pub v9 : Row.Row
+v9 = Rows'.any-gone y3
 
-abbrev pub e10 : Row.Entry
-e10 = (13, Rows'.any-gone Syntax.tyPtr)
+abbrev pub v10 : Row.Row
+v10 = Rows'.any-gone y0
 
-abbrev pub e11 : Row.Entry
-e11 = (13, Rows'.sc-here Row.sPtr)
+abbrev pub v11 : Row.Row
+v11 = Rows'.whole (Declared.row Record.the-type)
 
-abbrev pub e12 : Row.Entry
-e12 = (14, Rows'.any-gone Syntax.tyPtr)
+abbrev pub v12 : Row.Row
+v12 = Rows'.sc-here Row.sPtr
 
-abbrev pub e13 : Row.Entry
-e13 = (14, Rows'.sc-here Row.sPtr)
+abbrev pub v13 : Row.Row
+v13 = Mut.mslice (Element.type) y2 1
 
-abbrev pub e14 : Row.Entry
-e14 = (15, Rows'.any-gone Syntax.tyPtr)
+abbrev pub v14 : Row.Row
+v14 = Relend.mslice-owed (Element.type) y1 0 1 Row.off
 
-abbrev pub e15 : Row.Entry
-e15 = (15, Rows'.sc-here Row.sPtr)
+abbrev pub v15 : Row.Row
+v15 = Mut.msleft (Element.type) y2
 
-abbrev pub e16 : Row.Entry
-e16 = (16, Rows'.any-gone (Syntax.tyArray (Syntax.tyInt Syntax.w32) 112))
-
-abbrev pub e17 : Row.Entry
-e17 = (16, Rows.arrF (Referent.rtF (Referent.fInt Syntax.w32)) 112 0)
-
-abbrev pub e18 : Row.Entry
-e18 = (17, Rows'.any-gone (Syntax.tyArray (Syntax.tyInt Syntax.w32) 112))
-
-abbrev pub e19 : Row.Entry
-e19 = (17, Rows.arrF (Referent.rtF (Referent.fInt Syntax.w32)) 112 0)
-
-abbrev pub e20 : Row.Entry
-e20 = (2, Rows'.any-gone (Syntax.tyInt Syntax.w64))
-
-abbrev pub e21 : Row.Entry
-e21 = (2, Rows'.sc-here (Row.sInt Syntax.w64))
-
-abbrev pub e22 : Row.Entry
-e22 = (3, Rows'.any-gone (Syntax.tyArray (Syntax.tyInt Syntax.w32) 112))
-
-abbrev pub e23 : Row.Entry
-e23 = (3, Rows.arrF (Referent.rtF (Referent.fInt Syntax.w32)) 112 0)
-
-abbrev pub e24 : Row.Entry
-e24 = (4, Rows'.any-gone (Syntax.tyArray (Syntax.tyInt Syntax.w32) 112))
-
-abbrev pub e25 : Row.Entry
-e25 = (4, Rows.arrF (Referent.rtF (Referent.fInt Syntax.w32)) 112 0)
-
-abbrev pub e26 : Row.Entry
-e26 = (5, Rows'.any-gone (Syntax.tyInt Syntax.w64))
-
-abbrev pub e27 : Row.Entry
-e27 = (5, Rows'.sc-here (Row.sInt Syntax.w64))
-
-abbrev pub e28 : Row.Entry
-e28 = (6, Rows'.any-gone y1)
-
-abbrev pub e29 : Row.Entry
-e29 = (6, Rows'.whole (Declared.row Record.the-type))
-
-abbrev pub e30 : Row.Entry
-e30 = (7, Rows'.any-gone Syntax.tyBool)
-
-abbrev pub e31 : Row.Entry
-e31 = (8, Relend.msptr (Element.type) (Syntax.tyRef Syntax.erased Syntax.mut Element.behind) 1)
-
-abbrev pub e32 : Row.Entry
-e32 = (8, Rows'.any-gone (Syntax.tyRef Syntax.erased Syntax.mut Element.behind))
-
-abbrev pub e33 : Row.Entry
-e33 = (9, Mut.msleft (Element.type) (Syntax.tyRef Syntax.erased Syntax.mut Element.behind))
-
-abbrev pub e34 : Row.Entry
-e34 = (9, Mut.mslice (Element.type) (Syntax.tyRef Syntax.erased Syntax.mut Element.behind) 1)
-
-abbrev pub e35 : Row.Entry
-e35 = (9, Rows'.any-gone y2)
+abbrev pub v16 : Row.Row
+v16 = Rows'.whole (Declared.row (Apart.apartT Set.the-type))
 
 abbrev pub t0 : List.List Row.Entry
-t0 = List._∷_ e0 (List._∷_ e2 (List._∷_ e21 (List._∷_ e22 (List._∷_ e24 (List._∷_ e26 (List._∷_ e28 (List._∷_ e30 (List._∷_ e32 (List._∷_ e35 (List._∷_ e4 (List._∷_ e6 (List._∷_ e8 (List._∷_ e10
-    (List._∷_ e12 (List._∷_ e14 List.[])))))))))))))))
+t0 = (0, v6) ∷ (1, v8) ∷ (2, v1) ∷ (3, v10) ∷ (4, v10) ∷ (5, v2) ∷ (6, v9) ∷ (7, v4) ∷ (8, v5) ∷ (9, v7) ∷ (10, v2) ∷ (11, v2) ∷ (12, v0) ∷ (13, v0) ∷ (14, v0) ∷ (15, v0) ∷ []
 
 abbrev pub t1 : List.List Row.Entry
-t1 = List._∷_ e16 (List._∷_ e18 List.[])
+t1 = (16, v10) ∷ (17, v10) ∷ []
 
 abbrev pub t2 : List.List Row.Entry
-t2 = List._∷_ (0, Rows'.whole (Declared.row Set.the-type)) (List._∷_ e2 (List._∷_ e20 (List._∷_ e22 (List._∷_ e24 (List._∷_ e26 (List._∷_ e28 (List._∷_ e30 (List._∷_ e32 (List._∷_ e35 (List._∷_ e4
-    (List._∷_ e6 (List._∷_ e8 (List._∷_ e10 (List._∷_ e12 (List._∷_ e14 List.[])))))))))))))))
+t2 = (0, Rows'.whole (Declared.row Set.the-type)) ∷ (1, v8) ∷ (2, v2) ∷ (3, v10) ∷ (4, v10) ∷ (5, v2) ∷ (6, v9) ∷ (7, v4) ∷ (8, v5) ∷ (9, v7) ∷ (10, v2) ∷ (11, v2) ∷ (12, v0) ∷ (13, v0) ∷ (14, v0) ∷
+    (15, v0) ∷ []
 
 abbrev pub t3 : List.List Row.Entry
-t3 = List._∷_ e0 (List._∷_ e2 (List._∷_ e21 (List._∷_ (3, Rows'.whole (Array'.Array (Referent.rtF (Referent.fInt Syntax.w32)) 112)) (List._∷_ e24 (List._∷_ e26 (List._∷_ e28 (List._∷_ e30 (List._∷_
-    e32 (List._∷_ e35 (List._∷_ e4 (List._∷_ e6 (List._∷_ e8 (List._∷_ e10 (List._∷_ e12 (List._∷_ e14 List.[])))))))))))))))
+t3 = (0, v6) ∷ (1, v8) ∷ (2, v1) ∷ (3, Rows'.whole (Array'.Array n32 112)) ∷ (4, v10) ∷ (5, v2) ∷ (6, v9) ∷ (7, v4) ∷ (8, v5) ∷ (9, v7) ∷ (10, v2) ∷ (11, v2) ∷ (12, v0) ∷ (13, v0) ∷ (14, v0) ∷
+    (15, v0) ∷ []
 
 abbrev pub t4 : List.List Row.Entry
-t4 = List._∷_ e0 (List._∷_ e2 (List._∷_ e21 (List._∷_ e23 (List._∷_ e24 (List._∷_ e26 (List._∷_ e28 (List._∷_ e30 (List._∷_ e32 (List._∷_ e35 (List._∷_ e4 (List._∷_ e6 (List._∷_ e8 (List._∷_ e10
-    (List._∷_ e12 (List._∷_ e14 List.[])))))))))))))))
+t4 = (0, v6) ∷ (1, v8) ∷ (2, v1) ∷ (3, v3) ∷ (4, v10) ∷ (5, v2) ∷ (6, v9) ∷ (7, v4) ∷ (8, v5) ∷ (9, v7) ∷ (10, v2) ∷ (11, v2) ∷ (12, v0) ∷ (13, v0) ∷ (14, v0) ∷ (15, v0) ∷ []
 
 abbrev pub t5 : List.List Row.Entry
-t5 = List._∷_ e0 (List._∷_ e2 (List._∷_ e21 (List._∷_ e23 (List._∷_ (4, Rows'.whole (Array'.Array (Referent.rtF (Referent.fInt Syntax.w32)) 112)) (List._∷_ e26 (List._∷_ e28 (List._∷_ e30 (List._∷_
-    e32 (List._∷_ e35 (List._∷_ e4 (List._∷_ e6 (List._∷_ e8 (List._∷_ e10 (List._∷_ e12 (List._∷_ e14 List.[])))))))))))))))
+t5 = (0, v6) ∷ (1, v8) ∷ (2, v1) ∷ (3, v3) ∷ (4, Rows'.whole (Array'.Array n32 112)) ∷ (5, v2) ∷ (6, v9) ∷ (7, v4) ∷ (8, v5) ∷ (9, v7) ∷ (10, v2) ∷ (11, v2) ∷ (12, v0) ∷ (13, v0) ∷ (14, v0) ∷ (15, v0)
+    ∷ []
 
 abbrev pub t6 : List.List Row.Entry
-t6 = List._∷_ e0 (List._∷_ e2 (List._∷_ e21 (List._∷_ e23 (List._∷_ e25 (List._∷_ e26 (List._∷_ e28 (List._∷_ e30 (List._∷_ e32 (List._∷_ e35 (List._∷_ e4 (List._∷_ e6 (List._∷_ e8 (List._∷_ e10
-    (List._∷_ e12 (List._∷_ e14 List.[])))))))))))))))
+t6 = (0, v6) ∷ (1, v8) ∷ (2, v1) ∷ (3, v3) ∷ (4, v3) ∷ (5, v2) ∷ (6, v9) ∷ (7, v4) ∷ (8, v5) ∷ (9, v7) ∷ (10, v2) ∷ (11, v2) ∷ (12, v0) ∷ (13, v0) ∷ (14, v0) ∷ (15, v0) ∷ []
 
 abbrev pub t7 : List.List Row.Entry
-t7 = List._∷_ e0 (List._∷_ e2 (List._∷_ e21 (List._∷_ e23 (List._∷_ e25 (List._∷_ e27 (List._∷_ e28 (List._∷_ e30 (List._∷_ e32 (List._∷_ e35 (List._∷_ e4 (List._∷_ e6 (List._∷_ e8 (List._∷_ e10
-    (List._∷_ e12 (List._∷_ e14 List.[])))))))))))))))
+t7 = (0, v6) ∷ (1, v8) ∷ (2, v1) ∷ (3, v3) ∷ (4, v3) ∷ (5, v1) ∷ (6, v9) ∷ (7, v4) ∷ (8, v5) ∷ (9, v7) ∷ (10, v2) ∷ (11, v2) ∷ (12, v0) ∷ (13, v0) ∷ (14, v0) ∷ (15, v0) ∷ []
 
 abbrev pub t8 : List.List Row.Entry
-t8 = List._∷_ e0 (List._∷_ e2 (List._∷_ e21 (List._∷_ e23 (List._∷_ e25 (List._∷_ e27 (List._∷_ e28 (List._∷_ (7, Rows'.sc-here Row.sBool) (List._∷_ e32 (List._∷_ e35 (List._∷_ e4 (List._∷_ e6
-    (List._∷_ e8 (List._∷_ e10 (List._∷_ e12 (List._∷_ e14 List.[])))))))))))))))
+t8 = (0, v6) ∷ (1, v8) ∷ (2, v1) ∷ (3, v3) ∷ (4, v3) ∷ (5, v1) ∷ (6, v9) ∷ (7, Rows'.sc-here Row.sBool) ∷ (8, v5) ∷ (9, v7) ∷ (10, v2) ∷ (11, v2) ∷ (12, v0) ∷ (13, v0) ∷ (14, v0) ∷ (15, v0) ∷ []
 
 abbrev pub t9 : List.List Row.Entry
-t9 = List._∷_ e0 (List._∷_ e3 (List._∷_ e21 (List._∷_ e23 (List._∷_ e25 (List._∷_ e27 (List._∷_ e28 (List._∷_ e30 (List._∷_ e31 (List._∷_ e35 (List._∷_ e4 (List._∷_ e6 (List._∷_ e8 (List._∷_ e10
-    (List._∷_ e12 (List._∷_ e14 List.[])))))))))))))))
+t9 = (0, v6) ∷ (1, v14) ∷ (2, v1) ∷ (3, v3) ∷ (4, v3) ∷ (5, v1) ∷ (6, v9) ∷ (7, v4) ∷ (8, Relend.msptr (Element.type) y2 1) ∷ (9, v7) ∷ (10, v2) ∷ (11, v2) ∷ (12, v0) ∷ (13, v0) ∷ (14, v0) ∷ (15, v0)
+    ∷ []
 
 abbrev pub t10 : List.List Row.Entry
-t10 = List._∷_ e0 (List._∷_ e3 (List._∷_ e21 (List._∷_ e23 (List._∷_ e25 (List._∷_ e27 (List._∷_ e28 (List._∷_ e30 (List._∷_ e32 (List._∷_ e34 (List._∷_ e4 (List._∷_ e6 (List._∷_ e8 (List._∷_ e10
-    (List._∷_ e12 (List._∷_ e14 List.[])))))))))))))))
+t10 = (0, v6) ∷ (1, v14) ∷ (2, v1) ∷ (3, v3) ∷ (4, v3) ∷ (5, v1) ∷ (6, v9) ∷ (7, v4) ∷ (8, v5) ∷ (9, v13) ∷ (10, v2) ∷ (11, v2) ∷ (12, v0) ∷ (13, v0) ∷ (14, v0) ∷ (15, v0) ∷ []
 
 abbrev pub t11 : List.List Row.Entry
-t11 = List._∷_ e0 (List._∷_ e3 (List._∷_ e21 (List._∷_ e23 (List._∷_ e25 (List._∷_ e27 (List._∷_ e28 (List._∷_ e30 (List._∷_ e32 (List._∷_ e34 (List._∷_ e5 (List._∷_ e6 (List._∷_ e8 (List._∷_ e10
-    (List._∷_ e12 (List._∷_ e14 List.[])))))))))))))))
+t11 = (0, v6) ∷ (1, v14) ∷ (2, v1) ∷ (3, v3) ∷ (4, v3) ∷ (5, v1) ∷ (6, v9) ∷ (7, v4) ∷ (8, v5) ∷ (9, v13) ∷ (10, v1) ∷ (11, v2) ∷ (12, v0) ∷ (13, v0) ∷ (14, v0) ∷ (15, v0) ∷ []
 
 abbrev pub t12 : List.List Row.Entry
-t12 = List._∷_ e0 (List._∷_ e3 (List._∷_ e21 (List._∷_ e23 (List._∷_ e25 (List._∷_ e27 (List._∷_ e28 (List._∷_ e30 (List._∷_ e32 (List._∷_ e34 (List._∷_ e5 (List._∷_ e7 (List._∷_ e8 (List._∷_ e10
-    (List._∷_ e12 (List._∷_ e14 List.[])))))))))))))))
+t12 = (0, v6) ∷ (1, v14) ∷ (2, v1) ∷ (3, v3) ∷ (4, v3) ∷ (5, v1) ∷ (6, v9) ∷ (7, v4) ∷ (8, v5) ∷ (9, v13) ∷ (10, v1) ∷ (11, v1) ∷ (12, v0) ∷ (13, v0) ∷ (14, v0) ∷ (15, v0) ∷ []
 
 abbrev pub t13 : List.List Row.Entry
-t13 = List._∷_ e0 (List._∷_ e3 (List._∷_ e21 (List._∷_ e23 (List._∷_ e25 (List._∷_ e27 (List._∷_ e28 (List._∷_ e30 (List._∷_ e32 (List._∷_ e34 (List._∷_ e4 (List._∷_ e7 (List._∷_ e8 (List._∷_ e10
-    (List._∷_ e12 (List._∷_ e14 List.[])))))))))))))))
+t13 = (0, v6) ∷ (1, v14) ∷ (2, v1) ∷ (3, v3) ∷ (4, v3) ∷ (5, v1) ∷ (6, v9) ∷ (7, v4) ∷ (8, v5) ∷ (9, v13) ∷ (10, v2) ∷ (11, v1) ∷ (12, v0) ∷ (13, v0) ∷ (14, v0) ∷ (15, v0) ∷ []
 
 abbrev pub t14 : List.List Row.Entry
-t14 = List._∷_ e0 (List._∷_ e3 (List._∷_ e21 (List._∷_ e23 (List._∷_ e25 (List._∷_ e27 (List._∷_ e29 (List._∷_ e30 (List._∷_ e32 (List._∷_ e33 (List._∷_ e4 (List._∷_ e7 (List._∷_ e8 (List._∷_ e10
-    (List._∷_ e12 (List._∷_ e14 List.[])))))))))))))))
+t14 = (0, v6) ∷ (1, v14) ∷ (2, v1) ∷ (3, v3) ∷ (4, v3) ∷ (5, v1) ∷ (6, v11) ∷ (7, v4) ∷ (8, v5) ∷ (9, v15) ∷ (10, v2) ∷ (11, v1) ∷ (12, v0) ∷ (13, v0) ∷ (14, v0) ∷ (15, v0) ∷ []
 
 abbrev pub t15 : List.List Row.Entry
-t15 = List._∷_ e0 (List._∷_ e3 (List._∷_ e21 (List._∷_ e23 (List._∷_ e25 (List._∷_ e27 (List._∷_ e29 (List._∷_ e30 (List._∷_ e32 (List._∷_ e33 (List._∷_ e4 (List._∷_ e6 (List._∷_ e8 (List._∷_ e10
-    (List._∷_ e12 (List._∷_ e14 List.[])))))))))))))))
+t15 = (0, v6) ∷ (1, v14) ∷ (2, v1) ∷ (3, v3) ∷ (4, v3) ∷ (5, v1) ∷ (6, v11) ∷ (7, v4) ∷ (8, v5) ∷ (9, v15) ∷ (10, v2) ∷ (11, v2) ∷ (12, v0) ∷ (13, v0) ∷ (14, v0) ∷ (15, v0) ∷ []
 
 abbrev pub t16 : List.List Row.Entry
-t16 = List._∷_ e0 (List._∷_ e2 (List._∷_ e21 (List._∷_ e23 (List._∷_ e25 (List._∷_ e27 (List._∷_ e29 (List._∷_ e30 (List._∷_ e32 (List._∷_ e35 (List._∷_ e4 (List._∷_ e6 (List._∷_ e8 (List._∷_ e10
-    (List._∷_ e12 (List._∷_ e14 List.[])))))))))))))))
+t16 = (0, v6) ∷ (1, v8) ∷ (2, v1) ∷ (3, v3) ∷ (4, v3) ∷ (5, v1) ∷ (6, v11) ∷ (7, v4) ∷ (8, v5) ∷ (9, v7) ∷ (10, v2) ∷ (11, v2) ∷ (12, v0) ∷ (13, v0) ∷ (14, v0) ∷ (15, v0) ∷ []
 
 abbrev pub t17 : List.List Row.Entry
-t17 = List._∷_ e0 (List._∷_ e2 (List._∷_ e21 (List._∷_ e23 (List._∷_ e25 (List._∷_ e27 (List._∷_ e29 (List._∷_ e30 (List._∷_ e32 (List._∷_ e35 (List._∷_ e5 (List._∷_ e6 (List._∷_ e8 (List._∷_ e10
-    (List._∷_ e12 (List._∷_ e14 List.[])))))))))))))))
+t17 = (0, v6) ∷ (1, v8) ∷ (2, v1) ∷ (3, v3) ∷ (4, v3) ∷ (5, v1) ∷ (6, v11) ∷ (7, v4) ∷ (8, v5) ∷ (9, v7) ∷ (10, v1) ∷ (11, v2) ∷ (12, v0) ∷ (13, v0) ∷ (14, v0) ∷ (15, v0) ∷ []
 
 abbrev pub t18 : List.List Row.Entry
-t18 = List._∷_ e0 (List._∷_ e2 (List._∷_ e21 (List._∷_ e23 (List._∷_ e25 (List._∷_ e27 (List._∷_ e29 (List._∷_ e30 (List._∷_ e32 (List._∷_ e35 (List._∷_ e5 (List._∷_ e6 (List._∷_ e9 (List._∷_ e10
-    (List._∷_ e12 (List._∷_ e14 List.[])))))))))))))))
+t18 = (0, v6) ∷ (1, v8) ∷ (2, v1) ∷ (3, v3) ∷ (4, v3) ∷ (5, v1) ∷ (6, v11) ∷ (7, v4) ∷ (8, v5) ∷ (9, v7) ∷ (10, v1) ∷ (11, v2) ∷ (12, v12) ∷ (13, v0) ∷ (14, v0) ∷ (15, v0) ∷ []
 
 abbrev pub t19 : List.List Row.Entry
-t19 = List._∷_ e0 (List._∷_ e2 (List._∷_ e21 (List._∷_ e23 (List._∷_ e25 (List._∷_ e27 (List._∷_ e29 (List._∷_ e30 (List._∷_ e32 (List._∷_ e35 (List._∷_ e5 (List._∷_ e6 (List._∷_ e9 (List._∷_ e11
-    (List._∷_ e12 (List._∷_ e14 List.[])))))))))))))))
+t19 = (0, v6) ∷ (1, v8) ∷ (2, v1) ∷ (3, v3) ∷ (4, v3) ∷ (5, v1) ∷ (6, v11) ∷ (7, v4) ∷ (8, v5) ∷ (9, v7) ∷ (10, v1) ∷ (11, v2) ∷ (12, v12) ∷ (13, v12) ∷ (14, v0) ∷ (15, v0) ∷ []
 
 abbrev pub t20 : List.List Row.Entry
-t20 = List._∷_ e0 (List._∷_ e2 (List._∷_ e21 (List._∷_ e23 (List._∷_ e25 (List._∷_ e27 (List._∷_ e29 (List._∷_ e30 (List._∷_ e32 (List._∷_ e35 (List._∷_ e5 (List._∷_ e6 (List._∷_ e8 (List._∷_ e11
-    (List._∷_ e12 (List._∷_ e14 List.[])))))))))))))))
+t20 = (0, v6) ∷ (1, v8) ∷ (2, v1) ∷ (3, v3) ∷ (4, v3) ∷ (5, v1) ∷ (6, v11) ∷ (7, v4) ∷ (8, v5) ∷ (9, v7) ∷ (10, v1) ∷ (11, v2) ∷ (12, v0) ∷ (13, v12) ∷ (14, v0) ∷ (15, v0) ∷ []
 
 abbrev pub t21 : List.List Row.Entry
-t21 = List._∷_ e0 (List._∷_ e2 (List._∷_ e21 (List._∷_ e23 (List._∷_ e25 (List._∷_ e27 (List._∷_ e29 (List._∷_ e30 (List._∷_ e32 (List._∷_ e35 (List._∷_ e4 (List._∷_ e6 (List._∷_ e8 (List._∷_ e11
-    (List._∷_ e12 (List._∷_ e14 List.[])))))))))))))))
+t21 = (0, v6) ∷ (1, v8) ∷ (2, v1) ∷ (3, v3) ∷ (4, v3) ∷ (5, v1) ∷ (6, v11) ∷ (7, v4) ∷ (8, v5) ∷ (9, v7) ∷ (10, v2) ∷ (11, v2) ∷ (12, v0) ∷ (13, v12) ∷ (14, v0) ∷ (15, v0) ∷ []
 
 abbrev pub t22 : List.List Row.Entry
-t22 = List._∷_ e0 (List._∷_ e2 (List._∷_ e21 (List._∷_ e23 (List._∷_ e25 (List._∷_ e27 (List._∷_ e29 (List._∷_ e30 (List._∷_ e32 (List._∷_ e35 (List._∷_ e4 (List._∷_ e7 (List._∷_ e8 (List._∷_ e10
-    (List._∷_ e12 (List._∷_ e14 List.[])))))))))))))))
+t22 = (0, v6) ∷ (1, v8) ∷ (2, v1) ∷ (3, v3) ∷ (4, v3) ∷ (5, v1) ∷ (6, v11) ∷ (7, v4) ∷ (8, v5) ∷ (9, v7) ∷ (10, v2) ∷ (11, v1) ∷ (12, v0) ∷ (13, v0) ∷ (14, v0) ∷ (15, v0) ∷ []
 
 abbrev pub t23 : List.List Row.Entry
-t23 = List._∷_ e0 (List._∷_ e2 (List._∷_ e21 (List._∷_ e23 (List._∷_ e25 (List._∷_ e27 (List._∷_ e29 (List._∷_ e30 (List._∷_ e32 (List._∷_ e35 (List._∷_ e4 (List._∷_ e7 (List._∷_ e8 (List._∷_ e10
-    (List._∷_ e13 (List._∷_ e14 List.[])))))))))))))))
+t23 = (0, v6) ∷ (1, v8) ∷ (2, v1) ∷ (3, v3) ∷ (4, v3) ∷ (5, v1) ∷ (6, v11) ∷ (7, v4) ∷ (8, v5) ∷ (9, v7) ∷ (10, v2) ∷ (11, v1) ∷ (12, v0) ∷ (13, v0) ∷ (14, v12) ∷ (15, v0) ∷ []
 
 abbrev pub t24 : List.List Row.Entry
-t24 = List._∷_ e0 (List._∷_ e2 (List._∷_ e21 (List._∷_ e23 (List._∷_ e25 (List._∷_ e27 (List._∷_ e29 (List._∷_ e30 (List._∷_ e32 (List._∷_ e35 (List._∷_ e4 (List._∷_ e7 (List._∷_ e8 (List._∷_ e10
-    (List._∷_ e13 (List._∷_ e15 List.[])))))))))))))))
+t24 = (0, v6) ∷ (1, v8) ∷ (2, v1) ∷ (3, v3) ∷ (4, v3) ∷ (5, v1) ∷ (6, v11) ∷ (7, v4) ∷ (8, v5) ∷ (9, v7) ∷ (10, v2) ∷ (11, v1) ∷ (12, v0) ∷ (13, v0) ∷ (14, v12) ∷ (15, v12) ∷ []
 
 abbrev pub t25 : List.List Row.Entry
-t25 = List._∷_ e0 (List._∷_ e2 (List._∷_ e21 (List._∷_ e23 (List._∷_ e25 (List._∷_ e27 (List._∷_ e29 (List._∷_ e30 (List._∷_ e32 (List._∷_ e35 (List._∷_ e4 (List._∷_ e7 (List._∷_ e8 (List._∷_ e10
-    (List._∷_ e12 (List._∷_ e15 List.[])))))))))))))))
+t25 = (0, v6) ∷ (1, v8) ∷ (2, v1) ∷ (3, v3) ∷ (4, v3) ∷ (5, v1) ∷ (6, v11) ∷ (7, v4) ∷ (8, v5) ∷ (9, v7) ∷ (10, v2) ∷ (11, v1) ∷ (12, v0) ∷ (13, v0) ∷ (14, v0) ∷ (15, v12) ∷ []
 
 abbrev pub t26 : List.List Row.Entry
-t26 = List._∷_ e0 (List._∷_ e2 (List._∷_ e21 (List._∷_ e23 (List._∷_ e25 (List._∷_ e27 (List._∷_ e28 (List._∷_ e30 (List._∷_ e32 (List._∷_ e35 (List._∷_ e4 (List._∷_ e7 (List._∷_ e8 (List._∷_ e10
-    (List._∷_ e12 (List._∷_ e15 List.[])))))))))))))))
+t26 = (0, v6) ∷ (1, v8) ∷ (2, v1) ∷ (3, v3) ∷ (4, v3) ∷ (5, v1) ∷ (6, v9) ∷ (7, v4) ∷ (8, v5) ∷ (9, v7) ∷ (10, v2) ∷ (11, v1) ∷ (12, v0) ∷ (13, v0) ∷ (14, v0) ∷ (15, v12) ∷ []
 
 abbrev pub t27 : List.List Row.Entry
-t27 = List._∷_ e0 (List._∷_ e2 (List._∷_ e21 (List._∷_ e23 (List._∷_ e25 (List._∷_ e27 (List._∷_ e28 (List._∷_ e30 (List._∷_ e32 (List._∷_ e35 (List._∷_ e4 (List._∷_ e6 (List._∷_ e8 (List._∷_ e10
-    (List._∷_ e12 (List._∷_ e15 List.[])))))))))))))))
+t27 = (0, v6) ∷ (1, v8) ∷ (2, v1) ∷ (3, v3) ∷ (4, v3) ∷ (5, v1) ∷ (6, v9) ∷ (7, v4) ∷ (8, v5) ∷ (9, v7) ∷ (10, v2) ∷ (11, v2) ∷ (12, v0) ∷ (13, v0) ∷ (14, v0) ∷ (15, v12) ∷ []
 
 abbrev pub t28 : List.List Row.Entry
-t28 = List._∷_ e17 (List._∷_ e18 List.[])
+t28 = (16, v3) ∷ (17, v10) ∷ []
 
 abbrev pub t29 : List.List Row.Entry
-t29 = List._∷_ e0 (List._∷_ e2 (List._∷_ e21 (List._∷_ e22 (List._∷_ e25 (List._∷_ e27 (List._∷_ e28 (List._∷_ e30 (List._∷_ e32 (List._∷_ e35 (List._∷_ e4 (List._∷_ e6 (List._∷_ e8 (List._∷_ e10
-    (List._∷_ e12 (List._∷_ e14 List.[])))))))))))))))
+t29 = (0, v6) ∷ (1, v8) ∷ (2, v1) ∷ (3, v10) ∷ (4, v3) ∷ (5, v1) ∷ (6, v9) ∷ (7, v4) ∷ (8, v5) ∷ (9, v7) ∷ (10, v2) ∷ (11, v2) ∷ (12, v0) ∷ (13, v0) ∷ (14, v0) ∷ (15, v0) ∷ []
 
 abbrev pub t30 : List.List Row.Entry
-t30 = List._∷_ e17 (List._∷_ e19 List.[])
+t30 = (16, v3) ∷ (17, v3) ∷ []
 
 abbrev pub t31 : List.List Row.Entry
-t31 = List._∷_ e0 (List._∷_ e2 (List._∷_ e21 (List._∷_ e22 (List._∷_ e24 (List._∷_ e27 (List._∷_ e28 (List._∷_ e30 (List._∷_ e32 (List._∷_ e35 (List._∷_ e4 (List._∷_ e6 (List._∷_ e8 (List._∷_ e10
-    (List._∷_ e12 (List._∷_ e14 List.[])))))))))))))))
+t31 = (0, v6) ∷ (1, v8) ∷ (2, v1) ∷ (3, v10) ∷ (4, v10) ∷ (5, v1) ∷ (6, v9) ∷ (7, v4) ∷ (8, v5) ∷ (9, v7) ∷ (10, v2) ∷ (11, v2) ∷ (12, v0) ∷ (13, v0) ∷ (14, v0) ∷ (15, v0) ∷ []
 
 abbrev pub t32 : List.List Row.Entry
-t32 = List._∷_ e1 (List._∷_ e2 (List._∷_ e21 (List._∷_ e22 (List._∷_ e24 (List._∷_ e27 (List._∷_ e28 (List._∷_ e30 (List._∷_ e32 (List._∷_ e35 (List._∷_ e4 (List._∷_ e6 (List._∷_ e8 (List._∷_ e10
-    (List._∷_ e12 (List._∷_ e14 List.[])))))))))))))))
+t32 = (0, v16) ∷ (1, v8) ∷ (2, v1) ∷ (3, v10) ∷ (4, v10) ∷ (5, v1) ∷ (6, v9) ∷ (7, v4) ∷ (8, v5) ∷ (9, v7) ∷ (10, v2) ∷ (11, v2) ∷ (12, v0) ∷ (13, v0) ∷ (14, v0) ∷ (15, v0) ∷ []
 
 abbrev pub t33 : List.List Row.Entry
-t33 = List._∷_ e1 (List._∷_ e2 (List._∷_ e21 (List._∷_ e22 (List._∷_ e24 (List._∷_ e26 (List._∷_ e28 (List._∷_ e30 (List._∷_ e32 (List._∷_ e35 (List._∷_ e4 (List._∷_ e6 (List._∷_ e8 (List._∷_ e10
-    (List._∷_ e12 (List._∷_ e14 List.[])))))))))))))))
+t33 = (0, v16) ∷ (1, v8) ∷ (2, v1) ∷ (3, v10) ∷ (4, v10) ∷ (5, v2) ∷ (6, v9) ∷ (7, v4) ∷ (8, v5) ∷ (9, v7) ∷ (10, v2) ∷ (11, v2) ∷ (12, v0) ∷ (13, v0) ∷ (14, v0) ∷ (15, v0) ∷ []
 
 abbrev pub t34 : List.List Row.Entry
-t34 = List._∷_ e16 (List._∷_ e19 List.[])
+t34 = (16, v10) ∷ (17, v3) ∷ []
 
 abbrev pub t35 : List.List Row.Entry
-t35 = List._∷_ e1 (List._∷_ e2 (List._∷_ e20 (List._∷_ e22 (List._∷_ e24 (List._∷_ e26 (List._∷_ e28 (List._∷_ e30 (List._∷_ e32 (List._∷_ e35 (List._∷_ e4 (List._∷_ e6 (List._∷_ e8 (List._∷_ e10
-    (List._∷_ e12 (List._∷_ e14 List.[])))))))))))))))
+t35 = (0, v16) ∷ (1, v8) ∷ (2, v2) ∷ (3, v10) ∷ (4, v10) ∷ (5, v2) ∷ (6, v9) ∷ (7, v4) ∷ (8, v5) ∷ (9, v7) ∷ (10, v2) ∷ (11, v2) ∷ (12, v0) ∷ (13, v0) ∷ (14, v0) ∷ (15, v0) ∷ []
 
 abbrev pub T0 : Row.Cx
-T0 = record { locals = List._++_ t0 t1; slots = List.[] }
+T0 = record { locals = List._++_ t0 t1; slots = [] }
 
 abbrev pub T1 : Row.Cx
-T1 = record { locals = List._++_ t2 t1; slots = List.[] }
+T1 = record { locals = List._++_ t2 t1; slots = [] }
 
 abbrev pub T2 : Row.Cx
-T2 = record { locals = List._++_ t3 t1; slots = List.[] }
+T2 = record { locals = List._++_ t3 t1; slots = [] }
 
 abbrev pub T3 : Row.Cx
-T3 = record { locals = List._++_ t4 t1; slots = List.[] }
+T3 = record { locals = List._++_ t4 t1; slots = [] }
 
 abbrev pub T4 : Row.Cx
-T4 = record { locals = List._++_ t5 t1; slots = List.[] }
+T4 = record { locals = List._++_ t5 t1; slots = [] }
 
 abbrev pub T5 : Row.Cx
-T5 = record { locals = List._++_ t6 t1; slots = List.[] }
+T5 = record { locals = List._++_ t6 t1; slots = [] }
 
 abbrev pub T6 : Row.Cx
-T6 = record { locals = List._++_ t7 t1; slots = List.[] }
-
-abbrev pub T7 : Row.Cx
-T7 = record { locals = List._++_ t7 t1; slots = List.[] }
+T6 = record { locals = List._++_ t7 t1; slots = [] }
 
 abbrev pub T8 : Row.Cx
-T8 = record { locals = List._++_ t8 t1; slots = List.[] }
-
-abbrev pub T9 : Row.Cx
-T9 = record { locals = List._++_ t7 t1; slots = List.[] }
-
-abbrev pub T10 : Row.Cx
-T10 = record { locals = List._++_ t7 t1; slots = List.[] }
-
-abbrev pub T11 : Row.Cx
-T11 = record { locals = List._++_ t7 t1; slots = List.[] }
+T8 = record { locals = List._++_ t8 t1; slots = [] }
 
 abbrev pub T13 : Row.Cx
-T13 = record { locals = List._++_ t9 t1; slots = List.[] }
+T13 = record { locals = List._++_ t9 t1; slots = [] }
 
 abbrev pub T14 : Row.Cx
-T14 = record { locals = List._++_ t10 t1; slots = List.[] }
+T14 = record { locals = List._++_ t10 t1; slots = [] }
 
 abbrev pub T15 : Row.Cx
-T15 = record { locals = List._++_ t11 t1; slots = List.[] }
+T15 = record { locals = List._++_ t11 t1; slots = [] }
 
 abbrev pub T16 : Row.Cx
-T16 = record { locals = List._++_ t12 t1; slots = List.[] }
+T16 = record { locals = List._++_ t12 t1; slots = [] }
 
 abbrev pub T17 : Row.Cx
-T17 = record { locals = List._++_ t13 t1; slots = List.[] }
+T17 = record { locals = List._++_ t13 t1; slots = [] }
 
 abbrev pub T18 : Row.Cx
-T18 = record { locals = List._++_ t14 t1; slots = List.[] }
+T18 = record { locals = List._++_ t14 t1; slots = [] }
 
 abbrev pub T19 : Row.Cx
-T19 = record { locals = List._++_ t15 t1; slots = List.[] }
+T19 = record { locals = List._++_ t15 t1; slots = [] }
 
 abbrev pub T21 : Row.Cx
-T21 = record { locals = List._++_ t16 t1; slots = List.[] }
+T21 = record { locals = List._++_ t16 t1; slots = [] }
 
 abbrev pub T23 : Row.Cx
-T23 = record { locals = List._++_ t17 t1; slots = List.[] }
+T23 = record { locals = List._++_ t17 t1; slots = [] }
 
 abbrev pub T24 : Row.Cx
-T24 = record { locals = List._++_ t18 t1; slots = List.[] }
+T24 = record { locals = List._++_ t18 t1; slots = [] }
 
 abbrev pub T25 : Row.Cx
-T25 = record { locals = List._++_ t19 t1; slots = List.[] }
+T25 = record { locals = List._++_ t19 t1; slots = [] }
 
 abbrev pub T26 : Row.Cx
-T26 = record { locals = List._++_ t20 t1; slots = List.[] }
-
-abbrev pub T27 : Row.Cx
-T27 = record { locals = List._++_ t20 t1; slots = List.[] }
+T26 = record { locals = List._++_ t20 t1; slots = [] }
 
 abbrev pub T28 : Row.Cx
-T28 = record { locals = List._++_ t21 t1; slots = List.[] }
-
-abbrev pub T29 : Row.Cx
-T29 = record { locals = List._++_ t16 t1; slots = List.[] }
+T28 = record { locals = List._++_ t21 t1; slots = [] }
 
 abbrev pub T30 : Row.Cx
-T30 = record { locals = List._++_ t22 t1; slots = List.[] }
+T30 = record { locals = List._++_ t22 t1; slots = [] }
 
 abbrev pub T31 : Row.Cx
-T31 = record { locals = List._++_ t23 t1; slots = List.[] }
+T31 = record { locals = List._++_ t23 t1; slots = [] }
 
 abbrev pub T32 : Row.Cx
-T32 = record { locals = List._++_ t24 t1; slots = List.[] }
+T32 = record { locals = List._++_ t24 t1; slots = [] }
 
 abbrev pub T33 : Row.Cx
-T33 = record { locals = List._++_ t25 t1; slots = List.[] }
-
-abbrev pub T34 : Row.Cx
-T34 = record { locals = List._++_ t25 t1; slots = List.[] }
+T33 = record { locals = List._++_ t25 t1; slots = [] }
 
 abbrev pub T35 : Row.Cx
-T35 = record { locals = List._++_ t26 t1; slots = List.[] }
+T35 = record { locals = List._++_ t26 t1; slots = [] }
 
 abbrev pub T36 : Row.Cx
-T36 = record { locals = List._++_ t27 t1; slots = List.[] }
-
-abbrev pub T37 : Row.Cx
-T37 = record { locals = List._++_ t7 t1; slots = List.[] }
-
-abbrev pub T38 : Row.Cx
-T38 = record { locals = List._++_ t7 t1; slots = List.[] }
+T36 = record { locals = List._++_ t27 t1; slots = [] }
 
 abbrev pub T39 : Row.Cx
-T39 = record { locals = List._++_ t7 t28; slots = List.[] }
+T39 = record { locals = List._++_ t7 t28; slots = [] }
 
 abbrev pub T40 : Row.Cx
-T40 = record { locals = List._++_ t29 t28; slots = List.[] }
+T40 = record { locals = List._++_ t29 t28; slots = [] }
 
 abbrev pub T41 : Row.Cx
-T41 = record { locals = List._++_ t29 t30; slots = List.[] }
+T41 = record { locals = List._++_ t29 t30; slots = [] }
 
 abbrev pub T42 : Row.Cx
-T42 = record { locals = List._++_ t31 t30; slots = List.[] }
+T42 = record { locals = List._++_ t31 t30; slots = [] }
 
 abbrev pub T43 : Row.Cx
-T43 = record { locals = List._++_ t32 t30; slots = List.[] }
+T43 = record { locals = List._++_ t32 t30; slots = [] }
 
 abbrev pub T44 : Row.Cx
-T44 = record { locals = List._++_ t33 t30; slots = List.[] }
+T44 = record { locals = List._++_ t33 t30; slots = [] }
 
 abbrev pub T45 : Row.Cx
-T45 = record { locals = List._++_ t33 t34; slots = List.[] }
+T45 = record { locals = List._++_ t33 t34; slots = [] }
 
 abbrev pub T46 : Row.Cx
-T46 = record { locals = List._++_ t33 t1; slots = List.[] }
+T46 = record { locals = List._++_ t33 t1; slots = [] }
 
 abbrev pub T47 : Row.Cx
-T47 = record { locals = List._++_ t35 t1; slots = List.[] }
-
-abbrev pub T48 : Row.Cx
-T48 = record { locals = List._++_ t2 t1; slots = List.[] }
+T47 = record { locals = List._++_ t35 t1; slots = [] }
 
 abbrev pub O0 : Typed.Outs
-O0 = record { next = Option.none; exits = List.[]; returns = Option.some T1 }
+O0 = record { next = Option.none; exits = []; returns = Option.some T1 }
 
 abbrev pub O1 : Typed.Outs
-O1 = Typed.withNext (Option.some T7) O0
+O1 = Typed.withNext (Option.some T6) O0
 
 abbrev pub O2 : Typed.Outs
 O2 = Typed.inBlock₀ O1
@@ -688,164 +494,153 @@ abbrev pub O3 : Typed.Outs
 O3 = Typed.inLoop₀ T6 O2
 
 abbrev pub O4 : Typed.Outs
-O4 = Typed.withNext (Option.some T9) O3
+O4 = Typed.withNext (Option.some T6) O3
 
 abbrev pub InvT-loop : Type 1
-InvT-loop = List.List (Element.type .Denot) → Rows'.sc-here (Row.sInt Syntax.w64) .Mod → Rows.arrF (Referent.rtF (Referent.fInt Syntax.w32)) 112 0 .Mod → Rows.arrF (Referent.rtF (Referent.fInt
-    Syntax.w32)) 112 0 .Mod → Rows'.sc-here (Row.sInt Syntax.w64) .Mod → List.List (Element.type .Denot) → Rows.arrF (Referent.rtF (Referent.fInt Syntax.w32)) 112 0 .Mod → Rows.arrF (Referent.rtF
-    (Referent.fInt Syntax.w32)) 112 0 .Mod → Rows'.sc-here (Row.sInt Syntax.w64) .Mod → Type 0
+InvT-loop = List.List (Element.type .Denot) → Rows'.sc-here (Row.sInt Syntax.w64) .Mod → Rows.arrF n32 112 0 .Mod → Rows.arrF n32 112 0 .Mod → Rows'.sc-here (Row.sInt Syntax.w64) .Mod → List.List
+    (Element.type .Denot) → Rows.arrF n32 112 0 .Mod → Rows.arrF n32 112 0 .Mod → Rows'.sc-here (Row.sInt Syntax.w64) .Mod → Type 0
 
 abbrev pub MeasureT-loop : Type 0
-MeasureT-loop = List.List (Element.type .Denot) → Rows'.sc-here (Row.sInt Syntax.w64) .Mod → Rows.arrF (Referent.rtF (Referent.fInt Syntax.w32)) 112 0 .Mod → Rows.arrF (Referent.rtF (Referent.fInt
-    Syntax.w32)) 112 0 .Mod → Rows'.sc-here (Row.sInt Syntax.w64) .Mod → List.List (Element.type .Denot) → Rows.arrF (Referent.rtF (Referent.fInt Syntax.w32)) 112 0 .Mod → Rows.arrF (Referent.rtF
-    (Referent.fInt Syntax.w32)) 112 0 .Mod → Rows'.sc-here (Row.sInt Syntax.w64) .Mod → Nat.ℕ
+MeasureT-loop = List.List (Element.type .Denot) → Rows'.sc-here (Row.sInt Syntax.w64) .Mod → Rows.arrF n32 112 0 .Mod → Rows.arrF n32 112 0 .Mod → Rows'.sc-here (Row.sInt Syntax.w64) .Mod → List.List
+    (Element.type .Denot) → Rows.arrF n32 112 0 .Mod → Rows.arrF n32 112 0 .Mod → Rows'.sc-here (Row.sInt Syntax.w64) .Mod → Nat.ℕ
 
 module _ (claims· : Claims) where
   abbrev s0 : (bs : List.List Nat.ℕ) → Typed.Mo T0 → Typed.Mo T2
-  s0 = λ bs. Repeat.n-repeat (Referent.rtF (Referent.fInt Syntax.w32)) 112 T0 3 λ m. 0
+  s0 = λ bs. Repeat.n-repeat n32 112 T0 3 λ m. 0
 
   abbrev s1 : (bs : List.List Nat.ℕ) → Typed.Mo T2 → Typed.Mo T3
-  s1 = λ bs. AtSlots.n-as-by T2 3 (Rows.arrF (Referent.rtF (Referent.fInt Syntax.w32)) 112 0) λ x. x
+  s1 = λ bs. AtSlots.n-as-by T2 3 (Rows.arrF n32 112 0) λ x. x
 
   abbrev s2 : (bs : List.List Nat.ℕ) → Typed.Mo T3 → Typed.Mo T4
-  s2 = λ bs. Repeat.n-repeat (Referent.rtF (Referent.fInt Syntax.w32)) 112 T3 4 λ m. 0
+  s2 = λ bs. Repeat.n-repeat n32 112 T3 4 λ m. 0
 
   abbrev s3 : (bs : List.List Nat.ℕ) → Typed.Mo T4 → Typed.Mo T5
-  s3 = λ bs. AtSlots.n-as-by T4 4 (Rows.arrF (Referent.rtF (Referent.fInt Syntax.w32)) 112 0) λ x. x
+  s3 = λ bs. AtSlots.n-as-by T4 4 (Rows.arrF n32 112 0) λ x. x
 
   abbrev s4 : (bs : List.List Nat.ℕ) → Typed.Mo T5 → Typed.Mo T6
   s4 = λ bs. Scalar.n-use T5 (Scalar.oInt Syntax.w64 0) 5 (Rows'.sc-here (Row.sInt Syntax.w64)) (Row.sInt Syntax.w64 .of)
 
   abbrev s5 : (bs : List.List Nat.ℕ) → Typed.Asks T6 T8
-  s5 = λ bs. Scalar.k-op2 T6 (Syntax.lt Syntax.unsigned) (Scalar.oAt 5 (Syntax.tyInt Syntax.w64) (Row.valS (Row.sInt Syntax.w64))) (Scalar.oInt Syntax.w64 112) 7 (Rows'.sc-here Row.sBool) (Row.sBool
-      .of)
+  s5 = λ bs. Scalar.k-op2 T6 (Syntax.lt Syntax.unsigned) (Scalar.oAt 5 u64 (Row.valS (Row.sInt Syntax.w64))) (Scalar.oInt Syntax.w64 112) 7 (Rows'.sc-here Row.sBool) (Row.sBool .of)
 
-  abbrev s6 : (bs : List.List Nat.ℕ) → Typed.Mo T8 → Typed.Mo T10
+  abbrev s6 : (bs : List.List Nat.ℕ) → Typed.Mo T8 → Typed.Mo T6
   s6 = λ bs. Scalar.n-room T8 7 Syntax.tyBool
 
-  abbrev s7 : (bs : List.List Nat.ℕ) → Typed.Mo T8 → Typed.Mo T11
+  abbrev s7 : (bs : List.List Nat.ℕ) → Typed.Mo T8 → Typed.Mo T6
   s7 = λ bs. Scalar.n-room T8 7 Syntax.tyBool
 
-  abbrev s9 : (bs : List.List Nat.ℕ) → Typed.Gives T9 T13
-  s9 = λ bs. Relend.k-sl-relend (Element.type) T9 1 8 0 1 (Syntax.tyRef (Syntax.named 0) Syntax.mut Element.behind) (Syntax.tyRef Syntax.erased Syntax.mut Element.behind) Row.off λ x. x
+  abbrev s9 : (bs : List.List Nat.ℕ) → Typed.Gives T6 T13
+  s9 = λ bs. Relend.k-sl-relend (Element.type) T6 1 8 0 1 y1 y2 Row.off λ x. x
 
   abbrev s10 : (bs : List.List Nat.ℕ) → Typed.Asks T13 T14
-  s10 = λ bs. Relend.k-sl-aggregate (Element.type) (Relend.asMut (Element.type)) T13 8 9 1 (Syntax.tyRef Syntax.erased Syntax.mut Element.behind) (Syntax.tyRef Syntax.erased Syntax.mut Element.behind)
-      (λ x. x) (Scalar.oFld 1 (List._∷_ (Syntax.field 1) List.[]) (Syntax.tyInt Syntax.w64) 8 λ v. Shared.lenV (v .0))
+  s10 = λ bs. Relend.k-sl-aggregate (Element.type) (Relend.asMut (Element.type)) T13 8 9 1 y2 y2 (λ x. x) (Scalar.oFld 1 ((Syntax.field 1) ∷ []) u64 8 λ v. Shared.lenV (v .0))
 
   abbrev s11 : (bs : List.List Nat.ℕ) → Typed.Asks T14 T15
-  s11 = λ bs. Scalar.k-op2 T14 (Syntax.mul Syntax.unsigned) (Scalar.oInt Syntax.w64 112) (Scalar.oAt 2 (Syntax.tyInt Syntax.w64) (Row.valS (Row.sInt Syntax.w64))) 10 (Rows'.sc-here (Row.sInt
-      Syntax.w64)) (Row.sInt Syntax.w64 .of)
+  s11 = λ bs. Scalar.k-op2 T14 (Syntax.mul Syntax.unsigned) (Scalar.oInt Syntax.w64 112) (Scalar.oAt 2 u64 (Row.valS (Row.sInt Syntax.w64))) 10 (Rows'.sc-here (Row.sInt Syntax.w64)) (Row.sInt
+      Syntax.w64 .of)
 
   abbrev s12 : (bs : List.List Nat.ℕ) → Typed.Asks T15 T16
-  s12 = λ bs. Scalar.k-op2 T15 (Syntax.add Syntax.unsigned) (Scalar.oAt 10 (Syntax.tyInt Syntax.w64) (Row.valS (Row.sInt Syntax.w64))) (Scalar.oAt 5 (Syntax.tyInt Syntax.w64) (Row.valS (Row.sInt
-      Syntax.w64))) 11 (Rows'.sc-here (Row.sInt Syntax.w64)) (Row.sInt Syntax.w64 .of)
+  s12 = λ bs. Scalar.k-op2 T15 (Syntax.add Syntax.unsigned) (Scalar.oAt 10 u64 (Row.valS (Row.sInt Syntax.w64))) (Scalar.oAt 5 u64 (Row.valS (Row.sInt Syntax.w64))) 11 (Rows'.sc-here (Row.sInt
+      Syntax.w64)) (Row.sInt Syntax.w64 .of)
 
   abbrev s13 : (bs : List.List Nat.ℕ) → Typed.Mo T16 → Typed.Mo T17
-  s13 = λ bs. Scalar.n-room T16 10 (Syntax.tyInt Syntax.w64)
+  s13 = λ bs. Scalar.n-room T16 10 u64
 
   abbrev s14 : (bs : List.List Nat.ℕ) → Typed.Both T17 T18
-  s14 = λ bs. Call.callB ps·0 r·0 (claims· .0) (claims· .1) T17 (record { pos = 9; ty = Syntax.tyRef Syntax.erased Syntax.mut Element.behind; ref = λ x. x }, (Num.vAt 11 λ x. x, tt)) 6 (List._∷_ 1
-      List.[]) y1
+  s14 = λ bs. Call.callB ps·0 r·0 (claims· .0) (claims· .1) T17 (record { pos = 9; ty = y2; ref = λ x. x }, (Num.vAt 11 λ x. x, tt)) 6 (1 ∷ []) y3
 
   abbrev s15 : (bs : List.List Nat.ℕ) → Typed.Mo T18 → Typed.Mo T19
-  s15 = λ bs. Scalar.n-room T18 11 (Syntax.tyInt Syntax.w64)
+  s15 = λ bs. Scalar.n-room T18 11 u64
 
   abbrev s17 : (bs : List.List Nat.ℕ) → Typed.Both T19 T21
-  s17 = λ bs. Relend.k-back-sl (Element.type) T19 9 1 0 1 (Syntax.tyRef (Syntax.named 0) Syntax.mut Element.behind) (Syntax.tyRef Syntax.erased Syntax.mut Element.behind) Row.off (λ x. x) λ x. x
+  s17 = λ bs. Relend.k-back-sl (Element.type) T19 9 1 0 1 y1 y2 Row.off (λ x. x) λ x. x
 
   abbrev s19 : (bs : List.List Nat.ℕ) → Typed.Asks T21 T23
-  s19 = λ bs. Scalar.k-op2 T21 (Syntax.mul Syntax.unsigned) (Scalar.oAt 5 (Syntax.tyInt Syntax.w64) (Row.valS (Row.sInt Syntax.w64))) (Scalar.oInt Syntax.w64 4) 10 (Rows'.sc-here (Row.sInt
-      Syntax.w64)) (Row.sInt Syntax.w64 .of)
+  s19 = λ bs. Scalar.k-op2 T21 (Syntax.mul Syntax.unsigned) (Scalar.oAt 5 u64 (Row.valS (Row.sInt Syntax.w64))) (Scalar.oInt Syntax.w64 4) 10 (Rows'.sc-here (Row.sInt Syntax.w64)) (Row.sInt Syntax.w64
+      .of)
 
   abbrev s20 : (bs : List.List Nat.ℕ) → Typed.Mo T23 → Typed.Mo T24
   s20 = λ bs. Init.n-addr T23 (Row.hd 0 (Row.tl (Row.tl (Row.tl bs)))) 12
 
   abbrev s21 : (bs : List.List Nat.ℕ) → Typed.Asks T24 T25
-  s21 = λ bs. Scalar.k-op2 T24 Syntax.offset (Scalar.oAt 12 Syntax.tyPtr (Row.valS Row.sPtr)) (Scalar.oAt 10 (Syntax.tyInt Syntax.w64) (Row.valS (Row.sInt Syntax.w64))) 13 (Rows'.sc-here Row.sPtr)
-      (Row.sPtr .of)
+  s21 = λ bs. Scalar.k-op2 T24 Syntax.offset (Scalar.oAt 12 Syntax.tyPtr (Row.valS Row.sPtr)) (Scalar.oAt 10 u64 (Row.valS (Row.sInt Syntax.w64))) 13 (Rows'.sc-here Row.sPtr) (Row.sPtr .of)
 
   abbrev s22 : (bs : List.List Nat.ℕ) → Typed.Mo T25 → Typed.Mo T26
   s22 = λ bs. Scalar.n-room T25 12 Syntax.tyPtr
 
-  abbrev s23 : (bs : List.List Nat.ℕ) → Typed.Asks T26 T27
-  s23 = λ bs. Borrow.k-arr-write (Referent.fInt Syntax.w32) T26 (Init.scaled (Referent.rtF (Referent.fInt Syntax.w32)) .off) (Row.hd 0 (Row.tl (Row.tl (Row.tl bs)))) 3 13 112 0 (λ x. x) (λ x. x) (λ u.
-      u .1 .1 .1 .1 .1 .0) (Scalar.oFld 6 (List._∷_ (Syntax.field 0) List.[]) (Syntax.tyInt Syntax.w32) 0 (Reads.fieldV Record.the-type Laws.the-laws 0))
+  abbrev s23 : (bs : List.List Nat.ℕ) → Typed.Asks T26 T26
+  s23 = λ bs. Borrow.k-arr-write (Referent.fInt Syntax.w32) T26 (Init.scaled n32 .off) (Row.hd 0 (Row.tl (Row.tl (Row.tl bs)))) 3 13 112 0 (λ x. x) (λ x. x) (λ u. u .1 .1 .1 .1 .1 .0) (Scalar.oFld 6
+      ((Syntax.field 0) ∷ []) u32 0 (Reads.fieldV Record.the-type Laws.the-laws 0))
 
-  abbrev s24 : (bs : List.List Nat.ℕ) → Typed.Mo T27 → Typed.Mo T28
-  s24 = λ bs. Scalar.n-room T27 10 (Syntax.tyInt Syntax.w64)
+  abbrev s24 : (bs : List.List Nat.ℕ) → Typed.Mo T26 → Typed.Mo T28
+  s24 = λ bs. Scalar.n-room T26 10 u64
 
-  abbrev s25 : (bs : List.List Nat.ℕ) → Typed.Mo T28 → Typed.Mo T29
+  abbrev s25 : (bs : List.List Nat.ℕ) → Typed.Mo T28 → Typed.Mo T21
   s25 = λ bs. Scalar.n-room T28 13 Syntax.tyPtr
 
-  abbrev s26 : (bs : List.List Nat.ℕ) → Typed.Asks T29 T30
-  s26 = λ bs. Scalar.k-op2 T29 (Syntax.mul Syntax.unsigned) (Scalar.oAt 5 (Syntax.tyInt Syntax.w64) (Row.valS (Row.sInt Syntax.w64))) (Scalar.oInt Syntax.w64 4) 11 (Rows'.sc-here (Row.sInt
-      Syntax.w64)) (Row.sInt Syntax.w64 .of)
+  abbrev s26 : (bs : List.List Nat.ℕ) → Typed.Asks T21 T30
+  s26 = λ bs. Scalar.k-op2 T21 (Syntax.mul Syntax.unsigned) (Scalar.oAt 5 u64 (Row.valS (Row.sInt Syntax.w64))) (Scalar.oInt Syntax.w64 4) 11 (Rows'.sc-here (Row.sInt Syntax.w64)) (Row.sInt Syntax.w64
+      .of)
 
   abbrev s27 : (bs : List.List Nat.ℕ) → Typed.Mo T30 → Typed.Mo T31
   s27 = λ bs. Init.n-addr T30 (Row.hd 0 (Row.tl (Row.tl (Row.tl (Row.tl bs))))) 14
 
   abbrev s28 : (bs : List.List Nat.ℕ) → Typed.Asks T31 T32
-  s28 = λ bs. Scalar.k-op2 T31 Syntax.offset (Scalar.oAt 14 Syntax.tyPtr (Row.valS Row.sPtr)) (Scalar.oAt 11 (Syntax.tyInt Syntax.w64) (Row.valS (Row.sInt Syntax.w64))) 15 (Rows'.sc-here Row.sPtr)
-      (Row.sPtr .of)
+  s28 = λ bs. Scalar.k-op2 T31 Syntax.offset (Scalar.oAt 14 Syntax.tyPtr (Row.valS Row.sPtr)) (Scalar.oAt 11 u64 (Row.valS (Row.sInt Syntax.w64))) 15 (Rows'.sc-here Row.sPtr) (Row.sPtr .of)
 
   abbrev s29 : (bs : List.List Nat.ℕ) → Typed.Mo T32 → Typed.Mo T33
   s29 = λ bs. Scalar.n-room T32 14 Syntax.tyPtr
 
-  abbrev s30 : (bs : List.List Nat.ℕ) → Typed.Asks T33 T34
-  s30 = λ bs. Borrow.k-arr-write (Referent.fInt Syntax.w32) T33 (Init.scaled (Referent.rtF (Referent.fInt Syntax.w32)) .off) (Row.hd 0 (Row.tl (Row.tl (Row.tl (Row.tl bs))))) 4 15 112 0 (λ x. x) (λ x.
-      x) (λ u. u .1 .1 .1 .1 .1 .0) (Scalar.oFld 6 (List._∷_ (Syntax.field 1) List.[]) (Syntax.tyInt Syntax.w32) 4 (Reads.fieldV Record.the-type Laws.the-laws 1))
+  abbrev s30 : (bs : List.List Nat.ℕ) → Typed.Asks T33 T33
+  s30 = λ bs. Borrow.k-arr-write (Referent.fInt Syntax.w32) T33 (Init.scaled n32 .off) (Row.hd 0 (Row.tl (Row.tl (Row.tl (Row.tl bs))))) 4 15 112 0 (λ x. x) (λ x. x) (λ u. u .1 .1 .1 .1 .1 .0)
+      (Scalar.oFld 6 ((Syntax.field 1) ∷ []) u32 4 (Reads.fieldV Record.the-type Laws.the-laws 1))
 
-  abbrev s31 : (bs : List.List Nat.ℕ) → Typed.Mo T34 → Typed.Mo T35
-  s31 = λ bs. Scalar.n-room T34 6 y1
+  abbrev s31 : (bs : List.List Nat.ℕ) → Typed.Mo T33 → Typed.Mo T35
+  s31 = λ bs. Scalar.n-room T33 6 y3
 
   abbrev s32 : (bs : List.List Nat.ℕ) → Typed.Mo T35 → Typed.Mo T36
-  s32 = λ bs. Scalar.n-room T35 11 (Syntax.tyInt Syntax.w64)
+  s32 = λ bs. Scalar.n-room T35 11 u64
 
-  abbrev s33 : (bs : List.List Nat.ℕ) → Typed.Mo T36 → Typed.Mo T37
+  abbrev s33 : (bs : List.List Nat.ℕ) → Typed.Mo T36 → Typed.Mo T6
   s33 = λ bs. Scalar.n-room T36 15 Syntax.tyPtr
 
-  abbrev s34 : (bs : List.List Nat.ℕ) → Typed.Asks T37 T38
-  s34 = λ bs. Scalar.k-op2 T37 (Syntax.add Syntax.unsigned) (Scalar.oAt 5 (Syntax.tyInt Syntax.w64) (Row.valS (Row.sInt Syntax.w64))) (Scalar.oInt Syntax.w64 1) 5 (Rows'.sc-here (Row.sInt Syntax.w64))
-      (Row.sInt Syntax.w64 .of)
+  abbrev s34 : (bs : List.List Nat.ℕ) → Typed.Asks T6 T6
+  s34 = λ bs. Scalar.k-op2 T6 (Syntax.add Syntax.unsigned) (Scalar.oAt 5 u64 (Row.valS (Row.sInt Syntax.w64))) (Scalar.oInt Syntax.w64 1) 5 (Rows'.sc-here (Row.sInt Syntax.w64)) (Row.sInt Syntax.w64
+      .of)
 
-  abbrev s35 : (bs : List.List Nat.ℕ) → Typed.Mo T7 → Typed.Mo T39
-  s35 = λ bs. LocalCopy.n-val-copy T7 3 16 (Array'.Array (Referent.rtF (Referent.fInt Syntax.w32)) 112) (Rows.arrF (Referent.rtF (Referent.fInt Syntax.w32)) 112 0) (Rows.arrF (Referent.rtF
-      (Referent.fInt Syntax.w32)) 112 0) (λ x. x) (λ x. x) λ x. x
+  abbrev s35 : (bs : List.List Nat.ℕ) → Typed.Mo T6 → Typed.Mo T39
+  s35 = λ bs. LocalCopy.n-val-copy T6 3 16 (Array'.Array n32 112) (Rows.arrF n32 112 0) (Rows.arrF n32 112 0) (λ x. x) (λ x. x) λ x. x
 
   abbrev s36 : (bs : List.List Nat.ℕ) → Typed.Mo T39 → Typed.Mo T40
-  s36 = λ bs. Scalar.n-room T39 3 (Syntax.tyArray (Syntax.tyInt Syntax.w32) 112)
+  s36 = λ bs. Scalar.n-room T39 3 y0
 
   abbrev s37 : (bs : List.List Nat.ℕ) → Typed.Mo T40 → Typed.Mo T41
-  s37 = λ bs. LocalCopy.n-val-copy T40 4 17 (Array'.Array (Referent.rtF (Referent.fInt Syntax.w32)) 112) (Rows.arrF (Referent.rtF (Referent.fInt Syntax.w32)) 112 0) (Rows.arrF (Referent.rtF
-      (Referent.fInt Syntax.w32)) 112 0) (λ x. x) (λ x. x) λ x. x
+  s37 = λ bs. LocalCopy.n-val-copy T40 4 17 (Array'.Array n32 112) (Rows.arrF n32 112 0) (Rows.arrF n32 112 0) (λ x. x) (λ x. x) λ x. x
 
   abbrev s38 : (bs : List.List Nat.ℕ) → Typed.Mo T41 → Typed.Mo T42
-  s38 = λ bs. Scalar.n-room T41 4 (Syntax.tyArray (Syntax.tyInt Syntax.w32) 112)
+  s38 = λ bs. Scalar.n-room T41 4 y0
 
   abbrev s39 : (bs : List.List Nat.ℕ) → Typed.Mo T42 → Typed.Mo T43
   s39 = λ bs. Make.n-make (Declared.row (Apart.apartT Set.the-type)) T42 0 λ m. (m .1 .1 .1 .1 .1 .1 .1 .1 .1 .1 .1 .1 .1 .1 .1 .1 .0, (m .1 .1 .1 .1 .1 .1 .1 .1 .1 .1 .1 .1 .1 .1 .1 .1 .1 .0, tt))
 
   abbrev s40 : (bs : List.List Nat.ℕ) → Typed.Mo T43 → Typed.Mo T44
-  s40 = λ bs. Scalar.n-room T43 5 (Syntax.tyInt Syntax.w64)
+  s40 = λ bs. Scalar.n-room T43 5 u64
 
   abbrev s41 : (bs : List.List Nat.ℕ) → Typed.Mo T44 → Typed.Mo T45
-  s41 = λ bs. Scalar.n-room T44 16 (Syntax.tyArray (Syntax.tyInt Syntax.w32) 112)
+  s41 = λ bs. Scalar.n-room T44 16 y0
 
   abbrev s42 : (bs : List.List Nat.ℕ) → Typed.Mo T45 → Typed.Mo T46
-  s42 = λ bs. Scalar.n-room T45 17 (Syntax.tyArray (Syntax.tyInt Syntax.w32) 112)
+  s42 = λ bs. Scalar.n-room T45 17 y0
 
   abbrev s43 : (bs : List.List Nat.ℕ) → Typed.Mo T46 → Typed.Mo T47
-  s43 = λ bs. Scalar.n-room T46 2 (Syntax.tyInt Syntax.w64)
+  s43 = λ bs. Scalar.n-room T46 2 u64
 
-  abbrev s44 : (bs : List.List Nat.ℕ) → Typed.Mo T47 → Typed.Mo T48
+  abbrev s44 : (bs : List.List Nat.ℕ) → Typed.Mo T47 → Typed.Mo T1
   s44 = λ bs. AtSlots.n-as-by T47 0 (Rows'.whole (Declared.row Set.the-type)) λ v. Set.struct .make v tt
 
-  abbrev put0 : List.List (Element.type .Denot) × Rows.arrF (Referent.rtF (Referent.fInt Syntax.w32)) 112 0 .Mod × Rows.arrF (Referent.rtF (Referent.fInt Syntax.w32)) 112 0 .Mod × Rows'.sc-here
-      (Row.sInt Syntax.w64) .Mod → Typed.Mo T6 → Typed.Mo T6
-  put0 = λ vs u. Row.set 5 (5, Rows'.sc-here (Row.sInt Syntax.w64)) (vs .3) (T6 .locals) (Row.set 4 (4, Rows.arrF (Referent.rtF (Referent.fInt Syntax.w32)) 112 0) (vs .2) (T6 .locals) (Row.set 3
-      (3, Rows.arrF (Referent.rtF (Referent.fInt Syntax.w32)) 112 0) (vs .1) (T6 .locals) (Row.set 1 (1, Mut.mslice (Element.type) (Syntax.tyRef (Syntax.named 0) Syntax.mut Element.behind) 0) record
-      { ptr = Row.get 1 (T6 .locals) u .ptr; name = Row.get 1 (T6 .locals) u .name; now = vs .0 } (T6 .locals) u)))
+  abbrev put0 : List.List (Element.type .Denot) × Rows.arrF n32 112 0 .Mod × Rows.arrF n32 112 0 .Mod × Rows'.sc-here (Row.sInt Syntax.w64) .Mod → Typed.Mo T6 → Typed.Mo T6
+  put0 = λ vs u. Row.set 5 (5, Rows'.sc-here (Row.sInt Syntax.w64)) (vs .3) (T6 .locals) (Row.set 4 (4, Rows.arrF n32 112 0) (vs .2) (T6 .locals) (Row.set 3 (3, Rows.arrF n32 112 0) (vs .1) (T6
+      .locals) (Row.set 1 (1, Mut.mslice (Element.type) y1 0) record { ptr = Row.get 1 (T6 .locals) u .ptr; name = Row.get 1 (T6 .locals) u .name; now = vs .0 } (T6 .locals) u)))
 
   module _ (Pre· : (κs : Lifetimes.Lfts 1) → Kinds.Dens κs ps → Type 0) (Post· : (κs : Lifetimes.Lfts 1) → (a : Kinds.Dens κs ps) → Kinds.Plain 1 ps r κs) where
     module _ (M : Type 1) where
@@ -854,32 +649,32 @@ module _ (claims· : Claims) where
           "block::records::fetch") → Statement.Triple 𝓤 (Wp.WpFn 𝓤 H (𝓣 .C) (𝓣 .Λ) (Function.fnOf 1 ps r xs m hs body)) (Function.plainOf 𝓤 H A 1 ps r Pre· Post·)
 
     module _ (Inv·0 : InvT-loop) (μ·0 : MeasureT-loop) where
-      abbrev at0 : (bs : List.List Nat.ℕ) → Typed.TF T10 O4
+      abbrev at0 : (bs : List.List Nat.ℕ) → Typed.TF T6 O4
       at0 = λ bs. Typed.atNext O4
 
       abbrev at1 : (bs : List.List Nat.ℕ) → Typed.TF T8 O4
-      at1 = λ bs. λ Ψ. Typed.pass T8 T10 (s6 bs) (at0 bs Ψ)
+      at1 = λ bs. λ Ψ. Typed.pass T8 T6 (s6 bs) (at0 bs Ψ)
 
-      abbrev at2 : (bs : List.List Nat.ℕ) → Typed.TF T11 O4
+      abbrev at2 : (bs : List.List Nat.ℕ) → Typed.TF T6 O4
       at2 = λ bs. Typed.atExit 1 O4
 
       abbrev at3 : (bs : List.List Nat.ℕ) → Typed.TF T8 O4
-      at3 = λ bs. λ Ψ. Typed.pass T8 T11 (s7 bs) (at2 bs Ψ)
+      at3 = λ bs. λ Ψ. Typed.pass T8 T6 (s7 bs) (at2 bs Ψ)
 
       abbrev at4 : (bs : List.List Nat.ℕ) → Typed.TF T8 O4
       at4 = λ bs. Scalar.Φcond T8 O4 7 (λ x. x) (at1 bs) (at3 bs)
 
-      abbrev at5 : (bs : List.List Nat.ℕ) → Typed.TF T37 O3
+      abbrev at5 : (bs : List.List Nat.ℕ) → Typed.TF T6 O3
       at5 = λ bs. λ Ψ. Typed.ask (s34 bs) (Typed.atNext O3 Ψ)
 
       abbrev at6 : (bs : List.List Nat.ℕ) → Typed.TF T36 O3
-      at6 = λ bs. λ Ψ. Typed.pass T36 T37 (s33 bs) (at5 bs Ψ)
+      at6 = λ bs. λ Ψ. Typed.pass T36 T6 (s33 bs) (at5 bs Ψ)
 
       abbrev at7 : (bs : List.List Nat.ℕ) → Typed.TF T35 O3
       at7 = λ bs. λ Ψ. Typed.pass T35 T36 (s32 bs) (at6 bs Ψ)
 
-      abbrev at8 : (bs : List.List Nat.ℕ) → Typed.TF T34 O3
-      at8 = λ bs. λ Ψ. Typed.pass T34 T35 (s31 bs) (at7 bs Ψ)
+      abbrev at8 : (bs : List.List Nat.ℕ) → Typed.TF T33 O3
+      at8 = λ bs. λ Ψ. Typed.pass T33 T35 (s31 bs) (at7 bs Ψ)
 
       abbrev at9 : (bs : List.List Nat.ℕ) → Typed.TF T33 O3
       at9 = λ bs. λ Ψ. Typed.ask (s30 bs) (at8 bs Ψ)
@@ -893,14 +688,14 @@ module _ (claims· : Claims) where
       abbrev at12 : (bs : List.List Nat.ℕ) → Typed.TF T30 O3
       at12 = λ bs. λ Ψ. Typed.pass T30 T31 (s27 bs) (at11 bs Ψ)
 
-      abbrev at13 : (bs : List.List Nat.ℕ) → Typed.TF T29 O3
+      abbrev at13 : (bs : List.List Nat.ℕ) → Typed.TF T21 O3
       at13 = λ bs. λ Ψ. Typed.ask (s26 bs) (at12 bs Ψ)
 
       abbrev at14 : (bs : List.List Nat.ℕ) → Typed.TF T28 O3
-      at14 = λ bs. λ Ψ. Typed.pass T28 T29 (s25 bs) (at13 bs Ψ)
+      at14 = λ bs. λ Ψ. Typed.pass T28 T21 (s25 bs) (at13 bs Ψ)
 
-      abbrev at15 : (bs : List.List Nat.ℕ) → Typed.TF T27 O3
-      at15 = λ bs. λ Ψ. Typed.pass T27 T28 (s24 bs) (at14 bs Ψ)
+      abbrev at15 : (bs : List.List Nat.ℕ) → Typed.TF T26 O3
+      at15 = λ bs. λ Ψ. Typed.pass T26 T28 (s24 bs) (at14 bs Ψ)
 
       abbrev at16 : (bs : List.List Nat.ℕ) → Typed.TF T26 O3
       at16 = λ bs. λ Ψ. Typed.ask (s23 bs) (at15 bs Ψ)
@@ -917,17 +712,11 @@ module _ (claims· : Claims) where
       abbrev at20 : (bs : List.List Nat.ℕ) → Typed.TF T21 O3
       at20 = λ bs. λ Ψ. Typed.ask (s19 bs) (at19 bs Ψ)
 
-      abbrev at21 : (bs : List.List Nat.ℕ) → Typed.TF T21 O3
-      at21 = λ bs. λ Ψ. at20 bs Ψ
-
       abbrev at22 : (bs : List.List Nat.ℕ) → Typed.TF T19 O3
-      at22 = λ bs. λ Ψ. Typed.both (s17 bs) (at21 bs Ψ)
-
-      abbrev at23 : (bs : List.List Nat.ℕ) → Typed.TF T19 O3
-      at23 = λ bs. λ Ψ. at22 bs Ψ
+      at22 = λ bs. λ Ψ. Typed.both (s17 bs) (at20 bs Ψ)
 
       abbrev at24 : (bs : List.List Nat.ℕ) → Typed.TF T18 O3
-      at24 = λ bs. λ Ψ. Typed.pass T18 T19 (s15 bs) (at23 bs Ψ)
+      at24 = λ bs. λ Ψ. Typed.pass T18 T19 (s15 bs) (at22 bs Ψ)
 
       abbrev at25 : (bs : List.List Nat.ℕ) → Typed.TF T17 O3
       at25 = λ bs. λ Ψ. Typed.both (s14 bs) (at24 bs Ψ)
@@ -944,14 +733,11 @@ module _ (claims· : Claims) where
       abbrev at29 : (bs : List.List Nat.ℕ) → Typed.TF T13 O3
       at29 = λ bs. λ Ψ. Typed.ask (s10 bs) (at28 bs Ψ)
 
-      abbrev at30 : (bs : List.List Nat.ℕ) → Typed.TF T9 O3
+      abbrev at30 : (bs : List.List Nat.ℕ) → Typed.TF T6 O3
       at30 = λ bs. λ Ψ. Typed.give (s9 bs) (at29 bs Ψ)
 
-      abbrev at31 : (bs : List.List Nat.ℕ) → Typed.TF T9 O3
-      at31 = λ bs. λ Ψ. at30 bs Ψ
-
       abbrev at32 : (bs : List.List Nat.ℕ) → Typed.TF T8 O3
-      at32 = λ bs. λ Ψ. at4 bs (Typed.wantNext T9 O3 (at31 bs Ψ) Ψ)
+      at32 = λ bs. λ Ψ. at4 bs (Typed.wantNext T6 O3 (at30 bs Ψ) Ψ)
 
       abbrev at33 : (bs : List.List Nat.ℕ) → Typed.TF T6 O3
       at33 = λ bs. λ Ψ. Typed.ask (s5 bs) (at32 bs Ψ)
@@ -964,11 +750,11 @@ module _ (claims· : Claims) where
       abbrev at35 : (bs : List.List Nat.ℕ) → Typed.TF T6 O1
       at35 = λ bs. λ Ψ. at34 bs (Typed.inBlock O1 Ψ)
 
-      abbrev at36 : (bs : List.List Nat.ℕ) → Typed.TF T48 O0
+      abbrev at36 : (bs : List.List Nat.ℕ) → Typed.TF T1 O0
       at36 = λ bs. Typed.atRet O0
 
       abbrev at37 : (bs : List.List Nat.ℕ) → Typed.TF T47 O0
-      at37 = λ bs. λ Ψ. Typed.pass T47 T48 (s44 bs) (at36 bs Ψ)
+      at37 = λ bs. λ Ψ. Typed.pass T47 T1 (s44 bs) (at36 bs Ψ)
 
       abbrev at38 : (bs : List.List Nat.ℕ) → Typed.TF T46 O0
       at38 = λ bs. λ Ψ. Typed.pass T46 T47 (s43 bs) (at37 bs Ψ)
@@ -994,11 +780,11 @@ module _ (claims· : Claims) where
       abbrev at45 : (bs : List.List Nat.ℕ) → Typed.TF T39 O0
       at45 = λ bs. λ Ψ. Typed.pass T39 T40 (s36 bs) (at44 bs Ψ)
 
-      abbrev at46 : (bs : List.List Nat.ℕ) → Typed.TF T7 O0
-      at46 = λ bs. λ Ψ. Typed.pass T7 T39 (s35 bs) (at45 bs Ψ)
+      abbrev at46 : (bs : List.List Nat.ℕ) → Typed.TF T6 O0
+      at46 = λ bs. λ Ψ. Typed.pass T6 T39 (s35 bs) (at45 bs Ψ)
 
       abbrev at47 : (bs : List.List Nat.ℕ) → Typed.TF T6 O0
-      at47 = λ bs. λ Ψ. at35 bs (Typed.wantNext T7 O0 (at46 bs Ψ) Ψ)
+      at47 = λ bs. λ Ψ. at35 bs (Typed.wantNext T6 O0 (at46 bs Ψ) Ψ)
 
       abbrev at48 : (bs : List.List Nat.ℕ) → Typed.TF T5 O0
       at48 = λ bs. λ Ψ. Typed.pass T5 T6 (s4 bs) (at47 bs Ψ)
@@ -1023,465 +809,338 @@ module _ (claims· : Claims) where
         Knowns = Plain.Known 𝓤 H A W 𝓣 1 ps·0 r·0 (claims· .0) (claims· .1) "block::records::fetch"
 
       module _ (κs : Lifetimes.Lfts 1) (qs : Lifetimes.Shares 1) where
+        abbrev k0 : Row.Life
+        k0 = Row.lease (κs .0) (qs .0)
+
+        abbrev l0 : List.List Row.Life
+        l0 = Row.off ∷ Row.alive ∷ []
+
+        abbrev l1 : List.List Row.Life
+        l1 = k0 ∷ Row.off ∷ []
+
+        abbrev h0 : Row.Row
+        h0 = Relend.mslice-owed (Element.type) y1 0 1 k0
+
         abbrev g9 : List.List Row.Entry
-        g9 = List._∷_ e0 (List._∷_ (1, Relend.mslice-owed (Element.type) (Syntax.tyRef (Syntax.named 0) Syntax.mut Element.behind) 0 1 (Row.lease (κs .0) (qs .0))) (List._∷_ e21 (List._∷_ e23
-            (List._∷_ e25 (List._∷_ e27 (List._∷_ e28 (List._∷_ e30 (List._∷_ e31 (List._∷_ e35 (List._∷_ e4 (List._∷_ e6 (List._∷_ e8 (List._∷_ e10 (List._∷_ e12 (List._∷_ e14 List.[])))))))))))))))
+        g9 = (0, v6) ∷ (1, h0) ∷ (2, v1) ∷ (3, v3) ∷ (4, v3) ∷ (5, v1) ∷ (6, v9) ∷ (7, v4) ∷ (8, Relend.msptr (Element.type) y2 1) ∷ (9, v7) ∷ (10, v2) ∷ (11, v2) ∷ (12, v0) ∷ (13, v0) ∷ (14, v0) ∷
+            (15, v0) ∷ []
 
         abbrev g10 : List.List Row.Entry
-        g10 = List._∷_ e0 (List._∷_ (1, Relend.mslice-owed (Element.type) (Syntax.tyRef (Syntax.named 0) Syntax.mut Element.behind) 0 1 (Row.lease (κs .0) (qs .0))) (List._∷_ e21 (List._∷_ e23
-            (List._∷_ e25 (List._∷_ e27 (List._∷_ e28 (List._∷_ e30 (List._∷_ e32 (List._∷_ e34 (List._∷_ e4 (List._∷_ e6 (List._∷_ e8 (List._∷_ e10 (List._∷_ e12 (List._∷_ e14 List.[])))))))))))))))
+        g10 = (0, v6) ∷ (1, h0) ∷ (2, v1) ∷ (3, v3) ∷ (4, v3) ∷ (5, v1) ∷ (6, v9) ∷ (7, v4) ∷ (8, v5) ∷ (9, v13) ∷ (10, v2) ∷ (11, v2) ∷ (12, v0) ∷ (13, v0) ∷ (14, v0) ∷ (15, v0) ∷ []
 
         abbrev g11 : List.List Row.Entry
-        g11 = List._∷_ e0 (List._∷_ (1, Relend.mslice-owed (Element.type) (Syntax.tyRef (Syntax.named 0) Syntax.mut Element.behind) 0 1 (Row.lease (κs .0) (qs .0))) (List._∷_ e21 (List._∷_ e23
-            (List._∷_ e25 (List._∷_ e27 (List._∷_ e28 (List._∷_ e30 (List._∷_ e32 (List._∷_ e34 (List._∷_ e5 (List._∷_ e6 (List._∷_ e8 (List._∷_ e10 (List._∷_ e12 (List._∷_ e14 List.[])))))))))))))))
+        g11 = (0, v6) ∷ (1, h0) ∷ (2, v1) ∷ (3, v3) ∷ (4, v3) ∷ (5, v1) ∷ (6, v9) ∷ (7, v4) ∷ (8, v5) ∷ (9, v13) ∷ (10, v1) ∷ (11, v2) ∷ (12, v0) ∷ (13, v0) ∷ (14, v0) ∷ (15, v0) ∷ []
 
         abbrev g12 : List.List Row.Entry
-        g12 = List._∷_ e0 (List._∷_ (1, Relend.mslice-owed (Element.type) (Syntax.tyRef (Syntax.named 0) Syntax.mut Element.behind) 0 1 (Row.lease (κs .0) (qs .0))) (List._∷_ e21 (List._∷_ e23
-            (List._∷_ e25 (List._∷_ e27 (List._∷_ e28 (List._∷_ e30 (List._∷_ e32 (List._∷_ e34 (List._∷_ e5 (List._∷_ e7 (List._∷_ e8 (List._∷_ e10 (List._∷_ e12 (List._∷_ e14 List.[])))))))))))))))
+        g12 = (0, v6) ∷ (1, h0) ∷ (2, v1) ∷ (3, v3) ∷ (4, v3) ∷ (5, v1) ∷ (6, v9) ∷ (7, v4) ∷ (8, v5) ∷ (9, v13) ∷ (10, v1) ∷ (11, v1) ∷ (12, v0) ∷ (13, v0) ∷ (14, v0) ∷ (15, v0) ∷ []
 
         abbrev g13 : List.List Row.Entry
-        g13 = List._∷_ e0 (List._∷_ (1, Relend.mslice-owed (Element.type) (Syntax.tyRef (Syntax.named 0) Syntax.mut Element.behind) 0 1 (Row.lease (κs .0) (qs .0))) (List._∷_ e21 (List._∷_ e23
-            (List._∷_ e25 (List._∷_ e27 (List._∷_ e28 (List._∷_ e30 (List._∷_ e32 (List._∷_ e34 (List._∷_ e4 (List._∷_ e7 (List._∷_ e8 (List._∷_ e10 (List._∷_ e12 (List._∷_ e14 List.[])))))))))))))))
+        g13 = (0, v6) ∷ (1, h0) ∷ (2, v1) ∷ (3, v3) ∷ (4, v3) ∷ (5, v1) ∷ (6, v9) ∷ (7, v4) ∷ (8, v5) ∷ (9, v13) ∷ (10, v2) ∷ (11, v1) ∷ (12, v0) ∷ (13, v0) ∷ (14, v0) ∷ (15, v0) ∷ []
 
         abbrev g14 : List.List Row.Entry
-        g14 = List._∷_ e0 (List._∷_ (1, Relend.mslice-owed (Element.type) (Syntax.tyRef (Syntax.named 0) Syntax.mut Element.behind) 0 1 (Row.lease (κs .0) (qs .0))) (List._∷_ e21 (List._∷_ e23
-            (List._∷_ e25 (List._∷_ e27 (List._∷_ e29 (List._∷_ e30 (List._∷_ e32 (List._∷_ e33 (List._∷_ e4 (List._∷_ e7 (List._∷_ e8 (List._∷_ e10 (List._∷_ e12 (List._∷_ e14 List.[])))))))))))))))
+        g14 = (0, v6) ∷ (1, h0) ∷ (2, v1) ∷ (3, v3) ∷ (4, v3) ∷ (5, v1) ∷ (6, v11) ∷ (7, v4) ∷ (8, v5) ∷ (9, v15) ∷ (10, v2) ∷ (11, v1) ∷ (12, v0) ∷ (13, v0) ∷ (14, v0) ∷ (15, v0) ∷ []
 
         abbrev g15 : List.List Row.Entry
-        g15 = List._∷_ e0 (List._∷_ (1, Relend.mslice-owed (Element.type) (Syntax.tyRef (Syntax.named 0) Syntax.mut Element.behind) 0 1 (Row.lease (κs .0) (qs .0))) (List._∷_ e21 (List._∷_ e23
-            (List._∷_ e25 (List._∷_ e27 (List._∷_ e29 (List._∷_ e30 (List._∷_ e32 (List._∷_ e33 (List._∷_ e4 (List._∷_ e6 (List._∷_ e8 (List._∷_ e10 (List._∷_ e12 (List._∷_ e14 List.[])))))))))))))))
-
-        abbrev G0 : Row.Cx
-        G0 = record { locals = List._++_ t0 t1; slots = List._∷_ (Row.lease (κs .0) (qs .0)) (List._∷_ Row.off List.[]) }
-
-        abbrev G1 : Row.Cx
-        G1 = record { locals = List._++_ t2 t1; slots = List._∷_ (Row.lease (κs .0) (qs .0)) (List._∷_ Row.off List.[]) }
-
-        abbrev G2 : Row.Cx
-        G2 = record { locals = List._++_ t3 t1; slots = List._∷_ (Row.lease (κs .0) (qs .0)) (List._∷_ Row.off List.[]) }
-
-        abbrev G3 : Row.Cx
-        G3 = record { locals = List._++_ t4 t1; slots = List._∷_ (Row.lease (κs .0) (qs .0)) (List._∷_ Row.off List.[]) }
-
-        abbrev G4 : Row.Cx
-        G4 = record { locals = List._++_ t5 t1; slots = List._∷_ (Row.lease (κs .0) (qs .0)) (List._∷_ Row.off List.[]) }
-
-        abbrev G5 : Row.Cx
-        G5 = record { locals = List._++_ t6 t1; slots = List._∷_ (Row.lease (κs .0) (qs .0)) (List._∷_ Row.off List.[]) }
-
-        abbrev G6 : Row.Cx
-        G6 = record { locals = List._++_ t7 t1; slots = List._∷_ (Row.lease (κs .0) (qs .0)) (List._∷_ Row.off List.[]) }
-
-        abbrev G7 : Row.Cx
-        G7 = record { locals = List._++_ t7 t1; slots = List._∷_ (Row.lease (κs .0) (qs .0)) (List._∷_ Row.off List.[]) }
-
-        abbrev G8 : Row.Cx
-        G8 = record { locals = List._++_ t8 t1; slots = List._∷_ (Row.lease (κs .0) (qs .0)) (List._∷_ Row.off List.[]) }
-
-        abbrev G9 : Row.Cx
-        G9 = record { locals = List._++_ t7 t1; slots = List._∷_ (Row.lease (κs .0) (qs .0)) (List._∷_ Row.off List.[]) }
-
-        abbrev G10 : Row.Cx
-        G10 = record { locals = List._++_ t7 t1; slots = List._∷_ (Row.lease (κs .0) (qs .0)) (List._∷_ Row.off List.[]) }
-
-        abbrev G11 : Row.Cx
-        G11 = record { locals = List._++_ t7 t1; slots = List._∷_ (Row.lease (κs .0) (qs .0)) (List._∷_ Row.off List.[]) }
+        g15 = (0, v6) ∷ (1, h0) ∷ (2, v1) ∷ (3, v3) ∷ (4, v3) ∷ (5, v1) ∷ (6, v11) ∷ (7, v4) ∷ (8, v5) ∷ (9, v15) ∷ (10, v2) ∷ (11, v2) ∷ (12, v0) ∷ (13, v0) ∷ (14, v0) ∷ (15, v0) ∷ []
 
         abbrev G12 : Row.Cx
-        G12 = record { locals = List._++_ t7 t1; slots = List._∷_ (Row.lease (κs .0) (qs .0)) (List._∷_ Row.alive List.[]) }
+        G12 = record { locals = List._++_ t7 t1; slots = k0 ∷ Row.alive ∷ [] }
 
         abbrev G13 : Row.Cx
-        G13 = record { locals = List._++_ g9 t1; slots = List._∷_ Row.off (List._∷_ Row.alive List.[]) }
+        G13 = record { locals = List._++_ g9 t1; slots = l0 }
 
         abbrev G14 : Row.Cx
-        G14 = record { locals = List._++_ g10 t1; slots = List._∷_ Row.off (List._∷_ Row.alive List.[]) }
+        G14 = record { locals = List._++_ g10 t1; slots = l0 }
 
         abbrev G15 : Row.Cx
-        G15 = record { locals = List._++_ g11 t1; slots = List._∷_ Row.off (List._∷_ Row.alive List.[]) }
+        G15 = record { locals = List._++_ g11 t1; slots = l0 }
 
         abbrev G16 : Row.Cx
-        G16 = record { locals = List._++_ g12 t1; slots = List._∷_ Row.off (List._∷_ Row.alive List.[]) }
+        G16 = record { locals = List._++_ g12 t1; slots = l0 }
 
         abbrev G17 : Row.Cx
-        G17 = record { locals = List._++_ g13 t1; slots = List._∷_ Row.off (List._∷_ Row.alive List.[]) }
+        G17 = record { locals = List._++_ g13 t1; slots = l0 }
 
         abbrev G18 : Row.Cx
-        G18 = record { locals = List._++_ g14 t1; slots = List._∷_ Row.off (List._∷_ Row.alive List.[]) }
+        G18 = record { locals = List._++_ g14 t1; slots = l0 }
 
         abbrev G19 : Row.Cx
-        G19 = record { locals = List._++_ g15 t1; slots = List._∷_ Row.off (List._∷_ Row.alive List.[]) }
+        G19 = record { locals = List._++_ g15 t1; slots = l0 }
 
         abbrev G20 : Row.Cx
-        G20 = record { locals = List._++_ g15 t1; slots = List._∷_ Row.off (List._∷_ Row.dead List.[]) }
+        G20 = record { locals = List._++_ g15 t1; slots = Row.off ∷ Row.dead ∷ [] }
 
         abbrev G21 : Row.Cx
-        G21 = record { locals = List._++_ t16 t1; slots = List._∷_ (Row.lease (κs .0) (qs .0)) (List._∷_ Row.dead List.[]) }
-
-        abbrev G22 : Row.Cx
-        G22 = record { locals = List._++_ t16 t1; slots = List._∷_ (Row.lease (κs .0) (qs .0)) (List._∷_ Row.off List.[]) }
-
-        abbrev G23 : Row.Cx
-        G23 = record { locals = List._++_ t17 t1; slots = List._∷_ (Row.lease (κs .0) (qs .0)) (List._∷_ Row.off List.[]) }
-
-        abbrev G24 : Row.Cx
-        G24 = record { locals = List._++_ t18 t1; slots = List._∷_ (Row.lease (κs .0) (qs .0)) (List._∷_ Row.off List.[]) }
-
-        abbrev G25 : Row.Cx
-        G25 = record { locals = List._++_ t19 t1; slots = List._∷_ (Row.lease (κs .0) (qs .0)) (List._∷_ Row.off List.[]) }
-
-        abbrev G26 : Row.Cx
-        G26 = record { locals = List._++_ t20 t1; slots = List._∷_ (Row.lease (κs .0) (qs .0)) (List._∷_ Row.off List.[]) }
-
-        abbrev G27 : Row.Cx
-        G27 = record { locals = List._++_ t20 t1; slots = List._∷_ (Row.lease (κs .0) (qs .0)) (List._∷_ Row.off List.[]) }
-
-        abbrev G28 : Row.Cx
-        G28 = record { locals = List._++_ t21 t1; slots = List._∷_ (Row.lease (κs .0) (qs .0)) (List._∷_ Row.off List.[]) }
-
-        abbrev G29 : Row.Cx
-        G29 = record { locals = List._++_ t16 t1; slots = List._∷_ (Row.lease (κs .0) (qs .0)) (List._∷_ Row.off List.[]) }
-
-        abbrev G30 : Row.Cx
-        G30 = record { locals = List._++_ t22 t1; slots = List._∷_ (Row.lease (κs .0) (qs .0)) (List._∷_ Row.off List.[]) }
-
-        abbrev G31 : Row.Cx
-        G31 = record { locals = List._++_ t23 t1; slots = List._∷_ (Row.lease (κs .0) (qs .0)) (List._∷_ Row.off List.[]) }
-
-        abbrev G32 : Row.Cx
-        G32 = record { locals = List._++_ t24 t1; slots = List._∷_ (Row.lease (κs .0) (qs .0)) (List._∷_ Row.off List.[]) }
-
-        abbrev G33 : Row.Cx
-        G33 = record { locals = List._++_ t25 t1; slots = List._∷_ (Row.lease (κs .0) (qs .0)) (List._∷_ Row.off List.[]) }
-
-        abbrev G34 : Row.Cx
-        G34 = record { locals = List._++_ t25 t1; slots = List._∷_ (Row.lease (κs .0) (qs .0)) (List._∷_ Row.off List.[]) }
-
-        abbrev G35 : Row.Cx
-        G35 = record { locals = List._++_ t26 t1; slots = List._∷_ (Row.lease (κs .0) (qs .0)) (List._∷_ Row.off List.[]) }
-
-        abbrev G36 : Row.Cx
-        G36 = record { locals = List._++_ t27 t1; slots = List._∷_ (Row.lease (κs .0) (qs .0)) (List._∷_ Row.off List.[]) }
-
-        abbrev G37 : Row.Cx
-        G37 = record { locals = List._++_ t7 t1; slots = List._∷_ (Row.lease (κs .0) (qs .0)) (List._∷_ Row.off List.[]) }
-
-        abbrev G38 : Row.Cx
-        G38 = record { locals = List._++_ t7 t1; slots = List._∷_ (Row.lease (κs .0) (qs .0)) (List._∷_ Row.off List.[]) }
-
-        abbrev G39 : Row.Cx
-        G39 = record { locals = List._++_ t7 t28; slots = List._∷_ (Row.lease (κs .0) (qs .0)) (List._∷_ Row.off List.[]) }
-
-        abbrev G40 : Row.Cx
-        G40 = record { locals = List._++_ t29 t28; slots = List._∷_ (Row.lease (κs .0) (qs .0)) (List._∷_ Row.off List.[]) }
-
-        abbrev G41 : Row.Cx
-        G41 = record { locals = List._++_ t29 t30; slots = List._∷_ (Row.lease (κs .0) (qs .0)) (List._∷_ Row.off List.[]) }
-
-        abbrev G42 : Row.Cx
-        G42 = record { locals = List._++_ t31 t30; slots = List._∷_ (Row.lease (κs .0) (qs .0)) (List._∷_ Row.off List.[]) }
-
-        abbrev G43 : Row.Cx
-        G43 = record { locals = List._++_ t32 t30; slots = List._∷_ (Row.lease (κs .0) (qs .0)) (List._∷_ Row.off List.[]) }
-
-        abbrev G44 : Row.Cx
-        G44 = record { locals = List._++_ t33 t30; slots = List._∷_ (Row.lease (κs .0) (qs .0)) (List._∷_ Row.off List.[]) }
-
-        abbrev G45 : Row.Cx
-        G45 = record { locals = List._++_ t33 t34; slots = List._∷_ (Row.lease (κs .0) (qs .0)) (List._∷_ Row.off List.[]) }
-
-        abbrev G46 : Row.Cx
-        G46 = record { locals = List._++_ t33 t1; slots = List._∷_ (Row.lease (κs .0) (qs .0)) (List._∷_ Row.off List.[]) }
-
-        abbrev G47 : Row.Cx
-        G47 = record { locals = List._++_ t35 t1; slots = List._∷_ (Row.lease (κs .0) (qs .0)) (List._∷_ Row.off List.[]) }
-
-        abbrev G48 : Row.Cx
-        G48 = record { locals = List._++_ t2 t1; slots = List._∷_ (Row.lease (κs .0) (qs .0)) (List._∷_ Row.off List.[]) }
+        G21 = record { locals = List._++_ t16 t1; slots = k0 ∷ Row.dead ∷ [] }
 
         abbrev Δ0 : Typed.Outs
-        Δ0 = record { next = Option.none; exits = List.[]; returns = Option.some G1 }
+        Δ0 = record { next = Option.none; exits = []; returns = Option.some (on T1 l1) }
 
         abbrev Δ1 : Typed.Outs
-        Δ1 = Typed.withNext (Option.some G7) Δ0
+        Δ1 = Typed.withNext (Option.some (on T6 l1)) Δ0
 
         abbrev Δ2 : Typed.Outs
         Δ2 = Typed.inBlock₀ Δ1
 
         abbrev Δ3 : Typed.Outs
-        Δ3 = Typed.inLoop₀ G6 Δ2
+        Δ3 = Typed.inLoop₀ (on T6 l1) Δ2
 
         abbrev Δ4 : Typed.Outs
-        Δ4 = Typed.withNext (Option.some G9) Δ3
+        Δ4 = Typed.withNext (Option.some (on T6 l1)) Δ3
 
         module _ {M : Type 1} (𝓤 : URA.URA M) (H : Wp.Heap 𝓤) (A : Atoms.Atoms 𝓤) (W : Kit.Given 𝓤 H A) (𝓣 : Wp.Tables 𝓤 H) (known : Knowns 𝓤 H A W 𝓣) (bs : List.List Nat.ℕ) (bd : Lifetimes.AllOutlive
             1 (Kinds.osR r) κs) where
           abbrev E : Wp.Env 𝓤 H
-          E = Frame.EnvOf 𝓤 H (List._∷_ (Kinds.tyR r) (Enter.tysP ps xs)) bs
+          E = Frame.EnvOf 𝓤 H ((Kinds.tyR r) ∷ (Enter.tysP ps xs)) bs
 
-          d0 : Typed.Typed 𝓤 H A 𝓣 E G10 b4 Δ4 (at0 bs)
+          d0 : Typed.Typed 𝓤 H A 𝓣 E (on T6 l1) Syntax.skip Δ4 (at0 bs)
           d0 = Typed.t-skip 𝓤 H A W 𝓣 E Δ4 tt
 
-          d1 : Typed.Typed 𝓤 H A 𝓣 E G8 b4 Δ4 (at1 bs)
-          d1 = Typed.g-pre 𝓤 H A W 𝓣 E G8 G10 b4 Δ4 (Typed.pass T8 T10 (s6 bs)) (at0 bs) (Scalar.g-room 𝓤 H A W E G8 7 Syntax.tyBool (Scalar.room-sc 𝓤 H A W Row.sBool)) d0
+          d1 : Typed.Typed 𝓤 H A 𝓣 E (on T8 l1) Syntax.skip Δ4 (at1 bs)
+          d1 = Typed.g-pre 𝓤 H A W 𝓣 E (on T8 l1) (on T6 l1) Syntax.skip Δ4 (Typed.pass T8 T6 (s6 bs)) (at0 bs) (Scalar.g-room 𝓤 H A W E (on T8 l1) 7 Syntax.tyBool (Scalar.room-sc 𝓤 H A W Row.sBool))
+              d0
 
-          d2 : Typed.Typed 𝓤 H A 𝓣 E G11 b5 Δ4 (at2 bs)
+          d2 : Typed.Typed 𝓤 H A 𝓣 E (on T6 l1) (Syntax.exit 1) Δ4 (at2 bs)
           d2 = Typed.t-exit 𝓤 H A W 𝓣 E 1 Δ4 tt
 
-          d3 : Typed.Typed 𝓤 H A 𝓣 E G8 b5 Δ4 (at3 bs)
-          d3 = Typed.g-pre 𝓤 H A W 𝓣 E G8 G11 b5 Δ4 (Typed.pass T8 T11 (s7 bs)) (at2 bs) (Scalar.g-room 𝓤 H A W E G8 7 Syntax.tyBool (Scalar.room-sc 𝓤 H A W Row.sBool)) d2
+          d3 : Typed.Typed 𝓤 H A 𝓣 E (on T8 l1) (Syntax.exit 1) Δ4 (at3 bs)
+          d3 = Typed.g-pre 𝓤 H A W 𝓣 E (on T8 l1) (on T6 l1) (Syntax.exit 1) Δ4 (Typed.pass T8 T6 (s7 bs)) (at2 bs) (Scalar.g-room 𝓤 H A W E (on T8 l1) 7 Syntax.tyBool (Scalar.room-sc 𝓤 H A W
+              Row.sBool)) d2
 
-          d4 : Typed.Typed 𝓤 H A 𝓣 E G8 b6 Δ4 (at4 bs)
-          d4 = Scalar.t-cond 𝓤 H A W E 𝓣 G8 7 (λ x. x) b4 b5 Δ4 (at1 bs) (at3 bs) (Scalar.reads-sc 𝓤 H A W Row.sBool) Path'.refl d1 d3
+          d4 : Typed.Typed 𝓤 H A 𝓣 E (on T8 l1) b6 Δ4 (at4 bs)
+          d4 = Scalar.t-cond 𝓤 H A W E 𝓣 (on T8 l1) 7 (λ x. x) Syntax.skip (Syntax.exit 1) Δ4 (at1 bs) (at3 bs) (Scalar.reads-sc 𝓤 H A W Row.sBool) Path'.refl d1 d3
 
-          d5 : Typed.Typed 𝓤 H A 𝓣 E G37 b20 Δ3 (at5 bs)
-          d5 = Typed.s-typed 𝓤 H A W 𝓣 E G37 b20 Δ3 (Typed.ask (s34 bs)) tt (Scalar.t-op2 𝓤 H A W E 𝓣 G37 (Syntax.add Syntax.unsigned) (Scalar.oAt 5 (Syntax.tyInt Syntax.w64) (Row.valS (Row.sInt
-              Syntax.w64))) (Scalar.oInt Syntax.w64 1) 5 (Rows'.sc-here (Row.sInt Syntax.w64)) (Syntax.tyInt Syntax.w64) (Row.valS (Row.sInt Syntax.w64)) (Row.sInt Syntax.w64 .of)
-              (Scalar.reads-sc 𝓤 H A W (Row.sInt Syntax.w64), Path'.refl) tt (Scalar.room-sc 𝓤 H A W (Row.sInt Syntax.w64)) (Scalar.holds-sc 𝓤 H A W (Row.sInt Syntax.w64)) Path'.refl (λ u. Path'.refl) λ
-              u. tt)
+          d5 : Typed.Typed 𝓤 H A 𝓣 E (on T6 l1) b20 Δ3 (at5 bs)
+          d5 = Typed.s-typed 𝓤 H A W 𝓣 E (on T6 l1) b20 Δ3 (Typed.ask (s34 bs)) tt (Scalar.t-op2 𝓤 H A W E 𝓣 (on T6 l1) (Syntax.add Syntax.unsigned) (Scalar.oAt 5 u64 (Row.valS (Row.sInt Syntax.w64)))
+              (Scalar.oInt Syntax.w64 1) 5 (Rows'.sc-here (Row.sInt Syntax.w64)) u64 (Row.valS (Row.sInt Syntax.w64)) (Row.sInt Syntax.w64 .of) (Scalar.reads-sc 𝓤 H A W (Row.sInt Syntax.w64), Path'.refl)
+              tt (Scalar.room-sc 𝓤 H A W (Row.sInt Syntax.w64)) (Scalar.holds-sc 𝓤 H A W (Row.sInt Syntax.w64)) Path'.refl (λ u. Path'.refl) λ u. tt)
 
-          d6 : Typed.Typed 𝓤 H A 𝓣 E G36 b20 Δ3 (at6 bs)
-          d6 = Typed.g-pre 𝓤 H A W 𝓣 E G36 G37 b20 Δ3 (Typed.pass T36 T37 (s33 bs)) (at5 bs) (Scalar.g-room 𝓤 H A W E G36 15 Syntax.tyPtr (Scalar.room-sc 𝓤 H A W Row.sPtr)) d5
+          d6 : Typed.Typed 𝓤 H A 𝓣 E (on T36 l1) b20 Δ3 (at6 bs)
+          d6 = Typed.g-pre 𝓤 H A W 𝓣 E (on T36 l1) (on T6 l1) b20 Δ3 (Typed.pass T36 T6 (s33 bs)) (at5 bs) (Scalar.g-room 𝓤 H A W E (on T36 l1) 15 Syntax.tyPtr (Scalar.room-sc 𝓤 H A W Row.sPtr)) d5
 
-          d7 : Typed.Typed 𝓤 H A 𝓣 E G35 b20 Δ3 (at7 bs)
-          d7 = Typed.g-pre 𝓤 H A W 𝓣 E G35 G36 b20 Δ3 (Typed.pass T35 T36 (s32 bs)) (at6 bs) (Scalar.g-room 𝓤 H A W E G35 11 (Syntax.tyInt Syntax.w64) (Scalar.room-sc 𝓤 H A W (Row.sInt Syntax.w64)))
+          d7 : Typed.Typed 𝓤 H A 𝓣 E (on T35 l1) b20 Δ3 (at7 bs)
+          d7 = Typed.g-pre 𝓤 H A W 𝓣 E (on T35 l1) (on T36 l1) b20 Δ3 (Typed.pass T35 T36 (s32 bs)) (at6 bs) (Scalar.g-room 𝓤 H A W E (on T35 l1) 11 u64 (Scalar.room-sc 𝓤 H A W (Row.sInt Syntax.w64)))
               d6
 
-          d8 : Typed.Typed 𝓤 H A 𝓣 E G34 b20 Δ3 (at8 bs)
-          d8 = Typed.g-pre 𝓤 H A W 𝓣 E G34 G35 b20 Δ3 (Typed.pass T34 T35 (s31 bs)) (at7 bs) (Scalar.g-room 𝓤 H A W E G34 6 y1 (Local.room-whole 𝓤 H A W (Declared.row Record.the-type) y1 Path'.refl))
-              d7
+          d8 : Typed.Typed 𝓤 H A 𝓣 E (on T33 l1) b20 Δ3 (at8 bs)
+          d8 = Typed.g-pre 𝓤 H A W 𝓣 E (on T33 l1) (on T35 l1) b20 Δ3 (Typed.pass T33 T35 (s31 bs)) (at7 bs) (Scalar.g-room 𝓤 H A W E (on T33 l1) 6 y3 (Local.room-whole 𝓤 H A W (Declared.row
+              Record.the-type) y3 Path'.refl)) d7
 
-          d9 : Typed.Typed 𝓤 H A 𝓣 E G33 b21 Δ3 (at9 bs)
-          d9 = Typed.s-seq 𝓤 H A W 𝓣 E G33 G34 b19 b20 Δ3 (Typed.ask (s30 bs)) (at8 bs) (Borrow.t-arr-write 𝓤 H A W E 𝓣 (Referent.fInt Syntax.w32) (Init.scaled (Referent.rtF (Referent.fInt
-              Syntax.w32))) G33 4 15 112 0 (λ x. x) (λ x. x) (Scalar.oFld 6 (List._∷_ (Syntax.field 1) List.[]) (Syntax.tyInt Syntax.w32) 4 (Reads.fieldV Record.the-type Laws.the-laws 1)) (λ u. u .1 .1 .1
-              .1 .1 .0) (Reads'.as-is 𝓤 H A (Rows.arrF (Referent.rtF (Referent.fInt Syntax.w32)) 112 0)) (Reads'.as-is 𝓤 H A (Rows'.sc-here Row.sPtr))
-              (Reads.reads-field 𝓤 H A W Record.the-type Laws.the-laws 1 (Syntax.tyInt Syntax.w32) 4 Path'.refl, Path'.refl) Path'.refl λ u. Path'.refl) d8
+          d9 : Typed.Typed 𝓤 H A 𝓣 E (on T33 l1) (Syntax.seq b19 b20) Δ3 (at9 bs)
+          d9 = Typed.s-seq 𝓤 H A W 𝓣 E (on T33 l1) (on T33 l1) b19 b20 Δ3 (Typed.ask (s30 bs)) (at8 bs) (Borrow.t-arr-write 𝓤 H A W E 𝓣 (Referent.fInt Syntax.w32) (Init.scaled n32) (on T33 l1) 4 15
+              112 0 (λ x. x) (λ x. x) (Scalar.oFld 6 ((Syntax.field 1) ∷ []) u32 4 (Reads.fieldV Record.the-type Laws.the-laws 1)) (λ u. u .1 .1 .1 .1 .1 .0) (Reads'.as-is 𝓤 H A (Rows.arrF n32 112 0))
+              (Reads'.as-is 𝓤 H A (Rows'.sc-here Row.sPtr)) (Reads.reads-field 𝓤 H A W Record.the-type Laws.the-laws 1 u32 4 Path'.refl, Path'.refl) Path'.refl λ u. Path'.refl) d8
 
-          d10 : Typed.Typed 𝓤 H A 𝓣 E G32 b21 Δ3 (at10 bs)
-          d10 = Typed.g-pre 𝓤 H A W 𝓣 E G32 G33 b21 Δ3 (Typed.pass T32 T33 (s29 bs)) (at9 bs) (Scalar.g-room 𝓤 H A W E G32 14 Syntax.tyPtr (Scalar.room-sc 𝓤 H A W Row.sPtr)) d9
+          d10 : Typed.Typed 𝓤 H A 𝓣 E (on T32 l1) (Syntax.seq b19 b20) Δ3 (at10 bs)
+          d10 = Typed.g-pre 𝓤 H A W 𝓣 E (on T32 l1) (on T33 l1) (Syntax.seq b19 b20) Δ3 (Typed.pass T32 T33 (s29 bs)) (at9 bs) (Scalar.g-room 𝓤 H A W E (on T32 l1) 14 Syntax.tyPtr (Scalar.room-sc 𝓤 H
+              A W Row.sPtr)) d9
 
-          d11 : Typed.Typed 𝓤 H A 𝓣 E G31 b22 Δ3 (at11 bs)
-          d11 = Typed.s-seq 𝓤 H A W 𝓣 E G31 G32 b18 b21 Δ3 (Typed.ask (s28 bs)) (at10 bs) (Scalar.t-op2 𝓤 H A W E 𝓣 G31 Syntax.offset (Scalar.oAt 14 Syntax.tyPtr (Row.valS Row.sPtr)) (Scalar.oAt 11
-              (Syntax.tyInt Syntax.w64) (Row.valS (Row.sInt Syntax.w64))) 15 (Rows'.sc-here Row.sPtr) Syntax.tyPtr (Row.valS Row.sPtr) (Row.sPtr .of) (Scalar.reads-sc 𝓤 H A W Row.sPtr, Path'.refl)
-              (Scalar.reads-sc 𝓤 H A W (Row.sInt Syntax.w64), Path'.refl) (Reads'.room-gone 𝓤 H A Syntax.tyPtr) (Scalar.holds-sc 𝓤 H A W Row.sPtr) Path'.refl (λ u. Path'.refl) λ u. tt) d10
+          d11 : Typed.Typed 𝓤 H A 𝓣 E (on T31 l1) (Syntax.seq b18 (Syntax.seq b19 b20)) Δ3 (at11 bs)
+          d11 = Typed.s-seq 𝓤 H A W 𝓣 E (on T31 l1) (on T32 l1) b18 (Syntax.seq b19 b20) Δ3 (Typed.ask (s28 bs)) (at10 bs) (Scalar.t-op2 𝓤 H A W E 𝓣 (on T31 l1) Syntax.offset (Scalar.oAt 14
+              Syntax.tyPtr (Row.valS Row.sPtr)) (Scalar.oAt 11 u64 (Row.valS (Row.sInt Syntax.w64))) 15 (Rows'.sc-here Row.sPtr) Syntax.tyPtr (Row.valS Row.sPtr) (Row.sPtr .of)
+              (Scalar.reads-sc 𝓤 H A W Row.sPtr, Path'.refl) (Scalar.reads-sc 𝓤 H A W (Row.sInt Syntax.w64), Path'.refl) (Reads'.room-gone 𝓤 H A Syntax.tyPtr) (Scalar.holds-sc 𝓤 H A W Row.sPtr) Path'.refl
+              (λ u. Path'.refl) λ u. tt) d10
 
-          d12 : Typed.Typed 𝓤 H A 𝓣 E G30 b23 Δ3 (at12 bs)
-          d12 = Typed.s-seq 𝓤 H A W 𝓣 E G30 G31 b17 b22 Δ3 (Typed.pass T30 T31 (s27 bs)) (at11 bs) (Init.t-addr 𝓤 H A W E 𝓣 G30 14 4 (Reads'.room-gone 𝓤 H A Syntax.tyPtr) Path'.refl) d11
+          d12 : Typed.Typed 𝓤 H A 𝓣 E (on T30 l1) b23 Δ3 (at12 bs)
+          d12 = Typed.s-seq 𝓤 H A W 𝓣 E (on T30 l1) (on T31 l1) b17 (Syntax.seq b18 (Syntax.seq b19 b20)) Δ3 (Typed.pass T30 T31 (s27 bs)) (at11 bs) (Init.t-addr 𝓤 H A W E 𝓣 (on T30 l1) 14 4
+              (Reads'.room-gone 𝓤 H A Syntax.tyPtr) Path'.refl) d11
 
-          d13 : Typed.Typed 𝓤 H A 𝓣 E G29 b24 Δ3 (at13 bs)
-          d13 = Typed.s-seq 𝓤 H A W 𝓣 E G29 G30 b16 b23 Δ3 (Typed.ask (s26 bs)) (at12 bs) (Scalar.t-op2 𝓤 H A W E 𝓣 G29 (Syntax.mul Syntax.unsigned) (Scalar.oAt 5 (Syntax.tyInt Syntax.w64) (Row.valS
-              (Row.sInt Syntax.w64))) (Scalar.oInt Syntax.w64 4) 11 (Rows'.sc-here (Row.sInt Syntax.w64)) (Syntax.tyInt Syntax.w64) (Row.valS (Row.sInt Syntax.w64)) (Row.sInt Syntax.w64 .of)
-              (Scalar.reads-sc 𝓤 H A W (Row.sInt Syntax.w64), Path'.refl) tt (Reads'.room-gone 𝓤 H A (Syntax.tyInt Syntax.w64)) (Scalar.holds-sc 𝓤 H A W (Row.sInt Syntax.w64)) Path'.refl (λ u. Path'.refl)
-              λ u. tt) d12
+          d13 : Typed.Typed 𝓤 H A 𝓣 E (on T21 l1) b24 Δ3 (at13 bs)
+          d13 = Typed.s-seq 𝓤 H A W 𝓣 E (on T21 l1) (on T30 l1) b16 b23 Δ3 (Typed.ask (s26 bs)) (at12 bs) (Scalar.t-op2 𝓤 H A W E 𝓣 (on T21 l1) (Syntax.mul Syntax.unsigned) (Scalar.oAt 5 u64 (Row.valS
+              (Row.sInt Syntax.w64))) (Scalar.oInt Syntax.w64 4) 11 (Rows'.sc-here (Row.sInt Syntax.w64)) u64 (Row.valS (Row.sInt Syntax.w64)) (Row.sInt Syntax.w64 .of)
+              (Scalar.reads-sc 𝓤 H A W (Row.sInt Syntax.w64), Path'.refl) tt (Reads'.room-gone 𝓤 H A u64) (Scalar.holds-sc 𝓤 H A W (Row.sInt Syntax.w64)) Path'.refl (λ u. Path'.refl) λ u. tt) d12
 
-          d14 : Typed.Typed 𝓤 H A 𝓣 E G28 b24 Δ3 (at14 bs)
-          d14 = Typed.g-pre 𝓤 H A W 𝓣 E G28 G29 b24 Δ3 (Typed.pass T28 T29 (s25 bs)) (at13 bs) (Scalar.g-room 𝓤 H A W E G28 13 Syntax.tyPtr (Scalar.room-sc 𝓤 H A W Row.sPtr)) d13
+          d14 : Typed.Typed 𝓤 H A 𝓣 E (on T28 l1) b24 Δ3 (at14 bs)
+          d14 = Typed.g-pre 𝓤 H A W 𝓣 E (on T28 l1) (on T21 l1) b24 Δ3 (Typed.pass T28 T21 (s25 bs)) (at13 bs) (Scalar.g-room 𝓤 H A W E (on T28 l1) 13 Syntax.tyPtr (Scalar.room-sc 𝓤 H A W Row.sPtr))
+              d13
 
-          d15 : Typed.Typed 𝓤 H A 𝓣 E G27 b24 Δ3 (at15 bs)
-          d15 = Typed.g-pre 𝓤 H A W 𝓣 E G27 G28 b24 Δ3 (Typed.pass T27 T28 (s24 bs)) (at14 bs) (Scalar.g-room 𝓤 H A W E G27 10 (Syntax.tyInt Syntax.w64) (Scalar.room-sc 𝓤 H A W (Row.sInt Syntax.w64)))
-              d14
+          d15 : Typed.Typed 𝓤 H A 𝓣 E (on T26 l1) b24 Δ3 (at15 bs)
+          d15 = Typed.g-pre 𝓤 H A W 𝓣 E (on T26 l1) (on T28 l1) b24 Δ3 (Typed.pass T26 T28 (s24 bs)) (at14 bs) (Scalar.g-room 𝓤 H A W E (on T26 l1) 10 u64 (Scalar.room-sc 𝓤 H A W (Row.sInt
+              Syntax.w64))) d14
 
-          d16 : Typed.Typed 𝓤 H A 𝓣 E G26 b25 Δ3 (at16 bs)
-          d16 = Typed.s-seq 𝓤 H A W 𝓣 E G26 G27 b15 b24 Δ3 (Typed.ask (s23 bs)) (at15 bs) (Borrow.t-arr-write 𝓤 H A W E 𝓣 (Referent.fInt Syntax.w32) (Init.scaled (Referent.rtF (Referent.fInt
-              Syntax.w32))) G26 3 13 112 0 (λ x. x) (λ x. x) (Scalar.oFld 6 (List._∷_ (Syntax.field 0) List.[]) (Syntax.tyInt Syntax.w32) 0 (Reads.fieldV Record.the-type Laws.the-laws 0)) (λ u. u .1 .1 .1
-              .1 .1 .0) (Reads'.as-is 𝓤 H A (Rows.arrF (Referent.rtF (Referent.fInt Syntax.w32)) 112 0)) (Reads'.as-is 𝓤 H A (Rows'.sc-here Row.sPtr))
-              (Reads.reads-field 𝓤 H A W Record.the-type Laws.the-laws 0 (Syntax.tyInt Syntax.w32) 0 Path'.refl, Path'.refl) Path'.refl λ u. Path'.refl) d15
+          d16 : Typed.Typed 𝓤 H A 𝓣 E (on T26 l1) (Syntax.seq b15 b24) Δ3 (at16 bs)
+          d16 = Typed.s-seq 𝓤 H A W 𝓣 E (on T26 l1) (on T26 l1) b15 b24 Δ3 (Typed.ask (s23 bs)) (at15 bs) (Borrow.t-arr-write 𝓤 H A W E 𝓣 (Referent.fInt Syntax.w32) (Init.scaled n32) (on T26 l1) 3 13
+              112 0 (λ x. x) (λ x. x) (Scalar.oFld 6 ((Syntax.field 0) ∷ []) u32 0 (Reads.fieldV Record.the-type Laws.the-laws 0)) (λ u. u .1 .1 .1 .1 .1 .0) (Reads'.as-is 𝓤 H A (Rows.arrF n32 112 0))
+              (Reads'.as-is 𝓤 H A (Rows'.sc-here Row.sPtr)) (Reads.reads-field 𝓤 H A W Record.the-type Laws.the-laws 0 u32 0 Path'.refl, Path'.refl) Path'.refl λ u. Path'.refl) d15
 
-          d17 : Typed.Typed 𝓤 H A 𝓣 E G25 b25 Δ3 (at17 bs)
-          d17 = Typed.g-pre 𝓤 H A W 𝓣 E G25 G26 b25 Δ3 (Typed.pass T25 T26 (s22 bs)) (at16 bs) (Scalar.g-room 𝓤 H A W E G25 12 Syntax.tyPtr (Scalar.room-sc 𝓤 H A W Row.sPtr)) d16
+          d17 : Typed.Typed 𝓤 H A 𝓣 E (on T25 l1) (Syntax.seq b15 b24) Δ3 (at17 bs)
+          d17 = Typed.g-pre 𝓤 H A W 𝓣 E (on T25 l1) (on T26 l1) (Syntax.seq b15 b24) Δ3 (Typed.pass T25 T26 (s22 bs)) (at16 bs) (Scalar.g-room 𝓤 H A W E (on T25 l1) 12 Syntax.tyPtr (Scalar.room-sc 𝓤 H
+              A W Row.sPtr)) d16
 
-          d18 : Typed.Typed 𝓤 H A 𝓣 E G24 b26 Δ3 (at18 bs)
-          d18 = Typed.s-seq 𝓤 H A W 𝓣 E G24 G25 b14 b25 Δ3 (Typed.ask (s21 bs)) (at17 bs) (Scalar.t-op2 𝓤 H A W E 𝓣 G24 Syntax.offset (Scalar.oAt 12 Syntax.tyPtr (Row.valS Row.sPtr)) (Scalar.oAt 10
-              (Syntax.tyInt Syntax.w64) (Row.valS (Row.sInt Syntax.w64))) 13 (Rows'.sc-here Row.sPtr) Syntax.tyPtr (Row.valS Row.sPtr) (Row.sPtr .of) (Scalar.reads-sc 𝓤 H A W Row.sPtr, Path'.refl)
-              (Scalar.reads-sc 𝓤 H A W (Row.sInt Syntax.w64), Path'.refl) (Reads'.room-gone 𝓤 H A Syntax.tyPtr) (Scalar.holds-sc 𝓤 H A W Row.sPtr) Path'.refl (λ u. Path'.refl) λ u. tt) d17
+          d18 : Typed.Typed 𝓤 H A 𝓣 E (on T24 l1) (Syntax.seq b14 (Syntax.seq b15 b24)) Δ3 (at18 bs)
+          d18 = Typed.s-seq 𝓤 H A W 𝓣 E (on T24 l1) (on T25 l1) b14 (Syntax.seq b15 b24) Δ3 (Typed.ask (s21 bs)) (at17 bs) (Scalar.t-op2 𝓤 H A W E 𝓣 (on T24 l1) Syntax.offset (Scalar.oAt 12
+              Syntax.tyPtr (Row.valS Row.sPtr)) (Scalar.oAt 10 u64 (Row.valS (Row.sInt Syntax.w64))) 13 (Rows'.sc-here Row.sPtr) Syntax.tyPtr (Row.valS Row.sPtr) (Row.sPtr .of)
+              (Scalar.reads-sc 𝓤 H A W Row.sPtr, Path'.refl) (Scalar.reads-sc 𝓤 H A W (Row.sInt Syntax.w64), Path'.refl) (Reads'.room-gone 𝓤 H A Syntax.tyPtr) (Scalar.holds-sc 𝓤 H A W Row.sPtr) Path'.refl
+              (λ u. Path'.refl) λ u. tt) d17
 
-          d19 : Typed.Typed 𝓤 H A 𝓣 E G23 b27 Δ3 (at19 bs)
-          d19 = Typed.s-seq 𝓤 H A W 𝓣 E G23 G24 b13 b26 Δ3 (Typed.pass T23 T24 (s20 bs)) (at18 bs) (Init.t-addr 𝓤 H A W E 𝓣 G23 12 3 (Reads'.room-gone 𝓤 H A Syntax.tyPtr) Path'.refl) d18
+          d19 : Typed.Typed 𝓤 H A 𝓣 E (on T23 l1) b27 Δ3 (at19 bs)
+          d19 = Typed.s-seq 𝓤 H A W 𝓣 E (on T23 l1) (on T24 l1) b13 (Syntax.seq b14 (Syntax.seq b15 b24)) Δ3 (Typed.pass T23 T24 (s20 bs)) (at18 bs) (Init.t-addr 𝓤 H A W E 𝓣 (on T23 l1) 12 3
+              (Reads'.room-gone 𝓤 H A Syntax.tyPtr) Path'.refl) d18
 
-          d20 : Typed.Typed 𝓤 H A 𝓣 E G22 b28 Δ3 (at20 bs)
-          d20 = Typed.s-seq 𝓤 H A W 𝓣 E G22 G23 b12 b27 Δ3 (Typed.ask (s19 bs)) (at19 bs) (Scalar.t-op2 𝓤 H A W E 𝓣 G22 (Syntax.mul Syntax.unsigned) (Scalar.oAt 5 (Syntax.tyInt Syntax.w64) (Row.valS
-              (Row.sInt Syntax.w64))) (Scalar.oInt Syntax.w64 4) 10 (Rows'.sc-here (Row.sInt Syntax.w64)) (Syntax.tyInt Syntax.w64) (Row.valS (Row.sInt Syntax.w64)) (Row.sInt Syntax.w64 .of)
-              (Scalar.reads-sc 𝓤 H A W (Row.sInt Syntax.w64), Path'.refl) tt (Reads'.room-gone 𝓤 H A (Syntax.tyInt Syntax.w64)) (Scalar.holds-sc 𝓤 H A W (Row.sInt Syntax.w64)) Path'.refl (λ u. Path'.refl)
-              λ u. tt) d19
+          d20 : Typed.Typed 𝓤 H A 𝓣 E (on T21 l1) b28 Δ3 (at20 bs)
+          d20 = Typed.s-seq 𝓤 H A W 𝓣 E (on T21 l1) (on T23 l1) b12 b27 Δ3 (Typed.ask (s19 bs)) (at19 bs) (Scalar.t-op2 𝓤 H A W E 𝓣 (on T21 l1) (Syntax.mul Syntax.unsigned) (Scalar.oAt 5 u64 (Row.valS
+              (Row.sInt Syntax.w64))) (Scalar.oInt Syntax.w64 4) 10 (Rows'.sc-here (Row.sInt Syntax.w64)) u64 (Row.valS (Row.sInt Syntax.w64)) (Row.sInt Syntax.w64 .of)
+              (Scalar.reads-sc 𝓤 H A W (Row.sInt Syntax.w64), Path'.refl) tt (Reads'.room-gone 𝓤 H A u64) (Scalar.holds-sc 𝓤 H A W (Row.sInt Syntax.w64)) Path'.refl (λ u. Path'.refl) λ u. tt) d19
 
-          d21 : Typed.Typed 𝓤 H A 𝓣 E G21 b28 Δ3 (at21 bs)
-          d21 = Typed.g-pre 𝓤 H A W 𝓣 E G21 G22 b28 Δ3 (λ Ψ. Ψ) (at20 bs) (Lifetime.g-forget 𝓤 H A W E G21 1 Row.dead Path'.refl) d20
+          d21 : Typed.Typed 𝓤 H A 𝓣 E G21 b28 Δ3 (at20 bs)
+          d21 = Typed.g-pre 𝓤 H A W 𝓣 E G21 (on T21 l1) b28 Δ3 (λ Ψ. Ψ) (at20 bs) (Lifetime.g-forget 𝓤 H A W E G21 1 Row.dead Path'.refl) d20
 
           d22 : Typed.Typed 𝓤 H A 𝓣 E G20 b28 Δ3 (at22 bs)
-          d22 = Typed.g-pre 𝓤 H A W 𝓣 E G20 G21 b28 Δ3 (Typed.both (s17 bs)) (at21 bs) (Relend.g-back-sl 𝓤 H A W E (Element.type) G20 9 1 0 1 (Syntax.tyRef (Syntax.named 0) Syntax.mut Element.behind)
-              (Syntax.tyRef Syntax.erased Syntax.mut Element.behind) (Row.lease (κs .0) (qs .0)) (λ x. x) (λ x. x) (Reads'.as-is 𝓤 H A (Mut.msleft (Element.type) (Syntax.tyRef Syntax.erased Syntax.mut
-              Element.behind))) (Reads'.as-is 𝓤 H A (Relend.mslice-owed (Element.type) (Syntax.tyRef (Syntax.named 0) Syntax.mut Element.behind) 0 1 (Row.lease (κs .0) (qs .0)))) Path'.refl Path'.refl)
-              d21
+          d22 = Typed.g-pre 𝓤 H A W 𝓣 E G20 G21 b28 Δ3 (Typed.both (s17 bs)) (at20 bs) (Relend.g-back-sl 𝓤 H A W E (Element.type) G20 9 1 0 1 y1 y2 k0 (λ x. x) (λ x. x) (Reads'.as-is 𝓤 H A (Mut.msleft
+              (Element.type) y2)) (Reads'.as-is 𝓤 H A (Relend.mslice-owed (Element.type) y1 0 1 k0)) Path'.refl Path'.refl) d21
 
-          d23 : Typed.Typed 𝓤 H A 𝓣 E G19 b28 Δ3 (at23 bs)
+          d23 : Typed.Typed 𝓤 H A 𝓣 E G19 b28 Δ3 (at22 bs)
           d23 = Typed.g-pre 𝓤 H A W 𝓣 E G19 G20 b28 Δ3 (λ Ψ. Ψ) (at22 bs) (Lifetime.g-end 𝓤 H A W E G19 1 Path'.refl) d22
 
           d24 : Typed.Typed 𝓤 H A 𝓣 E G18 b28 Δ3 (at24 bs)
-          d24 = Typed.g-pre 𝓤 H A W 𝓣 E G18 G19 b28 Δ3 (Typed.pass T18 T19 (s15 bs)) (at23 bs) (Scalar.g-room 𝓤 H A W E G18 11 (Syntax.tyInt Syntax.w64) (Scalar.room-sc 𝓤 H A W (Row.sInt Syntax.w64)))
-              d23
+          d24 = Typed.g-pre 𝓤 H A W 𝓣 E G18 G19 b28 Δ3 (Typed.pass T18 T19 (s15 bs)) (at22 bs) (Scalar.g-room 𝓤 H A W E G18 11 u64 (Scalar.room-sc 𝓤 H A W (Row.sInt Syntax.w64))) d23
 
-          d25 : Typed.Typed 𝓤 H A 𝓣 E G17 b29 Δ3 (at25 bs)
+          d25 : Typed.Typed 𝓤 H A 𝓣 E G17 (Syntax.seq b11 b28) Δ3 (at25 bs)
           d25 = Typed.s-seq 𝓤 H A W 𝓣 E G17 G18 b11 b28 Δ3 (Typed.both (s14 bs)) (at24 bs) (Plain.t-call-plain 𝓤 H A W 𝓣 1 ps·0 r·0 (claims· .0) (claims· .1) "block::records::fetch" known E (λ pos β.
-              β) G17 (record { pos = 9; ty = Syntax.tyRef Syntax.erased Syntax.mut Element.behind; ref = λ x. x }, (Num.vAt 11 λ x. x, tt)) 6 (List._∷_ 1 List.[]) (Call.sub-id 𝓤 H A W (G17 .slots)) (
-                Reads'.as-is 𝓤 H A (Mut.mslice (Element.type) (Syntax.tyRef Syntax.erased Syntax.mut Element.behind) 1),
-                Mut.reads-mslice 𝓤 H A W (Element.type) (Syntax.tyRef Syntax.erased Syntax.mut
-                    Element.behind) 1,
-                Path'.refl,
-                ((Scalar.reads-sc 𝓤 H A W (Row.sInt Syntax.w64), Path'.refl), tt),
-              ) (Reads'.room-gone 𝓤 H A y1) (tt, tt) Path'.refl) d24
+              β) G17 (record { pos = 9; ty = y2; ref = λ x. x }, (Num.vAt 11 λ x. x, tt)) 6 (1 ∷ []) (Call.sub-id 𝓤 H A W (G17 .slots))
+              (Reads'.as-is 𝓤 H A (Mut.mslice (Element.type) y2 1), Mut.reads-mslice 𝓤 H A W (Element.type) y2 1, Path'.refl, ((Scalar.reads-sc 𝓤 H A W (Row.sInt Syntax.w64), Path'.refl), tt))
+              (Reads'.room-gone 𝓤 H A y3) (tt, tt) Path'.refl) d24
 
-          d26 : Typed.Typed 𝓤 H A 𝓣 E G16 b29 Δ3 (at26 bs)
-          d26 = Typed.g-pre 𝓤 H A W 𝓣 E G16 G17 b29 Δ3 (Typed.pass T16 T17 (s13 bs)) (at25 bs) (Scalar.g-room 𝓤 H A W E G16 10 (Syntax.tyInt Syntax.w64) (Scalar.room-sc 𝓤 H A W (Row.sInt Syntax.w64)))
-              d25
+          d26 : Typed.Typed 𝓤 H A 𝓣 E G16 (Syntax.seq b11 b28) Δ3 (at26 bs)
+          d26 = Typed.g-pre 𝓤 H A W 𝓣 E G16 G17 (Syntax.seq b11 b28) Δ3 (Typed.pass T16 T17 (s13 bs)) (at25 bs) (Scalar.g-room 𝓤 H A W E G16 10 u64 (Scalar.room-sc 𝓤 H A W (Row.sInt Syntax.w64))) d25
 
-          d27 : Typed.Typed 𝓤 H A 𝓣 E G15 b30 Δ3 (at27 bs)
-          d27 = Typed.s-seq 𝓤 H A W 𝓣 E G15 G16 b10 b29 Δ3 (Typed.ask (s12 bs)) (at26 bs) (Scalar.t-op2 𝓤 H A W E 𝓣 G15 (Syntax.add Syntax.unsigned) (Scalar.oAt 10 (Syntax.tyInt Syntax.w64) (Row.valS
-              (Row.sInt Syntax.w64))) (Scalar.oAt 5 (Syntax.tyInt Syntax.w64) (Row.valS (Row.sInt Syntax.w64))) 11 (Rows'.sc-here (Row.sInt Syntax.w64)) (Syntax.tyInt Syntax.w64) (Row.valS (Row.sInt
-              Syntax.w64)) (Row.sInt Syntax.w64 .of) (Scalar.reads-sc 𝓤 H A W (Row.sInt Syntax.w64), Path'.refl) (Scalar.reads-sc 𝓤 H A W (Row.sInt Syntax.w64), Path'.refl) (Reads'.room-gone 𝓤 H A
-              (Syntax.tyInt Syntax.w64)) (Scalar.holds-sc 𝓤 H A W (Row.sInt Syntax.w64)) Path'.refl (λ u. Path'.refl) λ u. tt) d26
+          d27 : Typed.Typed 𝓤 H A 𝓣 E G15 (Syntax.seq b10 (Syntax.seq b11 b28)) Δ3 (at27 bs)
+          d27 = Typed.s-seq 𝓤 H A W 𝓣 E G15 G16 b10 (Syntax.seq b11 b28) Δ3 (Typed.ask (s12 bs)) (at26 bs) (Scalar.t-op2 𝓤 H A W E 𝓣 G15 (Syntax.add Syntax.unsigned) (Scalar.oAt 10 u64 (Row.valS
+              (Row.sInt Syntax.w64))) (Scalar.oAt 5 u64 (Row.valS (Row.sInt Syntax.w64))) 11 (Rows'.sc-here (Row.sInt Syntax.w64)) u64 (Row.valS (Row.sInt Syntax.w64)) (Row.sInt Syntax.w64 .of)
+              (Scalar.reads-sc 𝓤 H A W (Row.sInt Syntax.w64), Path'.refl) (Scalar.reads-sc 𝓤 H A W (Row.sInt Syntax.w64), Path'.refl) (Reads'.room-gone 𝓤 H A u64) (Scalar.holds-sc 𝓤 H A W (Row.sInt
+              Syntax.w64)) Path'.refl (λ u. Path'.refl) λ u. tt) d26
 
           d28 : Typed.Typed 𝓤 H A 𝓣 E G14 b31 Δ3 (at28 bs)
-          d28 = Typed.s-seq 𝓤 H A W 𝓣 E G14 G15 b9 b30 Δ3 (Typed.ask (s11 bs)) (at27 bs) (Scalar.t-op2 𝓤 H A W E 𝓣 G14 (Syntax.mul Syntax.unsigned) (Scalar.oInt Syntax.w64 112) (Scalar.oAt 2
-              (Syntax.tyInt Syntax.w64) (Row.valS (Row.sInt Syntax.w64))) 10 (Rows'.sc-here (Row.sInt Syntax.w64)) (Syntax.tyInt Syntax.w64) (Row.valS (Row.sInt Syntax.w64)) (Row.sInt Syntax.w64 .of) tt
-              (Scalar.reads-sc 𝓤 H A W (Row.sInt Syntax.w64), Path'.refl) (Reads'.room-gone 𝓤 H A (Syntax.tyInt Syntax.w64)) (Scalar.holds-sc 𝓤 H A W (Row.sInt Syntax.w64)) Path'.refl (λ u. Path'.refl) λ
-              u. tt) d27
+          d28 = Typed.s-seq 𝓤 H A W 𝓣 E G14 G15 b9 (Syntax.seq b10 (Syntax.seq b11 b28)) Δ3 (Typed.ask (s11 bs)) (at27 bs) (Scalar.t-op2 𝓤 H A W E 𝓣 G14 (Syntax.mul Syntax.unsigned) (Scalar.oInt
+              Syntax.w64 112) (Scalar.oAt 2 u64 (Row.valS (Row.sInt Syntax.w64))) 10 (Rows'.sc-here (Row.sInt Syntax.w64)) u64 (Row.valS (Row.sInt Syntax.w64)) (Row.sInt Syntax.w64 .of) tt
+              (Scalar.reads-sc 𝓤 H A W (Row.sInt Syntax.w64), Path'.refl) (Reads'.room-gone 𝓤 H A u64) (Scalar.holds-sc 𝓤 H A W (Row.sInt Syntax.w64)) Path'.refl (λ u. Path'.refl) λ u. tt) d27
 
-          d29 : Typed.Typed 𝓤 H A 𝓣 E G13 b32 Δ3 (at29 bs)
-          d29 = Typed.s-seq 𝓤 H A W 𝓣 E G13 G14 b8 b31 Δ3 (Typed.ask (s10 bs)) (at28 bs) (Relend.t-sl-aggregate 𝓤 H A W E (Element.type) 𝓣 (Relend.asMut (Element.type)) G13 8 9 1 (Syntax.tyRef
-              Syntax.erased Syntax.mut Element.behind) (Syntax.tyRef Syntax.erased Syntax.mut Element.behind) (λ x. x) (Scalar.oFld 1 (List._∷_ (Syntax.field 1) List.[]) (Syntax.tyInt Syntax.w64) 8 λ v.
-              Shared.lenV (v .0)) (Reads'.as-is 𝓤 H A (Relend.msptr (Element.type) (Syntax.tyRef Syntax.erased Syntax.mut Element.behind) 1)) (Reads'.room-gone 𝓤 H A y2)
-              (Relend.reads-owed-len 𝓤 H A W (Element.type) (Syntax.tyRef (Syntax.named 0) Syntax.mut Element.behind) 0 1 (Row.lease (κs .0) (qs .0)) 8 Path'.refl, Path'.refl) Path'.refl Path'.refl λ b o
-              k. tt) d28
+          d29 : Typed.Typed 𝓤 H A 𝓣 E G13 (Syntax.seq b8 b31) Δ3 (at29 bs)
+          d29 = Typed.s-seq 𝓤 H A W 𝓣 E G13 G14 b8 b31 Δ3 (Typed.ask (s10 bs)) (at28 bs) (Relend.t-sl-aggregate 𝓤 H A W E (Element.type) 𝓣 (Relend.asMut (Element.type)) G13 8 9 1 y2 y2 (λ x. x)
+              (Scalar.oFld 1 ((Syntax.field 1) ∷ []) u64 8 λ v. Shared.lenV (v .0)) (Reads'.as-is 𝓤 H A (Relend.msptr (Element.type) y2 1)) (Reads'.room-gone 𝓤 H A y5)
+              (Relend.reads-owed-len 𝓤 H A W (Element.type) y1 0 1 k0 8 Path'.refl, Path'.refl) Path'.refl Path'.refl λ b o k. tt) d28
 
-          d30 : Typed.Typed 𝓤 H A 𝓣 E G12 b33 Δ3 (at30 bs)
-          d30 = Typed.s-seq 𝓤 H A W 𝓣 E G12 G13 b7 b32 Δ3 (Typed.give (s9 bs)) (at29 bs) (Relend.t-sl-relend 𝓤 H A W E (Element.type) 𝓣 G12 1 8 0 1 (Syntax.tyRef (Syntax.named 0) Syntax.mut
-              Element.behind) (Syntax.tyRef Syntax.erased Syntax.mut Element.behind) (Row.lease (κs .0) (qs .0)) 0 (λ x. x) (Reads'.as-is 𝓤 H A (Mut.mslice (Element.type) (Syntax.tyRef (Syntax.named 0)
-              Syntax.mut Element.behind) 0)) (Reads'.room-gone 𝓤 H A (Syntax.tyRef Syntax.erased Syntax.mut Element.behind)) Path'.refl tt Path'.refl Path'.refl Path'.refl λ b o. tt) d29
+          d30 : Typed.Typed 𝓤 H A 𝓣 E G12 (Syntax.seq b7 (Syntax.seq b8 b31)) Δ3 (at30 bs)
+          d30 = Typed.s-seq 𝓤 H A W 𝓣 E G12 G13 b7 (Syntax.seq b8 b31) Δ3 (Typed.give (s9 bs)) (at29 bs) (Relend.t-sl-relend 𝓤 H A W E (Element.type) 𝓣 G12 1 8 0 1 y1 y2 k0 0 (λ x. x) (Reads'.as-is 𝓤
+              H A (Mut.mslice (Element.type) y1 0)) (Reads'.room-gone 𝓤 H A y2) Path'.refl tt Path'.refl Path'.refl Path'.refl λ b o. tt) d29
 
-          d31 : Typed.Typed 𝓤 H A 𝓣 E G9 b33 Δ3 (at31 bs)
-          d31 = Typed.g-pre 𝓤 H A W 𝓣 E G9 G12 b33 Δ3 (λ Ψ. Ψ) (at30 bs) (Lifetime.g-begin 𝓤 H A W E G9 1
+          d31 : Typed.Typed 𝓤 H A 𝓣 E (on T6 l1) (Syntax.seq b7 (Syntax.seq b8 b31)) Δ3 (at30 bs)
+          d31 = Typed.g-pre 𝓤 H A W 𝓣 E (on T6 l1) G12 (Syntax.seq b7 (Syntax.seq b8 b31)) Δ3 (λ Ψ. Ψ) (at30 bs) (Lifetime.g-begin 𝓤 H A W E (on T6 l1) 1
               (tt, (tt, (tt, (tt, (tt, (tt, (tt, (tt, (tt, (tt, (tt, (tt, (tt, (tt, (tt, (tt, (tt, (tt, tt))))))))))))))))))) d30
 
-          d32 : Typed.Typed 𝓤 H A 𝓣 E G8 b34 Δ3 (at32 bs)
-          d32 = Typed.t-seq 𝓤 H A W 𝓣 E G8 G9 b6 b33 Δ3 (at4 bs) (at31 bs) d4 d31
+          d32 : Typed.Typed 𝓤 H A 𝓣 E (on T8 l1) b34 Δ3 (at32 bs)
+          d32 = Typed.t-seq 𝓤 H A W 𝓣 E (on T8 l1) (on T6 l1) b6 (Syntax.seq b7 (Syntax.seq b8 b31)) Δ3 (at4 bs) (at30 bs) d4 d31
 
-          d33 : Typed.Typed 𝓤 H A 𝓣 E G6 b35 Δ3 (at33 bs)
-          d33 = Typed.s-seq 𝓤 H A W 𝓣 E G6 G8 b3 b34 Δ3 (Typed.ask (s5 bs)) (at32 bs) (Scalar.t-op2 𝓤 H A W E 𝓣 G6 (Syntax.lt Syntax.unsigned) (Scalar.oAt 5 (Syntax.tyInt Syntax.w64) (Row.valS
+          d33 : Typed.Typed 𝓤 H A 𝓣 E (on T6 l1) (Syntax.seq b3 b34) Δ3 (at33 bs)
+          d33 = Typed.s-seq 𝓤 H A W 𝓣 E (on T6 l1) (on T8 l1) b3 b34 Δ3 (Typed.ask (s5 bs)) (at32 bs) (Scalar.t-op2 𝓤 H A W E 𝓣 (on T6 l1) (Syntax.lt Syntax.unsigned) (Scalar.oAt 5 u64 (Row.valS
               (Row.sInt Syntax.w64))) (Scalar.oInt Syntax.w64 112) 7 (Rows'.sc-here Row.sBool) Syntax.tyBool (Row.valS Row.sBool) (Row.sBool .of)
               (Scalar.reads-sc 𝓤 H A W (Row.sInt Syntax.w64), Path'.refl) tt (Reads'.room-gone 𝓤 H A Syntax.tyBool) (Scalar.holds-sc 𝓤 H A W Row.sBool) Path'.refl (λ u. Path'.refl) λ u. tt) d32
 
-          d34 : Typed.Typed 𝓤 H A 𝓣 E G6 b36 Δ2 (at34 bs)
-          d34 = Typed.t-loop-by 𝓤 H A W 𝓣 E G6 b35 Δ2 put0 (λ u vs. Inv·0 (Row.get 1 (T6 .locals) u .now) (Row.get 2 (T6 .locals) u) (Row.get 3 (T6 .locals) u) (Row.get 4 (T6 .locals) u) (Row.get 5
-              (T6 .locals) u) (vs .0) (vs .1) (vs .2) (vs .3)) (λ u vs. μ·0 (Row.get 1 (T6 .locals) u .now) (Row.get 2 (T6 .locals) u) (Row.get 3 (T6 .locals) u) (Row.get 4 (T6 .locals) u) (Row.get 5 (T6
-              .locals) u) (vs .0) (vs .1) (vs .2) (vs .3)) (at33 bs) d33
+          d34 : Typed.Typed 𝓤 H A 𝓣 E (on T6 l1) (Syntax.loop (Syntax.seq b3 b34)) Δ2 (at34 bs)
+          d34 = Typed.t-loop-by 𝓤 H A W 𝓣 E (on T6 l1) (Syntax.seq b3 b34) Δ2 put0 (λ u vs. Inv·0 (Row.get 1 (T6 .locals) u .now) (Row.get 2 (T6 .locals) u) (Row.get 3 (T6 .locals) u) (Row.get 4 (T6
+              .locals) u) (Row.get 5 (T6 .locals) u) (vs .0) (vs .1) (vs .2) (vs .3)) (λ u vs. μ·0 (Row.get 1 (T6 .locals) u .now) (Row.get 2 (T6 .locals) u) (Row.get 3 (T6 .locals) u) (Row.get 4 (T6
+              .locals) u) (Row.get 5 (T6 .locals) u) (vs .0) (vs .1) (vs .2) (vs .3)) (at33 bs) d33
 
-          d35 : Typed.Typed 𝓤 H A 𝓣 E G6 b37 Δ1 (at35 bs)
-          d35 = Typed.t-block 𝓤 H A W 𝓣 E G6 b36 Δ1 (at34 bs) d34
+          d35 : Typed.Typed 𝓤 H A 𝓣 E (on T6 l1) b37 Δ1 (at35 bs)
+          d35 = Typed.t-block 𝓤 H A W 𝓣 E (on T6 l1) (Syntax.loop (Syntax.seq b3 b34)) Δ1 (at34 bs) d34
 
-          d36 : Typed.Typed 𝓤 H A 𝓣 E G48 b41 Δ0 (at36 bs)
+          d36 : Typed.Typed 𝓤 H A 𝓣 E (on T1 l1) b41 Δ0 (at36 bs)
           d36 = Typed.t-return 𝓤 H A W 𝓣 E Δ0 tt
 
-          d37 : Typed.Typed 𝓤 H A 𝓣 E G47 b41 Δ0 (at37 bs)
-          d37 = Typed.g-pre 𝓤 H A W 𝓣 E G47 G48 b41 Δ0 (Typed.pass T47 T48 (s44 bs)) (at36 bs) (AtSlots.g-as-by 𝓤 H A W E (λ ρ. Unit) G47 0 (Rows'.whole (Declared.row Set.the-type)) (λ v. Set.struct
-              .make v tt) (Own.told-none 𝓤 H A (G47 .slots)) λ ρ told v b. Apart.folds 𝓤 H A Set.the-type (Set.struct .Ghost) (Set.struct .make) (λ v g. Path'.refl) ρ v tt b) d36
+          d37 : Typed.Typed 𝓤 H A 𝓣 E (on T47 l1) b41 Δ0 (at37 bs)
+          d37 = Typed.g-pre 𝓤 H A W 𝓣 E (on T47 l1) (on T1 l1) b41 Δ0 (Typed.pass T47 T1 (s44 bs)) (at36 bs) (AtSlots.g-as-by 𝓤 H A W E (λ ρ. Unit) (on T47 l1) 0 (Rows'.whole (Declared.row
+              Set.the-type)) (λ v. Set.struct .make v tt) (Own.told-none 𝓤 H A ((on T47 l1) .slots)) λ ρ told v b. Apart.folds 𝓤 H A Set.the-type (Set.struct .Ghost) (Set.struct .make) (λ v g. Path'.refl)
+              ρ v tt b) d36
 
-          d38 : Typed.Typed 𝓤 H A 𝓣 E G46 b41 Δ0 (at38 bs)
-          d38 = Typed.g-pre 𝓤 H A W 𝓣 E G46 G47 b41 Δ0 (Typed.pass T46 T47 (s43 bs)) (at37 bs) (Scalar.g-room 𝓤 H A W E G46 2 (Syntax.tyInt Syntax.w64) (Scalar.room-sc 𝓤 H A W (Row.sInt Syntax.w64)))
-              d37
+          d38 : Typed.Typed 𝓤 H A 𝓣 E (on T46 l1) b41 Δ0 (at38 bs)
+          d38 = Typed.g-pre 𝓤 H A W 𝓣 E (on T46 l1) (on T47 l1) b41 Δ0 (Typed.pass T46 T47 (s43 bs)) (at37 bs) (Scalar.g-room 𝓤 H A W E (on T46 l1) 2 u64 (Scalar.room-sc 𝓤 H A W (Row.sInt
+              Syntax.w64))) d37
 
-          d39 : Typed.Typed 𝓤 H A 𝓣 E G45 b41 Δ0 (at39 bs)
-          d39 = Typed.g-pre 𝓤 H A W 𝓣 E G45 G46 b41 Δ0 (Typed.pass T45 T46 (s42 bs)) (at38 bs) (Scalar.g-room 𝓤 H A W E G45 17 (Syntax.tyArray (Syntax.tyInt Syntax.w32) 112) (Init.room-arr 𝓤 H A W
-              (Referent.rtF (Referent.fInt Syntax.w32)) 112 0 112 Path'.refl)) d38
+          d39 : Typed.Typed 𝓤 H A 𝓣 E (on T45 l1) b41 Δ0 (at39 bs)
+          d39 = Typed.g-pre 𝓤 H A W 𝓣 E (on T45 l1) (on T46 l1) b41 Δ0 (Typed.pass T45 T46 (s42 bs)) (at38 bs) (Scalar.g-room 𝓤 H A W E (on T45 l1) 17 y0 (Init.room-arr 𝓤 H A W n32 112 0 112
+              Path'.refl)) d38
 
-          d40 : Typed.Typed 𝓤 H A 𝓣 E G44 b41 Δ0 (at40 bs)
-          d40 = Typed.g-pre 𝓤 H A W 𝓣 E G44 G45 b41 Δ0 (Typed.pass T44 T45 (s41 bs)) (at39 bs) (Scalar.g-room 𝓤 H A W E G44 16 (Syntax.tyArray (Syntax.tyInt Syntax.w32) 112) (Init.room-arr 𝓤 H A W
-              (Referent.rtF (Referent.fInt Syntax.w32)) 112 0 112 Path'.refl)) d39
+          d40 : Typed.Typed 𝓤 H A 𝓣 E (on T44 l1) b41 Δ0 (at40 bs)
+          d40 = Typed.g-pre 𝓤 H A W 𝓣 E (on T44 l1) (on T45 l1) b41 Δ0 (Typed.pass T44 T45 (s41 bs)) (at39 bs) (Scalar.g-room 𝓤 H A W E (on T44 l1) 16 y0 (Init.room-arr 𝓤 H A W n32 112 0 112
+              Path'.refl)) d39
 
-          d41 : Typed.Typed 𝓤 H A 𝓣 E G43 b41 Δ0 (at41 bs)
-          d41 = Typed.g-pre 𝓤 H A W 𝓣 E G43 G44 b41 Δ0 (Typed.pass T43 T44 (s40 bs)) (at40 bs) (Scalar.g-room 𝓤 H A W E G43 5 (Syntax.tyInt Syntax.w64) (Scalar.room-sc 𝓤 H A W (Row.sInt Syntax.w64)))
-              d40
+          d41 : Typed.Typed 𝓤 H A 𝓣 E (on T43 l1) b41 Δ0 (at41 bs)
+          d41 = Typed.g-pre 𝓤 H A W 𝓣 E (on T43 l1) (on T44 l1) b41 Δ0 (Typed.pass T43 T44 (s40 bs)) (at40 bs) (Scalar.g-room 𝓤 H A W E (on T43 l1) 5 u64 (Scalar.room-sc 𝓤 H A W (Row.sInt
+              Syntax.w64))) d40
 
-          d42 : Typed.Typed 𝓤 H A 𝓣 E G42 b42 Δ0 (at42 bs)
-          d42 = Typed.s-seq 𝓤 H A W 𝓣 E G42 G43 b40 b41 Δ0 (Typed.pass T42 T43 (s39 bs)) (at41 bs) (Make.t-make-told 𝓤 H A W E 𝓣 (Declared.row (Apart.apartT Set.the-type)) Path'.refl (Laws''.val
-              (Apart.apartT Set.the-type) Laws'.the-laws) (Laws''.lawful (Apart.apartT Set.the-type) Laws'.the-laws 𝓤 H A W) (Laws''.makes (Apart.apartT Set.the-type) Laws'.the-plain 𝓤 H A) G42 0
-              (List._∷_ (Scalar.oAt 16 (Syntax.tyArray (Syntax.tyInt Syntax.w32) 112) λ xs. Array'.arrayVal (List.map (Laws''.u32-laws .val) xs)) (List._∷_ (Scalar.oAt 17 (Syntax.tyArray (Syntax.tyInt
-              Syntax.w32) 112) λ xs. Array'.arrayVal (List.map (Laws''.u32-laws .val) xs)) List.[])) (λ m.
+          d42 : Typed.Typed 𝓤 H A 𝓣 E (on T42 l1) (Syntax.seq b40 b41) Δ0 (at42 bs)
+          d42 = Typed.s-seq 𝓤 H A W 𝓣 E (on T42 l1) (on T43 l1) b40 b41 Δ0 (Typed.pass T42 T43 (s39 bs)) (at41 bs) (Make.t-make-told 𝓤 H A W E 𝓣 (Declared.row (Apart.apartT Set.the-type)) Path'.refl
+              (Laws''.val (Apart.apartT Set.the-type) Laws'.the-laws) (Laws''.lawful (Apart.apartT Set.the-type) Laws'.the-laws 𝓤 H A W) (Laws''.makes (Apart.apartT Set.the-type) Laws'.the-plain 𝓤 H A)
+              (on T42 l1) 0 ((Scalar.oAt 16 y0 λ xs. Array'.arrayVal (List.map (Laws''.u32-laws .val) xs)) ∷ (Scalar.oAt 17 y0 λ xs. Array'.arrayVal (List.map (Laws''.u32-laws .val) xs)) ∷ []) (λ m.
               (m .1 .1 .1 .1 .1 .1 .1 .1 .1 .1 .1 .1 .1 .1 .1 .1 .0, (m .1 .1 .1 .1 .1 .1 .1 .1 .1 .1 .1 .1 .1 .1 .1 .1 .1 .0, tt))) (λ m. Path'._≡_ (ListN.length (m .1 .1 .1 .1 .1 .1 .1 .1 .1 .1 .1 .1 .1
-              .1 .1 .1 .0)) 112 × Path'._≡_ (ListN.length (m .1 .1 .1 .1 .1 .1 .1 .1 .1 .1 .1 .1 .1 .1 .1 .1 .1 .0)) 112) (Reads'.room-gone 𝓤 H A y0) (
+              .1 .1 .1 .0)) 112 × Path'._≡_ (ListN.length (m .1 .1 .1 .1 .1 .1 .1 .1 .1 .1 .1 .1 .1 .1 .1 .1 .1 .0)) 112) (Reads'.room-gone 𝓤 H A y4) (
                 (Array.arr-reads 𝓤 H A W (Array.eInt Syntax.w32) (Array.eInt-laws Syntax.w32) 112, Path'.refl),
                 ((Array.arr-reads 𝓤 H A W (Array.eInt Syntax.w32) (Array.eInt-laws Syntax.w32) 112, Path'.refl), tt),
-              ) Path'.refl (λ ρ m. Make.tells-both 𝓤 H A W E ρ (Row.out 0 (G42 .locals)) m (Path'._≡_
-              (ListN.length (m .1 .1 .1 .1 .1 .1 .1 .1 .1 .1 .1 .1 .1 .1 .1 .1 .0)) 112) (Path'._≡_ (ListN.length (m .1 .1 .1 .1 .1 .1 .1 .1 .1 .1 .1 .1 .1 .1 .1 .1 .1 .0)) 112) (Make.tells-row 𝓤 H A W E
-              ρ (Row.out 0 (G42 .locals)) m 16 (Path'._≡_ (ListN.length (m .1 .1 .1 .1 .1 .1 .1 .1 .1 .1 .1 .1 .1 .1 .1 .1 .0)) 112) (Init.arr-len 𝓤 H A W E (Referent.rtF (Referent.fInt Syntax.w32)) ρ 16
-              112 Nat.zero (m .1 .1 .1 .1 .1 .1 .1 .1 .1 .1 .1 .1 .1 .1 .1 .1 .0))) (Make.tells-row 𝓤 H A W E ρ (Row.out 0 (G42 .locals)) m 17 (Path'._≡_ (ListN.length (m .1 .1 .1 .1 .1 .1 .1 .1 .1 .1 .1
-              .1 .1 .1 .1 .1 .1 .0)) 112) (Init.arr-len 𝓤 H A W E (Referent.rtF (Referent.fInt Syntax.w32)) ρ 17 112 Nat.zero (m .1 .1 .1 .1 .1 .1 .1 .1 .1 .1 .1 .1 .1 .1 .1 .1 .1 .0)))) (λ m q.
-              Signed.made-val (Apart.apartT Set.the-type) Laws'.the-laws (List._∷_ (Array'.arrayVal (List.map (Laws''.u32-laws .val) (m .1 .1 .1 .1 .1 .1 .1 .1 .1 .1 .1 .1 .1 .1 .1 .1 .0))) (List._∷_
-              (Array'.arrayVal (List.map (Laws''.u32-laws .val) (m .1 .1 .1 .1 .1 .1 .1 .1 .1 .1 .1 .1 .1 .1 .1 .1 .1 .0))) List.[]))
-              (m .1 .1 .1 .1 .1 .1 .1 .1 .1 .1 .1 .1 .1 .1 .1 .1 .0, (m .1 .1 .1 .1 .1 .1 .1 .1 .1 .1 .1 .1 .1 .1 .1 .1 .1 .0, tt)) (
+              ) Path'.refl (λ ρ m. Make.tells-both 𝓤 H A W E ρ (Row.out 0 ((on T42 l1) .locals)) m
+              (Path'._≡_ (ListN.length (m .1 .1 .1 .1 .1 .1 .1 .1 .1 .1 .1 .1 .1 .1 .1 .1 .0)) 112) (Path'._≡_ (ListN.length (m .1 .1 .1 .1 .1 .1 .1 .1 .1 .1 .1 .1 .1 .1 .1 .1 .1 .0)) 112) (Make.tells-row
+              𝓤 H A W E ρ (Row.out 0 ((on T42 l1) .locals)) m 16 (Path'._≡_ (ListN.length (m .1 .1 .1 .1 .1 .1 .1 .1 .1 .1 .1 .1 .1 .1 .1 .1 .0)) 112) (Init.arr-len 𝓤 H A W E n32 ρ 16 112 Nat.zero (m .1
+              .1 .1 .1 .1 .1 .1 .1 .1 .1 .1 .1 .1 .1 .1 .1 .0))) (Make.tells-row 𝓤 H A W E ρ (Row.out 0 ((on T42 l1) .locals)) m 17 (Path'._≡_ (ListN.length (m .1 .1 .1 .1 .1 .1 .1 .1 .1 .1 .1 .1 .1 .1 .1
+              .1 .1 .0)) 112) (Init.arr-len 𝓤 H A W E n32 ρ 17 112 Nat.zero (m .1 .1 .1 .1 .1 .1 .1 .1 .1 .1 .1 .1 .1 .1 .1 .1 .1 .0)))) (λ m q. Signed.made-val (Apart.apartT Set.the-type) Laws'.the-laws
+              ((Array'.arrayVal (List.map (Laws''.u32-laws .val) (m .1 .1 .1 .1 .1 .1 .1 .1 .1 .1 .1 .1 .1 .1 .1 .1 .0))) ∷ (Array'.arrayVal (List.map (Laws''.u32-laws .val) (m .1 .1 .1 .1 .1 .1 .1 .1 .1
+              .1 .1 .1 .1 .1 .1 .1 .1 .0))) ∷ []) (m .1 .1 .1 .1 .1 .1 .1 .1 .1 .1 .1 .1 .1 .1 .1 .1 .0, (m .1 .1 .1 .1 .1 .1 .1 .1 .1 .1 .1 .1 .1 .1 .1 .1 .1 .0, tt)) (
                 Items.array-made Field.u32-field Laws''.u32-laws Make.u32-wt 112 (m .1 .1 .1 .1 .1 .1 .1 .1 .1 .1 .1 .1 .1 .1 .1 .1 .0) (q .0),
                 (Items.array-made Field.u32-field Laws''.u32-laws Make.u32-wt 112 (m .1 .1 .1 .1 .1 .1 .1 .1 .1 .1 .1 .1 .1 .1 .1 .1 .1 .0) (q .1), tt),
               )) λ m q. Signed.made-is (Apart.apartT Set.the-type)
-              Laws'.the-laws (List._∷_ (Array'.arrayVal (List.map (Laws''.u32-laws .val) (m .1 .1 .1 .1 .1 .1 .1 .1 .1 .1 .1 .1 .1 .1 .1 .1 .0))) (List._∷_ (Array'.arrayVal (List.map (Laws''.u32-laws
-              .val) (m .1 .1 .1 .1 .1 .1 .1 .1 .1 .1 .1 .1 .1 .1 .1 .1 .1 .0))) List.[]))
-              (m .1 .1 .1 .1 .1 .1 .1 .1 .1 .1 .1 .1 .1 .1 .1 .1 .0, (m .1 .1 .1 .1 .1 .1 .1 .1 .1 .1 .1 .1 .1 .1 .1 .1 .1 .0, tt)) (
+              Laws'.the-laws ((Array'.arrayVal (List.map (Laws''.u32-laws .val) (m .1 .1 .1 .1 .1 .1 .1 .1 .1 .1 .1 .1 .1 .1 .1 .1 .0))) ∷ (Array'.arrayVal (List.map (Laws''.u32-laws .val) (m .1 .1 .1 .1
+              .1 .1 .1 .1 .1 .1 .1 .1 .1 .1 .1 .1 .1 .0))) ∷ []) (m .1 .1 .1 .1 .1 .1 .1 .1 .1 .1 .1 .1 .1 .1 .1 .1 .0, (m .1 .1 .1 .1 .1 .1 .1 .1 .1 .1 .1 .1 .1 .1 .1 .1 .1 .0, tt)) (
                 Items.array-made Field.u32-field Laws''.u32-laws Make.u32-wt 112 (m .1 .1 .1 .1 .1 .1 .1 .1 .1 .1 .1 .1 .1 .1 .1 .1 .0) (q .0),
                 (Items.array-made Field.u32-field Laws''.u32-laws Make.u32-wt 112 (m .1 .1 .1 .1 .1 .1 .1 .1 .1 .1 .1 .1 .1 .1 .1 .1 .1 .0) (q .1), tt),
               )) d41
 
-          d43 : Typed.Typed 𝓤 H A 𝓣 E G41 b42 Δ0 (at43 bs)
-          d43 = Typed.g-pre 𝓤 H A W 𝓣 E G41 G42 b42 Δ0 (Typed.pass T41 T42 (s38 bs)) (at42 bs) (Scalar.g-room 𝓤 H A W E G41 4 (Syntax.tyArray (Syntax.tyInt Syntax.w32) 112) (Init.room-arr 𝓤 H A W
-              (Referent.rtF (Referent.fInt Syntax.w32)) 112 0 112 Path'.refl)) d42
+          d43 : Typed.Typed 𝓤 H A 𝓣 E (on T41 l1) (Syntax.seq b40 b41) Δ0 (at43 bs)
+          d43 = Typed.g-pre 𝓤 H A W 𝓣 E (on T41 l1) (on T42 l1) (Syntax.seq b40 b41) Δ0 (Typed.pass T41 T42 (s38 bs)) (at42 bs) (Scalar.g-room 𝓤 H A W E (on T41 l1) 4 y0 (Init.room-arr 𝓤 H A W n32 112
+              0 112 Path'.refl)) d42
 
-          d44 : Typed.Typed 𝓤 H A 𝓣 E G40 b43 Δ0 (at44 bs)
-          d44 = Typed.s-seq 𝓤 H A W 𝓣 E G40 G41 b39 b42 Δ0 (Typed.pass T40 T41 (s37 bs)) (at43 bs) (LocalCopy.t-val-copy 𝓤 H A W E 𝓣 (λ ρ. Unit) G40 4 17 (Array'.Array (Referent.rtF (Referent.fInt
-              Syntax.w32)) 112) (Syntax.tyArray (Syntax.tyInt Syntax.w32) 112) (Syntax.tyArray (Syntax.tyInt Syntax.w32) 112) (Rows.arrF (Referent.rtF (Referent.fInt Syntax.w32)) 112 0) (Rows.arrF
-              (Referent.rtF (Referent.fInt Syntax.w32)) 112 0) (λ x. x) (λ x. x) (λ x. x) Path'.refl (Own.told-none 𝓤 H A (G40 .slots)) (Yields.yields-copy 𝓤 H A W (λ ρ. Unit) (Array'.Array (Referent.rtF
-              (Referent.fInt Syntax.w32)) 112) Path'.refl (Copies.cArr (Referent.rtF (Referent.fInt Syntax.w32)) (Copies.cRf (Referent.fInt Syntax.w32)) 112 .copy 𝓤 H A W) (Rows.arrF (Referent.rtF
-              (Referent.fInt Syntax.w32)) 112 0) (λ x. x) (λ x. x) (λ ρ told. Whole.mem-arr 𝓤 H A W (Referent.rtF (Referent.fInt Syntax.w32)) 112 ρ) λ ρ told. Whole.arr-mem 𝓤 H A W (Referent.rtF
-              (Referent.fInt Syntax.w32)) 112 tt ρ) (Reads'.room-gone 𝓤 H A (Syntax.tyArray (Syntax.tyInt Syntax.w32) 112)) (Yields.makes-mem 𝓤 H A W (λ ρ. Unit) (Array'.Array (Referent.rtF (Referent.fInt
-              Syntax.w32)) 112) Path'.refl (Rows.arrF (Referent.rtF (Referent.fInt Syntax.w32)) 112 0) (λ x. x) λ ρ told. Whole.arr-mem 𝓤 H A W (Referent.rtF (Referent.fInt Syntax.w32)) 112 tt ρ)
-              Path'.refl Path'.refl) d43
+          d44 : Typed.Typed 𝓤 H A 𝓣 E (on T40 l1) (Syntax.seq b39 (Syntax.seq b40 b41)) Δ0 (at44 bs)
+          d44 = Typed.s-seq 𝓤 H A W 𝓣 E (on T40 l1) (on T41 l1) b39 (Syntax.seq b40 b41) Δ0 (Typed.pass T40 T41 (s37 bs)) (at43 bs) (LocalCopy.t-val-copy 𝓤 H A W E 𝓣 (λ ρ. Unit) (on T40 l1) 4 17
+              (Array'.Array n32 112) y0 y0 (Rows.arrF n32 112 0) (Rows.arrF n32 112 0) (λ x. x) (λ x. x) (λ x. x) Path'.refl (Own.told-none 𝓤 H A ((on T40 l1) .slots)) (Yields.yields-copy 𝓤 H A W (λ ρ.
+              Unit) (Array'.Array n32 112) Path'.refl (Copies.cArr n32 (Copies.cRf (Referent.fInt Syntax.w32)) 112 .copy 𝓤 H A W) (Rows.arrF n32 112 0) (λ x. x) (λ x. x) (λ ρ told. Whole.mem-arr 𝓤 H A W
+              n32 112 ρ) λ ρ told. Whole.arr-mem 𝓤 H A W n32 112 tt ρ) (Reads'.room-gone 𝓤 H A y0) (Yields.makes-mem 𝓤 H A W (λ ρ. Unit) (Array'.Array n32 112) Path'.refl (Rows.arrF n32 112 0) (λ x. x) λ
+              ρ told. Whole.arr-mem 𝓤 H A W n32 112 tt ρ) Path'.refl Path'.refl) d43
 
-          d45 : Typed.Typed 𝓤 H A 𝓣 E G39 b43 Δ0 (at45 bs)
-          d45 = Typed.g-pre 𝓤 H A W 𝓣 E G39 G40 b43 Δ0 (Typed.pass T39 T40 (s36 bs)) (at44 bs) (Scalar.g-room 𝓤 H A W E G39 3 (Syntax.tyArray (Syntax.tyInt Syntax.w32) 112) (Init.room-arr 𝓤 H A W
-              (Referent.rtF (Referent.fInt Syntax.w32)) 112 0 112 Path'.refl)) d44
+          d45 : Typed.Typed 𝓤 H A 𝓣 E (on T39 l1) (Syntax.seq b39 (Syntax.seq b40 b41)) Δ0 (at45 bs)
+          d45 = Typed.g-pre 𝓤 H A W 𝓣 E (on T39 l1) (on T40 l1) (Syntax.seq b39 (Syntax.seq b40 b41)) Δ0 (Typed.pass T39 T40 (s36 bs)) (at44 bs) (Scalar.g-room 𝓤 H A W E (on T39 l1) 3 y0
+              (Init.room-arr 𝓤 H A W n32 112 0 112 Path'.refl)) d44
 
-          d46 : Typed.Typed 𝓤 H A 𝓣 E G7 b44 Δ0 (at46 bs)
-          d46 = Typed.s-seq 𝓤 H A W 𝓣 E G7 G39 b38 b43 Δ0 (Typed.pass T7 T39 (s35 bs)) (at45 bs) (LocalCopy.t-val-copy 𝓤 H A W E 𝓣 (λ ρ. Unit) G7 3 16 (Array'.Array (Referent.rtF (Referent.fInt
-              Syntax.w32)) 112) (Syntax.tyArray (Syntax.tyInt Syntax.w32) 112) (Syntax.tyArray (Syntax.tyInt Syntax.w32) 112) (Rows.arrF (Referent.rtF (Referent.fInt Syntax.w32)) 112 0) (Rows.arrF
-              (Referent.rtF (Referent.fInt Syntax.w32)) 112 0) (λ x. x) (λ x. x) (λ x. x) Path'.refl (Own.told-none 𝓤 H A (G7 .slots)) (Yields.yields-copy 𝓤 H A W (λ ρ. Unit) (Array'.Array (Referent.rtF
-              (Referent.fInt Syntax.w32)) 112) Path'.refl (Copies.cArr (Referent.rtF (Referent.fInt Syntax.w32)) (Copies.cRf (Referent.fInt Syntax.w32)) 112 .copy 𝓤 H A W) (Rows.arrF (Referent.rtF
-              (Referent.fInt Syntax.w32)) 112 0) (λ x. x) (λ x. x) (λ ρ told. Whole.mem-arr 𝓤 H A W (Referent.rtF (Referent.fInt Syntax.w32)) 112 ρ) λ ρ told. Whole.arr-mem 𝓤 H A W (Referent.rtF
-              (Referent.fInt Syntax.w32)) 112 tt ρ) (Reads'.room-gone 𝓤 H A (Syntax.tyArray (Syntax.tyInt Syntax.w32) 112)) (Yields.makes-mem 𝓤 H A W (λ ρ. Unit) (Array'.Array (Referent.rtF (Referent.fInt
-              Syntax.w32)) 112) Path'.refl (Rows.arrF (Referent.rtF (Referent.fInt Syntax.w32)) 112 0) (λ x. x) λ ρ told. Whole.arr-mem 𝓤 H A W (Referent.rtF (Referent.fInt Syntax.w32)) 112 tt ρ)
-              Path'.refl Path'.refl) d45
+          d46 : Typed.Typed 𝓤 H A 𝓣 E (on T6 l1) b44 Δ0 (at46 bs)
+          d46 = Typed.s-seq 𝓤 H A W 𝓣 E (on T6 l1) (on T39 l1) b38 (Syntax.seq b39 (Syntax.seq b40 b41)) Δ0 (Typed.pass T6 T39 (s35 bs)) (at45 bs) (LocalCopy.t-val-copy 𝓤 H A W E 𝓣 (λ ρ. Unit) (on T6
+              l1) 3 16 (Array'.Array n32 112) y0 y0 (Rows.arrF n32 112 0) (Rows.arrF n32 112 0) (λ x. x) (λ x. x) (λ x. x) Path'.refl (Own.told-none 𝓤 H A ((on T6 l1) .slots)) (Yields.yields-copy 𝓤 H A W
+              (λ ρ. Unit) (Array'.Array n32 112) Path'.refl (Copies.cArr n32 (Copies.cRf (Referent.fInt Syntax.w32)) 112 .copy 𝓤 H A W) (Rows.arrF n32 112 0) (λ x. x) (λ x. x) (λ ρ told. Whole.mem-arr 𝓤 H
+              A W n32 112 ρ) λ ρ told. Whole.arr-mem 𝓤 H A W n32 112 tt ρ) (Reads'.room-gone 𝓤 H A y0) (Yields.makes-mem 𝓤 H A W (λ ρ. Unit) (Array'.Array n32 112) Path'.refl (Rows.arrF n32 112 0) (λ x.
+              x) λ ρ told. Whole.arr-mem 𝓤 H A W n32 112 tt ρ) Path'.refl Path'.refl) d45
 
-          d47 : Typed.Typed 𝓤 H A 𝓣 E G6 b45 Δ0 (at47 bs)
-          d47 = Typed.t-seq 𝓤 H A W 𝓣 E G6 G7 b37 b44 Δ0 (at35 bs) (at46 bs) d35 d46
+          d47 : Typed.Typed 𝓤 H A 𝓣 E (on T6 l1) (Syntax.seq b37 b44) Δ0 (at47 bs)
+          d47 = Typed.t-seq 𝓤 H A W 𝓣 E (on T6 l1) (on T6 l1) b37 b44 Δ0 (at35 bs) (at46 bs) d35 d46
 
-          d48 : Typed.Typed 𝓤 H A 𝓣 E G5 b46 Δ0 (at48 bs)
-          d48 = Typed.s-seq 𝓤 H A W 𝓣 E G5 G6 b2 b45 Δ0 (Typed.pass T5 T6 (s4 bs)) (at47 bs) (Scalar.t-use 𝓤 H A W E 𝓣 G5 (Scalar.oInt Syntax.w64 0) 5 (Rows'.sc-here (Row.sInt Syntax.w64))
-              (Syntax.tyInt Syntax.w64) (Row.valS (Row.sInt Syntax.w64)) (Row.sInt Syntax.w64 .of) tt (Reads'.room-gone 𝓤 H A (Syntax.tyInt Syntax.w64)) (Scalar.holds-sc 𝓤 H A W (Row.sInt Syntax.w64))
+          d48 : Typed.Typed 𝓤 H A 𝓣 E (on T5 l1) (Syntax.seq b2 (Syntax.seq b37 b44)) Δ0 (at48 bs)
+          d48 = Typed.s-seq 𝓤 H A W 𝓣 E (on T5 l1) (on T6 l1) b2 (Syntax.seq b37 b44) Δ0 (Typed.pass T5 T6 (s4 bs)) (at47 bs) (Scalar.t-use 𝓤 H A W E 𝓣 (on T5 l1) (Scalar.oInt Syntax.w64 0) 5
+              (Rows'.sc-here (Row.sInt Syntax.w64)) u64 (Row.valS (Row.sInt Syntax.w64)) (Row.sInt Syntax.w64 .of) tt (Reads'.room-gone 𝓤 H A u64) (Scalar.holds-sc 𝓤 H A W (Row.sInt Syntax.w64))
               Path'.refl (λ u. Path'.refl) λ u. tt) d47
 
-          d49 : Typed.Typed 𝓤 H A 𝓣 E G4 b46 Δ0 (at49 bs)
-          d49 = Typed.g-pre 𝓤 H A W 𝓣 E G4 G5 b46 Δ0 (Typed.pass T4 T5 (s3 bs)) (at48 bs) (AtSlots.g-as-by 𝓤 H A W E (λ ρ. Unit) G4 4 (Rows.arrF (Referent.rtF (Referent.fInt Syntax.w32)) 112 0) (λ x.
-              x) (Own.told-none 𝓤 H A (G4 .slots)) λ ρ told. Repeat.whole-arr 𝓤 H A W (Referent.rtF (Referent.fInt Syntax.w32)) 112 tt ρ) d48
+          d49 : Typed.Typed 𝓤 H A 𝓣 E (on T4 l1) (Syntax.seq b2 (Syntax.seq b37 b44)) Δ0 (at49 bs)
+          d49 = Typed.g-pre 𝓤 H A W 𝓣 E (on T4 l1) (on T5 l1) (Syntax.seq b2 (Syntax.seq b37 b44)) Δ0 (Typed.pass T4 T5 (s3 bs)) (at48 bs) (AtSlots.g-as-by 𝓤 H A W E (λ ρ. Unit) (on T4 l1) 4
+              (Rows.arrF n32 112 0) (λ x. x) (Own.told-none 𝓤 H A ((on T4 l1) .slots)) λ ρ told. Repeat.whole-arr 𝓤 H A W n32 112 tt ρ) d48
 
-          d50 : Typed.Typed 𝓤 H A 𝓣 E G3 b47 Δ0 (at50 bs)
-          d50 = Typed.s-seq 𝓤 H A W 𝓣 E G3 G4 b1 b46 Δ0 (Typed.pass T3 T4 (s2 bs)) (at49 bs) (Repeat.t-repeat 𝓤 H A W E 𝓣 (Referent.rtF (Referent.fInt Syntax.w32)) (Plain'.uint-lawful 𝓤 H A W
-              Syntax.w32) (Copies.cRf (Referent.fInt Syntax.w32) .copy 𝓤 H A W) (Plain'.uint-makes 𝓤 H A W Syntax.w32) 112 G3 4 (Scalar.oInt Syntax.w32 0) (λ m. 0) (Reads'.room-gone 𝓤 H A (Syntax.tyArray
-              (Syntax.tyInt Syntax.w32) 112)) tt Path'.refl λ m wa. (Path'.refl, Dec'.lit< tt)) d49
+          d50 : Typed.Typed 𝓤 H A 𝓣 E (on T3 l1) b47 Δ0 (at50 bs)
+          d50 = Typed.s-seq 𝓤 H A W 𝓣 E (on T3 l1) (on T4 l1) b1 (Syntax.seq b2 (Syntax.seq b37 b44)) Δ0 (Typed.pass T3 T4 (s2 bs)) (at49 bs) (Repeat.t-repeat 𝓤 H A W E 𝓣 n32 (Plain'.uint-lawful 𝓤 H A
+              W Syntax.w32) (Copies.cRf (Referent.fInt Syntax.w32) .copy 𝓤 H A W) (Plain'.uint-makes 𝓤 H A W Syntax.w32) 112 (on T3 l1) 4 (Scalar.oInt Syntax.w32 0) (λ m. 0) (Reads'.room-gone 𝓤 H A y0) tt
+              Path'.refl λ m wa. (Path'.refl, Dec'.lit< tt)) d49
 
-          d51 : Typed.Typed 𝓤 H A 𝓣 E G2 b47 Δ0 (at51 bs)
-          d51 = Typed.g-pre 𝓤 H A W 𝓣 E G2 G3 b47 Δ0 (Typed.pass T2 T3 (s1 bs)) (at50 bs) (AtSlots.g-as-by 𝓤 H A W E (λ ρ. Unit) G2 3 (Rows.arrF (Referent.rtF (Referent.fInt Syntax.w32)) 112 0) (λ x.
-              x) (Own.told-none 𝓤 H A (G2 .slots)) λ ρ told. Repeat.whole-arr 𝓤 H A W (Referent.rtF (Referent.fInt Syntax.w32)) 112 tt ρ) d50
+          d51 : Typed.Typed 𝓤 H A 𝓣 E (on T2 l1) b47 Δ0 (at51 bs)
+          d51 = Typed.g-pre 𝓤 H A W 𝓣 E (on T2 l1) (on T3 l1) b47 Δ0 (Typed.pass T2 T3 (s1 bs)) (at50 bs) (AtSlots.g-as-by 𝓤 H A W E (λ ρ. Unit) (on T2 l1) 3 (Rows.arrF n32 112 0) (λ x. x)
+              (Own.told-none 𝓤 H A ((on T2 l1) .slots)) λ ρ told. Repeat.whole-arr 𝓤 H A W n32 112 tt ρ) d50
 
-          d52 : Typed.Typed 𝓤 H A 𝓣 E G0 b48 Δ0 (at52 bs)
-          d52 = Typed.s-seq 𝓤 H A W 𝓣 E G0 G2 b0 b47 Δ0 (Typed.pass T0 T2 (s0 bs)) (at51 bs) (Repeat.t-repeat 𝓤 H A W E 𝓣 (Referent.rtF (Referent.fInt Syntax.w32)) (Plain'.uint-lawful 𝓤 H A W
-              Syntax.w32) (Copies.cRf (Referent.fInt Syntax.w32) .copy 𝓤 H A W) (Plain'.uint-makes 𝓤 H A W Syntax.w32) 112 G0 3 (Scalar.oInt Syntax.w32 0) (λ m. 0) (Reads'.room-gone 𝓤 H A (Syntax.tyArray
-              (Syntax.tyInt Syntax.w32) 112)) tt Path'.refl λ m wa. (Path'.refl, Dec'.lit< tt)) d51
+          d52 : Typed.Typed 𝓤 H A 𝓣 E (on T0 l1) (Syntax.seq b0 b47) Δ0 (at52 bs)
+          d52 = Typed.s-seq 𝓤 H A W 𝓣 E (on T0 l1) (on T2 l1) b0 b47 Δ0 (Typed.pass T0 T2 (s0 bs)) (at51 bs) (Repeat.t-repeat 𝓤 H A W E 𝓣 n32 (Plain'.uint-lawful 𝓤 H A W Syntax.w32) (Copies.cRf
+              (Referent.fInt Syntax.w32) .copy 𝓤 H A W) (Plain'.uint-makes 𝓤 H A W Syntax.w32) 112 (on T0 l1) 3 (Scalar.oInt Syntax.w32 0) (λ m. 0) (Reads'.room-gone 𝓤 H A y0) tt Path'.refl λ m wa.
+              (Path'.refl, Dec'.lit< tt)) d51
 
-          pub typed : Typed.Typed 𝓤 H A 𝓣 E (Function.Γin 1 ps r xs m κs qs) b48 (Function.Δret 1 ps r xs m κs qs) (Φ bs)
+          pub typed : Typed.Typed 𝓤 H A 𝓣 E (Function.Γin 1 ps r xs m κs qs) (Syntax.seq b0 b47) (Function.Δret 1 ps r xs m κs qs) (Φ bs)
           typed = d52
 
       module _ (κs : Lifetimes.Lfts 1) where
@@ -1515,23 +1174,11 @@ module _ (claims· : Claims) where
         pub fits : Ranges κs args
         pub pre : Pre· κs (dens κs args)
 
-      abbrev pub m1 : (κs : Lifetimes.Lfts 1) → (args : Args κs) → (blocks : List.List Nat.ℕ) → Typed.Mo T2
-      m1 = λ κs args blocks. s0 blocks (m0 κs args blocks)
-
-      abbrev pub m2 : (κs : Lifetimes.Lfts 1) → (args : Args κs) → (blocks : List.List Nat.ℕ) → Typed.Mo T3
-      m2 = λ κs args blocks. s1 blocks (m1 κs args blocks)
-
-      abbrev pub m3 : (κs : Lifetimes.Lfts 1) → (args : Args κs) → (blocks : List.List Nat.ℕ) → Typed.Mo T4
-      m3 = λ κs args blocks. s2 blocks (m2 κs args blocks)
-
-      abbrev pub m4 : (κs : Lifetimes.Lfts 1) → (args : Args κs) → (blocks : List.List Nat.ℕ) → Typed.Mo T5
-      m4 = λ κs args blocks. s3 blocks (m3 κs args blocks)
-
       abbrev pub m5 : (κs : Lifetimes.Lfts 1) → (args : Args κs) → (blocks : List.List Nat.ℕ) → Typed.Mo T6
-      m5 = λ κs args blocks. s4 blocks (m4 κs args blocks)
+      m5 = λ κs args blocks. s4 blocks (s3 blocks (s2 blocks (s1 blocks (s0 blocks (m0 κs args blocks)))))
 
       abbrev W1 : (κs : Lifetimes.Lfts 1) → (args : Args κs) → (blocks : List.List Nat.ℕ) → Typed.Want O1
-      W1 = λ κs args blocks. Typed.wantNext T7 O0 (at46 blocks (W0 κs args blocks)) (W0 κs args blocks)
+      W1 = λ κs args blocks. Typed.wantNext T6 O0 (at46 blocks (W0 κs args blocks)) (W0 κs args blocks)
 
       abbrev W2 : (κs : Lifetimes.Lfts 1) → (args : Args κs) → (blocks : List.List Nat.ℕ) → Typed.Want O2
       W2 = λ κs args blocks. Typed.inBlock O1 (W1 κs args blocks)
@@ -1542,37 +1189,34 @@ module _ (claims· : Claims) where
           (c .blocks)) .now) (Row.get 3 (T6 .locals) (m5 (c .κs) (c .args) (c .blocks))) (Row.get 4 (T6 .locals) (m5 (c .κs) (c .args) (c .blocks))) (Row.get 5 (T6 .locals) (m5 (c .κs) (c .args) (c
           .blocks)))
 
-      abbrev pub m6 : (before : Start) → (rs : List.List (Element.type .Denot)) → (sums : Rows.arrF (Referent.rtF (Referent.fInt Syntax.w32)) 112 0 .Mod) → (ns : Rows.arrF (Referent.rtF (Referent.fInt
-          Syntax.w32)) 112 0 .Mod) → (i : Rows'.sc-here (Row.sInt Syntax.w64) .Mod) → Typed.Mo T6
-      m6 = λ before rs sums ns i. Row.set 5 (5, Rows'.sc-here (Row.sInt Syntax.w64)) i (Row.setRow 4 (4, Rows.arrF (Referent.rtF (Referent.fInt Syntax.w32)) 112 0) (Row.setRow 3
-          (3, Rows.arrF (Referent.rtF (Referent.fInt Syntax.w32)) 112 0) (Row.setRow 1 (1, Mut.mslice (Element.type) (Syntax.tyRef (Syntax.named 0) Syntax.mut Element.behind) 0) (T6 .locals)))) (Row.set 4
-          (4, Rows.arrF (Referent.rtF (Referent.fInt Syntax.w32)) 112 0) ns (Row.setRow 3 (3, Rows.arrF (Referent.rtF (Referent.fInt Syntax.w32)) 112 0) (Row.setRow 1
-          (1, Mut.mslice (Element.type) (Syntax.tyRef (Syntax.named 0) Syntax.mut Element.behind) 0) (T6 .locals))) (Row.set 3 (3, Rows.arrF (Referent.rtF (Referent.fInt Syntax.w32)) 112 0) sums
-          (Row.setRow 1 (1, Mut.mslice (Element.type) (Syntax.tyRef (Syntax.named 0) Syntax.mut Element.behind) 0) (T6 .locals)) (Row.set 1
-          (1, Mut.mslice (Element.type) (Syntax.tyRef (Syntax.named 0) Syntax.mut Element.behind) 0) record
+      abbrev pub m6 : (before : Start) → (rs : List.List (Element.type .Denot)) → (sums : Rows.arrF n32 112 0 .Mod) → (ns : Rows.arrF n32 112 0 .Mod) → (i : Rows'.sc-here (Row.sInt Syntax.w64) .Mod) →
+          Typed.Mo T6
+      m6 = λ before rs sums ns i. Row.set 5 (5, Rows'.sc-here (Row.sInt Syntax.w64)) i (Row.setRow 4 (4, Rows.arrF n32 112 0) (Row.setRow 3 (3, Rows.arrF n32 112 0) (Row.setRow 1
+          (1, Mut.mslice (Element.type) y1 0) (T6 .locals)))) (Row.set 4 (4, Rows.arrF n32 112 0) ns (Row.setRow 3 (3, Rows.arrF n32 112 0) (Row.setRow 1 (1, Mut.mslice (Element.type) y1 0) (T6 .locals)))
+          (Row.set 3 (3, Rows.arrF n32 112 0) sums (Row.setRow 1 (1, Mut.mslice (Element.type) y1 0) (T6 .locals)) (Row.set 1 (1, Mut.mslice (Element.type) y1 0) record
           { ptr = Row.get 1 (T6 .locals) (m5 (before .κs) (before .args) (before .blocks)) .ptr; name = Row.get 1 (T6 .locals) (m5 (before .κs) (before .args) (before .blocks)) .name; now = rs } (T6
           .locals) (m5 (before .κs) (before .args) (before .blocks)))))
 
-      abbrev W3 : (before : Start) → (rs : List.List (Element.type .Denot)) → (sums : Rows.arrF (Referent.rtF (Referent.fInt Syntax.w32)) 112 0 .Mod) → (ns : Rows.arrF (Referent.rtF (Referent.fInt
-          Syntax.w32)) 112 0 .Mod) → (i : Rows'.sc-here (Row.sInt Syntax.w64) .Mod) → Typed.Want O3
+      abbrev W3 : (before : Start) → (rs : List.List (Element.type .Denot)) → (sums : Rows.arrF n32 112 0 .Mod) → (ns : Rows.arrF n32 112 0 .Mod) → (i : Rows'.sc-here (Row.sInt Syntax.w64) .Mod) →
+          Typed.Want O3
       W3 = λ before rs sums ns i. Typed.inLoop T6 O2 (Typed.Round T6 O2 put0 (λ u vs. Inv·0 (Row.get 1 (T6 .locals) u .now) (Row.get 2 (T6 .locals) u) (Row.get 3 (T6 .locals) u) (Row.get 4 (T6
           .locals) u) (Row.get 5 (T6 .locals) u) (vs .0) (vs .1) (vs .2) (vs .3)) (λ u vs. μ·0 (Row.get 1 (T6 .locals) u .now) (Row.get 2 (T6 .locals) u) (Row.get 3 (T6 .locals) u) (Row.get 4 (T6 .locals)
           u) (Row.get 5 (T6 .locals) u) (vs .0) (vs .1) (vs .2) (vs .3)) (at33 (before .blocks)) (m5 (before .κs) (before .args) (before .blocks)) (rs, sums, ns, i)) (W2 (before .κs) (before .args)
           (before .blocks))
 
-      abbrev pub m7 : (before : Start) → (rs : List.List (Element.type .Denot)) → (sums : Rows.arrF (Referent.rtF (Referent.fInt Syntax.w32)) 112 0 .Mod) → (ns : Rows.arrF (Referent.rtF (Referent.fInt
-          Syntax.w32)) 112 0 .Mod) → (i : Rows'.sc-here (Row.sInt Syntax.w64) .Mod) → Typed.Mo T8
+      abbrev pub m7 : (before : Start) → (rs : List.List (Element.type .Denot)) → (sums : Rows.arrF n32 112 0 .Mod) → (ns : Rows.arrF n32 112 0 .Mod) → (i : Rows'.sc-here (Row.sInt Syntax.w64) .Mod) →
+          Typed.Mo T8
       m7 = λ before rs sums ns i. s5 (before .blocks) .next (m6 before rs sums ns i)
 
-      abbrev W4 : (before : Start) → (rs : List.List (Element.type .Denot)) → (sums : Rows.arrF (Referent.rtF (Referent.fInt Syntax.w32)) 112 0 .Mod) → (ns : Rows.arrF (Referent.rtF (Referent.fInt
-          Syntax.w32)) 112 0 .Mod) → (i : Rows'.sc-here (Row.sInt Syntax.w64) .Mod) → Typed.Want O4
-      W4 = λ before rs sums ns i. Typed.wantNext T9 O3 (at31 (before .blocks) (W3 before rs sums ns i)) (W3 before rs sums ns i)
+      abbrev W4 : (before : Start) → (rs : List.List (Element.type .Denot)) → (sums : Rows.arrF n32 112 0 .Mod) → (ns : Rows.arrF n32 112 0 .Mod) → (i : Rows'.sc-here (Row.sInt Syntax.w64) .Mod) →
+          Typed.Want O4
+      W4 = λ before rs sums ns i. Typed.wantNext T6 O3 (at30 (before .blocks) (W3 before rs sums ns i)) (W3 before rs sums ns i)
 
       module _ (before· : Start) where
         pub record At-loop·own : Type 0 where
           pub rs : List.List (Element.type .Denot)
-          pub sums : Rows.arrF (Referent.rtF (Referent.fInt Syntax.w32)) 112 0 .Mod
-          pub ns : Rows.arrF (Referent.rtF (Referent.fInt Syntax.w32)) 112 0 .Mod
+          pub sums : Rows.arrF n32 112 0 .Mod
+          pub ns : Rows.arrF n32 112 0 .Mod
           pub i : Rows'.sc-here (Row.sInt Syntax.w64) .Mod
           pub inv : Inv·0 (Row.get 1 (T6 .locals) (m5 (before· .κs) (before· .args) (before· .blocks)) .now) (Row.get 2 (T6 .locals) (m5 (before· .κs) (before· .args) (before· .blocks))) (Row.get 3
               (T6 .locals) (m5 (before· .κs) (before· .args) (before· .blocks))) (Row.get 4 (T6 .locals) (m5 (before· .κs) (before· .args) (before· .blocks))) (Row.get 5 (T6 .locals) (m5 (before· .κs)
@@ -1590,7 +1234,7 @@ module _ (claims· : Claims) where
         pub before : At-loop
         pub loop-test : In-loop·own before
 
-      abbrev pub m8 : (before : At-loop) → Typed.Mo T10
+      abbrev pub m8 : (before : At-loop) → Typed.Mo T6
       m8 = λ before. s6 (before .before .blocks) (m7 (before .before) (before .loop .rs) (before .loop .sums) (before .loop .ns) (before .loop .i))
 
       module _ (before· : At-loop) where
@@ -1601,14 +1245,11 @@ module _ (claims· : Claims) where
         pub before : At-loop
         pub loop-test : After-loop·own before
 
-      abbrev pub m9 : (before : At-loop) → Typed.Mo T11
+      abbrev pub m9 : (before : At-loop) → Typed.Mo T6
       m9 = λ before. s7 (before .before .blocks) (m7 (before .before) (before .loop .rs) (before .loop .sums) (before .loop .ns) (before .loop .i))
 
-      abbrev pub m10 : (before : In-loop) → (given : s9 (before .before .before .blocks) .gives (m8 (before .before))) → Typed.Mo T13
-      m10 = λ before given. s9 (before .before .before .blocks) .next (m8 (before .before)) given
-
       abbrev pub m11 : (before : In-loop) → (given : s9 (before .before .before .blocks) .gives (m8 (before .before))) → Typed.Mo T14
-      m11 = λ before given. s10 (before .before .before .blocks) .next (m10 before given)
+      m11 = λ before given. s10 (before .before .before .blocks) .next (s9 (before .before .before .blocks) .next (m8 (before .before)) given)
 
       module _ (before· : In-loop) where
         pub record After-fetch-arg·own : Type 0 where
@@ -1627,11 +1268,8 @@ module _ (claims· : Claims) where
       abbrev pub Need-add-fetch : Type 0
       Need-add-fetch = (c : After-fetch-arg) → s12 (c .before .before .before .blocks) .asks (m12 (c .before) (c .fetch-arg .given))
 
-      abbrev pub m13 : (before : In-loop) → (given : s9 (before .before .before .blocks) .gives (m8 (before .before))) → Typed.Mo T16
-      m13 = λ before given. s12 (before .before .before .blocks) .next (m12 before given)
-
       abbrev pub m14 : (before : In-loop) → (given : s9 (before .before .before .blocks) .gives (m8 (before .before))) → Typed.Mo T17
-      m14 = λ before given. s13 (before .before .before .blocks) (m13 before given)
+      m14 = λ before given. s13 (before .before .before .blocks) (s12 (before .before .before .blocks) .next (m12 before given))
 
       abbrev pub Need-fetch-requires : Type 0
       Need-fetch-requires = (c : After-fetch-arg) → s14 (c .before .before .before .blocks) .asks (m14 (c .before) (c .fetch-arg .given))
@@ -1641,16 +1279,18 @@ module _ (claims· : Claims) where
 
       module _ (before· : After-fetch-arg) where
         abbrev pub After-fetch·own : Type 0
-        After-fetch·own = Called.Called ps·0 r·0 (claims· .1) T17 (record { pos = 9; ty = Syntax.tyRef Syntax.erased Syntax.mut Element.behind; ref = λ x. x }, (Num.vAt 11 λ x. x, tt)) (m14 (before·
-            .before) (before· .fetch-arg .given))
+        After-fetch·own = Called.Called ps·0 r·0 (claims· .1) T17 (record { pos = 9; ty = y2; ref = λ x. x }, (Num.vAt 11 λ x. x, tt)) (m14 (before· .before) (before· .fetch-arg .given))
 
       pub record After-fetch : Type 0 where
         pub before : After-fetch-arg
         pub fetch : After-fetch·own before
 
+      abbrev pub After-fetch·start : After-fetch → Start
+      After-fetch·start = λ c. c .before .before .before .before
+
       abbrev pub After-fetch·gave : (c : After-fetch) → s14 (c .before .before .before .before .blocks) .gives (m14 (c .before .before) (c .before .fetch-arg .given))
-      After-fetch·gave = λ c. Called.given ps·0 r·0 (claims· .1) T17 (record { pos = 9; ty = Syntax.tyRef Syntax.erased Syntax.mut Element.behind; ref = λ x. x }, (Num.vAt 11 λ x. x, tt)) (m14 (c
-          .before .before) (c .before .fetch-arg .given)) (c .fetch)
+      After-fetch·gave = λ c. Called.given ps·0 r·0 (claims· .1) T17 (record { pos = 9; ty = y2; ref = λ x. x }, (Num.vAt 11 λ x. x, tt)) (m14 (c .before .before) (c .before .fetch-arg .given)) (c
+          .fetch)
 
       abbrev pub m16 : (before : After-fetch-arg) → (given : s14 (before .before .before .before .blocks) .gives (m14 (before .before) (before .fetch-arg .given))) → Typed.Mo T19
       m16 = λ before given. s15 (before .before .before .before .blocks) (m15 before given)
@@ -1669,64 +1309,35 @@ module _ (claims· : Claims) where
       abbrev pub Need-mul-sums : Type 0
       Need-mul-sums = (c : After-rs) → s19 (c .before .before .before .before .before .blocks) .asks (m17 (c .before) (c .rs .given))
 
-      abbrev pub m18 : (before : After-fetch) → (given : s17 (before .before .before .before .before .blocks) .gives (m16 (before .before) (After-fetch·gave before))) → Typed.Mo T23
-      m18 = λ before given. s19 (before .before .before .before .before .blocks) .next (m17 before given)
-
-      abbrev pub m19 : (before : After-fetch) → (given : s17 (before .before .before .before .before .blocks) .gives (m16 (before .before) (After-fetch·gave before))) → Typed.Mo T24
-      m19 = λ before given. s20 (before .before .before .before .before .blocks) (m18 before given)
-
-      abbrev pub m20 : (before : After-fetch) → (given : s17 (before .before .before .before .before .blocks) .gives (m16 (before .before) (After-fetch·gave before))) → Typed.Mo T25
-      m20 = λ before given. s21 (before .before .before .before .before .blocks) .next (m19 before given)
-
       abbrev pub m21 : (before : After-fetch) → (given : s17 (before .before .before .before .before .blocks) .gives (m16 (before .before) (After-fetch·gave before))) → Typed.Mo T26
-      m21 = λ before given. s22 (before .before .before .before .before .blocks) (m20 before given)
+      m21 = λ before given. s22 (before .before .before .before .before .blocks) (s21 (before .before .before .before .before .blocks) .next (s20 (before .before .before .before .before .blocks) (s19
+          (before .before .before .before .before .blocks) .next (m17 before given))))
 
       abbrev pub Need-array-write-sums : Type 0
       Need-array-write-sums = (c : After-rs) → Asked.InArray T26 (λ u. u .1 .1 .1 .1 .1 .0) 112 (m21 (c .before) (c .rs .given))
 
-      abbrev pub m22 : (before : After-fetch) → (given : s17 (before .before .before .before .before .blocks) .gives (m16 (before .before) (After-fetch·gave before))) → Typed.Mo T27
-      m22 = λ before given. s23 (before .before .before .before .before .blocks) .next (m21 before given)
-
-      abbrev pub m23 : (before : After-fetch) → (given : s17 (before .before .before .before .before .blocks) .gives (m16 (before .before) (After-fetch·gave before))) → Typed.Mo T28
-      m23 = λ before given. s24 (before .before .before .before .before .blocks) (m22 before given)
-
-      abbrev pub m24 : (before : After-fetch) → (given : s17 (before .before .before .before .before .blocks) .gives (m16 (before .before) (After-fetch·gave before))) → Typed.Mo T29
-      m24 = λ before given. s25 (before .before .before .before .before .blocks) (m23 before given)
+      abbrev pub m24 : (before : After-fetch) → (given : s17 (before .before .before .before .before .blocks) .gives (m16 (before .before) (After-fetch·gave before))) → Typed.Mo T21
+      m24 = λ before given. s25 (before .before .before .before .before .blocks) (s24 (before .before .before .before .before .blocks) (s23 (before .before .before .before .before .blocks) .next (m21
+          before given)))
 
       abbrev pub Need-mul-ns : Type 0
       Need-mul-ns = (c : After-rs) → s26 (c .before .before .before .before .before .blocks) .asks (m24 (c .before) (c .rs .given))
 
-      abbrev pub m25 : (before : After-fetch) → (given : s17 (before .before .before .before .before .blocks) .gives (m16 (before .before) (After-fetch·gave before))) → Typed.Mo T30
-      m25 = λ before given. s26 (before .before .before .before .before .blocks) .next (m24 before given)
-
-      abbrev pub m26 : (before : After-fetch) → (given : s17 (before .before .before .before .before .blocks) .gives (m16 (before .before) (After-fetch·gave before))) → Typed.Mo T31
-      m26 = λ before given. s27 (before .before .before .before .before .blocks) (m25 before given)
-
-      abbrev pub m27 : (before : After-fetch) → (given : s17 (before .before .before .before .before .blocks) .gives (m16 (before .before) (After-fetch·gave before))) → Typed.Mo T32
-      m27 = λ before given. s28 (before .before .before .before .before .blocks) .next (m26 before given)
-
       abbrev pub m28 : (before : After-fetch) → (given : s17 (before .before .before .before .before .blocks) .gives (m16 (before .before) (After-fetch·gave before))) → Typed.Mo T33
-      m28 = λ before given. s29 (before .before .before .before .before .blocks) (m27 before given)
+      m28 = λ before given. s29 (before .before .before .before .before .blocks) (s28 (before .before .before .before .before .blocks) .next (s27 (before .before .before .before .before .blocks) (s26
+          (before .before .before .before .before .blocks) .next (m24 before given))))
 
       abbrev pub Need-array-write-ns : Type 0
       Need-array-write-ns = (c : After-rs) → Asked.InArray T33 (λ u. u .1 .1 .1 .1 .1 .0) 112 (m28 (c .before) (c .rs .given))
 
-      abbrev pub m29 : (before : After-fetch) → (given : s17 (before .before .before .before .before .blocks) .gives (m16 (before .before) (After-fetch·gave before))) → Typed.Mo T34
-      m29 = λ before given. s30 (before .before .before .before .before .blocks) .next (m28 before given)
-
-      abbrev pub m30 : (before : After-fetch) → (given : s17 (before .before .before .before .before .blocks) .gives (m16 (before .before) (After-fetch·gave before))) → Typed.Mo T35
-      m30 = λ before given. s31 (before .before .before .before .before .blocks) (m29 before given)
-
-      abbrev pub m31 : (before : After-fetch) → (given : s17 (before .before .before .before .before .blocks) .gives (m16 (before .before) (After-fetch·gave before))) → Typed.Mo T36
-      m31 = λ before given. s32 (before .before .before .before .before .blocks) (m30 before given)
-
-      abbrev pub m32 : (before : After-fetch) → (given : s17 (before .before .before .before .before .blocks) .gives (m16 (before .before) (After-fetch·gave before))) → Typed.Mo T37
-      m32 = λ before given. s33 (before .before .before .before .before .blocks) (m31 before given)
+      abbrev pub m32 : (before : After-fetch) → (given : s17 (before .before .before .before .before .blocks) .gives (m16 (before .before) (After-fetch·gave before))) → Typed.Mo T6
+      m32 = λ before given. s33 (before .before .before .before .before .blocks) (s32 (before .before .before .before .before .blocks) (s31 (before .before .before .before .before .blocks) (s30
+          (before .before .before .before .before .blocks) .next (m28 before given))))
 
       abbrev pub Need-add-i : Type 0
       Need-add-i = (c : After-rs) → s34 (c .before .before .before .before .before .blocks) .asks (m32 (c .before) (c .rs .given))
 
-      abbrev pub m33 : (before : After-fetch) → (given : s17 (before .before .before .before .before .blocks) .gives (m16 (before .before) (After-fetch·gave before))) → Typed.Mo T38
+      abbrev pub m33 : (before : After-fetch) → (given : s17 (before .before .before .before .before .blocks) .gives (m16 (before .before) (After-fetch·gave before))) → Typed.Mo T6
       m33 = λ before given. s34 (before .before .before .before .before .blocks) .next (m32 before given)
 
       abbrev pub Need-loop-less : Type 0
@@ -1752,38 +1363,12 @@ module _ (claims· : Claims) where
           .locals) (m33 (c .before) (c .rs .given)) .now) (Row.get 3 (T6 .locals) (m33 (c .before) (c .rs .given))) (Row.get 4 (T6 .locals) (m33 (c .before) (c .rs .given))) (Row.get 5 (T6 .locals) (m33
           (c .before) (c .rs .given)))
 
-      abbrev pub m34 : (before : At-loop) → Typed.Mo T39
-      m34 = λ before. s35 (before .before .blocks) (m9 before)
-
-      abbrev pub m35 : (before : At-loop) → Typed.Mo T40
-      m35 = λ before. s36 (before .before .blocks) (m34 before)
-
-      abbrev pub m36 : (before : At-loop) → Typed.Mo T41
-      m36 = λ before. s37 (before .before .blocks) (m35 before)
-
-      abbrev pub m37 : (before : At-loop) → Typed.Mo T42
-      m37 = λ before. s38 (before .before .blocks) (m36 before)
-
-      abbrev pub m38 : (before : At-loop) → Typed.Mo T43
-      m38 = λ before. s39 (before .before .blocks) (m37 before)
-
-      abbrev pub m39 : (before : At-loop) → Typed.Mo T44
-      m39 = λ before. s40 (before .before .blocks) (m38 before)
-
-      abbrev pub m40 : (before : At-loop) → Typed.Mo T45
-      m40 = λ before. s41 (before .before .blocks) (m39 before)
-
-      abbrev pub m41 : (before : At-loop) → Typed.Mo T46
-      m41 = λ before. s42 (before .before .blocks) (m40 before)
-
-      abbrev pub m42 : (before : At-loop) → Typed.Mo T47
-      m42 = λ before. s43 (before .before .blocks) (m41 before)
-
-      abbrev pub m43 : (before : At-loop) → Typed.Mo T48
-      m43 = λ before. s44 (before .before .blocks) (m42 before)
+      abbrev pub m43 : (before : At-loop) → Typed.Mo T1
+      m43 = λ before. s44 (before .before .blocks) (s43 (before .before .blocks) (s42 (before .before .blocks) (s41 (before .before .blocks) (s40 (before .before .blocks) (s39 (before .before .blocks)
+          (s38 (before .before .blocks) (s37 (before .before .blocks) (s36 (before .before .blocks) (s35 (before .before .blocks) (m9 before))))))))))
 
       abbrev pub Need-same-length : Type 0
-      Need-same-length = (c : After-loop) → MutSlice.SameLen (Row.get 1 (T48 .locals) (m43 (c .before))) (dens (c .before .before .κs) (c .before .before .args) .0)
+      Need-same-length = (c : After-loop) → MutSlice.SameLen (Row.get 1 (T1 .locals) (m43 (c .before))) (dens (c .before .before .κs) (c .before .before .args) .0)
 
       abbrev pub Need-returns : Type 0
       Need-returns = (c : After-loop) → Post· (c .before .before .κs) (dens (c .before .before .κs) (c .before .before .args)) (Function.resV r (c .before .before .κs) (m43 (c .before) .0))
@@ -1796,58 +1381,48 @@ module _ (claims· : Claims) where
         lay5 : (c : After-loop) → at46 (c .before .before .blocks) (W0 (c .before .before .κs) (c .before .before .args) (c .before .before .blocks)) (m9 (c .before))
         lay5 = λ c. (
           (
-            MutSlice.fix-len (Row.get 1 (T48 .locals) (m43 (c .before)) .ptr) (Row.get 1 (T48 .locals) (m43 (c .before)) .name) (Row.get 1 (T48 .locals) (m43 (c .before)) .now) (dens (c .before .before
-                .κs) (c .before .before .args) .0 .now) (same-length record { before = c .before; loop-test = c .loop-test }),
+            MutSlice.fix-len (Row.get 1 (T1 .locals) (m43 (c .before)) .ptr) (Row.get 1 (T1 .locals) (m43 (c .before)) .name) (Row.get 1 (T1 .locals) (m43 (c .before)) .now) (dens (c .before .before
+                .κs) (c .before .before .args) .0 .now) (same-length c),
             (tt, tt),
           ),
-          returns record { before = c .before; loop-test = c .loop-test },
+          returns c,
         )
 
         lay4 : (c : After-fetch) → at24 (c .before .before .before .before .blocks) (W3 (c .before .before .before .before) (c .before .before .before .loop .rs) (c .before .before .before .loop
             .sums) (c .before .before .before .loop .ns) (c .before .before .before .loop .i)) (m15 (c .before) (After-fetch·gave c))
         lay4 = λ c. (
           Path'.refl,
-          λ g. (
-            mul-sums record { before = record { before = c .before; fetch = c .fetch }; rs = record { given = g } },
+          λ g. let c1 : After-rs = record { before = c; rs = record { given = g } } in (
+            mul-sums c1,
             (
               tt,
               (
-                ((Path'.refl, Path'.refl), array-write-sums record { before = record { before = c .before; fetch = c .fetch }; rs = record { given = g } }),
+                ((Path'.refl, Path'.refl), array-write-sums c1),
                 (
-                  mul-ns record { before = record { before = c .before; fetch = c .fetch }; rs = record { given = g } },
+                  mul-ns c1,
                   (
                     tt,
                     (
-                      ((Path'.refl, Path'.refl), array-write-ns record { before = record { before = c .before; fetch = c .fetch }; rs = record { given = g } }),
+                      ((Path'.refl, Path'.refl), array-write-ns c1),
                       (
-                        add-i record { before = record { before = c .before; fetch = c .fetch }; rs = record { given = g } },
+                        add-i c1,
                         (
-                          μ·0 (Row.get 1 (T6 .locals) (m5 (c .before .before .before .before .κs) (c .before .before .before .before .args) (c .before .before .before .before .blocks)) .now) (Row.get 2 (T6 .locals)
-                              (m5 (c .before .before .before .before .κs) (c .before .before .before .before .args) (c .before .before .before .before .blocks))) (Row.get 3 (T6 .locals) (m5 (c .before .before .before
-                              .before .κs) (c .before .before .before .before .args) (c .before .before .before .before .blocks))) (Row.get 4 (T6 .locals) (m5 (c .before .before .before .before .κs) (c .before .before
-                              .before .before .args) (c .before .before .before .before .blocks))) (Row.get 5 (T6 .locals) (m5 (c .before .before .before .before .κs) (c .before .before .before .before .args) (c .before
-                              .before .before .before .blocks))) (Row.get 1 (T6 .locals) (m33 record { before = c .before; fetch = c .fetch } g) .now) (Row.get 3 (T6 .locals) (m33 record
-                              { before = c .before; fetch = c .fetch } g)) (Row.get 4 (T6 .locals) (m33 record { before = c .before; fetch = c .fetch } g)) (Row.get 5 (T6 .locals) (m33 record
-                              { before = c .before; fetch = c .fetch } g)),
-                          loop-less record { before = record { before = c .before; fetch = c .fetch }; rs = record { given = g } },
+                          μ·0 (Row.get 1 (T6 .locals) (m5 (After-fetch·start c .κs) (After-fetch·start c .args) (c .before .before .before .before .blocks)) .now) (Row.get 2 (T6 .locals) (m5 (After-fetch·start c .κs)
+                              (After-fetch·start c .args) (c .before .before .before .before .blocks))) (Row.get 3 (T6 .locals) (m5 (After-fetch·start c .κs) (After-fetch·start c .args) (c .before .before .before .before
+                              .blocks))) (Row.get 4 (T6 .locals) (m5 (After-fetch·start c .κs) (After-fetch·start c .args) (c .before .before .before .before .blocks))) (Row.get 5 (T6 .locals) (m5 (After-fetch·start c .κs)
+                              (After-fetch·start c .args) (c .before .before .before .before .blocks))) (Row.get 1 (T6 .locals) (m33 c g) .now) (Row.get 3 (T6 .locals) (m33 c g)) (Row.get 4 (T6 .locals) (m33 c g)) (Row.get
+                              5 (T6 .locals) (m33 c g)),
+                          loop-less c1,
                           (
-                            (
-                              Row.get 1 (T6 .locals) (m33 record { before = c .before; fetch = c .fetch } g) .now,
-                              Row.get 3 (T6 .locals) (m33 record { before = c .before; fetch = c .fetch } g),
-                              Row.get 4 (T6 .locals)
-                                  (m33 record { before = c .before; fetch = c .fetch } g),
-                              Row.get 5 (T6 .locals) (m33 record { before = c .before; fetch = c .fetch } g),
-                            ),
-                            Path'.refl {a = m33 record
-                                { before = c .before; fetch = c .fetch } g},
-                            loop-again record { before = record { before = c .before; fetch = c .fetch }; rs = record { given = g } },
-                            Path'.refl {a = μ·0 (Row.get 1 (T6
-                                .locals) (m5 (c .before .before .before .before .κs) (c .before .before .before .before .args) (c .before .before .before .before .blocks)) .now) (Row.get 2 (T6 .locals) (m5 (c .before .before
-                                .before .before .κs) (c .before .before .before .before .args) (c .before .before .before .before .blocks))) (Row.get 3 (T6 .locals) (m5 (c .before .before .before .before .κs) (c .before
-                                .before .before .before .args) (c .before .before .before .before .blocks))) (Row.get 4 (T6 .locals) (m5 (c .before .before .before .before .κs) (c .before .before .before .before .args) (c
-                                .before .before .before .before .blocks))) (Row.get 5 (T6 .locals) (m5 (c .before .before .before .before .κs) (c .before .before .before .before .args) (c .before .before .before .before
-                                .blocks))) (Row.get 1 (T6 .locals) (m33 record { before = c .before; fetch = c .fetch } g) .now) (Row.get 3 (T6 .locals) (m33 record { before = c .before; fetch = c .fetch } g)) (Row.get 4
-                                (T6 .locals) (m33 record { before = c .before; fetch = c .fetch } g)) (Row.get 5 (T6 .locals) (m33 record { before = c .before; fetch = c .fetch } g))},
+                            (Row.get 1 (T6 .locals) (m33 c g) .now, Row.get 3 (T6 .locals) (m33 c g), Row.get 4 (T6 .locals) (m33 c g), Row.get 5 (T6 .locals) (m33 c g)),
+                            Path'.refl {a = m33 c g},
+                            loop-again c1,
+                            Path'.refl
+                                {a = μ·0 (Row.get 1 (T6 .locals) (m5 (After-fetch·start c .κs) (After-fetch·start c .args) (c .before .before .before .before .blocks)) .now) (Row.get 2 (T6 .locals) (m5 (After-fetch·start c
+                                .κs) (After-fetch·start c .args) (c .before .before .before .before .blocks))) (Row.get 3 (T6 .locals) (m5 (After-fetch·start c .κs) (After-fetch·start c .args) (c .before .before .before
+                                .before .blocks))) (Row.get 4 (T6 .locals) (m5 (After-fetch·start c .κs) (After-fetch·start c .args) (c .before .before .before .before .blocks))) (Row.get 5 (T6 .locals) (m5
+                                (After-fetch·start c .κs) (After-fetch·start c .args) (c .before .before .before .before .blocks))) (Row.get 1 (T6 .locals) (m33 c g) .now) (Row.get 3 (T6 .locals) (m33 c g)) (Row.get 4 (T6
+                                .locals) (m33 c g)) (Row.get 5 (T6 .locals) (m33 c g))},
                           ),
                         ),
                       ),
@@ -1859,32 +1434,25 @@ module _ (claims· : Claims) where
           ),
         )
 
-        lay3 : (c : In-loop) → at31 (c .before .before .blocks) (W3 (c .before .before) (c .before .loop .rs) (c .before .loop .sums) (c .before .loop .ns) (c .before .loop .i)) (m8 (c .before))
-        lay3 = λ c. λ g. (
+        lay3 : (c : In-loop) → at30 (c .before .before .blocks) (W3 (c .before .before) (c .before .loop .rs) (c .before .loop .sums) (c .before .loop .ns) (c .before .loop .i)) (m8 (c .before))
+        lay3 = λ c. λ g. let c1 : After-fetch-arg = record { before = c; fetch-arg = record { given = g } } in (
           Path'.refl,
           (
-            mul-fetch record { before = record { before = c .before; loop-test = c .loop-test }; fetch-arg = record { given = g } },
+            mul-fetch c1,
             (
-              add-fetch record { before = record { before = c .before; loop-test = c .loop-test }; fetch-arg = record { given = g } },
-              (
-                fetch-requires record { before = record { before = c .before; loop-test = c .loop-test }; fetch-arg = record { given = g } },
-                λ g'. lay4 record {
-                  before = record { before = record { before = c .before; loop-test = c .loop-test }; fetch-arg = record { given = g } };
-                  fetch = Called.called ps·0 r·0 (claims· .1) T17
-                      (record { pos = 9; ty = Syntax.tyRef Syntax.erased Syntax.mut Element.behind; ref = λ x. x }, (Num.vAt 11 λ x. x, tt)) (m14 record { before = c .before; loop-test = c .loop-test } g) g';
-                },
-              ),
+              add-fetch c1,
+              (fetch-requires c1, λ g'. lay4 record { before = c1; fetch = Called.called ps·0 r·0 (claims· .1) T17 (record { pos = 9; ty = y2; ref = λ x. x }, (Num.vAt 11 λ x. x, tt)) (m14 c g) g' }),
             ),
           ),
         )
 
         lay2 : (c : After-loop) → at3 (c .before .before .blocks) (W4 (c .before .before) (c .before .loop .rs) (c .before .loop .sums) (c .before .loop .ns) (c .before .loop .i)) (m7 (c .before
             .before) (c .before .loop .rs) (c .before .loop .sums) (c .before .loop .ns) (c .before .loop .i))
-        lay2 = λ c. lay5 record { before = c .before; loop-test = c .loop-test }
+        lay2 = λ c. lay5 c
 
         lay1 : (c : In-loop) → at1 (c .before .before .blocks) (W4 (c .before .before) (c .before .loop .rs) (c .before .loop .sums) (c .before .loop .ns) (c .before .loop .i)) (m7 (c .before .before)
             (c .before .loop .rs) (c .before .loop .sums) (c .before .loop .ns) (c .before .loop .i))
-        lay1 = λ c. lay3 record { before = c .before; loop-test = c .loop-test }
+        lay1 = λ c. lay3 c
 
         pub laid : (c : Start) → at52 (c .blocks) (W0 (c .κs) (c .args) (c .blocks)) (m0 (c .κs) (c .args) (c .blocks))
         laid = λ c. (

@@ -1,4 +1,7 @@
 -- Written by tools/lend.py from Rattle's derivation of the twin of `block`; not edited by hand. Assumes nothing.
+use Rattle.bits.proofs.Values.{on}
+use Rattle.bits.proofs.Values.{u32, u64}
+use mathlib.Core.List.{_∷_, []}
 use Rattle.block.proofs.Element
 use Prim.Native.Nat
 use borrow.Author.Called
@@ -39,69 +42,61 @@ use prog.Wp
 use types.Kit
 
 abbrev pub y0 : Syntax.Ty
-y0 = Syntax.tyStruct (List._∷_ 38 (List._∷_ 91 (List._∷_ 93 List.[]))) (Syntax.tcons (Syntax.tyRef Syntax.erased Syntax.mut Element.behind) (Syntax.tcons (Syntax.tyInt Syntax.w64) Syntax.tnil))
+y0 = Syntax.tyRef (Syntax.named 0) Syntax.mut Element.behind
+
+abbrev pub y1 : Syntax.Ty
+y1 = Syntax.tyRef Syntax.erased Syntax.mut Element.behind
+
+abbrev pub y2 : Syntax.Ty
+y2 = Syntax.tyStruct (38 ∷ 91 ∷ 93 ∷ []) (Syntax.tcons y1 (Syntax.tcons u64 Syntax.tnil))
 
 abbrev pub ps : List.List (Kinds.PK 1)
-ps = List._∷_ (MutSlice.pMutS (Element.type) 0 tt) (List._∷_ (Num.pNum Syntax.w32) (List._∷_ (Num.pNum Syntax.w32) (List._∷_ Bool.pBool List.[])))
+ps = (MutSlice.pMutS (Element.type) 0 tt) ∷ (Num.pNum Syntax.w32) ∷ (Num.pNum Syntax.w32) ∷ Bool.pBool ∷ []
 
 abbrev pub r : Kinds.RK 1
 r = Unit'.rUnit
 
 abbrev pub xs : List.List Syntax.Ty
-xs = List._∷_ Syntax.tyBool (List._∷_ Syntax.tyUnit (List._∷_ (Syntax.tyRef Syntax.erased Syntax.mut Element.behind) (List._∷_ y0 List.[])))
+xs = Syntax.tyBool ∷ Syntax.tyUnit ∷ y1 ∷ y2 ∷ []
 
 abbrev pub m : Nat.ℕ
 m = 1
 
 abbrev pub ps·0 : List.List (Kinds.PK 1)
-ps·0 = List._∷_ (MutSlice.pMutS (Element.type) 0 tt) (List._∷_ (Num.pNum Syntax.w32) (List._∷_ (Num.pNum Syntax.w32) List.[]))
+ps·0 = (MutSlice.pMutS (Element.type) 0 tt) ∷ (Num.pNum Syntax.w32) ∷ (Num.pNum Syntax.w32) ∷ []
 
 abbrev pub r·0 : Kinds.RK 1
 r·0 = Unit'.rUnit
 
 abbrev pub hs : List.List Syntax.Home
-hs = List._∷_ Syntax.valueLocal (List._∷_ Syntax.valueLocal (List._∷_ Syntax.valueLocal (List._∷_ Syntax.valueLocal (List._∷_ Syntax.valueLocal (List._∷_ Syntax.valueLocal (List._∷_ Syntax.valueLocal
-    (List._∷_ Syntax.valueLocal (List._∷_ Syntax.valueLocal List.[]))))))))
+hs = Syntax.valueLocal ∷ Syntax.valueLocal ∷ Syntax.valueLocal ∷ Syntax.valueLocal ∷ Syntax.valueLocal ∷ Syntax.valueLocal ∷ Syntax.valueLocal ∷ Syntax.valueLocal ∷ Syntax.valueLocal ∷ []
 
 abbrev b0 : Syntax.Body
-b0 = Syntax.assign (Syntax.place 5 List.[]) (Syntax.rvOpd (Syntax.copy (Syntax.place 4 List.[])))
+b0 = Syntax.assign (Syntax.place 5 []) (Syntax.rvOpd (Syntax.copy (Syntax.place 4 [])))
 
 abbrev b1 : Syntax.Body
-b1 = Syntax.assign (Syntax.place 7 List.[]) (Syntax.addrOf (Syntax.place 1 (List._∷_ (Syntax.field 0) (List._∷_ (Syntax.deref (Element.held)) List.[]))))
+b1 = Syntax.assign (Syntax.place 7 []) (Syntax.addrOf (Syntax.place 1 ((Syntax.field 0) ∷ (Syntax.deref (Element.held)) ∷ [])))
 
 abbrev b2 : Syntax.Body
-b2 = Syntax.assign (Syntax.place 8 List.[]) (Syntax.aggregate (List._∷_ (Syntax.copy (Syntax.place 7 List.[])) (List._∷_ (Syntax.copy (Syntax.place 1 (List._∷_ (Syntax.field 1) List.[]))) List.[])))
+b2 = Syntax.assign (Syntax.place 8 []) (Syntax.aggregate ((Syntax.copy (Syntax.place 7 [])) ∷ (Syntax.copy (Syntax.place 1 ((Syntax.field 1) ∷ []))) ∷ []))
 
 abbrev b3 : Syntax.Body
-b3 = Syntax.call "block::records::restart_main" (List._∷_ (Syntax.copy (Syntax.place 8 List.[])) (List._∷_ (Syntax.copy (Syntax.place 2 List.[])) (List._∷_ (Syntax.copy (Syntax.place 3 List.[]))
-    List.[]))) (Syntax.place 6 List.[])
-
-abbrev b4 : Syntax.Body
-b4 = Syntax.seq b2 b3
+b3 = Syntax.call "block::records::restart_main" ((Syntax.copy (Syntax.place 8 [])) ∷ (Syntax.copy (Syntax.place 2 [])) ∷ (Syntax.copy (Syntax.place 3 [])) ∷ []) (Syntax.place 6 [])
 
 abbrev b5 : Syntax.Body
-b5 = Syntax.seq b1 b4
-
-abbrev b6 : Syntax.Body
-b6 = Syntax.skip
+b5 = Syntax.seq b1 (Syntax.seq b2 b3)
 
 abbrev b7 : Syntax.Body
-b7 = Syntax.cond (Syntax.copy (Syntax.place 5 List.[])) b5 b6
+b7 = Syntax.cond (Syntax.copy (Syntax.place 5 [])) b5 Syntax.skip
 
 abbrev b8 : Syntax.Body
-b8 = Syntax.assign (Syntax.place 0 List.[]) (Syntax.rvOpd Syntax.opdUnit)
+b8 = Syntax.assign (Syntax.place 0 []) (Syntax.rvOpd Syntax.opdUnit)
 
 abbrev b9 : Syntax.Body
 b9 = Syntax.return
 
-abbrev b10 : Syntax.Body
-b10 = Syntax.seq b8 b9
-
-abbrev b11 : Syntax.Body
-b11 = Syntax.seq b7 b10
-
 abbrev b12 : Syntax.Body
-b12 = Syntax.seq b0 b11
+b12 = Syntax.seq b0 (Syntax.seq b7 (Syntax.seq b8 b9))
 
 abbrev pub body : Syntax.Body
 body = b12
@@ -109,175 +104,140 @@ body = b12
 abbrev pub Claims : Type 1
 Claims = Kinds.In 1 ps·0 × Kinds.Out 1 ps·0 r·0
 
-abbrev pub e0 : Row.Entry
-e0 = (0, Rows.any-gone Syntax.tyUnit)
+abbrev pub v0 : Row.Row
+v0 = Rows.sc-here (Row.sInt Syntax.w32)
 
-abbrev pub e1 : Row.Entry
-e1 = (0, Rows.sc-here Row.sUnit)
+abbrev pub v1 : Row.Row
+v1 = Rows.any-gone Syntax.tyUnit
 
-abbrev pub e2 : Row.Entry
-e2 = (1, Mut.mslice (Element.type) (Syntax.tyRef (Syntax.named 0) Syntax.mut Element.behind) 0)
+abbrev pub v2 : Row.Row
+v2 = Rows.sc-here Row.sBool
 
-abbrev pub e3 : Row.Entry
-e3 = (1, Relend.mslice-owed (Element.type) (Syntax.tyRef (Syntax.named 0) Syntax.mut Element.behind) 0 1 Row.off)
+abbrev pub v3 : Row.Row
+v3 = Rows.any-gone Syntax.tyBool
 
-abbrev pub e4 : Row.Entry
-e4 = (2, Rows.any-gone (Syntax.tyInt Syntax.w32))
+abbrev pub v4 : Row.Row
+v4 = Rows.any-gone y1
 
-abbrev pub e5 : Row.Entry
-e5 = (2, Rows.sc-here (Row.sInt Syntax.w32))
+abbrev pub v5 : Row.Row
+v5 = Rows.any-gone y2
 
-abbrev pub e6 : Row.Entry
-e6 = (3, Rows.any-gone (Syntax.tyInt Syntax.w32))
+abbrev pub v6 : Row.Row
+v6 = Mut.mslice (Element.type) y0 0
 
-abbrev pub e7 : Row.Entry
-e7 = (3, Rows.sc-here (Row.sInt Syntax.w32))
+abbrev pub v7 : Row.Row
+v7 = Rows.sc-here Row.sUnit
 
-abbrev pub e8 : Row.Entry
-e8 = (4, Rows.sc-here Row.sBool)
+abbrev pub v8 : Row.Row
+v8 = Rows.any-gone u32
 
-abbrev pub e9 : Row.Entry
-e9 = (5, Rows.any-gone Syntax.tyBool)
+abbrev pub v9 : Row.Row
+v9 = Relend.mslice-owed (Element.type) y0 0 1 Row.off
 
-abbrev pub e10 : Row.Entry
-e10 = (6, Rows.any-gone Syntax.tyUnit)
-
-abbrev pub e11 : Row.Entry
-e11 = (6, Rows.sc-here Row.sUnit)
-
-abbrev pub e12 : Row.Entry
-e12 = (7, Relend.msptr (Element.type) (Syntax.tyRef Syntax.erased Syntax.mut Element.behind) 1)
-
-abbrev pub e13 : Row.Entry
-e13 = (7, Rows.any-gone (Syntax.tyRef Syntax.erased Syntax.mut Element.behind))
-
-abbrev pub e14 : Row.Entry
-e14 = (8, Mut.msleft (Element.type) (Syntax.tyRef Syntax.erased Syntax.mut Element.behind))
-
-abbrev pub e15 : Row.Entry
-e15 = (8, Mut.mslice (Element.type) (Syntax.tyRef Syntax.erased Syntax.mut Element.behind) 1)
-
-abbrev pub e16 : Row.Entry
-e16 = (8, Rows.any-gone y0)
+abbrev pub v10 : Row.Row
+v10 = Mut.msleft (Element.type) y1
 
 abbrev pub t0 : List.List Row.Entry
-t0 = List._∷_ e0 (List._∷_ e2 (List._∷_ e5 (List._∷_ e7 (List._∷_ e8 (List._∷_ e9 (List._∷_ e10 (List._∷_ e13 (List._∷_ e16 List.[]))))))))
+t0 = (0, v1) ∷ (1, v6) ∷ (2, v0) ∷ (3, v0) ∷ (4, v2) ∷ (5, v3) ∷ (6, v1) ∷ (7, v4) ∷ (8, v5) ∷ []
 
 abbrev pub t1 : List.List Row.Entry
-t1 = List._∷_ e1 (List._∷_ e2 (List._∷_ e4 (List._∷_ e6 (List._∷_ (4, Rows.any-gone Syntax.tyBool) (List._∷_ e9 (List._∷_ e10 (List._∷_ e13 (List._∷_ e16 List.[]))))))))
+t1 = (0, v7) ∷ (1, v6) ∷ (2, v8) ∷ (3, v8) ∷ (4, v3) ∷ (5, v3) ∷ (6, v1) ∷ (7, v4) ∷ (8, v5) ∷ []
 
 abbrev pub t2 : List.List Row.Entry
-t2 = List._∷_ e0 (List._∷_ e2 (List._∷_ e5 (List._∷_ e7 (List._∷_ e8 (List._∷_ (5, Rows.sc-here Row.sBool) (List._∷_ e10 (List._∷_ e13 (List._∷_ e16 List.[]))))))))
+t2 = (0, v1) ∷ (1, v6) ∷ (2, v0) ∷ (3, v0) ∷ (4, v2) ∷ (5, v2) ∷ (6, v1) ∷ (7, v4) ∷ (8, v5) ∷ []
 
 abbrev pub t3 : List.List Row.Entry
-t3 = List._∷_ e0 (List._∷_ e3 (List._∷_ e5 (List._∷_ e7 (List._∷_ e8 (List._∷_ e9 (List._∷_ e10 (List._∷_ e12 (List._∷_ e16 List.[]))))))))
+t3 = (0, v1) ∷ (1, v9) ∷ (2, v0) ∷ (3, v0) ∷ (4, v2) ∷ (5, v3) ∷ (6, v1) ∷ (7, Relend.msptr (Element.type) y1 1) ∷ (8, v5) ∷ []
 
 abbrev pub t4 : List.List Row.Entry
-t4 = List._∷_ e0 (List._∷_ e3 (List._∷_ e5 (List._∷_ e7 (List._∷_ e8 (List._∷_ e9 (List._∷_ e10 (List._∷_ e13 (List._∷_ e15 List.[]))))))))
+t4 = (0, v1) ∷ (1, v9) ∷ (2, v0) ∷ (3, v0) ∷ (4, v2) ∷ (5, v3) ∷ (6, v1) ∷ (7, v4) ∷ (8, Mut.mslice (Element.type) y1 1) ∷ []
 
 abbrev pub t5 : List.List Row.Entry
-t5 = List._∷_ e0 (List._∷_ e3 (List._∷_ e5 (List._∷_ e7 (List._∷_ e8 (List._∷_ e9 (List._∷_ e11 (List._∷_ e13 (List._∷_ e14 List.[]))))))))
+t5 = (0, v1) ∷ (1, v9) ∷ (2, v0) ∷ (3, v0) ∷ (4, v2) ∷ (5, v3) ∷ (6, v7) ∷ (7, v4) ∷ (8, v10) ∷ []
 
 abbrev pub t6 : List.List Row.Entry
-t6 = List._∷_ e0 (List._∷_ e3 (List._∷_ e5 (List._∷_ e7 (List._∷_ e8 (List._∷_ e9 (List._∷_ e10 (List._∷_ e13 (List._∷_ e14 List.[]))))))))
+t6 = (0, v1) ∷ (1, v9) ∷ (2, v0) ∷ (3, v0) ∷ (4, v2) ∷ (5, v3) ∷ (6, v1) ∷ (7, v4) ∷ (8, v10) ∷ []
 
 abbrev pub t7 : List.List Row.Entry
-t7 = List._∷_ e1 (List._∷_ e2 (List._∷_ e5 (List._∷_ e7 (List._∷_ e8 (List._∷_ e9 (List._∷_ e10 (List._∷_ e13 (List._∷_ e16 List.[]))))))))
+t7 = (0, v7) ∷ (1, v6) ∷ (2, v0) ∷ (3, v0) ∷ (4, v2) ∷ (5, v3) ∷ (6, v1) ∷ (7, v4) ∷ (8, v5) ∷ []
 
 abbrev pub t8 : List.List Row.Entry
-t8 = List._∷_ e1 (List._∷_ e2 (List._∷_ e4 (List._∷_ e7 (List._∷_ e8 (List._∷_ e9 (List._∷_ e10 (List._∷_ e13 (List._∷_ e16 List.[]))))))))
+t8 = (0, v7) ∷ (1, v6) ∷ (2, v8) ∷ (3, v0) ∷ (4, v2) ∷ (5, v3) ∷ (6, v1) ∷ (7, v4) ∷ (8, v5) ∷ []
 
 abbrev pub t9 : List.List Row.Entry
-t9 = List._∷_ e1 (List._∷_ e2 (List._∷_ e4 (List._∷_ e6 (List._∷_ e8 (List._∷_ e9 (List._∷_ e10 (List._∷_ e13 (List._∷_ e16 List.[]))))))))
+t9 = (0, v7) ∷ (1, v6) ∷ (2, v8) ∷ (3, v8) ∷ (4, v2) ∷ (5, v3) ∷ (6, v1) ∷ (7, v4) ∷ (8, v5) ∷ []
 
 abbrev pub T0 : Row.Cx
-T0 = record { locals = t0; slots = List.[] }
+T0 = record { locals = t0; slots = [] }
 
 abbrev pub T1 : Row.Cx
-T1 = record { locals = t1; slots = List.[] }
+T1 = record { locals = t1; slots = [] }
 
 abbrev pub T2 : Row.Cx
-T2 = record { locals = t2; slots = List.[] }
-
-abbrev pub T3 : Row.Cx
-T3 = record { locals = t0; slots = List.[] }
-
-abbrev pub T4 : Row.Cx
-T4 = record { locals = t0; slots = List.[] }
+T2 = record { locals = t2; slots = [] }
 
 abbrev pub T6 : Row.Cx
-T6 = record { locals = t3; slots = List.[] }
+T6 = record { locals = t3; slots = [] }
 
 abbrev pub T7 : Row.Cx
-T7 = record { locals = t4; slots = List.[] }
+T7 = record { locals = t4; slots = [] }
 
 abbrev pub T8 : Row.Cx
-T8 = record { locals = t5; slots = List.[] }
+T8 = record { locals = t5; slots = [] }
 
 abbrev pub T9 : Row.Cx
-T9 = record { locals = t6; slots = List.[] }
-
-abbrev pub T11 : Row.Cx
-T11 = record { locals = t0; slots = List.[] }
-
-abbrev pub T13 : Row.Cx
-T13 = record { locals = t0; slots = List.[] }
+T9 = record { locals = t6; slots = [] }
 
 abbrev pub T14 : Row.Cx
-T14 = record { locals = t7; slots = List.[] }
+T14 = record { locals = t7; slots = [] }
 
 abbrev pub T15 : Row.Cx
-T15 = record { locals = t8; slots = List.[] }
+T15 = record { locals = t8; slots = [] }
 
 abbrev pub T16 : Row.Cx
-T16 = record { locals = t9; slots = List.[] }
-
-abbrev pub T17 : Row.Cx
-T17 = record { locals = t1; slots = List.[] }
+T16 = record { locals = t9; slots = [] }
 
 abbrev pub O0 : Typed.Outs
-O0 = record { next = Option.none; exits = List.[]; returns = Option.some T1 }
+O0 = record { next = Option.none; exits = []; returns = Option.some T1 }
 
 abbrev pub O1 : Typed.Outs
-O1 = Typed.withNext (Option.some T3) O0
+O1 = Typed.withNext (Option.some T0) O0
 
 module _ (claims· : Claims) where
   abbrev s0 : Typed.Mo T0 → Typed.Mo T2
   s0 = Scalar.n-use T0 (Scalar.oAt 4 Syntax.tyBool (Row.valS Row.sBool)) 5 (Rows.sc-here Row.sBool) (Row.sBool .of)
 
-  abbrev s1 : Typed.Mo T2 → Typed.Mo T4
+  abbrev s1 : Typed.Mo T2 → Typed.Mo T0
   s1 = Scalar.n-room T2 5 Syntax.tyBool
 
-  abbrev s3 : Typed.Gives T4 T6
-  s3 = Relend.k-sl-relend (Element.type) T4 1 7 0 1 (Syntax.tyRef (Syntax.named 0) Syntax.mut Element.behind) (Syntax.tyRef Syntax.erased Syntax.mut Element.behind) Row.off λ x. x
+  abbrev s3 : Typed.Gives T0 T6
+  s3 = Relend.k-sl-relend (Element.type) T0 1 7 0 1 y0 y1 Row.off λ x. x
 
   abbrev s4 : Typed.Asks T6 T7
-  s4 = Relend.k-sl-aggregate (Element.type) (Relend.asMut (Element.type)) T6 7 8 1 (Syntax.tyRef Syntax.erased Syntax.mut Element.behind) (Syntax.tyRef Syntax.erased Syntax.mut Element.behind) (λ x.
-      x) (Scalar.oFld 1 (List._∷_ (Syntax.field 1) List.[]) (Syntax.tyInt Syntax.w64) 8 λ v. Shared.lenV (v .0))
+  s4 = Relend.k-sl-aggregate (Element.type) (Relend.asMut (Element.type)) T6 7 8 1 y1 y1 (λ x. x) (Scalar.oFld 1 ((Syntax.field 1) ∷ []) u64 8 λ v. Shared.lenV (v .0))
 
   abbrev s5 : Typed.Both T7 T8
-  s5 = Call.callB ps·0 r·0 (claims· .0) (claims· .1) T7 (record { pos = 8; ty = Syntax.tyRef Syntax.erased Syntax.mut Element.behind; ref = λ x. x }, (Num.vAt 2 λ x. x, (Num.vAt 3 λ x. x, tt))) 6
-      (List._∷_ 1 List.[]) Syntax.tyUnit
+  s5 = Call.callB ps·0 r·0 (claims· .0) (claims· .1) T7 (record { pos = 8; ty = y1; ref = λ x. x }, (Num.vAt 2 λ x. x, (Num.vAt 3 λ x. x, tt))) 6 (1 ∷ []) Syntax.tyUnit
 
   abbrev s6 : Typed.Mo T8 → Typed.Mo T9
   s6 = Scalar.n-room T8 6 Syntax.tyUnit
 
-  abbrev s8 : Typed.Both T9 T11
-  s8 = Relend.k-back-sl (Element.type) T9 8 1 0 1 (Syntax.tyRef (Syntax.named 0) Syntax.mut Element.behind) (Syntax.tyRef Syntax.erased Syntax.mut Element.behind) Row.off (λ x. x) λ x. x
+  abbrev s8 : Typed.Both T9 T0
+  s8 = Relend.k-back-sl (Element.type) T9 8 1 0 1 y0 y1 Row.off (λ x. x) λ x. x
 
-  abbrev s10 : Typed.Mo T2 → Typed.Mo T13
+  abbrev s10 : Typed.Mo T2 → Typed.Mo T0
   s10 = Scalar.n-room T2 5 Syntax.tyBool
 
-  abbrev s11 : Typed.Mo T3 → Typed.Mo T14
-  s11 = Scalar.n-use T3 Scalar.oUnit 0 (Rows.sc-here Row.sUnit) (Row.sUnit .of)
+  abbrev s11 : Typed.Mo T0 → Typed.Mo T14
+  s11 = Scalar.n-use T0 Scalar.oUnit 0 (Rows.sc-here Row.sUnit) (Row.sUnit .of)
 
   abbrev s12 : Typed.Mo T14 → Typed.Mo T15
-  s12 = Scalar.n-room T14 2 (Syntax.tyInt Syntax.w32)
+  s12 = Scalar.n-room T14 2 u32
 
   abbrev s13 : Typed.Mo T15 → Typed.Mo T16
-  s13 = Scalar.n-room T15 3 (Syntax.tyInt Syntax.w32)
+  s13 = Scalar.n-room T15 3 u32
 
-  abbrev s14 : Typed.Mo T16 → Typed.Mo T17
+  abbrev s14 : Typed.Mo T16 → Typed.Mo T1
   s14 = Scalar.n-room T16 4 Syntax.tyBool
 
   module _ (Pre· : (κs : Lifetimes.Lfts 1) → Kinds.Dens κs ps → Type 0) (Post· : (κs : Lifetimes.Lfts 1) → (a : Kinds.Dens κs ps) → Kinds.Plain 1 ps r κs) where
@@ -293,29 +253,26 @@ module _ (claims· : Claims) where
       abbrev at1 : Typed.TF T6 O1
       at1 = λ Ψ. Typed.ask s4 (at0 Ψ)
 
-      abbrev at2 : Typed.TF T4 O1
+      abbrev at2 : Typed.TF T0 O1
       at2 = λ Ψ. Typed.give s3 (at1 Ψ)
 
-      abbrev at3 : Typed.TF T4 O1
-      at3 = λ Ψ. at2 Ψ
-
       abbrev at4 : Typed.TF T2 O1
-      at4 = λ Ψ. Typed.pass T2 T4 s1 (at3 Ψ)
+      at4 = λ Ψ. Typed.pass T2 T0 s1 (at2 Ψ)
 
-      abbrev at5 : Typed.TF T13 O1
+      abbrev at5 : Typed.TF T0 O1
       at5 = Typed.atNext O1
 
       abbrev at6 : Typed.TF T2 O1
-      at6 = λ Ψ. Typed.pass T2 T13 s10 (at5 Ψ)
+      at6 = λ Ψ. Typed.pass T2 T0 s10 (at5 Ψ)
 
       abbrev at7 : Typed.TF T2 O1
       at7 = Scalar.Φcond T2 O1 5 (λ x. x) at4 at6
 
-      abbrev at8 : Typed.TF T17 O0
+      abbrev at8 : Typed.TF T1 O0
       at8 = Typed.atRet O0
 
       abbrev at9 : Typed.TF T16 O0
-      at9 = λ Ψ. Typed.pass T16 T17 s14 (at8 Ψ)
+      at9 = λ Ψ. Typed.pass T16 T1 s14 (at8 Ψ)
 
       abbrev at10 : Typed.TF T15 O0
       at10 = λ Ψ. Typed.pass T15 T16 s13 (at9 Ψ)
@@ -323,11 +280,11 @@ module _ (claims· : Claims) where
       abbrev at11 : Typed.TF T14 O0
       at11 = λ Ψ. Typed.pass T14 T15 s12 (at10 Ψ)
 
-      abbrev at12 : Typed.TF T3 O0
-      at12 = λ Ψ. Typed.pass T3 T14 s11 (at11 Ψ)
+      abbrev at12 : Typed.TF T0 O0
+      at12 = λ Ψ. Typed.pass T0 T14 s11 (at11 Ψ)
 
       abbrev at13 : Typed.TF T2 O0
-      at13 = λ Ψ. at7 (Typed.wantNext T3 O0 (at12 Ψ) Ψ)
+      at13 = λ Ψ. at7 (Typed.wantNext T0 O0 (at12 Ψ) Ψ)
 
       abbrev at14 : Typed.TF T0 O0
       at14 = λ Ψ. Typed.pass T0 T2 s0 (at13 Ψ)
@@ -340,155 +297,123 @@ module _ (claims· : Claims) where
         Knowns = Plain.Known 𝓤 H A W 𝓣 1 ps·0 r·0 (claims· .0) (claims· .1) "block::records::restart_main"
 
       module _ (κs : Lifetimes.Lfts 1) (qs : Lifetimes.Shares 1) where
+        abbrev k0 : Row.Life
+        k0 = Row.lease (κs .0) (qs .0)
+
+        abbrev l0 : List.List Row.Life
+        l0 = Row.off ∷ Row.alive ∷ []
+
+        abbrev l1 : List.List Row.Life
+        l1 = k0 ∷ Row.off ∷ []
+
+        abbrev h0 : Row.Row
+        h0 = Relend.mslice-owed (Element.type) y0 0 1 k0
+
         abbrev g3 : List.List Row.Entry
-        g3 = List._∷_ e0 (List._∷_ (1, Relend.mslice-owed (Element.type) (Syntax.tyRef (Syntax.named 0) Syntax.mut Element.behind) 0 1 (Row.lease (κs .0) (qs .0))) (List._∷_ e5 (List._∷_ e7 (List._∷_
-            e8 (List._∷_ e9 (List._∷_ e10 (List._∷_ e12 (List._∷_ e16 List.[]))))))))
+        g3 = (0, v1) ∷ (1, h0) ∷ (2, v0) ∷ (3, v0) ∷ (4, v2) ∷ (5, v3) ∷ (6, v1) ∷ (7, Relend.msptr (Element.type) y1 1) ∷ (8, v5) ∷ []
 
         abbrev g4 : List.List Row.Entry
-        g4 = List._∷_ e0 (List._∷_ (1, Relend.mslice-owed (Element.type) (Syntax.tyRef (Syntax.named 0) Syntax.mut Element.behind) 0 1 (Row.lease (κs .0) (qs .0))) (List._∷_ e5 (List._∷_ e7 (List._∷_
-            e8 (List._∷_ e9 (List._∷_ e10 (List._∷_ e13 (List._∷_ e15 List.[]))))))))
+        g4 = (0, v1) ∷ (1, h0) ∷ (2, v0) ∷ (3, v0) ∷ (4, v2) ∷ (5, v3) ∷ (6, v1) ∷ (7, v4) ∷ (8, Mut.mslice (Element.type) y1 1) ∷ []
 
         abbrev g5 : List.List Row.Entry
-        g5 = List._∷_ e0 (List._∷_ (1, Relend.mslice-owed (Element.type) (Syntax.tyRef (Syntax.named 0) Syntax.mut Element.behind) 0 1 (Row.lease (κs .0) (qs .0))) (List._∷_ e5 (List._∷_ e7 (List._∷_
-            e8 (List._∷_ e9 (List._∷_ e11 (List._∷_ e13 (List._∷_ e14 List.[]))))))))
+        g5 = (0, v1) ∷ (1, h0) ∷ (2, v0) ∷ (3, v0) ∷ (4, v2) ∷ (5, v3) ∷ (6, v7) ∷ (7, v4) ∷ (8, v10) ∷ []
 
         abbrev g6 : List.List Row.Entry
-        g6 = List._∷_ e0 (List._∷_ (1, Relend.mslice-owed (Element.type) (Syntax.tyRef (Syntax.named 0) Syntax.mut Element.behind) 0 1 (Row.lease (κs .0) (qs .0))) (List._∷_ e5 (List._∷_ e7 (List._∷_
-            e8 (List._∷_ e9 (List._∷_ e10 (List._∷_ e13 (List._∷_ e14 List.[]))))))))
-
-        abbrev G0 : Row.Cx
-        G0 = record { locals = t0; slots = List._∷_ (Row.lease (κs .0) (qs .0)) (List._∷_ Row.off List.[]) }
-
-        abbrev G1 : Row.Cx
-        G1 = record { locals = t1; slots = List._∷_ (Row.lease (κs .0) (qs .0)) (List._∷_ Row.off List.[]) }
-
-        abbrev G2 : Row.Cx
-        G2 = record { locals = t2; slots = List._∷_ (Row.lease (κs .0) (qs .0)) (List._∷_ Row.off List.[]) }
-
-        abbrev G3 : Row.Cx
-        G3 = record { locals = t0; slots = List._∷_ (Row.lease (κs .0) (qs .0)) (List._∷_ Row.off List.[]) }
-
-        abbrev G4 : Row.Cx
-        G4 = record { locals = t0; slots = List._∷_ (Row.lease (κs .0) (qs .0)) (List._∷_ Row.off List.[]) }
+        g6 = (0, v1) ∷ (1, h0) ∷ (2, v0) ∷ (3, v0) ∷ (4, v2) ∷ (5, v3) ∷ (6, v1) ∷ (7, v4) ∷ (8, v10) ∷ []
 
         abbrev G5 : Row.Cx
-        G5 = record { locals = t0; slots = List._∷_ (Row.lease (κs .0) (qs .0)) (List._∷_ Row.alive List.[]) }
+        G5 = record { locals = t0; slots = k0 ∷ Row.alive ∷ [] }
 
         abbrev G6 : Row.Cx
-        G6 = record { locals = g3; slots = List._∷_ Row.off (List._∷_ Row.alive List.[]) }
+        G6 = record { locals = g3; slots = l0 }
 
         abbrev G7 : Row.Cx
-        G7 = record { locals = g4; slots = List._∷_ Row.off (List._∷_ Row.alive List.[]) }
+        G7 = record { locals = g4; slots = l0 }
 
         abbrev G8 : Row.Cx
-        G8 = record { locals = g5; slots = List._∷_ Row.off (List._∷_ Row.alive List.[]) }
+        G8 = record { locals = g5; slots = l0 }
 
         abbrev G9 : Row.Cx
-        G9 = record { locals = g6; slots = List._∷_ Row.off (List._∷_ Row.alive List.[]) }
+        G9 = record { locals = g6; slots = l0 }
 
         abbrev G10 : Row.Cx
-        G10 = record { locals = g6; slots = List._∷_ Row.off (List._∷_ Row.dead List.[]) }
+        G10 = record { locals = g6; slots = Row.off ∷ Row.dead ∷ [] }
 
         abbrev G11 : Row.Cx
-        G11 = record { locals = t0; slots = List._∷_ (Row.lease (κs .0) (qs .0)) (List._∷_ Row.dead List.[]) }
-
-        abbrev G12 : Row.Cx
-        G12 = record { locals = t0; slots = List._∷_ (Row.lease (κs .0) (qs .0)) (List._∷_ Row.off List.[]) }
-
-        abbrev G13 : Row.Cx
-        G13 = record { locals = t0; slots = List._∷_ (Row.lease (κs .0) (qs .0)) (List._∷_ Row.off List.[]) }
-
-        abbrev G14 : Row.Cx
-        G14 = record { locals = t7; slots = List._∷_ (Row.lease (κs .0) (qs .0)) (List._∷_ Row.off List.[]) }
-
-        abbrev G15 : Row.Cx
-        G15 = record { locals = t8; slots = List._∷_ (Row.lease (κs .0) (qs .0)) (List._∷_ Row.off List.[]) }
-
-        abbrev G16 : Row.Cx
-        G16 = record { locals = t9; slots = List._∷_ (Row.lease (κs .0) (qs .0)) (List._∷_ Row.off List.[]) }
-
-        abbrev G17 : Row.Cx
-        G17 = record { locals = t1; slots = List._∷_ (Row.lease (κs .0) (qs .0)) (List._∷_ Row.off List.[]) }
+        G11 = record { locals = t0; slots = k0 ∷ Row.dead ∷ [] }
 
         abbrev Δ0 : Typed.Outs
-        Δ0 = record { next = Option.none; exits = List.[]; returns = Option.some G1 }
+        Δ0 = record { next = Option.none; exits = []; returns = Option.some (on T1 l1) }
 
         abbrev Δ1 : Typed.Outs
-        Δ1 = Typed.withNext (Option.some G3) Δ0
+        Δ1 = Typed.withNext (Option.some (on T0 l1)) Δ0
 
         module _ {M : Type 1} (𝓤 : URA.URA M) (H : Wp.Heap 𝓤) (A : Atoms.Atoms 𝓤) (W : Kit.Given 𝓤 H A) (𝓣 : Wp.Tables 𝓤 H) (known : Knowns 𝓤 H A W 𝓣) (bs : List.List Nat.ℕ) (bd : Lifetimes.AllOutlive
             1 (Kinds.osR r) κs) where
           abbrev E : Wp.Env 𝓤 H
-          E = Frame.EnvOf 𝓤 H (List._∷_ (Kinds.tyR r) (Enter.tysP ps xs)) bs
+          E = Frame.EnvOf 𝓤 H ((Kinds.tyR r) ∷ (Enter.tysP ps xs)) bs
 
           d0 : Typed.Typed 𝓤 H A 𝓣 E G7 b3 Δ1 at0
-          d0 = Typed.s-typed 𝓤 H A W 𝓣 E G7 b3 Δ1 (λ Ψ. Typed.both s5 (Typed.pass T8 T9 s6 (Typed.both s8 Ψ))) tt (Typed.g-post 𝓤 H A W 𝓣 E G7 G11 G12 b3 (λ Ψ. Typed.both s5 (Typed.pass T8 T9 s6
-              (Typed.both s8 Ψ))) (λ Ψ. Ψ) (Typed.g-post 𝓤 H A W 𝓣 E G7 G10 G11 b3 (λ Ψ. Typed.both s5 (Typed.pass T8 T9 s6 Ψ)) (Typed.both s8) (Typed.g-post 𝓤 H A W 𝓣 E G7 G9 G10 b3 (λ Ψ. Typed.both s5
-              (Typed.pass T8 T9 s6 Ψ)) (λ Ψ. Ψ) (Typed.g-post 𝓤 H A W 𝓣 E G7 G8 G9 b3 (Typed.both s5) (Typed.pass T8 T9 s6) (Plain.t-call-plain 𝓤 H A W 𝓣 1 ps·0 r·0 (claims· .0) (claims· .1)
-              "block::records::restart_main" known E (λ pos β. β) G7
-              (record { pos = 8; ty = Syntax.tyRef Syntax.erased Syntax.mut Element.behind; ref = λ x. x }, (Num.vAt 2 λ x. x, (Num.vAt 3 λ x. x, tt))) 6 (List._∷_ 1 List.[]) (Call.sub-id 𝓤 H A W (G7
-              .slots)) (
-                Reads.as-is 𝓤 H A (Mut.mslice (Element.type) (Syntax.tyRef Syntax.erased Syntax.mut Element.behind) 1),
-                Mut.reads-mslice 𝓤 H A W (Element.type) (Syntax.tyRef Syntax.erased Syntax.mut
-                    Element.behind) 1,
+          d0 = Typed.s-typed 𝓤 H A W 𝓣 E G7 b3 Δ1 (λ Ψ. Typed.both s5 (Typed.pass T8 T9 s6 (Typed.both s8 Ψ))) tt (Typed.g-post 𝓤 H A W 𝓣 E G7 G11 (on T0 l1) b3 (λ Ψ. Typed.both s5 (Typed.pass T8 T9
+              s6 (Typed.both s8 Ψ))) (λ Ψ. Ψ) (Typed.g-post 𝓤 H A W 𝓣 E G7 G10 G11 b3 (λ Ψ. Typed.both s5 (Typed.pass T8 T9 s6 Ψ)) (Typed.both s8) (Typed.g-post 𝓤 H A W 𝓣 E G7 G9 G10 b3 (λ Ψ. Typed.both
+              s5 (Typed.pass T8 T9 s6 Ψ)) (λ Ψ. Ψ) (Typed.g-post 𝓤 H A W 𝓣 E G7 G8 G9 b3 (Typed.both s5) (Typed.pass T8 T9 s6) (Plain.t-call-plain 𝓤 H A W 𝓣 1 ps·0 r·0 (claims· .0) (claims· .1)
+              "block::records::restart_main" known E (λ pos β. β) G7 (record { pos = 8; ty = y1; ref = λ x. x }, (Num.vAt 2 λ x. x, (Num.vAt 3 λ x. x, tt))) 6 (1 ∷ []) (Call.sub-id 𝓤 H A W (G7 .slots)) (
+                Reads.as-is 𝓤 H A (Mut.mslice (Element.type) y1 1),
+                Mut.reads-mslice 𝓤 H A W (Element.type) y1 1,
                 Path'.refl,
                 ((Scalar.reads-sc 𝓤 H A W (Row.sInt Syntax.w32), Path'.refl), ((Scalar.reads-sc 𝓤 H A W (Row.sInt Syntax.w32), Path'.refl), tt)),
-              ) (Reads.room-gone 𝓤 H A
-              Syntax.tyUnit) (tt, tt) Path'.refl) (Scalar.g-room 𝓤 H A W E G8 6 Syntax.tyUnit (Scalar.room-sc 𝓤 H A W Row.sUnit))) (Lifetime.g-end 𝓤 H A W E G9 1 Path'.refl)) (Relend.g-back-sl 𝓤 H A W E
-              (Element.type) G10 8 1 0 1 (Syntax.tyRef (Syntax.named 0) Syntax.mut Element.behind) (Syntax.tyRef Syntax.erased Syntax.mut Element.behind) (Row.lease (κs .0) (qs .0)) (λ x. x) (λ x. x)
-              (Reads.as-is 𝓤 H A (Mut.msleft (Element.type) (Syntax.tyRef Syntax.erased Syntax.mut Element.behind))) (Reads.as-is 𝓤 H A (Relend.mslice-owed (Element.type) (Syntax.tyRef (Syntax.named 0)
-              Syntax.mut Element.behind) 0 1 (Row.lease (κs .0) (qs .0)))) Path'.refl Path'.refl)) (Lifetime.g-forget 𝓤 H A W E G11 1 Row.dead Path'.refl))
+              ) (Reads.room-gone 𝓤 H A Syntax.tyUnit) (tt, tt) Path'.refl)
+              (Scalar.g-room 𝓤 H A W E G8 6 Syntax.tyUnit (Scalar.room-sc 𝓤 H A W Row.sUnit))) (Lifetime.g-end 𝓤 H A W E G9 1 Path'.refl)) (Relend.g-back-sl 𝓤 H A W E (Element.type) G10 8 1 0 1 y0 y1 k0
+              (λ x. x) (λ x. x) (Reads.as-is 𝓤 H A (Mut.msleft (Element.type) y1)) (Reads.as-is 𝓤 H A (Relend.mslice-owed (Element.type) y0 0 1 k0)) Path'.refl Path'.refl)) (Lifetime.g-forget 𝓤 H A W E
+              G11 1 Row.dead Path'.refl))
 
-          d1 : Typed.Typed 𝓤 H A 𝓣 E G6 b4 Δ1 at1
-          d1 = Typed.s-seq 𝓤 H A W 𝓣 E G6 G7 b2 b3 Δ1 (Typed.ask s4) at0 (Relend.t-sl-aggregate 𝓤 H A W E (Element.type) 𝓣 (Relend.asMut (Element.type)) G6 7 8 1 (Syntax.tyRef Syntax.erased Syntax.mut
-              Element.behind) (Syntax.tyRef Syntax.erased Syntax.mut Element.behind) (λ x. x) (Scalar.oFld 1 (List._∷_ (Syntax.field 1) List.[]) (Syntax.tyInt Syntax.w64) 8 λ v. Shared.lenV (v .0))
-              (Reads.as-is 𝓤 H A (Relend.msptr (Element.type) (Syntax.tyRef Syntax.erased Syntax.mut Element.behind) 1)) (Reads.room-gone 𝓤 H A y0)
-              (Relend.reads-owed-len 𝓤 H A W (Element.type) (Syntax.tyRef (Syntax.named 0) Syntax.mut Element.behind) 0 1 (Row.lease (κs .0) (qs .0)) 8 Path'.refl, Path'.refl) Path'.refl Path'.refl λ b o
-              k. tt) d0
+          d1 : Typed.Typed 𝓤 H A 𝓣 E G6 (Syntax.seq b2 b3) Δ1 at1
+          d1 = Typed.s-seq 𝓤 H A W 𝓣 E G6 G7 b2 b3 Δ1 (Typed.ask s4) at0 (Relend.t-sl-aggregate 𝓤 H A W E (Element.type) 𝓣 (Relend.asMut (Element.type)) G6 7 8 1 y1 y1 (λ x. x) (Scalar.oFld 1
+              ((Syntax.field 1) ∷ []) u64 8 λ v. Shared.lenV (v .0)) (Reads.as-is 𝓤 H A (Relend.msptr (Element.type) y1 1)) (Reads.room-gone 𝓤 H A y2)
+              (Relend.reads-owed-len 𝓤 H A W (Element.type) y0 0 1 k0 8 Path'.refl, Path'.refl) Path'.refl Path'.refl λ b o k. tt) d0
 
           d2 : Typed.Typed 𝓤 H A 𝓣 E G5 b5 Δ1 at2
-          d2 = Typed.s-seq 𝓤 H A W 𝓣 E G5 G6 b1 b4 Δ1 (Typed.give s3) at1 (Relend.t-sl-relend 𝓤 H A W E (Element.type) 𝓣 G5 1 7 0 1 (Syntax.tyRef (Syntax.named 0) Syntax.mut Element.behind)
-              (Syntax.tyRef Syntax.erased Syntax.mut Element.behind) (Row.lease (κs .0) (qs .0)) 0 (λ x. x) (Reads.as-is 𝓤 H A (Mut.mslice (Element.type) (Syntax.tyRef (Syntax.named 0) Syntax.mut
-              Element.behind) 0)) (Reads.room-gone 𝓤 H A (Syntax.tyRef Syntax.erased Syntax.mut Element.behind)) Path'.refl tt Path'.refl Path'.refl Path'.refl λ b o. tt) d1
+          d2 = Typed.s-seq 𝓤 H A W 𝓣 E G5 G6 b1 (Syntax.seq b2 b3) Δ1 (Typed.give s3) at1 (Relend.t-sl-relend 𝓤 H A W E (Element.type) 𝓣 G5 1 7 0 1 y0 y1 k0 0 (λ x. x) (Reads.as-is 𝓤 H A (Mut.mslice
+              (Element.type) y0 0)) (Reads.room-gone 𝓤 H A y1) Path'.refl tt Path'.refl Path'.refl Path'.refl λ b o. tt) d1
 
-          d3 : Typed.Typed 𝓤 H A 𝓣 E G4 b5 Δ1 at3
-          d3 = Typed.g-pre 𝓤 H A W 𝓣 E G4 G5 b5 Δ1 (λ Ψ. Ψ) at2 (Lifetime.g-begin 𝓤 H A W E G4 1 (tt, (tt, (tt, (tt, (tt, (tt, (tt, (tt, (tt, tt)))))))))) d2
+          d3 : Typed.Typed 𝓤 H A 𝓣 E (on T0 l1) b5 Δ1 at2
+          d3 = Typed.g-pre 𝓤 H A W 𝓣 E (on T0 l1) G5 b5 Δ1 (λ Ψ. Ψ) at2 (Lifetime.g-begin 𝓤 H A W E (on T0 l1) 1 (tt, (tt, (tt, (tt, (tt, (tt, (tt, (tt, (tt, tt)))))))))) d2
 
-          d4 : Typed.Typed 𝓤 H A 𝓣 E G2 b5 Δ1 at4
-          d4 = Typed.g-pre 𝓤 H A W 𝓣 E G2 G4 b5 Δ1 (Typed.pass T2 T4 s1) at3 (Scalar.g-room 𝓤 H A W E G2 5 Syntax.tyBool (Scalar.room-sc 𝓤 H A W Row.sBool)) d3
+          d4 : Typed.Typed 𝓤 H A 𝓣 E (on T2 l1) b5 Δ1 at4
+          d4 = Typed.g-pre 𝓤 H A W 𝓣 E (on T2 l1) (on T0 l1) b5 Δ1 (Typed.pass T2 T0 s1) at2 (Scalar.g-room 𝓤 H A W E (on T2 l1) 5 Syntax.tyBool (Scalar.room-sc 𝓤 H A W Row.sBool)) d3
 
-          d5 : Typed.Typed 𝓤 H A 𝓣 E G13 b6 Δ1 at5
+          d5 : Typed.Typed 𝓤 H A 𝓣 E (on T0 l1) Syntax.skip Δ1 at5
           d5 = Typed.t-skip 𝓤 H A W 𝓣 E Δ1 tt
 
-          d6 : Typed.Typed 𝓤 H A 𝓣 E G2 b6 Δ1 at6
-          d6 = Typed.g-pre 𝓤 H A W 𝓣 E G2 G13 b6 Δ1 (Typed.pass T2 T13 s10) at5 (Scalar.g-room 𝓤 H A W E G2 5 Syntax.tyBool (Scalar.room-sc 𝓤 H A W Row.sBool)) d5
+          d6 : Typed.Typed 𝓤 H A 𝓣 E (on T2 l1) Syntax.skip Δ1 at6
+          d6 = Typed.g-pre 𝓤 H A W 𝓣 E (on T2 l1) (on T0 l1) Syntax.skip Δ1 (Typed.pass T2 T0 s10) at5 (Scalar.g-room 𝓤 H A W E (on T2 l1) 5 Syntax.tyBool (Scalar.room-sc 𝓤 H A W Row.sBool)) d5
 
-          d7 : Typed.Typed 𝓤 H A 𝓣 E G2 b7 Δ1 at7
-          d7 = Scalar.t-cond 𝓤 H A W E 𝓣 G2 5 (λ x. x) b5 b6 Δ1 at4 at6 (Scalar.reads-sc 𝓤 H A W Row.sBool) Path'.refl d4 d6
+          d7 : Typed.Typed 𝓤 H A 𝓣 E (on T2 l1) b7 Δ1 at7
+          d7 = Scalar.t-cond 𝓤 H A W E 𝓣 (on T2 l1) 5 (λ x. x) b5 Syntax.skip Δ1 at4 at6 (Scalar.reads-sc 𝓤 H A W Row.sBool) Path'.refl d4 d6
 
-          d8 : Typed.Typed 𝓤 H A 𝓣 E G17 b9 Δ0 at8
+          d8 : Typed.Typed 𝓤 H A 𝓣 E (on T1 l1) b9 Δ0 at8
           d8 = Typed.t-return 𝓤 H A W 𝓣 E Δ0 tt
 
-          d9 : Typed.Typed 𝓤 H A 𝓣 E G16 b9 Δ0 at9
-          d9 = Typed.g-pre 𝓤 H A W 𝓣 E G16 G17 b9 Δ0 (Typed.pass T16 T17 s14) at8 (Scalar.g-room 𝓤 H A W E G16 4 Syntax.tyBool (Scalar.room-sc 𝓤 H A W Row.sBool)) d8
+          d9 : Typed.Typed 𝓤 H A 𝓣 E (on T16 l1) b9 Δ0 at9
+          d9 = Typed.g-pre 𝓤 H A W 𝓣 E (on T16 l1) (on T1 l1) b9 Δ0 (Typed.pass T16 T1 s14) at8 (Scalar.g-room 𝓤 H A W E (on T16 l1) 4 Syntax.tyBool (Scalar.room-sc 𝓤 H A W Row.sBool)) d8
 
-          d10 : Typed.Typed 𝓤 H A 𝓣 E G15 b9 Δ0 at10
-          d10 = Typed.g-pre 𝓤 H A W 𝓣 E G15 G16 b9 Δ0 (Typed.pass T15 T16 s13) at9 (Scalar.g-room 𝓤 H A W E G15 3 (Syntax.tyInt Syntax.w32) (Scalar.room-sc 𝓤 H A W (Row.sInt Syntax.w32))) d9
+          d10 : Typed.Typed 𝓤 H A 𝓣 E (on T15 l1) b9 Δ0 at10
+          d10 = Typed.g-pre 𝓤 H A W 𝓣 E (on T15 l1) (on T16 l1) b9 Δ0 (Typed.pass T15 T16 s13) at9 (Scalar.g-room 𝓤 H A W E (on T15 l1) 3 u32 (Scalar.room-sc 𝓤 H A W (Row.sInt Syntax.w32))) d9
 
-          d11 : Typed.Typed 𝓤 H A 𝓣 E G14 b9 Δ0 at11
-          d11 = Typed.g-pre 𝓤 H A W 𝓣 E G14 G15 b9 Δ0 (Typed.pass T14 T15 s12) at10 (Scalar.g-room 𝓤 H A W E G14 2 (Syntax.tyInt Syntax.w32) (Scalar.room-sc 𝓤 H A W (Row.sInt Syntax.w32))) d10
+          d11 : Typed.Typed 𝓤 H A 𝓣 E (on T14 l1) b9 Δ0 at11
+          d11 = Typed.g-pre 𝓤 H A W 𝓣 E (on T14 l1) (on T15 l1) b9 Δ0 (Typed.pass T14 T15 s12) at10 (Scalar.g-room 𝓤 H A W E (on T14 l1) 2 u32 (Scalar.room-sc 𝓤 H A W (Row.sInt Syntax.w32))) d10
 
-          d12 : Typed.Typed 𝓤 H A 𝓣 E G3 b10 Δ0 at12
-          d12 = Typed.s-seq 𝓤 H A W 𝓣 E G3 G14 b8 b9 Δ0 (Typed.pass T3 T14 s11) at11 (Scalar.t-use 𝓤 H A W E 𝓣 G3 Scalar.oUnit 0 (Rows.sc-here Row.sUnit) Syntax.tyUnit (Row.valS Row.sUnit) (Row.sUnit
-              .of) tt (Reads.room-gone 𝓤 H A Syntax.tyUnit) (Scalar.holds-sc 𝓤 H A W Row.sUnit) Path'.refl (λ u. Path'.refl) λ u. tt) d11
+          d12 : Typed.Typed 𝓤 H A 𝓣 E (on T0 l1) (Syntax.seq b8 b9) Δ0 at12
+          d12 = Typed.s-seq 𝓤 H A W 𝓣 E (on T0 l1) (on T14 l1) b8 b9 Δ0 (Typed.pass T0 T14 s11) at11 (Scalar.t-use 𝓤 H A W E 𝓣 (on T0 l1) Scalar.oUnit 0 (Rows.sc-here Row.sUnit) Syntax.tyUnit
+              (Row.valS Row.sUnit) (Row.sUnit .of) tt (Reads.room-gone 𝓤 H A Syntax.tyUnit) (Scalar.holds-sc 𝓤 H A W Row.sUnit) Path'.refl (λ u. Path'.refl) λ u. tt) d11
 
-          d13 : Typed.Typed 𝓤 H A 𝓣 E G2 b11 Δ0 at13
-          d13 = Typed.t-seq 𝓤 H A W 𝓣 E G2 G3 b7 b10 Δ0 at7 at12 d7 d12
+          d13 : Typed.Typed 𝓤 H A 𝓣 E (on T2 l1) (Syntax.seq b7 (Syntax.seq b8 b9)) Δ0 at13
+          d13 = Typed.t-seq 𝓤 H A W 𝓣 E (on T2 l1) (on T0 l1) b7 (Syntax.seq b8 b9) Δ0 at7 at12 d7 d12
 
-          d14 : Typed.Typed 𝓤 H A 𝓣 E G0 b12 Δ0 at14
-          d14 = Typed.s-seq 𝓤 H A W 𝓣 E G0 G2 b0 b11 Δ0 (Typed.pass T0 T2 s0) at13 (Scalar.t-use 𝓤 H A W E 𝓣 G0 (Scalar.oAt 4 Syntax.tyBool (Row.valS Row.sBool)) 5 (Rows.sc-here Row.sBool)
-              Syntax.tyBool (Row.valS Row.sBool) (Row.sBool .of) (Scalar.reads-sc 𝓤 H A W Row.sBool, Path'.refl) (Reads.room-gone 𝓤 H A Syntax.tyBool) (Scalar.holds-sc 𝓤 H A W Row.sBool) Path'.refl (λ u.
-              Path'.refl) λ u. tt) d13
+          d14 : Typed.Typed 𝓤 H A 𝓣 E (on T0 l1) b12 Δ0 at14
+          d14 = Typed.s-seq 𝓤 H A W 𝓣 E (on T0 l1) (on T2 l1) b0 (Syntax.seq b7 (Syntax.seq b8 b9)) Δ0 (Typed.pass T0 T2 s0) at13 (Scalar.t-use 𝓤 H A W E 𝓣 (on T0 l1) (Scalar.oAt 4 Syntax.tyBool
+              (Row.valS Row.sBool)) 5 (Rows.sc-here Row.sBool) Syntax.tyBool (Row.valS Row.sBool) (Row.sBool .of) (Scalar.reads-sc 𝓤 H A W Row.sBool, Path'.refl) (Reads.room-gone 𝓤 H A Syntax.tyBool)
+              (Scalar.holds-sc 𝓤 H A W Row.sBool) Path'.refl (λ u. Path'.refl) λ u. tt) d13
 
           pub typed : Typed.Typed 𝓤 H A 𝓣 E (Function.Γin 1 ps r xs m κs qs) b12 (Function.Δret 1 ps r xs m κs qs) Φ
           typed = d14
@@ -530,9 +455,9 @@ module _ (claims· : Claims) where
       m1 = λ κs args. s0 (m0 κs args)
 
       abbrev W1 : (κs : Lifetimes.Lfts 1) → (args : Args κs) → Typed.Want O1
-      W1 = λ κs args. Typed.wantNext T3 O0 (at12 (W0 κs args)) (W0 κs args)
+      W1 = λ κs args. Typed.wantNext T0 O0 (at12 (W0 κs args)) (W0 κs args)
 
-      abbrev pub m2 : (before : Start) → Typed.Mo T4
+      abbrev pub m2 : (before : Start) → Typed.Mo T0
       m2 = λ before. s1 (m1 (before .κs) (before .args))
 
       module _ (before· : Start) where
@@ -543,11 +468,8 @@ module _ (claims· : Claims) where
         pub before : Start
         pub if1 : Then1·own before
 
-      abbrev pub m3 : (before : Then1) → (given : s3 .gives (m2 (before .before))) → Typed.Mo T6
-      m3 = λ before given. s3 .next (m2 (before .before)) given
-
       abbrev pub m4 : (before : Then1) → (given : s3 .gives (m2 (before .before))) → Typed.Mo T7
-      m4 = λ before given. s4 .next (m3 before given)
+      m4 = λ before given. s4 .next (s3 .next (m2 (before .before)) given)
 
       module _ (before· : Then1) where
         pub record After-restart-main-arg·own : Type 0 where
@@ -560,28 +482,23 @@ module _ (claims· : Claims) where
       abbrev pub Need-restart-main-requires : Type 0
       Need-restart-main-requires = (c : After-restart-main-arg) → s5 .asks (m4 (c .before) (c .restart-main-arg .given))
 
-      abbrev pub m5 : (before : After-restart-main-arg) → (given : s5 .gives (m4 (before .before) (before .restart-main-arg .given))) → Typed.Mo T8
-      m5 = λ before given. s5 .next (m4 (before .before) (before .restart-main-arg .given)) given
-
       abbrev pub m6 : (before : After-restart-main-arg) → (given : s5 .gives (m4 (before .before) (before .restart-main-arg .given))) → Typed.Mo T9
-      m6 = λ before given. s6 (m5 before given)
+      m6 = λ before given. s6 (s5 .next (m4 (before .before) (before .restart-main-arg .given)) given)
 
       module _ (before· : After-restart-main-arg) where
         abbrev pub After-restart-main·own : Type 0
-        After-restart-main·own = Called.Called ps·0 r·0 (claims· .1) T7
-            (record { pos = 8; ty = Syntax.tyRef Syntax.erased Syntax.mut Element.behind; ref = λ x. x }, (Num.vAt 2 λ x. x, (Num.vAt 3 λ x. x, tt))) (m4 (before· .before) (before· .restart-main-arg
-            .given))
+        After-restart-main·own = Called.Called ps·0 r·0 (claims· .1) T7 (record { pos = 8; ty = y1; ref = λ x. x }, (Num.vAt 2 λ x. x, (Num.vAt 3 λ x. x, tt))) (m4 (before· .before) (before·
+            .restart-main-arg .given))
 
       pub record After-restart-main : Type 0 where
         pub before : After-restart-main-arg
         pub restart-main : After-restart-main·own before
 
       abbrev pub After-restart-main·gave : (c : After-restart-main) → s5 .gives (m4 (c .before .before) (c .before .restart-main-arg .given))
-      After-restart-main·gave = λ c. Called.given ps·0 r·0 (claims· .1) T7
-          (record { pos = 8; ty = Syntax.tyRef Syntax.erased Syntax.mut Element.behind; ref = λ x. x }, (Num.vAt 2 λ x. x, (Num.vAt 3 λ x. x, tt))) (m4 (c .before .before) (c .before .restart-main-arg
-          .given)) (c .restart-main)
+      After-restart-main·gave = λ c. Called.given ps·0 r·0 (claims· .1) T7 (record { pos = 8; ty = y1; ref = λ x. x }, (Num.vAt 2 λ x. x, (Num.vAt 3 λ x. x, tt))) (m4 (c .before .before) (c .before
+          .restart-main-arg .given)) (c .restart-main)
 
-      abbrev pub m7 : (before : After-restart-main) → (given : s8 .gives (m6 (before .before) (After-restart-main·gave before))) → Typed.Mo T11
+      abbrev pub m7 : (before : After-restart-main) → (given : s8 .gives (m6 (before .before) (After-restart-main·gave before))) → Typed.Mo T0
       m7 = λ before given. s8 .next (m6 (before .before) (After-restart-main·gave before)) given
 
       module _ (before· : After-restart-main) where
@@ -592,7 +509,10 @@ module _ (claims· : Claims) where
         pub before : After-restart-main
         pub rs : After-rs·own before
 
-      abbrev pub m8 : (before : Start) → Typed.Mo T13
+      abbrev pub After-rs·start : After-rs → Start
+      After-rs·start = λ c. c .before .before .before .before
+
+      abbrev pub m8 : (before : Start) → Typed.Mo T0
       m8 = λ before. s10 (m1 (before .κs) (before .args))
 
       module _ (before· : Start) where
@@ -603,20 +523,11 @@ module _ (claims· : Claims) where
         pub before : Start
         pub if1 : Else1·own before
 
-      abbrev pub m9 : (before : After-restart-main) → (given : s8 .gives (m6 (before .before) (After-restart-main·gave before))) → Typed.Mo T14
-      m9 = λ before given. s11 (m7 before given)
-
-      abbrev pub m10 : (before : After-restart-main) → (given : s8 .gives (m6 (before .before) (After-restart-main·gave before))) → Typed.Mo T15
-      m10 = λ before given. s12 (m9 before given)
-
-      abbrev pub m11 : (before : After-restart-main) → (given : s8 .gives (m6 (before .before) (After-restart-main·gave before))) → Typed.Mo T16
-      m11 = λ before given. s13 (m10 before given)
-
-      abbrev pub m12 : (before : After-restart-main) → (given : s8 .gives (m6 (before .before) (After-restart-main·gave before))) → Typed.Mo T17
-      m12 = λ before given. s14 (m11 before given)
+      abbrev pub m12 : (before : After-restart-main) → (given : s8 .gives (m6 (before .before) (After-restart-main·gave before))) → Typed.Mo T1
+      m12 = λ before given. s14 (s13 (s12 (s11 (m7 before given))))
 
       abbrev pub Need-same-length : Type 0
-      Need-same-length = (c : After-rs) → MutSlice.SameLen (Row.get 1 (T17 .locals) (m12 (c .before) (c .rs .given))) (dens (c .before .before .before .before .κs) (c .before .before .before .before
+      Need-same-length = (c : After-rs) → MutSlice.SameLen (Row.get 1 (T1 .locals) (m12 (c .before) (c .rs .given))) (dens (c .before .before .before .before .κs) (c .before .before .before .before
           .args) .0)
 
       abbrev pub Need-returns : Type 0
@@ -625,17 +536,8 @@ module _ (claims· : Claims) where
           .before .before .before .before .args)) (Enter.lastsP (c .before .before .before .before .κs) 1 ps xs (dens (c .before .before .before .before .κs) (c .before .before .before .before .args))
           (m12 (c .before) (c .rs .given) .1)))
 
-      abbrev pub m13 : (before : Start) → Typed.Mo T14
-      m13 = λ before. s11 (m8 before)
-
-      abbrev pub m14 : (before : Start) → Typed.Mo T15
-      m14 = λ before. s12 (m13 before)
-
-      abbrev pub m15 : (before : Start) → Typed.Mo T16
-      m15 = λ before. s13 (m14 before)
-
-      abbrev pub m16 : (before : Start) → Typed.Mo T17
-      m16 = λ before. s14 (m15 before)
+      abbrev pub m16 : (before : Start) → Typed.Mo T1
+      m16 = λ before. s14 (s13 (s12 (s11 (m8 before))))
 
       abbrev pub Need-returns-2 : Type 0
       Need-returns-2 = (c : Else1) → Post· (c .before .κs) (dens (c .before .κs) (c .before .args)) (Function.resV r (c .before .κs) (m16 (c .before) .0)) (Clauses.atExit (Kinds.endedOf 1 ps r) (c
@@ -643,16 +545,16 @@ module _ (claims· : Claims) where
 
       module _ (restart-main-requires : Need-restart-main-requires) (same-length : Need-same-length) (returns : Need-returns) (returns-2 : Need-returns-2) where
         lay2 : (c : Else1) → at12 (W0 (c .before .κs) (c .before .args)) (m8 (c .before))
-        lay2 = λ c. ((Path'.refl, (tt, (tt, (tt, tt)))), returns-2 record { before = c .before; if1 = c .if1 })
+        lay2 = λ c. ((Path'.refl, (tt, (tt, (tt, tt)))), returns-2 c)
 
-        lay1 : (c : After-rs) → at12 (W0 (c .before .before .before .before .κs) (c .before .before .before .before .args)) (m7 (c .before) (c .rs .given))
+        lay1 : (c : After-rs) → at12 (W0 (After-rs·start c .κs) (After-rs·start c .args)) (m7 (c .before) (c .rs .given))
         lay1 = λ c. (
           (
-            MutSlice.fix-len (Row.get 1 (T17 .locals) (m12 (c .before) (c .rs .given)) .ptr) (Row.get 1 (T17 .locals) (m12 (c .before) (c .rs .given)) .name) (Row.get 1 (T17 .locals) (m12 (c .before) (c
-                .rs .given)) .now) (dens (c .before .before .before .before .κs) (c .before .before .before .before .args) .0 .now) (same-length record { before = c .before; rs = c .rs }),
+            MutSlice.fix-len (Row.get 1 (T1 .locals) (m12 (c .before) (c .rs .given)) .ptr) (Row.get 1 (T1 .locals) (m12 (c .before) (c .rs .given)) .name) (Row.get 1 (T1 .locals) (m12 (c .before) (c
+                .rs .given)) .now) (dens (After-rs·start c .κs) (After-rs·start c .args) .0 .now) (same-length c),
             (tt, (tt, (tt, tt))),
           ),
-          returns record { before = c .before; rs = c .rs },
+          returns c,
         )
 
         pub laid : (c : Start) → at14 (W0 (c .κs) (c .args)) (m0 (c .κs) (c .args))
@@ -667,8 +569,7 @@ module _ (claims· : Claims) where
                   before = record {
                     before = record { before = record { before = c; if1 = record { taken = taken } }; restart-main-arg = record { given = g } };
                     restart-main = Called.called ps·0 r·0 (claims· .1) T7
-                        (record { pos = 8; ty = Syntax.tyRef Syntax.erased Syntax.mut Element.behind; ref = λ x. x }, (Num.vAt 2 λ x. x, (Num.vAt 3 λ x. x, tt))) (m4 record
-                        { before = c; if1 = record { taken = taken } } g) g';
+                        (record { pos = 8; ty = y1; ref = λ x. x }, (Num.vAt 2 λ x. x, (Num.vAt 3 λ x. x, tt))) (m4 record { before = c; if1 = record { taken = taken } } g) g';
                   };
                   rs = record { given = g'' };
                 },

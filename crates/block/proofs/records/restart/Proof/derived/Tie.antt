@@ -18,15 +18,6 @@ Start = Lts.Start (Reads'.Asked, Reads'.Learnt) Reads.Pre Reads.Post
 abbrev pub Then1 : Type 0
 Then1 = Lts.Then1 (Reads'.Asked, Reads'.Learnt) Reads.Pre Reads.Post
 
-abbrev pub After-restart-main-arg : Type 0
-After-restart-main-arg = Lts.After-restart-main-arg (Reads'.Asked, Reads'.Learnt) Reads.Pre Reads.Post
-
-abbrev pub After-restart-main : Type 0
-After-restart-main = Lts.After-restart-main (Reads'.Asked, Reads'.Learnt) Reads.Pre Reads.Post
-
-abbrev pub After-rs : Type 0
-After-rs = Lts.After-rs (Reads'.Asked, Reads'.Learnt) Reads.Pre Reads.Post
-
 abbrev pub Else1 : Type 0
 Else1 = Lts.Else1 (Reads'.Asked, Reads'.Learnt) Reads.Pre Reads.Post
 

@@ -1,4 +1,9 @@
 -- Written by tools/lend.py from Rattle's derivation of the twin of `block`; not edited by hand. Assumes nothing.
+use borrow.Fn.Args.{ArgsT}
+use Rattle.bits.proofs.Values
+use Rattle.bits.proofs.Values.{on}
+use Rattle.bits.proofs.Values.{n16, n8, u16, u32, u64, u8}
+use mathlib.Core.List.{_∷_, []}
 use Rattle.block.proofs.Element
 use Prim.Native.Nat
 use Rattle.begin.proofs.Beginning
@@ -34,7 +39,6 @@ use borrow.Kind.Bool
 use borrow.Kind.MutSlice
 use borrow.Kind.Num
 use borrow.Kind.ShrSlice
-use borrow.Kind.Value
 use borrow.Rule.Array.Init
 use borrow.Rule.Array.Rows
 use borrow.Rule.Lifetime
@@ -67,7 +71,6 @@ use contract.Lifetimes
 use denote.Array as Array'
 use denote.Enum.Declared
 use denote.Enum.Laws as Laws'8
-use denote.Exit
 use denote.Laws as Laws'9
 use denote.Struct.Declared as Declared'
 use denote.Struct.Laws as Laws'10
@@ -89,592 +92,244 @@ use types.Kit
 use types.Run
 
 abbrev pub y0 : Syntax.Ty
-y0 = Syntax.tyStruct (List._∷_ 113 (List._∷_ 117 (List._∷_ 97 (List._∷_ 110 (List._∷_ 116 (List._∷_ 105 (List._∷_ 115 (List._∷_ 101 (List._∷_ 114 (List._∷_ 58 (List._∷_ 58 (List._∷_ 81 (List._∷_ 117
-    (List._∷_ 97 (List._∷_ 110 (List._∷_ 116 (List._∷_ 105 (List._∷_ 115 (List._∷_ 101 (List._∷_ 114 List.[])))))))))))))))))))) (Syntax.tcons (Syntax.tyInt Syntax.w32) (Syntax.tcons (Syntax.tyInt
-    Syntax.w32) (Syntax.tcons (Syntax.tyInt Syntax.w32) (Syntax.tcons (Syntax.tyInt Syntax.w32) (Syntax.tcons (Syntax.tyInt Syntax.w32) Syntax.tnil)))))
+y0 = Syntax.tyArray u8 36
 
 abbrev pub y1 : Syntax.Ty
-y1 = Syntax.tyStruct (List._∷_ 114 (List._∷_ 101 (List._∷_ 103 (List._∷_ 105 (List._∷_ 111 (List._∷_ 110 (List._∷_ 58 (List._∷_ 58 (List._∷_ 82 (List._∷_ 101 (List._∷_ 99 (List._∷_ 116
-    List.[])))))))))))) (Syntax.tcons (Syntax.tyInt Syntax.w64) (Syntax.tcons (Syntax.tyInt Syntax.w64) (Syntax.tcons (Syntax.tyInt Syntax.w64) (Syntax.tcons (Syntax.tyInt Syntax.w64) Syntax.tnil))))
+y1 = Syntax.tyEnum (115 ∷ 116 ∷ 114 ∷ 101 ∷ 97 ∷ 109 ∷ 58 ∷ 58 ∷ 82 ∷ 101 ∷ 102 ∷ 117 ∷ 115 ∷ 97 ∷ 108 ∷ []) (Syntax.ttcons Syntax.tnil (Syntax.ttcons Syntax.tnil (Syntax.ttcons Syntax.tnil
+    (Syntax.ttcons (Syntax.tcons u64 Syntax.tnil) (Syntax.ttcons Syntax.tnil (Syntax.ttcons Syntax.tnil (Syntax.ttcons Syntax.tnil (Syntax.ttcons Syntax.tnil (Syntax.ttcons Syntax.tnil (Syntax.ttcons
+    Syntax.tnil (Syntax.ttcons (Syntax.tcons u64 Syntax.tnil) (Syntax.ttcons (Syntax.tcons u64 Syntax.tnil) (Syntax.ttcons Syntax.tnil (Syntax.ttcons (Syntax.tcons u64 (Syntax.tcons u64 Syntax.tnil))
+    (Syntax.ttcons (Syntax.tcons u64 Syntax.tnil) (Syntax.ttcons Syntax.tnil (Syntax.ttcons Syntax.tnil (Syntax.ttcons (Syntax.tcons u64 Syntax.tnil) (Syntax.ttcons (Syntax.tcons u64 Syntax.tnil)
+    (Syntax.ttcons (Syntax.tcons u64 Syntax.tnil) (Syntax.ttcons Syntax.tnil (Syntax.ttcons Syntax.tnil (Syntax.ttcons (Syntax.tcons u64 (Syntax.tcons u64 Syntax.tnil)) (Syntax.ttcons Syntax.tnil
+    Syntax.ttnil))))))))))))))))))))))))
 
 abbrev pub y2 : Syntax.Ty
-y2 = Syntax.tyStruct (List._∷_ 115 (List._∷_ 116 (List._∷_ 114 (List._∷_ 101 (List._∷_ 97 (List._∷_ 109 (List._∷_ 58 (List._∷_ 58 (List._∷_ 70 (List._∷_ 117 (List._∷_ 106 (List._∷_ 105 (List._∷_ 72
-    (List._∷_ 101 (List._∷_ 97 (List._∷_ 100 (List._∷_ 101 (List._∷_ 114 List.[])))))))))))))))))) (Syntax.tcons Syntax.tyBool (Syntax.tcons Syntax.tyBool (Syntax.tcons (Syntax.tyInt Syntax.w32)
-    (Syntax.tcons (Syntax.tyInt Syntax.w32) (Syntax.tcons (Syntax.tyInt Syntax.w32) (Syntax.tcons (Syntax.tyInt Syntax.w32) (Syntax.tcons (Syntax.tyInt Syntax.w32) (Syntax.tcons (Syntax.tyInt Syntax.w32)
-    (Syntax.tcons (Syntax.tyInt Syntax.w32) Syntax.tnil)))))))))
+y2 = Syntax.tyEnum (99 ∷ 97 ∷ 109 ∷ 101 ∷ 114 ∷ 97 ∷ 115 ∷ 58 ∷ 58 ∷ 67 ∷ 97 ∷ 109 ∷ 101 ∷ 114 ∷ 97 ∷ []) (Syntax.ttcons Syntax.tnil (Syntax.ttcons Syntax.tnil Syntax.ttnil))
 
 abbrev pub y3 : Syntax.Ty
-y3 = Syntax.tyStruct (List._∷_ 38 (List._∷_ 91 (List._∷_ 93 List.[]))) (Syntax.tcons (Syntax.tyRef Syntax.erased Syntax.mut (Syntax.tyInt Syntax.w16)) (Syntax.tcons (Syntax.tyInt Syntax.w64)
-    Syntax.tnil))
+y3 = Syntax.tyRef (Syntax.named 0) Syntax.imm u8
 
 abbrev pub y4 : Syntax.Ty
-y4 = Syntax.tyStruct (List._∷_ 38 (List._∷_ 91 (List._∷_ 93 List.[]))) (Syntax.tcons (Syntax.tyRef Syntax.erased Syntax.mut Element.behind) (Syntax.tcons (Syntax.tyInt Syntax.w64) Syntax.tnil))
+y4 = Syntax.tyRef (Syntax.named 1) Syntax.mut u16
 
 abbrev pub y5 : Syntax.Ty
-y5 = Syntax.tyStruct (List._∷_ 99 (List._∷_ 97 (List._∷_ 109 (List._∷_ 101 (List._∷_ 114 (List._∷_ 97 (List._∷_ 115 (List._∷_ 58 (List._∷_ 58 (List._∷_ 69 (List._∷_ 110 (List._∷_ 116 (List._∷_ 114
-    (List._∷_ 121 List.[])))))))))))))) (Syntax.tcons (Syntax.tyInt Syntax.w32) (Syntax.tcons y0 (Syntax.tcons Syntax.tyBool (Syntax.tcons Syntax.tyBool Syntax.tnil))))
+y5 = Syntax.tyRef (Syntax.named 2) Syntax.mut u16
 
 abbrev pub y6 : Syntax.Ty
-y6 = Syntax.tyStruct (List._∷_ 99 (List._∷_ 97 (List._∷_ 109 (List._∷_ 101 (List._∷_ 114 (List._∷_ 97 (List._∷_ 115 (List._∷_ 58 (List._∷_ 58 (List._∷_ 69 (List._∷_ 110 (List._∷_ 116 (List._∷_ 114
-    (List._∷_ 105 (List._∷_ 101 (List._∷_ 115 List.[])))))))))))))))) (Syntax.tcons (Syntax.tyArray y5 16) Syntax.tnil)
+y6 = Syntax.tyRef (Syntax.named 3) Syntax.mut Element.behind
 
 abbrev pub y7 : Syntax.Ty
-y7 = Syntax.tyStruct (List._∷_ 98 (List._∷_ 108 (List._∷_ 111 (List._∷_ 99 (List._∷_ 107 (List._∷_ 58 (List._∷_ 58 (List._∷_ 83 (List._∷_ 104 (List._∷_ 97 (List._∷_ 114 (List._∷_ 101 (List._∷_ 100
-    (List._∷_ 65 (List._∷_ 110 (List._∷_ 115 (List._∷_ 119 (List._∷_ 101 (List._∷_ 114 List.[]))))))))))))))))))) (Syntax.tcons (Syntax.tyEnum (List._∷_ 98 (List._∷_ 108 (List._∷_ 111 (List._∷_ 99
-    (List._∷_ 107 (List._∷_ 58 (List._∷_ 58 (List._∷_ 68 (List._∷_ 101 (List._∷_ 99 (List._∷_ 111 (List._∷_ 100 (List._∷_ 101 (List._∷_ 100 List.[])))))))))))))) (Syntax.ttcons Syntax.tnil (Syntax.ttcons
-    (Syntax.tcons (Syntax.tyEnum (List._∷_ 115 (List._∷_ 116 (List._∷_ 114 (List._∷_ 101 (List._∷_ 97 (List._∷_ 109 (List._∷_ 58 (List._∷_ 58 (List._∷_ 82 (List._∷_ 101 (List._∷_ 102 (List._∷_ 117
-    (List._∷_ 115 (List._∷_ 97 (List._∷_ 108 List.[]))))))))))))))) (Syntax.ttcons Syntax.tnil (Syntax.ttcons Syntax.tnil (Syntax.ttcons Syntax.tnil (Syntax.ttcons (Syntax.tcons (Syntax.tyInt Syntax.w64)
-    Syntax.tnil) (Syntax.ttcons Syntax.tnil (Syntax.ttcons Syntax.tnil (Syntax.ttcons Syntax.tnil (Syntax.ttcons Syntax.tnil (Syntax.ttcons Syntax.tnil (Syntax.ttcons Syntax.tnil (Syntax.ttcons
-    (Syntax.tcons (Syntax.tyInt Syntax.w64) Syntax.tnil) (Syntax.ttcons (Syntax.tcons (Syntax.tyInt Syntax.w64) Syntax.tnil) (Syntax.ttcons Syntax.tnil (Syntax.ttcons (Syntax.tcons (Syntax.tyInt
-    Syntax.w64) (Syntax.tcons (Syntax.tyInt Syntax.w64) Syntax.tnil)) (Syntax.ttcons (Syntax.tcons (Syntax.tyInt Syntax.w64) Syntax.tnil) (Syntax.ttcons Syntax.tnil (Syntax.ttcons Syntax.tnil
-    (Syntax.ttcons (Syntax.tcons (Syntax.tyInt Syntax.w64) Syntax.tnil) (Syntax.ttcons (Syntax.tcons (Syntax.tyInt Syntax.w64) Syntax.tnil) (Syntax.ttcons (Syntax.tcons (Syntax.tyInt Syntax.w64)
-    Syntax.tnil) (Syntax.ttcons Syntax.tnil (Syntax.ttcons Syntax.tnil (Syntax.ttcons (Syntax.tcons (Syntax.tyInt Syntax.w64) (Syntax.tcons (Syntax.tyInt Syntax.w64) Syntax.tnil)) (Syntax.ttcons
-    Syntax.tnil Syntax.ttnil))))))))))))))))))))))))) Syntax.tnil) Syntax.ttnil))) (Syntax.tcons y6 Syntax.tnil))
+y7 = Syntax.tyRef Syntax.erased Syntax.mut Element.behind
+
+abbrev pub y8 : Syntax.Ty
+y8 = Syntax.tyRef Syntax.erased Syntax.mut u16
+
+abbrev pub y9 : Syntax.Ty
+y9 = Syntax.tyStruct (113 ∷ 117 ∷ 97 ∷ 110 ∷ 116 ∷ 105 ∷ 115 ∷ 101 ∷ 114 ∷ 58 ∷ 58 ∷ 81 ∷ 117 ∷ 97 ∷ 110 ∷ 116 ∷ 105 ∷ 115 ∷ 101 ∷ 114 ∷ []) (Syntax.tcons u32 (Syntax.tcons u32 (Syntax.tcons u32
+    (Syntax.tcons u32 (Syntax.tcons u32 Syntax.tnil)))))
+
+abbrev pub y10 : Syntax.Ty
+y10 = Syntax.tyStruct (114 ∷ 101 ∷ 103 ∷ 105 ∷ 111 ∷ 110 ∷ 58 ∷ 58 ∷ 82 ∷ 101 ∷ 99 ∷ 116 ∷ []) (Syntax.tcons u64 (Syntax.tcons u64 (Syntax.tcons u64 (Syntax.tcons u64 Syntax.tnil))))
+
+abbrev pub y11 : Syntax.Ty
+y11 = Syntax.tyStruct (115 ∷ 116 ∷ 114 ∷ 101 ∷ 97 ∷ 109 ∷ 58 ∷ 58 ∷ 70 ∷ 117 ∷ 106 ∷ 105 ∷ 72 ∷ 101 ∷ 97 ∷ 100 ∷ 101 ∷ 114 ∷ []) (Syntax.tcons Syntax.tyBool (Syntax.tcons Syntax.tyBool (Syntax.tcons
+    u32 (Syntax.tcons u32 (Syntax.tcons u32 (Syntax.tcons u32 (Syntax.tcons u32 (Syntax.tcons u32 (Syntax.tcons u32 Syntax.tnil)))))))))
+
+abbrev pub y12 : Syntax.Ty
+y12 = Syntax.tyEnum (98 ∷ 101 ∷ 103 ∷ 105 ∷ 110 ∷ 58 ∷ 58 ∷ 66 ∷ 101 ∷ 103 ∷ 105 ∷ 110 ∷ 110 ∷ 105 ∷ 110 ∷ 103 ∷ []) (Syntax.ttcons (Syntax.tcons y1 Syntax.tnil) (Syntax.ttcons Syntax.tnil
+    (Syntax.ttcons (Syntax.tcons y11 Syntax.tnil) Syntax.ttnil)))
+
+abbrev pub y13 : Syntax.Ty
+y13 = Syntax.tyEnum (98 ∷ 108 ∷ 111 ∷ 99 ∷ 107 ∷ 58 ∷ 58 ∷ 68 ∷ 101 ∷ 99 ∷ 111 ∷ 100 ∷ 101 ∷ 100 ∷ []) (Syntax.ttcons Syntax.tnil (Syntax.ttcons (Syntax.tcons y1 Syntax.tnil) Syntax.ttnil))
+
+abbrev pub y14 : Syntax.Ty
+y14 = Syntax.tyStruct (38 ∷ 91 ∷ 93 ∷ []) (Syntax.tcons y7 (Syntax.tcons u64 Syntax.tnil))
+
+abbrev pub y15 : Syntax.Ty
+y15 = Syntax.tyStruct (38 ∷ 91 ∷ 93 ∷ []) (Syntax.tcons y8 (Syntax.tcons u64 Syntax.tnil))
+
+abbrev pub y16 : Syntax.Ty
+y16 = Syntax.tyStruct (99 ∷ 97 ∷ 109 ∷ 101 ∷ 114 ∷ 97 ∷ 115 ∷ 58 ∷ 58 ∷ 69 ∷ 110 ∷ 116 ∷ 114 ∷ 121 ∷ []) (Syntax.tcons u32 (Syntax.tcons y9 (Syntax.tcons Syntax.tyBool (Syntax.tcons Syntax.tyBool
+    Syntax.tnil))))
+
+abbrev pub y17 : Syntax.Ty
+y17 = Syntax.tyArray y16 16
+
+abbrev pub y18 : Syntax.Ty
+y18 = Syntax.tyStruct (99 ∷ 97 ∷ 109 ∷ 101 ∷ 114 ∷ 97 ∷ 115 ∷ 58 ∷ 58 ∷ 69 ∷ 110 ∷ 116 ∷ 114 ∷ 105 ∷ 101 ∷ 115 ∷ []) (Syntax.tcons y17 Syntax.tnil)
+
+abbrev pub y19 : Syntax.Ty
+y19 = Syntax.tyStruct (98 ∷ 108 ∷ 111 ∷ 99 ∷ 107 ∷ 58 ∷ 58 ∷ 83 ∷ 104 ∷ 97 ∷ 114 ∷ 101 ∷ 100 ∷ 65 ∷ 110 ∷ 115 ∷ 119 ∷ 101 ∷ 114 ∷ []) (Syntax.tcons y13 (Syntax.tcons y18 Syntax.tnil))
 
 abbrev pub ps : List.List (Kinds.PK 4)
-ps = List._∷_ (Value.pVal record {
-  ty = Declared.row Camera.the-type;
-  one = Path'.refl;
-  val = Laws'8.val Camera.the-type Laws'3.the-laws;
-  tells = Laws'8.tells Camera.the-type Laws'3.the-laws;
-  still = Laws'8.still Camera.the-type
-      Laws'3.the-copy Exit.yes;
-  row = Rows'.whole (Declared.row Camera.the-type);
-  rd = λ x. x;
-  mk = λ x. x;
-} λ M 𝓤 H A W. record {
-  copies = Laws'8.copy Camera.the-type Laws'3.the-copy 𝓤 H A W;
-  lawful = Laws'8.lawful Camera.the-type Laws'3.the-laws 𝓤 H A W tt;
-  makes = Laws'8.makes Camera.the-type Laws'3.the-plain 𝓤 H A;
-  in-mem =
-      Local.mem-whole 𝓤 H A W (Declared.row Camera.the-type);
-  of-mem = Local.whole-mem 𝓤 H A W (Declared.row Camera.the-type);
-}) (List._∷_ (Value.pVal record {
-  ty = Declared'.row Entries.the-type;
-  one = Path'.refl;
-  val = Laws'10.val Entries.the-type Laws'4.the-laws;
-  tells = Laws'10.tells Entries.the-type Laws'4.the-laws;
-  still = Laws'10.still
-      Entries.the-type Laws'4.the-copy Exit.yes;
-  row = Rows'.whole (Declared'.row Entries.the-type);
-  rd = λ x. x;
-  mk = λ x. x;
-} λ M 𝓤 H A W. record {
-  copies = Laws'10.copy Entries.the-type Laws'4.the-copy 𝓤 H A W;
-  lawful = Laws'10.lawful Entries.the-type Laws'4.the-laws 𝓤 H A W;
-  makes = Laws'10.makes Entries.the-type Laws'4.the-plain 𝓤 H A;
-  in-mem = Local.mem-whole 𝓤 H A W (Declared'.row Entries.the-type);
-  of-mem = Local.whole-mem 𝓤 H A W (Declared'.row Entries.the-type);
-}) (List._∷_ (ShrSlice.pShrS (Referent.rtF (Referent.fInt
-    Syntax.w8)) 0 tt) (List._∷_ (Value.pVal record {
-      ty = Declared'.row Rect.the-type;
-      one = Path'.refl;
-      val = Laws'10.val Rect.the-type Laws'5.the-laws;
-      tells = Laws'10.tells Rect.the-type Laws'5.the-laws;
-      still = Laws'10.still Rect.the-type
-          Laws'5.the-copy Exit.yes;
-      row = Rows'.whole (Declared'.row Rect.the-type);
-      rd = λ x. x;
-      mk = λ x. x;
-    } λ M 𝓤 H A W. record {
-      copies = Laws'10.copy Rect.the-type Laws'5.the-copy 𝓤 H A W;
-      lawful = Laws'10.lawful Rect.the-type Laws'5.the-laws 𝓤 H A W;
-      makes = Laws'10.makes Rect.the-type Laws'5.the-plain 𝓤 H A;
-      in-mem =
-          Local.mem-whole 𝓤 H A W (Declared'.row Rect.the-type);
-      of-mem = Local.whole-mem 𝓤 H A W (Declared'.row Rect.the-type);
-    }) (List._∷_ (Array.pArr (Array.eInt Syntax.w8) (Array.eInt-laws Syntax.w8) 36)
-    (List._∷_ (MutSlice.pMutS (Referent.rtF (Referent.fInt Syntax.w16)) 1 tt) (List._∷_ (MutSlice.pMutS (Referent.rtF (Referent.fInt Syntax.w16)) 2 tt) (List._∷_ (MutSlice.pMutS (Element.type) 3 tt)
-    List.[])))))))
+ps = (Values.enum Camera.the-type Laws'3.the-laws Laws'3.the-copy Laws'3.the-plain tt) ∷ (Values.struct Entries.the-type Laws'4.the-laws Laws'4.the-copy Laws'4.the-plain) ∷ (ShrSlice.pShrS n8 0 tt) ∷
+    (Values.struct Rect.the-type Laws'5.the-laws Laws'5.the-copy Laws'5.the-plain) ∷ (Array.pArr (Array.eInt Syntax.w8) (Array.eInt-laws Syntax.w8) 36) ∷ (MutSlice.pMutS n16 1 tt) ∷ (MutSlice.pMutS n16 2
+    tt) ∷ (MutSlice.pMutS (Element.type) 3 tt) ∷ []
 
 abbrev pub r : Kinds.RK 4
-r = Value.rVal record {
-  ty = Declared'.row SharedAnswer.the-type;
-  one = Path'.refl;
-  val = Laws'10.val SharedAnswer.the-type Laws''.the-laws;
-  tells = Laws'10.tells SharedAnswer.the-type Laws''.the-laws;
-  still =
-      Laws'10.still SharedAnswer.the-type Laws''.the-copy Exit.yes;
-  row = Rows'.whole (Declared'.row SharedAnswer.the-type);
-  rd = λ x. x;
-  mk = λ x. x;
-} λ M 𝓤 H A W. record {
-  copies = Laws'10.copy SharedAnswer.the-type Laws''.the-copy 𝓤 H A W;
-  lawful = Laws'10.lawful SharedAnswer.the-type Laws''.the-laws 𝓤 H A W;
-  makes = Laws'10.makes SharedAnswer.the-type
-      Laws''.the-plain 𝓤 H A;
-  in-mem = Local.mem-whole 𝓤 H A W (Declared'.row SharedAnswer.the-type);
-  of-mem = Local.whole-mem 𝓤 H A W (Declared'.row SharedAnswer.the-type);
-}
+r = Values.struct-result SharedAnswer.the-type Laws''.the-laws Laws''.the-copy Laws''.the-plain
 
 abbrev pub xs : List.List Syntax.Ty
-xs = List._∷_ (Syntax.tyEnum (List._∷_ 98 (List._∷_ 101 (List._∷_ 103 (List._∷_ 105 (List._∷_ 110 (List._∷_ 58 (List._∷_ 58 (List._∷_ 66 (List._∷_ 101 (List._∷_ 103 (List._∷_ 105 (List._∷_ 110
-    (List._∷_ 110 (List._∷_ 105 (List._∷_ 110 (List._∷_ 103 List.[])))))))))))))))) (Syntax.ttcons (Syntax.tcons (Syntax.tyEnum (List._∷_ 115 (List._∷_ 116 (List._∷_ 114 (List._∷_ 101 (List._∷_ 97
-    (List._∷_ 109 (List._∷_ 58 (List._∷_ 58 (List._∷_ 82 (List._∷_ 101 (List._∷_ 102 (List._∷_ 117 (List._∷_ 115 (List._∷_ 97 (List._∷_ 108 List.[]))))))))))))))) (Syntax.ttcons Syntax.tnil (Syntax.ttcons
-    Syntax.tnil (Syntax.ttcons Syntax.tnil (Syntax.ttcons (Syntax.tcons (Syntax.tyInt Syntax.w64) Syntax.tnil) (Syntax.ttcons Syntax.tnil (Syntax.ttcons Syntax.tnil (Syntax.ttcons Syntax.tnil
-    (Syntax.ttcons Syntax.tnil (Syntax.ttcons Syntax.tnil (Syntax.ttcons Syntax.tnil (Syntax.ttcons (Syntax.tcons (Syntax.tyInt Syntax.w64) Syntax.tnil) (Syntax.ttcons (Syntax.tcons (Syntax.tyInt
-    Syntax.w64) Syntax.tnil) (Syntax.ttcons Syntax.tnil (Syntax.ttcons (Syntax.tcons (Syntax.tyInt Syntax.w64) (Syntax.tcons (Syntax.tyInt Syntax.w64) Syntax.tnil)) (Syntax.ttcons (Syntax.tcons
-    (Syntax.tyInt Syntax.w64) Syntax.tnil) (Syntax.ttcons Syntax.tnil (Syntax.ttcons Syntax.tnil (Syntax.ttcons (Syntax.tcons (Syntax.tyInt Syntax.w64) Syntax.tnil) (Syntax.ttcons (Syntax.tcons
-    (Syntax.tyInt Syntax.w64) Syntax.tnil) (Syntax.ttcons (Syntax.tcons (Syntax.tyInt Syntax.w64) Syntax.tnil) (Syntax.ttcons Syntax.tnil (Syntax.ttcons Syntax.tnil (Syntax.ttcons (Syntax.tcons
-    (Syntax.tyInt Syntax.w64) (Syntax.tcons (Syntax.tyInt Syntax.w64) Syntax.tnil)) (Syntax.ttcons Syntax.tnil Syntax.ttnil))))))))))))))))))))))))) Syntax.tnil) (Syntax.ttcons Syntax.tnil (Syntax.ttcons
-    (Syntax.tcons y2 Syntax.tnil) Syntax.ttnil)))) (List._∷_ y6 (List._∷_ (Syntax.tyEnum (List._∷_ 115 (List._∷_ 116 (List._∷_ 114 (List._∷_ 101 (List._∷_ 97 (List._∷_ 109 (List._∷_ 58 (List._∷_ 58
-    (List._∷_ 82 (List._∷_ 101 (List._∷_ 102 (List._∷_ 117 (List._∷_ 115 (List._∷_ 97 (List._∷_ 108 List.[]))))))))))))))) (Syntax.ttcons Syntax.tnil (Syntax.ttcons Syntax.tnil (Syntax.ttcons Syntax.tnil
-    (Syntax.ttcons (Syntax.tcons (Syntax.tyInt Syntax.w64) Syntax.tnil) (Syntax.ttcons Syntax.tnil (Syntax.ttcons Syntax.tnil (Syntax.ttcons Syntax.tnil (Syntax.ttcons Syntax.tnil (Syntax.ttcons
-    Syntax.tnil (Syntax.ttcons Syntax.tnil (Syntax.ttcons (Syntax.tcons (Syntax.tyInt Syntax.w64) Syntax.tnil) (Syntax.ttcons (Syntax.tcons (Syntax.tyInt Syntax.w64) Syntax.tnil) (Syntax.ttcons
-    Syntax.tnil (Syntax.ttcons (Syntax.tcons (Syntax.tyInt Syntax.w64) (Syntax.tcons (Syntax.tyInt Syntax.w64) Syntax.tnil)) (Syntax.ttcons (Syntax.tcons (Syntax.tyInt Syntax.w64) Syntax.tnil)
-    (Syntax.ttcons Syntax.tnil (Syntax.ttcons Syntax.tnil (Syntax.ttcons (Syntax.tcons (Syntax.tyInt Syntax.w64) Syntax.tnil) (Syntax.ttcons (Syntax.tcons (Syntax.tyInt Syntax.w64) Syntax.tnil)
-    (Syntax.ttcons (Syntax.tcons (Syntax.tyInt Syntax.w64) Syntax.tnil) (Syntax.ttcons Syntax.tnil (Syntax.ttcons Syntax.tnil (Syntax.ttcons (Syntax.tcons (Syntax.tyInt Syntax.w64) (Syntax.tcons
-    (Syntax.tyInt Syntax.w64) Syntax.tnil)) (Syntax.ttcons Syntax.tnil Syntax.ttnil))))))))))))))))))))))))) (List._∷_ y2 (List._∷_ (Syntax.tyInt Syntax.w64) (List._∷_ y7 (List._∷_ (Syntax.tyEnum
-    (List._∷_ 98 (List._∷_ 108 (List._∷_ 111 (List._∷_ 99 (List._∷_ 107 (List._∷_ 58 (List._∷_ 58 (List._∷_ 68 (List._∷_ 101 (List._∷_ 99 (List._∷_ 111 (List._∷_ 100 (List._∷_ 101 (List._∷_ 100
-    List.[])))))))))))))) (Syntax.ttcons Syntax.tnil (Syntax.ttcons (Syntax.tcons (Syntax.tyEnum (List._∷_ 115 (List._∷_ 116 (List._∷_ 114 (List._∷_ 101 (List._∷_ 97 (List._∷_ 109 (List._∷_ 58 (List._∷_
-    58 (List._∷_ 82 (List._∷_ 101 (List._∷_ 102 (List._∷_ 117 (List._∷_ 115 (List._∷_ 97 (List._∷_ 108 List.[]))))))))))))))) (Syntax.ttcons Syntax.tnil (Syntax.ttcons Syntax.tnil (Syntax.ttcons
-    Syntax.tnil (Syntax.ttcons (Syntax.tcons (Syntax.tyInt Syntax.w64) Syntax.tnil) (Syntax.ttcons Syntax.tnil (Syntax.ttcons Syntax.tnil (Syntax.ttcons Syntax.tnil (Syntax.ttcons Syntax.tnil
-    (Syntax.ttcons Syntax.tnil (Syntax.ttcons Syntax.tnil (Syntax.ttcons (Syntax.tcons (Syntax.tyInt Syntax.w64) Syntax.tnil) (Syntax.ttcons (Syntax.tcons (Syntax.tyInt Syntax.w64) Syntax.tnil)
-    (Syntax.ttcons Syntax.tnil (Syntax.ttcons (Syntax.tcons (Syntax.tyInt Syntax.w64) (Syntax.tcons (Syntax.tyInt Syntax.w64) Syntax.tnil)) (Syntax.ttcons (Syntax.tcons (Syntax.tyInt Syntax.w64)
-    Syntax.tnil) (Syntax.ttcons Syntax.tnil (Syntax.ttcons Syntax.tnil (Syntax.ttcons (Syntax.tcons (Syntax.tyInt Syntax.w64) Syntax.tnil) (Syntax.ttcons (Syntax.tcons (Syntax.tyInt Syntax.w64)
-    Syntax.tnil) (Syntax.ttcons (Syntax.tcons (Syntax.tyInt Syntax.w64) Syntax.tnil) (Syntax.ttcons Syntax.tnil (Syntax.ttcons Syntax.tnil (Syntax.ttcons (Syntax.tcons (Syntax.tyInt Syntax.w64)
-    (Syntax.tcons (Syntax.tyInt Syntax.w64) Syntax.tnil)) (Syntax.ttcons Syntax.tnil Syntax.ttnil))))))))))))))))))))))))) Syntax.tnil) Syntax.ttnil))) (List._∷_ (Syntax.tyInt Syntax.w64) (List._∷_
-    (Syntax.tyInt Syntax.w64) (List._∷_ (Syntax.tyInt Syntax.w64) (List._∷_ y7 (List._∷_ (Syntax.tyEnum (List._∷_ 98 (List._∷_ 108 (List._∷_ 111 (List._∷_ 99 (List._∷_ 107 (List._∷_ 58 (List._∷_ 58
-    (List._∷_ 68 (List._∷_ 101 (List._∷_ 99 (List._∷_ 111 (List._∷_ 100 (List._∷_ 101 (List._∷_ 100 List.[])))))))))))))) (Syntax.ttcons Syntax.tnil (Syntax.ttcons (Syntax.tcons (Syntax.tyEnum (List._∷_
-    115 (List._∷_ 116 (List._∷_ 114 (List._∷_ 101 (List._∷_ 97 (List._∷_ 109 (List._∷_ 58 (List._∷_ 58 (List._∷_ 82 (List._∷_ 101 (List._∷_ 102 (List._∷_ 117 (List._∷_ 115 (List._∷_ 97 (List._∷_ 108
-    List.[]))))))))))))))) (Syntax.ttcons Syntax.tnil (Syntax.ttcons Syntax.tnil (Syntax.ttcons Syntax.tnil (Syntax.ttcons (Syntax.tcons (Syntax.tyInt Syntax.w64) Syntax.tnil) (Syntax.ttcons Syntax.tnil
-    (Syntax.ttcons Syntax.tnil (Syntax.ttcons Syntax.tnil (Syntax.ttcons Syntax.tnil (Syntax.ttcons Syntax.tnil (Syntax.ttcons Syntax.tnil (Syntax.ttcons (Syntax.tcons (Syntax.tyInt Syntax.w64)
-    Syntax.tnil) (Syntax.ttcons (Syntax.tcons (Syntax.tyInt Syntax.w64) Syntax.tnil) (Syntax.ttcons Syntax.tnil (Syntax.ttcons (Syntax.tcons (Syntax.tyInt Syntax.w64) (Syntax.tcons (Syntax.tyInt
-    Syntax.w64) Syntax.tnil)) (Syntax.ttcons (Syntax.tcons (Syntax.tyInt Syntax.w64) Syntax.tnil) (Syntax.ttcons Syntax.tnil (Syntax.ttcons Syntax.tnil (Syntax.ttcons (Syntax.tcons (Syntax.tyInt
-    Syntax.w64) Syntax.tnil) (Syntax.ttcons (Syntax.tcons (Syntax.tyInt Syntax.w64) Syntax.tnil) (Syntax.ttcons (Syntax.tcons (Syntax.tyInt Syntax.w64) Syntax.tnil) (Syntax.ttcons Syntax.tnil
-    (Syntax.ttcons Syntax.tnil (Syntax.ttcons (Syntax.tcons (Syntax.tyInt Syntax.w64) (Syntax.tcons (Syntax.tyInt Syntax.w64) Syntax.tnil)) (Syntax.ttcons Syntax.tnil Syntax.ttnil)))))))))))))))))))))))))
-    Syntax.tnil) Syntax.ttnil))) (List._∷_ (Syntax.tyEnum (List._∷_ 98 (List._∷_ 108 (List._∷_ 111 (List._∷_ 99 (List._∷_ 107 (List._∷_ 58 (List._∷_ 58 (List._∷_ 68 (List._∷_ 101 (List._∷_ 99 (List._∷_
-    111 (List._∷_ 100 (List._∷_ 101 (List._∷_ 100 List.[])))))))))))))) (Syntax.ttcons Syntax.tnil (Syntax.ttcons (Syntax.tcons (Syntax.tyEnum (List._∷_ 115 (List._∷_ 116 (List._∷_ 114 (List._∷_ 101
-    (List._∷_ 97 (List._∷_ 109 (List._∷_ 58 (List._∷_ 58 (List._∷_ 82 (List._∷_ 101 (List._∷_ 102 (List._∷_ 117 (List._∷_ 115 (List._∷_ 97 (List._∷_ 108 List.[]))))))))))))))) (Syntax.ttcons Syntax.tnil
-    (Syntax.ttcons Syntax.tnil (Syntax.ttcons Syntax.tnil (Syntax.ttcons (Syntax.tcons (Syntax.tyInt Syntax.w64) Syntax.tnil) (Syntax.ttcons Syntax.tnil (Syntax.ttcons Syntax.tnil (Syntax.ttcons
-    Syntax.tnil (Syntax.ttcons Syntax.tnil (Syntax.ttcons Syntax.tnil (Syntax.ttcons Syntax.tnil (Syntax.ttcons (Syntax.tcons (Syntax.tyInt Syntax.w64) Syntax.tnil) (Syntax.ttcons (Syntax.tcons
-    (Syntax.tyInt Syntax.w64) Syntax.tnil) (Syntax.ttcons Syntax.tnil (Syntax.ttcons (Syntax.tcons (Syntax.tyInt Syntax.w64) (Syntax.tcons (Syntax.tyInt Syntax.w64) Syntax.tnil)) (Syntax.ttcons
-    (Syntax.tcons (Syntax.tyInt Syntax.w64) Syntax.tnil) (Syntax.ttcons Syntax.tnil (Syntax.ttcons Syntax.tnil (Syntax.ttcons (Syntax.tcons (Syntax.tyInt Syntax.w64) Syntax.tnil) (Syntax.ttcons
-    (Syntax.tcons (Syntax.tyInt Syntax.w64) Syntax.tnil) (Syntax.ttcons (Syntax.tcons (Syntax.tyInt Syntax.w64) Syntax.tnil) (Syntax.ttcons Syntax.tnil (Syntax.ttcons Syntax.tnil (Syntax.ttcons
-    (Syntax.tcons (Syntax.tyInt Syntax.w64) (Syntax.tcons (Syntax.tyInt Syntax.w64) Syntax.tnil)) (Syntax.ttcons Syntax.tnil Syntax.ttnil))))))))))))))))))))))))) Syntax.tnil) Syntax.ttnil))) (List._∷_
-    (Syntax.tyRef Syntax.erased Syntax.mut (Syntax.tyInt Syntax.w16)) (List._∷_ y3 (List._∷_ Syntax.tyPtr (List._∷_ (Syntax.tyInt Syntax.w64) (List._∷_ (Syntax.tyRef Syntax.erased Syntax.mut (Syntax.tyInt
-    Syntax.w16)) (List._∷_ y3 (List._∷_ Syntax.tyPtr (List._∷_ (Syntax.tyInt Syntax.w64) (List._∷_ (Syntax.tyRef Syntax.erased Syntax.mut Element.behind) (List._∷_ y4 List.[]))))))))))))))))))))))
+xs = y12 ∷ y18 ∷ y1 ∷ y11 ∷ u64 ∷ y19 ∷ y13 ∷ u64 ∷ u64 ∷ u64 ∷ y19 ∷ y13 ∷ y13 ∷ y8 ∷ y15 ∷ Syntax.tyPtr ∷ u64 ∷ y8 ∷ y15 ∷ Syntax.tyPtr ∷ u64 ∷ y7 ∷ y14 ∷ []
 
 abbrev pub m : Nat.ℕ
 m = 3
 
 abbrev pub ps·0 : List.List (Kinds.PK 1)
-ps·0 = List._∷_ (ShrSlice.pShrS (Referent.rtF (Referent.fInt Syntax.w8)) 0 tt) (List._∷_ (Value.pVal record {
-  ty = Declared'.row Rect.the-type;
-  one = Path'.refl;
-  val = Laws'10.val Rect.the-type Laws'5.the-laws;
-  tells = Laws'10.tells Rect.the-type Laws'5.the-laws;
-  still = Laws'10.still Rect.the-type
-      Laws'5.the-copy Exit.yes;
-  row = Rows'.whole (Declared'.row Rect.the-type);
-  rd = λ x. x;
-  mk = λ x. x;
-} λ M 𝓤 H A W. record {
-  copies = Laws'10.copy Rect.the-type Laws'5.the-copy 𝓤 H A W;
-  lawful = Laws'10.lawful Rect.the-type Laws'5.the-laws 𝓤 H A W;
-  makes = Laws'10.makes Rect.the-type Laws'5.the-plain 𝓤 H A;
-  in-mem =
-      Local.mem-whole 𝓤 H A W (Declared'.row Rect.the-type);
-  of-mem = Local.whole-mem 𝓤 H A W (Declared'.row Rect.the-type);
-}) (List._∷_ (Num.pNum Syntax.w64) (List._∷_ (Num.pNum Syntax.w64) (List._∷_
-    (Num.pNum Syntax.w64) List.[]))))
+ps·0 = (ShrSlice.pShrS n8 0 tt) ∷ (Values.struct Rect.the-type Laws'5.the-laws Laws'5.the-copy Laws'5.the-plain) ∷ (Num.pNum Syntax.w64) ∷ (Num.pNum Syntax.w64) ∷ (Num.pNum Syntax.w64) ∷ []
 
 abbrev pub r·0 : Kinds.RK 1
-r·0 = Value.rVal record {
-  ty = Declared.row Beginning.the-type;
-  one = Path'.refl;
-  val = Laws'8.val Beginning.the-type Laws.the-laws;
-  tells = Laws'8.tells Beginning.the-type Laws.the-laws;
-  still = Laws'8.still
-      Beginning.the-type Laws.the-copy Exit.yes;
-  row = Rows'.whole (Declared.row Beginning.the-type);
-  rd = λ x. x;
-  mk = λ x. x;
-} λ M 𝓤 H A W. record {
-  copies = Laws'8.copy Beginning.the-type Laws.the-copy 𝓤 H A W;
-  lawful = Laws'8.lawful Beginning.the-type Laws.the-laws 𝓤 H A W tt;
-  makes = Laws'8.makes Beginning.the-type Laws.the-plain 𝓤 H A;
-  in-mem = Local.mem-whole 𝓤 H A W (Declared.row Beginning.the-type);
-  of-mem = Local.whole-mem 𝓤 H A W (Declared.row Beginning.the-type);
-}
+r·0 = Values.enum-result Beginning.the-type Laws.the-laws Laws.the-copy Laws.the-plain tt
 
 abbrev pub ps·1 : List.List (Kinds.PK 0)
-ps·1 = List._∷_ (Value.pVal record {
-  ty = Declared'.row Entries.the-type;
-  one = Path'.refl;
-  val = Laws'10.val Entries.the-type Laws'4.the-laws;
-  tells = Laws'10.tells Entries.the-type Laws'4.the-laws;
-  still = Laws'10.still
-      Entries.the-type Laws'4.the-copy Exit.yes;
-  row = Rows'.whole (Declared'.row Entries.the-type);
-  rd = λ x. x;
-  mk = λ x. x;
-} λ M 𝓤 H A W. record {
-  copies = Laws'10.copy Entries.the-type Laws'4.the-copy 𝓤 H A W;
-  lawful = Laws'10.lawful Entries.the-type Laws'4.the-laws 𝓤 H A W;
-  makes = Laws'10.makes Entries.the-type Laws'4.the-plain 𝓤 H A;
-  in-mem = Local.mem-whole 𝓤 H A W (Declared'.row Entries.the-type);
-  of-mem = Local.whole-mem 𝓤 H A W (Declared'.row Entries.the-type);
-}) List.[]
+ps·1 = (Values.struct Entries.the-type Laws'4.the-laws Laws'4.the-copy Laws'4.the-plain) ∷ []
 
 abbrev pub r·1 : Kinds.RK 0
-r·1 = Value.rVal record {
-  ty = Declared'.row Entries.the-type;
-  one = Path'.refl;
-  val = Laws'10.val Entries.the-type Laws'4.the-laws;
-  tells = Laws'10.tells Entries.the-type Laws'4.the-laws;
-  still = Laws'10.still
-      Entries.the-type Laws'4.the-copy Exit.yes;
-  row = Rows'.whole (Declared'.row Entries.the-type);
-  rd = λ x. x;
-  mk = λ x. x;
-} λ M 𝓤 H A W. record {
-  copies = Laws'10.copy Entries.the-type Laws'4.the-copy 𝓤 H A W;
-  lawful = Laws'10.lawful Entries.the-type Laws'4.the-laws 𝓤 H A W;
-  makes = Laws'10.makes Entries.the-type Laws'4.the-plain 𝓤 H A;
-  in-mem = Local.mem-whole 𝓤 H A W (Declared'.row Entries.the-type);
-  of-mem = Local.whole-mem 𝓤 H A W (Declared'.row Entries.the-type);
-}
+r·1 = Values.struct-result Entries.the-type Laws'4.the-laws Laws'4.the-copy Laws'4.the-plain
 
 abbrev pub ps·2 : List.List (Kinds.PK 0)
-ps·2 = List._∷_ (Value.pVal record {
-  ty = Declared.row Camera.the-type;
-  one = Path'.refl;
-  val = Laws'8.val Camera.the-type Laws'3.the-laws;
-  tells = Laws'8.tells Camera.the-type Laws'3.the-laws;
-  still = Laws'8.still Camera.the-type
-      Laws'3.the-copy Exit.yes;
-  row = Rows'.whole (Declared.row Camera.the-type);
-  rd = λ x. x;
-  mk = λ x. x;
-} λ M 𝓤 H A W. record {
-  copies = Laws'8.copy Camera.the-type Laws'3.the-copy 𝓤 H A W;
-  lawful = Laws'8.lawful Camera.the-type Laws'3.the-laws 𝓤 H A W tt;
-  makes = Laws'8.makes Camera.the-type Laws'3.the-plain 𝓤 H A;
-  in-mem =
-      Local.mem-whole 𝓤 H A W (Declared.row Camera.the-type);
-  of-mem = Local.whole-mem 𝓤 H A W (Declared.row Camera.the-type);
-}) (List._∷_ (Value.pVal record {
-  ty = Declared'.row Entries.the-type;
-  one = Path'.refl;
-  val = Laws'10.val Entries.the-type Laws'4.the-laws;
-  tells = Laws'10.tells Entries.the-type Laws'4.the-laws;
-  still = Laws'10.still
-      Entries.the-type Laws'4.the-copy Exit.yes;
-  row = Rows'.whole (Declared'.row Entries.the-type);
-  rd = λ x. x;
-  mk = λ x. x;
-} λ M 𝓤 H A W. record {
-  copies = Laws'10.copy Entries.the-type Laws'4.the-copy 𝓤 H A W;
-  lawful = Laws'10.lawful Entries.the-type Laws'4.the-laws 𝓤 H A W;
-  makes = Laws'10.makes Entries.the-type Laws'4.the-plain 𝓤 H A;
-  in-mem = Local.mem-whole 𝓤 H A W (Declared'.row Entries.the-type);
-  of-mem = Local.whole-mem 𝓤 H A W (Declared'.row Entries.the-type);
-}) (List._∷_ (Value.pVal record {
-  ty = Declared.row Decoded.the-type;
-  one = Path'.refl;
-  val = Laws'8.val Decoded.the-type Laws'.the-laws;
-  tells = Laws'8.tells Decoded.the-type Laws'.the-laws;
-  still = Laws'8.still Decoded.the-type
-      Laws'.the-copy Exit.yes;
-  row = Rows'.whole (Declared.row Decoded.the-type);
-  rd = λ x. x;
-  mk = λ x. x;
-} λ M 𝓤 H A W. record {
-  copies = Laws'8.copy Decoded.the-type Laws'.the-copy 𝓤 H A W;
-  lawful = Laws'8.lawful Decoded.the-type Laws'.the-laws 𝓤 H A W tt;
-  makes = Laws'8.makes Decoded.the-type Laws'.the-plain 𝓤 H A;
-  in-mem =
-      Local.mem-whole 𝓤 H A W (Declared.row Decoded.the-type);
-  of-mem = Local.whole-mem 𝓤 H A W (Declared.row Decoded.the-type);
-}) List.[]))
+ps·2 = (Values.enum Camera.the-type Laws'3.the-laws Laws'3.the-copy Laws'3.the-plain tt) ∷ (Values.struct Entries.the-type Laws'4.the-laws Laws'4.the-copy Laws'4.the-plain) ∷ (Values.enum
+    Decoded.the-type Laws'.the-laws Laws'.the-copy Laws'.the-plain tt) ∷ []
 
 abbrev pub r·2 : Kinds.RK 0
-r·2 = Value.rVal record {
-  ty = Declared'.row SharedAnswer.the-type;
-  one = Path'.refl;
-  val = Laws'10.val SharedAnswer.the-type Laws''.the-laws;
-  tells = Laws'10.tells SharedAnswer.the-type Laws''.the-laws;
-  still =
-      Laws'10.still SharedAnswer.the-type Laws''.the-copy Exit.yes;
-  row = Rows'.whole (Declared'.row SharedAnswer.the-type);
-  rd = λ x. x;
-  mk = λ x. x;
-} λ M 𝓤 H A W. record {
-  copies = Laws'10.copy SharedAnswer.the-type Laws''.the-copy 𝓤 H A W;
-  lawful = Laws'10.lawful SharedAnswer.the-type Laws''.the-laws 𝓤 H A W;
-  makes = Laws'10.makes SharedAnswer.the-type
-      Laws''.the-plain 𝓤 H A;
-  in-mem = Local.mem-whole 𝓤 H A W (Declared'.row SharedAnswer.the-type);
-  of-mem = Local.whole-mem 𝓤 H A W (Declared'.row SharedAnswer.the-type);
-}
+r·2 = Values.struct-result SharedAnswer.the-type Laws''.the-laws Laws''.the-copy Laws''.the-plain
 
 abbrev pub ps·3 : List.List (Kinds.PK 0)
-ps·3 = List._∷_ Bool.pBool List.[]
+ps·3 = Bool.pBool ∷ []
 
 abbrev pub r·3 : Kinds.RK 0
 r·3 = Num.rNum Syntax.w64
 
 abbrev pub ps·4 : List.List (Kinds.PK 4)
-ps·4 = List._∷_ (Value.pVal record {
-  ty = Declared.row Camera.the-type;
-  one = Path'.refl;
-  val = Laws'8.val Camera.the-type Laws'3.the-laws;
-  tells = Laws'8.tells Camera.the-type Laws'3.the-laws;
-  still = Laws'8.still Camera.the-type
-      Laws'3.the-copy Exit.yes;
-  row = Rows'.whole (Declared.row Camera.the-type);
-  rd = λ x. x;
-  mk = λ x. x;
-} λ M 𝓤 H A W. record {
-  copies = Laws'8.copy Camera.the-type Laws'3.the-copy 𝓤 H A W;
-  lawful = Laws'8.lawful Camera.the-type Laws'3.the-laws 𝓤 H A W tt;
-  makes = Laws'8.makes Camera.the-type Laws'3.the-plain 𝓤 H A;
-  in-mem =
-      Local.mem-whole 𝓤 H A W (Declared.row Camera.the-type);
-  of-mem = Local.whole-mem 𝓤 H A W (Declared.row Camera.the-type);
-}) (List._∷_ (Value.pVal record {
-  ty = Declared'.row Entries.the-type;
-  one = Path'.refl;
-  val = Laws'10.val Entries.the-type Laws'4.the-laws;
-  tells = Laws'10.tells Entries.the-type Laws'4.the-laws;
-  still = Laws'10.still
-      Entries.the-type Laws'4.the-copy Exit.yes;
-  row = Rows'.whole (Declared'.row Entries.the-type);
-  rd = λ x. x;
-  mk = λ x. x;
-} λ M 𝓤 H A W. record {
-  copies = Laws'10.copy Entries.the-type Laws'4.the-copy 𝓤 H A W;
-  lawful = Laws'10.lawful Entries.the-type Laws'4.the-laws 𝓤 H A W;
-  makes = Laws'10.makes Entries.the-type Laws'4.the-plain 𝓤 H A;
-  in-mem = Local.mem-whole 𝓤 H A W (Declared'.row Entries.the-type);
-  of-mem = Local.whole-mem 𝓤 H A W (Declared'.row Entries.the-type);
-}) (List._∷_ (ShrSlice.pShrS (Referent.rtF (Referent.fInt
-    Syntax.w8)) 0 tt) (List._∷_ (Value.pVal record {
-      ty = Declared'.row FujiHeader.the-type;
-      one = Path'.refl;
-      val = Laws'10.val FujiHeader.the-type Laws'6.the-laws;
-      tells = Laws'10.tells FujiHeader.the-type Laws'6.the-laws;
-      still = Laws'10.still
-          FujiHeader.the-type Laws'6.the-copy Exit.yes;
-      row = Rows'.whole (Declared'.row FujiHeader.the-type);
-      rd = λ x. x;
-      mk = λ x. x;
-    } λ M 𝓤 H A W. record {
-      copies = Laws'10.copy FujiHeader.the-type Laws'6.the-copy 𝓤 H A W;
-      lawful = Laws'10.lawful FujiHeader.the-type Laws'6.the-laws 𝓤 H A W;
-      makes = Laws'10.makes FujiHeader.the-type Laws'6.the-plain 𝓤 H
-          A;
-      in-mem = Local.mem-whole 𝓤 H A W (Declared'.row FujiHeader.the-type);
-      of-mem = Local.whole-mem 𝓤 H A W (Declared'.row FujiHeader.the-type);
-    }) (List._∷_ (Value.pVal record {
-      ty = Declared'.row Rect.the-type;
-      one = Path'.refl;
-      val = Laws'10.val Rect.the-type Laws'5.the-laws;
-      tells = Laws'10.tells Rect.the-type Laws'5.the-laws;
-      still = Laws'10.still Rect.the-type
-          Laws'5.the-copy Exit.yes;
-      row = Rows'.whole (Declared'.row Rect.the-type);
-      rd = λ x. x;
-      mk = λ x. x;
-    } λ M 𝓤 H A W. record {
-      copies = Laws'10.copy Rect.the-type Laws'5.the-copy 𝓤 H A W;
-      lawful = Laws'10.lawful Rect.the-type Laws'5.the-laws 𝓤 H A W;
-      makes = Laws'10.makes Rect.the-type Laws'5.the-plain 𝓤 H A;
-      in-mem =
-          Local.mem-whole 𝓤 H A W (Declared'.row Rect.the-type);
-      of-mem = Local.whole-mem 𝓤 H A W (Declared'.row Rect.the-type);
-    }) (List._∷_ (Array.pArr (Array.eInt Syntax.w8) (Array.eInt-laws Syntax.w8) 36)
-    (List._∷_ (MutSlice.pMutS (Referent.rtF (Referent.fInt Syntax.w16)) 1 tt) (List._∷_ (MutSlice.pMutS (Referent.rtF (Referent.fInt Syntax.w16)) 2 tt) (List._∷_ (MutSlice.pMutS (Element.type) 3 tt)
-    List.[]))))))))
+ps·4 = (Values.enum Camera.the-type Laws'3.the-laws Laws'3.the-copy Laws'3.the-plain tt) ∷ (Values.struct Entries.the-type Laws'4.the-laws Laws'4.the-copy Laws'4.the-plain) ∷ (ShrSlice.pShrS n8 0 tt)
+    ∷ (Values.struct FujiHeader.the-type Laws'6.the-laws Laws'6.the-copy Laws'6.the-plain) ∷ (Values.struct Rect.the-type Laws'5.the-laws Laws'5.the-copy Laws'5.the-plain) ∷ (Array.pArr (Array.eInt
+    Syntax.w8) (Array.eInt-laws Syntax.w8) 36) ∷ (MutSlice.pMutS n16 1 tt) ∷ (MutSlice.pMutS n16 2 tt) ∷ (MutSlice.pMutS (Element.type) 3 tt) ∷ []
 
 abbrev pub r·4 : Kinds.RK 4
-r·4 = Value.rVal record {
-  ty = Declared'.row SharedAnswer.the-type;
-  one = Path'.refl;
-  val = Laws'10.val SharedAnswer.the-type Laws''.the-laws;
-  tells = Laws'10.tells SharedAnswer.the-type Laws''.the-laws;
-  still =
-      Laws'10.still SharedAnswer.the-type Laws''.the-copy Exit.yes;
-  row = Rows'.whole (Declared'.row SharedAnswer.the-type);
-  rd = λ x. x;
-  mk = λ x. x;
-} λ M 𝓤 H A W. record {
-  copies = Laws'10.copy SharedAnswer.the-type Laws''.the-copy 𝓤 H A W;
-  lawful = Laws'10.lawful SharedAnswer.the-type Laws''.the-laws 𝓤 H A W;
-  makes = Laws'10.makes SharedAnswer.the-type
-      Laws''.the-plain 𝓤 H A;
-  in-mem = Local.mem-whole 𝓤 H A W (Declared'.row SharedAnswer.the-type);
-  of-mem = Local.whole-mem 𝓤 H A W (Declared'.row SharedAnswer.the-type);
-}
+r·4 = Values.struct-result SharedAnswer.the-type Laws''.the-laws Laws''.the-copy Laws''.the-plain
 
 abbrev pub hs : List.List Syntax.Home
-hs = List._∷_ Syntax.valueLocal (List._∷_ Syntax.valueLocal (List._∷_ Syntax.valueLocal (List._∷_ Syntax.valueLocal (List._∷_ Syntax.valueLocal (List._∷_ Syntax.valueLocal (List._∷_ Syntax.valueLocal
-    (List._∷_ Syntax.valueLocal (List._∷_ Syntax.valueLocal (List._∷_ Syntax.valueLocal (List._∷_ Syntax.valueLocal (List._∷_ Syntax.valueLocal (List._∷_ Syntax.valueLocal (List._∷_ Syntax.valueLocal
-    (List._∷_ Syntax.valueLocal (List._∷_ Syntax.valueLocal (List._∷_ Syntax.valueLocal (List._∷_ Syntax.valueLocal (List._∷_ Syntax.valueLocal (List._∷_ Syntax.valueLocal (List._∷_ Syntax.valueLocal
-    (List._∷_ Syntax.valueLocal (List._∷_ Syntax.valueLocal (List._∷_ Syntax.valueLocal (List._∷_ Syntax.valueLocal (List._∷_ Syntax.valueLocal (List._∷_ Syntax.valueLocal (List._∷_ Syntax.valueLocal
-    (List._∷_ Syntax.valueLocal (List._∷_ Syntax.valueLocal (List._∷_ Syntax.valueLocal (List._∷_ Syntax.valueLocal List.[])))))))))))))))))))))))))))))))
+hs = Syntax.valueLocal ∷ Syntax.valueLocal ∷ Syntax.valueLocal ∷ Syntax.valueLocal ∷ Syntax.valueLocal ∷ Syntax.valueLocal ∷ Syntax.valueLocal ∷ Syntax.valueLocal ∷ Syntax.valueLocal ∷
+    Syntax.valueLocal ∷ Syntax.valueLocal ∷ Syntax.valueLocal ∷ Syntax.valueLocal ∷ Syntax.valueLocal ∷ Syntax.valueLocal ∷ Syntax.valueLocal ∷ Syntax.valueLocal ∷ Syntax.valueLocal ∷ Syntax.valueLocal ∷
+    Syntax.valueLocal ∷ Syntax.valueLocal ∷ Syntax.valueLocal ∷ Syntax.valueLocal ∷ Syntax.valueLocal ∷ Syntax.valueLocal ∷ Syntax.valueLocal ∷ Syntax.valueLocal ∷ Syntax.valueLocal ∷ Syntax.valueLocal ∷
+    Syntax.valueLocal ∷ Syntax.valueLocal ∷ Syntax.valueLocal ∷ []
 
 abbrev b0 : Syntax.Body
-b0 = Syntax.assign (Syntax.place 16 List.[]) (Syntax.rvOpd (Syntax.copy (Syntax.place 6 (List._∷_ (Syntax.field 1) List.[]))))
+b0 = Syntax.assign (Syntax.place 16 []) (Syntax.rvOpd (Syntax.copy (Syntax.place 6 ((Syntax.field 1) ∷ []))))
 
 abbrev b1 : Syntax.Body
-b1 = Syntax.assign (Syntax.place 17 List.[]) (Syntax.rvOpd (Syntax.copy (Syntax.place 7 (List._∷_ (Syntax.field 1) List.[]))))
+b1 = Syntax.assign (Syntax.place 17 []) (Syntax.rvOpd (Syntax.copy (Syntax.place 7 ((Syntax.field 1) ∷ []))))
 
 abbrev b2 : Syntax.Body
-b2 = Syntax.assign (Syntax.place 18 List.[]) (Syntax.rvOpd (Syntax.copy (Syntax.place 8 (List._∷_ (Syntax.field 1) List.[]))))
+b2 = Syntax.assign (Syntax.place 18 []) (Syntax.rvOpd (Syntax.copy (Syntax.place 8 ((Syntax.field 1) ∷ []))))
 
 abbrev b3 : Syntax.Body
-b3 = Syntax.call "begin::region_begins" (List._∷_ (Syntax.copy (Syntax.place 3 List.[])) (List._∷_ (Syntax.copy (Syntax.place 4 List.[])) (List._∷_ (Syntax.copy (Syntax.place 16 List.[])) (List._∷_
-    (Syntax.copy (Syntax.place 17 List.[])) (List._∷_ (Syntax.copy (Syntax.place 18 List.[])) List.[]))))) (Syntax.place 9 List.[])
+b3 = Syntax.call "begin::region_begins" ((Syntax.copy (Syntax.place 3 [])) ∷ (Syntax.copy (Syntax.place 4 [])) ∷ (Syntax.copy (Syntax.place 16 [])) ∷ (Syntax.copy (Syntax.place 17 [])) ∷ (Syntax.copy
+    (Syntax.place 18 [])) ∷ []) (Syntax.place 9 [])
 
 abbrev b4 : Syntax.Body
-b4 = Syntax.call "cameras::mended" (List._∷_ (Syntax.copy (Syntax.place 2 List.[])) List.[]) (Syntax.place 10 List.[])
+b4 = Syntax.call "cameras::mended" ((Syntax.copy (Syntax.place 2 [])) ∷ []) (Syntax.place 10 [])
 
 abbrev b5 : Syntax.Body
-b5 = Syntax.assign (Syntax.place 11 List.[]) (Syntax.rvOpd (Syntax.copy (Syntax.place 9 (List._∷_ (Syntax.variant 0) (List._∷_ (Syntax.field 1) List.[])))))
+b5 = Syntax.assign (Syntax.place 11 []) (Syntax.rvOpd (Syntax.copy (Syntax.place 9 ((Syntax.variant 0) ∷ (Syntax.field 1) ∷ []))))
 
 abbrev b6 : Syntax.Body
-b6 = Syntax.assign (Syntax.place 20 List.[]) (Syntax.aggregate (List._∷_ (Syntax.int Syntax.w8 1) (List._∷_ (Syntax.copy (Syntax.place 11 List.[])) List.[])))
+b6 = Syntax.assign (Syntax.place 20 []) (Syntax.aggregate ((Syntax.int Syntax.w8 1) ∷ (Syntax.copy (Syntax.place 11 [])) ∷ []))
 
 abbrev b7 : Syntax.Body
-b7 = Syntax.call "block::sharing::handed_back" (List._∷_ (Syntax.copy (Syntax.place 1 List.[])) (List._∷_ (Syntax.copy (Syntax.place 10 List.[])) (List._∷_ (Syntax.copy (Syntax.place 20 List.[]))
-    List.[]))) (Syntax.place 19 List.[])
-
-abbrev b8 : Syntax.Body
-b8 = Syntax.seq b6 b7
+b7 = Syntax.call "block::sharing::handed_back" ((Syntax.copy (Syntax.place 1 [])) ∷ (Syntax.copy (Syntax.place 10 [])) ∷ (Syntax.copy (Syntax.place 20 [])) ∷ []) (Syntax.place 19 [])
 
 abbrev b9 : Syntax.Body
-b9 = Syntax.seq b5 b8
+b9 = Syntax.seq b5 (Syntax.seq b6 b7)
 
 abbrev b10 : Syntax.Body
-b10 = Syntax.assign (Syntax.place 21 List.[]) (Syntax.aggregate (List._∷_ (Syntax.int Syntax.w8 0) List.[]))
+b10 = Syntax.assign (Syntax.place 21 []) (Syntax.aggregate ((Syntax.int Syntax.w8 0) ∷ []))
 
 abbrev b11 : Syntax.Body
-b11 = Syntax.call "block::sharing::handed_back" (List._∷_ (Syntax.copy (Syntax.place 1 List.[])) (List._∷_ (Syntax.copy (Syntax.place 10 List.[])) (List._∷_ (Syntax.copy (Syntax.place 21 List.[]))
-    List.[]))) (Syntax.place 19 List.[])
+b11 = Syntax.call "block::sharing::handed_back" ((Syntax.copy (Syntax.place 1 [])) ∷ (Syntax.copy (Syntax.place 10 [])) ∷ (Syntax.copy (Syntax.place 21 [])) ∷ []) (Syntax.place 19 [])
 
 abbrev b12 : Syntax.Body
 b12 = Syntax.seq b10 b11
 
 abbrev b13 : Syntax.Body
-b13 = Syntax.assign (Syntax.place 12 List.[]) (Syntax.rvOpd (Syntax.copy (Syntax.place 9 (List._∷_ (Syntax.variant 2) (List._∷_ (Syntax.field 1) List.[])))))
+b13 = Syntax.assign (Syntax.place 12 []) (Syntax.rvOpd (Syntax.copy (Syntax.place 9 ((Syntax.variant 2) ∷ (Syntax.field 1) ∷ []))))
 
 abbrev b14 : Syntax.Body
-b14 = Syntax.call "begin::samples_needed" (List._∷_ (Syntax.copy (Syntax.place 12 (List._∷_ (Syntax.field 1) List.[]))) List.[]) (Syntax.place 13 List.[])
+b14 = Syntax.call "begin::samples_needed" ((Syntax.copy (Syntax.place 12 ((Syntax.field 1) ∷ []))) ∷ []) (Syntax.place 13 [])
 
 abbrev b15 : Syntax.Body
-b15 = Syntax.assign (Syntax.place 22 List.[]) (Syntax.addrOf (Syntax.place 6 (List._∷_ (Syntax.field 0) (List._∷_ (Syntax.deref (Syntax.tyInt Syntax.w16)) List.[]))))
+b15 = Syntax.assign (Syntax.place 22 []) (Syntax.addrOf (Syntax.place 6 ((Syntax.field 0) ∷ (Syntax.deref u16) ∷ [])))
 
 abbrev b16 : Syntax.Body
-b16 = Syntax.assign (Syntax.place 23 List.[]) (Syntax.aggregate (List._∷_ (Syntax.copy (Syntax.place 22 List.[])) (List._∷_ (Syntax.copy (Syntax.place 6 (List._∷_ (Syntax.field 1) List.[])))
-    List.[])))
+b16 = Syntax.assign (Syntax.place 23 []) (Syntax.aggregate ((Syntax.copy (Syntax.place 22 [])) ∷ (Syntax.copy (Syntax.place 6 ((Syntax.field 1) ∷ []))) ∷ []))
 
 abbrev b17 : Syntax.Body
-b17 = Syntax.assign (Syntax.place 24 List.[]) (Syntax.op2 Syntax.offset (Syntax.copy (Syntax.place 7 (List._∷_ (Syntax.field 0) List.[]))) (Syntax.int Syntax.w64 0))
+b17 = Syntax.assign (Syntax.place 24 []) (Syntax.op2 Syntax.offset (Syntax.copy (Syntax.place 7 ((Syntax.field 0) ∷ []))) (Syntax.int Syntax.w64 0))
 
 abbrev b18 : Syntax.Body
-b18 = Syntax.assign (Syntax.place 25 List.[]) (Syntax.op2 (Syntax.sub Syntax.unsigned) (Syntax.copy (Syntax.place 13 List.[])) (Syntax.int Syntax.w64 0))
+b18 = Syntax.assign (Syntax.place 25 []) (Syntax.op2 (Syntax.sub Syntax.unsigned) (Syntax.copy (Syntax.place 13 [])) (Syntax.int Syntax.w64 0))
 
 abbrev b19 : Syntax.Body
-b19 = Syntax.assign (Syntax.place 26 List.[]) (Syntax.addrOf (Syntax.place 24 (List._∷_ (Syntax.deref (Syntax.tyInt Syntax.w16)) List.[])))
+b19 = Syntax.assign (Syntax.place 26 []) (Syntax.addrOf (Syntax.place 24 ((Syntax.deref u16) ∷ [])))
 
 abbrev b20 : Syntax.Body
-b20 = Syntax.assign (Syntax.place 27 List.[]) (Syntax.aggregate (List._∷_ (Syntax.copy (Syntax.place 26 List.[])) (List._∷_ (Syntax.copy (Syntax.place 25 List.[])) List.[])))
+b20 = Syntax.assign (Syntax.place 27 []) (Syntax.aggregate ((Syntax.copy (Syntax.place 26 [])) ∷ (Syntax.copy (Syntax.place 25 [])) ∷ []))
 
 abbrev b21 : Syntax.Body
-b21 = Syntax.assign (Syntax.place 28 List.[]) (Syntax.op2 Syntax.offset (Syntax.copy (Syntax.place 8 (List._∷_ (Syntax.field 0) List.[]))) (Syntax.int Syntax.w64 0))
+b21 = Syntax.assign (Syntax.place 28 []) (Syntax.op2 Syntax.offset (Syntax.copy (Syntax.place 8 ((Syntax.field 0) ∷ []))) (Syntax.int Syntax.w64 0))
 
 abbrev b22 : Syntax.Body
-b22 = Syntax.assign (Syntax.place 29 List.[]) (Syntax.op2 (Syntax.sub Syntax.unsigned) (Syntax.int Syntax.w64 336) (Syntax.int Syntax.w64 0))
+b22 = Syntax.assign (Syntax.place 29 []) (Syntax.op2 (Syntax.sub Syntax.unsigned) (Syntax.int Syntax.w64 336) (Syntax.int Syntax.w64 0))
 
 abbrev b23 : Syntax.Body
-b23 = Syntax.assign (Syntax.place 30 List.[]) (Syntax.addrOf (Syntax.place 28 (List._∷_ (Syntax.deref (Element.held)) List.[])))
+b23 = Syntax.assign (Syntax.place 30 []) (Syntax.addrOf (Syntax.place 28 ((Syntax.deref (Element.held)) ∷ [])))
 
 abbrev b24 : Syntax.Body
-b24 = Syntax.assign (Syntax.place 31 List.[]) (Syntax.aggregate (List._∷_ (Syntax.copy (Syntax.place 30 List.[])) (List._∷_ (Syntax.copy (Syntax.place 29 List.[])) List.[])))
+b24 = Syntax.assign (Syntax.place 31 []) (Syntax.aggregate ((Syntax.copy (Syntax.place 30 [])) ∷ (Syntax.copy (Syntax.place 29 [])) ∷ []))
 
 abbrev b25 : Syntax.Body
-b25 = Syntax.call "block::sharing::decode_shared_blocks" (List._∷_ (Syntax.copy (Syntax.place 1 List.[])) (List._∷_ (Syntax.copy (Syntax.place 10 List.[])) (List._∷_ (Syntax.copy (Syntax.place 3
-    List.[])) (List._∷_ (Syntax.copy (Syntax.place 12 List.[])) (List._∷_ (Syntax.copy (Syntax.place 4 List.[])) (List._∷_ (Syntax.copy (Syntax.place 5 List.[])) (List._∷_ (Syntax.copy (Syntax.place 23
-    List.[])) (List._∷_ (Syntax.copy (Syntax.place 27 List.[])) (List._∷_ (Syntax.copy (Syntax.place 31 List.[])) List.[]))))))))) (Syntax.place 14 List.[])
+b25 = Syntax.call "block::sharing::decode_shared_blocks" ((Syntax.copy (Syntax.place 1 [])) ∷ (Syntax.copy (Syntax.place 10 [])) ∷ (Syntax.copy (Syntax.place 3 [])) ∷ (Syntax.copy (Syntax.place 12
+    [])) ∷ (Syntax.copy (Syntax.place 4 [])) ∷ (Syntax.copy (Syntax.place 5 [])) ∷ (Syntax.copy (Syntax.place 23 [])) ∷ (Syntax.copy (Syntax.place 27 [])) ∷ (Syntax.copy (Syntax.place 31 [])) ∷ [])
+    (Syntax.place 14 [])
 
 abbrev b26 : Syntax.Body
-b26 = Syntax.assign (Syntax.place 15 List.[]) (Syntax.rvOpd (Syntax.copy (Syntax.place 14 (List._∷_ (Syntax.field 0) List.[]))))
+b26 = Syntax.assign (Syntax.place 15 []) (Syntax.rvOpd (Syntax.copy (Syntax.place 14 ((Syntax.field 0) ∷ []))))
 
 abbrev b27 : Syntax.Body
-b27 = Syntax.call "block::sharing::handed_back" (List._∷_ (Syntax.copy (Syntax.place 1 List.[])) (List._∷_ (Syntax.copy (Syntax.place 14 (List._∷_ (Syntax.field 1) List.[]))) (List._∷_ (Syntax.copy
-    (Syntax.place 15 List.[])) List.[]))) (Syntax.place 19 List.[])
+b27 = Syntax.call "block::sharing::handed_back" ((Syntax.copy (Syntax.place 1 [])) ∷ (Syntax.copy (Syntax.place 14 ((Syntax.field 1) ∷ []))) ∷ (Syntax.copy (Syntax.place 15 [])) ∷ []) (Syntax.place 19
+    [])
 
 abbrev b28 : Syntax.Body
 b28 = Syntax.seq b26 b27
 
-abbrev b29 : Syntax.Body
-b29 = Syntax.seq b25 b28
-
-abbrev b30 : Syntax.Body
-b30 = Syntax.seq b24 b29
-
 abbrev b31 : Syntax.Body
-b31 = Syntax.seq b23 b30
-
-abbrev b32 : Syntax.Body
-b32 = Syntax.seq b22 b31
-
-abbrev b33 : Syntax.Body
-b33 = Syntax.seq b21 b32
+b31 = Syntax.seq b23 (Syntax.seq b24 (Syntax.seq b25 b28))
 
 abbrev b34 : Syntax.Body
-b34 = Syntax.seq b20 b33
-
-abbrev b35 : Syntax.Body
-b35 = Syntax.seq b19 b34
-
-abbrev b36 : Syntax.Body
-b36 = Syntax.seq b18 b35
+b34 = Syntax.seq b20 (Syntax.seq b21 (Syntax.seq b22 b31))
 
 abbrev b37 : Syntax.Body
-b37 = Syntax.seq b17 b36
-
-abbrev b38 : Syntax.Body
-b38 = Syntax.seq b16 b37
-
-abbrev b39 : Syntax.Body
-b39 = Syntax.seq b15 b38
+b37 = Syntax.seq b17 (Syntax.seq b18 (Syntax.seq b19 b34))
 
 abbrev b40 : Syntax.Body
-b40 = Syntax.seq b14 b39
+b40 = Syntax.seq b14 (Syntax.seq b15 (Syntax.seq b16 b37))
 
 abbrev b41 : Syntax.Body
 b41 = Syntax.seq b13 b40
 
 abbrev b42 : Syntax.Body
-b42 = Syntax.switch (Syntax.copy (Syntax.place 9 (List._∷_ (Syntax.variant 0) (List._∷_ (Syntax.field 0) List.[])))) (Syntax.arm (List._∷_ 0 List.[]) b9 (Syntax.arm (List._∷_ 1 List.[]) b12
-    (Syntax.arm (List._∷_ 2 List.[]) b41 Syntax.noDefault)))
+b42 = Syntax.switch (Syntax.copy (Syntax.place 9 ((Syntax.variant 0) ∷ (Syntax.field 0) ∷ []))) (Syntax.arm (0 ∷ []) b9 (Syntax.arm (1 ∷ []) b12 (Syntax.arm (2 ∷ []) b41 Syntax.noDefault)))
 
 abbrev b43 : Syntax.Body
-b43 = Syntax.assign (Syntax.place 0 List.[]) (Syntax.rvOpd (Syntax.copy (Syntax.place 19 List.[])))
-
-abbrev b44 : Syntax.Body
-b44 = Syntax.return
-
-abbrev b45 : Syntax.Body
-b45 = Syntax.seq b43 b44
+b43 = Syntax.assign (Syntax.place 0 []) (Syntax.rvOpd (Syntax.copy (Syntax.place 19 [])))
 
 abbrev b46 : Syntax.Body
-b46 = Syntax.seq b42 b45
+b46 = Syntax.seq b42 (Syntax.seq b43 Syntax.return)
 
 abbrev b47 : Syntax.Body
 b47 = Syntax.seq b4 b46
 
-abbrev b48 : Syntax.Body
-b48 = Syntax.seq b3 b47
-
-abbrev b49 : Syntax.Body
-b49 = Syntax.seq b2 b48
-
 abbrev b50 : Syntax.Body
-b50 = Syntax.seq b1 b49
+b50 = Syntax.seq b1 (Syntax.seq b2 (Syntax.seq b3 b47))
 
 abbrev b51 : Syntax.Body
 b51 = Syntax.seq b0 b50
@@ -686,1060 +341,750 @@ abbrev pub Claims : Type 1
 Claims = Kinds.In 1 ps·0 × Kinds.Out 1 ps·0 r·0 × Kinds.In 0 ps·1 × Kinds.Out 0 ps·1 r·1 × Kinds.In 0 ps·2 × Kinds.Out 0 ps·2 r·2 × Kinds.In 0 ps·3 × Kinds.Out 0 ps·3 r·3 × Kinds.In 4 ps·4 × Kinds.Out
     4 ps·4 r·4
 
-abbrev pub e0 : Row.Entry
-e0 = (0, Rows'.any-gone y7)
-
-abbrev pub e1 : Row.Entry
-e1 = (
-  1,
-  Rows'.any-gone (Syntax.tyEnum (List._∷_ 99 (List._∷_ 97 (List._∷_ 109 (List._∷_ 101 (List._∷_ 114 (List._∷_ 97 (List._∷_ 115 (List._∷_ 58 (List._∷_ 58 (List._∷_ 67 (List._∷_ 97 (List._∷_ 109
-      (List._∷_ 101 (List._∷_ 114 (List._∷_ 97 List.[]))))))))))))))) (Syntax.ttcons Syntax.tnil (Syntax.ttcons Syntax.tnil Syntax.ttnil))),
-)
-
-abbrev pub e2 : Row.Entry
-e2 = (1, Rows'.whole (Declared.row Camera.the-type))
-
-abbrev pub e3 : Row.Entry
-e3 = (10, Rows'.any-gone y6)
-
-abbrev pub e4 : Row.Entry
-e4 = (10, Rows'.whole (Declared'.row Entries.the-type))
-
-abbrev pub e5 : Row.Entry
-e5 = (
-  11,
-  Rows'.any-gone (Syntax.tyEnum (List._∷_ 115 (List._∷_ 116 (List._∷_ 114 (List._∷_ 101 (List._∷_ 97 (List._∷_ 109 (List._∷_ 58 (List._∷_ 58 (List._∷_ 82 (List._∷_ 101 (List._∷_ 102 (List._∷_ 117
-      (List._∷_ 115 (List._∷_ 97 (List._∷_ 108 List.[]))))))))))))))) (Syntax.ttcons Syntax.tnil (Syntax.ttcons Syntax.tnil (Syntax.ttcons Syntax.tnil (Syntax.ttcons (Syntax.tcons (Syntax.tyInt Syntax.w64)
-      Syntax.tnil) (Syntax.ttcons Syntax.tnil (Syntax.ttcons Syntax.tnil (Syntax.ttcons Syntax.tnil (Syntax.ttcons Syntax.tnil (Syntax.ttcons Syntax.tnil (Syntax.ttcons Syntax.tnil (Syntax.ttcons
-      (Syntax.tcons (Syntax.tyInt Syntax.w64) Syntax.tnil) (Syntax.ttcons (Syntax.tcons (Syntax.tyInt Syntax.w64) Syntax.tnil) (Syntax.ttcons Syntax.tnil (Syntax.ttcons (Syntax.tcons (Syntax.tyInt
-      Syntax.w64) (Syntax.tcons (Syntax.tyInt Syntax.w64) Syntax.tnil)) (Syntax.ttcons (Syntax.tcons (Syntax.tyInt Syntax.w64) Syntax.tnil) (Syntax.ttcons Syntax.tnil (Syntax.ttcons Syntax.tnil
-      (Syntax.ttcons (Syntax.tcons (Syntax.tyInt Syntax.w64) Syntax.tnil) (Syntax.ttcons (Syntax.tcons (Syntax.tyInt Syntax.w64) Syntax.tnil) (Syntax.ttcons (Syntax.tcons (Syntax.tyInt Syntax.w64)
-      Syntax.tnil) (Syntax.ttcons Syntax.tnil (Syntax.ttcons Syntax.tnil (Syntax.ttcons (Syntax.tcons (Syntax.tyInt Syntax.w64) (Syntax.tcons (Syntax.tyInt Syntax.w64) Syntax.tnil)) (Syntax.ttcons
-      Syntax.tnil Syntax.ttnil))))))))))))))))))))))))),
-)
-
-abbrev pub e6 : Row.Entry
-e6 = (11, Rows'.whole (Declared.row Refusal.the-type))
-
-abbrev pub e7 : Row.Entry
-e7 = (12, Rows'.any-gone y2)
-
-abbrev pub e8 : Row.Entry
-e8 = (12, Rows'.whole (Declared'.row FujiHeader.the-type))
-
-abbrev pub e9 : Row.Entry
-e9 = (13, Rows'.any-gone (Syntax.tyInt Syntax.w64))
-
-abbrev pub e10 : Row.Entry
-e10 = (13, Rows'.sc-here (Row.sInt Syntax.w64))
-
-abbrev pub e11 : Row.Entry
-e11 = (14, Rows'.any-gone y7)
-
-abbrev pub e12 : Row.Entry
-e12 = (14, Rows'.whole (Declared'.row SharedAnswer.the-type))
-
-abbrev pub e13 : Row.Entry
-e13 = (
-  15,
-  Rows'.any-gone (Syntax.tyEnum (List._∷_ 98 (List._∷_ 108 (List._∷_ 111 (List._∷_ 99 (List._∷_ 107 (List._∷_ 58 (List._∷_ 58 (List._∷_ 68 (List._∷_ 101 (List._∷_ 99 (List._∷_ 111 (List._∷_ 100
-      (List._∷_ 101 (List._∷_ 100 List.[])))))))))))))) (Syntax.ttcons Syntax.tnil (Syntax.ttcons (Syntax.tcons (Syntax.tyEnum (List._∷_ 115 (List._∷_ 116 (List._∷_ 114 (List._∷_ 101 (List._∷_ 97 (List._∷_
-      109 (List._∷_ 58 (List._∷_ 58 (List._∷_ 82 (List._∷_ 101 (List._∷_ 102 (List._∷_ 117 (List._∷_ 115 (List._∷_ 97 (List._∷_ 108 List.[]))))))))))))))) (Syntax.ttcons Syntax.tnil (Syntax.ttcons
-      Syntax.tnil (Syntax.ttcons Syntax.tnil (Syntax.ttcons (Syntax.tcons (Syntax.tyInt Syntax.w64) Syntax.tnil) (Syntax.ttcons Syntax.tnil (Syntax.ttcons Syntax.tnil (Syntax.ttcons Syntax.tnil
-      (Syntax.ttcons Syntax.tnil (Syntax.ttcons Syntax.tnil (Syntax.ttcons Syntax.tnil (Syntax.ttcons (Syntax.tcons (Syntax.tyInt Syntax.w64) Syntax.tnil) (Syntax.ttcons (Syntax.tcons (Syntax.tyInt
-      Syntax.w64) Syntax.tnil) (Syntax.ttcons Syntax.tnil (Syntax.ttcons (Syntax.tcons (Syntax.tyInt Syntax.w64) (Syntax.tcons (Syntax.tyInt Syntax.w64) Syntax.tnil)) (Syntax.ttcons (Syntax.tcons
-      (Syntax.tyInt Syntax.w64) Syntax.tnil) (Syntax.ttcons Syntax.tnil (Syntax.ttcons Syntax.tnil (Syntax.ttcons (Syntax.tcons (Syntax.tyInt Syntax.w64) Syntax.tnil) (Syntax.ttcons (Syntax.tcons
-      (Syntax.tyInt Syntax.w64) Syntax.tnil) (Syntax.ttcons (Syntax.tcons (Syntax.tyInt Syntax.w64) Syntax.tnil) (Syntax.ttcons Syntax.tnil (Syntax.ttcons Syntax.tnil (Syntax.ttcons (Syntax.tcons
-      (Syntax.tyInt Syntax.w64) (Syntax.tcons (Syntax.tyInt Syntax.w64) Syntax.tnil)) (Syntax.ttcons Syntax.tnil Syntax.ttnil))))))))))))))))))))))))) Syntax.tnil) Syntax.ttnil))),
-)
-
-abbrev pub e14 : Row.Entry
-e14 = (15, Rows'.whole (Declared.row Decoded.the-type))
-
-abbrev pub e15 : Row.Entry
-e15 = (16, Rows'.any-gone (Syntax.tyInt Syntax.w64))
-
-abbrev pub e16 : Row.Entry
-e16 = (16, Rows'.sc-here (Row.sInt Syntax.w64))
-
-abbrev pub e17 : Row.Entry
-e17 = (17, Rows'.any-gone (Syntax.tyInt Syntax.w64))
-
-abbrev pub e18 : Row.Entry
-e18 = (17, Rows'.sc-here (Row.sInt Syntax.w64))
-
-abbrev pub e19 : Row.Entry
-e19 = (18, Rows'.any-gone (Syntax.tyInt Syntax.w64))
-
-abbrev pub e20 : Row.Entry
-e20 = (18, Rows'.sc-here (Row.sInt Syntax.w64))
-
-abbrev pub e21 : Row.Entry
-e21 = (19, Rows'.any-gone y7)
-
-abbrev pub e22 : Row.Entry
-e22 = (19, Rows'.whole (Declared'.row SharedAnswer.the-type))
-
-abbrev pub e23 : Row.Entry
-e23 = (2, Rows'.any-gone y6)
+abbrev pub v0 : Row.Row
+v0 = Rows'.any-gone u64
 
-abbrev pub e24 : Row.Entry
-e24 = (2, Rows'.whole (Declared'.row Entries.the-type))
+abbrev pub v1 : Row.Row
+v1 = Rows'.any-gone y19
 
-abbrev pub e25 : Row.Entry
-e25 = (
-  20,
-  Rows'.any-gone (Syntax.tyEnum (List._∷_ 98 (List._∷_ 108 (List._∷_ 111 (List._∷_ 99 (List._∷_ 107 (List._∷_ 58 (List._∷_ 58 (List._∷_ 68 (List._∷_ 101 (List._∷_ 99 (List._∷_ 111 (List._∷_ 100
-      (List._∷_ 101 (List._∷_ 100 List.[])))))))))))))) (Syntax.ttcons Syntax.tnil (Syntax.ttcons (Syntax.tcons (Syntax.tyEnum (List._∷_ 115 (List._∷_ 116 (List._∷_ 114 (List._∷_ 101 (List._∷_ 97 (List._∷_
-      109 (List._∷_ 58 (List._∷_ 58 (List._∷_ 82 (List._∷_ 101 (List._∷_ 102 (List._∷_ 117 (List._∷_ 115 (List._∷_ 97 (List._∷_ 108 List.[]))))))))))))))) (Syntax.ttcons Syntax.tnil (Syntax.ttcons
-      Syntax.tnil (Syntax.ttcons Syntax.tnil (Syntax.ttcons (Syntax.tcons (Syntax.tyInt Syntax.w64) Syntax.tnil) (Syntax.ttcons Syntax.tnil (Syntax.ttcons Syntax.tnil (Syntax.ttcons Syntax.tnil
-      (Syntax.ttcons Syntax.tnil (Syntax.ttcons Syntax.tnil (Syntax.ttcons Syntax.tnil (Syntax.ttcons (Syntax.tcons (Syntax.tyInt Syntax.w64) Syntax.tnil) (Syntax.ttcons (Syntax.tcons (Syntax.tyInt
-      Syntax.w64) Syntax.tnil) (Syntax.ttcons Syntax.tnil (Syntax.ttcons (Syntax.tcons (Syntax.tyInt Syntax.w64) (Syntax.tcons (Syntax.tyInt Syntax.w64) Syntax.tnil)) (Syntax.ttcons (Syntax.tcons
-      (Syntax.tyInt Syntax.w64) Syntax.tnil) (Syntax.ttcons Syntax.tnil (Syntax.ttcons Syntax.tnil (Syntax.ttcons (Syntax.tcons (Syntax.tyInt Syntax.w64) Syntax.tnil) (Syntax.ttcons (Syntax.tcons
-      (Syntax.tyInt Syntax.w64) Syntax.tnil) (Syntax.ttcons (Syntax.tcons (Syntax.tyInt Syntax.w64) Syntax.tnil) (Syntax.ttcons Syntax.tnil (Syntax.ttcons Syntax.tnil (Syntax.ttcons (Syntax.tcons
-      (Syntax.tyInt Syntax.w64) (Syntax.tcons (Syntax.tyInt Syntax.w64) Syntax.tnil)) (Syntax.ttcons Syntax.tnil Syntax.ttnil))))))))))))))))))))))))) Syntax.tnil) Syntax.ttnil))),
-)
+abbrev pub v2 : Row.Row
+v2 = Rows'.any-gone y13
 
-abbrev pub e26 : Row.Entry
-e26 = (20, Rows'.whole (Declared.row Decoded.the-type))
+abbrev pub v3 : Row.Row
+v3 = Rows'.any-gone y18
 
-abbrev pub e27 : Row.Entry
-e27 = (
-  21,
-  Rows'.any-gone (Syntax.tyEnum (List._∷_ 98 (List._∷_ 108 (List._∷_ 111 (List._∷_ 99 (List._∷_ 107 (List._∷_ 58 (List._∷_ 58 (List._∷_ 68 (List._∷_ 101 (List._∷_ 99 (List._∷_ 111 (List._∷_ 100
-      (List._∷_ 101 (List._∷_ 100 List.[])))))))))))))) (Syntax.ttcons Syntax.tnil (Syntax.ttcons (Syntax.tcons (Syntax.tyEnum (List._∷_ 115 (List._∷_ 116 (List._∷_ 114 (List._∷_ 101 (List._∷_ 97 (List._∷_
-      109 (List._∷_ 58 (List._∷_ 58 (List._∷_ 82 (List._∷_ 101 (List._∷_ 102 (List._∷_ 117 (List._∷_ 115 (List._∷_ 97 (List._∷_ 108 List.[]))))))))))))))) (Syntax.ttcons Syntax.tnil (Syntax.ttcons
-      Syntax.tnil (Syntax.ttcons Syntax.tnil (Syntax.ttcons (Syntax.tcons (Syntax.tyInt Syntax.w64) Syntax.tnil) (Syntax.ttcons Syntax.tnil (Syntax.ttcons Syntax.tnil (Syntax.ttcons Syntax.tnil
-      (Syntax.ttcons Syntax.tnil (Syntax.ttcons Syntax.tnil (Syntax.ttcons Syntax.tnil (Syntax.ttcons (Syntax.tcons (Syntax.tyInt Syntax.w64) Syntax.tnil) (Syntax.ttcons (Syntax.tcons (Syntax.tyInt
-      Syntax.w64) Syntax.tnil) (Syntax.ttcons Syntax.tnil (Syntax.ttcons (Syntax.tcons (Syntax.tyInt Syntax.w64) (Syntax.tcons (Syntax.tyInt Syntax.w64) Syntax.tnil)) (Syntax.ttcons (Syntax.tcons
-      (Syntax.tyInt Syntax.w64) Syntax.tnil) (Syntax.ttcons Syntax.tnil (Syntax.ttcons Syntax.tnil (Syntax.ttcons (Syntax.tcons (Syntax.tyInt Syntax.w64) Syntax.tnil) (Syntax.ttcons (Syntax.tcons
-      (Syntax.tyInt Syntax.w64) Syntax.tnil) (Syntax.ttcons (Syntax.tcons (Syntax.tyInt Syntax.w64) Syntax.tnil) (Syntax.ttcons Syntax.tnil (Syntax.ttcons Syntax.tnil (Syntax.ttcons (Syntax.tcons
-      (Syntax.tyInt Syntax.w64) (Syntax.tcons (Syntax.tyInt Syntax.w64) Syntax.tnil)) (Syntax.ttcons Syntax.tnil Syntax.ttnil))))))))))))))))))))))))) Syntax.tnil) Syntax.ttnil))),
-)
+abbrev pub v4 : Row.Row
+v4 = Rows'.any-gone y8
 
-abbrev pub e28 : Row.Entry
-e28 = (21, Rows'.whole (Declared.row Decoded.the-type))
+abbrev pub v5 : Row.Row
+v5 = Rows'.any-gone Syntax.tyPtr
 
-abbrev pub e29 : Row.Entry
-e29 = (22, Rows'.any-gone (Syntax.tyRef Syntax.erased Syntax.mut (Syntax.tyInt Syntax.w16)))
+abbrev pub v6 : Row.Row
+v6 = Rows'.sslice n8 y3 0
 
-abbrev pub e30 : Row.Entry
-e30 = (23, Mut.mslice (Referent.rtF (Referent.fInt Syntax.w16)) (Syntax.tyRef Syntax.erased Syntax.mut (Syntax.tyInt Syntax.w16)) 4)
+abbrev pub v7 : Row.Row
+v7 = Rows'.any-gone y1
 
-abbrev pub e31 : Row.Entry
-e31 = (23, Rows'.any-gone y3)
+abbrev pub v8 : Row.Row
+v8 = Rows'.sc-here (Row.sInt Syntax.w64)
 
-abbrev pub e32 : Row.Entry
-e32 = (24, Rows'.any-gone Syntax.tyPtr)
+abbrev pub v9 : Row.Row
+v9 = Rows'.whole (Declared.row Camera.the-type)
 
-abbrev pub e33 : Row.Entry
-e33 = (24, Rows'.sc-here Row.sPtr)
+abbrev pub v10 : Row.Row
+v10 = Rows'.any-gone y12
 
-abbrev pub e34 : Row.Entry
-e34 = (25, Rows'.any-gone (Syntax.tyInt Syntax.w64))
+abbrev pub v11 : Row.Row
+v11 = Rows'.any-gone y15
 
-abbrev pub e35 : Row.Entry
-e35 = (25, Rows'.sc-here (Row.sInt Syntax.w64))
+abbrev pub v12 : Row.Row
+v12 = Rows'.whole (Declared'.row Entries.the-type)
 
-abbrev pub e36 : Row.Entry
-e36 = (26, Relend.msptr (Referent.rtF (Referent.fInt Syntax.w16)) (Syntax.tyRef Syntax.erased Syntax.mut (Syntax.tyInt Syntax.w16)) 5)
+abbrev pub v13 : Row.Row
+v13 = Mut.mslice n16 y4 1
 
-abbrev pub e37 : Row.Entry
-e37 = (26, Rows'.any-gone (Syntax.tyRef Syntax.erased Syntax.mut (Syntax.tyInt Syntax.w16)))
+abbrev pub v14 : Row.Row
+v14 = Mut.mslice n16 y5 2
 
-abbrev pub e38 : Row.Entry
-e38 = (27, Mut.msleft (Referent.rtF (Referent.fInt Syntax.w16)) (Syntax.tyRef Syntax.erased Syntax.mut (Syntax.tyInt Syntax.w16)))
+abbrev pub v15 : Row.Row
+v15 = Mut.mslice (Element.type) y6 3
 
-abbrev pub e39 : Row.Entry
-e39 = (27, Mut.mslice (Referent.rtF (Referent.fInt Syntax.w16)) (Syntax.tyRef Syntax.erased Syntax.mut (Syntax.tyInt Syntax.w16)) 5)
+abbrev pub v16 : Row.Row
+v16 = Rows'.any-gone y11
 
-abbrev pub e40 : Row.Entry
-e40 = (27, Rows'.any-gone y3)
+abbrev pub v17 : Row.Row
+v17 = Rows'.any-gone y10
 
-abbrev pub e41 : Row.Entry
-e41 = (28, Rows'.any-gone Syntax.tyPtr)
+abbrev pub v18 : Row.Row
+v18 = Rows'.any-gone y7
 
-abbrev pub e42 : Row.Entry
-e42 = (28, Rows'.sc-here Row.sPtr)
+abbrev pub v19 : Row.Row
+v19 = Rows'.any-gone y14
 
-abbrev pub e43 : Row.Entry
-e43 = (29, Rows'.any-gone (Syntax.tyInt Syntax.w64))
+abbrev pub v20 : Row.Row
+v20 = Rows'.any-gone y0
 
-abbrev pub e44 : Row.Entry
-e44 = (29, Rows'.sc-here (Row.sInt Syntax.w64))
+abbrev pub v21 : Row.Row
+v21 = Rows'.whole (Declared'.row SharedAnswer.the-type)
 
-abbrev pub e45 : Row.Entry
-e45 = (3, Rows'.sslice (Referent.rtF (Referent.fInt Syntax.w8)) (Syntax.tyRef (Syntax.named 0) Syntax.imm (Syntax.tyInt Syntax.w8)) 0)
+abbrev pub v22 : Row.Row
+v22 = Rows.arrF n8 36 0
 
-abbrev pub e46 : Row.Entry
-e46 = (30, Relend.msptr (Element.type) (Syntax.tyRef Syntax.erased Syntax.mut Element.behind) 6)
+abbrev pub v23 : Row.Row
+v23 = Rows'.whole (Declared'.row Rect.the-type)
 
-abbrev pub e47 : Row.Entry
-e47 = (30, Rows'.any-gone (Syntax.tyRef Syntax.erased Syntax.mut Element.behind))
+abbrev pub v24 : Row.Row
+v24 = Rows'.whole (Declared'.row FujiHeader.the-type)
 
-abbrev pub e48 : Row.Entry
-e48 = (31, Mut.msleft (Element.type) (Syntax.tyRef Syntax.erased Syntax.mut Element.behind))
+abbrev pub v25 : Row.Row
+v25 = Mut.mslice n16 y8 4
 
-abbrev pub e49 : Row.Entry
-e49 = (31, Mut.mslice (Element.type) (Syntax.tyRef Syntax.erased Syntax.mut Element.behind) 6)
+abbrev pub v26 : Row.Row
+v26 = Rows'.whole (Declared.row Decoded.the-type)
 
-abbrev pub e50 : Row.Entry
-e50 = (31, Rows'.any-gone y4)
+abbrev pub v27 : Row.Row
+v27 = Relend.mslice-owed n16 y4 1 4 Row.off
 
-abbrev pub e51 : Row.Entry
-e51 = (4, Rows'.any-gone y1)
+abbrev pub v28 : Row.Row
+v28 = PartMut.mslice-owedM n16 y5 2 5 Row.off
 
-abbrev pub e52 : Row.Entry
-e52 = (4, Rows'.whole (Declared'.row Rect.the-type))
+abbrev pub v29 : Row.Row
+v29 = Mut.mslice n16 y8 5
 
-abbrev pub e53 : Row.Entry
-e53 = (5, Rows'.any-gone (Syntax.tyArray (Syntax.tyInt Syntax.w8) 36))
+abbrev pub v30 : Row.Row
+v30 = PartMut.mslice-owedM (Element.type) y6 3 6 Row.off
 
-abbrev pub e54 : Row.Entry
-e54 = (5, Rows.arrF (Referent.rtF (Referent.fInt Syntax.w8)) 36 0)
+abbrev pub v31 : Row.Row
+v31 = Rows'.any-gone y2
 
-abbrev pub e55 : Row.Entry
-e55 = (6, Mut.mslice (Referent.rtF (Referent.fInt Syntax.w16)) (Syntax.tyRef (Syntax.named 1) Syntax.mut (Syntax.tyInt Syntax.w16)) 1)
+abbrev pub v32 : Row.Row
+v32 = Rows'.sc-here Row.sPtr
 
-abbrev pub e56 : Row.Entry
-e56 = (6, Relend.mslice-owed (Referent.rtF (Referent.fInt Syntax.w16)) (Syntax.tyRef (Syntax.named 1) Syntax.mut (Syntax.tyInt Syntax.w16)) 1 4 Row.off)
+abbrev pub v33 : Row.Row
+v33 = Rows'.whole (Declared.row Beginning.the-type)
 
-abbrev pub e57 : Row.Entry
-e57 = (7, Mut.mslice (Referent.rtF (Referent.fInt Syntax.w16)) (Syntax.tyRef (Syntax.named 2) Syntax.mut (Syntax.tyInt Syntax.w16)) 2)
+abbrev pub v34 : Row.Row
+v34 = Rows'.whole (Known.Known Beginning.enum 0)
 
-abbrev pub e58 : Row.Entry
-e58 = (7, PartMut.mslice-owedM (Referent.rtF (Referent.fInt Syntax.w16)) (Syntax.tyRef (Syntax.named 2) Syntax.mut (Syntax.tyInt Syntax.w16)) 2 5 Row.off)
+abbrev pub v35 : Row.Row
+v35 = Mut.msleft n16 y8
 
-abbrev pub e59 : Row.Entry
-e59 = (8, Mut.mslice (Element.type) (Syntax.tyRef (Syntax.named 3) Syntax.mut Element.behind) 3)
-
-abbrev pub e60 : Row.Entry
-e60 = (8, PartMut.mslice-owedM (Element.type) (Syntax.tyRef (Syntax.named 3) Syntax.mut Element.behind) 3 6 Row.off)
-
-abbrev pub e61 : Row.Entry
-e61 = (
-  9,
-  Rows'.any-gone (Syntax.tyEnum (List._∷_ 98 (List._∷_ 101 (List._∷_ 103 (List._∷_ 105 (List._∷_ 110 (List._∷_ 58 (List._∷_ 58 (List._∷_ 66 (List._∷_ 101 (List._∷_ 103 (List._∷_ 105 (List._∷_ 110
-      (List._∷_ 110 (List._∷_ 105 (List._∷_ 110 (List._∷_ 103 List.[])))))))))))))))) (Syntax.ttcons (Syntax.tcons (Syntax.tyEnum (List._∷_ 115 (List._∷_ 116 (List._∷_ 114 (List._∷_ 101 (List._∷_ 97
-      (List._∷_ 109 (List._∷_ 58 (List._∷_ 58 (List._∷_ 82 (List._∷_ 101 (List._∷_ 102 (List._∷_ 117 (List._∷_ 115 (List._∷_ 97 (List._∷_ 108 List.[]))))))))))))))) (Syntax.ttcons Syntax.tnil (Syntax.ttcons
-      Syntax.tnil (Syntax.ttcons Syntax.tnil (Syntax.ttcons (Syntax.tcons (Syntax.tyInt Syntax.w64) Syntax.tnil) (Syntax.ttcons Syntax.tnil (Syntax.ttcons Syntax.tnil (Syntax.ttcons Syntax.tnil
-      (Syntax.ttcons Syntax.tnil (Syntax.ttcons Syntax.tnil (Syntax.ttcons Syntax.tnil (Syntax.ttcons (Syntax.tcons (Syntax.tyInt Syntax.w64) Syntax.tnil) (Syntax.ttcons (Syntax.tcons (Syntax.tyInt
-      Syntax.w64) Syntax.tnil) (Syntax.ttcons Syntax.tnil (Syntax.ttcons (Syntax.tcons (Syntax.tyInt Syntax.w64) (Syntax.tcons (Syntax.tyInt Syntax.w64) Syntax.tnil)) (Syntax.ttcons (Syntax.tcons
-      (Syntax.tyInt Syntax.w64) Syntax.tnil) (Syntax.ttcons Syntax.tnil (Syntax.ttcons Syntax.tnil (Syntax.ttcons (Syntax.tcons (Syntax.tyInt Syntax.w64) Syntax.tnil) (Syntax.ttcons (Syntax.tcons
-      (Syntax.tyInt Syntax.w64) Syntax.tnil) (Syntax.ttcons (Syntax.tcons (Syntax.tyInt Syntax.w64) Syntax.tnil) (Syntax.ttcons Syntax.tnil (Syntax.ttcons Syntax.tnil (Syntax.ttcons (Syntax.tcons
-      (Syntax.tyInt Syntax.w64) (Syntax.tcons (Syntax.tyInt Syntax.w64) Syntax.tnil)) (Syntax.ttcons Syntax.tnil Syntax.ttnil))))))))))))))))))))))))) Syntax.tnil) (Syntax.ttcons Syntax.tnil (Syntax.ttcons
-      (Syntax.tcons y2 Syntax.tnil) Syntax.ttnil)))),
-)
-
-abbrev pub e62 : Row.Entry
-e62 = (9, Rows'.whole (Declared.row Beginning.the-type))
-
-abbrev pub e63 : Row.Entry
-e63 = (9, Rows'.whole (Known.Known Beginning.enum 0))
-
-abbrev pub e64 : Row.Entry
-e64 = (9, Rows'.whole (Known.Known Beginning.enum 2))
+abbrev pub v36 : Row.Row
+v36 = Mut.msleft (Element.type) y7
 
 abbrev pub t0 : List.List Row.Entry
-t0 = List._∷_ e0 (List._∷_ e2 (List._∷_ e24 (List._∷_ e45 (List._∷_ e52 (List._∷_ e54 (List._∷_ e55 (List._∷_ e57 (List._∷_ e59 (List._∷_ e61 (List._∷_ e3 (List._∷_ e5 (List._∷_ e7 (List._∷_ e9
-    (List._∷_ e11 (List._∷_ e13 List.[])))))))))))))))
+t0 = (0, v1) ∷ (1, v9) ∷ (2, v12) ∷ (3, v6) ∷ (4, v23) ∷ (5, v22) ∷ (6, v13) ∷ (7, v14) ∷ (8, v15) ∷ (9, v10) ∷ (10, v3) ∷ (11, v7) ∷ (12, v16) ∷ (13, v0) ∷ (14, v1) ∷ (15, v2) ∷ []
 
 abbrev pub t1 : List.List Row.Entry
-t1 = List._∷_ e15 (List._∷_ e17 (List._∷_ e19 (List._∷_ e21 (List._∷_ e25 (List._∷_ e27 (List._∷_ e29 (List._∷_ e31 (List._∷_ e32 (List._∷_ e34 (List._∷_ e37 (List._∷_ e40 (List._∷_ e41 (List._∷_ e43
-    (List._∷_ e47 (List._∷_ e50 List.[])))))))))))))))
+t1 = (16, v0) ∷ (17, v0) ∷ (18, v0) ∷ (19, v1) ∷ (20, v2) ∷ (21, v2) ∷ (22, v4) ∷ (23, v11) ∷ (24, v5) ∷ (25, v0) ∷ (26, v4) ∷ (27, v11) ∷ (28, v5) ∷ (29, v0) ∷ (30, v18) ∷ (31, v19) ∷ []
 
 abbrev pub t2 : List.List Row.Entry
-t2 = List._∷_ (0, Rows'.whole (Declared'.row SharedAnswer.the-type)) (List._∷_ e1 (List._∷_ e23 (List._∷_ e45 (List._∷_ e51 (List._∷_ e53 (List._∷_ e55 (List._∷_ e57 (List._∷_ e59 (List._∷_ e61
-    (List._∷_ e3 (List._∷_ e5 (List._∷_ e7 (List._∷_ e9 (List._∷_ e11 (List._∷_ e13 List.[])))))))))))))))
+t2 = (0, v21) ∷ (1, v31) ∷ (2, v3) ∷ (3, v6) ∷ (4, v17) ∷ (5, v20) ∷ (6, v13) ∷ (7, v14) ∷ (8, v15) ∷ (9, v10) ∷ (10, v3) ∷ (11, v7) ∷ (12, v16) ∷ (13, v0) ∷ (14, v1) ∷ (15, v2) ∷ []
 
 abbrev pub t3 : List.List Row.Entry
-t3 = List._∷_ e16 (List._∷_ e17 (List._∷_ e19 (List._∷_ e21 (List._∷_ e25 (List._∷_ e27 (List._∷_ e29 (List._∷_ e31 (List._∷_ e32 (List._∷_ e34 (List._∷_ e37 (List._∷_ e40 (List._∷_ e41 (List._∷_ e43
-    (List._∷_ e47 (List._∷_ e50 List.[])))))))))))))))
+t3 = (16, v8) ∷ (17, v0) ∷ (18, v0) ∷ (19, v1) ∷ (20, v2) ∷ (21, v2) ∷ (22, v4) ∷ (23, v11) ∷ (24, v5) ∷ (25, v0) ∷ (26, v4) ∷ (27, v11) ∷ (28, v5) ∷ (29, v0) ∷ (30, v18) ∷ (31, v19) ∷ []
 
 abbrev pub t4 : List.List Row.Entry
-t4 = List._∷_ e16 (List._∷_ e18 (List._∷_ e19 (List._∷_ e21 (List._∷_ e25 (List._∷_ e27 (List._∷_ e29 (List._∷_ e31 (List._∷_ e32 (List._∷_ e34 (List._∷_ e37 (List._∷_ e40 (List._∷_ e41 (List._∷_ e43
-    (List._∷_ e47 (List._∷_ e50 List.[])))))))))))))))
+t4 = (16, v8) ∷ (17, v8) ∷ (18, v0) ∷ (19, v1) ∷ (20, v2) ∷ (21, v2) ∷ (22, v4) ∷ (23, v11) ∷ (24, v5) ∷ (25, v0) ∷ (26, v4) ∷ (27, v11) ∷ (28, v5) ∷ (29, v0) ∷ (30, v18) ∷ (31, v19) ∷ []
 
 abbrev pub t5 : List.List Row.Entry
-t5 = List._∷_ e16 (List._∷_ e18 (List._∷_ e20 (List._∷_ e21 (List._∷_ e25 (List._∷_ e27 (List._∷_ e29 (List._∷_ e31 (List._∷_ e32 (List._∷_ e34 (List._∷_ e37 (List._∷_ e40 (List._∷_ e41 (List._∷_ e43
-    (List._∷_ e47 (List._∷_ e50 List.[])))))))))))))))
+t5 = (16, v8) ∷ (17, v8) ∷ (18, v8) ∷ (19, v1) ∷ (20, v2) ∷ (21, v2) ∷ (22, v4) ∷ (23, v11) ∷ (24, v5) ∷ (25, v0) ∷ (26, v4) ∷ (27, v11) ∷ (28, v5) ∷ (29, v0) ∷ (30, v18) ∷ (31, v19) ∷ []
 
 abbrev pub t6 : List.List Row.Entry
-t6 = List._∷_ e0 (List._∷_ e2 (List._∷_ e24 (List._∷_ e45 (List._∷_ e52 (List._∷_ e54 (List._∷_ e55 (List._∷_ e57 (List._∷_ e59 (List._∷_ e62 (List._∷_ e3 (List._∷_ e5 (List._∷_ e7 (List._∷_ e9
-    (List._∷_ e11 (List._∷_ e13 List.[])))))))))))))))
+t6 = (0, v1) ∷ (1, v9) ∷ (2, v12) ∷ (3, v6) ∷ (4, v23) ∷ (5, v22) ∷ (6, v13) ∷ (7, v14) ∷ (8, v15) ∷ (9, v33) ∷ (10, v3) ∷ (11, v7) ∷ (12, v16) ∷ (13, v0) ∷ (14, v1) ∷ (15, v2) ∷ []
 
 abbrev pub t7 : List.List Row.Entry
-t7 = List._∷_ e15 (List._∷_ e18 (List._∷_ e20 (List._∷_ e21 (List._∷_ e25 (List._∷_ e27 (List._∷_ e29 (List._∷_ e31 (List._∷_ e32 (List._∷_ e34 (List._∷_ e37 (List._∷_ e40 (List._∷_ e41 (List._∷_ e43
-    (List._∷_ e47 (List._∷_ e50 List.[])))))))))))))))
+t7 = (16, v0) ∷ (17, v8) ∷ (18, v8) ∷ (19, v1) ∷ (20, v2) ∷ (21, v2) ∷ (22, v4) ∷ (23, v11) ∷ (24, v5) ∷ (25, v0) ∷ (26, v4) ∷ (27, v11) ∷ (28, v5) ∷ (29, v0) ∷ (30, v18) ∷ (31, v19) ∷ []
 
 abbrev pub t8 : List.List Row.Entry
-t8 = List._∷_ e15 (List._∷_ e17 (List._∷_ e20 (List._∷_ e21 (List._∷_ e25 (List._∷_ e27 (List._∷_ e29 (List._∷_ e31 (List._∷_ e32 (List._∷_ e34 (List._∷_ e37 (List._∷_ e40 (List._∷_ e41 (List._∷_ e43
-    (List._∷_ e47 (List._∷_ e50 List.[])))))))))))))))
+t8 = (16, v0) ∷ (17, v0) ∷ (18, v8) ∷ (19, v1) ∷ (20, v2) ∷ (21, v2) ∷ (22, v4) ∷ (23, v11) ∷ (24, v5) ∷ (25, v0) ∷ (26, v4) ∷ (27, v11) ∷ (28, v5) ∷ (29, v0) ∷ (30, v18) ∷ (31, v19) ∷ []
 
 abbrev pub t9 : List.List Row.Entry
-t9 = List._∷_ e0 (List._∷_ e2 (List._∷_ e24 (List._∷_ e45 (List._∷_ e52 (List._∷_ e54 (List._∷_ e55 (List._∷_ e57 (List._∷_ e59 (List._∷_ e62 (List._∷_ e4 (List._∷_ e5 (List._∷_ e7 (List._∷_ e9
-    (List._∷_ e11 (List._∷_ e13 List.[])))))))))))))))
+t9 = (0, v1) ∷ (1, v9) ∷ (2, v12) ∷ (3, v6) ∷ (4, v23) ∷ (5, v22) ∷ (6, v13) ∷ (7, v14) ∷ (8, v15) ∷ (9, v33) ∷ (10, v12) ∷ (11, v7) ∷ (12, v16) ∷ (13, v0) ∷ (14, v1) ∷ (15, v2) ∷ []
 
 abbrev pub t10 : List.List Row.Entry
-t10 = List._∷_ e0 (List._∷_ e1 (List._∷_ e23 (List._∷_ e45 (List._∷_ e51 (List._∷_ e53 (List._∷_ e55 (List._∷_ e57 (List._∷_ e59 (List._∷_ e61 (List._∷_ e3 (List._∷_ e5 (List._∷_ e7 (List._∷_ e9
-    (List._∷_ e11 (List._∷_ e13 List.[])))))))))))))))
+t10 = (0, v1) ∷ (1, v31) ∷ (2, v3) ∷ (3, v6) ∷ (4, v17) ∷ (5, v20) ∷ (6, v13) ∷ (7, v14) ∷ (8, v15) ∷ (9, v10) ∷ (10, v3) ∷ (11, v7) ∷ (12, v16) ∷ (13, v0) ∷ (14, v1) ∷ (15, v2) ∷ []
 
 abbrev pub t11 : List.List Row.Entry
-t11 = List._∷_ e15 (List._∷_ e17 (List._∷_ e19 (List._∷_ e22 (List._∷_ e25 (List._∷_ e27 (List._∷_ e29 (List._∷_ e31 (List._∷_ e32 (List._∷_ e34 (List._∷_ e37 (List._∷_ e40 (List._∷_ e41 (List._∷_ e43
-    (List._∷_ e47 (List._∷_ e50 List.[])))))))))))))))
+t11 = (16, v0) ∷ (17, v0) ∷ (18, v0) ∷ (19, v21) ∷ (20, v2) ∷ (21, v2) ∷ (22, v4) ∷ (23, v11) ∷ (24, v5) ∷ (25, v0) ∷ (26, v4) ∷ (27, v11) ∷ (28, v5) ∷ (29, v0) ∷ (30, v18) ∷ (31, v19) ∷ []
 
 abbrev pub t12 : List.List Row.Entry
-t12 = List._∷_ e0 (List._∷_ e2 (List._∷_ e23 (List._∷_ e45 (List._∷_ e52 (List._∷_ e54 (List._∷_ e55 (List._∷_ e57 (List._∷_ e59 (List._∷_ e62 (List._∷_ e4 (List._∷_ e5 (List._∷_ e7 (List._∷_ e9
-    (List._∷_ e11 (List._∷_ e13 List.[])))))))))))))))
+t12 = (0, v1) ∷ (1, v9) ∷ (2, v3) ∷ (3, v6) ∷ (4, v23) ∷ (5, v22) ∷ (6, v13) ∷ (7, v14) ∷ (8, v15) ∷ (9, v33) ∷ (10, v12) ∷ (11, v7) ∷ (12, v16) ∷ (13, v0) ∷ (14, v1) ∷ (15, v2) ∷ []
 
 abbrev pub t13 : List.List Row.Entry
-t13 = List._∷_ e0 (List._∷_ e2 (List._∷_ e23 (List._∷_ e45 (List._∷_ e52 (List._∷_ e54 (List._∷_ e55 (List._∷_ e57 (List._∷_ e59 (List._∷_ e63 (List._∷_ e4 (List._∷_ e5 (List._∷_ e7 (List._∷_ e9
-    (List._∷_ e11 (List._∷_ e13 List.[])))))))))))))))
+t13 = (0, v1) ∷ (1, v9) ∷ (2, v3) ∷ (3, v6) ∷ (4, v23) ∷ (5, v22) ∷ (6, v13) ∷ (7, v14) ∷ (8, v15) ∷ (9, v34) ∷ (10, v12) ∷ (11, v7) ∷ (12, v16) ∷ (13, v0) ∷ (14, v1) ∷ (15, v2) ∷ []
 
 abbrev pub t14 : List.List Row.Entry
-t14 = List._∷_ e0 (List._∷_ e2 (List._∷_ e23 (List._∷_ e45 (List._∷_ e51 (List._∷_ e54 (List._∷_ e55 (List._∷_ e57 (List._∷_ e59 (List._∷_ e63 (List._∷_ e4 (List._∷_ e5 (List._∷_ e7 (List._∷_ e9
-    (List._∷_ e11 (List._∷_ e13 List.[])))))))))))))))
+t14 = (0, v1) ∷ (1, v9) ∷ (2, v3) ∷ (3, v6) ∷ (4, v17) ∷ (5, v22) ∷ (6, v13) ∷ (7, v14) ∷ (8, v15) ∷ (9, v34) ∷ (10, v12) ∷ (11, v7) ∷ (12, v16) ∷ (13, v0) ∷ (14, v1) ∷ (15, v2) ∷ []
 
 abbrev pub t15 : List.List Row.Entry
-t15 = List._∷_ e0 (List._∷_ e2 (List._∷_ e23 (List._∷_ e45 (List._∷_ e51 (List._∷_ e53 (List._∷_ e55 (List._∷_ e57 (List._∷_ e59 (List._∷_ e63 (List._∷_ e4 (List._∷_ e5 (List._∷_ e7 (List._∷_ e9
-    (List._∷_ e11 (List._∷_ e13 List.[])))))))))))))))
+t15 = (0, v1) ∷ (1, v9) ∷ (2, v3) ∷ (3, v6) ∷ (4, v17) ∷ (5, v20) ∷ (6, v13) ∷ (7, v14) ∷ (8, v15) ∷ (9, v34) ∷ (10, v12) ∷ (11, v7) ∷ (12, v16) ∷ (13, v0) ∷ (14, v1) ∷ (15, v2) ∷ []
 
 abbrev pub t16 : List.List Row.Entry
-t16 = List._∷_ e0 (List._∷_ e2 (List._∷_ e23 (List._∷_ e45 (List._∷_ e51 (List._∷_ e53 (List._∷_ e55 (List._∷_ e57 (List._∷_ e59 (List._∷_ e63 (List._∷_ e4 (List._∷_ e6 (List._∷_ e7 (List._∷_ e9
-    (List._∷_ e11 (List._∷_ e13 List.[])))))))))))))))
+t16 = (0, v1) ∷ (1, v9) ∷ (2, v3) ∷ (3, v6) ∷ (4, v17) ∷ (5, v20) ∷ (6, v13) ∷ (7, v14) ∷ (8, v15) ∷ (9, v34) ∷ (10, v12) ∷ (11, Rows'.whole (Declared.row Refusal.the-type)) ∷ (12, v16) ∷ (13, v0) ∷
+    (14, v1) ∷ (15, v2) ∷ []
 
 abbrev pub t17 : List.List Row.Entry
-t17 = List._∷_ e0 (List._∷_ e2 (List._∷_ e23 (List._∷_ e45 (List._∷_ e51 (List._∷_ e53 (List._∷_ e55 (List._∷_ e57 (List._∷_ e59 (List._∷_ e61 (List._∷_ e4 (List._∷_ e6 (List._∷_ e7 (List._∷_ e9
-    (List._∷_ e11 (List._∷_ e13 List.[])))))))))))))))
+t17 = (0, v1) ∷ (1, v9) ∷ (2, v3) ∷ (3, v6) ∷ (4, v17) ∷ (5, v20) ∷ (6, v13) ∷ (7, v14) ∷ (8, v15) ∷ (9, v10) ∷ (10, v12) ∷ (11, Rows'.whole (Declared.row Refusal.the-type)) ∷ (12, v16) ∷ (13, v0) ∷
+    (14, v1) ∷ (15, v2) ∷ []
 
 abbrev pub t18 : List.List Row.Entry
-t18 = List._∷_ e15 (List._∷_ e17 (List._∷_ e19 (List._∷_ e21 (List._∷_ e26 (List._∷_ e27 (List._∷_ e29 (List._∷_ e31 (List._∷_ e32 (List._∷_ e34 (List._∷_ e37 (List._∷_ e40 (List._∷_ e41 (List._∷_ e43
-    (List._∷_ e47 (List._∷_ e50 List.[])))))))))))))))
+t18 = (16, v0) ∷ (17, v0) ∷ (18, v0) ∷ (19, v1) ∷ (20, v26) ∷ (21, v2) ∷ (22, v4) ∷ (23, v11) ∷ (24, v5) ∷ (25, v0) ∷ (26, v4) ∷ (27, v11) ∷ (28, v5) ∷ (29, v0) ∷ (30, v18) ∷ (31, v19) ∷ []
 
 abbrev pub t19 : List.List Row.Entry
-t19 = List._∷_ e0 (List._∷_ e2 (List._∷_ e23 (List._∷_ e45 (List._∷_ e51 (List._∷_ e53 (List._∷_ e55 (List._∷_ e57 (List._∷_ e59 (List._∷_ e61 (List._∷_ e4 (List._∷_ e5 (List._∷_ e7 (List._∷_ e9
-    (List._∷_ e11 (List._∷_ e13 List.[])))))))))))))))
+t19 = (0, v1) ∷ (1, v9) ∷ (2, v3) ∷ (3, v6) ∷ (4, v17) ∷ (5, v20) ∷ (6, v13) ∷ (7, v14) ∷ (8, v15) ∷ (9, v10) ∷ (10, v12) ∷ (11, v7) ∷ (12, v16) ∷ (13, v0) ∷ (14, v1) ∷ (15, v2) ∷ []
 
 abbrev pub t20 : List.List Row.Entry
-t20 = List._∷_ e15 (List._∷_ e17 (List._∷_ e19 (List._∷_ e22 (List._∷_ e26 (List._∷_ e27 (List._∷_ e29 (List._∷_ e31 (List._∷_ e32 (List._∷_ e34 (List._∷_ e37 (List._∷_ e40 (List._∷_ e41 (List._∷_ e43
-    (List._∷_ e47 (List._∷_ e50 List.[])))))))))))))))
+t20 = (16, v0) ∷ (17, v0) ∷ (18, v0) ∷ (19, v21) ∷ (20, v26) ∷ (21, v2) ∷ (22, v4) ∷ (23, v11) ∷ (24, v5) ∷ (25, v0) ∷ (26, v4) ∷ (27, v11) ∷ (28, v5) ∷ (29, v0) ∷ (30, v18) ∷ (31, v19) ∷ []
 
 abbrev pub t21 : List.List Row.Entry
-t21 = List._∷_ e0 (List._∷_ e1 (List._∷_ e23 (List._∷_ e45 (List._∷_ e51 (List._∷_ e53 (List._∷_ e55 (List._∷_ e57 (List._∷_ e59 (List._∷_ e61 (List._∷_ e4 (List._∷_ e5 (List._∷_ e7 (List._∷_ e9
-    (List._∷_ e11 (List._∷_ e13 List.[])))))))))))))))
+t21 = (0, v1) ∷ (1, v31) ∷ (2, v3) ∷ (3, v6) ∷ (4, v17) ∷ (5, v20) ∷ (6, v13) ∷ (7, v14) ∷ (8, v15) ∷ (9, v10) ∷ (10, v12) ∷ (11, v7) ∷ (12, v16) ∷ (13, v0) ∷ (14, v1) ∷ (15, v2) ∷ []
 
 abbrev pub t22 : List.List Row.Entry
-t22 = List._∷_ e0 (List._∷_ e2 (List._∷_ e23 (List._∷_ e45 (List._∷_ e51 (List._∷_ e54 (List._∷_ e55 (List._∷_ e57 (List._∷_ e59 (List._∷_ e62 (List._∷_ e4 (List._∷_ e5 (List._∷_ e7 (List._∷_ e9
-    (List._∷_ e11 (List._∷_ e13 List.[])))))))))))))))
+t22 = (0, v1) ∷ (1, v9) ∷ (2, v3) ∷ (3, v6) ∷ (4, v17) ∷ (5, v22) ∷ (6, v13) ∷ (7, v14) ∷ (8, v15) ∷ (9, v33) ∷ (10, v12) ∷ (11, v7) ∷ (12, v16) ∷ (13, v0) ∷ (14, v1) ∷ (15, v2) ∷ []
 
 abbrev pub t23 : List.List Row.Entry
-t23 = List._∷_ e0 (List._∷_ e2 (List._∷_ e23 (List._∷_ e45 (List._∷_ e51 (List._∷_ e53 (List._∷_ e55 (List._∷_ e57 (List._∷_ e59 (List._∷_ e62 (List._∷_ e4 (List._∷_ e5 (List._∷_ e7 (List._∷_ e9
-    (List._∷_ e11 (List._∷_ e13 List.[])))))))))))))))
+t23 = (0, v1) ∷ (1, v9) ∷ (2, v3) ∷ (3, v6) ∷ (4, v17) ∷ (5, v20) ∷ (6, v13) ∷ (7, v14) ∷ (8, v15) ∷ (9, v33) ∷ (10, v12) ∷ (11, v7) ∷ (12, v16) ∷ (13, v0) ∷ (14, v1) ∷ (15, v2) ∷ []
 
 abbrev pub t24 : List.List Row.Entry
-t24 = List._∷_ e15 (List._∷_ e17 (List._∷_ e19 (List._∷_ e21 (List._∷_ e25 (List._∷_ e28 (List._∷_ e29 (List._∷_ e31 (List._∷_ e32 (List._∷_ e34 (List._∷_ e37 (List._∷_ e40 (List._∷_ e41 (List._∷_ e43
-    (List._∷_ e47 (List._∷_ e50 List.[])))))))))))))))
+t24 = (16, v0) ∷ (17, v0) ∷ (18, v0) ∷ (19, v1) ∷ (20, v2) ∷ (21, v26) ∷ (22, v4) ∷ (23, v11) ∷ (24, v5) ∷ (25, v0) ∷ (26, v4) ∷ (27, v11) ∷ (28, v5) ∷ (29, v0) ∷ (30, v18) ∷ (31, v19) ∷ []
 
 abbrev pub t25 : List.List Row.Entry
-t25 = List._∷_ e15 (List._∷_ e17 (List._∷_ e19 (List._∷_ e22 (List._∷_ e25 (List._∷_ e28 (List._∷_ e29 (List._∷_ e31 (List._∷_ e32 (List._∷_ e34 (List._∷_ e37 (List._∷_ e40 (List._∷_ e41 (List._∷_ e43
-    (List._∷_ e47 (List._∷_ e50 List.[])))))))))))))))
+t25 = (16, v0) ∷ (17, v0) ∷ (18, v0) ∷ (19, v21) ∷ (20, v2) ∷ (21, v26) ∷ (22, v4) ∷ (23, v11) ∷ (24, v5) ∷ (25, v0) ∷ (26, v4) ∷ (27, v11) ∷ (28, v5) ∷ (29, v0) ∷ (30, v18) ∷ (31, v19) ∷ []
 
 abbrev pub t26 : List.List Row.Entry
-t26 = List._∷_ e0 (List._∷_ e2 (List._∷_ e23 (List._∷_ e45 (List._∷_ e52 (List._∷_ e54 (List._∷_ e55 (List._∷_ e57 (List._∷_ e59 (List._∷_ e64 (List._∷_ e4 (List._∷_ e5 (List._∷_ e7 (List._∷_ e9
-    (List._∷_ e11 (List._∷_ e13 List.[])))))))))))))))
+t26 = (0, v1) ∷ (1, v9) ∷ (2, v3) ∷ (3, v6) ∷ (4, v23) ∷ (5, v22) ∷ (6, v13) ∷ (7, v14) ∷ (8, v15) ∷ (9, Rows'.whole (Known.Known Beginning.enum 2)) ∷ (10, v12) ∷ (11, v7) ∷ (12, v16) ∷ (13, v0) ∷
+    (14, v1) ∷ (15, v2) ∷ []
 
 abbrev pub t27 : List.List Row.Entry
-t27 = List._∷_ e0 (List._∷_ e2 (List._∷_ e23 (List._∷_ e45 (List._∷_ e52 (List._∷_ e54 (List._∷_ e55 (List._∷_ e57 (List._∷_ e59 (List._∷_ e64 (List._∷_ e4 (List._∷_ e5 (List._∷_ e8 (List._∷_ e9
-    (List._∷_ e11 (List._∷_ e13 List.[])))))))))))))))
+t27 = (0, v1) ∷ (1, v9) ∷ (2, v3) ∷ (3, v6) ∷ (4, v23) ∷ (5, v22) ∷ (6, v13) ∷ (7, v14) ∷ (8, v15) ∷ (9, Rows'.whole (Known.Known Beginning.enum 2)) ∷ (10, v12) ∷ (11, v7) ∷ (12, v24) ∷ (13, v0) ∷
+    (14, v1) ∷ (15, v2) ∷ []
 
 abbrev pub t28 : List.List Row.Entry
-t28 = List._∷_ e0 (List._∷_ e2 (List._∷_ e23 (List._∷_ e45 (List._∷_ e52 (List._∷_ e54 (List._∷_ e55 (List._∷_ e57 (List._∷_ e59 (List._∷_ e61 (List._∷_ e4 (List._∷_ e5 (List._∷_ e8 (List._∷_ e9
-    (List._∷_ e11 (List._∷_ e13 List.[])))))))))))))))
+t28 = (0, v1) ∷ (1, v9) ∷ (2, v3) ∷ (3, v6) ∷ (4, v23) ∷ (5, v22) ∷ (6, v13) ∷ (7, v14) ∷ (8, v15) ∷ (9, v10) ∷ (10, v12) ∷ (11, v7) ∷ (12, v24) ∷ (13, v0) ∷ (14, v1) ∷ (15, v2) ∷ []
 
 abbrev pub t29 : List.List Row.Entry
-t29 = List._∷_ e0 (List._∷_ e2 (List._∷_ e23 (List._∷_ e45 (List._∷_ e52 (List._∷_ e54 (List._∷_ e55 (List._∷_ e57 (List._∷_ e59 (List._∷_ e61 (List._∷_ e4 (List._∷_ e5 (List._∷_ e8 (List._∷_ e10
-    (List._∷_ e11 (List._∷_ e13 List.[])))))))))))))))
+t29 = (0, v1) ∷ (1, v9) ∷ (2, v3) ∷ (3, v6) ∷ (4, v23) ∷ (5, v22) ∷ (6, v13) ∷ (7, v14) ∷ (8, v15) ∷ (9, v10) ∷ (10, v12) ∷ (11, v7) ∷ (12, v24) ∷ (13, v8) ∷ (14, v1) ∷ (15, v2) ∷ []
 
 abbrev pub t30 : List.List Row.Entry
-t30 = List._∷_ e0 (List._∷_ e2 (List._∷_ e23 (List._∷_ e45 (List._∷_ e52 (List._∷_ e54 (List._∷_ e56 (List._∷_ e57 (List._∷_ e59 (List._∷_ e61 (List._∷_ e4 (List._∷_ e5 (List._∷_ e8 (List._∷_ e10
-    (List._∷_ e11 (List._∷_ e13 List.[])))))))))))))))
+t30 = (0, v1) ∷ (1, v9) ∷ (2, v3) ∷ (3, v6) ∷ (4, v23) ∷ (5, v22) ∷ (6, v27) ∷ (7, v14) ∷ (8, v15) ∷ (9, v10) ∷ (10, v12) ∷ (11, v7) ∷ (12, v24) ∷ (13, v8) ∷ (14, v1) ∷ (15, v2) ∷ []
 
 abbrev pub t31 : List.List Row.Entry
-t31 = List._∷_ e15 (List._∷_ e17 (List._∷_ e19 (List._∷_ e21 (List._∷_ e25 (List._∷_ e27 (List._∷_
-    (22, Relend.msptr (Referent.rtF (Referent.fInt Syntax.w16)) (Syntax.tyRef Syntax.erased Syntax.mut (Syntax.tyInt Syntax.w16)) 4) (List._∷_ e31 (List._∷_ e32 (List._∷_ e34 (List._∷_ e37 (List._∷_ e40
-    (List._∷_ e41 (List._∷_ e43 (List._∷_ e47 (List._∷_ e50 List.[])))))))))))))))
+t31 = (16, v0) ∷ (17, v0) ∷ (18, v0) ∷ (19, v1) ∷ (20, v2) ∷ (21, v2) ∷ (22, Relend.msptr n16 y8 4) ∷ (23, v11) ∷ (24, v5) ∷ (25, v0) ∷ (26, v4) ∷ (27, v11) ∷ (28, v5) ∷ (29, v0) ∷ (30, v18) ∷
+    (31, v19) ∷ []
 
 abbrev pub t32 : List.List Row.Entry
-t32 = List._∷_ e15 (List._∷_ e17 (List._∷_ e19 (List._∷_ e21 (List._∷_ e25 (List._∷_ e27 (List._∷_ e29 (List._∷_ e30 (List._∷_ e32 (List._∷_ e34 (List._∷_ e37 (List._∷_ e40 (List._∷_ e41 (List._∷_ e43
-    (List._∷_ e47 (List._∷_ e50 List.[])))))))))))))))
+t32 = (16, v0) ∷ (17, v0) ∷ (18, v0) ∷ (19, v1) ∷ (20, v2) ∷ (21, v2) ∷ (22, v4) ∷ (23, v25) ∷ (24, v5) ∷ (25, v0) ∷ (26, v4) ∷ (27, v11) ∷ (28, v5) ∷ (29, v0) ∷ (30, v18) ∷ (31, v19) ∷ []
 
 abbrev pub t33 : List.List Row.Entry
-t33 = List._∷_ e15 (List._∷_ e17 (List._∷_ e19 (List._∷_ e21 (List._∷_ e25 (List._∷_ e27 (List._∷_ e29 (List._∷_ e30 (List._∷_ e33 (List._∷_ e34 (List._∷_ e37 (List._∷_ e40 (List._∷_ e41 (List._∷_ e43
-    (List._∷_ e47 (List._∷_ e50 List.[])))))))))))))))
+t33 = (16, v0) ∷ (17, v0) ∷ (18, v0) ∷ (19, v1) ∷ (20, v2) ∷ (21, v2) ∷ (22, v4) ∷ (23, v25) ∷ (24, v32) ∷ (25, v0) ∷ (26, v4) ∷ (27, v11) ∷ (28, v5) ∷ (29, v0) ∷ (30, v18) ∷ (31, v19) ∷ []
 
 abbrev pub t34 : List.List Row.Entry
-t34 = List._∷_ e15 (List._∷_ e17 (List._∷_ e19 (List._∷_ e21 (List._∷_ e25 (List._∷_ e27 (List._∷_ e29 (List._∷_ e30 (List._∷_ e33 (List._∷_ e35 (List._∷_ e37 (List._∷_ e40 (List._∷_ e41 (List._∷_ e43
-    (List._∷_ e47 (List._∷_ e50 List.[])))))))))))))))
+t34 = (16, v0) ∷ (17, v0) ∷ (18, v0) ∷ (19, v1) ∷ (20, v2) ∷ (21, v2) ∷ (22, v4) ∷ (23, v25) ∷ (24, v32) ∷ (25, v8) ∷ (26, v4) ∷ (27, v11) ∷ (28, v5) ∷ (29, v0) ∷ (30, v18) ∷ (31, v19) ∷ []
 
 abbrev pub t35 : List.List Row.Entry
-t35 = List._∷_ e0 (List._∷_ e2 (List._∷_ e23 (List._∷_ e45 (List._∷_ e52 (List._∷_ e54 (List._∷_ e56 (List._∷_ e58 (List._∷_ e59 (List._∷_ e61 (List._∷_ e4 (List._∷_ e5 (List._∷_ e8 (List._∷_ e10
-    (List._∷_ e11 (List._∷_ e13 List.[])))))))))))))))
+t35 = (0, v1) ∷ (1, v9) ∷ (2, v3) ∷ (3, v6) ∷ (4, v23) ∷ (5, v22) ∷ (6, v27) ∷ (7, v28) ∷ (8, v15) ∷ (9, v10) ∷ (10, v12) ∷ (11, v7) ∷ (12, v24) ∷ (13, v8) ∷ (14, v1) ∷ (15, v2) ∷ []
 
 abbrev pub t36 : List.List Row.Entry
-t36 = List._∷_ e15 (List._∷_ e17 (List._∷_ e19 (List._∷_ e21 (List._∷_ e25 (List._∷_ e27 (List._∷_ e29 (List._∷_ e30 (List._∷_ e33 (List._∷_ e35 (List._∷_ e36 (List._∷_ e40 (List._∷_ e41 (List._∷_ e43
-    (List._∷_ e47 (List._∷_ e50 List.[])))))))))))))))
+t36 = (16, v0) ∷ (17, v0) ∷ (18, v0) ∷ (19, v1) ∷ (20, v2) ∷ (21, v2) ∷ (22, v4) ∷ (23, v25) ∷ (24, v32) ∷ (25, v8) ∷ (26, Relend.msptr n16 y8 5) ∷ (27, v11) ∷ (28, v5) ∷ (29, v0) ∷ (30, v18) ∷
+    (31, v19) ∷ []
 
 abbrev pub t37 : List.List Row.Entry
-t37 = List._∷_ e15 (List._∷_ e17 (List._∷_ e19 (List._∷_ e21 (List._∷_ e25 (List._∷_ e27 (List._∷_ e29 (List._∷_ e30 (List._∷_ e32 (List._∷_ e35 (List._∷_ e36 (List._∷_ e40 (List._∷_ e41 (List._∷_ e43
-    (List._∷_ e47 (List._∷_ e50 List.[])))))))))))))))
+t37 = (16, v0) ∷ (17, v0) ∷ (18, v0) ∷ (19, v1) ∷ (20, v2) ∷ (21, v2) ∷ (22, v4) ∷ (23, v25) ∷ (24, v5) ∷ (25, v8) ∷ (26, Relend.msptr n16 y8 5) ∷ (27, v11) ∷ (28, v5) ∷ (29, v0) ∷ (30, v18) ∷
+    (31, v19) ∷ []
 
 abbrev pub t38 : List.List Row.Entry
-t38 = List._∷_ e15 (List._∷_ e17 (List._∷_ e19 (List._∷_ e21 (List._∷_ e25 (List._∷_ e27 (List._∷_ e29 (List._∷_ e30 (List._∷_ e32 (List._∷_ e35 (List._∷_ e37 (List._∷_ e39 (List._∷_ e41 (List._∷_ e43
-    (List._∷_ e47 (List._∷_ e50 List.[])))))))))))))))
+t38 = (16, v0) ∷ (17, v0) ∷ (18, v0) ∷ (19, v1) ∷ (20, v2) ∷ (21, v2) ∷ (22, v4) ∷ (23, v25) ∷ (24, v5) ∷ (25, v8) ∷ (26, v4) ∷ (27, v29) ∷ (28, v5) ∷ (29, v0) ∷ (30, v18) ∷ (31, v19) ∷ []
 
 abbrev pub t39 : List.List Row.Entry
-t39 = List._∷_ e15 (List._∷_ e17 (List._∷_ e19 (List._∷_ e21 (List._∷_ e25 (List._∷_ e27 (List._∷_ e29 (List._∷_ e30 (List._∷_ e32 (List._∷_ e34 (List._∷_ e37 (List._∷_ e39 (List._∷_ e41 (List._∷_ e43
-    (List._∷_ e47 (List._∷_ e50 List.[])))))))))))))))
+t39 = (16, v0) ∷ (17, v0) ∷ (18, v0) ∷ (19, v1) ∷ (20, v2) ∷ (21, v2) ∷ (22, v4) ∷ (23, v25) ∷ (24, v5) ∷ (25, v0) ∷ (26, v4) ∷ (27, v29) ∷ (28, v5) ∷ (29, v0) ∷ (30, v18) ∷ (31, v19) ∷ []
 
 abbrev pub t40 : List.List Row.Entry
-t40 = List._∷_ e15 (List._∷_ e17 (List._∷_ e19 (List._∷_ e21 (List._∷_ e25 (List._∷_ e27 (List._∷_ e29 (List._∷_ e30 (List._∷_ e32 (List._∷_ e34 (List._∷_ e37 (List._∷_ e39 (List._∷_ e42 (List._∷_ e43
-    (List._∷_ e47 (List._∷_ e50 List.[])))))))))))))))
+t40 = (16, v0) ∷ (17, v0) ∷ (18, v0) ∷ (19, v1) ∷ (20, v2) ∷ (21, v2) ∷ (22, v4) ∷ (23, v25) ∷ (24, v5) ∷ (25, v0) ∷ (26, v4) ∷ (27, v29) ∷ (28, v32) ∷ (29, v0) ∷ (30, v18) ∷ (31, v19) ∷ []
 
 abbrev pub t41 : List.List Row.Entry
-t41 = List._∷_ e15 (List._∷_ e17 (List._∷_ e19 (List._∷_ e21 (List._∷_ e25 (List._∷_ e27 (List._∷_ e29 (List._∷_ e30 (List._∷_ e32 (List._∷_ e34 (List._∷_ e37 (List._∷_ e39 (List._∷_ e42 (List._∷_ e44
-    (List._∷_ e47 (List._∷_ e50 List.[])))))))))))))))
+t41 = (16, v0) ∷ (17, v0) ∷ (18, v0) ∷ (19, v1) ∷ (20, v2) ∷ (21, v2) ∷ (22, v4) ∷ (23, v25) ∷ (24, v5) ∷ (25, v0) ∷ (26, v4) ∷ (27, v29) ∷ (28, v32) ∷ (29, v8) ∷ (30, v18) ∷ (31, v19) ∷ []
 
 abbrev pub t42 : List.List Row.Entry
-t42 = List._∷_ e0 (List._∷_ e2 (List._∷_ e23 (List._∷_ e45 (List._∷_ e52 (List._∷_ e54 (List._∷_ e56 (List._∷_ e58 (List._∷_ e60 (List._∷_ e61 (List._∷_ e4 (List._∷_ e5 (List._∷_ e8 (List._∷_ e10
-    (List._∷_ e11 (List._∷_ e13 List.[])))))))))))))))
+t42 = (0, v1) ∷ (1, v9) ∷ (2, v3) ∷ (3, v6) ∷ (4, v23) ∷ (5, v22) ∷ (6, v27) ∷ (7, v28) ∷ (8, v30) ∷ (9, v10) ∷ (10, v12) ∷ (11, v7) ∷ (12, v24) ∷ (13, v8) ∷ (14, v1) ∷ (15, v2) ∷ []
 
 abbrev pub t43 : List.List Row.Entry
-t43 = List._∷_ e15 (List._∷_ e17 (List._∷_ e19 (List._∷_ e21 (List._∷_ e25 (List._∷_ e27 (List._∷_ e29 (List._∷_ e30 (List._∷_ e32 (List._∷_ e34 (List._∷_ e37 (List._∷_ e39 (List._∷_ e42 (List._∷_ e44
-    (List._∷_ e46 (List._∷_ e50 List.[])))))))))))))))
+t43 = (16, v0) ∷ (17, v0) ∷ (18, v0) ∷ (19, v1) ∷ (20, v2) ∷ (21, v2) ∷ (22, v4) ∷ (23, v25) ∷ (24, v5) ∷ (25, v0) ∷ (26, v4) ∷ (27, v29) ∷ (28, v32) ∷ (29, v8) ∷
+    (30, Relend.msptr (Element.type) y7 6) ∷ (31, v19) ∷ []
 
 abbrev pub t44 : List.List Row.Entry
-t44 = List._∷_ e15 (List._∷_ e17 (List._∷_ e19 (List._∷_ e21 (List._∷_ e25 (List._∷_ e27 (List._∷_ e29 (List._∷_ e30 (List._∷_ e32 (List._∷_ e34 (List._∷_ e37 (List._∷_ e39 (List._∷_ e41 (List._∷_ e44
-    (List._∷_ e46 (List._∷_ e50 List.[])))))))))))))))
+t44 = (16, v0) ∷ (17, v0) ∷ (18, v0) ∷ (19, v1) ∷ (20, v2) ∷ (21, v2) ∷ (22, v4) ∷ (23, v25) ∷ (24, v5) ∷ (25, v0) ∷ (26, v4) ∷ (27, v29) ∷ (28, v5) ∷ (29, v8) ∷ (30, Relend.msptr (Element.type) y7 6)
+    ∷ (31, v19) ∷ []
 
 abbrev pub t45 : List.List Row.Entry
-t45 = List._∷_ e15 (List._∷_ e17 (List._∷_ e19 (List._∷_ e21 (List._∷_ e25 (List._∷_ e27 (List._∷_ e29 (List._∷_ e30 (List._∷_ e32 (List._∷_ e34 (List._∷_ e37 (List._∷_ e39 (List._∷_ e41 (List._∷_ e44
-    (List._∷_ e47 (List._∷_ e49 List.[])))))))))))))))
+t45 = (16, v0) ∷ (17, v0) ∷ (18, v0) ∷ (19, v1) ∷ (20, v2) ∷ (21, v2) ∷ (22, v4) ∷ (23, v25) ∷ (24, v5) ∷ (25, v0) ∷ (26, v4) ∷ (27, v29) ∷ (28, v5) ∷ (29, v8) ∷ (30, v18) ∷
+    (31, Mut.mslice (Element.type) y7 6) ∷ []
 
 abbrev pub t46 : List.List Row.Entry
-t46 = List._∷_ e15 (List._∷_ e17 (List._∷_ e19 (List._∷_ e21 (List._∷_ e25 (List._∷_ e27 (List._∷_ e29 (List._∷_ e30 (List._∷_ e32 (List._∷_ e34 (List._∷_ e37 (List._∷_ e39 (List._∷_ e41 (List._∷_ e43
-    (List._∷_ e47 (List._∷_ e49 List.[])))))))))))))))
+t46 = (16, v0) ∷ (17, v0) ∷ (18, v0) ∷ (19, v1) ∷ (20, v2) ∷ (21, v2) ∷ (22, v4) ∷ (23, v25) ∷ (24, v5) ∷ (25, v0) ∷ (26, v4) ∷ (27, v29) ∷ (28, v5) ∷ (29, v0) ∷ (30, v18) ∷
+    (31, Mut.mslice (Element.type) y7 6) ∷ []
 
 abbrev pub t47 : List.List Row.Entry
-t47 = List._∷_ e0 (List._∷_ e2 (List._∷_ e23 (List._∷_ e45 (List._∷_ e52 (List._∷_ e54 (List._∷_ e56 (List._∷_ e58 (List._∷_ e60 (List._∷_ e61 (List._∷_ e4 (List._∷_ e5 (List._∷_ e8 (List._∷_ e10
-    (List._∷_ e12 (List._∷_ e13 List.[])))))))))))))))
+t47 = (0, v1) ∷ (1, v9) ∷ (2, v3) ∷ (3, v6) ∷ (4, v23) ∷ (5, v22) ∷ (6, v27) ∷ (7, v28) ∷ (8, v30) ∷ (9, v10) ∷ (10, v12) ∷ (11, v7) ∷ (12, v24) ∷ (13, v8) ∷ (14, v21) ∷ (15, v2) ∷ []
 
 abbrev pub t48 : List.List Row.Entry
-t48 = List._∷_ e15 (List._∷_ e17 (List._∷_ e19 (List._∷_ e21 (List._∷_ e25 (List._∷_ e27 (List._∷_ e29 (List._∷_
-    (23, Mut.msleft (Referent.rtF (Referent.fInt Syntax.w16)) (Syntax.tyRef Syntax.erased Syntax.mut (Syntax.tyInt Syntax.w16))) (List._∷_ e32 (List._∷_ e34 (List._∷_ e37 (List._∷_ e38 (List._∷_ e41
-    (List._∷_ e43 (List._∷_ e47 (List._∷_ e48 List.[])))))))))))))))
+t48 = (16, v0) ∷ (17, v0) ∷ (18, v0) ∷ (19, v1) ∷ (20, v2) ∷ (21, v2) ∷ (22, v4) ∷ (23, v35) ∷ (24, v5) ∷ (25, v0) ∷ (26, v4) ∷ (27, v35) ∷ (28, v5) ∷ (29, v0) ∷ (30, v18) ∷ (31, v36) ∷ []
 
 abbrev pub t49 : List.List Row.Entry
-t49 = List._∷_ e0 (List._∷_ e2 (List._∷_ e23 (List._∷_ e45 (List._∷_ e51 (List._∷_ e54 (List._∷_ e56 (List._∷_ e58 (List._∷_ e60 (List._∷_ e61 (List._∷_ e4 (List._∷_ e5 (List._∷_ e8 (List._∷_ e10
-    (List._∷_ e12 (List._∷_ e13 List.[])))))))))))))))
+t49 = (0, v1) ∷ (1, v9) ∷ (2, v3) ∷ (3, v6) ∷ (4, v17) ∷ (5, v22) ∷ (6, v27) ∷ (7, v28) ∷ (8, v30) ∷ (9, v10) ∷ (10, v12) ∷ (11, v7) ∷ (12, v24) ∷ (13, v8) ∷ (14, v21) ∷ (15, v2) ∷ []
 
 abbrev pub t50 : List.List Row.Entry
-t50 = List._∷_ e0 (List._∷_ e2 (List._∷_ e23 (List._∷_ e45 (List._∷_ e51 (List._∷_ e53 (List._∷_ e56 (List._∷_ e58 (List._∷_ e60 (List._∷_ e61 (List._∷_ e4 (List._∷_ e5 (List._∷_ e8 (List._∷_ e10
-    (List._∷_ e12 (List._∷_ e13 List.[])))))))))))))))
+t50 = (0, v1) ∷ (1, v9) ∷ (2, v3) ∷ (3, v6) ∷ (4, v17) ∷ (5, v20) ∷ (6, v27) ∷ (7, v28) ∷ (8, v30) ∷ (9, v10) ∷ (10, v12) ∷ (11, v7) ∷ (12, v24) ∷ (13, v8) ∷ (14, v21) ∷ (15, v2) ∷ []
 
 abbrev pub t51 : List.List Row.Entry
-t51 = List._∷_ e0 (List._∷_ e2 (List._∷_ e23 (List._∷_ e45 (List._∷_ e51 (List._∷_ e53 (List._∷_ e56 (List._∷_ e58 (List._∷_ e60 (List._∷_ e61 (List._∷_ e3 (List._∷_ e5 (List._∷_ e8 (List._∷_ e10
-    (List._∷_ e12 (List._∷_ e13 List.[])))))))))))))))
+t51 = (0, v1) ∷ (1, v9) ∷ (2, v3) ∷ (3, v6) ∷ (4, v17) ∷ (5, v20) ∷ (6, v27) ∷ (7, v28) ∷ (8, v30) ∷ (9, v10) ∷ (10, v3) ∷ (11, v7) ∷ (12, v24) ∷ (13, v8) ∷ (14, v21) ∷ (15, v2) ∷ []
 
 abbrev pub t52 : List.List Row.Entry
-t52 = List._∷_ e0 (List._∷_ e2 (List._∷_ e23 (List._∷_ e45 (List._∷_ e51 (List._∷_ e53 (List._∷_ e56 (List._∷_ e58 (List._∷_ e60 (List._∷_ e61 (List._∷_ e3 (List._∷_ e5 (List._∷_ e7 (List._∷_ e10
-    (List._∷_ e12 (List._∷_ e13 List.[])))))))))))))))
+t52 = (0, v1) ∷ (1, v9) ∷ (2, v3) ∷ (3, v6) ∷ (4, v17) ∷ (5, v20) ∷ (6, v27) ∷ (7, v28) ∷ (8, v30) ∷ (9, v10) ∷ (10, v3) ∷ (11, v7) ∷ (12, v16) ∷ (13, v8) ∷ (14, v21) ∷ (15, v2) ∷ []
 
 abbrev pub t53 : List.List Row.Entry
-t53 = List._∷_ e0 (List._∷_ e2 (List._∷_ e23 (List._∷_ e45 (List._∷_ e51 (List._∷_ e53 (List._∷_ e55 (List._∷_ e58 (List._∷_ e60 (List._∷_ e61 (List._∷_ e3 (List._∷_ e5 (List._∷_ e7 (List._∷_ e10
-    (List._∷_ e12 (List._∷_ e13 List.[])))))))))))))))
+t53 = (0, v1) ∷ (1, v9) ∷ (2, v3) ∷ (3, v6) ∷ (4, v17) ∷ (5, v20) ∷ (6, v13) ∷ (7, v28) ∷ (8, v30) ∷ (9, v10) ∷ (10, v3) ∷ (11, v7) ∷ (12, v16) ∷ (13, v8) ∷ (14, v21) ∷ (15, v2) ∷ []
 
 abbrev pub t54 : List.List Row.Entry
-t54 = List._∷_ e15 (List._∷_ e17 (List._∷_ e19 (List._∷_ e21 (List._∷_ e25 (List._∷_ e27 (List._∷_ e29 (List._∷_ e31 (List._∷_ e32 (List._∷_ e34 (List._∷_ e37 (List._∷_ e38 (List._∷_ e41 (List._∷_ e43
-    (List._∷_ e47 (List._∷_ e48 List.[])))))))))))))))
+t54 = (16, v0) ∷ (17, v0) ∷ (18, v0) ∷ (19, v1) ∷ (20, v2) ∷ (21, v2) ∷ (22, v4) ∷ (23, v11) ∷ (24, v5) ∷ (25, v0) ∷ (26, v4) ∷ (27, v35) ∷ (28, v5) ∷ (29, v0) ∷ (30, v18) ∷ (31, v36) ∷ []
 
 abbrev pub t55 : List.List Row.Entry
-t55 = List._∷_ e0 (List._∷_ e2 (List._∷_ e23 (List._∷_ e45 (List._∷_ e51 (List._∷_ e53 (List._∷_ e55 (List._∷_ e57 (List._∷_ e60 (List._∷_ e61 (List._∷_ e3 (List._∷_ e5 (List._∷_ e7 (List._∷_ e10
-    (List._∷_ e12 (List._∷_ e13 List.[])))))))))))))))
+t55 = (0, v1) ∷ (1, v9) ∷ (2, v3) ∷ (3, v6) ∷ (4, v17) ∷ (5, v20) ∷ (6, v13) ∷ (7, v14) ∷ (8, v30) ∷ (9, v10) ∷ (10, v3) ∷ (11, v7) ∷ (12, v16) ∷ (13, v8) ∷ (14, v21) ∷ (15, v2) ∷ []
 
 abbrev pub t56 : List.List Row.Entry
-t56 = List._∷_ e15 (List._∷_ e17 (List._∷_ e19 (List._∷_ e21 (List._∷_ e25 (List._∷_ e27 (List._∷_ e29 (List._∷_ e31 (List._∷_ e32 (List._∷_ e34 (List._∷_ e37 (List._∷_ e40 (List._∷_ e41 (List._∷_ e43
-    (List._∷_ e47 (List._∷_ e48 List.[])))))))))))))))
+t56 = (16, v0) ∷ (17, v0) ∷ (18, v0) ∷ (19, v1) ∷ (20, v2) ∷ (21, v2) ∷ (22, v4) ∷ (23, v11) ∷ (24, v5) ∷ (25, v0) ∷ (26, v4) ∷ (27, v11) ∷ (28, v5) ∷ (29, v0) ∷ (30, v18) ∷ (31, v36) ∷ []
 
 abbrev pub t57 : List.List Row.Entry
-t57 = List._∷_ e0 (List._∷_ e2 (List._∷_ e23 (List._∷_ e45 (List._∷_ e51 (List._∷_ e53 (List._∷_ e55 (List._∷_ e57 (List._∷_ e59 (List._∷_ e61 (List._∷_ e3 (List._∷_ e5 (List._∷_ e7 (List._∷_ e10
-    (List._∷_ e12 (List._∷_ e13 List.[])))))))))))))))
+t57 = (0, v1) ∷ (1, v9) ∷ (2, v3) ∷ (3, v6) ∷ (4, v17) ∷ (5, v20) ∷ (6, v13) ∷ (7, v14) ∷ (8, v15) ∷ (9, v10) ∷ (10, v3) ∷ (11, v7) ∷ (12, v16) ∷ (13, v8) ∷ (14, v21) ∷ (15, v2) ∷ []
 
 abbrev pub t58 : List.List Row.Entry
-t58 = List._∷_ e0 (List._∷_ e2 (List._∷_ e23 (List._∷_ e45 (List._∷_ e51 (List._∷_ e53 (List._∷_ e55 (List._∷_ e57 (List._∷_ e59 (List._∷_ e61 (List._∷_ e3 (List._∷_ e5 (List._∷_ e7 (List._∷_ e10
-    (List._∷_ e12 (List._∷_ e14 List.[])))))))))))))))
+t58 = (0, v1) ∷ (1, v9) ∷ (2, v3) ∷ (3, v6) ∷ (4, v17) ∷ (5, v20) ∷ (6, v13) ∷ (7, v14) ∷ (8, v15) ∷ (9, v10) ∷ (10, v3) ∷ (11, v7) ∷ (12, v16) ∷ (13, v8) ∷ (14, v21) ∷ (15, v26) ∷ []
 
 abbrev pub t59 : List.List Row.Entry
-t59 = List._∷_ e0 (List._∷_ e1 (List._∷_ e23 (List._∷_ e45 (List._∷_ e51 (List._∷_ e53 (List._∷_ e55 (List._∷_ e57 (List._∷_ e59 (List._∷_ e61 (List._∷_ e3 (List._∷_ e5 (List._∷_ e7 (List._∷_ e10
-    (List._∷_ e12 (List._∷_ e14 List.[])))))))))))))))
+t59 = (0, v1) ∷ (1, v31) ∷ (2, v3) ∷ (3, v6) ∷ (4, v17) ∷ (5, v20) ∷ (6, v13) ∷ (7, v14) ∷ (8, v15) ∷ (9, v10) ∷ (10, v3) ∷ (11, v7) ∷ (12, v16) ∷ (13, v8) ∷ (14, v21) ∷ (15, v26) ∷ []
 
 abbrev pub t60 : List.List Row.Entry
-t60 = List._∷_ e0 (List._∷_ e1 (List._∷_ e23 (List._∷_ e45 (List._∷_ e51 (List._∷_ e53 (List._∷_ e55 (List._∷_ e57 (List._∷_ e59 (List._∷_ e61 (List._∷_ e3 (List._∷_ e5 (List._∷_ e7 (List._∷_ e9
-    (List._∷_ e12 (List._∷_ e14 List.[])))))))))))))))
+t60 = (0, v1) ∷ (1, v31) ∷ (2, v3) ∷ (3, v6) ∷ (4, v17) ∷ (5, v20) ∷ (6, v13) ∷ (7, v14) ∷ (8, v15) ∷ (9, v10) ∷ (10, v3) ∷ (11, v7) ∷ (12, v16) ∷ (13, v0) ∷ (14, v21) ∷ (15, v26) ∷ []
 
 abbrev pub t61 : List.List Row.Entry
-t61 = List._∷_ e0 (List._∷_ e1 (List._∷_ e23 (List._∷_ e45 (List._∷_ e51 (List._∷_ e53 (List._∷_ e55 (List._∷_ e57 (List._∷_ e59 (List._∷_ e61 (List._∷_ e3 (List._∷_ e5 (List._∷_ e7 (List._∷_ e9
-    (List._∷_ e11 (List._∷_ e14 List.[])))))))))))))))
+t61 = (0, v1) ∷ (1, v31) ∷ (2, v3) ∷ (3, v6) ∷ (4, v17) ∷ (5, v20) ∷ (6, v13) ∷ (7, v14) ∷ (8, v15) ∷ (9, v10) ∷ (10, v3) ∷ (11, v7) ∷ (12, v16) ∷ (13, v0) ∷ (14, v1) ∷ (15, v26) ∷ []
 
 abbrev pub T0 : Row.Cx
-T0 = record { locals = List._++_ t0 t1; slots = List.[] }
+T0 = record { locals = List._++_ t0 t1; slots = [] }
 
 abbrev pub T1 : Row.Cx
-T1 = record { locals = List._++_ t2 t1; slots = List.[] }
-
-abbrev pub T2 : Row.Cx
-T2 = record { locals = List._++_ t0 t1; slots = List.[] }
-
-abbrev pub T3 : Row.Cx
-T3 = record { locals = List._++_ t0 t1; slots = List.[] }
-
-abbrev pub T4 : Row.Cx
-T4 = record { locals = List._++_ t0 t1; slots = List.[] }
+T1 = record { locals = List._++_ t2 t1; slots = [] }
 
 abbrev pub T5 : Row.Cx
-T5 = record { locals = List._++_ t0 t3; slots = List.[] }
+T5 = record { locals = List._++_ t0 t3; slots = [] }
 
 abbrev pub T6 : Row.Cx
-T6 = record { locals = List._++_ t0 t4; slots = List.[] }
+T6 = record { locals = List._++_ t0 t4; slots = [] }
 
 abbrev pub T7 : Row.Cx
-T7 = record { locals = List._++_ t0 t5; slots = List.[] }
+T7 = record { locals = List._++_ t0 t5; slots = [] }
 
 abbrev pub T8 : Row.Cx
-T8 = record { locals = List._++_ t6 t5; slots = List.[] }
+T8 = record { locals = List._++_ t6 t5; slots = [] }
 
 abbrev pub T9 : Row.Cx
-T9 = record { locals = List._++_ t6 t7; slots = List.[] }
+T9 = record { locals = List._++_ t6 t7; slots = [] }
 
 abbrev pub T10 : Row.Cx
-T10 = record { locals = List._++_ t6 t8; slots = List.[] }
+T10 = record { locals = List._++_ t6 t8; slots = [] }
 
 abbrev pub T11 : Row.Cx
-T11 = record { locals = List._++_ t6 t1; slots = List.[] }
+T11 = record { locals = List._++_ t6 t1; slots = [] }
 
 abbrev pub T12 : Row.Cx
-T12 = record { locals = List._++_ t9 t1; slots = List.[] }
+T12 = record { locals = List._++_ t9 t1; slots = [] }
 
 abbrev pub T13 : Row.Cx
-T13 = record { locals = List._++_ t10 t11; slots = List.[] }
+T13 = record { locals = List._++_ t10 t11; slots = [] }
 
 abbrev pub T14 : Row.Cx
-T14 = record { locals = List._++_ t12 t1; slots = List.[] }
+T14 = record { locals = List._++_ t12 t1; slots = [] }
 
 abbrev pub T15 : Row.Cx
-T15 = record { locals = List._++_ t13 t1; slots = List.[] }
-
-abbrev pub T16 : Row.Cx
-T16 = record { locals = List._++_ t13 t1; slots = List.[] }
+T15 = record { locals = List._++_ t13 t1; slots = [] }
 
 abbrev pub T17 : Row.Cx
-T17 = record { locals = List._++_ t14 t1; slots = List.[] }
+T17 = record { locals = List._++_ t14 t1; slots = [] }
 
 abbrev pub T18 : Row.Cx
-T18 = record { locals = List._++_ t15 t1; slots = List.[] }
+T18 = record { locals = List._++_ t15 t1; slots = [] }
 
 abbrev pub T19 : Row.Cx
-T19 = record { locals = List._++_ t16 t1; slots = List.[] }
+T19 = record { locals = List._++_ t16 t1; slots = [] }
 
 abbrev pub T20 : Row.Cx
-T20 = record { locals = List._++_ t17 t1; slots = List.[] }
+T20 = record { locals = List._++_ t17 t1; slots = [] }
 
 abbrev pub T21 : Row.Cx
-T21 = record { locals = List._++_ t17 t18; slots = List.[] }
+T21 = record { locals = List._++_ t17 t18; slots = [] }
 
 abbrev pub T22 : Row.Cx
-T22 = record { locals = List._++_ t19 t18; slots = List.[] }
+T22 = record { locals = List._++_ t19 t18; slots = [] }
 
 abbrev pub T23 : Row.Cx
-T23 = record { locals = List._++_ t19 t20; slots = List.[] }
+T23 = record { locals = List._++_ t19 t20; slots = [] }
 
 abbrev pub T24 : Row.Cx
-T24 = record { locals = List._++_ t21 t20; slots = List.[] }
+T24 = record { locals = List._++_ t21 t20; slots = [] }
 
 abbrev pub T25 : Row.Cx
-T25 = record { locals = List._++_ t10 t20; slots = List.[] }
-
-abbrev pub T26 : Row.Cx
-T26 = record { locals = List._++_ t10 t11; slots = List.[] }
-
-abbrev pub T27 : Row.Cx
-T27 = record { locals = List._++_ t12 t1; slots = List.[] }
+T25 = record { locals = List._++_ t10 t20; slots = [] }
 
 abbrev pub T28 : Row.Cx
-T28 = record { locals = List._++_ t22 t1; slots = List.[] }
+T28 = record { locals = List._++_ t22 t1; slots = [] }
 
 abbrev pub T29 : Row.Cx
-T29 = record { locals = List._++_ t23 t1; slots = List.[] }
+T29 = record { locals = List._++_ t23 t1; slots = [] }
 
 abbrev pub T30 : Row.Cx
-T30 = record { locals = List._++_ t19 t1; slots = List.[] }
+T30 = record { locals = List._++_ t19 t1; slots = [] }
 
 abbrev pub T31 : Row.Cx
-T31 = record { locals = List._++_ t19 t24; slots = List.[] }
+T31 = record { locals = List._++_ t19 t24; slots = [] }
 
 abbrev pub T32 : Row.Cx
-T32 = record { locals = List._++_ t19 t25; slots = List.[] }
+T32 = record { locals = List._++_ t19 t25; slots = [] }
 
 abbrev pub T33 : Row.Cx
-T33 = record { locals = List._++_ t21 t25; slots = List.[] }
+T33 = record { locals = List._++_ t21 t25; slots = [] }
 
 abbrev pub T34 : Row.Cx
-T34 = record { locals = List._++_ t10 t25; slots = List.[] }
-
-abbrev pub T35 : Row.Cx
-T35 = record { locals = List._++_ t10 t11; slots = List.[] }
+T34 = record { locals = List._++_ t10 t25; slots = [] }
 
 abbrev pub T36 : Row.Cx
-T36 = record { locals = List._++_ t26 t1; slots = List.[] }
-
-abbrev pub T37 : Row.Cx
-T37 = record { locals = List._++_ t26 t1; slots = List.[] }
+T36 = record { locals = List._++_ t26 t1; slots = [] }
 
 abbrev pub T38 : Row.Cx
-T38 = record { locals = List._++_ t27 t1; slots = List.[] }
+T38 = record { locals = List._++_ t27 t1; slots = [] }
 
 abbrev pub T39 : Row.Cx
-T39 = record { locals = List._++_ t28 t1; slots = List.[] }
+T39 = record { locals = List._++_ t28 t1; slots = [] }
 
 abbrev pub T40 : Row.Cx
-T40 = record { locals = List._++_ t29 t1; slots = List.[] }
+T40 = record { locals = List._++_ t29 t1; slots = [] }
 
 abbrev pub T42 : Row.Cx
-T42 = record { locals = List._++_ t30 t31; slots = List.[] }
+T42 = record { locals = List._++_ t30 t31; slots = [] }
 
 abbrev pub T43 : Row.Cx
-T43 = record { locals = List._++_ t30 t32; slots = List.[] }
+T43 = record { locals = List._++_ t30 t32; slots = [] }
 
 abbrev pub T44 : Row.Cx
-T44 = record { locals = List._++_ t30 t33; slots = List.[] }
+T44 = record { locals = List._++_ t30 t33; slots = [] }
 
 abbrev pub T45 : Row.Cx
-T45 = record { locals = List._++_ t30 t34; slots = List.[] }
+T45 = record { locals = List._++_ t30 t34; slots = [] }
 
 abbrev pub T47 : Row.Cx
-T47 = record { locals = List._++_ t35 t36; slots = List.[] }
+T47 = record { locals = List._++_ t35 t36; slots = [] }
 
 abbrev pub T48 : Row.Cx
-T48 = record { locals = List._++_ t35 t37; slots = List.[] }
+T48 = record { locals = List._++_ t35 t37; slots = [] }
 
 abbrev pub T49 : Row.Cx
-T49 = record { locals = List._++_ t35 t38; slots = List.[] }
+T49 = record { locals = List._++_ t35 t38; slots = [] }
 
 abbrev pub T50 : Row.Cx
-T50 = record { locals = List._++_ t35 t39; slots = List.[] }
+T50 = record { locals = List._++_ t35 t39; slots = [] }
 
 abbrev pub T51 : Row.Cx
-T51 = record { locals = List._++_ t35 t40; slots = List.[] }
+T51 = record { locals = List._++_ t35 t40; slots = [] }
 
 abbrev pub T52 : Row.Cx
-T52 = record { locals = List._++_ t35 t41; slots = List.[] }
+T52 = record { locals = List._++_ t35 t41; slots = [] }
 
 abbrev pub T54 : Row.Cx
-T54 = record { locals = List._++_ t42 t43; slots = List.[] }
+T54 = record { locals = List._++_ t42 t43; slots = [] }
 
 abbrev pub T55 : Row.Cx
-T55 = record { locals = List._++_ t42 t44; slots = List.[] }
+T55 = record { locals = List._++_ t42 t44; slots = [] }
 
 abbrev pub T56 : Row.Cx
-T56 = record { locals = List._++_ t42 t45; slots = List.[] }
+T56 = record { locals = List._++_ t42 t45; slots = [] }
 
 abbrev pub T57 : Row.Cx
-T57 = record { locals = List._++_ t42 t46; slots = List.[] }
+T57 = record { locals = List._++_ t42 t46; slots = [] }
 
 abbrev pub T58 : Row.Cx
-T58 = record { locals = List._++_ t47 t48; slots = List.[] }
+T58 = record { locals = List._++_ t47 t48; slots = [] }
 
 abbrev pub T59 : Row.Cx
-T59 = record { locals = List._++_ t49 t48; slots = List.[] }
+T59 = record { locals = List._++_ t49 t48; slots = [] }
 
 abbrev pub T60 : Row.Cx
-T60 = record { locals = List._++_ t50 t48; slots = List.[] }
+T60 = record { locals = List._++_ t50 t48; slots = [] }
 
 abbrev pub T61 : Row.Cx
-T61 = record { locals = List._++_ t51 t48; slots = List.[] }
+T61 = record { locals = List._++_ t51 t48; slots = [] }
 
 abbrev pub T62 : Row.Cx
-T62 = record { locals = List._++_ t52 t48; slots = List.[] }
+T62 = record { locals = List._++_ t52 t48; slots = [] }
 
 abbrev pub T64 : Row.Cx
-T64 = record { locals = List._++_ t53 t54; slots = List.[] }
-
-abbrev pub T65 : Row.Cx
-T65 = record { locals = List._++_ t53 t54; slots = List.[] }
+T64 = record { locals = List._++_ t53 t54; slots = [] }
 
 abbrev pub T68 : Row.Cx
-T68 = record { locals = List._++_ t55 t56; slots = List.[] }
-
-abbrev pub T69 : Row.Cx
-T69 = record { locals = List._++_ t55 t56; slots = List.[] }
+T68 = record { locals = List._++_ t55 t56; slots = [] }
 
 abbrev pub T72 : Row.Cx
-T72 = record { locals = List._++_ t57 t1; slots = List.[] }
+T72 = record { locals = List._++_ t57 t1; slots = [] }
 
 abbrev pub T74 : Row.Cx
-T74 = record { locals = List._++_ t58 t1; slots = List.[] }
+T74 = record { locals = List._++_ t58 t1; slots = [] }
 
 abbrev pub T75 : Row.Cx
-T75 = record { locals = List._++_ t58 t11; slots = List.[] }
+T75 = record { locals = List._++_ t58 t11; slots = [] }
 
 abbrev pub T76 : Row.Cx
-T76 = record { locals = List._++_ t59 t11; slots = List.[] }
+T76 = record { locals = List._++_ t59 t11; slots = [] }
 
 abbrev pub T77 : Row.Cx
-T77 = record { locals = List._++_ t60 t11; slots = List.[] }
+T77 = record { locals = List._++_ t60 t11; slots = [] }
 
 abbrev pub T78 : Row.Cx
-T78 = record { locals = List._++_ t61 t11; slots = List.[] }
-
-abbrev pub T79 : Row.Cx
-T79 = record { locals = List._++_ t10 t11; slots = List.[] }
+T78 = record { locals = List._++_ t61 t11; slots = [] }
 
 abbrev pub T80 : Row.Cx
-T80 = record { locals = List._++_ t2 t11; slots = List.[] }
-
-abbrev pub T81 : Row.Cx
-T81 = record { locals = List._++_ t2 t1; slots = List.[] }
+T80 = record { locals = List._++_ t2 t11; slots = [] }
 
 abbrev pub O0 : Typed.Outs
-O0 = record { next = Option.none; exits = List.[]; returns = Option.some T1 }
+O0 = record { next = Option.none; exits = []; returns = Option.some T1 }
 
 abbrev pub O1 : Typed.Outs
 O1 = Typed.withNext (Option.some T13) O0
 
 module _ (claims· : Claims) where
-  abbrev s0 : Typed.Gives T0 T2
-  s0 = Know.k-shs-known (Referent.fInt Syntax.w8) T0 3 0 (Syntax.tyRef (Syntax.named 0) Syntax.imm (Syntax.tyInt Syntax.w8)) Row.off 0 λ x. x
+  abbrev s0 : Typed.Gives T0 T0
+  s0 = Know.k-shs-known (Referent.fInt Syntax.w8) T0 3 0 y3 Row.off 0 λ x. x
 
-  abbrev s1 : Typed.Gives T2 T3
-  s1 = Know.k-sl-known (Referent.fInt Syntax.w16) T2 6 1 (Syntax.tyRef (Syntax.named 1) Syntax.mut (Syntax.tyInt Syntax.w16)) Row.off 0 λ x. x
+  abbrev s1 : Typed.Gives T0 T0
+  s1 = Know.k-sl-known (Referent.fInt Syntax.w16) T0 6 1 y4 Row.off 0 λ x. x
 
-  abbrev s2 : Typed.Gives T3 T4
-  s2 = Know.k-sl-known (Referent.fInt Syntax.w16) T3 7 2 (Syntax.tyRef (Syntax.named 2) Syntax.mut (Syntax.tyInt Syntax.w16)) Row.off 0 λ x. x
+  abbrev s2 : Typed.Gives T0 T0
+  s2 = Know.k-sl-known (Referent.fInt Syntax.w16) T0 7 2 y5 Row.off 0 λ x. x
 
-  abbrev s3 : Typed.Mo T4 → Typed.Mo T5
-  s3 = Scalar.n-use T4 (Scalar.oFld 6 (List._∷_ (Syntax.field 1) List.[]) (Syntax.tyInt Syntax.w64) 8 Shared.lenV) 16 (Rows'.sc-here (Row.sInt Syntax.w64)) (Row.sInt Syntax.w64 .of)
+  abbrev s3 : Typed.Mo T0 → Typed.Mo T5
+  s3 = Scalar.n-use T0 (Scalar.oFld 6 ((Syntax.field 1) ∷ []) u64 8 Shared.lenV) 16 (Rows'.sc-here (Row.sInt Syntax.w64)) (Row.sInt Syntax.w64 .of)
 
   abbrev s4 : Typed.Mo T5 → Typed.Mo T6
-  s4 = Scalar.n-use T5 (Scalar.oFld 7 (List._∷_ (Syntax.field 1) List.[]) (Syntax.tyInt Syntax.w64) 8 Shared.lenV) 17 (Rows'.sc-here (Row.sInt Syntax.w64)) (Row.sInt Syntax.w64 .of)
+  s4 = Scalar.n-use T5 (Scalar.oFld 7 ((Syntax.field 1) ∷ []) u64 8 Shared.lenV) 17 (Rows'.sc-here (Row.sInt Syntax.w64)) (Row.sInt Syntax.w64 .of)
 
   abbrev s5 : Typed.Mo T6 → Typed.Mo T7
-  s5 = Scalar.n-use T6 (Scalar.oFld 8 (List._∷_ (Syntax.field 1) List.[]) (Syntax.tyInt Syntax.w64) 8 Shared.lenV) 18 (Rows'.sc-here (Row.sInt Syntax.w64)) (Row.sInt Syntax.w64 .of)
+  s5 = Scalar.n-use T6 (Scalar.oFld 8 ((Syntax.field 1) ∷ []) u64 8 Shared.lenV) 18 (Rows'.sc-here (Row.sInt Syntax.w64)) (Row.sInt Syntax.w64 .of)
+
+  abbrev pub a0 : ArgsT ps·0 (T7 .locals)
+  a0 = (record { pos = 3; ty = y3; ref = λ x. x }, (record { pos = 4; st = []; d = 0; at = λ x. x }, (Num.vAt 16 λ x. x, (Num.vAt 17 λ x. x, (Num.vAt 18 λ x. x, tt)))))
 
   abbrev s6 : Typed.Both T7 T8
-  s6 = Call.callB ps·0 r·0 (claims· .0) (claims· .1) T7 (
-    record { pos = 3; ty = Syntax.tyRef (Syntax.named 0) Syntax.imm (Syntax.tyInt Syntax.w8); ref = λ x. x },
-    (record { pos = 4; st = List.[]; d = 0; at = λ x. x }, (Num.vAt 16 λ x. x, (Num.vAt 17 λ x. x, (Num.vAt 18 λ x. x, tt)))),
-  ) 9 (List._∷_ 0 List.[]) (Syntax.tyEnum (List._∷_ 98 (List._∷_ 101 (List._∷_
-      103 (List._∷_ 105 (List._∷_ 110 (List._∷_ 58 (List._∷_ 58 (List._∷_ 66 (List._∷_ 101 (List._∷_ 103 (List._∷_ 105 (List._∷_ 110 (List._∷_ 110 (List._∷_ 105 (List._∷_ 110 (List._∷_ 103
-      List.[])))))))))))))))) (Syntax.ttcons (Syntax.tcons (Syntax.tyEnum (List._∷_ 115 (List._∷_ 116 (List._∷_ 114 (List._∷_ 101 (List._∷_ 97 (List._∷_ 109 (List._∷_ 58 (List._∷_ 58 (List._∷_ 82
-      (List._∷_ 101 (List._∷_ 102 (List._∷_ 117 (List._∷_ 115 (List._∷_ 97 (List._∷_ 108 List.[]))))))))))))))) (Syntax.ttcons Syntax.tnil (Syntax.ttcons Syntax.tnil (Syntax.ttcons Syntax.tnil
-      (Syntax.ttcons (Syntax.tcons (Syntax.tyInt Syntax.w64) Syntax.tnil) (Syntax.ttcons Syntax.tnil (Syntax.ttcons Syntax.tnil (Syntax.ttcons Syntax.tnil (Syntax.ttcons Syntax.tnil (Syntax.ttcons
-      Syntax.tnil (Syntax.ttcons Syntax.tnil (Syntax.ttcons (Syntax.tcons (Syntax.tyInt Syntax.w64) Syntax.tnil) (Syntax.ttcons (Syntax.tcons (Syntax.tyInt Syntax.w64) Syntax.tnil) (Syntax.ttcons
-      Syntax.tnil (Syntax.ttcons (Syntax.tcons (Syntax.tyInt Syntax.w64) (Syntax.tcons (Syntax.tyInt Syntax.w64) Syntax.tnil)) (Syntax.ttcons (Syntax.tcons (Syntax.tyInt Syntax.w64) Syntax.tnil)
-      (Syntax.ttcons Syntax.tnil (Syntax.ttcons Syntax.tnil (Syntax.ttcons (Syntax.tcons (Syntax.tyInt Syntax.w64) Syntax.tnil) (Syntax.ttcons (Syntax.tcons (Syntax.tyInt Syntax.w64) Syntax.tnil)
-      (Syntax.ttcons (Syntax.tcons (Syntax.tyInt Syntax.w64) Syntax.tnil) (Syntax.ttcons Syntax.tnil (Syntax.ttcons Syntax.tnil (Syntax.ttcons (Syntax.tcons (Syntax.tyInt Syntax.w64) (Syntax.tcons
-      (Syntax.tyInt Syntax.w64) Syntax.tnil)) (Syntax.ttcons Syntax.tnil Syntax.ttnil))))))))))))))))))))))))) Syntax.tnil) (Syntax.ttcons Syntax.tnil (Syntax.ttcons (Syntax.tcons y2 Syntax.tnil)
-      Syntax.ttnil))))
+  s6 = Call.callB ps·0 r·0 (claims· .0) (claims· .1) T7 a0 9 (0 ∷ []) y12
 
   abbrev s7 : Typed.Mo T8 → Typed.Mo T9
-  s7 = Scalar.n-room T8 16 (Syntax.tyInt Syntax.w64)
+  s7 = Scalar.n-room T8 16 u64
 
   abbrev s8 : Typed.Mo T9 → Typed.Mo T10
-  s8 = Scalar.n-room T9 17 (Syntax.tyInt Syntax.w64)
+  s8 = Scalar.n-room T9 17 u64
 
   abbrev s9 : Typed.Mo T10 → Typed.Mo T11
-  s9 = Scalar.n-room T10 18 (Syntax.tyInt Syntax.w64)
+  s9 = Scalar.n-room T10 18 u64
 
   abbrev s10 : Typed.Both T11 T12
-  s10 = Call.callB ps·1 r·1 (claims· .2) (claims· .3) T11 (record { pos = 2; st = List.[]; d = 0; at = λ x. x }, tt) 10 List.[] y6
+  s10 = Call.callB ps·1 r·1 (claims· .2) (claims· .3) T11 (record { pos = 2; st = []; d = 0; at = λ x. x }, tt) 10 [] y18
 
   abbrev s11 : Typed.Mo T12 → Typed.Mo T14
-  s11 = Scalar.n-room T12 2 y6
+  s11 = Scalar.n-room T12 2 y18
 
   abbrev s12 : Typed.Both T14 T15
   s12 = Known.k-enum-known Beginning.enum 0 T14 9 λ x. x
 
-  abbrev s13 : Typed.Gives T15 T16
+  abbrev s13 : Typed.Gives T15 T15
   s13 = Known.k-known-told Beginning.enum Laws.the-laws 0 T15 9 λ x. x
 
-  abbrev s14 : Typed.Mo T16 → Typed.Mo T17
-  s14 = Scalar.n-room T16 4 y1
+  abbrev s14 : Typed.Mo T15 → Typed.Mo T17
+  s14 = Scalar.n-room T15 4 y10
 
   abbrev s15 : Typed.Mo T17 → Typed.Mo T18
-  s15 = Scalar.n-room T17 5 (Syntax.tyArray (Syntax.tyInt Syntax.w8) 36)
+  s15 = Scalar.n-room T17 5 y0
 
   abbrev s16 : Typed.Mo T18 → Typed.Mo T19
   s16 = Make'.n-make (Declared.row Refusal.the-type) T18 11 λ m. m .1 .1 .1 .1 .1 .1 .1 .1 .1 .0 .0
 
   abbrev s17 : Typed.Mo T19 → Typed.Mo T20
-  s17 = Scalar.n-room T19 9 (Syntax.tyEnum (List._∷_ 98 (List._∷_ 101 (List._∷_ 103 (List._∷_ 105 (List._∷_ 110 (List._∷_ 58 (List._∷_ 58 (List._∷_ 66 (List._∷_ 101 (List._∷_ 103 (List._∷_ 105
-      (List._∷_ 110 (List._∷_ 110 (List._∷_ 105 (List._∷_ 110 (List._∷_ 103 List.[])))))))))))))))) (Syntax.ttcons (Syntax.tcons (Syntax.tyEnum (List._∷_ 115 (List._∷_ 116 (List._∷_ 114 (List._∷_ 101
-      (List._∷_ 97 (List._∷_ 109 (List._∷_ 58 (List._∷_ 58 (List._∷_ 82 (List._∷_ 101 (List._∷_ 102 (List._∷_ 117 (List._∷_ 115 (List._∷_ 97 (List._∷_ 108 List.[]))))))))))))))) (Syntax.ttcons Syntax.tnil
-      (Syntax.ttcons Syntax.tnil (Syntax.ttcons Syntax.tnil (Syntax.ttcons (Syntax.tcons (Syntax.tyInt Syntax.w64) Syntax.tnil) (Syntax.ttcons Syntax.tnil (Syntax.ttcons Syntax.tnil (Syntax.ttcons
-      Syntax.tnil (Syntax.ttcons Syntax.tnil (Syntax.ttcons Syntax.tnil (Syntax.ttcons Syntax.tnil (Syntax.ttcons (Syntax.tcons (Syntax.tyInt Syntax.w64) Syntax.tnil) (Syntax.ttcons (Syntax.tcons
-      (Syntax.tyInt Syntax.w64) Syntax.tnil) (Syntax.ttcons Syntax.tnil (Syntax.ttcons (Syntax.tcons (Syntax.tyInt Syntax.w64) (Syntax.tcons (Syntax.tyInt Syntax.w64) Syntax.tnil)) (Syntax.ttcons
-      (Syntax.tcons (Syntax.tyInt Syntax.w64) Syntax.tnil) (Syntax.ttcons Syntax.tnil (Syntax.ttcons Syntax.tnil (Syntax.ttcons (Syntax.tcons (Syntax.tyInt Syntax.w64) Syntax.tnil) (Syntax.ttcons
-      (Syntax.tcons (Syntax.tyInt Syntax.w64) Syntax.tnil) (Syntax.ttcons (Syntax.tcons (Syntax.tyInt Syntax.w64) Syntax.tnil) (Syntax.ttcons Syntax.tnil (Syntax.ttcons Syntax.tnil (Syntax.ttcons
-      (Syntax.tcons (Syntax.tyInt Syntax.w64) (Syntax.tcons (Syntax.tyInt Syntax.w64) Syntax.tnil)) (Syntax.ttcons Syntax.tnil Syntax.ttnil))))))))))))))))))))))))) Syntax.tnil) (Syntax.ttcons Syntax.tnil
-      (Syntax.ttcons (Syntax.tcons y2 Syntax.tnil) Syntax.ttnil))))
+  s17 = Scalar.n-room T19 9 y12
 
   abbrev s18 : Typed.Mo T20 → Typed.Mo T21
   s18 = Make.n-enum-make Decoded.the-type T20 20 λ m. Decoded.enum .make (Logic.inr (Logic.inl (m .1 .1 .1 .1 .1 .1 .1 .1 .1 .1 .1 .0, tt)))
 
   abbrev s19 : Typed.Mo T21 → Typed.Mo T22
-  s19 = Scalar.n-room T21 11 (Syntax.tyEnum (List._∷_ 115 (List._∷_ 116 (List._∷_ 114 (List._∷_ 101 (List._∷_ 97 (List._∷_ 109 (List._∷_ 58 (List._∷_ 58 (List._∷_ 82 (List._∷_ 101 (List._∷_ 102
-      (List._∷_ 117 (List._∷_ 115 (List._∷_ 97 (List._∷_ 108 List.[]))))))))))))))) (Syntax.ttcons Syntax.tnil (Syntax.ttcons Syntax.tnil (Syntax.ttcons Syntax.tnil (Syntax.ttcons (Syntax.tcons
-      (Syntax.tyInt Syntax.w64) Syntax.tnil) (Syntax.ttcons Syntax.tnil (Syntax.ttcons Syntax.tnil (Syntax.ttcons Syntax.tnil (Syntax.ttcons Syntax.tnil (Syntax.ttcons Syntax.tnil (Syntax.ttcons
-      Syntax.tnil (Syntax.ttcons (Syntax.tcons (Syntax.tyInt Syntax.w64) Syntax.tnil) (Syntax.ttcons (Syntax.tcons (Syntax.tyInt Syntax.w64) Syntax.tnil) (Syntax.ttcons Syntax.tnil (Syntax.ttcons
-      (Syntax.tcons (Syntax.tyInt Syntax.w64) (Syntax.tcons (Syntax.tyInt Syntax.w64) Syntax.tnil)) (Syntax.ttcons (Syntax.tcons (Syntax.tyInt Syntax.w64) Syntax.tnil) (Syntax.ttcons Syntax.tnil
-      (Syntax.ttcons Syntax.tnil (Syntax.ttcons (Syntax.tcons (Syntax.tyInt Syntax.w64) Syntax.tnil) (Syntax.ttcons (Syntax.tcons (Syntax.tyInt Syntax.w64) Syntax.tnil) (Syntax.ttcons (Syntax.tcons
-      (Syntax.tyInt Syntax.w64) Syntax.tnil) (Syntax.ttcons Syntax.tnil (Syntax.ttcons Syntax.tnil (Syntax.ttcons (Syntax.tcons (Syntax.tyInt Syntax.w64) (Syntax.tcons (Syntax.tyInt Syntax.w64)
-      Syntax.tnil)) (Syntax.ttcons Syntax.tnil Syntax.ttnil)))))))))))))))))))))))))
+  s19 = Scalar.n-room T21 11 y1
+
+  abbrev pub a1 : ArgsT ps·2 (T22 .locals)
+  a1 = (record { pos = 1; st = []; d = 0; at = λ x. x }, (record { pos = 10; st = []; d = 0; at = λ x. x }, (record { pos = 20; st = []; d = 0; at = λ x. x }, tt)))
 
   abbrev s20 : Typed.Both T22 T23
-  s20 = Call.callB ps·2 r·2 (claims· .4) (claims· .5) T22
-      (record { pos = 1; st = List.[]; d = 0; at = λ x. x }, (record { pos = 10; st = List.[]; d = 0; at = λ x. x }, (record { pos = 20; st = List.[]; d = 0; at = λ x. x }, tt))) 19 List.[] y7
+  s20 = Call.callB ps·2 r·2 (claims· .4) (claims· .5) T22 a1 19 [] y19
 
   abbrev s21 : Typed.Mo T23 → Typed.Mo T24
-  s21 = Scalar.n-room T23 1 (Syntax.tyEnum (List._∷_ 99 (List._∷_ 97 (List._∷_ 109 (List._∷_ 101 (List._∷_ 114 (List._∷_ 97 (List._∷_ 115 (List._∷_ 58 (List._∷_ 58 (List._∷_ 67 (List._∷_ 97 (List._∷_
-      109 (List._∷_ 101 (List._∷_ 114 (List._∷_ 97 List.[]))))))))))))))) (Syntax.ttcons Syntax.tnil (Syntax.ttcons Syntax.tnil Syntax.ttnil)))
+  s21 = Scalar.n-room T23 1 y2
 
   abbrev s22 : Typed.Mo T24 → Typed.Mo T25
-  s22 = Scalar.n-room T24 10 y6
+  s22 = Scalar.n-room T24 10 y18
 
-  abbrev s23 : Typed.Mo T25 → Typed.Mo T26
-  s23 = Scalar.n-room T25 20 (Syntax.tyEnum (List._∷_ 98 (List._∷_ 108 (List._∷_ 111 (List._∷_ 99 (List._∷_ 107 (List._∷_ 58 (List._∷_ 58 (List._∷_ 68 (List._∷_ 101 (List._∷_ 99 (List._∷_ 111
-      (List._∷_ 100 (List._∷_ 101 (List._∷_ 100 List.[])))))))))))))) (Syntax.ttcons Syntax.tnil (Syntax.ttcons (Syntax.tcons (Syntax.tyEnum (List._∷_ 115 (List._∷_ 116 (List._∷_ 114 (List._∷_ 101
-      (List._∷_ 97 (List._∷_ 109 (List._∷_ 58 (List._∷_ 58 (List._∷_ 82 (List._∷_ 101 (List._∷_ 102 (List._∷_ 117 (List._∷_ 115 (List._∷_ 97 (List._∷_ 108 List.[]))))))))))))))) (Syntax.ttcons Syntax.tnil
-      (Syntax.ttcons Syntax.tnil (Syntax.ttcons Syntax.tnil (Syntax.ttcons (Syntax.tcons (Syntax.tyInt Syntax.w64) Syntax.tnil) (Syntax.ttcons Syntax.tnil (Syntax.ttcons Syntax.tnil (Syntax.ttcons
-      Syntax.tnil (Syntax.ttcons Syntax.tnil (Syntax.ttcons Syntax.tnil (Syntax.ttcons Syntax.tnil (Syntax.ttcons (Syntax.tcons (Syntax.tyInt Syntax.w64) Syntax.tnil) (Syntax.ttcons (Syntax.tcons
-      (Syntax.tyInt Syntax.w64) Syntax.tnil) (Syntax.ttcons Syntax.tnil (Syntax.ttcons (Syntax.tcons (Syntax.tyInt Syntax.w64) (Syntax.tcons (Syntax.tyInt Syntax.w64) Syntax.tnil)) (Syntax.ttcons
-      (Syntax.tcons (Syntax.tyInt Syntax.w64) Syntax.tnil) (Syntax.ttcons Syntax.tnil (Syntax.ttcons Syntax.tnil (Syntax.ttcons (Syntax.tcons (Syntax.tyInt Syntax.w64) Syntax.tnil) (Syntax.ttcons
-      (Syntax.tcons (Syntax.tyInt Syntax.w64) Syntax.tnil) (Syntax.ttcons (Syntax.tcons (Syntax.tyInt Syntax.w64) Syntax.tnil) (Syntax.ttcons Syntax.tnil (Syntax.ttcons Syntax.tnil (Syntax.ttcons
-      (Syntax.tcons (Syntax.tyInt Syntax.w64) (Syntax.tcons (Syntax.tyInt Syntax.w64) Syntax.tnil)) (Syntax.ttcons Syntax.tnil Syntax.ttnil))))))))))))))))))))))))) Syntax.tnil) Syntax.ttnil)))
+  abbrev s23 : Typed.Mo T25 → Typed.Mo T13
+  s23 = Scalar.n-room T25 20 y13
 
-  abbrev s24 : Typed.Both T14 T27
+  abbrev s24 : Typed.Both T14 T14
   s24 = Known.k-enum-told Beginning.enum 1 T14 9 λ x. x
 
-  abbrev s25 : Typed.Mo T27 → Typed.Mo T28
-  s25 = Scalar.n-room T27 4 y1
+  abbrev s25 : Typed.Mo T14 → Typed.Mo T28
+  s25 = Scalar.n-room T14 4 y10
 
   abbrev s26 : Typed.Mo T28 → Typed.Mo T29
-  s26 = Scalar.n-room T28 5 (Syntax.tyArray (Syntax.tyInt Syntax.w8) 36)
+  s26 = Scalar.n-room T28 5 y0
 
   abbrev s27 : Typed.Mo T29 → Typed.Mo T30
-  s27 = Scalar.n-room T29 9 (Syntax.tyEnum (List._∷_ 98 (List._∷_ 101 (List._∷_ 103 (List._∷_ 105 (List._∷_ 110 (List._∷_ 58 (List._∷_ 58 (List._∷_ 66 (List._∷_ 101 (List._∷_ 103 (List._∷_ 105
-      (List._∷_ 110 (List._∷_ 110 (List._∷_ 105 (List._∷_ 110 (List._∷_ 103 List.[])))))))))))))))) (Syntax.ttcons (Syntax.tcons (Syntax.tyEnum (List._∷_ 115 (List._∷_ 116 (List._∷_ 114 (List._∷_ 101
-      (List._∷_ 97 (List._∷_ 109 (List._∷_ 58 (List._∷_ 58 (List._∷_ 82 (List._∷_ 101 (List._∷_ 102 (List._∷_ 117 (List._∷_ 115 (List._∷_ 97 (List._∷_ 108 List.[]))))))))))))))) (Syntax.ttcons Syntax.tnil
-      (Syntax.ttcons Syntax.tnil (Syntax.ttcons Syntax.tnil (Syntax.ttcons (Syntax.tcons (Syntax.tyInt Syntax.w64) Syntax.tnil) (Syntax.ttcons Syntax.tnil (Syntax.ttcons Syntax.tnil (Syntax.ttcons
-      Syntax.tnil (Syntax.ttcons Syntax.tnil (Syntax.ttcons Syntax.tnil (Syntax.ttcons Syntax.tnil (Syntax.ttcons (Syntax.tcons (Syntax.tyInt Syntax.w64) Syntax.tnil) (Syntax.ttcons (Syntax.tcons
-      (Syntax.tyInt Syntax.w64) Syntax.tnil) (Syntax.ttcons Syntax.tnil (Syntax.ttcons (Syntax.tcons (Syntax.tyInt Syntax.w64) (Syntax.tcons (Syntax.tyInt Syntax.w64) Syntax.tnil)) (Syntax.ttcons
-      (Syntax.tcons (Syntax.tyInt Syntax.w64) Syntax.tnil) (Syntax.ttcons Syntax.tnil (Syntax.ttcons Syntax.tnil (Syntax.ttcons (Syntax.tcons (Syntax.tyInt Syntax.w64) Syntax.tnil) (Syntax.ttcons
-      (Syntax.tcons (Syntax.tyInt Syntax.w64) Syntax.tnil) (Syntax.ttcons (Syntax.tcons (Syntax.tyInt Syntax.w64) Syntax.tnil) (Syntax.ttcons Syntax.tnil (Syntax.ttcons Syntax.tnil (Syntax.ttcons
-      (Syntax.tcons (Syntax.tyInt Syntax.w64) (Syntax.tcons (Syntax.tyInt Syntax.w64) Syntax.tnil)) (Syntax.ttcons Syntax.tnil Syntax.ttnil))))))))))))))))))))))))) Syntax.tnil) (Syntax.ttcons Syntax.tnil
-      (Syntax.ttcons (Syntax.tcons y2 Syntax.tnil) Syntax.ttnil))))
+  s27 = Scalar.n-room T29 9 y12
 
   abbrev s28 : Typed.Mo T30 → Typed.Mo T31
   s28 = Make.n-enum-make Decoded.the-type T30 21 λ m. Decoded.enum .make (Logic.inl tt)
 
+  abbrev pub a2 : ArgsT ps·2 (T31 .locals)
+  a2 = (record { pos = 1; st = []; d = 0; at = λ x. x }, (record { pos = 10; st = []; d = 0; at = λ x. x }, (record { pos = 21; st = []; d = 0; at = λ x. x }, tt)))
+
   abbrev s29 : Typed.Both T31 T32
-  s29 = Call.callB ps·2 r·2 (claims· .4) (claims· .5) T31
-      (record { pos = 1; st = List.[]; d = 0; at = λ x. x }, (record { pos = 10; st = List.[]; d = 0; at = λ x. x }, (record { pos = 21; st = List.[]; d = 0; at = λ x. x }, tt))) 19 List.[] y7
+  s29 = Call.callB ps·2 r·2 (claims· .4) (claims· .5) T31 a2 19 [] y19
 
   abbrev s30 : Typed.Mo T32 → Typed.Mo T33
-  s30 = Scalar.n-room T32 1 (Syntax.tyEnum (List._∷_ 99 (List._∷_ 97 (List._∷_ 109 (List._∷_ 101 (List._∷_ 114 (List._∷_ 97 (List._∷_ 115 (List._∷_ 58 (List._∷_ 58 (List._∷_ 67 (List._∷_ 97 (List._∷_
-      109 (List._∷_ 101 (List._∷_ 114 (List._∷_ 97 List.[]))))))))))))))) (Syntax.ttcons Syntax.tnil (Syntax.ttcons Syntax.tnil Syntax.ttnil)))
+  s30 = Scalar.n-room T32 1 y2
 
   abbrev s31 : Typed.Mo T33 → Typed.Mo T34
-  s31 = Scalar.n-room T33 10 y6
+  s31 = Scalar.n-room T33 10 y18
 
-  abbrev s32 : Typed.Mo T34 → Typed.Mo T35
-  s32 = Scalar.n-room T34 21 (Syntax.tyEnum (List._∷_ 98 (List._∷_ 108 (List._∷_ 111 (List._∷_ 99 (List._∷_ 107 (List._∷_ 58 (List._∷_ 58 (List._∷_ 68 (List._∷_ 101 (List._∷_ 99 (List._∷_ 111
-      (List._∷_ 100 (List._∷_ 101 (List._∷_ 100 List.[])))))))))))))) (Syntax.ttcons Syntax.tnil (Syntax.ttcons (Syntax.tcons (Syntax.tyEnum (List._∷_ 115 (List._∷_ 116 (List._∷_ 114 (List._∷_ 101
-      (List._∷_ 97 (List._∷_ 109 (List._∷_ 58 (List._∷_ 58 (List._∷_ 82 (List._∷_ 101 (List._∷_ 102 (List._∷_ 117 (List._∷_ 115 (List._∷_ 97 (List._∷_ 108 List.[]))))))))))))))) (Syntax.ttcons Syntax.tnil
-      (Syntax.ttcons Syntax.tnil (Syntax.ttcons Syntax.tnil (Syntax.ttcons (Syntax.tcons (Syntax.tyInt Syntax.w64) Syntax.tnil) (Syntax.ttcons Syntax.tnil (Syntax.ttcons Syntax.tnil (Syntax.ttcons
-      Syntax.tnil (Syntax.ttcons Syntax.tnil (Syntax.ttcons Syntax.tnil (Syntax.ttcons Syntax.tnil (Syntax.ttcons (Syntax.tcons (Syntax.tyInt Syntax.w64) Syntax.tnil) (Syntax.ttcons (Syntax.tcons
-      (Syntax.tyInt Syntax.w64) Syntax.tnil) (Syntax.ttcons Syntax.tnil (Syntax.ttcons (Syntax.tcons (Syntax.tyInt Syntax.w64) (Syntax.tcons (Syntax.tyInt Syntax.w64) Syntax.tnil)) (Syntax.ttcons
-      (Syntax.tcons (Syntax.tyInt Syntax.w64) Syntax.tnil) (Syntax.ttcons Syntax.tnil (Syntax.ttcons Syntax.tnil (Syntax.ttcons (Syntax.tcons (Syntax.tyInt Syntax.w64) Syntax.tnil) (Syntax.ttcons
-      (Syntax.tcons (Syntax.tyInt Syntax.w64) Syntax.tnil) (Syntax.ttcons (Syntax.tcons (Syntax.tyInt Syntax.w64) Syntax.tnil) (Syntax.ttcons Syntax.tnil (Syntax.ttcons Syntax.tnil (Syntax.ttcons
-      (Syntax.tcons (Syntax.tyInt Syntax.w64) (Syntax.tcons (Syntax.tyInt Syntax.w64) Syntax.tnil)) (Syntax.ttcons Syntax.tnil Syntax.ttnil))))))))))))))))))))))))) Syntax.tnil) Syntax.ttnil)))
+  abbrev s32 : Typed.Mo T34 → Typed.Mo T13
+  s32 = Scalar.n-room T34 21 y13
 
   abbrev s33 : Typed.Both T14 T36
   s33 = Known.k-enum-known Beginning.enum 2 T14 9 λ x. x
 
-  abbrev s34 : Typed.Gives T36 T37
+  abbrev s34 : Typed.Gives T36 T36
   s34 = Known.k-known-told Beginning.enum Laws.the-laws 2 T36 9 λ x. x
 
-  abbrev s35 : Typed.Mo T37 → Typed.Mo T38
-  s35 = Make'.n-make (Declared'.row FujiHeader.the-type) T37 12 λ m. m .1 .1 .1 .1 .1 .1 .1 .1 .1 .0 .0
+  abbrev s35 : Typed.Mo T36 → Typed.Mo T38
+  s35 = Make'.n-make (Declared'.row FujiHeader.the-type) T36 12 λ m. m .1 .1 .1 .1 .1 .1 .1 .1 .1 .0 .0
 
   abbrev s36 : Typed.Mo T38 → Typed.Mo T39
-  s36 = Scalar.n-room T38 9 (Syntax.tyEnum (List._∷_ 98 (List._∷_ 101 (List._∷_ 103 (List._∷_ 105 (List._∷_ 110 (List._∷_ 58 (List._∷_ 58 (List._∷_ 66 (List._∷_ 101 (List._∷_ 103 (List._∷_ 105
-      (List._∷_ 110 (List._∷_ 110 (List._∷_ 105 (List._∷_ 110 (List._∷_ 103 List.[])))))))))))))))) (Syntax.ttcons (Syntax.tcons (Syntax.tyEnum (List._∷_ 115 (List._∷_ 116 (List._∷_ 114 (List._∷_ 101
-      (List._∷_ 97 (List._∷_ 109 (List._∷_ 58 (List._∷_ 58 (List._∷_ 82 (List._∷_ 101 (List._∷_ 102 (List._∷_ 117 (List._∷_ 115 (List._∷_ 97 (List._∷_ 108 List.[]))))))))))))))) (Syntax.ttcons Syntax.tnil
-      (Syntax.ttcons Syntax.tnil (Syntax.ttcons Syntax.tnil (Syntax.ttcons (Syntax.tcons (Syntax.tyInt Syntax.w64) Syntax.tnil) (Syntax.ttcons Syntax.tnil (Syntax.ttcons Syntax.tnil (Syntax.ttcons
-      Syntax.tnil (Syntax.ttcons Syntax.tnil (Syntax.ttcons Syntax.tnil (Syntax.ttcons Syntax.tnil (Syntax.ttcons (Syntax.tcons (Syntax.tyInt Syntax.w64) Syntax.tnil) (Syntax.ttcons (Syntax.tcons
-      (Syntax.tyInt Syntax.w64) Syntax.tnil) (Syntax.ttcons Syntax.tnil (Syntax.ttcons (Syntax.tcons (Syntax.tyInt Syntax.w64) (Syntax.tcons (Syntax.tyInt Syntax.w64) Syntax.tnil)) (Syntax.ttcons
-      (Syntax.tcons (Syntax.tyInt Syntax.w64) Syntax.tnil) (Syntax.ttcons Syntax.tnil (Syntax.ttcons Syntax.tnil (Syntax.ttcons (Syntax.tcons (Syntax.tyInt Syntax.w64) Syntax.tnil) (Syntax.ttcons
-      (Syntax.tcons (Syntax.tyInt Syntax.w64) Syntax.tnil) (Syntax.ttcons (Syntax.tcons (Syntax.tyInt Syntax.w64) Syntax.tnil) (Syntax.ttcons Syntax.tnil (Syntax.ttcons Syntax.tnil (Syntax.ttcons
-      (Syntax.tcons (Syntax.tyInt Syntax.w64) (Syntax.tcons (Syntax.tyInt Syntax.w64) Syntax.tnil)) (Syntax.ttcons Syntax.tnil Syntax.ttnil))))))))))))))))))))))))) Syntax.tnil) (Syntax.ttcons Syntax.tnil
-      (Syntax.ttcons (Syntax.tcons y2 Syntax.tnil) Syntax.ttnil))))
+  s36 = Scalar.n-room T38 9 y12
 
   abbrev s37 : Typed.Both T39 T40
-  s37 = Call.callB ps·3 r·3 (claims· .6) (claims· .7) T39 (Bool.bFld 12 (List._∷_ (Syntax.field 1) List.[]) 1 λ x. FujiHeader.struct .as-values x .1 .0, tt) 13 List.[] (Syntax.tyInt Syntax.w64)
+  s37 = Call.callB ps·3 r·3 (claims· .6) (claims· .7) T39 (Bool.bFld 12 ((Syntax.field 1) ∷ []) 1 λ x. FujiHeader.struct .as-values x .1 .0, tt) 13 [] u64
 
   abbrev s39 : Typed.Gives T40 T42
-  s39 = Relend.k-sl-relend (Referent.rtF (Referent.fInt Syntax.w16)) T40 6 22 1 4 (Syntax.tyRef (Syntax.named 1) Syntax.mut (Syntax.tyInt Syntax.w16)) (Syntax.tyRef Syntax.erased Syntax.mut
-      (Syntax.tyInt Syntax.w16)) Row.off λ x. x
+  s39 = Relend.k-sl-relend n16 T40 6 22 1 4 y4 y8 Row.off λ x. x
 
   abbrev s40 : Typed.Asks T42 T43
-  s40 = Relend.k-sl-aggregate (Referent.rtF (Referent.fInt Syntax.w16)) (Relend.asMut (Referent.rtF (Referent.fInt Syntax.w16))) T42 22 23 4 (Syntax.tyRef Syntax.erased Syntax.mut (Syntax.tyInt
-      Syntax.w16)) (Syntax.tyRef Syntax.erased Syntax.mut (Syntax.tyInt Syntax.w16)) (λ x. x) (Scalar.oFld 6 (List._∷_ (Syntax.field 1) List.[]) (Syntax.tyInt Syntax.w64) 8 λ v. Shared.lenV (v .0))
+  s40 = Relend.k-sl-aggregate n16 (Relend.asMut n16) T42 22 23 4 y8 y8 (λ x. x) (Scalar.oFld 6 ((Syntax.field 1) ∷ []) u64 8 λ v. Shared.lenV (v .0))
 
   abbrev s41 : Typed.Asks T43 T44
-  s41 = Scalar.k-op2 T43 Syntax.offset (Scalar.oFld 7 (List._∷_ (Syntax.field 0) List.[]) (Syntax.tyRef (Syntax.named 2) Syntax.mut (Syntax.tyInt Syntax.w16)) 0 Reads'.ptrVal) (Scalar.oInt Syntax.w64
-      0) 24 (Rows'.sc-here Row.sPtr) (Row.sPtr .of)
+  s41 = Scalar.k-op2 T43 Syntax.offset (Scalar.oFld 7 ((Syntax.field 0) ∷ []) y5 0 Reads'.ptrVal) (Scalar.oInt Syntax.w64 0) 24 (Rows'.sc-here Row.sPtr) (Row.sPtr .of)
 
   abbrev s42 : Typed.Asks T44 T45
-  s42 = Scalar.k-op2 T44 (Syntax.sub Syntax.unsigned) (Scalar.oAt 13 (Syntax.tyInt Syntax.w64) (Row.valS (Row.sInt Syntax.w64))) (Scalar.oInt Syntax.w64 0) 25 (Rows'.sc-here (Row.sInt Syntax.w64))
-      (Row.sInt Syntax.w64 .of)
+  s42 = Scalar.k-op2 T44 (Syntax.sub Syntax.unsigned) (Scalar.oAt 13 u64 (Row.valS (Row.sInt Syntax.w64))) (Scalar.oInt Syntax.w64 0) 25 (Rows'.sc-here (Row.sInt Syntax.w64)) (Row.sInt Syntax.w64 .of)
 
   abbrev s44 : Typed.Both T45 T47
-  s44 = PartMut.k-sl-relendᵐ (Referent.rtF (Referent.fInt Syntax.w16)) T45 7 24 26 2 5 (Syntax.tyRef (Syntax.named 2) Syntax.mut (Syntax.tyInt Syntax.w16)) (Syntax.tyRef Syntax.erased Syntax.mut
-      (Syntax.tyInt Syntax.w16)) Row.off (Shared.bySize 2) (λ x. x) (λ x. x) (λ u. 0) λ u. u .1 .1 .1 .1 .1 .1 .1 .1 .1 .1 .1 .1 .1 .0
+  s44 = PartMut.k-sl-relendᵐ n16 T45 7 24 26 2 5 y5 y8 Row.off (Shared.bySize 2) (λ x. x) (λ x. x) (λ u. 0) λ u. u .1 .1 .1 .1 .1 .1 .1 .1 .1 .1 .1 .1 .1 .0
 
   abbrev s45 : Typed.Mo T47 → Typed.Mo T48
   s45 = Scalar.n-room T47 24 Syntax.tyPtr
 
   abbrev s46 : Typed.Asks T48 T49
-  s46 = Relend.k-sl-aggregate (Referent.rtF (Referent.fInt Syntax.w16)) (Relend.asMut (Referent.rtF (Referent.fInt Syntax.w16))) T48 26 27 5 (Syntax.tyRef Syntax.erased Syntax.mut (Syntax.tyInt
-      Syntax.w16)) (Syntax.tyRef Syntax.erased Syntax.mut (Syntax.tyInt Syntax.w16)) (λ x. x) (Scalar.oAt 25 (Syntax.tyInt Syntax.w64) (Row.valS (Row.sInt Syntax.w64)))
+  s46 = Relend.k-sl-aggregate n16 (Relend.asMut n16) T48 26 27 5 y8 y8 (λ x. x) (Scalar.oAt 25 u64 (Row.valS (Row.sInt Syntax.w64)))
 
   abbrev s47 : Typed.Mo T49 → Typed.Mo T50
-  s47 = Scalar.n-room T49 25 (Syntax.tyInt Syntax.w64)
+  s47 = Scalar.n-room T49 25 u64
 
   abbrev s48 : Typed.Asks T50 T51
-  s48 = Scalar.k-op2 T50 Syntax.offset (Scalar.oFld 8 (List._∷_ (Syntax.field 0) List.[]) (Syntax.tyRef (Syntax.named 3) Syntax.mut Element.behind) 0 Reads'.ptrVal) (Scalar.oInt Syntax.w64 0) 28
-      (Rows'.sc-here Row.sPtr) (Row.sPtr .of)
+  s48 = Scalar.k-op2 T50 Syntax.offset (Scalar.oFld 8 ((Syntax.field 0) ∷ []) y6 0 Reads'.ptrVal) (Scalar.oInt Syntax.w64 0) 28 (Rows'.sc-here Row.sPtr) (Row.sPtr .of)
 
   abbrev s49 : Typed.Asks T51 T52
   s49 = Scalar.k-op2 T51 (Syntax.sub Syntax.unsigned) (Scalar.oInt Syntax.w64 336) (Scalar.oInt Syntax.w64 0) 29 (Rows'.sc-here (Row.sInt Syntax.w64)) (Row.sInt Syntax.w64 .of)
 
   abbrev s51 : Typed.Both T52 T54
-  s51 = PartMut.k-sl-relendᵐ (Element.type) T52 8 28 30 3 6 (Syntax.tyRef (Syntax.named 3) Syntax.mut Element.behind) (Syntax.tyRef Syntax.erased Syntax.mut Element.behind) Row.off (Shared.bySize 8)
-      (λ x. x) (λ x. x) (λ u. 0) λ u. 336
+  s51 = PartMut.k-sl-relendᵐ (Element.type) T52 8 28 30 3 6 y6 y7 Row.off (Shared.bySize 8) (λ x. x) (λ x. x) (λ u. 0) λ u. 336
 
   abbrev s52 : Typed.Mo T54 → Typed.Mo T55
   s52 = Scalar.n-room T54 28 Syntax.tyPtr
 
   abbrev s53 : Typed.Asks T55 T56
-  s53 = Relend.k-sl-aggregate (Element.type) (Relend.asMut (Element.type)) T55 30 31 6 (Syntax.tyRef Syntax.erased Syntax.mut Element.behind) (Syntax.tyRef Syntax.erased Syntax.mut Element.behind) (λ
-      x. x) (Scalar.oAt 29 (Syntax.tyInt Syntax.w64) (Row.valS (Row.sInt Syntax.w64)))
+  s53 = Relend.k-sl-aggregate (Element.type) (Relend.asMut (Element.type)) T55 30 31 6 y7 y7 (λ x. x) (Scalar.oAt 29 u64 (Row.valS (Row.sInt Syntax.w64)))
 
   abbrev s54 : Typed.Mo T56 → Typed.Mo T57
-  s54 = Scalar.n-room T56 29 (Syntax.tyInt Syntax.w64)
+  s54 = Scalar.n-room T56 29 u64
 
-  abbrev s55 : Typed.Both T57 T58
-  s55 = Call.callB ps·4 r·4 (claims· .8) (claims· .9) T57 (
-    record { pos = 1; st = List.[]; d = 0; at = λ x. x },
+  abbrev pub a4 : ArgsT ps·4 (T57 .locals)
+  a4 = (
+    record { pos = 1; st = []; d = 0; at = λ x. x },
     (
-      record { pos = 10; st = List.[]; d = 0; at = λ x. x },
+      record { pos = 10; st = []; d = 0; at = λ x. x },
       (
-        record { pos = 3; ty = Syntax.tyRef (Syntax.named 0) Syntax.imm (Syntax.tyInt Syntax.w8); ref = λ x. x },
+        record { pos = 3; ty = y3; ref = λ x. x },
         (
-          record { pos = 12; st = List.[]; d = 0; at = λ x. x },
+          record { pos = 12; st = []; d = 0; at = λ x. x },
           (
-            record { pos = 4; st = List.[]; d = 0; at = λ x. x },
+            record { pos = 4; st = []; d = 0; at = λ x. x },
             (
-              record { pos = 5; st = List.[]; d = 0; at = λ x. x },
-              (
-                record { pos = 23; ty = Syntax.tyRef Syntax.erased Syntax.mut (Syntax.tyInt Syntax.w16); ref = λ x. x },
-                (
-                  record { pos = 27; ty = Syntax.tyRef Syntax.erased Syntax.mut (Syntax.tyInt Syntax.w16); ref = λ x. x },
-                  (record { pos = 31; ty = Syntax.tyRef Syntax.erased Syntax.mut Element.behind; ref = λ x. x }, tt),
-                ),
-              ),
+              record { pos = 5; st = []; d = 0; at = λ x. x },
+              (record { pos = 23; ty = y8; ref = λ x. x }, (record { pos = 27; ty = y8; ref = λ x. x }, (record { pos = 31; ty = y7; ref = λ x. x }, tt))),
             ),
           ),
         ),
       ),
     ),
-  ) 14 (List._∷_ 0 (List._∷_ 4 (List._∷_ 5 (List._∷_ 6 List.[])))) y7
+  )
+
+  abbrev s55 : Typed.Both T57 T58
+  s55 = Call.callB ps·4 r·4 (claims· .8) (claims· .9) T57 a4 14 (0 ∷ 4 ∷ 5 ∷ 6 ∷ []) y19
 
   abbrev s56 : Typed.Mo T58 → Typed.Mo T59
-  s56 = Scalar.n-room T58 4 y1
+  s56 = Scalar.n-room T58 4 y10
 
   abbrev s57 : Typed.Mo T59 → Typed.Mo T60
-  s57 = Scalar.n-room T59 5 (Syntax.tyArray (Syntax.tyInt Syntax.w8) 36)
+  s57 = Scalar.n-room T59 5 y0
 
   abbrev s58 : Typed.Mo T60 → Typed.Mo T61
-  s58 = Scalar.n-room T60 10 y6
+  s58 = Scalar.n-room T60 10 y18
 
   abbrev s59 : Typed.Mo T61 → Typed.Mo T62
-  s59 = Scalar.n-room T61 12 y2
+  s59 = Scalar.n-room T61 12 y11
 
   abbrev s61 : Typed.Both T62 T64
-  s61 = Relend.k-back-sl (Referent.rtF (Referent.fInt Syntax.w16)) T62 23 6 1 4 (Syntax.tyRef (Syntax.named 1) Syntax.mut (Syntax.tyInt Syntax.w16)) (Syntax.tyRef Syntax.erased Syntax.mut
-      (Syntax.tyInt Syntax.w16)) Row.off (λ x. x) λ x. x
+  s61 = Relend.k-back-sl n16 T62 23 6 1 4 y4 y8 Row.off (λ x. x) λ x. x
 
-  abbrev s62 : Typed.Gives T64 T65
-  s62 = Know.k-sl-known (Referent.fInt Syntax.w16) T64 6 1 (Syntax.tyRef (Syntax.named 1) Syntax.mut (Syntax.tyInt Syntax.w16)) Row.off 0 λ x. x
+  abbrev s62 : Typed.Gives T64 T64
+  s62 = Know.k-sl-known (Referent.fInt Syntax.w16) T64 6 1 y4 Row.off 0 λ x. x
 
-  abbrev s65 : Typed.Both T65 T68
-  s65 = PartMut.k-back-slᵐ (Referent.rtF (Referent.fInt Syntax.w16)) T65 27 7 2 5 (Syntax.tyRef (Syntax.named 2) Syntax.mut (Syntax.tyInt Syntax.w16)) (Syntax.tyRef Syntax.erased Syntax.mut
-      (Syntax.tyInt Syntax.w16)) Row.off (λ x. x) λ x. x
+  abbrev s65 : Typed.Both T64 T68
+  s65 = PartMut.k-back-slᵐ n16 T64 27 7 2 5 y5 y8 Row.off (λ x. x) λ x. x
 
-  abbrev s66 : Typed.Gives T68 T69
-  s66 = Know.k-sl-known (Referent.fInt Syntax.w16) T68 7 2 (Syntax.tyRef (Syntax.named 2) Syntax.mut (Syntax.tyInt Syntax.w16)) Row.off 0 λ x. x
+  abbrev s66 : Typed.Gives T68 T68
+  s66 = Know.k-sl-known (Referent.fInt Syntax.w16) T68 7 2 y5 Row.off 0 λ x. x
 
-  abbrev s69 : Typed.Both T69 T72
-  s69 = PartMut.k-back-slᵐ (Element.type) T69 31 8 3 6 (Syntax.tyRef (Syntax.named 3) Syntax.mut Element.behind) (Syntax.tyRef Syntax.erased Syntax.mut Element.behind) Row.off (λ x. x) λ x. x
+  abbrev s69 : Typed.Both T68 T72
+  s69 = PartMut.k-back-slᵐ (Element.type) T68 31 8 3 6 y6 y7 Row.off (λ x. x) λ x. x
 
   abbrev s71 : Typed.Mo T72 → Typed.Mo T74
   s71 = Make'.n-make (Declared.row Decoded.the-type) T72 15 λ m. SharedAnswer.struct .as-values (m .1 .1 .1 .1 .1 .1 .1 .1 .1 .1 .1 .1 .1 .1 .0) .0
 
+  abbrev pub a3 : ArgsT ps·2 (T74 .locals)
+  a3 = (
+    record { pos = 1; st = []; d = 0; at = λ x. x },
+    (record { pos = 14; st = (Syntax.field 1) ∷ []; d = 32; at = λ x. SharedAnswer.struct .as-values x .1 .0 }, (record { pos = 15; st = []; d = 0; at = λ x. x }, tt)),
+  )
+
   abbrev s72 : Typed.Both T74 T75
-  s72 = Call.callB ps·2 r·2 (claims· .4) (claims· .5) T74 (
-    record { pos = 1; st = List.[]; d = 0; at = λ x. x },
-    (record { pos = 14; st = List._∷_ (Syntax.field 1) List.[]; d = 32; at = λ x. SharedAnswer.struct .as-values x .1 .0 }, (record { pos = 15; st = List.[]; d = 0; at = λ x. x }, tt)),
-  ) 19 List.[] y7
+  s72 = Call.callB ps·2 r·2 (claims· .4) (claims· .5) T74 a3 19 [] y19
 
   abbrev s73 : Typed.Mo T75 → Typed.Mo T76
-  s73 = Scalar.n-room T75 1 (Syntax.tyEnum (List._∷_ 99 (List._∷_ 97 (List._∷_ 109 (List._∷_ 101 (List._∷_ 114 (List._∷_ 97 (List._∷_ 115 (List._∷_ 58 (List._∷_ 58 (List._∷_ 67 (List._∷_ 97 (List._∷_
-      109 (List._∷_ 101 (List._∷_ 114 (List._∷_ 97 List.[]))))))))))))))) (Syntax.ttcons Syntax.tnil (Syntax.ttcons Syntax.tnil Syntax.ttnil)))
+  s73 = Scalar.n-room T75 1 y2
 
   abbrev s74 : Typed.Mo T76 → Typed.Mo T77
-  s74 = Scalar.n-room T76 13 (Syntax.tyInt Syntax.w64)
+  s74 = Scalar.n-room T76 13 u64
 
   abbrev s75 : Typed.Mo T77 → Typed.Mo T78
-  s75 = Scalar.n-room T77 14 y7
+  s75 = Scalar.n-room T77 14 y19
 
-  abbrev s76 : Typed.Mo T78 → Typed.Mo T79
-  s76 = Scalar.n-room T78 15 (Syntax.tyEnum (List._∷_ 98 (List._∷_ 108 (List._∷_ 111 (List._∷_ 99 (List._∷_ 107 (List._∷_ 58 (List._∷_ 58 (List._∷_ 68 (List._∷_ 101 (List._∷_ 99 (List._∷_ 111
-      (List._∷_ 100 (List._∷_ 101 (List._∷_ 100 List.[])))))))))))))) (Syntax.ttcons Syntax.tnil (Syntax.ttcons (Syntax.tcons (Syntax.tyEnum (List._∷_ 115 (List._∷_ 116 (List._∷_ 114 (List._∷_ 101
-      (List._∷_ 97 (List._∷_ 109 (List._∷_ 58 (List._∷_ 58 (List._∷_ 82 (List._∷_ 101 (List._∷_ 102 (List._∷_ 117 (List._∷_ 115 (List._∷_ 97 (List._∷_ 108 List.[]))))))))))))))) (Syntax.ttcons Syntax.tnil
-      (Syntax.ttcons Syntax.tnil (Syntax.ttcons Syntax.tnil (Syntax.ttcons (Syntax.tcons (Syntax.tyInt Syntax.w64) Syntax.tnil) (Syntax.ttcons Syntax.tnil (Syntax.ttcons Syntax.tnil (Syntax.ttcons
-      Syntax.tnil (Syntax.ttcons Syntax.tnil (Syntax.ttcons Syntax.tnil (Syntax.ttcons Syntax.tnil (Syntax.ttcons (Syntax.tcons (Syntax.tyInt Syntax.w64) Syntax.tnil) (Syntax.ttcons (Syntax.tcons
-      (Syntax.tyInt Syntax.w64) Syntax.tnil) (Syntax.ttcons Syntax.tnil (Syntax.ttcons (Syntax.tcons (Syntax.tyInt Syntax.w64) (Syntax.tcons (Syntax.tyInt Syntax.w64) Syntax.tnil)) (Syntax.ttcons
-      (Syntax.tcons (Syntax.tyInt Syntax.w64) Syntax.tnil) (Syntax.ttcons Syntax.tnil (Syntax.ttcons Syntax.tnil (Syntax.ttcons (Syntax.tcons (Syntax.tyInt Syntax.w64) Syntax.tnil) (Syntax.ttcons
-      (Syntax.tcons (Syntax.tyInt Syntax.w64) Syntax.tnil) (Syntax.ttcons (Syntax.tcons (Syntax.tyInt Syntax.w64) Syntax.tnil) (Syntax.ttcons Syntax.tnil (Syntax.ttcons Syntax.tnil (Syntax.ttcons
-      (Syntax.tcons (Syntax.tyInt Syntax.w64) (Syntax.tcons (Syntax.tyInt Syntax.w64) Syntax.tnil)) (Syntax.ttcons Syntax.tnil Syntax.ttnil))))))))))))))))))))))))) Syntax.tnil) Syntax.ttnil)))
+  abbrev s76 : Typed.Mo T78 → Typed.Mo T13
+  s76 = Scalar.n-room T78 15 y13
 
   abbrev s77 : Typed.Mo T13 → Typed.Mo T80
   s77 = LocalCopy.n-val-copy T13 19 0 (Declared'.row SharedAnswer.the-type) (Rows'.whole (Declared'.row SharedAnswer.the-type)) (Rows'.whole (Declared'.row SharedAnswer.the-type)) (λ x. x) (λ x. x) λ
       x. x
 
-  abbrev s78 : Typed.Mo T80 → Typed.Mo T81
-  s78 = Scalar.n-room T80 19 y7
+  abbrev s78 : Typed.Mo T80 → Typed.Mo T1
+  s78 = Scalar.n-room T80 19 y19
 
   module _ (Pre· : (κs : Lifetimes.Lfts 4) → Kinds.Dens κs ps → Type 0) (Post· : (κs : Lifetimes.Lfts 4) → (a : Kinds.Dens κs ps) → Kinds.Plain 4 ps r κs) where
     module _ (M : Type 1) where
@@ -1751,7 +1096,7 @@ module _ (claims· : Claims) where
 
     module _ where
       abbrev at0 : Typed.TF T22 O1
-      at0 = λ Ψ. Typed.both s20 (Typed.pass T23 T24 s21 (Typed.pass T24 T25 s22 (Typed.pass T25 T26 s23 (Typed.atNext O1 Ψ))))
+      at0 = λ Ψ. Typed.both s20 (Typed.pass T23 T24 s21 (Typed.pass T24 T25 s22 (Typed.pass T25 T13 s23 (Typed.atNext O1 Ψ))))
 
       abbrev at1 : Typed.TF T21 O1
       at1 = λ Ψ. Typed.pass T21 T22 s19 (at0 Ψ)
@@ -1768,8 +1113,8 @@ module _ (claims· : Claims) where
       abbrev at5 : Typed.TF T17 O1
       at5 = λ Ψ. Typed.pass T17 T18 s15 (at4 Ψ)
 
-      abbrev at6 : Typed.TF T16 O1
-      at6 = λ Ψ. Typed.pass T16 T17 s14 (at5 Ψ)
+      abbrev at6 : Typed.TF T15 O1
+      at6 = λ Ψ. Typed.pass T15 T17 s14 (at5 Ψ)
 
       abbrev at7 : Typed.TF T15 O1
       at7 = λ Ψ. Typed.give s13 (at6 Ψ)
@@ -1778,7 +1123,7 @@ module _ (claims· : Claims) where
       at8 = λ Ψ. Typed.both s12 (at7 Ψ)
 
       abbrev at9 : Typed.TF T31 O1
-      at9 = λ Ψ. Typed.both s29 (Typed.pass T32 T33 s30 (Typed.pass T33 T34 s31 (Typed.pass T34 T35 s32 (Typed.atNext O1 Ψ))))
+      at9 = λ Ψ. Typed.both s29 (Typed.pass T32 T33 s30 (Typed.pass T33 T34 s31 (Typed.pass T34 T13 s32 (Typed.atNext O1 Ψ))))
 
       abbrev at10 : Typed.TF T30 O1
       at10 = λ Ψ. Typed.pass T30 T31 s28 (at9 Ψ)
@@ -1789,53 +1134,35 @@ module _ (claims· : Claims) where
       abbrev at12 : Typed.TF T28 O1
       at12 = λ Ψ. Typed.pass T28 T29 s26 (at11 Ψ)
 
-      abbrev at13 : Typed.TF T27 O1
-      at13 = λ Ψ. Typed.pass T27 T28 s25 (at12 Ψ)
+      abbrev at13 : Typed.TF T14 O1
+      at13 = λ Ψ. Typed.pass T14 T28 s25 (at12 Ψ)
 
       abbrev at14 : Typed.TF T14 O1
       at14 = λ Ψ. Typed.both s24 (at13 Ψ)
 
       abbrev at15 : Typed.TF T74 O1
-      at15 = λ Ψ. Typed.both s72 (Typed.pass T75 T76 s73 (Typed.pass T76 T77 s74 (Typed.pass T77 T78 s75 (Typed.pass T78 T79 s76 (Typed.atNext O1 Ψ)))))
+      at15 = λ Ψ. Typed.both s72 (Typed.pass T75 T76 s73 (Typed.pass T76 T77 s74 (Typed.pass T77 T78 s75 (Typed.pass T78 T13 s76 (Typed.atNext O1 Ψ)))))
 
       abbrev at16 : Typed.TF T72 O1
       at16 = λ Ψ. Typed.pass T72 T74 s71 (at15 Ψ)
 
-      abbrev at17 : Typed.TF T72 O1
-      at17 = λ Ψ. at16 Ψ
-
-      abbrev at18 : Typed.TF T69 O1
-      at18 = λ Ψ. Typed.both s69 (at17 Ψ)
-
-      abbrev at19 : Typed.TF T69 O1
-      at19 = λ Ψ. at18 Ψ
-
-      abbrev at20 : Typed.TF T69 O1
-      at20 = λ Ψ. at19 Ψ
+      abbrev at18 : Typed.TF T68 O1
+      at18 = λ Ψ. Typed.both s69 (at16 Ψ)
 
       abbrev at21 : Typed.TF T68 O1
-      at21 = λ Ψ. Typed.give s66 (at20 Ψ)
+      at21 = λ Ψ. Typed.give s66 (at18 Ψ)
 
-      abbrev at22 : Typed.TF T65 O1
+      abbrev at22 : Typed.TF T64 O1
       at22 = λ Ψ. Typed.both s65 (at21 Ψ)
 
-      abbrev at23 : Typed.TF T65 O1
-      at23 = λ Ψ. at22 Ψ
-
-      abbrev at24 : Typed.TF T65 O1
-      at24 = λ Ψ. at23 Ψ
-
       abbrev at25 : Typed.TF T64 O1
-      at25 = λ Ψ. Typed.give s62 (at24 Ψ)
+      at25 = λ Ψ. Typed.give s62 (at22 Ψ)
 
       abbrev at26 : Typed.TF T62 O1
       at26 = λ Ψ. Typed.both s61 (at25 Ψ)
 
-      abbrev at27 : Typed.TF T62 O1
-      at27 = λ Ψ. at26 Ψ
-
       abbrev at28 : Typed.TF T61 O1
-      at28 = λ Ψ. Typed.pass T61 T62 s59 (at27 Ψ)
+      at28 = λ Ψ. Typed.pass T61 T62 s59 (at26 Ψ)
 
       abbrev at29 : Typed.TF T60 O1
       at29 = λ Ψ. Typed.pass T60 T61 s58 (at28 Ψ)
@@ -1861,11 +1188,8 @@ module _ (claims· : Claims) where
       abbrev at36 : Typed.TF T52 O1
       at36 = λ Ψ. Typed.both s51 (at35 Ψ)
 
-      abbrev at37 : Typed.TF T52 O1
-      at37 = λ Ψ. at36 Ψ
-
       abbrev at38 : Typed.TF T51 O1
-      at38 = λ Ψ. Typed.ask s49 (at37 Ψ)
+      at38 = λ Ψ. Typed.ask s49 (at36 Ψ)
 
       abbrev at39 : Typed.TF T50 O1
       at39 = λ Ψ. Typed.ask s48 (at38 Ψ)
@@ -1882,11 +1206,8 @@ module _ (claims· : Claims) where
       abbrev at43 : Typed.TF T45 O1
       at43 = λ Ψ. Typed.both s44 (at42 Ψ)
 
-      abbrev at44 : Typed.TF T45 O1
-      at44 = λ Ψ. at43 Ψ
-
       abbrev at45 : Typed.TF T44 O1
-      at45 = λ Ψ. Typed.ask s42 (at44 Ψ)
+      at45 = λ Ψ. Typed.ask s42 (at43 Ψ)
 
       abbrev at46 : Typed.TF T43 O1
       at46 = λ Ψ. Typed.ask s41 (at45 Ψ)
@@ -1897,17 +1218,14 @@ module _ (claims· : Claims) where
       abbrev at48 : Typed.TF T40 O1
       at48 = λ Ψ. Typed.give s39 (at47 Ψ)
 
-      abbrev at49 : Typed.TF T40 O1
-      at49 = λ Ψ. at48 Ψ
-
       abbrev at50 : Typed.TF T39 O1
-      at50 = λ Ψ. Typed.both s37 (at49 Ψ)
+      at50 = λ Ψ. Typed.both s37 (at48 Ψ)
 
       abbrev at51 : Typed.TF T38 O1
       at51 = λ Ψ. Typed.pass T38 T39 s36 (at50 Ψ)
 
-      abbrev at52 : Typed.TF T37 O1
-      at52 = λ Ψ. Typed.pass T37 T38 s35 (at51 Ψ)
+      abbrev at52 : Typed.TF T36 O1
+      at52 = λ Ψ. Typed.pass T36 T38 s35 (at51 Ψ)
 
       abbrev at53 : Typed.TF T36 O1
       at53 = λ Ψ. Typed.give s34 (at52 Ψ)
@@ -1916,17 +1234,16 @@ module _ (claims· : Claims) where
       at54 = λ Ψ. Typed.both s33 (at53 Ψ)
 
       abbrev at55 : Typed.TF T14 O1
-      at55 = Switch.Φswitch T14 O1 9 (λ x. Declared.tagOf Beginning.the-type x) (Syntax.arm (List._∷_ 0 List.[]) b9 (Syntax.arm (List._∷_ 1 List.[]) b12 (Syntax.arm (List._∷_ 2 List.[]) b41
-          Syntax.noDefault))) (at8, (at14, (at54, tt)))
+      at55 = Switch.Φswitch T14 O1 9 (λ x. Declared.tagOf Beginning.the-type x) (Syntax.arm (0 ∷ []) b9 (Syntax.arm (1 ∷ []) b12 (Syntax.arm (2 ∷ []) b41 Syntax.noDefault))) (at8, (at14, (at54, tt)))
 
       abbrev at56 : Typed.TF T12 O1
       at56 = λ Ψ. Typed.pass T12 T14 s11 (at55 Ψ)
 
-      abbrev at57 : Typed.TF T81 O0
+      abbrev at57 : Typed.TF T1 O0
       at57 = Typed.atRet O0
 
       abbrev at58 : Typed.TF T80 O0
-      at58 = λ Ψ. Typed.pass T80 T81 s78 (at57 Ψ)
+      at58 = λ Ψ. Typed.pass T80 T1 s78 (at57 Ψ)
 
       abbrev at59 : Typed.TF T13 O0
       at59 = λ Ψ. Typed.pass T13 T80 s77 (at58 Ψ)
@@ -1955,13 +1272,13 @@ module _ (claims· : Claims) where
       abbrev at67 : Typed.TF T5 O0
       at67 = λ Ψ. Typed.pass T5 T6 s4 (at66 Ψ)
 
-      abbrev at68 : Typed.TF T4 O0
-      at68 = λ Ψ. Typed.pass T4 T5 s3 (at67 Ψ)
+      abbrev at68 : Typed.TF T0 O0
+      at68 = λ Ψ. Typed.pass T0 T5 s3 (at67 Ψ)
 
-      abbrev at69 : Typed.TF T3 O0
+      abbrev at69 : Typed.TF T0 O0
       at69 = λ Ψ. Typed.give s2 (at68 Ψ)
 
-      abbrev at70 : Typed.TF T2 O0
+      abbrev at70 : Typed.TF T0 O0
       at70 = λ Ψ. Typed.give s1 (at69 Ψ)
 
       abbrev at71 : Typed.TF T0 O0
@@ -1977,748 +1294,200 @@ module _ (claims· : Claims) where
             (claims· .8) (claims· .9) "block::sharing::decode_shared_blocks"
 
       module _ (κs : Lifetimes.Lfts 4) (qs : Lifetimes.Shares 4) where
+        abbrev k0 : Row.Life
+        k0 = Row.lease (κs .0) (qs .0)
+
+        abbrev k1 : Row.Life
+        k1 = Row.lease (κs .1 .0) (qs .1 .0)
+
+        abbrev k2 : Row.Life
+        k2 = Row.lease (κs .1 .1 .0) (qs .1 .1 .0)
+
+        abbrev k3 : Row.Life
+        k3 = Row.lease (κs .1 .1 .1 .0) (qs .1 .1 .1 .0)
+
+        abbrev l0 : List.List Row.Life
+        l0 = k0 ∷ Row.off ∷ Row.off ∷ Row.off ∷ Row.alive ∷ Row.alive ∷ Row.alive ∷ []
+
+        abbrev l1 : List.List Row.Life
+        l1 = k0 ∷ Row.off ∷ Row.off ∷ k3 ∷ Row.alive ∷ Row.alive ∷ Row.off ∷ []
+
+        abbrev l2 : List.List Row.Life
+        l2 = k0 ∷ Row.off ∷ k2 ∷ k3 ∷ Row.alive ∷ Row.off ∷ Row.off ∷ []
+
+        abbrev l3 : List.List Row.Life
+        l3 = k0 ∷ k1 ∷ Row.off ∷ Row.off ∷ Row.dead ∷ Row.alive ∷ Row.alive ∷ []
+
+        abbrev l4 : List.List Row.Life
+        l4 = k0 ∷ k1 ∷ k2 ∷ Row.off ∷ Row.off ∷ Row.dead ∷ Row.alive ∷ []
+
+        abbrev l5 : List.List Row.Life
+        l5 = k0 ∷ k1 ∷ k2 ∷ k3 ∷ Row.off ∷ Row.off ∷ Row.off ∷ []
+
+        abbrev h0 : Row.Row
+        h0 = Relend.mslice-owed n16 y4 1 4 k1
+
+        abbrev h1 : Row.Row
+        h1 = PartMut.mslice-owedM n16 y5 2 5 k2
+
+        abbrev h2 : Row.Row
+        h2 = PartMut.mslice-owedM (Element.type) y6 3 6 k3
+
         abbrev g30 : List.List Row.Entry
-        g30 = List._∷_ e0 (List._∷_ e2 (List._∷_ e23 (List._∷_ e45 (List._∷_ e52 (List._∷_ e54 (List._∷_
-            (6, Relend.mslice-owed (Referent.rtF (Referent.fInt Syntax.w16)) (Syntax.tyRef (Syntax.named 1) Syntax.mut (Syntax.tyInt Syntax.w16)) 1 4 (Row.lease (κs .1 .0) (qs .1 .0))) (List._∷_ e57
-            (List._∷_ e59 (List._∷_ e61 (List._∷_ e4 (List._∷_ e5 (List._∷_ e8 (List._∷_ e10 (List._∷_ e11 (List._∷_ e13 List.[])))))))))))))))
+        g30 = (0, v1) ∷ (1, v9) ∷ (2, v3) ∷ (3, v6) ∷ (4, v23) ∷ (5, v22) ∷ (6, h0) ∷ (7, v14) ∷ (8, v15) ∷ (9, v10) ∷ (10, v12) ∷ (11, v7) ∷ (12, v24) ∷ (13, v8) ∷ (14, v1) ∷ (15, v2) ∷ []
 
         abbrev g35 : List.List Row.Entry
-        g35 = List._∷_ e0 (List._∷_ e2 (List._∷_ e23 (List._∷_ e45 (List._∷_ e52 (List._∷_ e54 (List._∷_
-            (6, Relend.mslice-owed (Referent.rtF (Referent.fInt Syntax.w16)) (Syntax.tyRef (Syntax.named 1) Syntax.mut (Syntax.tyInt Syntax.w16)) 1 4 (Row.lease (κs .1 .0) (qs .1 .0))) (List._∷_
-            (7, PartMut.mslice-owedM (Referent.rtF (Referent.fInt Syntax.w16)) (Syntax.tyRef (Syntax.named 2) Syntax.mut (Syntax.tyInt Syntax.w16)) 2 5 (Row.lease (κs .1 .1 .0) (qs .1 .1 .0))) (List._∷_
-            e59 (List._∷_ e61 (List._∷_ e4 (List._∷_ e5 (List._∷_ e8 (List._∷_ e10 (List._∷_ e11 (List._∷_ e13 List.[])))))))))))))))
+        g35 = (0, v1) ∷ (1, v9) ∷ (2, v3) ∷ (3, v6) ∷ (4, v23) ∷ (5, v22) ∷ (6, h0) ∷ (7, h1) ∷ (8, v15) ∷ (9, v10) ∷ (10, v12) ∷ (11, v7) ∷ (12, v24) ∷ (13, v8) ∷ (14, v1) ∷ (15, v2) ∷ []
 
         abbrev g42 : List.List Row.Entry
-        g42 = List._∷_ e0 (List._∷_ e2 (List._∷_ e23 (List._∷_ e45 (List._∷_ e52 (List._∷_ e54 (List._∷_
-            (6, Relend.mslice-owed (Referent.rtF (Referent.fInt Syntax.w16)) (Syntax.tyRef (Syntax.named 1) Syntax.mut (Syntax.tyInt Syntax.w16)) 1 4 (Row.lease (κs .1 .0) (qs .1 .0))) (List._∷_
-            (7, PartMut.mslice-owedM (Referent.rtF (Referent.fInt Syntax.w16)) (Syntax.tyRef (Syntax.named 2) Syntax.mut (Syntax.tyInt Syntax.w16)) 2 5 (Row.lease (κs .1 .1 .0) (qs .1 .1 .0))) (List._∷_
-            (8, PartMut.mslice-owedM (Element.type) (Syntax.tyRef (Syntax.named 3) Syntax.mut Element.behind) 3 6 (Row.lease (κs .1 .1 .1 .0) (qs .1 .1 .1 .0))) (List._∷_ e61 (List._∷_ e4 (List._∷_ e5
-            (List._∷_ e8 (List._∷_ e10 (List._∷_ e11 (List._∷_ e13 List.[])))))))))))))))
+        g42 = (0, v1) ∷ (1, v9) ∷ (2, v3) ∷ (3, v6) ∷ (4, v23) ∷ (5, v22) ∷ (6, h0) ∷ (7, h1) ∷ (8, h2) ∷ (9, v10) ∷ (10, v12) ∷ (11, v7) ∷ (12, v24) ∷ (13, v8) ∷ (14, v1) ∷ (15, v2) ∷ []
 
         abbrev g47 : List.List Row.Entry
-        g47 = List._∷_ e0 (List._∷_ e2 (List._∷_ e23 (List._∷_ e45 (List._∷_ e52 (List._∷_ e54 (List._∷_
-            (6, Relend.mslice-owed (Referent.rtF (Referent.fInt Syntax.w16)) (Syntax.tyRef (Syntax.named 1) Syntax.mut (Syntax.tyInt Syntax.w16)) 1 4 (Row.lease (κs .1 .0) (qs .1 .0))) (List._∷_
-            (7, PartMut.mslice-owedM (Referent.rtF (Referent.fInt Syntax.w16)) (Syntax.tyRef (Syntax.named 2) Syntax.mut (Syntax.tyInt Syntax.w16)) 2 5 (Row.lease (κs .1 .1 .0) (qs .1 .1 .0))) (List._∷_
-            (8, PartMut.mslice-owedM (Element.type) (Syntax.tyRef (Syntax.named 3) Syntax.mut Element.behind) 3 6 (Row.lease (κs .1 .1 .1 .0) (qs .1 .1 .1 .0))) (List._∷_ e61 (List._∷_ e4 (List._∷_ e5
-            (List._∷_ e8 (List._∷_ e10 (List._∷_ e12 (List._∷_ e13 List.[])))))))))))))))
+        g47 = (0, v1) ∷ (1, v9) ∷ (2, v3) ∷ (3, v6) ∷ (4, v23) ∷ (5, v22) ∷ (6, h0) ∷ (7, h1) ∷ (8, h2) ∷ (9, v10) ∷ (10, v12) ∷ (11, v7) ∷ (12, v24) ∷ (13, v8) ∷ (14, v21) ∷ (15, v2) ∷ []
 
         abbrev g49 : List.List Row.Entry
-        g49 = List._∷_ e0 (List._∷_ e2 (List._∷_ e23 (List._∷_ e45 (List._∷_ e51 (List._∷_ e54 (List._∷_
-            (6, Relend.mslice-owed (Referent.rtF (Referent.fInt Syntax.w16)) (Syntax.tyRef (Syntax.named 1) Syntax.mut (Syntax.tyInt Syntax.w16)) 1 4 (Row.lease (κs .1 .0) (qs .1 .0))) (List._∷_
-            (7, PartMut.mslice-owedM (Referent.rtF (Referent.fInt Syntax.w16)) (Syntax.tyRef (Syntax.named 2) Syntax.mut (Syntax.tyInt Syntax.w16)) 2 5 (Row.lease (κs .1 .1 .0) (qs .1 .1 .0))) (List._∷_
-            (8, PartMut.mslice-owedM (Element.type) (Syntax.tyRef (Syntax.named 3) Syntax.mut Element.behind) 3 6 (Row.lease (κs .1 .1 .1 .0) (qs .1 .1 .1 .0))) (List._∷_ e61 (List._∷_ e4 (List._∷_ e5
-            (List._∷_ e8 (List._∷_ e10 (List._∷_ e12 (List._∷_ e13 List.[])))))))))))))))
+        g49 = (0, v1) ∷ (1, v9) ∷ (2, v3) ∷ (3, v6) ∷ (4, v17) ∷ (5, v22) ∷ (6, h0) ∷ (7, h1) ∷ (8, h2) ∷ (9, v10) ∷ (10, v12) ∷ (11, v7) ∷ (12, v24) ∷ (13, v8) ∷ (14, v21) ∷ (15, v2) ∷ []
 
         abbrev g50 : List.List Row.Entry
-        g50 = List._∷_ e0 (List._∷_ e2 (List._∷_ e23 (List._∷_ e45 (List._∷_ e51 (List._∷_ e53 (List._∷_
-            (6, Relend.mslice-owed (Referent.rtF (Referent.fInt Syntax.w16)) (Syntax.tyRef (Syntax.named 1) Syntax.mut (Syntax.tyInt Syntax.w16)) 1 4 (Row.lease (κs .1 .0) (qs .1 .0))) (List._∷_
-            (7, PartMut.mslice-owedM (Referent.rtF (Referent.fInt Syntax.w16)) (Syntax.tyRef (Syntax.named 2) Syntax.mut (Syntax.tyInt Syntax.w16)) 2 5 (Row.lease (κs .1 .1 .0) (qs .1 .1 .0))) (List._∷_
-            (8, PartMut.mslice-owedM (Element.type) (Syntax.tyRef (Syntax.named 3) Syntax.mut Element.behind) 3 6 (Row.lease (κs .1 .1 .1 .0) (qs .1 .1 .1 .0))) (List._∷_ e61 (List._∷_ e4 (List._∷_ e5
-            (List._∷_ e8 (List._∷_ e10 (List._∷_ e12 (List._∷_ e13 List.[])))))))))))))))
+        g50 = (0, v1) ∷ (1, v9) ∷ (2, v3) ∷ (3, v6) ∷ (4, v17) ∷ (5, v20) ∷ (6, h0) ∷ (7, h1) ∷ (8, h2) ∷ (9, v10) ∷ (10, v12) ∷ (11, v7) ∷ (12, v24) ∷ (13, v8) ∷ (14, v21) ∷ (15, v2) ∷ []
 
         abbrev g51 : List.List Row.Entry
-        g51 = List._∷_ e0 (List._∷_ e2 (List._∷_ e23 (List._∷_ e45 (List._∷_ e51 (List._∷_ e53 (List._∷_
-            (6, Relend.mslice-owed (Referent.rtF (Referent.fInt Syntax.w16)) (Syntax.tyRef (Syntax.named 1) Syntax.mut (Syntax.tyInt Syntax.w16)) 1 4 (Row.lease (κs .1 .0) (qs .1 .0))) (List._∷_
-            (7, PartMut.mslice-owedM (Referent.rtF (Referent.fInt Syntax.w16)) (Syntax.tyRef (Syntax.named 2) Syntax.mut (Syntax.tyInt Syntax.w16)) 2 5 (Row.lease (κs .1 .1 .0) (qs .1 .1 .0))) (List._∷_
-            (8, PartMut.mslice-owedM (Element.type) (Syntax.tyRef (Syntax.named 3) Syntax.mut Element.behind) 3 6 (Row.lease (κs .1 .1 .1 .0) (qs .1 .1 .1 .0))) (List._∷_ e61 (List._∷_ e3 (List._∷_ e5
-            (List._∷_ e8 (List._∷_ e10 (List._∷_ e12 (List._∷_ e13 List.[])))))))))))))))
+        g51 = (0, v1) ∷ (1, v9) ∷ (2, v3) ∷ (3, v6) ∷ (4, v17) ∷ (5, v20) ∷ (6, h0) ∷ (7, h1) ∷ (8, h2) ∷ (9, v10) ∷ (10, v3) ∷ (11, v7) ∷ (12, v24) ∷ (13, v8) ∷ (14, v21) ∷ (15, v2) ∷ []
 
         abbrev g52 : List.List Row.Entry
-        g52 = List._∷_ e0 (List._∷_ e2 (List._∷_ e23 (List._∷_ e45 (List._∷_ e51 (List._∷_ e53 (List._∷_
-            (6, Relend.mslice-owed (Referent.rtF (Referent.fInt Syntax.w16)) (Syntax.tyRef (Syntax.named 1) Syntax.mut (Syntax.tyInt Syntax.w16)) 1 4 (Row.lease (κs .1 .0) (qs .1 .0))) (List._∷_
-            (7, PartMut.mslice-owedM (Referent.rtF (Referent.fInt Syntax.w16)) (Syntax.tyRef (Syntax.named 2) Syntax.mut (Syntax.tyInt Syntax.w16)) 2 5 (Row.lease (κs .1 .1 .0) (qs .1 .1 .0))) (List._∷_
-            (8, PartMut.mslice-owedM (Element.type) (Syntax.tyRef (Syntax.named 3) Syntax.mut Element.behind) 3 6 (Row.lease (κs .1 .1 .1 .0) (qs .1 .1 .1 .0))) (List._∷_ e61 (List._∷_ e3 (List._∷_ e5
-            (List._∷_ e7 (List._∷_ e10 (List._∷_ e12 (List._∷_ e13 List.[])))))))))))))))
+        g52 = (0, v1) ∷ (1, v9) ∷ (2, v3) ∷ (3, v6) ∷ (4, v17) ∷ (5, v20) ∷ (6, h0) ∷ (7, h1) ∷ (8, h2) ∷ (9, v10) ∷ (10, v3) ∷ (11, v7) ∷ (12, v16) ∷ (13, v8) ∷ (14, v21) ∷ (15, v2) ∷ []
 
         abbrev g53 : List.List Row.Entry
-        g53 = List._∷_ e0 (List._∷_ e2 (List._∷_ e23 (List._∷_ e45 (List._∷_ e51 (List._∷_ e53 (List._∷_ e55 (List._∷_
-            (7, PartMut.mslice-owedM (Referent.rtF (Referent.fInt Syntax.w16)) (Syntax.tyRef (Syntax.named 2) Syntax.mut (Syntax.tyInt Syntax.w16)) 2 5 (Row.lease (κs .1 .1 .0) (qs .1 .1 .0))) (List._∷_
-            (8, PartMut.mslice-owedM (Element.type) (Syntax.tyRef (Syntax.named 3) Syntax.mut Element.behind) 3 6 (Row.lease (κs .1 .1 .1 .0) (qs .1 .1 .1 .0))) (List._∷_ e61 (List._∷_ e3 (List._∷_ e5
-            (List._∷_ e7 (List._∷_ e10 (List._∷_ e12 (List._∷_ e13 List.[])))))))))))))))
+        g53 = (0, v1) ∷ (1, v9) ∷ (2, v3) ∷ (3, v6) ∷ (4, v17) ∷ (5, v20) ∷ (6, v13) ∷ (7, h1) ∷ (8, h2) ∷ (9, v10) ∷ (10, v3) ∷ (11, v7) ∷ (12, v16) ∷ (13, v8) ∷ (14, v21) ∷ (15, v2) ∷ []
 
         abbrev g55 : List.List Row.Entry
-        g55 = List._∷_ e0 (List._∷_ e2 (List._∷_ e23 (List._∷_ e45 (List._∷_ e51 (List._∷_ e53 (List._∷_ e55 (List._∷_ e57 (List._∷_
-            (8, PartMut.mslice-owedM (Element.type) (Syntax.tyRef (Syntax.named 3) Syntax.mut Element.behind) 3 6 (Row.lease (κs .1 .1 .1 .0) (qs .1 .1 .1 .0))) (List._∷_ e61 (List._∷_ e3 (List._∷_ e5
-            (List._∷_ e7 (List._∷_ e10 (List._∷_ e12 (List._∷_ e13 List.[])))))))))))))))
-
-        abbrev G0 : Row.Cx
-        G0 = record {
-          locals = List._++_ t0 t1;
-          slots = List._∷_ (Row.lease (κs .0) (qs .0)) (List._∷_ (Row.lease (κs .1 .0) (qs .1 .0)) (List._∷_ (Row.lease (κs .1 .1 .0) (qs .1 .1 .0)) (List._∷_ (Row.lease (κs
-              .1 .1 .1 .0) (qs .1 .1 .1 .0)) (List._∷_ Row.off (List._∷_ Row.off (List._∷_ Row.off List.[]))))));
-        }
-
-        abbrev G1 : Row.Cx
-        G1 = record {
-          locals = List._++_ t2 t1;
-          slots = List._∷_ (Row.lease (κs .0) (qs .0)) (List._∷_ (Row.lease (κs .1 .0) (qs .1 .0)) (List._∷_ (Row.lease (κs .1 .1 .0) (qs .1 .1 .0)) (List._∷_ (Row.lease (κs
-              .1 .1 .1 .0) (qs .1 .1 .1 .0)) (List._∷_ Row.off (List._∷_ Row.off (List._∷_ Row.off List.[]))))));
-        }
-
-        abbrev G2 : Row.Cx
-        G2 = record {
-          locals = List._++_ t0 t1;
-          slots = List._∷_ (Row.lease (κs .0) (qs .0)) (List._∷_ (Row.lease (κs .1 .0) (qs .1 .0)) (List._∷_ (Row.lease (κs .1 .1 .0) (qs .1 .1 .0)) (List._∷_ (Row.lease (κs
-              .1 .1 .1 .0) (qs .1 .1 .1 .0)) (List._∷_ Row.off (List._∷_ Row.off (List._∷_ Row.off List.[]))))));
-        }
-
-        abbrev G3 : Row.Cx
-        G3 = record {
-          locals = List._++_ t0 t1;
-          slots = List._∷_ (Row.lease (κs .0) (qs .0)) (List._∷_ (Row.lease (κs .1 .0) (qs .1 .0)) (List._∷_ (Row.lease (κs .1 .1 .0) (qs .1 .1 .0)) (List._∷_ (Row.lease (κs
-              .1 .1 .1 .0) (qs .1 .1 .1 .0)) (List._∷_ Row.off (List._∷_ Row.off (List._∷_ Row.off List.[]))))));
-        }
-
-        abbrev G4 : Row.Cx
-        G4 = record {
-          locals = List._++_ t0 t1;
-          slots = List._∷_ (Row.lease (κs .0) (qs .0)) (List._∷_ (Row.lease (κs .1 .0) (qs .1 .0)) (List._∷_ (Row.lease (κs .1 .1 .0) (qs .1 .1 .0)) (List._∷_ (Row.lease (κs
-              .1 .1 .1 .0) (qs .1 .1 .1 .0)) (List._∷_ Row.off (List._∷_ Row.off (List._∷_ Row.off List.[]))))));
-        }
-
-        abbrev G5 : Row.Cx
-        G5 = record {
-          locals = List._++_ t0 t3;
-          slots = List._∷_ (Row.lease (κs .0) (qs .0)) (List._∷_ (Row.lease (κs .1 .0) (qs .1 .0)) (List._∷_ (Row.lease (κs .1 .1 .0) (qs .1 .1 .0)) (List._∷_ (Row.lease (κs
-              .1 .1 .1 .0) (qs .1 .1 .1 .0)) (List._∷_ Row.off (List._∷_ Row.off (List._∷_ Row.off List.[]))))));
-        }
-
-        abbrev G6 : Row.Cx
-        G6 = record {
-          locals = List._++_ t0 t4;
-          slots = List._∷_ (Row.lease (κs .0) (qs .0)) (List._∷_ (Row.lease (κs .1 .0) (qs .1 .0)) (List._∷_ (Row.lease (κs .1 .1 .0) (qs .1 .1 .0)) (List._∷_ (Row.lease (κs
-              .1 .1 .1 .0) (qs .1 .1 .1 .0)) (List._∷_ Row.off (List._∷_ Row.off (List._∷_ Row.off List.[]))))));
-        }
-
-        abbrev G7 : Row.Cx
-        G7 = record {
-          locals = List._++_ t0 t5;
-          slots = List._∷_ (Row.lease (κs .0) (qs .0)) (List._∷_ (Row.lease (κs .1 .0) (qs .1 .0)) (List._∷_ (Row.lease (κs .1 .1 .0) (qs .1 .1 .0)) (List._∷_ (Row.lease (κs
-              .1 .1 .1 .0) (qs .1 .1 .1 .0)) (List._∷_ Row.off (List._∷_ Row.off (List._∷_ Row.off List.[]))))));
-        }
-
-        abbrev G8 : Row.Cx
-        G8 = record {
-          locals = List._++_ t6 t5;
-          slots = List._∷_ (Row.lease (κs .0) (qs .0)) (List._∷_ (Row.lease (κs .1 .0) (qs .1 .0)) (List._∷_ (Row.lease (κs .1 .1 .0) (qs .1 .1 .0)) (List._∷_ (Row.lease (κs
-              .1 .1 .1 .0) (qs .1 .1 .1 .0)) (List._∷_ Row.off (List._∷_ Row.off (List._∷_ Row.off List.[]))))));
-        }
-
-        abbrev G9 : Row.Cx
-        G9 = record {
-          locals = List._++_ t6 t7;
-          slots = List._∷_ (Row.lease (κs .0) (qs .0)) (List._∷_ (Row.lease (κs .1 .0) (qs .1 .0)) (List._∷_ (Row.lease (κs .1 .1 .0) (qs .1 .1 .0)) (List._∷_ (Row.lease (κs
-              .1 .1 .1 .0) (qs .1 .1 .1 .0)) (List._∷_ Row.off (List._∷_ Row.off (List._∷_ Row.off List.[]))))));
-        }
-
-        abbrev G10 : Row.Cx
-        G10 = record {
-          locals = List._++_ t6 t8;
-          slots = List._∷_ (Row.lease (κs .0) (qs .0)) (List._∷_ (Row.lease (κs .1 .0) (qs .1 .0)) (List._∷_ (Row.lease (κs .1 .1 .0) (qs .1 .1 .0)) (List._∷_ (Row.lease (κs
-              .1 .1 .1 .0) (qs .1 .1 .1 .0)) (List._∷_ Row.off (List._∷_ Row.off (List._∷_ Row.off List.[]))))));
-        }
-
-        abbrev G11 : Row.Cx
-        G11 = record {
-          locals = List._++_ t6 t1;
-          slots = List._∷_ (Row.lease (κs .0) (qs .0)) (List._∷_ (Row.lease (κs .1 .0) (qs .1 .0)) (List._∷_ (Row.lease (κs .1 .1 .0) (qs .1 .1 .0)) (List._∷_ (Row.lease (κs
-              .1 .1 .1 .0) (qs .1 .1 .1 .0)) (List._∷_ Row.off (List._∷_ Row.off (List._∷_ Row.off List.[]))))));
-        }
-
-        abbrev G12 : Row.Cx
-        G12 = record {
-          locals = List._++_ t9 t1;
-          slots = List._∷_ (Row.lease (κs .0) (qs .0)) (List._∷_ (Row.lease (κs .1 .0) (qs .1 .0)) (List._∷_ (Row.lease (κs .1 .1 .0) (qs .1 .1 .0)) (List._∷_ (Row.lease (κs
-              .1 .1 .1 .0) (qs .1 .1 .1 .0)) (List._∷_ Row.off (List._∷_ Row.off (List._∷_ Row.off List.[]))))));
-        }
-
-        abbrev G13 : Row.Cx
-        G13 = record {
-          locals = List._++_ t10 t11;
-          slots = List._∷_ (Row.lease (κs .0) (qs .0)) (List._∷_ (Row.lease (κs .1 .0) (qs .1 .0)) (List._∷_ (Row.lease (κs .1 .1 .0) (qs .1 .1 .0)) (List._∷_ (Row.lease
-              (κs .1 .1 .1 .0) (qs .1 .1 .1 .0)) (List._∷_ Row.off (List._∷_ Row.off (List._∷_ Row.off List.[]))))));
-        }
-
-        abbrev G14 : Row.Cx
-        G14 = record {
-          locals = List._++_ t12 t1;
-          slots = List._∷_ (Row.lease (κs .0) (qs .0)) (List._∷_ (Row.lease (κs .1 .0) (qs .1 .0)) (List._∷_ (Row.lease (κs .1 .1 .0) (qs .1 .1 .0)) (List._∷_ (Row.lease (κs
-              .1 .1 .1 .0) (qs .1 .1 .1 .0)) (List._∷_ Row.off (List._∷_ Row.off (List._∷_ Row.off List.[]))))));
-        }
-
-        abbrev G15 : Row.Cx
-        G15 = record {
-          locals = List._++_ t13 t1;
-          slots = List._∷_ (Row.lease (κs .0) (qs .0)) (List._∷_ (Row.lease (κs .1 .0) (qs .1 .0)) (List._∷_ (Row.lease (κs .1 .1 .0) (qs .1 .1 .0)) (List._∷_ (Row.lease (κs
-              .1 .1 .1 .0) (qs .1 .1 .1 .0)) (List._∷_ Row.off (List._∷_ Row.off (List._∷_ Row.off List.[]))))));
-        }
-
-        abbrev G16 : Row.Cx
-        G16 = record {
-          locals = List._++_ t13 t1;
-          slots = List._∷_ (Row.lease (κs .0) (qs .0)) (List._∷_ (Row.lease (κs .1 .0) (qs .1 .0)) (List._∷_ (Row.lease (κs .1 .1 .0) (qs .1 .1 .0)) (List._∷_ (Row.lease (κs
-              .1 .1 .1 .0) (qs .1 .1 .1 .0)) (List._∷_ Row.off (List._∷_ Row.off (List._∷_ Row.off List.[]))))));
-        }
-
-        abbrev G17 : Row.Cx
-        G17 = record {
-          locals = List._++_ t14 t1;
-          slots = List._∷_ (Row.lease (κs .0) (qs .0)) (List._∷_ (Row.lease (κs .1 .0) (qs .1 .0)) (List._∷_ (Row.lease (κs .1 .1 .0) (qs .1 .1 .0)) (List._∷_ (Row.lease (κs
-              .1 .1 .1 .0) (qs .1 .1 .1 .0)) (List._∷_ Row.off (List._∷_ Row.off (List._∷_ Row.off List.[]))))));
-        }
-
-        abbrev G18 : Row.Cx
-        G18 = record {
-          locals = List._++_ t15 t1;
-          slots = List._∷_ (Row.lease (κs .0) (qs .0)) (List._∷_ (Row.lease (κs .1 .0) (qs .1 .0)) (List._∷_ (Row.lease (κs .1 .1 .0) (qs .1 .1 .0)) (List._∷_ (Row.lease (κs
-              .1 .1 .1 .0) (qs .1 .1 .1 .0)) (List._∷_ Row.off (List._∷_ Row.off (List._∷_ Row.off List.[]))))));
-        }
-
-        abbrev G19 : Row.Cx
-        G19 = record {
-          locals = List._++_ t16 t1;
-          slots = List._∷_ (Row.lease (κs .0) (qs .0)) (List._∷_ (Row.lease (κs .1 .0) (qs .1 .0)) (List._∷_ (Row.lease (κs .1 .1 .0) (qs .1 .1 .0)) (List._∷_ (Row.lease (κs
-              .1 .1 .1 .0) (qs .1 .1 .1 .0)) (List._∷_ Row.off (List._∷_ Row.off (List._∷_ Row.off List.[]))))));
-        }
-
-        abbrev G20 : Row.Cx
-        G20 = record {
-          locals = List._++_ t17 t1;
-          slots = List._∷_ (Row.lease (κs .0) (qs .0)) (List._∷_ (Row.lease (κs .1 .0) (qs .1 .0)) (List._∷_ (Row.lease (κs .1 .1 .0) (qs .1 .1 .0)) (List._∷_ (Row.lease (κs
-              .1 .1 .1 .0) (qs .1 .1 .1 .0)) (List._∷_ Row.off (List._∷_ Row.off (List._∷_ Row.off List.[]))))));
-        }
-
-        abbrev G21 : Row.Cx
-        G21 = record {
-          locals = List._++_ t17 t18;
-          slots = List._∷_ (Row.lease (κs .0) (qs .0)) (List._∷_ (Row.lease (κs .1 .0) (qs .1 .0)) (List._∷_ (Row.lease (κs .1 .1 .0) (qs .1 .1 .0)) (List._∷_ (Row.lease
-              (κs .1 .1 .1 .0) (qs .1 .1 .1 .0)) (List._∷_ Row.off (List._∷_ Row.off (List._∷_ Row.off List.[]))))));
-        }
-
-        abbrev G22 : Row.Cx
-        G22 = record {
-          locals = List._++_ t19 t18;
-          slots = List._∷_ (Row.lease (κs .0) (qs .0)) (List._∷_ (Row.lease (κs .1 .0) (qs .1 .0)) (List._∷_ (Row.lease (κs .1 .1 .0) (qs .1 .1 .0)) (List._∷_ (Row.lease
-              (κs .1 .1 .1 .0) (qs .1 .1 .1 .0)) (List._∷_ Row.off (List._∷_ Row.off (List._∷_ Row.off List.[]))))));
-        }
-
-        abbrev G23 : Row.Cx
-        G23 = record {
-          locals = List._++_ t19 t20;
-          slots = List._∷_ (Row.lease (κs .0) (qs .0)) (List._∷_ (Row.lease (κs .1 .0) (qs .1 .0)) (List._∷_ (Row.lease (κs .1 .1 .0) (qs .1 .1 .0)) (List._∷_ (Row.lease
-              (κs .1 .1 .1 .0) (qs .1 .1 .1 .0)) (List._∷_ Row.off (List._∷_ Row.off (List._∷_ Row.off List.[]))))));
-        }
-
-        abbrev G24 : Row.Cx
-        G24 = record {
-          locals = List._++_ t21 t20;
-          slots = List._∷_ (Row.lease (κs .0) (qs .0)) (List._∷_ (Row.lease (κs .1 .0) (qs .1 .0)) (List._∷_ (Row.lease (κs .1 .1 .0) (qs .1 .1 .0)) (List._∷_ (Row.lease
-              (κs .1 .1 .1 .0) (qs .1 .1 .1 .0)) (List._∷_ Row.off (List._∷_ Row.off (List._∷_ Row.off List.[]))))));
-        }
-
-        abbrev G25 : Row.Cx
-        G25 = record {
-          locals = List._++_ t10 t20;
-          slots = List._∷_ (Row.lease (κs .0) (qs .0)) (List._∷_ (Row.lease (κs .1 .0) (qs .1 .0)) (List._∷_ (Row.lease (κs .1 .1 .0) (qs .1 .1 .0)) (List._∷_ (Row.lease
-              (κs .1 .1 .1 .0) (qs .1 .1 .1 .0)) (List._∷_ Row.off (List._∷_ Row.off (List._∷_ Row.off List.[]))))));
-        }
-
-        abbrev G26 : Row.Cx
-        G26 = record {
-          locals = List._++_ t10 t11;
-          slots = List._∷_ (Row.lease (κs .0) (qs .0)) (List._∷_ (Row.lease (κs .1 .0) (qs .1 .0)) (List._∷_ (Row.lease (κs .1 .1 .0) (qs .1 .1 .0)) (List._∷_ (Row.lease
-              (κs .1 .1 .1 .0) (qs .1 .1 .1 .0)) (List._∷_ Row.off (List._∷_ Row.off (List._∷_ Row.off List.[]))))));
-        }
-
-        abbrev G27 : Row.Cx
-        G27 = record {
-          locals = List._++_ t12 t1;
-          slots = List._∷_ (Row.lease (κs .0) (qs .0)) (List._∷_ (Row.lease (κs .1 .0) (qs .1 .0)) (List._∷_ (Row.lease (κs .1 .1 .0) (qs .1 .1 .0)) (List._∷_ (Row.lease (κs
-              .1 .1 .1 .0) (qs .1 .1 .1 .0)) (List._∷_ Row.off (List._∷_ Row.off (List._∷_ Row.off List.[]))))));
-        }
-
-        abbrev G28 : Row.Cx
-        G28 = record {
-          locals = List._++_ t22 t1;
-          slots = List._∷_ (Row.lease (κs .0) (qs .0)) (List._∷_ (Row.lease (κs .1 .0) (qs .1 .0)) (List._∷_ (Row.lease (κs .1 .1 .0) (qs .1 .1 .0)) (List._∷_ (Row.lease (κs
-              .1 .1 .1 .0) (qs .1 .1 .1 .0)) (List._∷_ Row.off (List._∷_ Row.off (List._∷_ Row.off List.[]))))));
-        }
-
-        abbrev G29 : Row.Cx
-        G29 = record {
-          locals = List._++_ t23 t1;
-          slots = List._∷_ (Row.lease (κs .0) (qs .0)) (List._∷_ (Row.lease (κs .1 .0) (qs .1 .0)) (List._∷_ (Row.lease (κs .1 .1 .0) (qs .1 .1 .0)) (List._∷_ (Row.lease (κs
-              .1 .1 .1 .0) (qs .1 .1 .1 .0)) (List._∷_ Row.off (List._∷_ Row.off (List._∷_ Row.off List.[]))))));
-        }
-
-        abbrev G30 : Row.Cx
-        G30 = record {
-          locals = List._++_ t19 t1;
-          slots = List._∷_ (Row.lease (κs .0) (qs .0)) (List._∷_ (Row.lease (κs .1 .0) (qs .1 .0)) (List._∷_ (Row.lease (κs .1 .1 .0) (qs .1 .1 .0)) (List._∷_ (Row.lease (κs
-              .1 .1 .1 .0) (qs .1 .1 .1 .0)) (List._∷_ Row.off (List._∷_ Row.off (List._∷_ Row.off List.[]))))));
-        }
-
-        abbrev G31 : Row.Cx
-        G31 = record {
-          locals = List._++_ t19 t24;
-          slots = List._∷_ (Row.lease (κs .0) (qs .0)) (List._∷_ (Row.lease (κs .1 .0) (qs .1 .0)) (List._∷_ (Row.lease (κs .1 .1 .0) (qs .1 .1 .0)) (List._∷_ (Row.lease
-              (κs .1 .1 .1 .0) (qs .1 .1 .1 .0)) (List._∷_ Row.off (List._∷_ Row.off (List._∷_ Row.off List.[]))))));
-        }
-
-        abbrev G32 : Row.Cx
-        G32 = record {
-          locals = List._++_ t19 t25;
-          slots = List._∷_ (Row.lease (κs .0) (qs .0)) (List._∷_ (Row.lease (κs .1 .0) (qs .1 .0)) (List._∷_ (Row.lease (κs .1 .1 .0) (qs .1 .1 .0)) (List._∷_ (Row.lease
-              (κs .1 .1 .1 .0) (qs .1 .1 .1 .0)) (List._∷_ Row.off (List._∷_ Row.off (List._∷_ Row.off List.[]))))));
-        }
-
-        abbrev G33 : Row.Cx
-        G33 = record {
-          locals = List._++_ t21 t25;
-          slots = List._∷_ (Row.lease (κs .0) (qs .0)) (List._∷_ (Row.lease (κs .1 .0) (qs .1 .0)) (List._∷_ (Row.lease (κs .1 .1 .0) (qs .1 .1 .0)) (List._∷_ (Row.lease
-              (κs .1 .1 .1 .0) (qs .1 .1 .1 .0)) (List._∷_ Row.off (List._∷_ Row.off (List._∷_ Row.off List.[]))))));
-        }
-
-        abbrev G34 : Row.Cx
-        G34 = record {
-          locals = List._++_ t10 t25;
-          slots = List._∷_ (Row.lease (κs .0) (qs .0)) (List._∷_ (Row.lease (κs .1 .0) (qs .1 .0)) (List._∷_ (Row.lease (κs .1 .1 .0) (qs .1 .1 .0)) (List._∷_ (Row.lease
-              (κs .1 .1 .1 .0) (qs .1 .1 .1 .0)) (List._∷_ Row.off (List._∷_ Row.off (List._∷_ Row.off List.[]))))));
-        }
-
-        abbrev G35 : Row.Cx
-        G35 = record {
-          locals = List._++_ t10 t11;
-          slots = List._∷_ (Row.lease (κs .0) (qs .0)) (List._∷_ (Row.lease (κs .1 .0) (qs .1 .0)) (List._∷_ (Row.lease (κs .1 .1 .0) (qs .1 .1 .0)) (List._∷_ (Row.lease
-              (κs .1 .1 .1 .0) (qs .1 .1 .1 .0)) (List._∷_ Row.off (List._∷_ Row.off (List._∷_ Row.off List.[]))))));
-        }
-
-        abbrev G36 : Row.Cx
-        G36 = record {
-          locals = List._++_ t26 t1;
-          slots = List._∷_ (Row.lease (κs .0) (qs .0)) (List._∷_ (Row.lease (κs .1 .0) (qs .1 .0)) (List._∷_ (Row.lease (κs .1 .1 .0) (qs .1 .1 .0)) (List._∷_ (Row.lease (κs
-              .1 .1 .1 .0) (qs .1 .1 .1 .0)) (List._∷_ Row.off (List._∷_ Row.off (List._∷_ Row.off List.[]))))));
-        }
-
-        abbrev G37 : Row.Cx
-        G37 = record {
-          locals = List._++_ t26 t1;
-          slots = List._∷_ (Row.lease (κs .0) (qs .0)) (List._∷_ (Row.lease (κs .1 .0) (qs .1 .0)) (List._∷_ (Row.lease (κs .1 .1 .0) (qs .1 .1 .0)) (List._∷_ (Row.lease (κs
-              .1 .1 .1 .0) (qs .1 .1 .1 .0)) (List._∷_ Row.off (List._∷_ Row.off (List._∷_ Row.off List.[]))))));
-        }
-
-        abbrev G38 : Row.Cx
-        G38 = record {
-          locals = List._++_ t27 t1;
-          slots = List._∷_ (Row.lease (κs .0) (qs .0)) (List._∷_ (Row.lease (κs .1 .0) (qs .1 .0)) (List._∷_ (Row.lease (κs .1 .1 .0) (qs .1 .1 .0)) (List._∷_ (Row.lease (κs
-              .1 .1 .1 .0) (qs .1 .1 .1 .0)) (List._∷_ Row.off (List._∷_ Row.off (List._∷_ Row.off List.[]))))));
-        }
-
-        abbrev G39 : Row.Cx
-        G39 = record {
-          locals = List._++_ t28 t1;
-          slots = List._∷_ (Row.lease (κs .0) (qs .0)) (List._∷_ (Row.lease (κs .1 .0) (qs .1 .0)) (List._∷_ (Row.lease (κs .1 .1 .0) (qs .1 .1 .0)) (List._∷_ (Row.lease (κs
-              .1 .1 .1 .0) (qs .1 .1 .1 .0)) (List._∷_ Row.off (List._∷_ Row.off (List._∷_ Row.off List.[]))))));
-        }
-
-        abbrev G40 : Row.Cx
-        G40 = record {
-          locals = List._++_ t29 t1;
-          slots = List._∷_ (Row.lease (κs .0) (qs .0)) (List._∷_ (Row.lease (κs .1 .0) (qs .1 .0)) (List._∷_ (Row.lease (κs .1 .1 .0) (qs .1 .1 .0)) (List._∷_ (Row.lease (κs
-              .1 .1 .1 .0) (qs .1 .1 .1 .0)) (List._∷_ Row.off (List._∷_ Row.off (List._∷_ Row.off List.[]))))));
-        }
+        g55 = (0, v1) ∷ (1, v9) ∷ (2, v3) ∷ (3, v6) ∷ (4, v17) ∷ (5, v20) ∷ (6, v13) ∷ (7, v14) ∷ (8, h2) ∷ (9, v10) ∷ (10, v3) ∷ (11, v7) ∷ (12, v16) ∷ (13, v8) ∷ (14, v21) ∷ (15, v2) ∷ []
 
         abbrev G41 : Row.Cx
-        G41 = record {
-          locals = List._++_ t29 t1;
-          slots = List._∷_ (Row.lease (κs .0) (qs .0)) (List._∷_ (Row.lease (κs .1 .0) (qs .1 .0)) (List._∷_ (Row.lease (κs .1 .1 .0) (qs .1 .1 .0)) (List._∷_ (Row.lease (κs
-              .1 .1 .1 .0) (qs .1 .1 .1 .0)) (List._∷_ Row.alive (List._∷_ Row.off (List._∷_ Row.off List.[]))))));
-        }
+        G41 = record { locals = List._++_ t29 t1; slots = k0 ∷ k1 ∷ k2 ∷ k3 ∷ Row.alive ∷ Row.off ∷ Row.off ∷ [] }
 
         abbrev G42 : Row.Cx
-        G42 = record {
-          locals = List._++_ g30 t31;
-          slots = List._∷_ (Row.lease (κs .0) (qs .0)) (List._∷_ Row.off (List._∷_ (Row.lease (κs .1 .1 .0) (qs .1 .1 .0)) (List._∷_ (Row.lease (κs .1 .1 .1 .0) (qs .1 .1
-              .1 .0)) (List._∷_ Row.alive (List._∷_ Row.off (List._∷_ Row.off List.[]))))));
-        }
+        G42 = record { locals = List._++_ g30 t31; slots = l2 }
 
         abbrev G43 : Row.Cx
-        G43 = record {
-          locals = List._++_ g30 t32;
-          slots = List._∷_ (Row.lease (κs .0) (qs .0)) (List._∷_ Row.off (List._∷_ (Row.lease (κs .1 .1 .0) (qs .1 .1 .0)) (List._∷_ (Row.lease (κs .1 .1 .1 .0) (qs .1 .1
-              .1 .0)) (List._∷_ Row.alive (List._∷_ Row.off (List._∷_ Row.off List.[]))))));
-        }
+        G43 = record { locals = List._++_ g30 t32; slots = l2 }
 
         abbrev G44 : Row.Cx
-        G44 = record {
-          locals = List._++_ g30 t33;
-          slots = List._∷_ (Row.lease (κs .0) (qs .0)) (List._∷_ Row.off (List._∷_ (Row.lease (κs .1 .1 .0) (qs .1 .1 .0)) (List._∷_ (Row.lease (κs .1 .1 .1 .0) (qs .1 .1
-              .1 .0)) (List._∷_ Row.alive (List._∷_ Row.off (List._∷_ Row.off List.[]))))));
-        }
+        G44 = record { locals = List._++_ g30 t33; slots = l2 }
 
         abbrev G45 : Row.Cx
-        G45 = record {
-          locals = List._++_ g30 t34;
-          slots = List._∷_ (Row.lease (κs .0) (qs .0)) (List._∷_ Row.off (List._∷_ (Row.lease (κs .1 .1 .0) (qs .1 .1 .0)) (List._∷_ (Row.lease (κs .1 .1 .1 .0) (qs .1 .1
-              .1 .0)) (List._∷_ Row.alive (List._∷_ Row.off (List._∷_ Row.off List.[]))))));
-        }
+        G45 = record { locals = List._++_ g30 t34; slots = l2 }
 
         abbrev G46 : Row.Cx
-        G46 = record {
-          locals = List._++_ g30 t34;
-          slots = List._∷_ (Row.lease (κs .0) (qs .0)) (List._∷_ Row.off (List._∷_ (Row.lease (κs .1 .1 .0) (qs .1 .1 .0)) (List._∷_ (Row.lease (κs .1 .1 .1 .0) (qs .1 .1
-              .1 .0)) (List._∷_ Row.alive (List._∷_ Row.alive (List._∷_ Row.off List.[]))))));
-        }
+        G46 = record { locals = List._++_ g30 t34; slots = k0 ∷ Row.off ∷ k2 ∷ k3 ∷ Row.alive ∷ Row.alive ∷ Row.off ∷ [] }
 
         abbrev G47 : Row.Cx
-        G47 = record {
-          locals = List._++_ g35 t36;
-          slots = List._∷_ (Row.lease (κs .0) (qs .0)) (List._∷_ Row.off (List._∷_ Row.off (List._∷_ (Row.lease (κs .1 .1 .1 .0) (qs .1 .1 .1 .0)) (List._∷_ Row.alive
-              (List._∷_ Row.alive (List._∷_ Row.off List.[]))))));
-        }
+        G47 = record { locals = List._++_ g35 t36; slots = l1 }
 
         abbrev G48 : Row.Cx
-        G48 = record {
-          locals = List._++_ g35 t37;
-          slots = List._∷_ (Row.lease (κs .0) (qs .0)) (List._∷_ Row.off (List._∷_ Row.off (List._∷_ (Row.lease (κs .1 .1 .1 .0) (qs .1 .1 .1 .0)) (List._∷_ Row.alive
-              (List._∷_ Row.alive (List._∷_ Row.off List.[]))))));
-        }
+        G48 = record { locals = List._++_ g35 t37; slots = l1 }
 
         abbrev G49 : Row.Cx
-        G49 = record {
-          locals = List._++_ g35 t38;
-          slots = List._∷_ (Row.lease (κs .0) (qs .0)) (List._∷_ Row.off (List._∷_ Row.off (List._∷_ (Row.lease (κs .1 .1 .1 .0) (qs .1 .1 .1 .0)) (List._∷_ Row.alive
-              (List._∷_ Row.alive (List._∷_ Row.off List.[]))))));
-        }
+        G49 = record { locals = List._++_ g35 t38; slots = l1 }
 
         abbrev G50 : Row.Cx
-        G50 = record {
-          locals = List._++_ g35 t39;
-          slots = List._∷_ (Row.lease (κs .0) (qs .0)) (List._∷_ Row.off (List._∷_ Row.off (List._∷_ (Row.lease (κs .1 .1 .1 .0) (qs .1 .1 .1 .0)) (List._∷_ Row.alive
-              (List._∷_ Row.alive (List._∷_ Row.off List.[]))))));
-        }
+        G50 = record { locals = List._++_ g35 t39; slots = l1 }
 
         abbrev G51 : Row.Cx
-        G51 = record {
-          locals = List._++_ g35 t40;
-          slots = List._∷_ (Row.lease (κs .0) (qs .0)) (List._∷_ Row.off (List._∷_ Row.off (List._∷_ (Row.lease (κs .1 .1 .1 .0) (qs .1 .1 .1 .0)) (List._∷_ Row.alive
-              (List._∷_ Row.alive (List._∷_ Row.off List.[]))))));
-        }
+        G51 = record { locals = List._++_ g35 t40; slots = l1 }
 
         abbrev G52 : Row.Cx
-        G52 = record {
-          locals = List._++_ g35 t41;
-          slots = List._∷_ (Row.lease (κs .0) (qs .0)) (List._∷_ Row.off (List._∷_ Row.off (List._∷_ (Row.lease (κs .1 .1 .1 .0) (qs .1 .1 .1 .0)) (List._∷_ Row.alive
-              (List._∷_ Row.alive (List._∷_ Row.off List.[]))))));
-        }
+        G52 = record { locals = List._++_ g35 t41; slots = l1 }
 
         abbrev G53 : Row.Cx
-        G53 = record {
-          locals = List._++_ g35 t41;
-          slots = List._∷_ (Row.lease (κs .0) (qs .0)) (List._∷_ Row.off (List._∷_ Row.off (List._∷_ (Row.lease (κs .1 .1 .1 .0) (qs .1 .1 .1 .0)) (List._∷_ Row.alive
-              (List._∷_ Row.alive (List._∷_ Row.alive List.[]))))));
-        }
+        G53 = record { locals = List._++_ g35 t41; slots = k0 ∷ Row.off ∷ Row.off ∷ k3 ∷ Row.alive ∷ Row.alive ∷ Row.alive ∷ [] }
 
         abbrev G54 : Row.Cx
-        G54 = record {
-          locals = List._++_ g42 t43;
-          slots = List._∷_ (Row.lease (κs .0) (qs .0)) (List._∷_ Row.off (List._∷_ Row.off (List._∷_ Row.off (List._∷_ Row.alive (List._∷_ Row.alive (List._∷_ Row.alive
-              List.[]))))));
-        }
+        G54 = record { locals = List._++_ g42 t43; slots = l0 }
 
         abbrev G55 : Row.Cx
-        G55 = record {
-          locals = List._++_ g42 t44;
-          slots = List._∷_ (Row.lease (κs .0) (qs .0)) (List._∷_ Row.off (List._∷_ Row.off (List._∷_ Row.off (List._∷_ Row.alive (List._∷_ Row.alive (List._∷_ Row.alive
-              List.[]))))));
-        }
+        G55 = record { locals = List._++_ g42 t44; slots = l0 }
 
         abbrev G56 : Row.Cx
-        G56 = record {
-          locals = List._++_ g42 t45;
-          slots = List._∷_ (Row.lease (κs .0) (qs .0)) (List._∷_ Row.off (List._∷_ Row.off (List._∷_ Row.off (List._∷_ Row.alive (List._∷_ Row.alive (List._∷_ Row.alive
-              List.[]))))));
-        }
+        G56 = record { locals = List._++_ g42 t45; slots = l0 }
 
         abbrev G57 : Row.Cx
-        G57 = record {
-          locals = List._++_ g42 t46;
-          slots = List._∷_ (Row.lease (κs .0) (qs .0)) (List._∷_ Row.off (List._∷_ Row.off (List._∷_ Row.off (List._∷_ Row.alive (List._∷_ Row.alive (List._∷_ Row.alive
-              List.[]))))));
-        }
+        G57 = record { locals = List._++_ g42 t46; slots = l0 }
 
         abbrev G58 : Row.Cx
-        G58 = record {
-          locals = List._++_ g47 t48;
-          slots = List._∷_ (Row.lease (κs .0) (qs .0)) (List._∷_ Row.off (List._∷_ Row.off (List._∷_ Row.off (List._∷_ Row.alive (List._∷_ Row.alive (List._∷_ Row.alive
-              List.[]))))));
-        }
+        G58 = record { locals = List._++_ g47 t48; slots = l0 }
 
         abbrev G59 : Row.Cx
-        G59 = record {
-          locals = List._++_ g49 t48;
-          slots = List._∷_ (Row.lease (κs .0) (qs .0)) (List._∷_ Row.off (List._∷_ Row.off (List._∷_ Row.off (List._∷_ Row.alive (List._∷_ Row.alive (List._∷_ Row.alive
-              List.[]))))));
-        }
+        G59 = record { locals = List._++_ g49 t48; slots = l0 }
 
         abbrev G60 : Row.Cx
-        G60 = record {
-          locals = List._++_ g50 t48;
-          slots = List._∷_ (Row.lease (κs .0) (qs .0)) (List._∷_ Row.off (List._∷_ Row.off (List._∷_ Row.off (List._∷_ Row.alive (List._∷_ Row.alive (List._∷_ Row.alive
-              List.[]))))));
-        }
+        G60 = record { locals = List._++_ g50 t48; slots = l0 }
 
         abbrev G61 : Row.Cx
-        G61 = record {
-          locals = List._++_ g51 t48;
-          slots = List._∷_ (Row.lease (κs .0) (qs .0)) (List._∷_ Row.off (List._∷_ Row.off (List._∷_ Row.off (List._∷_ Row.alive (List._∷_ Row.alive (List._∷_ Row.alive
-              List.[]))))));
-        }
+        G61 = record { locals = List._++_ g51 t48; slots = l0 }
 
         abbrev G62 : Row.Cx
-        G62 = record {
-          locals = List._++_ g52 t48;
-          slots = List._∷_ (Row.lease (κs .0) (qs .0)) (List._∷_ Row.off (List._∷_ Row.off (List._∷_ Row.off (List._∷_ Row.alive (List._∷_ Row.alive (List._∷_ Row.alive
-              List.[]))))));
-        }
+        G62 = record { locals = List._++_ g52 t48; slots = l0 }
 
         abbrev G63 : Row.Cx
-        G63 = record {
-          locals = List._++_ g52 t48;
-          slots = List._∷_ (Row.lease (κs .0) (qs .0)) (List._∷_ Row.off (List._∷_ Row.off (List._∷_ Row.off (List._∷_ Row.dead (List._∷_ Row.alive (List._∷_ Row.alive
-              List.[]))))));
-        }
+        G63 = record { locals = List._++_ g52 t48; slots = k0 ∷ Row.off ∷ Row.off ∷ Row.off ∷ Row.dead ∷ Row.alive ∷ Row.alive ∷ [] }
 
         abbrev G64 : Row.Cx
-        G64 = record {
-          locals = List._++_ g53 t54;
-          slots = List._∷_ (Row.lease (κs .0) (qs .0)) (List._∷_ (Row.lease (κs .1 .0) (qs .1 .0)) (List._∷_ Row.off (List._∷_ Row.off (List._∷_ Row.dead (List._∷_
-              Row.alive (List._∷_ Row.alive List.[]))))));
-        }
-
-        abbrev G65 : Row.Cx
-        G65 = record {
-          locals = List._++_ g53 t54;
-          slots = List._∷_ (Row.lease (κs .0) (qs .0)) (List._∷_ (Row.lease (κs .1 .0) (qs .1 .0)) (List._∷_ Row.off (List._∷_ Row.off (List._∷_ Row.dead (List._∷_
-              Row.alive (List._∷_ Row.alive List.[]))))));
-        }
+        G64 = record { locals = List._++_ g53 t54; slots = l3 }
 
         abbrev G66 : Row.Cx
-        G66 = record {
-          locals = List._++_ g53 t54;
-          slots = List._∷_ (Row.lease (κs .0) (qs .0)) (List._∷_ (Row.lease (κs .1 .0) (qs .1 .0)) (List._∷_ Row.off (List._∷_ Row.off (List._∷_ Row.off (List._∷_ Row.alive
-              (List._∷_ Row.alive List.[]))))));
-        }
+        G66 = record { locals = List._++_ g53 t54; slots = k0 ∷ k1 ∷ Row.off ∷ Row.off ∷ Row.off ∷ Row.alive ∷ Row.alive ∷ [] }
 
         abbrev G67 : Row.Cx
-        G67 = record {
-          locals = List._++_ g53 t54;
-          slots = List._∷_ (Row.lease (κs .0) (qs .0)) (List._∷_ (Row.lease (κs .1 .0) (qs .1 .0)) (List._∷_ Row.off (List._∷_ Row.off (List._∷_ Row.off (List._∷_ Row.dead
-              (List._∷_ Row.alive List.[]))))));
-        }
+        G67 = record { locals = List._++_ g53 t54; slots = k0 ∷ k1 ∷ Row.off ∷ Row.off ∷ Row.off ∷ Row.dead ∷ Row.alive ∷ [] }
 
         abbrev G68 : Row.Cx
-        G68 = record {
-          locals = List._++_ g55 t56;
-          slots = List._∷_ (Row.lease (κs .0) (qs .0)) (List._∷_ (Row.lease (κs .1 .0) (qs .1 .0)) (List._∷_ (Row.lease (κs .1 .1 .0) (qs .1 .1 .0)) (List._∷_ Row.off
-              (List._∷_ Row.off (List._∷_ Row.dead (List._∷_ Row.alive List.[]))))));
-        }
-
-        abbrev G69 : Row.Cx
-        G69 = record {
-          locals = List._++_ g55 t56;
-          slots = List._∷_ (Row.lease (κs .0) (qs .0)) (List._∷_ (Row.lease (κs .1 .0) (qs .1 .0)) (List._∷_ (Row.lease (κs .1 .1 .0) (qs .1 .1 .0)) (List._∷_ Row.off
-              (List._∷_ Row.off (List._∷_ Row.dead (List._∷_ Row.alive List.[]))))));
-        }
+        G68 = record { locals = List._++_ g55 t56; slots = l4 }
 
         abbrev G70 : Row.Cx
-        G70 = record {
-          locals = List._++_ g55 t56;
-          slots = List._∷_ (Row.lease (κs .0) (qs .0)) (List._∷_ (Row.lease (κs .1 .0) (qs .1 .0)) (List._∷_ (Row.lease (κs .1 .1 .0) (qs .1 .1 .0)) (List._∷_ Row.off
-              (List._∷_ Row.off (List._∷_ Row.off (List._∷_ Row.alive List.[]))))));
-        }
+        G70 = record { locals = List._++_ g55 t56; slots = k0 ∷ k1 ∷ k2 ∷ Row.off ∷ Row.off ∷ Row.off ∷ Row.alive ∷ [] }
 
         abbrev G71 : Row.Cx
-        G71 = record {
-          locals = List._++_ g55 t56;
-          slots = List._∷_ (Row.lease (κs .0) (qs .0)) (List._∷_ (Row.lease (κs .1 .0) (qs .1 .0)) (List._∷_ (Row.lease (κs .1 .1 .0) (qs .1 .1 .0)) (List._∷_ Row.off
-              (List._∷_ Row.off (List._∷_ Row.off (List._∷_ Row.dead List.[]))))));
-        }
+        G71 = record { locals = List._++_ g55 t56; slots = k0 ∷ k1 ∷ k2 ∷ Row.off ∷ Row.off ∷ Row.off ∷ Row.dead ∷ [] }
 
         abbrev G72 : Row.Cx
-        G72 = record {
-          locals = List._++_ t57 t1;
-          slots = List._∷_ (Row.lease (κs .0) (qs .0)) (List._∷_ (Row.lease (κs .1 .0) (qs .1 .0)) (List._∷_ (Row.lease (κs .1 .1 .0) (qs .1 .1 .0)) (List._∷_ (Row.lease (κs
-              .1 .1 .1 .0) (qs .1 .1 .1 .0)) (List._∷_ Row.off (List._∷_ Row.off (List._∷_ Row.dead List.[]))))));
-        }
-
-        abbrev G73 : Row.Cx
-        G73 = record {
-          locals = List._++_ t57 t1;
-          slots = List._∷_ (Row.lease (κs .0) (qs .0)) (List._∷_ (Row.lease (κs .1 .0) (qs .1 .0)) (List._∷_ (Row.lease (κs .1 .1 .0) (qs .1 .1 .0)) (List._∷_ (Row.lease (κs
-              .1 .1 .1 .0) (qs .1 .1 .1 .0)) (List._∷_ Row.off (List._∷_ Row.off (List._∷_ Row.off List.[]))))));
-        }
-
-        abbrev G74 : Row.Cx
-        G74 = record {
-          locals = List._++_ t58 t1;
-          slots = List._∷_ (Row.lease (κs .0) (qs .0)) (List._∷_ (Row.lease (κs .1 .0) (qs .1 .0)) (List._∷_ (Row.lease (κs .1 .1 .0) (qs .1 .1 .0)) (List._∷_ (Row.lease (κs
-              .1 .1 .1 .0) (qs .1 .1 .1 .0)) (List._∷_ Row.off (List._∷_ Row.off (List._∷_ Row.off List.[]))))));
-        }
-
-        abbrev G75 : Row.Cx
-        G75 = record {
-          locals = List._++_ t58 t11;
-          slots = List._∷_ (Row.lease (κs .0) (qs .0)) (List._∷_ (Row.lease (κs .1 .0) (qs .1 .0)) (List._∷_ (Row.lease (κs .1 .1 .0) (qs .1 .1 .0)) (List._∷_ (Row.lease
-              (κs .1 .1 .1 .0) (qs .1 .1 .1 .0)) (List._∷_ Row.off (List._∷_ Row.off (List._∷_ Row.off List.[]))))));
-        }
-
-        abbrev G76 : Row.Cx
-        G76 = record {
-          locals = List._++_ t59 t11;
-          slots = List._∷_ (Row.lease (κs .0) (qs .0)) (List._∷_ (Row.lease (κs .1 .0) (qs .1 .0)) (List._∷_ (Row.lease (κs .1 .1 .0) (qs .1 .1 .0)) (List._∷_ (Row.lease
-              (κs .1 .1 .1 .0) (qs .1 .1 .1 .0)) (List._∷_ Row.off (List._∷_ Row.off (List._∷_ Row.off List.[]))))));
-        }
-
-        abbrev G77 : Row.Cx
-        G77 = record {
-          locals = List._++_ t60 t11;
-          slots = List._∷_ (Row.lease (κs .0) (qs .0)) (List._∷_ (Row.lease (κs .1 .0) (qs .1 .0)) (List._∷_ (Row.lease (κs .1 .1 .0) (qs .1 .1 .0)) (List._∷_ (Row.lease
-              (κs .1 .1 .1 .0) (qs .1 .1 .1 .0)) (List._∷_ Row.off (List._∷_ Row.off (List._∷_ Row.off List.[]))))));
-        }
-
-        abbrev G78 : Row.Cx
-        G78 = record {
-          locals = List._++_ t61 t11;
-          slots = List._∷_ (Row.lease (κs .0) (qs .0)) (List._∷_ (Row.lease (κs .1 .0) (qs .1 .0)) (List._∷_ (Row.lease (κs .1 .1 .0) (qs .1 .1 .0)) (List._∷_ (Row.lease
-              (κs .1 .1 .1 .0) (qs .1 .1 .1 .0)) (List._∷_ Row.off (List._∷_ Row.off (List._∷_ Row.off List.[]))))));
-        }
-
-        abbrev G79 : Row.Cx
-        G79 = record {
-          locals = List._++_ t10 t11;
-          slots = List._∷_ (Row.lease (κs .0) (qs .0)) (List._∷_ (Row.lease (κs .1 .0) (qs .1 .0)) (List._∷_ (Row.lease (κs .1 .1 .0) (qs .1 .1 .0)) (List._∷_ (Row.lease
-              (κs .1 .1 .1 .0) (qs .1 .1 .1 .0)) (List._∷_ Row.off (List._∷_ Row.off (List._∷_ Row.off List.[]))))));
-        }
-
-        abbrev G80 : Row.Cx
-        G80 = record {
-          locals = List._++_ t2 t11;
-          slots = List._∷_ (Row.lease (κs .0) (qs .0)) (List._∷_ (Row.lease (κs .1 .0) (qs .1 .0)) (List._∷_ (Row.lease (κs .1 .1 .0) (qs .1 .1 .0)) (List._∷_ (Row.lease (κs
-              .1 .1 .1 .0) (qs .1 .1 .1 .0)) (List._∷_ Row.off (List._∷_ Row.off (List._∷_ Row.off List.[]))))));
-        }
-
-        abbrev G81 : Row.Cx
-        G81 = record {
-          locals = List._++_ t2 t1;
-          slots = List._∷_ (Row.lease (κs .0) (qs .0)) (List._∷_ (Row.lease (κs .1 .0) (qs .1 .0)) (List._∷_ (Row.lease (κs .1 .1 .0) (qs .1 .1 .0)) (List._∷_ (Row.lease (κs
-              .1 .1 .1 .0) (qs .1 .1 .1 .0)) (List._∷_ Row.off (List._∷_ Row.off (List._∷_ Row.off List.[]))))));
-        }
+        G72 = record { locals = List._++_ t57 t1; slots = k0 ∷ k1 ∷ k2 ∷ k3 ∷ Row.off ∷ Row.off ∷ Row.dead ∷ [] }
 
         abbrev Δ0 : Typed.Outs
-        Δ0 = record { next = Option.none; exits = List.[]; returns = Option.some G1 }
+        Δ0 = record { next = Option.none; exits = []; returns = Option.some (on T1 l5) }
 
         abbrev Δ1 : Typed.Outs
-        Δ1 = Typed.withNext (Option.some G13) Δ0
+        Δ1 = Typed.withNext (Option.some (on T13 l5)) Δ0
 
         module _ {M : Type 1} (𝓤 : URA.URA M) (H : Wp.Heap 𝓤) (A : Atoms.Atoms 𝓤) (W : Kit.Given 𝓤 H A) (𝓣 : Wp.Tables 𝓤 H) (known : Knowns 𝓤 H A W 𝓣) (bs : List.List Nat.ℕ) (bd : Lifetimes.AllOutlive
             4 (Kinds.osR r) κs) where
           abbrev E : Wp.Env 𝓤 H
-          E = Frame.EnvOf 𝓤 H (List._∷_ (Kinds.tyR r) (Enter.tysP ps xs)) bs
+          E = Frame.EnvOf 𝓤 H ((Kinds.tyR r) ∷ (Enter.tysP ps xs)) bs
 
-          d0 : Typed.Typed 𝓤 H A 𝓣 E G22 b7 Δ1 at0
-          d0 = Typed.s-typed 𝓤 H A W 𝓣 E G22 b7 Δ1 (λ Ψ. Typed.both s20 (Typed.pass T23 T24 s21 (Typed.pass T24 T25 s22 (Typed.pass T25 T26 s23 Ψ)))) tt (Typed.g-post 𝓤 H A W 𝓣 E G22 G25 G26 b7 (λ Ψ.
-              Typed.both s20 (Typed.pass T23 T24 s21 (Typed.pass T24 T25 s22 Ψ))) (Typed.pass T25 T26 s23) (Typed.g-post 𝓤 H A W 𝓣 E G22 G24 G25 b7 (λ Ψ. Typed.both s20 (Typed.pass T23 T24 s21 Ψ))
-              (Typed.pass T24 T25 s22) (Typed.g-post 𝓤 H A W 𝓣 E G22 G23 G24 b7 (Typed.both s20) (Typed.pass T23 T24 s21) (Plain.t-call-plain 𝓤 H A W 𝓣 0 ps·2 r·2 (claims· .4) (claims· .5)
-              "block::sharing::handed_back" (known .2) E (λ pos β. β) G22
-              (record { pos = 1; st = List.[]; d = 0; at = λ x. x }, (record { pos = 10; st = List.[]; d = 0; at = λ x. x }, (record { pos = 20; st = List.[]; d = 0; at = λ x. x }, tt))) 19 List.[]
-              (Call.sub-id 𝓤 H A W (G22 .slots)) (
-                (
-                  Yields.yields-copy 𝓤 H A W (λ ρ. Unit) (Declared.row Camera.the-type) Path'.refl (Copies.cEnum Camera.the-type Laws'3.the-laws Laws'3.the-copy .copy 𝓤 H A W) (Rows'.whole (Declared.row
-                      Camera.the-type)) (λ x. x) (λ x. x) (λ ρ told. Local.mem-whole 𝓤 H A W (Declared.row Camera.the-type) ρ) λ ρ told. Local.whole-mem 𝓤 H A W (Declared.row Camera.the-type) ρ,
-                  Path'.refl,
-                ),
-                (
-                  (
-                    Yields.yields-copy 𝓤 H A W (λ ρ. Unit) (Declared'.row Entries.the-type) Path'.refl (Copies.cStruct Entries.the-type Laws'4.the-laws Laws'4.the-copy .copy 𝓤 H A W) (Rows'.whole
-                        (Declared'.row Entries.the-type)) (λ x. x) (λ x. x) (λ ρ told. Local.mem-whole 𝓤 H A W (Declared'.row Entries.the-type) ρ) λ ρ told. Local.whole-mem 𝓤 H A W (Declared'.row Entries.the-type)
-                        ρ,
-                    Path'.refl,
-                  ),
-                  (
-                    (
-                      Yields.yields-copy 𝓤 H A W (λ ρ. Unit) (Declared.row Decoded.the-type) Path'.refl (Copies.cEnum Decoded.the-type Laws'.the-laws Laws'.the-copy .copy 𝓤 H A W) (Rows'.whole (Declared.row
-                          Decoded.the-type)) (λ x. x) (λ x. x) (λ ρ told. Local.mem-whole 𝓤 H A W (Declared.row Decoded.the-type) ρ) λ ρ told. Local.whole-mem 𝓤 H A W (Declared.row Decoded.the-type) ρ,
-                      Path'.refl,
-                    ),
-                    tt,
-                  ),
-                ),
-              ) (Reads'.room-gone 𝓤 H A y7) tt Path'.refl) (Scalar.g-room 𝓤 H A W E G23 1 (Syntax.tyEnum (List._∷_ 99 (List._∷_ 97 (List._∷_ 109 (List._∷_ 101 (List._∷_ 114 (List._∷_ 97 (List._∷_ 115
-              (List._∷_ 58 (List._∷_ 58 (List._∷_ 67 (List._∷_ 97 (List._∷_ 109 (List._∷_ 101 (List._∷_ 114 (List._∷_ 97 List.[]))))))))))))))) (Syntax.ttcons Syntax.tnil (Syntax.ttcons Syntax.tnil
-              Syntax.ttnil))) (Local.room-whole 𝓤 H A W (Declared.row Camera.the-type) (Syntax.tyEnum (List._∷_ 99 (List._∷_ 97 (List._∷_ 109 (List._∷_ 101 (List._∷_ 114 (List._∷_ 97 (List._∷_ 115
-              (List._∷_ 58 (List._∷_ 58 (List._∷_ 67 (List._∷_ 97 (List._∷_ 109 (List._∷_ 101 (List._∷_ 114 (List._∷_ 97 List.[]))))))))))))))) (Syntax.ttcons Syntax.tnil (Syntax.ttcons Syntax.tnil
-              Syntax.ttnil))) Path'.refl))) (Scalar.g-room 𝓤 H A W E G24 10 y6 (Local.room-whole 𝓤 H A W (Declared'.row Entries.the-type) y6 Path'.refl))) (Scalar.g-room 𝓤 H A W E G25 20 (Syntax.tyEnum
-              (List._∷_ 98 (List._∷_ 108 (List._∷_ 111 (List._∷_ 99 (List._∷_ 107 (List._∷_ 58 (List._∷_ 58 (List._∷_ 68 (List._∷_ 101 (List._∷_ 99 (List._∷_ 111 (List._∷_ 100 (List._∷_ 101 (List._∷_ 100
-              List.[])))))))))))))) (Syntax.ttcons Syntax.tnil (Syntax.ttcons (Syntax.tcons (Syntax.tyEnum (List._∷_ 115 (List._∷_ 116 (List._∷_ 114 (List._∷_ 101 (List._∷_ 97 (List._∷_ 109 (List._∷_ 58
-              (List._∷_ 58 (List._∷_ 82 (List._∷_ 101 (List._∷_ 102 (List._∷_ 117 (List._∷_ 115 (List._∷_ 97 (List._∷_ 108 List.[]))))))))))))))) (Syntax.ttcons Syntax.tnil (Syntax.ttcons Syntax.tnil
-              (Syntax.ttcons Syntax.tnil (Syntax.ttcons (Syntax.tcons (Syntax.tyInt Syntax.w64) Syntax.tnil) (Syntax.ttcons Syntax.tnil (Syntax.ttcons Syntax.tnil (Syntax.ttcons Syntax.tnil (Syntax.ttcons
-              Syntax.tnil (Syntax.ttcons Syntax.tnil (Syntax.ttcons Syntax.tnil (Syntax.ttcons (Syntax.tcons (Syntax.tyInt Syntax.w64) Syntax.tnil) (Syntax.ttcons (Syntax.tcons (Syntax.tyInt Syntax.w64)
-              Syntax.tnil) (Syntax.ttcons Syntax.tnil (Syntax.ttcons (Syntax.tcons (Syntax.tyInt Syntax.w64) (Syntax.tcons (Syntax.tyInt Syntax.w64) Syntax.tnil)) (Syntax.ttcons (Syntax.tcons
-              (Syntax.tyInt Syntax.w64) Syntax.tnil) (Syntax.ttcons Syntax.tnil (Syntax.ttcons Syntax.tnil (Syntax.ttcons (Syntax.tcons (Syntax.tyInt Syntax.w64) Syntax.tnil) (Syntax.ttcons (Syntax.tcons
-              (Syntax.tyInt Syntax.w64) Syntax.tnil) (Syntax.ttcons (Syntax.tcons (Syntax.tyInt Syntax.w64) Syntax.tnil) (Syntax.ttcons Syntax.tnil (Syntax.ttcons Syntax.tnil (Syntax.ttcons (Syntax.tcons
-              (Syntax.tyInt Syntax.w64) (Syntax.tcons (Syntax.tyInt Syntax.w64) Syntax.tnil)) (Syntax.ttcons Syntax.tnil Syntax.ttnil))))))))))))))))))))))))) Syntax.tnil) Syntax.ttnil)))
-              (Local.room-whole 𝓤 H A W (Declared.row Decoded.the-type) (Syntax.tyEnum (List._∷_ 98 (List._∷_ 108 (List._∷_ 111 (List._∷_ 99 (List._∷_ 107 (List._∷_ 58 (List._∷_ 58 (List._∷_ 68 (List._∷_
-              101 (List._∷_ 99 (List._∷_ 111 (List._∷_ 100 (List._∷_ 101 (List._∷_ 100 List.[])))))))))))))) (Syntax.ttcons Syntax.tnil (Syntax.ttcons (Syntax.tcons (Syntax.tyEnum (List._∷_ 115 (List._∷_
-              116 (List._∷_ 114 (List._∷_ 101 (List._∷_ 97 (List._∷_ 109 (List._∷_ 58 (List._∷_ 58 (List._∷_ 82 (List._∷_ 101 (List._∷_ 102 (List._∷_ 117 (List._∷_ 115 (List._∷_ 97 (List._∷_ 108
-              List.[]))))))))))))))) (Syntax.ttcons Syntax.tnil (Syntax.ttcons Syntax.tnil (Syntax.ttcons Syntax.tnil (Syntax.ttcons (Syntax.tcons (Syntax.tyInt Syntax.w64) Syntax.tnil) (Syntax.ttcons
-              Syntax.tnil (Syntax.ttcons Syntax.tnil (Syntax.ttcons Syntax.tnil (Syntax.ttcons Syntax.tnil (Syntax.ttcons Syntax.tnil (Syntax.ttcons Syntax.tnil (Syntax.ttcons (Syntax.tcons (Syntax.tyInt
-              Syntax.w64) Syntax.tnil) (Syntax.ttcons (Syntax.tcons (Syntax.tyInt Syntax.w64) Syntax.tnil) (Syntax.ttcons Syntax.tnil (Syntax.ttcons (Syntax.tcons (Syntax.tyInt Syntax.w64) (Syntax.tcons
-              (Syntax.tyInt Syntax.w64) Syntax.tnil)) (Syntax.ttcons (Syntax.tcons (Syntax.tyInt Syntax.w64) Syntax.tnil) (Syntax.ttcons Syntax.tnil (Syntax.ttcons Syntax.tnil (Syntax.ttcons (Syntax.tcons
-              (Syntax.tyInt Syntax.w64) Syntax.tnil) (Syntax.ttcons (Syntax.tcons (Syntax.tyInt Syntax.w64) Syntax.tnil) (Syntax.ttcons (Syntax.tcons (Syntax.tyInt Syntax.w64) Syntax.tnil) (Syntax.ttcons
-              Syntax.tnil (Syntax.ttcons Syntax.tnil (Syntax.ttcons (Syntax.tcons (Syntax.tyInt Syntax.w64) (Syntax.tcons (Syntax.tyInt Syntax.w64) Syntax.tnil)) (Syntax.ttcons Syntax.tnil
-              Syntax.ttnil))))))))))))))))))))))))) Syntax.tnil) Syntax.ttnil))) Path'.refl)))
+          d0 : Typed.Typed 𝓤 H A 𝓣 E (on T22 l5) b7 Δ1 at0
+          d0 = Typed.s-typed 𝓤 H A W 𝓣 E (on T22 l5) b7 Δ1 (λ Ψ. Typed.both s20 (Typed.pass T23 T24 s21 (Typed.pass T24 T25 s22 (Typed.pass T25 T13 s23 Ψ)))) tt (Typed.g-post 𝓤 H A W 𝓣 E (on T22 l5)
+              (on T25 l5) (on T13 l5) b7 (λ Ψ. Typed.both s20 (Typed.pass T23 T24 s21 (Typed.pass T24 T25 s22 Ψ))) (Typed.pass T25 T13 s23) (Typed.g-post 𝓤 H A W 𝓣 E (on T22 l5) (on T24 l5) (on T25 l5) b7
+              (λ Ψ. Typed.both s20 (Typed.pass T23 T24 s21 Ψ)) (Typed.pass T24 T25 s22) (Typed.g-post 𝓤 H A W 𝓣 E (on T22 l5) (on T23 l5) (on T24 l5) b7 (Typed.both s20) (Typed.pass T23 T24 s21)
+              (Plain.t-call-plain 𝓤 H A W 𝓣 0 ps·2 r·2 (claims· .4) (claims· .5) "block::sharing::handed_back" (known .2) E (λ pos β. β) (on T22 l5)
+              (record { pos = 1; st = []; d = 0; at = λ x. x }, (record { pos = 10; st = []; d = 0; at = λ x. x }, (record { pos = 20; st = []; d = 0; at = λ x. x }, tt))) 19 [] (Call.sub-id 𝓤 H A W ((on
+              T22 l5) .slots)) (
+                (Values.enum-copied 𝓤 H A W Camera.the-type Laws'3.the-laws Laws'3.the-copy, Path'.refl),
+                ((Values.struct-copied 𝓤 H A W Entries.the-type Laws'4.the-laws Laws'4.the-copy, Path'.refl), ((Values.enum-copied 𝓤 H A W Decoded.the-type Laws'.the-laws Laws'.the-copy, Path'.refl), tt)),
+              )
+              (Reads'.room-gone 𝓤 H A y19) tt Path'.refl) (Scalar.g-room 𝓤 H A W E (on T23 l5) 1 y2 (Local.room-whole 𝓤 H A W (Declared.row Camera.the-type) y2 Path'.refl))) (Scalar.g-room 𝓤 H A W E (on
+              T24 l5) 10 y18 (Local.room-whole 𝓤 H A W (Declared'.row Entries.the-type) y18 Path'.refl))) (Scalar.g-room 𝓤 H A W E (on T25 l5) 20 y13 (Local.room-whole 𝓤 H A W (Declared.row
+              Decoded.the-type) y13 Path'.refl)))
 
-          d1 : Typed.Typed 𝓤 H A 𝓣 E G21 b7 Δ1 at1
-          d1 = Typed.g-pre 𝓤 H A W 𝓣 E G21 G22 b7 Δ1 (Typed.pass T21 T22 s19) at0 (Scalar.g-room 𝓤 H A W E G21 11 (Syntax.tyEnum (List._∷_ 115 (List._∷_ 116 (List._∷_ 114 (List._∷_ 101 (List._∷_ 97
-              (List._∷_ 109 (List._∷_ 58 (List._∷_ 58 (List._∷_ 82 (List._∷_ 101 (List._∷_ 102 (List._∷_ 117 (List._∷_ 115 (List._∷_ 97 (List._∷_ 108 List.[]))))))))))))))) (Syntax.ttcons Syntax.tnil
-              (Syntax.ttcons Syntax.tnil (Syntax.ttcons Syntax.tnil (Syntax.ttcons (Syntax.tcons (Syntax.tyInt Syntax.w64) Syntax.tnil) (Syntax.ttcons Syntax.tnil (Syntax.ttcons Syntax.tnil (Syntax.ttcons
-              Syntax.tnil (Syntax.ttcons Syntax.tnil (Syntax.ttcons Syntax.tnil (Syntax.ttcons Syntax.tnil (Syntax.ttcons (Syntax.tcons (Syntax.tyInt Syntax.w64) Syntax.tnil) (Syntax.ttcons (Syntax.tcons
-              (Syntax.tyInt Syntax.w64) Syntax.tnil) (Syntax.ttcons Syntax.tnil (Syntax.ttcons (Syntax.tcons (Syntax.tyInt Syntax.w64) (Syntax.tcons (Syntax.tyInt Syntax.w64) Syntax.tnil)) (Syntax.ttcons
-              (Syntax.tcons (Syntax.tyInt Syntax.w64) Syntax.tnil) (Syntax.ttcons Syntax.tnil (Syntax.ttcons Syntax.tnil (Syntax.ttcons (Syntax.tcons (Syntax.tyInt Syntax.w64) Syntax.tnil) (Syntax.ttcons
-              (Syntax.tcons (Syntax.tyInt Syntax.w64) Syntax.tnil) (Syntax.ttcons (Syntax.tcons (Syntax.tyInt Syntax.w64) Syntax.tnil) (Syntax.ttcons Syntax.tnil (Syntax.ttcons Syntax.tnil (Syntax.ttcons
-              (Syntax.tcons (Syntax.tyInt Syntax.w64) (Syntax.tcons (Syntax.tyInt Syntax.w64) Syntax.tnil)) (Syntax.ttcons Syntax.tnil Syntax.ttnil))))))))))))))))))))))))) (Local.room-whole 𝓤 H A W
-              (Declared.row Refusal.the-type) (Syntax.tyEnum (List._∷_ 115 (List._∷_ 116 (List._∷_ 114 (List._∷_ 101 (List._∷_ 97 (List._∷_ 109 (List._∷_ 58 (List._∷_ 58 (List._∷_ 82 (List._∷_ 101
-              (List._∷_ 102 (List._∷_ 117 (List._∷_ 115 (List._∷_ 97 (List._∷_ 108 List.[]))))))))))))))) (Syntax.ttcons Syntax.tnil (Syntax.ttcons Syntax.tnil (Syntax.ttcons Syntax.tnil (Syntax.ttcons
-              (Syntax.tcons (Syntax.tyInt Syntax.w64) Syntax.tnil) (Syntax.ttcons Syntax.tnil (Syntax.ttcons Syntax.tnil (Syntax.ttcons Syntax.tnil (Syntax.ttcons Syntax.tnil (Syntax.ttcons Syntax.tnil
-              (Syntax.ttcons Syntax.tnil (Syntax.ttcons (Syntax.tcons (Syntax.tyInt Syntax.w64) Syntax.tnil) (Syntax.ttcons (Syntax.tcons (Syntax.tyInt Syntax.w64) Syntax.tnil) (Syntax.ttcons Syntax.tnil
-              (Syntax.ttcons (Syntax.tcons (Syntax.tyInt Syntax.w64) (Syntax.tcons (Syntax.tyInt Syntax.w64) Syntax.tnil)) (Syntax.ttcons (Syntax.tcons (Syntax.tyInt Syntax.w64) Syntax.tnil)
-              (Syntax.ttcons Syntax.tnil (Syntax.ttcons Syntax.tnil (Syntax.ttcons (Syntax.tcons (Syntax.tyInt Syntax.w64) Syntax.tnil) (Syntax.ttcons (Syntax.tcons (Syntax.tyInt Syntax.w64) Syntax.tnil)
-              (Syntax.ttcons (Syntax.tcons (Syntax.tyInt Syntax.w64) Syntax.tnil) (Syntax.ttcons Syntax.tnil (Syntax.ttcons Syntax.tnil (Syntax.ttcons (Syntax.tcons (Syntax.tyInt Syntax.w64) (Syntax.tcons
-              (Syntax.tyInt Syntax.w64) Syntax.tnil)) (Syntax.ttcons Syntax.tnil Syntax.ttnil))))))))))))))))))))))))) Path'.refl)) d0
+          d1 : Typed.Typed 𝓤 H A 𝓣 E (on T21 l5) b7 Δ1 at1
+          d1 = Typed.g-pre 𝓤 H A W 𝓣 E (on T21 l5) (on T22 l5) b7 Δ1 (Typed.pass T21 T22 s19) at0 (Scalar.g-room 𝓤 H A W E (on T21 l5) 11 y1 (Local.room-whole 𝓤 H A W (Declared.row Refusal.the-type)
+              y1 Path'.refl)) d0
 
-          d2 : Typed.Typed 𝓤 H A 𝓣 E G20 b8 Δ1 at2
-          d2 = Typed.s-seq 𝓤 H A W 𝓣 E G20 G21 b6 b7 Δ1 (Typed.pass T20 T21 s18) at1 (Make.t-enum-make-wt 𝓤 H A W E 𝓣 Decoded.the-type Laws'.the-laws Laws'.the-plain tt G20 20 (List._∷_ (Scalar.oInt
-              Syntax.w8 1) (List._∷_ (Scalar.oAt 11 (Syntax.tyEnum (List._∷_ 115 (List._∷_ 116 (List._∷_ 114 (List._∷_ 101 (List._∷_ 97 (List._∷_ 109 (List._∷_ 58 (List._∷_ 58 (List._∷_ 82 (List._∷_ 101
-              (List._∷_ 102 (List._∷_ 117 (List._∷_ 115 (List._∷_ 97 (List._∷_ 108 List.[]))))))))))))))) (Syntax.ttcons Syntax.tnil (Syntax.ttcons Syntax.tnil (Syntax.ttcons Syntax.tnil (Syntax.ttcons
-              (Syntax.tcons (Syntax.tyInt Syntax.w64) Syntax.tnil) (Syntax.ttcons Syntax.tnil (Syntax.ttcons Syntax.tnil (Syntax.ttcons Syntax.tnil (Syntax.ttcons Syntax.tnil (Syntax.ttcons Syntax.tnil
-              (Syntax.ttcons Syntax.tnil (Syntax.ttcons (Syntax.tcons (Syntax.tyInt Syntax.w64) Syntax.tnil) (Syntax.ttcons (Syntax.tcons (Syntax.tyInt Syntax.w64) Syntax.tnil) (Syntax.ttcons Syntax.tnil
-              (Syntax.ttcons (Syntax.tcons (Syntax.tyInt Syntax.w64) (Syntax.tcons (Syntax.tyInt Syntax.w64) Syntax.tnil)) (Syntax.ttcons (Syntax.tcons (Syntax.tyInt Syntax.w64) Syntax.tnil)
-              (Syntax.ttcons Syntax.tnil (Syntax.ttcons Syntax.tnil (Syntax.ttcons (Syntax.tcons (Syntax.tyInt Syntax.w64) Syntax.tnil) (Syntax.ttcons (Syntax.tcons (Syntax.tyInt Syntax.w64) Syntax.tnil)
-              (Syntax.ttcons (Syntax.tcons (Syntax.tyInt Syntax.w64) Syntax.tnil) (Syntax.ttcons Syntax.tnil (Syntax.ttcons Syntax.tnil (Syntax.ttcons (Syntax.tcons (Syntax.tyInt Syntax.w64) (Syntax.tcons
-              (Syntax.tyInt Syntax.w64) Syntax.tnil)) (Syntax.ttcons Syntax.tnil Syntax.ttnil))))))))))))))))))))))))) (Laws'8.val Refusal.the-type Laws'7.the-laws)) List.[])) (λ m. Decoded.enum .make
-              (Logic.inr (Logic.inl (m .1 .1 .1 .1 .1 .1 .1 .1 .1 .1 .1 .0, tt)))) (Reads'.room-gone 𝓤 H A (Syntax.tyEnum (List._∷_ 98 (List._∷_ 108 (List._∷_ 111 (List._∷_ 99 (List._∷_ 107 (List._∷_ 58
-              (List._∷_ 58 (List._∷_ 68 (List._∷_ 101 (List._∷_ 99 (List._∷_ 111 (List._∷_ 100 (List._∷_ 101 (List._∷_ 100 List.[])))))))))))))) (Syntax.ttcons Syntax.tnil (Syntax.ttcons (Syntax.tcons
-              (Syntax.tyEnum (List._∷_ 115 (List._∷_ 116 (List._∷_ 114 (List._∷_ 101 (List._∷_ 97 (List._∷_ 109 (List._∷_ 58 (List._∷_ 58 (List._∷_ 82 (List._∷_ 101 (List._∷_ 102 (List._∷_ 117 (List._∷_
-              115 (List._∷_ 97 (List._∷_ 108 List.[]))))))))))))))) (Syntax.ttcons Syntax.tnil (Syntax.ttcons Syntax.tnil (Syntax.ttcons Syntax.tnil (Syntax.ttcons (Syntax.tcons (Syntax.tyInt Syntax.w64)
-              Syntax.tnil) (Syntax.ttcons Syntax.tnil (Syntax.ttcons Syntax.tnil (Syntax.ttcons Syntax.tnil (Syntax.ttcons Syntax.tnil (Syntax.ttcons Syntax.tnil (Syntax.ttcons Syntax.tnil (Syntax.ttcons
-              (Syntax.tcons (Syntax.tyInt Syntax.w64) Syntax.tnil) (Syntax.ttcons (Syntax.tcons (Syntax.tyInt Syntax.w64) Syntax.tnil) (Syntax.ttcons Syntax.tnil (Syntax.ttcons (Syntax.tcons (Syntax.tyInt
-              Syntax.w64) (Syntax.tcons (Syntax.tyInt Syntax.w64) Syntax.tnil)) (Syntax.ttcons (Syntax.tcons (Syntax.tyInt Syntax.w64) Syntax.tnil) (Syntax.ttcons Syntax.tnil (Syntax.ttcons Syntax.tnil
-              (Syntax.ttcons (Syntax.tcons (Syntax.tyInt Syntax.w64) Syntax.tnil) (Syntax.ttcons (Syntax.tcons (Syntax.tyInt Syntax.w64) Syntax.tnil) (Syntax.ttcons (Syntax.tcons (Syntax.tyInt Syntax.w64)
-              Syntax.tnil) (Syntax.ttcons Syntax.tnil (Syntax.ttcons Syntax.tnil (Syntax.ttcons (Syntax.tcons (Syntax.tyInt Syntax.w64) (Syntax.tcons (Syntax.tyInt Syntax.w64) Syntax.tnil)) (Syntax.ttcons
-              Syntax.tnil Syntax.ttnil))))))))))))))))))))))))) Syntax.tnil) Syntax.ttnil)))) (tt, ((Whole.reads-enum 𝓤 H A W Refusal.the-type Laws'7.the-laws, Path'.refl), tt)) Path'.refl (λ m wa.
-              Make.made-val Decoded.the-type Laws'.the-laws (List._∷_ (Laws'8.val Refusal.the-type Laws'7.the-laws (m .1 .1 .1 .1 .1 .1 .1 .1 .1 .1 .1 .0)) List.[]) (Decoded.enum .make (Logic.inr
-              (Logic.inl (m .1 .1 .1 .1 .1 .1 .1 .1 .1 .1 .1 .0, tt)))) (
+          d2 : Typed.Typed 𝓤 H A 𝓣 E (on T20 l5) (Syntax.seq b6 b7) Δ1 at2
+          d2 = Typed.s-seq 𝓤 H A W 𝓣 E (on T20 l5) (on T21 l5) b6 b7 Δ1 (Typed.pass T20 T21 s18) at1 (Make.t-enum-make-wt 𝓤 H A W E 𝓣 Decoded.the-type Laws'.the-laws Laws'.the-plain tt (on T20 l5) 20
+              ((Scalar.oInt Syntax.w8 1) ∷ (Scalar.oAt 11 y1 (Laws'8.val Refusal.the-type Laws'7.the-laws)) ∷ []) (λ m. Decoded.enum .make (Logic.inr (Logic.inl
+              (m .1 .1 .1 .1 .1 .1 .1 .1 .1 .1 .1 .0, tt)))) (Reads'.room-gone 𝓤 H A y13) (tt, ((Whole.reads-enum 𝓤 H A W Refusal.the-type Laws'7.the-laws, Path'.refl), tt)) Path'.refl (λ m wa.
+              Make.made-val Decoded.the-type Laws'.the-laws ((Laws'8.val Refusal.the-type Laws'7.the-laws (m .1 .1 .1 .1 .1 .1 .1 .1 .1 .1 .1 .0)) ∷ []) (Decoded.enum .make (Logic.inr (Logic.inl
+              (m .1 .1 .1 .1 .1 .1 .1 .1 .1 .1 .1 .0, tt)))) (
                 Signed.made-wt Refusal.the-field Laws'7.the-field-laws (Whole.enum-wt Refusal.the-type Laws'7.the-laws (
                   tt,
                   (
@@ -2764,8 +1533,8 @@ module _ (claims· : Claims) where
                 ))
                     (Refusal.the-type .to (m .1 .1 .1 .1 .1 .1 .1 .1 .1 .1 .1 .0)),
                 tt,
-              ) (wa .1)) λ m wa. Make.made-is Decoded.the-type Laws'.the-laws (List._∷_ (Laws'8.val Refusal.the-type Laws'7.the-laws (m .1
-              .1 .1 .1 .1 .1 .1 .1 .1 .1 .1 .0)) List.[]) (Decoded.enum .make (Logic.inr (Logic.inl (m .1 .1 .1 .1 .1 .1 .1 .1 .1 .1 .1 .0, tt)))) (
+              ) (wa .1)) λ m wa. Make.made-is Decoded.the-type Laws'.the-laws ((Laws'8.val Refusal.the-type Laws'7.the-laws (m .1 .1 .1 .1
+              .1 .1 .1 .1 .1 .1 .1 .0)) ∷ []) (Decoded.enum .make (Logic.inr (Logic.inl (m .1 .1 .1 .1 .1 .1 .1 .1 .1 .1 .1 .0, tt)))) (
                 Signed.made-wt Refusal.the-field Laws'7.the-field-laws (Whole.enum-wt Refusal.the-type Laws'7.the-laws (
                   tt,
                   (
@@ -2813,191 +1582,81 @@ module _ (claims· : Claims) where
                 tt,
               ) (wa .1)) d1
 
-          d3 : Typed.Typed 𝓤 H A 𝓣 E G19 b8 Δ1 at3
-          d3 = Typed.g-pre 𝓤 H A W 𝓣 E G19 G20 b8 Δ1 (Typed.pass T19 T20 s17) at2 (Scalar.g-room 𝓤 H A W E G19 9 (Syntax.tyEnum (List._∷_ 98 (List._∷_ 101 (List._∷_ 103 (List._∷_ 105 (List._∷_ 110
-              (List._∷_ 58 (List._∷_ 58 (List._∷_ 66 (List._∷_ 101 (List._∷_ 103 (List._∷_ 105 (List._∷_ 110 (List._∷_ 110 (List._∷_ 105 (List._∷_ 110 (List._∷_ 103 List.[])))))))))))))))) (Syntax.ttcons
-              (Syntax.tcons (Syntax.tyEnum (List._∷_ 115 (List._∷_ 116 (List._∷_ 114 (List._∷_ 101 (List._∷_ 97 (List._∷_ 109 (List._∷_ 58 (List._∷_ 58 (List._∷_ 82 (List._∷_ 101 (List._∷_ 102 (List._∷_
-              117 (List._∷_ 115 (List._∷_ 97 (List._∷_ 108 List.[]))))))))))))))) (Syntax.ttcons Syntax.tnil (Syntax.ttcons Syntax.tnil (Syntax.ttcons Syntax.tnil (Syntax.ttcons (Syntax.tcons
-              (Syntax.tyInt Syntax.w64) Syntax.tnil) (Syntax.ttcons Syntax.tnil (Syntax.ttcons Syntax.tnil (Syntax.ttcons Syntax.tnil (Syntax.ttcons Syntax.tnil (Syntax.ttcons Syntax.tnil (Syntax.ttcons
-              Syntax.tnil (Syntax.ttcons (Syntax.tcons (Syntax.tyInt Syntax.w64) Syntax.tnil) (Syntax.ttcons (Syntax.tcons (Syntax.tyInt Syntax.w64) Syntax.tnil) (Syntax.ttcons Syntax.tnil (Syntax.ttcons
-              (Syntax.tcons (Syntax.tyInt Syntax.w64) (Syntax.tcons (Syntax.tyInt Syntax.w64) Syntax.tnil)) (Syntax.ttcons (Syntax.tcons (Syntax.tyInt Syntax.w64) Syntax.tnil) (Syntax.ttcons Syntax.tnil
-              (Syntax.ttcons Syntax.tnil (Syntax.ttcons (Syntax.tcons (Syntax.tyInt Syntax.w64) Syntax.tnil) (Syntax.ttcons (Syntax.tcons (Syntax.tyInt Syntax.w64) Syntax.tnil) (Syntax.ttcons
-              (Syntax.tcons (Syntax.tyInt Syntax.w64) Syntax.tnil) (Syntax.ttcons Syntax.tnil (Syntax.ttcons Syntax.tnil (Syntax.ttcons (Syntax.tcons (Syntax.tyInt Syntax.w64) (Syntax.tcons (Syntax.tyInt
-              Syntax.w64) Syntax.tnil)) (Syntax.ttcons Syntax.tnil Syntax.ttnil))))))))))))))))))))))))) Syntax.tnil) (Syntax.ttcons Syntax.tnil (Syntax.ttcons (Syntax.tcons y2 Syntax.tnil)
-              Syntax.ttnil)))) (Local.room-whole 𝓤 H A W (Known.Known Beginning.enum 0) (Syntax.tyEnum (List._∷_ 98 (List._∷_ 101 (List._∷_ 103 (List._∷_ 105 (List._∷_ 110 (List._∷_ 58 (List._∷_ 58
-              (List._∷_ 66 (List._∷_ 101 (List._∷_ 103 (List._∷_ 105 (List._∷_ 110 (List._∷_ 110 (List._∷_ 105 (List._∷_ 110 (List._∷_ 103 List.[])))))))))))))))) (Syntax.ttcons (Syntax.tcons
-              (Syntax.tyEnum (List._∷_ 115 (List._∷_ 116 (List._∷_ 114 (List._∷_ 101 (List._∷_ 97 (List._∷_ 109 (List._∷_ 58 (List._∷_ 58 (List._∷_ 82 (List._∷_ 101 (List._∷_ 102 (List._∷_ 117 (List._∷_
-              115 (List._∷_ 97 (List._∷_ 108 List.[]))))))))))))))) (Syntax.ttcons Syntax.tnil (Syntax.ttcons Syntax.tnil (Syntax.ttcons Syntax.tnil (Syntax.ttcons (Syntax.tcons (Syntax.tyInt Syntax.w64)
-              Syntax.tnil) (Syntax.ttcons Syntax.tnil (Syntax.ttcons Syntax.tnil (Syntax.ttcons Syntax.tnil (Syntax.ttcons Syntax.tnil (Syntax.ttcons Syntax.tnil (Syntax.ttcons Syntax.tnil (Syntax.ttcons
-              (Syntax.tcons (Syntax.tyInt Syntax.w64) Syntax.tnil) (Syntax.ttcons (Syntax.tcons (Syntax.tyInt Syntax.w64) Syntax.tnil) (Syntax.ttcons Syntax.tnil (Syntax.ttcons (Syntax.tcons (Syntax.tyInt
-              Syntax.w64) (Syntax.tcons (Syntax.tyInt Syntax.w64) Syntax.tnil)) (Syntax.ttcons (Syntax.tcons (Syntax.tyInt Syntax.w64) Syntax.tnil) (Syntax.ttcons Syntax.tnil (Syntax.ttcons Syntax.tnil
-              (Syntax.ttcons (Syntax.tcons (Syntax.tyInt Syntax.w64) Syntax.tnil) (Syntax.ttcons (Syntax.tcons (Syntax.tyInt Syntax.w64) Syntax.tnil) (Syntax.ttcons (Syntax.tcons (Syntax.tyInt Syntax.w64)
-              Syntax.tnil) (Syntax.ttcons Syntax.tnil (Syntax.ttcons Syntax.tnil (Syntax.ttcons (Syntax.tcons (Syntax.tyInt Syntax.w64) (Syntax.tcons (Syntax.tyInt Syntax.w64) Syntax.tnil)) (Syntax.ttcons
-              Syntax.tnil Syntax.ttnil))))))))))))))))))))))))) Syntax.tnil) (Syntax.ttcons Syntax.tnil (Syntax.ttcons (Syntax.tcons y2 Syntax.tnil) Syntax.ttnil)))) Path'.refl)) d2
+          d3 : Typed.Typed 𝓤 H A 𝓣 E (on T19 l5) (Syntax.seq b6 b7) Δ1 at3
+          d3 = Typed.g-pre 𝓤 H A W 𝓣 E (on T19 l5) (on T20 l5) (Syntax.seq b6 b7) Δ1 (Typed.pass T19 T20 s17) at2 (Scalar.g-room 𝓤 H A W E (on T19 l5) 9 y12 (Local.room-whole 𝓤 H A W (Known.Known
+              Beginning.enum 0) y12 Path'.refl)) d2
 
-          d4 : Typed.Typed 𝓤 H A 𝓣 E G18 b9 Δ1 at4
-          d4 = Typed.s-seq 𝓤 H A W 𝓣 E G18 G19 b5 b8 Δ1 (Typed.pass T18 T19 s16) at3 (CopyOut.t-copy-told 𝓤 H A W E 𝓣 (Declared.row Refusal.the-type) Path'.refl (Laws'8.val Refusal.the-type
-              Laws'7.the-laws) (Laws'8.lawful Refusal.the-type Laws'7.the-laws 𝓤 H A W tt) (Laws'8.makes Refusal.the-type Laws'7.the-plain 𝓤 H A) G18 11 (Scalar.oFld 9 (List._∷_ (Syntax.variant 0)
-              (List._∷_ (Syntax.field 1) List.[])) (Syntax.tyEnum (List._∷_ 115 (List._∷_ 116 (List._∷_ 114 (List._∷_ 101 (List._∷_ 97 (List._∷_ 109 (List._∷_ 58 (List._∷_ 58 (List._∷_ 82 (List._∷_ 101
-              (List._∷_ 102 (List._∷_ 117 (List._∷_ 115 (List._∷_ 97 (List._∷_ 108 List.[]))))))))))))))) (Syntax.ttcons Syntax.tnil (Syntax.ttcons Syntax.tnil (Syntax.ttcons Syntax.tnil (Syntax.ttcons
-              (Syntax.tcons (Syntax.tyInt Syntax.w64) Syntax.tnil) (Syntax.ttcons Syntax.tnil (Syntax.ttcons Syntax.tnil (Syntax.ttcons Syntax.tnil (Syntax.ttcons Syntax.tnil (Syntax.ttcons Syntax.tnil
-              (Syntax.ttcons Syntax.tnil (Syntax.ttcons (Syntax.tcons (Syntax.tyInt Syntax.w64) Syntax.tnil) (Syntax.ttcons (Syntax.tcons (Syntax.tyInt Syntax.w64) Syntax.tnil) (Syntax.ttcons Syntax.tnil
-              (Syntax.ttcons (Syntax.tcons (Syntax.tyInt Syntax.w64) (Syntax.tcons (Syntax.tyInt Syntax.w64) Syntax.tnil)) (Syntax.ttcons (Syntax.tcons (Syntax.tyInt Syntax.w64) Syntax.tnil)
-              (Syntax.ttcons Syntax.tnil (Syntax.ttcons Syntax.tnil (Syntax.ttcons (Syntax.tcons (Syntax.tyInt Syntax.w64) Syntax.tnil) (Syntax.ttcons (Syntax.tcons (Syntax.tyInt Syntax.w64) Syntax.tnil)
-              (Syntax.ttcons (Syntax.tcons (Syntax.tyInt Syntax.w64) Syntax.tnil) (Syntax.ttcons Syntax.tnil (Syntax.ttcons Syntax.tnil (Syntax.ttcons (Syntax.tcons (Syntax.tyInt Syntax.w64) (Syntax.tcons
-              (Syntax.tyInt Syntax.w64) Syntax.tnil)) (Syntax.ttcons Syntax.tnil Syntax.ttnil))))))))))))))))))))))))) 8 λ v. Laws'8.val Refusal.the-type Laws'7.the-laws (v .0)) (λ m. m .1 .1 .1 .1 .1 .1
-              .1 .1 .1 .0 .0) (λ m. Laws'8.Fields (Declared.variants Beginning.the-type) (Laws'8.spellss (Beginning.enum .parts) Laws.the-laws) (Beginning.the-type .to (Known.at Beginning.enum 0 (m .1 .1
-              .1 .1 .1 .1 .1 .1 .1 .0)))) (Reads'.room-gone 𝓤 H A (Syntax.tyEnum (List._∷_ 115 (List._∷_ 116 (List._∷_ 114 (List._∷_ 101 (List._∷_ 97 (List._∷_ 109 (List._∷_ 58 (List._∷_ 58 (List._∷_ 82
-              (List._∷_ 101 (List._∷_ 102 (List._∷_ 117 (List._∷_ 115 (List._∷_ 97 (List._∷_ 108 List.[]))))))))))))))) (Syntax.ttcons Syntax.tnil (Syntax.ttcons Syntax.tnil (Syntax.ttcons Syntax.tnil
-              (Syntax.ttcons (Syntax.tcons (Syntax.tyInt Syntax.w64) Syntax.tnil) (Syntax.ttcons Syntax.tnil (Syntax.ttcons Syntax.tnil (Syntax.ttcons Syntax.tnil (Syntax.ttcons Syntax.tnil (Syntax.ttcons
-              Syntax.tnil (Syntax.ttcons Syntax.tnil (Syntax.ttcons (Syntax.tcons (Syntax.tyInt Syntax.w64) Syntax.tnil) (Syntax.ttcons (Syntax.tcons (Syntax.tyInt Syntax.w64) Syntax.tnil) (Syntax.ttcons
-              Syntax.tnil (Syntax.ttcons (Syntax.tcons (Syntax.tyInt Syntax.w64) (Syntax.tcons (Syntax.tyInt Syntax.w64) Syntax.tnil)) (Syntax.ttcons (Syntax.tcons (Syntax.tyInt Syntax.w64) Syntax.tnil)
-              (Syntax.ttcons Syntax.tnil (Syntax.ttcons Syntax.tnil (Syntax.ttcons (Syntax.tcons (Syntax.tyInt Syntax.w64) Syntax.tnil) (Syntax.ttcons (Syntax.tcons (Syntax.tyInt Syntax.w64) Syntax.tnil)
-              (Syntax.ttcons (Syntax.tcons (Syntax.tyInt Syntax.w64) Syntax.tnil) (Syntax.ttcons Syntax.tnil (Syntax.ttcons Syntax.tnil (Syntax.ttcons (Syntax.tcons (Syntax.tyInt Syntax.w64) (Syntax.tcons
-              (Syntax.tyInt Syntax.w64) Syntax.tnil)) (Syntax.ttcons Syntax.tnil Syntax.ttnil)))))))))))))))))))))))))) (
-                Match.reads-payload 𝓤 H A W Beginning.enum Laws.the-laws 0 Path'.refl Path'.refl (λ v. Val.vcons (Laws'8.val Refusal.the-type Laws'7.the-laws (v .0)) Val.vnil) (λ v. Path'.refl) 0
-                    (Syntax.tyEnum (List._∷_ 115 (List._∷_ 116 (List._∷_ 114 (List._∷_ 101 (List._∷_ 97 (List._∷_ 109 (List._∷_ 58 (List._∷_ 58 (List._∷_ 82 (List._∷_ 101 (List._∷_ 102 (List._∷_ 117 (List._∷_
-                    115 (List._∷_ 97 (List._∷_ 108 List.[]))))))))))))))) (Syntax.ttcons Syntax.tnil (Syntax.ttcons Syntax.tnil (Syntax.ttcons Syntax.tnil (Syntax.ttcons (Syntax.tcons (Syntax.tyInt Syntax.w64)
-                    Syntax.tnil) (Syntax.ttcons Syntax.tnil (Syntax.ttcons Syntax.tnil (Syntax.ttcons Syntax.tnil (Syntax.ttcons Syntax.tnil (Syntax.ttcons Syntax.tnil (Syntax.ttcons Syntax.tnil (Syntax.ttcons
-                    (Syntax.tcons (Syntax.tyInt Syntax.w64) Syntax.tnil) (Syntax.ttcons (Syntax.tcons (Syntax.tyInt Syntax.w64) Syntax.tnil) (Syntax.ttcons Syntax.tnil (Syntax.ttcons (Syntax.tcons (Syntax.tyInt
-                    Syntax.w64) (Syntax.tcons (Syntax.tyInt Syntax.w64) Syntax.tnil)) (Syntax.ttcons (Syntax.tcons (Syntax.tyInt Syntax.w64) Syntax.tnil) (Syntax.ttcons Syntax.tnil (Syntax.ttcons Syntax.tnil
-                    (Syntax.ttcons (Syntax.tcons (Syntax.tyInt Syntax.w64) Syntax.tnil) (Syntax.ttcons (Syntax.tcons (Syntax.tyInt Syntax.w64) Syntax.tnil) (Syntax.ttcons (Syntax.tcons (Syntax.tyInt Syntax.w64)
-                    Syntax.tnil) (Syntax.ttcons Syntax.tnil (Syntax.ttcons Syntax.tnil (Syntax.ttcons (Syntax.tcons (Syntax.tyInt Syntax.w64) (Syntax.tcons (Syntax.tyInt Syntax.w64) Syntax.tnil)) (Syntax.ttcons
-                    Syntax.tnil Syntax.ttnil))))))))))))))))))))))))) 8 Path'.refl,
-                Path'.refl,
-              ) Path'.refl (λ ρ m. Make'.tells-row 𝓤 H A W E ρ (Row.out 11 (G18 .locals)) m 9 (Laws'8.Fields (Declared.variants
-              Beginning.the-type) (Laws'8.spellss (Beginning.enum .parts) Laws.the-laws) (Beginning.the-type .to (Known.at Beginning.enum 0 (m .1 .1 .1 .1 .1 .1 .1 .1 .1 .0)))) (Known.known-is 𝓤 H A W E
-              Beginning.enum 0 Laws.the-laws ρ 9 (m .1 .1 .1 .1 .1 .1 .1 .1 .1 .0))) (λ m k wa. Path'.refl) λ m k wa. k .0) d3
-
-          d5 : Typed.Typed 𝓤 H A 𝓣 E G17 b9 Δ1 at5
-          d5 = Typed.g-pre 𝓤 H A W 𝓣 E G17 G18 b9 Δ1 (Typed.pass T17 T18 s15) at4 (Scalar.g-room 𝓤 H A W E G17 5 (Syntax.tyArray (Syntax.tyInt Syntax.w8) 36) (Init.room-arr 𝓤 H A W (Referent.rtF
-              (Referent.fInt Syntax.w8)) 36 0 36 Path'.refl)) d4
-
-          d6 : Typed.Typed 𝓤 H A 𝓣 E G16 b9 Δ1 at6
-          d6 = Typed.g-pre 𝓤 H A W 𝓣 E G16 G17 b9 Δ1 (Typed.pass T16 T17 s14) at5 (Scalar.g-room 𝓤 H A W E G16 4 y1 (Local.room-whole 𝓤 H A W (Declared'.row Rect.the-type) y1 Path'.refl)) d5
-
-          d7 : Typed.Typed 𝓤 H A 𝓣 E G15 b9 Δ1 at7
-          d7 = Typed.g-pre 𝓤 H A W 𝓣 E G15 G16 b9 Δ1 (Typed.give s13) at6 (Known.g-known-told 𝓤 H A W E Beginning.enum 0 G15 9 Laws.the-laws (λ x. x) (Reads'.as-is 𝓤 H A (Rows'.whole (Known.Known
-              Beginning.enum 0)))) d6
-
-          d8 : Typed.Typed 𝓤 H A 𝓣 E G14 b9 Δ1 at8
-          d8 = Typed.g-pre 𝓤 H A W 𝓣 E G14 G15 b9 Δ1 (Typed.both s12) at7 (Known.g-enum-known 𝓤 H A W E Beginning.enum 0 G14 9 (λ x. x) (Reads'.as-is 𝓤 H A (Rows'.whole (Declared.row
-              Beginning.the-type)))) d7
-
-          d9 : Typed.Typed 𝓤 H A 𝓣 E G31 b11 Δ1 at9
-          d9 = Typed.s-typed 𝓤 H A W 𝓣 E G31 b11 Δ1 (λ Ψ. Typed.both s29 (Typed.pass T32 T33 s30 (Typed.pass T33 T34 s31 (Typed.pass T34 T35 s32 Ψ)))) tt (Typed.g-post 𝓤 H A W 𝓣 E G31 G34 G35 b11 (λ
-              Ψ. Typed.both s29 (Typed.pass T32 T33 s30 (Typed.pass T33 T34 s31 Ψ))) (Typed.pass T34 T35 s32) (Typed.g-post 𝓤 H A W 𝓣 E G31 G33 G34 b11 (λ Ψ. Typed.both s29 (Typed.pass T32 T33 s30 Ψ))
-              (Typed.pass T33 T34 s31) (Typed.g-post 𝓤 H A W 𝓣 E G31 G32 G33 b11 (Typed.both s29) (Typed.pass T32 T33 s30) (Plain.t-call-plain 𝓤 H A W 𝓣 0 ps·2 r·2 (claims· .4) (claims· .5)
-              "block::sharing::handed_back" (known .2) E (λ pos β. β) G31
-              (record { pos = 1; st = List.[]; d = 0; at = λ x. x }, (record { pos = 10; st = List.[]; d = 0; at = λ x. x }, (record { pos = 21; st = List.[]; d = 0; at = λ x. x }, tt))) 19 List.[]
-              (Call.sub-id 𝓤 H A W (G31 .slots)) (
-                (
-                  Yields.yields-copy 𝓤 H A W (λ ρ. Unit) (Declared.row Camera.the-type) Path'.refl (Copies.cEnum Camera.the-type Laws'3.the-laws Laws'3.the-copy .copy 𝓤 H A W) (Rows'.whole (Declared.row
-                      Camera.the-type)) (λ x. x) (λ x. x) (λ ρ told. Local.mem-whole 𝓤 H A W (Declared.row Camera.the-type) ρ) λ ρ told. Local.whole-mem 𝓤 H A W (Declared.row Camera.the-type) ρ,
-                  Path'.refl,
-                ),
-                (
-                  (
-                    Yields.yields-copy 𝓤 H A W (λ ρ. Unit) (Declared'.row Entries.the-type) Path'.refl (Copies.cStruct Entries.the-type Laws'4.the-laws Laws'4.the-copy .copy 𝓤 H A W) (Rows'.whole
-                        (Declared'.row Entries.the-type)) (λ x. x) (λ x. x) (λ ρ told. Local.mem-whole 𝓤 H A W (Declared'.row Entries.the-type) ρ) λ ρ told. Local.whole-mem 𝓤 H A W (Declared'.row Entries.the-type)
-                        ρ,
+          d4 : Typed.Typed 𝓤 H A 𝓣 E (on T18 l5) b9 Δ1 at4
+          d4 = Typed.s-seq 𝓤 H A W 𝓣 E (on T18 l5) (on T19 l5) b5 (Syntax.seq b6 b7) Δ1 (Typed.pass T18 T19 s16) at3 (CopyOut.t-copy-told 𝓤 H A W E 𝓣 (Declared.row Refusal.the-type) Path'.refl
+              (Laws'8.val Refusal.the-type Laws'7.the-laws) (Laws'8.lawful Refusal.the-type Laws'7.the-laws 𝓤 H A W tt) (Laws'8.makes Refusal.the-type Laws'7.the-plain 𝓤 H A) (on T18 l5) 11 (Scalar.oFld 9
+              ((Syntax.variant 0) ∷ (Syntax.field 1) ∷ []) y1 8 λ v. Laws'8.val Refusal.the-type Laws'7.the-laws (v .0)) (λ m. m .1 .1 .1 .1 .1 .1 .1 .1 .1 .0 .0) (λ m. Laws'8.Fields (Declared.variants
+              Beginning.the-type) (Laws'8.spellss (Beginning.enum .parts) Laws.the-laws) (Beginning.the-type .to (Known.at Beginning.enum 0 (m .1 .1 .1 .1 .1 .1 .1 .1 .1 .0)))) (Reads'.room-gone 𝓤 H A y1) (
+                Match.reads-payload 𝓤 H A W Beginning.enum Laws.the-laws 0 Path'.refl Path'.refl (λ v. Val.vcons (Laws'8.val Refusal.the-type Laws'7.the-laws (v .0)) Val.vnil) (λ v. Path'.refl) 0 y1 8
                     Path'.refl,
-                  ),
-                  (
-                    (
-                      Yields.yields-copy 𝓤 H A W (λ ρ. Unit) (Declared.row Decoded.the-type) Path'.refl (Copies.cEnum Decoded.the-type Laws'.the-laws Laws'.the-copy .copy 𝓤 H A W) (Rows'.whole (Declared.row
-                          Decoded.the-type)) (λ x. x) (λ x. x) (λ ρ told. Local.mem-whole 𝓤 H A W (Declared.row Decoded.the-type) ρ) λ ρ told. Local.whole-mem 𝓤 H A W (Declared.row Decoded.the-type) ρ,
-                      Path'.refl,
-                    ),
-                    tt,
-                  ),
-                ),
-              ) (Reads'.room-gone 𝓤 H A y7) tt Path'.refl) (Scalar.g-room 𝓤 H A W E G32 1 (Syntax.tyEnum (List._∷_ 99 (List._∷_ 97 (List._∷_ 109 (List._∷_ 101 (List._∷_ 114 (List._∷_ 97 (List._∷_ 115
-              (List._∷_ 58 (List._∷_ 58 (List._∷_ 67 (List._∷_ 97 (List._∷_ 109 (List._∷_ 101 (List._∷_ 114 (List._∷_ 97 List.[]))))))))))))))) (Syntax.ttcons Syntax.tnil (Syntax.ttcons Syntax.tnil
-              Syntax.ttnil))) (Local.room-whole 𝓤 H A W (Declared.row Camera.the-type) (Syntax.tyEnum (List._∷_ 99 (List._∷_ 97 (List._∷_ 109 (List._∷_ 101 (List._∷_ 114 (List._∷_ 97 (List._∷_ 115
-              (List._∷_ 58 (List._∷_ 58 (List._∷_ 67 (List._∷_ 97 (List._∷_ 109 (List._∷_ 101 (List._∷_ 114 (List._∷_ 97 List.[]))))))))))))))) (Syntax.ttcons Syntax.tnil (Syntax.ttcons Syntax.tnil
-              Syntax.ttnil))) Path'.refl))) (Scalar.g-room 𝓤 H A W E G33 10 y6 (Local.room-whole 𝓤 H A W (Declared'.row Entries.the-type) y6 Path'.refl))) (Scalar.g-room 𝓤 H A W E G34 21 (Syntax.tyEnum
-              (List._∷_ 98 (List._∷_ 108 (List._∷_ 111 (List._∷_ 99 (List._∷_ 107 (List._∷_ 58 (List._∷_ 58 (List._∷_ 68 (List._∷_ 101 (List._∷_ 99 (List._∷_ 111 (List._∷_ 100 (List._∷_ 101 (List._∷_ 100
-              List.[])))))))))))))) (Syntax.ttcons Syntax.tnil (Syntax.ttcons (Syntax.tcons (Syntax.tyEnum (List._∷_ 115 (List._∷_ 116 (List._∷_ 114 (List._∷_ 101 (List._∷_ 97 (List._∷_ 109 (List._∷_ 58
-              (List._∷_ 58 (List._∷_ 82 (List._∷_ 101 (List._∷_ 102 (List._∷_ 117 (List._∷_ 115 (List._∷_ 97 (List._∷_ 108 List.[]))))))))))))))) (Syntax.ttcons Syntax.tnil (Syntax.ttcons Syntax.tnil
-              (Syntax.ttcons Syntax.tnil (Syntax.ttcons (Syntax.tcons (Syntax.tyInt Syntax.w64) Syntax.tnil) (Syntax.ttcons Syntax.tnil (Syntax.ttcons Syntax.tnil (Syntax.ttcons Syntax.tnil (Syntax.ttcons
-              Syntax.tnil (Syntax.ttcons Syntax.tnil (Syntax.ttcons Syntax.tnil (Syntax.ttcons (Syntax.tcons (Syntax.tyInt Syntax.w64) Syntax.tnil) (Syntax.ttcons (Syntax.tcons (Syntax.tyInt Syntax.w64)
-              Syntax.tnil) (Syntax.ttcons Syntax.tnil (Syntax.ttcons (Syntax.tcons (Syntax.tyInt Syntax.w64) (Syntax.tcons (Syntax.tyInt Syntax.w64) Syntax.tnil)) (Syntax.ttcons (Syntax.tcons
-              (Syntax.tyInt Syntax.w64) Syntax.tnil) (Syntax.ttcons Syntax.tnil (Syntax.ttcons Syntax.tnil (Syntax.ttcons (Syntax.tcons (Syntax.tyInt Syntax.w64) Syntax.tnil) (Syntax.ttcons (Syntax.tcons
-              (Syntax.tyInt Syntax.w64) Syntax.tnil) (Syntax.ttcons (Syntax.tcons (Syntax.tyInt Syntax.w64) Syntax.tnil) (Syntax.ttcons Syntax.tnil (Syntax.ttcons Syntax.tnil (Syntax.ttcons (Syntax.tcons
-              (Syntax.tyInt Syntax.w64) (Syntax.tcons (Syntax.tyInt Syntax.w64) Syntax.tnil)) (Syntax.ttcons Syntax.tnil Syntax.ttnil))))))))))))))))))))))))) Syntax.tnil) Syntax.ttnil)))
-              (Local.room-whole 𝓤 H A W (Declared.row Decoded.the-type) (Syntax.tyEnum (List._∷_ 98 (List._∷_ 108 (List._∷_ 111 (List._∷_ 99 (List._∷_ 107 (List._∷_ 58 (List._∷_ 58 (List._∷_ 68 (List._∷_
-              101 (List._∷_ 99 (List._∷_ 111 (List._∷_ 100 (List._∷_ 101 (List._∷_ 100 List.[])))))))))))))) (Syntax.ttcons Syntax.tnil (Syntax.ttcons (Syntax.tcons (Syntax.tyEnum (List._∷_ 115 (List._∷_
-              116 (List._∷_ 114 (List._∷_ 101 (List._∷_ 97 (List._∷_ 109 (List._∷_ 58 (List._∷_ 58 (List._∷_ 82 (List._∷_ 101 (List._∷_ 102 (List._∷_ 117 (List._∷_ 115 (List._∷_ 97 (List._∷_ 108
-              List.[]))))))))))))))) (Syntax.ttcons Syntax.tnil (Syntax.ttcons Syntax.tnil (Syntax.ttcons Syntax.tnil (Syntax.ttcons (Syntax.tcons (Syntax.tyInt Syntax.w64) Syntax.tnil) (Syntax.ttcons
-              Syntax.tnil (Syntax.ttcons Syntax.tnil (Syntax.ttcons Syntax.tnil (Syntax.ttcons Syntax.tnil (Syntax.ttcons Syntax.tnil (Syntax.ttcons Syntax.tnil (Syntax.ttcons (Syntax.tcons (Syntax.tyInt
-              Syntax.w64) Syntax.tnil) (Syntax.ttcons (Syntax.tcons (Syntax.tyInt Syntax.w64) Syntax.tnil) (Syntax.ttcons Syntax.tnil (Syntax.ttcons (Syntax.tcons (Syntax.tyInt Syntax.w64) (Syntax.tcons
-              (Syntax.tyInt Syntax.w64) Syntax.tnil)) (Syntax.ttcons (Syntax.tcons (Syntax.tyInt Syntax.w64) Syntax.tnil) (Syntax.ttcons Syntax.tnil (Syntax.ttcons Syntax.tnil (Syntax.ttcons (Syntax.tcons
-              (Syntax.tyInt Syntax.w64) Syntax.tnil) (Syntax.ttcons (Syntax.tcons (Syntax.tyInt Syntax.w64) Syntax.tnil) (Syntax.ttcons (Syntax.tcons (Syntax.tyInt Syntax.w64) Syntax.tnil) (Syntax.ttcons
-              Syntax.tnil (Syntax.ttcons Syntax.tnil (Syntax.ttcons (Syntax.tcons (Syntax.tyInt Syntax.w64) (Syntax.tcons (Syntax.tyInt Syntax.w64) Syntax.tnil)) (Syntax.ttcons Syntax.tnil
-              Syntax.ttnil))))))))))))))))))))))))) Syntax.tnil) Syntax.ttnil))) Path'.refl)))
+                Path'.refl,
+              ) Path'.refl (λ ρ m. Make'.tells-row 𝓤 H A W E ρ (Row.out 11 ((on T18 l5) .locals)) m 9 (Laws'8.Fields (Declared.variants Beginning.the-type) (Laws'8.spellss
+              (Beginning.enum .parts) Laws.the-laws) (Beginning.the-type .to (Known.at Beginning.enum 0 (m .1 .1 .1 .1 .1 .1 .1 .1 .1 .0)))) (Known.known-is 𝓤 H A W E Beginning.enum 0 Laws.the-laws ρ 9 (m
+              .1 .1 .1 .1 .1 .1 .1 .1 .1 .0))) (λ m k wa. Path'.refl) λ m k wa. k .0) d3
 
-          d10 : Typed.Typed 𝓤 H A 𝓣 E G30 b12 Δ1 at10
-          d10 = Typed.s-seq 𝓤 H A W 𝓣 E G30 G31 b10 b11 Δ1 (Typed.pass T30 T31 s28) at9 (Make.t-enum-make-wt 𝓤 H A W E 𝓣 Decoded.the-type Laws'.the-laws Laws'.the-plain tt G30 21 (List._∷_
-              (Scalar.oInt Syntax.w8 0) List.[]) (λ m. Decoded.enum .make (Logic.inl tt)) (Reads'.room-gone 𝓤 H A (Syntax.tyEnum (List._∷_ 98 (List._∷_ 108 (List._∷_ 111 (List._∷_ 99 (List._∷_ 107
-              (List._∷_ 58 (List._∷_ 58 (List._∷_ 68 (List._∷_ 101 (List._∷_ 99 (List._∷_ 111 (List._∷_ 100 (List._∷_ 101 (List._∷_ 100 List.[])))))))))))))) (Syntax.ttcons Syntax.tnil (Syntax.ttcons
-              (Syntax.tcons (Syntax.tyEnum (List._∷_ 115 (List._∷_ 116 (List._∷_ 114 (List._∷_ 101 (List._∷_ 97 (List._∷_ 109 (List._∷_ 58 (List._∷_ 58 (List._∷_ 82 (List._∷_ 101 (List._∷_ 102 (List._∷_
-              117 (List._∷_ 115 (List._∷_ 97 (List._∷_ 108 List.[]))))))))))))))) (Syntax.ttcons Syntax.tnil (Syntax.ttcons Syntax.tnil (Syntax.ttcons Syntax.tnil (Syntax.ttcons (Syntax.tcons
-              (Syntax.tyInt Syntax.w64) Syntax.tnil) (Syntax.ttcons Syntax.tnil (Syntax.ttcons Syntax.tnil (Syntax.ttcons Syntax.tnil (Syntax.ttcons Syntax.tnil (Syntax.ttcons Syntax.tnil (Syntax.ttcons
-              Syntax.tnil (Syntax.ttcons (Syntax.tcons (Syntax.tyInt Syntax.w64) Syntax.tnil) (Syntax.ttcons (Syntax.tcons (Syntax.tyInt Syntax.w64) Syntax.tnil) (Syntax.ttcons Syntax.tnil (Syntax.ttcons
-              (Syntax.tcons (Syntax.tyInt Syntax.w64) (Syntax.tcons (Syntax.tyInt Syntax.w64) Syntax.tnil)) (Syntax.ttcons (Syntax.tcons (Syntax.tyInt Syntax.w64) Syntax.tnil) (Syntax.ttcons Syntax.tnil
-              (Syntax.ttcons Syntax.tnil (Syntax.ttcons (Syntax.tcons (Syntax.tyInt Syntax.w64) Syntax.tnil) (Syntax.ttcons (Syntax.tcons (Syntax.tyInt Syntax.w64) Syntax.tnil) (Syntax.ttcons
-              (Syntax.tcons (Syntax.tyInt Syntax.w64) Syntax.tnil) (Syntax.ttcons Syntax.tnil (Syntax.ttcons Syntax.tnil (Syntax.ttcons (Syntax.tcons (Syntax.tyInt Syntax.w64) (Syntax.tcons (Syntax.tyInt
-              Syntax.w64) Syntax.tnil)) (Syntax.ttcons Syntax.tnil Syntax.ttnil))))))))))))))))))))))))) Syntax.tnil) Syntax.ttnil)))) (tt, tt) Path'.refl (λ m wa. Make.made-val Decoded.the-type
-              Laws'.the-laws List.[] (Decoded.enum .make (Logic.inl tt)) tt (wa .1)) λ m wa. Make.made-is Decoded.the-type Laws'.the-laws List.[] (Decoded.enum .make (Logic.inl tt)) tt (wa .1)) d9
+          d5 : Typed.Typed 𝓤 H A 𝓣 E (on T17 l5) b9 Δ1 at5
+          d5 = Typed.g-pre 𝓤 H A W 𝓣 E (on T17 l5) (on T18 l5) b9 Δ1 (Typed.pass T17 T18 s15) at4 (Scalar.g-room 𝓤 H A W E (on T17 l5) 5 y0 (Init.room-arr 𝓤 H A W n8 36 0 36 Path'.refl)) d4
 
-          d11 : Typed.Typed 𝓤 H A 𝓣 E G29 b12 Δ1 at11
-          d11 = Typed.g-pre 𝓤 H A W 𝓣 E G29 G30 b12 Δ1 (Typed.pass T29 T30 s27) at10 (Scalar.g-room 𝓤 H A W E G29 9 (Syntax.tyEnum (List._∷_ 98 (List._∷_ 101 (List._∷_ 103 (List._∷_ 105 (List._∷_ 110
-              (List._∷_ 58 (List._∷_ 58 (List._∷_ 66 (List._∷_ 101 (List._∷_ 103 (List._∷_ 105 (List._∷_ 110 (List._∷_ 110 (List._∷_ 105 (List._∷_ 110 (List._∷_ 103 List.[])))))))))))))))) (Syntax.ttcons
-              (Syntax.tcons (Syntax.tyEnum (List._∷_ 115 (List._∷_ 116 (List._∷_ 114 (List._∷_ 101 (List._∷_ 97 (List._∷_ 109 (List._∷_ 58 (List._∷_ 58 (List._∷_ 82 (List._∷_ 101 (List._∷_ 102 (List._∷_
-              117 (List._∷_ 115 (List._∷_ 97 (List._∷_ 108 List.[]))))))))))))))) (Syntax.ttcons Syntax.tnil (Syntax.ttcons Syntax.tnil (Syntax.ttcons Syntax.tnil (Syntax.ttcons (Syntax.tcons
-              (Syntax.tyInt Syntax.w64) Syntax.tnil) (Syntax.ttcons Syntax.tnil (Syntax.ttcons Syntax.tnil (Syntax.ttcons Syntax.tnil (Syntax.ttcons Syntax.tnil (Syntax.ttcons Syntax.tnil (Syntax.ttcons
-              Syntax.tnil (Syntax.ttcons (Syntax.tcons (Syntax.tyInt Syntax.w64) Syntax.tnil) (Syntax.ttcons (Syntax.tcons (Syntax.tyInt Syntax.w64) Syntax.tnil) (Syntax.ttcons Syntax.tnil (Syntax.ttcons
-              (Syntax.tcons (Syntax.tyInt Syntax.w64) (Syntax.tcons (Syntax.tyInt Syntax.w64) Syntax.tnil)) (Syntax.ttcons (Syntax.tcons (Syntax.tyInt Syntax.w64) Syntax.tnil) (Syntax.ttcons Syntax.tnil
-              (Syntax.ttcons Syntax.tnil (Syntax.ttcons (Syntax.tcons (Syntax.tyInt Syntax.w64) Syntax.tnil) (Syntax.ttcons (Syntax.tcons (Syntax.tyInt Syntax.w64) Syntax.tnil) (Syntax.ttcons
-              (Syntax.tcons (Syntax.tyInt Syntax.w64) Syntax.tnil) (Syntax.ttcons Syntax.tnil (Syntax.ttcons Syntax.tnil (Syntax.ttcons (Syntax.tcons (Syntax.tyInt Syntax.w64) (Syntax.tcons (Syntax.tyInt
-              Syntax.w64) Syntax.tnil)) (Syntax.ttcons Syntax.tnil Syntax.ttnil))))))))))))))))))))))))) Syntax.tnil) (Syntax.ttcons Syntax.tnil (Syntax.ttcons (Syntax.tcons y2 Syntax.tnil)
-              Syntax.ttnil)))) (Local.room-whole 𝓤 H A W (Declared.row Beginning.the-type) (Syntax.tyEnum (List._∷_ 98 (List._∷_ 101 (List._∷_ 103 (List._∷_ 105 (List._∷_ 110 (List._∷_ 58 (List._∷_ 58
-              (List._∷_ 66 (List._∷_ 101 (List._∷_ 103 (List._∷_ 105 (List._∷_ 110 (List._∷_ 110 (List._∷_ 105 (List._∷_ 110 (List._∷_ 103 List.[])))))))))))))))) (Syntax.ttcons (Syntax.tcons
-              (Syntax.tyEnum (List._∷_ 115 (List._∷_ 116 (List._∷_ 114 (List._∷_ 101 (List._∷_ 97 (List._∷_ 109 (List._∷_ 58 (List._∷_ 58 (List._∷_ 82 (List._∷_ 101 (List._∷_ 102 (List._∷_ 117 (List._∷_
-              115 (List._∷_ 97 (List._∷_ 108 List.[]))))))))))))))) (Syntax.ttcons Syntax.tnil (Syntax.ttcons Syntax.tnil (Syntax.ttcons Syntax.tnil (Syntax.ttcons (Syntax.tcons (Syntax.tyInt Syntax.w64)
-              Syntax.tnil) (Syntax.ttcons Syntax.tnil (Syntax.ttcons Syntax.tnil (Syntax.ttcons Syntax.tnil (Syntax.ttcons Syntax.tnil (Syntax.ttcons Syntax.tnil (Syntax.ttcons Syntax.tnil (Syntax.ttcons
-              (Syntax.tcons (Syntax.tyInt Syntax.w64) Syntax.tnil) (Syntax.ttcons (Syntax.tcons (Syntax.tyInt Syntax.w64) Syntax.tnil) (Syntax.ttcons Syntax.tnil (Syntax.ttcons (Syntax.tcons (Syntax.tyInt
-              Syntax.w64) (Syntax.tcons (Syntax.tyInt Syntax.w64) Syntax.tnil)) (Syntax.ttcons (Syntax.tcons (Syntax.tyInt Syntax.w64) Syntax.tnil) (Syntax.ttcons Syntax.tnil (Syntax.ttcons Syntax.tnil
-              (Syntax.ttcons (Syntax.tcons (Syntax.tyInt Syntax.w64) Syntax.tnil) (Syntax.ttcons (Syntax.tcons (Syntax.tyInt Syntax.w64) Syntax.tnil) (Syntax.ttcons (Syntax.tcons (Syntax.tyInt Syntax.w64)
-              Syntax.tnil) (Syntax.ttcons Syntax.tnil (Syntax.ttcons Syntax.tnil (Syntax.ttcons (Syntax.tcons (Syntax.tyInt Syntax.w64) (Syntax.tcons (Syntax.tyInt Syntax.w64) Syntax.tnil)) (Syntax.ttcons
-              Syntax.tnil Syntax.ttnil))))))))))))))))))))))))) Syntax.tnil) (Syntax.ttcons Syntax.tnil (Syntax.ttcons (Syntax.tcons y2 Syntax.tnil) Syntax.ttnil)))) Path'.refl)) d10
+          d6 : Typed.Typed 𝓤 H A 𝓣 E (on T15 l5) b9 Δ1 at6
+          d6 = Typed.g-pre 𝓤 H A W 𝓣 E (on T15 l5) (on T17 l5) b9 Δ1 (Typed.pass T15 T17 s14) at5 (Scalar.g-room 𝓤 H A W E (on T15 l5) 4 y10 (Local.room-whole 𝓤 H A W (Declared'.row Rect.the-type) y10
+              Path'.refl)) d5
 
-          d12 : Typed.Typed 𝓤 H A 𝓣 E G28 b12 Δ1 at12
-          d12 = Typed.g-pre 𝓤 H A W 𝓣 E G28 G29 b12 Δ1 (Typed.pass T28 T29 s26) at11 (Scalar.g-room 𝓤 H A W E G28 5 (Syntax.tyArray (Syntax.tyInt Syntax.w8) 36) (Init.room-arr 𝓤 H A W (Referent.rtF
-              (Referent.fInt Syntax.w8)) 36 0 36 Path'.refl)) d11
+          d7 : Typed.Typed 𝓤 H A 𝓣 E (on T15 l5) b9 Δ1 at7
+          d7 = Typed.g-pre 𝓤 H A W 𝓣 E (on T15 l5) (on T15 l5) b9 Δ1 (Typed.give s13) at6 (Known.g-known-told 𝓤 H A W E Beginning.enum 0 (on T15 l5) 9 Laws.the-laws (λ x. x) (Reads'.as-is 𝓤 H A
+              (Rows'.whole (Known.Known Beginning.enum 0)))) d6
 
-          d13 : Typed.Typed 𝓤 H A 𝓣 E G27 b12 Δ1 at13
-          d13 = Typed.g-pre 𝓤 H A W 𝓣 E G27 G28 b12 Δ1 (Typed.pass T27 T28 s25) at12 (Scalar.g-room 𝓤 H A W E G27 4 y1 (Local.room-whole 𝓤 H A W (Declared'.row Rect.the-type) y1 Path'.refl)) d12
+          d8 : Typed.Typed 𝓤 H A 𝓣 E (on T14 l5) b9 Δ1 at8
+          d8 = Typed.g-pre 𝓤 H A W 𝓣 E (on T14 l5) (on T15 l5) b9 Δ1 (Typed.both s12) at7 (Known.g-enum-known 𝓤 H A W E Beginning.enum 0 (on T14 l5) 9 (λ x. x) (Reads'.as-is 𝓤 H A (Rows'.whole
+              (Declared.row Beginning.the-type)))) d7
 
-          d14 : Typed.Typed 𝓤 H A 𝓣 E G14 b12 Δ1 at14
-          d14 = Typed.g-pre 𝓤 H A W 𝓣 E G14 G27 b12 Δ1 (Typed.both s24) at13 (Known.g-enum-told 𝓤 H A W E Beginning.enum 1 G14 9 λ x. x) d13
+          d9 : Typed.Typed 𝓤 H A 𝓣 E (on T31 l5) b11 Δ1 at9
+          d9 = Typed.s-typed 𝓤 H A W 𝓣 E (on T31 l5) b11 Δ1 (λ Ψ. Typed.both s29 (Typed.pass T32 T33 s30 (Typed.pass T33 T34 s31 (Typed.pass T34 T13 s32 Ψ)))) tt (Typed.g-post 𝓤 H A W 𝓣 E (on T31 l5)
+              (on T34 l5) (on T13 l5) b11 (λ Ψ. Typed.both s29 (Typed.pass T32 T33 s30 (Typed.pass T33 T34 s31 Ψ))) (Typed.pass T34 T13 s32) (Typed.g-post 𝓤 H A W 𝓣 E (on T31 l5) (on T33 l5) (on T34 l5)
+              b11 (λ Ψ. Typed.both s29 (Typed.pass T32 T33 s30 Ψ)) (Typed.pass T33 T34 s31) (Typed.g-post 𝓤 H A W 𝓣 E (on T31 l5) (on T32 l5) (on T33 l5) b11 (Typed.both s29) (Typed.pass T32 T33 s30)
+              (Plain.t-call-plain 𝓤 H A W 𝓣 0 ps·2 r·2 (claims· .4) (claims· .5) "block::sharing::handed_back" (known .2) E (λ pos β. β) (on T31 l5)
+              (record { pos = 1; st = []; d = 0; at = λ x. x }, (record { pos = 10; st = []; d = 0; at = λ x. x }, (record { pos = 21; st = []; d = 0; at = λ x. x }, tt))) 19 [] (Call.sub-id 𝓤 H A W ((on
+              T31 l5) .slots)) (
+                (Values.enum-copied 𝓤 H A W Camera.the-type Laws'3.the-laws Laws'3.the-copy, Path'.refl),
+                ((Values.struct-copied 𝓤 H A W Entries.the-type Laws'4.the-laws Laws'4.the-copy, Path'.refl), ((Values.enum-copied 𝓤 H A W Decoded.the-type Laws'.the-laws Laws'.the-copy, Path'.refl), tt)),
+              )
+              (Reads'.room-gone 𝓤 H A y19) tt Path'.refl) (Scalar.g-room 𝓤 H A W E (on T32 l5) 1 y2 (Local.room-whole 𝓤 H A W (Declared.row Camera.the-type) y2 Path'.refl))) (Scalar.g-room 𝓤 H A W E (on
+              T33 l5) 10 y18 (Local.room-whole 𝓤 H A W (Declared'.row Entries.the-type) y18 Path'.refl))) (Scalar.g-room 𝓤 H A W E (on T34 l5) 21 y13 (Local.room-whole 𝓤 H A W (Declared.row
+              Decoded.the-type) y13 Path'.refl)))
 
-          d15 : Typed.Typed 𝓤 H A 𝓣 E G74 b27 Δ1 at15
-          d15 = Typed.s-typed 𝓤 H A W 𝓣 E G74 b27 Δ1 (λ Ψ. Typed.both s72 (Typed.pass T75 T76 s73 (Typed.pass T76 T77 s74 (Typed.pass T77 T78 s75 (Typed.pass T78 T79 s76 Ψ))))) tt (Typed.g-post 𝓤 H A
-              W 𝓣 E G74 G78 G79 b27 (λ Ψ. Typed.both s72 (Typed.pass T75 T76 s73 (Typed.pass T76 T77 s74 (Typed.pass T77 T78 s75 Ψ)))) (Typed.pass T78 T79 s76) (Typed.g-post 𝓤 H A W 𝓣 E G74 G77 G78 b27 (λ
-              Ψ. Typed.both s72 (Typed.pass T75 T76 s73 (Typed.pass T76 T77 s74 Ψ))) (Typed.pass T77 T78 s75) (Typed.g-post 𝓤 H A W 𝓣 E G74 G76 G77 b27 (λ Ψ. Typed.both s72 (Typed.pass T75 T76 s73 Ψ))
-              (Typed.pass T76 T77 s74) (Typed.g-post 𝓤 H A W 𝓣 E G74 G75 G76 b27 (Typed.both s72) (Typed.pass T75 T76 s73) (Plain.t-call-plain 𝓤 H A W 𝓣 0 ps·2 r·2 (claims· .4) (claims· .5)
-              "block::sharing::handed_back" (known .2) E (λ pos β. β) G74 (
-                record { pos = 1; st = List.[]; d = 0; at = λ x. x },
-                (record { pos = 14; st = List._∷_ (Syntax.field 1) List.[]; d = 32; at = λ x. SharedAnswer.struct .as-values x .1 .0 }, (record { pos = 15; st = List.[]; d = 0; at = λ x. x }, tt)),
-              ) 19
-              List.[] (Call.sub-id 𝓤 H A W (G74 .slots)) (
-                (
-                  Yields.yields-copy 𝓤 H A W (λ ρ. Unit) (Declared.row Camera.the-type) Path'.refl (Copies.cEnum Camera.the-type Laws'3.the-laws Laws'3.the-copy .copy 𝓤 H A W) (Rows'.whole (Declared.row
-                      Camera.the-type)) (λ x. x) (λ x. x) (λ ρ told. Local.mem-whole 𝓤 H A W (Declared.row Camera.the-type) ρ) λ ρ told. Local.whole-mem 𝓤 H A W (Declared.row Camera.the-type) ρ,
-                  Path'.refl,
-                ),
+          d10 : Typed.Typed 𝓤 H A 𝓣 E (on T30 l5) b12 Δ1 at10
+          d10 = Typed.s-seq 𝓤 H A W 𝓣 E (on T30 l5) (on T31 l5) b10 b11 Δ1 (Typed.pass T30 T31 s28) at9 (Make.t-enum-make-wt 𝓤 H A W E 𝓣 Decoded.the-type Laws'.the-laws Laws'.the-plain tt (on T30 l5)
+              21 ((Scalar.oInt Syntax.w8 0) ∷ []) (λ m. Decoded.enum .make (Logic.inl tt)) (Reads'.room-gone 𝓤 H A y13) (tt, tt) Path'.refl (λ m wa. Make.made-val Decoded.the-type Laws'.the-laws []
+              (Decoded.enum .make (Logic.inl tt)) tt (wa .1)) λ m wa. Make.made-is Decoded.the-type Laws'.the-laws [] (Decoded.enum .make (Logic.inl tt)) tt (wa .1)) d9
+
+          d11 : Typed.Typed 𝓤 H A 𝓣 E (on T29 l5) b12 Δ1 at11
+          d11 = Typed.g-pre 𝓤 H A W 𝓣 E (on T29 l5) (on T30 l5) b12 Δ1 (Typed.pass T29 T30 s27) at10 (Scalar.g-room 𝓤 H A W E (on T29 l5) 9 y12 (Local.room-whole 𝓤 H A W (Declared.row
+              Beginning.the-type) y12 Path'.refl)) d10
+
+          d12 : Typed.Typed 𝓤 H A 𝓣 E (on T28 l5) b12 Δ1 at12
+          d12 = Typed.g-pre 𝓤 H A W 𝓣 E (on T28 l5) (on T29 l5) b12 Δ1 (Typed.pass T28 T29 s26) at11 (Scalar.g-room 𝓤 H A W E (on T28 l5) 5 y0 (Init.room-arr 𝓤 H A W n8 36 0 36 Path'.refl)) d11
+
+          d13 : Typed.Typed 𝓤 H A 𝓣 E (on T14 l5) b12 Δ1 at13
+          d13 = Typed.g-pre 𝓤 H A W 𝓣 E (on T14 l5) (on T28 l5) b12 Δ1 (Typed.pass T14 T28 s25) at12 (Scalar.g-room 𝓤 H A W E (on T14 l5) 4 y10 (Local.room-whole 𝓤 H A W (Declared'.row Rect.the-type)
+              y10 Path'.refl)) d12
+
+          d14 : Typed.Typed 𝓤 H A 𝓣 E (on T14 l5) b12 Δ1 at14
+          d14 = Typed.g-pre 𝓤 H A W 𝓣 E (on T14 l5) (on T14 l5) b12 Δ1 (Typed.both s24) at13 (Known.g-enum-told 𝓤 H A W E Beginning.enum 1 (on T14 l5) 9 λ x. x) d13
+
+          d15 : Typed.Typed 𝓤 H A 𝓣 E (on T74 l5) b27 Δ1 at15
+          d15 = Typed.s-typed 𝓤 H A W 𝓣 E (on T74 l5) b27 Δ1 (λ Ψ. Typed.both s72 (Typed.pass T75 T76 s73 (Typed.pass T76 T77 s74 (Typed.pass T77 T78 s75 (Typed.pass T78 T13 s76 Ψ))))) tt
+              (Typed.g-post 𝓤 H A W 𝓣 E (on T74 l5) (on T78 l5) (on T13 l5) b27 (λ Ψ. Typed.both s72 (Typed.pass T75 T76 s73 (Typed.pass T76 T77 s74 (Typed.pass T77 T78 s75 Ψ)))) (Typed.pass T78 T13 s76)
+              (Typed.g-post 𝓤 H A W 𝓣 E (on T74 l5) (on T77 l5) (on T78 l5) b27 (λ Ψ. Typed.both s72 (Typed.pass T75 T76 s73 (Typed.pass T76 T77 s74 Ψ))) (Typed.pass T77 T78 s75) (Typed.g-post 𝓤 H A W 𝓣 E
+              (on T74 l5) (on T76 l5) (on T77 l5) b27 (λ Ψ. Typed.both s72 (Typed.pass T75 T76 s73 Ψ)) (Typed.pass T76 T77 s74) (Typed.g-post 𝓤 H A W 𝓣 E (on T74 l5) (on T75 l5) (on T76 l5) b27
+              (Typed.both s72) (Typed.pass T75 T76 s73) (Plain.t-call-plain 𝓤 H A W 𝓣 0 ps·2 r·2 (claims· .4) (claims· .5) "block::sharing::handed_back" (known .2) E (λ pos β. β) (on T74 l5) (
+                record { pos = 1; st = []; d = 0; at = λ x. x },
+                (record { pos = 14; st = (Syntax.field 1) ∷ []; d = 32; at = λ x. SharedAnswer.struct .as-values x .1 .0 }, (record { pos = 15; st = []; d = 0; at = λ x. x }, tt)),
+              ) 19 [] (Call.sub-id 𝓤 H A
+              W ((on T74 l5) .slots)) (
+                (Values.enum-copied 𝓤 H A W Camera.the-type Laws'3.the-laws Laws'3.the-copy, Path'.refl),
                 (
                   (
                     Yields'.yields-acc 𝓤 H A W (Rows'.whole (Declared'.row SharedAnswer.the-type)) (Declared'.row Entries.the-type) 32 (λ x. SharedAnswer.struct .as-values x .1 .0) Path'.refl (Copies.cStruct
@@ -3007,218 +1666,120 @@ module _ (claims· : Claims) where
                         TreeShare.fullShare SharedAnswer.the-type Laws''.the-laws 1 32 Path'.refl Path'.refl a y (SharedAnswer.struct .as-values y) Path'.refl)),
                     Path'.refl,
                   ),
-                  (
-                    (
-                      Yields.yields-copy 𝓤 H A W (λ ρ. Unit) (Declared.row Decoded.the-type) Path'.refl (Copies.cEnum Decoded.the-type Laws'.the-laws Laws'.the-copy .copy 𝓤 H A W) (Rows'.whole (Declared.row
-                          Decoded.the-type)) (λ x. x) (λ x. x) (λ ρ told. Local.mem-whole 𝓤 H A W (Declared.row Decoded.the-type) ρ) λ ρ told. Local.whole-mem 𝓤 H A W (Declared.row Decoded.the-type) ρ,
-                      Path'.refl,
-                    ),
-                    tt,
-                  ),
+                  ((Values.enum-copied 𝓤 H A W Decoded.the-type Laws'.the-laws Laws'.the-copy, Path'.refl), tt),
                 ),
-              ) (Reads'.room-gone 𝓤 H A y7) tt Path'.refl) (Scalar.g-room 𝓤 H A W E G75 1 (Syntax.tyEnum (List._∷_ 99 (List._∷_ 97 (List._∷_ 109 (List._∷_ 101 (List._∷_ 114 (List._∷_ 97 (List._∷_ 115
-              (List._∷_ 58 (List._∷_ 58 (List._∷_ 67 (List._∷_ 97 (List._∷_ 109 (List._∷_ 101 (List._∷_ 114 (List._∷_ 97 List.[]))))))))))))))) (Syntax.ttcons Syntax.tnil (Syntax.ttcons Syntax.tnil
-              Syntax.ttnil))) (Local.room-whole 𝓤 H A W (Declared.row Camera.the-type) (Syntax.tyEnum (List._∷_ 99 (List._∷_ 97 (List._∷_ 109 (List._∷_ 101 (List._∷_ 114 (List._∷_ 97 (List._∷_ 115
-              (List._∷_ 58 (List._∷_ 58 (List._∷_ 67 (List._∷_ 97 (List._∷_ 109 (List._∷_ 101 (List._∷_ 114 (List._∷_ 97 List.[]))))))))))))))) (Syntax.ttcons Syntax.tnil (Syntax.ttcons Syntax.tnil
-              Syntax.ttnil))) Path'.refl))) (Scalar.g-room 𝓤 H A W E G76 13 (Syntax.tyInt Syntax.w64) (Scalar.room-sc 𝓤 H A W (Row.sInt Syntax.w64)))) (Scalar.g-room 𝓤 H A W E G77 14 y7 (Local.room-whole
-              𝓤 H A W (Declared'.row SharedAnswer.the-type) y7 Path'.refl))) (Scalar.g-room 𝓤 H A W E G78 15 (Syntax.tyEnum (List._∷_ 98 (List._∷_ 108 (List._∷_ 111 (List._∷_ 99 (List._∷_ 107 (List._∷_ 58
-              (List._∷_ 58 (List._∷_ 68 (List._∷_ 101 (List._∷_ 99 (List._∷_ 111 (List._∷_ 100 (List._∷_ 101 (List._∷_ 100 List.[])))))))))))))) (Syntax.ttcons Syntax.tnil (Syntax.ttcons (Syntax.tcons
-              (Syntax.tyEnum (List._∷_ 115 (List._∷_ 116 (List._∷_ 114 (List._∷_ 101 (List._∷_ 97 (List._∷_ 109 (List._∷_ 58 (List._∷_ 58 (List._∷_ 82 (List._∷_ 101 (List._∷_ 102 (List._∷_ 117 (List._∷_
-              115 (List._∷_ 97 (List._∷_ 108 List.[]))))))))))))))) (Syntax.ttcons Syntax.tnil (Syntax.ttcons Syntax.tnil (Syntax.ttcons Syntax.tnil (Syntax.ttcons (Syntax.tcons (Syntax.tyInt Syntax.w64)
-              Syntax.tnil) (Syntax.ttcons Syntax.tnil (Syntax.ttcons Syntax.tnil (Syntax.ttcons Syntax.tnil (Syntax.ttcons Syntax.tnil (Syntax.ttcons Syntax.tnil (Syntax.ttcons Syntax.tnil (Syntax.ttcons
-              (Syntax.tcons (Syntax.tyInt Syntax.w64) Syntax.tnil) (Syntax.ttcons (Syntax.tcons (Syntax.tyInt Syntax.w64) Syntax.tnil) (Syntax.ttcons Syntax.tnil (Syntax.ttcons (Syntax.tcons (Syntax.tyInt
-              Syntax.w64) (Syntax.tcons (Syntax.tyInt Syntax.w64) Syntax.tnil)) (Syntax.ttcons (Syntax.tcons (Syntax.tyInt Syntax.w64) Syntax.tnil) (Syntax.ttcons Syntax.tnil (Syntax.ttcons Syntax.tnil
-              (Syntax.ttcons (Syntax.tcons (Syntax.tyInt Syntax.w64) Syntax.tnil) (Syntax.ttcons (Syntax.tcons (Syntax.tyInt Syntax.w64) Syntax.tnil) (Syntax.ttcons (Syntax.tcons (Syntax.tyInt Syntax.w64)
-              Syntax.tnil) (Syntax.ttcons Syntax.tnil (Syntax.ttcons Syntax.tnil (Syntax.ttcons (Syntax.tcons (Syntax.tyInt Syntax.w64) (Syntax.tcons (Syntax.tyInt Syntax.w64) Syntax.tnil)) (Syntax.ttcons
-              Syntax.tnil Syntax.ttnil))))))))))))))))))))))))) Syntax.tnil) Syntax.ttnil))) (Local.room-whole 𝓤 H A W (Declared.row Decoded.the-type) (Syntax.tyEnum (List._∷_ 98 (List._∷_ 108 (List._∷_
-              111 (List._∷_ 99 (List._∷_ 107 (List._∷_ 58 (List._∷_ 58 (List._∷_ 68 (List._∷_ 101 (List._∷_ 99 (List._∷_ 111 (List._∷_ 100 (List._∷_ 101 (List._∷_ 100 List.[])))))))))))))) (Syntax.ttcons
-              Syntax.tnil (Syntax.ttcons (Syntax.tcons (Syntax.tyEnum (List._∷_ 115 (List._∷_ 116 (List._∷_ 114 (List._∷_ 101 (List._∷_ 97 (List._∷_ 109 (List._∷_ 58 (List._∷_ 58 (List._∷_ 82 (List._∷_
-              101 (List._∷_ 102 (List._∷_ 117 (List._∷_ 115 (List._∷_ 97 (List._∷_ 108 List.[]))))))))))))))) (Syntax.ttcons Syntax.tnil (Syntax.ttcons Syntax.tnil (Syntax.ttcons Syntax.tnil
-              (Syntax.ttcons (Syntax.tcons (Syntax.tyInt Syntax.w64) Syntax.tnil) (Syntax.ttcons Syntax.tnil (Syntax.ttcons Syntax.tnil (Syntax.ttcons Syntax.tnil (Syntax.ttcons Syntax.tnil (Syntax.ttcons
-              Syntax.tnil (Syntax.ttcons Syntax.tnil (Syntax.ttcons (Syntax.tcons (Syntax.tyInt Syntax.w64) Syntax.tnil) (Syntax.ttcons (Syntax.tcons (Syntax.tyInt Syntax.w64) Syntax.tnil) (Syntax.ttcons
-              Syntax.tnil (Syntax.ttcons (Syntax.tcons (Syntax.tyInt Syntax.w64) (Syntax.tcons (Syntax.tyInt Syntax.w64) Syntax.tnil)) (Syntax.ttcons (Syntax.tcons (Syntax.tyInt Syntax.w64) Syntax.tnil)
-              (Syntax.ttcons Syntax.tnil (Syntax.ttcons Syntax.tnil (Syntax.ttcons (Syntax.tcons (Syntax.tyInt Syntax.w64) Syntax.tnil) (Syntax.ttcons (Syntax.tcons (Syntax.tyInt Syntax.w64) Syntax.tnil)
-              (Syntax.ttcons (Syntax.tcons (Syntax.tyInt Syntax.w64) Syntax.tnil) (Syntax.ttcons Syntax.tnil (Syntax.ttcons Syntax.tnil (Syntax.ttcons (Syntax.tcons (Syntax.tyInt Syntax.w64) (Syntax.tcons
-              (Syntax.tyInt Syntax.w64) Syntax.tnil)) (Syntax.ttcons Syntax.tnil Syntax.ttnil))))))))))))))))))))))))) Syntax.tnil) Syntax.ttnil))) Path'.refl)))
+              ) (Reads'.room-gone 𝓤 H A y19) tt Path'.refl) (Scalar.g-room 𝓤 H A W E (on T75 l5) 1 y2
+              (Local.room-whole 𝓤 H A W (Declared.row Camera.the-type) y2 Path'.refl))) (Scalar.g-room 𝓤 H A W E (on T76 l5) 13 u64 (Scalar.room-sc 𝓤 H A W (Row.sInt Syntax.w64)))) (Scalar.g-room 𝓤 H A W
+              E (on T77 l5) 14 y19 (Local.room-whole 𝓤 H A W (Declared'.row SharedAnswer.the-type) y19 Path'.refl))) (Scalar.g-room 𝓤 H A W E (on T78 l5) 15 y13 (Local.room-whole 𝓤 H A W (Declared.row
+              Decoded.the-type) y13 Path'.refl)))
 
-          d16 : Typed.Typed 𝓤 H A 𝓣 E G73 b28 Δ1 at16
-          d16 = Typed.s-seq 𝓤 H A W 𝓣 E G73 G74 b26 b27 Δ1 (Typed.pass T72 T74 s71) at15 (CopyOut.t-copy-told 𝓤 H A W E 𝓣 (Declared.row Decoded.the-type) Path'.refl (Laws'8.val Decoded.the-type
-              Laws'.the-laws) (Laws'8.lawful Decoded.the-type Laws'.the-laws 𝓤 H A W tt) (Laws'8.makes Decoded.the-type Laws'.the-plain 𝓤 H A) G73 15 (Scalar.oFld 14 (List._∷_ (Syntax.field 0) List.[])
-              (Syntax.tyEnum (List._∷_ 98 (List._∷_ 108 (List._∷_ 111 (List._∷_ 99 (List._∷_ 107 (List._∷_ 58 (List._∷_ 58 (List._∷_ 68 (List._∷_ 101 (List._∷_ 99 (List._∷_ 111 (List._∷_ 100 (List._∷_ 101
-              (List._∷_ 100 List.[])))))))))))))) (Syntax.ttcons Syntax.tnil (Syntax.ttcons (Syntax.tcons (Syntax.tyEnum (List._∷_ 115 (List._∷_ 116 (List._∷_ 114 (List._∷_ 101 (List._∷_ 97 (List._∷_ 109
-              (List._∷_ 58 (List._∷_ 58 (List._∷_ 82 (List._∷_ 101 (List._∷_ 102 (List._∷_ 117 (List._∷_ 115 (List._∷_ 97 (List._∷_ 108 List.[]))))))))))))))) (Syntax.ttcons Syntax.tnil (Syntax.ttcons
-              Syntax.tnil (Syntax.ttcons Syntax.tnil (Syntax.ttcons (Syntax.tcons (Syntax.tyInt Syntax.w64) Syntax.tnil) (Syntax.ttcons Syntax.tnil (Syntax.ttcons Syntax.tnil (Syntax.ttcons Syntax.tnil
-              (Syntax.ttcons Syntax.tnil (Syntax.ttcons Syntax.tnil (Syntax.ttcons Syntax.tnil (Syntax.ttcons (Syntax.tcons (Syntax.tyInt Syntax.w64) Syntax.tnil) (Syntax.ttcons (Syntax.tcons
-              (Syntax.tyInt Syntax.w64) Syntax.tnil) (Syntax.ttcons Syntax.tnil (Syntax.ttcons (Syntax.tcons (Syntax.tyInt Syntax.w64) (Syntax.tcons (Syntax.tyInt Syntax.w64) Syntax.tnil)) (Syntax.ttcons
-              (Syntax.tcons (Syntax.tyInt Syntax.w64) Syntax.tnil) (Syntax.ttcons Syntax.tnil (Syntax.ttcons Syntax.tnil (Syntax.ttcons (Syntax.tcons (Syntax.tyInt Syntax.w64) Syntax.tnil) (Syntax.ttcons
-              (Syntax.tcons (Syntax.tyInt Syntax.w64) Syntax.tnil) (Syntax.ttcons (Syntax.tcons (Syntax.tyInt Syntax.w64) Syntax.tnil) (Syntax.ttcons Syntax.tnil (Syntax.ttcons Syntax.tnil (Syntax.ttcons
-              (Syntax.tcons (Syntax.tyInt Syntax.w64) (Syntax.tcons (Syntax.tyInt Syntax.w64) Syntax.tnil)) (Syntax.ttcons Syntax.tnil Syntax.ttnil))))))))))))))))))))))))) Syntax.tnil) Syntax.ttnil))) 0
-              λ x. Laws'8.val Decoded.the-type Laws'.the-laws (SharedAnswer.struct .as-values x .0)) (λ m. SharedAnswer.struct .as-values (m .1 .1 .1 .1 .1 .1 .1 .1 .1 .1 .1 .1 .1 .1 .0) .0) (λ m.
-              Laws'9.Is (Declared'.row SharedAnswer.the-type) (m .1 .1 .1 .1 .1 .1 .1 .1 .1 .1 .1 .1 .1 .1 .0) (Laws'10.vals SharedAnswer.the-type Laws''.the-laws (m .1 .1 .1 .1 .1 .1 .1 .1 .1 .1 .1 .1 .1
-              .1 .0))) (Reads'.room-gone 𝓤 H A (Syntax.tyEnum (List._∷_ 98 (List._∷_ 108 (List._∷_ 111 (List._∷_ 99 (List._∷_ 107 (List._∷_ 58 (List._∷_ 58 (List._∷_ 68 (List._∷_ 101 (List._∷_ 99
-              (List._∷_ 111 (List._∷_ 100 (List._∷_ 101 (List._∷_ 100 List.[])))))))))))))) (Syntax.ttcons Syntax.tnil (Syntax.ttcons (Syntax.tcons (Syntax.tyEnum (List._∷_ 115 (List._∷_ 116 (List._∷_ 114
-              (List._∷_ 101 (List._∷_ 97 (List._∷_ 109 (List._∷_ 58 (List._∷_ 58 (List._∷_ 82 (List._∷_ 101 (List._∷_ 102 (List._∷_ 117 (List._∷_ 115 (List._∷_ 97 (List._∷_ 108 List.[])))))))))))))))
-              (Syntax.ttcons Syntax.tnil (Syntax.ttcons Syntax.tnil (Syntax.ttcons Syntax.tnil (Syntax.ttcons (Syntax.tcons (Syntax.tyInt Syntax.w64) Syntax.tnil) (Syntax.ttcons Syntax.tnil (Syntax.ttcons
-              Syntax.tnil (Syntax.ttcons Syntax.tnil (Syntax.ttcons Syntax.tnil (Syntax.ttcons Syntax.tnil (Syntax.ttcons Syntax.tnil (Syntax.ttcons (Syntax.tcons (Syntax.tyInt Syntax.w64) Syntax.tnil)
-              (Syntax.ttcons (Syntax.tcons (Syntax.tyInt Syntax.w64) Syntax.tnil) (Syntax.ttcons Syntax.tnil (Syntax.ttcons (Syntax.tcons (Syntax.tyInt Syntax.w64) (Syntax.tcons (Syntax.tyInt Syntax.w64)
-              Syntax.tnil)) (Syntax.ttcons (Syntax.tcons (Syntax.tyInt Syntax.w64) Syntax.tnil) (Syntax.ttcons Syntax.tnil (Syntax.ttcons Syntax.tnil (Syntax.ttcons (Syntax.tcons (Syntax.tyInt Syntax.w64)
-              Syntax.tnil) (Syntax.ttcons (Syntax.tcons (Syntax.tyInt Syntax.w64) Syntax.tnil) (Syntax.ttcons (Syntax.tcons (Syntax.tyInt Syntax.w64) Syntax.tnil) (Syntax.ttcons Syntax.tnil (Syntax.ttcons
-              Syntax.tnil (Syntax.ttcons (Syntax.tcons (Syntax.tyInt Syntax.w64) (Syntax.tcons (Syntax.tyInt Syntax.w64) Syntax.tnil)) (Syntax.ttcons Syntax.tnil Syntax.ttnil)))))))))))))))))))))))))
-              Syntax.tnil) Syntax.ttnil)))) (
-                Reads.reads-field 𝓤 H A W SharedAnswer.the-type Laws''.the-laws 0 (Syntax.tyEnum (List._∷_ 98 (List._∷_ 108 (List._∷_ 111 (List._∷_ 99 (List._∷_ 107 (List._∷_ 58 (List._∷_ 58 (List._∷_ 68
-                    (List._∷_ 101 (List._∷_ 99 (List._∷_ 111 (List._∷_ 100 (List._∷_ 101 (List._∷_ 100 List.[])))))))))))))) (Syntax.ttcons Syntax.tnil (Syntax.ttcons (Syntax.tcons (Syntax.tyEnum (List._∷_ 115
-                    (List._∷_ 116 (List._∷_ 114 (List._∷_ 101 (List._∷_ 97 (List._∷_ 109 (List._∷_ 58 (List._∷_ 58 (List._∷_ 82 (List._∷_ 101 (List._∷_ 102 (List._∷_ 117 (List._∷_ 115 (List._∷_ 97 (List._∷_ 108
-                    List.[]))))))))))))))) (Syntax.ttcons Syntax.tnil (Syntax.ttcons Syntax.tnil (Syntax.ttcons Syntax.tnil (Syntax.ttcons (Syntax.tcons (Syntax.tyInt Syntax.w64) Syntax.tnil) (Syntax.ttcons
-                    Syntax.tnil (Syntax.ttcons Syntax.tnil (Syntax.ttcons Syntax.tnil (Syntax.ttcons Syntax.tnil (Syntax.ttcons Syntax.tnil (Syntax.ttcons Syntax.tnil (Syntax.ttcons (Syntax.tcons (Syntax.tyInt
-                    Syntax.w64) Syntax.tnil) (Syntax.ttcons (Syntax.tcons (Syntax.tyInt Syntax.w64) Syntax.tnil) (Syntax.ttcons Syntax.tnil (Syntax.ttcons (Syntax.tcons (Syntax.tyInt Syntax.w64) (Syntax.tcons
-                    (Syntax.tyInt Syntax.w64) Syntax.tnil)) (Syntax.ttcons (Syntax.tcons (Syntax.tyInt Syntax.w64) Syntax.tnil) (Syntax.ttcons Syntax.tnil (Syntax.ttcons Syntax.tnil (Syntax.ttcons (Syntax.tcons
-                    (Syntax.tyInt Syntax.w64) Syntax.tnil) (Syntax.ttcons (Syntax.tcons (Syntax.tyInt Syntax.w64) Syntax.tnil) (Syntax.ttcons (Syntax.tcons (Syntax.tyInt Syntax.w64) Syntax.tnil) (Syntax.ttcons
-                    Syntax.tnil (Syntax.ttcons Syntax.tnil (Syntax.ttcons (Syntax.tcons (Syntax.tyInt Syntax.w64) (Syntax.tcons (Syntax.tyInt Syntax.w64) Syntax.tnil)) (Syntax.ttcons Syntax.tnil
-                    Syntax.ttnil))))))))))))))))))))))))) Syntax.tnil) Syntax.ttnil))) 0 Path'.refl,
-                Path'.refl,
-              ) Path'.refl (λ ρ m. Make'.tells-row 𝓤 H A W E ρ (Row.out 15 (G73 .locals)) m 14 (Laws'9.Is
-              (Declared'.row SharedAnswer.the-type) (m .1 .1 .1 .1 .1 .1 .1 .1 .1 .1 .1 .1 .1 .1 .0) (Laws'10.vals SharedAnswer.the-type Laws''.the-laws (m .1 .1 .1 .1 .1 .1 .1 .1 .1 .1 .1 .1 .1 .1 .0)))
-              (Make'.whole-is 𝓤 H A W E (Declared'.row SharedAnswer.the-type) Path'.refl (Laws'10.val SharedAnswer.the-type Laws''.the-laws) (Laws'10.tells SharedAnswer.the-type Laws''.the-laws) ρ 14 (m
-              .1 .1 .1 .1 .1 .1 .1 .1 .1 .1 .1 .1 .1 .1 .0))) (λ m k wa. Path'.refl) λ m k wa. Laws'10.owed SharedAnswer.the-type Laws''.the-laws (m .1 .1 .1 .1 .1 .1 .1 .1 .1 .1 .1 .1 .1 .1 .0)
-              (Laws'10.vals SharedAnswer.the-type Laws''.the-laws (m .1 .1 .1 .1 .1 .1 .1 .1 .1 .1 .1 .1 .1 .1 .0)) k .0) d15
+          d16 : Typed.Typed 𝓤 H A 𝓣 E (on T72 l5) b28 Δ1 at16
+          d16 = Typed.s-seq 𝓤 H A W 𝓣 E (on T72 l5) (on T74 l5) b26 b27 Δ1 (Typed.pass T72 T74 s71) at15 (CopyOut.t-copy-told 𝓤 H A W E 𝓣 (Declared.row Decoded.the-type) Path'.refl (Laws'8.val
+              Decoded.the-type Laws'.the-laws) (Laws'8.lawful Decoded.the-type Laws'.the-laws 𝓤 H A W tt) (Laws'8.makes Decoded.the-type Laws'.the-plain 𝓤 H A) (on T72 l5) 15 (Scalar.oFld 14
+              ((Syntax.field 0) ∷ []) y13 0 λ x. Laws'8.val Decoded.the-type Laws'.the-laws (SharedAnswer.struct .as-values x .0)) (λ m. SharedAnswer.struct .as-values (m .1 .1 .1 .1 .1 .1 .1 .1 .1 .1 .1
+              .1 .1 .1 .0) .0) (λ m. Laws'9.Is (Declared'.row SharedAnswer.the-type) (m .1 .1 .1 .1 .1 .1 .1 .1 .1 .1 .1 .1 .1 .1 .0) (Laws'10.vals SharedAnswer.the-type Laws''.the-laws (m .1 .1 .1 .1 .1
+              .1 .1 .1 .1 .1 .1 .1 .1 .1 .0))) (Reads'.room-gone 𝓤 H A y13) (Reads.reads-field 𝓤 H A W SharedAnswer.the-type Laws''.the-laws 0 y13 0 Path'.refl, Path'.refl) Path'.refl (λ ρ m.
+              Make'.tells-row 𝓤 H A W E ρ (Row.out 15 ((on T72 l5) .locals)) m 14 (Laws'9.Is (Declared'.row SharedAnswer.the-type) (m .1 .1 .1 .1 .1 .1 .1 .1 .1 .1 .1 .1 .1 .1 .0) (Laws'10.vals
+              SharedAnswer.the-type Laws''.the-laws (m .1 .1 .1 .1 .1 .1 .1 .1 .1 .1 .1 .1 .1 .1 .0))) (Make'.whole-is 𝓤 H A W E (Declared'.row SharedAnswer.the-type) Path'.refl (Laws'10.val
+              SharedAnswer.the-type Laws''.the-laws) (Laws'10.tells SharedAnswer.the-type Laws''.the-laws) ρ 14 (m .1 .1 .1 .1 .1 .1 .1 .1 .1 .1 .1 .1 .1 .1 .0))) (λ m k wa. Path'.refl) λ m k wa.
+              Laws'10.owed SharedAnswer.the-type Laws''.the-laws (m .1 .1 .1 .1 .1 .1 .1 .1 .1 .1 .1 .1 .1 .1 .0) (Laws'10.vals SharedAnswer.the-type Laws''.the-laws (m .1 .1 .1 .1 .1 .1 .1 .1 .1 .1 .1 .1
+              .1 .1 .0)) k .0) d15
 
-          d17 : Typed.Typed 𝓤 H A 𝓣 E G72 b28 Δ1 at17
-          d17 = Typed.g-pre 𝓤 H A W 𝓣 E G72 G73 b28 Δ1 (λ Ψ. Ψ) at16 (Lifetime.g-forget 𝓤 H A W E G72 6 Row.dead Path'.refl) d16
+          d17 : Typed.Typed 𝓤 H A 𝓣 E G72 b28 Δ1 at16
+          d17 = Typed.g-pre 𝓤 H A W 𝓣 E G72 (on T72 l5) b28 Δ1 (λ Ψ. Ψ) at16 (Lifetime.g-forget 𝓤 H A W E G72 6 Row.dead Path'.refl) d16
 
           d18 : Typed.Typed 𝓤 H A 𝓣 E G71 b28 Δ1 at18
-          d18 = Typed.g-pre 𝓤 H A W 𝓣 E G71 G72 b28 Δ1 (Typed.both s69) at17 (PartMut.g-back-slᵐ 𝓤 H A W E (Element.type) G71 31 8 3 6 (Syntax.tyRef (Syntax.named 3) Syntax.mut Element.behind)
-              (Syntax.tyRef Syntax.erased Syntax.mut Element.behind) (Row.lease (κs .1 .1 .1 .0) (qs .1 .1 .1 .0)) (λ x. x) (λ x. x) (Reads'.as-is 𝓤 H A (Mut.msleft (Element.type) (Syntax.tyRef
-              Syntax.erased Syntax.mut Element.behind))) (Reads'.as-is 𝓤 H A (PartMut.mslice-owedM (Element.type) (Syntax.tyRef (Syntax.named 3) Syntax.mut Element.behind) 3 6 (Row.lease (κs .1 .1 .1 .0)
-              (qs .1 .1 .1 .0)))) Path'.refl Path'.refl) d17
+          d18 = Typed.g-pre 𝓤 H A W 𝓣 E G71 G72 b28 Δ1 (Typed.both s69) at16 (PartMut.g-back-slᵐ 𝓤 H A W E (Element.type) G71 31 8 3 6 y6 y7 k3 (λ x. x) (λ x. x) (Reads'.as-is 𝓤 H A (Mut.msleft
+              (Element.type) y7)) (Reads'.as-is 𝓤 H A (PartMut.mslice-owedM (Element.type) y6 3 6 k3)) Path'.refl Path'.refl) d17
 
-          d19 : Typed.Typed 𝓤 H A 𝓣 E G70 b28 Δ1 at19
+          d19 : Typed.Typed 𝓤 H A 𝓣 E G70 b28 Δ1 at18
           d19 = Typed.g-pre 𝓤 H A W 𝓣 E G70 G71 b28 Δ1 (λ Ψ. Ψ) at18 (Lifetime.g-end 𝓤 H A W E G70 6 Path'.refl) d18
 
-          d20 : Typed.Typed 𝓤 H A 𝓣 E G69 b28 Δ1 at20
-          d20 = Typed.g-pre 𝓤 H A W 𝓣 E G69 G70 b28 Δ1 (λ Ψ. Ψ) at19 (Lifetime.g-forget 𝓤 H A W E G69 5 Row.dead Path'.refl) d19
+          d20 : Typed.Typed 𝓤 H A 𝓣 E G68 b28 Δ1 at18
+          d20 = Typed.g-pre 𝓤 H A W 𝓣 E G68 G70 b28 Δ1 (λ Ψ. Ψ) at18 (Lifetime.g-forget 𝓤 H A W E G68 5 Row.dead Path'.refl) d19
 
           d21 : Typed.Typed 𝓤 H A 𝓣 E G68 b28 Δ1 at21
-          d21 = Typed.g-pre 𝓤 H A W 𝓣 E G68 G69 b28 Δ1 (Typed.give s66) at20 (Know.g-sl-known 𝓤 H A W (Referent.fInt Syntax.w16) E G68 7 2 (Syntax.tyRef (Syntax.named 2) Syntax.mut (Syntax.tyInt
-              Syntax.w16)) (Row.lease (κs .1 .1 .0) (qs .1 .1 .0)) 0 (λ x. x) record { fits = Dec'.lit< tt } (Reads'.as-is 𝓤 H A (Mut.mslice (Referent.rtF (Referent.fInt Syntax.w16)) (Syntax.tyRef
-              (Syntax.named 2) Syntax.mut (Syntax.tyInt Syntax.w16)) 2)) Path'.refl tt) d20
+          d21 = Typed.g-pre 𝓤 H A W 𝓣 E G68 G68 b28 Δ1 (Typed.give s66) at18 (Know.g-sl-known 𝓤 H A W (Referent.fInt Syntax.w16) E G68 7 2 y5 k2 0 (λ x. x) record { fits = Dec'.lit< tt } (Reads'.as-is
+              𝓤 H A (Mut.mslice n16 y5 2)) Path'.refl tt) d20
 
           d22 : Typed.Typed 𝓤 H A 𝓣 E G67 b28 Δ1 at22
-          d22 = Typed.g-pre 𝓤 H A W 𝓣 E G67 G68 b28 Δ1 (Typed.both s65) at21 (PartMut.g-back-slᵐ 𝓤 H A W E (Referent.rtF (Referent.fInt Syntax.w16)) G67 27 7 2 5 (Syntax.tyRef (Syntax.named 2)
-              Syntax.mut (Syntax.tyInt Syntax.w16)) (Syntax.tyRef Syntax.erased Syntax.mut (Syntax.tyInt Syntax.w16)) (Row.lease (κs .1 .1 .0) (qs .1 .1 .0)) (λ x. x) (λ x. x) (Reads'.as-is 𝓤 H A
-              (Mut.msleft (Referent.rtF (Referent.fInt Syntax.w16)) (Syntax.tyRef Syntax.erased Syntax.mut (Syntax.tyInt Syntax.w16)))) (Reads'.as-is 𝓤 H A (PartMut.mslice-owedM (Referent.rtF
-              (Referent.fInt Syntax.w16)) (Syntax.tyRef (Syntax.named 2) Syntax.mut (Syntax.tyInt Syntax.w16)) 2 5 (Row.lease (κs .1 .1 .0) (qs .1 .1 .0)))) Path'.refl Path'.refl) d21
+          d22 = Typed.g-pre 𝓤 H A W 𝓣 E G67 G68 b28 Δ1 (Typed.both s65) at21 (PartMut.g-back-slᵐ 𝓤 H A W E n16 G67 27 7 2 5 y5 y8 k2 (λ x. x) (λ x. x) (Reads'.as-is 𝓤 H A (Mut.msleft n16 y8))
+              (Reads'.as-is 𝓤 H A (PartMut.mslice-owedM n16 y5 2 5 k2)) Path'.refl Path'.refl) d21
 
-          d23 : Typed.Typed 𝓤 H A 𝓣 E G66 b28 Δ1 at23
+          d23 : Typed.Typed 𝓤 H A 𝓣 E G66 b28 Δ1 at22
           d23 = Typed.g-pre 𝓤 H A W 𝓣 E G66 G67 b28 Δ1 (λ Ψ. Ψ) at22 (Lifetime.g-end 𝓤 H A W E G66 5 Path'.refl) d22
 
-          d24 : Typed.Typed 𝓤 H A 𝓣 E G65 b28 Δ1 at24
-          d24 = Typed.g-pre 𝓤 H A W 𝓣 E G65 G66 b28 Δ1 (λ Ψ. Ψ) at23 (Lifetime.g-forget 𝓤 H A W E G65 4 Row.dead Path'.refl) d23
+          d24 : Typed.Typed 𝓤 H A 𝓣 E G64 b28 Δ1 at22
+          d24 = Typed.g-pre 𝓤 H A W 𝓣 E G64 G66 b28 Δ1 (λ Ψ. Ψ) at22 (Lifetime.g-forget 𝓤 H A W E G64 4 Row.dead Path'.refl) d23
 
           d25 : Typed.Typed 𝓤 H A 𝓣 E G64 b28 Δ1 at25
-          d25 = Typed.g-pre 𝓤 H A W 𝓣 E G64 G65 b28 Δ1 (Typed.give s62) at24 (Know.g-sl-known 𝓤 H A W (Referent.fInt Syntax.w16) E G64 6 1 (Syntax.tyRef (Syntax.named 1) Syntax.mut (Syntax.tyInt
-              Syntax.w16)) (Row.lease (κs .1 .0) (qs .1 .0)) 0 (λ x. x) record { fits = Dec'.lit< tt } (Reads'.as-is 𝓤 H A (Mut.mslice (Referent.rtF (Referent.fInt Syntax.w16)) (Syntax.tyRef (Syntax.named
-              1) Syntax.mut (Syntax.tyInt Syntax.w16)) 1)) Path'.refl tt) d24
+          d25 = Typed.g-pre 𝓤 H A W 𝓣 E G64 G64 b28 Δ1 (Typed.give s62) at22 (Know.g-sl-known 𝓤 H A W (Referent.fInt Syntax.w16) E G64 6 1 y4 k1 0 (λ x. x) record { fits = Dec'.lit< tt } (Reads'.as-is
+              𝓤 H A (Mut.mslice n16 y4 1)) Path'.refl tt) d24
 
           d26 : Typed.Typed 𝓤 H A 𝓣 E G63 b28 Δ1 at26
-          d26 = Typed.g-pre 𝓤 H A W 𝓣 E G63 G64 b28 Δ1 (Typed.both s61) at25 (Relend.g-back-sl 𝓤 H A W E (Referent.rtF (Referent.fInt Syntax.w16)) G63 23 6 1 4 (Syntax.tyRef (Syntax.named 1)
-              Syntax.mut (Syntax.tyInt Syntax.w16)) (Syntax.tyRef Syntax.erased Syntax.mut (Syntax.tyInt Syntax.w16)) (Row.lease (κs .1 .0) (qs .1 .0)) (λ x. x) (λ x. x) (Reads'.as-is 𝓤 H A (Mut.msleft
-              (Referent.rtF (Referent.fInt Syntax.w16)) (Syntax.tyRef Syntax.erased Syntax.mut (Syntax.tyInt Syntax.w16)))) (Reads'.as-is 𝓤 H A (Relend.mslice-owed (Referent.rtF (Referent.fInt
-              Syntax.w16)) (Syntax.tyRef (Syntax.named 1) Syntax.mut (Syntax.tyInt Syntax.w16)) 1 4 (Row.lease (κs .1 .0) (qs .1 .0)))) Path'.refl Path'.refl) d25
+          d26 = Typed.g-pre 𝓤 H A W 𝓣 E G63 G64 b28 Δ1 (Typed.both s61) at25 (Relend.g-back-sl 𝓤 H A W E n16 G63 23 6 1 4 y4 y8 k1 (λ x. x) (λ x. x) (Reads'.as-is 𝓤 H A (Mut.msleft n16 y8))
+              (Reads'.as-is 𝓤 H A (Relend.mslice-owed n16 y4 1 4 k1)) Path'.refl Path'.refl) d25
 
-          d27 : Typed.Typed 𝓤 H A 𝓣 E G62 b28 Δ1 at27
+          d27 : Typed.Typed 𝓤 H A 𝓣 E G62 b28 Δ1 at26
           d27 = Typed.g-pre 𝓤 H A W 𝓣 E G62 G63 b28 Δ1 (λ Ψ. Ψ) at26 (Lifetime.g-end 𝓤 H A W E G62 4 Path'.refl) d26
 
           d28 : Typed.Typed 𝓤 H A 𝓣 E G61 b28 Δ1 at28
-          d28 = Typed.g-pre 𝓤 H A W 𝓣 E G61 G62 b28 Δ1 (Typed.pass T61 T62 s59) at27 (Scalar.g-room 𝓤 H A W E G61 12 y2 (Local.room-whole 𝓤 H A W (Declared'.row FujiHeader.the-type) y2 Path'.refl))
+          d28 = Typed.g-pre 𝓤 H A W 𝓣 E G61 G62 b28 Δ1 (Typed.pass T61 T62 s59) at26 (Scalar.g-room 𝓤 H A W E G61 12 y11 (Local.room-whole 𝓤 H A W (Declared'.row FujiHeader.the-type) y11 Path'.refl))
               d27
 
           d29 : Typed.Typed 𝓤 H A 𝓣 E G60 b28 Δ1 at29
-          d29 = Typed.g-pre 𝓤 H A W 𝓣 E G60 G61 b28 Δ1 (Typed.pass T60 T61 s58) at28 (Scalar.g-room 𝓤 H A W E G60 10 y6 (Local.room-whole 𝓤 H A W (Declared'.row Entries.the-type) y6 Path'.refl)) d28
+          d29 = Typed.g-pre 𝓤 H A W 𝓣 E G60 G61 b28 Δ1 (Typed.pass T60 T61 s58) at28 (Scalar.g-room 𝓤 H A W E G60 10 y18 (Local.room-whole 𝓤 H A W (Declared'.row Entries.the-type) y18 Path'.refl)) d28
 
           d30 : Typed.Typed 𝓤 H A 𝓣 E G59 b28 Δ1 at30
-          d30 = Typed.g-pre 𝓤 H A W 𝓣 E G59 G60 b28 Δ1 (Typed.pass T59 T60 s57) at29 (Scalar.g-room 𝓤 H A W E G59 5 (Syntax.tyArray (Syntax.tyInt Syntax.w8) 36) (Init.room-arr 𝓤 H A W (Referent.rtF
-              (Referent.fInt Syntax.w8)) 36 0 36 Path'.refl)) d29
+          d30 = Typed.g-pre 𝓤 H A W 𝓣 E G59 G60 b28 Δ1 (Typed.pass T59 T60 s57) at29 (Scalar.g-room 𝓤 H A W E G59 5 y0 (Init.room-arr 𝓤 H A W n8 36 0 36 Path'.refl)) d29
 
           d31 : Typed.Typed 𝓤 H A 𝓣 E G58 b28 Δ1 at31
-          d31 = Typed.g-pre 𝓤 H A W 𝓣 E G58 G59 b28 Δ1 (Typed.pass T58 T59 s56) at30 (Scalar.g-room 𝓤 H A W E G58 4 y1 (Local.room-whole 𝓤 H A W (Declared'.row Rect.the-type) y1 Path'.refl)) d30
+          d31 = Typed.g-pre 𝓤 H A W 𝓣 E G58 G59 b28 Δ1 (Typed.pass T58 T59 s56) at30 (Scalar.g-room 𝓤 H A W E G58 4 y10 (Local.room-whole 𝓤 H A W (Declared'.row Rect.the-type) y10 Path'.refl)) d30
 
-          d32 : Typed.Typed 𝓤 H A 𝓣 E G57 b29 Δ1 at32
+          d32 : Typed.Typed 𝓤 H A 𝓣 E G57 (Syntax.seq b25 b28) Δ1 at32
           d32 = Typed.s-seq 𝓤 H A W 𝓣 E G57 G58 b25 b28 Δ1 (Typed.both s55) at31 (Plain.t-call-plain 𝓤 H A W 𝓣 4 ps·4 r·4 (claims· .8) (claims· .9) "block::sharing::decode_shared_blocks" (known .4) E
               (λ pos β. β) G57 (
-                record { pos = 1; st = List.[]; d = 0; at = λ x. x },
+                record { pos = 1; st = []; d = 0; at = λ x. x },
                 (
-                  record { pos = 10; st = List.[]; d = 0; at = λ x. x },
+                  record { pos = 10; st = []; d = 0; at = λ x. x },
                   (
-                    record { pos = 3; ty = Syntax.tyRef (Syntax.named 0) Syntax.imm (Syntax.tyInt Syntax.w8); ref = λ x. x },
+                    record { pos = 3; ty = y3; ref = λ x. x },
                     (
-                      record { pos = 12; st = List.[]; d = 0; at = λ x. x },
+                      record { pos = 12; st = []; d = 0; at = λ x. x },
                       (
-                        record { pos = 4; st = List.[]; d = 0; at = λ x. x },
+                        record { pos = 4; st = []; d = 0; at = λ x. x },
                         (
-                          record { pos = 5; st = List.[]; d = 0; at = λ x. x },
-                          (
-                            record { pos = 23; ty = Syntax.tyRef Syntax.erased Syntax.mut (Syntax.tyInt Syntax.w16); ref = λ x. x },
-                            (
-                              record { pos = 27; ty = Syntax.tyRef Syntax.erased Syntax.mut (Syntax.tyInt Syntax.w16); ref = λ x. x },
-                              (record { pos = 31; ty = Syntax.tyRef Syntax.erased Syntax.mut Element.behind; ref = λ x. x }, tt),
-                            ),
-                          ),
+                          record { pos = 5; st = []; d = 0; at = λ x. x },
+                          (record { pos = 23; ty = y8; ref = λ x. x }, (record { pos = 27; ty = y8; ref = λ x. x }, (record { pos = 31; ty = y7; ref = λ x. x }, tt))),
                         ),
                       ),
                     ),
                   ),
                 ),
-              ) 14 (List._∷_ 0 (List._∷_ 4 (List._∷_ 5 (List._∷_ 6 List.[])))) (Call.sub-id 𝓤 H A
-              W (G57 .slots)) (
+              ) 14 (0 ∷ 4 ∷ 5 ∷ 6 ∷ []) (Call.sub-id 𝓤 H
+              A W (G57 .slots)) (
+                (Values.enum-copied 𝓤 H A W Camera.the-type Laws'3.the-laws Laws'3.the-copy, Path'.refl),
                 (
-                  Yields.yields-copy 𝓤 H A W (λ ρ. Unit) (Declared.row Camera.the-type) Path'.refl (Copies.cEnum Camera.the-type Laws'3.the-laws Laws'3.the-copy .copy 𝓤 H A W) (Rows'.whole (Declared.row
-                      Camera.the-type)) (λ x. x) (λ x. x) (λ ρ told. Local.mem-whole 𝓤 H A W (Declared.row Camera.the-type) ρ) λ ρ told. Local.whole-mem 𝓤 H A W (Declared.row Camera.the-type) ρ,
-                  Path'.refl,
-                ),
-                (
+                  (Values.struct-copied 𝓤 H A W Entries.the-type Laws'4.the-laws Laws'4.the-copy, Path'.refl),
                   (
-                    Yields.yields-copy 𝓤 H A W (λ ρ. Unit) (Declared'.row Entries.the-type) Path'.refl (Copies.cStruct Entries.the-type Laws'4.the-laws Laws'4.the-copy .copy 𝓤 H A W) (Rows'.whole
-                        (Declared'.row Entries.the-type)) (λ x. x) (λ x. x) (λ ρ told. Local.mem-whole 𝓤 H A W (Declared'.row Entries.the-type) ρ) λ ρ told. Local.whole-mem 𝓤 H A W (Declared'.row Entries.the-type)
-                        ρ,
-                    Path'.refl,
-                  ),
-                  (
-                    ShrSlice.spares-sslice 𝓤 H A W (Referent.rtF (Referent.fInt Syntax.w8)) (Syntax.tyRef (Syntax.named 0) Syntax.imm (Syntax.tyInt Syntax.w8)) 0,
-                    Shared.reads-sslice 𝓤 H A W (Referent.rtF
-                        (Referent.fInt Syntax.w8)) (Syntax.tyRef (Syntax.named 0) Syntax.imm (Syntax.tyInt Syntax.w8)) 0,
+                    ShrSlice.spares-sslice 𝓤 H A W n8 y3 0,
+                    Shared.reads-sslice 𝓤 H A W n8 y3 0,
                     Path'.refl,
                     (
+                      (Values.struct-copied 𝓤 H A W FujiHeader.the-type Laws'6.the-laws Laws'6.the-copy, Path'.refl),
                       (
-                        Yields.yields-copy 𝓤 H A W (λ ρ. Unit) (Declared'.row FujiHeader.the-type) Path'.refl (Copies.cStruct FujiHeader.the-type Laws'6.the-laws Laws'6.the-copy .copy 𝓤 H A W) (Rows'.whole
-                            (Declared'.row FujiHeader.the-type)) (λ x. x) (λ x. x) (λ ρ told. Local.mem-whole 𝓤 H A W (Declared'.row FujiHeader.the-type) ρ) λ ρ told. Local.whole-mem 𝓤 H A W (Declared'.row
-                            FujiHeader.the-type) ρ,
-                        Path'.refl,
-                      ),
-                      (
-                        (
-                          Yields.yields-copy 𝓤 H A W (λ ρ. Unit) (Declared'.row Rect.the-type) Path'.refl (Copies.cStruct Rect.the-type Laws'5.the-laws Laws'5.the-copy .copy 𝓤 H A W) (Rows'.whole (Declared'.row
-                              Rect.the-type)) (λ x. x) (λ x. x) (λ ρ told. Local.mem-whole 𝓤 H A W (Declared'.row Rect.the-type) ρ) λ ρ told. Local.whole-mem 𝓤 H A W (Declared'.row Rect.the-type) ρ,
-                          Path'.refl,
-                        ),
+                        (Values.struct-copied 𝓤 H A W Rect.the-type Laws'5.the-laws Laws'5.the-copy, Path'.refl),
                         (
                           (Array.arr-yields 𝓤 H A W (Array.eInt Syntax.w8) (Array.eInt-laws Syntax.w8) 36, Path'.refl),
                           (
-                            Reads'.as-is 𝓤 H A (Mut.mslice (Referent.rtF (Referent.fInt Syntax.w16)) (Syntax.tyRef Syntax.erased Syntax.mut (Syntax.tyInt Syntax.w16)) 4),
-                            Mut.reads-mslice 𝓤 H A W (Referent.rtF
-                                (Referent.fInt Syntax.w16)) (Syntax.tyRef Syntax.erased Syntax.mut (Syntax.tyInt Syntax.w16)) 4,
+                            Reads'.as-is 𝓤 H A (Mut.mslice n16 y8 4),
+                            Mut.reads-mslice 𝓤 H A W n16 y8 4,
                             Path'.refl,
                             (
-                              Reads'.as-is 𝓤 H A (Mut.mslice (Referent.rtF (Referent.fInt Syntax.w16)) (Syntax.tyRef Syntax.erased Syntax.mut (Syntax.tyInt Syntax.w16)) 5),
-                              Mut.reads-mslice 𝓤 H A W (Referent.rtF
-                                  (Referent.fInt Syntax.w16)) (Syntax.tyRef Syntax.erased Syntax.mut (Syntax.tyInt Syntax.w16)) 5,
+                              Reads'.as-is 𝓤 H A (Mut.mslice n16 y8 5),
+                              Mut.reads-mslice 𝓤 H A W n16 y8 5,
                               Path'.refl,
-                              (
-                                Reads'.as-is 𝓤 H A (Mut.mslice (Element.type) (Syntax.tyRef Syntax.erased Syntax.mut Element.behind) 6),
-                                Mut.reads-mslice 𝓤 H A W (Element.type) (Syntax.tyRef Syntax.erased Syntax.mut
-                                    Element.behind) 6,
-                                Path'.refl,
-                                tt,
-                              ),
+                              (Reads'.as-is 𝓤 H A (Mut.mslice (Element.type) y7 6), Mut.reads-mslice 𝓤 H A W (Element.type) y7 6, Path'.refl, tt),
                             ),
                           ),
                         ),
@@ -3226,343 +1787,215 @@ module _ (claims· : Claims) where
                     ),
                   ),
                 ),
-              ) (Reads'.room-gone 𝓤 H A y7) (tt, (tt, (tt, (tt, tt)))) Path'.refl) d31
+              ) (Reads'.room-gone 𝓤 H A y19) (tt, (tt, (tt, (tt, tt))))
+              Path'.refl) d31
 
-          d33 : Typed.Typed 𝓤 H A 𝓣 E G56 b29 Δ1 at33
-          d33 = Typed.g-pre 𝓤 H A W 𝓣 E G56 G57 b29 Δ1 (Typed.pass T56 T57 s54) at32 (Scalar.g-room 𝓤 H A W E G56 29 (Syntax.tyInt Syntax.w64) (Scalar.room-sc 𝓤 H A W (Row.sInt Syntax.w64))) d32
+          d33 : Typed.Typed 𝓤 H A 𝓣 E G56 (Syntax.seq b25 b28) Δ1 at33
+          d33 = Typed.g-pre 𝓤 H A W 𝓣 E G56 G57 (Syntax.seq b25 b28) Δ1 (Typed.pass T56 T57 s54) at32 (Scalar.g-room 𝓤 H A W E G56 29 u64 (Scalar.room-sc 𝓤 H A W (Row.sInt Syntax.w64))) d32
 
-          d34 : Typed.Typed 𝓤 H A 𝓣 E G55 b30 Δ1 at34
-          d34 = Typed.s-seq 𝓤 H A W 𝓣 E G55 G56 b24 b29 Δ1 (Typed.ask s53) at33 (Relend.t-sl-aggregate 𝓤 H A W E (Element.type) 𝓣 (Relend.asMut (Element.type)) G55 30 31 6 (Syntax.tyRef Syntax.erased
-              Syntax.mut Element.behind) (Syntax.tyRef Syntax.erased Syntax.mut Element.behind) (λ x. x) (Scalar.oAt 29 (Syntax.tyInt Syntax.w64) (Row.valS (Row.sInt Syntax.w64))) (Reads'.as-is 𝓤 H A
-              (Relend.msptr (Element.type) (Syntax.tyRef Syntax.erased Syntax.mut Element.behind) 6)) (Reads'.room-gone 𝓤 H A y4) (Scalar.reads-sc 𝓤 H A W (Row.sInt Syntax.w64), Path'.refl) Path'.refl
-              Path'.refl λ b o k. tt) d33
+          d34 : Typed.Typed 𝓤 H A 𝓣 E G55 (Syntax.seq b24 (Syntax.seq b25 b28)) Δ1 at34
+          d34 = Typed.s-seq 𝓤 H A W 𝓣 E G55 G56 b24 (Syntax.seq b25 b28) Δ1 (Typed.ask s53) at33 (Relend.t-sl-aggregate 𝓤 H A W E (Element.type) 𝓣 (Relend.asMut (Element.type)) G55 30 31 6 y7 y7 (λ x.
+              x) (Scalar.oAt 29 u64 (Row.valS (Row.sInt Syntax.w64))) (Reads'.as-is 𝓤 H A (Relend.msptr (Element.type) y7 6)) (Reads'.room-gone 𝓤 H A y14)
+              (Scalar.reads-sc 𝓤 H A W (Row.sInt Syntax.w64), Path'.refl) Path'.refl Path'.refl λ b o k. tt) d33
 
-          d35 : Typed.Typed 𝓤 H A 𝓣 E G54 b30 Δ1 at35
-          d35 = Typed.g-pre 𝓤 H A W 𝓣 E G54 G55 b30 Δ1 (Typed.pass T54 T55 s52) at34 (Scalar.g-room 𝓤 H A W E G54 28 Syntax.tyPtr (Scalar.room-sc 𝓤 H A W Row.sPtr)) d34
+          d35 : Typed.Typed 𝓤 H A 𝓣 E G54 (Syntax.seq b24 (Syntax.seq b25 b28)) Δ1 at35
+          d35 = Typed.g-pre 𝓤 H A W 𝓣 E G54 G55 (Syntax.seq b24 (Syntax.seq b25 b28)) Δ1 (Typed.pass T54 T55 s52) at34 (Scalar.g-room 𝓤 H A W E G54 28 Syntax.tyPtr (Scalar.room-sc 𝓤 H A W Row.sPtr))
+              d34
 
           d36 : Typed.Typed 𝓤 H A 𝓣 E G53 b31 Δ1 at36
-          d36 = Typed.s-seq 𝓤 H A W 𝓣 E G53 G54 b23 b30 Δ1 (Typed.both s51) at35 (PartMut.t-sl-relendᵐ 𝓤 H A W E (Element.type) 𝓣 G53 8 28 30 3 6 (Element.held) (Syntax.tyRef (Syntax.named 3)
-              Syntax.mut Element.behind) (Syntax.tyRef Syntax.erased Syntax.mut Element.behind) (Row.lease (κs .1 .1 .1 .0) (qs .1 .1 .1 .0)) (Shared.bySize 8) (λ x. x) (λ x. x) (λ u. 0) (λ u. 336) (λ i
-              o. Elements.at-mul o 8 i) (Reads'.as-is 𝓤 H A (Mut.mslice (Element.type) (Syntax.tyRef (Syntax.named 3) Syntax.mut Element.behind) 3)) (Reads'.as-is 𝓤 H A (Rows'.sc-here Row.sPtr))
-              (Reads'.room-gone 𝓤 H A (Syntax.tyRef Syntax.erased Syntax.mut Element.behind)) Path'.refl tt Path'.refl Path'.refl λ b o. tt) d35
+          d36 = Typed.s-seq 𝓤 H A W 𝓣 E G53 G54 b23 (Syntax.seq b24 (Syntax.seq b25 b28)) Δ1 (Typed.both s51) at35 (PartMut.t-sl-relendᵐ 𝓤 H A W E (Element.type) 𝓣 G53 8 28 30 3 6 (Element.held) y6 y7
+              k3 (Shared.bySize 8) (λ x. x) (λ x. x) (λ u. 0) (λ u. 336) (λ i o. Elements.at-mul o 8 i) (Reads'.as-is 𝓤 H A (Mut.mslice (Element.type) y6 3)) (Reads'.as-is 𝓤 H A (Rows'.sc-here Row.sPtr))
+              (Reads'.room-gone 𝓤 H A y7) Path'.refl tt Path'.refl Path'.refl λ b o. tt) d35
 
-          d37 : Typed.Typed 𝓤 H A 𝓣 E G52 b31 Δ1 at37
-          d37 = Typed.g-pre 𝓤 H A W 𝓣 E G52 G53 b31 Δ1 (λ Ψ. Ψ) at36 (Lifetime.g-begin 𝓤 H A W E G52 6 (
-            tt,
-            (
-              tt,
-              (
-                tt,
-                (
-                  tt,
-                  (tt, (tt, ((tt, tt), ((tt, tt), (tt, (tt, (tt, (tt, (tt, (tt, (tt, (tt, (tt, (tt, (tt, (tt, (tt, (tt, (tt, (tt, (tt, (tt, (tt, (tt, (tt, (tt, (tt, (tt, tt)))))))))))))))))))))))))))),
-                ),
-              ),
-            ),
-          ))
+          d37 : Typed.Typed 𝓤 H A 𝓣 E G52 b31 Δ1 at36
+          d37 = Typed.g-pre 𝓤 H A W 𝓣 E G52 G53 b31 Δ1 (λ Ψ. Ψ) at36 (Lifetime.g-begin 𝓤 H A W E G52 6
+              (tt, (tt, (tt, (tt, (tt, (tt, ((tt, tt), ((tt, tt), (tt, (tt, (tt, (tt, (tt, (tt, (tt, (tt, (tt, (tt, (tt, (tt, (tt, (tt, (tt, (tt, (tt, (tt, (tt, (tt, (tt, (tt, (tt, (tt, tt)))))))))))))))))))))))))))))))))
               d36
 
-          d38 : Typed.Typed 𝓤 H A 𝓣 E G51 b32 Δ1 at38
-          d38 = Typed.s-seq 𝓤 H A W 𝓣 E G51 G52 b22 b31 Δ1 (Typed.ask s49) at37 (Scalar.t-op2 𝓤 H A W E 𝓣 G51 (Syntax.sub Syntax.unsigned) (Scalar.oInt Syntax.w64 336) (Scalar.oInt Syntax.w64 0) 29
-              (Rows'.sc-here (Row.sInt Syntax.w64)) (Syntax.tyInt Syntax.w64) (Row.valS (Row.sInt Syntax.w64)) (Row.sInt Syntax.w64 .of) tt tt (Reads'.room-gone 𝓤 H A (Syntax.tyInt Syntax.w64))
-              (Scalar.holds-sc 𝓤 H A W (Row.sInt Syntax.w64)) Path'.refl (λ u. Path'.refl) λ u. tt) d37
+          d38 : Typed.Typed 𝓤 H A 𝓣 E G51 (Syntax.seq b22 b31) Δ1 at38
+          d38 = Typed.s-seq 𝓤 H A W 𝓣 E G51 G52 b22 b31 Δ1 (Typed.ask s49) at36 (Scalar.t-op2 𝓤 H A W E 𝓣 G51 (Syntax.sub Syntax.unsigned) (Scalar.oInt Syntax.w64 336) (Scalar.oInt Syntax.w64 0) 29
+              (Rows'.sc-here (Row.sInt Syntax.w64)) u64 (Row.valS (Row.sInt Syntax.w64)) (Row.sInt Syntax.w64 .of) tt tt (Reads'.room-gone 𝓤 H A u64) (Scalar.holds-sc 𝓤 H A W (Row.sInt Syntax.w64))
+              Path'.refl (λ u. Path'.refl) λ u. tt) d37
 
-          d39 : Typed.Typed 𝓤 H A 𝓣 E G50 b33 Δ1 at39
-          d39 = Typed.s-seq 𝓤 H A W 𝓣 E G50 G51 b21 b32 Δ1 (Typed.ask s48) at38 (Scalar.t-op2 𝓤 H A W E 𝓣 G50 Syntax.offset (Scalar.oFld 8 (List._∷_ (Syntax.field 0) List.[]) (Syntax.tyRef
-              (Syntax.named 3) Syntax.mut Element.behind) 0 Reads'.ptrVal) (Scalar.oInt Syntax.w64 0) 28 (Rows'.sc-here Row.sPtr) Syntax.tyPtr (Row.valS Row.sPtr) (Row.sPtr .of)
-              (Mut.reads-mslice-ptr 𝓤 H A W (Element.type) (Syntax.tyRef (Syntax.named 3) Syntax.mut Element.behind) 3 0 Path'.refl, Path'.refl) tt (Reads'.room-gone 𝓤 H A Syntax.tyPtr) (Scalar.holds-sc 𝓤
-              H A W Row.sPtr) Path'.refl (λ u. Path'.refl) λ u. tt) d38
+          d39 : Typed.Typed 𝓤 H A 𝓣 E G50 (Syntax.seq b21 (Syntax.seq b22 b31)) Δ1 at39
+          d39 = Typed.s-seq 𝓤 H A W 𝓣 E G50 G51 b21 (Syntax.seq b22 b31) Δ1 (Typed.ask s48) at38 (Scalar.t-op2 𝓤 H A W E 𝓣 G50 Syntax.offset (Scalar.oFld 8 ((Syntax.field 0) ∷ []) y6 0 Reads'.ptrVal)
+              (Scalar.oInt Syntax.w64 0) 28 (Rows'.sc-here Row.sPtr) Syntax.tyPtr (Row.valS Row.sPtr) (Row.sPtr .of) (Mut.reads-mslice-ptr 𝓤 H A W (Element.type) y6 3 0 Path'.refl, Path'.refl) tt
+              (Reads'.room-gone 𝓤 H A Syntax.tyPtr) (Scalar.holds-sc 𝓤 H A W Row.sPtr) Path'.refl (λ u. Path'.refl) λ u. tt) d38
 
-          d40 : Typed.Typed 𝓤 H A 𝓣 E G49 b33 Δ1 at40
-          d40 = Typed.g-pre 𝓤 H A W 𝓣 E G49 G50 b33 Δ1 (Typed.pass T49 T50 s47) at39 (Scalar.g-room 𝓤 H A W E G49 25 (Syntax.tyInt Syntax.w64) (Scalar.room-sc 𝓤 H A W (Row.sInt Syntax.w64))) d39
+          d40 : Typed.Typed 𝓤 H A 𝓣 E G49 (Syntax.seq b21 (Syntax.seq b22 b31)) Δ1 at40
+          d40 = Typed.g-pre 𝓤 H A W 𝓣 E G49 G50 (Syntax.seq b21 (Syntax.seq b22 b31)) Δ1 (Typed.pass T49 T50 s47) at39 (Scalar.g-room 𝓤 H A W E G49 25 u64 (Scalar.room-sc 𝓤 H A W (Row.sInt
+              Syntax.w64))) d39
 
           d41 : Typed.Typed 𝓤 H A 𝓣 E G48 b34 Δ1 at41
-          d41 = Typed.s-seq 𝓤 H A W 𝓣 E G48 G49 b20 b33 Δ1 (Typed.ask s46) at40 (Relend.t-sl-aggregate 𝓤 H A W E (Referent.rtF (Referent.fInt Syntax.w16)) 𝓣 (Relend.asMut (Referent.rtF (Referent.fInt
-              Syntax.w16))) G48 26 27 5 (Syntax.tyRef Syntax.erased Syntax.mut (Syntax.tyInt Syntax.w16)) (Syntax.tyRef Syntax.erased Syntax.mut (Syntax.tyInt Syntax.w16)) (λ x. x) (Scalar.oAt 25
-              (Syntax.tyInt Syntax.w64) (Row.valS (Row.sInt Syntax.w64))) (Reads'.as-is 𝓤 H A (Relend.msptr (Referent.rtF (Referent.fInt Syntax.w16)) (Syntax.tyRef Syntax.erased Syntax.mut (Syntax.tyInt
-              Syntax.w16)) 5)) (Reads'.room-gone 𝓤 H A y3) (Scalar.reads-sc 𝓤 H A W (Row.sInt Syntax.w64), Path'.refl) Path'.refl Path'.refl λ b o k. tt) d40
+          d41 = Typed.s-seq 𝓤 H A W 𝓣 E G48 G49 b20 (Syntax.seq b21 (Syntax.seq b22 b31)) Δ1 (Typed.ask s46) at40 (Relend.t-sl-aggregate 𝓤 H A W E n16 𝓣 (Relend.asMut n16) G48 26 27 5 y8 y8 (λ x. x)
+              (Scalar.oAt 25 u64 (Row.valS (Row.sInt Syntax.w64))) (Reads'.as-is 𝓤 H A (Relend.msptr n16 y8 5)) (Reads'.room-gone 𝓤 H A y15) (Scalar.reads-sc 𝓤 H A W (Row.sInt Syntax.w64), Path'.refl)
+              Path'.refl Path'.refl λ b o k. tt) d40
 
           d42 : Typed.Typed 𝓤 H A 𝓣 E G47 b34 Δ1 at42
           d42 = Typed.g-pre 𝓤 H A W 𝓣 E G47 G48 b34 Δ1 (Typed.pass T47 T48 s45) at41 (Scalar.g-room 𝓤 H A W E G47 24 Syntax.tyPtr (Scalar.room-sc 𝓤 H A W Row.sPtr)) d41
 
-          d43 : Typed.Typed 𝓤 H A 𝓣 E G46 b35 Δ1 at43
-          d43 = Typed.s-seq 𝓤 H A W 𝓣 E G46 G47 b19 b34 Δ1 (Typed.both s44) at42 (PartMut.t-sl-relendᵐ 𝓤 H A W E (Referent.rtF (Referent.fInt Syntax.w16)) 𝓣 G46 7 24 26 2 5 (Syntax.tyInt Syntax.w16)
-              (Syntax.tyRef (Syntax.named 2) Syntax.mut (Syntax.tyInt Syntax.w16)) (Syntax.tyRef Syntax.erased Syntax.mut (Syntax.tyInt Syntax.w16)) (Row.lease (κs .1 .1 .0) (qs .1 .1 .0)) (Shared.bySize
-              2) (λ x. x) (λ x. x) (λ u. 0) (λ u. u .1 .1 .1 .1 .1 .1 .1 .1 .1 .1 .1 .1 .1 .0) (λ i o. Elements.at-mul o 2 i) (Reads'.as-is 𝓤 H A (Mut.mslice (Referent.rtF (Referent.fInt Syntax.w16))
-              (Syntax.tyRef (Syntax.named 2) Syntax.mut (Syntax.tyInt Syntax.w16)) 2)) (Reads'.as-is 𝓤 H A (Rows'.sc-here Row.sPtr)) (Reads'.room-gone 𝓤 H A (Syntax.tyRef Syntax.erased Syntax.mut
-              (Syntax.tyInt Syntax.w16))) Path'.refl tt Path'.refl Path'.refl λ b o. tt) d42
+          d43 : Typed.Typed 𝓤 H A 𝓣 E G46 (Syntax.seq b19 b34) Δ1 at43
+          d43 = Typed.s-seq 𝓤 H A W 𝓣 E G46 G47 b19 b34 Δ1 (Typed.both s44) at42 (PartMut.t-sl-relendᵐ 𝓤 H A W E n16 𝓣 G46 7 24 26 2 5 u16 y5 y8 k2 (Shared.bySize 2) (λ x. x) (λ x. x) (λ u. 0) (λ u. u
+              .1 .1 .1 .1 .1 .1 .1 .1 .1 .1 .1 .1 .1 .0) (λ i o. Elements.at-mul o 2 i) (Reads'.as-is 𝓤 H A (Mut.mslice n16 y5 2)) (Reads'.as-is 𝓤 H A (Rows'.sc-here Row.sPtr)) (Reads'.room-gone 𝓤 H A y8)
+              Path'.refl tt Path'.refl Path'.refl λ b o. tt) d42
 
-          d44 : Typed.Typed 𝓤 H A 𝓣 E G45 b35 Δ1 at44
-          d44 = Typed.g-pre 𝓤 H A W 𝓣 E G45 G46 b35 Δ1 (λ Ψ. Ψ) at43 (Lifetime.g-begin 𝓤 H A W E G45 5 (
-            tt,
-            (
-              tt,
-              (
-                tt,
-                (tt, (tt, (tt, ((tt, tt), (tt, (tt, (tt, (tt, (tt, (tt, (tt, (tt, (tt, (tt, (tt, (tt, (tt, (tt, (tt, (tt, (tt, (tt, (tt, (tt, (tt, (tt, (tt, (tt, (tt, tt))))))))))))))))))))))))))))),
-              ),
-            ),
-          )) d43
+          d44 : Typed.Typed 𝓤 H A 𝓣 E G45 (Syntax.seq b19 b34) Δ1 at43
+          d44 = Typed.g-pre 𝓤 H A W 𝓣 E G45 G46 (Syntax.seq b19 b34) Δ1 (λ Ψ. Ψ) at43 (Lifetime.g-begin 𝓤 H A W E G45 5
+              (tt, (tt, (tt, (tt, (tt, (tt, ((tt, tt), (tt, (tt, (tt, (tt, (tt, (tt, (tt, (tt, (tt, (tt, (tt, (tt, (tt, (tt, (tt, (tt, (tt, (tt, (tt, (tt, (tt, (tt, (tt, (tt, (tt, tt)))))))))))))))))))))))))))))))))
+              d43
 
-          d45 : Typed.Typed 𝓤 H A 𝓣 E G44 b36 Δ1 at45
-          d45 = Typed.s-seq 𝓤 H A W 𝓣 E G44 G45 b18 b35 Δ1 (Typed.ask s42) at44 (Scalar.t-op2 𝓤 H A W E 𝓣 G44 (Syntax.sub Syntax.unsigned) (Scalar.oAt 13 (Syntax.tyInt Syntax.w64) (Row.valS (Row.sInt
-              Syntax.w64))) (Scalar.oInt Syntax.w64 0) 25 (Rows'.sc-here (Row.sInt Syntax.w64)) (Syntax.tyInt Syntax.w64) (Row.valS (Row.sInt Syntax.w64)) (Row.sInt Syntax.w64 .of)
-              (Scalar.reads-sc 𝓤 H A W (Row.sInt Syntax.w64), Path'.refl) tt (Reads'.room-gone 𝓤 H A (Syntax.tyInt Syntax.w64)) (Scalar.holds-sc 𝓤 H A W (Row.sInt Syntax.w64)) Path'.refl (λ u. Path'.refl)
-              λ u. tt) d44
+          d45 : Typed.Typed 𝓤 H A 𝓣 E G44 (Syntax.seq b18 (Syntax.seq b19 b34)) Δ1 at45
+          d45 = Typed.s-seq 𝓤 H A W 𝓣 E G44 G45 b18 (Syntax.seq b19 b34) Δ1 (Typed.ask s42) at43 (Scalar.t-op2 𝓤 H A W E 𝓣 G44 (Syntax.sub Syntax.unsigned) (Scalar.oAt 13 u64 (Row.valS (Row.sInt
+              Syntax.w64))) (Scalar.oInt Syntax.w64 0) 25 (Rows'.sc-here (Row.sInt Syntax.w64)) u64 (Row.valS (Row.sInt Syntax.w64)) (Row.sInt Syntax.w64 .of)
+              (Scalar.reads-sc 𝓤 H A W (Row.sInt Syntax.w64), Path'.refl) tt (Reads'.room-gone 𝓤 H A u64) (Scalar.holds-sc 𝓤 H A W (Row.sInt Syntax.w64)) Path'.refl (λ u. Path'.refl) λ u. tt) d44
 
           d46 : Typed.Typed 𝓤 H A 𝓣 E G43 b37 Δ1 at46
-          d46 = Typed.s-seq 𝓤 H A W 𝓣 E G43 G44 b17 b36 Δ1 (Typed.ask s41) at45 (Scalar.t-op2 𝓤 H A W E 𝓣 G43 Syntax.offset (Scalar.oFld 7 (List._∷_ (Syntax.field 0) List.[]) (Syntax.tyRef
-              (Syntax.named 2) Syntax.mut (Syntax.tyInt Syntax.w16)) 0 Reads'.ptrVal) (Scalar.oInt Syntax.w64 0) 24 (Rows'.sc-here Row.sPtr) Syntax.tyPtr (Row.valS Row.sPtr) (Row.sPtr .of)
-              (Mut.reads-mslice-ptr 𝓤 H A W (Referent.rtF (Referent.fInt Syntax.w16)) (Syntax.tyRef (Syntax.named 2) Syntax.mut (Syntax.tyInt Syntax.w16)) 2 0 Path'.refl, Path'.refl) tt (Reads'.room-gone
-              𝓤 H A Syntax.tyPtr) (Scalar.holds-sc 𝓤 H A W Row.sPtr) Path'.refl (λ u. Path'.refl) λ u. tt) d45
+          d46 = Typed.s-seq 𝓤 H A W 𝓣 E G43 G44 b17 (Syntax.seq b18 (Syntax.seq b19 b34)) Δ1 (Typed.ask s41) at45 (Scalar.t-op2 𝓤 H A W E 𝓣 G43 Syntax.offset (Scalar.oFld 7 ((Syntax.field 0) ∷ []) y5
+              0 Reads'.ptrVal) (Scalar.oInt Syntax.w64 0) 24 (Rows'.sc-here Row.sPtr) Syntax.tyPtr (Row.valS Row.sPtr) (Row.sPtr .of) (Mut.reads-mslice-ptr 𝓤 H A W n16 y5 2 0 Path'.refl, Path'.refl) tt
+              (Reads'.room-gone 𝓤 H A Syntax.tyPtr) (Scalar.holds-sc 𝓤 H A W Row.sPtr) Path'.refl (λ u. Path'.refl) λ u. tt) d45
 
-          d47 : Typed.Typed 𝓤 H A 𝓣 E G42 b38 Δ1 at47
-          d47 = Typed.s-seq 𝓤 H A W 𝓣 E G42 G43 b16 b37 Δ1 (Typed.ask s40) at46 (Relend.t-sl-aggregate 𝓤 H A W E (Referent.rtF (Referent.fInt Syntax.w16)) 𝓣 (Relend.asMut (Referent.rtF (Referent.fInt
-              Syntax.w16))) G42 22 23 4 (Syntax.tyRef Syntax.erased Syntax.mut (Syntax.tyInt Syntax.w16)) (Syntax.tyRef Syntax.erased Syntax.mut (Syntax.tyInt Syntax.w16)) (λ x. x) (Scalar.oFld 6
-              (List._∷_ (Syntax.field 1) List.[]) (Syntax.tyInt Syntax.w64) 8 λ v. Shared.lenV (v .0)) (Reads'.as-is 𝓤 H A (Relend.msptr (Referent.rtF (Referent.fInt Syntax.w16)) (Syntax.tyRef
-              Syntax.erased Syntax.mut (Syntax.tyInt Syntax.w16)) 4)) (Reads'.room-gone 𝓤 H A y3) (
-                Relend.reads-owed-len 𝓤 H A W (Referent.rtF (Referent.fInt Syntax.w16)) (Syntax.tyRef (Syntax.named 1) Syntax.mut (Syntax.tyInt Syntax.w16)) 1 4 (Row.lease (κs .1 .0) (qs .1 .0)) 8
-                    Path'.refl,
-                Path'.refl,
-              ) Path'.refl Path'.refl λ b o k. tt) d46
+          d47 : Typed.Typed 𝓤 H A 𝓣 E G42 (Syntax.seq b16 b37) Δ1 at47
+          d47 = Typed.s-seq 𝓤 H A W 𝓣 E G42 G43 b16 b37 Δ1 (Typed.ask s40) at46 (Relend.t-sl-aggregate 𝓤 H A W E n16 𝓣 (Relend.asMut n16) G42 22 23 4 y8 y8 (λ x. x) (Scalar.oFld 6 ((Syntax.field 1) ∷
+              []) u64 8 λ v. Shared.lenV (v .0)) (Reads'.as-is 𝓤 H A (Relend.msptr n16 y8 4)) (Reads'.room-gone 𝓤 H A y15) (Relend.reads-owed-len 𝓤 H A W n16 y4 1 4 k1 8 Path'.refl, Path'.refl) Path'.refl
+              Path'.refl λ b o k. tt) d46
 
-          d48 : Typed.Typed 𝓤 H A 𝓣 E G41 b39 Δ1 at48
-          d48 = Typed.s-seq 𝓤 H A W 𝓣 E G41 G42 b15 b38 Δ1 (Typed.give s39) at47 (Relend.t-sl-relend 𝓤 H A W E (Referent.rtF (Referent.fInt Syntax.w16)) 𝓣 G41 6 22 1 4 (Syntax.tyRef (Syntax.named 1)
-              Syntax.mut (Syntax.tyInt Syntax.w16)) (Syntax.tyRef Syntax.erased Syntax.mut (Syntax.tyInt Syntax.w16)) (Row.lease (κs .1 .0) (qs .1 .0)) 0 (λ x. x) (Reads'.as-is 𝓤 H A (Mut.mslice
-              (Referent.rtF (Referent.fInt Syntax.w16)) (Syntax.tyRef (Syntax.named 1) Syntax.mut (Syntax.tyInt Syntax.w16)) 1)) (Reads'.room-gone 𝓤 H A (Syntax.tyRef Syntax.erased Syntax.mut
-              (Syntax.tyInt Syntax.w16))) Path'.refl tt Path'.refl Path'.refl Path'.refl λ b o. tt) d47
+          d48 : Typed.Typed 𝓤 H A 𝓣 E G41 (Syntax.seq b15 (Syntax.seq b16 b37)) Δ1 at48
+          d48 = Typed.s-seq 𝓤 H A W 𝓣 E G41 G42 b15 (Syntax.seq b16 b37) Δ1 (Typed.give s39) at47 (Relend.t-sl-relend 𝓤 H A W E n16 𝓣 G41 6 22 1 4 y4 y8 k1 0 (λ x. x) (Reads'.as-is 𝓤 H A (Mut.mslice
+              n16 y4 1)) (Reads'.room-gone 𝓤 H A y8) Path'.refl tt Path'.refl Path'.refl Path'.refl λ b o. tt) d47
 
-          d49 : Typed.Typed 𝓤 H A 𝓣 E G40 b39 Δ1 at49
-          d49 = Typed.g-pre 𝓤 H A W 𝓣 E G40 G41 b39 Δ1 (λ Ψ. Ψ) at48 (Lifetime.g-begin 𝓤 H A W E G40 4 (
-            tt,
-            (tt, (tt, (tt, (tt, (tt, (tt, (tt, (tt, (tt, (tt, (tt, (tt, (tt, (tt, (tt, (tt, (tt, (tt, (tt, (tt, (tt, (tt, (tt, (tt, (tt, (tt, (tt, (tt, (tt, (tt, (tt, tt))))))))))))))))))))))))))))))),
-          ))
+          d49 : Typed.Typed 𝓤 H A 𝓣 E (on T40 l5) (Syntax.seq b15 (Syntax.seq b16 b37)) Δ1 at48
+          d49 = Typed.g-pre 𝓤 H A W 𝓣 E (on T40 l5) G41 (Syntax.seq b15 (Syntax.seq b16 b37)) Δ1 (λ Ψ. Ψ) at48 (Lifetime.g-begin 𝓤 H A W E (on T40 l5) 4
+              (tt, (tt, (tt, (tt, (tt, (tt, (tt, (tt, (tt, (tt, (tt, (tt, (tt, (tt, (tt, (tt, (tt, (tt, (tt, (tt, (tt, (tt, (tt, (tt, (tt, (tt, (tt, (tt, (tt, (tt, (tt, (tt, tt)))))))))))))))))))))))))))))))))
               d48
 
-          d50 : Typed.Typed 𝓤 H A 𝓣 E G39 b40 Δ1 at50
-          d50 = Typed.s-seq 𝓤 H A W 𝓣 E G39 G40 b14 b39 Δ1 (Typed.both s37) at49 (Plain.t-call-plain 𝓤 H A W 𝓣 0 ps·3 r·3 (claims· .6) (claims· .7) "begin::samples_needed" (known .3) E (λ pos β. β)
-              G39 (Bool.bFld 12 (List._∷_ (Syntax.field 1) List.[]) 1 λ x. FujiHeader.struct .as-values x .1 .0, tt) 13 List.[] (Call.sub-id 𝓤 H A W (G39 .slots))
-              ((Reads.reads-field 𝓤 H A W FujiHeader.the-type Laws'6.the-laws 1 Syntax.tyBool 1 Path'.refl, Path'.refl), tt) (Reads'.room-gone 𝓤 H A (Syntax.tyInt Syntax.w64)) tt Path'.refl) d49
+          d50 : Typed.Typed 𝓤 H A 𝓣 E (on T39 l5) b40 Δ1 at50
+          d50 = Typed.s-seq 𝓤 H A W 𝓣 E (on T39 l5) (on T40 l5) b14 (Syntax.seq b15 (Syntax.seq b16 b37)) Δ1 (Typed.both s37) at48 (Plain.t-call-plain 𝓤 H A W 𝓣 0 ps·3 r·3 (claims· .6) (claims· .7)
+              "begin::samples_needed" (known .3) E (λ pos β. β) (on T39 l5) (Bool.bFld 12 ((Syntax.field 1) ∷ []) 1 λ x. FujiHeader.struct .as-values x .1 .0, tt) 13 [] (Call.sub-id 𝓤 H A W ((on T39 l5)
+              .slots)) ((Reads.reads-field 𝓤 H A W FujiHeader.the-type Laws'6.the-laws 1 Syntax.tyBool 1 Path'.refl, Path'.refl), tt) (Reads'.room-gone 𝓤 H A u64) tt Path'.refl) d49
 
-          d51 : Typed.Typed 𝓤 H A 𝓣 E G38 b40 Δ1 at51
-          d51 = Typed.g-pre 𝓤 H A W 𝓣 E G38 G39 b40 Δ1 (Typed.pass T38 T39 s36) at50 (Scalar.g-room 𝓤 H A W E G38 9 (Syntax.tyEnum (List._∷_ 98 (List._∷_ 101 (List._∷_ 103 (List._∷_ 105 (List._∷_ 110
-              (List._∷_ 58 (List._∷_ 58 (List._∷_ 66 (List._∷_ 101 (List._∷_ 103 (List._∷_ 105 (List._∷_ 110 (List._∷_ 110 (List._∷_ 105 (List._∷_ 110 (List._∷_ 103 List.[])))))))))))))))) (Syntax.ttcons
-              (Syntax.tcons (Syntax.tyEnum (List._∷_ 115 (List._∷_ 116 (List._∷_ 114 (List._∷_ 101 (List._∷_ 97 (List._∷_ 109 (List._∷_ 58 (List._∷_ 58 (List._∷_ 82 (List._∷_ 101 (List._∷_ 102 (List._∷_
-              117 (List._∷_ 115 (List._∷_ 97 (List._∷_ 108 List.[]))))))))))))))) (Syntax.ttcons Syntax.tnil (Syntax.ttcons Syntax.tnil (Syntax.ttcons Syntax.tnil (Syntax.ttcons (Syntax.tcons
-              (Syntax.tyInt Syntax.w64) Syntax.tnil) (Syntax.ttcons Syntax.tnil (Syntax.ttcons Syntax.tnil (Syntax.ttcons Syntax.tnil (Syntax.ttcons Syntax.tnil (Syntax.ttcons Syntax.tnil (Syntax.ttcons
-              Syntax.tnil (Syntax.ttcons (Syntax.tcons (Syntax.tyInt Syntax.w64) Syntax.tnil) (Syntax.ttcons (Syntax.tcons (Syntax.tyInt Syntax.w64) Syntax.tnil) (Syntax.ttcons Syntax.tnil (Syntax.ttcons
-              (Syntax.tcons (Syntax.tyInt Syntax.w64) (Syntax.tcons (Syntax.tyInt Syntax.w64) Syntax.tnil)) (Syntax.ttcons (Syntax.tcons (Syntax.tyInt Syntax.w64) Syntax.tnil) (Syntax.ttcons Syntax.tnil
-              (Syntax.ttcons Syntax.tnil (Syntax.ttcons (Syntax.tcons (Syntax.tyInt Syntax.w64) Syntax.tnil) (Syntax.ttcons (Syntax.tcons (Syntax.tyInt Syntax.w64) Syntax.tnil) (Syntax.ttcons
-              (Syntax.tcons (Syntax.tyInt Syntax.w64) Syntax.tnil) (Syntax.ttcons Syntax.tnil (Syntax.ttcons Syntax.tnil (Syntax.ttcons (Syntax.tcons (Syntax.tyInt Syntax.w64) (Syntax.tcons (Syntax.tyInt
-              Syntax.w64) Syntax.tnil)) (Syntax.ttcons Syntax.tnil Syntax.ttnil))))))))))))))))))))))))) Syntax.tnil) (Syntax.ttcons Syntax.tnil (Syntax.ttcons (Syntax.tcons y2 Syntax.tnil)
-              Syntax.ttnil)))) (Local.room-whole 𝓤 H A W (Known.Known Beginning.enum 2) (Syntax.tyEnum (List._∷_ 98 (List._∷_ 101 (List._∷_ 103 (List._∷_ 105 (List._∷_ 110 (List._∷_ 58 (List._∷_ 58
-              (List._∷_ 66 (List._∷_ 101 (List._∷_ 103 (List._∷_ 105 (List._∷_ 110 (List._∷_ 110 (List._∷_ 105 (List._∷_ 110 (List._∷_ 103 List.[])))))))))))))))) (Syntax.ttcons (Syntax.tcons
-              (Syntax.tyEnum (List._∷_ 115 (List._∷_ 116 (List._∷_ 114 (List._∷_ 101 (List._∷_ 97 (List._∷_ 109 (List._∷_ 58 (List._∷_ 58 (List._∷_ 82 (List._∷_ 101 (List._∷_ 102 (List._∷_ 117 (List._∷_
-              115 (List._∷_ 97 (List._∷_ 108 List.[]))))))))))))))) (Syntax.ttcons Syntax.tnil (Syntax.ttcons Syntax.tnil (Syntax.ttcons Syntax.tnil (Syntax.ttcons (Syntax.tcons (Syntax.tyInt Syntax.w64)
-              Syntax.tnil) (Syntax.ttcons Syntax.tnil (Syntax.ttcons Syntax.tnil (Syntax.ttcons Syntax.tnil (Syntax.ttcons Syntax.tnil (Syntax.ttcons Syntax.tnil (Syntax.ttcons Syntax.tnil (Syntax.ttcons
-              (Syntax.tcons (Syntax.tyInt Syntax.w64) Syntax.tnil) (Syntax.ttcons (Syntax.tcons (Syntax.tyInt Syntax.w64) Syntax.tnil) (Syntax.ttcons Syntax.tnil (Syntax.ttcons (Syntax.tcons (Syntax.tyInt
-              Syntax.w64) (Syntax.tcons (Syntax.tyInt Syntax.w64) Syntax.tnil)) (Syntax.ttcons (Syntax.tcons (Syntax.tyInt Syntax.w64) Syntax.tnil) (Syntax.ttcons Syntax.tnil (Syntax.ttcons Syntax.tnil
-              (Syntax.ttcons (Syntax.tcons (Syntax.tyInt Syntax.w64) Syntax.tnil) (Syntax.ttcons (Syntax.tcons (Syntax.tyInt Syntax.w64) Syntax.tnil) (Syntax.ttcons (Syntax.tcons (Syntax.tyInt Syntax.w64)
-              Syntax.tnil) (Syntax.ttcons Syntax.tnil (Syntax.ttcons Syntax.tnil (Syntax.ttcons (Syntax.tcons (Syntax.tyInt Syntax.w64) (Syntax.tcons (Syntax.tyInt Syntax.w64) Syntax.tnil)) (Syntax.ttcons
-              Syntax.tnil Syntax.ttnil))))))))))))))))))))))))) Syntax.tnil) (Syntax.ttcons Syntax.tnil (Syntax.ttcons (Syntax.tcons y2 Syntax.tnil) Syntax.ttnil)))) Path'.refl)) d50
+          d51 : Typed.Typed 𝓤 H A 𝓣 E (on T38 l5) b40 Δ1 at51
+          d51 = Typed.g-pre 𝓤 H A W 𝓣 E (on T38 l5) (on T39 l5) b40 Δ1 (Typed.pass T38 T39 s36) at50 (Scalar.g-room 𝓤 H A W E (on T38 l5) 9 y12 (Local.room-whole 𝓤 H A W (Known.Known Beginning.enum 2)
+              y12 Path'.refl)) d50
 
-          d52 : Typed.Typed 𝓤 H A 𝓣 E G37 b41 Δ1 at52
-          d52 = Typed.s-seq 𝓤 H A W 𝓣 E G37 G38 b13 b40 Δ1 (Typed.pass T37 T38 s35) at51 (CopyOut.t-copy-told 𝓤 H A W E 𝓣 (Declared'.row FujiHeader.the-type) Path'.refl (Laws'10.val
-              FujiHeader.the-type Laws'6.the-laws) (Laws'10.lawful FujiHeader.the-type Laws'6.the-laws 𝓤 H A W) (Laws'10.makes FujiHeader.the-type Laws'6.the-plain 𝓤 H A) G37 12 (Scalar.oFld 9 (List._∷_
-              (Syntax.variant 2) (List._∷_ (Syntax.field 1) List.[])) y2 4 λ v. Laws'10.val FujiHeader.the-type Laws'6.the-laws (v .0)) (λ m. m .1 .1 .1 .1 .1 .1 .1 .1 .1 .0 .0) (λ m. Laws'8.Fields
+          d52 : Typed.Typed 𝓤 H A 𝓣 E (on T36 l5) b41 Δ1 at52
+          d52 = Typed.s-seq 𝓤 H A W 𝓣 E (on T36 l5) (on T38 l5) b13 b40 Δ1 (Typed.pass T36 T38 s35) at51 (CopyOut.t-copy-told 𝓤 H A W E 𝓣 (Declared'.row FujiHeader.the-type) Path'.refl (Laws'10.val
+              FujiHeader.the-type Laws'6.the-laws) (Laws'10.lawful FujiHeader.the-type Laws'6.the-laws 𝓤 H A W) (Laws'10.makes FujiHeader.the-type Laws'6.the-plain 𝓤 H A) (on T36 l5) 12 (Scalar.oFld 9
+              ((Syntax.variant 2) ∷ (Syntax.field 1) ∷ []) y11 4 λ v. Laws'10.val FujiHeader.the-type Laws'6.the-laws (v .0)) (λ m. m .1 .1 .1 .1 .1 .1 .1 .1 .1 .0 .0) (λ m. Laws'8.Fields
               (Declared.variants Beginning.the-type) (Laws'8.spellss (Beginning.enum .parts) Laws.the-laws) (Beginning.the-type .to (Known.at Beginning.enum 2 (m .1 .1 .1 .1 .1 .1 .1 .1 .1 .0))))
-              (Reads'.room-gone 𝓤 H A y2) (
-                Match.reads-payload 𝓤 H A W Beginning.enum Laws.the-laws 2 Path'.refl Path'.refl (λ v. Val.vcons (Laws'10.val FujiHeader.the-type Laws'6.the-laws (v .0)) Val.vnil) (λ v. Path'.refl) 0 y2 4
+              (Reads'.room-gone 𝓤 H A y11) (
+                Match.reads-payload 𝓤 H A W Beginning.enum Laws.the-laws 2 Path'.refl Path'.refl (λ v. Val.vcons (Laws'10.val FujiHeader.the-type Laws'6.the-laws (v .0)) Val.vnil) (λ v. Path'.refl) 0 y11 4
                     Path'.refl,
                 Path'.refl,
-              ) Path'.refl (λ ρ m. Make'.tells-row 𝓤 H A W E ρ (Row.out 12 (G37 .locals)) m 9 (Laws'8.Fields (Declared.variants Beginning.the-type) (Laws'8.spellss (Beginning.enum
-              .parts) Laws.the-laws) (Beginning.the-type .to (Known.at Beginning.enum 2 (m .1 .1 .1 .1 .1 .1 .1 .1 .1 .0)))) (Known.known-is 𝓤 H A W E Beginning.enum 2 Laws.the-laws ρ 9 (m .1 .1 .1 .1 .1
-              .1 .1 .1 .1 .0))) (λ m k wa. Path'.refl) λ m k wa. k .0) d51
+              ) Path'.refl (λ ρ m. Make'.tells-row 𝓤 H A W E ρ (Row.out 12 ((on T36 l5) .locals)) m 9 (Laws'8.Fields (Declared.variants Beginning.the-type) (Laws'8.spellss
+              (Beginning.enum .parts) Laws.the-laws) (Beginning.the-type .to (Known.at Beginning.enum 2 (m .1 .1 .1 .1 .1 .1 .1 .1 .1 .0)))) (Known.known-is 𝓤 H A W E Beginning.enum 2 Laws.the-laws ρ 9 (m
+              .1 .1 .1 .1 .1 .1 .1 .1 .1 .0))) (λ m k wa. Path'.refl) λ m k wa. k .0) d51
 
-          d53 : Typed.Typed 𝓤 H A 𝓣 E G36 b41 Δ1 at53
-          d53 = Typed.g-pre 𝓤 H A W 𝓣 E G36 G37 b41 Δ1 (Typed.give s34) at52 (Known.g-known-told 𝓤 H A W E Beginning.enum 2 G36 9 Laws.the-laws (λ x. x) (Reads'.as-is 𝓤 H A (Rows'.whole (Known.Known
-              Beginning.enum 2)))) d52
+          d53 : Typed.Typed 𝓤 H A 𝓣 E (on T36 l5) b41 Δ1 at53
+          d53 = Typed.g-pre 𝓤 H A W 𝓣 E (on T36 l5) (on T36 l5) b41 Δ1 (Typed.give s34) at52 (Known.g-known-told 𝓤 H A W E Beginning.enum 2 (on T36 l5) 9 Laws.the-laws (λ x. x) (Reads'.as-is 𝓤 H A
+              (Rows'.whole (Known.Known Beginning.enum 2)))) d52
 
-          d54 : Typed.Typed 𝓤 H A 𝓣 E G14 b41 Δ1 at54
-          d54 = Typed.g-pre 𝓤 H A W 𝓣 E G14 G36 b41 Δ1 (Typed.both s33) at53 (Known.g-enum-known 𝓤 H A W E Beginning.enum 2 G14 9 (λ x. x) (Reads'.as-is 𝓤 H A (Rows'.whole (Declared.row
-              Beginning.the-type)))) d53
+          d54 : Typed.Typed 𝓤 H A 𝓣 E (on T14 l5) b41 Δ1 at54
+          d54 = Typed.g-pre 𝓤 H A W 𝓣 E (on T14 l5) (on T36 l5) b41 Δ1 (Typed.both s33) at53 (Known.g-enum-known 𝓤 H A W E Beginning.enum 2 (on T14 l5) 9 (λ x. x) (Reads'.as-is 𝓤 H A (Rows'.whole
+              (Declared.row Beginning.the-type)))) d53
 
-          d55 : Typed.Typed 𝓤 H A 𝓣 E G14 b42 Δ1 at55
-          d55 = Switch.t-switch-on 𝓤 H A W E 𝓣 G14 (Scalar.oFld 9 (List._∷_ (Syntax.variant 0) (List._∷_ (Syntax.field 0) List.[])) (Syntax.tyInt Syntax.w8) 0 λ x. Val.vint Syntax.w8 (Declared.tagOf
-              Beginning.the-type x)) Syntax.w8 (λ u. Declared.tagOf Beginning.the-type (u .1 .1 .1 .1 .1 .1 .1 .1 .1 .0)) (Syntax.arm (List._∷_ 0 List.[]) b9 (Syntax.arm (List._∷_ 1 List.[]) b12
-              (Syntax.arm (List._∷_ 2 List.[]) b41 Syntax.noDefault))) Δ1 (at8, (at14, (at54, tt)))
+          d55 : Typed.Typed 𝓤 H A 𝓣 E (on T14 l5) b42 Δ1 at55
+          d55 = Switch.t-switch-on 𝓤 H A W E 𝓣 (on T14 l5) (Scalar.oFld 9 ((Syntax.variant 0) ∷ (Syntax.field 0) ∷ []) u8 0 λ x. Val.vint Syntax.w8 (Declared.tagOf Beginning.the-type x)) Syntax.w8 (λ
+              u. Declared.tagOf Beginning.the-type (u .1 .1 .1 .1 .1 .1 .1 .1 .1 .0)) (Syntax.arm (0 ∷ []) b9 (Syntax.arm (1 ∷ []) b12 (Syntax.arm (2 ∷ []) b41 Syntax.noDefault))) Δ1
+              (at8, (at14, (at54, tt)))
               (Match.reads-tag 𝓤 H A W Beginning.the-type Laws.the-laws (Rows'.whole (Declared.row Beginning.the-type)) 0 (λ x. x) (Whole.reads-enum 𝓤 H A W Beginning.the-type Laws.the-laws), Path'.refl)
               (λ u. Path'.refl) (d8, (d14, (d54, tt)))
 
-          d56 : Typed.Typed 𝓤 H A 𝓣 E G12 b42 Δ1 at56
-          d56 = Typed.g-pre 𝓤 H A W 𝓣 E G12 G14 b42 Δ1 (Typed.pass T12 T14 s11) at55 (Scalar.g-room 𝓤 H A W E G12 2 y6 (Local.room-whole 𝓤 H A W (Declared'.row Entries.the-type) y6 Path'.refl)) d55
+          d56 : Typed.Typed 𝓤 H A 𝓣 E (on T12 l5) b42 Δ1 at56
+          d56 = Typed.g-pre 𝓤 H A W 𝓣 E (on T12 l5) (on T14 l5) b42 Δ1 (Typed.pass T12 T14 s11) at55 (Scalar.g-room 𝓤 H A W E (on T12 l5) 2 y18 (Local.room-whole 𝓤 H A W (Declared'.row
+              Entries.the-type) y18 Path'.refl)) d55
 
-          d57 : Typed.Typed 𝓤 H A 𝓣 E G81 b44 Δ0 at57
+          d57 : Typed.Typed 𝓤 H A 𝓣 E (on T1 l5) Syntax.return Δ0 at57
           d57 = Typed.t-return 𝓤 H A W 𝓣 E Δ0 tt
 
-          d58 : Typed.Typed 𝓤 H A 𝓣 E G80 b44 Δ0 at58
-          d58 = Typed.g-pre 𝓤 H A W 𝓣 E G80 G81 b44 Δ0 (Typed.pass T80 T81 s78) at57 (Scalar.g-room 𝓤 H A W E G80 19 y7 (Local.room-whole 𝓤 H A W (Declared'.row SharedAnswer.the-type) y7 Path'.refl))
-              d57
+          d58 : Typed.Typed 𝓤 H A 𝓣 E (on T80 l5) Syntax.return Δ0 at58
+          d58 = Typed.g-pre 𝓤 H A W 𝓣 E (on T80 l5) (on T1 l5) Syntax.return Δ0 (Typed.pass T80 T1 s78) at57 (Scalar.g-room 𝓤 H A W E (on T80 l5) 19 y19 (Local.room-whole 𝓤 H A W (Declared'.row
+              SharedAnswer.the-type) y19 Path'.refl)) d57
 
-          d59 : Typed.Typed 𝓤 H A 𝓣 E G13 b45 Δ0 at59
-          d59 = Typed.s-seq 𝓤 H A W 𝓣 E G13 G80 b43 b44 Δ0 (Typed.pass T13 T80 s77) at58 (LocalCopy.t-val-copy 𝓤 H A W E 𝓣 (λ ρ. Unit) G13 19 0 (Declared'.row SharedAnswer.the-type) y7 y7 (Rows'.whole
-              (Declared'.row SharedAnswer.the-type)) (Rows'.whole (Declared'.row SharedAnswer.the-type)) (λ x. x) (λ x. x) (λ x. x) Path'.refl (Own.told-none 𝓤 H A (G13 .slots)) (Yields.yields-copy 𝓤 H A
-              W (λ ρ. Unit) (Declared'.row SharedAnswer.the-type) Path'.refl (Copies.cStruct SharedAnswer.the-type Laws''.the-laws Laws''.the-copy .copy 𝓤 H A W) (Rows'.whole (Declared'.row
-              SharedAnswer.the-type)) (λ x. x) (λ x. x) (λ ρ told. Local.mem-whole 𝓤 H A W (Declared'.row SharedAnswer.the-type) ρ) λ ρ told. Local.whole-mem 𝓤 H A W (Declared'.row SharedAnswer.the-type)
-              ρ) (Reads'.room-gone 𝓤 H A y7) (Yields.makes-mem 𝓤 H A W (λ ρ. Unit) (Declared'.row SharedAnswer.the-type) Path'.refl (Rows'.whole (Declared'.row SharedAnswer.the-type)) (λ x. x) λ ρ told.
-              Local.whole-mem 𝓤 H A W (Declared'.row SharedAnswer.the-type) ρ) Path'.refl Path'.refl) d58
+          d59 : Typed.Typed 𝓤 H A 𝓣 E (on T13 l5) (Syntax.seq b43 Syntax.return) Δ0 at59
+          d59 = Typed.s-seq 𝓤 H A W 𝓣 E (on T13 l5) (on T80 l5) b43 Syntax.return Δ0 (Typed.pass T13 T80 s77) at58 (LocalCopy.t-val-copy 𝓤 H A W E 𝓣 (λ ρ. Unit) (on T13 l5) 19 0 (Declared'.row
+              SharedAnswer.the-type) y19 y19 (Rows'.whole (Declared'.row SharedAnswer.the-type)) (Rows'.whole (Declared'.row SharedAnswer.the-type)) (λ x. x) (λ x. x) (λ x. x) Path'.refl (Own.told-none 𝓤
+              H A ((on T13 l5) .slots)) (Values.struct-copied 𝓤 H A W SharedAnswer.the-type Laws''.the-laws Laws''.the-copy) (Reads'.room-gone 𝓤 H A y19) (Yields.makes-mem 𝓤 H A W (λ ρ. Unit)
+              (Declared'.row SharedAnswer.the-type) Path'.refl (Rows'.whole (Declared'.row SharedAnswer.the-type)) (λ x. x) λ ρ told. Local.whole-mem 𝓤 H A W (Declared'.row SharedAnswer.the-type) ρ)
+              Path'.refl Path'.refl) d58
 
-          d60 : Typed.Typed 𝓤 H A 𝓣 E G12 b46 Δ0 at60
-          d60 = Typed.t-seq 𝓤 H A W 𝓣 E G12 G13 b42 b45 Δ0 at56 at59 d56 d59
+          d60 : Typed.Typed 𝓤 H A 𝓣 E (on T12 l5) b46 Δ0 at60
+          d60 = Typed.t-seq 𝓤 H A W 𝓣 E (on T12 l5) (on T13 l5) b42 (Syntax.seq b43 Syntax.return) Δ0 at56 at59 d56 d59
 
-          d61 : Typed.Typed 𝓤 H A 𝓣 E G11 b47 Δ0 at61
-          d61 = Typed.s-seq 𝓤 H A W 𝓣 E G11 G12 b4 b46 Δ0 (Typed.both s10) at60 (Plain.t-call-plain 𝓤 H A W 𝓣 0 ps·1 r·1 (claims· .2) (claims· .3) "cameras::mended" (known .1) E (λ pos β. β) G11
-              (record { pos = 2; st = List.[]; d = 0; at = λ x. x }, tt) 10 List.[] (Call.sub-id 𝓤 H A W (G11 .slots)) (
-                (
-                  Yields.yields-copy 𝓤 H A W (λ ρ. Unit) (Declared'.row Entries.the-type) Path'.refl (Copies.cStruct Entries.the-type Laws'4.the-laws Laws'4.the-copy .copy 𝓤 H A W) (Rows'.whole
-                      (Declared'.row Entries.the-type)) (λ x. x) (λ x. x) (λ ρ told. Local.mem-whole 𝓤 H A W (Declared'.row Entries.the-type) ρ) λ ρ told. Local.whole-mem 𝓤 H A W (Declared'.row Entries.the-type)
-                      ρ,
-                  Path'.refl,
-                ),
-                tt,
-              ) (Reads'.room-gone 𝓤 H A y6) tt Path'.refl) d60
+          d61 : Typed.Typed 𝓤 H A 𝓣 E (on T11 l5) b47 Δ0 at61
+          d61 = Typed.s-seq 𝓤 H A W 𝓣 E (on T11 l5) (on T12 l5) b4 b46 Δ0 (Typed.both s10) at60 (Plain.t-call-plain 𝓤 H A W 𝓣 0 ps·1 r·1 (claims· .2) (claims· .3) "cameras::mended" (known .1) E (λ pos
+              β. β) (on T11 l5) (record { pos = 2; st = []; d = 0; at = λ x. x }, tt) 10 [] (Call.sub-id 𝓤 H A W ((on T11 l5) .slots))
+              ((Values.struct-copied 𝓤 H A W Entries.the-type Laws'4.the-laws Laws'4.the-copy, Path'.refl), tt) (Reads'.room-gone 𝓤 H A y18) tt Path'.refl) d60
 
-          d62 : Typed.Typed 𝓤 H A 𝓣 E G10 b47 Δ0 at62
-          d62 = Typed.g-pre 𝓤 H A W 𝓣 E G10 G11 b47 Δ0 (Typed.pass T10 T11 s9) at61 (Scalar.g-room 𝓤 H A W E G10 18 (Syntax.tyInt Syntax.w64) (Scalar.room-sc 𝓤 H A W (Row.sInt Syntax.w64))) d61
+          d62 : Typed.Typed 𝓤 H A 𝓣 E (on T10 l5) b47 Δ0 at62
+          d62 = Typed.g-pre 𝓤 H A W 𝓣 E (on T10 l5) (on T11 l5) b47 Δ0 (Typed.pass T10 T11 s9) at61 (Scalar.g-room 𝓤 H A W E (on T10 l5) 18 u64 (Scalar.room-sc 𝓤 H A W (Row.sInt Syntax.w64))) d61
 
-          d63 : Typed.Typed 𝓤 H A 𝓣 E G9 b47 Δ0 at63
-          d63 = Typed.g-pre 𝓤 H A W 𝓣 E G9 G10 b47 Δ0 (Typed.pass T9 T10 s8) at62 (Scalar.g-room 𝓤 H A W E G9 17 (Syntax.tyInt Syntax.w64) (Scalar.room-sc 𝓤 H A W (Row.sInt Syntax.w64))) d62
+          d63 : Typed.Typed 𝓤 H A 𝓣 E (on T9 l5) b47 Δ0 at63
+          d63 = Typed.g-pre 𝓤 H A W 𝓣 E (on T9 l5) (on T10 l5) b47 Δ0 (Typed.pass T9 T10 s8) at62 (Scalar.g-room 𝓤 H A W E (on T9 l5) 17 u64 (Scalar.room-sc 𝓤 H A W (Row.sInt Syntax.w64))) d62
 
-          d64 : Typed.Typed 𝓤 H A 𝓣 E G8 b47 Δ0 at64
-          d64 = Typed.g-pre 𝓤 H A W 𝓣 E G8 G9 b47 Δ0 (Typed.pass T8 T9 s7) at63 (Scalar.g-room 𝓤 H A W E G8 16 (Syntax.tyInt Syntax.w64) (Scalar.room-sc 𝓤 H A W (Row.sInt Syntax.w64))) d63
+          d64 : Typed.Typed 𝓤 H A 𝓣 E (on T8 l5) b47 Δ0 at64
+          d64 = Typed.g-pre 𝓤 H A W 𝓣 E (on T8 l5) (on T9 l5) b47 Δ0 (Typed.pass T8 T9 s7) at63 (Scalar.g-room 𝓤 H A W E (on T8 l5) 16 u64 (Scalar.room-sc 𝓤 H A W (Row.sInt Syntax.w64))) d63
 
-          d65 : Typed.Typed 𝓤 H A 𝓣 E G7 b48 Δ0 at65
-          d65 = Typed.s-seq 𝓤 H A W 𝓣 E G7 G8 b3 b47 Δ0 (Typed.both s6) at64 (Plain.t-call-plain 𝓤 H A W 𝓣 1 ps·0 r·0 (claims· .0) (claims· .1) "begin::region_begins" (known .0) E (λ pos β. β) G7 (
-            record { pos = 3; ty = Syntax.tyRef (Syntax.named 0) Syntax.imm (Syntax.tyInt Syntax.w8); ref = λ x. x },
-            (record { pos = 4; st = List.[]; d = 0; at = λ x. x }, (Num.vAt 16 λ x. x, (Num.vAt 17 λ x. x, (Num.vAt 18 λ x. x, tt)))),
-          ) 9 (List._∷_ 0 List.[]) (Call.sub-id 𝓤 H A W (G7 .slots)) (
-            ShrSlice.spares-sslice 𝓤 H A W (Referent.rtF (Referent.fInt Syntax.w8)) (Syntax.tyRef (Syntax.named 0) Syntax.imm (Syntax.tyInt Syntax.w8)) 0,
-            Shared.reads-sslice 𝓤 H A W (Referent.rtF
-                (Referent.fInt Syntax.w8)) (Syntax.tyRef (Syntax.named 0) Syntax.imm (Syntax.tyInt Syntax.w8)) 0,
-            Path'.refl,
-            (
-              (
-                Yields.yields-copy 𝓤 H A W (λ ρ. Unit) (Declared'.row Rect.the-type) Path'.refl (Copies.cStruct Rect.the-type Laws'5.the-laws Laws'5.the-copy .copy 𝓤 H A W) (Rows'.whole (Declared'.row
-                    Rect.the-type)) (λ x. x) (λ x. x) (λ ρ told. Local.mem-whole 𝓤 H A W (Declared'.row Rect.the-type) ρ) λ ρ told. Local.whole-mem 𝓤 H A W (Declared'.row Rect.the-type) ρ,
+          d65 : Typed.Typed 𝓤 H A 𝓣 E (on T7 l5) (Syntax.seq b3 b47) Δ0 at65
+          d65 = Typed.s-seq 𝓤 H A W 𝓣 E (on T7 l5) (on T8 l5) b3 b47 Δ0 (Typed.both s6) at64 (Plain.t-call-plain 𝓤 H A W 𝓣 1 ps·0 r·0 (claims· .0) (claims· .1) "begin::region_begins" (known .0) E (λ
+              pos β. β) (on T7 l5) (record { pos = 3; ty = y3; ref = λ x. x }, (record { pos = 4; st = []; d = 0; at = λ x. x }, (Num.vAt 16 λ x. x, (Num.vAt 17 λ x. x, (Num.vAt 18 λ x. x, tt))))) 9 (0 ∷
+              []) (Call.sub-id 𝓤 H A W ((on T7 l5) .slots)) (
+                ShrSlice.spares-sslice 𝓤 H A W n8 y3 0,
+                Shared.reads-sslice 𝓤 H A W n8 y3 0,
                 Path'.refl,
-              ),
-              (
-                (Scalar.reads-sc 𝓤 H A W (Row.sInt Syntax.w64), Path'.refl),
-                ((Scalar.reads-sc 𝓤 H A W (Row.sInt Syntax.w64), Path'.refl), ((Scalar.reads-sc 𝓤 H A W (Row.sInt Syntax.w64), Path'.refl), tt)),
-              ),
-            ),
-          ) (Reads'.room-gone 𝓤 H A (Syntax.tyEnum (List._∷_ 98
-              (List._∷_ 101 (List._∷_ 103 (List._∷_ 105 (List._∷_ 110 (List._∷_ 58 (List._∷_ 58 (List._∷_ 66 (List._∷_ 101 (List._∷_ 103 (List._∷_ 105 (List._∷_ 110 (List._∷_ 110 (List._∷_ 105 (List._∷_
-              110 (List._∷_ 103 List.[])))))))))))))))) (Syntax.ttcons (Syntax.tcons (Syntax.tyEnum (List._∷_ 115 (List._∷_ 116 (List._∷_ 114 (List._∷_ 101 (List._∷_ 97 (List._∷_ 109 (List._∷_ 58
-              (List._∷_ 58 (List._∷_ 82 (List._∷_ 101 (List._∷_ 102 (List._∷_ 117 (List._∷_ 115 (List._∷_ 97 (List._∷_ 108 List.[]))))))))))))))) (Syntax.ttcons Syntax.tnil (Syntax.ttcons Syntax.tnil
-              (Syntax.ttcons Syntax.tnil (Syntax.ttcons (Syntax.tcons (Syntax.tyInt Syntax.w64) Syntax.tnil) (Syntax.ttcons Syntax.tnil (Syntax.ttcons Syntax.tnil (Syntax.ttcons Syntax.tnil (Syntax.ttcons
-              Syntax.tnil (Syntax.ttcons Syntax.tnil (Syntax.ttcons Syntax.tnil (Syntax.ttcons (Syntax.tcons (Syntax.tyInt Syntax.w64) Syntax.tnil) (Syntax.ttcons (Syntax.tcons (Syntax.tyInt Syntax.w64)
-              Syntax.tnil) (Syntax.ttcons Syntax.tnil (Syntax.ttcons (Syntax.tcons (Syntax.tyInt Syntax.w64) (Syntax.tcons (Syntax.tyInt Syntax.w64) Syntax.tnil)) (Syntax.ttcons (Syntax.tcons
-              (Syntax.tyInt Syntax.w64) Syntax.tnil) (Syntax.ttcons Syntax.tnil (Syntax.ttcons Syntax.tnil (Syntax.ttcons (Syntax.tcons (Syntax.tyInt Syntax.w64) Syntax.tnil) (Syntax.ttcons (Syntax.tcons
-              (Syntax.tyInt Syntax.w64) Syntax.tnil) (Syntax.ttcons (Syntax.tcons (Syntax.tyInt Syntax.w64) Syntax.tnil) (Syntax.ttcons Syntax.tnil (Syntax.ttcons Syntax.tnil (Syntax.ttcons (Syntax.tcons
-              (Syntax.tyInt Syntax.w64) (Syntax.tcons (Syntax.tyInt Syntax.w64) Syntax.tnil)) (Syntax.ttcons Syntax.tnil Syntax.ttnil))))))))))))))))))))))))) Syntax.tnil) (Syntax.ttcons Syntax.tnil
-              (Syntax.ttcons (Syntax.tcons y2 Syntax.tnil) Syntax.ttnil))))) (tt, tt) Path'.refl) d64
+                (
+                  (Values.struct-copied 𝓤 H A W Rect.the-type Laws'5.the-laws Laws'5.the-copy, Path'.refl),
+                  (
+                    (Scalar.reads-sc 𝓤 H A W (Row.sInt Syntax.w64), Path'.refl),
+                    ((Scalar.reads-sc 𝓤 H A W (Row.sInt Syntax.w64), Path'.refl), ((Scalar.reads-sc 𝓤 H A W (Row.sInt Syntax.w64), Path'.refl), tt)),
+                  ),
+                ),
+              ) (Reads'.room-gone 𝓤 H A y12) (tt, tt) Path'.refl) d64
 
-          d66 : Typed.Typed 𝓤 H A 𝓣 E G6 b49 Δ0 at66
-          d66 = Typed.s-seq 𝓤 H A W 𝓣 E G6 G7 b2 b48 Δ0 (Typed.pass T6 T7 s5) at65 (Scalar.t-use 𝓤 H A W E 𝓣 G6 (Scalar.oFld 8 (List._∷_ (Syntax.field 1) List.[]) (Syntax.tyInt Syntax.w64) 8
-              Shared.lenV) 18 (Rows'.sc-here (Row.sInt Syntax.w64)) (Syntax.tyInt Syntax.w64) (Row.valS (Row.sInt Syntax.w64)) (Row.sInt Syntax.w64 .of)
-              (Mut.reads-mslice-len 𝓤 H A W (Element.type) (Syntax.tyRef (Syntax.named 3) Syntax.mut Element.behind) 3 8 Path'.refl, Path'.refl) (Reads'.room-gone 𝓤 H A (Syntax.tyInt Syntax.w64))
-              (Scalar.holds-sc 𝓤 H A W (Row.sInt Syntax.w64)) Path'.refl (λ u. Path'.refl) λ u. tt) d65
+          d66 : Typed.Typed 𝓤 H A 𝓣 E (on T6 l5) (Syntax.seq b2 (Syntax.seq b3 b47)) Δ0 at66
+          d66 = Typed.s-seq 𝓤 H A W 𝓣 E (on T6 l5) (on T7 l5) b2 (Syntax.seq b3 b47) Δ0 (Typed.pass T6 T7 s5) at65 (Scalar.t-use 𝓤 H A W E 𝓣 (on T6 l5) (Scalar.oFld 8 ((Syntax.field 1) ∷ []) u64 8
+              Shared.lenV) 18 (Rows'.sc-here (Row.sInt Syntax.w64)) u64 (Row.valS (Row.sInt Syntax.w64)) (Row.sInt Syntax.w64 .of)
+              (Mut.reads-mslice-len 𝓤 H A W (Element.type) y6 3 8 Path'.refl, Path'.refl) (Reads'.room-gone 𝓤 H A u64) (Scalar.holds-sc 𝓤 H A W (Row.sInt Syntax.w64)) Path'.refl (λ u. Path'.refl) λ u. tt)
+              d65
 
-          d67 : Typed.Typed 𝓤 H A 𝓣 E G5 b50 Δ0 at67
-          d67 = Typed.s-seq 𝓤 H A W 𝓣 E G5 G6 b1 b49 Δ0 (Typed.pass T5 T6 s4) at66 (Scalar.t-use 𝓤 H A W E 𝓣 G5 (Scalar.oFld 7 (List._∷_ (Syntax.field 1) List.[]) (Syntax.tyInt Syntax.w64) 8
-              Shared.lenV) 17 (Rows'.sc-here (Row.sInt Syntax.w64)) (Syntax.tyInt Syntax.w64) (Row.valS (Row.sInt Syntax.w64)) (Row.sInt Syntax.w64 .of)
-              (Mut.reads-mslice-len 𝓤 H A W (Referent.rtF (Referent.fInt Syntax.w16)) (Syntax.tyRef (Syntax.named 2) Syntax.mut (Syntax.tyInt Syntax.w16)) 2 8 Path'.refl, Path'.refl) (Reads'.room-gone 𝓤 H
-              A (Syntax.tyInt Syntax.w64)) (Scalar.holds-sc 𝓤 H A W (Row.sInt Syntax.w64)) Path'.refl (λ u. Path'.refl) λ u. tt) d66
+          d67 : Typed.Typed 𝓤 H A 𝓣 E (on T5 l5) b50 Δ0 at67
+          d67 = Typed.s-seq 𝓤 H A W 𝓣 E (on T5 l5) (on T6 l5) b1 (Syntax.seq b2 (Syntax.seq b3 b47)) Δ0 (Typed.pass T5 T6 s4) at66 (Scalar.t-use 𝓤 H A W E 𝓣 (on T5 l5) (Scalar.oFld 7 ((Syntax.field 1)
+              ∷ []) u64 8 Shared.lenV) 17 (Rows'.sc-here (Row.sInt Syntax.w64)) u64 (Row.valS (Row.sInt Syntax.w64)) (Row.sInt Syntax.w64 .of)
+              (Mut.reads-mslice-len 𝓤 H A W n16 y5 2 8 Path'.refl, Path'.refl) (Reads'.room-gone 𝓤 H A u64) (Scalar.holds-sc 𝓤 H A W (Row.sInt Syntax.w64)) Path'.refl (λ u. Path'.refl) λ u. tt) d66
 
-          d68 : Typed.Typed 𝓤 H A 𝓣 E G4 b51 Δ0 at68
-          d68 = Typed.s-seq 𝓤 H A W 𝓣 E G4 G5 b0 b50 Δ0 (Typed.pass T4 T5 s3) at67 (Scalar.t-use 𝓤 H A W E 𝓣 G4 (Scalar.oFld 6 (List._∷_ (Syntax.field 1) List.[]) (Syntax.tyInt Syntax.w64) 8
-              Shared.lenV) 16 (Rows'.sc-here (Row.sInt Syntax.w64)) (Syntax.tyInt Syntax.w64) (Row.valS (Row.sInt Syntax.w64)) (Row.sInt Syntax.w64 .of)
-              (Mut.reads-mslice-len 𝓤 H A W (Referent.rtF (Referent.fInt Syntax.w16)) (Syntax.tyRef (Syntax.named 1) Syntax.mut (Syntax.tyInt Syntax.w16)) 1 8 Path'.refl, Path'.refl) (Reads'.room-gone 𝓤 H
-              A (Syntax.tyInt Syntax.w64)) (Scalar.holds-sc 𝓤 H A W (Row.sInt Syntax.w64)) Path'.refl (λ u. Path'.refl) λ u. tt) d67
+          d68 : Typed.Typed 𝓤 H A 𝓣 E (on T0 l5) b51 Δ0 at68
+          d68 = Typed.s-seq 𝓤 H A W 𝓣 E (on T0 l5) (on T5 l5) b0 b50 Δ0 (Typed.pass T0 T5 s3) at67 (Scalar.t-use 𝓤 H A W E 𝓣 (on T0 l5) (Scalar.oFld 6 ((Syntax.field 1) ∷ []) u64 8 Shared.lenV) 16
+              (Rows'.sc-here (Row.sInt Syntax.w64)) u64 (Row.valS (Row.sInt Syntax.w64)) (Row.sInt Syntax.w64 .of) (Mut.reads-mslice-len 𝓤 H A W n16 y4 1 8 Path'.refl, Path'.refl) (Reads'.room-gone 𝓤 H A
+              u64) (Scalar.holds-sc 𝓤 H A W (Row.sInt Syntax.w64)) Path'.refl (λ u. Path'.refl) λ u. tt) d67
 
-          d69 : Typed.Typed 𝓤 H A 𝓣 E G3 b51 Δ0 at69
-          d69 = Typed.g-pre 𝓤 H A W 𝓣 E G3 G4 b51 Δ0 (Typed.give s2) at68 (Know.g-sl-known 𝓤 H A W (Referent.fInt Syntax.w16) E G3 7 2 (Syntax.tyRef (Syntax.named 2) Syntax.mut (Syntax.tyInt
-              Syntax.w16)) (Row.lease (κs .1 .1 .0) (qs .1 .1 .0)) 0 (λ x. x) record { fits = Dec'.lit< tt } (Reads'.as-is 𝓤 H A (Mut.mslice (Referent.rtF (Referent.fInt Syntax.w16)) (Syntax.tyRef
-              (Syntax.named 2) Syntax.mut (Syntax.tyInt Syntax.w16)) 2)) Path'.refl tt) d68
+          d69 : Typed.Typed 𝓤 H A 𝓣 E (on T0 l5) b51 Δ0 at69
+          d69 = Typed.g-pre 𝓤 H A W 𝓣 E (on T0 l5) (on T0 l5) b51 Δ0 (Typed.give s2) at68 (Know.g-sl-known 𝓤 H A W (Referent.fInt Syntax.w16) E (on T0 l5) 7 2 y5 k2 0 (λ x. x) record
+              { fits = Dec'.lit< tt } (Reads'.as-is 𝓤 H A (Mut.mslice n16 y5 2)) Path'.refl tt) d68
 
-          d70 : Typed.Typed 𝓤 H A 𝓣 E G2 b51 Δ0 at70
-          d70 = Typed.g-pre 𝓤 H A W 𝓣 E G2 G3 b51 Δ0 (Typed.give s1) at69 (Know.g-sl-known 𝓤 H A W (Referent.fInt Syntax.w16) E G2 6 1 (Syntax.tyRef (Syntax.named 1) Syntax.mut (Syntax.tyInt
-              Syntax.w16)) (Row.lease (κs .1 .0) (qs .1 .0)) 0 (λ x. x) record { fits = Dec'.lit< tt } (Reads'.as-is 𝓤 H A (Mut.mslice (Referent.rtF (Referent.fInt Syntax.w16)) (Syntax.tyRef (Syntax.named
-              1) Syntax.mut (Syntax.tyInt Syntax.w16)) 1)) Path'.refl tt) d69
+          d70 : Typed.Typed 𝓤 H A 𝓣 E (on T0 l5) b51 Δ0 at70
+          d70 = Typed.g-pre 𝓤 H A W 𝓣 E (on T0 l5) (on T0 l5) b51 Δ0 (Typed.give s1) at69 (Know.g-sl-known 𝓤 H A W (Referent.fInt Syntax.w16) E (on T0 l5) 6 1 y4 k1 0 (λ x. x) record
+              { fits = Dec'.lit< tt } (Reads'.as-is 𝓤 H A (Mut.mslice n16 y4 1)) Path'.refl tt) d69
 
-          d71 : Typed.Typed 𝓤 H A 𝓣 E G0 b51 Δ0 at71
-          d71 = Typed.g-pre 𝓤 H A W 𝓣 E G0 G2 b51 Δ0 (Typed.give s0) at70 (Know.g-shs-known 𝓤 H A W (Referent.fInt Syntax.w8) E G0 3 0 (Syntax.tyRef (Syntax.named 0) Syntax.imm (Syntax.tyInt
-              Syntax.w8)) (Row.lease (κs .0) (qs .0)) 0 (λ x. x) record { fits = Dec'.lit< tt } (Reads'.as-is 𝓤 H A (Rows'.sslice (Referent.rtF (Referent.fInt Syntax.w8)) (Syntax.tyRef (Syntax.named 0)
-              Syntax.imm (Syntax.tyInt Syntax.w8)) 0)) Path'.refl tt) d70
+          d71 : Typed.Typed 𝓤 H A 𝓣 E (on T0 l5) b51 Δ0 at71
+          d71 = Typed.g-pre 𝓤 H A W 𝓣 E (on T0 l5) (on T0 l5) b51 Δ0 (Typed.give s0) at70 (Know.g-shs-known 𝓤 H A W (Referent.fInt Syntax.w8) E (on T0 l5) 3 0 y3 k0 0 (λ x. x) record
+              { fits = Dec'.lit< tt } (Reads'.as-is 𝓤 H A (Rows'.sslice n8 y3 0)) Path'.refl tt) d70
 
           pub typed : Typed.Typed 𝓤 H A 𝓣 E (Function.Γin 4 ps r xs m κs qs) b51 (Function.Δret 4 ps r xs m κs qs) Φ
           typed = d71
 
       module _ (κs : Lifetimes.Lfts 4) where
         pub record Args : Type 0 where
-          pub camera : Kinds.Den {n = 4} κs (Value.pVal record {
-            ty = Declared.row Camera.the-type;
-            one = Path'.refl;
-            val = Laws'8.val Camera.the-type Laws'3.the-laws;
-            tells = Laws'8.tells Camera.the-type Laws'3.the-laws;
-            still = Laws'8.still
-                Camera.the-type Laws'3.the-copy Exit.yes;
-            row = Rows'.whole (Declared.row Camera.the-type);
-            rd = λ x. x;
-            mk = λ x. x;
-          } λ M 𝓤 H A W. record {
-            copies = Laws'8.copy Camera.the-type Laws'3.the-copy 𝓤 H A W;
-            lawful = Laws'8.lawful Camera.the-type Laws'3.the-laws 𝓤 H A W tt;
-            makes = Laws'8.makes Camera.the-type Laws'3.the-plain 𝓤 H
-                A;
-            in-mem = Local.mem-whole 𝓤 H A W (Declared.row Camera.the-type);
-            of-mem = Local.whole-mem 𝓤 H A W (Declared.row Camera.the-type);
-          })
-          pub entries : Kinds.Den {n = 4} κs (Value.pVal record {
-            ty = Declared'.row Entries.the-type;
-            one = Path'.refl;
-            val = Laws'10.val Entries.the-type Laws'4.the-laws;
-            tells = Laws'10.tells Entries.the-type Laws'4.the-laws;
-            still = Laws'10.still
-                Entries.the-type Laws'4.the-copy Exit.yes;
-            row = Rows'.whole (Declared'.row Entries.the-type);
-            rd = λ x. x;
-            mk = λ x. x;
-          } λ M 𝓤 H A W. record {
-            copies = Laws'10.copy Entries.the-type Laws'4.the-copy 𝓤 H A W;
-            lawful = Laws'10.lawful Entries.the-type Laws'4.the-laws 𝓤 H A W;
-            makes = Laws'10.makes Entries.the-type Laws'4.the-plain 𝓤
-                H A;
-            in-mem = Local.mem-whole 𝓤 H A W (Declared'.row Entries.the-type);
-            of-mem = Local.whole-mem 𝓤 H A W (Declared'.row Entries.the-type);
-          })
-          pub d : Kinds.Den {n = 4} κs (ShrSlice.pShrS (Referent.rtF (Referent.fInt Syntax.w8)) 0 tt)
-          pub r : Kinds.Den {n = 4} κs (Value.pVal record {
-            ty = Declared'.row Rect.the-type;
-            one = Path'.refl;
-            val = Laws'10.val Rect.the-type Laws'5.the-laws;
-            tells = Laws'10.tells Rect.the-type Laws'5.the-laws;
-            still = Laws'10.still
-                Rect.the-type Laws'5.the-copy Exit.yes;
-            row = Rows'.whole (Declared'.row Rect.the-type);
-            rd = λ x. x;
-            mk = λ x. x;
-          } λ M 𝓤 H A W. record {
-            copies = Laws'10.copy Rect.the-type Laws'5.the-copy 𝓤 H A W;
-            lawful = Laws'10.lawful Rect.the-type Laws'5.the-laws 𝓤 H A W;
-            makes = Laws'10.makes Rect.the-type Laws'5.the-plain 𝓤 H A;
-            in-mem = Local.mem-whole 𝓤 H A W (Declared'.row Rect.the-type);
-            of-mem = Local.whole-mem 𝓤 H A W (Declared'.row Rect.the-type);
-          })
+          pub camera : Kinds.Den {n = 4} κs (Values.enum Camera.the-type Laws'3.the-laws Laws'3.the-copy Laws'3.the-plain tt)
+          pub entries : Kinds.Den {n = 4} κs (Values.struct Entries.the-type Laws'4.the-laws Laws'4.the-copy Laws'4.the-plain)
+          pub d : Kinds.Den {n = 4} κs (ShrSlice.pShrS n8 0 tt)
+          pub r : Kinds.Den {n = 4} κs (Values.struct Rect.the-type Laws'5.the-laws Laws'5.the-copy Laws'5.the-plain)
           pub tile : Kinds.Den {n = 4} κs (Array.pArr (Array.eInt Syntax.w8) (Array.eInt-laws Syntax.w8) 36)
-          pub image : Kinds.Den {n = 4} κs (MutSlice.pMutS (Referent.rtF (Referent.fInt Syntax.w16)) 1 tt)
-          pub lines : Kinds.Den {n = 4} κs (MutSlice.pMutS (Referent.rtF (Referent.fInt Syntax.w16)) 2 tt)
+          pub image : Kinds.Den {n = 4} κs (MutSlice.pMutS n16 1 tt)
+          pub lines : Kinds.Den {n = 4} κs (MutSlice.pMutS n16 2 tt)
           pub rs : Kinds.Den {n = 4} κs (MutSlice.pMutS (Element.type) 3 tt)
 
         abbrev pub dens : (a : Args) → Kinds.Dens κs ps
@@ -3585,7 +2018,7 @@ module _ (claims· : Claims) where
         pub good : Kinds.GoodsP κs ps (dens κs args)
         pub pre : Pre· κs (dens κs args)
 
-      abbrev pub m1 : (before : Start) → (given : s0 .gives (m0 (before .κs) (before .args))) → Typed.Mo T2
+      abbrev pub m1 : (before : Start) → (given : s0 .gives (m0 (before .κs) (before .args))) → Typed.Mo T0
       m1 = λ before given. s0 .next (m0 (before .κs) (before .args)) given
 
       module _ (before· : Start) where
@@ -3596,7 +2029,7 @@ module _ (claims· : Claims) where
         pub before : Start
         pub shared-slice-known : After-shared-slice-known·own before
 
-      abbrev pub m2 : (before : After-shared-slice-known) → (given : s1 .gives (m1 (before .before) (before .shared-slice-known .given))) → Typed.Mo T3
+      abbrev pub m2 : (before : After-shared-slice-known) → (given : s1 .gives (m1 (before .before) (before .shared-slice-known .given))) → Typed.Mo T0
       m2 = λ before given. s1 .next (m1 (before .before) (before .shared-slice-known .given)) given
 
       module _ (before· : After-shared-slice-known) where
@@ -3607,17 +2040,8 @@ module _ (claims· : Claims) where
         pub before : After-shared-slice-known
         pub slice-known : After-slice-known·own before
 
-      abbrev pub m3 : (before : After-slice-known) → (given : s2 .gives (m2 (before .before) (before .slice-known .given))) → Typed.Mo T4
-      m3 = λ before given. s2 .next (m2 (before .before) (before .slice-known .given)) given
-
-      abbrev pub m4 : (before : After-slice-known) → (given : s2 .gives (m2 (before .before) (before .slice-known .given))) → Typed.Mo T5
-      m4 = λ before given. s3 (m3 before given)
-
-      abbrev pub m5 : (before : After-slice-known) → (given : s2 .gives (m2 (before .before) (before .slice-known .given))) → Typed.Mo T6
-      m5 = λ before given. s4 (m4 before given)
-
       abbrev pub m6 : (before : After-slice-known) → (given : s2 .gives (m2 (before .before) (before .slice-known .given))) → Typed.Mo T7
-      m6 = λ before given. s5 (m5 before given)
+      m6 = λ before given. s5 (s4 (s3 (s2 .next (m2 (before .before) (before .slice-known .given)) given)))
 
       module _ (before· : After-slice-known) where
         pub record After-slice-known2·own : Type 0 where
@@ -3635,30 +2059,20 @@ module _ (claims· : Claims) where
 
       module _ (before· : After-slice-known2) where
         abbrev pub After-region-begins·own : Type 0
-        After-region-begins·own = Called.Called ps·0 r·0 (claims· .1) T7 (
-          record { pos = 3; ty = Syntax.tyRef (Syntax.named 0) Syntax.imm (Syntax.tyInt Syntax.w8); ref = λ x. x },
-          (record { pos = 4; st = List.[]; d = 0; at = λ x. x }, (Num.vAt 16 λ x. x, (Num.vAt 17 λ x. x, (Num.vAt 18 λ x. x, tt)))),
-        ) (m6 (before· .before) (before· .slice-known2 .given))
+        After-region-begins·own = Called.Called ps·0 r·0 (claims· .1) T7 a0 (m6 (before· .before) (before· .slice-known2 .given))
 
       pub record After-region-begins : Type 0 where
         pub before : After-slice-known2
         pub region-begins : After-region-begins·own before
 
+      abbrev pub After-region-begins·start : After-region-begins → Start
+      After-region-begins·start = λ c. c .before .before .before .before
+
       abbrev pub After-region-begins·gave : (c : After-region-begins) → s6 .gives (m6 (c .before .before) (c .before .slice-known2 .given))
-      After-region-begins·gave = λ c. Called.given ps·0 r·0 (claims· .1) T7 (
-        record { pos = 3; ty = Syntax.tyRef (Syntax.named 0) Syntax.imm (Syntax.tyInt Syntax.w8); ref = λ x. x },
-        (record { pos = 4; st = List.[]; d = 0; at = λ x. x }, (Num.vAt 16 λ x. x, (Num.vAt 17 λ x. x, (Num.vAt 18 λ x. x, tt)))),
-      ) (m6 (c .before .before) (c .before .slice-known2 .given)) (c
-          .region-begins)
-
-      abbrev pub m8 : (before : After-slice-known2) → (given : s6 .gives (m6 (before .before) (before .slice-known2 .given))) → Typed.Mo T9
-      m8 = λ before given. s7 (m7 before given)
-
-      abbrev pub m9 : (before : After-slice-known2) → (given : s6 .gives (m6 (before .before) (before .slice-known2 .given))) → Typed.Mo T10
-      m9 = λ before given. s8 (m8 before given)
+      After-region-begins·gave = λ c. Called.given ps·0 r·0 (claims· .1) T7 a0 (m6 (c .before .before) (c .before .slice-known2 .given)) (c .region-begins)
 
       abbrev pub m10 : (before : After-slice-known2) → (given : s6 .gives (m6 (before .before) (before .slice-known2 .given))) → Typed.Mo T11
-      m10 = λ before given. s9 (m9 before given)
+      m10 = λ before given. s9 (s8 (s7 (m7 before given)))
 
       abbrev pub Need-mended-requires : Type 0
       Need-mended-requires = (c : After-region-begins) → s10 .asks (m10 (c .before) (After-region-begins·gave c))
@@ -3668,15 +2082,17 @@ module _ (claims· : Claims) where
 
       module _ (before· : After-region-begins) where
         abbrev pub After-mended·own : Type 0
-        After-mended·own = Called.Called ps·1 r·1 (claims· .3) T11 (record { pos = 2; st = List.[]; d = 0; at = λ x. x }, tt) (m10 (before· .before) (After-region-begins·gave before·))
+        After-mended·own = Called.Called ps·1 r·1 (claims· .3) T11 (record { pos = 2; st = []; d = 0; at = λ x. x }, tt) (m10 (before· .before) (After-region-begins·gave before·))
 
       pub record After-mended : Type 0 where
         pub before : After-region-begins
         pub mended : After-mended·own before
 
+      abbrev pub After-mended·start : After-mended → Start
+      After-mended·start = λ c. c .before .before .before .before .before
+
       abbrev pub After-mended·gave : (c : After-mended) → s10 .gives (m10 (c .before .before) (After-region-begins·gave (c .before)))
-      After-mended·gave = λ c. Called.given ps·1 r·1 (claims· .3) T11 (record { pos = 2; st = List.[]; d = 0; at = λ x. x }, tt) (m10 (c .before .before) (After-region-begins·gave (c .before))) (c
-          .mended)
+      After-mended·gave = λ c. Called.given ps·1 r·1 (claims· .3) T11 (record { pos = 2; st = []; d = 0; at = λ x. x }, tt) (m10 (c .before .before) (After-region-begins·gave (c .before))) (c .mended)
 
       abbrev W1 : (before : After-region-begins) → (given : s10 .gives (m10 (before .before) (After-region-begins·gave before))) → Typed.Want O1
       W1 = λ before given. Typed.wantNext T13 O0 (at59 (W0 (before .before .before .before .before .κs) (before .before .before .before .before .args))) (W0 (before .before .before .before .before
@@ -3687,7 +2103,7 @@ module _ (claims· : Claims) where
 
       module _ (before· : After-mended) where
         pub record At-match-keys1·own : Type 0 where
-          pub keys1 : Run.OneOf (List._∷_ 0 List.[]) (Declared.tagOf Beginning.the-type (Row.get 9 (T14 .locals) (m12 (before· .before) (After-mended·gave before·))))
+          pub keys1 : Run.OneOf (0 ∷ []) (Declared.tagOf Beginning.the-type (Row.get 9 (T14 .locals) (m12 (before· .before) (After-mended·gave before·))))
 
       pub record At-match-keys1 : Type 0 where
         pub before : After-mended
@@ -3707,26 +2123,8 @@ module _ (claims· : Claims) where
         pub before : At-match-keys1
         pub begins : After-begins·own before
 
-      abbrev pub m14 : (before : After-begins) → (given : s13 .gives (m13 (before .before) (before .begins .given))) → Typed.Mo T16
-      m14 = λ before given. s13 .next (m13 (before .before) (before .begins .given)) given
-
-      abbrev pub m15 : (before : After-begins) → (given : s13 .gives (m13 (before .before) (before .begins .given))) → Typed.Mo T17
-      m15 = λ before given. s14 (m14 before given)
-
-      abbrev pub m16 : (before : After-begins) → (given : s13 .gives (m13 (before .before) (before .begins .given))) → Typed.Mo T18
-      m16 = λ before given. s15 (m15 before given)
-
-      abbrev pub m17 : (before : After-begins) → (given : s13 .gives (m13 (before .before) (before .begins .given))) → Typed.Mo T19
-      m17 = λ before given. s16 (m16 before given)
-
-      abbrev pub m18 : (before : After-begins) → (given : s13 .gives (m13 (before .before) (before .begins .given))) → Typed.Mo T20
-      m18 = λ before given. s17 (m17 before given)
-
-      abbrev pub m19 : (before : After-begins) → (given : s13 .gives (m13 (before .before) (before .begins .given))) → Typed.Mo T21
-      m19 = λ before given. s18 (m18 before given)
-
       abbrev pub m20 : (before : After-begins) → (given : s13 .gives (m13 (before .before) (before .begins .given))) → Typed.Mo T22
-      m20 = λ before given. s19 (m19 before given)
+      m20 = λ before given. s19 (s18 (s17 (s16 (s15 (s14 (s13 .next (m13 (before .before) (before .begins .given)) given))))))
 
       module _ (before· : After-begins) where
         pub record After-known-told·own : Type 0 where
@@ -3739,36 +2137,26 @@ module _ (claims· : Claims) where
       abbrev pub Need-handed-back-requires : Type 0
       Need-handed-back-requires = (c : After-known-told) → s20 .asks (m20 (c .before) (c .known-told .given))
 
-      abbrev pub m21 : (before : After-known-told) → (given : s20 .gives (m20 (before .before) (before .known-told .given))) → Typed.Mo T23
-      m21 = λ before given. s20 .next (m20 (before .before) (before .known-told .given)) given
-
-      abbrev pub m22 : (before : After-known-told) → (given : s20 .gives (m20 (before .before) (before .known-told .given))) → Typed.Mo T24
-      m22 = λ before given. s21 (m21 before given)
-
-      abbrev pub m23 : (before : After-known-told) → (given : s20 .gives (m20 (before .before) (before .known-told .given))) → Typed.Mo T25
-      m23 = λ before given. s22 (m22 before given)
-
-      abbrev pub m24 : (before : After-known-told) → (given : s20 .gives (m20 (before .before) (before .known-told .given))) → Typed.Mo T26
-      m24 = λ before given. s23 (m23 before given)
+      abbrev pub m24 : (before : After-known-told) → (given : s20 .gives (m20 (before .before) (before .known-told .given))) → Typed.Mo T13
+      m24 = λ before given. s23 (s22 (s21 (s20 .next (m20 (before .before) (before .known-told .given)) given)))
 
       module _ (before· : After-known-told) where
         abbrev pub After-handed-back·own : Type 0
-        After-handed-back·own = Called.Called ps·2 r·2 (claims· .5) T22
-            (record { pos = 1; st = List.[]; d = 0; at = λ x. x }, (record { pos = 10; st = List.[]; d = 0; at = λ x. x }, (record { pos = 20; st = List.[]; d = 0; at = λ x. x }, tt))) (m20 (before·
-            .before) (before· .known-told .given))
+        After-handed-back·own = Called.Called ps·2 r·2 (claims· .5) T22 a1 (m20 (before· .before) (before· .known-told .given))
 
       pub record After-handed-back : Type 0 where
         pub before : After-known-told
         pub handed-back : After-handed-back·own before
 
+      abbrev pub After-handed-back·start : After-handed-back → Start
+      After-handed-back·start = λ c. c .before .before .before .before .before .before .before .before .before
+
       abbrev pub After-handed-back·gave : (c : After-handed-back) → s20 .gives (m20 (c .before .before) (c .before .known-told .given))
-      After-handed-back·gave = λ c. Called.given ps·2 r·2 (claims· .5) T22
-          (record { pos = 1; st = List.[]; d = 0; at = λ x. x }, (record { pos = 10; st = List.[]; d = 0; at = λ x. x }, (record { pos = 20; st = List.[]; d = 0; at = λ x. x }, tt))) (m20 (c .before
-          .before) (c .before .known-told .given)) (c .handed-back)
+      After-handed-back·gave = λ c. Called.given ps·2 r·2 (claims· .5) T22 a1 (m20 (c .before .before) (c .before .known-told .given)) (c .handed-back)
 
       module _ (before· : After-mended) where
         pub record At-match-keys2·own : Type 0 where
-          pub keys2 : Run.OneOf (List._∷_ 1 List.[]) (Declared.tagOf Beginning.the-type (Row.get 9 (T14 .locals) (m12 (before· .before) (After-mended·gave before·))))
+          pub keys2 : Run.OneOf (1 ∷ []) (Declared.tagOf Beginning.the-type (Row.get 9 (T14 .locals) (m12 (before· .before) (After-mended·gave before·))))
 
       pub record At-match-keys2 : Type 0 where
         pub before : After-mended
@@ -3777,20 +2165,8 @@ module _ (claims· : Claims) where
       abbrev pub Need-enum-told : Type 0
       Need-enum-told = (c : At-match-keys2) → s24 .asks (m12 (c .before .before) (After-mended·gave (c .before)))
 
-      abbrev pub m25 : (before : At-match-keys2) → (given : s24 .gives (m12 (before .before .before) (After-mended·gave (before .before)))) → Typed.Mo T27
-      m25 = λ before given. s24 .next (m12 (before .before .before) (After-mended·gave (before .before))) given
-
-      abbrev pub m26 : (before : At-match-keys2) → (given : s24 .gives (m12 (before .before .before) (After-mended·gave (before .before)))) → Typed.Mo T28
-      m26 = λ before given. s25 (m25 before given)
-
-      abbrev pub m27 : (before : At-match-keys2) → (given : s24 .gives (m12 (before .before .before) (After-mended·gave (before .before)))) → Typed.Mo T29
-      m27 = λ before given. s26 (m26 before given)
-
-      abbrev pub m28 : (before : At-match-keys2) → (given : s24 .gives (m12 (before .before .before) (After-mended·gave (before .before)))) → Typed.Mo T30
-      m28 = λ before given. s27 (m27 before given)
-
       abbrev pub m29 : (before : At-match-keys2) → (given : s24 .gives (m12 (before .before .before) (After-mended·gave (before .before)))) → Typed.Mo T31
-      m29 = λ before given. s28 (m28 before given)
+      m29 = λ before given. s28 (s27 (s26 (s25 (s24 .next (m12 (before .before .before) (After-mended·gave (before .before))) given))))
 
       module _ (before· : At-match-keys2) where
         pub record After-enum-told·own : Type 0 where
@@ -3803,36 +2179,26 @@ module _ (claims· : Claims) where
       abbrev pub Need-handed-back-requires-2 : Type 0
       Need-handed-back-requires-2 = (c : After-enum-told) → s29 .asks (m29 (c .before) (c .enum-told .given))
 
-      abbrev pub m30 : (before : After-enum-told) → (given : s29 .gives (m29 (before .before) (before .enum-told .given))) → Typed.Mo T32
-      m30 = λ before given. s29 .next (m29 (before .before) (before .enum-told .given)) given
-
-      abbrev pub m31 : (before : After-enum-told) → (given : s29 .gives (m29 (before .before) (before .enum-told .given))) → Typed.Mo T33
-      m31 = λ before given. s30 (m30 before given)
-
-      abbrev pub m32 : (before : After-enum-told) → (given : s29 .gives (m29 (before .before) (before .enum-told .given))) → Typed.Mo T34
-      m32 = λ before given. s31 (m31 before given)
-
-      abbrev pub m33 : (before : After-enum-told) → (given : s29 .gives (m29 (before .before) (before .enum-told .given))) → Typed.Mo T35
-      m33 = λ before given. s32 (m32 before given)
+      abbrev pub m33 : (before : After-enum-told) → (given : s29 .gives (m29 (before .before) (before .enum-told .given))) → Typed.Mo T13
+      m33 = λ before given. s32 (s31 (s30 (s29 .next (m29 (before .before) (before .enum-told .given)) given)))
 
       module _ (before· : After-enum-told) where
         abbrev pub After-handed-back2·own : Type 0
-        After-handed-back2·own = Called.Called ps·2 r·2 (claims· .5) T31
-            (record { pos = 1; st = List.[]; d = 0; at = λ x. x }, (record { pos = 10; st = List.[]; d = 0; at = λ x. x }, (record { pos = 21; st = List.[]; d = 0; at = λ x. x }, tt))) (m29 (before·
-            .before) (before· .enum-told .given))
+        After-handed-back2·own = Called.Called ps·2 r·2 (claims· .5) T31 a2 (m29 (before· .before) (before· .enum-told .given))
 
       pub record After-handed-back2 : Type 0 where
         pub before : After-enum-told
         pub handed-back2 : After-handed-back2·own before
 
+      abbrev pub After-handed-back2·start : After-handed-back2 → Start
+      After-handed-back2·start = λ c. c .before .before .before .before .before .before .before .before
+
       abbrev pub After-handed-back2·gave : (c : After-handed-back2) → s29 .gives (m29 (c .before .before) (c .before .enum-told .given))
-      After-handed-back2·gave = λ c. Called.given ps·2 r·2 (claims· .5) T31
-          (record { pos = 1; st = List.[]; d = 0; at = λ x. x }, (record { pos = 10; st = List.[]; d = 0; at = λ x. x }, (record { pos = 21; st = List.[]; d = 0; at = λ x. x }, tt))) (m29 (c .before
-          .before) (c .before .enum-told .given)) (c .handed-back2)
+      After-handed-back2·gave = λ c. Called.given ps·2 r·2 (claims· .5) T31 a2 (m29 (c .before .before) (c .before .enum-told .given)) (c .handed-back2)
 
       module _ (before· : After-mended) where
         pub record At-match-keys3·own : Type 0 where
-          pub keys3 : Run.OneOf (List._∷_ 2 List.[]) (Declared.tagOf Beginning.the-type (Row.get 9 (T14 .locals) (m12 (before· .before) (After-mended·gave before·))))
+          pub keys3 : Run.OneOf (2 ∷ []) (Declared.tagOf Beginning.the-type (Row.get 9 (T14 .locals) (m12 (before· .before) (After-mended·gave before·))))
 
       pub record At-match-keys3 : Type 0 where
         pub before : After-mended
@@ -3852,14 +2218,8 @@ module _ (claims· : Claims) where
         pub before : At-match-keys3
         pub begins2 : After-begins2·own before
 
-      abbrev pub m35 : (before : After-begins2) → (given : s34 .gives (m34 (before .before) (before .begins2 .given))) → Typed.Mo T37
-      m35 = λ before given. s34 .next (m34 (before .before) (before .begins2 .given)) given
-
-      abbrev pub m36 : (before : After-begins2) → (given : s34 .gives (m34 (before .before) (before .begins2 .given))) → Typed.Mo T38
-      m36 = λ before given. s35 (m35 before given)
-
       abbrev pub m37 : (before : After-begins2) → (given : s34 .gives (m34 (before .before) (before .begins2 .given))) → Typed.Mo T39
-      m37 = λ before given. s36 (m36 before given)
+      m37 = λ before given. s36 (s35 (s34 .next (m34 (before .before) (before .begins2 .given)) given))
 
       module _ (before· : After-begins2) where
         pub record After-known-told2·own : Type 0 where
@@ -3877,25 +2237,19 @@ module _ (claims· : Claims) where
 
       module _ (before· : After-known-told2) where
         abbrev pub After-samples-needed·own : Type 0
-        After-samples-needed·own = Called.Called ps·3 r·3 (claims· .7) T39 (Bool.bFld 12 (List._∷_ (Syntax.field 1) List.[]) 1 λ x. FujiHeader.struct .as-values x .1 .0, tt) (m37 (before· .before)
-            (before· .known-told2 .given))
+        After-samples-needed·own = Called.Called ps·3 r·3 (claims· .7) T39 (Bool.bFld 12 ((Syntax.field 1) ∷ []) 1 λ x. FujiHeader.struct .as-values x .1 .0, tt) (m37 (before· .before) (before·
+            .known-told2 .given))
 
       pub record After-samples-needed : Type 0 where
         pub before : After-known-told2
         pub samples-needed : After-samples-needed·own before
 
       abbrev pub After-samples-needed·gave : (c : After-samples-needed) → s37 .gives (m37 (c .before .before) (c .before .known-told2 .given))
-      After-samples-needed·gave = λ c. Called.given ps·3 r·3 (claims· .7) T39 (Bool.bFld 12 (List._∷_ (Syntax.field 1) List.[]) 1 λ x. FujiHeader.struct .as-values x .1 .0, tt) (m37 (c .before
-          .before) (c .before .known-told2 .given)) (c .samples-needed)
-
-      abbrev pub m39 : (before : After-samples-needed) → (given : s39 .gives (m38 (before .before) (After-samples-needed·gave before))) → Typed.Mo T42
-      m39 = λ before given. s39 .next (m38 (before .before) (After-samples-needed·gave before)) given
-
-      abbrev pub m40 : (before : After-samples-needed) → (given : s39 .gives (m38 (before .before) (After-samples-needed·gave before))) → Typed.Mo T43
-      m40 = λ before given. s40 .next (m39 before given)
+      After-samples-needed·gave = λ c. Called.given ps·3 r·3 (claims· .7) T39 (Bool.bFld 12 ((Syntax.field 1) ∷ []) 1 λ x. FujiHeader.struct .as-values x .1 .0, tt) (m37 (c .before .before) (c .before
+          .known-told2 .given)) (c .samples-needed)
 
       abbrev pub m41 : (before : After-samples-needed) → (given : s39 .gives (m38 (before .before) (After-samples-needed·gave before))) → Typed.Mo T44
-      m41 = λ before given. s41 .next (m40 before given)
+      m41 = λ before given. s41 .next (s40 .next (s39 .next (m38 (before .before) (After-samples-needed·gave before)) given))
 
       module _ (before· : After-samples-needed) where
         pub record After-decode-shared-blocks-arg·own : Type 0 where
@@ -3919,20 +2273,11 @@ module _ (claims· : Claims) where
       Need-part-decode-shared-blocks-end = (c : After-decode-shared-blocks-arg) → PartAt.PartTo T45 7 24 (λ x. x) (λ u. u .1 .1 .1 .1 .1 .1 .1 .1 .1 .1 .1 .1 .1 .0) (m42 (c .before) (c
           .decode-shared-blocks-arg .given))
 
-      abbrev pub m43 : (before : After-decode-shared-blocks-arg) → (given : s44 .gives (m42 (before .before) (before .decode-shared-blocks-arg .given))) → Typed.Mo T47
-      m43 = λ before given. s44 .next (m42 (before .before) (before .decode-shared-blocks-arg .given)) given
-
       abbrev pub m44 : (before : After-decode-shared-blocks-arg) → (given : s44 .gives (m42 (before .before) (before .decode-shared-blocks-arg .given))) → Typed.Mo T48
-      m44 = λ before given. s45 (m43 before given)
-
-      abbrev pub m45 : (before : After-decode-shared-blocks-arg) → (given : s44 .gives (m42 (before .before) (before .decode-shared-blocks-arg .given))) → Typed.Mo T49
-      m45 = λ before given. s46 .next (m44 before given)
-
-      abbrev pub m46 : (before : After-decode-shared-blocks-arg) → (given : s44 .gives (m42 (before .before) (before .decode-shared-blocks-arg .given))) → Typed.Mo T50
-      m46 = λ before given. s47 (m45 before given)
+      m44 = λ before given. s45 (s44 .next (m42 (before .before) (before .decode-shared-blocks-arg .given)) given)
 
       abbrev pub m47 : (before : After-decode-shared-blocks-arg) → (given : s44 .gives (m42 (before .before) (before .decode-shared-blocks-arg .given))) → Typed.Mo T51
-      m47 = λ before given. s48 .next (m46 before given)
+      m47 = λ before given. s48 .next (s47 (s46 .next (m44 before given)))
 
       module _ (before· : After-decode-shared-blocks-arg) where
         pub record After-decode-shared-blocks-arg2·own : Type 0 where
@@ -3954,17 +2299,11 @@ module _ (claims· : Claims) where
       abbrev pub Need-part-decode-shared-blocks-end-2 : Type 0
       Need-part-decode-shared-blocks-end-2 = (c : After-decode-shared-blocks-arg2) → PartAt.PartTo T52 8 28 (λ x. x) (λ u. 336) (m48 (c .before) (c .decode-shared-blocks-arg2 .given))
 
-      abbrev pub m49 : (before : After-decode-shared-blocks-arg2) → (given : s51 .gives (m48 (before .before) (before .decode-shared-blocks-arg2 .given))) → Typed.Mo T54
-      m49 = λ before given. s51 .next (m48 (before .before) (before .decode-shared-blocks-arg2 .given)) given
-
       abbrev pub m50 : (before : After-decode-shared-blocks-arg2) → (given : s51 .gives (m48 (before .before) (before .decode-shared-blocks-arg2 .given))) → Typed.Mo T55
-      m50 = λ before given. s52 (m49 before given)
-
-      abbrev pub m51 : (before : After-decode-shared-blocks-arg2) → (given : s51 .gives (m48 (before .before) (before .decode-shared-blocks-arg2 .given))) → Typed.Mo T56
-      m51 = λ before given. s53 .next (m50 before given)
+      m50 = λ before given. s52 (s51 .next (m48 (before .before) (before .decode-shared-blocks-arg2 .given)) given)
 
       abbrev pub m52 : (before : After-decode-shared-blocks-arg2) → (given : s51 .gives (m48 (before .before) (before .decode-shared-blocks-arg2 .given))) → Typed.Mo T57
-      m52 = λ before given. s54 (m51 before given)
+      m52 = λ before given. s54 (s53 .next (m50 before given))
 
       module _ (before· : After-decode-shared-blocks-arg2) where
         pub record After-decode-shared-blocks-arg3·own : Type 0 where
@@ -3982,75 +2321,17 @@ module _ (claims· : Claims) where
 
       module _ (before· : After-decode-shared-blocks-arg3) where
         abbrev pub After-decode-shared-blocks·own : Type 0
-        After-decode-shared-blocks·own = Called.Called ps·4 r·4 (claims· .9) T57 (
-          record { pos = 1; st = List.[]; d = 0; at = λ x. x },
-          (
-            record { pos = 10; st = List.[]; d = 0; at = λ x. x },
-            (
-              record { pos = 3; ty = Syntax.tyRef (Syntax.named 0) Syntax.imm (Syntax.tyInt Syntax.w8); ref = λ x. x },
-              (
-                record { pos = 12; st = List.[]; d = 0; at = λ x. x },
-                (
-                  record { pos = 4; st = List.[]; d = 0; at = λ x. x },
-                  (
-                    record { pos = 5; st = List.[]; d = 0; at = λ x. x },
-                    (
-                      record { pos = 23; ty = Syntax.tyRef Syntax.erased Syntax.mut (Syntax.tyInt Syntax.w16); ref = λ x. x },
-                      (
-                        record { pos = 27; ty = Syntax.tyRef Syntax.erased Syntax.mut (Syntax.tyInt Syntax.w16); ref = λ x. x },
-                        (record { pos = 31; ty = Syntax.tyRef Syntax.erased Syntax.mut Element.behind; ref = λ x. x }, tt),
-                      ),
-                    ),
-                  ),
-                ),
-              ),
-            ),
-          ),
-        ) (m52 (before· .before) (before· .decode-shared-blocks-arg3 .given))
+        After-decode-shared-blocks·own = Called.Called ps·4 r·4 (claims· .9) T57 a4 (m52 (before· .before) (before· .decode-shared-blocks-arg3 .given))
 
       pub record After-decode-shared-blocks : Type 0 where
         pub before : After-decode-shared-blocks-arg3
         pub decode-shared-blocks : After-decode-shared-blocks·own before
 
       abbrev pub After-decode-shared-blocks·gave : (c : After-decode-shared-blocks) → s55 .gives (m52 (c .before .before) (c .before .decode-shared-blocks-arg3 .given))
-      After-decode-shared-blocks·gave = λ c. Called.given ps·4 r·4 (claims· .9) T57 (
-        record { pos = 1; st = List.[]; d = 0; at = λ x. x },
-        (
-          record { pos = 10; st = List.[]; d = 0; at = λ x. x },
-          (
-            record { pos = 3; ty = Syntax.tyRef (Syntax.named 0) Syntax.imm (Syntax.tyInt Syntax.w8); ref = λ x. x },
-            (
-              record { pos = 12; st = List.[]; d = 0; at = λ x. x },
-              (
-                record { pos = 4; st = List.[]; d = 0; at = λ x. x },
-                (
-                  record { pos = 5; st = List.[]; d = 0; at = λ x. x },
-                  (
-                    record { pos = 23; ty = Syntax.tyRef Syntax.erased Syntax.mut (Syntax.tyInt Syntax.w16); ref = λ x. x },
-                    (
-                      record { pos = 27; ty = Syntax.tyRef Syntax.erased Syntax.mut (Syntax.tyInt Syntax.w16); ref = λ x. x },
-                      (record { pos = 31; ty = Syntax.tyRef Syntax.erased Syntax.mut Element.behind; ref = λ x. x }, tt),
-                    ),
-                  ),
-                ),
-              ),
-            ),
-          ),
-        ),
-      ) (m52 (c .before .before) (c .before .decode-shared-blocks-arg3 .given)) (c
-          .decode-shared-blocks)
-
-      abbrev pub m54 : (before : After-decode-shared-blocks-arg3) → (given : s55 .gives (m52 (before .before) (before .decode-shared-blocks-arg3 .given))) → Typed.Mo T59
-      m54 = λ before given. s56 (m53 before given)
-
-      abbrev pub m55 : (before : After-decode-shared-blocks-arg3) → (given : s55 .gives (m52 (before .before) (before .decode-shared-blocks-arg3 .given))) → Typed.Mo T60
-      m55 = λ before given. s57 (m54 before given)
-
-      abbrev pub m56 : (before : After-decode-shared-blocks-arg3) → (given : s55 .gives (m52 (before .before) (before .decode-shared-blocks-arg3 .given))) → Typed.Mo T61
-      m56 = λ before given. s58 (m55 before given)
+      After-decode-shared-blocks·gave = λ c. Called.given ps·4 r·4 (claims· .9) T57 a4 (m52 (c .before .before) (c .before .decode-shared-blocks-arg3 .given)) (c .decode-shared-blocks)
 
       abbrev pub m57 : (before : After-decode-shared-blocks-arg3) → (given : s55 .gives (m52 (before .before) (before .decode-shared-blocks-arg3 .given))) → Typed.Mo T62
-      m57 = λ before given. s59 (m56 before given)
+      m57 = λ before given. s59 (s58 (s57 (s56 (m53 before given))))
 
       abbrev pub m58 : (before : After-decode-shared-blocks) → (given : s61 .gives (m57 (before .before) (After-decode-shared-blocks·gave before))) → Typed.Mo T64
       m58 = λ before given. s61 .next (m57 (before .before) (After-decode-shared-blocks·gave before)) given
@@ -4063,7 +2344,7 @@ module _ (claims· : Claims) where
         pub before : After-decode-shared-blocks
         pub image : After-image·own before
 
-      abbrev pub m59 : (before : After-image) → (given : s62 .gives (m58 (before .before) (before .image .given))) → Typed.Mo T65
+      abbrev pub m59 : (before : After-image) → (given : s62 .gives (m58 (before .before) (before .image .given))) → Typed.Mo T64
       m59 = λ before given. s62 .next (m58 (before .before) (before .image .given)) given
 
       module _ (before· : After-image) where
@@ -4085,7 +2366,7 @@ module _ (claims· : Claims) where
         pub before : After-slice-known3
         pub lines : After-lines·own before
 
-      abbrev pub m61 : (before : After-lines) → (given : s66 .gives (m60 (before .before) (before .lines .given))) → Typed.Mo T69
+      abbrev pub m61 : (before : After-lines) → (given : s66 .gives (m60 (before .before) (before .lines .given))) → Typed.Mo T68
       m61 = λ before given. s66 .next (m60 (before .before) (before .lines .given)) given
 
       module _ (before· : After-lines) where
@@ -4096,11 +2377,8 @@ module _ (claims· : Claims) where
         pub before : After-lines
         pub slice-known4 : After-slice-known4·own before
 
-      abbrev pub m62 : (before : After-slice-known4) → (given : s69 .gives (m61 (before .before) (before .slice-known4 .given))) → Typed.Mo T72
-      m62 = λ before given. s69 .next (m61 (before .before) (before .slice-known4 .given)) given
-
       abbrev pub m63 : (before : After-slice-known4) → (given : s69 .gives (m61 (before .before) (before .slice-known4 .given))) → Typed.Mo T74
-      m63 = λ before given. s71 (m62 before given)
+      m63 = λ before given. s71 (s69 .next (m61 (before .before) (before .slice-known4 .given)) given)
 
       module _ (before· : After-slice-known4) where
         pub record After-rs·own : Type 0 where
@@ -4113,45 +2391,25 @@ module _ (claims· : Claims) where
       abbrev pub Need-handed-back-requires-3 : Type 0
       Need-handed-back-requires-3 = (c : After-rs) → s72 .asks (m63 (c .before) (c .rs .given))
 
-      abbrev pub m64 : (before : After-rs) → (given : s72 .gives (m63 (before .before) (before .rs .given))) → Typed.Mo T75
-      m64 = λ before given. s72 .next (m63 (before .before) (before .rs .given)) given
-
-      abbrev pub m65 : (before : After-rs) → (given : s72 .gives (m63 (before .before) (before .rs .given))) → Typed.Mo T76
-      m65 = λ before given. s73 (m64 before given)
-
-      abbrev pub m66 : (before : After-rs) → (given : s72 .gives (m63 (before .before) (before .rs .given))) → Typed.Mo T77
-      m66 = λ before given. s74 (m65 before given)
-
-      abbrev pub m67 : (before : After-rs) → (given : s72 .gives (m63 (before .before) (before .rs .given))) → Typed.Mo T78
-      m67 = λ before given. s75 (m66 before given)
-
-      abbrev pub m68 : (before : After-rs) → (given : s72 .gives (m63 (before .before) (before .rs .given))) → Typed.Mo T79
-      m68 = λ before given. s76 (m67 before given)
+      abbrev pub m68 : (before : After-rs) → (given : s72 .gives (m63 (before .before) (before .rs .given))) → Typed.Mo T13
+      m68 = λ before given. s76 (s75 (s74 (s73 (s72 .next (m63 (before .before) (before .rs .given)) given))))
 
       module _ (before· : After-rs) where
         abbrev pub After-handed-back3·own : Type 0
-        After-handed-back3·own = Called.Called ps·2 r·2 (claims· .5) T74 (
-          record { pos = 1; st = List.[]; d = 0; at = λ x. x },
-          (record { pos = 14; st = List._∷_ (Syntax.field 1) List.[]; d = 32; at = λ x. SharedAnswer.struct .as-values x .1 .0 }, (record { pos = 15; st = List.[]; d = 0; at = λ x. x }, tt)),
-        ) (m63
-            (before· .before) (before· .rs .given))
+        After-handed-back3·own = Called.Called ps·2 r·2 (claims· .5) T74 a3 (m63 (before· .before) (before· .rs .given))
 
       pub record After-handed-back3 : Type 0 where
         pub before : After-rs
         pub handed-back3 : After-handed-back3·own before
 
+      abbrev pub After-handed-back3·start : After-handed-back3 → Start
+      After-handed-back3·start = λ c. c .before .before .before .before .before .before .before .before .before .before .before .before .before .before .before .before .before .before .before
+
       abbrev pub After-handed-back3·gave : (c : After-handed-back3) → s72 .gives (m63 (c .before .before) (c .before .rs .given))
-      After-handed-back3·gave = λ c. Called.given ps·2 r·2 (claims· .5) T74 (
-        record { pos = 1; st = List.[]; d = 0; at = λ x. x },
-        (record { pos = 14; st = List._∷_ (Syntax.field 1) List.[]; d = 32; at = λ x. SharedAnswer.struct .as-values x .1 .0 }, (record { pos = 15; st = List.[]; d = 0; at = λ x. x }, tt)),
-      ) (m63 (c
-          .before .before) (c .before .rs .given)) (c .handed-back3)
+      After-handed-back3·gave = λ c. Called.given ps·2 r·2 (claims· .5) T74 a3 (m63 (c .before .before) (c .before .rs .given)) (c .handed-back3)
 
-      abbrev pub m69 : (before : After-known-told) → (given : s20 .gives (m20 (before .before) (before .known-told .given))) → Typed.Mo T80
-      m69 = λ before given. s77 (m24 before given)
-
-      abbrev pub m70 : (before : After-known-told) → (given : s20 .gives (m20 (before .before) (before .known-told .given))) → Typed.Mo T81
-      m70 = λ before given. s78 (m69 before given)
+      abbrev pub m70 : (before : After-known-told) → (given : s20 .gives (m20 (before .before) (before .known-told .given))) → Typed.Mo T1
+      m70 = λ before given. s78 (s77 (m24 before given))
 
       abbrev pub Need-returns : Type 0
       Need-returns = (c : After-handed-back) → Post· (c .before .before .before .before .before .before .before .before .before .κs) (dens (c .before .before .before .before .before .before .before
@@ -4161,11 +2419,8 @@ module _ (claims· : Claims) where
           .before .before .before .before .before .before .before .κs) 1 ps xs (dens (c .before .before .before .before .before .before .before .before .before .κs) (c .before .before .before .before
           .before .before .before .before .before .args)) (m70 (c .before) (After-handed-back·gave c) .1)))
 
-      abbrev pub m71 : (before : After-enum-told) → (given : s29 .gives (m29 (before .before) (before .enum-told .given))) → Typed.Mo T80
-      m71 = λ before given. s77 (m33 before given)
-
-      abbrev pub m72 : (before : After-enum-told) → (given : s29 .gives (m29 (before .before) (before .enum-told .given))) → Typed.Mo T81
-      m72 = λ before given. s78 (m71 before given)
+      abbrev pub m72 : (before : After-enum-told) → (given : s29 .gives (m29 (before .before) (before .enum-told .given))) → Typed.Mo T1
+      m72 = λ before given. s78 (s77 (m33 before given))
 
       abbrev pub Need-returns-2 : Type 0
       Need-returns-2 = (c : After-handed-back2) → Post· (c .before .before .before .before .before .before .before .before .κs) (dens (c .before .before .before .before .before .before .before .before
@@ -4175,24 +2430,21 @@ module _ (claims· : Claims) where
           xs (dens (c .before .before .before .before .before .before .before .before .κs) (c .before .before .before .before .before .before .before .before .args)) (m72 (c .before)
           (After-handed-back2·gave c) .1)))
 
-      abbrev pub m73 : (before : After-rs) → (given : s72 .gives (m63 (before .before) (before .rs .given))) → Typed.Mo T80
-      m73 = λ before given. s77 (m68 before given)
-
-      abbrev pub m74 : (before : After-rs) → (given : s72 .gives (m63 (before .before) (before .rs .given))) → Typed.Mo T81
-      m74 = λ before given. s78 (m73 before given)
+      abbrev pub m74 : (before : After-rs) → (given : s72 .gives (m63 (before .before) (before .rs .given))) → Typed.Mo T1
+      m74 = λ before given. s78 (s77 (m68 before given))
 
       abbrev pub Need-same-length : Type 0
-      Need-same-length = (c : After-handed-back3) → MutSlice.SameLen (Row.get 6 (T81 .locals) (m74 (c .before) (After-handed-back3·gave c))) (dens (c .before .before .before .before .before .before
+      Need-same-length = (c : After-handed-back3) → MutSlice.SameLen (Row.get 6 (T1 .locals) (m74 (c .before) (After-handed-back3·gave c))) (dens (c .before .before .before .before .before .before
           .before .before .before .before .before .before .before .before .before .before .before .before .before .κs) (c .before .before .before .before .before .before .before .before .before .before
           .before .before .before .before .before .before .before .before .before .args) .1 .1 .1 .1 .1 .0)
 
       abbrev pub Need-same-length-2 : Type 0
-      Need-same-length-2 = (c : After-handed-back3) → MutSlice.SameLen (Row.get 7 (T81 .locals) (m74 (c .before) (After-handed-back3·gave c))) (dens (c .before .before .before .before .before .before
+      Need-same-length-2 = (c : After-handed-back3) → MutSlice.SameLen (Row.get 7 (T1 .locals) (m74 (c .before) (After-handed-back3·gave c))) (dens (c .before .before .before .before .before .before
           .before .before .before .before .before .before .before .before .before .before .before .before .before .κs) (c .before .before .before .before .before .before .before .before .before .before
           .before .before .before .before .before .before .before .before .before .args) .1 .1 .1 .1 .1 .1 .0)
 
       abbrev pub Need-same-length-3 : Type 0
-      Need-same-length-3 = (c : After-handed-back3) → MutSlice.SameLen (Row.get 8 (T81 .locals) (m74 (c .before) (After-handed-back3·gave c))) (dens (c .before .before .before .before .before .before
+      Need-same-length-3 = (c : After-handed-back3) → MutSlice.SameLen (Row.get 8 (T1 .locals) (m74 (c .before) (After-handed-back3·gave c))) (dens (c .before .before .before .before .before .before
           .before .before .before .before .before .before .before .before .before .before .before .before .before .κs) (c .before .before .before .before .before .before .before .before .before .before
           .before .before .before .before .before .before .before .before .before .args) .1 .1 .1 .1 .1 .1 .1 .0)
 
@@ -4215,9 +2467,7 @@ module _ (claims· : Claims) where
           (part-decode-shared-blocks-end-2 : Need-part-decode-shared-blocks-end-2) (decode-shared-blocks-requires : Need-decode-shared-blocks-requires) (handed-back-requires-3 :
           Need-handed-back-requires-3) (returns : Need-returns) (returns-2 : Need-returns-2) (same-length : Need-same-length) (same-length-2 : Need-same-length-2) (same-length-3 : Need-same-length-3)
           (returns-3 : Need-returns-3) where
-        lay7 : (c : After-handed-back3) → at59 (W0 (c .before .before .before .before .before .before .before .before .before .before .before .before .before .before .before .before .before .before
-            .before .κs) (c .before .before .before .before .before .before .before .before .before .before .before .before .before .before .before .before .before .before .before .args)) (m68 (c .before)
-            (After-handed-back3·gave c))
+        lay7 : (c : After-handed-back3) → at59 (W0 (After-handed-back3·start c .κs) (After-handed-back3·start c .args)) (m68 (c .before) (After-handed-back3·gave c))
         lay7 = λ c. (
           (
             tt,
@@ -4230,20 +2480,14 @@ module _ (claims· : Claims) where
                   (
                     tt,
                     (
-                      MutSlice.fix-len (Row.get 6 (T81 .locals) (m74 (c .before) (After-handed-back3·gave c)) .ptr) (Row.get 6 (T81 .locals) (m74 (c .before) (After-handed-back3·gave c)) .name) (Row.get 6 (T81
-                          .locals) (m74 (c .before) (After-handed-back3·gave c)) .now) (dens (c .before .before .before .before .before .before .before .before .before .before .before .before .before .before .before
-                          .before .before .before .before .κs) (c .before .before .before .before .before .before .before .before .before .before .before .before .before .before .before .before .before .before .before
-                          .args) .1 .1 .1 .1 .1 .0 .now) (same-length record { before = c .before; handed-back3 = c .handed-back3 }),
+                      MutSlice.fix-len (Row.get 6 (T1 .locals) (m74 (c .before) (After-handed-back3·gave c)) .ptr) (Row.get 6 (T1 .locals) (m74 (c .before) (After-handed-back3·gave c)) .name) (Row.get 6 (T1
+                          .locals) (m74 (c .before) (After-handed-back3·gave c)) .now) (dens (After-handed-back3·start c .κs) (After-handed-back3·start c .args) .1 .1 .1 .1 .1 .0 .now) (same-length c),
                       (
-                        MutSlice.fix-len (Row.get 7 (T81 .locals) (m74 (c .before) (After-handed-back3·gave c)) .ptr) (Row.get 7 (T81 .locals) (m74 (c .before) (After-handed-back3·gave c)) .name) (Row.get 7 (T81
-                            .locals) (m74 (c .before) (After-handed-back3·gave c)) .now) (dens (c .before .before .before .before .before .before .before .before .before .before .before .before .before .before .before
-                            .before .before .before .before .κs) (c .before .before .before .before .before .before .before .before .before .before .before .before .before .before .before .before .before .before .before
-                            .args) .1 .1 .1 .1 .1 .1 .0 .now) (same-length-2 record { before = c .before; handed-back3 = c .handed-back3 }),
+                        MutSlice.fix-len (Row.get 7 (T1 .locals) (m74 (c .before) (After-handed-back3·gave c)) .ptr) (Row.get 7 (T1 .locals) (m74 (c .before) (After-handed-back3·gave c)) .name) (Row.get 7 (T1
+                            .locals) (m74 (c .before) (After-handed-back3·gave c)) .now) (dens (After-handed-back3·start c .κs) (After-handed-back3·start c .args) .1 .1 .1 .1 .1 .1 .0 .now) (same-length-2 c),
                         (
-                          MutSlice.fix-len (Row.get 8 (T81 .locals) (m74 (c .before) (After-handed-back3·gave c)) .ptr) (Row.get 8 (T81 .locals) (m74 (c .before) (After-handed-back3·gave c)) .name) (Row.get 8 (T81
-                              .locals) (m74 (c .before) (After-handed-back3·gave c)) .now) (dens (c .before .before .before .before .before .before .before .before .before .before .before .before .before .before .before
-                              .before .before .before .before .κs) (c .before .before .before .before .before .before .before .before .before .before .before .before .before .before .before .before .before .before .before
-                              .args) .1 .1 .1 .1 .1 .1 .1 .0 .now) (same-length-3 record { before = c .before; handed-back3 = c .handed-back3 }),
+                          MutSlice.fix-len (Row.get 8 (T1 .locals) (m74 (c .before) (After-handed-back3·gave c)) .ptr) (Row.get 8 (T1 .locals) (m74 (c .before) (After-handed-back3·gave c)) .name) (Row.get 8 (T1
+                              .locals) (m74 (c .before) (After-handed-back3·gave c)) .now) (dens (After-handed-back3·start c .κs) (After-handed-back3·start c .args) .1 .1 .1 .1 .1 .1 .1 .0 .now) (same-length-3 c),
                           tt,
                         ),
                       ),
@@ -4253,290 +2497,106 @@ module _ (claims· : Claims) where
               ),
             ),
           ),
-          returns-3 record
-              { before = c .before; handed-back3 = c .handed-back3 },
+          returns-3 c,
         )
 
-        lay6 : (c : After-handed-back2) → at59 (W0 (c .before .before .before .before .before .before .before .before .κs) (c .before .before .before .before .before .before .before .before .args))
-            (m33 (c .before) (After-handed-back2·gave c))
-        lay6 = λ c. ((tt, (tt, (Path'.refl, (tt, (tt, (Path'.refl, (Path'.refl, (Path'.refl, tt)))))))), returns-2 record { before = c .before; handed-back2 = c .handed-back2 })
+        lay6 : (c : After-handed-back2) → at59 (W0 (After-handed-back2·start c .κs) (After-handed-back2·start c .args)) (m33 (c .before) (After-handed-back2·gave c))
+        lay6 = λ c. ((tt, (tt, (Path'.refl, (tt, (tt, (Path'.refl, (Path'.refl, (Path'.refl, tt)))))))), returns-2 c)
 
-        lay5 : (c : After-handed-back) → at59 (W0 (c .before .before .before .before .before .before .before .before .before .κs) (c .before .before .before .before .before .before .before .before
-            .before .args)) (m24 (c .before) (After-handed-back·gave c))
-        lay5 = λ c. ((tt, (tt, (Path'.refl, (tt, (tt, (Path'.refl, (Path'.refl, (Path'.refl, tt)))))))), returns record { before = c .before; handed-back = c .handed-back })
+        lay5 : (c : After-handed-back) → at59 (W0 (After-handed-back·start c .κs) (After-handed-back·start c .args)) (m24 (c .before) (After-handed-back·gave c))
+        lay5 = λ c. ((tt, (tt, (Path'.refl, (tt, (tt, (Path'.refl, (Path'.refl, (Path'.refl, tt)))))))), returns c)
 
         lay4 : (c : After-decode-shared-blocks) → at31 (W1 (c .before .before .before .before .before .before .before .before .before) (After-mended·gave (c .before .before .before .before .before
             .before .before .before))) (m53 (c .before) (After-decode-shared-blocks·gave c))
         lay4 = λ c. (
           Path'.refl,
-          λ g. λ g'. (
-            Path'.refl,
-            λ g''. λ g'3. (
-              Path'.refl,
-              λ g'4. (
-                handed-back-requires-3 record {
-                  before = record {
-                    before = record {
-                      before = record
-                          { before = record { before = record { before = c .before; decode-shared-blocks = c .decode-shared-blocks }; image = record { given = g } }; slice-known3 = record { given = g' } };
-                      lines =
-                          record { given = g'' };
-                    };
-                    slice-known4 = record { given = g'3 };
-                  };
-                  rs = record { given = g'4 };
-                },
-                λ g'5. lay7 record {
-                  before = record {
-                    before = record {
-                      before = record {
-                        before = record
-                            { before = record { before = record { before = c .before; decode-shared-blocks = c .decode-shared-blocks }; image = record { given = g } }; slice-known3 = record { given = g' } };
-                        lines =
-                            record { given = g'' };
-                      };
-                      slice-known4 = record { given = g'3 };
-                    };
-                    rs = record { given = g'4 };
-                  };
-                  handed-back3 = Called.called ps·2 r·2 (claims· .5) T74 (
-                    record { pos = 1; st = List.[]; d = 0; at = λ x. x },
-                    (record { pos = 14; st = List._∷_ (Syntax.field 1) List.[]; d = 32; at = λ x. SharedAnswer.struct .as-values x .1 .0 }, (record { pos = 15; st = List.[]; d = 0; at = λ x. x }, tt)),
-                  ) (m63
-                      record {
-                        before = record {
-                          before = record
-                              { before = record { before = record { before = c .before; decode-shared-blocks = c .decode-shared-blocks }; image = record { given = g } }; slice-known3 = record { given = g' } };
-                          lines =
-                              record { given = g'' };
-                        };
-                        slice-known4 = record { given = g'3 };
-                      } g'4) g'5;
-                },
+          λ g. let c1 : After-image = record { before = c; image = record { given = g } } in λ g'. let c2 : After-slice-known3 = record
+              { before = c1; slice-known3 = record { given = g' } } in (
+                Path'.refl,
+                λ g''. let c3 : After-lines = record { before = c2; lines = record { given = g'' } } in λ g'3. let c4 : After-slice-known4 = record
+                    { before = c3; slice-known4 = record { given = g'3 } } in (
+                      Path'.refl,
+                      λ g'4. let c5 : After-rs = record { before = c4; rs = record { given = g'4 } } in
+                          (handed-back-requires-3 c5, λ g'5. lay7 record { before = c5; handed-back3 = Called.called ps·2 r·2 (claims· .5) T74 a3 (m63 c4 g'4) g'5 }),
+                    ),
               ),
-            ),
-          ),
         )
 
-        lay3 : (c : After-samples-needed) → at49 (W1 (c .before .before .before .before .before) (After-mended·gave (c .before .before .before .before))) (m38 (c .before) (After-samples-needed·gave
+        lay3 : (c : After-samples-needed) → at48 (W1 (c .before .before .before .before .before) (After-mended·gave (c .before .before .before .before))) (m38 (c .before) (After-samples-needed·gave
             c))
-        lay3 = λ c. λ g. (
+        lay3 = λ c. λ g. let c1 : After-decode-shared-blocks-arg = record { before = c; decode-shared-blocks-arg = record { given = g } } in (
           Path'.refl,
           (
             tt,
             (
-              sub-decode-shared-blocks record { before = record { before = c .before; samples-needed = c .samples-needed }; decode-shared-blocks-arg = record { given = g } },
+              sub-decode-shared-blocks c1,
               (
-                (
-                  Path'.refl,
-                  Path'.refl,
-                  part-decode-shared-blocks-start record
-                      { before = record { before = c .before; samples-needed = c .samples-needed }; decode-shared-blocks-arg = record { given = g } },
-                  part-decode-shared-blocks-end record
-                      { before = record { before = c .before; samples-needed = c .samples-needed }; decode-shared-blocks-arg = record { given = g } },
-                ),
-                λ g'. (
-                  Relend.count-is T48 26 27 (λ x. x) (λ u. u .1 .1 .1 .1 .1 .1 .1 .1 .1 .1 .1 .1 .1 .1 .1 .1 .1 .1 .1 .1 .1 .1 .1 .1 .1 .0) (m44 record
-                      { before = record { before = c .before; samples-needed = c .samples-needed }; decode-shared-blocks-arg = record { given = g } } g') (g' .1),
-                  (
-                    tt,
-                    (
-                      sub-decode-shared-blocks-2 record {
-                        before = record { before = record { before = c .before; samples-needed = c .samples-needed }; decode-shared-blocks-arg = record { given = g } };
-                        decode-shared-blocks-arg2 = record {
-                          given
-                              = g';
-                        };
-                      },
+                (Path'.refl, Path'.refl, part-decode-shared-blocks-start c1, part-decode-shared-blocks-end c1),
+                λ g'. let c2 : After-decode-shared-blocks-arg2 = record
+                    { before = c1; decode-shared-blocks-arg2 = record { given = g' } } in (
+                      Relend.count-is T48 26 27 (λ x. x) (λ u. u .1 .1 .1 .1 .1 .1 .1 .1 .1 .1 .1 .1 .1 .1 .1 .1 .1 .1 .1 .1 .1 .1 .1 .1 .1 .0) (m44 c1 g') (g' .1),
                       (
+                        tt,
                         (
-                          Path'.refl,
-                          Path'.refl,
-                          part-decode-shared-blocks-start-2 record {
-                            before = record { before = record { before = c .before; samples-needed = c .samples-needed }; decode-shared-blocks-arg = record { given = g } };
-                            decode-shared-blocks-arg2 = record {
-                              given
-                                  = g';
-                            };
-                          },
-                          part-decode-shared-blocks-end-2 record {
-                            before = record { before = record { before = c .before; samples-needed = c .samples-needed }; decode-shared-blocks-arg = record { given = g } };
-                            decode-shared-blocks-arg2 = record {
-                              given
-                                  = g';
-                            };
-                          },
-                        ),
-                        λ g''. (
-                          Relend.count-is T55 30 31 (λ x. x) (λ u. u .1 .1 .1 .1 .1 .1 .1 .1 .1 .1 .1 .1 .1 .1 .1 .1 .1 .1 .1 .1 .1 .1 .1 .1 .1 .1 .1 .1 .1 .0) (m50 record {
-                            before = record { before = record { before = c .before; samples-needed = c .samples-needed }; decode-shared-blocks-arg = record { given = g } };
-                            decode-shared-blocks-arg2 = record {
-                              given
-                                  = g';
-                            };
-                          } g'') (g'' .1),
+                          sub-decode-shared-blocks-2 c2,
                           (
-                            decode-shared-blocks-requires record {
-                              before = record {
-                                before = record { before = record { before = c .before; samples-needed = c .samples-needed }; decode-shared-blocks-arg = record { given = g } };
-                                decode-shared-blocks-arg2 = record {
-                                  given
-                                      = g';
-                                };
-                              };
-                              decode-shared-blocks-arg3 = record { given = g'' };
-                            },
-                            λ g'3. lay4 record {
-                              before = record {
-                                before = record {
-                                  before = record { before = record { before = c .before; samples-needed = c .samples-needed }; decode-shared-blocks-arg = record { given = g } };
-                                  decode-shared-blocks-arg2 = record {
-                                    given
-                                        = g';
-                                  };
-                                };
-                                decode-shared-blocks-arg3 = record { given = g'' };
-                              };
-                              decode-shared-blocks = Called.called ps·4 r·4 (claims· .9) T57 (
-                                record { pos = 1; st = List.[]; d = 0; at = λ x. x },
-                                (
-                                  record { pos = 10; st = List.[]; d = 0; at = λ x. x },
-                                  (
-                                    record { pos = 3; ty = Syntax.tyRef (Syntax.named 0) Syntax.imm (Syntax.tyInt Syntax.w8); ref = λ x. x },
-                                    (
-                                      record { pos = 12; st = List.[]; d = 0; at = λ x. x },
-                                      (
-                                        record { pos = 4; st = List.[]; d = 0; at = λ x. x },
-                                        (
-                                          record { pos = 5; st = List.[]; d = 0; at = λ x. x },
-                                          (
-                                            record { pos = 23; ty = Syntax.tyRef Syntax.erased Syntax.mut (Syntax.tyInt Syntax.w16); ref = λ x. x },
-                                            (
-                                              record { pos = 27; ty = Syntax.tyRef Syntax.erased Syntax.mut (Syntax.tyInt Syntax.w16); ref = λ x. x },
-                                              (record { pos = 31; ty = Syntax.tyRef Syntax.erased Syntax.mut Element.behind; ref = λ x. x }, tt),
-                                            ),
-                                          ),
-                                        ),
-                                      ),
-                                    ),
-                                  ),
+                            (Path'.refl, Path'.refl, part-decode-shared-blocks-start-2 c2, part-decode-shared-blocks-end-2 c2),
+                            λ g''. let c3 : After-decode-shared-blocks-arg3 = record
+                                { before = c2; decode-shared-blocks-arg3 = record { given = g'' } } in (
+                                  Relend.count-is T55 30 31 (λ x. x) (λ u. u .1 .1 .1 .1 .1 .1 .1 .1 .1 .1 .1 .1 .1 .1 .1 .1 .1 .1 .1 .1 .1 .1 .1 .1 .1 .1 .1 .1 .1 .0) (m50 c2 g'') (g'' .1),
+                                  (decode-shared-blocks-requires c3, λ g'3. lay4 record { before = c3; decode-shared-blocks = Called.called ps·4 r·4 (claims· .9) T57 a4 (m52 c2 g'') g'3 }),
                                 ),
-                              ) (m52 record {
-                                before = record { before = record { before = c .before; samples-needed = c .samples-needed }; decode-shared-blocks-arg = record { given = g } };
-                                decode-shared-blocks-arg2 = record {
-                                  given
-                                      = g';
-                                };
-                              } g'') g'3;
-                            },
                           ),
                         ),
                       ),
                     ),
-                  ),
-                ),
               ),
             ),
           ),
         )
 
-        lay2 : (c : After-mended) → at60 (W0 (c .before .before .before .before .before .κs) (c .before .before .before .before .before .args)) (m11 (c .before) (After-mended·gave c))
+        lay2 : (c : After-mended) → at60 (W0 (After-mended·start c .κs) (After-mended·start c .args)) (m11 (c .before) (After-mended·gave c))
         lay2 = λ c. (
-          λ k. (
-            enum-known-begins record { before = record { before = c .before; mended = c .mended }; match = record { keys1 = k } },
-            λ g. λ g'. (
-              handed-back-requires record {
-                before = record { before = record { before = record { before = c .before; mended = c .mended }; match = record { keys1 = k } }; begins = record { given = g } };
-                known-told = record {
-                  given
-                      = g';
-                };
-              },
-              λ g''. lay5 record {
-                before = record {
-                  before = record { before = record { before = record { before = c .before; mended = c .mended }; match = record { keys1 = k } }; begins = record { given = g } };
-                  known-told = record {
-                    given
-                        = g';
-                  };
-                };
-                handed-back = Called.called ps·2 r·2 (claims· .5) T22
-                    (record { pos = 1; st = List.[]; d = 0; at = λ x. x }, (record { pos = 10; st = List.[]; d = 0; at = λ x. x }, (record { pos = 20; st = List.[]; d = 0; at = λ x. x }, tt))) (m20 record
-                    { before = record { before = record { before = c .before; mended = c .mended }; match = record { keys1 = k } }; begins = record { given = g } } g') g'';
-              },
-            ),
+          λ k. let c1 : At-match-keys1 = record { before = c; match = record { keys1 = k } } in (
+            enum-known-begins c1,
+            λ g. let c2 : After-begins = record { before = c1; begins = record { given = g } } in λ g'. let c3 : After-known-told = record
+                { before = c2; known-told = record { given = g' } } in
+                (handed-back-requires c3, λ g''. lay5 record { before = c3; handed-back = Called.called ps·2 r·2 (claims· .5) T22 a1 (m20 c2 g') g'' }),
           ),
           (
-            λ k. (
-              enum-told record { before = record { before = c .before; mended = c .mended }; match = record { keys2 = k } },
-              λ g. (
-                handed-back-requires-2 record { before = record { before = record { before = c .before; mended = c .mended }; match = record { keys2 = k } }; enum-told = record { given = g } },
-                λ g'3. lay6
-                    record {
-                      before = record { before = record { before = record { before = c .before; mended = c .mended }; match = record { keys2 = k } }; enum-told = record { given = g } };
-                      handed-back2 =
-                          Called.called ps·2 r·2 (claims· .5) T31
-                          (record { pos = 1; st = List.[]; d = 0; at = λ x. x }, (record { pos = 10; st = List.[]; d = 0; at = λ x. x }, (record { pos = 21; st = List.[]; d = 0; at = λ x. x }, tt))) (m29 record
-                          { before = record { before = c .before; mended = c .mended }; match = record { keys2 = k } } g) g'3;
-                    },
-              ),
+            λ k. let c4 : At-match-keys2 = record { before = c; match = record { keys2 = k } } in (
+              enum-told c4,
+              λ g. let c5 : After-enum-told = record { before = c4; enum-told = record { given = g } } in
+                  (handed-back-requires-2 c5, λ g'3. lay6 record { before = c5; handed-back2 = Called.called ps·2 r·2 (claims· .5) T31 a2 (m29 c4 g) g'3 }),
             ),
             (
-              λ k. (
-                enum-known-begins-2 record { before = record { before = c .before; mended = c .mended }; match = record { keys3 = k } },
-                λ g. λ g'4. (
-                  samples-needed-requires record {
-                    before = record { before = record { before = record { before = c .before; mended = c .mended }; match = record { keys3 = k } }; begins2 = record { given = g } };
-                    known-told2 = record {
-                      given = g'4;
-                    };
-                  },
-                  λ g'5. lay3 record {
-                    before = record {
-                      before = record { before = record { before = record { before = c .before; mended = c .mended }; match = record { keys3 = k } }; begins2 = record { given = g } };
-                      known-told2 = record {
-                        given = g'4;
-                      };
-                    };
-                    samples-needed = Called.called ps·3 r·3 (claims· .7) T39 (Bool.bFld 12 (List._∷_ (Syntax.field 1) List.[]) 1 λ x. FujiHeader.struct .as-values x .1 .0, tt) (m37 record
-                        { before = record { before = record { before = c .before; mended = c .mended }; match = record { keys3 = k } }; begins2 = record { given = g } } g'4) g'5;
-                  },
-                ),
+              λ k. let c6 : At-match-keys3 = record { before = c; match = record { keys3 = k } } in (
+                enum-known-begins-2 c6,
+                λ g. let c7 : After-begins2 = record { before = c6; begins2 = record { given = g } } in λ g'4. let c8 : After-known-told2 = record
+                    { before = c7; known-told2 = record { given = g'4 } } in (
+                      samples-needed-requires c8,
+                      λ g'5. lay3 record
+                          { before = c8; samples-needed = Called.called ps·3 r·3 (claims· .7) T39 (Bool.bFld 12 ((Syntax.field 1) ∷ []) 1 λ x. FujiHeader.struct .as-values x .1 .0, tt) (m37 c7 g'4) g'5 },
+                    ),
               ),
-              Match.each-below 3 (λ j.
-                  ((Unit {0} × (Run.OneOf (List._∷_ 0 List.[]) j → ⊥)) × (Run.OneOf (List._∷_ 1 List.[]) j → ⊥)) × (Run.OneOf (List._∷_ 2 List.[]) j → ⊥) → ⊥)
+              Match.each-below 3 (λ j. ((Unit {0} × (Run.OneOf (0 ∷ []) j → ⊥)) × (Run.OneOf (1 ∷ []) j → ⊥)) × (Run.OneOf (2 ∷ []) j → ⊥) → ⊥)
                   (λ n. n .1 Path'.refl, (λ n. n .0 .1 Path'.refl, (λ n. n .0 .0 .1 Path'.refl, tt))) (Declared.tagOf Beginning.the-type (Row.get 9 (T14 .locals) (m12 (c .before) (After-mended·gave c))))
                   (Match.tag-small Beginning.the-type (Row.get 9 (T14 .locals) (m12 (c .before) (After-mended·gave c)))),
             ),
           ),
         )
 
-        lay1 : (c : After-region-begins) → at64 (W0 (c .before .before .before .before .κs) (c .before .before .before .before .args)) (m7 (c .before) (After-region-begins·gave c))
+        lay1 : (c : After-region-begins) → at64 (W0 (After-region-begins·start c .κs) (After-region-begins·start c .args)) (m7 (c .before) (After-region-begins·gave c))
         lay1 = λ c. (
-          mended-requires record { before = c .before; region-begins = c .region-begins },
-          λ g. lay2 record {
-            before = record { before = c .before; region-begins = c .region-begins };
-            mended = Called.called ps·1 r·1 (claims· .3) T11 (record { pos = 2; st = List.[]; d = 0; at = λ x. x }, tt) (m10 (c
-                .before) (After-region-begins·gave c)) g;
-          },
+          mended-requires c,
+          λ g. lay2 record
+              { before = c; mended = Called.called ps·1 r·1 (claims· .3) T11 (record { pos = 2; st = []; d = 0; at = λ x. x }, tt) (m10 (c .before) (After-region-begins·gave c)) g },
         )
 
         pub laid : (c : Start) → at71 (W0 (c .κs) (c .args)) (m0 (c .κs) (c .args))
-        laid = λ c. λ g. λ g'. λ g''. (
-          region-begins-requires record
-              { before = record { before = record { before = c; shared-slice-known = record { given = g } }; slice-known = record { given = g' } }; slice-known2 = record { given = g'' } },
-          λ g'3. lay1
-              record {
-                before = record
-                    { before = record { before = record { before = c; shared-slice-known = record { given = g } }; slice-known = record { given = g' } }; slice-known2 = record { given = g'' } };
-                region-begins =
-                    Called.called ps·0 r·0 (claims· .1) T7 (
-                      record { pos = 3; ty = Syntax.tyRef (Syntax.named 0) Syntax.imm (Syntax.tyInt Syntax.w8); ref = λ x. x },
-                      (record { pos = 4; st = List.[]; d = 0; at = λ x. x }, (Num.vAt 16 λ x. x, (Num.vAt 17 λ x. x, (Num.vAt 18 λ x. x, tt)))),
-                    ) (m6 record
-                    { before = record { before = c; shared-slice-known = record { given = g } }; slice-known = record { given = g' } } g'') g'3;
-              },
-        )
+        laid = λ c. λ g. let c1 : After-shared-slice-known = record { before = c; shared-slice-known = record { given = g } } in λ g'. let c2 : After-slice-known = record
+            { before = c1; slice-known = record { given = g' } } in λ g''. let c3 : After-slice-known2 = record { before = c2; slice-known2 = record { given = g'' } } in
+            (region-begins-requires c3, λ g'3. lay1 record { before = c3; region-begins = Called.called ps·0 r·0 (claims· .1) T7 a0 (m6 c2 g'') g'3 })
 
         module _ (κs : Lifetimes.Lfts 4) (qs : Lifetimes.Shares 4) where
           pub asked : (a : Kinds.Dens κs ps) → (good : Kinds.GoodsP κs ps a) → (pre : Pre· κs a) → (bs : List.List Nat.ℕ) → Φ (Any.wantQ 4 ps r xs m κs qs a (Post· κs a)) (Function.init 4 ps r xs m κs

@@ -24,160 +24,75 @@ use borrow.Fn.Run
 use borrow.Fn.Written
 use contract.Running
 
+abbrev claims : Lts.Claims
+claims = (Reads.Asked, Reads.Learnt, Reads'4.Asked, Reads'4.Learnt, Reads'.Asked, Reads'.Learnt, Reads'5.Asked, Reads'5.Learnt, Reads''.Asked, Reads''.Learnt)
+
 abbrev pub Start : Type 0
-Start = Lts.Start (Reads.Asked, Reads.Learnt, Reads'4.Asked, Reads'4.Learnt, Reads'.Asked, Reads'.Learnt, Reads'5.Asked, Reads'5.Learnt, Reads''.Asked, Reads''.Learnt) Reads'3.Pre Reads'3.Post
-
-abbrev pub After-shared-slice-known : Type 0
-After-shared-slice-known = Lts.After-shared-slice-known
-    (Reads.Asked, Reads.Learnt, Reads'4.Asked, Reads'4.Learnt, Reads'.Asked, Reads'.Learnt, Reads'5.Asked, Reads'5.Learnt, Reads''.Asked, Reads''.Learnt) Reads'3.Pre Reads'3.Post
-
-abbrev pub After-slice-known : Type 0
-After-slice-known = Lts.After-slice-known (Reads.Asked, Reads.Learnt, Reads'4.Asked, Reads'4.Learnt, Reads'.Asked, Reads'.Learnt, Reads'5.Asked, Reads'5.Learnt, Reads''.Asked, Reads''.Learnt)
-    Reads'3.Pre Reads'3.Post
-
-abbrev pub After-block-begins : Type 0
-After-block-begins = Lts.After-block-begins (Reads.Asked, Reads.Learnt, Reads'4.Asked, Reads'4.Learnt, Reads'.Asked, Reads'.Learnt, Reads'5.Asked, Reads'5.Learnt, Reads''.Asked, Reads''.Learnt)
-    Reads'3.Pre Reads'3.Post
-
-abbrev pub At-match-keys1 : Type 0
-At-match-keys1 = Lts.At-match-keys1 (Reads.Asked, Reads.Learnt, Reads'4.Asked, Reads'4.Learnt, Reads'.Asked, Reads'.Learnt, Reads'5.Asked, Reads'5.Learnt, Reads''.Asked, Reads''.Learnt) Reads'3.Pre
-    Reads'3.Post
-
-abbrev pub After-begins : Type 0
-After-begins = Lts.After-begins (Reads.Asked, Reads.Learnt, Reads'4.Asked, Reads'4.Learnt, Reads'.Asked, Reads'.Learnt, Reads'5.Asked, Reads'5.Learnt, Reads''.Asked, Reads''.Learnt) Reads'3.Pre
-    Reads'3.Post
-
-abbrev pub After-known-told : Type 0
-After-known-told = Lts.After-known-told (Reads.Asked, Reads.Learnt, Reads'4.Asked, Reads'4.Learnt, Reads'.Asked, Reads'.Learnt, Reads'5.Asked, Reads'5.Learnt, Reads''.Asked, Reads''.Learnt)
-    Reads'3.Pre Reads'3.Post
-
-abbrev pub After-refused : Type 0
-After-refused = Lts.After-refused (Reads.Asked, Reads.Learnt, Reads'4.Asked, Reads'4.Learnt, Reads'.Asked, Reads'.Learnt, Reads'5.Asked, Reads'5.Learnt, Reads''.Asked, Reads''.Learnt) Reads'3.Pre
-    Reads'3.Post
-
-abbrev pub At-match-keys2 : Type 0
-At-match-keys2 = Lts.At-match-keys2 (Reads.Asked, Reads.Learnt, Reads'4.Asked, Reads'4.Learnt, Reads'.Asked, Reads'.Learnt, Reads'5.Asked, Reads'5.Learnt, Reads''.Asked, Reads''.Learnt) Reads'3.Pre
-    Reads'3.Post
-
-abbrev pub After-begins2 : Type 0
-After-begins2 = Lts.After-begins2 (Reads.Asked, Reads.Learnt, Reads'4.Asked, Reads'4.Learnt, Reads'.Asked, Reads'.Learnt, Reads'5.Asked, Reads'5.Learnt, Reads''.Asked, Reads''.Learnt) Reads'3.Pre
-    Reads'3.Post
+Start = Lts.Start claims Reads'3.Pre Reads'3.Post
 
 abbrev pub After-known-told2 : Type 0
-After-known-told2 = Lts.After-known-told2 (Reads.Asked, Reads.Learnt, Reads'4.Asked, Reads'4.Learnt, Reads'.Asked, Reads'.Learnt, Reads'5.Asked, Reads'5.Learnt, Reads''.Asked, Reads''.Learnt)
-    Reads'3.Pre Reads'3.Post
-
-abbrev pub After-samples-needed : Type 0
-After-samples-needed = Lts.After-samples-needed (Reads.Asked, Reads.Learnt, Reads'4.Asked, Reads'4.Learnt, Reads'.Asked, Reads'.Learnt, Reads'5.Asked, Reads'5.Learnt, Reads''.Asked, Reads''.Learnt)
-    Reads'3.Pre Reads'3.Post
-
-abbrev pub After-walk-block-arg : Type 0
-After-walk-block-arg = Lts.After-walk-block-arg (Reads.Asked, Reads.Learnt, Reads'4.Asked, Reads'4.Learnt, Reads'.Asked, Reads'.Learnt, Reads'5.Asked, Reads'5.Learnt, Reads''.Asked, Reads''.Learnt)
-    Reads'3.Pre Reads'3.Post
-
-abbrev pub After-walk-block-arg2 : Type 0
-After-walk-block-arg2 = Lts.After-walk-block-arg2 (Reads.Asked, Reads.Learnt, Reads'4.Asked, Reads'4.Learnt, Reads'.Asked, Reads'.Learnt, Reads'5.Asked, Reads'5.Learnt, Reads''.Asked, Reads''.Learnt)
-    Reads'3.Pre Reads'3.Post
-
-abbrev pub After-walk-block : Type 0
-After-walk-block = Lts.After-walk-block (Reads.Asked, Reads.Learnt, Reads'4.Asked, Reads'4.Learnt, Reads'.Asked, Reads'.Learnt, Reads'5.Asked, Reads'5.Learnt, Reads''.Asked, Reads''.Learnt)
-    Reads'3.Pre Reads'3.Post
-
-abbrev pub After-lines : Type 0
-After-lines = Lts.After-lines (Reads.Asked, Reads.Learnt, Reads'4.Asked, Reads'4.Learnt, Reads'.Asked, Reads'.Learnt, Reads'5.Asked, Reads'5.Learnt, Reads''.Asked, Reads''.Learnt) Reads'3.Pre
-    Reads'3.Post
-
-abbrev pub After-slice-known2 : Type 0
-After-slice-known2 = Lts.After-slice-known2 (Reads.Asked, Reads.Learnt, Reads'4.Asked, Reads'4.Learnt, Reads'.Asked, Reads'.Learnt, Reads'5.Asked, Reads'5.Learnt, Reads''.Asked, Reads''.Learnt)
-    Reads'3.Pre Reads'3.Post
-
-abbrev pub After-rs : Type 0
-After-rs = Lts.After-rs (Reads.Asked, Reads.Learnt, Reads'4.Asked, Reads'4.Learnt, Reads'.Asked, Reads'.Learnt, Reads'5.Asked, Reads'5.Learnt, Reads''.Asked, Reads''.Learnt) Reads'3.Pre Reads'3.Post
-
-abbrev pub After-read-answer : Type 0
-After-read-answer = Lts.After-read-answer (Reads.Asked, Reads.Learnt, Reads'4.Asked, Reads'4.Learnt, Reads'.Asked, Reads'.Learnt, Reads'5.Asked, Reads'5.Learnt, Reads''.Asked, Reads''.Learnt)
-    Reads'3.Pre Reads'3.Post
+After-known-told2 = Lts.After-known-told2 claims Reads'3.Pre Reads'3.Post
 
 abbrev pub Need-block-begins-requires : Type 0
-Need-block-begins-requires = Lts.Need-block-begins-requires
-    (Reads.Asked, Reads.Learnt, Reads'4.Asked, Reads'4.Learnt, Reads'.Asked, Reads'.Learnt, Reads'5.Asked, Reads'5.Learnt, Reads''.Asked, Reads''.Learnt) Reads'3.Pre Reads'3.Post
+Need-block-begins-requires = Lts.Need-block-begins-requires claims Reads'3.Pre Reads'3.Post
 
 abbrev pub Need-enum-known-begins : Type 0
-Need-enum-known-begins = Lts.Need-enum-known-begins
-    (Reads.Asked, Reads.Learnt, Reads'4.Asked, Reads'4.Learnt, Reads'.Asked, Reads'.Learnt, Reads'5.Asked, Reads'5.Learnt, Reads''.Asked, Reads''.Learnt) Reads'3.Pre Reads'3.Post
+Need-enum-known-begins = Lts.Need-enum-known-begins claims Reads'3.Pre Reads'3.Post
 
 abbrev pub Need-refused-requires : Type 0
-Need-refused-requires = Lts.Need-refused-requires (Reads.Asked, Reads.Learnt, Reads'4.Asked, Reads'4.Learnt, Reads'.Asked, Reads'.Learnt, Reads'5.Asked, Reads'5.Learnt, Reads''.Asked, Reads''.Learnt)
-    Reads'3.Pre Reads'3.Post
+Need-refused-requires = Lts.Need-refused-requires claims Reads'3.Pre Reads'3.Post
 
 abbrev pub Need-enum-known-begins-2 : Type 0
-Need-enum-known-begins-2 = Lts.Need-enum-known-begins-2
-    (Reads.Asked, Reads.Learnt, Reads'4.Asked, Reads'4.Learnt, Reads'.Asked, Reads'.Learnt, Reads'5.Asked, Reads'5.Learnt, Reads''.Asked, Reads''.Learnt) Reads'3.Pre Reads'3.Post
+Need-enum-known-begins-2 = Lts.Need-enum-known-begins-2 claims Reads'3.Pre Reads'3.Post
 
 abbrev pub Need-samples-needed-requires : Type 0
-Need-samples-needed-requires = Lts.Need-samples-needed-requires
-    (Reads.Asked, Reads.Learnt, Reads'4.Asked, Reads'4.Learnt, Reads'.Asked, Reads'.Learnt, Reads'5.Asked, Reads'5.Learnt, Reads''.Asked, Reads''.Learnt) Reads'3.Pre Reads'3.Post
+Need-samples-needed-requires = Lts.Need-samples-needed-requires claims Reads'3.Pre Reads'3.Post
 
 abbrev pub Need-sub-walk-block : Type 0
-Need-sub-walk-block = Lts.Need-sub-walk-block (Reads.Asked, Reads.Learnt, Reads'4.Asked, Reads'4.Learnt, Reads'.Asked, Reads'.Learnt, Reads'5.Asked, Reads'5.Learnt, Reads''.Asked, Reads''.Learnt)
-    Reads'3.Pre Reads'3.Post
+Need-sub-walk-block = Lts.Need-sub-walk-block claims Reads'3.Pre Reads'3.Post
 
 abbrev pub Need-part-walk-block-start : Type 0
-Need-part-walk-block-start = Lts.Need-part-walk-block-start
-    (Reads.Asked, Reads.Learnt, Reads'4.Asked, Reads'4.Learnt, Reads'.Asked, Reads'.Learnt, Reads'5.Asked, Reads'5.Learnt, Reads''.Asked, Reads''.Learnt) Reads'3.Pre Reads'3.Post
+Need-part-walk-block-start = Lts.Need-part-walk-block-start claims Reads'3.Pre Reads'3.Post
 
 abbrev pub Need-part-walk-block-end : Type 0
-Need-part-walk-block-end = Lts.Need-part-walk-block-end
-    (Reads.Asked, Reads.Learnt, Reads'4.Asked, Reads'4.Learnt, Reads'.Asked, Reads'.Learnt, Reads'5.Asked, Reads'5.Learnt, Reads''.Asked, Reads''.Learnt) Reads'3.Pre Reads'3.Post
+Need-part-walk-block-end = Lts.Need-part-walk-block-end claims Reads'3.Pre Reads'3.Post
 
 abbrev pub Need-sub-walk-block-2 : Type 0
-Need-sub-walk-block-2 = Lts.Need-sub-walk-block-2 (Reads.Asked, Reads.Learnt, Reads'4.Asked, Reads'4.Learnt, Reads'.Asked, Reads'.Learnt, Reads'5.Asked, Reads'5.Learnt, Reads''.Asked, Reads''.Learnt)
-    Reads'3.Pre Reads'3.Post
+Need-sub-walk-block-2 = Lts.Need-sub-walk-block-2 claims Reads'3.Pre Reads'3.Post
 
 abbrev pub Need-part-walk-block-start-2 : Type 0
-Need-part-walk-block-start-2 = Lts.Need-part-walk-block-start-2
-    (Reads.Asked, Reads.Learnt, Reads'4.Asked, Reads'4.Learnt, Reads'.Asked, Reads'.Learnt, Reads'5.Asked, Reads'5.Learnt, Reads''.Asked, Reads''.Learnt) Reads'3.Pre Reads'3.Post
+Need-part-walk-block-start-2 = Lts.Need-part-walk-block-start-2 claims Reads'3.Pre Reads'3.Post
 
 abbrev pub Need-part-walk-block-end-2 : Type 0
-Need-part-walk-block-end-2 = Lts.Need-part-walk-block-end-2
-    (Reads.Asked, Reads.Learnt, Reads'4.Asked, Reads'4.Learnt, Reads'.Asked, Reads'.Learnt, Reads'5.Asked, Reads'5.Learnt, Reads''.Asked, Reads''.Learnt) Reads'3.Pre Reads'3.Post
+Need-part-walk-block-end-2 = Lts.Need-part-walk-block-end-2 claims Reads'3.Pre Reads'3.Post
 
 abbrev pub Need-walk-block-requires : Type 0
-Need-walk-block-requires = Lts.Need-walk-block-requires
-    (Reads.Asked, Reads.Learnt, Reads'4.Asked, Reads'4.Learnt, Reads'.Asked, Reads'.Learnt, Reads'5.Asked, Reads'5.Learnt, Reads''.Asked, Reads''.Learnt) Reads'3.Pre Reads'3.Post
+Need-walk-block-requires = Lts.Need-walk-block-requires claims Reads'3.Pre Reads'3.Post
 
 abbrev pub Need-read-answer-requires : Type 0
-Need-read-answer-requires = Lts.Need-read-answer-requires
-    (Reads.Asked, Reads.Learnt, Reads'4.Asked, Reads'4.Learnt, Reads'.Asked, Reads'.Learnt, Reads'5.Asked, Reads'5.Learnt, Reads''.Asked, Reads''.Learnt) Reads'3.Pre Reads'3.Post
+Need-read-answer-requires = Lts.Need-read-answer-requires claims Reads'3.Pre Reads'3.Post
 
 abbrev pub Need-returns : Type 0
-Need-returns = Lts.Need-returns (Reads.Asked, Reads.Learnt, Reads'4.Asked, Reads'4.Learnt, Reads'.Asked, Reads'.Learnt, Reads'5.Asked, Reads'5.Learnt, Reads''.Asked, Reads''.Learnt) Reads'3.Pre
-    Reads'3.Post
+Need-returns = Lts.Need-returns claims Reads'3.Pre Reads'3.Post
 
 abbrev pub Need-same-length : Type 0
-Need-same-length = Lts.Need-same-length (Reads.Asked, Reads.Learnt, Reads'4.Asked, Reads'4.Learnt, Reads'.Asked, Reads'.Learnt, Reads'5.Asked, Reads'5.Learnt, Reads''.Asked, Reads''.Learnt)
-    Reads'3.Pre Reads'3.Post
+Need-same-length = Lts.Need-same-length claims Reads'3.Pre Reads'3.Post
 
 abbrev pub Need-same-length-2 : Type 0
-Need-same-length-2 = Lts.Need-same-length-2 (Reads.Asked, Reads.Learnt, Reads'4.Asked, Reads'4.Learnt, Reads'.Asked, Reads'.Learnt, Reads'5.Asked, Reads'5.Learnt, Reads''.Asked, Reads''.Learnt)
-    Reads'3.Pre Reads'3.Post
+Need-same-length-2 = Lts.Need-same-length-2 claims Reads'3.Pre Reads'3.Post
 
 abbrev pub Need-returns-2 : Type 0
-Need-returns-2 = Lts.Need-returns-2 (Reads.Asked, Reads.Learnt, Reads'4.Asked, Reads'4.Learnt, Reads'.Asked, Reads'.Learnt, Reads'5.Asked, Reads'5.Learnt, Reads''.Asked, Reads''.Learnt) Reads'3.Pre
-    Reads'3.Post
+Need-returns-2 = Lts.Need-returns-2 claims Reads'3.Pre Reads'3.Post
 
 module _ {M : Type 1} where
   pub spec : (answer : Need-block-begins-requires) → (answer : Need-enum-known-begins) → (answer : Need-refused-requires) → (answer : Need-enum-known-begins-2) → (answer :
       Need-samples-needed-requires) → (answer : Need-sub-walk-block) → (answer : Need-part-walk-block-start) → (answer : Need-part-walk-block-end) → (answer : Need-sub-walk-block-2) → (answer :
       Need-part-walk-block-start-2) → (answer : Need-part-walk-block-end-2) → (answer : Need-walk-block-requires) → (answer : Need-read-answer-requires) → (answer : Need-returns) → (answer :
-      Need-same-length) → (answer : Need-same-length-2) → (answer : Need-returns-2) → Lts.Closed
-      (Reads.Asked, Reads.Learnt, Reads'4.Asked, Reads'4.Learnt, Reads'.Asked, Reads'.Learnt, Reads'5.Asked, Reads'5.Learnt, Reads''.Asked, Reads''.Learnt) Reads'3.Pre Reads'3.Post M
-  spec = λ answer answer' answer'' answer'3 answer'4 answer'5 answer'6 answer'7 answer'8 answer'9 answer'10 answer'11 answer'12 answer'13 answer'14 answer'15 answer'16. Lts.spec
-      (Reads.Asked, Reads.Learnt, Reads'4.Asked, Reads'4.Learnt, Reads'.Asked, Reads'.Learnt, Reads'5.Asked, Reads'5.Learnt, Reads''.Asked, Reads''.Learnt) Reads'3.Pre Reads'3.Post answer answer' answer''
-      answer'3 answer'4 answer'5 answer'6 answer'7 answer'8 answer'9 answer'10 answer'11 answer'12 answer'13 answer'14 answer'15 answer'16
+      Need-same-length) → (answer : Need-same-length-2) → (answer : Need-returns-2) → Lts.Closed claims Reads'3.Pre Reads'3.Post M
+  spec = λ answer answer' answer'' answer'3 answer'4 answer'5 answer'6 answer'7 answer'8 answer'9 answer'10 answer'11 answer'12 answer'13 answer'14 answer'15 answer'16. Lts.spec claims Reads'3.Pre
+      Reads'3.Post answer answer' answer'' answer'3 answer'4 answer'5 answer'6 answer'7 answer'8 answer'9 answer'10 answer'11 answer'12 answer'13 answer'14 answer'15 answer'16
 
-  pub close : Lts.Closed (Reads.Asked, Reads.Learnt, Reads'4.Asked, Reads'4.Learnt, Reads'.Asked, Reads'.Learnt, Reads'5.Asked, Reads'5.Learnt, Reads''.Asked, Reads''.Learnt) Reads'3.Pre Reads'3.Post
-      M → Statement.statement M
+  pub close : Lts.Closed claims Reads'3.Pre Reads'3.Post M → Statement.statement M
   unfolding Code.routine Running.tablesOf
   close = λ closed 𝓤 H 𝓜 𝓖 𝓡. Written.close 3 Kinds.ps Kinds.r Reads'3.Ghost Reads'3.requires Reads'3.ensures Reads'3.pre-read Reads'3.Pinned Reads'3.Owned Reads'3.post-read record
       { M = M; 𝓤 = 𝓤; H = H; 𝓜 = 𝓜; 𝓖 = 𝓖; 𝓡 = 𝓡 } Code.env Key.name Code.function (Code.unfolded 𝓤 H 𝓜 𝓡) (λ κs a g. tt) (λ κs. Reads'3.owns κs record { M = M; 𝓤 = 𝓤; H = H; 𝓜 = 𝓜; 𝓖 = 𝓖; 𝓡 = 𝓡 })

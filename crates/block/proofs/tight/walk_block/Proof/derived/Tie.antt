@@ -33,684 +33,76 @@ use borrow.Fn.Run
 use borrow.Fn.Written
 use contract.Running
 
+abbrev claims : Lts.Claims
+claims = (
+  Reads.Asked,
+  Reads.Learnt,
+  Reads''.Asked,
+  Reads''.Learnt,
+  Reads'8.Asked,
+  Reads'8.Learnt,
+  Reads'7.Asked,
+  Reads'7.Learnt,
+  Reads'6.Asked,
+  Reads'6.Learnt,
+  Reads'3.Asked,
+  Reads'3.Learnt,
+  Reads'5.Asked,
+  Reads'5.Learnt,
+  Reads'.Asked,
+  Reads'.Learnt,
+)
+
 abbrev pub Start : Type 0
-Start = Lts.Start (
-  Reads.Asked,
-  Reads.Learnt,
-  Reads''.Asked,
-  Reads''.Learnt,
-  Reads'8.Asked,
-  Reads'8.Learnt,
-  Reads'7.Asked,
-  Reads'7.Learnt,
-  Reads'6.Asked,
-  Reads'6.Learnt,
-  Reads'3.Asked,
-  Reads'3.Learnt,
-  Reads'5.Asked,
-  Reads'5.Learnt,
-  Reads'.Asked,
-  Reads'.Learnt,
-) Reads'4.Pre Reads'4.Post
-
-abbrev pub After-shared-slice-known : Type 0
-After-shared-slice-known = Lts.After-shared-slice-known (
-  Reads.Asked,
-  Reads.Learnt,
-  Reads''.Asked,
-  Reads''.Learnt,
-  Reads'8.Asked,
-  Reads'8.Learnt,
-  Reads'7.Asked,
-  Reads'7.Learnt,
-  Reads'6.Asked,
-  Reads'6.Learnt,
-  Reads'3.Asked,
-  Reads'3.Learnt,
-  Reads'5.Asked,
-  Reads'5.Learnt,
-  Reads'.Asked,
-  Reads'.Learnt,
-) Reads'4.Pre Reads'4.Post
-
-abbrev pub After-slice-known : Type 0
-After-slice-known = Lts.After-slice-known (
-  Reads.Asked,
-  Reads.Learnt,
-  Reads''.Asked,
-  Reads''.Learnt,
-  Reads'8.Asked,
-  Reads'8.Learnt,
-  Reads'7.Asked,
-  Reads'7.Learnt,
-  Reads'6.Asked,
-  Reads'6.Learnt,
-  Reads'3.Asked,
-  Reads'3.Learnt,
-  Reads'5.Asked,
-  Reads'5.Learnt,
-  Reads'.Asked,
-  Reads'.Learnt,
-) Reads'4.Pre Reads'4.Post
-
-abbrev pub After-form-of : Type 0
-After-form-of = Lts.After-form-of (
-  Reads.Asked,
-  Reads.Learnt,
-  Reads''.Asked,
-  Reads''.Learnt,
-  Reads'8.Asked,
-  Reads'8.Learnt,
-  Reads'7.Asked,
-  Reads'7.Learnt,
-  Reads'6.Asked,
-  Reads'6.Learnt,
-  Reads'3.Asked,
-  Reads'3.Learnt,
-  Reads'5.Asked,
-  Reads'5.Learnt,
-  Reads'.Asked,
-  Reads'.Learnt,
-) Reads'4.Pre Reads'4.Post
-
-abbrev pub After-line-count : Type 0
-After-line-count = Lts.After-line-count (
-  Reads.Asked,
-  Reads.Learnt,
-  Reads''.Asked,
-  Reads''.Learnt,
-  Reads'8.Asked,
-  Reads'8.Learnt,
-  Reads'7.Asked,
-  Reads'7.Learnt,
-  Reads'6.Asked,
-  Reads'6.Learnt,
-  Reads'3.Asked,
-  Reads'3.Learnt,
-  Reads'5.Asked,
-  Reads'5.Learnt,
-  Reads'.Asked,
-  Reads'.Learnt,
-) Reads'4.Pre Reads'4.Post
-
-abbrev pub After-block-bytes : Type 0
-After-block-bytes = Lts.After-block-bytes (
-  Reads.Asked,
-  Reads.Learnt,
-  Reads''.Asked,
-  Reads''.Learnt,
-  Reads'8.Asked,
-  Reads'8.Learnt,
-  Reads'7.Asked,
-  Reads'7.Learnt,
-  Reads'6.Asked,
-  Reads'6.Learnt,
-  Reads'3.Asked,
-  Reads'3.Learnt,
-  Reads'5.Asked,
-  Reads'5.Learnt,
-  Reads'.Asked,
-  Reads'.Learnt,
-) Reads'4.Pre Reads'4.Post
-
-abbrev pub After-base-row : Type 0
-After-base-row = Lts.After-base-row (
-  Reads.Asked,
-  Reads.Learnt,
-  Reads''.Asked,
-  Reads''.Learnt,
-  Reads'8.Asked,
-  Reads'8.Learnt,
-  Reads'7.Asked,
-  Reads'7.Learnt,
-  Reads'6.Asked,
-  Reads'6.Learnt,
-  Reads'3.Asked,
-  Reads'3.Learnt,
-  Reads'5.Asked,
-  Reads'5.Learnt,
-  Reads'.Asked,
-  Reads'.Learnt,
-) Reads'4.Pre Reads'4.Post
-
-abbrev pub After-xtrans-places : Type 0
-After-xtrans-places = Lts.After-xtrans-places (
-  Reads.Asked,
-  Reads.Learnt,
-  Reads''.Asked,
-  Reads''.Learnt,
-  Reads'8.Asked,
-  Reads'8.Learnt,
-  Reads'7.Asked,
-  Reads'7.Learnt,
-  Reads'6.Asked,
-  Reads'6.Learnt,
-  Reads'3.Asked,
-  Reads'3.Learnt,
-  Reads'5.Asked,
-  Reads'5.Learnt,
-  Reads'.Asked,
-  Reads'.Learnt,
-) Reads'4.Pre Reads'4.Post
-
-abbrev pub After-walk-arg : Type 0
-After-walk-arg = Lts.After-walk-arg (
-  Reads.Asked,
-  Reads.Learnt,
-  Reads''.Asked,
-  Reads''.Learnt,
-  Reads'8.Asked,
-  Reads'8.Learnt,
-  Reads'7.Asked,
-  Reads'7.Learnt,
-  Reads'6.Asked,
-  Reads'6.Learnt,
-  Reads'3.Asked,
-  Reads'3.Learnt,
-  Reads'5.Asked,
-  Reads'5.Learnt,
-  Reads'.Asked,
-  Reads'.Learnt,
-) Reads'4.Pre Reads'4.Post
-
-abbrev pub After-walk-arg2 : Type 0
-After-walk-arg2 = Lts.After-walk-arg2 (
-  Reads.Asked,
-  Reads.Learnt,
-  Reads''.Asked,
-  Reads''.Learnt,
-  Reads'8.Asked,
-  Reads'8.Learnt,
-  Reads'7.Asked,
-  Reads'7.Learnt,
-  Reads'6.Asked,
-  Reads'6.Learnt,
-  Reads'3.Asked,
-  Reads'3.Learnt,
-  Reads'5.Asked,
-  Reads'5.Learnt,
-  Reads'.Asked,
-  Reads'.Learnt,
-) Reads'4.Pre Reads'4.Post
-
-abbrev pub After-nothing : Type 0
-After-nothing = Lts.After-nothing (
-  Reads.Asked,
-  Reads.Learnt,
-  Reads''.Asked,
-  Reads''.Learnt,
-  Reads'8.Asked,
-  Reads'8.Learnt,
-  Reads'7.Asked,
-  Reads'7.Learnt,
-  Reads'6.Asked,
-  Reads'6.Learnt,
-  Reads'3.Asked,
-  Reads'3.Learnt,
-  Reads'5.Asked,
-  Reads'5.Learnt,
-  Reads'.Asked,
-  Reads'.Learnt,
-) Reads'4.Pre Reads'4.Post
-
-abbrev pub After-places : Type 0
-After-places = Lts.After-places (
-  Reads.Asked,
-  Reads.Learnt,
-  Reads''.Asked,
-  Reads''.Learnt,
-  Reads'8.Asked,
-  Reads'8.Learnt,
-  Reads'7.Asked,
-  Reads'7.Learnt,
-  Reads'6.Asked,
-  Reads'6.Learnt,
-  Reads'3.Asked,
-  Reads'3.Learnt,
-  Reads'5.Asked,
-  Reads'5.Learnt,
-  Reads'.Asked,
-  Reads'.Learnt,
-) Reads'4.Pre Reads'4.Post
-
-abbrev pub After-no-part : Type 0
-After-no-part = Lts.After-no-part (
-  Reads.Asked,
-  Reads.Learnt,
-  Reads''.Asked,
-  Reads''.Learnt,
-  Reads'8.Asked,
-  Reads'8.Learnt,
-  Reads'7.Asked,
-  Reads'7.Learnt,
-  Reads'6.Asked,
-  Reads'6.Learnt,
-  Reads'3.Asked,
-  Reads'3.Learnt,
-  Reads'5.Asked,
-  Reads'5.Learnt,
-  Reads'.Asked,
-  Reads'.Learnt,
-) Reads'4.Pre Reads'4.Post
-
-abbrev pub After-no-entries : Type 0
-After-no-entries = Lts.After-no-entries (
-  Reads.Asked,
-  Reads.Learnt,
-  Reads''.Asked,
-  Reads''.Learnt,
-  Reads'8.Asked,
-  Reads'8.Learnt,
-  Reads'7.Asked,
-  Reads'7.Learnt,
-  Reads'6.Asked,
-  Reads'6.Learnt,
-  Reads'3.Asked,
-  Reads'3.Learnt,
-  Reads'5.Asked,
-  Reads'5.Learnt,
-  Reads'.Asked,
-  Reads'.Learnt,
-) Reads'4.Pre Reads'4.Post
+Start = Lts.Start claims Reads'4.Pre Reads'4.Post
 
 abbrev pub After-walk : Type 0
-After-walk = Lts.After-walk (
-  Reads.Asked,
-  Reads.Learnt,
-  Reads''.Asked,
-  Reads''.Learnt,
-  Reads'8.Asked,
-  Reads'8.Learnt,
-  Reads'7.Asked,
-  Reads'7.Learnt,
-  Reads'6.Asked,
-  Reads'6.Learnt,
-  Reads'3.Asked,
-  Reads'3.Learnt,
-  Reads'5.Asked,
-  Reads'5.Learnt,
-  Reads'.Asked,
-  Reads'.Learnt,
-) Reads'4.Pre Reads'4.Post
-
-abbrev pub After-lines : Type 0
-After-lines = Lts.After-lines (
-  Reads.Asked,
-  Reads.Learnt,
-  Reads''.Asked,
-  Reads''.Learnt,
-  Reads'8.Asked,
-  Reads'8.Learnt,
-  Reads'7.Asked,
-  Reads'7.Learnt,
-  Reads'6.Asked,
-  Reads'6.Learnt,
-  Reads'3.Asked,
-  Reads'3.Learnt,
-  Reads'5.Asked,
-  Reads'5.Learnt,
-  Reads'.Asked,
-  Reads'.Learnt,
-) Reads'4.Pre Reads'4.Post
-
-abbrev pub After-slice-known2 : Type 0
-After-slice-known2 = Lts.After-slice-known2 (
-  Reads.Asked,
-  Reads.Learnt,
-  Reads''.Asked,
-  Reads''.Learnt,
-  Reads'8.Asked,
-  Reads'8.Learnt,
-  Reads'7.Asked,
-  Reads'7.Learnt,
-  Reads'6.Asked,
-  Reads'6.Learnt,
-  Reads'3.Asked,
-  Reads'3.Learnt,
-  Reads'5.Asked,
-  Reads'5.Learnt,
-  Reads'.Asked,
-  Reads'.Learnt,
-) Reads'4.Pre Reads'4.Post
-
-abbrev pub After-rs : Type 0
-After-rs = Lts.After-rs (
-  Reads.Asked,
-  Reads.Learnt,
-  Reads''.Asked,
-  Reads''.Learnt,
-  Reads'8.Asked,
-  Reads'8.Learnt,
-  Reads'7.Asked,
-  Reads'7.Learnt,
-  Reads'6.Asked,
-  Reads'6.Learnt,
-  Reads'3.Asked,
-  Reads'3.Learnt,
-  Reads'5.Asked,
-  Reads'5.Learnt,
-  Reads'.Asked,
-  Reads'.Learnt,
-) Reads'4.Pre Reads'4.Post
-
-abbrev pub After-nothing2 : Type 0
-After-nothing2 = Lts.After-nothing2 (
-  Reads.Asked,
-  Reads.Learnt,
-  Reads''.Asked,
-  Reads''.Learnt,
-  Reads'8.Asked,
-  Reads'8.Learnt,
-  Reads'7.Asked,
-  Reads'7.Learnt,
-  Reads'6.Asked,
-  Reads'6.Learnt,
-  Reads'3.Asked,
-  Reads'3.Learnt,
-  Reads'5.Asked,
-  Reads'5.Learnt,
-  Reads'.Asked,
-  Reads'.Learnt,
-) Reads'4.Pre Reads'4.Post
+After-walk = Lts.After-walk claims Reads'4.Pre Reads'4.Post
 
 abbrev pub Need-form-of-requires : Type 0
-Need-form-of-requires = Lts.Need-form-of-requires (
-  Reads.Asked,
-  Reads.Learnt,
-  Reads''.Asked,
-  Reads''.Learnt,
-  Reads'8.Asked,
-  Reads'8.Learnt,
-  Reads'7.Asked,
-  Reads'7.Learnt,
-  Reads'6.Asked,
-  Reads'6.Learnt,
-  Reads'3.Asked,
-  Reads'3.Learnt,
-  Reads'5.Asked,
-  Reads'5.Learnt,
-  Reads'.Asked,
-  Reads'.Learnt,
-) Reads'4.Pre Reads'4.Post
+Need-form-of-requires = Lts.Need-form-of-requires claims Reads'4.Pre Reads'4.Post
 
 abbrev pub Need-line-count-requires : Type 0
-Need-line-count-requires = Lts.Need-line-count-requires (
-  Reads.Asked,
-  Reads.Learnt,
-  Reads''.Asked,
-  Reads''.Learnt,
-  Reads'8.Asked,
-  Reads'8.Learnt,
-  Reads'7.Asked,
-  Reads'7.Learnt,
-  Reads'6.Asked,
-  Reads'6.Learnt,
-  Reads'3.Asked,
-  Reads'3.Learnt,
-  Reads'5.Asked,
-  Reads'5.Learnt,
-  Reads'.Asked,
-  Reads'.Learnt,
-) Reads'4.Pre Reads'4.Post
+Need-line-count-requires = Lts.Need-line-count-requires claims Reads'4.Pre Reads'4.Post
 
 abbrev pub Need-block-bytes-requires : Type 0
-Need-block-bytes-requires = Lts.Need-block-bytes-requires (
-  Reads.Asked,
-  Reads.Learnt,
-  Reads''.Asked,
-  Reads''.Learnt,
-  Reads'8.Asked,
-  Reads'8.Learnt,
-  Reads'7.Asked,
-  Reads'7.Learnt,
-  Reads'6.Asked,
-  Reads'6.Learnt,
-  Reads'3.Asked,
-  Reads'3.Learnt,
-  Reads'5.Asked,
-  Reads'5.Learnt,
-  Reads'.Asked,
-  Reads'.Learnt,
-) Reads'4.Pre Reads'4.Post
+Need-block-bytes-requires = Lts.Need-block-bytes-requires claims Reads'4.Pre Reads'4.Post
 
 abbrev pub Need-base-row-requires : Type 0
-Need-base-row-requires = Lts.Need-base-row-requires (
-  Reads.Asked,
-  Reads.Learnt,
-  Reads''.Asked,
-  Reads''.Learnt,
-  Reads'8.Asked,
-  Reads'8.Learnt,
-  Reads'7.Asked,
-  Reads'7.Learnt,
-  Reads'6.Asked,
-  Reads'6.Learnt,
-  Reads'3.Asked,
-  Reads'3.Learnt,
-  Reads'5.Asked,
-  Reads'5.Learnt,
-  Reads'.Asked,
-  Reads'.Learnt,
-) Reads'4.Pre Reads'4.Post
+Need-base-row-requires = Lts.Need-base-row-requires claims Reads'4.Pre Reads'4.Post
 
 abbrev pub Need-xtrans-places-requires : Type 0
-Need-xtrans-places-requires = Lts.Need-xtrans-places-requires (
-  Reads.Asked,
-  Reads.Learnt,
-  Reads''.Asked,
-  Reads''.Learnt,
-  Reads'8.Asked,
-  Reads'8.Learnt,
-  Reads'7.Asked,
-  Reads'7.Learnt,
-  Reads'6.Asked,
-  Reads'6.Learnt,
-  Reads'3.Asked,
-  Reads'3.Learnt,
-  Reads'5.Asked,
-  Reads'5.Learnt,
-  Reads'.Asked,
-  Reads'.Learnt,
-) Reads'4.Pre Reads'4.Post
+Need-xtrans-places-requires = Lts.Need-xtrans-places-requires claims Reads'4.Pre Reads'4.Post
 
 abbrev pub Need-slice-aggregate-walk : Type 0
-Need-slice-aggregate-walk = Lts.Need-slice-aggregate-walk (
-  Reads.Asked,
-  Reads.Learnt,
-  Reads''.Asked,
-  Reads''.Learnt,
-  Reads'8.Asked,
-  Reads'8.Learnt,
-  Reads'7.Asked,
-  Reads'7.Learnt,
-  Reads'6.Asked,
-  Reads'6.Learnt,
-  Reads'3.Asked,
-  Reads'3.Learnt,
-  Reads'5.Asked,
-  Reads'5.Learnt,
-  Reads'.Asked,
-  Reads'.Learnt,
-) Reads'4.Pre Reads'4.Post
+Need-slice-aggregate-walk = Lts.Need-slice-aggregate-walk claims Reads'4.Pre Reads'4.Post
 
 abbrev pub Need-no-part-requires : Type 0
-Need-no-part-requires = Lts.Need-no-part-requires (
-  Reads.Asked,
-  Reads.Learnt,
-  Reads''.Asked,
-  Reads''.Learnt,
-  Reads'8.Asked,
-  Reads'8.Learnt,
-  Reads'7.Asked,
-  Reads'7.Learnt,
-  Reads'6.Asked,
-  Reads'6.Learnt,
-  Reads'3.Asked,
-  Reads'3.Learnt,
-  Reads'5.Asked,
-  Reads'5.Learnt,
-  Reads'.Asked,
-  Reads'.Learnt,
-) Reads'4.Pre Reads'4.Post
+Need-no-part-requires = Lts.Need-no-part-requires claims Reads'4.Pre Reads'4.Post
 
 abbrev pub Need-no-entries-requires : Type 0
-Need-no-entries-requires = Lts.Need-no-entries-requires (
-  Reads.Asked,
-  Reads.Learnt,
-  Reads''.Asked,
-  Reads''.Learnt,
-  Reads'8.Asked,
-  Reads'8.Learnt,
-  Reads'7.Asked,
-  Reads'7.Learnt,
-  Reads'6.Asked,
-  Reads'6.Learnt,
-  Reads'3.Asked,
-  Reads'3.Learnt,
-  Reads'5.Asked,
-  Reads'5.Learnt,
-  Reads'.Asked,
-  Reads'.Learnt,
-) Reads'4.Pre Reads'4.Post
+Need-no-entries-requires = Lts.Need-no-entries-requires claims Reads'4.Pre Reads'4.Post
 
 abbrev pub Need-walk-requires : Type 0
-Need-walk-requires = Lts.Need-walk-requires (
-  Reads.Asked,
-  Reads.Learnt,
-  Reads''.Asked,
-  Reads''.Learnt,
-  Reads'8.Asked,
-  Reads'8.Learnt,
-  Reads'7.Asked,
-  Reads'7.Learnt,
-  Reads'6.Asked,
-  Reads'6.Learnt,
-  Reads'3.Asked,
-  Reads'3.Learnt,
-  Reads'5.Asked,
-  Reads'5.Learnt,
-  Reads'.Asked,
-  Reads'.Learnt,
-) Reads'4.Pre Reads'4.Post
+Need-walk-requires = Lts.Need-walk-requires claims Reads'4.Pre Reads'4.Post
 
 abbrev pub Need-same-length : Type 0
-Need-same-length = Lts.Need-same-length (
-  Reads.Asked,
-  Reads.Learnt,
-  Reads''.Asked,
-  Reads''.Learnt,
-  Reads'8.Asked,
-  Reads'8.Learnt,
-  Reads'7.Asked,
-  Reads'7.Learnt,
-  Reads'6.Asked,
-  Reads'6.Learnt,
-  Reads'3.Asked,
-  Reads'3.Learnt,
-  Reads'5.Asked,
-  Reads'5.Learnt,
-  Reads'.Asked,
-  Reads'.Learnt,
-) Reads'4.Pre Reads'4.Post
+Need-same-length = Lts.Need-same-length claims Reads'4.Pre Reads'4.Post
 
 abbrev pub Need-same-length-2 : Type 0
-Need-same-length-2 = Lts.Need-same-length-2 (
-  Reads.Asked,
-  Reads.Learnt,
-  Reads''.Asked,
-  Reads''.Learnt,
-  Reads'8.Asked,
-  Reads'8.Learnt,
-  Reads'7.Asked,
-  Reads'7.Learnt,
-  Reads'6.Asked,
-  Reads'6.Learnt,
-  Reads'3.Asked,
-  Reads'3.Learnt,
-  Reads'5.Asked,
-  Reads'5.Learnt,
-  Reads'.Asked,
-  Reads'.Learnt,
-) Reads'4.Pre Reads'4.Post
+Need-same-length-2 = Lts.Need-same-length-2 claims Reads'4.Pre Reads'4.Post
 
 abbrev pub Need-returns : Type 0
-Need-returns = Lts.Need-returns (
-  Reads.Asked,
-  Reads.Learnt,
-  Reads''.Asked,
-  Reads''.Learnt,
-  Reads'8.Asked,
-  Reads'8.Learnt,
-  Reads'7.Asked,
-  Reads'7.Learnt,
-  Reads'6.Asked,
-  Reads'6.Learnt,
-  Reads'3.Asked,
-  Reads'3.Learnt,
-  Reads'5.Asked,
-  Reads'5.Learnt,
-  Reads'.Asked,
-  Reads'.Learnt,
-) Reads'4.Pre Reads'4.Post
+Need-returns = Lts.Need-returns claims Reads'4.Pre Reads'4.Post
 
 module _ {M : Type 1} where
   pub spec : (answer : Need-form-of-requires) → (answer : Need-line-count-requires) → (answer : Need-block-bytes-requires) → (answer : Need-base-row-requires) → (answer : Need-xtrans-places-requires)
       → (answer : Need-slice-aggregate-walk) → (answer : Need-no-part-requires) → (answer : Need-no-entries-requires) → (answer : Need-walk-requires) → (answer : Need-same-length) → (answer :
-      Need-same-length-2) → (answer : Need-returns) → Lts.Closed (
-        Reads.Asked,
-        Reads.Learnt,
-        Reads''.Asked,
-        Reads''.Learnt,
-        Reads'8.Asked,
-        Reads'8.Learnt,
-        Reads'7.Asked,
-        Reads'7.Learnt,
-        Reads'6.Asked,
-        Reads'6.Learnt,
-        Reads'3.Asked,
-        Reads'3.Learnt,
-        Reads'5.Asked,
-        Reads'5.Learnt,
-        Reads'.Asked,
-        Reads'.Learnt,
-      ) Reads'4.Pre Reads'4.Post M
-  spec = λ answer answer' answer'' answer'3 answer'4 answer'5 answer'6 answer'7 answer'8 answer'9 answer'10 answer'11. Lts.spec (
-    Reads.Asked,
-    Reads.Learnt,
-    Reads''.Asked,
-    Reads''.Learnt,
-    Reads'8.Asked,
-    Reads'8.Learnt,
-    Reads'7.Asked,
-    Reads'7.Learnt,
-    Reads'6.Asked,
-    Reads'6.Learnt,
-    Reads'3.Asked,
-    Reads'3.Learnt,
-    Reads'5.Asked,
-    Reads'5.Learnt,
-    Reads'.Asked,
-    Reads'.Learnt,
-  ) Reads'4.Pre Reads'4.Post answer answer' answer'' answer'3 answer'4 answer'5 answer'6 answer'7 answer'8 answer'9 answer'10 answer'11
+      Need-same-length-2) → (answer : Need-returns) → Lts.Closed claims Reads'4.Pre Reads'4.Post M
+  spec = λ answer answer' answer'' answer'3 answer'4 answer'5 answer'6 answer'7 answer'8 answer'9 answer'10 answer'11. Lts.spec claims Reads'4.Pre Reads'4.Post answer answer' answer'' answer'3
+      answer'4 answer'5 answer'6 answer'7 answer'8 answer'9 answer'10 answer'11
 
-  pub close : Lts.Closed (
-    Reads.Asked,
-    Reads.Learnt,
-    Reads''.Asked,
-    Reads''.Learnt,
-    Reads'8.Asked,
-    Reads'8.Learnt,
-    Reads'7.Asked,
-    Reads'7.Learnt,
-    Reads'6.Asked,
-    Reads'6.Learnt,
-    Reads'3.Asked,
-    Reads'3.Learnt,
-    Reads'5.Asked,
-    Reads'5.Learnt,
-    Reads'.Asked,
-    Reads'.Learnt,
-  ) Reads'4.Pre Reads'4.Post M → Statement.statement M
+  pub close : Lts.Closed claims Reads'4.Pre Reads'4.Post M → Statement.statement M
   unfolding Code.routine Running.tablesOf
   close = λ closed 𝓤 H 𝓜 𝓖 𝓡. Written.close 3 Kinds.ps Kinds.r Reads'4.Ghost Reads'4.requires Reads'4.ensures Reads'4.pre-read Reads'4.Pinned Reads'4.Owned Reads'4.post-read record
       { M = M; 𝓤 = 𝓤; H = H; 𝓜 = 𝓜; 𝓖 = 𝓖; 𝓡 = 𝓡 } Code.env Key.name Code.function (Code.unfolded 𝓤 H 𝓜 𝓡) (λ κs a g. tt) (λ κs. Reads'4.owns κs record { M = M; 𝓤 = 𝓤; H = H; 𝓜 = 𝓜; 𝓖 = 𝓖; 𝓡 = 𝓡 })

@@ -1,4 +1,9 @@
 -- Written by tools/lend.py from Rattle's derivation of the twin of `fuji_compressed`; not edited by hand. Assumes nothing.
+use borrow.Fn.Args.{ArgsT}
+use Rattle.bits.proofs.Values
+use Rattle.bits.proofs.Values.{on}
+use Rattle.bits.proofs.Values.{n16, n64, n8, u16, u64, u8}
+use mathlib.Core.List.{_∷_, []}
 use Rattle.block.proofs.Element
 use Prim.Native.Nat
 use Rattle.block.proofs.Counted
@@ -19,7 +24,6 @@ use borrow.Kind.Num
 use borrow.Kind.ShrRef
 use borrow.Kind.ShrSlice
 use borrow.Kind.Unit as Unit'
-use borrow.Kind.Value
 use borrow.Rule.Array.Init
 use borrow.Rule.Array.Rows
 use borrow.Rule.Array.Whole
@@ -44,9 +48,7 @@ use borrow.Table.Rows as Rows'
 use borrow.Table.Typed
 use contract.Lifetimes
 use denote.Array as Array'
-use denote.Exit
 use denote.Struct.Declared
-use denote.Struct.Laws as Laws''
 use denote.Triple.Clauses
 use denote.Triple.Statement
 use ghost.Atoms
@@ -61,236 +63,169 @@ use prog.Wp
 use types.Kit
 
 abbrev pub y0 : Syntax.Ty
-y0 = Syntax.tyStruct (List._∷_ 114 (List._∷_ 101 (List._∷_ 103 (List._∷_ 105 (List._∷_ 111 (List._∷_ 110 (List._∷_ 58 (List._∷_ 58 (List._∷_ 82 (List._∷_ 101 (List._∷_ 99 (List._∷_ 116
-    List.[])))))))))))) (Syntax.tcons (Syntax.tyInt Syntax.w64) (Syntax.tcons (Syntax.tyInt Syntax.w64) (Syntax.tcons (Syntax.tyInt Syntax.w64) (Syntax.tcons (Syntax.tyInt Syntax.w64) Syntax.tnil))))
+y0 = Syntax.tyArray u64 2
 
 abbrev pub y1 : Syntax.Ty
-y1 = Syntax.tyStruct (List._∷_ 116 (List._∷_ 111 (List._∷_ 116 (List._∷_ 97 (List._∷_ 108 (List._∷_ 115 (List._∷_ 58 (List._∷_ 58 (List._∷_ 84 (List._∷_ 111 (List._∷_ 116 (List._∷_ 97 (List._∷_ 108
-    (List._∷_ 115 List.[])))))))))))))) (Syntax.tcons (Syntax.tyInt Syntax.w64) (Syntax.tcons (Syntax.tyInt Syntax.w64) Syntax.tnil))
+y1 = Syntax.tyArray u64 4
 
 abbrev pub y2 : Syntax.Ty
-y2 = Syntax.tyStruct (List._∷_ 38 (List._∷_ 91 (List._∷_ 93 List.[]))) (Syntax.tcons (Syntax.tyRef Syntax.erased Syntax.mut (Syntax.tyInt Syntax.w16)) (Syntax.tcons (Syntax.tyInt Syntax.w64)
-    Syntax.tnil))
+y2 = Syntax.tyArray u8 36
 
 abbrev pub y3 : Syntax.Ty
-y3 = Syntax.tyStruct (List._∷_ 38 (List._∷_ 91 (List._∷_ 93 List.[]))) (Syntax.tcons (Syntax.tyRef Syntax.erased Syntax.mut Element.behind) (Syntax.tcons (Syntax.tyInt Syntax.w64) Syntax.tnil))
+y3 = Syntax.tyEnum (115 ∷ 116 ∷ 114 ∷ 101 ∷ 97 ∷ 109 ∷ 58 ∷ 58 ∷ 82 ∷ 101 ∷ 102 ∷ 117 ∷ 115 ∷ 97 ∷ 108 ∷ []) (Syntax.ttcons Syntax.tnil (Syntax.ttcons Syntax.tnil (Syntax.ttcons Syntax.tnil
+    (Syntax.ttcons (Syntax.tcons u64 Syntax.tnil) (Syntax.ttcons Syntax.tnil (Syntax.ttcons Syntax.tnil (Syntax.ttcons Syntax.tnil (Syntax.ttcons Syntax.tnil (Syntax.ttcons Syntax.tnil (Syntax.ttcons
+    Syntax.tnil (Syntax.ttcons (Syntax.tcons u64 Syntax.tnil) (Syntax.ttcons (Syntax.tcons u64 Syntax.tnil) (Syntax.ttcons Syntax.tnil (Syntax.ttcons (Syntax.tcons u64 (Syntax.tcons u64 Syntax.tnil))
+    (Syntax.ttcons (Syntax.tcons u64 Syntax.tnil) (Syntax.ttcons Syntax.tnil (Syntax.ttcons Syntax.tnil (Syntax.ttcons (Syntax.tcons u64 Syntax.tnil) (Syntax.ttcons (Syntax.tcons u64 Syntax.tnil)
+    (Syntax.ttcons (Syntax.tcons u64 Syntax.tnil) (Syntax.ttcons Syntax.tnil (Syntax.ttcons Syntax.tnil (Syntax.ttcons (Syntax.tcons u64 (Syntax.tcons u64 Syntax.tnil)) (Syntax.ttcons Syntax.tnil
+    Syntax.ttnil))))))))))))))))))))))))
 
 abbrev pub y4 : Syntax.Ty
-y4 = Syntax.tyStruct (List._∷_ 98 (List._∷_ 108 (List._∷_ 111 (List._∷_ 99 (List._∷_ 107 (List._∷_ 58 (List._∷_ 58 (List._∷_ 67 (List._∷_ 111 (List._∷_ 117 (List._∷_ 110 (List._∷_ 116 (List._∷_ 101
-    (List._∷_ 100 List.[])))))))))))))) (Syntax.tcons (Syntax.tyEnum (List._∷_ 98 (List._∷_ 108 (List._∷_ 111 (List._∷_ 99 (List._∷_ 107 (List._∷_ 58 (List._∷_ 58 (List._∷_ 68 (List._∷_ 101 (List._∷_ 99
-    (List._∷_ 111 (List._∷_ 100 (List._∷_ 101 (List._∷_ 100 List.[])))))))))))))) (Syntax.ttcons Syntax.tnil (Syntax.ttcons (Syntax.tcons (Syntax.tyEnum (List._∷_ 115 (List._∷_ 116 (List._∷_ 114 (List._∷_
-    101 (List._∷_ 97 (List._∷_ 109 (List._∷_ 58 (List._∷_ 58 (List._∷_ 82 (List._∷_ 101 (List._∷_ 102 (List._∷_ 117 (List._∷_ 115 (List._∷_ 97 (List._∷_ 108 List.[]))))))))))))))) (Syntax.ttcons
-    Syntax.tnil (Syntax.ttcons Syntax.tnil (Syntax.ttcons Syntax.tnil (Syntax.ttcons (Syntax.tcons (Syntax.tyInt Syntax.w64) Syntax.tnil) (Syntax.ttcons Syntax.tnil (Syntax.ttcons Syntax.tnil
-    (Syntax.ttcons Syntax.tnil (Syntax.ttcons Syntax.tnil (Syntax.ttcons Syntax.tnil (Syntax.ttcons Syntax.tnil (Syntax.ttcons (Syntax.tcons (Syntax.tyInt Syntax.w64) Syntax.tnil) (Syntax.ttcons
-    (Syntax.tcons (Syntax.tyInt Syntax.w64) Syntax.tnil) (Syntax.ttcons Syntax.tnil (Syntax.ttcons (Syntax.tcons (Syntax.tyInt Syntax.w64) (Syntax.tcons (Syntax.tyInt Syntax.w64) Syntax.tnil))
-    (Syntax.ttcons (Syntax.tcons (Syntax.tyInt Syntax.w64) Syntax.tnil) (Syntax.ttcons Syntax.tnil (Syntax.ttcons Syntax.tnil (Syntax.ttcons (Syntax.tcons (Syntax.tyInt Syntax.w64) Syntax.tnil)
-    (Syntax.ttcons (Syntax.tcons (Syntax.tyInt Syntax.w64) Syntax.tnil) (Syntax.ttcons (Syntax.tcons (Syntax.tyInt Syntax.w64) Syntax.tnil) (Syntax.ttcons Syntax.tnil (Syntax.ttcons Syntax.tnil
-    (Syntax.ttcons (Syntax.tcons (Syntax.tyInt Syntax.w64) (Syntax.tcons (Syntax.tyInt Syntax.w64) Syntax.tnil)) (Syntax.ttcons Syntax.tnil Syntax.ttnil))))))))))))))))))))))))) Syntax.tnil)
-    Syntax.ttnil))) (Syntax.tcons y1 Syntax.tnil))
+y4 = Syntax.tyRef (Syntax.named 0) Syntax.imm u8
+
+abbrev pub y5 : Syntax.Ty
+y5 = Syntax.tyRef (Syntax.named 1) Syntax.imm u8
+
+abbrev pub y6 : Syntax.Ty
+y6 = Syntax.tyRef (Syntax.named 3) Syntax.mut u16
+
+abbrev pub y7 : Syntax.Ty
+y7 = Syntax.tyRef (Syntax.named 4) Syntax.mut u16
+
+abbrev pub y8 : Syntax.Ty
+y8 = Syntax.tyRef (Syntax.named 5) Syntax.mut Element.behind
+
+abbrev pub y9 : Syntax.Ty
+y9 = Syntax.tyRef Syntax.erased Syntax.mut Element.behind
+
+abbrev pub y10 : Syntax.Ty
+y10 = Syntax.tyRef Syntax.erased Syntax.mut u16
+
+abbrev pub y11 : Syntax.Ty
+y11 = Syntax.tyStruct (114 ∷ 101 ∷ 103 ∷ 105 ∷ 111 ∷ 110 ∷ 58 ∷ 58 ∷ 82 ∷ 101 ∷ 99 ∷ 116 ∷ []) (Syntax.tcons u64 (Syntax.tcons u64 (Syntax.tcons u64 (Syntax.tcons u64 Syntax.tnil))))
+
+abbrev pub y12 : Syntax.Ty
+y12 = Syntax.tyStruct (116 ∷ 111 ∷ 116 ∷ 97 ∷ 108 ∷ 115 ∷ 58 ∷ 58 ∷ 84 ∷ 111 ∷ 116 ∷ 97 ∷ 108 ∷ 115 ∷ []) (Syntax.tcons u64 (Syntax.tcons u64 Syntax.tnil))
+
+abbrev pub y13 : Syntax.Ty
+y13 = Syntax.tyEnum (98 ∷ 108 ∷ 111 ∷ 99 ∷ 107 ∷ 58 ∷ 58 ∷ 68 ∷ 101 ∷ 99 ∷ 111 ∷ 100 ∷ 101 ∷ 100 ∷ []) (Syntax.ttcons Syntax.tnil (Syntax.ttcons (Syntax.tcons y3 Syntax.tnil) Syntax.ttnil))
+
+abbrev pub y14 : Syntax.Ty
+y14 = Syntax.tyRef (Syntax.named 2) Syntax.imm y2
+
+abbrev pub y15 : Syntax.Ty
+y15 = Syntax.tyRef (Syntax.named 6) Syntax.mut y0
+
+abbrev pub y16 : Syntax.Ty
+y16 = Syntax.tyRef (Syntax.named 7) Syntax.mut y1
+
+abbrev pub y17 : Syntax.Ty
+y17 = Syntax.tyStruct (38 ∷ 91 ∷ 93 ∷ []) (Syntax.tcons y10 (Syntax.tcons u64 Syntax.tnil))
+
+abbrev pub y18 : Syntax.Ty
+y18 = Syntax.tyStruct (38 ∷ 91 ∷ 93 ∷ []) (Syntax.tcons y9 (Syntax.tcons u64 Syntax.tnil))
+
+abbrev pub y19 : Syntax.Ty
+y19 = Syntax.tyStruct (98 ∷ 108 ∷ 111 ∷ 99 ∷ 107 ∷ 58 ∷ 58 ∷ 67 ∷ 111 ∷ 117 ∷ 110 ∷ 116 ∷ 101 ∷ 100 ∷ []) (Syntax.tcons y13 (Syntax.tcons y12 Syntax.tnil))
 
 abbrev pub ps : List.List (Kinds.PK 8)
-ps = List._∷_ (ShrSlice.pShrS (Referent.rtF (Referent.fInt Syntax.w8)) 0 tt) (List._∷_ (Num.pNum Syntax.w64) (List._∷_ (ShrSlice.pShrS (Referent.rtF (Referent.fInt Syntax.w8)) 1 tt) (List._∷_
-    (Num.pNum Syntax.w64) (List._∷_ (Num.pNum Syntax.w64) (List._∷_ (Num.pNum Syntax.w64) (List._∷_ (Num.pNum Syntax.w64) (List._∷_ (ShrRef.pShr (Array'.Array (Referent.rtF (Referent.fInt Syntax.w8)) 36)
-    2 tt) (List._∷_ (MutSlice.pMutS (Referent.rtF (Referent.fInt Syntax.w16)) 3 tt) (List._∷_ (MutSlice.pMutS (Referent.rtF (Referent.fInt Syntax.w16)) 4 tt) (List._∷_ (MutSlice.pMutS (Element.type) 5 tt)
-    (List._∷_ (Kinds.pMut (Array'.Array (Referent.rtF (Referent.fInt Syntax.w64)) 2) 6 tt) (List._∷_ (Kinds.pMut (Array'.Array (Referent.rtF (Referent.fInt Syntax.w64)) 4) 7 tt) List.[]))))))))))))
+ps = (ShrSlice.pShrS n8 0 tt) ∷ (Num.pNum Syntax.w64) ∷ (ShrSlice.pShrS n8 1 tt) ∷ (Num.pNum Syntax.w64) ∷ (Num.pNum Syntax.w64) ∷ (Num.pNum Syntax.w64) ∷ (Num.pNum Syntax.w64) ∷ (ShrRef.pShr
+    (Array'.Array n8 36) 2 tt) ∷ (MutSlice.pMutS n16 3 tt) ∷ (MutSlice.pMutS n16 4 tt) ∷ (MutSlice.pMutS (Element.type) 5 tt) ∷ (Kinds.pMut (Array'.Array n64 2) 6 tt) ∷ (Kinds.pMut (Array'.Array n64 4) 7
+    tt) ∷ []
 
 abbrev pub r : Kinds.RK 8
 r = Unit'.rUnit
 
 abbrev pub xs : List.List Syntax.Ty
-xs = List._∷_ y0 (List._∷_ (Syntax.tyArray (Syntax.tyInt Syntax.w8) 36) (List._∷_ y4 (List._∷_ (Syntax.tyArray (Syntax.tyInt Syntax.w64) 2) (List._∷_ (Syntax.tyArray (Syntax.tyInt Syntax.w64) 4)
-    (List._∷_ (Syntax.tyRef Syntax.erased Syntax.mut (Syntax.tyInt Syntax.w16)) (List._∷_ y2 (List._∷_ (Syntax.tyRef Syntax.erased Syntax.mut (Syntax.tyInt Syntax.w16)) (List._∷_ y2 (List._∷_
-    (Syntax.tyRef Syntax.erased Syntax.mut Element.behind) (List._∷_ y3 List.[]))))))))))
+xs = y11 ∷ y2 ∷ y19 ∷ y0 ∷ y1 ∷ y10 ∷ y17 ∷ y10 ∷ y17 ∷ y9 ∷ y18 ∷ []
 
 abbrev pub m : Nat.ℕ
 m = 3
 
 abbrev pub ps·0 : List.List (Kinds.PK 5)
-ps·0 = List._∷_ (ShrSlice.pShrS (Referent.rtF (Referent.fInt Syntax.w8)) 0 tt) (List._∷_ (Num.pNum Syntax.w64) (List._∷_ (ShrSlice.pShrS (Referent.rtF (Referent.fInt Syntax.w8)) 1 tt) (List._∷_
-    (Value.pVal record {
-      ty = Declared.row Rect.the-type;
-      one = Path'.refl;
-      val = Laws''.val Rect.the-type Laws'.the-laws;
-      tells = Laws''.tells Rect.the-type Laws'.the-laws;
-      still = Laws''.still Rect.the-type Laws'.the-copy
-          Exit.yes;
-      row = Rows'.whole (Declared.row Rect.the-type);
-      rd = λ x. x;
-      mk = λ x. x;
-    } λ M 𝓤 H A W. record {
-      copies = Laws''.copy Rect.the-type Laws'.the-copy 𝓤 H A W;
-      lawful = Laws''.lawful Rect.the-type Laws'.the-laws 𝓤 H A W;
-      makes = Laws''.makes Rect.the-type Laws'.the-plain 𝓤 H A;
-      in-mem =
-          Local.mem-whole 𝓤 H A W (Declared.row Rect.the-type);
-      of-mem = Local.whole-mem 𝓤 H A W (Declared.row Rect.the-type);
-    }) (List._∷_ (Array.pArr (Array.eInt Syntax.w8) (Array.eInt-laws Syntax.w8) 36)
-    (List._∷_ (MutSlice.pMutS (Referent.rtF (Referent.fInt Syntax.w16)) 2 tt) (List._∷_ (MutSlice.pMutS (Referent.rtF (Referent.fInt Syntax.w16)) 3 tt) (List._∷_ (MutSlice.pMutS (Element.type) 4 tt)
-    List.[])))))))
+ps·0 = (ShrSlice.pShrS n8 0 tt) ∷ (Num.pNum Syntax.w64) ∷ (ShrSlice.pShrS n8 1 tt) ∷ (Values.struct Rect.the-type Laws'.the-laws Laws'.the-copy Laws'.the-plain) ∷ (Array.pArr (Array.eInt Syntax.w8)
+    (Array.eInt-laws Syntax.w8) 36) ∷ (MutSlice.pMutS n16 2 tt) ∷ (MutSlice.pMutS n16 3 tt) ∷ (MutSlice.pMutS (Element.type) 4 tt) ∷ []
 
 abbrev pub r·0 : Kinds.RK 5
-r·0 = Value.rVal record {
-  ty = Declared.row Counted.the-type;
-  one = Path'.refl;
-  val = Laws''.val Counted.the-type Laws.the-laws;
-  tells = Laws''.tells Counted.the-type Laws.the-laws;
-  still = Laws''.still Counted.the-type
-      Laws.the-copy Exit.yes;
-  row = Rows'.whole (Declared.row Counted.the-type);
-  rd = λ x. x;
-  mk = λ x. x;
-} λ M 𝓤 H A W. record {
-  copies = Laws''.copy Counted.the-type Laws.the-copy 𝓤 H A W;
-  lawful = Laws''.lawful Counted.the-type Laws.the-laws 𝓤 H A W;
-  makes = Laws''.makes Counted.the-type Laws.the-plain 𝓤 H A;
-  in-mem =
-      Local.mem-whole 𝓤 H A W (Declared.row Counted.the-type);
-  of-mem = Local.whole-mem 𝓤 H A W (Declared.row Counted.the-type);
-}
+r·0 = Values.struct-result Counted.the-type Laws.the-laws Laws.the-copy Laws.the-plain
 
 abbrev pub ps·1 : List.List (Kinds.PK 0)
-ps·1 = List._∷_ (Value.pVal record {
-  ty = Declared.row Counted.the-type;
-  one = Path'.refl;
-  val = Laws''.val Counted.the-type Laws.the-laws;
-  tells = Laws''.tells Counted.the-type Laws.the-laws;
-  still = Laws''.still Counted.the-type
-      Laws.the-copy Exit.yes;
-  row = Rows'.whole (Declared.row Counted.the-type);
-  rd = λ x. x;
-  mk = λ x. x;
-} λ M 𝓤 H A W. record {
-  copies = Laws''.copy Counted.the-type Laws.the-copy 𝓤 H A W;
-  lawful = Laws''.lawful Counted.the-type Laws.the-laws 𝓤 H A W;
-  makes = Laws''.makes Counted.the-type Laws.the-plain 𝓤 H A;
-  in-mem =
-      Local.mem-whole 𝓤 H A W (Declared.row Counted.the-type);
-  of-mem = Local.whole-mem 𝓤 H A W (Declared.row Counted.the-type);
-}) List.[]
+ps·1 = (Values.struct Counted.the-type Laws.the-laws Laws.the-copy Laws.the-plain) ∷ []
 
 abbrev pub r·1 : Kinds.RK 0
 r·1 = Array.rArr (Array.eInt Syntax.w64) (Array.eInt-laws Syntax.w64) 2
 
 abbrev pub ps·2 : List.List (Kinds.PK 0)
-ps·2 = List._∷_ (Value.pVal record {
-  ty = Declared.row Counted.the-type;
-  one = Path'.refl;
-  val = Laws''.val Counted.the-type Laws.the-laws;
-  tells = Laws''.tells Counted.the-type Laws.the-laws;
-  still = Laws''.still Counted.the-type
-      Laws.the-copy Exit.yes;
-  row = Rows'.whole (Declared.row Counted.the-type);
-  rd = λ x. x;
-  mk = λ x. x;
-} λ M 𝓤 H A W. record {
-  copies = Laws''.copy Counted.the-type Laws.the-copy 𝓤 H A W;
-  lawful = Laws''.lawful Counted.the-type Laws.the-laws 𝓤 H A W;
-  makes = Laws''.makes Counted.the-type Laws.the-plain 𝓤 H A;
-  in-mem =
-      Local.mem-whole 𝓤 H A W (Declared.row Counted.the-type);
-  of-mem = Local.whole-mem 𝓤 H A W (Declared.row Counted.the-type);
-}) List.[]
+ps·2 = (Values.struct Counted.the-type Laws.the-laws Laws.the-copy Laws.the-plain) ∷ []
 
 abbrev pub r·2 : Kinds.RK 0
 r·2 = Array.rArr (Array.eInt Syntax.w64) (Array.eInt-laws Syntax.w64) 4
 
 abbrev pub hs : List.List Syntax.Home
-hs = List._∷_ Syntax.valueLocal (List._∷_ Syntax.valueLocal (List._∷_ Syntax.valueLocal (List._∷_ Syntax.valueLocal (List._∷_ Syntax.valueLocal (List._∷_ Syntax.valueLocal (List._∷_ Syntax.valueLocal
-    (List._∷_ Syntax.valueLocal (List._∷_ Syntax.valueLocal (List._∷_ Syntax.valueLocal (List._∷_ Syntax.valueLocal (List._∷_ Syntax.valueLocal (List._∷_ Syntax.valueLocal (List._∷_ Syntax.valueLocal
-    (List._∷_ Syntax.valueLocal (List._∷_ Syntax.valueLocal (List._∷_ Syntax.valueLocal (List._∷_ Syntax.valueLocal (List._∷_ Syntax.valueLocal (List._∷_ Syntax.valueLocal (List._∷_ Syntax.valueLocal
-    (List._∷_ Syntax.valueLocal (List._∷_ Syntax.valueLocal (List._∷_ Syntax.valueLocal (List._∷_ Syntax.valueLocal List.[]))))))))))))))))))))))))
+hs = Syntax.valueLocal ∷ Syntax.valueLocal ∷ Syntax.valueLocal ∷ Syntax.valueLocal ∷ Syntax.valueLocal ∷ Syntax.valueLocal ∷ Syntax.valueLocal ∷ Syntax.valueLocal ∷ Syntax.valueLocal ∷
+    Syntax.valueLocal ∷ Syntax.valueLocal ∷ Syntax.valueLocal ∷ Syntax.valueLocal ∷ Syntax.valueLocal ∷ Syntax.valueLocal ∷ Syntax.valueLocal ∷ Syntax.valueLocal ∷ Syntax.valueLocal ∷ Syntax.valueLocal ∷
+    Syntax.valueLocal ∷ Syntax.valueLocal ∷ Syntax.valueLocal ∷ Syntax.valueLocal ∷ Syntax.valueLocal ∷ Syntax.valueLocal ∷ []
 
 abbrev b0 : Syntax.Body
-b0 = Syntax.assign (Syntax.place 14 List.[]) (Syntax.aggregate (List._∷_ (Syntax.copy (Syntax.place 4 List.[])) (List._∷_ (Syntax.copy (Syntax.place 5 List.[])) (List._∷_ (Syntax.copy (Syntax.place 6
-    List.[])) (List._∷_ (Syntax.copy (Syntax.place 7 List.[])) List.[])))))
+b0 = Syntax.assign (Syntax.place 14 []) (Syntax.aggregate ((Syntax.copy (Syntax.place 4 [])) ∷ (Syntax.copy (Syntax.place 5 [])) ∷ (Syntax.copy (Syntax.place 6 [])) ∷ (Syntax.copy (Syntax.place 7 []))
+    ∷ []))
 
 abbrev b1 : Syntax.Body
-b1 = Syntax.assign (Syntax.place 15 List.[]) (Syntax.rvOpd (Syntax.copy (Syntax.place 8 (List._∷_ (Syntax.deref (Syntax.tyArray (Syntax.tyInt Syntax.w8) 36)) List.[]))))
+b1 = Syntax.assign (Syntax.place 15 []) (Syntax.rvOpd (Syntax.copy (Syntax.place 8 ((Syntax.deref y2) ∷ []))))
 
 abbrev b2 : Syntax.Body
-b2 = Syntax.assign (Syntax.place 19 List.[]) (Syntax.addrOf (Syntax.place 9 (List._∷_ (Syntax.field 0) (List._∷_ (Syntax.deref (Syntax.tyInt Syntax.w16)) List.[]))))
+b2 = Syntax.assign (Syntax.place 19 []) (Syntax.addrOf (Syntax.place 9 ((Syntax.field 0) ∷ (Syntax.deref u16) ∷ [])))
 
 abbrev b3 : Syntax.Body
-b3 = Syntax.assign (Syntax.place 20 List.[]) (Syntax.aggregate (List._∷_ (Syntax.copy (Syntax.place 19 List.[])) (List._∷_ (Syntax.copy (Syntax.place 9 (List._∷_ (Syntax.field 1) List.[]))) List.[])))
+b3 = Syntax.assign (Syntax.place 20 []) (Syntax.aggregate ((Syntax.copy (Syntax.place 19 [])) ∷ (Syntax.copy (Syntax.place 9 ((Syntax.field 1) ∷ []))) ∷ []))
 
 abbrev b4 : Syntax.Body
-b4 = Syntax.assign (Syntax.place 21 List.[]) (Syntax.addrOf (Syntax.place 10 (List._∷_ (Syntax.field 0) (List._∷_ (Syntax.deref (Syntax.tyInt Syntax.w16)) List.[]))))
+b4 = Syntax.assign (Syntax.place 21 []) (Syntax.addrOf (Syntax.place 10 ((Syntax.field 0) ∷ (Syntax.deref u16) ∷ [])))
 
 abbrev b5 : Syntax.Body
-b5 = Syntax.assign (Syntax.place 22 List.[]) (Syntax.aggregate (List._∷_ (Syntax.copy (Syntax.place 21 List.[])) (List._∷_ (Syntax.copy (Syntax.place 10 (List._∷_ (Syntax.field 1) List.[])))
-    List.[])))
+b5 = Syntax.assign (Syntax.place 22 []) (Syntax.aggregate ((Syntax.copy (Syntax.place 21 [])) ∷ (Syntax.copy (Syntax.place 10 ((Syntax.field 1) ∷ []))) ∷ []))
 
 abbrev b6 : Syntax.Body
-b6 = Syntax.assign (Syntax.place 23 List.[]) (Syntax.addrOf (Syntax.place 11 (List._∷_ (Syntax.field 0) (List._∷_ (Syntax.deref (Element.held)) List.[]))))
+b6 = Syntax.assign (Syntax.place 23 []) (Syntax.addrOf (Syntax.place 11 ((Syntax.field 0) ∷ (Syntax.deref (Element.held)) ∷ [])))
 
 abbrev b7 : Syntax.Body
-b7 = Syntax.assign (Syntax.place 24 List.[]) (Syntax.aggregate (List._∷_ (Syntax.copy (Syntax.place 23 List.[])) (List._∷_ (Syntax.copy (Syntax.place 11 (List._∷_ (Syntax.field 1) List.[])))
-    List.[])))
+b7 = Syntax.assign (Syntax.place 24 []) (Syntax.aggregate ((Syntax.copy (Syntax.place 23 [])) ∷ (Syntax.copy (Syntax.place 11 ((Syntax.field 1) ∷ []))) ∷ []))
 
 abbrev b8 : Syntax.Body
-b8 = Syntax.call "block::checkpoints::resume_region" (List._∷_ (Syntax.copy (Syntax.place 1 List.[])) (List._∷_ (Syntax.copy (Syntax.place 2 List.[])) (List._∷_ (Syntax.copy (Syntax.place 3 List.[]))
-    (List._∷_ (Syntax.copy (Syntax.place 14 List.[])) (List._∷_ (Syntax.copy (Syntax.place 15 List.[])) (List._∷_ (Syntax.copy (Syntax.place 20 List.[])) (List._∷_ (Syntax.copy (Syntax.place 22 List.[]))
-    (List._∷_ (Syntax.copy (Syntax.place 24 List.[])) List.[])))))))) (Syntax.place 16 List.[])
+b8 = Syntax.call "block_states::resume_region" ((Syntax.copy (Syntax.place 1 [])) ∷ (Syntax.copy (Syntax.place 2 [])) ∷ (Syntax.copy (Syntax.place 3 [])) ∷ (Syntax.copy (Syntax.place 14 [])) ∷
+    (Syntax.copy (Syntax.place 15 [])) ∷ (Syntax.copy (Syntax.place 20 [])) ∷ (Syntax.copy (Syntax.place 22 [])) ∷ (Syntax.copy (Syntax.place 24 [])) ∷ []) (Syntax.place 16 [])
 
 abbrev b9 : Syntax.Body
-b9 = Syntax.call "fuji_compressed::reading::totals_words" (List._∷_ (Syntax.copy (Syntax.place 16 List.[])) List.[]) (Syntax.place 17 List.[])
+b9 = Syntax.call "fuji_compressed::reading::totals_words" ((Syntax.copy (Syntax.place 16 [])) ∷ []) (Syntax.place 17 [])
 
 abbrev b10 : Syntax.Body
-b10 = Syntax.call "fuji_compressed::reading::counted_refusal" (List._∷_ (Syntax.copy (Syntax.place 16 List.[])) List.[]) (Syntax.place 18 List.[])
+b10 = Syntax.call "fuji_compressed::reading::counted_refusal" ((Syntax.copy (Syntax.place 16 [])) ∷ []) (Syntax.place 18 [])
 
 abbrev b11 : Syntax.Body
-b11 = Syntax.assign (Syntax.place 12 (List._∷_ (Syntax.deref (Syntax.tyArray (Syntax.tyInt Syntax.w64) 2)) List.[])) (Syntax.rvOpd (Syntax.copy (Syntax.place 17 List.[])))
+b11 = Syntax.assign (Syntax.place 12 ((Syntax.deref y0) ∷ [])) (Syntax.rvOpd (Syntax.copy (Syntax.place 17 [])))
 
 abbrev b12 : Syntax.Body
-b12 = Syntax.assign (Syntax.place 13 (List._∷_ (Syntax.deref (Syntax.tyArray (Syntax.tyInt Syntax.w64) 4)) List.[])) (Syntax.rvOpd (Syntax.copy (Syntax.place 18 List.[])))
+b12 = Syntax.assign (Syntax.place 13 ((Syntax.deref y1) ∷ [])) (Syntax.rvOpd (Syntax.copy (Syntax.place 18 [])))
 
 abbrev b13 : Syntax.Body
-b13 = Syntax.assign (Syntax.place 0 List.[]) (Syntax.rvOpd Syntax.opdUnit)
+b13 = Syntax.assign (Syntax.place 0 []) (Syntax.rvOpd Syntax.opdUnit)
 
 abbrev b14 : Syntax.Body
 b14 = Syntax.return
 
-abbrev b15 : Syntax.Body
-b15 = Syntax.seq b13 b14
-
-abbrev b16 : Syntax.Body
-b16 = Syntax.seq b12 b15
-
 abbrev b17 : Syntax.Body
-b17 = Syntax.seq b11 b16
-
-abbrev b18 : Syntax.Body
-b18 = Syntax.seq b10 b17
+b17 = Syntax.seq b11 (Syntax.seq b12 (Syntax.seq b13 b14))
 
 abbrev b19 : Syntax.Body
-b19 = Syntax.seq b9 b18
-
-abbrev b20 : Syntax.Body
-b20 = Syntax.seq b8 b19
-
-abbrev b21 : Syntax.Body
-b21 = Syntax.seq b7 b20
+b19 = Syntax.seq b9 (Syntax.seq b10 b17)
 
 abbrev b22 : Syntax.Body
-b22 = Syntax.seq b6 b21
-
-abbrev b23 : Syntax.Body
-b23 = Syntax.seq b5 b22
-
-abbrev b24 : Syntax.Body
-b24 = Syntax.seq b4 b23
+b22 = Syntax.seq b6 (Syntax.seq b7 (Syntax.seq b8 b19))
 
 abbrev b25 : Syntax.Body
-b25 = Syntax.seq b3 b24
-
-abbrev b26 : Syntax.Body
-b26 = Syntax.seq b2 b25
-
-abbrev b27 : Syntax.Body
-b27 = Syntax.seq b1 b26
+b25 = Syntax.seq b3 (Syntax.seq b4 (Syntax.seq b5 b22))
 
 abbrev b28 : Syntax.Body
-b28 = Syntax.seq b0 b27
+b28 = Syntax.seq b0 (Syntax.seq b1 (Syntax.seq b2 b25))
 
 abbrev pub body : Syntax.Body
 body = b28
@@ -298,512 +233,417 @@ body = b28
 abbrev pub Claims : Type 1
 Claims = Kinds.In 5 ps·0 × Kinds.Out 5 ps·0 r·0 × Kinds.In 0 ps·1 × Kinds.Out 0 ps·1 r·1 × Kinds.In 0 ps·2 × Kinds.Out 0 ps·2 r·2
 
-abbrev pub e0 : Row.Entry
-e0 = (0, Rows'.any-gone Syntax.tyUnit)
+abbrev pub v0 : Row.Row
+v0 = Rows'.sc-here (Row.sInt Syntax.w64)
 
-abbrev pub e1 : Row.Entry
-e1 = (0, Rows'.sc-here Row.sUnit)
+abbrev pub v1 : Row.Row
+v1 = Rows'.any-gone y10
 
-abbrev pub e2 : Row.Entry
-e2 = (1, Rows'.sslice (Referent.rtF (Referent.fInt Syntax.w8)) (Syntax.tyRef (Syntax.named 0) Syntax.imm (Syntax.tyInt Syntax.w8)) 0)
+abbrev pub v2 : Row.Row
+v2 = Rows'.sslice n8 y4 0
 
-abbrev pub e3 : Row.Entry
-e3 = (10, Mut.mslice (Referent.rtF (Referent.fInt Syntax.w16)) (Syntax.tyRef (Syntax.named 4) Syntax.mut (Syntax.tyInt Syntax.w16)) 4)
+abbrev pub v3 : Row.Row
+v3 = Rows'.sslice n8 y5 1
 
-abbrev pub e4 : Row.Entry
-e4 = (10, Relend.mslice-owed (Referent.rtF (Referent.fInt Syntax.w16)) (Syntax.tyRef (Syntax.named 4) Syntax.mut (Syntax.tyInt Syntax.w16)) 4 9 Row.off)
+abbrev pub v4 : Row.Row
+v4 = Rows'.sref (Array'.Array n8 36) y14 2
 
-abbrev pub e5 : Row.Entry
-e5 = (11, Mut.mslice (Element.type) (Syntax.tyRef (Syntax.named 5) Syntax.mut Element.behind) 5)
+abbrev pub v5 : Row.Row
+v5 = Rows'.mref (Array'.Array n64 2) y15 6
 
-abbrev pub e6 : Row.Entry
-e6 = (11, Relend.mslice-owed (Element.type) (Syntax.tyRef (Syntax.named 5) Syntax.mut Element.behind) 5 10 Row.off)
+abbrev pub v6 : Row.Row
+v6 = Rows'.mref (Array'.Array n64 4) y16 7
 
-abbrev pub e7 : Row.Entry
-e7 = (12, Rows'.mref (Array'.Array (Referent.rtF (Referent.fInt Syntax.w64)) 2) (Syntax.tyRef (Syntax.named 6) Syntax.mut (Syntax.tyArray (Syntax.tyInt Syntax.w64) 2)) 6)
+abbrev pub v7 : Row.Row
+v7 = Rows'.any-gone Syntax.tyUnit
 
-abbrev pub e8 : Row.Entry
-e8 = (13, Rows'.mref (Array'.Array (Referent.rtF (Referent.fInt Syntax.w64)) 4) (Syntax.tyRef (Syntax.named 7) Syntax.mut (Syntax.tyArray (Syntax.tyInt Syntax.w64) 4)) 7)
+abbrev pub v8 : Row.Row
+v8 = Rows'.any-gone y17
 
-abbrev pub e9 : Row.Entry
-e9 = (14, Rows'.any-gone y0)
+abbrev pub v9 : Row.Row
+v9 = Rows'.any-gone y11
 
-abbrev pub e10 : Row.Entry
-e10 = (14, Rows'.whole (Declared.row (Apart.apartT Rect.the-type)))
+abbrev pub v10 : Row.Row
+v10 = Rows'.any-gone u64
 
-abbrev pub e11 : Row.Entry
-e11 = (14, Rows'.whole (Declared.row Rect.the-type))
+abbrev pub v11 : Row.Row
+v11 = Rows'.any-gone y2
 
-abbrev pub e12 : Row.Entry
-e12 = (15, Rows'.any-gone (Syntax.tyArray (Syntax.tyInt Syntax.w8) 36))
+abbrev pub v12 : Row.Row
+v12 = Rows'.any-gone y9
 
-abbrev pub e13 : Row.Entry
-e13 = (15, Rows.arrF (Referent.rtF (Referent.fInt Syntax.w8)) 36 0)
+abbrev pub v13 : Row.Row
+v13 = Mut.mslice n16 y6 3
 
-abbrev pub e14 : Row.Entry
-e14 = (16, Rows'.any-gone y4)
+abbrev pub v14 : Row.Row
+v14 = Mut.mslice n16 y7 4
 
-abbrev pub e15 : Row.Entry
-e15 = (16, Rows'.whole (Declared.row Counted.the-type))
+abbrev pub v15 : Row.Row
+v15 = Mut.mslice (Element.type) y8 5
 
-abbrev pub e16 : Row.Entry
-e16 = (17, Rows'.any-gone (Syntax.tyArray (Syntax.tyInt Syntax.w64) 2))
+abbrev pub v16 : Row.Row
+v16 = Rows'.any-gone y0
 
-abbrev pub e17 : Row.Entry
-e17 = (17, Rows.arrF (Referent.rtF (Referent.fInt Syntax.w64)) 2 0)
+abbrev pub v17 : Row.Row
+v17 = Rows'.any-gone y1
 
-abbrev pub e18 : Row.Entry
-e18 = (18, Rows'.any-gone (Syntax.tyArray (Syntax.tyInt Syntax.w64) 4))
+abbrev pub v18 : Row.Row
+v18 = Rows'.any-gone y18
 
-abbrev pub e19 : Row.Entry
-e19 = (18, Rows.arrF (Referent.rtF (Referent.fInt Syntax.w64)) 4 0)
+abbrev pub v19 : Row.Row
+v19 = Rows.arrF n8 36 0
 
-abbrev pub e20 : Row.Entry
-e20 = (19, Rows'.any-gone (Syntax.tyRef Syntax.erased Syntax.mut (Syntax.tyInt Syntax.w16)))
+abbrev pub v20 : Row.Row
+v20 = Rows'.any-gone y19
 
-abbrev pub e21 : Row.Entry
-e21 = (2, Rows'.any-gone (Syntax.tyInt Syntax.w64))
+abbrev pub v21 : Row.Row
+v21 = Rows'.whole (Declared.row (Apart.apartT Rect.the-type))
 
-abbrev pub e22 : Row.Entry
-e22 = (2, Rows'.sc-here (Row.sInt Syntax.w64))
+abbrev pub v22 : Row.Row
+v22 = Rows'.sc-here Row.sUnit
 
-abbrev pub e23 : Row.Entry
-e23 = (20, Mut.mslice (Referent.rtF (Referent.fInt Syntax.w16)) (Syntax.tyRef Syntax.erased Syntax.mut (Syntax.tyInt Syntax.w16)) 8)
+abbrev pub v23 : Row.Row
+v23 = Relend.mslice-owed n16 y6 3 8 Row.off
 
-abbrev pub e24 : Row.Entry
-e24 = (20, Rows'.any-gone y2)
+abbrev pub v24 : Row.Row
+v24 = Relend.mslice-owed n16 y7 4 9 Row.off
 
-abbrev pub e25 : Row.Entry
-e25 = (21, Rows'.any-gone (Syntax.tyRef Syntax.erased Syntax.mut (Syntax.tyInt Syntax.w16)))
+abbrev pub v25 : Row.Row
+v25 = Relend.mslice-owed (Element.type) y8 5 10 Row.off
 
-abbrev pub e26 : Row.Entry
-e26 = (22, Mut.msleft (Referent.rtF (Referent.fInt Syntax.w16)) (Syntax.tyRef Syntax.erased Syntax.mut (Syntax.tyInt Syntax.w16)))
+abbrev pub v26 : Row.Row
+v26 = Rows'.whole (Declared.row Counted.the-type)
 
-abbrev pub e27 : Row.Entry
-e27 = (22, Mut.mslice (Referent.rtF (Referent.fInt Syntax.w16)) (Syntax.tyRef Syntax.erased Syntax.mut (Syntax.tyInt Syntax.w16)) 9)
+abbrev pub v27 : Row.Row
+v27 = Mut.mslice n16 y10 8
 
-abbrev pub e28 : Row.Entry
-e28 = (22, Rows'.any-gone y2)
+abbrev pub v28 : Row.Row
+v28 = Mut.mslice n16 y10 9
 
-abbrev pub e29 : Row.Entry
-e29 = (23, Rows'.any-gone (Syntax.tyRef Syntax.erased Syntax.mut Element.behind))
+abbrev pub v29 : Row.Row
+v29 = Mut.msleft n16 y10
 
-abbrev pub e30 : Row.Entry
-e30 = (24, Mut.msleft (Element.type) (Syntax.tyRef Syntax.erased Syntax.mut Element.behind))
+abbrev pub v30 : Row.Row
+v30 = Mut.msleft (Element.type) y9
 
-abbrev pub e31 : Row.Entry
-e31 = (24, Rows'.any-gone y3)
+abbrev pub v31 : Row.Row
+v31 = Rows.arrF n64 2 0
 
-abbrev pub e32 : Row.Entry
-e32 = (3, Rows'.sslice (Referent.rtF (Referent.fInt Syntax.w8)) (Syntax.tyRef (Syntax.named 1) Syntax.imm (Syntax.tyInt Syntax.w8)) 1)
-
-abbrev pub e33 : Row.Entry
-e33 = (4, Rows'.any-gone (Syntax.tyInt Syntax.w64))
-
-abbrev pub e34 : Row.Entry
-e34 = (4, Rows'.sc-here (Row.sInt Syntax.w64))
-
-abbrev pub e35 : Row.Entry
-e35 = (5, Rows'.any-gone (Syntax.tyInt Syntax.w64))
-
-abbrev pub e36 : Row.Entry
-e36 = (5, Rows'.sc-here (Row.sInt Syntax.w64))
-
-abbrev pub e37 : Row.Entry
-e37 = (6, Rows'.any-gone (Syntax.tyInt Syntax.w64))
-
-abbrev pub e38 : Row.Entry
-e38 = (6, Rows'.sc-here (Row.sInt Syntax.w64))
-
-abbrev pub e39 : Row.Entry
-e39 = (7, Rows'.sc-here (Row.sInt Syntax.w64))
-
-abbrev pub e40 : Row.Entry
-e40 = (8, Rows'.sref (Array'.Array (Referent.rtF (Referent.fInt Syntax.w8)) 36) (Syntax.tyRef (Syntax.named 2) Syntax.imm (Syntax.tyArray (Syntax.tyInt Syntax.w8) 36)) 2)
-
-abbrev pub e41 : Row.Entry
-e41 = (9, Mut.mslice (Referent.rtF (Referent.fInt Syntax.w16)) (Syntax.tyRef (Syntax.named 3) Syntax.mut (Syntax.tyInt Syntax.w16)) 3)
-
-abbrev pub e42 : Row.Entry
-e42 = (9, Relend.mslice-owed (Referent.rtF (Referent.fInt Syntax.w16)) (Syntax.tyRef (Syntax.named 3) Syntax.mut (Syntax.tyInt Syntax.w16)) 3 8 Row.off)
+abbrev pub v32 : Row.Row
+v32 = Rows.arrF n64 4 0
 
 abbrev pub t0 : List.List Row.Entry
-t0 = List._∷_ e0 (List._∷_ e2 (List._∷_ e22 (List._∷_ e32 (List._∷_ e34 (List._∷_ e36 (List._∷_ e38 (List._∷_ e39 (List._∷_ e40 (List._∷_ e41 (List._∷_ e3 (List._∷_ e5 (List._∷_ e7 (List._∷_ e8
-    (List._∷_ e9 (List._∷_ e12 List.[])))))))))))))))
+t0 = (0, v7) ∷ (1, v2) ∷ (2, v0) ∷ (3, v3) ∷ (4, v0) ∷ (5, v0) ∷ (6, v0) ∷ (7, v0) ∷ (8, v4) ∷ (9, v13) ∷ (10, v14) ∷ (11, v15) ∷ (12, v5) ∷ (13, v6) ∷ (14, v9) ∷ (15, v11) ∷ []
 
 abbrev pub t1 : List.List Row.Entry
-t1 = List._∷_ e14 (List._∷_ e16 (List._∷_ e18 (List._∷_ e20 (List._∷_ e24 (List._∷_ e25 (List._∷_ e28 (List._∷_ e29 (List._∷_ e31 List.[]))))))))
+t1 = (16, v20) ∷ (17, v16) ∷ (18, v17) ∷ (19, v1) ∷ (20, v8) ∷ (21, v1) ∷ (22, v8) ∷ (23, v12) ∷ (24, v18) ∷ []
 
 abbrev pub t2 : List.List Row.Entry
-t2 = List._∷_ e1 (List._∷_ e2 (List._∷_ e21 (List._∷_ e32 (List._∷_ e33 (List._∷_ e35 (List._∷_ e37 (List._∷_ (7, Rows'.any-gone (Syntax.tyInt Syntax.w64)) (List._∷_ e40 (List._∷_ e41 (List._∷_ e3
-    (List._∷_ e5 (List._∷_ e7 (List._∷_ e8 (List._∷_ e9 (List._∷_ e12 List.[])))))))))))))))
+t2 = (0, v22) ∷ (1, v2) ∷ (2, v10) ∷ (3, v3) ∷ (4, v10) ∷ (5, v10) ∷ (6, v10) ∷ (7, v10) ∷ (8, v4) ∷ (9, v13) ∷ (10, v14) ∷ (11, v15) ∷ (12, v5) ∷ (13, v6) ∷ (14, v9) ∷ (15, v11) ∷ []
 
 abbrev pub t3 : List.List Row.Entry
-t3 = List._∷_ e0 (List._∷_ e2 (List._∷_ e22 (List._∷_ e32 (List._∷_ e34 (List._∷_ e36 (List._∷_ e38 (List._∷_ e39 (List._∷_ e40 (List._∷_ e41 (List._∷_ e3 (List._∷_ e5 (List._∷_ e7 (List._∷_ e8
-    (List._∷_ e10 (List._∷_ e12 List.[])))))))))))))))
+t3 = (0, v7) ∷ (1, v2) ∷ (2, v0) ∷ (3, v3) ∷ (4, v0) ∷ (5, v0) ∷ (6, v0) ∷ (7, v0) ∷ (8, v4) ∷ (9, v13) ∷ (10, v14) ∷ (11, v15) ∷ (12, v5) ∷ (13, v6) ∷ (14, v21) ∷ (15, v11) ∷ []
 
 abbrev pub t4 : List.List Row.Entry
-t4 = List._∷_ e0 (List._∷_ e2 (List._∷_ e22 (List._∷_ e32 (List._∷_ e34 (List._∷_ e36 (List._∷_ e38 (List._∷_ e39 (List._∷_ e40 (List._∷_ e41 (List._∷_ e3 (List._∷_ e5 (List._∷_ e7 (List._∷_ e8
-    (List._∷_ e10 (List._∷_ e13 List.[])))))))))))))))
+t4 = (0, v7) ∷ (1, v2) ∷ (2, v0) ∷ (3, v3) ∷ (4, v0) ∷ (5, v0) ∷ (6, v0) ∷ (7, v0) ∷ (8, v4) ∷ (9, v13) ∷ (10, v14) ∷ (11, v15) ∷ (12, v5) ∷ (13, v6) ∷ (14, v21) ∷ (15, v19) ∷ []
 
 abbrev pub t5 : List.List Row.Entry
-t5 = List._∷_ e0 (List._∷_ e2 (List._∷_ e22 (List._∷_ e32 (List._∷_ e34 (List._∷_ e36 (List._∷_ e38 (List._∷_ e39 (List._∷_ e40 (List._∷_ e42 (List._∷_ e3 (List._∷_ e5 (List._∷_ e7 (List._∷_ e8
-    (List._∷_ e10 (List._∷_ e13 List.[])))))))))))))))
+t5 = (0, v7) ∷ (1, v2) ∷ (2, v0) ∷ (3, v3) ∷ (4, v0) ∷ (5, v0) ∷ (6, v0) ∷ (7, v0) ∷ (8, v4) ∷ (9, v23) ∷ (10, v14) ∷ (11, v15) ∷ (12, v5) ∷ (13, v6) ∷ (14, v21) ∷ (15, v19) ∷ []
 
 abbrev pub t6 : List.List Row.Entry
-t6 = List._∷_ e14 (List._∷_ e16 (List._∷_ e18 (List._∷_ (19, Relend.msptr (Referent.rtF (Referent.fInt Syntax.w16)) (Syntax.tyRef Syntax.erased Syntax.mut (Syntax.tyInt Syntax.w16)) 8) (List._∷_ e24
-    (List._∷_ e25 (List._∷_ e28 (List._∷_ e29 (List._∷_ e31 List.[]))))))))
+t6 = (16, v20) ∷ (17, v16) ∷ (18, v17) ∷ (19, Relend.msptr n16 y10 8) ∷ (20, v8) ∷ (21, v1) ∷ (22, v8) ∷ (23, v12) ∷ (24, v18) ∷ []
 
 abbrev pub t7 : List.List Row.Entry
-t7 = List._∷_ e14 (List._∷_ e16 (List._∷_ e18 (List._∷_ e20 (List._∷_ e23 (List._∷_ e25 (List._∷_ e28 (List._∷_ e29 (List._∷_ e31 List.[]))))))))
+t7 = (16, v20) ∷ (17, v16) ∷ (18, v17) ∷ (19, v1) ∷ (20, v27) ∷ (21, v1) ∷ (22, v8) ∷ (23, v12) ∷ (24, v18) ∷ []
 
 abbrev pub t8 : List.List Row.Entry
-t8 = List._∷_ e0 (List._∷_ e2 (List._∷_ e22 (List._∷_ e32 (List._∷_ e34 (List._∷_ e36 (List._∷_ e38 (List._∷_ e39 (List._∷_ e40 (List._∷_ e42 (List._∷_ e4 (List._∷_ e5 (List._∷_ e7 (List._∷_ e8
-    (List._∷_ e10 (List._∷_ e13 List.[])))))))))))))))
+t8 = (0, v7) ∷ (1, v2) ∷ (2, v0) ∷ (3, v3) ∷ (4, v0) ∷ (5, v0) ∷ (6, v0) ∷ (7, v0) ∷ (8, v4) ∷ (9, v23) ∷ (10, v24) ∷ (11, v15) ∷ (12, v5) ∷ (13, v6) ∷ (14, v21) ∷ (15, v19) ∷ []
 
 abbrev pub t9 : List.List Row.Entry
-t9 = List._∷_ e14 (List._∷_ e16 (List._∷_ e18 (List._∷_ e20 (List._∷_ e23 (List._∷_
-    (21, Relend.msptr (Referent.rtF (Referent.fInt Syntax.w16)) (Syntax.tyRef Syntax.erased Syntax.mut (Syntax.tyInt Syntax.w16)) 9) (List._∷_ e28 (List._∷_ e29 (List._∷_ e31 List.[]))))))))
+t9 = (16, v20) ∷ (17, v16) ∷ (18, v17) ∷ (19, v1) ∷ (20, v27) ∷ (21, Relend.msptr n16 y10 9) ∷ (22, v8) ∷ (23, v12) ∷ (24, v18) ∷ []
 
 abbrev pub t10 : List.List Row.Entry
-t10 = List._∷_ e14 (List._∷_ e16 (List._∷_ e18 (List._∷_ e20 (List._∷_ e23 (List._∷_ e25 (List._∷_ e27 (List._∷_ e29 (List._∷_ e31 List.[]))))))))
+t10 = (16, v20) ∷ (17, v16) ∷ (18, v17) ∷ (19, v1) ∷ (20, v27) ∷ (21, v1) ∷ (22, v28) ∷ (23, v12) ∷ (24, v18) ∷ []
 
 abbrev pub t11 : List.List Row.Entry
-t11 = List._∷_ e0 (List._∷_ e2 (List._∷_ e22 (List._∷_ e32 (List._∷_ e34 (List._∷_ e36 (List._∷_ e38 (List._∷_ e39 (List._∷_ e40 (List._∷_ e42 (List._∷_ e4 (List._∷_ e6 (List._∷_ e7 (List._∷_ e8
-    (List._∷_ e10 (List._∷_ e13 List.[])))))))))))))))
+t11 = (0, v7) ∷ (1, v2) ∷ (2, v0) ∷ (3, v3) ∷ (4, v0) ∷ (5, v0) ∷ (6, v0) ∷ (7, v0) ∷ (8, v4) ∷ (9, v23) ∷ (10, v24) ∷ (11, v25) ∷ (12, v5) ∷ (13, v6) ∷ (14, v21) ∷ (15, v19) ∷ []
 
 abbrev pub t12 : List.List Row.Entry
-t12 = List._∷_ e14 (List._∷_ e16 (List._∷_ e18 (List._∷_ e20 (List._∷_ e23 (List._∷_ e25 (List._∷_ e27 (List._∷_
-    (23, Relend.msptr (Element.type) (Syntax.tyRef Syntax.erased Syntax.mut Element.behind) 10) (List._∷_ e31 List.[]))))))))
+t12 = (16, v20) ∷ (17, v16) ∷ (18, v17) ∷ (19, v1) ∷ (20, v27) ∷ (21, v1) ∷ (22, v28) ∷ (23, Relend.msptr (Element.type) y9 10) ∷ (24, v18) ∷ []
 
 abbrev pub t13 : List.List Row.Entry
-t13 = List._∷_ e14 (List._∷_ e16 (List._∷_ e18 (List._∷_ e20 (List._∷_ e23 (List._∷_ e25 (List._∷_ e27 (List._∷_ e29 (List._∷_
-    (24, Mut.mslice (Element.type) (Syntax.tyRef Syntax.erased Syntax.mut Element.behind) 10) List.[]))))))))
+t13 = (16, v20) ∷ (17, v16) ∷ (18, v17) ∷ (19, v1) ∷ (20, v27) ∷ (21, v1) ∷ (22, v28) ∷ (23, v12) ∷ (24, Mut.mslice (Element.type) y9 10) ∷ []
 
 abbrev pub t14 : List.List Row.Entry
-t14 = List._∷_ e0 (List._∷_ e2 (List._∷_ e22 (List._∷_ e32 (List._∷_ e34 (List._∷_ e36 (List._∷_ e38 (List._∷_ e39 (List._∷_ e40 (List._∷_ e42 (List._∷_ e4 (List._∷_ e6 (List._∷_ e7 (List._∷_ e8
-    (List._∷_ e11 (List._∷_ e13 List.[])))))))))))))))
+t14 = (0, v7) ∷ (1, v2) ∷ (2, v0) ∷ (3, v3) ∷ (4, v0) ∷ (5, v0) ∷ (6, v0) ∷ (7, v0) ∷ (8, v4) ∷ (9, v23) ∷ (10, v24) ∷ (11, v25) ∷ (12, v5) ∷ (13, v6) ∷ (14, Rows'.whole (Declared.row Rect.the-type))
+    ∷ (15, v19) ∷ []
 
 abbrev pub t15 : List.List Row.Entry
-t15 = List._∷_ e15 (List._∷_ e16 (List._∷_ e18 (List._∷_ e20 (List._∷_ (20, Mut.msleft (Referent.rtF (Referent.fInt Syntax.w16)) (Syntax.tyRef Syntax.erased Syntax.mut (Syntax.tyInt Syntax.w16)))
-    (List._∷_ e25 (List._∷_ e26 (List._∷_ e29 (List._∷_ e30 List.[]))))))))
+t15 = (16, v26) ∷ (17, v16) ∷ (18, v17) ∷ (19, v1) ∷ (20, v29) ∷ (21, v1) ∷ (22, v29) ∷ (23, v12) ∷ (24, v30) ∷ []
 
 abbrev pub t16 : List.List Row.Entry
-t16 = List._∷_ e0 (List._∷_ e2 (List._∷_ e22 (List._∷_ e32 (List._∷_ e34 (List._∷_ e36 (List._∷_ e38 (List._∷_ e39 (List._∷_ e40 (List._∷_ e42 (List._∷_ e4 (List._∷_ e6 (List._∷_ e7 (List._∷_ e8
-    (List._∷_ e9 (List._∷_ e13 List.[])))))))))))))))
+t16 = (0, v7) ∷ (1, v2) ∷ (2, v0) ∷ (3, v3) ∷ (4, v0) ∷ (5, v0) ∷ (6, v0) ∷ (7, v0) ∷ (8, v4) ∷ (9, v23) ∷ (10, v24) ∷ (11, v25) ∷ (12, v5) ∷ (13, v6) ∷ (14, v9) ∷ (15, v19) ∷ []
 
 abbrev pub t17 : List.List Row.Entry
-t17 = List._∷_ e0 (List._∷_ e2 (List._∷_ e22 (List._∷_ e32 (List._∷_ e34 (List._∷_ e36 (List._∷_ e38 (List._∷_ e39 (List._∷_ e40 (List._∷_ e42 (List._∷_ e4 (List._∷_ e6 (List._∷_ e7 (List._∷_ e8
-    (List._∷_ e9 (List._∷_ e12 List.[])))))))))))))))
+t17 = (0, v7) ∷ (1, v2) ∷ (2, v0) ∷ (3, v3) ∷ (4, v0) ∷ (5, v0) ∷ (6, v0) ∷ (7, v0) ∷ (8, v4) ∷ (9, v23) ∷ (10, v24) ∷ (11, v25) ∷ (12, v5) ∷ (13, v6) ∷ (14, v9) ∷ (15, v11) ∷ []
 
 abbrev pub t18 : List.List Row.Entry
-t18 = List._∷_ e0 (List._∷_ e2 (List._∷_ e22 (List._∷_ e32 (List._∷_ e34 (List._∷_ e36 (List._∷_ e38 (List._∷_ e39 (List._∷_ e40 (List._∷_ e41 (List._∷_ e4 (List._∷_ e6 (List._∷_ e7 (List._∷_ e8
-    (List._∷_ e9 (List._∷_ e12 List.[])))))))))))))))
+t18 = (0, v7) ∷ (1, v2) ∷ (2, v0) ∷ (3, v3) ∷ (4, v0) ∷ (5, v0) ∷ (6, v0) ∷ (7, v0) ∷ (8, v4) ∷ (9, v13) ∷ (10, v24) ∷ (11, v25) ∷ (12, v5) ∷ (13, v6) ∷ (14, v9) ∷ (15, v11) ∷ []
 
 abbrev pub t19 : List.List Row.Entry
-t19 = List._∷_ e15 (List._∷_ e16 (List._∷_ e18 (List._∷_ e20 (List._∷_ e24 (List._∷_ e25 (List._∷_ e26 (List._∷_ e29 (List._∷_ e30 List.[]))))))))
+t19 = (16, v26) ∷ (17, v16) ∷ (18, v17) ∷ (19, v1) ∷ (20, v8) ∷ (21, v1) ∷ (22, v29) ∷ (23, v12) ∷ (24, v30) ∷ []
 
 abbrev pub t20 : List.List Row.Entry
-t20 = List._∷_ e0 (List._∷_ e2 (List._∷_ e22 (List._∷_ e32 (List._∷_ e34 (List._∷_ e36 (List._∷_ e38 (List._∷_ e39 (List._∷_ e40 (List._∷_ e41 (List._∷_ e3 (List._∷_ e6 (List._∷_ e7 (List._∷_ e8
-    (List._∷_ e9 (List._∷_ e12 List.[])))))))))))))))
+t20 = (0, v7) ∷ (1, v2) ∷ (2, v0) ∷ (3, v3) ∷ (4, v0) ∷ (5, v0) ∷ (6, v0) ∷ (7, v0) ∷ (8, v4) ∷ (9, v13) ∷ (10, v14) ∷ (11, v25) ∷ (12, v5) ∷ (13, v6) ∷ (14, v9) ∷ (15, v11) ∷ []
 
 abbrev pub t21 : List.List Row.Entry
-t21 = List._∷_ e15 (List._∷_ e16 (List._∷_ e18 (List._∷_ e20 (List._∷_ e24 (List._∷_ e25 (List._∷_ e28 (List._∷_ e29 (List._∷_ e30 List.[]))))))))
+t21 = (16, v26) ∷ (17, v16) ∷ (18, v17) ∷ (19, v1) ∷ (20, v8) ∷ (21, v1) ∷ (22, v8) ∷ (23, v12) ∷ (24, v30) ∷ []
 
 abbrev pub t22 : List.List Row.Entry
-t22 = List._∷_ e15 (List._∷_ e16 (List._∷_ e18 (List._∷_ e20 (List._∷_ e24 (List._∷_ e25 (List._∷_ e28 (List._∷_ e29 (List._∷_ e31 List.[]))))))))
+t22 = (16, v26) ∷ (17, v16) ∷ (18, v17) ∷ (19, v1) ∷ (20, v8) ∷ (21, v1) ∷ (22, v8) ∷ (23, v12) ∷ (24, v18) ∷ []
 
 abbrev pub t23 : List.List Row.Entry
-t23 = List._∷_ e15 (List._∷_ e17 (List._∷_ e18 (List._∷_ e20 (List._∷_ e24 (List._∷_ e25 (List._∷_ e28 (List._∷_ e29 (List._∷_ e31 List.[]))))))))
+t23 = (16, v26) ∷ (17, v31) ∷ (18, v17) ∷ (19, v1) ∷ (20, v8) ∷ (21, v1) ∷ (22, v8) ∷ (23, v12) ∷ (24, v18) ∷ []
 
 abbrev pub t24 : List.List Row.Entry
-t24 = List._∷_ e15 (List._∷_ e17 (List._∷_ e19 (List._∷_ e20 (List._∷_ e24 (List._∷_ e25 (List._∷_ e28 (List._∷_ e29 (List._∷_ e31 List.[]))))))))
+t24 = (16, v26) ∷ (17, v31) ∷ (18, v32) ∷ (19, v1) ∷ (20, v8) ∷ (21, v1) ∷ (22, v8) ∷ (23, v12) ∷ (24, v18) ∷ []
 
 abbrev pub t25 : List.List Row.Entry
-t25 = List._∷_ e14 (List._∷_ e17 (List._∷_ e19 (List._∷_ e20 (List._∷_ e24 (List._∷_ e25 (List._∷_ e28 (List._∷_ e29 (List._∷_ e31 List.[]))))))))
+t25 = (16, v20) ∷ (17, v31) ∷ (18, v32) ∷ (19, v1) ∷ (20, v8) ∷ (21, v1) ∷ (22, v8) ∷ (23, v12) ∷ (24, v18) ∷ []
 
 abbrev pub t26 : List.List Row.Entry
-t26 = List._∷_ e14 (List._∷_ e16 (List._∷_ e19 (List._∷_ e20 (List._∷_ e24 (List._∷_ e25 (List._∷_ e28 (List._∷_ e29 (List._∷_ e31 List.[]))))))))
+t26 = (16, v20) ∷ (17, v16) ∷ (18, v32) ∷ (19, v1) ∷ (20, v8) ∷ (21, v1) ∷ (22, v8) ∷ (23, v12) ∷ (24, v18) ∷ []
 
 abbrev pub t27 : List.List Row.Entry
-t27 = List._∷_ e1 (List._∷_ e2 (List._∷_ e22 (List._∷_ e32 (List._∷_ e34 (List._∷_ e36 (List._∷_ e38 (List._∷_ e39 (List._∷_ e40 (List._∷_ e41 (List._∷_ e3 (List._∷_ e5 (List._∷_ e7 (List._∷_ e8
-    (List._∷_ e9 (List._∷_ e12 List.[])))))))))))))))
+t27 = (0, v22) ∷ (1, v2) ∷ (2, v0) ∷ (3, v3) ∷ (4, v0) ∷ (5, v0) ∷ (6, v0) ∷ (7, v0) ∷ (8, v4) ∷ (9, v13) ∷ (10, v14) ∷ (11, v15) ∷ (12, v5) ∷ (13, v6) ∷ (14, v9) ∷ (15, v11) ∷ []
 
 abbrev pub t28 : List.List Row.Entry
-t28 = List._∷_ e1 (List._∷_ e2 (List._∷_ e21 (List._∷_ e32 (List._∷_ e34 (List._∷_ e36 (List._∷_ e38 (List._∷_ e39 (List._∷_ e40 (List._∷_ e41 (List._∷_ e3 (List._∷_ e5 (List._∷_ e7 (List._∷_ e8
-    (List._∷_ e9 (List._∷_ e12 List.[])))))))))))))))
+t28 = (0, v22) ∷ (1, v2) ∷ (2, v10) ∷ (3, v3) ∷ (4, v0) ∷ (5, v0) ∷ (6, v0) ∷ (7, v0) ∷ (8, v4) ∷ (9, v13) ∷ (10, v14) ∷ (11, v15) ∷ (12, v5) ∷ (13, v6) ∷ (14, v9) ∷ (15, v11) ∷ []
 
 abbrev pub t29 : List.List Row.Entry
-t29 = List._∷_ e1 (List._∷_ e2 (List._∷_ e21 (List._∷_ e32 (List._∷_ e33 (List._∷_ e36 (List._∷_ e38 (List._∷_ e39 (List._∷_ e40 (List._∷_ e41 (List._∷_ e3 (List._∷_ e5 (List._∷_ e7 (List._∷_ e8
-    (List._∷_ e9 (List._∷_ e12 List.[])))))))))))))))
+t29 = (0, v22) ∷ (1, v2) ∷ (2, v10) ∷ (3, v3) ∷ (4, v10) ∷ (5, v0) ∷ (6, v0) ∷ (7, v0) ∷ (8, v4) ∷ (9, v13) ∷ (10, v14) ∷ (11, v15) ∷ (12, v5) ∷ (13, v6) ∷ (14, v9) ∷ (15, v11) ∷ []
 
 abbrev pub t30 : List.List Row.Entry
-t30 = List._∷_ e1 (List._∷_ e2 (List._∷_ e21 (List._∷_ e32 (List._∷_ e33 (List._∷_ e35 (List._∷_ e38 (List._∷_ e39 (List._∷_ e40 (List._∷_ e41 (List._∷_ e3 (List._∷_ e5 (List._∷_ e7 (List._∷_ e8
-    (List._∷_ e9 (List._∷_ e12 List.[])))))))))))))))
+t30 = (0, v22) ∷ (1, v2) ∷ (2, v10) ∷ (3, v3) ∷ (4, v10) ∷ (5, v10) ∷ (6, v0) ∷ (7, v0) ∷ (8, v4) ∷ (9, v13) ∷ (10, v14) ∷ (11, v15) ∷ (12, v5) ∷ (13, v6) ∷ (14, v9) ∷ (15, v11) ∷ []
 
 abbrev pub t31 : List.List Row.Entry
-t31 = List._∷_ e1 (List._∷_ e2 (List._∷_ e21 (List._∷_ e32 (List._∷_ e33 (List._∷_ e35 (List._∷_ e37 (List._∷_ e39 (List._∷_ e40 (List._∷_ e41 (List._∷_ e3 (List._∷_ e5 (List._∷_ e7 (List._∷_ e8
-    (List._∷_ e9 (List._∷_ e12 List.[])))))))))))))))
+t31 = (0, v22) ∷ (1, v2) ∷ (2, v10) ∷ (3, v3) ∷ (4, v10) ∷ (5, v10) ∷ (6, v10) ∷ (7, v0) ∷ (8, v4) ∷ (9, v13) ∷ (10, v14) ∷ (11, v15) ∷ (12, v5) ∷ (13, v6) ∷ (14, v9) ∷ (15, v11) ∷ []
 
 abbrev pub T0 : Row.Cx
-T0 = record { locals = List._++_ t0 t1; slots = List.[] }
+T0 = record { locals = List._++_ t0 t1; slots = [] }
 
 abbrev pub T1 : Row.Cx
-T1 = record { locals = List._++_ t2 t1; slots = List.[] }
-
-abbrev pub T2 : Row.Cx
-T2 = record { locals = List._++_ t0 t1; slots = List.[] }
-
-abbrev pub T3 : Row.Cx
-T3 = record { locals = List._++_ t0 t1; slots = List.[] }
-
-abbrev pub T4 : Row.Cx
-T4 = record { locals = List._++_ t0 t1; slots = List.[] }
-
-abbrev pub T5 : Row.Cx
-T5 = record { locals = List._++_ t0 t1; slots = List.[] }
+T1 = record { locals = List._++_ t2 t1; slots = [] }
 
 abbrev pub T6 : Row.Cx
-T6 = record { locals = List._++_ t3 t1; slots = List.[] }
+T6 = record { locals = List._++_ t3 t1; slots = [] }
 
 abbrev pub T7 : Row.Cx
-T7 = record { locals = List._++_ t4 t1; slots = List.[] }
+T7 = record { locals = List._++_ t4 t1; slots = [] }
 
 abbrev pub T9 : Row.Cx
-T9 = record { locals = List._++_ t5 t6; slots = List.[] }
+T9 = record { locals = List._++_ t5 t6; slots = [] }
 
 abbrev pub T10 : Row.Cx
-T10 = record { locals = List._++_ t5 t7; slots = List.[] }
+T10 = record { locals = List._++_ t5 t7; slots = [] }
 
 abbrev pub T12 : Row.Cx
-T12 = record { locals = List._++_ t8 t9; slots = List.[] }
+T12 = record { locals = List._++_ t8 t9; slots = [] }
 
 abbrev pub T13 : Row.Cx
-T13 = record { locals = List._++_ t8 t10; slots = List.[] }
+T13 = record { locals = List._++_ t8 t10; slots = [] }
 
 abbrev pub T15 : Row.Cx
-T15 = record { locals = List._++_ t11 t12; slots = List.[] }
+T15 = record { locals = List._++_ t11 t12; slots = [] }
 
 abbrev pub T16 : Row.Cx
-T16 = record { locals = List._++_ t11 t13; slots = List.[] }
+T16 = record { locals = List._++_ t11 t13; slots = [] }
 
 abbrev pub T17 : Row.Cx
-T17 = record { locals = List._++_ t14 t13; slots = List.[] }
+T17 = record { locals = List._++_ t14 t13; slots = [] }
 
 abbrev pub T18 : Row.Cx
-T18 = record { locals = List._++_ t14 t15; slots = List.[] }
+T18 = record { locals = List._++_ t14 t15; slots = [] }
 
 abbrev pub T19 : Row.Cx
-T19 = record { locals = List._++_ t16 t15; slots = List.[] }
+T19 = record { locals = List._++_ t16 t15; slots = [] }
 
 abbrev pub T20 : Row.Cx
-T20 = record { locals = List._++_ t17 t15; slots = List.[] }
+T20 = record { locals = List._++_ t17 t15; slots = [] }
 
 abbrev pub T22 : Row.Cx
-T22 = record { locals = List._++_ t18 t19; slots = List.[] }
-
-abbrev pub T23 : Row.Cx
-T23 = record { locals = List._++_ t18 t19; slots = List.[] }
+T22 = record { locals = List._++_ t18 t19; slots = [] }
 
 abbrev pub T26 : Row.Cx
-T26 = record { locals = List._++_ t20 t21; slots = List.[] }
-
-abbrev pub T27 : Row.Cx
-T27 = record { locals = List._++_ t20 t21; slots = List.[] }
+T26 = record { locals = List._++_ t20 t21; slots = [] }
 
 abbrev pub T30 : Row.Cx
-T30 = record { locals = List._++_ t0 t22; slots = List.[] }
+T30 = record { locals = List._++_ t0 t22; slots = [] }
 
 abbrev pub T32 : Row.Cx
-T32 = record { locals = List._++_ t0 t23; slots = List.[] }
+T32 = record { locals = List._++_ t0 t23; slots = [] }
 
 abbrev pub T33 : Row.Cx
-T33 = record { locals = List._++_ t0 t24; slots = List.[] }
+T33 = record { locals = List._++_ t0 t24; slots = [] }
 
 abbrev pub T34 : Row.Cx
-T34 = record { locals = List._++_ t0 t25; slots = List.[] }
-
-abbrev pub T35 : Row.Cx
-T35 = record { locals = List._++_ t0 t25; slots = List.[] }
+T34 = record { locals = List._++_ t0 t25; slots = [] }
 
 abbrev pub T36 : Row.Cx
-T36 = record { locals = List._++_ t0 t26; slots = List.[] }
-
-abbrev pub T37 : Row.Cx
-T37 = record { locals = List._++_ t0 t26; slots = List.[] }
-
-abbrev pub T38 : Row.Cx
-T38 = record { locals = List._++_ t0 t1; slots = List.[] }
+T36 = record { locals = List._++_ t0 t26; slots = [] }
 
 abbrev pub T39 : Row.Cx
-T39 = record { locals = List._++_ t27 t1; slots = List.[] }
+T39 = record { locals = List._++_ t27 t1; slots = [] }
 
 abbrev pub T40 : Row.Cx
-T40 = record { locals = List._++_ t28 t1; slots = List.[] }
+T40 = record { locals = List._++_ t28 t1; slots = [] }
 
 abbrev pub T41 : Row.Cx
-T41 = record { locals = List._++_ t29 t1; slots = List.[] }
+T41 = record { locals = List._++_ t29 t1; slots = [] }
 
 abbrev pub T42 : Row.Cx
-T42 = record { locals = List._++_ t30 t1; slots = List.[] }
+T42 = record { locals = List._++_ t30 t1; slots = [] }
 
 abbrev pub T43 : Row.Cx
-T43 = record { locals = List._++_ t31 t1; slots = List.[] }
-
-abbrev pub T44 : Row.Cx
-T44 = record { locals = List._++_ t2 t1; slots = List.[] }
+T43 = record { locals = List._++_ t31 t1; slots = [] }
 
 abbrev pub O0 : Typed.Outs
-O0 = record { next = Option.none; exits = List.[]; returns = Option.some T1 }
+O0 = record { next = Option.none; exits = []; returns = Option.some T1 }
 
 module _ (claims· : Claims) where
-  abbrev s0 : Typed.Gives T0 T2
-  s0 = Know.k-shs-known (Referent.fInt Syntax.w8) T0 1 0 (Syntax.tyRef (Syntax.named 0) Syntax.imm (Syntax.tyInt Syntax.w8)) Row.off 0 λ x. x
+  abbrev s0 : Typed.Gives T0 T0
+  s0 = Know.k-shs-known (Referent.fInt Syntax.w8) T0 1 0 y4 Row.off 0 λ x. x
 
-  abbrev s1 : Typed.Gives T2 T3
-  s1 = Know.k-shs-known (Referent.fInt Syntax.w8) T2 3 1 (Syntax.tyRef (Syntax.named 1) Syntax.imm (Syntax.tyInt Syntax.w8)) Row.off 0 λ x. x
+  abbrev s1 : Typed.Gives T0 T0
+  s1 = Know.k-shs-known (Referent.fInt Syntax.w8) T0 3 1 y5 Row.off 0 λ x. x
 
-  abbrev s2 : Typed.Gives T3 T4
-  s2 = Know.k-sl-known (Referent.fInt Syntax.w16) T3 9 3 (Syntax.tyRef (Syntax.named 3) Syntax.mut (Syntax.tyInt Syntax.w16)) Row.off 0 λ x. x
+  abbrev s2 : Typed.Gives T0 T0
+  s2 = Know.k-sl-known (Referent.fInt Syntax.w16) T0 9 3 y6 Row.off 0 λ x. x
 
-  abbrev s3 : Typed.Gives T4 T5
-  s3 = Know.k-sl-known (Referent.fInt Syntax.w16) T4 10 4 (Syntax.tyRef (Syntax.named 4) Syntax.mut (Syntax.tyInt Syntax.w16)) Row.off 0 λ x. x
+  abbrev s3 : Typed.Gives T0 T0
+  s3 = Know.k-sl-known (Referent.fInt Syntax.w16) T0 10 4 y7 Row.off 0 λ x. x
 
-  abbrev s4 : Typed.Mo T5 → Typed.Mo T6
-  s4 = Make.n-struct-make (Apart.apartT Rect.the-type) T5 14 λ m. (m .1 .1 .1 .1 .0, (m .1 .1 .1 .1 .1 .0, (m .1 .1 .1 .1 .1 .1 .0, (m .1 .1 .1 .1 .1 .1 .1 .0, tt))))
+  abbrev s4 : Typed.Mo T0 → Typed.Mo T6
+  s4 = Make.n-struct-make (Apart.apartT Rect.the-type) T0 14 λ m. (m .1 .1 .1 .1 .0, (m .1 .1 .1 .1 .1 .0, (m .1 .1 .1 .1 .1 .1 .0, (m .1 .1 .1 .1 .1 .1 .1 .0, tt))))
 
   abbrev s5 : Typed.Gives T6 T7
-  s5 = DerefMove.k-ref-read-copy T6 8 15 2 (Array'.Array (Referent.rtF (Referent.fInt Syntax.w8)) 36) (Rows'.sref (Array'.Array (Referent.rtF (Referent.fInt Syntax.w8)) 36) (Syntax.tyRef (Syntax.named
-      2) Syntax.imm (Syntax.tyArray (Syntax.tyInt Syntax.w8) 36)) 2) Row.off (Rows.arrF (Referent.rtF (Referent.fInt Syntax.w8)) 36 0) (λ x. x) (λ x. x) (λ x. x) λ x. Unit
+  s5 = DerefMove.k-ref-read-copy T6 8 15 2 (Array'.Array n8 36) (Rows'.sref (Array'.Array n8 36) y14 2) Row.off (Rows.arrF n8 36 0) (λ x. x) (λ x. x) (λ x. x) λ x. Unit
 
   abbrev s7 : Typed.Gives T7 T9
-  s7 = Relend.k-sl-relend (Referent.rtF (Referent.fInt Syntax.w16)) T7 9 19 3 8 (Syntax.tyRef (Syntax.named 3) Syntax.mut (Syntax.tyInt Syntax.w16)) (Syntax.tyRef Syntax.erased Syntax.mut
-      (Syntax.tyInt Syntax.w16)) Row.off λ x. x
+  s7 = Relend.k-sl-relend n16 T7 9 19 3 8 y6 y10 Row.off λ x. x
 
   abbrev s8 : Typed.Asks T9 T10
-  s8 = Relend.k-sl-aggregate (Referent.rtF (Referent.fInt Syntax.w16)) (Relend.asMut (Referent.rtF (Referent.fInt Syntax.w16))) T9 19 20 8 (Syntax.tyRef Syntax.erased Syntax.mut (Syntax.tyInt
-      Syntax.w16)) (Syntax.tyRef Syntax.erased Syntax.mut (Syntax.tyInt Syntax.w16)) (λ x. x) (Scalar.oFld 9 (List._∷_ (Syntax.field 1) List.[]) (Syntax.tyInt Syntax.w64) 8 λ v. Shared.lenV (v .0))
+  s8 = Relend.k-sl-aggregate n16 (Relend.asMut n16) T9 19 20 8 y10 y10 (λ x. x) (Scalar.oFld 9 ((Syntax.field 1) ∷ []) u64 8 λ v. Shared.lenV (v .0))
 
   abbrev s10 : Typed.Gives T10 T12
-  s10 = Relend.k-sl-relend (Referent.rtF (Referent.fInt Syntax.w16)) T10 10 21 4 9 (Syntax.tyRef (Syntax.named 4) Syntax.mut (Syntax.tyInt Syntax.w16)) (Syntax.tyRef Syntax.erased Syntax.mut
-      (Syntax.tyInt Syntax.w16)) Row.off λ x. x
+  s10 = Relend.k-sl-relend n16 T10 10 21 4 9 y7 y10 Row.off λ x. x
 
   abbrev s11 : Typed.Asks T12 T13
-  s11 = Relend.k-sl-aggregate (Referent.rtF (Referent.fInt Syntax.w16)) (Relend.asMut (Referent.rtF (Referent.fInt Syntax.w16))) T12 21 22 9 (Syntax.tyRef Syntax.erased Syntax.mut (Syntax.tyInt
-      Syntax.w16)) (Syntax.tyRef Syntax.erased Syntax.mut (Syntax.tyInt Syntax.w16)) (λ x. x) (Scalar.oFld 10 (List._∷_ (Syntax.field 1) List.[]) (Syntax.tyInt Syntax.w64) 8 λ v. Shared.lenV (v .0))
+  s11 = Relend.k-sl-aggregate n16 (Relend.asMut n16) T12 21 22 9 y10 y10 (λ x. x) (Scalar.oFld 10 ((Syntax.field 1) ∷ []) u64 8 λ v. Shared.lenV (v .0))
 
   abbrev s13 : Typed.Gives T13 T15
-  s13 = Relend.k-sl-relend (Element.type) T13 11 23 5 10 (Syntax.tyRef (Syntax.named 5) Syntax.mut Element.behind) (Syntax.tyRef Syntax.erased Syntax.mut Element.behind) Row.off λ x. x
+  s13 = Relend.k-sl-relend (Element.type) T13 11 23 5 10 y8 y9 Row.off λ x. x
 
   abbrev s14 : Typed.Asks T15 T16
-  s14 = Relend.k-sl-aggregate (Element.type) (Relend.asMut (Element.type)) T15 23 24 10 (Syntax.tyRef Syntax.erased Syntax.mut Element.behind) (Syntax.tyRef Syntax.erased Syntax.mut Element.behind) (λ
-      x. x) (Scalar.oFld 11 (List._∷_ (Syntax.field 1) List.[]) (Syntax.tyInt Syntax.w64) 8 λ v. Shared.lenV (v .0))
+  s14 = Relend.k-sl-aggregate (Element.type) (Relend.asMut (Element.type)) T15 23 24 10 y9 y9 (λ x. x) (Scalar.oFld 11 ((Syntax.field 1) ∷ []) u64 8 λ v. Shared.lenV (v .0))
 
   abbrev s15 : Typed.Mo T16 → Typed.Mo T17
   s15 = AtSlots.n-as-by T16 14 (Rows'.whole (Declared.row Rect.the-type)) λ v. Rect.struct .make v tt
 
-  abbrev s16 : Typed.Both T17 T18
-  s16 = Call.callB ps·0 r·0 (claims· .0) (claims· .1) T17 (
-    record { pos = 1; ty = Syntax.tyRef (Syntax.named 0) Syntax.imm (Syntax.tyInt Syntax.w8); ref = λ x. x },
+  abbrev pub a0 : ArgsT ps·0 (T17 .locals)
+  a0 = (
+    record { pos = 1; ty = y4; ref = λ x. x },
     (
       Num.vAt 2 λ x. x,
       (
-        record { pos = 3; ty = Syntax.tyRef (Syntax.named 1) Syntax.imm (Syntax.tyInt Syntax.w8); ref = λ x. x },
+        record { pos = 3; ty = y5; ref = λ x. x },
         (
-          record { pos = 14; st = List.[]; d = 0; at = λ x. x },
+          record { pos = 14; st = []; d = 0; at = λ x. x },
           (
-            record { pos = 15; st = List.[]; d = 0; at = λ x. x },
-            (
-              record { pos = 20; ty = Syntax.tyRef Syntax.erased Syntax.mut (Syntax.tyInt Syntax.w16); ref = λ x. x },
-              (
-                record { pos = 22; ty = Syntax.tyRef Syntax.erased Syntax.mut (Syntax.tyInt Syntax.w16); ref = λ x. x },
-                (record { pos = 24; ty = Syntax.tyRef Syntax.erased Syntax.mut Element.behind; ref = λ x. x }, tt),
-              ),
-            ),
+            record { pos = 15; st = []; d = 0; at = λ x. x },
+            (record { pos = 20; ty = y10; ref = λ x. x }, (record { pos = 22; ty = y10; ref = λ x. x }, (record { pos = 24; ty = y9; ref = λ x. x }, tt))),
           ),
         ),
       ),
     ),
-  ) 16 (List._∷_ 0 (List._∷_ 1 (List._∷_ 8 (List._∷_ 9 (List._∷_ 10 List.[]))))) y4
+  )
+
+  abbrev s16 : Typed.Both T17 T18
+  s16 = Call.callB ps·0 r·0 (claims· .0) (claims· .1) T17 a0 16 (0 ∷ 1 ∷ 8 ∷ 9 ∷ 10 ∷ []) y19
 
   abbrev s17 : Typed.Mo T18 → Typed.Mo T19
-  s17 = Scalar.n-room T18 14 y0
+  s17 = Scalar.n-room T18 14 y11
 
   abbrev s18 : Typed.Mo T19 → Typed.Mo T20
-  s18 = Scalar.n-room T19 15 (Syntax.tyArray (Syntax.tyInt Syntax.w8) 36)
+  s18 = Scalar.n-room T19 15 y2
 
   abbrev s20 : Typed.Both T20 T22
-  s20 = Relend.k-back-sl (Referent.rtF (Referent.fInt Syntax.w16)) T20 20 9 3 8 (Syntax.tyRef (Syntax.named 3) Syntax.mut (Syntax.tyInt Syntax.w16)) (Syntax.tyRef Syntax.erased Syntax.mut
-      (Syntax.tyInt Syntax.w16)) Row.off (λ x. x) λ x. x
+  s20 = Relend.k-back-sl n16 T20 20 9 3 8 y6 y10 Row.off (λ x. x) λ x. x
 
-  abbrev s21 : Typed.Gives T22 T23
-  s21 = Know.k-sl-known (Referent.fInt Syntax.w16) T22 9 3 (Syntax.tyRef (Syntax.named 3) Syntax.mut (Syntax.tyInt Syntax.w16)) Row.off 0 λ x. x
+  abbrev s21 : Typed.Gives T22 T22
+  s21 = Know.k-sl-known (Referent.fInt Syntax.w16) T22 9 3 y6 Row.off 0 λ x. x
 
-  abbrev s24 : Typed.Both T23 T26
-  s24 = Relend.k-back-sl (Referent.rtF (Referent.fInt Syntax.w16)) T23 22 10 4 9 (Syntax.tyRef (Syntax.named 4) Syntax.mut (Syntax.tyInt Syntax.w16)) (Syntax.tyRef Syntax.erased Syntax.mut
-      (Syntax.tyInt Syntax.w16)) Row.off (λ x. x) λ x. x
+  abbrev s24 : Typed.Both T22 T26
+  s24 = Relend.k-back-sl n16 T22 22 10 4 9 y7 y10 Row.off (λ x. x) λ x. x
 
-  abbrev s25 : Typed.Gives T26 T27
-  s25 = Know.k-sl-known (Referent.fInt Syntax.w16) T26 10 4 (Syntax.tyRef (Syntax.named 4) Syntax.mut (Syntax.tyInt Syntax.w16)) Row.off 0 λ x. x
+  abbrev s25 : Typed.Gives T26 T26
+  s25 = Know.k-sl-known (Referent.fInt Syntax.w16) T26 10 4 y7 Row.off 0 λ x. x
 
-  abbrev s28 : Typed.Both T27 T30
-  s28 = Relend.k-back-sl (Element.type) T27 24 11 5 10 (Syntax.tyRef (Syntax.named 5) Syntax.mut Element.behind) (Syntax.tyRef Syntax.erased Syntax.mut Element.behind) Row.off (λ x. x) λ x. x
+  abbrev s28 : Typed.Both T26 T30
+  s28 = Relend.k-back-sl (Element.type) T26 24 11 5 10 y8 y9 Row.off (λ x. x) λ x. x
 
   abbrev s30 : Typed.Both T30 T32
-  s30 = Call.callB ps·1 r·1 (claims· .2) (claims· .3) T30 (record { pos = 16; st = List.[]; d = 0; at = λ x. x }, tt) 17 List.[] (Syntax.tyArray (Syntax.tyInt Syntax.w64) 2)
+  s30 = Call.callB ps·1 r·1 (claims· .2) (claims· .3) T30 (record { pos = 16; st = []; d = 0; at = λ x. x }, tt) 17 [] y0
 
   abbrev s31 : Typed.Both T32 T33
-  s31 = Call.callB ps·2 r·2 (claims· .4) (claims· .5) T32 (record { pos = 16; st = List.[]; d = 0; at = λ x. x }, tt) 18 List.[] (Syntax.tyArray (Syntax.tyInt Syntax.w64) 4)
+  s31 = Call.callB ps·2 r·2 (claims· .4) (claims· .5) T32 (record { pos = 16; st = []; d = 0; at = λ x. x }, tt) 18 [] y1
 
   abbrev s32 : Typed.Mo T33 → Typed.Mo T34
-  s32 = Scalar.n-room T33 16 y4
+  s32 = Scalar.n-room T33 16 y19
 
-  abbrev s33 : Typed.Mo T34 → Typed.Mo T35
-  s33 = DerefMove.n-ref-write-from T34 12 17 6 (Array'.Array (Referent.rtF (Referent.fInt Syntax.w64)) 2) (Syntax.tyRef (Syntax.named 6) Syntax.mut (Syntax.tyArray (Syntax.tyInt Syntax.w64) 2))
-      Row.off (Rows.arrF (Referent.rtF (Referent.fInt Syntax.w64)) 2 0) (λ x. x) (λ x. x) λ x. x
+  abbrev s33 : Typed.Mo T34 → Typed.Mo T34
+  s33 = DerefMove.n-ref-write-from T34 12 17 6 (Array'.Array n64 2) y15 Row.off (Rows.arrF n64 2 0) (λ x. x) (λ x. x) λ x. x
 
-  abbrev s34 : Typed.Mo T35 → Typed.Mo T36
-  s34 = Scalar.n-room T35 17 (Syntax.tyArray (Syntax.tyInt Syntax.w64) 2)
+  abbrev s34 : Typed.Mo T34 → Typed.Mo T36
+  s34 = Scalar.n-room T34 17 y0
 
-  abbrev s35 : Typed.Mo T36 → Typed.Mo T37
-  s35 = DerefMove.n-ref-write-from T36 13 18 7 (Array'.Array (Referent.rtF (Referent.fInt Syntax.w64)) 4) (Syntax.tyRef (Syntax.named 7) Syntax.mut (Syntax.tyArray (Syntax.tyInt Syntax.w64) 4))
-      Row.off (Rows.arrF (Referent.rtF (Referent.fInt Syntax.w64)) 4 0) (λ x. x) (λ x. x) λ x. x
+  abbrev s35 : Typed.Mo T36 → Typed.Mo T36
+  s35 = DerefMove.n-ref-write-from T36 13 18 7 (Array'.Array n64 4) y16 Row.off (Rows.arrF n64 4 0) (λ x. x) (λ x. x) λ x. x
 
-  abbrev s36 : Typed.Mo T37 → Typed.Mo T38
-  s36 = Scalar.n-room T37 18 (Syntax.tyArray (Syntax.tyInt Syntax.w64) 4)
+  abbrev s36 : Typed.Mo T36 → Typed.Mo T0
+  s36 = Scalar.n-room T36 18 y1
 
-  abbrev s37 : Typed.Mo T38 → Typed.Mo T39
-  s37 = Scalar.n-use T38 Scalar.oUnit 0 (Rows'.sc-here Row.sUnit) (Row.sUnit .of)
+  abbrev s37 : Typed.Mo T0 → Typed.Mo T39
+  s37 = Scalar.n-use T0 Scalar.oUnit 0 (Rows'.sc-here Row.sUnit) (Row.sUnit .of)
 
   abbrev s38 : Typed.Mo T39 → Typed.Mo T40
-  s38 = Scalar.n-room T39 2 (Syntax.tyInt Syntax.w64)
+  s38 = Scalar.n-room T39 2 u64
 
   abbrev s39 : Typed.Mo T40 → Typed.Mo T41
-  s39 = Scalar.n-room T40 4 (Syntax.tyInt Syntax.w64)
+  s39 = Scalar.n-room T40 4 u64
 
   abbrev s40 : Typed.Mo T41 → Typed.Mo T42
-  s40 = Scalar.n-room T41 5 (Syntax.tyInt Syntax.w64)
+  s40 = Scalar.n-room T41 5 u64
 
   abbrev s41 : Typed.Mo T42 → Typed.Mo T43
-  s41 = Scalar.n-room T42 6 (Syntax.tyInt Syntax.w64)
+  s41 = Scalar.n-room T42 6 u64
 
-  abbrev s42 : Typed.Mo T43 → Typed.Mo T44
-  s42 = Scalar.n-room T43 7 (Syntax.tyInt Syntax.w64)
+  abbrev s42 : Typed.Mo T43 → Typed.Mo T1
+  s42 = Scalar.n-room T43 7 u64
 
   module _ (Pre· : (κs : Lifetimes.Lfts 8) → Kinds.Dens κs ps → Type 0) (Post· : (κs : Lifetimes.Lfts 8) → (a : Kinds.Dens κs ps) → Kinds.Plain 8 ps r κs) where
     module _ (M : Type 1) where
       abbrev pub Closed : Type 2
       Closed = (𝓤 : URA.URA M) (H : Wp.Heap 𝓤) (A : Atoms.Atoms 𝓤) (W : Kit.Given 𝓤 H A) (𝓣 : Wp.Tables 𝓤 H) (known0 : Plain.Known 𝓤 H A W 𝓣 5 ps·0 r·0 (claims· .0) (claims· .1)
-          "block::checkpoints::resume_region") (known1 : Plain.Known 𝓤 H A W 𝓣 0 ps·1 r·1 (claims· .2) (claims· .3) "fuji_compressed::reading::totals_words") (known2 : Plain.Known 𝓤 H A W 𝓣 0 ps·2 r·2
-          (claims· .4) (claims· .5) "fuji_compressed::reading::counted_refusal") → Statement.Triple 𝓤 (Wp.WpFn 𝓤 H (𝓣 .C) (𝓣 .Λ) (Function.fnOf 8 ps r xs m hs body)) (Function.plainOf 𝓤 H A 8 ps r Pre·
-          Post·)
+          "block_states::resume_region") (known1 : Plain.Known 𝓤 H A W 𝓣 0 ps·1 r·1 (claims· .2) (claims· .3) "fuji_compressed::reading::totals_words") (known2 : Plain.Known 𝓤 H A W 𝓣 0 ps·2 r·2 (claims·
+          .4) (claims· .5) "fuji_compressed::reading::counted_refusal") → Statement.Triple 𝓤 (Wp.WpFn 𝓤 H (𝓣 .C) (𝓣 .Λ) (Function.fnOf 8 ps r xs m hs body)) (Function.plainOf 𝓤 H A 8 ps r Pre· Post·)
 
     module _ where
-      abbrev at0 : Typed.TF T44 O0
+      abbrev at0 : Typed.TF T1 O0
       at0 = Typed.atRet O0
 
       abbrev at1 : Typed.TF T43 O0
-      at1 = λ Ψ. Typed.pass T43 T44 s42 (at0 Ψ)
+      at1 = λ Ψ. Typed.pass T43 T1 s42 (at0 Ψ)
 
       abbrev at2 : Typed.TF T42 O0
       at2 = λ Ψ. Typed.pass T42 T43 s41 (at1 Ψ)
@@ -817,20 +657,20 @@ module _ (claims· : Claims) where
       abbrev at5 : Typed.TF T39 O0
       at5 = λ Ψ. Typed.pass T39 T40 s38 (at4 Ψ)
 
-      abbrev at6 : Typed.TF T38 O0
-      at6 = λ Ψ. Typed.pass T38 T39 s37 (at5 Ψ)
+      abbrev at6 : Typed.TF T0 O0
+      at6 = λ Ψ. Typed.pass T0 T39 s37 (at5 Ψ)
 
-      abbrev at7 : Typed.TF T37 O0
-      at7 = λ Ψ. Typed.pass T37 T38 s36 (at6 Ψ)
+      abbrev at7 : Typed.TF T36 O0
+      at7 = λ Ψ. Typed.pass T36 T0 s36 (at6 Ψ)
 
       abbrev at8 : Typed.TF T36 O0
-      at8 = λ Ψ. Typed.pass T36 T37 s35 (at7 Ψ)
+      at8 = λ Ψ. Typed.pass T36 T36 s35 (at7 Ψ)
 
-      abbrev at9 : Typed.TF T35 O0
-      at9 = λ Ψ. Typed.pass T35 T36 s34 (at8 Ψ)
+      abbrev at9 : Typed.TF T34 O0
+      at9 = λ Ψ. Typed.pass T34 T36 s34 (at8 Ψ)
 
       abbrev at10 : Typed.TF T34 O0
-      at10 = λ Ψ. Typed.pass T34 T35 s33 (at9 Ψ)
+      at10 = λ Ψ. Typed.pass T34 T34 s33 (at9 Ψ)
 
       abbrev at11 : Typed.TF T33 O0
       at11 = λ Ψ. Typed.pass T33 T34 s32 (at10 Ψ)
@@ -841,41 +681,23 @@ module _ (claims· : Claims) where
       abbrev at13 : Typed.TF T30 O0
       at13 = λ Ψ. Typed.both s30 (at12 Ψ)
 
-      abbrev at14 : Typed.TF T30 O0
-      at14 = λ Ψ. at13 Ψ
-
-      abbrev at15 : Typed.TF T27 O0
-      at15 = λ Ψ. Typed.both s28 (at14 Ψ)
-
-      abbrev at16 : Typed.TF T27 O0
-      at16 = λ Ψ. at15 Ψ
-
-      abbrev at17 : Typed.TF T27 O0
-      at17 = λ Ψ. at16 Ψ
+      abbrev at15 : Typed.TF T26 O0
+      at15 = λ Ψ. Typed.both s28 (at13 Ψ)
 
       abbrev at18 : Typed.TF T26 O0
-      at18 = λ Ψ. Typed.give s25 (at17 Ψ)
+      at18 = λ Ψ. Typed.give s25 (at15 Ψ)
 
-      abbrev at19 : Typed.TF T23 O0
+      abbrev at19 : Typed.TF T22 O0
       at19 = λ Ψ. Typed.both s24 (at18 Ψ)
 
-      abbrev at20 : Typed.TF T23 O0
-      at20 = λ Ψ. at19 Ψ
-
-      abbrev at21 : Typed.TF T23 O0
-      at21 = λ Ψ. at20 Ψ
-
       abbrev at22 : Typed.TF T22 O0
-      at22 = λ Ψ. Typed.give s21 (at21 Ψ)
+      at22 = λ Ψ. Typed.give s21 (at19 Ψ)
 
       abbrev at23 : Typed.TF T20 O0
       at23 = λ Ψ. Typed.both s20 (at22 Ψ)
 
-      abbrev at24 : Typed.TF T20 O0
-      at24 = λ Ψ. at23 Ψ
-
       abbrev at25 : Typed.TF T19 O0
-      at25 = λ Ψ. Typed.pass T19 T20 s18 (at24 Ψ)
+      at25 = λ Ψ. Typed.pass T19 T20 s18 (at23 Ψ)
 
       abbrev at26 : Typed.TF T18 O0
       at26 = λ Ψ. Typed.pass T18 T19 s17 (at25 Ψ)
@@ -892,40 +714,31 @@ module _ (claims· : Claims) where
       abbrev at30 : Typed.TF T13 O0
       at30 = λ Ψ. Typed.give s13 (at29 Ψ)
 
-      abbrev at31 : Typed.TF T13 O0
-      at31 = λ Ψ. at30 Ψ
-
       abbrev at32 : Typed.TF T12 O0
-      at32 = λ Ψ. Typed.ask s11 (at31 Ψ)
+      at32 = λ Ψ. Typed.ask s11 (at30 Ψ)
 
       abbrev at33 : Typed.TF T10 O0
       at33 = λ Ψ. Typed.give s10 (at32 Ψ)
 
-      abbrev at34 : Typed.TF T10 O0
-      at34 = λ Ψ. at33 Ψ
-
       abbrev at35 : Typed.TF T9 O0
-      at35 = λ Ψ. Typed.ask s8 (at34 Ψ)
+      at35 = λ Ψ. Typed.ask s8 (at33 Ψ)
 
       abbrev at36 : Typed.TF T7 O0
       at36 = λ Ψ. Typed.give s7 (at35 Ψ)
 
-      abbrev at37 : Typed.TF T7 O0
-      at37 = λ Ψ. at36 Ψ
-
       abbrev at38 : Typed.TF T6 O0
-      at38 = λ Ψ. Typed.give s5 (at37 Ψ)
+      at38 = λ Ψ. Typed.give s5 (at36 Ψ)
 
-      abbrev at39 : Typed.TF T5 O0
-      at39 = λ Ψ. Typed.pass T5 T6 s4 (at38 Ψ)
+      abbrev at39 : Typed.TF T0 O0
+      at39 = λ Ψ. Typed.pass T0 T6 s4 (at38 Ψ)
 
-      abbrev at40 : Typed.TF T4 O0
+      abbrev at40 : Typed.TF T0 O0
       at40 = λ Ψ. Typed.give s3 (at39 Ψ)
 
-      abbrev at41 : Typed.TF T3 O0
+      abbrev at41 : Typed.TF T0 O0
       at41 = λ Ψ. Typed.give s2 (at40 Ψ)
 
-      abbrev at42 : Typed.TF T2 O0
+      abbrev at42 : Typed.TF T0 O0
       at42 = λ Ψ. Typed.give s1 (at41 Ψ)
 
       abbrev at43 : Typed.TF T0 O0
@@ -936,728 +749,362 @@ module _ (claims· : Claims) where
 
       module _ {M : Type 1} (𝓤 : URA.URA M) (H : Wp.Heap 𝓤) (A : Atoms.Atoms 𝓤) (W : Kit.Given 𝓤 H A) (𝓣 : Wp.Tables 𝓤 H) where
         abbrev Knowns : Type 1
-        Knowns = Plain.Known 𝓤 H A W 𝓣 5 ps·0 r·0 (claims· .0) (claims· .1) "block::checkpoints::resume_region" × Plain.Known 𝓤 H A W 𝓣 0 ps·1 r·1 (claims· .2) (claims· .3)
+        Knowns = Plain.Known 𝓤 H A W 𝓣 5 ps·0 r·0 (claims· .0) (claims· .1) "block_states::resume_region" × Plain.Known 𝓤 H A W 𝓣 0 ps·1 r·1 (claims· .2) (claims· .3)
             "fuji_compressed::reading::totals_words" × Plain.Known 𝓤 H A W 𝓣 0 ps·2 r·2 (claims· .4) (claims· .5) "fuji_compressed::reading::counted_refusal"
 
       module _ (κs : Lifetimes.Lfts 8) (qs : Lifetimes.Shares 8) where
+        abbrev k0 : Row.Life
+        k0 = Row.lease (κs .0) (qs .0)
+
+        abbrev k1 : Row.Life
+        k1 = Row.lease (κs .1 .0) (qs .1 .0)
+
+        abbrev k2 : Row.Life
+        k2 = Row.lease (κs .1 .1 .0) (qs .1 .1 .0)
+
+        abbrev k3 : Row.Life
+        k3 = Row.lease (κs .1 .1 .1 .0) (qs .1 .1 .1 .0)
+
+        abbrev k4 : Row.Life
+        k4 = Row.lease (κs .1 .1 .1 .1 .0) (qs .1 .1 .1 .1 .0)
+
+        abbrev k5 : Row.Life
+        k5 = Row.lease (κs .1 .1 .1 .1 .1 .0) (qs .1 .1 .1 .1 .1 .0)
+
+        abbrev k6 : Row.Life
+        k6 = Row.lease (κs .1 .1 .1 .1 .1 .1 .0) (qs .1 .1 .1 .1 .1 .1 .0)
+
+        abbrev k7 : Row.Life
+        k7 = Row.lease (κs .1 .1 .1 .1 .1 .1 .1 .0) (qs .1 .1 .1 .1 .1 .1 .1 .0)
+
+        abbrev l0 : List.List Row.Life
+        l0 = k0 ∷ k1 ∷ k2 ∷ Row.off ∷ Row.off ∷ Row.off ∷ k6 ∷ k7 ∷ Row.alive ∷ Row.alive ∷ Row.alive ∷ []
+
+        abbrev l1 : List.List Row.Life
+        l1 = k0 ∷ k1 ∷ k2 ∷ Row.off ∷ Row.off ∷ k5 ∷ k6 ∷ k7 ∷ Row.alive ∷ Row.alive ∷ Row.off ∷ []
+
+        abbrev l2 : List.List Row.Life
+        l2 = k0 ∷ k1 ∷ k2 ∷ Row.off ∷ k4 ∷ k5 ∷ k6 ∷ k7 ∷ Row.alive ∷ Row.off ∷ Row.off ∷ []
+
+        abbrev l3 : List.List Row.Life
+        l3 = k0 ∷ k1 ∷ k2 ∷ k3 ∷ Row.off ∷ Row.off ∷ k6 ∷ k7 ∷ Row.dead ∷ Row.alive ∷ Row.alive ∷ []
+
+        abbrev l4 : List.List Row.Life
+        l4 = k0 ∷ k1 ∷ k2 ∷ k3 ∷ k4 ∷ Row.off ∷ k6 ∷ k7 ∷ Row.off ∷ Row.dead ∷ Row.alive ∷ []
+
+        abbrev l5 : List.List Row.Life
+        l5 = k0 ∷ k1 ∷ k2 ∷ k3 ∷ k4 ∷ k5 ∷ k6 ∷ k7 ∷ Row.off ∷ Row.off ∷ Row.off ∷ []
+
+        abbrev h0 : Row.Row
+        h0 = Relend.mslice-owed n16 y6 3 8 k3
+
+        abbrev h1 : Row.Row
+        h1 = Relend.mslice-owed n16 y7 4 9 k4
+
+        abbrev h2 : Row.Row
+        h2 = Relend.mslice-owed (Element.type) y8 5 10 k5
+
         abbrev g5 : List.List Row.Entry
-        g5 = List._∷_ e0 (List._∷_ e2 (List._∷_ e22 (List._∷_ e32 (List._∷_ e34 (List._∷_ e36 (List._∷_ e38 (List._∷_ e39 (List._∷_ e40 (List._∷_
-            (9, Relend.mslice-owed (Referent.rtF (Referent.fInt Syntax.w16)) (Syntax.tyRef (Syntax.named 3) Syntax.mut (Syntax.tyInt Syntax.w16)) 3 8 (Row.lease (κs .1 .1 .1 .0) (qs .1 .1 .1 .0)))
-            (List._∷_ e3 (List._∷_ e5 (List._∷_ e7 (List._∷_ e8 (List._∷_ e10 (List._∷_ e13 List.[])))))))))))))))
+        g5 = (0, v7) ∷ (1, v2) ∷ (2, v0) ∷ (3, v3) ∷ (4, v0) ∷ (5, v0) ∷ (6, v0) ∷ (7, v0) ∷ (8, v4) ∷ (9, h0) ∷ (10, v14) ∷ (11, v15) ∷ (12, v5) ∷ (13, v6) ∷ (14, v21) ∷ (15, v19) ∷ []
 
         abbrev g8 : List.List Row.Entry
-        g8 = List._∷_ e0 (List._∷_ e2 (List._∷_ e22 (List._∷_ e32 (List._∷_ e34 (List._∷_ e36 (List._∷_ e38 (List._∷_ e39 (List._∷_ e40 (List._∷_
-            (9, Relend.mslice-owed (Referent.rtF (Referent.fInt Syntax.w16)) (Syntax.tyRef (Syntax.named 3) Syntax.mut (Syntax.tyInt Syntax.w16)) 3 8 (Row.lease (κs .1 .1 .1 .0) (qs .1 .1 .1 .0)))
-            (List._∷_
-            (10, Relend.mslice-owed (Referent.rtF (Referent.fInt Syntax.w16)) (Syntax.tyRef (Syntax.named 4) Syntax.mut (Syntax.tyInt Syntax.w16)) 4 9 (Row.lease (κs .1 .1 .1 .1 .0) (qs .1 .1 .1 .1 .0)))
-            (List._∷_ e5 (List._∷_ e7 (List._∷_ e8 (List._∷_ e10 (List._∷_ e13 List.[])))))))))))))))
+        g8 = (0, v7) ∷ (1, v2) ∷ (2, v0) ∷ (3, v3) ∷ (4, v0) ∷ (5, v0) ∷ (6, v0) ∷ (7, v0) ∷ (8, v4) ∷ (9, h0) ∷ (10, h1) ∷ (11, v15) ∷ (12, v5) ∷ (13, v6) ∷ (14, v21) ∷ (15, v19) ∷ []
 
         abbrev g11 : List.List Row.Entry
-        g11 = List._∷_ e0 (List._∷_ e2 (List._∷_ e22 (List._∷_ e32 (List._∷_ e34 (List._∷_ e36 (List._∷_ e38 (List._∷_ e39 (List._∷_ e40 (List._∷_
-            (9, Relend.mslice-owed (Referent.rtF (Referent.fInt Syntax.w16)) (Syntax.tyRef (Syntax.named 3) Syntax.mut (Syntax.tyInt Syntax.w16)) 3 8 (Row.lease (κs .1 .1 .1 .0) (qs .1 .1 .1 .0)))
-            (List._∷_
-            (10, Relend.mslice-owed (Referent.rtF (Referent.fInt Syntax.w16)) (Syntax.tyRef (Syntax.named 4) Syntax.mut (Syntax.tyInt Syntax.w16)) 4 9 (Row.lease (κs .1 .1 .1 .1 .0) (qs .1 .1 .1 .1 .0)))
-            (List._∷_ (11, Relend.mslice-owed (Element.type) (Syntax.tyRef (Syntax.named 5) Syntax.mut Element.behind) 5 10 (Row.lease (κs .1 .1 .1 .1 .1 .0) (qs .1 .1 .1 .1 .1 .0))) (List._∷_ e7
-            (List._∷_ e8 (List._∷_ e10 (List._∷_ e13 List.[])))))))))))))))
+        g11 = (0, v7) ∷ (1, v2) ∷ (2, v0) ∷ (3, v3) ∷ (4, v0) ∷ (5, v0) ∷ (6, v0) ∷ (7, v0) ∷ (8, v4) ∷ (9, h0) ∷ (10, h1) ∷ (11, h2) ∷ (12, v5) ∷ (13, v6) ∷ (14, v21) ∷ (15, v19) ∷ []
 
         abbrev g14 : List.List Row.Entry
-        g14 = List._∷_ e0 (List._∷_ e2 (List._∷_ e22 (List._∷_ e32 (List._∷_ e34 (List._∷_ e36 (List._∷_ e38 (List._∷_ e39 (List._∷_ e40 (List._∷_
-            (9, Relend.mslice-owed (Referent.rtF (Referent.fInt Syntax.w16)) (Syntax.tyRef (Syntax.named 3) Syntax.mut (Syntax.tyInt Syntax.w16)) 3 8 (Row.lease (κs .1 .1 .1 .0) (qs .1 .1 .1 .0)))
-            (List._∷_
-            (10, Relend.mslice-owed (Referent.rtF (Referent.fInt Syntax.w16)) (Syntax.tyRef (Syntax.named 4) Syntax.mut (Syntax.tyInt Syntax.w16)) 4 9 (Row.lease (κs .1 .1 .1 .1 .0) (qs .1 .1 .1 .1 .0)))
-            (List._∷_ (11, Relend.mslice-owed (Element.type) (Syntax.tyRef (Syntax.named 5) Syntax.mut Element.behind) 5 10 (Row.lease (κs .1 .1 .1 .1 .1 .0) (qs .1 .1 .1 .1 .1 .0))) (List._∷_ e7
-            (List._∷_ e8 (List._∷_ e11 (List._∷_ e13 List.[])))))))))))))))
+        g14 = (0, v7) ∷ (1, v2) ∷ (2, v0) ∷ (3, v3) ∷ (4, v0) ∷ (5, v0) ∷ (6, v0) ∷ (7, v0) ∷ (8, v4) ∷ (9, h0) ∷ (10, h1) ∷ (11, h2) ∷ (12, v5) ∷ (13, v6) ∷
+            (14, Rows'.whole (Declared.row Rect.the-type)) ∷ (15, v19) ∷ []
 
         abbrev g16 : List.List Row.Entry
-        g16 = List._∷_ e0 (List._∷_ e2 (List._∷_ e22 (List._∷_ e32 (List._∷_ e34 (List._∷_ e36 (List._∷_ e38 (List._∷_ e39 (List._∷_ e40 (List._∷_
-            (9, Relend.mslice-owed (Referent.rtF (Referent.fInt Syntax.w16)) (Syntax.tyRef (Syntax.named 3) Syntax.mut (Syntax.tyInt Syntax.w16)) 3 8 (Row.lease (κs .1 .1 .1 .0) (qs .1 .1 .1 .0)))
-            (List._∷_
-            (10, Relend.mslice-owed (Referent.rtF (Referent.fInt Syntax.w16)) (Syntax.tyRef (Syntax.named 4) Syntax.mut (Syntax.tyInt Syntax.w16)) 4 9 (Row.lease (κs .1 .1 .1 .1 .0) (qs .1 .1 .1 .1 .0)))
-            (List._∷_ (11, Relend.mslice-owed (Element.type) (Syntax.tyRef (Syntax.named 5) Syntax.mut Element.behind) 5 10 (Row.lease (κs .1 .1 .1 .1 .1 .0) (qs .1 .1 .1 .1 .1 .0))) (List._∷_ e7
-            (List._∷_ e8 (List._∷_ e9 (List._∷_ e13 List.[])))))))))))))))
+        g16 = (0, v7) ∷ (1, v2) ∷ (2, v0) ∷ (3, v3) ∷ (4, v0) ∷ (5, v0) ∷ (6, v0) ∷ (7, v0) ∷ (8, v4) ∷ (9, h0) ∷ (10, h1) ∷ (11, h2) ∷ (12, v5) ∷ (13, v6) ∷ (14, v9) ∷ (15, v19) ∷ []
 
         abbrev g17 : List.List Row.Entry
-        g17 = List._∷_ e0 (List._∷_ e2 (List._∷_ e22 (List._∷_ e32 (List._∷_ e34 (List._∷_ e36 (List._∷_ e38 (List._∷_ e39 (List._∷_ e40 (List._∷_
-            (9, Relend.mslice-owed (Referent.rtF (Referent.fInt Syntax.w16)) (Syntax.tyRef (Syntax.named 3) Syntax.mut (Syntax.tyInt Syntax.w16)) 3 8 (Row.lease (κs .1 .1 .1 .0) (qs .1 .1 .1 .0)))
-            (List._∷_
-            (10, Relend.mslice-owed (Referent.rtF (Referent.fInt Syntax.w16)) (Syntax.tyRef (Syntax.named 4) Syntax.mut (Syntax.tyInt Syntax.w16)) 4 9 (Row.lease (κs .1 .1 .1 .1 .0) (qs .1 .1 .1 .1 .0)))
-            (List._∷_ (11, Relend.mslice-owed (Element.type) (Syntax.tyRef (Syntax.named 5) Syntax.mut Element.behind) 5 10 (Row.lease (κs .1 .1 .1 .1 .1 .0) (qs .1 .1 .1 .1 .1 .0))) (List._∷_ e7
-            (List._∷_ e8 (List._∷_ e9 (List._∷_ e12 List.[])))))))))))))))
+        g17 = (0, v7) ∷ (1, v2) ∷ (2, v0) ∷ (3, v3) ∷ (4, v0) ∷ (5, v0) ∷ (6, v0) ∷ (7, v0) ∷ (8, v4) ∷ (9, h0) ∷ (10, h1) ∷ (11, h2) ∷ (12, v5) ∷ (13, v6) ∷ (14, v9) ∷ (15, v11) ∷ []
 
         abbrev g18 : List.List Row.Entry
-        g18 = List._∷_ e0 (List._∷_ e2 (List._∷_ e22 (List._∷_ e32 (List._∷_ e34 (List._∷_ e36 (List._∷_ e38 (List._∷_ e39 (List._∷_ e40 (List._∷_ e41 (List._∷_
-            (10, Relend.mslice-owed (Referent.rtF (Referent.fInt Syntax.w16)) (Syntax.tyRef (Syntax.named 4) Syntax.mut (Syntax.tyInt Syntax.w16)) 4 9 (Row.lease (κs .1 .1 .1 .1 .0) (qs .1 .1 .1 .1 .0)))
-            (List._∷_ (11, Relend.mslice-owed (Element.type) (Syntax.tyRef (Syntax.named 5) Syntax.mut Element.behind) 5 10 (Row.lease (κs .1 .1 .1 .1 .1 .0) (qs .1 .1 .1 .1 .1 .0))) (List._∷_ e7
-            (List._∷_ e8 (List._∷_ e9 (List._∷_ e12 List.[])))))))))))))))
+        g18 = (0, v7) ∷ (1, v2) ∷ (2, v0) ∷ (3, v3) ∷ (4, v0) ∷ (5, v0) ∷ (6, v0) ∷ (7, v0) ∷ (8, v4) ∷ (9, v13) ∷ (10, h1) ∷ (11, h2) ∷ (12, v5) ∷ (13, v6) ∷ (14, v9) ∷ (15, v11) ∷ []
 
         abbrev g20 : List.List Row.Entry
-        g20 = List._∷_ e0 (List._∷_ e2 (List._∷_ e22 (List._∷_ e32 (List._∷_ e34 (List._∷_ e36 (List._∷_ e38 (List._∷_ e39 (List._∷_ e40 (List._∷_ e41 (List._∷_ e3 (List._∷_
-            (11, Relend.mslice-owed (Element.type) (Syntax.tyRef (Syntax.named 5) Syntax.mut Element.behind) 5 10 (Row.lease (κs .1 .1 .1 .1 .1 .0) (qs .1 .1 .1 .1 .1 .0))) (List._∷_ e7 (List._∷_ e8
-            (List._∷_ e9 (List._∷_ e12 List.[])))))))))))))))
-
-        abbrev G0 : Row.Cx
-        G0 = record {
-          locals = List._++_ t0 t1;
-          slots = List._∷_ (Row.lease (κs .0) (qs .0)) (List._∷_ (Row.lease (κs .1 .0) (qs .1 .0)) (List._∷_ (Row.lease (κs .1 .1 .0) (qs .1 .1 .0)) (List._∷_ (Row.lease (κs
-              .1 .1 .1 .0) (qs .1 .1 .1 .0)) (List._∷_ (Row.lease (κs .1 .1 .1 .1 .0) (qs .1 .1 .1 .1 .0)) (List._∷_ (Row.lease (κs .1 .1 .1 .1 .1 .0) (qs .1 .1 .1 .1 .1 .0)) (List._∷_ (Row.lease (κs .1 .1
-              .1 .1 .1 .1 .0) (qs .1 .1 .1 .1 .1 .1 .0)) (List._∷_ (Row.lease (κs .1 .1 .1 .1 .1 .1 .1 .0) (qs .1 .1 .1 .1 .1 .1 .1 .0)) (List._∷_ Row.off (List._∷_ Row.off (List._∷_ Row.off
-              List.[]))))))))));
-        }
-
-        abbrev G1 : Row.Cx
-        G1 = record {
-          locals = List._++_ t2 t1;
-          slots = List._∷_ (Row.lease (κs .0) (qs .0)) (List._∷_ (Row.lease (κs .1 .0) (qs .1 .0)) (List._∷_ (Row.lease (κs .1 .1 .0) (qs .1 .1 .0)) (List._∷_ (Row.lease (κs
-              .1 .1 .1 .0) (qs .1 .1 .1 .0)) (List._∷_ (Row.lease (κs .1 .1 .1 .1 .0) (qs .1 .1 .1 .1 .0)) (List._∷_ (Row.lease (κs .1 .1 .1 .1 .1 .0) (qs .1 .1 .1 .1 .1 .0)) (List._∷_ (Row.lease (κs .1 .1
-              .1 .1 .1 .1 .0) (qs .1 .1 .1 .1 .1 .1 .0)) (List._∷_ (Row.lease (κs .1 .1 .1 .1 .1 .1 .1 .0) (qs .1 .1 .1 .1 .1 .1 .1 .0)) (List._∷_ Row.off (List._∷_ Row.off (List._∷_ Row.off
-              List.[]))))))))));
-        }
-
-        abbrev G2 : Row.Cx
-        G2 = record {
-          locals = List._++_ t0 t1;
-          slots = List._∷_ (Row.lease (κs .0) (qs .0)) (List._∷_ (Row.lease (κs .1 .0) (qs .1 .0)) (List._∷_ (Row.lease (κs .1 .1 .0) (qs .1 .1 .0)) (List._∷_ (Row.lease (κs
-              .1 .1 .1 .0) (qs .1 .1 .1 .0)) (List._∷_ (Row.lease (κs .1 .1 .1 .1 .0) (qs .1 .1 .1 .1 .0)) (List._∷_ (Row.lease (κs .1 .1 .1 .1 .1 .0) (qs .1 .1 .1 .1 .1 .0)) (List._∷_ (Row.lease (κs .1 .1
-              .1 .1 .1 .1 .0) (qs .1 .1 .1 .1 .1 .1 .0)) (List._∷_ (Row.lease (κs .1 .1 .1 .1 .1 .1 .1 .0) (qs .1 .1 .1 .1 .1 .1 .1 .0)) (List._∷_ Row.off (List._∷_ Row.off (List._∷_ Row.off
-              List.[]))))))))));
-        }
-
-        abbrev G3 : Row.Cx
-        G3 = record {
-          locals = List._++_ t0 t1;
-          slots = List._∷_ (Row.lease (κs .0) (qs .0)) (List._∷_ (Row.lease (κs .1 .0) (qs .1 .0)) (List._∷_ (Row.lease (κs .1 .1 .0) (qs .1 .1 .0)) (List._∷_ (Row.lease (κs
-              .1 .1 .1 .0) (qs .1 .1 .1 .0)) (List._∷_ (Row.lease (κs .1 .1 .1 .1 .0) (qs .1 .1 .1 .1 .0)) (List._∷_ (Row.lease (κs .1 .1 .1 .1 .1 .0) (qs .1 .1 .1 .1 .1 .0)) (List._∷_ (Row.lease (κs .1 .1
-              .1 .1 .1 .1 .0) (qs .1 .1 .1 .1 .1 .1 .0)) (List._∷_ (Row.lease (κs .1 .1 .1 .1 .1 .1 .1 .0) (qs .1 .1 .1 .1 .1 .1 .1 .0)) (List._∷_ Row.off (List._∷_ Row.off (List._∷_ Row.off
-              List.[]))))))))));
-        }
-
-        abbrev G4 : Row.Cx
-        G4 = record {
-          locals = List._++_ t0 t1;
-          slots = List._∷_ (Row.lease (κs .0) (qs .0)) (List._∷_ (Row.lease (κs .1 .0) (qs .1 .0)) (List._∷_ (Row.lease (κs .1 .1 .0) (qs .1 .1 .0)) (List._∷_ (Row.lease (κs
-              .1 .1 .1 .0) (qs .1 .1 .1 .0)) (List._∷_ (Row.lease (κs .1 .1 .1 .1 .0) (qs .1 .1 .1 .1 .0)) (List._∷_ (Row.lease (κs .1 .1 .1 .1 .1 .0) (qs .1 .1 .1 .1 .1 .0)) (List._∷_ (Row.lease (κs .1 .1
-              .1 .1 .1 .1 .0) (qs .1 .1 .1 .1 .1 .1 .0)) (List._∷_ (Row.lease (κs .1 .1 .1 .1 .1 .1 .1 .0) (qs .1 .1 .1 .1 .1 .1 .1 .0)) (List._∷_ Row.off (List._∷_ Row.off (List._∷_ Row.off
-              List.[]))))))))));
-        }
-
-        abbrev G5 : Row.Cx
-        G5 = record {
-          locals = List._++_ t0 t1;
-          slots = List._∷_ (Row.lease (κs .0) (qs .0)) (List._∷_ (Row.lease (κs .1 .0) (qs .1 .0)) (List._∷_ (Row.lease (κs .1 .1 .0) (qs .1 .1 .0)) (List._∷_ (Row.lease (κs
-              .1 .1 .1 .0) (qs .1 .1 .1 .0)) (List._∷_ (Row.lease (κs .1 .1 .1 .1 .0) (qs .1 .1 .1 .1 .0)) (List._∷_ (Row.lease (κs .1 .1 .1 .1 .1 .0) (qs .1 .1 .1 .1 .1 .0)) (List._∷_ (Row.lease (κs .1 .1
-              .1 .1 .1 .1 .0) (qs .1 .1 .1 .1 .1 .1 .0)) (List._∷_ (Row.lease (κs .1 .1 .1 .1 .1 .1 .1 .0) (qs .1 .1 .1 .1 .1 .1 .1 .0)) (List._∷_ Row.off (List._∷_ Row.off (List._∷_ Row.off
-              List.[]))))))))));
-        }
-
-        abbrev G6 : Row.Cx
-        G6 = record {
-          locals = List._++_ t3 t1;
-          slots = List._∷_ (Row.lease (κs .0) (qs .0)) (List._∷_ (Row.lease (κs .1 .0) (qs .1 .0)) (List._∷_ (Row.lease (κs .1 .1 .0) (qs .1 .1 .0)) (List._∷_ (Row.lease (κs
-              .1 .1 .1 .0) (qs .1 .1 .1 .0)) (List._∷_ (Row.lease (κs .1 .1 .1 .1 .0) (qs .1 .1 .1 .1 .0)) (List._∷_ (Row.lease (κs .1 .1 .1 .1 .1 .0) (qs .1 .1 .1 .1 .1 .0)) (List._∷_ (Row.lease (κs .1 .1
-              .1 .1 .1 .1 .0) (qs .1 .1 .1 .1 .1 .1 .0)) (List._∷_ (Row.lease (κs .1 .1 .1 .1 .1 .1 .1 .0) (qs .1 .1 .1 .1 .1 .1 .1 .0)) (List._∷_ Row.off (List._∷_ Row.off (List._∷_ Row.off
-              List.[]))))))))));
-        }
-
-        abbrev G7 : Row.Cx
-        G7 = record {
-          locals = List._++_ t4 t1;
-          slots = List._∷_ (Row.lease (κs .0) (qs .0)) (List._∷_ (Row.lease (κs .1 .0) (qs .1 .0)) (List._∷_ (Row.lease (κs .1 .1 .0) (qs .1 .1 .0)) (List._∷_ (Row.lease (κs
-              .1 .1 .1 .0) (qs .1 .1 .1 .0)) (List._∷_ (Row.lease (κs .1 .1 .1 .1 .0) (qs .1 .1 .1 .1 .0)) (List._∷_ (Row.lease (κs .1 .1 .1 .1 .1 .0) (qs .1 .1 .1 .1 .1 .0)) (List._∷_ (Row.lease (κs .1 .1
-              .1 .1 .1 .1 .0) (qs .1 .1 .1 .1 .1 .1 .0)) (List._∷_ (Row.lease (κs .1 .1 .1 .1 .1 .1 .1 .0) (qs .1 .1 .1 .1 .1 .1 .1 .0)) (List._∷_ Row.off (List._∷_ Row.off (List._∷_ Row.off
-              List.[]))))))))));
-        }
+        g20 = (0, v7) ∷ (1, v2) ∷ (2, v0) ∷ (3, v3) ∷ (4, v0) ∷ (5, v0) ∷ (6, v0) ∷ (7, v0) ∷ (8, v4) ∷ (9, v13) ∷ (10, v14) ∷ (11, h2) ∷ (12, v5) ∷ (13, v6) ∷ (14, v9) ∷ (15, v11) ∷ []
 
         abbrev G8 : Row.Cx
-        G8 = record {
-          locals = List._++_ t4 t1;
-          slots = List._∷_ (Row.lease (κs .0) (qs .0)) (List._∷_ (Row.lease (κs .1 .0) (qs .1 .0)) (List._∷_ (Row.lease (κs .1 .1 .0) (qs .1 .1 .0)) (List._∷_ (Row.lease (κs
-              .1 .1 .1 .0) (qs .1 .1 .1 .0)) (List._∷_ (Row.lease (κs .1 .1 .1 .1 .0) (qs .1 .1 .1 .1 .0)) (List._∷_ (Row.lease (κs .1 .1 .1 .1 .1 .0) (qs .1 .1 .1 .1 .1 .0)) (List._∷_ (Row.lease (κs .1 .1
-              .1 .1 .1 .1 .0) (qs .1 .1 .1 .1 .1 .1 .0)) (List._∷_ (Row.lease (κs .1 .1 .1 .1 .1 .1 .1 .0) (qs .1 .1 .1 .1 .1 .1 .1 .0)) (List._∷_ Row.alive (List._∷_ Row.off (List._∷_ Row.off
-              List.[]))))))))));
-        }
+        G8 = record { locals = List._++_ t4 t1; slots = k0 ∷ k1 ∷ k2 ∷ k3 ∷ k4 ∷ k5 ∷ k6 ∷ k7 ∷ Row.alive ∷ Row.off ∷ Row.off ∷ [] }
 
         abbrev G9 : Row.Cx
-        G9 = record {
-          locals = List._++_ g5 t6;
-          slots = List._∷_ (Row.lease (κs .0) (qs .0)) (List._∷_ (Row.lease (κs .1 .0) (qs .1 .0)) (List._∷_ (Row.lease (κs .1 .1 .0) (qs .1 .1 .0)) (List._∷_ Row.off
-              (List._∷_ (Row.lease (κs .1 .1 .1 .1 .0) (qs .1 .1 .1 .1 .0)) (List._∷_ (Row.lease (κs .1 .1 .1 .1 .1 .0) (qs .1 .1 .1 .1 .1 .0)) (List._∷_ (Row.lease (κs .1 .1 .1 .1 .1 .1 .0) (qs .1 .1 .1 .1
-              .1 .1 .0)) (List._∷_ (Row.lease (κs .1 .1 .1 .1 .1 .1 .1 .0) (qs .1 .1 .1 .1 .1 .1 .1 .0)) (List._∷_ Row.alive (List._∷_ Row.off (List._∷_ Row.off List.[]))))))))));
-        }
+        G9 = record { locals = List._++_ g5 t6; slots = l2 }
 
         abbrev G10 : Row.Cx
-        G10 = record {
-          locals = List._++_ g5 t7;
-          slots = List._∷_ (Row.lease (κs .0) (qs .0)) (List._∷_ (Row.lease (κs .1 .0) (qs .1 .0)) (List._∷_ (Row.lease (κs .1 .1 .0) (qs .1 .1 .0)) (List._∷_ Row.off
-              (List._∷_ (Row.lease (κs .1 .1 .1 .1 .0) (qs .1 .1 .1 .1 .0)) (List._∷_ (Row.lease (κs .1 .1 .1 .1 .1 .0) (qs .1 .1 .1 .1 .1 .0)) (List._∷_ (Row.lease (κs .1 .1 .1 .1 .1 .1 .0) (qs .1 .1 .1 .1
-              .1 .1 .0)) (List._∷_ (Row.lease (κs .1 .1 .1 .1 .1 .1 .1 .0) (qs .1 .1 .1 .1 .1 .1 .1 .0)) (List._∷_ Row.alive (List._∷_ Row.off (List._∷_ Row.off List.[]))))))))));
-        }
+        G10 = record { locals = List._++_ g5 t7; slots = l2 }
 
         abbrev G11 : Row.Cx
-        G11 = record {
-          locals = List._++_ g5 t7;
-          slots = List._∷_ (Row.lease (κs .0) (qs .0)) (List._∷_ (Row.lease (κs .1 .0) (qs .1 .0)) (List._∷_ (Row.lease (κs .1 .1 .0) (qs .1 .1 .0)) (List._∷_ Row.off
-              (List._∷_ (Row.lease (κs .1 .1 .1 .1 .0) (qs .1 .1 .1 .1 .0)) (List._∷_ (Row.lease (κs .1 .1 .1 .1 .1 .0) (qs .1 .1 .1 .1 .1 .0)) (List._∷_ (Row.lease (κs .1 .1 .1 .1 .1 .1 .0) (qs .1 .1 .1 .1
-              .1 .1 .0)) (List._∷_ (Row.lease (κs .1 .1 .1 .1 .1 .1 .1 .0) (qs .1 .1 .1 .1 .1 .1 .1 .0)) (List._∷_ Row.alive (List._∷_ Row.alive (List._∷_ Row.off List.[]))))))))));
-        }
+        G11 = record { locals = List._++_ g5 t7; slots = k0 ∷ k1 ∷ k2 ∷ Row.off ∷ k4 ∷ k5 ∷ k6 ∷ k7 ∷ Row.alive ∷ Row.alive ∷ Row.off ∷ [] }
 
         abbrev G12 : Row.Cx
-        G12 = record {
-          locals = List._++_ g8 t9;
-          slots = List._∷_ (Row.lease (κs .0) (qs .0)) (List._∷_ (Row.lease (κs .1 .0) (qs .1 .0)) (List._∷_ (Row.lease (κs .1 .1 .0) (qs .1 .1 .0)) (List._∷_ Row.off
-              (List._∷_ Row.off (List._∷_ (Row.lease (κs .1 .1 .1 .1 .1 .0) (qs .1 .1 .1 .1 .1 .0)) (List._∷_ (Row.lease (κs .1 .1 .1 .1 .1 .1 .0) (qs .1 .1 .1 .1 .1 .1 .0)) (List._∷_ (Row.lease (κs .1 .1
-              .1 .1 .1 .1 .1 .0) (qs .1 .1 .1 .1 .1 .1 .1 .0)) (List._∷_ Row.alive (List._∷_ Row.alive (List._∷_ Row.off List.[]))))))))));
-        }
+        G12 = record { locals = List._++_ g8 t9; slots = l1 }
 
         abbrev G13 : Row.Cx
-        G13 = record {
-          locals = List._++_ g8 t10;
-          slots = List._∷_ (Row.lease (κs .0) (qs .0)) (List._∷_ (Row.lease (κs .1 .0) (qs .1 .0)) (List._∷_ (Row.lease (κs .1 .1 .0) (qs .1 .1 .0)) (List._∷_ Row.off
-              (List._∷_ Row.off (List._∷_ (Row.lease (κs .1 .1 .1 .1 .1 .0) (qs .1 .1 .1 .1 .1 .0)) (List._∷_ (Row.lease (κs .1 .1 .1 .1 .1 .1 .0) (qs .1 .1 .1 .1 .1 .1 .0)) (List._∷_ (Row.lease (κs .1 .1
-              .1 .1 .1 .1 .1 .0) (qs .1 .1 .1 .1 .1 .1 .1 .0)) (List._∷_ Row.alive (List._∷_ Row.alive (List._∷_ Row.off List.[]))))))))));
-        }
+        G13 = record { locals = List._++_ g8 t10; slots = l1 }
 
         abbrev G14 : Row.Cx
-        G14 = record {
-          locals = List._++_ g8 t10;
-          slots = List._∷_ (Row.lease (κs .0) (qs .0)) (List._∷_ (Row.lease (κs .1 .0) (qs .1 .0)) (List._∷_ (Row.lease (κs .1 .1 .0) (qs .1 .1 .0)) (List._∷_ Row.off
-              (List._∷_ Row.off (List._∷_ (Row.lease (κs .1 .1 .1 .1 .1 .0) (qs .1 .1 .1 .1 .1 .0)) (List._∷_ (Row.lease (κs .1 .1 .1 .1 .1 .1 .0) (qs .1 .1 .1 .1 .1 .1 .0)) (List._∷_ (Row.lease (κs .1 .1
-              .1 .1 .1 .1 .1 .0) (qs .1 .1 .1 .1 .1 .1 .1 .0)) (List._∷_ Row.alive (List._∷_ Row.alive (List._∷_ Row.alive List.[]))))))))));
-        }
+        G14 = record { locals = List._++_ g8 t10; slots = k0 ∷ k1 ∷ k2 ∷ Row.off ∷ Row.off ∷ k5 ∷ k6 ∷ k7 ∷ Row.alive ∷ Row.alive ∷ Row.alive ∷ [] }
 
         abbrev G15 : Row.Cx
-        G15 = record {
-          locals = List._++_ g11 t12;
-          slots = List._∷_ (Row.lease (κs .0) (qs .0)) (List._∷_ (Row.lease (κs .1 .0) (qs .1 .0)) (List._∷_ (Row.lease (κs .1 .1 .0) (qs .1 .1 .0)) (List._∷_ Row.off
-              (List._∷_ Row.off (List._∷_ Row.off (List._∷_ (Row.lease (κs .1 .1 .1 .1 .1 .1 .0) (qs .1 .1 .1 .1 .1 .1 .0)) (List._∷_ (Row.lease (κs .1 .1 .1 .1 .1 .1 .1 .0) (qs .1 .1 .1 .1 .1 .1 .1 .0))
-              (List._∷_ Row.alive (List._∷_ Row.alive (List._∷_ Row.alive List.[]))))))))));
-        }
+        G15 = record { locals = List._++_ g11 t12; slots = l0 }
 
         abbrev G16 : Row.Cx
-        G16 = record {
-          locals = List._++_ g11 t13;
-          slots = List._∷_ (Row.lease (κs .0) (qs .0)) (List._∷_ (Row.lease (κs .1 .0) (qs .1 .0)) (List._∷_ (Row.lease (κs .1 .1 .0) (qs .1 .1 .0)) (List._∷_ Row.off
-              (List._∷_ Row.off (List._∷_ Row.off (List._∷_ (Row.lease (κs .1 .1 .1 .1 .1 .1 .0) (qs .1 .1 .1 .1 .1 .1 .0)) (List._∷_ (Row.lease (κs .1 .1 .1 .1 .1 .1 .1 .0) (qs .1 .1 .1 .1 .1 .1 .1 .0))
-              (List._∷_ Row.alive (List._∷_ Row.alive (List._∷_ Row.alive List.[]))))))))));
-        }
+        G16 = record { locals = List._++_ g11 t13; slots = l0 }
 
         abbrev G17 : Row.Cx
-        G17 = record {
-          locals = List._++_ g14 t13;
-          slots = List._∷_ (Row.lease (κs .0) (qs .0)) (List._∷_ (Row.lease (κs .1 .0) (qs .1 .0)) (List._∷_ (Row.lease (κs .1 .1 .0) (qs .1 .1 .0)) (List._∷_ Row.off
-              (List._∷_ Row.off (List._∷_ Row.off (List._∷_ (Row.lease (κs .1 .1 .1 .1 .1 .1 .0) (qs .1 .1 .1 .1 .1 .1 .0)) (List._∷_ (Row.lease (κs .1 .1 .1 .1 .1 .1 .1 .0) (qs .1 .1 .1 .1 .1 .1 .1 .0))
-              (List._∷_ Row.alive (List._∷_ Row.alive (List._∷_ Row.alive List.[]))))))))));
-        }
+        G17 = record { locals = List._++_ g14 t13; slots = l0 }
 
         abbrev G18 : Row.Cx
-        G18 = record {
-          locals = List._++_ g14 t15;
-          slots = List._∷_ (Row.lease (κs .0) (qs .0)) (List._∷_ (Row.lease (κs .1 .0) (qs .1 .0)) (List._∷_ (Row.lease (κs .1 .1 .0) (qs .1 .1 .0)) (List._∷_ Row.off
-              (List._∷_ Row.off (List._∷_ Row.off (List._∷_ (Row.lease (κs .1 .1 .1 .1 .1 .1 .0) (qs .1 .1 .1 .1 .1 .1 .0)) (List._∷_ (Row.lease (κs .1 .1 .1 .1 .1 .1 .1 .0) (qs .1 .1 .1 .1 .1 .1 .1 .0))
-              (List._∷_ Row.alive (List._∷_ Row.alive (List._∷_ Row.alive List.[]))))))))));
-        }
+        G18 = record { locals = List._++_ g14 t15; slots = l0 }
 
         abbrev G19 : Row.Cx
-        G19 = record {
-          locals = List._++_ g16 t15;
-          slots = List._∷_ (Row.lease (κs .0) (qs .0)) (List._∷_ (Row.lease (κs .1 .0) (qs .1 .0)) (List._∷_ (Row.lease (κs .1 .1 .0) (qs .1 .1 .0)) (List._∷_ Row.off
-              (List._∷_ Row.off (List._∷_ Row.off (List._∷_ (Row.lease (κs .1 .1 .1 .1 .1 .1 .0) (qs .1 .1 .1 .1 .1 .1 .0)) (List._∷_ (Row.lease (κs .1 .1 .1 .1 .1 .1 .1 .0) (qs .1 .1 .1 .1 .1 .1 .1 .0))
-              (List._∷_ Row.alive (List._∷_ Row.alive (List._∷_ Row.alive List.[]))))))))));
-        }
+        G19 = record { locals = List._++_ g16 t15; slots = l0 }
 
         abbrev G20 : Row.Cx
-        G20 = record {
-          locals = List._++_ g17 t15;
-          slots = List._∷_ (Row.lease (κs .0) (qs .0)) (List._∷_ (Row.lease (κs .1 .0) (qs .1 .0)) (List._∷_ (Row.lease (κs .1 .1 .0) (qs .1 .1 .0)) (List._∷_ Row.off
-              (List._∷_ Row.off (List._∷_ Row.off (List._∷_ (Row.lease (κs .1 .1 .1 .1 .1 .1 .0) (qs .1 .1 .1 .1 .1 .1 .0)) (List._∷_ (Row.lease (κs .1 .1 .1 .1 .1 .1 .1 .0) (qs .1 .1 .1 .1 .1 .1 .1 .0))
-              (List._∷_ Row.alive (List._∷_ Row.alive (List._∷_ Row.alive List.[]))))))))));
-        }
+        G20 = record { locals = List._++_ g17 t15; slots = l0 }
 
         abbrev G21 : Row.Cx
-        G21 = record {
-          locals = List._++_ g17 t15;
-          slots = List._∷_ (Row.lease (κs .0) (qs .0)) (List._∷_ (Row.lease (κs .1 .0) (qs .1 .0)) (List._∷_ (Row.lease (κs .1 .1 .0) (qs .1 .1 .0)) (List._∷_ Row.off
-              (List._∷_ Row.off (List._∷_ Row.off (List._∷_ (Row.lease (κs .1 .1 .1 .1 .1 .1 .0) (qs .1 .1 .1 .1 .1 .1 .0)) (List._∷_ (Row.lease (κs .1 .1 .1 .1 .1 .1 .1 .0) (qs .1 .1 .1 .1 .1 .1 .1 .0))
-              (List._∷_ Row.dead (List._∷_ Row.alive (List._∷_ Row.alive List.[]))))))))));
-        }
+        G21 = record { locals = List._++_ g17 t15; slots = k0 ∷ k1 ∷ k2 ∷ Row.off ∷ Row.off ∷ Row.off ∷ k6 ∷ k7 ∷ Row.dead ∷ Row.alive ∷ Row.alive ∷ [] }
 
         abbrev G22 : Row.Cx
-        G22 = record {
-          locals = List._++_ g18 t19;
-          slots = List._∷_ (Row.lease (κs .0) (qs .0)) (List._∷_ (Row.lease (κs .1 .0) (qs .1 .0)) (List._∷_ (Row.lease (κs .1 .1 .0) (qs .1 .1 .0)) (List._∷_ (Row.lease
-              (κs .1 .1 .1 .0) (qs .1 .1 .1 .0)) (List._∷_ Row.off (List._∷_ Row.off (List._∷_ (Row.lease (κs .1 .1 .1 .1 .1 .1 .0) (qs .1 .1 .1 .1 .1 .1 .0)) (List._∷_ (Row.lease (κs .1 .1 .1 .1 .1 .1 .1
-              .0) (qs .1 .1 .1 .1 .1 .1 .1 .0)) (List._∷_ Row.dead (List._∷_ Row.alive (List._∷_ Row.alive List.[]))))))))));
-        }
-
-        abbrev G23 : Row.Cx
-        G23 = record {
-          locals = List._++_ g18 t19;
-          slots = List._∷_ (Row.lease (κs .0) (qs .0)) (List._∷_ (Row.lease (κs .1 .0) (qs .1 .0)) (List._∷_ (Row.lease (κs .1 .1 .0) (qs .1 .1 .0)) (List._∷_ (Row.lease
-              (κs .1 .1 .1 .0) (qs .1 .1 .1 .0)) (List._∷_ Row.off (List._∷_ Row.off (List._∷_ (Row.lease (κs .1 .1 .1 .1 .1 .1 .0) (qs .1 .1 .1 .1 .1 .1 .0)) (List._∷_ (Row.lease (κs .1 .1 .1 .1 .1 .1 .1
-              .0) (qs .1 .1 .1 .1 .1 .1 .1 .0)) (List._∷_ Row.dead (List._∷_ Row.alive (List._∷_ Row.alive List.[]))))))))));
-        }
+        G22 = record { locals = List._++_ g18 t19; slots = l3 }
 
         abbrev G24 : Row.Cx
-        G24 = record {
-          locals = List._++_ g18 t19;
-          slots = List._∷_ (Row.lease (κs .0) (qs .0)) (List._∷_ (Row.lease (κs .1 .0) (qs .1 .0)) (List._∷_ (Row.lease (κs .1 .1 .0) (qs .1 .1 .0)) (List._∷_ (Row.lease
-              (κs .1 .1 .1 .0) (qs .1 .1 .1 .0)) (List._∷_ Row.off (List._∷_ Row.off (List._∷_ (Row.lease (κs .1 .1 .1 .1 .1 .1 .0) (qs .1 .1 .1 .1 .1 .1 .0)) (List._∷_ (Row.lease (κs .1 .1 .1 .1 .1 .1 .1
-              .0) (qs .1 .1 .1 .1 .1 .1 .1 .0)) (List._∷_ Row.off (List._∷_ Row.alive (List._∷_ Row.alive List.[]))))))))));
-        }
+        G24 = record { locals = List._++_ g18 t19; slots = k0 ∷ k1 ∷ k2 ∷ k3 ∷ Row.off ∷ Row.off ∷ k6 ∷ k7 ∷ Row.off ∷ Row.alive ∷ Row.alive ∷ [] }
 
         abbrev G25 : Row.Cx
-        G25 = record {
-          locals = List._++_ g18 t19;
-          slots = List._∷_ (Row.lease (κs .0) (qs .0)) (List._∷_ (Row.lease (κs .1 .0) (qs .1 .0)) (List._∷_ (Row.lease (κs .1 .1 .0) (qs .1 .1 .0)) (List._∷_ (Row.lease
-              (κs .1 .1 .1 .0) (qs .1 .1 .1 .0)) (List._∷_ Row.off (List._∷_ Row.off (List._∷_ (Row.lease (κs .1 .1 .1 .1 .1 .1 .0) (qs .1 .1 .1 .1 .1 .1 .0)) (List._∷_ (Row.lease (κs .1 .1 .1 .1 .1 .1 .1
-              .0) (qs .1 .1 .1 .1 .1 .1 .1 .0)) (List._∷_ Row.off (List._∷_ Row.dead (List._∷_ Row.alive List.[]))))))))));
-        }
+        G25 = record { locals = List._++_ g18 t19; slots = k0 ∷ k1 ∷ k2 ∷ k3 ∷ Row.off ∷ Row.off ∷ k6 ∷ k7 ∷ Row.off ∷ Row.dead ∷ Row.alive ∷ [] }
 
         abbrev G26 : Row.Cx
-        G26 = record {
-          locals = List._++_ g20 t21;
-          slots = List._∷_ (Row.lease (κs .0) (qs .0)) (List._∷_ (Row.lease (κs .1 .0) (qs .1 .0)) (List._∷_ (Row.lease (κs .1 .1 .0) (qs .1 .1 .0)) (List._∷_ (Row.lease
-              (κs .1 .1 .1 .0) (qs .1 .1 .1 .0)) (List._∷_ (Row.lease (κs .1 .1 .1 .1 .0) (qs .1 .1 .1 .1 .0)) (List._∷_ Row.off (List._∷_ (Row.lease (κs .1 .1 .1 .1 .1 .1 .0) (qs .1 .1 .1 .1 .1 .1 .0))
-              (List._∷_ (Row.lease (κs .1 .1 .1 .1 .1 .1 .1 .0) (qs .1 .1 .1 .1 .1 .1 .1 .0)) (List._∷_ Row.off (List._∷_ Row.dead (List._∷_ Row.alive List.[]))))))))));
-        }
-
-        abbrev G27 : Row.Cx
-        G27 = record {
-          locals = List._++_ g20 t21;
-          slots = List._∷_ (Row.lease (κs .0) (qs .0)) (List._∷_ (Row.lease (κs .1 .0) (qs .1 .0)) (List._∷_ (Row.lease (κs .1 .1 .0) (qs .1 .1 .0)) (List._∷_ (Row.lease
-              (κs .1 .1 .1 .0) (qs .1 .1 .1 .0)) (List._∷_ (Row.lease (κs .1 .1 .1 .1 .0) (qs .1 .1 .1 .1 .0)) (List._∷_ Row.off (List._∷_ (Row.lease (κs .1 .1 .1 .1 .1 .1 .0) (qs .1 .1 .1 .1 .1 .1 .0))
-              (List._∷_ (Row.lease (κs .1 .1 .1 .1 .1 .1 .1 .0) (qs .1 .1 .1 .1 .1 .1 .1 .0)) (List._∷_ Row.off (List._∷_ Row.dead (List._∷_ Row.alive List.[]))))))))));
-        }
+        G26 = record { locals = List._++_ g20 t21; slots = l4 }
 
         abbrev G28 : Row.Cx
-        G28 = record {
-          locals = List._++_ g20 t21;
-          slots = List._∷_ (Row.lease (κs .0) (qs .0)) (List._∷_ (Row.lease (κs .1 .0) (qs .1 .0)) (List._∷_ (Row.lease (κs .1 .1 .0) (qs .1 .1 .0)) (List._∷_ (Row.lease
-              (κs .1 .1 .1 .0) (qs .1 .1 .1 .0)) (List._∷_ (Row.lease (κs .1 .1 .1 .1 .0) (qs .1 .1 .1 .1 .0)) (List._∷_ Row.off (List._∷_ (Row.lease (κs .1 .1 .1 .1 .1 .1 .0) (qs .1 .1 .1 .1 .1 .1 .0))
-              (List._∷_ (Row.lease (κs .1 .1 .1 .1 .1 .1 .1 .0) (qs .1 .1 .1 .1 .1 .1 .1 .0)) (List._∷_ Row.off (List._∷_ Row.off (List._∷_ Row.alive List.[]))))))))));
-        }
+        G28 = record { locals = List._++_ g20 t21; slots = k0 ∷ k1 ∷ k2 ∷ k3 ∷ k4 ∷ Row.off ∷ k6 ∷ k7 ∷ Row.off ∷ Row.off ∷ Row.alive ∷ [] }
 
         abbrev G29 : Row.Cx
-        G29 = record {
-          locals = List._++_ g20 t21;
-          slots = List._∷_ (Row.lease (κs .0) (qs .0)) (List._∷_ (Row.lease (κs .1 .0) (qs .1 .0)) (List._∷_ (Row.lease (κs .1 .1 .0) (qs .1 .1 .0)) (List._∷_ (Row.lease
-              (κs .1 .1 .1 .0) (qs .1 .1 .1 .0)) (List._∷_ (Row.lease (κs .1 .1 .1 .1 .0) (qs .1 .1 .1 .1 .0)) (List._∷_ Row.off (List._∷_ (Row.lease (κs .1 .1 .1 .1 .1 .1 .0) (qs .1 .1 .1 .1 .1 .1 .0))
-              (List._∷_ (Row.lease (κs .1 .1 .1 .1 .1 .1 .1 .0) (qs .1 .1 .1 .1 .1 .1 .1 .0)) (List._∷_ Row.off (List._∷_ Row.off (List._∷_ Row.dead List.[]))))))))));
-        }
+        G29 = record { locals = List._++_ g20 t21; slots = k0 ∷ k1 ∷ k2 ∷ k3 ∷ k4 ∷ Row.off ∷ k6 ∷ k7 ∷ Row.off ∷ Row.off ∷ Row.dead ∷ [] }
 
         abbrev G30 : Row.Cx
-        G30 = record {
-          locals = List._++_ t0 t22;
-          slots = List._∷_ (Row.lease (κs .0) (qs .0)) (List._∷_ (Row.lease (κs .1 .0) (qs .1 .0)) (List._∷_ (Row.lease (κs .1 .1 .0) (qs .1 .1 .0)) (List._∷_ (Row.lease (κs
-              .1 .1 .1 .0) (qs .1 .1 .1 .0)) (List._∷_ (Row.lease (κs .1 .1 .1 .1 .0) (qs .1 .1 .1 .1 .0)) (List._∷_ (Row.lease (κs .1 .1 .1 .1 .1 .0) (qs .1 .1 .1 .1 .1 .0)) (List._∷_ (Row.lease (κs .1 .1
-              .1 .1 .1 .1 .0) (qs .1 .1 .1 .1 .1 .1 .0)) (List._∷_ (Row.lease (κs .1 .1 .1 .1 .1 .1 .1 .0) (qs .1 .1 .1 .1 .1 .1 .1 .0)) (List._∷_ Row.off (List._∷_ Row.off (List._∷_ Row.dead
-              List.[]))))))))));
-        }
-
-        abbrev G31 : Row.Cx
-        G31 = record {
-          locals = List._++_ t0 t22;
-          slots = List._∷_ (Row.lease (κs .0) (qs .0)) (List._∷_ (Row.lease (κs .1 .0) (qs .1 .0)) (List._∷_ (Row.lease (κs .1 .1 .0) (qs .1 .1 .0)) (List._∷_ (Row.lease (κs
-              .1 .1 .1 .0) (qs .1 .1 .1 .0)) (List._∷_ (Row.lease (κs .1 .1 .1 .1 .0) (qs .1 .1 .1 .1 .0)) (List._∷_ (Row.lease (κs .1 .1 .1 .1 .1 .0) (qs .1 .1 .1 .1 .1 .0)) (List._∷_ (Row.lease (κs .1 .1
-              .1 .1 .1 .1 .0) (qs .1 .1 .1 .1 .1 .1 .0)) (List._∷_ (Row.lease (κs .1 .1 .1 .1 .1 .1 .1 .0) (qs .1 .1 .1 .1 .1 .1 .1 .0)) (List._∷_ Row.off (List._∷_ Row.off (List._∷_ Row.off
-              List.[]))))))))));
-        }
-
-        abbrev G32 : Row.Cx
-        G32 = record {
-          locals = List._++_ t0 t23;
-          slots = List._∷_ (Row.lease (κs .0) (qs .0)) (List._∷_ (Row.lease (κs .1 .0) (qs .1 .0)) (List._∷_ (Row.lease (κs .1 .1 .0) (qs .1 .1 .0)) (List._∷_ (Row.lease (κs
-              .1 .1 .1 .0) (qs .1 .1 .1 .0)) (List._∷_ (Row.lease (κs .1 .1 .1 .1 .0) (qs .1 .1 .1 .1 .0)) (List._∷_ (Row.lease (κs .1 .1 .1 .1 .1 .0) (qs .1 .1 .1 .1 .1 .0)) (List._∷_ (Row.lease (κs .1 .1
-              .1 .1 .1 .1 .0) (qs .1 .1 .1 .1 .1 .1 .0)) (List._∷_ (Row.lease (κs .1 .1 .1 .1 .1 .1 .1 .0) (qs .1 .1 .1 .1 .1 .1 .1 .0)) (List._∷_ Row.off (List._∷_ Row.off (List._∷_ Row.off
-              List.[]))))))))));
-        }
-
-        abbrev G33 : Row.Cx
-        G33 = record {
-          locals = List._++_ t0 t24;
-          slots = List._∷_ (Row.lease (κs .0) (qs .0)) (List._∷_ (Row.lease (κs .1 .0) (qs .1 .0)) (List._∷_ (Row.lease (κs .1 .1 .0) (qs .1 .1 .0)) (List._∷_ (Row.lease (κs
-              .1 .1 .1 .0) (qs .1 .1 .1 .0)) (List._∷_ (Row.lease (κs .1 .1 .1 .1 .0) (qs .1 .1 .1 .1 .0)) (List._∷_ (Row.lease (κs .1 .1 .1 .1 .1 .0) (qs .1 .1 .1 .1 .1 .0)) (List._∷_ (Row.lease (κs .1 .1
-              .1 .1 .1 .1 .0) (qs .1 .1 .1 .1 .1 .1 .0)) (List._∷_ (Row.lease (κs .1 .1 .1 .1 .1 .1 .1 .0) (qs .1 .1 .1 .1 .1 .1 .1 .0)) (List._∷_ Row.off (List._∷_ Row.off (List._∷_ Row.off
-              List.[]))))))))));
-        }
-
-        abbrev G34 : Row.Cx
-        G34 = record {
-          locals = List._++_ t0 t25;
-          slots = List._∷_ (Row.lease (κs .0) (qs .0)) (List._∷_ (Row.lease (κs .1 .0) (qs .1 .0)) (List._∷_ (Row.lease (κs .1 .1 .0) (qs .1 .1 .0)) (List._∷_ (Row.lease (κs
-              .1 .1 .1 .0) (qs .1 .1 .1 .0)) (List._∷_ (Row.lease (κs .1 .1 .1 .1 .0) (qs .1 .1 .1 .1 .0)) (List._∷_ (Row.lease (κs .1 .1 .1 .1 .1 .0) (qs .1 .1 .1 .1 .1 .0)) (List._∷_ (Row.lease (κs .1 .1
-              .1 .1 .1 .1 .0) (qs .1 .1 .1 .1 .1 .1 .0)) (List._∷_ (Row.lease (κs .1 .1 .1 .1 .1 .1 .1 .0) (qs .1 .1 .1 .1 .1 .1 .1 .0)) (List._∷_ Row.off (List._∷_ Row.off (List._∷_ Row.off
-              List.[]))))))))));
-        }
-
-        abbrev G35 : Row.Cx
-        G35 = record {
-          locals = List._++_ t0 t25;
-          slots = List._∷_ (Row.lease (κs .0) (qs .0)) (List._∷_ (Row.lease (κs .1 .0) (qs .1 .0)) (List._∷_ (Row.lease (κs .1 .1 .0) (qs .1 .1 .0)) (List._∷_ (Row.lease (κs
-              .1 .1 .1 .0) (qs .1 .1 .1 .0)) (List._∷_ (Row.lease (κs .1 .1 .1 .1 .0) (qs .1 .1 .1 .1 .0)) (List._∷_ (Row.lease (κs .1 .1 .1 .1 .1 .0) (qs .1 .1 .1 .1 .1 .0)) (List._∷_ (Row.lease (κs .1 .1
-              .1 .1 .1 .1 .0) (qs .1 .1 .1 .1 .1 .1 .0)) (List._∷_ (Row.lease (κs .1 .1 .1 .1 .1 .1 .1 .0) (qs .1 .1 .1 .1 .1 .1 .1 .0)) (List._∷_ Row.off (List._∷_ Row.off (List._∷_ Row.off
-              List.[]))))))))));
-        }
-
-        abbrev G36 : Row.Cx
-        G36 = record {
-          locals = List._++_ t0 t26;
-          slots = List._∷_ (Row.lease (κs .0) (qs .0)) (List._∷_ (Row.lease (κs .1 .0) (qs .1 .0)) (List._∷_ (Row.lease (κs .1 .1 .0) (qs .1 .1 .0)) (List._∷_ (Row.lease (κs
-              .1 .1 .1 .0) (qs .1 .1 .1 .0)) (List._∷_ (Row.lease (κs .1 .1 .1 .1 .0) (qs .1 .1 .1 .1 .0)) (List._∷_ (Row.lease (κs .1 .1 .1 .1 .1 .0) (qs .1 .1 .1 .1 .1 .0)) (List._∷_ (Row.lease (κs .1 .1
-              .1 .1 .1 .1 .0) (qs .1 .1 .1 .1 .1 .1 .0)) (List._∷_ (Row.lease (κs .1 .1 .1 .1 .1 .1 .1 .0) (qs .1 .1 .1 .1 .1 .1 .1 .0)) (List._∷_ Row.off (List._∷_ Row.off (List._∷_ Row.off
-              List.[]))))))))));
-        }
-
-        abbrev G37 : Row.Cx
-        G37 = record {
-          locals = List._++_ t0 t26;
-          slots = List._∷_ (Row.lease (κs .0) (qs .0)) (List._∷_ (Row.lease (κs .1 .0) (qs .1 .0)) (List._∷_ (Row.lease (κs .1 .1 .0) (qs .1 .1 .0)) (List._∷_ (Row.lease (κs
-              .1 .1 .1 .0) (qs .1 .1 .1 .0)) (List._∷_ (Row.lease (κs .1 .1 .1 .1 .0) (qs .1 .1 .1 .1 .0)) (List._∷_ (Row.lease (κs .1 .1 .1 .1 .1 .0) (qs .1 .1 .1 .1 .1 .0)) (List._∷_ (Row.lease (κs .1 .1
-              .1 .1 .1 .1 .0) (qs .1 .1 .1 .1 .1 .1 .0)) (List._∷_ (Row.lease (κs .1 .1 .1 .1 .1 .1 .1 .0) (qs .1 .1 .1 .1 .1 .1 .1 .0)) (List._∷_ Row.off (List._∷_ Row.off (List._∷_ Row.off
-              List.[]))))))))));
-        }
-
-        abbrev G38 : Row.Cx
-        G38 = record {
-          locals = List._++_ t0 t1;
-          slots = List._∷_ (Row.lease (κs .0) (qs .0)) (List._∷_ (Row.lease (κs .1 .0) (qs .1 .0)) (List._∷_ (Row.lease (κs .1 .1 .0) (qs .1 .1 .0)) (List._∷_ (Row.lease (κs
-              .1 .1 .1 .0) (qs .1 .1 .1 .0)) (List._∷_ (Row.lease (κs .1 .1 .1 .1 .0) (qs .1 .1 .1 .1 .0)) (List._∷_ (Row.lease (κs .1 .1 .1 .1 .1 .0) (qs .1 .1 .1 .1 .1 .0)) (List._∷_ (Row.lease (κs .1 .1
-              .1 .1 .1 .1 .0) (qs .1 .1 .1 .1 .1 .1 .0)) (List._∷_ (Row.lease (κs .1 .1 .1 .1 .1 .1 .1 .0) (qs .1 .1 .1 .1 .1 .1 .1 .0)) (List._∷_ Row.off (List._∷_ Row.off (List._∷_ Row.off
-              List.[]))))))))));
-        }
-
-        abbrev G39 : Row.Cx
-        G39 = record {
-          locals = List._++_ t27 t1;
-          slots = List._∷_ (Row.lease (κs .0) (qs .0)) (List._∷_ (Row.lease (κs .1 .0) (qs .1 .0)) (List._∷_ (Row.lease (κs .1 .1 .0) (qs .1 .1 .0)) (List._∷_ (Row.lease (κs
-              .1 .1 .1 .0) (qs .1 .1 .1 .0)) (List._∷_ (Row.lease (κs .1 .1 .1 .1 .0) (qs .1 .1 .1 .1 .0)) (List._∷_ (Row.lease (κs .1 .1 .1 .1 .1 .0) (qs .1 .1 .1 .1 .1 .0)) (List._∷_ (Row.lease (κs .1 .1
-              .1 .1 .1 .1 .0) (qs .1 .1 .1 .1 .1 .1 .0)) (List._∷_ (Row.lease (κs .1 .1 .1 .1 .1 .1 .1 .0) (qs .1 .1 .1 .1 .1 .1 .1 .0)) (List._∷_ Row.off (List._∷_ Row.off (List._∷_ Row.off
-              List.[]))))))))));
-        }
-
-        abbrev G40 : Row.Cx
-        G40 = record {
-          locals = List._++_ t28 t1;
-          slots = List._∷_ (Row.lease (κs .0) (qs .0)) (List._∷_ (Row.lease (κs .1 .0) (qs .1 .0)) (List._∷_ (Row.lease (κs .1 .1 .0) (qs .1 .1 .0)) (List._∷_ (Row.lease (κs
-              .1 .1 .1 .0) (qs .1 .1 .1 .0)) (List._∷_ (Row.lease (κs .1 .1 .1 .1 .0) (qs .1 .1 .1 .1 .0)) (List._∷_ (Row.lease (κs .1 .1 .1 .1 .1 .0) (qs .1 .1 .1 .1 .1 .0)) (List._∷_ (Row.lease (κs .1 .1
-              .1 .1 .1 .1 .0) (qs .1 .1 .1 .1 .1 .1 .0)) (List._∷_ (Row.lease (κs .1 .1 .1 .1 .1 .1 .1 .0) (qs .1 .1 .1 .1 .1 .1 .1 .0)) (List._∷_ Row.off (List._∷_ Row.off (List._∷_ Row.off
-              List.[]))))))))));
-        }
-
-        abbrev G41 : Row.Cx
-        G41 = record {
-          locals = List._++_ t29 t1;
-          slots = List._∷_ (Row.lease (κs .0) (qs .0)) (List._∷_ (Row.lease (κs .1 .0) (qs .1 .0)) (List._∷_ (Row.lease (κs .1 .1 .0) (qs .1 .1 .0)) (List._∷_ (Row.lease (κs
-              .1 .1 .1 .0) (qs .1 .1 .1 .0)) (List._∷_ (Row.lease (κs .1 .1 .1 .1 .0) (qs .1 .1 .1 .1 .0)) (List._∷_ (Row.lease (κs .1 .1 .1 .1 .1 .0) (qs .1 .1 .1 .1 .1 .0)) (List._∷_ (Row.lease (κs .1 .1
-              .1 .1 .1 .1 .0) (qs .1 .1 .1 .1 .1 .1 .0)) (List._∷_ (Row.lease (κs .1 .1 .1 .1 .1 .1 .1 .0) (qs .1 .1 .1 .1 .1 .1 .1 .0)) (List._∷_ Row.off (List._∷_ Row.off (List._∷_ Row.off
-              List.[]))))))))));
-        }
-
-        abbrev G42 : Row.Cx
-        G42 = record {
-          locals = List._++_ t30 t1;
-          slots = List._∷_ (Row.lease (κs .0) (qs .0)) (List._∷_ (Row.lease (κs .1 .0) (qs .1 .0)) (List._∷_ (Row.lease (κs .1 .1 .0) (qs .1 .1 .0)) (List._∷_ (Row.lease (κs
-              .1 .1 .1 .0) (qs .1 .1 .1 .0)) (List._∷_ (Row.lease (κs .1 .1 .1 .1 .0) (qs .1 .1 .1 .1 .0)) (List._∷_ (Row.lease (κs .1 .1 .1 .1 .1 .0) (qs .1 .1 .1 .1 .1 .0)) (List._∷_ (Row.lease (κs .1 .1
-              .1 .1 .1 .1 .0) (qs .1 .1 .1 .1 .1 .1 .0)) (List._∷_ (Row.lease (κs .1 .1 .1 .1 .1 .1 .1 .0) (qs .1 .1 .1 .1 .1 .1 .1 .0)) (List._∷_ Row.off (List._∷_ Row.off (List._∷_ Row.off
-              List.[]))))))))));
-        }
-
-        abbrev G43 : Row.Cx
-        G43 = record {
-          locals = List._++_ t31 t1;
-          slots = List._∷_ (Row.lease (κs .0) (qs .0)) (List._∷_ (Row.lease (κs .1 .0) (qs .1 .0)) (List._∷_ (Row.lease (κs .1 .1 .0) (qs .1 .1 .0)) (List._∷_ (Row.lease (κs
-              .1 .1 .1 .0) (qs .1 .1 .1 .0)) (List._∷_ (Row.lease (κs .1 .1 .1 .1 .0) (qs .1 .1 .1 .1 .0)) (List._∷_ (Row.lease (κs .1 .1 .1 .1 .1 .0) (qs .1 .1 .1 .1 .1 .0)) (List._∷_ (Row.lease (κs .1 .1
-              .1 .1 .1 .1 .0) (qs .1 .1 .1 .1 .1 .1 .0)) (List._∷_ (Row.lease (κs .1 .1 .1 .1 .1 .1 .1 .0) (qs .1 .1 .1 .1 .1 .1 .1 .0)) (List._∷_ Row.off (List._∷_ Row.off (List._∷_ Row.off
-              List.[]))))))))));
-        }
-
-        abbrev G44 : Row.Cx
-        G44 = record {
-          locals = List._++_ t2 t1;
-          slots = List._∷_ (Row.lease (κs .0) (qs .0)) (List._∷_ (Row.lease (κs .1 .0) (qs .1 .0)) (List._∷_ (Row.lease (κs .1 .1 .0) (qs .1 .1 .0)) (List._∷_ (Row.lease (κs
-              .1 .1 .1 .0) (qs .1 .1 .1 .0)) (List._∷_ (Row.lease (κs .1 .1 .1 .1 .0) (qs .1 .1 .1 .1 .0)) (List._∷_ (Row.lease (κs .1 .1 .1 .1 .1 .0) (qs .1 .1 .1 .1 .1 .0)) (List._∷_ (Row.lease (κs .1 .1
-              .1 .1 .1 .1 .0) (qs .1 .1 .1 .1 .1 .1 .0)) (List._∷_ (Row.lease (κs .1 .1 .1 .1 .1 .1 .1 .0) (qs .1 .1 .1 .1 .1 .1 .1 .0)) (List._∷_ Row.off (List._∷_ Row.off (List._∷_ Row.off
-              List.[]))))))))));
-        }
+        G30 = record { locals = List._++_ t0 t22; slots = k0 ∷ k1 ∷ k2 ∷ k3 ∷ k4 ∷ k5 ∷ k6 ∷ k7 ∷ Row.off ∷ Row.off ∷ Row.dead ∷ [] }
 
         abbrev Δ0 : Typed.Outs
-        Δ0 = record { next = Option.none; exits = List.[]; returns = Option.some G1 }
+        Δ0 = record { next = Option.none; exits = []; returns = Option.some (on T1 l5) }
 
         module _ {M : Type 1} (𝓤 : URA.URA M) (H : Wp.Heap 𝓤) (A : Atoms.Atoms 𝓤) (W : Kit.Given 𝓤 H A) (𝓣 : Wp.Tables 𝓤 H) (known : Knowns 𝓤 H A W 𝓣) (bs : List.List Nat.ℕ) (bd : Lifetimes.AllOutlive
             8 (Kinds.osR r) κs) where
           abbrev E : Wp.Env 𝓤 H
-          E = Frame.EnvOf 𝓤 H (List._∷_ (Kinds.tyR r) (Enter.tysP ps xs)) bs
+          E = Frame.EnvOf 𝓤 H ((Kinds.tyR r) ∷ (Enter.tysP ps xs)) bs
 
-          d0 : Typed.Typed 𝓤 H A 𝓣 E G44 b14 Δ0 at0
+          d0 : Typed.Typed 𝓤 H A 𝓣 E (on T1 l5) b14 Δ0 at0
           d0 = Typed.t-return 𝓤 H A W 𝓣 E Δ0 tt
 
-          d1 : Typed.Typed 𝓤 H A 𝓣 E G43 b14 Δ0 at1
-          d1 = Typed.g-pre 𝓤 H A W 𝓣 E G43 G44 b14 Δ0 (Typed.pass T43 T44 s42) at0 (Scalar.g-room 𝓤 H A W E G43 7 (Syntax.tyInt Syntax.w64) (Scalar.room-sc 𝓤 H A W (Row.sInt Syntax.w64))) d0
+          d1 : Typed.Typed 𝓤 H A 𝓣 E (on T43 l5) b14 Δ0 at1
+          d1 = Typed.g-pre 𝓤 H A W 𝓣 E (on T43 l5) (on T1 l5) b14 Δ0 (Typed.pass T43 T1 s42) at0 (Scalar.g-room 𝓤 H A W E (on T43 l5) 7 u64 (Scalar.room-sc 𝓤 H A W (Row.sInt Syntax.w64))) d0
 
-          d2 : Typed.Typed 𝓤 H A 𝓣 E G42 b14 Δ0 at2
-          d2 = Typed.g-pre 𝓤 H A W 𝓣 E G42 G43 b14 Δ0 (Typed.pass T42 T43 s41) at1 (Scalar.g-room 𝓤 H A W E G42 6 (Syntax.tyInt Syntax.w64) (Scalar.room-sc 𝓤 H A W (Row.sInt Syntax.w64))) d1
+          d2 : Typed.Typed 𝓤 H A 𝓣 E (on T42 l5) b14 Δ0 at2
+          d2 = Typed.g-pre 𝓤 H A W 𝓣 E (on T42 l5) (on T43 l5) b14 Δ0 (Typed.pass T42 T43 s41) at1 (Scalar.g-room 𝓤 H A W E (on T42 l5) 6 u64 (Scalar.room-sc 𝓤 H A W (Row.sInt Syntax.w64))) d1
 
-          d3 : Typed.Typed 𝓤 H A 𝓣 E G41 b14 Δ0 at3
-          d3 = Typed.g-pre 𝓤 H A W 𝓣 E G41 G42 b14 Δ0 (Typed.pass T41 T42 s40) at2 (Scalar.g-room 𝓤 H A W E G41 5 (Syntax.tyInt Syntax.w64) (Scalar.room-sc 𝓤 H A W (Row.sInt Syntax.w64))) d2
+          d3 : Typed.Typed 𝓤 H A 𝓣 E (on T41 l5) b14 Δ0 at3
+          d3 = Typed.g-pre 𝓤 H A W 𝓣 E (on T41 l5) (on T42 l5) b14 Δ0 (Typed.pass T41 T42 s40) at2 (Scalar.g-room 𝓤 H A W E (on T41 l5) 5 u64 (Scalar.room-sc 𝓤 H A W (Row.sInt Syntax.w64))) d2
 
-          d4 : Typed.Typed 𝓤 H A 𝓣 E G40 b14 Δ0 at4
-          d4 = Typed.g-pre 𝓤 H A W 𝓣 E G40 G41 b14 Δ0 (Typed.pass T40 T41 s39) at3 (Scalar.g-room 𝓤 H A W E G40 4 (Syntax.tyInt Syntax.w64) (Scalar.room-sc 𝓤 H A W (Row.sInt Syntax.w64))) d3
+          d4 : Typed.Typed 𝓤 H A 𝓣 E (on T40 l5) b14 Δ0 at4
+          d4 = Typed.g-pre 𝓤 H A W 𝓣 E (on T40 l5) (on T41 l5) b14 Δ0 (Typed.pass T40 T41 s39) at3 (Scalar.g-room 𝓤 H A W E (on T40 l5) 4 u64 (Scalar.room-sc 𝓤 H A W (Row.sInt Syntax.w64))) d3
 
-          d5 : Typed.Typed 𝓤 H A 𝓣 E G39 b14 Δ0 at5
-          d5 = Typed.g-pre 𝓤 H A W 𝓣 E G39 G40 b14 Δ0 (Typed.pass T39 T40 s38) at4 (Scalar.g-room 𝓤 H A W E G39 2 (Syntax.tyInt Syntax.w64) (Scalar.room-sc 𝓤 H A W (Row.sInt Syntax.w64))) d4
+          d5 : Typed.Typed 𝓤 H A 𝓣 E (on T39 l5) b14 Δ0 at5
+          d5 = Typed.g-pre 𝓤 H A W 𝓣 E (on T39 l5) (on T40 l5) b14 Δ0 (Typed.pass T39 T40 s38) at4 (Scalar.g-room 𝓤 H A W E (on T39 l5) 2 u64 (Scalar.room-sc 𝓤 H A W (Row.sInt Syntax.w64))) d4
 
-          d6 : Typed.Typed 𝓤 H A 𝓣 E G38 b15 Δ0 at6
-          d6 = Typed.s-seq 𝓤 H A W 𝓣 E G38 G39 b13 b14 Δ0 (Typed.pass T38 T39 s37) at5 (Scalar.t-use 𝓤 H A W E 𝓣 G38 Scalar.oUnit 0 (Rows'.sc-here Row.sUnit) Syntax.tyUnit (Row.valS Row.sUnit)
-              (Row.sUnit .of) tt (Reads.room-gone 𝓤 H A Syntax.tyUnit) (Scalar.holds-sc 𝓤 H A W Row.sUnit) Path'.refl (λ u. Path'.refl) λ u. tt) d5
+          d6 : Typed.Typed 𝓤 H A 𝓣 E (on T0 l5) (Syntax.seq b13 b14) Δ0 at6
+          d6 = Typed.s-seq 𝓤 H A W 𝓣 E (on T0 l5) (on T39 l5) b13 b14 Δ0 (Typed.pass T0 T39 s37) at5 (Scalar.t-use 𝓤 H A W E 𝓣 (on T0 l5) Scalar.oUnit 0 (Rows'.sc-here Row.sUnit) Syntax.tyUnit
+              (Row.valS Row.sUnit) (Row.sUnit .of) tt (Reads.room-gone 𝓤 H A Syntax.tyUnit) (Scalar.holds-sc 𝓤 H A W Row.sUnit) Path'.refl (λ u. Path'.refl) λ u. tt) d5
 
-          d7 : Typed.Typed 𝓤 H A 𝓣 E G37 b15 Δ0 at7
-          d7 = Typed.g-pre 𝓤 H A W 𝓣 E G37 G38 b15 Δ0 (Typed.pass T37 T38 s36) at6 (Scalar.g-room 𝓤 H A W E G37 18 (Syntax.tyArray (Syntax.tyInt Syntax.w64) 4) (Init.room-arr 𝓤 H A W (Referent.rtF
-              (Referent.fInt Syntax.w64)) 4 0 4 Path'.refl)) d6
+          d7 : Typed.Typed 𝓤 H A 𝓣 E (on T36 l5) (Syntax.seq b13 b14) Δ0 at7
+          d7 = Typed.g-pre 𝓤 H A W 𝓣 E (on T36 l5) (on T0 l5) (Syntax.seq b13 b14) Δ0 (Typed.pass T36 T0 s36) at6 (Scalar.g-room 𝓤 H A W E (on T36 l5) 18 y1 (Init.room-arr 𝓤 H A W n64 4 0 4
+              Path'.refl)) d6
 
-          d8 : Typed.Typed 𝓤 H A 𝓣 E G36 b16 Δ0 at8
-          d8 = Typed.s-seq 𝓤 H A W 𝓣 E G36 G37 b12 b15 Δ0 (Typed.pass T36 T37 s35) at7 (DerefMove.t-ref-write-from 𝓤 H A W E 𝓣 (λ ρ. Unit) G36 13 18 7 (Array'.Array (Referent.rtF (Referent.fInt
-              Syntax.w64)) 4) (Syntax.tyRef (Syntax.named 7) Syntax.mut (Syntax.tyArray (Syntax.tyInt Syntax.w64) 4)) (Syntax.tyArray (Syntax.tyInt Syntax.w64) 4) (Syntax.tyArray (Syntax.tyInt Syntax.w64)
-              4) (Row.lease (κs .1 .1 .1 .1 .1 .1 .1 .0) (qs .1 .1 .1 .1 .1 .1 .1 .0)) (Rows.arrF (Referent.rtF (Referent.fInt Syntax.w64)) 4 0) (λ x. x) (λ x. x) (λ x. x) Path'.refl Path'.refl Path'.refl
-              (Own.told-none 𝓤 H A (G36 .slots)) (Reads.as-is 𝓤 H A (Rows'.mref (Array'.Array (Referent.rtF (Referent.fInt Syntax.w64)) 4) (Syntax.tyRef (Syntax.named 7) Syntax.mut (Syntax.tyArray
-              (Syntax.tyInt Syntax.w64) 4)) 7)) (Yields.yields-copy 𝓤 H A W (λ ρ. Unit) (Array'.Array (Referent.rtF (Referent.fInt Syntax.w64)) 4) Path'.refl (Copies.cArr (Referent.rtF (Referent.fInt
-              Syntax.w64)) (Copies.cRf (Referent.fInt Syntax.w64)) 4 .copy 𝓤 H A W) (Rows.arrF (Referent.rtF (Referent.fInt Syntax.w64)) 4 0) (λ x. x) (λ x. x) (λ ρ told. Whole.mem-arr 𝓤 H A W
-              (Referent.rtF (Referent.fInt Syntax.w64)) 4 ρ) λ ρ told. Whole.arr-mem 𝓤 H A W (Referent.rtF (Referent.fInt Syntax.w64)) 4 tt ρ) Path'.refl tt Path'.refl Path'.refl) d7
+          d8 : Typed.Typed 𝓤 H A 𝓣 E (on T36 l5) (Syntax.seq b12 (Syntax.seq b13 b14)) Δ0 at8
+          d8 = Typed.s-seq 𝓤 H A W 𝓣 E (on T36 l5) (on T36 l5) b12 (Syntax.seq b13 b14) Δ0 (Typed.pass T36 T36 s35) at7 (DerefMove.t-ref-write-from 𝓤 H A W E 𝓣 (λ ρ. Unit) (on T36 l5) 13 18 7
+              (Array'.Array n64 4) y16 y1 y1 k7 (Rows.arrF n64 4 0) (λ x. x) (λ x. x) (λ x. x) Path'.refl Path'.refl Path'.refl (Own.told-none 𝓤 H A ((on T36 l5) .slots)) (Reads.as-is 𝓤 H A (Rows'.mref
+              (Array'.Array n64 4) y16 7)) (Yields.yields-copy 𝓤 H A W (λ ρ. Unit) (Array'.Array n64 4) Path'.refl (Copies.cArr n64 (Copies.cRf (Referent.fInt Syntax.w64)) 4 .copy 𝓤 H A W) (Rows.arrF n64
+              4 0) (λ x. x) (λ x. x) (λ ρ told. Whole.mem-arr 𝓤 H A W n64 4 ρ) λ ρ told. Whole.arr-mem 𝓤 H A W n64 4 tt ρ) Path'.refl tt Path'.refl Path'.refl) d7
 
-          d9 : Typed.Typed 𝓤 H A 𝓣 E G35 b16 Δ0 at9
-          d9 = Typed.g-pre 𝓤 H A W 𝓣 E G35 G36 b16 Δ0 (Typed.pass T35 T36 s34) at8 (Scalar.g-room 𝓤 H A W E G35 17 (Syntax.tyArray (Syntax.tyInt Syntax.w64) 2) (Init.room-arr 𝓤 H A W (Referent.rtF
-              (Referent.fInt Syntax.w64)) 2 0 2 Path'.refl)) d8
+          d9 : Typed.Typed 𝓤 H A 𝓣 E (on T34 l5) (Syntax.seq b12 (Syntax.seq b13 b14)) Δ0 at9
+          d9 = Typed.g-pre 𝓤 H A W 𝓣 E (on T34 l5) (on T36 l5) (Syntax.seq b12 (Syntax.seq b13 b14)) Δ0 (Typed.pass T34 T36 s34) at8 (Scalar.g-room 𝓤 H A W E (on T34 l5) 17 y0 (Init.room-arr 𝓤 H A W
+              n64 2 0 2 Path'.refl)) d8
 
-          d10 : Typed.Typed 𝓤 H A 𝓣 E G34 b17 Δ0 at10
-          d10 = Typed.s-seq 𝓤 H A W 𝓣 E G34 G35 b11 b16 Δ0 (Typed.pass T34 T35 s33) at9 (DerefMove.t-ref-write-from 𝓤 H A W E 𝓣 (λ ρ. Unit) G34 12 17 6 (Array'.Array (Referent.rtF (Referent.fInt
-              Syntax.w64)) 2) (Syntax.tyRef (Syntax.named 6) Syntax.mut (Syntax.tyArray (Syntax.tyInt Syntax.w64) 2)) (Syntax.tyArray (Syntax.tyInt Syntax.w64) 2) (Syntax.tyArray (Syntax.tyInt Syntax.w64)
-              2) (Row.lease (κs .1 .1 .1 .1 .1 .1 .0) (qs .1 .1 .1 .1 .1 .1 .0)) (Rows.arrF (Referent.rtF (Referent.fInt Syntax.w64)) 2 0) (λ x. x) (λ x. x) (λ x. x) Path'.refl Path'.refl Path'.refl
-              (Own.told-none 𝓤 H A (G34 .slots)) (Reads.as-is 𝓤 H A (Rows'.mref (Array'.Array (Referent.rtF (Referent.fInt Syntax.w64)) 2) (Syntax.tyRef (Syntax.named 6) Syntax.mut (Syntax.tyArray
-              (Syntax.tyInt Syntax.w64) 2)) 6)) (Yields.yields-copy 𝓤 H A W (λ ρ. Unit) (Array'.Array (Referent.rtF (Referent.fInt Syntax.w64)) 2) Path'.refl (Copies.cArr (Referent.rtF (Referent.fInt
-              Syntax.w64)) (Copies.cRf (Referent.fInt Syntax.w64)) 2 .copy 𝓤 H A W) (Rows.arrF (Referent.rtF (Referent.fInt Syntax.w64)) 2 0) (λ x. x) (λ x. x) (λ ρ told. Whole.mem-arr 𝓤 H A W
-              (Referent.rtF (Referent.fInt Syntax.w64)) 2 ρ) λ ρ told. Whole.arr-mem 𝓤 H A W (Referent.rtF (Referent.fInt Syntax.w64)) 2 tt ρ) Path'.refl tt Path'.refl Path'.refl) d9
+          d10 : Typed.Typed 𝓤 H A 𝓣 E (on T34 l5) b17 Δ0 at10
+          d10 = Typed.s-seq 𝓤 H A W 𝓣 E (on T34 l5) (on T34 l5) b11 (Syntax.seq b12 (Syntax.seq b13 b14)) Δ0 (Typed.pass T34 T34 s33) at9 (DerefMove.t-ref-write-from 𝓤 H A W E 𝓣 (λ ρ. Unit) (on T34
+              l5) 12 17 6 (Array'.Array n64 2) y15 y0 y0 k6 (Rows.arrF n64 2 0) (λ x. x) (λ x. x) (λ x. x) Path'.refl Path'.refl Path'.refl (Own.told-none 𝓤 H A ((on T34 l5) .slots)) (Reads.as-is 𝓤 H A
+              (Rows'.mref (Array'.Array n64 2) y15 6)) (Yields.yields-copy 𝓤 H A W (λ ρ. Unit) (Array'.Array n64 2) Path'.refl (Copies.cArr n64 (Copies.cRf (Referent.fInt Syntax.w64)) 2 .copy 𝓤 H A W)
+              (Rows.arrF n64 2 0) (λ x. x) (λ x. x) (λ ρ told. Whole.mem-arr 𝓤 H A W n64 2 ρ) λ ρ told. Whole.arr-mem 𝓤 H A W n64 2 tt ρ) Path'.refl tt Path'.refl Path'.refl) d9
 
-          d11 : Typed.Typed 𝓤 H A 𝓣 E G33 b17 Δ0 at11
-          d11 = Typed.g-pre 𝓤 H A W 𝓣 E G33 G34 b17 Δ0 (Typed.pass T33 T34 s32) at10 (Scalar.g-room 𝓤 H A W E G33 16 y4 (Local.room-whole 𝓤 H A W (Declared.row Counted.the-type) y4 Path'.refl)) d10
+          d11 : Typed.Typed 𝓤 H A 𝓣 E (on T33 l5) b17 Δ0 at11
+          d11 = Typed.g-pre 𝓤 H A W 𝓣 E (on T33 l5) (on T34 l5) b17 Δ0 (Typed.pass T33 T34 s32) at10 (Scalar.g-room 𝓤 H A W E (on T33 l5) 16 y19 (Local.room-whole 𝓤 H A W (Declared.row
+              Counted.the-type) y19 Path'.refl)) d10
 
-          d12 : Typed.Typed 𝓤 H A 𝓣 E G32 b18 Δ0 at12
-          d12 = Typed.s-seq 𝓤 H A W 𝓣 E G32 G33 b10 b17 Δ0 (Typed.both s31) at11 (Plain.t-call-plain 𝓤 H A W 𝓣 0 ps·2 r·2 (claims· .4) (claims· .5) "fuji_compressed::reading::counted_refusal" (known
-              .2) E (λ pos β. β) G32 (record { pos = 16; st = List.[]; d = 0; at = λ x. x }, tt) 18 List.[] (Call.sub-id 𝓤 H A W (G32 .slots)) (
-                (
-                  Yields.yields-copy 𝓤 H A W (λ ρ. Unit) (Declared.row Counted.the-type) Path'.refl (Copies.cStruct Counted.the-type Laws.the-laws Laws.the-copy .copy 𝓤 H A W) (Rows'.whole (Declared.row
-                      Counted.the-type)) (λ x. x) (λ x. x) (λ ρ told. Local.mem-whole 𝓤 H A W (Declared.row Counted.the-type) ρ) λ ρ told. Local.whole-mem 𝓤 H A W (Declared.row Counted.the-type) ρ,
-                  Path'.refl,
-                ),
-                tt,
-              ) (Reads.room-gone 𝓤 H A (Syntax.tyArray (Syntax.tyInt Syntax.w64) 4)) tt Path'.refl) d11
+          d12 : Typed.Typed 𝓤 H A 𝓣 E (on T32 l5) (Syntax.seq b10 b17) Δ0 at12
+          d12 = Typed.s-seq 𝓤 H A W 𝓣 E (on T32 l5) (on T33 l5) b10 b17 Δ0 (Typed.both s31) at11 (Plain.t-call-plain 𝓤 H A W 𝓣 0 ps·2 r·2 (claims· .4) (claims· .5)
+              "fuji_compressed::reading::counted_refusal" (known .2) E (λ pos β. β) (on T32 l5) (record { pos = 16; st = []; d = 0; at = λ x. x }, tt) 18 [] (Call.sub-id 𝓤 H A W ((on T32 l5) .slots))
+              ((Values.struct-copied 𝓤 H A W Counted.the-type Laws.the-laws Laws.the-copy, Path'.refl), tt) (Reads.room-gone 𝓤 H A y1) tt Path'.refl) d11
 
-          d13 : Typed.Typed 𝓤 H A 𝓣 E G31 b19 Δ0 at13
-          d13 = Typed.s-seq 𝓤 H A W 𝓣 E G31 G32 b9 b18 Δ0 (Typed.both s30) at12 (Plain.t-call-plain 𝓤 H A W 𝓣 0 ps·1 r·1 (claims· .2) (claims· .3) "fuji_compressed::reading::totals_words" (known .1) E
-              (λ pos β. β) G31 (record { pos = 16; st = List.[]; d = 0; at = λ x. x }, tt) 17 List.[] (Call.sub-id 𝓤 H A W (G31 .slots)) (
-                (
-                  Yields.yields-copy 𝓤 H A W (λ ρ. Unit) (Declared.row Counted.the-type) Path'.refl (Copies.cStruct Counted.the-type Laws.the-laws Laws.the-copy .copy 𝓤 H A W) (Rows'.whole (Declared.row
-                      Counted.the-type)) (λ x. x) (λ x. x) (λ ρ told. Local.mem-whole 𝓤 H A W (Declared.row Counted.the-type) ρ) λ ρ told. Local.whole-mem 𝓤 H A W (Declared.row Counted.the-type) ρ,
-                  Path'.refl,
-                ),
-                tt,
-              ) (Reads.room-gone 𝓤 H A (Syntax.tyArray (Syntax.tyInt Syntax.w64) 2)) tt Path'.refl) d12
+          d13 : Typed.Typed 𝓤 H A 𝓣 E (on T30 l5) b19 Δ0 at13
+          d13 = Typed.s-seq 𝓤 H A W 𝓣 E (on T30 l5) (on T32 l5) b9 (Syntax.seq b10 b17) Δ0 (Typed.both s30) at12 (Plain.t-call-plain 𝓤 H A W 𝓣 0 ps·1 r·1 (claims· .2) (claims· .3)
+              "fuji_compressed::reading::totals_words" (known .1) E (λ pos β. β) (on T30 l5) (record { pos = 16; st = []; d = 0; at = λ x. x }, tt) 17 [] (Call.sub-id 𝓤 H A W ((on T30 l5) .slots))
+              ((Values.struct-copied 𝓤 H A W Counted.the-type Laws.the-laws Laws.the-copy, Path'.refl), tt) (Reads.room-gone 𝓤 H A y0) tt Path'.refl) d12
 
-          d14 : Typed.Typed 𝓤 H A 𝓣 E G30 b19 Δ0 at14
-          d14 = Typed.g-pre 𝓤 H A W 𝓣 E G30 G31 b19 Δ0 (λ Ψ. Ψ) at13 (Lifetime.g-forget 𝓤 H A W E G30 10 Row.dead Path'.refl) d13
+          d14 : Typed.Typed 𝓤 H A 𝓣 E G30 b19 Δ0 at13
+          d14 = Typed.g-pre 𝓤 H A W 𝓣 E G30 (on T30 l5) b19 Δ0 (λ Ψ. Ψ) at13 (Lifetime.g-forget 𝓤 H A W E G30 10 Row.dead Path'.refl) d13
 
           d15 : Typed.Typed 𝓤 H A 𝓣 E G29 b19 Δ0 at15
-          d15 = Typed.g-pre 𝓤 H A W 𝓣 E G29 G30 b19 Δ0 (Typed.both s28) at14 (Relend.g-back-sl 𝓤 H A W E (Element.type) G29 24 11 5 10 (Syntax.tyRef (Syntax.named 5) Syntax.mut Element.behind)
-              (Syntax.tyRef Syntax.erased Syntax.mut Element.behind) (Row.lease (κs .1 .1 .1 .1 .1 .0) (qs .1 .1 .1 .1 .1 .0)) (λ x. x) (λ x. x) (Reads.as-is 𝓤 H A (Mut.msleft (Element.type) (Syntax.tyRef
-              Syntax.erased Syntax.mut Element.behind))) (Reads.as-is 𝓤 H A (Relend.mslice-owed (Element.type) (Syntax.tyRef (Syntax.named 5) Syntax.mut Element.behind) 5 10 (Row.lease (κs .1 .1 .1 .1 .1
-              .0) (qs .1 .1 .1 .1 .1 .0)))) Path'.refl Path'.refl) d14
+          d15 = Typed.g-pre 𝓤 H A W 𝓣 E G29 G30 b19 Δ0 (Typed.both s28) at13 (Relend.g-back-sl 𝓤 H A W E (Element.type) G29 24 11 5 10 y8 y9 k5 (λ x. x) (λ x. x) (Reads.as-is 𝓤 H A (Mut.msleft
+              (Element.type) y9)) (Reads.as-is 𝓤 H A (Relend.mslice-owed (Element.type) y8 5 10 k5)) Path'.refl Path'.refl) d14
 
-          d16 : Typed.Typed 𝓤 H A 𝓣 E G28 b19 Δ0 at16
+          d16 : Typed.Typed 𝓤 H A 𝓣 E G28 b19 Δ0 at15
           d16 = Typed.g-pre 𝓤 H A W 𝓣 E G28 G29 b19 Δ0 (λ Ψ. Ψ) at15 (Lifetime.g-end 𝓤 H A W E G28 10 Path'.refl) d15
 
-          d17 : Typed.Typed 𝓤 H A 𝓣 E G27 b19 Δ0 at17
-          d17 = Typed.g-pre 𝓤 H A W 𝓣 E G27 G28 b19 Δ0 (λ Ψ. Ψ) at16 (Lifetime.g-forget 𝓤 H A W E G27 9 Row.dead Path'.refl) d16
+          d17 : Typed.Typed 𝓤 H A 𝓣 E G26 b19 Δ0 at15
+          d17 = Typed.g-pre 𝓤 H A W 𝓣 E G26 G28 b19 Δ0 (λ Ψ. Ψ) at15 (Lifetime.g-forget 𝓤 H A W E G26 9 Row.dead Path'.refl) d16
 
           d18 : Typed.Typed 𝓤 H A 𝓣 E G26 b19 Δ0 at18
-          d18 = Typed.g-pre 𝓤 H A W 𝓣 E G26 G27 b19 Δ0 (Typed.give s25) at17 (Know.g-sl-known 𝓤 H A W (Referent.fInt Syntax.w16) E G26 10 4 (Syntax.tyRef (Syntax.named 4) Syntax.mut (Syntax.tyInt
-              Syntax.w16)) (Row.lease (κs .1 .1 .1 .1 .0) (qs .1 .1 .1 .1 .0)) 0 (λ x. x) record { fits = Dec'.lit< tt } (Reads.as-is 𝓤 H A (Mut.mslice (Referent.rtF (Referent.fInt Syntax.w16))
-              (Syntax.tyRef (Syntax.named 4) Syntax.mut (Syntax.tyInt Syntax.w16)) 4)) Path'.refl tt) d17
+          d18 = Typed.g-pre 𝓤 H A W 𝓣 E G26 G26 b19 Δ0 (Typed.give s25) at15 (Know.g-sl-known 𝓤 H A W (Referent.fInt Syntax.w16) E G26 10 4 y7 k4 0 (λ x. x) record { fits = Dec'.lit< tt } (Reads.as-is
+              𝓤 H A (Mut.mslice n16 y7 4)) Path'.refl tt) d17
 
           d19 : Typed.Typed 𝓤 H A 𝓣 E G25 b19 Δ0 at19
-          d19 = Typed.g-pre 𝓤 H A W 𝓣 E G25 G26 b19 Δ0 (Typed.both s24) at18 (Relend.g-back-sl 𝓤 H A W E (Referent.rtF (Referent.fInt Syntax.w16)) G25 22 10 4 9 (Syntax.tyRef (Syntax.named 4)
-              Syntax.mut (Syntax.tyInt Syntax.w16)) (Syntax.tyRef Syntax.erased Syntax.mut (Syntax.tyInt Syntax.w16)) (Row.lease (κs .1 .1 .1 .1 .0) (qs .1 .1 .1 .1 .0)) (λ x. x) (λ x. x) (Reads.as-is 𝓤 H
-              A (Mut.msleft (Referent.rtF (Referent.fInt Syntax.w16)) (Syntax.tyRef Syntax.erased Syntax.mut (Syntax.tyInt Syntax.w16)))) (Reads.as-is 𝓤 H A (Relend.mslice-owed (Referent.rtF
-              (Referent.fInt Syntax.w16)) (Syntax.tyRef (Syntax.named 4) Syntax.mut (Syntax.tyInt Syntax.w16)) 4 9 (Row.lease (κs .1 .1 .1 .1 .0) (qs .1 .1 .1 .1 .0)))) Path'.refl Path'.refl) d18
+          d19 = Typed.g-pre 𝓤 H A W 𝓣 E G25 G26 b19 Δ0 (Typed.both s24) at18 (Relend.g-back-sl 𝓤 H A W E n16 G25 22 10 4 9 y7 y10 k4 (λ x. x) (λ x. x) (Reads.as-is 𝓤 H A (Mut.msleft n16 y10))
+              (Reads.as-is 𝓤 H A (Relend.mslice-owed n16 y7 4 9 k4)) Path'.refl Path'.refl) d18
 
-          d20 : Typed.Typed 𝓤 H A 𝓣 E G24 b19 Δ0 at20
+          d20 : Typed.Typed 𝓤 H A 𝓣 E G24 b19 Δ0 at19
           d20 = Typed.g-pre 𝓤 H A W 𝓣 E G24 G25 b19 Δ0 (λ Ψ. Ψ) at19 (Lifetime.g-end 𝓤 H A W E G24 9 Path'.refl) d19
 
-          d21 : Typed.Typed 𝓤 H A 𝓣 E G23 b19 Δ0 at21
-          d21 = Typed.g-pre 𝓤 H A W 𝓣 E G23 G24 b19 Δ0 (λ Ψ. Ψ) at20 (Lifetime.g-forget 𝓤 H A W E G23 8 Row.dead Path'.refl) d20
+          d21 : Typed.Typed 𝓤 H A 𝓣 E G22 b19 Δ0 at19
+          d21 = Typed.g-pre 𝓤 H A W 𝓣 E G22 G24 b19 Δ0 (λ Ψ. Ψ) at19 (Lifetime.g-forget 𝓤 H A W E G22 8 Row.dead Path'.refl) d20
 
           d22 : Typed.Typed 𝓤 H A 𝓣 E G22 b19 Δ0 at22
-          d22 = Typed.g-pre 𝓤 H A W 𝓣 E G22 G23 b19 Δ0 (Typed.give s21) at21 (Know.g-sl-known 𝓤 H A W (Referent.fInt Syntax.w16) E G22 9 3 (Syntax.tyRef (Syntax.named 3) Syntax.mut (Syntax.tyInt
-              Syntax.w16)) (Row.lease (κs .1 .1 .1 .0) (qs .1 .1 .1 .0)) 0 (λ x. x) record { fits = Dec'.lit< tt } (Reads.as-is 𝓤 H A (Mut.mslice (Referent.rtF (Referent.fInt Syntax.w16)) (Syntax.tyRef
-              (Syntax.named 3) Syntax.mut (Syntax.tyInt Syntax.w16)) 3)) Path'.refl tt) d21
+          d22 = Typed.g-pre 𝓤 H A W 𝓣 E G22 G22 b19 Δ0 (Typed.give s21) at19 (Know.g-sl-known 𝓤 H A W (Referent.fInt Syntax.w16) E G22 9 3 y6 k3 0 (λ x. x) record { fits = Dec'.lit< tt } (Reads.as-is
+              𝓤 H A (Mut.mslice n16 y6 3)) Path'.refl tt) d21
 
           d23 : Typed.Typed 𝓤 H A 𝓣 E G21 b19 Δ0 at23
-          d23 = Typed.g-pre 𝓤 H A W 𝓣 E G21 G22 b19 Δ0 (Typed.both s20) at22 (Relend.g-back-sl 𝓤 H A W E (Referent.rtF (Referent.fInt Syntax.w16)) G21 20 9 3 8 (Syntax.tyRef (Syntax.named 3)
-              Syntax.mut (Syntax.tyInt Syntax.w16)) (Syntax.tyRef Syntax.erased Syntax.mut (Syntax.tyInt Syntax.w16)) (Row.lease (κs .1 .1 .1 .0) (qs .1 .1 .1 .0)) (λ x. x) (λ x. x) (Reads.as-is 𝓤 H A
-              (Mut.msleft (Referent.rtF (Referent.fInt Syntax.w16)) (Syntax.tyRef Syntax.erased Syntax.mut (Syntax.tyInt Syntax.w16)))) (Reads.as-is 𝓤 H A (Relend.mslice-owed (Referent.rtF (Referent.fInt
-              Syntax.w16)) (Syntax.tyRef (Syntax.named 3) Syntax.mut (Syntax.tyInt Syntax.w16)) 3 8 (Row.lease (κs .1 .1 .1 .0) (qs .1 .1 .1 .0)))) Path'.refl Path'.refl) d22
+          d23 = Typed.g-pre 𝓤 H A W 𝓣 E G21 G22 b19 Δ0 (Typed.both s20) at22 (Relend.g-back-sl 𝓤 H A W E n16 G21 20 9 3 8 y6 y10 k3 (λ x. x) (λ x. x) (Reads.as-is 𝓤 H A (Mut.msleft n16 y10))
+              (Reads.as-is 𝓤 H A (Relend.mslice-owed n16 y6 3 8 k3)) Path'.refl Path'.refl) d22
 
-          d24 : Typed.Typed 𝓤 H A 𝓣 E G20 b19 Δ0 at24
+          d24 : Typed.Typed 𝓤 H A 𝓣 E G20 b19 Δ0 at23
           d24 = Typed.g-pre 𝓤 H A W 𝓣 E G20 G21 b19 Δ0 (λ Ψ. Ψ) at23 (Lifetime.g-end 𝓤 H A W E G20 8 Path'.refl) d23
 
           d25 : Typed.Typed 𝓤 H A 𝓣 E G19 b19 Δ0 at25
-          d25 = Typed.g-pre 𝓤 H A W 𝓣 E G19 G20 b19 Δ0 (Typed.pass T19 T20 s18) at24 (Scalar.g-room 𝓤 H A W E G19 15 (Syntax.tyArray (Syntax.tyInt Syntax.w8) 36) (Init.room-arr 𝓤 H A W (Referent.rtF
-              (Referent.fInt Syntax.w8)) 36 0 36 Path'.refl)) d24
+          d25 = Typed.g-pre 𝓤 H A W 𝓣 E G19 G20 b19 Δ0 (Typed.pass T19 T20 s18) at23 (Scalar.g-room 𝓤 H A W E G19 15 y2 (Init.room-arr 𝓤 H A W n8 36 0 36 Path'.refl)) d24
 
           d26 : Typed.Typed 𝓤 H A 𝓣 E G18 b19 Δ0 at26
-          d26 = Typed.g-pre 𝓤 H A W 𝓣 E G18 G19 b19 Δ0 (Typed.pass T18 T19 s17) at25 (Scalar.g-room 𝓤 H A W E G18 14 y0 (Local.room-whole 𝓤 H A W (Declared.row Rect.the-type) y0 Path'.refl)) d25
+          d26 = Typed.g-pre 𝓤 H A W 𝓣 E G18 G19 b19 Δ0 (Typed.pass T18 T19 s17) at25 (Scalar.g-room 𝓤 H A W E G18 14 y11 (Local.room-whole 𝓤 H A W (Declared.row Rect.the-type) y11 Path'.refl)) d25
 
-          d27 : Typed.Typed 𝓤 H A 𝓣 E G17 b20 Δ0 at27
-          d27 = Typed.s-seq 𝓤 H A W 𝓣 E G17 G18 b8 b19 Δ0 (Typed.both s16) at26 (Plain.t-call-plain 𝓤 H A W 𝓣 5 ps·0 r·0 (claims· .0) (claims· .1) "block::checkpoints::resume_region" (known .0) E (λ
-              pos β. β) G17 (
-                record { pos = 1; ty = Syntax.tyRef (Syntax.named 0) Syntax.imm (Syntax.tyInt Syntax.w8); ref = λ x. x },
+          d27 : Typed.Typed 𝓤 H A 𝓣 E G17 (Syntax.seq b8 b19) Δ0 at27
+          d27 = Typed.s-seq 𝓤 H A W 𝓣 E G17 G18 b8 b19 Δ0 (Typed.both s16) at26 (Plain.t-call-plain 𝓤 H A W 𝓣 5 ps·0 r·0 (claims· .0) (claims· .1) "block_states::resume_region" (known .0) E (λ pos β.
+              β) G17 (
+                record { pos = 1; ty = y4; ref = λ x. x },
                 (
                   Num.vAt 2 λ x. x,
                   (
-                    record { pos = 3; ty = Syntax.tyRef (Syntax.named 1) Syntax.imm (Syntax.tyInt Syntax.w8); ref = λ x. x },
+                    record { pos = 3; ty = y5; ref = λ x. x },
                     (
-                      record { pos = 14; st = List.[]; d = 0; at = λ x. x },
+                      record { pos = 14; st = []; d = 0; at = λ x. x },
                       (
-                        record { pos = 15; st = List.[]; d = 0; at = λ x. x },
-                        (
-                          record { pos = 20; ty = Syntax.tyRef Syntax.erased Syntax.mut (Syntax.tyInt Syntax.w16); ref = λ x. x },
-                          (
-                            record { pos = 22; ty = Syntax.tyRef Syntax.erased Syntax.mut (Syntax.tyInt Syntax.w16); ref = λ x. x },
-                            (record { pos = 24; ty = Syntax.tyRef Syntax.erased Syntax.mut Element.behind; ref = λ x. x }, tt),
-                          ),
-                        ),
+                        record { pos = 15; st = []; d = 0; at = λ x. x },
+                        (record { pos = 20; ty = y10; ref = λ x. x }, (record { pos = 22; ty = y10; ref = λ x. x }, (record { pos = 24; ty = y9; ref = λ x. x }, tt))),
                       ),
                     ),
                   ),
                 ),
-              ) 16 (List._∷_ 0 (List._∷_ 1 (List._∷_ 8 (List._∷_ 9 (List._∷_ 10 List.[])))))
+              ) 16 (0 ∷ 1 ∷ 8 ∷ 9 ∷ 10 ∷ [])
               (Call.sub-id 𝓤 H A W (G17 .slots)) (
-                ShrSlice.spares-sslice 𝓤 H A W (Referent.rtF (Referent.fInt Syntax.w8)) (Syntax.tyRef (Syntax.named 0) Syntax.imm (Syntax.tyInt Syntax.w8)) 0,
-                Shared.reads-sslice 𝓤 H A W (Referent.rtF
-                    (Referent.fInt Syntax.w8)) (Syntax.tyRef (Syntax.named 0) Syntax.imm (Syntax.tyInt Syntax.w8)) 0,
+                ShrSlice.spares-sslice 𝓤 H A W n8 y4 0,
+                Shared.reads-sslice 𝓤 H A W n8 y4 0,
                 Path'.refl,
                 (
                   (Scalar.reads-sc 𝓤 H A W (Row.sInt Syntax.w64), Path'.refl),
                   (
-                    ShrSlice.spares-sslice 𝓤 H A W (Referent.rtF (Referent.fInt Syntax.w8)) (Syntax.tyRef (Syntax.named 1) Syntax.imm (Syntax.tyInt Syntax.w8)) 1,
-                    Shared.reads-sslice 𝓤 H A W (Referent.rtF
-                        (Referent.fInt Syntax.w8)) (Syntax.tyRef (Syntax.named 1) Syntax.imm (Syntax.tyInt Syntax.w8)) 1,
+                    ShrSlice.spares-sslice 𝓤 H A W n8 y5 1,
+                    Shared.reads-sslice 𝓤 H A W n8 y5 1,
                     Path'.refl,
                     (
-                      (
-                        Yields.yields-copy 𝓤 H A W (λ ρ. Unit) (Declared.row Rect.the-type) Path'.refl (Copies.cStruct Rect.the-type Laws'.the-laws Laws'.the-copy .copy 𝓤 H A W) (Rows'.whole (Declared.row
-                            Rect.the-type)) (λ x. x) (λ x. x) (λ ρ told. Local.mem-whole 𝓤 H A W (Declared.row Rect.the-type) ρ) λ ρ told. Local.whole-mem 𝓤 H A W (Declared.row Rect.the-type) ρ,
-                        Path'.refl,
-                      ),
+                      (Values.struct-copied 𝓤 H A W Rect.the-type Laws'.the-laws Laws'.the-copy, Path'.refl),
                       (
                         (Array.arr-yields 𝓤 H A W (Array.eInt Syntax.w8) (Array.eInt-laws Syntax.w8) 36, Path'.refl),
                         (
-                          Reads.as-is 𝓤 H A (Mut.mslice (Referent.rtF (Referent.fInt Syntax.w16)) (Syntax.tyRef Syntax.erased Syntax.mut (Syntax.tyInt Syntax.w16)) 8),
-                          Mut.reads-mslice 𝓤 H A W (Referent.rtF
-                              (Referent.fInt Syntax.w16)) (Syntax.tyRef Syntax.erased Syntax.mut (Syntax.tyInt Syntax.w16)) 8,
+                          Reads.as-is 𝓤 H A (Mut.mslice n16 y10 8),
+                          Mut.reads-mslice 𝓤 H A W n16 y10 8,
                           Path'.refl,
                           (
-                            Reads.as-is 𝓤 H A (Mut.mslice (Referent.rtF (Referent.fInt Syntax.w16)) (Syntax.tyRef Syntax.erased Syntax.mut (Syntax.tyInt Syntax.w16)) 9),
-                            Mut.reads-mslice 𝓤 H A W (Referent.rtF
-                                (Referent.fInt Syntax.w16)) (Syntax.tyRef Syntax.erased Syntax.mut (Syntax.tyInt Syntax.w16)) 9,
+                            Reads.as-is 𝓤 H A (Mut.mslice n16 y10 9),
+                            Mut.reads-mslice 𝓤 H A W n16 y10 9,
                             Path'.refl,
-                            (
-                              Reads.as-is 𝓤 H A (Mut.mslice (Element.type) (Syntax.tyRef Syntax.erased Syntax.mut Element.behind) 10),
-                              Mut.reads-mslice 𝓤 H A W (Element.type) (Syntax.tyRef Syntax.erased Syntax.mut
-                                  Element.behind) 10,
-                              Path'.refl,
-                              tt,
-                            ),
+                            (Reads.as-is 𝓤 H A (Mut.mslice (Element.type) y9 10), Mut.reads-mslice 𝓤 H A W (Element.type) y9 10, Path'.refl, tt),
                           ),
                         ),
                       ),
                     ),
                   ),
                 ),
-              ) (Reads.room-gone 𝓤 H A y4) (tt, (tt, (tt, (tt, (tt, tt))))) Path'.refl) d26
+              ) (Reads.room-gone 𝓤 H A y19) (tt, (tt, (tt, (tt, (tt, tt)))))
+              Path'.refl) d26
 
-          d28 : Typed.Typed 𝓤 H A 𝓣 E G16 b20 Δ0 at28
-          d28 = Typed.g-pre 𝓤 H A W 𝓣 E G16 G17 b20 Δ0 (Typed.pass T16 T17 s15) at27 (AtSlots.g-as-by 𝓤 H A W E (λ ρ. Unit) G16 14 (Rows'.whole (Declared.row Rect.the-type)) (λ v. Rect.struct .make v
-              tt) (Own.told-none 𝓤 H A (G16 .slots)) λ ρ told v b. Apart.folds 𝓤 H A Rect.the-type (Rect.struct .Ghost) (Rect.struct .make) (λ v g. Path'.refl) ρ v tt b) d27
+          d28 : Typed.Typed 𝓤 H A 𝓣 E G16 (Syntax.seq b8 b19) Δ0 at28
+          d28 = Typed.g-pre 𝓤 H A W 𝓣 E G16 G17 (Syntax.seq b8 b19) Δ0 (Typed.pass T16 T17 s15) at27 (AtSlots.g-as-by 𝓤 H A W E (λ ρ. Unit) G16 14 (Rows'.whole (Declared.row Rect.the-type)) (λ v.
+              Rect.struct .make v tt) (Own.told-none 𝓤 H A (G16 .slots)) λ ρ told v b. Apart.folds 𝓤 H A Rect.the-type (Rect.struct .Ghost) (Rect.struct .make) (λ v g. Path'.refl) ρ v tt b) d27
 
-          d29 : Typed.Typed 𝓤 H A 𝓣 E G15 b21 Δ0 at29
-          d29 = Typed.s-seq 𝓤 H A W 𝓣 E G15 G16 b7 b20 Δ0 (Typed.ask s14) at28 (Relend.t-sl-aggregate 𝓤 H A W E (Element.type) 𝓣 (Relend.asMut (Element.type)) G15 23 24 10 (Syntax.tyRef Syntax.erased
-              Syntax.mut Element.behind) (Syntax.tyRef Syntax.erased Syntax.mut Element.behind) (λ x. x) (Scalar.oFld 11 (List._∷_ (Syntax.field 1) List.[]) (Syntax.tyInt Syntax.w64) 8 λ v. Shared.lenV (v
-              .0)) (Reads.as-is 𝓤 H A (Relend.msptr (Element.type) (Syntax.tyRef Syntax.erased Syntax.mut Element.behind) 10)) (Reads.room-gone 𝓤 H A y3) (
-                Relend.reads-owed-len 𝓤 H A W (Element.type) (Syntax.tyRef (Syntax.named 5) Syntax.mut Element.behind) 5 10 (Row.lease (κs .1 .1 .1 .1 .1 .0) (qs .1 .1 .1 .1 .1 .0)) 8 Path'.refl,
-                Path'.refl,
-              ) Path'.refl Path'.refl λ b o k. tt) d28
+          d29 : Typed.Typed 𝓤 H A 𝓣 E G15 (Syntax.seq b7 (Syntax.seq b8 b19)) Δ0 at29
+          d29 = Typed.s-seq 𝓤 H A W 𝓣 E G15 G16 b7 (Syntax.seq b8 b19) Δ0 (Typed.ask s14) at28 (Relend.t-sl-aggregate 𝓤 H A W E (Element.type) 𝓣 (Relend.asMut (Element.type)) G15 23 24 10 y9 y9 (λ x.
+              x) (Scalar.oFld 11 ((Syntax.field 1) ∷ []) u64 8 λ v. Shared.lenV (v .0)) (Reads.as-is 𝓤 H A (Relend.msptr (Element.type) y9 10)) (Reads.room-gone 𝓤 H A y18)
+              (Relend.reads-owed-len 𝓤 H A W (Element.type) y8 5 10 k5 8 Path'.refl, Path'.refl) Path'.refl Path'.refl λ b o k. tt) d28
 
           d30 : Typed.Typed 𝓤 H A 𝓣 E G14 b22 Δ0 at30
-          d30 = Typed.s-seq 𝓤 H A W 𝓣 E G14 G15 b6 b21 Δ0 (Typed.give s13) at29 (Relend.t-sl-relend 𝓤 H A W E (Element.type) 𝓣 G14 11 23 5 10 (Syntax.tyRef (Syntax.named 5) Syntax.mut Element.behind)
-              (Syntax.tyRef Syntax.erased Syntax.mut Element.behind) (Row.lease (κs .1 .1 .1 .1 .1 .0) (qs .1 .1 .1 .1 .1 .0)) 0 (λ x. x) (Reads.as-is 𝓤 H A (Mut.mslice (Element.type) (Syntax.tyRef
-              (Syntax.named 5) Syntax.mut Element.behind) 5)) (Reads.room-gone 𝓤 H A (Syntax.tyRef Syntax.erased Syntax.mut Element.behind)) Path'.refl tt Path'.refl Path'.refl Path'.refl λ b o. tt) d29
+          d30 = Typed.s-seq 𝓤 H A W 𝓣 E G14 G15 b6 (Syntax.seq b7 (Syntax.seq b8 b19)) Δ0 (Typed.give s13) at29 (Relend.t-sl-relend 𝓤 H A W E (Element.type) 𝓣 G14 11 23 5 10 y8 y9 k5 0 (λ x. x)
+              (Reads.as-is 𝓤 H A (Mut.mslice (Element.type) y8 5)) (Reads.room-gone 𝓤 H A y9) Path'.refl tt Path'.refl Path'.refl Path'.refl λ b o. tt) d29
 
-          d31 : Typed.Typed 𝓤 H A 𝓣 E G13 b22 Δ0 at31
+          d31 : Typed.Typed 𝓤 H A 𝓣 E G13 b22 Δ0 at30
           d31 = Typed.g-pre 𝓤 H A W 𝓣 E G13 G14 b22 Δ0 (λ Ψ. Ψ) at30 (Lifetime.g-begin 𝓤 H A W E G13 10
               (tt, (tt, (tt, (tt, (tt, (tt, (tt, (tt, (tt, ((tt, tt), ((tt, tt), (tt, (tt, (tt, (tt, (tt, (tt, (tt, (tt, (tt, (tt, (tt, (tt, (tt, (tt, tt)))))))))))))))))))))))))) d30
 
-          d32 : Typed.Typed 𝓤 H A 𝓣 E G12 b23 Δ0 at32
-          d32 = Typed.s-seq 𝓤 H A W 𝓣 E G12 G13 b5 b22 Δ0 (Typed.ask s11) at31 (Relend.t-sl-aggregate 𝓤 H A W E (Referent.rtF (Referent.fInt Syntax.w16)) 𝓣 (Relend.asMut (Referent.rtF (Referent.fInt
-              Syntax.w16))) G12 21 22 9 (Syntax.tyRef Syntax.erased Syntax.mut (Syntax.tyInt Syntax.w16)) (Syntax.tyRef Syntax.erased Syntax.mut (Syntax.tyInt Syntax.w16)) (λ x. x) (Scalar.oFld 10
-              (List._∷_ (Syntax.field 1) List.[]) (Syntax.tyInt Syntax.w64) 8 λ v. Shared.lenV (v .0)) (Reads.as-is 𝓤 H A (Relend.msptr (Referent.rtF (Referent.fInt Syntax.w16)) (Syntax.tyRef
-              Syntax.erased Syntax.mut (Syntax.tyInt Syntax.w16)) 9)) (Reads.room-gone 𝓤 H A y2) (
-                Relend.reads-owed-len 𝓤 H A W (Referent.rtF (Referent.fInt Syntax.w16)) (Syntax.tyRef (Syntax.named 4) Syntax.mut (Syntax.tyInt Syntax.w16)) 4 9 (Row.lease (κs .1 .1 .1 .1 .0) (qs .1 .1 .1
-                    .1 .0)) 8 Path'.refl,
-                Path'.refl,
-              ) Path'.refl Path'.refl λ b o k. tt) d31
+          d32 : Typed.Typed 𝓤 H A 𝓣 E G12 (Syntax.seq b5 b22) Δ0 at32
+          d32 = Typed.s-seq 𝓤 H A W 𝓣 E G12 G13 b5 b22 Δ0 (Typed.ask s11) at30 (Relend.t-sl-aggregate 𝓤 H A W E n16 𝓣 (Relend.asMut n16) G12 21 22 9 y10 y10 (λ x. x) (Scalar.oFld 10 ((Syntax.field 1)
+              ∷ []) u64 8 λ v. Shared.lenV (v .0)) (Reads.as-is 𝓤 H A (Relend.msptr n16 y10 9)) (Reads.room-gone 𝓤 H A y17) (Relend.reads-owed-len 𝓤 H A W n16 y7 4 9 k4 8 Path'.refl, Path'.refl)
+              Path'.refl Path'.refl λ b o k. tt) d31
 
-          d33 : Typed.Typed 𝓤 H A 𝓣 E G11 b24 Δ0 at33
-          d33 = Typed.s-seq 𝓤 H A W 𝓣 E G11 G12 b4 b23 Δ0 (Typed.give s10) at32 (Relend.t-sl-relend 𝓤 H A W E (Referent.rtF (Referent.fInt Syntax.w16)) 𝓣 G11 10 21 4 9 (Syntax.tyRef (Syntax.named 4)
-              Syntax.mut (Syntax.tyInt Syntax.w16)) (Syntax.tyRef Syntax.erased Syntax.mut (Syntax.tyInt Syntax.w16)) (Row.lease (κs .1 .1 .1 .1 .0) (qs .1 .1 .1 .1 .0)) 0 (λ x. x) (Reads.as-is 𝓤 H A
-              (Mut.mslice (Referent.rtF (Referent.fInt Syntax.w16)) (Syntax.tyRef (Syntax.named 4) Syntax.mut (Syntax.tyInt Syntax.w16)) 4)) (Reads.room-gone 𝓤 H A (Syntax.tyRef Syntax.erased Syntax.mut
-              (Syntax.tyInt Syntax.w16))) Path'.refl tt Path'.refl Path'.refl Path'.refl λ b o. tt) d32
+          d33 : Typed.Typed 𝓤 H A 𝓣 E G11 (Syntax.seq b4 (Syntax.seq b5 b22)) Δ0 at33
+          d33 = Typed.s-seq 𝓤 H A W 𝓣 E G11 G12 b4 (Syntax.seq b5 b22) Δ0 (Typed.give s10) at32 (Relend.t-sl-relend 𝓤 H A W E n16 𝓣 G11 10 21 4 9 y7 y10 k4 0 (λ x. x) (Reads.as-is 𝓤 H A (Mut.mslice
+              n16 y7 4)) (Reads.room-gone 𝓤 H A y10) Path'.refl tt Path'.refl Path'.refl Path'.refl λ b o. tt) d32
 
-          d34 : Typed.Typed 𝓤 H A 𝓣 E G10 b24 Δ0 at34
-          d34 = Typed.g-pre 𝓤 H A W 𝓣 E G10 G11 b24 Δ0 (λ Ψ. Ψ) at33 (Lifetime.g-begin 𝓤 H A W E G10 9
+          d34 : Typed.Typed 𝓤 H A 𝓣 E G10 (Syntax.seq b4 (Syntax.seq b5 b22)) Δ0 at33
+          d34 = Typed.g-pre 𝓤 H A W 𝓣 E G10 G11 (Syntax.seq b4 (Syntax.seq b5 b22)) Δ0 (λ Ψ. Ψ) at33 (Lifetime.g-begin 𝓤 H A W E G10 9
               (tt, (tt, (tt, (tt, (tt, (tt, (tt, (tt, (tt, ((tt, tt), (tt, (tt, (tt, (tt, (tt, (tt, (tt, (tt, (tt, (tt, (tt, (tt, (tt, (tt, (tt, tt)))))))))))))))))))))))))) d33
 
           d35 : Typed.Typed 𝓤 H A 𝓣 E G9 b25 Δ0 at35
-          d35 = Typed.s-seq 𝓤 H A W 𝓣 E G9 G10 b3 b24 Δ0 (Typed.ask s8) at34 (Relend.t-sl-aggregate 𝓤 H A W E (Referent.rtF (Referent.fInt Syntax.w16)) 𝓣 (Relend.asMut (Referent.rtF (Referent.fInt
-              Syntax.w16))) G9 19 20 8 (Syntax.tyRef Syntax.erased Syntax.mut (Syntax.tyInt Syntax.w16)) (Syntax.tyRef Syntax.erased Syntax.mut (Syntax.tyInt Syntax.w16)) (λ x. x) (Scalar.oFld 9 (List._∷_
-              (Syntax.field 1) List.[]) (Syntax.tyInt Syntax.w64) 8 λ v. Shared.lenV (v .0)) (Reads.as-is 𝓤 H A (Relend.msptr (Referent.rtF (Referent.fInt Syntax.w16)) (Syntax.tyRef Syntax.erased
-              Syntax.mut (Syntax.tyInt Syntax.w16)) 8)) (Reads.room-gone 𝓤 H A y2) (
-                Relend.reads-owed-len 𝓤 H A W (Referent.rtF (Referent.fInt Syntax.w16)) (Syntax.tyRef (Syntax.named 3) Syntax.mut (Syntax.tyInt Syntax.w16)) 3 8 (Row.lease (κs .1 .1 .1 .0) (qs .1 .1 .1
-                    .0)) 8 Path'.refl,
-                Path'.refl,
-              ) Path'.refl Path'.refl λ b o k. tt) d34
+          d35 = Typed.s-seq 𝓤 H A W 𝓣 E G9 G10 b3 (Syntax.seq b4 (Syntax.seq b5 b22)) Δ0 (Typed.ask s8) at33 (Relend.t-sl-aggregate 𝓤 H A W E n16 𝓣 (Relend.asMut n16) G9 19 20 8 y10 y10 (λ x. x)
+              (Scalar.oFld 9 ((Syntax.field 1) ∷ []) u64 8 λ v. Shared.lenV (v .0)) (Reads.as-is 𝓤 H A (Relend.msptr n16 y10 8)) (Reads.room-gone 𝓤 H A y17)
+              (Relend.reads-owed-len 𝓤 H A W n16 y6 3 8 k3 8 Path'.refl, Path'.refl) Path'.refl Path'.refl λ b o k. tt) d34
 
-          d36 : Typed.Typed 𝓤 H A 𝓣 E G8 b26 Δ0 at36
-          d36 = Typed.s-seq 𝓤 H A W 𝓣 E G8 G9 b2 b25 Δ0 (Typed.give s7) at35 (Relend.t-sl-relend 𝓤 H A W E (Referent.rtF (Referent.fInt Syntax.w16)) 𝓣 G8 9 19 3 8 (Syntax.tyRef (Syntax.named 3)
-              Syntax.mut (Syntax.tyInt Syntax.w16)) (Syntax.tyRef Syntax.erased Syntax.mut (Syntax.tyInt Syntax.w16)) (Row.lease (κs .1 .1 .1 .0) (qs .1 .1 .1 .0)) 0 (λ x. x) (Reads.as-is 𝓤 H A
-              (Mut.mslice (Referent.rtF (Referent.fInt Syntax.w16)) (Syntax.tyRef (Syntax.named 3) Syntax.mut (Syntax.tyInt Syntax.w16)) 3)) (Reads.room-gone 𝓤 H A (Syntax.tyRef Syntax.erased Syntax.mut
-              (Syntax.tyInt Syntax.w16))) Path'.refl tt Path'.refl Path'.refl Path'.refl λ b o. tt) d35
+          d36 : Typed.Typed 𝓤 H A 𝓣 E G8 (Syntax.seq b2 b25) Δ0 at36
+          d36 = Typed.s-seq 𝓤 H A W 𝓣 E G8 G9 b2 b25 Δ0 (Typed.give s7) at35 (Relend.t-sl-relend 𝓤 H A W E n16 𝓣 G8 9 19 3 8 y6 y10 k3 0 (λ x. x) (Reads.as-is 𝓤 H A (Mut.mslice n16 y6 3))
+              (Reads.room-gone 𝓤 H A y10) Path'.refl tt Path'.refl Path'.refl Path'.refl λ b o. tt) d35
 
-          d37 : Typed.Typed 𝓤 H A 𝓣 E G7 b26 Δ0 at37
-          d37 = Typed.g-pre 𝓤 H A W 𝓣 E G7 G8 b26 Δ0 (λ Ψ. Ψ) at36 (Lifetime.g-begin 𝓤 H A W E G7 8
+          d37 : Typed.Typed 𝓤 H A 𝓣 E (on T7 l5) (Syntax.seq b2 b25) Δ0 at36
+          d37 = Typed.g-pre 𝓤 H A W 𝓣 E (on T7 l5) G8 (Syntax.seq b2 b25) Δ0 (λ Ψ. Ψ) at36 (Lifetime.g-begin 𝓤 H A W E (on T7 l5) 8
               (tt, (tt, (tt, (tt, (tt, (tt, (tt, (tt, (tt, (tt, (tt, (tt, (tt, (tt, (tt, (tt, (tt, (tt, (tt, (tt, (tt, (tt, (tt, (tt, (tt, tt)))))))))))))))))))))))))) d36
 
-          d38 : Typed.Typed 𝓤 H A 𝓣 E G6 b27 Δ0 at38
-          d38 = Typed.s-seq 𝓤 H A W 𝓣 E G6 G7 b1 b26 Δ0 (Typed.give s5) at37 (DerefMove.t-sref-read-copy 𝓤 H A W E 𝓣 (λ ρ. Unit) G6 8 15 2 (Array'.Array (Referent.rtF (Referent.fInt Syntax.w8)) 36)
-              (Syntax.tyRef (Syntax.named 2) Syntax.imm (Syntax.tyArray (Syntax.tyInt Syntax.w8) 36)) (Syntax.tyArray (Syntax.tyInt Syntax.w8) 36) (Syntax.tyArray (Syntax.tyInt Syntax.w8) 36) (Row.lease
-              (κs .1 .1 .0) (qs .1 .1 .0)) (λ x. x) (Rows.arrF (Referent.rtF (Referent.fInt Syntax.w8)) 36 0) (λ x. x) (λ x. Unit) Path'.refl Path'.refl Path'.refl (Copies.cArr (Referent.rtF
-              (Referent.fInt Syntax.w8)) (Copies.cRf (Referent.fInt Syntax.w8)) 36 .copy 𝓤 H A W) (DerefMove.learns-nothing 𝓤 H A (Array'.Array (Referent.rtF (Referent.fInt Syntax.w8)) 36)) (Own.told-none
-              𝓤 H A (G6 .slots)) (Copies.halves 𝓤 H A W (Copies.cArr (Referent.rtF (Referent.fInt Syntax.w8)) (Copies.cRf (Referent.fInt Syntax.w8)) 36)) (Reads.as-is 𝓤 H A (Rows'.sref (Array'.Array
-              (Referent.rtF (Referent.fInt Syntax.w8)) 36) (Syntax.tyRef (Syntax.named 2) Syntax.imm (Syntax.tyArray (Syntax.tyInt Syntax.w8) 36)) 2)) (Reads.room-gone 𝓤 H A (Syntax.tyArray (Syntax.tyInt
-              Syntax.w8) 36)) (Yields.makes-mem 𝓤 H A W (λ ρ. Unit) (Array'.Array (Referent.rtF (Referent.fInt Syntax.w8)) 36) Path'.refl (Rows.arrF (Referent.rtF (Referent.fInt Syntax.w8)) 36 0) (λ x. x)
-              λ ρ told. Whole.arr-mem 𝓤 H A W (Referent.rtF (Referent.fInt Syntax.w8)) 36 tt ρ) Path'.refl tt Path'.refl Path'.refl) d37
+          d38 : Typed.Typed 𝓤 H A 𝓣 E (on T6 l5) (Syntax.seq b1 (Syntax.seq b2 b25)) Δ0 at38
+          d38 = Typed.s-seq 𝓤 H A W 𝓣 E (on T6 l5) (on T7 l5) b1 (Syntax.seq b2 b25) Δ0 (Typed.give s5) at36 (DerefMove.t-sref-read-copy 𝓤 H A W E 𝓣 (λ ρ. Unit) (on T6 l5) 8 15 2 (Array'.Array n8 36)
+              y14 y2 y2 k2 (λ x. x) (Rows.arrF n8 36 0) (λ x. x) (λ x. Unit) Path'.refl Path'.refl Path'.refl (Copies.cArr n8 (Copies.cRf (Referent.fInt Syntax.w8)) 36 .copy 𝓤 H A W)
+              (DerefMove.learns-nothing 𝓤 H A (Array'.Array n8 36)) (Own.told-none 𝓤 H A ((on T6 l5) .slots)) (Copies.halves 𝓤 H A W (Copies.cArr n8 (Copies.cRf (Referent.fInt Syntax.w8)) 36))
+              (Reads.as-is 𝓤 H A (Rows'.sref (Array'.Array n8 36) y14 2)) (Reads.room-gone 𝓤 H A y2) (Yields.makes-mem 𝓤 H A W (λ ρ. Unit) (Array'.Array n8 36) Path'.refl (Rows.arrF n8 36 0) (λ x. x) λ ρ
+              told. Whole.arr-mem 𝓤 H A W n8 36 tt ρ) Path'.refl tt Path'.refl Path'.refl) d37
 
-          d39 : Typed.Typed 𝓤 H A 𝓣 E G5 b28 Δ0 at39
-          d39 = Typed.s-seq 𝓤 H A W 𝓣 E G5 G6 b0 b27 Δ0 (Typed.pass T5 T6 s4) at38 (Make.t-struct-make 𝓤 H A W E 𝓣 (Apart.apartT Rect.the-type) Laws'.the-laws Laws'.the-plain G5 14 (List._∷_
-              (Scalar.oAt 4 (Syntax.tyInt Syntax.w64) (Row.valS (Row.sInt Syntax.w64))) (List._∷_ (Scalar.oAt 5 (Syntax.tyInt Syntax.w64) (Row.valS (Row.sInt Syntax.w64))) (List._∷_ (Scalar.oAt 6
-              (Syntax.tyInt Syntax.w64) (Row.valS (Row.sInt Syntax.w64))) (List._∷_ (Scalar.oAt 7 (Syntax.tyInt Syntax.w64) (Row.valS (Row.sInt Syntax.w64))) List.[])))) (λ m.
-              (m .1 .1 .1 .1 .0, (m .1 .1 .1 .1 .1 .0, (m .1 .1 .1 .1 .1 .1 .0, (m .1 .1 .1 .1 .1 .1 .1 .0, tt))))) (Reads.room-gone 𝓤 H A y0) (
+          d39 : Typed.Typed 𝓤 H A 𝓣 E (on T0 l5) b28 Δ0 at39
+          d39 = Typed.s-seq 𝓤 H A W 𝓣 E (on T0 l5) (on T6 l5) b0 (Syntax.seq b1 (Syntax.seq b2 b25)) Δ0 (Typed.pass T0 T6 s4) at38 (Make.t-struct-make 𝓤 H A W E 𝓣 (Apart.apartT Rect.the-type)
+              Laws'.the-laws Laws'.the-plain (on T0 l5) 14 ((Scalar.oAt 4 u64 (Row.valS (Row.sInt Syntax.w64))) ∷ (Scalar.oAt 5 u64 (Row.valS (Row.sInt Syntax.w64))) ∷ (Scalar.oAt 6 u64 (Row.valS
+              (Row.sInt Syntax.w64))) ∷ (Scalar.oAt 7 u64 (Row.valS (Row.sInt Syntax.w64))) ∷ []) (λ m.
+              (m .1 .1 .1 .1 .0, (m .1 .1 .1 .1 .1 .0, (m .1 .1 .1 .1 .1 .1 .0, (m .1 .1 .1 .1 .1 .1 .1 .0, tt))))) (Reads.room-gone 𝓤 H A y11) (
                 (Scalar.reads-sc 𝓤 H A W (Row.sInt Syntax.w64), Path'.refl),
                 (
                   (Scalar.reads-sc 𝓤 H A W (Row.sInt Syntax.w64), Path'.refl),
@@ -1667,44 +1114,40 @@ module _ (claims· : Claims) where
               Rect.the-type) Laws'.the-laws (Make.u64-wt, (Make.u64-wt, (Make.u64-wt, (Make.u64-wt, tt))))
               (m .1 .1 .1 .1 .0, (m .1 .1 .1 .1 .1 .0, (m .1 .1 .1 .1 .1 .1 .0, (m .1 .1 .1 .1 .1 .1 .1 .0, tt))))) d38
 
-          d40 : Typed.Typed 𝓤 H A 𝓣 E G4 b28 Δ0 at40
-          d40 = Typed.g-pre 𝓤 H A W 𝓣 E G4 G5 b28 Δ0 (Typed.give s3) at39 (Know.g-sl-known 𝓤 H A W (Referent.fInt Syntax.w16) E G4 10 4 (Syntax.tyRef (Syntax.named 4) Syntax.mut (Syntax.tyInt
-              Syntax.w16)) (Row.lease (κs .1 .1 .1 .1 .0) (qs .1 .1 .1 .1 .0)) 0 (λ x. x) record { fits = Dec'.lit< tt } (Reads.as-is 𝓤 H A (Mut.mslice (Referent.rtF (Referent.fInt Syntax.w16))
-              (Syntax.tyRef (Syntax.named 4) Syntax.mut (Syntax.tyInt Syntax.w16)) 4)) Path'.refl tt) d39
+          d40 : Typed.Typed 𝓤 H A 𝓣 E (on T0 l5) b28 Δ0 at40
+          d40 = Typed.g-pre 𝓤 H A W 𝓣 E (on T0 l5) (on T0 l5) b28 Δ0 (Typed.give s3) at39 (Know.g-sl-known 𝓤 H A W (Referent.fInt Syntax.w16) E (on T0 l5) 10 4 y7 k4 0 (λ x. x) record
+              { fits = Dec'.lit< tt } (Reads.as-is 𝓤 H A (Mut.mslice n16 y7 4)) Path'.refl tt) d39
 
-          d41 : Typed.Typed 𝓤 H A 𝓣 E G3 b28 Δ0 at41
-          d41 = Typed.g-pre 𝓤 H A W 𝓣 E G3 G4 b28 Δ0 (Typed.give s2) at40 (Know.g-sl-known 𝓤 H A W (Referent.fInt Syntax.w16) E G3 9 3 (Syntax.tyRef (Syntax.named 3) Syntax.mut (Syntax.tyInt
-              Syntax.w16)) (Row.lease (κs .1 .1 .1 .0) (qs .1 .1 .1 .0)) 0 (λ x. x) record { fits = Dec'.lit< tt } (Reads.as-is 𝓤 H A (Mut.mslice (Referent.rtF (Referent.fInt Syntax.w16)) (Syntax.tyRef
-              (Syntax.named 3) Syntax.mut (Syntax.tyInt Syntax.w16)) 3)) Path'.refl tt) d40
+          d41 : Typed.Typed 𝓤 H A 𝓣 E (on T0 l5) b28 Δ0 at41
+          d41 = Typed.g-pre 𝓤 H A W 𝓣 E (on T0 l5) (on T0 l5) b28 Δ0 (Typed.give s2) at40 (Know.g-sl-known 𝓤 H A W (Referent.fInt Syntax.w16) E (on T0 l5) 9 3 y6 k3 0 (λ x. x) record
+              { fits = Dec'.lit< tt } (Reads.as-is 𝓤 H A (Mut.mslice n16 y6 3)) Path'.refl tt) d40
 
-          d42 : Typed.Typed 𝓤 H A 𝓣 E G2 b28 Δ0 at42
-          d42 = Typed.g-pre 𝓤 H A W 𝓣 E G2 G3 b28 Δ0 (Typed.give s1) at41 (Know.g-shs-known 𝓤 H A W (Referent.fInt Syntax.w8) E G2 3 1 (Syntax.tyRef (Syntax.named 1) Syntax.imm (Syntax.tyInt
-              Syntax.w8)) (Row.lease (κs .1 .0) (qs .1 .0)) 0 (λ x. x) record { fits = Dec'.lit< tt } (Reads.as-is 𝓤 H A (Rows'.sslice (Referent.rtF (Referent.fInt Syntax.w8)) (Syntax.tyRef (Syntax.named
-              1) Syntax.imm (Syntax.tyInt Syntax.w8)) 1)) Path'.refl tt) d41
+          d42 : Typed.Typed 𝓤 H A 𝓣 E (on T0 l5) b28 Δ0 at42
+          d42 = Typed.g-pre 𝓤 H A W 𝓣 E (on T0 l5) (on T0 l5) b28 Δ0 (Typed.give s1) at41 (Know.g-shs-known 𝓤 H A W (Referent.fInt Syntax.w8) E (on T0 l5) 3 1 y5 k1 0 (λ x. x) record
+              { fits = Dec'.lit< tt } (Reads.as-is 𝓤 H A (Rows'.sslice n8 y5 1)) Path'.refl tt) d41
 
-          d43 : Typed.Typed 𝓤 H A 𝓣 E G0 b28 Δ0 at43
-          d43 = Typed.g-pre 𝓤 H A W 𝓣 E G0 G2 b28 Δ0 (Typed.give s0) at42 (Know.g-shs-known 𝓤 H A W (Referent.fInt Syntax.w8) E G0 1 0 (Syntax.tyRef (Syntax.named 0) Syntax.imm (Syntax.tyInt
-              Syntax.w8)) (Row.lease (κs .0) (qs .0)) 0 (λ x. x) record { fits = Dec'.lit< tt } (Reads.as-is 𝓤 H A (Rows'.sslice (Referent.rtF (Referent.fInt Syntax.w8)) (Syntax.tyRef (Syntax.named 0)
-              Syntax.imm (Syntax.tyInt Syntax.w8)) 0)) Path'.refl tt) d42
+          d43 : Typed.Typed 𝓤 H A 𝓣 E (on T0 l5) b28 Δ0 at43
+          d43 = Typed.g-pre 𝓤 H A W 𝓣 E (on T0 l5) (on T0 l5) b28 Δ0 (Typed.give s0) at42 (Know.g-shs-known 𝓤 H A W (Referent.fInt Syntax.w8) E (on T0 l5) 1 0 y4 k0 0 (λ x. x) record
+              { fits = Dec'.lit< tt } (Reads.as-is 𝓤 H A (Rows'.sslice n8 y4 0)) Path'.refl tt) d42
 
           pub typed : Typed.Typed 𝓤 H A 𝓣 E (Function.Γin 8 ps r xs m κs qs) b28 (Function.Δret 8 ps r xs m κs qs) Φ
           typed = d43
 
       module _ (κs : Lifetimes.Lfts 8) where
         pub record Args : Type 0 where
-          pub d : Kinds.Den {n = 8} κs (ShrSlice.pShrS (Referent.rtF (Referent.fInt Syntax.w8)) 0 tt)
+          pub d : Kinds.Den {n = 8} κs (ShrSlice.pShrS n8 0 tt)
           pub b : Kinds.Den {n = 8} κs (Num.pNum Syntax.w64)
-          pub state : Kinds.Den {n = 8} κs (ShrSlice.pShrS (Referent.rtF (Referent.fInt Syntax.w8)) 1 tt)
+          pub state : Kinds.Den {n = 8} κs (ShrSlice.pShrS n8 1 tt)
           pub x : Kinds.Den {n = 8} κs (Num.pNum Syntax.w64)
           pub y : Kinds.Den {n = 8} κs (Num.pNum Syntax.w64)
           pub width : Kinds.Den {n = 8} κs (Num.pNum Syntax.w64)
           pub height : Kinds.Den {n = 8} κs (Num.pNum Syntax.w64)
-          pub tile : Kinds.Den {n = 8} κs (ShrRef.pShr (Array'.Array (Referent.rtF (Referent.fInt Syntax.w8)) 36) 2 tt)
-          pub image : Kinds.Den {n = 8} κs (MutSlice.pMutS (Referent.rtF (Referent.fInt Syntax.w16)) 3 tt)
-          pub lines : Kinds.Den {n = 8} κs (MutSlice.pMutS (Referent.rtF (Referent.fInt Syntax.w16)) 4 tt)
+          pub tile : Kinds.Den {n = 8} κs (ShrRef.pShr (Array'.Array n8 36) 2 tt)
+          pub image : Kinds.Den {n = 8} κs (MutSlice.pMutS n16 3 tt)
+          pub lines : Kinds.Den {n = 8} κs (MutSlice.pMutS n16 4 tt)
           pub rs : Kinds.Den {n = 8} κs (MutSlice.pMutS (Element.type) 5 tt)
-          pub totals : Kinds.Den {n = 8} κs (Kinds.pMut (Array'.Array (Referent.rtF (Referent.fInt Syntax.w64)) 2) 6 tt)
-          pub refusal : Kinds.Den {n = 8} κs (Kinds.pMut (Array'.Array (Referent.rtF (Referent.fInt Syntax.w64)) 4) 7 tt)
+          pub totals : Kinds.Den {n = 8} κs (Kinds.pMut (Array'.Array n64 2) 6 tt)
+          pub refusal : Kinds.Den {n = 8} κs (Kinds.pMut (Array'.Array n64 4) 7 tt)
 
         abbrev pub dens : (a : Args) → Kinds.Dens κs ps
         dens = λ a. (a .d, (a .b, (a .state, (a .x, (a .y, (a .width, (a .height, (a .tile, (a .image, (a .lines, (a .rs, (a .totals, (a .refusal, tt)))))))))))))
@@ -1735,7 +1178,7 @@ module _ (claims· : Claims) where
         pub fits : Ranges κs args
         pub pre : Pre· κs (dens κs args)
 
-      abbrev pub m1 : (before : Start) → (given : s0 .gives (m0 (before .κs) (before .args))) → Typed.Mo T2
+      abbrev pub m1 : (before : Start) → (given : s0 .gives (m0 (before .κs) (before .args))) → Typed.Mo T0
       m1 = λ before given. s0 .next (m0 (before .κs) (before .args)) given
 
       module _ (before· : Start) where
@@ -1746,7 +1189,7 @@ module _ (claims· : Claims) where
         pub before : Start
         pub shared-slice-known : After-shared-slice-known·own before
 
-      abbrev pub m2 : (before : After-shared-slice-known) → (given : s1 .gives (m1 (before .before) (before .shared-slice-known .given))) → Typed.Mo T3
+      abbrev pub m2 : (before : After-shared-slice-known) → (given : s1 .gives (m1 (before .before) (before .shared-slice-known .given))) → Typed.Mo T0
       m2 = λ before given. s1 .next (m1 (before .before) (before .shared-slice-known .given)) given
 
       module _ (before· : After-shared-slice-known) where
@@ -1757,7 +1200,7 @@ module _ (claims· : Claims) where
         pub before : After-shared-slice-known
         pub shared-slice-known2 : After-shared-slice-known2·own before
 
-      abbrev pub m3 : (before : After-shared-slice-known2) → (given : s2 .gives (m2 (before .before) (before .shared-slice-known2 .given))) → Typed.Mo T4
+      abbrev pub m3 : (before : After-shared-slice-known2) → (given : s2 .gives (m2 (before .before) (before .shared-slice-known2 .given))) → Typed.Mo T0
       m3 = λ before given. s2 .next (m2 (before .before) (before .shared-slice-known2 .given)) given
 
       module _ (before· : After-shared-slice-known2) where
@@ -1768,11 +1211,8 @@ module _ (claims· : Claims) where
         pub before : After-shared-slice-known2
         pub slice-known : After-slice-known·own before
 
-      abbrev pub m4 : (before : After-slice-known) → (given : s3 .gives (m3 (before .before) (before .slice-known .given))) → Typed.Mo T5
-      m4 = λ before given. s3 .next (m3 (before .before) (before .slice-known .given)) given
-
       abbrev pub m5 : (before : After-slice-known) → (given : s3 .gives (m3 (before .before) (before .slice-known .given))) → Typed.Mo T6
-      m5 = λ before given. s4 (m4 before given)
+      m5 = λ before given. s4 (s3 .next (m3 (before .before) (before .slice-known .given)) given)
 
       module _ (before· : After-slice-known) where
         pub record After-slice-known2·own : Type 0 where
@@ -1793,11 +1233,8 @@ module _ (claims· : Claims) where
         pub before : After-slice-known2
         pub t : After-t·own before
 
-      abbrev pub m7 : (before : After-t) → (given : s7 .gives (m6 (before .before) (before .t .given))) → Typed.Mo T9
-      m7 = λ before given. s7 .next (m6 (before .before) (before .t .given)) given
-
       abbrev pub m8 : (before : After-t) → (given : s7 .gives (m6 (before .before) (before .t .given))) → Typed.Mo T10
-      m8 = λ before given. s8 .next (m7 before given)
+      m8 = λ before given. s8 .next (s7 .next (m6 (before .before) (before .t .given)) given)
 
       module _ (before· : After-t) where
         pub record After-resume-region-arg·own : Type 0 where
@@ -1807,11 +1244,8 @@ module _ (claims· : Claims) where
         pub before : After-t
         pub resume-region-arg : After-resume-region-arg·own before
 
-      abbrev pub m9 : (before : After-resume-region-arg) → (given : s10 .gives (m8 (before .before) (before .resume-region-arg .given))) → Typed.Mo T12
-      m9 = λ before given. s10 .next (m8 (before .before) (before .resume-region-arg .given)) given
-
       abbrev pub m10 : (before : After-resume-region-arg) → (given : s10 .gives (m8 (before .before) (before .resume-region-arg .given))) → Typed.Mo T13
-      m10 = λ before given. s11 .next (m9 before given)
+      m10 = λ before given. s11 .next (s10 .next (m8 (before .before) (before .resume-region-arg .given)) given)
 
       module _ (before· : After-resume-region-arg) where
         pub record After-resume-region-arg2·own : Type 0 where
@@ -1821,14 +1255,8 @@ module _ (claims· : Claims) where
         pub before : After-resume-region-arg
         pub resume-region-arg2 : After-resume-region-arg2·own before
 
-      abbrev pub m11 : (before : After-resume-region-arg2) → (given : s13 .gives (m10 (before .before) (before .resume-region-arg2 .given))) → Typed.Mo T15
-      m11 = λ before given. s13 .next (m10 (before .before) (before .resume-region-arg2 .given)) given
-
-      abbrev pub m12 : (before : After-resume-region-arg2) → (given : s13 .gives (m10 (before .before) (before .resume-region-arg2 .given))) → Typed.Mo T16
-      m12 = λ before given. s14 .next (m11 before given)
-
       abbrev pub m13 : (before : After-resume-region-arg2) → (given : s13 .gives (m10 (before .before) (before .resume-region-arg2 .given))) → Typed.Mo T17
-      m13 = λ before given. s15 (m12 before given)
+      m13 = λ before given. s15 (s14 .next (s13 .next (m10 (before .before) (before .resume-region-arg2 .given)) given))
 
       module _ (before· : After-resume-region-arg2) where
         pub record After-resume-region-arg3·own : Type 0 where
@@ -1846,62 +1274,20 @@ module _ (claims· : Claims) where
 
       module _ (before· : After-resume-region-arg3) where
         abbrev pub After-resume-region·own : Type 0
-        After-resume-region·own = Called.Called ps·0 r·0 (claims· .1) T17 (
-          record { pos = 1; ty = Syntax.tyRef (Syntax.named 0) Syntax.imm (Syntax.tyInt Syntax.w8); ref = λ x. x },
-          (
-            Num.vAt 2 λ x. x,
-            (
-              record { pos = 3; ty = Syntax.tyRef (Syntax.named 1) Syntax.imm (Syntax.tyInt Syntax.w8); ref = λ x. x },
-              (
-                record { pos = 14; st = List.[]; d = 0; at = λ x. x },
-                (
-                  record { pos = 15; st = List.[]; d = 0; at = λ x. x },
-                  (
-                    record { pos = 20; ty = Syntax.tyRef Syntax.erased Syntax.mut (Syntax.tyInt Syntax.w16); ref = λ x. x },
-                    (
-                      record { pos = 22; ty = Syntax.tyRef Syntax.erased Syntax.mut (Syntax.tyInt Syntax.w16); ref = λ x. x },
-                      (record { pos = 24; ty = Syntax.tyRef Syntax.erased Syntax.mut Element.behind; ref = λ x. x }, tt),
-                    ),
-                  ),
-                ),
-              ),
-            ),
-          ),
-        ) (m13 (before· .before) (before· .resume-region-arg3 .given))
+        After-resume-region·own = Called.Called ps·0 r·0 (claims· .1) T17 a0 (m13 (before· .before) (before· .resume-region-arg3 .given))
 
       pub record After-resume-region : Type 0 where
         pub before : After-resume-region-arg3
         pub resume-region : After-resume-region·own before
 
-      abbrev pub After-resume-region·gave : (c : After-resume-region) → s16 .gives (m13 (c .before .before) (c .before .resume-region-arg3 .given))
-      After-resume-region·gave = λ c. Called.given ps·0 r·0 (claims· .1) T17 (
-        record { pos = 1; ty = Syntax.tyRef (Syntax.named 0) Syntax.imm (Syntax.tyInt Syntax.w8); ref = λ x. x },
-        (
-          Num.vAt 2 λ x. x,
-          (
-            record { pos = 3; ty = Syntax.tyRef (Syntax.named 1) Syntax.imm (Syntax.tyInt Syntax.w8); ref = λ x. x },
-            (
-              record { pos = 14; st = List.[]; d = 0; at = λ x. x },
-              (
-                record { pos = 15; st = List.[]; d = 0; at = λ x. x },
-                (
-                  record { pos = 20; ty = Syntax.tyRef Syntax.erased Syntax.mut (Syntax.tyInt Syntax.w16); ref = λ x. x },
-                  (
-                    record { pos = 22; ty = Syntax.tyRef Syntax.erased Syntax.mut (Syntax.tyInt Syntax.w16); ref = λ x. x },
-                    (record { pos = 24; ty = Syntax.tyRef Syntax.erased Syntax.mut Element.behind; ref = λ x. x }, tt),
-                  ),
-                ),
-              ),
-            ),
-          ),
-        ),
-      ) (m13 (c .before .before) (c .before .resume-region-arg3 .given)) (c .resume-region)
+      abbrev pub After-resume-region·start : After-resume-region → Start
+      After-resume-region·start = λ c. c .before .before .before .before .before .before .before .before .before
 
-      abbrev pub m15 : (before : After-resume-region-arg3) → (given : s16 .gives (m13 (before .before) (before .resume-region-arg3 .given))) → Typed.Mo T19
-      m15 = λ before given. s17 (m14 before given)
+      abbrev pub After-resume-region·gave : (c : After-resume-region) → s16 .gives (m13 (c .before .before) (c .before .resume-region-arg3 .given))
+      After-resume-region·gave = λ c. Called.given ps·0 r·0 (claims· .1) T17 a0 (m13 (c .before .before) (c .before .resume-region-arg3 .given)) (c .resume-region)
 
       abbrev pub m16 : (before : After-resume-region-arg3) → (given : s16 .gives (m13 (before .before) (before .resume-region-arg3 .given))) → Typed.Mo T20
-      m16 = λ before given. s18 (m15 before given)
+      m16 = λ before given. s18 (s17 (m14 before given))
 
       abbrev pub m17 : (before : After-resume-region) → (given : s20 .gives (m16 (before .before) (After-resume-region·gave before))) → Typed.Mo T22
       m17 = λ before given. s20 .next (m16 (before .before) (After-resume-region·gave before)) given
@@ -1914,7 +1300,7 @@ module _ (claims· : Claims) where
         pub before : After-resume-region
         pub image : After-image·own before
 
-      abbrev pub m18 : (before : After-image) → (given : s21 .gives (m17 (before .before) (before .image .given))) → Typed.Mo T23
+      abbrev pub m18 : (before : After-image) → (given : s21 .gives (m17 (before .before) (before .image .given))) → Typed.Mo T22
       m18 = λ before given. s21 .next (m17 (before .before) (before .image .given)) given
 
       module _ (before· : After-image) where
@@ -1936,7 +1322,7 @@ module _ (claims· : Claims) where
         pub before : After-slice-known3
         pub lines : After-lines·own before
 
-      abbrev pub m20 : (before : After-lines) → (given : s25 .gives (m19 (before .before) (before .lines .given))) → Typed.Mo T27
+      abbrev pub m20 : (before : After-lines) → (given : s25 .gives (m19 (before .before) (before .lines .given))) → Typed.Mo T26
       m20 = λ before given. s25 .next (m19 (before .before) (before .lines .given)) given
 
       module _ (before· : After-lines) where
@@ -1966,15 +1352,17 @@ module _ (claims· : Claims) where
 
       module _ (before· : After-rs) where
         abbrev pub After-totals-words·own : Type 0
-        After-totals-words·own = Called.Called ps·1 r·1 (claims· .3) T30 (record { pos = 16; st = List.[]; d = 0; at = λ x. x }, tt) (m21 (before· .before) (before· .rs .given))
+        After-totals-words·own = Called.Called ps·1 r·1 (claims· .3) T30 (record { pos = 16; st = []; d = 0; at = λ x. x }, tt) (m21 (before· .before) (before· .rs .given))
 
       pub record After-totals-words : Type 0 where
         pub before : After-rs
         pub totals-words : After-totals-words·own before
 
+      abbrev pub After-totals-words·start : After-totals-words → Start
+      After-totals-words·start = λ c. c .before .before .before .before .before .before .before .before .before .before .before .before .before .before .before
+
       abbrev pub After-totals-words·gave : (c : After-totals-words) → s30 .gives (m21 (c .before .before) (c .before .rs .given))
-      After-totals-words·gave = λ c. Called.given ps·1 r·1 (claims· .3) T30 (record { pos = 16; st = List.[]; d = 0; at = λ x. x }, tt) (m21 (c .before .before) (c .before .rs .given)) (c
-          .totals-words)
+      After-totals-words·gave = λ c. Called.given ps·1 r·1 (claims· .3) T30 (record { pos = 16; st = []; d = 0; at = λ x. x }, tt) (m21 (c .before .before) (c .before .rs .given)) (c .totals-words)
 
       abbrev pub Need-counted-refusal-requires : Type 0
       Need-counted-refusal-requires = (c : After-totals-words) → s31 .asks (m22 (c .before) (After-totals-words·gave c))
@@ -1984,61 +1372,34 @@ module _ (claims· : Claims) where
 
       module _ (before· : After-totals-words) where
         abbrev pub After-counted-refusal·own : Type 0
-        After-counted-refusal·own = Called.Called ps·2 r·2 (claims· .5) T32 (record { pos = 16; st = List.[]; d = 0; at = λ x. x }, tt) (m22 (before· .before) (After-totals-words·gave before·))
+        After-counted-refusal·own = Called.Called ps·2 r·2 (claims· .5) T32 (record { pos = 16; st = []; d = 0; at = λ x. x }, tt) (m22 (before· .before) (After-totals-words·gave before·))
 
       pub record After-counted-refusal : Type 0 where
         pub before : After-totals-words
         pub counted-refusal : After-counted-refusal·own before
 
+      abbrev pub After-counted-refusal·start : After-counted-refusal → Start
+      After-counted-refusal·start = λ c. c .before .before .before .before .before .before .before .before .before .before .before .before .before .before .before .before
+
       abbrev pub After-counted-refusal·gave : (c : After-counted-refusal) → s31 .gives (m22 (c .before .before) (After-totals-words·gave (c .before)))
-      After-counted-refusal·gave = λ c. Called.given ps·2 r·2 (claims· .5) T32 (record { pos = 16; st = List.[]; d = 0; at = λ x. x }, tt) (m22 (c .before .before) (After-totals-words·gave (c
-          .before))) (c .counted-refusal)
+      After-counted-refusal·gave = λ c. Called.given ps·2 r·2 (claims· .5) T32 (record { pos = 16; st = []; d = 0; at = λ x. x }, tt) (m22 (c .before .before) (After-totals-words·gave (c .before))) (c
+          .counted-refusal)
 
-      abbrev pub m24 : (before : After-totals-words) → (given : s31 .gives (m22 (before .before) (After-totals-words·gave before))) → Typed.Mo T34
-      m24 = λ before given. s32 (m23 before given)
-
-      abbrev pub m25 : (before : After-totals-words) → (given : s31 .gives (m22 (before .before) (After-totals-words·gave before))) → Typed.Mo T35
-      m25 = λ before given. s33 (m24 before given)
-
-      abbrev pub m26 : (before : After-totals-words) → (given : s31 .gives (m22 (before .before) (After-totals-words·gave before))) → Typed.Mo T36
-      m26 = λ before given. s34 (m25 before given)
-
-      abbrev pub m27 : (before : After-totals-words) → (given : s31 .gives (m22 (before .before) (After-totals-words·gave before))) → Typed.Mo T37
-      m27 = λ before given. s35 (m26 before given)
-
-      abbrev pub m28 : (before : After-totals-words) → (given : s31 .gives (m22 (before .before) (After-totals-words·gave before))) → Typed.Mo T38
-      m28 = λ before given. s36 (m27 before given)
-
-      abbrev pub m29 : (before : After-totals-words) → (given : s31 .gives (m22 (before .before) (After-totals-words·gave before))) → Typed.Mo T39
-      m29 = λ before given. s37 (m28 before given)
-
-      abbrev pub m30 : (before : After-totals-words) → (given : s31 .gives (m22 (before .before) (After-totals-words·gave before))) → Typed.Mo T40
-      m30 = λ before given. s38 (m29 before given)
-
-      abbrev pub m31 : (before : After-totals-words) → (given : s31 .gives (m22 (before .before) (After-totals-words·gave before))) → Typed.Mo T41
-      m31 = λ before given. s39 (m30 before given)
-
-      abbrev pub m32 : (before : After-totals-words) → (given : s31 .gives (m22 (before .before) (After-totals-words·gave before))) → Typed.Mo T42
-      m32 = λ before given. s40 (m31 before given)
-
-      abbrev pub m33 : (before : After-totals-words) → (given : s31 .gives (m22 (before .before) (After-totals-words·gave before))) → Typed.Mo T43
-      m33 = λ before given. s41 (m32 before given)
-
-      abbrev pub m34 : (before : After-totals-words) → (given : s31 .gives (m22 (before .before) (After-totals-words·gave before))) → Typed.Mo T44
-      m34 = λ before given. s42 (m33 before given)
+      abbrev pub m34 : (before : After-totals-words) → (given : s31 .gives (m22 (before .before) (After-totals-words·gave before))) → Typed.Mo T1
+      m34 = λ before given. s42 (s41 (s40 (s39 (s38 (s37 (s36 (s35 (s34 (s33 (s32 (m23 before given)))))))))))
 
       abbrev pub Need-same-length : Type 0
-      Need-same-length = (c : After-counted-refusal) → MutSlice.SameLen (Row.get 9 (T44 .locals) (m34 (c .before) (After-counted-refusal·gave c))) (dens (c .before .before .before .before .before
+      Need-same-length = (c : After-counted-refusal) → MutSlice.SameLen (Row.get 9 (T1 .locals) (m34 (c .before) (After-counted-refusal·gave c))) (dens (c .before .before .before .before .before
           .before .before .before .before .before .before .before .before .before .before .before .κs) (c .before .before .before .before .before .before .before .before .before .before .before .before
           .before .before .before .before .args) .1 .1 .1 .1 .1 .1 .1 .1 .0)
 
       abbrev pub Need-same-length-2 : Type 0
-      Need-same-length-2 = (c : After-counted-refusal) → MutSlice.SameLen (Row.get 10 (T44 .locals) (m34 (c .before) (After-counted-refusal·gave c))) (dens (c .before .before .before .before .before
+      Need-same-length-2 = (c : After-counted-refusal) → MutSlice.SameLen (Row.get 10 (T1 .locals) (m34 (c .before) (After-counted-refusal·gave c))) (dens (c .before .before .before .before .before
           .before .before .before .before .before .before .before .before .before .before .before .κs) (c .before .before .before .before .before .before .before .before .before .before .before .before
           .before .before .before .before .args) .1 .1 .1 .1 .1 .1 .1 .1 .1 .0)
 
       abbrev pub Need-same-length-3 : Type 0
-      Need-same-length-3 = (c : After-counted-refusal) → MutSlice.SameLen (Row.get 11 (T44 .locals) (m34 (c .before) (After-counted-refusal·gave c))) (dens (c .before .before .before .before .before
+      Need-same-length-3 = (c : After-counted-refusal) → MutSlice.SameLen (Row.get 11 (T1 .locals) (m34 (c .before) (After-counted-refusal·gave c))) (dens (c .before .before .before .before .before
           .before .before .before .before .before .before .before .before .before .before .before .κs) (c .before .before .before .before .before .before .before .before .before .before .before .before
           .before .before .before .before .args) .1 .1 .1 .1 .1 .1 .1 .1 .1 .1 .0)
 
@@ -2055,8 +1416,7 @@ module _ (claims· : Claims) where
 
       module _ (resume-region-requires : Need-resume-region-requires) (totals-words-requires : Need-totals-words-requires) (counted-refusal-requires : Need-counted-refusal-requires) (same-length :
           Need-same-length) (same-length-2 : Need-same-length-2) (same-length-3 : Need-same-length-3) (returns : Need-returns) where
-        lay3 : (c : After-counted-refusal) → at11 (W0 (c .before .before .before .before .before .before .before .before .before .before .before .before .before .before .before .before .κs) (c .before
-            .before .before .before .before .before .before .before .before .before .before .before .before .before .before .before .args)) (m23 (c .before) (After-counted-refusal·gave c))
+        lay3 : (c : After-counted-refusal) → at11 (W0 (After-counted-refusal·start c .κs) (After-counted-refusal·start c .args)) (m23 (c .before) (After-counted-refusal·gave c))
         lay3 = λ c. (
           (
             Path'.refl,
@@ -2075,20 +1435,17 @@ module _ (claims· : Claims) where
                         (
                           Path'.refl,
                           (
-                            MutSlice.fix-len (Row.get 9 (T44 .locals) (m34 (c .before) (After-counted-refusal·gave c)) .ptr) (Row.get 9 (T44 .locals) (m34 (c .before) (After-counted-refusal·gave c)) .name) (Row.get 9
-                                (T44 .locals) (m34 (c .before) (After-counted-refusal·gave c)) .now) (dens (c .before .before .before .before .before .before .before .before .before .before .before .before .before .before
-                                .before .before .κs) (c .before .before .before .before .before .before .before .before .before .before .before .before .before .before .before .before .args) .1 .1 .1 .1 .1 .1 .1 .1 .0 .now)
-                                (same-length record { before = c .before; counted-refusal = c .counted-refusal }),
+                            MutSlice.fix-len (Row.get 9 (T1 .locals) (m34 (c .before) (After-counted-refusal·gave c)) .ptr) (Row.get 9 (T1 .locals) (m34 (c .before) (After-counted-refusal·gave c)) .name) (Row.get 9 (T1
+                                .locals) (m34 (c .before) (After-counted-refusal·gave c)) .now) (dens (After-counted-refusal·start c .κs) (After-counted-refusal·start c .args) .1 .1 .1 .1 .1 .1 .1 .1 .0 .now) (same-length
+                                c),
                             (
-                              MutSlice.fix-len (Row.get 10 (T44 .locals) (m34 (c .before) (After-counted-refusal·gave c)) .ptr) (Row.get 10 (T44 .locals) (m34 (c .before) (After-counted-refusal·gave c)) .name) (Row.get 10
-                                  (T44 .locals) (m34 (c .before) (After-counted-refusal·gave c)) .now) (dens (c .before .before .before .before .before .before .before .before .before .before .before .before .before .before
-                                  .before .before .κs) (c .before .before .before .before .before .before .before .before .before .before .before .before .before .before .before .before .args) .1 .1 .1 .1 .1 .1 .1 .1 .1 .0
-                                  .now) (same-length-2 record { before = c .before; counted-refusal = c .counted-refusal }),
+                              MutSlice.fix-len (Row.get 10 (T1 .locals) (m34 (c .before) (After-counted-refusal·gave c)) .ptr) (Row.get 10 (T1 .locals) (m34 (c .before) (After-counted-refusal·gave c)) .name) (Row.get 10
+                                  (T1 .locals) (m34 (c .before) (After-counted-refusal·gave c)) .now) (dens (After-counted-refusal·start c .κs) (After-counted-refusal·start c .args) .1 .1 .1 .1 .1 .1 .1 .1 .1 .0 .now)
+                                  (same-length-2 c),
                               (
-                                MutSlice.fix-len (Row.get 11 (T44 .locals) (m34 (c .before) (After-counted-refusal·gave c)) .ptr) (Row.get 11 (T44 .locals) (m34 (c .before) (After-counted-refusal·gave c)) .name) (Row.get 11
-                                    (T44 .locals) (m34 (c .before) (After-counted-refusal·gave c)) .now) (dens (c .before .before .before .before .before .before .before .before .before .before .before .before .before .before
-                                    .before .before .κs) (c .before .before .before .before .before .before .before .before .before .before .before .before .before .before .before .before .args) .1 .1 .1 .1 .1 .1 .1 .1 .1 .1 .0
-                                    .now) (same-length-3 record { before = c .before; counted-refusal = c .counted-refusal }),
+                                MutSlice.fix-len (Row.get 11 (T1 .locals) (m34 (c .before) (After-counted-refusal·gave c)) .ptr) (Row.get 11 (T1 .locals) (m34 (c .before) (After-counted-refusal·gave c)) .name) (Row.get 11
+                                    (T1 .locals) (m34 (c .before) (After-counted-refusal·gave c)) .now) (dens (After-counted-refusal·start c .κs) (After-counted-refusal·start c .args) .1 .1 .1 .1 .1 .1 .1 .1 .1 .1 .0 .now)
+                                    (same-length-3 c),
                                 (Path'.refl, (Path'.refl, tt)),
                               ),
                             ),
@@ -2101,153 +1458,46 @@ module _ (claims· : Claims) where
               ),
             ),
           ),
-          returns record
-              { before = c .before; counted-refusal = c .counted-refusal },
+          returns c,
         )
 
-        lay2 : (c : After-totals-words) → at12 (W0 (c .before .before .before .before .before .before .before .before .before .before .before .before .before .before .before .κs) (c .before .before
-            .before .before .before .before .before .before .before .before .before .before .before .before .before .args)) (m22 (c .before) (After-totals-words·gave c))
+        lay2 : (c : After-totals-words) → at12 (W0 (After-totals-words·start c .κs) (After-totals-words·start c .args)) (m22 (c .before) (After-totals-words·gave c))
         lay2 = λ c. (
-          counted-refusal-requires record { before = c .before; totals-words = c .totals-words },
-          λ g. lay3 record {
-            before = record { before = c .before; totals-words = c .totals-words };
-            counted-refusal = Called.called ps·2 r·2 (claims· .5) T32 (record { pos = 16; st = List.[]; d = 0; at = λ x. x }, tt)
-                (m22 (c .before) (After-totals-words·gave c)) g;
-          },
+          counted-refusal-requires c,
+          λ g. lay3 record
+              { before = c; counted-refusal = Called.called ps·2 r·2 (claims· .5) T32 (record { pos = 16; st = []; d = 0; at = λ x. x }, tt) (m22 (c .before) (After-totals-words·gave c)) g },
         )
 
-        lay1 : (c : After-resume-region) → at26 (W0 (c .before .before .before .before .before .before .before .before .before .κs) (c .before .before .before .before .before .before .before .before
-            .before .args)) (m14 (c .before) (After-resume-region·gave c))
+        lay1 : (c : After-resume-region) → at26 (W0 (After-resume-region·start c .κs) (After-resume-region·start c .args)) (m14 (c .before) (After-resume-region·gave c))
         lay1 = λ c. (
           Path'.refl,
-          λ g. λ g'. (
-            Path'.refl,
-            λ g''. λ g'3. (
-              Path'.refl,
-              λ g'4. (
-                totals-words-requires record {
-                  before = record {
-                    before = record {
-                      before = record { before = record { before = record { before = c .before; resume-region = c .resume-region }; image = record { given = g } }; slice-known3 = record { given = g' } };
-                      lines
-                          = record { given = g'' };
-                    };
-                    slice-known4 = record { given = g'3 };
-                  };
-                  rs = record { given = g'4 };
-                },
-                λ g'5. lay2 record {
-                  before = record {
-                    before = record {
-                      before = record {
-                        before = record { before = record { before = record { before = c .before; resume-region = c .resume-region }; image = record { given = g } }; slice-known3 = record { given = g' } };
-                        lines
-                            = record { given = g'' };
-                      };
-                      slice-known4 = record { given = g'3 };
-                    };
-                    rs = record { given = g'4 };
-                  };
-                  totals-words = Called.called ps·1 r·1 (claims· .3) T30
-                      (record { pos = 16; st = List.[]; d = 0; at = λ x. x }, tt) (m21 record {
-                        before = record {
-                          before = record { before = record { before = record { before = c .before; resume-region = c .resume-region }; image = record { given = g } }; slice-known3 = record { given = g' } };
-                          lines
-                              = record { given = g'' };
-                        };
-                        slice-known4 = record { given = g'3 };
-                      } g'4) g'5;
-                },
+          λ g. let c1 : After-image = record { before = c; image = record { given = g } } in λ g'. let c2 : After-slice-known3 = record
+              { before = c1; slice-known3 = record { given = g' } } in (
+                Path'.refl,
+                λ g''. let c3 : After-lines = record { before = c2; lines = record { given = g'' } } in λ g'3. let c4 : After-slice-known4 = record
+                    { before = c3; slice-known4 = record { given = g'3 } } in (
+                      Path'.refl,
+                      λ g'4. let c5 : After-rs = record { before = c4; rs = record { given = g'4 } } in (
+                        totals-words-requires c5,
+                        λ g'5. lay2 record
+                            { before = c5; totals-words = Called.called ps·1 r·1 (claims· .3) T30 (record { pos = 16; st = []; d = 0; at = λ x. x }, tt) (m21 c4 g'4) g'5 },
+                      ),
+                    ),
               ),
-            ),
-          ),
         )
 
         pub laid : (c : Start) → at43 (W0 (c .κs) (c .args)) (m0 (c .κs) (c .args))
-        laid = λ c. λ g. λ g'. λ g''. λ g'3. λ g'4. λ g'5. (
-          Path'.refl,
-          λ g'6. (
-            Path'.refl,
-            λ g'7. (
+        laid = λ c. λ g. let c1 : After-shared-slice-known = record { before = c; shared-slice-known = record { given = g } } in λ g'. let c2 : After-shared-slice-known2 = record
+            { before = c1; shared-slice-known2 = record { given = g' } } in λ g''. let c3 : After-slice-known = record { before = c2; slice-known = record { given = g'' } } in λ g'3. let c4 :
+            After-slice-known2 = record { before = c3; slice-known2 = record { given = g'3 } } in λ g'4. let c5 : After-t = record { before = c4; t = record { given = g'4 } } in λ g'5. let c6 :
+            After-resume-region-arg = record { before = c5; resume-region-arg = record { given = g'5 } } in (
               Path'.refl,
-              (
-                resume-region-requires record {
-                  before = record {
-                    before = record {
-                      before = record {
-                        before = record {
-                          before = record
-                              { before = record { before = record { before = c; shared-slice-known = record { given = g } }; shared-slice-known2 = record { given = g' } }; slice-known = record { given = g'' } };
-                          slice-known2 = record { given = g'3 };
-                        };
-                        t = record { given = g'4 };
-                      };
-                      resume-region-arg = record { given = g'5 };
-                    };
-                    resume-region-arg2 = record { given = g'6 };
-                  };
-                  resume-region-arg3 =
-                      record { given = g'7 };
-                },
-                λ g'8. lay1 record {
-                  before = record {
-                    before = record {
-                      before = record {
-                        before = record {
-                          before = record {
-                            before = record
-                                { before = record { before = record { before = c; shared-slice-known = record { given = g } }; shared-slice-known2 = record { given = g' } }; slice-known = record { given = g'' } };
-                            slice-known2 = record { given = g'3 };
-                          };
-                          t = record { given = g'4 };
-                        };
-                        resume-region-arg = record { given = g'5 };
-                      };
-                      resume-region-arg2 = record { given = g'6 };
-                    };
-                    resume-region-arg3 =
-                        record { given = g'7 };
-                  };
-                  resume-region = Called.called ps·0 r·0 (claims· .1) T17 (
-                    record { pos = 1; ty = Syntax.tyRef (Syntax.named 0) Syntax.imm (Syntax.tyInt Syntax.w8); ref = λ x. x },
-                    (
-                      Num.vAt 2 λ x. x,
-                      (
-                        record { pos = 3; ty = Syntax.tyRef (Syntax.named 1) Syntax.imm (Syntax.tyInt Syntax.w8); ref = λ x. x },
-                        (
-                          record { pos = 14; st = List.[]; d = 0; at = λ x. x },
-                          (
-                            record { pos = 15; st = List.[]; d = 0; at = λ x. x },
-                            (
-                              record { pos = 20; ty = Syntax.tyRef Syntax.erased Syntax.mut (Syntax.tyInt Syntax.w16); ref = λ x. x },
-                              (
-                                record { pos = 22; ty = Syntax.tyRef Syntax.erased Syntax.mut (Syntax.tyInt Syntax.w16); ref = λ x. x },
-                                (record { pos = 24; ty = Syntax.tyRef Syntax.erased Syntax.mut Element.behind; ref = λ x. x }, tt),
-                              ),
-                            ),
-                          ),
-                        ),
-                      ),
-                    ),
-                  ) (m13 record {
-                    before = record {
-                      before = record {
-                        before = record {
-                          before = record
-                              { before = record { before = record { before = c; shared-slice-known = record { given = g } }; shared-slice-known2 = record { given = g' } }; slice-known = record { given = g'' } };
-                          slice-known2 = record { given = g'3 };
-                        };
-                        t = record { given = g'4 };
-                      };
-                      resume-region-arg = record { given = g'5 };
-                    };
-                    resume-region-arg2 = record { given = g'6 };
-                  } g'7) g'8;
-                },
+              λ g'6. let c7 : After-resume-region-arg2 = record { before = c6; resume-region-arg2 = record { given = g'6 } } in (
+                Path'.refl,
+                λ g'7. let c8 : After-resume-region-arg3 = record { before = c7; resume-region-arg3 = record { given = g'7 } } in
+                    (Path'.refl, (resume-region-requires c8, λ g'8. lay1 record { before = c8; resume-region = Called.called ps·0 r·0 (claims· .1) T17 a0 (m13 c7 g'7) g'8 })),
               ),
-            ),
-          ),
-        )
+            )
 
         module _ (κs : Lifetimes.Lfts 8) (qs : Lifetimes.Shares 8) where
           pub asked : (a : Kinds.Dens κs ps) → (good : Kinds.GoodsP κs ps a) → (pre : Pre· κs a) → (bs : List.List Nat.ℕ) → Φ (Any.wantQ 8 ps r xs m κs qs a (Post· κs a)) (Function.init 8 ps r xs m κs
@@ -2284,7 +1534,7 @@ module _ (claims· : Claims) where
           }
 
         module _ {M : Type 1} (𝓤 : URA.URA M) (H : Wp.Heap 𝓤) (A : Atoms.Atoms 𝓤) (W : Kit.Given 𝓤 H A) (𝓣 : Wp.Tables 𝓤 H) (known0 : Plain.Known 𝓤 H A W 𝓣 5 ps·0 r·0 (claims· .0) (claims· .1)
-            "block::checkpoints::resume_region") (known1 : Plain.Known 𝓤 H A W 𝓣 0 ps·1 r·1 (claims· .2) (claims· .3) "fuji_compressed::reading::totals_words") (known2 : Plain.Known 𝓤 H A W 𝓣 0 ps·2 r·2
+            "block_states::resume_region") (known1 : Plain.Known 𝓤 H A W 𝓣 0 ps·1 r·1 (claims· .2) (claims· .3) "fuji_compressed::reading::totals_words") (known2 : Plain.Known 𝓤 H A W 𝓣 0 ps·2 r·2
             (claims· .4) (claims· .5) "fuji_compressed::reading::counted_refusal") where
           pub spec : Statement.Triple 𝓤 (Wp.WpFn 𝓤 H (𝓣 .C) (𝓣 .Λ) (Function.fnOf 8 ps r xs m hs body)) (Function.plainOf 𝓤 H A 8 ps r Pre· Post·)
           spec = Plain.t-fn-plain 𝓤 H A W 𝓣 8 ps r xs m hs body (λ κs qs bs. Φ) (λ κs qs bs bd. typed κs qs 𝓤 H A W 𝓣 (known0, known1, known2) bs bd) Pre· Post· asked

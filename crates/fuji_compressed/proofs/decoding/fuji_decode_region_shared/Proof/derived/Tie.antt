@@ -24,129 +24,43 @@ use borrow.Fn.Run
 use borrow.Fn.Written
 use contract.Running
 
-abbrev pub Start : Type 0
-Start = Lts.Start (Reads'.Asked, Reads'.Learnt, Reads''.Asked, Reads''.Learnt, Reads'5.Asked, Reads'5.Learnt, Reads'3.Asked, Reads'3.Learnt, Reads.Asked, Reads.Learnt) Reads'4.Pre Reads'4.Post
-
-abbrev pub After-shared-slice-known : Type 0
-After-shared-slice-known = Lts.After-shared-slice-known
-    (Reads'.Asked, Reads'.Learnt, Reads''.Asked, Reads''.Learnt, Reads'5.Asked, Reads'5.Learnt, Reads'3.Asked, Reads'3.Learnt, Reads.Asked, Reads.Learnt) Reads'4.Pre Reads'4.Post
-
-abbrev pub After-slice-known : Type 0
-After-slice-known = Lts.After-slice-known (Reads'.Asked, Reads'.Learnt, Reads''.Asked, Reads''.Learnt, Reads'5.Asked, Reads'5.Learnt, Reads'3.Asked, Reads'3.Learnt, Reads.Asked, Reads.Learnt)
-    Reads'4.Pre Reads'4.Post
-
-abbrev pub After-slice-known2 : Type 0
-After-slice-known2 = Lts.After-slice-known2 (Reads'.Asked, Reads'.Learnt, Reads''.Asked, Reads''.Learnt, Reads'5.Asked, Reads'5.Learnt, Reads'3.Asked, Reads'3.Learnt, Reads.Asked, Reads.Learnt)
-    Reads'4.Pre Reads'4.Post
-
-abbrev pub After-t : Type 0
-After-t = Lts.After-t (Reads'.Asked, Reads'.Learnt, Reads''.Asked, Reads''.Learnt, Reads'5.Asked, Reads'5.Learnt, Reads'3.Asked, Reads'3.Learnt, Reads.Asked, Reads.Learnt) Reads'4.Pre Reads'4.Post
-
-abbrev pub After-given : Type 0
-After-given = Lts.After-given (Reads'.Asked, Reads'.Learnt, Reads''.Asked, Reads''.Learnt, Reads'5.Asked, Reads'5.Learnt, Reads'3.Asked, Reads'3.Learnt, Reads.Asked, Reads.Learnt) Reads'4.Pre
-    Reads'4.Post
-
-abbrev pub After-camera-in : Type 0
-After-camera-in = Lts.After-camera-in (Reads'.Asked, Reads'.Learnt, Reads''.Asked, Reads''.Learnt, Reads'5.Asked, Reads'5.Learnt, Reads'3.Asked, Reads'3.Learnt, Reads.Asked, Reads.Learnt) Reads'4.Pre
-    Reads'4.Post
-
-abbrev pub After-given2 : Type 0
-After-given2 = Lts.After-given2 (Reads'.Asked, Reads'.Learnt, Reads''.Asked, Reads''.Learnt, Reads'5.Asked, Reads'5.Learnt, Reads'3.Asked, Reads'3.Learnt, Reads.Asked, Reads.Learnt) Reads'4.Pre
-    Reads'4.Post
-
-abbrev pub After-entries-in : Type 0
-After-entries-in = Lts.After-entries-in (Reads'.Asked, Reads'.Learnt, Reads''.Asked, Reads''.Learnt, Reads'5.Asked, Reads'5.Learnt, Reads'3.Asked, Reads'3.Learnt, Reads.Asked, Reads.Learnt)
-    Reads'4.Pre Reads'4.Post
-
-abbrev pub After-decode-region-shared-arg : Type 0
-After-decode-region-shared-arg = Lts.After-decode-region-shared-arg
-    (Reads'.Asked, Reads'.Learnt, Reads''.Asked, Reads''.Learnt, Reads'5.Asked, Reads'5.Learnt, Reads'3.Asked, Reads'3.Learnt, Reads.Asked, Reads.Learnt) Reads'4.Pre Reads'4.Post
-
-abbrev pub After-decode-region-shared-arg2 : Type 0
-After-decode-region-shared-arg2 = Lts.After-decode-region-shared-arg2
-    (Reads'.Asked, Reads'.Learnt, Reads''.Asked, Reads''.Learnt, Reads'5.Asked, Reads'5.Learnt, Reads'3.Asked, Reads'3.Learnt, Reads.Asked, Reads.Learnt) Reads'4.Pre Reads'4.Post
-
-abbrev pub After-decode-region-shared-arg3 : Type 0
-After-decode-region-shared-arg3 = Lts.After-decode-region-shared-arg3
-    (Reads'.Asked, Reads'.Learnt, Reads''.Asked, Reads''.Learnt, Reads'5.Asked, Reads'5.Learnt, Reads'3.Asked, Reads'3.Learnt, Reads.Asked, Reads.Learnt) Reads'4.Pre Reads'4.Post
-
-abbrev pub After-decode-region-shared : Type 0
-After-decode-region-shared = Lts.After-decode-region-shared
-    (Reads'.Asked, Reads'.Learnt, Reads''.Asked, Reads''.Learnt, Reads'5.Asked, Reads'5.Learnt, Reads'3.Asked, Reads'3.Learnt, Reads.Asked, Reads.Learnt) Reads'4.Pre Reads'4.Post
-
-abbrev pub After-image : Type 0
-After-image = Lts.After-image (Reads'.Asked, Reads'.Learnt, Reads''.Asked, Reads''.Learnt, Reads'5.Asked, Reads'5.Learnt, Reads'3.Asked, Reads'3.Learnt, Reads.Asked, Reads.Learnt) Reads'4.Pre
-    Reads'4.Post
-
-abbrev pub After-slice-known3 : Type 0
-After-slice-known3 = Lts.After-slice-known3 (Reads'.Asked, Reads'.Learnt, Reads''.Asked, Reads''.Learnt, Reads'5.Asked, Reads'5.Learnt, Reads'3.Asked, Reads'3.Learnt, Reads.Asked, Reads.Learnt)
-    Reads'4.Pre Reads'4.Post
-
-abbrev pub After-lines : Type 0
-After-lines = Lts.After-lines (Reads'.Asked, Reads'.Learnt, Reads''.Asked, Reads''.Learnt, Reads'5.Asked, Reads'5.Learnt, Reads'3.Asked, Reads'3.Learnt, Reads.Asked, Reads.Learnt) Reads'4.Pre
-    Reads'4.Post
-
-abbrev pub After-slice-known4 : Type 0
-After-slice-known4 = Lts.After-slice-known4 (Reads'.Asked, Reads'.Learnt, Reads''.Asked, Reads''.Learnt, Reads'5.Asked, Reads'5.Learnt, Reads'3.Asked, Reads'3.Learnt, Reads.Asked, Reads.Learnt)
-    Reads'4.Pre Reads'4.Post
-
-abbrev pub After-rs : Type 0
-After-rs = Lts.After-rs (Reads'.Asked, Reads'.Learnt, Reads''.Asked, Reads''.Learnt, Reads'5.Asked, Reads'5.Learnt, Reads'3.Asked, Reads'3.Learnt, Reads.Asked, Reads.Learnt) Reads'4.Pre Reads'4.Post
-
-abbrev pub After-words-of : Type 0
-After-words-of = Lts.After-words-of (Reads'.Asked, Reads'.Learnt, Reads''.Asked, Reads''.Learnt, Reads'5.Asked, Reads'5.Learnt, Reads'3.Asked, Reads'3.Learnt, Reads.Asked, Reads.Learnt) Reads'4.Pre
-    Reads'4.Post
-
-abbrev pub After-answer-words : Type 0
-After-answer-words = Lts.After-answer-words (Reads'.Asked, Reads'.Learnt, Reads''.Asked, Reads''.Learnt, Reads'5.Asked, Reads'5.Learnt, Reads'3.Asked, Reads'3.Learnt, Reads.Asked, Reads.Learnt)
-    Reads'4.Pre Reads'4.Post
+abbrev claims : Lts.Claims
+claims = (Reads'.Asked, Reads'.Learnt, Reads''.Asked, Reads''.Learnt, Reads'5.Asked, Reads'5.Learnt, Reads'3.Asked, Reads'3.Learnt, Reads.Asked, Reads.Learnt)
 
 abbrev pub Need-camera-in-requires : Type 0
-Need-camera-in-requires = Lts.Need-camera-in-requires
-    (Reads'.Asked, Reads'.Learnt, Reads''.Asked, Reads''.Learnt, Reads'5.Asked, Reads'5.Learnt, Reads'3.Asked, Reads'3.Learnt, Reads.Asked, Reads.Learnt) Reads'4.Pre Reads'4.Post
+Need-camera-in-requires = Lts.Need-camera-in-requires claims Reads'4.Pre Reads'4.Post
 
 abbrev pub Need-entries-in-requires : Type 0
-Need-entries-in-requires = Lts.Need-entries-in-requires
-    (Reads'.Asked, Reads'.Learnt, Reads''.Asked, Reads''.Learnt, Reads'5.Asked, Reads'5.Learnt, Reads'3.Asked, Reads'3.Learnt, Reads.Asked, Reads.Learnt) Reads'4.Pre Reads'4.Post
+Need-entries-in-requires = Lts.Need-entries-in-requires claims Reads'4.Pre Reads'4.Post
 
 abbrev pub Need-decode-region-shared-requires : Type 0
-Need-decode-region-shared-requires = Lts.Need-decode-region-shared-requires
-    (Reads'.Asked, Reads'.Learnt, Reads''.Asked, Reads''.Learnt, Reads'5.Asked, Reads'5.Learnt, Reads'3.Asked, Reads'3.Learnt, Reads.Asked, Reads.Learnt) Reads'4.Pre Reads'4.Post
+Need-decode-region-shared-requires = Lts.Need-decode-region-shared-requires claims Reads'4.Pre Reads'4.Post
 
 abbrev pub Need-words-of-requires : Type 0
-Need-words-of-requires = Lts.Need-words-of-requires
-    (Reads'.Asked, Reads'.Learnt, Reads''.Asked, Reads''.Learnt, Reads'5.Asked, Reads'5.Learnt, Reads'3.Asked, Reads'3.Learnt, Reads.Asked, Reads.Learnt) Reads'4.Pre Reads'4.Post
+Need-words-of-requires = Lts.Need-words-of-requires claims Reads'4.Pre Reads'4.Post
 
 abbrev pub Need-answer-words-requires : Type 0
-Need-answer-words-requires = Lts.Need-answer-words-requires
-    (Reads'.Asked, Reads'.Learnt, Reads''.Asked, Reads''.Learnt, Reads'5.Asked, Reads'5.Learnt, Reads'3.Asked, Reads'3.Learnt, Reads.Asked, Reads.Learnt) Reads'4.Pre Reads'4.Post
+Need-answer-words-requires = Lts.Need-answer-words-requires claims Reads'4.Pre Reads'4.Post
 
 abbrev pub Need-same-length : Type 0
-Need-same-length = Lts.Need-same-length (Reads'.Asked, Reads'.Learnt, Reads''.Asked, Reads''.Learnt, Reads'5.Asked, Reads'5.Learnt, Reads'3.Asked, Reads'3.Learnt, Reads.Asked, Reads.Learnt)
-    Reads'4.Pre Reads'4.Post
+Need-same-length = Lts.Need-same-length claims Reads'4.Pre Reads'4.Post
 
 abbrev pub Need-same-length-2 : Type 0
-Need-same-length-2 = Lts.Need-same-length-2 (Reads'.Asked, Reads'.Learnt, Reads''.Asked, Reads''.Learnt, Reads'5.Asked, Reads'5.Learnt, Reads'3.Asked, Reads'3.Learnt, Reads.Asked, Reads.Learnt)
-    Reads'4.Pre Reads'4.Post
+Need-same-length-2 = Lts.Need-same-length-2 claims Reads'4.Pre Reads'4.Post
 
 abbrev pub Need-same-length-3 : Type 0
-Need-same-length-3 = Lts.Need-same-length-3 (Reads'.Asked, Reads'.Learnt, Reads''.Asked, Reads''.Learnt, Reads'5.Asked, Reads'5.Learnt, Reads'3.Asked, Reads'3.Learnt, Reads.Asked, Reads.Learnt)
-    Reads'4.Pre Reads'4.Post
+Need-same-length-3 = Lts.Need-same-length-3 claims Reads'4.Pre Reads'4.Post
 
 abbrev pub Need-returns : Type 0
-Need-returns = Lts.Need-returns (Reads'.Asked, Reads'.Learnt, Reads''.Asked, Reads''.Learnt, Reads'5.Asked, Reads'5.Learnt, Reads'3.Asked, Reads'3.Learnt, Reads.Asked, Reads.Learnt) Reads'4.Pre
-    Reads'4.Post
+Need-returns = Lts.Need-returns claims Reads'4.Pre Reads'4.Post
 
 module _ {M : Type 1} where
   pub spec : (answer : Need-camera-in-requires) → (answer : Need-entries-in-requires) → (answer : Need-decode-region-shared-requires) → (answer : Need-words-of-requires) → (answer :
-      Need-answer-words-requires) → (answer : Need-same-length) → (answer : Need-same-length-2) → (answer : Need-same-length-3) → (answer : Need-returns) → Lts.Closed
-      (Reads'.Asked, Reads'.Learnt, Reads''.Asked, Reads''.Learnt, Reads'5.Asked, Reads'5.Learnt, Reads'3.Asked, Reads'3.Learnt, Reads.Asked, Reads.Learnt) Reads'4.Pre Reads'4.Post M
-  spec = λ answer answer' answer'' answer'3 answer'4 answer'5 answer'6 answer'7 answer'8. Lts.spec
-      (Reads'.Asked, Reads'.Learnt, Reads''.Asked, Reads''.Learnt, Reads'5.Asked, Reads'5.Learnt, Reads'3.Asked, Reads'3.Learnt, Reads.Asked, Reads.Learnt) Reads'4.Pre Reads'4.Post answer answer' answer''
-      answer'3 answer'4 answer'5 answer'6 answer'7 answer'8
+      Need-answer-words-requires) → (answer : Need-same-length) → (answer : Need-same-length-2) → (answer : Need-same-length-3) → (answer : Need-returns) → Lts.Closed claims Reads'4.Pre Reads'4.Post M
+  spec = λ answer answer' answer'' answer'3 answer'4 answer'5 answer'6 answer'7 answer'8. Lts.spec claims Reads'4.Pre Reads'4.Post answer answer' answer'' answer'3 answer'4 answer'5 answer'6 answer'7
+      answer'8
 
-  pub close : Lts.Closed (Reads'.Asked, Reads'.Learnt, Reads''.Asked, Reads''.Learnt, Reads'5.Asked, Reads'5.Learnt, Reads'3.Asked, Reads'3.Learnt, Reads.Asked, Reads.Learnt) Reads'4.Pre Reads'4.Post
-      M → Statement.statement M
+  pub close : Lts.Closed claims Reads'4.Pre Reads'4.Post M → Statement.statement M
   unfolding Code.routine Running.tablesOf
   close = λ closed 𝓤 H 𝓜 𝓖 𝓡. Written.close 7 Kinds.ps Kinds.r Reads'4.Ghost Reads'4.requires Reads'4.ensures Reads'4.pre-read Reads'4.Pinned Reads'4.Owned Reads'4.post-read record
       { M = M; 𝓤 = 𝓤; H = H; 𝓜 = 𝓜; 𝓖 = 𝓖; 𝓡 = 𝓡 } Code.env Key.name Code.function (Code.unfolded 𝓤 H 𝓜 𝓡) (λ κs a g. tt) (λ κs. Reads'4.owns κs record { M = M; 𝓤 = 𝓤; H = H; 𝓜 = 𝓜; 𝓖 = 𝓖; 𝓡 = 𝓡 })

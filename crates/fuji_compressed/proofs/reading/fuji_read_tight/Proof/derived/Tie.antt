@@ -18,64 +18,33 @@ use borrow.Fn.Run
 use borrow.Fn.Written
 use contract.Running
 
-abbrev pub Start : Type 0
-Start = Lts.Start (Reads.Asked, Reads.Learnt, Reads'3.Asked, Reads'3.Learnt, Reads'.Asked, Reads'.Learnt) Reads''.Pre Reads''.Post
-
-abbrev pub After-shared-slice-known : Type 0
-After-shared-slice-known = Lts.After-shared-slice-known (Reads.Asked, Reads.Learnt, Reads'3.Asked, Reads'3.Learnt, Reads'.Asked, Reads'.Learnt) Reads''.Pre Reads''.Post
-
-abbrev pub After-slice-known : Type 0
-After-slice-known = Lts.After-slice-known (Reads.Asked, Reads.Learnt, Reads'3.Asked, Reads'3.Learnt, Reads'.Asked, Reads'.Learnt) Reads''.Pre Reads''.Post
-
-abbrev pub After-read-tight-arg : Type 0
-After-read-tight-arg = Lts.After-read-tight-arg (Reads.Asked, Reads.Learnt, Reads'3.Asked, Reads'3.Learnt, Reads'.Asked, Reads'.Learnt) Reads''.Pre Reads''.Post
-
-abbrev pub After-read-tight-arg2 : Type 0
-After-read-tight-arg2 = Lts.After-read-tight-arg2 (Reads.Asked, Reads.Learnt, Reads'3.Asked, Reads'3.Learnt, Reads'.Asked, Reads'.Learnt) Reads''.Pre Reads''.Post
-
-abbrev pub After-read-tight : Type 0
-After-read-tight = Lts.After-read-tight (Reads.Asked, Reads.Learnt, Reads'3.Asked, Reads'3.Learnt, Reads'.Asked, Reads'.Learnt) Reads''.Pre Reads''.Post
-
-abbrev pub After-lines : Type 0
-After-lines = Lts.After-lines (Reads.Asked, Reads.Learnt, Reads'3.Asked, Reads'3.Learnt, Reads'.Asked, Reads'.Learnt) Reads''.Pre Reads''.Post
-
-abbrev pub After-slice-known2 : Type 0
-After-slice-known2 = Lts.After-slice-known2 (Reads.Asked, Reads.Learnt, Reads'3.Asked, Reads'3.Learnt, Reads'.Asked, Reads'.Learnt) Reads''.Pre Reads''.Post
-
-abbrev pub After-rs : Type 0
-After-rs = Lts.After-rs (Reads.Asked, Reads.Learnt, Reads'3.Asked, Reads'3.Learnt, Reads'.Asked, Reads'.Learnt) Reads''.Pre Reads''.Post
-
-abbrev pub After-totals-words : Type 0
-After-totals-words = Lts.After-totals-words (Reads.Asked, Reads.Learnt, Reads'3.Asked, Reads'3.Learnt, Reads'.Asked, Reads'.Learnt) Reads''.Pre Reads''.Post
-
-abbrev pub After-counted-refusal : Type 0
-After-counted-refusal = Lts.After-counted-refusal (Reads.Asked, Reads.Learnt, Reads'3.Asked, Reads'3.Learnt, Reads'.Asked, Reads'.Learnt) Reads''.Pre Reads''.Post
+abbrev claims : Lts.Claims
+claims = (Reads.Asked, Reads.Learnt, Reads'3.Asked, Reads'3.Learnt, Reads'.Asked, Reads'.Learnt)
 
 abbrev pub Need-read-tight-requires : Type 0
-Need-read-tight-requires = Lts.Need-read-tight-requires (Reads.Asked, Reads.Learnt, Reads'3.Asked, Reads'3.Learnt, Reads'.Asked, Reads'.Learnt) Reads''.Pre Reads''.Post
+Need-read-tight-requires = Lts.Need-read-tight-requires claims Reads''.Pre Reads''.Post
 
 abbrev pub Need-totals-words-requires : Type 0
-Need-totals-words-requires = Lts.Need-totals-words-requires (Reads.Asked, Reads.Learnt, Reads'3.Asked, Reads'3.Learnt, Reads'.Asked, Reads'.Learnt) Reads''.Pre Reads''.Post
+Need-totals-words-requires = Lts.Need-totals-words-requires claims Reads''.Pre Reads''.Post
 
 abbrev pub Need-counted-refusal-requires : Type 0
-Need-counted-refusal-requires = Lts.Need-counted-refusal-requires (Reads.Asked, Reads.Learnt, Reads'3.Asked, Reads'3.Learnt, Reads'.Asked, Reads'.Learnt) Reads''.Pre Reads''.Post
+Need-counted-refusal-requires = Lts.Need-counted-refusal-requires claims Reads''.Pre Reads''.Post
 
 abbrev pub Need-same-length : Type 0
-Need-same-length = Lts.Need-same-length (Reads.Asked, Reads.Learnt, Reads'3.Asked, Reads'3.Learnt, Reads'.Asked, Reads'.Learnt) Reads''.Pre Reads''.Post
+Need-same-length = Lts.Need-same-length claims Reads''.Pre Reads''.Post
 
 abbrev pub Need-same-length-2 : Type 0
-Need-same-length-2 = Lts.Need-same-length-2 (Reads.Asked, Reads.Learnt, Reads'3.Asked, Reads'3.Learnt, Reads'.Asked, Reads'.Learnt) Reads''.Pre Reads''.Post
+Need-same-length-2 = Lts.Need-same-length-2 claims Reads''.Pre Reads''.Post
 
 abbrev pub Need-returns : Type 0
-Need-returns = Lts.Need-returns (Reads.Asked, Reads.Learnt, Reads'3.Asked, Reads'3.Learnt, Reads'.Asked, Reads'.Learnt) Reads''.Pre Reads''.Post
+Need-returns = Lts.Need-returns claims Reads''.Pre Reads''.Post
 
 module _ {M : Type 1} where
   pub spec : (answer : Need-read-tight-requires) → (answer : Need-totals-words-requires) → (answer : Need-counted-refusal-requires) → (answer : Need-same-length) → (answer : Need-same-length-2) →
-      (answer : Need-returns) → Lts.Closed (Reads.Asked, Reads.Learnt, Reads'3.Asked, Reads'3.Learnt, Reads'.Asked, Reads'.Learnt) Reads''.Pre Reads''.Post M
-  spec = λ answer answer' answer'' answer'3 answer'4 answer'5. Lts.spec (Reads.Asked, Reads.Learnt, Reads'3.Asked, Reads'3.Learnt, Reads'.Asked, Reads'.Learnt) Reads''.Pre Reads''.Post answer answer'
-      answer'' answer'3 answer'4 answer'5
+      (answer : Need-returns) → Lts.Closed claims Reads''.Pre Reads''.Post M
+  spec = λ answer answer' answer'' answer'3 answer'4 answer'5. Lts.spec claims Reads''.Pre Reads''.Post answer answer' answer'' answer'3 answer'4 answer'5
 
-  pub close : Lts.Closed (Reads.Asked, Reads.Learnt, Reads'3.Asked, Reads'3.Learnt, Reads'.Asked, Reads'.Learnt) Reads''.Pre Reads''.Post M → Statement.statement M
+  pub close : Lts.Closed claims Reads''.Pre Reads''.Post M → Statement.statement M
   unfolding Code.routine Running.tablesOf
   close = λ closed 𝓤 H 𝓜 𝓖 𝓡. Written.close 5 Kinds.ps Kinds.r Reads''.Ghost Reads''.requires Reads''.ensures Reads''.pre-read Reads''.Pinned Reads''.Owned Reads''.post-read record
       { M = M; 𝓤 = 𝓤; H = H; 𝓜 = 𝓜; 𝓖 = 𝓖; 𝓡 = 𝓡 } Code.env Key.name Code.function (Code.unfolded 𝓤 H 𝓜 𝓡) (λ κs a g. tt) (λ κs. Reads''.owns κs record { M = M; 𝓤 = 𝓤; H = H; 𝓜 = 𝓜; 𝓖 = 𝓖; 𝓡 = 𝓡 })

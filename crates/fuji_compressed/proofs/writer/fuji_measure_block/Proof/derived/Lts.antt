@@ -1,4 +1,9 @@
 -- Written by tools/lend.py from Rattle's derivation of the twin of `fuji_compressed`; not edited by hand. Assumes nothing.
+use borrow.Fn.Args.{ArgsT}
+use Rattle.bits.proofs.Values
+use Rattle.bits.proofs.Values.{on}
+use Rattle.bits.proofs.Values.{n16, n64, n8, u16, u64, u8}
+use mathlib.Core.List.{_∷_, []}
 use Rattle.block.proofs.Element
 use Prim.Native.Nat
 use Rattle.stream.proofs.BlockLength
@@ -15,7 +20,6 @@ use borrow.Kind.Array
 use borrow.Kind.MutSlice
 use borrow.Kind.ShrSlice
 use borrow.Kind.Unit as Unit'
-use borrow.Kind.Value
 use borrow.Rule.Array.Init
 use borrow.Rule.Array.Rows
 use borrow.Rule.Array.Whole
@@ -38,8 +42,6 @@ use borrow.Table.Typed
 use contract.Lifetimes
 use denote.Array as Array'
 use denote.Enum.Declared
-use denote.Enum.Laws as Laws'
-use denote.Exit
 use denote.Triple.Clauses
 use denote.Triple.Statement
 use ghost.Atoms
@@ -53,171 +55,130 @@ use prog.Wp
 use types.Kit
 
 abbrev pub y0 : Syntax.Ty
-y0 = Syntax.tyStruct (List._∷_ 38 (List._∷_ 91 (List._∷_ 93 List.[]))) (Syntax.tcons (Syntax.tyRef Syntax.erased Syntax.mut (Syntax.tyInt Syntax.w16)) (Syntax.tcons (Syntax.tyInt Syntax.w64)
-    Syntax.tnil))
+y0 = Syntax.tyArray u64 1
 
 abbrev pub y1 : Syntax.Ty
-y1 = Syntax.tyStruct (List._∷_ 38 (List._∷_ 91 (List._∷_ 93 List.[]))) (Syntax.tcons (Syntax.tyRef Syntax.erased Syntax.mut Element.behind) (Syntax.tcons (Syntax.tyInt Syntax.w64) Syntax.tnil))
+y1 = Syntax.tyArray u64 4
+
+abbrev pub y2 : Syntax.Ty
+y2 = Syntax.tyEnum (115 ∷ 116 ∷ 114 ∷ 101 ∷ 97 ∷ 109 ∷ 58 ∷ 58 ∷ 82 ∷ 101 ∷ 102 ∷ 117 ∷ 115 ∷ 97 ∷ 108 ∷ []) (Syntax.ttcons Syntax.tnil (Syntax.ttcons Syntax.tnil (Syntax.ttcons Syntax.tnil
+    (Syntax.ttcons (Syntax.tcons u64 Syntax.tnil) (Syntax.ttcons Syntax.tnil (Syntax.ttcons Syntax.tnil (Syntax.ttcons Syntax.tnil (Syntax.ttcons Syntax.tnil (Syntax.ttcons Syntax.tnil (Syntax.ttcons
+    Syntax.tnil (Syntax.ttcons (Syntax.tcons u64 Syntax.tnil) (Syntax.ttcons (Syntax.tcons u64 Syntax.tnil) (Syntax.ttcons Syntax.tnil (Syntax.ttcons (Syntax.tcons u64 (Syntax.tcons u64 Syntax.tnil))
+    (Syntax.ttcons (Syntax.tcons u64 Syntax.tnil) (Syntax.ttcons Syntax.tnil (Syntax.ttcons Syntax.tnil (Syntax.ttcons (Syntax.tcons u64 Syntax.tnil) (Syntax.ttcons (Syntax.tcons u64 Syntax.tnil)
+    (Syntax.ttcons (Syntax.tcons u64 Syntax.tnil) (Syntax.ttcons Syntax.tnil (Syntax.ttcons Syntax.tnil (Syntax.ttcons (Syntax.tcons u64 (Syntax.tcons u64 Syntax.tnil)) (Syntax.ttcons Syntax.tnil
+    Syntax.ttnil))))))))))))))))))))))))
+
+abbrev pub y3 : Syntax.Ty
+y3 = Syntax.tyRef (Syntax.named 0) Syntax.imm u8
+
+abbrev pub y4 : Syntax.Ty
+y4 = Syntax.tyRef (Syntax.named 1) Syntax.imm u16
+
+abbrev pub y5 : Syntax.Ty
+y5 = Syntax.tyRef (Syntax.named 2) Syntax.mut u16
+
+abbrev pub y6 : Syntax.Ty
+y6 = Syntax.tyRef (Syntax.named 3) Syntax.mut Element.behind
+
+abbrev pub y7 : Syntax.Ty
+y7 = Syntax.tyRef Syntax.erased Syntax.mut Element.behind
+
+abbrev pub y8 : Syntax.Ty
+y8 = Syntax.tyRef Syntax.erased Syntax.mut u16
+
+abbrev pub y9 : Syntax.Ty
+y9 = Syntax.tyEnum (115 ∷ 116 ∷ 114 ∷ 101 ∷ 97 ∷ 109 ∷ 58 ∷ 58 ∷ 66 ∷ 108 ∷ 111 ∷ 99 ∷ 107 ∷ 76 ∷ 101 ∷ 110 ∷ 103 ∷ 116 ∷ 104 ∷ []) (Syntax.ttcons (Syntax.tcons u64 Syntax.tnil) (Syntax.ttcons
+    (Syntax.tcons y2 Syntax.tnil) Syntax.ttnil))
+
+abbrev pub y10 : Syntax.Ty
+y10 = Syntax.tyRef (Syntax.named 4) Syntax.mut y0
+
+abbrev pub y11 : Syntax.Ty
+y11 = Syntax.tyRef (Syntax.named 5) Syntax.mut y1
+
+abbrev pub y12 : Syntax.Ty
+y12 = Syntax.tyStruct (38 ∷ 91 ∷ 93 ∷ []) (Syntax.tcons y7 (Syntax.tcons u64 Syntax.tnil))
+
+abbrev pub y13 : Syntax.Ty
+y13 = Syntax.tyStruct (38 ∷ 91 ∷ 93 ∷ []) (Syntax.tcons y8 (Syntax.tcons u64 Syntax.tnil))
 
 abbrev pub ps : List.List (Kinds.PK 6)
-ps = List._∷_ (ShrSlice.pShrS (Referent.rtF (Referent.fInt Syntax.w8)) 0 tt) (List._∷_ (ShrSlice.pShrS (Referent.rtF (Referent.fInt Syntax.w16)) 1 tt) (List._∷_ (MutSlice.pMutS (Referent.rtF
-    (Referent.fInt Syntax.w16)) 2 tt) (List._∷_ (MutSlice.pMutS (Element.type) 3 tt) (List._∷_ (Kinds.pMut (Array'.Array (Referent.rtF (Referent.fInt Syntax.w64)) 1) 4 tt) (List._∷_ (Kinds.pMut
-    (Array'.Array (Referent.rtF (Referent.fInt Syntax.w64)) 4) 5 tt) List.[])))))
+ps = (ShrSlice.pShrS n8 0 tt) ∷ (ShrSlice.pShrS n16 1 tt) ∷ (MutSlice.pMutS n16 2 tt) ∷ (MutSlice.pMutS (Element.type) 3 tt) ∷ (Kinds.pMut (Array'.Array n64 1) 4 tt) ∷ (Kinds.pMut (Array'.Array n64 4)
+    5 tt) ∷ []
 
 abbrev pub r : Kinds.RK 6
 r = Unit'.rUnit
 
 abbrev pub xs : List.List Syntax.Ty
-xs = List._∷_ (Syntax.tyEnum (List._∷_ 115 (List._∷_ 116 (List._∷_ 114 (List._∷_ 101 (List._∷_ 97 (List._∷_ 109 (List._∷_ 58 (List._∷_ 58 (List._∷_ 66 (List._∷_ 108 (List._∷_ 111 (List._∷_ 99
-    (List._∷_ 107 (List._∷_ 76 (List._∷_ 101 (List._∷_ 110 (List._∷_ 103 (List._∷_ 116 (List._∷_ 104 List.[]))))))))))))))))))) (Syntax.ttcons (Syntax.tcons (Syntax.tyInt Syntax.w64) Syntax.tnil)
-    (Syntax.ttcons (Syntax.tcons (Syntax.tyEnum (List._∷_ 115 (List._∷_ 116 (List._∷_ 114 (List._∷_ 101 (List._∷_ 97 (List._∷_ 109 (List._∷_ 58 (List._∷_ 58 (List._∷_ 82 (List._∷_ 101 (List._∷_ 102
-    (List._∷_ 117 (List._∷_ 115 (List._∷_ 97 (List._∷_ 108 List.[]))))))))))))))) (Syntax.ttcons Syntax.tnil (Syntax.ttcons Syntax.tnil (Syntax.ttcons Syntax.tnil (Syntax.ttcons (Syntax.tcons
-    (Syntax.tyInt Syntax.w64) Syntax.tnil) (Syntax.ttcons Syntax.tnil (Syntax.ttcons Syntax.tnil (Syntax.ttcons Syntax.tnil (Syntax.ttcons Syntax.tnil (Syntax.ttcons Syntax.tnil (Syntax.ttcons Syntax.tnil
-    (Syntax.ttcons (Syntax.tcons (Syntax.tyInt Syntax.w64) Syntax.tnil) (Syntax.ttcons (Syntax.tcons (Syntax.tyInt Syntax.w64) Syntax.tnil) (Syntax.ttcons Syntax.tnil (Syntax.ttcons (Syntax.tcons
-    (Syntax.tyInt Syntax.w64) (Syntax.tcons (Syntax.tyInt Syntax.w64) Syntax.tnil)) (Syntax.ttcons (Syntax.tcons (Syntax.tyInt Syntax.w64) Syntax.tnil) (Syntax.ttcons Syntax.tnil (Syntax.ttcons
-    Syntax.tnil (Syntax.ttcons (Syntax.tcons (Syntax.tyInt Syntax.w64) Syntax.tnil) (Syntax.ttcons (Syntax.tcons (Syntax.tyInt Syntax.w64) Syntax.tnil) (Syntax.ttcons (Syntax.tcons (Syntax.tyInt
-    Syntax.w64) Syntax.tnil) (Syntax.ttcons Syntax.tnil (Syntax.ttcons Syntax.tnil (Syntax.ttcons (Syntax.tcons (Syntax.tyInt Syntax.w64) (Syntax.tcons (Syntax.tyInt Syntax.w64) Syntax.tnil))
-    (Syntax.ttcons Syntax.tnil Syntax.ttnil))))))))))))))))))))))))) Syntax.tnil) Syntax.ttnil))) (List._∷_ (Syntax.tyArray (Syntax.tyInt Syntax.w64) 1) (List._∷_ (Syntax.tyArray (Syntax.tyInt Syntax.w64)
-    4) (List._∷_ (Syntax.tyRef Syntax.erased Syntax.mut (Syntax.tyInt Syntax.w16)) (List._∷_ y0 (List._∷_ (Syntax.tyRef Syntax.erased Syntax.mut Element.behind) (List._∷_ y1 List.[]))))))
+xs = y9 ∷ y0 ∷ y1 ∷ y8 ∷ y13 ∷ y7 ∷ y12 ∷ []
 
 abbrev pub m : Nat.ℕ
 m = 2
 
 abbrev pub ps·0 : List.List (Kinds.PK 4)
-ps·0 = List._∷_ (ShrSlice.pShrS (Referent.rtF (Referent.fInt Syntax.w8)) 0 tt) (List._∷_ (ShrSlice.pShrS (Referent.rtF (Referent.fInt Syntax.w16)) 1 tt) (List._∷_ (MutSlice.pMutS (Referent.rtF
-    (Referent.fInt Syntax.w16)) 2 tt) (List._∷_ (MutSlice.pMutS (Element.type) 3 tt) List.[])))
+ps·0 = (ShrSlice.pShrS n8 0 tt) ∷ (ShrSlice.pShrS n16 1 tt) ∷ (MutSlice.pMutS n16 2 tt) ∷ (MutSlice.pMutS (Element.type) 3 tt) ∷ []
 
 abbrev pub r·0 : Kinds.RK 4
-r·0 = Value.rVal record {
-  ty = Declared.row BlockLength.the-type;
-  one = Path'.refl;
-  val = Laws'.val BlockLength.the-type Laws.the-laws;
-  tells = Laws'.tells BlockLength.the-type Laws.the-laws;
-  still = Laws'.still
-      BlockLength.the-type Laws.the-copy Exit.yes;
-  row = Rows'.whole (Declared.row BlockLength.the-type);
-  rd = λ x. x;
-  mk = λ x. x;
-} λ M 𝓤 H A W. record {
-  copies = Laws'.copy BlockLength.the-type Laws.the-copy 𝓤 H A W;
-  lawful = Laws'.lawful BlockLength.the-type Laws.the-laws 𝓤 H A W tt;
-  makes = Laws'.makes BlockLength.the-type Laws.the-plain 𝓤 H A;
-  in-mem = Local.mem-whole 𝓤 H A W (Declared.row BlockLength.the-type);
-  of-mem = Local.whole-mem 𝓤 H A W (Declared.row BlockLength.the-type);
-}
+r·0 = Values.enum-result BlockLength.the-type Laws.the-laws Laws.the-copy Laws.the-plain tt
 
 abbrev pub ps·1 : List.List (Kinds.PK 0)
-ps·1 = List._∷_ (Value.pVal record {
-  ty = Declared.row BlockLength.the-type;
-  one = Path'.refl;
-  val = Laws'.val BlockLength.the-type Laws.the-laws;
-  tells = Laws'.tells BlockLength.the-type Laws.the-laws;
-  still = Laws'.still
-      BlockLength.the-type Laws.the-copy Exit.yes;
-  row = Rows'.whole (Declared.row BlockLength.the-type);
-  rd = λ x. x;
-  mk = λ x. x;
-} λ M 𝓤 H A W. record {
-  copies = Laws'.copy BlockLength.the-type Laws.the-copy 𝓤 H A W;
-  lawful = Laws'.lawful BlockLength.the-type Laws.the-laws 𝓤 H A W tt;
-  makes = Laws'.makes BlockLength.the-type Laws.the-plain 𝓤 H A;
-  in-mem = Local.mem-whole 𝓤 H A W (Declared.row BlockLength.the-type);
-  of-mem = Local.whole-mem 𝓤 H A W (Declared.row BlockLength.the-type);
-}) List.[]
+ps·1 = (Values.enum BlockLength.the-type Laws.the-laws Laws.the-copy Laws.the-plain tt) ∷ []
 
 abbrev pub r·1 : Kinds.RK 0
 r·1 = Array.rArr (Array.eInt Syntax.w64) (Array.eInt-laws Syntax.w64) 1
 
 abbrev pub ps·2 : List.List (Kinds.PK 0)
-ps·2 = List._∷_ (Value.pVal record {
-  ty = Declared.row BlockLength.the-type;
-  one = Path'.refl;
-  val = Laws'.val BlockLength.the-type Laws.the-laws;
-  tells = Laws'.tells BlockLength.the-type Laws.the-laws;
-  still = Laws'.still
-      BlockLength.the-type Laws.the-copy Exit.yes;
-  row = Rows'.whole (Declared.row BlockLength.the-type);
-  rd = λ x. x;
-  mk = λ x. x;
-} λ M 𝓤 H A W. record {
-  copies = Laws'.copy BlockLength.the-type Laws.the-copy 𝓤 H A W;
-  lawful = Laws'.lawful BlockLength.the-type Laws.the-laws 𝓤 H A W tt;
-  makes = Laws'.makes BlockLength.the-type Laws.the-plain 𝓤 H A;
-  in-mem = Local.mem-whole 𝓤 H A W (Declared.row BlockLength.the-type);
-  of-mem = Local.whole-mem 𝓤 H A W (Declared.row BlockLength.the-type);
-}) List.[]
+ps·2 = (Values.enum BlockLength.the-type Laws.the-laws Laws.the-copy Laws.the-plain tt) ∷ []
 
 abbrev pub r·2 : Kinds.RK 0
 r·2 = Array.rArr (Array.eInt Syntax.w64) (Array.eInt-laws Syntax.w64) 4
 
 abbrev pub hs : List.List Syntax.Home
-hs = List._∷_ Syntax.valueLocal (List._∷_ Syntax.valueLocal (List._∷_ Syntax.valueLocal (List._∷_ Syntax.valueLocal (List._∷_ Syntax.valueLocal (List._∷_ Syntax.valueLocal (List._∷_ Syntax.valueLocal
-    (List._∷_ Syntax.valueLocal (List._∷_ Syntax.valueLocal (List._∷_ Syntax.valueLocal (List._∷_ Syntax.valueLocal (List._∷_ Syntax.valueLocal (List._∷_ Syntax.valueLocal (List._∷_ Syntax.valueLocal
-    List.[])))))))))))))
+hs = Syntax.valueLocal ∷ Syntax.valueLocal ∷ Syntax.valueLocal ∷ Syntax.valueLocal ∷ Syntax.valueLocal ∷ Syntax.valueLocal ∷ Syntax.valueLocal ∷ Syntax.valueLocal ∷ Syntax.valueLocal ∷
+    Syntax.valueLocal ∷ Syntax.valueLocal ∷ Syntax.valueLocal ∷ Syntax.valueLocal ∷ Syntax.valueLocal ∷ []
 
 abbrev b0 : Syntax.Body
-b0 = Syntax.assign (Syntax.place 10 List.[]) (Syntax.addrOf (Syntax.place 3 (List._∷_ (Syntax.field 0) (List._∷_ (Syntax.deref (Syntax.tyInt Syntax.w16)) List.[]))))
+b0 = Syntax.assign (Syntax.place 10 []) (Syntax.addrOf (Syntax.place 3 ((Syntax.field 0) ∷ (Syntax.deref u16) ∷ [])))
 
 abbrev b1 : Syntax.Body
-b1 = Syntax.assign (Syntax.place 11 List.[]) (Syntax.aggregate (List._∷_ (Syntax.copy (Syntax.place 10 List.[])) (List._∷_ (Syntax.copy (Syntax.place 3 (List._∷_ (Syntax.field 1) List.[]))) List.[])))
+b1 = Syntax.assign (Syntax.place 11 []) (Syntax.aggregate ((Syntax.copy (Syntax.place 10 [])) ∷ (Syntax.copy (Syntax.place 3 ((Syntax.field 1) ∷ []))) ∷ []))
 
 abbrev b2 : Syntax.Body
-b2 = Syntax.assign (Syntax.place 12 List.[]) (Syntax.addrOf (Syntax.place 4 (List._∷_ (Syntax.field 0) (List._∷_ (Syntax.deref (Element.held)) List.[]))))
+b2 = Syntax.assign (Syntax.place 12 []) (Syntax.addrOf (Syntax.place 4 ((Syntax.field 0) ∷ (Syntax.deref (Element.held)) ∷ [])))
 
 abbrev b3 : Syntax.Body
-b3 = Syntax.assign (Syntax.place 13 List.[]) (Syntax.aggregate (List._∷_ (Syntax.copy (Syntax.place 12 List.[])) (List._∷_ (Syntax.copy (Syntax.place 4 (List._∷_ (Syntax.field 1) List.[]))) List.[])))
+b3 = Syntax.assign (Syntax.place 13 []) (Syntax.aggregate ((Syntax.copy (Syntax.place 12 [])) ∷ (Syntax.copy (Syntax.place 4 ((Syntax.field 1) ∷ []))) ∷ []))
 
 abbrev b4 : Syntax.Body
-b4 = Syntax.call "block_writer::measure_block" (List._∷_ (Syntax.copy (Syntax.place 1 List.[])) (List._∷_ (Syntax.copy (Syntax.place 2 List.[])) (List._∷_ (Syntax.copy (Syntax.place 11 List.[]))
-    (List._∷_ (Syntax.copy (Syntax.place 13 List.[])) List.[])))) (Syntax.place 7 List.[])
+b4 = Syntax.call "block_writer::measure_block" ((Syntax.copy (Syntax.place 1 [])) ∷ (Syntax.copy (Syntax.place 2 [])) ∷ (Syntax.copy (Syntax.place 11 [])) ∷ (Syntax.copy (Syntax.place 13 [])) ∷ [])
+    (Syntax.place 7 [])
 
 abbrev b5 : Syntax.Body
-b5 = Syntax.call "stream::length_word" (List._∷_ (Syntax.copy (Syntax.place 7 List.[])) List.[]) (Syntax.place 8 List.[])
+b5 = Syntax.call "stream::length_word" ((Syntax.copy (Syntax.place 7 [])) ∷ []) (Syntax.place 8 [])
 
 abbrev b6 : Syntax.Body
-b6 = Syntax.call "stream::length_refusal" (List._∷_ (Syntax.copy (Syntax.place 7 List.[])) List.[]) (Syntax.place 9 List.[])
+b6 = Syntax.call "stream::length_refusal" ((Syntax.copy (Syntax.place 7 [])) ∷ []) (Syntax.place 9 [])
 
 abbrev b7 : Syntax.Body
-b7 = Syntax.assign (Syntax.place 5 (List._∷_ (Syntax.deref (Syntax.tyArray (Syntax.tyInt Syntax.w64) 1)) List.[])) (Syntax.rvOpd (Syntax.copy (Syntax.place 8 List.[])))
+b7 = Syntax.assign (Syntax.place 5 ((Syntax.deref y0) ∷ [])) (Syntax.rvOpd (Syntax.copy (Syntax.place 8 [])))
 
 abbrev b8 : Syntax.Body
-b8 = Syntax.assign (Syntax.place 6 (List._∷_ (Syntax.deref (Syntax.tyArray (Syntax.tyInt Syntax.w64) 4)) List.[])) (Syntax.rvOpd (Syntax.copy (Syntax.place 9 List.[])))
+b8 = Syntax.assign (Syntax.place 6 ((Syntax.deref y1) ∷ [])) (Syntax.rvOpd (Syntax.copy (Syntax.place 9 [])))
 
 abbrev b9 : Syntax.Body
-b9 = Syntax.assign (Syntax.place 0 List.[]) (Syntax.rvOpd Syntax.opdUnit)
-
-abbrev b10 : Syntax.Body
-b10 = Syntax.return
-
-abbrev b11 : Syntax.Body
-b11 = Syntax.seq b9 b10
+b9 = Syntax.assign (Syntax.place 0 []) (Syntax.rvOpd Syntax.opdUnit)
 
 abbrev b12 : Syntax.Body
-b12 = Syntax.seq b8 b11
-
-abbrev b13 : Syntax.Body
-b13 = Syntax.seq b7 b12
-
-abbrev b14 : Syntax.Body
-b14 = Syntax.seq b6 b13
+b12 = Syntax.seq b8 (Syntax.seq b9 Syntax.return)
 
 abbrev b15 : Syntax.Body
-b15 = Syntax.seq b5 b14
-
-abbrev b16 : Syntax.Body
-b16 = Syntax.seq b4 b15
-
-abbrev b17 : Syntax.Body
-b17 = Syntax.seq b3 b16
+b15 = Syntax.seq b5 (Syntax.seq b6 (Syntax.seq b7 b12))
 
 abbrev b18 : Syntax.Body
-b18 = Syntax.seq b2 b17
-
-abbrev b19 : Syntax.Body
-b19 = Syntax.seq b1 b18
+b18 = Syntax.seq b2 (Syntax.seq b3 (Syntax.seq b4 b15))
 
 abbrev b20 : Syntax.Body
-b20 = Syntax.seq b0 b19
+b20 = Syntax.seq b0 (Syntax.seq b1 b18)
 
 abbrev pub body : Syntax.Body
 body = b20
@@ -225,302 +186,210 @@ body = b20
 abbrev pub Claims : Type 1
 Claims = Kinds.In 4 ps·0 × Kinds.Out 4 ps·0 r·0 × Kinds.In 0 ps·1 × Kinds.Out 0 ps·1 r·1 × Kinds.In 0 ps·2 × Kinds.Out 0 ps·2 r·2
 
-abbrev pub e0 : Row.Entry
-e0 = (0, Rows'.any-gone Syntax.tyUnit)
+abbrev pub v0 : Row.Row
+v0 = Rows'.sslice n8 y3 0
 
-abbrev pub e1 : Row.Entry
-e1 = (1, Rows'.sslice (Referent.rtF (Referent.fInt Syntax.w8)) (Syntax.tyRef (Syntax.named 0) Syntax.imm (Syntax.tyInt Syntax.w8)) 0)
+abbrev pub v1 : Row.Row
+v1 = Rows'.sslice n16 y4 1
 
-abbrev pub e2 : Row.Entry
-e2 = (10, Relend.msptr (Referent.rtF (Referent.fInt Syntax.w16)) (Syntax.tyRef Syntax.erased Syntax.mut (Syntax.tyInt Syntax.w16)) 6)
+abbrev pub v2 : Row.Row
+v2 = Rows'.mref (Array'.Array n64 1) y10 4
 
-abbrev pub e3 : Row.Entry
-e3 = (10, Rows'.any-gone (Syntax.tyRef Syntax.erased Syntax.mut (Syntax.tyInt Syntax.w16)))
+abbrev pub v3 : Row.Row
+v3 = Rows'.mref (Array'.Array n64 4) y11 5
 
-abbrev pub e4 : Row.Entry
-e4 = (11, Mut.msleft (Referent.rtF (Referent.fInt Syntax.w16)) (Syntax.tyRef Syntax.erased Syntax.mut (Syntax.tyInt Syntax.w16)))
+abbrev pub v4 : Row.Row
+v4 = Rows'.any-gone Syntax.tyUnit
 
-abbrev pub e5 : Row.Entry
-e5 = (11, Mut.mslice (Referent.rtF (Referent.fInt Syntax.w16)) (Syntax.tyRef Syntax.erased Syntax.mut (Syntax.tyInt Syntax.w16)) 6)
+abbrev pub v5 : Row.Row
+v5 = Rows'.any-gone y8
 
-abbrev pub e6 : Row.Entry
-e6 = (11, Rows'.any-gone y0)
+abbrev pub v6 : Row.Row
+v6 = Rows'.any-gone y7
 
-abbrev pub e7 : Row.Entry
-e7 = (12, Relend.msptr (Element.type) (Syntax.tyRef Syntax.erased Syntax.mut Element.behind) 7)
+abbrev pub v7 : Row.Row
+v7 = Rows'.any-gone y0
 
-abbrev pub e8 : Row.Entry
-e8 = (12, Rows'.any-gone (Syntax.tyRef Syntax.erased Syntax.mut Element.behind))
+abbrev pub v8 : Row.Row
+v8 = Rows'.any-gone y1
 
-abbrev pub e9 : Row.Entry
-e9 = (13, Mut.msleft (Element.type) (Syntax.tyRef Syntax.erased Syntax.mut Element.behind))
+abbrev pub v9 : Row.Row
+v9 = Rows'.any-gone y12
 
-abbrev pub e10 : Row.Entry
-e10 = (13, Mut.mslice (Element.type) (Syntax.tyRef Syntax.erased Syntax.mut Element.behind) 7)
+abbrev pub v10 : Row.Row
+v10 = Rows'.any-gone y9
 
-abbrev pub e11 : Row.Entry
-e11 = (13, Rows'.any-gone y1)
+abbrev pub v11 : Row.Row
+v11 = Mut.mslice (Element.type) y6 3
 
-abbrev pub e12 : Row.Entry
-e12 = (2, Rows'.sslice (Referent.rtF (Referent.fInt Syntax.w16)) (Syntax.tyRef (Syntax.named 1) Syntax.imm (Syntax.tyInt Syntax.w16)) 1)
+abbrev pub v12 : Row.Row
+v12 = Rows'.any-gone y13
 
-abbrev pub e13 : Row.Entry
-e13 = (3, Mut.mslice (Referent.rtF (Referent.fInt Syntax.w16)) (Syntax.tyRef (Syntax.named 2) Syntax.mut (Syntax.tyInt Syntax.w16)) 2)
+abbrev pub v13 : Row.Row
+v13 = Mut.mslice n16 y5 2
 
-abbrev pub e14 : Row.Entry
-e14 = (3, Relend.mslice-owed (Referent.rtF (Referent.fInt Syntax.w16)) (Syntax.tyRef (Syntax.named 2) Syntax.mut (Syntax.tyInt Syntax.w16)) 2 6 Row.off)
+abbrev pub v14 : Row.Row
+v14 = Rows'.whole (Declared.row BlockLength.the-type)
 
-abbrev pub e15 : Row.Entry
-e15 = (4, Mut.mslice (Element.type) (Syntax.tyRef (Syntax.named 3) Syntax.mut Element.behind) 3)
+abbrev pub v15 : Row.Row
+v15 = Mut.mslice n16 y8 6
 
-abbrev pub e16 : Row.Entry
-e16 = (4, Relend.mslice-owed (Element.type) (Syntax.tyRef (Syntax.named 3) Syntax.mut Element.behind) 3 7 Row.off)
+abbrev pub v16 : Row.Row
+v16 = Relend.mslice-owed n16 y5 2 6 Row.off
 
-abbrev pub e17 : Row.Entry
-e17 = (5, Rows'.mref (Array'.Array (Referent.rtF (Referent.fInt Syntax.w64)) 1) (Syntax.tyRef (Syntax.named 4) Syntax.mut (Syntax.tyArray (Syntax.tyInt Syntax.w64) 1)) 4)
+abbrev pub v17 : Row.Row
+v17 = Relend.mslice-owed (Element.type) y6 3 7 Row.off
 
-abbrev pub e18 : Row.Entry
-e18 = (6, Rows'.mref (Array'.Array (Referent.rtF (Referent.fInt Syntax.w64)) 4) (Syntax.tyRef (Syntax.named 5) Syntax.mut (Syntax.tyArray (Syntax.tyInt Syntax.w64) 4)) 5)
+abbrev pub v18 : Row.Row
+v18 = Mut.msleft (Element.type) y7
 
-abbrev pub e19 : Row.Entry
-e19 = (
-  7,
-  Rows'.any-gone (Syntax.tyEnum (List._∷_ 115 (List._∷_ 116 (List._∷_ 114 (List._∷_ 101 (List._∷_ 97 (List._∷_ 109 (List._∷_ 58 (List._∷_ 58 (List._∷_ 66 (List._∷_ 108 (List._∷_ 111 (List._∷_ 99
-      (List._∷_ 107 (List._∷_ 76 (List._∷_ 101 (List._∷_ 110 (List._∷_ 103 (List._∷_ 116 (List._∷_ 104 List.[]))))))))))))))))))) (Syntax.ttcons (Syntax.tcons (Syntax.tyInt Syntax.w64) Syntax.tnil)
-      (Syntax.ttcons (Syntax.tcons (Syntax.tyEnum (List._∷_ 115 (List._∷_ 116 (List._∷_ 114 (List._∷_ 101 (List._∷_ 97 (List._∷_ 109 (List._∷_ 58 (List._∷_ 58 (List._∷_ 82 (List._∷_ 101 (List._∷_ 102
-      (List._∷_ 117 (List._∷_ 115 (List._∷_ 97 (List._∷_ 108 List.[]))))))))))))))) (Syntax.ttcons Syntax.tnil (Syntax.ttcons Syntax.tnil (Syntax.ttcons Syntax.tnil (Syntax.ttcons (Syntax.tcons
-      (Syntax.tyInt Syntax.w64) Syntax.tnil) (Syntax.ttcons Syntax.tnil (Syntax.ttcons Syntax.tnil (Syntax.ttcons Syntax.tnil (Syntax.ttcons Syntax.tnil (Syntax.ttcons Syntax.tnil (Syntax.ttcons Syntax.tnil
-      (Syntax.ttcons (Syntax.tcons (Syntax.tyInt Syntax.w64) Syntax.tnil) (Syntax.ttcons (Syntax.tcons (Syntax.tyInt Syntax.w64) Syntax.tnil) (Syntax.ttcons Syntax.tnil (Syntax.ttcons (Syntax.tcons
-      (Syntax.tyInt Syntax.w64) (Syntax.tcons (Syntax.tyInt Syntax.w64) Syntax.tnil)) (Syntax.ttcons (Syntax.tcons (Syntax.tyInt Syntax.w64) Syntax.tnil) (Syntax.ttcons Syntax.tnil (Syntax.ttcons
-      Syntax.tnil (Syntax.ttcons (Syntax.tcons (Syntax.tyInt Syntax.w64) Syntax.tnil) (Syntax.ttcons (Syntax.tcons (Syntax.tyInt Syntax.w64) Syntax.tnil) (Syntax.ttcons (Syntax.tcons (Syntax.tyInt
-      Syntax.w64) Syntax.tnil) (Syntax.ttcons Syntax.tnil (Syntax.ttcons Syntax.tnil (Syntax.ttcons (Syntax.tcons (Syntax.tyInt Syntax.w64) (Syntax.tcons (Syntax.tyInt Syntax.w64) Syntax.tnil))
-      (Syntax.ttcons Syntax.tnil Syntax.ttnil))))))))))))))))))))))))) Syntax.tnil) Syntax.ttnil))),
-)
+abbrev pub v19 : Row.Row
+v19 = Rows.arrF n64 1 0
 
-abbrev pub e20 : Row.Entry
-e20 = (7, Rows'.whole (Declared.row BlockLength.the-type))
-
-abbrev pub e21 : Row.Entry
-e21 = (8, Rows'.any-gone (Syntax.tyArray (Syntax.tyInt Syntax.w64) 1))
-
-abbrev pub e22 : Row.Entry
-e22 = (8, Rows.arrF (Referent.rtF (Referent.fInt Syntax.w64)) 1 0)
-
-abbrev pub e23 : Row.Entry
-e23 = (9, Rows'.any-gone (Syntax.tyArray (Syntax.tyInt Syntax.w64) 4))
-
-abbrev pub e24 : Row.Entry
-e24 = (9, Rows.arrF (Referent.rtF (Referent.fInt Syntax.w64)) 4 0)
+abbrev pub v20 : Row.Row
+v20 = Rows.arrF n64 4 0
 
 abbrev pub t0 : List.List Row.Entry
-t0 = List._∷_ e0 (List._∷_ e1 (List._∷_ e12 (List._∷_ e13 (List._∷_ e15 (List._∷_ e17 (List._∷_ e18 (List._∷_ e19 (List._∷_ e21 (List._∷_ e23 (List._∷_ e3 (List._∷_ e6 (List._∷_ e8 (List._∷_ e11
-    List.[])))))))))))))
+t0 = (0, v4) ∷ (1, v0) ∷ (2, v1) ∷ (3, v13) ∷ (4, v11) ∷ (5, v2) ∷ (6, v3) ∷ (7, v10) ∷ (8, v7) ∷ (9, v8) ∷ (10, v5) ∷ (11, v12) ∷ (12, v6) ∷ (13, v9) ∷ []
 
 abbrev pub t1 : List.List Row.Entry
-t1 = List._∷_ (0, Rows'.sc-here Row.sUnit) (List._∷_ e1 (List._∷_ e12 (List._∷_ e13 (List._∷_ e15 (List._∷_ e17 (List._∷_ e18 (List._∷_ e19 (List._∷_ e21 (List._∷_ e23 (List._∷_ e3 (List._∷_ e6
-    (List._∷_ e8 (List._∷_ e11 List.[])))))))))))))
+t1 = (0, Rows'.sc-here Row.sUnit) ∷ (1, v0) ∷ (2, v1) ∷ (3, v13) ∷ (4, v11) ∷ (5, v2) ∷ (6, v3) ∷ (7, v10) ∷ (8, v7) ∷ (9, v8) ∷ (10, v5) ∷ (11, v12) ∷ (12, v6) ∷ (13, v9) ∷ []
 
 abbrev pub t2 : List.List Row.Entry
-t2 = List._∷_ e0 (List._∷_ e1 (List._∷_ e12 (List._∷_ e14 (List._∷_ e15 (List._∷_ e17 (List._∷_ e18 (List._∷_ e19 (List._∷_ e21 (List._∷_ e23 (List._∷_ e2 (List._∷_ e6 (List._∷_ e8 (List._∷_ e11
-    List.[])))))))))))))
+t2 = (0, v4) ∷ (1, v0) ∷ (2, v1) ∷ (3, v16) ∷ (4, v11) ∷ (5, v2) ∷ (6, v3) ∷ (7, v10) ∷ (8, v7) ∷ (9, v8) ∷ (10, Relend.msptr n16 y8 6) ∷ (11, v12) ∷ (12, v6) ∷ (13, v9) ∷ []
 
 abbrev pub t3 : List.List Row.Entry
-t3 = List._∷_ e0 (List._∷_ e1 (List._∷_ e12 (List._∷_ e14 (List._∷_ e15 (List._∷_ e17 (List._∷_ e18 (List._∷_ e19 (List._∷_ e21 (List._∷_ e23 (List._∷_ e3 (List._∷_ e5 (List._∷_ e8 (List._∷_ e11
-    List.[])))))))))))))
+t3 = (0, v4) ∷ (1, v0) ∷ (2, v1) ∷ (3, v16) ∷ (4, v11) ∷ (5, v2) ∷ (6, v3) ∷ (7, v10) ∷ (8, v7) ∷ (9, v8) ∷ (10, v5) ∷ (11, v15) ∷ (12, v6) ∷ (13, v9) ∷ []
 
 abbrev pub t4 : List.List Row.Entry
-t4 = List._∷_ e0 (List._∷_ e1 (List._∷_ e12 (List._∷_ e14 (List._∷_ e16 (List._∷_ e17 (List._∷_ e18 (List._∷_ e19 (List._∷_ e21 (List._∷_ e23 (List._∷_ e3 (List._∷_ e5 (List._∷_ e7 (List._∷_ e11
-    List.[])))))))))))))
+t4 = (0, v4) ∷ (1, v0) ∷ (2, v1) ∷ (3, v16) ∷ (4, v17) ∷ (5, v2) ∷ (6, v3) ∷ (7, v10) ∷ (8, v7) ∷ (9, v8) ∷ (10, v5) ∷ (11, v15) ∷ (12, Relend.msptr (Element.type) y7 7) ∷ (13, v9) ∷ []
 
 abbrev pub t5 : List.List Row.Entry
-t5 = List._∷_ e0 (List._∷_ e1 (List._∷_ e12 (List._∷_ e14 (List._∷_ e16 (List._∷_ e17 (List._∷_ e18 (List._∷_ e19 (List._∷_ e21 (List._∷_ e23 (List._∷_ e3 (List._∷_ e5 (List._∷_ e8 (List._∷_ e10
-    List.[])))))))))))))
+t5 = (0, v4) ∷ (1, v0) ∷ (2, v1) ∷ (3, v16) ∷ (4, v17) ∷ (5, v2) ∷ (6, v3) ∷ (7, v10) ∷ (8, v7) ∷ (9, v8) ∷ (10, v5) ∷ (11, v15) ∷ (12, v6) ∷ (13, Mut.mslice (Element.type) y7 7) ∷ []
 
 abbrev pub t6 : List.List Row.Entry
-t6 = List._∷_ e0 (List._∷_ e1 (List._∷_ e12 (List._∷_ e14 (List._∷_ e16 (List._∷_ e17 (List._∷_ e18 (List._∷_ e20 (List._∷_ e21 (List._∷_ e23 (List._∷_ e3 (List._∷_ e4 (List._∷_ e8 (List._∷_ e9
-    List.[])))))))))))))
+t6 = (0, v4) ∷ (1, v0) ∷ (2, v1) ∷ (3, v16) ∷ (4, v17) ∷ (5, v2) ∷ (6, v3) ∷ (7, v14) ∷ (8, v7) ∷ (9, v8) ∷ (10, v5) ∷ (11, Mut.msleft n16 y8) ∷ (12, v6) ∷ (13, v18) ∷ []
 
 abbrev pub t7 : List.List Row.Entry
-t7 = List._∷_ e0 (List._∷_ e1 (List._∷_ e12 (List._∷_ e13 (List._∷_ e16 (List._∷_ e17 (List._∷_ e18 (List._∷_ e20 (List._∷_ e21 (List._∷_ e23 (List._∷_ e3 (List._∷_ e6 (List._∷_ e8 (List._∷_ e9
-    List.[])))))))))))))
+t7 = (0, v4) ∷ (1, v0) ∷ (2, v1) ∷ (3, v13) ∷ (4, v17) ∷ (5, v2) ∷ (6, v3) ∷ (7, v14) ∷ (8, v7) ∷ (9, v8) ∷ (10, v5) ∷ (11, v12) ∷ (12, v6) ∷ (13, v18) ∷ []
 
 abbrev pub t8 : List.List Row.Entry
-t8 = List._∷_ e0 (List._∷_ e1 (List._∷_ e12 (List._∷_ e13 (List._∷_ e15 (List._∷_ e17 (List._∷_ e18 (List._∷_ e20 (List._∷_ e21 (List._∷_ e23 (List._∷_ e3 (List._∷_ e6 (List._∷_ e8 (List._∷_ e11
-    List.[])))))))))))))
+t8 = (0, v4) ∷ (1, v0) ∷ (2, v1) ∷ (3, v13) ∷ (4, v11) ∷ (5, v2) ∷ (6, v3) ∷ (7, v14) ∷ (8, v7) ∷ (9, v8) ∷ (10, v5) ∷ (11, v12) ∷ (12, v6) ∷ (13, v9) ∷ []
 
 abbrev pub t9 : List.List Row.Entry
-t9 = List._∷_ e0 (List._∷_ e1 (List._∷_ e12 (List._∷_ e13 (List._∷_ e15 (List._∷_ e17 (List._∷_ e18 (List._∷_ e20 (List._∷_ e22 (List._∷_ e23 (List._∷_ e3 (List._∷_ e6 (List._∷_ e8 (List._∷_ e11
-    List.[])))))))))))))
+t9 = (0, v4) ∷ (1, v0) ∷ (2, v1) ∷ (3, v13) ∷ (4, v11) ∷ (5, v2) ∷ (6, v3) ∷ (7, v14) ∷ (8, v19) ∷ (9, v8) ∷ (10, v5) ∷ (11, v12) ∷ (12, v6) ∷ (13, v9) ∷ []
 
 abbrev pub t10 : List.List Row.Entry
-t10 = List._∷_ e0 (List._∷_ e1 (List._∷_ e12 (List._∷_ e13 (List._∷_ e15 (List._∷_ e17 (List._∷_ e18 (List._∷_ e20 (List._∷_ e22 (List._∷_ e24 (List._∷_ e3 (List._∷_ e6 (List._∷_ e8 (List._∷_ e11
-    List.[])))))))))))))
+t10 = (0, v4) ∷ (1, v0) ∷ (2, v1) ∷ (3, v13) ∷ (4, v11) ∷ (5, v2) ∷ (6, v3) ∷ (7, v14) ∷ (8, v19) ∷ (9, v20) ∷ (10, v5) ∷ (11, v12) ∷ (12, v6) ∷ (13, v9) ∷ []
 
 abbrev pub t11 : List.List Row.Entry
-t11 = List._∷_ e0 (List._∷_ e1 (List._∷_ e12 (List._∷_ e13 (List._∷_ e15 (List._∷_ e17 (List._∷_ e18 (List._∷_ e19 (List._∷_ e22 (List._∷_ e24 (List._∷_ e3 (List._∷_ e6 (List._∷_ e8 (List._∷_ e11
-    List.[])))))))))))))
+t11 = (0, v4) ∷ (1, v0) ∷ (2, v1) ∷ (3, v13) ∷ (4, v11) ∷ (5, v2) ∷ (6, v3) ∷ (7, v10) ∷ (8, v19) ∷ (9, v20) ∷ (10, v5) ∷ (11, v12) ∷ (12, v6) ∷ (13, v9) ∷ []
 
 abbrev pub t12 : List.List Row.Entry
-t12 = List._∷_ e0 (List._∷_ e1 (List._∷_ e12 (List._∷_ e13 (List._∷_ e15 (List._∷_ e17 (List._∷_ e18 (List._∷_ e19 (List._∷_ e21 (List._∷_ e24 (List._∷_ e3 (List._∷_ e6 (List._∷_ e8 (List._∷_ e11
-    List.[])))))))))))))
+t12 = (0, v4) ∷ (1, v0) ∷ (2, v1) ∷ (3, v13) ∷ (4, v11) ∷ (5, v2) ∷ (6, v3) ∷ (7, v10) ∷ (8, v7) ∷ (9, v20) ∷ (10, v5) ∷ (11, v12) ∷ (12, v6) ∷ (13, v9) ∷ []
 
 abbrev pub T0 : Row.Cx
-T0 = record { locals = t0; slots = List.[] }
+T0 = record { locals = t0; slots = [] }
 
 abbrev pub T1 : Row.Cx
-T1 = record { locals = t1; slots = List.[] }
-
-abbrev pub T2 : Row.Cx
-T2 = record { locals = t0; slots = List.[] }
-
-abbrev pub T3 : Row.Cx
-T3 = record { locals = t0; slots = List.[] }
-
-abbrev pub T4 : Row.Cx
-T4 = record { locals = t0; slots = List.[] }
+T1 = record { locals = t1; slots = [] }
 
 abbrev pub T6 : Row.Cx
-T6 = record { locals = t2; slots = List.[] }
+T6 = record { locals = t2; slots = [] }
 
 abbrev pub T7 : Row.Cx
-T7 = record { locals = t3; slots = List.[] }
+T7 = record { locals = t3; slots = [] }
 
 abbrev pub T9 : Row.Cx
-T9 = record { locals = t4; slots = List.[] }
+T9 = record { locals = t4; slots = [] }
 
 abbrev pub T10 : Row.Cx
-T10 = record { locals = t5; slots = List.[] }
+T10 = record { locals = t5; slots = [] }
 
 abbrev pub T11 : Row.Cx
-T11 = record { locals = t6; slots = List.[] }
+T11 = record { locals = t6; slots = [] }
 
 abbrev pub T13 : Row.Cx
-T13 = record { locals = t7; slots = List.[] }
-
-abbrev pub T14 : Row.Cx
-T14 = record { locals = t7; slots = List.[] }
+T13 = record { locals = t7; slots = [] }
 
 abbrev pub T17 : Row.Cx
-T17 = record { locals = t8; slots = List.[] }
+T17 = record { locals = t8; slots = [] }
 
 abbrev pub T19 : Row.Cx
-T19 = record { locals = t9; slots = List.[] }
+T19 = record { locals = t9; slots = [] }
 
 abbrev pub T20 : Row.Cx
-T20 = record { locals = t10; slots = List.[] }
+T20 = record { locals = t10; slots = [] }
 
 abbrev pub T21 : Row.Cx
-T21 = record { locals = t11; slots = List.[] }
-
-abbrev pub T22 : Row.Cx
-T22 = record { locals = t11; slots = List.[] }
+T21 = record { locals = t11; slots = [] }
 
 abbrev pub T23 : Row.Cx
-T23 = record { locals = t12; slots = List.[] }
-
-abbrev pub T24 : Row.Cx
-T24 = record { locals = t12; slots = List.[] }
-
-abbrev pub T25 : Row.Cx
-T25 = record { locals = t0; slots = List.[] }
-
-abbrev pub T26 : Row.Cx
-T26 = record { locals = t1; slots = List.[] }
+T23 = record { locals = t12; slots = [] }
 
 abbrev pub O0 : Typed.Outs
-O0 = record { next = Option.none; exits = List.[]; returns = Option.some T1 }
+O0 = record { next = Option.none; exits = []; returns = Option.some T1 }
 
 module _ (claims· : Claims) where
-  abbrev s0 : Typed.Gives T0 T2
-  s0 = Know.k-shs-known (Referent.fInt Syntax.w8) T0 1 0 (Syntax.tyRef (Syntax.named 0) Syntax.imm (Syntax.tyInt Syntax.w8)) Row.off 0 λ x. x
+  abbrev s0 : Typed.Gives T0 T0
+  s0 = Know.k-shs-known (Referent.fInt Syntax.w8) T0 1 0 y3 Row.off 0 λ x. x
 
-  abbrev s1 : Typed.Gives T2 T3
-  s1 = Know.k-shs-known (Referent.fInt Syntax.w16) T2 2 1 (Syntax.tyRef (Syntax.named 1) Syntax.imm (Syntax.tyInt Syntax.w16)) Row.off 0 λ x. x
+  abbrev s1 : Typed.Gives T0 T0
+  s1 = Know.k-shs-known (Referent.fInt Syntax.w16) T0 2 1 y4 Row.off 0 λ x. x
 
-  abbrev s2 : Typed.Gives T3 T4
-  s2 = Know.k-sl-known (Referent.fInt Syntax.w16) T3 3 2 (Syntax.tyRef (Syntax.named 2) Syntax.mut (Syntax.tyInt Syntax.w16)) Row.off 0 λ x. x
+  abbrev s2 : Typed.Gives T0 T0
+  s2 = Know.k-sl-known (Referent.fInt Syntax.w16) T0 3 2 y5 Row.off 0 λ x. x
 
-  abbrev s4 : Typed.Gives T4 T6
-  s4 = Relend.k-sl-relend (Referent.rtF (Referent.fInt Syntax.w16)) T4 3 10 2 6 (Syntax.tyRef (Syntax.named 2) Syntax.mut (Syntax.tyInt Syntax.w16)) (Syntax.tyRef Syntax.erased Syntax.mut
-      (Syntax.tyInt Syntax.w16)) Row.off λ x. x
+  abbrev s4 : Typed.Gives T0 T6
+  s4 = Relend.k-sl-relend n16 T0 3 10 2 6 y5 y8 Row.off λ x. x
 
   abbrev s5 : Typed.Asks T6 T7
-  s5 = Relend.k-sl-aggregate (Referent.rtF (Referent.fInt Syntax.w16)) (Relend.asMut (Referent.rtF (Referent.fInt Syntax.w16))) T6 10 11 6 (Syntax.tyRef Syntax.erased Syntax.mut (Syntax.tyInt
-      Syntax.w16)) (Syntax.tyRef Syntax.erased Syntax.mut (Syntax.tyInt Syntax.w16)) (λ x. x) (Scalar.oFld 3 (List._∷_ (Syntax.field 1) List.[]) (Syntax.tyInt Syntax.w64) 8 λ v. Shared.lenV (v .0))
+  s5 = Relend.k-sl-aggregate n16 (Relend.asMut n16) T6 10 11 6 y8 y8 (λ x. x) (Scalar.oFld 3 ((Syntax.field 1) ∷ []) u64 8 λ v. Shared.lenV (v .0))
 
   abbrev s7 : Typed.Gives T7 T9
-  s7 = Relend.k-sl-relend (Element.type) T7 4 12 3 7 (Syntax.tyRef (Syntax.named 3) Syntax.mut Element.behind) (Syntax.tyRef Syntax.erased Syntax.mut Element.behind) Row.off λ x. x
+  s7 = Relend.k-sl-relend (Element.type) T7 4 12 3 7 y6 y7 Row.off λ x. x
 
   abbrev s8 : Typed.Asks T9 T10
-  s8 = Relend.k-sl-aggregate (Element.type) (Relend.asMut (Element.type)) T9 12 13 7 (Syntax.tyRef Syntax.erased Syntax.mut Element.behind) (Syntax.tyRef Syntax.erased Syntax.mut Element.behind) (λ x.
-      x) (Scalar.oFld 4 (List._∷_ (Syntax.field 1) List.[]) (Syntax.tyInt Syntax.w64) 8 λ v. Shared.lenV (v .0))
+  s8 = Relend.k-sl-aggregate (Element.type) (Relend.asMut (Element.type)) T9 12 13 7 y7 y7 (λ x. x) (Scalar.oFld 4 ((Syntax.field 1) ∷ []) u64 8 λ v. Shared.lenV (v .0))
+
+  abbrev pub a0 : ArgsT ps·0 (T10 .locals)
+  a0 = (record { pos = 1; ty = y3; ref = λ x. x }, (record { pos = 2; ty = y4; ref = λ x. x }, (record { pos = 11; ty = y8; ref = λ x. x }, (record { pos = 13; ty = y7; ref = λ x. x }, tt))))
 
   abbrev s9 : Typed.Both T10 T11
-  s9 = Call.callB ps·0 r·0 (claims· .0) (claims· .1) T10 (
-    record { pos = 1; ty = Syntax.tyRef (Syntax.named 0) Syntax.imm (Syntax.tyInt Syntax.w8); ref = λ x. x },
-    (
-      record { pos = 2; ty = Syntax.tyRef (Syntax.named 1) Syntax.imm (Syntax.tyInt Syntax.w16); ref = λ x. x },
-      (
-        record { pos = 11; ty = Syntax.tyRef Syntax.erased Syntax.mut (Syntax.tyInt Syntax.w16); ref = λ x. x },
-        (record { pos = 13; ty = Syntax.tyRef Syntax.erased Syntax.mut Element.behind; ref = λ x. x }, tt),
-      ),
-    ),
-  ) 7 (List._∷_ 0 (List._∷_ 1 (List._∷_ 6 (List._∷_ 7 List.[])))) (Syntax.tyEnum (List._∷_ 115
-      (List._∷_ 116 (List._∷_ 114 (List._∷_ 101 (List._∷_ 97 (List._∷_ 109 (List._∷_ 58 (List._∷_ 58 (List._∷_ 66 (List._∷_ 108 (List._∷_ 111 (List._∷_ 99 (List._∷_ 107 (List._∷_ 76 (List._∷_ 101
-      (List._∷_ 110 (List._∷_ 103 (List._∷_ 116 (List._∷_ 104 List.[]))))))))))))))))))) (Syntax.ttcons (Syntax.tcons (Syntax.tyInt Syntax.w64) Syntax.tnil) (Syntax.ttcons (Syntax.tcons (Syntax.tyEnum
-      (List._∷_ 115 (List._∷_ 116 (List._∷_ 114 (List._∷_ 101 (List._∷_ 97 (List._∷_ 109 (List._∷_ 58 (List._∷_ 58 (List._∷_ 82 (List._∷_ 101 (List._∷_ 102 (List._∷_ 117 (List._∷_ 115 (List._∷_ 97
-      (List._∷_ 108 List.[]))))))))))))))) (Syntax.ttcons Syntax.tnil (Syntax.ttcons Syntax.tnil (Syntax.ttcons Syntax.tnil (Syntax.ttcons (Syntax.tcons (Syntax.tyInt Syntax.w64) Syntax.tnil)
-      (Syntax.ttcons Syntax.tnil (Syntax.ttcons Syntax.tnil (Syntax.ttcons Syntax.tnil (Syntax.ttcons Syntax.tnil (Syntax.ttcons Syntax.tnil (Syntax.ttcons Syntax.tnil (Syntax.ttcons (Syntax.tcons
-      (Syntax.tyInt Syntax.w64) Syntax.tnil) (Syntax.ttcons (Syntax.tcons (Syntax.tyInt Syntax.w64) Syntax.tnil) (Syntax.ttcons Syntax.tnil (Syntax.ttcons (Syntax.tcons (Syntax.tyInt Syntax.w64)
-      (Syntax.tcons (Syntax.tyInt Syntax.w64) Syntax.tnil)) (Syntax.ttcons (Syntax.tcons (Syntax.tyInt Syntax.w64) Syntax.tnil) (Syntax.ttcons Syntax.tnil (Syntax.ttcons Syntax.tnil (Syntax.ttcons
-      (Syntax.tcons (Syntax.tyInt Syntax.w64) Syntax.tnil) (Syntax.ttcons (Syntax.tcons (Syntax.tyInt Syntax.w64) Syntax.tnil) (Syntax.ttcons (Syntax.tcons (Syntax.tyInt Syntax.w64) Syntax.tnil)
-      (Syntax.ttcons Syntax.tnil (Syntax.ttcons Syntax.tnil (Syntax.ttcons (Syntax.tcons (Syntax.tyInt Syntax.w64) (Syntax.tcons (Syntax.tyInt Syntax.w64) Syntax.tnil)) (Syntax.ttcons Syntax.tnil
-      Syntax.ttnil))))))))))))))))))))))))) Syntax.tnil) Syntax.ttnil)))
+  s9 = Call.callB ps·0 r·0 (claims· .0) (claims· .1) T10 a0 7 (0 ∷ 1 ∷ 6 ∷ 7 ∷ []) y9
 
   abbrev s11 : Typed.Both T11 T13
-  s11 = Relend.k-back-sl (Referent.rtF (Referent.fInt Syntax.w16)) T11 11 3 2 6 (Syntax.tyRef (Syntax.named 2) Syntax.mut (Syntax.tyInt Syntax.w16)) (Syntax.tyRef Syntax.erased Syntax.mut
-      (Syntax.tyInt Syntax.w16)) Row.off (λ x. x) λ x. x
+  s11 = Relend.k-back-sl n16 T11 11 3 2 6 y5 y8 Row.off (λ x. x) λ x. x
 
-  abbrev s12 : Typed.Gives T13 T14
-  s12 = Know.k-sl-known (Referent.fInt Syntax.w16) T13 3 2 (Syntax.tyRef (Syntax.named 2) Syntax.mut (Syntax.tyInt Syntax.w16)) Row.off 0 λ x. x
+  abbrev s12 : Typed.Gives T13 T13
+  s12 = Know.k-sl-known (Referent.fInt Syntax.w16) T13 3 2 y5 Row.off 0 λ x. x
 
-  abbrev s15 : Typed.Both T14 T17
-  s15 = Relend.k-back-sl (Element.type) T14 13 4 3 7 (Syntax.tyRef (Syntax.named 3) Syntax.mut Element.behind) (Syntax.tyRef Syntax.erased Syntax.mut Element.behind) Row.off (λ x. x) λ x. x
+  abbrev s15 : Typed.Both T13 T17
+  s15 = Relend.k-back-sl (Element.type) T13 13 4 3 7 y6 y7 Row.off (λ x. x) λ x. x
 
   abbrev s17 : Typed.Both T17 T19
-  s17 = Call.callB ps·1 r·1 (claims· .2) (claims· .3) T17 (record { pos = 7; st = List.[]; d = 0; at = λ x. x }, tt) 8 List.[] (Syntax.tyArray (Syntax.tyInt Syntax.w64) 1)
+  s17 = Call.callB ps·1 r·1 (claims· .2) (claims· .3) T17 (record { pos = 7; st = []; d = 0; at = λ x. x }, tt) 8 [] y0
 
   abbrev s18 : Typed.Both T19 T20
-  s18 = Call.callB ps·2 r·2 (claims· .4) (claims· .5) T19 (record { pos = 7; st = List.[]; d = 0; at = λ x. x }, tt) 9 List.[] (Syntax.tyArray (Syntax.tyInt Syntax.w64) 4)
+  s18 = Call.callB ps·2 r·2 (claims· .4) (claims· .5) T19 (record { pos = 7; st = []; d = 0; at = λ x. x }, tt) 9 [] y1
 
   abbrev s19 : Typed.Mo T20 → Typed.Mo T21
-  s19 = Scalar.n-room T20 7 (Syntax.tyEnum (List._∷_ 115 (List._∷_ 116 (List._∷_ 114 (List._∷_ 101 (List._∷_ 97 (List._∷_ 109 (List._∷_ 58 (List._∷_ 58 (List._∷_ 66 (List._∷_ 108 (List._∷_ 111
-      (List._∷_ 99 (List._∷_ 107 (List._∷_ 76 (List._∷_ 101 (List._∷_ 110 (List._∷_ 103 (List._∷_ 116 (List._∷_ 104 List.[]))))))))))))))))))) (Syntax.ttcons (Syntax.tcons (Syntax.tyInt Syntax.w64)
-      Syntax.tnil) (Syntax.ttcons (Syntax.tcons (Syntax.tyEnum (List._∷_ 115 (List._∷_ 116 (List._∷_ 114 (List._∷_ 101 (List._∷_ 97 (List._∷_ 109 (List._∷_ 58 (List._∷_ 58 (List._∷_ 82 (List._∷_ 101
-      (List._∷_ 102 (List._∷_ 117 (List._∷_ 115 (List._∷_ 97 (List._∷_ 108 List.[]))))))))))))))) (Syntax.ttcons Syntax.tnil (Syntax.ttcons Syntax.tnil (Syntax.ttcons Syntax.tnil (Syntax.ttcons
-      (Syntax.tcons (Syntax.tyInt Syntax.w64) Syntax.tnil) (Syntax.ttcons Syntax.tnil (Syntax.ttcons Syntax.tnil (Syntax.ttcons Syntax.tnil (Syntax.ttcons Syntax.tnil (Syntax.ttcons Syntax.tnil
-      (Syntax.ttcons Syntax.tnil (Syntax.ttcons (Syntax.tcons (Syntax.tyInt Syntax.w64) Syntax.tnil) (Syntax.ttcons (Syntax.tcons (Syntax.tyInt Syntax.w64) Syntax.tnil) (Syntax.ttcons Syntax.tnil
-      (Syntax.ttcons (Syntax.tcons (Syntax.tyInt Syntax.w64) (Syntax.tcons (Syntax.tyInt Syntax.w64) Syntax.tnil)) (Syntax.ttcons (Syntax.tcons (Syntax.tyInt Syntax.w64) Syntax.tnil) (Syntax.ttcons
-      Syntax.tnil (Syntax.ttcons Syntax.tnil (Syntax.ttcons (Syntax.tcons (Syntax.tyInt Syntax.w64) Syntax.tnil) (Syntax.ttcons (Syntax.tcons (Syntax.tyInt Syntax.w64) Syntax.tnil) (Syntax.ttcons
-      (Syntax.tcons (Syntax.tyInt Syntax.w64) Syntax.tnil) (Syntax.ttcons Syntax.tnil (Syntax.ttcons Syntax.tnil (Syntax.ttcons (Syntax.tcons (Syntax.tyInt Syntax.w64) (Syntax.tcons (Syntax.tyInt
-      Syntax.w64) Syntax.tnil)) (Syntax.ttcons Syntax.tnil Syntax.ttnil))))))))))))))))))))))))) Syntax.tnil) Syntax.ttnil)))
+  s19 = Scalar.n-room T20 7 y9
 
-  abbrev s20 : Typed.Mo T21 → Typed.Mo T22
-  s20 = DerefMove.n-ref-write-from T21 5 8 4 (Array'.Array (Referent.rtF (Referent.fInt Syntax.w64)) 1) (Syntax.tyRef (Syntax.named 4) Syntax.mut (Syntax.tyArray (Syntax.tyInt Syntax.w64) 1)) Row.off
-      (Rows.arrF (Referent.rtF (Referent.fInt Syntax.w64)) 1 0) (λ x. x) (λ x. x) λ x. x
+  abbrev s20 : Typed.Mo T21 → Typed.Mo T21
+  s20 = DerefMove.n-ref-write-from T21 5 8 4 (Array'.Array n64 1) y10 Row.off (Rows.arrF n64 1 0) (λ x. x) (λ x. x) λ x. x
 
-  abbrev s21 : Typed.Mo T22 → Typed.Mo T23
-  s21 = Scalar.n-room T22 8 (Syntax.tyArray (Syntax.tyInt Syntax.w64) 1)
+  abbrev s21 : Typed.Mo T21 → Typed.Mo T23
+  s21 = Scalar.n-room T21 8 y0
 
-  abbrev s22 : Typed.Mo T23 → Typed.Mo T24
-  s22 = DerefMove.n-ref-write-from T23 6 9 5 (Array'.Array (Referent.rtF (Referent.fInt Syntax.w64)) 4) (Syntax.tyRef (Syntax.named 5) Syntax.mut (Syntax.tyArray (Syntax.tyInt Syntax.w64) 4)) Row.off
-      (Rows.arrF (Referent.rtF (Referent.fInt Syntax.w64)) 4 0) (λ x. x) (λ x. x) λ x. x
+  abbrev s22 : Typed.Mo T23 → Typed.Mo T23
+  s22 = DerefMove.n-ref-write-from T23 6 9 5 (Array'.Array n64 4) y11 Row.off (Rows.arrF n64 4 0) (λ x. x) (λ x. x) λ x. x
 
-  abbrev s23 : Typed.Mo T24 → Typed.Mo T25
-  s23 = Scalar.n-room T24 9 (Syntax.tyArray (Syntax.tyInt Syntax.w64) 4)
+  abbrev s23 : Typed.Mo T23 → Typed.Mo T0
+  s23 = Scalar.n-room T23 9 y1
 
-  abbrev s24 : Typed.Mo T25 → Typed.Mo T26
-  s24 = Scalar.n-use T25 Scalar.oUnit 0 (Rows'.sc-here Row.sUnit) (Row.sUnit .of)
+  abbrev s24 : Typed.Mo T0 → Typed.Mo T1
+  s24 = Scalar.n-use T0 Scalar.oUnit 0 (Rows'.sc-here Row.sUnit) (Row.sUnit .of)
 
   module _ (Pre· : (κs : Lifetimes.Lfts 6) → Kinds.Dens κs ps → Type 0) (Post· : (κs : Lifetimes.Lfts 6) → (a : Kinds.Dens κs ps) → Kinds.Plain 6 ps r κs) where
     module _ (M : Type 1) where
@@ -530,23 +399,23 @@ module _ (claims· : Claims) where
           "stream::length_refusal") → Statement.Triple 𝓤 (Wp.WpFn 𝓤 H (𝓣 .C) (𝓣 .Λ) (Function.fnOf 6 ps r xs m hs body)) (Function.plainOf 𝓤 H A 6 ps r Pre· Post·)
 
     module _ where
-      abbrev at0 : Typed.TF T26 O0
+      abbrev at0 : Typed.TF T1 O0
       at0 = Typed.atRet O0
 
-      abbrev at1 : Typed.TF T25 O0
-      at1 = λ Ψ. Typed.pass T25 T26 s24 (at0 Ψ)
+      abbrev at1 : Typed.TF T0 O0
+      at1 = λ Ψ. Typed.pass T0 T1 s24 (at0 Ψ)
 
-      abbrev at2 : Typed.TF T24 O0
-      at2 = λ Ψ. Typed.pass T24 T25 s23 (at1 Ψ)
+      abbrev at2 : Typed.TF T23 O0
+      at2 = λ Ψ. Typed.pass T23 T0 s23 (at1 Ψ)
 
       abbrev at3 : Typed.TF T23 O0
-      at3 = λ Ψ. Typed.pass T23 T24 s22 (at2 Ψ)
+      at3 = λ Ψ. Typed.pass T23 T23 s22 (at2 Ψ)
 
-      abbrev at4 : Typed.TF T22 O0
-      at4 = λ Ψ. Typed.pass T22 T23 s21 (at3 Ψ)
+      abbrev at4 : Typed.TF T21 O0
+      at4 = λ Ψ. Typed.pass T21 T23 s21 (at3 Ψ)
 
       abbrev at5 : Typed.TF T21 O0
-      at5 = λ Ψ. Typed.pass T21 T22 s20 (at4 Ψ)
+      at5 = λ Ψ. Typed.pass T21 T21 s20 (at4 Ψ)
 
       abbrev at6 : Typed.TF T20 O0
       at6 = λ Ψ. Typed.pass T20 T21 s19 (at5 Ψ)
@@ -557,29 +426,17 @@ module _ (claims· : Claims) where
       abbrev at8 : Typed.TF T17 O0
       at8 = λ Ψ. Typed.both s17 (at7 Ψ)
 
-      abbrev at9 : Typed.TF T17 O0
-      at9 = λ Ψ. at8 Ψ
-
-      abbrev at10 : Typed.TF T14 O0
-      at10 = λ Ψ. Typed.both s15 (at9 Ψ)
-
-      abbrev at11 : Typed.TF T14 O0
-      at11 = λ Ψ. at10 Ψ
-
-      abbrev at12 : Typed.TF T14 O0
-      at12 = λ Ψ. at11 Ψ
+      abbrev at10 : Typed.TF T13 O0
+      at10 = λ Ψ. Typed.both s15 (at8 Ψ)
 
       abbrev at13 : Typed.TF T13 O0
-      at13 = λ Ψ. Typed.give s12 (at12 Ψ)
+      at13 = λ Ψ. Typed.give s12 (at10 Ψ)
 
       abbrev at14 : Typed.TF T11 O0
       at14 = λ Ψ. Typed.both s11 (at13 Ψ)
 
-      abbrev at15 : Typed.TF T11 O0
-      at15 = λ Ψ. at14 Ψ
-
       abbrev at16 : Typed.TF T10 O0
-      at16 = λ Ψ. Typed.both s9 (at15 Ψ)
+      at16 = λ Ψ. Typed.both s9 (at14 Ψ)
 
       abbrev at17 : Typed.TF T9 O0
       at17 = λ Ψ. Typed.ask s8 (at16 Ψ)
@@ -587,22 +444,16 @@ module _ (claims· : Claims) where
       abbrev at18 : Typed.TF T7 O0
       at18 = λ Ψ. Typed.give s7 (at17 Ψ)
 
-      abbrev at19 : Typed.TF T7 O0
-      at19 = λ Ψ. at18 Ψ
-
       abbrev at20 : Typed.TF T6 O0
-      at20 = λ Ψ. Typed.ask s5 (at19 Ψ)
+      at20 = λ Ψ. Typed.ask s5 (at18 Ψ)
 
-      abbrev at21 : Typed.TF T4 O0
+      abbrev at21 : Typed.TF T0 O0
       at21 = λ Ψ. Typed.give s4 (at20 Ψ)
 
-      abbrev at22 : Typed.TF T4 O0
-      at22 = λ Ψ. at21 Ψ
+      abbrev at23 : Typed.TF T0 O0
+      at23 = λ Ψ. Typed.give s2 (at21 Ψ)
 
-      abbrev at23 : Typed.TF T3 O0
-      at23 = λ Ψ. Typed.give s2 (at22 Ψ)
-
-      abbrev at24 : Typed.TF T2 O0
+      abbrev at24 : Typed.TF T0 O0
       at24 = λ Ψ. Typed.give s1 (at23 Ψ)
 
       abbrev at25 : Typed.TF T0 O0
@@ -617,469 +468,237 @@ module _ (claims· : Claims) where
             Plain.Known 𝓤 H A W 𝓣 0 ps·2 r·2 (claims· .4) (claims· .5) "stream::length_refusal"
 
       module _ (κs : Lifetimes.Lfts 6) (qs : Lifetimes.Shares 6) where
+        abbrev k0 : Row.Life
+        k0 = Row.lease (κs .0) (qs .0)
+
+        abbrev k1 : Row.Life
+        k1 = Row.lease (κs .1 .0) (qs .1 .0)
+
+        abbrev k2 : Row.Life
+        k2 = Row.lease (κs .1 .1 .0) (qs .1 .1 .0)
+
+        abbrev k3 : Row.Life
+        k3 = Row.lease (κs .1 .1 .1 .0) (qs .1 .1 .1 .0)
+
+        abbrev k4 : Row.Life
+        k4 = Row.lease (κs .1 .1 .1 .1 .0) (qs .1 .1 .1 .1 .0)
+
+        abbrev k5 : Row.Life
+        k5 = Row.lease (κs .1 .1 .1 .1 .1 .0) (qs .1 .1 .1 .1 .1 .0)
+
+        abbrev l0 : List.List Row.Life
+        l0 = k0 ∷ k1 ∷ Row.off ∷ Row.off ∷ k4 ∷ k5 ∷ Row.alive ∷ Row.alive ∷ []
+
+        abbrev l1 : List.List Row.Life
+        l1 = k0 ∷ k1 ∷ Row.off ∷ k3 ∷ k4 ∷ k5 ∷ Row.alive ∷ Row.off ∷ []
+
+        abbrev l2 : List.List Row.Life
+        l2 = k0 ∷ k1 ∷ k2 ∷ Row.off ∷ k4 ∷ k5 ∷ Row.dead ∷ Row.alive ∷ []
+
+        abbrev l3 : List.List Row.Life
+        l3 = k0 ∷ k1 ∷ k2 ∷ k3 ∷ k4 ∷ k5 ∷ Row.off ∷ Row.off ∷ []
+
+        abbrev h0 : Row.Row
+        h0 = Relend.mslice-owed n16 y5 2 6 k2
+
+        abbrev h1 : Row.Row
+        h1 = Relend.mslice-owed (Element.type) y6 3 7 k3
+
         abbrev g2 : List.List Row.Entry
-        g2 = List._∷_ e0 (List._∷_ e1 (List._∷_ e12 (List._∷_
-            (3, Relend.mslice-owed (Referent.rtF (Referent.fInt Syntax.w16)) (Syntax.tyRef (Syntax.named 2) Syntax.mut (Syntax.tyInt Syntax.w16)) 2 6 (Row.lease (κs .1 .1 .0) (qs .1 .1 .0))) (List._∷_ e15
-            (List._∷_ e17 (List._∷_ e18 (List._∷_ e19 (List._∷_ e21 (List._∷_ e23 (List._∷_ e2 (List._∷_ e6 (List._∷_ e8 (List._∷_ e11 List.[])))))))))))))
+        g2 = (0, v4) ∷ (1, v0) ∷ (2, v1) ∷ (3, h0) ∷ (4, v11) ∷ (5, v2) ∷ (6, v3) ∷ (7, v10) ∷ (8, v7) ∷ (9, v8) ∷ (10, Relend.msptr n16 y8 6) ∷ (11, v12) ∷ (12, v6) ∷ (13, v9) ∷ []
 
         abbrev g3 : List.List Row.Entry
-        g3 = List._∷_ e0 (List._∷_ e1 (List._∷_ e12 (List._∷_
-            (3, Relend.mslice-owed (Referent.rtF (Referent.fInt Syntax.w16)) (Syntax.tyRef (Syntax.named 2) Syntax.mut (Syntax.tyInt Syntax.w16)) 2 6 (Row.lease (κs .1 .1 .0) (qs .1 .1 .0))) (List._∷_ e15
-            (List._∷_ e17 (List._∷_ e18 (List._∷_ e19 (List._∷_ e21 (List._∷_ e23 (List._∷_ e3 (List._∷_ e5 (List._∷_ e8 (List._∷_ e11 List.[])))))))))))))
+        g3 = (0, v4) ∷ (1, v0) ∷ (2, v1) ∷ (3, h0) ∷ (4, v11) ∷ (5, v2) ∷ (6, v3) ∷ (7, v10) ∷ (8, v7) ∷ (9, v8) ∷ (10, v5) ∷ (11, v15) ∷ (12, v6) ∷ (13, v9) ∷ []
 
         abbrev g4 : List.List Row.Entry
-        g4 = List._∷_ e0 (List._∷_ e1 (List._∷_ e12 (List._∷_
-            (3, Relend.mslice-owed (Referent.rtF (Referent.fInt Syntax.w16)) (Syntax.tyRef (Syntax.named 2) Syntax.mut (Syntax.tyInt Syntax.w16)) 2 6 (Row.lease (κs .1 .1 .0) (qs .1 .1 .0))) (List._∷_
-            (4, Relend.mslice-owed (Element.type) (Syntax.tyRef (Syntax.named 3) Syntax.mut Element.behind) 3 7 (Row.lease (κs .1 .1 .1 .0) (qs .1 .1 .1 .0))) (List._∷_ e17 (List._∷_ e18 (List._∷_ e19
-            (List._∷_ e21 (List._∷_ e23 (List._∷_ e3 (List._∷_ e5 (List._∷_ e7 (List._∷_ e11 List.[])))))))))))))
+        g4 = (0, v4) ∷ (1, v0) ∷ (2, v1) ∷ (3, h0) ∷ (4, h1) ∷ (5, v2) ∷ (6, v3) ∷ (7, v10) ∷ (8, v7) ∷ (9, v8) ∷ (10, v5) ∷ (11, v15) ∷ (12, Relend.msptr (Element.type) y7 7) ∷ (13, v9) ∷ []
 
         abbrev g5 : List.List Row.Entry
-        g5 = List._∷_ e0 (List._∷_ e1 (List._∷_ e12 (List._∷_
-            (3, Relend.mslice-owed (Referent.rtF (Referent.fInt Syntax.w16)) (Syntax.tyRef (Syntax.named 2) Syntax.mut (Syntax.tyInt Syntax.w16)) 2 6 (Row.lease (κs .1 .1 .0) (qs .1 .1 .0))) (List._∷_
-            (4, Relend.mslice-owed (Element.type) (Syntax.tyRef (Syntax.named 3) Syntax.mut Element.behind) 3 7 (Row.lease (κs .1 .1 .1 .0) (qs .1 .1 .1 .0))) (List._∷_ e17 (List._∷_ e18 (List._∷_ e19
-            (List._∷_ e21 (List._∷_ e23 (List._∷_ e3 (List._∷_ e5 (List._∷_ e8 (List._∷_ e10 List.[])))))))))))))
+        g5 = (0, v4) ∷ (1, v0) ∷ (2, v1) ∷ (3, h0) ∷ (4, h1) ∷ (5, v2) ∷ (6, v3) ∷ (7, v10) ∷ (8, v7) ∷ (9, v8) ∷ (10, v5) ∷ (11, v15) ∷ (12, v6) ∷ (13, Mut.mslice (Element.type) y7 7) ∷ []
 
         abbrev g6 : List.List Row.Entry
-        g6 = List._∷_ e0 (List._∷_ e1 (List._∷_ e12 (List._∷_
-            (3, Relend.mslice-owed (Referent.rtF (Referent.fInt Syntax.w16)) (Syntax.tyRef (Syntax.named 2) Syntax.mut (Syntax.tyInt Syntax.w16)) 2 6 (Row.lease (κs .1 .1 .0) (qs .1 .1 .0))) (List._∷_
-            (4, Relend.mslice-owed (Element.type) (Syntax.tyRef (Syntax.named 3) Syntax.mut Element.behind) 3 7 (Row.lease (κs .1 .1 .1 .0) (qs .1 .1 .1 .0))) (List._∷_ e17 (List._∷_ e18 (List._∷_ e20
-            (List._∷_ e21 (List._∷_ e23 (List._∷_ e3 (List._∷_ e4 (List._∷_ e8 (List._∷_ e9 List.[])))))))))))))
+        g6 = (0, v4) ∷ (1, v0) ∷ (2, v1) ∷ (3, h0) ∷ (4, h1) ∷ (5, v2) ∷ (6, v3) ∷ (7, v14) ∷ (8, v7) ∷ (9, v8) ∷ (10, v5) ∷ (11, Mut.msleft n16 y8) ∷ (12, v6) ∷ (13, v18) ∷ []
 
         abbrev g7 : List.List Row.Entry
-        g7 = List._∷_ e0 (List._∷_ e1 (List._∷_ e12 (List._∷_ e13 (List._∷_
-            (4, Relend.mslice-owed (Element.type) (Syntax.tyRef (Syntax.named 3) Syntax.mut Element.behind) 3 7 (Row.lease (κs .1 .1 .1 .0) (qs .1 .1 .1 .0))) (List._∷_ e17 (List._∷_ e18 (List._∷_ e20
-            (List._∷_ e21 (List._∷_ e23 (List._∷_ e3 (List._∷_ e6 (List._∷_ e8 (List._∷_ e9 List.[])))))))))))))
-
-        abbrev G0 : Row.Cx
-        G0 = record {
-          locals = t0;
-          slots = List._∷_ (Row.lease (κs .0) (qs .0)) (List._∷_ (Row.lease (κs .1 .0) (qs .1 .0)) (List._∷_ (Row.lease (κs .1 .1 .0) (qs .1 .1 .0)) (List._∷_ (Row.lease (κs .1 .1 .1 .0)
-              (qs .1 .1 .1 .0)) (List._∷_ (Row.lease (κs .1 .1 .1 .1 .0) (qs .1 .1 .1 .1 .0)) (List._∷_ (Row.lease (κs .1 .1 .1 .1 .1 .0) (qs .1 .1 .1 .1 .1 .0)) (List._∷_ Row.off (List._∷_ Row.off
-              List.[])))))));
-        }
-
-        abbrev G1 : Row.Cx
-        G1 = record {
-          locals = t1;
-          slots = List._∷_ (Row.lease (κs .0) (qs .0)) (List._∷_ (Row.lease (κs .1 .0) (qs .1 .0)) (List._∷_ (Row.lease (κs .1 .1 .0) (qs .1 .1 .0)) (List._∷_ (Row.lease (κs .1 .1 .1 .0)
-              (qs .1 .1 .1 .0)) (List._∷_ (Row.lease (κs .1 .1 .1 .1 .0) (qs .1 .1 .1 .1 .0)) (List._∷_ (Row.lease (κs .1 .1 .1 .1 .1 .0) (qs .1 .1 .1 .1 .1 .0)) (List._∷_ Row.off (List._∷_ Row.off
-              List.[])))))));
-        }
-
-        abbrev G2 : Row.Cx
-        G2 = record {
-          locals = t0;
-          slots = List._∷_ (Row.lease (κs .0) (qs .0)) (List._∷_ (Row.lease (κs .1 .0) (qs .1 .0)) (List._∷_ (Row.lease (κs .1 .1 .0) (qs .1 .1 .0)) (List._∷_ (Row.lease (κs .1 .1 .1 .0)
-              (qs .1 .1 .1 .0)) (List._∷_ (Row.lease (κs .1 .1 .1 .1 .0) (qs .1 .1 .1 .1 .0)) (List._∷_ (Row.lease (κs .1 .1 .1 .1 .1 .0) (qs .1 .1 .1 .1 .1 .0)) (List._∷_ Row.off (List._∷_ Row.off
-              List.[])))))));
-        }
-
-        abbrev G3 : Row.Cx
-        G3 = record {
-          locals = t0;
-          slots = List._∷_ (Row.lease (κs .0) (qs .0)) (List._∷_ (Row.lease (κs .1 .0) (qs .1 .0)) (List._∷_ (Row.lease (κs .1 .1 .0) (qs .1 .1 .0)) (List._∷_ (Row.lease (κs .1 .1 .1 .0)
-              (qs .1 .1 .1 .0)) (List._∷_ (Row.lease (κs .1 .1 .1 .1 .0) (qs .1 .1 .1 .1 .0)) (List._∷_ (Row.lease (κs .1 .1 .1 .1 .1 .0) (qs .1 .1 .1 .1 .1 .0)) (List._∷_ Row.off (List._∷_ Row.off
-              List.[])))))));
-        }
-
-        abbrev G4 : Row.Cx
-        G4 = record {
-          locals = t0;
-          slots = List._∷_ (Row.lease (κs .0) (qs .0)) (List._∷_ (Row.lease (κs .1 .0) (qs .1 .0)) (List._∷_ (Row.lease (κs .1 .1 .0) (qs .1 .1 .0)) (List._∷_ (Row.lease (κs .1 .1 .1 .0)
-              (qs .1 .1 .1 .0)) (List._∷_ (Row.lease (κs .1 .1 .1 .1 .0) (qs .1 .1 .1 .1 .0)) (List._∷_ (Row.lease (κs .1 .1 .1 .1 .1 .0) (qs .1 .1 .1 .1 .1 .0)) (List._∷_ Row.off (List._∷_ Row.off
-              List.[])))))));
-        }
+        g7 = (0, v4) ∷ (1, v0) ∷ (2, v1) ∷ (3, v13) ∷ (4, h1) ∷ (5, v2) ∷ (6, v3) ∷ (7, v14) ∷ (8, v7) ∷ (9, v8) ∷ (10, v5) ∷ (11, v12) ∷ (12, v6) ∷ (13, v18) ∷ []
 
         abbrev G5 : Row.Cx
-        G5 = record {
-          locals = t0;
-          slots = List._∷_ (Row.lease (κs .0) (qs .0)) (List._∷_ (Row.lease (κs .1 .0) (qs .1 .0)) (List._∷_ (Row.lease (κs .1 .1 .0) (qs .1 .1 .0)) (List._∷_ (Row.lease (κs .1 .1 .1 .0)
-              (qs .1 .1 .1 .0)) (List._∷_ (Row.lease (κs .1 .1 .1 .1 .0) (qs .1 .1 .1 .1 .0)) (List._∷_ (Row.lease (κs .1 .1 .1 .1 .1 .0) (qs .1 .1 .1 .1 .1 .0)) (List._∷_ Row.alive (List._∷_ Row.off
-              List.[])))))));
-        }
+        G5 = record { locals = t0; slots = k0 ∷ k1 ∷ k2 ∷ k3 ∷ k4 ∷ k5 ∷ Row.alive ∷ Row.off ∷ [] }
 
         abbrev G6 : Row.Cx
-        G6 = record {
-          locals = g2;
-          slots = List._∷_ (Row.lease (κs .0) (qs .0)) (List._∷_ (Row.lease (κs .1 .0) (qs .1 .0)) (List._∷_ Row.off (List._∷_ (Row.lease (κs .1 .1 .1 .0) (qs .1 .1 .1 .0)) (List._∷_
-              (Row.lease (κs .1 .1 .1 .1 .0) (qs .1 .1 .1 .1 .0)) (List._∷_ (Row.lease (κs .1 .1 .1 .1 .1 .0) (qs .1 .1 .1 .1 .1 .0)) (List._∷_ Row.alive (List._∷_ Row.off List.[])))))));
-        }
+        G6 = record { locals = g2; slots = l1 }
 
         abbrev G7 : Row.Cx
-        G7 = record {
-          locals = g3;
-          slots = List._∷_ (Row.lease (κs .0) (qs .0)) (List._∷_ (Row.lease (κs .1 .0) (qs .1 .0)) (List._∷_ Row.off (List._∷_ (Row.lease (κs .1 .1 .1 .0) (qs .1 .1 .1 .0)) (List._∷_
-              (Row.lease (κs .1 .1 .1 .1 .0) (qs .1 .1 .1 .1 .0)) (List._∷_ (Row.lease (κs .1 .1 .1 .1 .1 .0) (qs .1 .1 .1 .1 .1 .0)) (List._∷_ Row.alive (List._∷_ Row.off List.[])))))));
-        }
+        G7 = record { locals = g3; slots = l1 }
 
         abbrev G8 : Row.Cx
-        G8 = record {
-          locals = g3;
-          slots = List._∷_ (Row.lease (κs .0) (qs .0)) (List._∷_ (Row.lease (κs .1 .0) (qs .1 .0)) (List._∷_ Row.off (List._∷_ (Row.lease (κs .1 .1 .1 .0) (qs .1 .1 .1 .0)) (List._∷_
-              (Row.lease (κs .1 .1 .1 .1 .0) (qs .1 .1 .1 .1 .0)) (List._∷_ (Row.lease (κs .1 .1 .1 .1 .1 .0) (qs .1 .1 .1 .1 .1 .0)) (List._∷_ Row.alive (List._∷_ Row.alive List.[])))))));
-        }
+        G8 = record { locals = g3; slots = k0 ∷ k1 ∷ Row.off ∷ k3 ∷ k4 ∷ k5 ∷ Row.alive ∷ Row.alive ∷ [] }
 
         abbrev G9 : Row.Cx
-        G9 = record {
-          locals = g4;
-          slots = List._∷_ (Row.lease (κs .0) (qs .0)) (List._∷_ (Row.lease (κs .1 .0) (qs .1 .0)) (List._∷_ Row.off (List._∷_ Row.off (List._∷_ (Row.lease (κs .1 .1 .1 .1 .0) (qs .1 .1
-              .1 .1 .0)) (List._∷_ (Row.lease (κs .1 .1 .1 .1 .1 .0) (qs .1 .1 .1 .1 .1 .0)) (List._∷_ Row.alive (List._∷_ Row.alive List.[])))))));
-        }
+        G9 = record { locals = g4; slots = l0 }
 
         abbrev G10 : Row.Cx
-        G10 = record {
-          locals = g5;
-          slots = List._∷_ (Row.lease (κs .0) (qs .0)) (List._∷_ (Row.lease (κs .1 .0) (qs .1 .0)) (List._∷_ Row.off (List._∷_ Row.off (List._∷_ (Row.lease (κs .1 .1 .1 .1 .0) (qs .1 .1
-              .1 .1 .0)) (List._∷_ (Row.lease (κs .1 .1 .1 .1 .1 .0) (qs .1 .1 .1 .1 .1 .0)) (List._∷_ Row.alive (List._∷_ Row.alive List.[])))))));
-        }
+        G10 = record { locals = g5; slots = l0 }
 
         abbrev G11 : Row.Cx
-        G11 = record {
-          locals = g6;
-          slots = List._∷_ (Row.lease (κs .0) (qs .0)) (List._∷_ (Row.lease (κs .1 .0) (qs .1 .0)) (List._∷_ Row.off (List._∷_ Row.off (List._∷_ (Row.lease (κs .1 .1 .1 .1 .0) (qs .1 .1
-              .1 .1 .0)) (List._∷_ (Row.lease (κs .1 .1 .1 .1 .1 .0) (qs .1 .1 .1 .1 .1 .0)) (List._∷_ Row.alive (List._∷_ Row.alive List.[])))))));
-        }
+        G11 = record { locals = g6; slots = l0 }
 
         abbrev G12 : Row.Cx
-        G12 = record {
-          locals = g6;
-          slots = List._∷_ (Row.lease (κs .0) (qs .0)) (List._∷_ (Row.lease (κs .1 .0) (qs .1 .0)) (List._∷_ Row.off (List._∷_ Row.off (List._∷_ (Row.lease (κs .1 .1 .1 .1 .0) (qs .1 .1
-              .1 .1 .0)) (List._∷_ (Row.lease (κs .1 .1 .1 .1 .1 .0) (qs .1 .1 .1 .1 .1 .0)) (List._∷_ Row.dead (List._∷_ Row.alive List.[])))))));
-        }
+        G12 = record { locals = g6; slots = k0 ∷ k1 ∷ Row.off ∷ Row.off ∷ k4 ∷ k5 ∷ Row.dead ∷ Row.alive ∷ [] }
 
         abbrev G13 : Row.Cx
-        G13 = record {
-          locals = g7;
-          slots = List._∷_ (Row.lease (κs .0) (qs .0)) (List._∷_ (Row.lease (κs .1 .0) (qs .1 .0)) (List._∷_ (Row.lease (κs .1 .1 .0) (qs .1 .1 .0)) (List._∷_ Row.off (List._∷_ (Row.lease
-              (κs .1 .1 .1 .1 .0) (qs .1 .1 .1 .1 .0)) (List._∷_ (Row.lease (κs .1 .1 .1 .1 .1 .0) (qs .1 .1 .1 .1 .1 .0)) (List._∷_ Row.dead (List._∷_ Row.alive List.[])))))));
-        }
-
-        abbrev G14 : Row.Cx
-        G14 = record {
-          locals = g7;
-          slots = List._∷_ (Row.lease (κs .0) (qs .0)) (List._∷_ (Row.lease (κs .1 .0) (qs .1 .0)) (List._∷_ (Row.lease (κs .1 .1 .0) (qs .1 .1 .0)) (List._∷_ Row.off (List._∷_ (Row.lease
-              (κs .1 .1 .1 .1 .0) (qs .1 .1 .1 .1 .0)) (List._∷_ (Row.lease (κs .1 .1 .1 .1 .1 .0) (qs .1 .1 .1 .1 .1 .0)) (List._∷_ Row.dead (List._∷_ Row.alive List.[])))))));
-        }
+        G13 = record { locals = g7; slots = l2 }
 
         abbrev G15 : Row.Cx
-        G15 = record {
-          locals = g7;
-          slots = List._∷_ (Row.lease (κs .0) (qs .0)) (List._∷_ (Row.lease (κs .1 .0) (qs .1 .0)) (List._∷_ (Row.lease (κs .1 .1 .0) (qs .1 .1 .0)) (List._∷_ Row.off (List._∷_ (Row.lease
-              (κs .1 .1 .1 .1 .0) (qs .1 .1 .1 .1 .0)) (List._∷_ (Row.lease (κs .1 .1 .1 .1 .1 .0) (qs .1 .1 .1 .1 .1 .0)) (List._∷_ Row.off (List._∷_ Row.alive List.[])))))));
-        }
+        G15 = record { locals = g7; slots = k0 ∷ k1 ∷ k2 ∷ Row.off ∷ k4 ∷ k5 ∷ Row.off ∷ Row.alive ∷ [] }
 
         abbrev G16 : Row.Cx
-        G16 = record {
-          locals = g7;
-          slots = List._∷_ (Row.lease (κs .0) (qs .0)) (List._∷_ (Row.lease (κs .1 .0) (qs .1 .0)) (List._∷_ (Row.lease (κs .1 .1 .0) (qs .1 .1 .0)) (List._∷_ Row.off (List._∷_ (Row.lease
-              (κs .1 .1 .1 .1 .0) (qs .1 .1 .1 .1 .0)) (List._∷_ (Row.lease (κs .1 .1 .1 .1 .1 .0) (qs .1 .1 .1 .1 .1 .0)) (List._∷_ Row.off (List._∷_ Row.dead List.[])))))));
-        }
+        G16 = record { locals = g7; slots = k0 ∷ k1 ∷ k2 ∷ Row.off ∷ k4 ∷ k5 ∷ Row.off ∷ Row.dead ∷ [] }
 
         abbrev G17 : Row.Cx
-        G17 = record {
-          locals = t8;
-          slots = List._∷_ (Row.lease (κs .0) (qs .0)) (List._∷_ (Row.lease (κs .1 .0) (qs .1 .0)) (List._∷_ (Row.lease (κs .1 .1 .0) (qs .1 .1 .0)) (List._∷_ (Row.lease (κs .1 .1 .1 .0)
-              (qs .1 .1 .1 .0)) (List._∷_ (Row.lease (κs .1 .1 .1 .1 .0) (qs .1 .1 .1 .1 .0)) (List._∷_ (Row.lease (κs .1 .1 .1 .1 .1 .0) (qs .1 .1 .1 .1 .1 .0)) (List._∷_ Row.off (List._∷_ Row.dead
-              List.[])))))));
-        }
-
-        abbrev G18 : Row.Cx
-        G18 = record {
-          locals = t8;
-          slots = List._∷_ (Row.lease (κs .0) (qs .0)) (List._∷_ (Row.lease (κs .1 .0) (qs .1 .0)) (List._∷_ (Row.lease (κs .1 .1 .0) (qs .1 .1 .0)) (List._∷_ (Row.lease (κs .1 .1 .1 .0)
-              (qs .1 .1 .1 .0)) (List._∷_ (Row.lease (κs .1 .1 .1 .1 .0) (qs .1 .1 .1 .1 .0)) (List._∷_ (Row.lease (κs .1 .1 .1 .1 .1 .0) (qs .1 .1 .1 .1 .1 .0)) (List._∷_ Row.off (List._∷_ Row.off
-              List.[])))))));
-        }
-
-        abbrev G19 : Row.Cx
-        G19 = record {
-          locals = t9;
-          slots = List._∷_ (Row.lease (κs .0) (qs .0)) (List._∷_ (Row.lease (κs .1 .0) (qs .1 .0)) (List._∷_ (Row.lease (κs .1 .1 .0) (qs .1 .1 .0)) (List._∷_ (Row.lease (κs .1 .1 .1 .0)
-              (qs .1 .1 .1 .0)) (List._∷_ (Row.lease (κs .1 .1 .1 .1 .0) (qs .1 .1 .1 .1 .0)) (List._∷_ (Row.lease (κs .1 .1 .1 .1 .1 .0) (qs .1 .1 .1 .1 .1 .0)) (List._∷_ Row.off (List._∷_ Row.off
-              List.[])))))));
-        }
-
-        abbrev G20 : Row.Cx
-        G20 = record {
-          locals = t10;
-          slots = List._∷_ (Row.lease (κs .0) (qs .0)) (List._∷_ (Row.lease (κs .1 .0) (qs .1 .0)) (List._∷_ (Row.lease (κs .1 .1 .0) (qs .1 .1 .0)) (List._∷_ (Row.lease (κs .1 .1 .1 .0)
-              (qs .1 .1 .1 .0)) (List._∷_ (Row.lease (κs .1 .1 .1 .1 .0) (qs .1 .1 .1 .1 .0)) (List._∷_ (Row.lease (κs .1 .1 .1 .1 .1 .0) (qs .1 .1 .1 .1 .1 .0)) (List._∷_ Row.off (List._∷_ Row.off
-              List.[])))))));
-        }
-
-        abbrev G21 : Row.Cx
-        G21 = record {
-          locals = t11;
-          slots = List._∷_ (Row.lease (κs .0) (qs .0)) (List._∷_ (Row.lease (κs .1 .0) (qs .1 .0)) (List._∷_ (Row.lease (κs .1 .1 .0) (qs .1 .1 .0)) (List._∷_ (Row.lease (κs .1 .1 .1 .0)
-              (qs .1 .1 .1 .0)) (List._∷_ (Row.lease (κs .1 .1 .1 .1 .0) (qs .1 .1 .1 .1 .0)) (List._∷_ (Row.lease (κs .1 .1 .1 .1 .1 .0) (qs .1 .1 .1 .1 .1 .0)) (List._∷_ Row.off (List._∷_ Row.off
-              List.[])))))));
-        }
-
-        abbrev G22 : Row.Cx
-        G22 = record {
-          locals = t11;
-          slots = List._∷_ (Row.lease (κs .0) (qs .0)) (List._∷_ (Row.lease (κs .1 .0) (qs .1 .0)) (List._∷_ (Row.lease (κs .1 .1 .0) (qs .1 .1 .0)) (List._∷_ (Row.lease (κs .1 .1 .1 .0)
-              (qs .1 .1 .1 .0)) (List._∷_ (Row.lease (κs .1 .1 .1 .1 .0) (qs .1 .1 .1 .1 .0)) (List._∷_ (Row.lease (κs .1 .1 .1 .1 .1 .0) (qs .1 .1 .1 .1 .1 .0)) (List._∷_ Row.off (List._∷_ Row.off
-              List.[])))))));
-        }
-
-        abbrev G23 : Row.Cx
-        G23 = record {
-          locals = t12;
-          slots = List._∷_ (Row.lease (κs .0) (qs .0)) (List._∷_ (Row.lease (κs .1 .0) (qs .1 .0)) (List._∷_ (Row.lease (κs .1 .1 .0) (qs .1 .1 .0)) (List._∷_ (Row.lease (κs .1 .1 .1 .0)
-              (qs .1 .1 .1 .0)) (List._∷_ (Row.lease (κs .1 .1 .1 .1 .0) (qs .1 .1 .1 .1 .0)) (List._∷_ (Row.lease (κs .1 .1 .1 .1 .1 .0) (qs .1 .1 .1 .1 .1 .0)) (List._∷_ Row.off (List._∷_ Row.off
-              List.[])))))));
-        }
-
-        abbrev G24 : Row.Cx
-        G24 = record {
-          locals = t12;
-          slots = List._∷_ (Row.lease (κs .0) (qs .0)) (List._∷_ (Row.lease (κs .1 .0) (qs .1 .0)) (List._∷_ (Row.lease (κs .1 .1 .0) (qs .1 .1 .0)) (List._∷_ (Row.lease (κs .1 .1 .1 .0)
-              (qs .1 .1 .1 .0)) (List._∷_ (Row.lease (κs .1 .1 .1 .1 .0) (qs .1 .1 .1 .1 .0)) (List._∷_ (Row.lease (κs .1 .1 .1 .1 .1 .0) (qs .1 .1 .1 .1 .1 .0)) (List._∷_ Row.off (List._∷_ Row.off
-              List.[])))))));
-        }
-
-        abbrev G25 : Row.Cx
-        G25 = record {
-          locals = t0;
-          slots = List._∷_ (Row.lease (κs .0) (qs .0)) (List._∷_ (Row.lease (κs .1 .0) (qs .1 .0)) (List._∷_ (Row.lease (κs .1 .1 .0) (qs .1 .1 .0)) (List._∷_ (Row.lease (κs .1 .1 .1 .0)
-              (qs .1 .1 .1 .0)) (List._∷_ (Row.lease (κs .1 .1 .1 .1 .0) (qs .1 .1 .1 .1 .0)) (List._∷_ (Row.lease (κs .1 .1 .1 .1 .1 .0) (qs .1 .1 .1 .1 .1 .0)) (List._∷_ Row.off (List._∷_ Row.off
-              List.[])))))));
-        }
-
-        abbrev G26 : Row.Cx
-        G26 = record {
-          locals = t1;
-          slots = List._∷_ (Row.lease (κs .0) (qs .0)) (List._∷_ (Row.lease (κs .1 .0) (qs .1 .0)) (List._∷_ (Row.lease (κs .1 .1 .0) (qs .1 .1 .0)) (List._∷_ (Row.lease (κs .1 .1 .1 .0)
-              (qs .1 .1 .1 .0)) (List._∷_ (Row.lease (κs .1 .1 .1 .1 .0) (qs .1 .1 .1 .1 .0)) (List._∷_ (Row.lease (κs .1 .1 .1 .1 .1 .0) (qs .1 .1 .1 .1 .1 .0)) (List._∷_ Row.off (List._∷_ Row.off
-              List.[])))))));
-        }
+        G17 = record { locals = t8; slots = k0 ∷ k1 ∷ k2 ∷ k3 ∷ k4 ∷ k5 ∷ Row.off ∷ Row.dead ∷ [] }
 
         abbrev Δ0 : Typed.Outs
-        Δ0 = record { next = Option.none; exits = List.[]; returns = Option.some G1 }
+        Δ0 = record { next = Option.none; exits = []; returns = Option.some (on T1 l3) }
 
         module _ {M : Type 1} (𝓤 : URA.URA M) (H : Wp.Heap 𝓤) (A : Atoms.Atoms 𝓤) (W : Kit.Given 𝓤 H A) (𝓣 : Wp.Tables 𝓤 H) (known : Knowns 𝓤 H A W 𝓣) (bs : List.List Nat.ℕ) (bd : Lifetimes.AllOutlive
             6 (Kinds.osR r) κs) where
           abbrev E : Wp.Env 𝓤 H
-          E = Frame.EnvOf 𝓤 H (List._∷_ (Kinds.tyR r) (Enter.tysP ps xs)) bs
+          E = Frame.EnvOf 𝓤 H ((Kinds.tyR r) ∷ (Enter.tysP ps xs)) bs
 
-          d0 : Typed.Typed 𝓤 H A 𝓣 E G26 b10 Δ0 at0
+          d0 : Typed.Typed 𝓤 H A 𝓣 E (on T1 l3) Syntax.return Δ0 at0
           d0 = Typed.t-return 𝓤 H A W 𝓣 E Δ0 tt
 
-          d1 : Typed.Typed 𝓤 H A 𝓣 E G25 b11 Δ0 at1
-          d1 = Typed.s-seq 𝓤 H A W 𝓣 E G25 G26 b9 b10 Δ0 (Typed.pass T25 T26 s24) at0 (Scalar.t-use 𝓤 H A W E 𝓣 G25 Scalar.oUnit 0 (Rows'.sc-here Row.sUnit) Syntax.tyUnit (Row.valS Row.sUnit)
-              (Row.sUnit .of) tt (Reads.room-gone 𝓤 H A Syntax.tyUnit) (Scalar.holds-sc 𝓤 H A W Row.sUnit) Path'.refl (λ u. Path'.refl) λ u. tt) d0
+          d1 : Typed.Typed 𝓤 H A 𝓣 E (on T0 l3) (Syntax.seq b9 Syntax.return) Δ0 at1
+          d1 = Typed.s-seq 𝓤 H A W 𝓣 E (on T0 l3) (on T1 l3) b9 Syntax.return Δ0 (Typed.pass T0 T1 s24) at0 (Scalar.t-use 𝓤 H A W E 𝓣 (on T0 l3) Scalar.oUnit 0 (Rows'.sc-here Row.sUnit) Syntax.tyUnit
+              (Row.valS Row.sUnit) (Row.sUnit .of) tt (Reads.room-gone 𝓤 H A Syntax.tyUnit) (Scalar.holds-sc 𝓤 H A W Row.sUnit) Path'.refl (λ u. Path'.refl) λ u. tt) d0
 
-          d2 : Typed.Typed 𝓤 H A 𝓣 E G24 b11 Δ0 at2
-          d2 = Typed.g-pre 𝓤 H A W 𝓣 E G24 G25 b11 Δ0 (Typed.pass T24 T25 s23) at1 (Scalar.g-room 𝓤 H A W E G24 9 (Syntax.tyArray (Syntax.tyInt Syntax.w64) 4) (Init.room-arr 𝓤 H A W (Referent.rtF
-              (Referent.fInt Syntax.w64)) 4 0 4 Path'.refl)) d1
+          d2 : Typed.Typed 𝓤 H A 𝓣 E (on T23 l3) (Syntax.seq b9 Syntax.return) Δ0 at2
+          d2 = Typed.g-pre 𝓤 H A W 𝓣 E (on T23 l3) (on T0 l3) (Syntax.seq b9 Syntax.return) Δ0 (Typed.pass T23 T0 s23) at1 (Scalar.g-room 𝓤 H A W E (on T23 l3) 9 y1 (Init.room-arr 𝓤 H A W n64 4 0 4
+              Path'.refl)) d1
 
-          d3 : Typed.Typed 𝓤 H A 𝓣 E G23 b12 Δ0 at3
-          d3 = Typed.s-seq 𝓤 H A W 𝓣 E G23 G24 b8 b11 Δ0 (Typed.pass T23 T24 s22) at2 (DerefMove.t-ref-write-from 𝓤 H A W E 𝓣 (λ ρ. Unit) G23 6 9 5 (Array'.Array (Referent.rtF (Referent.fInt
-              Syntax.w64)) 4) (Syntax.tyRef (Syntax.named 5) Syntax.mut (Syntax.tyArray (Syntax.tyInt Syntax.w64) 4)) (Syntax.tyArray (Syntax.tyInt Syntax.w64) 4) (Syntax.tyArray (Syntax.tyInt Syntax.w64)
-              4) (Row.lease (κs .1 .1 .1 .1 .1 .0) (qs .1 .1 .1 .1 .1 .0)) (Rows.arrF (Referent.rtF (Referent.fInt Syntax.w64)) 4 0) (λ x. x) (λ x. x) (λ x. x) Path'.refl Path'.refl Path'.refl
-              (Own.told-none 𝓤 H A (G23 .slots)) (Reads.as-is 𝓤 H A (Rows'.mref (Array'.Array (Referent.rtF (Referent.fInt Syntax.w64)) 4) (Syntax.tyRef (Syntax.named 5) Syntax.mut (Syntax.tyArray
-              (Syntax.tyInt Syntax.w64) 4)) 5)) (Yields.yields-copy 𝓤 H A W (λ ρ. Unit) (Array'.Array (Referent.rtF (Referent.fInt Syntax.w64)) 4) Path'.refl (Copies.cArr (Referent.rtF (Referent.fInt
-              Syntax.w64)) (Copies.cRf (Referent.fInt Syntax.w64)) 4 .copy 𝓤 H A W) (Rows.arrF (Referent.rtF (Referent.fInt Syntax.w64)) 4 0) (λ x. x) (λ x. x) (λ ρ told. Whole.mem-arr 𝓤 H A W
-              (Referent.rtF (Referent.fInt Syntax.w64)) 4 ρ) λ ρ told. Whole.arr-mem 𝓤 H A W (Referent.rtF (Referent.fInt Syntax.w64)) 4 tt ρ) Path'.refl tt Path'.refl Path'.refl) d2
+          d3 : Typed.Typed 𝓤 H A 𝓣 E (on T23 l3) b12 Δ0 at3
+          d3 = Typed.s-seq 𝓤 H A W 𝓣 E (on T23 l3) (on T23 l3) b8 (Syntax.seq b9 Syntax.return) Δ0 (Typed.pass T23 T23 s22) at2 (DerefMove.t-ref-write-from 𝓤 H A W E 𝓣 (λ ρ. Unit) (on T23 l3) 6 9 5
+              (Array'.Array n64 4) y11 y1 y1 k5 (Rows.arrF n64 4 0) (λ x. x) (λ x. x) (λ x. x) Path'.refl Path'.refl Path'.refl (Own.told-none 𝓤 H A ((on T23 l3) .slots)) (Reads.as-is 𝓤 H A (Rows'.mref
+              (Array'.Array n64 4) y11 5)) (Yields.yields-copy 𝓤 H A W (λ ρ. Unit) (Array'.Array n64 4) Path'.refl (Copies.cArr n64 (Copies.cRf (Referent.fInt Syntax.w64)) 4 .copy 𝓤 H A W) (Rows.arrF n64
+              4 0) (λ x. x) (λ x. x) (λ ρ told. Whole.mem-arr 𝓤 H A W n64 4 ρ) λ ρ told. Whole.arr-mem 𝓤 H A W n64 4 tt ρ) Path'.refl tt Path'.refl Path'.refl) d2
 
-          d4 : Typed.Typed 𝓤 H A 𝓣 E G22 b12 Δ0 at4
-          d4 = Typed.g-pre 𝓤 H A W 𝓣 E G22 G23 b12 Δ0 (Typed.pass T22 T23 s21) at3 (Scalar.g-room 𝓤 H A W E G22 8 (Syntax.tyArray (Syntax.tyInt Syntax.w64) 1) (Init.room-arr 𝓤 H A W (Referent.rtF
-              (Referent.fInt Syntax.w64)) 1 0 1 Path'.refl)) d3
+          d4 : Typed.Typed 𝓤 H A 𝓣 E (on T21 l3) b12 Δ0 at4
+          d4 = Typed.g-pre 𝓤 H A W 𝓣 E (on T21 l3) (on T23 l3) b12 Δ0 (Typed.pass T21 T23 s21) at3 (Scalar.g-room 𝓤 H A W E (on T21 l3) 8 y0 (Init.room-arr 𝓤 H A W n64 1 0 1 Path'.refl)) d3
 
-          d5 : Typed.Typed 𝓤 H A 𝓣 E G21 b13 Δ0 at5
-          d5 = Typed.s-seq 𝓤 H A W 𝓣 E G21 G22 b7 b12 Δ0 (Typed.pass T21 T22 s20) at4 (DerefMove.t-ref-write-from 𝓤 H A W E 𝓣 (λ ρ. Unit) G21 5 8 4 (Array'.Array (Referent.rtF (Referent.fInt
-              Syntax.w64)) 1) (Syntax.tyRef (Syntax.named 4) Syntax.mut (Syntax.tyArray (Syntax.tyInt Syntax.w64) 1)) (Syntax.tyArray (Syntax.tyInt Syntax.w64) 1) (Syntax.tyArray (Syntax.tyInt Syntax.w64)
-              1) (Row.lease (κs .1 .1 .1 .1 .0) (qs .1 .1 .1 .1 .0)) (Rows.arrF (Referent.rtF (Referent.fInt Syntax.w64)) 1 0) (λ x. x) (λ x. x) (λ x. x) Path'.refl Path'.refl Path'.refl (Own.told-none 𝓤
-              H A (G21 .slots)) (Reads.as-is 𝓤 H A (Rows'.mref (Array'.Array (Referent.rtF (Referent.fInt Syntax.w64)) 1) (Syntax.tyRef (Syntax.named 4) Syntax.mut (Syntax.tyArray (Syntax.tyInt
-              Syntax.w64) 1)) 4)) (Yields.yields-copy 𝓤 H A W (λ ρ. Unit) (Array'.Array (Referent.rtF (Referent.fInt Syntax.w64)) 1) Path'.refl (Copies.cArr (Referent.rtF (Referent.fInt Syntax.w64))
-              (Copies.cRf (Referent.fInt Syntax.w64)) 1 .copy 𝓤 H A W) (Rows.arrF (Referent.rtF (Referent.fInt Syntax.w64)) 1 0) (λ x. x) (λ x. x) (λ ρ told. Whole.mem-arr 𝓤 H A W (Referent.rtF
-              (Referent.fInt Syntax.w64)) 1 ρ) λ ρ told. Whole.arr-mem 𝓤 H A W (Referent.rtF (Referent.fInt Syntax.w64)) 1 tt ρ) Path'.refl tt Path'.refl Path'.refl) d4
+          d5 : Typed.Typed 𝓤 H A 𝓣 E (on T21 l3) (Syntax.seq b7 b12) Δ0 at5
+          d5 = Typed.s-seq 𝓤 H A W 𝓣 E (on T21 l3) (on T21 l3) b7 b12 Δ0 (Typed.pass T21 T21 s20) at4 (DerefMove.t-ref-write-from 𝓤 H A W E 𝓣 (λ ρ. Unit) (on T21 l3) 5 8 4 (Array'.Array n64 1) y10 y0
+              y0 k4 (Rows.arrF n64 1 0) (λ x. x) (λ x. x) (λ x. x) Path'.refl Path'.refl Path'.refl (Own.told-none 𝓤 H A ((on T21 l3) .slots)) (Reads.as-is 𝓤 H A (Rows'.mref (Array'.Array n64 1) y10 4))
+              (Yields.yields-copy 𝓤 H A W (λ ρ. Unit) (Array'.Array n64 1) Path'.refl (Copies.cArr n64 (Copies.cRf (Referent.fInt Syntax.w64)) 1 .copy 𝓤 H A W) (Rows.arrF n64 1 0) (λ x. x) (λ x. x) (λ ρ
+              told. Whole.mem-arr 𝓤 H A W n64 1 ρ) λ ρ told. Whole.arr-mem 𝓤 H A W n64 1 tt ρ) Path'.refl tt Path'.refl Path'.refl) d4
 
-          d6 : Typed.Typed 𝓤 H A 𝓣 E G20 b13 Δ0 at6
-          d6 = Typed.g-pre 𝓤 H A W 𝓣 E G20 G21 b13 Δ0 (Typed.pass T20 T21 s19) at5 (Scalar.g-room 𝓤 H A W E G20 7 (Syntax.tyEnum (List._∷_ 115 (List._∷_ 116 (List._∷_ 114 (List._∷_ 101 (List._∷_ 97
-              (List._∷_ 109 (List._∷_ 58 (List._∷_ 58 (List._∷_ 66 (List._∷_ 108 (List._∷_ 111 (List._∷_ 99 (List._∷_ 107 (List._∷_ 76 (List._∷_ 101 (List._∷_ 110 (List._∷_ 103 (List._∷_ 116 (List._∷_ 104
-              List.[]))))))))))))))))))) (Syntax.ttcons (Syntax.tcons (Syntax.tyInt Syntax.w64) Syntax.tnil) (Syntax.ttcons (Syntax.tcons (Syntax.tyEnum (List._∷_ 115 (List._∷_ 116 (List._∷_ 114 (List._∷_
-              101 (List._∷_ 97 (List._∷_ 109 (List._∷_ 58 (List._∷_ 58 (List._∷_ 82 (List._∷_ 101 (List._∷_ 102 (List._∷_ 117 (List._∷_ 115 (List._∷_ 97 (List._∷_ 108 List.[]))))))))))))))) (Syntax.ttcons
-              Syntax.tnil (Syntax.ttcons Syntax.tnil (Syntax.ttcons Syntax.tnil (Syntax.ttcons (Syntax.tcons (Syntax.tyInt Syntax.w64) Syntax.tnil) (Syntax.ttcons Syntax.tnil (Syntax.ttcons Syntax.tnil
-              (Syntax.ttcons Syntax.tnil (Syntax.ttcons Syntax.tnil (Syntax.ttcons Syntax.tnil (Syntax.ttcons Syntax.tnil (Syntax.ttcons (Syntax.tcons (Syntax.tyInt Syntax.w64) Syntax.tnil) (Syntax.ttcons
-              (Syntax.tcons (Syntax.tyInt Syntax.w64) Syntax.tnil) (Syntax.ttcons Syntax.tnil (Syntax.ttcons (Syntax.tcons (Syntax.tyInt Syntax.w64) (Syntax.tcons (Syntax.tyInt Syntax.w64) Syntax.tnil))
-              (Syntax.ttcons (Syntax.tcons (Syntax.tyInt Syntax.w64) Syntax.tnil) (Syntax.ttcons Syntax.tnil (Syntax.ttcons Syntax.tnil (Syntax.ttcons (Syntax.tcons (Syntax.tyInt Syntax.w64) Syntax.tnil)
-              (Syntax.ttcons (Syntax.tcons (Syntax.tyInt Syntax.w64) Syntax.tnil) (Syntax.ttcons (Syntax.tcons (Syntax.tyInt Syntax.w64) Syntax.tnil) (Syntax.ttcons Syntax.tnil (Syntax.ttcons Syntax.tnil
-              (Syntax.ttcons (Syntax.tcons (Syntax.tyInt Syntax.w64) (Syntax.tcons (Syntax.tyInt Syntax.w64) Syntax.tnil)) (Syntax.ttcons Syntax.tnil Syntax.ttnil))))))))))))))))))))))))) Syntax.tnil)
-              Syntax.ttnil))) (Local.room-whole 𝓤 H A W (Declared.row BlockLength.the-type) (Syntax.tyEnum (List._∷_ 115 (List._∷_ 116 (List._∷_ 114 (List._∷_ 101 (List._∷_ 97 (List._∷_ 109 (List._∷_ 58
-              (List._∷_ 58 (List._∷_ 66 (List._∷_ 108 (List._∷_ 111 (List._∷_ 99 (List._∷_ 107 (List._∷_ 76 (List._∷_ 101 (List._∷_ 110 (List._∷_ 103 (List._∷_ 116 (List._∷_ 104 List.[])))))))))))))))))))
-              (Syntax.ttcons (Syntax.tcons (Syntax.tyInt Syntax.w64) Syntax.tnil) (Syntax.ttcons (Syntax.tcons (Syntax.tyEnum (List._∷_ 115 (List._∷_ 116 (List._∷_ 114 (List._∷_ 101 (List._∷_ 97 (List._∷_
-              109 (List._∷_ 58 (List._∷_ 58 (List._∷_ 82 (List._∷_ 101 (List._∷_ 102 (List._∷_ 117 (List._∷_ 115 (List._∷_ 97 (List._∷_ 108 List.[]))))))))))))))) (Syntax.ttcons Syntax.tnil (Syntax.ttcons
-              Syntax.tnil (Syntax.ttcons Syntax.tnil (Syntax.ttcons (Syntax.tcons (Syntax.tyInt Syntax.w64) Syntax.tnil) (Syntax.ttcons Syntax.tnil (Syntax.ttcons Syntax.tnil (Syntax.ttcons Syntax.tnil
-              (Syntax.ttcons Syntax.tnil (Syntax.ttcons Syntax.tnil (Syntax.ttcons Syntax.tnil (Syntax.ttcons (Syntax.tcons (Syntax.tyInt Syntax.w64) Syntax.tnil) (Syntax.ttcons (Syntax.tcons
-              (Syntax.tyInt Syntax.w64) Syntax.tnil) (Syntax.ttcons Syntax.tnil (Syntax.ttcons (Syntax.tcons (Syntax.tyInt Syntax.w64) (Syntax.tcons (Syntax.tyInt Syntax.w64) Syntax.tnil)) (Syntax.ttcons
-              (Syntax.tcons (Syntax.tyInt Syntax.w64) Syntax.tnil) (Syntax.ttcons Syntax.tnil (Syntax.ttcons Syntax.tnil (Syntax.ttcons (Syntax.tcons (Syntax.tyInt Syntax.w64) Syntax.tnil) (Syntax.ttcons
-              (Syntax.tcons (Syntax.tyInt Syntax.w64) Syntax.tnil) (Syntax.ttcons (Syntax.tcons (Syntax.tyInt Syntax.w64) Syntax.tnil) (Syntax.ttcons Syntax.tnil (Syntax.ttcons Syntax.tnil (Syntax.ttcons
-              (Syntax.tcons (Syntax.tyInt Syntax.w64) (Syntax.tcons (Syntax.tyInt Syntax.w64) Syntax.tnil)) (Syntax.ttcons Syntax.tnil Syntax.ttnil))))))))))))))))))))))))) Syntax.tnil) Syntax.ttnil)))
-              Path'.refl)) d5
+          d6 : Typed.Typed 𝓤 H A 𝓣 E (on T20 l3) (Syntax.seq b7 b12) Δ0 at6
+          d6 = Typed.g-pre 𝓤 H A W 𝓣 E (on T20 l3) (on T21 l3) (Syntax.seq b7 b12) Δ0 (Typed.pass T20 T21 s19) at5 (Scalar.g-room 𝓤 H A W E (on T20 l3) 7 y9 (Local.room-whole 𝓤 H A W (Declared.row
+              BlockLength.the-type) y9 Path'.refl)) d5
 
-          d7 : Typed.Typed 𝓤 H A 𝓣 E G19 b14 Δ0 at7
-          d7 = Typed.s-seq 𝓤 H A W 𝓣 E G19 G20 b6 b13 Δ0 (Typed.both s18) at6 (Plain.t-call-plain 𝓤 H A W 𝓣 0 ps·2 r·2 (claims· .4) (claims· .5) "stream::length_refusal" (known .2) E (λ pos β. β) G19
-              (record { pos = 7; st = List.[]; d = 0; at = λ x. x }, tt) 9 List.[] (Call.sub-id 𝓤 H A W (G19 .slots)) (
-                (
-                  Yields.yields-copy 𝓤 H A W (λ ρ. Unit) (Declared.row BlockLength.the-type) Path'.refl (Copies.cEnum BlockLength.the-type Laws.the-laws Laws.the-copy .copy 𝓤 H A W) (Rows'.whole
-                      (Declared.row BlockLength.the-type)) (λ x. x) (λ x. x) (λ ρ told. Local.mem-whole 𝓤 H A W (Declared.row BlockLength.the-type) ρ) λ ρ told. Local.whole-mem 𝓤 H A W (Declared.row
-                      BlockLength.the-type) ρ,
-                  Path'.refl,
-                ),
-                tt,
-              ) (Reads.room-gone 𝓤 H A (Syntax.tyArray (Syntax.tyInt Syntax.w64) 4)) tt Path'.refl) d6
+          d7 : Typed.Typed 𝓤 H A 𝓣 E (on T19 l3) (Syntax.seq b6 (Syntax.seq b7 b12)) Δ0 at7
+          d7 = Typed.s-seq 𝓤 H A W 𝓣 E (on T19 l3) (on T20 l3) b6 (Syntax.seq b7 b12) Δ0 (Typed.both s18) at6 (Plain.t-call-plain 𝓤 H A W 𝓣 0 ps·2 r·2 (claims· .4) (claims· .5)
+              "stream::length_refusal" (known .2) E (λ pos β. β) (on T19 l3) (record { pos = 7; st = []; d = 0; at = λ x. x }, tt) 9 [] (Call.sub-id 𝓤 H A W ((on T19 l3) .slots))
+              ((Values.enum-copied 𝓤 H A W BlockLength.the-type Laws.the-laws Laws.the-copy, Path'.refl), tt) (Reads.room-gone 𝓤 H A y1) tt Path'.refl) d6
 
-          d8 : Typed.Typed 𝓤 H A 𝓣 E G18 b15 Δ0 at8
-          d8 = Typed.s-seq 𝓤 H A W 𝓣 E G18 G19 b5 b14 Δ0 (Typed.both s17) at7 (Plain.t-call-plain 𝓤 H A W 𝓣 0 ps·1 r·1 (claims· .2) (claims· .3) "stream::length_word" (known .1) E (λ pos β. β) G18
-              (record { pos = 7; st = List.[]; d = 0; at = λ x. x }, tt) 8 List.[] (Call.sub-id 𝓤 H A W (G18 .slots)) (
-                (
-                  Yields.yields-copy 𝓤 H A W (λ ρ. Unit) (Declared.row BlockLength.the-type) Path'.refl (Copies.cEnum BlockLength.the-type Laws.the-laws Laws.the-copy .copy 𝓤 H A W) (Rows'.whole
-                      (Declared.row BlockLength.the-type)) (λ x. x) (λ x. x) (λ ρ told. Local.mem-whole 𝓤 H A W (Declared.row BlockLength.the-type) ρ) λ ρ told. Local.whole-mem 𝓤 H A W (Declared.row
-                      BlockLength.the-type) ρ,
-                  Path'.refl,
-                ),
-                tt,
-              ) (Reads.room-gone 𝓤 H A (Syntax.tyArray (Syntax.tyInt Syntax.w64) 1)) tt Path'.refl) d7
+          d8 : Typed.Typed 𝓤 H A 𝓣 E (on T17 l3) b15 Δ0 at8
+          d8 = Typed.s-seq 𝓤 H A W 𝓣 E (on T17 l3) (on T19 l3) b5 (Syntax.seq b6 (Syntax.seq b7 b12)) Δ0 (Typed.both s17) at7 (Plain.t-call-plain 𝓤 H A W 𝓣 0 ps·1 r·1 (claims· .2) (claims· .3)
+              "stream::length_word" (known .1) E (λ pos β. β) (on T17 l3) (record { pos = 7; st = []; d = 0; at = λ x. x }, tt) 8 [] (Call.sub-id 𝓤 H A W ((on T17 l3) .slots))
+              ((Values.enum-copied 𝓤 H A W BlockLength.the-type Laws.the-laws Laws.the-copy, Path'.refl), tt) (Reads.room-gone 𝓤 H A y0) tt Path'.refl) d7
 
-          d9 : Typed.Typed 𝓤 H A 𝓣 E G17 b15 Δ0 at9
-          d9 = Typed.g-pre 𝓤 H A W 𝓣 E G17 G18 b15 Δ0 (λ Ψ. Ψ) at8 (Lifetime.g-forget 𝓤 H A W E G17 7 Row.dead Path'.refl) d8
+          d9 : Typed.Typed 𝓤 H A 𝓣 E G17 b15 Δ0 at8
+          d9 = Typed.g-pre 𝓤 H A W 𝓣 E G17 (on T17 l3) b15 Δ0 (λ Ψ. Ψ) at8 (Lifetime.g-forget 𝓤 H A W E G17 7 Row.dead Path'.refl) d8
 
           d10 : Typed.Typed 𝓤 H A 𝓣 E G16 b15 Δ0 at10
-          d10 = Typed.g-pre 𝓤 H A W 𝓣 E G16 G17 b15 Δ0 (Typed.both s15) at9 (Relend.g-back-sl 𝓤 H A W E (Element.type) G16 13 4 3 7 (Syntax.tyRef (Syntax.named 3) Syntax.mut Element.behind)
-              (Syntax.tyRef Syntax.erased Syntax.mut Element.behind) (Row.lease (κs .1 .1 .1 .0) (qs .1 .1 .1 .0)) (λ x. x) (λ x. x) (Reads.as-is 𝓤 H A (Mut.msleft (Element.type) (Syntax.tyRef
-              Syntax.erased Syntax.mut Element.behind))) (Reads.as-is 𝓤 H A (Relend.mslice-owed (Element.type) (Syntax.tyRef (Syntax.named 3) Syntax.mut Element.behind) 3 7 (Row.lease (κs .1 .1 .1 .0) (qs
-              .1 .1 .1 .0)))) Path'.refl Path'.refl) d9
+          d10 = Typed.g-pre 𝓤 H A W 𝓣 E G16 G17 b15 Δ0 (Typed.both s15) at8 (Relend.g-back-sl 𝓤 H A W E (Element.type) G16 13 4 3 7 y6 y7 k3 (λ x. x) (λ x. x) (Reads.as-is 𝓤 H A (Mut.msleft
+              (Element.type) y7)) (Reads.as-is 𝓤 H A (Relend.mslice-owed (Element.type) y6 3 7 k3)) Path'.refl Path'.refl) d9
 
-          d11 : Typed.Typed 𝓤 H A 𝓣 E G15 b15 Δ0 at11
+          d11 : Typed.Typed 𝓤 H A 𝓣 E G15 b15 Δ0 at10
           d11 = Typed.g-pre 𝓤 H A W 𝓣 E G15 G16 b15 Δ0 (λ Ψ. Ψ) at10 (Lifetime.g-end 𝓤 H A W E G15 7 Path'.refl) d10
 
-          d12 : Typed.Typed 𝓤 H A 𝓣 E G14 b15 Δ0 at12
-          d12 = Typed.g-pre 𝓤 H A W 𝓣 E G14 G15 b15 Δ0 (λ Ψ. Ψ) at11 (Lifetime.g-forget 𝓤 H A W E G14 6 Row.dead Path'.refl) d11
+          d12 : Typed.Typed 𝓤 H A 𝓣 E G13 b15 Δ0 at10
+          d12 = Typed.g-pre 𝓤 H A W 𝓣 E G13 G15 b15 Δ0 (λ Ψ. Ψ) at10 (Lifetime.g-forget 𝓤 H A W E G13 6 Row.dead Path'.refl) d11
 
           d13 : Typed.Typed 𝓤 H A 𝓣 E G13 b15 Δ0 at13
-          d13 = Typed.g-pre 𝓤 H A W 𝓣 E G13 G14 b15 Δ0 (Typed.give s12) at12 (Know.g-sl-known 𝓤 H A W (Referent.fInt Syntax.w16) E G13 3 2 (Syntax.tyRef (Syntax.named 2) Syntax.mut (Syntax.tyInt
-              Syntax.w16)) (Row.lease (κs .1 .1 .0) (qs .1 .1 .0)) 0 (λ x. x) record { fits = Dec'.lit< tt } (Reads.as-is 𝓤 H A (Mut.mslice (Referent.rtF (Referent.fInt Syntax.w16)) (Syntax.tyRef
-              (Syntax.named 2) Syntax.mut (Syntax.tyInt Syntax.w16)) 2)) Path'.refl tt) d12
+          d13 = Typed.g-pre 𝓤 H A W 𝓣 E G13 G13 b15 Δ0 (Typed.give s12) at10 (Know.g-sl-known 𝓤 H A W (Referent.fInt Syntax.w16) E G13 3 2 y5 k2 0 (λ x. x) record { fits = Dec'.lit< tt } (Reads.as-is
+              𝓤 H A (Mut.mslice n16 y5 2)) Path'.refl tt) d12
 
           d14 : Typed.Typed 𝓤 H A 𝓣 E G12 b15 Δ0 at14
-          d14 = Typed.g-pre 𝓤 H A W 𝓣 E G12 G13 b15 Δ0 (Typed.both s11) at13 (Relend.g-back-sl 𝓤 H A W E (Referent.rtF (Referent.fInt Syntax.w16)) G12 11 3 2 6 (Syntax.tyRef (Syntax.named 2)
-              Syntax.mut (Syntax.tyInt Syntax.w16)) (Syntax.tyRef Syntax.erased Syntax.mut (Syntax.tyInt Syntax.w16)) (Row.lease (κs .1 .1 .0) (qs .1 .1 .0)) (λ x. x) (λ x. x) (Reads.as-is 𝓤 H A
-              (Mut.msleft (Referent.rtF (Referent.fInt Syntax.w16)) (Syntax.tyRef Syntax.erased Syntax.mut (Syntax.tyInt Syntax.w16)))) (Reads.as-is 𝓤 H A (Relend.mslice-owed (Referent.rtF (Referent.fInt
-              Syntax.w16)) (Syntax.tyRef (Syntax.named 2) Syntax.mut (Syntax.tyInt Syntax.w16)) 2 6 (Row.lease (κs .1 .1 .0) (qs .1 .1 .0)))) Path'.refl Path'.refl) d13
+          d14 = Typed.g-pre 𝓤 H A W 𝓣 E G12 G13 b15 Δ0 (Typed.both s11) at13 (Relend.g-back-sl 𝓤 H A W E n16 G12 11 3 2 6 y5 y8 k2 (λ x. x) (λ x. x) (Reads.as-is 𝓤 H A (Mut.msleft n16 y8))
+              (Reads.as-is 𝓤 H A (Relend.mslice-owed n16 y5 2 6 k2)) Path'.refl Path'.refl) d13
 
-          d15 : Typed.Typed 𝓤 H A 𝓣 E G11 b15 Δ0 at15
+          d15 : Typed.Typed 𝓤 H A 𝓣 E G11 b15 Δ0 at14
           d15 = Typed.g-pre 𝓤 H A W 𝓣 E G11 G12 b15 Δ0 (λ Ψ. Ψ) at14 (Lifetime.g-end 𝓤 H A W E G11 6 Path'.refl) d14
 
-          d16 : Typed.Typed 𝓤 H A 𝓣 E G10 b16 Δ0 at16
-          d16 = Typed.s-seq 𝓤 H A W 𝓣 E G10 G11 b4 b15 Δ0 (Typed.both s9) at15 (Plain.t-call-plain 𝓤 H A W 𝓣 4 ps·0 r·0 (claims· .0) (claims· .1) "block_writer::measure_block" (known .0) E (λ pos β.
-              β) G10 (
-                record { pos = 1; ty = Syntax.tyRef (Syntax.named 0) Syntax.imm (Syntax.tyInt Syntax.w8); ref = λ x. x },
-                (
-                  record { pos = 2; ty = Syntax.tyRef (Syntax.named 1) Syntax.imm (Syntax.tyInt Syntax.w16); ref = λ x. x },
-                  (
-                    record { pos = 11; ty = Syntax.tyRef Syntax.erased Syntax.mut (Syntax.tyInt Syntax.w16); ref = λ x. x },
-                    (record { pos = 13; ty = Syntax.tyRef Syntax.erased Syntax.mut Element.behind; ref = λ x. x }, tt),
-                  ),
-                ),
-              ) 7 (List._∷_ 0 (List._∷_ 1 (List._∷_ 6 (List._∷_ 7 List.[])))) (Call.sub-id 𝓤 H A W (G10
-              .slots)) (
-                ShrSlice.spares-sslice 𝓤 H A W (Referent.rtF (Referent.fInt Syntax.w8)) (Syntax.tyRef (Syntax.named 0) Syntax.imm (Syntax.tyInt Syntax.w8)) 0,
-                Shared.reads-sslice 𝓤 H A W (Referent.rtF
-                    (Referent.fInt Syntax.w8)) (Syntax.tyRef (Syntax.named 0) Syntax.imm (Syntax.tyInt Syntax.w8)) 0,
+          d16 : Typed.Typed 𝓤 H A 𝓣 E G10 (Syntax.seq b4 b15) Δ0 at16
+          d16 = Typed.s-seq 𝓤 H A W 𝓣 E G10 G11 b4 b15 Δ0 (Typed.both s9) at14 (Plain.t-call-plain 𝓤 H A W 𝓣 4 ps·0 r·0 (claims· .0) (claims· .1) "block_writer::measure_block" (known .0) E (λ pos β.
+              β) G10
+              (record { pos = 1; ty = y3; ref = λ x. x }, (record { pos = 2; ty = y4; ref = λ x. x }, (record { pos = 11; ty = y8; ref = λ x. x }, (record { pos = 13; ty = y7; ref = λ x. x }, tt)))) 7
+              (0 ∷ 1 ∷ 6 ∷ 7 ∷ []) (Call.sub-id 𝓤 H A W (G10 .slots)) (
+                ShrSlice.spares-sslice 𝓤 H A W n8 y3 0,
+                Shared.reads-sslice 𝓤 H A W n8 y3 0,
                 Path'.refl,
                 (
-                  ShrSlice.spares-sslice 𝓤 H A W (Referent.rtF (Referent.fInt Syntax.w16)) (Syntax.tyRef (Syntax.named 1) Syntax.imm (Syntax.tyInt Syntax.w16)) 1,
-                  Shared.reads-sslice 𝓤 H A W (Referent.rtF
-                      (Referent.fInt Syntax.w16)) (Syntax.tyRef (Syntax.named 1) Syntax.imm (Syntax.tyInt Syntax.w16)) 1,
+                  ShrSlice.spares-sslice 𝓤 H A W n16 y4 1,
+                  Shared.reads-sslice 𝓤 H A W n16 y4 1,
                   Path'.refl,
                   (
-                    Reads.as-is 𝓤 H A (Mut.mslice (Referent.rtF (Referent.fInt Syntax.w16)) (Syntax.tyRef Syntax.erased Syntax.mut (Syntax.tyInt Syntax.w16)) 6),
-                    Mut.reads-mslice 𝓤 H A W (Referent.rtF
-                        (Referent.fInt Syntax.w16)) (Syntax.tyRef Syntax.erased Syntax.mut (Syntax.tyInt Syntax.w16)) 6,
+                    Reads.as-is 𝓤 H A (Mut.mslice n16 y8 6),
+                    Mut.reads-mslice 𝓤 H A W n16 y8 6,
                     Path'.refl,
-                    (
-                      Reads.as-is 𝓤 H A (Mut.mslice (Element.type) (Syntax.tyRef Syntax.erased Syntax.mut Element.behind) 7),
-                      Mut.reads-mslice 𝓤 H A W (Element.type) (Syntax.tyRef Syntax.erased Syntax.mut
-                          Element.behind) 7,
-                      Path'.refl,
-                      tt,
-                    ),
+                    (Reads.as-is 𝓤 H A (Mut.mslice (Element.type) y7 7), Mut.reads-mslice 𝓤 H A W (Element.type) y7 7, Path'.refl, tt),
                   ),
                 ),
-              ) (Reads.room-gone 𝓤 H A (Syntax.tyEnum (List._∷_ 115 (List._∷_ 116 (List._∷_ 114 (List._∷_ 101 (List._∷_ 97 (List._∷_ 109 (List._∷_ 58 (List._∷_ 58
-              (List._∷_ 66 (List._∷_ 108 (List._∷_ 111 (List._∷_ 99 (List._∷_ 107 (List._∷_ 76 (List._∷_ 101 (List._∷_ 110 (List._∷_ 103 (List._∷_ 116 (List._∷_ 104 List.[])))))))))))))))))))
-              (Syntax.ttcons (Syntax.tcons (Syntax.tyInt Syntax.w64) Syntax.tnil) (Syntax.ttcons (Syntax.tcons (Syntax.tyEnum (List._∷_ 115 (List._∷_ 116 (List._∷_ 114 (List._∷_ 101 (List._∷_ 97 (List._∷_
-              109 (List._∷_ 58 (List._∷_ 58 (List._∷_ 82 (List._∷_ 101 (List._∷_ 102 (List._∷_ 117 (List._∷_ 115 (List._∷_ 97 (List._∷_ 108 List.[]))))))))))))))) (Syntax.ttcons Syntax.tnil (Syntax.ttcons
-              Syntax.tnil (Syntax.ttcons Syntax.tnil (Syntax.ttcons (Syntax.tcons (Syntax.tyInt Syntax.w64) Syntax.tnil) (Syntax.ttcons Syntax.tnil (Syntax.ttcons Syntax.tnil (Syntax.ttcons Syntax.tnil
-              (Syntax.ttcons Syntax.tnil (Syntax.ttcons Syntax.tnil (Syntax.ttcons Syntax.tnil (Syntax.ttcons (Syntax.tcons (Syntax.tyInt Syntax.w64) Syntax.tnil) (Syntax.ttcons (Syntax.tcons
-              (Syntax.tyInt Syntax.w64) Syntax.tnil) (Syntax.ttcons Syntax.tnil (Syntax.ttcons (Syntax.tcons (Syntax.tyInt Syntax.w64) (Syntax.tcons (Syntax.tyInt Syntax.w64) Syntax.tnil)) (Syntax.ttcons
-              (Syntax.tcons (Syntax.tyInt Syntax.w64) Syntax.tnil) (Syntax.ttcons Syntax.tnil (Syntax.ttcons Syntax.tnil (Syntax.ttcons (Syntax.tcons (Syntax.tyInt Syntax.w64) Syntax.tnil) (Syntax.ttcons
-              (Syntax.tcons (Syntax.tyInt Syntax.w64) Syntax.tnil) (Syntax.ttcons (Syntax.tcons (Syntax.tyInt Syntax.w64) Syntax.tnil) (Syntax.ttcons Syntax.tnil (Syntax.ttcons Syntax.tnil (Syntax.ttcons
-              (Syntax.tcons (Syntax.tyInt Syntax.w64) (Syntax.tcons (Syntax.tyInt Syntax.w64) Syntax.tnil)) (Syntax.ttcons Syntax.tnil Syntax.ttnil))))))))))))))))))))))))) Syntax.tnil) Syntax.ttnil))))
-              (tt, (tt, (tt, (tt, tt)))) Path'.refl) d15
+              ) (Reads.room-gone 𝓤 H A y9) (tt, (tt, (tt, (tt, tt)))) Path'.refl) d15
 
-          d17 : Typed.Typed 𝓤 H A 𝓣 E G9 b17 Δ0 at17
-          d17 = Typed.s-seq 𝓤 H A W 𝓣 E G9 G10 b3 b16 Δ0 (Typed.ask s8) at16 (Relend.t-sl-aggregate 𝓤 H A W E (Element.type) 𝓣 (Relend.asMut (Element.type)) G9 12 13 7 (Syntax.tyRef Syntax.erased
-              Syntax.mut Element.behind) (Syntax.tyRef Syntax.erased Syntax.mut Element.behind) (λ x. x) (Scalar.oFld 4 (List._∷_ (Syntax.field 1) List.[]) (Syntax.tyInt Syntax.w64) 8 λ v. Shared.lenV (v
-              .0)) (Reads.as-is 𝓤 H A (Relend.msptr (Element.type) (Syntax.tyRef Syntax.erased Syntax.mut Element.behind) 7)) (Reads.room-gone 𝓤 H A y1)
-              (Relend.reads-owed-len 𝓤 H A W (Element.type) (Syntax.tyRef (Syntax.named 3) Syntax.mut Element.behind) 3 7 (Row.lease (κs .1 .1 .1 .0) (qs .1 .1 .1 .0)) 8 Path'.refl, Path'.refl) Path'.refl
-              Path'.refl λ b o k. tt) d16
+          d17 : Typed.Typed 𝓤 H A 𝓣 E G9 (Syntax.seq b3 (Syntax.seq b4 b15)) Δ0 at17
+          d17 = Typed.s-seq 𝓤 H A W 𝓣 E G9 G10 b3 (Syntax.seq b4 b15) Δ0 (Typed.ask s8) at16 (Relend.t-sl-aggregate 𝓤 H A W E (Element.type) 𝓣 (Relend.asMut (Element.type)) G9 12 13 7 y7 y7 (λ x. x)
+              (Scalar.oFld 4 ((Syntax.field 1) ∷ []) u64 8 λ v. Shared.lenV (v .0)) (Reads.as-is 𝓤 H A (Relend.msptr (Element.type) y7 7)) (Reads.room-gone 𝓤 H A y12)
+              (Relend.reads-owed-len 𝓤 H A W (Element.type) y6 3 7 k3 8 Path'.refl, Path'.refl) Path'.refl Path'.refl λ b o k. tt) d16
 
           d18 : Typed.Typed 𝓤 H A 𝓣 E G8 b18 Δ0 at18
-          d18 = Typed.s-seq 𝓤 H A W 𝓣 E G8 G9 b2 b17 Δ0 (Typed.give s7) at17 (Relend.t-sl-relend 𝓤 H A W E (Element.type) 𝓣 G8 4 12 3 7 (Syntax.tyRef (Syntax.named 3) Syntax.mut Element.behind)
-              (Syntax.tyRef Syntax.erased Syntax.mut Element.behind) (Row.lease (κs .1 .1 .1 .0) (qs .1 .1 .1 .0)) 0 (λ x. x) (Reads.as-is 𝓤 H A (Mut.mslice (Element.type) (Syntax.tyRef (Syntax.named 3)
-              Syntax.mut Element.behind) 3)) (Reads.room-gone 𝓤 H A (Syntax.tyRef Syntax.erased Syntax.mut Element.behind)) Path'.refl tt Path'.refl Path'.refl Path'.refl λ b o. tt) d17
+          d18 = Typed.s-seq 𝓤 H A W 𝓣 E G8 G9 b2 (Syntax.seq b3 (Syntax.seq b4 b15)) Δ0 (Typed.give s7) at17 (Relend.t-sl-relend 𝓤 H A W E (Element.type) 𝓣 G8 4 12 3 7 y6 y7 k3 0 (λ x. x) (Reads.as-is
+              𝓤 H A (Mut.mslice (Element.type) y6 3)) (Reads.room-gone 𝓤 H A y7) Path'.refl tt Path'.refl Path'.refl Path'.refl λ b o. tt) d17
 
-          d19 : Typed.Typed 𝓤 H A 𝓣 E G7 b18 Δ0 at19
+          d19 : Typed.Typed 𝓤 H A 𝓣 E G7 b18 Δ0 at18
           d19 = Typed.g-pre 𝓤 H A W 𝓣 E G7 G8 b18 Δ0 (λ Ψ. Ψ) at18 (Lifetime.g-begin 𝓤 H A W E G7 7 (tt, (tt, (tt, ((tt, tt), (tt, (tt, (tt, (tt, (tt, (tt, (tt, (tt, (tt, (tt, tt))))))))))))))) d18
 
-          d20 : Typed.Typed 𝓤 H A 𝓣 E G6 b19 Δ0 at20
-          d20 = Typed.s-seq 𝓤 H A W 𝓣 E G6 G7 b1 b18 Δ0 (Typed.ask s5) at19 (Relend.t-sl-aggregate 𝓤 H A W E (Referent.rtF (Referent.fInt Syntax.w16)) 𝓣 (Relend.asMut (Referent.rtF (Referent.fInt
-              Syntax.w16))) G6 10 11 6 (Syntax.tyRef Syntax.erased Syntax.mut (Syntax.tyInt Syntax.w16)) (Syntax.tyRef Syntax.erased Syntax.mut (Syntax.tyInt Syntax.w16)) (λ x. x) (Scalar.oFld 3 (List._∷_
-              (Syntax.field 1) List.[]) (Syntax.tyInt Syntax.w64) 8 λ v. Shared.lenV (v .0)) (Reads.as-is 𝓤 H A (Relend.msptr (Referent.rtF (Referent.fInt Syntax.w16)) (Syntax.tyRef Syntax.erased
-              Syntax.mut (Syntax.tyInt Syntax.w16)) 6)) (Reads.room-gone 𝓤 H A y0) (
-                Relend.reads-owed-len 𝓤 H A W (Referent.rtF (Referent.fInt Syntax.w16)) (Syntax.tyRef (Syntax.named 2) Syntax.mut (Syntax.tyInt Syntax.w16)) 2 6 (Row.lease (κs .1 .1 .0) (qs .1 .1 .0)) 8
-                    Path'.refl,
-                Path'.refl,
-              ) Path'.refl Path'.refl λ b o k. tt) d19
+          d20 : Typed.Typed 𝓤 H A 𝓣 E G6 (Syntax.seq b1 b18) Δ0 at20
+          d20 = Typed.s-seq 𝓤 H A W 𝓣 E G6 G7 b1 b18 Δ0 (Typed.ask s5) at18 (Relend.t-sl-aggregate 𝓤 H A W E n16 𝓣 (Relend.asMut n16) G6 10 11 6 y8 y8 (λ x. x) (Scalar.oFld 3 ((Syntax.field 1) ∷ [])
+              u64 8 λ v. Shared.lenV (v .0)) (Reads.as-is 𝓤 H A (Relend.msptr n16 y8 6)) (Reads.room-gone 𝓤 H A y13) (Relend.reads-owed-len 𝓤 H A W n16 y5 2 6 k2 8 Path'.refl, Path'.refl) Path'.refl
+              Path'.refl λ b o k. tt) d19
 
           d21 : Typed.Typed 𝓤 H A 𝓣 E G5 b20 Δ0 at21
-          d21 = Typed.s-seq 𝓤 H A W 𝓣 E G5 G6 b0 b19 Δ0 (Typed.give s4) at20 (Relend.t-sl-relend 𝓤 H A W E (Referent.rtF (Referent.fInt Syntax.w16)) 𝓣 G5 3 10 2 6 (Syntax.tyRef (Syntax.named 2)
-              Syntax.mut (Syntax.tyInt Syntax.w16)) (Syntax.tyRef Syntax.erased Syntax.mut (Syntax.tyInt Syntax.w16)) (Row.lease (κs .1 .1 .0) (qs .1 .1 .0)) 0 (λ x. x) (Reads.as-is 𝓤 H A (Mut.mslice
-              (Referent.rtF (Referent.fInt Syntax.w16)) (Syntax.tyRef (Syntax.named 2) Syntax.mut (Syntax.tyInt Syntax.w16)) 2)) (Reads.room-gone 𝓤 H A (Syntax.tyRef Syntax.erased Syntax.mut (Syntax.tyInt
-              Syntax.w16))) Path'.refl tt Path'.refl Path'.refl Path'.refl λ b o. tt) d20
+          d21 = Typed.s-seq 𝓤 H A W 𝓣 E G5 G6 b0 (Syntax.seq b1 b18) Δ0 (Typed.give s4) at20 (Relend.t-sl-relend 𝓤 H A W E n16 𝓣 G5 3 10 2 6 y5 y8 k2 0 (λ x. x) (Reads.as-is 𝓤 H A (Mut.mslice n16 y5
+              2)) (Reads.room-gone 𝓤 H A y8) Path'.refl tt Path'.refl Path'.refl Path'.refl λ b o. tt) d20
 
-          d22 : Typed.Typed 𝓤 H A 𝓣 E G4 b20 Δ0 at22
-          d22 = Typed.g-pre 𝓤 H A W 𝓣 E G4 G5 b20 Δ0 (λ Ψ. Ψ) at21 (Lifetime.g-begin 𝓤 H A W E G4 6 (tt, (tt, (tt, (tt, (tt, (tt, (tt, (tt, (tt, (tt, (tt, (tt, (tt, (tt, tt))))))))))))))) d21
+          d22 : Typed.Typed 𝓤 H A 𝓣 E (on T0 l3) b20 Δ0 at21
+          d22 = Typed.g-pre 𝓤 H A W 𝓣 E (on T0 l3) G5 b20 Δ0 (λ Ψ. Ψ) at21 (Lifetime.g-begin 𝓤 H A W E (on T0 l3) 6
+              (tt, (tt, (tt, (tt, (tt, (tt, (tt, (tt, (tt, (tt, (tt, (tt, (tt, (tt, tt))))))))))))))) d21
 
-          d23 : Typed.Typed 𝓤 H A 𝓣 E G3 b20 Δ0 at23
-          d23 = Typed.g-pre 𝓤 H A W 𝓣 E G3 G4 b20 Δ0 (Typed.give s2) at22 (Know.g-sl-known 𝓤 H A W (Referent.fInt Syntax.w16) E G3 3 2 (Syntax.tyRef (Syntax.named 2) Syntax.mut (Syntax.tyInt
-              Syntax.w16)) (Row.lease (κs .1 .1 .0) (qs .1 .1 .0)) 0 (λ x. x) record { fits = Dec'.lit< tt } (Reads.as-is 𝓤 H A (Mut.mslice (Referent.rtF (Referent.fInt Syntax.w16)) (Syntax.tyRef
-              (Syntax.named 2) Syntax.mut (Syntax.tyInt Syntax.w16)) 2)) Path'.refl tt) d22
+          d23 : Typed.Typed 𝓤 H A 𝓣 E (on T0 l3) b20 Δ0 at23
+          d23 = Typed.g-pre 𝓤 H A W 𝓣 E (on T0 l3) (on T0 l3) b20 Δ0 (Typed.give s2) at21 (Know.g-sl-known 𝓤 H A W (Referent.fInt Syntax.w16) E (on T0 l3) 3 2 y5 k2 0 (λ x. x) record
+              { fits = Dec'.lit< tt } (Reads.as-is 𝓤 H A (Mut.mslice n16 y5 2)) Path'.refl tt) d22
 
-          d24 : Typed.Typed 𝓤 H A 𝓣 E G2 b20 Δ0 at24
-          d24 = Typed.g-pre 𝓤 H A W 𝓣 E G2 G3 b20 Δ0 (Typed.give s1) at23 (Know.g-shs-known 𝓤 H A W (Referent.fInt Syntax.w16) E G2 2 1 (Syntax.tyRef (Syntax.named 1) Syntax.imm (Syntax.tyInt
-              Syntax.w16)) (Row.lease (κs .1 .0) (qs .1 .0)) 0 (λ x. x) record { fits = Dec'.lit< tt } (Reads.as-is 𝓤 H A (Rows'.sslice (Referent.rtF (Referent.fInt Syntax.w16)) (Syntax.tyRef
-              (Syntax.named 1) Syntax.imm (Syntax.tyInt Syntax.w16)) 1)) Path'.refl tt) d23
+          d24 : Typed.Typed 𝓤 H A 𝓣 E (on T0 l3) b20 Δ0 at24
+          d24 = Typed.g-pre 𝓤 H A W 𝓣 E (on T0 l3) (on T0 l3) b20 Δ0 (Typed.give s1) at23 (Know.g-shs-known 𝓤 H A W (Referent.fInt Syntax.w16) E (on T0 l3) 2 1 y4 k1 0 (λ x. x) record
+              { fits = Dec'.lit< tt } (Reads.as-is 𝓤 H A (Rows'.sslice n16 y4 1)) Path'.refl tt) d23
 
-          d25 : Typed.Typed 𝓤 H A 𝓣 E G0 b20 Δ0 at25
-          d25 = Typed.g-pre 𝓤 H A W 𝓣 E G0 G2 b20 Δ0 (Typed.give s0) at24 (Know.g-shs-known 𝓤 H A W (Referent.fInt Syntax.w8) E G0 1 0 (Syntax.tyRef (Syntax.named 0) Syntax.imm (Syntax.tyInt
-              Syntax.w8)) (Row.lease (κs .0) (qs .0)) 0 (λ x. x) record { fits = Dec'.lit< tt } (Reads.as-is 𝓤 H A (Rows'.sslice (Referent.rtF (Referent.fInt Syntax.w8)) (Syntax.tyRef (Syntax.named 0)
-              Syntax.imm (Syntax.tyInt Syntax.w8)) 0)) Path'.refl tt) d24
+          d25 : Typed.Typed 𝓤 H A 𝓣 E (on T0 l3) b20 Δ0 at25
+          d25 = Typed.g-pre 𝓤 H A W 𝓣 E (on T0 l3) (on T0 l3) b20 Δ0 (Typed.give s0) at24 (Know.g-shs-known 𝓤 H A W (Referent.fInt Syntax.w8) E (on T0 l3) 1 0 y3 k0 0 (λ x. x) record
+              { fits = Dec'.lit< tt } (Reads.as-is 𝓤 H A (Rows'.sslice n8 y3 0)) Path'.refl tt) d24
 
           pub typed : Typed.Typed 𝓤 H A 𝓣 E (Function.Γin 6 ps r xs m κs qs) b20 (Function.Δret 6 ps r xs m κs qs) Φ
           typed = d25
 
       module _ (κs : Lifetimes.Lfts 6) where
         pub record Args : Type 0 where
-          pub header : Kinds.Den {n = 6} κs (ShrSlice.pShrS (Referent.rtF (Referent.fInt Syntax.w8)) 0 tt)
-          pub samples : Kinds.Den {n = 6} κs (ShrSlice.pShrS (Referent.rtF (Referent.fInt Syntax.w16)) 1 tt)
-          pub lines : Kinds.Den {n = 6} κs (MutSlice.pMutS (Referent.rtF (Referent.fInt Syntax.w16)) 2 tt)
+          pub header : Kinds.Den {n = 6} κs (ShrSlice.pShrS n8 0 tt)
+          pub samples : Kinds.Den {n = 6} κs (ShrSlice.pShrS n16 1 tt)
+          pub lines : Kinds.Den {n = 6} κs (MutSlice.pMutS n16 2 tt)
           pub rs : Kinds.Den {n = 6} κs (MutSlice.pMutS (Element.type) 3 tt)
-          pub size : Kinds.Den {n = 6} κs (Kinds.pMut (Array'.Array (Referent.rtF (Referent.fInt Syntax.w64)) 1) 4 tt)
-          pub refusal : Kinds.Den {n = 6} κs (Kinds.pMut (Array'.Array (Referent.rtF (Referent.fInt Syntax.w64)) 4) 5 tt)
+          pub size : Kinds.Den {n = 6} κs (Kinds.pMut (Array'.Array n64 1) 4 tt)
+          pub refusal : Kinds.Den {n = 6} κs (Kinds.pMut (Array'.Array n64 4) 5 tt)
 
         abbrev pub dens : (a : Args) → Kinds.Dens κs ps
         dens = λ a. (a .header, (a .samples, (a .lines, (a .rs, (a .size, (a .refusal, tt))))))
@@ -1101,7 +720,7 @@ module _ (claims· : Claims) where
         pub good : Kinds.GoodsP κs ps (dens κs args)
         pub pre : Pre· κs (dens κs args)
 
-      abbrev pub m1 : (before : Start) → (given : s0 .gives (m0 (before .κs) (before .args))) → Typed.Mo T2
+      abbrev pub m1 : (before : Start) → (given : s0 .gives (m0 (before .κs) (before .args))) → Typed.Mo T0
       m1 = λ before given. s0 .next (m0 (before .κs) (before .args)) given
 
       module _ (before· : Start) where
@@ -1112,7 +731,7 @@ module _ (claims· : Claims) where
         pub before : Start
         pub shared-slice-known : After-shared-slice-known·own before
 
-      abbrev pub m2 : (before : After-shared-slice-known) → (given : s1 .gives (m1 (before .before) (before .shared-slice-known .given))) → Typed.Mo T3
+      abbrev pub m2 : (before : After-shared-slice-known) → (given : s1 .gives (m1 (before .before) (before .shared-slice-known .given))) → Typed.Mo T0
       m2 = λ before given. s1 .next (m1 (before .before) (before .shared-slice-known .given)) given
 
       module _ (before· : After-shared-slice-known) where
@@ -1123,7 +742,7 @@ module _ (claims· : Claims) where
         pub before : After-shared-slice-known
         pub shared-slice-known2 : After-shared-slice-known2·own before
 
-      abbrev pub m3 : (before : After-shared-slice-known2) → (given : s2 .gives (m2 (before .before) (before .shared-slice-known2 .given))) → Typed.Mo T4
+      abbrev pub m3 : (before : After-shared-slice-known2) → (given : s2 .gives (m2 (before .before) (before .shared-slice-known2 .given))) → Typed.Mo T0
       m3 = λ before given. s2 .next (m2 (before .before) (before .shared-slice-known2 .given)) given
 
       module _ (before· : After-shared-slice-known2) where
@@ -1134,11 +753,8 @@ module _ (claims· : Claims) where
         pub before : After-shared-slice-known2
         pub slice-known : After-slice-known·own before
 
-      abbrev pub m4 : (before : After-slice-known) → (given : s4 .gives (m3 (before .before) (before .slice-known .given))) → Typed.Mo T6
-      m4 = λ before given. s4 .next (m3 (before .before) (before .slice-known .given)) given
-
       abbrev pub m5 : (before : After-slice-known) → (given : s4 .gives (m3 (before .before) (before .slice-known .given))) → Typed.Mo T7
-      m5 = λ before given. s5 .next (m4 before given)
+      m5 = λ before given. s5 .next (s4 .next (m3 (before .before) (before .slice-known .given)) given)
 
       module _ (before· : After-slice-known) where
         pub record After-measure-block-arg·own : Type 0 where
@@ -1148,11 +764,8 @@ module _ (claims· : Claims) where
         pub before : After-slice-known
         pub measure-block-arg : After-measure-block-arg·own before
 
-      abbrev pub m6 : (before : After-measure-block-arg) → (given : s7 .gives (m5 (before .before) (before .measure-block-arg .given))) → Typed.Mo T9
-      m6 = λ before given. s7 .next (m5 (before .before) (before .measure-block-arg .given)) given
-
       abbrev pub m7 : (before : After-measure-block-arg) → (given : s7 .gives (m5 (before .before) (before .measure-block-arg .given))) → Typed.Mo T10
-      m7 = λ before given. s8 .next (m6 before given)
+      m7 = λ before given. s8 .next (s7 .next (m5 (before .before) (before .measure-block-arg .given)) given)
 
       module _ (before· : After-measure-block-arg) where
         pub record After-measure-block-arg2·own : Type 0 where
@@ -1170,32 +783,17 @@ module _ (claims· : Claims) where
 
       module _ (before· : After-measure-block-arg2) where
         abbrev pub After-measure-block·own : Type 0
-        After-measure-block·own = Called.Called ps·0 r·0 (claims· .1) T10 (
-          record { pos = 1; ty = Syntax.tyRef (Syntax.named 0) Syntax.imm (Syntax.tyInt Syntax.w8); ref = λ x. x },
-          (
-            record { pos = 2; ty = Syntax.tyRef (Syntax.named 1) Syntax.imm (Syntax.tyInt Syntax.w16); ref = λ x. x },
-            (
-              record { pos = 11; ty = Syntax.tyRef Syntax.erased Syntax.mut (Syntax.tyInt Syntax.w16); ref = λ x. x },
-              (record { pos = 13; ty = Syntax.tyRef Syntax.erased Syntax.mut Element.behind; ref = λ x. x }, tt),
-            ),
-          ),
-        ) (m7 (before· .before) (before· .measure-block-arg2 .given))
+        After-measure-block·own = Called.Called ps·0 r·0 (claims· .1) T10 a0 (m7 (before· .before) (before· .measure-block-arg2 .given))
 
       pub record After-measure-block : Type 0 where
         pub before : After-measure-block-arg2
         pub measure-block : After-measure-block·own before
 
+      abbrev pub After-measure-block·start : After-measure-block → Start
+      After-measure-block·start = λ c. c .before .before .before .before .before .before
+
       abbrev pub After-measure-block·gave : (c : After-measure-block) → s9 .gives (m7 (c .before .before) (c .before .measure-block-arg2 .given))
-      After-measure-block·gave = λ c. Called.given ps·0 r·0 (claims· .1) T10 (
-        record { pos = 1; ty = Syntax.tyRef (Syntax.named 0) Syntax.imm (Syntax.tyInt Syntax.w8); ref = λ x. x },
-        (
-          record { pos = 2; ty = Syntax.tyRef (Syntax.named 1) Syntax.imm (Syntax.tyInt Syntax.w16); ref = λ x. x },
-          (
-            record { pos = 11; ty = Syntax.tyRef Syntax.erased Syntax.mut (Syntax.tyInt Syntax.w16); ref = λ x. x },
-            (record { pos = 13; ty = Syntax.tyRef Syntax.erased Syntax.mut Element.behind; ref = λ x. x }, tt),
-          ),
-        ),
-      ) (m7 (c .before .before) (c .before .measure-block-arg2 .given)) (c .measure-block)
+      After-measure-block·gave = λ c. Called.given ps·0 r·0 (claims· .1) T10 a0 (m7 (c .before .before) (c .before .measure-block-arg2 .given)) (c .measure-block)
 
       abbrev pub m9 : (before : After-measure-block) → (given : s11 .gives (m8 (before .before) (After-measure-block·gave before))) → Typed.Mo T13
       m9 = λ before given. s11 .next (m8 (before .before) (After-measure-block·gave before)) given
@@ -1208,7 +806,7 @@ module _ (claims· : Claims) where
         pub before : After-measure-block
         pub lines : After-lines·own before
 
-      abbrev pub m10 : (before : After-lines) → (given : s12 .gives (m9 (before .before) (before .lines .given))) → Typed.Mo T14
+      abbrev pub m10 : (before : After-lines) → (given : s12 .gives (m9 (before .before) (before .lines .given))) → Typed.Mo T13
       m10 = λ before given. s12 .next (m9 (before .before) (before .lines .given)) given
 
       module _ (before· : After-lines) where
@@ -1238,14 +836,17 @@ module _ (claims· : Claims) where
 
       module _ (before· : After-rs) where
         abbrev pub After-length-word·own : Type 0
-        After-length-word·own = Called.Called ps·1 r·1 (claims· .3) T17 (record { pos = 7; st = List.[]; d = 0; at = λ x. x }, tt) (m11 (before· .before) (before· .rs .given))
+        After-length-word·own = Called.Called ps·1 r·1 (claims· .3) T17 (record { pos = 7; st = []; d = 0; at = λ x. x }, tt) (m11 (before· .before) (before· .rs .given))
 
       pub record After-length-word : Type 0 where
         pub before : After-rs
         pub length-word : After-length-word·own before
 
+      abbrev pub After-length-word·start : After-length-word → Start
+      After-length-word·start = λ c. c .before .before .before .before .before .before .before .before .before .before
+
       abbrev pub After-length-word·gave : (c : After-length-word) → s17 .gives (m11 (c .before .before) (c .before .rs .given))
-      After-length-word·gave = λ c. Called.given ps·1 r·1 (claims· .3) T17 (record { pos = 7; st = List.[]; d = 0; at = λ x. x }, tt) (m11 (c .before .before) (c .before .rs .given)) (c .length-word)
+      After-length-word·gave = λ c. Called.given ps·1 r·1 (claims· .3) T17 (record { pos = 7; st = []; d = 0; at = λ x. x }, tt) (m11 (c .before .before) (c .before .rs .given)) (c .length-word)
 
       abbrev pub Need-length-refusal-requires : Type 0
       Need-length-refusal-requires = (c : After-length-word) → s18 .asks (m12 (c .before) (After-length-word·gave c))
@@ -1255,40 +856,28 @@ module _ (claims· : Claims) where
 
       module _ (before· : After-length-word) where
         abbrev pub After-length-refusal·own : Type 0
-        After-length-refusal·own = Called.Called ps·2 r·2 (claims· .5) T19 (record { pos = 7; st = List.[]; d = 0; at = λ x. x }, tt) (m12 (before· .before) (After-length-word·gave before·))
+        After-length-refusal·own = Called.Called ps·2 r·2 (claims· .5) T19 (record { pos = 7; st = []; d = 0; at = λ x. x }, tt) (m12 (before· .before) (After-length-word·gave before·))
 
       pub record After-length-refusal : Type 0 where
         pub before : After-length-word
         pub length-refusal : After-length-refusal·own before
 
+      abbrev pub After-length-refusal·start : After-length-refusal → Start
+      After-length-refusal·start = λ c. c .before .before .before .before .before .before .before .before .before .before .before
+
       abbrev pub After-length-refusal·gave : (c : After-length-refusal) → s18 .gives (m12 (c .before .before) (After-length-word·gave (c .before)))
-      After-length-refusal·gave = λ c. Called.given ps·2 r·2 (claims· .5) T19 (record { pos = 7; st = List.[]; d = 0; at = λ x. x }, tt) (m12 (c .before .before) (After-length-word·gave (c .before)))
-          (c .length-refusal)
+      After-length-refusal·gave = λ c. Called.given ps·2 r·2 (claims· .5) T19 (record { pos = 7; st = []; d = 0; at = λ x. x }, tt) (m12 (c .before .before) (After-length-word·gave (c .before))) (c
+          .length-refusal)
 
-      abbrev pub m14 : (before : After-length-word) → (given : s18 .gives (m12 (before .before) (After-length-word·gave before))) → Typed.Mo T21
-      m14 = λ before given. s19 (m13 before given)
-
-      abbrev pub m15 : (before : After-length-word) → (given : s18 .gives (m12 (before .before) (After-length-word·gave before))) → Typed.Mo T22
-      m15 = λ before given. s20 (m14 before given)
-
-      abbrev pub m16 : (before : After-length-word) → (given : s18 .gives (m12 (before .before) (After-length-word·gave before))) → Typed.Mo T23
-      m16 = λ before given. s21 (m15 before given)
-
-      abbrev pub m17 : (before : After-length-word) → (given : s18 .gives (m12 (before .before) (After-length-word·gave before))) → Typed.Mo T24
-      m17 = λ before given. s22 (m16 before given)
-
-      abbrev pub m18 : (before : After-length-word) → (given : s18 .gives (m12 (before .before) (After-length-word·gave before))) → Typed.Mo T25
-      m18 = λ before given. s23 (m17 before given)
-
-      abbrev pub m19 : (before : After-length-word) → (given : s18 .gives (m12 (before .before) (After-length-word·gave before))) → Typed.Mo T26
-      m19 = λ before given. s24 (m18 before given)
+      abbrev pub m19 : (before : After-length-word) → (given : s18 .gives (m12 (before .before) (After-length-word·gave before))) → Typed.Mo T1
+      m19 = λ before given. s24 (s23 (s22 (s21 (s20 (s19 (m13 before given))))))
 
       abbrev pub Need-same-length : Type 0
-      Need-same-length = (c : After-length-refusal) → MutSlice.SameLen (Row.get 3 (T26 .locals) (m19 (c .before) (After-length-refusal·gave c))) (dens (c .before .before .before .before .before
-          .before .before .before .before .before .before .κs) (c .before .before .before .before .before .before .before .before .before .before .before .args) .1 .1 .0)
+      Need-same-length = (c : After-length-refusal) → MutSlice.SameLen (Row.get 3 (T1 .locals) (m19 (c .before) (After-length-refusal·gave c))) (dens (c .before .before .before .before .before .before
+          .before .before .before .before .before .κs) (c .before .before .before .before .before .before .before .before .before .before .before .args) .1 .1 .0)
 
       abbrev pub Need-same-length-2 : Type 0
-      Need-same-length-2 = (c : After-length-refusal) → MutSlice.SameLen (Row.get 4 (T26 .locals) (m19 (c .before) (After-length-refusal·gave c))) (dens (c .before .before .before .before .before
+      Need-same-length-2 = (c : After-length-refusal) → MutSlice.SameLen (Row.get 4 (T1 .locals) (m19 (c .before) (After-length-refusal·gave c))) (dens (c .before .before .before .before .before
           .before .before .before .before .before .before .κs) (c .before .before .before .before .before .before .before .before .before .before .before .args) .1 .1 .1 .0)
 
       abbrev pub Need-returns : Type 0
@@ -1302,106 +891,67 @@ module _ (claims· : Claims) where
 
       module _ (measure-block-requires : Need-measure-block-requires) (length-word-requires : Need-length-word-requires) (length-refusal-requires : Need-length-refusal-requires) (same-length :
           Need-same-length) (same-length-2 : Need-same-length-2) (returns : Need-returns) where
-        lay3 : (c : After-length-refusal) → at6 (W0 (c .before .before .before .before .before .before .before .before .before .before .before .κs) (c .before .before .before .before .before .before
-            .before .before .before .before .before .args)) (m13 (c .before) (After-length-refusal·gave c))
+        lay3 : (c : After-length-refusal) → at6 (W0 (After-length-refusal·start c .κs) (After-length-refusal·start c .args)) (m13 (c .before) (After-length-refusal·gave c))
         lay3 = λ c. (
           (
             Path'.refl,
             (
               Path'.refl,
               (
-                MutSlice.fix-len (Row.get 3 (T26 .locals) (m19 (c .before) (After-length-refusal·gave c)) .ptr) (Row.get 3 (T26 .locals) (m19 (c .before) (After-length-refusal·gave c)) .name) (Row.get 3 (T26
-                    .locals) (m19 (c .before) (After-length-refusal·gave c)) .now) (dens (c .before .before .before .before .before .before .before .before .before .before .before .κs) (c .before .before .before
-                    .before .before .before .before .before .before .before .before .args) .1 .1 .0 .now) (same-length record { before = c .before; length-refusal = c .length-refusal }),
+                MutSlice.fix-len (Row.get 3 (T1 .locals) (m19 (c .before) (After-length-refusal·gave c)) .ptr) (Row.get 3 (T1 .locals) (m19 (c .before) (After-length-refusal·gave c)) .name) (Row.get 3 (T1
+                    .locals) (m19 (c .before) (After-length-refusal·gave c)) .now) (dens (After-length-refusal·start c .κs) (After-length-refusal·start c .args) .1 .1 .0 .now) (same-length c),
                 (
-                  MutSlice.fix-len (Row.get 4 (T26 .locals) (m19 (c .before) (After-length-refusal·gave c)) .ptr) (Row.get 4 (T26 .locals) (m19 (c .before) (After-length-refusal·gave c)) .name) (Row.get 4 (T26
-                      .locals) (m19 (c .before) (After-length-refusal·gave c)) .now) (dens (c .before .before .before .before .before .before .before .before .before .before .before .κs) (c .before .before .before
-                      .before .before .before .before .before .before .before .before .args) .1 .1 .1 .0 .now) (same-length-2 record { before = c .before; length-refusal = c .length-refusal }),
+                  MutSlice.fix-len (Row.get 4 (T1 .locals) (m19 (c .before) (After-length-refusal·gave c)) .ptr) (Row.get 4 (T1 .locals) (m19 (c .before) (After-length-refusal·gave c)) .name) (Row.get 4 (T1
+                      .locals) (m19 (c .before) (After-length-refusal·gave c)) .now) (dens (After-length-refusal·start c .κs) (After-length-refusal·start c .args) .1 .1 .1 .0 .now) (same-length-2 c),
                   (Path'.refl, (Path'.refl, tt)),
                 ),
               ),
             ),
           ),
-          returns record { before = c .before; length-refusal = c .length-refusal },
+          returns c,
         )
 
-        lay2 : (c : After-length-word) → at7 (W0 (c .before .before .before .before .before .before .before .before .before .before .κs) (c .before .before .before .before .before .before .before
-            .before .before .before .args)) (m12 (c .before) (After-length-word·gave c))
+        lay2 : (c : After-length-word) → at7 (W0 (After-length-word·start c .κs) (After-length-word·start c .args)) (m12 (c .before) (After-length-word·gave c))
         lay2 = λ c. (
-          length-refusal-requires record { before = c .before; length-word = c .length-word },
-          λ g. lay3 record {
-            before = record { before = c .before; length-word = c .length-word };
-            length-refusal = Called.called ps·2 r·2 (claims· .5) T19 (record { pos = 7; st = List.[]; d = 0; at = λ x. x }, tt) (m12
-                (c .before) (After-length-word·gave c)) g;
-          },
+          length-refusal-requires c,
+          λ g. lay3 record
+              { before = c; length-refusal = Called.called ps·2 r·2 (claims· .5) T19 (record { pos = 7; st = []; d = 0; at = λ x. x }, tt) (m12 (c .before) (After-length-word·gave c)) g },
         )
 
-        lay1 : (c : After-measure-block) → at15 (W0 (c .before .before .before .before .before .before .κs) (c .before .before .before .before .before .before .args)) (m8 (c .before)
-            (After-measure-block·gave c))
+        lay1 : (c : After-measure-block) → at14 (W0 (After-measure-block·start c .κs) (After-measure-block·start c .args)) (m8 (c .before) (After-measure-block·gave c))
         lay1 = λ c. (
           Path'.refl,
-          λ g. λ g'. (
-            Path'.refl,
-            λ g''. (
-              length-word-requires record {
-                before = record { before = record { before = record { before = c .before; measure-block = c .measure-block }; lines = record { given = g } }; slice-known2 = record { given = g' } };
-                rs =
-                    record { given = g'' };
-              },
-              λ g'3. lay2 record {
-                before = record {
-                  before = record { before = record { before = record { before = c .before; measure-block = c .measure-block }; lines = record { given = g } }; slice-known2 = record { given = g' } };
-                  rs =
-                      record { given = g'' };
-                };
-                length-word = Called.called ps·1 r·1 (claims· .3) T17 (record { pos = 7; st = List.[]; d = 0; at = λ x. x }, tt) (m11 record
-                    { before = record { before = record { before = c .before; measure-block = c .measure-block }; lines = record { given = g } }; slice-known2 = record { given = g' } } g'') g'3;
-              },
-            ),
-          ),
+          λ g. let c1 : After-lines = record { before = c; lines = record { given = g } } in λ g'. let c2 : After-slice-known2 = record
+              { before = c1; slice-known2 = record { given = g' } } in (
+                Path'.refl,
+                λ g''. let c3 : After-rs = record { before = c2; rs = record { given = g'' } } in
+                    (length-word-requires c3, λ g'3. lay2 record { before = c3; length-word = Called.called ps·1 r·1 (claims· .3) T17 (record { pos = 7; st = []; d = 0; at = λ x. x }, tt) (m11 c2 g'') g'3 }),
+              ),
         )
 
         pub laid : (c : Start) → at25 (W0 (c .κs) (c .args)) (m0 (c .κs) (c .args))
-        laid = λ c. λ g. λ g'. λ g''. λ g'3. (
-          Path'.refl,
-          λ g'4. (
-            Path'.refl,
-            (
-              measure-block-requires record {
-                before = record {
-                  before = record
-                      { before = record { before = record { before = c; shared-slice-known = record { given = g } }; shared-slice-known2 = record { given = g' } }; slice-known = record { given = g'' } };
-                  measure-block-arg = record { given = g'3 };
-                };
-                measure-block-arg2 = record { given = g'4 };
-              },
-              λ g'5. lay1 record {
-                before = record {
-                  before = record {
-                    before = record
-                        { before = record { before = record { before = c; shared-slice-known = record { given = g } }; shared-slice-known2 = record { given = g' } }; slice-known = record { given = g'' } };
-                    measure-block-arg = record { given = g'3 };
-                  };
-                  measure-block-arg2 = record { given = g'4 };
-                };
-                measure-block = Called.called ps·0 r·0 (claims· .1) T10 (
-                  record { pos = 1; ty = Syntax.tyRef (Syntax.named 0) Syntax.imm (Syntax.tyInt Syntax.w8); ref = λ x. x },
-                  (
-                    record { pos = 2; ty = Syntax.tyRef (Syntax.named 1) Syntax.imm (Syntax.tyInt Syntax.w16); ref = λ x. x },
-                    (
-                      record { pos = 11; ty = Syntax.tyRef Syntax.erased Syntax.mut (Syntax.tyInt Syntax.w16); ref = λ x. x },
-                      (record { pos = 13; ty = Syntax.tyRef Syntax.erased Syntax.mut Element.behind; ref = λ x. x }, tt),
-                    ),
-                  ),
-                ) (m7 record {
-                  before = record
-                      { before = record { before = record { before = c; shared-slice-known = record { given = g } }; shared-slice-known2 = record { given = g' } }; slice-known = record { given = g'' } };
-                  measure-block-arg = record { given = g'3 };
-                } g'4) g'5;
-              },
-            ),
-          ),
-        )
+        laid = λ c. λ g. let c1 : After-shared-slice-known = record { before = c; shared-slice-known = record { given = g } } in λ g'. let c2 : After-shared-slice-known2 = record
+            { before = c1; shared-slice-known2 = record { given = g' } } in λ g''. let c3 : After-slice-known = record { before = c2; slice-known = record { given = g'' } } in λ g'3. let c4 :
+            After-measure-block-arg = record { before = c3; measure-block-arg = record { given = g'3 } } in (
+              Path'.refl,
+              λ g'4. (
+                Path'.refl,
+                (
+                  measure-block-requires record { before = c4; measure-block-arg2 = record { given = g'4 } },
+                  λ g'5. lay1 record {
+                    before = record {
+                      before = record {
+                        before = record
+                            { before = record { before = record { before = c; shared-slice-known = record { given = g } }; shared-slice-known2 = record { given = g' } }; slice-known = record { given = g'' } };
+                        measure-block-arg = record { given = g'3 };
+                      };
+                      measure-block-arg2 = record { given = g'4 };
+                    };
+                    measure-block = Called.called ps·0 r·0 (claims· .1) T10 a0 (m7 c4 g'4) g'5;
+                  },
+                ),
+              ),
+            )
 
         module _ (κs : Lifetimes.Lfts 6) (qs : Lifetimes.Shares 6) where
           pub asked : (a : Kinds.Dens κs ps) → (good : Kinds.GoodsP κs ps a) → (pre : Pre· κs a) → (bs : List.List Nat.ℕ) → Φ (Any.wantQ 6 ps r xs m κs qs a (Post· κs a)) (Function.init 6 ps r xs m κs

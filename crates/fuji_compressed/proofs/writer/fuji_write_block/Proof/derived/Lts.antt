@@ -1,4 +1,9 @@
 -- Written by tools/lend.py from Rattle's derivation of the twin of `fuji_compressed`; not edited by hand. Assumes nothing.
+use borrow.Fn.Args.{ArgsT}
+use Rattle.bits.proofs.Values
+use Rattle.bits.proofs.Values.{on}
+use Rattle.bits.proofs.Values.{n16, n64, n8, u16, u64, u8}
+use mathlib.Core.List.{_∷_, []}
 use Rattle.block.proofs.Element
 use Prim.Native.Nat
 use Rattle.stream.proofs.BlockLength
@@ -15,7 +20,6 @@ use borrow.Kind.Array
 use borrow.Kind.MutSlice
 use borrow.Kind.ShrSlice
 use borrow.Kind.Unit as Unit'
-use borrow.Kind.Value
 use borrow.Rule.Array.Init
 use borrow.Rule.Array.Rows
 use borrow.Rule.Array.Whole
@@ -38,8 +42,6 @@ use borrow.Table.Typed
 use contract.Lifetimes
 use denote.Array as Array'
 use denote.Enum.Declared
-use denote.Enum.Laws as Laws'
-use denote.Exit
 use denote.Triple.Clauses
 use denote.Triple.Statement
 use ghost.Atoms
@@ -53,185 +55,142 @@ use prog.Wp
 use types.Kit
 
 abbrev pub y0 : Syntax.Ty
-y0 = Syntax.tyStruct (List._∷_ 38 (List._∷_ 91 (List._∷_ 93 List.[]))) (Syntax.tcons (Syntax.tyRef Syntax.erased Syntax.mut (Syntax.tyInt Syntax.w16)) (Syntax.tcons (Syntax.tyInt Syntax.w64)
-    Syntax.tnil))
+y0 = Syntax.tyArray u64 1
 
 abbrev pub y1 : Syntax.Ty
-y1 = Syntax.tyStruct (List._∷_ 38 (List._∷_ 91 (List._∷_ 93 List.[]))) (Syntax.tcons (Syntax.tyRef Syntax.erased Syntax.mut (Syntax.tyInt Syntax.w8)) (Syntax.tcons (Syntax.tyInt Syntax.w64)
-    Syntax.tnil))
+y1 = Syntax.tyArray u64 4
 
 abbrev pub y2 : Syntax.Ty
-y2 = Syntax.tyStruct (List._∷_ 38 (List._∷_ 91 (List._∷_ 93 List.[]))) (Syntax.tcons (Syntax.tyRef Syntax.erased Syntax.mut Element.behind) (Syntax.tcons (Syntax.tyInt Syntax.w64) Syntax.tnil))
+y2 = Syntax.tyEnum (115 ∷ 116 ∷ 114 ∷ 101 ∷ 97 ∷ 109 ∷ 58 ∷ 58 ∷ 82 ∷ 101 ∷ 102 ∷ 117 ∷ 115 ∷ 97 ∷ 108 ∷ []) (Syntax.ttcons Syntax.tnil (Syntax.ttcons Syntax.tnil (Syntax.ttcons Syntax.tnil
+    (Syntax.ttcons (Syntax.tcons u64 Syntax.tnil) (Syntax.ttcons Syntax.tnil (Syntax.ttcons Syntax.tnil (Syntax.ttcons Syntax.tnil (Syntax.ttcons Syntax.tnil (Syntax.ttcons Syntax.tnil (Syntax.ttcons
+    Syntax.tnil (Syntax.ttcons (Syntax.tcons u64 Syntax.tnil) (Syntax.ttcons (Syntax.tcons u64 Syntax.tnil) (Syntax.ttcons Syntax.tnil (Syntax.ttcons (Syntax.tcons u64 (Syntax.tcons u64 Syntax.tnil))
+    (Syntax.ttcons (Syntax.tcons u64 Syntax.tnil) (Syntax.ttcons Syntax.tnil (Syntax.ttcons Syntax.tnil (Syntax.ttcons (Syntax.tcons u64 Syntax.tnil) (Syntax.ttcons (Syntax.tcons u64 Syntax.tnil)
+    (Syntax.ttcons (Syntax.tcons u64 Syntax.tnil) (Syntax.ttcons Syntax.tnil (Syntax.ttcons Syntax.tnil (Syntax.ttcons (Syntax.tcons u64 (Syntax.tcons u64 Syntax.tnil)) (Syntax.ttcons Syntax.tnil
+    Syntax.ttnil))))))))))))))))))))))))
+
+abbrev pub y3 : Syntax.Ty
+y3 = Syntax.tyRef (Syntax.named 0) Syntax.imm u8
+
+abbrev pub y4 : Syntax.Ty
+y4 = Syntax.tyRef (Syntax.named 1) Syntax.imm u16
+
+abbrev pub y5 : Syntax.Ty
+y5 = Syntax.tyRef (Syntax.named 2) Syntax.mut u8
+
+abbrev pub y6 : Syntax.Ty
+y6 = Syntax.tyRef (Syntax.named 3) Syntax.mut u16
+
+abbrev pub y7 : Syntax.Ty
+y7 = Syntax.tyRef (Syntax.named 4) Syntax.mut Element.behind
+
+abbrev pub y8 : Syntax.Ty
+y8 = Syntax.tyRef Syntax.erased Syntax.mut Element.behind
+
+abbrev pub y9 : Syntax.Ty
+y9 = Syntax.tyRef Syntax.erased Syntax.mut u16
+
+abbrev pub y10 : Syntax.Ty
+y10 = Syntax.tyRef Syntax.erased Syntax.mut u8
+
+abbrev pub y11 : Syntax.Ty
+y11 = Syntax.tyEnum (115 ∷ 116 ∷ 114 ∷ 101 ∷ 97 ∷ 109 ∷ 58 ∷ 58 ∷ 66 ∷ 108 ∷ 111 ∷ 99 ∷ 107 ∷ 76 ∷ 101 ∷ 110 ∷ 103 ∷ 116 ∷ 104 ∷ []) (Syntax.ttcons (Syntax.tcons u64 Syntax.tnil) (Syntax.ttcons
+    (Syntax.tcons y2 Syntax.tnil) Syntax.ttnil))
+
+abbrev pub y12 : Syntax.Ty
+y12 = Syntax.tyRef (Syntax.named 5) Syntax.mut y0
+
+abbrev pub y13 : Syntax.Ty
+y13 = Syntax.tyRef (Syntax.named 6) Syntax.mut y1
+
+abbrev pub y14 : Syntax.Ty
+y14 = Syntax.tyStruct (38 ∷ 91 ∷ 93 ∷ []) (Syntax.tcons y10 (Syntax.tcons u64 Syntax.tnil))
+
+abbrev pub y15 : Syntax.Ty
+y15 = Syntax.tyStruct (38 ∷ 91 ∷ 93 ∷ []) (Syntax.tcons y9 (Syntax.tcons u64 Syntax.tnil))
 
 abbrev pub ps : List.List (Kinds.PK 7)
-ps = List._∷_ (ShrSlice.pShrS (Referent.rtF (Referent.fInt Syntax.w8)) 0 tt) (List._∷_ (ShrSlice.pShrS (Referent.rtF (Referent.fInt Syntax.w16)) 1 tt) (List._∷_ (MutSlice.pMutS (Referent.rtF
-    (Referent.fInt Syntax.w8)) 2 tt) (List._∷_ (MutSlice.pMutS (Referent.rtF (Referent.fInt Syntax.w16)) 3 tt) (List._∷_ (MutSlice.pMutS (Element.type) 4 tt) (List._∷_ (Kinds.pMut (Array'.Array
-    (Referent.rtF (Referent.fInt Syntax.w64)) 1) 5 tt) (List._∷_ (Kinds.pMut (Array'.Array (Referent.rtF (Referent.fInt Syntax.w64)) 4) 6 tt) List.[]))))))
+ps = (ShrSlice.pShrS n8 0 tt) ∷ (ShrSlice.pShrS n16 1 tt) ∷ (MutSlice.pMutS n8 2 tt) ∷ (MutSlice.pMutS n16 3 tt) ∷ (MutSlice.pMutS (Element.type) 4 tt) ∷ (Kinds.pMut (Array'.Array n64 1) 5 tt) ∷
+    (Kinds.pMut (Array'.Array n64 4) 6 tt) ∷ []
 
 abbrev pub r : Kinds.RK 7
 r = Unit'.rUnit
 
 abbrev pub xs : List.List Syntax.Ty
-xs = List._∷_ (Syntax.tyEnum (List._∷_ 115 (List._∷_ 116 (List._∷_ 114 (List._∷_ 101 (List._∷_ 97 (List._∷_ 109 (List._∷_ 58 (List._∷_ 58 (List._∷_ 66 (List._∷_ 108 (List._∷_ 111 (List._∷_ 99
-    (List._∷_ 107 (List._∷_ 76 (List._∷_ 101 (List._∷_ 110 (List._∷_ 103 (List._∷_ 116 (List._∷_ 104 List.[]))))))))))))))))))) (Syntax.ttcons (Syntax.tcons (Syntax.tyInt Syntax.w64) Syntax.tnil)
-    (Syntax.ttcons (Syntax.tcons (Syntax.tyEnum (List._∷_ 115 (List._∷_ 116 (List._∷_ 114 (List._∷_ 101 (List._∷_ 97 (List._∷_ 109 (List._∷_ 58 (List._∷_ 58 (List._∷_ 82 (List._∷_ 101 (List._∷_ 102
-    (List._∷_ 117 (List._∷_ 115 (List._∷_ 97 (List._∷_ 108 List.[]))))))))))))))) (Syntax.ttcons Syntax.tnil (Syntax.ttcons Syntax.tnil (Syntax.ttcons Syntax.tnil (Syntax.ttcons (Syntax.tcons
-    (Syntax.tyInt Syntax.w64) Syntax.tnil) (Syntax.ttcons Syntax.tnil (Syntax.ttcons Syntax.tnil (Syntax.ttcons Syntax.tnil (Syntax.ttcons Syntax.tnil (Syntax.ttcons Syntax.tnil (Syntax.ttcons Syntax.tnil
-    (Syntax.ttcons (Syntax.tcons (Syntax.tyInt Syntax.w64) Syntax.tnil) (Syntax.ttcons (Syntax.tcons (Syntax.tyInt Syntax.w64) Syntax.tnil) (Syntax.ttcons Syntax.tnil (Syntax.ttcons (Syntax.tcons
-    (Syntax.tyInt Syntax.w64) (Syntax.tcons (Syntax.tyInt Syntax.w64) Syntax.tnil)) (Syntax.ttcons (Syntax.tcons (Syntax.tyInt Syntax.w64) Syntax.tnil) (Syntax.ttcons Syntax.tnil (Syntax.ttcons
-    Syntax.tnil (Syntax.ttcons (Syntax.tcons (Syntax.tyInt Syntax.w64) Syntax.tnil) (Syntax.ttcons (Syntax.tcons (Syntax.tyInt Syntax.w64) Syntax.tnil) (Syntax.ttcons (Syntax.tcons (Syntax.tyInt
-    Syntax.w64) Syntax.tnil) (Syntax.ttcons Syntax.tnil (Syntax.ttcons Syntax.tnil (Syntax.ttcons (Syntax.tcons (Syntax.tyInt Syntax.w64) (Syntax.tcons (Syntax.tyInt Syntax.w64) Syntax.tnil))
-    (Syntax.ttcons Syntax.tnil Syntax.ttnil))))))))))))))))))))))))) Syntax.tnil) Syntax.ttnil))) (List._∷_ (Syntax.tyArray (Syntax.tyInt Syntax.w64) 1) (List._∷_ (Syntax.tyArray (Syntax.tyInt Syntax.w64)
-    4) (List._∷_ (Syntax.tyRef Syntax.erased Syntax.mut (Syntax.tyInt Syntax.w8)) (List._∷_ y1 (List._∷_ (Syntax.tyRef Syntax.erased Syntax.mut (Syntax.tyInt Syntax.w16)) (List._∷_ y0 (List._∷_
-    (Syntax.tyRef Syntax.erased Syntax.mut Element.behind) (List._∷_ y2 List.[]))))))))
+xs = y11 ∷ y0 ∷ y1 ∷ y10 ∷ y14 ∷ y9 ∷ y15 ∷ y8 ∷ (Syntax.tyStruct (38 ∷ 91 ∷ 93 ∷ []) (Syntax.tcons y8 (Syntax.tcons u64 Syntax.tnil))) ∷ []
 
 abbrev pub m : Nat.ℕ
 m = 3
 
 abbrev pub ps·0 : List.List (Kinds.PK 5)
-ps·0 = List._∷_ (ShrSlice.pShrS (Referent.rtF (Referent.fInt Syntax.w8)) 0 tt) (List._∷_ (ShrSlice.pShrS (Referent.rtF (Referent.fInt Syntax.w16)) 1 tt) (List._∷_ (MutSlice.pMutS (Referent.rtF
-    (Referent.fInt Syntax.w8)) 2 tt) (List._∷_ (MutSlice.pMutS (Referent.rtF (Referent.fInt Syntax.w16)) 3 tt) (List._∷_ (MutSlice.pMutS (Element.type) 4 tt) List.[]))))
+ps·0 = (ShrSlice.pShrS n8 0 tt) ∷ (ShrSlice.pShrS n16 1 tt) ∷ (MutSlice.pMutS n8 2 tt) ∷ (MutSlice.pMutS n16 3 tt) ∷ (MutSlice.pMutS (Element.type) 4 tt) ∷ []
 
 abbrev pub r·0 : Kinds.RK 5
-r·0 = Value.rVal record {
-  ty = Declared.row BlockLength.the-type;
-  one = Path'.refl;
-  val = Laws'.val BlockLength.the-type Laws.the-laws;
-  tells = Laws'.tells BlockLength.the-type Laws.the-laws;
-  still = Laws'.still
-      BlockLength.the-type Laws.the-copy Exit.yes;
-  row = Rows'.whole (Declared.row BlockLength.the-type);
-  rd = λ x. x;
-  mk = λ x. x;
-} λ M 𝓤 H A W. record {
-  copies = Laws'.copy BlockLength.the-type Laws.the-copy 𝓤 H A W;
-  lawful = Laws'.lawful BlockLength.the-type Laws.the-laws 𝓤 H A W tt;
-  makes = Laws'.makes BlockLength.the-type Laws.the-plain 𝓤 H A;
-  in-mem = Local.mem-whole 𝓤 H A W (Declared.row BlockLength.the-type);
-  of-mem = Local.whole-mem 𝓤 H A W (Declared.row BlockLength.the-type);
-}
+r·0 = Values.enum-result BlockLength.the-type Laws.the-laws Laws.the-copy Laws.the-plain tt
 
 abbrev pub ps·1 : List.List (Kinds.PK 0)
-ps·1 = List._∷_ (Value.pVal record {
-  ty = Declared.row BlockLength.the-type;
-  one = Path'.refl;
-  val = Laws'.val BlockLength.the-type Laws.the-laws;
-  tells = Laws'.tells BlockLength.the-type Laws.the-laws;
-  still = Laws'.still
-      BlockLength.the-type Laws.the-copy Exit.yes;
-  row = Rows'.whole (Declared.row BlockLength.the-type);
-  rd = λ x. x;
-  mk = λ x. x;
-} λ M 𝓤 H A W. record {
-  copies = Laws'.copy BlockLength.the-type Laws.the-copy 𝓤 H A W;
-  lawful = Laws'.lawful BlockLength.the-type Laws.the-laws 𝓤 H A W tt;
-  makes = Laws'.makes BlockLength.the-type Laws.the-plain 𝓤 H A;
-  in-mem = Local.mem-whole 𝓤 H A W (Declared.row BlockLength.the-type);
-  of-mem = Local.whole-mem 𝓤 H A W (Declared.row BlockLength.the-type);
-}) List.[]
+ps·1 = (Values.enum BlockLength.the-type Laws.the-laws Laws.the-copy Laws.the-plain tt) ∷ []
 
 abbrev pub r·1 : Kinds.RK 0
 r·1 = Array.rArr (Array.eInt Syntax.w64) (Array.eInt-laws Syntax.w64) 1
 
 abbrev pub ps·2 : List.List (Kinds.PK 0)
-ps·2 = List._∷_ (Value.pVal record {
-  ty = Declared.row BlockLength.the-type;
-  one = Path'.refl;
-  val = Laws'.val BlockLength.the-type Laws.the-laws;
-  tells = Laws'.tells BlockLength.the-type Laws.the-laws;
-  still = Laws'.still
-      BlockLength.the-type Laws.the-copy Exit.yes;
-  row = Rows'.whole (Declared.row BlockLength.the-type);
-  rd = λ x. x;
-  mk = λ x. x;
-} λ M 𝓤 H A W. record {
-  copies = Laws'.copy BlockLength.the-type Laws.the-copy 𝓤 H A W;
-  lawful = Laws'.lawful BlockLength.the-type Laws.the-laws 𝓤 H A W tt;
-  makes = Laws'.makes BlockLength.the-type Laws.the-plain 𝓤 H A;
-  in-mem = Local.mem-whole 𝓤 H A W (Declared.row BlockLength.the-type);
-  of-mem = Local.whole-mem 𝓤 H A W (Declared.row BlockLength.the-type);
-}) List.[]
+ps·2 = (Values.enum BlockLength.the-type Laws.the-laws Laws.the-copy Laws.the-plain tt) ∷ []
 
 abbrev pub r·2 : Kinds.RK 0
 r·2 = Array.rArr (Array.eInt Syntax.w64) (Array.eInt-laws Syntax.w64) 4
 
 abbrev pub hs : List.List Syntax.Home
-hs = List._∷_ Syntax.valueLocal (List._∷_ Syntax.valueLocal (List._∷_ Syntax.valueLocal (List._∷_ Syntax.valueLocal (List._∷_ Syntax.valueLocal (List._∷_ Syntax.valueLocal (List._∷_ Syntax.valueLocal
-    (List._∷_ Syntax.valueLocal (List._∷_ Syntax.valueLocal (List._∷_ Syntax.valueLocal (List._∷_ Syntax.valueLocal (List._∷_ Syntax.valueLocal (List._∷_ Syntax.valueLocal (List._∷_ Syntax.valueLocal
-    (List._∷_ Syntax.valueLocal (List._∷_ Syntax.valueLocal (List._∷_ Syntax.valueLocal List.[]))))))))))))))))
+hs = Syntax.valueLocal ∷ Syntax.valueLocal ∷ Syntax.valueLocal ∷ Syntax.valueLocal ∷ Syntax.valueLocal ∷ Syntax.valueLocal ∷ Syntax.valueLocal ∷ Syntax.valueLocal ∷ Syntax.valueLocal ∷
+    Syntax.valueLocal ∷ Syntax.valueLocal ∷ Syntax.valueLocal ∷ Syntax.valueLocal ∷ Syntax.valueLocal ∷ Syntax.valueLocal ∷ Syntax.valueLocal ∷ Syntax.valueLocal ∷ []
 
 abbrev b0 : Syntax.Body
-b0 = Syntax.assign (Syntax.place 11 List.[]) (Syntax.addrOf (Syntax.place 3 (List._∷_ (Syntax.field 0) (List._∷_ (Syntax.deref (Syntax.tyInt Syntax.w8)) List.[]))))
+b0 = Syntax.assign (Syntax.place 11 []) (Syntax.addrOf (Syntax.place 3 ((Syntax.field 0) ∷ (Syntax.deref u8) ∷ [])))
 
 abbrev b1 : Syntax.Body
-b1 = Syntax.assign (Syntax.place 12 List.[]) (Syntax.aggregate (List._∷_ (Syntax.copy (Syntax.place 11 List.[])) (List._∷_ (Syntax.copy (Syntax.place 3 (List._∷_ (Syntax.field 1) List.[]))) List.[])))
+b1 = Syntax.assign (Syntax.place 12 []) (Syntax.aggregate ((Syntax.copy (Syntax.place 11 [])) ∷ (Syntax.copy (Syntax.place 3 ((Syntax.field 1) ∷ []))) ∷ []))
 
 abbrev b2 : Syntax.Body
-b2 = Syntax.assign (Syntax.place 13 List.[]) (Syntax.addrOf (Syntax.place 4 (List._∷_ (Syntax.field 0) (List._∷_ (Syntax.deref (Syntax.tyInt Syntax.w16)) List.[]))))
+b2 = Syntax.assign (Syntax.place 13 []) (Syntax.addrOf (Syntax.place 4 ((Syntax.field 0) ∷ (Syntax.deref u16) ∷ [])))
 
 abbrev b3 : Syntax.Body
-b3 = Syntax.assign (Syntax.place 14 List.[]) (Syntax.aggregate (List._∷_ (Syntax.copy (Syntax.place 13 List.[])) (List._∷_ (Syntax.copy (Syntax.place 4 (List._∷_ (Syntax.field 1) List.[]))) List.[])))
+b3 = Syntax.assign (Syntax.place 14 []) (Syntax.aggregate ((Syntax.copy (Syntax.place 13 [])) ∷ (Syntax.copy (Syntax.place 4 ((Syntax.field 1) ∷ []))) ∷ []))
 
 abbrev b4 : Syntax.Body
-b4 = Syntax.assign (Syntax.place 15 List.[]) (Syntax.addrOf (Syntax.place 5 (List._∷_ (Syntax.field 0) (List._∷_ (Syntax.deref (Element.held)) List.[]))))
+b4 = Syntax.assign (Syntax.place 15 []) (Syntax.addrOf (Syntax.place 5 ((Syntax.field 0) ∷ (Syntax.deref (Element.held)) ∷ [])))
 
 abbrev b5 : Syntax.Body
-b5 = Syntax.assign (Syntax.place 16 List.[]) (Syntax.aggregate (List._∷_ (Syntax.copy (Syntax.place 15 List.[])) (List._∷_ (Syntax.copy (Syntax.place 5 (List._∷_ (Syntax.field 1) List.[]))) List.[])))
+b5 = Syntax.assign (Syntax.place 16 []) (Syntax.aggregate ((Syntax.copy (Syntax.place 15 [])) ∷ (Syntax.copy (Syntax.place 5 ((Syntax.field 1) ∷ []))) ∷ []))
 
 abbrev b6 : Syntax.Body
-b6 = Syntax.call "block_writer::write_block" (List._∷_ (Syntax.copy (Syntax.place 1 List.[])) (List._∷_ (Syntax.copy (Syntax.place 2 List.[])) (List._∷_ (Syntax.copy (Syntax.place 12 List.[]))
-    (List._∷_ (Syntax.copy (Syntax.place 14 List.[])) (List._∷_ (Syntax.copy (Syntax.place 16 List.[])) List.[]))))) (Syntax.place 8 List.[])
+b6 = Syntax.call "block_writer::write_block" ((Syntax.copy (Syntax.place 1 [])) ∷ (Syntax.copy (Syntax.place 2 [])) ∷ (Syntax.copy (Syntax.place 12 [])) ∷ (Syntax.copy (Syntax.place 14 [])) ∷
+    (Syntax.copy (Syntax.place 16 [])) ∷ []) (Syntax.place 8 [])
 
 abbrev b7 : Syntax.Body
-b7 = Syntax.call "stream::length_word" (List._∷_ (Syntax.copy (Syntax.place 8 List.[])) List.[]) (Syntax.place 9 List.[])
+b7 = Syntax.call "stream::length_word" ((Syntax.copy (Syntax.place 8 [])) ∷ []) (Syntax.place 9 [])
 
 abbrev b8 : Syntax.Body
-b8 = Syntax.call "stream::length_refusal" (List._∷_ (Syntax.copy (Syntax.place 8 List.[])) List.[]) (Syntax.place 10 List.[])
+b8 = Syntax.call "stream::length_refusal" ((Syntax.copy (Syntax.place 8 [])) ∷ []) (Syntax.place 10 [])
 
 abbrev b9 : Syntax.Body
-b9 = Syntax.assign (Syntax.place 6 (List._∷_ (Syntax.deref (Syntax.tyArray (Syntax.tyInt Syntax.w64) 1)) List.[])) (Syntax.rvOpd (Syntax.copy (Syntax.place 9 List.[])))
+b9 = Syntax.assign (Syntax.place 6 ((Syntax.deref y0) ∷ [])) (Syntax.rvOpd (Syntax.copy (Syntax.place 9 [])))
 
 abbrev b10 : Syntax.Body
-b10 = Syntax.assign (Syntax.place 7 (List._∷_ (Syntax.deref (Syntax.tyArray (Syntax.tyInt Syntax.w64) 4)) List.[])) (Syntax.rvOpd (Syntax.copy (Syntax.place 10 List.[])))
+b10 = Syntax.assign (Syntax.place 7 ((Syntax.deref y1) ∷ [])) (Syntax.rvOpd (Syntax.copy (Syntax.place 10 [])))
 
 abbrev b11 : Syntax.Body
-b11 = Syntax.assign (Syntax.place 0 List.[]) (Syntax.rvOpd Syntax.opdUnit)
-
-abbrev b12 : Syntax.Body
-b12 = Syntax.return
-
-abbrev b13 : Syntax.Body
-b13 = Syntax.seq b11 b12
+b11 = Syntax.assign (Syntax.place 0 []) (Syntax.rvOpd Syntax.opdUnit)
 
 abbrev b14 : Syntax.Body
-b14 = Syntax.seq b10 b13
-
-abbrev b15 : Syntax.Body
-b15 = Syntax.seq b9 b14
-
-abbrev b16 : Syntax.Body
-b16 = Syntax.seq b8 b15
+b14 = Syntax.seq b10 (Syntax.seq b11 Syntax.return)
 
 abbrev b17 : Syntax.Body
-b17 = Syntax.seq b7 b16
-
-abbrev b18 : Syntax.Body
-b18 = Syntax.seq b6 b17
-
-abbrev b19 : Syntax.Body
-b19 = Syntax.seq b5 b18
+b17 = Syntax.seq b7 (Syntax.seq b8 (Syntax.seq b9 b14))
 
 abbrev b20 : Syntax.Body
-b20 = Syntax.seq b4 b19
-
-abbrev b21 : Syntax.Body
-b21 = Syntax.seq b3 b20
-
-abbrev b22 : Syntax.Body
-b22 = Syntax.seq b2 b21
+b20 = Syntax.seq b4 (Syntax.seq b5 (Syntax.seq b6 b17))
 
 abbrev b23 : Syntax.Body
-b23 = Syntax.seq b1 b22
+b23 = Syntax.seq b1 (Syntax.seq b2 (Syntax.seq b3 b20))
 
 abbrev b24 : Syntax.Body
 b24 = Syntax.seq b0 b23
@@ -242,371 +201,268 @@ body = b24
 abbrev pub Claims : Type 1
 Claims = Kinds.In 5 ps·0 × Kinds.Out 5 ps·0 r·0 × Kinds.In 0 ps·1 × Kinds.Out 0 ps·1 r·1 × Kinds.In 0 ps·2 × Kinds.Out 0 ps·2 r·2
 
-abbrev pub e0 : Row.Entry
-e0 = (0, Rows'.any-gone Syntax.tyUnit)
+abbrev pub v0 : Row.Row
+v0 = Rows'.sslice n8 y3 0
 
-abbrev pub e1 : Row.Entry
-e1 = (1, Rows'.sslice (Referent.rtF (Referent.fInt Syntax.w8)) (Syntax.tyRef (Syntax.named 0) Syntax.imm (Syntax.tyInt Syntax.w8)) 0)
+abbrev pub v1 : Row.Row
+v1 = Rows'.sslice n16 y4 1
 
-abbrev pub e2 : Row.Entry
-e2 = (10, Rows'.any-gone (Syntax.tyArray (Syntax.tyInt Syntax.w64) 4))
+abbrev pub v2 : Row.Row
+v2 = Rows'.mref (Array'.Array n64 1) y12 5
 
-abbrev pub e3 : Row.Entry
-e3 = (10, Rows.arrF (Referent.rtF (Referent.fInt Syntax.w64)) 4 0)
+abbrev pub v3 : Row.Row
+v3 = Rows'.mref (Array'.Array n64 4) y13 6
 
-abbrev pub e4 : Row.Entry
-e4 = (11, Relend.msptr (Referent.rtF (Referent.fInt Syntax.w8)) (Syntax.tyRef Syntax.erased Syntax.mut (Syntax.tyInt Syntax.w8)) 7)
+abbrev pub v4 : Row.Row
+v4 = Rows'.any-gone Syntax.tyUnit
 
-abbrev pub e5 : Row.Entry
-e5 = (11, Rows'.any-gone (Syntax.tyRef Syntax.erased Syntax.mut (Syntax.tyInt Syntax.w8)))
+abbrev pub v5 : Row.Row
+v5 = Rows'.any-gone y10
 
-abbrev pub e6 : Row.Entry
-e6 = (12, Mut.msleft (Referent.rtF (Referent.fInt Syntax.w8)) (Syntax.tyRef Syntax.erased Syntax.mut (Syntax.tyInt Syntax.w8)))
+abbrev pub v6 : Row.Row
+v6 = Rows'.any-gone y9
 
-abbrev pub e7 : Row.Entry
-e7 = (12, Mut.mslice (Referent.rtF (Referent.fInt Syntax.w8)) (Syntax.tyRef Syntax.erased Syntax.mut (Syntax.tyInt Syntax.w8)) 7)
+abbrev pub v7 : Row.Row
+v7 = Rows'.any-gone y8
 
-abbrev pub e8 : Row.Entry
-e8 = (12, Rows'.any-gone y1)
+abbrev pub v8 : Row.Row
+v8 = Rows'.any-gone y0
 
-abbrev pub e9 : Row.Entry
-e9 = (13, Relend.msptr (Referent.rtF (Referent.fInt Syntax.w16)) (Syntax.tyRef Syntax.erased Syntax.mut (Syntax.tyInt Syntax.w16)) 8)
+abbrev pub v9 : Row.Row
+v9 = Rows'.any-gone y1
 
-abbrev pub e10 : Row.Entry
-e10 = (13, Rows'.any-gone (Syntax.tyRef Syntax.erased Syntax.mut (Syntax.tyInt Syntax.w16)))
+abbrev pub v10 : Row.Row
+v10 = Rows'.any-gone y11
 
-abbrev pub e11 : Row.Entry
-e11 = (14, Mut.msleft (Referent.rtF (Referent.fInt Syntax.w16)) (Syntax.tyRef Syntax.erased Syntax.mut (Syntax.tyInt Syntax.w16)))
+abbrev pub v11 : Row.Row
+v11 = Mut.mslice (Element.type) y7 4
 
-abbrev pub e12 : Row.Entry
-e12 = (14, Mut.mslice (Referent.rtF (Referent.fInt Syntax.w16)) (Syntax.tyRef Syntax.erased Syntax.mut (Syntax.tyInt Syntax.w16)) 8)
+abbrev pub v12 : Row.Row
+v12 = Rows'.any-gone y15
 
-abbrev pub e13 : Row.Entry
-e13 = (14, Rows'.any-gone y0)
+abbrev pub v13 : Row.Row
+v13 = Mut.mslice n16 y6 3
 
-abbrev pub e14 : Row.Entry
-e14 = (15, Relend.msptr (Element.type) (Syntax.tyRef Syntax.erased Syntax.mut Element.behind) 9)
+abbrev pub v14 : Row.Row
+v14 = Rows'.any-gone y14
 
-abbrev pub e15 : Row.Entry
-e15 = (15, Rows'.any-gone (Syntax.tyRef Syntax.erased Syntax.mut Element.behind))
+abbrev pub v15 : Row.Row
+v15 = Mut.mslice n8 y5 2
 
-abbrev pub e16 : Row.Entry
-e16 = (2, Rows'.sslice (Referent.rtF (Referent.fInt Syntax.w16)) (Syntax.tyRef (Syntax.named 1) Syntax.imm (Syntax.tyInt Syntax.w16)) 1)
+abbrev pub v16 : Row.Row
+v16 = Mut.mslice n8 y10 7
 
-abbrev pub e17 : Row.Entry
-e17 = (3, Mut.mslice (Referent.rtF (Referent.fInt Syntax.w8)) (Syntax.tyRef (Syntax.named 2) Syntax.mut (Syntax.tyInt Syntax.w8)) 2)
+abbrev pub v17 : Row.Row
+v17 = Rows'.whole (Declared.row BlockLength.the-type)
 
-abbrev pub e18 : Row.Entry
-e18 = (3, Relend.mslice-owed (Referent.rtF (Referent.fInt Syntax.w8)) (Syntax.tyRef (Syntax.named 2) Syntax.mut (Syntax.tyInt Syntax.w8)) 2 7 Row.off)
+abbrev pub v18 : Row.Row
+v18 = Relend.mslice-owed n8 y5 2 7 Row.off
 
-abbrev pub e19 : Row.Entry
-e19 = (4, Mut.mslice (Referent.rtF (Referent.fInt Syntax.w16)) (Syntax.tyRef (Syntax.named 3) Syntax.mut (Syntax.tyInt Syntax.w16)) 3)
+abbrev pub v19 : Row.Row
+v19 = Relend.mslice-owed n16 y6 3 8 Row.off
 
-abbrev pub e20 : Row.Entry
-e20 = (4, Relend.mslice-owed (Referent.rtF (Referent.fInt Syntax.w16)) (Syntax.tyRef (Syntax.named 3) Syntax.mut (Syntax.tyInt Syntax.w16)) 3 8 Row.off)
+abbrev pub v20 : Row.Row
+v20 = Mut.mslice n16 y9 8
 
-abbrev pub e21 : Row.Entry
-e21 = (5, Mut.mslice (Element.type) (Syntax.tyRef (Syntax.named 4) Syntax.mut Element.behind) 4)
+abbrev pub v21 : Row.Row
+v21 = Relend.mslice-owed (Element.type) y7 4 9 Row.off
 
-abbrev pub e22 : Row.Entry
-e22 = (5, Relend.mslice-owed (Element.type) (Syntax.tyRef (Syntax.named 4) Syntax.mut Element.behind) 4 9 Row.off)
+abbrev pub v22 : Row.Row
+v22 = Mut.msleft n16 y9
 
-abbrev pub e23 : Row.Entry
-e23 = (6, Rows'.mref (Array'.Array (Referent.rtF (Referent.fInt Syntax.w64)) 1) (Syntax.tyRef (Syntax.named 5) Syntax.mut (Syntax.tyArray (Syntax.tyInt Syntax.w64) 1)) 5)
+abbrev pub v23 : Row.Row
+v23 = Rows.arrF n64 1 0
 
-abbrev pub e24 : Row.Entry
-e24 = (7, Rows'.mref (Array'.Array (Referent.rtF (Referent.fInt Syntax.w64)) 4) (Syntax.tyRef (Syntax.named 6) Syntax.mut (Syntax.tyArray (Syntax.tyInt Syntax.w64) 4)) 6)
-
-abbrev pub e25 : Row.Entry
-e25 = (
-  8,
-  Rows'.any-gone (Syntax.tyEnum (List._∷_ 115 (List._∷_ 116 (List._∷_ 114 (List._∷_ 101 (List._∷_ 97 (List._∷_ 109 (List._∷_ 58 (List._∷_ 58 (List._∷_ 66 (List._∷_ 108 (List._∷_ 111 (List._∷_ 99
-      (List._∷_ 107 (List._∷_ 76 (List._∷_ 101 (List._∷_ 110 (List._∷_ 103 (List._∷_ 116 (List._∷_ 104 List.[]))))))))))))))))))) (Syntax.ttcons (Syntax.tcons (Syntax.tyInt Syntax.w64) Syntax.tnil)
-      (Syntax.ttcons (Syntax.tcons (Syntax.tyEnum (List._∷_ 115 (List._∷_ 116 (List._∷_ 114 (List._∷_ 101 (List._∷_ 97 (List._∷_ 109 (List._∷_ 58 (List._∷_ 58 (List._∷_ 82 (List._∷_ 101 (List._∷_ 102
-      (List._∷_ 117 (List._∷_ 115 (List._∷_ 97 (List._∷_ 108 List.[]))))))))))))))) (Syntax.ttcons Syntax.tnil (Syntax.ttcons Syntax.tnil (Syntax.ttcons Syntax.tnil (Syntax.ttcons (Syntax.tcons
-      (Syntax.tyInt Syntax.w64) Syntax.tnil) (Syntax.ttcons Syntax.tnil (Syntax.ttcons Syntax.tnil (Syntax.ttcons Syntax.tnil (Syntax.ttcons Syntax.tnil (Syntax.ttcons Syntax.tnil (Syntax.ttcons Syntax.tnil
-      (Syntax.ttcons (Syntax.tcons (Syntax.tyInt Syntax.w64) Syntax.tnil) (Syntax.ttcons (Syntax.tcons (Syntax.tyInt Syntax.w64) Syntax.tnil) (Syntax.ttcons Syntax.tnil (Syntax.ttcons (Syntax.tcons
-      (Syntax.tyInt Syntax.w64) (Syntax.tcons (Syntax.tyInt Syntax.w64) Syntax.tnil)) (Syntax.ttcons (Syntax.tcons (Syntax.tyInt Syntax.w64) Syntax.tnil) (Syntax.ttcons Syntax.tnil (Syntax.ttcons
-      Syntax.tnil (Syntax.ttcons (Syntax.tcons (Syntax.tyInt Syntax.w64) Syntax.tnil) (Syntax.ttcons (Syntax.tcons (Syntax.tyInt Syntax.w64) Syntax.tnil) (Syntax.ttcons (Syntax.tcons (Syntax.tyInt
-      Syntax.w64) Syntax.tnil) (Syntax.ttcons Syntax.tnil (Syntax.ttcons Syntax.tnil (Syntax.ttcons (Syntax.tcons (Syntax.tyInt Syntax.w64) (Syntax.tcons (Syntax.tyInt Syntax.w64) Syntax.tnil))
-      (Syntax.ttcons Syntax.tnil Syntax.ttnil))))))))))))))))))))))))) Syntax.tnil) Syntax.ttnil))),
-)
-
-abbrev pub e26 : Row.Entry
-e26 = (8, Rows'.whole (Declared.row BlockLength.the-type))
-
-abbrev pub e27 : Row.Entry
-e27 = (9, Rows'.any-gone (Syntax.tyArray (Syntax.tyInt Syntax.w64) 1))
-
-abbrev pub e28 : Row.Entry
-e28 = (9, Rows.arrF (Referent.rtF (Referent.fInt Syntax.w64)) 1 0)
+abbrev pub v24 : Row.Row
+v24 = Rows.arrF n64 4 0
 
 abbrev pub t0 : List.List Row.Entry
-t0 = List._∷_ e0 (List._∷_ e1 (List._∷_ e16 (List._∷_ e17 (List._∷_ e19 (List._∷_ e21 (List._∷_ e23 (List._∷_ e24 (List._∷_ e25 (List._∷_ e27 (List._∷_ e2 (List._∷_ e5 (List._∷_ e8 (List._∷_ e10
-    (List._∷_ e13 (List._∷_ e15 List.[])))))))))))))))
+t0 = (0, v4) ∷ (1, v0) ∷ (2, v1) ∷ (3, v15) ∷ (4, v13) ∷ (5, v11) ∷ (6, v2) ∷ (7, v3) ∷ (8, v10) ∷ (9, v8) ∷ (10, v9) ∷ (11, v5) ∷ (12, v14) ∷ (13, v6) ∷ (14, v12) ∷ (15, v7) ∷ []
 
 abbrev pub t1 : List.List Row.Entry
-t1 = List._∷_ (16, Rows'.any-gone y2) List.[]
+t1 = (16, Rows'.any-gone (Syntax.tyStruct (38 ∷ 91 ∷ 93 ∷ []) (Syntax.tcons y8 (Syntax.tcons u64 Syntax.tnil)))) ∷ []
 
 abbrev pub t2 : List.List Row.Entry
-t2 = List._∷_ (0, Rows'.sc-here Row.sUnit) (List._∷_ e1 (List._∷_ e16 (List._∷_ e17 (List._∷_ e19 (List._∷_ e21 (List._∷_ e23 (List._∷_ e24 (List._∷_ e25 (List._∷_ e27 (List._∷_ e2 (List._∷_ e5
-    (List._∷_ e8 (List._∷_ e10 (List._∷_ e13 (List._∷_ e15 List.[])))))))))))))))
+t2 = (0, Rows'.sc-here Row.sUnit) ∷ (1, v0) ∷ (2, v1) ∷ (3, v15) ∷ (4, v13) ∷ (5, v11) ∷ (6, v2) ∷ (7, v3) ∷ (8, v10) ∷ (9, v8) ∷ (10, v9) ∷ (11, v5) ∷ (12, v14) ∷ (13, v6) ∷ (14, v12) ∷ (15, v7) ∷ []
 
 abbrev pub t3 : List.List Row.Entry
-t3 = List._∷_ e0 (List._∷_ e1 (List._∷_ e16 (List._∷_ e18 (List._∷_ e19 (List._∷_ e21 (List._∷_ e23 (List._∷_ e24 (List._∷_ e25 (List._∷_ e27 (List._∷_ e2 (List._∷_ e4 (List._∷_ e8 (List._∷_ e10
-    (List._∷_ e13 (List._∷_ e15 List.[])))))))))))))))
+t3 = (0, v4) ∷ (1, v0) ∷ (2, v1) ∷ (3, v18) ∷ (4, v13) ∷ (5, v11) ∷ (6, v2) ∷ (7, v3) ∷ (8, v10) ∷ (9, v8) ∷ (10, v9) ∷ (11, Relend.msptr n8 y10 7) ∷ (12, v14) ∷ (13, v6) ∷ (14, v12) ∷ (15, v7) ∷ []
 
 abbrev pub t4 : List.List Row.Entry
-t4 = List._∷_ e0 (List._∷_ e1 (List._∷_ e16 (List._∷_ e18 (List._∷_ e19 (List._∷_ e21 (List._∷_ e23 (List._∷_ e24 (List._∷_ e25 (List._∷_ e27 (List._∷_ e2 (List._∷_ e5 (List._∷_ e7 (List._∷_ e10
-    (List._∷_ e13 (List._∷_ e15 List.[])))))))))))))))
+t4 = (0, v4) ∷ (1, v0) ∷ (2, v1) ∷ (3, v18) ∷ (4, v13) ∷ (5, v11) ∷ (6, v2) ∷ (7, v3) ∷ (8, v10) ∷ (9, v8) ∷ (10, v9) ∷ (11, v5) ∷ (12, v16) ∷ (13, v6) ∷ (14, v12) ∷ (15, v7) ∷ []
 
 abbrev pub t5 : List.List Row.Entry
-t5 = List._∷_ e0 (List._∷_ e1 (List._∷_ e16 (List._∷_ e18 (List._∷_ e20 (List._∷_ e21 (List._∷_ e23 (List._∷_ e24 (List._∷_ e25 (List._∷_ e27 (List._∷_ e2 (List._∷_ e5 (List._∷_ e7 (List._∷_ e9
-    (List._∷_ e13 (List._∷_ e15 List.[])))))))))))))))
+t5 = (0, v4) ∷ (1, v0) ∷ (2, v1) ∷ (3, v18) ∷ (4, v19) ∷ (5, v11) ∷ (6, v2) ∷ (7, v3) ∷ (8, v10) ∷ (9, v8) ∷ (10, v9) ∷ (11, v5) ∷ (12, v16) ∷ (13, Relend.msptr n16 y9 8) ∷ (14, v12) ∷ (15, v7) ∷ []
 
 abbrev pub t6 : List.List Row.Entry
-t6 = List._∷_ e0 (List._∷_ e1 (List._∷_ e16 (List._∷_ e18 (List._∷_ e20 (List._∷_ e21 (List._∷_ e23 (List._∷_ e24 (List._∷_ e25 (List._∷_ e27 (List._∷_ e2 (List._∷_ e5 (List._∷_ e7 (List._∷_ e10
-    (List._∷_ e12 (List._∷_ e15 List.[])))))))))))))))
+t6 = (0, v4) ∷ (1, v0) ∷ (2, v1) ∷ (3, v18) ∷ (4, v19) ∷ (5, v11) ∷ (6, v2) ∷ (7, v3) ∷ (8, v10) ∷ (9, v8) ∷ (10, v9) ∷ (11, v5) ∷ (12, v16) ∷ (13, v6) ∷ (14, v20) ∷ (15, v7) ∷ []
 
 abbrev pub t7 : List.List Row.Entry
-t7 = List._∷_ e0 (List._∷_ e1 (List._∷_ e16 (List._∷_ e18 (List._∷_ e20 (List._∷_ e22 (List._∷_ e23 (List._∷_ e24 (List._∷_ e25 (List._∷_ e27 (List._∷_ e2 (List._∷_ e5 (List._∷_ e7 (List._∷_ e10
-    (List._∷_ e12 (List._∷_ e14 List.[])))))))))))))))
+t7 = (0, v4) ∷ (1, v0) ∷ (2, v1) ∷ (3, v18) ∷ (4, v19) ∷ (5, v21) ∷ (6, v2) ∷ (7, v3) ∷ (8, v10) ∷ (9, v8) ∷ (10, v9) ∷ (11, v5) ∷ (12, v16) ∷ (13, v6) ∷ (14, v20) ∷
+    (15, Relend.msptr (Element.type) y8 9) ∷ []
 
 abbrev pub t8 : List.List Row.Entry
-t8 = List._∷_ e0 (List._∷_ e1 (List._∷_ e16 (List._∷_ e18 (List._∷_ e20 (List._∷_ e22 (List._∷_ e23 (List._∷_ e24 (List._∷_ e25 (List._∷_ e27 (List._∷_ e2 (List._∷_ e5 (List._∷_ e7 (List._∷_ e10
-    (List._∷_ e12 (List._∷_ e15 List.[])))))))))))))))
+t8 = (0, v4) ∷ (1, v0) ∷ (2, v1) ∷ (3, v18) ∷ (4, v19) ∷ (5, v21) ∷ (6, v2) ∷ (7, v3) ∷ (8, v10) ∷ (9, v8) ∷ (10, v9) ∷ (11, v5) ∷ (12, v16) ∷ (13, v6) ∷ (14, v20) ∷ (15, v7) ∷ []
 
 abbrev pub t9 : List.List Row.Entry
-t9 = List._∷_ (16, Mut.mslice (Element.type) (Syntax.tyRef Syntax.erased Syntax.mut Element.behind) 9) List.[]
+t9 = (16, Mut.mslice (Element.type) y8 9) ∷ []
 
 abbrev pub t10 : List.List Row.Entry
-t10 = List._∷_ e0 (List._∷_ e1 (List._∷_ e16 (List._∷_ e18 (List._∷_ e20 (List._∷_ e22 (List._∷_ e23 (List._∷_ e24 (List._∷_ e26 (List._∷_ e27 (List._∷_ e2 (List._∷_ e5 (List._∷_ e6 (List._∷_ e10
-    (List._∷_ e11 (List._∷_ e15 List.[])))))))))))))))
+t10 = (0, v4) ∷ (1, v0) ∷ (2, v1) ∷ (3, v18) ∷ (4, v19) ∷ (5, v21) ∷ (6, v2) ∷ (7, v3) ∷ (8, v17) ∷ (9, v8) ∷ (10, v9) ∷ (11, v5) ∷ (12, Mut.msleft n8 y10) ∷ (13, v6) ∷ (14, v22) ∷ (15, v7) ∷ []
 
 abbrev pub t11 : List.List Row.Entry
-t11 = List._∷_ (16, Mut.msleft (Element.type) (Syntax.tyRef Syntax.erased Syntax.mut Element.behind)) List.[]
+t11 = (16, Mut.msleft (Element.type) y8) ∷ []
 
 abbrev pub t12 : List.List Row.Entry
-t12 = List._∷_ e0 (List._∷_ e1 (List._∷_ e16 (List._∷_ e17 (List._∷_ e20 (List._∷_ e22 (List._∷_ e23 (List._∷_ e24 (List._∷_ e26 (List._∷_ e27 (List._∷_ e2 (List._∷_ e5 (List._∷_ e8 (List._∷_ e10
-    (List._∷_ e11 (List._∷_ e15 List.[])))))))))))))))
+t12 = (0, v4) ∷ (1, v0) ∷ (2, v1) ∷ (3, v15) ∷ (4, v19) ∷ (5, v21) ∷ (6, v2) ∷ (7, v3) ∷ (8, v17) ∷ (9, v8) ∷ (10, v9) ∷ (11, v5) ∷ (12, v14) ∷ (13, v6) ∷ (14, v22) ∷ (15, v7) ∷ []
 
 abbrev pub t13 : List.List Row.Entry
-t13 = List._∷_ e0 (List._∷_ e1 (List._∷_ e16 (List._∷_ e17 (List._∷_ e19 (List._∷_ e22 (List._∷_ e23 (List._∷_ e24 (List._∷_ e26 (List._∷_ e27 (List._∷_ e2 (List._∷_ e5 (List._∷_ e8 (List._∷_ e10
-    (List._∷_ e13 (List._∷_ e15 List.[])))))))))))))))
+t13 = (0, v4) ∷ (1, v0) ∷ (2, v1) ∷ (3, v15) ∷ (4, v13) ∷ (5, v21) ∷ (6, v2) ∷ (7, v3) ∷ (8, v17) ∷ (9, v8) ∷ (10, v9) ∷ (11, v5) ∷ (12, v14) ∷ (13, v6) ∷ (14, v12) ∷ (15, v7) ∷ []
 
 abbrev pub t14 : List.List Row.Entry
-t14 = List._∷_ e0 (List._∷_ e1 (List._∷_ e16 (List._∷_ e17 (List._∷_ e19 (List._∷_ e21 (List._∷_ e23 (List._∷_ e24 (List._∷_ e26 (List._∷_ e27 (List._∷_ e2 (List._∷_ e5 (List._∷_ e8 (List._∷_ e10
-    (List._∷_ e13 (List._∷_ e15 List.[])))))))))))))))
+t14 = (0, v4) ∷ (1, v0) ∷ (2, v1) ∷ (3, v15) ∷ (4, v13) ∷ (5, v11) ∷ (6, v2) ∷ (7, v3) ∷ (8, v17) ∷ (9, v8) ∷ (10, v9) ∷ (11, v5) ∷ (12, v14) ∷ (13, v6) ∷ (14, v12) ∷ (15, v7) ∷ []
 
 abbrev pub t15 : List.List Row.Entry
-t15 = List._∷_ e0 (List._∷_ e1 (List._∷_ e16 (List._∷_ e17 (List._∷_ e19 (List._∷_ e21 (List._∷_ e23 (List._∷_ e24 (List._∷_ e26 (List._∷_ e28 (List._∷_ e2 (List._∷_ e5 (List._∷_ e8 (List._∷_ e10
-    (List._∷_ e13 (List._∷_ e15 List.[])))))))))))))))
+t15 = (0, v4) ∷ (1, v0) ∷ (2, v1) ∷ (3, v15) ∷ (4, v13) ∷ (5, v11) ∷ (6, v2) ∷ (7, v3) ∷ (8, v17) ∷ (9, v23) ∷ (10, v9) ∷ (11, v5) ∷ (12, v14) ∷ (13, v6) ∷ (14, v12) ∷ (15, v7) ∷ []
 
 abbrev pub t16 : List.List Row.Entry
-t16 = List._∷_ e0 (List._∷_ e1 (List._∷_ e16 (List._∷_ e17 (List._∷_ e19 (List._∷_ e21 (List._∷_ e23 (List._∷_ e24 (List._∷_ e26 (List._∷_ e28 (List._∷_ e3 (List._∷_ e5 (List._∷_ e8 (List._∷_ e10
-    (List._∷_ e13 (List._∷_ e15 List.[])))))))))))))))
+t16 = (0, v4) ∷ (1, v0) ∷ (2, v1) ∷ (3, v15) ∷ (4, v13) ∷ (5, v11) ∷ (6, v2) ∷ (7, v3) ∷ (8, v17) ∷ (9, v23) ∷ (10, v24) ∷ (11, v5) ∷ (12, v14) ∷ (13, v6) ∷ (14, v12) ∷ (15, v7) ∷ []
 
 abbrev pub t17 : List.List Row.Entry
-t17 = List._∷_ e0 (List._∷_ e1 (List._∷_ e16 (List._∷_ e17 (List._∷_ e19 (List._∷_ e21 (List._∷_ e23 (List._∷_ e24 (List._∷_ e25 (List._∷_ e28 (List._∷_ e3 (List._∷_ e5 (List._∷_ e8 (List._∷_ e10
-    (List._∷_ e13 (List._∷_ e15 List.[])))))))))))))))
+t17 = (0, v4) ∷ (1, v0) ∷ (2, v1) ∷ (3, v15) ∷ (4, v13) ∷ (5, v11) ∷ (6, v2) ∷ (7, v3) ∷ (8, v10) ∷ (9, v23) ∷ (10, v24) ∷ (11, v5) ∷ (12, v14) ∷ (13, v6) ∷ (14, v12) ∷ (15, v7) ∷ []
 
 abbrev pub t18 : List.List Row.Entry
-t18 = List._∷_ e0 (List._∷_ e1 (List._∷_ e16 (List._∷_ e17 (List._∷_ e19 (List._∷_ e21 (List._∷_ e23 (List._∷_ e24 (List._∷_ e25 (List._∷_ e27 (List._∷_ e3 (List._∷_ e5 (List._∷_ e8 (List._∷_ e10
-    (List._∷_ e13 (List._∷_ e15 List.[])))))))))))))))
+t18 = (0, v4) ∷ (1, v0) ∷ (2, v1) ∷ (3, v15) ∷ (4, v13) ∷ (5, v11) ∷ (6, v2) ∷ (7, v3) ∷ (8, v10) ∷ (9, v8) ∷ (10, v24) ∷ (11, v5) ∷ (12, v14) ∷ (13, v6) ∷ (14, v12) ∷ (15, v7) ∷ []
 
 abbrev pub T0 : Row.Cx
-T0 = record { locals = List._++_ t0 t1; slots = List.[] }
+T0 = record { locals = List._++_ t0 t1; slots = [] }
 
 abbrev pub T1 : Row.Cx
-T1 = record { locals = List._++_ t2 t1; slots = List.[] }
-
-abbrev pub T2 : Row.Cx
-T2 = record { locals = List._++_ t0 t1; slots = List.[] }
-
-abbrev pub T3 : Row.Cx
-T3 = record { locals = List._++_ t0 t1; slots = List.[] }
-
-abbrev pub T4 : Row.Cx
-T4 = record { locals = List._++_ t0 t1; slots = List.[] }
-
-abbrev pub T5 : Row.Cx
-T5 = record { locals = List._++_ t0 t1; slots = List.[] }
+T1 = record { locals = List._++_ t2 t1; slots = [] }
 
 abbrev pub T7 : Row.Cx
-T7 = record { locals = List._++_ t3 t1; slots = List.[] }
+T7 = record { locals = List._++_ t3 t1; slots = [] }
 
 abbrev pub T8 : Row.Cx
-T8 = record { locals = List._++_ t4 t1; slots = List.[] }
+T8 = record { locals = List._++_ t4 t1; slots = [] }
 
 abbrev pub T10 : Row.Cx
-T10 = record { locals = List._++_ t5 t1; slots = List.[] }
+T10 = record { locals = List._++_ t5 t1; slots = [] }
 
 abbrev pub T11 : Row.Cx
-T11 = record { locals = List._++_ t6 t1; slots = List.[] }
+T11 = record { locals = List._++_ t6 t1; slots = [] }
 
 abbrev pub T13 : Row.Cx
-T13 = record { locals = List._++_ t7 t1; slots = List.[] }
+T13 = record { locals = List._++_ t7 t1; slots = [] }
 
 abbrev pub T14 : Row.Cx
-T14 = record { locals = List._++_ t8 t9; slots = List.[] }
+T14 = record { locals = List._++_ t8 t9; slots = [] }
 
 abbrev pub T15 : Row.Cx
-T15 = record { locals = List._++_ t10 t11; slots = List.[] }
+T15 = record { locals = List._++_ t10 t11; slots = [] }
 
 abbrev pub T17 : Row.Cx
-T17 = record { locals = List._++_ t12 t11; slots = List.[] }
-
-abbrev pub T18 : Row.Cx
-T18 = record { locals = List._++_ t12 t11; slots = List.[] }
+T17 = record { locals = List._++_ t12 t11; slots = [] }
 
 abbrev pub T21 : Row.Cx
-T21 = record { locals = List._++_ t13 t11; slots = List.[] }
-
-abbrev pub T22 : Row.Cx
-T22 = record { locals = List._++_ t13 t11; slots = List.[] }
+T21 = record { locals = List._++_ t13 t11; slots = [] }
 
 abbrev pub T25 : Row.Cx
-T25 = record { locals = List._++_ t14 t1; slots = List.[] }
+T25 = record { locals = List._++_ t14 t1; slots = [] }
 
 abbrev pub T27 : Row.Cx
-T27 = record { locals = List._++_ t15 t1; slots = List.[] }
+T27 = record { locals = List._++_ t15 t1; slots = [] }
 
 abbrev pub T28 : Row.Cx
-T28 = record { locals = List._++_ t16 t1; slots = List.[] }
+T28 = record { locals = List._++_ t16 t1; slots = [] }
 
 abbrev pub T29 : Row.Cx
-T29 = record { locals = List._++_ t17 t1; slots = List.[] }
-
-abbrev pub T30 : Row.Cx
-T30 = record { locals = List._++_ t17 t1; slots = List.[] }
+T29 = record { locals = List._++_ t17 t1; slots = [] }
 
 abbrev pub T31 : Row.Cx
-T31 = record { locals = List._++_ t18 t1; slots = List.[] }
-
-abbrev pub T32 : Row.Cx
-T32 = record { locals = List._++_ t18 t1; slots = List.[] }
-
-abbrev pub T33 : Row.Cx
-T33 = record { locals = List._++_ t0 t1; slots = List.[] }
-
-abbrev pub T34 : Row.Cx
-T34 = record { locals = List._++_ t2 t1; slots = List.[] }
+T31 = record { locals = List._++_ t18 t1; slots = [] }
 
 abbrev pub O0 : Typed.Outs
-O0 = record { next = Option.none; exits = List.[]; returns = Option.some T1 }
+O0 = record { next = Option.none; exits = []; returns = Option.some T1 }
 
 module _ (claims· : Claims) where
-  abbrev s0 : Typed.Gives T0 T2
-  s0 = Know.k-shs-known (Referent.fInt Syntax.w8) T0 1 0 (Syntax.tyRef (Syntax.named 0) Syntax.imm (Syntax.tyInt Syntax.w8)) Row.off 0 λ x. x
+  abbrev s0 : Typed.Gives T0 T0
+  s0 = Know.k-shs-known (Referent.fInt Syntax.w8) T0 1 0 y3 Row.off 0 λ x. x
 
-  abbrev s1 : Typed.Gives T2 T3
-  s1 = Know.k-shs-known (Referent.fInt Syntax.w16) T2 2 1 (Syntax.tyRef (Syntax.named 1) Syntax.imm (Syntax.tyInt Syntax.w16)) Row.off 0 λ x. x
+  abbrev s1 : Typed.Gives T0 T0
+  s1 = Know.k-shs-known (Referent.fInt Syntax.w16) T0 2 1 y4 Row.off 0 λ x. x
 
-  abbrev s2 : Typed.Gives T3 T4
-  s2 = Know.k-sl-known (Referent.fInt Syntax.w8) T3 3 2 (Syntax.tyRef (Syntax.named 2) Syntax.mut (Syntax.tyInt Syntax.w8)) Row.off 0 λ x. x
+  abbrev s2 : Typed.Gives T0 T0
+  s2 = Know.k-sl-known (Referent.fInt Syntax.w8) T0 3 2 y5 Row.off 0 λ x. x
 
-  abbrev s3 : Typed.Gives T4 T5
-  s3 = Know.k-sl-known (Referent.fInt Syntax.w16) T4 4 3 (Syntax.tyRef (Syntax.named 3) Syntax.mut (Syntax.tyInt Syntax.w16)) Row.off 0 λ x. x
+  abbrev s3 : Typed.Gives T0 T0
+  s3 = Know.k-sl-known (Referent.fInt Syntax.w16) T0 4 3 y6 Row.off 0 λ x. x
 
-  abbrev s5 : Typed.Gives T5 T7
-  s5 = Relend.k-sl-relend (Referent.rtF (Referent.fInt Syntax.w8)) T5 3 11 2 7 (Syntax.tyRef (Syntax.named 2) Syntax.mut (Syntax.tyInt Syntax.w8)) (Syntax.tyRef Syntax.erased Syntax.mut (Syntax.tyInt
-      Syntax.w8)) Row.off λ x. x
+  abbrev s5 : Typed.Gives T0 T7
+  s5 = Relend.k-sl-relend n8 T0 3 11 2 7 y5 y10 Row.off λ x. x
 
   abbrev s6 : Typed.Asks T7 T8
-  s6 = Relend.k-sl-aggregate (Referent.rtF (Referent.fInt Syntax.w8)) (Relend.asMut (Referent.rtF (Referent.fInt Syntax.w8))) T7 11 12 7 (Syntax.tyRef Syntax.erased Syntax.mut (Syntax.tyInt
-      Syntax.w8)) (Syntax.tyRef Syntax.erased Syntax.mut (Syntax.tyInt Syntax.w8)) (λ x. x) (Scalar.oFld 3 (List._∷_ (Syntax.field 1) List.[]) (Syntax.tyInt Syntax.w64) 8 λ v. Shared.lenV (v .0))
+  s6 = Relend.k-sl-aggregate n8 (Relend.asMut n8) T7 11 12 7 y10 y10 (λ x. x) (Scalar.oFld 3 ((Syntax.field 1) ∷ []) u64 8 λ v. Shared.lenV (v .0))
 
   abbrev s8 : Typed.Gives T8 T10
-  s8 = Relend.k-sl-relend (Referent.rtF (Referent.fInt Syntax.w16)) T8 4 13 3 8 (Syntax.tyRef (Syntax.named 3) Syntax.mut (Syntax.tyInt Syntax.w16)) (Syntax.tyRef Syntax.erased Syntax.mut
-      (Syntax.tyInt Syntax.w16)) Row.off λ x. x
+  s8 = Relend.k-sl-relend n16 T8 4 13 3 8 y6 y9 Row.off λ x. x
 
   abbrev s9 : Typed.Asks T10 T11
-  s9 = Relend.k-sl-aggregate (Referent.rtF (Referent.fInt Syntax.w16)) (Relend.asMut (Referent.rtF (Referent.fInt Syntax.w16))) T10 13 14 8 (Syntax.tyRef Syntax.erased Syntax.mut (Syntax.tyInt
-      Syntax.w16)) (Syntax.tyRef Syntax.erased Syntax.mut (Syntax.tyInt Syntax.w16)) (λ x. x) (Scalar.oFld 4 (List._∷_ (Syntax.field 1) List.[]) (Syntax.tyInt Syntax.w64) 8 λ v. Shared.lenV (v .0))
+  s9 = Relend.k-sl-aggregate n16 (Relend.asMut n16) T10 13 14 8 y9 y9 (λ x. x) (Scalar.oFld 4 ((Syntax.field 1) ∷ []) u64 8 λ v. Shared.lenV (v .0))
 
   abbrev s11 : Typed.Gives T11 T13
-  s11 = Relend.k-sl-relend (Element.type) T11 5 15 4 9 (Syntax.tyRef (Syntax.named 4) Syntax.mut Element.behind) (Syntax.tyRef Syntax.erased Syntax.mut Element.behind) Row.off λ x. x
+  s11 = Relend.k-sl-relend (Element.type) T11 5 15 4 9 y7 y8 Row.off λ x. x
 
   abbrev s12 : Typed.Asks T13 T14
-  s12 = Relend.k-sl-aggregate (Element.type) (Relend.asMut (Element.type)) T13 15 16 9 (Syntax.tyRef Syntax.erased Syntax.mut Element.behind) (Syntax.tyRef Syntax.erased Syntax.mut Element.behind) (λ
-      x. x) (Scalar.oFld 5 (List._∷_ (Syntax.field 1) List.[]) (Syntax.tyInt Syntax.w64) 8 λ v. Shared.lenV (v .0))
+  s12 = Relend.k-sl-aggregate (Element.type) (Relend.asMut (Element.type)) T13 15 16 9 y8 y8 (λ x. x) (Scalar.oFld 5 ((Syntax.field 1) ∷ []) u64 8 λ v. Shared.lenV (v .0))
+
+  abbrev pub a0 : ArgsT ps·0 (T14 .locals)
+  a0 = (
+    record { pos = 1; ty = y3; ref = λ x. x },
+    (record { pos = 2; ty = y4; ref = λ x. x }, (record { pos = 12; ty = y10; ref = λ x. x }, (record { pos = 14; ty = y9; ref = λ x. x }, (record { pos = 16; ty = y8; ref = λ x. x }, tt)))),
+  )
 
   abbrev s13 : Typed.Both T14 T15
-  s13 = Call.callB ps·0 r·0 (claims· .0) (claims· .1) T14 (
-    record { pos = 1; ty = Syntax.tyRef (Syntax.named 0) Syntax.imm (Syntax.tyInt Syntax.w8); ref = λ x. x },
-    (
-      record { pos = 2; ty = Syntax.tyRef (Syntax.named 1) Syntax.imm (Syntax.tyInt Syntax.w16); ref = λ x. x },
-      (
-        record { pos = 12; ty = Syntax.tyRef Syntax.erased Syntax.mut (Syntax.tyInt Syntax.w8); ref = λ x. x },
-        (
-          record { pos = 14; ty = Syntax.tyRef Syntax.erased Syntax.mut (Syntax.tyInt Syntax.w16); ref = λ x. x },
-          (record { pos = 16; ty = Syntax.tyRef Syntax.erased Syntax.mut Element.behind; ref = λ x. x }, tt),
-        ),
-      ),
-    ),
-  ) 8 (List._∷_ 0 (List._∷_ 1 (List._∷_ 7 (List._∷_ 8 (List._∷_ 9 List.[]))))) (Syntax.tyEnum
-      (List._∷_ 115 (List._∷_ 116 (List._∷_ 114 (List._∷_ 101 (List._∷_ 97 (List._∷_ 109 (List._∷_ 58 (List._∷_ 58 (List._∷_ 66 (List._∷_ 108 (List._∷_ 111 (List._∷_ 99 (List._∷_ 107 (List._∷_ 76
-      (List._∷_ 101 (List._∷_ 110 (List._∷_ 103 (List._∷_ 116 (List._∷_ 104 List.[]))))))))))))))))))) (Syntax.ttcons (Syntax.tcons (Syntax.tyInt Syntax.w64) Syntax.tnil) (Syntax.ttcons (Syntax.tcons
-      (Syntax.tyEnum (List._∷_ 115 (List._∷_ 116 (List._∷_ 114 (List._∷_ 101 (List._∷_ 97 (List._∷_ 109 (List._∷_ 58 (List._∷_ 58 (List._∷_ 82 (List._∷_ 101 (List._∷_ 102 (List._∷_ 117 (List._∷_ 115
-      (List._∷_ 97 (List._∷_ 108 List.[]))))))))))))))) (Syntax.ttcons Syntax.tnil (Syntax.ttcons Syntax.tnil (Syntax.ttcons Syntax.tnil (Syntax.ttcons (Syntax.tcons (Syntax.tyInt Syntax.w64) Syntax.tnil)
-      (Syntax.ttcons Syntax.tnil (Syntax.ttcons Syntax.tnil (Syntax.ttcons Syntax.tnil (Syntax.ttcons Syntax.tnil (Syntax.ttcons Syntax.tnil (Syntax.ttcons Syntax.tnil (Syntax.ttcons (Syntax.tcons
-      (Syntax.tyInt Syntax.w64) Syntax.tnil) (Syntax.ttcons (Syntax.tcons (Syntax.tyInt Syntax.w64) Syntax.tnil) (Syntax.ttcons Syntax.tnil (Syntax.ttcons (Syntax.tcons (Syntax.tyInt Syntax.w64)
-      (Syntax.tcons (Syntax.tyInt Syntax.w64) Syntax.tnil)) (Syntax.ttcons (Syntax.tcons (Syntax.tyInt Syntax.w64) Syntax.tnil) (Syntax.ttcons Syntax.tnil (Syntax.ttcons Syntax.tnil (Syntax.ttcons
-      (Syntax.tcons (Syntax.tyInt Syntax.w64) Syntax.tnil) (Syntax.ttcons (Syntax.tcons (Syntax.tyInt Syntax.w64) Syntax.tnil) (Syntax.ttcons (Syntax.tcons (Syntax.tyInt Syntax.w64) Syntax.tnil)
-      (Syntax.ttcons Syntax.tnil (Syntax.ttcons Syntax.tnil (Syntax.ttcons (Syntax.tcons (Syntax.tyInt Syntax.w64) (Syntax.tcons (Syntax.tyInt Syntax.w64) Syntax.tnil)) (Syntax.ttcons Syntax.tnil
-      Syntax.ttnil))))))))))))))))))))))))) Syntax.tnil) Syntax.ttnil)))
+  s13 = Call.callB ps·0 r·0 (claims· .0) (claims· .1) T14 a0 8 (0 ∷ 1 ∷ 7 ∷ 8 ∷ 9 ∷ []) y11
 
   abbrev s15 : Typed.Both T15 T17
-  s15 = Relend.k-back-sl (Referent.rtF (Referent.fInt Syntax.w8)) T15 12 3 2 7 (Syntax.tyRef (Syntax.named 2) Syntax.mut (Syntax.tyInt Syntax.w8)) (Syntax.tyRef Syntax.erased Syntax.mut (Syntax.tyInt
-      Syntax.w8)) Row.off (λ x. x) λ x. x
+  s15 = Relend.k-back-sl n8 T15 12 3 2 7 y5 y10 Row.off (λ x. x) λ x. x
 
-  abbrev s16 : Typed.Gives T17 T18
-  s16 = Know.k-sl-known (Referent.fInt Syntax.w8) T17 3 2 (Syntax.tyRef (Syntax.named 2) Syntax.mut (Syntax.tyInt Syntax.w8)) Row.off 0 λ x. x
+  abbrev s16 : Typed.Gives T17 T17
+  s16 = Know.k-sl-known (Referent.fInt Syntax.w8) T17 3 2 y5 Row.off 0 λ x. x
 
-  abbrev s19 : Typed.Both T18 T21
-  s19 = Relend.k-back-sl (Referent.rtF (Referent.fInt Syntax.w16)) T18 14 4 3 8 (Syntax.tyRef (Syntax.named 3) Syntax.mut (Syntax.tyInt Syntax.w16)) (Syntax.tyRef Syntax.erased Syntax.mut
-      (Syntax.tyInt Syntax.w16)) Row.off (λ x. x) λ x. x
+  abbrev s19 : Typed.Both T17 T21
+  s19 = Relend.k-back-sl n16 T17 14 4 3 8 y6 y9 Row.off (λ x. x) λ x. x
 
-  abbrev s20 : Typed.Gives T21 T22
-  s20 = Know.k-sl-known (Referent.fInt Syntax.w16) T21 4 3 (Syntax.tyRef (Syntax.named 3) Syntax.mut (Syntax.tyInt Syntax.w16)) Row.off 0 λ x. x
+  abbrev s20 : Typed.Gives T21 T21
+  s20 = Know.k-sl-known (Referent.fInt Syntax.w16) T21 4 3 y6 Row.off 0 λ x. x
 
-  abbrev s23 : Typed.Both T22 T25
-  s23 = Relend.k-back-sl (Element.type) T22 16 5 4 9 (Syntax.tyRef (Syntax.named 4) Syntax.mut Element.behind) (Syntax.tyRef Syntax.erased Syntax.mut Element.behind) Row.off (λ x. x) λ x. x
+  abbrev s23 : Typed.Both T21 T25
+  s23 = Relend.k-back-sl (Element.type) T21 16 5 4 9 y7 y8 Row.off (λ x. x) λ x. x
 
   abbrev s25 : Typed.Both T25 T27
-  s25 = Call.callB ps·1 r·1 (claims· .2) (claims· .3) T25 (record { pos = 8; st = List.[]; d = 0; at = λ x. x }, tt) 9 List.[] (Syntax.tyArray (Syntax.tyInt Syntax.w64) 1)
+  s25 = Call.callB ps·1 r·1 (claims· .2) (claims· .3) T25 (record { pos = 8; st = []; d = 0; at = λ x. x }, tt) 9 [] y0
 
   abbrev s26 : Typed.Both T27 T28
-  s26 = Call.callB ps·2 r·2 (claims· .4) (claims· .5) T27 (record { pos = 8; st = List.[]; d = 0; at = λ x. x }, tt) 10 List.[] (Syntax.tyArray (Syntax.tyInt Syntax.w64) 4)
+  s26 = Call.callB ps·2 r·2 (claims· .4) (claims· .5) T27 (record { pos = 8; st = []; d = 0; at = λ x. x }, tt) 10 [] y1
 
   abbrev s27 : Typed.Mo T28 → Typed.Mo T29
-  s27 = Scalar.n-room T28 8 (Syntax.tyEnum (List._∷_ 115 (List._∷_ 116 (List._∷_ 114 (List._∷_ 101 (List._∷_ 97 (List._∷_ 109 (List._∷_ 58 (List._∷_ 58 (List._∷_ 66 (List._∷_ 108 (List._∷_ 111
-      (List._∷_ 99 (List._∷_ 107 (List._∷_ 76 (List._∷_ 101 (List._∷_ 110 (List._∷_ 103 (List._∷_ 116 (List._∷_ 104 List.[]))))))))))))))))))) (Syntax.ttcons (Syntax.tcons (Syntax.tyInt Syntax.w64)
-      Syntax.tnil) (Syntax.ttcons (Syntax.tcons (Syntax.tyEnum (List._∷_ 115 (List._∷_ 116 (List._∷_ 114 (List._∷_ 101 (List._∷_ 97 (List._∷_ 109 (List._∷_ 58 (List._∷_ 58 (List._∷_ 82 (List._∷_ 101
-      (List._∷_ 102 (List._∷_ 117 (List._∷_ 115 (List._∷_ 97 (List._∷_ 108 List.[]))))))))))))))) (Syntax.ttcons Syntax.tnil (Syntax.ttcons Syntax.tnil (Syntax.ttcons Syntax.tnil (Syntax.ttcons
-      (Syntax.tcons (Syntax.tyInt Syntax.w64) Syntax.tnil) (Syntax.ttcons Syntax.tnil (Syntax.ttcons Syntax.tnil (Syntax.ttcons Syntax.tnil (Syntax.ttcons Syntax.tnil (Syntax.ttcons Syntax.tnil
-      (Syntax.ttcons Syntax.tnil (Syntax.ttcons (Syntax.tcons (Syntax.tyInt Syntax.w64) Syntax.tnil) (Syntax.ttcons (Syntax.tcons (Syntax.tyInt Syntax.w64) Syntax.tnil) (Syntax.ttcons Syntax.tnil
-      (Syntax.ttcons (Syntax.tcons (Syntax.tyInt Syntax.w64) (Syntax.tcons (Syntax.tyInt Syntax.w64) Syntax.tnil)) (Syntax.ttcons (Syntax.tcons (Syntax.tyInt Syntax.w64) Syntax.tnil) (Syntax.ttcons
-      Syntax.tnil (Syntax.ttcons Syntax.tnil (Syntax.ttcons (Syntax.tcons (Syntax.tyInt Syntax.w64) Syntax.tnil) (Syntax.ttcons (Syntax.tcons (Syntax.tyInt Syntax.w64) Syntax.tnil) (Syntax.ttcons
-      (Syntax.tcons (Syntax.tyInt Syntax.w64) Syntax.tnil) (Syntax.ttcons Syntax.tnil (Syntax.ttcons Syntax.tnil (Syntax.ttcons (Syntax.tcons (Syntax.tyInt Syntax.w64) (Syntax.tcons (Syntax.tyInt
-      Syntax.w64) Syntax.tnil)) (Syntax.ttcons Syntax.tnil Syntax.ttnil))))))))))))))))))))))))) Syntax.tnil) Syntax.ttnil)))
+  s27 = Scalar.n-room T28 8 y11
 
-  abbrev s28 : Typed.Mo T29 → Typed.Mo T30
-  s28 = DerefMove.n-ref-write-from T29 6 9 5 (Array'.Array (Referent.rtF (Referent.fInt Syntax.w64)) 1) (Syntax.tyRef (Syntax.named 5) Syntax.mut (Syntax.tyArray (Syntax.tyInt Syntax.w64) 1)) Row.off
-      (Rows.arrF (Referent.rtF (Referent.fInt Syntax.w64)) 1 0) (λ x. x) (λ x. x) λ x. x
+  abbrev s28 : Typed.Mo T29 → Typed.Mo T29
+  s28 = DerefMove.n-ref-write-from T29 6 9 5 (Array'.Array n64 1) y12 Row.off (Rows.arrF n64 1 0) (λ x. x) (λ x. x) λ x. x
 
-  abbrev s29 : Typed.Mo T30 → Typed.Mo T31
-  s29 = Scalar.n-room T30 9 (Syntax.tyArray (Syntax.tyInt Syntax.w64) 1)
+  abbrev s29 : Typed.Mo T29 → Typed.Mo T31
+  s29 = Scalar.n-room T29 9 y0
 
-  abbrev s30 : Typed.Mo T31 → Typed.Mo T32
-  s30 = DerefMove.n-ref-write-from T31 7 10 6 (Array'.Array (Referent.rtF (Referent.fInt Syntax.w64)) 4) (Syntax.tyRef (Syntax.named 6) Syntax.mut (Syntax.tyArray (Syntax.tyInt Syntax.w64) 4)) Row.off
-      (Rows.arrF (Referent.rtF (Referent.fInt Syntax.w64)) 4 0) (λ x. x) (λ x. x) λ x. x
+  abbrev s30 : Typed.Mo T31 → Typed.Mo T31
+  s30 = DerefMove.n-ref-write-from T31 7 10 6 (Array'.Array n64 4) y13 Row.off (Rows.arrF n64 4 0) (λ x. x) (λ x. x) λ x. x
 
-  abbrev s31 : Typed.Mo T32 → Typed.Mo T33
-  s31 = Scalar.n-room T32 10 (Syntax.tyArray (Syntax.tyInt Syntax.w64) 4)
+  abbrev s31 : Typed.Mo T31 → Typed.Mo T0
+  s31 = Scalar.n-room T31 10 y1
 
-  abbrev s32 : Typed.Mo T33 → Typed.Mo T34
-  s32 = Scalar.n-use T33 Scalar.oUnit 0 (Rows'.sc-here Row.sUnit) (Row.sUnit .of)
+  abbrev s32 : Typed.Mo T0 → Typed.Mo T1
+  s32 = Scalar.n-use T0 Scalar.oUnit 0 (Rows'.sc-here Row.sUnit) (Row.sUnit .of)
 
   module _ (Pre· : (κs : Lifetimes.Lfts 7) → Kinds.Dens κs ps → Type 0) (Post· : (κs : Lifetimes.Lfts 7) → (a : Kinds.Dens κs ps) → Kinds.Plain 7 ps r κs) where
     module _ (M : Type 1) where
@@ -616,23 +472,23 @@ module _ (claims· : Claims) where
           "stream::length_refusal") → Statement.Triple 𝓤 (Wp.WpFn 𝓤 H (𝓣 .C) (𝓣 .Λ) (Function.fnOf 7 ps r xs m hs body)) (Function.plainOf 𝓤 H A 7 ps r Pre· Post·)
 
     module _ where
-      abbrev at0 : Typed.TF T34 O0
+      abbrev at0 : Typed.TF T1 O0
       at0 = Typed.atRet O0
 
-      abbrev at1 : Typed.TF T33 O0
-      at1 = λ Ψ. Typed.pass T33 T34 s32 (at0 Ψ)
+      abbrev at1 : Typed.TF T0 O0
+      at1 = λ Ψ. Typed.pass T0 T1 s32 (at0 Ψ)
 
-      abbrev at2 : Typed.TF T32 O0
-      at2 = λ Ψ. Typed.pass T32 T33 s31 (at1 Ψ)
+      abbrev at2 : Typed.TF T31 O0
+      at2 = λ Ψ. Typed.pass T31 T0 s31 (at1 Ψ)
 
       abbrev at3 : Typed.TF T31 O0
-      at3 = λ Ψ. Typed.pass T31 T32 s30 (at2 Ψ)
+      at3 = λ Ψ. Typed.pass T31 T31 s30 (at2 Ψ)
 
-      abbrev at4 : Typed.TF T30 O0
-      at4 = λ Ψ. Typed.pass T30 T31 s29 (at3 Ψ)
+      abbrev at4 : Typed.TF T29 O0
+      at4 = λ Ψ. Typed.pass T29 T31 s29 (at3 Ψ)
 
       abbrev at5 : Typed.TF T29 O0
-      at5 = λ Ψ. Typed.pass T29 T30 s28 (at4 Ψ)
+      at5 = λ Ψ. Typed.pass T29 T29 s28 (at4 Ψ)
 
       abbrev at6 : Typed.TF T28 O0
       at6 = λ Ψ. Typed.pass T28 T29 s27 (at5 Ψ)
@@ -643,41 +499,23 @@ module _ (claims· : Claims) where
       abbrev at8 : Typed.TF T25 O0
       at8 = λ Ψ. Typed.both s25 (at7 Ψ)
 
-      abbrev at9 : Typed.TF T25 O0
-      at9 = λ Ψ. at8 Ψ
-
-      abbrev at10 : Typed.TF T22 O0
-      at10 = λ Ψ. Typed.both s23 (at9 Ψ)
-
-      abbrev at11 : Typed.TF T22 O0
-      at11 = λ Ψ. at10 Ψ
-
-      abbrev at12 : Typed.TF T22 O0
-      at12 = λ Ψ. at11 Ψ
+      abbrev at10 : Typed.TF T21 O0
+      at10 = λ Ψ. Typed.both s23 (at8 Ψ)
 
       abbrev at13 : Typed.TF T21 O0
-      at13 = λ Ψ. Typed.give s20 (at12 Ψ)
+      at13 = λ Ψ. Typed.give s20 (at10 Ψ)
 
-      abbrev at14 : Typed.TF T18 O0
+      abbrev at14 : Typed.TF T17 O0
       at14 = λ Ψ. Typed.both s19 (at13 Ψ)
 
-      abbrev at15 : Typed.TF T18 O0
-      at15 = λ Ψ. at14 Ψ
-
-      abbrev at16 : Typed.TF T18 O0
-      at16 = λ Ψ. at15 Ψ
-
       abbrev at17 : Typed.TF T17 O0
-      at17 = λ Ψ. Typed.give s16 (at16 Ψ)
+      at17 = λ Ψ. Typed.give s16 (at14 Ψ)
 
       abbrev at18 : Typed.TF T15 O0
       at18 = λ Ψ. Typed.both s15 (at17 Ψ)
 
-      abbrev at19 : Typed.TF T15 O0
-      at19 = λ Ψ. at18 Ψ
-
       abbrev at20 : Typed.TF T14 O0
-      at20 = λ Ψ. Typed.both s13 (at19 Ψ)
+      at20 = λ Ψ. Typed.both s13 (at18 Ψ)
 
       abbrev at21 : Typed.TF T13 O0
       at21 = λ Ψ. Typed.ask s12 (at20 Ψ)
@@ -685,34 +523,25 @@ module _ (claims· : Claims) where
       abbrev at22 : Typed.TF T11 O0
       at22 = λ Ψ. Typed.give s11 (at21 Ψ)
 
-      abbrev at23 : Typed.TF T11 O0
-      at23 = λ Ψ. at22 Ψ
-
       abbrev at24 : Typed.TF T10 O0
-      at24 = λ Ψ. Typed.ask s9 (at23 Ψ)
+      at24 = λ Ψ. Typed.ask s9 (at22 Ψ)
 
       abbrev at25 : Typed.TF T8 O0
       at25 = λ Ψ. Typed.give s8 (at24 Ψ)
 
-      abbrev at26 : Typed.TF T8 O0
-      at26 = λ Ψ. at25 Ψ
-
       abbrev at27 : Typed.TF T7 O0
-      at27 = λ Ψ. Typed.ask s6 (at26 Ψ)
+      at27 = λ Ψ. Typed.ask s6 (at25 Ψ)
 
-      abbrev at28 : Typed.TF T5 O0
+      abbrev at28 : Typed.TF T0 O0
       at28 = λ Ψ. Typed.give s5 (at27 Ψ)
 
-      abbrev at29 : Typed.TF T5 O0
-      at29 = λ Ψ. at28 Ψ
+      abbrev at30 : Typed.TF T0 O0
+      at30 = λ Ψ. Typed.give s3 (at28 Ψ)
 
-      abbrev at30 : Typed.TF T4 O0
-      at30 = λ Ψ. Typed.give s3 (at29 Ψ)
-
-      abbrev at31 : Typed.TF T3 O0
+      abbrev at31 : Typed.TF T0 O0
       at31 = λ Ψ. Typed.give s2 (at30 Ψ)
 
-      abbrev at32 : Typed.TF T2 O0
+      abbrev at32 : Typed.TF T0 O0
       at32 = λ Ψ. Typed.give s1 (at31 Ψ)
 
       abbrev at33 : Typed.TF T0 O0
@@ -727,619 +556,323 @@ module _ (claims· : Claims) where
             𝓤 H A W 𝓣 0 ps·2 r·2 (claims· .4) (claims· .5) "stream::length_refusal"
 
       module _ (κs : Lifetimes.Lfts 7) (qs : Lifetimes.Shares 7) where
+        abbrev k0 : Row.Life
+        k0 = Row.lease (κs .0) (qs .0)
+
+        abbrev k1 : Row.Life
+        k1 = Row.lease (κs .1 .0) (qs .1 .0)
+
+        abbrev k2 : Row.Life
+        k2 = Row.lease (κs .1 .1 .0) (qs .1 .1 .0)
+
+        abbrev k3 : Row.Life
+        k3 = Row.lease (κs .1 .1 .1 .0) (qs .1 .1 .1 .0)
+
+        abbrev k4 : Row.Life
+        k4 = Row.lease (κs .1 .1 .1 .1 .0) (qs .1 .1 .1 .1 .0)
+
+        abbrev k5 : Row.Life
+        k5 = Row.lease (κs .1 .1 .1 .1 .1 .0) (qs .1 .1 .1 .1 .1 .0)
+
+        abbrev k6 : Row.Life
+        k6 = Row.lease (κs .1 .1 .1 .1 .1 .1 .0) (qs .1 .1 .1 .1 .1 .1 .0)
+
+        abbrev l0 : List.List Row.Life
+        l0 = k0 ∷ k1 ∷ Row.off ∷ Row.off ∷ Row.off ∷ k5 ∷ k6 ∷ Row.alive ∷ Row.alive ∷ Row.alive ∷ []
+
+        abbrev l1 : List.List Row.Life
+        l1 = k0 ∷ k1 ∷ Row.off ∷ Row.off ∷ k4 ∷ k5 ∷ k6 ∷ Row.alive ∷ Row.alive ∷ Row.off ∷ []
+
+        abbrev l2 : List.List Row.Life
+        l2 = k0 ∷ k1 ∷ Row.off ∷ k3 ∷ k4 ∷ k5 ∷ k6 ∷ Row.alive ∷ Row.off ∷ Row.off ∷ []
+
+        abbrev l3 : List.List Row.Life
+        l3 = k0 ∷ k1 ∷ k2 ∷ Row.off ∷ Row.off ∷ k5 ∷ k6 ∷ Row.dead ∷ Row.alive ∷ Row.alive ∷ []
+
+        abbrev l4 : List.List Row.Life
+        l4 = k0 ∷ k1 ∷ k2 ∷ k3 ∷ Row.off ∷ k5 ∷ k6 ∷ Row.off ∷ Row.dead ∷ Row.alive ∷ []
+
+        abbrev l5 : List.List Row.Life
+        l5 = k0 ∷ k1 ∷ k2 ∷ k3 ∷ k4 ∷ k5 ∷ k6 ∷ Row.off ∷ Row.off ∷ Row.off ∷ []
+
+        abbrev h0 : Row.Row
+        h0 = Relend.mslice-owed n8 y5 2 7 k2
+
+        abbrev h1 : Row.Row
+        h1 = Relend.mslice-owed n16 y6 3 8 k3
+
+        abbrev h2 : Row.Row
+        h2 = Relend.mslice-owed (Element.type) y7 4 9 k4
+
         abbrev g3 : List.List Row.Entry
-        g3 = List._∷_ e0 (List._∷_ e1 (List._∷_ e16 (List._∷_
-            (3, Relend.mslice-owed (Referent.rtF (Referent.fInt Syntax.w8)) (Syntax.tyRef (Syntax.named 2) Syntax.mut (Syntax.tyInt Syntax.w8)) 2 7 (Row.lease (κs .1 .1 .0) (qs .1 .1 .0))) (List._∷_ e19
-            (List._∷_ e21 (List._∷_ e23 (List._∷_ e24 (List._∷_ e25 (List._∷_ e27 (List._∷_ e2 (List._∷_ e4 (List._∷_ e8 (List._∷_ e10 (List._∷_ e13 (List._∷_ e15 List.[])))))))))))))))
+        g3 = (0, v4) ∷ (1, v0) ∷ (2, v1) ∷ (3, h0) ∷ (4, v13) ∷ (5, v11) ∷ (6, v2) ∷ (7, v3) ∷ (8, v10) ∷ (9, v8) ∷ (10, v9) ∷ (11, Relend.msptr n8 y10 7) ∷ (12, v14) ∷ (13, v6) ∷ (14, v12) ∷ (15, v7)
+            ∷ []
 
         abbrev g4 : List.List Row.Entry
-        g4 = List._∷_ e0 (List._∷_ e1 (List._∷_ e16 (List._∷_
-            (3, Relend.mslice-owed (Referent.rtF (Referent.fInt Syntax.w8)) (Syntax.tyRef (Syntax.named 2) Syntax.mut (Syntax.tyInt Syntax.w8)) 2 7 (Row.lease (κs .1 .1 .0) (qs .1 .1 .0))) (List._∷_ e19
-            (List._∷_ e21 (List._∷_ e23 (List._∷_ e24 (List._∷_ e25 (List._∷_ e27 (List._∷_ e2 (List._∷_ e5 (List._∷_ e7 (List._∷_ e10 (List._∷_ e13 (List._∷_ e15 List.[])))))))))))))))
+        g4 = (0, v4) ∷ (1, v0) ∷ (2, v1) ∷ (3, h0) ∷ (4, v13) ∷ (5, v11) ∷ (6, v2) ∷ (7, v3) ∷ (8, v10) ∷ (9, v8) ∷ (10, v9) ∷ (11, v5) ∷ (12, v16) ∷ (13, v6) ∷ (14, v12) ∷ (15, v7) ∷ []
 
         abbrev g5 : List.List Row.Entry
-        g5 = List._∷_ e0 (List._∷_ e1 (List._∷_ e16 (List._∷_
-            (3, Relend.mslice-owed (Referent.rtF (Referent.fInt Syntax.w8)) (Syntax.tyRef (Syntax.named 2) Syntax.mut (Syntax.tyInt Syntax.w8)) 2 7 (Row.lease (κs .1 .1 .0) (qs .1 .1 .0))) (List._∷_
-            (4, Relend.mslice-owed (Referent.rtF (Referent.fInt Syntax.w16)) (Syntax.tyRef (Syntax.named 3) Syntax.mut (Syntax.tyInt Syntax.w16)) 3 8 (Row.lease (κs .1 .1 .1 .0) (qs .1 .1 .1 .0)))
-            (List._∷_ e21 (List._∷_ e23 (List._∷_ e24 (List._∷_ e25 (List._∷_ e27 (List._∷_ e2 (List._∷_ e5 (List._∷_ e7 (List._∷_ e9 (List._∷_ e13 (List._∷_ e15 List.[])))))))))))))))
+        g5 = (0, v4) ∷ (1, v0) ∷ (2, v1) ∷ (3, h0) ∷ (4, h1) ∷ (5, v11) ∷ (6, v2) ∷ (7, v3) ∷ (8, v10) ∷ (9, v8) ∷ (10, v9) ∷ (11, v5) ∷ (12, v16) ∷ (13, Relend.msptr n16 y9 8) ∷ (14, v12) ∷ (15, v7)
+            ∷ []
 
         abbrev g6 : List.List Row.Entry
-        g6 = List._∷_ e0 (List._∷_ e1 (List._∷_ e16 (List._∷_
-            (3, Relend.mslice-owed (Referent.rtF (Referent.fInt Syntax.w8)) (Syntax.tyRef (Syntax.named 2) Syntax.mut (Syntax.tyInt Syntax.w8)) 2 7 (Row.lease (κs .1 .1 .0) (qs .1 .1 .0))) (List._∷_
-            (4, Relend.mslice-owed (Referent.rtF (Referent.fInt Syntax.w16)) (Syntax.tyRef (Syntax.named 3) Syntax.mut (Syntax.tyInt Syntax.w16)) 3 8 (Row.lease (κs .1 .1 .1 .0) (qs .1 .1 .1 .0)))
-            (List._∷_ e21 (List._∷_ e23 (List._∷_ e24 (List._∷_ e25 (List._∷_ e27 (List._∷_ e2 (List._∷_ e5 (List._∷_ e7 (List._∷_ e10 (List._∷_ e12 (List._∷_ e15 List.[])))))))))))))))
+        g6 = (0, v4) ∷ (1, v0) ∷ (2, v1) ∷ (3, h0) ∷ (4, h1) ∷ (5, v11) ∷ (6, v2) ∷ (7, v3) ∷ (8, v10) ∷ (9, v8) ∷ (10, v9) ∷ (11, v5) ∷ (12, v16) ∷ (13, v6) ∷ (14, v20) ∷ (15, v7) ∷ []
 
         abbrev g7 : List.List Row.Entry
-        g7 = List._∷_ e0 (List._∷_ e1 (List._∷_ e16 (List._∷_
-            (3, Relend.mslice-owed (Referent.rtF (Referent.fInt Syntax.w8)) (Syntax.tyRef (Syntax.named 2) Syntax.mut (Syntax.tyInt Syntax.w8)) 2 7 (Row.lease (κs .1 .1 .0) (qs .1 .1 .0))) (List._∷_
-            (4, Relend.mslice-owed (Referent.rtF (Referent.fInt Syntax.w16)) (Syntax.tyRef (Syntax.named 3) Syntax.mut (Syntax.tyInt Syntax.w16)) 3 8 (Row.lease (κs .1 .1 .1 .0) (qs .1 .1 .1 .0)))
-            (List._∷_ (5, Relend.mslice-owed (Element.type) (Syntax.tyRef (Syntax.named 4) Syntax.mut Element.behind) 4 9 (Row.lease (κs .1 .1 .1 .1 .0) (qs .1 .1 .1 .1 .0))) (List._∷_ e23 (List._∷_ e24
-            (List._∷_ e25 (List._∷_ e27 (List._∷_ e2 (List._∷_ e5 (List._∷_ e7 (List._∷_ e10 (List._∷_ e12 (List._∷_ e14 List.[])))))))))))))))
+        g7 = (0, v4) ∷ (1, v0) ∷ (2, v1) ∷ (3, h0) ∷ (4, h1) ∷ (5, h2) ∷ (6, v2) ∷ (7, v3) ∷ (8, v10) ∷ (9, v8) ∷ (10, v9) ∷ (11, v5) ∷ (12, v16) ∷ (13, v6) ∷ (14, v20) ∷
+            (15, Relend.msptr (Element.type) y8 9) ∷ []
 
         abbrev g8 : List.List Row.Entry
-        g8 = List._∷_ e0 (List._∷_ e1 (List._∷_ e16 (List._∷_
-            (3, Relend.mslice-owed (Referent.rtF (Referent.fInt Syntax.w8)) (Syntax.tyRef (Syntax.named 2) Syntax.mut (Syntax.tyInt Syntax.w8)) 2 7 (Row.lease (κs .1 .1 .0) (qs .1 .1 .0))) (List._∷_
-            (4, Relend.mslice-owed (Referent.rtF (Referent.fInt Syntax.w16)) (Syntax.tyRef (Syntax.named 3) Syntax.mut (Syntax.tyInt Syntax.w16)) 3 8 (Row.lease (κs .1 .1 .1 .0) (qs .1 .1 .1 .0)))
-            (List._∷_ (5, Relend.mslice-owed (Element.type) (Syntax.tyRef (Syntax.named 4) Syntax.mut Element.behind) 4 9 (Row.lease (κs .1 .1 .1 .1 .0) (qs .1 .1 .1 .1 .0))) (List._∷_ e23 (List._∷_ e24
-            (List._∷_ e25 (List._∷_ e27 (List._∷_ e2 (List._∷_ e5 (List._∷_ e7 (List._∷_ e10 (List._∷_ e12 (List._∷_ e15 List.[])))))))))))))))
+        g8 = (0, v4) ∷ (1, v0) ∷ (2, v1) ∷ (3, h0) ∷ (4, h1) ∷ (5, h2) ∷ (6, v2) ∷ (7, v3) ∷ (8, v10) ∷ (9, v8) ∷ (10, v9) ∷ (11, v5) ∷ (12, v16) ∷ (13, v6) ∷ (14, v20) ∷ (15, v7) ∷ []
 
         abbrev g10 : List.List Row.Entry
-        g10 = List._∷_ e0 (List._∷_ e1 (List._∷_ e16 (List._∷_
-            (3, Relend.mslice-owed (Referent.rtF (Referent.fInt Syntax.w8)) (Syntax.tyRef (Syntax.named 2) Syntax.mut (Syntax.tyInt Syntax.w8)) 2 7 (Row.lease (κs .1 .1 .0) (qs .1 .1 .0))) (List._∷_
-            (4, Relend.mslice-owed (Referent.rtF (Referent.fInt Syntax.w16)) (Syntax.tyRef (Syntax.named 3) Syntax.mut (Syntax.tyInt Syntax.w16)) 3 8 (Row.lease (κs .1 .1 .1 .0) (qs .1 .1 .1 .0)))
-            (List._∷_ (5, Relend.mslice-owed (Element.type) (Syntax.tyRef (Syntax.named 4) Syntax.mut Element.behind) 4 9 (Row.lease (κs .1 .1 .1 .1 .0) (qs .1 .1 .1 .1 .0))) (List._∷_ e23 (List._∷_ e24
-            (List._∷_ e26 (List._∷_ e27 (List._∷_ e2 (List._∷_ e5 (List._∷_ e6 (List._∷_ e10 (List._∷_ e11 (List._∷_ e15 List.[])))))))))))))))
+        g10 = (0, v4) ∷ (1, v0) ∷ (2, v1) ∷ (3, h0) ∷ (4, h1) ∷ (5, h2) ∷ (6, v2) ∷ (7, v3) ∷ (8, v17) ∷ (9, v8) ∷ (10, v9) ∷ (11, v5) ∷ (12, Mut.msleft n8 y10) ∷ (13, v6) ∷ (14, v22) ∷ (15, v7) ∷ []
 
         abbrev g12 : List.List Row.Entry
-        g12 = List._∷_ e0 (List._∷_ e1 (List._∷_ e16 (List._∷_ e17 (List._∷_
-            (4, Relend.mslice-owed (Referent.rtF (Referent.fInt Syntax.w16)) (Syntax.tyRef (Syntax.named 3) Syntax.mut (Syntax.tyInt Syntax.w16)) 3 8 (Row.lease (κs .1 .1 .1 .0) (qs .1 .1 .1 .0)))
-            (List._∷_ (5, Relend.mslice-owed (Element.type) (Syntax.tyRef (Syntax.named 4) Syntax.mut Element.behind) 4 9 (Row.lease (κs .1 .1 .1 .1 .0) (qs .1 .1 .1 .1 .0))) (List._∷_ e23 (List._∷_ e24
-            (List._∷_ e26 (List._∷_ e27 (List._∷_ e2 (List._∷_ e5 (List._∷_ e8 (List._∷_ e10 (List._∷_ e11 (List._∷_ e15 List.[])))))))))))))))
+        g12 = (0, v4) ∷ (1, v0) ∷ (2, v1) ∷ (3, v15) ∷ (4, h1) ∷ (5, h2) ∷ (6, v2) ∷ (7, v3) ∷ (8, v17) ∷ (9, v8) ∷ (10, v9) ∷ (11, v5) ∷ (12, v14) ∷ (13, v6) ∷ (14, v22) ∷ (15, v7) ∷ []
 
         abbrev g13 : List.List Row.Entry
-        g13 = List._∷_ e0 (List._∷_ e1 (List._∷_ e16 (List._∷_ e17 (List._∷_ e19 (List._∷_
-            (5, Relend.mslice-owed (Element.type) (Syntax.tyRef (Syntax.named 4) Syntax.mut Element.behind) 4 9 (Row.lease (κs .1 .1 .1 .1 .0) (qs .1 .1 .1 .1 .0))) (List._∷_ e23 (List._∷_ e24 (List._∷_
-            e26 (List._∷_ e27 (List._∷_ e2 (List._∷_ e5 (List._∷_ e8 (List._∷_ e10 (List._∷_ e13 (List._∷_ e15 List.[])))))))))))))))
-
-        abbrev G0 : Row.Cx
-        G0 = record {
-          locals = List._++_ t0 t1;
-          slots = List._∷_ (Row.lease (κs .0) (qs .0)) (List._∷_ (Row.lease (κs .1 .0) (qs .1 .0)) (List._∷_ (Row.lease (κs .1 .1 .0) (qs .1 .1 .0)) (List._∷_ (Row.lease (κs
-              .1 .1 .1 .0) (qs .1 .1 .1 .0)) (List._∷_ (Row.lease (κs .1 .1 .1 .1 .0) (qs .1 .1 .1 .1 .0)) (List._∷_ (Row.lease (κs .1 .1 .1 .1 .1 .0) (qs .1 .1 .1 .1 .1 .0)) (List._∷_ (Row.lease (κs .1 .1
-              .1 .1 .1 .1 .0) (qs .1 .1 .1 .1 .1 .1 .0)) (List._∷_ Row.off (List._∷_ Row.off (List._∷_ Row.off List.[])))))))));
-        }
-
-        abbrev G1 : Row.Cx
-        G1 = record {
-          locals = List._++_ t2 t1;
-          slots = List._∷_ (Row.lease (κs .0) (qs .0)) (List._∷_ (Row.lease (κs .1 .0) (qs .1 .0)) (List._∷_ (Row.lease (κs .1 .1 .0) (qs .1 .1 .0)) (List._∷_ (Row.lease (κs
-              .1 .1 .1 .0) (qs .1 .1 .1 .0)) (List._∷_ (Row.lease (κs .1 .1 .1 .1 .0) (qs .1 .1 .1 .1 .0)) (List._∷_ (Row.lease (κs .1 .1 .1 .1 .1 .0) (qs .1 .1 .1 .1 .1 .0)) (List._∷_ (Row.lease (κs .1 .1
-              .1 .1 .1 .1 .0) (qs .1 .1 .1 .1 .1 .1 .0)) (List._∷_ Row.off (List._∷_ Row.off (List._∷_ Row.off List.[])))))))));
-        }
-
-        abbrev G2 : Row.Cx
-        G2 = record {
-          locals = List._++_ t0 t1;
-          slots = List._∷_ (Row.lease (κs .0) (qs .0)) (List._∷_ (Row.lease (κs .1 .0) (qs .1 .0)) (List._∷_ (Row.lease (κs .1 .1 .0) (qs .1 .1 .0)) (List._∷_ (Row.lease (κs
-              .1 .1 .1 .0) (qs .1 .1 .1 .0)) (List._∷_ (Row.lease (κs .1 .1 .1 .1 .0) (qs .1 .1 .1 .1 .0)) (List._∷_ (Row.lease (κs .1 .1 .1 .1 .1 .0) (qs .1 .1 .1 .1 .1 .0)) (List._∷_ (Row.lease (κs .1 .1
-              .1 .1 .1 .1 .0) (qs .1 .1 .1 .1 .1 .1 .0)) (List._∷_ Row.off (List._∷_ Row.off (List._∷_ Row.off List.[])))))))));
-        }
-
-        abbrev G3 : Row.Cx
-        G3 = record {
-          locals = List._++_ t0 t1;
-          slots = List._∷_ (Row.lease (κs .0) (qs .0)) (List._∷_ (Row.lease (κs .1 .0) (qs .1 .0)) (List._∷_ (Row.lease (κs .1 .1 .0) (qs .1 .1 .0)) (List._∷_ (Row.lease (κs
-              .1 .1 .1 .0) (qs .1 .1 .1 .0)) (List._∷_ (Row.lease (κs .1 .1 .1 .1 .0) (qs .1 .1 .1 .1 .0)) (List._∷_ (Row.lease (κs .1 .1 .1 .1 .1 .0) (qs .1 .1 .1 .1 .1 .0)) (List._∷_ (Row.lease (κs .1 .1
-              .1 .1 .1 .1 .0) (qs .1 .1 .1 .1 .1 .1 .0)) (List._∷_ Row.off (List._∷_ Row.off (List._∷_ Row.off List.[])))))))));
-        }
-
-        abbrev G4 : Row.Cx
-        G4 = record {
-          locals = List._++_ t0 t1;
-          slots = List._∷_ (Row.lease (κs .0) (qs .0)) (List._∷_ (Row.lease (κs .1 .0) (qs .1 .0)) (List._∷_ (Row.lease (κs .1 .1 .0) (qs .1 .1 .0)) (List._∷_ (Row.lease (κs
-              .1 .1 .1 .0) (qs .1 .1 .1 .0)) (List._∷_ (Row.lease (κs .1 .1 .1 .1 .0) (qs .1 .1 .1 .1 .0)) (List._∷_ (Row.lease (κs .1 .1 .1 .1 .1 .0) (qs .1 .1 .1 .1 .1 .0)) (List._∷_ (Row.lease (κs .1 .1
-              .1 .1 .1 .1 .0) (qs .1 .1 .1 .1 .1 .1 .0)) (List._∷_ Row.off (List._∷_ Row.off (List._∷_ Row.off List.[])))))))));
-        }
-
-        abbrev G5 : Row.Cx
-        G5 = record {
-          locals = List._++_ t0 t1;
-          slots = List._∷_ (Row.lease (κs .0) (qs .0)) (List._∷_ (Row.lease (κs .1 .0) (qs .1 .0)) (List._∷_ (Row.lease (κs .1 .1 .0) (qs .1 .1 .0)) (List._∷_ (Row.lease (κs
-              .1 .1 .1 .0) (qs .1 .1 .1 .0)) (List._∷_ (Row.lease (κs .1 .1 .1 .1 .0) (qs .1 .1 .1 .1 .0)) (List._∷_ (Row.lease (κs .1 .1 .1 .1 .1 .0) (qs .1 .1 .1 .1 .1 .0)) (List._∷_ (Row.lease (κs .1 .1
-              .1 .1 .1 .1 .0) (qs .1 .1 .1 .1 .1 .1 .0)) (List._∷_ Row.off (List._∷_ Row.off (List._∷_ Row.off List.[])))))))));
-        }
+        g13 = (0, v4) ∷ (1, v0) ∷ (2, v1) ∷ (3, v15) ∷ (4, v13) ∷ (5, h2) ∷ (6, v2) ∷ (7, v3) ∷ (8, v17) ∷ (9, v8) ∷ (10, v9) ∷ (11, v5) ∷ (12, v14) ∷ (13, v6) ∷ (14, v12) ∷ (15, v7) ∷ []
 
         abbrev G6 : Row.Cx
-        G6 = record {
-          locals = List._++_ t0 t1;
-          slots = List._∷_ (Row.lease (κs .0) (qs .0)) (List._∷_ (Row.lease (κs .1 .0) (qs .1 .0)) (List._∷_ (Row.lease (κs .1 .1 .0) (qs .1 .1 .0)) (List._∷_ (Row.lease (κs
-              .1 .1 .1 .0) (qs .1 .1 .1 .0)) (List._∷_ (Row.lease (κs .1 .1 .1 .1 .0) (qs .1 .1 .1 .1 .0)) (List._∷_ (Row.lease (κs .1 .1 .1 .1 .1 .0) (qs .1 .1 .1 .1 .1 .0)) (List._∷_ (Row.lease (κs .1 .1
-              .1 .1 .1 .1 .0) (qs .1 .1 .1 .1 .1 .1 .0)) (List._∷_ Row.alive (List._∷_ Row.off (List._∷_ Row.off List.[])))))))));
-        }
+        G6 = record { locals = List._++_ t0 t1; slots = k0 ∷ k1 ∷ k2 ∷ k3 ∷ k4 ∷ k5 ∷ k6 ∷ Row.alive ∷ Row.off ∷ Row.off ∷ [] }
 
         abbrev G7 : Row.Cx
-        G7 = record {
-          locals = List._++_ g3 t1;
-          slots = List._∷_ (Row.lease (κs .0) (qs .0)) (List._∷_ (Row.lease (κs .1 .0) (qs .1 .0)) (List._∷_ Row.off (List._∷_ (Row.lease (κs .1 .1 .1 .0) (qs .1 .1 .1 .0))
-              (List._∷_ (Row.lease (κs .1 .1 .1 .1 .0) (qs .1 .1 .1 .1 .0)) (List._∷_ (Row.lease (κs .1 .1 .1 .1 .1 .0) (qs .1 .1 .1 .1 .1 .0)) (List._∷_ (Row.lease (κs .1 .1 .1 .1 .1 .1 .0) (qs .1 .1 .1 .1
-              .1 .1 .0)) (List._∷_ Row.alive (List._∷_ Row.off (List._∷_ Row.off List.[])))))))));
-        }
+        G7 = record { locals = List._++_ g3 t1; slots = l2 }
 
         abbrev G8 : Row.Cx
-        G8 = record {
-          locals = List._++_ g4 t1;
-          slots = List._∷_ (Row.lease (κs .0) (qs .0)) (List._∷_ (Row.lease (κs .1 .0) (qs .1 .0)) (List._∷_ Row.off (List._∷_ (Row.lease (κs .1 .1 .1 .0) (qs .1 .1 .1 .0))
-              (List._∷_ (Row.lease (κs .1 .1 .1 .1 .0) (qs .1 .1 .1 .1 .0)) (List._∷_ (Row.lease (κs .1 .1 .1 .1 .1 .0) (qs .1 .1 .1 .1 .1 .0)) (List._∷_ (Row.lease (κs .1 .1 .1 .1 .1 .1 .0) (qs .1 .1 .1 .1
-              .1 .1 .0)) (List._∷_ Row.alive (List._∷_ Row.off (List._∷_ Row.off List.[])))))))));
-        }
+        G8 = record { locals = List._++_ g4 t1; slots = l2 }
 
         abbrev G9 : Row.Cx
-        G9 = record {
-          locals = List._++_ g4 t1;
-          slots = List._∷_ (Row.lease (κs .0) (qs .0)) (List._∷_ (Row.lease (κs .1 .0) (qs .1 .0)) (List._∷_ Row.off (List._∷_ (Row.lease (κs .1 .1 .1 .0) (qs .1 .1 .1 .0))
-              (List._∷_ (Row.lease (κs .1 .1 .1 .1 .0) (qs .1 .1 .1 .1 .0)) (List._∷_ (Row.lease (κs .1 .1 .1 .1 .1 .0) (qs .1 .1 .1 .1 .1 .0)) (List._∷_ (Row.lease (κs .1 .1 .1 .1 .1 .1 .0) (qs .1 .1 .1 .1
-              .1 .1 .0)) (List._∷_ Row.alive (List._∷_ Row.alive (List._∷_ Row.off List.[])))))))));
-        }
+        G9 = record { locals = List._++_ g4 t1; slots = k0 ∷ k1 ∷ Row.off ∷ k3 ∷ k4 ∷ k5 ∷ k6 ∷ Row.alive ∷ Row.alive ∷ Row.off ∷ [] }
 
         abbrev G10 : Row.Cx
-        G10 = record {
-          locals = List._++_ g5 t1;
-          slots = List._∷_ (Row.lease (κs .0) (qs .0)) (List._∷_ (Row.lease (κs .1 .0) (qs .1 .0)) (List._∷_ Row.off (List._∷_ Row.off (List._∷_ (Row.lease (κs .1 .1 .1 .1
-              .0) (qs .1 .1 .1 .1 .0)) (List._∷_ (Row.lease (κs .1 .1 .1 .1 .1 .0) (qs .1 .1 .1 .1 .1 .0)) (List._∷_ (Row.lease (κs .1 .1 .1 .1 .1 .1 .0) (qs .1 .1 .1 .1 .1 .1 .0)) (List._∷_ Row.alive
-              (List._∷_ Row.alive (List._∷_ Row.off List.[])))))))));
-        }
+        G10 = record { locals = List._++_ g5 t1; slots = l1 }
 
         abbrev G11 : Row.Cx
-        G11 = record {
-          locals = List._++_ g6 t1;
-          slots = List._∷_ (Row.lease (κs .0) (qs .0)) (List._∷_ (Row.lease (κs .1 .0) (qs .1 .0)) (List._∷_ Row.off (List._∷_ Row.off (List._∷_ (Row.lease (κs .1 .1 .1 .1
-              .0) (qs .1 .1 .1 .1 .0)) (List._∷_ (Row.lease (κs .1 .1 .1 .1 .1 .0) (qs .1 .1 .1 .1 .1 .0)) (List._∷_ (Row.lease (κs .1 .1 .1 .1 .1 .1 .0) (qs .1 .1 .1 .1 .1 .1 .0)) (List._∷_ Row.alive
-              (List._∷_ Row.alive (List._∷_ Row.off List.[])))))))));
-        }
+        G11 = record { locals = List._++_ g6 t1; slots = l1 }
 
         abbrev G12 : Row.Cx
-        G12 = record {
-          locals = List._++_ g6 t1;
-          slots = List._∷_ (Row.lease (κs .0) (qs .0)) (List._∷_ (Row.lease (κs .1 .0) (qs .1 .0)) (List._∷_ Row.off (List._∷_ Row.off (List._∷_ (Row.lease (κs .1 .1 .1 .1
-              .0) (qs .1 .1 .1 .1 .0)) (List._∷_ (Row.lease (κs .1 .1 .1 .1 .1 .0) (qs .1 .1 .1 .1 .1 .0)) (List._∷_ (Row.lease (κs .1 .1 .1 .1 .1 .1 .0) (qs .1 .1 .1 .1 .1 .1 .0)) (List._∷_ Row.alive
-              (List._∷_ Row.alive (List._∷_ Row.alive List.[])))))))));
-        }
+        G12 = record { locals = List._++_ g6 t1; slots = k0 ∷ k1 ∷ Row.off ∷ Row.off ∷ k4 ∷ k5 ∷ k6 ∷ Row.alive ∷ Row.alive ∷ Row.alive ∷ [] }
 
         abbrev G13 : Row.Cx
-        G13 = record {
-          locals = List._++_ g7 t1;
-          slots = List._∷_ (Row.lease (κs .0) (qs .0)) (List._∷_ (Row.lease (κs .1 .0) (qs .1 .0)) (List._∷_ Row.off (List._∷_ Row.off (List._∷_ Row.off (List._∷_ (Row.lease
-              (κs .1 .1 .1 .1 .1 .0) (qs .1 .1 .1 .1 .1 .0)) (List._∷_ (Row.lease (κs .1 .1 .1 .1 .1 .1 .0) (qs .1 .1 .1 .1 .1 .1 .0)) (List._∷_ Row.alive (List._∷_ Row.alive (List._∷_ Row.alive
-              List.[])))))))));
-        }
+        G13 = record { locals = List._++_ g7 t1; slots = l0 }
 
         abbrev G14 : Row.Cx
-        G14 = record {
-          locals = List._++_ g8 t9;
-          slots = List._∷_ (Row.lease (κs .0) (qs .0)) (List._∷_ (Row.lease (κs .1 .0) (qs .1 .0)) (List._∷_ Row.off (List._∷_ Row.off (List._∷_ Row.off (List._∷_ (Row.lease
-              (κs .1 .1 .1 .1 .1 .0) (qs .1 .1 .1 .1 .1 .0)) (List._∷_ (Row.lease (κs .1 .1 .1 .1 .1 .1 .0) (qs .1 .1 .1 .1 .1 .1 .0)) (List._∷_ Row.alive (List._∷_ Row.alive (List._∷_ Row.alive
-              List.[])))))))));
-        }
+        G14 = record { locals = List._++_ g8 t9; slots = l0 }
 
         abbrev G15 : Row.Cx
-        G15 = record {
-          locals = List._++_ g10 t11;
-          slots = List._∷_ (Row.lease (κs .0) (qs .0)) (List._∷_ (Row.lease (κs .1 .0) (qs .1 .0)) (List._∷_ Row.off (List._∷_ Row.off (List._∷_ Row.off (List._∷_
-              (Row.lease (κs .1 .1 .1 .1 .1 .0) (qs .1 .1 .1 .1 .1 .0)) (List._∷_ (Row.lease (κs .1 .1 .1 .1 .1 .1 .0) (qs .1 .1 .1 .1 .1 .1 .0)) (List._∷_ Row.alive (List._∷_ Row.alive (List._∷_ Row.alive
-              List.[])))))))));
-        }
+        G15 = record { locals = List._++_ g10 t11; slots = l0 }
 
         abbrev G16 : Row.Cx
-        G16 = record {
-          locals = List._++_ g10 t11;
-          slots = List._∷_ (Row.lease (κs .0) (qs .0)) (List._∷_ (Row.lease (κs .1 .0) (qs .1 .0)) (List._∷_ Row.off (List._∷_ Row.off (List._∷_ Row.off (List._∷_
-              (Row.lease (κs .1 .1 .1 .1 .1 .0) (qs .1 .1 .1 .1 .1 .0)) (List._∷_ (Row.lease (κs .1 .1 .1 .1 .1 .1 .0) (qs .1 .1 .1 .1 .1 .1 .0)) (List._∷_ Row.dead (List._∷_ Row.alive (List._∷_ Row.alive
-              List.[])))))))));
-        }
+        G16 = record { locals = List._++_ g10 t11; slots = k0 ∷ k1 ∷ Row.off ∷ Row.off ∷ Row.off ∷ k5 ∷ k6 ∷ Row.dead ∷ Row.alive ∷ Row.alive ∷ [] }
 
         abbrev G17 : Row.Cx
-        G17 = record {
-          locals = List._++_ g12 t11;
-          slots = List._∷_ (Row.lease (κs .0) (qs .0)) (List._∷_ (Row.lease (κs .1 .0) (qs .1 .0)) (List._∷_ (Row.lease (κs .1 .1 .0) (qs .1 .1 .0)) (List._∷_ Row.off
-              (List._∷_ Row.off (List._∷_ (Row.lease (κs .1 .1 .1 .1 .1 .0) (qs .1 .1 .1 .1 .1 .0)) (List._∷_ (Row.lease (κs .1 .1 .1 .1 .1 .1 .0) (qs .1 .1 .1 .1 .1 .1 .0)) (List._∷_ Row.dead (List._∷_
-              Row.alive (List._∷_ Row.alive List.[])))))))));
-        }
-
-        abbrev G18 : Row.Cx
-        G18 = record {
-          locals = List._++_ g12 t11;
-          slots = List._∷_ (Row.lease (κs .0) (qs .0)) (List._∷_ (Row.lease (κs .1 .0) (qs .1 .0)) (List._∷_ (Row.lease (κs .1 .1 .0) (qs .1 .1 .0)) (List._∷_ Row.off
-              (List._∷_ Row.off (List._∷_ (Row.lease (κs .1 .1 .1 .1 .1 .0) (qs .1 .1 .1 .1 .1 .0)) (List._∷_ (Row.lease (κs .1 .1 .1 .1 .1 .1 .0) (qs .1 .1 .1 .1 .1 .1 .0)) (List._∷_ Row.dead (List._∷_
-              Row.alive (List._∷_ Row.alive List.[])))))))));
-        }
+        G17 = record { locals = List._++_ g12 t11; slots = l3 }
 
         abbrev G19 : Row.Cx
-        G19 = record {
-          locals = List._++_ g12 t11;
-          slots = List._∷_ (Row.lease (κs .0) (qs .0)) (List._∷_ (Row.lease (κs .1 .0) (qs .1 .0)) (List._∷_ (Row.lease (κs .1 .1 .0) (qs .1 .1 .0)) (List._∷_ Row.off
-              (List._∷_ Row.off (List._∷_ (Row.lease (κs .1 .1 .1 .1 .1 .0) (qs .1 .1 .1 .1 .1 .0)) (List._∷_ (Row.lease (κs .1 .1 .1 .1 .1 .1 .0) (qs .1 .1 .1 .1 .1 .1 .0)) (List._∷_ Row.off (List._∷_
-              Row.alive (List._∷_ Row.alive List.[])))))))));
-        }
+        G19 = record { locals = List._++_ g12 t11; slots = k0 ∷ k1 ∷ k2 ∷ Row.off ∷ Row.off ∷ k5 ∷ k6 ∷ Row.off ∷ Row.alive ∷ Row.alive ∷ [] }
 
         abbrev G20 : Row.Cx
-        G20 = record {
-          locals = List._++_ g12 t11;
-          slots = List._∷_ (Row.lease (κs .0) (qs .0)) (List._∷_ (Row.lease (κs .1 .0) (qs .1 .0)) (List._∷_ (Row.lease (κs .1 .1 .0) (qs .1 .1 .0)) (List._∷_ Row.off
-              (List._∷_ Row.off (List._∷_ (Row.lease (κs .1 .1 .1 .1 .1 .0) (qs .1 .1 .1 .1 .1 .0)) (List._∷_ (Row.lease (κs .1 .1 .1 .1 .1 .1 .0) (qs .1 .1 .1 .1 .1 .1 .0)) (List._∷_ Row.off (List._∷_
-              Row.dead (List._∷_ Row.alive List.[])))))))));
-        }
+        G20 = record { locals = List._++_ g12 t11; slots = k0 ∷ k1 ∷ k2 ∷ Row.off ∷ Row.off ∷ k5 ∷ k6 ∷ Row.off ∷ Row.dead ∷ Row.alive ∷ [] }
 
         abbrev G21 : Row.Cx
-        G21 = record {
-          locals = List._++_ g13 t11;
-          slots = List._∷_ (Row.lease (κs .0) (qs .0)) (List._∷_ (Row.lease (κs .1 .0) (qs .1 .0)) (List._∷_ (Row.lease (κs .1 .1 .0) (qs .1 .1 .0)) (List._∷_ (Row.lease
-              (κs .1 .1 .1 .0) (qs .1 .1 .1 .0)) (List._∷_ Row.off (List._∷_ (Row.lease (κs .1 .1 .1 .1 .1 .0) (qs .1 .1 .1 .1 .1 .0)) (List._∷_ (Row.lease (κs .1 .1 .1 .1 .1 .1 .0) (qs .1 .1 .1 .1 .1 .1
-              .0)) (List._∷_ Row.off (List._∷_ Row.dead (List._∷_ Row.alive List.[])))))))));
-        }
-
-        abbrev G22 : Row.Cx
-        G22 = record {
-          locals = List._++_ g13 t11;
-          slots = List._∷_ (Row.lease (κs .0) (qs .0)) (List._∷_ (Row.lease (κs .1 .0) (qs .1 .0)) (List._∷_ (Row.lease (κs .1 .1 .0) (qs .1 .1 .0)) (List._∷_ (Row.lease
-              (κs .1 .1 .1 .0) (qs .1 .1 .1 .0)) (List._∷_ Row.off (List._∷_ (Row.lease (κs .1 .1 .1 .1 .1 .0) (qs .1 .1 .1 .1 .1 .0)) (List._∷_ (Row.lease (κs .1 .1 .1 .1 .1 .1 .0) (qs .1 .1 .1 .1 .1 .1
-              .0)) (List._∷_ Row.off (List._∷_ Row.dead (List._∷_ Row.alive List.[])))))))));
-        }
+        G21 = record { locals = List._++_ g13 t11; slots = l4 }
 
         abbrev G23 : Row.Cx
-        G23 = record {
-          locals = List._++_ g13 t11;
-          slots = List._∷_ (Row.lease (κs .0) (qs .0)) (List._∷_ (Row.lease (κs .1 .0) (qs .1 .0)) (List._∷_ (Row.lease (κs .1 .1 .0) (qs .1 .1 .0)) (List._∷_ (Row.lease
-              (κs .1 .1 .1 .0) (qs .1 .1 .1 .0)) (List._∷_ Row.off (List._∷_ (Row.lease (κs .1 .1 .1 .1 .1 .0) (qs .1 .1 .1 .1 .1 .0)) (List._∷_ (Row.lease (κs .1 .1 .1 .1 .1 .1 .0) (qs .1 .1 .1 .1 .1 .1
-              .0)) (List._∷_ Row.off (List._∷_ Row.off (List._∷_ Row.alive List.[])))))))));
-        }
+        G23 = record { locals = List._++_ g13 t11; slots = k0 ∷ k1 ∷ k2 ∷ k3 ∷ Row.off ∷ k5 ∷ k6 ∷ Row.off ∷ Row.off ∷ Row.alive ∷ [] }
 
         abbrev G24 : Row.Cx
-        G24 = record {
-          locals = List._++_ g13 t11;
-          slots = List._∷_ (Row.lease (κs .0) (qs .0)) (List._∷_ (Row.lease (κs .1 .0) (qs .1 .0)) (List._∷_ (Row.lease (κs .1 .1 .0) (qs .1 .1 .0)) (List._∷_ (Row.lease
-              (κs .1 .1 .1 .0) (qs .1 .1 .1 .0)) (List._∷_ Row.off (List._∷_ (Row.lease (κs .1 .1 .1 .1 .1 .0) (qs .1 .1 .1 .1 .1 .0)) (List._∷_ (Row.lease (κs .1 .1 .1 .1 .1 .1 .0) (qs .1 .1 .1 .1 .1 .1
-              .0)) (List._∷_ Row.off (List._∷_ Row.off (List._∷_ Row.dead List.[])))))))));
-        }
+        G24 = record { locals = List._++_ g13 t11; slots = k0 ∷ k1 ∷ k2 ∷ k3 ∷ Row.off ∷ k5 ∷ k6 ∷ Row.off ∷ Row.off ∷ Row.dead ∷ [] }
 
         abbrev G25 : Row.Cx
-        G25 = record {
-          locals = List._++_ t14 t1;
-          slots = List._∷_ (Row.lease (κs .0) (qs .0)) (List._∷_ (Row.lease (κs .1 .0) (qs .1 .0)) (List._∷_ (Row.lease (κs .1 .1 .0) (qs .1 .1 .0)) (List._∷_ (Row.lease (κs
-              .1 .1 .1 .0) (qs .1 .1 .1 .0)) (List._∷_ (Row.lease (κs .1 .1 .1 .1 .0) (qs .1 .1 .1 .1 .0)) (List._∷_ (Row.lease (κs .1 .1 .1 .1 .1 .0) (qs .1 .1 .1 .1 .1 .0)) (List._∷_ (Row.lease (κs .1 .1
-              .1 .1 .1 .1 .0) (qs .1 .1 .1 .1 .1 .1 .0)) (List._∷_ Row.off (List._∷_ Row.off (List._∷_ Row.dead List.[])))))))));
-        }
-
-        abbrev G26 : Row.Cx
-        G26 = record {
-          locals = List._++_ t14 t1;
-          slots = List._∷_ (Row.lease (κs .0) (qs .0)) (List._∷_ (Row.lease (κs .1 .0) (qs .1 .0)) (List._∷_ (Row.lease (κs .1 .1 .0) (qs .1 .1 .0)) (List._∷_ (Row.lease (κs
-              .1 .1 .1 .0) (qs .1 .1 .1 .0)) (List._∷_ (Row.lease (κs .1 .1 .1 .1 .0) (qs .1 .1 .1 .1 .0)) (List._∷_ (Row.lease (κs .1 .1 .1 .1 .1 .0) (qs .1 .1 .1 .1 .1 .0)) (List._∷_ (Row.lease (κs .1 .1
-              .1 .1 .1 .1 .0) (qs .1 .1 .1 .1 .1 .1 .0)) (List._∷_ Row.off (List._∷_ Row.off (List._∷_ Row.off List.[])))))))));
-        }
-
-        abbrev G27 : Row.Cx
-        G27 = record {
-          locals = List._++_ t15 t1;
-          slots = List._∷_ (Row.lease (κs .0) (qs .0)) (List._∷_ (Row.lease (κs .1 .0) (qs .1 .0)) (List._∷_ (Row.lease (κs .1 .1 .0) (qs .1 .1 .0)) (List._∷_ (Row.lease (κs
-              .1 .1 .1 .0) (qs .1 .1 .1 .0)) (List._∷_ (Row.lease (κs .1 .1 .1 .1 .0) (qs .1 .1 .1 .1 .0)) (List._∷_ (Row.lease (κs .1 .1 .1 .1 .1 .0) (qs .1 .1 .1 .1 .1 .0)) (List._∷_ (Row.lease (κs .1 .1
-              .1 .1 .1 .1 .0) (qs .1 .1 .1 .1 .1 .1 .0)) (List._∷_ Row.off (List._∷_ Row.off (List._∷_ Row.off List.[])))))))));
-        }
-
-        abbrev G28 : Row.Cx
-        G28 = record {
-          locals = List._++_ t16 t1;
-          slots = List._∷_ (Row.lease (κs .0) (qs .0)) (List._∷_ (Row.lease (κs .1 .0) (qs .1 .0)) (List._∷_ (Row.lease (κs .1 .1 .0) (qs .1 .1 .0)) (List._∷_ (Row.lease (κs
-              .1 .1 .1 .0) (qs .1 .1 .1 .0)) (List._∷_ (Row.lease (κs .1 .1 .1 .1 .0) (qs .1 .1 .1 .1 .0)) (List._∷_ (Row.lease (κs .1 .1 .1 .1 .1 .0) (qs .1 .1 .1 .1 .1 .0)) (List._∷_ (Row.lease (κs .1 .1
-              .1 .1 .1 .1 .0) (qs .1 .1 .1 .1 .1 .1 .0)) (List._∷_ Row.off (List._∷_ Row.off (List._∷_ Row.off List.[])))))))));
-        }
-
-        abbrev G29 : Row.Cx
-        G29 = record {
-          locals = List._++_ t17 t1;
-          slots = List._∷_ (Row.lease (κs .0) (qs .0)) (List._∷_ (Row.lease (κs .1 .0) (qs .1 .0)) (List._∷_ (Row.lease (κs .1 .1 .0) (qs .1 .1 .0)) (List._∷_ (Row.lease (κs
-              .1 .1 .1 .0) (qs .1 .1 .1 .0)) (List._∷_ (Row.lease (κs .1 .1 .1 .1 .0) (qs .1 .1 .1 .1 .0)) (List._∷_ (Row.lease (κs .1 .1 .1 .1 .1 .0) (qs .1 .1 .1 .1 .1 .0)) (List._∷_ (Row.lease (κs .1 .1
-              .1 .1 .1 .1 .0) (qs .1 .1 .1 .1 .1 .1 .0)) (List._∷_ Row.off (List._∷_ Row.off (List._∷_ Row.off List.[])))))))));
-        }
-
-        abbrev G30 : Row.Cx
-        G30 = record {
-          locals = List._++_ t17 t1;
-          slots = List._∷_ (Row.lease (κs .0) (qs .0)) (List._∷_ (Row.lease (κs .1 .0) (qs .1 .0)) (List._∷_ (Row.lease (κs .1 .1 .0) (qs .1 .1 .0)) (List._∷_ (Row.lease (κs
-              .1 .1 .1 .0) (qs .1 .1 .1 .0)) (List._∷_ (Row.lease (κs .1 .1 .1 .1 .0) (qs .1 .1 .1 .1 .0)) (List._∷_ (Row.lease (κs .1 .1 .1 .1 .1 .0) (qs .1 .1 .1 .1 .1 .0)) (List._∷_ (Row.lease (κs .1 .1
-              .1 .1 .1 .1 .0) (qs .1 .1 .1 .1 .1 .1 .0)) (List._∷_ Row.off (List._∷_ Row.off (List._∷_ Row.off List.[])))))))));
-        }
-
-        abbrev G31 : Row.Cx
-        G31 = record {
-          locals = List._++_ t18 t1;
-          slots = List._∷_ (Row.lease (κs .0) (qs .0)) (List._∷_ (Row.lease (κs .1 .0) (qs .1 .0)) (List._∷_ (Row.lease (κs .1 .1 .0) (qs .1 .1 .0)) (List._∷_ (Row.lease (κs
-              .1 .1 .1 .0) (qs .1 .1 .1 .0)) (List._∷_ (Row.lease (κs .1 .1 .1 .1 .0) (qs .1 .1 .1 .1 .0)) (List._∷_ (Row.lease (κs .1 .1 .1 .1 .1 .0) (qs .1 .1 .1 .1 .1 .0)) (List._∷_ (Row.lease (κs .1 .1
-              .1 .1 .1 .1 .0) (qs .1 .1 .1 .1 .1 .1 .0)) (List._∷_ Row.off (List._∷_ Row.off (List._∷_ Row.off List.[])))))))));
-        }
-
-        abbrev G32 : Row.Cx
-        G32 = record {
-          locals = List._++_ t18 t1;
-          slots = List._∷_ (Row.lease (κs .0) (qs .0)) (List._∷_ (Row.lease (κs .1 .0) (qs .1 .0)) (List._∷_ (Row.lease (κs .1 .1 .0) (qs .1 .1 .0)) (List._∷_ (Row.lease (κs
-              .1 .1 .1 .0) (qs .1 .1 .1 .0)) (List._∷_ (Row.lease (κs .1 .1 .1 .1 .0) (qs .1 .1 .1 .1 .0)) (List._∷_ (Row.lease (κs .1 .1 .1 .1 .1 .0) (qs .1 .1 .1 .1 .1 .0)) (List._∷_ (Row.lease (κs .1 .1
-              .1 .1 .1 .1 .0) (qs .1 .1 .1 .1 .1 .1 .0)) (List._∷_ Row.off (List._∷_ Row.off (List._∷_ Row.off List.[])))))))));
-        }
-
-        abbrev G33 : Row.Cx
-        G33 = record {
-          locals = List._++_ t0 t1;
-          slots = List._∷_ (Row.lease (κs .0) (qs .0)) (List._∷_ (Row.lease (κs .1 .0) (qs .1 .0)) (List._∷_ (Row.lease (κs .1 .1 .0) (qs .1 .1 .0)) (List._∷_ (Row.lease (κs
-              .1 .1 .1 .0) (qs .1 .1 .1 .0)) (List._∷_ (Row.lease (κs .1 .1 .1 .1 .0) (qs .1 .1 .1 .1 .0)) (List._∷_ (Row.lease (κs .1 .1 .1 .1 .1 .0) (qs .1 .1 .1 .1 .1 .0)) (List._∷_ (Row.lease (κs .1 .1
-              .1 .1 .1 .1 .0) (qs .1 .1 .1 .1 .1 .1 .0)) (List._∷_ Row.off (List._∷_ Row.off (List._∷_ Row.off List.[])))))))));
-        }
-
-        abbrev G34 : Row.Cx
-        G34 = record {
-          locals = List._++_ t2 t1;
-          slots = List._∷_ (Row.lease (κs .0) (qs .0)) (List._∷_ (Row.lease (κs .1 .0) (qs .1 .0)) (List._∷_ (Row.lease (κs .1 .1 .0) (qs .1 .1 .0)) (List._∷_ (Row.lease (κs
-              .1 .1 .1 .0) (qs .1 .1 .1 .0)) (List._∷_ (Row.lease (κs .1 .1 .1 .1 .0) (qs .1 .1 .1 .1 .0)) (List._∷_ (Row.lease (κs .1 .1 .1 .1 .1 .0) (qs .1 .1 .1 .1 .1 .0)) (List._∷_ (Row.lease (κs .1 .1
-              .1 .1 .1 .1 .0) (qs .1 .1 .1 .1 .1 .1 .0)) (List._∷_ Row.off (List._∷_ Row.off (List._∷_ Row.off List.[])))))))));
-        }
+        G25 = record { locals = List._++_ t14 t1; slots = k0 ∷ k1 ∷ k2 ∷ k3 ∷ k4 ∷ k5 ∷ k6 ∷ Row.off ∷ Row.off ∷ Row.dead ∷ [] }
 
         abbrev Δ0 : Typed.Outs
-        Δ0 = record { next = Option.none; exits = List.[]; returns = Option.some G1 }
+        Δ0 = record { next = Option.none; exits = []; returns = Option.some (on T1 l5) }
 
         module _ {M : Type 1} (𝓤 : URA.URA M) (H : Wp.Heap 𝓤) (A : Atoms.Atoms 𝓤) (W : Kit.Given 𝓤 H A) (𝓣 : Wp.Tables 𝓤 H) (known : Knowns 𝓤 H A W 𝓣) (bs : List.List Nat.ℕ) (bd : Lifetimes.AllOutlive
             7 (Kinds.osR r) κs) where
           abbrev E : Wp.Env 𝓤 H
-          E = Frame.EnvOf 𝓤 H (List._∷_ (Kinds.tyR r) (Enter.tysP ps xs)) bs
+          E = Frame.EnvOf 𝓤 H ((Kinds.tyR r) ∷ (Enter.tysP ps xs)) bs
 
-          d0 : Typed.Typed 𝓤 H A 𝓣 E G34 b12 Δ0 at0
+          d0 : Typed.Typed 𝓤 H A 𝓣 E (on T1 l5) Syntax.return Δ0 at0
           d0 = Typed.t-return 𝓤 H A W 𝓣 E Δ0 tt
 
-          d1 : Typed.Typed 𝓤 H A 𝓣 E G33 b13 Δ0 at1
-          d1 = Typed.s-seq 𝓤 H A W 𝓣 E G33 G34 b11 b12 Δ0 (Typed.pass T33 T34 s32) at0 (Scalar.t-use 𝓤 H A W E 𝓣 G33 Scalar.oUnit 0 (Rows'.sc-here Row.sUnit) Syntax.tyUnit (Row.valS Row.sUnit)
-              (Row.sUnit .of) tt (Reads.room-gone 𝓤 H A Syntax.tyUnit) (Scalar.holds-sc 𝓤 H A W Row.sUnit) Path'.refl (λ u. Path'.refl) λ u. tt) d0
+          d1 : Typed.Typed 𝓤 H A 𝓣 E (on T0 l5) (Syntax.seq b11 Syntax.return) Δ0 at1
+          d1 = Typed.s-seq 𝓤 H A W 𝓣 E (on T0 l5) (on T1 l5) b11 Syntax.return Δ0 (Typed.pass T0 T1 s32) at0 (Scalar.t-use 𝓤 H A W E 𝓣 (on T0 l5) Scalar.oUnit 0 (Rows'.sc-here Row.sUnit) Syntax.tyUnit
+              (Row.valS Row.sUnit) (Row.sUnit .of) tt (Reads.room-gone 𝓤 H A Syntax.tyUnit) (Scalar.holds-sc 𝓤 H A W Row.sUnit) Path'.refl (λ u. Path'.refl) λ u. tt) d0
 
-          d2 : Typed.Typed 𝓤 H A 𝓣 E G32 b13 Δ0 at2
-          d2 = Typed.g-pre 𝓤 H A W 𝓣 E G32 G33 b13 Δ0 (Typed.pass T32 T33 s31) at1 (Scalar.g-room 𝓤 H A W E G32 10 (Syntax.tyArray (Syntax.tyInt Syntax.w64) 4) (Init.room-arr 𝓤 H A W (Referent.rtF
-              (Referent.fInt Syntax.w64)) 4 0 4 Path'.refl)) d1
+          d2 : Typed.Typed 𝓤 H A 𝓣 E (on T31 l5) (Syntax.seq b11 Syntax.return) Δ0 at2
+          d2 = Typed.g-pre 𝓤 H A W 𝓣 E (on T31 l5) (on T0 l5) (Syntax.seq b11 Syntax.return) Δ0 (Typed.pass T31 T0 s31) at1 (Scalar.g-room 𝓤 H A W E (on T31 l5) 10 y1 (Init.room-arr 𝓤 H A W n64 4 0 4
+              Path'.refl)) d1
 
-          d3 : Typed.Typed 𝓤 H A 𝓣 E G31 b14 Δ0 at3
-          d3 = Typed.s-seq 𝓤 H A W 𝓣 E G31 G32 b10 b13 Δ0 (Typed.pass T31 T32 s30) at2 (DerefMove.t-ref-write-from 𝓤 H A W E 𝓣 (λ ρ. Unit) G31 7 10 6 (Array'.Array (Referent.rtF (Referent.fInt
-              Syntax.w64)) 4) (Syntax.tyRef (Syntax.named 6) Syntax.mut (Syntax.tyArray (Syntax.tyInt Syntax.w64) 4)) (Syntax.tyArray (Syntax.tyInt Syntax.w64) 4) (Syntax.tyArray (Syntax.tyInt Syntax.w64)
-              4) (Row.lease (κs .1 .1 .1 .1 .1 .1 .0) (qs .1 .1 .1 .1 .1 .1 .0)) (Rows.arrF (Referent.rtF (Referent.fInt Syntax.w64)) 4 0) (λ x. x) (λ x. x) (λ x. x) Path'.refl Path'.refl Path'.refl
-              (Own.told-none 𝓤 H A (G31 .slots)) (Reads.as-is 𝓤 H A (Rows'.mref (Array'.Array (Referent.rtF (Referent.fInt Syntax.w64)) 4) (Syntax.tyRef (Syntax.named 6) Syntax.mut (Syntax.tyArray
-              (Syntax.tyInt Syntax.w64) 4)) 6)) (Yields.yields-copy 𝓤 H A W (λ ρ. Unit) (Array'.Array (Referent.rtF (Referent.fInt Syntax.w64)) 4) Path'.refl (Copies.cArr (Referent.rtF (Referent.fInt
-              Syntax.w64)) (Copies.cRf (Referent.fInt Syntax.w64)) 4 .copy 𝓤 H A W) (Rows.arrF (Referent.rtF (Referent.fInt Syntax.w64)) 4 0) (λ x. x) (λ x. x) (λ ρ told. Whole.mem-arr 𝓤 H A W
-              (Referent.rtF (Referent.fInt Syntax.w64)) 4 ρ) λ ρ told. Whole.arr-mem 𝓤 H A W (Referent.rtF (Referent.fInt Syntax.w64)) 4 tt ρ) Path'.refl tt Path'.refl Path'.refl) d2
+          d3 : Typed.Typed 𝓤 H A 𝓣 E (on T31 l5) b14 Δ0 at3
+          d3 = Typed.s-seq 𝓤 H A W 𝓣 E (on T31 l5) (on T31 l5) b10 (Syntax.seq b11 Syntax.return) Δ0 (Typed.pass T31 T31 s30) at2 (DerefMove.t-ref-write-from 𝓤 H A W E 𝓣 (λ ρ. Unit) (on T31 l5) 7 10 6
+              (Array'.Array n64 4) y13 y1 y1 k6 (Rows.arrF n64 4 0) (λ x. x) (λ x. x) (λ x. x) Path'.refl Path'.refl Path'.refl (Own.told-none 𝓤 H A ((on T31 l5) .slots)) (Reads.as-is 𝓤 H A (Rows'.mref
+              (Array'.Array n64 4) y13 6)) (Yields.yields-copy 𝓤 H A W (λ ρ. Unit) (Array'.Array n64 4) Path'.refl (Copies.cArr n64 (Copies.cRf (Referent.fInt Syntax.w64)) 4 .copy 𝓤 H A W) (Rows.arrF n64
+              4 0) (λ x. x) (λ x. x) (λ ρ told. Whole.mem-arr 𝓤 H A W n64 4 ρ) λ ρ told. Whole.arr-mem 𝓤 H A W n64 4 tt ρ) Path'.refl tt Path'.refl Path'.refl) d2
 
-          d4 : Typed.Typed 𝓤 H A 𝓣 E G30 b14 Δ0 at4
-          d4 = Typed.g-pre 𝓤 H A W 𝓣 E G30 G31 b14 Δ0 (Typed.pass T30 T31 s29) at3 (Scalar.g-room 𝓤 H A W E G30 9 (Syntax.tyArray (Syntax.tyInt Syntax.w64) 1) (Init.room-arr 𝓤 H A W (Referent.rtF
-              (Referent.fInt Syntax.w64)) 1 0 1 Path'.refl)) d3
+          d4 : Typed.Typed 𝓤 H A 𝓣 E (on T29 l5) b14 Δ0 at4
+          d4 = Typed.g-pre 𝓤 H A W 𝓣 E (on T29 l5) (on T31 l5) b14 Δ0 (Typed.pass T29 T31 s29) at3 (Scalar.g-room 𝓤 H A W E (on T29 l5) 9 y0 (Init.room-arr 𝓤 H A W n64 1 0 1 Path'.refl)) d3
 
-          d5 : Typed.Typed 𝓤 H A 𝓣 E G29 b15 Δ0 at5
-          d5 = Typed.s-seq 𝓤 H A W 𝓣 E G29 G30 b9 b14 Δ0 (Typed.pass T29 T30 s28) at4 (DerefMove.t-ref-write-from 𝓤 H A W E 𝓣 (λ ρ. Unit) G29 6 9 5 (Array'.Array (Referent.rtF (Referent.fInt
-              Syntax.w64)) 1) (Syntax.tyRef (Syntax.named 5) Syntax.mut (Syntax.tyArray (Syntax.tyInt Syntax.w64) 1)) (Syntax.tyArray (Syntax.tyInt Syntax.w64) 1) (Syntax.tyArray (Syntax.tyInt Syntax.w64)
-              1) (Row.lease (κs .1 .1 .1 .1 .1 .0) (qs .1 .1 .1 .1 .1 .0)) (Rows.arrF (Referent.rtF (Referent.fInt Syntax.w64)) 1 0) (λ x. x) (λ x. x) (λ x. x) Path'.refl Path'.refl Path'.refl
-              (Own.told-none 𝓤 H A (G29 .slots)) (Reads.as-is 𝓤 H A (Rows'.mref (Array'.Array (Referent.rtF (Referent.fInt Syntax.w64)) 1) (Syntax.tyRef (Syntax.named 5) Syntax.mut (Syntax.tyArray
-              (Syntax.tyInt Syntax.w64) 1)) 5)) (Yields.yields-copy 𝓤 H A W (λ ρ. Unit) (Array'.Array (Referent.rtF (Referent.fInt Syntax.w64)) 1) Path'.refl (Copies.cArr (Referent.rtF (Referent.fInt
-              Syntax.w64)) (Copies.cRf (Referent.fInt Syntax.w64)) 1 .copy 𝓤 H A W) (Rows.arrF (Referent.rtF (Referent.fInt Syntax.w64)) 1 0) (λ x. x) (λ x. x) (λ ρ told. Whole.mem-arr 𝓤 H A W
-              (Referent.rtF (Referent.fInt Syntax.w64)) 1 ρ) λ ρ told. Whole.arr-mem 𝓤 H A W (Referent.rtF (Referent.fInt Syntax.w64)) 1 tt ρ) Path'.refl tt Path'.refl Path'.refl) d4
+          d5 : Typed.Typed 𝓤 H A 𝓣 E (on T29 l5) (Syntax.seq b9 b14) Δ0 at5
+          d5 = Typed.s-seq 𝓤 H A W 𝓣 E (on T29 l5) (on T29 l5) b9 b14 Δ0 (Typed.pass T29 T29 s28) at4 (DerefMove.t-ref-write-from 𝓤 H A W E 𝓣 (λ ρ. Unit) (on T29 l5) 6 9 5 (Array'.Array n64 1) y12 y0
+              y0 k5 (Rows.arrF n64 1 0) (λ x. x) (λ x. x) (λ x. x) Path'.refl Path'.refl Path'.refl (Own.told-none 𝓤 H A ((on T29 l5) .slots)) (Reads.as-is 𝓤 H A (Rows'.mref (Array'.Array n64 1) y12 5))
+              (Yields.yields-copy 𝓤 H A W (λ ρ. Unit) (Array'.Array n64 1) Path'.refl (Copies.cArr n64 (Copies.cRf (Referent.fInt Syntax.w64)) 1 .copy 𝓤 H A W) (Rows.arrF n64 1 0) (λ x. x) (λ x. x) (λ ρ
+              told. Whole.mem-arr 𝓤 H A W n64 1 ρ) λ ρ told. Whole.arr-mem 𝓤 H A W n64 1 tt ρ) Path'.refl tt Path'.refl Path'.refl) d4
 
-          d6 : Typed.Typed 𝓤 H A 𝓣 E G28 b15 Δ0 at6
-          d6 = Typed.g-pre 𝓤 H A W 𝓣 E G28 G29 b15 Δ0 (Typed.pass T28 T29 s27) at5 (Scalar.g-room 𝓤 H A W E G28 8 (Syntax.tyEnum (List._∷_ 115 (List._∷_ 116 (List._∷_ 114 (List._∷_ 101 (List._∷_ 97
-              (List._∷_ 109 (List._∷_ 58 (List._∷_ 58 (List._∷_ 66 (List._∷_ 108 (List._∷_ 111 (List._∷_ 99 (List._∷_ 107 (List._∷_ 76 (List._∷_ 101 (List._∷_ 110 (List._∷_ 103 (List._∷_ 116 (List._∷_ 104
-              List.[]))))))))))))))))))) (Syntax.ttcons (Syntax.tcons (Syntax.tyInt Syntax.w64) Syntax.tnil) (Syntax.ttcons (Syntax.tcons (Syntax.tyEnum (List._∷_ 115 (List._∷_ 116 (List._∷_ 114 (List._∷_
-              101 (List._∷_ 97 (List._∷_ 109 (List._∷_ 58 (List._∷_ 58 (List._∷_ 82 (List._∷_ 101 (List._∷_ 102 (List._∷_ 117 (List._∷_ 115 (List._∷_ 97 (List._∷_ 108 List.[]))))))))))))))) (Syntax.ttcons
-              Syntax.tnil (Syntax.ttcons Syntax.tnil (Syntax.ttcons Syntax.tnil (Syntax.ttcons (Syntax.tcons (Syntax.tyInt Syntax.w64) Syntax.tnil) (Syntax.ttcons Syntax.tnil (Syntax.ttcons Syntax.tnil
-              (Syntax.ttcons Syntax.tnil (Syntax.ttcons Syntax.tnil (Syntax.ttcons Syntax.tnil (Syntax.ttcons Syntax.tnil (Syntax.ttcons (Syntax.tcons (Syntax.tyInt Syntax.w64) Syntax.tnil) (Syntax.ttcons
-              (Syntax.tcons (Syntax.tyInt Syntax.w64) Syntax.tnil) (Syntax.ttcons Syntax.tnil (Syntax.ttcons (Syntax.tcons (Syntax.tyInt Syntax.w64) (Syntax.tcons (Syntax.tyInt Syntax.w64) Syntax.tnil))
-              (Syntax.ttcons (Syntax.tcons (Syntax.tyInt Syntax.w64) Syntax.tnil) (Syntax.ttcons Syntax.tnil (Syntax.ttcons Syntax.tnil (Syntax.ttcons (Syntax.tcons (Syntax.tyInt Syntax.w64) Syntax.tnil)
-              (Syntax.ttcons (Syntax.tcons (Syntax.tyInt Syntax.w64) Syntax.tnil) (Syntax.ttcons (Syntax.tcons (Syntax.tyInt Syntax.w64) Syntax.tnil) (Syntax.ttcons Syntax.tnil (Syntax.ttcons Syntax.tnil
-              (Syntax.ttcons (Syntax.tcons (Syntax.tyInt Syntax.w64) (Syntax.tcons (Syntax.tyInt Syntax.w64) Syntax.tnil)) (Syntax.ttcons Syntax.tnil Syntax.ttnil))))))))))))))))))))))))) Syntax.tnil)
-              Syntax.ttnil))) (Local.room-whole 𝓤 H A W (Declared.row BlockLength.the-type) (Syntax.tyEnum (List._∷_ 115 (List._∷_ 116 (List._∷_ 114 (List._∷_ 101 (List._∷_ 97 (List._∷_ 109 (List._∷_ 58
-              (List._∷_ 58 (List._∷_ 66 (List._∷_ 108 (List._∷_ 111 (List._∷_ 99 (List._∷_ 107 (List._∷_ 76 (List._∷_ 101 (List._∷_ 110 (List._∷_ 103 (List._∷_ 116 (List._∷_ 104 List.[])))))))))))))))))))
-              (Syntax.ttcons (Syntax.tcons (Syntax.tyInt Syntax.w64) Syntax.tnil) (Syntax.ttcons (Syntax.tcons (Syntax.tyEnum (List._∷_ 115 (List._∷_ 116 (List._∷_ 114 (List._∷_ 101 (List._∷_ 97 (List._∷_
-              109 (List._∷_ 58 (List._∷_ 58 (List._∷_ 82 (List._∷_ 101 (List._∷_ 102 (List._∷_ 117 (List._∷_ 115 (List._∷_ 97 (List._∷_ 108 List.[]))))))))))))))) (Syntax.ttcons Syntax.tnil (Syntax.ttcons
-              Syntax.tnil (Syntax.ttcons Syntax.tnil (Syntax.ttcons (Syntax.tcons (Syntax.tyInt Syntax.w64) Syntax.tnil) (Syntax.ttcons Syntax.tnil (Syntax.ttcons Syntax.tnil (Syntax.ttcons Syntax.tnil
-              (Syntax.ttcons Syntax.tnil (Syntax.ttcons Syntax.tnil (Syntax.ttcons Syntax.tnil (Syntax.ttcons (Syntax.tcons (Syntax.tyInt Syntax.w64) Syntax.tnil) (Syntax.ttcons (Syntax.tcons
-              (Syntax.tyInt Syntax.w64) Syntax.tnil) (Syntax.ttcons Syntax.tnil (Syntax.ttcons (Syntax.tcons (Syntax.tyInt Syntax.w64) (Syntax.tcons (Syntax.tyInt Syntax.w64) Syntax.tnil)) (Syntax.ttcons
-              (Syntax.tcons (Syntax.tyInt Syntax.w64) Syntax.tnil) (Syntax.ttcons Syntax.tnil (Syntax.ttcons Syntax.tnil (Syntax.ttcons (Syntax.tcons (Syntax.tyInt Syntax.w64) Syntax.tnil) (Syntax.ttcons
-              (Syntax.tcons (Syntax.tyInt Syntax.w64) Syntax.tnil) (Syntax.ttcons (Syntax.tcons (Syntax.tyInt Syntax.w64) Syntax.tnil) (Syntax.ttcons Syntax.tnil (Syntax.ttcons Syntax.tnil (Syntax.ttcons
-              (Syntax.tcons (Syntax.tyInt Syntax.w64) (Syntax.tcons (Syntax.tyInt Syntax.w64) Syntax.tnil)) (Syntax.ttcons Syntax.tnil Syntax.ttnil))))))))))))))))))))))))) Syntax.tnil) Syntax.ttnil)))
-              Path'.refl)) d5
+          d6 : Typed.Typed 𝓤 H A 𝓣 E (on T28 l5) (Syntax.seq b9 b14) Δ0 at6
+          d6 = Typed.g-pre 𝓤 H A W 𝓣 E (on T28 l5) (on T29 l5) (Syntax.seq b9 b14) Δ0 (Typed.pass T28 T29 s27) at5 (Scalar.g-room 𝓤 H A W E (on T28 l5) 8 y11 (Local.room-whole 𝓤 H A W (Declared.row
+              BlockLength.the-type) y11 Path'.refl)) d5
 
-          d7 : Typed.Typed 𝓤 H A 𝓣 E G27 b16 Δ0 at7
-          d7 = Typed.s-seq 𝓤 H A W 𝓣 E G27 G28 b8 b15 Δ0 (Typed.both s26) at6 (Plain.t-call-plain 𝓤 H A W 𝓣 0 ps·2 r·2 (claims· .4) (claims· .5) "stream::length_refusal" (known .2) E (λ pos β. β) G27
-              (record { pos = 8; st = List.[]; d = 0; at = λ x. x }, tt) 10 List.[] (Call.sub-id 𝓤 H A W (G27 .slots)) (
-                (
-                  Yields.yields-copy 𝓤 H A W (λ ρ. Unit) (Declared.row BlockLength.the-type) Path'.refl (Copies.cEnum BlockLength.the-type Laws.the-laws Laws.the-copy .copy 𝓤 H A W) (Rows'.whole
-                      (Declared.row BlockLength.the-type)) (λ x. x) (λ x. x) (λ ρ told. Local.mem-whole 𝓤 H A W (Declared.row BlockLength.the-type) ρ) λ ρ told. Local.whole-mem 𝓤 H A W (Declared.row
-                      BlockLength.the-type) ρ,
-                  Path'.refl,
-                ),
-                tt,
-              ) (Reads.room-gone 𝓤 H A (Syntax.tyArray (Syntax.tyInt Syntax.w64) 4)) tt Path'.refl) d6
+          d7 : Typed.Typed 𝓤 H A 𝓣 E (on T27 l5) (Syntax.seq b8 (Syntax.seq b9 b14)) Δ0 at7
+          d7 = Typed.s-seq 𝓤 H A W 𝓣 E (on T27 l5) (on T28 l5) b8 (Syntax.seq b9 b14) Δ0 (Typed.both s26) at6 (Plain.t-call-plain 𝓤 H A W 𝓣 0 ps·2 r·2 (claims· .4) (claims· .5)
+              "stream::length_refusal" (known .2) E (λ pos β. β) (on T27 l5) (record { pos = 8; st = []; d = 0; at = λ x. x }, tt) 10 [] (Call.sub-id 𝓤 H A W ((on T27 l5) .slots))
+              ((Values.enum-copied 𝓤 H A W BlockLength.the-type Laws.the-laws Laws.the-copy, Path'.refl), tt) (Reads.room-gone 𝓤 H A y1) tt Path'.refl) d6
 
-          d8 : Typed.Typed 𝓤 H A 𝓣 E G26 b17 Δ0 at8
-          d8 = Typed.s-seq 𝓤 H A W 𝓣 E G26 G27 b7 b16 Δ0 (Typed.both s25) at7 (Plain.t-call-plain 𝓤 H A W 𝓣 0 ps·1 r·1 (claims· .2) (claims· .3) "stream::length_word" (known .1) E (λ pos β. β) G26
-              (record { pos = 8; st = List.[]; d = 0; at = λ x. x }, tt) 9 List.[] (Call.sub-id 𝓤 H A W (G26 .slots)) (
-                (
-                  Yields.yields-copy 𝓤 H A W (λ ρ. Unit) (Declared.row BlockLength.the-type) Path'.refl (Copies.cEnum BlockLength.the-type Laws.the-laws Laws.the-copy .copy 𝓤 H A W) (Rows'.whole
-                      (Declared.row BlockLength.the-type)) (λ x. x) (λ x. x) (λ ρ told. Local.mem-whole 𝓤 H A W (Declared.row BlockLength.the-type) ρ) λ ρ told. Local.whole-mem 𝓤 H A W (Declared.row
-                      BlockLength.the-type) ρ,
-                  Path'.refl,
-                ),
-                tt,
-              ) (Reads.room-gone 𝓤 H A (Syntax.tyArray (Syntax.tyInt Syntax.w64) 1)) tt Path'.refl) d7
+          d8 : Typed.Typed 𝓤 H A 𝓣 E (on T25 l5) b17 Δ0 at8
+          d8 = Typed.s-seq 𝓤 H A W 𝓣 E (on T25 l5) (on T27 l5) b7 (Syntax.seq b8 (Syntax.seq b9 b14)) Δ0 (Typed.both s25) at7 (Plain.t-call-plain 𝓤 H A W 𝓣 0 ps·1 r·1 (claims· .2) (claims· .3)
+              "stream::length_word" (known .1) E (λ pos β. β) (on T25 l5) (record { pos = 8; st = []; d = 0; at = λ x. x }, tt) 9 [] (Call.sub-id 𝓤 H A W ((on T25 l5) .slots))
+              ((Values.enum-copied 𝓤 H A W BlockLength.the-type Laws.the-laws Laws.the-copy, Path'.refl), tt) (Reads.room-gone 𝓤 H A y0) tt Path'.refl) d7
 
-          d9 : Typed.Typed 𝓤 H A 𝓣 E G25 b17 Δ0 at9
-          d9 = Typed.g-pre 𝓤 H A W 𝓣 E G25 G26 b17 Δ0 (λ Ψ. Ψ) at8 (Lifetime.g-forget 𝓤 H A W E G25 9 Row.dead Path'.refl) d8
+          d9 : Typed.Typed 𝓤 H A 𝓣 E G25 b17 Δ0 at8
+          d9 = Typed.g-pre 𝓤 H A W 𝓣 E G25 (on T25 l5) b17 Δ0 (λ Ψ. Ψ) at8 (Lifetime.g-forget 𝓤 H A W E G25 9 Row.dead Path'.refl) d8
 
           d10 : Typed.Typed 𝓤 H A 𝓣 E G24 b17 Δ0 at10
-          d10 = Typed.g-pre 𝓤 H A W 𝓣 E G24 G25 b17 Δ0 (Typed.both s23) at9 (Relend.g-back-sl 𝓤 H A W E (Element.type) G24 16 5 4 9 (Syntax.tyRef (Syntax.named 4) Syntax.mut Element.behind)
-              (Syntax.tyRef Syntax.erased Syntax.mut Element.behind) (Row.lease (κs .1 .1 .1 .1 .0) (qs .1 .1 .1 .1 .0)) (λ x. x) (λ x. x) (Reads.as-is 𝓤 H A (Mut.msleft (Element.type) (Syntax.tyRef
-              Syntax.erased Syntax.mut Element.behind))) (Reads.as-is 𝓤 H A (Relend.mslice-owed (Element.type) (Syntax.tyRef (Syntax.named 4) Syntax.mut Element.behind) 4 9 (Row.lease (κs .1 .1 .1 .1 .0)
-              (qs .1 .1 .1 .1 .0)))) Path'.refl Path'.refl) d9
+          d10 = Typed.g-pre 𝓤 H A W 𝓣 E G24 G25 b17 Δ0 (Typed.both s23) at8 (Relend.g-back-sl 𝓤 H A W E (Element.type) G24 16 5 4 9 y7 y8 k4 (λ x. x) (λ x. x) (Reads.as-is 𝓤 H A (Mut.msleft
+              (Element.type) y8)) (Reads.as-is 𝓤 H A (Relend.mslice-owed (Element.type) y7 4 9 k4)) Path'.refl Path'.refl) d9
 
-          d11 : Typed.Typed 𝓤 H A 𝓣 E G23 b17 Δ0 at11
+          d11 : Typed.Typed 𝓤 H A 𝓣 E G23 b17 Δ0 at10
           d11 = Typed.g-pre 𝓤 H A W 𝓣 E G23 G24 b17 Δ0 (λ Ψ. Ψ) at10 (Lifetime.g-end 𝓤 H A W E G23 9 Path'.refl) d10
 
-          d12 : Typed.Typed 𝓤 H A 𝓣 E G22 b17 Δ0 at12
-          d12 = Typed.g-pre 𝓤 H A W 𝓣 E G22 G23 b17 Δ0 (λ Ψ. Ψ) at11 (Lifetime.g-forget 𝓤 H A W E G22 8 Row.dead Path'.refl) d11
+          d12 : Typed.Typed 𝓤 H A 𝓣 E G21 b17 Δ0 at10
+          d12 = Typed.g-pre 𝓤 H A W 𝓣 E G21 G23 b17 Δ0 (λ Ψ. Ψ) at10 (Lifetime.g-forget 𝓤 H A W E G21 8 Row.dead Path'.refl) d11
 
           d13 : Typed.Typed 𝓤 H A 𝓣 E G21 b17 Δ0 at13
-          d13 = Typed.g-pre 𝓤 H A W 𝓣 E G21 G22 b17 Δ0 (Typed.give s20) at12 (Know.g-sl-known 𝓤 H A W (Referent.fInt Syntax.w16) E G21 4 3 (Syntax.tyRef (Syntax.named 3) Syntax.mut (Syntax.tyInt
-              Syntax.w16)) (Row.lease (κs .1 .1 .1 .0) (qs .1 .1 .1 .0)) 0 (λ x. x) record { fits = Dec'.lit< tt } (Reads.as-is 𝓤 H A (Mut.mslice (Referent.rtF (Referent.fInt Syntax.w16)) (Syntax.tyRef
-              (Syntax.named 3) Syntax.mut (Syntax.tyInt Syntax.w16)) 3)) Path'.refl tt) d12
+          d13 = Typed.g-pre 𝓤 H A W 𝓣 E G21 G21 b17 Δ0 (Typed.give s20) at10 (Know.g-sl-known 𝓤 H A W (Referent.fInt Syntax.w16) E G21 4 3 y6 k3 0 (λ x. x) record { fits = Dec'.lit< tt } (Reads.as-is
+              𝓤 H A (Mut.mslice n16 y6 3)) Path'.refl tt) d12
 
           d14 : Typed.Typed 𝓤 H A 𝓣 E G20 b17 Δ0 at14
-          d14 = Typed.g-pre 𝓤 H A W 𝓣 E G20 G21 b17 Δ0 (Typed.both s19) at13 (Relend.g-back-sl 𝓤 H A W E (Referent.rtF (Referent.fInt Syntax.w16)) G20 14 4 3 8 (Syntax.tyRef (Syntax.named 3)
-              Syntax.mut (Syntax.tyInt Syntax.w16)) (Syntax.tyRef Syntax.erased Syntax.mut (Syntax.tyInt Syntax.w16)) (Row.lease (κs .1 .1 .1 .0) (qs .1 .1 .1 .0)) (λ x. x) (λ x. x) (Reads.as-is 𝓤 H A
-              (Mut.msleft (Referent.rtF (Referent.fInt Syntax.w16)) (Syntax.tyRef Syntax.erased Syntax.mut (Syntax.tyInt Syntax.w16)))) (Reads.as-is 𝓤 H A (Relend.mslice-owed (Referent.rtF (Referent.fInt
-              Syntax.w16)) (Syntax.tyRef (Syntax.named 3) Syntax.mut (Syntax.tyInt Syntax.w16)) 3 8 (Row.lease (κs .1 .1 .1 .0) (qs .1 .1 .1 .0)))) Path'.refl Path'.refl) d13
+          d14 = Typed.g-pre 𝓤 H A W 𝓣 E G20 G21 b17 Δ0 (Typed.both s19) at13 (Relend.g-back-sl 𝓤 H A W E n16 G20 14 4 3 8 y6 y9 k3 (λ x. x) (λ x. x) (Reads.as-is 𝓤 H A (Mut.msleft n16 y9))
+              (Reads.as-is 𝓤 H A (Relend.mslice-owed n16 y6 3 8 k3)) Path'.refl Path'.refl) d13
 
-          d15 : Typed.Typed 𝓤 H A 𝓣 E G19 b17 Δ0 at15
+          d15 : Typed.Typed 𝓤 H A 𝓣 E G19 b17 Δ0 at14
           d15 = Typed.g-pre 𝓤 H A W 𝓣 E G19 G20 b17 Δ0 (λ Ψ. Ψ) at14 (Lifetime.g-end 𝓤 H A W E G19 8 Path'.refl) d14
 
-          d16 : Typed.Typed 𝓤 H A 𝓣 E G18 b17 Δ0 at16
-          d16 = Typed.g-pre 𝓤 H A W 𝓣 E G18 G19 b17 Δ0 (λ Ψ. Ψ) at15 (Lifetime.g-forget 𝓤 H A W E G18 7 Row.dead Path'.refl) d15
+          d16 : Typed.Typed 𝓤 H A 𝓣 E G17 b17 Δ0 at14
+          d16 = Typed.g-pre 𝓤 H A W 𝓣 E G17 G19 b17 Δ0 (λ Ψ. Ψ) at14 (Lifetime.g-forget 𝓤 H A W E G17 7 Row.dead Path'.refl) d15
 
           d17 : Typed.Typed 𝓤 H A 𝓣 E G17 b17 Δ0 at17
-          d17 = Typed.g-pre 𝓤 H A W 𝓣 E G17 G18 b17 Δ0 (Typed.give s16) at16 (Know.g-sl-known 𝓤 H A W (Referent.fInt Syntax.w8) E G17 3 2 (Syntax.tyRef (Syntax.named 2) Syntax.mut (Syntax.tyInt
-              Syntax.w8)) (Row.lease (κs .1 .1 .0) (qs .1 .1 .0)) 0 (λ x. x) record { fits = Dec'.lit< tt } (Reads.as-is 𝓤 H A (Mut.mslice (Referent.rtF (Referent.fInt Syntax.w8)) (Syntax.tyRef
-              (Syntax.named 2) Syntax.mut (Syntax.tyInt Syntax.w8)) 2)) Path'.refl tt) d16
+          d17 = Typed.g-pre 𝓤 H A W 𝓣 E G17 G17 b17 Δ0 (Typed.give s16) at14 (Know.g-sl-known 𝓤 H A W (Referent.fInt Syntax.w8) E G17 3 2 y5 k2 0 (λ x. x) record { fits = Dec'.lit< tt } (Reads.as-is 𝓤
+              H A (Mut.mslice n8 y5 2)) Path'.refl tt) d16
 
           d18 : Typed.Typed 𝓤 H A 𝓣 E G16 b17 Δ0 at18
-          d18 = Typed.g-pre 𝓤 H A W 𝓣 E G16 G17 b17 Δ0 (Typed.both s15) at17 (Relend.g-back-sl 𝓤 H A W E (Referent.rtF (Referent.fInt Syntax.w8)) G16 12 3 2 7 (Syntax.tyRef (Syntax.named 2) Syntax.mut
-              (Syntax.tyInt Syntax.w8)) (Syntax.tyRef Syntax.erased Syntax.mut (Syntax.tyInt Syntax.w8)) (Row.lease (κs .1 .1 .0) (qs .1 .1 .0)) (λ x. x) (λ x. x) (Reads.as-is 𝓤 H A (Mut.msleft
-              (Referent.rtF (Referent.fInt Syntax.w8)) (Syntax.tyRef Syntax.erased Syntax.mut (Syntax.tyInt Syntax.w8)))) (Reads.as-is 𝓤 H A (Relend.mslice-owed (Referent.rtF (Referent.fInt Syntax.w8))
-              (Syntax.tyRef (Syntax.named 2) Syntax.mut (Syntax.tyInt Syntax.w8)) 2 7 (Row.lease (κs .1 .1 .0) (qs .1 .1 .0)))) Path'.refl Path'.refl) d17
+          d18 = Typed.g-pre 𝓤 H A W 𝓣 E G16 G17 b17 Δ0 (Typed.both s15) at17 (Relend.g-back-sl 𝓤 H A W E n8 G16 12 3 2 7 y5 y10 k2 (λ x. x) (λ x. x) (Reads.as-is 𝓤 H A (Mut.msleft n8 y10))
+              (Reads.as-is 𝓤 H A (Relend.mslice-owed n8 y5 2 7 k2)) Path'.refl Path'.refl) d17
 
-          d19 : Typed.Typed 𝓤 H A 𝓣 E G15 b17 Δ0 at19
+          d19 : Typed.Typed 𝓤 H A 𝓣 E G15 b17 Δ0 at18
           d19 = Typed.g-pre 𝓤 H A W 𝓣 E G15 G16 b17 Δ0 (λ Ψ. Ψ) at18 (Lifetime.g-end 𝓤 H A W E G15 7 Path'.refl) d18
 
-          d20 : Typed.Typed 𝓤 H A 𝓣 E G14 b18 Δ0 at20
-          d20 = Typed.s-seq 𝓤 H A W 𝓣 E G14 G15 b6 b17 Δ0 (Typed.both s13) at19 (Plain.t-call-plain 𝓤 H A W 𝓣 5 ps·0 r·0 (claims· .0) (claims· .1) "block_writer::write_block" (known .0) E (λ pos β. β)
+          d20 : Typed.Typed 𝓤 H A 𝓣 E G14 (Syntax.seq b6 b17) Δ0 at20
+          d20 = Typed.s-seq 𝓤 H A W 𝓣 E G14 G15 b6 b17 Δ0 (Typed.both s13) at18 (Plain.t-call-plain 𝓤 H A W 𝓣 5 ps·0 r·0 (claims· .0) (claims· .1) "block_writer::write_block" (known .0) E (λ pos β. β)
               G14 (
-                record { pos = 1; ty = Syntax.tyRef (Syntax.named 0) Syntax.imm (Syntax.tyInt Syntax.w8); ref = λ x. x },
+                record { pos = 1; ty = y3; ref = λ x. x },
                 (
-                  record { pos = 2; ty = Syntax.tyRef (Syntax.named 1) Syntax.imm (Syntax.tyInt Syntax.w16); ref = λ x. x },
-                  (
-                    record { pos = 12; ty = Syntax.tyRef Syntax.erased Syntax.mut (Syntax.tyInt Syntax.w8); ref = λ x. x },
-                    (
-                      record { pos = 14; ty = Syntax.tyRef Syntax.erased Syntax.mut (Syntax.tyInt Syntax.w16); ref = λ x. x },
-                      (record { pos = 16; ty = Syntax.tyRef Syntax.erased Syntax.mut Element.behind; ref = λ x. x }, tt),
-                    ),
-                  ),
+                  record { pos = 2; ty = y4; ref = λ x. x },
+                  (record { pos = 12; ty = y10; ref = λ x. x }, (record { pos = 14; ty = y9; ref = λ x. x }, (record { pos = 16; ty = y8; ref = λ x. x }, tt))),
                 ),
-              ) 8 (List._∷_ 0 (List._∷_ 1 (List._∷_ 7 (List._∷_ 8 (List._∷_ 9 List.[])))))
-              (Call.sub-id 𝓤 H A W (G14 .slots)) (
-                ShrSlice.spares-sslice 𝓤 H A W (Referent.rtF (Referent.fInt Syntax.w8)) (Syntax.tyRef (Syntax.named 0) Syntax.imm (Syntax.tyInt Syntax.w8)) 0,
-                Shared.reads-sslice 𝓤 H A W (Referent.rtF
-                    (Referent.fInt Syntax.w8)) (Syntax.tyRef (Syntax.named 0) Syntax.imm (Syntax.tyInt Syntax.w8)) 0,
+              ) 8 (0 ∷ 1 ∷ 7 ∷ 8 ∷ 9 ∷ []) (Call.sub-id 𝓤 H
+              A W (G14 .slots)) (
+                ShrSlice.spares-sslice 𝓤 H A W n8 y3 0,
+                Shared.reads-sslice 𝓤 H A W n8 y3 0,
                 Path'.refl,
                 (
-                  ShrSlice.spares-sslice 𝓤 H A W (Referent.rtF (Referent.fInt Syntax.w16)) (Syntax.tyRef (Syntax.named 1) Syntax.imm (Syntax.tyInt Syntax.w16)) 1,
-                  Shared.reads-sslice 𝓤 H A W (Referent.rtF
-                      (Referent.fInt Syntax.w16)) (Syntax.tyRef (Syntax.named 1) Syntax.imm (Syntax.tyInt Syntax.w16)) 1,
+                  ShrSlice.spares-sslice 𝓤 H A W n16 y4 1,
+                  Shared.reads-sslice 𝓤 H A W n16 y4 1,
                   Path'.refl,
                   (
-                    Reads.as-is 𝓤 H A (Mut.mslice (Referent.rtF (Referent.fInt Syntax.w8)) (Syntax.tyRef Syntax.erased Syntax.mut (Syntax.tyInt Syntax.w8)) 7),
-                    Mut.reads-mslice 𝓤 H A W (Referent.rtF
-                        (Referent.fInt Syntax.w8)) (Syntax.tyRef Syntax.erased Syntax.mut (Syntax.tyInt Syntax.w8)) 7,
+                    Reads.as-is 𝓤 H A (Mut.mslice n8 y10 7),
+                    Mut.reads-mslice 𝓤 H A W n8 y10 7,
                     Path'.refl,
                     (
-                      Reads.as-is 𝓤 H A (Mut.mslice (Referent.rtF (Referent.fInt Syntax.w16)) (Syntax.tyRef Syntax.erased Syntax.mut (Syntax.tyInt Syntax.w16)) 8),
-                      Mut.reads-mslice 𝓤 H A W (Referent.rtF
-                          (Referent.fInt Syntax.w16)) (Syntax.tyRef Syntax.erased Syntax.mut (Syntax.tyInt Syntax.w16)) 8,
+                      Reads.as-is 𝓤 H A (Mut.mslice n16 y9 8),
+                      Mut.reads-mslice 𝓤 H A W n16 y9 8,
                       Path'.refl,
-                      (
-                        Reads.as-is 𝓤 H A (Mut.mslice (Element.type) (Syntax.tyRef Syntax.erased Syntax.mut Element.behind) 9),
-                        Mut.reads-mslice 𝓤 H A W (Element.type) (Syntax.tyRef Syntax.erased Syntax.mut
-                            Element.behind) 9,
-                        Path'.refl,
-                        tt,
-                      ),
+                      (Reads.as-is 𝓤 H A (Mut.mslice (Element.type) y8 9), Mut.reads-mslice 𝓤 H A W (Element.type) y8 9, Path'.refl, tt),
                     ),
                   ),
                 ),
-              ) (Reads.room-gone 𝓤 H A (Syntax.tyEnum (List._∷_ 115 (List._∷_ 116 (List._∷_ 114 (List._∷_ 101 (List._∷_ 97 (List._∷_ 109 (List._∷_ 58 (List._∷_ 58
-              (List._∷_ 66 (List._∷_ 108 (List._∷_ 111 (List._∷_ 99 (List._∷_ 107 (List._∷_ 76 (List._∷_ 101 (List._∷_ 110 (List._∷_ 103 (List._∷_ 116 (List._∷_ 104 List.[])))))))))))))))))))
-              (Syntax.ttcons (Syntax.tcons (Syntax.tyInt Syntax.w64) Syntax.tnil) (Syntax.ttcons (Syntax.tcons (Syntax.tyEnum (List._∷_ 115 (List._∷_ 116 (List._∷_ 114 (List._∷_ 101 (List._∷_ 97 (List._∷_
-              109 (List._∷_ 58 (List._∷_ 58 (List._∷_ 82 (List._∷_ 101 (List._∷_ 102 (List._∷_ 117 (List._∷_ 115 (List._∷_ 97 (List._∷_ 108 List.[]))))))))))))))) (Syntax.ttcons Syntax.tnil (Syntax.ttcons
-              Syntax.tnil (Syntax.ttcons Syntax.tnil (Syntax.ttcons (Syntax.tcons (Syntax.tyInt Syntax.w64) Syntax.tnil) (Syntax.ttcons Syntax.tnil (Syntax.ttcons Syntax.tnil (Syntax.ttcons Syntax.tnil
-              (Syntax.ttcons Syntax.tnil (Syntax.ttcons Syntax.tnil (Syntax.ttcons Syntax.tnil (Syntax.ttcons (Syntax.tcons (Syntax.tyInt Syntax.w64) Syntax.tnil) (Syntax.ttcons (Syntax.tcons
-              (Syntax.tyInt Syntax.w64) Syntax.tnil) (Syntax.ttcons Syntax.tnil (Syntax.ttcons (Syntax.tcons (Syntax.tyInt Syntax.w64) (Syntax.tcons (Syntax.tyInt Syntax.w64) Syntax.tnil)) (Syntax.ttcons
-              (Syntax.tcons (Syntax.tyInt Syntax.w64) Syntax.tnil) (Syntax.ttcons Syntax.tnil (Syntax.ttcons Syntax.tnil (Syntax.ttcons (Syntax.tcons (Syntax.tyInt Syntax.w64) Syntax.tnil) (Syntax.ttcons
-              (Syntax.tcons (Syntax.tyInt Syntax.w64) Syntax.tnil) (Syntax.ttcons (Syntax.tcons (Syntax.tyInt Syntax.w64) Syntax.tnil) (Syntax.ttcons Syntax.tnil (Syntax.ttcons Syntax.tnil (Syntax.ttcons
-              (Syntax.tcons (Syntax.tyInt Syntax.w64) (Syntax.tcons (Syntax.tyInt Syntax.w64) Syntax.tnil)) (Syntax.ttcons Syntax.tnil Syntax.ttnil))))))))))))))))))))))))) Syntax.tnil) Syntax.ttnil))))
-              (tt, (tt, (tt, (tt, (tt, tt))))) Path'.refl) d19
+              ) (Reads.room-gone 𝓤 H A y11) (tt, (tt, (tt, (tt, (tt, tt)))))
+              Path'.refl) d19
 
-          d21 : Typed.Typed 𝓤 H A 𝓣 E G13 b19 Δ0 at21
-          d21 = Typed.s-seq 𝓤 H A W 𝓣 E G13 G14 b5 b18 Δ0 (Typed.ask s12) at20 (Relend.t-sl-aggregate 𝓤 H A W E (Element.type) 𝓣 (Relend.asMut (Element.type)) G13 15 16 9 (Syntax.tyRef Syntax.erased
-              Syntax.mut Element.behind) (Syntax.tyRef Syntax.erased Syntax.mut Element.behind) (λ x. x) (Scalar.oFld 5 (List._∷_ (Syntax.field 1) List.[]) (Syntax.tyInt Syntax.w64) 8 λ v. Shared.lenV (v
-              .0)) (Reads.as-is 𝓤 H A (Relend.msptr (Element.type) (Syntax.tyRef Syntax.erased Syntax.mut Element.behind) 9)) (Reads.room-gone 𝓤 H A y2)
-              (Relend.reads-owed-len 𝓤 H A W (Element.type) (Syntax.tyRef (Syntax.named 4) Syntax.mut Element.behind) 4 9 (Row.lease (κs .1 .1 .1 .1 .0) (qs .1 .1 .1 .1 .0)) 8 Path'.refl, Path'.refl)
-              Path'.refl Path'.refl λ b o k. tt) d20
+          d21 : Typed.Typed 𝓤 H A 𝓣 E G13 (Syntax.seq b5 (Syntax.seq b6 b17)) Δ0 at21
+          d21 = Typed.s-seq 𝓤 H A W 𝓣 E G13 G14 b5 (Syntax.seq b6 b17) Δ0 (Typed.ask s12) at20 (Relend.t-sl-aggregate 𝓤 H A W E (Element.type) 𝓣 (Relend.asMut (Element.type)) G13 15 16 9 y8 y8 (λ x.
+              x) (Scalar.oFld 5 ((Syntax.field 1) ∷ []) u64 8 λ v. Shared.lenV (v .0)) (Reads.as-is 𝓤 H A (Relend.msptr (Element.type) y8 9)) (Reads.room-gone 𝓤 H A (Syntax.tyStruct (38 ∷ 91 ∷ 93 ∷ [])
+              (Syntax.tcons y8 (Syntax.tcons u64 Syntax.tnil)))) (Relend.reads-owed-len 𝓤 H A W (Element.type) y7 4 9 k4 8 Path'.refl, Path'.refl) Path'.refl Path'.refl λ b o k. tt) d20
 
           d22 : Typed.Typed 𝓤 H A 𝓣 E G12 b20 Δ0 at22
-          d22 = Typed.s-seq 𝓤 H A W 𝓣 E G12 G13 b4 b19 Δ0 (Typed.give s11) at21 (Relend.t-sl-relend 𝓤 H A W E (Element.type) 𝓣 G12 5 15 4 9 (Syntax.tyRef (Syntax.named 4) Syntax.mut Element.behind)
-              (Syntax.tyRef Syntax.erased Syntax.mut Element.behind) (Row.lease (κs .1 .1 .1 .1 .0) (qs .1 .1 .1 .1 .0)) 0 (λ x. x) (Reads.as-is 𝓤 H A (Mut.mslice (Element.type) (Syntax.tyRef
-              (Syntax.named 4) Syntax.mut Element.behind) 4)) (Reads.room-gone 𝓤 H A (Syntax.tyRef Syntax.erased Syntax.mut Element.behind)) Path'.refl tt Path'.refl Path'.refl Path'.refl λ b o. tt) d21
+          d22 = Typed.s-seq 𝓤 H A W 𝓣 E G12 G13 b4 (Syntax.seq b5 (Syntax.seq b6 b17)) Δ0 (Typed.give s11) at21 (Relend.t-sl-relend 𝓤 H A W E (Element.type) 𝓣 G12 5 15 4 9 y7 y8 k4 0 (λ x. x)
+              (Reads.as-is 𝓤 H A (Mut.mslice (Element.type) y7 4)) (Reads.room-gone 𝓤 H A y8) Path'.refl tt Path'.refl Path'.refl Path'.refl λ b o. tt) d21
 
-          d23 : Typed.Typed 𝓤 H A 𝓣 E G11 b20 Δ0 at23
+          d23 : Typed.Typed 𝓤 H A 𝓣 E G11 b20 Δ0 at22
           d23 = Typed.g-pre 𝓤 H A W 𝓣 E G11 G12 b20 Δ0 (λ Ψ. Ψ) at22 (Lifetime.g-begin 𝓤 H A W E G11 9
               (tt, (tt, (tt, ((tt, tt), ((tt, tt), (tt, (tt, (tt, (tt, (tt, (tt, (tt, (tt, (tt, (tt, (tt, (tt, tt)))))))))))))))))) d22
 
-          d24 : Typed.Typed 𝓤 H A 𝓣 E G10 b21 Δ0 at24
-          d24 = Typed.s-seq 𝓤 H A W 𝓣 E G10 G11 b3 b20 Δ0 (Typed.ask s9) at23 (Relend.t-sl-aggregate 𝓤 H A W E (Referent.rtF (Referent.fInt Syntax.w16)) 𝓣 (Relend.asMut (Referent.rtF (Referent.fInt
-              Syntax.w16))) G10 13 14 8 (Syntax.tyRef Syntax.erased Syntax.mut (Syntax.tyInt Syntax.w16)) (Syntax.tyRef Syntax.erased Syntax.mut (Syntax.tyInt Syntax.w16)) (λ x. x) (Scalar.oFld 4
-              (List._∷_ (Syntax.field 1) List.[]) (Syntax.tyInt Syntax.w64) 8 λ v. Shared.lenV (v .0)) (Reads.as-is 𝓤 H A (Relend.msptr (Referent.rtF (Referent.fInt Syntax.w16)) (Syntax.tyRef
-              Syntax.erased Syntax.mut (Syntax.tyInt Syntax.w16)) 8)) (Reads.room-gone 𝓤 H A y0) (
-                Relend.reads-owed-len 𝓤 H A W (Referent.rtF (Referent.fInt Syntax.w16)) (Syntax.tyRef (Syntax.named 3) Syntax.mut (Syntax.tyInt Syntax.w16)) 3 8 (Row.lease (κs .1 .1 .1 .0) (qs .1 .1 .1
-                    .0)) 8 Path'.refl,
-                Path'.refl,
-              ) Path'.refl Path'.refl λ b o k. tt) d23
+          d24 : Typed.Typed 𝓤 H A 𝓣 E G10 (Syntax.seq b3 b20) Δ0 at24
+          d24 = Typed.s-seq 𝓤 H A W 𝓣 E G10 G11 b3 b20 Δ0 (Typed.ask s9) at22 (Relend.t-sl-aggregate 𝓤 H A W E n16 𝓣 (Relend.asMut n16) G10 13 14 8 y9 y9 (λ x. x) (Scalar.oFld 4 ((Syntax.field 1) ∷
+              []) u64 8 λ v. Shared.lenV (v .0)) (Reads.as-is 𝓤 H A (Relend.msptr n16 y9 8)) (Reads.room-gone 𝓤 H A y15) (Relend.reads-owed-len 𝓤 H A W n16 y6 3 8 k3 8 Path'.refl, Path'.refl) Path'.refl
+              Path'.refl λ b o k. tt) d23
 
-          d25 : Typed.Typed 𝓤 H A 𝓣 E G9 b22 Δ0 at25
-          d25 = Typed.s-seq 𝓤 H A W 𝓣 E G9 G10 b2 b21 Δ0 (Typed.give s8) at24 (Relend.t-sl-relend 𝓤 H A W E (Referent.rtF (Referent.fInt Syntax.w16)) 𝓣 G9 4 13 3 8 (Syntax.tyRef (Syntax.named 3)
-              Syntax.mut (Syntax.tyInt Syntax.w16)) (Syntax.tyRef Syntax.erased Syntax.mut (Syntax.tyInt Syntax.w16)) (Row.lease (κs .1 .1 .1 .0) (qs .1 .1 .1 .0)) 0 (λ x. x) (Reads.as-is 𝓤 H A
-              (Mut.mslice (Referent.rtF (Referent.fInt Syntax.w16)) (Syntax.tyRef (Syntax.named 3) Syntax.mut (Syntax.tyInt Syntax.w16)) 3)) (Reads.room-gone 𝓤 H A (Syntax.tyRef Syntax.erased Syntax.mut
-              (Syntax.tyInt Syntax.w16))) Path'.refl tt Path'.refl Path'.refl Path'.refl λ b o. tt) d24
+          d25 : Typed.Typed 𝓤 H A 𝓣 E G9 (Syntax.seq b2 (Syntax.seq b3 b20)) Δ0 at25
+          d25 = Typed.s-seq 𝓤 H A W 𝓣 E G9 G10 b2 (Syntax.seq b3 b20) Δ0 (Typed.give s8) at24 (Relend.t-sl-relend 𝓤 H A W E n16 𝓣 G9 4 13 3 8 y6 y9 k3 0 (λ x. x) (Reads.as-is 𝓤 H A (Mut.mslice n16 y6
+              3)) (Reads.room-gone 𝓤 H A y9) Path'.refl tt Path'.refl Path'.refl Path'.refl λ b o. tt) d24
 
-          d26 : Typed.Typed 𝓤 H A 𝓣 E G8 b22 Δ0 at26
-          d26 = Typed.g-pre 𝓤 H A W 𝓣 E G8 G9 b22 Δ0 (λ Ψ. Ψ) at25 (Lifetime.g-begin 𝓤 H A W E G8 8
+          d26 : Typed.Typed 𝓤 H A 𝓣 E G8 (Syntax.seq b2 (Syntax.seq b3 b20)) Δ0 at25
+          d26 = Typed.g-pre 𝓤 H A W 𝓣 E G8 G9 (Syntax.seq b2 (Syntax.seq b3 b20)) Δ0 (λ Ψ. Ψ) at25 (Lifetime.g-begin 𝓤 H A W E G8 8
               (tt, (tt, (tt, ((tt, tt), (tt, (tt, (tt, (tt, (tt, (tt, (tt, (tt, (tt, (tt, (tt, (tt, (tt, tt)))))))))))))))))) d25
 
           d27 : Typed.Typed 𝓤 H A 𝓣 E G7 b23 Δ0 at27
-          d27 = Typed.s-seq 𝓤 H A W 𝓣 E G7 G8 b1 b22 Δ0 (Typed.ask s6) at26 (Relend.t-sl-aggregate 𝓤 H A W E (Referent.rtF (Referent.fInt Syntax.w8)) 𝓣 (Relend.asMut (Referent.rtF (Referent.fInt
-              Syntax.w8))) G7 11 12 7 (Syntax.tyRef Syntax.erased Syntax.mut (Syntax.tyInt Syntax.w8)) (Syntax.tyRef Syntax.erased Syntax.mut (Syntax.tyInt Syntax.w8)) (λ x. x) (Scalar.oFld 3 (List._∷_
-              (Syntax.field 1) List.[]) (Syntax.tyInt Syntax.w64) 8 λ v. Shared.lenV (v .0)) (Reads.as-is 𝓤 H A (Relend.msptr (Referent.rtF (Referent.fInt Syntax.w8)) (Syntax.tyRef Syntax.erased
-              Syntax.mut (Syntax.tyInt Syntax.w8)) 7)) (Reads.room-gone 𝓤 H A y1) (
-                Relend.reads-owed-len 𝓤 H A W (Referent.rtF (Referent.fInt Syntax.w8)) (Syntax.tyRef (Syntax.named 2) Syntax.mut (Syntax.tyInt Syntax.w8)) 2 7 (Row.lease (κs .1 .1 .0) (qs .1 .1 .0)) 8
-                    Path'.refl,
-                Path'.refl,
-              ) Path'.refl Path'.refl λ b o k. tt) d26
+          d27 = Typed.s-seq 𝓤 H A W 𝓣 E G7 G8 b1 (Syntax.seq b2 (Syntax.seq b3 b20)) Δ0 (Typed.ask s6) at25 (Relend.t-sl-aggregate 𝓤 H A W E n8 𝓣 (Relend.asMut n8) G7 11 12 7 y10 y10 (λ x. x)
+              (Scalar.oFld 3 ((Syntax.field 1) ∷ []) u64 8 λ v. Shared.lenV (v .0)) (Reads.as-is 𝓤 H A (Relend.msptr n8 y10 7)) (Reads.room-gone 𝓤 H A y14)
+              (Relend.reads-owed-len 𝓤 H A W n8 y5 2 7 k2 8 Path'.refl, Path'.refl) Path'.refl Path'.refl λ b o k. tt) d26
 
           d28 : Typed.Typed 𝓤 H A 𝓣 E G6 b24 Δ0 at28
-          d28 = Typed.s-seq 𝓤 H A W 𝓣 E G6 G7 b0 b23 Δ0 (Typed.give s5) at27 (Relend.t-sl-relend 𝓤 H A W E (Referent.rtF (Referent.fInt Syntax.w8)) 𝓣 G6 3 11 2 7 (Syntax.tyRef (Syntax.named 2)
-              Syntax.mut (Syntax.tyInt Syntax.w8)) (Syntax.tyRef Syntax.erased Syntax.mut (Syntax.tyInt Syntax.w8)) (Row.lease (κs .1 .1 .0) (qs .1 .1 .0)) 0 (λ x. x) (Reads.as-is 𝓤 H A (Mut.mslice
-              (Referent.rtF (Referent.fInt Syntax.w8)) (Syntax.tyRef (Syntax.named 2) Syntax.mut (Syntax.tyInt Syntax.w8)) 2)) (Reads.room-gone 𝓤 H A (Syntax.tyRef Syntax.erased Syntax.mut (Syntax.tyInt
-              Syntax.w8))) Path'.refl tt Path'.refl Path'.refl Path'.refl λ b o. tt) d27
+          d28 = Typed.s-seq 𝓤 H A W 𝓣 E G6 G7 b0 b23 Δ0 (Typed.give s5) at27 (Relend.t-sl-relend 𝓤 H A W E n8 𝓣 G6 3 11 2 7 y5 y10 k2 0 (λ x. x) (Reads.as-is 𝓤 H A (Mut.mslice n8 y5 2))
+              (Reads.room-gone 𝓤 H A y10) Path'.refl tt Path'.refl Path'.refl Path'.refl λ b o. tt) d27
 
-          d29 : Typed.Typed 𝓤 H A 𝓣 E G5 b24 Δ0 at29
-          d29 = Typed.g-pre 𝓤 H A W 𝓣 E G5 G6 b24 Δ0 (λ Ψ. Ψ) at28 (Lifetime.g-begin 𝓤 H A W E G5 7
+          d29 : Typed.Typed 𝓤 H A 𝓣 E (on T0 l5) b24 Δ0 at28
+          d29 = Typed.g-pre 𝓤 H A W 𝓣 E (on T0 l5) G6 b24 Δ0 (λ Ψ. Ψ) at28 (Lifetime.g-begin 𝓤 H A W E (on T0 l5) 7
               (tt, (tt, (tt, (tt, (tt, (tt, (tt, (tt, (tt, (tt, (tt, (tt, (tt, (tt, (tt, (tt, (tt, tt)))))))))))))))))) d28
 
-          d30 : Typed.Typed 𝓤 H A 𝓣 E G4 b24 Δ0 at30
-          d30 = Typed.g-pre 𝓤 H A W 𝓣 E G4 G5 b24 Δ0 (Typed.give s3) at29 (Know.g-sl-known 𝓤 H A W (Referent.fInt Syntax.w16) E G4 4 3 (Syntax.tyRef (Syntax.named 3) Syntax.mut (Syntax.tyInt
-              Syntax.w16)) (Row.lease (κs .1 .1 .1 .0) (qs .1 .1 .1 .0)) 0 (λ x. x) record { fits = Dec'.lit< tt } (Reads.as-is 𝓤 H A (Mut.mslice (Referent.rtF (Referent.fInt Syntax.w16)) (Syntax.tyRef
-              (Syntax.named 3) Syntax.mut (Syntax.tyInt Syntax.w16)) 3)) Path'.refl tt) d29
+          d30 : Typed.Typed 𝓤 H A 𝓣 E (on T0 l5) b24 Δ0 at30
+          d30 = Typed.g-pre 𝓤 H A W 𝓣 E (on T0 l5) (on T0 l5) b24 Δ0 (Typed.give s3) at28 (Know.g-sl-known 𝓤 H A W (Referent.fInt Syntax.w16) E (on T0 l5) 4 3 y6 k3 0 (λ x. x) record
+              { fits = Dec'.lit< tt } (Reads.as-is 𝓤 H A (Mut.mslice n16 y6 3)) Path'.refl tt) d29
 
-          d31 : Typed.Typed 𝓤 H A 𝓣 E G3 b24 Δ0 at31
-          d31 = Typed.g-pre 𝓤 H A W 𝓣 E G3 G4 b24 Δ0 (Typed.give s2) at30 (Know.g-sl-known 𝓤 H A W (Referent.fInt Syntax.w8) E G3 3 2 (Syntax.tyRef (Syntax.named 2) Syntax.mut (Syntax.tyInt
-              Syntax.w8)) (Row.lease (κs .1 .1 .0) (qs .1 .1 .0)) 0 (λ x. x) record { fits = Dec'.lit< tt } (Reads.as-is 𝓤 H A (Mut.mslice (Referent.rtF (Referent.fInt Syntax.w8)) (Syntax.tyRef
-              (Syntax.named 2) Syntax.mut (Syntax.tyInt Syntax.w8)) 2)) Path'.refl tt) d30
+          d31 : Typed.Typed 𝓤 H A 𝓣 E (on T0 l5) b24 Δ0 at31
+          d31 = Typed.g-pre 𝓤 H A W 𝓣 E (on T0 l5) (on T0 l5) b24 Δ0 (Typed.give s2) at30 (Know.g-sl-known 𝓤 H A W (Referent.fInt Syntax.w8) E (on T0 l5) 3 2 y5 k2 0 (λ x. x) record
+              { fits = Dec'.lit< tt } (Reads.as-is 𝓤 H A (Mut.mslice n8 y5 2)) Path'.refl tt) d30
 
-          d32 : Typed.Typed 𝓤 H A 𝓣 E G2 b24 Δ0 at32
-          d32 = Typed.g-pre 𝓤 H A W 𝓣 E G2 G3 b24 Δ0 (Typed.give s1) at31 (Know.g-shs-known 𝓤 H A W (Referent.fInt Syntax.w16) E G2 2 1 (Syntax.tyRef (Syntax.named 1) Syntax.imm (Syntax.tyInt
-              Syntax.w16)) (Row.lease (κs .1 .0) (qs .1 .0)) 0 (λ x. x) record { fits = Dec'.lit< tt } (Reads.as-is 𝓤 H A (Rows'.sslice (Referent.rtF (Referent.fInt Syntax.w16)) (Syntax.tyRef
-              (Syntax.named 1) Syntax.imm (Syntax.tyInt Syntax.w16)) 1)) Path'.refl tt) d31
+          d32 : Typed.Typed 𝓤 H A 𝓣 E (on T0 l5) b24 Δ0 at32
+          d32 = Typed.g-pre 𝓤 H A W 𝓣 E (on T0 l5) (on T0 l5) b24 Δ0 (Typed.give s1) at31 (Know.g-shs-known 𝓤 H A W (Referent.fInt Syntax.w16) E (on T0 l5) 2 1 y4 k1 0 (λ x. x) record
+              { fits = Dec'.lit< tt } (Reads.as-is 𝓤 H A (Rows'.sslice n16 y4 1)) Path'.refl tt) d31
 
-          d33 : Typed.Typed 𝓤 H A 𝓣 E G0 b24 Δ0 at33
-          d33 = Typed.g-pre 𝓤 H A W 𝓣 E G0 G2 b24 Δ0 (Typed.give s0) at32 (Know.g-shs-known 𝓤 H A W (Referent.fInt Syntax.w8) E G0 1 0 (Syntax.tyRef (Syntax.named 0) Syntax.imm (Syntax.tyInt
-              Syntax.w8)) (Row.lease (κs .0) (qs .0)) 0 (λ x. x) record { fits = Dec'.lit< tt } (Reads.as-is 𝓤 H A (Rows'.sslice (Referent.rtF (Referent.fInt Syntax.w8)) (Syntax.tyRef (Syntax.named 0)
-              Syntax.imm (Syntax.tyInt Syntax.w8)) 0)) Path'.refl tt) d32
+          d33 : Typed.Typed 𝓤 H A 𝓣 E (on T0 l5) b24 Δ0 at33
+          d33 = Typed.g-pre 𝓤 H A W 𝓣 E (on T0 l5) (on T0 l5) b24 Δ0 (Typed.give s0) at32 (Know.g-shs-known 𝓤 H A W (Referent.fInt Syntax.w8) E (on T0 l5) 1 0 y3 k0 0 (λ x. x) record
+              { fits = Dec'.lit< tt } (Reads.as-is 𝓤 H A (Rows'.sslice n8 y3 0)) Path'.refl tt) d32
 
           pub typed : Typed.Typed 𝓤 H A 𝓣 E (Function.Γin 7 ps r xs m κs qs) b24 (Function.Δret 7 ps r xs m κs qs) Φ
           typed = d33
 
       module _ (κs : Lifetimes.Lfts 7) where
         pub record Args : Type 0 where
-          pub header : Kinds.Den {n = 7} κs (ShrSlice.pShrS (Referent.rtF (Referent.fInt Syntax.w8)) 0 tt)
-          pub samples : Kinds.Den {n = 7} κs (ShrSlice.pShrS (Referent.rtF (Referent.fInt Syntax.w16)) 1 tt)
-          pub out : Kinds.Den {n = 7} κs (MutSlice.pMutS (Referent.rtF (Referent.fInt Syntax.w8)) 2 tt)
-          pub lines : Kinds.Den {n = 7} κs (MutSlice.pMutS (Referent.rtF (Referent.fInt Syntax.w16)) 3 tt)
+          pub header : Kinds.Den {n = 7} κs (ShrSlice.pShrS n8 0 tt)
+          pub samples : Kinds.Den {n = 7} κs (ShrSlice.pShrS n16 1 tt)
+          pub out : Kinds.Den {n = 7} κs (MutSlice.pMutS n8 2 tt)
+          pub lines : Kinds.Den {n = 7} κs (MutSlice.pMutS n16 3 tt)
           pub rs : Kinds.Den {n = 7} κs (MutSlice.pMutS (Element.type) 4 tt)
-          pub size : Kinds.Den {n = 7} κs (Kinds.pMut (Array'.Array (Referent.rtF (Referent.fInt Syntax.w64)) 1) 5 tt)
-          pub refusal : Kinds.Den {n = 7} κs (Kinds.pMut (Array'.Array (Referent.rtF (Referent.fInt Syntax.w64)) 4) 6 tt)
+          pub size : Kinds.Den {n = 7} κs (Kinds.pMut (Array'.Array n64 1) 5 tt)
+          pub refusal : Kinds.Den {n = 7} κs (Kinds.pMut (Array'.Array n64 4) 6 tt)
 
         abbrev pub dens : (a : Args) → Kinds.Dens κs ps
         dens = λ a. (a .header, (a .samples, (a .out, (a .lines, (a .rs, (a .size, (a .refusal, tt)))))))
@@ -1361,7 +894,7 @@ module _ (claims· : Claims) where
         pub good : Kinds.GoodsP κs ps (dens κs args)
         pub pre : Pre· κs (dens κs args)
 
-      abbrev pub m1 : (before : Start) → (given : s0 .gives (m0 (before .κs) (before .args))) → Typed.Mo T2
+      abbrev pub m1 : (before : Start) → (given : s0 .gives (m0 (before .κs) (before .args))) → Typed.Mo T0
       m1 = λ before given. s0 .next (m0 (before .κs) (before .args)) given
 
       module _ (before· : Start) where
@@ -1372,7 +905,7 @@ module _ (claims· : Claims) where
         pub before : Start
         pub shared-slice-known : After-shared-slice-known·own before
 
-      abbrev pub m2 : (before : After-shared-slice-known) → (given : s1 .gives (m1 (before .before) (before .shared-slice-known .given))) → Typed.Mo T3
+      abbrev pub m2 : (before : After-shared-slice-known) → (given : s1 .gives (m1 (before .before) (before .shared-slice-known .given))) → Typed.Mo T0
       m2 = λ before given. s1 .next (m1 (before .before) (before .shared-slice-known .given)) given
 
       module _ (before· : After-shared-slice-known) where
@@ -1383,7 +916,7 @@ module _ (claims· : Claims) where
         pub before : After-shared-slice-known
         pub shared-slice-known2 : After-shared-slice-known2·own before
 
-      abbrev pub m3 : (before : After-shared-slice-known2) → (given : s2 .gives (m2 (before .before) (before .shared-slice-known2 .given))) → Typed.Mo T4
+      abbrev pub m3 : (before : After-shared-slice-known2) → (given : s2 .gives (m2 (before .before) (before .shared-slice-known2 .given))) → Typed.Mo T0
       m3 = λ before given. s2 .next (m2 (before .before) (before .shared-slice-known2 .given)) given
 
       module _ (before· : After-shared-slice-known2) where
@@ -1394,7 +927,7 @@ module _ (claims· : Claims) where
         pub before : After-shared-slice-known2
         pub slice-known : After-slice-known·own before
 
-      abbrev pub m4 : (before : After-slice-known) → (given : s3 .gives (m3 (before .before) (before .slice-known .given))) → Typed.Mo T5
+      abbrev pub m4 : (before : After-slice-known) → (given : s3 .gives (m3 (before .before) (before .slice-known .given))) → Typed.Mo T0
       m4 = λ before given. s3 .next (m3 (before .before) (before .slice-known .given)) given
 
       module _ (before· : After-slice-known) where
@@ -1405,11 +938,8 @@ module _ (claims· : Claims) where
         pub before : After-slice-known
         pub slice-known2 : After-slice-known2·own before
 
-      abbrev pub m5 : (before : After-slice-known2) → (given : s5 .gives (m4 (before .before) (before .slice-known2 .given))) → Typed.Mo T7
-      m5 = λ before given. s5 .next (m4 (before .before) (before .slice-known2 .given)) given
-
       abbrev pub m6 : (before : After-slice-known2) → (given : s5 .gives (m4 (before .before) (before .slice-known2 .given))) → Typed.Mo T8
-      m6 = λ before given. s6 .next (m5 before given)
+      m6 = λ before given. s6 .next (s5 .next (m4 (before .before) (before .slice-known2 .given)) given)
 
       module _ (before· : After-slice-known2) where
         pub record After-write-block-arg·own : Type 0 where
@@ -1419,11 +949,8 @@ module _ (claims· : Claims) where
         pub before : After-slice-known2
         pub write-block-arg : After-write-block-arg·own before
 
-      abbrev pub m7 : (before : After-write-block-arg) → (given : s8 .gives (m6 (before .before) (before .write-block-arg .given))) → Typed.Mo T10
-      m7 = λ before given. s8 .next (m6 (before .before) (before .write-block-arg .given)) given
-
       abbrev pub m8 : (before : After-write-block-arg) → (given : s8 .gives (m6 (before .before) (before .write-block-arg .given))) → Typed.Mo T11
-      m8 = λ before given. s9 .next (m7 before given)
+      m8 = λ before given. s9 .next (s8 .next (m6 (before .before) (before .write-block-arg .given)) given)
 
       module _ (before· : After-write-block-arg) where
         pub record After-write-block-arg2·own : Type 0 where
@@ -1433,11 +960,8 @@ module _ (claims· : Claims) where
         pub before : After-write-block-arg
         pub write-block-arg2 : After-write-block-arg2·own before
 
-      abbrev pub m9 : (before : After-write-block-arg2) → (given : s11 .gives (m8 (before .before) (before .write-block-arg2 .given))) → Typed.Mo T13
-      m9 = λ before given. s11 .next (m8 (before .before) (before .write-block-arg2 .given)) given
-
       abbrev pub m10 : (before : After-write-block-arg2) → (given : s11 .gives (m8 (before .before) (before .write-block-arg2 .given))) → Typed.Mo T14
-      m10 = λ before given. s12 .next (m9 before given)
+      m10 = λ before given. s12 .next (s11 .next (m8 (before .before) (before .write-block-arg2 .given)) given)
 
       module _ (before· : After-write-block-arg2) where
         pub record After-write-block-arg3·own : Type 0 where
@@ -1455,38 +979,17 @@ module _ (claims· : Claims) where
 
       module _ (before· : After-write-block-arg3) where
         abbrev pub After-write-block·own : Type 0
-        After-write-block·own = Called.Called ps·0 r·0 (claims· .1) T14 (
-          record { pos = 1; ty = Syntax.tyRef (Syntax.named 0) Syntax.imm (Syntax.tyInt Syntax.w8); ref = λ x. x },
-          (
-            record { pos = 2; ty = Syntax.tyRef (Syntax.named 1) Syntax.imm (Syntax.tyInt Syntax.w16); ref = λ x. x },
-            (
-              record { pos = 12; ty = Syntax.tyRef Syntax.erased Syntax.mut (Syntax.tyInt Syntax.w8); ref = λ x. x },
-              (
-                record { pos = 14; ty = Syntax.tyRef Syntax.erased Syntax.mut (Syntax.tyInt Syntax.w16); ref = λ x. x },
-                (record { pos = 16; ty = Syntax.tyRef Syntax.erased Syntax.mut Element.behind; ref = λ x. x }, tt),
-              ),
-            ),
-          ),
-        ) (m10 (before· .before) (before· .write-block-arg3 .given))
+        After-write-block·own = Called.Called ps·0 r·0 (claims· .1) T14 a0 (m10 (before· .before) (before· .write-block-arg3 .given))
 
       pub record After-write-block : Type 0 where
         pub before : After-write-block-arg3
         pub write-block : After-write-block·own before
 
+      abbrev pub After-write-block·start : After-write-block → Start
+      After-write-block·start = λ c. c .before .before .before .before .before .before .before .before
+
       abbrev pub After-write-block·gave : (c : After-write-block) → s13 .gives (m10 (c .before .before) (c .before .write-block-arg3 .given))
-      After-write-block·gave = λ c. Called.given ps·0 r·0 (claims· .1) T14 (
-        record { pos = 1; ty = Syntax.tyRef (Syntax.named 0) Syntax.imm (Syntax.tyInt Syntax.w8); ref = λ x. x },
-        (
-          record { pos = 2; ty = Syntax.tyRef (Syntax.named 1) Syntax.imm (Syntax.tyInt Syntax.w16); ref = λ x. x },
-          (
-            record { pos = 12; ty = Syntax.tyRef Syntax.erased Syntax.mut (Syntax.tyInt Syntax.w8); ref = λ x. x },
-            (
-              record { pos = 14; ty = Syntax.tyRef Syntax.erased Syntax.mut (Syntax.tyInt Syntax.w16); ref = λ x. x },
-              (record { pos = 16; ty = Syntax.tyRef Syntax.erased Syntax.mut Element.behind; ref = λ x. x }, tt),
-            ),
-          ),
-        ),
-      ) (m10 (c .before .before) (c .before .write-block-arg3 .given)) (c .write-block)
+      After-write-block·gave = λ c. Called.given ps·0 r·0 (claims· .1) T14 a0 (m10 (c .before .before) (c .before .write-block-arg3 .given)) (c .write-block)
 
       abbrev pub m12 : (before : After-write-block) → (given : s15 .gives (m11 (before .before) (After-write-block·gave before))) → Typed.Mo T17
       m12 = λ before given. s15 .next (m11 (before .before) (After-write-block·gave before)) given
@@ -1499,7 +1002,7 @@ module _ (claims· : Claims) where
         pub before : After-write-block
         pub out : After-out·own before
 
-      abbrev pub m13 : (before : After-out) → (given : s16 .gives (m12 (before .before) (before .out .given))) → Typed.Mo T18
+      abbrev pub m13 : (before : After-out) → (given : s16 .gives (m12 (before .before) (before .out .given))) → Typed.Mo T17
       m13 = λ before given. s16 .next (m12 (before .before) (before .out .given)) given
 
       module _ (before· : After-out) where
@@ -1521,7 +1024,7 @@ module _ (claims· : Claims) where
         pub before : After-slice-known3
         pub lines : After-lines·own before
 
-      abbrev pub m15 : (before : After-lines) → (given : s20 .gives (m14 (before .before) (before .lines .given))) → Typed.Mo T22
+      abbrev pub m15 : (before : After-lines) → (given : s20 .gives (m14 (before .before) (before .lines .given))) → Typed.Mo T21
       m15 = λ before given. s20 .next (m14 (before .before) (before .lines .given)) given
 
       module _ (before· : After-lines) where
@@ -1551,14 +1054,17 @@ module _ (claims· : Claims) where
 
       module _ (before· : After-rs) where
         abbrev pub After-length-word·own : Type 0
-        After-length-word·own = Called.Called ps·1 r·1 (claims· .3) T25 (record { pos = 8; st = List.[]; d = 0; at = λ x. x }, tt) (m16 (before· .before) (before· .rs .given))
+        After-length-word·own = Called.Called ps·1 r·1 (claims· .3) T25 (record { pos = 8; st = []; d = 0; at = λ x. x }, tt) (m16 (before· .before) (before· .rs .given))
 
       pub record After-length-word : Type 0 where
         pub before : After-rs
         pub length-word : After-length-word·own before
 
+      abbrev pub After-length-word·start : After-length-word → Start
+      After-length-word·start = λ c. c .before .before .before .before .before .before .before .before .before .before .before .before .before .before
+
       abbrev pub After-length-word·gave : (c : After-length-word) → s25 .gives (m16 (c .before .before) (c .before .rs .given))
-      After-length-word·gave = λ c. Called.given ps·1 r·1 (claims· .3) T25 (record { pos = 8; st = List.[]; d = 0; at = λ x. x }, tt) (m16 (c .before .before) (c .before .rs .given)) (c .length-word)
+      After-length-word·gave = λ c. Called.given ps·1 r·1 (claims· .3) T25 (record { pos = 8; st = []; d = 0; at = λ x. x }, tt) (m16 (c .before .before) (c .before .rs .given)) (c .length-word)
 
       abbrev pub Need-length-refusal-requires : Type 0
       Need-length-refusal-requires = (c : After-length-word) → s26 .asks (m17 (c .before) (After-length-word·gave c))
@@ -1568,46 +1074,34 @@ module _ (claims· : Claims) where
 
       module _ (before· : After-length-word) where
         abbrev pub After-length-refusal·own : Type 0
-        After-length-refusal·own = Called.Called ps·2 r·2 (claims· .5) T27 (record { pos = 8; st = List.[]; d = 0; at = λ x. x }, tt) (m17 (before· .before) (After-length-word·gave before·))
+        After-length-refusal·own = Called.Called ps·2 r·2 (claims· .5) T27 (record { pos = 8; st = []; d = 0; at = λ x. x }, tt) (m17 (before· .before) (After-length-word·gave before·))
 
       pub record After-length-refusal : Type 0 where
         pub before : After-length-word
         pub length-refusal : After-length-refusal·own before
 
+      abbrev pub After-length-refusal·start : After-length-refusal → Start
+      After-length-refusal·start = λ c. c .before .before .before .before .before .before .before .before .before .before .before .before .before .before .before
+
       abbrev pub After-length-refusal·gave : (c : After-length-refusal) → s26 .gives (m17 (c .before .before) (After-length-word·gave (c .before)))
-      After-length-refusal·gave = λ c. Called.given ps·2 r·2 (claims· .5) T27 (record { pos = 8; st = List.[]; d = 0; at = λ x. x }, tt) (m17 (c .before .before) (After-length-word·gave (c .before)))
-          (c .length-refusal)
+      After-length-refusal·gave = λ c. Called.given ps·2 r·2 (claims· .5) T27 (record { pos = 8; st = []; d = 0; at = λ x. x }, tt) (m17 (c .before .before) (After-length-word·gave (c .before))) (c
+          .length-refusal)
 
-      abbrev pub m19 : (before : After-length-word) → (given : s26 .gives (m17 (before .before) (After-length-word·gave before))) → Typed.Mo T29
-      m19 = λ before given. s27 (m18 before given)
-
-      abbrev pub m20 : (before : After-length-word) → (given : s26 .gives (m17 (before .before) (After-length-word·gave before))) → Typed.Mo T30
-      m20 = λ before given. s28 (m19 before given)
-
-      abbrev pub m21 : (before : After-length-word) → (given : s26 .gives (m17 (before .before) (After-length-word·gave before))) → Typed.Mo T31
-      m21 = λ before given. s29 (m20 before given)
-
-      abbrev pub m22 : (before : After-length-word) → (given : s26 .gives (m17 (before .before) (After-length-word·gave before))) → Typed.Mo T32
-      m22 = λ before given. s30 (m21 before given)
-
-      abbrev pub m23 : (before : After-length-word) → (given : s26 .gives (m17 (before .before) (After-length-word·gave before))) → Typed.Mo T33
-      m23 = λ before given. s31 (m22 before given)
-
-      abbrev pub m24 : (before : After-length-word) → (given : s26 .gives (m17 (before .before) (After-length-word·gave before))) → Typed.Mo T34
-      m24 = λ before given. s32 (m23 before given)
+      abbrev pub m24 : (before : After-length-word) → (given : s26 .gives (m17 (before .before) (After-length-word·gave before))) → Typed.Mo T1
+      m24 = λ before given. s32 (s31 (s30 (s29 (s28 (s27 (m18 before given))))))
 
       abbrev pub Need-same-length : Type 0
-      Need-same-length = (c : After-length-refusal) → MutSlice.SameLen (Row.get 3 (T34 .locals) (m24 (c .before) (After-length-refusal·gave c))) (dens (c .before .before .before .before .before
-          .before .before .before .before .before .before .before .before .before .before .κs) (c .before .before .before .before .before .before .before .before .before .before .before .before .before
-          .before .before .args) .1 .1 .0)
+      Need-same-length = (c : After-length-refusal) → MutSlice.SameLen (Row.get 3 (T1 .locals) (m24 (c .before) (After-length-refusal·gave c))) (dens (c .before .before .before .before .before .before
+          .before .before .before .before .before .before .before .before .before .κs) (c .before .before .before .before .before .before .before .before .before .before .before .before .before .before
+          .before .args) .1 .1 .0)
 
       abbrev pub Need-same-length-2 : Type 0
-      Need-same-length-2 = (c : After-length-refusal) → MutSlice.SameLen (Row.get 4 (T34 .locals) (m24 (c .before) (After-length-refusal·gave c))) (dens (c .before .before .before .before .before
+      Need-same-length-2 = (c : After-length-refusal) → MutSlice.SameLen (Row.get 4 (T1 .locals) (m24 (c .before) (After-length-refusal·gave c))) (dens (c .before .before .before .before .before
           .before .before .before .before .before .before .before .before .before .before .κs) (c .before .before .before .before .before .before .before .before .before .before .before .before .before
           .before .before .args) .1 .1 .1 .0)
 
       abbrev pub Need-same-length-3 : Type 0
-      Need-same-length-3 = (c : After-length-refusal) → MutSlice.SameLen (Row.get 5 (T34 .locals) (m24 (c .before) (After-length-refusal·gave c))) (dens (c .before .before .before .before .before
+      Need-same-length-3 = (c : After-length-refusal) → MutSlice.SameLen (Row.get 5 (T1 .locals) (m24 (c .before) (After-length-refusal·gave c))) (dens (c .before .before .before .before .before
           .before .before .before .before .before .before .before .before .before .before .κs) (c .before .before .before .before .before .before .before .before .before .before .before .before .before
           .before .before .args) .1 .1 .1 .1 .0)
 
@@ -1624,162 +1118,64 @@ module _ (claims· : Claims) where
 
       module _ (write-block-requires : Need-write-block-requires) (length-word-requires : Need-length-word-requires) (length-refusal-requires : Need-length-refusal-requires) (same-length :
           Need-same-length) (same-length-2 : Need-same-length-2) (same-length-3 : Need-same-length-3) (returns : Need-returns) where
-        lay3 : (c : After-length-refusal) → at6 (W0 (c .before .before .before .before .before .before .before .before .before .before .before .before .before .before .before .κs) (c .before .before
-            .before .before .before .before .before .before .before .before .before .before .before .before .before .args)) (m18 (c .before) (After-length-refusal·gave c))
+        lay3 : (c : After-length-refusal) → at6 (W0 (After-length-refusal·start c .κs) (After-length-refusal·start c .args)) (m18 (c .before) (After-length-refusal·gave c))
         lay3 = λ c. (
           (
             Path'.refl,
             (
               Path'.refl,
               (
-                MutSlice.fix-len (Row.get 3 (T34 .locals) (m24 (c .before) (After-length-refusal·gave c)) .ptr) (Row.get 3 (T34 .locals) (m24 (c .before) (After-length-refusal·gave c)) .name) (Row.get 3 (T34
-                    .locals) (m24 (c .before) (After-length-refusal·gave c)) .now) (dens (c .before .before .before .before .before .before .before .before .before .before .before .before .before .before .before
-                    .κs) (c .before .before .before .before .before .before .before .before .before .before .before .before .before .before .before .args) .1 .1 .0 .now) (same-length record
-                    { before = c .before; length-refusal = c .length-refusal }),
+                MutSlice.fix-len (Row.get 3 (T1 .locals) (m24 (c .before) (After-length-refusal·gave c)) .ptr) (Row.get 3 (T1 .locals) (m24 (c .before) (After-length-refusal·gave c)) .name) (Row.get 3 (T1
+                    .locals) (m24 (c .before) (After-length-refusal·gave c)) .now) (dens (After-length-refusal·start c .κs) (After-length-refusal·start c .args) .1 .1 .0 .now) (same-length c),
                 (
-                  MutSlice.fix-len (Row.get 4 (T34 .locals) (m24 (c .before) (After-length-refusal·gave c)) .ptr) (Row.get 4 (T34 .locals) (m24 (c .before) (After-length-refusal·gave c)) .name) (Row.get 4 (T34
-                      .locals) (m24 (c .before) (After-length-refusal·gave c)) .now) (dens (c .before .before .before .before .before .before .before .before .before .before .before .before .before .before .before
-                      .κs) (c .before .before .before .before .before .before .before .before .before .before .before .before .before .before .before .args) .1 .1 .1 .0 .now) (same-length-2 record
-                      { before = c .before; length-refusal = c .length-refusal }),
+                  MutSlice.fix-len (Row.get 4 (T1 .locals) (m24 (c .before) (After-length-refusal·gave c)) .ptr) (Row.get 4 (T1 .locals) (m24 (c .before) (After-length-refusal·gave c)) .name) (Row.get 4 (T1
+                      .locals) (m24 (c .before) (After-length-refusal·gave c)) .now) (dens (After-length-refusal·start c .κs) (After-length-refusal·start c .args) .1 .1 .1 .0 .now) (same-length-2 c),
                   (
-                    MutSlice.fix-len (Row.get 5 (T34 .locals) (m24 (c .before) (After-length-refusal·gave c)) .ptr) (Row.get 5 (T34 .locals) (m24 (c .before) (After-length-refusal·gave c)) .name) (Row.get 5 (T34
-                        .locals) (m24 (c .before) (After-length-refusal·gave c)) .now) (dens (c .before .before .before .before .before .before .before .before .before .before .before .before .before .before .before
-                        .κs) (c .before .before .before .before .before .before .before .before .before .before .before .before .before .before .before .args) .1 .1 .1 .1 .0 .now) (same-length-3 record
-                        { before = c .before; length-refusal = c .length-refusal }),
+                    MutSlice.fix-len (Row.get 5 (T1 .locals) (m24 (c .before) (After-length-refusal·gave c)) .ptr) (Row.get 5 (T1 .locals) (m24 (c .before) (After-length-refusal·gave c)) .name) (Row.get 5 (T1
+                        .locals) (m24 (c .before) (After-length-refusal·gave c)) .now) (dens (After-length-refusal·start c .κs) (After-length-refusal·start c .args) .1 .1 .1 .1 .0 .now) (same-length-3 c),
                     (Path'.refl, (Path'.refl, tt)),
                   ),
                 ),
               ),
             ),
           ),
-          returns record { before = c .before; length-refusal = c .length-refusal },
+          returns c,
         )
 
-        lay2 : (c : After-length-word) → at7 (W0 (c .before .before .before .before .before .before .before .before .before .before .before .before .before .before .κs) (c .before .before .before
-            .before .before .before .before .before .before .before .before .before .before .before .args)) (m17 (c .before) (After-length-word·gave c))
+        lay2 : (c : After-length-word) → at7 (W0 (After-length-word·start c .κs) (After-length-word·start c .args)) (m17 (c .before) (After-length-word·gave c))
         lay2 = λ c. (
-          length-refusal-requires record { before = c .before; length-word = c .length-word },
-          λ g. lay3 record {
-            before = record { before = c .before; length-word = c .length-word };
-            length-refusal = Called.called ps·2 r·2 (claims· .5) T27 (record { pos = 8; st = List.[]; d = 0; at = λ x. x }, tt) (m17
-                (c .before) (After-length-word·gave c)) g;
-          },
+          length-refusal-requires c,
+          λ g. lay3 record
+              { before = c; length-refusal = Called.called ps·2 r·2 (claims· .5) T27 (record { pos = 8; st = []; d = 0; at = λ x. x }, tt) (m17 (c .before) (After-length-word·gave c)) g },
         )
 
-        lay1 : (c : After-write-block) → at19 (W0 (c .before .before .before .before .before .before .before .before .κs) (c .before .before .before .before .before .before .before .before .args))
-            (m11 (c .before) (After-write-block·gave c))
+        lay1 : (c : After-write-block) → at18 (W0 (After-write-block·start c .κs) (After-write-block·start c .args)) (m11 (c .before) (After-write-block·gave c))
         lay1 = λ c. (
           Path'.refl,
-          λ g. λ g'. (
-            Path'.refl,
-            λ g''. λ g'3. (
-              Path'.refl,
-              λ g'4. (
-                length-word-requires record {
-                  before = record {
-                    before = record {
-                      before = record { before = record { before = record { before = c .before; write-block = c .write-block }; out = record { given = g } }; slice-known3 = record { given = g' } };
-                      lines =
-                          record { given = g'' };
-                    };
-                    slice-known4 = record { given = g'3 };
-                  };
-                  rs = record { given = g'4 };
-                },
-                λ g'5. lay2 record {
-                  before = record {
-                    before = record {
-                      before = record {
-                        before = record { before = record { before = record { before = c .before; write-block = c .write-block }; out = record { given = g } }; slice-known3 = record { given = g' } };
-                        lines =
-                            record { given = g'' };
-                      };
-                      slice-known4 = record { given = g'3 };
-                    };
-                    rs = record { given = g'4 };
-                  };
-                  length-word = Called.called ps·1 r·1 (claims· .3) T25
-                      (record { pos = 8; st = List.[]; d = 0; at = λ x. x }, tt) (m16 record {
-                        before = record {
-                          before = record { before = record { before = record { before = c .before; write-block = c .write-block }; out = record { given = g } }; slice-known3 = record { given = g' } };
-                          lines =
-                              record { given = g'' };
-                        };
-                        slice-known4 = record { given = g'3 };
-                      } g'4) g'5;
-                },
+          λ g. let c1 : After-out = record { before = c; out = record { given = g } } in λ g'. let c2 : After-slice-known3 = record { before = c1; slice-known3 = record { given = g' } }
+              in (
+                Path'.refl,
+                λ g''. let c3 : After-lines = record { before = c2; lines = record { given = g'' } } in λ g'3. let c4 : After-slice-known4 = record
+                    { before = c3; slice-known4 = record { given = g'3 } } in (
+                      Path'.refl,
+                      λ g'4. let c5 : After-rs = record { before = c4; rs = record { given = g'4 } } in
+                          (length-word-requires c5, λ g'5. lay2 record { before = c5; length-word = Called.called ps·1 r·1 (claims· .3) T25 (record { pos = 8; st = []; d = 0; at = λ x. x }, tt) (m16 c4 g'4) g'5 }),
+                    ),
               ),
-            ),
-          ),
         )
 
         pub laid : (c : Start) → at33 (W0 (c .κs) (c .args)) (m0 (c .κs) (c .args))
-        laid = λ c. λ g. λ g'. λ g''. λ g'3. λ g'4. (
-          Path'.refl,
-          λ g'5. (
-            Path'.refl,
-            λ g'6. (
+        laid = λ c. λ g. let c1 : After-shared-slice-known = record { before = c; shared-slice-known = record { given = g } } in λ g'. let c2 : After-shared-slice-known2 = record
+            { before = c1; shared-slice-known2 = record { given = g' } } in λ g''. let c3 : After-slice-known = record { before = c2; slice-known = record { given = g'' } } in λ g'3. let c4 :
+            After-slice-known2 = record { before = c3; slice-known2 = record { given = g'3 } } in λ g'4. let c5 : After-write-block-arg = record { before = c4; write-block-arg = record { given = g'4 } }
+            in (
               Path'.refl,
-              (
-                write-block-requires record {
-                  before = record {
-                    before = record {
-                      before = record {
-                        before = record
-                            { before = record { before = record { before = c; shared-slice-known = record { given = g } }; shared-slice-known2 = record { given = g' } }; slice-known = record { given = g'' } };
-                        slice-known2 = record { given = g'3 };
-                      };
-                      write-block-arg = record { given = g'4 };
-                    };
-                    write-block-arg2 = record { given = g'5 };
-                  };
-                  write-block-arg3 = record { given = g'6 };
-                },
-                λ g'7. lay1
-                    record {
-                      before = record {
-                        before = record {
-                          before = record {
-                            before = record {
-                              before = record
-                                  { before = record { before = record { before = c; shared-slice-known = record { given = g } }; shared-slice-known2 = record { given = g' } }; slice-known = record { given = g'' } };
-                              slice-known2 = record { given = g'3 };
-                            };
-                            write-block-arg = record { given = g'4 };
-                          };
-                          write-block-arg2 = record { given = g'5 };
-                        };
-                        write-block-arg3 = record { given = g'6 };
-                      };
-                      write-block =
-                          Called.called ps·0 r·0 (claims· .1) T14 (
-                            record { pos = 1; ty = Syntax.tyRef (Syntax.named 0) Syntax.imm (Syntax.tyInt Syntax.w8); ref = λ x. x },
-                            (
-                              record { pos = 2; ty = Syntax.tyRef (Syntax.named 1) Syntax.imm (Syntax.tyInt Syntax.w16); ref = λ x. x },
-                              (
-                                record { pos = 12; ty = Syntax.tyRef Syntax.erased Syntax.mut (Syntax.tyInt Syntax.w8); ref = λ x. x },
-                                (
-                                  record { pos = 14; ty = Syntax.tyRef Syntax.erased Syntax.mut (Syntax.tyInt Syntax.w16); ref = λ x. x },
-                                  (record { pos = 16; ty = Syntax.tyRef Syntax.erased Syntax.mut Element.behind; ref = λ x. x }, tt),
-                                ),
-                              ),
-                            ),
-                          ) (m10 record {
-                            before = record {
-                              before = record {
-                                before = record
-                                    { before = record { before = record { before = c; shared-slice-known = record { given = g } }; shared-slice-known2 = record { given = g' } }; slice-known = record { given = g'' } };
-                                slice-known2 = record { given = g'3 };
-                              };
-                              write-block-arg = record { given = g'4 };
-                            };
-                            write-block-arg2 = record { given = g'5 };
-                          } g'6) g'7;
-                    },
+              λ g'5. let c6 : After-write-block-arg2 = record { before = c5; write-block-arg2 = record { given = g'5 } } in (
+                Path'.refl,
+                λ g'6. let c7 : After-write-block-arg3 = record { before = c6; write-block-arg3 = record { given = g'6 } } in
+                    (Path'.refl, (write-block-requires c7, λ g'7. lay1 record { before = c7; write-block = Called.called ps·0 r·0 (claims· .1) T14 a0 (m10 c6 g'6) g'7 })),
               ),
-            ),
-          ),
-        )
+            )
 
         module _ (κs : Lifetimes.Lfts 7) (qs : Lifetimes.Shares 7) where
           pub asked : (a : Kinds.Dens κs ps) → (good : Kinds.GoodsP κs ps a) → (pre : Pre· κs a) → (bs : List.List Nat.ℕ) → Φ (Any.wantQ 7 ps r xs m κs qs a (Post· κs a)) (Function.init 7 ps r xs m κs

@@ -18,82 +18,36 @@ use borrow.Fn.Run
 use borrow.Fn.Written
 use contract.Running
 
-abbrev pub Start : Type 0
-Start = Lts.Start (Reads.Asked, Reads.Learnt, Reads'3.Asked, Reads'3.Learnt, Reads''.Asked, Reads''.Learnt) Reads'.Pre Reads'.Post
-
-abbrev pub After-shared-slice-known : Type 0
-After-shared-slice-known = Lts.After-shared-slice-known (Reads.Asked, Reads.Learnt, Reads'3.Asked, Reads'3.Learnt, Reads''.Asked, Reads''.Learnt) Reads'.Pre Reads'.Post
-
-abbrev pub After-shared-slice-known2 : Type 0
-After-shared-slice-known2 = Lts.After-shared-slice-known2 (Reads.Asked, Reads.Learnt, Reads'3.Asked, Reads'3.Learnt, Reads''.Asked, Reads''.Learnt) Reads'.Pre Reads'.Post
-
-abbrev pub After-slice-known : Type 0
-After-slice-known = Lts.After-slice-known (Reads.Asked, Reads.Learnt, Reads'3.Asked, Reads'3.Learnt, Reads''.Asked, Reads''.Learnt) Reads'.Pre Reads'.Post
-
-abbrev pub After-slice-known2 : Type 0
-After-slice-known2 = Lts.After-slice-known2 (Reads.Asked, Reads.Learnt, Reads'3.Asked, Reads'3.Learnt, Reads''.Asked, Reads''.Learnt) Reads'.Pre Reads'.Post
-
-abbrev pub After-write-block-arg : Type 0
-After-write-block-arg = Lts.After-write-block-arg (Reads.Asked, Reads.Learnt, Reads'3.Asked, Reads'3.Learnt, Reads''.Asked, Reads''.Learnt) Reads'.Pre Reads'.Post
-
-abbrev pub After-write-block-arg2 : Type 0
-After-write-block-arg2 = Lts.After-write-block-arg2 (Reads.Asked, Reads.Learnt, Reads'3.Asked, Reads'3.Learnt, Reads''.Asked, Reads''.Learnt) Reads'.Pre Reads'.Post
-
-abbrev pub After-write-block-arg3 : Type 0
-After-write-block-arg3 = Lts.After-write-block-arg3 (Reads.Asked, Reads.Learnt, Reads'3.Asked, Reads'3.Learnt, Reads''.Asked, Reads''.Learnt) Reads'.Pre Reads'.Post
-
-abbrev pub After-write-block : Type 0
-After-write-block = Lts.After-write-block (Reads.Asked, Reads.Learnt, Reads'3.Asked, Reads'3.Learnt, Reads''.Asked, Reads''.Learnt) Reads'.Pre Reads'.Post
-
-abbrev pub After-out : Type 0
-After-out = Lts.After-out (Reads.Asked, Reads.Learnt, Reads'3.Asked, Reads'3.Learnt, Reads''.Asked, Reads''.Learnt) Reads'.Pre Reads'.Post
-
-abbrev pub After-slice-known3 : Type 0
-After-slice-known3 = Lts.After-slice-known3 (Reads.Asked, Reads.Learnt, Reads'3.Asked, Reads'3.Learnt, Reads''.Asked, Reads''.Learnt) Reads'.Pre Reads'.Post
-
-abbrev pub After-lines : Type 0
-After-lines = Lts.After-lines (Reads.Asked, Reads.Learnt, Reads'3.Asked, Reads'3.Learnt, Reads''.Asked, Reads''.Learnt) Reads'.Pre Reads'.Post
-
-abbrev pub After-slice-known4 : Type 0
-After-slice-known4 = Lts.After-slice-known4 (Reads.Asked, Reads.Learnt, Reads'3.Asked, Reads'3.Learnt, Reads''.Asked, Reads''.Learnt) Reads'.Pre Reads'.Post
-
-abbrev pub After-rs : Type 0
-After-rs = Lts.After-rs (Reads.Asked, Reads.Learnt, Reads'3.Asked, Reads'3.Learnt, Reads''.Asked, Reads''.Learnt) Reads'.Pre Reads'.Post
-
-abbrev pub After-length-word : Type 0
-After-length-word = Lts.After-length-word (Reads.Asked, Reads.Learnt, Reads'3.Asked, Reads'3.Learnt, Reads''.Asked, Reads''.Learnt) Reads'.Pre Reads'.Post
-
-abbrev pub After-length-refusal : Type 0
-After-length-refusal = Lts.After-length-refusal (Reads.Asked, Reads.Learnt, Reads'3.Asked, Reads'3.Learnt, Reads''.Asked, Reads''.Learnt) Reads'.Pre Reads'.Post
+abbrev claims : Lts.Claims
+claims = (Reads.Asked, Reads.Learnt, Reads'3.Asked, Reads'3.Learnt, Reads''.Asked, Reads''.Learnt)
 
 abbrev pub Need-write-block-requires : Type 0
-Need-write-block-requires = Lts.Need-write-block-requires (Reads.Asked, Reads.Learnt, Reads'3.Asked, Reads'3.Learnt, Reads''.Asked, Reads''.Learnt) Reads'.Pre Reads'.Post
+Need-write-block-requires = Lts.Need-write-block-requires claims Reads'.Pre Reads'.Post
 
 abbrev pub Need-length-word-requires : Type 0
-Need-length-word-requires = Lts.Need-length-word-requires (Reads.Asked, Reads.Learnt, Reads'3.Asked, Reads'3.Learnt, Reads''.Asked, Reads''.Learnt) Reads'.Pre Reads'.Post
+Need-length-word-requires = Lts.Need-length-word-requires claims Reads'.Pre Reads'.Post
 
 abbrev pub Need-length-refusal-requires : Type 0
-Need-length-refusal-requires = Lts.Need-length-refusal-requires (Reads.Asked, Reads.Learnt, Reads'3.Asked, Reads'3.Learnt, Reads''.Asked, Reads''.Learnt) Reads'.Pre Reads'.Post
+Need-length-refusal-requires = Lts.Need-length-refusal-requires claims Reads'.Pre Reads'.Post
 
 abbrev pub Need-same-length : Type 0
-Need-same-length = Lts.Need-same-length (Reads.Asked, Reads.Learnt, Reads'3.Asked, Reads'3.Learnt, Reads''.Asked, Reads''.Learnt) Reads'.Pre Reads'.Post
+Need-same-length = Lts.Need-same-length claims Reads'.Pre Reads'.Post
 
 abbrev pub Need-same-length-2 : Type 0
-Need-same-length-2 = Lts.Need-same-length-2 (Reads.Asked, Reads.Learnt, Reads'3.Asked, Reads'3.Learnt, Reads''.Asked, Reads''.Learnt) Reads'.Pre Reads'.Post
+Need-same-length-2 = Lts.Need-same-length-2 claims Reads'.Pre Reads'.Post
 
 abbrev pub Need-same-length-3 : Type 0
-Need-same-length-3 = Lts.Need-same-length-3 (Reads.Asked, Reads.Learnt, Reads'3.Asked, Reads'3.Learnt, Reads''.Asked, Reads''.Learnt) Reads'.Pre Reads'.Post
+Need-same-length-3 = Lts.Need-same-length-3 claims Reads'.Pre Reads'.Post
 
 abbrev pub Need-returns : Type 0
-Need-returns = Lts.Need-returns (Reads.Asked, Reads.Learnt, Reads'3.Asked, Reads'3.Learnt, Reads''.Asked, Reads''.Learnt) Reads'.Pre Reads'.Post
+Need-returns = Lts.Need-returns claims Reads'.Pre Reads'.Post
 
 module _ {M : Type 1} where
   pub spec : (answer : Need-write-block-requires) → (answer : Need-length-word-requires) → (answer : Need-length-refusal-requires) → (answer : Need-same-length) → (answer : Need-same-length-2) →
-      (answer : Need-same-length-3) → (answer : Need-returns) → Lts.Closed (Reads.Asked, Reads.Learnt, Reads'3.Asked, Reads'3.Learnt, Reads''.Asked, Reads''.Learnt) Reads'.Pre Reads'.Post M
-  spec = λ answer answer' answer'' answer'3 answer'4 answer'5 answer'6. Lts.spec (Reads.Asked, Reads.Learnt, Reads'3.Asked, Reads'3.Learnt, Reads''.Asked, Reads''.Learnt) Reads'.Pre Reads'.Post answer
-      answer' answer'' answer'3 answer'4 answer'5 answer'6
+      (answer : Need-same-length-3) → (answer : Need-returns) → Lts.Closed claims Reads'.Pre Reads'.Post M
+  spec = λ answer answer' answer'' answer'3 answer'4 answer'5 answer'6. Lts.spec claims Reads'.Pre Reads'.Post answer answer' answer'' answer'3 answer'4 answer'5 answer'6
 
-  pub close : Lts.Closed (Reads.Asked, Reads.Learnt, Reads'3.Asked, Reads'3.Learnt, Reads''.Asked, Reads''.Learnt) Reads'.Pre Reads'.Post M → Statement.statement M
+  pub close : Lts.Closed claims Reads'.Pre Reads'.Post M → Statement.statement M
   unfolding Code.routine Running.tablesOf
   close = λ closed 𝓤 H 𝓜 𝓖 𝓡. Written.close 7 Kinds.ps Kinds.r Reads'.Ghost Reads'.requires Reads'.ensures Reads'.pre-read Reads'.Pinned Reads'.Owned Reads'.post-read record
       { M = M; 𝓤 = 𝓤; H = H; 𝓜 = 𝓜; 𝓖 = 𝓖; 𝓡 = 𝓡 } Code.env Key.name Code.function (Code.unfolded 𝓤 H 𝓜 𝓡) (λ κs a g. tt) (λ κs. Reads'.owns κs record { M = M; 𝓤 = 𝓤; H = H; 𝓜 = 𝓜; 𝓖 = 𝓖; 𝓡 = 𝓡 })

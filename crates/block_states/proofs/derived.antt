@@ -1,0 +1,10 @@
+pub mod load_records
+pub mod put_state
+pub mod put_walked
+pub mod refuse
+pub mod resume_in
+pub mod resume_lines
+pub mod resume_region
+pub mod store_checkpoint
+pub mod store_in
+pub mod store_state
