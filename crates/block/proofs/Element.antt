@@ -15,7 +15,6 @@ use ghost.Atoms.{Atoms}
 use types.Kit.{Given}
 use denote.RattleType.{RattleType}
 use denote.Memory.{pointee}
-use denote.Exit
 use denote.Struct.Declared
 use denote.Struct.Laws as L
 use denote.Struct.Struct.{layout}
@@ -23,13 +22,12 @@ use denote.Laws.{Lawful}
 use borrow.Struct.Reads.{reads-struct}
 use Prim.Native.Nat.{ℕ}
 use borrow.Fn.Kind
-use borrow.Kind.Value
 use borrow.Rule.Local
-use borrow.Rule.Yields
 use borrow.Table.Reads
 use borrow.Table.Row
 use borrow.Table.Rows
 use borrow.Table.Copies
+use Rattle.bits.proofs.Values
 use Rattle.statistics.specs.declared.Record as S
 use Rattle.steps.specs.Contexts.{noRecord}
 use Rattle.statistics.proofs.Record
@@ -44,32 +42,11 @@ held = Laws.mir
 abbrev pub behind : Ty
 behind = pointee (Record.the-row .written)
 
-abbrev pub valued : Value.Valued
-valued = record {
-  ty = Declared.row Record.the-type;
-  one = refl;
-  val = L.val Record.the-type Laws.the-laws;
-  tells = L.tells Record.the-type Laws.the-laws;
-  still = L.still Record.the-type Laws.the-copy Exit.yes;
-  row = Rows.whole (Declared.row Record.the-type);
-  rd = λ x. x;
-  mk = λ x. x;
-}
-
-abbrev pub laws : (M : Type 1) (𝓤 : URA M) (H : Heap 𝓤) (A : Atoms 𝓤) (W : Given 𝓤 H A) → Value.ValuedLaws 𝓤 H A valued
-laws M 𝓤 H A W = record {
-  copies = L.copy Record.the-type Laws.the-copy 𝓤 H A W;
-  lawful = L.lawful Record.the-type Laws.the-laws 𝓤 H A W;
-  makes = L.makes Record.the-type Laws.the-plain 𝓤 H A;
-  in-mem = Local.mem-whole 𝓤 H A W (Declared.row Record.the-type);
-  of-mem = Local.whole-mem 𝓤 H A W (Declared.row Record.the-type);
-}
-
 abbrev pub param : {n : ℕ} → Kind.PK n
-param = Value.pVal valued laws
+param = Values.struct Record.the-type Laws.the-laws Laws.the-copy Laws.the-plain
 
 abbrev pub result : {n : ℕ} → Kind.RK n
-result = Value.rVal valued laws
+result = Values.struct-result Record.the-type Laws.the-laws Laws.the-copy Laws.the-plain
 
 abbrev pub row : Row.Row
 row = Rows.whole (Declared.row Record.the-type)
@@ -90,8 +67,8 @@ module _ {M : Type 1} (𝓤 : URA M) (H : Heap 𝓤) (A : Atoms 𝓤) (W : Given
   pub of-mem : Local.OfMem 𝓤 H A row type (λ x. x)
   of-mem = Local.whole-mem 𝓤 H A W type
 
-  pub yields : Yields.Yields 𝓤 H A (λ ρ. Unit) held row row type (λ x. x) (λ x. x)
-  yields = Yields.yields-copy 𝓤 H A W (λ ρ. Unit) type refl (copies .copy 𝓤 H A W) row (λ x. x) (λ x. x) (λ ρ told. in-mem ρ) (λ ρ told. of-mem ρ)
+  pub yields : Values.Copied 𝓤 H A W type
+  yields = Values.struct-copied 𝓤 H A W Record.the-type Laws.the-laws Laws.the-copy
 
   abbrev pub lawful : Lawful 𝓤 H A type
   lawful = L.lawful Record.the-type Laws.the-laws 𝓤 H A W
