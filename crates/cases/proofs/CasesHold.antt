@@ -7,7 +7,7 @@ use Rattle.statistics.specs.Statistics.{kOf, updated}
 use Rattle.quantiser.specs.Quantisers.{totalOf, rawOf, quantiserOf, startSum, levelSize, levelOf, gradientOf}
 use Rattle.prediction.specs.Predictions.{evenPrediction, oddPrediction}
 use Rattle.code.specs.Codes.{codeAt}
-use Rattle.code.specs.Samples.{residualOf, wrap, sampleOf}
+use Rattle.samples.specs.Samples.{residualOf, wrap, sampleOf}
 use Rattle.code.specs.Tight.{isTight}
 use Rattle.map.specs.Places.{xtransPlace}
 use Rattle.stream.specs.Headers.{headerOf, kindRules, sizeRules, countRules, parseOf}

@@ -9,7 +9,7 @@ use Rattle.statistics.specs.declared.Record.{Record}
 use Rattle.quantiser.specs.Quantisers.{mainOf, flatOf, startSum, levelOf, gradientOf}
 use Rattle.prediction.specs.Predictions.{evenPrediction, oddPrediction}
 use Rattle.code.specs.Codes.{codeAt}
-use Rattle.code.specs.Samples.{sampleOf}
+use Rattle.samples.specs.Samples.{sampleOf}
 use Rattle.code.specs.Tight.{isTight}
 use Rattle.code.specs.declared.Code.{Code}
 use Rattle.code.specs.declared.Coded.{Coded}

@@ -13,7 +13,7 @@ use Rattle.numbers.proofs.OrderLaws.{split}
 use Rattle.statistics.specs.declared.Record.{Record}
 use Rattle.quantiser.proofs.GradientLaws.{main-le}
 use Rattle.prediction.specs.declared.Context.{Context}
-use Rattle.code.specs.Samples.{choiceOf}
+use Rattle.samples.specs.Samples.{choiceOf}
 use Rattle.code.specs.declared.Coded.{Coded}
 use Rattle.code.specs.declared.Coded.the-variants.{Read, Truncated}
 use Rattle.steps.specs.Steps.{Step, plans, noPlan, codedAll, planOf, passSteps}

@@ -13,7 +13,7 @@ use Rattle.statistics.proofs.RecordLaws.{k-least}
 use Rattle.quantiser.specs.Quantisers.{largest}
 use Rattle.prediction.specs.declared.Context.{Context}
 use Rattle.code.specs.Codes.{shortCode, longCode, codeAt}
-use Rattle.code.specs.Samples.{choiceOf}
+use Rattle.samples.specs.Samples.{choiceOf}
 use Rattle.code.specs.Tight.{isTight}
 use Rattle.code.specs.declared.Code.{Code}
 use Rattle.code.specs.declared.Coded.{Coded}

@@ -14,7 +14,7 @@ use Rattle.quantiser.specs.declared.Quantiser.{Quantiser}
 use Rattle.prediction.specs.declared.Context.{Context}
 use Rattle.bits.specs.declared.BitPosition.{BitPosition}
 use Rattle.code.specs.Codes.{codeAt, Small}
-use Rattle.code.specs.Samples.{residualOf, sampleOf}
+use Rattle.samples.specs.Samples.{residualOf, sampleOf}
 use Rattle.code.specs.Tight.{isTight, takenOf}
 use Rattle.code.specs.declared.Code.{Code}
 use Rattle.code.specs.declared.Coded.{Coded}

@@ -9,7 +9,7 @@ use Rattle.quantiser.specs.Quantisers.{quantiserOf, gradientOf}
 use Rattle.quantiser.specs.declared.Quantiser.{Quantiser}
 use Rattle.prediction.specs.Predictions.{evenContext, oddContext, flatnessOf}
 use Rattle.prediction.specs.declared.Context.{Context}
-use Rattle.code.specs.Samples.{choiceOf}
+use Rattle.samples.specs.Samples.{choiceOf}
 use Rattle.steps.specs.Steps.{Step}
 use Rattle.steps.specs.declared.Look.{Look}
 

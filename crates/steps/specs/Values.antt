@@ -9,7 +9,7 @@ use Rattle.statistics.specs.Statistics.{kOf, InRange}
 use Rattle.statistics.specs.declared.Record.{Record}
 use Rattle.prediction.specs.Predictions.{evenContext, oddContext}
 use Rattle.prediction.specs.declared.Context.{Context}
-use Rattle.code.specs.Samples.{choiceOf}
+use Rattle.samples.specs.Samples.{choiceOf}
 use Rattle.steps.specs.Contexts.{usedQuantiser, noRecord}
 use Rattle.steps.specs.declared.Plan.{Plan}
 use Rattle.steps.specs.declared.Set.{Set}

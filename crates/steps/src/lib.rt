@@ -5,7 +5,7 @@ ghost use Prim.Native.Nat.{_+_, _*_, _^_, _≤_, _<_};
 ghost use lib.ListN.{length, getD, set};
 ghost use Rattle.statistics.specs.Statistics.{updated, InRange};
 ghost use Rattle.prediction.specs.Predictions.{ContextRanges, flatnessOf};
-ghost use Rattle.code.specs.Samples.{residualOf, choiceOf};
+ghost use Rattle.samples.specs.Samples.{residualOf, choiceOf};
 ghost use Rattle.steps.specs.Steps.{interpolated, planOf, isInterpolated};
 ghost use Rattle.steps.specs.Contexts.{usedBase, usedWeight, placeOf, lookOf, slotOf, noRecord};
 ghost use Rattle.steps.specs.Values.{zipRecords, SetInRange, AreKs, choicesOf, evenAt, oddAt, contextAt};
@@ -252,7 +252,7 @@ pub fn look_of(base: u32, x: Context) -> Look
     if base == 0 {
         return lossless_look(x);
     }
-    look_with(base, code::choice(base, x.flatness()), x)
+    look_with(base, samples::choice(base, x.flatness()), x)
 }
 
 // The quantisers that a line with that base chooses for flatness 0 to 7, and from 8 on.
@@ -260,15 +260,15 @@ pub fn choices_of(base: u32) -> [u32; 9]
     ensures { λ r. ⌜ r ≡ choicesOf base ⌝ }
 {
     [
-        code::choice(base, 0),
-        code::choice(base, 1),
-        code::choice(base, 2),
-        code::choice(base, 3),
-        code::choice(base, 4),
-        code::choice(base, 5),
-        code::choice(base, 6),
-        code::choice(base, 7),
-        code::choice(base, 8),
+        samples::choice(base, 0),
+        samples::choice(base, 1),
+        samples::choice(base, 2),
+        samples::choice(base, 3),
+        samples::choice(base, 4),
+        samples::choice(base, 5),
+        samples::choice(base, 6),
+        samples::choice(base, 7),
+        samples::choice(base, 8),
     ]
 }
 
@@ -318,7 +318,7 @@ pub fn update_at(sums: &mut [u32; 112], ns: &mut [u32; 112], slot: usize, old: R
         ≡ set (zipRecords (now (sums .entry)) (now (ns .entry))) slot (updated old ((residualOf code) .size)) ⌝ }
     ensures { λ _. ⌜ SetInRange (zipRecords (now (sums .exit)) (now (ns .exit))) ⌝ }
 {
-    let new = old.update(code::residual_size(code));
+    let new = old.update(samples::residual_size(code));
     sums[slot] = new.sum;
     ns[slot] = new.n;
 }

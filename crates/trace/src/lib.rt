@@ -5,7 +5,7 @@ ghost use mathlib.Core.Bool.{true};
 ghost use Prim.Native.Nat.{_+_, _*_, _/_, _^_, _≤_, _<_};
 ghost use lib.ListN.{length, getD, set};
 ghost use Rattle.statistics.specs.Statistics.{updated, InRange};
-ghost use Rattle.code.specs.Samples.{residualOf};
+ghost use Rattle.samples.specs.Samples.{residualOf};
 ghost use Rattle.lines.specs.ColourLines.{zeroLines};
 ghost use Rattle.map.specs.Places.{widthOf};
 ghost use Rattle.steps.specs.Steps.{passSteps};
@@ -115,7 +115,7 @@ fn update_in(sums: &mut [u32], ns: &mut [u32], slot: usize, old: Record, code: u
         ≡ set (zipRecords (now (sums .entry)) (now (ns .entry))) slot (updated old ((residualOf code) .size)) ⌝ }
     ensures { λ _. ⌜ SetInRange (zipRecords (now (sums .exit)) (now (ns .exit))) ⌝ }
 {
-    let new = old.update(code::residual_size(code));
+    let new = old.update(samples::residual_size(code));
     sums[slot] = new.sum;
     ns[slot] = new.n;
 }
@@ -168,7 +168,7 @@ fn trace_step(
     let j = steps::slot_of(p, h.place);
     let old = record_in(sums, ns, j);
     let k = old.k();
-    let got = code::read_code(block, from, k, q.limit, q.raw);
+    let got = reader::read_code(block, from, k, q.limit, q.raw);
     let Coded::Read(c) = got else {
         return Traced::CutOff;
     };
@@ -177,7 +177,7 @@ fn trace_step(
     match verdict {
         Verdict::Bad(reason) => Traced::Bad(bad_spot(stage, x, from, reason)),
         Verdict::Good => {
-            lines[i + 1] = code::sample(
+            lines[i + 1] = samples::sample(
                 m,
                 h.base,
                 q.total,

@@ -15,7 +15,7 @@ use Rattle.statistics.specs.declared.Record.{Record}
 use Rattle.statistics.proofs.RecordLaws.{k-least}
 use Rattle.quantiser.specs.Quantisers.{largest}
 use Rattle.code.specs.Tight.{codeLength}
-use Rattle.code.proofs.SampleLaws.{sample-le}
+use Rattle.samples.proofs.SampleLaws.{sample-le}
 use Rattle.code.proofs.TightLaws.{length-codeBits, short-length, long-length}
 use Rattle.numbers.proofs.OrderLaws.{split}
 use Rattle.prediction.specs.declared.Context.{Context}

@@ -5,9 +5,10 @@ ghost use lib.ListN.{length};
 ghost use mathlib.Core.Bool.{not, _&&_};
 ghost use lib.Dec.{eqb};
 ghost use Rattle.quantiser.specs.Quantisers.{largest, totalOf};
-ghost use Rattle.code.specs.Samples.{sampleOf};
-ghost use Rattle.code.specs.Tight.{stepsUp, residualUp, codeOfResidual, codeFor, codeBits, codeLength};
-ghost use Rattle.code.specs.Nearest.{codeNear};
+ghost use Rattle.samples.specs.Samples.{sampleOf};
+ghost use Rattle.samples.specs.Wanted.{stepsUp, residualUp, codeOfResidual, codeFor};
+ghost use Rattle.code.specs.Tight.{codeBits, codeLength};
+ghost use Rattle.samples.specs.Nearest.{codeNear};
 ghost use Rattle.steps.specs.Steps.{evenPart, oddPart};
 ghost use Rattle.steps.specs.Values.{zipRecords, SetInRange, AreKs, Depth};
 ghost use Rattle.lines.specs.Sets.{rankOf, indexIn, lineSize};
@@ -168,10 +169,10 @@ fn choose_code(bits: u32, base: u32, total: u32, negative: bool, prediction: u32
             value: v,
         };
     }
-    let code = code::code_near(base, total, negative, prediction, v);
+    let code = samples::code_near(base, total, negative, prediction, v);
     Chosen {
         code,
-        value: code::sample(m, base, total, negative, prediction, code),
+        value: samples::sample(m, base, total, negative, prediction, code),
     }
 }
 
