@@ -18,7 +18,8 @@ use Rattle.pass.specs.Readings.{Reading, reads}
 use Rattle.map.specs.Places.{widthOf}
 use Rattle.block.specs.Records.{baseOf}
 use Rattle.block.specs.Blocks.{State, runs, enter, passAt, beforeLine, readLines}
-use Rattle.block.specs.BadCodes.{reasonOf, BadCode}
+use Rattle.bad_code.specs.Reasons.{reasonOf}
+use Rattle.block.specs.BadCodes.{BadCode}
 use Rattle.block.specs.declared.Form.{Form}
 
 -- the k of a step's code, and its quantiser

@@ -17,7 +17,7 @@ use Rattle.block.specs.declared.Decoded.the-variants as Answer
 use Rattle.block.specs.declared.Form.{Form}
 use Rattle.trace.specs.Ways.{plainState, Way, found, cut-off, on, wayOf, blockWay, spotOf}
 use Rattle.trace.specs.Traces.{Ends}
-use Rattle.trace.specs.declared.BadSpot.{BadSpot}
+use Rattle.bad_code.specs.declared.BadSpot.{BadSpot}
 use Rattle.trace.specs.declared.Traced.{Traced}
 use Rattle.trace.specs.declared.Traced.the-variants.{Bad, At, CutOff}
 use Rattle.diagnosis.specs.Faults.{gives15, whyNot, answerAt, faultAt, answerOf, faultOf}

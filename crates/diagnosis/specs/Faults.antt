@@ -17,9 +17,9 @@ use Rattle.block.specs.TightBlocks.{tightAnswer}
 use Rattle.block.specs.declared.Decoded.{Decoded}
 use Rattle.block.specs.declared.Decoded.the-variants as Answer
 use Rattle.trace.specs.Ways.{spotOf}
-use Rattle.trace.specs.declared.BadSpot.{BadSpot}
-use Rattle.trace.specs.declared.Reason.{Reason}
-use Rattle.trace.specs.declared.Reason.the-variants.{Large, Escape, Zeros}
+use Rattle.bad_code.specs.declared.BadSpot.{BadSpot}
+use Rattle.bad_code.specs.declared.Reason.{Reason}
+use Rattle.bad_code.specs.declared.Reason.the-variants.{Large, Escape, Zeros}
 use Rattle.diagnosis.specs.declared.Fault.{Fault}
 use Rattle.diagnosis.specs.declared.Fault.the-variants as Fault
 

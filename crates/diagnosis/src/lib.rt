@@ -10,6 +10,8 @@ ghost use Rattle.stream.specs.declared.Parsed.the-variants.{Header};
 ghost use Rattle.block.specs.Walks.{Shown, shownLines, IsWalked};
 ghost use Rattle.block.specs.Words.{answerWords};
 ghost use Rattle.diagnosis.specs.Faults.{gives15, answerAt, faultAt, answerOf, faultOf, reasonWord, spotWords, faultWords};
+use bad_code::BadSpot;
+use bad_code::Reason;
 use bits::BitPosition;
 use block::Decoded;
 use block::Form;
@@ -22,8 +24,6 @@ use block::walk;
 use map::Part;
 use stream::FujiHeader;
 use stream::Parsed;
-use trace::BadSpot;
-use trace::Reason;
 use trace::Traced;
 
 // Why a block is not tight: its first bad code; or its tail, with the number of lines and the first bit after the last code.

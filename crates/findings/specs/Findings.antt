@@ -10,8 +10,8 @@ use Rattle.stream.specs.declared.Refusal.the-variants.{Lossy}
 use Rattle.diagnosis.specs.Faults.{faultAt}
 use Rattle.diagnosis.specs.declared.Fault.{Fault}
 use Rattle.diagnosis.specs.declared.Fault.the-variants as Fault
-use Rattle.findings.specs.declared.Finding.{Finding}
-use Rattle.findings.specs.declared.Finding.the-variants.{Refused, Nothing, Code, Tail}
+use Rattle.report_text.specs.declared.Finding.{Finding}
+use Rattle.report_text.specs.declared.Finding.the-variants.{Refused, Nothing, Code, Tail}
 
 abbrev pub foundAt : ℕ → Fault → Finding
 foundAt b Fault.None = Nothing

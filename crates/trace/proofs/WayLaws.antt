@@ -17,7 +17,7 @@ use Rattle.trace.specs.Ways.{Way, found, cut-off, on, wayOf, spotOf, ste
 use Rattle.trace.proofs.PlainLaws.{steps-plain, bad-plain, step-plain}
 use Rattle.trace.specs.Traces.{Said, Says}
 use Rattle.trace.proofs.Traced.{enum}
-use Rattle.trace.specs.declared.BadSpot.{BadSpot}
+use Rattle.bad_code.specs.declared.BadSpot.{BadSpot}
 use Rattle.trace.specs.declared.Sample.{Sample}
 use Rattle.trace.specs.declared.Stage.{Stage}
 use Rattle.trace.specs.declared.Traced.{Traced}

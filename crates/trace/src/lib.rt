@@ -12,40 +12,19 @@ ghost use Rattle.steps.specs.Steps.{passSteps};
 ghost use Rattle.steps.specs.Contexts.{noRecord};
 ghost use Rattle.steps.specs.Values.{zipRecords, SetInRange, Depth};
 ghost use Rattle.block.specs.Records.{startRecords};
-ghost use Rattle.block.specs.BadCodes.{reasonOf};
-ghost use Rattle.trace.specs.Ways.{verdictOf, ifDue, evenDue, oddDue, dueAt, stepsWay, lineWay, blockWay};
+ghost use Rattle.trace.specs.Ways.{ifDue, evenDue, oddDue, dueAt, stepsWay, lineWay, blockWay};
 ghost use Rattle.trace.specs.Traces.{clean, Inside, StageAsks, PassAsks, Gives, cleanState, LineAsks, LineGives, Ends};
+use bad_code::BadSpot;
+use bad_code::Reason;
+use bad_code::Verdict;
 use bits::BitPosition;
 use bits::is_past;
 use block::Form;
-use code::Code;
 use code::Coded;
 use map::width;
 use quantiser::Quantiser;
 use statistics::Record;
 use steps::Plan;
-
-// Why a code is bad: it is 2^bits or more; it is long where the short form fits; it has more zeros than the limit. Where two hold, the first is given.
-pub enum Reason {
-    Large,
-    Escape,
-    Zeros,
-}
-
-pub enum Verdict {
-    Good,
-    Bad(Reason),
-}
-
-// A bad code: its line of six rows, its pass, 1 to 6, its colour line and position, its first bit, and why it is bad.
-pub struct BadSpot {
-    pub line: usize,
-    pub pass: usize,
-    pub colour: usize,
-    pub position: usize,
-    pub at: BitPosition,
-    pub reason: Reason,
-}
 
 // What a walk says: a bad code; all codes were tight up to this bit; or no one bit was left before there was a bad code.
 pub enum Traced {
@@ -71,28 +50,6 @@ pub struct Stage {
 }
 
 // ---- one sample
-
-// Why a code that was read is bad, if it is.
-fn verdict_of(m: u32, k: u32, limit: u32, c: Code) -> Verdict
-    requires { ⌜ k ≤ 15 ⌝ }
-    ensures { λ r. ⌜ r ≡ verdictOf (reasonOf m k limit c) ⌝ }
-{
-    let value = c.value;
-    let zeros = c.zeros;
-    if m < value {
-        return Verdict::Bad(Reason::Large);
-    }
-    if zeros < (limit as u64) {
-        return Verdict::Good;
-    }
-    if value >> k < limit {
-        return Verdict::Bad(Reason::Escape);
-    }
-    if (limit as u64) < zeros {
-        return Verdict::Bad(Reason::Zeros);
-    }
-    Verdict::Good
-}
 
 // The record at a place of a set. `steps::record_at` takes arrays; here a set is a part of the 336 records.
 fn record_in(sums: &[u32], ns: &[u32], slot: usize) -> Record
@@ -173,7 +130,7 @@ fn trace_step(
         return Traced::CutOff;
     };
     let after = c.after;
-    let verdict = verdict_of(m, k, q.limit, c);
+    let verdict = bad_code::verdict_of(m, k, q.limit, c);
     match verdict {
         Verdict::Bad(reason) => Traced::Bad(bad_spot(stage, x, from, reason)),
         Verdict::Good => {

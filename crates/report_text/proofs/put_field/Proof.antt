@@ -1,9 +1,9 @@
--- `findings::put_field` meets its contract. Assumes nothing.
+-- `report_text::put_field` meets its contract. Assumes nothing.
 use borrow.Author.Needs.{needs}
 use native.Mathlib.Omega.{arith}
-use Rattle.findings.proofs.TextLaws.{put-both}
-use Rattle.findings.proofs.put_field.Statement.{statement}
-use Rattle.findings.proofs.put_field.Tie as tie
+use Rattle.report_text.proofs.TextLaws.{put-both}
+use Rattle.report_text.proofs.put_field.Statement.{statement}
+use Rattle.report_text.proofs.put_field.Tie as tie
 
 returns : tie.Need-returns
 returns c =

@@ -1,9 +1,9 @@
--- `findings::put_code` meets its contract: one field after the other. Assumes nothing.
+-- `report_text::put_code` meets its contract: one field after the other. Assumes nothing.
 use borrow.Author.Needs.{needs}
 use native.Mathlib.Omega.{arith}
-use Rattle.findings.proofs.TextLaws.{put-both}
-use Rattle.findings.proofs.put_code.Statement.{statement}
-use Rattle.findings.proofs.put_code.Tie as tie
+use Rattle.report_text.proofs.TextLaws.{put-both}
+use Rattle.report_text.proofs.put_code.Statement.{statement}
+use Rattle.report_text.proofs.put_code.Tie as tie
 
 returns : tie.Need-returns
 returns c =

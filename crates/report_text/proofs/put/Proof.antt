@@ -1,4 +1,4 @@
--- `findings::put` meets its contract: the first i bytes of the text have been put. Assumes nothing.
+-- `report_text::put` meets its contract: the first i bytes of the text have been put. Assumes nothing.
 use borrow.Author.Needs.{needs}
 use mathlib.Core.List.{List}
 use mathlib.Core.Path.{_≡_, refl, sym, ap, _∙_}
@@ -7,8 +7,8 @@ use native.Mathlib.Numerals.{add-one}
 use native.Mathlib.Omega.{arith}
 use lib.ListN.{length, getD, set, length-set}
 use lib.Seq.{paste, paste-zero, paste-suc}
-use Rattle.findings.proofs.put.Statement.{statement}
-use Rattle.findings.proofs.put.Tie as tie
+use Rattle.report_text.proofs.put.Statement.{statement}
+use Rattle.report_text.proofs.put.Tie as tie
 
 abbrev Inv-loop : tie.InvT-loop
 Inv-loop out₀ at text n i₀ out i = (i ≤ n) × (n ≡ length text) × (length out ≡ length out₀) × (out ≡ paste out₀ at text i)

@@ -1,4 +1,4 @@
--- `findings::put_refusal` meets its contract. Assumes nothing.
+-- `report_text::put_refusal` meets its contract. Assumes nothing.
 use borrow.Author.Needs.{needs}
 use mathlib.Core.List.{List, [], _∷_, _++_}
 use mathlib.Core.Path.{_≡_}
@@ -7,11 +7,11 @@ use native.Mathlib.Omega.{arith}
 use lib.ListN.{getD}
 use Rattle.stream.specs.Refusals.{refusalWords}
 use Rattle.stream.specs.declared.Refusal.{Refusal}
-use Rattle.findings.specs.Texts.{numberText, textOf}
-use Rattle.findings.specs.declared.Finding.the-variants.{Refused}
-use Rattle.findings.proofs.TextLaws.{put-both, put-same}
-use Rattle.findings.proofs.put_refusal.Statement.{statement}
-use Rattle.findings.proofs.put_refusal.Tie as tie
+use Rattle.report_text.specs.Texts.{numberText, textOf}
+use Rattle.report_text.specs.declared.Finding.the-variants.{Refused}
+use Rattle.report_text.proofs.TextLaws.{put-both, put-same}
+use Rattle.report_text.proofs.put_refusal.Statement.{statement}
+use Rattle.report_text.proofs.put_refusal.Tie as tie
 
 of-refusal : (x : Refusal) (w : List ℕ) → w ≡ refusalWords x → numberText (getD w 0 0) ++ 10 ∷ [] ≡ textOf (Refused x)
 unfolding textOf

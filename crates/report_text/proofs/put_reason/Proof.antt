@@ -1,10 +1,10 @@
--- `findings::put_reason` meets its contract. Assumes nothing.
+-- `report_text::put_reason` meets its contract. Assumes nothing.
 use borrow.Author.Needs.{needs}
 use lib.Dec.{lit≤}
-use Rattle.trace.specs.declared.Reason.the-variants.{Large, Escape, Zeros}
-use Rattle.findings.proofs.TextLaws.{put-word}
-use Rattle.findings.proofs.put_reason.Statement.{statement}
-use Rattle.findings.proofs.put_reason.Tie as tie
+use Rattle.bad_code.specs.declared.Reason.the-variants.{Large, Escape, Zeros}
+use Rattle.report_text.proofs.TextLaws.{put-word}
+use Rattle.report_text.proofs.put_reason.Statement.{statement}
+use Rattle.report_text.proofs.put_reason.Tie as tie
 
 returns : tie.Need-returns
 returns c = let p = c .before .before in put-word _ Large (p .before .before .before .enum-told .given .1) (lit≤ tt) (p .put .ensures)

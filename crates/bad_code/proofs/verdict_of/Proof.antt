@@ -1,10 +1,10 @@
--- `trace::verdict_of` meets its contract: the tests come in the order of the reasons. Assumes nothing.
+-- `bad_code::verdict_of` meets its contract: the tests come in the order of the reasons. Assumes nothing.
 use borrow.Author.Needs.{needs}
 use borrow.Author.Tests.{lt-ltb, le-ltb, le-leb, lt-leb}
 use native.Mathlib.Omega.{arith}
-use Rattle.block.specs.BadCodes.{reasonOf}
-use Rattle.trace.proofs.verdict_of.Statement.{statement}
-use Rattle.trace.proofs.verdict_of.Tie as tie
+use Rattle.bad_code.specs.Reasons.{reasonOf}
+use Rattle.bad_code.proofs.verdict_of.Statement.{statement}
+use Rattle.bad_code.proofs.verdict_of.Tie as tie
 
 returns : tie.Need-returns
 unfolding reasonOf

@@ -12,8 +12,8 @@ use Rattle.io.specs.Counts.{Counts}
 use Rattle.io.specs.Digits.{digits, Fewest}
 use Rattle.numbers.specs.Numbers.{leastFrom}
 use Rattle.numbers.proofs.LeastLaws.{least-is}
-use Rattle.trace.specs.declared.Reason.{Reason}
-use Rattle.findings.specs.Texts.{reasonText, numberText, Put}
+use Rattle.bad_code.specs.declared.Reason.{Reason}
+use Rattle.report_text.specs.Texts.{reasonText, numberText, Put}
 
 -- ---- one text, and then another
 

@@ -1,4 +1,4 @@
--- `findings::put_finding` meets its contract, by what was found. Assumes nothing.
+-- `report_text::put_finding` meets its contract, by what was found. Assumes nothing.
 use borrow.Author.Needs.{needs}
 use mathlib.Core.List.{_++_}
 use mathlib.Core.Path.{_≡_}
@@ -6,13 +6,13 @@ use Prim.Native.Nat.{ℕ}
 use native.Mathlib.Omega.{arith}
 use Rattle.bits.specs.declared.BitPosition.{BitPosition}
 use Rattle.stream.specs.declared.Refusal.{Refusal}
-use Rattle.trace.specs.declared.BadSpot.{BadSpot}
-use Rattle.findings.specs.Texts.{heading, codeText, tailRecord, textOf}
-use Rattle.findings.specs.declared.Finding.{Finding}
-use Rattle.findings.specs.declared.Finding.the-variants.{Refused, Nothing, Code, Tail}
-use Rattle.findings.proofs.TextLaws.{put-both, put-same}
-use Rattle.findings.proofs.put_finding.Statement.{statement}
-use Rattle.findings.proofs.put_finding.Tie as tie
+use Rattle.bad_code.specs.declared.BadSpot.{BadSpot}
+use Rattle.report_text.specs.Texts.{heading, codeText, tailRecord, textOf}
+use Rattle.report_text.specs.declared.Finding.{Finding}
+use Rattle.report_text.specs.declared.Finding.the-variants.{Refused, Nothing, Code, Tail}
+use Rattle.report_text.proofs.TextLaws.{put-both, put-same}
+use Rattle.report_text.proofs.put_finding.Statement.{statement}
+use Rattle.report_text.proofs.put_finding.Tie as tie
 
 of-refused : (f : Finding) (x : Refusal) → f ≡ Refused x → textOf (Refused x) ≡ textOf f
 of-refused f x e = rw e

@@ -8,12 +8,12 @@ use lib.Seq.{paste}
 use Rattle.io.specs.Digits.{digits}
 use Rattle.numbers.specs.Numbers.{leastFrom}
 use Rattle.stream.specs.Refusals.{refusalNumber}
-use Rattle.trace.specs.declared.BadSpot.{BadSpot}
-use Rattle.trace.specs.declared.Reason.{Reason}
-use Rattle.trace.specs.declared.Reason.the-variants.{Large, Escape, Zeros}
+use Rattle.bad_code.specs.declared.BadSpot.{BadSpot}
+use Rattle.bad_code.specs.declared.Reason.{Reason}
+use Rattle.bad_code.specs.declared.Reason.the-variants.{Large, Escape, Zeros}
 use Rattle.bits.specs.declared.BitPosition.{BitPosition}
-use Rattle.findings.specs.declared.Finding.{Finding}
-use Rattle.findings.specs.declared.Finding.the-variants.{Refused, Nothing, Code, Tail}
+use Rattle.report_text.specs.declared.Finding.{Finding}
+use Rattle.report_text.specs.declared.Finding.the-variants.{Refused, Nothing, Code, Tail}
 
 abbrev pub tab : ℕ
 tab = 9

@@ -1,10 +1,10 @@
--- `findings::put_number` meets its contract. Assumes nothing.
+-- `report_text::put_number` meets its contract. Assumes nothing.
 use borrow.Author.Needs.{needs}
 use Prim.Native.Nat.{_≤_}
 use native.Mathlib.Omega.{arith}
-use Rattle.findings.proofs.TextLaws.{put-same, few-digits, number-is}
-use Rattle.findings.proofs.put_number.Statement.{statement}
-use Rattle.findings.proofs.put_number.Tie as tie
+use Rattle.report_text.proofs.TextLaws.{put-same, few-digits, number-is}
+use Rattle.report_text.proofs.put_number.Statement.{statement}
+use Rattle.report_text.proofs.put_number.Tie as tie
 
 -- twenty digits hold the number
 few : (c : tie.After-decimal) → c .decimal .result ≤ 20
