@@ -17,7 +17,7 @@ use Rattle.region.specs.Regions.{checkedOf}
 use Rattle.region.specs.declared.Rect.{Rect}
 use Rattle.region.specs.declared.Checked.{Checked}
 use Rattle.region.specs.declared.Checked.the-variants as Check
-use Rattle.steps.specs.Steps.{isInterpolated}
+use Rattle.schedule.specs.Steps.{isInterpolated}
 use Rattle.lines.specs.Sets.{setSize, colourLineAt, positionAt}
 use Rattle.begin.specs.declared.Beginning.{Beginning}
 use Rattle.begin.specs.declared.Beginning.the-variants.{Refused, Nothing, Reading}

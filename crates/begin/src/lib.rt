@@ -6,7 +6,7 @@ ghost use Prim.Native.Nat.{_+_, _*_, _^_, _≤_, _<_};
 ghost use lib.Dec.{leb, ltb};
 ghost use lib.ListN.{length};
 ghost use Rattle.region.specs.Regions.{checkedOf};
-ghost use Rattle.steps.specs.Steps.{isInterpolated};
+ghost use Rattle.schedule.specs.Steps.{isInterpolated};
 ghost use Rattle.stream.specs.declared.Parsed.the-variants.{Header};
 ghost use Rattle.lines.specs.Sets.{setSize, lineOfRank, colourLineAt, positionAt};
 ghost use Rattle.map.specs.Places.{widthOf};
@@ -309,7 +309,7 @@ fn is_interpolated_at(j: usize) -> bool
 {
     let w = map::width(true);
     let inside = j % (12 * w);
-    steps::is_interpolated(line_of_rank(inside / w), inside % w)
+    schedule::is_interpolated(line_of_rank(inside / w), inside % w)
 }
 
 // Bayer interpolates nothing.

@@ -19,10 +19,11 @@ use Rattle.code.specs.declared.Code.{Code}
 use Rattle.code.specs.declared.Coded.{Coded}
 use Rattle.code.specs.declared.Coded.the-variants.{Read, Truncated}
 use Rattle.code.proofs.CodeLaws.{code-cases}
-use Rattle.steps.specs.Steps.{Step, planOf, passSteps}
-use Rattle.steps.specs.Contexts.{stepPlace, stepContext, stepLook, stepSlot}
+use Rattle.schedule.specs.Steps.{Step, planOf, passSteps}
+use Rattle.schedule.specs.Steps.{stepPlace}
+use Rattle.steps.specs.Contexts.{stepContext, stepLook, stepSlot}
 use Rattle.pass.specs.Readings.{Reading, interpolate, takeCode, taken, readStep, andThen, reads, readPass, stepCode}
-use Rattle.steps.specs.declared.Plan.{Plan}
+use Rattle.schedule.specs.declared.Plan.{Plan}
 use Rattle.map.specs.Places.{widthOf}
 use Rattle.block.specs.Records.{baseOf}
 use Rattle.block.specs.Blocks.{State, runs, enter, leave, passAt, endLine, readLine, beforeLine, readLineAt, startState, readLines, tightIn}

@@ -15,7 +15,7 @@ use Rattle.map.specs.declared.Part.{Part}
 use Rattle.map.proofs.PartLaws.{by-test, never, in-rows}
 use Rattle.map.proofs.PlaceLaws.{place-lt}
 use Rattle.map.proofs.WindowLaws.{sample-of-colour}
-use Rattle.steps.specs.declared.Plan.{Plan}
+use Rattle.schedule.specs.declared.Plan.{Plan}
 use Rattle.block.specs.WindowedLines.{OnlyLine}
 use Rattle.block.proofs.WindowTwins.{Two}
 

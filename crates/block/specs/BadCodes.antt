@@ -9,7 +9,7 @@ use Rattle.statistics.specs.Statistics.{kOf}
 use Rattle.quantiser.specs.Quantisers.{largest}
 use Rattle.bad_code.specs.declared.Reason.{Reason}
 use Rattle.bad_code.specs.Reasons.{codedReason}
-use Rattle.steps.specs.Steps.{Step, planOf, passSteps}
+use Rattle.schedule.specs.Steps.{Step, planOf, passSteps}
 use Rattle.steps.specs.Contexts.{usedQuantiser, noRecord, stepLook, stepSlot}
 use Rattle.pass.specs.Readings.{Reading, readStep, andThen, stepCode}
 use Rattle.map.specs.Places.{widthOf}

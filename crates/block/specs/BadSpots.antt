@@ -12,7 +12,7 @@ use Rattle.code.specs.Codes.{codeAt}
 use Rattle.code.specs.Tight.{isTight}
 use Rattle.code.specs.declared.Code.{Code}
 use Rattle.code.specs.declared.Coded.the-variants.{Read}
-use Rattle.steps.specs.Steps.{Step, planOf, passSteps}
+use Rattle.schedule.specs.Steps.{Step, planOf, passSteps}
 use Rattle.steps.specs.Contexts.{usedQuantiser, noRecord, stepLook, stepSlot}
 use Rattle.pass.specs.Readings.{Reading, reads}
 use Rattle.map.specs.Places.{widthOf}

@@ -9,7 +9,7 @@ use Rattle.numbers.specs.Numbers.{flag}
 use Rattle.code.specs.declared.Code.{Code}
 use Rattle.code.specs.declared.Coded.{Coded}
 use Rattle.code.specs.declared.Coded.the-variants as Coding
-use Rattle.steps.specs.Steps.{Step, planOf, passSteps}
+use Rattle.schedule.specs.Steps.{Step, planOf, passSteps}
 use Rattle.steps.specs.Contexts.{usedQuantiser, stepLook}
 use Rattle.pass.specs.Readings.{Reading, readStep, stepCode}
 use Rattle.totals.specs.Totals.{noTotals}

@@ -15,7 +15,7 @@ use Rattle.map.specs.Places.{widthOf, pictureRow, inRows, emittedSample, Change
 use Rattle.map.specs.Windows.{PassEmitted}
 use Rattle.map.specs.declared.Part.{Part}
 use Rattle.pass.specs.Windows.{windowPlan}
-use Rattle.steps.specs.Steps.{planOf}
+use Rattle.schedule.specs.Steps.{planOf}
 use Rattle.steps.specs.declared.Quantisers.{Quantisers}
 use Rattle.stream.specs.declared.FujiHeader.{FujiHeader}
 use Rattle.region.specs.declared.Rect.{Rect}

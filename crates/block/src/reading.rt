@@ -121,7 +121,7 @@ fn emit_pass_at(
     requires { ⌜ ArePlaces (now places) × Fits part (now image) ⌝ }
     ensures { λ _. ⌜ PassPlaced windowed xtrans w tile (now (lines .entry)) part n i (now (image .entry)) (now (image .exit)) ⌝ }
 {
-    let p = steps::plan_at(i, xtrans);
+    let p = schedule::plan_at(i, xtrans);
     let h = pass::window_plan(p, windowed);
     map::emit_pass(
         lines,
@@ -171,7 +171,7 @@ fn line(
     let mut place = from;
     let mut i: usize = 0;
     while i < 6 {
-        let p = steps::plan_at(i, xtrans);
+        let p = schedule::plan_at(i, xtrans);
         let h = pass::window_plan(p, windowed);
         lines::enter(lines, w, h.first, h.second, windowed);
         let set = load_set(rs, p.set);

@@ -77,7 +77,7 @@ fn write_line(
     let mut at = from;
     let mut i: usize = 0;
     while i < 6 {
-        let p = steps::plan_at(i, xtrans);
+        let p = schedule::plan_at(i, xtrans);
         lines::set_guards(lines, w, p.first);
         lines::set_guards(lines, w, p.second);
         let set = load_set(rs, p.set);
@@ -189,7 +189,7 @@ fn look_line(samples: &[u16], n: usize, lines: &mut [u16], form: Form) -> bool
     let w = width(xtrans);
     let mut i: usize = 0;
     while i < 6 {
-        let p = steps::plan_at(i, xtrans);
+        let p = schedule::plan_at(i, xtrans);
         lines::set_guards(lines, w, p.first);
         lines::set_guards(lines, w, p.second);
         if !writing::look_pass(samples, n, lines, w, p, bits) {

@@ -11,8 +11,8 @@ use lib.ListN.{length, getD}
 use Rattle.quantiser.specs.Quantisers.{largest}
 use Rattle.lines.specs.ColourLines.{guarded, zeroLines}
 use Rattle.map.specs.Places.{widthOf, sampleIndex}
-use Rattle.steps.specs.Steps.{planOf}
-use Rattle.steps.specs.declared.Plan.{Plan}
+use Rattle.schedule.specs.Steps.{planOf}
+use Rattle.schedule.specs.declared.Plan.{Plan}
 use Rattle.steps.proofs.ContextLaws.{AllLe, stored-le}
 use Rattle.pass.specs.Readings.{readPass}
 use Rattle.pass.proofs.RangeLaws.{pass-keeps}

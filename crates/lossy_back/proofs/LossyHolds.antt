@@ -7,9 +7,9 @@ use Prim.Native.Nat.{ℕ, suc, _+_, _*_, _/_, _%_, _≤_, _<_}
 use native.Mathlib.Omega.{arith}
 use lib.ListN.{length, getD}
 use borrow.Author.Tests.{le-ltb}
-use Rattle.steps.specs.Steps.{planOf, isInterpolated}
+use Rattle.schedule.specs.Steps.{planOf, isInterpolated}
 use Rattle.steps.specs.Values.{Depth}
-use Rattle.steps.proofs.PlanLaws.{firstLine, secondLine, lines-are, each-pass}
+use Rattle.schedule.proofs.PlanLaws.{firstLine, secondLine, lines-are, each-pass}
 use Rattle.pass.specs.Readings.{andThen}
 use Rattle.read_back.specs.UsedBases.{IsNear}
 use Rattle.read_back.proofs.ListBack.{base-le}

@@ -4,7 +4,7 @@ use mathlib.Core.Bool.{true, false}
 use mathlib.Core.List.{[], _∷_}
 use mathlib.Core.Option.{none, some}
 use mathlib.Core.Path.{_≡_, refl}
-use Rattle.steps.specs.Steps.{isInterpolated}
+use Rattle.schedule.specs.Steps.{isInterpolated}
 use Rattle.lines.specs.Sets.{lineOfRank}
 use Rattle.begin.specs.Beginnings.{isIgnored, firstAbove}
 

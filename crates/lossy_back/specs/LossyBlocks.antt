@@ -8,7 +8,7 @@ use mathlib.Core.Path.{_≡_}
 use Prim.Native.Nat.{ℕ, _≤_, _<_}
 use lib.ListN.{length, getD, drop}
 use Rattle.bits.specs.BitLists.{isTail}
-use Rattle.steps.specs.Steps.{planOf, passSteps, isInterpolated}
+use Rattle.schedule.specs.Steps.{planOf, passSteps, isInterpolated}
 use Rattle.pass.specs.Readings.{andThen}
 use Rattle.read_back.specs.UsedBases.{baseInSteps, IsNear}
 use Rattle.map.specs.Places.{widthOf}

@@ -22,7 +22,7 @@ use Rattle.code.specs.declared.Coded.the-variants.{Read, Truncated}
 use Rattle.code.specs.declared.Place.{Place}
 use Rattle.code.specs.declared.Taken.{Taken}
 use Rattle.code.specs.declared.Taken.the-variants as Take
-use Rattle.steps.specs.Steps.{Step, stepAt}
+use Rattle.schedule.specs.Steps.{Step, stepAt}
 use Rattle.steps.specs.Contexts.{usedBase, usedWeight, usedQuantiser, lookOf, slotOf, noRecord}
 use Rattle.steps.specs.Values.{contextAt, zipRecords, SetInRange, AreKs, recordsOf, quantisersOf, Depth}
 use Rattle.steps.specs.declared.Look.{Look}

@@ -5,7 +5,7 @@ ghost use lib.ListN.{length, getD, set};
 ghost use Rattle.code.specs.Codes.{codeAt, Small};
 ghost use Rattle.samples.specs.Samples.{sampleOf};
 ghost use Rattle.code.specs.Tight.{takenOf};
-ghost use Rattle.steps.specs.Steps.{evenSteps, oddSteps};
+ghost use Rattle.schedule.specs.Steps.{evenSteps, oddSteps};
 ghost use Rattle.steps.specs.Values.{zipRecords};
 ghost use Rattle.pass.specs.Windows.{windowLine, windowPlan};
 ghost use Rattle.pass.specs.Sites.{siteOf, SiteRanges, codingOf, CodingRanges, CodingAsks, RawFits};
@@ -15,9 +15,9 @@ use code::Place;
 use code::Short;
 use code::Taken;
 use prediction::Context;
+use schedule::Plan;
 use statistics::Record;
 use steps::Look;
-use steps::Plan;
 use steps::Quantisers;
 use steps::Set;
 use steps::Spot;
@@ -208,7 +208,7 @@ fn even_pair(
     let mut tight = from_tight;
     let mut long = from_long;
     let t = site_at(lines, spot.w, spot.plan.first, spot.p);
-    if steps::has_code(spot.plan.first_rule, spot.p) {
+    if schedule::has_code(spot.plan.first_rule, spot.p) {
         let c = coding_at(
             spot.bits,
             spot.p,
@@ -233,7 +233,7 @@ fn even_pair(
         put_prediction(lines, t);
     }
     let t = site_at(lines, spot.w, spot.plan.second, spot.p);
-    if steps::has_code(spot.plan.second_rule, spot.p) {
+    if schedule::has_code(spot.plan.second_rule, spot.p) {
         let c = coding_at(
             spot.bits,
             spot.p,

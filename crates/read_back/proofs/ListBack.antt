@@ -18,10 +18,11 @@ use Rattle.prediction.specs.declared.Context.{Context}
 use Rattle.samples.specs.Samples.{choiceOf}
 use Rattle.code.specs.declared.Coded.{Coded}
 use Rattle.code.specs.declared.Coded.the-variants.{Read, Truncated}
-use Rattle.steps.specs.Steps.{Step}
-use Rattle.steps.specs.Contexts.{usedBase, lookOf, stepPlace, stepContext, stepLook, stepSlot}
+use Rattle.schedule.specs.Steps.{Step}
+use Rattle.schedule.specs.Steps.{stepPlace}
+use Rattle.steps.specs.Contexts.{usedBase, lookOf, stepContext, stepLook, stepSlot}
 use Rattle.steps.specs.Values.{Depth}
-use Rattle.steps.proofs.OrderLaws.{All, cell, Apart}
+use Rattle.schedule.proofs.OrderLaws.{All, cell, Apart}
 use Rattle.pass.specs.Readings.{Reading, interpolate, taken, readStep, andThen, reads, stepCode}
 use Rattle.pass.proofs.FrameLaws.{first-then, steps-leave}
 use Rattle.pass.proofs.RangeLaws.{step-keeps}

@@ -24,8 +24,9 @@ use Rattle.code.specs.declared.Coded.the-variants.{Read, Truncated}
 use Rattle.samples.proofs.SampleLaws.{OneToOne, one-to-one, sample-le}
 use Rattle.samples.proofs.NearLaws.{near-exact}
 use Rattle.code.proofs.TightLaws.{length-codeBits, Stands, stands-there}
-use Rattle.steps.specs.Steps.{Step}
-use Rattle.steps.specs.Contexts.{lookOf, usedQuantiser, noRecord, stepPlace, stepContext, stepLook, stepSlot}
+use Rattle.schedule.specs.Steps.{Step}
+use Rattle.schedule.specs.Steps.{stepPlace}
+use Rattle.steps.specs.Contexts.{lookOf, usedQuantiser, noRecord, stepContext, stepLook, stepSlot}
 use Rattle.steps.specs.declared.Look.{Look}
 use Rattle.steps.proofs.ContextLaws.{context-le}
 use Rattle.pass.specs.Readings.{Reading, interpolate, takeCode, taken, readStep}

@@ -25,8 +25,9 @@ use Rattle.samples.specs.Nearest.{codeNear}
 use Rattle.code.specs.declared.Code.{Code}
 use Rattle.samples.proofs.NearLaws.{near-back}
 use Rattle.code.proofs.TightLaws.{length-codeBits, ReadBack, read-back}
-use Rattle.steps.specs.Steps.{Step}
-use Rattle.steps.specs.Contexts.{usedBase, usedWeight, usedQuantiser, lookOf, noRecord, stepPlace, stepContext, stepLook, stepSlot}
+use Rattle.schedule.specs.Steps.{Step}
+use Rattle.schedule.specs.Steps.{stepPlace}
+use Rattle.steps.specs.Contexts.{usedBase, usedWeight, usedQuantiser, lookOf, noRecord, stepContext, stepLook, stepSlot}
 use Rattle.steps.specs.Values.{Depth}
 use Rattle.steps.specs.declared.Look.{Look}
 use Rattle.steps.proofs.ContextLaws.{context-le}

@@ -17,7 +17,7 @@ use Rattle.code.specs.Tight.{isTight}
 use Rattle.code.specs.declared.Code.{Code}
 use Rattle.code.specs.declared.Coded.{Coded}
 use Rattle.code.specs.declared.Coded.the-variants.{Read, Truncated}
-use Rattle.steps.specs.Steps.{Step, stepAt}
+use Rattle.schedule.specs.Steps.{Step, stepAt}
 use Rattle.steps.specs.Contexts.{contextIn, lookOf, slotOf, noRecord, stepLook}
 use Rattle.steps.specs.Values.{zipRecords}
 use Rattle.steps.specs.declared.Look.{Look}

@@ -10,7 +10,7 @@ use native.Mathlib.Numerals.{add-one}
 use native.Mathlib.Omega.{arith}
 use denote.Enum.Declared.{tagOf, declared}
 use Rattle.bits.specs.declared.BitPosition.{BitPosition}
-use Rattle.steps.specs.Steps.{Step, upto}
+use Rattle.schedule.specs.Steps.{Step, upto}
 use Rattle.pass.specs.Readings.{Reading, readStep, andThen, reads}
 use Rattle.block.specs.BadCodes.{BadCode, badAt, stepReason, badInSteps}
 use Rattle.trace.specs.Ways.{Way, found, cut-off, on, wayOf, spotOf, stepOf, ifDue, plain, stepWay, stepsWay}

@@ -8,7 +8,7 @@ ghost use Rattle.statistics.specs.Statistics.{updated, InRange};
 ghost use Rattle.samples.specs.Samples.{residualOf};
 ghost use Rattle.lines.specs.ColourLines.{zeroLines};
 ghost use Rattle.map.specs.Places.{widthOf};
-ghost use Rattle.steps.specs.Steps.{passSteps};
+ghost use Rattle.schedule.specs.Steps.{passSteps};
 ghost use Rattle.steps.specs.Contexts.{noRecord};
 ghost use Rattle.steps.specs.Values.{zipRecords, SetInRange, Depth};
 ghost use Rattle.block.specs.Records.{startRecords};
@@ -23,8 +23,8 @@ use block::Form;
 use code::Coded;
 use map::width;
 use quantiser::Quantiser;
+use schedule::Plan;
 use statistics::Record;
-use steps::Plan;
 
 // What a walk says: a bad code; all codes were tight up to this bit; or no one bit was left before there was a bad code.
 pub enum Traced {
@@ -165,7 +165,7 @@ fn even_due(w: usize, line: usize, rule: u32, p: usize) -> Due
         x: Sample {
             line,
             position: p,
-            coded: steps::has_code(rule, p),
+            coded: schedule::has_code(rule, p),
         },
     }
 }
@@ -267,7 +267,7 @@ fn trace_line(
     let mut at = from;
     let mut i: usize = 0;
     while i < 6 {
-        let p = steps::plan_at(i, xtrans);
+        let p = schedule::plan_at(i, xtrans);
         lines::set_guards(lines, w, p.first);
         lines::set_guards(lines, w, p.second);
         let stage = Stage {

@@ -15,8 +15,8 @@ use Rattle.samples.specs.Samples.{sampleOf}
 use Rattle.samples.specs.Nearest.{codeNear}
 use Rattle.samples.proofs.NearLaws.{near-back}
 use Rattle.steps.specs.Contexts.{usedQuantiser, contextIn, lookOf, stepContext}
-use Rattle.steps.specs.Steps.{Step, stepAt, interpolated, evenPart, oddPart}
-use Rattle.steps.specs.declared.Plan.{Plan}
+use Rattle.schedule.specs.Steps.{Step, stepAt, interpolated, evenPart, oddPart}
+use Rattle.schedule.specs.declared.Plan.{Plan}
 use Rattle.steps.proofs.ContextLaws.{context-le}
 use Rattle.steps.proofs.LookLaws.{look-lossless}
 use Rattle.writing.specs.Looks.{SampleLooked, Right}

@@ -15,7 +15,7 @@ use Rattle.prediction.specs.Predictions.{ContextRanges}
 use Rattle.prediction.specs.declared.Context.{Context}
 use Rattle.samples.specs.Samples.{residualOf}
 use Rattle.code.specs.Tight.{codeBits}
-use Rattle.steps.specs.Steps.{Step, stepAt}
+use Rattle.schedule.specs.Steps.{Step, stepAt}
 use Rattle.steps.specs.Contexts.{usedBase, usedWeight, usedQuantiser, noRecord}
 use Rattle.steps.specs.Values.{zipRecords, SetInRange, AreKs}
 use Rattle.steps.proofs.KLaws.{kept-k}

@@ -9,7 +9,7 @@ ghost use Rattle.samples.specs.Samples.{sampleOf};
 ghost use Rattle.samples.specs.Wanted.{stepsUp, residualUp, codeOfResidual, codeFor};
 ghost use Rattle.code.specs.Tight.{codeBits, codeLength};
 ghost use Rattle.samples.specs.Nearest.{codeNear};
-ghost use Rattle.steps.specs.Steps.{evenPart, oddPart};
+ghost use Rattle.schedule.specs.Steps.{evenPart, oddPart};
 ghost use Rattle.steps.specs.Values.{zipRecords, SetInRange, AreKs, Depth};
 ghost use Rattle.lines.specs.Sets.{rankOf, indexIn, lineSize};
 ghost use Rattle.writing.specs.Writings.{writePass};
@@ -18,7 +18,7 @@ use bits::BitPosition;
 use numbers::u16_to_u32;
 use output::Put;
 use prediction::Context;
-use steps::Plan;
+use schedule::Plan;
 use steps::Quantisers;
 use steps::Set;
 use steps::Spot;
@@ -270,7 +270,7 @@ fn write_even(
     let j = index_in(w, n, plan.first, p);
     let x = steps::context_at(lines, w + 2, i, p);
     let v = u16_to_u32(samples[j]);
-    if steps::has_code(plan.first_rule, p) {
+    if schedule::has_code(plan.first_rule, p) {
         let c = coded_as(spot.bits, base, totals, p, x, v);
         lines[i + 1] = c.value as u16;
         let choice = c.choice;
@@ -295,7 +295,7 @@ fn write_even(
     let j = index_in(w, n, plan.second, p);
     let x = steps::context_at(lines, w + 2, i, p);
     let v = u16_to_u32(samples[j]);
-    if steps::has_code(plan.second_rule, p) {
+    if schedule::has_code(plan.second_rule, p) {
         let c = coded_as(spot.bits, base, totals, p, x, v);
         lines[i + 1] = c.value as u16;
         let choice = c.choice;

@@ -4,7 +4,7 @@ use mathlib.Core.Bool.{Bool, true, false}
 use mathlib.Core.Path.{_≡_, sym, _∙_}
 use Prim.Native.Nat.{ℕ}
 use Rattle.map.specs.Places.{widthOf}
-use Rattle.steps.specs.Steps.{isInterpolated}
+use Rattle.schedule.specs.Steps.{isInterpolated}
 use Rattle.lines.specs.Sets.{colourLineAt, positionAt}
 use Rattle.begin.specs.Beginnings.{isIgnored}
 use Rattle.begin.proofs.is_ignored.Statement.{statement}

@@ -6,7 +6,7 @@ use Prim.Native.Nat.{ℕ, _*_, _/_, _%_, _<_}
 use native.Mathlib.Nat.{mod-lt, div-lt-iff-lt-mul}
 use native.Mathlib.Omega.{arith}
 use Rattle.map.specs.Places.{widthOf}
-use Rattle.steps.specs.Steps.{isInterpolated}
+use Rattle.schedule.specs.Steps.{isInterpolated}
 use Rattle.lines.specs.Sets.{lineOfRank, colourLineAt, positionAt}
 use Rattle.begin.proofs.is_interpolated_at.Statement.{statement}
 use Rattle.begin.proofs.is_interpolated_at.Tie as tie

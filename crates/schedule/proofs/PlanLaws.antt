@@ -9,9 +9,9 @@ use lib.Dec.{leb, ltb}
 use lib.ListN.{getD}
 use borrow.Author.Tests.{ne-eqb, le-ltb, lt-ltb, le-leb, lt-leb}
 use Rattle.numbers.proofs.OrderLaws.{split}
-use Rattle.steps.specs.Steps.{plans, noPlan, planOf, interpolated, isInterpolated, Step, evenSteps, oddSteps, turnSteps, passSteps}
-use Rattle.steps.specs.declared.Plan.{Plan}
-use Rattle.steps.proofs.OrderLaws.{All, all-append, all-upto}
+use Rattle.schedule.specs.Steps.{plans, noPlan, planOf, interpolated, isInterpolated, Step, evenSteps, oddSteps, turnSteps, passSteps}
+use Rattle.schedule.specs.declared.Plan.{Plan}
+use Rattle.schedule.proofs.OrderLaws.{All, all-append, all-upto}
 
 -- Bayer and X-Trans have the same lines
 abbrev pub firstLine : ℕ → ℕ

@@ -1,8 +1,8 @@
--- `steps::plan_at` meets its contract: the table is the list of the passes. Assumes nothing.
+-- `schedule::plan_at` meets its contract: the table is the list of the passes. Assumes nothing.
 use native.Mathlib.Omega.{arith}
-use Rattle.steps.specs.Steps.{planOf}
-use Rattle.steps.proofs.plan_at.Statement.{statement}
-use Rattle.steps.proofs.plan_at.Tie as tie
+use Rattle.schedule.specs.Steps.{planOf}
+use Rattle.schedule.proofs.plan_at.Statement.{statement}
+use Rattle.schedule.proofs.plan_at.Tie as tie
 
 returns : tie.Need-returns
 unfolding planOf

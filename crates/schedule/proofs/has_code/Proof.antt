@@ -1,10 +1,10 @@
--- `steps::has_code` meets its contract: an arm for each rule. Assumes nothing.
+-- `schedule::has_code` meets its contract: an arm for each rule. Assumes nothing.
 use mathlib.Core.Bool.{true}
 use mathlib.Core.Path.{_≡_, refl}
 use Prim.Native.Nat.{ℕ, zero, suc}
-use Rattle.steps.specs.Steps.{interpolated}
-use Rattle.steps.proofs.has_code.Statement.{statement}
-use Rattle.steps.proofs.has_code.Tie as tie
+use Rattle.schedule.specs.Steps.{interpolated}
+use Rattle.schedule.proofs.has_code.Statement.{statement}
+use Rattle.schedule.proofs.has_code.Tie as tie
 
 -- the rule that is none of the first three
 last : (rule p : ℕ) → (rule ≡ 0 → ⊥) → (rule ≡ 1 → ⊥) → (rule ≡ 2 → ⊥) → interpolated rule p ≡ true

@@ -10,9 +10,9 @@ use lib.Arith.{digits-div, digits-mod}
 use lib.Dec.{leb, ltb, eqb}
 use borrow.Author.Tests.{lt-ltb, le-ltb, le-leb, lt-leb, eq-eqb, ne-eqb}
 use Rattle.numbers.proofs.OrderLaws.{split}
-use Rattle.steps.specs.Steps.{Step, evenSteps, oddSteps, turnSteps, upto, passSteps}
-use Rattle.steps.specs.Contexts.{stepPlace}
-use Rattle.steps.specs.declared.Plan.{Plan}
+use Rattle.schedule.specs.Steps.{Step, evenSteps, oddSteps, turnSteps, upto, passSteps}
+use Rattle.schedule.specs.Steps.{stepPlace}
+use Rattle.schedule.specs.declared.Plan.{Plan}
 
 -- ---- lists of steps
 

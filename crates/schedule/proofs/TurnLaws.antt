@@ -6,8 +6,8 @@ use Prim.Native.Nat.{ℕ, zero, suc, _+_, _-_, _*_, _/_, _%_, _≤_}
 use native.Mathlib.Omega.{arith}
 use lib.Dec.{ltb, leb}
 use lib.ListN.{length, length-append}
-use Rattle.steps.specs.Steps.{Step, evenSteps, oddSteps, evenPart, oddPart, turnSteps, upto}
-use Rattle.steps.specs.declared.Plan.{Plan}
+use Rattle.schedule.specs.Steps.{Step, evenSteps, oddSteps, evenPart, oddPart, turnSteps, upto}
+use Rattle.schedule.specs.declared.Plan.{Plan}
 
 -- the turn at the even position p
 pub turn-is : (W : ℕ) (P : Plan) (p : ℕ) → p % 2 ≡ 0 → evenPart W P p ++ oddPart P p ≡ turnSteps W P (p / 2)

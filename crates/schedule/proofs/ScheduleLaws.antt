@@ -7,9 +7,9 @@ use native.Mathlib.Omega.{arith}
 use lib.Dec.{eqb, leb, ltb}
 use lib.ListN.{length, getD}
 use borrow.Author.Tests.{leb-true, ltb-true}
-use Rattle.steps.specs.Steps.{interpolated, plans, noPlan, codedAll, planOf, Step, evenSteps, oddSteps, turnSteps, upto, passSteps}
-use Rattle.steps.specs.Values.{PlanInRange}
-use Rattle.steps.specs.declared.Plan.{Plan}
+use Rattle.schedule.specs.Steps.{interpolated, plans, noPlan, codedAll, planOf, Step, evenSteps, oddSteps, turnSteps, upto, passSteps}
+use Rattle.schedule.specs.Steps.{PlanInRange}
+use Rattle.schedule.specs.declared.Plan.{Plan}
 
 -- ---- the table
 
