@@ -6,12 +6,12 @@ ghost use Rattle.bits.specs.Bits.{wordAt};
 ghost use Rattle.code.specs.Codes.{codeAt, Bounds, Small};
 ghost use Rattle.code.specs.Tight.{takenOf, shortAt};
 use bits::BitPosition;
-use bits::BitPumpMsb;
 use bits::ZeroRun;
 use code::Code;
 use code::Coded;
 use code::Short;
 use code::Taken;
+use pump::BitPumpMsb;
 
 // The next code of a pump, however long its zero run is and however near the end it stands.
 fn next_code<'s, 'a>(p: &'s mut BitPumpMsb<'a>, k: u32, limit: u32, raw: u32) -> Coded

@@ -12,9 +12,10 @@ use lib.Dec.{leb, eqb}
 use lib.ListN.{length}
 use denote.Ref.{now}
 use Rattle.bits.specs.Bits.{bitsAt, zeroRun, afterRun}
-use Rattle.bits.specs.Pump.{ahead, nextBits, movedTo}
+use Rattle.bits.specs.Positions.{ahead}
+use Rattle.pump.specs.Pump.{nextBits, movedTo}
 use Rattle.bits.specs.declared.BitPosition.{BitPosition}
-use Rattle.bits.specs.declared.BitPumpMsb.{BitPumpMsb}
+use Rattle.pump.specs.declared.BitPumpMsb.{BitPumpMsb}
 use Rattle.bits.specs.declared.ZeroRun.{ZeroRun}
 use Rattle.bits.specs.declared.ZeroRun.the-variants.{One}
 use Rattle.bits.proofs.RunLaws.{run-inside}

@@ -35,23 +35,23 @@ use denote.Triple.Table.{entered, cited}
 use denote.Triple.Walked.{says, Stays, stay-none, stay-none-slice, walkOf, goes-none, goes-none-slice, Walks, ends-at, walked, walk-meets}
 use denote.Exit.{yes}
 use Rattle.bits.specs.Bits.{wordAt}
-use Rattle.bits.specs.Pump.{nextWord}
+use Rattle.pump.specs.Pump.{nextWord}
 use Rattle.bits.specs.declared.BitPosition.{BitPosition}
-use Rattle.bits.specs.declared.BitPumpMsb.{BitPumpMsb}
+use Rattle.pump.specs.declared.BitPumpMsb.{BitPumpMsb}
 use Rattle.bits.proofs.BitPosition as P
 use Rattle.bits.proofs.BitPosition.Laws as P′
-use Rattle.bits.proofs.BitPumpMsb as T
-use Rattle.bits.proofs.BitPumpMsb.Laws as T′
-use Rattle.bits.proofs.BitPumpMsb.at_bit as at-bit
-use Rattle.bits.proofs.BitPumpMsb.at_bit.Symbol as at-bit-def
-use Rattle.bits.proofs.BitPumpMsb.at_bit.Symbol.{name as #at-bit}
-use Rattle.bits.proofs.BitPumpMsb.at_bit.Met as at-bit-thm
-use Rattle.bits.proofs.BitPumpMsb.peek_word as peek
-use Rattle.bits.proofs.BitPumpMsb.peek_word.Symbol as peek-def
-use Rattle.bits.proofs.BitPumpMsb.peek_word.Symbol.{name as #peek-word}
-use Rattle.bits.proofs.BitPumpMsb.peek_word.Met as peek-thm
-use Rattle.bits.proofs.PumpOwns.{IsAt, sliced}
-use Rattle.bits.proofs.PumpMakes.{AtBit, to-at, goes-at, says-at}
+use Rattle.pump.proofs.BitPumpMsb as T
+use Rattle.pump.proofs.BitPumpMsb.Laws as T′
+use Rattle.pump.proofs.BitPumpMsb.at_bit as at-bit
+use Rattle.pump.proofs.BitPumpMsb.at_bit.Symbol as at-bit-def
+use Rattle.pump.proofs.BitPumpMsb.at_bit.Symbol.{name as #at-bit}
+use Rattle.pump.proofs.BitPumpMsb.at_bit.Met as at-bit-thm
+use Rattle.pump.proofs.BitPumpMsb.peek_word as peek
+use Rattle.pump.proofs.BitPumpMsb.peek_word.Symbol as peek-def
+use Rattle.pump.proofs.BitPumpMsb.peek_word.Symbol.{name as #peek-word}
+use Rattle.pump.proofs.BitPumpMsb.peek_word.Met as peek-thm
+use Rattle.pump.proofs.PumpOwns.{IsAt, sliced}
+use Rattle.pump.proofs.PumpMakes.{AtBit, to-at, goes-at, says-at}
 use Rattle.reader.proofs.next_word.Key.{name as #next-word}
 use Rattle.reader.proofs.next_word as next-word
 use Rattle.reader.proofs.next_word.Statement as stated
@@ -159,5 +159,5 @@ next-word-spec 𝓤 H 𝓜 𝓖 𝓡 =
     entered 𝓤 H (tripleOf 𝓤 H (𝓖 .A) next-word.signature (next-word.spec 𝓤 H (𝓖 .A) (𝓜 .mem) (𝓡 .run)))
     (tables 𝓤 H 𝓜 𝓡 code.env .C) (tables 𝓤 H 𝓜 𝓡 code.env .Λ) #next-word code.function (code.unfolded 𝓤 H 𝓜 𝓡)
     (next-word-meets 𝓤 H (𝓖 .A) (givenOf 𝓤 H 𝓜 𝓖) (𝓜 .mem) (𝓡 .run) (tablesOf 𝓤 H 𝓜 (tables 𝓤 H 𝓜 𝓡 code.env))
-    (cited 𝓤 H (AtBit 𝓤 H (𝓖 .A) (𝓜 .mem) (𝓡 .run)) 𝓜 𝓡 code.env #at-bit at-bit-def.routine code.calls-bits·BitPumpMsb·at-bit (at-bit-thm.met 𝓤 H 𝓜 𝓖 𝓡))
-    (cited 𝓤 H (PeekWord 𝓤 H (𝓖 .A) (𝓜 .mem) (𝓡 .run)) 𝓜 𝓡 code.env #peek-word peek-def.routine code.calls-bits·BitPumpMsb·peek-word (peek-thm.met 𝓤 H 𝓜 𝓖 𝓡)))
+    (cited 𝓤 H (AtBit 𝓤 H (𝓖 .A) (𝓜 .mem) (𝓡 .run)) 𝓜 𝓡 code.env #at-bit at-bit-def.routine code.calls-pump·BitPumpMsb·at-bit (at-bit-thm.met 𝓤 H 𝓜 𝓖 𝓡))
+    (cited 𝓤 H (PeekWord 𝓤 H (𝓖 .A) (𝓜 .mem) (𝓡 .run)) 𝓜 𝓡 code.env #peek-word peek-def.routine code.calls-pump·BitPumpMsb·peek-word (peek-thm.met 𝓤 H 𝓜 𝓖 𝓡)))

@@ -44,18 +44,18 @@ use denote.Triple.Walked.{says, needs, Stays, stay-none, stay-none-slice, walkOf
 use denote.Exit.{yes}
 use borrow.Table.OneValue.{part-in-at}
 use Rattle.bits.specs.declared.BitPosition.{BitPosition}
-use Rattle.bits.specs.declared.BitPumpMsb.{BitPumpMsb}
+use Rattle.pump.specs.declared.BitPumpMsb.{BitPumpMsb}
 use Rattle.bits.proofs.BitPosition as P
 use Rattle.bits.proofs.BitPosition.Laws as P′
-use Rattle.bits.proofs.BitPumpMsb as T
-use Rattle.bits.proofs.BitPumpMsb.Laws as T′
-use Rattle.bits.proofs.BitPumpMsb.at_bit as at-bit
-use Rattle.bits.proofs.BitPumpMsb.at_bit.Symbol as at-bit-def
-use Rattle.bits.proofs.BitPumpMsb.at_bit.Symbol.{name as #at-bit}
-use Rattle.bits.proofs.BitPumpMsb.at_bit.Met as at-bit-thm
-use Rattle.bits.proofs.PumpOwns.{IsAt, sliced}
-use Rattle.bits.proofs.PumpMakes.{AtBit, to-at, goes-at, says-at}
-use Rattle.bits.proofs.PumpLends.{Behind, lent, LentOwn, lends-pump, takes-back}
+use Rattle.pump.proofs.BitPumpMsb as T
+use Rattle.pump.proofs.BitPumpMsb.Laws as T′
+use Rattle.pump.proofs.BitPumpMsb.at_bit as at-bit
+use Rattle.pump.proofs.BitPumpMsb.at_bit.Symbol as at-bit-def
+use Rattle.pump.proofs.BitPumpMsb.at_bit.Symbol.{name as #at-bit}
+use Rattle.pump.proofs.BitPumpMsb.at_bit.Met as at-bit-thm
+use Rattle.pump.proofs.PumpOwns.{IsAt, sliced}
+use Rattle.pump.proofs.PumpMakes.{AtBit, to-at, goes-at, says-at}
+use Rattle.pump.proofs.PumpLends.{Behind, lent, LentOwn, lends-pump, takes-back}
 use Rattle.code.specs.Codes.{codeAt, Bounds}
 use Rattle.code.specs.declared.Coded.{Coded}
 use Rattle.code.proofs.CodeLaws.{code-bounds}
@@ -203,5 +203,5 @@ read-code-spec 𝓤 H 𝓜 𝓖 𝓡 =
     entered 𝓤 H (tripleOf 𝓤 H (𝓖 .A) read-code.signature (read-code.spec 𝓤 H (𝓖 .A) (𝓜 .mem) (𝓡 .run)))
     (tables 𝓤 H 𝓜 𝓡 code.env .C) (tables 𝓤 H 𝓜 𝓡 code.env .Λ) #read-code code.function (code.unfolded 𝓤 H 𝓜 𝓡)
     (read-code-meets 𝓤 H (𝓖 .A) (givenOf 𝓤 H 𝓜 𝓖) (𝓜 .mem) (𝓡 .run) (tablesOf 𝓤 H 𝓜 (tables 𝓤 H 𝓜 𝓡 code.env))
-    (cited 𝓤 H (AtBit 𝓤 H (𝓖 .A) (𝓜 .mem) (𝓡 .run)) 𝓜 𝓡 code.env #at-bit at-bit-def.routine code.calls-bits·BitPumpMsb·at-bit (at-bit-thm.met 𝓤 H 𝓜 𝓖 𝓡))
+    (cited 𝓤 H (AtBit 𝓤 H (𝓖 .A) (𝓜 .mem) (𝓡 .run)) 𝓜 𝓡 code.env #at-bit at-bit-def.routine code.calls-pump·BitPumpMsb·at-bit (at-bit-thm.met 𝓤 H 𝓜 𝓖 𝓡))
     (cited 𝓤 H (Next 𝓤 H (𝓖 .A) (𝓜 .mem) (𝓡 .run)) 𝓜 𝓡 code.env #next-code next-def.routine code.calls-reader·next-code (next-thm.met 𝓤 H 𝓜 𝓖 𝓡)))

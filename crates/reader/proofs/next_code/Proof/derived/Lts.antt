@@ -2,7 +2,7 @@
 use Rattle.bits.proofs.Values
 use Rattle.bits.proofs.Values.{u32, u64, u8}
 use mathlib.Core.List.{_∷_, []}
-use Rattle.bits.proofs.Held
+use Rattle.pump.proofs.Held
 use Prim.Native.Nat
 use Rattle.bits.proofs.BitPosition
 use Rattle.bits.proofs.BitPosition.Laws
@@ -153,7 +153,7 @@ abbrev b0 : Syntax.Body
 b0 = Syntax.assign (Syntax.place 11 []) (Syntax.addrOf (Syntax.place 1 ((Syntax.deref (Held.held Syntax.erased)) ∷ [])))
 
 abbrev b1 : Syntax.Body
-b1 = Syntax.call "bits::BitPumpMsb::zero_run" ((Syntax.copy (Syntax.place 11 [])) ∷ []) (Syntax.place 5 [])
+b1 = Syntax.call "pump::BitPumpMsb::zero_run" ((Syntax.copy (Syntax.place 11 [])) ∷ []) (Syntax.place 5 [])
 
 abbrev b2 : Syntax.Body
 b2 = Syntax.assign (Syntax.place 6 []) (Syntax.rvOpd (Syntax.copy (Syntax.place 5 ((Syntax.variant 0) ∷ (Syntax.field 1) ∷ []))))
@@ -177,7 +177,7 @@ abbrev b8 : Syntax.Body
 b8 = Syntax.assign (Syntax.place 14 []) (Syntax.addrOf (Syntax.place 1 ((Syntax.deref (Held.held Syntax.erased)) ∷ [])))
 
 abbrev b9 : Syntax.Body
-b9 = Syntax.call "bits::BitPumpMsb::get" ((Syntax.copy (Syntax.place 14 [])) ∷ (Syntax.copy (Syntax.place 4 [])) ∷ []) (Syntax.place 13 [])
+b9 = Syntax.call "pump::BitPumpMsb::get" ((Syntax.copy (Syntax.place 14 [])) ∷ (Syntax.copy (Syntax.place 4 [])) ∷ []) (Syntax.place 13 [])
 
 abbrev b10 : Syntax.Body
 b10 = Syntax.assign (Syntax.place 7 []) (Syntax.op2 (Syntax.add Syntax.unsigned) (Syntax.copy (Syntax.place 13 [])) (Syntax.int Syntax.w32 1))
@@ -186,7 +186,7 @@ abbrev b11 : Syntax.Body
 b11 = Syntax.assign (Syntax.place 15 []) (Syntax.addrOf (Syntax.place 1 ((Syntax.deref (Held.held Syntax.erased)) ∷ [])))
 
 abbrev b12 : Syntax.Body
-b12 = Syntax.call "bits::BitPumpMsb::bit_position" ((Syntax.copy (Syntax.place 15 [])) ∷ []) (Syntax.place 8 [])
+b12 = Syntax.call "pump::BitPumpMsb::bit_position" ((Syntax.copy (Syntax.place 15 [])) ∷ []) (Syntax.place 8 [])
 
 abbrev b13 : Syntax.Body
 b13 = Syntax.call "code::is_needed" ((Syntax.copy (Syntax.place 2 [])) ∷ (Syntax.copy (Syntax.place 3 [])) ∷ (Syntax.copy (Syntax.place 6 [])) ∷ (Syntax.copy (Syntax.place 7 [])) ∷ []) (Syntax.place
@@ -245,13 +245,13 @@ abbrev b33 : Syntax.Body
 b33 = Syntax.assign (Syntax.place 21 []) (Syntax.addrOf (Syntax.place 1 ((Syntax.deref (Held.held Syntax.erased)) ∷ [])))
 
 abbrev b34 : Syntax.Body
-b34 = Syntax.call "bits::BitPumpMsb::get" ((Syntax.copy (Syntax.place 21 [])) ∷ (Syntax.copy (Syntax.place 2 [])) ∷ []) (Syntax.place 9 [])
+b34 = Syntax.call "pump::BitPumpMsb::get" ((Syntax.copy (Syntax.place 21 [])) ∷ (Syntax.copy (Syntax.place 2 [])) ∷ []) (Syntax.place 9 [])
 
 abbrev b35 : Syntax.Body
 b35 = Syntax.assign (Syntax.place 22 []) (Syntax.addrOf (Syntax.place 1 ((Syntax.deref (Held.held Syntax.erased)) ∷ [])))
 
 abbrev b36 : Syntax.Body
-b36 = Syntax.call "bits::BitPumpMsb::bit_position" ((Syntax.copy (Syntax.place 22 [])) ∷ []) (Syntax.place 10 [])
+b36 = Syntax.call "pump::BitPumpMsb::bit_position" ((Syntax.copy (Syntax.place 22 [])) ∷ []) (Syntax.place 10 [])
 
 abbrev b37 : Syntax.Body
 b37 = Syntax.assign (Syntax.place 23 []) (Syntax.op1 (Syntax.cast Syntax.unsigned Syntax.unsigned Syntax.w32) (Syntax.copy (Syntax.place 6 [])))
@@ -1131,8 +1131,8 @@ module _ (claims· : Claims) where
     module _ (M : Type 1) where
       abbrev pub Closed : Type 2
       Closed = (𝓤 : URA.URA M) (H : Wp.Heap 𝓤) (A : Atoms.Atoms 𝓤) (W : Kit.Given 𝓤 H A) (𝓣 : Wp.Tables 𝓤 H) (known0 : Plain.Known 𝓤 H A W 𝓣 2 ps·0 r·0 (claims· .0) (claims· .1)
-          "bits::BitPumpMsb::zero_run") (known1 : Plain.Known 𝓤 H A W 𝓣 0 ps·1 r·1 (claims· .2) (claims· .3) "code::is_long") (known2 : Plain.Known 𝓤 H A W 𝓣 2 ps·2 r·2 (claims· .4) (claims· .5)
-          "bits::BitPumpMsb::get") (known3 : Plain.Known 𝓤 H A W 𝓣 2 ps·3 r·3 (claims· .6) (claims· .7) "bits::BitPumpMsb::bit_position") (known4 : Plain.Known 𝓤 H A W 𝓣 0 ps·4 r·4 (claims· .8) (claims·
+          "pump::BitPumpMsb::zero_run") (known1 : Plain.Known 𝓤 H A W 𝓣 0 ps·1 r·1 (claims· .2) (claims· .3) "code::is_long") (known2 : Plain.Known 𝓤 H A W 𝓣 2 ps·2 r·2 (claims· .4) (claims· .5)
+          "pump::BitPumpMsb::get") (known3 : Plain.Known 𝓤 H A W 𝓣 2 ps·3 r·3 (claims· .6) (claims· .7) "pump::BitPumpMsb::bit_position") (known4 : Plain.Known 𝓤 H A W 𝓣 0 ps·4 r·4 (claims· .8) (claims·
           .9) "code::is_needed") → Statement.Triple 𝓤 (Wp.WpFn 𝓤 H (𝓣 .C) (𝓣 .Λ) (Function.fnOf 2 ps r xs m hs body)) (Function.plainOf 𝓤 H A 2 ps r Pre· Post·)
 
     module _ where
@@ -1414,8 +1414,8 @@ module _ (claims· : Claims) where
 
       module _ {M : Type 1} (𝓤 : URA.URA M) (H : Wp.Heap 𝓤) (A : Atoms.Atoms 𝓤) (W : Kit.Given 𝓤 H A) (𝓣 : Wp.Tables 𝓤 H) where
         abbrev Knowns : Type 1
-        Knowns = Plain.Known 𝓤 H A W 𝓣 2 ps·0 r·0 (claims· .0) (claims· .1) "bits::BitPumpMsb::zero_run" × Plain.Known 𝓤 H A W 𝓣 0 ps·1 r·1 (claims· .2) (claims· .3) "code::is_long" × Plain.Known 𝓤 H
-            A W 𝓣 2 ps·2 r·2 (claims· .4) (claims· .5) "bits::BitPumpMsb::get" × Plain.Known 𝓤 H A W 𝓣 2 ps·3 r·3 (claims· .6) (claims· .7) "bits::BitPumpMsb::bit_position" × Plain.Known 𝓤 H A W 𝓣 0 ps·4
+        Knowns = Plain.Known 𝓤 H A W 𝓣 2 ps·0 r·0 (claims· .0) (claims· .1) "pump::BitPumpMsb::zero_run" × Plain.Known 𝓤 H A W 𝓣 0 ps·1 r·1 (claims· .2) (claims· .3) "code::is_long" × Plain.Known 𝓤 H
+            A W 𝓣 2 ps·2 r·2 (claims· .4) (claims· .5) "pump::BitPumpMsb::get" × Plain.Known 𝓤 H A W 𝓣 2 ps·3 r·3 (claims· .6) (claims· .7) "pump::BitPumpMsb::bit_position" × Plain.Known 𝓤 H A W 𝓣 0 ps·4
             r·4 (claims· .8) (claims· .9) "code::is_needed"
 
       module _ (κs : Lifetimes.Lfts 2) (qs : Lifetimes.Shares 2) where
@@ -2478,7 +2478,7 @@ module _ (claims· : Claims) where
 
           d46 : (at : Nat.ℕ → Nat.ℕ) → Typed.Typed 𝓤 H A 𝓣 E (G54 at) b26 (Δ2 at) at46
           d46 = λ at. Typed.s-seq 𝓤 H A W 𝓣 E (G54 at) (G55 at) b12 b25 (Δ2 at) (Typed.both s51) at45 (Plain.t-call-plain-by 𝓤 H A W 𝓣 2 ps·3 r·3 (claims· .6) (claims· .7)
-              "bits::BitPumpMsb::bit_position" (known .3) E (λ pos β. β) (G54 at) (record { pos = 15; ty = y2; βs = 9 ∷ 1 ∷ []; ref = λ x. x }, tt) 8 (9 ∷ 1 ∷ []) (Call.sub-id 𝓤 H A W (G54 at .slots)) (
+              "pump::BitPumpMsb::bit_position" (known .3) E (λ pos β. β) (G54 at) (record { pos = 15; ty = y2; βs = 9 ∷ 1 ∷ []; ref = λ x. x }, tt) 8 (9 ∷ 1 ∷ []) (Call.sub-id 𝓤 H A W (G54 at .slots)) (
                 ShrRefTo.spares-sref-at 𝓤 H A W 2 (λ κc. Held.type (Syntax.named 1) (κc .1 .0)) Held.Value (λ κc v. v) (9 ∷ 1 ∷ []) y2 9,
                 AtSlots.reads-sref-at 𝓤 H A W 2 (λ κc. Held.type (Syntax.named 1)
                     (κc .1 .0)) Held.Value (λ κc v. v) (9 ∷ 1 ∷ []) y2 9,
@@ -2560,7 +2560,7 @@ module _ (claims· : Claims) where
               .0) (qs .1 .0) (Bool'.false ∷ [])) ((MeetSlot.to-whole 3 (at 1)) ∷ []) Path'.refl ((Path'.refl, (Path'.refl, Path'.refl)), (Path'.refl, tt))) (d61 at)
 
           d63 : (at : Nat.ℕ → Nat.ℕ) → Typed.Typed 𝓤 H A 𝓣 E (G37 at) b29 (Δ2 at) at63
-          d63 = λ at. Typed.s-seq 𝓤 H A W 𝓣 E (G37 at) (G38 at) b9 b28 (Δ2 at) (Typed.both s34) at57 (Plain.t-call-plain-by 𝓤 H A W 𝓣 2 ps·2 r·2 (claims· .4) (claims· .5) "bits::BitPumpMsb::get"
+          d63 = λ at. Typed.s-seq 𝓤 H A W 𝓣 E (G37 at) (G38 at) b9 b28 (Δ2 at) (Typed.both s34) at57 (Plain.t-call-plain-by 𝓤 H A W 𝓣 2 ps·2 r·2 (claims· .4) (claims· .5) "pump::BitPumpMsb::get"
               (known .2) E (λ pos β. β) (G37 at) (record { pos = 14; ty = y3; βs = 8 ∷ 1 ∷ []; ref = λ x. x }, (Num.vAt 4 λ x. x, tt)) 13 (8 ∷ 1 ∷ []) (Call.sub-id 𝓤 H A W (G37 at .slots)) (
                 Reads'.as-is 𝓤 H A (AtSlots.mrefAt 2 (λ κc. Held.type (Syntax.named 1) (κc .1 .0)) Held.Value (λ κc v. v) (8 ∷ 1 ∷ []) y3 8),
                 AtSlots.reads-mref-at 𝓤 H A W 2 (λ κc. Held.type (Syntax.named
@@ -2798,7 +2798,7 @@ module _ (claims· : Claims) where
 
           d107 : (at : Nat.ℕ → Nat.ℕ) → Typed.Typed 𝓤 H A 𝓣 E (G105 at) b54 (Δ0 at) at107
           d107 = λ at. Typed.s-seq 𝓤 H A W 𝓣 E (G105 at) (G106 at) b36 b53 (Δ0 at) (Typed.both s102) at106 (Plain.t-call-plain-by 𝓤 H A W 𝓣 2 ps·3 r·3 (claims· .6) (claims· .7)
-              "bits::BitPumpMsb::bit_position" (known .3) E (λ pos β. β) (G105 at) (record { pos = 22; ty = y2; βs = 11 ∷ 1 ∷ []; ref = λ x. x }, tt) 10 (11 ∷ 1 ∷ []) (Call.sub-id 𝓤 H A W (G105 at
+              "pump::BitPumpMsb::bit_position" (known .3) E (λ pos β. β) (G105 at) (record { pos = 22; ty = y2; βs = 11 ∷ 1 ∷ []; ref = λ x. x }, tt) 10 (11 ∷ 1 ∷ []) (Call.sub-id 𝓤 H A W (G105 at
               .slots)) (
                 ShrRefTo.spares-sref-at 𝓤 H A W 2 (λ κc. Held.type (Syntax.named 1) (κc .1 .0)) Held.Value (λ κc v. v) (11 ∷ 1 ∷ []) y2 11,
                 AtSlots.reads-sref-at 𝓤 H A W 2 (λ κc. Held.type (Syntax.named 1)
@@ -2872,7 +2872,7 @@ module _ (claims· : Claims) where
               .0) (qs .1 .0) (Bool'.false ∷ [])) ((MeetSlot.to-whole 5 (at 1)) ∷ []) Path'.refl ((Path'.refl, (Path'.refl, Path'.refl)), (Path'.refl, tt))) (d120 at)
 
           d122 : (at : Nat.ℕ → Nat.ℕ) → Typed.Typed 𝓤 H A 𝓣 E (G90 at) b56 (Δ0 at) at122
-          d122 = λ at. Typed.s-seq 𝓤 H A W 𝓣 E (G90 at) (G91 at) b34 b55 (Δ0 at) (Typed.both s87) at116 (Plain.t-call-plain-by 𝓤 H A W 𝓣 2 ps·2 r·2 (claims· .4) (claims· .5) "bits::BitPumpMsb::get"
+          d122 = λ at. Typed.s-seq 𝓤 H A W 𝓣 E (G90 at) (G91 at) b34 b55 (Δ0 at) (Typed.both s87) at116 (Plain.t-call-plain-by 𝓤 H A W 𝓣 2 ps·2 r·2 (claims· .4) (claims· .5) "pump::BitPumpMsb::get"
               (known .2) E (λ pos β. β) (G90 at) (record { pos = 21; ty = y3; βs = 10 ∷ 1 ∷ []; ref = λ x. x }, (Num.vAt 2 λ x. x, tt)) 9 (10 ∷ 1 ∷ []) (Call.sub-id 𝓤 H A W (G90 at .slots)) (
                 Reads'.as-is 𝓤 H A (AtSlots.mrefAt 2 (λ κc. Held.type (Syntax.named 1) (κc .1 .0)) Held.Value (λ κc v. v) (10 ∷ 1 ∷ []) y3 10),
                 AtSlots.reads-mref-at 𝓤 H A W 2 (λ κc. Held.type
@@ -2934,7 +2934,7 @@ module _ (claims· : Claims) where
 
           d133 : (at : Nat.ℕ → Nat.ℕ) → Typed.Typed 𝓤 H A 𝓣 E (G8 at) b61 (Δ0 at) at133
           d133 = λ at. Typed.s-seq 𝓤 H A W 𝓣 E (G8 at) (G9 at) b1 (Syntax.seq b6 b59) (Δ0 at) (Typed.both s7) at132 (Plain.t-call-plain-by 𝓤 H A W 𝓣 2 ps·0 r·0 (claims· .0) (claims· .1)
-              "bits::BitPumpMsb::zero_run" (known .0) E (λ pos β. β) (G8 at) (record { pos = 11; ty = y3; βs = 7 ∷ 1 ∷ []; ref = λ x. x }, tt) 5 (7 ∷ 1 ∷ []) (Call.sub-id 𝓤 H A W (G8 at .slots)) (
+              "pump::BitPumpMsb::zero_run" (known .0) E (λ pos β. β) (G8 at) (record { pos = 11; ty = y3; βs = 7 ∷ 1 ∷ []; ref = λ x. x }, tt) 5 (7 ∷ 1 ∷ []) (Call.sub-id 𝓤 H A W (G8 at .slots)) (
                 Reads'.as-is 𝓤 H A (AtSlots.mrefAt 2 (λ κc. Held.type (Syntax.named 1) (κc .1 .0)) Held.Value (λ κc v. v) (7 ∷ 1 ∷ []) y3 7),
                 AtSlots.reads-mref-at 𝓤 H A W 2 (λ κc. Held.type (Syntax.named
                     1) (κc .1 .0)) Held.Value (λ κc v. v) (7 ∷ 1 ∷ []) y3 7,
@@ -3511,8 +3511,8 @@ module _ (claims· : Claims) where
           }
 
         module _ {M : Type 1} (𝓤 : URA.URA M) (H : Wp.Heap 𝓤) (A : Atoms.Atoms 𝓤) (W : Kit.Given 𝓤 H A) (𝓣 : Wp.Tables 𝓤 H) (known0 : Plain.Known 𝓤 H A W 𝓣 2 ps·0 r·0 (claims· .0) (claims· .1)
-            "bits::BitPumpMsb::zero_run") (known1 : Plain.Known 𝓤 H A W 𝓣 0 ps·1 r·1 (claims· .2) (claims· .3) "code::is_long") (known2 : Plain.Known 𝓤 H A W 𝓣 2 ps·2 r·2 (claims· .4) (claims· .5)
-            "bits::BitPumpMsb::get") (known3 : Plain.Known 𝓤 H A W 𝓣 2 ps·3 r·3 (claims· .6) (claims· .7) "bits::BitPumpMsb::bit_position") (known4 : Plain.Known 𝓤 H A W 𝓣 0 ps·4 r·4 (claims· .8) (claims·
+            "pump::BitPumpMsb::zero_run") (known1 : Plain.Known 𝓤 H A W 𝓣 0 ps·1 r·1 (claims· .2) (claims· .3) "code::is_long") (known2 : Plain.Known 𝓤 H A W 𝓣 2 ps·2 r·2 (claims· .4) (claims· .5)
+            "pump::BitPumpMsb::get") (known3 : Plain.Known 𝓤 H A W 𝓣 2 ps·3 r·3 (claims· .6) (claims· .7) "pump::BitPumpMsb::bit_position") (known4 : Plain.Known 𝓤 H A W 𝓣 0 ps·4 r·4 (claims· .8) (claims·
             .9) "code::is_needed") where
           pub spec : Statement.Triple 𝓤 (Wp.WpFn 𝓤 H (𝓣 .C) (𝓣 .Λ) (Function.fnOf 2 ps r xs m hs body)) (Function.plainOf 𝓤 H A 2 ps r Pre· Post·)
           spec = Plain.t-fn-plain 𝓤 H A W 𝓣 2 ps r xs m hs body (λ κs qs bs. Φ) (λ κs qs bs bd. typed κs qs 𝓤 H A W 𝓣 (known0, known1, known2, known3, known4) bs bd) Pre· Post· asked

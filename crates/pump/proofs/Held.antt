@@ -10,9 +10,9 @@ use contract.Lifetimes.{Within}
 use base.Fml.{Lft}
 use denote.RattleType.{RattleType}
 use denote.Signature.{Slot, plain, namedLft}
-use Rattle.bits.specs.declared.BitPumpMsb as S
-use Rattle.bits.proofs.BitPumpMsb as T
-use Rattle.bits.proofs.BitPumpMsb.Laws as T′
+use Rattle.pump.specs.declared.BitPumpMsb as S
+use Rattle.pump.proofs.BitPumpMsb as T
+use Rattle.pump.proofs.BitPumpMsb.Laws as T′
 
 abbrev pub Value : Type 0
 Value = S.BitPumpMsb

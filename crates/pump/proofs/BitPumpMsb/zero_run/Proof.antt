@@ -1,4 +1,4 @@
--- `bits::BitPumpMsb::zero_run` meets its contract: a walk of its MIR, by hand. The borrow of the pump is opened, its slice and position are read,
+-- `pump::BitPumpMsb::zero_run` meets its contract: a walk of its MIR, by hand. The borrow of the pump is opened, its slice and position are read,
 -- the function `zero_run` is called on a copy of the slice and `after_run` on the position, and the borrow is closed at the pump that has moved
 -- on. The one bit of a run stands inside the block, so that the position fits. Assumes nothing.
 use mathlib.Core.Path.{_≡_, refl, sym, ap}
@@ -44,32 +44,32 @@ use denote.Triple.Spec.{Meets, tripleOf}
 use denote.Triple.Statement.{Contract, Triple}
 use denote.Triple.Table.{entered, cited}
 use denote.Triple.Walked.{says, Stays, needs, stay-ref, walkOf, goes-ref, Walks, ends-at, walked, walk-meets}
 use Rattle.bits.specs.Bits.{zeroRun, afterRun}
-use Rattle.bits.specs.Pump.{movedTo}
+use Rattle.pump.specs.Pump.{movedTo}
 use Rattle.bits.specs.declared.BitPosition.{BitPosition}
 use Rattle.bits.specs.declared.ZeroRun.{ZeroRun}
 use Rattle.bits.specs.declared.ZeroRun.the-variants.{One, None}
-use Rattle.bits.specs.declared.BitPumpMsb.{BitPumpMsb}
+use Rattle.pump.specs.declared.BitPumpMsb.{BitPumpMsb}
 use Rattle.bits.proofs.BitPosition as P
 use Rattle.bits.proofs.BitPosition.Laws as P′
 use Rattle.bits.proofs.ZeroRun as Z
 use Rattle.bits.proofs.ZeroRun.Laws as Z′
-use Rattle.bits.proofs.BitPumpMsb as T
-use Rattle.bits.proofs.BitPumpMsb.Laws as T′
-use Rattle.bits.proofs.PumpOwns.{IsAt, is-at, sliced, PumpOwn, SliceOwn, slice-out, moved, typed}
+use Rattle.pump.proofs.BitPumpMsb as T
+use Rattle.pump.proofs.BitPumpMsb.Laws as T′
+use Rattle.pump.proofs.PumpOwns.{IsAt, is-at, sliced, PumpOwn, SliceOwn, slice-out, moved, typed}
 use Rattle.bits.proofs.RunLaws.{run-inside}
 use Rattle.bits.proofs.zero_run as found
 use Rattle.bits.proofs.zero_run.Symbol as found-def
 use Rattle.bits.proofs.zero_run.Symbol.{name as #zero-run}
 use Rattle.bits.proofs.zero_run.Met as found-thm
 use Rattle.bits.proofs.after_run as past
 use Rattle.bits.proofs.after_run.Symbol as past-def
 use Rattle.bits.proofs.after_run.Symbol.{name as #after-run}
 use Rattle.bits.proofs.after_run.Met as past-thm
-use Rattle.bits.proofs.BitPumpMsb.zero_run.Key.{name as #pump-zero-run}
-use Rattle.bits.proofs.BitPumpMsb.zero_run as method
-use Rattle.bits.proofs.BitPumpMsb.zero_run.Statement as stated
-use Rattle.bits.proofs.BitPumpMsb.zero_run.Code as code
+use Rattle.pump.proofs.BitPumpMsb.zero_run.Key.{name as #pump-zero-run}
+use Rattle.pump.proofs.BitPumpMsb.zero_run as method
+use Rattle.pump.proofs.BitPumpMsb.zero_run.Statement as stated
+use Rattle.pump.proofs.BitPumpMsb.zero_run.Code as code
 
 -- 'a, and the pump's type at it
 abbrev α : Lft → NamedLft

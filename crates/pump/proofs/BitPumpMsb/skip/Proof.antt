@@ -1,4 +1,4 @@
--- `bits::BitPumpMsb::skip` meets its contract: a walk of its MIR, by hand. The borrow of the pump is opened, `BitPosition::ahead` is called on the
+-- `pump::BitPumpMsb::skip` meets its contract: a walk of its MIR, by hand. The borrow of the pump is opened, `BitPosition::ahead` is called on the
 -- position, and the borrow is closed at the pump that has moved on. Assumes nothing.
 use mathlib.Core.Path.{_≡_, refl, ap}
 use Prim.Native.Nat.{ℕ, _<_, _^_}
@@ -41,22 +41,23 @@ use denote.Triple.Statement.{Contract, Triple}
 use denote.Triple.Table.{entered, cited}
 use denote.Triple.Walked.{says, Stays, stay-ref, stay-none, walkOf, goes-none, goes-ref, Walks, ends-at, walked, walk-meets}
 use denote.Exit.{yes}
-use Rattle.bits.specs.Pump.{ahead, movedTo}
+use Rattle.bits.specs.Positions.{ahead}
+use Rattle.pump.specs.Pump.{movedTo}
 use Rattle.bits.specs.declared.BitPosition.{BitPosition}
-use Rattle.bits.specs.declared.BitPumpMsb.{BitPumpMsb}
+use Rattle.pump.specs.declared.BitPumpMsb.{BitPumpMsb}
 use Rattle.bits.proofs.BitPosition as P
 use Rattle.bits.proofs.BitPosition.Laws as P′
-use Rattle.bits.proofs.BitPumpMsb as T
-use Rattle.bits.proofs.BitPumpMsb.Laws as T′
-use Rattle.bits.proofs.PumpOwns.{IsAt, is-at, sliced, PumpOwn, moved, typed}
+use Rattle.pump.proofs.BitPumpMsb as T
+use Rattle.pump.proofs.BitPumpMsb.Laws as T′
+use Rattle.pump.proofs.PumpOwns.{IsAt, is-at, sliced, PumpOwn, moved, typed}
 use Rattle.bits.proofs.BitPosition.ahead as on
 use Rattle.bits.proofs.BitPosition.ahead.Symbol as on-def
 use Rattle.bits.proofs.BitPosition.ahead.Symbol.{name as #ahead}
 use Rattle.bits.proofs.BitPosition.ahead.Met as on-thm
-use Rattle.bits.proofs.BitPumpMsb.skip.Key.{name as #skip}
-use Rattle.bits.proofs.BitPumpMsb.skip as skip
-use Rattle.bits.proofs.BitPumpMsb.skip.Statement as stated
-use Rattle.bits.proofs.BitPumpMsb.skip.Code as code
+use Rattle.pump.proofs.BitPumpMsb.skip.Key.{name as #skip}
+use Rattle.pump.proofs.BitPumpMsb.skip as skip
+use Rattle.pump.proofs.BitPumpMsb.skip.Statement as stated
+use Rattle.pump.proofs.BitPumpMsb.skip.Code as code
 
 -- 'a, and the pump's type at it
 abbrev α : Lft → NamedLft

@@ -1,4 +1,4 @@
--- `bits::BitPumpMsb::byte_position` meets its contract: a walk of its MIR, by hand. The borrow of the pump is looked into for the position,
+-- `pump::BitPumpMsb::byte_position` meets its contract: a walk of its MIR, by hand. The borrow of the pump is looked into for the position,
 -- `BitPosition::bytes` is called on it, and the borrow is shut. Assumes nothing.
 use mathlib.Core.Path.{_≡_, refl}
 use Prim.Native.Nat.{ℕ, _+_, _/_}
@@ -37,23 +37,23 @@ use denote.Triple.Statement.{Contract, Triple}
 use denote.Triple.Table.{entered, cited}
 use denote.Triple.Walked.{says, Stays, stay-none-ref, walkOf, goes-none-ref, Walks, ends-at, walked, walk-meets}
 use denote.Exit.{yes}
 use Rattle.bits.specs.declared.ByteOffset.{ByteOffset}
-use Rattle.bits.specs.declared.BitPumpMsb.{BitPumpMsb}
+use Rattle.pump.specs.declared.BitPumpMsb.{BitPumpMsb}
 use Rattle.bits.proofs.BitPosition as P
 use Rattle.bits.proofs.BitPosition.Laws as P′
 use Rattle.bits.proofs.ByteOffset as O
 use Rattle.bits.proofs.ByteOffset.Laws as O′
-use Rattle.bits.proofs.BitPumpMsb as T
-use Rattle.bits.proofs.BitPumpMsb.Laws as T′
-use Rattle.bits.proofs.PumpOwns.{IsAt, is-at, typed}
+use Rattle.pump.proofs.BitPumpMsb as T
+use Rattle.pump.proofs.BitPumpMsb.Laws as T′
+use Rattle.pump.proofs.PumpOwns.{IsAt, is-at, typed}
 use Rattle.bits.proofs.BitPosition.bytes as bytes
 use Rattle.bits.proofs.BitPosition.bytes.Symbol as bytes-def
 use Rattle.bits.proofs.BitPosition.bytes.Symbol.{name as #bytes}
 use Rattle.bits.proofs.BitPosition.bytes.Met as bytes-thm
-use Rattle.bits.proofs.BitPumpMsb.byte_position.Key.{name as #byte-position}
-use Rattle.bits.proofs.BitPumpMsb.byte_position as byte-position
-use Rattle.bits.proofs.BitPumpMsb.byte_position.Statement as stated
-use Rattle.bits.proofs.BitPumpMsb.byte_position.Code as code
+use Rattle.pump.proofs.BitPumpMsb.byte_position.Key.{name as #byte-position}
+use Rattle.pump.proofs.BitPumpMsb.byte_position as byte-position
+use Rattle.pump.proofs.BitPumpMsb.byte_position.Statement as stated
+use Rattle.pump.proofs.BitPumpMsb.byte_position.Code as code
 
 -- 'a, and the pump's type at it
 abbrev α : Lft → NamedLft

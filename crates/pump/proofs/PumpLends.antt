@@ -22,9 +22,9 @@ use denote.Memory.{mem, partAt}
 use denote.Ref.{RefT, MutRef}
 use borrow.Rule.Array.Init.{part-room}
 use borrow.Table.OneValue.{reroom}
-use Rattle.bits.specs.declared.BitPumpMsb.{BitPumpMsb}
-use Rattle.bits.proofs.BitPumpMsb as T
-use Rattle.bits.proofs.BitPumpMsb.Laws as T′
+use Rattle.pump.specs.declared.BitPumpMsb.{BitPumpMsb}
+use Rattle.pump.proofs.BitPumpMsb as T
+use Rattle.pump.proofs.BitPumpMsb.Laws as T′
 
 -- the pump's type as a callee sees it behind its reference
 abbrev pub Behind : Lft → RattleType

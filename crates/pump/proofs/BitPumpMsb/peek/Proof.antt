@@ -1,4 +1,4 @@
--- `bits::BitPumpMsb::peek` meets its contract: a walk of its MIR, by hand. The borrow of the pump is looked into for the slice and the
+-- `pump::BitPumpMsb::peek` meets its contract: a walk of its MIR, by hand. The borrow of the pump is looked into for the slice and the
 -- position, `peek_at` is called on a copy of the slice, and the borrow is shut. Assumes nothing.
 use mathlib.Core.Path.{_≡_, refl}
 use Prim.Native.Nat.{ℕ, _<_, _^_}
@@ -39,20 +39,20 @@ use denote.Triple.Statement.{Triple}
 use denote.Triple.Table.{entered, cited}
 use denote.Triple.Walked.{says, Stays, stay-none, stay-none-ref, walkOf, goes-none, goes-none-ref, Walks, ends-at, walked, walk-meets}
 use denote.Exit.{yes}
-use Rattle.bits.specs.Pump.{nextBits}
-use Rattle.bits.specs.declared.BitPumpMsb.{BitPumpMsb}
-use Rattle.bits.proofs.BitPumpMsb as T
-use Rattle.bits.proofs.BitPumpMsb.Laws as T′
-use Rattle.bits.proofs.PumpOwns.{PumpOwn, is-at, typed}
-use Rattle.bits.proofs.PumpPeeks.{PeekAt, to-peek, goes-peek, says-peek}
+use Rattle.pump.specs.Pump.{nextBits}
+use Rattle.pump.specs.declared.BitPumpMsb.{BitPumpMsb}
+use Rattle.pump.proofs.BitPumpMsb as T
+use Rattle.pump.proofs.BitPumpMsb.Laws as T′
+use Rattle.pump.proofs.PumpOwns.{PumpOwn, is-at, typed}
+use Rattle.pump.proofs.PumpPeeks.{PeekAt, to-peek, goes-peek, says-peek}
 use Rattle.bits.proofs.peek_at as at
 use Rattle.bits.proofs.peek_at.Symbol as at-def
 use Rattle.bits.proofs.peek_at.Symbol.{name as #peek-at}
 use Rattle.bits.proofs.peek_at.Met as at-thm
-use Rattle.bits.proofs.BitPumpMsb.peek.Key.{name as #peek}
-use Rattle.bits.proofs.BitPumpMsb.peek as peek
-use Rattle.bits.proofs.BitPumpMsb.peek.Statement as stated
-use Rattle.bits.proofs.BitPumpMsb.peek.Code as code
+use Rattle.pump.proofs.BitPumpMsb.peek.Key.{name as #peek}
+use Rattle.pump.proofs.BitPumpMsb.peek as peek
+use Rattle.pump.proofs.BitPumpMsb.peek.Statement as stated
+use Rattle.pump.proofs.BitPumpMsb.peek.Code as code
 
 -- 'a, and the pump's type at it
 abbrev α : Lft → NamedLft

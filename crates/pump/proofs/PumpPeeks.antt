@@ -25,12 +25,12 @@ use denote.Triple.Clauses.{ensured, lasts}
 use denote.Triple.Entry.{Vals, onEntry}
 use denote.Triple.Spec.{tripleOf}
 use denote.Triple.Statement.{Contract}
-use Rattle.bits.specs.Pump.{nextBits}
-use Rattle.bits.specs.declared.BitPumpMsb.{BitPumpMsb}
+use Rattle.pump.specs.Pump.{nextBits}
+use Rattle.pump.specs.declared.BitPumpMsb.{BitPumpMsb}
 use Rattle.bits.proofs.BitPosition as P
 use Rattle.bits.proofs.BitPosition.Laws as P′
-use Rattle.bits.proofs.PumpOwns.{IsAt, sliced, PumpOwn, SliceOwn, slice-out}
+use Rattle.pump.proofs.PumpOwns.{IsAt, sliced, PumpOwn, SliceOwn, slice-out}
 use Rattle.bits.proofs.peek_at as at
 
 module _ {M : Type 1} (𝓤 : URA M) (H : Heap 𝓤) (A : Atoms 𝓤) (mem : Memory → SProp 𝓤) (run : Routine → Fun 𝓤) where
   -- the contract that the proofs cite

@@ -1,4 +1,4 @@
--- `bits::BitPumpMsb::bit_position` meets its contract: a walk of its MIR, by hand. The borrow of the pump is looked into for the position, and shut
+-- `pump::BitPumpMsb::bit_position` meets its contract: a walk of its MIR, by hand. The borrow of the pump is looked into for the position, and shut
 -- again. Assumes nothing.
 use mathlib.Core.Path.{refl}
 use Prim.Native.Nat.{ℕ}
@@ -32,16 +32,16 @@ use denote.Triple.Spec.{Meets, tripleOf}
 use denote.Triple.Table.{entered}
 use denote.Triple.Walked.{says, Stays, stay-none-ref, walkOf, goes-none-ref, Walks, ends-at, walked, walk-meets}
 use denote.Exit.{yes}
-use Rattle.bits.specs.declared.BitPumpMsb.{BitPumpMsb}
+use Rattle.pump.specs.declared.BitPumpMsb.{BitPumpMsb}
 use Rattle.bits.proofs.BitPosition as P
 use Rattle.bits.proofs.BitPosition.Laws as P′
-use Rattle.bits.proofs.BitPumpMsb as T
-use Rattle.bits.proofs.BitPumpMsb.Laws as T′
-use Rattle.bits.proofs.PumpOwns.{IsAt, is-at, typed}
-use Rattle.bits.proofs.BitPumpMsb.bit_position.Key.{name as #bit-position}
-use Rattle.bits.proofs.BitPumpMsb.bit_position as bit-position
-use Rattle.bits.proofs.BitPumpMsb.bit_position.Statement as stated
-use Rattle.bits.proofs.BitPumpMsb.bit_position.Code as code
+use Rattle.pump.proofs.BitPumpMsb as T
+use Rattle.pump.proofs.BitPumpMsb.Laws as T′
+use Rattle.pump.proofs.PumpOwns.{IsAt, is-at, typed}
+use Rattle.pump.proofs.BitPumpMsb.bit_position.Key.{name as #bit-position}
+use Rattle.pump.proofs.BitPumpMsb.bit_position as bit-position
+use Rattle.pump.proofs.BitPumpMsb.bit_position.Statement as stated
+use Rattle.pump.proofs.BitPumpMsb.bit_position.Code as code
 
 -- 'a, and the pump's type at it
 abbrev α : Lft → NamedLft

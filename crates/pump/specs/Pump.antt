@@ -1,16 +1,8 @@
 -- What a pump gives, and where it stands afterwards. A pump is the bytes of a block and a bit position. Assumes nothing.
-use Prim.Native.Nat.{ℕ, _+_, _-_, _%_, _^_, min}
+use Prim.Native.Nat.{ℕ, min}
 use denote.Ref.{now}
 use Rattle.bits.specs.Bits.{bitsAt, wordAt}
-use Rattle.bits.specs.declared.BitPumpMsb.{BitPumpMsb}
-
--- the position n bits on; positions end at 2^64 − 1
-abbrev pub ahead : ℕ → ℕ → ℕ
-ahead p n = min (p + n) (2 ^ 64 - 1)
-
--- the position at which the next byte begins, or p where a byte begins there
-abbrev pub aligned : ℕ → ℕ
-aligned p = ahead p ((8 - p % 8) % 8)
+use Rattle.pump.specs.declared.BitPumpMsb.{BitPumpMsb}
 
 -- the next n bits of a pump, where a count above 32 is taken as 32
 abbrev pub nextBits : BitPumpMsb → ℕ → ℕ

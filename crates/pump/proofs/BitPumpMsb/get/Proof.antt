@@ -1,4 +1,4 @@
--- `bits::BitPumpMsb::get` meets its contract: a walk of its MIR, by hand. The borrow of the pump is opened, its slice and position are read,
+-- `pump::BitPumpMsb::get` meets its contract: a walk of its MIR, by hand. The borrow of the pump is opened, its slice and position are read,
 -- `peek_at` is called on a copy of the slice and `past` on the position, and the borrow is closed at the pump that has moved on. Assumes nothing.
 use mathlib.Core.Path.{_≡_, refl, ap}
 use Prim.Native.Nat.{ℕ, _<_, _^_, min}
@@ -41,27 +41,28 @@ use denote.Triple.Statement.{Contract, Triple}
 use denote.Triple.Table.{entered, cited}
 use denote.Triple.Walked.{says, Stays, stay-ref, stay-none, walkOf, goes-none, goes-ref, Walks, ends-at, walked, walk-meets}
 use denote.Exit.{yes}
-use Rattle.bits.specs.Pump.{ahead, nextBits, movedTo}
+use Rattle.bits.specs.Positions.{ahead}
+use Rattle.pump.specs.Pump.{nextBits, movedTo}
 use Rattle.bits.specs.declared.BitPosition.{BitPosition}
-use Rattle.bits.specs.declared.BitPumpMsb.{BitPumpMsb}
+use Rattle.pump.specs.declared.BitPumpMsb.{BitPumpMsb}
 use Rattle.bits.proofs.BitPosition as P
 use Rattle.bits.proofs.BitPosition.Laws as P′
-use Rattle.bits.proofs.BitPumpMsb as T
-use Rattle.bits.proofs.BitPumpMsb.Laws as T′
-use Rattle.bits.proofs.PumpOwns.{IsAt, is-at, sliced, PumpOwn, moved, typed}
-use Rattle.bits.proofs.PumpPeeks.{PeekAt, to-peek, goes-peek, says-peek}
+use Rattle.pump.proofs.BitPumpMsb as T
+use Rattle.pump.proofs.BitPumpMsb.Laws as T′
+use Rattle.pump.proofs.PumpOwns.{IsAt, is-at, sliced, PumpOwn, moved, typed}
+use Rattle.pump.proofs.PumpPeeks.{PeekAt, to-peek, goes-peek, says-peek}
 use Rattle.bits.proofs.peek_at as at
 use Rattle.bits.proofs.peek_at.Symbol as at-def
 use Rattle.bits.proofs.peek_at.Symbol.{name as #peek-at}
 use Rattle.bits.proofs.peek_at.Met as at-thm
 use Rattle.bits.proofs.past as past
 use Rattle.bits.proofs.past.Symbol as past-def
 use Rattle.bits.proofs.past.Symbol.{name as #past}
 use Rattle.bits.proofs.past.Met as past-thm
-use Rattle.bits.proofs.BitPumpMsb.get.Key.{name as #get}
-use Rattle.bits.proofs.BitPumpMsb.get as get
-use Rattle.bits.proofs.BitPumpMsb.get.Statement as stated
-use Rattle.bits.proofs.BitPumpMsb.get.Code as code
+use Rattle.pump.proofs.BitPumpMsb.get.Key.{name as #get}
+use Rattle.pump.proofs.BitPumpMsb.get as get
+use Rattle.pump.proofs.BitPumpMsb.get.Statement as stated
+use Rattle.pump.proofs.BitPumpMsb.get.Code as code
 
 -- 'a, and the pump's type at it
 abbrev α : Lft → NamedLft

@@ -1,4 +1,4 @@
--- `bits::BitPumpMsb::at_bit` meets its contract: a walk of its MIR, by hand. The pump is made of the slice and the position passed, in the result's
+-- `pump::BitPumpMsb::at_bit` meets its contract: a walk of its MIR, by hand. The pump is made of the slice and the position passed, in the result's
 -- local. A `&[u8]` is Copy, so that what it owns is had twice: once for the parameter at exit, and once inside the pump.
 -- Assumes nothing.
 use mathlib.Core.Path.{refl}
@@ -31,16 +31,16 @@ use denote.Triple.Spec.{Meets, tripleOf}
 use denote.Triple.Table.{entered}
 use denote.Triple.Walked.{says, Stays, stay-none, stay-none-slice, walkOf, goes-none, goes-none-slice, Walks, ends-at, walked, walk-meets}
 use denote.Exit.{yes}
 use Rattle.bits.specs.declared.BitPosition.{BitPosition}
-use Rattle.bits.specs.declared.BitPumpMsb.{BitPumpMsb}
+use Rattle.pump.specs.declared.BitPumpMsb.{BitPumpMsb}
 use Rattle.bits.proofs.BitPosition as P
 use Rattle.bits.proofs.BitPosition.Laws as P′
-use Rattle.bits.proofs.BitPumpMsb.Laws as T′
-use Rattle.bits.proofs.PumpOwns.{IsAt, sliced, made as pump-made}
-use Rattle.bits.proofs.BitPumpMsb.at_bit.Key.{name as #at-bit}
-use Rattle.bits.proofs.BitPumpMsb.at_bit as at-bit
-use Rattle.bits.proofs.BitPumpMsb.at_bit.Statement as stated
-use Rattle.bits.proofs.BitPumpMsb.at_bit.Code as code
+use Rattle.pump.proofs.BitPumpMsb.Laws as T′
+use Rattle.pump.proofs.PumpOwns.{IsAt, sliced, made as pump-made}
+use Rattle.pump.proofs.BitPumpMsb.at_bit.Key.{name as #at-bit}
+use Rattle.pump.proofs.BitPumpMsb.at_bit as at-bit
+use Rattle.pump.proofs.BitPumpMsb.at_bit.Statement as stated
+use Rattle.pump.proofs.BitPumpMsb.at_bit.Code as code
 
 abbrev stayed : Stays (at-bit.ended .signature .params) (at-bit.ended .kept)
 stayed = (stay-none-slice (0 ∷ []) tt (plain (λ _. u8)) yes, (stay-none (λ _. P.the-row) yes, tt))

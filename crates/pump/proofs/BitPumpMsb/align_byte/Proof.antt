@@ -1,4 +1,4 @@
--- `bits::BitPumpMsb::align_byte` meets its contract: a walk of its MIR, by hand. The borrow of the pump is opened, `BitPosition::aligned` is called on the
+-- `pump::BitPumpMsb::align_byte` meets its contract: a walk of its MIR, by hand. The borrow of the pump is opened, `BitPosition::aligned` is called on the
 -- position, and the borrow is closed at the pump that has moved on. Assumes nothing.
 use mathlib.Core.Path.{_≡_, refl, ap}
 use Prim.Native.Nat.{ℕ}
@@ -38,22 +38,23 @@ use denote.Triple.Spec.{Meets, tripleOf}
 use denote.Triple.Statement.{Contract, Triple}
 use denote.Triple.Table.{entered, cited}
 use denote.Triple.Walked.{says, Stays, stay-ref, walkOf, goes-ref, Walks, ends-at, walked, walk-meets}
-use Rattle.bits.specs.Pump.{aligned, movedTo}
+use Rattle.bits.specs.Positions.{aligned}
+use Rattle.pump.specs.Pump.{movedTo}
 use Rattle.bits.specs.declared.BitPosition.{BitPosition}
-use Rattle.bits.specs.declared.BitPumpMsb.{BitPumpMsb}
+use Rattle.pump.specs.declared.BitPumpMsb.{BitPumpMsb}
 use Rattle.bits.proofs.BitPosition as P
 use Rattle.bits.proofs.BitPosition.Laws as P′
-use Rattle.bits.proofs.BitPumpMsb as T
-use Rattle.bits.proofs.BitPumpMsb.Laws as T′
-use Rattle.bits.proofs.PumpOwns.{IsAt, is-at, sliced, PumpOwn, moved, typed}
+use Rattle.pump.proofs.BitPumpMsb as T
+use Rattle.pump.proofs.BitPumpMsb.Laws as T′
+use Rattle.pump.proofs.PumpOwns.{IsAt, is-at, sliced, PumpOwn, moved, typed}
 use Rattle.bits.proofs.BitPosition.aligned as on
 use Rattle.bits.proofs.BitPosition.aligned.Symbol as on-def
 use Rattle.bits.proofs.BitPosition.aligned.Symbol.{name as #aligned}
 use Rattle.bits.proofs.BitPosition.aligned.Met as on-thm
-use Rattle.bits.proofs.BitPumpMsb.align_byte.Key.{name as #align-byte}
-use Rattle.bits.proofs.BitPumpMsb.align_byte as align-byte
-use Rattle.bits.proofs.BitPumpMsb.align_byte.Statement as stated
-use Rattle.bits.proofs.BitPumpMsb.align_byte.Code as code
+use Rattle.pump.proofs.BitPumpMsb.align_byte.Key.{name as #align-byte}
+use Rattle.pump.proofs.BitPumpMsb.align_byte as align-byte
+use Rattle.pump.proofs.BitPumpMsb.align_byte.Statement as stated
+use Rattle.pump.proofs.BitPumpMsb.align_byte.Code as code
 
 -- 'a, and the pump's type at it
 abbrev α : Lft → NamedLft

@@ -1,4 +1,4 @@
--- `bits::BitPumpMsb::peek_word` meets its contract: a walk of its MIR, by hand. The pump passed is taken apart, and `word_at` is called on a copy of its
+-- `pump::BitPumpMsb::peek_word` meets its contract: a walk of its MIR, by hand. The pump passed is taken apart, and `word_at` is called on a copy of its
 -- slice; what the pump owns is kept for the exit. Assumes nothing.
 use mathlib.Core.Path.{_≡_, refl}
 use Prim.Native.Nat.{ℕ}
@@ -38,21 +38,21 @@ use denote.Triple.Statement.{Contract, Triple}
 use denote.Triple.Table.{entered, cited}
 use denote.Triple.Walked.{says, Stays, stay-none, walkOf, goes-none, Walks, ends-at, walked, walk-meets}
 use denote.Exit.{yes}
-use Rattle.bits.specs.Pump.{nextWord}
-use Rattle.bits.specs.declared.BitPumpMsb.{BitPumpMsb}
+use Rattle.pump.specs.Pump.{nextWord}
+use Rattle.pump.specs.declared.BitPumpMsb.{BitPumpMsb}
 use Rattle.bits.proofs.BitPosition as P
 use Rattle.bits.proofs.BitPosition.Laws as P′
-use Rattle.bits.proofs.BitPumpMsb as T
-use Rattle.bits.proofs.BitPumpMsb.Laws as T′
-use Rattle.bits.proofs.PumpOwns.{IsAt, is-at, sliced, PumpOwn, SliceOwn, slice-out, typed}
+use Rattle.pump.proofs.BitPumpMsb as T
+use Rattle.pump.proofs.BitPumpMsb.Laws as T′
+use Rattle.pump.proofs.PumpOwns.{IsAt, is-at, sliced, PumpOwn, SliceOwn, slice-out, typed}
 use Rattle.bits.proofs.word_at as at
 use Rattle.bits.proofs.word_at.Symbol as at-def
 use Rattle.bits.proofs.word_at.Symbol.{name as #word-at}
 use Rattle.bits.proofs.word_at.Met as at-thm
-use Rattle.bits.proofs.BitPumpMsb.peek_word.Key.{name as #peek-word}
-use Rattle.bits.proofs.BitPumpMsb.peek_word as peek-word
-use Rattle.bits.proofs.BitPumpMsb.peek_word.Statement as stated
-use Rattle.bits.proofs.BitPumpMsb.peek_word.Code as code
+use Rattle.pump.proofs.BitPumpMsb.peek_word.Key.{name as #peek-word}
+use Rattle.pump.proofs.BitPumpMsb.peek_word as peek-word
+use Rattle.pump.proofs.BitPumpMsb.peek_word.Statement as stated
+use Rattle.pump.proofs.BitPumpMsb.peek_word.Code as code
 
 -- the pump's type, over the signature's lifetimes
 abbrev B : Lfts 1 → RattleType

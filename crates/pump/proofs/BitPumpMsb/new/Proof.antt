@@ -1,4 +1,4 @@
--- `bits::BitPumpMsb::new` meets its contract: a walk of its MIR, by hand, as that of `at_bit`, with the position 0 made in a local.
+-- `pump::BitPumpMsb::new` meets its contract: a walk of its MIR, by hand, as that of `at_bit`, with the position 0 made in a local.
 -- Assumes nothing.
 use mathlib.Core.Path.{refl}
 use Prim.Native.Nat.{ℕ}
@@ -31,16 +31,16 @@ use denote.Triple.Spec.{Meets, tripleOf}
 use denote.Triple.Table.{entered}
 use denote.Triple.Walked.{says, Stays, stay-none-slice, walkOf, goes-none-slice, Walks, ends-at, walked, walk-meets}
 use denote.Exit.{yes}
 use Rattle.bits.specs.declared.BitPosition.{BitPosition}
-use Rattle.bits.specs.declared.BitPumpMsb.{BitPumpMsb}
+use Rattle.pump.specs.declared.BitPumpMsb.{BitPumpMsb}
 use Rattle.bits.proofs.BitPosition as P
 use Rattle.bits.proofs.BitPosition.Laws as P′
-use Rattle.bits.proofs.BitPumpMsb.Laws as T′
-use Rattle.bits.proofs.PumpOwns.{IsAt, is-at, sliced, made as pump-made}
-use Rattle.bits.proofs.BitPumpMsb.new.Key.{name as #new}
-use Rattle.bits.proofs.BitPumpMsb.new as new
-use Rattle.bits.proofs.BitPumpMsb.new.Statement as stated
-use Rattle.bits.proofs.BitPumpMsb.new.Code as code
+use Rattle.pump.proofs.BitPumpMsb.Laws as T′
+use Rattle.pump.proofs.PumpOwns.{IsAt, is-at, sliced, made as pump-made}
+use Rattle.pump.proofs.BitPumpMsb.new.Key.{name as #new}
+use Rattle.pump.proofs.BitPumpMsb.new as new
+use Rattle.pump.proofs.BitPumpMsb.new.Statement as stated
+use Rattle.pump.proofs.BitPumpMsb.new.Code as code
 
 abbrev stayed : Stays (new.ended .signature .params) (new.ended .kept)
 stayed = (stay-none-slice (0 ∷ []) tt (plain (λ _. u8)) yes, tt)
