@@ -4,8 +4,9 @@ use mathlib.Core.Path.{_≡_, refl, _∙_}
 use Prim.Native.Nat.{_+_, _-_, _*_, _≤_}
 use native.Mathlib.Omega.{arith}
 use lib.ListN.{length, length-set}
-use Rattle.checkpoint.specs.Checkpoints.{linesByte, putEach}
-use Rattle.checkpoint.proofs.ByteLaws.{put-more, put-done}
+use Rattle.state_head.specs.Heads.{putEach}
+use Rattle.checkpoint.specs.Checkpoints.{linesByte}
+use Rattle.state_head.proofs.PutLaws.{put-more, put-done}
 use Rattle.checkpoint.proofs.store_lines.Statement.{statement}
 use Rattle.checkpoint.proofs.store_lines.Tie as tie
 

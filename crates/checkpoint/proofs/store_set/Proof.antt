@@ -8,8 +8,9 @@ use native.Mathlib.Omega.{arith}
 use lib.ListN.{length, length-set}
 use Rattle.steps.specs.Values.{zipRecords}
 use Rattle.steps.proofs.ZipLaws.{recordAt, zip-getD}
-use Rattle.checkpoint.specs.Checkpoints.{recordByte, storedRecord, recordsByte, putEach}
-use Rattle.checkpoint.proofs.ByteLaws.{put-more, put-done}
+use Rattle.state_head.specs.Heads.{putEach}
+use Rattle.checkpoint.specs.Checkpoints.{recordByte, storedRecord, recordsByte}
+use Rattle.state_head.proofs.PutLaws.{put-more, put-done}
 use Rattle.checkpoint.proofs.store_set.Statement.{statement}
 use Rattle.checkpoint.proofs.store_set.Tie as tie
 

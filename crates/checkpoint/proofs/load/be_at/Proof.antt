@@ -7,7 +7,8 @@ use native.Mathlib.Omega.{arith}
 use lib.Dec.{lit≤}
 use lib.Pow.{pow-mono}
 use Rattle.checkpoint.specs.Checkpoints.{beAt}
-use Rattle.checkpoint.proofs.ByteLaws.{eights, next-power, at-more}
+use Rattle.state_head.proofs.PutLaws.{eights}
+use Rattle.checkpoint.proofs.ByteLaws.{next-power, at-more}
 use Rattle.checkpoint.proofs.load.be_at.Statement.{statement}
 use Rattle.checkpoint.proofs.load.be_at.Tie as tie
 

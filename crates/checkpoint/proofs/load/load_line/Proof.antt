@@ -6,8 +6,9 @@ use Prim.Native.Nat.{ℕ, _+_, _-_, _*_, _≤_, _<_}
 use native.Mathlib.Nat.{mul-le-mul-right}
 use native.Mathlib.Omega.{arith}
 use lib.ListN.{length, length-set}
-use Rattle.checkpoint.specs.Checkpoints.{storedSample, keptLine, putEach, withKept}
-use Rattle.checkpoint.proofs.ByteLaws.{put-more, put-done}
+use Rattle.state_head.specs.Heads.{putEach}
+use Rattle.checkpoint.specs.Checkpoints.{storedSample, keptLine, withKept}
+use Rattle.state_head.proofs.PutLaws.{put-more, put-done}
 use Rattle.checkpoint.proofs.load.load_line.Statement.{statement}
 use Rattle.checkpoint.proofs.load.load_line.Tie as tie
 
