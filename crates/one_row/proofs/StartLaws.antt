@@ -49,3 +49,16 @@ stored-three f left at before p p′ i after F ep low ei room =
     let s₁ = stored-at f left at before p (p + 1) i after F refl low ei (omega arith) in
     let s₂ = stored-at f left at before (p + 1) (p + 2) (i + 1) _ s₁ (omega arith) (omega arith) (omega arith) (omega arith) in
     stored-at f left at before (p + 2) p′ (i + 2) _ s₂ (omega arith) (omega arith) (omega arith) (omega arith)
+
+-- one more sample, and six more
+pub stored-one : (f : ℕ → ℕ) (left at : ℕ) (before : List ℕ) (p : ℕ) (x y : List ℕ) → Stored f left p at before x → left ≤ p
+    → at + (p - left) < length before → y ≡ set x (at + (p - left)) (f p)
+    → Stored f left (p + 1) at before y
+stored-one f left at before p x y F low room e = rw e (stored-more f left p at (f p) before x F low room refl)
+
+pub stored-six : (f : ℕ → ℕ) (left at : ℕ) (before : List ℕ) (p : ℕ) (x y z : List ℕ) → Stored f left p at before x → left ≤ p
+    → at + (p - left) + 6 ≤ length before → y ≡ threePut f (at + (p - left)) p x → z ≡ threePut f (at + (p - left) + 3) (p + 3) y
+    → Stored f left (p + 6) at before z
+stored-six f left at before p x y z F low room ey ez =
+    let a = stored-three f left at before p (p + 3) (at + (p - left)) x F refl low refl (omega arith) in
+    rw (ez, ey) (stored-three f left at before (p + 3) (p + 6) (at + (p - left) + 3) _ a (omega arith) (omega arith) (omega arith) (omega arith))

@@ -5,11 +5,9 @@ use Rattle.entry_words.proofs.camera_in.Tie as tie
 use Rattle.entry_words.proofs.camera_in.Reads as reads
 use Rattle.entry_words.proofs.camera_in.Lts as lts
 
--- src/lib.rt:367:1
 returns : tie.Need-returns
 returns c = rw (eq-eqb _ _ (c .if1 .taken))
 
--- src/lib.rt:367:1
 returns-2 : tie.Need-returns-2
 returns-2 c = rw (ne-eqb _ _ (c .if1 .left))
 

@@ -7,103 +7,78 @@ use Rattle.entry_words.proofs.entry_in.Tie as tie
 use Rattle.entry_words.proofs.entry_in.Reads as reads
 use Rattle.entry_words.proofs.entry_in.Lts as lts
 
--- src/lib.rt:295:14
 mul-at : tie.Need-mul-at
 mul-at c = omega (arith, c .pre)
 
--- src/lib.rt:297:15
 mul-t4 : tie.Need-mul-t4
 mul-t4 c = omega (arith, c .pre)
 
--- src/lib.rt:297:15
 element-copy-out-t7 : tie.Need-element-copy-out-t7
 element-copy-out-t7 c = omega (arith, c .pre)
 
--- src/lib.rt:299:25
 add-t8 : tie.Need-add-t8
 add-t8 c = omega (arith, c .before .pre)
 
--- src/lib.rt:299:19
 mul-t9 : tie.Need-mul-t9
 mul-t9 c = omega (arith, c .before .pre)
 
--- src/lib.rt:299:19
 element-copy-out-t12 : tie.Need-element-copy-out-t12
 element-copy-out-t12 c = omega (arith, c .before .pre)
 
--- src/lib.rt:300:27
 add-t13 : tie.Need-add-t13
 add-t13 c = omega (arith, c .before .before .pre)
 
--- src/lib.rt:300:21
 mul-t14 : tie.Need-mul-t14
 mul-t14 c = omega (arith, c .before .before .pre)
 
--- src/lib.rt:300:21
 element-copy-out-t17 : tie.Need-element-copy-out-t17
 element-copy-out-t17 c = omega (arith, c .before .before .pre)
 
--- src/lib.rt:301:26
 add-t18 : tie.Need-add-t18
 add-t18 c = omega (arith, c .before .before .before .pre)
 
--- src/lib.rt:301:20
 mul-t19 : tie.Need-mul-t19
 mul-t19 c = omega (arith, c .before .before .before .pre)
 
--- src/lib.rt:301:20
 element-copy-out-t22 : tie.Need-element-copy-out-t22
 element-copy-out-t22 c = omega (arith, c .before .before .before .pre)
 
--- src/lib.rt:302:24
 add-t23 : tie.Need-add-t23
 add-t23 c = omega (arith, c .before .before .before .before .pre)
 
--- src/lib.rt:302:18
 mul-t24 : tie.Need-mul-t24
 mul-t24 c = omega (arith, c .before .before .before .before .pre)
 
--- src/lib.rt:302:18
 element-copy-out-t27 : tie.Need-element-copy-out-t27
 element-copy-out-t27 c = omega (arith, c .before .before .before .before .pre)
 
--- src/lib.rt:303:26
 add-t28 : tie.Need-add-t28
 add-t28 c = omega (arith, c .before .before .before .before .before .pre)
 
--- src/lib.rt:303:20
 mul-t29 : tie.Need-mul-t29
 mul-t29 c = omega (arith, c .before .before .before .before .before .pre)
 
--- src/lib.rt:303:20
 element-copy-out-t32 : tie.Need-element-copy-out-t32
 element-copy-out-t32 c = omega (arith, c .before .before .before .before .before .pre)
 
--- src/lib.rt:305:20
 add-t34 : tie.Need-add-t34
 add-t34 c = omega (arith, c .before .before .before .before .before .before .pre)
 
--- src/lib.rt:305:14
 mul-t35 : tie.Need-mul-t35
 mul-t35 c = omega (arith, c .before .before .before .before .before .before .pre)
 
--- src/lib.rt:305:14
 element-copy-out-t38 : tie.Need-element-copy-out-t38
 element-copy-out-t38 c = omega (arith, c .before .before .before .before .before .before .pre)
 
--- src/lib.rt:306:20
 add-t40 : tie.Need-add-t40
 add-t40 c = omega (arith, c .before .before .before .before .before .before .before .pre)
 
--- src/lib.rt:306:14
 mul-t41 : tie.Need-mul-t41
 mul-t41 c = omega (arith, c .before .before .before .before .before .before .before .pre)
 
--- src/lib.rt:306:14
 element-copy-out-t44 : tie.Need-element-copy-out-t44
 element-copy-out-t44 c = omega (arith, c .before .before .before .before .before .before .before .pre)
 
--- src/lib.rt:291:1
 returns : tie.Need-returns
 unfolding entryIn
 returns c = refl

@@ -13,23 +13,18 @@ use Rattle.entry_words.proofs.word_of.Reads as reads
 use Rattle.entry_words.proofs.word_of.Lts as lts
 use Rattle.numbers.proofs.flag.Reads as flag-reads
 
--- src/lib.rt:348:9
 flag-requires : tie.Need-flag-requires
 flag-requires c κs = tt
 
--- src/lib.rt:349:9
 flag-requires-2 : tie.Need-flag-requires-2
 flag-requires-2 c κs = tt
 
--- src/lib.rt:351:5
 mul-result : tie.Need-mul-result
 mul-result c = omega (arith, c .before .before .before .pre)
 
--- src/lib.rt:351:5
 array-read-result : tie.Need-array-read-result
 array-read-result c = c .before .before .before .pre
 
--- src/lib.rt:336:1
 words : (e : Entry) (k a b : ℕ) → a ≡ flag (e .one) → b ≡ flag (e .two)
     → getD (e .bits ∷ e .main .base ∷ e .main .weight ∷ e .main .total ∷ e .main .raw ∷ e .main .limit ∷ a ∷ b ∷ []) k 0 ≡ getD (wordsOf e) k 0
 unfolding wordsOf

@@ -24,45 +24,35 @@ Inv-loop entries words₀ k₀ words k = (k ≤ 128) × (length words ≡ 128) �
 abbrev μ-loop : tie.MeasureT-loop
 μ-loop entries words₀ k₀ words k = 128 - k
 
--- src/lib.rt:359:5
 loop-holds : tie.Need-loop-holds Inv-loop μ-loop
 loop-holds c = (omega arith, refl, new-none (word (c .args .t1 .all)) (replicate 128 0))
 
--- src/lib.rt:360:17
 mul-e : tie.Need-mul-e Inv-loop μ-loop
 mul-e c = omega arith
 
--- src/lib.rt:360:17
 element-copy-out-e : tie.Need-element-copy-out-e Inv-loop μ-loop
 element-copy-out-e c = omega arith
 
--- src/lib.rt:361:20
 word-of-requires : tie.Need-word-of-requires Inv-loop μ-loop
 word-of-requires c κs = omega arith
 
--- src/lib.rt:361:9
 mul-words : tie.Need-mul-words Inv-loop μ-loop
 mul-words c = omega (arith, c .before .before .before .loop .inv)
 
--- src/lib.rt:361:9
 array-write-words : tie.Need-array-write-words Inv-loop μ-loop
 array-write-words c = omega (arith, c .before .before .before .loop .inv)
 
--- src/lib.rt:362:9
 add-k : tie.Need-add-k Inv-loop μ-loop
 add-k c = omega (arith, c .before .before .before .loop .inv)
 
--- src/lib.rt:359:5
 loop-less : tie.Need-loop-less Inv-loop μ-loop
 loop-less c = omega (arith, c .word-of .ensures)
 
--- src/lib.rt:359:5
 loop-again : tie.Need-loop-again Inv-loop μ-loop
 loop-again c =
     let l = c .before .before .before .loop in
     (omega (arith, c .before .before .loop-test .taken), rw length-set (l .inv .1), new-more (word (c .before .before .before .before .args .t1 .all)) (replicate 128 0) (l .words) (l .k) (c .word-of .result) (omega (arith, c .before .before .loop-test .taken, l .inv .1)) (c .word-of .ensures) (l .inv .2))
 
--- src/lib.rt:354:1
 returns : tie.Need-returns Inv-loop μ-loop
 returns c k low =
     let l = c .before .loop in

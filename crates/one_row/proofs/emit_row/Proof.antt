@@ -8,8 +8,8 @@ use borrow.Author.Tests.{eqb-true, leb-true}
 use Rattle.numbers.proofs.BoolLaws.{both}
 use Rattle.map.specs.Rows.{sampleBy}
 use Rattle.map.proofs.PlaceLaws.{width-le}
-use Rattle.one_row.proofs.StartLaws.{stored-three, starts-inside, column-next, row-emitted}
-use Rattle.map.proofs.RowLaws.{Stored, stored-none, stored-more}
+use Rattle.one_row.proofs.StartLaws.{starts-inside, column-next, row-emitted, stored-one, stored-six}
+use Rattle.map.proofs.RowLaws.{Stored, stored-none}
 use Rattle.one_row.proofs.emit_row.Statement.{statement}
 use Rattle.one_row.proofs.emit_row.Tie as tie
 
@@ -83,11 +83,11 @@ loop-again c =
     let l = c .before .before .before .before .before .before .before .before .before .before .before .before .loop in
     let t = both (eqb (l .column) 0) (leb (l .p + 6) (s .args .right)) (c .before .before .before .before .before .before .before .before .before .before .if1 .taken) in
     let z = eqb-true (l .column) 0 (t .0) in
-    let y = leb-true (l .p + 6) (s .args .right) (t .1) in
-    let a = stored-three _ _ _ _ (l .p) (l .p + 3) _ _ (l .inv .2) refl (l .inv .0) refl (omega (arith, l .inv .0)) in (
+    let y = leb-true (l .p + 6) (s .args .right) (t .1) in (
       omega (arith, l .inv .0),
       y,
-      rw (c .before .before .emit-three2 .ensures .0, c .before .before .before .before .before .before .before .emit-three .ensures .0) (stored-three _ _ _ _ (l .p + 3) (l .p + 6) _ _ a (omega arith) (omega (arith, l .inv .0)) (omega (arith, l .inv .0)) (omega (arith, l .inv .0))),
+      stored-six _ _ _ _ (l .p) _ _ _ (l .inv .2) (l .inv .0) (omega (arith, l .inv .0, y, s .pre .1 .0 .1))
+          (c .before .before .before .before .before .before .before .emit-three .ensures .0) (c .before .before .emit-three2 .ensures .0),
       omega (arith, l .inv .3),
     )
 
@@ -115,7 +115,7 @@ loop-again-2 c =
     let l = c .before .before .before .before .before .before .before .before .loop in (
       omega (arith, l .inv .0),
       omega (arith, c .before .before .before .before .before .before .before .loop-test .taken),
-      rw (c .before .before .before .emit-sample .ensures .0) (stored-more _ _ _ _ _ _ _ (l .inv .2) (l .inv .0) (omega (arith, l .inv .0)) refl),
+      stored-one _ _ _ _ (l .p) _ _ (l .inv .2) (l .inv .0) (omega (arith, l .inv .0)) (c .before .before .before .emit-sample .ensures .0),
       c .next-column .ensures ∙ rw (l .inv .3) (column-next (l .p)),
     )
 

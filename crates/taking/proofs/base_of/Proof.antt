@@ -13,19 +13,15 @@ use Rattle.taking.proofs.base_of.Reads as reads
 use Rattle.taking.proofs.base_of.Lts as lts
 use Rattle.numbers.proofs.u8_to_u32.Reads as u8-to-u32-reads
 
--- src/lib.rt:43:35
 shared-slice-read-u8-to-u32 : tie.Need-shared-slice-read-u8-to-u32
 shared-slice-read-u8-to-u32 c = search needs
 
--- src/lib.rt:43:9
 u8-to-u32-requires : tie.Need-u8-to-u32-requires
 u8-to-u32-requires c κs = tt
 
--- src/lib.rt:43:9
 returns : tie.Need-returns
 returns c = omega (arith, c .u8-to-u32 .ensures)
 
--- src/lib.rt:39:1
 returns-2 : tie.Need-returns-2
 returns-2 c = (sym (List·getD-eq-default (c .before .before .args .bases .now) 0 (c .if1 .left)), omega arith)
 

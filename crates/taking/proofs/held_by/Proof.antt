@@ -4,19 +4,15 @@ use Rattle.taking.proofs.held_by.Tie as tie
 use Rattle.taking.proofs.held_by.Reads as reads
 use Rattle.taking.proofs.held_by.Lts as lts
 
--- src/lib.rt:107:24
 enum-told : tie.Need-enum-told
 enum-told c = c .match .keys1
 
--- src/lib.rt:113:24
 enum-told-2 : tie.Need-enum-told-2
 enum-told-2 c = c .match .keys2
 
--- src/lib.rt:102:1
 returns : tie.Need-returns
 returns c = rw (c .enum-told .given .1)
 
--- src/lib.rt:102:1
 returns-2 : tie.Need-returns-2
 returns-2 c = rw (c .enum-told2 .given .1)
 

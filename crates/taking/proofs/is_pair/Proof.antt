@@ -5,13 +5,11 @@ use Rattle.taking.proofs.is_pair.Reads as reads
 use Rattle.taking.proofs.is_pair.Lts as lts
 use Rattle.cameras.proofs.is_held.Reads as is-held-reads
 
--- src/lib.rt:69:5
 is-held-requires : tie.Need-is-held-requires
 is-held-requires c κs = tt
 
--- src/lib.rt:65:1
 returns : tie.Need-returns
-returns c = cc
+returns c = rw (c .before .before .is-held .ensures)
 
 pub is-pair-spec : {M : Type 1} → statement M
 is-pair-spec = tie.close (tie.spec is-held-requires returns)

@@ -13,27 +13,21 @@ use Rattle.taking.proofs.main_in.Lts as lts
 use Rattle.taking.proofs.pair_in.Reads as pair-in-reads
 use Rattle.quantiser.proofs.Quantiser.main.Reads as main-reads
 
--- src/lib.rt:285:9
 pair-in-requires : tie.Need-pair-in-requires
 pair-in-requires c κs = tt
 
--- src/lib.rt:287:17
 mul-e : tie.Need-mul-e
 mul-e c = omega (arith, c .before .pair-in .ensures)
 
--- src/lib.rt:287:17
 element-copy-out-e : tie.Need-element-copy-out-e
 element-copy-out-e c = omega (arith, c .before .pair-in .ensures)
 
--- src/lib.rt:288:9
 returns : tie.Need-returns
 returns c = pair-main _ _ _ _ (c .before .before .before .before .pre .1) (c .before .before .before .pair-in .ensures .0) (c .before .before .if1 .taken)
 
--- src/lib.rt:290:5
 main-requires : tie.Need-main-requires
 main-requires c κs = omega (arith, c .before .before .pre)
 
--- src/lib.rt:280:1
 returns-2 : tie.Need-returns-2
 returns-2 c = c .main .ensures .0
 

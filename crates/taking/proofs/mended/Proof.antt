@@ -18,45 +18,35 @@ Inv-loop after₀ i₀ after i = (i ≤ 16) × (after .all ≡ each (mendedEntry
 abbrev μ-loop : tie.MeasureT-loop
 μ-loop after₀ i₀ after i = 16 - i
 
--- src/lib.rt:271:5
 loop-holds : tie.Need-loop-holds Inv-loop μ-loop
 loop-holds c = (omega arith, each-start _ _)
 
--- src/lib.rt:272:17
 mul-e : tie.Need-mul-e Inv-loop μ-loop
 mul-e c = omega (arith, c .before .loop .inv)
 
--- src/lib.rt:272:17
 element-copy-out-e : tie.Need-element-copy-out-e Inv-loop μ-loop
 element-copy-out-e c = omega (arith, c .before .loop .inv)
 
--- src/lib.rt:273:24
 mended-entry-requires : tie.Need-mended-entry-requires Inv-loop μ-loop
 mended-entry-requires c κs = tt
 
--- src/lib.rt:273:9
 mul-t6 : tie.Need-mul-t6 Inv-loop μ-loop
 mul-t6 c = omega (arith, c .before .before .before .loop .inv)
 
--- src/lib.rt:273:9
 element-set-from-after : tie.Need-element-set-from-after Inv-loop μ-loop
 element-set-from-after c = omega (arith, c .before .before .before .loop .inv)
 
--- src/lib.rt:274:9
 add-i : tie.Need-add-i Inv-loop μ-loop
 add-i c = omega (arith, c .before .before .before .loop .inv)
 
--- src/lib.rt:271:5
 loop-less : tie.Need-loop-less Inv-loop μ-loop
 loop-less c = omega (arith, c .before .before .before .loop .inv)
 
--- src/lib.rt:271:5
 loop-again : tie.Need-loop-again Inv-loop μ-loop
 loop-again c =
     let l = c .before .before .before .loop in
     (omega (arith, c .before .before .loop-test .taken), each-more _ _ _ _ _ (l .inv .1) (c .mended-entry .ensures))
 
--- src/lib.rt:266:1
 returns : tie.Need-returns Inv-loop μ-loop
 returns c =
     let l = c .before .loop in

@@ -18,15 +18,12 @@ use Rattle.cameras.proofs.is_held.Reads as is-held-reads
 use Rattle.cameras.proofs.no_entry.Reads as no-entry-reads
 use Rattle.quantiser.proofs.Quantiser.main.Reads as main-reads
 
--- src/lib.rt:249:9
 is-held-requires : tie.Need-is-held-requires
 is-held-requires c κs = tt
 
--- src/lib.rt:250:9
 returns : tie.Need-returns
 returns c = mend-unheld (c .before .before .args .e) (sym (c .before .is-held .ensures) ∙ not-true _ (c .if1 .taken))
 
--- src/lib.rt:254:13
 main-requires : tie.Need-main-requires
 main-requires c κs =
     let e = c .before .before .before .before .before .before .before .args .e in
@@ -34,15 +31,12 @@ main-requires c κs =
     let v = both (leb 12 (e .bits)) (leb (e .bits) 16) (u .0) in
     (leb-true _ _ (v .0), (leb-true _ _ (v .1), ltb-true _ _ (u .1)))
 
--- src/lib.rt:255:9
 returns-2 : tie.Need-returns-2
 returns-2 c = let e = c .before .before .before .before .before .before .before .before .args .e in mend-good e _ (sym (c .before .before .before .before .before .before .before .is-held .ensures) ∙ not-false _ (c .before .before .before .before .before .before .if1 .left)) (c .before .if2 .taken) (c .main .ensures .0)
 
--- src/lib.rt:262:5
 no-entry-requires : tie.Need-no-entry-requires
 no-entry-requires c κs = tt
 
--- src/lib.rt:246:1
 returns-3 : tie.Need-returns-3
 returns-3 c = let e = c .before .before .before .before .before .before .before .before .args .e in mend-bad e _ (sym (c .before .before .before .before .before .before .before .is-held .ensures) ∙ not-false _ (c .before .before .before .before .before .before .if1 .left)) (c .before .if2 .left) (c .no-entry .ensures)
 

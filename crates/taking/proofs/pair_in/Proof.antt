@@ -17,40 +17,31 @@ Inv-loop bits base entries i₀ i = NoneBefore (λ j. isPair bits base (entryAt 
 abbrev μ-loop : tie.MeasureT-loop
 μ-loop bits base entries i₀ i = 16 - i
 
--- src/lib.rt:77:5
 loop-holds : tie.Need-loop-holds Inv-loop μ-loop
 loop-holds c = (omega arith, refl)
 
--- src/lib.rt:78:17
 mul-e : tie.Need-mul-e Inv-loop μ-loop
 mul-e c = omega (arith, c .before .loop .inv)
 
--- src/lib.rt:78:17
 element-copy-out-e : tie.Need-element-copy-out-e Inv-loop μ-loop
 element-copy-out-e c = omega (arith, c .before .loop .inv)
 
--- src/lib.rt:79:12
 is-pair-requires : tie.Need-is-pair-requires Inv-loop μ-loop
 is-pair-requires c κs = tt
 
--- src/lib.rt:80:13
 returns : tie.Need-returns Inv-loop μ-loop
 unfolding pairIn
 returns c = found (λ j. isPair (c .before .before .before .before .before .args .bits) (c .before .before .before .before .before .args .base) (entryAt (c .before .before .before .before .before .args .t1 .all) j)) _ (c .before .before .before .before .loop .inv) (sym (c .before .is-pair .ensures) ∙ c .if1 .taken)
 
--- src/lib.rt:82:9
 add-i : tie.Need-add-i Inv-loop μ-loop
 add-i c = omega (arith, c .before .before .before .before .loop .inv)
 
--- src/lib.rt:77:5
 loop-less : tie.Need-loop-less Inv-loop μ-loop
 loop-less c = omega (arith, c .before .before .before .before .loop .inv)
 
--- src/lib.rt:77:5
 loop-again : tie.Need-loop-again Inv-loop μ-loop
 loop-again c = goes-on (λ j. isPair (c .before .before .before .before .before .args .bits) (c .before .before .before .before .before .args .base) (entryAt (c .before .before .before .before .before .args .t1 .all) j)) _ (c .before .before .before .before .loop .inv) (c .before .before .before .loop-test .taken) (sym (c .before .is-pair .ensures) ∙ c .if1 .left)
 
--- src/lib.rt:73:1
 returns-2 : tie.Need-returns-2 Inv-loop μ-loop
 unfolding pairIn
 returns-2 c = ended (λ j. isPair (c .before .before .args .bits) (c .before .before .args .base) (entryAt (c .before .before .args .t1 .all) j)) _ (c .before .loop .inv) (c .loop-test .left)

@@ -15,55 +15,42 @@ use Rattle.taking.proofs.held_by.Reads as held-by-reads
 use Rattle.taking.proofs.new_entry.Reads as new-entry-reads
 use Rattle.taking.proofs.pair_in.Reads as pair-in-reads
 
--- src/lib.rt:179:9
 pair-in-requires : tie.Need-pair-in-requires
 pair-in-requires c κs = tt
 
--- src/lib.rt:181:17
 mul-e : tie.Need-mul-e
 mul-e c = omega (arith, c .before .pair-in .ensures)
 
--- src/lib.rt:181:17
 element-copy-out-e : tie.Need-element-copy-out-e
 element-copy-out-e c = omega (arith, c .before .pair-in .ensures)
 
--- src/lib.rt:182:24
 held-by-requires : tie.Need-held-by-requires
 held-by-requires c κs = tt
 
--- src/lib.rt:182:9
 mul-t10 : tie.Need-mul-t10
 mul-t10 c = omega (arith, c .before .before .before .pair-in .ensures)
 
--- src/lib.rt:182:9
 element-set-from-after : tie.Need-element-set-from-after
 element-set-from-after c = omega (arith, c .before .before .before .pair-in .ensures)
 
--- src/lib.rt:183:9
 returns : tie.Need-returns
 returns c = pair-taken _ _ _ _ _ (c .before .before .before .pair-in .ensures .0) _ (c .before .before .if1 .taken) (c .held-by .ensures)
 
--- src/lib.rt:188:9
 free-in-requires : tie.Need-free-in-requires
 free-in-requires c κs = tt
 
--- src/lib.rt:190:24
 new-entry-requires : tie.Need-new-entry-requires
 new-entry-requires c κs = c .before .before .before .before .pre
 
--- src/lib.rt:190:9
 mul-t18 : tie.Need-mul-t18
 mul-t18 c = omega (arith, c .before .before .free-in .ensures)
 
--- src/lib.rt:190:9
 element-set-from-after-2 : tie.Need-element-set-from-after-2
 element-set-from-after-2 c = omega (arith, c .before .before .free-in .ensures)
 
--- src/lib.rt:191:9
 returns-2 : tie.Need-returns-2
 returns-2 c = free-taken _ _ _ _ _ (c .before .before .before .before .pair-in .ensures .0) _ (c .before .before .free-in .ensures .0) (c .before .before .before .if1 .left) _ (c .before .if2 .taken) (c .new-entry .ensures)
 
--- src/lib.rt:174:1
 returns-3 : tie.Need-returns-3
 returns-3 c = none-taken _ _ _ _ _ (c .before .before .before .pair-in .ensures .0) _ (c .before .free-in .ensures .0) (c .before .before .if1 .left) (c .if2 .left)
 

@@ -22,34 +22,27 @@ Inv-loop camera bits bases count after₀ n₀ after n =
 abbrev μ-loop : tie.MeasureT-loop
 μ-loop camera bits bases count after₀ n₀ after n = count - n
 
--- src/lib.rt:213:5
 loop-holds : tie.Need-loop-holds Inv-loop μ-loop
 loop-holds c = (omega arith, took-none _ _ _ _, lines-none _ _ _ _, c .before .pre .1)
 
--- src/lib.rt:214:47
 base-of-requires : tie.Need-base-of-requires Inv-loop μ-loop
 base-of-requires c κs = tt
 
--- src/lib.rt:214:13
 take-requires : tie.Need-take-requires Inv-loop μ-loop
 take-requires c κs = omega (arith, c .before .before .before .before .pre)
 
--- src/lib.rt:217:13
 returns : tie.Need-returns Inv-loop μ-loop
 returns c =
     let l = c .before .before .before .before .loop in
     let t = c .before .take .ensures in
     ((line-left _ _ _ _ _ _ _ _ _ (l .inv .1) (l .inv .2) (c .before .before .base-of .ensures .0) (c .before .before .before .loop-test .taken) (t .0) (not-true _ (c .if1 .taken)), omega (arith, l .inv .0)), (l .inv .1, l .inv .3))
 
--- src/lib.rt:223:9
 add-n : tie.Need-add-n Inv-loop μ-loop
 add-n c = omega (arith, c .before .before .before .before .before .loop .inv)
 
--- src/lib.rt:213:5
 loop-less : tie.Need-loop-less Inv-loop μ-loop
 loop-less c = omega (arith, c .before .before .before .before .before .before .before .pre)
 
--- src/lib.rt:213:5
 loop-again : tie.Need-loop-again Inv-loop μ-loop
 loop-again c =
     let l = c .before .before .before .before .before .loop in
@@ -63,7 +56,6 @@ loop-again c =
       rw (t .1) (numbered-with _ _ _ _ (a .pre .0 .0) (a .pre .0 .1 .0) (b .1) (l .inv .3)),
     )
 
--- src/lib.rt:200:1
 returns-2 : tie.Need-returns-2 Inv-loop μ-loop
 returns-2 c =
     let l = c .before .loop in

@@ -1,5 +1,4 @@
 -- `zero_rows::zero_line` meets its contract: the line's first r rows are 0. Assumes nothing.
-use borrow.Author.Needs.{needs}
 use borrow.Author.Tests.{not-true, not-false}
 use mathlib.Core.Path.{_≡_}
 use Prim.Native.Nat.{_+_, _-_, _*_, _≤_}
@@ -23,7 +22,7 @@ returns c =
     not-wanted (a .wanted) (inRows (a .part) (6 * a .n) (6 * a .n + 6)) _ _ (not-true (a .wanted) (c .if1 .taken))
 
 loop-holds : tie.Need-loop-holds Inv-loop μ-loop
-loop-holds c = (search needs, put-none _ _ _ _ _ (λ i h. omega (arith, h .first, h .last)))
+loop-holds c = (omega arith, put-none _ _ _ _ _ (λ i h. omega (arith, h .first, h .last)))
 
 zero-row-requires : tie.Need-zero-row-requires Inv-loop μ-loop
 zero-row-requires c κs =
@@ -36,7 +35,7 @@ loop-again c =
     let n = l .before .before .before .args .n in
     let r = l .loop .r in
     let e : 6 * n + (r + 1) ≡ 6 * n + r + 1 = omega arith in
-    (search needs, rw e (put-join _ _ _ _ _ _ _ _ (omega arith) (omega arith) (l .loop .inv .1) (c .before .before .zero-row .ensures)))
+    (omega arith, rw e (put-join _ _ _ _ _ _ _ _ (omega arith) (omega arith) (l .loop .inv .1) (c .before .before .zero-row .ensures)))
 
 returns-2 : tie.Need-returns-2 Inv-loop μ-loop
 returns-2 c =

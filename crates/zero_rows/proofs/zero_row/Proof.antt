@@ -1,5 +1,4 @@
 -- `zero_rows::zero_row` meets its contract: the first j entries of the row are 0. Assumes nothing.
-use borrow.Author.Needs.{needs}
 use mathlib.Core.Bool.{_&&_}
 use mathlib.Core.List.{List}
 use mathlib.Core.Path.{_≡_, refl}
@@ -70,9 +69,9 @@ zero-row-spec =
     mul-at
     add-at
     sub-count
-    (λ c. (search needs, stored-none _ _ _ _))
-    (λ c. search (needs, written c))
-    (λ c. search (needs, written c))
+    (λ c. (omega arith, stored-none _ _ _ _))
+    (λ c. omega (arith, written c, c .before .before .before .before .good))
+    (λ c. omega (arith, written c, c .before .before .before .before .good))
     (λ c. omega (arith, written c, c .before .loop .inv .1 .kept))
     (λ c. omega (arith, c .before .loop .inv))
     (λ c. omega (arith, c .before .before .before .before .pre))
