@@ -3,7 +3,7 @@ ghost use mathlib.Core.Path.{_≡_};
 ghost use mathlib.Core.Bool.{Bool, true, false, cond, _&&_, _||_};
 ghost use Prim.Native.Nat.{ℕ, _+_, _-_, _*_, _/_, _%_, _^_, _≤_, _<_, min};
 ghost use lib.ListN.{length, getD};
-ghost use Rattle.state_head.specs.Heads.{beByte, headByte, putEach};
+ghost use Rattle.state_head.specs.Heads.{putEach};
 ghost use Rattle.checkpoint.specs.Checkpoints.{storedRecord, recordByte, recordsByte, keptLine, linesByte};
 ghost use Rattle.statistics.specs.Statistics.{largestResidual};
 ghost use Rattle.steps.specs.Values.{zipRecords, recordsOf, SetInRange};
