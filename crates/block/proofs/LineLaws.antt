@@ -13,7 +13,7 @@ use Rattle.code.specs.declared.Place.{Place}
 use Rattle.statistics.specs.declared.Record.{Record}
 use Rattle.lines.specs.ColourLines.{guarded, entered}
 use Rattle.map.specs.Places.{widthOf, inRows, emittedSample, Fits}
-use Rattle.map.specs.Windows.{colourOf, PassEmitted}
+use Rattle.emit.specs.Windows.{colourOf, PassEmitted}
 use Rattle.map.specs.declared.Part.{Part}
 use Rattle.map.proofs.PartLaws.{by-test}
 use Rattle.schedule.specs.Steps.{PlanInRange}

@@ -12,7 +12,7 @@ use Rattle.statistics.specs.declared.Record.{Record}
 use Rattle.totals.specs.declared.Totals.{Totals}
 use Rattle.totals.specs.declared.TightLines.{TightLines}
 use Rattle.map.specs.Places.{widthOf, pictureRow, inRows, emittedSample, Changed}
-use Rattle.map.specs.Windows.{PassEmitted}
+use Rattle.emit.specs.Windows.{PassEmitted}
 use Rattle.map.specs.declared.Part.{Part}
 use Rattle.pass.specs.Windows.{windowPlan}
 use Rattle.schedule.specs.Steps.{planOf}

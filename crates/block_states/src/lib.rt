@@ -37,7 +37,6 @@ use block::start_place;
 use block::start_record;
 use block::start_records;
 use block::update;
-use cameras::base_of;
 use checkpoint::Bounds;
 use checkpoint::Checked;
 use code::Place;
@@ -48,6 +47,7 @@ use statistics::Record;
 use stream::FujiHeader;
 use stream::Parsed;
 use stream::Refusal;
+use taking::base_of;
 
 // Refused once scratch is the call's: it is left cleared, and nothing was counted.
 fn refuse(lines: &mut [u16], rs: &mut [Record], x: Refusal) -> Counted
@@ -299,7 +299,7 @@ fn put_state(
     ensures { λ _. ⌜ now (rs .exit) ≡ now (rs .entry) ⌝ }
 {
     let lossless = h.lossless;
-    checkpoint::store_head(state, d, b, line, at);
+    state_head::store_head(state, d, b, line, at);
     checkpoint::store_set(state, 0, load_set(rs, 0), lossless);
     checkpoint::store_set(state, 1, load_set(rs, 1), lossless);
     checkpoint::store_set(state, 2, load_set(rs, 2), lossless);

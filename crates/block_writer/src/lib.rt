@@ -31,7 +31,6 @@ use block::quantisers_of;
 use block::restart;
 use block::start_records;
 use block::store_set;
-use cameras::base_of;
 use counted::Next;
 use map::width;
 use output::Put;
@@ -40,6 +39,7 @@ use steps::Quantisers;
 use stream::BlockLength;
 use stream::Parsed;
 use stream::Refusal;
+use taking::base_of;
 
 // A lossless block has no bases, and its set is held to the predictions of interpolated samples.
 fn is_strict(bases: &[u8]) -> bool

@@ -21,7 +21,7 @@ use Rattle.stream.proofs.StreamLaws.{opened}
 use Rattle.region.specs.Regions.{checkedOf, Accepted}
 use Rattle.region.specs.declared.Rect.{Rect}
 use Rattle.checkpoint.specs.Checkpoints.{Saved, sizeOfCheckpoint, checkpointByte, checkpointOf, IsCheckpoint}
-use Rattle.checkpoint.proofs.ByteLaws.{put-length, put-at}
+use Rattle.state_head.proofs.PutLaws.{put-length, put-at}
 use Rattle.begin.specs.Beginnings.{readBegins, regionBegins, resumeBegins, withRegion, withResumed}
 use Rattle.begin.specs.declared.Beginning.the-variants.{Refused, Reading}
 use Rattle.begin.proofs.CallLaws.{region-reads, block-reads}

@@ -145,7 +145,7 @@ abbrev b2 : Syntax.Body
 b2 = Syntax.assign (Syntax.place 12 []) (Syntax.aggregate ((Syntax.copy (Syntax.place 11 [])) ∷ (Syntax.copy (Syntax.place 1 ((Syntax.field 1) ∷ []))) ∷ []))
 
 abbrev b3 : Syntax.Body
-b3 = Syntax.call "checkpoint::store_head" ((Syntax.copy (Syntax.place 12 [])) ∷ (Syntax.copy (Syntax.place 2 [])) ∷ (Syntax.copy (Syntax.place 4 [])) ∷ (Syntax.copy (Syntax.place 5 [])) ∷ (Syntax.copy
+b3 = Syntax.call "state_head::store_head" ((Syntax.copy (Syntax.place 12 [])) ∷ (Syntax.copy (Syntax.place 2 [])) ∷ (Syntax.copy (Syntax.place 4 [])) ∷ (Syntax.copy (Syntax.place 5 [])) ∷ (Syntax.copy
     (Syntax.place 6 [])) ∷ []) (Syntax.place 10 [])
 
 abbrev b4 : Syntax.Body
@@ -854,7 +854,7 @@ module _ (claims· : Claims) where
     module _ (M : Type 1) where
       abbrev pub Closed : Type 2
       Closed = (𝓤 : URA.URA M) (H : Wp.Heap 𝓤) (A : Atoms.Atoms 𝓤) (W : Kit.Given 𝓤 H A) (𝓣 : Wp.Tables 𝓤 H) (known0 : Plain.Known 𝓤 H A W 𝓣 2 ps·0 r·0 (claims· .0) (claims· .1)
-          "checkpoint::store_head") (known1 : Plain.Known 𝓤 H A W 𝓣 1 ps·1 r·1 (claims· .2) (claims· .3) "block::records::load_set") (known2 : Plain.Known 𝓤 H A W 𝓣 1 ps·2 r·2 (claims· .4) (claims· .5)
+          "state_head::store_head") (known1 : Plain.Known 𝓤 H A W 𝓣 1 ps·1 r·1 (claims· .2) (claims· .3) "block::records::load_set") (known2 : Plain.Known 𝓤 H A W 𝓣 1 ps·2 r·2 (claims· .4) (claims· .5)
           "checkpoint::store_set") (known3 : Plain.Known 𝓤 H A W 𝓣 0 ps·3 r·3 (claims· .6) (claims· .7) "map::width") (known4 : Plain.Known 𝓤 H A W 𝓣 2 ps·4 r·4 (claims· .8) (claims· .9)
           "checkpoint::store_lines") → Statement.Triple 𝓤 (Wp.WpFn 𝓤 H (𝓣 .C) (𝓣 .Λ) (Function.fnOf 4 ps r xs m hs body)) (Function.plainOf 𝓤 H A 4 ps r Pre· Post·)
 
@@ -1038,7 +1038,7 @@ module _ (claims· : Claims) where
 
       module _ {M : Type 1} (𝓤 : URA.URA M) (H : Wp.Heap 𝓤) (A : Atoms.Atoms 𝓤) (W : Kit.Given 𝓤 H A) (𝓣 : Wp.Tables 𝓤 H) where
         abbrev Knowns : Type 1
-        Knowns = Plain.Known 𝓤 H A W 𝓣 2 ps·0 r·0 (claims· .0) (claims· .1) "checkpoint::store_head" × Plain.Known 𝓤 H A W 𝓣 1 ps·1 r·1 (claims· .2) (claims· .3) "block::records::load_set" ×
+        Knowns = Plain.Known 𝓤 H A W 𝓣 2 ps·0 r·0 (claims· .0) (claims· .1) "state_head::store_head" × Plain.Known 𝓤 H A W 𝓣 1 ps·1 r·1 (claims· .2) (claims· .3) "block::records::load_set" ×
             Plain.Known 𝓤 H A W 𝓣 1 ps·2 r·2 (claims· .4) (claims· .5) "checkpoint::store_set" × Plain.Known 𝓤 H A W 𝓣 0 ps·3 r·3 (claims· .6) (claims· .7) "map::width" × Plain.Known 𝓤 H A W 𝓣 2 ps·4 r·4
             (claims· .8) (claims· .9) "checkpoint::store_lines"
 
@@ -1676,7 +1676,7 @@ module _ (claims· : Claims) where
           d73 = Typed.g-pre 𝓤 H A W 𝓣 E G9 G10 b50 Δ0 (Typed.pass T9 T10 s8) at71 (Scalar.g-room 𝓤 H A W E G9 10 Syntax.tyUnit (Scalar.room-sc 𝓤 H A W Row.sUnit)) d72
 
           d74 : Typed.Typed 𝓤 H A 𝓣 E G8 (Syntax.seq b3 b50) Δ0 at74
-          d74 = Typed.s-seq 𝓤 H A W 𝓣 E G8 G9 b3 b50 Δ0 (Typed.both s7) at73 (Plain.t-call-plain 𝓤 H A W 𝓣 2 ps·0 r·0 (claims· .0) (claims· .1) "checkpoint::store_head" (known .0) E (λ pos β. β) G8
+          d74 = Typed.s-seq 𝓤 H A W 𝓣 E G8 G9 b3 b50 Δ0 (Typed.both s7) at73 (Plain.t-call-plain 𝓤 H A W 𝓣 2 ps·0 r·0 (claims· .0) (claims· .1) "state_head::store_head" (known .0) E (λ pos β. β) G8
               (record { pos = 12; ty = y6; ref = λ x. x }, (record { pos = 2; ty = y2; ref = λ x. x }, (Num.vAt 4 λ x. x, (Num.vAt 5 λ x. x, (Num.vAt 6 λ x. x, tt))))) 10 (4 ∷ 1 ∷ []) (Call.sub-id 𝓤 H A
               W (G8 .slots)) (
                 Reads'.as-is 𝓤 H A (Mut.mslice n8 y6 4),
@@ -2424,7 +2424,7 @@ module _ (claims· : Claims) where
           }
 
         module _ {M : Type 1} (𝓤 : URA.URA M) (H : Wp.Heap 𝓤) (A : Atoms.Atoms 𝓤) (W : Kit.Given 𝓤 H A) (𝓣 : Wp.Tables 𝓤 H) (known0 : Plain.Known 𝓤 H A W 𝓣 2 ps·0 r·0 (claims· .0) (claims· .1)
-            "checkpoint::store_head") (known1 : Plain.Known 𝓤 H A W 𝓣 1 ps·1 r·1 (claims· .2) (claims· .3) "block::records::load_set") (known2 : Plain.Known 𝓤 H A W 𝓣 1 ps·2 r·2 (claims· .4) (claims· .5)
+            "state_head::store_head") (known1 : Plain.Known 𝓤 H A W 𝓣 1 ps·1 r·1 (claims· .2) (claims· .3) "block::records::load_set") (known2 : Plain.Known 𝓤 H A W 𝓣 1 ps·2 r·2 (claims· .4) (claims· .5)
             "checkpoint::store_set") (known3 : Plain.Known 𝓤 H A W 𝓣 0 ps·3 r·3 (claims· .6) (claims· .7) "map::width") (known4 : Plain.Known 𝓤 H A W 𝓣 2 ps·4 r·4 (claims· .8) (claims· .9)
             "checkpoint::store_lines") where
           pub spec : Statement.Triple 𝓤 (Wp.WpFn 𝓤 H (𝓣 .C) (𝓣 .Λ) (Function.fnOf 4 ps r xs m hs body)) (Function.plainOf 𝓤 H A 4 ps r Pre· Post·)

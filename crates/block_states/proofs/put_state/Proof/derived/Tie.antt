@@ -8,9 +8,9 @@ use Rattle.block_states.proofs.derived.put_state.Kinds
 use Rattle.block_states.proofs.put_state.Proof.derived.Lts
 use Rattle.block_states.proofs.derived.put_state.Reads as Reads'
 use Rattle.block_states.proofs.put_state.Statement
-use Rattle.checkpoint.proofs.store_head.Met as Met'
-use Rattle.checkpoint.proofs.store_head.Reads as Reads''
-use Rattle.checkpoint.proofs.store_head.Symbol as Symbol'
+use Rattle.state_head.proofs.store_head.Met as Met'
+use Rattle.state_head.proofs.store_head.Reads as Reads''
+use Rattle.state_head.proofs.store_head.Symbol as Symbol'
 use Rattle.checkpoint.proofs.store_lines.Met as Met''
 use Rattle.checkpoint.proofs.store_lines.Reads as Reads'3
 use Rattle.checkpoint.proofs.store_lines.Symbol as Symbol''

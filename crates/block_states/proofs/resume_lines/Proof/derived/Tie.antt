@@ -29,9 +29,9 @@ use Rattle.block_states.proofs.derived.resume_lines.Kinds
 use Rattle.block_states.proofs.resume_lines.Proof.derived.Lts
 use Rattle.block_states.proofs.derived.resume_lines.Reads as Reads'8
 use Rattle.block_states.proofs.resume_lines.Statement
-use Rattle.cameras.proofs.base_of.Met as Met'8
-use Rattle.cameras.proofs.base_of.Reads as Reads'9
-use Rattle.cameras.proofs.base_of.Symbol as Symbol'8
+use Rattle.taking.proofs.base_of.Met as Met'8
+use Rattle.taking.proofs.base_of.Reads as Reads'9
+use Rattle.taking.proofs.base_of.Symbol as Symbol'8
 use Rattle.cameras.proofs.no_entries.Met as Met'9
 use Rattle.cameras.proofs.no_entries.Reads as Reads'10
 use Rattle.cameras.proofs.no_entries.Symbol as Symbol'9

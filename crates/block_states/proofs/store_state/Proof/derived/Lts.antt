@@ -335,7 +335,7 @@ abbrev b10 : Syntax.Body
 b10 = Syntax.assign (Syntax.place 19 []) (Syntax.aggregate ((Syntax.copy (Syntax.place 18 [])) ∷ (Syntax.copy (Syntax.place 7 ((Syntax.field 1) ∷ []))) ∷ []))
 
 abbrev b11 : Syntax.Body
-b11 = Syntax.call "cameras::base_of" ((Syntax.copy (Syntax.place 10 [])) ∷ (Syntax.int Syntax.w64 0) ∷ []) (Syntax.place 20 [])
+b11 = Syntax.call "taking::base_of" ((Syntax.copy (Syntax.place 10 [])) ∷ (Syntax.int Syntax.w64 0) ∷ []) (Syntax.place 20 [])
 
 abbrev b12 : Syntax.Body
 b12 = Syntax.call "block::records::start_records" ((Syntax.copy (Syntax.place 19 [])) ∷ (Syntax.copy (Syntax.place 2 ((Syntax.field 2) ∷ []))) ∷ (Syntax.copy (Syntax.place 20 [])) ∷ []) (Syntax.place
@@ -1456,7 +1456,7 @@ module _ (claims· : Claims) where
       Closed = (𝓤 : URA.URA M) (H : Wp.Heap 𝓤) (A : Atoms.Atoms 𝓤) (W : Kit.Given 𝓤 H A) (𝓣 : Wp.Tables 𝓤 H) (known0 : Plain.Known 𝓤 H A W 𝓣 0 ps·0 r·0 (claims· .0) (claims· .1) "block::form_of")
           (known1 : Plain.Known 𝓤 H A W 𝓣 1 ps·1 r·1 (claims· .2) (claims· .3) "stream::block_bytes") (known2 : Plain.Known 𝓤 H A W 𝓣 1 ps·2 r·2 (claims· .4) (claims· .5) "stream::base_row") (known3 :
           Plain.Known 𝓤 H A W 𝓣 0 ps·3 r·3 (claims· .6) (claims· .7) "map::xtrans_places") (known4 : Plain.Known 𝓤 H A W 𝓣 1 ps·4 r·4 (claims· .8) (claims· .9) "lines::clear") (known5 : Plain.Known 𝓤 H A
-          W 𝓣 1 ps·5 r·5 (claims· .10) (claims· .11) "cameras::base_of") (known6 : Plain.Known 𝓤 H A W 𝓣 1 ps·6 r·6 (claims· .12) (claims· .13) "block::records::start_records") (known7 : Plain.Known 𝓤 H A
+          W 𝓣 1 ps·5 r·5 (claims· .10) (claims· .11) "taking::base_of") (known6 : Plain.Known 𝓤 H A W 𝓣 1 ps·6 r·6 (claims· .12) (claims· .13) "block::records::start_records") (known7 : Plain.Known 𝓤 H A
           W 𝓣 0 ps·7 r·7 (claims· .14) (claims· .15) "block::tight::no_part") (known8 : Plain.Known 𝓤 H A W 𝓣 0 ps·8 r·8 (claims· .16) (claims· .17) "block::reading::start_place") (known9 : Plain.Known 𝓤
           H A W 𝓣 0 ps·9 r·9 (claims· .18) (claims· .19) "cameras::no_entries") (known10 : Plain.Known 𝓤 H A W 𝓣 6 ps·10 r·10 (claims· .20) (claims· .21) "block::reading::read_lines") (known11 :
           Plain.Known 𝓤 H A W 𝓣 4 ps·11 r·11 (claims· .22) (claims· .23) "block_states::put_walked") (known12 : Plain.Known 𝓤 H A W 𝓣 1 ps·12 r·12 (claims· .24) (claims· .25)
@@ -1723,7 +1723,7 @@ module _ (claims· : Claims) where
         abbrev Knowns : Type 1
         Knowns = Plain.Known 𝓤 H A W 𝓣 0 ps·0 r·0 (claims· .0) (claims· .1) "block::form_of" × Plain.Known 𝓤 H A W 𝓣 1 ps·1 r·1 (claims· .2) (claims· .3) "stream::block_bytes" × Plain.Known 𝓤 H A W 𝓣
             1 ps·2 r·2 (claims· .4) (claims· .5) "stream::base_row" × Plain.Known 𝓤 H A W 𝓣 0 ps·3 r·3 (claims· .6) (claims· .7) "map::xtrans_places" × Plain.Known 𝓤 H A W 𝓣 1 ps·4 r·4 (claims· .8)
-            (claims· .9) "lines::clear" × Plain.Known 𝓤 H A W 𝓣 1 ps·5 r·5 (claims· .10) (claims· .11) "cameras::base_of" × Plain.Known 𝓤 H A W 𝓣 1 ps·6 r·6 (claims· .12) (claims· .13)
+            (claims· .9) "lines::clear" × Plain.Known 𝓤 H A W 𝓣 1 ps·5 r·5 (claims· .10) (claims· .11) "taking::base_of" × Plain.Known 𝓤 H A W 𝓣 1 ps·6 r·6 (claims· .12) (claims· .13)
             "block::records::start_records" × Plain.Known 𝓤 H A W 𝓣 0 ps·7 r·7 (claims· .14) (claims· .15) "block::tight::no_part" × Plain.Known 𝓤 H A W 𝓣 0 ps·8 r·8 (claims· .16) (claims· .17)
             "block::reading::start_place" × Plain.Known 𝓤 H A W 𝓣 0 ps·9 r·9 (claims· .18) (claims· .19) "cameras::no_entries" × Plain.Known 𝓤 H A W 𝓣 6 ps·10 r·10 (claims· .20) (claims· .21)
             "block::reading::read_lines" × Plain.Known 𝓤 H A W 𝓣 4 ps·11 r·11 (claims· .22) (claims· .23) "block_states::put_walked" × Plain.Known 𝓤 H A W 𝓣 1 ps·12 r·12 (claims· .24) (claims· .25)
@@ -2707,7 +2707,7 @@ module _ (claims· : Claims) where
               Syntax.tyUnit) (tt, tt) Path'.refl) d91
 
           d93 : Typed.Typed 𝓤 H A 𝓣 E G24 (Syntax.seq b11 (Syntax.seq b12 b67)) Δ0 (at93 bs)
-          d93 = Typed.s-seq 𝓤 H A W 𝓣 E G24 G25 b11 (Syntax.seq b12 b67) Δ0 (Typed.both (s23 bs)) (at92 bs) (Plain.t-call-plain 𝓤 H A W 𝓣 1 ps·5 r·5 (claims· .10) (claims· .11) "cameras::base_of"
+          d93 = Typed.s-seq 𝓤 H A W 𝓣 E G24 G25 b11 (Syntax.seq b12 b67) Δ0 (Typed.both (s23 bs)) (at92 bs) (Plain.t-call-plain 𝓤 H A W 𝓣 1 ps·5 r·5 (claims· .10) (claims· .11) "taking::base_of"
               (known .5) E (λ pos β. β) G24 (record { pos = 10; ty = y9; ref = λ x. x }, (Num.vLit 0, tt)) 20 (0 ∷ []) (Call.sub-id 𝓤 H A W (G24 .slots))
               (ShrSlice.spares-sslice 𝓤 H A W n8 y9 0, Shared.reads-sslice 𝓤 H A W n8 y9 0, Path'.refl, (tt, tt)) (Reads'.room-gone 𝓤 H A u32) (tt, tt) Path'.refl) d92
 
@@ -4100,7 +4100,7 @@ module _ (claims· : Claims) where
         module _ {M : Type 1} (𝓤 : URA.URA M) (H : Wp.Heap 𝓤) (A : Atoms.Atoms 𝓤) (W : Kit.Given 𝓤 H A) (𝓣 : Wp.Tables 𝓤 H) (known0 : Plain.Known 𝓤 H A W 𝓣 0 ps·0 r·0 (claims· .0) (claims· .1)
             "block::form_of") (known1 : Plain.Known 𝓤 H A W 𝓣 1 ps·1 r·1 (claims· .2) (claims· .3) "stream::block_bytes") (known2 : Plain.Known 𝓤 H A W 𝓣 1 ps·2 r·2 (claims· .4) (claims· .5)
             "stream::base_row") (known3 : Plain.Known 𝓤 H A W 𝓣 0 ps·3 r·3 (claims· .6) (claims· .7) "map::xtrans_places") (known4 : Plain.Known 𝓤 H A W 𝓣 1 ps·4 r·4 (claims· .8) (claims· .9)
-            "lines::clear") (known5 : Plain.Known 𝓤 H A W 𝓣 1 ps·5 r·5 (claims· .10) (claims· .11) "cameras::base_of") (known6 : Plain.Known 𝓤 H A W 𝓣 1 ps·6 r·6 (claims· .12) (claims· .13)
+            "lines::clear") (known5 : Plain.Known 𝓤 H A W 𝓣 1 ps·5 r·5 (claims· .10) (claims· .11) "taking::base_of") (known6 : Plain.Known 𝓤 H A W 𝓣 1 ps·6 r·6 (claims· .12) (claims· .13)
             "block::records::start_records") (known7 : Plain.Known 𝓤 H A W 𝓣 0 ps·7 r·7 (claims· .14) (claims· .15) "block::tight::no_part") (known8 : Plain.Known 𝓤 H A W 𝓣 0 ps·8 r·8 (claims· .16)
             (claims· .17) "block::reading::start_place") (known9 : Plain.Known 𝓤 H A W 𝓣 0 ps·9 r·9 (claims· .18) (claims· .19) "cameras::no_entries") (known10 : Plain.Known 𝓤 H A W 𝓣 6 ps·10 r·10
             (claims· .20) (claims· .21) "block::reading::read_lines") (known11 : Plain.Known 𝓤 H A W 𝓣 4 ps·11 r·11 (claims· .22) (claims· .23) "block_states::put_walked") (known12 : Plain.Known 𝓤 H A W 𝓣

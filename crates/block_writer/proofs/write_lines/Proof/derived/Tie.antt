@@ -23,9 +23,9 @@ use Rattle.block_writer.proofs.derived.write_lines.Kinds
 use Rattle.block_writer.proofs.write_lines.Proof.derived.Lts
 use Rattle.block_writer.proofs.derived.write_lines.Reads as Reads'6
 use Rattle.block_writer.proofs.write_lines.Statement
-use Rattle.cameras.proofs.base_of.Met as Met'6
-use Rattle.cameras.proofs.base_of.Reads as Reads'7
-use Rattle.cameras.proofs.base_of.Symbol as Symbol'6
+use Rattle.taking.proofs.base_of.Met as Met'6
+use Rattle.taking.proofs.base_of.Reads as Reads'7
+use Rattle.taking.proofs.base_of.Symbol as Symbol'6
 use Rattle.lines.proofs.clear.Met as Met'7
 use Rattle.lines.proofs.clear.Reads as Reads'8
 use Rattle.lines.proofs.clear.Symbol as Symbol'7

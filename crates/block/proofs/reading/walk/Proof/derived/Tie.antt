@@ -17,9 +17,9 @@ use Rattle.block.proofs.records.clear_records.Symbol as Symbol''
 use Rattle.block.proofs.records.start_records.Met as Met'3
 use Rattle.block.proofs.records.derived.start_records.Reads as Reads'4
 use Rattle.block.proofs.records.start_records.Symbol as Symbol'3
-use Rattle.cameras.proofs.base_of.Met as Met'4
-use Rattle.cameras.proofs.base_of.Reads as Reads'5
-use Rattle.cameras.proofs.base_of.Symbol as Symbol'4
+use Rattle.taking.proofs.base_of.Met as Met'4
+use Rattle.taking.proofs.base_of.Reads as Reads'5
+use Rattle.taking.proofs.base_of.Symbol as Symbol'4
 use Rattle.lines.proofs.clear.Met as Met'5
 use Rattle.lines.proofs.clear.Reads as Reads'6
 use Rattle.lines.proofs.clear.Symbol as Symbol'5

@@ -227,7 +227,7 @@ b3 = Syntax.call "begin::region_begins" ((Syntax.copy (Syntax.place 3 [])) ∷ (
     (Syntax.place 18 [])) ∷ []) (Syntax.place 9 [])
 
 abbrev b4 : Syntax.Body
-b4 = Syntax.call "cameras::mended" ((Syntax.copy (Syntax.place 2 [])) ∷ []) (Syntax.place 10 [])
+b4 = Syntax.call "taking::mended" ((Syntax.copy (Syntax.place 2 [])) ∷ []) (Syntax.place 10 [])
 
 abbrev b5 : Syntax.Body
 b5 = Syntax.assign (Syntax.place 11 []) (Syntax.rvOpd (Syntax.copy (Syntax.place 9 ((Syntax.variant 0) ∷ (Syntax.field 1) ∷ []))))
@@ -1090,7 +1090,7 @@ module _ (claims· : Claims) where
     module _ (M : Type 1) where
       abbrev pub Closed : Type 2
       Closed = (𝓤 : URA.URA M) (H : Wp.Heap 𝓤) (A : Atoms.Atoms 𝓤) (W : Kit.Given 𝓤 H A) (𝓣 : Wp.Tables 𝓤 H) (known0 : Plain.Known 𝓤 H A W 𝓣 1 ps·0 r·0 (claims· .0) (claims· .1)
-          "begin::region_begins") (known1 : Plain.Known 𝓤 H A W 𝓣 0 ps·1 r·1 (claims· .2) (claims· .3) "cameras::mended") (known2 : Plain.Known 𝓤 H A W 𝓣 0 ps·2 r·2 (claims· .4) (claims· .5)
+          "begin::region_begins") (known1 : Plain.Known 𝓤 H A W 𝓣 0 ps·1 r·1 (claims· .2) (claims· .3) "taking::mended") (known2 : Plain.Known 𝓤 H A W 𝓣 0 ps·2 r·2 (claims· .4) (claims· .5)
           "block::sharing::handed_back") (known3 : Plain.Known 𝓤 H A W 𝓣 0 ps·3 r·3 (claims· .6) (claims· .7) "begin::samples_needed") (known4 : Plain.Known 𝓤 H A W 𝓣 4 ps·4 r·4 (claims· .8) (claims· .9)
           "block::sharing::decode_shared_blocks") → Statement.Triple 𝓤 (Wp.WpFn 𝓤 H (𝓣 .C) (𝓣 .Λ) (Function.fnOf 4 ps r xs m hs body)) (Function.plainOf 𝓤 H A 4 ps r Pre· Post·)
 
@@ -1289,7 +1289,7 @@ module _ (claims· : Claims) where
 
       module _ {M : Type 1} (𝓤 : URA.URA M) (H : Wp.Heap 𝓤) (A : Atoms.Atoms 𝓤) (W : Kit.Given 𝓤 H A) (𝓣 : Wp.Tables 𝓤 H) where
         abbrev Knowns : Type 1
-        Knowns = Plain.Known 𝓤 H A W 𝓣 1 ps·0 r·0 (claims· .0) (claims· .1) "begin::region_begins" × Plain.Known 𝓤 H A W 𝓣 0 ps·1 r·1 (claims· .2) (claims· .3) "cameras::mended" × Plain.Known 𝓤 H A W
+        Knowns = Plain.Known 𝓤 H A W 𝓣 1 ps·0 r·0 (claims· .0) (claims· .1) "begin::region_begins" × Plain.Known 𝓤 H A W 𝓣 0 ps·1 r·1 (claims· .2) (claims· .3) "taking::mended" × Plain.Known 𝓤 H A W
             𝓣 0 ps·2 r·2 (claims· .4) (claims· .5) "block::sharing::handed_back" × Plain.Known 𝓤 H A W 𝓣 0 ps·3 r·3 (claims· .6) (claims· .7) "begin::samples_needed" × Plain.Known 𝓤 H A W 𝓣 4 ps·4 r·4
             (claims· .8) (claims· .9) "block::sharing::decode_shared_blocks"
 
@@ -1927,7 +1927,7 @@ module _ (claims· : Claims) where
           d60 = Typed.t-seq 𝓤 H A W 𝓣 E (on T12 l5) (on T13 l5) b42 (Syntax.seq b43 Syntax.return) Δ0 at56 at59 d56 d59
 
           d61 : Typed.Typed 𝓤 H A 𝓣 E (on T11 l5) b47 Δ0 at61
-          d61 = Typed.s-seq 𝓤 H A W 𝓣 E (on T11 l5) (on T12 l5) b4 b46 Δ0 (Typed.both s10) at60 (Plain.t-call-plain 𝓤 H A W 𝓣 0 ps·1 r·1 (claims· .2) (claims· .3) "cameras::mended" (known .1) E (λ pos
+          d61 = Typed.s-seq 𝓤 H A W 𝓣 E (on T11 l5) (on T12 l5) b4 b46 Δ0 (Typed.both s10) at60 (Plain.t-call-plain 𝓤 H A W 𝓣 0 ps·1 r·1 (claims· .2) (claims· .3) "taking::mended" (known .1) E (λ pos
               β. β) (on T11 l5) (record { pos = 2; st = []; d = 0; at = λ x. x }, tt) 10 [] (Call.sub-id 𝓤 H A W ((on T11 l5) .slots))
               ((Values.struct-copied 𝓤 H A W Entries.the-type Laws'4.the-laws Laws'4.the-copy, Path'.refl), tt) (Reads'.room-gone 𝓤 H A y18) tt Path'.refl) d60
 
@@ -2618,7 +2618,7 @@ module _ (claims· : Claims) where
           }
 
         module _ {M : Type 1} (𝓤 : URA.URA M) (H : Wp.Heap 𝓤) (A : Atoms.Atoms 𝓤) (W : Kit.Given 𝓤 H A) (𝓣 : Wp.Tables 𝓤 H) (known0 : Plain.Known 𝓤 H A W 𝓣 1 ps·0 r·0 (claims· .0) (claims· .1)
-            "begin::region_begins") (known1 : Plain.Known 𝓤 H A W 𝓣 0 ps·1 r·1 (claims· .2) (claims· .3) "cameras::mended") (known2 : Plain.Known 𝓤 H A W 𝓣 0 ps·2 r·2 (claims· .4) (claims· .5)
+            "begin::region_begins") (known1 : Plain.Known 𝓤 H A W 𝓣 0 ps·1 r·1 (claims· .2) (claims· .3) "taking::mended") (known2 : Plain.Known 𝓤 H A W 𝓣 0 ps·2 r·2 (claims· .4) (claims· .5)
             "block::sharing::handed_back") (known3 : Plain.Known 𝓤 H A W 𝓣 0 ps·3 r·3 (claims· .6) (claims· .7) "begin::samples_needed") (known4 : Plain.Known 𝓤 H A W 𝓣 4 ps·4 r·4 (claims· .8) (claims·
             .9) "block::sharing::decode_shared_blocks") where
           pub spec : Statement.Triple 𝓤 (Wp.WpFn 𝓤 H (𝓣 .C) (𝓣 .Λ) (Function.fnOf 4 ps r xs m hs body)) (Function.plainOf 𝓤 H A 4 ps r Pre· Post·)

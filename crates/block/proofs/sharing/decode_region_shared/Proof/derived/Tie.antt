@@ -17,9 +17,9 @@ use Rattle.block.proofs.sharing.decode_shared_blocks.Symbol as Symbol''
 use Rattle.block.proofs.sharing.handed_back.Met as Met'3
 use Rattle.block.proofs.sharing.handed_back.Reads as Reads'4
 use Rattle.block.proofs.sharing.handed_back.Symbol as Symbol'3
-use Rattle.cameras.proofs.mended.Met as Met'4
-use Rattle.cameras.proofs.mended.Reads as Reads'5
-use Rattle.cameras.proofs.mended.Symbol as Symbol'4
+use Rattle.taking.proofs.mended.Met as Met'4
+use Rattle.taking.proofs.mended.Reads as Reads'5
+use Rattle.taking.proofs.mended.Symbol as Symbol'4
 use borrow.Fn.Run
 use borrow.Fn.Written
 use contract.Running

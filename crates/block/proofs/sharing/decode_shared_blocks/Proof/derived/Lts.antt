@@ -18,8 +18,8 @@ use Rattle.cameras.proofs.Camera
 use Rattle.cameras.proofs.Camera.Laws as Laws'4
 use Rattle.cameras.proofs.Entries
 use Rattle.cameras.proofs.Entries.Laws as Laws'5
-use Rattle.cameras.proofs.Took
-use Rattle.cameras.proofs.Took.Laws as Laws'6
+use Rattle.taking.proofs.Took
+use Rattle.taking.proofs.Took.Laws as Laws'6
 use Rattle.map.proofs.Part
 use Rattle.map.proofs.Part.Laws as Laws'7
 use Rattle.region.proofs.Rect
@@ -340,7 +340,7 @@ abbrev b16 : Syntax.Body
 b16 = Syntax.call "region::part" ((Syntax.copy (Syntax.place 5 [])) ∷ (Syntax.copy (Syntax.place 17 [])) ∷ []) (Syntax.place 21 [])
 
 abbrev b17 : Syntax.Body
-b17 = Syntax.call "cameras::take_lines" ((Syntax.copy (Syntax.place 1 [])) ∷ (Syntax.copy (Syntax.place 15 [])) ∷ (Syntax.copy (Syntax.place 13 [])) ∷ (Syntax.copy (Syntax.place 20 [])) ∷ (Syntax.copy
+b17 = Syntax.call "taking::take_lines" ((Syntax.copy (Syntax.place 1 [])) ∷ (Syntax.copy (Syntax.place 15 [])) ∷ (Syntax.copy (Syntax.place 13 [])) ∷ (Syntax.copy (Syntax.place 20 [])) ∷ (Syntax.copy
     (Syntax.place 11 [])) ∷ []) (Syntax.place 22 [])
 
 abbrev b18 : Syntax.Body
@@ -376,11 +376,11 @@ abbrev b27 : Syntax.Body
 b27 = Syntax.call "block::sharing::lines_read" ((Syntax.copy (Syntax.place 24 [])) ∷ (Syntax.copy (Syntax.place 23 [])) ∷ []) (Syntax.place 25 [])
 
 abbrev b28 : Syntax.Body
-b28 = Syntax.call "cameras::after_block" ((Syntax.copy (Syntax.place 1 [])) ∷ (Syntax.copy (Syntax.place 15 [])) ∷ (Syntax.copy (Syntax.place 13 [])) ∷ (Syntax.copy (Syntax.place 20 [])) ∷
+b28 = Syntax.call "taking::after_block" ((Syntax.copy (Syntax.place 1 [])) ∷ (Syntax.copy (Syntax.place 15 [])) ∷ (Syntax.copy (Syntax.place 13 [])) ∷ (Syntax.copy (Syntax.place 20 [])) ∷
     (Syntax.copy (Syntax.place 23 [])) ∷ (Syntax.copy (Syntax.place 25 [])) ∷ []) (Syntax.place 15 [])
 
 abbrev b29 : Syntax.Body
-b29 = Syntax.call "cameras::is_stopped" ((Syntax.copy (Syntax.place 25 [])) ∷ (Syntax.copy (Syntax.place 23 [])) ∷ (Syntax.copy (Syntax.place 11 [])) ∷ []) (Syntax.place 36 [])
+b29 = Syntax.call "taking::is_stopped" ((Syntax.copy (Syntax.place 25 [])) ∷ (Syntax.copy (Syntax.place 23 [])) ∷ (Syntax.copy (Syntax.place 11 [])) ∷ []) (Syntax.place 36 [])
 
 abbrev b30 : Syntax.Body
 b30 = Syntax.assign (Syntax.place 37 []) (Syntax.aggregate ((Syntax.int Syntax.w8 22) ∷ (Syntax.copy (Syntax.place 17 [])) ∷ (Syntax.copy (Syntax.place 23 [])) ∷ []))
@@ -1402,9 +1402,9 @@ module _ (claims· : Claims) where
       Closed = (𝓤 : URA.URA M) (H : Wp.Heap 𝓤) (A : Atoms.Atoms 𝓤) (W : Kit.Given 𝓤 H A) (𝓣 : Wp.Tables 𝓤 H) (known0 : Plain.Known 𝓤 H A W 𝓣 0 ps·0 r·0 (claims· .0) (claims· .1) "region::span_of")
           (known1 : Plain.Known 𝓤 H A W 𝓣 0 ps·1 r·1 (claims· .2) (claims· .3) "map::xtrans_places") (known2 : Plain.Known 𝓤 H A W 𝓣 0 ps·2 r·2 (claims· .4) (claims· .5) "block::form_of") (known3 :
           Plain.Known 𝓤 H A W 𝓣 1 ps·3 r·3 (claims· .6) (claims· .7) "stream::block_bytes") (known4 : Plain.Known 𝓤 H A W 𝓣 1 ps·4 r·4 (claims· .8) (claims· .9) "stream::base_row") (known5 : Plain.Known 𝓤
-          H A W 𝓣 0 ps·5 r·5 (claims· .10) (claims· .11) "region::part") (known6 : Plain.Known 𝓤 H A W 𝓣 1 ps·6 r·6 (claims· .12) (claims· .13) "cameras::take_lines") (known7 : Plain.Known 𝓤 H A W 𝓣 6
+          H A W 𝓣 0 ps·5 r·5 (claims· .10) (claims· .11) "region::part") (known6 : Plain.Known 𝓤 H A W 𝓣 1 ps·6 r·6 (claims· .12) (claims· .13) "taking::take_lines") (known7 : Plain.Known 𝓤 H A W 𝓣 6
           ps·7 r·7 (claims· .14) (claims· .15) "block::reading::walk") (known8 : Plain.Known 𝓤 H A W 𝓣 0 ps·8 r·8 (claims· .16) (claims· .17) "block::sharing::lines_read") (known9 : Plain.Known 𝓤 H A W 𝓣
-          1 ps·9 r·9 (claims· .18) (claims· .19) "cameras::after_block") (known10 : Plain.Known 𝓤 H A W 𝓣 0 ps·10 r·10 (claims· .20) (claims· .21) "cameras::is_stopped") (known11 : Plain.Known 𝓤 H A W 𝓣 0
+          1 ps·9 r·9 (claims· .18) (claims· .19) "taking::after_block") (known10 : Plain.Known 𝓤 H A W 𝓣 0 ps·10 r·10 (claims· .20) (claims· .21) "taking::is_stopped") (known11 : Plain.Known 𝓤 H A W 𝓣 0
           ps·11 r·11 (claims· .22) (claims· .23) "block::decoding::judged") → Statement.Triple 𝓤 (Wp.WpFn 𝓤 H (𝓣 .C) (𝓣 .Λ) (Function.fnOf 4 ps r xs m hs body)) (Function.plainOf 𝓤 H A 4 ps r Pre· Post·)
 
     module _ (Inv·0 : InvT-loop) (μ·0 : MeasureT-loop) where
@@ -1715,9 +1715,9 @@ module _ (claims· : Claims) where
         Knowns = Plain.Known 𝓤 H A W 𝓣 0 ps·0 r·0 (claims· .0) (claims· .1) "region::span_of" × Plain.Known 𝓤 H A W 𝓣 0 ps·1 r·1 (claims· .2) (claims· .3) "map::xtrans_places" × Plain.Known 𝓤 H A W 𝓣
             0 ps·2 r·2 (claims· .4) (claims· .5) "block::form_of" × Plain.Known 𝓤 H A W 𝓣 1 ps·3 r·3 (claims· .6) (claims· .7) "stream::block_bytes" × Plain.Known 𝓤 H A W 𝓣 1 ps·4 r·4 (claims· .8)
             (claims· .9) "stream::base_row" × Plain.Known 𝓤 H A W 𝓣 0 ps·5 r·5 (claims· .10) (claims· .11) "region::part" × Plain.Known 𝓤 H A W 𝓣 1 ps·6 r·6 (claims· .12) (claims· .13)
-            "cameras::take_lines" × Plain.Known 𝓤 H A W 𝓣 6 ps·7 r·7 (claims· .14) (claims· .15) "block::reading::walk" × Plain.Known 𝓤 H A W 𝓣 0 ps·8 r·8 (claims· .16) (claims· .17)
-            "block::sharing::lines_read" × Plain.Known 𝓤 H A W 𝓣 1 ps·9 r·9 (claims· .18) (claims· .19) "cameras::after_block" × Plain.Known 𝓤 H A W 𝓣 0 ps·10 r·10 (claims· .20) (claims· .21)
-            "cameras::is_stopped" × Plain.Known 𝓤 H A W 𝓣 0 ps·11 r·11 (claims· .22) (claims· .23) "block::decoding::judged"
+            "taking::take_lines" × Plain.Known 𝓤 H A W 𝓣 6 ps·7 r·7 (claims· .14) (claims· .15) "block::reading::walk" × Plain.Known 𝓤 H A W 𝓣 0 ps·8 r·8 (claims· .16) (claims· .17)
+            "block::sharing::lines_read" × Plain.Known 𝓤 H A W 𝓣 1 ps·9 r·9 (claims· .18) (claims· .19) "taking::after_block" × Plain.Known 𝓤 H A W 𝓣 0 ps·10 r·10 (claims· .20) (claims· .21)
+            "taking::is_stopped" × Plain.Known 𝓤 H A W 𝓣 0 ps·11 r·11 (claims· .22) (claims· .23) "block::decoding::judged"
 
       module _ (κs : Lifetimes.Lfts 4) (qs : Lifetimes.Shares 4) where
         abbrev k0 : Row.Life
@@ -2184,7 +2184,7 @@ module _ (claims· : Claims) where
 
           d39 : Typed.Typed 𝓤 H A 𝓣 E (on T67 l7) b43 Δ3 at39
           d39 = Typed.s-seq 𝓤 H A W 𝓣 E (on T67 l7) (on T68 l7) b29 (Syntax.seq b38 (Syntax.seq b39 b40)) Δ3 (Typed.both s64) at38 (Plain.t-call-plain 𝓤 H A W 𝓣 0 ps·10 r·10 (claims· .20) (claims·
-              .21) "cameras::is_stopped" (known .10) E (λ pos β. β) (on T67 l7) (Num.vAt 25 λ x. x, (Num.vAt 23 λ x. x, (Num.vAt 11 λ x. x, tt))) 36 [] (Call.sub-id 𝓤 H A W ((on T67 l7) .slots)) (
+              .21) "taking::is_stopped" (known .10) E (λ pos β. β) (on T67 l7) (Num.vAt 25 λ x. x, (Num.vAt 23 λ x. x, (Num.vAt 11 λ x. x, tt))) 36 [] (Call.sub-id 𝓤 H A W ((on T67 l7) .slots)) (
                 (Scalar.reads-sc 𝓤 H A W (Row.sInt Syntax.w64), Path'.refl),
                 ((Scalar.reads-sc 𝓤 H A W (Row.sInt Syntax.w64), Path'.refl), ((Scalar.reads-sc 𝓤 H A W (Row.sInt Syntax.w64), Path'.refl), tt)),
               ) (Reads'.room-gone 𝓤 H A Syntax.tyBool) tt Path'.refl) d38
@@ -2193,7 +2193,7 @@ module _ (claims· : Claims) where
           d40 = Typed.g-pre 𝓤 H A W 𝓣 E (on T65 l7) (on T67 l7) b43 Δ3 (Typed.pass T65 T67 s63) at39 (Scalar.g-room 𝓤 H A W E (on T65 l7) 20 y20 (Shared.room-sslice 𝓤 H A W n8 y7 0)) d39
 
           d41 : Typed.Typed 𝓤 H A 𝓣 E (on T65 l7) (Syntax.seq b28 b43) Δ3 at41
-          d41 = Typed.s-seq 𝓤 H A W 𝓣 E (on T65 l7) (on T65 l7) b28 b43 Δ3 (Typed.both s62) at40 (Plain.t-call-plain 𝓤 H A W 𝓣 1 ps·9 r·9 (claims· .18) (claims· .19) "cameras::after_block" (known .9)
+          d41 = Typed.s-seq 𝓤 H A W 𝓣 E (on T65 l7) (on T65 l7) b28 b43 Δ3 (Typed.both s62) at40 (Plain.t-call-plain 𝓤 H A W 𝓣 1 ps·9 r·9 (claims· .18) (claims· .19) "taking::after_block" (known .9)
               E (λ pos β. β) (on T65 l7) (
                 record { pos = 1; st = []; d = 0; at = λ x. x },
                 (record { pos = 15; st = []; d = 0; at = λ x. x }, (Num.vAt 13 λ x. x, (record { pos = 20; ty = y7; ref = λ x. x }, (Num.vAt 23 λ x. x, (Num.vAt 25 λ x. x, tt))))),
@@ -2431,7 +2431,7 @@ module _ (claims· : Claims) where
               Path'.refl) λ u. tt) d73
 
           d75 : Typed.Typed 𝓤 H A 𝓣 E (on T31 l7) (Syntax.seq b17 b54) Δ3 at75
-          d75 = Typed.s-seq 𝓤 H A W 𝓣 E (on T31 l7) (on T32 l7) b17 b54 Δ3 (Typed.both s28) at74 (Plain.t-call-plain 𝓤 H A W 𝓣 1 ps·6 r·6 (claims· .12) (claims· .13) "cameras::take_lines" (known .6) E
+          d75 = Typed.s-seq 𝓤 H A W 𝓣 E (on T31 l7) (on T32 l7) b17 b54 Δ3 (Typed.both s28) at74 (Plain.t-call-plain 𝓤 H A W 𝓣 1 ps·6 r·6 (claims· .12) (claims· .13) "taking::take_lines" (known .6) E
               (λ pos β. β) (on T31 l7) (
                 record { pos = 1; st = []; d = 0; at = λ x. x },
                 (record { pos = 15; st = []; d = 0; at = λ x. x }, (Num.vAt 13 λ x. x, (record { pos = 20; ty = y7; ref = λ x. x }, (Num.vAt 11 λ x. x, tt)))),
@@ -3757,9 +3757,9 @@ module _ (claims· : Claims) where
             "region::span_of") (known1 : Plain.Known 𝓤 H A W 𝓣 0 ps·1 r·1 (claims· .2) (claims· .3) "map::xtrans_places") (known2 : Plain.Known 𝓤 H A W 𝓣 0 ps·2 r·2 (claims· .4) (claims· .5)
             "block::form_of") (known3 : Plain.Known 𝓤 H A W 𝓣 1 ps·3 r·3 (claims· .6) (claims· .7) "stream::block_bytes") (known4 : Plain.Known 𝓤 H A W 𝓣 1 ps·4 r·4 (claims· .8) (claims· .9)
             "stream::base_row") (known5 : Plain.Known 𝓤 H A W 𝓣 0 ps·5 r·5 (claims· .10) (claims· .11) "region::part") (known6 : Plain.Known 𝓤 H A W 𝓣 1 ps·6 r·6 (claims· .12) (claims· .13)
-            "cameras::take_lines") (known7 : Plain.Known 𝓤 H A W 𝓣 6 ps·7 r·7 (claims· .14) (claims· .15) "block::reading::walk") (known8 : Plain.Known 𝓤 H A W 𝓣 0 ps·8 r·8 (claims· .16) (claims· .17)
-            "block::sharing::lines_read") (known9 : Plain.Known 𝓤 H A W 𝓣 1 ps·9 r·9 (claims· .18) (claims· .19) "cameras::after_block") (known10 : Plain.Known 𝓤 H A W 𝓣 0 ps·10 r·10 (claims· .20)
-            (claims· .21) "cameras::is_stopped") (known11 : Plain.Known 𝓤 H A W 𝓣 0 ps·11 r·11 (claims· .22) (claims· .23) "block::decoding::judged") where
+            "taking::take_lines") (known7 : Plain.Known 𝓤 H A W 𝓣 6 ps·7 r·7 (claims· .14) (claims· .15) "block::reading::walk") (known8 : Plain.Known 𝓤 H A W 𝓣 0 ps·8 r·8 (claims· .16) (claims· .17)
+            "block::sharing::lines_read") (known9 : Plain.Known 𝓤 H A W 𝓣 1 ps·9 r·9 (claims· .18) (claims· .19) "taking::after_block") (known10 : Plain.Known 𝓤 H A W 𝓣 0 ps·10 r·10 (claims· .20)
+            (claims· .21) "taking::is_stopped") (known11 : Plain.Known 𝓤 H A W 𝓣 0 ps·11 r·11 (claims· .22) (claims· .23) "block::decoding::judged") where
           pub spec : Statement.Triple 𝓤 (Wp.WpFn 𝓤 H (𝓣 .C) (𝓣 .Λ) (Function.fnOf 4 ps r xs m hs body)) (Function.plainOf 𝓤 H A 4 ps r Pre· Post·)
           spec = Plain.t-fn-plain 𝓤 H A W 𝓣 4 ps r xs m hs body (λ κs qs bs. Φ) (λ κs qs bs bd. typed κs qs 𝓤 H A W 𝓣
               (known0, known1, known2, known3, known4, known5, known6, known7, known8, known9, known10, known11) bs bd) Pre· Post· asked

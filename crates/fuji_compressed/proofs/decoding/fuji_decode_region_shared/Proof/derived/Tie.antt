@@ -2,15 +2,15 @@
 use Rattle.block.proofs.answer_words.Met
 use Rattle.block.proofs.answer_words.Reads
 use Rattle.block.proofs.answer_words.Symbol
-use Rattle.cameras.proofs.camera_in.Met as Met'
-use Rattle.cameras.proofs.camera_in.Reads as Reads'
-use Rattle.cameras.proofs.camera_in.Symbol as Symbol'
-use Rattle.cameras.proofs.entries_in.Met as Met''
-use Rattle.cameras.proofs.entries_in.Reads as Reads''
-use Rattle.cameras.proofs.entries_in.Symbol as Symbol''
-use Rattle.cameras.proofs.words_of.Met as Met'3
-use Rattle.cameras.proofs.words_of.Reads as Reads'3
-use Rattle.cameras.proofs.words_of.Symbol as Symbol'3
+use Rattle.entry_words.proofs.camera_in.Met as Met'
+use Rattle.entry_words.proofs.camera_in.Reads as Reads'
+use Rattle.entry_words.proofs.camera_in.Symbol as Symbol'
+use Rattle.entry_words.proofs.entries_in.Met as Met''
+use Rattle.entry_words.proofs.entries_in.Reads as Reads''
+use Rattle.entry_words.proofs.entries_in.Symbol as Symbol''
+use Rattle.entry_words.proofs.words_of.Met as Met'3
+use Rattle.entry_words.proofs.words_of.Reads as Reads'3
+use Rattle.entry_words.proofs.words_of.Symbol as Symbol'3
 use Rattle.fuji_compressed.proofs.decoding.fuji_decode_region_shared.Code
 use Rattle.fuji_compressed.proofs.decoding.fuji_decode_region_shared.Key
 use Rattle.fuji_compressed.proofs.decoding.derived.fuji_decode_region_shared.Kinds
