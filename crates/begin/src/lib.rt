@@ -7,18 +7,18 @@ ghost use lib.Dec.{leb, ltb};
 ghost use lib.ListN.{length};
 ghost use Rattle.region.specs.Regions.{checkedOf};
 ghost use Rattle.steps.specs.Steps.{isInterpolated};
-ghost use Rattle.stream.specs.declared.Parsed.the-variants.{Header};
+ghost use Rattle.header.specs.declared.Parsed.the-variants.{Header};
 ghost use Rattle.lines.specs.Sets.{setSize, lineOfRank, colourLineAt, positionAt};
 ghost use Rattle.map.specs.Places.{widthOf};
 ghost use Rattle.begin.specs.Beginnings.{samplesNeeded, isShortScratch, withScratch, begun, withRegion};
 ghost use Rattle.begin.specs.Beginnings.{regionBegins, wholeOf, isWhole, withSize, imageBegins};
 ghost use Rattle.begin.specs.Beginnings.{windowedBegins, withBlock, blockBegins, withCount, withSet, withResumed, resumeBegins};
 ghost use Rattle.begin.specs.Beginnings.{writingBegins, withBases, lossyBegins, isIgnored, firstAbove};
+use header::FujiHeader;
+use header::Parsed;
+use header::Refusal;
 use region::Checked;
 use region::Rect;
-use stream::FujiHeader;
-use stream::Parsed;
-use stream::Refusal;
 
 // How decoding begins: a refusal, nothing to do, or a stream with this header is read. The reading of one block and the writer always have something
 // to do: they begin with a refusal or a header, as `Parsed` has them.

@@ -9,8 +9,8 @@ use lib.ListN.{length, getD}
 use Rattle.totals.specs.Totals.{noTotals}
 use Rattle.totals.specs.declared.Totals.{Totals}
 use Rattle.map.specs.Places.{widthOf, sampleIndex, Changed}
-use Rattle.stream.specs.declared.FujiHeader.{FujiHeader}
-use Rattle.stream.specs.declared.Refusal.the-variants.{Truncated, BadState, OtherState}
+use Rattle.header.specs.declared.FujiHeader.{FujiHeader}
+use Rattle.header.specs.declared.Refusal.the-variants.{Truncated, BadState, OtherState}
 use Rattle.region.specs.Regions.{blockOf, firstBlock, lastBlock, lineCount}
 use Rattle.region.specs.declared.Rect.{Rect}
 use Rattle.checkpoint.specs.Checkpoints.{nextLine, positionIn, checkedOf}

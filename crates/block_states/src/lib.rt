@@ -8,7 +8,7 @@ ghost use Rattle.lines.specs.ColourLines.{zeroLines};
 ghost use Rattle.map.specs.Places.{widthOf};
 ghost use Rattle.steps.specs.Values.{Depth};
 ghost use Rattle.stream.specs.Streams.{openOf};
-ghost use Rattle.stream.specs.declared.Parsed.the-variants.{Header};
+ghost use Rattle.header.specs.declared.Parsed.the-variants.{Header};
 ghost use Rattle.region.specs.Regions.{lineCount, Accepted};
 ghost use Rattle.checkpoint.specs.Checkpoints.{sizeOfCheckpoint, checkpointOf, loadedRecord, Saved};
 ghost use Rattle.checkpoint.specs.declared.load.Checked.the-variants.{At};
@@ -41,13 +41,13 @@ use cameras::base_of;
 use checkpoint::Bounds;
 use checkpoint::Checked;
 use code::Place;
+use header::FujiHeader;
+use header::Parsed;
+use header::Refusal;
 use map::Part;
 use map::width;
 use region::Rect;
 use statistics::Record;
-use stream::FujiHeader;
-use stream::Parsed;
-use stream::Refusal;
 
 // Refused once scratch is the call's: it is left cleared, and nothing was counted.
 fn refuse(lines: &mut [u16], rs: &mut [Record], x: Refusal) -> Counted

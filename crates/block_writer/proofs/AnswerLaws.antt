@@ -16,8 +16,8 @@ use Rattle.bits.proofs.PackLaws.{length-packed, packed-more}
 use Rattle.quantiser.specs.Quantisers.{largest}
 use Rattle.stream.specs.declared.BlockLength.{BlockLength}
 use Rattle.stream.specs.declared.BlockLength.the-variants.{Length, Refused}
-use Rattle.stream.specs.declared.Refusal.{Refusal}
-use Rattle.stream.specs.declared.Refusal.the-variants.{AboveLargest, NotPredicted, ShortOutput}
+use Rattle.header.specs.declared.Refusal.{Refusal}
+use Rattle.header.specs.declared.Refusal.the-variants.{AboveLargest, NotPredicted, ShortOutput}
 use Rattle.map.specs.Places.{widthOf}
 use Rattle.lines.specs.Sets.{setSize, lineOfRank, indexIn}
 use Rattle.output.specs.Output.{putBits}

@@ -33,13 +33,13 @@ use block::start_records;
 use block::store_set;
 use cameras::base_of;
 use counted::Next;
+use header::Parsed;
+use header::Refusal;
 use map::width;
 use output::Put;
 use statistics::Record;
 use steps::Quantisers;
 use stream::BlockLength;
-use stream::Parsed;
-use stream::Refusal;
 
 // A lossless block has no bases, and its set is held to the predictions of interpolated samples.
 fn is_strict(bases: &[u8]) -> bool

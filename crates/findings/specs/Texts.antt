@@ -7,7 +7,7 @@ use lib.ListN.{length}
 use lib.Seq.{paste}
 use Rattle.io.specs.Digits.{digits}
 use Rattle.numbers.specs.Numbers.{leastFrom}
-use Rattle.stream.specs.Refusals.{refusalNumber}
+use Rattle.header.specs.Refusals.{refusalNumber}
 use Rattle.trace.specs.declared.BadSpot.{BadSpot}
 use Rattle.trace.specs.declared.Reason.{Reason}
 use Rattle.trace.specs.declared.Reason.the-variants.{Large, Escape, Zeros}

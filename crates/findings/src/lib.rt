@@ -6,16 +6,16 @@ ghost use Prim.Native.Nat.{_+_, _≤_};
 ghost use lib.ListN.{length, drop};
 ghost use Rattle.io.specs.Counts.{Counts};
 ghost use Rattle.stream.specs.Streams.{openOf};
-ghost use Rattle.stream.specs.declared.Parsed.the-variants.{Header};
+ghost use Rattle.header.specs.declared.Parsed.the-variants.{Header};
 ghost use Rattle.findings.specs.Findings.{lowest, findingOf};
 ghost use Rattle.findings.specs.Texts.{heading, numberText, field, reasonText, codeText, tailRecord, textOf, Put};
 use bits::BitPosition;
 use diagnosis::Fault;
 use diagnosis::answer_at;
 use diagnosis::fault_at;
-use stream::FujiHeader;
-use stream::Parsed;
-use stream::Refusal;
+use header::FujiHeader;
+use header::Parsed;
+use header::Refusal;
 use trace::BadSpot;
 use trace::Reason;
 
@@ -151,7 +151,7 @@ fn put_refusal(out: &mut [u8], x: Refusal) -> usize
     requires { ⌜ 21 ≤ length (now out) ⌝ }
     ensures { λ r. ⌜ Put (now (out .entry)) 0 (textOf (Finding.Refused x)) (now (out .exit)) r × (r ≤ 21) ⌝ }
 {
-    let w = stream::refusal_words(x);
+    let w = words::refusal_words(x);
     let end = put_number(out, 0, w[0] as u64);
     put(out, end, b"\n")
 }

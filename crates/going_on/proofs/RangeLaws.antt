@@ -16,7 +16,7 @@ use Rattle.steps.specs.declared.Plan.{Plan}
 use Rattle.steps.proofs.ContextLaws.{AllLe, stored-le}
 use Rattle.pass.specs.Readings.{readPass}
 use Rattle.pass.proofs.RangeLaws.{pass-keeps}
-use Rattle.stream.specs.declared.FujiHeader.{FujiHeader}
+use Rattle.header.specs.declared.FujiHeader.{FujiHeader}
 use Rattle.checkpoint.specs.Checkpoints.{putEach, keptLine, storedSample, badCheckpoint, otherCheckpoint, checkedOf, nextLine, positionIn, withKept, withSix}
 use Rattle.checkpoint.specs.Checkpoints.{withGuards, loadedLines}
 use Rattle.checkpoint.specs.declared.load.Checked.the-variants.{Bad, Other, At}

@@ -6,8 +6,8 @@ use Prim.Native.Nat.{ℕ, _+_, _-_, _≤_, _<_}
 use lib.ListN.{length}
 use borrow.Author.Tests.{lt-ltb, le-ltb}
 use Rattle.numbers.proofs.LeastLaws.{least-same}
-use Rattle.stream.specs.declared.Refusal.{Refusal}
-use Rattle.stream.specs.declared.Refusal.the-variants.{BadRecord, HeldTwice, NotHeld}
+use Rattle.header.specs.declared.Refusal.{Refusal}
+use Rattle.header.specs.declared.Refusal.the-variants.{BadRecord, HeldTwice, NotHeld}
 use Rattle.plan.specs.Records.{startOf}
 use Rattle.plan.specs.Plans.{goodRecords, holders, isAmiss, firstAmiss, planAnswer, BasesAfter}
 use Rattle.plan.specs.Readings.{sumBefore, Marked, amissIn, Written}

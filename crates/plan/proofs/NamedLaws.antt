@@ -10,7 +10,7 @@ use borrow.Author.Tests.{ltb-true, ltb-false, leb-true, leb-false, eqb-true, not
 use Rattle.numbers.specs.Numbers.{flag}
 use Rattle.numbers.proofs.LeastLaws.{least}
 use Rattle.numbers.proofs.OrderLaws.{split}
-use Rattle.stream.specs.declared.Refusal.the-variants.{BadRecord, HeldTwice, NotHeld}
+use Rattle.header.specs.declared.Refusal.the-variants.{BadRecord, HeldTwice, NotHeld}
 use Rattle.plan.specs.Records.{isGood, startOf, holds}
 use Rattle.plan.specs.Plans.{goodRecords, holders, isAmiss, firstAmiss, firstTwice, firstNone, planAnswer}
 use Rattle.plan.specs.OneRecord.{AllGood, LowestBad, TwoHolders, LowestTwice, LowestNone, Named}

@@ -11,7 +11,7 @@ use Rattle.numbers.specs.Numbers.{leastFrom}
 use Rattle.numbers.proofs.BoolLaws.{both}
 use Rattle.numbers.proofs.LeastLaws.{least, least-is}
 use Rattle.numbers.proofs.OrderLaws.{split}
-use Rattle.stream.specs.declared.Refusal.the-variants.{BadRecord, HeldTwice, NotHeld}
+use Rattle.header.specs.declared.Refusal.the-variants.{BadRecord, HeldTwice, NotHeld}
 use Rattle.plan.specs.Records.{tab, newline, endOf, isField, secondAt, thirdAt, nextAt, firstLine, lastLine, baseAt, isGood, startOf, holds}
 use Rattle.plan.specs.Plans.{goodRecords, holders, isAmiss, firstAmiss, firstTwice, firstNone, planAnswer, baseFor}
 use Rattle.plan.specs.OneRecord.{OneHolder, InOrder, AcceptedInOrder, OneRecord}

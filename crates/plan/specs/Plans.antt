@@ -6,10 +6,10 @@ use Prim.Native.Nat.{ℕ, zero, suc, _+_, _<_}
 use lib.Dec.{leb, ltb, eqb}
 use lib.ListN.{length, getD}
 use Rattle.numbers.specs.Numbers.{flag, leastFrom}
-use Rattle.stream.specs.Headers.{parseOf}
-use Rattle.stream.specs.declared.Parsed.{Parsed}
-use Rattle.stream.specs.declared.Parsed.the-variants as Parsing
-use Rattle.stream.specs.declared.Refusal.the-variants.{Lossless, WrongBases, BadRecord, HeldTwice, NotHeld}
+use Rattle.header.specs.Headers.{parseOf}
+use Rattle.header.specs.declared.Parsed.{Parsed}
+use Rattle.header.specs.declared.Parsed.the-variants as Parsing
+use Rattle.header.specs.declared.Refusal.the-variants.{Lossless, WrongBases, BadRecord, HeldTwice, NotHeld}
 use Rattle.plan.specs.Records.{isGood, startOf, holds, baseAt}
 use Rattle.plan.specs.declared.Planned.{Planned}
 use Rattle.plan.specs.declared.Planned.the-variants.{Done, Refused}

@@ -7,9 +7,9 @@ ghost use lib.ListN.{length, getD, set};
 ghost use Rattle.plan.specs.Records.{isDigit, numberAt, endOf};
 ghost use Rattle.plan.specs.Readings.{fieldOf, FieldInside, rowOf, RowInside, IsRead, Marked, Balanced, amissIn, Filled, Written};
 ghost use Rattle.plan.specs.Plans.{isAmiss, goodRecords, planAnswer, answerIn, plannedAnswer, BasesAfter};
-use stream::FujiHeader;
-use stream::Parsed;
-use stream::Refusal;
+use header::FujiHeader;
+use header::Parsed;
+use header::Refusal;
 
 pub enum Planned {
     Done,

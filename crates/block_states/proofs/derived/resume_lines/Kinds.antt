@@ -7,8 +7,8 @@ use Rattle.block.proofs.Counted
 use Rattle.block.proofs.Counted.Laws
 use Rattle.region.proofs.Rect
 use Rattle.region.proofs.Rect.Laws as Laws'
-use Rattle.stream.proofs.FujiHeader
-use Rattle.stream.proofs.FujiHeader.Laws as Laws''
+use Rattle.header.proofs.FujiHeader
+use Rattle.header.proofs.FujiHeader.Laws as Laws''
 use borrow.Fn.Kinds
 use borrow.Kind.Array
 use borrow.Kind.MutSlice

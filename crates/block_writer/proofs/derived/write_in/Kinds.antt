@@ -5,8 +5,8 @@ use mathlib.Core.List.{_∷_, []}
 use Rattle.block.proofs.Element
 use Rattle.stream.proofs.BlockLength
 use Rattle.stream.proofs.BlockLength.Laws
-use Rattle.stream.proofs.Parsed
-use Rattle.stream.proofs.Parsed.Laws as Laws'
+use Rattle.header.proofs.Parsed
+use Rattle.header.proofs.Parsed.Laws as Laws'
 use borrow.Fn.Kinds
 use borrow.Kind.MutSlice
 use borrow.Kind.ShrSlice

@@ -11,8 +11,8 @@ use Rattle.cameras.proofs.Entries
 use Rattle.cameras.proofs.Entries.Laws as Laws''
 use Rattle.region.proofs.Rect
 use Rattle.region.proofs.Rect.Laws as Laws'3
-use Rattle.stream.proofs.FujiHeader
-use Rattle.stream.proofs.FujiHeader.Laws as Laws'4
+use Rattle.header.proofs.FujiHeader
+use Rattle.header.proofs.FujiHeader.Laws as Laws'4
 use borrow.Fn.Kinds
 use borrow.Kind.Array
 use borrow.Kind.MutSlice

@@ -8,8 +8,8 @@ use Rattle.block.proofs.Element
 use Prim.Native.Nat
 use Rattle.steps.proofs.Set
 use Rattle.steps.proofs.Set.Laws
-use Rattle.stream.proofs.FujiHeader
-use Rattle.stream.proofs.FujiHeader.Laws as Laws'
+use Rattle.header.proofs.FujiHeader
+use Rattle.header.proofs.FujiHeader.Laws as Laws'
 use borrow.Author.Called
 use borrow.Fn.Any
 use borrow.Fn.Call

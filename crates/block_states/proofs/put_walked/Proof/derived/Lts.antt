@@ -8,8 +8,8 @@ use Rattle.block.proofs.Element
 use Prim.Native.Nat
 use Rattle.block.proofs.Walked
 use Rattle.block.proofs.Walked.Laws
-use Rattle.stream.proofs.FujiHeader
-use Rattle.stream.proofs.FujiHeader.Laws as Laws'
+use Rattle.header.proofs.FujiHeader
+use Rattle.header.proofs.FujiHeader.Laws as Laws'
 use Rattle.totals.proofs.TightLines
 use Rattle.totals.proofs.TightLines.Laws as Laws''
 use Rattle.totals.proofs.Totals

@@ -7,8 +7,8 @@ use Rattle.block.proofs.Element
 use Prim.Native.Nat
 use Rattle.block.proofs.Counted
 use Rattle.block.proofs.Counted.Laws
-use Rattle.stream.proofs.Refusal
-use Rattle.stream.proofs.Refusal.Laws as Laws'
+use Rattle.header.proofs.Refusal
+use Rattle.header.proofs.Refusal.Laws as Laws'
 use borrow.Author.Called
 use borrow.Fn.Any
 use borrow.Fn.Call

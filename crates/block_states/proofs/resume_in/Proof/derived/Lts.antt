@@ -12,10 +12,10 @@ use Rattle.checkpoint.proofs.load.Checked
 use Rattle.checkpoint.proofs.load.Checked.Laws as Laws'
 use Rattle.region.proofs.Rect
 use Rattle.region.proofs.Rect.Laws as Laws''
-use Rattle.stream.proofs.FujiHeader
-use Rattle.stream.proofs.FujiHeader.Laws as Laws'3
-use Rattle.stream.proofs.Refusal
-use Rattle.stream.proofs.Refusal.Laws as Laws'4
+use Rattle.header.proofs.FujiHeader
+use Rattle.header.proofs.FujiHeader.Laws as Laws'3
+use Rattle.header.proofs.Refusal
+use Rattle.header.proofs.Refusal.Laws as Laws'4
 use borrow.Author.Called
 use borrow.Enum.Known
 use borrow.Enum.Make

@@ -20,8 +20,8 @@ use Rattle.map.proofs.Part
 use Rattle.map.proofs.Part.Laws as Laws'5
 use Rattle.region.proofs.Rect
 use Rattle.region.proofs.Rect.Laws as Laws'6
-use Rattle.stream.proofs.FujiHeader
-use Rattle.stream.proofs.FujiHeader.Laws as Laws'7
+use Rattle.header.proofs.FujiHeader
+use Rattle.header.proofs.FujiHeader.Laws as Laws'7
 use borrow.Author.Called
 use borrow.Fn.Any
 use borrow.Fn.Call

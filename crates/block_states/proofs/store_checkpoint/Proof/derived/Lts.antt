@@ -8,12 +8,12 @@ use Rattle.block.proofs.Element
 use Prim.Native.Nat
 use Rattle.block.proofs.Counted
 use Rattle.block.proofs.Counted.Laws
-use Rattle.stream.proofs.FujiHeader
-use Rattle.stream.proofs.FujiHeader.Laws as Laws'
-use Rattle.stream.proofs.Parsed
-use Rattle.stream.proofs.Parsed.Laws as Laws''
-use Rattle.stream.proofs.Refusal
-use Rattle.stream.proofs.Refusal.Laws as Laws'3
+use Rattle.header.proofs.FujiHeader
+use Rattle.header.proofs.FujiHeader.Laws as Laws'
+use Rattle.header.proofs.Parsed
+use Rattle.header.proofs.Parsed.Laws as Laws''
+use Rattle.header.proofs.Refusal
+use Rattle.header.proofs.Refusal.Laws as Laws'3
 use borrow.Author.Called
 use borrow.Enum.Known
 use borrow.Enum.Match

@@ -10,10 +10,10 @@ use Rattle.block.proofs.Counted
 use Rattle.block.proofs.Counted.Laws
 use Rattle.block.proofs.Decoded
 use Rattle.block.proofs.Decoded.Laws as Laws'
-use Rattle.stream.proofs.FujiHeader
-use Rattle.stream.proofs.FujiHeader.Laws as Laws''
-use Rattle.stream.proofs.Refusal
-use Rattle.stream.proofs.Refusal.Laws as Laws'3
+use Rattle.header.proofs.FujiHeader
+use Rattle.header.proofs.FujiHeader.Laws as Laws''
+use Rattle.header.proofs.Refusal
+use Rattle.header.proofs.Refusal.Laws as Laws'3
 use borrow.Author.Called
 use borrow.Enum.Known
 use borrow.Enum.Match

@@ -17,8 +17,8 @@ use Rattle.code.proofs.Place
 use Rattle.code.proofs.Place.Laws as Laws'4
 use Rattle.map.proofs.Part
 use Rattle.map.proofs.Part.Laws as Laws'5
-use Rattle.stream.proofs.FujiHeader
-use Rattle.stream.proofs.FujiHeader.Laws as Laws'6
+use Rattle.header.proofs.FujiHeader
+use Rattle.header.proofs.FujiHeader.Laws as Laws'6
 use borrow.Author.Called
 use borrow.Fn.Any
 use borrow.Fn.Call

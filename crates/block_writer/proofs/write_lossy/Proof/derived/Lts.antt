@@ -8,8 +8,8 @@ use Rattle.block.proofs.Element
 use Prim.Native.Nat
 use Rattle.stream.proofs.BlockLength
 use Rattle.stream.proofs.BlockLength.Laws
-use Rattle.stream.proofs.Parsed
-use Rattle.stream.proofs.Parsed.Laws as Laws'
+use Rattle.header.proofs.Parsed
+use Rattle.header.proofs.Parsed.Laws as Laws'
 use borrow.Author.Called
 use borrow.Fn.Any
 use borrow.Fn.Call

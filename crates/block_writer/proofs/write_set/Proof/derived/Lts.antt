@@ -10,8 +10,8 @@ use Rattle.block.proofs.Form
 use Rattle.block.proofs.Form.Laws
 use Rattle.stream.proofs.BlockLength
 use Rattle.stream.proofs.BlockLength.Laws as Laws'
-use Rattle.stream.proofs.Refusal
-use Rattle.stream.proofs.Refusal.Laws as Laws''
+use Rattle.header.proofs.Refusal
+use Rattle.header.proofs.Refusal.Laws as Laws''
 use borrow.Author.Called
 use borrow.Author.Tests
 use borrow.Enum.Make

@@ -14,8 +14,8 @@ use Rattle.output.proofs.Put
 use Rattle.output.proofs.Put.Laws as Laws''
 use Rattle.stream.proofs.BlockLength
 use Rattle.stream.proofs.BlockLength.Laws as Laws'3
-use Rattle.stream.proofs.Refusal
-use Rattle.stream.proofs.Refusal.Laws as Laws'4
+use Rattle.header.proofs.Refusal
+use Rattle.header.proofs.Refusal.Laws as Laws'4
 use borrow.Author.Called
 use borrow.Enum.Known
 use borrow.Enum.Make

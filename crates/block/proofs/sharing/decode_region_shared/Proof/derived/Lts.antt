@@ -18,10 +18,10 @@ use Rattle.cameras.proofs.Entries
 use Rattle.cameras.proofs.Entries.Laws as Laws'4
 use Rattle.region.proofs.Rect
 use Rattle.region.proofs.Rect.Laws as Laws'5
-use Rattle.stream.proofs.FujiHeader
-use Rattle.stream.proofs.FujiHeader.Laws as Laws'6
-use Rattle.stream.proofs.Refusal
-use Rattle.stream.proofs.Refusal.Laws as Laws'7
+use Rattle.header.proofs.FujiHeader
+use Rattle.header.proofs.FujiHeader.Laws as Laws'6
+use Rattle.header.proofs.Refusal
+use Rattle.header.proofs.Refusal.Laws as Laws'7
 use borrow.Author.Called
 use borrow.Enum.Known
 use borrow.Enum.Make

@@ -26,10 +26,10 @@ use Rattle.region.proofs.Rect
 use Rattle.region.proofs.Rect.Laws as Laws'8
 use Rattle.region.proofs.Span
 use Rattle.region.proofs.Span.Laws as Laws'9
-use Rattle.stream.proofs.FujiHeader
-use Rattle.stream.proofs.FujiHeader.Laws as Laws'10
-use Rattle.stream.proofs.Refusal
-use Rattle.stream.proofs.Refusal.Laws as Laws'11
+use Rattle.header.proofs.FujiHeader
+use Rattle.header.proofs.FujiHeader.Laws as Laws'10
+use Rattle.header.proofs.Refusal
+use Rattle.header.proofs.Refusal.Laws as Laws'11
 use borrow.Author.Called
 use borrow.Author.Tests
 use borrow.Enum.Make

@@ -13,8 +13,8 @@ use Rattle.cameras.proofs.Entries
 use Rattle.cameras.proofs.Entries.Laws as Laws''
 use Rattle.map.proofs.Part
 use Rattle.map.proofs.Part.Laws as Laws'3
-use Rattle.stream.proofs.FujiHeader
-use Rattle.stream.proofs.FujiHeader.Laws as Laws'4
+use Rattle.header.proofs.FujiHeader
+use Rattle.header.proofs.FujiHeader.Laws as Laws'4
 use borrow.Author.Called
 use borrow.Fn.Any
 use borrow.Fn.Call
