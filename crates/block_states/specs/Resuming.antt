@@ -16,7 +16,7 @@ use Rattle.region.specs.declared.Rect.{Rect}
 use Rattle.checkpoint.specs.Checkpoints.{nextLine, positionIn, checkedOf}
 use Rattle.checkpoint.specs.declared.load.Checked.{Checked}
 use Rattle.checkpoint.specs.declared.load.Checked.the-variants.{Bad, Other, At}
-use Rattle.begin.specs.Beginnings.{resumeBegins}
+use Rattle.begin_resuming.specs.Resumings.{resumeBegins}
 use Rattle.begin.specs.declared.Beginning.{Beginning}
 use Rattle.begin.specs.declared.Beginning.the-variants as Begin
 use Rattle.block.specs.Blocks.{State, readFrom, linesOf, totalsIn}

@@ -244,7 +244,7 @@ pub fn resume_region(
         let after : Buffers = record { image = now (image .exit); lines = now (lines .exit); records = now (rs .exit) } in
         ⌜ LeftResumed (now (d .entry)) b (now (state .entry)) r tile before after a ⌝ }
 {
-    let begins = begin::resume_begins(d, b, r, image.len(), lines.len(), rs.len());
+    let begins = begin_resuming::resume_begins(d, b, r, image.len(), lines.len(), rs.len());
     match begins {
         Beginning::Refused(x) => refused(x),
         Beginning::Nothing => nothing_counted(),

@@ -25,7 +25,7 @@ use Rattle.writing.specs.Puts.{Room, Within}
 use Rattle.writing.proofs.SetLaws.{colour-line-at, position-at}
 use Rattle.writing.proofs.TurnPuts.{coded-wanted}
 use Rattle.steps.specs.Steps.{isInterpolated}
-use Rattle.begin.specs.Beginnings.{isIgnored, firstAbove}
+use Rattle.above.specs.Above.{isIgnored, firstAbove}
 use Rattle.counted.specs.Counted.{nextOf}
 use Rattle.counted.specs.declared.Next.the-variants.{Answer, Store}
 use Rattle.output.specs.declared.Put.{Put}

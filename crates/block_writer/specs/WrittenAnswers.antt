@@ -13,7 +13,7 @@ use Rattle.header.specs.declared.FujiHeader.{FujiHeader}
 use Rattle.header.specs.declared.Parsed.{Parsed}
 use Rattle.header.specs.declared.Parsed.the-variants as Parsing
 use Rattle.header.specs.declared.Refusal.the-variants.{AboveLargest, NotPredicted, ShortOutput}
-use Rattle.begin.specs.Beginnings.{isIgnored, firstAbove}
+use Rattle.above.specs.Above.{isIgnored, firstAbove}
 use Rattle.block.specs.Images.{formOf}
 use Rattle.block.specs.Lent.{Outputs, Scratch, clearedLines, clearedRecords}
 use Rattle.block_writer.specs.WrittenBlocks.{isStrict, writeLines, writtenBlock}

@@ -22,7 +22,8 @@ use Rattle.region.specs.Regions.{checkedOf, Accepted}
 use Rattle.region.specs.declared.Rect.{Rect}
 use Rattle.checkpoint.specs.Checkpoints.{Saved, sizeOfCheckpoint, checkpointByte, checkpointOf, IsCheckpoint}
 use Rattle.checkpoint.proofs.ByteLaws.{put-length, put-at}
-use Rattle.begin.specs.Beginnings.{readBegins, regionBegins, resumeBegins, withRegion, withResumed}
+use Rattle.begin.specs.Beginnings.{readBegins, regionBegins, withRegion}
+use Rattle.begin_resuming.specs.Resumings.{resumeBegins, withResumed}
 use Rattle.begin.specs.declared.Beginning.the-variants.{Refused, Reading}
 use Rattle.begin.proofs.CallLaws.{region-reads, block-reads}
 use Rattle.block.specs.Blocks.{State, readLines}

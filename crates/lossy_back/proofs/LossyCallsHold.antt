@@ -23,8 +23,9 @@ use Rattle.header.specs.declared.Refusal.{Refusal}
 use Rattle.header.specs.declared.Refusal.the-variants.{ShortHeader, BadHeader, WrongCount, ShortScratch}
 use Rattle.header.specs.declared.Refusal.the-variants.{AboveLargest, NotPredicted, ShortOutput, Lossless, WrongBases}
 use Rattle.header.proofs.RefusalLaws.{number-low}
-use Rattle.begin.specs.Beginnings.{isShortScratch, withLossy, lossyBegins}
-use Rattle.begin.proofs.CallLaws.{lossy-goes}
+use Rattle.begin.specs.Beginnings.{isShortScratch}
+use Rattle.begin_writing.specs.Writings.{withLossy, lossyBegins}
+use Rattle.begin_writing.proofs.SetLaws.{lossy-goes}
 use Rattle.block.specs.Images.{formOf}
 use Rattle.block.specs.Lent.{Outputs}
 use Rattle.block_writer.specs.Words.{ToldLossy}

@@ -21,7 +21,7 @@ use Rattle.header.specs.declared.FujiHeader.{FujiHeader}
 use Rattle.header.specs.declared.Parsed.{Parsed}
 use Rattle.header.specs.declared.Parsed.the-variants.{Header}
 use Rattle.header.specs.declared.Refusal.the-variants.{NotPredicted}
-use Rattle.begin.specs.Beginnings.{lossyBegins}
+use Rattle.begin_writing.specs.Writings.{lossyBegins}
 use Rattle.block.specs.Records.{baseOf}
 use Rattle.block.specs.Blocks.{State, enter, runs, passAt, beforeLine, readLines}
 use Rattle.block.specs.Images.{formOf}

@@ -19,7 +19,8 @@ use Rattle.header.specs.declared.Refusal.{Refusal}
 use Rattle.header.specs.declared.Refusal.the-variants.{ShortScratch}
 use Rattle.header.specs.declared.Parsed.the-variants as Parsing
 use Rattle.header.proofs.RefusalLaws.{number-low}
-use Rattle.begin.specs.Beginnings.{samplesNeeded, recordsNeeded, withScratch, writingBegins}
+use Rattle.begin.specs.Beginnings.{samplesNeeded, recordsNeeded, withScratch}
+use Rattle.begin_writing.specs.Writings.{writingBegins}
 use Rattle.lines.specs.Sets.{setSize}
 use Rattle.block.specs.Images.{formOf}
 use Rattle.block.specs.Lent.{Outputs}

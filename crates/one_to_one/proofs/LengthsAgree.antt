@@ -21,8 +21,9 @@ use Rattle.header.specs.declared.Parsed.{Parsed}
 use Rattle.header.specs.declared.Parsed.the-variants as Parsing
 use Rattle.header.specs.declared.Refusal.{Refusal}
 use Rattle.header.specs.declared.Refusal.the-variants.{ShortHeader, BadHeader, Lossy, WrongCount, ShortScratch, AboveLargest, NotPredicted, ShortOutput}
-use Rattle.begin.specs.Beginnings.{isShortScratch, withParsed, writingBegins}
-use Rattle.begin.proofs.CallLaws.{writing-goes}
+use Rattle.begin.specs.Beginnings.{isShortScratch}
+use Rattle.begin_writing.specs.Writings.{withParsed, writingBegins}
+use Rattle.begin_writing.proofs.SetLaws.{writing-goes}
 use Rattle.lines.specs.Sets.{setSize}
 use Rattle.block.specs.Images.{formOf}
 use Rattle.block_writer.specs.WrittenAnswers.{predictedAnswer, rangeAnswer, measuredAnswer, aboveIn, setAnswer, writtenAnswer, exactAnswer, LeftWritten, LeftMeasured}

@@ -13,7 +13,8 @@ use Rattle.stream.specs.declared.BlockLength.{BlockLength}
 use Rattle.stream.specs.declared.BlockLength.the-variants.{Length}
 use Rattle.header.specs.declared.FujiHeader.{FujiHeader}
 use Rattle.header.specs.declared.Parsed.the-variants.{Header}
-use Rattle.begin.specs.Beginnings.{samplesNeeded, recordsNeeded, writingBegins}
+use Rattle.begin.specs.Beginnings.{samplesNeeded, recordsNeeded}
+use Rattle.begin_writing.specs.Writings.{writingBegins}
 use Rattle.block.specs.Images.{formOf}
 use Rattle.block.specs.Lent.{Outputs}
 use Rattle.block_writer.specs.Words.{ToldWritten}

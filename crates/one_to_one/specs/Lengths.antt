@@ -13,7 +13,7 @@ use Rattle.header.specs.declared.FujiHeader.{FujiHeader}
 use Rattle.header.specs.declared.Parsed.the-variants.{Header}
 use Rattle.header.specs.declared.Refusal.{Refusal}
 use Rattle.header.specs.declared.Refusal.the-variants.{ShortOutput}
-use Rattle.begin.specs.Beginnings.{writingBegins}
+use Rattle.begin_writing.specs.Writings.{writingBegins}
 use Rattle.block.specs.Images.{formOf}
 use Rattle.block.specs.Lent.{Scratch, Outputs}
 use Rattle.block.specs.TightBlocks.{Tight}

@@ -195,7 +195,7 @@ abbrev b2 : Syntax.Body
 b2 = Syntax.assign (Syntax.place 15 []) (Syntax.rvOpd (Syntax.copy (Syntax.place 8 ((Syntax.field 1) ∷ []))))
 
 abbrev b3 : Syntax.Body
-b3 = Syntax.call "begin::resume_begins" ((Syntax.copy (Syntax.place 1 [])) ∷ (Syntax.copy (Syntax.place 2 [])) ∷ (Syntax.copy (Syntax.place 4 [])) ∷ (Syntax.copy (Syntax.place 13 [])) ∷ (Syntax.copy
+b3 = Syntax.call "begin_resuming::resume_begins" ((Syntax.copy (Syntax.place 1 [])) ∷ (Syntax.copy (Syntax.place 2 [])) ∷ (Syntax.copy (Syntax.place 4 [])) ∷ (Syntax.copy (Syntax.place 13 [])) ∷ (Syntax.copy
     (Syntax.place 14 [])) ∷ (Syntax.copy (Syntax.place 15 [])) ∷ []) (Syntax.place 9 [])
 
 abbrev b4 : Syntax.Body
@@ -876,7 +876,7 @@ module _ (claims· : Claims) where
     module _ (M : Type 1) where
       abbrev pub Closed : Type 2
       Closed = (𝓤 : URA.URA M) (H : Wp.Heap 𝓤) (A : Atoms.Atoms 𝓤) (W : Kit.Given 𝓤 H A) (𝓣 : Wp.Tables 𝓤 H) (known0 : Plain.Known 𝓤 H A W 𝓣 1 ps·0 r·0 (claims· .0) (claims· .1)
-          "begin::resume_begins") (known1 : Plain.Known 𝓤 H A W 𝓣 0 ps·1 r·1 (claims· .2) (claims· .3) "block::tight::refused") (known2 : Plain.Known 𝓤 H A W 𝓣 0 ps·2 r·2 (claims· .4) (claims· .5)
+          "begin_resuming::resume_begins") (known1 : Plain.Known 𝓤 H A W 𝓣 0 ps·1 r·1 (claims· .2) (claims· .3) "block::tight::refused") (known2 : Plain.Known 𝓤 H A W 𝓣 0 ps·2 r·2 (claims· .4) (claims· .5)
           "block_states::nothing_counted") (known3 : Plain.Known 𝓤 H A W 𝓣 0 ps·3 r·3 (claims· .6) (claims· .7) "begin::samples_needed") (known4 : Plain.Known 𝓤 H A W 𝓣 5 ps·4 r·4 (claims· .8) (claims·
           .9) "block_states::resume_in") → Statement.Triple 𝓤 (Wp.WpFn 𝓤 H (𝓣 .C) (𝓣 .Λ) (Function.fnOf 5 ps r xs m hs body)) (Function.plainOf 𝓤 H A 5 ps r Pre· Post·)
 
@@ -1034,7 +1034,7 @@ module _ (claims· : Claims) where
 
       module _ {M : Type 1} (𝓤 : URA.URA M) (H : Wp.Heap 𝓤) (A : Atoms.Atoms 𝓤) (W : Kit.Given 𝓤 H A) (𝓣 : Wp.Tables 𝓤 H) where
         abbrev Knowns : Type 1
-        Knowns = Plain.Known 𝓤 H A W 𝓣 1 ps·0 r·0 (claims· .0) (claims· .1) "begin::resume_begins" × Plain.Known 𝓤 H A W 𝓣 0 ps·1 r·1 (claims· .2) (claims· .3) "block::tight::refused" × Plain.Known 𝓤
+        Knowns = Plain.Known 𝓤 H A W 𝓣 1 ps·0 r·0 (claims· .0) (claims· .1) "begin_resuming::resume_begins" × Plain.Known 𝓤 H A W 𝓣 0 ps·1 r·1 (claims· .2) (claims· .3) "block::tight::refused" × Plain.Known 𝓤
             H A W 𝓣 0 ps·2 r·2 (claims· .4) (claims· .5) "block_states::nothing_counted" × Plain.Known 𝓤 H A W 𝓣 0 ps·3 r·3 (claims· .6) (claims· .7) "begin::samples_needed" × Plain.Known 𝓤 H A W 𝓣 5 ps·4
             r·4 (claims· .8) (claims· .9) "block_states::resume_in"
 
@@ -1486,7 +1486,7 @@ module _ (claims· : Claims) where
 
           d44 : Typed.Typed 𝓤 H A 𝓣 E (on T8 l5) b38 Δ0 at44
           d44 = Typed.s-seq 𝓤 H A W 𝓣 E (on T8 l5) (on T9 l5) b3 (Syntax.seq b33 (Syntax.seq b34 b35)) Δ0 (Typed.both s7) at43 (Plain.t-call-plain 𝓤 H A W 𝓣 1 ps·0 r·0 (claims· .0) (claims· .1)
-              "begin::resume_begins" (known .0) E (λ pos β. β) (on T8 l5)
+              "begin_resuming::resume_begins" (known .0) E (λ pos β. β) (on T8 l5)
               (record { pos = 1; ty = y2; ref = λ x. x }, (Num.vAt 2 λ x. x, (record { pos = 4; st = []; d = 0; at = λ x. x }, (Num.vAt 13 λ x. x, (Num.vAt 14 λ x. x, (Num.vAt 15 λ x. x, tt)))))) 9 (0 ∷
               []) (Call.sub-id 𝓤 H A W ((on T8 l5) .slots)) (
                 ShrSlice.spares-sslice 𝓤 H A W n8 y2 0,
@@ -2140,7 +2140,7 @@ module _ (claims· : Claims) where
           }
 
         module _ {M : Type 1} (𝓤 : URA.URA M) (H : Wp.Heap 𝓤) (A : Atoms.Atoms 𝓤) (W : Kit.Given 𝓤 H A) (𝓣 : Wp.Tables 𝓤 H) (known0 : Plain.Known 𝓤 H A W 𝓣 1 ps·0 r·0 (claims· .0) (claims· .1)
-            "begin::resume_begins") (known1 : Plain.Known 𝓤 H A W 𝓣 0 ps·1 r·1 (claims· .2) (claims· .3) "block::tight::refused") (known2 : Plain.Known 𝓤 H A W 𝓣 0 ps·2 r·2 (claims· .4) (claims· .5)
+            "begin_resuming::resume_begins") (known1 : Plain.Known 𝓤 H A W 𝓣 0 ps·1 r·1 (claims· .2) (claims· .3) "block::tight::refused") (known2 : Plain.Known 𝓤 H A W 𝓣 0 ps·2 r·2 (claims· .4) (claims· .5)
             "block_states::nothing_counted") (known3 : Plain.Known 𝓤 H A W 𝓣 0 ps·3 r·3 (claims· .6) (claims· .7) "begin::samples_needed") (known4 : Plain.Known 𝓤 H A W 𝓣 5 ps·4 r·4 (claims· .8) (claims·
             .9) "block_states::resume_in") where
           pub spec : Statement.Triple 𝓤 (Wp.WpFn 𝓤 H (𝓣 .C) (𝓣 .Λ) (Function.fnOf 5 ps r xs m hs body)) (Function.plainOf 𝓤 H A 5 ps r Pre· Post·)

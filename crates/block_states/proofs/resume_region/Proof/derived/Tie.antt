@@ -1,7 +1,7 @@
 -- Written by tools/lend.py from Rattle's derivation of the twin of `block_states`; not edited by hand. Assumes nothing.
-use Rattle.begin.proofs.resume_begins.Met
-use Rattle.begin.proofs.resume_begins.Reads
-use Rattle.begin.proofs.resume_begins.Symbol
+use Rattle.begin_resuming.proofs.resume_begins.Met
+use Rattle.begin_resuming.proofs.resume_begins.Reads
+use Rattle.begin_resuming.proofs.resume_begins.Symbol
 use Rattle.begin.proofs.samples_needed.Met as Met'
 use Rattle.begin.proofs.samples_needed.Reads as Reads'
 use Rattle.begin.proofs.samples_needed.Symbol as Symbol'

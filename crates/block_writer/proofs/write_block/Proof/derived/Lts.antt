@@ -147,7 +147,7 @@ abbrev b2 : Syntax.Body
 b2 = Syntax.assign (Syntax.place 9 []) (Syntax.rvOpd (Syntax.copy (Syntax.place 5 ((Syntax.field 1) ∷ []))))
 
 abbrev b3 : Syntax.Body
-b3 = Syntax.call "begin::writing_begins" ((Syntax.copy (Syntax.place 1 [])) ∷ (Syntax.copy (Syntax.place 7 [])) ∷ (Syntax.copy (Syntax.place 8 [])) ∷ (Syntax.copy (Syntax.place 9 [])) ∷ [])
+b3 = Syntax.call "begin_writing::writing_begins" ((Syntax.copy (Syntax.place 1 [])) ∷ (Syntax.copy (Syntax.place 7 [])) ∷ (Syntax.copy (Syntax.place 8 [])) ∷ (Syntax.copy (Syntax.place 9 [])) ∷ [])
     (Syntax.place 6 [])
 
 abbrev b4 : Syntax.Body
@@ -579,7 +579,7 @@ module _ (claims· : Claims) where
     module _ (M : Type 1) where
       abbrev pub Closed : Type 2
       Closed = (𝓤 : URA.URA M) (H : Wp.Heap 𝓤) (A : Atoms.Atoms 𝓤) (W : Kit.Given 𝓤 H A) (𝓣 : Wp.Tables 𝓤 H) (known0 : Plain.Known 𝓤 H A W 𝓣 1 ps·0 r·0 (claims· .0) (claims· .1)
-          "begin::writing_begins") (known1 : Plain.Known 𝓤 H A W 𝓣 5 ps·1 r·1 (claims· .2) (claims· .3) "block_writer::write_in") → Statement.Triple 𝓤 (Wp.WpFn 𝓤 H (𝓣 .C) (𝓣 .Λ) (Function.fnOf 5 ps r xs m
+          "begin_writing::writing_begins") (known1 : Plain.Known 𝓤 H A W 𝓣 5 ps·1 r·1 (claims· .2) (claims· .3) "block_writer::write_in") → Statement.Triple 𝓤 (Wp.WpFn 𝓤 H (𝓣 .C) (𝓣 .Λ) (Function.fnOf 5 ps r xs m
           hs body)) (Function.plainOf 𝓤 H A 5 ps r Pre· Post·)
 
     module _ where
@@ -684,7 +684,7 @@ module _ (claims· : Claims) where
 
       module _ {M : Type 1} (𝓤 : URA.URA M) (H : Wp.Heap 𝓤) (A : Atoms.Atoms 𝓤) (W : Kit.Given 𝓤 H A) (𝓣 : Wp.Tables 𝓤 H) where
         abbrev Knowns : Type 1
-        Knowns = Plain.Known 𝓤 H A W 𝓣 1 ps·0 r·0 (claims· .0) (claims· .1) "begin::writing_begins" × Plain.Known 𝓤 H A W 𝓣 5 ps·1 r·1 (claims· .2) (claims· .3) "block_writer::write_in"
+        Knowns = Plain.Known 𝓤 H A W 𝓣 1 ps·0 r·0 (claims· .0) (claims· .1) "begin_writing::writing_begins" × Plain.Known 𝓤 H A W 𝓣 5 ps·1 r·1 (claims· .2) (claims· .3) "block_writer::write_in"
 
       module _ (κs : Lifetimes.Lfts 5) (qs : Lifetimes.Shares 5) where
         abbrev k0 : Row.Life
@@ -993,7 +993,7 @@ module _ (claims· : Claims) where
           d32 = Typed.g-pre 𝓤 H A W 𝓣 E (on T9 l5) (on T10 l5) b26 Δ0 (Typed.pass T9 T10 s8) at31 (Scalar.g-room 𝓤 H A W E (on T9 l5) 7 u64 (Scalar.room-sc 𝓤 H A W (Row.sInt Syntax.w64))) d31
 
           d33 : Typed.Typed 𝓤 H A 𝓣 E (on T8 l5) (Syntax.seq b3 b26) Δ0 at33
-          d33 = Typed.s-seq 𝓤 H A W 𝓣 E (on T8 l5) (on T9 l5) b3 b26 Δ0 (Typed.both s7) at32 (Plain.t-call-plain 𝓤 H A W 𝓣 1 ps·0 r·0 (claims· .0) (claims· .1) "begin::writing_begins" (known .0) E (λ
+          d33 = Typed.s-seq 𝓤 H A W 𝓣 E (on T8 l5) (on T9 l5) b3 b26 Δ0 (Typed.both s7) at32 (Plain.t-call-plain 𝓤 H A W 𝓣 1 ps·0 r·0 (claims· .0) (claims· .1) "begin_writing::writing_begins" (known .0) E (λ
               pos β. β) (on T8 l5) (record { pos = 1; ty = y1; ref = λ x. x }, (Num.vAt 7 λ x. x, (Num.vAt 8 λ x. x, (Num.vAt 9 λ x. x, tt)))) 6 (0 ∷ []) (Call.sub-id 𝓤 H A W ((on T8 l5) .slots)) (
                 ShrSlice.spares-sslice 𝓤 H A W n8 y1 0,
                 Shared.reads-sslice 𝓤 H A W n8 y1 0,
@@ -1373,6 +1373,6 @@ module _ (claims· : Claims) where
           asked = λ a good pre bs. laid record { κs = κs; args = record { header = a .0; samples = a .1 .0; out = a .1 .1 .0; lines = a .1 .1 .1 .0; rs = a .1 .1 .1 .1 .0 }; good = good; pre = pre }
 
         module _ {M : Type 1} (𝓤 : URA.URA M) (H : Wp.Heap 𝓤) (A : Atoms.Atoms 𝓤) (W : Kit.Given 𝓤 H A) (𝓣 : Wp.Tables 𝓤 H) (known0 : Plain.Known 𝓤 H A W 𝓣 1 ps·0 r·0 (claims· .0) (claims· .1)
-            "begin::writing_begins") (known1 : Plain.Known 𝓤 H A W 𝓣 5 ps·1 r·1 (claims· .2) (claims· .3) "block_writer::write_in") where
+            "begin_writing::writing_begins") (known1 : Plain.Known 𝓤 H A W 𝓣 5 ps·1 r·1 (claims· .2) (claims· .3) "block_writer::write_in") where
           pub spec : Statement.Triple 𝓤 (Wp.WpFn 𝓤 H (𝓣 .C) (𝓣 .Λ) (Function.fnOf 5 ps r xs m hs body)) (Function.plainOf 𝓤 H A 5 ps r Pre· Post·)
           spec = Plain.t-fn-plain 𝓤 H A W 𝓣 5 ps r xs m hs body (λ κs qs bs. Φ) (λ κs qs bs bd. typed κs qs 𝓤 H A W 𝓣 (known0, known1) bs bd) Pre· Post· asked

@@ -1,7 +1,7 @@
 -- Written by tools/lend.py from Rattle's derivation of the twin of `block_writer`; not edited by hand. Assumes nothing.
-use Rattle.begin.proofs.writing_begins.Met
-use Rattle.begin.proofs.writing_begins.Reads
-use Rattle.begin.proofs.writing_begins.Symbol
+use Rattle.begin_writing.proofs.writing_begins.Met
+use Rattle.begin_writing.proofs.writing_begins.Reads
+use Rattle.begin_writing.proofs.writing_begins.Symbol
 use Rattle.block_writer.proofs.write_block.Code
 use Rattle.block_writer.proofs.write_block.Key
 use Rattle.block_writer.proofs.derived.write_block.Kinds

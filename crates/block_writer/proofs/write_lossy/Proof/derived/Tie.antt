@@ -1,7 +1,7 @@
 -- Written by tools/lend.py from Rattle's derivation of the twin of `block_writer`; not edited by hand. Assumes nothing.
-use Rattle.begin.proofs.lossy_begins.Met
-use Rattle.begin.proofs.lossy_begins.Reads
-use Rattle.begin.proofs.lossy_begins.Symbol
+use Rattle.begin_writing.proofs.lossy_begins.Met
+use Rattle.begin_writing.proofs.lossy_begins.Reads
+use Rattle.begin_writing.proofs.lossy_begins.Symbol
 use Rattle.block_writer.proofs.write_in.Met as Met'
 use Rattle.block_writer.proofs.derived.write_in.Reads as Reads'
 use Rattle.block_writer.proofs.write_in.Symbol as Symbol'

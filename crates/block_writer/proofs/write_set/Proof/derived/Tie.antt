@@ -1,7 +1,7 @@
 -- Written by tools/lend.py from Rattle's derivation of the twin of `block_writer`; not edited by hand. Assumes nothing.
-use Rattle.begin.proofs.first_above.Met
-use Rattle.begin.proofs.first_above.Reads
-use Rattle.begin.proofs.first_above.Symbol
+use Rattle.above.proofs.first_above.Met
+use Rattle.above.proofs.first_above.Reads
+use Rattle.above.proofs.first_above.Symbol
 use Rattle.block_writer.proofs.is_strict.Met as Met'
 use Rattle.block_writer.proofs.is_strict.Reads as Reads'
 use Rattle.block_writer.proofs.is_strict.Symbol as Symbol'
