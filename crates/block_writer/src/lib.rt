@@ -411,7 +411,13 @@ pub fn write_lossy(
         let begins = lossyBegins (now (header .entry)) (length s) (length t) (length (before .lines)) (length (before .records)) in
         ⌜ LeftLossy s t begins before after a ⌝ }
 {
-    let begins = begin_writing::lossy_begins(header, bases.len(), samples.len(), lines.len(), rs.len());
+    let begins = begin_writing::lossy_begins(
+        header,
+        bases.len(),
+        samples.len(),
+        lines.len(),
+        rs.len(),
+    );
     write_in(begins, bases, samples, out, false, lines, rs)
 }
 

@@ -8,11 +8,9 @@ use borrow.Author.Tests.{lt-ltb, le-ltb}
 use Rattle.numbers.proofs.LeastLaws.{least-same}
 use Rattle.header.specs.declared.Refusal.{Refusal}
 use Rattle.header.specs.declared.Refusal.the-variants.{BadRecord, HeldTwice, NotHeld}
-use Rattle.plan_records.specs.Records.{startOf}
-use Rattle.plan_records.specs.Records.{goodRecords, holders}
-use Rattle.plan_counts.specs.Counts.{isAmiss}
+use Rattle.plan_records.specs.Records.{startOf, goodRecords, holders}
+use Rattle.plan_counts.specs.Counts.{isAmiss, sumBefore, Marked, amissIn}
 use Rattle.plan.specs.Plans.{firstAmiss, planAnswer, BasesAfter}
-use Rattle.plan_counts.specs.Counts.{sumBefore, Marked, amissIn}
 use Rattle.plan_records.specs.Readings.{Written}
 use Rattle.plan.specs.declared.Planned.{Planned}
 use Rattle.plan.specs.declared.Planned.the-variants.{Done, Refused}

@@ -11,8 +11,7 @@ use Rattle.numbers.specs.Numbers.{flag}
 use Rattle.numbers.proofs.LeastLaws.{least}
 use Rattle.numbers.proofs.OrderLaws.{split}
 use Rattle.header.specs.declared.Refusal.the-variants.{BadRecord, HeldTwice, NotHeld}
-use Rattle.plan_records.specs.Records.{isGood, startOf, holds}
-use Rattle.plan_records.specs.Records.{goodRecords, holders}
+use Rattle.plan_records.specs.Records.{isGood, startOf, holds, goodRecords, holders}
 use Rattle.plan_counts.specs.Counts.{isAmiss}
 use Rattle.plan.specs.Plans.{firstAmiss, firstTwice, firstNone, planAnswer}
 use Rattle.plan.specs.OneRecord.{AllGood, LowestBad, TwoHolders, LowestTwice, LowestNone, Named}

@@ -4,8 +4,7 @@ use mathlib.Core.Path.{_≡_, refl}
 use Prim.Native.Nat.{ℕ}
 use Rattle.numbers.specs.Numbers.{leastFrom}
 use Rattle.header.specs.declared.Refusal.the-variants.{BadRecord, HeldTwice, NotHeld}
-use Rattle.plan_records.specs.Records.{digitsAt, decimal, endOf, numberAt, isField, isGood, startOf, holds}
-use Rattle.plan_records.specs.Records.{goodRecords, holders, baseFor}
+use Rattle.plan_records.specs.Records.{digitsAt, decimal, endOf, numberAt, isField, isGood, startOf, holds, goodRecords, holders, baseFor}
 use Rattle.plan.specs.Plans.{firstAmiss, planAnswer}
 use Rattle.plan.specs.declared.Planned.the-variants.{Done, Refused}
 

@@ -7,8 +7,7 @@ use native.Mathlib.Omega.{arith}
 use lib.Dec.{leb, ltb}
 use borrow.Author.Tests.{lt-ltb, le-ltb, le-leb, lt-leb}
 use Rattle.numbers.proofs.OrderLaws.{split}
-use Rattle.plan_records.specs.Records.{firstLine, lastLine, baseAt, startOf, holds}
-use Rattle.plan_records.specs.Records.{baseFor}
+use Rattle.plan_records.specs.Records.{firstLine, lastLine, baseAt, startOf, holds, baseFor}
 use Rattle.plan_records.specs.Readings.{Filled, Written}
 
 below-next : (n last : ℕ) → ltb n (last + 1) ≡ leb n last

@@ -10,8 +10,7 @@ use native.Mathlib.Omega.{arith}
 use lib.ListN.{getD}
 use Rattle.numbers.specs.Numbers.{leastFrom}
 use Rattle.numbers.proofs.LeastLaws.{least-last, least-here, least-next}
-use Rattle.plan_counts.specs.Counts.{isAmiss}
-use Rattle.plan_counts.specs.Counts.{sumBefore, Balanced, amissIn}
+use Rattle.plan_counts.specs.Counts.{isAmiss, sumBefore, Balanced, amissIn}
 use Rattle.plan_counts.proofs.first_amiss.Statement.{statement}
 use Rattle.plan_counts.proofs.first_amiss.Tie as tie
 

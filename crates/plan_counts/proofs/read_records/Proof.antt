@@ -6,12 +6,10 @@ use mathlib.Core.Path.{_≡_, _∙_}
 use Prim.Native.Nat.{ℕ, _+_, _-_, _^_, _≤_, _<_}
 use native.Mathlib.Omega.{arith}
 use lib.ListN.{length, getD, set}
-use Rattle.plan_records.specs.Records.{firstLine, lastLine, startOf}
-use Rattle.plan_records.specs.Records.{goodRecords}
+use Rattle.plan_records.specs.Records.{firstLine, lastLine, startOf, goodRecords}
 use Rattle.plan_counts.specs.Counts.{Marked}
 use Rattle.plan_records.proofs.RecordLaws.{IsRow, row-bad, row-good, none-past, goodFrom, good-start, good-next, start-next, start-none}
-use Rattle.plan_counts.proofs.CountLaws.{is-read}
-use Rattle.plan_counts.proofs.CountLaws.{marked-more}
+use Rattle.plan_counts.proofs.CountLaws.{is-read, marked-more}
 use Rattle.plan_counts.proofs.read_records.Statement.{statement}
 use Rattle.plan_counts.proofs.read_records.Tie as tie
 
