@@ -3,7 +3,7 @@ ghost use mathlib.Core.Path.{_≡_};
 ghost use Prim.Native.Nat.{_+_, _*_, _^_, _≤_, _<_};
 ghost use lib.ListN.{length};
 ghost use Rattle.header.specs.Headers.{parseOf, Ruled, widthAnswer};
-ghost use Rattle.ranges.specs.Ranges.{cut, partOf, Short, Inside};
+ghost use Rattle.ranges.specs.Ranges.{partOf, Short};
 ghost use Rattle.stream.specs.Lengths.{boundAnswer, lengthWord, lengthRefusal};
 ghost use Rattle.stream.specs.Streams.{sizeOf, rowLength, rowStart, firstShort, openIn, openOf, Opened, sizesBefore};
 ghost use Rattle.stream.specs.Streams.{blockStart, rangeIn, rangeOf, rowIn, rowOf};
