@@ -8,10 +8,10 @@ use Rattle.block.proofs.Element
 use Prim.Native.Nat
 use Rattle.block.proofs.Form
 use Rattle.block.proofs.Form.Laws
-use Rattle.stream.proofs.BlockLength
-use Rattle.stream.proofs.BlockLength.Laws as Laws'
 use Rattle.header.proofs.Refusal
-use Rattle.header.proofs.Refusal.Laws as Laws''
+use Rattle.header.proofs.Refusal.Laws as Laws'
+use Rattle.stream.proofs.BlockLength
+use Rattle.stream.proofs.BlockLength.Laws as Laws''
 use borrow.Author.Called
 use borrow.Author.Tests
 use borrow.Enum.Make
@@ -64,7 +64,7 @@ use prog.Wp
 use types.Kit
 
 abbrev pub y0 : Syntax.Ty
-y0 = Syntax.tyEnum (115 ∷ 116 ∷ 114 ∷ 101 ∷ 97 ∷ 109 ∷ 58 ∷ 58 ∷ 82 ∷ 101 ∷ 102 ∷ 117 ∷ 115 ∷ 97 ∷ 108 ∷ []) (Syntax.ttcons Syntax.tnil (Syntax.ttcons Syntax.tnil (Syntax.ttcons Syntax.tnil
+y0 = Syntax.tyEnum (104 ∷ 101 ∷ 97 ∷ 100 ∷ 101 ∷ 114 ∷ 58 ∷ 58 ∷ 82 ∷ 101 ∷ 102 ∷ 117 ∷ 115 ∷ 97 ∷ 108 ∷ []) (Syntax.ttcons Syntax.tnil (Syntax.ttcons Syntax.tnil (Syntax.ttcons Syntax.tnil
     (Syntax.ttcons (Syntax.tcons u64 Syntax.tnil) (Syntax.ttcons Syntax.tnil (Syntax.ttcons Syntax.tnil (Syntax.ttcons Syntax.tnil (Syntax.ttcons Syntax.tnil (Syntax.ttcons Syntax.tnil (Syntax.ttcons
     Syntax.tnil (Syntax.ttcons (Syntax.tcons u64 Syntax.tnil) (Syntax.ttcons (Syntax.tcons u64 Syntax.tnil) (Syntax.ttcons Syntax.tnil (Syntax.ttcons (Syntax.tcons u64 (Syntax.tcons u64 Syntax.tnil))
     (Syntax.ttcons (Syntax.tcons u64 Syntax.tnil) (Syntax.ttcons Syntax.tnil (Syntax.ttcons Syntax.tnil (Syntax.ttcons (Syntax.tcons u64 Syntax.tnil) (Syntax.ttcons (Syntax.tcons u64 Syntax.tnil)
@@ -116,7 +116,7 @@ ps = (ShrSlice.pShrS n16 0 tt) ∷ (MutSlice.pMutS n8 1 tt) ∷ Bool.pBool ∷ (
     Laws.the-plain) ∷ (ShrSlice.pShrS n8 4 tt) ∷ (Num.pNum Syntax.w64) ∷ []
 
 abbrev pub r : Kinds.RK 5
-r = Values.enum-result BlockLength.the-type Laws'.the-laws Laws'.the-copy Laws'.the-plain tt
+r = Values.enum-result BlockLength.the-type Laws''.the-laws Laws''.the-copy Laws''.the-plain tt
 
 abbrev pub xs : List.List Syntax.Ty
 xs = u32 ∷ u64 ∷ Syntax.tyBool ∷ u64 ∷ Syntax.tyUnit ∷ y7 ∷ y12 ∷ y6 ∷ y11 ∷ y0 ∷ y8 ∷ y13 ∷ y7 ∷ y12 ∷ y6 ∷ y11 ∷ []
@@ -159,7 +159,7 @@ ps·5 = (ShrSlice.pShrS n16 0 tt) ∷ (MutSlice.pMutS n8 1 tt) ∷ Bool.pBool �
     Laws.the-plain) ∷ (ShrSlice.pShrS n8 4 tt) ∷ (Num.pNum Syntax.w64) ∷ []
 
 abbrev pub r·5 : Kinds.RK 5
-r·5 = Values.enum-result BlockLength.the-type Laws'.the-laws Laws'.the-copy Laws'.the-plain tt
+r·5 = Values.enum-result BlockLength.the-type Laws''.the-laws Laws''.the-copy Laws''.the-plain tt
 
 abbrev pub hs : List.List Syntax.Home
 hs = Syntax.valueLocal ∷ Syntax.valueLocal ∷ Syntax.valueLocal ∷ Syntax.valueLocal ∷ Syntax.valueLocal ∷ Syntax.valueLocal ∷ Syntax.valueLocal ∷ Syntax.valueLocal ∷ Syntax.valueLocal ∷
@@ -1207,12 +1207,12 @@ module _ (claims· : Claims) where
               y0 Path'.refl)) d4
 
           d6 : Typed.Typed 𝓤 H A 𝓣 E (on T33 l8) (Syntax.seq b12 b13) Δ1 at6
-          d6 = Typed.s-seq 𝓤 H A W 𝓣 E (on T33 l8) (on T34 l8) b12 b13 Δ1 (Typed.pass T33 T34 s31) at5 (Make.t-enum-make-wt 𝓤 H A W E 𝓣 BlockLength.the-type Laws'.the-laws Laws'.the-plain tt (on T33
-              l8) 0 ((Scalar.oInt Syntax.w8 1) ∷ (Scalar.oAt 18 y0 (Laws'3.val Refusal.the-type Laws''.the-laws)) ∷ []) (λ m. BlockLength.enum .make (Logic.inr (Logic.inl
-              (m .1 .1 .1 .1 .1 .1 .1 .1 .1 .1 .1 .1 .1 .1 .1 .1 .1 .1 .0, tt)))) (Reads'.room-gone 𝓤 H A y10) (tt, ((Whole.reads-enum 𝓤 H A W Refusal.the-type Laws''.the-laws, Path'.refl), tt))
-              Path'.refl (λ m wa. Make.made-val BlockLength.the-type Laws'.the-laws ((Laws'3.val Refusal.the-type Laws''.the-laws (m .1 .1 .1 .1 .1 .1 .1 .1 .1 .1 .1 .1 .1 .1 .1 .1 .1 .1 .0)) ∷ [])
-              (BlockLength.enum .make (Logic.inr (Logic.inl (m .1 .1 .1 .1 .1 .1 .1 .1 .1 .1 .1 .1 .1 .1 .1 .1 .1 .1 .0, tt)))) (
-                Signed.made-wt Refusal.the-field Laws''.the-field-laws (Whole.enum-wt Refusal.the-type Laws''.the-laws (
+          d6 = Typed.s-seq 𝓤 H A W 𝓣 E (on T33 l8) (on T34 l8) b12 b13 Δ1 (Typed.pass T33 T34 s31) at5 (Make.t-enum-make-wt 𝓤 H A W E 𝓣 BlockLength.the-type Laws''.the-laws Laws''.the-plain tt (on T33
+              l8) 0 ((Scalar.oInt Syntax.w8 1) ∷ (Scalar.oAt 18 y0 (Laws'3.val Refusal.the-type Laws'.the-laws)) ∷ []) (λ m. BlockLength.enum .make (Logic.inr (Logic.inl
+              (m .1 .1 .1 .1 .1 .1 .1 .1 .1 .1 .1 .1 .1 .1 .1 .1 .1 .1 .0, tt)))) (Reads'.room-gone 𝓤 H A y10) (tt, ((Whole.reads-enum 𝓤 H A W Refusal.the-type Laws'.the-laws, Path'.refl), tt)) Path'.refl
+              (λ m wa. Make.made-val BlockLength.the-type Laws''.the-laws ((Laws'3.val Refusal.the-type Laws'.the-laws (m .1 .1 .1 .1 .1 .1 .1 .1 .1 .1 .1 .1 .1 .1 .1 .1 .1 .1 .0)) ∷ []) (BlockLength.enum
+              .make (Logic.inr (Logic.inl (m .1 .1 .1 .1 .1 .1 .1 .1 .1 .1 .1 .1 .1 .1 .1 .1 .1 .1 .0, tt)))) (
+                Signed.made-wt Refusal.the-field Laws'.the-field-laws (Whole.enum-wt Refusal.the-type Laws'.the-laws (
                   tt,
                   (
                     tt,
@@ -1257,10 +1257,10 @@ module _ (claims· : Claims) where
                 ))
                     (Refusal.the-type .to (m .1 .1 .1 .1 .1 .1 .1 .1 .1 .1 .1 .1 .1 .1 .1 .1 .1 .1 .0)),
                 tt,
-              ) (wa .1)) λ m wa. Make.made-is BlockLength.the-type Laws'.the-laws ((Laws'3.val Refusal.the-type
-              Laws''.the-laws (m .1 .1 .1 .1 .1 .1 .1 .1 .1 .1 .1 .1 .1 .1 .1 .1 .1 .1 .0)) ∷ []) (BlockLength.enum .make (Logic.inr (Logic.inl
+              ) (wa .1)) λ m wa. Make.made-is BlockLength.the-type Laws''.the-laws ((Laws'3.val Refusal.the-type
+              Laws'.the-laws (m .1 .1 .1 .1 .1 .1 .1 .1 .1 .1 .1 .1 .1 .1 .1 .1 .1 .1 .0)) ∷ []) (BlockLength.enum .make (Logic.inr (Logic.inl
               (m .1 .1 .1 .1 .1 .1 .1 .1 .1 .1 .1 .1 .1 .1 .1 .1 .1 .1 .0, tt)))) (
-                Signed.made-wt Refusal.the-field Laws''.the-field-laws (Whole.enum-wt Refusal.the-type Laws''.the-laws (
+                Signed.made-wt Refusal.the-field Laws'.the-field-laws (Whole.enum-wt Refusal.the-type Laws'.the-laws (
                   tt,
                   (
                     tt,
@@ -1308,16 +1308,16 @@ module _ (claims· : Claims) where
               ) (wa .1)) d5
 
           d7 : Typed.Typed 𝓤 H A 𝓣 E (on T15 l8) b15 Δ1 at7
-          d7 = Typed.s-seq 𝓤 H A W 𝓣 E (on T15 l8) (on T33 l8) b11 (Syntax.seq b12 b13) Δ1 (Typed.pass T15 T33 s30) at6 (Make.t-enum-make-wt 𝓤 H A W E 𝓣 Refusal.the-type Laws''.the-laws
-              Laws''.the-plain tt (on T15 l8) 18 ((Scalar.oInt Syntax.w8 10) ∷ (Scalar.oAt 10 u64 (Row.valS (Row.sInt Syntax.w64))) ∷ []) (λ m. Refusal.enum .make (Logic.inr (Logic.inr (Logic.inr
-              (Logic.inr (Logic.inr (Logic.inr (Logic.inr (Logic.inr (Logic.inr (Logic.inr (Logic.inl (m .1 .1 .1 .1 .1 .1 .1 .1 .1 .1 .0, tt))))))))))))) (Reads'.room-gone 𝓤 H A y0)
-              (tt, ((Scalar.reads-sc 𝓤 H A W (Row.sInt Syntax.w64), Path'.refl), tt)) Path'.refl (λ m wa. Make.made-val Refusal.the-type Laws''.the-laws ((Laws''.the-laws .1 .1 .1 .1 .1 .1 .1 .1 .1 .1 .0
-              .0 .val (m .1 .1 .1 .1 .1 .1 .1 .1 .1 .1 .0)) ∷ []) (Refusal.enum .make (Logic.inr (Logic.inr (Logic.inr (Logic.inr (Logic.inr (Logic.inr (Logic.inr (Logic.inr (Logic.inr (Logic.inr
-              (Logic.inl (m .1 .1 .1 .1 .1 .1 .1 .1 .1 .1 .0, tt)))))))))))))
-              (Signed.made-wt Field.u64-field (Laws''.the-laws .1 .1 .1 .1 .1 .1 .1 .1 .1 .1 .0 .0) Make'.u64-wt (m .1 .1 .1 .1 .1 .1 .1 .1 .1 .1 .0), tt) (wa .1)) λ m wa. Make.made-is Refusal.the-type
-              Laws''.the-laws ((Laws''.the-laws .1 .1 .1 .1 .1 .1 .1 .1 .1 .1 .0 .0 .val (m .1 .1 .1 .1 .1 .1 .1 .1 .1 .1 .0)) ∷ []) (Refusal.enum .make (Logic.inr (Logic.inr (Logic.inr (Logic.inr
+          d7 = Typed.s-seq 𝓤 H A W 𝓣 E (on T15 l8) (on T33 l8) b11 (Syntax.seq b12 b13) Δ1 (Typed.pass T15 T33 s30) at6 (Make.t-enum-make-wt 𝓤 H A W E 𝓣 Refusal.the-type Laws'.the-laws Laws'.the-plain
+              tt (on T15 l8) 18 ((Scalar.oInt Syntax.w8 10) ∷ (Scalar.oAt 10 u64 (Row.valS (Row.sInt Syntax.w64))) ∷ []) (λ m. Refusal.enum .make (Logic.inr (Logic.inr (Logic.inr (Logic.inr (Logic.inr
+              (Logic.inr (Logic.inr (Logic.inr (Logic.inr (Logic.inr (Logic.inl (m .1 .1 .1 .1 .1 .1 .1 .1 .1 .1 .0, tt))))))))))))) (Reads'.room-gone 𝓤 H A y0)
+              (tt, ((Scalar.reads-sc 𝓤 H A W (Row.sInt Syntax.w64), Path'.refl), tt)) Path'.refl (λ m wa. Make.made-val Refusal.the-type Laws'.the-laws ((Laws'.the-laws .1 .1 .1 .1 .1 .1 .1 .1 .1 .1 .0 .0
+              .val (m .1 .1 .1 .1 .1 .1 .1 .1 .1 .1 .0)) ∷ []) (Refusal.enum .make (Logic.inr (Logic.inr (Logic.inr (Logic.inr (Logic.inr (Logic.inr (Logic.inr (Logic.inr (Logic.inr (Logic.inr (Logic.inl
+              (m .1 .1 .1 .1 .1 .1 .1 .1 .1 .1 .0, tt)))))))))))))
+              (Signed.made-wt Field.u64-field (Laws'.the-laws .1 .1 .1 .1 .1 .1 .1 .1 .1 .1 .0 .0) Make'.u64-wt (m .1 .1 .1 .1 .1 .1 .1 .1 .1 .1 .0), tt) (wa .1)) λ m wa. Make.made-is Refusal.the-type
+              Laws'.the-laws ((Laws'.the-laws .1 .1 .1 .1 .1 .1 .1 .1 .1 .1 .0 .0 .val (m .1 .1 .1 .1 .1 .1 .1 .1 .1 .1 .0)) ∷ []) (Refusal.enum .make (Logic.inr (Logic.inr (Logic.inr (Logic.inr
               (Logic.inr (Logic.inr (Logic.inr (Logic.inr (Logic.inr (Logic.inr (Logic.inl (m .1 .1 .1 .1 .1 .1 .1 .1 .1 .1 .0, tt)))))))))))))
-              (Signed.made-wt Field.u64-field (Laws''.the-laws .1 .1 .1 .1 .1 .1 .1 .1 .1 .1 .0 .0) Make'.u64-wt (m .1 .1 .1 .1 .1 .1 .1 .1 .1 .1 .0), tt) (wa .1)) d6
+              (Signed.made-wt Field.u64-field (Laws'.the-laws .1 .1 .1 .1 .1 .1 .1 .1 .1 .1 .0 .0) Make'.u64-wt (m .1 .1 .1 .1 .1 .1 .1 .1 .1 .1 .0), tt) (wa .1)) d6
 
           d8 : Typed.Typed 𝓤 H A 𝓣 E G31 b15 Δ1 at7
           d8 = Typed.g-pre 𝓤 H A W 𝓣 E G31 (on T15 l8) b15 Δ1 (λ Ψ. Ψ) at7 (Lifetime.g-forget 𝓤 H A W E G31 6 Row.dead Path'.refl) d7
