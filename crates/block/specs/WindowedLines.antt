@@ -17,7 +17,7 @@ use Rattle.map.specs.declared.Part.{Part}
 use Rattle.pass.specs.Windows.{windowPlan}
 use Rattle.schedule.specs.Steps.{planOf}
 use Rattle.steps.specs.declared.Quantisers.{Quantisers}
-use Rattle.stream.specs.declared.FujiHeader.{FujiHeader}
+use Rattle.header.specs.declared.FujiHeader.{FujiHeader}
 use Rattle.region.specs.declared.Rect.{Rect}
 use Rattle.begin.specs.Beginnings.{samplesNeeded, recordsNeeded}
 use Rattle.block.specs.Blocks.{State, readLine, readFrom, totalsIn, tightOf}

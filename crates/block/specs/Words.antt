@@ -2,7 +2,7 @@
 use mathlib.Core.List.{List, [], _∷_}
 use mathlib.Core.Path.{_≡_}
 use Prim.Native.Nat.{ℕ}
-use Rattle.stream.specs.Refusals.{refusalWords, noRefusal}
+use Rattle.header.specs.Refusals.{refusalWords, noRefusal}
 use Rattle.region.specs.declared.Rect.{Rect}
 use Rattle.totals.specs.declared.Totals.{Totals}
 use Rattle.entry_words.specs.Words.{entriesIn, AreWords}

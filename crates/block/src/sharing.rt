@@ -2,7 +2,7 @@
 ghost use mathlib.Core.Path.{_≡_};
 ghost use lib.ListN.{length};
 ghost use Rattle.stream.specs.Streams.{openOf};
-ghost use Rattle.stream.specs.declared.Parsed.the-variants.{Header};
+ghost use Rattle.header.specs.declared.Parsed.the-variants.{Header};
 ghost use Rattle.region.specs.Regions.{Accepted};
 ghost use Rattle.cameras.specs.Entries.{mended, handedBack, AllNumbered};
 ghost use Rattle.begin.specs.Beginnings.{regionBegins};
@@ -21,10 +21,10 @@ use crate::reading::walk;
 use begin::Beginning;
 use cameras::Camera;
 use cameras::Entries;
+use header::FujiHeader;
+use header::Refusal;
 use region::Rect;
 use statistics::Record;
-use stream::FujiHeader;
-use stream::Refusal;
 
 // How many lines a walk over `count` of them has read.
 fn lines_read(got: Walked, count: usize) -> usize

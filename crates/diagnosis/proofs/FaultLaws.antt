@@ -5,9 +5,9 @@ use mathlib.Core.Option.{Option, none, some, Option·map}
 use mathlib.Core.Path.{_≡_, refl, sym, ap, _∙_}
 use Prim.Native.Nat.{ℕ}
 use Rattle.bits.specs.declared.BitPosition.{BitPosition}
-use Rattle.stream.specs.declared.FujiHeader.{FujiHeader}
-use Rattle.stream.specs.declared.Parsed.the-variants as Parsing
-use Rattle.stream.specs.declared.Refusal.{Refusal}
+use Rattle.header.specs.declared.FujiHeader.{FujiHeader}
+use Rattle.header.specs.declared.Parsed.the-variants as Parsing
+use Rattle.header.specs.declared.Refusal.{Refusal}
 use Rattle.begin.specs.Beginnings.{tightBegins}
 use Rattle.block.specs.Blocks.{State, readLines}
 use Rattle.block.specs.BadCodes.{BadCode, firstBad}

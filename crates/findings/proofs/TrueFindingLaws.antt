@@ -13,10 +13,10 @@ use Rattle.bits.specs.BitLists.{isTail}
 use Rattle.bits.specs.declared.BitPosition.{BitPosition}
 use Rattle.code.specs.declared.Code.{Code as CodeRead}
 use Rattle.stream.specs.Streams.{openOf}
-use Rattle.stream.specs.declared.FujiHeader.{FujiHeader}
-use Rattle.stream.specs.declared.Parsed.{Parsed}
-use Rattle.stream.specs.declared.Parsed.the-variants as Parsing
-use Rattle.stream.specs.declared.Refusal.the-variants.{Lossy, Truncated, NotTight}
+use Rattle.header.specs.declared.FujiHeader.{FujiHeader}
+use Rattle.header.specs.declared.Parsed.{Parsed}
+use Rattle.header.specs.declared.Parsed.the-variants as Parsing
+use Rattle.header.specs.declared.Refusal.the-variants.{Lossy, Truncated, NotTight}
 use Rattle.block.specs.Blocks.{State, readLines}
 use Rattle.bad_code.specs.declared.Reason.{Reason}
 use Rattle.bad_code.specs.declared.Reason.the-variants.{Large, Escape, Zeros}

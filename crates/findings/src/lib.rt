@@ -6,16 +6,16 @@ ghost use Prim.Native.Nat.{_+_, _≤_};
 ghost use lib.ListN.{length, drop};
 ghost use Rattle.io.specs.Counts.{Counts};
 ghost use Rattle.stream.specs.Streams.{openOf};
-ghost use Rattle.stream.specs.declared.Parsed.the-variants.{Header};
+ghost use Rattle.header.specs.declared.Parsed.the-variants.{Header};
 ghost use Rattle.findings.specs.Findings.{lowest, findingOf};
 ghost use Rattle.report_text.specs.Texts.{textOf};
 use diagnosis::Fault;
 use diagnosis::answer_at;
 use diagnosis::fault_at;
+use header::FujiHeader;
+use header::Parsed;
+use header::Refusal;
 use report_text::Finding;
-use stream::FujiHeader;
-use stream::Parsed;
-use stream::Refusal;
 
 // ---- a stream
 

@@ -16,7 +16,7 @@ use Rattle.schedule.specs.declared.Plan.{Plan}
 use Rattle.steps.proofs.ContextLaws.{AllLe, stored-le}
 use Rattle.pass.specs.Readings.{readPass}
 use Rattle.pass.proofs.RangeLaws.{pass-keeps}
-use Rattle.stream.specs.declared.FujiHeader.{FujiHeader}
+use Rattle.header.specs.declared.FujiHeader.{FujiHeader}
 use Rattle.state_head.specs.Heads.{putEach}
 use Rattle.checkpoint.specs.Checkpoints.{keptLine, storedSample, badCheckpoint, otherCheckpoint, checkedOf, nextLine, positionIn, withKept, withSix}
 use Rattle.checkpoint.specs.Checkpoints.{withGuards, loadedLines}

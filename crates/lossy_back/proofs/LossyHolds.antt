@@ -17,8 +17,8 @@ use Rattle.map.specs.Places.{widthOf}
 use Rattle.lines.specs.Sets.{lineSize, setSize, lineOfRank, indexIn, lineAt, colourLineAt, positionAt}
 use Rattle.writing.proofs.SetLaws.{passes-lines, line-lt, rank-lt, position-lt, index-at}
 use Rattle.stream.specs.declared.BlockLength.the-variants.{Length}
-use Rattle.stream.specs.declared.FujiHeader.{FujiHeader}
-use Rattle.stream.proofs.HeaderLaws.{ruled}
+use Rattle.header.specs.declared.FujiHeader.{FujiHeader}
+use Rattle.header.proofs.HeaderLaws.{ruled}
 use Rattle.block.specs.Records.{baseOf}
 use Rattle.block.specs.Blocks.{readLines, linesOf}
 use Rattle.block.specs.Images.{formOf}

@@ -32,7 +32,7 @@ use Rattle.writing.proofs.BoundLaws.{short-most, four}
 use Rattle.writing.proofs.LosslessLaws.{lossless}
 use Rattle.pass.proofs.FrameLaws.{first-then}
 use Rattle.map.specs.Places.{widthOf}
-use Rattle.stream.proofs.HeaderLaws.{ruled}
+use Rattle.header.proofs.HeaderLaws.{ruled}
 use Rattle.block.specs.Blocks.{State, runs, enter, leave, passAt, endLine, readLine, beforeLine, readLineAt, startState, readLines}
 use Rattle.block.specs.Images.{formOf}
 use Rattle.block.specs.declared.Form.{Form}

@@ -2,7 +2,7 @@
 use mathlib.Core.List.{[], _∷_, _++_}
 use mathlib.Core.Path.{_≡_, refl}
 use Rattle.numbers.specs.Numbers.{leastFrom}
-use Rattle.stream.specs.declared.Refusal.the-variants.{ShortHeader, ShortBases, Lossy}
+use Rattle.header.specs.declared.Refusal.the-variants.{ShortHeader, ShortBases, Lossy}
 use Rattle.bad_code.specs.declared.Reason.the-variants.{Escape}
 use Rattle.report_text.specs.Texts.{heading, numberText, textOf}
 use Rattle.report_text.specs.declared.Finding.the-variants.{Refused, Nothing, Code, Tail}

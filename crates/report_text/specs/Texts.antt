@@ -7,7 +7,7 @@ use lib.ListN.{length}
 use lib.Seq.{paste}
 use Rattle.io.specs.Digits.{digits}
 use Rattle.numbers.specs.Numbers.{leastFrom}
-use Rattle.stream.specs.Refusals.{refusalNumber}
+use Rattle.header.specs.Refusals.{refusalNumber}
 use Rattle.bad_code.specs.declared.BadSpot.{BadSpot}
 use Rattle.bad_code.specs.declared.Reason.{Reason}
 use Rattle.bad_code.specs.declared.Reason.the-variants.{Large, Escape, Zeros}

@@ -6,7 +6,7 @@ ghost use Rattle.report_text.specs.Texts.{heading, numberText, field, re
 use bad_code::BadSpot;
 use bad_code::Reason;
 use bits::BitPosition;
-use stream::Refusal;
+use header::Refusal;
 
 // What is found in a stream: it is refused; no block gives 15; or the lowest that does, and why.
 pub enum Finding {
@@ -100,7 +100,7 @@ fn put_refusal(out: &mut [u8], x: Refusal) -> usize
     requires { ⌜ 21 ≤ length (now out) ⌝ }
     ensures { λ r. ⌜ Put (now (out .entry)) 0 (textOf (Finding.Refused x)) (now (out .exit)) r × (r ≤ 21) ⌝ }
 {
-    let w = stream::refusal_words(x);
+    let w = words::refusal_words(x);
     let end = put_number(out, 0, w[0] as u64);
     put(out, end, b"\n")
 }

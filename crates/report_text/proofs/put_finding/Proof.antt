@@ -5,7 +5,7 @@ use mathlib.Core.Path.{_≡_}
 use Prim.Native.Nat.{ℕ}
 use native.Mathlib.Omega.{arith}
 use Rattle.bits.specs.declared.BitPosition.{BitPosition}
-use Rattle.stream.specs.declared.Refusal.{Refusal}
+use Rattle.header.specs.declared.Refusal.{Refusal}
 use Rattle.bad_code.specs.declared.BadSpot.{BadSpot}
 use Rattle.report_text.specs.Texts.{heading, codeText, tailRecord, textOf}
 use Rattle.report_text.specs.declared.Finding.{Finding}

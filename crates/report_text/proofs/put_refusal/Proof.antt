@@ -5,8 +5,8 @@ use mathlib.Core.Path.{_≡_}
 use Prim.Native.Nat.{ℕ}
 use native.Mathlib.Omega.{arith}
 use lib.ListN.{getD}
-use Rattle.stream.specs.Refusals.{refusalWords}
-use Rattle.stream.specs.declared.Refusal.{Refusal}
+use Rattle.header.specs.Refusals.{refusalWords}
+use Rattle.header.specs.declared.Refusal.{Refusal}
 use Rattle.report_text.specs.Texts.{numberText, textOf}
 use Rattle.report_text.specs.declared.Finding.the-variants.{Refused}
 use Rattle.report_text.proofs.TextLaws.{put-both, put-same}
