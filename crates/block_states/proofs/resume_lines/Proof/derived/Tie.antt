@@ -204,7 +204,7 @@ module _ {M : Type 1} where
       Code.calls-map·xtrans-places (Met'13.met 𝓤 H 𝓜 𝓖 𝓡)) (Reads'5.known record { M = M; 𝓤 = 𝓤; H = H; 𝓜 = 𝓜; 𝓖 = 𝓖; 𝓡 = 𝓡 } Code.env Symbol'5.name Symbol'5.routine Code.calls-block-states·part-wanted
       (Met'5.met 𝓤 H 𝓜 𝓖 𝓡)) (Reads'3.known record { M = M; 𝓤 = 𝓤; H = H; 𝓜 = 𝓜; 𝓖 = 𝓖; 𝓡 = 𝓡 } Code.env Symbol'3.name Symbol'3.routine Code.calls-block-states·lines-wanted (Met'3.met 𝓤 H 𝓜 𝓖 𝓡))
       (Reads'12.known record { M = M; 𝓤 = 𝓤; H = H; 𝓜 = 𝓜; 𝓖 = 𝓖; 𝓡 = 𝓡 } Code.env Symbol'11.name Symbol'11.routine Code.calls-lines·clear (Met'11.met 𝓤 H 𝓜 𝓖 𝓡)) (Reads'9.known record
-      { M = M; 𝓤 = 𝓤; H = H; 𝓜 = 𝓜; 𝓖 = 𝓖; 𝓡 = 𝓡 } Code.env Symbol'8.name Symbol'8.routine Code.calls-cameras·base-of (Met'8.met 𝓤 H 𝓜 𝓖 𝓡)) (Reads'4.known record
+      { M = M; 𝓤 = 𝓤; H = H; 𝓜 = 𝓜; 𝓖 = 𝓖; 𝓡 = 𝓡 } Code.env Symbol'8.name Symbol'8.routine Code.calls-taking·base-of (Met'8.met 𝓤 H 𝓜 𝓖 𝓡)) (Reads'4.known record
       { M = M; 𝓤 = 𝓤; H = H; 𝓜 = 𝓜; 𝓖 = 𝓖; 𝓡 = 𝓡 } Code.env Symbol'4.name Symbol'4.routine Code.calls-block-states·load-records (Met'4.met 𝓤 H 𝓜 𝓖 𝓡)) (Reads'13.known record
       { M = M; 𝓤 = 𝓤; H = H; 𝓜 = 𝓜; 𝓖 = 𝓖; 𝓡 = 𝓡 } Code.env Symbol'12.name Symbol'12.routine Code.calls-map·width (Met'12.met 𝓤 H 𝓜 𝓖 𝓡)) (Reads'11.known record
       { M = M; 𝓤 = 𝓤; H = H; 𝓜 = 𝓜; 𝓖 = 𝓖; 𝓡 = 𝓡 } Code.env Symbol'10.name Symbol'10.routine Code.calls-checkpoint·load-lines (Met'10.met 𝓤 H 𝓜 𝓖 𝓡)) (Reads'6.known record

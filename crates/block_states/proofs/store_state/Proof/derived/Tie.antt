@@ -183,7 +183,7 @@ module _ {M : Type 1} where
       Code.env Symbol'13.name Symbol'13.routine Code.calls-stream·block-bytes (Met'13.met 𝓤 H 𝓜 𝓖 𝓡)) (Reads'13.known record { M = M; 𝓤 = 𝓤; H = H; 𝓜 = 𝓜; 𝓖 = 𝓖; 𝓡 = 𝓡 } Code.env Symbol'12.name
       Symbol'12.routine Code.calls-stream·base-row (Met'12.met 𝓤 H 𝓜 𝓖 𝓡)) (Reads'12.known record { M = M; 𝓤 = 𝓤; H = H; 𝓜 = 𝓜; 𝓖 = 𝓖; 𝓡 = 𝓡 } Code.env Symbol'11.name Symbol'11.routine
       Code.calls-map·xtrans-places (Met'11.met 𝓤 H 𝓜 𝓖 𝓡)) (Reads'11.known record { M = M; 𝓤 = 𝓤; H = H; 𝓜 = 𝓜; 𝓖 = 𝓖; 𝓡 = 𝓡 } Code.env Symbol'10.name Symbol'10.routine Code.calls-lines·clear (Met'10.met
-      𝓤 H 𝓜 𝓖 𝓡)) (Reads'9.known record { M = M; 𝓤 = 𝓤; H = H; 𝓜 = 𝓜; 𝓖 = 𝓖; 𝓡 = 𝓡 } Code.env Symbol'8.name Symbol'8.routine Code.calls-cameras·base-of (Met'8.met 𝓤 H 𝓜 𝓖 𝓡)) (Reads'6.known record
+      𝓤 H 𝓜 𝓖 𝓡)) (Reads'9.known record { M = M; 𝓤 = 𝓤; H = H; 𝓜 = 𝓜; 𝓖 = 𝓖; 𝓡 = 𝓡 } Code.env Symbol'8.name Symbol'8.routine Code.calls-taking·base-of (Met'8.met 𝓤 H 𝓜 𝓖 𝓡)) (Reads'6.known record
       { M = M; 𝓤 = 𝓤; H = H; 𝓜 = 𝓜; 𝓖 = 𝓖; 𝓡 = 𝓡 } Code.env Symbol'6.name Symbol'6.routine Code.calls-block·records·start-records (Met'6.met 𝓤 H 𝓜 𝓖 𝓡)) (Reads'.known record
       { M = M; 𝓤 = 𝓤; H = H; 𝓜 = 𝓜; 𝓖 = 𝓖; 𝓡 = 𝓡 } Code.env Symbol'.name Symbol'.routine Code.calls-block·no-part (Met'.met 𝓤 H 𝓜 𝓖 𝓡)) (Reads'3.known record { M = M; 𝓤 = 𝓤; H = H; 𝓜 = 𝓜; 𝓖 = 𝓖; 𝓡 = 𝓡 }
       Code.env Symbol'3.name Symbol'3.routine Code.calls-block·start-place (Met'3.met 𝓤 H 𝓜 𝓖 𝓡)) (Reads'10.known record { M = M; 𝓤 = 𝓤; H = H; 𝓜 = 𝓜; 𝓖 = 𝓖; 𝓡 = 𝓡 } Code.env Symbol'9.name

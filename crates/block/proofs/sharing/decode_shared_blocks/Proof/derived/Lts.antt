@@ -193,7 +193,7 @@ abbrev pub y27 : Syntax.Ty
 y27 = Syntax.tyStruct (98 ∷ 108 ∷ 111 ∷ 99 ∷ 107 ∷ 58 ∷ 58 ∷ 83 ∷ 104 ∷ 97 ∷ 114 ∷ 101 ∷ 100 ∷ 65 ∷ 110 ∷ 115 ∷ 119 ∷ 101 ∷ 114 ∷ []) (Syntax.tcons y17 (Syntax.tcons y26 Syntax.tnil))
 
 abbrev pub y28 : Syntax.Ty
-y28 = Syntax.tyStruct (99 ∷ 97 ∷ 109 ∷ 101 ∷ 114 ∷ 97 ∷ 115 ∷ 58 ∷ 58 ∷ 84 ∷ 111 ∷ 111 ∷ 107 ∷ []) (Syntax.tcons u64 (Syntax.tcons y26 Syntax.tnil))
+y28 = Syntax.tyStruct (116 ∷ 97 ∷ 107 ∷ 105 ∷ 110 ∷ 103 ∷ 58 ∷ 58 ∷ 84 ∷ 111 ∷ 111 ∷ 107 ∷ []) (Syntax.tcons u64 (Syntax.tcons y26 Syntax.tnil))
 
 abbrev pub ps : List.List (Kinds.PK 4)
 ps = (Values.enum Camera.the-type Laws'4.the-laws Laws'4.the-copy Laws'4.the-plain tt) ∷ (Values.struct Entries.the-type Laws'5.the-laws Laws'5.the-copy Laws'5.the-plain) ∷ (ShrSlice.pShrS n8 0 tt) ∷
