@@ -1043,8 +1043,8 @@ module _ (claims· : Claims) where
 
       module _ {M : Type 1} (𝓤 : URA.URA M) (H : Wp.Heap 𝓤) (A : Atoms.Atoms 𝓤) (W : Kit.Given 𝓤 H A) (𝓣 : Wp.Tables 𝓤 H) where
         abbrev Knowns : Type 1
-        Knowns = Plain.Known 𝓤 H A W 𝓣 1 ps·0 r·0 (claims· .0) (claims· .1) "lines::clear" × Plain.Known 𝓤 H A W 𝓣 1 ps·1 r·1 (claims· .2) (claims· .3) "taking::base_of" × Plain.Known 𝓤 H A W 𝓣 1
-            ps·2 r·2 (claims· .4) (claims· .5) "block::records::start_records" × Plain.Known 𝓤 H A W 𝓣 0 ps·3 r·3 (claims· .6) (claims· .7) "block::reading::start_place" × Plain.Known 𝓤 H A W 𝓣 6 ps·4 r·4
+        Knowns = Plain.Known 𝓤 H A W 𝓣 1 ps·0 r·0 (claims· .0) (claims· .1) "lines::clear" × Plain.Known 𝓤 H A W 𝓣 1 ps·1 r·1 (claims· .2) (claims· .3) "taking::base_of" × Plain.Known 𝓤 H A W 𝓣 1 ps·2
+            r·2 (claims· .4) (claims· .5) "block::records::start_records" × Plain.Known 𝓤 H A W 𝓣 0 ps·3 r·3 (claims· .6) (claims· .7) "block::reading::start_place" × Plain.Known 𝓤 H A W 𝓣 6 ps·4 r·4
             (claims· .8) (claims· .9) "block::reading::read_lines" × Plain.Known 𝓤 H A W 𝓣 1 ps·5 r·5 (claims· .10) (claims· .11) "block::records::clear_records"
 
       module _ (κs : Lifetimes.Lfts 6) (qs : Lifetimes.Shares 6) where
@@ -1634,8 +1634,8 @@ module _ (claims· : Claims) where
               Syntax.tyUnit) (tt, tt) Path'.refl) d53
 
           d55 : Typed.Typed 𝓤 H A 𝓣 E G17 (Syntax.seq b5 (Syntax.seq b6 b37)) Δ0 at55
-          d55 = Typed.s-seq 𝓤 H A W 𝓣 E G17 G18 b5 (Syntax.seq b6 b37) Δ0 (Typed.both s16) at54 (Plain.t-call-plain 𝓤 H A W 𝓣 1 ps·1 r·1 (claims· .2) (claims· .3) "taking::base_of" (known .1) E (λ
-              pos β. β) G17 (record { pos = 2; ty = y3; ref = λ x. x }, (Num.vLit 0, tt)) 19 (1 ∷ []) (Call.sub-id 𝓤 H A W (G17 .slots))
+          d55 = Typed.s-seq 𝓤 H A W 𝓣 E G17 G18 b5 (Syntax.seq b6 b37) Δ0 (Typed.both s16) at54 (Plain.t-call-plain 𝓤 H A W 𝓣 1 ps·1 r·1 (claims· .2) (claims· .3) "taking::base_of" (known .1) E (λ pos
+              β. β) G17 (record { pos = 2; ty = y3; ref = λ x. x }, (Num.vLit 0, tt)) 19 (1 ∷ []) (Call.sub-id 𝓤 H A W (G17 .slots))
               (ShrSlice.spares-sslice 𝓤 H A W n8 y3 1, Shared.reads-sslice 𝓤 H A W n8 y3 1, Path'.refl, (tt, tt)) (Reads'.room-gone 𝓤 H A u32) (tt, tt) Path'.refl) d54
 
           d56 : Typed.Typed 𝓤 H A 𝓣 E G16 b40 Δ0 at56

@@ -1289,8 +1289,8 @@ module _ (claims· : Claims) where
 
       module _ {M : Type 1} (𝓤 : URA.URA M) (H : Wp.Heap 𝓤) (A : Atoms.Atoms 𝓤) (W : Kit.Given 𝓤 H A) (𝓣 : Wp.Tables 𝓤 H) where
         abbrev Knowns : Type 1
-        Knowns = Plain.Known 𝓤 H A W 𝓣 1 ps·0 r·0 (claims· .0) (claims· .1) "begin::region_begins" × Plain.Known 𝓤 H A W 𝓣 0 ps·1 r·1 (claims· .2) (claims· .3) "taking::mended" × Plain.Known 𝓤 H A W
-            𝓣 0 ps·2 r·2 (claims· .4) (claims· .5) "block::sharing::handed_back" × Plain.Known 𝓤 H A W 𝓣 0 ps·3 r·3 (claims· .6) (claims· .7) "begin::samples_needed" × Plain.Known 𝓤 H A W 𝓣 4 ps·4 r·4
+        Knowns = Plain.Known 𝓤 H A W 𝓣 1 ps·0 r·0 (claims· .0) (claims· .1) "begin::region_begins" × Plain.Known 𝓤 H A W 𝓣 0 ps·1 r·1 (claims· .2) (claims· .3) "taking::mended" × Plain.Known 𝓤 H A W 𝓣
+            0 ps·2 r·2 (claims· .4) (claims· .5) "block::sharing::handed_back" × Plain.Known 𝓤 H A W 𝓣 0 ps·3 r·3 (claims· .6) (claims· .7) "begin::samples_needed" × Plain.Known 𝓤 H A W 𝓣 4 ps·4 r·4
             (claims· .8) (claims· .9) "block::sharing::decode_shared_blocks"
 
       module _ (κs : Lifetimes.Lfts 4) (qs : Lifetimes.Shares 4) where
