@@ -1,4 +1,4 @@
--- Written by tools/lend.py from Rattle's derivation of the twin of `code`; not edited by hand. Assumes nothing.
+-- Written by tools/lend.py from Rattle's derivation of the twin of `reader`; not edited by hand. Assumes nothing.
 use Rattle.pump.proofs.BitPumpMsb.get as get
 use Rattle.reader.proofs.derived.get.Kinds
 use base.Logic

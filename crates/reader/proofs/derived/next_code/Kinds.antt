@@ -1,4 +1,4 @@
--- Written by tools/lend.py from Rattle's derivation of the twin of `code`; not edited by hand. Assumes nothing.
+-- Written by tools/lend.py from Rattle's derivation of the twin of `reader`; not edited by hand. Assumes nothing.
 use Rattle.bits.proofs.Values
 use mathlib.Core.List.{_∷_, []}
 use Rattle.pump.proofs.Held

@@ -1573,11 +1573,11 @@ module _ (claims· : Claims) where
         Knowns = Plain.Known 𝓤 H A W 𝓣 0 ps·0 r·0 (claims· .0) (claims· .1) "block::form_of" × Plain.Known 𝓤 H A W 𝓣 1 ps·1 r·1 (claims· .2) (claims· .3) "stream::block_bytes" × Plain.Known 𝓤 H A W 𝓣
             1 ps·2 r·2 (claims· .4) (claims· .5) "stream::base_row" × Plain.Known 𝓤 H A W 𝓣 0 ps·3 r·3 (claims· .6) (claims· .7) "map::xtrans_places" × Plain.Known 𝓤 H A W 𝓣 0 ps·4 r·4 (claims· .8)
             (claims· .9) "block_states::part_wanted" × Plain.Known 𝓤 H A W 𝓣 0 ps·5 r·5 (claims· .10) (claims· .11) "block_states::lines_wanted" × Plain.Known 𝓤 H A W 𝓣 1 ps·6 r·6 (claims· .12) (claims·
-            .13) "lines::clear" × Plain.Known 𝓤 H A W 𝓣 1 ps·7 r·7 (claims· .14) (claims· .15) "taking::base_of" × Plain.Known 𝓤 H A W 𝓣 2 ps·8 r·8 (claims· .16) (claims· .17)
-            "block_states::load_records" × Plain.Known 𝓤 H A W 𝓣 0 ps·9 r·9 (claims· .18) (claims· .19) "map::width" × Plain.Known 𝓤 H A W 𝓣 2 ps·10 r·10 (claims· .20) (claims· .21)
-            "checkpoint::load::load_lines" × Plain.Known 𝓤 H A W 𝓣 0 ps·11 r·11 (claims· .22) (claims· .23) "block_states::place_at" × Plain.Known 𝓤 H A W 𝓣 0 ps·12 r·12 (claims· .24) (claims· .25)
-            "cameras::no_entries" × Plain.Known 𝓤 H A W 𝓣 6 ps·13 r·13 (claims· .26) (claims· .27) "block::reading::read_lines" × Plain.Known 𝓤 H A W 𝓣 1 ps·14 r·14 (claims· .28) (claims· .29)
-            "block::records::clear_records" × Plain.Known 𝓤 H A W 𝓣 0 ps·15 r·15 (claims· .30) (claims· .31) "block_states::resume_answer"
+            .13) "lines::clear" × Plain.Known 𝓤 H A W 𝓣 1 ps·7 r·7 (claims· .14) (claims· .15) "taking::base_of" × Plain.Known 𝓤 H A W 𝓣 2 ps·8 r·8 (claims· .16) (claims· .17) "block_states::load_records"
+            × Plain.Known 𝓤 H A W 𝓣 0 ps·9 r·9 (claims· .18) (claims· .19) "map::width" × Plain.Known 𝓤 H A W 𝓣 2 ps·10 r·10 (claims· .20) (claims· .21) "checkpoint::load::load_lines" × Plain.Known 𝓤 H A
+            W 𝓣 0 ps·11 r·11 (claims· .22) (claims· .23) "block_states::place_at" × Plain.Known 𝓤 H A W 𝓣 0 ps·12 r·12 (claims· .24) (claims· .25) "cameras::no_entries" × Plain.Known 𝓤 H A W 𝓣 6 ps·13
+            r·13 (claims· .26) (claims· .27) "block::reading::read_lines" × Plain.Known 𝓤 H A W 𝓣 1 ps·14 r·14 (claims· .28) (claims· .29) "block::records::clear_records" × Plain.Known 𝓤 H A W 𝓣 0 ps·15
+            r·15 (claims· .30) (claims· .31) "block_states::resume_answer"
 
       module _ (κs : Lifetimes.Lfts 5) (qs : Lifetimes.Shares 5) where
         abbrev k0 : Row.Life
@@ -2334,8 +2334,8 @@ module _ (claims· : Claims) where
               Syntax.tyUnit) (tt, (tt, tt)) Path'.refl) d77
 
           d79 : Typed.Typed 𝓤 H A 𝓣 E G26 (Syntax.seq b12 (Syntax.seq b13 b56)) Δ0 at79
-          d79 = Typed.s-seq 𝓤 H A W 𝓣 E G26 G27 b12 (Syntax.seq b13 b56) Δ0 (Typed.both s25) at78 (Plain.t-call-plain 𝓤 H A W 𝓣 1 ps·7 r·7 (claims· .14) (claims· .15) "taking::base_of" (known .7) E
-              (λ pos β. β) G26 (record { pos = 14; ty = y8; ref = λ x. x }, (Num.vLit 0, tt)) 25 (0 ∷ []) (Call.sub-id 𝓤 H A W (G26 .slots))
+          d79 = Typed.s-seq 𝓤 H A W 𝓣 E G26 G27 b12 (Syntax.seq b13 b56) Δ0 (Typed.both s25) at78 (Plain.t-call-plain 𝓤 H A W 𝓣 1 ps·7 r·7 (claims· .14) (claims· .15) "taking::base_of" (known .7) E (λ
+              pos β. β) G26 (record { pos = 14; ty = y8; ref = λ x. x }, (Num.vLit 0, tt)) 25 (0 ∷ []) (Call.sub-id 𝓤 H A W (G26 .slots))
               (ShrSlice.spares-sslice 𝓤 H A W n8 y8 0, Shared.reads-sslice 𝓤 H A W n8 y8 0, Path'.refl, (tt, tt)) (Reads'.room-gone 𝓤 H A u32) (tt, tt) Path'.refl) d78
 
           d80 : Typed.Typed 𝓤 H A 𝓣 E G25 b59 Δ0 at80

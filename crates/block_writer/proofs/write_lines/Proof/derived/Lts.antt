@@ -2109,8 +2109,8 @@ module _ (claims· : Claims) where
               d58
 
           d60 : Typed.Typed 𝓤 H A 𝓣 E (on T31 l11) b53 Δ3 at60
-          d60 = Typed.s-seq 𝓤 H A W 𝓣 E (on T31 l11) (on T46 l11) b19 (Syntax.seq b20 b51) Δ3 (Typed.both s42) at58 (Plain.t-call-plain 𝓤 H A W 𝓣 1 ps·3 r·3 (claims· .6) (claims· .7)
-              "taking::base_of" (known .3) E (λ pos β. β) (on T31 l11) (record { pos = 7; ty = y5; ref = λ x. x }, (Num.vAt 13 λ x. x, tt)) 14 (4 ∷ []) (Call.sub-id 𝓤 H A W ((on T31 l11) .slots))
+          d60 = Typed.s-seq 𝓤 H A W 𝓣 E (on T31 l11) (on T46 l11) b19 (Syntax.seq b20 b51) Δ3 (Typed.both s42) at58 (Plain.t-call-plain 𝓤 H A W 𝓣 1 ps·3 r·3 (claims· .6) (claims· .7) "taking::base_of"
+              (known .3) E (λ pos β. β) (on T31 l11) (record { pos = 7; ty = y5; ref = λ x. x }, (Num.vAt 13 λ x. x, tt)) 14 (4 ∷ []) (Call.sub-id 𝓤 H A W ((on T31 l11) .slots))
               (ShrSlice.spares-sslice 𝓤 H A W n8 y5 4, Shared.reads-sslice 𝓤 H A W n8 y5 4, Path'.refl, ((Scalar.reads-sc 𝓤 H A W (Row.sInt Syntax.w64), Path'.refl), tt)) (Reads'.room-gone 𝓤 H A u32)
               (tt, tt) Path'.refl) d59
 
@@ -2261,8 +2261,8 @@ module _ (claims· : Claims) where
               d91
 
           d93 : Typed.Typed 𝓤 H A 𝓣 E G20 (Syntax.seq b8 (Syntax.seq b9 b66)) Δ0 at93
-          d93 = Typed.s-seq 𝓤 H A W 𝓣 E G20 G21 b8 (Syntax.seq b9 b66) Δ0 (Typed.both s19) at92 (Plain.t-call-plain 𝓤 H A W 𝓣 1 ps·3 r·3 (claims· .6) (claims· .7) "taking::base_of" (known .3) E (λ
-              pos β. β) G20 (record { pos = 7; ty = y5; ref = λ x. x }, (Num.vLit 0, tt)) 22 (4 ∷ []) (Call.sub-id 𝓤 H A W (G20 .slots))
+          d93 = Typed.s-seq 𝓤 H A W 𝓣 E G20 G21 b8 (Syntax.seq b9 b66) Δ0 (Typed.both s19) at92 (Plain.t-call-plain 𝓤 H A W 𝓣 1 ps·3 r·3 (claims· .6) (claims· .7) "taking::base_of" (known .3) E (λ pos
+              β. β) G20 (record { pos = 7; ty = y5; ref = λ x. x }, (Num.vLit 0, tt)) 22 (4 ∷ []) (Call.sub-id 𝓤 H A W (G20 .slots))
               (ShrSlice.spares-sslice 𝓤 H A W n8 y5 4, Shared.reads-sslice 𝓤 H A W n8 y5 4, Path'.refl, (tt, tt)) (Reads'.room-gone 𝓤 H A u32) (tt, tt) Path'.refl) d92
 
           d94 : Typed.Typed 𝓤 H A 𝓣 E G19 b69 Δ0 at94

@@ -173,8 +173,8 @@ abbrev b1 : Syntax.Body
 b1 = Syntax.call "block_writer::is_strict" ((Syntax.copy (Syntax.place 7 [])) ∷ []) (Syntax.place 11 [])
 
 abbrev b2 : Syntax.Body
-b2 = Syntax.call "above_largest::first_above" ((Syntax.copy (Syntax.place 1 [])) ∷ (Syntax.copy (Syntax.place 9 [])) ∷ (Syntax.copy (Syntax.place 6 ((Syntax.field 1) ∷ []))) ∷ (Syntax.copy (Syntax.place 11
-    [])) ∷ []) (Syntax.place 10 [])
+b2 = Syntax.call "above_largest::first_above" ((Syntax.copy (Syntax.place 1 [])) ∷ (Syntax.copy (Syntax.place 9 [])) ∷ (Syntax.copy (Syntax.place 6 ((Syntax.field 1) ∷ []))) ∷ (Syntax.copy
+    (Syntax.place 11 [])) ∷ []) (Syntax.place 10 [])
 
 abbrev b3 : Syntax.Body
 b3 = Syntax.assign (Syntax.place 12 []) (Syntax.rvOpd (Syntax.copy (Syntax.place 1 ((Syntax.field 1) ∷ []))))
@@ -793,9 +793,9 @@ module _ (claims· : Claims) where
     module _ (M : Type 1) where
       abbrev pub Closed : Type 2
       Closed = (𝓤 : URA.URA M) (H : Wp.Heap 𝓤) (A : Atoms.Atoms 𝓤) (W : Kit.Given 𝓤 H A) (𝓣 : Wp.Tables 𝓤 H) (known0 : Plain.Known 𝓤 H A W 𝓣 0 ps·0 r·0 (claims· .0) (claims· .1) "quantiser::largest")
-          (known1 : Plain.Known 𝓤 H A W 𝓣 1 ps·1 r·1 (claims· .2) (claims· .3) "block_writer::is_strict") (known2 : Plain.Known 𝓤 H A W 𝓣 1 ps·2 r·2 (claims· .4) (claims· .5) "above_largest::first_above") (known3
-          : Plain.Known 𝓤 H A W 𝓣 1 ps·3 r·3 (claims· .6) (claims· .7) "lines::clear") (known4 : Plain.Known 𝓤 H A W 𝓣 1 ps·4 r·4 (claims· .8) (claims· .9) "block::records::clear_records") (known5 :
-          Plain.Known 𝓤 H A W 𝓣 5 ps·5 r·5 (claims· .10) (claims· .11) "block_writer::write_measured") → Statement.Triple 𝓤 (Wp.WpFn 𝓤 H (𝓣 .C) (𝓣 .Λ) (Function.fnOf 5 ps r xs m hs body))
+          (known1 : Plain.Known 𝓤 H A W 𝓣 1 ps·1 r·1 (claims· .2) (claims· .3) "block_writer::is_strict") (known2 : Plain.Known 𝓤 H A W 𝓣 1 ps·2 r·2 (claims· .4) (claims· .5) "above_largest::first_above")
+          (known3 : Plain.Known 𝓤 H A W 𝓣 1 ps·3 r·3 (claims· .6) (claims· .7) "lines::clear") (known4 : Plain.Known 𝓤 H A W 𝓣 1 ps·4 r·4 (claims· .8) (claims· .9) "block::records::clear_records") (known5
+          : Plain.Known 𝓤 H A W 𝓣 5 ps·5 r·5 (claims· .10) (claims· .11) "block_writer::write_measured") → Statement.Triple 𝓤 (Wp.WpFn 𝓤 H (𝓣 .C) (𝓣 .Λ) (Function.fnOf 5 ps r xs m hs body))
           (Function.plainOf 𝓤 H A 5 ps r Pre· Post·)
 
     module _ where
@@ -967,8 +967,8 @@ module _ (claims· : Claims) where
       module _ {M : Type 1} (𝓤 : URA.URA M) (H : Wp.Heap 𝓤) (A : Atoms.Atoms 𝓤) (W : Kit.Given 𝓤 H A) (𝓣 : Wp.Tables 𝓤 H) where
         abbrev Knowns : Type 1
         Knowns = Plain.Known 𝓤 H A W 𝓣 0 ps·0 r·0 (claims· .0) (claims· .1) "quantiser::largest" × Plain.Known 𝓤 H A W 𝓣 1 ps·1 r·1 (claims· .2) (claims· .3) "block_writer::is_strict" × Plain.Known 𝓤
-            H A W 𝓣 1 ps·2 r·2 (claims· .4) (claims· .5) "above_largest::first_above" × Plain.Known 𝓤 H A W 𝓣 1 ps·3 r·3 (claims· .6) (claims· .7) "lines::clear" × Plain.Known 𝓤 H A W 𝓣 1 ps·4 r·4 (claims· .8)
-            (claims· .9) "block::records::clear_records" × Plain.Known 𝓤 H A W 𝓣 5 ps·5 r·5 (claims· .10) (claims· .11) "block_writer::write_measured"
+            H A W 𝓣 1 ps·2 r·2 (claims· .4) (claims· .5) "above_largest::first_above" × Plain.Known 𝓤 H A W 𝓣 1 ps·3 r·3 (claims· .6) (claims· .7) "lines::clear" × Plain.Known 𝓤 H A W 𝓣 1 ps·4 r·4
+            (claims· .8) (claims· .9) "block::records::clear_records" × Plain.Known 𝓤 H A W 𝓣 5 ps·5 r·5 (claims· .10) (claims· .11) "block_writer::write_measured"
 
       module _ (κs : Lifetimes.Lfts 5) (qs : Lifetimes.Shares 5) where
         abbrev k0 : Row.Life
@@ -1562,8 +1562,8 @@ module _ (claims· : Claims) where
               d60
 
           d62 : Typed.Typed 𝓤 H A 𝓣 E (on T7 l8) (Syntax.seq b2 (Syntax.seq b3 b40)) Δ0 at62
-          d62 = Typed.s-seq 𝓤 H A W 𝓣 E (on T7 l8) (on T8 l8) b2 (Syntax.seq b3 b40) Δ0 (Typed.both s6) at61 (Plain.t-call-plain 𝓤 H A W 𝓣 1 ps·2 r·2 (claims· .4) (claims· .5) "above_largest::first_above"
-              (known .2) E (λ pos β. β) (on T7 l8)
+          d62 = Typed.s-seq 𝓤 H A W 𝓣 E (on T7 l8) (on T8 l8) b2 (Syntax.seq b3 b40) Δ0 (Typed.both s6) at61 (Plain.t-call-plain 𝓤 H A W 𝓣 1 ps·2 r·2 (claims· .4) (claims· .5)
+              "above_largest::first_above" (known .2) E (λ pos β. β) (on T7 l8)
               (record { pos = 1; ty = y1; ref = λ x. x }, (Num.vAt 9 λ x. x, (Bool.bFld 6 ((Syntax.field 1) ∷ []) 4 λ x. Form.struct .as-values x .1 .0, (Bool.bAt 11 λ x. x, tt)))) 10 (0 ∷ [])
               (Call.sub-id 𝓤 H A W ((on T7 l8) .slots)) (
                 ShrSlice.spares-sslice 𝓤 H A W n16 y1 0,

@@ -1,4 +1,4 @@
--- Written by tools/lend.py from Rattle's derivation of the twin of `code`; not edited by hand. Assumes nothing.
+-- Written by tools/lend.py from Rattle's derivation of the twin of `reader`; not edited by hand. Assumes nothing.
 use Rattle.bits.proofs.Values
 use Rattle.bits.proofs.Values.{u32, u64, u8}
 use mathlib.Core.List.{_∷_, []}

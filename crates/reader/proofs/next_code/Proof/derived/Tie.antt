@@ -1,16 +1,16 @@
--- Written by tools/lend.py from Rattle's derivation of the twin of `code`; not edited by hand. Assumes nothing.
-use Rattle.pump.proofs.BitPumpMsb.bit_position.Met
-use Rattle.reader.proofs.derived.bit_position.Reads
-use Rattle.pump.proofs.BitPumpMsb.bit_position.Symbol
-use Rattle.pump.proofs.BitPumpMsb.get.Met as Met'
-use Rattle.reader.proofs.derived.get.Reads as Reads'
-use Rattle.pump.proofs.BitPumpMsb.get.Symbol as Symbol'
-use Rattle.code.proofs.is_long.Met as Met''
-use Rattle.code.proofs.is_long.Reads as Reads''
-use Rattle.code.proofs.is_long.Symbol as Symbol''
-use Rattle.code.proofs.is_needed.Met as Met'3
-use Rattle.code.proofs.is_needed.Reads as Reads'3
-use Rattle.code.proofs.is_needed.Symbol as Symbol'3
+-- Written by tools/lend.py from Rattle's derivation of the twin of `reader`; not edited by hand. Assumes nothing.
+use Rattle.code.proofs.is_long.Met
+use Rattle.code.proofs.is_long.Reads
+use Rattle.code.proofs.is_long.Symbol
+use Rattle.code.proofs.is_needed.Met as Met'
+use Rattle.code.proofs.is_needed.Reads as Reads'
+use Rattle.code.proofs.is_needed.Symbol as Symbol'
+use Rattle.pump.proofs.BitPumpMsb.bit_position.Met as Met''
+use Rattle.reader.proofs.derived.bit_position.Reads as Reads''
+use Rattle.pump.proofs.BitPumpMsb.bit_position.Symbol as Symbol''
+use Rattle.pump.proofs.BitPumpMsb.get.Met as Met'3
+use Rattle.reader.proofs.derived.get.Reads as Reads'3
+use Rattle.pump.proofs.BitPumpMsb.get.Symbol as Symbol'3
 use Rattle.reader.proofs.next_code.Code
 use Rattle.reader.proofs.next_code.Key
 use Rattle.reader.proofs.derived.next_code.Kinds
@@ -25,7 +25,7 @@ use borrow.Fn.Written
 use contract.Running
 
 abbrev claims : Lts.Claims
-claims = (Reads'5.Asked, Reads'5.Learnt, Reads''.Asked, Reads''.Learnt, Reads'.Asked, Reads'.Learnt, Reads.Asked, Reads.Learnt, Reads'3.Asked, Reads'3.Learnt)
+claims = (Reads'5.Asked, Reads'5.Learnt, Reads.Asked, Reads.Learnt, Reads'3.Asked, Reads'3.Learnt, Reads''.Asked, Reads''.Learnt, Reads'.Asked, Reads'.Learnt)
 
 abbrev pub Start : Type 0
 Start = Lts.Start claims Reads'4.Pre Reads'4.Post
@@ -119,8 +119,8 @@ module _ {M : Type 1} where
   close = λ closed 𝓤 H 𝓜 𝓖 𝓡. Written.close 2 Kinds.ps Kinds.r Reads'4.Ghost Reads'4.requires Reads'4.ensures Reads'4.pre-read Reads'4.Pinned Reads'4.Owned Reads'4.post-read record
       { M = M; 𝓤 = 𝓤; H = H; 𝓜 = 𝓜; 𝓖 = 𝓖; 𝓡 = 𝓡 } Code.env Key.name Code.function (Code.unfolded 𝓤 H 𝓜 𝓡) (λ κs a g. tt) (λ κs. Reads'4.owns κs record { M = M; 𝓤 = 𝓤; H = H; 𝓜 = 𝓜; 𝓖 = 𝓖; 𝓡 = 𝓡 })
       (Reads'4.passes record { M = M; 𝓤 = 𝓤; H = H; 𝓜 = 𝓜; 𝓖 = 𝓖; 𝓡 = 𝓡 }) λ g. closed 𝓤 H (𝓖 .A) (Running.givenOf 𝓤 H 𝓜 𝓖) (Run.Over 𝓤 H 𝓜 𝓖 𝓡 Code.env) (Reads'5.known record
-      { M = M; 𝓤 = 𝓤; H = H; 𝓜 = 𝓜; 𝓖 = 𝓖; 𝓡 = 𝓡 } Code.env Symbol'4.name Symbol'4.routine Code.calls-pump·BitPumpMsb·zero-run (Met'4.met 𝓤 H 𝓜 𝓖 𝓡)) (Reads''.known record
-      { M = M; 𝓤 = 𝓤; H = H; 𝓜 = 𝓜; 𝓖 = 𝓖; 𝓡 = 𝓡 } Code.env Symbol''.name Symbol''.routine Code.calls-code·is-long (Met''.met 𝓤 H 𝓜 𝓖 𝓡)) (Reads'.known record { M = M; 𝓤 = 𝓤; H = H; 𝓜 = 𝓜; 𝓖 = 𝓖; 𝓡 = 𝓡 }
-      Code.env Symbol'.name Symbol'.routine Code.calls-pump·BitPumpMsb·get (Met'.met 𝓤 H 𝓜 𝓖 𝓡)) (Reads.known record { M = M; 𝓤 = 𝓤; H = H; 𝓜 = 𝓜; 𝓖 = 𝓖; 𝓡 = 𝓡 } Code.env Symbol.name Symbol.routine
-      Code.calls-pump·BitPumpMsb·bit-position (Met.met 𝓤 H 𝓜 𝓖 𝓡)) (Reads'3.known record { M = M; 𝓤 = 𝓤; H = H; 𝓜 = 𝓜; 𝓖 = 𝓖; 𝓡 = 𝓡 } Code.env Symbol'3.name Symbol'3.routine Code.calls-code·is-needed
-      (Met'3.met 𝓤 H 𝓜 𝓖 𝓡))
+      { M = M; 𝓤 = 𝓤; H = H; 𝓜 = 𝓜; 𝓖 = 𝓖; 𝓡 = 𝓡 } Code.env Symbol'4.name Symbol'4.routine Code.calls-pump·BitPumpMsb·zero-run (Met'4.met 𝓤 H 𝓜 𝓖 𝓡)) (Reads.known record
+      { M = M; 𝓤 = 𝓤; H = H; 𝓜 = 𝓜; 𝓖 = 𝓖; 𝓡 = 𝓡 } Code.env Symbol.name Symbol.routine Code.calls-code·is-long (Met.met 𝓤 H 𝓜 𝓖 𝓡)) (Reads'3.known record { M = M; 𝓤 = 𝓤; H = H; 𝓜 = 𝓜; 𝓖 = 𝓖; 𝓡 = 𝓡 }
+      Code.env Symbol'3.name Symbol'3.routine Code.calls-pump·BitPumpMsb·get (Met'3.met 𝓤 H 𝓜 𝓖 𝓡)) (Reads''.known record { M = M; 𝓤 = 𝓤; H = H; 𝓜 = 𝓜; 𝓖 = 𝓖; 𝓡 = 𝓡 } Code.env Symbol''.name
+      Symbol''.routine Code.calls-pump·BitPumpMsb·bit-position (Met''.met 𝓤 H 𝓜 𝓖 𝓡)) (Reads'.known record { M = M; 𝓤 = 𝓤; H = H; 𝓜 = 𝓜; 𝓖 = 𝓖; 𝓡 = 𝓡 } Code.env Symbol'.name Symbol'.routine
+      Code.calls-code·is-needed (Met'.met 𝓤 H 𝓜 𝓖 𝓡))
