@@ -5,20 +5,23 @@ same. A name is an abbreviation, and what is put in place of a term is equal to 
 import re
 from collections import Counter
 
+BRACKET = re.compile(r"[][(){}]")
+
 def pairs(text):
     """Where each bracket that opens in the text closes."""
     opened, found = [], {}
-    for i, ch in enumerate(text):
-        if ch in "({[":
-            opened.append(i)
-        elif ch in ")}]" and opened:
-            found[opened.pop()] = i
+    for m in BRACKET.finditer(text):
+        if m[0] in "({[":
+            opened.append(m.start())
+        elif opened:
+            found[opened.pop()] = m.start()
     return found
 
 def brackets(text, start):
     """Each bracket of the text that begins so: where it opens and where it closes."""
-    p = pairs(text)
-    return [(m.start(), p[m.start()]) for m in re.finditer(start, text) if m.start() in p]
+    starts = [m.start() for m in re.finditer(start, text)]
+    p = pairs(text) if starts else {}
+    return [(i, p[i]) for i in starts if i in p]
 
 def replaced(text, start, names):
     """Each bracket of the text that begins so and has a name: its name."""
@@ -66,7 +69,8 @@ def types(decls):
                 once[x] = f"\x00{len(once)}\x00"
         decls = [(i, replaced(t, start, {**names, **once})) for i, t in decls]
     for x, n in names.items():                                 # a field that is this type has no brackets
-        decls = [(i, re.sub(r"= " + re.escape(x[1:-1]) + r"(?=;| \})", f"= {n}", t)) for i, t in decls]
+        field = re.compile(r"= " + re.escape(x[1:-1]) + r"(?=;| \})")
+        decls = [(i, field.sub(f"= {n}", t)) for i, t in decls]
     last = max((k for k, (_, t) in enumerate(decls) if t.startswith("use ")), default=-1)
     new = [d for x, n in names.items() for d in declared(0, "pub " + n, f"{syntax}.Ty", x[1:-1])]
     decls = decls[:last + 1] + ([(0, "")] + new if new else []) + decls[last + 1:]
@@ -429,7 +433,8 @@ def free(text, name, above):
 def uses(decls, before):
     """A module that is no longer named is no longer used."""
     def is_there(ds, name):
-        return any(re.search(r"(?<![\w.·'])" + re.escape(name) + r"\.", t) for _, t in ds if not t.startswith("use "))
+        named = re.compile(r"(?<![\w.·'])" + re.escape(name) + r"\.")
+        return any(name in t and named.search(t) for _, t in ds if not t.startswith("use "))
     out = []
     for i, t in decls:
         m = re.fullmatch(r"use (\S+?)(?: as (\S+))?", t)

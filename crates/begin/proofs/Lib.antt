@@ -1,4 +1,3 @@
 -- Laws on how calls begin.
 pub mod BeginningLaws
 pub mod CallLaws
-pub mod SampleLaws

@@ -1,24 +1,19 @@
 -- How a call begins: a refusal, nothing to do, or a header to go by. A call that is refused touches no buffer. Refusals come in the order of their
--- numbers, but for the lossy writer's: there 16 stands in the place of 8, and 17 follows it. Assumes nothing.
+-- numbers. Assumes nothing.
 use mathlib.Core.Bool.{Bool, true, false, cond, not, _&&_, _||_}
-use mathlib.Core.List.{List, [], _∷_}
-use mathlib.Core.Option.{Option, none, some}
-use mathlib.Core.Path.{_≡_}
-use Prim.Native.Nat.{ℕ, suc, _+_, _*_, _≤_}
-use lib.Dec.{leb, ltb, eqb}
+use mathlib.Core.List.{List}
+use Prim.Native.Nat.{ℕ, _+_, _*_, _≤_}
+use lib.Dec.{ltb, eqb}
 use Rattle.map.specs.Places.{widthOf}
-use Rattle.stream.specs.Headers.{parseOf, Ruled}
+use Rattle.header.specs.declared.FujiHeader.{FujiHeader}
+use Rattle.header.specs.declared.Parsed.{Parsed}
+use Rattle.header.specs.declared.Parsed.the-variants as Parsing
+use Rattle.header.specs.declared.Refusal.the-variants.{NoBlock, WrongSize, Lossy, ShortScratch}
 use Rattle.stream.specs.Streams.{openOf}
-use Rattle.stream.specs.declared.FujiHeader.{FujiHeader}
-use Rattle.stream.specs.declared.Parsed.{Parsed}
-use Rattle.stream.specs.declared.Parsed.the-variants as Parsing
-use Rattle.stream.specs.declared.Refusal.the-variants.{NoBlock, WrongSize, Lossy, WrongCount, ShortScratch, Lossless, WrongBases}
 use Rattle.region.specs.Regions.{checkedOf}
 use Rattle.region.specs.declared.Rect.{Rect}
 use Rattle.region.specs.declared.Checked.{Checked}
 use Rattle.region.specs.declared.Checked.the-variants as Check
-use Rattle.steps.specs.Steps.{isInterpolated}
-use Rattle.lines.specs.Sets.{setSize, colourLineAt, positionAt}
 use Rattle.begin.specs.declared.Beginning.{Beginning}
 use Rattle.begin.specs.declared.Beginning.the-variants.{Refused, Nothing, Reading}
 
@@ -107,75 +102,8 @@ readBegins d b samples records = blockBegins false d b samples records
 abbrev pub tightBegins : List ℕ → ℕ → ℕ → ℕ → Parsed
 tightBegins d b samples records = blockBegins true d b samples records
 
--- ---- going on in block b, to fill a region
-
--- refusal 5 before those of the region
-abbrev pub withResumed : Parsed → ℕ → Rect → ℕ → ℕ → ℕ → Beginning
-withResumed (Parsing.Refused x) b r image samples records = Refused x
-withResumed (Parsing.Header h) b r image samples records =
-    cond (ltb b (h .blocks)) (withRegion h (checkedOf h r image) samples records) (Refused NoBlock)
-
-unfoldable pub resumeBegins : List ℕ → ℕ → Rect → ℕ → ℕ → ℕ → Beginning
-resumeBegins d b r image samples records = withResumed (openOf d) b r image samples records
-
--- ---- the writer, for a set of so many samples
-
--- refusals 9 and 10
-abbrev pub withCount : FujiHeader → ℕ → ℕ → ℕ → Parsed
-withCount h count samples records =
-    cond (eqb count (setSize (widthOf (h .xtrans)) (h .lines))) (withScratch h samples records) (Parsing.Refused WrongCount)
-
--- refusal 8 before them
-abbrev pub withSet : FujiHeader → ℕ → ℕ → ℕ → Parsed
-withSet h count samples records = cond (h .lossless) (withCount h count samples records) (Parsing.Refused Lossy)
-
--- after refusals 1 and 2
-abbrev pub withParsed : Parsed → ℕ → ℕ → ℕ → Parsed
-withParsed (Parsing.Refused x) count samples records = Parsing.Refused x
-withParsed (Parsing.Header h) count samples records = withSet h count samples records
-
-unfoldable pub writingBegins : List ℕ → ℕ → ℕ → ℕ → Parsed
-writingBegins d count samples records = withParsed (parseOf d) count samples records
-
--- ---- the lossy writer, with so many bases
-
--- refusal 16 in the place of 8, and 17 after it
-abbrev pub withBases : FujiHeader → ℕ → ℕ → ℕ → ℕ → Parsed
-withBases h bases count samples records =
-    cond (h .lossless)
-    (Parsing.Refused Lossless)
-    (cond (eqb bases (h .lines)) (withCount h count samples records) (Parsing.Refused WrongBases))
-
--- after refusals 1 and 2
-abbrev pub withLossy : Parsed → ℕ → ℕ → ℕ → ℕ → Parsed
-withLossy (Parsing.Refused x) bases count samples records = Parsing.Refused x
-withLossy (Parsing.Header h) bases count samples records = withBases h bases count samples records
-
-unfoldable pub lossyBegins : List ℕ → ℕ → ℕ → ℕ → ℕ → Parsed
-lossyBegins d bases count samples records = withLossy (parseOf d) bases count samples records
-
--- ---- what holds where a set is written
+-- ---- what holds where scratch is long enough
 
 pub record ScratchFits (h : FujiHeader) (samples records : ℕ) : Type 0 where
   pub for-lines : samplesNeeded (h .xtrans) ≤ samples
   pub for-records : recordsNeeded ≤ records
-
-pub record SetFits (h : FujiHeader) (count samples records : ℕ) : Type 0 where
-  pub is-ruled : Ruled h
-  pub size : count ≡ setSize (widthOf (h .xtrans)) (h .lines)
-  pub fits : ScratchFits h samples records
-
--- of a beginning, with the writer or the lossy writer
-abbrev pub FitsOn : Parsed → ℕ → ℕ → ℕ → Type 0
-FitsOn begins count samples records = (h : FujiHeader) → begins ≡ Parsing.Header h → SetFits h count samples records
-
--- ---- refusal 11
-
--- a set that is not held to its predictions has samples that are ignored: those at interpolated positions
-unfoldable pub isIgnored : Bool → Bool → ℕ → Bool
-isIgnored xtrans strict j = not strict && isInterpolated xtrans (colourLineAt (widthOf xtrans) j) (positionAt (widthOf xtrans) j)
-
--- the lowest index, from i on, of a sample above M that is not ignored
-unfoldable pub firstAbove : (ℕ → Bool) → ℕ → ℕ → List ℕ → Option ℕ
-firstAbove ignored M i [] = none
-firstAbove ignored M i (v ∷ t) = cond (leb v M || ignored i) (firstAbove ignored M (suc i) t) (some i)

@@ -3,9 +3,4 @@ pub mod BitLaws
 pub mod RunLaws
 pub mod ListLaws
 pub mod PackLaws
-pub mod PumpOwns
-pub mod PumpMakes
-pub mod PumpPeeks
-pub mod PumpLends
-pub mod Held
 pub mod Values

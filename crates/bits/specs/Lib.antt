@@ -1,4 +1,4 @@
--- The definitions of the bit reader.
+-- The definitions of bits and of positions among them.
 pub mod Bits
 pub mod BitLists
-pub mod Pump
+pub mod Positions

@@ -5,7 +5,7 @@ ghost use lib.Dec.{ltb};
 ghost use lib.ListN.{length, getD};
 ghost use Rattle.bits.specs.Bits.{bitsAt, wordAt, zeroRun, afterRun, be32};
 ghost use Rattle.bits.specs.BitLists.{blockBytes, isTail, filled};
-ghost use Rattle.bits.specs.Pump.{ahead, aligned, nextBits, nextWord, movedTo};
+ghost use Rattle.bits.specs.Positions.{ahead, aligned};
 use numbers::u8_to_u64;
 
 // A place in a block, counted in bits from its start.
@@ -130,7 +130,7 @@ fn window(s: &[u8], at: ByteOffset) -> u64
 }
 
 // The bits from `at` on, at the top of a word: 57 of them or more, and zeros below. 0 where fewer than eight bytes are left.
-fn word_at(s: &[u8], at: BitPosition) -> u64
+pub fn word_at(s: &[u8], at: BitPosition) -> u64
     ensures { λ r. ⌜ r ≡ wordAt (now (s .entry)) (at .0) ⌝ }
 {
     let from = at.byte();
@@ -196,14 +196,14 @@ pub fn fill_tail(out: &mut [u8], at: BitPosition)
 }
 
 // The position behind the next n bits, 32 at most.
-fn past(at: BitPosition, n: u32) -> BitPosition
+pub fn past(at: BitPosition, n: u32) -> BitPosition
     ensures { λ r. ⌜ r .0 ≡ ahead (at .0) (min n 32) ⌝ }
 {
     at.ahead(counted(n))
 }
 
 // The zero bits from `at` up to the next one bit of the block. Runs are counted in 64 bits: no run of a block is too long.
-fn zero_run(s: &[u8], at: BitPosition) -> ZeroRun
+pub fn zero_run(s: &[u8], at: BitPosition) -> ZeroRun
     requires { ⌜ length (now s) < 2 ^ 58 ⌝ }
     ensures { λ r. ⌜ r ≡ zeroRun (now (s .entry)) (at .0) ⌝ }
 {
@@ -221,106 +221,12 @@ fn zero_run(s: &[u8], at: BitPosition) -> ZeroRun
 }
 
 // The position behind the one bit of a run, or `at` where there is none.
-fn after_run(at: BitPosition, run: ZeroRun) -> BitPosition
+pub fn after_run(at: BitPosition, run: ZeroRun) -> BitPosition
     requires { ⌜ afterRun (at .0) run < 2 ^ 64 ⌝ }
     ensures { λ r. ⌜ r .0 ≡ afterRun (at .0) run ⌝ }
 {
     match run {
         ZeroRun::One(zeros) => BitPosition(at.0 + zeros + 1),
         ZeroRun::None => at,
-    }
-}
-
-// A reader of a block's bits: its bytes, and the position of the next bit. Its functions are thin: each takes it apart and calls a function
-// on the bytes and the position.
-pub struct BitPumpMsb<'a> {
-    pub data: &'a [u8],
-    pub at: BitPosition,
-}
-
-impl<'a> BitPumpMsb<'a> {
-    // A pump at the block's first bit.
-    pub fn new(data: &'a [u8]) -> Self
-        ensures { λ r. ⌜ (r .«data» ≡ «data» .entry) × (r .at .0 ≡ 0) ⌝ }
-    {
-        BitPumpMsb {
-            data,
-            at: BitPosition(0),
-        }
-    }
-
-    // A pump at any bit, past the block's end too.
-    pub fn at_bit(data: &'a [u8], at: BitPosition) -> Self
-        ensures { λ r. ⌜ (r .«data» ≡ «data» .entry) × (r .at ≡ at) ⌝ }
-    {
-        BitPumpMsb { data, at }
-    }
-
-    // The next n bits. A count above 32 is taken as 32.
-    pub fn peek(&self, n: u32) -> u32
-        ensures { λ r. ⌜ r ≡ nextBits (now (self .entry)) n ⌝ }
-    {
-        peek_at(self.data, self.at, n)
-    }
-
-    // All bits that one load has: the next 57 or more, at the top of a word, or 0 where fewer than eight bytes are left. It takes the pump by value, so that
-    // a pump made for it need not lie in memory.
-    pub fn peek_word(self) -> u64
-        ensures { λ r. ⌜ r ≡ nextWord (self .entry) ⌝ }
-    {
-        word_at(self.data, self.at)
-    }
-
-    // Moves on by n bits, any number of them.
-    pub fn skip(&mut self, n: u32)
-        ensures { λ _. ⌜ now (self .exit) ≡ movedTo (now (self .entry)) (ahead (now (self .entry) .at .0) n) ⌝ }
-    {
-        self.at = self.at.ahead(n);
-    }
-
-    // The next n bits, and moves on past them. A count above 32 is taken as 32.
-    pub fn get(&mut self, n: u32) -> u32
-        ensures { λ r.
-            ⌜ (r ≡ nextBits (now (self .entry)) n)
-            × (now (self .exit) ≡ movedTo (now (self .entry)) (ahead (now (self .entry) .at .0) (min n 32))) ⌝ }
-    {
-        let at = self.at;
-        let v = peek_at(self.data, at, n);
-        self.at = past(at, n);
-        v
-    }
-
-    // The zeros up to the next one bit, and moves on past that bit. Where none is left it stays.
-    pub fn zero_run(&mut self) -> ZeroRun
-        requires { ⌜ length (now (now self .«data»)) < 2 ^ 58 ⌝ }
-        ensures { λ r.
-            ⌜ (r ≡ zeroRun (now (now (self .entry) .«data»)) (now (self .entry) .at .0))
-            × (now (self .exit) ≡ movedTo (now (self .entry)) (afterRun (now (self .entry) .at .0) r)) ⌝ }
-    {
-        let at = self.at;
-        let run = zero_run(self.data, at);
-        self.at = after_run(at, run);
-        run
-    }
-
-    // The bits before the next one, from the block's first on.
-    pub fn bit_position(&self) -> BitPosition
-        ensures { λ r. ⌜ r ≡ now (self .entry) .at ⌝ }
-    {
-        self.at
-    }
-
-    // The bytes that they take, the last of them counted whole.
-    pub fn byte_position(&self) -> ByteOffset
-        ensures { λ r. ⌜ r .0 ≡ (now (self .entry) .at .0 + 7) / 8 ⌝ }
-    {
-        self.at.bytes()
-    }
-
-    // Moves on to where the next byte begins.
-    pub fn align_byte(&mut self)
-        ensures { λ _. ⌜ now (self .exit) ≡ movedTo (now (self .entry)) (aligned (now (self .entry) .at .0)) ⌝ }
-    {
-        self.at = self.at.aligned();
     }
 }

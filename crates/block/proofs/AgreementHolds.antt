@@ -9,10 +9,10 @@ use lib.Dec.{ltb, leb}
 use lib.ListN.{length, getD}
 use Rattle.map.proofs.PartLaws.{by-test, never}
 use Rattle.stream.specs.Streams.{openOf}
-use Rattle.stream.specs.declared.FujiHeader.{FujiHeader}
-use Rattle.stream.specs.declared.Parsed.{Parsed}
-use Rattle.stream.specs.declared.Parsed.the-variants as Parsing
-use Rattle.stream.specs.declared.Refusal.the-variants.{ShortScratch}
+use Rattle.header.specs.declared.FujiHeader.{FujiHeader}
+use Rattle.header.specs.declared.Parsed.{Parsed}
+use Rattle.header.specs.declared.Parsed.the-variants as Parsing
+use Rattle.header.specs.declared.Refusal.the-variants.{ShortScratch}
 use Rattle.region.specs.Regions.{blockOf, lastBlock, checkedOf}
 use Rattle.region.specs.declared.Rect.{Rect}
 use Rattle.region.specs.declared.Checked.{Checked}

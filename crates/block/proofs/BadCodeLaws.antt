@@ -19,14 +19,18 @@ use Rattle.code.specs.declared.Code.{Code}
 use Rattle.code.specs.declared.Coded.{Coded}
 use Rattle.code.specs.declared.Coded.the-variants.{Read, Truncated}
 use Rattle.code.proofs.CodeLaws.{code-cases}
-use Rattle.steps.specs.Steps.{Step, planOf, passSteps}
-use Rattle.steps.specs.Contexts.{stepPlace, stepContext, stepLook, stepSlot}
+use Rattle.schedule.specs.Steps.{Step, planOf, passSteps}
+use Rattle.schedule.specs.Steps.{stepPlace}
+use Rattle.steps.specs.Contexts.{stepContext, stepLook, stepSlot}
 use Rattle.pass.specs.Readings.{Reading, interpolate, takeCode, taken, readStep, andThen, reads, readPass, stepCode}
-use Rattle.steps.specs.declared.Plan.{Plan}
+use Rattle.schedule.specs.declared.Plan.{Plan}
 use Rattle.map.specs.Places.{widthOf}
 use Rattle.block.specs.Records.{baseOf}
 use Rattle.block.specs.Blocks.{State, runs, enter, leave, passAt, endLine, readLine, beforeLine, readLineAt, startState, readLines, tightIn}
-use Rattle.block.specs.BadCodes.{Reason, too-large, too-many-zeros, short-fits, reasonOf, codedReason, stepReason}
+use Rattle.bad_code.specs.declared.Reason.{Reason}
+use Rattle.bad_code.specs.declared.Reason.the-variants.{Large, Zeros, Escape}
+use Rattle.bad_code.specs.Reasons.{reasonOf, codedReason}
+use Rattle.block.specs.BadCodes.{stepReason}
 use Rattle.block.specs.BadCodes.{BadCode, badAt, badInSteps, firstFound, badInPass, badInLine, firstBad}
 use Rattle.block.specs.BadSpots.{stepK, stepQuantiser, BadStep, BadIn}
 use Rattle.block.specs.declared.Form.{Form}
@@ -97,9 +101,9 @@ code-stays M s p k limit raw c t e =
 abbrev reasonAt : List ℕ → Option Reason
 reasonAt s = codedReason 16383 8 41 (codeAt s 0 8 41 14)
 
-pub examples : (reasonAt (0xFF ∷ 0x80 ∷ []) ≡ none) × (reasonAt (0 ∷ 0 ∷ 0 ∷ 0 ∷ 0 ∷ 0x40 ∷ 0 ∷ []) ≡ some short-fits)
-    × (reasonAt (0 ∷ 0 ∷ 0 ∷ 0 ∷ 0 ∷ 0x20 ∷ 0 ∷ []) ≡ some short-fits) × (reasonAt (0 ∷ 0 ∷ 0 ∷ 0 ∷ 0 ∷ 0x3F ∷ 0 ∷ []) ≡ some too-many-zeros)
-    × (reasonAt (0 ∷ 0 ∷ 0 ∷ 0 ∷ 0 ∷ 0x7F ∷ 0xFF ∷ []) ≡ some too-large)
+pub examples : (reasonAt (0xFF ∷ 0x80 ∷ []) ≡ none) × (reasonAt (0 ∷ 0 ∷ 0 ∷ 0 ∷ 0 ∷ 0x40 ∷ 0 ∷ []) ≡ some Escape)
+    × (reasonAt (0 ∷ 0 ∷ 0 ∷ 0 ∷ 0 ∷ 0x20 ∷ 0 ∷ []) ≡ some Escape) × (reasonAt (0 ∷ 0 ∷ 0 ∷ 0 ∷ 0 ∷ 0x3F ∷ 0 ∷ []) ≡ some Zeros)
+    × (reasonAt (0 ∷ 0 ∷ 0 ∷ 0 ∷ 0 ∷ 0x7F ∷ 0xFF ∷ []) ≡ some Large)
 unfolding bitAt bitsAt zeros zeroRun codeAt reasonOf
 examples = (refl, refl, refl, refl, refl)
 

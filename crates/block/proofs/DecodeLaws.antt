@@ -13,8 +13,8 @@ use Rattle.numbers.proofs.OrderLaws.{cond-le}
 use Rattle.map.specs.Places.{pictureRow, imageColumn, inRows, emittedSample, Changed}
 use Rattle.map.specs.declared.Part.{Part}
 use Rattle.map.proofs.PartLaws.{by-test, not-in}
-use Rattle.stream.specs.declared.FujiHeader.{FujiHeader}
-use Rattle.stream.specs.declared.Refusal.the-variants.{Truncated}
+use Rattle.header.specs.declared.FujiHeader.{FujiHeader}
+use Rattle.header.specs.declared.Refusal.the-variants.{Truncated}
 use Rattle.region.specs.Regions.{blockOf, firstBlock, bottomOf, partIn, lineCount, Accepted}
 use Rattle.region.specs.declared.Rect.{Rect}
 use Rattle.region.proofs.RegionLaws.{InColumns, one-block, lines-cover, row-inside}

@@ -11,7 +11,7 @@ use Rattle.totals.specs.declared.Totals.{Totals}
 use Rattle.totals.specs.declared.TightLines.{TightLines}
 use Rattle.map.specs.Places.{widthOf, pictureRow, inRows, emittedSample, Changed, Emitted}
 use Rattle.map.specs.Rows.{RowsPut}
-use Rattle.map.specs.Windows.{LineZeroed}
+use Rattle.zero_rows.specs.Zeros.{LineZeroed}
 use Rattle.map.specs.declared.Part.{Part}
 use Rattle.map.proofs.PartLaws.{InRows, by-test, put-none, put-same, put-join}
 use Rattle.block.specs.Blocks.{State, startState, readFrom, linesOf}

@@ -13,18 +13,19 @@ use Rattle.code.specs.declared.Place.{Place}
 use Rattle.statistics.specs.declared.Record.{Record}
 use Rattle.lines.specs.ColourLines.{guarded, entered}
 use Rattle.map.specs.Places.{widthOf, inRows, emittedSample, Fits}
-use Rattle.map.specs.Windows.{colourOf, PassEmitted}
+use Rattle.emit.specs.Windows.{colourOf, PassEmitted}
 use Rattle.map.specs.declared.Part.{Part}
 use Rattle.map.proofs.PartLaws.{by-test}
-use Rattle.steps.specs.Values.{recordsOf, PlanInRange}
+use Rattle.schedule.specs.Steps.{PlanInRange}
+use Rattle.steps.specs.Values.{recordsOf}
 use Rattle.pass.specs.Readings.{Reading, readPass, andThen}
 use Rattle.pass.specs.Pairs.{readingAt, begun, IsPassed}
 use Rattle.pass.specs.Windows.{windowLine, placed, windowPlan}
-use Rattle.steps.specs.Steps.{planOf}
+use Rattle.schedule.specs.Steps.{planOf}
 use Rattle.pass.specs.declared.Passed.{Passed}
-use Rattle.steps.specs.declared.Plan.{Plan}
+use Rattle.schedule.specs.declared.Plan.{Plan}
 use Rattle.steps.specs.declared.Set.{Set}
-use Rattle.steps.proofs.ScheduleLaws.{plan-in-range}
+use Rattle.schedule.proofs.ScheduleLaws.{plan-in-range}
 use Rattle.pass.proofs.SiteLaws.{pass-was-cut-off, pass-was-read}
 use Rattle.pass.proofs.WindowLaws.{Alike, alike-none, alike-some}
 use Rattle.block.specs.Blocks.{State, runs, enter, leave, passAt, readLine}

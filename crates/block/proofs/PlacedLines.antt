@@ -10,12 +10,12 @@ use lib.Dec.{eqb}
 use lib.ListN.{getD}
 use Rattle.numbers.proofs.OrderLaws.{split}
 use Rattle.map.specs.Places.{colourLine, placeIn, widthOf, pictureRow, inRows, emittedSample, Changed, Fits}
-use Rattle.map.specs.Windows.{blockColumn, cellOf, colourOf, windowSample, PassEmitted}
+use Rattle.emit.specs.Windows.{blockColumn, cellOf, colourOf, windowSample, PassEmitted}
 use Rattle.map.specs.declared.Part.{Part}
 use Rattle.map.proofs.PartLaws.{by-test, never, in-rows}
 use Rattle.map.proofs.PlaceLaws.{place-lt}
-use Rattle.map.proofs.WindowLaws.{sample-of-colour}
-use Rattle.steps.specs.declared.Plan.{Plan}
+use Rattle.emit.proofs.WindowLaws.{sample-of-colour}
+use Rattle.schedule.specs.declared.Plan.{Plan}
 use Rattle.block.specs.WindowedLines.{OnlyLine}
 use Rattle.block.proofs.WindowTwins.{Two}
 

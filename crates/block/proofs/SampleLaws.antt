@@ -12,8 +12,8 @@ use Rattle.quantiser.specs.Quantisers.{largest}
 use Rattle.lines.specs.ColourLines.{leftGuard, guarded, moved, turned}
 use Rattle.map.specs.Places.{widthOf}
 use Rattle.pass.specs.Readings.{Reading, readPass}
-use Rattle.steps.specs.Steps.{planOf}
-use Rattle.steps.specs.declared.Plan.{Plan}
+use Rattle.schedule.specs.Steps.{planOf}
+use Rattle.schedule.specs.declared.Plan.{Plan}
 use Rattle.steps.proofs.ContextLaws.{AllLe}
 use Rattle.pass.proofs.RangeLaws.{pass-keeps}
 use Rattle.steps.proofs.ZipLaws.{set-keeps}

@@ -12,8 +12,8 @@ use Rattle.numbers.proofs.LeastLaws.{Least, least, least-is}
 use Rattle.numbers.proofs.OrderLaws.{split}
 use Rattle.map.specs.Places.{Changed}
 use Rattle.map.specs.declared.Part.{Part}
-use Rattle.stream.specs.declared.FujiHeader.{FujiHeader}
-use Rattle.stream.specs.declared.Refusal.the-variants.{NoEntry}
+use Rattle.header.specs.declared.FujiHeader.{FujiHeader}
+use Rattle.header.specs.declared.Refusal.the-variants.{NoEntry}
 use Rattle.region.specs.Regions.{firstBlock, lastBlock, lineCount, partIn, Accepted}
 use Rattle.region.specs.declared.Rect.{Rect}
 use Rattle.cameras.specs.Entries.{linesWithEntry, afterLines, takingLines, isStopped}

@@ -9,7 +9,7 @@ use borrow.Author.Tests.{lt-ltb, le-ltb}
 use Rattle.bits.specs.BitLists.{isTail}
 use Rattle.totals.specs.declared.Totals.{Totals}
 use Rattle.totals.specs.declared.TightLines.{TightLines}
-use Rattle.stream.specs.declared.Refusal.the-variants.{Truncated, NotTight}
+use Rattle.header.specs.declared.Refusal.the-variants.{Truncated, NotTight}
 use Rattle.block.specs.Blocks.{readLines, totalsAfter}
 use Rattle.block.specs.Walks.{ReadAll, CutAt, IsWalked}
 use Rattle.block.specs.Images.{linesRead, blockAnswer}

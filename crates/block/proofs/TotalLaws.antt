@@ -17,14 +17,15 @@ use Rattle.code.specs.declared.Code.{Code}
 use Rattle.code.specs.declared.Coded.{Coded}
 use Rattle.code.specs.declared.Coded.the-variants as Coding
 use Rattle.code.proofs.CodeLaws.{code-shape}
-use Rattle.steps.specs.Steps.{Step, planOf, passSteps}
-use Rattle.steps.specs.Contexts.{usedQuantiser, noRecord, stepPlace, stepContext, stepLook, stepSlot}
+use Rattle.schedule.specs.Steps.{Step, planOf, passSteps}
+use Rattle.schedule.specs.Steps.{stepPlace}
+use Rattle.steps.specs.Contexts.{usedQuantiser, noRecord, stepContext, stepLook, stepSlot}
 use Rattle.steps.specs.declared.Look.{Look}
-use Rattle.steps.specs.declared.Plan.{Plan}
+use Rattle.schedule.specs.declared.Plan.{Plan}
 use Rattle.pass.specs.Readings.{Reading, interpolate, taken, stepCode, readStep, andThen, reads, readPass}
 use Rattle.totals.specs.declared.Totals.{Totals}
 use Rattle.bits.specs.BitLists.{isTail}
-use Rattle.stream.specs.declared.Refusal.the-variants.{Truncated}
+use Rattle.header.specs.declared.Refusal.the-variants.{Truncated}
 use Rattle.map.specs.Places.{widthOf}
 use Rattle.block.specs.Records.{baseOf}
 use Rattle.block.specs.Blocks.{State, runs, enter, leave, passAt, endLine, readLine, beforeLine, readLineAt, startState, readLines, totalsAfter}

@@ -16,8 +16,8 @@ use Rattle.lines.proofs.LineLaws.{length-guarded}
 use Rattle.lines.proofs.MoveLaws.{guard-leaves, turned-at}
 use Rattle.map.specs.Places.{widthOf}
 use Rattle.map.proofs.PartLaws.{by-test}
-use Rattle.steps.specs.Steps.{planOf}
-use Rattle.steps.specs.declared.Plan.{Plan}
+use Rattle.schedule.specs.Steps.{planOf}
+use Rattle.schedule.specs.declared.Plan.{Plan}
 use Rattle.steps.proofs.KLaws.{zeros}
 use Rattle.pass.specs.Readings.{Reading, readPass}
 use Rattle.pass.specs.Pairs.{readingAt}

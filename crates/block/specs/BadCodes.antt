@@ -1,44 +1,21 @@
--- Bad codes: why a code is not tight, and the first such code of a block, in coding order. Assumes nothing.
-use mathlib.Core.Bool.{cond, _&&_}
+-- Bad codes: the first code of a block that is not tight, in coding order. Why it is not is in Reasons of `bad_code`. Assumes nothing.
+use mathlib.Core.Bool.{cond}
 use mathlib.Core.List.{List, [], _∷_}
 use mathlib.Core.Option.{Option, none, some, Option·map, orElse}
-use Prim.Native.Nat.{ℕ, zero, suc, _/_, _^_}
-use lib.Dec.{leb, ltb}
+use Prim.Native.Nat.{ℕ, zero, suc}
 use lib.ListN.{getD}
 use Rattle.bits.specs.declared.BitPosition.{BitPosition}
 use Rattle.statistics.specs.Statistics.{kOf}
 use Rattle.quantiser.specs.Quantisers.{largest}
-use Rattle.code.specs.declared.Code.{Code}
-use Rattle.code.specs.declared.Coded.{Coded}
-use Rattle.code.specs.declared.Coded.the-variants.{Read, Truncated}
-use Rattle.steps.specs.Steps.{Step, planOf, passSteps}
+use Rattle.bad_code.specs.declared.Reason.{Reason}
+use Rattle.bad_code.specs.Reasons.{codedReason}
+use Rattle.schedule.specs.Steps.{Step, planOf, passSteps}
 use Rattle.steps.specs.Contexts.{usedQuantiser, noRecord, stepLook, stepSlot}
 use Rattle.pass.specs.Readings.{Reading, readStep, andThen, stepCode}
 use Rattle.map.specs.Places.{widthOf}
 use Rattle.block.specs.Records.{baseOf}
 use Rattle.block.specs.Blocks.{State, runs, enter, passAt, beforeLine, readLineAt, startState}
 use Rattle.block.specs.declared.Form.{Form}
-
--- ---- one code
-
--- why a code is bad: it is 2^bits or more; it is long where the short form fits; it has more zeros than the limit
-pub data Reason : Type 0 where
-  too-large : Reason
-  short-fits : Reason
-  too-many-zeros : Reason
-
--- the reason of a code that was read; none if it is tight. Where two apply, the one that stands first above is given. A code is long when its zeros
--- reach the limit, and the short form fits if ⌊code/2^k⌋ is below the limit
-unfoldable pub reasonOf : ℕ → ℕ → ℕ → Code → Option Reason
-reasonOf M k limit c =
-    cond (ltb M (c .value)) (some too-large)
-    (cond (leb limit (c .zeros) && ltb (c .value / 2 ^ k) limit) (some short-fits)
-    (cond (ltb limit (c .zeros)) (some too-many-zeros) none))
-
--- a code that is cut off is not called bad
-abbrev pub codedReason : ℕ → ℕ → ℕ → Coded → Option Reason
-codedReason M k limit (Read c) = reasonOf M k limit c
-codedReason M k limit Truncated = none
 
 -- ---- the steps of a pass
 

@@ -12,13 +12,14 @@ use Rattle.code.specs.Codes.{codeAt}
 use Rattle.code.specs.Tight.{isTight}
 use Rattle.code.specs.declared.Code.{Code}
 use Rattle.code.specs.declared.Coded.the-variants.{Read}
-use Rattle.steps.specs.Steps.{Step, planOf, passSteps}
+use Rattle.schedule.specs.Steps.{Step, planOf, passSteps}
 use Rattle.steps.specs.Contexts.{usedQuantiser, noRecord, stepLook, stepSlot}
 use Rattle.pass.specs.Readings.{Reading, reads}
 use Rattle.map.specs.Places.{widthOf}
 use Rattle.block.specs.Records.{baseOf}
 use Rattle.block.specs.Blocks.{State, runs, enter, passAt, beforeLine, readLines}
-use Rattle.block.specs.BadCodes.{reasonOf, BadCode}
+use Rattle.bad_code.specs.Reasons.{reasonOf}
+use Rattle.block.specs.BadCodes.{BadCode}
 use Rattle.block.specs.declared.Form.{Form}
 
 -- the k of a step's code, and its quantiser

@@ -3,9 +3,9 @@ use mathlib.Core.List.{List, []}
 use mathlib.Core.Path.{_≡_}
 use Prim.Native.Nat.{ℕ}
 use lib.ListN.{length}
-use Rattle.stream.specs.declared.FujiHeader.{FujiHeader}
-use Rattle.stream.specs.declared.Parsed.{Parsed}
-use Rattle.stream.specs.declared.Parsed.the-variants as Parsing
+use Rattle.header.specs.declared.FujiHeader.{FujiHeader}
+use Rattle.header.specs.declared.Parsed.{Parsed}
+use Rattle.header.specs.declared.Parsed.the-variants as Parsing
 use Rattle.begin.specs.Beginnings.{readBegins, tightBegins}
 use Rattle.block.specs.Images.{formOf, bytesIn, basesIn, blockAnswer}
 use Rattle.block.specs.Lent.{Scratch, clearedLines, clearedRecords}

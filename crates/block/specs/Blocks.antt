@@ -7,12 +7,12 @@ use lib.Dec.{leb, eqb}
 use lib.ListN.{length}
 use Rattle.bits.specs.declared.BitPosition.{BitPosition}
 use Rattle.statistics.specs.declared.Record.{Record}
-use Rattle.steps.specs.Steps.{planOf}
+use Rattle.schedule.specs.Steps.{planOf}
 use Rattle.totals.specs.Totals.{noTotals}
 use Rattle.totals.specs.declared.Totals.{Totals}
 use Rattle.totals.specs.declared.TightLines.{TightLines}
 use Rattle.pass.specs.Readings.{Reading, readPass, andThen}
-use Rattle.steps.specs.declared.Plan.{Plan}
+use Rattle.schedule.specs.declared.Plan.{Plan}
 use Rattle.map.specs.Places.{widthOf}
 use Rattle.block.specs.Records.{baseOf, setOf, putSet}
 use Rattle.block.specs.Between.{linesAtStart, recordsAtStart, linesBefore, recordsBefore, linesEntered}

@@ -7,9 +7,10 @@ use Prim.Native.Nat.{ℕ, zero, suc, _+_, _-_, _*_, _/_, _%_}
 use lib.Dec.{ltb}
 use lib.ListN.{getD}
 use Rattle.map.specs.Places.{widthOf, sampleIndex, Changed}
-use Rattle.stream.specs.Streams.{rangeOf, rowOf, partOf}
-use Rattle.stream.specs.declared.FujiHeader.{FujiHeader}
-use Rattle.stream.specs.declared.Refusal.the-variants.{Truncated}
+use Rattle.stream.specs.Streams.{rangeOf, rowOf}
+use Rattle.ranges.specs.Ranges.{partOf}
+use Rattle.header.specs.declared.FujiHeader.{FujiHeader}
+use Rattle.header.specs.declared.Refusal.the-variants.{Truncated}
 use Rattle.region.specs.Regions.{blockOf, firstBlock, lastBlock, lineCount}
 use Rattle.region.specs.declared.Rect.{Rect}
 use Rattle.begin.specs.declared.Beginning.{Beginning}

@@ -7,8 +7,8 @@ use Prim.Native.Nat.{ℕ, zero, suc, _+_, _-_, _*_}
 use lib.Dec.{ltb, eqb}
 use Rattle.numbers.specs.Numbers.{leastFrom}
 use Rattle.map.specs.Places.{Changed}
-use Rattle.stream.specs.declared.FujiHeader.{FujiHeader}
-use Rattle.stream.specs.declared.Refusal.the-variants.{NoEntry}
+use Rattle.header.specs.declared.FujiHeader.{FujiHeader}
+use Rattle.header.specs.declared.Refusal.the-variants.{NoEntry}
 use Rattle.region.specs.Regions.{blockOf, firstBlock, lastBlock, lineCount}
 use Rattle.region.specs.declared.Rect.{Rect}
 use Rattle.cameras.specs.Entries.{linesWithEntry, afterLines, takingLines, isStopped, handedBack, mended}

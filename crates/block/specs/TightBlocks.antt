@@ -8,7 +8,7 @@ use lib.Dec.{ltb}
 use lib.ListN.{getD}
 use Rattle.bits.specs.BitLists.{isTail}
 use Rattle.map.specs.Places.{widthOf}
-use Rattle.stream.specs.declared.Refusal.the-variants.{Truncated, NotTight}
+use Rattle.header.specs.declared.Refusal.the-variants.{Truncated, NotTight}
 use Rattle.lines.specs.Sets.{setSize, lineAt, colourLineAt, positionAt}
 use Rattle.block.specs.Records.{table}
 use Rattle.block.specs.Blocks.{State, readLines, linesOf}

@@ -9,14 +9,14 @@ use Rattle.numbers.specs.Numbers.{flag}
 use Rattle.code.specs.declared.Code.{Code}
 use Rattle.code.specs.declared.Coded.{Coded}
 use Rattle.code.specs.declared.Coded.the-variants as Coding
-use Rattle.steps.specs.Steps.{Step, planOf, passSteps}
+use Rattle.schedule.specs.Steps.{Step, planOf, passSteps}
 use Rattle.steps.specs.Contexts.{usedQuantiser, stepLook}
 use Rattle.pass.specs.Readings.{Reading, readStep, stepCode}
 use Rattle.totals.specs.Totals.{noTotals}
 use Rattle.totals.specs.declared.Totals.{Totals}
 use Rattle.map.specs.Places.{widthOf}
-use Rattle.stream.specs.Refusals.{meaningOf, orZero}
-use Rattle.stream.specs.declared.Refusal.{Refusal}
+use Rattle.header.specs.Refusals.{meaningOf, orZero}
+use Rattle.header.specs.declared.Refusal.{Refusal}
 use Rattle.block.specs.Records.{baseOf}
 use Rattle.block.specs.Blocks.{State, runs, enter, passAt, beforeLine, readLineAt, startState, readLines, totalsAfter}
 use Rattle.block.specs.Images.{walkedAnswer}

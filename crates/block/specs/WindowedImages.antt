@@ -7,7 +7,7 @@ use Prim.Native.Nat.{ℕ, _+_, _-_, _*_}
 use lib.Dec.{ltb, leb}
 use lib.ListN.{replicate, drop}
 use Rattle.map.specs.Places.{widthOf, Changed}
-use Rattle.stream.specs.declared.FujiHeader.{FujiHeader}
+use Rattle.header.specs.declared.FujiHeader.{FujiHeader}
 use Rattle.region.specs.Regions.{blockOf, firstBlock, lastBlock}
 use Rattle.region.specs.declared.Rect.{Rect}
 use Rattle.begin.specs.declared.Beginning.{Beginning}

@@ -12,12 +12,12 @@ use Rattle.statistics.specs.declared.Record.{Record}
 use Rattle.totals.specs.declared.Totals.{Totals}
 use Rattle.totals.specs.declared.TightLines.{TightLines}
 use Rattle.map.specs.Places.{widthOf, pictureRow, inRows, emittedSample, Changed}
-use Rattle.map.specs.Windows.{PassEmitted}
+use Rattle.emit.specs.Windows.{PassEmitted}
 use Rattle.map.specs.declared.Part.{Part}
 use Rattle.pass.specs.Windows.{windowPlan}
-use Rattle.steps.specs.Steps.{planOf}
+use Rattle.schedule.specs.Steps.{planOf}
 use Rattle.steps.specs.declared.Quantisers.{Quantisers}
-use Rattle.stream.specs.declared.FujiHeader.{FujiHeader}
+use Rattle.header.specs.declared.FujiHeader.{FujiHeader}
 use Rattle.region.specs.declared.Rect.{Rect}
 use Rattle.begin.specs.Beginnings.{samplesNeeded, recordsNeeded}
 use Rattle.block.specs.Blocks.{State, readLine, readFrom, totalsIn, tightOf}

@@ -2,10 +2,10 @@
 use mathlib.Core.List.{List, [], _∷_}
 use mathlib.Core.Path.{_≡_}
 use Prim.Native.Nat.{ℕ}
-use Rattle.stream.specs.Refusals.{refusalWords, noRefusal}
+use Rattle.header.specs.Refusals.{refusalWords, noRefusal}
 use Rattle.region.specs.declared.Rect.{Rect}
 use Rattle.totals.specs.declared.Totals.{Totals}
-use Rattle.cameras.specs.Words.{entriesIn, AreWords}
+use Rattle.entry_words.specs.Words.{entriesIn, AreWords}
 use Rattle.cameras.specs.declared.Camera.{Camera}
 use Rattle.cameras.specs.declared.Entry.{Entry}
 use Rattle.begin.specs.declared.Beginning.{Beginning}

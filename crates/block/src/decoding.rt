@@ -8,7 +8,7 @@ ghost use Rattle.block.specs.Lent.{Buffers};
 ghost use Rattle.block.specs.WindowedImages.{LeftWindowed};
 ghost use Rattle.block.specs.WindowedLines.{ScratchIn, zerosIn, PicturedIn};
 ghost use Rattle.stream.specs.Streams.{openOf};
-ghost use Rattle.stream.specs.declared.Parsed.the-variants.{Header};
+ghost use Rattle.header.specs.declared.Parsed.the-variants.{Header};
 ghost use Rattle.region.specs.Regions.{firstBlock, lastBlock, Accepted};
 ghost use Rattle.begin.specs.Beginnings.{regionBegins, windowedBegins, wholeOf, imageBegins};
 use crate::Decoded;
@@ -16,11 +16,11 @@ use crate::Walked;
 use crate::form_of;
 use crate::reading::walk;
 use begin::Beginning;
+use header::FujiHeader;
+use header::Refusal;
 use map::width;
 use region::Rect;
 use statistics::Record;
-use stream::FujiHeader;
-use stream::Refusal;
 
 // The answer after block b: that of the blocks before it, if one of them failed.
 pub(crate) fn judged(before: Decoded, b: usize, got: Walked) -> Decoded

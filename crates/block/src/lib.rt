@@ -4,8 +4,8 @@ ghost use Rattle.block.specs.Images.{formOf};
 ghost use Rattle.block.specs.Words.{answerWords};
 use cameras::Entries;
 use code::Place;
-use stream::FujiHeader;
-use stream::Refusal;
+use header::FujiHeader;
+use header::Refusal;
 use totals::TightLines;
 use totals::Totals;
 
@@ -91,6 +91,6 @@ pub fn answer_words(a: Decoded) -> [usize; 4]
 {
     match a {
         Decoded::Done => [0; 4],
-        Decoded::Refused(r) => stream::refusal_words(r),
+        Decoded::Refused(r) => words::refusal_words(r),
     }
 }

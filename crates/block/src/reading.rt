@@ -22,13 +22,13 @@ use crate::records::store_set;
 use bits::BitPosition;
 use bits::is_past;
 use cameras::Entries;
-use cameras::base_of;
 use code::Place;
 use map::Part;
 use map::width;
 use quantiser::Quantiser;
 use statistics::Record;
 use steps::Quantisers;
+use taking::base_of;
 use totals::TightLines;
 use totals::Totals;
 
@@ -70,7 +70,7 @@ fn quantisers_in(entries: Entries, bits: u32, base: u32) -> Quantisers
     requires { ⌜ AllNumbered (entries .all) ⌝ }
     ensures { λ r. ⌜ r ≡ quantisersOf bits base ⌝ }
 {
-    quantisers_with(cameras::main_in(entries, bits, base), bits, base)
+    quantisers_with(taking::main_in(entries, bits, base), bits, base)
 }
 
 // Where a block starts.
@@ -121,9 +121,9 @@ fn emit_pass_at(
     requires { ⌜ ArePlaces (now places) × Fits part (now image) ⌝ }
     ensures { λ _. ⌜ PassPlaced windowed xtrans w tile (now (lines .entry)) part n i (now (image .entry)) (now (image .exit)) ⌝ }
 {
-    let p = steps::plan_at(i, xtrans);
+    let p = schedule::plan_at(i, xtrans);
     let h = pass::window_plan(p, windowed);
-    map::emit_pass(
+    emit::emit_pass(
         lines,
         image,
         w,
@@ -171,7 +171,7 @@ fn line(
     let mut place = from;
     let mut i: usize = 0;
     while i < 6 {
-        let p = steps::plan_at(i, xtrans);
+        let p = schedule::plan_at(i, xtrans);
         let h = pass::window_plan(p, windowed);
         lines::enter(lines, w, h.first, h.second, windowed);
         let set = load_set(rs, p.set);
@@ -248,12 +248,12 @@ pub fn read_lines(
             windowed,
         );
         let Lined::Read(after) = got else {
-            map::zero_line(image, part, n, windowed);
+            zero_rows::zero_line(image, part, n, windowed);
             return Walked::Truncated(n, totals_at(place));
         };
         place = after;
         tight_lines = totals::with_line(tight_lines, i, place.tight, totals_at(place));
-        map::emit_line_if(lines, image, w, xtrans, places, tile, part, n, !windowed);
+        emit::emit_line_if(lines, image, w, xtrans, places, tile, part, n, !windowed);
         i = i + 1;
     }
     Walked::Read(totals_at(place), tight_lines)

@@ -2,7 +2,7 @@
 ghost use mathlib.Core.Path.{_≡_};
 ghost use lib.ListN.{length};
 ghost use Rattle.stream.specs.Streams.{openOf};
-ghost use Rattle.stream.specs.declared.Parsed.the-variants.{Header};
+ghost use Rattle.header.specs.declared.Parsed.the-variants.{Header};
 ghost use Rattle.region.specs.Regions.{Accepted};
 ghost use Rattle.cameras.specs.Entries.{mended, handedBack, AllNumbered};
 ghost use Rattle.begin.specs.Beginnings.{regionBegins};
@@ -21,10 +21,10 @@ use crate::reading::walk;
 use begin::Beginning;
 use cameras::Camera;
 use cameras::Entries;
+use header::FujiHeader;
+use header::Refusal;
 use region::Rect;
 use statistics::Record;
-use stream::FujiHeader;
-use stream::Refusal;
 
 // How many lines a walk over `count` of them has read.
 fn lines_read(got: Walked, count: usize) -> usize
@@ -86,7 +86,7 @@ fn decode_shared_blocks(
         let block = stream::block_bytes(d, b);
         let bases = stream::base_row(d, b);
         let part = region::part(r, b);
-        let took = cameras::take_lines(camera, held, bits, bases, count);
+        let took = taking::take_lines(camera, held, bits, bases, count);
         let found = took.lines;
         let got = walk(
             block,
@@ -103,8 +103,8 @@ fn decode_shared_blocks(
             took.entries,
         );
         let read = lines_read(got, found);
-        held = cameras::after_block(camera, held, bits, bases, found, read);
-        if cameras::is_stopped(read, found, count) {
+        held = taking::after_block(camera, held, bits, bases, found, read);
+        if taking::is_stopped(read, found, count) {
             let answer = Decoded::Refused(Refusal::NoEntry(b, found));
             return SharedAnswer {
                 answer,
@@ -138,7 +138,7 @@ pub fn decode_region_shared(
         ⌜ LeftShared camera (now (d .entry)) r tile begins (entries .all) before after (a .answer) (a .entries .all) ⌝ }
 {
     let begins = begin::region_begins(d, r, image.len(), lines.len(), rs.len());
-    let sound = cameras::mended(entries);
+    let sound = taking::mended(entries);
     match begins {
         Beginning::Refused(x) => handed_back(camera, sound, Decoded::Refused(x)),
         Beginning::Nothing => handed_back(camera, sound, Decoded::Done),

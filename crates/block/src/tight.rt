@@ -7,7 +7,7 @@ ghost use lib.ListN.{length};
 ghost use Rattle.lines.specs.ColourLines.{zeroLines};
 ghost use Rattle.map.specs.Places.{widthOf, Fits};
 ghost use Rattle.stream.specs.Streams.{openOf};
-ghost use Rattle.stream.specs.declared.Parsed.the-variants.{Header};
+ghost use Rattle.header.specs.declared.Parsed.the-variants.{Header};
 ghost use Rattle.block.specs.Records.{clearRecords};
 ghost use Rattle.block.specs.Walks.{IsWalked};
 ghost use Rattle.block.specs.Images.{formOf, bytesIn, basesIn};
@@ -22,11 +22,11 @@ use crate::Walked;
 use crate::form_of;
 use crate::reading::walk;
 use bits::BitPosition;
+use header::FujiHeader;
+use header::Parsed;
+use header::Refusal;
 use map::Part;
 use statistics::Record;
-use stream::FujiHeader;
-use stream::Parsed;
-use stream::Refusal;
 
 // A call that is refused before it reads has counted nothing.
 pub fn refused(x: Refusal) -> Counted

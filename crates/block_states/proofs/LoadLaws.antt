@@ -13,7 +13,7 @@ use Rattle.code.specs.declared.Place.{Place}
 use Rattle.statistics.specs.declared.Record.{Record}
 use Rattle.steps.specs.Contexts.{noRecord}
 use Rattle.map.specs.Places.{widthOf}
-use Rattle.stream.specs.declared.FujiHeader.{FujiHeader}
+use Rattle.header.specs.declared.FujiHeader.{FujiHeader}
 use Rattle.begin.specs.Beginnings.{samplesNeeded}
 use Rattle.checkpoint.specs.Checkpoints.{keptLine, IsCheckpoint, checkedOf, anyBelow, badRecord, badSample, badPlace, badCheckpoint, otherCheckpoint}
 use Rattle.checkpoint.specs.Checkpoints.{sizeOfCheckpoint, nextLine, positionIn, loadedRecord, loadedLines}

@@ -12,9 +12,9 @@ use lib.ListN.{length, getD}
 use lib.Seq.{length-paste}
 use Rattle.statistics.specs.declared.Record.{Record}
 use Rattle.steps.specs.Contexts.{noRecord}
-use Rattle.steps.specs.Steps.{planOf}
+use Rattle.schedule.specs.Steps.{planOf}
 use Rattle.steps.specs.Values.{SetInRange}
-use Rattle.steps.specs.declared.Plan.{Plan}
+use Rattle.schedule.specs.declared.Plan.{Plan}
 use Rattle.map.specs.Places.{widthOf}
 use Rattle.pass.specs.Readings.{Reading, readPass}
 use Rattle.pass.proofs.RangeLaws.{pass-keeps}

@@ -12,9 +12,9 @@ use lib.ListN.{replicate}
 use Rattle.code.specs.declared.Place.{Place}
 use Rattle.statistics.specs.declared.Record.{Record}
 use Rattle.map.specs.Places.{widthOf}
-use Rattle.stream.specs.declared.FujiHeader.{FujiHeader}
-use Rattle.stream.specs.declared.Refusal.{Refusal}
-use Rattle.stream.specs.declared.Refusal.the-variants.{ShortOutput, BadState}
+use Rattle.header.specs.declared.FujiHeader.{FujiHeader}
+use Rattle.header.specs.declared.Refusal.{Refusal}
+use Rattle.header.specs.declared.Refusal.the-variants.{ShortOutput, BadState}
 use Rattle.begin.specs.Beginnings.{samplesNeeded}
 use Rattle.checkpoint.specs.Checkpoints.{sizeOfCheckpoint}
 use Rattle.block.specs.Blocks.{State, startState, readLines}

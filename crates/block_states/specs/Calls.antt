@@ -8,8 +8,8 @@ use Rattle.code.specs.declared.Place.{Place}
 use Rattle.statistics.specs.declared.Record.{Record}
 use Rattle.map.specs.Places.{widthOf, Fits}
 use Rattle.map.specs.declared.Part.{Part}
-use Rattle.stream.specs.declared.FujiHeader.{FujiHeader}
-use Rattle.stream.specs.declared.Refusal.the-variants.{ShortOutput, BadState}
+use Rattle.header.specs.declared.FujiHeader.{FujiHeader}
+use Rattle.header.specs.declared.Refusal.the-variants.{ShortOutput, BadState}
 use Rattle.region.specs.Regions.{partIn}
 use Rattle.region.specs.declared.Rect.{Rect}
 use Rattle.checkpoint.specs.Checkpoints.{sizeOfCheckpoint, checkpointOf}

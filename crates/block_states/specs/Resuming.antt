@@ -9,14 +9,14 @@ use lib.ListN.{length, getD}
 use Rattle.totals.specs.Totals.{noTotals}
 use Rattle.totals.specs.declared.Totals.{Totals}
 use Rattle.map.specs.Places.{widthOf, sampleIndex, Changed}
-use Rattle.stream.specs.declared.FujiHeader.{FujiHeader}
-use Rattle.stream.specs.declared.Refusal.the-variants.{Truncated, BadState, OtherState}
+use Rattle.header.specs.declared.FujiHeader.{FujiHeader}
+use Rattle.header.specs.declared.Refusal.the-variants.{Truncated, BadState, OtherState}
 use Rattle.region.specs.Regions.{blockOf, firstBlock, lastBlock, lineCount}
 use Rattle.region.specs.declared.Rect.{Rect}
 use Rattle.checkpoint.specs.Checkpoints.{nextLine, positionIn, checkedOf}
 use Rattle.checkpoint.specs.declared.load.Checked.{Checked}
 use Rattle.checkpoint.specs.declared.load.Checked.the-variants.{Bad, Other, At}
-use Rattle.begin.specs.Beginnings.{resumeBegins}
+use Rattle.begin_resuming.specs.Resumings.{resumeBegins}
 use Rattle.begin.specs.declared.Beginning.{Beginning}
 use Rattle.begin.specs.declared.Beginning.the-variants as Begin
 use Rattle.block.specs.Blocks.{State, readFrom, linesOf, totalsIn}

@@ -7,10 +7,10 @@ use Prim.Native.Nat.{ℕ, suc}
 use lib.Dec.{leb, ltb}
 use lib.ListN.{length}
 use Rattle.map.specs.Places.{widthOf}
-use Rattle.stream.specs.declared.FujiHeader.{FujiHeader}
-use Rattle.stream.specs.declared.Parsed.{Parsed}
-use Rattle.stream.specs.declared.Parsed.the-variants as Parsing
-use Rattle.stream.specs.declared.Refusal.the-variants.{ShortOutput, BadState}
+use Rattle.header.specs.declared.FujiHeader.{FujiHeader}
+use Rattle.header.specs.declared.Parsed.{Parsed}
+use Rattle.header.specs.declared.Parsed.the-variants as Parsing
+use Rattle.header.specs.declared.Refusal.the-variants.{ShortOutput, BadState}
 use Rattle.checkpoint.specs.Checkpoints.{sizeOfCheckpoint, checkpointOf}
 use Rattle.begin.specs.Beginnings.{readBegins}
 use Rattle.block.specs.Blocks.{State, readLines}

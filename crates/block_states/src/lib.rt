@@ -8,7 +8,7 @@ ghost use Rattle.lines.specs.ColourLines.{zeroLines};
 ghost use Rattle.map.specs.Places.{widthOf};
 ghost use Rattle.steps.specs.Values.{Depth};
 ghost use Rattle.stream.specs.Streams.{openOf};
-ghost use Rattle.stream.specs.declared.Parsed.the-variants.{Header};
+ghost use Rattle.header.specs.declared.Parsed.the-variants.{Header};
 ghost use Rattle.region.specs.Regions.{lineCount, Accepted};
 ghost use Rattle.checkpoint.specs.Checkpoints.{sizeOfCheckpoint, checkpointOf, loadedRecord, Saved};
 ghost use Rattle.checkpoint.specs.declared.load.Checked.the-variants.{At};
@@ -37,17 +37,17 @@ use block::start_place;
 use block::start_record;
 use block::start_records;
 use block::update;
-use cameras::base_of;
 use checkpoint::Bounds;
 use checkpoint::Checked;
 use code::Place;
+use header::FujiHeader;
+use header::Parsed;
+use header::Refusal;
 use map::Part;
 use map::width;
 use region::Rect;
 use statistics::Record;
-use stream::FujiHeader;
-use stream::Parsed;
-use stream::Refusal;
+use taking::base_of;
 
 // Refused once scratch is the call's: it is left cleared, and nothing was counted.
 fn refuse(lines: &mut [u16], rs: &mut [Record], x: Refusal) -> Counted
@@ -244,7 +244,7 @@ pub fn resume_region(
         let after : Buffers = record { image = now (image .exit); lines = now (lines .exit); records = now (rs .exit) } in
         ⌜ LeftResumed (now (d .entry)) b (now (state .entry)) r tile before after a ⌝ }
 {
-    let begins = begin::resume_begins(d, b, r, image.len(), lines.len(), rs.len());
+    let begins = begin_resuming::resume_begins(d, b, r, image.len(), lines.len(), rs.len());
     match begins {
         Beginning::Refused(x) => refused(x),
         Beginning::Nothing => nothing_counted(),
@@ -299,7 +299,7 @@ fn put_state(
     ensures { λ _. ⌜ now (rs .exit) ≡ now (rs .entry) ⌝ }
 {
     let lossless = h.lossless;
-    checkpoint::store_head(state, d, b, line, at);
+    state_head::store_head(state, d, b, line, at);
     checkpoint::store_set(state, 0, load_set(rs, 0), lossless);
     checkpoint::store_set(state, 1, load_set(rs, 1), lossless);
     checkpoint::store_set(state, 2, load_set(rs, 2), lossless);

@@ -16,16 +16,16 @@ use Rattle.bits.proofs.PackLaws.{length-packed, packed-more}
 use Rattle.quantiser.specs.Quantisers.{largest}
 use Rattle.stream.specs.declared.BlockLength.{BlockLength}
 use Rattle.stream.specs.declared.BlockLength.the-variants.{Length, Refused}
-use Rattle.stream.specs.declared.Refusal.{Refusal}
-use Rattle.stream.specs.declared.Refusal.the-variants.{AboveLargest, NotPredicted, ShortOutput}
+use Rattle.header.specs.declared.Refusal.{Refusal}
+use Rattle.header.specs.declared.Refusal.the-variants.{AboveLargest, NotPredicted, ShortOutput}
 use Rattle.map.specs.Places.{widthOf}
 use Rattle.lines.specs.Sets.{setSize, lineOfRank, indexIn}
 use Rattle.output.specs.Output.{putBits}
 use Rattle.writing.specs.Puts.{Room, Within}
 use Rattle.writing.proofs.SetLaws.{colour-line-at, position-at}
 use Rattle.writing.proofs.TurnPuts.{coded-wanted}
-use Rattle.steps.specs.Steps.{isInterpolated}
-use Rattle.begin.specs.Beginnings.{isIgnored, firstAbove}
+use Rattle.above_largest.specs.Above.{isIgnored, firstAbove}
+use Rattle.schedule.specs.Steps.{isInterpolated}
 use Rattle.counted.specs.Counted.{nextOf}
 use Rattle.counted.specs.declared.Next.the-variants.{Answer, Store}
 use Rattle.output.specs.declared.Put.{Put}

@@ -11,10 +11,10 @@ use lib.ListN.{length}
 use Rattle.quantiser.specs.Quantisers.{largest}
 use Rattle.lines.specs.ColourLines.{guarded}
 use Rattle.map.specs.Places.{widthOf}
-use Rattle.steps.specs.Steps.{Step, planOf, passSteps, upto}
+use Rattle.schedule.specs.Steps.{Step, planOf, passSteps, upto}
 use Rattle.steps.specs.Values.{Depth}
-use Rattle.steps.specs.declared.Plan.{Plan}
-use Rattle.steps.proofs.ScheduleLaws.{codes, lineSteps, bayer-codes, x-trans-codes}
+use Rattle.schedule.specs.declared.Plan.{Plan}
+use Rattle.schedule.proofs.ScheduleLaws.{codes, lineSteps, bayer-codes, x-trans-codes}
 use Rattle.writing.specs.Puts.{Within}
 use Rattle.writing.proofs.BoundLaws.{pass-most, pass-sure}
 use Rattle.counted.specs.Counted.{isAmple}

@@ -12,8 +12,8 @@ use Rattle.numbers.proofs.BoolLaws.{both}
 use Rattle.quantiser.specs.Quantisers.{largest}
 use Rattle.lines.specs.ColourLines.{zeroLines, guarded, turned}
 use Rattle.map.specs.Places.{widthOf}
-use Rattle.steps.specs.Steps.{planOf, passSteps}
-use Rattle.steps.specs.declared.Plan.{Plan}
+use Rattle.schedule.specs.Steps.{planOf, passSteps}
+use Rattle.schedule.specs.declared.Plan.{Plan}
 use Rattle.writing.specs.Looks.{Right}
 use Rattle.writing.specs.Puts.{Within}
 use Rattle.writing.specs.Writings.{writePass}

@@ -15,8 +15,8 @@ use Rattle.lines.specs.ColourLines.{zeroLines, guarded, turned}
 use Rattle.map.specs.Places.{widthOf}
 use Rattle.map.proofs.PlaceLaws.{width-le}
 use Rattle.steps.specs.Values.{recordsOf}
-use Rattle.steps.specs.Steps.{planOf, passSteps}
-use Rattle.steps.specs.declared.Plan.{Plan}
+use Rattle.schedule.specs.Steps.{planOf, passSteps}
+use Rattle.schedule.specs.declared.Plan.{Plan}
 use Rattle.steps.specs.declared.Set.{Set}
 use Rattle.lines.specs.Sets.{lineSize, setSize}
 use Rattle.writing.specs.Puts.{putIf, Room, Within, Wanted, IsPassPut}

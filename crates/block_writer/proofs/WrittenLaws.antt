@@ -6,8 +6,8 @@ use mathlib.Core.Path.{_≡_, refl, ap}
 use Prim.Native.Nat.{ℕ, zero, suc, _≤_, _<_}
 use native.Mathlib.Omega.{arith}
 use Rattle.map.specs.Places.{widthOf}
-use Rattle.steps.specs.Steps.{planOf, passSteps}
-use Rattle.steps.specs.declared.Plan.{Plan}
+use Rattle.schedule.specs.Steps.{planOf, passSteps}
+use Rattle.schedule.specs.declared.Plan.{Plan}
 use Rattle.writing.specs.Writings.{writePass}
 use Rattle.writing.proofs.WriteLaws.{pass-after, writes-right}
 use Rattle.block.specs.Records.{baseOf}

@@ -5,7 +5,7 @@ use Prim.Native.Nat.{ℕ}
 use lib.ListN.{length}
 use Rattle.stream.specs.Lengths.{lengthWord, lengthRefusal}
 use Rattle.stream.specs.declared.BlockLength.{BlockLength}
-use Rattle.begin.specs.Beginnings.{writingBegins, lossyBegins}
+use Rattle.begin_writing.specs.Writings.{writingBegins, lossyBegins}
 use Rattle.block.specs.Lent.{Scratch, Outputs}
 use Rattle.block_writer.specs.WrittenAnswers.{LeftWritten, LeftLossy, LeftMeasured}
 

@@ -8,7 +8,7 @@ use lib.ListN.{length}
 use Rattle.statistics.specs.declared.Record.{Record}
 use Rattle.stream.specs.declared.BlockLength.{BlockLength}
 use Rattle.stream.specs.declared.BlockLength.the-variants.{Length}
-use Rattle.stream.specs.declared.Parsed.{Parsed}
+use Rattle.header.specs.declared.Parsed.{Parsed}
 use Rattle.writing.specs.Puts.{putIf}
 use Rattle.output.specs.declared.Put.{Put}
 use Rattle.output.specs.declared.Put.the-variants.{At, Wrong}

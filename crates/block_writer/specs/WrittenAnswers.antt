@@ -9,11 +9,11 @@ use lib.ListN.{length, drop}
 use Rattle.quantiser.specs.Quantisers.{largest}
 use Rattle.stream.specs.declared.BlockLength.{BlockLength}
 use Rattle.stream.specs.declared.BlockLength.the-variants.{Length, Refused}
-use Rattle.stream.specs.declared.FujiHeader.{FujiHeader}
-use Rattle.stream.specs.declared.Parsed.{Parsed}
-use Rattle.stream.specs.declared.Parsed.the-variants as Parsing
-use Rattle.stream.specs.declared.Refusal.the-variants.{AboveLargest, NotPredicted, ShortOutput}
-use Rattle.begin.specs.Beginnings.{isIgnored, firstAbove}
+use Rattle.header.specs.declared.FujiHeader.{FujiHeader}
+use Rattle.header.specs.declared.Parsed.{Parsed}
+use Rattle.header.specs.declared.Parsed.the-variants as Parsing
+use Rattle.header.specs.declared.Refusal.the-variants.{AboveLargest, NotPredicted, ShortOutput}
+use Rattle.above_largest.specs.Above.{isIgnored, firstAbove}
 use Rattle.block.specs.Images.{formOf}
 use Rattle.block.specs.Lent.{Outputs, Scratch, clearedLines, clearedRecords}
 use Rattle.block_writer.specs.WrittenBlocks.{isStrict, writeLines, writtenBlock}

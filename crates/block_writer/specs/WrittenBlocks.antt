@@ -9,8 +9,8 @@ use lib.ListN.{length, getD}
 use Rattle.bits.specs.BitLists.{bytesOf}
 use Rattle.statistics.specs.declared.Record.{Record}
 use Rattle.quantiser.specs.Quantisers.{largest}
-use Rattle.steps.specs.Steps.{planOf, passSteps}
-use Rattle.steps.specs.declared.Plan.{Plan}
+use Rattle.schedule.specs.Steps.{planOf, passSteps}
+use Rattle.schedule.specs.declared.Plan.{Plan}
 use Rattle.map.specs.Places.{widthOf}
 use Rattle.lines.specs.Sets.{setSize}
 use Rattle.writing.specs.Writings.{Writing, writePass}

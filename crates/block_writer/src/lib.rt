@@ -13,13 +13,13 @@ ghost use Rattle.lines.specs.Sets.{lineSize, setSize};
 ghost use Rattle.writing.specs.Puts.{Room, Within};
 ghost use Rattle.block.specs.Records.{clearRecords};
 ghost use Rattle.block.specs.Walks.{AllInRange};
-ghost use Rattle.begin.specs.Beginnings.{FitsOn, writingBegins, lossyBegins};
+ghost use Rattle.begin_writing.specs.Writings.{FitsOn, writingBegins, lossyBegins};
 ghost use Rattle.block.specs.Lent.{Outputs, Scratch, ScratchOf};
 ghost use Rattle.block_writer.specs.WrittenBlocks.{isStrict, writeLines, SetWanted, writtenBlock};
 ghost use Rattle.block_writer.specs.WrittenAnswers.{measuredAnswer, setAnswer};
 ghost use Rattle.block_writer.specs.WrittenAnswers.{LeftWritten, LeftLossy, LeftMeasured};
 ghost use Rattle.block_writer.specs.WriterParts.{passesFrom, LineWritten, SetWritten, roomFor, outputOf, RightPasses, Storable, Stored, LeftBy};
-use begin::first_above;
+use above_largest::first_above;
 use bits::BitPosition;
 use block::Form;
 use block::clear_records;
@@ -31,15 +31,15 @@ use block::quantisers_of;
 use block::restart;
 use block::start_records;
 use block::store_set;
-use cameras::base_of;
 use counted::Next;
+use header::Parsed;
+use header::Refusal;
 use map::width;
 use output::Put;
 use statistics::Record;
 use steps::Quantisers;
 use stream::BlockLength;
-use stream::Parsed;
-use stream::Refusal;
+use taking::base_of;
 
 // A lossless block has no bases, and its set is held to the predictions of interpolated samples.
 fn is_strict(bases: &[u8]) -> bool
@@ -77,7 +77,7 @@ fn write_line(
     let mut at = from;
     let mut i: usize = 0;
     while i < 6 {
-        let p = steps::plan_at(i, xtrans);
+        let p = schedule::plan_at(i, xtrans);
         lines::set_guards(lines, w, p.first);
         lines::set_guards(lines, w, p.second);
         let set = load_set(rs, p.set);
@@ -189,7 +189,7 @@ fn look_line(samples: &[u16], n: usize, lines: &mut [u16], form: Form) -> bool
     let w = width(xtrans);
     let mut i: usize = 0;
     while i < 6 {
-        let p = steps::plan_at(i, xtrans);
+        let p = schedule::plan_at(i, xtrans);
         lines::set_guards(lines, w, p.first);
         lines::set_guards(lines, w, p.second);
         if !writing::look_pass(samples, n, lines, w, p, bits) {
@@ -390,7 +390,7 @@ pub fn write_block(
         let after : Outputs = record { out = now (out .exit); lines = now (lines .exit); records = now (rs .exit) } in
         ⌜ LeftWritten t (writingBegins (now (header .entry)) (length t) (length (before .lines)) (length (before .records))) before after a ⌝ }
 {
-    let begins = begin::writing_begins(header, samples.len(), lines.len(), rs.len());
+    let begins = begin_writing::writing_begins(header, samples.len(), lines.len(), rs.len());
     write_in(begins, &header[0..0], samples, out, false, lines, rs)
 }
 
@@ -411,7 +411,13 @@ pub fn write_lossy(
         let begins = lossyBegins (now (header .entry)) (length s) (length t) (length (before .lines)) (length (before .records)) in
         ⌜ LeftLossy s t begins before after a ⌝ }
 {
-    let begins = begin::lossy_begins(header, bases.len(), samples.len(), lines.len(), rs.len());
+    let begins = begin_writing::lossy_begins(
+        header,
+        bases.len(),
+        samples.len(),
+        lines.len(),
+        rs.len(),
+    );
     write_in(begins, bases, samples, out, false, lines, rs)
 }
 
@@ -429,7 +435,7 @@ pub fn measure_block(
         ⌜ LeftMeasured t (writingBegins (now (header .entry)) (length t) (length (before .lines)) (length (before .records))) before after a ⌝ }
 {
     let mut nothing = [0u8; 1];
-    let begins = begin::writing_begins(header, samples.len(), lines.len(), rs.len());
+    let begins = begin_writing::writing_begins(header, samples.len(), lines.len(), rs.len());
     write_in(
         begins,
         &header[0..0],

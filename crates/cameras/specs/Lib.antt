@@ -1,3 +1,2 @@
 -- The definitions of the entries that two cameras share.
 pub mod Entries
-pub mod Words

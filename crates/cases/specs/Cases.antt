@@ -9,21 +9,21 @@ use Rattle.statistics.specs.declared.Record.{Record}
 use Rattle.quantiser.specs.Quantisers.{mainOf, flatOf, startSum, levelOf, gradientOf}
 use Rattle.prediction.specs.Predictions.{evenPrediction, oddPrediction}
 use Rattle.code.specs.Codes.{codeAt}
-use Rattle.code.specs.Samples.{sampleOf}
+use Rattle.samples.specs.Samples.{sampleOf}
 use Rattle.code.specs.Tight.{isTight}
 use Rattle.code.specs.declared.Code.{Code}
 use Rattle.code.specs.declared.Coded.{Coded}
 use Rattle.code.specs.declared.Coded.the-variants.{Read}
 use Rattle.map.specs.Places.{xtransPlace}
-use Rattle.stream.specs.Headers.{parseOf}
+use Rattle.header.specs.Headers.{parseOf}
 use Rattle.stream.specs.Lengths.{boundAnswer}
 use Rattle.stream.specs.Streams.{openOf, rangeOf}
-use Rattle.stream.specs.Refusals.{refusalNumber}
+use Rattle.header.specs.Refusals.{refusalNumber}
 use Rattle.stream.specs.declared.BlockLength.the-variants.{Length, Refused}
-use Rattle.stream.specs.declared.FujiHeader.{FujiHeader}
-use Rattle.stream.specs.declared.Parsed.the-variants as Parsing
-use Rattle.stream.specs.declared.Ranged.the-variants as Range
-use Rattle.stream.specs.declared.Refusal.the-variants.{BadHeader, ShortSizes, Lossy}
+use Rattle.header.specs.declared.FujiHeader.{FujiHeader}
+use Rattle.header.specs.declared.Parsed.the-variants as Parsing
+use Rattle.ranges.specs.declared.Ranged.the-variants as Range
+use Rattle.header.specs.declared.Refusal.the-variants.{BadHeader, ShortSizes, Lossy}
 
 abbrev pub stat : ℕ → ℕ → Record
 stat sum n = record { sum = sum; n = n }

@@ -5,7 +5,8 @@ use mathlib.Core.Path.{_≡_, refl}
 use Prim.Native.Nat.{ℕ, _+_, _*_, _/_, _%_}
 use lib.ListN.{replicate, set}
 use Rattle.statistics.specs.declared.Record.{Record}
-use Rattle.checkpoint.specs.Checkpoints.{beByte, beAt, putEach, headByte, recordByte, storedRecord, recordsByte, keptLine, linesByte, sizeOfCheckpoint}
+use Rattle.state_head.specs.Heads.{beByte, putEach, headByte}
+use Rattle.checkpoint.specs.Checkpoints.{beAt, recordByte, storedRecord, recordsByte, keptLine, linesByte, sizeOfCheckpoint}
 use Rattle.checkpoint.specs.Checkpoints.{firstRecord, firstSample, sumIn, nIn, badRecord, anyBelow, loadedRecord, otherCheckpoint}
 
 abbrev stat : ℕ → ℕ → Record

@@ -8,8 +8,9 @@ use lib.Seq.{getD-set-same, getD-set-other}
 use Rattle.numbers.proofs.OrderLaws.{split}
 use Rattle.lines.specs.ColourLines.{leftGuard, guarded}
 use Rattle.lines.proofs.LineLaws.{apart, line-inside, length-guarded}
-use Rattle.checkpoint.specs.Checkpoints.{storedSample, keptLine, putEach, withKept, withSix, withGuards, loadedLines}
-use Rattle.checkpoint.proofs.ByteLaws.{put-length, put-other, put-at}
+use Rattle.state_head.specs.Heads.{putEach}
+use Rattle.checkpoint.specs.Checkpoints.{storedSample, keptLine, withKept, withSix, withGuards, loadedLines}
+use Rattle.state_head.proofs.PutLaws.{put-length, put-other, put-at}
 
 -- a place of line L that is no place of line j
 elsewhere : (W L j d e : ℕ) → d < W + 2 → e < W + 2 → (L ≡ j → d ≡ e → ⊥) → L * (W + 2) + d ≡ j * (W + 2) + e → ⊥

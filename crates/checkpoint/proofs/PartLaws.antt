@@ -10,9 +10,10 @@ use lib.ListN.{length, getD, take, drop}
 use lib.Seq.{getD-take, getD-drop, length-take-le}
 use Rattle.statistics.specs.declared.Record.{Record}
 use Rattle.steps.specs.Contexts.{noRecord}
-use Rattle.checkpoint.specs.Checkpoints.{putEach, headByte, storedRecord, recordByte, recordsByte, linesByte, Saved, checkpointByte, checkpointOf}
+use Rattle.state_head.specs.Heads.{putEach, headByte}
+use Rattle.checkpoint.specs.Checkpoints.{storedRecord, recordByte, recordsByte, linesByte, Saved, checkpointByte, checkpointOf}
 use Rattle.checkpoint.specs.Checkpoints.{sizeOfCheckpoint, IsCheckpoint}
-use Rattle.checkpoint.proofs.ByteLaws.{put-length, put-same, put-add, put-at}
+use Rattle.state_head.proofs.PutLaws.{put-length, put-same, put-add, put-at}
 
 -- set g among the records
 abbrev pub setIn : ℕ → List Record → List Record

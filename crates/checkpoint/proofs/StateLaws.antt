@@ -13,7 +13,8 @@ use lib.Pow.{pow-mono}
 use Rattle.statistics.specs.Statistics.{InRange, largestResidual}
 use Rattle.statistics.specs.declared.Record.{Record}
 use Rattle.steps.specs.Contexts.{noRecord, sampleIn}
-use Rattle.checkpoint.specs.Checkpoints.{beByte, beAt, headByte, recordByte, isFlat, storedRecord, recordsByte, keptLine, linesByte, Saved}
+use Rattle.state_head.specs.Heads.{beByte, headByte}
+use Rattle.checkpoint.specs.Checkpoints.{beAt, recordByte, isFlat, storedRecord, recordsByte, keptLine, linesByte, Saved}
 use Rattle.checkpoint.specs.Checkpoints.{sizeOfCheckpoint, IsCheckpoint, anyBelow, nextLine, positionIn, sumIn, nIn, storedSample, badRecord, badSample}
 use Rattle.checkpoint.specs.Checkpoints.{checkpointByte, badPlace, badCheckpoint, otherCheckpoint, checkedOf, loadedRecord}
 use Rattle.checkpoint.specs.declared.load.Checked.the-variants.{At}

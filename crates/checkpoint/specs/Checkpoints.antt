@@ -10,32 +10,18 @@ use Rattle.statistics.specs.Statistics.{largestResidual}
 use Rattle.statistics.specs.declared.Record.{Record}
 use Rattle.steps.specs.Contexts.{noRecord, sampleIn}
 use Rattle.lines.specs.ColourLines.{guarded}
+use Rattle.state_head.specs.Heads.{beByte, putEach, headByte}
 use Rattle.checkpoint.specs.declared.load.Checked.{Checked}
 use Rattle.checkpoint.specs.declared.load.Checked.the-variants.{Bad, Other, At}
 
 -- ---- bytes
 
--- byte k of the n bytes of x, and the number that n bytes from i on make
-unfoldable pub beByte : ℕ → ℕ → ℕ → ℕ
-beByte n k x = x / 256 ^ (n - 1 - k) % 256
-
+-- the number that n bytes from i on make
 unfoldable pub beAt : List ℕ → ℕ → ℕ → ℕ
 beAt s i zero = 0
 beAt s i (suc n) = beAt s i n * 256 + getD s (i + n) 0
 
--- the n entries from `from` on become f 0, f 1, ..; the others stay
-unfoldable pub putEach : {A : Type 0} → (ℕ → A) → ℕ → ℕ → List A → List A
-putEach f from zero l = l
-putEach f from (suc n) l = set (putEach f from n l) (from + n) (f n)
-
 -- ---- storing
-
--- bytes 0 to 26: the first 16 bytes of the stream, block, next line, bit position
-unfoldable pub headByte : List ℕ → ℕ → ℕ → ℕ → ℕ → ℕ
-headByte d block next at i =
-    cond (ltb i 16) (getD d i 0)
-    (cond (ltb i 17) (beByte 1 0 block)
-    (cond (ltb i 19) (beByte 2 (i - 17) next) (beByte 8 (i - 19) at)))
 
 -- a record: its sum in 4 bytes, then its n
 unfoldable pub recordByte : Record → ℕ → ℕ

@@ -3,7 +3,8 @@ ghost use mathlib.Core.Path.{_≡_};
 ghost use mathlib.Core.Bool.{Bool, true, false, cond, _&&_, _||_};
 ghost use Prim.Native.Nat.{ℕ, _+_, _-_, _*_, _/_, _%_, _^_, _≤_, _<_, min};
 ghost use lib.ListN.{length, getD};
-ghost use Rattle.checkpoint.specs.Checkpoints.{beByte, headByte, storedRecord, recordByte, recordsByte, keptLine, linesByte, putEach};
+ghost use Rattle.state_head.specs.Heads.{putEach};
+ghost use Rattle.checkpoint.specs.Checkpoints.{storedRecord, recordByte, recordsByte, keptLine, linesByte};
 ghost use Rattle.statistics.specs.Statistics.{largestResidual};
 ghost use Rattle.steps.specs.Values.{zipRecords, recordsOf, SetInRange};
 use numbers::u16_to_u32;
@@ -17,44 +18,6 @@ pub use load::Checked;
 pub use load::check;
 pub use load::load_lines;
 pub use load::load_record;
-
-// Byte k of the n bytes of a number.
-fn be_byte(n: u32, k: u32, x: u64) -> u8
-    requires { ⌜ (k < n) × (n ≤ 8) ⌝ }
-    ensures { λ r. ⌜ r ≡ beByte n k x ⌝ }
-{
-    ((x >> (8 * (n - 1 - k))) % 256) as u8
-}
-
-// Byte i of the head: the stream's first 16 bytes, block, next line, bit position.
-fn head_byte(d: &[u8], block: usize, next: usize, at: u64, i: usize) -> u8
-    requires { ⌜ (16 ≤ length (now d)) × (i < 27) ⌝ }
-    ensures { λ r. ⌜ r ≡ headByte (now (d .entry)) block next at i ⌝ }
-{
-    if i < 16 {
-        return d[i];
-    }
-    if i < 17 {
-        return be_byte(1, 0, block as u64);
-    }
-    if i < 19 {
-        return be_byte(2, (i - 17) as u32, next as u64);
-    }
-    be_byte(8, (i - 19) as u32, at)
-}
-
-// The head of the state after a line: the next line is the one that follows.
-pub fn store_head(out: &mut [u8], d: &[u8], block: usize, line: usize, at: u64)
-    requires { ⌜ (27 ≤ length (now out)) × ((16 ≤ length (now d)) × (line < 2 ^ 16)) ⌝ }
-    ensures { λ _. ⌜ now (out .exit) ≡ putEach (headByte (now (d .entry)) block (line + 1) at) 0 27 (now (out .entry)) ⌝ }
-{
-    let next = line + 1;
-    let mut i = 0usize;
-    while i < 27 {
-        out[i] = head_byte(d, block, next, at, i);
-        i += 1;
-    }
-}
 
 // What record j is stored as. A lossless block uses no flat record.
 fn stored_record(lossless: bool, j: usize, r: Record) -> Record
@@ -71,9 +34,9 @@ fn record_byte(r: Record, k: usize) -> u8
     ensures { λ t. ⌜ t ≡ recordByte r k ⌝ }
 {
     if k < 4 {
-        return be_byte(4, k as u32, r.sum as u64);
+        return state_head::be_byte(4, k as u32, r.sum as u64);
     }
-    be_byte(1, 0, r.n as u64)
+    state_head::be_byte(1, 0, r.n as u64)
 }
 
 // Byte i of the records of a set, where record i / 5 is r.
@@ -132,7 +95,7 @@ fn line_byte(lines: &[u16], w: usize, i: usize) -> u8
 {
     let j = i / 2;
     let at = start_of(w, kept_line(j / w)) + (j % w + 1);
-    be_byte(2, (i % 2) as u32, u16_to_u32(lines[at]) as u64)
+    state_head::be_byte(2, (i % 2) as u32, u16_to_u32(lines[at]) as u64)
 }
 
 // Their samples.

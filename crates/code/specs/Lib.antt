@@ -1,5 +1,3 @@
--- The definitions of the code: reading one, and the code of a wanted sample.
+-- The definitions of a code: reading one, and its bits in tight form.
 pub mod Codes
-pub mod Samples
 pub mod Tight
-pub mod Nearest

@@ -5,7 +5,7 @@ use lib.Dec.{leb, ltb}
 use Rattle.bits.specs.BitLists.{blockBytes}
 use Rattle.bits.specs.declared.BitPosition.{BitPosition}
 use Rattle.stream.specs.declared.BlockLength.the-variants.{Length, Refused}
-use Rattle.stream.specs.declared.Refusal.the-variants.{NotPredicted, ShortOutput}
+use Rattle.header.specs.declared.Refusal.the-variants.{NotPredicted, ShortOutput}
 use Rattle.output.specs.declared.Put.{Put}
 use Rattle.output.specs.declared.Put.the-variants.{At, Wrong}
 use Rattle.counted.specs.declared.Next.{Next}

@@ -4,9 +4,9 @@ ghost use Prim.Native.Nat.{_^_, _≤_, _<_};
 ghost use Rattle.bits.specs.BitLists.{blockBytes};
 ghost use Rattle.counted.specs.Counted.{isAmple, lengthNext, nextOf};
 use bits::BitPosition;
+use header::Refusal;
 use output::Put;
 use stream::BlockLength;
-use stream::Refusal;
 
 // Whether a set is to be written, and no block of so many lines is longer than the output, whatever its samples are.
 pub fn is_ample(measure: bool, bits: u32, lines: usize, room: usize) -> bool

@@ -5,9 +5,9 @@ use mathlib.Core.Option.{Option, none, some, Option·map}
 use mathlib.Core.Path.{_≡_, refl, sym, ap, _∙_}
 use Prim.Native.Nat.{ℕ}
 use Rattle.bits.specs.declared.BitPosition.{BitPosition}
-use Rattle.stream.specs.declared.FujiHeader.{FujiHeader}
-use Rattle.stream.specs.declared.Parsed.the-variants as Parsing
-use Rattle.stream.specs.declared.Refusal.{Refusal}
+use Rattle.header.specs.declared.FujiHeader.{FujiHeader}
+use Rattle.header.specs.declared.Parsed.the-variants as Parsing
+use Rattle.header.specs.declared.Refusal.{Refusal}
 use Rattle.begin.specs.Beginnings.{tightBegins}
 use Rattle.block.specs.Blocks.{State, readLines}
 use Rattle.block.specs.BadCodes.{BadCode, firstBad}
@@ -17,7 +17,7 @@ use Rattle.block.specs.declared.Decoded.the-variants as Answer
 use Rattle.block.specs.declared.Form.{Form}
 use Rattle.trace.specs.Ways.{plainState, Way, found, cut-off, on, wayOf, blockWay, spotOf}
 use Rattle.trace.specs.Traces.{Ends}
-use Rattle.trace.specs.declared.BadSpot.{BadSpot}
+use Rattle.bad_code.specs.declared.BadSpot.{BadSpot}
 use Rattle.trace.specs.declared.Traced.{Traced}
 use Rattle.trace.specs.declared.Traced.the-variants.{Bad, At, CutOff}
 use Rattle.diagnosis.specs.Faults.{gives15, whyNot, answerAt, faultAt, answerOf, faultOf}

@@ -5,10 +5,10 @@ use mathlib.Core.Option.{Option, none, some}
 use Prim.Native.Nat.{ℕ}
 use lib.Dec.{eqb}
 use lib.ListN.{replicate}
-use Rattle.stream.specs.Refusals.{refusalNumber}
-use Rattle.stream.specs.declared.FujiHeader.{FujiHeader}
-use Rattle.stream.specs.declared.Parsed.{Parsed}
-use Rattle.stream.specs.declared.Parsed.the-variants as Parsing
+use Rattle.header.specs.Refusals.{refusalNumber}
+use Rattle.header.specs.declared.FujiHeader.{FujiHeader}
+use Rattle.header.specs.declared.Parsed.{Parsed}
+use Rattle.header.specs.declared.Parsed.the-variants as Parsing
 use Rattle.begin.specs.Beginnings.{tightBegins}
 use Rattle.block.specs.Blocks.{State, readLines}
 use Rattle.block.specs.Images.{formOf, bytesIn}
@@ -17,9 +17,9 @@ use Rattle.block.specs.TightBlocks.{tightAnswer}
 use Rattle.block.specs.declared.Decoded.{Decoded}
 use Rattle.block.specs.declared.Decoded.the-variants as Answer
 use Rattle.trace.specs.Ways.{spotOf}
-use Rattle.trace.specs.declared.BadSpot.{BadSpot}
-use Rattle.trace.specs.declared.Reason.{Reason}
-use Rattle.trace.specs.declared.Reason.the-variants.{Large, Escape, Zeros}
+use Rattle.bad_code.specs.declared.BadSpot.{BadSpot}
+use Rattle.bad_code.specs.declared.Reason.{Reason}
+use Rattle.bad_code.specs.declared.Reason.the-variants.{Large, Escape, Zeros}
 use Rattle.diagnosis.specs.declared.Fault.{Fault}
 use Rattle.diagnosis.specs.declared.Fault.the-variants as Fault
 

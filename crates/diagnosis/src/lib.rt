@@ -6,10 +6,12 @@ ghost use lib.ListN.{length};
 ghost use Rattle.map.specs.Places.{Fits};
 ghost use Rattle.steps.specs.Values.{Depth};
 ghost use Rattle.stream.specs.Streams.{openOf};
-ghost use Rattle.stream.specs.declared.Parsed.the-variants.{Header};
+ghost use Rattle.header.specs.declared.Parsed.the-variants.{Header};
 ghost use Rattle.block.specs.Walks.{Shown, shownLines, IsWalked};
 ghost use Rattle.block.specs.Words.{answerWords};
 ghost use Rattle.diagnosis.specs.Faults.{gives15, answerAt, faultAt, answerOf, faultOf, reasonWord, spotWords, faultWords};
+use bad_code::BadSpot;
+use bad_code::Reason;
 use bits::BitPosition;
 use block::Decoded;
 use block::Form;
@@ -19,11 +21,9 @@ use block::form_of;
 use block::line_count;
 use block::no_part;
 use block::walk;
+use header::FujiHeader;
+use header::Parsed;
 use map::Part;
-use stream::FujiHeader;
-use stream::Parsed;
-use trace::BadSpot;
-use trace::Reason;
 use trace::Traced;
 
 // Why a block is not tight: its first bad code; or its tail, with the number of lines and the first bit after the last code.
@@ -41,7 +41,7 @@ fn gives_15(a: Decoded) -> bool
     match a {
         Decoded::Done => false,
         Decoded::Refused(x) => {
-            let w = stream::refusal_words(x);
+            let w = words::refusal_words(x);
             w[0] == 15
         }
     }

@@ -8,16 +8,16 @@ use native.Mathlib.Numerals.{add-one}
 use native.Mathlib.Omega.{arith}
 use Rattle.bits.specs.declared.BitPosition.{BitPosition}
 use Rattle.stream.specs.Streams.{openOf}
-use Rattle.stream.specs.declared.FujiHeader.{FujiHeader}
-use Rattle.stream.specs.declared.Parsed.the-variants as Parsing
-use Rattle.stream.specs.declared.Refusal.{Refusal}
-use Rattle.stream.specs.declared.Refusal.the-variants.{Lossy}
-use Rattle.trace.specs.declared.BadSpot.{BadSpot}
+use Rattle.header.specs.declared.FujiHeader.{FujiHeader}
+use Rattle.header.specs.declared.Parsed.the-variants as Parsing
+use Rattle.header.specs.declared.Refusal.{Refusal}
+use Rattle.header.specs.declared.Refusal.the-variants.{Lossy}
+use Rattle.bad_code.specs.declared.BadSpot.{BadSpot}
 use Rattle.diagnosis.specs.Faults.{faultAt}
 use Rattle.diagnosis.specs.declared.Fault.{Fault}
 use Rattle.diagnosis.specs.declared.Fault.the-variants as Fault
 use Rattle.findings.specs.Findings.{foundAt, lowest, findingOf}
-use Rattle.findings.specs.declared.Finding.the-variants.{Refused, Nothing, Code, Tail}
+use Rattle.report_text.specs.declared.Finding.the-variants.{Refused, Nothing, Code, Tail}
 
 -- ---- the lowest block
 

@@ -1,5 +1,3 @@
--- Laws of the report.
+-- Laws of the search and of the report.
 pub mod FindingLaws
-pub mod TextLaws
 pub mod TrueFindingLaws
-pub mod ReportCases

@@ -13,12 +13,15 @@ use Rattle.bits.specs.BitLists.{isTail}
 use Rattle.bits.specs.declared.BitPosition.{BitPosition}
 use Rattle.code.specs.declared.Code.{Code as CodeRead}
 use Rattle.stream.specs.Streams.{openOf}
-use Rattle.stream.specs.declared.FujiHeader.{FujiHeader}
-use Rattle.stream.specs.declared.Parsed.{Parsed}
-use Rattle.stream.specs.declared.Parsed.the-variants as Parsing
-use Rattle.stream.specs.declared.Refusal.the-variants.{Lossy, Truncated, NotTight}
+use Rattle.header.specs.declared.FujiHeader.{FujiHeader}
+use Rattle.header.specs.declared.Parsed.{Parsed}
+use Rattle.header.specs.declared.Parsed.the-variants as Parsing
+use Rattle.header.specs.declared.Refusal.the-variants.{Lossy, Truncated, NotTight}
 use Rattle.block.specs.Blocks.{State, readLines}
-use Rattle.block.specs.BadCodes.{Reason, too-large, short-fits, too-many-zeros, reasonOf, BadCode, firstBad}
+use Rattle.bad_code.specs.declared.Reason.{Reason}
+use Rattle.bad_code.specs.declared.Reason.the-variants.{Large, Escape, Zeros}
+use Rattle.bad_code.specs.Reasons.{reasonOf}
+use Rattle.block.specs.BadCodes.{BadCode, firstBad}
 use Rattle.block.specs.Images.{formOf, bytesIn, linesRead}
 use Rattle.block.specs.TightBlocks.{bitsRead, readAnswer, tightAnswer}
 use Rattle.block.specs.declared.Decoded.{Decoded}
@@ -27,14 +30,14 @@ use Rattle.block.specs.declared.Form.{Form}
 use Rattle.block.proofs.BadCodeLaws.{bad-in}
 use Rattle.block.proofs.DecodeLaws.{was-read}
 use Rattle.trace.specs.Ways.{spotOf}
-use Rattle.trace.specs.declared.BadSpot.{BadSpot}
+use Rattle.bad_code.specs.declared.BadSpot.{BadSpot}
 use Rattle.diagnosis.specs.Faults.{gives15, whyNot, faultAt}
 use Rattle.findings.specs.Findings.{foundAt, orLater, lowest, findingIn, findingOf}
 use Rattle.findings.specs.TrueFindings.{Why, TrueFault, FaultTrue, TruncatedPassed, NoneBelow, Lowest, TrueFinding, FindingTrue}
 use Rattle.diagnosis.specs.declared.Fault.{Fault}
 use Rattle.diagnosis.specs.declared.Fault.the-variants as Fault
-use Rattle.findings.specs.declared.Finding.{Finding}
-use Rattle.findings.specs.declared.Finding.the-variants.{Refused, Nothing, Code, Tail}
+use Rattle.report_text.specs.declared.Finding.{Finding}
+use Rattle.report_text.specs.declared.Finding.the-variants.{Refused, Nothing, Code, Tail}
 
 clash : {X : Type 0} → _≡_ {A = ℕ} 0 1 → X
 clash e = absurd (omega arith)
@@ -47,15 +50,15 @@ module _ (M k limit : ℕ) (c : CodeRead) where
   why-holds w e = large (ltb M (c .value)) refl e
     where
       Rest : Bool → Bool → Bool → Option Reason
-      Rest long fits many = cond (long && fits) (some short-fits) (cond many (some too-many-zeros) none)
+      Rest long fits many = cond (long && fits) (some Escape) (cond many (some Zeros) none)
 
       zeros : (v : c .value ≤ M) (long fits many : Bool) → leb limit (c .zeros) ≡ long → ltb (c .value / 2 ^ k) limit ≡ fits → ltb limit (c .zeros) ≡ many
-          → cond (long && fits) (some short-fits) (cond many (some too-many-zeros) none) ≡ some w → Why M k limit c w
+          → cond (long && fits) (some Escape) (cond many (some Zeros) none) ≡ some w → Why M k limit c w
       zeros v true true many el ef em f =
-          let q : short-fits ≡ w = cc in
+          let q : Escape ≡ w = cc in
           subst (Why M k limit c) q (v, leb-true limit (c .zeros) el, ltb-true (c .value / 2 ^ k) limit ef)
       zeros v true false true el ef em f =
-          let q : too-many-zeros ≡ w = cc in
+          let q : Zeros ≡ w = cc in
           subst (Why M k limit c) q (v, ltb-false (c .value / 2 ^ k) limit ef, ltb-true limit (c .zeros) em)
       zeros v true false false el ef em f = clash cc
       zeros v false fits true el ef em f = split limit (c .zeros) (λ h. clash (over h el)) (λ h. absurd (omega (arith, ltb-true limit (c .zeros) em)))
@@ -65,10 +68,10 @@ module _ (M k limit : ℕ) (c : CodeRead) where
       zeros v false fits false el ef em f = clash cc
 
       large : (b : Bool) → ltb M (c .value) ≡ b
-          → cond b (some too-large)
-          (cond (leb limit (c .zeros) && ltb (c .value / 2 ^ k) limit) (some short-fits) (cond (ltb limit (c .zeros)) (some too-many-zeros) none)) ≡ some w
+          → cond b (some Large)
+          (cond (leb limit (c .zeros) && ltb (c .value / 2 ^ k) limit) (some Escape) (cond (ltb limit (c .zeros)) (some Zeros) none)) ≡ some w
           → Why M k limit c w
-      large true eb f = let q : too-large ≡ w = cc in subst (Why M k limit c) q (ltb-true M (c .value) eb)
+      large true eb f = let q : Large ≡ w = cc in subst (Why M k limit c) q (ltb-true M (c .value) eb)
       large false eb f =
           zeros (ltb-false M (c .value) eb) (leb limit (c .zeros)) (ltb (c .value / 2 ^ k) limit) (ltb limit (c .zeros)) refl refl refl f
 

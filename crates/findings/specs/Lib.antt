@@ -1,4 +1,3 @@
 -- The definitions of the report on a stream that is not tight.
 pub mod Findings
-pub mod Texts
 pub mod TrueFindings

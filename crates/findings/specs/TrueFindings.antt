@@ -12,32 +12,34 @@ use Rattle.quantiser.specs.Quantisers.{largest}
 use Rattle.code.specs.declared.Code.{Code as CodeRead}
 use Rattle.map.specs.Places.{widthOf}
 use Rattle.stream.specs.Streams.{openOf}
-use Rattle.stream.specs.declared.FujiHeader.{FujiHeader}
-use Rattle.stream.specs.declared.Parsed.the-variants as Parsing
-use Rattle.stream.specs.declared.Refusal.{Refusal}
-use Rattle.stream.specs.declared.Refusal.the-variants.{Lossy, Truncated, NotTight}
+use Rattle.header.specs.declared.FujiHeader.{FujiHeader}
+use Rattle.header.specs.declared.Parsed.the-variants as Parsing
+use Rattle.header.specs.declared.Refusal.{Refusal}
+use Rattle.header.specs.declared.Refusal.the-variants.{Lossy, Truncated, NotTight}
 use Rattle.block.specs.Blocks.{State, readLines}
-use Rattle.block.specs.BadCodes.{Reason, too-large, short-fits, too-many-zeros, BadCode, firstBad}
+use Rattle.bad_code.specs.declared.Reason.{Reason}
+use Rattle.bad_code.specs.declared.Reason.the-variants.{Large, Escape, Zeros}
+use Rattle.block.specs.BadCodes.{BadCode, firstBad}
 use Rattle.block.specs.BadSpots.{stepK, stepQuantiser, BadIn}
 use Rattle.block.specs.Images.{formOf, bytesIn}
 use Rattle.block.specs.TightBlocks.{tightAnswer}
 use Rattle.block.specs.declared.Decoded.the-variants as Answer
 use Rattle.trace.specs.Ways.{spotOf}
-use Rattle.trace.specs.declared.BadSpot.{BadSpot}
+use Rattle.bad_code.specs.declared.BadSpot.{BadSpot}
 use Rattle.diagnosis.specs.Faults.{faultAt}
 use Rattle.findings.specs.Findings.{findingOf}
 use Rattle.diagnosis.specs.declared.Fault.{Fault}
 use Rattle.diagnosis.specs.declared.Fault.the-variants as Fault
-use Rattle.findings.specs.declared.Finding.{Finding}
-use Rattle.findings.specs.declared.Finding.the-variants.{Refused, Nothing, Code, Tail}
+use Rattle.report_text.specs.declared.Finding.{Finding}
+use Rattle.report_text.specs.declared.Finding.the-variants.{Refused, Nothing, Code, Tail}
 
 -- ---- a block
 
 -- a reason holds, and none before it: 2^bits or more; long where the short form fits; more zeros than the limit
 abbrev pub Why : (M k limit : ℕ) → CodeRead → Reason → Type 0
-Why M k limit c too-large = M < c .value
-Why M k limit c short-fits = (c .value ≤ M) × (limit ≤ c .zeros) × (c .value / 2 ^ k < limit)
-Why M k limit c too-many-zeros = (c .value ≤ M) × (limit ≤ c .value / 2 ^ k) × (limit < c .zeros)
+Why M k limit c Large = M < c .value
+Why M k limit c Escape = (c .value ≤ M) × (limit ≤ c .zeros) × (c .value / 2 ^ k < limit)
+Why M k limit c Zeros = (c .value ≤ M) × (limit ≤ c .value / 2 ^ k) × (limit < c .zeros)
 
 -- block b gives 15 with this line
 abbrev pub Gives15 : List ℕ → FujiHeader → ℕ → ℕ → Type 0

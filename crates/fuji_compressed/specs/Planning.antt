@@ -3,7 +3,7 @@ use mathlib.Core.List.{List, [], _∷_}
 use mathlib.Core.Path.{_≡_}
 use Prim.Native.Nat.{ℕ}
 use lib.ListN.{length, replicate}
-use Rattle.stream.specs.Refusals.{refusalWords, noRefusal}
+use Rattle.header.specs.Refusals.{refusalWords, noRefusal}
 use Rattle.short_codes.specs.Sheets.{listedAnswer, ListAfter}
 use Rattle.short_codes.specs.declared.Listed.{Listed}
 use Rattle.short_codes.specs.declared.Listed.the-variants as Sheet

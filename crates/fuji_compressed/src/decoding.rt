@@ -2,7 +2,7 @@
 ghost use lib.ListN.{length};
 ghost use Rattle.region.specs.declared.Rect.{Rect};
 ghost use Rattle.cameras.specs.Entries.{givenBack};
-ghost use Rattle.cameras.specs.Words.{cameraIn, entriesIn, AreWords};
+ghost use Rattle.entry_words.specs.Words.{cameraIn, entriesIn, AreWords};
 ghost use Rattle.begin.specs.Beginnings.{regionBegins, windowedBegins, wholeOf, imageBegins};
 ghost use Rattle.block.specs.Lent.{Buffers};
 ghost use Rattle.block.specs.Words.{Told, ToldWindowed, ToldShared};
@@ -112,10 +112,10 @@ pub extern "C" fn fuji_decode_region_shared(
     };
     let t = *tile;
     let given = *entries;
-    let c = cameras::camera_in(camera);
-    let held = cameras::entries_in(&given);
+    let c = entry_words::camera_in(camera);
+    let held = entry_words::entries_in(&given);
     let a = decode_region_shared(c, held, d, r, t, image, lines, rs);
-    let words = cameras::words_of(a.entries);
+    let words = entry_words::words_of(a.entries);
     let answer = a.answer;
     let w = answer_words(answer);
     *entries = words;
@@ -128,10 +128,10 @@ pub extern "C" fn fuji_end_stream(camera: u32, entries: &mut [u32; 128])
     ensures { λ _. ⌜ AreWords (givenBack (cameraIn camera) (entriesIn (now (entries .entry)))) (now (entries .exit)) ⌝ }
 {
     let given = *entries;
-    let c = cameras::camera_in(camera);
-    let held = cameras::entries_in(&given);
+    let c = entry_words::camera_in(camera);
+    let held = entry_words::entries_in(&given);
     let left = cameras::end_stream(c, held);
-    let words = cameras::words_of(left);
+    let words = entry_words::words_of(left);
     *entries = words;
 }
 

@@ -1,6 +1,6 @@
 // What is known before a block is written: the bound of its length, the sheet of short codes, and plans of bases.
 ghost use mathlib.Core.Path.{_≡_};
-ghost use Rattle.stream.specs.Headers.{parseOf};
+ghost use Rattle.header.specs.Headers.{parseOf};
 ghost use Rattle.stream.specs.Lengths.{boundAnswer, lengthWord, lengthRefusal};
 ghost use Rattle.fuji_compressed.specs.Planning.{listedWords, listedRefusal, ToldSheet, plannedRefusal, ToldPlan};
 use plan::Planned;
@@ -34,7 +34,7 @@ fn listed_refusal(a: Listed) -> [usize; 4]
 {
     match a {
         Listed::Count(_) => [0; 4],
-        Listed::Refused(r) => stream::refusal_words(r),
+        Listed::Refused(r) => words::refusal_words(r),
     }
 }
 
@@ -62,7 +62,7 @@ fn planned_refusal(a: Planned) -> [usize; 4]
 {
     match a {
         Planned::Done => [0; 4],
-        Planned::Refused(r) => stream::refusal_words(r),
+        Planned::Refused(r) => words::refusal_words(r),
     }
 }
 

@@ -11,18 +11,19 @@ use lib.Dec.{leb, ltb, lit<}
 use lib.ListN.{length, getD, take}
 use lib.Seq.{getD-take, length-take-le}
 use Rattle.map.specs.Places.{widthOf}
-use Rattle.stream.specs.Headers.{headerOf, allRules, parseOf}
+use Rattle.header.specs.Headers.{headerOf, allRules, parseOf}
 use Rattle.stream.specs.Streams.{openOf}
-use Rattle.stream.specs.declared.FujiHeader.{FujiHeader}
-use Rattle.stream.specs.declared.Parsed.{Parsed}
-use Rattle.stream.specs.declared.Parsed.the-variants as Parsing
-use Rattle.stream.specs.declared.Refusal.the-variants.{ShortHeader, BadHeader, Truncated, NoBlock, BadState, ShortOutput}
+use Rattle.header.specs.declared.FujiHeader.{FujiHeader}
+use Rattle.header.specs.declared.Parsed.{Parsed}
+use Rattle.header.specs.declared.Parsed.the-variants as Parsing
+use Rattle.header.specs.declared.Refusal.the-variants.{ShortHeader, BadHeader, Truncated, NoBlock, BadState, ShortOutput}
 use Rattle.stream.proofs.StreamLaws.{opened}
 use Rattle.region.specs.Regions.{checkedOf, Accepted}
 use Rattle.region.specs.declared.Rect.{Rect}
 use Rattle.checkpoint.specs.Checkpoints.{Saved, sizeOfCheckpoint, checkpointByte, checkpointOf, IsCheckpoint}
-use Rattle.checkpoint.proofs.ByteLaws.{put-length, put-at}
-use Rattle.begin.specs.Beginnings.{readBegins, regionBegins, resumeBegins, withRegion, withResumed}
+use Rattle.begin.specs.Beginnings.{readBegins, regionBegins, withRegion}
+use Rattle.begin_resuming.specs.Resumings.{resumeBegins, withResumed}
+use Rattle.state_head.proofs.PutLaws.{put-length, put-at}
 use Rattle.begin.specs.declared.Beginning.the-variants.{Refused, Reading}
 use Rattle.begin.proofs.CallLaws.{region-reads, block-reads}
 use Rattle.block.specs.Blocks.{State, readLines}

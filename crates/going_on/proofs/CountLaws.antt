@@ -8,10 +8,11 @@ use native.Mathlib.Omega.{arith}
 use Rattle.prediction.specs.declared.Context.{Context}
 use Rattle.code.specs.declared.Coded.{Coded}
 use Rattle.code.specs.declared.Coded.the-variants.{Read, Truncated}
-use Rattle.steps.specs.Steps.{Step, passSteps}
-use Rattle.steps.specs.Contexts.{slotOf, lookOf, stepPlace, stepContext}
+use Rattle.schedule.specs.Steps.{Step, passSteps}
+use Rattle.schedule.specs.Steps.{stepPlace}
+use Rattle.steps.specs.Contexts.{slotOf, lookOf, stepContext}
 use Rattle.steps.specs.declared.Look.{Look}
-use Rattle.steps.specs.declared.Plan.{Plan}
+use Rattle.schedule.specs.declared.Plan.{Plan}
 use Rattle.pass.specs.Readings.{Reading, interpolate, taken, codeOf, readStep, andThen, reads, readPass}
 
 -- ---- two outcomes

@@ -13,13 +13,14 @@ use Rattle.numbers.proofs.OrderLaws.{split}
 use Rattle.statistics.specs.declared.Record.{Record}
 use Rattle.quantiser.proofs.GradientLaws.{main-le}
 use Rattle.prediction.specs.declared.Context.{Context}
-use Rattle.code.specs.Samples.{choiceOf}
+use Rattle.samples.specs.Samples.{choiceOf}
 use Rattle.code.specs.declared.Coded.{Coded}
 use Rattle.code.specs.declared.Coded.the-variants.{Read, Truncated}
-use Rattle.steps.specs.Steps.{Step, plans, noPlan, codedAll, planOf, passSteps}
-use Rattle.steps.specs.Contexts.{lookOf, slotOf, noRecord, stepPlace, stepContext, stepLook, stepSlot}
-use Rattle.steps.specs.declared.Plan.{Plan}
-use Rattle.steps.proofs.ScheduleLaws.{plan-in-range}
+use Rattle.schedule.specs.Steps.{Step, plans, noPlan, codedAll, planOf, passSteps}
+use Rattle.schedule.specs.Steps.{stepPlace}
+use Rattle.steps.specs.Contexts.{lookOf, slotOf, noRecord, stepContext, stepLook, stepSlot}
+use Rattle.schedule.specs.declared.Plan.{Plan}
+use Rattle.schedule.proofs.ScheduleLaws.{plan-in-range}
 use Rattle.pass.specs.Readings.{Reading, interpolate, taken, stepCode, readStep, reads, readPass}
 use Rattle.pass.proofs.FrameLaws.{first-then}
 use Rattle.pass.proofs.RangeLaws.{pass-keeps}

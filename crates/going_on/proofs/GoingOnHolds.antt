@@ -11,8 +11,8 @@ use lib.ListN.{length, take}
 use Rattle.numbers.proofs.BoolLaws.{both}
 use Rattle.map.specs.Places.{widthOf}
 use Rattle.map.proofs.PartLaws.{by-test}
-use Rattle.map.proofs.WindowLaws.{changed-as}
-use Rattle.stream.specs.declared.FujiHeader.{FujiHeader}
+use Rattle.header.specs.declared.FujiHeader.{FujiHeader}
+use Rattle.map.proofs.ChangeLaws.{changed-as}
 use Rattle.stream.proofs.StreamLaws.{opened}
 use Rattle.region.specs.Regions.{blockOf, firstBlock, lastBlock, lineCount, Accepted}
 use Rattle.region.specs.declared.Rect.{Rect}

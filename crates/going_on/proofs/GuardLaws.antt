@@ -12,9 +12,9 @@ use Rattle.lines.specs.ColourLines.{guarded}
 use Rattle.lines.proofs.LineLaws.{length-guarded, length-turned}
 use Rattle.lines.proofs.MoveLaws.{place-is, guard-leaves, left-guard, right-guard}
 use Rattle.map.specs.Places.{widthOf}
-use Rattle.steps.specs.Steps.{planOf, passSteps}
-use Rattle.steps.specs.declared.Plan.{Plan}
-use Rattle.steps.proofs.OrderLaws.{pass-all}
+use Rattle.schedule.specs.Steps.{planOf, passSteps}
+use Rattle.schedule.specs.declared.Plan.{Plan}
+use Rattle.schedule.proofs.OrderLaws.{pass-all}
 use Rattle.pass.specs.Readings.{Reading, readPass}
 use Rattle.pass.proofs.FrameLaws.{steps-leave, pass-frame}
 use Rattle.pass.proofs.RangeLaws.{pass-keeps}

@@ -16,7 +16,7 @@ use Rattle.lines.proofs.LineLaws.{length-guarded}
 use Rattle.map.specs.Places.{widthOf}
 use Rattle.map.proofs.PartLaws.{by-test}
 use Rattle.checkpoint.specs.Checkpoints.{isFlat, keptLine, IsCheckpoint, storedSample, loadedRecord, withKept, withSix, withGuards, loadedLines}
-use Rattle.checkpoint.proofs.ByteLaws.{put-length}
+use Rattle.state_head.proofs.PutLaws.{put-length}
 use Rattle.checkpoint.proofs.LoadedLines.{loaded-sample, left-of-4, right-of-4, left-of-12, right-of-12, left-of-17, right-of-17}
 use Rattle.checkpoint.proofs.StateLaws.{Storable, record-back, sample-back, position-back}
 use Rattle.block.specs.Blocks.{State, readLines}

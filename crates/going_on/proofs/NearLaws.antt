@@ -18,8 +18,8 @@ use Rattle.lines.proofs.LineLaws.{length-guarded, length-turned}
 use Rattle.lines.proofs.MoveLaws.{length-shifted}
 use Rattle.map.specs.Places.{widthOf}
 use Rattle.map.proofs.PartLaws.{by-test}
-use Rattle.steps.specs.Steps.{planOf}
-use Rattle.steps.specs.declared.Plan.{Plan}
+use Rattle.schedule.specs.Steps.{planOf}
+use Rattle.schedule.specs.declared.Plan.{Plan}
 use Rattle.pass.specs.Readings.{Reading, readPass}
 use Rattle.pass.specs.Pairs.{readingAt}
 use Rattle.pass.specs.Windows.{windowLine, windowPlan}

@@ -11,13 +11,14 @@ use lib.ListN.{length, getD}
 use Rattle.quantiser.specs.Quantisers.{largest}
 use Rattle.lines.specs.ColourLines.{guarded, zeroLines}
 use Rattle.map.specs.Places.{widthOf, sampleIndex}
-use Rattle.steps.specs.Steps.{planOf}
-use Rattle.steps.specs.declared.Plan.{Plan}
+use Rattle.schedule.specs.Steps.{planOf}
+use Rattle.schedule.specs.declared.Plan.{Plan}
 use Rattle.steps.proofs.ContextLaws.{AllLe, stored-le}
 use Rattle.pass.specs.Readings.{readPass}
 use Rattle.pass.proofs.RangeLaws.{pass-keeps}
-use Rattle.stream.specs.declared.FujiHeader.{FujiHeader}
-use Rattle.checkpoint.specs.Checkpoints.{putEach, keptLine, storedSample, badCheckpoint, otherCheckpoint, checkedOf, nextLine, positionIn, withKept, withSix}
+use Rattle.header.specs.declared.FujiHeader.{FujiHeader}
+use Rattle.state_head.specs.Heads.{putEach}
+use Rattle.checkpoint.specs.Checkpoints.{keptLine, storedSample, badCheckpoint, otherCheckpoint, checkedOf, nextLine, positionIn, withKept, withSix}
 use Rattle.checkpoint.specs.Checkpoints.{withGuards, loadedLines}
 use Rattle.checkpoint.specs.declared.load.Checked.the-variants.{Bad, Other, At}
 use Rattle.checkpoint.proofs.RangeLaws.{sample-in-range}

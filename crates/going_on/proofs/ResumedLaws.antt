@@ -14,11 +14,12 @@ use Rattle.numbers.proofs.OrderLaws.{split}
 use Rattle.map.specs.Places.{widthOf, colourLine, placeIn, tileAt, sampleIndex}
 use Rattle.map.proofs.PartLaws.{by-test}
 use Rattle.map.proofs.PlaceLaws.{place-lt}
-use Rattle.stream.specs.Headers.{Ruled}
-use Rattle.stream.specs.Streams.{openOf, rangeOf, cut, sizeOf, blockStart}
-use Rattle.stream.specs.declared.FujiHeader.{FujiHeader}
-use Rattle.stream.specs.declared.Parsed.the-variants.{Header}
-use Rattle.stream.specs.declared.Refusal.the-variants.{Truncated}
+use Rattle.header.specs.Headers.{Ruled}
+use Rattle.stream.specs.Streams.{openOf, rangeOf, sizeOf, blockStart}
+use Rattle.ranges.specs.Ranges.{cut}
+use Rattle.header.specs.declared.FujiHeader.{FujiHeader}
+use Rattle.header.specs.declared.Parsed.the-variants.{Header}
+use Rattle.header.specs.declared.Refusal.the-variants.{Truncated}
 use Rattle.stream.proofs.StreamLaws.{opened, range-opened, part-lt, row-lossless}
 use Rattle.region.specs.Regions.{lineCount}
 use Rattle.region.specs.declared.Rect.{Rect}

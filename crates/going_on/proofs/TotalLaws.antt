@@ -7,7 +7,7 @@ use Prim.Native.Nat.{ℕ, zero, suc, _+_, _-_, _≤_, max}
 use native.Mathlib.Nat.{add-zero, add-suc}
 use native.Mathlib.Omega.{arith}
 use Rattle.map.proofs.PartLaws.{by-test}
-use Rattle.stream.specs.declared.FujiHeader.{FujiHeader}
+use Rattle.header.specs.declared.FujiHeader.{FujiHeader}
 use Rattle.region.specs.Regions.{lineCount}
 use Rattle.region.specs.declared.Rect.{Rect}
 use Rattle.checkpoint.specs.Checkpoints.{nextLine, positionIn}

@@ -8,13 +8,14 @@ use Prim.Native.Nat.{ℕ, suc, _+_, _-_, _^_, _≤_, _<_, max}
 use lib.Dec.{ltb, eqb}
 use lib.ListN.{length, getD, take}
 use Rattle.map.specs.Places.{widthOf, Changed}
-use Rattle.stream.specs.declared.FujiHeader.{FujiHeader}
-use Rattle.stream.specs.declared.Parsed.the-variants.{Header}
+use Rattle.header.specs.declared.FujiHeader.{FujiHeader}
+use Rattle.header.specs.declared.Parsed.the-variants.{Header}
 use Rattle.region.specs.Regions.{blockOf, lastBlock, lineCount}
 use Rattle.region.specs.declared.Rect.{Rect}
 use Rattle.checkpoint.specs.Checkpoints.{sizeOfCheckpoint}
 use Rattle.checkpoint.specs.declared.load.Checked.the-variants.{At}
-use Rattle.begin.specs.Beginnings.{readBegins, resumeBegins}
+use Rattle.begin.specs.Beginnings.{readBegins}
+use Rattle.begin_resuming.specs.Resumings.{resumeBegins}
 use Rattle.begin.specs.declared.Beginning.the-variants.{Reading}
 use Rattle.block.specs.Blocks.{readLines, totalsAfter}
 use Rattle.block.specs.Images.{formOf, bytesIn, basesIn, isRead, readIn, lineOf, isDecoded, decodedSample, blockAnswer}

@@ -125,7 +125,7 @@ fn sample_agrees(c: Context, q: Quantiser, m: u32, code: u32, index: u32, sample
     requires { ⌜ ContextRanges c × (QuantiserRanges q × ((m < 2 ^ 16) × (code < 63 * 2 ^ 15))) ⌝ }
 {
     let gradient = quantiser::gradient(q.base, q.weight, c.first, c.second);
-    let ours = code::sample(m, q.base, q.total, gradient.negative, c.prediction, code);
+    let ours = samples::sample(m, q.base, q.total, gradient.negative, c.prediction, code);
     (gradient.size == index) & (ours == sample)
 }
 
@@ -144,7 +144,7 @@ fn context_agrees(w: [u32; 12], c: Context) -> bool
     if 255 < base {
         return false;
     }
-    let choice = code::choice(base, c.flatness());
+    let choice = samples::choice(base, c.flatness());
     let q = chosen(bits, choice, base);
     let sample = sample_agrees(c, q, quantiser::largest(bits), 2, w[10], w[11]);
     (c.prediction == w[8]) & (choice == w[9]) & sample
@@ -208,7 +208,7 @@ fn record_agrees(w: [u32; 12], code: u32) -> bool
         return false;
     }
     let record = Record { sum, n };
-    let next = record.update(code::residual_size(code));
+    let next = record.update(samples::residual_size(code));
     (next.sum == w[9]) & (next.n == byte(w[10], 1))
 }
 
@@ -270,9 +270,9 @@ fn reading_agrees(w: [u32; 12], s: &[u8], c: Context, q: Quantiser, m: u32) -> b
     let record = Record { sum: w[7], n };
     let at = BitPosition(w[2] as u64);
     let k = record.k();
-    let coded = code::read_code(s, at, k, q.limit, q.raw);
-    let taken = code::take_any(s, at, true, 0, m, k, q.limit, q.raw);
-    let found = code::short_code(s, at, m, k, q.limit);
+    let coded = reader::read_code(s, at, k, q.limit, q.raw);
+    let taken = reader::take_any(s, at, true, 0, m, k, q.limit, q.raw);
+    let found = reader::short_code(s, at, m, k, q.limit);
     coded_agrees(w, c, q, m, coded) & readers_agree(coded, taken) & short_agrees(coded, found)
 }
 
@@ -289,7 +289,7 @@ fn choice_agrees(w: [u32; 12], s: &[u8], c: Context) -> bool
         return false;
     }
     let flatness = c.flatness();
-    let choice = code::choice(base, flatness);
+    let choice = samples::choice(base, flatness);
     let q = chosen(bits, choice, base);
     let reading = reading_agrees(w, s, c, q, quantiser::largest(bits));
     (flatness == w[3]) & (choice == byte(w[10], 2)) & reading

@@ -11,20 +11,21 @@ use lib.ListN.{length, drop}
 use borrow.Author.Tests.{ltb-false}
 use Rattle.map.specs.Places.{widthOf}
 use Rattle.lines.specs.Sets.{setSize}
-use Rattle.stream.specs.Headers.{headerOf, allRules, parseOf}
+use Rattle.header.specs.Headers.{headerOf, allRules, parseOf}
 use Rattle.stream.specs.Lengths.{lengthWord, lengthRefusal}
-use Rattle.stream.specs.Refusals.{refusalNumber, noRefusal}
+use Rattle.header.specs.Refusals.{refusalNumber, noRefusal}
 use Rattle.stream.specs.declared.BlockLength.{BlockLength}
 use Rattle.stream.specs.declared.BlockLength.the-variants.{Length, Refused}
-use Rattle.stream.specs.declared.FujiHeader.{FujiHeader}
-use Rattle.stream.specs.declared.Parsed.{Parsed}
-use Rattle.stream.specs.declared.Parsed.the-variants as Parsing
-use Rattle.stream.specs.declared.Refusal.{Refusal}
-use Rattle.stream.specs.declared.Refusal.the-variants.{ShortHeader, BadHeader, WrongCount, ShortScratch}
-use Rattle.stream.specs.declared.Refusal.the-variants.{AboveLargest, NotPredicted, ShortOutput, Lossless, WrongBases}
-use Rattle.stream.proofs.RefusalLaws.{number-low}
-use Rattle.begin.specs.Beginnings.{isShortScratch, withLossy, lossyBegins}
-use Rattle.begin.proofs.CallLaws.{lossy-goes}
+use Rattle.header.specs.declared.FujiHeader.{FujiHeader}
+use Rattle.header.specs.declared.Parsed.{Parsed}
+use Rattle.header.specs.declared.Parsed.the-variants as Parsing
+use Rattle.header.specs.declared.Refusal.{Refusal}
+use Rattle.header.specs.declared.Refusal.the-variants.{ShortHeader, BadHeader, WrongCount, ShortScratch}
+use Rattle.header.specs.declared.Refusal.the-variants.{AboveLargest, NotPredicted, ShortOutput, Lossless, WrongBases}
+use Rattle.header.proofs.RefusalLaws.{number-low}
+use Rattle.begin.specs.Beginnings.{isShortScratch}
+use Rattle.begin_writing.specs.Writings.{withLossy, lossyBegins}
+use Rattle.begin_writing.proofs.SetLaws.{lossy-goes}
 use Rattle.block.specs.Images.{formOf}
 use Rattle.block.specs.Lent.{Outputs}
 use Rattle.block_writer.specs.Words.{ToldLossy}

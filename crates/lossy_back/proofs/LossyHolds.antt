@@ -7,9 +7,9 @@ use Prim.Native.Nat.{ℕ, suc, _+_, _*_, _/_, _%_, _≤_, _<_}
 use native.Mathlib.Omega.{arith}
 use lib.ListN.{length, getD}
 use borrow.Author.Tests.{le-ltb}
-use Rattle.steps.specs.Steps.{planOf, isInterpolated}
+use Rattle.schedule.specs.Steps.{planOf, isInterpolated}
 use Rattle.steps.specs.Values.{Depth}
-use Rattle.steps.proofs.PlanLaws.{firstLine, secondLine, lines-are, each-pass}
+use Rattle.schedule.proofs.PlanLaws.{firstLine, secondLine, lines-are, each-pass}
 use Rattle.pass.specs.Readings.{andThen}
 use Rattle.read_back.specs.UsedBases.{IsNear}
 use Rattle.read_back.proofs.ListBack.{base-le}
@@ -17,8 +17,8 @@ use Rattle.map.specs.Places.{widthOf}
 use Rattle.lines.specs.Sets.{lineSize, setSize, lineOfRank, indexIn, lineAt, colourLineAt, positionAt}
 use Rattle.writing.proofs.SetLaws.{passes-lines, line-lt, rank-lt, position-lt, index-at}
 use Rattle.stream.specs.declared.BlockLength.the-variants.{Length}
-use Rattle.stream.specs.declared.FujiHeader.{FujiHeader}
-use Rattle.stream.proofs.HeaderLaws.{ruled}
+use Rattle.header.specs.declared.FujiHeader.{FujiHeader}
+use Rattle.header.proofs.HeaderLaws.{ruled}
 use Rattle.block.specs.Records.{baseOf}
 use Rattle.block.specs.Blocks.{readLines, linesOf}
 use Rattle.block.specs.Images.{formOf}

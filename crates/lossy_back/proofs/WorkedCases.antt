@@ -4,9 +4,9 @@ use mathlib.Core.Bool.{true, false}
 use mathlib.Core.List.{[], _∷_}
 use mathlib.Core.Option.{none, some}
 use mathlib.Core.Path.{_≡_, refl}
-use Rattle.steps.specs.Steps.{isInterpolated}
+use Rattle.schedule.specs.Steps.{isInterpolated}
 use Rattle.lines.specs.Sets.{lineOfRank}
-use Rattle.begin.specs.Beginnings.{isIgnored, firstAbove}
+use Rattle.above_largest.specs.Above.{isIgnored, firstAbove}
 
 ignored-0 : isIgnored true false 0 ≡ true
 unfolding isIgnored isInterpolated lineOfRank

@@ -8,20 +8,20 @@ use mathlib.Core.Path.{_≡_}
 use Prim.Native.Nat.{ℕ, _≤_, _<_}
 use lib.ListN.{length, getD, drop}
 use Rattle.bits.specs.BitLists.{isTail}
-use Rattle.steps.specs.Steps.{planOf, passSteps, isInterpolated}
+use Rattle.schedule.specs.Steps.{planOf, passSteps, isInterpolated}
 use Rattle.pass.specs.Readings.{andThen}
 use Rattle.read_back.specs.UsedBases.{baseInSteps, IsNear}
 use Rattle.map.specs.Places.{widthOf}
 use Rattle.lines.specs.Sets.{setSize, lineAt, colourLineAt, positionAt}
-use Rattle.stream.specs.Headers.{parseOf}
-use Rattle.stream.specs.Refusals.{noRefusal}
+use Rattle.header.specs.Headers.{parseOf}
+use Rattle.header.specs.Refusals.{noRefusal}
 use Rattle.stream.specs.declared.BlockLength.{BlockLength}
 use Rattle.stream.specs.declared.BlockLength.the-variants.{Length, Refused}
-use Rattle.stream.specs.declared.FujiHeader.{FujiHeader}
-use Rattle.stream.specs.declared.Parsed.{Parsed}
-use Rattle.stream.specs.declared.Parsed.the-variants.{Header}
-use Rattle.stream.specs.declared.Refusal.the-variants.{NotPredicted}
-use Rattle.begin.specs.Beginnings.{lossyBegins}
+use Rattle.header.specs.declared.FujiHeader.{FujiHeader}
+use Rattle.header.specs.declared.Parsed.{Parsed}
+use Rattle.header.specs.declared.Parsed.the-variants.{Header}
+use Rattle.header.specs.declared.Refusal.the-variants.{NotPredicted}
+use Rattle.begin_writing.specs.Writings.{lossyBegins}
 use Rattle.block.specs.Records.{baseOf}
 use Rattle.block.specs.Blocks.{State, enter, runs, passAt, beforeLine, readLines}
 use Rattle.block.specs.Images.{formOf}

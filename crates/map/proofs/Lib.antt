@@ -3,4 +3,4 @@ pub mod TableLaws
 pub mod PlaceLaws
 pub mod RowLaws
 pub mod PartLaws
-pub mod WindowLaws
+pub mod ChangeLaws

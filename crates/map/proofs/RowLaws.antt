@@ -1,4 +1,4 @@
--- A row that is stored entry by entry. Assumes nothing.
+-- A row that is stored entry by entry, and where its samples stand. Assumes nothing.
 use mathlib.Core.Bool.{Bool, true, false, cond, _&&_}
 use mathlib.Core.List.{List}
 use mathlib.Core.Path.{_≡_, refl, _∙_}
@@ -10,9 +10,9 @@ use lib.Dec.{leb, ltb, lit<}
 use lib.ListN.{length, getD, set, length-set}
 use lib.Seq.{getD-set-same, getD-set-other}
 use Rattle.numbers.proofs.OrderLaws.{split}
-use Rattle.map.specs.Places.{placeIn, widthOf, sampleIndex, RowEmitted}
-use Rattle.map.specs.Rows.{AreStarts, InLines, sampleBy, threePut}
-use Rattle.map.proofs.PlaceLaws.{place-lt, line-inside}
+use Rattle.map.specs.Places.{placeIn, widthOf}
+use Rattle.map.specs.Rows.{InLines}
+use Rattle.map.proofs.PlaceLaws.{place-lt}
 
 -- the image after f left, f (left + 1), up to f (p - 1) were stored from `at` on
 pub record Stored (f : ℕ → ℕ) (left p at : ℕ) (before after : List ℕ) : Type 0 where
@@ -67,44 +67,8 @@ module _ (f : ℕ → ℕ) (left p at v : ℕ) (before after : List ℕ) (F : St
             (λ k. more-other i (λ q. omega arith) (behind-it i k));
       }
 
-pub index-by : (xtrans : Bool) (W : ℕ) (tile starts : List ℕ) (r q : ℕ) → AreStarts tile r (W + 2) starts
-    → getD starts (q % 6) 0 + placeIn xtrans q ≡ sampleIndex xtrans W tile r q
-unfolding sampleIndex AreStarts
-index-by xtrans W tile starts r q S = rw (S (q % 6) (mod-lt q (lit< tt)))
-
--- where the colour lines begin lies in them, and so does the sample of column q
-pub starts-inside : (xtrans : Bool) (W : ℕ) (tile starts : List ℕ) (r : ℕ) → AreStarts tile r (W + 2) starts → W ≡ widthOf xtrans → r < 6 → InLines W starts
-unfolding AreStarts
-starts-inside xtrans W tile starts r S e hr j hj = rw (S j hj) (omega (arith, line-inside W (getD tile (6 * r + j) 0) r hr))
-
+-- the sample of column q stands in the colour lines
 pub index-lt : (xtrans : Bool) (W : ℕ) (starts : List ℕ) (q x c : ℕ) → c ≡ q % 6 → InLines W starts → W ≡ widthOf xtrans → q < 768 → x ≡ placeIn xtrans q
     → getD starts c 0 + x < 18 * (W + 2)
 index-lt xtrans W starts q x c ec S e hq ex =
     omega (arith, S c (rw ec (mod-lt q (lit< tt))), rw (← ex, ← e) at (place-lt xtrans q hq))
-
--- the next column of the tile
-pub column-next : (q : ℕ) → (q % 6 + 1) % 6 ≡ (q + 1) % 6
-column-next q = omega arith
-
-pub row-emitted : (xtrans : Bool) (W : ℕ) (tile lines starts : List ℕ) (r left right at : ℕ) (before after : List ℕ) → AreStarts tile r (W + 2) starts
-    → Stored (sampleBy lines starts xtrans) left right at before after → RowEmitted xtrans W tile lines r left right at before after
-row-emitted xtrans W tile lines starts r left right at before after S F =
-    record {
-      kept = F .kept;
-      entries = λ i. F .entries i ∙ rw (index-by xtrans W tile starts r (left + (i - at)) S);
-    }
-
--- one more sample, with its number and its place given otherwise
-stored-at : (f : ℕ → ℕ) (left at : ℕ) (before : List ℕ) (p p′ i : ℕ) (after : List ℕ) → Stored f left p at before after → p′ ≡ p + 1 → left ≤ p
-    → i ≡ at + (p - left) → i < length before
-    → Stored f left p′ at before (set after i (f p))
-stored-at f left at before p p′ i after F ep low ei room = rw (ep, ei) (stored-more f left p at (f p) before after F low (omega arith) refl)
-
--- three samples at once
-pub stored-three : (f : ℕ → ℕ) (left at : ℕ) (before : List ℕ) (p p′ i : ℕ) (after : List ℕ) → Stored f left p at before after → p′ ≡ p + 3 → left ≤ p
-    → i ≡ at + (p - left) → i + 3 ≤ length before
-    → Stored f left p′ at before (threePut f i p after)
-stored-three f left at before p p′ i after F ep low ei room =
-    let s₁ = stored-at f left at before p (p + 1) i after F refl low ei (omega arith) in
-    let s₂ = stored-at f left at before (p + 1) (p + 2) (i + 1) _ s₁ (omega arith) (omega arith) (omega arith) (omega arith) in
-    stored-at f left at before (p + 2) p′ (i + 2) _ s₂ (omega arith) (omega arith) (omega arith) (omega arith)

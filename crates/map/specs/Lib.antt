@@ -1,4 +1,3 @@
 -- The definitions of the map from colour lines to the image.
 pub mod Places
 pub mod Rows
-pub mod Windows

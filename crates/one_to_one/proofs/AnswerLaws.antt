@@ -9,8 +9,8 @@ use native.Mathlib.Omega.{arith}
 use lib.Dec.{ltb}
 use borrow.Author.Tests.{le-ltb, ltb-false}
 use Rattle.bits.specs.BitLists.{isTail}
-use Rattle.stream.specs.declared.Refusal.{Refusal}
-use Rattle.stream.specs.declared.Refusal.the-variants.{Truncated, NotTight}
+use Rattle.header.specs.declared.Refusal.{Refusal}
+use Rattle.header.specs.declared.Refusal.the-variants.{Truncated, NotTight}
 use Rattle.block.specs.Blocks.{readLines}
 use Rattle.block.specs.Images.{linesRead}
 use Rattle.block.specs.BadCodes.{BadCode, firstBad}

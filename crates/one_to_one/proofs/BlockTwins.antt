@@ -11,7 +11,7 @@ use Rattle.pass.specs.Readings.{andThen}
 use Rattle.map.specs.Places.{widthOf}
 use Rattle.lines.specs.Sets.{indexIn}
 use Rattle.steps.specs.Values.{Depth}
-use Rattle.steps.specs.Steps.{planOf}
+use Rattle.schedule.specs.Steps.{planOf}
 use Rattle.read_back.proofs.PassBack.{place-exact}
 use Rattle.writing.proofs.LosslessLaws.{Lossless}
 use Rattle.writing.proofs.SetLaws.{passes-lines}

@@ -13,25 +13,26 @@ use Rattle.statistics.proofs.RecordLaws.{k-least}
 use Rattle.quantiser.specs.Quantisers.{largest}
 use Rattle.prediction.specs.declared.Context.{Context}
 use Rattle.code.specs.Codes.{shortCode, longCode, codeAt}
-use Rattle.code.specs.Samples.{choiceOf}
+use Rattle.samples.specs.Samples.{choiceOf}
 use Rattle.code.specs.Tight.{isTight}
 use Rattle.code.specs.declared.Code.{Code}
 use Rattle.code.specs.declared.Coded.{Coded}
 use Rattle.code.specs.declared.Coded.the-variants.{Read, Truncated}
 use Rattle.code.proofs.CodeLaws.{code-cases}
 use Rattle.code.proofs.TightLaws.{tight-small, tight-long}
-use Rattle.steps.specs.Steps.{Step, planOf, passSteps, upto}
-use Rattle.steps.specs.Contexts.{lookOf, usedQuantiser, noRecord, stepPlace, stepContext, stepLook, stepSlot}
+use Rattle.schedule.specs.Steps.{Step, planOf, passSteps, upto}
+use Rattle.schedule.specs.Steps.{stepPlace}
+use Rattle.steps.specs.Contexts.{lookOf, usedQuantiser, noRecord, stepContext, stepLook, stepSlot}
 use Rattle.steps.specs.declared.Look.{Look}
-use Rattle.steps.specs.declared.Plan.{Plan}
+use Rattle.schedule.specs.declared.Plan.{Plan}
 use Rattle.steps.specs.Values.{Depth}
-use Rattle.steps.proofs.ScheduleLaws.{codes, lineSteps}
+use Rattle.schedule.proofs.ScheduleLaws.{codes, lineSteps}
 use Rattle.pass.specs.Readings.{Reading, interpolate, takeCode, taken, readStep, reads, readPass}
 use Rattle.writing.proofs.BoundLaws.{short-most, four}
 use Rattle.writing.proofs.LosslessLaws.{lossless}
 use Rattle.pass.proofs.FrameLaws.{first-then}
 use Rattle.map.specs.Places.{widthOf}
-use Rattle.stream.proofs.HeaderLaws.{ruled}
+use Rattle.header.proofs.HeaderLaws.{ruled}
 use Rattle.block.specs.Blocks.{State, runs, enter, leave, passAt, endLine, readLine, beforeLine, readLineAt, startState, readLines}
 use Rattle.block.specs.Images.{formOf}
 use Rattle.block.specs.declared.Form.{Form}

@@ -11,15 +11,16 @@ use borrow.Author.Tests.{eq-eqb, ltb-true, ltb-false}
 use Rattle.map.specs.Places.{widthOf}
 use Rattle.stream.specs.declared.BlockLength.{BlockLength}
 use Rattle.stream.specs.declared.BlockLength.the-variants.{Length, Refused}
-use Rattle.stream.specs.declared.FujiHeader.{FujiHeader}
-use Rattle.stream.specs.Headers.{parseOf}
+use Rattle.header.specs.declared.FujiHeader.{FujiHeader}
+use Rattle.header.specs.Headers.{parseOf}
 use Rattle.stream.specs.Lengths.{lengthWord, lengthRefusal}
-use Rattle.stream.specs.Refusals.{refusalNumber, noRefusal}
-use Rattle.stream.specs.declared.Refusal.{Refusal}
-use Rattle.stream.specs.declared.Refusal.the-variants.{ShortScratch}
-use Rattle.stream.specs.declared.Parsed.the-variants as Parsing
-use Rattle.stream.proofs.RefusalLaws.{number-low}
-use Rattle.begin.specs.Beginnings.{samplesNeeded, recordsNeeded, withScratch, writingBegins}
+use Rattle.header.specs.Refusals.{refusalNumber, noRefusal}
+use Rattle.header.specs.declared.Refusal.{Refusal}
+use Rattle.header.specs.declared.Refusal.the-variants.{ShortScratch}
+use Rattle.header.specs.declared.Parsed.the-variants as Parsing
+use Rattle.header.proofs.RefusalLaws.{number-low}
+use Rattle.begin.specs.Beginnings.{samplesNeeded, recordsNeeded, withScratch}
+use Rattle.begin_writing.specs.Writings.{writingBegins}
 use Rattle.lines.specs.Sets.{setSize}
 use Rattle.block.specs.Images.{formOf}
 use Rattle.block.specs.Lent.{Outputs}

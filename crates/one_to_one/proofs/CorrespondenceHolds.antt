@@ -13,7 +13,7 @@ use Rattle.bits.proofs.PackLaws.{bytes-bytesOf, bytesOf-bits}
 use Rattle.quantiser.specs.Quantisers.{largest}
 use Rattle.steps.specs.Values.{Depth}
 use Rattle.map.specs.Places.{widthOf}
-use Rattle.stream.proofs.HeaderLaws.{ruled}
+use Rattle.header.proofs.HeaderLaws.{ruled}
 use Rattle.stream.proofs.StreamLaws.{row-lossless}
 use Rattle.lines.specs.Sets.{lineSize, setSize, lineAt, positionAt}
 use Rattle.writing.proofs.LosslessLaws.{Lossless, lossless}

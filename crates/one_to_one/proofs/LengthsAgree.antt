@@ -12,17 +12,18 @@ use lib.ListN.{length}
 use borrow.Author.Tests.{ltb-true, ltb-false, le-ltb}
 use Rattle.quantiser.specs.Quantisers.{largest}
 use Rattle.map.specs.Places.{widthOf}
-use Rattle.stream.specs.Headers.{parseOf, allRules, headerOf}
+use Rattle.header.specs.Headers.{parseOf, allRules, headerOf}
 use Rattle.stream.specs.Lengths.{lengthBound}
-use Rattle.stream.specs.Refusals.{refusalNumber}
+use Rattle.header.specs.Refusals.{refusalNumber}
 use Rattle.stream.specs.declared.BlockLength.the-variants.{Length, Refused}
-use Rattle.stream.specs.declared.FujiHeader.{FujiHeader}
-use Rattle.stream.specs.declared.Parsed.{Parsed}
-use Rattle.stream.specs.declared.Parsed.the-variants as Parsing
-use Rattle.stream.specs.declared.Refusal.{Refusal}
-use Rattle.stream.specs.declared.Refusal.the-variants.{ShortHeader, BadHeader, Lossy, WrongCount, ShortScratch, AboveLargest, NotPredicted, ShortOutput}
-use Rattle.begin.specs.Beginnings.{isShortScratch, withParsed, writingBegins}
-use Rattle.begin.proofs.CallLaws.{writing-goes}
+use Rattle.header.specs.declared.FujiHeader.{FujiHeader}
+use Rattle.header.specs.declared.Parsed.{Parsed}
+use Rattle.header.specs.declared.Parsed.the-variants as Parsing
+use Rattle.header.specs.declared.Refusal.{Refusal}
+use Rattle.header.specs.declared.Refusal.the-variants.{ShortHeader, BadHeader, Lossy, WrongCount, ShortScratch, AboveLargest, NotPredicted, ShortOutput}
+use Rattle.begin.specs.Beginnings.{isShortScratch}
+use Rattle.begin_writing.specs.Writings.{withParsed, writingBegins}
+use Rattle.begin_writing.proofs.SetLaws.{writing-goes}
 use Rattle.lines.specs.Sets.{setSize}
 use Rattle.block.specs.Images.{formOf}
 use Rattle.block_writer.specs.WrittenAnswers.{predictedAnswer, rangeAnswer, measuredAnswer, aboveIn, setAnswer, writtenAnswer, exactAnswer, LeftWritten, LeftMeasured}

@@ -10,7 +10,7 @@ use lib.ListN.{length, getD}
 use borrow.Author.Tests.{le-leb}
 use Rattle.quantiser.specs.Quantisers.{largest}
 use Rattle.pass.specs.Readings.{andThen}
-use Rattle.steps.specs.Steps.{planOf}
+use Rattle.schedule.specs.Steps.{planOf}
 use Rattle.steps.specs.Values.{Depth}
 use Rattle.lines.proofs.LineLaws.{length-turned}
 use Rattle.map.specs.Places.{widthOf}
@@ -24,7 +24,7 @@ use Rattle.block.specs.declared.Form.{Form}
 use Rattle.block.proofs.RunLaws.{runs-keep}
 use Rattle.block.proofs.SampleLaws.{turned-le}
 use Rattle.block_writer.proofs.WrittenLaws.{passAt-adds, passAt-right}
-use Rattle.steps.proofs.PlanLaws.{NotOf, other-lines}
+use Rattle.schedule.proofs.PlanLaws.{NotOf, other-lines}
 use Rattle.writing.proofs.SetLaws.{lines-passes}
 use Rattle.one_to_one.proofs.RunTwins.{writeStateOf, CleanState, StoredState, StateForward, StateBack, stored-before, Each, runs-forward, runs-backward}
 use Rattle.one_to_one.proofs.PassTwins.{SoundState, PassHolds, LeftBy, PassLeft, pass-sound, pass-keeps-others, passAt-forward, passAt-backward}

@@ -8,13 +8,14 @@ use Prim.Native.Nat.{ℕ, _+_, _-_, _*_, _%_, _≤_, _<_}
 use native.Mathlib.Omega.{arith}
 use lib.ListN.{getD, set}
 use Rattle.quantiser.specs.Quantisers.{largest}
-use Rattle.steps.specs.Values.{Depth, PlanInRange}
+use Rattle.schedule.specs.Steps.{PlanInRange}
+use Rattle.steps.specs.Values.{Depth}
 use Rattle.pass.specs.Readings.{Reading, readPass}
-use Rattle.steps.specs.Steps.{planOf, passSteps}
-use Rattle.steps.specs.declared.Plan.{Plan}
+use Rattle.schedule.specs.Steps.{planOf, passSteps}
+use Rattle.schedule.specs.declared.Plan.{Plan}
 use Rattle.pass.proofs.RangeLaws.{Kept, pass-keeps}
-use Rattle.steps.proofs.PlanLaws.{two-lines, NotOf, steps-coded}
-use Rattle.steps.proofs.ScheduleLaws.{plan-in-range}
+use Rattle.schedule.proofs.PlanLaws.{two-lines, NotOf, steps-coded}
+use Rattle.schedule.proofs.ScheduleLaws.{plan-in-range}
 use Rattle.lines.specs.ColourLines.{guarded}
 use Rattle.lines.proofs.LineLaws.{length-guarded}
 use Rattle.lines.proofs.MoveLaws.{samples-stay}

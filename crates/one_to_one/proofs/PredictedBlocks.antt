@@ -8,9 +8,9 @@ use Prim.Native.Nat.{ℕ, zero, suc, _+_, _-_, _*_, _%_, _≤_, _<_}
 use native.Mathlib.Omega.{arith}
 use lib.ListN.{length, getD, length-replicate}
 use Rattle.numbers.proofs.OrderLaws.{split}
-use Rattle.steps.specs.Steps.{isInterpolated, planOf, passSteps}
+use Rattle.schedule.specs.Steps.{isInterpolated, planOf, passSteps}
 use Rattle.steps.specs.Contexts.{contextIn}
-use Rattle.steps.specs.declared.Plan.{Plan}
+use Rattle.schedule.specs.declared.Plan.{Plan}
 use Rattle.lines.specs.ColourLines.{zeroLines, guarded, turned}
 use Rattle.lines.proofs.LineLaws.{length-turned}
 use Rattle.lines.proofs.MoveLaws.{turned-at}
@@ -19,8 +19,8 @@ use Rattle.lines.specs.Sets.{indexIn}
 use Rattle.quantiser.specs.Quantisers.{largest}
 use Rattle.writing.specs.Puts.{Within}
 use Rattle.writing.specs.Writings.{writePass}
-use Rattle.steps.proofs.OrderLaws.{all-both, pass-all, all-pass}
-use Rattle.steps.proofs.PlanLaws.{interpolated-even, steps-coded}
+use Rattle.schedule.proofs.OrderLaws.{all-both, pass-all, all-pass}
+use Rattle.schedule.proofs.PlanLaws.{interpolated-even, steps-coded}
 use Rattle.block_writer.specs.WrittenBlocks.{WriteState, repeats, enterWriting, writePassAt, beforeWriting, writeLine, startWriting, writeLines, FitSet}
 use Rattle.block.specs.declared.Form.{Form}
 use Rattle.block.proofs.LineLaws.{width-in-range}

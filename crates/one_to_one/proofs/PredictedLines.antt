@@ -11,9 +11,9 @@ use lib.Dec.{eqb}
 use lib.ListN.{length, getD}
 use borrow.Author.Tests.{eq-eqb, ne-eqb}
 use Rattle.numbers.proofs.OrderLaws.{split}
-use Rattle.steps.specs.Steps.{planOf, passSteps}
+use Rattle.schedule.specs.Steps.{planOf, passSteps}
 use Rattle.steps.specs.Contexts.{contextIn}
-use Rattle.steps.specs.declared.Plan.{Plan}
+use Rattle.schedule.specs.declared.Plan.{Plan}
 use Rattle.lines.specs.ColourLines.{guarded}
 use Rattle.lines.proofs.LineLaws.{length-guarded}
 use Rattle.lines.proofs.MoveLaws.{place-is, samples-stay, guard-leaves, left-guard}
@@ -21,9 +21,9 @@ use Rattle.lines.specs.Sets.{indexIn}
 use Rattle.quantiser.specs.Quantisers.{largest}
 use Rattle.writing.specs.Puts.{Within}
 use Rattle.writing.specs.Writings.{Writing, writes}
-use Rattle.steps.proofs.OrderLaws.{pass-all, all-pass, pass-apart}
+use Rattle.schedule.proofs.OrderLaws.{pass-all, all-pass, pass-apart}
 use Rattle.one_to_one.specs.PredictedSets.{sampleAt, predictionIn}
-use Rattle.steps.proofs.PlanLaws.{two-lines}
+use Rattle.schedule.proofs.PlanLaws.{two-lines}
 use Rattle.one_to_one.proofs.PredictedSteps.{place, even-sees, writes-leave, writes-length, writes-stand}
 use Rattle.one_to_one.proofs.PredictedPasses.{ready, LineOf, lines-of, Owner, before, first, second, owner, not-ready}
 

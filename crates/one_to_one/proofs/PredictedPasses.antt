@@ -11,12 +11,12 @@ use lib.ListN.{getD}
 use borrow.Author.Tests.{eq-eqb, ne-eqb, le-ltb, lt-ltb, le-leb, lt-leb, leb-true, ltb-true, eqb-true}
 use Rattle.numbers.proofs.BoolLaws.{both}
 use Rattle.numbers.proofs.OrderLaws.{split}
-use Rattle.steps.specs.Steps.{plans, noPlan, planOf, isInterpolated, Step, passSteps}
-use Rattle.steps.specs.declared.Plan.{Plan}
-use Rattle.steps.proofs.OrderLaws.{All, all-both, pass-all}
+use Rattle.schedule.specs.Steps.{plans, noPlan, planOf, isInterpolated, Step, passSteps}
+use Rattle.schedule.specs.declared.Plan.{Plan}
+use Rattle.schedule.proofs.OrderLaws.{All, all-both, pass-all}
 use Rattle.lines.proofs.MoveLaws.{place-is}
 use Rattle.one_to_one.specs.PredictedSets.{isBefore}
-use Rattle.steps.proofs.PlanLaws.{firstLine, secondLine, lines-are, each-pass, interpolated-even, CodedIn, steps-coded}
+use Rattle.schedule.proofs.PlanLaws.{firstLine, secondLine, lines-are, each-pass, interpolated-even, CodedIn, steps-coded}
 use Rattle.one_to_one.proofs.PredictedSteps.{place, InPass}
 
 -- ---- the order of the lines

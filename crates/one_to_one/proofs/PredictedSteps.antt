@@ -9,14 +9,14 @@ use native.Mathlib.Omega.{arith}
 use lib.ListN.{length, getD, set, length-set}
 use lib.Seq.{getD-set-other, getD-set-same}
 use borrow.Author.Tests.{eq-eqb, eqb-true}
-use Rattle.steps.specs.Steps.{Step}
+use Rattle.schedule.specs.Steps.{Step}
 use Rattle.steps.specs.Contexts.{evenIn, contextIn, stepContext}
 use Rattle.steps.proofs.ContextLaws.{context-le}
 use Rattle.quantiser.specs.Quantisers.{largest}
 use Rattle.prediction.specs.Predictions.{evenPrediction, evenContext}
 use Rattle.writing.specs.Puts.{Within}
 use Rattle.writing.specs.Writings.{Writing, orSecond, writeStep, writes}
-use Rattle.steps.proofs.OrderLaws.{All, cell, Apart}
+use Rattle.schedule.proofs.OrderLaws.{All, cell, Apart}
 use Rattle.writing.proofs.LookLaws.{given-exact}
 use Rattle.writing.proofs.StepPuts.{step-within}
 use Rattle.writing.proofs.WriteLaws.{wanted, write-coded, write-interpolated, writes-right}

@@ -9,11 +9,11 @@ use lib.ListN.{length, replicate}
 use borrow.Author.Tests.{le-ltb}
 use Rattle.bits.proofs.PackLaws.{length-bytesOf}
 use Rattle.map.specs.Places.{widthOf}
-use Rattle.stream.specs.Headers.{parseOf, Ruled}
+use Rattle.header.specs.Headers.{parseOf, Ruled}
 use Rattle.stream.specs.Streams.{openOf}
-use Rattle.stream.specs.declared.FujiHeader.{FujiHeader}
-use Rattle.stream.specs.declared.Parsed.the-variants.{Header}
-use Rattle.stream.proofs.HeaderLaws.{ruled}
+use Rattle.header.specs.declared.FujiHeader.{FujiHeader}
+use Rattle.header.specs.declared.Parsed.the-variants.{Header}
+use Rattle.header.proofs.HeaderLaws.{ruled}
 use Rattle.region.specs.Regions.{Accepted, firstBlock, lastBlock, lineCount}
 use Rattle.region.specs.declared.Rect.{Rect}
 use Rattle.region.proofs.RegionLaws.{block-inside, block-order, lines-inside}

@@ -9,11 +9,12 @@ use lib.Dec.{lit<}
 use lib.ListN.{length, getD, take, drop, replicate, length-append, length-replicate, List·getD-append}
 use lib.Seq.{length-take-le, getD-take, getD-drop, getD-append-add, drop-append-add, take-at}
 use borrow.Author.Tests.{le-ltb, lt-ltb}
-use Rattle.stream.specs.Headers.{byteAt, headerOf, kindRules, parseOf, Ruled}
-use Rattle.stream.specs.Streams.{padded, rowStart, openOf, sizeOf, sizesBefore, rangeOf, partOf}
-use Rattle.stream.specs.declared.FujiHeader.{FujiHeader}
-use Rattle.stream.specs.declared.Parsed.the-variants.{Header}
-use Rattle.stream.proofs.HeaderLaws.{IsParsed, parsed, parse-good, ruled}
+use Rattle.header.specs.Headers.{byteAt, headerOf, kindRules, parseOf, Ruled}
+use Rattle.stream.specs.Streams.{padded, rowStart, openOf, sizeOf, sizesBefore, rangeOf}
+use Rattle.ranges.specs.Ranges.{partOf}
+use Rattle.header.specs.declared.FujiHeader.{FujiHeader}
+use Rattle.header.specs.declared.Parsed.the-variants.{Header}
+use Rattle.header.proofs.HeaderLaws.{IsParsed, parsed, parse-good, ruled}
 use Rattle.stream.proofs.StreamLaws.{open-parsed, range-opened}
 use Rattle.block.proofs.SampleLaws.{zeros-le}
 use Rattle.one_to_one.specs.Correspondence.{Bytes}

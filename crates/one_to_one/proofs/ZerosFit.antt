@@ -8,9 +8,10 @@ use native.Mathlib.Omega.{arith}
 use lib.ListN.{getD, set, replicate, length-replicate}
 use borrow.Author.Tests.{eq-eqb}
 use Rattle.quantiser.specs.Quantisers.{largest}
-use Rattle.steps.specs.Steps.{Step, planOf, passSteps}
-use Rattle.steps.specs.Contexts.{stepPlace, stepContext, stepLook}
-use Rattle.steps.specs.declared.Plan.{Plan}
+use Rattle.schedule.specs.Steps.{Step, planOf, passSteps}
+use Rattle.schedule.specs.Steps.{stepPlace}
+use Rattle.steps.specs.Contexts.{stepContext, stepLook}
+use Rattle.schedule.specs.declared.Plan.{Plan}
 use Rattle.steps.proofs.ContextLaws.{AllLe, context-le, stored-le}
 use Rattle.map.specs.Places.{widthOf}
 use Rattle.lines.specs.ColourLines.{guarded}

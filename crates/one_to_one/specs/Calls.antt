@@ -7,13 +7,14 @@ use mathlib.Core.Logic.{_↔_}
 use mathlib.Core.Path.{_≡_}
 use Prim.Native.Nat.{ℕ, _≤_}
 use lib.ListN.{length, drop}
-use Rattle.stream.specs.Headers.{parseOf}
-use Rattle.stream.specs.Refusals.{noRefusal}
+use Rattle.header.specs.Headers.{parseOf}
+use Rattle.header.specs.Refusals.{noRefusal}
 use Rattle.stream.specs.declared.BlockLength.{BlockLength}
 use Rattle.stream.specs.declared.BlockLength.the-variants.{Length}
-use Rattle.stream.specs.declared.FujiHeader.{FujiHeader}
-use Rattle.stream.specs.declared.Parsed.the-variants.{Header}
-use Rattle.begin.specs.Beginnings.{samplesNeeded, recordsNeeded, writingBegins}
+use Rattle.header.specs.declared.FujiHeader.{FujiHeader}
+use Rattle.header.specs.declared.Parsed.the-variants.{Header}
+use Rattle.begin.specs.Beginnings.{samplesNeeded, recordsNeeded}
+use Rattle.begin_writing.specs.Writings.{writingBegins}
 use Rattle.block.specs.Images.{formOf}
 use Rattle.block.specs.Lent.{Outputs}
 use Rattle.block_writer.specs.Words.{ToldWritten}

@@ -7,11 +7,11 @@ use mathlib.Core.Path.{_≡_}
 use Prim.Native.Nat.{ℕ, suc, _+_, _*_, _≤_, _<_}
 use lib.ListN.{length, getD, drop}
 use Rattle.map.specs.Places.{widthOf}
-use Rattle.stream.specs.Headers.{parseOf}
+use Rattle.header.specs.Headers.{parseOf}
 use Rattle.stream.specs.Streams.{openOf}
 use Rattle.stream.specs.declared.BlockLength.the-variants.{Length}
-use Rattle.stream.specs.declared.FujiHeader.{FujiHeader}
-use Rattle.stream.specs.declared.Parsed.the-variants.{Header}
+use Rattle.header.specs.declared.FujiHeader.{FujiHeader}
+use Rattle.header.specs.declared.Parsed.the-variants.{Header}
 use Rattle.lines.specs.Sets.{setSize, lineOfRank, indexIn}
 use Rattle.block.specs.Blocks.{readLines, linesOf}
 use Rattle.block.specs.Images.{formOf, basesIn}

@@ -7,7 +7,7 @@ use lib.Dec.{leb, ltb, eqb}
 use lib.ListN.{length, getD}
 use Rattle.quantiser.specs.Quantisers.{largest}
 use Rattle.prediction.specs.Predictions.{evenPrediction}
-use Rattle.steps.specs.Steps.{isInterpolated}
+use Rattle.schedule.specs.Steps.{isInterpolated}
 use Rattle.map.specs.Places.{widthOf}
 use Rattle.lines.specs.Sets.{setSize, indexIn}
 use Rattle.block.specs.declared.Form.{Form}

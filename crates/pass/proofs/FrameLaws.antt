@@ -14,10 +14,11 @@ use lib.Seq.{getD-set-other}
 use Rattle.numbers.proofs.OrderLaws.{split}
 use Rattle.code.specs.declared.Coded.{Coded}
 use Rattle.code.specs.declared.Coded.the-variants.{Read, Truncated}
-use Rattle.steps.specs.Steps.{Step, evenSteps, oddSteps, turnSteps, upto, passSteps}
-use Rattle.steps.specs.Contexts.{stepPlace, stepContext, stepLook, stepSlot}
-use Rattle.steps.specs.declared.Plan.{Plan}
-use Rattle.steps.proofs.OrderLaws.{All, cell, pass-all}
+use Rattle.schedule.specs.Steps.{Step, evenSteps, oddSteps, turnSteps, upto, passSteps}
+use Rattle.schedule.specs.Steps.{stepPlace}
+use Rattle.steps.specs.Contexts.{stepContext, stepLook, stepSlot}
+use Rattle.schedule.specs.declared.Plan.{Plan}
+use Rattle.schedule.proofs.OrderLaws.{All, cell, pass-all}
 use Rattle.pass.specs.Readings.{Reading, interpolate, taken, stepCode, readStep, andThen, reads, readPass}
 
 -- ---- what a reading leaves as it is

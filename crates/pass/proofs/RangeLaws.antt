@@ -14,17 +14,18 @@ use Rattle.statistics.proofs.RecordLaws.{k-least, updated-in-range}
 use Rattle.quantiser.specs.Quantisers.{largest}
 use Rattle.prediction.specs.declared.Context.{Context}
 use Rattle.code.specs.Codes.{Bounds}
-use Rattle.code.specs.Samples.{residualOf}
+use Rattle.samples.specs.Samples.{residualOf}
 use Rattle.code.specs.declared.Code.{Code}
 use Rattle.code.specs.declared.Coded.{Coded}
 use Rattle.code.specs.declared.Coded.the-variants.{Read, Truncated}
 use Rattle.code.proofs.CodeLaws.{code-bounds, code-shape}
-use Rattle.code.proofs.SampleLaws.{residual-size, sample-le}
-use Rattle.steps.specs.Steps.{Step, passSteps}
-use Rattle.steps.specs.Contexts.{usedBase, usedWeight, usedQuantiser, noRecord, stepPlace, stepContext, stepLook, stepSlot}
+use Rattle.samples.proofs.SampleLaws.{residual-size, sample-le}
+use Rattle.schedule.specs.Steps.{Step, passSteps}
+use Rattle.schedule.specs.Steps.{stepPlace}
+use Rattle.steps.specs.Contexts.{usedBase, usedWeight, usedQuantiser, noRecord, stepContext, stepLook, stepSlot}
 use Rattle.steps.specs.Values.{SetInRange}
 use Rattle.steps.specs.declared.Look.{Look}
-use Rattle.steps.specs.declared.Plan.{Plan}
+use Rattle.schedule.specs.declared.Plan.{Plan}
 use Rattle.steps.proofs.ContextLaws.{AllLe, context-le, stored-le, slot-lt}
 use Rattle.steps.proofs.TableLaws.{numbers-le}
 use Rattle.steps.proofs.ZipLaws.{set-keeps}

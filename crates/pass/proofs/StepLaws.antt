@@ -9,10 +9,11 @@ use native.Mathlib.Omega.{arith}
 use borrow.Author.Tests.{lt-ltb, le-ltb, le-leb, lt-leb}
 use Rattle.code.specs.declared.Code.{Code}
 use Rattle.code.specs.declared.Coded.the-variants.{Read, Truncated}
-use Rattle.steps.specs.Steps.{Step, evenSteps, oddSteps, evenPart, oddPart, turnSteps, upto, passSteps}
-use Rattle.steps.specs.Contexts.{stepPlace, stepContext, stepLook, stepSlot}
-use Rattle.steps.specs.declared.Plan.{Plan}
-use Rattle.steps.proofs.TurnLaws.{turn-is}
+use Rattle.schedule.specs.Steps.{Step, evenSteps, oddSteps, evenPart, oddPart, turnSteps, upto, passSteps}
+use Rattle.schedule.specs.Steps.{stepPlace}
+use Rattle.steps.specs.Contexts.{stepContext, stepLook, stepSlot}
+use Rattle.schedule.specs.declared.Plan.{Plan}
+use Rattle.schedule.proofs.TurnLaws.{turn-is}
 use Rattle.pass.specs.Readings.{Reading, interpolate, takeCode, stepCode, readStep, andThen, reads, readPass}
 
 -- ---- one step

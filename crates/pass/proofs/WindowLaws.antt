@@ -16,10 +16,11 @@ use Rattle.statistics.specs.declared.Record.{Record}
 use Rattle.prediction.specs.declared.Context.{Context}
 use Rattle.code.specs.declared.Coded.{Coded}
 use Rattle.code.specs.declared.Coded.the-variants.{Read, Truncated}
-use Rattle.steps.specs.Steps.{Step, stepAt, interpolated, evenSteps, oddSteps, turnSteps, upto, passSteps}
-use Rattle.steps.specs.Contexts.{contextIn, lookOf, slotOf, stepPlace, stepContext, stepLook, stepSlot}
+use Rattle.schedule.specs.Steps.{Step, stepAt, interpolated, evenSteps, oddSteps, turnSteps, upto, passSteps}
+use Rattle.schedule.specs.Steps.{stepPlace}
+use Rattle.steps.specs.Contexts.{contextIn, lookOf, slotOf, stepContext, stepLook, stepSlot}
 use Rattle.steps.specs.Values.{evenAt, oddAt, contextAt}
-use Rattle.steps.specs.declared.Plan.{Plan}
+use Rattle.schedule.specs.declared.Plan.{Plan}
 use Rattle.steps.specs.declared.Look.{Look}
 use Rattle.steps.proofs.ContextLaws.{context-is}
 use Rattle.pass.specs.Readings.{Reading, interpolate, taken, codeOf, stepCode, readStep, andThen, reads, readPass}

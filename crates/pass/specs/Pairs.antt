@@ -8,9 +8,10 @@ use lib.ListN.{length}
 use Rattle.bits.specs.declared.BitPosition.{BitPosition}
 use Rattle.statistics.specs.declared.Record.{Record}
 use Rattle.code.specs.declared.Place.{Place}
-use Rattle.steps.specs.Steps.{Step}
-use Rattle.steps.specs.Values.{zipRecords, recordsOf, SetInRange, AreKs, choicesOf, quantisersOf, Depth, PlanInRange}
-use Rattle.steps.specs.declared.Plan.{Plan}
+use Rattle.schedule.specs.Steps.{Step}
+use Rattle.schedule.specs.Steps.{PlanInRange}
+use Rattle.steps.specs.Values.{zipRecords, recordsOf, SetInRange, AreKs, choicesOf, quantisersOf, Depth}
+use Rattle.schedule.specs.declared.Plan.{Plan}
 use Rattle.steps.specs.declared.Quantisers.{Quantisers}
 use Rattle.steps.specs.declared.Set.{Set}
 use Rattle.steps.specs.declared.Spot.{Spot}

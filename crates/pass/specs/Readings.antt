@@ -12,15 +12,16 @@ use Rattle.statistics.specs.declared.Record.{Record}
 use Rattle.quantiser.specs.Quantisers.{largest}
 use Rattle.prediction.specs.declared.Context.{Context}
 use Rattle.code.specs.Codes.{codeAt}
-use Rattle.code.specs.Samples.{residualOf, sampleOf}
+use Rattle.samples.specs.Samples.{residualOf, sampleOf}
 use Rattle.code.specs.Tight.{isTight}
 use Rattle.code.specs.declared.Code.{Code}
 use Rattle.code.specs.declared.Coded.{Coded}
 use Rattle.code.specs.declared.Coded.the-variants.{Read, Truncated}
-use Rattle.steps.specs.Steps.{Step, passSteps}
-use Rattle.steps.specs.Contexts.{usedQuantiser, noRecord, stepPlace, stepContext, stepLook, stepSlot}
+use Rattle.schedule.specs.Steps.{Step, passSteps}
+use Rattle.schedule.specs.Steps.{stepPlace}
+use Rattle.steps.specs.Contexts.{usedQuantiser, noRecord, stepContext, stepLook, stepSlot}
 use Rattle.steps.specs.declared.Look.{Look}
-use Rattle.steps.specs.declared.Plan.{Plan}
+use Rattle.schedule.specs.declared.Plan.{Plan}
 
 -- what a pass reads and changes: the colour lines, the records of its set, the bit position, whether all codes so far were tight, and how many
 -- of them were long

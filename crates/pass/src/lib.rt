@@ -3,9 +3,9 @@ ghost use mathlib.Core.Path.{_≡_};
 ghost use Prim.Native.Nat.{_+_, _-_, _*_, _^_, _≤_, _<_};
 ghost use lib.ListN.{length, getD, set};
 ghost use Rattle.code.specs.Codes.{codeAt, Small};
-ghost use Rattle.code.specs.Samples.{sampleOf};
+ghost use Rattle.samples.specs.Samples.{sampleOf};
 ghost use Rattle.code.specs.Tight.{takenOf};
-ghost use Rattle.steps.specs.Steps.{evenSteps, oddSteps};
+ghost use Rattle.schedule.specs.Steps.{evenSteps, oddSteps};
 ghost use Rattle.steps.specs.Values.{zipRecords};
 ghost use Rattle.pass.specs.Windows.{windowLine, windowPlan};
 ghost use Rattle.pass.specs.Sites.{siteOf, SiteRanges, codingOf, CodingRanges, CodingAsks, RawFits};
@@ -15,9 +15,9 @@ use code::Place;
 use code::Short;
 use code::Taken;
 use prediction::Context;
+use schedule::Plan;
 use statistics::Record;
 use steps::Look;
-use steps::Plan;
 use steps::Quantisers;
 use steps::Set;
 use steps::Spot;
@@ -142,13 +142,13 @@ fn taken(block: &[u8], at: BitPosition, tight: bool, long: u64, c: Coding, bits:
     ensures { λ r. ⌜ (r ≡ takenOf (c .m) tight long
         (codeAt (now (block .entry)) (at .0) (c .k) (c .limit) (4 * bits - 1 - c .limit))) × Small r ⌝ }
 {
-    let found = code::short_code(block, at, c.m, c.k, c.limit);
+    let found = reader::short_code(block, at, c.m, c.k, c.limit);
     let Short::Code(value, after) = found else {
         let raw = 4 * bits - 1 - c.limit;
         if c.k == 0 {
-            return in_parts(code::take_any(block, at, tight, long, c.m, 0, c.limit, raw));
+            return in_parts(reader::take_any(block, at, tight, long, c.m, 0, c.limit, raw));
         }
-        return in_parts(code::take_any(block, at, tight, long, c.m, c.k, c.limit, raw));
+        return in_parts(reader::take_any(block, at, tight, long, c.m, c.k, c.limit, raw));
     };
     Taken::Read(value, after, tight, long)
 }
@@ -161,7 +161,7 @@ fn put_sample(lines: &mut [u16], t: Site, c: Coding, totals: &[u32; 4], code: u3
 {
     let choice = c.look.choice;
     let i = t.place + 1;
-    lines[i] = code::sample(
+    lines[i] = samples::sample(
         c.m,
         c.look.base,
         totals[choice],
@@ -208,7 +208,7 @@ fn even_pair(
     let mut tight = from_tight;
     let mut long = from_long;
     let t = site_at(lines, spot.w, spot.plan.first, spot.p);
-    if steps::has_code(spot.plan.first_rule, spot.p) {
+    if schedule::has_code(spot.plan.first_rule, spot.p) {
         let c = coding_at(
             spot.bits,
             spot.p,
@@ -233,7 +233,7 @@ fn even_pair(
         put_prediction(lines, t);
     }
     let t = site_at(lines, spot.w, spot.plan.second, spot.p);
-    if steps::has_code(spot.plan.second_rule, spot.p) {
+    if schedule::has_code(spot.plan.second_rule, spot.p) {
         let c = coding_at(
             spot.bits,
             spot.p,

@@ -6,15 +6,16 @@ use Prim.Native.Nat.{ℕ, _+_, _-_, _≤_, _<_}
 use lib.ListN.{length}
 use borrow.Author.Tests.{lt-ltb, le-ltb}
 use Rattle.numbers.proofs.LeastLaws.{least-same}
-use Rattle.stream.specs.declared.Refusal.{Refusal}
-use Rattle.stream.specs.declared.Refusal.the-variants.{BadRecord, HeldTwice, NotHeld}
-use Rattle.plan.specs.Records.{startOf}
-use Rattle.plan.specs.Plans.{goodRecords, holders, isAmiss, firstAmiss, planAnswer, BasesAfter}
-use Rattle.plan.specs.Readings.{sumBefore, Marked, amissIn, Written}
+use Rattle.header.specs.declared.Refusal.{Refusal}
+use Rattle.header.specs.declared.Refusal.the-variants.{BadRecord, HeldTwice, NotHeld}
+use Rattle.plan_records.specs.Records.{startOf, goodRecords, holders}
+use Rattle.plan_counts.specs.Counts.{isAmiss, sumBefore, Marked, amissIn}
+use Rattle.plan.specs.Plans.{firstAmiss, planAnswer, BasesAfter}
+use Rattle.plan_records.specs.Readings.{Written}
 use Rattle.plan.specs.declared.Planned.{Planned}
 use Rattle.plan.specs.declared.Planned.the-variants.{Done, Refused}
-use Rattle.plan.proofs.RecordLaws.{good-order, good-below}
-use Rattle.plan.proofs.CountLaws.{Forward, held-is}
+use Rattle.plan_records.proofs.RecordLaws.{good-order, good-below}
+use Rattle.plan_counts.proofs.CountLaws.{Forward, held-is}
 
 pub forward : (d : List ℕ) (lines m : ℕ) → m ≡ goodRecords d lines → Forward d m
 forward d lines m e k h = good-order d lines (startOf d k) (good-below d lines k (rw e at h))

@@ -1,9 +1,4 @@
 -- Laws about plans of bases.
-pub mod DigitLaws
-pub mod RowLaws
-pub mod RecordLaws
-pub mod CountLaws
-pub mod BaseLaws
 pub mod AnswerLaws
 pub mod OneRecordLaws
 pub mod NamedLaws

@@ -10,12 +10,13 @@ use borrow.Author.Tests.{ltb-true, ltb-false, leb-true, leb-false, eqb-true, not
 use Rattle.numbers.specs.Numbers.{flag}
 use Rattle.numbers.proofs.LeastLaws.{least}
 use Rattle.numbers.proofs.OrderLaws.{split}
-use Rattle.stream.specs.declared.Refusal.the-variants.{BadRecord, HeldTwice, NotHeld}
-use Rattle.plan.specs.Records.{isGood, startOf, holds}
-use Rattle.plan.specs.Plans.{goodRecords, holders, isAmiss, firstAmiss, firstTwice, firstNone, planAnswer}
+use Rattle.header.specs.declared.Refusal.the-variants.{BadRecord, HeldTwice, NotHeld}
+use Rattle.plan_records.specs.Records.{isGood, startOf, holds, goodRecords, holders}
+use Rattle.plan_counts.specs.Counts.{isAmiss}
+use Rattle.plan.specs.Plans.{firstAmiss, firstTwice, firstNone, planAnswer}
 use Rattle.plan.specs.OneRecord.{AllGood, LowestBad, TwoHolders, LowestTwice, LowestNone, Named}
 use Rattle.plan.specs.declared.Planned.the-variants.{Refused}
-use Rattle.plan.proofs.RecordLaws.{good-below}
+use Rattle.plan_records.proofs.RecordLaws.{good-below}
 use Rattle.plan.proofs.OneRecordLaws.{decide, starts-inside, none-holds, one-holder, all-well, well-one}
 
 -- ---- two holders

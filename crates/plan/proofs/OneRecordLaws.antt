@@ -11,12 +11,14 @@ use Rattle.numbers.specs.Numbers.{leastFrom}
 use Rattle.numbers.proofs.BoolLaws.{both}
 use Rattle.numbers.proofs.LeastLaws.{least, least-is}
 use Rattle.numbers.proofs.OrderLaws.{split}
-use Rattle.stream.specs.declared.Refusal.the-variants.{BadRecord, HeldTwice, NotHeld}
-use Rattle.plan.specs.Records.{tab, newline, endOf, isField, secondAt, thirdAt, nextAt, firstLine, lastLine, baseAt, isGood, startOf, holds}
-use Rattle.plan.specs.Plans.{goodRecords, holders, isAmiss, firstAmiss, firstTwice, firstNone, planAnswer, baseFor}
+use Rattle.header.specs.declared.Refusal.the-variants.{BadRecord, HeldTwice, NotHeld}
+use Rattle.plan_records.specs.Records.{tab, newline, endOf, isField, secondAt, thirdAt, nextAt, firstLine, lastLine, baseAt, isGood, startOf, holds}
+use Rattle.plan_records.specs.Records.{goodRecords, holders, baseFor}
+use Rattle.plan_counts.specs.Counts.{isAmiss}
+use Rattle.plan.specs.Plans.{firstAmiss, firstTwice, firstNone, planAnswer}
 use Rattle.plan.specs.OneRecord.{OneHolder, InOrder, AcceptedInOrder, OneRecord}
 use Rattle.plan.specs.declared.Planned.the-variants.{Done, Refused}
-use Rattle.plan.proofs.RecordLaws.{none-past, good-below}
+use Rattle.plan_records.proofs.RecordLaws.{none-past, good-below}
 
 pub clash : (t : Bool) → t ≡ true → t ≡ false → ⊥
 clash t e g = let no : _≡_ {A = ℕ} 0 1 = cc in omega arith

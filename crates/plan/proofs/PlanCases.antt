@@ -3,9 +3,9 @@ use mathlib.Core.List.{List, [], _∷_}
 use mathlib.Core.Path.{_≡_, refl}
 use Prim.Native.Nat.{ℕ}
 use Rattle.numbers.specs.Numbers.{leastFrom}
-use Rattle.stream.specs.declared.Refusal.the-variants.{BadRecord, HeldTwice, NotHeld}
-use Rattle.plan.specs.Records.{digitsAt, decimal, endOf, numberAt, isField, isGood, startOf, holds}
-use Rattle.plan.specs.Plans.{goodRecords, holders, firstAmiss, planAnswer, baseFor}
+use Rattle.header.specs.declared.Refusal.the-variants.{BadRecord, HeldTwice, NotHeld}
+use Rattle.plan_records.specs.Records.{digitsAt, decimal, endOf, numberAt, isField, isGood, startOf, holds, goodRecords, holders, baseFor}
+use Rattle.plan.specs.Plans.{firstAmiss, planAnswer}
 use Rattle.plan.specs.declared.Planned.the-variants.{Done, Refused}
 
 -- "0→9→5;"

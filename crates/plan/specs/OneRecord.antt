@@ -4,8 +4,8 @@ use mathlib.Core.List.{List}
 use mathlib.Core.Path.{_≡_}
 use Prim.Native.Nat.{ℕ, _+_, _<_}
 use lib.ListN.{length, getD}
-use Rattle.stream.specs.declared.Refusal.the-variants.{BadRecord, HeldTwice, NotHeld}
-use Rattle.plan.specs.Records.{isGood, startOf, holds, baseAt}
+use Rattle.header.specs.declared.Refusal.the-variants.{BadRecord, HeldTwice, NotHeld}
+use Rattle.plan_records.specs.Records.{isGood, startOf, holds, baseAt}
 use Rattle.plan.specs.Plans.{planAnswer, BasesAfter}
 use Rattle.plan.specs.declared.Planned.the-variants.{Done, Refused}
 

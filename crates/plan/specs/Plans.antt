@@ -1,33 +1,21 @@
 -- What a plan gives: refusals 18, 19 and 20 in this order, or a base for each line; and what a call leaves. Assumes nothing.
-use mathlib.Core.Bool.{Bool, true, false, cond, not}
+use mathlib.Core.Bool.{Bool, true, false, cond}
 use mathlib.Core.List.{List}
 use mathlib.Core.Path.{_≡_}
-use Prim.Native.Nat.{ℕ, zero, suc, _+_, _<_}
-use lib.Dec.{leb, ltb, eqb}
+use Prim.Native.Nat.{ℕ, _+_, _<_}
+use lib.Dec.{ltb, eqb}
 use lib.ListN.{length, getD}
-use Rattle.numbers.specs.Numbers.{flag, leastFrom}
-use Rattle.stream.specs.Headers.{parseOf}
-use Rattle.stream.specs.declared.Parsed.{Parsed}
-use Rattle.stream.specs.declared.Parsed.the-variants as Parsing
-use Rattle.stream.specs.declared.Refusal.the-variants.{Lossless, WrongBases, BadRecord, HeldTwice, NotHeld}
-use Rattle.plan.specs.Records.{isGood, startOf, holds, baseAt}
+use Rattle.numbers.specs.Numbers.{leastFrom}
+use Rattle.header.specs.Headers.{parseOf}
+use Rattle.header.specs.declared.Parsed.{Parsed}
+use Rattle.header.specs.declared.Parsed.the-variants as Parsing
+use Rattle.header.specs.declared.Refusal.the-variants.{Lossless, WrongBases, BadRecord, HeldTwice, NotHeld}
+use Rattle.plan_records.specs.Records.{startOf, goodRecords, holders, baseFor}
+use Rattle.plan_counts.specs.Counts.{isAmiss}
 use Rattle.plan.specs.declared.Planned.{Planned}
 use Rattle.plan.specs.declared.Planned.the-variants.{Done, Refused}
 
--- how many good records a plan starts with
-unfoldable pub goodRecords : List ℕ → ℕ → ℕ
-goodRecords d lines = leastFrom (length d) (λ k. not (isGood d lines (startOf d k))) 0
-
--- how many of the first m records hold line n
-unfoldable pub holders : List ℕ → ℕ → ℕ → ℕ
-holders d n zero = 0
-holders d n (suc m) = holders d n m + flag (holds d n m)
-
 -- the lowest line with two holders or more, and the lowest with none, of m records; lines if there is none such
-abbrev pub isAmiss : Bool → ℕ → Bool
-isAmiss true count = leb 2 count
-isAmiss false count = eqb count 0
-
 unfoldable pub firstAmiss : Bool → List ℕ → ℕ → ℕ → ℕ
 firstAmiss twice d lines m = leastFrom lines (λ n. isAmiss twice (holders d n m)) 0
 
@@ -54,11 +42,6 @@ answerIn d room (Parsing.Header h) =
 
 unfoldable pub plannedAnswer : List ℕ → List ℕ → ℕ → Planned
 plannedAnswer header d room = answerIn d room (parseOf header)
-
--- the byte of line n after m records, where it was `old`: the base of a record that holds it
-unfoldable pub baseFor : List ℕ → ℕ → ℕ → ℕ → ℕ
-baseFor d n old zero = old
-baseFor d n old (suc m) = cond (holds d n m) (baseAt d (startOf d m)) (baseFor d n old m)
 
 -- the lent bytes after a call: unchanged by a refusal, else line by line
 abbrev pub byteAfter : List ℕ → ℕ → Planned → ℕ → ℕ → ℕ

@@ -6,8 +6,8 @@ ghost use lib.ListN.{length};
 use answers::Tally;
 use answers::word;
 use bits::BitPosition;
-use bits::BitPumpMsb;
 use bits::ByteOffset;
+use pump::BitPumpMsb;
 
 // A call of a pump: 1 peek, 2 get, 3 skip, 4 align_byte. What it answered, and the positions after it.
 struct Call {

@@ -15,13 +15,14 @@ use Rattle.numbers.proofs.BoolLaws.{both}
 use Rattle.quantiser.specs.Quantisers.{largest}
 use Rattle.prediction.specs.Predictions.{flatnessOf}
 use Rattle.prediction.specs.declared.Context.{Context}
-use Rattle.code.specs.Samples.{choiceOf}
+use Rattle.samples.specs.Samples.{choiceOf}
 use Rattle.code.specs.declared.Coded.{Coded}
 use Rattle.code.specs.declared.Coded.the-variants.{Read, Truncated}
-use Rattle.steps.specs.Steps.{Step}
-use Rattle.steps.specs.Contexts.{usedBase, lookOf, stepPlace, stepContext, stepLook, stepSlot}
+use Rattle.schedule.specs.Steps.{Step}
+use Rattle.schedule.specs.Steps.{stepPlace}
+use Rattle.steps.specs.Contexts.{usedBase, lookOf, stepContext, stepLook, stepSlot}
 use Rattle.steps.specs.Values.{Depth}
-use Rattle.steps.proofs.OrderLaws.{All, cell, Apart}
+use Rattle.schedule.proofs.OrderLaws.{All, cell, Apart}
 use Rattle.pass.specs.Readings.{Reading, interpolate, taken, readStep, andThen, reads, stepCode}
 use Rattle.pass.proofs.FrameLaws.{first-then, steps-leave}
 use Rattle.pass.proofs.RangeLaws.{step-keeps}

@@ -8,11 +8,12 @@ use Prim.Native.Nat.{ℕ, _+_, _*_, _%_, _≤_, _<_}
 use native.Mathlib.Omega.{arith}
 use lib.ListN.{getD}
 use Rattle.quantiser.specs.Quantisers.{largest}
-use Rattle.steps.specs.Steps.{Step, isInterpolated, passSteps}
-use Rattle.steps.specs.Values.{Depth, PlanInRange}
-use Rattle.steps.specs.declared.Plan.{Plan}
-use Rattle.steps.proofs.OrderLaws.{All, all-both, place-is, pass-all, all-pass, pass-apart}
-use Rattle.steps.proofs.PlanLaws.{CodedIn}
+use Rattle.schedule.specs.Steps.{Step, isInterpolated, passSteps}
+use Rattle.schedule.specs.Steps.{PlanInRange}
+use Rattle.steps.specs.Values.{Depth}
+use Rattle.schedule.specs.declared.Plan.{Plan}
+use Rattle.schedule.proofs.OrderLaws.{All, all-both, place-is, pass-all, all-pass, pass-apart}
+use Rattle.schedule.proofs.PlanLaws.{CodedIn}
 use Rattle.pass.specs.Readings.{Reading, readPass}
 use Rattle.writing.specs.Puts.{Wanted}
 use Rattle.lines.specs.Sets.{indexIn}

@@ -14,17 +14,19 @@ use Rattle.statistics.specs.Statistics.{kOf}
 use Rattle.quantiser.specs.Quantisers.{largest}
 use Rattle.prediction.specs.declared.Context.{Context}
 use Rattle.code.specs.Codes.{codeAt}
-use Rattle.code.specs.Samples.{choiceOf, sampleOf}
-use Rattle.code.specs.Tight.{codeFor, codeBits, codeLength, isTight}
-use Rattle.code.specs.Nearest.{codeNear}
+use Rattle.samples.specs.Samples.{choiceOf, sampleOf}
+use Rattle.samples.specs.Wanted.{codeFor}
+use Rattle.code.specs.Tight.{codeBits, codeLength, isTight}
+use Rattle.samples.specs.Nearest.{codeNear}
 use Rattle.code.specs.declared.Code.{Code}
 use Rattle.code.specs.declared.Coded.{Coded}
 use Rattle.code.specs.declared.Coded.the-variants.{Read, Truncated}
-use Rattle.code.proofs.SampleLaws.{OneToOne, one-to-one, sample-le}
-use Rattle.code.proofs.NearLaws.{near-exact}
+use Rattle.samples.proofs.SampleLaws.{OneToOne, one-to-one, sample-le}
+use Rattle.samples.proofs.NearLaws.{near-exact}
 use Rattle.code.proofs.TightLaws.{length-codeBits, Stands, stands-there}
-use Rattle.steps.specs.Steps.{Step}
-use Rattle.steps.specs.Contexts.{lookOf, usedQuantiser, noRecord, stepPlace, stepContext, stepLook, stepSlot}
+use Rattle.schedule.specs.Steps.{Step}
+use Rattle.schedule.specs.Steps.{stepPlace}
+use Rattle.steps.specs.Contexts.{lookOf, usedQuantiser, noRecord, stepContext, stepLook, stepSlot}
 use Rattle.steps.specs.declared.Look.{Look}
 use Rattle.steps.proofs.ContextLaws.{context-le}
 use Rattle.pass.specs.Readings.{Reading, interpolate, takeCode, taken, readStep}

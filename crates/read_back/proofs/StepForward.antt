@@ -19,14 +19,15 @@ use Rattle.quantiser.specs.Quantisers.{largest, quantiserOf, totalOf}
 use Rattle.quantiser.specs.declared.Quantiser.{Quantiser}
 use Rattle.quantiser.proofs.QuantiserLaws.{total-le, total-wide}
 use Rattle.prediction.specs.declared.Context.{Context}
-use Rattle.code.specs.Samples.{sampleOf}
+use Rattle.samples.specs.Samples.{sampleOf}
 use Rattle.code.specs.Tight.{codeBits, codeLength, isTight}
-use Rattle.code.specs.Nearest.{codeNear}
+use Rattle.samples.specs.Nearest.{codeNear}
 use Rattle.code.specs.declared.Code.{Code}
-use Rattle.code.proofs.NearLaws.{near-back}
+use Rattle.samples.proofs.NearLaws.{near-back}
 use Rattle.code.proofs.TightLaws.{length-codeBits, ReadBack, read-back}
-use Rattle.steps.specs.Steps.{Step}
-use Rattle.steps.specs.Contexts.{usedBase, usedWeight, usedQuantiser, lookOf, noRecord, stepPlace, stepContext, stepLook, stepSlot}
+use Rattle.schedule.specs.Steps.{Step}
+use Rattle.schedule.specs.Steps.{stepPlace}
+use Rattle.steps.specs.Contexts.{usedBase, usedWeight, usedQuantiser, lookOf, noRecord, stepContext, stepLook, stepSlot}
 use Rattle.steps.specs.Values.{Depth}
 use Rattle.steps.specs.declared.Look.{Look}
 use Rattle.steps.proofs.ContextLaws.{context-le}

@@ -4,7 +4,7 @@ use mathlib.Core.List.{List, [], _∷_}
 use mathlib.Core.Option.{Option, none, some}
 use Prim.Native.Nat.{ℕ, _+_, _≤_}
 use lib.Dec.{eqb}
-use Rattle.steps.specs.Steps.{Step}
+use Rattle.schedule.specs.Steps.{Step}
 use Rattle.steps.specs.Contexts.{stepLook}
 use Rattle.pass.specs.Readings.{Reading, readStep, andThen}
 

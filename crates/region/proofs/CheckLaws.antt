@@ -6,9 +6,9 @@ use native.Mathlib.Nat.{mul-le-mul}
 use native.Mathlib.Omega.{arith}
 use lib.Dec.{ltb, eqb}
 use borrow.Author.Tests.{lt-ltb, le-ltb, ltb-false, eqb-false, ne-eqb}
-use Rattle.stream.specs.Headers.{Ruled}
-use Rattle.stream.specs.declared.FujiHeader.{FujiHeader}
-use Rattle.stream.specs.declared.Refusal.the-variants.{OutsideImage}
+use Rattle.header.specs.Headers.{Ruled}
+use Rattle.header.specs.declared.FujiHeader.{FujiHeader}
+use Rattle.header.specs.declared.Refusal.the-variants.{OutsideImage}
 use Rattle.region.specs.Regions.{rightOf, bottomOf, isOutside, isEmpty, spanOf, checkedOf, Accepted}
 use Rattle.region.specs.declared.Rect.{Rect}
 use Rattle.region.specs.declared.Span.{Span}

@@ -8,7 +8,7 @@ use lib.ListN.{length}
 use borrow.Author.Tests.{le-ltb}
 use Rattle.map.specs.Places.{Fits}
 use Rattle.map.specs.declared.Part.{Part}
-use Rattle.stream.specs.declared.FujiHeader.{FujiHeader}
+use Rattle.header.specs.declared.FujiHeader.{FujiHeader}
 use Rattle.region.specs.Regions.{blockOf, rightOf, bottomOf, firstBlock, lastBlock, lineCount, spanOf, checkedOf, partIn, Accepted}
 use Rattle.region.specs.declared.Rect.{Rect}
 use Rattle.region.specs.declared.Checked.the-variants.{Touched}

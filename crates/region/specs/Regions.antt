@@ -3,9 +3,9 @@ use mathlib.Core.Bool.{Bool, cond, _||_}
 use Prim.Native.Nat.{ℕ, _+_, _-_, _*_, _/_, _%_, _^_, _≤_, min}
 use lib.Dec.{ltb, eqb}
 use Rattle.map.specs.declared.Part.{Part}
-use Rattle.stream.specs.Headers.{Ruled}
-use Rattle.stream.specs.declared.FujiHeader.{FujiHeader}
-use Rattle.stream.specs.declared.Refusal.the-variants.{OutsideImage}
+use Rattle.header.specs.Headers.{Ruled}
+use Rattle.header.specs.declared.FujiHeader.{FujiHeader}
+use Rattle.header.specs.declared.Refusal.the-variants.{OutsideImage}
 use Rattle.region.specs.declared.Rect.{Rect}
 use Rattle.region.specs.declared.Span.{Span}
 use Rattle.region.specs.declared.Checked.{Checked}

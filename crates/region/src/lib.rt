@@ -2,11 +2,11 @@
 ghost use mathlib.Core.Path.{_≡_};
 ghost use Prim.Native.Nat.{_^_, _≤_, _<_};
 ghost use Rattle.region.specs.Regions.{saturated, rightOf, bottomOf, isOutside, isEmpty, spanOf, checkedOf, partIn};
+use header::FujiHeader;
+use header::Refusal;
 use map::Part;
 use numbers::saturating_sub_usize;
 use numbers::smaller_usize;
-use stream::FujiHeader;
-use stream::Refusal;
 
 const LARGEST: usize = 0xFFFF_FFFF_FFFF_FFFF;
 

@@ -5,8 +5,8 @@ use answers::Tally;
 use answers::half;
 use answers::word;
 use block::Decoded;
+use header::Refusal;
 use region::Rect;
-use stream::Refusal;
 
 // What a record says of itself: the bytes of its stream, the samples of its image, and the answer.
 struct Sizes {

@@ -3,8 +3,4 @@ pub mod LookLaws
 pub mod TableLaws
 pub mod ZipLaws
 pub mod ContextLaws
-pub mod TurnLaws
-pub mod ScheduleLaws
 pub mod KLaws
-pub mod OrderLaws
-pub mod PlanLaws

@@ -11,7 +11,7 @@ use Rattle.quantiser.specs.declared.Thresholds.{Thresholds}
 use Rattle.quantiser.proofs.GradientLaws.{main-le, flat-le}
 use Rattle.prediction.specs.Predictions.{flatnessOf}
 use Rattle.prediction.specs.declared.Context.{Context}
-use Rattle.code.specs.Samples.{choiceOf}
+use Rattle.samples.specs.Samples.{choiceOf}
 use Rattle.numbers.proofs.OrderLaws.{split}
 use Rattle.steps.specs.Contexts.{usedBase, lookOf}
 use Rattle.steps.specs.Values.{choicesOf}

@@ -9,8 +9,8 @@ use Rattle.quantiser.specs.Quantisers.{quantiserOf, gradientOf}
 use Rattle.quantiser.specs.declared.Quantiser.{Quantiser}
 use Rattle.prediction.specs.Predictions.{evenContext, oddContext, flatnessOf}
 use Rattle.prediction.specs.declared.Context.{Context}
-use Rattle.code.specs.Samples.{choiceOf}
-use Rattle.steps.specs.Steps.{Step}
+use Rattle.samples.specs.Samples.{choiceOf}
+use Rattle.schedule.specs.Steps.{Step}
 use Rattle.steps.specs.declared.Look.{Look}
 
 -- ---- the context of a sample
@@ -84,10 +84,7 @@ noRecord = record { sum = 0; n = 0 }
 
 -- ---- a step
 
--- what a step goes by, among these colour lines in a line with base q: one place before its sample, its context, how it is coded, and the place of its record
-abbrev pub stepPlace : ℕ → Step → ℕ
-stepPlace W x = x .line * (W + 2) + x .position
-
+-- what a step goes by, among these colour lines in a line with base q: its context, how it is coded, and the place of its record
 abbrev pub stepContext : ℕ → Step → List ℕ → Context
 stepContext W x lines = contextIn W lines (x .line) (x .position)
 

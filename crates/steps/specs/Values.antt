@@ -9,9 +9,8 @@ use Rattle.statistics.specs.Statistics.{kOf, InRange}
 use Rattle.statistics.specs.declared.Record.{Record}
 use Rattle.prediction.specs.Predictions.{evenContext, oddContext}
 use Rattle.prediction.specs.declared.Context.{Context}
-use Rattle.code.specs.Samples.{choiceOf}
+use Rattle.samples.specs.Samples.{choiceOf}
 use Rattle.steps.specs.Contexts.{usedQuantiser, noRecord}
-use Rattle.steps.specs.declared.Plan.{Plan}
 use Rattle.steps.specs.declared.Set.{Set}
 use Rattle.steps.specs.declared.Quantisers.{Quantisers}
 
@@ -61,13 +60,6 @@ choicesOf q =
 -- the depths of the format lie in this range
 abbrev pub Depth : ℕ → Type 0
 Depth bits = (12 ≤ bits) × (bits ≤ 16)
-
--- each of a pass's lines has two lines of its colour above it
-pub record PlanInRange (P : Plan) : Type 0 where
-  pub first-low : 2 ≤ P .first
-  pub first-high : P .first ≤ 17
-  pub second-low : 2 ≤ P .second
-  pub second-high : P .second ≤ 17
 
 -- the context of the sample after place i, at position p, as the program finds it: in lines that are S apart
 unfoldable pub evenAt : List ℕ → ℕ → ℕ → Context

@@ -1,80 +1,16 @@
-// What reading and writing a pass share: the six passes of a line, the context of a sample, what its coding goes by, and its record.
+// What reading and writing a pass share: the context of a sample, what its coding goes by, and its record.
 ghost use mathlib.Core.Path.{_≡_};
-ghost use mathlib.Core.Bool.{true, not};
 ghost use Prim.Native.Nat.{_+_, _*_, _^_, _≤_, _<_};
 ghost use lib.ListN.{length, getD, set};
 ghost use Rattle.statistics.specs.Statistics.{updated, InRange};
 ghost use Rattle.prediction.specs.Predictions.{ContextRanges, flatnessOf};
-ghost use Rattle.code.specs.Samples.{residualOf, choiceOf};
-ghost use Rattle.steps.specs.Steps.{interpolated, planOf, isInterpolated};
+ghost use Rattle.samples.specs.Samples.{residualOf, choiceOf};
 ghost use Rattle.steps.specs.Contexts.{usedBase, usedWeight, placeOf, lookOf, slotOf, noRecord};
 ghost use Rattle.steps.specs.Values.{zipRecords, SetInRange, AreKs, choicesOf, evenAt, oddAt, contextAt};
 use numbers::u16_to_u32;
 use prediction::Context;
+use schedule::Plan;
 use statistics::Record;
-
-// Which even positions p of a line are interpolated, and so have no code.
-const NONE: u32 = 0;
-
-const AT_0_MOD_4: u32 = 1;
-
-const AT_2_MOD_4: u32 = 2;
-
-const ALL: u32 = 3;
-
-// A pass: the numbers of its two colour lines, its statistics set, and the rule of each line.
-pub struct Plan {
-    pub first: usize,
-    pub second: usize,
-    pub set: usize,
-    pub first_rule: u32,
-    pub second_rule: u32,
-}
-
-const PASSES: [Plan; 6] = [
-    Plan {
-        first: 2,
-        second: 7,
-        set: 0,
-        first_rule: ALL,
-        second_rule: NONE,
-    },
-    Plan {
-        first: 8,
-        second: 15,
-        set: 1,
-        first_rule: NONE,
-        second_rule: ALL,
-    },
-    Plan {
-        first: 3,
-        second: 9,
-        set: 2,
-        first_rule: AT_0_MOD_4,
-        second_rule: ALL,
-    },
-    Plan {
-        first: 10,
-        second: 16,
-        set: 0,
-        first_rule: NONE,
-        second_rule: AT_2_MOD_4,
-    },
-    Plan {
-        first: 4,
-        second: 11,
-        set: 1,
-        first_rule: AT_2_MOD_4,
-        second_rule: NONE,
-    },
-    Plan {
-        first: 12,
-        second: 17,
-        set: 2,
-        first_rule: ALL,
-        second_rule: AT_0_MOD_4,
-    },
-];
 
 // The records of a set, 56 of even positions and then 56 of odd ones, as two arrays: so they can be lent to a function.
 pub struct Set {
@@ -106,51 +42,12 @@ pub struct Spot {
     pub p: usize,
 }
 
-// Pass i of a line.
-pub fn plan_at(i: usize, xtrans: bool) -> Plan
-    requires { ⌜ i < 6 ⌝ }
-    ensures { λ r. ⌜ r ≡ planOf xtrans i ⌝ }
-{
-    let p = PASSES[i];
-    if xtrans {
-        return p;
-    }
-    Plan {
-        first: p.first,
-        second: p.second,
-        set: p.set,
-        first_rule: NONE,
-        second_rule: NONE,
-    }
-}
-
 // The place before that of position p of a colour line, where its left neighbour stands.
 pub fn left_of(w: usize, line: usize, p: usize) -> usize
     requires { ⌜ (w ≤ 512) × ((p < w) × ((2 ≤ line) × (line ≤ 17))) ⌝ }
     ensures { λ r. ⌜ (r ≡ line * (w + 2) + p) × ((2 * (w + 2) ≤ r) × (r + 2 < 18 * (w + 2))) ⌝ }
 {
     line * (w + 2) + p
-}
-
-// Whether an even position p has a code, by the rule of its line.
-pub fn has_code(rule: u32, p: usize) -> bool
-    ensures { λ r. ⌜ r ≡ not (interpolated rule p) ⌝ }
-{
-    match rule {
-        NONE => true,
-        AT_0_MOD_4 => p % 4 != 0,
-        AT_2_MOD_4 => p % 4 != 2,
-        _ => false,
-    }
-}
-
-// Whether X-Trans interpolates position p of a colour line.
-pub fn is_interpolated(line: usize, p: usize) -> bool
-    ensures { λ r. ⌜ r ≡ isInterpolated true line p ⌝ }
-{
-    ((p % 2 == 0) & ((line == 2) | (line == 15) | (line == 9) | (line == 12)))
-        | ((p % 4 == 0) & ((line == 3) | (line == 17)))
-        | ((p % 4 == 2) & ((line == 16) | (line == 4)))
 }
 
 // The context of the sample after place i, at an even and at an odd position, in lines that are s apart.
@@ -252,7 +149,7 @@ pub fn look_of(base: u32, x: Context) -> Look
     if base == 0 {
         return lossless_look(x);
     }
-    look_with(base, code::choice(base, x.flatness()), x)
+    look_with(base, samples::choice(base, x.flatness()), x)
 }
 
 // The quantisers that a line with that base chooses for flatness 0 to 7, and from 8 on.
@@ -260,15 +157,15 @@ pub fn choices_of(base: u32) -> [u32; 9]
     ensures { λ r. ⌜ r ≡ choicesOf base ⌝ }
 {
     [
-        code::choice(base, 0),
-        code::choice(base, 1),
-        code::choice(base, 2),
-        code::choice(base, 3),
-        code::choice(base, 4),
-        code::choice(base, 5),
-        code::choice(base, 6),
-        code::choice(base, 7),
-        code::choice(base, 8),
+        samples::choice(base, 0),
+        samples::choice(base, 1),
+        samples::choice(base, 2),
+        samples::choice(base, 3),
+        samples::choice(base, 4),
+        samples::choice(base, 5),
+        samples::choice(base, 6),
+        samples::choice(base, 7),
+        samples::choice(base, 8),
     ]
 }
 
@@ -318,7 +215,7 @@ pub fn update_at(sums: &mut [u32; 112], ns: &mut [u32; 112], slot: usize, old: R
         ≡ set (zipRecords (now (sums .entry)) (now (ns .entry))) slot (updated old ((residualOf code) .size)) ⌝ }
     ensures { λ _. ⌜ SetInRange (zipRecords (now (sums .exit)) (now (ns .exit))) ⌝ }
 {
-    let new = old.update(code::residual_size(code));
+    let new = old.update(samples::residual_size(code));
     sums[slot] = new.sum;
     ns[slot] = new.n;
 }

@@ -1,4 +1,2 @@
 -- Laws about the definitions of streams, for the proofs of this crate and for those of the crates above.
-pub mod RefusalLaws
-pub mod HeaderLaws
 pub mod StreamLaws

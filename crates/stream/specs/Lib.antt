@@ -1,5 +1,3 @@
--- The definitions of streams and of the refusals.
-pub mod Refusals
-pub mod Headers
+-- The definitions of streams and of the lengths of blocks.
 pub mod Streams
 pub mod Lengths

@@ -1,19 +1,20 @@
 -- Where the sizes, the base rows and the blocks of a stream stand. All offsets count bytes from the header's first. Assumes nothing.
 use mathlib.Core.Bool.{Bool, false, cond, not, _&&_}
-use mathlib.Core.List.{List, []}
+use mathlib.Core.List.{List}
 use mathlib.Core.Path.{_≡_}
-use Prim.Native.Nat.{ℕ, zero, suc, _+_, _-_, _*_, _/_, _^_, _≤_, _<_, min}
+use Prim.Native.Nat.{ℕ, zero, suc, _+_, _-_, _*_, _/_, _≤_, _<_}
 use lib.Dec.{ltb}
-use lib.ListN.{length, take, drop}
+use lib.ListN.{length}
 use Rattle.numbers.specs.Numbers.{leastFrom}
 use Rattle.bits.specs.Bits.{be32}
-use Rattle.stream.specs.Headers.{parseOf, Ruled}
-use Rattle.stream.specs.declared.FujiHeader.{FujiHeader}
-use Rattle.stream.specs.declared.Parsed.{Parsed}
-use Rattle.stream.specs.declared.Parsed.the-variants as Parsing
-use Rattle.stream.specs.declared.Ranged.{Ranged}
-use Rattle.stream.specs.declared.Ranged.the-variants as Range
-use Rattle.stream.specs.declared.Refusal.the-variants.{ShortSizes, ShortBases, NoBlock}
+use Rattle.header.specs.Headers.{parseOf, Ruled}
+use Rattle.header.specs.declared.FujiHeader.{FujiHeader}
+use Rattle.header.specs.declared.Parsed.{Parsed}
+use Rattle.header.specs.declared.Parsed.the-variants as Parsing
+use Rattle.ranges.specs.Ranges.{cut}
+use Rattle.ranges.specs.declared.Ranged.{Ranged}
+use Rattle.ranges.specs.declared.Ranged.the-variants as Range
+use Rattle.header.specs.declared.Refusal.the-variants.{ShortSizes, ShortBases, NoBlock}
 
 -- padded to 16
 abbrev pub padded : ℕ → ℕ
@@ -67,10 +68,6 @@ sizesBefore d (suc b) = sizesBefore d b + sizeOf d b
 abbrev pub blockStart : List ℕ → FujiHeader → ℕ → ℕ
 blockStart d h b = rowStart h (h .blocks) + sizesBefore d b
 
--- cut to the stream's end
-abbrev pub cut : List ℕ → ℕ → ℕ
-cut d at = min at (length d)
-
 -- the range of block b, its start and its end cut: refusals 1 to 5, or its offset and its length
 abbrev pub rangeIn : List ℕ → ℕ → Parsed → Ranged
 rangeIn d b (Parsing.Refused r) = Range.Refused r
@@ -90,18 +87,3 @@ rowIn d b (Parsing.Header h) =
 
 unfoldable pub rowOf : List ℕ → ℕ → Ranged
 rowOf d b = rowIn d b (openOf d)
-
--- the part of the bytes that a range says; a refused call hands back nothing
-abbrev pub partOf : List ℕ → Ranged → List ℕ
-partOf d (Range.At from n) = take n (drop (from .0) d)
-partOf d (Range.Refused r) = []
-
--- a range of less than 2^32 bytes, as a block's is, since its size has 4 bytes
-abbrev pub Short : Ranged → Type 0
-Short (Range.At from n) = n < 2 ^ 32
-Short (Range.Refused r) = Unit {0}
-
--- a range that lies in the bytes
-abbrev pub Inside : List ℕ → Ranged → Type 0
-Inside d (Range.At from n) = from .0 + n ≤ length d
-Inside d (Range.Refused r) = Unit {0}

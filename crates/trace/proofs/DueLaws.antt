@@ -6,9 +6,9 @@ use mathlib.Core.Path.{_≡_, refl, sym, ap, _∙_}
 use Prim.Native.Nat.{ℕ, zero, suc, _+_, _-_, _*_, _/_, _%_, _≤_, _<_}
 use native.Mathlib.Omega.{arith}
 use lib.Dec.{eqb, ltb, leb}
-use Rattle.steps.specs.Steps.{Step, turnSteps, upto, passSteps}
-use Rattle.steps.specs.Values.{PlanInRange}
-use Rattle.steps.specs.declared.Plan.{Plan}
+use Rattle.schedule.specs.Steps.{Step, turnSteps, upto, passSteps}
+use Rattle.schedule.specs.Steps.{PlanInRange}
+use Rattle.schedule.specs.declared.Plan.{Plan}
 use Rattle.pass.specs.Readings.{Reading}
 use Rattle.trace.specs.Ways.{stepOf, ifDue, evenDue, oddDue, dueAt, stepsWay}
 use Rattle.trace.specs.Traces.{Inside}

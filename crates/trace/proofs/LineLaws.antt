@@ -17,9 +17,9 @@ use Rattle.quantiser.specs.declared.Quantiser.{Quantiser}
 use Rattle.lines.specs.ColourLines.{zeroLines, guarded, turned}
 use Rattle.map.specs.Places.{widthOf}
 use Rattle.steps.specs.Contexts.{noRecord}
-use Rattle.steps.specs.Steps.{planOf, passSteps}
+use Rattle.schedule.specs.Steps.{planOf, passSteps}
 use Rattle.steps.specs.Values.{zipRecords, SetInRange}
-use Rattle.steps.specs.declared.Plan.{Plan}
+use Rattle.schedule.specs.declared.Plan.{Plan}
 use Rattle.steps.proofs.ZipLaws.{zip-length}
 use Rattle.pass.specs.Readings.{Reading, reads, readPass}
 use Rattle.block.specs.Records.{table, startRecord, startRecords, restartedMain, setOf, putSet}

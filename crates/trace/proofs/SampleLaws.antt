@@ -12,26 +12,27 @@ use Rattle.statistics.specs.declared.Record.{Record}
 use Rattle.quantiser.specs.Quantisers.{largest, mainOf}
 use Rattle.prediction.specs.declared.Context.{Context}
 use Rattle.code.specs.Codes.{codeAt, Bounds}
-use Rattle.code.specs.Samples.{choiceOf, residualOf, sampleOf}
+use Rattle.samples.specs.Samples.{choiceOf, residualOf, sampleOf}
 use Rattle.code.specs.Tight.{isTight}
 use Rattle.code.specs.declared.Code.{Code}
 use Rattle.code.specs.declared.Coded.{Coded}
 use Rattle.code.specs.declared.Coded.the-variants.{Read, Truncated}
-use Rattle.steps.specs.Steps.{Step, stepAt}
+use Rattle.schedule.specs.Steps.{Step, stepAt}
 use Rattle.steps.specs.Contexts.{contextIn, lookOf, slotOf, noRecord, stepLook}
 use Rattle.steps.specs.Values.{zipRecords}
 use Rattle.steps.specs.declared.Look.{Look}
 use Rattle.steps.proofs.TableLaws.{numbers-le}
 use Rattle.pass.specs.Readings.{Reading, stepCode}
 use Rattle.pass.proofs.StepLaws.{step-interpolated, step-cut-off, step-read}
-use Rattle.block.specs.BadCodes.{Reason, reasonOf, codedReason, stepReason, badAt}
+use Rattle.bad_code.specs.declared.Reason.{Reason}
+use Rattle.bad_code.specs.Reasons.{reasonOf, codedReason, verdictOf}
+use Rattle.block.specs.BadCodes.{stepReason, badAt}
 use Rattle.block.proofs.BadCodeLaws.{code-stays}
-use Rattle.trace.specs.Ways.{found, cut-off, on, namedReason, verdictOf, stepWay}
+use Rattle.trace.specs.Ways.{found, cut-off, on, stepWay}
 use Rattle.trace.specs.Traces.{clean}
-use Rattle.trace.specs.declared.BadSpot.{BadSpot}
-use Rattle.trace.specs.declared.Reason as Named
+use Rattle.bad_code.specs.declared.BadSpot.{BadSpot}
 use Rattle.trace.specs.declared.Stage.{Stage}
-use Rattle.trace.specs.declared.Verdict.the-variants.{Good, Bad}
+use Rattle.bad_code.specs.declared.Verdict.the-variants.{Good, Bad}
 
 -- ---- verdicts
 
@@ -43,11 +44,11 @@ pub was-good : (o : Option Reason) → verdictOf o ≡ Good → o ≡ none
 was-good none e = refl
 was-good (some w) e = let no : _≡_ {A = ℕ} 0 1 = cc in absurd (omega arith)
 
-pub was-loose : (o : Option Reason) (x : Named.Reason) → verdictOf o ≡ Bad x → (w : Reason) × (o ≡ some w) × (x ≡ namedReason w)
+pub was-loose : (o : Option Reason) (x : Reason) → verdictOf o ≡ Bad x → (w : Reason) × (o ≡ some w) × (x ≡ w)
 was-loose none x e = let no : _≡_ {A = ℕ} 0 1 = cc in absurd (omega arith)
 was-loose (some w) x e = (w, refl, cc)
 
-pub spot-is : (n i line p : ℕ) (at : BitPosition) (a b : Named.Reason) (z : BadSpot)
+pub spot-is : (n i line p : ℕ) (at : BitPosition) (a b : Reason) (z : BadSpot)
     → z ≡ record { line = n; pass = i; colour = line; position = p; at = at; reason = a } → a ≡ b
     → z ≡ record { line = n; pass = i; colour = line; position = p; at = at; reason = b }
 spot-is n i line p at a b z e f = e ∙ rw f

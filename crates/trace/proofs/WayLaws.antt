@@ -10,14 +10,14 @@ use native.Mathlib.Numerals.{add-one}
 use native.Mathlib.Omega.{arith}
 use denote.Enum.Declared.{tagOf, declared}
 use Rattle.bits.specs.declared.BitPosition.{BitPosition}
-use Rattle.steps.specs.Steps.{Step, upto}
+use Rattle.schedule.specs.Steps.{Step, upto}
 use Rattle.pass.specs.Readings.{Reading, readStep, andThen, reads}
 use Rattle.block.specs.BadCodes.{BadCode, badAt, stepReason, badInSteps}
 use Rattle.trace.specs.Ways.{Way, found, cut-off, on, wayOf, spotOf, stepOf, ifDue, plain, stepWay, stepsWay}
 use Rattle.trace.proofs.PlainLaws.{steps-plain, bad-plain, step-plain}
 use Rattle.trace.specs.Traces.{Said, Says}
 use Rattle.trace.proofs.Traced.{enum}
-use Rattle.trace.specs.declared.BadSpot.{BadSpot}
+use Rattle.bad_code.specs.declared.BadSpot.{BadSpot}
 use Rattle.trace.specs.declared.Sample.{Sample}
 use Rattle.trace.specs.declared.Stage.{Stage}
 use Rattle.trace.specs.declared.Traced.{Traced}

@@ -8,8 +8,9 @@ use Rattle.bits.specs.declared.BitPosition.{BitPosition}
 use Rattle.quantiser.specs.Quantisers.{mainOf}
 use Rattle.quantiser.specs.declared.Quantiser.{Quantiser}
 use Rattle.map.specs.Places.{widthOf}
-use Rattle.steps.specs.Values.{zipRecords, SetInRange, Depth, PlanInRange}
-use Rattle.steps.specs.declared.Plan.{Plan}
+use Rattle.schedule.specs.Steps.{PlanInRange}
+use Rattle.steps.specs.Values.{zipRecords, SetInRange, Depth}
+use Rattle.schedule.specs.declared.Plan.{Plan}
 use Rattle.pass.specs.Readings.{Reading}
 use Rattle.block.specs.Blocks.{State}
 use Rattle.block.specs.Walks.{AllInRange}

@@ -4,31 +4,18 @@ use mathlib.Core.List.{List, [], _∷_}
 use mathlib.Core.Option.{Option, none, some, Option·map}
 use Prim.Native.Nat.{ℕ, _+_, _-_, _*_, _/_, _%_}
 use lib.Dec.{eqb, ltb, leb}
-use Rattle.steps.specs.Steps.{Step, interpolated, stepAt}
-use Rattle.steps.specs.declared.Plan.{Plan}
+use Rattle.schedule.specs.Steps.{Step, interpolated, stepAt}
+use Rattle.schedule.specs.declared.Plan.{Plan}
 use Rattle.pass.specs.Readings.{Reading, readStep, andThen, reads}
 use Rattle.block.specs.Blocks.{State, runs, passAt, endLine, readLines}
-use Rattle.block.specs.BadCodes.{Reason, too-large, short-fits, too-many-zeros, BadCode, stepReason, badAt, badInSteps, firstFound, badInPass, firstBad}
+use Rattle.block.specs.BadCodes.{BadCode, stepReason, badAt, badInSteps, firstFound, badInPass, firstBad}
 use Rattle.block.specs.declared.Form.{Form}
-use Rattle.trace.specs.declared.Reason as Named
-use Rattle.trace.specs.declared.Reason.the-variants.{Large, Escape, Zeros}
-use Rattle.trace.specs.declared.Verdict.{Verdict}
-use Rattle.trace.specs.declared.Verdict.the-variants.{Good, Bad}
-use Rattle.trace.specs.declared.BadSpot.{BadSpot}
+use Rattle.bad_code.specs.declared.BadSpot.{BadSpot}
 use Rattle.trace.specs.declared.Due.{Due}
 use Rattle.trace.specs.declared.Sample.{Sample}
 use Rattle.trace.specs.declared.Stage.{Stage}
 
 -- ---- the program's values
-
-abbrev pub namedReason : Reason → Named.Reason
-namedReason too-large = Large
-namedReason short-fits = Escape
-namedReason too-many-zeros = Zeros
-
-abbrev pub verdictOf : Option Reason → Verdict
-verdictOf none = Good
-verdictOf (some w) = Bad (namedReason w)
 
 -- passes count from 1
 abbrev pub spotOf : BadCode → BadSpot
@@ -39,7 +26,7 @@ spotOf b =
       colour = b .step .line;
       position = b .step .position;
       at = b .at;
-      reason = namedReason (b .reason);
+      reason = b .reason;
     }
 
 abbrev pub stepOf : Sample → Step

@@ -5,47 +5,26 @@ ghost use mathlib.Core.Bool.{true};
 ghost use Prim.Native.Nat.{_+_, _*_, _/_, _^_, _≤_, _<_};
 ghost use lib.ListN.{length, getD, set};
 ghost use Rattle.statistics.specs.Statistics.{updated, InRange};
-ghost use Rattle.code.specs.Samples.{residualOf};
+ghost use Rattle.samples.specs.Samples.{residualOf};
 ghost use Rattle.lines.specs.ColourLines.{zeroLines};
 ghost use Rattle.map.specs.Places.{widthOf};
-ghost use Rattle.steps.specs.Steps.{passSteps};
+ghost use Rattle.schedule.specs.Steps.{passSteps};
 ghost use Rattle.steps.specs.Contexts.{noRecord};
 ghost use Rattle.steps.specs.Values.{zipRecords, SetInRange, Depth};
 ghost use Rattle.block.specs.Records.{startRecords};
-ghost use Rattle.block.specs.BadCodes.{reasonOf};
-ghost use Rattle.trace.specs.Ways.{verdictOf, ifDue, evenDue, oddDue, dueAt, stepsWay, lineWay, blockWay};
+ghost use Rattle.trace.specs.Ways.{ifDue, evenDue, oddDue, dueAt, stepsWay, lineWay, blockWay};
 ghost use Rattle.trace.specs.Traces.{clean, Inside, StageAsks, PassAsks, Gives, cleanState, LineAsks, LineGives, Ends};
+use bad_code::BadSpot;
+use bad_code::Reason;
+use bad_code::Verdict;
 use bits::BitPosition;
 use bits::is_past;
 use block::Form;
-use code::Code;
 use code::Coded;
 use map::width;
 use quantiser::Quantiser;
+use schedule::Plan;
 use statistics::Record;
-use steps::Plan;
-
-// Why a code is bad: it is 2^bits or more; it is long where the short form fits; it has more zeros than the limit. Where two hold, the first is given.
-pub enum Reason {
-    Large,
-    Escape,
-    Zeros,
-}
-
-pub enum Verdict {
-    Good,
-    Bad(Reason),
-}
-
-// A bad code: its line of six rows, its pass, 1 to 6, its colour line and position, its first bit, and why it is bad.
-pub struct BadSpot {
-    pub line: usize,
-    pub pass: usize,
-    pub colour: usize,
-    pub position: usize,
-    pub at: BitPosition,
-    pub reason: Reason,
-}
 
 // What a walk says: a bad code; all codes were tight up to this bit; or no one bit was left before there was a bad code.
 pub enum Traced {
@@ -72,28 +51,6 @@ pub struct Stage {
 
 // ---- one sample
 
-// Why a code that was read is bad, if it is.
-fn verdict_of(m: u32, k: u32, limit: u32, c: Code) -> Verdict
-    requires { ⌜ k ≤ 15 ⌝ }
-    ensures { λ r. ⌜ r ≡ verdictOf (reasonOf m k limit c) ⌝ }
-{
-    let value = c.value;
-    let zeros = c.zeros;
-    if m < value {
-        return Verdict::Bad(Reason::Large);
-    }
-    if zeros < (limit as u64) {
-        return Verdict::Good;
-    }
-    if value >> k < limit {
-        return Verdict::Bad(Reason::Escape);
-    }
-    if (limit as u64) < zeros {
-        return Verdict::Bad(Reason::Zeros);
-    }
-    Verdict::Good
-}
-
 // The record at a place of a set. `steps::record_at` takes arrays; here a set is a part of the 336 records.
 fn record_in(sums: &[u32], ns: &[u32], slot: usize) -> Record
     requires { ⌜ (slot < 112) × ((length (now sums) ≡ 112) × (length (now ns) ≡ 112)) ⌝ }
@@ -115,7 +72,7 @@ fn update_in(sums: &mut [u32], ns: &mut [u32], slot: usize, old: Record, code: u
         ≡ set (zipRecords (now (sums .entry)) (now (ns .entry))) slot (updated old ((residualOf code) .size)) ⌝ }
     ensures { λ _. ⌜ SetInRange (zipRecords (now (sums .exit)) (now (ns .exit))) ⌝ }
 {
-    let new = old.update(code::residual_size(code));
+    let new = old.update(samples::residual_size(code));
     sums[slot] = new.sum;
     ns[slot] = new.n;
 }
@@ -168,16 +125,16 @@ fn trace_step(
     let j = steps::slot_of(p, h.place);
     let old = record_in(sums, ns, j);
     let k = old.k();
-    let got = code::read_code(block, from, k, q.limit, q.raw);
+    let got = reader::read_code(block, from, k, q.limit, q.raw);
     let Coded::Read(c) = got else {
         return Traced::CutOff;
     };
     let after = c.after;
-    let verdict = verdict_of(m, k, q.limit, c);
+    let verdict = bad_code::verdict_of(m, k, q.limit, c);
     match verdict {
         Verdict::Bad(reason) => Traced::Bad(bad_spot(stage, x, from, reason)),
         Verdict::Good => {
-            lines[i + 1] = code::sample(
+            lines[i + 1] = samples::sample(
                 m,
                 h.base,
                 q.total,
@@ -208,7 +165,7 @@ fn even_due(w: usize, line: usize, rule: u32, p: usize) -> Due
         x: Sample {
             line,
             position: p,
-            coded: steps::has_code(rule, p),
+            coded: schedule::has_code(rule, p),
         },
     }
 }
@@ -310,7 +267,7 @@ fn trace_line(
     let mut at = from;
     let mut i: usize = 0;
     while i < 6 {
-        let p = steps::plan_at(i, xtrans);
+        let p = schedule::plan_at(i, xtrans);
         lines::set_guards(lines, w, p.first);
         lines::set_guards(lines, w, p.second);
         let stage = Stage {

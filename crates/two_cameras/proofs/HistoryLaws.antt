@@ -9,10 +9,11 @@ use native.Mathlib.Omega.{arith}
 use lib.Dec.{ltb}
 use lib.ListN.{length, getD, take, drop}
 use Rattle.numbers.specs.Numbers.{flag}
-use Rattle.stream.specs.Streams.{rowOf, partOf}
-use Rattle.stream.specs.declared.FujiHeader.{FujiHeader}
-use Rattle.stream.specs.declared.Ranged.{Ranged}
-use Rattle.stream.specs.declared.Ranged.the-variants as Range
+use Rattle.stream.specs.Streams.{rowOf}
+use Rattle.ranges.specs.Ranges.{partOf}
+use Rattle.header.specs.declared.FujiHeader.{FujiHeader}
+use Rattle.ranges.specs.declared.Ranged.{Ranged}
+use Rattle.ranges.specs.declared.Ranged.the-variants as Range
 use Rattle.region.specs.Regions.{firstBlock, lineCount}
 use Rattle.region.specs.declared.Rect.{Rect}
 use Rattle.cameras.specs.Entries.{noEntry, isHeld, holdsIt, entryAt, each, freeOf, linesWithEntry, afterLines, takingLines, takenBy, givenBack, handedBack, holds, holdsOf, sumOf, mended, Sound}

@@ -11,8 +11,8 @@ use Rattle.numbers.specs.Numbers.{leastFrom}
 use Rattle.numbers.proofs.BoolLaws.{both}
 use Rattle.numbers.proofs.LeastLaws.{Least, least}
 use Rattle.numbers.proofs.OrderLaws.{split}
-use Rattle.stream.specs.declared.FujiHeader.{FujiHeader}
-use Rattle.stream.specs.declared.Refusal.the-variants.{Truncated, NoEntry}
+use Rattle.header.specs.declared.FujiHeader.{FujiHeader}
+use Rattle.header.specs.declared.Refusal.the-variants.{Truncated, NoEntry}
 use Rattle.region.specs.Regions.{firstBlock, lineCount}
 use Rattle.region.specs.declared.Rect.{Rect}
 use Rattle.cameras.specs.Entries.{isHeld, isPair, entryAt, pairIn, freeIn, hasEntry, linesWithEntry, afterLines, isStopped, handedBack, mended, Sound}

@@ -6,8 +6,8 @@ use mathlib.Core.Logic.{_↔_}
 use mathlib.Core.Path.{_≡_}
 use Prim.Native.Nat.{ℕ, zero, suc, _+_, _≤_, _<_}
 use lib.ListN.{length, getD}
-use Rattle.stream.specs.declared.FujiHeader.{FujiHeader}
-use Rattle.stream.specs.declared.Refusal.the-variants.{NoEntry}
+use Rattle.header.specs.declared.FujiHeader.{FujiHeader}
+use Rattle.header.specs.declared.Refusal.the-variants.{NoEntry}
 use Rattle.region.specs.Regions.{firstBlock, lineCount}
 use Rattle.region.specs.declared.Rect.{Rect}
 use Rattle.cameras.specs.Entries.{isHeld, isPair, entryAt, afterLines, takingLines, takenBy, givenBack, handedBack, holds, holdsOf, mended, Sound}

@@ -9,10 +9,10 @@ use native.Mathlib.Omega.{arith}
 use lib.Dec.{ltb, leb}
 use lib.ListN.{length, getD}
 use Rattle.numbers.proofs.OrderLaws.{split}
-use Rattle.stream.specs.Headers.{Ruled}
+use Rattle.header.specs.Headers.{Ruled}
 use Rattle.stream.specs.Streams.{openOf}
-use Rattle.stream.specs.declared.FujiHeader.{FujiHeader}
-use Rattle.stream.specs.declared.Parsed.the-variants.{Header}
+use Rattle.header.specs.declared.FujiHeader.{FujiHeader}
+use Rattle.header.specs.declared.Parsed.the-variants.{Header}
 use Rattle.stream.proofs.StreamLaws.{opened}
 use Rattle.region.specs.Regions.{blockOf, rightOf, bottomOf, isOutside, isEmpty, checkedOf, spanOf, lastBlock, Accepted}
 use Rattle.region.specs.declared.Rect.{Rect}

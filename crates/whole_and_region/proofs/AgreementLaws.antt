@@ -11,8 +11,8 @@ use lib.Arith.{digits-div, digits-mod, digits-lt}
 use lib.Dec.{ltb}
 use lib.ListN.{getD}
 use Rattle.numbers.proofs.OrderLaws.{split}
-use Rattle.stream.specs.declared.FujiHeader.{FujiHeader}
-use Rattle.stream.specs.declared.Refusal.the-variants.{Truncated}
+use Rattle.header.specs.declared.FujiHeader.{FujiHeader}
+use Rattle.header.specs.declared.Refusal.the-variants.{Truncated}
 use Rattle.region.specs.Regions.{blockOf, rightOf, bottomOf, firstBlock, lastBlock, lineCount, Accepted}
 use Rattle.region.specs.declared.Rect.{Rect}
 use Rattle.region.proofs.RegionLaws.{right-is, bottom-is, block-touched, block-order, block-inside, column-in-block, lines-inside, row-inside}

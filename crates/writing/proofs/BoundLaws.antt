@@ -19,14 +19,14 @@ use Rattle.prediction.specs.declared.Context.{Context}
 use Rattle.code.specs.Tight.{codeBits}
 use Rattle.code.proofs.TightLaws.{length-codeBits, short-length, long-length}
 use Rattle.steps.specs.Contexts.{usedBase, usedWeight, usedQuantiser, lookOf, noRecord, stepContext, stepSlot}
-use Rattle.steps.specs.Steps.{Step, planOf, passSteps, isInterpolated}
+use Rattle.schedule.specs.Steps.{Step, planOf, passSteps, isInterpolated}
 use Rattle.steps.specs.Values.{Depth}
 use Rattle.steps.specs.declared.Look.{Look}
-use Rattle.steps.specs.declared.Plan.{Plan}
+use Rattle.schedule.specs.declared.Plan.{Plan}
 use Rattle.steps.proofs.ContextLaws.{context-le}
-use Rattle.steps.proofs.OrderLaws.{All}
-use Rattle.steps.proofs.PlanLaws.{CodedIn, steps-coded}
-use Rattle.steps.proofs.ScheduleLaws.{codes}
+use Rattle.schedule.proofs.OrderLaws.{All}
+use Rattle.schedule.proofs.PlanLaws.{CodedIn, steps-coded}
+use Rattle.schedule.proofs.ScheduleLaws.{codes}
 use Rattle.writing.specs.Puts.{Within, Wanted}
 use Rattle.writing.specs.Writings.{Writing, wantedCode, writeStep, writes, writePass}
 use Rattle.writing.proofs.ChosenLaws.{near-lt}

@@ -9,11 +9,11 @@ use lib.Pow.{pow-pos, pow-mono}
 use Rattle.quantiser.specs.Quantisers.{largest, totalOf, quantiserOf}
 use Rattle.quantiser.proofs.QuantiserLaws.{total-le, total-wide}
 use Rattle.prediction.specs.declared.Context.{Context}
-use Rattle.code.specs.Samples.{sampleOf}
-use Rattle.code.specs.Tight.{codeFor}
-use Rattle.code.specs.Nearest.{codeNear}
-use Rattle.code.proofs.SampleLaws.{OneToOne, one-to-one}
-use Rattle.code.proofs.NearLaws.{near-back, near-exact}
+use Rattle.samples.specs.Samples.{sampleOf}
+use Rattle.samples.specs.Wanted.{codeFor}
+use Rattle.samples.specs.Nearest.{codeNear}
+use Rattle.samples.proofs.SampleLaws.{OneToOne, one-to-one}
+use Rattle.samples.proofs.NearLaws.{near-back, near-exact}
 use Rattle.steps.specs.Contexts.{usedBase, usedQuantiser, lookOf, slotOf}
 use Rattle.steps.specs.Values.{quantisersOf}
 use Rattle.steps.specs.declared.Look.{Look}

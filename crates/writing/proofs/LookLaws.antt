@@ -11,12 +11,12 @@ use lib.ListN.{getD, set}
 use Rattle.quantiser.specs.Quantisers.{largest, quantiserOf, gradientOf}
 use Rattle.quantiser.proofs.QuantiserLaws.{total-wide}
 use Rattle.prediction.specs.declared.Context.{Context}
-use Rattle.code.specs.Samples.{sampleOf}
-use Rattle.code.specs.Nearest.{codeNear}
-use Rattle.code.proofs.NearLaws.{near-back}
+use Rattle.samples.specs.Samples.{sampleOf}
+use Rattle.samples.specs.Nearest.{codeNear}
+use Rattle.samples.proofs.NearLaws.{near-back}
 use Rattle.steps.specs.Contexts.{usedQuantiser, contextIn, lookOf, stepContext}
-use Rattle.steps.specs.Steps.{Step, stepAt, interpolated, evenPart, oddPart}
-use Rattle.steps.specs.declared.Plan.{Plan}
+use Rattle.schedule.specs.Steps.{Step, stepAt, interpolated, evenPart, oddPart}
+use Rattle.schedule.specs.declared.Plan.{Plan}
 use Rattle.steps.proofs.ContextLaws.{context-le}
 use Rattle.steps.proofs.LookLaws.{look-lossless}
 use Rattle.writing.specs.Looks.{SampleLooked, Right}

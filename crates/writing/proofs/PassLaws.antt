@@ -7,12 +7,12 @@ use Prim.Native.Nat.{ℕ, _+_, _/_, _^_, _≤_}
 use native.Mathlib.Omega.{arith}
 use lib.ListN.{length}
 use Rattle.quantiser.specs.Quantisers.{largest}
-use Rattle.steps.specs.Steps.{passSteps}
-use Rattle.steps.specs.declared.Plan.{Plan}
+use Rattle.schedule.specs.Steps.{passSteps}
+use Rattle.schedule.specs.declared.Plan.{Plan}
 use Rattle.writing.specs.Puts.{Within}
 use Rattle.writing.specs.Writings.{Writing, writePass}
 use Rattle.writing.proofs.StepPuts.{writes-within, writes-wrong, writes-short}
-use Rattle.steps.proofs.TurnLaws.{turns-le}
+use Rattle.schedule.proofs.TurnLaws.{turns-le}
 
 module _ (bits q W : ℕ) (strict : Bool) (t : List ℕ) (n : ℕ) (P : Plan) (r : Writing) where
   -- samples up to M

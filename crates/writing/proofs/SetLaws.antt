@@ -8,8 +8,8 @@ use lib.Arith.{digits-div, digits-mod, digits-lt}
 use lib.Dec.{lit<}
 use borrow.Author.Tests.{lt-ltb, le-ltb}
 use Rattle.numbers.proofs.OrderLaws.{split}
-use Rattle.steps.specs.Steps.{planOf}
-use Rattle.steps.proofs.PlanLaws.{firstLine, secondLine, lines-are, each-pass}
+use Rattle.schedule.specs.Steps.{planOf}
+use Rattle.schedule.proofs.PlanLaws.{firstLine, secondLine, lines-are, each-pass}
 use Rattle.lines.specs.Sets.{lineSize, setSize, rankOf, lineOfRank, indexIn, lineAt, colourLineAt, positionAt}
 
 pub rank-of-line : (c : ℕ) → c < 12 → rankOf (lineOfRank c) ≡ c

@@ -13,9 +13,9 @@ use Rattle.statistics.specs.declared.Record.{Record}
 use Rattle.quantiser.specs.Quantisers.{largest}
 use Rattle.prediction.specs.Predictions.{ContextRanges}
 use Rattle.prediction.specs.declared.Context.{Context}
-use Rattle.code.specs.Samples.{residualOf}
+use Rattle.samples.specs.Samples.{residualOf}
 use Rattle.code.specs.Tight.{codeBits}
-use Rattle.steps.specs.Steps.{Step, stepAt}
+use Rattle.schedule.specs.Steps.{Step, stepAt}
 use Rattle.steps.specs.Contexts.{usedBase, usedWeight, usedQuantiser, noRecord}
 use Rattle.steps.specs.Values.{zipRecords, SetInRange, AreKs}
 use Rattle.steps.proofs.KLaws.{kept-k}

@@ -15,15 +15,16 @@ use Rattle.statistics.specs.declared.Record.{Record}
 use Rattle.statistics.proofs.RecordLaws.{k-least}
 use Rattle.quantiser.specs.Quantisers.{largest}
 use Rattle.code.specs.Tight.{codeLength}
-use Rattle.code.proofs.SampleLaws.{sample-le}
+use Rattle.samples.proofs.SampleLaws.{sample-le}
 use Rattle.code.proofs.TightLaws.{length-codeBits, short-length, long-length}
 use Rattle.numbers.proofs.OrderLaws.{split}
 use Rattle.prediction.specs.declared.Context.{Context}
-use Rattle.steps.specs.Steps.{Step, stepAt, evenSteps, oddSteps, evenPart, oddPart}
-use Rattle.steps.specs.Contexts.{contextIn, lookOf, slotOf, noRecord, usedBase, usedWeight, stepPlace, stepContext}
+use Rattle.schedule.specs.Steps.{Step, stepAt, evenSteps, oddSteps, evenPart, oddPart}
+use Rattle.schedule.specs.Steps.{stepPlace}
+use Rattle.steps.specs.Contexts.{contextIn, lookOf, slotOf, noRecord, usedBase, usedWeight, stepContext}
 use Rattle.steps.specs.Values.{contextAt, zipRecords}
 use Rattle.steps.specs.declared.Look.{Look}
-use Rattle.steps.specs.declared.Plan.{Plan}
+use Rattle.schedule.specs.declared.Plan.{Plan}
 use Rattle.steps.proofs.ContextLaws.{context-le, context-is, stored-le}
 use Rattle.steps.proofs.TableLaws.{numbers-le}
 use Rattle.lines.specs.Sets.{indexIn}

@@ -9,11 +9,11 @@ use native.Mathlib.Omega.{arith}
 use lib.ListN.{length, getD, length-append}
 use borrow.Author.Tests.{not-true}
 use Rattle.bits.specs.declared.BitPosition.{BitPosition}
-use Rattle.steps.specs.Steps.{Step, planOf, isInterpolated, evenPart, oddPart, turnSteps, upto, passSteps}
-use Rattle.steps.specs.declared.Plan.{Plan}
-use Rattle.steps.proofs.OrderLaws.{All, pass-all}
-use Rattle.steps.proofs.PlanLaws.{CodedIn, steps-coded}
-use Rattle.steps.proofs.TurnLaws.{turn-is, evens-le, turns-le}
+use Rattle.schedule.specs.Steps.{Step, planOf, isInterpolated, evenPart, oddPart, turnSteps, upto, passSteps}
+use Rattle.schedule.specs.declared.Plan.{Plan}
+use Rattle.schedule.proofs.OrderLaws.{All, pass-all}
+use Rattle.schedule.proofs.PlanLaws.{CodedIn, steps-coded}
+use Rattle.schedule.proofs.TurnLaws.{turn-is, evens-le, turns-le}
 use Rattle.lines.specs.Sets.{lineOfRank, indexIn}
 use Rattle.writing.specs.Writings.{Writing, writes, writePass}
 use Rattle.writing.specs.Puts.{Room, Within, Wanted, startOf, StepsRoom, IsPut, StepsPut, wrongAt, IsPassPut}

@@ -6,9 +6,10 @@ use mathlib.Core.Path.{_≡_, refl}
 use Prim.Native.Nat.{ℕ, _+_}
 use lib.ListN.{getD}
 use Rattle.prediction.specs.declared.Context.{Context}
-use Rattle.steps.specs.Contexts.{stepPlace, stepContext, stepLook, stepSlot}
-use Rattle.steps.specs.Steps.{Step, passSteps}
-use Rattle.steps.specs.declared.Plan.{Plan}
+use Rattle.schedule.specs.Steps.{stepPlace}
+use Rattle.steps.specs.Contexts.{stepContext, stepLook, stepSlot}
+use Rattle.schedule.specs.Steps.{Step, passSteps}
+use Rattle.schedule.specs.declared.Plan.{Plan}
 use Rattle.lines.specs.Sets.{indexIn}
 use Rattle.writing.specs.Writings.{Writing, orSecond, passOver, putCode, writeStep, writes, writePass}
 

@@ -7,10 +7,12 @@ use Prim.Native.Nat.{ℕ, _+_, _*_, _%_, _^_, _≤_, _<_}
 use lib.ListN.{length, getD, set}
 use Rattle.statistics.specs.declared.Record.{Record}
 use Rattle.quantiser.specs.Quantisers.{largest}
-use Rattle.steps.specs.Steps.{Step, passSteps}
-use Rattle.steps.specs.Contexts.{stepPlace, stepContext}
-use Rattle.steps.specs.Values.{Depth, PlanInRange}
-use Rattle.steps.specs.declared.Plan.{Plan}
+use Rattle.schedule.specs.Steps.{Step, passSteps}
+use Rattle.schedule.specs.Steps.{stepPlace}
+use Rattle.steps.specs.Contexts.{stepContext}
+use Rattle.schedule.specs.Steps.{PlanInRange}
+use Rattle.steps.specs.Values.{Depth}
+use Rattle.schedule.specs.declared.Plan.{Plan}
 use Rattle.steps.specs.declared.Spot.{Spot}
 use Rattle.writing.specs.Puts.{Within, Wanted}
 use Rattle.lines.specs.Sets.{lineSize, indexIn}

@@ -13,13 +13,14 @@ use Rattle.statistics.specs.declared.Record.{Record}
 use Rattle.quantiser.specs.Quantisers.{largest}
 use Rattle.prediction.specs.Predictions.{ContextRanges}
 use Rattle.prediction.specs.declared.Context.{Context}
-use Rattle.code.specs.Samples.{residualOf}
+use Rattle.samples.specs.Samples.{residualOf}
 use Rattle.code.specs.Tight.{codeBits}
 use Rattle.output.specs.Output.{putBits}
-use Rattle.steps.specs.Steps.{Step, passSteps}
+use Rattle.schedule.specs.Steps.{Step, passSteps}
 use Rattle.steps.specs.Contexts.{usedQuantiser, lookOf, slotOf, noRecord}
-use Rattle.steps.specs.Values.{zipRecords, recordsOf, SetInRange, quantisersOf, AreQuantisers, Depth, PlanInRange}
-use Rattle.steps.specs.declared.Plan.{Plan}
+use Rattle.schedule.specs.Steps.{PlanInRange}
+use Rattle.steps.specs.Values.{zipRecords, recordsOf, SetInRange, quantisersOf, AreQuantisers, Depth}
+use Rattle.schedule.specs.declared.Plan.{Plan}
 use Rattle.steps.specs.declared.Quantisers.{Quantisers}
 use Rattle.steps.specs.declared.Set.{Set}
 use Rattle.steps.specs.declared.Spot.{Spot}

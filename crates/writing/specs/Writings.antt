@@ -10,12 +10,13 @@ use Rattle.statistics.specs.Statistics.{kOf, updated}
 use Rattle.statistics.specs.declared.Record.{Record}
 use Rattle.quantiser.specs.Quantisers.{largest}
 use Rattle.prediction.specs.declared.Context.{Context}
-use Rattle.code.specs.Samples.{residualOf, sampleOf}
+use Rattle.samples.specs.Samples.{residualOf, sampleOf}
 use Rattle.code.specs.Tight.{codeBits}
-use Rattle.code.specs.Nearest.{codeNear}
-use Rattle.steps.specs.Steps.{Step, passSteps}
-use Rattle.steps.specs.Contexts.{usedQuantiser, noRecord, stepPlace, stepContext, stepLook, stepSlot}
-use Rattle.steps.specs.declared.Plan.{Plan}
+use Rattle.samples.specs.Nearest.{codeNear}
+use Rattle.schedule.specs.Steps.{Step, passSteps}
+use Rattle.schedule.specs.Steps.{stepPlace}
+use Rattle.steps.specs.Contexts.{usedQuantiser, noRecord, stepContext, stepLook, stepSlot}
+use Rattle.schedule.specs.declared.Plan.{Plan}
 use Rattle.steps.specs.declared.Look.{Look}
 use Rattle.lines.specs.Sets.{indexIn}
 

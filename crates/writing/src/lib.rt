@@ -5,10 +5,11 @@ ghost use lib.ListN.{length};
 ghost use mathlib.Core.Bool.{not, _&&_};
 ghost use lib.Dec.{eqb};
 ghost use Rattle.quantiser.specs.Quantisers.{largest, totalOf};
-ghost use Rattle.code.specs.Samples.{sampleOf};
-ghost use Rattle.code.specs.Tight.{stepsUp, residualUp, codeOfResidual, codeFor, codeBits, codeLength};
-ghost use Rattle.code.specs.Nearest.{codeNear};
-ghost use Rattle.steps.specs.Steps.{evenPart, oddPart};
+ghost use Rattle.samples.specs.Samples.{sampleOf};
+ghost use Rattle.samples.specs.Wanted.{stepsUp, residualUp, codeOfResidual, codeFor};
+ghost use Rattle.code.specs.Tight.{codeBits, codeLength};
+ghost use Rattle.samples.specs.Nearest.{codeNear};
+ghost use Rattle.schedule.specs.Steps.{evenPart, oddPart};
 ghost use Rattle.steps.specs.Values.{zipRecords, SetInRange, AreKs, Depth};
 ghost use Rattle.lines.specs.Sets.{rankOf, indexIn, lineSize};
 ghost use Rattle.writing.specs.Writings.{writePass};
@@ -17,7 +18,7 @@ use bits::BitPosition;
 use numbers::u16_to_u32;
 use output::Put;
 use prediction::Context;
-use steps::Plan;
+use schedule::Plan;
 use steps::Quantisers;
 use steps::Set;
 use steps::Spot;
@@ -168,10 +169,10 @@ fn choose_code(bits: u32, base: u32, total: u32, negative: bool, prediction: u32
             value: v,
         };
     }
-    let code = code::code_near(base, total, negative, prediction, v);
+    let code = samples::code_near(base, total, negative, prediction, v);
     Chosen {
         code,
-        value: code::sample(m, base, total, negative, prediction, code),
+        value: samples::sample(m, base, total, negative, prediction, code),
     }
 }
 
@@ -269,7 +270,7 @@ fn write_even(
     let j = index_in(w, n, plan.first, p);
     let x = steps::context_at(lines, w + 2, i, p);
     let v = u16_to_u32(samples[j]);
-    if steps::has_code(plan.first_rule, p) {
+    if schedule::has_code(plan.first_rule, p) {
         let c = coded_as(spot.bits, base, totals, p, x, v);
         lines[i + 1] = c.value as u16;
         let choice = c.choice;
@@ -294,7 +295,7 @@ fn write_even(
     let j = index_in(w, n, plan.second, p);
     let x = steps::context_at(lines, w + 2, i, p);
     let v = u16_to_u32(samples[j]);
-    if steps::has_code(plan.second_rule, p) {
+    if schedule::has_code(plan.second_rule, p) {
         let c = coded_as(spot.bits, base, totals, p, x, v);
         lines[i + 1] = c.value as u16;
         let choice = c.choice;

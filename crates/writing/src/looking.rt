@@ -5,12 +5,12 @@ ghost use mathlib.Core.Bool.{true, false};
 ghost use mathlib.Core.List.{[], _∷_};
 ghost use Prim.Native.Nat.{_+_, _*_, _^_, _≤_, _<_};
 ghost use lib.ListN.{length};
-ghost use Rattle.steps.specs.Steps.{stepAt, evenPart, oddPart, passSteps};
+ghost use Rattle.schedule.specs.Steps.{stepAt, evenPart, oddPart, passSteps};
 ghost use Rattle.lines.specs.Sets.{lineSize};
 ghost use Rattle.writing.specs.Looks.{SampleLooked, LookAsks, Right, PassLookAsks};
 use crate::index_in;
 use numbers::u16_to_u32;
-use steps::Plan;
+use schedule::Plan;
 use steps::Spot;
 
 // One sample: with a code it is right.
@@ -78,8 +78,8 @@ fn look_even(samples: &[u16], n: usize, lines: &mut [u16], spot: Spot) -> bool
         n,
         lines,
         spot,
-        steps::has_code(plan.first_rule, p),
-        steps::has_code(plan.second_rule, p),
+        schedule::has_code(plan.first_rule, p),
+        schedule::has_code(plan.second_rule, p),
     )
 }
 

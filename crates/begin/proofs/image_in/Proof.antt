@@ -2,7 +2,7 @@
 use borrow.Author.Needs.{needs}
 use mathlib.Core.Path.{_≡_, sym, ap, _∙_}
 use Prim.Native.Nat.{ℕ}
-use Rattle.stream.specs.declared.FujiHeader.{FujiHeader}
+use Rattle.header.specs.declared.FujiHeader.{FujiHeader}
 use Rattle.region.specs.Regions.{checkedOf}
 use Rattle.region.specs.declared.Rect.{Rect}
 use Rattle.begin.specs.Beginnings.{withRegion}

@@ -3,8 +3,8 @@ use borrow.Author.Needs.{needs}
 use mathlib.Core.List.{List}
 use mathlib.Core.Path.{_≡_}
 use Prim.Native.Nat.{ℕ}
-use Rattle.stream.specs.Refusals.{refusalWords}
-use Rattle.stream.specs.declared.Refusal.{Refusal}
+use Rattle.header.specs.Refusals.{refusalWords}
+use Rattle.header.specs.declared.Refusal.{Refusal}
 use Rattle.block.specs.Words.{answerWords}
 use Rattle.block.specs.declared.Decoded.{Decoded}
 use Rattle.block.specs.declared.Decoded.the-variants.{Refused}

@@ -6,8 +6,8 @@ use Prim.Native.Nat.{ℕ}
 use lib.ListN.{length}
 use Rattle.map.specs.Places.{widthOf}
 use Rattle.map.proofs.PlaceLaws.{width-le}
-use Rattle.stream.specs.declared.FujiHeader.{FujiHeader}
-use Rattle.stream.proofs.HeaderLaws.{parsed}
+use Rattle.header.specs.declared.FujiHeader.{FujiHeader}
+use Rattle.header.proofs.HeaderLaws.{parsed}
 use Rattle.stream.proofs.StreamLaws.{opened}
 use Rattle.checkpoint.specs.Checkpoints.{checkedOf}
 use Rattle.checkpoint.specs.declared.load.Checked.{Checked}

@@ -9,7 +9,8 @@ use native.Mathlib.Omega.{arith}
 use Rattle.statistics.specs.declared.Record.{Record}
 use Rattle.map.specs.Places.{widthOf}
 use Rattle.map.proofs.PlaceLaws.{width-le}
-use Rattle.checkpoint.specs.Checkpoints.{Saved, headByte, putEach, recordsByte, linesByte, checkpointOf}
+use Rattle.state_head.specs.Heads.{headByte, putEach}
+use Rattle.checkpoint.specs.Checkpoints.{Saved, recordsByte, linesByte, checkpointOf}
 use Rattle.checkpoint.proofs.PartLaws.{parts}
 use Rattle.block.specs.Records.{setOf}
 use Rattle.block_states.proofs.LoadLaws.{some-samples}

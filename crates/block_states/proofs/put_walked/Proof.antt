@@ -8,7 +8,7 @@ use Rattle.statistics.specs.declared.Record.{Record}
 use Rattle.totals.specs.declared.Totals.{Totals}
 use Rattle.totals.specs.declared.TightLines.{TightLines}
 use Rattle.map.specs.Places.{widthOf}
-use Rattle.stream.specs.declared.FujiHeader.{FujiHeader}
+use Rattle.header.specs.declared.FujiHeader.{FujiHeader}
 use Rattle.checkpoint.specs.Checkpoints.{checkpointOf}
 use Rattle.block_states.specs.Calls.{StoredWalk}
 use Rattle.block.specs.declared.Walked.{Walked}

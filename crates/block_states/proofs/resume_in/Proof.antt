@@ -5,7 +5,7 @@ use mathlib.Core.Path.{_≡_, sym, ap, _∙_}
 use mathlib.Core.List.{List}
 use Prim.Native.Nat.{ℕ}
 use lib.ListN.{replicate}
-use Rattle.stream.specs.declared.FujiHeader.{FujiHeader}
+use Rattle.header.specs.declared.FujiHeader.{FujiHeader}
 use Rattle.region.specs.declared.Rect.{Rect}
 use Rattle.checkpoint.specs.declared.load.Checked.{Checked}
 use Rattle.block_states.specs.Calls.{ResumedIn}

@@ -2,7 +2,7 @@
 mod derived
 use borrow.Author.Needs.{needs}
 use mathlib.Core.Path.{sym, _∙_}
-use Rattle.begin.proofs.CallLaws.{resume-reads}
+use Rattle.begin_resuming.proofs.ResumingLaws.{resume-reads}
 use Rattle.block.specs.Lent.{Buffers}
 use Rattle.block.proofs.LeftLaws.{lines-back, records-back}
 use Rattle.block_states.proofs.LeftLaws.{resumed-refused, resumed-nothing, resumed-reading}

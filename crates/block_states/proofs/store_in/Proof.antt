@@ -5,8 +5,8 @@ use mathlib.Core.List.{List}
 use mathlib.Core.Path.{_≡_, sym, ap, _∙_}
 use Prim.Native.Nat.{ℕ}
 use lib.ListN.{replicate}
-use Rattle.stream.specs.declared.FujiHeader.{FujiHeader}
-use Rattle.stream.specs.declared.Refusal.{Refusal}
+use Rattle.header.specs.declared.FujiHeader.{FujiHeader}
+use Rattle.header.specs.declared.Refusal.{Refusal}
 use Rattle.block_states.specs.Storing.{storedOut}
 use Rattle.block.specs.Totals.{refusedBy}
 use Rattle.block.specs.declared.Counted.{Counted}

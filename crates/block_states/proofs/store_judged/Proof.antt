@@ -5,8 +5,8 @@ use mathlib.Core.Path.{_≡_}
 use Prim.Native.Nat.{ℕ, _+_, _*_, _≤_, _<_}
 use Rattle.map.specs.Places.{widthOf}
 use Rattle.map.proofs.PlaceLaws.{width-le}
-use Rattle.stream.specs.declared.FujiHeader.{FujiHeader}
-use Rattle.stream.specs.declared.Refusal.the-variants.{ShortOutput, BadState}
+use Rattle.header.specs.declared.FujiHeader.{FujiHeader}
+use Rattle.header.specs.declared.Refusal.the-variants.{ShortOutput, BadState}
 use Rattle.block_states.specs.Calls.{storeJudged}
 use Rattle.block.specs.declared.Decoded.the-variants.{Done, Refused}
 use Rattle.block_states.proofs.store_judged.Statement.{statement}

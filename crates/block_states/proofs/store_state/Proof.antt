@@ -7,7 +7,7 @@ use native.Mathlib.Omega.{arith}
 use lib.ListN.{length, replicate}
 use Rattle.map.specs.Places.{widthOf}
 use Rattle.stream.proofs.StreamLaws.{opened}
-use Rattle.stream.proofs.HeaderLaws.{parsed}
+use Rattle.header.proofs.HeaderLaws.{parsed}
 use Rattle.block.proofs.RangeLaws.{all-started}
 use Rattle.block.proofs.LeftLaws.{form-samples, form-depth}
 use Rattle.block_states.proofs.StoringLaws.{judged-done, header-starts, store-answered, store-left}

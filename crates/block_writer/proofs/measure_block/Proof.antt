@@ -3,7 +3,7 @@ mod derived
 use borrow.Author.Needs.{needs}
 use mathlib.Core.Bool.{true}
 use mathlib.Core.List.{[]}
-use Rattle.begin.proofs.CallLaws.{writing-fits}
+use Rattle.begin_writing.proofs.SetLaws.{writing-fits}
 use Rattle.block_writer.proofs.LeftLaws.{left-by}
 use Rattle.block_writer.proofs.measure_block.Statement.{statement}
 use Rattle.block_writer.proofs.measure_block.Proof.derived.Tie as tie

@@ -9,7 +9,7 @@ use native.Mathlib.Omega.{arith}
 use lib.ListN.{length}
 use Rattle.map.specs.Places.{widthOf}
 use Rattle.stream.specs.declared.BlockLength.{BlockLength}
-use Rattle.stream.specs.declared.FujiHeader.{FujiHeader}
+use Rattle.header.specs.declared.FujiHeader.{FujiHeader}
 use Rattle.lines.specs.Sets.{setSize}
 use Rattle.block.specs.Images.{formOf}
 use Rattle.block.specs.Lent.{Outputs}

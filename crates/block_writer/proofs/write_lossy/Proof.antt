@@ -2,7 +2,7 @@
 mod derived
 use borrow.Author.Needs.{needs}
 use mathlib.Core.Bool.{false}
-use Rattle.begin.proofs.CallLaws.{lossy-fits}
+use Rattle.begin_writing.proofs.SetLaws.{lossy-fits}
 use Rattle.block_writer.proofs.LeftLaws.{left-by}
 use Rattle.block_writer.proofs.write_lossy.Statement.{statement}
 use Rattle.block_writer.proofs.write_lossy.Proof.derived.Tie as tie

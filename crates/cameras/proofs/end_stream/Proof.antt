@@ -18,45 +18,35 @@ Inv-loop camera after₀ i₀ after i = (i ≤ 16) × (after .all ≡ each (free
 abbrev μ-loop : tie.MeasureT-loop
 μ-loop camera after₀ i₀ after i = 16 - i
 
--- src/lib.rt:237:5
 loop-holds : tie.Need-loop-holds Inv-loop μ-loop
 loop-holds c = (omega arith, each-start _ _)
 
--- src/lib.rt:238:17
 mul-old : tie.Need-mul-old Inv-loop μ-loop
 mul-old c = omega (arith, c .before .loop .inv)
 
--- src/lib.rt:238:17
 element-copy-out-old : tie.Need-element-copy-out-old Inv-loop μ-loop
 element-copy-out-old c = omega (arith, c .before .loop .inv)
 
--- src/lib.rt:239:24
 free-of-requires : tie.Need-free-of-requires Inv-loop μ-loop
 free-of-requires c κs = tt
 
--- src/lib.rt:239:9
 mul-t7 : tie.Need-mul-t7 Inv-loop μ-loop
 mul-t7 c = omega (arith, c .before .before .before .loop .inv)
 
--- src/lib.rt:239:9
 element-set-from-after : tie.Need-element-set-from-after Inv-loop μ-loop
 element-set-from-after c = omega (arith, c .before .before .before .loop .inv)
 
--- src/lib.rt:240:9
 add-i : tie.Need-add-i Inv-loop μ-loop
 add-i c = omega (arith, c .before .before .before .loop .inv)
 
--- src/lib.rt:237:5
 loop-less : tie.Need-loop-less Inv-loop μ-loop
 loop-less c = omega (arith, c .before .before .before .loop .inv)
 
--- src/lib.rt:237:5
 loop-again : tie.Need-loop-again Inv-loop μ-loop
 loop-again c =
     let l = c .before .before .before .loop in
     (omega (arith, c .before .before .loop-test .taken), each-more _ _ _ _ _ (l .inv .1) (c .free-of .ensures))
 
--- src/lib.rt:232:1
 returns : tie.Need-returns Inv-loop μ-loop
 returns c =
     let l = c .before .loop in

@@ -17,40 +17,31 @@ Inv-loop entries i₀ i = NoneBefore (λ j. not (isHeld (entryAt (entries .all) 
 abbrev μ-loop : tie.MeasureT-loop
 μ-loop entries i₀ i = 16 - i
 
--- src/lib.rt:92:5
 loop-holds : tie.Need-loop-holds Inv-loop μ-loop
 loop-holds c = (omega arith, refl)
 
--- src/lib.rt:93:17
 mul-e : tie.Need-mul-e Inv-loop μ-loop
 mul-e c = omega (arith, c .before .loop .inv)
 
--- src/lib.rt:93:17
 element-copy-out-e : tie.Need-element-copy-out-e Inv-loop μ-loop
 element-copy-out-e c = omega (arith, c .before .loop .inv)
 
--- src/lib.rt:94:13
 is-held-requires : tie.Need-is-held-requires Inv-loop μ-loop
 is-held-requires c κs = tt
 
--- src/lib.rt:95:13
 returns : tie.Need-returns Inv-loop μ-loop
 unfolding freeIn
 returns c = found (λ j. not (isHeld (entryAt (c .before .before .before .before .before .args .t1 .all) j))) _ (c .before .before .before .before .loop .inv) (ap not (sym (c .before .is-held .ensures)) ∙ c .if1 .taken)
 
--- src/lib.rt:97:9
 add-j : tie.Need-add-j Inv-loop μ-loop
 add-j c = omega (arith, c .before .before .before .before .loop .inv)
 
--- src/lib.rt:92:5
 loop-less : tie.Need-loop-less Inv-loop μ-loop
 loop-less c = omega (arith, c .before .before .before .before .loop .inv)
 
--- src/lib.rt:92:5
 loop-again : tie.Need-loop-again Inv-loop μ-loop
 loop-again c = goes-on (λ j. not (isHeld (entryAt (c .before .before .before .before .before .args .t1 .all) j))) _ (c .before .before .before .before .loop .inv) (c .before .before .before .loop-test .taken) (ap not (sym (c .before .is-held .ensures)) ∙ c .if1 .left)
 
--- src/lib.rt:88:1
 returns-2 : tie.Need-returns-2 Inv-loop μ-loop
 unfolding freeIn
 returns-2 c = ended (λ j. not (isHeld (entryAt (c .before .before .args .t1 .all) j))) _ (c .before .loop .inv) (c .loop-test .left)

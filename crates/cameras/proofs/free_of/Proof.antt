@@ -4,19 +4,15 @@ use Rattle.cameras.proofs.free_of.Tie as tie
 use Rattle.cameras.proofs.free_of.Reads as reads
 use Rattle.cameras.proofs.free_of.Lts as lts
 
--- src/lib.rt:127:24
 enum-told : tie.Need-enum-told
 enum-told c = c .match .keys1
 
--- src/lib.rt:133:24
 enum-told-2 : tie.Need-enum-told-2
 enum-told-2 c = c .match .keys2
 
--- src/lib.rt:122:1
 returns : tie.Need-returns
 returns c = rw (c .enum-told .given .1)
 
--- src/lib.rt:122:1
 returns-2 : tie.Need-returns-2
 returns-2 c = rw (c .enum-told2 .given .1)
 

@@ -1,5 +1,4 @@
 -- `cameras::handed_back` meets its contract, by whether the call was refused. Assumes nothing.
-use borrow.Author.Needs.{needs}
 use mathlib.Core.Bool.{Bool, true}
 use mathlib.Core.List.{List}
 use mathlib.Core.Path.{_≡_}
@@ -18,4 +17,4 @@ returns c =
     refused (a .camera) (a .refused) (a .entries .all) _ (c .before .if1 .taken) (c .end-stream .ensures)
 
 pub handed-back-spec : {M : Type 1} → statement M
-handed-back-spec = tie.close (tie.spec (λ c κs. tt) returns (λ c. search needs))
+handed-back-spec = tie.close (tie.spec (λ c κs. tt) returns (λ c. rw (c .if1 .left)))

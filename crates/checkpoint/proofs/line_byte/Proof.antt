@@ -5,7 +5,8 @@ use Prim.Native.Nat.{ℕ, _+_, _*_, _/_, _%_, _≤_, _<_}
 use native.Mathlib.Nat.{mod-lt, add-assoc}
 use native.Mathlib.Omega.{arith}
 use lib.ListN.{length, getD}
-use Rattle.checkpoint.specs.Checkpoints.{beByte, keptLine, linesByte}
+use Rattle.state_head.specs.Heads.{beByte}
+use Rattle.checkpoint.specs.Checkpoints.{keptLine, linesByte}
 use Rattle.checkpoint.proofs.line_byte.Statement.{statement}
 use Rattle.checkpoint.proofs.line_byte.Tie as tie
 

@@ -5,7 +5,8 @@ use mathlib.Core.Path.{_≡_}
 use Prim.Native.Nat.{ℕ, _≤_, _<_}
 use native.Mathlib.Omega.{arith}
 use Rattle.statistics.specs.declared.Record.{Record}
-use Rattle.checkpoint.specs.Checkpoints.{beByte, recordByte}
+use Rattle.state_head.specs.Heads.{beByte}
+use Rattle.checkpoint.specs.Checkpoints.{recordByte}
 use Rattle.checkpoint.proofs.record_byte.Statement.{statement}
 use Rattle.checkpoint.proofs.record_byte.Tie as tie
 

@@ -1,11 +1,11 @@
 -- `checkpoint::store_lines` meets its contract: the bytes before i are stored. Assumes nothing.
-use borrow.Author.Needs.{needs}
 use mathlib.Core.Path.{_≡_, refl, _∙_}
 use Prim.Native.Nat.{_+_, _-_, _*_, _≤_}
 use native.Mathlib.Omega.{arith}
 use lib.ListN.{length, length-set}
-use Rattle.checkpoint.specs.Checkpoints.{linesByte, putEach}
-use Rattle.checkpoint.proofs.ByteLaws.{put-more, put-done}
+use Rattle.state_head.specs.Heads.{putEach}
+use Rattle.checkpoint.specs.Checkpoints.{linesByte}
+use Rattle.state_head.proofs.PutLaws.{put-more, put-done}
 use Rattle.checkpoint.proofs.store_lines.Statement.{statement}
 use Rattle.checkpoint.proofs.store_lines.Tie as tie
 
@@ -18,12 +18,12 @@ abbrev μ-loop : tie.MeasureT-loop
 
 loop-holds : tie.Need-loop-holds Inv-loop μ-loop
 unfolding putEach
-loop-holds c = (search needs, refl, refl, refl)
+loop-holds c = (omega arith, refl, refl, refl)
 
 loop-again : tie.Need-loop-again Inv-loop μ-loop
 loop-again c =
     let l = c .before .before .loop in
-    (search needs, simp length-set (l .inv .1), l .inv .2, put-more _ 1707 _ (l .i) _ _ (l .inv .3) (c .line-byte .ensures))
+    (omega arith, simp length-set (l .inv .1), l .inv .2, put-more _ 1707 _ (l .i) _ _ (l .inv .3) (c .line-byte .ensures))
 
 returns : tie.Need-returns Inv-loop μ-loop
 returns c = let l = c .before .loop in put-done _ 1707 _ (l .i) _ _ (l .inv .3) (omega arith)

@@ -8,8 +8,9 @@ use native.Mathlib.Omega.{arith}
 use lib.ListN.{length, length-set}
 use Rattle.steps.specs.Values.{zipRecords}
 use Rattle.steps.proofs.ZipLaws.{recordAt, zip-getD}
-use Rattle.checkpoint.specs.Checkpoints.{recordByte, storedRecord, recordsByte, putEach}
-use Rattle.checkpoint.proofs.ByteLaws.{put-more, put-done}
+use Rattle.state_head.specs.Heads.{putEach}
+use Rattle.checkpoint.specs.Checkpoints.{recordByte, storedRecord, recordsByte}
+use Rattle.state_head.proofs.PutLaws.{put-more, put-done}
 use Rattle.checkpoint.proofs.store_set.Statement.{statement}
 use Rattle.checkpoint.proofs.store_set.Tie as tie
 
@@ -29,12 +30,12 @@ byte lossless sums ns i t a b e = rw (zip-getD sums ns (i / 5) (omega arith)) e
 
 loop-holds : tie.Need-loop-holds Inv-loop μ-loop
 unfolding putEach
-loop-holds c = (search needs, refl, search needs, search needs, refl, refl)
+loop-holds c = (omega arith, refl, search needs, search needs, refl, refl)
 
 loop-again : tie.Need-loop-again Inv-loop μ-loop
 loop-again c =
     let l = c .before .before .loop in (
-      search needs,
+      omega arith,
       simp length-set (l .inv .1),
       l .inv .2,
       l .inv .3,

@@ -7,7 +7,7 @@ use lib.Dec.{ltb}
 use Rattle.bits.specs.BitLists.{blockBytes}
 use Rattle.bits.specs.declared.BitPosition.{BitPosition}
 use Rattle.stream.specs.declared.BlockLength.the-variants.{Length, Refused}
-use Rattle.stream.specs.declared.Refusal.the-variants.{ShortOutput}
+use Rattle.header.specs.declared.Refusal.the-variants.{ShortOutput}
 use Rattle.counted.specs.Counted.{lengthNext}
 use Rattle.counted.specs.declared.Next.the-variants.{Answer, Store}
 use Rattle.counted.proofs.length_next.Statement.{statement}

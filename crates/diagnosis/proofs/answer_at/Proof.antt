@@ -6,8 +6,8 @@ use mathlib.Core.Path.{_≡_, ap, _∙_}
 use Prim.Native.Nat.{ℕ}
 use native.Mathlib.Omega.{arith}
 use Rattle.stream.specs.Streams.{openOf}
-use Rattle.stream.specs.declared.FujiHeader.{FujiHeader}
-use Rattle.stream.specs.declared.Parsed.the-variants.{Header}
+use Rattle.header.specs.declared.FujiHeader.{FujiHeader}
+use Rattle.header.specs.declared.Parsed.the-variants.{Header}
 use Rattle.stream.proofs.StreamLaws.{opened, row-lossless}
 use Rattle.block.specs.Walks.{IsWalked}
 use Rattle.block.specs.Images.{formOf, bytesIn, basesIn}

@@ -4,7 +4,7 @@ use mathlib.Core.List.{List, [], _∷_}
 use mathlib.Core.Path.{_≡_}
 use Prim.Native.Nat.{ℕ}
 use Rattle.bits.specs.declared.BitPosition.{BitPosition}
-use Rattle.trace.specs.declared.BadSpot.{BadSpot}
+use Rattle.bad_code.specs.declared.BadSpot.{BadSpot}
 use Rattle.diagnosis.specs.Faults.{spotWords, faultWords}
 use Rattle.diagnosis.specs.declared.Fault.{Fault}
 use Rattle.diagnosis.specs.declared.Fault.the-variants.{Code, Tail}

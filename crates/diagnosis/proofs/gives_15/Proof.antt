@@ -5,8 +5,8 @@ use mathlib.Core.Path.{_≡_}
 use Prim.Native.Nat.{ℕ}
 use lib.Dec.{eqb}
 use lib.ListN.{getD}
-use Rattle.stream.specs.Refusals.{refusalWords}
-use Rattle.stream.specs.declared.Refusal.{Refusal}
+use Rattle.header.specs.Refusals.{refusalWords}
+use Rattle.header.specs.declared.Refusal.{Refusal}
 use Rattle.block.specs.declared.Decoded.{Decoded}
 use Rattle.block.specs.declared.Decoded.the-variants.{Refused}
 use Rattle.diagnosis.specs.Faults.{gives15}

@@ -5,7 +5,7 @@ use Prim.Native.Nat.{_-_, _≤_}
 use native.Mathlib.Omega.{arith}
 use Rattle.stream.proofs.StreamLaws.{opened}
 use Rattle.findings.specs.Findings.{lowest}
-use Rattle.findings.specs.declared.Finding.the-variants.{Nothing}
+use Rattle.report_text.specs.declared.Finding.the-variants.{Nothing}
 use Rattle.findings.proofs.FindingLaws.{lowest-none, lowest-more, lowest-code, lowest-tail, lowest-done}
 use Rattle.findings.proofs.find_in.Statement.{statement}
 use Rattle.findings.proofs.find_in.Tie as tie

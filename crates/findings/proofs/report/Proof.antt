@@ -2,8 +2,8 @@
 use borrow.Author.Needs.{needs}
 use mathlib.Core.Path.{ap}
 use native.Mathlib.Omega.{arith}
-use Rattle.findings.specs.Texts.{textOf}
-use Rattle.findings.proofs.TextLaws.{counts, put-same, put-start}
+use Rattle.report_text.specs.Texts.{textOf}
+use Rattle.report_text.proofs.TextLaws.{counts, put-same, put-start}
 use Rattle.findings.proofs.report.Statement.{statement}
 use Rattle.findings.proofs.report.Tie as tie
 

@@ -1,5 +1,4 @@
 -- `map::sample_at` meets its contract: where it reads lies in the colour lines. Assumes nothing.
-use borrow.Author.Needs.{needs}
 use native.Mathlib.Omega.{arith}
 use Rattle.map.proofs.PlaceLaws.{width-le}
 use Rattle.map.proofs.RowLaws.{index-lt}
@@ -29,5 +28,5 @@ returns c =
 pub sample-at-spec : {M : Type 1} → statement M
 sample-at-spec =
     tie.close
-    (tie.spec (λ c. omega (arith, c .before .pre)) (λ c. omega (arith, c .before .pre)) (λ c κs. search needs) add-result mul-result-2
+    (tie.spec (λ c. omega (arith, c .before .pre)) (λ c. omega (arith, c .before .pre)) (λ c κs. (c .before .before .pre .1 .1 .0, c .before .before .pre .0 .1 .1)) add-result mul-result-2
     shared-slice-read-result returns)

@@ -5,7 +5,7 @@ use Prim.Native.Nat.{ℕ, _+_, _-_, _/_, _%_, _^_, _≤_, _<_, min}
 use native.Mathlib.Nat.{min-le-left, min-le-right, min-eq-left, le-min}
 use native.Mathlib.Omega.{arith}
 use lib.ListN.{length, length-set}
-use Rattle.bits.specs.Pump.{ahead}
+use Rattle.bits.specs.Positions.{ahead}
 use Rattle.output.specs.Output.{putBits}
 use Rattle.output.proofs.PutLaws.{firstDigits, put-turn, no-digits, all-digits}
 use Rattle.output.proofs.put_by_bytes.Statement.{statement}

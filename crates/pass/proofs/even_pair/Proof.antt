@@ -7,7 +7,7 @@ use mathlib.Core.Path.{_≡_, sym, _∙_}
 use Prim.Native.Nat.{ℕ, _*_, _^_, _≤_, _<_}
 use native.Mathlib.Omega.{arith}
 use lib.ListN.{length}
-use Rattle.steps.specs.Steps.{interpolated, stepAt}
+use Rattle.schedule.specs.Steps.{interpolated, stepAt}
 use Rattle.steps.specs.Values.{SetInRange, AreKs}
 use Rattle.pass.specs.Readings.{Reading}
 use Rattle.pass.specs.Pairs.{placeAt, held}

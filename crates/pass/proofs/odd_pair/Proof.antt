@@ -8,7 +8,7 @@ use Prim.Native.Nat.{ℕ, _*_, _^_, _≤_, _<_}
 use native.Mathlib.Omega.{arith}
 use lib.ListN.{length}
 use Rattle.code.specs.declared.Place.{Place}
-use Rattle.steps.specs.Steps.{stepAt}
+use Rattle.schedule.specs.Steps.{stepAt}
 use Rattle.steps.specs.Values.{SetInRange, AreKs}
 use Rattle.pass.specs.Readings.{Reading}
 use Rattle.pass.specs.Pairs.{placeAt, held}

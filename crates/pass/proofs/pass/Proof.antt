@@ -7,9 +7,9 @@ use mathlib.Core.Path.{_≡_, refl, _∙_}
 use Prim.Native.Nat.{ℕ, _+_, _-_, _/_, _%_, _≤_}
 use native.Mathlib.Omega.{arith}
 use lib.ListN.{length}
-use Rattle.steps.specs.Steps.{evenPart, turnSteps, upto}
+use Rattle.schedule.specs.Steps.{evenPart, turnSteps, upto}
 use Rattle.steps.specs.Values.{SetInRange, AreKs, choicesOf}
-use Rattle.steps.specs.declared.Plan.{Plan}
+use Rattle.schedule.specs.declared.Plan.{Plan}
 use Rattle.steps.proofs.TableLaws.{are-quantisers}
 use Rattle.pass.specs.Readings.{Reading}
 use Rattle.pass.specs.Pairs.{placeAt, held}

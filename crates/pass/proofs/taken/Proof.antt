@@ -7,7 +7,7 @@ use Prim.Native.Nat.{ℕ}
 use Rattle.code.specs.Codes.{codeAt, Small}
 use Rattle.code.specs.Tight.{takenOf}
 use Rattle.code.specs.declared.Taken.{Taken}
-use Rattle.code.proofs.ShortLaws.{short-taken}
+use Rattle.reader.proofs.ShortLaws.{short-taken}
 use Rattle.pass.proofs.taken.Statement.{statement}
 use Rattle.pass.proofs.taken.Tie as tie
 

@@ -3,7 +3,7 @@ use borrow.Author.Needs.{needs}
 use mathlib.Core.Bool.{Bool, true, false}
 use mathlib.Core.Path.{_≡_}
 use Prim.Native.Nat.{ℕ}
-use Rattle.steps.specs.declared.Plan.{Plan}
+use Rattle.schedule.specs.declared.Plan.{Plan}
 use Rattle.pass.specs.Windows.{windowLine, placed, windowPlan}
 use Rattle.pass.proofs.window_plan.Statement.{statement}
 use Rattle.pass.proofs.window_plan.Tie as tie

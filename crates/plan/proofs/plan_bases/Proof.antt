@@ -4,10 +4,10 @@ use mathlib.Core.List.{List}
 use mathlib.Core.Path.{_≡_, refl, sym, _∙_}
 use Prim.Native.Nat.{ℕ}
 use lib.ListN.{length}
-use Rattle.stream.specs.Headers.{parseOf}
-use Rattle.stream.specs.declared.Parsed.{Parsed}
-use Rattle.stream.specs.declared.Parsed.the-variants as Parsing
-use Rattle.stream.proofs.HeaderLaws.{ruled}
+use Rattle.header.specs.Headers.{parseOf}
+use Rattle.header.specs.declared.Parsed.{Parsed}
+use Rattle.header.specs.declared.Parsed.the-variants as Parsing
+use Rattle.header.proofs.HeaderLaws.{ruled}
 use Rattle.plan.specs.Plans.{answerIn, plannedAnswer}
 use Rattle.plan.specs.declared.Planned.{Planned}
 use Rattle.plan.proofs.AnswerLaws.{unchanged}

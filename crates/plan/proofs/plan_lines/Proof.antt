@@ -6,11 +6,11 @@ use mathlib.Core.List.{List}
 use Prim.Native.Nat.{ℕ, _≤_, _<_, _^_}
 use native.Mathlib.Omega.{arith}
 use lib.ListN.{length}
-use Rattle.plan.specs.Records.{startOf}
+use Rattle.plan_records.specs.Records.{startOf}
 use Rattle.plan.specs.Plans.{firstAmiss}
-use Rattle.plan.specs.Readings.{IsRead, Marked, Balanced}
-use Rattle.plan.specs.declared.Read.{Read}
-use Rattle.plan.proofs.CountLaws.{marked-none, balanced}
+use Rattle.plan_counts.specs.Counts.{IsRead, Marked, Balanced}
+use Rattle.plan_counts.specs.declared.Read.{Read}
+use Rattle.plan_counts.proofs.CountLaws.{marked-none, balanced}
 use Rattle.plan.proofs.AnswerLaws.{forward, amiss-is, bad-record, held-twice, not-held, accepted}
 use Rattle.plan.proofs.plan_lines.Statement.{statement}
 use Rattle.plan.proofs.plan_lines.Tie as tie

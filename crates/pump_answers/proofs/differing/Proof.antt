@@ -43,18 +43,18 @@ use denote.Triple.Walked.{says, needs, Stays, stay-none, stay-none-slice, walkOf
 use denote.Exit.{yes}
 use borrow.Table.OneValue.{part-in-at}
 use Rattle.bits.specs.declared.BitPosition.{BitPosition}
-use Rattle.bits.specs.declared.BitPumpMsb.{BitPumpMsb}
+use Rattle.pump.specs.declared.BitPumpMsb.{BitPumpMsb}
 use Rattle.bits.proofs.BitPosition as P
 use Rattle.bits.proofs.BitPosition.Laws as P′
-use Rattle.bits.proofs.BitPumpMsb as T
-use Rattle.bits.proofs.BitPumpMsb.Laws as T′
-use Rattle.bits.proofs.BitPumpMsb.at_bit as at-bit
-use Rattle.bits.proofs.BitPumpMsb.at_bit.Symbol as at-bit-def
-use Rattle.bits.proofs.BitPumpMsb.at_bit.Symbol.{name as #at-bit}
-use Rattle.bits.proofs.BitPumpMsb.at_bit.Met as at-bit-thm
-use Rattle.bits.proofs.PumpMakes.{AtBit, to-at, goes-at, says-at}
-use Rattle.bits.proofs.PumpOwns.{IsAt, sliced}
-use Rattle.bits.proofs.PumpLends.{Behind, lent, LentOwn, lends-pump, takes-back}
+use Rattle.pump.proofs.BitPumpMsb as T
+use Rattle.pump.proofs.BitPumpMsb.Laws as T′
+use Rattle.pump.proofs.BitPumpMsb.at_bit as at-bit
+use Rattle.pump.proofs.BitPumpMsb.at_bit.Symbol as at-bit-def
+use Rattle.pump.proofs.BitPumpMsb.at_bit.Symbol.{name as #at-bit}
+use Rattle.pump.proofs.BitPumpMsb.at_bit.Met as at-bit-thm
+use Rattle.pump.proofs.PumpMakes.{AtBit, to-at, goes-at, says-at}
+use Rattle.pump.proofs.PumpOwns.{IsAt, sliced}
+use Rattle.pump.proofs.PumpLends.{Behind, lent, LentOwn, lends-pump, takes-back}
 use Rattle.pump_answers.proofs.replay as replay
 use Rattle.pump_answers.proofs.replay.Symbol as replay-def
 use Rattle.pump_answers.proofs.replay.Symbol.{name as #replay}
@@ -191,5 +191,5 @@ differing-spec 𝓤 H 𝓜 𝓖 𝓡 =
     entered 𝓤 H (tripleOf 𝓤 H (𝓖 .A) differing.signature (differing.spec 𝓤 H (𝓖 .A) (𝓜 .mem) (𝓡 .run)))
     (tables 𝓤 H 𝓜 𝓡 code.env .C) (tables 𝓤 H 𝓜 𝓡 code.env .Λ) #differing code.function (code.unfolded 𝓤 H 𝓜 𝓡)
     (differing-meets 𝓤 H (𝓖 .A) (givenOf 𝓤 H 𝓜 𝓖) (𝓜 .mem) (𝓡 .run) (tablesOf 𝓤 H 𝓜 (tables 𝓤 H 𝓜 𝓡 code.env))
-    (cited 𝓤 H (AtBit 𝓤 H (𝓖 .A) (𝓜 .mem) (𝓡 .run)) 𝓜 𝓡 code.env #at-bit at-bit-def.routine code.calls-bits·BitPumpMsb·at-bit (at-bit-thm.met 𝓤 H 𝓜 𝓖 𝓡))
+    (cited 𝓤 H (AtBit 𝓤 H (𝓖 .A) (𝓜 .mem) (𝓡 .run)) 𝓜 𝓡 code.env #at-bit at-bit-def.routine code.calls-pump·BitPumpMsb·at-bit (at-bit-thm.met 𝓤 H 𝓜 𝓖 𝓡))
     (cited 𝓤 H (Replay 𝓤 H (𝓖 .A) (𝓜 .mem) (𝓡 .run)) 𝓜 𝓡 code.env #replay replay-def.routine code.calls-pump-answers·replay (replay-thm.met 𝓤 H 𝓜 𝓖 𝓡)))

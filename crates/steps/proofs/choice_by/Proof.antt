@@ -4,7 +4,7 @@ use mathlib.Core.Path.{_≡_}
 use Prim.Native.Nat.{ℕ, _≤_, min}
 use lib.ListN.{getD}
 use native.Mathlib.Omega.{arith}
-use Rattle.code.specs.Samples.{choiceOf}
+use Rattle.samples.specs.Samples.{choiceOf}
 use Rattle.steps.specs.Values.{choicesOf}
 use Rattle.steps.proofs.LookLaws.{choice-listed, choice-le}
 use Rattle.steps.proofs.choice_by.Statement.{statement}

@@ -3,7 +3,7 @@ use borrow.Author.Needs.{needs}
 use mathlib.Core.Path.{_≡_, ap, _∙_}
 use Prim.Native.Nat.{ℕ}
 use native.Mathlib.Omega.{arith}
-use Rattle.code.specs.Samples.{choiceOf}
+use Rattle.samples.specs.Samples.{choiceOf}
 use Rattle.steps.proofs.LookLaws.{in-lossless}
 use Rattle.steps.proofs.look_by.Statement.{statement}
 use Rattle.steps.proofs.look_by.Tie as tie

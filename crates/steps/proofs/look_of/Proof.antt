@@ -2,7 +2,7 @@
 use mathlib.Core.Path.{_≡_, ap, _∙_}
 use Prim.Native.Nat.{ℕ}
 use native.Mathlib.Omega.{arith}
-use Rattle.code.specs.Samples.{choiceOf}
+use Rattle.samples.specs.Samples.{choiceOf}
 use Rattle.steps.proofs.LookLaws.{in-lossless}
 use Rattle.steps.proofs.look_of.Statement.{statement}
 use Rattle.steps.proofs.look_of.Tie as tie

@@ -7,7 +7,7 @@ use Rattle.quantiser.specs.Quantisers.{thresholdsOf, Serves, gradientOf}
 use Rattle.quantiser.specs.declared.Thresholds.{Thresholds}
 use Rattle.prediction.specs.Predictions.{flatnessOf}
 use Rattle.prediction.specs.declared.Context.{Context}
-use Rattle.code.specs.Samples.{choiceOf}
+use Rattle.samples.specs.Samples.{choiceOf}
 use Rattle.steps.specs.Contexts.{usedBase, usedWeight, placeOf, lookOf}
 use Rattle.steps.specs.declared.Look.{Look}
 use Rattle.steps.proofs.LookLaws.{thresholdsFor, serves, place-lt}

@@ -4,10 +4,11 @@ use mathlib.Core.List.{List}
 use mathlib.Core.Path.{_≡_}
 use Prim.Native.Nat.{ℕ, _<_}
 use native.Mathlib.Omega.{arith}
-use Rattle.stream.specs.Streams.{rowLength, rowStart, cut, rowIn}
-use Rattle.stream.specs.declared.FujiHeader.{FujiHeader}
-use Rattle.stream.specs.declared.Parsed.the-variants.{Header}
-use Rattle.stream.specs.declared.Ranged.the-variants.{At}
+use Rattle.stream.specs.Streams.{rowLength, rowStart, rowIn}
+use Rattle.ranges.specs.Ranges.{cut}
+use Rattle.header.specs.declared.FujiHeader.{FujiHeader}
+use Rattle.header.specs.declared.Parsed.the-variants.{Header}
+use Rattle.ranges.specs.declared.Ranged.the-variants.{At}
 use Rattle.stream.proofs.row_in.Statement.{statement}
 use Rattle.stream.proofs.row_in.Tie as tie
 

@@ -1,8 +1,10 @@
 -- `stream::row_start` meets its contract: of 16 rows at most, each has 2746 bytes at most. Assumes nothing.
-use Prim.Native.Nat.{ℕ, _*_, _≤_}
+use mathlib.Core.Path.{_≡_}
+use Prim.Native.Nat.{ℕ, _+_, _*_, _≤_}
 use native.Mathlib.Nat.{mul-le-mul-right}
 use native.Mathlib.Omega.{arith}
-use Rattle.stream.specs.Streams.{rowStart}
+use Rattle.header.specs.declared.FujiHeader.{FujiHeader}
+use Rattle.stream.specs.Streams.{padded, rowLength, rowStart}
 use Rattle.stream.proofs.row_start.Statement.{statement}
 use Rattle.stream.proofs.row_start.Tie as tie
 
@@ -19,9 +21,17 @@ mul-result c = omega (arith, rows c)
 add-result-2 : tie.Need-add-result-2
 add-result-2 c = omega (arith, rows c)
 
-returns : tie.Need-returns
+starts : (h : FujiHeader) (b p n q : ℕ) → p ≡ padded (4 * h .blocks) → n ≡ rowLength h → q ≡ padded n → 16 + p + b * q ≡ rowStart h b
 unfolding rowStart
-returns c = (cc, omega (arith, rows c))
+starts h b p n q ep en eq = rw (ep, eq, en)
+
+returns : tie.Need-returns
+returns c =
+    let z = c .before in (
+      starts (z .before .before .before .args .h) _ _ _ _ (z .before .padded .ensures .0) (z .row-length .ensures .0) (c .padded2 .ensures .0),
+      omega
+          (arith, rows c),
+    )
 
 pub row-start-spec : {M : Type 1} → statement M
 row-start-spec =

@@ -3,7 +3,7 @@ use mathlib.Core.Path.{_≡_, refl, sym, _∙_}
 use Prim.Native.Nat.{_+_, _-_, _*_, _/_, _≤_, _<_}
 use native.Mathlib.Omega.{arith}
 use lib.ListN.{length}
-use Rattle.steps.specs.Steps.{upto}
+use Rattle.schedule.specs.Steps.{upto}
 use Rattle.steps.specs.Values.{zipRecords, SetInRange}
 use Rattle.trace.specs.Ways.{on, stepsWay}
 use Rattle.trace.specs.Traces.{clean, Says}

@@ -3,7 +3,7 @@ use borrow.Author.Needs.{needs}
 use mathlib.Core.Bool.{Bool, true, false}
 use mathlib.Core.Path.{_≡_}
 use Prim.Native.Nat.{ℕ}
-use Rattle.code.specs.Tight.{stepsUp, residualUp, codeOfResidual, codeFor, residualFor}
+use Rattle.samples.specs.Wanted.{stepsUp, residualUp, codeOfResidual, codeFor, residualFor}
 use Rattle.writing.proofs.code_for.Statement.{statement}
 use Rattle.writing.proofs.code_for.Tie as tie
 

@@ -2,7 +2,7 @@
 use borrow.Author.Needs.{needs}
 use borrow.Author.Tests.{le-leb, lt-leb}
 use native.Mathlib.Omega.{arith}
-use Rattle.code.specs.Tight.{residualUp, codeOfResidual}
+use Rattle.samples.specs.Wanted.{residualUp, codeOfResidual}
 use Rattle.writing.proofs.code_of_steps.Statement.{statement}
 use Rattle.writing.proofs.code_of_steps.Tie as tie
 

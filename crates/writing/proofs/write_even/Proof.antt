@@ -7,7 +7,7 @@ use Prim.Native.Nat.{ℕ, _+_, _^_, _<_}
 use native.Mathlib.Omega.{arith}
 use lib.ListN.{length, length-set}
 use Rattle.quantiser.specs.Quantisers.{largest}
-use Rattle.steps.specs.Steps.{Step, stepAt, interpolated, evenSteps}
+use Rattle.schedule.specs.Steps.{Step, stepAt, interpolated, evenSteps}
 use Rattle.steps.specs.Values.{zipRecords, AreKs}
 use Rattle.writing.proofs.StepPuts.{sample-at, same-room, same-wanted, same-steps, no-even, even-due, ends}
 use Rattle.writing.proofs.SitePuts.{Ready, Done, met, ks-met, first-ready, second-ready, two-puts, Site, site-code, site-value}

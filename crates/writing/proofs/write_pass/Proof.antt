@@ -6,9 +6,9 @@ use Prim.Native.Nat.{ℕ, _+_, _-_, _/_, _%_, _≤_}
 use native.Mathlib.Omega.{arith}
 use lib.ListN.{length}
 use Rattle.bits.specs.declared.BitPosition.{BitPosition}
-use Rattle.steps.specs.Steps.{evenPart, oddPart, turnSteps, upto}
+use Rattle.schedule.specs.Steps.{evenPart, oddPart, turnSteps, upto}
 use Rattle.steps.specs.Values.{zipRecords, SetInRange, AreKs}
-use Rattle.steps.specs.declared.Plan.{Plan}
+use Rattle.schedule.specs.declared.Plan.{Plan}
 use Rattle.steps.proofs.TableLaws.{are-quantisers}
 use Rattle.quantiser.specs.Quantisers.{largest}
 use Rattle.writing.specs.Puts.{LineNumbers, StepsPut, StepsRoom}

@@ -4,7 +4,7 @@ use borrow.Author.Needs.{needs}
 use mathlib.Core.List.{List}
 use mathlib.Core.Path.{_≡_, sym, _∙_}
 use Prim.Native.Nat.{ℕ, _+_, _-_}
-use Rattle.stream.specs.declared.FujiHeader.{FujiHeader}
+use Rattle.header.specs.declared.FujiHeader.{FujiHeader}
 use Rattle.region.specs.Regions.{firstBlock, lastBlock, Accepted}
 use Rattle.region.specs.declared.Rect.{Rect}
 use Rattle.begin.specs.Beginnings.{wholeOf}

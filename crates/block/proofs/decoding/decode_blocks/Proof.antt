@@ -10,7 +10,7 @@ use lib.ListN.{length, replicate, length-replicate}
 use Rattle.statistics.specs.declared.Record.{Record}
 use Rattle.map.specs.Places.{ArePlaces}
 use Rattle.map.specs.declared.Part.{Part}
-use Rattle.stream.specs.declared.FujiHeader.{FujiHeader}
+use Rattle.header.specs.declared.FujiHeader.{FujiHeader}
 use Rattle.region.specs.Regions.{firstBlock, lastBlock, spanOf, partIn, Accepted, lineCount}
 use Rattle.region.specs.declared.Rect.{Rect}
 use Rattle.region.specs.declared.Span.{Span}

@@ -2,8 +2,8 @@
 use borrow.Author.Needs.{needs}
 use mathlib.Core.Path.{_≡_}
 use Prim.Native.Nat.{ℕ}
-use Rattle.stream.specs.declared.Refusal.{Refusal}
-use Rattle.stream.specs.declared.Refusal.the-variants as Refuse
+use Rattle.header.specs.declared.Refusal.{Refusal}
+use Rattle.header.specs.declared.Refusal.the-variants as Refuse
 use Rattle.totals.specs.declared.Totals.{Totals}
 use Rattle.block.specs.Images.{orElse, walkedAnswer}
 use Rattle.block.specs.declared.Decoded.{Decoded}

@@ -11,7 +11,8 @@ use native.Mathlib.Omega.{arith}
 use lib.ListN.{length}
 use Rattle.map.specs.Places.{widthOf, Fits}
 use Rattle.map.proofs.PartLaws.{fits-kept}
-use Rattle.steps.specs.Values.{recordsOf, PlanInRange}
+use Rattle.schedule.specs.Steps.{PlanInRange}
+use Rattle.steps.specs.Values.{recordsOf}
 use Rattle.pass.proofs.RangeLaws.{pass-keeps}
 use Rattle.pass.proofs.SiteLaws.{pass-was-read}
 use Rattle.block.specs.Blocks.{readLine}

@@ -3,7 +3,7 @@ use borrow.Author.Needs.{needs}
 use mathlib.Core.Bool.{true}
 use mathlib.Core.List.{List}
 use mathlib.Core.Path.{_≡_, refl}
-use Rattle.stream.specs.declared.Refusal.{Refusal}
+use Rattle.header.specs.declared.Refusal.{Refusal}
 use Rattle.cameras.specs.Entries.{handedBack}
 use Rattle.cameras.specs.declared.Camera.{Camera}
 use Rattle.cameras.specs.declared.Entry.{Entry}

@@ -4,7 +4,7 @@ use mathlib.Core.Path.{_≡_}
 use Prim.Native.Nat.{ℕ}
 use Rattle.totals.specs.declared.Totals.{Totals}
 use Rattle.totals.specs.declared.TightLines.{TightLines}
-use Rattle.stream.specs.declared.Refusal.the-variants.{Truncated}
+use Rattle.header.specs.declared.Refusal.the-variants.{Truncated}
 use Rattle.block.specs.Totals.{walkedCounted}
 use Rattle.block.specs.declared.Decoded.the-variants.{Done, Refused}
 use Rattle.block.specs.declared.Walked.{Walked}

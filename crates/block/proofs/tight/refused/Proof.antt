@@ -3,7 +3,7 @@ use borrow.Author.Needs.{needs}
 use mathlib.Core.Path.{_≡_}
 use Rattle.totals.specs.Totals.{noTotals}
 use Rattle.totals.specs.declared.Totals.{Totals}
-use Rattle.stream.specs.declared.Refusal.{Refusal}
+use Rattle.header.specs.declared.Refusal.{Refusal}
 use Rattle.block.specs.Totals.{refusedBy}
 use Rattle.block.specs.declared.Decoded.the-variants.{Refused}
 use Rattle.block.proofs.tight.refused.Statement.{statement}

@@ -5,8 +5,8 @@ use mathlib.Core.List.{List, []}
 use mathlib.Core.Path.{_≡_}
 use Prim.Native.Nat.{ℕ}
 use Rattle.stream.specs.Streams.{openOf}
-use Rattle.stream.specs.declared.FujiHeader.{FujiHeader}
-use Rattle.stream.specs.declared.Parsed.the-variants.{Header}
+use Rattle.header.specs.declared.FujiHeader.{FujiHeader}
+use Rattle.header.specs.declared.Parsed.the-variants.{Header}
 use Rattle.stream.proofs.StreamLaws.{row-lossless}
 use Rattle.block.specs.Walks.{IsWalked}
 use Rattle.block.specs.Images.{formOf, bytesIn, basesIn}

@@ -3,8 +3,8 @@ use Rattle.bits.proofs.Values
 use Rattle.bits.proofs.Values.{n16, n8}
 use mathlib.Core.List.{_∷_, []}
 use Rattle.block.proofs.Element
-use Rattle.stream.proofs.FujiHeader
-use Rattle.stream.proofs.FujiHeader.Laws
+use Rattle.header.proofs.FujiHeader
+use Rattle.header.proofs.FujiHeader.Laws
 use borrow.Fn.Kinds
 use borrow.Kind.MutSlice
 use borrow.Kind.ShrSlice

@@ -5,10 +5,10 @@ use mathlib.Core.List.{_∷_, []}
 use Rattle.block.proofs.Element
 use Rattle.block.proofs.Counted
 use Rattle.block.proofs.Counted.Laws
+use Rattle.header.proofs.FujiHeader
+use Rattle.header.proofs.FujiHeader.Laws as Laws'
 use Rattle.region.proofs.Rect
-use Rattle.region.proofs.Rect.Laws as Laws'
-use Rattle.stream.proofs.FujiHeader
-use Rattle.stream.proofs.FujiHeader.Laws as Laws''
+use Rattle.region.proofs.Rect.Laws as Laws''
 use borrow.Fn.Kinds
 use borrow.Kind.Array
 use borrow.Kind.MutSlice
@@ -18,8 +18,8 @@ use mathlib.Core.List
 use mir.Syntax
 
 abbrev pub ps : List.List (Kinds.PK 5)
-ps = (ShrSlice.pShrS n8 0 tt) ∷ (Values.struct FujiHeader.the-type Laws''.the-laws Laws''.the-copy Laws''.the-plain) ∷ (Kinds.pNum Syntax.w64) ∷ (ShrSlice.pShrS n8 1 tt) ∷ (Values.struct Rect.the-type
-    Laws'.the-laws Laws'.the-copy Laws'.the-plain) ∷ (Array.pArr (Array.eInt Syntax.w8) (Array.eInt-laws Syntax.w8) 36) ∷ (MutSlice.pMutS n16 2 tt) ∷ (MutSlice.pMutS n16 3 tt) ∷ (MutSlice.pMutS
+ps = (ShrSlice.pShrS n8 0 tt) ∷ (Values.struct FujiHeader.the-type Laws'.the-laws Laws'.the-copy Laws'.the-plain) ∷ (Kinds.pNum Syntax.w64) ∷ (ShrSlice.pShrS n8 1 tt) ∷ (Values.struct Rect.the-type
+    Laws''.the-laws Laws''.the-copy Laws''.the-plain) ∷ (Array.pArr (Array.eInt Syntax.w8) (Array.eInt-laws Syntax.w8) 36) ∷ (MutSlice.pMutS n16 2 tt) ∷ (MutSlice.pMutS n16 3 tt) ∷ (MutSlice.pMutS
     (Element.type) 4 tt) ∷ []
 
 abbrev pub r : Kinds.RK 5

@@ -1,5 +1,4 @@
 -- `checkpoint::load::be_at` meets its contract: the number of the first k bytes. Assumes nothing.
-use borrow.Author.Needs.{needs}
 use mathlib.Core.List.{List}
 use mathlib.Core.Path.{_≡_, refl}
 use Prim.Native.Nat.{ℕ, _+_, _-_, _*_, _^_, _≤_, _<_}
@@ -7,7 +6,8 @@ use native.Mathlib.Omega.{arith}
 use lib.Dec.{lit≤}
 use lib.Pow.{pow-mono}
 use Rattle.checkpoint.specs.Checkpoints.{beAt}
-use Rattle.checkpoint.proofs.ByteLaws.{eights, next-power, at-more}
+use Rattle.state_head.proofs.PutLaws.{eights}
+use Rattle.checkpoint.proofs.ByteLaws.{next-power, at-more}
 use Rattle.checkpoint.proofs.load.be_at.Statement.{statement}
 use Rattle.checkpoint.proofs.load.be_at.Tie as tie
 
@@ -23,7 +23,7 @@ seven k n h l = rw (eights k) at (pow-mono {i = 8 * k} {j = 56} (omega arith))
 
 loop-holds : tie.Need-loop-holds Inv-loop μ-loop
 unfolding beAt
-loop-holds c = (search needs, refl, lit≤ tt)
+loop-holds c = (omega arith, refl, lit≤ tt)
 
 mul-x : tie.Need-mul-x Inv-loop μ-loop
 mul-x c = let a = c .before .before .before in omega (arith, seven (c .before .loop .k) (a .args .n) (omega arith) (a .pre .0))
@@ -36,7 +36,7 @@ add-x c = let l = c .before .before .before .loop in
 loop-again : tie.Need-loop-again Inv-loop μ-loop
 loop-again c =
     let l = c .before .before .before .loop in
-    (search needs, at-more _ _ (l .k) _ _ (l .inv .1) (c .u8-to-u64 .ensures .0), omega (arith, next-power (l .k)))
+    (omega arith, at-more _ _ (l .k) _ _ (l .inv .1) (c .u8-to-u64 .ensures .0), omega (arith, next-power (l .k)))
 
 done : (s : List ℕ) (i k n x : ℕ) → k ≡ n → x ≡ beAt s i k → x < 256 ^ k → (x ≡ beAt s i n) × (x < 256 ^ n)
 done s i k n x e f g = (rw e at f, rw e at g)

@@ -1,5 +1,4 @@
 -- `checkpoint::load::has_bad_sample` meets its contract: no sample before j is bad. Assumes nothing.
-use borrow.Author.Needs.{needs}
 use mathlib.Core.Bool.{false}
 use mathlib.Core.Path.{_≡_, refl, sym, _∙_}
 use Prim.Native.Nat.{_-_, _*_, _≤_}
@@ -17,7 +16,7 @@ abbrev μ-loop : tie.MeasureT-loop
 
 loop-holds : tie.Need-loop-holds Inv-loop μ-loop
 unfolding anyBelow
-loop-holds c = (search needs, refl, refl)
+loop-holds c = (omega arith, refl, refl)
 
 returns : tie.Need-returns Inv-loop μ-loop
 returns c =
@@ -27,7 +26,7 @@ returns c =
 loop-again : tie.Need-loop-again Inv-loop μ-loop
 loop-again c =
     let l = c .before .before .before .loop in
-    (search needs, l .inv .1, any-more _ (l .j) (l .inv .2) (sym (c .before .is-bad-sample .ensures) ∙ c .if1 .left))
+    (omega arith, l .inv .1, any-more _ (l .j) (l .inv .2) (sym (c .before .is-bad-sample .ensures) ∙ c .if1 .left))
 
 returns-2 : tie.Need-returns-2 Inv-loop μ-loop
 returns-2 c = let l = c .before .loop in sym (none-done _ (l .j) _ (l .inv .2) (omega arith))

@@ -1,5 +1,4 @@
 -- `checkpoint::load::has_other_header` meets its contract: the bytes before i are equal. Assumes nothing.
-use borrow.Author.Needs.{needs}
 use borrow.Author.Tests.{eq-eqb, ne-eqb}
 use mathlib.Core.Bool.{false, not}
 use mathlib.Core.Path.{_≡_, refl, sym}
@@ -20,7 +19,7 @@ abbrev μ-loop : tie.MeasureT-loop
 
 loop-holds : tie.Need-loop-holds Inv-loop μ-loop
 unfolding anyBelow
-loop-holds c = (search needs, refl)
+loop-holds c = (omega arith, refl)
 
 returns : tie.Need-returns Inv-loop μ-loop
 returns c =
@@ -30,7 +29,7 @@ returns c =
 loop-again : tie.Need-loop-again Inv-loop μ-loop
 loop-again c =
     let l = c .before .before .before .before .loop in
-    (search needs, any-more _ (l .i) (l .inv .1) (rw (eq-eqb _ _ (c .if1 .left))))
+    (omega arith, any-more _ (l .i) (l .inv .1) (rw (eq-eqb _ _ (c .if1 .left))))
 
 returns-2 : tie.Need-returns-2 Inv-loop μ-loop
 returns-2 c = let l = c .before .loop in sym (none-done _ (l .i) 16 (l .inv .1) (omega arith))

@@ -1,13 +1,13 @@
 -- `checkpoint::load::load_line` meets its contract: the samples before p are loaded. Assumes nothing.
-use borrow.Author.Needs.{needs}
 use mathlib.Core.List.{List}
 use mathlib.Core.Path.{_≡_, refl, sym, ap, _∙_}
 use Prim.Native.Nat.{ℕ, _+_, _-_, _*_, _≤_, _<_}
 use native.Mathlib.Nat.{mul-le-mul-right}
 use native.Mathlib.Omega.{arith}
 use lib.ListN.{length, length-set}
-use Rattle.checkpoint.specs.Checkpoints.{storedSample, keptLine, putEach, withKept}
-use Rattle.checkpoint.proofs.ByteLaws.{put-more, put-done}
+use Rattle.state_head.specs.Heads.{putEach}
+use Rattle.checkpoint.specs.Checkpoints.{storedSample, keptLine, withKept}
+use Rattle.state_head.proofs.PutLaws.{put-more, put-done}
 use Rattle.checkpoint.proofs.load.load_line.Statement.{statement}
 use Rattle.checkpoint.proofs.load.load_line.Tie as tie
 
@@ -37,7 +37,7 @@ loop-holds : tie.Need-loop-holds Inv-loop μ-loop
 unfolding putEach
 loop-holds c =
     let a = c .before .before .before .before in (
-      search needs,
+      omega arith,
       refl,
       refl,
       sixth (a .args .m) (a .args .w) (a .pre .1 .0),
@@ -49,7 +49,7 @@ loop-holds c =
 loop-again : tie.Need-loop-again Inv-loop μ-loop
 loop-again c =
     let l = c .before .before .loop in (
-      search needs,
+      omega arith,
       simp length-set (l .inv .1),
       l .inv .2,
       l .inv .3,

@@ -1,7 +1,7 @@
 -- Written by tools/lend.py from Rattle's derivation of the twin of `pump_answers`; not edited by hand. Assumes nothing.
 use Rattle.bits.proofs.Values
 use mathlib.Core.List.{_∷_, []}
-use Rattle.bits.proofs.Held
+use Rattle.pump.proofs.Held
 use Prim.Native.Nat
 use Rattle.bits.proofs.ByteOffset
 use Rattle.bits.proofs.ByteOffset.Laws

@@ -1,5 +1,5 @@
 -- Written by tools/lend.py from Rattle's derivation of the twin of `pump_answers`; not edited by hand. Assumes nothing.
-use Rattle.bits.proofs.BitPumpMsb.get as get
+use Rattle.pump.proofs.BitPumpMsb.get as get
 use Rattle.pump_answers.proofs.derived.get.Kinds
 use base.Logic
 use borrow.Fn.Kinds as Kinds'

@@ -1,5 +1,5 @@
 -- Written by tools/lend.py from Rattle's derivation of the twin of `pump_answers`; not edited by hand. Assumes nothing.
-use Rattle.bits.proofs.BitPumpMsb.peek as peek
+use Rattle.pump.proofs.BitPumpMsb.peek as peek
 use Rattle.pump_answers.proofs.derived.peek.Kinds
 use base.Logic
 use borrow.Fn.Kinds as Kinds'

@@ -7,8 +7,8 @@ use Prim.Native.Nat.{ℕ, _+_, _-_, _/_, _%_, _≤_}
 use native.Mathlib.Omega.{arith}
 use lib.ListN.{length}
 use Rattle.quantiser.specs.Quantisers.{largest}
-use Rattle.steps.specs.Steps.{evenPart, turnSteps, upto}
-use Rattle.steps.specs.declared.Plan.{Plan}
+use Rattle.schedule.specs.Steps.{evenPart, turnSteps, upto}
+use Rattle.schedule.specs.declared.Plan.{Plan}
 use Rattle.writing.specs.Looks.{Right}
 use Rattle.writing.specs.Puts.{Within}
 use Rattle.writing.proofs.LookLaws.{right-both, right-none, right-within, right-other}

@@ -67,7 +67,7 @@ abbrev pub y1 : Syntax.Ty
 y1 = Syntax.tyArray u16 9252
 
 abbrev pub y2 : Syntax.Ty
-y2 = Syntax.tyEnum (115 ∷ 116 ∷ 114 ∷ 101 ∷ 97 ∷ 109 ∷ 58 ∷ 58 ∷ 82 ∷ 101 ∷ 102 ∷ 117 ∷ 115 ∷ 97 ∷ 108 ∷ []) (Syntax.ttcons Syntax.tnil (Syntax.ttcons Syntax.tnil (Syntax.ttcons Syntax.tnil
+y2 = Syntax.tyEnum (104 ∷ 101 ∷ 97 ∷ 100 ∷ 101 ∷ 114 ∷ 58 ∷ 58 ∷ 82 ∷ 101 ∷ 102 ∷ 117 ∷ 115 ∷ 97 ∷ 108 ∷ []) (Syntax.ttcons Syntax.tnil (Syntax.ttcons Syntax.tnil (Syntax.ttcons Syntax.tnil
     (Syntax.ttcons (Syntax.tcons u64 Syntax.tnil) (Syntax.ttcons Syntax.tnil (Syntax.ttcons Syntax.tnil (Syntax.ttcons Syntax.tnil (Syntax.ttcons Syntax.tnil (Syntax.ttcons Syntax.tnil (Syntax.ttcons
     Syntax.tnil (Syntax.ttcons (Syntax.tcons u64 Syntax.tnil) (Syntax.ttcons (Syntax.tcons u64 Syntax.tnil) (Syntax.ttcons Syntax.tnil (Syntax.ttcons (Syntax.tcons u64 (Syntax.tcons u64 Syntax.tnil))
     (Syntax.ttcons (Syntax.tcons u64 Syntax.tnil) (Syntax.ttcons Syntax.tnil (Syntax.ttcons Syntax.tnil (Syntax.ttcons (Syntax.tcons u64 Syntax.tnil) (Syntax.ttcons (Syntax.tcons u64 Syntax.tnil)

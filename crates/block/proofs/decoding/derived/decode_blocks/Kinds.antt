@@ -5,10 +5,10 @@ use mathlib.Core.List.{_∷_, []}
 use Rattle.block.proofs.Element
 use Rattle.block.proofs.Decoded
 use Rattle.block.proofs.Decoded.Laws
+use Rattle.header.proofs.FujiHeader
+use Rattle.header.proofs.FujiHeader.Laws as Laws'
 use Rattle.region.proofs.Rect
-use Rattle.region.proofs.Rect.Laws as Laws'
-use Rattle.stream.proofs.FujiHeader
-use Rattle.stream.proofs.FujiHeader.Laws as Laws''
+use Rattle.region.proofs.Rect.Laws as Laws''
 use borrow.Fn.Kinds
 use borrow.Kind.Array
 use borrow.Kind.MutSlice
@@ -18,7 +18,7 @@ use mathlib.Core.List
 use mir.Syntax
 
 abbrev pub ps : List.List (Kinds.PK 4)
-ps = (ShrSlice.pShrS n8 0 tt) ∷ (Values.struct FujiHeader.the-type Laws''.the-laws Laws''.the-copy Laws''.the-plain) ∷ (Values.struct Rect.the-type Laws'.the-laws Laws'.the-copy Laws'.the-plain) ∷
+ps = (ShrSlice.pShrS n8 0 tt) ∷ (Values.struct FujiHeader.the-type Laws'.the-laws Laws'.the-copy Laws'.the-plain) ∷ (Values.struct Rect.the-type Laws''.the-laws Laws''.the-copy Laws''.the-plain) ∷
     (Array.pArr (Array.eInt Syntax.w8) (Array.eInt-laws Syntax.w8) 36) ∷ (MutSlice.pMutS n16 1 tt) ∷ (MutSlice.pMutS n16 2 tt) ∷ (MutSlice.pMutS (Element.type) 3 tt) ∷ Kinds.pBool ∷ []
 
 abbrev pub r : Kinds.RK 4

@@ -9,10 +9,10 @@ use Rattle.cameras.proofs.Camera
 use Rattle.cameras.proofs.Camera.Laws as Laws'
 use Rattle.cameras.proofs.Entries
 use Rattle.cameras.proofs.Entries.Laws as Laws''
+use Rattle.header.proofs.FujiHeader
+use Rattle.header.proofs.FujiHeader.Laws as Laws'3
 use Rattle.region.proofs.Rect
-use Rattle.region.proofs.Rect.Laws as Laws'3
-use Rattle.stream.proofs.FujiHeader
-use Rattle.stream.proofs.FujiHeader.Laws as Laws'4
+use Rattle.region.proofs.Rect.Laws as Laws'4
 use borrow.Fn.Kinds
 use borrow.Kind.Array
 use borrow.Kind.MutSlice
@@ -23,7 +23,7 @@ use mir.Syntax
 
 abbrev pub ps : List.List (Kinds.PK 4)
 ps = (Values.enum Camera.the-type Laws'.the-laws Laws'.the-copy Laws'.the-plain tt) ∷ (Values.struct Entries.the-type Laws''.the-laws Laws''.the-copy Laws''.the-plain) ∷ (ShrSlice.pShrS n8 0 tt) ∷
-    (Values.struct FujiHeader.the-type Laws'4.the-laws Laws'4.the-copy Laws'4.the-plain) ∷ (Values.struct Rect.the-type Laws'3.the-laws Laws'3.the-copy Laws'3.the-plain) ∷ (Array.pArr (Array.eInt
+    (Values.struct FujiHeader.the-type Laws'3.the-laws Laws'3.the-copy Laws'3.the-plain) ∷ (Values.struct Rect.the-type Laws'4.the-laws Laws'4.the-copy Laws'4.the-plain) ∷ (Array.pArr (Array.eInt
     Syntax.w8) (Array.eInt-laws Syntax.w8) 36) ∷ (MutSlice.pMutS n16 1 tt) ∷ (MutSlice.pMutS n16 2 tt) ∷ (MutSlice.pMutS (Element.type) 3 tt) ∷ []
 
 abbrev pub r : Kinds.RK 4

@@ -5,8 +5,8 @@ use mathlib.Core.List.{_∷_, []}
 use Rattle.block.proofs.Element
 use Rattle.block.proofs.Walked
 use Rattle.block.proofs.Walked.Laws
-use Rattle.stream.proofs.FujiHeader
-use Rattle.stream.proofs.FujiHeader.Laws as Laws'
+use Rattle.header.proofs.FujiHeader
+use Rattle.header.proofs.FujiHeader.Laws as Laws'
 use borrow.Fn.Kinds
 use borrow.Kind.MutSlice
 use borrow.Kind.ShrSlice

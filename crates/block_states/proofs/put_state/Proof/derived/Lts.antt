@@ -6,10 +6,10 @@ use Rattle.bits.proofs.Values.{n16, n8, u16, u32, u64, u8}
 use mathlib.Core.List.{_∷_, []}
 use Rattle.block.proofs.Element
 use Prim.Native.Nat
+use Rattle.header.proofs.FujiHeader
+use Rattle.header.proofs.FujiHeader.Laws
 use Rattle.steps.proofs.Set
-use Rattle.steps.proofs.Set.Laws
-use Rattle.stream.proofs.FujiHeader
-use Rattle.stream.proofs.FujiHeader.Laws as Laws'
+use Rattle.steps.proofs.Set.Laws as Laws'
 use borrow.Author.Called
 use borrow.Fn.Any
 use borrow.Fn.Call
@@ -74,7 +74,7 @@ abbrev pub y6 : Syntax.Ty
 y6 = Syntax.tyRef Syntax.erased Syntax.mut u8
 
 abbrev pub y7 : Syntax.Ty
-y7 = Syntax.tyStruct (115 ∷ 116 ∷ 114 ∷ 101 ∷ 97 ∷ 109 ∷ 58 ∷ 58 ∷ 70 ∷ 117 ∷ 106 ∷ 105 ∷ 72 ∷ 101 ∷ 97 ∷ 100 ∷ 101 ∷ 114 ∷ []) (Syntax.tcons Syntax.tyBool (Syntax.tcons Syntax.tyBool (Syntax.tcons
+y7 = Syntax.tyStruct (104 ∷ 101 ∷ 97 ∷ 100 ∷ 101 ∷ 114 ∷ 58 ∷ 58 ∷ 70 ∷ 117 ∷ 106 ∷ 105 ∷ 72 ∷ 101 ∷ 97 ∷ 100 ∷ 101 ∷ 114 ∷ []) (Syntax.tcons Syntax.tyBool (Syntax.tcons Syntax.tyBool (Syntax.tcons
     u32 (Syntax.tcons u32 (Syntax.tcons u32 (Syntax.tcons u32 (Syntax.tcons u32 (Syntax.tcons u32 (Syntax.tcons u32 Syntax.tnil)))))))))
 
 abbrev pub y8 : Syntax.Ty
@@ -87,7 +87,7 @@ abbrev pub y10 : Syntax.Ty
 y10 = Syntax.tyStruct (38 ∷ 91 ∷ 93 ∷ []) (Syntax.tcons y6 (Syntax.tcons u64 Syntax.tnil))
 
 abbrev pub ps : List.List (Kinds.PK 4)
-ps = (MutSlice.pMutS n8 0 tt) ∷ (ShrSlice.pShrS n8 1 tt) ∷ (Values.struct FujiHeader.the-type Laws'.the-laws Laws'.the-copy Laws'.the-plain) ∷ (Num.pNum Syntax.w64) ∷ (Num.pNum Syntax.w64) ∷ (Num.pNum
+ps = (MutSlice.pMutS n8 0 tt) ∷ (ShrSlice.pShrS n8 1 tt) ∷ (Values.struct FujiHeader.the-type Laws.the-laws Laws.the-copy Laws.the-plain) ∷ (Num.pNum Syntax.w64) ∷ (Num.pNum Syntax.w64) ∷ (Num.pNum
     Syntax.w64) ∷ (ShrSlice.pShrS n16 2 tt) ∷ (MutSlice.pMutS (Element.type) 3 tt) ∷ []
 
 abbrev pub r : Kinds.RK 4
@@ -109,10 +109,10 @@ abbrev pub ps·1 : List.List (Kinds.PK 1)
 ps·1 = (MutSlice.pMutS (Element.type) 0 tt) ∷ (Num.pNum Syntax.w64) ∷ []
 
 abbrev pub r·1 : Kinds.RK 1
-r·1 = Values.struct-result Set.the-type Laws.the-laws Laws.the-copy Laws.the-plain
+r·1 = Values.struct-result Set.the-type Laws'.the-laws Laws'.the-copy Laws'.the-plain
 
 abbrev pub ps·2 : List.List (Kinds.PK 1)
-ps·2 = (MutSlice.pMutS n8 0 tt) ∷ (Num.pNum Syntax.w64) ∷ (Values.struct Set.the-type Laws.the-laws Laws.the-copy Laws.the-plain) ∷ Bool.pBool ∷ []
+ps·2 = (MutSlice.pMutS n8 0 tt) ∷ (Num.pNum Syntax.w64) ∷ (Values.struct Set.the-type Laws'.the-laws Laws'.the-copy Laws'.the-plain) ∷ Bool.pBool ∷ []
 
 abbrev pub r·2 : Kinds.RK 1
 r·2 = Unit'.rUnit
@@ -145,7 +145,7 @@ abbrev b2 : Syntax.Body
 b2 = Syntax.assign (Syntax.place 12 []) (Syntax.aggregate ((Syntax.copy (Syntax.place 11 [])) ∷ (Syntax.copy (Syntax.place 1 ((Syntax.field 1) ∷ []))) ∷ []))
 
 abbrev b3 : Syntax.Body
-b3 = Syntax.call "checkpoint::store_head" ((Syntax.copy (Syntax.place 12 [])) ∷ (Syntax.copy (Syntax.place 2 [])) ∷ (Syntax.copy (Syntax.place 4 [])) ∷ (Syntax.copy (Syntax.place 5 [])) ∷ (Syntax.copy
+b3 = Syntax.call "state_head::store_head" ((Syntax.copy (Syntax.place 12 [])) ∷ (Syntax.copy (Syntax.place 2 [])) ∷ (Syntax.copy (Syntax.place 4 [])) ∷ (Syntax.copy (Syntax.place 5 [])) ∷ (Syntax.copy
     (Syntax.place 6 [])) ∷ []) (Syntax.place 10 [])
 
 abbrev b4 : Syntax.Body
@@ -676,7 +676,7 @@ module _ (claims· : Claims) where
   s2 = Know.k-shs-known (Referent.fInt Syntax.w16) T0 7 2 y3 Row.off 0 λ x. x
 
   abbrev s3 : Typed.Mo T0 → Typed.Mo T5
-  s3 = Scalar.n-use T0 (Scalar.oFld 3 ((Syntax.field 0) ∷ []) Syntax.tyBool 0 (Reads.fieldV FujiHeader.the-type Laws'.the-laws 0)) 9 (Rows.sc-here Row.sBool) (Row.sBool .of)
+  s3 = Scalar.n-use T0 (Scalar.oFld 3 ((Syntax.field 0) ∷ []) Syntax.tyBool 0 (Reads.fieldV FujiHeader.the-type Laws.the-laws 0)) 9 (Rows.sc-here Row.sBool) (Row.sBool .of)
 
   abbrev s5 : Typed.Gives T5 T7
   s5 = Relend.k-sl-relend n8 T5 1 11 0 4 y1 y6 Row.off λ x. x
@@ -854,7 +854,7 @@ module _ (claims· : Claims) where
     module _ (M : Type 1) where
       abbrev pub Closed : Type 2
       Closed = (𝓤 : URA.URA M) (H : Wp.Heap 𝓤) (A : Atoms.Atoms 𝓤) (W : Kit.Given 𝓤 H A) (𝓣 : Wp.Tables 𝓤 H) (known0 : Plain.Known 𝓤 H A W 𝓣 2 ps·0 r·0 (claims· .0) (claims· .1)
-          "checkpoint::store_head") (known1 : Plain.Known 𝓤 H A W 𝓣 1 ps·1 r·1 (claims· .2) (claims· .3) "block::records::load_set") (known2 : Plain.Known 𝓤 H A W 𝓣 1 ps·2 r·2 (claims· .4) (claims· .5)
+          "state_head::store_head") (known1 : Plain.Known 𝓤 H A W 𝓣 1 ps·1 r·1 (claims· .2) (claims· .3) "block::records::load_set") (known2 : Plain.Known 𝓤 H A W 𝓣 1 ps·2 r·2 (claims· .4) (claims· .5)
           "checkpoint::store_set") (known3 : Plain.Known 𝓤 H A W 𝓣 0 ps·3 r·3 (claims· .6) (claims· .7) "map::width") (known4 : Plain.Known 𝓤 H A W 𝓣 2 ps·4 r·4 (claims· .8) (claims· .9)
           "checkpoint::store_lines") → Statement.Triple 𝓤 (Wp.WpFn 𝓤 H (𝓣 .C) (𝓣 .Λ) (Function.fnOf 4 ps r xs m hs body)) (Function.plainOf 𝓤 H A 4 ps r Pre· Post·)
 
@@ -1038,7 +1038,7 @@ module _ (claims· : Claims) where
 
       module _ {M : Type 1} (𝓤 : URA.URA M) (H : Wp.Heap 𝓤) (A : Atoms.Atoms 𝓤) (W : Kit.Given 𝓤 H A) (𝓣 : Wp.Tables 𝓤 H) where
         abbrev Knowns : Type 1
-        Knowns = Plain.Known 𝓤 H A W 𝓣 2 ps·0 r·0 (claims· .0) (claims· .1) "checkpoint::store_head" × Plain.Known 𝓤 H A W 𝓣 1 ps·1 r·1 (claims· .2) (claims· .3) "block::records::load_set" ×
+        Knowns = Plain.Known 𝓤 H A W 𝓣 2 ps·0 r·0 (claims· .0) (claims· .1) "state_head::store_head" × Plain.Known 𝓤 H A W 𝓣 1 ps·1 r·1 (claims· .2) (claims· .3) "block::records::load_set" ×
             Plain.Known 𝓤 H A W 𝓣 1 ps·2 r·2 (claims· .4) (claims· .5) "checkpoint::store_set" × Plain.Known 𝓤 H A W 𝓣 0 ps·3 r·3 (claims· .6) (claims· .7) "map::width" × Plain.Known 𝓤 H A W 𝓣 2 ps·4 r·4
             (claims· .8) (claims· .9) "checkpoint::store_lines"
 
@@ -1430,7 +1430,7 @@ module _ (claims· : Claims) where
           d14 : Typed.Typed 𝓤 H A 𝓣 E G68 (Syntax.seq b24 (Syntax.seq b25 b28)) Δ0 at14
           d14 = Typed.s-seq 𝓤 H A W 𝓣 E G68 G69 b24 (Syntax.seq b25 b28) Δ0 (Typed.both s67) at13 (Plain.t-call-plain 𝓤 H A W 𝓣 0 ps·3 r·3 (claims· .6) (claims· .7) "map::width" (known .3) E (λ pos β.
               β) G68 (Bool.bFld 3 ((Syntax.field 1) ∷ []) 1 λ x. FujiHeader.struct .as-values x .1 .0, tt) 28 [] (Call.sub-id 𝓤 H A W (G68 .slots))
-              ((Reads.reads-field 𝓤 H A W FujiHeader.the-type Laws'.the-laws 1 Syntax.tyBool 1 Path'.refl, Path'.refl), tt) (Reads'.room-gone 𝓤 H A u64) tt Path'.refl) d13
+              ((Reads.reads-field 𝓤 H A W FujiHeader.the-type Laws.the-laws 1 Syntax.tyBool 1 Path'.refl, Path'.refl), tt) (Reads'.room-gone 𝓤 H A u64) tt Path'.refl) d13
 
           d15 : Typed.Typed 𝓤 H A 𝓣 E G67 b31 Δ0 at15
           d15 = Typed.s-seq 𝓤 H A W 𝓣 E G67 G68 b23 (Syntax.seq b24 (Syntax.seq b25 b28)) Δ0 (Typed.ask s66) at14 (Relend.t-sl-aggregate 𝓤 H A W E n8 𝓣 (Relend.asMut n8) G67 26 27 11 y6 y6 (λ x. x)
@@ -1471,7 +1471,7 @@ module _ (claims· : Claims) where
                 Reads'.as-is 𝓤 H A (Mut.mslice n8 y6 9),
                 Mut.reads-mslice 𝓤 H A W n8 y6 9,
                 Path'.refl,
-                (tt, ((Values.struct-copied 𝓤 H A W Set.the-type Laws.the-laws Laws.the-copy, Path'.refl), ((Scalar.reads-sc 𝓤 H A W Row.sBool, Path'.refl), tt))),
+                (tt, ((Values.struct-copied 𝓤 H A W Set.the-type Laws'.the-laws Laws'.the-copy, Path'.refl), ((Scalar.reads-sc 𝓤 H A W Row.sBool, Path'.refl), tt))),
               ) (Reads'.room-gone 𝓤 H A Syntax.tyUnit)
               (tt, tt) Path'.refl) d23
 
@@ -1542,7 +1542,7 @@ module _ (claims· : Claims) where
                 Reads'.as-is 𝓤 H A (Mut.mslice n8 y6 7),
                 Mut.reads-mslice 𝓤 H A W n8 y6 7,
                 Path'.refl,
-                (tt, ((Values.struct-copied 𝓤 H A W Set.the-type Laws.the-laws Laws.the-copy, Path'.refl), ((Scalar.reads-sc 𝓤 H A W Row.sBool, Path'.refl), tt))),
+                (tt, ((Values.struct-copied 𝓤 H A W Set.the-type Laws'.the-laws Laws'.the-copy, Path'.refl), ((Scalar.reads-sc 𝓤 H A W Row.sBool, Path'.refl), tt))),
               ) (Reads'.room-gone 𝓤 H A Syntax.tyUnit)
               (tt, tt) Path'.refl) d40
 
@@ -1613,7 +1613,7 @@ module _ (claims· : Claims) where
                 Reads'.as-is 𝓤 H A (Mut.mslice n8 y6 5),
                 Mut.reads-mslice 𝓤 H A W n8 y6 5,
                 Path'.refl,
-                (tt, ((Values.struct-copied 𝓤 H A W Set.the-type Laws.the-laws Laws.the-copy, Path'.refl), ((Scalar.reads-sc 𝓤 H A W Row.sBool, Path'.refl), tt))),
+                (tt, ((Values.struct-copied 𝓤 H A W Set.the-type Laws'.the-laws Laws'.the-copy, Path'.refl), ((Scalar.reads-sc 𝓤 H A W Row.sBool, Path'.refl), tt))),
               ) (Reads'.room-gone 𝓤 H A Syntax.tyUnit)
               (tt, tt) Path'.refl) d57
 
@@ -1676,7 +1676,7 @@ module _ (claims· : Claims) where
           d73 = Typed.g-pre 𝓤 H A W 𝓣 E G9 G10 b50 Δ0 (Typed.pass T9 T10 s8) at71 (Scalar.g-room 𝓤 H A W E G9 10 Syntax.tyUnit (Scalar.room-sc 𝓤 H A W Row.sUnit)) d72
 
           d74 : Typed.Typed 𝓤 H A 𝓣 E G8 (Syntax.seq b3 b50) Δ0 at74
-          d74 = Typed.s-seq 𝓤 H A W 𝓣 E G8 G9 b3 b50 Δ0 (Typed.both s7) at73 (Plain.t-call-plain 𝓤 H A W 𝓣 2 ps·0 r·0 (claims· .0) (claims· .1) "checkpoint::store_head" (known .0) E (λ pos β. β) G8
+          d74 = Typed.s-seq 𝓤 H A W 𝓣 E G8 G9 b3 b50 Δ0 (Typed.both s7) at73 (Plain.t-call-plain 𝓤 H A W 𝓣 2 ps·0 r·0 (claims· .0) (claims· .1) "state_head::store_head" (known .0) E (λ pos β. β) G8
               (record { pos = 12; ty = y6; ref = λ x. x }, (record { pos = 2; ty = y2; ref = λ x. x }, (Num.vAt 4 λ x. x, (Num.vAt 5 λ x. x, (Num.vAt 6 λ x. x, tt))))) 10 (4 ∷ 1 ∷ []) (Call.sub-id 𝓤 H A
               W (G8 .slots)) (
                 Reads'.as-is 𝓤 H A (Mut.mslice n8 y6 4),
@@ -1709,8 +1709,8 @@ module _ (claims· : Claims) where
 
           d78 : Typed.Typed 𝓤 H A 𝓣 E (on T0 l13) b54 Δ0 at78
           d78 = Typed.s-seq 𝓤 H A W 𝓣 E (on T0 l13) (on T5 l13) b0 b53 Δ0 (Typed.pass T0 T5 s3) at76 (Scalar.t-use 𝓤 H A W E 𝓣 (on T0 l13) (Scalar.oFld 3 ((Syntax.field 0) ∷ []) Syntax.tyBool 0
-              (Reads.fieldV FujiHeader.the-type Laws'.the-laws 0)) 9 (Rows.sc-here Row.sBool) Syntax.tyBool (Row.valS Row.sBool) (Row.sBool .of)
-              (Reads.reads-field 𝓤 H A W FujiHeader.the-type Laws'.the-laws 0 Syntax.tyBool 0 Path'.refl, Path'.refl) (Reads'.room-gone 𝓤 H A Syntax.tyBool) (Scalar.holds-sc 𝓤 H A W Row.sBool) Path'.refl
+              (Reads.fieldV FujiHeader.the-type Laws.the-laws 0)) 9 (Rows.sc-here Row.sBool) Syntax.tyBool (Row.valS Row.sBool) (Row.sBool .of)
+              (Reads.reads-field 𝓤 H A W FujiHeader.the-type Laws.the-laws 0 Syntax.tyBool 0 Path'.refl, Path'.refl) (Reads'.room-gone 𝓤 H A Syntax.tyBool) (Scalar.holds-sc 𝓤 H A W Row.sBool) Path'.refl
               (λ u. Path'.refl) λ u. tt) d77
 
           d79 : Typed.Typed 𝓤 H A 𝓣 E (on T0 l13) b54 Δ0 at79
@@ -1732,7 +1732,7 @@ module _ (claims· : Claims) where
         pub record Args : Type 0 where
           pub state : Kinds.Den {n = 4} κs (MutSlice.pMutS n8 0 tt)
           pub d : Kinds.Den {n = 4} κs (ShrSlice.pShrS n8 1 tt)
-          pub h : Kinds.Den {n = 4} κs (Values.struct FujiHeader.the-type Laws'.the-laws Laws'.the-copy Laws'.the-plain)
+          pub h : Kinds.Den {n = 4} κs (Values.struct FujiHeader.the-type Laws.the-laws Laws.the-copy Laws.the-plain)
           pub b : Kinds.Den {n = 4} κs (Num.pNum Syntax.w64)
           pub line : Kinds.Den {n = 4} κs (Num.pNum Syntax.w64)
           pub at : Kinds.Den {n = 4} κs (Num.pNum Syntax.w64)
@@ -2424,7 +2424,7 @@ module _ (claims· : Claims) where
           }
 
         module _ {M : Type 1} (𝓤 : URA.URA M) (H : Wp.Heap 𝓤) (A : Atoms.Atoms 𝓤) (W : Kit.Given 𝓤 H A) (𝓣 : Wp.Tables 𝓤 H) (known0 : Plain.Known 𝓤 H A W 𝓣 2 ps·0 r·0 (claims· .0) (claims· .1)
-            "checkpoint::store_head") (known1 : Plain.Known 𝓤 H A W 𝓣 1 ps·1 r·1 (claims· .2) (claims· .3) "block::records::load_set") (known2 : Plain.Known 𝓤 H A W 𝓣 1 ps·2 r·2 (claims· .4) (claims· .5)
+            "state_head::store_head") (known1 : Plain.Known 𝓤 H A W 𝓣 1 ps·1 r·1 (claims· .2) (claims· .3) "block::records::load_set") (known2 : Plain.Known 𝓤 H A W 𝓣 1 ps·2 r·2 (claims· .4) (claims· .5)
             "checkpoint::store_set") (known3 : Plain.Known 𝓤 H A W 𝓣 0 ps·3 r·3 (claims· .6) (claims· .7) "map::width") (known4 : Plain.Known 𝓤 H A W 𝓣 2 ps·4 r·4 (claims· .8) (claims· .9)
             "checkpoint::store_lines") where
           pub spec : Statement.Triple 𝓤 (Wp.WpFn 𝓤 H (𝓣 .C) (𝓣 .Λ) (Function.fnOf 4 ps r xs m hs body)) (Function.plainOf 𝓤 H A 4 ps r Pre· Post·)

@@ -16,12 +16,12 @@ use Rattle.cameras.proofs.Entries
 use Rattle.cameras.proofs.Entries.Laws as Laws'3
 use Rattle.code.proofs.Place
 use Rattle.code.proofs.Place.Laws as Laws'4
+use Rattle.header.proofs.FujiHeader
+use Rattle.header.proofs.FujiHeader.Laws as Laws'5
 use Rattle.map.proofs.Part
-use Rattle.map.proofs.Part.Laws as Laws'5
+use Rattle.map.proofs.Part.Laws as Laws'6
 use Rattle.region.proofs.Rect
-use Rattle.region.proofs.Rect.Laws as Laws'6
-use Rattle.stream.proofs.FujiHeader
-use Rattle.stream.proofs.FujiHeader.Laws as Laws'7
+use Rattle.region.proofs.Rect.Laws as Laws'7
 use borrow.Author.Called
 use borrow.Fn.Any
 use borrow.Fn.Call
@@ -82,7 +82,7 @@ abbrev pub y1 : Syntax.Ty
 y1 = Syntax.tyArray u8 36
 
 abbrev pub y2 : Syntax.Ty
-y2 = Syntax.tyEnum (115 ∷ 116 ∷ 114 ∷ 101 ∷ 97 ∷ 109 ∷ 58 ∷ 58 ∷ 82 ∷ 101 ∷ 102 ∷ 117 ∷ 115 ∷ 97 ∷ 108 ∷ []) (Syntax.ttcons Syntax.tnil (Syntax.ttcons Syntax.tnil (Syntax.ttcons Syntax.tnil
+y2 = Syntax.tyEnum (104 ∷ 101 ∷ 97 ∷ 100 ∷ 101 ∷ 114 ∷ 58 ∷ 58 ∷ 82 ∷ 101 ∷ 102 ∷ 117 ∷ 115 ∷ 97 ∷ 108 ∷ []) (Syntax.ttcons Syntax.tnil (Syntax.ttcons Syntax.tnil (Syntax.ttcons Syntax.tnil
     (Syntax.ttcons (Syntax.tcons u64 Syntax.tnil) (Syntax.ttcons Syntax.tnil (Syntax.ttcons Syntax.tnil (Syntax.ttcons Syntax.tnil (Syntax.ttcons Syntax.tnil (Syntax.ttcons Syntax.tnil (Syntax.ttcons
     Syntax.tnil (Syntax.ttcons (Syntax.tcons u64 Syntax.tnil) (Syntax.ttcons (Syntax.tcons u64 Syntax.tnil) (Syntax.ttcons Syntax.tnil (Syntax.ttcons (Syntax.tcons u64 (Syntax.tcons u64 Syntax.tnil))
     (Syntax.ttcons (Syntax.tcons u64 Syntax.tnil) (Syntax.ttcons Syntax.tnil (Syntax.ttcons Syntax.tnil (Syntax.ttcons (Syntax.tcons u64 Syntax.tnil) (Syntax.ttcons (Syntax.tcons u64 Syntax.tnil)
@@ -114,19 +114,19 @@ abbrev pub y10 : Syntax.Ty
 y10 = Syntax.tyRef Syntax.erased Syntax.mut u16
 
 abbrev pub y11 : Syntax.Ty
-y11 = Syntax.tyStruct (109 ∷ 97 ∷ 112 ∷ 58 ∷ 58 ∷ 80 ∷ 97 ∷ 114 ∷ 116 ∷ []) (Syntax.tcons u64 (Syntax.tcons u64 (Syntax.tcons u64 (Syntax.tcons u64 (Syntax.tcons u64 (Syntax.tcons u64
-    Syntax.tnil))))))
+y11 = Syntax.tyStruct (104 ∷ 101 ∷ 97 ∷ 100 ∷ 101 ∷ 114 ∷ 58 ∷ 58 ∷ 70 ∷ 117 ∷ 106 ∷ 105 ∷ 72 ∷ 101 ∷ 97 ∷ 100 ∷ 101 ∷ 114 ∷ []) (Syntax.tcons Syntax.tyBool (Syntax.tcons Syntax.tyBool (Syntax.tcons
+    u32 (Syntax.tcons u32 (Syntax.tcons u32 (Syntax.tcons u32 (Syntax.tcons u32 (Syntax.tcons u32 (Syntax.tcons u32 Syntax.tnil)))))))))
 
 abbrev pub y12 : Syntax.Ty
-y12 = Syntax.tyStruct (113 ∷ 117 ∷ 97 ∷ 110 ∷ 116 ∷ 105 ∷ 115 ∷ 101 ∷ 114 ∷ 58 ∷ 58 ∷ 81 ∷ 117 ∷ 97 ∷ 110 ∷ 116 ∷ 105 ∷ 115 ∷ 101 ∷ 114 ∷ []) (Syntax.tcons u32 (Syntax.tcons u32 (Syntax.tcons u32
-    (Syntax.tcons u32 (Syntax.tcons u32 Syntax.tnil)))))
+y12 = Syntax.tyStruct (109 ∷ 97 ∷ 112 ∷ 58 ∷ 58 ∷ 80 ∷ 97 ∷ 114 ∷ 116 ∷ []) (Syntax.tcons u64 (Syntax.tcons u64 (Syntax.tcons u64 (Syntax.tcons u64 (Syntax.tcons u64 (Syntax.tcons u64
+    Syntax.tnil))))))
 
 abbrev pub y13 : Syntax.Ty
-y13 = Syntax.tyStruct (114 ∷ 101 ∷ 103 ∷ 105 ∷ 111 ∷ 110 ∷ 58 ∷ 58 ∷ 82 ∷ 101 ∷ 99 ∷ 116 ∷ []) (Syntax.tcons u64 (Syntax.tcons u64 (Syntax.tcons u64 (Syntax.tcons u64 Syntax.tnil))))
+y13 = Syntax.tyStruct (113 ∷ 117 ∷ 97 ∷ 110 ∷ 116 ∷ 105 ∷ 115 ∷ 101 ∷ 114 ∷ 58 ∷ 58 ∷ 81 ∷ 117 ∷ 97 ∷ 110 ∷ 116 ∷ 105 ∷ 115 ∷ 101 ∷ 114 ∷ []) (Syntax.tcons u32 (Syntax.tcons u32 (Syntax.tcons u32
+    (Syntax.tcons u32 (Syntax.tcons u32 Syntax.tnil)))))
 
 abbrev pub y14 : Syntax.Ty
-y14 = Syntax.tyStruct (115 ∷ 116 ∷ 114 ∷ 101 ∷ 97 ∷ 109 ∷ 58 ∷ 58 ∷ 70 ∷ 117 ∷ 106 ∷ 105 ∷ 72 ∷ 101 ∷ 97 ∷ 100 ∷ 101 ∷ 114 ∷ []) (Syntax.tcons Syntax.tyBool (Syntax.tcons Syntax.tyBool (Syntax.tcons
-    u32 (Syntax.tcons u32 (Syntax.tcons u32 (Syntax.tcons u32 (Syntax.tcons u32 (Syntax.tcons u32 (Syntax.tcons u32 Syntax.tnil)))))))))
+y14 = Syntax.tyStruct (114 ∷ 101 ∷ 103 ∷ 105 ∷ 111 ∷ 110 ∷ 58 ∷ 58 ∷ 82 ∷ 101 ∷ 99 ∷ 116 ∷ []) (Syntax.tcons u64 (Syntax.tcons u64 (Syntax.tcons u64 (Syntax.tcons u64 Syntax.tnil))))
 
 abbrev pub y15 : Syntax.Ty
 y15 = Syntax.tyStruct (116 ∷ 111 ∷ 116 ∷ 97 ∷ 108 ∷ 115 ∷ 58 ∷ 58 ∷ 84 ∷ 111 ∷ 116 ∷ 97 ∷ 108 ∷ 115 ∷ []) (Syntax.tcons u64 (Syntax.tcons u64 Syntax.tnil))
@@ -159,7 +159,7 @@ abbrev pub y24 : Syntax.Ty
 y24 = Syntax.tyStruct (99 ∷ 111 ∷ 100 ∷ 101 ∷ 58 ∷ 58 ∷ 80 ∷ 108 ∷ 97 ∷ 99 ∷ 101 ∷ []) (Syntax.tcons y16 (Syntax.tcons Syntax.tyBool (Syntax.tcons u64 Syntax.tnil)))
 
 abbrev pub y25 : Syntax.Ty
-y25 = Syntax.tyStruct (99 ∷ 97 ∷ 109 ∷ 101 ∷ 114 ∷ 97 ∷ 115 ∷ 58 ∷ 58 ∷ 69 ∷ 110 ∷ 116 ∷ 114 ∷ 121 ∷ []) (Syntax.tcons u32 (Syntax.tcons y12 (Syntax.tcons Syntax.tyBool (Syntax.tcons Syntax.tyBool
+y25 = Syntax.tyStruct (99 ∷ 97 ∷ 109 ∷ 101 ∷ 114 ∷ 97 ∷ 115 ∷ 58 ∷ 58 ∷ 69 ∷ 110 ∷ 116 ∷ 114 ∷ 121 ∷ []) (Syntax.tcons u32 (Syntax.tcons y13 (Syntax.tcons Syntax.tyBool (Syntax.tcons Syntax.tyBool
     Syntax.tnil))))
 
 abbrev pub y26 : Syntax.Ty
@@ -176,21 +176,21 @@ abbrev pub y29 : Syntax.Ty
 y29 = Syntax.tyStruct (99 ∷ 97 ∷ 109 ∷ 101 ∷ 114 ∷ 97 ∷ 115 ∷ 58 ∷ 58 ∷ 69 ∷ 110 ∷ 116 ∷ 114 ∷ 105 ∷ 101 ∷ 115 ∷ []) (Syntax.tcons y26 Syntax.tnil)
 
 abbrev pub ps : List.List (Kinds.PK 5)
-ps = (ShrSlice.pShrS n8 0 tt) ∷ (Values.struct FujiHeader.the-type Laws'7.the-laws Laws'7.the-copy Laws'7.the-plain) ∷ (Num.pNum Syntax.w64) ∷ (ShrSlice.pShrS n8 1 tt) ∷ (Num.pNum Syntax.w64) ∷
-    (Num.pNum Syntax.w64) ∷ (Values.struct Rect.the-type Laws'6.the-laws Laws'6.the-copy Laws'6.the-plain) ∷ (Array.pArr (Array.eInt Syntax.w8) (Array.eInt-laws Syntax.w8) 36) ∷ (MutSlice.pMutS n16 2 tt)
+ps = (ShrSlice.pShrS n8 0 tt) ∷ (Values.struct FujiHeader.the-type Laws'5.the-laws Laws'5.the-copy Laws'5.the-plain) ∷ (Num.pNum Syntax.w64) ∷ (ShrSlice.pShrS n8 1 tt) ∷ (Num.pNum Syntax.w64) ∷
+    (Num.pNum Syntax.w64) ∷ (Values.struct Rect.the-type Laws'7.the-laws Laws'7.the-copy Laws'7.the-plain) ∷ (Array.pArr (Array.eInt Syntax.w8) (Array.eInt-laws Syntax.w8) 36) ∷ (MutSlice.pMutS n16 2 tt)
     ∷ (MutSlice.pMutS n16 3 tt) ∷ (MutSlice.pMutS (Element.type) 4 tt) ∷ []
 
 abbrev pub r : Kinds.RK 5
 r = Values.struct-result Counted.the-type Laws.the-laws Laws.the-copy Laws.the-plain
 
 abbrev pub xs : List.List Syntax.Ty
-xs = y17 ∷ y22 ∷ y22 ∷ y0 ∷ y11 ∷ u64 ∷ y27 ∷ y0 ∷ Syntax.tyUnit ∷ y10 ∷ y21 ∷ y9 ∷ y23 ∷ u32 ∷ y10 ∷ y21 ∷ u64 ∷ y10 ∷ y21 ∷ y9 ∷ y23 ∷ y10 ∷ y21 ∷ y19 ∷ y24 ∷ y29 ∷ y10 ∷ y21 ∷ y9 ∷ y23 ∷ []
+xs = y17 ∷ y22 ∷ y22 ∷ y0 ∷ y12 ∷ u64 ∷ y27 ∷ y0 ∷ Syntax.tyUnit ∷ y10 ∷ y21 ∷ y9 ∷ y23 ∷ u32 ∷ y10 ∷ y21 ∷ u64 ∷ y10 ∷ y21 ∷ y9 ∷ y23 ∷ y10 ∷ y21 ∷ y19 ∷ y24 ∷ y29 ∷ y10 ∷ y21 ∷ y9 ∷ y23 ∷ []
 
 abbrev pub m : Nat.ℕ
 m = 9
 
 abbrev pub ps·0 : List.List (Kinds.PK 0)
-ps·0 = (Values.struct FujiHeader.the-type Laws'7.the-laws Laws'7.the-copy Laws'7.the-plain) ∷ []
+ps·0 = (Values.struct FujiHeader.the-type Laws'5.the-laws Laws'5.the-copy Laws'5.the-plain) ∷ []
 
 abbrev pub r·0 : Kinds.RK 0
 r·0 = Values.struct-result Form.the-type Laws'.the-laws Laws'.the-copy Laws'.the-plain
@@ -214,13 +214,13 @@ abbrev pub r·3 : Kinds.RK 0
 r·3 = Array.rArr (Array.eInt Syntax.w16) (Array.eInt-laws Syntax.w16) 768
 
 abbrev pub ps·4 : List.List (Kinds.PK 0)
-ps·4 = (Values.struct Rect.the-type Laws'6.the-laws Laws'6.the-copy Laws'6.the-plain) ∷ (Num.pNum Syntax.w64) ∷ []
+ps·4 = (Values.struct Rect.the-type Laws'7.the-laws Laws'7.the-copy Laws'7.the-plain) ∷ (Num.pNum Syntax.w64) ∷ []
 
 abbrev pub r·4 : Kinds.RK 0
-r·4 = Values.struct-result Part.the-type Laws'5.the-laws Laws'5.the-copy Laws'5.the-plain
+r·4 = Values.struct-result Part.the-type Laws'6.the-laws Laws'6.the-copy Laws'6.the-plain
 
 abbrev pub ps·5 : List.List (Kinds.PK 0)
-ps·5 = (Values.struct Rect.the-type Laws'6.the-laws Laws'6.the-copy Laws'6.the-plain) ∷ (Num.pNum Syntax.w64) ∷ (Num.pNum Syntax.w64) ∷ []
+ps·5 = (Values.struct Rect.the-type Laws'7.the-laws Laws'7.the-copy Laws'7.the-plain) ∷ (Num.pNum Syntax.w64) ∷ (Num.pNum Syntax.w64) ∷ []
 
 abbrev pub r·5 : Kinds.RK 0
 r·5 = Num.rNum Syntax.w64
@@ -269,8 +269,8 @@ r·12 = Values.struct-result Entries.the-type Laws'3.the-laws Laws'3.the-copy La
 
 abbrev pub ps·13 : List.List (Kinds.PK 6)
 ps·13 = (ShrSlice.pShrS n8 0 tt) ∷ (ShrSlice.pShrS n8 1 tt) ∷ (MutSlice.pMutS n16 2 tt) ∷ (MutSlice.pMutS (Element.type) 3 tt) ∷ (MutSlice.pMutS n16 4 tt) ∷ (Values.struct Form.the-type Laws'.the-laws
-    Laws'.the-copy Laws'.the-plain) ∷ (ShrRef.pShr (Array'.Array n16 768) 5 tt) ∷ (Array.pArr (Array.eInt Syntax.w8) (Array.eInt-laws Syntax.w8) 36) ∷ (Values.struct Part.the-type Laws'5.the-laws
-    Laws'5.the-copy Laws'5.the-plain) ∷ (Num.pNum Syntax.w64) ∷ (Values.struct Place.the-type Laws'4.the-laws Laws'4.the-copy Laws'4.the-plain) ∷ (Num.pNum Syntax.w64) ∷ Bool.pBool ∷ (Values.struct
+    Laws'.the-copy Laws'.the-plain) ∷ (ShrRef.pShr (Array'.Array n16 768) 5 tt) ∷ (Array.pArr (Array.eInt Syntax.w8) (Array.eInt-laws Syntax.w8) 36) ∷ (Values.struct Part.the-type Laws'6.the-laws
+    Laws'6.the-copy Laws'6.the-plain) ∷ (Num.pNum Syntax.w64) ∷ (Values.struct Place.the-type Laws'4.the-laws Laws'4.the-copy Laws'4.the-plain) ∷ (Num.pNum Syntax.w64) ∷ Bool.pBool ∷ (Values.struct
     Entries.the-type Laws'3.the-laws Laws'3.the-copy Laws'3.the-plain) ∷ []
 
 abbrev pub r·13 : Kinds.RK 6
@@ -332,7 +332,7 @@ abbrev b11 : Syntax.Body
 b11 = Syntax.assign (Syntax.place 24 []) (Syntax.aggregate ((Syntax.copy (Syntax.place 23 [])) ∷ (Syntax.copy (Syntax.place 11 ((Syntax.field 1) ∷ []))) ∷ []))
 
 abbrev b12 : Syntax.Body
-b12 = Syntax.call "cameras::base_of" ((Syntax.copy (Syntax.place 14 [])) ∷ (Syntax.int Syntax.w64 0) ∷ []) (Syntax.place 25 [])
+b12 = Syntax.call "taking::base_of" ((Syntax.copy (Syntax.place 14 [])) ∷ (Syntax.int Syntax.w64 0) ∷ []) (Syntax.place 25 [])
 
 abbrev b13 : Syntax.Body
 b13 = Syntax.call "block_states::load_records" ((Syntax.copy (Syntax.place 24 [])) ∷ (Syntax.copy (Syntax.place 4 [])) ∷ (Syntax.copy (Syntax.place 2 ((Syntax.field 0) ∷ []))) ∷ (Syntax.copy
@@ -491,7 +491,7 @@ abbrev pub v9 : Row.Row
 v9 = Rows'.any-gone y28
 
 abbrev pub v10 : Row.Row
-v10 = Rows'.any-gone y13
+v10 = Rows'.any-gone y14
 
 abbrev pub v11 : Row.Row
 v11 = Rows'.any-gone y0
@@ -500,7 +500,7 @@ abbrev pub v12 : Row.Row
 v12 = Rows'.any-gone u64
 
 abbrev pub v13 : Row.Row
-v13 = Rows'.any-gone y14
+v13 = Rows'.any-gone y11
 
 abbrev pub v14 : Row.Row
 v14 = Mut.mslice n16 y5 2
@@ -569,7 +569,7 @@ abbrev pub v35 : Row.Row
 v35 = Relend.mslice-owed n16 y5 2 10 Row.off
 
 abbrev pub v36 : Row.Row
-v36 = Rows'.any-gone y11
+v36 = Rows'.any-gone y12
 
 abbrev pub v37 : Row.Row
 v37 = Mut.mslice (Element.type) y9 9
@@ -1076,13 +1076,13 @@ module _ (claims· : Claims) where
   s9 = Scalar.n-room T10 19 y0
 
   abbrev s10 : Typed.Both T11 T12
-  s10 = Call.callB ps·4 r·4 (claims· .8) (claims· .9) T11 (record { pos = 7; st = []; d = 0; at = λ x. x }, (Num.vAt 3 λ x. x, tt)) 16 [] y11
+  s10 = Call.callB ps·4 r·4 (claims· .8) (claims· .9) T11 (record { pos = 7; st = []; d = 0; at = λ x. x }, (Num.vAt 3 λ x. x, tt)) 16 [] y12
 
   abbrev s11 : Typed.Both T12 T13
   s11 = Call.callB ps·5 r·5 (claims· .10) (claims· .11) T12 (record { pos = 7; st = []; d = 0; at = λ x. x }, (Num.vAt 3 λ x. x, (Num.vAt 5 λ x. x, tt))) 17 [] u64
 
   abbrev s12 : Typed.Mo T13 → Typed.Mo T14
-  s12 = Scalar.n-room T13 7 y13
+  s12 = Scalar.n-room T13 7 y14
 
   abbrev s14 : Typed.Gives T14 T16
   s14 = Relend.k-sl-relend n16 T14 10 21 3 5 y6 y10 Row.off λ x. x
@@ -1142,7 +1142,7 @@ module _ (claims· : Claims) where
   s35 = Call.callB ps·9 r·9 (claims· .18) (claims· .19) T36 (Bool.bFld 2 ((Syntax.field 1) ∷ []) 1 λ x. FujiHeader.struct .as-values x .1 .0, tt) 28 [] u64
 
   abbrev s36 : Typed.Mo T37 → Typed.Mo T38
-  s36 = Scalar.n-room T37 2 y14
+  s36 = Scalar.n-room T37 2 y11
 
   abbrev s37 : Typed.Both T38 T39
   s37 = Call.callB ps·10 r·10 (claims· .20) (claims· .21) T38 (record { pos = 4; ty = y4; ref = λ x. x }, (record { pos = 27; ty = y10; ref = λ x. x }, (Num.vAt 28 λ x. x, tt))) 20 (1 ∷ 7 ∷ [])
@@ -1236,7 +1236,7 @@ module _ (claims· : Claims) where
   s62 = Scalar.n-room T63 12 y17
 
   abbrev s63 : Typed.Mo T64 → Typed.Mo T65
-  s63 = Scalar.n-room T64 16 y11
+  s63 = Scalar.n-room T64 16 y12
 
   abbrev s64 : Typed.Mo T65 → Typed.Mo T66
   s64 = Scalar.n-room T65 36 y24
@@ -1323,7 +1323,7 @@ module _ (claims· : Claims) where
           (known1 : Plain.Known 𝓤 H A W 𝓣 1 ps·1 r·1 (claims· .2) (claims· .3) "stream::block_bytes") (known2 : Plain.Known 𝓤 H A W 𝓣 1 ps·2 r·2 (claims· .4) (claims· .5) "stream::base_row") (known3 :
           Plain.Known 𝓤 H A W 𝓣 0 ps·3 r·3 (claims· .6) (claims· .7) "map::xtrans_places") (known4 : Plain.Known 𝓤 H A W 𝓣 0 ps·4 r·4 (claims· .8) (claims· .9) "block_states::part_wanted") (known5 :
           Plain.Known 𝓤 H A W 𝓣 0 ps·5 r·5 (claims· .10) (claims· .11) "block_states::lines_wanted") (known6 : Plain.Known 𝓤 H A W 𝓣 1 ps·6 r·6 (claims· .12) (claims· .13) "lines::clear") (known7 :
-          Plain.Known 𝓤 H A W 𝓣 1 ps·7 r·7 (claims· .14) (claims· .15) "cameras::base_of") (known8 : Plain.Known 𝓤 H A W 𝓣 2 ps·8 r·8 (claims· .16) (claims· .17) "block_states::load_records") (known9 :
+          Plain.Known 𝓤 H A W 𝓣 1 ps·7 r·7 (claims· .14) (claims· .15) "taking::base_of") (known8 : Plain.Known 𝓤 H A W 𝓣 2 ps·8 r·8 (claims· .16) (claims· .17) "block_states::load_records") (known9 :
           Plain.Known 𝓤 H A W 𝓣 0 ps·9 r·9 (claims· .18) (claims· .19) "map::width") (known10 : Plain.Known 𝓤 H A W 𝓣 2 ps·10 r·10 (claims· .20) (claims· .21) "checkpoint::load::load_lines") (known11 :
           Plain.Known 𝓤 H A W 𝓣 0 ps·11 r·11 (claims· .22) (claims· .23) "block_states::place_at") (known12 : Plain.Known 𝓤 H A W 𝓣 0 ps·12 r·12 (claims· .24) (claims· .25) "cameras::no_entries") (known13
           : Plain.Known 𝓤 H A W 𝓣 6 ps·13 r·13 (claims· .26) (claims· .27) "block::reading::read_lines") (known14 : Plain.Known 𝓤 H A W 𝓣 1 ps·14 r·14 (claims· .28) (claims· .29)
@@ -1573,11 +1573,11 @@ module _ (claims· : Claims) where
         Knowns = Plain.Known 𝓤 H A W 𝓣 0 ps·0 r·0 (claims· .0) (claims· .1) "block::form_of" × Plain.Known 𝓤 H A W 𝓣 1 ps·1 r·1 (claims· .2) (claims· .3) "stream::block_bytes" × Plain.Known 𝓤 H A W 𝓣
             1 ps·2 r·2 (claims· .4) (claims· .5) "stream::base_row" × Plain.Known 𝓤 H A W 𝓣 0 ps·3 r·3 (claims· .6) (claims· .7) "map::xtrans_places" × Plain.Known 𝓤 H A W 𝓣 0 ps·4 r·4 (claims· .8)
             (claims· .9) "block_states::part_wanted" × Plain.Known 𝓤 H A W 𝓣 0 ps·5 r·5 (claims· .10) (claims· .11) "block_states::lines_wanted" × Plain.Known 𝓤 H A W 𝓣 1 ps·6 r·6 (claims· .12) (claims·
-            .13) "lines::clear" × Plain.Known 𝓤 H A W 𝓣 1 ps·7 r·7 (claims· .14) (claims· .15) "cameras::base_of" × Plain.Known 𝓤 H A W 𝓣 2 ps·8 r·8 (claims· .16) (claims· .17)
-            "block_states::load_records" × Plain.Known 𝓤 H A W 𝓣 0 ps·9 r·9 (claims· .18) (claims· .19) "map::width" × Plain.Known 𝓤 H A W 𝓣 2 ps·10 r·10 (claims· .20) (claims· .21)
-            "checkpoint::load::load_lines" × Plain.Known 𝓤 H A W 𝓣 0 ps·11 r·11 (claims· .22) (claims· .23) "block_states::place_at" × Plain.Known 𝓤 H A W 𝓣 0 ps·12 r·12 (claims· .24) (claims· .25)
-            "cameras::no_entries" × Plain.Known 𝓤 H A W 𝓣 6 ps·13 r·13 (claims· .26) (claims· .27) "block::reading::read_lines" × Plain.Known 𝓤 H A W 𝓣 1 ps·14 r·14 (claims· .28) (claims· .29)
-            "block::records::clear_records" × Plain.Known 𝓤 H A W 𝓣 0 ps·15 r·15 (claims· .30) (claims· .31) "block_states::resume_answer"
+            .13) "lines::clear" × Plain.Known 𝓤 H A W 𝓣 1 ps·7 r·7 (claims· .14) (claims· .15) "taking::base_of" × Plain.Known 𝓤 H A W 𝓣 2 ps·8 r·8 (claims· .16) (claims· .17) "block_states::load_records"
+            × Plain.Known 𝓤 H A W 𝓣 0 ps·9 r·9 (claims· .18) (claims· .19) "map::width" × Plain.Known 𝓤 H A W 𝓣 2 ps·10 r·10 (claims· .20) (claims· .21) "checkpoint::load::load_lines" × Plain.Known 𝓤 H A
+            W 𝓣 0 ps·11 r·11 (claims· .22) (claims· .23) "block_states::place_at" × Plain.Known 𝓤 H A W 𝓣 0 ps·12 r·12 (claims· .24) (claims· .25) "cameras::no_entries" × Plain.Known 𝓤 H A W 𝓣 6 ps·13
+            r·13 (claims· .26) (claims· .27) "block::reading::read_lines" × Plain.Known 𝓤 H A W 𝓣 1 ps·14 r·14 (claims· .28) (claims· .29) "block::records::clear_records" × Plain.Known 𝓤 H A W 𝓣 0 ps·15
+            r·15 (claims· .30) (claims· .31) "block_states::resume_answer"
 
       module _ (κs : Lifetimes.Lfts 5) (qs : Lifetimes.Shares 5) where
         abbrev k0 : Row.Life
@@ -2083,7 +2083,7 @@ module _ (claims· : Claims) where
           d40 = Typed.g-pre 𝓤 H A W 𝓣 E G65 G66 b42 Δ0 (Typed.pass T65 T66 s64) at39 (Scalar.g-room 𝓤 H A W E G65 36 y24 (Local.room-whole 𝓤 H A W (Declared'.row Place.the-type) y24 Path'.refl)) d39
 
           d41 : Typed.Typed 𝓤 H A 𝓣 E G64 b42 Δ0 at41
-          d41 = Typed.g-pre 𝓤 H A W 𝓣 E G64 G65 b42 Δ0 (Typed.pass T64 T65 s63) at40 (Scalar.g-room 𝓤 H A W E G64 16 y11 (Local.room-whole 𝓤 H A W (Declared'.row Part.the-type) y11 Path'.refl)) d40
+          d41 = Typed.g-pre 𝓤 H A W 𝓣 E G64 G65 b42 Δ0 (Typed.pass T64 T65 s63) at40 (Scalar.g-room 𝓤 H A W E G64 16 y12 (Local.room-whole 𝓤 H A W (Declared'.row Part.the-type) y12 Path'.refl)) d40
 
           d42 : Typed.Typed 𝓤 H A 𝓣 E G63 b42 Δ0 at42
           d42 = Typed.g-pre 𝓤 H A W 𝓣 E G63 G64 b42 Δ0 (Typed.pass T63 T64 s62) at41 (Scalar.g-room 𝓤 H A W E G63 12 y17 (Local.room-whole 𝓤 H A W (Declared'.row Form.the-type) y17 Path'.refl)) d41
@@ -2160,7 +2160,7 @@ module _ (claims· : Claims) where
                             (
                               (Array.arr-yields 𝓤 H A W (Array.eInt Syntax.w8) (Array.eInt-laws Syntax.w8) 36, Path'.refl),
                               (
-                                (Values.struct-copied 𝓤 H A W Part.the-type Laws'5.the-laws Laws'5.the-copy, Path'.refl),
+                                (Values.struct-copied 𝓤 H A W Part.the-type Laws'6.the-laws Laws'6.the-copy, Path'.refl),
                                 (
                                   (Scalar.reads-sc 𝓤 H A W (Row.sInt Syntax.w64), Path'.refl),
                                   (
@@ -2270,13 +2270,13 @@ module _ (claims· : Claims) where
               Syntax.tyUnit) (tt, (tt, tt)) Path'.refl) d66
 
           d68 : Typed.Typed 𝓤 H A 𝓣 E G37 (Syntax.seq b17 b52) Δ0 at68
-          d68 = Typed.g-pre 𝓤 H A W 𝓣 E G37 G38 (Syntax.seq b17 b52) Δ0 (Typed.pass T37 T38 s36) at67 (Scalar.g-room 𝓤 H A W E G37 2 y14 (Local.room-whole 𝓤 H A W (Declared'.row FujiHeader.the-type)
-              y14 Path'.refl)) d67
+          d68 = Typed.g-pre 𝓤 H A W 𝓣 E G37 G38 (Syntax.seq b17 b52) Δ0 (Typed.pass T37 T38 s36) at67 (Scalar.g-room 𝓤 H A W E G37 2 y11 (Local.room-whole 𝓤 H A W (Declared'.row FujiHeader.the-type)
+              y11 Path'.refl)) d67
 
           d69 : Typed.Typed 𝓤 H A 𝓣 E G36 (Syntax.seq b16 (Syntax.seq b17 b52)) Δ0 at69
           d69 = Typed.s-seq 𝓤 H A W 𝓣 E G36 G37 b16 (Syntax.seq b17 b52) Δ0 (Typed.both s35) at68 (Plain.t-call-plain 𝓤 H A W 𝓣 0 ps·9 r·9 (claims· .18) (claims· .19) "map::width" (known .9) E (λ pos
               β. β) G36 (Bool.bFld 2 ((Syntax.field 1) ∷ []) 1 λ x. FujiHeader.struct .as-values x .1 .0, tt) 28 [] (Call.sub-id 𝓤 H A W (G36 .slots))
-              ((Reads.reads-field 𝓤 H A W FujiHeader.the-type Laws'7.the-laws 1 Syntax.tyBool 1 Path'.refl, Path'.refl), tt) (Reads'.room-gone 𝓤 H A u64) tt Path'.refl) d68
+              ((Reads.reads-field 𝓤 H A W FujiHeader.the-type Laws'5.the-laws 1 Syntax.tyBool 1 Path'.refl, Path'.refl), tt) (Reads'.room-gone 𝓤 H A u64) tt Path'.refl) d68
 
           d70 : Typed.Typed 𝓤 H A 𝓣 E G35 b55 Δ0 at70
           d70 = Typed.s-seq 𝓤 H A W 𝓣 E G35 G36 b15 (Syntax.seq b16 (Syntax.seq b17 b52)) Δ0 (Typed.ask s34) at69 (Relend.t-sl-aggregate 𝓤 H A W E n16 𝓣 (Relend.asMut n16) G35 26 27 7 y10 y10 (λ x. x)
@@ -2326,16 +2326,16 @@ module _ (claims· : Claims) where
                   Shared.reads-sslice 𝓤 H A W n8 y4 1,
                   Path'.refl,
                   (
-                    (Reads.reads-field 𝓤 H A W FujiHeader.the-type Laws'7.the-laws 0 Syntax.tyBool 0 Path'.refl, Path'.refl),
-                    ((Reads.reads-field 𝓤 H A W FujiHeader.the-type Laws'7.the-laws 2 u32 4 Path'.refl, Path'.refl), ((Scalar.reads-sc 𝓤 H A W (Row.sInt Syntax.w32), Path'.refl), tt)),
+                    (Reads.reads-field 𝓤 H A W FujiHeader.the-type Laws'5.the-laws 0 Syntax.tyBool 0 Path'.refl, Path'.refl),
+                    ((Reads.reads-field 𝓤 H A W FujiHeader.the-type Laws'5.the-laws 2 u32 4 Path'.refl, Path'.refl), ((Scalar.reads-sc 𝓤 H A W (Row.sInt Syntax.w32), Path'.refl), tt)),
                   ),
                 ),
               ) (Reads'.room-gone 𝓤 H A
               Syntax.tyUnit) (tt, (tt, tt)) Path'.refl) d77
 
           d79 : Typed.Typed 𝓤 H A 𝓣 E G26 (Syntax.seq b12 (Syntax.seq b13 b56)) Δ0 at79
-          d79 = Typed.s-seq 𝓤 H A W 𝓣 E G26 G27 b12 (Syntax.seq b13 b56) Δ0 (Typed.both s25) at78 (Plain.t-call-plain 𝓤 H A W 𝓣 1 ps·7 r·7 (claims· .14) (claims· .15) "cameras::base_of" (known .7) E
-              (λ pos β. β) G26 (record { pos = 14; ty = y8; ref = λ x. x }, (Num.vLit 0, tt)) 25 (0 ∷ []) (Call.sub-id 𝓤 H A W (G26 .slots))
+          d79 = Typed.s-seq 𝓤 H A W 𝓣 E G26 G27 b12 (Syntax.seq b13 b56) Δ0 (Typed.both s25) at78 (Plain.t-call-plain 𝓤 H A W 𝓣 1 ps·7 r·7 (claims· .14) (claims· .15) "taking::base_of" (known .7) E (λ
+              pos β. β) G26 (record { pos = 14; ty = y8; ref = λ x. x }, (Num.vLit 0, tt)) 25 (0 ∷ []) (Call.sub-id 𝓤 H A W (G26 .slots))
               (ShrSlice.spares-sslice 𝓤 H A W n8 y8 0, Shared.reads-sslice 𝓤 H A W n8 y8 0, Path'.refl, (tt, tt)) (Reads'.room-gone 𝓤 H A u32) (tt, tt) Path'.refl) d78
 
           d80 : Typed.Typed 𝓤 H A 𝓣 E G25 b59 Δ0 at80
@@ -2389,20 +2389,20 @@ module _ (claims· : Claims) where
               d90
 
           d92 : Typed.Typed 𝓤 H A 𝓣 E (on T13 l15) b63 Δ0 at92
-          d92 = Typed.g-pre 𝓤 H A W 𝓣 E (on T13 l15) (on T14 l15) b63 Δ0 (Typed.pass T13 T14 s12) at90 (Scalar.g-room 𝓤 H A W E (on T13 l15) 7 y13 (Local.room-whole 𝓤 H A W (Declared'.row
-              Rect.the-type) y13 Path'.refl)) d91
+          d92 = Typed.g-pre 𝓤 H A W 𝓣 E (on T13 l15) (on T14 l15) b63 Δ0 (Typed.pass T13 T14 s12) at90 (Scalar.g-room 𝓤 H A W E (on T13 l15) 7 y14 (Local.room-whole 𝓤 H A W (Declared'.row
+              Rect.the-type) y14 Path'.refl)) d91
 
           d93 : Typed.Typed 𝓤 H A 𝓣 E (on T12 l15) (Syntax.seq b6 b63) Δ0 at93
           d93 = Typed.s-seq 𝓤 H A W 𝓣 E (on T12 l15) (on T13 l15) b6 b63 Δ0 (Typed.both s11) at92 (Plain.t-call-plain 𝓤 H A W 𝓣 0 ps·5 r·5 (claims· .10) (claims· .11) "block_states::lines_wanted"
               (known .5) E (λ pos β. β) (on T12 l15) (record { pos = 7; st = []; d = 0; at = λ x. x }, (Num.vAt 3 λ x. x, (Num.vAt 5 λ x. x, tt))) 17 [] (Call.sub-id 𝓤 H A W ((on T12 l15) .slots)) (
-                (Values.struct-copied 𝓤 H A W Rect.the-type Laws'6.the-laws Laws'6.the-copy, Path'.refl),
+                (Values.struct-copied 𝓤 H A W Rect.the-type Laws'7.the-laws Laws'7.the-copy, Path'.refl),
                 ((Scalar.reads-sc 𝓤 H A W (Row.sInt Syntax.w64), Path'.refl), ((Scalar.reads-sc 𝓤 H A W (Row.sInt Syntax.w64), Path'.refl), tt)),
               ) (Reads'.room-gone 𝓤 H A u64) tt Path'.refl) d92
 
           d94 : Typed.Typed 𝓤 H A 𝓣 E (on T11 l15) (Syntax.seq b5 (Syntax.seq b6 b63)) Δ0 at94
           d94 = Typed.s-seq 𝓤 H A W 𝓣 E (on T11 l15) (on T12 l15) b5 (Syntax.seq b6 b63) Δ0 (Typed.both s10) at93 (Plain.t-call-plain 𝓤 H A W 𝓣 0 ps·4 r·4 (claims· .8) (claims· .9)
               "block_states::part_wanted" (known .4) E (λ pos β. β) (on T11 l15) (record { pos = 7; st = []; d = 0; at = λ x. x }, (Num.vAt 3 λ x. x, tt)) 16 [] (Call.sub-id 𝓤 H A W ((on T11 l15) .slots))
-              ((Values.struct-copied 𝓤 H A W Rect.the-type Laws'6.the-laws Laws'6.the-copy, Path'.refl), ((Scalar.reads-sc 𝓤 H A W (Row.sInt Syntax.w64), Path'.refl), tt)) (Reads'.room-gone 𝓤 H A y11) tt
+              ((Values.struct-copied 𝓤 H A W Rect.the-type Laws'7.the-laws Laws'7.the-copy, Path'.refl), ((Scalar.reads-sc 𝓤 H A W (Row.sInt Syntax.w64), Path'.refl), tt)) (Reads'.room-gone 𝓤 H A y12) tt
               Path'.refl) d93
 
           d95 : Typed.Typed 𝓤 H A 𝓣 E (on T10 l15) (Syntax.seq b5 (Syntax.seq b6 b63)) Δ0 at95
@@ -2435,7 +2435,7 @@ module _ (claims· : Claims) where
           d100 : Typed.Typed 𝓤 H A 𝓣 E (on T0 l15) b70 Δ0 at100
           d100 = Typed.s-seq 𝓤 H A W 𝓣 E (on T0 l15) (on T6 l15) b0 b69 Δ0 (Typed.both s4) at99 (Plain.t-call-plain 𝓤 H A W 𝓣 0 ps·0 r·0 (claims· .0) (claims· .1) "block::form_of" (known .0) E (λ pos
               β. β) (on T0 l15) (record { pos = 2; st = []; d = 0; at = λ x. x }, tt) 12 [] (Call.sub-id 𝓤 H A W ((on T0 l15) .slots))
-              ((Values.struct-copied 𝓤 H A W FujiHeader.the-type Laws'7.the-laws Laws'7.the-copy, Path'.refl), tt) (Reads'.room-gone 𝓤 H A y17) tt Path'.refl) d99
+              ((Values.struct-copied 𝓤 H A W FujiHeader.the-type Laws'5.the-laws Laws'5.the-copy, Path'.refl), tt) (Reads'.room-gone 𝓤 H A y17) tt Path'.refl) d99
 
           d101 : Typed.Typed 𝓤 H A 𝓣 E (on T0 l15) b70 Δ0 at101
           d101 = Typed.g-pre 𝓤 H A W 𝓣 E (on T0 l15) (on T0 l15) b70 Δ0 (Typed.give s3) at100 (Know.g-sl-known 𝓤 H A W (Referent.fInt Syntax.w16) E (on T0 l15) 10 3 y6 k3 0 (λ x. x) record
@@ -2459,12 +2459,12 @@ module _ (claims· : Claims) where
       module _ (κs : Lifetimes.Lfts 5) where
         pub record Args : Type 0 where
           pub d : Kinds.Den {n = 5} κs (ShrSlice.pShrS n8 0 tt)
-          pub h : Kinds.Den {n = 5} κs (Values.struct FujiHeader.the-type Laws'7.the-laws Laws'7.the-copy Laws'7.the-plain)
+          pub h : Kinds.Den {n = 5} κs (Values.struct FujiHeader.the-type Laws'5.the-laws Laws'5.the-copy Laws'5.the-plain)
           pub b : Kinds.Den {n = 5} κs (Num.pNum Syntax.w64)
           pub s : Kinds.Den {n = 5} κs (ShrSlice.pShrS n8 1 tt)
           pub k : Kinds.Den {n = 5} κs (Num.pNum Syntax.w64)
           pub at : Kinds.Den {n = 5} κs (Num.pNum Syntax.w64)
-          pub r : Kinds.Den {n = 5} κs (Values.struct Rect.the-type Laws'6.the-laws Laws'6.the-copy Laws'6.the-plain)
+          pub r : Kinds.Den {n = 5} κs (Values.struct Rect.the-type Laws'7.the-laws Laws'7.the-copy Laws'7.the-plain)
           pub tile : Kinds.Den {n = 5} κs (Array.pArr (Array.eInt Syntax.w8) (Array.eInt-laws Syntax.w8) 36)
           pub image : Kinds.Den {n = 5} κs (MutSlice.pMutS n16 2 tt)
           pub lines : Kinds.Den {n = 5} κs (MutSlice.pMutS n16 3 tt)
@@ -3446,7 +3446,7 @@ module _ (claims· : Claims) where
             "block::form_of") (known1 : Plain.Known 𝓤 H A W 𝓣 1 ps·1 r·1 (claims· .2) (claims· .3) "stream::block_bytes") (known2 : Plain.Known 𝓤 H A W 𝓣 1 ps·2 r·2 (claims· .4) (claims· .5)
             "stream::base_row") (known3 : Plain.Known 𝓤 H A W 𝓣 0 ps·3 r·3 (claims· .6) (claims· .7) "map::xtrans_places") (known4 : Plain.Known 𝓤 H A W 𝓣 0 ps·4 r·4 (claims· .8) (claims· .9)
             "block_states::part_wanted") (known5 : Plain.Known 𝓤 H A W 𝓣 0 ps·5 r·5 (claims· .10) (claims· .11) "block_states::lines_wanted") (known6 : Plain.Known 𝓤 H A W 𝓣 1 ps·6 r·6 (claims· .12)
-            (claims· .13) "lines::clear") (known7 : Plain.Known 𝓤 H A W 𝓣 1 ps·7 r·7 (claims· .14) (claims· .15) "cameras::base_of") (known8 : Plain.Known 𝓤 H A W 𝓣 2 ps·8 r·8 (claims· .16) (claims· .17)
+            (claims· .13) "lines::clear") (known7 : Plain.Known 𝓤 H A W 𝓣 1 ps·7 r·7 (claims· .14) (claims· .15) "taking::base_of") (known8 : Plain.Known 𝓤 H A W 𝓣 2 ps·8 r·8 (claims· .16) (claims· .17)
             "block_states::load_records") (known9 : Plain.Known 𝓤 H A W 𝓣 0 ps·9 r·9 (claims· .18) (claims· .19) "map::width") (known10 : Plain.Known 𝓤 H A W 𝓣 2 ps·10 r·10 (claims· .20) (claims· .21)
             "checkpoint::load::load_lines") (known11 : Plain.Known 𝓤 H A W 𝓣 0 ps·11 r·11 (claims· .22) (claims· .23) "block_states::place_at") (known12 : Plain.Known 𝓤 H A W 𝓣 0 ps·12 r·12 (claims· .24)
             (claims· .25) "cameras::no_entries") (known13 : Plain.Known 𝓤 H A W 𝓣 6 ps·13 r·13 (claims· .26) (claims· .27) "block::reading::read_lines") (known14 : Plain.Known 𝓤 H A W 𝓣 1 ps·14 r·14

@@ -29,30 +29,30 @@ use Rattle.block_states.proofs.derived.resume_lines.Kinds
 use Rattle.block_states.proofs.resume_lines.Proof.derived.Lts
 use Rattle.block_states.proofs.derived.resume_lines.Reads as Reads'8
 use Rattle.block_states.proofs.resume_lines.Statement
-use Rattle.cameras.proofs.base_of.Met as Met'8
-use Rattle.cameras.proofs.base_of.Reads as Reads'9
-use Rattle.cameras.proofs.base_of.Symbol as Symbol'8
-use Rattle.cameras.proofs.no_entries.Met as Met'9
-use Rattle.cameras.proofs.no_entries.Reads as Reads'10
-use Rattle.cameras.proofs.no_entries.Symbol as Symbol'9
-use Rattle.checkpoint.proofs.load_lines.Met as Met'10
-use Rattle.checkpoint.proofs.load_lines.Reads as Reads'11
-use Rattle.checkpoint.proofs.load_lines.Symbol as Symbol'10
-use Rattle.lines.proofs.clear.Met as Met'11
-use Rattle.lines.proofs.clear.Reads as Reads'12
-use Rattle.lines.proofs.clear.Symbol as Symbol'11
-use Rattle.map.proofs.width.Met as Met'12
-use Rattle.map.proofs.width.Reads as Reads'13
-use Rattle.map.proofs.width.Symbol as Symbol'12
-use Rattle.map.proofs.xtrans_places.Met as Met'13
-use Rattle.map.proofs.xtrans_places.Reads as Reads'14
-use Rattle.map.proofs.xtrans_places.Symbol as Symbol'13
-use Rattle.stream.proofs.base_row.Met as Met'14
-use Rattle.stream.proofs.base_row.Reads as Reads'15
-use Rattle.stream.proofs.base_row.Symbol as Symbol'14
-use Rattle.stream.proofs.block_bytes.Met as Met'15
-use Rattle.stream.proofs.block_bytes.Reads as Reads'16
-use Rattle.stream.proofs.block_bytes.Symbol as Symbol'15
+use Rattle.cameras.proofs.no_entries.Met as Met'8
+use Rattle.cameras.proofs.no_entries.Reads as Reads'9
+use Rattle.cameras.proofs.no_entries.Symbol as Symbol'8
+use Rattle.checkpoint.proofs.load_lines.Met as Met'9
+use Rattle.checkpoint.proofs.load_lines.Reads as Reads'10
+use Rattle.checkpoint.proofs.load_lines.Symbol as Symbol'9
+use Rattle.lines.proofs.clear.Met as Met'10
+use Rattle.lines.proofs.clear.Reads as Reads'11
+use Rattle.lines.proofs.clear.Symbol as Symbol'10
+use Rattle.map.proofs.width.Met as Met'11
+use Rattle.map.proofs.width.Reads as Reads'12
+use Rattle.map.proofs.width.Symbol as Symbol'11
+use Rattle.map.proofs.xtrans_places.Met as Met'12
+use Rattle.map.proofs.xtrans_places.Reads as Reads'13
+use Rattle.map.proofs.xtrans_places.Symbol as Symbol'12
+use Rattle.stream.proofs.base_row.Met as Met'13
+use Rattle.stream.proofs.base_row.Reads as Reads'14
+use Rattle.stream.proofs.base_row.Symbol as Symbol'13
+use Rattle.stream.proofs.block_bytes.Met as Met'14
+use Rattle.stream.proofs.block_bytes.Reads as Reads'15
+use Rattle.stream.proofs.block_bytes.Symbol as Symbol'14
+use Rattle.taking.proofs.base_of.Met as Met'15
+use Rattle.taking.proofs.base_of.Reads as Reads'16
+use Rattle.taking.proofs.base_of.Symbol as Symbol'15
 use borrow.Fn.Run
 use borrow.Fn.Written
 use contract.Running
@@ -61,30 +61,30 @@ abbrev claims : Lts.Claims
 claims = (
   Reads.Asked,
   Reads.Learnt,
-  Reads'16.Asked,
-  Reads'16.Learnt,
   Reads'15.Asked,
   Reads'15.Learnt,
   Reads'14.Asked,
   Reads'14.Learnt,
+  Reads'13.Asked,
+  Reads'13.Learnt,
   Reads'5.Asked,
   Reads'5.Learnt,
   Reads'3.Asked,
   Reads'3.Learnt,
-  Reads'12.Asked,
-  Reads'12.Learnt,
-  Reads'9.Asked,
-  Reads'9.Learnt,
-  Reads'4.Asked,
-  Reads'4.Learnt,
-  Reads'13.Asked,
-  Reads'13.Learnt,
   Reads'11.Asked,
   Reads'11.Learnt,
-  Reads'6.Asked,
-  Reads'6.Learnt,
+  Reads'16.Asked,
+  Reads'16.Learnt,
+  Reads'4.Asked,
+  Reads'4.Learnt,
+  Reads'12.Asked,
+  Reads'12.Learnt,
   Reads'10.Asked,
   Reads'10.Learnt,
+  Reads'6.Asked,
+  Reads'6.Learnt,
+  Reads'9.Asked,
+  Reads'9.Learnt,
   Reads''.Asked,
   Reads''.Learnt,
   Reads'.Asked,
@@ -198,18 +198,18 @@ module _ {M : Type 1} where
   close = λ closed 𝓤 H 𝓜 𝓖 𝓡. Written.close 5 Kinds.ps Kinds.r Reads'8.Ghost Reads'8.requires Reads'8.ensures Reads'8.pre-read Reads'8.Pinned Reads'8.Owned Reads'8.post-read record
       { M = M; 𝓤 = 𝓤; H = H; 𝓜 = 𝓜; 𝓖 = 𝓖; 𝓡 = 𝓡 } Code.env Key.name Code.function (Code.unfolded 𝓤 H 𝓜 𝓡) (λ κs a g. tt) (λ κs. Reads'8.owns κs record { M = M; 𝓤 = 𝓤; H = H; 𝓜 = 𝓜; 𝓖 = 𝓖; 𝓡 = 𝓡 })
       (Reads'8.passes record { M = M; 𝓤 = 𝓤; H = H; 𝓜 = 𝓜; 𝓖 = 𝓖; 𝓡 = 𝓡 }) λ g. closed 𝓤 H (𝓖 .A) (Running.givenOf 𝓤 H 𝓜 𝓖) (Run.Over 𝓤 H 𝓜 𝓖 𝓡 Code.env) (Reads.known record
-      { M = M; 𝓤 = 𝓤; H = H; 𝓜 = 𝓜; 𝓖 = 𝓖; 𝓡 = 𝓡 } Code.env Symbol.name Symbol.routine Code.calls-block·form-of (Met.met 𝓤 H 𝓜 𝓖 𝓡)) (Reads'16.known record { M = M; 𝓤 = 𝓤; H = H; 𝓜 = 𝓜; 𝓖 = 𝓖; 𝓡 = 𝓡 }
-      Code.env Symbol'15.name Symbol'15.routine Code.calls-stream·block-bytes (Met'15.met 𝓤 H 𝓜 𝓖 𝓡)) (Reads'15.known record { M = M; 𝓤 = 𝓤; H = H; 𝓜 = 𝓜; 𝓖 = 𝓖; 𝓡 = 𝓡 } Code.env Symbol'14.name
-      Symbol'14.routine Code.calls-stream·base-row (Met'14.met 𝓤 H 𝓜 𝓖 𝓡)) (Reads'14.known record { M = M; 𝓤 = 𝓤; H = H; 𝓜 = 𝓜; 𝓖 = 𝓖; 𝓡 = 𝓡 } Code.env Symbol'13.name Symbol'13.routine
-      Code.calls-map·xtrans-places (Met'13.met 𝓤 H 𝓜 𝓖 𝓡)) (Reads'5.known record { M = M; 𝓤 = 𝓤; H = H; 𝓜 = 𝓜; 𝓖 = 𝓖; 𝓡 = 𝓡 } Code.env Symbol'5.name Symbol'5.routine Code.calls-block-states·part-wanted
+      { M = M; 𝓤 = 𝓤; H = H; 𝓜 = 𝓜; 𝓖 = 𝓖; 𝓡 = 𝓡 } Code.env Symbol.name Symbol.routine Code.calls-block·form-of (Met.met 𝓤 H 𝓜 𝓖 𝓡)) (Reads'15.known record { M = M; 𝓤 = 𝓤; H = H; 𝓜 = 𝓜; 𝓖 = 𝓖; 𝓡 = 𝓡 }
+      Code.env Symbol'14.name Symbol'14.routine Code.calls-stream·block-bytes (Met'14.met 𝓤 H 𝓜 𝓖 𝓡)) (Reads'14.known record { M = M; 𝓤 = 𝓤; H = H; 𝓜 = 𝓜; 𝓖 = 𝓖; 𝓡 = 𝓡 } Code.env Symbol'13.name
+      Symbol'13.routine Code.calls-stream·base-row (Met'13.met 𝓤 H 𝓜 𝓖 𝓡)) (Reads'13.known record { M = M; 𝓤 = 𝓤; H = H; 𝓜 = 𝓜; 𝓖 = 𝓖; 𝓡 = 𝓡 } Code.env Symbol'12.name Symbol'12.routine
+      Code.calls-map·xtrans-places (Met'12.met 𝓤 H 𝓜 𝓖 𝓡)) (Reads'5.known record { M = M; 𝓤 = 𝓤; H = H; 𝓜 = 𝓜; 𝓖 = 𝓖; 𝓡 = 𝓡 } Code.env Symbol'5.name Symbol'5.routine Code.calls-block-states·part-wanted
       (Met'5.met 𝓤 H 𝓜 𝓖 𝓡)) (Reads'3.known record { M = M; 𝓤 = 𝓤; H = H; 𝓜 = 𝓜; 𝓖 = 𝓖; 𝓡 = 𝓡 } Code.env Symbol'3.name Symbol'3.routine Code.calls-block-states·lines-wanted (Met'3.met 𝓤 H 𝓜 𝓖 𝓡))
-      (Reads'12.known record { M = M; 𝓤 = 𝓤; H = H; 𝓜 = 𝓜; 𝓖 = 𝓖; 𝓡 = 𝓡 } Code.env Symbol'11.name Symbol'11.routine Code.calls-lines·clear (Met'11.met 𝓤 H 𝓜 𝓖 𝓡)) (Reads'9.known record
-      { M = M; 𝓤 = 𝓤; H = H; 𝓜 = 𝓜; 𝓖 = 𝓖; 𝓡 = 𝓡 } Code.env Symbol'8.name Symbol'8.routine Code.calls-cameras·base-of (Met'8.met 𝓤 H 𝓜 𝓖 𝓡)) (Reads'4.known record
-      { M = M; 𝓤 = 𝓤; H = H; 𝓜 = 𝓜; 𝓖 = 𝓖; 𝓡 = 𝓡 } Code.env Symbol'4.name Symbol'4.routine Code.calls-block-states·load-records (Met'4.met 𝓤 H 𝓜 𝓖 𝓡)) (Reads'13.known record
-      { M = M; 𝓤 = 𝓤; H = H; 𝓜 = 𝓜; 𝓖 = 𝓖; 𝓡 = 𝓡 } Code.env Symbol'12.name Symbol'12.routine Code.calls-map·width (Met'12.met 𝓤 H 𝓜 𝓖 𝓡)) (Reads'11.known record
-      { M = M; 𝓤 = 𝓤; H = H; 𝓜 = 𝓜; 𝓖 = 𝓖; 𝓡 = 𝓡 } Code.env Symbol'10.name Symbol'10.routine Code.calls-checkpoint·load-lines (Met'10.met 𝓤 H 𝓜 𝓖 𝓡)) (Reads'6.known record
-      { M = M; 𝓤 = 𝓤; H = H; 𝓜 = 𝓜; 𝓖 = 𝓖; 𝓡 = 𝓡 } Code.env Symbol'6.name Symbol'6.routine Code.calls-block-states·place-at (Met'6.met 𝓤 H 𝓜 𝓖 𝓡)) (Reads'10.known record
-      { M = M; 𝓤 = 𝓤; H = H; 𝓜 = 𝓜; 𝓖 = 𝓖; 𝓡 = 𝓡 } Code.env Symbol'9.name Symbol'9.routine Code.calls-cameras·no-entries (Met'9.met 𝓤 H 𝓜 𝓖 𝓡)) (Reads''.known record
+      (Reads'11.known record { M = M; 𝓤 = 𝓤; H = H; 𝓜 = 𝓜; 𝓖 = 𝓖; 𝓡 = 𝓡 } Code.env Symbol'10.name Symbol'10.routine Code.calls-lines·clear (Met'10.met 𝓤 H 𝓜 𝓖 𝓡)) (Reads'16.known record
+      { M = M; 𝓤 = 𝓤; H = H; 𝓜 = 𝓜; 𝓖 = 𝓖; 𝓡 = 𝓡 } Code.env Symbol'15.name Symbol'15.routine Code.calls-taking·base-of (Met'15.met 𝓤 H 𝓜 𝓖 𝓡)) (Reads'4.known record
+      { M = M; 𝓤 = 𝓤; H = H; 𝓜 = 𝓜; 𝓖 = 𝓖; 𝓡 = 𝓡 } Code.env Symbol'4.name Symbol'4.routine Code.calls-block-states·load-records (Met'4.met 𝓤 H 𝓜 𝓖 𝓡)) (Reads'12.known record
+      { M = M; 𝓤 = 𝓤; H = H; 𝓜 = 𝓜; 𝓖 = 𝓖; 𝓡 = 𝓡 } Code.env Symbol'11.name Symbol'11.routine Code.calls-map·width (Met'11.met 𝓤 H 𝓜 𝓖 𝓡)) (Reads'10.known record
+      { M = M; 𝓤 = 𝓤; H = H; 𝓜 = 𝓜; 𝓖 = 𝓖; 𝓡 = 𝓡 } Code.env Symbol'9.name Symbol'9.routine Code.calls-checkpoint·load-lines (Met'9.met 𝓤 H 𝓜 𝓖 𝓡)) (Reads'6.known record
+      { M = M; 𝓤 = 𝓤; H = H; 𝓜 = 𝓜; 𝓖 = 𝓖; 𝓡 = 𝓡 } Code.env Symbol'6.name Symbol'6.routine Code.calls-block-states·place-at (Met'6.met 𝓤 H 𝓜 𝓖 𝓡)) (Reads'9.known record
+      { M = M; 𝓤 = 𝓤; H = H; 𝓜 = 𝓜; 𝓖 = 𝓖; 𝓡 = 𝓡 } Code.env Symbol'8.name Symbol'8.routine Code.calls-cameras·no-entries (Met'8.met 𝓤 H 𝓜 𝓖 𝓡)) (Reads''.known record
       { M = M; 𝓤 = 𝓤; H = H; 𝓜 = 𝓜; 𝓖 = 𝓖; 𝓡 = 𝓡 } Code.env Symbol''.name Symbol''.routine Code.calls-block·reading·read-lines (Met''.met 𝓤 H 𝓜 𝓖 𝓡)) (Reads'.known record
       { M = M; 𝓤 = 𝓤; H = H; 𝓜 = 𝓜; 𝓖 = 𝓖; 𝓡 = 𝓡 } Code.env Symbol'.name Symbol'.routine Code.calls-block·records·clear-records (Met'.met 𝓤 H 𝓜 𝓖 𝓡)) (Reads'7.known record
       { M = M; 𝓤 = 𝓤; H = H; 𝓜 = 𝓜; 𝓖 = 𝓖; 𝓡 = 𝓡 } Code.env Symbol'7.name Symbol'7.routine Code.calls-block-states·resume-answer (Met'7.met 𝓤 H 𝓜 𝓖 𝓡))

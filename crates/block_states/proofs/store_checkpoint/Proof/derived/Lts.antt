@@ -8,12 +8,12 @@ use Rattle.block.proofs.Element
 use Prim.Native.Nat
 use Rattle.block.proofs.Counted
 use Rattle.block.proofs.Counted.Laws
-use Rattle.stream.proofs.FujiHeader
-use Rattle.stream.proofs.FujiHeader.Laws as Laws'
-use Rattle.stream.proofs.Parsed
-use Rattle.stream.proofs.Parsed.Laws as Laws''
-use Rattle.stream.proofs.Refusal
-use Rattle.stream.proofs.Refusal.Laws as Laws'3
+use Rattle.header.proofs.FujiHeader
+use Rattle.header.proofs.FujiHeader.Laws as Laws'
+use Rattle.header.proofs.Parsed
+use Rattle.header.proofs.Parsed.Laws as Laws''
+use Rattle.header.proofs.Refusal
+use Rattle.header.proofs.Refusal.Laws as Laws'3
 use borrow.Author.Called
 use borrow.Enum.Known
 use borrow.Enum.Match
@@ -73,7 +73,7 @@ use types.Kit
 use types.Run
 
 abbrev pub y0 : Syntax.Ty
-y0 = Syntax.tyEnum (115 ∷ 116 ∷ 114 ∷ 101 ∷ 97 ∷ 109 ∷ 58 ∷ 58 ∷ 82 ∷ 101 ∷ 102 ∷ 117 ∷ 115 ∷ 97 ∷ 108 ∷ []) (Syntax.ttcons Syntax.tnil (Syntax.ttcons Syntax.tnil (Syntax.ttcons Syntax.tnil
+y0 = Syntax.tyEnum (104 ∷ 101 ∷ 97 ∷ 100 ∷ 101 ∷ 114 ∷ 58 ∷ 58 ∷ 82 ∷ 101 ∷ 102 ∷ 117 ∷ 115 ∷ 97 ∷ 108 ∷ []) (Syntax.ttcons Syntax.tnil (Syntax.ttcons Syntax.tnil (Syntax.ttcons Syntax.tnil
     (Syntax.ttcons (Syntax.tcons u64 Syntax.tnil) (Syntax.ttcons Syntax.tnil (Syntax.ttcons Syntax.tnil (Syntax.ttcons Syntax.tnil (Syntax.ttcons Syntax.tnil (Syntax.ttcons Syntax.tnil (Syntax.ttcons
     Syntax.tnil (Syntax.ttcons (Syntax.tcons u64 Syntax.tnil) (Syntax.ttcons (Syntax.tcons u64 Syntax.tnil) (Syntax.ttcons Syntax.tnil (Syntax.ttcons (Syntax.tcons u64 (Syntax.tcons u64 Syntax.tnil))
     (Syntax.ttcons (Syntax.tcons u64 Syntax.tnil) (Syntax.ttcons Syntax.tnil (Syntax.ttcons Syntax.tnil (Syntax.ttcons (Syntax.tcons u64 Syntax.tnil) (Syntax.ttcons (Syntax.tcons u64 Syntax.tnil)
@@ -102,14 +102,14 @@ abbrev pub y7 : Syntax.Ty
 y7 = Syntax.tyRef Syntax.erased Syntax.mut u8
 
 abbrev pub y8 : Syntax.Ty
-y8 = Syntax.tyStruct (115 ∷ 116 ∷ 114 ∷ 101 ∷ 97 ∷ 109 ∷ 58 ∷ 58 ∷ 70 ∷ 117 ∷ 106 ∷ 105 ∷ 72 ∷ 101 ∷ 97 ∷ 100 ∷ 101 ∷ 114 ∷ []) (Syntax.tcons Syntax.tyBool (Syntax.tcons Syntax.tyBool (Syntax.tcons
+y8 = Syntax.tyStruct (104 ∷ 101 ∷ 97 ∷ 100 ∷ 101 ∷ 114 ∷ 58 ∷ 58 ∷ 70 ∷ 117 ∷ 106 ∷ 105 ∷ 72 ∷ 101 ∷ 97 ∷ 100 ∷ 101 ∷ 114 ∷ []) (Syntax.tcons Syntax.tyBool (Syntax.tcons Syntax.tyBool (Syntax.tcons
     u32 (Syntax.tcons u32 (Syntax.tcons u32 (Syntax.tcons u32 (Syntax.tcons u32 (Syntax.tcons u32 (Syntax.tcons u32 Syntax.tnil)))))))))
 
 abbrev pub y9 : Syntax.Ty
 y9 = Syntax.tyStruct (116 ∷ 111 ∷ 116 ∷ 97 ∷ 108 ∷ 115 ∷ 58 ∷ 58 ∷ 84 ∷ 111 ∷ 116 ∷ 97 ∷ 108 ∷ 115 ∷ []) (Syntax.tcons u64 (Syntax.tcons u64 Syntax.tnil))
 
 abbrev pub y10 : Syntax.Ty
-y10 = Syntax.tyEnum (115 ∷ 116 ∷ 114 ∷ 101 ∷ 97 ∷ 109 ∷ 58 ∷ 58 ∷ 80 ∷ 97 ∷ 114 ∷ 115 ∷ 101 ∷ 100 ∷ []) (Syntax.ttcons (Syntax.tcons y8 Syntax.tnil) (Syntax.ttcons (Syntax.tcons y0 Syntax.tnil)
+y10 = Syntax.tyEnum (104 ∷ 101 ∷ 97 ∷ 100 ∷ 101 ∷ 114 ∷ 58 ∷ 58 ∷ 80 ∷ 97 ∷ 114 ∷ 115 ∷ 101 ∷ 100 ∷ []) (Syntax.ttcons (Syntax.tcons y8 Syntax.tnil) (Syntax.ttcons (Syntax.tcons y0 Syntax.tnil)
     Syntax.ttnil))
 
 abbrev pub y11 : Syntax.Ty

@@ -15,10 +15,10 @@ use Rattle.cameras.proofs.Entries
 use Rattle.cameras.proofs.Entries.Laws as Laws'3
 use Rattle.code.proofs.Place
 use Rattle.code.proofs.Place.Laws as Laws'4
+use Rattle.header.proofs.FujiHeader
+use Rattle.header.proofs.FujiHeader.Laws as Laws'5
 use Rattle.map.proofs.Part
-use Rattle.map.proofs.Part.Laws as Laws'5
-use Rattle.stream.proofs.FujiHeader
-use Rattle.stream.proofs.FujiHeader.Laws as Laws'6
+use Rattle.map.proofs.Part.Laws as Laws'6
 use borrow.Author.Called
 use borrow.Fn.Any
 use borrow.Fn.Call
@@ -90,7 +90,7 @@ abbrev pub y2 : Syntax.Ty
 y2 = Syntax.tyArray u8 36
 
 abbrev pub y3 : Syntax.Ty
-y3 = Syntax.tyEnum (115 ∷ 116 ∷ 114 ∷ 101 ∷ 97 ∷ 109 ∷ 58 ∷ 58 ∷ 82 ∷ 101 ∷ 102 ∷ 117 ∷ 115 ∷ 97 ∷ 108 ∷ []) (Syntax.ttcons Syntax.tnil (Syntax.ttcons Syntax.tnil (Syntax.ttcons Syntax.tnil
+y3 = Syntax.tyEnum (104 ∷ 101 ∷ 97 ∷ 100 ∷ 101 ∷ 114 ∷ 58 ∷ 58 ∷ 82 ∷ 101 ∷ 102 ∷ 117 ∷ 115 ∷ 97 ∷ 108 ∷ []) (Syntax.ttcons Syntax.tnil (Syntax.ttcons Syntax.tnil (Syntax.ttcons Syntax.tnil
     (Syntax.ttcons (Syntax.tcons u64 Syntax.tnil) (Syntax.ttcons Syntax.tnil (Syntax.ttcons Syntax.tnil (Syntax.ttcons Syntax.tnil (Syntax.ttcons Syntax.tnil (Syntax.ttcons Syntax.tnil (Syntax.ttcons
     Syntax.tnil (Syntax.ttcons (Syntax.tcons u64 Syntax.tnil) (Syntax.ttcons (Syntax.tcons u64 Syntax.tnil) (Syntax.ttcons Syntax.tnil (Syntax.ttcons (Syntax.tcons u64 (Syntax.tcons u64 Syntax.tnil))
     (Syntax.ttcons (Syntax.tcons u64 Syntax.tnil) (Syntax.ttcons Syntax.tnil (Syntax.ttcons Syntax.tnil (Syntax.ttcons (Syntax.tcons u64 Syntax.tnil) (Syntax.ttcons (Syntax.tcons u64 Syntax.tnil)
@@ -125,16 +125,16 @@ abbrev pub y12 : Syntax.Ty
 y12 = Syntax.tyRef Syntax.erased Syntax.mut u8
 
 abbrev pub y13 : Syntax.Ty
-y13 = Syntax.tyStruct (109 ∷ 97 ∷ 112 ∷ 58 ∷ 58 ∷ 80 ∷ 97 ∷ 114 ∷ 116 ∷ []) (Syntax.tcons u64 (Syntax.tcons u64 (Syntax.tcons u64 (Syntax.tcons u64 (Syntax.tcons u64 (Syntax.tcons u64
-    Syntax.tnil))))))
+y13 = Syntax.tyStruct (104 ∷ 101 ∷ 97 ∷ 100 ∷ 101 ∷ 114 ∷ 58 ∷ 58 ∷ 70 ∷ 117 ∷ 106 ∷ 105 ∷ 72 ∷ 101 ∷ 97 ∷ 100 ∷ 101 ∷ 114 ∷ []) (Syntax.tcons Syntax.tyBool (Syntax.tcons Syntax.tyBool (Syntax.tcons
+    u32 (Syntax.tcons u32 (Syntax.tcons u32 (Syntax.tcons u32 (Syntax.tcons u32 (Syntax.tcons u32 (Syntax.tcons u32 Syntax.tnil)))))))))
 
 abbrev pub y14 : Syntax.Ty
-y14 = Syntax.tyStruct (113 ∷ 117 ∷ 97 ∷ 110 ∷ 116 ∷ 105 ∷ 115 ∷ 101 ∷ 114 ∷ 58 ∷ 58 ∷ 81 ∷ 117 ∷ 97 ∷ 110 ∷ 116 ∷ 105 ∷ 115 ∷ 101 ∷ 114 ∷ []) (Syntax.tcons u32 (Syntax.tcons u32 (Syntax.tcons u32
-    (Syntax.tcons u32 (Syntax.tcons u32 Syntax.tnil)))))
+y14 = Syntax.tyStruct (109 ∷ 97 ∷ 112 ∷ 58 ∷ 58 ∷ 80 ∷ 97 ∷ 114 ∷ 116 ∷ []) (Syntax.tcons u64 (Syntax.tcons u64 (Syntax.tcons u64 (Syntax.tcons u64 (Syntax.tcons u64 (Syntax.tcons u64
+    Syntax.tnil))))))
 
 abbrev pub y15 : Syntax.Ty
-y15 = Syntax.tyStruct (115 ∷ 116 ∷ 114 ∷ 101 ∷ 97 ∷ 109 ∷ 58 ∷ 58 ∷ 70 ∷ 117 ∷ 106 ∷ 105 ∷ 72 ∷ 101 ∷ 97 ∷ 100 ∷ 101 ∷ 114 ∷ []) (Syntax.tcons Syntax.tyBool (Syntax.tcons Syntax.tyBool (Syntax.tcons
-    u32 (Syntax.tcons u32 (Syntax.tcons u32 (Syntax.tcons u32 (Syntax.tcons u32 (Syntax.tcons u32 (Syntax.tcons u32 Syntax.tnil)))))))))
+y15 = Syntax.tyStruct (113 ∷ 117 ∷ 97 ∷ 110 ∷ 116 ∷ 105 ∷ 115 ∷ 101 ∷ 114 ∷ 58 ∷ 58 ∷ 81 ∷ 117 ∷ 97 ∷ 110 ∷ 116 ∷ 105 ∷ 115 ∷ 101 ∷ 114 ∷ []) (Syntax.tcons u32 (Syntax.tcons u32 (Syntax.tcons u32
+    (Syntax.tcons u32 (Syntax.tcons u32 Syntax.tnil)))))
 
 abbrev pub y16 : Syntax.Ty
 y16 = Syntax.tyStruct (116 ∷ 111 ∷ 116 ∷ 97 ∷ 108 ∷ 115 ∷ 58 ∷ 58 ∷ 84 ∷ 111 ∷ 116 ∷ 97 ∷ 108 ∷ 115 ∷ []) (Syntax.tcons u64 (Syntax.tcons u64 Syntax.tnil))
@@ -176,7 +176,7 @@ abbrev pub y28 : Syntax.Ty
 y28 = Syntax.tyStruct (99 ∷ 111 ∷ 100 ∷ 101 ∷ 58 ∷ 58 ∷ 80 ∷ 108 ∷ 97 ∷ 99 ∷ 101 ∷ []) (Syntax.tcons y17 (Syntax.tcons Syntax.tyBool (Syntax.tcons u64 Syntax.tnil)))
 
 abbrev pub y29 : Syntax.Ty
-y29 = Syntax.tyStruct (99 ∷ 97 ∷ 109 ∷ 101 ∷ 114 ∷ 97 ∷ 115 ∷ 58 ∷ 58 ∷ 69 ∷ 110 ∷ 116 ∷ 114 ∷ 121 ∷ []) (Syntax.tcons u32 (Syntax.tcons y14 (Syntax.tcons Syntax.tyBool (Syntax.tcons Syntax.tyBool
+y29 = Syntax.tyStruct (99 ∷ 97 ∷ 109 ∷ 101 ∷ 114 ∷ 97 ∷ 115 ∷ 58 ∷ 58 ∷ 69 ∷ 110 ∷ 116 ∷ 114 ∷ 121 ∷ []) (Syntax.tcons u32 (Syntax.tcons y15 (Syntax.tcons Syntax.tyBool (Syntax.tcons Syntax.tyBool
     Syntax.tnil))))
 
 abbrev pub y30 : Syntax.Ty
@@ -193,21 +193,21 @@ abbrev pub y33 : Syntax.Ty
 y33 = Syntax.tyStruct (99 ∷ 97 ∷ 109 ∷ 101 ∷ 114 ∷ 97 ∷ 115 ∷ 58 ∷ 58 ∷ 69 ∷ 110 ∷ 116 ∷ 114 ∷ 105 ∷ 101 ∷ 115 ∷ []) (Syntax.tcons y30 Syntax.tnil)
 
 abbrev pub ps : List.List (Kinds.PK 4)
-ps = (ShrSlice.pShrS n8 0 tt) ∷ (Values.struct FujiHeader.the-type Laws'6.the-laws Laws'6.the-copy Laws'6.the-plain) ∷ (Num.pNum Syntax.w64) ∷ (Num.pNum Syntax.w64) ∷ (MutSlice.pMutS n8 1 tt) ∷
+ps = (ShrSlice.pShrS n8 0 tt) ∷ (Values.struct FujiHeader.the-type Laws'5.the-laws Laws'5.the-copy Laws'5.the-plain) ∷ (Num.pNum Syntax.w64) ∷ (Num.pNum Syntax.w64) ∷ (MutSlice.pMutS n8 1 tt) ∷
     (MutSlice.pMutS n16 2 tt) ∷ (MutSlice.pMutS (Element.type) 3 tt) ∷ []
 
 abbrev pub r : Kinds.RK 4
 r = Values.struct-result Counted.the-type Laws.the-laws Laws.the-copy Laws.the-plain
 
 abbrev pub xs : List.List Syntax.Ty
-xs = y18 ∷ y27 ∷ y27 ∷ y1 ∷ y0 ∷ y31 ∷ y1 ∷ Syntax.tyUnit ∷ y11 ∷ y24 ∷ y10 ∷ y23 ∷ u32 ∷ y11 ∷ y24 ∷ y10 ∷ y23 ∷ y21 ∷ y24 ∷ y20 ∷ y2 ∷ y13 ∷ y28 ∷ u64 ∷ y33 ∷ y12 ∷ y25 ∷ y8 ∷ y26 ∷ y10 ∷ y23 ∷ y11
+xs = y18 ∷ y27 ∷ y27 ∷ y1 ∷ y0 ∷ y31 ∷ y1 ∷ Syntax.tyUnit ∷ y11 ∷ y24 ∷ y10 ∷ y23 ∷ u32 ∷ y11 ∷ y24 ∷ y10 ∷ y23 ∷ y21 ∷ y24 ∷ y20 ∷ y2 ∷ y14 ∷ y28 ∷ u64 ∷ y33 ∷ y12 ∷ y25 ∷ y8 ∷ y26 ∷ y10 ∷ y23 ∷ y11
     ∷ y24 ∷ y10 ∷ y23 ∷ []
 
 abbrev pub m : Nat.ℕ
 m = 11
 
 abbrev pub ps·0 : List.List (Kinds.PK 0)
-ps·0 = (Values.struct FujiHeader.the-type Laws'6.the-laws Laws'6.the-copy Laws'6.the-plain) ∷ []
+ps·0 = (Values.struct FujiHeader.the-type Laws'5.the-laws Laws'5.the-copy Laws'5.the-plain) ∷ []
 
 abbrev pub r·0 : Kinds.RK 0
 r·0 = Values.struct-result Form.the-type Laws'.the-laws Laws'.the-copy Laws'.the-plain
@@ -252,7 +252,7 @@ abbrev pub ps·7 : List.List (Kinds.PK 0)
 ps·7 = []
 
 abbrev pub r·7 : Kinds.RK 0
-r·7 = Values.struct-result Part.the-type Laws'5.the-laws Laws'5.the-copy Laws'5.the-plain
+r·7 = Values.struct-result Part.the-type Laws'6.the-laws Laws'6.the-copy Laws'6.the-plain
 
 abbrev pub ps·8 : List.List (Kinds.PK 0)
 ps·8 = []
@@ -268,15 +268,15 @@ r·9 = Values.struct-result Entries.the-type Laws'3.the-laws Laws'3.the-copy Law
 
 abbrev pub ps·10 : List.List (Kinds.PK 6)
 ps·10 = (ShrSlice.pShrS n8 0 tt) ∷ (ShrSlice.pShrS n8 1 tt) ∷ (MutSlice.pMutS n16 2 tt) ∷ (MutSlice.pMutS (Element.type) 3 tt) ∷ (MutSlice.pMutS n16 4 tt) ∷ (Values.struct Form.the-type Laws'.the-laws
-    Laws'.the-copy Laws'.the-plain) ∷ (ShrRef.pShr (Array'.Array n16 768) 5 tt) ∷ (Array.pArr (Array.eInt Syntax.w8) (Array.eInt-laws Syntax.w8) 36) ∷ (Values.struct Part.the-type Laws'5.the-laws
-    Laws'5.the-copy Laws'5.the-plain) ∷ (Num.pNum Syntax.w64) ∷ (Values.struct Place.the-type Laws'4.the-laws Laws'4.the-copy Laws'4.the-plain) ∷ (Num.pNum Syntax.w64) ∷ Bool.pBool ∷ (Values.struct
+    Laws'.the-copy Laws'.the-plain) ∷ (ShrRef.pShr (Array'.Array n16 768) 5 tt) ∷ (Array.pArr (Array.eInt Syntax.w8) (Array.eInt-laws Syntax.w8) 36) ∷ (Values.struct Part.the-type Laws'6.the-laws
+    Laws'6.the-copy Laws'6.the-plain) ∷ (Num.pNum Syntax.w64) ∷ (Values.struct Place.the-type Laws'4.the-laws Laws'4.the-copy Laws'4.the-plain) ∷ (Num.pNum Syntax.w64) ∷ Bool.pBool ∷ (Values.struct
     Entries.the-type Laws'3.the-laws Laws'3.the-copy Laws'3.the-plain) ∷ []
 
 abbrev pub r·10 : Kinds.RK 6
 r·10 = Values.enum-result Walked.the-type Laws''.the-laws Laws''.the-copy Laws''.the-plain tt
 
 abbrev pub ps·11 : List.List (Kinds.PK 4)
-ps·11 = (MutSlice.pMutS n8 0 tt) ∷ (ShrSlice.pShrS n8 1 tt) ∷ (Values.struct FujiHeader.the-type Laws'6.the-laws Laws'6.the-copy Laws'6.the-plain) ∷ (Num.pNum Syntax.w64) ∷ (Num.pNum Syntax.w64) ∷
+ps·11 = (MutSlice.pMutS n8 0 tt) ∷ (ShrSlice.pShrS n8 1 tt) ∷ (Values.struct FujiHeader.the-type Laws'5.the-laws Laws'5.the-copy Laws'5.the-plain) ∷ (Num.pNum Syntax.w64) ∷ (Num.pNum Syntax.w64) ∷
     (Values.enum Walked.the-type Laws''.the-laws Laws''.the-copy Laws''.the-plain tt) ∷ (ShrSlice.pShrS n16 2 tt) ∷ (MutSlice.pMutS (Element.type) 3 tt) ∷ []
 
 abbrev pub r·11 : Kinds.RK 4
@@ -335,7 +335,7 @@ abbrev b10 : Syntax.Body
 b10 = Syntax.assign (Syntax.place 19 []) (Syntax.aggregate ((Syntax.copy (Syntax.place 18 [])) ∷ (Syntax.copy (Syntax.place 7 ((Syntax.field 1) ∷ []))) ∷ []))
 
 abbrev b11 : Syntax.Body
-b11 = Syntax.call "cameras::base_of" ((Syntax.copy (Syntax.place 10 [])) ∷ (Syntax.int Syntax.w64 0) ∷ []) (Syntax.place 20 [])
+b11 = Syntax.call "taking::base_of" ((Syntax.copy (Syntax.place 10 [])) ∷ (Syntax.int Syntax.w64 0) ∷ []) (Syntax.place 20 [])
 
 abbrev b12 : Syntax.Body
 b12 = Syntax.call "block::records::start_records" ((Syntax.copy (Syntax.place 19 [])) ∷ (Syntax.copy (Syntax.place 2 ((Syntax.field 2) ∷ []))) ∷ (Syntax.copy (Syntax.place 20 [])) ∷ []) (Syntax.place
@@ -554,7 +554,7 @@ abbrev pub v22 : Row.Row
 v22 = Rows'.any-gone u64
 
 abbrev pub v23 : Row.Row
-v23 = Rows'.any-gone y13
+v23 = Rows'.any-gone y14
 
 abbrev pub v24 : Row.Row
 v24 = Rows'.any-gone y28
@@ -566,7 +566,7 @@ abbrev pub v26 : Row.Row
 v26 = Rows'.any-gone y2
 
 abbrev pub v27 : Row.Row
-v27 = Rows'.any-gone y15
+v27 = Rows'.any-gone y13
 
 abbrev pub v28 : Row.Row
 v28 = Rows.arrF n16 768 0
@@ -1262,7 +1262,7 @@ module _ (claims· : Claims) where
   s42 = λ bs. AtSlots.n-as-by T43 28 (Rows.arrF n8 36 0) λ x. x
 
   abbrev s43 : (bs : List.List Nat.ℕ) → Typed.Both T44 T45
-  s43 = λ bs. Call.callB ps·7 r·7 (claims· .14) (claims· .15) T44 tt 29 [] y13
+  s43 = λ bs. Call.callB ps·7 r·7 (claims· .14) (claims· .15) T44 tt 29 [] y14
 
   abbrev s44 : (bs : List.List Nat.ℕ) → Typed.Both T45 T46
   s44 = λ bs. Call.callB ps·8 r·8 (claims· .16) (claims· .17) T45 tt 30 [] y28
@@ -1321,7 +1321,7 @@ module _ (claims· : Claims) where
   s52 = λ bs. Scalar.n-room T53 28 y2
 
   abbrev s53 : (bs : List.List Nat.ℕ) → Typed.Mo T54 → Typed.Mo T55
-  s53 = λ bs. Scalar.n-room T54 29 y13
+  s53 = λ bs. Scalar.n-room T54 29 y14
 
   abbrev s54 : (bs : List.List Nat.ℕ) → Typed.Mo T55 → Typed.Mo T56
   s54 = λ bs. Scalar.n-room T55 30 y28
@@ -1388,7 +1388,7 @@ module _ (claims· : Claims) where
   s82 = λ bs. Scalar.n-room T83 36 y26
 
   abbrev s83 : (bs : List.List Nat.ℕ) → Typed.Mo T84 → Typed.Mo T85
-  s83 = λ bs. Scalar.n-room T84 2 y15
+  s83 = λ bs. Scalar.n-room T84 2 y13
 
   abbrev s84 : (bs : List.List Nat.ℕ) → Typed.Mo T85 → Typed.Mo T86
   s84 = λ bs. Scalar.n-room T85 15 Syntax.tyUnit
@@ -1456,7 +1456,7 @@ module _ (claims· : Claims) where
       Closed = (𝓤 : URA.URA M) (H : Wp.Heap 𝓤) (A : Atoms.Atoms 𝓤) (W : Kit.Given 𝓤 H A) (𝓣 : Wp.Tables 𝓤 H) (known0 : Plain.Known 𝓤 H A W 𝓣 0 ps·0 r·0 (claims· .0) (claims· .1) "block::form_of")
           (known1 : Plain.Known 𝓤 H A W 𝓣 1 ps·1 r·1 (claims· .2) (claims· .3) "stream::block_bytes") (known2 : Plain.Known 𝓤 H A W 𝓣 1 ps·2 r·2 (claims· .4) (claims· .5) "stream::base_row") (known3 :
           Plain.Known 𝓤 H A W 𝓣 0 ps·3 r·3 (claims· .6) (claims· .7) "map::xtrans_places") (known4 : Plain.Known 𝓤 H A W 𝓣 1 ps·4 r·4 (claims· .8) (claims· .9) "lines::clear") (known5 : Plain.Known 𝓤 H A
-          W 𝓣 1 ps·5 r·5 (claims· .10) (claims· .11) "cameras::base_of") (known6 : Plain.Known 𝓤 H A W 𝓣 1 ps·6 r·6 (claims· .12) (claims· .13) "block::records::start_records") (known7 : Plain.Known 𝓤 H A
+          W 𝓣 1 ps·5 r·5 (claims· .10) (claims· .11) "taking::base_of") (known6 : Plain.Known 𝓤 H A W 𝓣 1 ps·6 r·6 (claims· .12) (claims· .13) "block::records::start_records") (known7 : Plain.Known 𝓤 H A
           W 𝓣 0 ps·7 r·7 (claims· .14) (claims· .15) "block::tight::no_part") (known8 : Plain.Known 𝓤 H A W 𝓣 0 ps·8 r·8 (claims· .16) (claims· .17) "block::reading::start_place") (known9 : Plain.Known 𝓤
           H A W 𝓣 0 ps·9 r·9 (claims· .18) (claims· .19) "cameras::no_entries") (known10 : Plain.Known 𝓤 H A W 𝓣 6 ps·10 r·10 (claims· .20) (claims· .21) "block::reading::read_lines") (known11 :
           Plain.Known 𝓤 H A W 𝓣 4 ps·11 r·11 (claims· .22) (claims· .23) "block_states::put_walked") (known12 : Plain.Known 𝓤 H A W 𝓣 1 ps·12 r·12 (claims· .24) (claims· .25)
@@ -1723,7 +1723,7 @@ module _ (claims· : Claims) where
         abbrev Knowns : Type 1
         Knowns = Plain.Known 𝓤 H A W 𝓣 0 ps·0 r·0 (claims· .0) (claims· .1) "block::form_of" × Plain.Known 𝓤 H A W 𝓣 1 ps·1 r·1 (claims· .2) (claims· .3) "stream::block_bytes" × Plain.Known 𝓤 H A W 𝓣
             1 ps·2 r·2 (claims· .4) (claims· .5) "stream::base_row" × Plain.Known 𝓤 H A W 𝓣 0 ps·3 r·3 (claims· .6) (claims· .7) "map::xtrans_places" × Plain.Known 𝓤 H A W 𝓣 1 ps·4 r·4 (claims· .8)
-            (claims· .9) "lines::clear" × Plain.Known 𝓤 H A W 𝓣 1 ps·5 r·5 (claims· .10) (claims· .11) "cameras::base_of" × Plain.Known 𝓤 H A W 𝓣 1 ps·6 r·6 (claims· .12) (claims· .13)
+            (claims· .9) "lines::clear" × Plain.Known 𝓤 H A W 𝓣 1 ps·5 r·5 (claims· .10) (claims· .11) "taking::base_of" × Plain.Known 𝓤 H A W 𝓣 1 ps·6 r·6 (claims· .12) (claims· .13)
             "block::records::start_records" × Plain.Known 𝓤 H A W 𝓣 0 ps·7 r·7 (claims· .14) (claims· .15) "block::tight::no_part" × Plain.Known 𝓤 H A W 𝓣 0 ps·8 r·8 (claims· .16) (claims· .17)
             "block::reading::start_place" × Plain.Known 𝓤 H A W 𝓣 0 ps·9 r·9 (claims· .18) (claims· .19) "cameras::no_entries" × Plain.Known 𝓤 H A W 𝓣 6 ps·10 r·10 (claims· .20) (claims· .21)
             "block::reading::read_lines" × Plain.Known 𝓤 H A W 𝓣 4 ps·11 r·11 (claims· .22) (claims· .23) "block_states::put_walked" × Plain.Known 𝓤 H A W 𝓣 1 ps·12 r·12 (claims· .24) (claims· .25)
@@ -2347,7 +2347,7 @@ module _ (claims· : Claims) where
           d32 = Typed.g-pre 𝓤 H A W 𝓣 E G85 G86 b47 Δ0 (Typed.pass T85 T86 (s84 bs)) (at30 bs) (Scalar.g-room 𝓤 H A W E G85 15 Syntax.tyUnit (Scalar.room-sc 𝓤 H A W Row.sUnit)) d31
 
           d33 : Typed.Typed 𝓤 H A 𝓣 E G84 b47 Δ0 (at33 bs)
-          d33 = Typed.g-pre 𝓤 H A W 𝓣 E G84 G85 b47 Δ0 (Typed.pass T84 T85 (s83 bs)) (at32 bs) (Scalar.g-room 𝓤 H A W E G84 2 y15 (Local.room-whole 𝓤 H A W (Declared'.row FujiHeader.the-type) y15
+          d33 = Typed.g-pre 𝓤 H A W 𝓣 E G84 G85 b47 Δ0 (Typed.pass T84 T85 (s83 bs)) (at32 bs) (Scalar.g-room 𝓤 H A W E G84 2 y13 (Local.room-whole 𝓤 H A W (Declared'.row FujiHeader.the-type) y13
               Path'.refl)) d32
 
           d34 : Typed.Typed 𝓤 H A 𝓣 E G83 b47 Δ0 (at34 bs)
@@ -2377,7 +2377,7 @@ module _ (claims· : Claims) where
                   Shared.reads-sslice 𝓤 H A W n8 y4 0,
                   Path'.refl,
                   (
-                    (Values.struct-copied 𝓤 H A W FujiHeader.the-type Laws'6.the-laws Laws'6.the-copy, Path'.refl),
+                    (Values.struct-copied 𝓤 H A W FujiHeader.the-type Laws'5.the-laws Laws'5.the-copy, Path'.refl),
                     (
                       (Scalar.reads-sc 𝓤 H A W (Row.sInt Syntax.w64), Path'.refl),
                       (
@@ -2505,7 +2505,7 @@ module _ (claims· : Claims) where
               Path'.refl)) d61
 
           d63 : Typed.Typed 𝓤 H A 𝓣 E G54 b54 Δ0 (at63 bs)
-          d63 = Typed.g-pre 𝓤 H A W 𝓣 E G54 G55 b54 Δ0 (Typed.pass T54 T55 (s53 bs)) (at62 bs) (Scalar.g-room 𝓤 H A W E G54 29 y13 (Local.room-whole 𝓤 H A W (Declared'.row Part.the-type) y13
+          d63 = Typed.g-pre 𝓤 H A W 𝓣 E G54 G55 b54 Δ0 (Typed.pass T54 T55 (s53 bs)) (at62 bs) (Scalar.g-room 𝓤 H A W E G54 29 y14 (Local.room-whole 𝓤 H A W (Declared'.row Part.the-type) y14
               Path'.refl)) d62
 
           d64 : Typed.Typed 𝓤 H A 𝓣 E G53 b54 Δ0 (at64 bs)
@@ -2584,7 +2584,7 @@ module _ (claims· : Claims) where
                             (
                               (Array.arr-yields 𝓤 H A W (Array.eInt Syntax.w8) (Array.eInt-laws Syntax.w8) 36, Path'.refl),
                               (
-                                (Values.struct-copied 𝓤 H A W Part.the-type Laws'5.the-laws Laws'5.the-copy, Path'.refl),
+                                (Values.struct-copied 𝓤 H A W Part.the-type Laws'6.the-laws Laws'6.the-copy, Path'.refl),
                                 (
                                   tt,
                                   (
@@ -2618,7 +2618,7 @@ module _ (claims· : Claims) where
 
           d73 : Typed.Typed 𝓤 H A 𝓣 E G44 (Syntax.seq b21 (Syntax.seq b22 b57)) Δ0 (at73 bs)
           d73 = Typed.s-seq 𝓤 H A W 𝓣 E G44 G45 b21 (Syntax.seq b22 b57) Δ0 (Typed.both (s43 bs)) (at72 bs) (Plain.t-call-plain 𝓤 H A W 𝓣 0 ps·7 r·7 (claims· .14) (claims· .15) "block::tight::no_part"
-              (known .7) E (λ pos β. β) G44 tt 29 [] (Call.sub-id 𝓤 H A W (G44 .slots)) tt (Reads'.room-gone 𝓤 H A y13) tt Path'.refl) d72
+              (known .7) E (λ pos β. β) G44 tt 29 [] (Call.sub-id 𝓤 H A W (G44 .slots)) tt (Reads'.room-gone 𝓤 H A y14) tt Path'.refl) d72
 
           d74 : Typed.Typed 𝓤 H A 𝓣 E G43 (Syntax.seq b21 (Syntax.seq b22 b57)) Δ0 (at74 bs)
           d74 = Typed.g-pre 𝓤 H A W 𝓣 E G43 G44 (Syntax.seq b21 (Syntax.seq b22 b57)) Δ0 (Typed.pass T43 T44 (s42 bs)) (at73 bs) (AtSlots.g-as-by 𝓤 H A W E (λ ρ. Unit) G43 28 (Rows.arrF n8 36 0) (λ x.
@@ -2702,12 +2702,12 @@ module _ (claims· : Claims) where
                 Reads'.as-is 𝓤 H A (Mut.mslice (Element.type) y10 5),
                 Mut.reads-mslice 𝓤 H A W (Element.type) y10 5,
                 Path'.refl,
-                ((Reads.reads-field 𝓤 H A W FujiHeader.the-type Laws'6.the-laws 2 u32 4 Path'.refl, Path'.refl), ((Scalar.reads-sc 𝓤 H A W (Row.sInt Syntax.w32), Path'.refl), tt)),
+                ((Reads.reads-field 𝓤 H A W FujiHeader.the-type Laws'5.the-laws 2 u32 4 Path'.refl, Path'.refl), ((Scalar.reads-sc 𝓤 H A W (Row.sInt Syntax.w32), Path'.refl), tt)),
               ) (Reads'.room-gone 𝓤 H A
               Syntax.tyUnit) (tt, tt) Path'.refl) d91
 
           d93 : Typed.Typed 𝓤 H A 𝓣 E G24 (Syntax.seq b11 (Syntax.seq b12 b67)) Δ0 (at93 bs)
-          d93 = Typed.s-seq 𝓤 H A W 𝓣 E G24 G25 b11 (Syntax.seq b12 b67) Δ0 (Typed.both (s23 bs)) (at92 bs) (Plain.t-call-plain 𝓤 H A W 𝓣 1 ps·5 r·5 (claims· .10) (claims· .11) "cameras::base_of"
+          d93 = Typed.s-seq 𝓤 H A W 𝓣 E G24 G25 b11 (Syntax.seq b12 b67) Δ0 (Typed.both (s23 bs)) (at92 bs) (Plain.t-call-plain 𝓤 H A W 𝓣 1 ps·5 r·5 (claims· .10) (claims· .11) "taking::base_of"
               (known .5) E (λ pos β. β) G24 (record { pos = 10; ty = y9; ref = λ x. x }, (Num.vLit 0, tt)) 20 (0 ∷ []) (Call.sub-id 𝓤 H A W (G24 .slots))
               (ShrSlice.spares-sslice 𝓤 H A W n8 y9 0, Shared.reads-sslice 𝓤 H A W n8 y9 0, Path'.refl, (tt, tt)) (Reads'.room-gone 𝓤 H A u32) (tt, tt) Path'.refl) d92
 
@@ -2801,7 +2801,7 @@ module _ (claims· : Claims) where
           d113 : Typed.Typed 𝓤 H A 𝓣 E (on T0 l18) b80 Δ0 (at113 bs)
           d113 = Typed.s-seq 𝓤 H A W 𝓣 E (on T0 l18) (on T5 l18) b0 (Syntax.seq b1 (Syntax.seq b2 b77)) Δ0 (Typed.both (s3 bs)) (at112 bs) (Plain.t-call-plain 𝓤 H A W 𝓣 0 ps·0 r·0 (claims· .0)
               (claims· .1) "block::form_of" (known .0) E (λ pos β. β) (on T0 l18) (record { pos = 2; st = []; d = 0; at = λ x. x }, tt) 8 [] (Call.sub-id 𝓤 H A W ((on T0 l18) .slots))
-              ((Values.struct-copied 𝓤 H A W FujiHeader.the-type Laws'6.the-laws Laws'6.the-copy, Path'.refl), tt) (Reads'.room-gone 𝓤 H A y18) tt Path'.refl) d112
+              ((Values.struct-copied 𝓤 H A W FujiHeader.the-type Laws'5.the-laws Laws'5.the-copy, Path'.refl), tt) (Reads'.room-gone 𝓤 H A y18) tt Path'.refl) d112
 
           d114 : Typed.Typed 𝓤 H A 𝓣 E (on T0 l18) b80 Δ0 (at114 bs)
           d114 = Typed.g-pre 𝓤 H A W 𝓣 E (on T0 l18) (on T0 l18) b80 Δ0 (Typed.give (s2 bs)) (at113 bs) (Know.g-sl-known 𝓤 H A W (Referent.fInt Syntax.w16) E (on T0 l18) 6 2 y6 k2 0 (λ x. x) record
@@ -2821,7 +2821,7 @@ module _ (claims· : Claims) where
       module _ (κs : Lifetimes.Lfts 4) where
         pub record Args : Type 0 where
           pub d : Kinds.Den {n = 4} κs (ShrSlice.pShrS n8 0 tt)
-          pub h : Kinds.Den {n = 4} κs (Values.struct FujiHeader.the-type Laws'6.the-laws Laws'6.the-copy Laws'6.the-plain)
+          pub h : Kinds.Den {n = 4} κs (Values.struct FujiHeader.the-type Laws'5.the-laws Laws'5.the-copy Laws'5.the-plain)
           pub b : Kinds.Den {n = 4} κs (Num.pNum Syntax.w64)
           pub line : Kinds.Den {n = 4} κs (Num.pNum Syntax.w64)
           pub state : Kinds.Den {n = 4} κs (MutSlice.pMutS n8 1 tt)
@@ -4100,7 +4100,7 @@ module _ (claims· : Claims) where
         module _ {M : Type 1} (𝓤 : URA.URA M) (H : Wp.Heap 𝓤) (A : Atoms.Atoms 𝓤) (W : Kit.Given 𝓤 H A) (𝓣 : Wp.Tables 𝓤 H) (known0 : Plain.Known 𝓤 H A W 𝓣 0 ps·0 r·0 (claims· .0) (claims· .1)
             "block::form_of") (known1 : Plain.Known 𝓤 H A W 𝓣 1 ps·1 r·1 (claims· .2) (claims· .3) "stream::block_bytes") (known2 : Plain.Known 𝓤 H A W 𝓣 1 ps·2 r·2 (claims· .4) (claims· .5)
             "stream::base_row") (known3 : Plain.Known 𝓤 H A W 𝓣 0 ps·3 r·3 (claims· .6) (claims· .7) "map::xtrans_places") (known4 : Plain.Known 𝓤 H A W 𝓣 1 ps·4 r·4 (claims· .8) (claims· .9)
-            "lines::clear") (known5 : Plain.Known 𝓤 H A W 𝓣 1 ps·5 r·5 (claims· .10) (claims· .11) "cameras::base_of") (known6 : Plain.Known 𝓤 H A W 𝓣 1 ps·6 r·6 (claims· .12) (claims· .13)
+            "lines::clear") (known5 : Plain.Known 𝓤 H A W 𝓣 1 ps·5 r·5 (claims· .10) (claims· .11) "taking::base_of") (known6 : Plain.Known 𝓤 H A W 𝓣 1 ps·6 r·6 (claims· .12) (claims· .13)
             "block::records::start_records") (known7 : Plain.Known 𝓤 H A W 𝓣 0 ps·7 r·7 (claims· .14) (claims· .15) "block::tight::no_part") (known8 : Plain.Known 𝓤 H A W 𝓣 0 ps·8 r·8 (claims· .16)
             (claims· .17) "block::reading::start_place") (known9 : Plain.Known 𝓤 H A W 𝓣 0 ps·9 r·9 (claims· .18) (claims· .19) "cameras::no_entries") (known10 : Plain.Known 𝓤 H A W 𝓣 6 ps·10 r·10
             (claims· .20) (claims· .21) "block::reading::read_lines") (known11 : Plain.Known 𝓤 H A W 𝓣 4 ps·11 r·11 (claims· .22) (claims· .23) "block_states::put_walked") (known12 : Plain.Known 𝓤 H A W 𝓣

@@ -29,24 +29,24 @@ use Rattle.block_states.proofs.derived.store_state.Kinds
 use Rattle.block_states.proofs.store_state.Proof.derived.Lts
 use Rattle.block_states.proofs.derived.store_state.Reads as Reads'8
 use Rattle.block_states.proofs.store_state.Statement
-use Rattle.cameras.proofs.base_of.Met as Met'8
-use Rattle.cameras.proofs.base_of.Reads as Reads'9
-use Rattle.cameras.proofs.base_of.Symbol as Symbol'8
-use Rattle.cameras.proofs.no_entries.Met as Met'9
-use Rattle.cameras.proofs.no_entries.Reads as Reads'10
-use Rattle.cameras.proofs.no_entries.Symbol as Symbol'9
-use Rattle.lines.proofs.clear.Met as Met'10
-use Rattle.lines.proofs.clear.Reads as Reads'11
-use Rattle.lines.proofs.clear.Symbol as Symbol'10
-use Rattle.map.proofs.xtrans_places.Met as Met'11
-use Rattle.map.proofs.xtrans_places.Reads as Reads'12
-use Rattle.map.proofs.xtrans_places.Symbol as Symbol'11
-use Rattle.stream.proofs.base_row.Met as Met'12
-use Rattle.stream.proofs.base_row.Reads as Reads'13
-use Rattle.stream.proofs.base_row.Symbol as Symbol'12
-use Rattle.stream.proofs.block_bytes.Met as Met'13
-use Rattle.stream.proofs.block_bytes.Reads as Reads'14
-use Rattle.stream.proofs.block_bytes.Symbol as Symbol'13
+use Rattle.cameras.proofs.no_entries.Met as Met'8
+use Rattle.cameras.proofs.no_entries.Reads as Reads'9
+use Rattle.cameras.proofs.no_entries.Symbol as Symbol'8
+use Rattle.lines.proofs.clear.Met as Met'9
+use Rattle.lines.proofs.clear.Reads as Reads'10
+use Rattle.lines.proofs.clear.Symbol as Symbol'9
+use Rattle.map.proofs.xtrans_places.Met as Met'10
+use Rattle.map.proofs.xtrans_places.Reads as Reads'11
+use Rattle.map.proofs.xtrans_places.Symbol as Symbol'10
+use Rattle.stream.proofs.base_row.Met as Met'11
+use Rattle.stream.proofs.base_row.Reads as Reads'12
+use Rattle.stream.proofs.base_row.Symbol as Symbol'11
+use Rattle.stream.proofs.block_bytes.Met as Met'12
+use Rattle.stream.proofs.block_bytes.Reads as Reads'13
+use Rattle.stream.proofs.block_bytes.Symbol as Symbol'12
+use Rattle.taking.proofs.base_of.Met as Met'13
+use Rattle.taking.proofs.base_of.Reads as Reads'14
+use Rattle.taking.proofs.base_of.Symbol as Symbol'13
 use borrow.Fn.Run
 use borrow.Fn.Written
 use contract.Running
@@ -55,24 +55,24 @@ abbrev claims : Lts.Claims
 claims = (
   Reads.Asked,
   Reads.Learnt,
-  Reads'14.Asked,
-  Reads'14.Learnt,
   Reads'13.Asked,
   Reads'13.Learnt,
   Reads'12.Asked,
   Reads'12.Learnt,
   Reads'11.Asked,
   Reads'11.Learnt,
-  Reads'9.Asked,
-  Reads'9.Learnt,
+  Reads'10.Asked,
+  Reads'10.Learnt,
+  Reads'14.Asked,
+  Reads'14.Learnt,
   Reads'6.Asked,
   Reads'6.Learnt,
   Reads'.Asked,
   Reads'.Learnt,
   Reads'3.Asked,
   Reads'3.Learnt,
-  Reads'10.Asked,
-  Reads'10.Learnt,
+  Reads'9.Asked,
+  Reads'9.Learnt,
   Reads'5.Asked,
   Reads'5.Learnt,
   Reads'7.Asked,
@@ -179,16 +179,15 @@ module _ {M : Type 1} where
   close = λ closed 𝓤 H 𝓜 𝓖 𝓡. Written.close 4 Kinds.ps Kinds.r Reads'8.Ghost Reads'8.requires Reads'8.ensures Reads'8.pre-read Reads'8.Pinned Reads'8.Owned Reads'8.post-read record
       { M = M; 𝓤 = 𝓤; H = H; 𝓜 = 𝓜; 𝓖 = 𝓖; 𝓡 = 𝓡 } Code.env Key.name Code.function (Code.unfolded 𝓤 H 𝓜 𝓡) (λ κs a g. tt) (λ κs. Reads'8.owns κs record { M = M; 𝓤 = 𝓤; H = H; 𝓜 = 𝓜; 𝓖 = 𝓖; 𝓡 = 𝓡 })
       (Reads'8.passes record { M = M; 𝓤 = 𝓤; H = H; 𝓜 = 𝓜; 𝓖 = 𝓖; 𝓡 = 𝓡 }) λ g. closed 𝓤 H (𝓖 .A) (Running.givenOf 𝓤 H 𝓜 𝓖) (Run.Over 𝓤 H 𝓜 𝓖 𝓡 Code.env) (Reads.known record
-      { M = M; 𝓤 = 𝓤; H = H; 𝓜 = 𝓜; 𝓖 = 𝓖; 𝓡 = 𝓡 } Code.env Symbol.name Symbol.routine Code.calls-block·form-of (Met.met 𝓤 H 𝓜 𝓖 𝓡)) (Reads'14.known record { M = M; 𝓤 = 𝓤; H = H; 𝓜 = 𝓜; 𝓖 = 𝓖; 𝓡 = 𝓡 }
-      Code.env Symbol'13.name Symbol'13.routine Code.calls-stream·block-bytes (Met'13.met 𝓤 H 𝓜 𝓖 𝓡)) (Reads'13.known record { M = M; 𝓤 = 𝓤; H = H; 𝓜 = 𝓜; 𝓖 = 𝓖; 𝓡 = 𝓡 } Code.env Symbol'12.name
-      Symbol'12.routine Code.calls-stream·base-row (Met'12.met 𝓤 H 𝓜 𝓖 𝓡)) (Reads'12.known record { M = M; 𝓤 = 𝓤; H = H; 𝓜 = 𝓜; 𝓖 = 𝓖; 𝓡 = 𝓡 } Code.env Symbol'11.name Symbol'11.routine
-      Code.calls-map·xtrans-places (Met'11.met 𝓤 H 𝓜 𝓖 𝓡)) (Reads'11.known record { M = M; 𝓤 = 𝓤; H = H; 𝓜 = 𝓜; 𝓖 = 𝓖; 𝓡 = 𝓡 } Code.env Symbol'10.name Symbol'10.routine Code.calls-lines·clear (Met'10.met
-      𝓤 H 𝓜 𝓖 𝓡)) (Reads'9.known record { M = M; 𝓤 = 𝓤; H = H; 𝓜 = 𝓜; 𝓖 = 𝓖; 𝓡 = 𝓡 } Code.env Symbol'8.name Symbol'8.routine Code.calls-cameras·base-of (Met'8.met 𝓤 H 𝓜 𝓖 𝓡)) (Reads'6.known record
+      { M = M; 𝓤 = 𝓤; H = H; 𝓜 = 𝓜; 𝓖 = 𝓖; 𝓡 = 𝓡 } Code.env Symbol.name Symbol.routine Code.calls-block·form-of (Met.met 𝓤 H 𝓜 𝓖 𝓡)) (Reads'13.known record { M = M; 𝓤 = 𝓤; H = H; 𝓜 = 𝓜; 𝓖 = 𝓖; 𝓡 = 𝓡 }
+      Code.env Symbol'12.name Symbol'12.routine Code.calls-stream·block-bytes (Met'12.met 𝓤 H 𝓜 𝓖 𝓡)) (Reads'12.known record { M = M; 𝓤 = 𝓤; H = H; 𝓜 = 𝓜; 𝓖 = 𝓖; 𝓡 = 𝓡 } Code.env Symbol'11.name
+      Symbol'11.routine Code.calls-stream·base-row (Met'11.met 𝓤 H 𝓜 𝓖 𝓡)) (Reads'11.known record { M = M; 𝓤 = 𝓤; H = H; 𝓜 = 𝓜; 𝓖 = 𝓖; 𝓡 = 𝓡 } Code.env Symbol'10.name Symbol'10.routine
+      Code.calls-map·xtrans-places (Met'10.met 𝓤 H 𝓜 𝓖 𝓡)) (Reads'10.known record { M = M; 𝓤 = 𝓤; H = H; 𝓜 = 𝓜; 𝓖 = 𝓖; 𝓡 = 𝓡 } Code.env Symbol'9.name Symbol'9.routine Code.calls-lines·clear (Met'9.met 𝓤 H
+      𝓜 𝓖 𝓡)) (Reads'14.known record { M = M; 𝓤 = 𝓤; H = H; 𝓜 = 𝓜; 𝓖 = 𝓖; 𝓡 = 𝓡 } Code.env Symbol'13.name Symbol'13.routine Code.calls-taking·base-of (Met'13.met 𝓤 H 𝓜 𝓖 𝓡)) (Reads'6.known record
       { M = M; 𝓤 = 𝓤; H = H; 𝓜 = 𝓜; 𝓖 = 𝓖; 𝓡 = 𝓡 } Code.env Symbol'6.name Symbol'6.routine Code.calls-block·records·start-records (Met'6.met 𝓤 H 𝓜 𝓖 𝓡)) (Reads'.known record
       { M = M; 𝓤 = 𝓤; H = H; 𝓜 = 𝓜; 𝓖 = 𝓖; 𝓡 = 𝓡 } Code.env Symbol'.name Symbol'.routine Code.calls-block·no-part (Met'.met 𝓤 H 𝓜 𝓖 𝓡)) (Reads'3.known record { M = M; 𝓤 = 𝓤; H = H; 𝓜 = 𝓜; 𝓖 = 𝓖; 𝓡 = 𝓡 }
-      Code.env Symbol'3.name Symbol'3.routine Code.calls-block·start-place (Met'3.met 𝓤 H 𝓜 𝓖 𝓡)) (Reads'10.known record { M = M; 𝓤 = 𝓤; H = H; 𝓜 = 𝓜; 𝓖 = 𝓖; 𝓡 = 𝓡 } Code.env Symbol'9.name
-      Symbol'9.routine Code.calls-cameras·no-entries (Met'9.met 𝓤 H 𝓜 𝓖 𝓡)) (Reads'5.known record { M = M; 𝓤 = 𝓤; H = H; 𝓜 = 𝓜; 𝓖 = 𝓖; 𝓡 = 𝓡 } Code.env Symbol'5.name Symbol'5.routine
-      Code.calls-block·reading·read-lines (Met'5.met 𝓤 H 𝓜 𝓖 𝓡)) (Reads'7.known record { M = M; 𝓤 = 𝓤; H = H; 𝓜 = 𝓜; 𝓖 = 𝓖; 𝓡 = 𝓡 } Code.env Symbol'7.name Symbol'7.routine
-      Code.calls-block-states·put-walked (Met'7.met 𝓤 H 𝓜 𝓖 𝓡)) (Reads'4.known record { M = M; 𝓤 = 𝓤; H = H; 𝓜 = 𝓜; 𝓖 = 𝓖; 𝓡 = 𝓡 } Code.env Symbol'4.name Symbol'4.routine
-      Code.calls-block·records·clear-records (Met'4.met 𝓤 H 𝓜 𝓖 𝓡)) (Reads''.known record { M = M; 𝓤 = 𝓤; H = H; 𝓜 = 𝓜; 𝓖 = 𝓖; 𝓡 = 𝓡 } Code.env Symbol''.name Symbol''.routine Code.calls-block·read-answer
-      (Met''.met 𝓤 H 𝓜 𝓖 𝓡))
+      Code.env Symbol'3.name Symbol'3.routine Code.calls-block·start-place (Met'3.met 𝓤 H 𝓜 𝓖 𝓡)) (Reads'9.known record { M = M; 𝓤 = 𝓤; H = H; 𝓜 = 𝓜; 𝓖 = 𝓖; 𝓡 = 𝓡 } Code.env Symbol'8.name Symbol'8.routine
+      Code.calls-cameras·no-entries (Met'8.met 𝓤 H 𝓜 𝓖 𝓡)) (Reads'5.known record { M = M; 𝓤 = 𝓤; H = H; 𝓜 = 𝓜; 𝓖 = 𝓖; 𝓡 = 𝓡 } Code.env Symbol'5.name Symbol'5.routine Code.calls-block·reading·read-lines
+      (Met'5.met 𝓤 H 𝓜 𝓖 𝓡)) (Reads'7.known record { M = M; 𝓤 = 𝓤; H = H; 𝓜 = 𝓜; 𝓖 = 𝓖; 𝓡 = 𝓡 } Code.env Symbol'7.name Symbol'7.routine Code.calls-block-states·put-walked (Met'7.met 𝓤 H 𝓜 𝓖 𝓡))
+      (Reads'4.known record { M = M; 𝓤 = 𝓤; H = H; 𝓜 = 𝓜; 𝓖 = 𝓖; 𝓡 = 𝓡 } Code.env Symbol'4.name Symbol'4.routine Code.calls-block·records·clear-records (Met'4.met 𝓤 H 𝓜 𝓖 𝓡)) (Reads''.known record
+      { M = M; 𝓤 = 𝓤; H = H; 𝓜 = 𝓜; 𝓖 = 𝓖; 𝓡 = 𝓡 } Code.env Symbol''.name Symbol''.routine Code.calls-block·read-answer (Met''.met 𝓤 H 𝓜 𝓖 𝓡))

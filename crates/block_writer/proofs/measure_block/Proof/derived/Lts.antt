@@ -5,10 +5,10 @@ use Rattle.bits.proofs.Values.{n16, n8, u16, u32, u64, u8}
 use mathlib.Core.List.{_∷_, []}
 use Rattle.block.proofs.Element
 use Prim.Native.Nat
+use Rattle.header.proofs.Parsed
+use Rattle.header.proofs.Parsed.Laws
 use Rattle.stream.proofs.BlockLength
-use Rattle.stream.proofs.BlockLength.Laws
-use Rattle.stream.proofs.Parsed
-use Rattle.stream.proofs.Parsed.Laws as Laws'
+use Rattle.stream.proofs.BlockLength.Laws as Laws'
 use borrow.Author.Called
 use borrow.Fn.Any
 use borrow.Fn.Call
@@ -66,7 +66,7 @@ abbrev pub y0 : Syntax.Ty
 y0 = Syntax.tyArray u8 1
 
 abbrev pub y1 : Syntax.Ty
-y1 = Syntax.tyEnum (115 ∷ 116 ∷ 114 ∷ 101 ∷ 97 ∷ 109 ∷ 58 ∷ 58 ∷ 82 ∷ 101 ∷ 102 ∷ 117 ∷ 115 ∷ 97 ∷ 108 ∷ []) (Syntax.ttcons Syntax.tnil (Syntax.ttcons Syntax.tnil (Syntax.ttcons Syntax.tnil
+y1 = Syntax.tyEnum (104 ∷ 101 ∷ 97 ∷ 100 ∷ 101 ∷ 114 ∷ 58 ∷ 58 ∷ 82 ∷ 101 ∷ 102 ∷ 117 ∷ 115 ∷ 97 ∷ 108 ∷ []) (Syntax.ttcons Syntax.tnil (Syntax.ttcons Syntax.tnil (Syntax.ttcons Syntax.tnil
     (Syntax.ttcons (Syntax.tcons u64 Syntax.tnil) (Syntax.ttcons Syntax.tnil (Syntax.ttcons Syntax.tnil (Syntax.ttcons Syntax.tnil (Syntax.ttcons Syntax.tnil (Syntax.ttcons Syntax.tnil (Syntax.ttcons
     Syntax.tnil (Syntax.ttcons (Syntax.tcons u64 Syntax.tnil) (Syntax.ttcons (Syntax.tcons u64 Syntax.tnil) (Syntax.ttcons Syntax.tnil (Syntax.ttcons (Syntax.tcons u64 (Syntax.tcons u64 Syntax.tnil))
     (Syntax.ttcons (Syntax.tcons u64 Syntax.tnil) (Syntax.ttcons Syntax.tnil (Syntax.ttcons Syntax.tnil (Syntax.ttcons (Syntax.tcons u64 Syntax.tnil) (Syntax.ttcons (Syntax.tcons u64 Syntax.tnil)
@@ -98,16 +98,16 @@ abbrev pub y9 : Syntax.Ty
 y9 = Syntax.tyRef Syntax.erased Syntax.mut u8
 
 abbrev pub y10 : Syntax.Ty
-y10 = Syntax.tyStruct (115 ∷ 116 ∷ 114 ∷ 101 ∷ 97 ∷ 109 ∷ 58 ∷ 58 ∷ 70 ∷ 117 ∷ 106 ∷ 105 ∷ 72 ∷ 101 ∷ 97 ∷ 100 ∷ 101 ∷ 114 ∷ []) (Syntax.tcons Syntax.tyBool (Syntax.tcons Syntax.tyBool (Syntax.tcons
+y10 = Syntax.tyStruct (104 ∷ 101 ∷ 97 ∷ 100 ∷ 101 ∷ 114 ∷ 58 ∷ 58 ∷ 70 ∷ 117 ∷ 106 ∷ 105 ∷ 72 ∷ 101 ∷ 97 ∷ 100 ∷ 101 ∷ 114 ∷ []) (Syntax.tcons Syntax.tyBool (Syntax.tcons Syntax.tyBool (Syntax.tcons
     u32 (Syntax.tcons u32 (Syntax.tcons u32 (Syntax.tcons u32 (Syntax.tcons u32 (Syntax.tcons u32 (Syntax.tcons u32 Syntax.tnil)))))))))
 
 abbrev pub y11 : Syntax.Ty
-y11 = Syntax.tyEnum (115 ∷ 116 ∷ 114 ∷ 101 ∷ 97 ∷ 109 ∷ 58 ∷ 58 ∷ 66 ∷ 108 ∷ 111 ∷ 99 ∷ 107 ∷ 76 ∷ 101 ∷ 110 ∷ 103 ∷ 116 ∷ 104 ∷ []) (Syntax.ttcons (Syntax.tcons u64 Syntax.tnil) (Syntax.ttcons
-    (Syntax.tcons y1 Syntax.tnil) Syntax.ttnil))
+y11 = Syntax.tyEnum (104 ∷ 101 ∷ 97 ∷ 100 ∷ 101 ∷ 114 ∷ 58 ∷ 58 ∷ 80 ∷ 97 ∷ 114 ∷ 115 ∷ 101 ∷ 100 ∷ []) (Syntax.ttcons (Syntax.tcons y10 Syntax.tnil) (Syntax.ttcons (Syntax.tcons y1 Syntax.tnil)
+    Syntax.ttnil))
 
 abbrev pub y12 : Syntax.Ty
-y12 = Syntax.tyEnum (115 ∷ 116 ∷ 114 ∷ 101 ∷ 97 ∷ 109 ∷ 58 ∷ 58 ∷ 80 ∷ 97 ∷ 114 ∷ 115 ∷ 101 ∷ 100 ∷ []) (Syntax.ttcons (Syntax.tcons y10 Syntax.tnil) (Syntax.ttcons (Syntax.tcons y1 Syntax.tnil)
-    Syntax.ttnil))
+y12 = Syntax.tyEnum (115 ∷ 116 ∷ 114 ∷ 101 ∷ 97 ∷ 109 ∷ 58 ∷ 58 ∷ 66 ∷ 108 ∷ 111 ∷ 99 ∷ 107 ∷ 76 ∷ 101 ∷ 110 ∷ 103 ∷ 116 ∷ 104 ∷ []) (Syntax.ttcons (Syntax.tcons u64 Syntax.tnil) (Syntax.ttcons
+    (Syntax.tcons y1 Syntax.tnil) Syntax.ttnil))
 
 abbrev pub y13 : Syntax.Ty
 y13 = Syntax.tyRef Syntax.erased Syntax.mut y0
@@ -122,10 +122,10 @@ abbrev pub ps : List.List (Kinds.PK 4)
 ps = (ShrSlice.pShrS n8 0 tt) ∷ (ShrSlice.pShrS n16 1 tt) ∷ (MutSlice.pMutS n16 2 tt) ∷ (MutSlice.pMutS (Element.type) 3 tt) ∷ []
 
 abbrev pub r : Kinds.RK 4
-r = Values.enum-result BlockLength.the-type Laws.the-laws Laws.the-copy Laws.the-plain tt
+r = Values.enum-result BlockLength.the-type Laws'.the-laws Laws'.the-copy Laws'.the-plain tt
 
 abbrev pub xs : List.List Syntax.Ty
-xs = y0 ∷ y12 ∷ u64 ∷ u64 ∷ u64 ∷ Syntax.tyPtr ∷ y6 ∷ y14 ∷ y13 ∷ y15 ∷ y8 ∷ (Syntax.tyStruct (38 ∷ 91 ∷ 93 ∷ []) (Syntax.tcons y8 (Syntax.tcons u64 Syntax.tnil))) ∷ y7 ∷ (Syntax.tyStruct (38 ∷ 91 ∷
+xs = y0 ∷ y11 ∷ u64 ∷ u64 ∷ u64 ∷ Syntax.tyPtr ∷ y6 ∷ y14 ∷ y13 ∷ y15 ∷ y8 ∷ (Syntax.tyStruct (38 ∷ 91 ∷ 93 ∷ []) (Syntax.tcons y8 (Syntax.tcons u64 Syntax.tnil))) ∷ y7 ∷ (Syntax.tyStruct (38 ∷ 91 ∷
     93 ∷ []) (Syntax.tcons y7 (Syntax.tcons u64 Syntax.tnil))) ∷ []
 
 abbrev pub m : Nat.ℕ
@@ -135,14 +135,14 @@ abbrev pub ps·0 : List.List (Kinds.PK 1)
 ps·0 = (ShrSlice.pShrS n8 0 tt) ∷ (Num.pNum Syntax.w64) ∷ (Num.pNum Syntax.w64) ∷ (Num.pNum Syntax.w64) ∷ []
 
 abbrev pub r·0 : Kinds.RK 1
-r·0 = Values.enum-result Parsed.the-type Laws'.the-laws Laws'.the-copy Laws'.the-plain tt
+r·0 = Values.enum-result Parsed.the-type Laws.the-laws Laws.the-copy Laws.the-plain tt
 
 abbrev pub ps·1 : List.List (Kinds.PK 5)
-ps·1 = (Values.enum Parsed.the-type Laws'.the-laws Laws'.the-copy Laws'.the-plain tt) ∷ (ShrSlice.pShrS n8 0 tt) ∷ (ShrSlice.pShrS n16 1 tt) ∷ (MutSlice.pMutS n8 2 tt) ∷ Bool.pBool ∷ (MutSlice.pMutS
-    n16 3 tt) ∷ (MutSlice.pMutS (Element.type) 4 tt) ∷ []
+ps·1 = (Values.enum Parsed.the-type Laws.the-laws Laws.the-copy Laws.the-plain tt) ∷ (ShrSlice.pShrS n8 0 tt) ∷ (ShrSlice.pShrS n16 1 tt) ∷ (MutSlice.pMutS n8 2 tt) ∷ Bool.pBool ∷ (MutSlice.pMutS n16
+    3 tt) ∷ (MutSlice.pMutS (Element.type) 4 tt) ∷ []
 
 abbrev pub r·1 : Kinds.RK 5
-r·1 = Values.enum-result BlockLength.the-type Laws.the-laws Laws.the-copy Laws.the-plain tt
+r·1 = Values.enum-result BlockLength.the-type Laws'.the-laws Laws'.the-copy Laws'.the-plain tt
 
 abbrev pub hs : List.List Syntax.Home
 hs = Syntax.valueLocal ∷ Syntax.valueLocal ∷ Syntax.valueLocal ∷ Syntax.valueLocal ∷ Syntax.valueLocal ∷ Syntax.memorySlot ∷ Syntax.valueLocal ∷ Syntax.valueLocal ∷ Syntax.valueLocal ∷
@@ -162,7 +162,7 @@ abbrev b3 : Syntax.Body
 b3 = Syntax.assign (Syntax.place 9 []) (Syntax.rvOpd (Syntax.copy (Syntax.place 4 ((Syntax.field 1) ∷ []))))
 
 abbrev b4 : Syntax.Body
-b4 = Syntax.call "begin::writing_begins" ((Syntax.copy (Syntax.place 1 [])) ∷ (Syntax.copy (Syntax.place 7 [])) ∷ (Syntax.copy (Syntax.place 8 [])) ∷ (Syntax.copy (Syntax.place 9 [])) ∷ [])
+b4 = Syntax.call "begin_writing::writing_begins" ((Syntax.copy (Syntax.place 1 [])) ∷ (Syntax.copy (Syntax.place 7 [])) ∷ (Syntax.copy (Syntax.place 8 [])) ∷ (Syntax.copy (Syntax.place 9 [])) ∷ [])
     (Syntax.place 6 [])
 
 abbrev b5 : Syntax.Body
@@ -254,7 +254,7 @@ abbrev pub v7 : Row.Row
 v7 = Rows'.any-gone y14
 
 abbrev pub v8 : Row.Row
-v8 = Rows'.any-gone y11
+v8 = Rows'.any-gone y12
 
 abbrev pub v9 : Row.Row
 v9 = Rows'.any-gone y15
@@ -275,7 +275,7 @@ abbrev pub v14 : Row.Row
 v14 = Rows'.sc-here (Row.sInt Syntax.w64)
 
 abbrev pub v15 : Row.Row
-v15 = Rows'.any-gone y12
+v15 = Rows'.any-gone y11
 
 abbrev pub v16 : Row.Row
 v16 = Rows.arr-owed n8 1 4
@@ -532,7 +532,7 @@ module _ (claims· : Claims) where
   s7 = λ bs. Scalar.n-use T8 (Scalar.oFld 4 ((Syntax.field 1) ∷ []) u64 8 Shared.lenV) 9 (Rows'.sc-here (Row.sInt Syntax.w64)) (Row.sInt Syntax.w64 .of)
 
   abbrev s8 : (bs : List.List Nat.ℕ) → Typed.Both T9 T10
-  s8 = λ bs. Call.callB ps·0 r·0 (claims· .0) (claims· .1) T9 (record { pos = 1; ty = y2; ref = λ x. x }, (Num.vAt 7 λ x. x, (Num.vAt 8 λ x. x, (Num.vAt 9 λ x. x, tt)))) 6 (0 ∷ []) y12
+  s8 = λ bs. Call.callB ps·0 r·0 (claims· .0) (claims· .1) T9 (record { pos = 1; ty = y2; ref = λ x. x }, (Num.vAt 7 λ x. x, (Num.vAt 8 λ x. x, (Num.vAt 9 λ x. x, tt)))) 6 (0 ∷ []) y11
 
   abbrev s9 : (bs : List.List Nat.ℕ) → Typed.Mo T10 → Typed.Mo T11
   s9 = λ bs. Scalar.n-room T10 7 u64
@@ -590,13 +590,13 @@ module _ (claims· : Claims) where
       ),
     ),
   ) 0 (0 ∷ 1 ∷ 4 ∷ 5 ∷ 6 ∷ [])
-      y11
+      y12
 
   abbrev s28 : (bs : List.List Nat.ℕ) → Typed.Mo T29 → Typed.Mo T30
   s28 = λ bs. Scalar.n-room T29 12 y14
 
   abbrev s29 : (bs : List.List Nat.ℕ) → Typed.Mo T30 → Typed.Mo T31
-  s29 = λ bs. Scalar.n-room T30 6 y12
+  s29 = λ bs. Scalar.n-room T30 6 y11
 
   abbrev s31 : (bs : List.List Nat.ℕ) → Typed.Both T31 T33
   s31 = λ bs. Borrow.k-back-arr n8 T31 14 5 4 1 y9 (λ x. x) λ x. x
@@ -617,8 +617,8 @@ module _ (claims· : Claims) where
     module _ (M : Type 1) where
       abbrev pub Closed : Type 2
       Closed = (𝓤 : URA.URA M) (H : Wp.Heap 𝓤) (A : Atoms.Atoms 𝓤) (W : Kit.Given 𝓤 H A) (𝓣 : Wp.Tables 𝓤 H) (known0 : Plain.Known 𝓤 H A W 𝓣 1 ps·0 r·0 (claims· .0) (claims· .1)
-          "begin::writing_begins") (known1 : Plain.Known 𝓤 H A W 𝓣 5 ps·1 r·1 (claims· .2) (claims· .3) "block_writer::write_in") → Statement.Triple 𝓤 (Wp.WpFn 𝓤 H (𝓣 .C) (𝓣 .Λ) (Function.fnOf 4 ps r xs m
-          hs body)) (Function.plainOf 𝓤 H A 4 ps r Pre· Post·)
+          "begin_writing::writing_begins") (known1 : Plain.Known 𝓤 H A W 𝓣 5 ps·1 r·1 (claims· .2) (claims· .3) "block_writer::write_in") → Statement.Triple 𝓤 (Wp.WpFn 𝓤 H (𝓣 .C) (𝓣 .Λ) (Function.fnOf 4
+          ps r xs m hs body)) (Function.plainOf 𝓤 H A 4 ps r Pre· Post·)
 
     module _ where
       abbrev at0 : (bs : List.List Nat.ℕ) → Typed.TF T1 O0
@@ -725,7 +725,7 @@ module _ (claims· : Claims) where
 
       module _ {M : Type 1} (𝓤 : URA.URA M) (H : Wp.Heap 𝓤) (A : Atoms.Atoms 𝓤) (W : Kit.Given 𝓤 H A) (𝓣 : Wp.Tables 𝓤 H) where
         abbrev Knowns : Type 1
-        Knowns = Plain.Known 𝓤 H A W 𝓣 1 ps·0 r·0 (claims· .0) (claims· .1) "begin::writing_begins" × Plain.Known 𝓤 H A W 𝓣 5 ps·1 r·1 (claims· .2) (claims· .3) "block_writer::write_in"
+        Knowns = Plain.Known 𝓤 H A W 𝓣 1 ps·0 r·0 (claims· .0) (claims· .1) "begin_writing::writing_begins" × Plain.Known 𝓤 H A W 𝓣 5 ps·1 r·1 (claims· .2) (claims· .3) "block_writer::write_in"
 
       module _ (κs : Lifetimes.Lfts 4) (qs : Lifetimes.Shares 4) where
         abbrev k0 : Row.Life
@@ -898,7 +898,7 @@ module _ (claims· : Claims) where
           d11 = Typed.g-pre 𝓤 H A W 𝓣 E G31 G32 b16 Δ0 (λ Ψ. Ψ) (at10 bs) (Lifetime.g-end 𝓤 H A W E G31 4 Path'.refl) d10
 
           d12 : Typed.Typed 𝓤 H A 𝓣 E G30 b16 Δ0 (at12 bs)
-          d12 = Typed.g-pre 𝓤 H A W 𝓣 E G30 G31 b16 Δ0 (Typed.pass T30 T31 (s29 bs)) (at10 bs) (Scalar.g-room 𝓤 H A W E G30 6 y12 (Local.room-whole 𝓤 H A W (Declared.row Parsed.the-type) y12
+          d12 = Typed.g-pre 𝓤 H A W 𝓣 E G30 G31 b16 Δ0 (Typed.pass T30 T31 (s29 bs)) (at10 bs) (Scalar.g-room 𝓤 H A W E G30 6 y11 (Local.room-whole 𝓤 H A W (Declared.row Parsed.the-type) y11
               Path'.refl)) d11
 
           d13 : Typed.Typed 𝓤 H A 𝓣 E G29 b16 Δ0 (at13 bs)
@@ -917,7 +917,7 @@ module _ (claims· : Claims) where
                 ),
               ) 0 (0 ∷ 1 ∷ 4 ∷ 5 ∷
               6 ∷ []) (Call.sub-id 𝓤 H A W (G28 .slots)) (
-                (Values.enum-copied 𝓤 H A W Parsed.the-type Laws'.the-laws Laws'.the-copy, Path'.refl),
+                (Values.enum-copied 𝓤 H A W Parsed.the-type Laws.the-laws Laws.the-copy, Path'.refl),
                 (
                   ShrSlice.spares-sslice 𝓤 H A W n8 y6 0,
                   Shared.reads-sslice 𝓤 H A W n8 y6 0,
@@ -942,7 +942,7 @@ module _ (claims· : Claims) where
                     ),
                   ),
                 ),
-              ) (Reads.room-gone 𝓤 H A y11) (tt, (tt, (tt, (tt, (tt, tt)))))
+              ) (Reads.room-gone 𝓤 H A y12) (tt, (tt, (tt, (tt, (tt, tt)))))
               Path'.refl) d13
 
           d15 : Typed.Typed 𝓤 H A 𝓣 E G27 (Syntax.seq b14 (Syntax.seq b15 b16)) Δ0 (at15 bs)
@@ -1024,9 +1024,9 @@ module _ (claims· : Claims) where
               d31
 
           d33 : Typed.Typed 𝓤 H A 𝓣 E (on T9 l6) (Syntax.seq b4 b27) Δ0 (at33 bs)
-          d33 = Typed.s-seq 𝓤 H A W 𝓣 E (on T9 l6) (on T10 l6) b4 b27 Δ0 (Typed.both (s8 bs)) (at32 bs) (Plain.t-call-plain 𝓤 H A W 𝓣 1 ps·0 r·0 (claims· .0) (claims· .1) "begin::writing_begins"
-              (known .0) E (λ pos β. β) (on T9 l6) (record { pos = 1; ty = y2; ref = λ x. x }, (Num.vAt 7 λ x. x, (Num.vAt 8 λ x. x, (Num.vAt 9 λ x. x, tt)))) 6 (0 ∷ []) (Call.sub-id 𝓤 H A W ((on T9 l6)
-              .slots)) (
+          d33 = Typed.s-seq 𝓤 H A W 𝓣 E (on T9 l6) (on T10 l6) b4 b27 Δ0 (Typed.both (s8 bs)) (at32 bs) (Plain.t-call-plain 𝓤 H A W 𝓣 1 ps·0 r·0 (claims· .0) (claims· .1)
+              "begin_writing::writing_begins" (known .0) E (λ pos β. β) (on T9 l6) (record { pos = 1; ty = y2; ref = λ x. x }, (Num.vAt 7 λ x. x, (Num.vAt 8 λ x. x, (Num.vAt 9 λ x. x, tt)))) 6 (0 ∷ [])
+              (Call.sub-id 𝓤 H A W ((on T9 l6) .slots)) (
                 ShrSlice.spares-sslice 𝓤 H A W n8 y2 0,
                 Shared.reads-sslice 𝓤 H A W n8 y2 0,
                 Path'.refl,
@@ -1034,7 +1034,7 @@ module _ (claims· : Claims) where
                   (Scalar.reads-sc 𝓤 H A W (Row.sInt Syntax.w64), Path'.refl),
                   ((Scalar.reads-sc 𝓤 H A W (Row.sInt Syntax.w64), Path'.refl), ((Scalar.reads-sc 𝓤 H A W (Row.sInt Syntax.w64), Path'.refl), tt)),
                 ),
-              ) (Reads.room-gone 𝓤 H A y12) (tt, tt) Path'.refl) d32
+              ) (Reads.room-gone 𝓤 H A y11) (tt, tt) Path'.refl) d32
 
           d34 : Typed.Typed 𝓤 H A 𝓣 E (on T8 l6) (Syntax.seq b3 (Syntax.seq b4 b27)) Δ0 (at34 bs)
           d34 = Typed.s-seq 𝓤 H A W 𝓣 E (on T8 l6) (on T9 l6) b3 (Syntax.seq b4 b27) Δ0 (Typed.pass T8 T9 (s7 bs)) (at33 bs) (Scalar.t-use 𝓤 H A W E 𝓣 (on T8 l6) (Scalar.oFld 4 ((Syntax.field 1) ∷ [])
@@ -1441,6 +1441,6 @@ module _ (claims· : Claims) where
           asked = λ a good pre bs. laid record { κs = κs; args = record { header = a .0; samples = a .1 .0; lines = a .1 .1 .0; rs = a .1 .1 .1 .0 }; blocks = bs; good = good; pre = pre }
 
         module _ {M : Type 1} (𝓤 : URA.URA M) (H : Wp.Heap 𝓤) (A : Atoms.Atoms 𝓤) (W : Kit.Given 𝓤 H A) (𝓣 : Wp.Tables 𝓤 H) (known0 : Plain.Known 𝓤 H A W 𝓣 1 ps·0 r·0 (claims· .0) (claims· .1)
-            "begin::writing_begins") (known1 : Plain.Known 𝓤 H A W 𝓣 5 ps·1 r·1 (claims· .2) (claims· .3) "block_writer::write_in") where
+            "begin_writing::writing_begins") (known1 : Plain.Known 𝓤 H A W 𝓣 5 ps·1 r·1 (claims· .2) (claims· .3) "block_writer::write_in") where
           pub spec : Statement.Triple 𝓤 (Wp.WpFn 𝓤 H (𝓣 .C) (𝓣 .Λ) (Function.fnOf 4 ps r xs m hs body)) (Function.plainOf 𝓤 H A 4 ps r Pre· Post·)
           spec = Plain.t-fn-plain 𝓤 H A W 𝓣 4 ps r xs m hs body (λ κs qs bs. Φ bs) (λ κs qs bs bd. typed κs qs 𝓤 H A W 𝓣 (known0, known1) bs bd) Pre· Post· asked

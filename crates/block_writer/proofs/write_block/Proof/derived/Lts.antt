@@ -6,10 +6,10 @@ use Rattle.bits.proofs.Values.{n16, n8, u16, u32, u64, u8}
 use mathlib.Core.List.{_∷_, []}
 use Rattle.block.proofs.Element
 use Prim.Native.Nat
+use Rattle.header.proofs.Parsed
+use Rattle.header.proofs.Parsed.Laws
 use Rattle.stream.proofs.BlockLength
-use Rattle.stream.proofs.BlockLength.Laws
-use Rattle.stream.proofs.Parsed
-use Rattle.stream.proofs.Parsed.Laws as Laws'
+use Rattle.stream.proofs.BlockLength.Laws as Laws'
 use borrow.Author.Called
 use borrow.Fn.Any
 use borrow.Fn.Call
@@ -54,7 +54,7 @@ use prog.Wp
 use types.Kit
 
 abbrev pub y0 : Syntax.Ty
-y0 = Syntax.tyEnum (115 ∷ 116 ∷ 114 ∷ 101 ∷ 97 ∷ 109 ∷ 58 ∷ 58 ∷ 82 ∷ 101 ∷ 102 ∷ 117 ∷ 115 ∷ 97 ∷ 108 ∷ []) (Syntax.ttcons Syntax.tnil (Syntax.ttcons Syntax.tnil (Syntax.ttcons Syntax.tnil
+y0 = Syntax.tyEnum (104 ∷ 101 ∷ 97 ∷ 100 ∷ 101 ∷ 114 ∷ 58 ∷ 58 ∷ 82 ∷ 101 ∷ 102 ∷ 117 ∷ 115 ∷ 97 ∷ 108 ∷ []) (Syntax.ttcons Syntax.tnil (Syntax.ttcons Syntax.tnil (Syntax.ttcons Syntax.tnil
     (Syntax.ttcons (Syntax.tcons u64 Syntax.tnil) (Syntax.ttcons Syntax.tnil (Syntax.ttcons Syntax.tnil (Syntax.ttcons Syntax.tnil (Syntax.ttcons Syntax.tnil (Syntax.ttcons Syntax.tnil (Syntax.ttcons
     Syntax.tnil (Syntax.ttcons (Syntax.tcons u64 Syntax.tnil) (Syntax.ttcons (Syntax.tcons u64 Syntax.tnil) (Syntax.ttcons Syntax.tnil (Syntax.ttcons (Syntax.tcons u64 (Syntax.tcons u64 Syntax.tnil))
     (Syntax.ttcons (Syntax.tcons u64 Syntax.tnil) (Syntax.ttcons Syntax.tnil (Syntax.ttcons Syntax.tnil (Syntax.ttcons (Syntax.tcons u64 Syntax.tnil) (Syntax.ttcons (Syntax.tcons u64 Syntax.tnil)
@@ -89,16 +89,16 @@ abbrev pub y9 : Syntax.Ty
 y9 = Syntax.tyRef Syntax.erased Syntax.mut u8
 
 abbrev pub y10 : Syntax.Ty
-y10 = Syntax.tyStruct (115 ∷ 116 ∷ 114 ∷ 101 ∷ 97 ∷ 109 ∷ 58 ∷ 58 ∷ 70 ∷ 117 ∷ 106 ∷ 105 ∷ 72 ∷ 101 ∷ 97 ∷ 100 ∷ 101 ∷ 114 ∷ []) (Syntax.tcons Syntax.tyBool (Syntax.tcons Syntax.tyBool (Syntax.tcons
+y10 = Syntax.tyStruct (104 ∷ 101 ∷ 97 ∷ 100 ∷ 101 ∷ 114 ∷ 58 ∷ 58 ∷ 70 ∷ 117 ∷ 106 ∷ 105 ∷ 72 ∷ 101 ∷ 97 ∷ 100 ∷ 101 ∷ 114 ∷ []) (Syntax.tcons Syntax.tyBool (Syntax.tcons Syntax.tyBool (Syntax.tcons
     u32 (Syntax.tcons u32 (Syntax.tcons u32 (Syntax.tcons u32 (Syntax.tcons u32 (Syntax.tcons u32 (Syntax.tcons u32 Syntax.tnil)))))))))
 
 abbrev pub y11 : Syntax.Ty
-y11 = Syntax.tyEnum (115 ∷ 116 ∷ 114 ∷ 101 ∷ 97 ∷ 109 ∷ 58 ∷ 58 ∷ 66 ∷ 108 ∷ 111 ∷ 99 ∷ 107 ∷ 76 ∷ 101 ∷ 110 ∷ 103 ∷ 116 ∷ 104 ∷ []) (Syntax.ttcons (Syntax.tcons u64 Syntax.tnil) (Syntax.ttcons
-    (Syntax.tcons y0 Syntax.tnil) Syntax.ttnil))
+y11 = Syntax.tyEnum (104 ∷ 101 ∷ 97 ∷ 100 ∷ 101 ∷ 114 ∷ 58 ∷ 58 ∷ 80 ∷ 97 ∷ 114 ∷ 115 ∷ 101 ∷ 100 ∷ []) (Syntax.ttcons (Syntax.tcons y10 Syntax.tnil) (Syntax.ttcons (Syntax.tcons y0 Syntax.tnil)
+    Syntax.ttnil))
 
 abbrev pub y12 : Syntax.Ty
-y12 = Syntax.tyEnum (115 ∷ 116 ∷ 114 ∷ 101 ∷ 97 ∷ 109 ∷ 58 ∷ 58 ∷ 80 ∷ 97 ∷ 114 ∷ 115 ∷ 101 ∷ 100 ∷ []) (Syntax.ttcons (Syntax.tcons y10 Syntax.tnil) (Syntax.ttcons (Syntax.tcons y0 Syntax.tnil)
-    Syntax.ttnil))
+y12 = Syntax.tyEnum (115 ∷ 116 ∷ 114 ∷ 101 ∷ 97 ∷ 109 ∷ 58 ∷ 58 ∷ 66 ∷ 108 ∷ 111 ∷ 99 ∷ 107 ∷ 76 ∷ 101 ∷ 110 ∷ 103 ∷ 116 ∷ 104 ∷ []) (Syntax.ttcons (Syntax.tcons u64 Syntax.tnil) (Syntax.ttcons
+    (Syntax.tcons y0 Syntax.tnil) Syntax.ttnil))
 
 abbrev pub y13 : Syntax.Ty
 y13 = Syntax.tyStruct (38 ∷ 91 ∷ 93 ∷ []) (Syntax.tcons y6 (Syntax.tcons u64 Syntax.tnil))
@@ -110,10 +110,10 @@ abbrev pub ps : List.List (Kinds.PK 5)
 ps = (ShrSlice.pShrS n8 0 tt) ∷ (ShrSlice.pShrS n16 1 tt) ∷ (MutSlice.pMutS n8 2 tt) ∷ (MutSlice.pMutS n16 3 tt) ∷ (MutSlice.pMutS (Element.type) 4 tt) ∷ []
 
 abbrev pub r : Kinds.RK 5
-r = Values.enum-result BlockLength.the-type Laws.the-laws Laws.the-copy Laws.the-plain tt
+r = Values.enum-result BlockLength.the-type Laws'.the-laws Laws'.the-copy Laws'.the-plain tt
 
 abbrev pub xs : List.List Syntax.Ty
-xs = y12 ∷ u64 ∷ u64 ∷ u64 ∷ Syntax.tyPtr ∷ y6 ∷ y13 ∷ y9 ∷ y14 ∷ y8 ∷ (Syntax.tyStruct (38 ∷ 91 ∷ 93 ∷ []) (Syntax.tcons y8 (Syntax.tcons u64 Syntax.tnil))) ∷ y7 ∷ (Syntax.tyStruct (38 ∷ 91 ∷ 93 ∷
+xs = y11 ∷ u64 ∷ u64 ∷ u64 ∷ Syntax.tyPtr ∷ y6 ∷ y13 ∷ y9 ∷ y14 ∷ y8 ∷ (Syntax.tyStruct (38 ∷ 91 ∷ 93 ∷ []) (Syntax.tcons y8 (Syntax.tcons u64 Syntax.tnil))) ∷ y7 ∷ (Syntax.tyStruct (38 ∷ 91 ∷ 93 ∷
     []) (Syntax.tcons y7 (Syntax.tcons u64 Syntax.tnil))) ∷ []
 
 abbrev pub m : Nat.ℕ
@@ -123,14 +123,14 @@ abbrev pub ps·0 : List.List (Kinds.PK 1)
 ps·0 = (ShrSlice.pShrS n8 0 tt) ∷ (Num.pNum Syntax.w64) ∷ (Num.pNum Syntax.w64) ∷ (Num.pNum Syntax.w64) ∷ []
 
 abbrev pub r·0 : Kinds.RK 1
-r·0 = Values.enum-result Parsed.the-type Laws'.the-laws Laws'.the-copy Laws'.the-plain tt
+r·0 = Values.enum-result Parsed.the-type Laws.the-laws Laws.the-copy Laws.the-plain tt
 
 abbrev pub ps·1 : List.List (Kinds.PK 5)
-ps·1 = (Values.enum Parsed.the-type Laws'.the-laws Laws'.the-copy Laws'.the-plain tt) ∷ (ShrSlice.pShrS n8 0 tt) ∷ (ShrSlice.pShrS n16 1 tt) ∷ (MutSlice.pMutS n8 2 tt) ∷ Bool.pBool ∷ (MutSlice.pMutS
-    n16 3 tt) ∷ (MutSlice.pMutS (Element.type) 4 tt) ∷ []
+ps·1 = (Values.enum Parsed.the-type Laws.the-laws Laws.the-copy Laws.the-plain tt) ∷ (ShrSlice.pShrS n8 0 tt) ∷ (ShrSlice.pShrS n16 1 tt) ∷ (MutSlice.pMutS n8 2 tt) ∷ Bool.pBool ∷ (MutSlice.pMutS n16
+    3 tt) ∷ (MutSlice.pMutS (Element.type) 4 tt) ∷ []
 
 abbrev pub r·1 : Kinds.RK 5
-r·1 = Values.enum-result BlockLength.the-type Laws.the-laws Laws.the-copy Laws.the-plain tt
+r·1 = Values.enum-result BlockLength.the-type Laws'.the-laws Laws'.the-copy Laws'.the-plain tt
 
 abbrev pub hs : List.List Syntax.Home
 hs = Syntax.valueLocal ∷ Syntax.valueLocal ∷ Syntax.valueLocal ∷ Syntax.valueLocal ∷ Syntax.valueLocal ∷ Syntax.valueLocal ∷ Syntax.valueLocal ∷ Syntax.valueLocal ∷ Syntax.valueLocal ∷
@@ -147,7 +147,7 @@ abbrev b2 : Syntax.Body
 b2 = Syntax.assign (Syntax.place 9 []) (Syntax.rvOpd (Syntax.copy (Syntax.place 5 ((Syntax.field 1) ∷ []))))
 
 abbrev b3 : Syntax.Body
-b3 = Syntax.call "begin::writing_begins" ((Syntax.copy (Syntax.place 1 [])) ∷ (Syntax.copy (Syntax.place 7 [])) ∷ (Syntax.copy (Syntax.place 8 [])) ∷ (Syntax.copy (Syntax.place 9 [])) ∷ [])
+b3 = Syntax.call "begin_writing::writing_begins" ((Syntax.copy (Syntax.place 1 [])) ∷ (Syntax.copy (Syntax.place 7 [])) ∷ (Syntax.copy (Syntax.place 8 [])) ∷ (Syntax.copy (Syntax.place 9 [])) ∷ [])
     (Syntax.place 6 [])
 
 abbrev b4 : Syntax.Body
@@ -236,7 +236,7 @@ abbrev pub v6 : Row.Row
 v6 = Rows.any-gone Syntax.tyPtr
 
 abbrev pub v7 : Row.Row
-v7 = Rows.any-gone y11
+v7 = Rows.any-gone y12
 
 abbrev pub v8 : Row.Row
 v8 = Rows.whole (Declared.row Parsed.the-type)
@@ -263,7 +263,7 @@ abbrev pub v15 : Row.Row
 v15 = Rows.sslice n8 y6 0
 
 abbrev pub v16 : Row.Row
-v16 = Rows.any-gone y12
+v16 = Rows.any-gone y11
 
 abbrev pub v17 : Row.Row
 v17 = Rows.whole (Declared.row BlockLength.the-type)
@@ -492,7 +492,7 @@ module _ (claims· : Claims) where
   s6 = Scalar.n-use T7 (Scalar.oFld 5 ((Syntax.field 1) ∷ []) u64 8 Shared.lenV) 9 (Rows.sc-here (Row.sInt Syntax.w64)) (Row.sInt Syntax.w64 .of)
 
   abbrev s7 : Typed.Both T8 T9
-  s7 = Call.callB ps·0 r·0 (claims· .0) (claims· .1) T8 (record { pos = 1; ty = y1; ref = λ x. x }, (Num.vAt 7 λ x. x, (Num.vAt 8 λ x. x, (Num.vAt 9 λ x. x, tt)))) 6 (0 ∷ []) y12
+  s7 = Call.callB ps·0 r·0 (claims· .0) (claims· .1) T8 (record { pos = 1; ty = y1; ref = λ x. x }, (Num.vAt 7 λ x. x, (Num.vAt 8 λ x. x, (Num.vAt 9 λ x. x, tt)))) 6 (0 ∷ []) y11
 
   abbrev s8 : Typed.Mo T9 → Typed.Mo T10
   s8 = Scalar.n-room T9 7 u64
@@ -552,13 +552,13 @@ module _ (claims· : Claims) where
   )
 
   abbrev s26 : Typed.Both T27 T28
-  s26 = Call.callB ps·1 r·1 (claims· .2) (claims· .3) T27 a0 0 (0 ∷ 1 ∷ 5 ∷ 6 ∷ 7 ∷ []) y11
+  s26 = Call.callB ps·1 r·1 (claims· .2) (claims· .3) T27 a0 0 (0 ∷ 1 ∷ 5 ∷ 6 ∷ 7 ∷ []) y12
 
   abbrev s27 : Typed.Mo T28 → Typed.Mo T29
   s27 = Scalar.n-room T28 12 y13
 
   abbrev s28 : Typed.Mo T29 → Typed.Mo T30
-  s28 = Scalar.n-room T29 6 y12
+  s28 = Scalar.n-room T29 6 y11
 
   abbrev s30 : Typed.Both T30 T32
   s30 = Relend.k-back-sl n8 T30 14 3 2 5 y3 y9 Row.off (λ x. x) λ x. x
@@ -579,8 +579,8 @@ module _ (claims· : Claims) where
     module _ (M : Type 1) where
       abbrev pub Closed : Type 2
       Closed = (𝓤 : URA.URA M) (H : Wp.Heap 𝓤) (A : Atoms.Atoms 𝓤) (W : Kit.Given 𝓤 H A) (𝓣 : Wp.Tables 𝓤 H) (known0 : Plain.Known 𝓤 H A W 𝓣 1 ps·0 r·0 (claims· .0) (claims· .1)
-          "begin::writing_begins") (known1 : Plain.Known 𝓤 H A W 𝓣 5 ps·1 r·1 (claims· .2) (claims· .3) "block_writer::write_in") → Statement.Triple 𝓤 (Wp.WpFn 𝓤 H (𝓣 .C) (𝓣 .Λ) (Function.fnOf 5 ps r xs m
-          hs body)) (Function.plainOf 𝓤 H A 5 ps r Pre· Post·)
+          "begin_writing::writing_begins") (known1 : Plain.Known 𝓤 H A W 𝓣 5 ps·1 r·1 (claims· .2) (claims· .3) "block_writer::write_in") → Statement.Triple 𝓤 (Wp.WpFn 𝓤 H (𝓣 .C) (𝓣 .Λ) (Function.fnOf 5
+          ps r xs m hs body)) (Function.plainOf 𝓤 H A 5 ps r Pre· Post·)
 
     module _ where
       abbrev at0 : Typed.TF T1 O0
@@ -684,7 +684,7 @@ module _ (claims· : Claims) where
 
       module _ {M : Type 1} (𝓤 : URA.URA M) (H : Wp.Heap 𝓤) (A : Atoms.Atoms 𝓤) (W : Kit.Given 𝓤 H A) (𝓣 : Wp.Tables 𝓤 H) where
         abbrev Knowns : Type 1
-        Knowns = Plain.Known 𝓤 H A W 𝓣 1 ps·0 r·0 (claims· .0) (claims· .1) "begin::writing_begins" × Plain.Known 𝓤 H A W 𝓣 5 ps·1 r·1 (claims· .2) (claims· .3) "block_writer::write_in"
+        Knowns = Plain.Known 𝓤 H A W 𝓣 1 ps·0 r·0 (claims· .0) (claims· .1) "begin_writing::writing_begins" × Plain.Known 𝓤 H A W 𝓣 5 ps·1 r·1 (claims· .2) (claims· .3) "block_writer::write_in"
 
       module _ (κs : Lifetimes.Lfts 5) (qs : Lifetimes.Shares 5) where
         abbrev k0 : Row.Life
@@ -871,7 +871,7 @@ module _ (claims· : Claims) where
           d11 = Typed.g-pre 𝓤 H A W 𝓣 E G30 G31 b15 Δ0 (λ Ψ. Ψ) at10 (Lifetime.g-end 𝓤 H A W E G30 5 Path'.refl) d10
 
           d12 : Typed.Typed 𝓤 H A 𝓣 E G29 b15 Δ0 at12
-          d12 = Typed.g-pre 𝓤 H A W 𝓣 E G29 G30 b15 Δ0 (Typed.pass T29 T30 s28) at10 (Scalar.g-room 𝓤 H A W E G29 6 y12 (Local.room-whole 𝓤 H A W (Declared.row Parsed.the-type) y12 Path'.refl)) d11
+          d12 = Typed.g-pre 𝓤 H A W 𝓣 E G29 G30 b15 Δ0 (Typed.pass T29 T30 s28) at10 (Scalar.g-room 𝓤 H A W E G29 6 y11 (Local.room-whole 𝓤 H A W (Declared.row Parsed.the-type) y11 Path'.refl)) d11
 
           d13 : Typed.Typed 𝓤 H A 𝓣 E G28 b15 Δ0 at13
           d13 = Typed.g-pre 𝓤 H A W 𝓣 E G28 G29 b15 Δ0 (Typed.pass T28 T29 s27) at12 (Scalar.g-room 𝓤 H A W E G28 12 y13 (Shared.room-sslice 𝓤 H A W n8 y6 0)) d12
@@ -889,7 +889,7 @@ module _ (claims· : Claims) where
                 ),
               ) 0 (0 ∷ 1 ∷ 5 ∷ 6 ∷
               7 ∷ []) (Call.sub-id 𝓤 H A W (G27 .slots)) (
-                (Values.enum-copied 𝓤 H A W Parsed.the-type Laws'.the-laws Laws'.the-copy, Path'.refl),
+                (Values.enum-copied 𝓤 H A W Parsed.the-type Laws.the-laws Laws.the-copy, Path'.refl),
                 (
                   ShrSlice.spares-sslice 𝓤 H A W n8 y6 0,
                   Shared.reads-sslice 𝓤 H A W n8 y6 0,
@@ -914,7 +914,7 @@ module _ (claims· : Claims) where
                     ),
                   ),
                 ),
-              ) (Reads.room-gone 𝓤 H A y11) (tt, (tt, (tt, (tt, (tt, tt)))))
+              ) (Reads.room-gone 𝓤 H A y12) (tt, (tt, (tt, (tt, (tt, tt)))))
               Path'.refl) d13
 
           d15 : Typed.Typed 𝓤 H A 𝓣 E G26 (Syntax.seq b13 (Syntax.seq b14 b15)) Δ0 at15
@@ -993,8 +993,9 @@ module _ (claims· : Claims) where
           d32 = Typed.g-pre 𝓤 H A W 𝓣 E (on T9 l5) (on T10 l5) b26 Δ0 (Typed.pass T9 T10 s8) at31 (Scalar.g-room 𝓤 H A W E (on T9 l5) 7 u64 (Scalar.room-sc 𝓤 H A W (Row.sInt Syntax.w64))) d31
 
           d33 : Typed.Typed 𝓤 H A 𝓣 E (on T8 l5) (Syntax.seq b3 b26) Δ0 at33
-          d33 = Typed.s-seq 𝓤 H A W 𝓣 E (on T8 l5) (on T9 l5) b3 b26 Δ0 (Typed.both s7) at32 (Plain.t-call-plain 𝓤 H A W 𝓣 1 ps·0 r·0 (claims· .0) (claims· .1) "begin::writing_begins" (known .0) E (λ
-              pos β. β) (on T8 l5) (record { pos = 1; ty = y1; ref = λ x. x }, (Num.vAt 7 λ x. x, (Num.vAt 8 λ x. x, (Num.vAt 9 λ x. x, tt)))) 6 (0 ∷ []) (Call.sub-id 𝓤 H A W ((on T8 l5) .slots)) (
+          d33 = Typed.s-seq 𝓤 H A W 𝓣 E (on T8 l5) (on T9 l5) b3 b26 Δ0 (Typed.both s7) at32 (Plain.t-call-plain 𝓤 H A W 𝓣 1 ps·0 r·0 (claims· .0) (claims· .1) "begin_writing::writing_begins" (known
+              .0) E (λ pos β. β) (on T8 l5) (record { pos = 1; ty = y1; ref = λ x. x }, (Num.vAt 7 λ x. x, (Num.vAt 8 λ x. x, (Num.vAt 9 λ x. x, tt)))) 6 (0 ∷ []) (Call.sub-id 𝓤 H A W ((on T8 l5)
+              .slots)) (
                 ShrSlice.spares-sslice 𝓤 H A W n8 y1 0,
                 Shared.reads-sslice 𝓤 H A W n8 y1 0,
                 Path'.refl,
@@ -1002,7 +1003,7 @@ module _ (claims· : Claims) where
                   (Scalar.reads-sc 𝓤 H A W (Row.sInt Syntax.w64), Path'.refl),
                   ((Scalar.reads-sc 𝓤 H A W (Row.sInt Syntax.w64), Path'.refl), ((Scalar.reads-sc 𝓤 H A W (Row.sInt Syntax.w64), Path'.refl), tt)),
                 ),
-              ) (Reads.room-gone 𝓤 H A y12) (tt, tt) Path'.refl) d32
+              ) (Reads.room-gone 𝓤 H A y11) (tt, tt) Path'.refl) d32
 
           d34 : Typed.Typed 𝓤 H A 𝓣 E (on T7 l5) (Syntax.seq b2 (Syntax.seq b3 b26)) Δ0 at34
           d34 = Typed.s-seq 𝓤 H A W 𝓣 E (on T7 l5) (on T8 l5) b2 (Syntax.seq b3 b26) Δ0 (Typed.pass T7 T8 s6) at33 (Scalar.t-use 𝓤 H A W E 𝓣 (on T7 l5) (Scalar.oFld 5 ((Syntax.field 1) ∷ []) u64 8
@@ -1373,6 +1374,6 @@ module _ (claims· : Claims) where
           asked = λ a good pre bs. laid record { κs = κs; args = record { header = a .0; samples = a .1 .0; out = a .1 .1 .0; lines = a .1 .1 .1 .0; rs = a .1 .1 .1 .1 .0 }; good = good; pre = pre }
 
         module _ {M : Type 1} (𝓤 : URA.URA M) (H : Wp.Heap 𝓤) (A : Atoms.Atoms 𝓤) (W : Kit.Given 𝓤 H A) (𝓣 : Wp.Tables 𝓤 H) (known0 : Plain.Known 𝓤 H A W 𝓣 1 ps·0 r·0 (claims· .0) (claims· .1)
-            "begin::writing_begins") (known1 : Plain.Known 𝓤 H A W 𝓣 5 ps·1 r·1 (claims· .2) (claims· .3) "block_writer::write_in") where
+            "begin_writing::writing_begins") (known1 : Plain.Known 𝓤 H A W 𝓣 5 ps·1 r·1 (claims· .2) (claims· .3) "block_writer::write_in") where
           pub spec : Statement.Triple 𝓤 (Wp.WpFn 𝓤 H (𝓣 .C) (𝓣 .Λ) (Function.fnOf 5 ps r xs m hs body)) (Function.plainOf 𝓤 H A 5 ps r Pre· Post·)
           spec = Plain.t-fn-plain 𝓤 H A W 𝓣 5 ps r xs m hs body (λ κs qs bs. Φ) (λ κs qs bs bd. typed κs qs 𝓤 H A W 𝓣 (known0, known1) bs bd) Pre· Post· asked

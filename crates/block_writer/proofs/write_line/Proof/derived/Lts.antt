@@ -11,8 +11,8 @@ use Rattle.block.proofs.Form
 use Rattle.block.proofs.Form.Laws as Laws'
 use Rattle.output.proofs.Put
 use Rattle.output.proofs.Put.Laws as Laws''
-use Rattle.steps.proofs.Plan
-use Rattle.steps.proofs.Plan.Laws as Laws'3
+use Rattle.schedule.proofs.Plan
+use Rattle.schedule.proofs.Plan.Laws as Laws'3
 use Rattle.steps.proofs.Quantisers
 use Rattle.steps.proofs.Quantisers.Laws as Laws'4
 use Rattle.steps.proofs.Set
@@ -109,7 +109,8 @@ abbrev pub y8 : Syntax.Ty
 y8 = Syntax.tyRef Syntax.erased Syntax.mut u8
 
 abbrev pub y9 : Syntax.Ty
-y9 = Syntax.tyStruct (115 ∷ 116 ∷ 101 ∷ 112 ∷ 115 ∷ 58 ∷ 58 ∷ 80 ∷ 108 ∷ 97 ∷ 110 ∷ []) (Syntax.tcons u64 (Syntax.tcons u64 (Syntax.tcons u64 (Syntax.tcons u32 (Syntax.tcons u32 Syntax.tnil)))))
+y9 = Syntax.tyStruct (115 ∷ 99 ∷ 104 ∷ 101 ∷ 100 ∷ 117 ∷ 108 ∷ 101 ∷ 58 ∷ 58 ∷ 80 ∷ 108 ∷ 97 ∷ 110 ∷ []) (Syntax.tcons u64 (Syntax.tcons u64 (Syntax.tcons u64 (Syntax.tcons u32 (Syntax.tcons u32
+    Syntax.tnil)))))
 
 abbrev pub y10 : Syntax.Ty
 y10 = Syntax.tyStruct (98 ∷ 105 ∷ 116 ∷ 115 ∷ 58 ∷ 58 ∷ 66 ∷ 105 ∷ 116 ∷ 80 ∷ 111 ∷ 115 ∷ 105 ∷ 116 ∷ 105 ∷ 111 ∷ 110 ∷ []) (Syntax.tcons u64 Syntax.tnil)
@@ -223,7 +224,7 @@ abbrev b8 : Syntax.Body
 b8 = Syntax.cond (Syntax.copy (Syntax.place 21 [])) Syntax.skip b7
 
 abbrev b9 : Syntax.Body
-b9 = Syntax.call "steps::plan_at" ((Syntax.copy (Syntax.place 15 [])) ∷ (Syntax.copy (Syntax.place 12 [])) ∷ []) (Syntax.place 16 [])
+b9 = Syntax.call "schedule::plan_at" ((Syntax.copy (Syntax.place 15 [])) ∷ (Syntax.copy (Syntax.place 12 [])) ∷ []) (Syntax.place 16 [])
 
 abbrev b10 : Syntax.Body
 b10 = Syntax.assign (Syntax.place 23 []) (Syntax.addrOf (Syntax.place 6 ((Syntax.field 0) ∷ (Syntax.deref u16) ∷ [])))
@@ -1204,9 +1205,9 @@ module _ (claims· : Claims) where
     module _ (M : Type 1) where
       abbrev pub Closed : Type 2
       Closed = (𝓤 : URA.URA M) (H : Wp.Heap 𝓤) (A : Atoms.Atoms 𝓤) (W : Kit.Given 𝓤 H A) (𝓣 : Wp.Tables 𝓤 H) (known0 : Plain.Known 𝓤 H A W 𝓣 0 ps·0 r·0 (claims· .0) (claims· .1) "map::width") (known1
-          : Plain.Known 𝓤 H A W 𝓣 0 ps·1 r·1 (claims· .2) (claims· .3) "steps::plan_at") (known2 : Plain.Known 𝓤 H A W 𝓣 1 ps·2 r·2 (claims· .4) (claims· .5) "lines::set_guards") (known3 : Plain.Known 𝓤 H
-          A W 𝓣 1 ps·3 r·3 (claims· .6) (claims· .7) "block::records::load_set") (known4 : Plain.Known 𝓤 H A W 𝓣 3 ps·4 r·4 (claims· .8) (claims· .9) "writing::write_pass") (known5 : Plain.Known 𝓤 H A W 𝓣
-          1 ps·5 r·5 (claims· .10) (claims· .11) "block::records::store_set") → Statement.Triple 𝓤 (Wp.WpFn 𝓤 H (𝓣 .C) (𝓣 .Λ) (Function.fnOf 4 ps r xs m hs body)) (Function.plainOf 𝓤 H A 4 ps r Pre·
+          : Plain.Known 𝓤 H A W 𝓣 0 ps·1 r·1 (claims· .2) (claims· .3) "schedule::plan_at") (known2 : Plain.Known 𝓤 H A W 𝓣 1 ps·2 r·2 (claims· .4) (claims· .5) "lines::set_guards") (known3 : Plain.Known
+          𝓤 H A W 𝓣 1 ps·3 r·3 (claims· .6) (claims· .7) "block::records::load_set") (known4 : Plain.Known 𝓤 H A W 𝓣 3 ps·4 r·4 (claims· .8) (claims· .9) "writing::write_pass") (known5 : Plain.Known 𝓤 H A
+          W 𝓣 1 ps·5 r·5 (claims· .10) (claims· .11) "block::records::store_set") → Statement.Triple 𝓤 (Wp.WpFn 𝓤 H (𝓣 .C) (𝓣 .Λ) (Function.fnOf 4 ps r xs m hs body)) (Function.plainOf 𝓤 H A 4 ps r Pre·
           Post·)
 
     module _ (Inv·0 : InvT-loop) (μ·0 : MeasureT-loop) where
@@ -1489,7 +1490,7 @@ module _ (claims· : Claims) where
 
       module _ {M : Type 1} (𝓤 : URA.URA M) (H : Wp.Heap 𝓤) (A : Atoms.Atoms 𝓤) (W : Kit.Given 𝓤 H A) (𝓣 : Wp.Tables 𝓤 H) where
         abbrev Knowns : Type 1
-        Knowns = Plain.Known 𝓤 H A W 𝓣 0 ps·0 r·0 (claims· .0) (claims· .1) "map::width" × Plain.Known 𝓤 H A W 𝓣 0 ps·1 r·1 (claims· .2) (claims· .3) "steps::plan_at" × Plain.Known 𝓤 H A W 𝓣 1 ps·2
+        Knowns = Plain.Known 𝓤 H A W 𝓣 0 ps·0 r·0 (claims· .0) (claims· .1) "map::width" × Plain.Known 𝓤 H A W 𝓣 0 ps·1 r·1 (claims· .2) (claims· .3) "schedule::plan_at" × Plain.Known 𝓤 H A W 𝓣 1 ps·2
             r·2 (claims· .4) (claims· .5) "lines::set_guards" × Plain.Known 𝓤 H A W 𝓣 1 ps·3 r·3 (claims· .6) (claims· .7) "block::records::load_set" × Plain.Known 𝓤 H A W 𝓣 3 ps·4 r·4 (claims· .8)
             (claims· .9) "writing::write_pass" × Plain.Known 𝓤 H A W 𝓣 1 ps·5 r·5 (claims· .10) (claims· .11) "block::records::store_set"
 
@@ -2178,8 +2179,8 @@ module _ (claims· : Claims) where
               d80
 
           d82 : Typed.Typed 𝓤 H A 𝓣 E (on T11 l10) (Syntax.seq b9 b58) Δ3 (at82 bs)
-          d82 = Typed.s-seq 𝓤 H A W 𝓣 E (on T11 l10) (on T18 l10) b9 b58 Δ3 (Typed.both (s14 bs)) (at80 bs) (Plain.t-call-plain 𝓤 H A W 𝓣 0 ps·1 r·1 (claims· .2) (claims· .3) "steps::plan_at" (known
-              .1) E (λ pos β. β) (on T11 l10) (Num.vAt 15 λ x. x, (Bool.bAt 12 λ x. x, tt)) 16 [] (Call.sub-id 𝓤 H A W ((on T11 l10) .slots))
+          d82 = Typed.s-seq 𝓤 H A W 𝓣 E (on T11 l10) (on T18 l10) b9 b58 Δ3 (Typed.both (s14 bs)) (at80 bs) (Plain.t-call-plain 𝓤 H A W 𝓣 0 ps·1 r·1 (claims· .2) (claims· .3) "schedule::plan_at"
+              (known .1) E (λ pos β. β) (on T11 l10) (Num.vAt 15 λ x. x, (Bool.bAt 12 λ x. x, tt)) 16 [] (Call.sub-id 𝓤 H A W ((on T11 l10) .slots))
               ((Scalar.reads-sc 𝓤 H A W (Row.sInt Syntax.w64), Path'.refl), ((Scalar.reads-sc 𝓤 H A W Row.sBool, Path'.refl), tt)) (Reads'.room-gone 𝓤 H A y9) tt Path'.refl) d81
 
           d83 : Typed.Typed 𝓤 H A 𝓣 E (on T13 l10) (Syntax.seq b8 (Syntax.seq b9 b58)) Δ3 (at83 bs)
@@ -3570,8 +3571,8 @@ module _ (claims· : Claims) where
           }
 
         module _ {M : Type 1} (𝓤 : URA.URA M) (H : Wp.Heap 𝓤) (A : Atoms.Atoms 𝓤) (W : Kit.Given 𝓤 H A) (𝓣 : Wp.Tables 𝓤 H) (known0 : Plain.Known 𝓤 H A W 𝓣 0 ps·0 r·0 (claims· .0) (claims· .1)
-            "map::width") (known1 : Plain.Known 𝓤 H A W 𝓣 0 ps·1 r·1 (claims· .2) (claims· .3) "steps::plan_at") (known2 : Plain.Known 𝓤 H A W 𝓣 1 ps·2 r·2 (claims· .4) (claims· .5) "lines::set_guards")
-            (known3 : Plain.Known 𝓤 H A W 𝓣 1 ps·3 r·3 (claims· .6) (claims· .7) "block::records::load_set") (known4 : Plain.Known 𝓤 H A W 𝓣 3 ps·4 r·4 (claims· .8) (claims· .9) "writing::write_pass")
-            (known5 : Plain.Known 𝓤 H A W 𝓣 1 ps·5 r·5 (claims· .10) (claims· .11) "block::records::store_set") where
+            "map::width") (known1 : Plain.Known 𝓤 H A W 𝓣 0 ps·1 r·1 (claims· .2) (claims· .3) "schedule::plan_at") (known2 : Plain.Known 𝓤 H A W 𝓣 1 ps·2 r·2 (claims· .4) (claims· .5)
+            "lines::set_guards") (known3 : Plain.Known 𝓤 H A W 𝓣 1 ps·3 r·3 (claims· .6) (claims· .7) "block::records::load_set") (known4 : Plain.Known 𝓤 H A W 𝓣 3 ps·4 r·4 (claims· .8) (claims· .9)
+            "writing::write_pass") (known5 : Plain.Known 𝓤 H A W 𝓣 1 ps·5 r·5 (claims· .10) (claims· .11) "block::records::store_set") where
           pub spec : Statement.Triple 𝓤 (Wp.WpFn 𝓤 H (𝓣 .C) (𝓣 .Λ) (Function.fnOf 4 ps r xs m hs body)) (Function.plainOf 𝓤 H A 4 ps r Pre· Post·)
           spec = Plain.t-fn-plain 𝓤 H A W 𝓣 4 ps r xs m hs body (λ κs qs bs. Φ bs) (λ κs qs bs bd. typed κs qs 𝓤 H A W 𝓣 (known0, known1, known2, known3, known4, known5) bs bd) Pre· Post· asked

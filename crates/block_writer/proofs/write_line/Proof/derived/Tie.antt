@@ -17,9 +17,9 @@ use Rattle.lines.proofs.set_guards.Symbol as Symbol''
 use Rattle.map.proofs.width.Met as Met'3
 use Rattle.map.proofs.width.Reads as Reads'4
 use Rattle.map.proofs.width.Symbol as Symbol'3
-use Rattle.steps.proofs.plan_at.Met as Met'4
-use Rattle.steps.proofs.plan_at.Reads as Reads'5
-use Rattle.steps.proofs.plan_at.Symbol as Symbol'4
+use Rattle.schedule.proofs.plan_at.Met as Met'4
+use Rattle.schedule.proofs.plan_at.Reads as Reads'5
+use Rattle.schedule.proofs.plan_at.Symbol as Symbol'4
 use Rattle.writing.proofs.write_pass.Met as Met'5
 use Rattle.writing.proofs.write_pass.Reads as Reads'6
 use Rattle.writing.proofs.write_pass.Symbol as Symbol'5
@@ -211,7 +211,7 @@ module _ {M : Type 1} where
       { M = M; 𝓤 = 𝓤; H = H; 𝓜 = 𝓜; 𝓖 = 𝓖; 𝓡 = 𝓡 } Code.env Key.name Code.function (Code.unfolded 𝓤 H 𝓜 𝓡) (λ κs a g. tt) (λ κs. Reads''.owns κs record { M = M; 𝓤 = 𝓤; H = H; 𝓜 = 𝓜; 𝓖 = 𝓖; 𝓡 = 𝓡 })
       (Reads''.passes record { M = M; 𝓤 = 𝓤; H = H; 𝓜 = 𝓜; 𝓖 = 𝓖; 𝓡 = 𝓡 }) λ g. closed 𝓤 H (𝓖 .A) (Running.givenOf 𝓤 H 𝓜 𝓖) (Run.Over 𝓤 H 𝓜 𝓖 𝓡 Code.env) (Reads'4.known record
       { M = M; 𝓤 = 𝓤; H = H; 𝓜 = 𝓜; 𝓖 = 𝓖; 𝓡 = 𝓡 } Code.env Symbol'3.name Symbol'3.routine Code.calls-map·width (Met'3.met 𝓤 H 𝓜 𝓖 𝓡)) (Reads'5.known record { M = M; 𝓤 = 𝓤; H = H; 𝓜 = 𝓜; 𝓖 = 𝓖; 𝓡 = 𝓡 }
-      Code.env Symbol'4.name Symbol'4.routine Code.calls-steps·plan-at (Met'4.met 𝓤 H 𝓜 𝓖 𝓡)) (Reads'3.known record { M = M; 𝓤 = 𝓤; H = H; 𝓜 = 𝓜; 𝓖 = 𝓖; 𝓡 = 𝓡 } Code.env Symbol''.name Symbol''.routine
+      Code.env Symbol'4.name Symbol'4.routine Code.calls-schedule·plan-at (Met'4.met 𝓤 H 𝓜 𝓖 𝓡)) (Reads'3.known record { M = M; 𝓤 = 𝓤; H = H; 𝓜 = 𝓜; 𝓖 = 𝓖; 𝓡 = 𝓡 } Code.env Symbol''.name Symbol''.routine
       Code.calls-lines·set-guards (Met''.met 𝓤 H 𝓜 𝓖 𝓡)) (Reads.known record { M = M; 𝓤 = 𝓤; H = H; 𝓜 = 𝓜; 𝓖 = 𝓖; 𝓡 = 𝓡 } Code.env Symbol.name Symbol.routine Code.calls-block·records·load-set (Met.met 𝓤 H
       𝓜 𝓖 𝓡)) (Reads'6.known record { M = M; 𝓤 = 𝓤; H = H; 𝓜 = 𝓜; 𝓖 = 𝓖; 𝓡 = 𝓡 } Code.env Symbol'5.name Symbol'5.routine Code.calls-writing·write-pass (Met'5.met 𝓤 H 𝓜 𝓖 𝓡)) (Reads'.known record
       { M = M; 𝓤 = 𝓤; H = H; 𝓜 = 𝓜; 𝓖 = 𝓖; 𝓡 = 𝓡 } Code.env Symbol'.name Symbol'.routine Code.calls-block·records·store-set (Met'.met 𝓤 H 𝓜 𝓖 𝓡))

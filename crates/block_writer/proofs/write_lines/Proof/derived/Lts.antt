@@ -230,7 +230,7 @@ abbrev b7 : Syntax.Body
 b7 = Syntax.assign (Syntax.place 21 []) (Syntax.aggregate ((Syntax.copy (Syntax.place 20 [])) ∷ (Syntax.copy (Syntax.place 5 ((Syntax.field 1) ∷ []))) ∷ []))
 
 abbrev b8 : Syntax.Body
-b8 = Syntax.call "cameras::base_of" ((Syntax.copy (Syntax.place 7 [])) ∷ (Syntax.int Syntax.w64 0) ∷ []) (Syntax.place 22 [])
+b8 = Syntax.call "taking::base_of" ((Syntax.copy (Syntax.place 7 [])) ∷ (Syntax.int Syntax.w64 0) ∷ []) (Syntax.place 22 [])
 
 abbrev b9 : Syntax.Body
 b9 = Syntax.call "block::records::start_records" ((Syntax.copy (Syntax.place 21 [])) ∷ (Syntax.copy (Syntax.place 9 [])) ∷ (Syntax.copy (Syntax.place 22 [])) ∷ []) (Syntax.place 17 [])
@@ -260,7 +260,7 @@ abbrev b18 : Syntax.Body
 b18 = Syntax.call "lines::turn" ((Syntax.copy (Syntax.place 26 [])) ∷ (Syntax.copy (Syntax.place 10 [])) ∷ []) (Syntax.place 24 [])
 
 abbrev b19 : Syntax.Body
-b19 = Syntax.call "cameras::base_of" ((Syntax.copy (Syntax.place 7 [])) ∷ (Syntax.copy (Syntax.place 13 [])) ∷ []) (Syntax.place 14 [])
+b19 = Syntax.call "taking::base_of" ((Syntax.copy (Syntax.place 7 [])) ∷ (Syntax.copy (Syntax.place 13 [])) ∷ []) (Syntax.place 14 [])
 
 abbrev b20 : Syntax.Body
 b20 = Syntax.assign (Syntax.place 27 []) (Syntax.addrOf (Syntax.place 5 ((Syntax.field 0) ∷ (Syntax.deref (Element.held)) ∷ [])))
@@ -1231,7 +1231,7 @@ module _ (claims· : Claims) where
       abbrev pub Closed : Type 2
       Closed = (𝓤 : URA.URA M) (H : Wp.Heap 𝓤) (A : Atoms.Atoms 𝓤) (W : Kit.Given 𝓤 H A) (𝓣 : Wp.Tables 𝓤 H) (known0 : Plain.Known 𝓤 H A W 𝓣 0 ps·0 r·0 (claims· .0) (claims· .1) "map::width") (known1
           : Plain.Known 𝓤 H A W 𝓣 1 ps·1 r·1 (claims· .2) (claims· .3) "block_writer::is_strict") (known2 : Plain.Known 𝓤 H A W 𝓣 1 ps·2 r·2 (claims· .4) (claims· .5) "lines::clear") (known3 : Plain.Known
-          𝓤 H A W 𝓣 1 ps·3 r·3 (claims· .6) (claims· .7) "cameras::base_of") (known4 : Plain.Known 𝓤 H A W 𝓣 1 ps·4 r·4 (claims· .8) (claims· .9) "block::records::start_records") (known5 : Plain.Known 𝓤 H
+          𝓤 H A W 𝓣 1 ps·3 r·3 (claims· .6) (claims· .7) "taking::base_of") (known4 : Plain.Known 𝓤 H A W 𝓣 1 ps·4 r·4 (claims· .8) (claims· .9) "block::records::start_records") (known5 : Plain.Known 𝓤 H
           A W 𝓣 1 ps·5 r·5 (claims· .10) (claims· .11) "lines::turn") (known6 : Plain.Known 𝓤 H A W 𝓣 1 ps·6 r·6 (claims· .12) (claims· .13) "block::reading::is_restarted") (known7 : Plain.Known 𝓤 H A W 𝓣
           1 ps·7 r·7 (claims· .14) (claims· .15) "block::records::restart") (known8 : Plain.Known 𝓤 H A W 𝓣 0 ps·8 r·8 (claims· .16) (claims· .17) "block::reading::quantisers_of") (known9 : Plain.Known 𝓤
           H A W 𝓣 4 ps·9 r·9 (claims· .18) (claims· .19) "block_writer::write_line") → Statement.Triple 𝓤 (Wp.WpFn 𝓤 H (𝓣 .C) (𝓣 .Λ) (Function.fnOf 5 ps r xs m hs body)) (Function.plainOf 𝓤 H A 5 ps r
@@ -1524,7 +1524,7 @@ module _ (claims· : Claims) where
       module _ {M : Type 1} (𝓤 : URA.URA M) (H : Wp.Heap 𝓤) (A : Atoms.Atoms 𝓤) (W : Kit.Given 𝓤 H A) (𝓣 : Wp.Tables 𝓤 H) where
         abbrev Knowns : Type 1
         Knowns = Plain.Known 𝓤 H A W 𝓣 0 ps·0 r·0 (claims· .0) (claims· .1) "map::width" × Plain.Known 𝓤 H A W 𝓣 1 ps·1 r·1 (claims· .2) (claims· .3) "block_writer::is_strict" × Plain.Known 𝓤 H A W 𝓣
-            1 ps·2 r·2 (claims· .4) (claims· .5) "lines::clear" × Plain.Known 𝓤 H A W 𝓣 1 ps·3 r·3 (claims· .6) (claims· .7) "cameras::base_of" × Plain.Known 𝓤 H A W 𝓣 1 ps·4 r·4 (claims· .8) (claims· .9)
+            1 ps·2 r·2 (claims· .4) (claims· .5) "lines::clear" × Plain.Known 𝓤 H A W 𝓣 1 ps·3 r·3 (claims· .6) (claims· .7) "taking::base_of" × Plain.Known 𝓤 H A W 𝓣 1 ps·4 r·4 (claims· .8) (claims· .9)
             "block::records::start_records" × Plain.Known 𝓤 H A W 𝓣 1 ps·5 r·5 (claims· .10) (claims· .11) "lines::turn" × Plain.Known 𝓤 H A W 𝓣 1 ps·6 r·6 (claims· .12) (claims· .13)
             "block::reading::is_restarted" × Plain.Known 𝓤 H A W 𝓣 1 ps·7 r·7 (claims· .14) (claims· .15) "block::records::restart" × Plain.Known 𝓤 H A W 𝓣 0 ps·8 r·8 (claims· .16) (claims· .17)
             "block::reading::quantisers_of" × Plain.Known 𝓤 H A W 𝓣 4 ps·9 r·9 (claims· .18) (claims· .19) "block_writer::write_line"
@@ -2109,8 +2109,8 @@ module _ (claims· : Claims) where
               d58
 
           d60 : Typed.Typed 𝓤 H A 𝓣 E (on T31 l11) b53 Δ3 at60
-          d60 = Typed.s-seq 𝓤 H A W 𝓣 E (on T31 l11) (on T46 l11) b19 (Syntax.seq b20 b51) Δ3 (Typed.both s42) at58 (Plain.t-call-plain 𝓤 H A W 𝓣 1 ps·3 r·3 (claims· .6) (claims· .7)
-              "cameras::base_of" (known .3) E (λ pos β. β) (on T31 l11) (record { pos = 7; ty = y5; ref = λ x. x }, (Num.vAt 13 λ x. x, tt)) 14 (4 ∷ []) (Call.sub-id 𝓤 H A W ((on T31 l11) .slots))
+          d60 = Typed.s-seq 𝓤 H A W 𝓣 E (on T31 l11) (on T46 l11) b19 (Syntax.seq b20 b51) Δ3 (Typed.both s42) at58 (Plain.t-call-plain 𝓤 H A W 𝓣 1 ps·3 r·3 (claims· .6) (claims· .7) "taking::base_of"
+              (known .3) E (λ pos β. β) (on T31 l11) (record { pos = 7; ty = y5; ref = λ x. x }, (Num.vAt 13 λ x. x, tt)) 14 (4 ∷ []) (Call.sub-id 𝓤 H A W ((on T31 l11) .slots))
               (ShrSlice.spares-sslice 𝓤 H A W n8 y5 4, Shared.reads-sslice 𝓤 H A W n8 y5 4, Path'.refl, ((Scalar.reads-sc 𝓤 H A W (Row.sInt Syntax.w64), Path'.refl), tt)) (Reads'.room-gone 𝓤 H A u32)
               (tt, tt) Path'.refl) d59
 
@@ -2261,8 +2261,8 @@ module _ (claims· : Claims) where
               d91
 
           d93 : Typed.Typed 𝓤 H A 𝓣 E G20 (Syntax.seq b8 (Syntax.seq b9 b66)) Δ0 at93
-          d93 = Typed.s-seq 𝓤 H A W 𝓣 E G20 G21 b8 (Syntax.seq b9 b66) Δ0 (Typed.both s19) at92 (Plain.t-call-plain 𝓤 H A W 𝓣 1 ps·3 r·3 (claims· .6) (claims· .7) "cameras::base_of" (known .3) E (λ
-              pos β. β) G20 (record { pos = 7; ty = y5; ref = λ x. x }, (Num.vLit 0, tt)) 22 (4 ∷ []) (Call.sub-id 𝓤 H A W (G20 .slots))
+          d93 = Typed.s-seq 𝓤 H A W 𝓣 E G20 G21 b8 (Syntax.seq b9 b66) Δ0 (Typed.both s19) at92 (Plain.t-call-plain 𝓤 H A W 𝓣 1 ps·3 r·3 (claims· .6) (claims· .7) "taking::base_of" (known .3) E (λ pos
+              β. β) G20 (record { pos = 7; ty = y5; ref = λ x. x }, (Num.vLit 0, tt)) 22 (4 ∷ []) (Call.sub-id 𝓤 H A W (G20 .slots))
               (ShrSlice.spares-sslice 𝓤 H A W n8 y5 4, Shared.reads-sslice 𝓤 H A W n8 y5 4, Path'.refl, (tt, tt)) (Reads'.room-gone 𝓤 H A u32) (tt, tt) Path'.refl) d92
 
           d94 : Typed.Typed 𝓤 H A 𝓣 E G19 b69 Δ0 at94
@@ -3548,7 +3548,7 @@ module _ (claims· : Claims) where
 
         module _ {M : Type 1} (𝓤 : URA.URA M) (H : Wp.Heap 𝓤) (A : Atoms.Atoms 𝓤) (W : Kit.Given 𝓤 H A) (𝓣 : Wp.Tables 𝓤 H) (known0 : Plain.Known 𝓤 H A W 𝓣 0 ps·0 r·0 (claims· .0) (claims· .1)
             "map::width") (known1 : Plain.Known 𝓤 H A W 𝓣 1 ps·1 r·1 (claims· .2) (claims· .3) "block_writer::is_strict") (known2 : Plain.Known 𝓤 H A W 𝓣 1 ps·2 r·2 (claims· .4) (claims· .5)
-            "lines::clear") (known3 : Plain.Known 𝓤 H A W 𝓣 1 ps·3 r·3 (claims· .6) (claims· .7) "cameras::base_of") (known4 : Plain.Known 𝓤 H A W 𝓣 1 ps·4 r·4 (claims· .8) (claims· .9)
+            "lines::clear") (known3 : Plain.Known 𝓤 H A W 𝓣 1 ps·3 r·3 (claims· .6) (claims· .7) "taking::base_of") (known4 : Plain.Known 𝓤 H A W 𝓣 1 ps·4 r·4 (claims· .8) (claims· .9)
             "block::records::start_records") (known5 : Plain.Known 𝓤 H A W 𝓣 1 ps·5 r·5 (claims· .10) (claims· .11) "lines::turn") (known6 : Plain.Known 𝓤 H A W 𝓣 1 ps·6 r·6 (claims· .12) (claims· .13)
             "block::reading::is_restarted") (known7 : Plain.Known 𝓤 H A W 𝓣 1 ps·7 r·7 (claims· .14) (claims· .15) "block::records::restart") (known8 : Plain.Known 𝓤 H A W 𝓣 0 ps·8 r·8 (claims· .16)
             (claims· .17) "block::reading::quantisers_of") (known9 : Plain.Known 𝓤 H A W 𝓣 4 ps·9 r·9 (claims· .18) (claims· .19) "block_writer::write_line") where

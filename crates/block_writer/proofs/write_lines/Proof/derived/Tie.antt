@@ -23,36 +23,36 @@ use Rattle.block_writer.proofs.derived.write_lines.Kinds
 use Rattle.block_writer.proofs.write_lines.Proof.derived.Lts
 use Rattle.block_writer.proofs.derived.write_lines.Reads as Reads'6
 use Rattle.block_writer.proofs.write_lines.Statement
-use Rattle.cameras.proofs.base_of.Met as Met'6
-use Rattle.cameras.proofs.base_of.Reads as Reads'7
-use Rattle.cameras.proofs.base_of.Symbol as Symbol'6
-use Rattle.lines.proofs.clear.Met as Met'7
-use Rattle.lines.proofs.clear.Reads as Reads'8
-use Rattle.lines.proofs.clear.Symbol as Symbol'7
-use Rattle.lines.proofs.turn.Met as Met'8
-use Rattle.lines.proofs.turn.Reads as Reads'9
-use Rattle.lines.proofs.turn.Symbol as Symbol'8
-use Rattle.map.proofs.width.Met as Met'9
-use Rattle.map.proofs.width.Reads as Reads'10
-use Rattle.map.proofs.width.Symbol as Symbol'9
+use Rattle.lines.proofs.clear.Met as Met'6
+use Rattle.lines.proofs.clear.Reads as Reads'7
+use Rattle.lines.proofs.clear.Symbol as Symbol'6
+use Rattle.lines.proofs.turn.Met as Met'7
+use Rattle.lines.proofs.turn.Reads as Reads'8
+use Rattle.lines.proofs.turn.Symbol as Symbol'7
+use Rattle.map.proofs.width.Met as Met'8
+use Rattle.map.proofs.width.Reads as Reads'9
+use Rattle.map.proofs.width.Symbol as Symbol'8
+use Rattle.taking.proofs.base_of.Met as Met'9
+use Rattle.taking.proofs.base_of.Reads as Reads'10
+use Rattle.taking.proofs.base_of.Symbol as Symbol'9
 use borrow.Fn.Run
 use borrow.Fn.Written
 use contract.Running
 
 abbrev claims : Lts.Claims
 claims = (
-  Reads'10.Asked,
-  Reads'10.Learnt,
-  Reads''.Asked,
-  Reads''.Learnt,
-  Reads'8.Asked,
-  Reads'8.Learnt,
-  Reads'7.Asked,
-  Reads'7.Learnt,
-  Reads'4.Asked,
-  Reads'4.Learnt,
   Reads'9.Asked,
   Reads'9.Learnt,
+  Reads''.Asked,
+  Reads''.Learnt,
+  Reads'7.Asked,
+  Reads'7.Learnt,
+  Reads'10.Asked,
+  Reads'10.Learnt,
+  Reads'4.Asked,
+  Reads'4.Learnt,
+  Reads'8.Asked,
+  Reads'8.Learnt,
   Reads.Asked,
   Reads.Learnt,
   Reads'3.Asked,
@@ -285,12 +285,12 @@ module _ {M : Type 1} where
   unfolding Code.routine Running.tablesOf
   close = λ closed 𝓤 H 𝓜 𝓖 𝓡. Written.close 5 Kinds.ps Kinds.r Reads'6.Ghost Reads'6.requires Reads'6.ensures Reads'6.pre-read Reads'6.Pinned Reads'6.Owned Reads'6.post-read record
       { M = M; 𝓤 = 𝓤; H = H; 𝓜 = 𝓜; 𝓖 = 𝓖; 𝓡 = 𝓡 } Code.env Key.name Code.function (Code.unfolded 𝓤 H 𝓜 𝓡) (λ κs a g. tt) (λ κs. Reads'6.owns κs record { M = M; 𝓤 = 𝓤; H = H; 𝓜 = 𝓜; 𝓖 = 𝓖; 𝓡 = 𝓡 })
-      (Reads'6.passes record { M = M; 𝓤 = 𝓤; H = H; 𝓜 = 𝓜; 𝓖 = 𝓖; 𝓡 = 𝓡 }) λ g. closed 𝓤 H (𝓖 .A) (Running.givenOf 𝓤 H 𝓜 𝓖) (Run.Over 𝓤 H 𝓜 𝓖 𝓡 Code.env) (Reads'10.known record
-      { M = M; 𝓤 = 𝓤; H = H; 𝓜 = 𝓜; 𝓖 = 𝓖; 𝓡 = 𝓡 } Code.env Symbol'9.name Symbol'9.routine Code.calls-map·width (Met'9.met 𝓤 H 𝓜 𝓖 𝓡)) (Reads''.known record { M = M; 𝓤 = 𝓤; H = H; 𝓜 = 𝓜; 𝓖 = 𝓖; 𝓡 = 𝓡 }
-      Code.env Symbol''.name Symbol''.routine Code.calls-block-writer·is-strict (Met''.met 𝓤 H 𝓜 𝓖 𝓡)) (Reads'8.known record { M = M; 𝓤 = 𝓤; H = H; 𝓜 = 𝓜; 𝓖 = 𝓖; 𝓡 = 𝓡 } Code.env Symbol'7.name
-      Symbol'7.routine Code.calls-lines·clear (Met'7.met 𝓤 H 𝓜 𝓖 𝓡)) (Reads'7.known record { M = M; 𝓤 = 𝓤; H = H; 𝓜 = 𝓜; 𝓖 = 𝓖; 𝓡 = 𝓡 } Code.env Symbol'6.name Symbol'6.routine Code.calls-cameras·base-of
-      (Met'6.met 𝓤 H 𝓜 𝓖 𝓡)) (Reads'4.known record { M = M; 𝓤 = 𝓤; H = H; 𝓜 = 𝓜; 𝓖 = 𝓖; 𝓡 = 𝓡 } Code.env Symbol'4.name Symbol'4.routine Code.calls-block·records·start-records (Met'4.met 𝓤 H 𝓜 𝓖 𝓡))
-      (Reads'9.known record { M = M; 𝓤 = 𝓤; H = H; 𝓜 = 𝓜; 𝓖 = 𝓖; 𝓡 = 𝓡 } Code.env Symbol'8.name Symbol'8.routine Code.calls-lines·turn (Met'8.met 𝓤 H 𝓜 𝓖 𝓡)) (Reads.known record
+      (Reads'6.passes record { M = M; 𝓤 = 𝓤; H = H; 𝓜 = 𝓜; 𝓖 = 𝓖; 𝓡 = 𝓡 }) λ g. closed 𝓤 H (𝓖 .A) (Running.givenOf 𝓤 H 𝓜 𝓖) (Run.Over 𝓤 H 𝓜 𝓖 𝓡 Code.env) (Reads'9.known record
+      { M = M; 𝓤 = 𝓤; H = H; 𝓜 = 𝓜; 𝓖 = 𝓖; 𝓡 = 𝓡 } Code.env Symbol'8.name Symbol'8.routine Code.calls-map·width (Met'8.met 𝓤 H 𝓜 𝓖 𝓡)) (Reads''.known record { M = M; 𝓤 = 𝓤; H = H; 𝓜 = 𝓜; 𝓖 = 𝓖; 𝓡 = 𝓡 }
+      Code.env Symbol''.name Symbol''.routine Code.calls-block-writer·is-strict (Met''.met 𝓤 H 𝓜 𝓖 𝓡)) (Reads'7.known record { M = M; 𝓤 = 𝓤; H = H; 𝓜 = 𝓜; 𝓖 = 𝓖; 𝓡 = 𝓡 } Code.env Symbol'6.name
+      Symbol'6.routine Code.calls-lines·clear (Met'6.met 𝓤 H 𝓜 𝓖 𝓡)) (Reads'10.known record { M = M; 𝓤 = 𝓤; H = H; 𝓜 = 𝓜; 𝓖 = 𝓖; 𝓡 = 𝓡 } Code.env Symbol'9.name Symbol'9.routine Code.calls-taking·base-of
+      (Met'9.met 𝓤 H 𝓜 𝓖 𝓡)) (Reads'4.known record { M = M; 𝓤 = 𝓤; H = H; 𝓜 = 𝓜; 𝓖 = 𝓖; 𝓡 = 𝓡 } Code.env Symbol'4.name Symbol'4.routine Code.calls-block·records·start-records (Met'4.met 𝓤 H 𝓜 𝓖 𝓡))
+      (Reads'8.known record { M = M; 𝓤 = 𝓤; H = H; 𝓜 = 𝓜; 𝓖 = 𝓖; 𝓡 = 𝓡 } Code.env Symbol'7.name Symbol'7.routine Code.calls-lines·turn (Met'7.met 𝓤 H 𝓜 𝓖 𝓡)) (Reads.known record
       { M = M; 𝓤 = 𝓤; H = H; 𝓜 = 𝓜; 𝓖 = 𝓖; 𝓡 = 𝓡 } Code.env Symbol.name Symbol.routine Code.calls-block·is-restarted (Met.met 𝓤 H 𝓜 𝓖 𝓡)) (Reads'3.known record { M = M; 𝓤 = 𝓤; H = H; 𝓜 = 𝓜; 𝓖 = 𝓖; 𝓡 = 𝓡 }
       Code.env Symbol'3.name Symbol'3.routine Code.calls-block·records·restart (Met'3.met 𝓤 H 𝓜 𝓖 𝓡)) (Reads'.known record { M = M; 𝓤 = 𝓤; H = H; 𝓜 = 𝓜; 𝓖 = 𝓖; 𝓡 = 𝓡 } Code.env Symbol'.name
       Symbol'.routine Code.calls-block·quantisers-of (Met'.met 𝓤 H 𝓜 𝓖 𝓡)) (Reads'5.known record { M = M; 𝓤 = 𝓤; H = H; 𝓜 = 𝓜; 𝓖 = 𝓖; 𝓡 = 𝓡 } Code.env Symbol'5.name Symbol'5.routine

@@ -6,10 +6,10 @@ use Rattle.bits.proofs.Values.{n16, n8, u16, u32, u64, u8}
 use mathlib.Core.List.{_∷_, []}
 use Rattle.block.proofs.Element
 use Prim.Native.Nat
+use Rattle.header.proofs.Parsed
+use Rattle.header.proofs.Parsed.Laws
 use Rattle.stream.proofs.BlockLength
-use Rattle.stream.proofs.BlockLength.Laws
-use Rattle.stream.proofs.Parsed
-use Rattle.stream.proofs.Parsed.Laws as Laws'
+use Rattle.stream.proofs.BlockLength.Laws as Laws'
 use borrow.Author.Called
 use borrow.Fn.Any
 use borrow.Fn.Call
@@ -51,7 +51,7 @@ use prog.Wp
 use types.Kit
 
 abbrev pub y0 : Syntax.Ty
-y0 = Syntax.tyEnum (115 ∷ 116 ∷ 114 ∷ 101 ∷ 97 ∷ 109 ∷ 58 ∷ 58 ∷ 82 ∷ 101 ∷ 102 ∷ 117 ∷ 115 ∷ 97 ∷ 108 ∷ []) (Syntax.ttcons Syntax.tnil (Syntax.ttcons Syntax.tnil (Syntax.ttcons Syntax.tnil
+y0 = Syntax.tyEnum (104 ∷ 101 ∷ 97 ∷ 100 ∷ 101 ∷ 114 ∷ 58 ∷ 58 ∷ 82 ∷ 101 ∷ 102 ∷ 117 ∷ 115 ∷ 97 ∷ 108 ∷ []) (Syntax.ttcons Syntax.tnil (Syntax.ttcons Syntax.tnil (Syntax.ttcons Syntax.tnil
     (Syntax.ttcons (Syntax.tcons u64 Syntax.tnil) (Syntax.ttcons Syntax.tnil (Syntax.ttcons Syntax.tnil (Syntax.ttcons Syntax.tnil (Syntax.ttcons Syntax.tnil (Syntax.ttcons Syntax.tnil (Syntax.ttcons
     Syntax.tnil (Syntax.ttcons (Syntax.tcons u64 Syntax.tnil) (Syntax.ttcons (Syntax.tcons u64 Syntax.tnil) (Syntax.ttcons Syntax.tnil (Syntax.ttcons (Syntax.tcons u64 (Syntax.tcons u64 Syntax.tnil))
     (Syntax.ttcons (Syntax.tcons u64 Syntax.tnil) (Syntax.ttcons Syntax.tnil (Syntax.ttcons Syntax.tnil (Syntax.ttcons (Syntax.tcons u64 Syntax.tnil) (Syntax.ttcons (Syntax.tcons u64 Syntax.tnil)
@@ -86,16 +86,16 @@ abbrev pub y9 : Syntax.Ty
 y9 = Syntax.tyRef Syntax.erased Syntax.mut u8
 
 abbrev pub y10 : Syntax.Ty
-y10 = Syntax.tyStruct (115 ∷ 116 ∷ 114 ∷ 101 ∷ 97 ∷ 109 ∷ 58 ∷ 58 ∷ 70 ∷ 117 ∷ 106 ∷ 105 ∷ 72 ∷ 101 ∷ 97 ∷ 100 ∷ 101 ∷ 114 ∷ []) (Syntax.tcons Syntax.tyBool (Syntax.tcons Syntax.tyBool (Syntax.tcons
+y10 = Syntax.tyStruct (104 ∷ 101 ∷ 97 ∷ 100 ∷ 101 ∷ 114 ∷ 58 ∷ 58 ∷ 70 ∷ 117 ∷ 106 ∷ 105 ∷ 72 ∷ 101 ∷ 97 ∷ 100 ∷ 101 ∷ 114 ∷ []) (Syntax.tcons Syntax.tyBool (Syntax.tcons Syntax.tyBool (Syntax.tcons
     u32 (Syntax.tcons u32 (Syntax.tcons u32 (Syntax.tcons u32 (Syntax.tcons u32 (Syntax.tcons u32 (Syntax.tcons u32 Syntax.tnil)))))))))
 
 abbrev pub y11 : Syntax.Ty
-y11 = Syntax.tyEnum (115 ∷ 116 ∷ 114 ∷ 101 ∷ 97 ∷ 109 ∷ 58 ∷ 58 ∷ 66 ∷ 108 ∷ 111 ∷ 99 ∷ 107 ∷ 76 ∷ 101 ∷ 110 ∷ 103 ∷ 116 ∷ 104 ∷ []) (Syntax.ttcons (Syntax.tcons u64 Syntax.tnil) (Syntax.ttcons
-    (Syntax.tcons y0 Syntax.tnil) Syntax.ttnil))
+y11 = Syntax.tyEnum (104 ∷ 101 ∷ 97 ∷ 100 ∷ 101 ∷ 114 ∷ 58 ∷ 58 ∷ 80 ∷ 97 ∷ 114 ∷ 115 ∷ 101 ∷ 100 ∷ []) (Syntax.ttcons (Syntax.tcons y10 Syntax.tnil) (Syntax.ttcons (Syntax.tcons y0 Syntax.tnil)
+    Syntax.ttnil))
 
 abbrev pub y12 : Syntax.Ty
-y12 = Syntax.tyEnum (115 ∷ 116 ∷ 114 ∷ 101 ∷ 97 ∷ 109 ∷ 58 ∷ 58 ∷ 80 ∷ 97 ∷ 114 ∷ 115 ∷ 101 ∷ 100 ∷ []) (Syntax.ttcons (Syntax.tcons y10 Syntax.tnil) (Syntax.ttcons (Syntax.tcons y0 Syntax.tnil)
-    Syntax.ttnil))
+y12 = Syntax.tyEnum (115 ∷ 116 ∷ 114 ∷ 101 ∷ 97 ∷ 109 ∷ 58 ∷ 58 ∷ 66 ∷ 108 ∷ 111 ∷ 99 ∷ 107 ∷ 76 ∷ 101 ∷ 110 ∷ 103 ∷ 116 ∷ 104 ∷ []) (Syntax.ttcons (Syntax.tcons u64 Syntax.tnil) (Syntax.ttcons
+    (Syntax.tcons y0 Syntax.tnil) Syntax.ttnil))
 
 abbrev pub y13 : Syntax.Ty
 y13 = Syntax.tyStruct (38 ∷ 91 ∷ 93 ∷ []) (Syntax.tcons y8 (Syntax.tcons u64 Syntax.tnil))
@@ -107,10 +107,10 @@ abbrev pub ps : List.List (Kinds.PK 6)
 ps = (ShrSlice.pShrS n8 0 tt) ∷ (ShrSlice.pShrS n8 1 tt) ∷ (ShrSlice.pShrS n16 2 tt) ∷ (MutSlice.pMutS n8 3 tt) ∷ (MutSlice.pMutS n16 4 tt) ∷ (MutSlice.pMutS (Element.type) 5 tt) ∷ []
 
 abbrev pub r : Kinds.RK 6
-r = Values.enum-result BlockLength.the-type Laws.the-laws Laws.the-copy Laws.the-plain tt
+r = Values.enum-result BlockLength.the-type Laws'.the-laws Laws'.the-copy Laws'.the-plain tt
 
 abbrev pub xs : List.List Syntax.Ty
-xs = y12 ∷ u64 ∷ u64 ∷ u64 ∷ u64 ∷ y9 ∷ y14 ∷ y8 ∷ y13 ∷ y7 ∷ (Syntax.tyStruct (38 ∷ 91 ∷ 93 ∷ []) (Syntax.tcons y7 (Syntax.tcons u64 Syntax.tnil))) ∷ []
+xs = y11 ∷ u64 ∷ u64 ∷ u64 ∷ u64 ∷ y9 ∷ y14 ∷ y8 ∷ y13 ∷ y7 ∷ (Syntax.tyStruct (38 ∷ 91 ∷ 93 ∷ []) (Syntax.tcons y7 (Syntax.tcons u64 Syntax.tnil))) ∷ []
 
 abbrev pub m : Nat.ℕ
 m = 3
@@ -119,14 +119,14 @@ abbrev pub ps·0 : List.List (Kinds.PK 1)
 ps·0 = (ShrSlice.pShrS n8 0 tt) ∷ (Num.pNum Syntax.w64) ∷ (Num.pNum Syntax.w64) ∷ (Num.pNum Syntax.w64) ∷ (Num.pNum Syntax.w64) ∷ []
 
 abbrev pub r·0 : Kinds.RK 1
-r·0 = Values.enum-result Parsed.the-type Laws'.the-laws Laws'.the-copy Laws'.the-plain tt
+r·0 = Values.enum-result Parsed.the-type Laws.the-laws Laws.the-copy Laws.the-plain tt
 
 abbrev pub ps·1 : List.List (Kinds.PK 5)
-ps·1 = (Values.enum Parsed.the-type Laws'.the-laws Laws'.the-copy Laws'.the-plain tt) ∷ (ShrSlice.pShrS n8 0 tt) ∷ (ShrSlice.pShrS n16 1 tt) ∷ (MutSlice.pMutS n8 2 tt) ∷ Bool.pBool ∷ (MutSlice.pMutS
-    n16 3 tt) ∷ (MutSlice.pMutS (Element.type) 4 tt) ∷ []
+ps·1 = (Values.enum Parsed.the-type Laws.the-laws Laws.the-copy Laws.the-plain tt) ∷ (ShrSlice.pShrS n8 0 tt) ∷ (ShrSlice.pShrS n16 1 tt) ∷ (MutSlice.pMutS n8 2 tt) ∷ Bool.pBool ∷ (MutSlice.pMutS n16
+    3 tt) ∷ (MutSlice.pMutS (Element.type) 4 tt) ∷ []
 
 abbrev pub r·1 : Kinds.RK 5
-r·1 = Values.enum-result BlockLength.the-type Laws.the-laws Laws.the-copy Laws.the-plain tt
+r·1 = Values.enum-result BlockLength.the-type Laws'.the-laws Laws'.the-copy Laws'.the-plain tt
 
 abbrev pub hs : List.List Syntax.Home
 hs = Syntax.valueLocal ∷ Syntax.valueLocal ∷ Syntax.valueLocal ∷ Syntax.valueLocal ∷ Syntax.valueLocal ∷ Syntax.valueLocal ∷ Syntax.valueLocal ∷ Syntax.valueLocal ∷ Syntax.valueLocal ∷
@@ -145,8 +145,8 @@ abbrev b3 : Syntax.Body
 b3 = Syntax.assign (Syntax.place 11 []) (Syntax.rvOpd (Syntax.copy (Syntax.place 6 ((Syntax.field 1) ∷ []))))
 
 abbrev b4 : Syntax.Body
-b4 = Syntax.call "begin::lossy_begins" ((Syntax.copy (Syntax.place 1 [])) ∷ (Syntax.copy (Syntax.place 8 [])) ∷ (Syntax.copy (Syntax.place 9 [])) ∷ (Syntax.copy (Syntax.place 10 [])) ∷ (Syntax.copy
-    (Syntax.place 11 [])) ∷ []) (Syntax.place 7 [])
+b4 = Syntax.call "begin_writing::lossy_begins" ((Syntax.copy (Syntax.place 1 [])) ∷ (Syntax.copy (Syntax.place 8 [])) ∷ (Syntax.copy (Syntax.place 9 [])) ∷ (Syntax.copy (Syntax.place 10 [])) ∷
+    (Syntax.copy (Syntax.place 11 [])) ∷ []) (Syntax.place 7 [])
 
 abbrev b5 : Syntax.Body
 b5 = Syntax.assign (Syntax.place 12 []) (Syntax.addrOf (Syntax.place 4 ((Syntax.field 0) ∷ (Syntax.deref u8) ∷ [])))
@@ -213,7 +213,7 @@ abbrev pub v5 : Row.Row
 v5 = Rows.any-gone y8
 
 abbrev pub v6 : Row.Row
-v6 = Rows.any-gone y11
+v6 = Rows.any-gone y12
 
 abbrev pub v7 : Row.Row
 v7 = Rows.sc-here (Row.sInt Syntax.w64)
@@ -237,7 +237,7 @@ abbrev pub v13 : Row.Row
 v13 = Mut.mslice n8 y4 3
 
 abbrev pub v14 : Row.Row
-v14 = Rows.any-gone y12
+v14 = Rows.any-gone y11
 
 abbrev pub v15 : Row.Row
 v15 = Rows.whole (Declared.row BlockLength.the-type)
@@ -434,7 +434,7 @@ module _ (claims· : Claims) where
 
   abbrev s9 : Typed.Both T10 T11
   s9 = Call.callB ps·0 r·0 (claims· .0) (claims· .1) T10 (record { pos = 1; ty = y1; ref = λ x. x }, (Num.vAt 8 λ x. x, (Num.vAt 9 λ x. x, (Num.vAt 10 λ x. x, (Num.vAt 11 λ x. x, tt))))) 7 (0 ∷ [])
-      y12
+      y11
 
   abbrev s10 : Typed.Mo T11 → Typed.Mo T12
   s10 = Scalar.n-room T11 8 u64
@@ -479,10 +479,10 @@ module _ (claims· : Claims) where
   )
 
   abbrev s23 : Typed.Both T24 T25
-  s23 = Call.callB ps·1 r·1 (claims· .2) (claims· .3) T24 a0 0 (1 ∷ 2 ∷ 6 ∷ 7 ∷ 8 ∷ []) y11
+  s23 = Call.callB ps·1 r·1 (claims· .2) (claims· .3) T24 a0 0 (1 ∷ 2 ∷ 6 ∷ 7 ∷ 8 ∷ []) y12
 
   abbrev s24 : Typed.Mo T25 → Typed.Mo T26
-  s24 = Scalar.n-room T25 7 y12
+  s24 = Scalar.n-room T25 7 y11
 
   abbrev s26 : Typed.Both T26 T28
   s26 = Relend.k-back-sl n8 T26 13 4 3 6 y4 y9 Row.off (λ x. x) λ x. x
@@ -502,9 +502,9 @@ module _ (claims· : Claims) where
   module _ (Pre· : (κs : Lifetimes.Lfts 6) → Kinds.Dens κs ps → Type 0) (Post· : (κs : Lifetimes.Lfts 6) → (a : Kinds.Dens κs ps) → Kinds.Plain 6 ps r κs) where
     module _ (M : Type 1) where
       abbrev pub Closed : Type 2
-      Closed = (𝓤 : URA.URA M) (H : Wp.Heap 𝓤) (A : Atoms.Atoms 𝓤) (W : Kit.Given 𝓤 H A) (𝓣 : Wp.Tables 𝓤 H) (known0 : Plain.Known 𝓤 H A W 𝓣 1 ps·0 r·0 (claims· .0) (claims· .1) "begin::lossy_begins")
-          (known1 : Plain.Known 𝓤 H A W 𝓣 5 ps·1 r·1 (claims· .2) (claims· .3) "block_writer::write_in") → Statement.Triple 𝓤 (Wp.WpFn 𝓤 H (𝓣 .C) (𝓣 .Λ) (Function.fnOf 6 ps r xs m hs body))
-          (Function.plainOf 𝓤 H A 6 ps r Pre· Post·)
+      Closed = (𝓤 : URA.URA M) (H : Wp.Heap 𝓤) (A : Atoms.Atoms 𝓤) (W : Kit.Given 𝓤 H A) (𝓣 : Wp.Tables 𝓤 H) (known0 : Plain.Known 𝓤 H A W 𝓣 1 ps·0 r·0 (claims· .0) (claims· .1)
+          "begin_writing::lossy_begins") (known1 : Plain.Known 𝓤 H A W 𝓣 5 ps·1 r·1 (claims· .2) (claims· .3) "block_writer::write_in") → Statement.Triple 𝓤 (Wp.WpFn 𝓤 H (𝓣 .C) (𝓣 .Λ) (Function.fnOf 6 ps
+          r xs m hs body)) (Function.plainOf 𝓤 H A 6 ps r Pre· Post·)
 
     module _ where
       abbrev at0 : Typed.TF T1 O0
@@ -596,7 +596,7 @@ module _ (claims· : Claims) where
 
       module _ {M : Type 1} (𝓤 : URA.URA M) (H : Wp.Heap 𝓤) (A : Atoms.Atoms 𝓤) (W : Kit.Given 𝓤 H A) (𝓣 : Wp.Tables 𝓤 H) where
         abbrev Knowns : Type 1
-        Knowns = Plain.Known 𝓤 H A W 𝓣 1 ps·0 r·0 (claims· .0) (claims· .1) "begin::lossy_begins" × Plain.Known 𝓤 H A W 𝓣 5 ps·1 r·1 (claims· .2) (claims· .3) "block_writer::write_in"
+        Knowns = Plain.Known 𝓤 H A W 𝓣 1 ps·0 r·0 (claims· .0) (claims· .1) "begin_writing::lossy_begins" × Plain.Known 𝓤 H A W 𝓣 5 ps·1 r·1 (claims· .2) (claims· .3) "block_writer::write_in"
 
       module _ (κs : Lifetimes.Lfts 6) (qs : Lifetimes.Shares 6) where
         abbrev k0 : Row.Life
@@ -780,7 +780,7 @@ module _ (claims· : Claims) where
           d11 = Typed.g-pre 𝓤 H A W 𝓣 E G26 G27 b12 Δ0 (λ Ψ. Ψ) at10 (Lifetime.g-end 𝓤 H A W E G26 6 Path'.refl) d10
 
           d12 : Typed.Typed 𝓤 H A 𝓣 E G25 b12 Δ0 at12
-          d12 = Typed.g-pre 𝓤 H A W 𝓣 E G25 G26 b12 Δ0 (Typed.pass T25 T26 s24) at10 (Scalar.g-room 𝓤 H A W E G25 7 y12 (Local.room-whole 𝓤 H A W (Declared.row Parsed.the-type) y12 Path'.refl)) d11
+          d12 = Typed.g-pre 𝓤 H A W 𝓣 E G25 G26 b12 Δ0 (Typed.pass T25 T26 s24) at10 (Scalar.g-room 𝓤 H A W E G25 7 y11 (Local.room-whole 𝓤 H A W (Declared.row Parsed.the-type) y11 Path'.refl)) d11
 
           d13 : Typed.Typed 𝓤 H A 𝓣 E G24 (Syntax.seq b11 b12) Δ0 at13
           d13 = Typed.s-seq 𝓤 H A W 𝓣 E G24 G25 b11 b12 Δ0 (Typed.both s23) at12 (Plain.t-call-plain 𝓤 H A W 𝓣 5 ps·1 r·1 (claims· .2) (claims· .3) "block_writer::write_in" (known .1) E (λ pos β. β)
@@ -795,7 +795,7 @@ module _ (claims· : Claims) where
                 ),
               ) 0 (1 ∷ 2 ∷ 6 ∷ 7 ∷
               8 ∷ []) (Call.sub-id 𝓤 H A W (G24 .slots)) (
-                (Values.enum-copied 𝓤 H A W Parsed.the-type Laws'.the-laws Laws'.the-copy, Path'.refl),
+                (Values.enum-copied 𝓤 H A W Parsed.the-type Laws.the-laws Laws.the-copy, Path'.refl),
                 (
                   ShrSlice.spares-sslice 𝓤 H A W n8 y2 1,
                   Shared.reads-sslice 𝓤 H A W n8 y2 1,
@@ -820,7 +820,7 @@ module _ (claims· : Claims) where
                     ),
                   ),
                 ),
-              ) (Reads.room-gone 𝓤 H A y11) (tt, (tt, (tt, (tt, (tt, tt)))))
+              ) (Reads.room-gone 𝓤 H A y12) (tt, (tt, (tt, (tt, (tt, tt)))))
               Path'.refl) d12
 
           d14 : Typed.Typed 𝓤 H A 𝓣 E G23 (Syntax.seq b10 (Syntax.seq b11 b12)) Δ0 at14
@@ -875,9 +875,9 @@ module _ (claims· : Claims) where
           d26 = Typed.g-pre 𝓤 H A W 𝓣 E (on T11 l5) (on T12 l5) b19 Δ0 (Typed.pass T11 T12 s10) at25 (Scalar.g-room 𝓤 H A W E (on T11 l5) 8 u64 (Scalar.room-sc 𝓤 H A W (Row.sInt Syntax.w64))) d25
 
           d27 : Typed.Typed 𝓤 H A 𝓣 E (on T10 l5) (Syntax.seq b4 b19) Δ0 at27
-          d27 = Typed.s-seq 𝓤 H A W 𝓣 E (on T10 l5) (on T11 l5) b4 b19 Δ0 (Typed.both s9) at26 (Plain.t-call-plain 𝓤 H A W 𝓣 1 ps·0 r·0 (claims· .0) (claims· .1) "begin::lossy_begins" (known .0) E (λ
-              pos β. β) (on T10 l5) (record { pos = 1; ty = y1; ref = λ x. x }, (Num.vAt 8 λ x. x, (Num.vAt 9 λ x. x, (Num.vAt 10 λ x. x, (Num.vAt 11 λ x. x, tt))))) 7 (0 ∷ []) (Call.sub-id 𝓤 H A W ((on
-              T10 l5) .slots)) (
+          d27 = Typed.s-seq 𝓤 H A W 𝓣 E (on T10 l5) (on T11 l5) b4 b19 Δ0 (Typed.both s9) at26 (Plain.t-call-plain 𝓤 H A W 𝓣 1 ps·0 r·0 (claims· .0) (claims· .1) "begin_writing::lossy_begins" (known
+              .0) E (λ pos β. β) (on T10 l5) (record { pos = 1; ty = y1; ref = λ x. x }, (Num.vAt 8 λ x. x, (Num.vAt 9 λ x. x, (Num.vAt 10 λ x. x, (Num.vAt 11 λ x. x, tt))))) 7 (0 ∷ []) (Call.sub-id 𝓤 H
+              A W ((on T10 l5) .slots)) (
                 ShrSlice.spares-sslice 𝓤 H A W n8 y1 0,
                 Shared.reads-sslice 𝓤 H A W n8 y1 0,
                 Path'.refl,
@@ -888,7 +888,7 @@ module _ (claims· : Claims) where
                     ((Scalar.reads-sc 𝓤 H A W (Row.sInt Syntax.w64), Path'.refl), ((Scalar.reads-sc 𝓤 H A W (Row.sInt Syntax.w64), Path'.refl), tt)),
                   ),
                 ),
-              ) (Reads.room-gone 𝓤 H A y12) (tt, tt) Path'.refl) d26
+              ) (Reads.room-gone 𝓤 H A y11) (tt, tt) Path'.refl) d26
 
           d28 : Typed.Typed 𝓤 H A 𝓣 E (on T9 l5) (Syntax.seq b3 (Syntax.seq b4 b19)) Δ0 at28
           d28 = Typed.s-seq 𝓤 H A W 𝓣 E (on T9 l5) (on T10 l5) b3 (Syntax.seq b4 b19) Δ0 (Typed.pass T9 T10 s8) at27 (Scalar.t-use 𝓤 H A W E 𝓣 (on T9 l5) (Scalar.oFld 6 ((Syntax.field 1) ∷ []) u64 8
@@ -1249,6 +1249,6 @@ module _ (claims· : Claims) where
               { κs = κs; args = record { header = a .0; bases = a .1 .0; samples = a .1 .1 .0; out = a .1 .1 .1 .0; lines = a .1 .1 .1 .1 .0; rs = a .1 .1 .1 .1 .1 .0 }; good = good; pre = pre }
 
         module _ {M : Type 1} (𝓤 : URA.URA M) (H : Wp.Heap 𝓤) (A : Atoms.Atoms 𝓤) (W : Kit.Given 𝓤 H A) (𝓣 : Wp.Tables 𝓤 H) (known0 : Plain.Known 𝓤 H A W 𝓣 1 ps·0 r·0 (claims· .0) (claims· .1)
-            "begin::lossy_begins") (known1 : Plain.Known 𝓤 H A W 𝓣 5 ps·1 r·1 (claims· .2) (claims· .3) "block_writer::write_in") where
+            "begin_writing::lossy_begins") (known1 : Plain.Known 𝓤 H A W 𝓣 5 ps·1 r·1 (claims· .2) (claims· .3) "block_writer::write_in") where
           pub spec : Statement.Triple 𝓤 (Wp.WpFn 𝓤 H (𝓣 .C) (𝓣 .Λ) (Function.fnOf 6 ps r xs m hs body)) (Function.plainOf 𝓤 H A 6 ps r Pre· Post·)
           spec = Plain.t-fn-plain 𝓤 H A W 𝓣 6 ps r xs m hs body (λ κs qs bs. Φ) (λ κs qs bs bd. typed κs qs 𝓤 H A W 𝓣 (known0, known1) bs bd) Pre· Post· asked

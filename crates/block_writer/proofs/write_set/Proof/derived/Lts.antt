@@ -8,10 +8,10 @@ use Rattle.block.proofs.Element
 use Prim.Native.Nat
 use Rattle.block.proofs.Form
 use Rattle.block.proofs.Form.Laws
+use Rattle.header.proofs.Refusal
+use Rattle.header.proofs.Refusal.Laws as Laws'
 use Rattle.stream.proofs.BlockLength
-use Rattle.stream.proofs.BlockLength.Laws as Laws'
-use Rattle.stream.proofs.Refusal
-use Rattle.stream.proofs.Refusal.Laws as Laws''
+use Rattle.stream.proofs.BlockLength.Laws as Laws''
 use borrow.Author.Called
 use borrow.Author.Tests
 use borrow.Enum.Make
@@ -64,7 +64,7 @@ use prog.Wp
 use types.Kit
 
 abbrev pub y0 : Syntax.Ty
-y0 = Syntax.tyEnum (115 ∷ 116 ∷ 114 ∷ 101 ∷ 97 ∷ 109 ∷ 58 ∷ 58 ∷ 82 ∷ 101 ∷ 102 ∷ 117 ∷ 115 ∷ 97 ∷ 108 ∷ []) (Syntax.ttcons Syntax.tnil (Syntax.ttcons Syntax.tnil (Syntax.ttcons Syntax.tnil
+y0 = Syntax.tyEnum (104 ∷ 101 ∷ 97 ∷ 100 ∷ 101 ∷ 114 ∷ 58 ∷ 58 ∷ 82 ∷ 101 ∷ 102 ∷ 117 ∷ 115 ∷ 97 ∷ 108 ∷ []) (Syntax.ttcons Syntax.tnil (Syntax.ttcons Syntax.tnil (Syntax.ttcons Syntax.tnil
     (Syntax.ttcons (Syntax.tcons u64 Syntax.tnil) (Syntax.ttcons Syntax.tnil (Syntax.ttcons Syntax.tnil (Syntax.ttcons Syntax.tnil (Syntax.ttcons Syntax.tnil (Syntax.ttcons Syntax.tnil (Syntax.ttcons
     Syntax.tnil (Syntax.ttcons (Syntax.tcons u64 Syntax.tnil) (Syntax.ttcons (Syntax.tcons u64 Syntax.tnil) (Syntax.ttcons Syntax.tnil (Syntax.ttcons (Syntax.tcons u64 (Syntax.tcons u64 Syntax.tnil))
     (Syntax.ttcons (Syntax.tcons u64 Syntax.tnil) (Syntax.ttcons Syntax.tnil (Syntax.ttcons Syntax.tnil (Syntax.ttcons (Syntax.tcons u64 Syntax.tnil) (Syntax.ttcons (Syntax.tcons u64 Syntax.tnil)
@@ -116,7 +116,7 @@ ps = (ShrSlice.pShrS n16 0 tt) ∷ (MutSlice.pMutS n8 1 tt) ∷ Bool.pBool ∷ (
     Laws.the-plain) ∷ (ShrSlice.pShrS n8 4 tt) ∷ (Num.pNum Syntax.w64) ∷ []
 
 abbrev pub r : Kinds.RK 5
-r = Values.enum-result BlockLength.the-type Laws'.the-laws Laws'.the-copy Laws'.the-plain tt
+r = Values.enum-result BlockLength.the-type Laws''.the-laws Laws''.the-copy Laws''.the-plain tt
 
 abbrev pub xs : List.List Syntax.Ty
 xs = u32 ∷ u64 ∷ Syntax.tyBool ∷ u64 ∷ Syntax.tyUnit ∷ y7 ∷ y12 ∷ y6 ∷ y11 ∷ y0 ∷ y8 ∷ y13 ∷ y7 ∷ y12 ∷ y6 ∷ y11 ∷ []
@@ -159,7 +159,7 @@ ps·5 = (ShrSlice.pShrS n16 0 tt) ∷ (MutSlice.pMutS n8 1 tt) ∷ Bool.pBool �
     Laws.the-plain) ∷ (ShrSlice.pShrS n8 4 tt) ∷ (Num.pNum Syntax.w64) ∷ []
 
 abbrev pub r·5 : Kinds.RK 5
-r·5 = Values.enum-result BlockLength.the-type Laws'.the-laws Laws'.the-copy Laws'.the-plain tt
+r·5 = Values.enum-result BlockLength.the-type Laws''.the-laws Laws''.the-copy Laws''.the-plain tt
 
 abbrev pub hs : List.List Syntax.Home
 hs = Syntax.valueLocal ∷ Syntax.valueLocal ∷ Syntax.valueLocal ∷ Syntax.valueLocal ∷ Syntax.valueLocal ∷ Syntax.valueLocal ∷ Syntax.valueLocal ∷ Syntax.valueLocal ∷ Syntax.valueLocal ∷
@@ -173,8 +173,8 @@ abbrev b1 : Syntax.Body
 b1 = Syntax.call "block_writer::is_strict" ((Syntax.copy (Syntax.place 7 [])) ∷ []) (Syntax.place 11 [])
 
 abbrev b2 : Syntax.Body
-b2 = Syntax.call "begin::first_above" ((Syntax.copy (Syntax.place 1 [])) ∷ (Syntax.copy (Syntax.place 9 [])) ∷ (Syntax.copy (Syntax.place 6 ((Syntax.field 1) ∷ []))) ∷ (Syntax.copy (Syntax.place 11
-    [])) ∷ []) (Syntax.place 10 [])
+b2 = Syntax.call "above_largest::first_above" ((Syntax.copy (Syntax.place 1 [])) ∷ (Syntax.copy (Syntax.place 9 [])) ∷ (Syntax.copy (Syntax.place 6 ((Syntax.field 1) ∷ []))) ∷ (Syntax.copy
+    (Syntax.place 11 [])) ∷ []) (Syntax.place 10 [])
 
 abbrev b3 : Syntax.Body
 b3 = Syntax.assign (Syntax.place 12 []) (Syntax.rvOpd (Syntax.copy (Syntax.place 1 ((Syntax.field 1) ∷ []))))
@@ -793,9 +793,9 @@ module _ (claims· : Claims) where
     module _ (M : Type 1) where
       abbrev pub Closed : Type 2
       Closed = (𝓤 : URA.URA M) (H : Wp.Heap 𝓤) (A : Atoms.Atoms 𝓤) (W : Kit.Given 𝓤 H A) (𝓣 : Wp.Tables 𝓤 H) (known0 : Plain.Known 𝓤 H A W 𝓣 0 ps·0 r·0 (claims· .0) (claims· .1) "quantiser::largest")
-          (known1 : Plain.Known 𝓤 H A W 𝓣 1 ps·1 r·1 (claims· .2) (claims· .3) "block_writer::is_strict") (known2 : Plain.Known 𝓤 H A W 𝓣 1 ps·2 r·2 (claims· .4) (claims· .5) "begin::first_above") (known3
-          : Plain.Known 𝓤 H A W 𝓣 1 ps·3 r·3 (claims· .6) (claims· .7) "lines::clear") (known4 : Plain.Known 𝓤 H A W 𝓣 1 ps·4 r·4 (claims· .8) (claims· .9) "block::records::clear_records") (known5 :
-          Plain.Known 𝓤 H A W 𝓣 5 ps·5 r·5 (claims· .10) (claims· .11) "block_writer::write_measured") → Statement.Triple 𝓤 (Wp.WpFn 𝓤 H (𝓣 .C) (𝓣 .Λ) (Function.fnOf 5 ps r xs m hs body))
+          (known1 : Plain.Known 𝓤 H A W 𝓣 1 ps·1 r·1 (claims· .2) (claims· .3) "block_writer::is_strict") (known2 : Plain.Known 𝓤 H A W 𝓣 1 ps·2 r·2 (claims· .4) (claims· .5) "above_largest::first_above")
+          (known3 : Plain.Known 𝓤 H A W 𝓣 1 ps·3 r·3 (claims· .6) (claims· .7) "lines::clear") (known4 : Plain.Known 𝓤 H A W 𝓣 1 ps·4 r·4 (claims· .8) (claims· .9) "block::records::clear_records") (known5
+          : Plain.Known 𝓤 H A W 𝓣 5 ps·5 r·5 (claims· .10) (claims· .11) "block_writer::write_measured") → Statement.Triple 𝓤 (Wp.WpFn 𝓤 H (𝓣 .C) (𝓣 .Λ) (Function.fnOf 5 ps r xs m hs body))
           (Function.plainOf 𝓤 H A 5 ps r Pre· Post·)
 
     module _ where
@@ -967,8 +967,8 @@ module _ (claims· : Claims) where
       module _ {M : Type 1} (𝓤 : URA.URA M) (H : Wp.Heap 𝓤) (A : Atoms.Atoms 𝓤) (W : Kit.Given 𝓤 H A) (𝓣 : Wp.Tables 𝓤 H) where
         abbrev Knowns : Type 1
         Knowns = Plain.Known 𝓤 H A W 𝓣 0 ps·0 r·0 (claims· .0) (claims· .1) "quantiser::largest" × Plain.Known 𝓤 H A W 𝓣 1 ps·1 r·1 (claims· .2) (claims· .3) "block_writer::is_strict" × Plain.Known 𝓤
-            H A W 𝓣 1 ps·2 r·2 (claims· .4) (claims· .5) "begin::first_above" × Plain.Known 𝓤 H A W 𝓣 1 ps·3 r·3 (claims· .6) (claims· .7) "lines::clear" × Plain.Known 𝓤 H A W 𝓣 1 ps·4 r·4 (claims· .8)
-            (claims· .9) "block::records::clear_records" × Plain.Known 𝓤 H A W 𝓣 5 ps·5 r·5 (claims· .10) (claims· .11) "block_writer::write_measured"
+            H A W 𝓣 1 ps·2 r·2 (claims· .4) (claims· .5) "above_largest::first_above" × Plain.Known 𝓤 H A W 𝓣 1 ps·3 r·3 (claims· .6) (claims· .7) "lines::clear" × Plain.Known 𝓤 H A W 𝓣 1 ps·4 r·4
+            (claims· .8) (claims· .9) "block::records::clear_records" × Plain.Known 𝓤 H A W 𝓣 5 ps·5 r·5 (claims· .10) (claims· .11) "block_writer::write_measured"
 
       module _ (κs : Lifetimes.Lfts 5) (qs : Lifetimes.Shares 5) where
         abbrev k0 : Row.Life
@@ -1207,12 +1207,12 @@ module _ (claims· : Claims) where
               y0 Path'.refl)) d4
 
           d6 : Typed.Typed 𝓤 H A 𝓣 E (on T33 l8) (Syntax.seq b12 b13) Δ1 at6
-          d6 = Typed.s-seq 𝓤 H A W 𝓣 E (on T33 l8) (on T34 l8) b12 b13 Δ1 (Typed.pass T33 T34 s31) at5 (Make.t-enum-make-wt 𝓤 H A W E 𝓣 BlockLength.the-type Laws'.the-laws Laws'.the-plain tt (on T33
-              l8) 0 ((Scalar.oInt Syntax.w8 1) ∷ (Scalar.oAt 18 y0 (Laws'3.val Refusal.the-type Laws''.the-laws)) ∷ []) (λ m. BlockLength.enum .make (Logic.inr (Logic.inl
-              (m .1 .1 .1 .1 .1 .1 .1 .1 .1 .1 .1 .1 .1 .1 .1 .1 .1 .1 .0, tt)))) (Reads'.room-gone 𝓤 H A y10) (tt, ((Whole.reads-enum 𝓤 H A W Refusal.the-type Laws''.the-laws, Path'.refl), tt))
-              Path'.refl (λ m wa. Make.made-val BlockLength.the-type Laws'.the-laws ((Laws'3.val Refusal.the-type Laws''.the-laws (m .1 .1 .1 .1 .1 .1 .1 .1 .1 .1 .1 .1 .1 .1 .1 .1 .1 .1 .0)) ∷ [])
-              (BlockLength.enum .make (Logic.inr (Logic.inl (m .1 .1 .1 .1 .1 .1 .1 .1 .1 .1 .1 .1 .1 .1 .1 .1 .1 .1 .0, tt)))) (
-                Signed.made-wt Refusal.the-field Laws''.the-field-laws (Whole.enum-wt Refusal.the-type Laws''.the-laws (
+          d6 = Typed.s-seq 𝓤 H A W 𝓣 E (on T33 l8) (on T34 l8) b12 b13 Δ1 (Typed.pass T33 T34 s31) at5 (Make.t-enum-make-wt 𝓤 H A W E 𝓣 BlockLength.the-type Laws''.the-laws Laws''.the-plain tt (on T33
+              l8) 0 ((Scalar.oInt Syntax.w8 1) ∷ (Scalar.oAt 18 y0 (Laws'3.val Refusal.the-type Laws'.the-laws)) ∷ []) (λ m. BlockLength.enum .make (Logic.inr (Logic.inl
+              (m .1 .1 .1 .1 .1 .1 .1 .1 .1 .1 .1 .1 .1 .1 .1 .1 .1 .1 .0, tt)))) (Reads'.room-gone 𝓤 H A y10) (tt, ((Whole.reads-enum 𝓤 H A W Refusal.the-type Laws'.the-laws, Path'.refl), tt)) Path'.refl
+              (λ m wa. Make.made-val BlockLength.the-type Laws''.the-laws ((Laws'3.val Refusal.the-type Laws'.the-laws (m .1 .1 .1 .1 .1 .1 .1 .1 .1 .1 .1 .1 .1 .1 .1 .1 .1 .1 .0)) ∷ []) (BlockLength.enum
+              .make (Logic.inr (Logic.inl (m .1 .1 .1 .1 .1 .1 .1 .1 .1 .1 .1 .1 .1 .1 .1 .1 .1 .1 .0, tt)))) (
+                Signed.made-wt Refusal.the-field Laws'.the-field-laws (Whole.enum-wt Refusal.the-type Laws'.the-laws (
                   tt,
                   (
                     tt,
@@ -1257,10 +1257,10 @@ module _ (claims· : Claims) where
                 ))
                     (Refusal.the-type .to (m .1 .1 .1 .1 .1 .1 .1 .1 .1 .1 .1 .1 .1 .1 .1 .1 .1 .1 .0)),
                 tt,
-              ) (wa .1)) λ m wa. Make.made-is BlockLength.the-type Laws'.the-laws ((Laws'3.val Refusal.the-type
-              Laws''.the-laws (m .1 .1 .1 .1 .1 .1 .1 .1 .1 .1 .1 .1 .1 .1 .1 .1 .1 .1 .0)) ∷ []) (BlockLength.enum .make (Logic.inr (Logic.inl
+              ) (wa .1)) λ m wa. Make.made-is BlockLength.the-type Laws''.the-laws ((Laws'3.val Refusal.the-type
+              Laws'.the-laws (m .1 .1 .1 .1 .1 .1 .1 .1 .1 .1 .1 .1 .1 .1 .1 .1 .1 .1 .0)) ∷ []) (BlockLength.enum .make (Logic.inr (Logic.inl
               (m .1 .1 .1 .1 .1 .1 .1 .1 .1 .1 .1 .1 .1 .1 .1 .1 .1 .1 .0, tt)))) (
-                Signed.made-wt Refusal.the-field Laws''.the-field-laws (Whole.enum-wt Refusal.the-type Laws''.the-laws (
+                Signed.made-wt Refusal.the-field Laws'.the-field-laws (Whole.enum-wt Refusal.the-type Laws'.the-laws (
                   tt,
                   (
                     tt,
@@ -1308,16 +1308,16 @@ module _ (claims· : Claims) where
               ) (wa .1)) d5
 
           d7 : Typed.Typed 𝓤 H A 𝓣 E (on T15 l8) b15 Δ1 at7
-          d7 = Typed.s-seq 𝓤 H A W 𝓣 E (on T15 l8) (on T33 l8) b11 (Syntax.seq b12 b13) Δ1 (Typed.pass T15 T33 s30) at6 (Make.t-enum-make-wt 𝓤 H A W E 𝓣 Refusal.the-type Laws''.the-laws
-              Laws''.the-plain tt (on T15 l8) 18 ((Scalar.oInt Syntax.w8 10) ∷ (Scalar.oAt 10 u64 (Row.valS (Row.sInt Syntax.w64))) ∷ []) (λ m. Refusal.enum .make (Logic.inr (Logic.inr (Logic.inr
-              (Logic.inr (Logic.inr (Logic.inr (Logic.inr (Logic.inr (Logic.inr (Logic.inr (Logic.inl (m .1 .1 .1 .1 .1 .1 .1 .1 .1 .1 .0, tt))))))))))))) (Reads'.room-gone 𝓤 H A y0)
-              (tt, ((Scalar.reads-sc 𝓤 H A W (Row.sInt Syntax.w64), Path'.refl), tt)) Path'.refl (λ m wa. Make.made-val Refusal.the-type Laws''.the-laws ((Laws''.the-laws .1 .1 .1 .1 .1 .1 .1 .1 .1 .1 .0
-              .0 .val (m .1 .1 .1 .1 .1 .1 .1 .1 .1 .1 .0)) ∷ []) (Refusal.enum .make (Logic.inr (Logic.inr (Logic.inr (Logic.inr (Logic.inr (Logic.inr (Logic.inr (Logic.inr (Logic.inr (Logic.inr
-              (Logic.inl (m .1 .1 .1 .1 .1 .1 .1 .1 .1 .1 .0, tt)))))))))))))
-              (Signed.made-wt Field.u64-field (Laws''.the-laws .1 .1 .1 .1 .1 .1 .1 .1 .1 .1 .0 .0) Make'.u64-wt (m .1 .1 .1 .1 .1 .1 .1 .1 .1 .1 .0), tt) (wa .1)) λ m wa. Make.made-is Refusal.the-type
-              Laws''.the-laws ((Laws''.the-laws .1 .1 .1 .1 .1 .1 .1 .1 .1 .1 .0 .0 .val (m .1 .1 .1 .1 .1 .1 .1 .1 .1 .1 .0)) ∷ []) (Refusal.enum .make (Logic.inr (Logic.inr (Logic.inr (Logic.inr
+          d7 = Typed.s-seq 𝓤 H A W 𝓣 E (on T15 l8) (on T33 l8) b11 (Syntax.seq b12 b13) Δ1 (Typed.pass T15 T33 s30) at6 (Make.t-enum-make-wt 𝓤 H A W E 𝓣 Refusal.the-type Laws'.the-laws Laws'.the-plain
+              tt (on T15 l8) 18 ((Scalar.oInt Syntax.w8 10) ∷ (Scalar.oAt 10 u64 (Row.valS (Row.sInt Syntax.w64))) ∷ []) (λ m. Refusal.enum .make (Logic.inr (Logic.inr (Logic.inr (Logic.inr (Logic.inr
+              (Logic.inr (Logic.inr (Logic.inr (Logic.inr (Logic.inr (Logic.inl (m .1 .1 .1 .1 .1 .1 .1 .1 .1 .1 .0, tt))))))))))))) (Reads'.room-gone 𝓤 H A y0)
+              (tt, ((Scalar.reads-sc 𝓤 H A W (Row.sInt Syntax.w64), Path'.refl), tt)) Path'.refl (λ m wa. Make.made-val Refusal.the-type Laws'.the-laws ((Laws'.the-laws .1 .1 .1 .1 .1 .1 .1 .1 .1 .1 .0 .0
+              .val (m .1 .1 .1 .1 .1 .1 .1 .1 .1 .1 .0)) ∷ []) (Refusal.enum .make (Logic.inr (Logic.inr (Logic.inr (Logic.inr (Logic.inr (Logic.inr (Logic.inr (Logic.inr (Logic.inr (Logic.inr (Logic.inl
+              (m .1 .1 .1 .1 .1 .1 .1 .1 .1 .1 .0, tt)))))))))))))
+              (Signed.made-wt Field.u64-field (Laws'.the-laws .1 .1 .1 .1 .1 .1 .1 .1 .1 .1 .0 .0) Make'.u64-wt (m .1 .1 .1 .1 .1 .1 .1 .1 .1 .1 .0), tt) (wa .1)) λ m wa. Make.made-is Refusal.the-type
+              Laws'.the-laws ((Laws'.the-laws .1 .1 .1 .1 .1 .1 .1 .1 .1 .1 .0 .0 .val (m .1 .1 .1 .1 .1 .1 .1 .1 .1 .1 .0)) ∷ []) (Refusal.enum .make (Logic.inr (Logic.inr (Logic.inr (Logic.inr
               (Logic.inr (Logic.inr (Logic.inr (Logic.inr (Logic.inr (Logic.inr (Logic.inl (m .1 .1 .1 .1 .1 .1 .1 .1 .1 .1 .0, tt)))))))))))))
-              (Signed.made-wt Field.u64-field (Laws''.the-laws .1 .1 .1 .1 .1 .1 .1 .1 .1 .1 .0 .0) Make'.u64-wt (m .1 .1 .1 .1 .1 .1 .1 .1 .1 .1 .0), tt) (wa .1)) d6
+              (Signed.made-wt Field.u64-field (Laws'.the-laws .1 .1 .1 .1 .1 .1 .1 .1 .1 .1 .0 .0) Make'.u64-wt (m .1 .1 .1 .1 .1 .1 .1 .1 .1 .1 .0), tt) (wa .1)) d6
 
           d8 : Typed.Typed 𝓤 H A 𝓣 E G31 b15 Δ1 at7
           d8 = Typed.g-pre 𝓤 H A W 𝓣 E G31 (on T15 l8) b15 Δ1 (λ Ψ. Ψ) at7 (Lifetime.g-forget 𝓤 H A W E G31 6 Row.dead Path'.refl) d7
@@ -1562,8 +1562,8 @@ module _ (claims· : Claims) where
               d60
 
           d62 : Typed.Typed 𝓤 H A 𝓣 E (on T7 l8) (Syntax.seq b2 (Syntax.seq b3 b40)) Δ0 at62
-          d62 = Typed.s-seq 𝓤 H A W 𝓣 E (on T7 l8) (on T8 l8) b2 (Syntax.seq b3 b40) Δ0 (Typed.both s6) at61 (Plain.t-call-plain 𝓤 H A W 𝓣 1 ps·2 r·2 (claims· .4) (claims· .5) "begin::first_above"
-              (known .2) E (λ pos β. β) (on T7 l8)
+          d62 = Typed.s-seq 𝓤 H A W 𝓣 E (on T7 l8) (on T8 l8) b2 (Syntax.seq b3 b40) Δ0 (Typed.both s6) at61 (Plain.t-call-plain 𝓤 H A W 𝓣 1 ps·2 r·2 (claims· .4) (claims· .5)
+              "above_largest::first_above" (known .2) E (λ pos β. β) (on T7 l8)
               (record { pos = 1; ty = y1; ref = λ x. x }, (Num.vAt 9 λ x. x, (Bool.bFld 6 ((Syntax.field 1) ∷ []) 4 λ x. Form.struct .as-values x .1 .0, (Bool.bAt 11 λ x. x, tt)))) 10 (0 ∷ [])
               (Call.sub-id 𝓤 H A W ((on T7 l8) .slots)) (
                 ShrSlice.spares-sslice 𝓤 H A W n16 y1 0,
@@ -2190,7 +2190,7 @@ module _ (claims· : Claims) where
 
         module _ {M : Type 1} (𝓤 : URA.URA M) (H : Wp.Heap 𝓤) (A : Atoms.Atoms 𝓤) (W : Kit.Given 𝓤 H A) (𝓣 : Wp.Tables 𝓤 H) (known0 : Plain.Known 𝓤 H A W 𝓣 0 ps·0 r·0 (claims· .0) (claims· .1)
             "quantiser::largest") (known1 : Plain.Known 𝓤 H A W 𝓣 1 ps·1 r·1 (claims· .2) (claims· .3) "block_writer::is_strict") (known2 : Plain.Known 𝓤 H A W 𝓣 1 ps·2 r·2 (claims· .4) (claims· .5)
-            "begin::first_above") (known3 : Plain.Known 𝓤 H A W 𝓣 1 ps·3 r·3 (claims· .6) (claims· .7) "lines::clear") (known4 : Plain.Known 𝓤 H A W 𝓣 1 ps·4 r·4 (claims· .8) (claims· .9)
+            "above_largest::first_above") (known3 : Plain.Known 𝓤 H A W 𝓣 1 ps·3 r·3 (claims· .6) (claims· .7) "lines::clear") (known4 : Plain.Known 𝓤 H A W 𝓣 1 ps·4 r·4 (claims· .8) (claims· .9)
             "block::records::clear_records") (known5 : Plain.Known 𝓤 H A W 𝓣 5 ps·5 r·5 (claims· .10) (claims· .11) "block_writer::write_measured") where
           pub spec : Statement.Triple 𝓤 (Wp.WpFn 𝓤 H (𝓣 .C) (𝓣 .Λ) (Function.fnOf 5 ps r xs m hs body)) (Function.plainOf 𝓤 H A 5 ps r Pre· Post·)
           spec = Plain.t-fn-plain 𝓤 H A W 𝓣 5 ps r xs m hs body (λ κs qs bs. Φ) (λ κs qs bs bd. typed κs qs 𝓤 H A W 𝓣 (known0, known1, known2, known3, known4, known5) bs bd) Pre· Post· asked

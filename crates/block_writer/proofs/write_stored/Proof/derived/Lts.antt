@@ -10,12 +10,12 @@ use Rattle.bits.proofs.BitPosition
 use Rattle.bits.proofs.BitPosition.Laws
 use Rattle.block.proofs.Form
 use Rattle.block.proofs.Form.Laws as Laws'
+use Rattle.header.proofs.Refusal
+use Rattle.header.proofs.Refusal.Laws as Laws''
 use Rattle.output.proofs.Put
-use Rattle.output.proofs.Put.Laws as Laws''
+use Rattle.output.proofs.Put.Laws as Laws'3
 use Rattle.stream.proofs.BlockLength
-use Rattle.stream.proofs.BlockLength.Laws as Laws'3
-use Rattle.stream.proofs.Refusal
-use Rattle.stream.proofs.Refusal.Laws as Laws'4
+use Rattle.stream.proofs.BlockLength.Laws as Laws'4
 use borrow.Author.Called
 use borrow.Enum.Known
 use borrow.Enum.Make
@@ -76,7 +76,7 @@ use types.Kit
 use types.Run
 
 abbrev pub y0 : Syntax.Ty
-y0 = Syntax.tyEnum (115 ∷ 116 ∷ 114 ∷ 101 ∷ 97 ∷ 109 ∷ 58 ∷ 58 ∷ 82 ∷ 101 ∷ 102 ∷ 117 ∷ 115 ∷ 97 ∷ 108 ∷ []) (Syntax.ttcons Syntax.tnil (Syntax.ttcons Syntax.tnil (Syntax.ttcons Syntax.tnil
+y0 = Syntax.tyEnum (104 ∷ 101 ∷ 97 ∷ 100 ∷ 101 ∷ 114 ∷ 58 ∷ 58 ∷ 82 ∷ 101 ∷ 102 ∷ 117 ∷ 115 ∷ 97 ∷ 108 ∷ []) (Syntax.ttcons Syntax.tnil (Syntax.ttcons Syntax.tnil (Syntax.ttcons Syntax.tnil
     (Syntax.ttcons (Syntax.tcons u64 Syntax.tnil) (Syntax.ttcons Syntax.tnil (Syntax.ttcons Syntax.tnil (Syntax.ttcons Syntax.tnil (Syntax.ttcons Syntax.tnil (Syntax.ttcons Syntax.tnil (Syntax.ttcons
     Syntax.tnil (Syntax.ttcons (Syntax.tcons u64 Syntax.tnil) (Syntax.ttcons (Syntax.tcons u64 Syntax.tnil) (Syntax.ttcons Syntax.tnil (Syntax.ttcons (Syntax.tcons u64 (Syntax.tcons u64 Syntax.tnil))
     (Syntax.ttcons (Syntax.tcons u64 Syntax.tnil) (Syntax.ttcons Syntax.tnil (Syntax.ttcons Syntax.tnil (Syntax.ttcons (Syntax.tcons u64 Syntax.tnil) (Syntax.ttcons (Syntax.tcons u64 Syntax.tnil)
@@ -134,7 +134,7 @@ ps = (ShrSlice.pShrS n16 0 tt) ∷ (MutSlice.pMutS n8 1 tt) ∷ (MutSlice.pMutS 
     Laws'.the-plain) ∷ (ShrSlice.pShrS n8 4 tt) ∷ (Num.pNum Syntax.w64) ∷ []
 
 abbrev pub r : Kinds.RK 5
-r = Values.enum-result BlockLength.the-type Laws'3.the-laws Laws'3.the-copy Laws'3.the-plain tt
+r = Values.enum-result BlockLength.the-type Laws'4.the-laws Laws'4.the-copy Laws'4.the-plain tt
 
 abbrev pub xs : List.List Syntax.Ty
 xs = y11 ∷ u64 ∷ y9 ∷ y8 ∷ y15 ∷ y7 ∷ y14 ∷ y6 ∷ y13 ∷ y12 ∷ y0 ∷ Syntax.tyUnit ∷ y8 ∷ y15 ∷ u64 ∷ []
@@ -147,7 +147,7 @@ ps·0 = (ShrSlice.pShrS n16 0 tt) ∷ (MutSlice.pMutS n8 1 tt) ∷ Bool.pBool �
     Laws'.the-plain) ∷ (ShrSlice.pShrS n8 4 tt) ∷ (Num.pNum Syntax.w64) ∷ []
 
 abbrev pub r·0 : Kinds.RK 5
-r·0 = Values.enum-result Put.the-type Laws''.the-laws Laws''.the-copy Laws''.the-plain tt
+r·0 = Values.enum-result Put.the-type Laws'3.the-laws Laws'3.the-copy Laws'3.the-plain tt
 
 abbrev pub ps·1 : List.List (Kinds.PK 1)
 ps·1 = (MutSlice.pMutS n8 0 tt) ∷ (Values.struct BitPosition.the-type Laws.the-laws Laws.the-copy Laws.the-plain) ∷ []
@@ -622,10 +622,10 @@ module _ (claims· : Claims) where
   s26 = Known.k-enum-known Put.enum 1 T27 8 λ x. x
 
   abbrev s27 : Typed.Gives T29 T29
-  s27 = Known.k-known-told Put.enum Laws''.the-laws 1 T29 8 λ x. x
+  s27 = Known.k-known-told Put.enum Laws'3.the-laws 1 T29 8 λ x. x
 
   abbrev s28 : Typed.Mo T29 → Typed.Mo T31
-  s28 = Scalar.n-use T29 (Scalar.oFld 8 ((Syntax.variant 1) ∷ (Syntax.field 1) ∷ []) u64 8 λ v. Laws''.the-laws .1 .0 .0 .val (v .0)) 9 (Rows.sc-here (Row.sInt Syntax.w64)) (Row.sInt Syntax.w64 .of)
+  s28 = Scalar.n-use T29 (Scalar.oFld 8 ((Syntax.variant 1) ∷ (Syntax.field 1) ∷ []) u64 8 λ v. Laws'3.the-laws .1 .0 .0 .val (v .0)) 9 (Rows.sc-here (Row.sInt Syntax.w64)) (Row.sInt Syntax.w64 .of)
 
   abbrev s29 : Typed.Mo T31 → Typed.Mo T32
   s29 = Scalar.n-room T31 8 y11
@@ -647,7 +647,7 @@ module _ (claims· : Claims) where
   s34 = Known.k-enum-known Put.enum 0 T27 8 λ x. x
 
   abbrev s35 : Typed.Gives T37 T37
-  s35 = Known.k-known-told Put.enum Laws''.the-laws 0 T37 8 λ x. x
+  s35 = Known.k-known-told Put.enum Laws'3.the-laws 0 T37 8 λ x. x
 
   abbrev s36 : Typed.Mo T37 → Typed.Mo T39
   s36 = Make'.n-make (Declared'.row BitPosition.the-type) T37 10 λ m. m .1 .1 .1 .1 .1 .1 .1 .1 .0 .0
@@ -1011,12 +1011,12 @@ module _ (claims· : Claims) where
           d0 : Typed.Typed 𝓤 H A 𝓣 E (on T33 l7) b9 Δ1 at0
           d0 = Typed.s-typed 𝓤 H A W 𝓣 E (on T33 l7) b9 Δ1 (λ Ψ. Typed.pass T33 T34 s31 (Typed.pass T34 T35 s32 (Typed.pass T35 T16 s33 Ψ))) tt (Typed.g-post 𝓤 H A W 𝓣 E (on T33 l7) (on T35 l7) (on
               T16 l7) b9 (λ Ψ. Typed.pass T33 T34 s31 (Typed.pass T34 T35 s32 Ψ)) (Typed.pass T35 T16 s33) (Typed.g-post 𝓤 H A W 𝓣 E (on T33 l7) (on T34 l7) (on T35 l7) b9 (Typed.pass T33 T34 s31)
-              (Typed.pass T34 T35 s32) (Make.t-enum-make-wt 𝓤 H A W E 𝓣 BlockLength.the-type Laws'3.the-laws Laws'3.the-plain tt (on T33 l7) 17 ((Scalar.oInt Syntax.w8 1) ∷ (Scalar.oAt 18 y0 (Laws'5.val
-              Refusal.the-type Laws'4.the-laws)) ∷ []) (λ m. BlockLength.enum .make (Logic.inr (Logic.inl (m .1 .1 .1 .1 .1 .1 .1 .1 .1 .1 .1 .1 .1 .1 .1 .1 .1 .1 .0, tt)))) (Reads.room-gone 𝓤 H A y12)
-              (tt, ((Whole.reads-enum 𝓤 H A W Refusal.the-type Laws'4.the-laws, Path'.refl), tt)) Path'.refl (λ m wa. Make.made-val BlockLength.the-type Laws'3.the-laws ((Laws'5.val Refusal.the-type
-              Laws'4.the-laws (m .1 .1 .1 .1 .1 .1 .1 .1 .1 .1 .1 .1 .1 .1 .1 .1 .1 .1 .0)) ∷ []) (BlockLength.enum .make (Logic.inr (Logic.inl
+              (Typed.pass T34 T35 s32) (Make.t-enum-make-wt 𝓤 H A W E 𝓣 BlockLength.the-type Laws'4.the-laws Laws'4.the-plain tt (on T33 l7) 17 ((Scalar.oInt Syntax.w8 1) ∷ (Scalar.oAt 18 y0 (Laws'5.val
+              Refusal.the-type Laws''.the-laws)) ∷ []) (λ m. BlockLength.enum .make (Logic.inr (Logic.inl (m .1 .1 .1 .1 .1 .1 .1 .1 .1 .1 .1 .1 .1 .1 .1 .1 .1 .1 .0, tt)))) (Reads.room-gone 𝓤 H A y12)
+              (tt, ((Whole.reads-enum 𝓤 H A W Refusal.the-type Laws''.the-laws, Path'.refl), tt)) Path'.refl (λ m wa. Make.made-val BlockLength.the-type Laws'4.the-laws ((Laws'5.val Refusal.the-type
+              Laws''.the-laws (m .1 .1 .1 .1 .1 .1 .1 .1 .1 .1 .1 .1 .1 .1 .1 .1 .1 .1 .0)) ∷ []) (BlockLength.enum .make (Logic.inr (Logic.inl
               (m .1 .1 .1 .1 .1 .1 .1 .1 .1 .1 .1 .1 .1 .1 .1 .1 .1 .1 .0, tt)))) (
-                Signed.made-wt Refusal.the-field Laws'4.the-field-laws (Whole.enum-wt Refusal.the-type Laws'4.the-laws (
+                Signed.made-wt Refusal.the-field Laws''.the-field-laws (Whole.enum-wt Refusal.the-type Laws''.the-laws (
                   tt,
                   (
                     tt,
@@ -1061,10 +1061,10 @@ module _ (claims· : Claims) where
                 ))
                     (Refusal.the-type .to (m .1 .1 .1 .1 .1 .1 .1 .1 .1 .1 .1 .1 .1 .1 .1 .1 .1 .1 .0)),
                 tt,
-              ) (wa .1)) λ m wa. Make.made-is BlockLength.the-type Laws'3.the-laws ((Laws'5.val Refusal.the-type
-              Laws'4.the-laws (m .1 .1 .1 .1 .1 .1 .1 .1 .1 .1 .1 .1 .1 .1 .1 .1 .1 .1 .0)) ∷ []) (BlockLength.enum .make (Logic.inr (Logic.inl
+              ) (wa .1)) λ m wa. Make.made-is BlockLength.the-type Laws'4.the-laws ((Laws'5.val Refusal.the-type
+              Laws''.the-laws (m .1 .1 .1 .1 .1 .1 .1 .1 .1 .1 .1 .1 .1 .1 .1 .1 .1 .1 .0)) ∷ []) (BlockLength.enum .make (Logic.inr (Logic.inl
               (m .1 .1 .1 .1 .1 .1 .1 .1 .1 .1 .1 .1 .1 .1 .1 .1 .1 .1 .0, tt)))) (
-                Signed.made-wt Refusal.the-field Laws'4.the-field-laws (Whole.enum-wt Refusal.the-type Laws'4.the-laws (
+                Signed.made-wt Refusal.the-field Laws''.the-field-laws (Whole.enum-wt Refusal.the-type Laws''.the-laws (
                   tt,
                   (
                     tt,
@@ -1113,16 +1113,16 @@ module _ (claims· : Claims) where
               (Scalar.g-room 𝓤 H A W E (on T35 l7) 18 y0 (Local.room-whole 𝓤 H A W (Declared.row Refusal.the-type) y0 Path'.refl)))
 
           d1 : Typed.Typed 𝓤 H A 𝓣 E (on T32 l7) (Syntax.seq b8 b9) Δ1 at1
-          d1 = Typed.s-seq 𝓤 H A W 𝓣 E (on T32 l7) (on T33 l7) b8 b9 Δ1 (Typed.pass T32 T33 s30) at0 (Make.t-enum-make-wt 𝓤 H A W E 𝓣 Refusal.the-type Laws'4.the-laws Laws'4.the-plain tt (on T32 l7)
+          d1 = Typed.s-seq 𝓤 H A W 𝓣 E (on T32 l7) (on T33 l7) b8 b9 Δ1 (Typed.pass T32 T33 s30) at0 (Make.t-enum-make-wt 𝓤 H A W E 𝓣 Refusal.the-type Laws''.the-laws Laws''.the-plain tt (on T32 l7)
               18 ((Scalar.oInt Syntax.w8 11) ∷ (Scalar.oAt 9 u64 (Row.valS (Row.sInt Syntax.w64))) ∷ []) (λ m. Refusal.enum .make (Logic.inr (Logic.inr (Logic.inr (Logic.inr (Logic.inr (Logic.inr
               (Logic.inr (Logic.inr (Logic.inr (Logic.inr (Logic.inr (Logic.inl (m .1 .1 .1 .1 .1 .1 .1 .1 .1 .0, tt)))))))))))))) (Reads.room-gone 𝓤 H A y0)
-              (tt, ((Scalar.reads-sc 𝓤 H A W (Row.sInt Syntax.w64), Path'.refl), tt)) Path'.refl (λ m wa. Make.made-val Refusal.the-type Laws'4.the-laws ((Laws'4.the-laws .1 .1 .1 .1 .1 .1 .1 .1 .1 .1 .1
+              (tt, ((Scalar.reads-sc 𝓤 H A W (Row.sInt Syntax.w64), Path'.refl), tt)) Path'.refl (λ m wa. Make.made-val Refusal.the-type Laws''.the-laws ((Laws''.the-laws .1 .1 .1 .1 .1 .1 .1 .1 .1 .1 .1
               .0 .0 .val (m .1 .1 .1 .1 .1 .1 .1 .1 .1 .0)) ∷ []) (Refusal.enum .make (Logic.inr (Logic.inr (Logic.inr (Logic.inr (Logic.inr (Logic.inr (Logic.inr (Logic.inr (Logic.inr (Logic.inr
               (Logic.inr (Logic.inl (m .1 .1 .1 .1 .1 .1 .1 .1 .1 .0, tt))))))))))))))
-              (Signed.made-wt Field.u64-field (Laws'4.the-laws .1 .1 .1 .1 .1 .1 .1 .1 .1 .1 .1 .0 .0) Make'.u64-wt (m .1 .1 .1 .1 .1 .1 .1 .1 .1 .0), tt) (wa .1)) λ m wa. Make.made-is Refusal.the-type
-              Laws'4.the-laws ((Laws'4.the-laws .1 .1 .1 .1 .1 .1 .1 .1 .1 .1 .1 .0 .0 .val (m .1 .1 .1 .1 .1 .1 .1 .1 .1 .0)) ∷ []) (Refusal.enum .make (Logic.inr (Logic.inr (Logic.inr (Logic.inr
+              (Signed.made-wt Field.u64-field (Laws''.the-laws .1 .1 .1 .1 .1 .1 .1 .1 .1 .1 .1 .0 .0) Make'.u64-wt (m .1 .1 .1 .1 .1 .1 .1 .1 .1 .0), tt) (wa .1)) λ m wa. Make.made-is Refusal.the-type
+              Laws''.the-laws ((Laws''.the-laws .1 .1 .1 .1 .1 .1 .1 .1 .1 .1 .1 .0 .0 .val (m .1 .1 .1 .1 .1 .1 .1 .1 .1 .0)) ∷ []) (Refusal.enum .make (Logic.inr (Logic.inr (Logic.inr (Logic.inr
               (Logic.inr (Logic.inr (Logic.inr (Logic.inr (Logic.inr (Logic.inr (Logic.inr (Logic.inl (m .1 .1 .1 .1 .1 .1 .1 .1 .1 .0, tt))))))))))))))
-              (Signed.made-wt Field.u64-field (Laws'4.the-laws .1 .1 .1 .1 .1 .1 .1 .1 .1 .1 .1 .0 .0) Make'.u64-wt (m .1 .1 .1 .1 .1 .1 .1 .1 .1 .0), tt) (wa .1)) d0
+              (Signed.made-wt Field.u64-field (Laws''.the-laws .1 .1 .1 .1 .1 .1 .1 .1 .1 .1 .1 .0 .0) Make'.u64-wt (m .1 .1 .1 .1 .1 .1 .1 .1 .1 .0), tt) (wa .1)) d0
 
           d2 : Typed.Typed 𝓤 H A 𝓣 E (on T31 l7) (Syntax.seq b8 b9) Δ1 at2
           d2 = Typed.g-pre 𝓤 H A W 𝓣 E (on T31 l7) (on T32 l7) (Syntax.seq b8 b9) Δ1 (Typed.pass T31 T32 s29) at1 (Scalar.g-room 𝓤 H A W E (on T31 l7) 8 y11 (Local.room-whole 𝓤 H A W (Known.Known
@@ -1130,13 +1130,13 @@ module _ (claims· : Claims) where
 
           d3 : Typed.Typed 𝓤 H A 𝓣 E (on T29 l7) b11 Δ1 at3
           d3 = Typed.s-seq 𝓤 H A W 𝓣 E (on T29 l7) (on T31 l7) b7 (Syntax.seq b8 b9) Δ1 (Typed.pass T29 T31 s28) at2 (Scalar.t-use 𝓤 H A W E 𝓣 (on T29 l7) (Scalar.oFld 8 ((Syntax.variant 1) ∷
-              (Syntax.field 1) ∷ []) u64 8 λ v. Laws''.the-laws .1 .0 .0 .val (v .0)) 9 (Rows.sc-here (Row.sInt Syntax.w64)) u64 (Row.valS (Row.sInt Syntax.w64)) (Row.sInt Syntax.w64 .of) (
-                Match.reads-payload 𝓤 H A W Put.enum Laws''.the-laws 1 Path'.refl Path'.refl (λ v. Val.vcons (Laws''.the-laws .1 .0 .0 .val (v .0)) Val.vnil) (λ v. Path'.refl) 0 u64 8 Path'.refl,
+              (Syntax.field 1) ∷ []) u64 8 λ v. Laws'3.the-laws .1 .0 .0 .val (v .0)) 9 (Rows.sc-here (Row.sInt Syntax.w64)) u64 (Row.valS (Row.sInt Syntax.w64)) (Row.sInt Syntax.w64 .of) (
+                Match.reads-payload 𝓤 H A W Put.enum Laws'3.the-laws 1 Path'.refl Path'.refl (λ v. Val.vcons (Laws'3.the-laws .1 .0 .0 .val (v .0)) Val.vnil) (λ v. Path'.refl) 0 u64 8 Path'.refl,
                 Path'.refl,
               ) (Reads.room-gone 𝓤 H A u64) (Scalar.holds-sc 𝓤 H A W (Row.sInt Syntax.w64)) Path'.refl (λ u. Path'.refl) λ u. tt) d2
 
           d4 : Typed.Typed 𝓤 H A 𝓣 E (on T29 l7) b11 Δ1 at4
-          d4 = Typed.g-pre 𝓤 H A W 𝓣 E (on T29 l7) (on T29 l7) b11 Δ1 (Typed.give s27) at3 (Known.g-known-told 𝓤 H A W E Put.enum 1 (on T29 l7) 8 Laws''.the-laws (λ x. x) (Reads.as-is 𝓤 H A
+          d4 = Typed.g-pre 𝓤 H A W 𝓣 E (on T29 l7) (on T29 l7) b11 Δ1 (Typed.give s27) at3 (Known.g-known-told 𝓤 H A W E Put.enum 1 (on T29 l7) 8 Laws'3.the-laws (λ x. x) (Reads.as-is 𝓤 H A
               (Rows.whole (Known.Known Put.enum 1)))) d3
 
           d5 : Typed.Typed 𝓤 H A 𝓣 E (on T27 l7) b11 Δ1 at5
@@ -1145,14 +1145,14 @@ module _ (claims· : Claims) where
 
           d6 : Typed.Typed 𝓤 H A 𝓣 E (on T51 l7) b17 Δ1 at6
           d6 = Typed.s-typed 𝓤 H A W 𝓣 E (on T51 l7) b17 Δ1 (λ Ψ. Typed.pass T51 T52 s49 (Typed.pass T52 T16 s50 Ψ)) tt (Typed.g-post 𝓤 H A W 𝓣 E (on T51 l7) (on T52 l7) (on T16 l7) b17 (Typed.pass
-              T51 T52 s49) (Typed.pass T52 T16 s50) (Make.t-enum-make-wt 𝓤 H A W E 𝓣 BlockLength.the-type Laws'3.the-laws Laws'3.the-plain tt (on T51 l7) 17 ((Scalar.oInt Syntax.w8 0) ∷ (Scalar.oAt 22 u64
+              T51 T52 s49) (Typed.pass T52 T16 s50) (Make.t-enum-make-wt 𝓤 H A W E 𝓣 BlockLength.the-type Laws'4.the-laws Laws'4.the-plain tt (on T51 l7) 17 ((Scalar.oInt Syntax.w8 0) ∷ (Scalar.oAt 22 u64
               (Row.valS (Row.sInt Syntax.w64))) ∷ []) (λ m. BlockLength.enum .make (Logic.inl (m .1 .1 .1 .1 .1 .1 .1 .1 .1 .1 .1 .1 .1 .1 .1 .1 .1 .1 .1 .1 .1 .1 .0, tt))) (Reads.room-gone 𝓤 H A y12)
-              (tt, ((Scalar.reads-sc 𝓤 H A W (Row.sInt Syntax.w64), Path'.refl), tt)) Path'.refl (λ m wa. Make.made-val BlockLength.the-type Laws'3.the-laws ((Laws'3.the-laws .0 .0 .val (m .1 .1 .1 .1 .1
+              (tt, ((Scalar.reads-sc 𝓤 H A W (Row.sInt Syntax.w64), Path'.refl), tt)) Path'.refl (λ m wa. Make.made-val BlockLength.the-type Laws'4.the-laws ((Laws'4.the-laws .0 .0 .val (m .1 .1 .1 .1 .1
               .1 .1 .1 .1 .1 .1 .1 .1 .1 .1 .1 .1 .1 .1 .1 .1 .1 .0)) ∷ []) (BlockLength.enum .make (Logic.inl (m .1 .1 .1 .1 .1 .1 .1 .1 .1 .1 .1 .1 .1 .1 .1 .1 .1 .1 .1 .1 .1 .1 .0, tt)))
-              (Signed.made-wt Field.u64-field (Laws'3.the-laws .0 .0) Make'.u64-wt (m .1 .1 .1 .1 .1 .1 .1 .1 .1 .1 .1 .1 .1 .1 .1 .1 .1 .1 .1 .1 .1 .1 .0), tt) (wa .1)) λ m wa. Make.made-is
-              BlockLength.the-type Laws'3.the-laws ((Laws'3.the-laws .0 .0 .val (m .1 .1 .1 .1 .1 .1 .1 .1 .1 .1 .1 .1 .1 .1 .1 .1 .1 .1 .1 .1 .1 .1 .0)) ∷ []) (BlockLength.enum .make (Logic.inl
+              (Signed.made-wt Field.u64-field (Laws'4.the-laws .0 .0) Make'.u64-wt (m .1 .1 .1 .1 .1 .1 .1 .1 .1 .1 .1 .1 .1 .1 .1 .1 .1 .1 .1 .1 .1 .1 .0), tt) (wa .1)) λ m wa. Make.made-is
+              BlockLength.the-type Laws'4.the-laws ((Laws'4.the-laws .0 .0 .val (m .1 .1 .1 .1 .1 .1 .1 .1 .1 .1 .1 .1 .1 .1 .1 .1 .1 .1 .1 .1 .1 .1 .0)) ∷ []) (BlockLength.enum .make (Logic.inl
               (m .1 .1 .1 .1 .1 .1 .1 .1 .1 .1 .1 .1 .1 .1 .1 .1 .1 .1 .1 .1 .1 .1 .0, tt)))
-              (Signed.made-wt Field.u64-field (Laws'3.the-laws .0 .0) Make'.u64-wt (m .1 .1 .1 .1 .1 .1 .1 .1 .1 .1 .1 .1 .1 .1 .1 .1 .1 .1 .1 .1 .1 .1 .0), tt) (wa .1)) (Scalar.g-room 𝓤 H A W E (on T52
+              (Signed.made-wt Field.u64-field (Laws'4.the-laws .0 .0) Make'.u64-wt (m .1 .1 .1 .1 .1 .1 .1 .1 .1 .1 .1 .1 .1 .1 .1 .1 .1 .1 .1 .1 .1 .1 .0), tt) (wa .1)) (Scalar.g-room 𝓤 H A W E (on T52
               l7) 22 u64 (Scalar.room-sc 𝓤 H A W (Row.sInt Syntax.w64))))
 
           d7 : Typed.Typed 𝓤 H A 𝓣 E (on T50 l7) b17 Δ1 at7
@@ -1208,16 +1208,16 @@ module _ (claims· : Claims) where
           d19 = Typed.s-seq 𝓤 H A W 𝓣 E (on T37 l7) (on T39 l7) b12 b21 Δ1 (Typed.pass T37 T39 s36) at18 (CopyOut.t-copy-told 𝓤 H A W E 𝓣 (Declared'.row BitPosition.the-type) Path'.refl (Laws'6.val
               BitPosition.the-type Laws.the-laws) (Laws'6.lawful BitPosition.the-type Laws.the-laws 𝓤 H A W) (Laws'6.makes BitPosition.the-type Laws.the-plain 𝓤 H A) (on T37 l7) 10 (Scalar.oFld 8
               ((Syntax.variant 0) ∷ (Syntax.field 1) ∷ []) y9 8 λ v. Laws'6.val BitPosition.the-type Laws.the-laws (v .0)) (λ m. m .1 .1 .1 .1 .1 .1 .1 .1 .0 .0) (λ m. Laws'5.Fields (Declared.variants
-              Put.the-type) (Laws'5.spellss (Put.enum .parts) Laws''.the-laws) (Put.the-type .to (Known.at Put.enum 0 (m .1 .1 .1 .1 .1 .1 .1 .1 .0)))) (Reads.room-gone 𝓤 H A y9) (
-                Match.reads-payload 𝓤 H A W Put.enum Laws''.the-laws 0 Path'.refl Path'.refl (λ v. Val.vcons (Laws'6.val BitPosition.the-type Laws.the-laws (v .0)) Val.vnil) (λ v. Path'.refl) 0 y9 8
+              Put.the-type) (Laws'5.spellss (Put.enum .parts) Laws'3.the-laws) (Put.the-type .to (Known.at Put.enum 0 (m .1 .1 .1 .1 .1 .1 .1 .1 .0)))) (Reads.room-gone 𝓤 H A y9) (
+                Match.reads-payload 𝓤 H A W Put.enum Laws'3.the-laws 0 Path'.refl Path'.refl (λ v. Val.vcons (Laws'6.val BitPosition.the-type Laws.the-laws (v .0)) Val.vnil) (λ v. Path'.refl) 0 y9 8
                     Path'.refl,
                 Path'.refl,
               ) Path'.refl (λ ρ m. Make'.tells-row 𝓤 H A W E ρ (Row.out 10 ((on T37 l7) .locals)) m 8 (Laws'5.Fields (Declared.variants Put.the-type) (Laws'5.spellss (Put.enum
-              .parts) Laws''.the-laws) (Put.the-type .to (Known.at Put.enum 0 (m .1 .1 .1 .1 .1 .1 .1 .1 .0)))) (Known.known-is 𝓤 H A W E Put.enum 0 Laws''.the-laws ρ 8 (m .1 .1 .1 .1 .1 .1 .1 .1 .0))) (λ
+              .parts) Laws'3.the-laws) (Put.the-type .to (Known.at Put.enum 0 (m .1 .1 .1 .1 .1 .1 .1 .1 .0)))) (Known.known-is 𝓤 H A W E Put.enum 0 Laws'3.the-laws ρ 8 (m .1 .1 .1 .1 .1 .1 .1 .1 .0))) (λ
               m k wa. Path'.refl) λ m k wa. k .0) d18
 
           d20 : Typed.Typed 𝓤 H A 𝓣 E (on T37 l7) b22 Δ1 at20
-          d20 = Typed.g-pre 𝓤 H A W 𝓣 E (on T37 l7) (on T37 l7) b22 Δ1 (Typed.give s35) at19 (Known.g-known-told 𝓤 H A W E Put.enum 0 (on T37 l7) 8 Laws''.the-laws (λ x. x) (Reads.as-is 𝓤 H A
+          d20 = Typed.g-pre 𝓤 H A W 𝓣 E (on T37 l7) (on T37 l7) b22 Δ1 (Typed.give s35) at19 (Known.g-known-told 𝓤 H A W E Put.enum 0 (on T37 l7) 8 Laws'3.the-laws (λ x. x) (Reads.as-is 𝓤 H A
               (Rows.whole (Known.Known Put.enum 0)))) d19
 
           d21 : Typed.Typed 𝓤 H A 𝓣 E (on T27 l7) b22 Δ1 at21
@@ -1227,7 +1227,7 @@ module _ (claims· : Claims) where
           d22 : Typed.Typed 𝓤 H A 𝓣 E (on T27 l7) b23 Δ1 at22
           d22 = Switch.t-switch-on 𝓤 H A W E 𝓣 (on T27 l7) (Scalar.oFld 8 ((Syntax.variant 0) ∷ (Syntax.field 0) ∷ []) u8 0 λ x. Val.vint Syntax.w8 (Declared.tagOf Put.the-type x)) Syntax.w8 (λ u.
               Declared.tagOf Put.the-type (u .1 .1 .1 .1 .1 .1 .1 .1 .0)) (Syntax.arm (1 ∷ []) b11 (Syntax.arm (0 ∷ []) b22 Syntax.noDefault)) Δ1 (at5, (at21, tt))
-              (Match.reads-tag 𝓤 H A W Put.the-type Laws''.the-laws (Rows.whole (Declared.row Put.the-type)) 0 (λ x. x) (Whole.reads-enum 𝓤 H A W Put.the-type Laws''.the-laws), Path'.refl) (λ u.
+              (Match.reads-tag 𝓤 H A W Put.the-type Laws'3.the-laws (Rows.whole (Declared.row Put.the-type)) 0 (λ x. x) (Whole.reads-enum 𝓤 H A W Put.the-type Laws'3.the-laws), Path'.refl) (λ u.
               Path'.refl) (d5, (d21, tt))
 
           d23 : Typed.Typed 𝓤 H A 𝓣 E G27 b23 Δ1 at22
@@ -1284,7 +1284,7 @@ module _ (claims· : Claims) where
           d38 : Typed.Typed 𝓤 H A 𝓣 E (on T16 l7) (Syntax.seq b24 b25) Δ0 at38
           d38 = Typed.s-seq 𝓤 H A W 𝓣 E (on T16 l7) (on T54 l7) b24 b25 Δ0 (Typed.pass T16 T54 s51) at37 (LocalCopy.t-val-copy 𝓤 H A W E 𝓣 (λ ρ. Unit) (on T16 l7) 17 0 (Declared.row
               BlockLength.the-type) y12 y12 (Rows.whole (Declared.row BlockLength.the-type)) (Rows.whole (Declared.row BlockLength.the-type)) (λ x. x) (λ x. x) (λ x. x) Path'.refl (Own.told-none 𝓤 H A
-              ((on T16 l7) .slots)) (Values.enum-copied 𝓤 H A W BlockLength.the-type Laws'3.the-laws Laws'3.the-copy) (Reads.room-gone 𝓤 H A y12) (Yields.makes-mem 𝓤 H A W (λ ρ. Unit) (Declared.row
+              ((on T16 l7) .slots)) (Values.enum-copied 𝓤 H A W BlockLength.the-type Laws'4.the-laws Laws'4.the-copy) (Reads.room-gone 𝓤 H A y12) (Yields.makes-mem 𝓤 H A W (λ ρ. Unit) (Declared.row
               BlockLength.the-type) Path'.refl (Rows.whole (Declared.row BlockLength.the-type)) (λ x. x) λ ρ told. Local.whole-mem 𝓤 H A W (Declared.row BlockLength.the-type) ρ) Path'.refl Path'.refl) d37
 
           d39 : Typed.Typed 𝓤 H A 𝓣 E G15 (Syntax.seq b23 (Syntax.seq b24 b25)) Δ0 at39

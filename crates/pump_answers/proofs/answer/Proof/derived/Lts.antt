@@ -1,7 +1,7 @@
 -- Written by tools/lend.py from Rattle's derivation of the twin of `pump_answers`; not edited by hand. Assumes nothing.
 use Rattle.bits.proofs.Values.{u32}
 use mathlib.Core.List.{_∷_, []}
-use Rattle.bits.proofs.Held
+use Rattle.pump.proofs.Held
 use Prim.Native.Nat
 use base.Fml
 use borrow.Author.Called
@@ -110,7 +110,7 @@ abbrev b0 : Syntax.Body
 b0 = Syntax.assign (Syntax.place 5 []) (Syntax.addrOf (Syntax.place 1 ((Syntax.deref (Held.held Syntax.erased)) ∷ [])))
 
 abbrev b1 : Syntax.Body
-b1 = Syntax.call "bits::BitPumpMsb::peek" ((Syntax.copy (Syntax.place 5 [])) ∷ (Syntax.copy (Syntax.place 3 [])) ∷ []) (Syntax.place 4 [])
+b1 = Syntax.call "pump::BitPumpMsb::peek" ((Syntax.copy (Syntax.place 5 [])) ∷ (Syntax.copy (Syntax.place 3 [])) ∷ []) (Syntax.place 4 [])
 
 abbrev b2 : Syntax.Body
 b2 = Syntax.seq b0 b1
@@ -119,7 +119,7 @@ abbrev b3 : Syntax.Body
 b3 = Syntax.assign (Syntax.place 6 []) (Syntax.addrOf (Syntax.place 1 ((Syntax.deref (Held.held Syntax.erased)) ∷ [])))
 
 abbrev b4 : Syntax.Body
-b4 = Syntax.call "bits::BitPumpMsb::get" ((Syntax.copy (Syntax.place 6 [])) ∷ (Syntax.copy (Syntax.place 3 [])) ∷ []) (Syntax.place 4 [])
+b4 = Syntax.call "pump::BitPumpMsb::get" ((Syntax.copy (Syntax.place 6 [])) ∷ (Syntax.copy (Syntax.place 3 [])) ∷ []) (Syntax.place 4 [])
 
 abbrev b5 : Syntax.Body
 b5 = Syntax.seq b3 b4
@@ -128,7 +128,7 @@ abbrev b6 : Syntax.Body
 b6 = Syntax.assign (Syntax.place 8 []) (Syntax.addrOf (Syntax.place 1 ((Syntax.deref (Held.held Syntax.erased)) ∷ [])))
 
 abbrev b7 : Syntax.Body
-b7 = Syntax.call "bits::BitPumpMsb::skip" ((Syntax.copy (Syntax.place 8 [])) ∷ (Syntax.copy (Syntax.place 3 [])) ∷ []) (Syntax.place 7 [])
+b7 = Syntax.call "pump::BitPumpMsb::skip" ((Syntax.copy (Syntax.place 8 [])) ∷ (Syntax.copy (Syntax.place 3 [])) ∷ []) (Syntax.place 7 [])
 
 abbrev b8 : Syntax.Body
 b8 = Syntax.assign (Syntax.place 4 []) (Syntax.rvOpd (Syntax.int Syntax.w32 0))
@@ -143,7 +143,7 @@ abbrev b11 : Syntax.Body
 b11 = Syntax.assign (Syntax.place 10 []) (Syntax.addrOf (Syntax.place 1 ((Syntax.deref (Held.held Syntax.erased)) ∷ [])))
 
 abbrev b12 : Syntax.Body
-b12 = Syntax.call "bits::BitPumpMsb::align_byte" ((Syntax.copy (Syntax.place 10 [])) ∷ []) (Syntax.place 9 [])
+b12 = Syntax.call "pump::BitPumpMsb::align_byte" ((Syntax.copy (Syntax.place 10 [])) ∷ []) (Syntax.place 9 [])
 
 abbrev b13 : Syntax.Body
 b13 = Syntax.assign (Syntax.place 4 []) (Syntax.rvOpd (Syntax.int Syntax.w32 0))
@@ -478,8 +478,8 @@ module _ (claims· : Claims) where
     module _ (M : Type 1) where
       abbrev pub Closed : Type 2
       Closed = (𝓤 : URA.URA M) (H : Wp.Heap 𝓤) (A : Atoms.Atoms 𝓤) (W : Kit.Given 𝓤 H A) (𝓣 : Wp.Tables 𝓤 H) (known0 : Plain.Known 𝓤 H A W 𝓣 2 ps·0 r·0 (claims· .0) (claims· .1)
-          "bits::BitPumpMsb::peek") (known1 : Plain.Known 𝓤 H A W 𝓣 2 ps·1 r·1 (claims· .2) (claims· .3) "bits::BitPumpMsb::get") (known2 : Plain.Known 𝓤 H A W 𝓣 2 ps·2 r·2 (claims· .4) (claims· .5)
-          "bits::BitPumpMsb::skip") (known3 : Plain.Known 𝓤 H A W 𝓣 2 ps·3 r·3 (claims· .6) (claims· .7) "bits::BitPumpMsb::align_byte") → Statement.Triple 𝓤 (Wp.WpFn 𝓤 H (𝓣 .C) (𝓣 .Λ) (Function.fnOf 2 ps
+          "pump::BitPumpMsb::peek") (known1 : Plain.Known 𝓤 H A W 𝓣 2 ps·1 r·1 (claims· .2) (claims· .3) "pump::BitPumpMsb::get") (known2 : Plain.Known 𝓤 H A W 𝓣 2 ps·2 r·2 (claims· .4) (claims· .5)
+          "pump::BitPumpMsb::skip") (known3 : Plain.Known 𝓤 H A W 𝓣 2 ps·3 r·3 (claims· .6) (claims· .7) "pump::BitPumpMsb::align_byte") → Statement.Triple 𝓤 (Wp.WpFn 𝓤 H (𝓣 .C) (𝓣 .Λ) (Function.fnOf 2 ps
           r xs m hs body)) (Function.plainOf 𝓤 H A 2 ps r Pre· Post·)
 
     module _ where
@@ -579,8 +579,8 @@ module _ (claims· : Claims) where
 
       module _ {M : Type 1} (𝓤 : URA.URA M) (H : Wp.Heap 𝓤) (A : Atoms.Atoms 𝓤) (W : Kit.Given 𝓤 H A) (𝓣 : Wp.Tables 𝓤 H) where
         abbrev Knowns : Type 1
-        Knowns = Plain.Known 𝓤 H A W 𝓣 2 ps·0 r·0 (claims· .0) (claims· .1) "bits::BitPumpMsb::peek" × Plain.Known 𝓤 H A W 𝓣 2 ps·1 r·1 (claims· .2) (claims· .3) "bits::BitPumpMsb::get" × Plain.Known
-            𝓤 H A W 𝓣 2 ps·2 r·2 (claims· .4) (claims· .5) "bits::BitPumpMsb::skip" × Plain.Known 𝓤 H A W 𝓣 2 ps·3 r·3 (claims· .6) (claims· .7) "bits::BitPumpMsb::align_byte"
+        Knowns = Plain.Known 𝓤 H A W 𝓣 2 ps·0 r·0 (claims· .0) (claims· .1) "pump::BitPumpMsb::peek" × Plain.Known 𝓤 H A W 𝓣 2 ps·1 r·1 (claims· .2) (claims· .3) "pump::BitPumpMsb::get" × Plain.Known
+            𝓤 H A W 𝓣 2 ps·2 r·2 (claims· .4) (claims· .5) "pump::BitPumpMsb::skip" × Plain.Known 𝓤 H A W 𝓣 2 ps·3 r·3 (claims· .6) (claims· .7) "pump::BitPumpMsb::align_byte"
 
       module _ (κs : Lifetimes.Lfts 2) (qs : Lifetimes.Shares 2) where
         abbrev k0 : Row.Life
@@ -1070,7 +1070,7 @@ module _ (claims· : Claims) where
               A W 𝓣 E (G9 at) (G14 at) (G15 at) b1 (λ Ψ. Typed.both s7 (Typed.pass T10 T11 s8 (Typed.pass T11 T12 s9 Ψ))) (λ Ψ. Ψ) (Typed.g-post 𝓤 H A W 𝓣 E (G9 at) (G13 at) (G14 at) b1 (λ Ψ. Typed.both
               s7 (Typed.pass T10 T11 s8 (Typed.pass T11 T12 s9 Ψ))) (λ Ψ. Ψ) (Typed.g-post 𝓤 H A W 𝓣 E (G9 at) (G12 at) (G13 at) b1 (λ Ψ. Typed.both s7 (Typed.pass T10 T11 s8 (Typed.pass T11 T12 s9 Ψ)))
               (λ Ψ. Ψ) (Typed.g-post 𝓤 H A W 𝓣 E (G9 at) (G11 at) (G12 at) b1 (λ Ψ. Typed.both s7 (Typed.pass T10 T11 s8 Ψ)) (Typed.pass T11 T12 s9) (Typed.g-post 𝓤 H A W 𝓣 E (G9 at) (G10 at) (G11 at) b1
-              (Typed.both s7) (Typed.pass T10 T11 s8) (Plain.t-call-plain-by 𝓤 H A W 𝓣 2 ps·0 r·0 (claims· .0) (claims· .1) "bits::BitPumpMsb::peek" (known .0) E (λ pos β. β) (G9 at)
+              (Typed.both s7) (Typed.pass T10 T11 s8) (Plain.t-call-plain-by 𝓤 H A W 𝓣 2 ps·0 r·0 (claims· .0) (claims· .1) "pump::BitPumpMsb::peek" (known .0) E (λ pos β. β) (G9 at)
               (record { pos = 5; ty = y1; βs = 6 ∷ 1 ∷ []; ref = λ x. x }, (Num.vAt 3 λ x. x, tt)) 4 (6 ∷ 1 ∷ []) (Call.sub-id 𝓤 H A W (G9 at .slots)) (
                 ShrRefTo.spares-sref-at 𝓤 H A W 2 (λ κc. Held.type (Syntax.named 1) (κc .1 .0)) Held.Value (λ κc v. v) (6 ∷ 1 ∷ []) y1 6,
                 AtSlots.reads-sref-at 𝓤 H A W 2 (λ κc. Held.type (Syntax.named 1)
@@ -1127,7 +1127,7 @@ module _ (claims· : Claims) where
               s30 Ψ)) (λ Ψ. Ψ) (Typed.g-post 𝓤 H A W 𝓣 E (G26 at) (G32 at) (G33 at) b4 (λ Ψ. Typed.both s24 Ψ) (Typed.ask s30) (Typed.g-post 𝓤 H A W 𝓣 E (G26 at) (G31 at) (G32 at) b4 (λ Ψ. Typed.both s24
               Ψ) (λ Ψ. Ψ) (Typed.g-post 𝓤 H A W 𝓣 E (G26 at) (G30 at) (G31 at) b4 (λ Ψ. Typed.both s24 Ψ) (λ Ψ. Ψ) (Typed.g-post 𝓤 H A W 𝓣 E (G26 at) (G29 at) (G30 at) b4 (λ Ψ. Typed.both s24 Ψ) (λ Ψ. Ψ)
               (Typed.g-post 𝓤 H A W 𝓣 E (G26 at) (G28 at) (G29 at) b4 (λ Ψ. Typed.both s24 Ψ) (λ Ψ. Ψ) (Typed.g-post 𝓤 H A W 𝓣 E (G26 at) (G27 at) (G28 at) b4 (Typed.both s24) (λ Ψ. Ψ)
-              (Plain.t-call-plain-by 𝓤 H A W 𝓣 2 ps·1 r·1 (claims· .2) (claims· .3) "bits::BitPumpMsb::get" (known .1) E (λ pos β. β) (G26 at)
+              (Plain.t-call-plain-by 𝓤 H A W 𝓣 2 ps·1 r·1 (claims· .2) (claims· .3) "pump::BitPumpMsb::get" (known .1) E (λ pos β. β) (G26 at)
               (record { pos = 6; ty = y2; βs = 7 ∷ 1 ∷ []; ref = λ x. x }, (Num.vAt 3 λ x. x, tt)) 4 (7 ∷ 1 ∷ []) (Call.sub-id 𝓤 H A W (G26 at .slots)) (
                 Reads.as-is 𝓤 H A (AtSlots.mrefAt 2 (λ κc. Held.type (Syntax.named 1) (κc .1 .0)) Held.Value (λ κc v. v) (7 ∷ 1 ∷ []) y2 7),
                 AtSlots.reads-mref-at 𝓤 H A W 2 (λ κc. Held.type (Syntax.named
@@ -1210,7 +1210,7 @@ module _ (claims· : Claims) where
           d24 = λ at. Typed.g-pre 𝓤 H A W 𝓣 E (G42 at) (G43 at) b8 (Δ1 at) (Typed.pass T42 T43 s40) at18 (Scalar.g-room 𝓤 H A W E (G42 at) 7 Syntax.tyUnit (Scalar.room-sc 𝓤 H A W Row.sUnit)) (d23 at)
 
           d25 : (at : Nat.ℕ → Nat.ℕ) → Typed.Typed 𝓤 H A 𝓣 E (G41 at) b9 (Δ1 at) at25
-          d25 = λ at. Typed.s-seq 𝓤 H A W 𝓣 E (G41 at) (G42 at) b7 b8 (Δ1 at) (Typed.both s39) at24 (Plain.t-call-plain-by 𝓤 H A W 𝓣 2 ps·2 r·2 (claims· .4) (claims· .5) "bits::BitPumpMsb::skip"
+          d25 = λ at. Typed.s-seq 𝓤 H A W 𝓣 E (G41 at) (G42 at) b7 b8 (Δ1 at) (Typed.both s39) at24 (Plain.t-call-plain-by 𝓤 H A W 𝓣 2 ps·2 r·2 (claims· .4) (claims· .5) "pump::BitPumpMsb::skip"
               (known .2) E (λ pos β. β) (G41 at) (record { pos = 8; ty = y2; βs = 8 ∷ 1 ∷ []; ref = λ x. x }, (Num.vAt 3 λ x. x, tt)) 7 (8 ∷ 1 ∷ []) (Call.sub-id 𝓤 H A W (G41 at .slots)) (
                 Reads.as-is 𝓤 H A (AtSlots.mrefAt 2 (λ κc. Held.type (Syntax.named 1) (κc .1 .0)) Held.Value (λ κc v. v) (8 ∷ 1 ∷ []) y2 8),
                 AtSlots.reads-mref-at 𝓤 H A W 2 (λ κc. Held.type (Syntax.named
@@ -1289,7 +1289,7 @@ module _ (claims· : Claims) where
 
           d42 : (at : Nat.ℕ → Nat.ℕ) → Typed.Typed 𝓤 H A 𝓣 E (G58 at) b14 (Δ1 at) at42
           d42 = λ at. Typed.s-seq 𝓤 H A W 𝓣 E (G58 at) (G59 at) b12 b13 (Δ1 at) (Typed.both s56) at41 (Plain.t-call-plain-by 𝓤 H A W 𝓣 2 ps·3 r·3 (claims· .6) (claims· .7)
-              "bits::BitPumpMsb::align_byte" (known .3) E (λ pos β. β) (G58 at) (record { pos = 10; ty = y2; βs = 9 ∷ 1 ∷ []; ref = λ x. x }, tt) 9 (9 ∷ 1 ∷ []) (Call.sub-id 𝓤 H A W (G58 at .slots)) (
+              "pump::BitPumpMsb::align_byte" (known .3) E (λ pos β. β) (G58 at) (record { pos = 10; ty = y2; βs = 9 ∷ 1 ∷ []; ref = λ x. x }, tt) 9 (9 ∷ 1 ∷ []) (Call.sub-id 𝓤 H A W (G58 at .slots)) (
                 Reads.as-is 𝓤 H A (AtSlots.mrefAt 2 (λ κc. Held.type (Syntax.named 1) (κc .1 .0)) Held.Value (λ κc v. v) (9 ∷ 1 ∷ []) y2 9),
                 AtSlots.reads-mref-at 𝓤 H A W 2 (λ κc. Held.type (Syntax.named
                     1) (κc .1 .0)) Held.Value (λ κc v. v) (9 ∷ 1 ∷ []) y2 9,
@@ -1676,7 +1676,7 @@ module _ (claims· : Claims) where
           }
 
         module _ {M : Type 1} (𝓤 : URA.URA M) (H : Wp.Heap 𝓤) (A : Atoms.Atoms 𝓤) (W : Kit.Given 𝓤 H A) (𝓣 : Wp.Tables 𝓤 H) (known0 : Plain.Known 𝓤 H A W 𝓣 2 ps·0 r·0 (claims· .0) (claims· .1)
-            "bits::BitPumpMsb::peek") (known1 : Plain.Known 𝓤 H A W 𝓣 2 ps·1 r·1 (claims· .2) (claims· .3) "bits::BitPumpMsb::get") (known2 : Plain.Known 𝓤 H A W 𝓣 2 ps·2 r·2 (claims· .4) (claims· .5)
-            "bits::BitPumpMsb::skip") (known3 : Plain.Known 𝓤 H A W 𝓣 2 ps·3 r·3 (claims· .6) (claims· .7) "bits::BitPumpMsb::align_byte") where
+            "pump::BitPumpMsb::peek") (known1 : Plain.Known 𝓤 H A W 𝓣 2 ps·1 r·1 (claims· .2) (claims· .3) "pump::BitPumpMsb::get") (known2 : Plain.Known 𝓤 H A W 𝓣 2 ps·2 r·2 (claims· .4) (claims· .5)
+            "pump::BitPumpMsb::skip") (known3 : Plain.Known 𝓤 H A W 𝓣 2 ps·3 r·3 (claims· .6) (claims· .7) "pump::BitPumpMsb::align_byte") where
           pub spec : Statement.Triple 𝓤 (Wp.WpFn 𝓤 H (𝓣 .C) (𝓣 .Λ) (Function.fnOf 2 ps r xs m hs body)) (Function.plainOf 𝓤 H A 2 ps r Pre· Post·)
           spec = Plain.t-fn-plain 𝓤 H A W 𝓣 2 ps r xs m hs body (λ κs qs bs. Φ) (λ κs qs bs bd. typed κs qs 𝓤 H A W 𝓣 (known0, known1, known2, known3) bs bd) Pre· Post· asked

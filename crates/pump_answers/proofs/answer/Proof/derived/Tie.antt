@@ -1,22 +1,22 @@
 -- Written by tools/lend.py from Rattle's derivation of the twin of `pump_answers`; not edited by hand. Assumes nothing.
-use Rattle.bits.proofs.BitPumpMsb.align_byte.Met
+use Rattle.pump.proofs.BitPumpMsb.align_byte.Met
 use Rattle.pump_answers.proofs.derived.align_byte.Reads
-use Rattle.bits.proofs.BitPumpMsb.align_byte.Symbol
+use Rattle.pump.proofs.BitPumpMsb.align_byte.Symbol
 use Rattle.pump_answers.proofs.answer.Code
 use Rattle.pump_answers.proofs.answer.Key
 use Rattle.pump_answers.proofs.derived.answer.Kinds
 use Rattle.pump_answers.proofs.answer.Proof.derived.Lts
 use Rattle.pump_answers.proofs.derived.answer.Reads as Reads'
 use Rattle.pump_answers.proofs.answer.Statement
-use Rattle.bits.proofs.BitPumpMsb.get.Met as Met'
+use Rattle.pump.proofs.BitPumpMsb.get.Met as Met'
 use Rattle.pump_answers.proofs.derived.get.Reads as Reads''
-use Rattle.bits.proofs.BitPumpMsb.get.Symbol as Symbol'
-use Rattle.bits.proofs.BitPumpMsb.peek.Met as Met''
+use Rattle.pump.proofs.BitPumpMsb.get.Symbol as Symbol'
+use Rattle.pump.proofs.BitPumpMsb.peek.Met as Met''
 use Rattle.pump_answers.proofs.derived.peek.Reads as Reads'3
-use Rattle.bits.proofs.BitPumpMsb.peek.Symbol as Symbol''
-use Rattle.bits.proofs.BitPumpMsb.skip.Met as Met'3
+use Rattle.pump.proofs.BitPumpMsb.peek.Symbol as Symbol''
+use Rattle.pump.proofs.BitPumpMsb.skip.Met as Met'3
 use Rattle.pump_answers.proofs.derived.skip.Reads as Reads'4
-use Rattle.bits.proofs.BitPumpMsb.skip.Symbol as Symbol'3
+use Rattle.pump.proofs.BitPumpMsb.skip.Symbol as Symbol'3
 use borrow.Fn.Run
 use borrow.Fn.Written
 use contract.Running
@@ -62,7 +62,7 @@ module _ {M : Type 1} where
   close = λ closed 𝓤 H 𝓜 𝓖 𝓡. Written.close 2 Kinds.ps Kinds.r Reads'.Ghost Reads'.requires Reads'.ensures Reads'.pre-read Reads'.Pinned Reads'.Owned Reads'.post-read record
       { M = M; 𝓤 = 𝓤; H = H; 𝓜 = 𝓜; 𝓖 = 𝓖; 𝓡 = 𝓡 } Code.env Key.name Code.function (Code.unfolded 𝓤 H 𝓜 𝓡) (λ κs a g. tt) (λ κs. Reads'.owns κs record { M = M; 𝓤 = 𝓤; H = H; 𝓜 = 𝓜; 𝓖 = 𝓖; 𝓡 = 𝓡 })
       (Reads'.passes record { M = M; 𝓤 = 𝓤; H = H; 𝓜 = 𝓜; 𝓖 = 𝓖; 𝓡 = 𝓡 }) λ g. closed 𝓤 H (𝓖 .A) (Running.givenOf 𝓤 H 𝓜 𝓖) (Run.Over 𝓤 H 𝓜 𝓖 𝓡 Code.env) (Reads'3.known record
-      { M = M; 𝓤 = 𝓤; H = H; 𝓜 = 𝓜; 𝓖 = 𝓖; 𝓡 = 𝓡 } Code.env Symbol''.name Symbol''.routine Code.calls-bits·BitPumpMsb·peek (Met''.met 𝓤 H 𝓜 𝓖 𝓡)) (Reads''.known record
-      { M = M; 𝓤 = 𝓤; H = H; 𝓜 = 𝓜; 𝓖 = 𝓖; 𝓡 = 𝓡 } Code.env Symbol'.name Symbol'.routine Code.calls-bits·BitPumpMsb·get (Met'.met 𝓤 H 𝓜 𝓖 𝓡)) (Reads'4.known record
-      { M = M; 𝓤 = 𝓤; H = H; 𝓜 = 𝓜; 𝓖 = 𝓖; 𝓡 = 𝓡 } Code.env Symbol'3.name Symbol'3.routine Code.calls-bits·BitPumpMsb·skip (Met'3.met 𝓤 H 𝓜 𝓖 𝓡)) (Reads.known record
-      { M = M; 𝓤 = 𝓤; H = H; 𝓜 = 𝓜; 𝓖 = 𝓖; 𝓡 = 𝓡 } Code.env Symbol.name Symbol.routine Code.calls-bits·BitPumpMsb·align-byte (Met.met 𝓤 H 𝓜 𝓖 𝓡))
+      { M = M; 𝓤 = 𝓤; H = H; 𝓜 = 𝓜; 𝓖 = 𝓖; 𝓡 = 𝓡 } Code.env Symbol''.name Symbol''.routine Code.calls-pump·BitPumpMsb·peek (Met''.met 𝓤 H 𝓜 𝓖 𝓡)) (Reads''.known record
+      { M = M; 𝓤 = 𝓤; H = H; 𝓜 = 𝓜; 𝓖 = 𝓖; 𝓡 = 𝓡 } Code.env Symbol'.name Symbol'.routine Code.calls-pump·BitPumpMsb·get (Met'.met 𝓤 H 𝓜 𝓖 𝓡)) (Reads'4.known record
+      { M = M; 𝓤 = 𝓤; H = H; 𝓜 = 𝓜; 𝓖 = 𝓖; 𝓡 = 𝓡 } Code.env Symbol'3.name Symbol'3.routine Code.calls-pump·BitPumpMsb·skip (Met'3.met 𝓤 H 𝓜 𝓖 𝓡)) (Reads.known record
+      { M = M; 𝓤 = 𝓤; H = H; 𝓜 = 𝓜; 𝓖 = 𝓖; 𝓡 = 𝓡 } Code.env Symbol.name Symbol.routine Code.calls-pump·BitPumpMsb·align-byte (Met.met 𝓤 H 𝓜 𝓖 𝓡))

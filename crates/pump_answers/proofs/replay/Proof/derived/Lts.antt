@@ -3,7 +3,7 @@ use borrow.Fn.Args.{ArgsT}
 use Rattle.bits.proofs.Values
 use Rattle.bits.proofs.Values.{n8, u32, u64, u8}
 use mathlib.Core.List.{_∷_, []}
-use Rattle.bits.proofs.Held
+use Rattle.pump.proofs.Held
 use Prim.Native.Nat
 use Rattle.bits.proofs.BitPosition
 use Rattle.bits.proofs.BitPosition.Laws
@@ -170,13 +170,13 @@ abbrev b9 : Syntax.Body
 b9 = Syntax.assign (Syntax.place 11 []) (Syntax.addrOf (Syntax.place 1 ((Syntax.deref (Held.held Syntax.erased)) ∷ [])))
 
 abbrev b10 : Syntax.Body
-b10 = Syntax.call "bits::BitPumpMsb::bit_position" ((Syntax.copy (Syntax.place 11 [])) ∷ []) (Syntax.place 7 [])
+b10 = Syntax.call "pump::BitPumpMsb::bit_position" ((Syntax.copy (Syntax.place 11 [])) ∷ []) (Syntax.place 7 [])
 
 abbrev b11 : Syntax.Body
 b11 = Syntax.assign (Syntax.place 12 []) (Syntax.addrOf (Syntax.place 1 ((Syntax.deref (Held.held Syntax.erased)) ∷ [])))
 
 abbrev b12 : Syntax.Body
-b12 = Syntax.call "bits::BitPumpMsb::byte_position" ((Syntax.copy (Syntax.place 12 [])) ∷ []) (Syntax.place 8 [])
+b12 = Syntax.call "pump::BitPumpMsb::byte_position" ((Syntax.copy (Syntax.place 12 [])) ∷ []) (Syntax.place 8 [])
 
 abbrev b13 : Syntax.Body
 b13 = Syntax.call "pump_answers::agrees" ((Syntax.copy (Syntax.place 5 [])) ∷ (Syntax.copy (Syntax.place 6 [])) ∷ (Syntax.copy (Syntax.place 7 [])) ∷ (Syntax.copy (Syntax.place 8 [])) ∷ [])
@@ -641,7 +641,7 @@ module _ (claims· : Claims) where
       abbrev pub Closed : Type 2
       Closed = (𝓤 : URA.URA M) (H : Wp.Heap 𝓤) (A : Atoms.Atoms 𝓤) (W : Kit.Given 𝓤 H A) (𝓣 : Wp.Tables 𝓤 H) (known0 : Plain.Known 𝓤 H A W 𝓣 1 ps·0 r·0 (claims· .0) (claims· .1)
           "pump_answers::call_at") (known1 : Plain.Known 𝓤 H A W 𝓣 2 ps·1 r·1 (claims· .2) (claims· .3) "pump_answers::answer") (known2 : Plain.Known 𝓤 H A W 𝓣 2 ps·2 r·2 (claims· .4) (claims· .5)
-          "bits::BitPumpMsb::bit_position") (known3 : Plain.Known 𝓤 H A W 𝓣 2 ps·3 r·3 (claims· .6) (claims· .7) "bits::BitPumpMsb::byte_position") (known4 : Plain.Known 𝓤 H A W 𝓣 0 ps·4 r·4 (claims· .8)
+          "pump::BitPumpMsb::bit_position") (known3 : Plain.Known 𝓤 H A W 𝓣 2 ps·3 r·3 (claims· .6) (claims· .7) "pump::BitPumpMsb::byte_position") (known4 : Plain.Known 𝓤 H A W 𝓣 0 ps·4 r·4 (claims· .8)
           (claims· .9) "pump_answers::agrees") (known5 : Plain.Known 𝓤 H A W 𝓣 0 ps·5 r·5 (claims· .10) (claims· .11) "pump_answers::counted") → Statement.Triple 𝓤 (Wp.WpFn 𝓤 H (𝓣 .C) (𝓣 .Λ)
           (Function.fnOf 2 ps r xs m hs body)) (Function.plainOf 𝓤 H A 2 ps r Pre· Post·)
 
@@ -785,7 +785,7 @@ module _ (claims· : Claims) where
       module _ {M : Type 1} (𝓤 : URA.URA M) (H : Wp.Heap 𝓤) (A : Atoms.Atoms 𝓤) (W : Kit.Given 𝓤 H A) (𝓣 : Wp.Tables 𝓤 H) where
         abbrev Knowns : Type 1
         Knowns = Plain.Known 𝓤 H A W 𝓣 1 ps·0 r·0 (claims· .0) (claims· .1) "pump_answers::call_at" × Plain.Known 𝓤 H A W 𝓣 2 ps·1 r·1 (claims· .2) (claims· .3) "pump_answers::answer" × Plain.Known 𝓤
-            H A W 𝓣 2 ps·2 r·2 (claims· .4) (claims· .5) "bits::BitPumpMsb::bit_position" × Plain.Known 𝓤 H A W 𝓣 2 ps·3 r·3 (claims· .6) (claims· .7) "bits::BitPumpMsb::byte_position" × Plain.Known 𝓤 H A
+            H A W 𝓣 2 ps·2 r·2 (claims· .4) (claims· .5) "pump::BitPumpMsb::bit_position" × Plain.Known 𝓤 H A W 𝓣 2 ps·3 r·3 (claims· .6) (claims· .7) "pump::BitPumpMsb::byte_position" × Plain.Known 𝓤 H A
             W 𝓣 0 ps·4 r·4 (claims· .8) (claims· .9) "pump_answers::agrees" × Plain.Known 𝓤 H A W 𝓣 0 ps·5 r·5 (claims· .10) (claims· .11) "pump_answers::counted"
 
       module _ (κs : Lifetimes.Lfts 2) (qs : Lifetimes.Shares 2) where
@@ -1329,7 +1329,7 @@ module _ (claims· : Claims) where
 
           d21 : (at : Nat.ℕ → Nat.ℕ) → Typed.Typed 𝓤 H A 𝓣 E (G49 at) b18 (Δ3 at) at21
           d21 = λ at. Typed.s-seq 𝓤 H A W 𝓣 E (G49 at) (G50 at) b12 b17 (Δ3 at) (Typed.both s46) at20 (Plain.t-call-plain-by 𝓤 H A W 𝓣 2 ps·3 r·3 (claims· .6) (claims· .7)
-              "bits::BitPumpMsb::byte_position" (known .3) E (λ pos β. β) (G49 at) (record { pos = 12; ty = y2; βs = 7 ∷ 1 ∷ []; ref = λ x. x }, tt) 8 (7 ∷ 1 ∷ []) (Call'.sub-id 𝓤 H A W (G49 at .slots)) (
+              "pump::BitPumpMsb::byte_position" (known .3) E (λ pos β. β) (G49 at) (record { pos = 12; ty = y2; βs = 7 ∷ 1 ∷ []; ref = λ x. x }, tt) 8 (7 ∷ 1 ∷ []) (Call'.sub-id 𝓤 H A W (G49 at .slots)) (
                 ShrRefTo.spares-sref-at 𝓤 H A W 2 (λ κc. Held.type (Syntax.named 1) (κc .1 .0)) Held.Value (λ κc v. v) (7 ∷ 1 ∷ []) y2 7,
                 AtSlots.reads-sref-at 𝓤 H A W 2 (λ κc. Held.type (Syntax.named 1)
                     (κc .1 .0)) Held.Value (λ κc v. v) (7 ∷ 1 ∷ []) y2 7,
@@ -1408,7 +1408,7 @@ module _ (claims· : Claims) where
 
           d38 : (at : Nat.ℕ → Nat.ℕ) → Typed.Typed 𝓤 H A 𝓣 E (G32 at) b20 (Δ3 at) at38
           d38 = λ at. Typed.s-seq 𝓤 H A W 𝓣 E (G32 at) (G33 at) b10 b19 (Δ3 at) (Typed.both s29) at37 (Plain.t-call-plain-by 𝓤 H A W 𝓣 2 ps·2 r·2 (claims· .4) (claims· .5)
-              "bits::BitPumpMsb::bit_position" (known .2) E (λ pos β. β) (G32 at) (record { pos = 11; ty = y2; βs = 6 ∷ 1 ∷ []; ref = λ x. x }, tt) 7 (6 ∷ 1 ∷ []) (Call'.sub-id 𝓤 H A W (G32 at .slots)) (
+              "pump::BitPumpMsb::bit_position" (known .2) E (λ pos β. β) (G32 at) (record { pos = 11; ty = y2; βs = 6 ∷ 1 ∷ []; ref = λ x. x }, tt) 7 (6 ∷ 1 ∷ []) (Call'.sub-id 𝓤 H A W (G32 at .slots)) (
                 ShrRefTo.spares-sref-at 𝓤 H A W 2 (λ κc. Held.type (Syntax.named 1) (κc .1 .0)) Held.Value (λ κc v. v) (6 ∷ 1 ∷ []) y2 6,
                 AtSlots.reads-sref-at 𝓤 H A W 2 (λ κc. Held.type (Syntax.named 1)
                     (κc .1 .0)) Held.Value (λ κc v. v) (6 ∷ 1 ∷ []) y2 6,
@@ -1998,7 +1998,7 @@ module _ (claims· : Claims) where
 
         module _ {M : Type 1} (𝓤 : URA.URA M) (H : Wp.Heap 𝓤) (A : Atoms.Atoms 𝓤) (W : Kit.Given 𝓤 H A) (𝓣 : Wp.Tables 𝓤 H) (known0 : Plain.Known 𝓤 H A W 𝓣 1 ps·0 r·0 (claims· .0) (claims· .1)
             "pump_answers::call_at") (known1 : Plain.Known 𝓤 H A W 𝓣 2 ps·1 r·1 (claims· .2) (claims· .3) "pump_answers::answer") (known2 : Plain.Known 𝓤 H A W 𝓣 2 ps·2 r·2 (claims· .4) (claims· .5)
-            "bits::BitPumpMsb::bit_position") (known3 : Plain.Known 𝓤 H A W 𝓣 2 ps·3 r·3 (claims· .6) (claims· .7) "bits::BitPumpMsb::byte_position") (known4 : Plain.Known 𝓤 H A W 𝓣 0 ps·4 r·4 (claims·
+            "pump::BitPumpMsb::bit_position") (known3 : Plain.Known 𝓤 H A W 𝓣 2 ps·3 r·3 (claims· .6) (claims· .7) "pump::BitPumpMsb::byte_position") (known4 : Plain.Known 𝓤 H A W 𝓣 0 ps·4 r·4 (claims·
             .8) (claims· .9) "pump_answers::agrees") (known5 : Plain.Known 𝓤 H A W 𝓣 0 ps·5 r·5 (claims· .10) (claims· .11) "pump_answers::counted") where
           pub spec : Statement.Triple 𝓤 (Wp.WpFn 𝓤 H (𝓣 .C) (𝓣 .Λ) (Function.fnOf 2 ps r xs m hs body)) (Function.plainOf 𝓤 H A 2 ps r Pre· Post·)
           spec = Plain.t-fn-plain 𝓤 H A W 𝓣 2 ps r xs m hs body (λ κs qs bs. Φ) (λ κs qs bs bd. typed κs qs 𝓤 H A W 𝓣 (known0, known1, known2, known3, known4, known5) bs bd) Pre· Post· asked

@@ -5,12 +5,12 @@ use Rattle.pump_answers.proofs.agrees.Symbol
 use Rattle.pump_answers.proofs.answer.Met as Met'
 use Rattle.pump_answers.proofs.derived.answer.Reads as Reads'
 use Rattle.pump_answers.proofs.answer.Symbol as Symbol'
-use Rattle.bits.proofs.BitPumpMsb.bit_position.Met as Met''
+use Rattle.pump.proofs.BitPumpMsb.bit_position.Met as Met''
 use Rattle.pump_answers.proofs.derived.bit_position.Reads as Reads''
-use Rattle.bits.proofs.BitPumpMsb.bit_position.Symbol as Symbol''
-use Rattle.bits.proofs.BitPumpMsb.byte_position.Met as Met'3
+use Rattle.pump.proofs.BitPumpMsb.bit_position.Symbol as Symbol''
+use Rattle.pump.proofs.BitPumpMsb.byte_position.Met as Met'3
 use Rattle.pump_answers.proofs.derived.byte_position.Reads as Reads'3
-use Rattle.bits.proofs.BitPumpMsb.byte_position.Symbol as Symbol'3
+use Rattle.pump.proofs.BitPumpMsb.byte_position.Symbol as Symbol'3
 use Rattle.pump_answers.proofs.call_at.Met as Met'4
 use Rattle.pump_answers.proofs.call_at.Reads as Reads'4
 use Rattle.pump_answers.proofs.call_at.Symbol as Symbol'4
@@ -125,7 +125,7 @@ module _ {M : Type 1} where
       (Reads'6.passes record { M = M; 𝓤 = 𝓤; H = H; 𝓜 = 𝓜; 𝓖 = 𝓖; 𝓡 = 𝓡 }) λ g. closed 𝓤 H (𝓖 .A) (Running.givenOf 𝓤 H 𝓜 𝓖) (Run.Over 𝓤 H 𝓜 𝓖 𝓡 Code.env) (Reads'4.known record
       { M = M; 𝓤 = 𝓤; H = H; 𝓜 = 𝓜; 𝓖 = 𝓖; 𝓡 = 𝓡 } Code.env Symbol'4.name Symbol'4.routine Code.calls-pump-answers·call-at (Met'4.met 𝓤 H 𝓜 𝓖 𝓡)) (Reads'.known record
       { M = M; 𝓤 = 𝓤; H = H; 𝓜 = 𝓜; 𝓖 = 𝓖; 𝓡 = 𝓡 } Code.env Symbol'.name Symbol'.routine Code.calls-pump-answers·answer (Met'.met 𝓤 H 𝓜 𝓖 𝓡)) (Reads''.known record
-      { M = M; 𝓤 = 𝓤; H = H; 𝓜 = 𝓜; 𝓖 = 𝓖; 𝓡 = 𝓡 } Code.env Symbol''.name Symbol''.routine Code.calls-bits·BitPumpMsb·bit-position (Met''.met 𝓤 H 𝓜 𝓖 𝓡)) (Reads'3.known record
-      { M = M; 𝓤 = 𝓤; H = H; 𝓜 = 𝓜; 𝓖 = 𝓖; 𝓡 = 𝓡 } Code.env Symbol'3.name Symbol'3.routine Code.calls-bits·BitPumpMsb·byte-position (Met'3.met 𝓤 H 𝓜 𝓖 𝓡)) (Reads.known record
+      { M = M; 𝓤 = 𝓤; H = H; 𝓜 = 𝓜; 𝓖 = 𝓖; 𝓡 = 𝓡 } Code.env Symbol''.name Symbol''.routine Code.calls-pump·BitPumpMsb·bit-position (Met''.met 𝓤 H 𝓜 𝓖 𝓡)) (Reads'3.known record
+      { M = M; 𝓤 = 𝓤; H = H; 𝓜 = 𝓜; 𝓖 = 𝓖; 𝓡 = 𝓡 } Code.env Symbol'3.name Symbol'3.routine Code.calls-pump·BitPumpMsb·byte-position (Met'3.met 𝓤 H 𝓜 𝓖 𝓡)) (Reads.known record
       { M = M; 𝓤 = 𝓤; H = H; 𝓜 = 𝓜; 𝓖 = 𝓖; 𝓡 = 𝓡 } Code.env Symbol.name Symbol.routine Code.calls-pump-answers·agrees (Met.met 𝓤 H 𝓜 𝓖 𝓡)) (Reads'5.known record
       { M = M; 𝓤 = 𝓤; H = H; 𝓜 = 𝓜; 𝓖 = 𝓖; 𝓡 = 𝓡 } Code.env Symbol'5.name Symbol'5.routine Code.calls-pump-answers·counted (Met'5.met 𝓤 H 𝓜 𝓖 𝓡))

@@ -10,12 +10,12 @@ use Rattle.begin.proofs.Beginning
 use Rattle.begin.proofs.Beginning.Laws
 use Rattle.block.proofs.Decoded
 use Rattle.block.proofs.Decoded.Laws as Laws'
+use Rattle.header.proofs.FujiHeader
+use Rattle.header.proofs.FujiHeader.Laws as Laws''
+use Rattle.header.proofs.Refusal
+use Rattle.header.proofs.Refusal.Laws as Laws'3
 use Rattle.region.proofs.Rect
-use Rattle.region.proofs.Rect.Laws as Laws''
-use Rattle.stream.proofs.FujiHeader
-use Rattle.stream.proofs.FujiHeader.Laws as Laws'3
-use Rattle.stream.proofs.Refusal
-use Rattle.stream.proofs.Refusal.Laws as Laws'4
+use Rattle.region.proofs.Rect.Laws as Laws'4
 use borrow.Author.Called
 use borrow.Enum.Known
 use borrow.Enum.Make
@@ -84,7 +84,7 @@ abbrev pub y0 : Syntax.Ty
 y0 = Syntax.tyArray u8 36
 
 abbrev pub y1 : Syntax.Ty
-y1 = Syntax.tyEnum (115 ∷ 116 ∷ 114 ∷ 101 ∷ 97 ∷ 109 ∷ 58 ∷ 58 ∷ 82 ∷ 101 ∷ 102 ∷ 117 ∷ 115 ∷ 97 ∷ 108 ∷ []) (Syntax.ttcons Syntax.tnil (Syntax.ttcons Syntax.tnil (Syntax.ttcons Syntax.tnil
+y1 = Syntax.tyEnum (104 ∷ 101 ∷ 97 ∷ 100 ∷ 101 ∷ 114 ∷ 58 ∷ 58 ∷ 82 ∷ 101 ∷ 102 ∷ 117 ∷ 115 ∷ 97 ∷ 108 ∷ []) (Syntax.ttcons Syntax.tnil (Syntax.ttcons Syntax.tnil (Syntax.ttcons Syntax.tnil
     (Syntax.ttcons (Syntax.tcons u64 Syntax.tnil) (Syntax.ttcons Syntax.tnil (Syntax.ttcons Syntax.tnil (Syntax.ttcons Syntax.tnil (Syntax.ttcons Syntax.tnil (Syntax.ttcons Syntax.tnil (Syntax.ttcons
     Syntax.tnil (Syntax.ttcons (Syntax.tcons u64 Syntax.tnil) (Syntax.ttcons (Syntax.tcons u64 Syntax.tnil) (Syntax.ttcons Syntax.tnil (Syntax.ttcons (Syntax.tcons u64 (Syntax.tcons u64 Syntax.tnil))
     (Syntax.ttcons (Syntax.tcons u64 Syntax.tnil) (Syntax.ttcons Syntax.tnil (Syntax.ttcons Syntax.tnil (Syntax.ttcons (Syntax.tcons u64 Syntax.tnil) (Syntax.ttcons (Syntax.tcons u64 Syntax.tnil)
@@ -110,15 +110,15 @@ abbrev pub y7 : Syntax.Ty
 y7 = Syntax.tyRef Syntax.erased Syntax.mut u16
 
 abbrev pub y8 : Syntax.Ty
-y8 = Syntax.tyStruct (114 ∷ 101 ∷ 103 ∷ 105 ∷ 111 ∷ 110 ∷ 58 ∷ 58 ∷ 82 ∷ 101 ∷ 99 ∷ 116 ∷ []) (Syntax.tcons u64 (Syntax.tcons u64 (Syntax.tcons u64 (Syntax.tcons u64 Syntax.tnil))))
+y8 = Syntax.tyStruct (104 ∷ 101 ∷ 97 ∷ 100 ∷ 101 ∷ 114 ∷ 58 ∷ 58 ∷ 70 ∷ 117 ∷ 106 ∷ 105 ∷ 72 ∷ 101 ∷ 97 ∷ 100 ∷ 101 ∷ 114 ∷ []) (Syntax.tcons Syntax.tyBool (Syntax.tcons Syntax.tyBool (Syntax.tcons
+    u32 (Syntax.tcons u32 (Syntax.tcons u32 (Syntax.tcons u32 (Syntax.tcons u32 (Syntax.tcons u32 (Syntax.tcons u32 Syntax.tnil)))))))))
 
 abbrev pub y9 : Syntax.Ty
-y9 = Syntax.tyStruct (115 ∷ 116 ∷ 114 ∷ 101 ∷ 97 ∷ 109 ∷ 58 ∷ 58 ∷ 70 ∷ 117 ∷ 106 ∷ 105 ∷ 72 ∷ 101 ∷ 97 ∷ 100 ∷ 101 ∷ 114 ∷ []) (Syntax.tcons Syntax.tyBool (Syntax.tcons Syntax.tyBool (Syntax.tcons
-    u32 (Syntax.tcons u32 (Syntax.tcons u32 (Syntax.tcons u32 (Syntax.tcons u32 (Syntax.tcons u32 (Syntax.tcons u32 Syntax.tnil)))))))))
+y9 = Syntax.tyStruct (114 ∷ 101 ∷ 103 ∷ 105 ∷ 111 ∷ 110 ∷ 58 ∷ 58 ∷ 82 ∷ 101 ∷ 99 ∷ 116 ∷ []) (Syntax.tcons u64 (Syntax.tcons u64 (Syntax.tcons u64 (Syntax.tcons u64 Syntax.tnil))))
 
 abbrev pub y10 : Syntax.Ty
 y10 = Syntax.tyEnum (98 ∷ 101 ∷ 103 ∷ 105 ∷ 110 ∷ 58 ∷ 58 ∷ 66 ∷ 101 ∷ 103 ∷ 105 ∷ 110 ∷ 110 ∷ 105 ∷ 110 ∷ 103 ∷ []) (Syntax.ttcons (Syntax.tcons y1 Syntax.tnil) (Syntax.ttcons Syntax.tnil
-    (Syntax.ttcons (Syntax.tcons y9 Syntax.tnil) Syntax.ttnil)))
+    (Syntax.ttcons (Syntax.tcons y8 Syntax.tnil) Syntax.ttnil)))
 
 abbrev pub y11 : Syntax.Ty
 y11 = Syntax.tyEnum (98 ∷ 108 ∷ 111 ∷ 99 ∷ 107 ∷ 58 ∷ 58 ∷ 68 ∷ 101 ∷ 99 ∷ 111 ∷ 100 ∷ 101 ∷ 100 ∷ []) (Syntax.ttcons Syntax.tnil (Syntax.ttcons (Syntax.tcons y1 Syntax.tnil) Syntax.ttnil))
@@ -137,7 +137,7 @@ abbrev pub r : Kinds.RK 4
 r = Values.enum-result Decoded.the-type Laws'.the-laws Laws'.the-copy Laws'.the-plain tt
 
 abbrev pub xs : List.List Syntax.Ty
-xs = y10 ∷ y1 ∷ y9 ∷ y8 ∷ u64 ∷ u64 ∷ u64 ∷ u64 ∷ y11 ∷ y7 ∷ y13 ∷ Syntax.tyPtr ∷ u64 ∷ y7 ∷ y13 ∷ Syntax.tyPtr ∷ u64 ∷ y6 ∷ y12 ∷ []
+xs = y10 ∷ y1 ∷ y8 ∷ y9 ∷ u64 ∷ u64 ∷ u64 ∷ u64 ∷ y11 ∷ y7 ∷ y13 ∷ Syntax.tyPtr ∷ u64 ∷ y7 ∷ y13 ∷ Syntax.tyPtr ∷ u64 ∷ y6 ∷ y12 ∷ []
 
 abbrev pub m : Nat.ℕ
 m = 3
@@ -152,7 +152,7 @@ abbrev pub ps·1 : List.List (Kinds.PK 0)
 ps·1 = (Num.pNum Syntax.w64) ∷ (Num.pNum Syntax.w64) ∷ []
 
 abbrev pub r·1 : Kinds.RK 0
-r·1 = Values.struct-result Rect.the-type Laws''.the-laws Laws''.the-copy Laws''.the-plain
+r·1 = Values.struct-result Rect.the-type Laws'4.the-laws Laws'4.the-copy Laws'4.the-plain
 
 abbrev pub ps·2 : List.List (Kinds.PK 0)
 ps·2 = Bool.pBool ∷ []
@@ -161,7 +161,7 @@ abbrev pub r·2 : Kinds.RK 0
 r·2 = Num.rNum Syntax.w64
 
 abbrev pub ps·3 : List.List (Kinds.PK 4)
-ps·3 = (ShrSlice.pShrS n8 0 tt) ∷ (Values.struct FujiHeader.the-type Laws'3.the-laws Laws'3.the-copy Laws'3.the-plain) ∷ (Values.struct Rect.the-type Laws''.the-laws Laws''.the-copy Laws''.the-plain)
+ps·3 = (ShrSlice.pShrS n8 0 tt) ∷ (Values.struct FujiHeader.the-type Laws''.the-laws Laws''.the-copy Laws''.the-plain) ∷ (Values.struct Rect.the-type Laws'4.the-laws Laws'4.the-copy Laws'4.the-plain)
     ∷ (Array.pArr (Array.eInt Syntax.w8) (Array.eInt-laws Syntax.w8) 36) ∷ (MutSlice.pMutS n16 1 tt) ∷ (MutSlice.pMutS n16 2 tt) ∷ (MutSlice.pMutS (Element.type) 3 tt) ∷ Bool.pBool ∷ []
 
 abbrev pub r·3 : Kinds.RK 4
@@ -301,10 +301,10 @@ abbrev pub v7 : Row.Row
 v7 = Rows'.any-gone y10
 
 abbrev pub v8 : Row.Row
-v8 = Rows'.any-gone y9
+v8 = Rows'.any-gone y8
 
 abbrev pub v9 : Row.Row
-v9 = Rows'.any-gone y8
+v9 = Rows'.any-gone y9
 
 abbrev pub v10 : Row.Row
 v10 = Mut.mslice n16 y3 1
@@ -747,7 +747,7 @@ module _ (claims· : Claims) where
   s24 = Scalar.n-room T26 8 y10
 
   abbrev s25 : Typed.Both T27 T28
-  s25 = Call.callB ps·1 r·1 (claims· .2) (claims· .3) T27 (Num.vAt 2 λ x. x, (Num.vAt 3 λ x. x, tt)) 11 [] y8
+  s25 = Call.callB ps·1 r·1 (claims· .2) (claims· .3) T27 (Num.vAt 2 λ x. x, (Num.vAt 3 λ x. x, tt)) 11 [] y9
 
   abbrev s26 : Typed.Both T28 T29
   s26 = Call.callB ps·2 r·2 (claims· .4) (claims· .5) T28 (Bool.bFld 10 ((Syntax.field 1) ∷ []) 1 λ x. FujiHeader.struct .as-values x .1 .0, tt) 12 [] u64
@@ -816,10 +816,10 @@ module _ (claims· : Claims) where
   s45 = Scalar.n-room T47 4 y0
 
   abbrev s46 : Typed.Mo T48 → Typed.Mo T49
-  s46 = Scalar.n-room T48 10 y9
+  s46 = Scalar.n-room T48 10 y8
 
   abbrev s47 : Typed.Mo T49 → Typed.Mo T50
-  s47 = Scalar.n-room T49 11 y8
+  s47 = Scalar.n-room T49 11 y9
 
   abbrev s48 : Typed.Mo T50 → Typed.Mo T51
   s48 = Scalar.n-room T50 12 u64
@@ -1184,10 +1184,10 @@ module _ (claims· : Claims) where
           d0 : Typed.Typed 𝓤 H A 𝓣 E (on T17 l5) b5 Δ1 at0
           d0 = Typed.s-typed 𝓤 H A W 𝓣 E (on T17 l5) b5 Δ1 (λ Ψ. Typed.pass T17 T18 s15 (Typed.pass T18 T9 s16 Ψ)) tt (Typed.g-post 𝓤 H A W 𝓣 E (on T17 l5) (on T18 l5) (on T9 l5) b5 (Typed.pass T17
               T18 s15) (Typed.pass T18 T9 s16) (Make.t-enum-make-wt 𝓤 H A W E 𝓣 Decoded.the-type Laws'.the-laws Laws'.the-plain tt (on T17 l5) 16 ((Scalar.oInt Syntax.w8 1) ∷ (Scalar.oAt 9 y1 (Laws'5.val
-              Refusal.the-type Laws'4.the-laws)) ∷ []) (λ m. Decoded.enum .make (Logic.inr (Logic.inl (m .1 .1 .1 .1 .1 .1 .1 .1 .1 .0, tt)))) (Reads'.room-gone 𝓤 H A y11)
-              (tt, ((Whole.reads-enum 𝓤 H A W Refusal.the-type Laws'4.the-laws, Path'.refl), tt)) Path'.refl (λ m wa. Make.made-val Decoded.the-type Laws'.the-laws ((Laws'5.val Refusal.the-type
-              Laws'4.the-laws (m .1 .1 .1 .1 .1 .1 .1 .1 .1 .0)) ∷ []) (Decoded.enum .make (Logic.inr (Logic.inl (m .1 .1 .1 .1 .1 .1 .1 .1 .1 .0, tt)))) (
-                Signed.made-wt Refusal.the-field Laws'4.the-field-laws (Whole.enum-wt Refusal.the-type Laws'4.the-laws (
+              Refusal.the-type Laws'3.the-laws)) ∷ []) (λ m. Decoded.enum .make (Logic.inr (Logic.inl (m .1 .1 .1 .1 .1 .1 .1 .1 .1 .0, tt)))) (Reads'.room-gone 𝓤 H A y11)
+              (tt, ((Whole.reads-enum 𝓤 H A W Refusal.the-type Laws'3.the-laws, Path'.refl), tt)) Path'.refl (λ m wa. Make.made-val Decoded.the-type Laws'.the-laws ((Laws'5.val Refusal.the-type
+              Laws'3.the-laws (m .1 .1 .1 .1 .1 .1 .1 .1 .1 .0)) ∷ []) (Decoded.enum .make (Logic.inr (Logic.inl (m .1 .1 .1 .1 .1 .1 .1 .1 .1 .0, tt)))) (
+                Signed.made-wt Refusal.the-field Laws'3.the-field-laws (Whole.enum-wt Refusal.the-type Laws'3.the-laws (
                   tt,
                   (
                     tt,
@@ -1232,9 +1232,9 @@ module _ (claims· : Claims) where
                 ))
                     (Refusal.the-type .to (m .1 .1 .1 .1 .1 .1 .1 .1 .1 .0)),
                 tt,
-              ) (wa .1)) λ m wa. Make.made-is Decoded.the-type Laws'.the-laws ((Laws'5.val Refusal.the-type Laws'4.the-laws (m .1 .1 .1 .1 .1 .1
+              ) (wa .1)) λ m wa. Make.made-is Decoded.the-type Laws'.the-laws ((Laws'5.val Refusal.the-type Laws'3.the-laws (m .1 .1 .1 .1 .1 .1
               .1 .1 .1 .0)) ∷ []) (Decoded.enum .make (Logic.inr (Logic.inl (m .1 .1 .1 .1 .1 .1 .1 .1 .1 .0, tt)))) (
-                Signed.made-wt Refusal.the-field Laws'4.the-field-laws (Whole.enum-wt Refusal.the-type Laws'4.the-laws (
+                Signed.made-wt Refusal.the-field Laws'3.the-field-laws (Whole.enum-wt Refusal.the-type Laws'3.the-laws (
                   tt,
                   (
                     tt,
@@ -1287,10 +1287,10 @@ module _ (claims· : Claims) where
 
           d2 : Typed.Typed 𝓤 H A 𝓣 E (on T15 l5) b6 Δ1 at2
           d2 = Typed.s-seq 𝓤 H A W 𝓣 E (on T15 l5) (on T16 l5) b4 b5 Δ1 (Typed.pass T15 T16 s13) at1 (CopyOut.t-copy-told 𝓤 H A W E 𝓣 (Declared.row Refusal.the-type) Path'.refl (Laws'5.val
-              Refusal.the-type Laws'4.the-laws) (Laws'5.lawful Refusal.the-type Laws'4.the-laws 𝓤 H A W tt) (Laws'5.makes Refusal.the-type Laws'4.the-plain 𝓤 H A) (on T15 l5) 9 (Scalar.oFld 8
-              ((Syntax.variant 0) ∷ (Syntax.field 1) ∷ []) y1 8 λ v. Laws'5.val Refusal.the-type Laws'4.the-laws (v .0)) (λ m. m .1 .1 .1 .1 .1 .1 .1 .1 .0 .0) (λ m. Laws'5.Fields (Declared.variants
+              Refusal.the-type Laws'3.the-laws) (Laws'5.lawful Refusal.the-type Laws'3.the-laws 𝓤 H A W tt) (Laws'5.makes Refusal.the-type Laws'3.the-plain 𝓤 H A) (on T15 l5) 9 (Scalar.oFld 8
+              ((Syntax.variant 0) ∷ (Syntax.field 1) ∷ []) y1 8 λ v. Laws'5.val Refusal.the-type Laws'3.the-laws (v .0)) (λ m. m .1 .1 .1 .1 .1 .1 .1 .1 .0 .0) (λ m. Laws'5.Fields (Declared.variants
               Beginning.the-type) (Laws'5.spellss (Beginning.enum .parts) Laws.the-laws) (Beginning.the-type .to (Known.at Beginning.enum 0 (m .1 .1 .1 .1 .1 .1 .1 .1 .0)))) (Reads'.room-gone 𝓤 H A y1) (
-                Match.reads-payload 𝓤 H A W Beginning.enum Laws.the-laws 0 Path'.refl Path'.refl (λ v. Val.vcons (Laws'5.val Refusal.the-type Laws'4.the-laws (v .0)) Val.vnil) (λ v. Path'.refl) 0 y1 8
+                Match.reads-payload 𝓤 H A W Beginning.enum Laws.the-laws 0 Path'.refl Path'.refl (λ v. Val.vcons (Laws'5.val Refusal.the-type Laws'3.the-laws (v .0)) Val.vnil) (λ v. Path'.refl) 0 y1 8
                     Path'.refl,
                 Path'.refl,
               ) Path'.refl (λ ρ m. Make'.tells-row 𝓤 H A W E ρ (Row.out 9 ((on T15 l5) .locals)) m 8 (Laws'5.Fields (Declared.variants Beginning.the-type) (Laws'5.spellss
@@ -1359,9 +1359,9 @@ module _ (claims· : Claims) where
                 Shared.reads-sslice 𝓤 H A W n8 y2 0,
                 Path'.refl,
                 (
-                  (Values.struct-copied 𝓤 H A W FujiHeader.the-type Laws'3.the-laws Laws'3.the-copy, Path'.refl),
+                  (Values.struct-copied 𝓤 H A W FujiHeader.the-type Laws''.the-laws Laws''.the-copy, Path'.refl),
                   (
-                    (Values.struct-copied 𝓤 H A W Rect.the-type Laws''.the-laws Laws''.the-copy, Path'.refl),
+                    (Values.struct-copied 𝓤 H A W Rect.the-type Laws'4.the-laws Laws'4.the-copy, Path'.refl),
                     (
                       (Array.arr-yields 𝓤 H A W (Array.eInt Syntax.w8) (Array.eInt-laws Syntax.w8) 36, Path'.refl),
                       (
@@ -1379,8 +1379,8 @@ module _ (claims· : Claims) where
                   ),
                 ),
               ) (Reads'.room-gone 𝓤 H A y11) (tt, (tt, (tt, (tt, tt))))
-              Path'.refl) (Scalar.g-room 𝓤 H A W E G47 4 y0 (Init.room-arr 𝓤 H A W n8 36 0 36 Path'.refl))) (Scalar.g-room 𝓤 H A W E G48 10 y9 (Local.room-whole 𝓤 H A W (Declared'.row FujiHeader.the-type)
-              y9 Path'.refl))) (Scalar.g-room 𝓤 H A W E G49 11 y8 (Local.room-whole 𝓤 H A W (Declared'.row Rect.the-type) y8 Path'.refl))) (Scalar.g-room 𝓤 H A W E G50 12 u64 (Scalar.room-sc 𝓤 H A W
+              Path'.refl) (Scalar.g-room 𝓤 H A W E G47 4 y0 (Init.room-arr 𝓤 H A W n8 36 0 36 Path'.refl))) (Scalar.g-room 𝓤 H A W E G48 10 y8 (Local.room-whole 𝓤 H A W (Declared'.row FujiHeader.the-type)
+              y8 Path'.refl))) (Scalar.g-room 𝓤 H A W E G49 11 y9 (Local.room-whole 𝓤 H A W (Declared'.row Rect.the-type) y9 Path'.refl))) (Scalar.g-room 𝓤 H A W E G50 12 u64 (Scalar.room-sc 𝓤 H A W
               (Row.sInt Syntax.w64)))) (Lifetime.g-end 𝓤 H A W E G51 4 Path'.refl)) (Relend.g-back-sl 𝓤 H A W E n16 G52 18 5 1 4 y3 y7 k1 (λ x. x) (λ x. x) (Reads'.as-is 𝓤 H A (Mut.msleft n16 y7))
               (Reads'.as-is 𝓤 H A (Relend.mslice-owed n16 y3 1 4 k1)) Path'.refl Path'.refl)) (Know.g-sl-known 𝓤 H A W (Referent.fInt Syntax.w16) E G53 5 1 y3 k1 0 (λ x. x) record { fits = Dec'.lit< tt }
               (Reads'.as-is 𝓤 H A (Mut.mslice n16 y3 1)) Path'.refl tt)) (Lifetime.g-forget 𝓤 H A W E G53 4 Row.dead Path'.refl)) (Lifetime.g-end 𝓤 H A W E G55 5 Path'.refl)) (PartMut.g-back-slᵐ 𝓤 H A W E
@@ -1466,12 +1466,12 @@ module _ (claims· : Claims) where
           d28 : Typed.Typed 𝓤 H A 𝓣 E (on T28 l5) (Syntax.seq b10 (Syntax.seq b11 b30)) Δ1 at28
           d28 = Typed.s-seq 𝓤 H A W 𝓣 E (on T28 l5) (on T29 l5) b10 (Syntax.seq b11 b30) Δ1 (Typed.both s26) at26 (Plain.t-call-plain 𝓤 H A W 𝓣 0 ps·2 r·2 (claims· .4) (claims· .5)
               "begin::samples_needed" (known .2) E (λ pos β. β) (on T28 l5) (Bool.bFld 10 ((Syntax.field 1) ∷ []) 1 λ x. FujiHeader.struct .as-values x .1 .0, tt) 12 [] (Call.sub-id 𝓤 H A W ((on T28 l5)
-              .slots)) ((Reads.reads-field 𝓤 H A W FujiHeader.the-type Laws'3.the-laws 1 Syntax.tyBool 1 Path'.refl, Path'.refl), tt) (Reads'.room-gone 𝓤 H A u64) tt Path'.refl) d27
+              .slots)) ((Reads.reads-field 𝓤 H A W FujiHeader.the-type Laws''.the-laws 1 Syntax.tyBool 1 Path'.refl, Path'.refl), tt) (Reads'.room-gone 𝓤 H A u64) tt Path'.refl) d27
 
           d29 : Typed.Typed 𝓤 H A 𝓣 E (on T27 l5) b33 Δ1 at29
           d29 = Typed.s-seq 𝓤 H A W 𝓣 E (on T27 l5) (on T28 l5) b9 (Syntax.seq b10 (Syntax.seq b11 b30)) Δ1 (Typed.both s25) at28 (Plain.t-call-plain 𝓤 H A W 𝓣 0 ps·1 r·1 (claims· .2) (claims· .3)
               "begin::whole" (known .1) E (λ pos β. β) (on T27 l5) (Num.vAt 2 λ x. x, (Num.vAt 3 λ x. x, tt)) 11 [] (Call.sub-id 𝓤 H A W ((on T27 l5) .slots))
-              ((Scalar.reads-sc 𝓤 H A W (Row.sInt Syntax.w64), Path'.refl), ((Scalar.reads-sc 𝓤 H A W (Row.sInt Syntax.w64), Path'.refl), tt)) (Reads'.room-gone 𝓤 H A y8) tt Path'.refl) d28
+              ((Scalar.reads-sc 𝓤 H A W (Row.sInt Syntax.w64), Path'.refl), ((Scalar.reads-sc 𝓤 H A W (Row.sInt Syntax.w64), Path'.refl), tt)) (Reads'.room-gone 𝓤 H A y9) tt Path'.refl) d28
 
           d30 : Typed.Typed 𝓤 H A 𝓣 E (on T26 l5) b33 Δ1 at30
           d30 = Typed.g-pre 𝓤 H A W 𝓣 E (on T26 l5) (on T27 l5) b33 Δ1 (Typed.pass T26 T27 s24) at29 (Scalar.g-room 𝓤 H A W E (on T26 l5) 8 y10 (Local.room-whole 𝓤 H A W (Known.Known Beginning.enum 2)
@@ -1479,10 +1479,10 @@ module _ (claims· : Claims) where
 
           d31 : Typed.Typed 𝓤 H A 𝓣 E (on T24 l5) b34 Δ1 at31
           d31 = Typed.s-seq 𝓤 H A W 𝓣 E (on T24 l5) (on T26 l5) b8 b33 Δ1 (Typed.pass T24 T26 s23) at30 (CopyOut.t-copy-told 𝓤 H A W E 𝓣 (Declared'.row FujiHeader.the-type) Path'.refl (Laws'6.val
-              FujiHeader.the-type Laws'3.the-laws) (Laws'6.lawful FujiHeader.the-type Laws'3.the-laws 𝓤 H A W) (Laws'6.makes FujiHeader.the-type Laws'3.the-plain 𝓤 H A) (on T24 l5) 10 (Scalar.oFld 8
-              ((Syntax.variant 2) ∷ (Syntax.field 1) ∷ []) y9 4 λ v. Laws'6.val FujiHeader.the-type Laws'3.the-laws (v .0)) (λ m. m .1 .1 .1 .1 .1 .1 .1 .1 .0 .0) (λ m. Laws'5.Fields (Declared.variants
-              Beginning.the-type) (Laws'5.spellss (Beginning.enum .parts) Laws.the-laws) (Beginning.the-type .to (Known.at Beginning.enum 2 (m .1 .1 .1 .1 .1 .1 .1 .1 .0)))) (Reads'.room-gone 𝓤 H A y9) (
-                Match.reads-payload 𝓤 H A W Beginning.enum Laws.the-laws 2 Path'.refl Path'.refl (λ v. Val.vcons (Laws'6.val FujiHeader.the-type Laws'3.the-laws (v .0)) Val.vnil) (λ v. Path'.refl) 0 y9 4
+              FujiHeader.the-type Laws''.the-laws) (Laws'6.lawful FujiHeader.the-type Laws''.the-laws 𝓤 H A W) (Laws'6.makes FujiHeader.the-type Laws''.the-plain 𝓤 H A) (on T24 l5) 10 (Scalar.oFld 8
+              ((Syntax.variant 2) ∷ (Syntax.field 1) ∷ []) y8 4 λ v. Laws'6.val FujiHeader.the-type Laws''.the-laws (v .0)) (λ m. m .1 .1 .1 .1 .1 .1 .1 .1 .0 .0) (λ m. Laws'5.Fields (Declared.variants
+              Beginning.the-type) (Laws'5.spellss (Beginning.enum .parts) Laws.the-laws) (Beginning.the-type .to (Known.at Beginning.enum 2 (m .1 .1 .1 .1 .1 .1 .1 .1 .0)))) (Reads'.room-gone 𝓤 H A y8) (
+                Match.reads-payload 𝓤 H A W Beginning.enum Laws.the-laws 2 Path'.refl Path'.refl (λ v. Val.vcons (Laws'6.val FujiHeader.the-type Laws''.the-laws (v .0)) Val.vnil) (λ v. Path'.refl) 0 y8 4
                     Path'.refl,
                 Path'.refl,
               ) Path'.refl (λ ρ m. Make'.tells-row 𝓤 H A W E ρ (Row.out 10 ((on T24 l5) .locals)) m 8 (Laws'5.Fields (Declared.variants Beginning.the-type) (Laws'5.spellss

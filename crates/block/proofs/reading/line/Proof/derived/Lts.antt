@@ -17,8 +17,8 @@ use Rattle.map.proofs.Part
 use Rattle.map.proofs.Part.Laws as Laws'4
 use Rattle.pass.proofs.Passed
 use Rattle.pass.proofs.Passed.Laws as Laws'5
-use Rattle.steps.proofs.Plan
-use Rattle.steps.proofs.Plan.Laws as Laws'6
+use Rattle.schedule.proofs.Plan
+use Rattle.schedule.proofs.Plan.Laws as Laws'6
 use Rattle.steps.proofs.Quantisers
 use Rattle.steps.proofs.Quantisers.Laws as Laws'7
 use Rattle.steps.proofs.Set
@@ -124,7 +124,8 @@ y10 = Syntax.tyStruct (109 ∷ 97 ∷ 112 ∷ 58 ∷ 58 ∷ 80 ∷ 97 ∷ 114 �
     Syntax.tnil))))))
 
 abbrev pub y11 : Syntax.Ty
-y11 = Syntax.tyStruct (115 ∷ 116 ∷ 101 ∷ 112 ∷ 115 ∷ 58 ∷ 58 ∷ 80 ∷ 108 ∷ 97 ∷ 110 ∷ []) (Syntax.tcons u64 (Syntax.tcons u64 (Syntax.tcons u64 (Syntax.tcons u32 (Syntax.tcons u32 Syntax.tnil)))))
+y11 = Syntax.tyStruct (115 ∷ 99 ∷ 104 ∷ 101 ∷ 100 ∷ 117 ∷ 108 ∷ 101 ∷ 58 ∷ 58 ∷ 80 ∷ 108 ∷ 97 ∷ 110 ∷ []) (Syntax.tcons u64 (Syntax.tcons u64 (Syntax.tcons u64 (Syntax.tcons u32 (Syntax.tcons u32
+    Syntax.tnil)))))
 
 abbrev pub y12 : Syntax.Ty
 y12 = Syntax.tyStruct (98 ∷ 105 ∷ 116 ∷ 115 ∷ 58 ∷ 58 ∷ 66 ∷ 105 ∷ 116 ∷ 80 ∷ 111 ∷ 115 ∷ 105 ∷ 116 ∷ 105 ∷ 111 ∷ 110 ∷ []) (Syntax.tcons u64 Syntax.tnil)
@@ -265,7 +266,7 @@ abbrev b8 : Syntax.Body
 b8 = Syntax.cond (Syntax.copy (Syntax.place 25 [])) Syntax.skip b7
 
 abbrev b9 : Syntax.Body
-b9 = Syntax.call "steps::plan_at" ((Syntax.copy (Syntax.place 17 [])) ∷ (Syntax.copy (Syntax.place 14 [])) ∷ []) (Syntax.place 18 [])
+b9 = Syntax.call "schedule::plan_at" ((Syntax.copy (Syntax.place 17 [])) ∷ (Syntax.copy (Syntax.place 14 [])) ∷ []) (Syntax.place 18 [])
 
 abbrev b10 : Syntax.Body
 b10 = Syntax.call "pass::window_plan" ((Syntax.copy (Syntax.place 18 [])) ∷ (Syntax.copy (Syntax.place 12 [])) ∷ []) (Syntax.place 19 [])
@@ -1410,9 +1411,9 @@ module _ (claims· : Claims) where
     module _ (M : Type 1) where
       abbrev pub Closed : Type 2
       Closed = (𝓤 : URA.URA M) (H : Wp.Heap 𝓤) (A : Atoms.Atoms 𝓤) (W : Kit.Given 𝓤 H A) (𝓣 : Wp.Tables 𝓤 H) (known0 : Plain.Known 𝓤 H A W 𝓣 0 ps·0 r·0 (claims· .0) (claims· .1) "map::width") (known1
-          : Plain.Known 𝓤 H A W 𝓣 0 ps·1 r·1 (claims· .2) (claims· .3) "steps::plan_at") (known2 : Plain.Known 𝓤 H A W 𝓣 0 ps·2 r·2 (claims· .4) (claims· .5) "pass::window_plan") (known3 : Plain.Known 𝓤 H
-          A W 𝓣 1 ps·3 r·3 (claims· .6) (claims· .7) "lines::enter") (known4 : Plain.Known 𝓤 H A W 𝓣 1 ps·4 r·4 (claims· .8) (claims· .9) "block::records::load_set") (known5 : Plain.Known 𝓤 H A W 𝓣 2 ps·5
-          r·5 (claims· .10) (claims· .11) "pass::pass") (known6 : Plain.Known 𝓤 H A W 𝓣 1 ps·6 r·6 (claims· .12) (claims· .13) "block::records::store_set") (known7 : Plain.Known 𝓤 H A W 𝓣 3 ps·7 r·7
+          : Plain.Known 𝓤 H A W 𝓣 0 ps·1 r·1 (claims· .2) (claims· .3) "schedule::plan_at") (known2 : Plain.Known 𝓤 H A W 𝓣 0 ps·2 r·2 (claims· .4) (claims· .5) "pass::window_plan") (known3 : Plain.Known
+          𝓤 H A W 𝓣 1 ps·3 r·3 (claims· .6) (claims· .7) "lines::enter") (known4 : Plain.Known 𝓤 H A W 𝓣 1 ps·4 r·4 (claims· .8) (claims· .9) "block::records::load_set") (known5 : Plain.Known 𝓤 H A W 𝓣 2
+          ps·5 r·5 (claims· .10) (claims· .11) "pass::pass") (known6 : Plain.Known 𝓤 H A W 𝓣 1 ps·6 r·6 (claims· .12) (claims· .13) "block::records::store_set") (known7 : Plain.Known 𝓤 H A W 𝓣 3 ps·7 r·7
           (claims· .14) (claims· .15) "block::reading::emit_pass_at") (known8 : Plain.Known 𝓤 H A W 𝓣 1 ps·8 r·8 (claims· .16) (claims· .17) "bits::is_past") → Statement.Triple 𝓤 (Wp.WpFn 𝓤 H (𝓣 .C) (𝓣
           .Λ) (Function.fnOf 5 ps r xs m hs body)) (Function.plainOf 𝓤 H A 5 ps r Pre· Post·)
 
@@ -1760,7 +1761,7 @@ module _ (claims· : Claims) where
 
       module _ {M : Type 1} (𝓤 : URA.URA M) (H : Wp.Heap 𝓤) (A : Atoms.Atoms 𝓤) (W : Kit.Given 𝓤 H A) (𝓣 : Wp.Tables 𝓤 H) where
         abbrev Knowns : Type 1
-        Knowns = Plain.Known 𝓤 H A W 𝓣 0 ps·0 r·0 (claims· .0) (claims· .1) "map::width" × Plain.Known 𝓤 H A W 𝓣 0 ps·1 r·1 (claims· .2) (claims· .3) "steps::plan_at" × Plain.Known 𝓤 H A W 𝓣 0 ps·2
+        Knowns = Plain.Known 𝓤 H A W 𝓣 0 ps·0 r·0 (claims· .0) (claims· .1) "map::width" × Plain.Known 𝓤 H A W 𝓣 0 ps·1 r·1 (claims· .2) (claims· .3) "schedule::plan_at" × Plain.Known 𝓤 H A W 𝓣 0 ps·2
             r·2 (claims· .4) (claims· .5) "pass::window_plan" × Plain.Known 𝓤 H A W 𝓣 1 ps·3 r·3 (claims· .6) (claims· .7) "lines::enter" × Plain.Known 𝓤 H A W 𝓣 1 ps·4 r·4 (claims· .8) (claims· .9)
             "block::records::load_set" × Plain.Known 𝓤 H A W 𝓣 2 ps·5 r·5 (claims· .10) (claims· .11) "pass::pass" × Plain.Known 𝓤 H A W 𝓣 1 ps·6 r·6 (claims· .12) (claims· .13)
             "block::records::store_set" × Plain.Known 𝓤 H A W 𝓣 3 ps·7 r·7 (claims· .14) (claims· .15) "block::reading::emit_pass_at" × Plain.Known 𝓤 H A W 𝓣 1 ps·8 r·8 (claims· .16) (claims· .17)
@@ -2514,7 +2515,7 @@ module _ (claims· : Claims) where
 
           d87 : Typed.Typed 𝓤 H A 𝓣 E (on T11 l9) (Syntax.seq b9 (Syntax.seq b10 b59)) Δ3 (at87 bs)
           d87 = Typed.s-seq 𝓤 H A W 𝓣 E (on T11 l9) (on T20 l9) b9 (Syntax.seq b10 b59) Δ3 (Typed.both (s16 bs)) (at86 bs) (Plain.t-call-plain 𝓤 H A W 𝓣 0 ps·1 r·1 (claims· .2) (claims· .3)
-              "steps::plan_at" (known .1) E (λ pos β. β) (on T11 l9) (Num.vAt 17 λ x. x, (Bool.bAt 14 λ x. x, tt)) 18 [] (Call.sub-id 𝓤 H A W ((on T11 l9) .slots))
+              "schedule::plan_at" (known .1) E (λ pos β. β) (on T11 l9) (Num.vAt 17 λ x. x, (Bool.bAt 14 λ x. x, tt)) 18 [] (Call.sub-id 𝓤 H A W ((on T11 l9) .slots))
               ((Scalar.reads-sc 𝓤 H A W (Row.sInt Syntax.w64), Path'.refl), ((Scalar.reads-sc 𝓤 H A W Row.sBool, Path'.refl), tt)) (Reads'.room-gone 𝓤 H A y11) tt Path'.refl) d86
 
           d88 : Typed.Typed 𝓤 H A 𝓣 E (on T13 l9) b62 Δ3 (at88 bs)
@@ -4160,10 +4161,11 @@ module _ (claims· : Claims) where
           }
 
         module _ {M : Type 1} (𝓤 : URA.URA M) (H : Wp.Heap 𝓤) (A : Atoms.Atoms 𝓤) (W : Kit.Given 𝓤 H A) (𝓣 : Wp.Tables 𝓤 H) (known0 : Plain.Known 𝓤 H A W 𝓣 0 ps·0 r·0 (claims· .0) (claims· .1)
-            "map::width") (known1 : Plain.Known 𝓤 H A W 𝓣 0 ps·1 r·1 (claims· .2) (claims· .3) "steps::plan_at") (known2 : Plain.Known 𝓤 H A W 𝓣 0 ps·2 r·2 (claims· .4) (claims· .5) "pass::window_plan")
-            (known3 : Plain.Known 𝓤 H A W 𝓣 1 ps·3 r·3 (claims· .6) (claims· .7) "lines::enter") (known4 : Plain.Known 𝓤 H A W 𝓣 1 ps·4 r·4 (claims· .8) (claims· .9) "block::records::load_set") (known5 :
-            Plain.Known 𝓤 H A W 𝓣 2 ps·5 r·5 (claims· .10) (claims· .11) "pass::pass") (known6 : Plain.Known 𝓤 H A W 𝓣 1 ps·6 r·6 (claims· .12) (claims· .13) "block::records::store_set") (known7 :
-            Plain.Known 𝓤 H A W 𝓣 3 ps·7 r·7 (claims· .14) (claims· .15) "block::reading::emit_pass_at") (known8 : Plain.Known 𝓤 H A W 𝓣 1 ps·8 r·8 (claims· .16) (claims· .17) "bits::is_past") where
+            "map::width") (known1 : Plain.Known 𝓤 H A W 𝓣 0 ps·1 r·1 (claims· .2) (claims· .3) "schedule::plan_at") (known2 : Plain.Known 𝓤 H A W 𝓣 0 ps·2 r·2 (claims· .4) (claims· .5)
+            "pass::window_plan") (known3 : Plain.Known 𝓤 H A W 𝓣 1 ps·3 r·3 (claims· .6) (claims· .7) "lines::enter") (known4 : Plain.Known 𝓤 H A W 𝓣 1 ps·4 r·4 (claims· .8) (claims· .9)
+            "block::records::load_set") (known5 : Plain.Known 𝓤 H A W 𝓣 2 ps·5 r·5 (claims· .10) (claims· .11) "pass::pass") (known6 : Plain.Known 𝓤 H A W 𝓣 1 ps·6 r·6 (claims· .12) (claims· .13)
+            "block::records::store_set") (known7 : Plain.Known 𝓤 H A W 𝓣 3 ps·7 r·7 (claims· .14) (claims· .15) "block::reading::emit_pass_at") (known8 : Plain.Known 𝓤 H A W 𝓣 1 ps·8 r·8 (claims· .16)
+            (claims· .17) "bits::is_past") where
           pub spec : Statement.Triple 𝓤 (Wp.WpFn 𝓤 H (𝓣 .C) (𝓣 .Λ) (Function.fnOf 5 ps r xs m hs body)) (Function.plainOf 𝓤 H A 5 ps r Pre· Post·)
           spec = Plain.t-fn-plain 𝓤 H A W 𝓣 5 ps r xs m hs body (λ κs qs bs. Φ bs) (λ κs qs bs bd. typed κs qs 𝓤 H A W 𝓣 (known0, known1, known2, known3, known4, known5, known6, known7, known8) bs bd)
               Pre· Post· asked

@@ -29,9 +29,9 @@ use Rattle.pass.proofs.pass.Symbol as Symbol'6
 use Rattle.pass.proofs.window_plan.Met as Met'7
 use Rattle.pass.proofs.window_plan.Reads as Reads'8
 use Rattle.pass.proofs.window_plan.Symbol as Symbol'7
-use Rattle.steps.proofs.plan_at.Met as Met'8
-use Rattle.steps.proofs.plan_at.Reads as Reads'9
-use Rattle.steps.proofs.plan_at.Symbol as Symbol'8
+use Rattle.schedule.proofs.plan_at.Met as Met'8
+use Rattle.schedule.proofs.plan_at.Reads as Reads'9
+use Rattle.schedule.proofs.plan_at.Symbol as Symbol'8
 use borrow.Fn.Run
 use borrow.Fn.Written
 use contract.Running
@@ -267,7 +267,7 @@ module _ {M : Type 1} where
       { M = M; 𝓤 = 𝓤; H = H; 𝓜 = 𝓜; 𝓖 = 𝓖; 𝓡 = 𝓡 } Code.env Key.name Code.function (Code.unfolded 𝓤 H 𝓜 𝓡) (λ κs a g. tt) (λ κs. Reads''.owns κs record { M = M; 𝓤 = 𝓤; H = H; 𝓜 = 𝓜; 𝓖 = 𝓖; 𝓡 = 𝓡 })
       (Reads''.passes record { M = M; 𝓤 = 𝓤; H = H; 𝓜 = 𝓜; 𝓖 = 𝓖; 𝓡 = 𝓡 }) λ g. closed 𝓤 H (𝓖 .A) (Running.givenOf 𝓤 H 𝓜 𝓖) (Run.Over 𝓤 H 𝓜 𝓖 𝓡 Code.env) (Reads'6.known record
       { M = M; 𝓤 = 𝓤; H = H; 𝓜 = 𝓜; 𝓖 = 𝓖; 𝓡 = 𝓡 } Code.env Symbol'5.name Symbol'5.routine Code.calls-map·width (Met'5.met 𝓤 H 𝓜 𝓖 𝓡)) (Reads'9.known record { M = M; 𝓤 = 𝓤; H = H; 𝓜 = 𝓜; 𝓖 = 𝓖; 𝓡 = 𝓡 }
-      Code.env Symbol'8.name Symbol'8.routine Code.calls-steps·plan-at (Met'8.met 𝓤 H 𝓜 𝓖 𝓡)) (Reads'8.known record { M = M; 𝓤 = 𝓤; H = H; 𝓜 = 𝓜; 𝓖 = 𝓖; 𝓡 = 𝓡 } Code.env Symbol'7.name Symbol'7.routine
+      Code.env Symbol'8.name Symbol'8.routine Code.calls-schedule·plan-at (Met'8.met 𝓤 H 𝓜 𝓖 𝓡)) (Reads'8.known record { M = M; 𝓤 = 𝓤; H = H; 𝓜 = 𝓜; 𝓖 = 𝓖; 𝓡 = 𝓡 } Code.env Symbol'7.name Symbol'7.routine
       Code.calls-pass·window-plan (Met'7.met 𝓤 H 𝓜 𝓖 𝓡)) (Reads'5.known record { M = M; 𝓤 = 𝓤; H = H; 𝓜 = 𝓜; 𝓖 = 𝓖; 𝓡 = 𝓡 } Code.env Symbol'4.name Symbol'4.routine Code.calls-lines·enter (Met'4.met 𝓤 H 𝓜
       𝓖 𝓡)) (Reads'3.known record { M = M; 𝓤 = 𝓤; H = H; 𝓜 = 𝓜; 𝓖 = 𝓖; 𝓡 = 𝓡 } Code.env Symbol''.name Symbol''.routine Code.calls-block·records·load-set (Met''.met 𝓤 H 𝓜 𝓖 𝓡)) (Reads'7.known record
       { M = M; 𝓤 = 𝓤; H = H; 𝓜 = 𝓜; 𝓖 = 𝓖; 𝓡 = 𝓡 } Code.env Symbol'6.name Symbol'6.routine Code.calls-pass·pass (Met'6.met 𝓤 H 𝓜 𝓖 𝓡)) (Reads'4.known record { M = M; 𝓤 = 𝓤; H = H; 𝓜 = 𝓜; 𝓖 = 𝓖; 𝓡 = 𝓡 }

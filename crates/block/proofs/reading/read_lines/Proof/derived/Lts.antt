@@ -324,7 +324,7 @@ abbrev b15 : Syntax.Body
 b15 = Syntax.call "lines::turn_if" ((Syntax.copy (Syntax.place 29 [])) ∷ (Syntax.copy (Syntax.place 17 [])) ∷ (Syntax.copy (Syntax.place 26 [])) ∷ []) (Syntax.place 27 [])
 
 abbrev b16 : Syntax.Body
-b16 = Syntax.call "cameras::base_of" ((Syntax.copy (Syntax.place 2 [])) ∷ (Syntax.copy (Syntax.place 21 [])) ∷ []) (Syntax.place 22 [])
+b16 = Syntax.call "taking::base_of" ((Syntax.copy (Syntax.place 2 [])) ∷ (Syntax.copy (Syntax.place 21 [])) ∷ []) (Syntax.place 22 [])
 
 abbrev b17 : Syntax.Body
 b17 = Syntax.assign (Syntax.place 30 []) (Syntax.addrOf (Syntax.place 4 ((Syntax.field 0) ∷ (Syntax.deref (Element.held)) ∷ [])))
@@ -375,7 +375,7 @@ abbrev b31 : Syntax.Body
 b31 = Syntax.assign (Syntax.place 41 []) (Syntax.aggregate ((Syntax.copy (Syntax.place 40 [])) ∷ (Syntax.copy (Syntax.place 5 ((Syntax.field 1) ∷ []))) ∷ []))
 
 abbrev b32 : Syntax.Body
-b32 = Syntax.call "map::windows::zero_line" ((Syntax.copy (Syntax.place 41 [])) ∷ (Syntax.copy (Syntax.place 9 [])) ∷ (Syntax.copy (Syntax.place 21 [])) ∷ (Syntax.copy (Syntax.place 13 [])) ∷ [])
+b32 = Syntax.call "zero_rows::zero_line" ((Syntax.copy (Syntax.place 41 [])) ∷ (Syntax.copy (Syntax.place 9 [])) ∷ (Syntax.copy (Syntax.place 21 [])) ∷ (Syntax.copy (Syntax.place 13 [])) ∷ [])
     (Syntax.place 39 [])
 
 abbrev b33 : Syntax.Body
@@ -422,9 +422,8 @@ abbrev b49 : Syntax.Body
 b49 = Syntax.assign (Syntax.place 26 []) (Syntax.op1 Syntax.bitNot (Syntax.copy (Syntax.place 13 [])))
 
 abbrev b50 : Syntax.Body
-b50 = Syntax.call "map::windows::emit_line_if" ((Syntax.copy (Syntax.place 45 [])) ∷ (Syntax.copy (Syntax.place 47 [])) ∷ (Syntax.copy (Syntax.place 17 [])) ∷ (Syntax.copy (Syntax.place 16 [])) ∷
-    (Syntax.copy (Syntax.place 7 [])) ∷ (Syntax.copy (Syntax.place 8 [])) ∷ (Syntax.copy (Syntax.place 9 [])) ∷ (Syntax.copy (Syntax.place 21 [])) ∷ (Syntax.copy (Syntax.place 26 [])) ∷ []) (Syntax.place
-    27 [])
+b50 = Syntax.call "emit::emit_line_if" ((Syntax.copy (Syntax.place 45 [])) ∷ (Syntax.copy (Syntax.place 47 [])) ∷ (Syntax.copy (Syntax.place 17 [])) ∷ (Syntax.copy (Syntax.place 16 [])) ∷ (Syntax.copy
+    (Syntax.place 7 [])) ∷ (Syntax.copy (Syntax.place 8 [])) ∷ (Syntax.copy (Syntax.place 9 [])) ∷ (Syntax.copy (Syntax.place 21 [])) ∷ (Syntax.copy (Syntax.place 26 [])) ∷ []) (Syntax.place 27 [])
 
 abbrev b51 : Syntax.Body
 b51 = Syntax.assign (Syntax.place 20 []) (Syntax.op2 (Syntax.add Syntax.unsigned) (Syntax.copy (Syntax.place 20 [])) (Syntax.int Syntax.w64 1))
@@ -1684,12 +1683,12 @@ module _ (claims· : Claims) where
       abbrev pub Closed : Type 2
       Closed = (𝓤 : URA.URA M) (H : Wp.Heap 𝓤) (A : Atoms.Atoms 𝓤) (W : Kit.Given 𝓤 H A) (𝓣 : Wp.Tables 𝓤 H) (known0 : Plain.Known 𝓤 H A W 𝓣 0 ps·0 r·0 (claims· .0) (claims· .1) "map::width") (known1
           : Plain.Known 𝓤 H A W 𝓣 0 ps·1 r·1 (claims· .2) (claims· .3) "block::reading::totals_at") (known2 : Plain.Known 𝓤 H A W 𝓣 0 ps·2 r·2 (claims· .4) (claims· .5) "block::reading::no_lines") (known3
-          : Plain.Known 𝓤 H A W 𝓣 1 ps·3 r·3 (claims· .6) (claims· .7) "lines::turn_if") (known4 : Plain.Known 𝓤 H A W 𝓣 1 ps·4 r·4 (claims· .8) (claims· .9) "cameras::base_of") (known5 : Plain.Known 𝓤 H
-          A W 𝓣 1 ps·5 r·5 (claims· .10) (claims· .11) "block::reading::is_restarted") (known6 : Plain.Known 𝓤 H A W 𝓣 1 ps·6 r·6 (claims· .12) (claims· .13) "block::records::restart") (known7 :
-          Plain.Known 𝓤 H A W 𝓣 0 ps·7 r·7 (claims· .14) (claims· .15) "block::reading::quantisers_in") (known8 : Plain.Known 𝓤 H A W 𝓣 5 ps·8 r·8 (claims· .16) (claims· .17) "block::reading::line")
-          (known9 : Plain.Known 𝓤 H A W 𝓣 1 ps·9 r·9 (claims· .18) (claims· .19) "map::windows::zero_line") (known10 : Plain.Known 𝓤 H A W 𝓣 0 ps·10 r·10 (claims· .20) (claims· .21) "totals::with_line")
-          (known11 : Plain.Known 𝓤 H A W 𝓣 3 ps·11 r·11 (claims· .22) (claims· .23) "map::windows::emit_line_if") → Statement.Triple 𝓤 (Wp.WpFn 𝓤 H (𝓣 .C) (𝓣 .Λ) (Function.fnOf 6 ps r xs m hs body))
-          (Function.plainOf 𝓤 H A 6 ps r Pre· Post·)
+          : Plain.Known 𝓤 H A W 𝓣 1 ps·3 r·3 (claims· .6) (claims· .7) "lines::turn_if") (known4 : Plain.Known 𝓤 H A W 𝓣 1 ps·4 r·4 (claims· .8) (claims· .9) "taking::base_of") (known5 : Plain.Known 𝓤 H A
+          W 𝓣 1 ps·5 r·5 (claims· .10) (claims· .11) "block::reading::is_restarted") (known6 : Plain.Known 𝓤 H A W 𝓣 1 ps·6 r·6 (claims· .12) (claims· .13) "block::records::restart") (known7 : Plain.Known
+          𝓤 H A W 𝓣 0 ps·7 r·7 (claims· .14) (claims· .15) "block::reading::quantisers_in") (known8 : Plain.Known 𝓤 H A W 𝓣 5 ps·8 r·8 (claims· .16) (claims· .17) "block::reading::line") (known9 :
+          Plain.Known 𝓤 H A W 𝓣 1 ps·9 r·9 (claims· .18) (claims· .19) "zero_rows::zero_line") (known10 : Plain.Known 𝓤 H A W 𝓣 0 ps·10 r·10 (claims· .20) (claims· .21) "totals::with_line") (known11 :
+          Plain.Known 𝓤 H A W 𝓣 3 ps·11 r·11 (claims· .22) (claims· .23) "emit::emit_line_if") → Statement.Triple 𝓤 (Wp.WpFn 𝓤 H (𝓣 .C) (𝓣 .Λ) (Function.fnOf 6 ps r xs m hs body)) (Function.plainOf 𝓤 H A
+          6 ps r Pre· Post·)
 
     module _ (Inv·0 : InvT-loop) (μ·0 : MeasureT-loop) where
       abbrev at0 : Typed.TF T14 O4
@@ -2071,10 +2070,10 @@ module _ (claims· : Claims) where
         abbrev Knowns : Type 1
         Knowns = Plain.Known 𝓤 H A W 𝓣 0 ps·0 r·0 (claims· .0) (claims· .1) "map::width" × Plain.Known 𝓤 H A W 𝓣 0 ps·1 r·1 (claims· .2) (claims· .3) "block::reading::totals_at" × Plain.Known 𝓤 H A W
             𝓣 0 ps·2 r·2 (claims· .4) (claims· .5) "block::reading::no_lines" × Plain.Known 𝓤 H A W 𝓣 1 ps·3 r·3 (claims· .6) (claims· .7) "lines::turn_if" × Plain.Known 𝓤 H A W 𝓣 1 ps·4 r·4 (claims· .8)
-            (claims· .9) "cameras::base_of" × Plain.Known 𝓤 H A W 𝓣 1 ps·5 r·5 (claims· .10) (claims· .11) "block::reading::is_restarted" × Plain.Known 𝓤 H A W 𝓣 1 ps·6 r·6 (claims· .12) (claims· .13)
+            (claims· .9) "taking::base_of" × Plain.Known 𝓤 H A W 𝓣 1 ps·5 r·5 (claims· .10) (claims· .11) "block::reading::is_restarted" × Plain.Known 𝓤 H A W 𝓣 1 ps·6 r·6 (claims· .12) (claims· .13)
             "block::records::restart" × Plain.Known 𝓤 H A W 𝓣 0 ps·7 r·7 (claims· .14) (claims· .15) "block::reading::quantisers_in" × Plain.Known 𝓤 H A W 𝓣 5 ps·8 r·8 (claims· .16) (claims· .17)
-            "block::reading::line" × Plain.Known 𝓤 H A W 𝓣 1 ps·9 r·9 (claims· .18) (claims· .19) "map::windows::zero_line" × Plain.Known 𝓤 H A W 𝓣 0 ps·10 r·10 (claims· .20) (claims· .21)
-            "totals::with_line" × Plain.Known 𝓤 H A W 𝓣 3 ps·11 r·11 (claims· .22) (claims· .23) "map::windows::emit_line_if"
+            "block::reading::line" × Plain.Known 𝓤 H A W 𝓣 1 ps·9 r·9 (claims· .18) (claims· .19) "zero_rows::zero_line" × Plain.Known 𝓤 H A W 𝓣 0 ps·10 r·10 (claims· .20) (claims· .21)
+            "totals::with_line" × Plain.Known 𝓤 H A W 𝓣 3 ps·11 r·11 (claims· .22) (claims· .23) "emit::emit_line_if"
 
       module _ (κs : Lifetimes.Lfts 6) (qs : Lifetimes.Shares 6) where
         abbrev k0 : Row.Life
@@ -2549,8 +2548,8 @@ module _ (claims· : Claims) where
           d32 = Typed.g-pre 𝓤 H A W 𝓣 E G85 G86 b37 Δ5 (Typed.pass T85 T86 s81) at31 (Scalar.g-room 𝓤 H A W E G85 9 y11 (Local.room-whole 𝓤 H A W (Declared'.row Part.the-type) y11 Path'.refl)) d31
 
           d33 : Typed.Typed 𝓤 H A 𝓣 E G84 (Syntax.seq b32 b37) Δ5 at33
-          d33 = Typed.s-seq 𝓤 H A W 𝓣 E G84 G85 b32 b37 Δ5 (Typed.both s80) at32 (Plain.t-call-plain 𝓤 H A W 𝓣 1 ps·9 r·9 (claims· .18) (claims· .19) "map::windows::zero_line" (known .9) E (λ pos β.
-              β) G84 (record { pos = 41; ty = y10; ref = λ x. x }, (record { pos = 9; st = []; d = 0; at = λ x. x }, (Num.vAt 21 λ x. x, (Bool.bAt 13 λ x. x, tt)))) 39 (11 ∷ []) (Call.sub-id 𝓤 H A W (G84
+          d33 = Typed.s-seq 𝓤 H A W 𝓣 E G84 G85 b32 b37 Δ5 (Typed.both s80) at32 (Plain.t-call-plain 𝓤 H A W 𝓣 1 ps·9 r·9 (claims· .18) (claims· .19) "zero_rows::zero_line" (known .9) E (λ pos β. β)
+              G84 (record { pos = 41; ty = y10; ref = λ x. x }, (record { pos = 9; st = []; d = 0; at = λ x. x }, (Num.vAt 21 λ x. x, (Bool.bAt 13 λ x. x, tt)))) 39 (11 ∷ []) (Call.sub-id 𝓤 H A W (G84
               .slots)) (
                 Reads'.as-is 𝓤 H A (Mut.mslice n16 y10 11),
                 Mut.reads-mslice 𝓤 H A W n16 y10 11,
@@ -2688,8 +2687,8 @@ module _ (claims· : Claims) where
           d66 = Typed.g-pre 𝓤 H A W 𝓣 E G117 G118 b51 Δ3 (Typed.pass T117 T118 s113) at65 (Scalar.g-room 𝓤 H A W E G117 45 y20 (Shared.room-sslice 𝓤 H A W n16 y8 12)) d65
 
           d67 : Typed.Typed 𝓤 H A 𝓣 E G116 (Syntax.seq b50 b51) Δ3 at67
-          d67 = Typed.s-seq 𝓤 H A W 𝓣 E G116 G117 b50 b51 Δ3 (Typed.both s112) at66 (Plain.t-call-plain 𝓤 H A W 𝓣 3 ps·11 r·11 (claims· .22) (claims· .23) "map::windows::emit_line_if" (known .11) E (λ
-              pos β. β) G116 (
+          d67 = Typed.s-seq 𝓤 H A W 𝓣 E G116 G117 b50 b51 Δ3 (Typed.both s112) at66 (Plain.t-call-plain 𝓤 H A W 𝓣 3 ps·11 r·11 (claims· .22) (claims· .23) "emit::emit_line_if" (known .11) E (λ pos β.
+              β) G116 (
                 record { pos = 45; ty = y8; ref = λ x. x },
                 (
                   record { pos = 47; ty = y10; ref = λ x. x },
@@ -2976,7 +2975,7 @@ module _ (claims· : Claims) where
 
           d102 : Typed.Typed 𝓤 H A 𝓣 E (on T24 l13) b74 Δ3 at102
           d102 = Typed.s-seq 𝓤 H A W 𝓣 E (on T24 l13) (on T36 l13) b16 (Syntax.seq b17 b72) Δ3 (Typed.both s32) at100 (Plain.t-call-plain 𝓤 H A W 𝓣 1 ps·4 r·4 (claims· .8) (claims· .9)
-              "cameras::base_of" (known .4) E (λ pos β. β) (on T24 l13) (record { pos = 2; ty = y4; ref = λ x. x }, (Num.vAt 21 λ x. x, tt)) 22 (1 ∷ []) (Call.sub-id 𝓤 H A W ((on T24 l13) .slots))
+              "taking::base_of" (known .4) E (λ pos β. β) (on T24 l13) (record { pos = 2; ty = y4; ref = λ x. x }, (Num.vAt 21 λ x. x, tt)) 22 (1 ∷ []) (Call.sub-id 𝓤 H A W ((on T24 l13) .slots))
               (ShrSlice.spares-sslice 𝓤 H A W n8 y4 1, Shared.reads-sslice 𝓤 H A W n8 y4 1, Path'.refl, ((Scalar.reads-sc 𝓤 H A W (Row.sInt Syntax.w64), Path'.refl), tt)) (Reads'.room-gone 𝓤 H A u32)
               (tt, tt) Path'.refl) d101
 
@@ -4729,10 +4728,10 @@ module _ (claims· : Claims) where
         module _ {M : Type 1} (𝓤 : URA.URA M) (H : Wp.Heap 𝓤) (A : Atoms.Atoms 𝓤) (W : Kit.Given 𝓤 H A) (𝓣 : Wp.Tables 𝓤 H) (known0 : Plain.Known 𝓤 H A W 𝓣 0 ps·0 r·0 (claims· .0) (claims· .1)
             "map::width") (known1 : Plain.Known 𝓤 H A W 𝓣 0 ps·1 r·1 (claims· .2) (claims· .3) "block::reading::totals_at") (known2 : Plain.Known 𝓤 H A W 𝓣 0 ps·2 r·2 (claims· .4) (claims· .5)
             "block::reading::no_lines") (known3 : Plain.Known 𝓤 H A W 𝓣 1 ps·3 r·3 (claims· .6) (claims· .7) "lines::turn_if") (known4 : Plain.Known 𝓤 H A W 𝓣 1 ps·4 r·4 (claims· .8) (claims· .9)
-            "cameras::base_of") (known5 : Plain.Known 𝓤 H A W 𝓣 1 ps·5 r·5 (claims· .10) (claims· .11) "block::reading::is_restarted") (known6 : Plain.Known 𝓤 H A W 𝓣 1 ps·6 r·6 (claims· .12) (claims·
-            .13) "block::records::restart") (known7 : Plain.Known 𝓤 H A W 𝓣 0 ps·7 r·7 (claims· .14) (claims· .15) "block::reading::quantisers_in") (known8 : Plain.Known 𝓤 H A W 𝓣 5 ps·8 r·8 (claims· .16)
-            (claims· .17) "block::reading::line") (known9 : Plain.Known 𝓤 H A W 𝓣 1 ps·9 r·9 (claims· .18) (claims· .19) "map::windows::zero_line") (known10 : Plain.Known 𝓤 H A W 𝓣 0 ps·10 r·10 (claims·
-            .20) (claims· .21) "totals::with_line") (known11 : Plain.Known 𝓤 H A W 𝓣 3 ps·11 r·11 (claims· .22) (claims· .23) "map::windows::emit_line_if") where
+            "taking::base_of") (known5 : Plain.Known 𝓤 H A W 𝓣 1 ps·5 r·5 (claims· .10) (claims· .11) "block::reading::is_restarted") (known6 : Plain.Known 𝓤 H A W 𝓣 1 ps·6 r·6 (claims· .12) (claims· .13)
+            "block::records::restart") (known7 : Plain.Known 𝓤 H A W 𝓣 0 ps·7 r·7 (claims· .14) (claims· .15) "block::reading::quantisers_in") (known8 : Plain.Known 𝓤 H A W 𝓣 5 ps·8 r·8 (claims· .16)
+            (claims· .17) "block::reading::line") (known9 : Plain.Known 𝓤 H A W 𝓣 1 ps·9 r·9 (claims· .18) (claims· .19) "zero_rows::zero_line") (known10 : Plain.Known 𝓤 H A W 𝓣 0 ps·10 r·10 (claims· .20)
+            (claims· .21) "totals::with_line") (known11 : Plain.Known 𝓤 H A W 𝓣 3 ps·11 r·11 (claims· .22) (claims· .23) "emit::emit_line_if") where
           pub spec : Statement.Triple 𝓤 (Wp.WpFn 𝓤 H (𝓣 .C) (𝓣 .Λ) (Function.fnOf 6 ps r xs m hs body)) (Function.plainOf 𝓤 H A 6 ps r Pre· Post·)
           spec = Plain.t-fn-plain 𝓤 H A W 𝓣 6 ps r xs m hs body (λ κs qs bs. Φ) (λ κs qs bs bd. typed κs qs 𝓤 H A W 𝓣
               (known0, known1, known2, known3, known4, known5, known6, known7, known8, known9, known10, known11) bs bd) Pre· Post· asked

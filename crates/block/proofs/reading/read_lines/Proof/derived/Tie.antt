@@ -23,40 +23,40 @@ use Rattle.block.proofs.reading.totals_at.Symbol as Symbol'4
 use Rattle.block.proofs.records.restart.Met as Met'5
 use Rattle.block.proofs.records.derived.restart.Reads as Reads'6
 use Rattle.block.proofs.records.restart.Symbol as Symbol'5
-use Rattle.cameras.proofs.base_of.Met as Met'6
-use Rattle.cameras.proofs.base_of.Reads as Reads'7
-use Rattle.cameras.proofs.base_of.Symbol as Symbol'6
+use Rattle.emit.proofs.emit_line_if.Met as Met'6
+use Rattle.emit.proofs.emit_line_if.Reads as Reads'7
+use Rattle.emit.proofs.emit_line_if.Symbol as Symbol'6
 use Rattle.lines.proofs.turn_if.Met as Met'7
 use Rattle.lines.proofs.turn_if.Reads as Reads'8
 use Rattle.lines.proofs.turn_if.Symbol as Symbol'7
-use Rattle.map.proofs.emit_line_if.Met as Met'8
-use Rattle.map.proofs.emit_line_if.Reads as Reads'9
-use Rattle.map.proofs.emit_line_if.Symbol as Symbol'8
-use Rattle.map.proofs.width.Met as Met'9
-use Rattle.map.proofs.width.Reads as Reads'10
-use Rattle.map.proofs.width.Symbol as Symbol'9
-use Rattle.map.proofs.zero_line.Met as Met'10
-use Rattle.map.proofs.zero_line.Reads as Reads'11
-use Rattle.map.proofs.zero_line.Symbol as Symbol'10
-use Rattle.totals.proofs.with_line.Met as Met'11
-use Rattle.totals.proofs.with_line.Reads as Reads'12
-use Rattle.totals.proofs.with_line.Symbol as Symbol'11
+use Rattle.map.proofs.width.Met as Met'8
+use Rattle.map.proofs.width.Reads as Reads'9
+use Rattle.map.proofs.width.Symbol as Symbol'8
+use Rattle.taking.proofs.base_of.Met as Met'9
+use Rattle.taking.proofs.base_of.Reads as Reads'10
+use Rattle.taking.proofs.base_of.Symbol as Symbol'9
+use Rattle.totals.proofs.with_line.Met as Met'10
+use Rattle.totals.proofs.with_line.Reads as Reads'11
+use Rattle.totals.proofs.with_line.Symbol as Symbol'10
+use Rattle.zero_rows.proofs.zero_line.Met as Met'11
+use Rattle.zero_rows.proofs.zero_line.Reads as Reads'12
+use Rattle.zero_rows.proofs.zero_line.Symbol as Symbol'11
 use borrow.Fn.Run
 use borrow.Fn.Written
 use contract.Running
 
 abbrev claims : Lts.Claims
 claims = (
-  Reads'10.Asked,
-  Reads'10.Learnt,
+  Reads'9.Asked,
+  Reads'9.Learnt,
   Reads'5.Asked,
   Reads'5.Learnt,
   Reads''.Asked,
   Reads''.Learnt,
   Reads'8.Asked,
   Reads'8.Learnt,
-  Reads'7.Asked,
-  Reads'7.Learnt,
+  Reads'10.Asked,
+  Reads'10.Learnt,
   Reads.Asked,
   Reads.Learnt,
   Reads'6.Asked,
@@ -65,12 +65,12 @@ claims = (
   Reads'3.Learnt,
   Reads'.Asked,
   Reads'.Learnt,
-  Reads'11.Asked,
-  Reads'11.Learnt,
   Reads'12.Asked,
   Reads'12.Learnt,
-  Reads'9.Asked,
-  Reads'9.Learnt,
+  Reads'11.Asked,
+  Reads'11.Learnt,
+  Reads'7.Asked,
+  Reads'7.Learnt,
 )
 
 abbrev pub InvT-loop : Type 1
@@ -330,15 +330,15 @@ module _ {M : Type 1} where
   unfolding Code.routine Running.tablesOf
   close = λ closed 𝓤 H 𝓜 𝓖 𝓡. Written.close 6 Kinds.ps Kinds.r Reads'4.Ghost Reads'4.requires Reads'4.ensures Reads'4.pre-read Reads'4.Pinned Reads'4.Owned Reads'4.post-read record
       { M = M; 𝓤 = 𝓤; H = H; 𝓜 = 𝓜; 𝓖 = 𝓖; 𝓡 = 𝓡 } Code.env Key.name Code.function (Code.unfolded 𝓤 H 𝓜 𝓡) (λ κs a g. tt) (λ κs. Reads'4.owns κs record { M = M; 𝓤 = 𝓤; H = H; 𝓜 = 𝓜; 𝓖 = 𝓖; 𝓡 = 𝓡 })
-      (Reads'4.passes record { M = M; 𝓤 = 𝓤; H = H; 𝓜 = 𝓜; 𝓖 = 𝓖; 𝓡 = 𝓡 }) λ g. closed 𝓤 H (𝓖 .A) (Running.givenOf 𝓤 H 𝓜 𝓖) (Run.Over 𝓤 H 𝓜 𝓖 𝓡 Code.env) (Reads'10.known record
-      { M = M; 𝓤 = 𝓤; H = H; 𝓜 = 𝓜; 𝓖 = 𝓖; 𝓡 = 𝓡 } Code.env Symbol'9.name Symbol'9.routine Code.calls-map·width (Met'9.met 𝓤 H 𝓜 𝓖 𝓡)) (Reads'5.known record { M = M; 𝓤 = 𝓤; H = H; 𝓜 = 𝓜; 𝓖 = 𝓖; 𝓡 = 𝓡 }
+      (Reads'4.passes record { M = M; 𝓤 = 𝓤; H = H; 𝓜 = 𝓜; 𝓖 = 𝓖; 𝓡 = 𝓡 }) λ g. closed 𝓤 H (𝓖 .A) (Running.givenOf 𝓤 H 𝓜 𝓖) (Run.Over 𝓤 H 𝓜 𝓖 𝓡 Code.env) (Reads'9.known record
+      { M = M; 𝓤 = 𝓤; H = H; 𝓜 = 𝓜; 𝓖 = 𝓖; 𝓡 = 𝓡 } Code.env Symbol'8.name Symbol'8.routine Code.calls-map·width (Met'8.met 𝓤 H 𝓜 𝓖 𝓡)) (Reads'5.known record { M = M; 𝓤 = 𝓤; H = H; 𝓜 = 𝓜; 𝓖 = 𝓖; 𝓡 = 𝓡 }
       Code.env Symbol'4.name Symbol'4.routine Code.calls-block·reading·totals-at (Met'4.met 𝓤 H 𝓜 𝓖 𝓡)) (Reads''.known record { M = M; 𝓤 = 𝓤; H = H; 𝓜 = 𝓜; 𝓖 = 𝓖; 𝓡 = 𝓡 } Code.env Symbol''.name
       Symbol''.routine Code.calls-block·reading·no-lines (Met''.met 𝓤 H 𝓜 𝓖 𝓡)) (Reads'8.known record { M = M; 𝓤 = 𝓤; H = H; 𝓜 = 𝓜; 𝓖 = 𝓖; 𝓡 = 𝓡 } Code.env Symbol'7.name Symbol'7.routine
-      Code.calls-lines·turn-if (Met'7.met 𝓤 H 𝓜 𝓖 𝓡)) (Reads'7.known record { M = M; 𝓤 = 𝓤; H = H; 𝓜 = 𝓜; 𝓖 = 𝓖; 𝓡 = 𝓡 } Code.env Symbol'6.name Symbol'6.routine Code.calls-cameras·base-of (Met'6.met 𝓤 H 𝓜
+      Code.calls-lines·turn-if (Met'7.met 𝓤 H 𝓜 𝓖 𝓡)) (Reads'10.known record { M = M; 𝓤 = 𝓤; H = H; 𝓜 = 𝓜; 𝓖 = 𝓖; 𝓡 = 𝓡 } Code.env Symbol'9.name Symbol'9.routine Code.calls-taking·base-of (Met'9.met 𝓤 H 𝓜
       𝓖 𝓡)) (Reads.known record { M = M; 𝓤 = 𝓤; H = H; 𝓜 = 𝓜; 𝓖 = 𝓖; 𝓡 = 𝓡 } Code.env Symbol.name Symbol.routine Code.calls-block·reading·is-restarted (Met.met 𝓤 H 𝓜 𝓖 𝓡)) (Reads'6.known record
       { M = M; 𝓤 = 𝓤; H = H; 𝓜 = 𝓜; 𝓖 = 𝓖; 𝓡 = 𝓡 } Code.env Symbol'5.name Symbol'5.routine Code.calls-block·records·restart (Met'5.met 𝓤 H 𝓜 𝓖 𝓡)) (Reads'3.known record
       { M = M; 𝓤 = 𝓤; H = H; 𝓜 = 𝓜; 𝓖 = 𝓖; 𝓡 = 𝓡 } Code.env Symbol'3.name Symbol'3.routine Code.calls-block·reading·quantisers-in (Met'3.met 𝓤 H 𝓜 𝓖 𝓡)) (Reads'.known record
-      { M = M; 𝓤 = 𝓤; H = H; 𝓜 = 𝓜; 𝓖 = 𝓖; 𝓡 = 𝓡 } Code.env Symbol'.name Symbol'.routine Code.calls-block·reading·line (Met'.met 𝓤 H 𝓜 𝓖 𝓡)) (Reads'11.known record
-      { M = M; 𝓤 = 𝓤; H = H; 𝓜 = 𝓜; 𝓖 = 𝓖; 𝓡 = 𝓡 } Code.env Symbol'10.name Symbol'10.routine Code.calls-map·zero-line (Met'10.met 𝓤 H 𝓜 𝓖 𝓡)) (Reads'12.known record
-      { M = M; 𝓤 = 𝓤; H = H; 𝓜 = 𝓜; 𝓖 = 𝓖; 𝓡 = 𝓡 } Code.env Symbol'11.name Symbol'11.routine Code.calls-totals·with-line (Met'11.met 𝓤 H 𝓜 𝓖 𝓡)) (Reads'9.known record
-      { M = M; 𝓤 = 𝓤; H = H; 𝓜 = 𝓜; 𝓖 = 𝓖; 𝓡 = 𝓡 } Code.env Symbol'8.name Symbol'8.routine Code.calls-map·emit-line-if (Met'8.met 𝓤 H 𝓜 𝓖 𝓡))
+      { M = M; 𝓤 = 𝓤; H = H; 𝓜 = 𝓜; 𝓖 = 𝓖; 𝓡 = 𝓡 } Code.env Symbol'.name Symbol'.routine Code.calls-block·reading·line (Met'.met 𝓤 H 𝓜 𝓖 𝓡)) (Reads'12.known record
+      { M = M; 𝓤 = 𝓤; H = H; 𝓜 = 𝓜; 𝓖 = 𝓖; 𝓡 = 𝓡 } Code.env Symbol'11.name Symbol'11.routine Code.calls-zero-rows·zero-line (Met'11.met 𝓤 H 𝓜 𝓖 𝓡)) (Reads'11.known record
+      { M = M; 𝓤 = 𝓤; H = H; 𝓜 = 𝓜; 𝓖 = 𝓖; 𝓡 = 𝓡 } Code.env Symbol'10.name Symbol'10.routine Code.calls-totals·with-line (Met'10.met 𝓤 H 𝓜 𝓖 𝓡)) (Reads'7.known record
+      { M = M; 𝓤 = 𝓤; H = H; 𝓜 = 𝓜; 𝓖 = 𝓖; 𝓡 = 𝓡 } Code.env Symbol'6.name Symbol'6.routine Code.calls-emit·emit-line-if (Met'6.met 𝓤 H 𝓜 𝓖 𝓡))

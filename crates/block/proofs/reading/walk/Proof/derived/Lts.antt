@@ -213,7 +213,7 @@ abbrev b4 : Syntax.Body
 b4 = Syntax.assign (Syntax.place 18 []) (Syntax.aggregate ((Syntax.copy (Syntax.place 17 [])) ∷ (Syntax.copy (Syntax.place 4 ((Syntax.field 1) ∷ []))) ∷ []))
 
 abbrev b5 : Syntax.Body
-b5 = Syntax.call "cameras::base_of" ((Syntax.copy (Syntax.place 2 [])) ∷ (Syntax.int Syntax.w64 0) ∷ []) (Syntax.place 19 [])
+b5 = Syntax.call "taking::base_of" ((Syntax.copy (Syntax.place 2 [])) ∷ (Syntax.int Syntax.w64 0) ∷ []) (Syntax.place 19 [])
 
 abbrev b6 : Syntax.Body
 b6 = Syntax.call "block::records::start_records" ((Syntax.copy (Syntax.place 18 [])) ∷ (Syntax.copy (Syntax.place 6 ((Syntax.field 0) ∷ []))) ∷ (Syntax.copy (Syntax.place 19 [])) ∷ []) (Syntax.place
@@ -879,7 +879,7 @@ module _ (claims· : Claims) where
     module _ (M : Type 1) where
       abbrev pub Closed : Type 2
       Closed = (𝓤 : URA.URA M) (H : Wp.Heap 𝓤) (A : Atoms.Atoms 𝓤) (W : Kit.Given 𝓤 H A) (𝓣 : Wp.Tables 𝓤 H) (known0 : Plain.Known 𝓤 H A W 𝓣 1 ps·0 r·0 (claims· .0) (claims· .1) "lines::clear")
-          (known1 : Plain.Known 𝓤 H A W 𝓣 1 ps·1 r·1 (claims· .2) (claims· .3) "cameras::base_of") (known2 : Plain.Known 𝓤 H A W 𝓣 1 ps·2 r·2 (claims· .4) (claims· .5) "block::records::start_records")
+          (known1 : Plain.Known 𝓤 H A W 𝓣 1 ps·1 r·1 (claims· .2) (claims· .3) "taking::base_of") (known2 : Plain.Known 𝓤 H A W 𝓣 1 ps·2 r·2 (claims· .4) (claims· .5) "block::records::start_records")
           (known3 : Plain.Known 𝓤 H A W 𝓣 0 ps·3 r·3 (claims· .6) (claims· .7) "block::reading::start_place") (known4 : Plain.Known 𝓤 H A W 𝓣 6 ps·4 r·4 (claims· .8) (claims· .9)
           "block::reading::read_lines") (known5 : Plain.Known 𝓤 H A W 𝓣 1 ps·5 r·5 (claims· .10) (claims· .11) "block::records::clear_records") → Statement.Triple 𝓤 (Wp.WpFn 𝓤 H (𝓣 .C) (𝓣 .Λ)
           (Function.fnOf 6 ps r xs m hs body)) (Function.plainOf 𝓤 H A 6 ps r Pre· Post·)
@@ -1043,8 +1043,8 @@ module _ (claims· : Claims) where
 
       module _ {M : Type 1} (𝓤 : URA.URA M) (H : Wp.Heap 𝓤) (A : Atoms.Atoms 𝓤) (W : Kit.Given 𝓤 H A) (𝓣 : Wp.Tables 𝓤 H) where
         abbrev Knowns : Type 1
-        Knowns = Plain.Known 𝓤 H A W 𝓣 1 ps·0 r·0 (claims· .0) (claims· .1) "lines::clear" × Plain.Known 𝓤 H A W 𝓣 1 ps·1 r·1 (claims· .2) (claims· .3) "cameras::base_of" × Plain.Known 𝓤 H A W 𝓣 1
-            ps·2 r·2 (claims· .4) (claims· .5) "block::records::start_records" × Plain.Known 𝓤 H A W 𝓣 0 ps·3 r·3 (claims· .6) (claims· .7) "block::reading::start_place" × Plain.Known 𝓤 H A W 𝓣 6 ps·4 r·4
+        Knowns = Plain.Known 𝓤 H A W 𝓣 1 ps·0 r·0 (claims· .0) (claims· .1) "lines::clear" × Plain.Known 𝓤 H A W 𝓣 1 ps·1 r·1 (claims· .2) (claims· .3) "taking::base_of" × Plain.Known 𝓤 H A W 𝓣 1 ps·2
+            r·2 (claims· .4) (claims· .5) "block::records::start_records" × Plain.Known 𝓤 H A W 𝓣 0 ps·3 r·3 (claims· .6) (claims· .7) "block::reading::start_place" × Plain.Known 𝓤 H A W 𝓣 6 ps·4 r·4
             (claims· .8) (claims· .9) "block::reading::read_lines" × Plain.Known 𝓤 H A W 𝓣 1 ps·5 r·5 (claims· .10) (claims· .11) "block::records::clear_records"
 
       module _ (κs : Lifetimes.Lfts 6) (qs : Lifetimes.Shares 6) where
@@ -1634,8 +1634,8 @@ module _ (claims· : Claims) where
               Syntax.tyUnit) (tt, tt) Path'.refl) d53
 
           d55 : Typed.Typed 𝓤 H A 𝓣 E G17 (Syntax.seq b5 (Syntax.seq b6 b37)) Δ0 at55
-          d55 = Typed.s-seq 𝓤 H A W 𝓣 E G17 G18 b5 (Syntax.seq b6 b37) Δ0 (Typed.both s16) at54 (Plain.t-call-plain 𝓤 H A W 𝓣 1 ps·1 r·1 (claims· .2) (claims· .3) "cameras::base_of" (known .1) E (λ
-              pos β. β) G17 (record { pos = 2; ty = y3; ref = λ x. x }, (Num.vLit 0, tt)) 19 (1 ∷ []) (Call.sub-id 𝓤 H A W (G17 .slots))
+          d55 = Typed.s-seq 𝓤 H A W 𝓣 E G17 G18 b5 (Syntax.seq b6 b37) Δ0 (Typed.both s16) at54 (Plain.t-call-plain 𝓤 H A W 𝓣 1 ps·1 r·1 (claims· .2) (claims· .3) "taking::base_of" (known .1) E (λ pos
+              β. β) G17 (record { pos = 2; ty = y3; ref = λ x. x }, (Num.vLit 0, tt)) 19 (1 ∷ []) (Call.sub-id 𝓤 H A W (G17 .slots))
               (ShrSlice.spares-sslice 𝓤 H A W n8 y3 1, Shared.reads-sslice 𝓤 H A W n8 y3 1, Path'.refl, (tt, tt)) (Reads'.room-gone 𝓤 H A u32) (tt, tt) Path'.refl) d54
 
           d56 : Typed.Typed 𝓤 H A 𝓣 E G16 b40 Δ0 at56
@@ -2300,7 +2300,7 @@ module _ (claims· : Claims) where
           }
 
         module _ {M : Type 1} (𝓤 : URA.URA M) (H : Wp.Heap 𝓤) (A : Atoms.Atoms 𝓤) (W : Kit.Given 𝓤 H A) (𝓣 : Wp.Tables 𝓤 H) (known0 : Plain.Known 𝓤 H A W 𝓣 1 ps·0 r·0 (claims· .0) (claims· .1)
-            "lines::clear") (known1 : Plain.Known 𝓤 H A W 𝓣 1 ps·1 r·1 (claims· .2) (claims· .3) "cameras::base_of") (known2 : Plain.Known 𝓤 H A W 𝓣 1 ps·2 r·2 (claims· .4) (claims· .5)
+            "lines::clear") (known1 : Plain.Known 𝓤 H A W 𝓣 1 ps·1 r·1 (claims· .2) (claims· .3) "taking::base_of") (known2 : Plain.Known 𝓤 H A W 𝓣 1 ps·2 r·2 (claims· .4) (claims· .5)
             "block::records::start_records") (known3 : Plain.Known 𝓤 H A W 𝓣 0 ps·3 r·3 (claims· .6) (claims· .7) "block::reading::start_place") (known4 : Plain.Known 𝓤 H A W 𝓣 6 ps·4 r·4 (claims· .8)
             (claims· .9) "block::reading::read_lines") (known5 : Plain.Known 𝓤 H A W 𝓣 1 ps·5 r·5 (claims· .10) (claims· .11) "block::records::clear_records") where
           pub spec : Statement.Triple 𝓤 (Wp.WpFn 𝓤 H (𝓣 .C) (𝓣 .Λ) (Function.fnOf 6 ps r xs m hs body)) (Function.plainOf 𝓤 H A 6 ps r Pre· Post·)

@@ -16,12 +16,12 @@ use Rattle.cameras.proofs.Camera
 use Rattle.cameras.proofs.Camera.Laws as Laws'3
 use Rattle.cameras.proofs.Entries
 use Rattle.cameras.proofs.Entries.Laws as Laws'4
+use Rattle.header.proofs.FujiHeader
+use Rattle.header.proofs.FujiHeader.Laws as Laws'5
+use Rattle.header.proofs.Refusal
+use Rattle.header.proofs.Refusal.Laws as Laws'6
 use Rattle.region.proofs.Rect
-use Rattle.region.proofs.Rect.Laws as Laws'5
-use Rattle.stream.proofs.FujiHeader
-use Rattle.stream.proofs.FujiHeader.Laws as Laws'6
-use Rattle.stream.proofs.Refusal
-use Rattle.stream.proofs.Refusal.Laws as Laws'7
+use Rattle.region.proofs.Rect.Laws as Laws'7
 use borrow.Author.Called
 use borrow.Enum.Known
 use borrow.Enum.Make
@@ -95,7 +95,7 @@ abbrev pub y0 : Syntax.Ty
 y0 = Syntax.tyArray u8 36
 
 abbrev pub y1 : Syntax.Ty
-y1 = Syntax.tyEnum (115 ∷ 116 ∷ 114 ∷ 101 ∷ 97 ∷ 109 ∷ 58 ∷ 58 ∷ 82 ∷ 101 ∷ 102 ∷ 117 ∷ 115 ∷ 97 ∷ 108 ∷ []) (Syntax.ttcons Syntax.tnil (Syntax.ttcons Syntax.tnil (Syntax.ttcons Syntax.tnil
+y1 = Syntax.tyEnum (104 ∷ 101 ∷ 97 ∷ 100 ∷ 101 ∷ 114 ∷ 58 ∷ 58 ∷ 82 ∷ 101 ∷ 102 ∷ 117 ∷ 115 ∷ 97 ∷ 108 ∷ []) (Syntax.ttcons Syntax.tnil (Syntax.ttcons Syntax.tnil (Syntax.ttcons Syntax.tnil
     (Syntax.ttcons (Syntax.tcons u64 Syntax.tnil) (Syntax.ttcons Syntax.tnil (Syntax.ttcons Syntax.tnil (Syntax.ttcons Syntax.tnil (Syntax.ttcons Syntax.tnil (Syntax.ttcons Syntax.tnil (Syntax.ttcons
     Syntax.tnil (Syntax.ttcons (Syntax.tcons u64 Syntax.tnil) (Syntax.ttcons (Syntax.tcons u64 Syntax.tnil) (Syntax.ttcons Syntax.tnil (Syntax.ttcons (Syntax.tcons u64 (Syntax.tcons u64 Syntax.tnil))
     (Syntax.ttcons (Syntax.tcons u64 Syntax.tnil) (Syntax.ttcons Syntax.tnil (Syntax.ttcons Syntax.tnil (Syntax.ttcons (Syntax.tcons u64 Syntax.tnil) (Syntax.ttcons (Syntax.tcons u64 Syntax.tnil)
@@ -124,19 +124,19 @@ abbrev pub y8 : Syntax.Ty
 y8 = Syntax.tyRef Syntax.erased Syntax.mut u16
 
 abbrev pub y9 : Syntax.Ty
-y9 = Syntax.tyStruct (113 ∷ 117 ∷ 97 ∷ 110 ∷ 116 ∷ 105 ∷ 115 ∷ 101 ∷ 114 ∷ 58 ∷ 58 ∷ 81 ∷ 117 ∷ 97 ∷ 110 ∷ 116 ∷ 105 ∷ 115 ∷ 101 ∷ 114 ∷ []) (Syntax.tcons u32 (Syntax.tcons u32 (Syntax.tcons u32
-    (Syntax.tcons u32 (Syntax.tcons u32 Syntax.tnil)))))
+y9 = Syntax.tyStruct (104 ∷ 101 ∷ 97 ∷ 100 ∷ 101 ∷ 114 ∷ 58 ∷ 58 ∷ 70 ∷ 117 ∷ 106 ∷ 105 ∷ 72 ∷ 101 ∷ 97 ∷ 100 ∷ 101 ∷ 114 ∷ []) (Syntax.tcons Syntax.tyBool (Syntax.tcons Syntax.tyBool (Syntax.tcons
+    u32 (Syntax.tcons u32 (Syntax.tcons u32 (Syntax.tcons u32 (Syntax.tcons u32 (Syntax.tcons u32 (Syntax.tcons u32 Syntax.tnil)))))))))
 
 abbrev pub y10 : Syntax.Ty
-y10 = Syntax.tyStruct (114 ∷ 101 ∷ 103 ∷ 105 ∷ 111 ∷ 110 ∷ 58 ∷ 58 ∷ 82 ∷ 101 ∷ 99 ∷ 116 ∷ []) (Syntax.tcons u64 (Syntax.tcons u64 (Syntax.tcons u64 (Syntax.tcons u64 Syntax.tnil))))
+y10 = Syntax.tyStruct (113 ∷ 117 ∷ 97 ∷ 110 ∷ 116 ∷ 105 ∷ 115 ∷ 101 ∷ 114 ∷ 58 ∷ 58 ∷ 81 ∷ 117 ∷ 97 ∷ 110 ∷ 116 ∷ 105 ∷ 115 ∷ 101 ∷ 114 ∷ []) (Syntax.tcons u32 (Syntax.tcons u32 (Syntax.tcons u32
+    (Syntax.tcons u32 (Syntax.tcons u32 Syntax.tnil)))))
 
 abbrev pub y11 : Syntax.Ty
-y11 = Syntax.tyStruct (115 ∷ 116 ∷ 114 ∷ 101 ∷ 97 ∷ 109 ∷ 58 ∷ 58 ∷ 70 ∷ 117 ∷ 106 ∷ 105 ∷ 72 ∷ 101 ∷ 97 ∷ 100 ∷ 101 ∷ 114 ∷ []) (Syntax.tcons Syntax.tyBool (Syntax.tcons Syntax.tyBool (Syntax.tcons
-    u32 (Syntax.tcons u32 (Syntax.tcons u32 (Syntax.tcons u32 (Syntax.tcons u32 (Syntax.tcons u32 (Syntax.tcons u32 Syntax.tnil)))))))))
+y11 = Syntax.tyStruct (114 ∷ 101 ∷ 103 ∷ 105 ∷ 111 ∷ 110 ∷ 58 ∷ 58 ∷ 82 ∷ 101 ∷ 99 ∷ 116 ∷ []) (Syntax.tcons u64 (Syntax.tcons u64 (Syntax.tcons u64 (Syntax.tcons u64 Syntax.tnil))))
 
 abbrev pub y12 : Syntax.Ty
 y12 = Syntax.tyEnum (98 ∷ 101 ∷ 103 ∷ 105 ∷ 110 ∷ 58 ∷ 58 ∷ 66 ∷ 101 ∷ 103 ∷ 105 ∷ 110 ∷ 110 ∷ 105 ∷ 110 ∷ 103 ∷ []) (Syntax.ttcons (Syntax.tcons y1 Syntax.tnil) (Syntax.ttcons Syntax.tnil
-    (Syntax.ttcons (Syntax.tcons y11 Syntax.tnil) Syntax.ttnil)))
+    (Syntax.ttcons (Syntax.tcons y9 Syntax.tnil) Syntax.ttnil)))
 
 abbrev pub y13 : Syntax.Ty
 y13 = Syntax.tyEnum (98 ∷ 108 ∷ 111 ∷ 99 ∷ 107 ∷ 58 ∷ 58 ∷ 68 ∷ 101 ∷ 99 ∷ 111 ∷ 100 ∷ 101 ∷ 100 ∷ []) (Syntax.ttcons Syntax.tnil (Syntax.ttcons (Syntax.tcons y1 Syntax.tnil) Syntax.ttnil))
@@ -148,7 +148,7 @@ abbrev pub y15 : Syntax.Ty
 y15 = Syntax.tyStruct (38 ∷ 91 ∷ 93 ∷ []) (Syntax.tcons y8 (Syntax.tcons u64 Syntax.tnil))
 
 abbrev pub y16 : Syntax.Ty
-y16 = Syntax.tyStruct (99 ∷ 97 ∷ 109 ∷ 101 ∷ 114 ∷ 97 ∷ 115 ∷ 58 ∷ 58 ∷ 69 ∷ 110 ∷ 116 ∷ 114 ∷ 121 ∷ []) (Syntax.tcons u32 (Syntax.tcons y9 (Syntax.tcons Syntax.tyBool (Syntax.tcons Syntax.tyBool
+y16 = Syntax.tyStruct (99 ∷ 97 ∷ 109 ∷ 101 ∷ 114 ∷ 97 ∷ 115 ∷ 58 ∷ 58 ∷ 69 ∷ 110 ∷ 116 ∷ 114 ∷ 121 ∷ []) (Syntax.tcons u32 (Syntax.tcons y10 (Syntax.tcons Syntax.tyBool (Syntax.tcons Syntax.tyBool
     Syntax.tnil))))
 
 abbrev pub y17 : Syntax.Ty
@@ -162,20 +162,20 @@ y19 = Syntax.tyStruct (98 ∷ 108 ∷ 111 ∷ 99 ∷ 107 ∷ 58 ∷ 58 ∷ 83 �
 
 abbrev pub ps : List.List (Kinds.PK 4)
 ps = (Values.enum Camera.the-type Laws'3.the-laws Laws'3.the-copy Laws'3.the-plain tt) ∷ (Values.struct Entries.the-type Laws'4.the-laws Laws'4.the-copy Laws'4.the-plain) ∷ (ShrSlice.pShrS n8 0 tt) ∷
-    (Values.struct Rect.the-type Laws'5.the-laws Laws'5.the-copy Laws'5.the-plain) ∷ (Array.pArr (Array.eInt Syntax.w8) (Array.eInt-laws Syntax.w8) 36) ∷ (MutSlice.pMutS n16 1 tt) ∷ (MutSlice.pMutS n16 2
+    (Values.struct Rect.the-type Laws'7.the-laws Laws'7.the-copy Laws'7.the-plain) ∷ (Array.pArr (Array.eInt Syntax.w8) (Array.eInt-laws Syntax.w8) 36) ∷ (MutSlice.pMutS n16 1 tt) ∷ (MutSlice.pMutS n16 2
     tt) ∷ (MutSlice.pMutS (Element.type) 3 tt) ∷ []
 
 abbrev pub r : Kinds.RK 4
 r = Values.struct-result SharedAnswer.the-type Laws''.the-laws Laws''.the-copy Laws''.the-plain
 
 abbrev pub xs : List.List Syntax.Ty
-xs = y12 ∷ y18 ∷ y1 ∷ y11 ∷ u64 ∷ y19 ∷ y13 ∷ u64 ∷ u64 ∷ u64 ∷ y19 ∷ y13 ∷ y13 ∷ y8 ∷ y15 ∷ Syntax.tyPtr ∷ u64 ∷ y8 ∷ y15 ∷ Syntax.tyPtr ∷ u64 ∷ y7 ∷ y14 ∷ []
+xs = y12 ∷ y18 ∷ y1 ∷ y9 ∷ u64 ∷ y19 ∷ y13 ∷ u64 ∷ u64 ∷ u64 ∷ y19 ∷ y13 ∷ y13 ∷ y8 ∷ y15 ∷ Syntax.tyPtr ∷ u64 ∷ y8 ∷ y15 ∷ Syntax.tyPtr ∷ u64 ∷ y7 ∷ y14 ∷ []
 
 abbrev pub m : Nat.ℕ
 m = 3
 
 abbrev pub ps·0 : List.List (Kinds.PK 1)
-ps·0 = (ShrSlice.pShrS n8 0 tt) ∷ (Values.struct Rect.the-type Laws'5.the-laws Laws'5.the-copy Laws'5.the-plain) ∷ (Num.pNum Syntax.w64) ∷ (Num.pNum Syntax.w64) ∷ (Num.pNum Syntax.w64) ∷ []
+ps·0 = (ShrSlice.pShrS n8 0 tt) ∷ (Values.struct Rect.the-type Laws'7.the-laws Laws'7.the-copy Laws'7.the-plain) ∷ (Num.pNum Syntax.w64) ∷ (Num.pNum Syntax.w64) ∷ (Num.pNum Syntax.w64) ∷ []
 
 abbrev pub r·0 : Kinds.RK 1
 r·0 = Values.enum-result Beginning.the-type Laws.the-laws Laws.the-copy Laws.the-plain tt
@@ -201,7 +201,7 @@ r·3 = Num.rNum Syntax.w64
 
 abbrev pub ps·4 : List.List (Kinds.PK 4)
 ps·4 = (Values.enum Camera.the-type Laws'3.the-laws Laws'3.the-copy Laws'3.the-plain tt) ∷ (Values.struct Entries.the-type Laws'4.the-laws Laws'4.the-copy Laws'4.the-plain) ∷ (ShrSlice.pShrS n8 0 tt)
-    ∷ (Values.struct FujiHeader.the-type Laws'6.the-laws Laws'6.the-copy Laws'6.the-plain) ∷ (Values.struct Rect.the-type Laws'5.the-laws Laws'5.the-copy Laws'5.the-plain) ∷ (Array.pArr (Array.eInt
+    ∷ (Values.struct FujiHeader.the-type Laws'5.the-laws Laws'5.the-copy Laws'5.the-plain) ∷ (Values.struct Rect.the-type Laws'7.the-laws Laws'7.the-copy Laws'7.the-plain) ∷ (Array.pArr (Array.eInt
     Syntax.w8) (Array.eInt-laws Syntax.w8) 36) ∷ (MutSlice.pMutS n16 1 tt) ∷ (MutSlice.pMutS n16 2 tt) ∷ (MutSlice.pMutS (Element.type) 3 tt) ∷ []
 
 abbrev pub r·4 : Kinds.RK 4
@@ -227,7 +227,7 @@ b3 = Syntax.call "begin::region_begins" ((Syntax.copy (Syntax.place 3 [])) ∷ (
     (Syntax.place 18 [])) ∷ []) (Syntax.place 9 [])
 
 abbrev b4 : Syntax.Body
-b4 = Syntax.call "cameras::mended" ((Syntax.copy (Syntax.place 2 [])) ∷ []) (Syntax.place 10 [])
+b4 = Syntax.call "taking::mended" ((Syntax.copy (Syntax.place 2 [])) ∷ []) (Syntax.place 10 [])
 
 abbrev b5 : Syntax.Body
 b5 = Syntax.assign (Syntax.place 11 []) (Syntax.rvOpd (Syntax.copy (Syntax.place 9 ((Syntax.variant 0) ∷ (Syntax.field 1) ∷ []))))
@@ -390,10 +390,10 @@ abbrev pub v15 : Row.Row
 v15 = Mut.mslice (Element.type) y6 3
 
 abbrev pub v16 : Row.Row
-v16 = Rows'.any-gone y11
+v16 = Rows'.any-gone y9
 
 abbrev pub v17 : Row.Row
-v17 = Rows'.any-gone y10
+v17 = Rows'.any-gone y11
 
 abbrev pub v18 : Row.Row
 v18 = Rows'.any-gone y7
@@ -885,7 +885,7 @@ module _ (claims· : Claims) where
   s13 = Known.k-known-told Beginning.enum Laws.the-laws 0 T15 9 λ x. x
 
   abbrev s14 : Typed.Mo T15 → Typed.Mo T17
-  s14 = Scalar.n-room T15 4 y10
+  s14 = Scalar.n-room T15 4 y11
 
   abbrev s15 : Typed.Mo T17 → Typed.Mo T18
   s15 = Scalar.n-room T17 5 y0
@@ -921,7 +921,7 @@ module _ (claims· : Claims) where
   s24 = Known.k-enum-told Beginning.enum 1 T14 9 λ x. x
 
   abbrev s25 : Typed.Mo T14 → Typed.Mo T28
-  s25 = Scalar.n-room T14 4 y10
+  s25 = Scalar.n-room T14 4 y11
 
   abbrev s26 : Typed.Mo T28 → Typed.Mo T29
   s26 = Scalar.n-room T28 5 y0
@@ -1029,7 +1029,7 @@ module _ (claims· : Claims) where
   s55 = Call.callB ps·4 r·4 (claims· .8) (claims· .9) T57 a4 14 (0 ∷ 4 ∷ 5 ∷ 6 ∷ []) y19
 
   abbrev s56 : Typed.Mo T58 → Typed.Mo T59
-  s56 = Scalar.n-room T58 4 y10
+  s56 = Scalar.n-room T58 4 y11
 
   abbrev s57 : Typed.Mo T59 → Typed.Mo T60
   s57 = Scalar.n-room T59 5 y0
@@ -1038,7 +1038,7 @@ module _ (claims· : Claims) where
   s58 = Scalar.n-room T60 10 y18
 
   abbrev s59 : Typed.Mo T61 → Typed.Mo T62
-  s59 = Scalar.n-room T61 12 y11
+  s59 = Scalar.n-room T61 12 y9
 
   abbrev s61 : Typed.Both T62 T64
   s61 = Relend.k-back-sl n16 T62 23 6 1 4 y4 y8 Row.off (λ x. x) λ x. x
@@ -1090,7 +1090,7 @@ module _ (claims· : Claims) where
     module _ (M : Type 1) where
       abbrev pub Closed : Type 2
       Closed = (𝓤 : URA.URA M) (H : Wp.Heap 𝓤) (A : Atoms.Atoms 𝓤) (W : Kit.Given 𝓤 H A) (𝓣 : Wp.Tables 𝓤 H) (known0 : Plain.Known 𝓤 H A W 𝓣 1 ps·0 r·0 (claims· .0) (claims· .1)
-          "begin::region_begins") (known1 : Plain.Known 𝓤 H A W 𝓣 0 ps·1 r·1 (claims· .2) (claims· .3) "cameras::mended") (known2 : Plain.Known 𝓤 H A W 𝓣 0 ps·2 r·2 (claims· .4) (claims· .5)
+          "begin::region_begins") (known1 : Plain.Known 𝓤 H A W 𝓣 0 ps·1 r·1 (claims· .2) (claims· .3) "taking::mended") (known2 : Plain.Known 𝓤 H A W 𝓣 0 ps·2 r·2 (claims· .4) (claims· .5)
           "block::sharing::handed_back") (known3 : Plain.Known 𝓤 H A W 𝓣 0 ps·3 r·3 (claims· .6) (claims· .7) "begin::samples_needed") (known4 : Plain.Known 𝓤 H A W 𝓣 4 ps·4 r·4 (claims· .8) (claims· .9)
           "block::sharing::decode_shared_blocks") → Statement.Triple 𝓤 (Wp.WpFn 𝓤 H (𝓣 .C) (𝓣 .Λ) (Function.fnOf 4 ps r xs m hs body)) (Function.plainOf 𝓤 H A 4 ps r Pre· Post·)
 
@@ -1289,8 +1289,8 @@ module _ (claims· : Claims) where
 
       module _ {M : Type 1} (𝓤 : URA.URA M) (H : Wp.Heap 𝓤) (A : Atoms.Atoms 𝓤) (W : Kit.Given 𝓤 H A) (𝓣 : Wp.Tables 𝓤 H) where
         abbrev Knowns : Type 1
-        Knowns = Plain.Known 𝓤 H A W 𝓣 1 ps·0 r·0 (claims· .0) (claims· .1) "begin::region_begins" × Plain.Known 𝓤 H A W 𝓣 0 ps·1 r·1 (claims· .2) (claims· .3) "cameras::mended" × Plain.Known 𝓤 H A W
-            𝓣 0 ps·2 r·2 (claims· .4) (claims· .5) "block::sharing::handed_back" × Plain.Known 𝓤 H A W 𝓣 0 ps·3 r·3 (claims· .6) (claims· .7) "begin::samples_needed" × Plain.Known 𝓤 H A W 𝓣 4 ps·4 r·4
+        Knowns = Plain.Known 𝓤 H A W 𝓣 1 ps·0 r·0 (claims· .0) (claims· .1) "begin::region_begins" × Plain.Known 𝓤 H A W 𝓣 0 ps·1 r·1 (claims· .2) (claims· .3) "taking::mended" × Plain.Known 𝓤 H A W 𝓣
+            0 ps·2 r·2 (claims· .4) (claims· .5) "block::sharing::handed_back" × Plain.Known 𝓤 H A W 𝓣 0 ps·3 r·3 (claims· .6) (claims· .7) "begin::samples_needed" × Plain.Known 𝓤 H A W 𝓣 4 ps·4 r·4
             (claims· .8) (claims· .9) "block::sharing::decode_shared_blocks"
 
       module _ (κs : Lifetimes.Lfts 4) (qs : Lifetimes.Shares 4) where
@@ -1484,11 +1484,11 @@ module _ (claims· : Claims) where
 
           d2 : Typed.Typed 𝓤 H A 𝓣 E (on T20 l5) (Syntax.seq b6 b7) Δ1 at2
           d2 = Typed.s-seq 𝓤 H A W 𝓣 E (on T20 l5) (on T21 l5) b6 b7 Δ1 (Typed.pass T20 T21 s18) at1 (Make.t-enum-make-wt 𝓤 H A W E 𝓣 Decoded.the-type Laws'.the-laws Laws'.the-plain tt (on T20 l5) 20
-              ((Scalar.oInt Syntax.w8 1) ∷ (Scalar.oAt 11 y1 (Laws'8.val Refusal.the-type Laws'7.the-laws)) ∷ []) (λ m. Decoded.enum .make (Logic.inr (Logic.inl
-              (m .1 .1 .1 .1 .1 .1 .1 .1 .1 .1 .1 .0, tt)))) (Reads'.room-gone 𝓤 H A y13) (tt, ((Whole.reads-enum 𝓤 H A W Refusal.the-type Laws'7.the-laws, Path'.refl), tt)) Path'.refl (λ m wa.
-              Make.made-val Decoded.the-type Laws'.the-laws ((Laws'8.val Refusal.the-type Laws'7.the-laws (m .1 .1 .1 .1 .1 .1 .1 .1 .1 .1 .1 .0)) ∷ []) (Decoded.enum .make (Logic.inr (Logic.inl
+              ((Scalar.oInt Syntax.w8 1) ∷ (Scalar.oAt 11 y1 (Laws'8.val Refusal.the-type Laws'6.the-laws)) ∷ []) (λ m. Decoded.enum .make (Logic.inr (Logic.inl
+              (m .1 .1 .1 .1 .1 .1 .1 .1 .1 .1 .1 .0, tt)))) (Reads'.room-gone 𝓤 H A y13) (tt, ((Whole.reads-enum 𝓤 H A W Refusal.the-type Laws'6.the-laws, Path'.refl), tt)) Path'.refl (λ m wa.
+              Make.made-val Decoded.the-type Laws'.the-laws ((Laws'8.val Refusal.the-type Laws'6.the-laws (m .1 .1 .1 .1 .1 .1 .1 .1 .1 .1 .1 .0)) ∷ []) (Decoded.enum .make (Logic.inr (Logic.inl
               (m .1 .1 .1 .1 .1 .1 .1 .1 .1 .1 .1 .0, tt)))) (
-                Signed.made-wt Refusal.the-field Laws'7.the-field-laws (Whole.enum-wt Refusal.the-type Laws'7.the-laws (
+                Signed.made-wt Refusal.the-field Laws'6.the-field-laws (Whole.enum-wt Refusal.the-type Laws'6.the-laws (
                   tt,
                   (
                     tt,
@@ -1533,9 +1533,9 @@ module _ (claims· : Claims) where
                 ))
                     (Refusal.the-type .to (m .1 .1 .1 .1 .1 .1 .1 .1 .1 .1 .1 .0)),
                 tt,
-              ) (wa .1)) λ m wa. Make.made-is Decoded.the-type Laws'.the-laws ((Laws'8.val Refusal.the-type Laws'7.the-laws (m .1 .1 .1 .1
+              ) (wa .1)) λ m wa. Make.made-is Decoded.the-type Laws'.the-laws ((Laws'8.val Refusal.the-type Laws'6.the-laws (m .1 .1 .1 .1
               .1 .1 .1 .1 .1 .1 .1 .0)) ∷ []) (Decoded.enum .make (Logic.inr (Logic.inl (m .1 .1 .1 .1 .1 .1 .1 .1 .1 .1 .1 .0, tt)))) (
-                Signed.made-wt Refusal.the-field Laws'7.the-field-laws (Whole.enum-wt Refusal.the-type Laws'7.the-laws (
+                Signed.made-wt Refusal.the-field Laws'6.the-field-laws (Whole.enum-wt Refusal.the-type Laws'6.the-laws (
                   tt,
                   (
                     tt,
@@ -1588,10 +1588,10 @@ module _ (claims· : Claims) where
 
           d4 : Typed.Typed 𝓤 H A 𝓣 E (on T18 l5) b9 Δ1 at4
           d4 = Typed.s-seq 𝓤 H A W 𝓣 E (on T18 l5) (on T19 l5) b5 (Syntax.seq b6 b7) Δ1 (Typed.pass T18 T19 s16) at3 (CopyOut.t-copy-told 𝓤 H A W E 𝓣 (Declared.row Refusal.the-type) Path'.refl
-              (Laws'8.val Refusal.the-type Laws'7.the-laws) (Laws'8.lawful Refusal.the-type Laws'7.the-laws 𝓤 H A W tt) (Laws'8.makes Refusal.the-type Laws'7.the-plain 𝓤 H A) (on T18 l5) 11 (Scalar.oFld 9
-              ((Syntax.variant 0) ∷ (Syntax.field 1) ∷ []) y1 8 λ v. Laws'8.val Refusal.the-type Laws'7.the-laws (v .0)) (λ m. m .1 .1 .1 .1 .1 .1 .1 .1 .1 .0 .0) (λ m. Laws'8.Fields (Declared.variants
+              (Laws'8.val Refusal.the-type Laws'6.the-laws) (Laws'8.lawful Refusal.the-type Laws'6.the-laws 𝓤 H A W tt) (Laws'8.makes Refusal.the-type Laws'6.the-plain 𝓤 H A) (on T18 l5) 11 (Scalar.oFld 9
+              ((Syntax.variant 0) ∷ (Syntax.field 1) ∷ []) y1 8 λ v. Laws'8.val Refusal.the-type Laws'6.the-laws (v .0)) (λ m. m .1 .1 .1 .1 .1 .1 .1 .1 .1 .0 .0) (λ m. Laws'8.Fields (Declared.variants
               Beginning.the-type) (Laws'8.spellss (Beginning.enum .parts) Laws.the-laws) (Beginning.the-type .to (Known.at Beginning.enum 0 (m .1 .1 .1 .1 .1 .1 .1 .1 .1 .0)))) (Reads'.room-gone 𝓤 H A y1) (
-                Match.reads-payload 𝓤 H A W Beginning.enum Laws.the-laws 0 Path'.refl Path'.refl (λ v. Val.vcons (Laws'8.val Refusal.the-type Laws'7.the-laws (v .0)) Val.vnil) (λ v. Path'.refl) 0 y1 8
+                Match.reads-payload 𝓤 H A W Beginning.enum Laws.the-laws 0 Path'.refl Path'.refl (λ v. Val.vcons (Laws'8.val Refusal.the-type Laws'6.the-laws (v .0)) Val.vnil) (λ v. Path'.refl) 0 y1 8
                     Path'.refl,
                 Path'.refl,
               ) Path'.refl (λ ρ m. Make'.tells-row 𝓤 H A W E ρ (Row.out 11 ((on T18 l5) .locals)) m 9 (Laws'8.Fields (Declared.variants Beginning.the-type) (Laws'8.spellss
@@ -1602,7 +1602,7 @@ module _ (claims· : Claims) where
           d5 = Typed.g-pre 𝓤 H A W 𝓣 E (on T17 l5) (on T18 l5) b9 Δ1 (Typed.pass T17 T18 s15) at4 (Scalar.g-room 𝓤 H A W E (on T17 l5) 5 y0 (Init.room-arr 𝓤 H A W n8 36 0 36 Path'.refl)) d4
 
           d6 : Typed.Typed 𝓤 H A 𝓣 E (on T15 l5) b9 Δ1 at6
-          d6 = Typed.g-pre 𝓤 H A W 𝓣 E (on T15 l5) (on T17 l5) b9 Δ1 (Typed.pass T15 T17 s14) at5 (Scalar.g-room 𝓤 H A W E (on T15 l5) 4 y10 (Local.room-whole 𝓤 H A W (Declared'.row Rect.the-type) y10
+          d6 = Typed.g-pre 𝓤 H A W 𝓣 E (on T15 l5) (on T17 l5) b9 Δ1 (Typed.pass T15 T17 s14) at5 (Scalar.g-room 𝓤 H A W E (on T15 l5) 4 y11 (Local.room-whole 𝓤 H A W (Declared'.row Rect.the-type) y11
               Path'.refl)) d5
 
           d7 : Typed.Typed 𝓤 H A 𝓣 E (on T15 l5) b9 Δ1 at7
@@ -1640,8 +1640,8 @@ module _ (claims· : Claims) where
           d12 = Typed.g-pre 𝓤 H A W 𝓣 E (on T28 l5) (on T29 l5) b12 Δ1 (Typed.pass T28 T29 s26) at11 (Scalar.g-room 𝓤 H A W E (on T28 l5) 5 y0 (Init.room-arr 𝓤 H A W n8 36 0 36 Path'.refl)) d11
 
           d13 : Typed.Typed 𝓤 H A 𝓣 E (on T14 l5) b12 Δ1 at13
-          d13 = Typed.g-pre 𝓤 H A W 𝓣 E (on T14 l5) (on T28 l5) b12 Δ1 (Typed.pass T14 T28 s25) at12 (Scalar.g-room 𝓤 H A W E (on T14 l5) 4 y10 (Local.room-whole 𝓤 H A W (Declared'.row Rect.the-type)
-              y10 Path'.refl)) d12
+          d13 = Typed.g-pre 𝓤 H A W 𝓣 E (on T14 l5) (on T28 l5) b12 Δ1 (Typed.pass T14 T28 s25) at12 (Scalar.g-room 𝓤 H A W E (on T14 l5) 4 y11 (Local.room-whole 𝓤 H A W (Declared'.row Rect.the-type)
+              y11 Path'.refl)) d12
 
           d14 : Typed.Typed 𝓤 H A 𝓣 E (on T14 l5) b12 Δ1 at14
           d14 = Typed.g-pre 𝓤 H A W 𝓣 E (on T14 l5) (on T14 l5) b12 Δ1 (Typed.both s24) at13 (Known.g-enum-told 𝓤 H A W E Beginning.enum 1 (on T14 l5) 9 λ x. x) d13
@@ -1724,7 +1724,7 @@ module _ (claims· : Claims) where
           d27 = Typed.g-pre 𝓤 H A W 𝓣 E G62 G63 b28 Δ1 (λ Ψ. Ψ) at26 (Lifetime.g-end 𝓤 H A W E G62 4 Path'.refl) d26
 
           d28 : Typed.Typed 𝓤 H A 𝓣 E G61 b28 Δ1 at28
-          d28 = Typed.g-pre 𝓤 H A W 𝓣 E G61 G62 b28 Δ1 (Typed.pass T61 T62 s59) at26 (Scalar.g-room 𝓤 H A W E G61 12 y11 (Local.room-whole 𝓤 H A W (Declared'.row FujiHeader.the-type) y11 Path'.refl))
+          d28 = Typed.g-pre 𝓤 H A W 𝓣 E G61 G62 b28 Δ1 (Typed.pass T61 T62 s59) at26 (Scalar.g-room 𝓤 H A W E G61 12 y9 (Local.room-whole 𝓤 H A W (Declared'.row FujiHeader.the-type) y9 Path'.refl))
               d27
 
           d29 : Typed.Typed 𝓤 H A 𝓣 E G60 b28 Δ1 at29
@@ -1734,7 +1734,7 @@ module _ (claims· : Claims) where
           d30 = Typed.g-pre 𝓤 H A W 𝓣 E G59 G60 b28 Δ1 (Typed.pass T59 T60 s57) at29 (Scalar.g-room 𝓤 H A W E G59 5 y0 (Init.room-arr 𝓤 H A W n8 36 0 36 Path'.refl)) d29
 
           d31 : Typed.Typed 𝓤 H A 𝓣 E G58 b28 Δ1 at31
-          d31 = Typed.g-pre 𝓤 H A W 𝓣 E G58 G59 b28 Δ1 (Typed.pass T58 T59 s56) at30 (Scalar.g-room 𝓤 H A W E G58 4 y10 (Local.room-whole 𝓤 H A W (Declared'.row Rect.the-type) y10 Path'.refl)) d30
+          d31 = Typed.g-pre 𝓤 H A W 𝓣 E G58 G59 b28 Δ1 (Typed.pass T58 T59 s56) at30 (Scalar.g-room 𝓤 H A W E G58 4 y11 (Local.room-whole 𝓤 H A W (Declared'.row Rect.the-type) y11 Path'.refl)) d30
 
           d32 : Typed.Typed 𝓤 H A 𝓣 E G57 (Syntax.seq b25 b28) Δ1 at32
           d32 = Typed.s-seq 𝓤 H A W 𝓣 E G57 G58 b25 b28 Δ1 (Typed.both s55) at31 (Plain.t-call-plain 𝓤 H A W 𝓣 4 ps·4 r·4 (claims· .8) (claims· .9) "block::sharing::decode_shared_blocks" (known .4) E
@@ -1766,9 +1766,9 @@ module _ (claims· : Claims) where
                     Shared.reads-sslice 𝓤 H A W n8 y3 0,
                     Path'.refl,
                     (
-                      (Values.struct-copied 𝓤 H A W FujiHeader.the-type Laws'6.the-laws Laws'6.the-copy, Path'.refl),
+                      (Values.struct-copied 𝓤 H A W FujiHeader.the-type Laws'5.the-laws Laws'5.the-copy, Path'.refl),
                       (
-                        (Values.struct-copied 𝓤 H A W Rect.the-type Laws'5.the-laws Laws'5.the-copy, Path'.refl),
+                        (Values.struct-copied 𝓤 H A W Rect.the-type Laws'7.the-laws Laws'7.the-copy, Path'.refl),
                         (
                           (Array.arr-yields 𝓤 H A W (Array.eInt Syntax.w8) (Array.eInt-laws Syntax.w8) 36, Path'.refl),
                           (
@@ -1871,7 +1871,7 @@ module _ (claims· : Claims) where
           d50 : Typed.Typed 𝓤 H A 𝓣 E (on T39 l5) b40 Δ1 at50
           d50 = Typed.s-seq 𝓤 H A W 𝓣 E (on T39 l5) (on T40 l5) b14 (Syntax.seq b15 (Syntax.seq b16 b37)) Δ1 (Typed.both s37) at48 (Plain.t-call-plain 𝓤 H A W 𝓣 0 ps·3 r·3 (claims· .6) (claims· .7)
               "begin::samples_needed" (known .3) E (λ pos β. β) (on T39 l5) (Bool.bFld 12 ((Syntax.field 1) ∷ []) 1 λ x. FujiHeader.struct .as-values x .1 .0, tt) 13 [] (Call.sub-id 𝓤 H A W ((on T39 l5)
-              .slots)) ((Reads.reads-field 𝓤 H A W FujiHeader.the-type Laws'6.the-laws 1 Syntax.tyBool 1 Path'.refl, Path'.refl), tt) (Reads'.room-gone 𝓤 H A u64) tt Path'.refl) d49
+              .slots)) ((Reads.reads-field 𝓤 H A W FujiHeader.the-type Laws'5.the-laws 1 Syntax.tyBool 1 Path'.refl, Path'.refl), tt) (Reads'.room-gone 𝓤 H A u64) tt Path'.refl) d49
 
           d51 : Typed.Typed 𝓤 H A 𝓣 E (on T38 l5) b40 Δ1 at51
           d51 = Typed.g-pre 𝓤 H A W 𝓣 E (on T38 l5) (on T39 l5) b40 Δ1 (Typed.pass T38 T39 s36) at50 (Scalar.g-room 𝓤 H A W E (on T38 l5) 9 y12 (Local.room-whole 𝓤 H A W (Known.Known Beginning.enum 2)
@@ -1879,11 +1879,11 @@ module _ (claims· : Claims) where
 
           d52 : Typed.Typed 𝓤 H A 𝓣 E (on T36 l5) b41 Δ1 at52
           d52 = Typed.s-seq 𝓤 H A W 𝓣 E (on T36 l5) (on T38 l5) b13 b40 Δ1 (Typed.pass T36 T38 s35) at51 (CopyOut.t-copy-told 𝓤 H A W E 𝓣 (Declared'.row FujiHeader.the-type) Path'.refl (Laws'10.val
-              FujiHeader.the-type Laws'6.the-laws) (Laws'10.lawful FujiHeader.the-type Laws'6.the-laws 𝓤 H A W) (Laws'10.makes FujiHeader.the-type Laws'6.the-plain 𝓤 H A) (on T36 l5) 12 (Scalar.oFld 9
-              ((Syntax.variant 2) ∷ (Syntax.field 1) ∷ []) y11 4 λ v. Laws'10.val FujiHeader.the-type Laws'6.the-laws (v .0)) (λ m. m .1 .1 .1 .1 .1 .1 .1 .1 .1 .0 .0) (λ m. Laws'8.Fields
+              FujiHeader.the-type Laws'5.the-laws) (Laws'10.lawful FujiHeader.the-type Laws'5.the-laws 𝓤 H A W) (Laws'10.makes FujiHeader.the-type Laws'5.the-plain 𝓤 H A) (on T36 l5) 12 (Scalar.oFld 9
+              ((Syntax.variant 2) ∷ (Syntax.field 1) ∷ []) y9 4 λ v. Laws'10.val FujiHeader.the-type Laws'5.the-laws (v .0)) (λ m. m .1 .1 .1 .1 .1 .1 .1 .1 .1 .0 .0) (λ m. Laws'8.Fields
               (Declared.variants Beginning.the-type) (Laws'8.spellss (Beginning.enum .parts) Laws.the-laws) (Beginning.the-type .to (Known.at Beginning.enum 2 (m .1 .1 .1 .1 .1 .1 .1 .1 .1 .0))))
-              (Reads'.room-gone 𝓤 H A y11) (
-                Match.reads-payload 𝓤 H A W Beginning.enum Laws.the-laws 2 Path'.refl Path'.refl (λ v. Val.vcons (Laws'10.val FujiHeader.the-type Laws'6.the-laws (v .0)) Val.vnil) (λ v. Path'.refl) 0 y11 4
+              (Reads'.room-gone 𝓤 H A y9) (
+                Match.reads-payload 𝓤 H A W Beginning.enum Laws.the-laws 2 Path'.refl Path'.refl (λ v. Val.vcons (Laws'10.val FujiHeader.the-type Laws'5.the-laws (v .0)) Val.vnil) (λ v. Path'.refl) 0 y9 4
                     Path'.refl,
                 Path'.refl,
               ) Path'.refl (λ ρ m. Make'.tells-row 𝓤 H A W E ρ (Row.out 12 ((on T36 l5) .locals)) m 9 (Laws'8.Fields (Declared.variants Beginning.the-type) (Laws'8.spellss
@@ -1927,7 +1927,7 @@ module _ (claims· : Claims) where
           d60 = Typed.t-seq 𝓤 H A W 𝓣 E (on T12 l5) (on T13 l5) b42 (Syntax.seq b43 Syntax.return) Δ0 at56 at59 d56 d59
 
           d61 : Typed.Typed 𝓤 H A 𝓣 E (on T11 l5) b47 Δ0 at61
-          d61 = Typed.s-seq 𝓤 H A W 𝓣 E (on T11 l5) (on T12 l5) b4 b46 Δ0 (Typed.both s10) at60 (Plain.t-call-plain 𝓤 H A W 𝓣 0 ps·1 r·1 (claims· .2) (claims· .3) "cameras::mended" (known .1) E (λ pos
+          d61 = Typed.s-seq 𝓤 H A W 𝓣 E (on T11 l5) (on T12 l5) b4 b46 Δ0 (Typed.both s10) at60 (Plain.t-call-plain 𝓤 H A W 𝓣 0 ps·1 r·1 (claims· .2) (claims· .3) "taking::mended" (known .1) E (λ pos
               β. β) (on T11 l5) (record { pos = 2; st = []; d = 0; at = λ x. x }, tt) 10 [] (Call.sub-id 𝓤 H A W ((on T11 l5) .slots))
               ((Values.struct-copied 𝓤 H A W Entries.the-type Laws'4.the-laws Laws'4.the-copy, Path'.refl), tt) (Reads'.room-gone 𝓤 H A y18) tt Path'.refl) d60
 
@@ -1948,7 +1948,7 @@ module _ (claims· : Claims) where
                 Shared.reads-sslice 𝓤 H A W n8 y3 0,
                 Path'.refl,
                 (
-                  (Values.struct-copied 𝓤 H A W Rect.the-type Laws'5.the-laws Laws'5.the-copy, Path'.refl),
+                  (Values.struct-copied 𝓤 H A W Rect.the-type Laws'7.the-laws Laws'7.the-copy, Path'.refl),
                   (
                     (Scalar.reads-sc 𝓤 H A W (Row.sInt Syntax.w64), Path'.refl),
                     ((Scalar.reads-sc 𝓤 H A W (Row.sInt Syntax.w64), Path'.refl), ((Scalar.reads-sc 𝓤 H A W (Row.sInt Syntax.w64), Path'.refl), tt)),
@@ -1992,7 +1992,7 @@ module _ (claims· : Claims) where
           pub camera : Kinds.Den {n = 4} κs (Values.enum Camera.the-type Laws'3.the-laws Laws'3.the-copy Laws'3.the-plain tt)
           pub entries : Kinds.Den {n = 4} κs (Values.struct Entries.the-type Laws'4.the-laws Laws'4.the-copy Laws'4.the-plain)
           pub d : Kinds.Den {n = 4} κs (ShrSlice.pShrS n8 0 tt)
-          pub r : Kinds.Den {n = 4} κs (Values.struct Rect.the-type Laws'5.the-laws Laws'5.the-copy Laws'5.the-plain)
+          pub r : Kinds.Den {n = 4} κs (Values.struct Rect.the-type Laws'7.the-laws Laws'7.the-copy Laws'7.the-plain)
           pub tile : Kinds.Den {n = 4} κs (Array.pArr (Array.eInt Syntax.w8) (Array.eInt-laws Syntax.w8) 36)
           pub image : Kinds.Den {n = 4} κs (MutSlice.pMutS n16 1 tt)
           pub lines : Kinds.Den {n = 4} κs (MutSlice.pMutS n16 2 tt)
@@ -2618,7 +2618,7 @@ module _ (claims· : Claims) where
           }
 
         module _ {M : Type 1} (𝓤 : URA.URA M) (H : Wp.Heap 𝓤) (A : Atoms.Atoms 𝓤) (W : Kit.Given 𝓤 H A) (𝓣 : Wp.Tables 𝓤 H) (known0 : Plain.Known 𝓤 H A W 𝓣 1 ps·0 r·0 (claims· .0) (claims· .1)
-            "begin::region_begins") (known1 : Plain.Known 𝓤 H A W 𝓣 0 ps·1 r·1 (claims· .2) (claims· .3) "cameras::mended") (known2 : Plain.Known 𝓤 H A W 𝓣 0 ps·2 r·2 (claims· .4) (claims· .5)
+            "begin::region_begins") (known1 : Plain.Known 𝓤 H A W 𝓣 0 ps·1 r·1 (claims· .2) (claims· .3) "taking::mended") (known2 : Plain.Known 𝓤 H A W 𝓣 0 ps·2 r·2 (claims· .4) (claims· .5)
             "block::sharing::handed_back") (known3 : Plain.Known 𝓤 H A W 𝓣 0 ps·3 r·3 (claims· .6) (claims· .7) "begin::samples_needed") (known4 : Plain.Known 𝓤 H A W 𝓣 4 ps·4 r·4 (claims· .8) (claims·
             .9) "block::sharing::decode_shared_blocks") where
           pub spec : Statement.Triple 𝓤 (Wp.WpFn 𝓤 H (𝓣 .C) (𝓣 .Λ) (Function.fnOf 4 ps r xs m hs body)) (Function.plainOf 𝓤 H A 4 ps r Pre· Post·)

@@ -17,9 +17,9 @@ use Rattle.block.proofs.sharing.decode_shared_blocks.Symbol as Symbol''
 use Rattle.block.proofs.sharing.handed_back.Met as Met'3
 use Rattle.block.proofs.sharing.handed_back.Reads as Reads'4
 use Rattle.block.proofs.sharing.handed_back.Symbol as Symbol'3
-use Rattle.cameras.proofs.mended.Met as Met'4
-use Rattle.cameras.proofs.mended.Reads as Reads'5
-use Rattle.cameras.proofs.mended.Symbol as Symbol'4
+use Rattle.taking.proofs.mended.Met as Met'4
+use Rattle.taking.proofs.mended.Reads as Reads'5
+use Rattle.taking.proofs.mended.Symbol as Symbol'4
 use borrow.Fn.Run
 use borrow.Fn.Written
 use contract.Running
@@ -115,7 +115,7 @@ module _ {M : Type 1} where
       { M = M; 𝓤 = 𝓤; H = H; 𝓜 = 𝓜; 𝓖 = 𝓖; 𝓡 = 𝓡 } Code.env Key.name Code.function (Code.unfolded 𝓤 H 𝓜 𝓡) (λ κs a g. tt) (λ κs. Reads''.owns κs record { M = M; 𝓤 = 𝓤; H = H; 𝓜 = 𝓜; 𝓖 = 𝓖; 𝓡 = 𝓡 })
       (Reads''.passes record { M = M; 𝓤 = 𝓤; H = H; 𝓜 = 𝓜; 𝓖 = 𝓖; 𝓡 = 𝓡 }) λ g. closed 𝓤 H (𝓖 .A) (Running.givenOf 𝓤 H 𝓜 𝓖) (Run.Over 𝓤 H 𝓜 𝓖 𝓡 Code.env) (Reads.known record
       { M = M; 𝓤 = 𝓤; H = H; 𝓜 = 𝓜; 𝓖 = 𝓖; 𝓡 = 𝓡 } Code.env Symbol.name Symbol.routine Code.calls-begin·region-begins (Met.met 𝓤 H 𝓜 𝓖 𝓡)) (Reads'5.known record
-      { M = M; 𝓤 = 𝓤; H = H; 𝓜 = 𝓜; 𝓖 = 𝓖; 𝓡 = 𝓡 } Code.env Symbol'4.name Symbol'4.routine Code.calls-cameras·mended (Met'4.met 𝓤 H 𝓜 𝓖 𝓡)) (Reads'4.known record
+      { M = M; 𝓤 = 𝓤; H = H; 𝓜 = 𝓜; 𝓖 = 𝓖; 𝓡 = 𝓡 } Code.env Symbol'4.name Symbol'4.routine Code.calls-taking·mended (Met'4.met 𝓤 H 𝓜 𝓖 𝓡)) (Reads'4.known record
       { M = M; 𝓤 = 𝓤; H = H; 𝓜 = 𝓜; 𝓖 = 𝓖; 𝓡 = 𝓡 } Code.env Symbol'3.name Symbol'3.routine Code.calls-block·sharing·handed-back (Met'3.met 𝓤 H 𝓜 𝓖 𝓡)) (Reads'.known record
       { M = M; 𝓤 = 𝓤; H = H; 𝓜 = 𝓜; 𝓖 = 𝓖; 𝓡 = 𝓡 } Code.env Symbol'.name Symbol'.routine Code.calls-begin·samples-needed (Met'.met 𝓤 H 𝓜 𝓖 𝓡)) (Reads'3.known record
       { M = M; 𝓤 = 𝓤; H = H; 𝓜 = 𝓜; 𝓖 = 𝓖; 𝓡 = 𝓡 } Code.env Symbol''.name Symbol''.routine Code.calls-block·sharing·decode-shared-blocks (Met''.met 𝓤 H 𝓜 𝓖 𝓡))

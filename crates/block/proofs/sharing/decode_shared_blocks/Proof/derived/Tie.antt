@@ -17,58 +17,58 @@ use Rattle.block.proofs.sharing.decode_shared_blocks.Statement
 use Rattle.block.proofs.sharing.lines_read.Met as Met'3
 use Rattle.block.proofs.sharing.lines_read.Reads as Reads'4
 use Rattle.block.proofs.sharing.lines_read.Symbol as Symbol'3
-use Rattle.cameras.proofs.after_block.Met as Met'4
-use Rattle.cameras.proofs.after_block.Reads as Reads'5
-use Rattle.cameras.proofs.after_block.Symbol as Symbol'4
-use Rattle.cameras.proofs.is_stopped.Met as Met'5
-use Rattle.cameras.proofs.is_stopped.Reads as Reads'6
-use Rattle.cameras.proofs.is_stopped.Symbol as Symbol'5
-use Rattle.cameras.proofs.take_lines.Met as Met'6
-use Rattle.cameras.proofs.take_lines.Reads as Reads'7
-use Rattle.cameras.proofs.take_lines.Symbol as Symbol'6
-use Rattle.map.proofs.xtrans_places.Met as Met'7
-use Rattle.map.proofs.xtrans_places.Reads as Reads'8
-use Rattle.map.proofs.xtrans_places.Symbol as Symbol'7
-use Rattle.region.proofs.part.Met as Met'8
-use Rattle.region.proofs.part.Reads as Reads'9
-use Rattle.region.proofs.part.Symbol as Symbol'8
-use Rattle.region.proofs.span_of.Met as Met'9
-use Rattle.region.proofs.span_of.Reads as Reads'10
-use Rattle.region.proofs.span_of.Symbol as Symbol'9
-use Rattle.stream.proofs.base_row.Met as Met'10
-use Rattle.stream.proofs.base_row.Reads as Reads'11
-use Rattle.stream.proofs.base_row.Symbol as Symbol'10
-use Rattle.stream.proofs.block_bytes.Met as Met'11
-use Rattle.stream.proofs.block_bytes.Reads as Reads'12
-use Rattle.stream.proofs.block_bytes.Symbol as Symbol'11
+use Rattle.map.proofs.xtrans_places.Met as Met'4
+use Rattle.map.proofs.xtrans_places.Reads as Reads'5
+use Rattle.map.proofs.xtrans_places.Symbol as Symbol'4
+use Rattle.region.proofs.part.Met as Met'5
+use Rattle.region.proofs.part.Reads as Reads'6
+use Rattle.region.proofs.part.Symbol as Symbol'5
+use Rattle.region.proofs.span_of.Met as Met'6
+use Rattle.region.proofs.span_of.Reads as Reads'7
+use Rattle.region.proofs.span_of.Symbol as Symbol'6
+use Rattle.stream.proofs.base_row.Met as Met'7
+use Rattle.stream.proofs.base_row.Reads as Reads'8
+use Rattle.stream.proofs.base_row.Symbol as Symbol'7
+use Rattle.stream.proofs.block_bytes.Met as Met'8
+use Rattle.stream.proofs.block_bytes.Reads as Reads'9
+use Rattle.stream.proofs.block_bytes.Symbol as Symbol'8
+use Rattle.taking.proofs.after_block.Met as Met'9
+use Rattle.taking.proofs.after_block.Reads as Reads'10
+use Rattle.taking.proofs.after_block.Symbol as Symbol'9
+use Rattle.taking.proofs.is_stopped.Met as Met'10
+use Rattle.taking.proofs.is_stopped.Reads as Reads'11
+use Rattle.taking.proofs.is_stopped.Symbol as Symbol'10
+use Rattle.taking.proofs.take_lines.Met as Met'11
+use Rattle.taking.proofs.take_lines.Reads as Reads'12
+use Rattle.taking.proofs.take_lines.Symbol as Symbol'11
 use borrow.Fn.Run
 use borrow.Fn.Written
 use contract.Running
 
 abbrev claims : Lts.Claims
 claims = (
-  Reads'10.Asked,
-  Reads'10.Learnt,
-  Reads'8.Asked,
-  Reads'8.Learnt,
-  Reads'.Asked,
-  Reads'.Learnt,
-  Reads'12.Asked,
-  Reads'12.Learnt,
-  Reads'11.Asked,
-  Reads'11.Learnt,
-  Reads'9.Asked,
-  Reads'9.Learnt,
   Reads'7.Asked,
   Reads'7.Learnt,
+  Reads'5.Asked,
+  Reads'5.Learnt,
+  Reads'.Asked,
+  Reads'.Learnt,
+  Reads'9.Asked,
+  Reads'9.Learnt,
+  Reads'8.Asked,
+  Reads'8.Learnt,
+  Reads'6.Asked,
+  Reads'6.Learnt,
+  Reads'12.Asked,
+  Reads'12.Learnt,
   Reads''.Asked,
   Reads''.Learnt,
   Reads'4.Asked,
   Reads'4.Learnt,
-  Reads'5.Asked,
-  Reads'5.Learnt,
-  Reads'6.Asked,
-  Reads'6.Learnt,
+  Reads'10.Asked,
+  Reads'10.Learnt,
+  Reads'11.Asked,
+  Reads'11.Learnt,
   Reads.Asked,
   Reads.Learnt,
 )
@@ -262,15 +262,15 @@ module _ {M : Type 1} where
   unfolding Code.routine Running.tablesOf
   close = λ closed 𝓤 H 𝓜 𝓖 𝓡. Written.close 4 Kinds.ps Kinds.r Reads'3.Ghost Reads'3.requires Reads'3.ensures Reads'3.pre-read Reads'3.Pinned Reads'3.Owned Reads'3.post-read record
       { M = M; 𝓤 = 𝓤; H = H; 𝓜 = 𝓜; 𝓖 = 𝓖; 𝓡 = 𝓡 } Code.env Key.name Code.function (Code.unfolded 𝓤 H 𝓜 𝓡) (λ κs a g. tt) (λ κs. Reads'3.owns κs record { M = M; 𝓤 = 𝓤; H = H; 𝓜 = 𝓜; 𝓖 = 𝓖; 𝓡 = 𝓡 })
-      (Reads'3.passes record { M = M; 𝓤 = 𝓤; H = H; 𝓜 = 𝓜; 𝓖 = 𝓖; 𝓡 = 𝓡 }) λ g. closed 𝓤 H (𝓖 .A) (Running.givenOf 𝓤 H 𝓜 𝓖) (Run.Over 𝓤 H 𝓜 𝓖 𝓡 Code.env) (Reads'10.known record
-      { M = M; 𝓤 = 𝓤; H = H; 𝓜 = 𝓜; 𝓖 = 𝓖; 𝓡 = 𝓡 } Code.env Symbol'9.name Symbol'9.routine Code.calls-region·span-of (Met'9.met 𝓤 H 𝓜 𝓖 𝓡)) (Reads'8.known record
-      { M = M; 𝓤 = 𝓤; H = H; 𝓜 = 𝓜; 𝓖 = 𝓖; 𝓡 = 𝓡 } Code.env Symbol'7.name Symbol'7.routine Code.calls-map·xtrans-places (Met'7.met 𝓤 H 𝓜 𝓖 𝓡)) (Reads'.known record
-      { M = M; 𝓤 = 𝓤; H = H; 𝓜 = 𝓜; 𝓖 = 𝓖; 𝓡 = 𝓡 } Code.env Symbol'.name Symbol'.routine Code.calls-block·form-of (Met'.met 𝓤 H 𝓜 𝓖 𝓡)) (Reads'12.known record { M = M; 𝓤 = 𝓤; H = H; 𝓜 = 𝓜; 𝓖 = 𝓖; 𝓡 = 𝓡 }
-      Code.env Symbol'11.name Symbol'11.routine Code.calls-stream·block-bytes (Met'11.met 𝓤 H 𝓜 𝓖 𝓡)) (Reads'11.known record { M = M; 𝓤 = 𝓤; H = H; 𝓜 = 𝓜; 𝓖 = 𝓖; 𝓡 = 𝓡 } Code.env Symbol'10.name
-      Symbol'10.routine Code.calls-stream·base-row (Met'10.met 𝓤 H 𝓜 𝓖 𝓡)) (Reads'9.known record { M = M; 𝓤 = 𝓤; H = H; 𝓜 = 𝓜; 𝓖 = 𝓖; 𝓡 = 𝓡 } Code.env Symbol'8.name Symbol'8.routine Code.calls-region·part
-      (Met'8.met 𝓤 H 𝓜 𝓖 𝓡)) (Reads'7.known record { M = M; 𝓤 = 𝓤; H = H; 𝓜 = 𝓜; 𝓖 = 𝓖; 𝓡 = 𝓡 } Code.env Symbol'6.name Symbol'6.routine Code.calls-cameras·take-lines (Met'6.met 𝓤 H 𝓜 𝓖 𝓡)) (Reads''.known
-      record { M = M; 𝓤 = 𝓤; H = H; 𝓜 = 𝓜; 𝓖 = 𝓖; 𝓡 = 𝓡 } Code.env Symbol''.name Symbol''.routine Code.calls-block·reading·walk (Met''.met 𝓤 H 𝓜 𝓖 𝓡)) (Reads'4.known record
-      { M = M; 𝓤 = 𝓤; H = H; 𝓜 = 𝓜; 𝓖 = 𝓖; 𝓡 = 𝓡 } Code.env Symbol'3.name Symbol'3.routine Code.calls-block·sharing·lines-read (Met'3.met 𝓤 H 𝓜 𝓖 𝓡)) (Reads'5.known record
-      { M = M; 𝓤 = 𝓤; H = H; 𝓜 = 𝓜; 𝓖 = 𝓖; 𝓡 = 𝓡 } Code.env Symbol'4.name Symbol'4.routine Code.calls-cameras·after-block (Met'4.met 𝓤 H 𝓜 𝓖 𝓡)) (Reads'6.known record
-      { M = M; 𝓤 = 𝓤; H = H; 𝓜 = 𝓜; 𝓖 = 𝓖; 𝓡 = 𝓡 } Code.env Symbol'5.name Symbol'5.routine Code.calls-cameras·is-stopped (Met'5.met 𝓤 H 𝓜 𝓖 𝓡)) (Reads.known record
+      (Reads'3.passes record { M = M; 𝓤 = 𝓤; H = H; 𝓜 = 𝓜; 𝓖 = 𝓖; 𝓡 = 𝓡 }) λ g. closed 𝓤 H (𝓖 .A) (Running.givenOf 𝓤 H 𝓜 𝓖) (Run.Over 𝓤 H 𝓜 𝓖 𝓡 Code.env) (Reads'7.known record
+      { M = M; 𝓤 = 𝓤; H = H; 𝓜 = 𝓜; 𝓖 = 𝓖; 𝓡 = 𝓡 } Code.env Symbol'6.name Symbol'6.routine Code.calls-region·span-of (Met'6.met 𝓤 H 𝓜 𝓖 𝓡)) (Reads'5.known record
+      { M = M; 𝓤 = 𝓤; H = H; 𝓜 = 𝓜; 𝓖 = 𝓖; 𝓡 = 𝓡 } Code.env Symbol'4.name Symbol'4.routine Code.calls-map·xtrans-places (Met'4.met 𝓤 H 𝓜 𝓖 𝓡)) (Reads'.known record
+      { M = M; 𝓤 = 𝓤; H = H; 𝓜 = 𝓜; 𝓖 = 𝓖; 𝓡 = 𝓡 } Code.env Symbol'.name Symbol'.routine Code.calls-block·form-of (Met'.met 𝓤 H 𝓜 𝓖 𝓡)) (Reads'9.known record { M = M; 𝓤 = 𝓤; H = H; 𝓜 = 𝓜; 𝓖 = 𝓖; 𝓡 = 𝓡 }
+      Code.env Symbol'8.name Symbol'8.routine Code.calls-stream·block-bytes (Met'8.met 𝓤 H 𝓜 𝓖 𝓡)) (Reads'8.known record { M = M; 𝓤 = 𝓤; H = H; 𝓜 = 𝓜; 𝓖 = 𝓖; 𝓡 = 𝓡 } Code.env Symbol'7.name
+      Symbol'7.routine Code.calls-stream·base-row (Met'7.met 𝓤 H 𝓜 𝓖 𝓡)) (Reads'6.known record { M = M; 𝓤 = 𝓤; H = H; 𝓜 = 𝓜; 𝓖 = 𝓖; 𝓡 = 𝓡 } Code.env Symbol'5.name Symbol'5.routine Code.calls-region·part
+      (Met'5.met 𝓤 H 𝓜 𝓖 𝓡)) (Reads'12.known record { M = M; 𝓤 = 𝓤; H = H; 𝓜 = 𝓜; 𝓖 = 𝓖; 𝓡 = 𝓡 } Code.env Symbol'11.name Symbol'11.routine Code.calls-taking·take-lines (Met'11.met 𝓤 H 𝓜 𝓖 𝓡))
+      (Reads''.known record { M = M; 𝓤 = 𝓤; H = H; 𝓜 = 𝓜; 𝓖 = 𝓖; 𝓡 = 𝓡 } Code.env Symbol''.name Symbol''.routine Code.calls-block·reading·walk (Met''.met 𝓤 H 𝓜 𝓖 𝓡)) (Reads'4.known record
+      { M = M; 𝓤 = 𝓤; H = H; 𝓜 = 𝓜; 𝓖 = 𝓖; 𝓡 = 𝓡 } Code.env Symbol'3.name Symbol'3.routine Code.calls-block·sharing·lines-read (Met'3.met 𝓤 H 𝓜 𝓖 𝓡)) (Reads'10.known record
+      { M = M; 𝓤 = 𝓤; H = H; 𝓜 = 𝓜; 𝓖 = 𝓖; 𝓡 = 𝓡 } Code.env Symbol'9.name Symbol'9.routine Code.calls-taking·after-block (Met'9.met 𝓤 H 𝓜 𝓖 𝓡)) (Reads'11.known record
+      { M = M; 𝓤 = 𝓤; H = H; 𝓜 = 𝓜; 𝓖 = 𝓖; 𝓡 = 𝓡 } Code.env Symbol'10.name Symbol'10.routine Code.calls-taking·is-stopped (Met'10.met 𝓤 H 𝓜 𝓖 𝓡)) (Reads.known record
       { M = M; 𝓤 = 𝓤; H = H; 𝓜 = 𝓜; 𝓖 = 𝓖; 𝓡 = 𝓡 } Code.env Symbol.name Symbol.routine Code.calls-block·decoding·judged (Met.met 𝓤 H 𝓜 𝓖 𝓡))

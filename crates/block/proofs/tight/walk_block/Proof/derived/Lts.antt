@@ -11,10 +11,10 @@ use Rattle.block.proofs.Walked
 use Rattle.block.proofs.Walked.Laws as Laws'
 use Rattle.cameras.proofs.Entries
 use Rattle.cameras.proofs.Entries.Laws as Laws''
+use Rattle.header.proofs.FujiHeader
+use Rattle.header.proofs.FujiHeader.Laws as Laws'3
 use Rattle.map.proofs.Part
-use Rattle.map.proofs.Part.Laws as Laws'3
-use Rattle.stream.proofs.FujiHeader
-use Rattle.stream.proofs.FujiHeader.Laws as Laws'4
+use Rattle.map.proofs.Part.Laws as Laws'4
 use borrow.Author.Called
 use borrow.Fn.Any
 use borrow.Fn.Call
@@ -98,15 +98,15 @@ abbrev pub y7 : Syntax.Ty
 y7 = Syntax.tyRef Syntax.erased Syntax.mut u16
 
 abbrev pub y8 : Syntax.Ty
-y8 = Syntax.tyStruct (109 ∷ 97 ∷ 112 ∷ 58 ∷ 58 ∷ 80 ∷ 97 ∷ 114 ∷ 116 ∷ []) (Syntax.tcons u64 (Syntax.tcons u64 (Syntax.tcons u64 (Syntax.tcons u64 (Syntax.tcons u64 (Syntax.tcons u64 Syntax.tnil))))))
+y8 = Syntax.tyStruct (104 ∷ 101 ∷ 97 ∷ 100 ∷ 101 ∷ 114 ∷ 58 ∷ 58 ∷ 70 ∷ 117 ∷ 106 ∷ 105 ∷ 72 ∷ 101 ∷ 97 ∷ 100 ∷ 101 ∷ 114 ∷ []) (Syntax.tcons Syntax.tyBool (Syntax.tcons Syntax.tyBool (Syntax.tcons
+    u32 (Syntax.tcons u32 (Syntax.tcons u32 (Syntax.tcons u32 (Syntax.tcons u32 (Syntax.tcons u32 (Syntax.tcons u32 Syntax.tnil)))))))))
 
 abbrev pub y9 : Syntax.Ty
-y9 = Syntax.tyStruct (113 ∷ 117 ∷ 97 ∷ 110 ∷ 116 ∷ 105 ∷ 115 ∷ 101 ∷ 114 ∷ 58 ∷ 58 ∷ 81 ∷ 117 ∷ 97 ∷ 110 ∷ 116 ∷ 105 ∷ 115 ∷ 101 ∷ 114 ∷ []) (Syntax.tcons u32 (Syntax.tcons u32 (Syntax.tcons u32
-    (Syntax.tcons u32 (Syntax.tcons u32 Syntax.tnil)))))
+y9 = Syntax.tyStruct (109 ∷ 97 ∷ 112 ∷ 58 ∷ 58 ∷ 80 ∷ 97 ∷ 114 ∷ 116 ∷ []) (Syntax.tcons u64 (Syntax.tcons u64 (Syntax.tcons u64 (Syntax.tcons u64 (Syntax.tcons u64 (Syntax.tcons u64 Syntax.tnil))))))
 
 abbrev pub y10 : Syntax.Ty
-y10 = Syntax.tyStruct (115 ∷ 116 ∷ 114 ∷ 101 ∷ 97 ∷ 109 ∷ 58 ∷ 58 ∷ 70 ∷ 117 ∷ 106 ∷ 105 ∷ 72 ∷ 101 ∷ 97 ∷ 100 ∷ 101 ∷ 114 ∷ []) (Syntax.tcons Syntax.tyBool (Syntax.tcons Syntax.tyBool (Syntax.tcons
-    u32 (Syntax.tcons u32 (Syntax.tcons u32 (Syntax.tcons u32 (Syntax.tcons u32 (Syntax.tcons u32 (Syntax.tcons u32 Syntax.tnil)))))))))
+y10 = Syntax.tyStruct (113 ∷ 117 ∷ 97 ∷ 110 ∷ 116 ∷ 105 ∷ 115 ∷ 101 ∷ 114 ∷ 58 ∷ 58 ∷ 81 ∷ 117 ∷ 97 ∷ 110 ∷ 116 ∷ 105 ∷ 115 ∷ 101 ∷ 114 ∷ []) (Syntax.tcons u32 (Syntax.tcons u32 (Syntax.tcons u32
+    (Syntax.tcons u32 (Syntax.tcons u32 Syntax.tnil)))))
 
 abbrev pub y11 : Syntax.Ty
 y11 = Syntax.tyStruct (116 ∷ 111 ∷ 116 ∷ 97 ∷ 108 ∷ 115 ∷ 58 ∷ 58 ∷ 84 ∷ 111 ∷ 116 ∷ 97 ∷ 108 ∷ 115 ∷ []) (Syntax.tcons u64 (Syntax.tcons u64 Syntax.tnil))
@@ -130,7 +130,7 @@ abbrev pub y17 : Syntax.Ty
 y17 = Syntax.tyStruct (38 ∷ 91 ∷ 93 ∷ []) (Syntax.tcons y7 (Syntax.tcons u64 Syntax.tnil))
 
 abbrev pub y18 : Syntax.Ty
-y18 = Syntax.tyStruct (99 ∷ 97 ∷ 109 ∷ 101 ∷ 114 ∷ 97 ∷ 115 ∷ 58 ∷ 58 ∷ 69 ∷ 110 ∷ 116 ∷ 114 ∷ 121 ∷ []) (Syntax.tcons u32 (Syntax.tcons y9 (Syntax.tcons Syntax.tyBool (Syntax.tcons Syntax.tyBool
+y18 = Syntax.tyStruct (99 ∷ 97 ∷ 109 ∷ 101 ∷ 114 ∷ 97 ∷ 115 ∷ 58 ∷ 58 ∷ 69 ∷ 110 ∷ 116 ∷ 114 ∷ 121 ∷ []) (Syntax.tcons u32 (Syntax.tcons y10 (Syntax.tcons Syntax.tyBool (Syntax.tcons Syntax.tyBool
     Syntax.tnil))))
 
 abbrev pub y19 : Syntax.Ty
@@ -141,27 +141,27 @@ abbrev pub y20 : Syntax.Ty
 y20 = Syntax.tyStruct (99 ∷ 97 ∷ 109 ∷ 101 ∷ 114 ∷ 97 ∷ 115 ∷ 58 ∷ 58 ∷ 69 ∷ 110 ∷ 116 ∷ 114 ∷ 105 ∷ 101 ∷ 115 ∷ []) (Syntax.tcons (Syntax.tyArray y18 16) Syntax.tnil)
 
 abbrev pub ps : List.List (Kinds.PK 3)
-ps = (ShrSlice.pShrS n8 0 tt) ∷ (Values.struct FujiHeader.the-type Laws'4.the-laws Laws'4.the-copy Laws'4.the-plain) ∷ (Num.pNum Syntax.w64) ∷ (MutSlice.pMutS n16 1 tt) ∷ (MutSlice.pMutS
+ps = (ShrSlice.pShrS n8 0 tt) ∷ (Values.struct FujiHeader.the-type Laws'3.the-laws Laws'3.the-copy Laws'3.the-plain) ∷ (Num.pNum Syntax.w64) ∷ (MutSlice.pMutS n16 1 tt) ∷ (MutSlice.pMutS
     (Element.type) 2 tt) ∷ []
 
 abbrev pub r : Kinds.RK 3
 r = Values.enum-result Walked.the-type Laws'.the-laws Laws'.the-copy Laws'.the-plain tt
 
 abbrev pub xs : List.List Syntax.Ty
-xs = y12 ∷ u64 ∷ y16 ∷ y16 ∷ y1 ∷ y0 ∷ y1 ∷ y7 ∷ y17 ∷ y6 ∷ (Syntax.tyStruct (38 ∷ 91 ∷ 93 ∷ []) (Syntax.tcons y6 (Syntax.tcons u64 Syntax.tnil))) ∷ y14 ∷ y17 ∷ y13 ∷ (Syntax.tyArray u8 36) ∷ y8 ∷ y20
+xs = y12 ∷ u64 ∷ y16 ∷ y16 ∷ y1 ∷ y0 ∷ y1 ∷ y7 ∷ y17 ∷ y6 ∷ (Syntax.tyStruct (38 ∷ 91 ∷ 93 ∷ []) (Syntax.tcons y6 (Syntax.tcons u64 Syntax.tnil))) ∷ y14 ∷ y17 ∷ y13 ∷ (Syntax.tyArray u8 36) ∷ y9 ∷ y20
     ∷ []
 
 abbrev pub m : Nat.ℕ
 m = 4
 
 abbrev pub ps·0 : List.List (Kinds.PK 0)
-ps·0 = (Values.struct FujiHeader.the-type Laws'4.the-laws Laws'4.the-copy Laws'4.the-plain) ∷ []
+ps·0 = (Values.struct FujiHeader.the-type Laws'3.the-laws Laws'3.the-copy Laws'3.the-plain) ∷ []
 
 abbrev pub r·0 : Kinds.RK 0
 r·0 = Values.struct-result Form.the-type Laws.the-laws Laws.the-copy Laws.the-plain
 
 abbrev pub ps·1 : List.List (Kinds.PK 0)
-ps·1 = (Values.struct FujiHeader.the-type Laws'4.the-laws Laws'4.the-copy Laws'4.the-plain) ∷ []
+ps·1 = (Values.struct FujiHeader.the-type Laws'3.the-laws Laws'3.the-copy Laws'3.the-plain) ∷ []
 
 abbrev pub r·1 : Kinds.RK 0
 r·1 = Num.rNum Syntax.w64
@@ -188,7 +188,7 @@ abbrev pub ps·5 : List.List (Kinds.PK 0)
 ps·5 = []
 
 abbrev pub r·5 : Kinds.RK 0
-r·5 = Values.struct-result Part.the-type Laws'3.the-laws Laws'3.the-copy Laws'3.the-plain
+r·5 = Values.struct-result Part.the-type Laws'4.the-laws Laws'4.the-copy Laws'4.the-plain
 
 abbrev pub ps·6 : List.List (Kinds.PK 0)
 ps·6 = []
@@ -198,8 +198,8 @@ r·6 = Values.struct-result Entries.the-type Laws''.the-laws Laws''.the-copy Law
 
 abbrev pub ps·7 : List.List (Kinds.PK 6)
 ps·7 = (ShrSlice.pShrS n8 0 tt) ∷ (ShrSlice.pShrS n8 1 tt) ∷ (MutSlice.pMutS n16 2 tt) ∷ (MutSlice.pMutS (Element.type) 3 tt) ∷ (MutSlice.pMutS n16 4 tt) ∷ (Values.struct Form.the-type Laws.the-laws
-    Laws.the-copy Laws.the-plain) ∷ (ShrRef.pShr (Array'.Array n16 768) 5 tt) ∷ (Array.pArr (Array.eInt Syntax.w8) (Array.eInt-laws Syntax.w8) 36) ∷ (Values.struct Part.the-type Laws'3.the-laws
-    Laws'3.the-copy Laws'3.the-plain) ∷ (Num.pNum Syntax.w64) ∷ Bool.pBool ∷ (Values.struct Entries.the-type Laws''.the-laws Laws''.the-copy Laws''.the-plain) ∷ []
+    Laws.the-copy Laws.the-plain) ∷ (ShrRef.pShr (Array'.Array n16 768) 5 tt) ∷ (Array.pArr (Array.eInt Syntax.w8) (Array.eInt-laws Syntax.w8) 36) ∷ (Values.struct Part.the-type Laws'4.the-laws
+    Laws'4.the-copy Laws'4.the-plain) ∷ (Num.pNum Syntax.w64) ∷ Bool.pBool ∷ (Values.struct Entries.the-type Laws''.the-laws Laws''.the-copy Laws''.the-plain) ∷ []
 
 abbrev pub r·7 : Kinds.RK 6
 r·7 = Values.enum-result Walked.the-type Laws'.the-laws Laws'.the-copy Laws'.the-plain tt
@@ -318,7 +318,7 @@ abbrev pub v6 : Row.Row
 v6 = Rows'.any-gone y6
 
 abbrev pub v7 : Row.Row
-v7 = Rows'.any-gone y10
+v7 = Rows'.any-gone y8
 
 abbrev pub v8 : Row.Row
 v8 = Rows'.whole (Declared'.row Form.the-type)
@@ -366,7 +366,7 @@ abbrev pub v22 : Row.Row
 v22 = Relend.mslice-owed n16 y3 1 3 Row.off
 
 abbrev pub v23 : Row.Row
-v23 = Rows'.any-gone y8
+v23 = Rows'.any-gone y9
 
 abbrev pub v24 : Row.Row
 v24 = Rows'.any-gone y20
@@ -675,7 +675,7 @@ module _ (claims· : Claims) where
   s3 = λ bs. Call.callB ps·1 r·1 (claims· .2) (claims· .3) T4 (record { pos = 2; st = []; d = 0; at = λ x. x }, tt) 7 [] u64
 
   abbrev s4 : (bs : List.List Nat.ℕ) → Typed.Mo T5 → Typed.Mo T6
-  s4 = λ bs. Scalar.n-room T5 2 y10
+  s4 = λ bs. Scalar.n-room T5 2 y8
 
   abbrev s5 : (bs : List.List Nat.ℕ) → Typed.Both T6 T7
   s5 = λ bs. Call.callB ps·2 r·2 (claims· .4) (claims· .5) T6 (record { pos = 1; ty = y2; ref = λ x. x }, (Num.vAt 3 λ x. x, tt)) 8 (0 ∷ []) y16
@@ -726,7 +726,7 @@ module _ (claims· : Claims) where
   s24 = λ bs. AtSlots.n-as-by T25 20 (Rows.arrF n8 36 0) λ x. x
 
   abbrev s25 : (bs : List.List Nat.ℕ) → Typed.Both T26 T27
-  s25 = λ bs. Call.callB ps·5 r·5 (claims· .10) (claims· .11) T26 tt 21 [] y8
+  s25 = λ bs. Call.callB ps·5 r·5 (claims· .10) (claims· .11) T26 tt 21 [] y9
 
   abbrev s26 : (bs : List.List Nat.ℕ) → Typed.Both T27 T28
   s26 = λ bs. Call.callB ps·6 r·6 (claims· .12) (claims· .13) T27 tt 22 [] y20
@@ -777,7 +777,7 @@ module _ (claims· : Claims) where
   s33 = λ bs. Scalar.n-room T34 20 (Syntax.tyArray u8 36)
 
   abbrev s34 : (bs : List.List Nat.ℕ) → Typed.Mo T35 → Typed.Mo T36
-  s34 = λ bs. Scalar.n-room T35 21 y8
+  s34 = λ bs. Scalar.n-room T35 21 y9
 
   abbrev s35 : (bs : List.List Nat.ℕ) → Typed.Mo T36 → Typed.Mo T37
   s35 = λ bs. Scalar.n-room T36 22 y20
@@ -1192,7 +1192,7 @@ module _ (claims· : Claims) where
               Path'.refl)) d16
 
           d18 : Typed.Typed 𝓤 H A 𝓣 E G35 b18 Δ0 (at18 bs)
-          d18 = Typed.g-pre 𝓤 H A W 𝓣 E G35 G36 b18 Δ0 (Typed.pass T35 T36 (s34 bs)) (at17 bs) (Scalar.g-room 𝓤 H A W E G35 21 y8 (Local.room-whole 𝓤 H A W (Declared'.row Part.the-type) y8
+          d18 = Typed.g-pre 𝓤 H A W 𝓣 E G35 G36 b18 Δ0 (Typed.pass T35 T36 (s34 bs)) (at17 bs) (Scalar.g-room 𝓤 H A W E G35 21 y9 (Local.room-whole 𝓤 H A W (Declared'.row Part.the-type) y9
               Path'.refl)) d17
 
           d19 : Typed.Typed 𝓤 H A 𝓣 E G34 b18 Δ0 (at19 bs)
@@ -1271,7 +1271,7 @@ module _ (claims· : Claims) where
                             (
                               (Array.arr-yields 𝓤 H A W (Array.eInt Syntax.w8) (Array.eInt-laws Syntax.w8) 36, Path'.refl),
                               (
-                                (Values.struct-copied 𝓤 H A W Part.the-type Laws'3.the-laws Laws'3.the-copy, Path'.refl),
+                                (Values.struct-copied 𝓤 H A W Part.the-type Laws'4.the-laws Laws'4.the-copy, Path'.refl),
                                 ((Scalar.reads-sc 𝓤 H A W (Row.sInt Syntax.w64), Path'.refl), (tt, ((Values.struct-copied 𝓤 H A W Entries.the-type Laws''.the-laws Laws''.the-copy, Path'.refl), tt))),
                               ),
                             ),
@@ -1290,7 +1290,7 @@ module _ (claims· : Claims) where
 
           d27 : Typed.Typed 𝓤 H A 𝓣 E G26 b21 Δ0 (at27 bs)
           d27 = Typed.s-seq 𝓤 H A W 𝓣 E G26 G27 b15 (Syntax.seq b16 (Syntax.seq b17 b18)) Δ0 (Typed.both (s25 bs)) (at26 bs) (Plain.t-call-plain 𝓤 H A W 𝓣 0 ps·5 r·5 (claims· .10) (claims· .11)
-              "block::tight::no_part" (known .5) E (λ pos β. β) G26 tt 21 [] (Call.sub-id 𝓤 H A W (G26 .slots)) tt (Reads.room-gone 𝓤 H A y8) tt Path'.refl) d26
+              "block::tight::no_part" (known .5) E (λ pos β. β) G26 tt 21 [] (Call.sub-id 𝓤 H A W (G26 .slots)) tt (Reads.room-gone 𝓤 H A y9) tt Path'.refl) d26
 
           d28 : Typed.Typed 𝓤 H A 𝓣 E G25 b21 Δ0 (at28 bs)
           d28 = Typed.g-pre 𝓤 H A W 𝓣 E G25 G26 b21 Δ0 (Typed.pass T25 T26 (s24 bs)) (at27 bs) (AtSlots.g-as-by 𝓤 H A W E (λ ρ. Unit) G25 20 (Rows.arrF n8 36 0) (λ x. x) (Own.told-none 𝓤 H A (G25
@@ -1385,18 +1385,18 @@ module _ (claims· : Claims) where
               (tt, tt) (Path'.refl, λ b o k. tt)) d46
 
           d48 : Typed.Typed 𝓤 H A 𝓣 E (on T5 l8) (Syntax.seq b2 (Syntax.seq b3 b32)) Δ0 (at48 bs)
-          d48 = Typed.g-pre 𝓤 H A W 𝓣 E (on T5 l8) (on T6 l8) (Syntax.seq b2 (Syntax.seq b3 b32)) Δ0 (Typed.pass T5 T6 (s4 bs)) (at47 bs) (Scalar.g-room 𝓤 H A W E (on T5 l8) 2 y10 (Local.room-whole 𝓤
-              H A W (Declared'.row FujiHeader.the-type) y10 Path'.refl)) d47
+          d48 = Typed.g-pre 𝓤 H A W 𝓣 E (on T5 l8) (on T6 l8) (Syntax.seq b2 (Syntax.seq b3 b32)) Δ0 (Typed.pass T5 T6 (s4 bs)) (at47 bs) (Scalar.g-room 𝓤 H A W E (on T5 l8) 2 y8 (Local.room-whole 𝓤 H
+              A W (Declared'.row FujiHeader.the-type) y8 Path'.refl)) d47
 
           d49 : Typed.Typed 𝓤 H A 𝓣 E (on T4 l8) b35 Δ0 (at49 bs)
           d49 = Typed.s-seq 𝓤 H A W 𝓣 E (on T4 l8) (on T5 l8) b1 (Syntax.seq b2 (Syntax.seq b3 b32)) Δ0 (Typed.both (s3 bs)) (at48 bs) (Plain.t-call-plain 𝓤 H A W 𝓣 0 ps·1 r·1 (claims· .2) (claims·
               .3) "block::tight::line_count" (known .1) E (λ pos β. β) (on T4 l8) (record { pos = 2; st = []; d = 0; at = λ x. x }, tt) 7 [] (Call.sub-id 𝓤 H A W ((on T4 l8) .slots))
-              ((Values.struct-copied 𝓤 H A W FujiHeader.the-type Laws'4.the-laws Laws'4.the-copy, Path'.refl), tt) (Reads.room-gone 𝓤 H A u64) tt Path'.refl) d48
+              ((Values.struct-copied 𝓤 H A W FujiHeader.the-type Laws'3.the-laws Laws'3.the-copy, Path'.refl), tt) (Reads.room-gone 𝓤 H A u64) tt Path'.refl) d48
 
           d50 : Typed.Typed 𝓤 H A 𝓣 E (on T0 l8) b36 Δ0 (at50 bs)
           d50 = Typed.s-seq 𝓤 H A W 𝓣 E (on T0 l8) (on T4 l8) b0 b35 Δ0 (Typed.both (s2 bs)) (at49 bs) (Plain.t-call-plain 𝓤 H A W 𝓣 0 ps·0 r·0 (claims· .0) (claims· .1) "block::form_of" (known .0) E
               (λ pos β. β) (on T0 l8) (record { pos = 2; st = []; d = 0; at = λ x. x }, tt) 6 [] (Call.sub-id 𝓤 H A W ((on T0 l8) .slots))
-              ((Values.struct-copied 𝓤 H A W FujiHeader.the-type Laws'4.the-laws Laws'4.the-copy, Path'.refl), tt) (Reads.room-gone 𝓤 H A y12) tt Path'.refl) d49
+              ((Values.struct-copied 𝓤 H A W FujiHeader.the-type Laws'3.the-laws Laws'3.the-copy, Path'.refl), tt) (Reads.room-gone 𝓤 H A y12) tt Path'.refl) d49
 
           d51 : Typed.Typed 𝓤 H A 𝓣 E (on T0 l8) b36 Δ0 (at51 bs)
           d51 = Typed.g-pre 𝓤 H A W 𝓣 E (on T0 l8) (on T0 l8) b36 Δ0 (Typed.give (s1 bs)) (at50 bs) (Know.g-sl-known 𝓤 H A W (Referent.fInt Syntax.w16) E (on T0 l8) 4 1 y3 k1 0 (λ x. x) record
@@ -1412,7 +1412,7 @@ module _ (claims· : Claims) where
       module _ (κs : Lifetimes.Lfts 3) where
         pub record Args : Type 0 where
           pub d : Kinds.Den {n = 3} κs (ShrSlice.pShrS n8 0 tt)
-          pub h : Kinds.Den {n = 3} κs (Values.struct FujiHeader.the-type Laws'4.the-laws Laws'4.the-copy Laws'4.the-plain)
+          pub h : Kinds.Den {n = 3} κs (Values.struct FujiHeader.the-type Laws'3.the-laws Laws'3.the-copy Laws'3.the-plain)
           pub b : Kinds.Den {n = 3} κs (Num.pNum Syntax.w64)
           pub lines : Kinds.Den {n = 3} κs (MutSlice.pMutS n16 1 tt)
           pub rs : Kinds.Den {n = 3} κs (MutSlice.pMutS (Element.type) 2 tt)

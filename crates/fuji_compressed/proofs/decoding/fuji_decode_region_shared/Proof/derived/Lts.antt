@@ -89,7 +89,7 @@ abbrev pub y2 : Syntax.Ty
 y2 = Syntax.tyArray u8 36
 
 abbrev pub y3 : Syntax.Ty
-y3 = Syntax.tyEnum (115 ∷ 116 ∷ 114 ∷ 101 ∷ 97 ∷ 109 ∷ 58 ∷ 58 ∷ 82 ∷ 101 ∷ 102 ∷ 117 ∷ 115 ∷ 97 ∷ 108 ∷ []) (Syntax.ttcons Syntax.tnil (Syntax.ttcons Syntax.tnil (Syntax.ttcons Syntax.tnil
+y3 = Syntax.tyEnum (104 ∷ 101 ∷ 97 ∷ 100 ∷ 101 ∷ 114 ∷ 58 ∷ 58 ∷ 82 ∷ 101 ∷ 102 ∷ 117 ∷ 115 ∷ 97 ∷ 108 ∷ []) (Syntax.ttcons Syntax.tnil (Syntax.ttcons Syntax.tnil (Syntax.ttcons Syntax.tnil
     (Syntax.ttcons (Syntax.tcons u64 Syntax.tnil) (Syntax.ttcons Syntax.tnil (Syntax.ttcons Syntax.tnil (Syntax.ttcons Syntax.tnil (Syntax.ttcons Syntax.tnil (Syntax.ttcons Syntax.tnil (Syntax.ttcons
     Syntax.tnil (Syntax.ttcons (Syntax.tcons u64 Syntax.tnil) (Syntax.ttcons (Syntax.tcons u64 Syntax.tnil) (Syntax.ttcons Syntax.tnil (Syntax.ttcons (Syntax.tcons u64 (Syntax.tcons u64 Syntax.tnil))
     (Syntax.ttcons (Syntax.tcons u64 Syntax.tnil) (Syntax.ttcons Syntax.tnil (Syntax.ttcons Syntax.tnil (Syntax.ttcons (Syntax.tcons u64 Syntax.tnil) (Syntax.ttcons (Syntax.tcons u64 Syntax.tnil)
@@ -223,13 +223,13 @@ abbrev b3 : Syntax.Body
 b3 = Syntax.assign (Syntax.place 15 []) (Syntax.rvOpd (Syntax.copy (Syntax.place 22 [])))
 
 abbrev b4 : Syntax.Body
-b4 = Syntax.call "cameras::camera_in" ((Syntax.copy (Syntax.place 1 [])) ∷ []) (Syntax.place 16 [])
+b4 = Syntax.call "entry_words::camera_in" ((Syntax.copy (Syntax.place 1 [])) ∷ []) (Syntax.place 16 [])
 
 abbrev b5 : Syntax.Body
 b5 = Syntax.assign (Syntax.place 23 []) (Syntax.addrOf (Syntax.place 15 []))
 
 abbrev b6 : Syntax.Body
-b6 = Syntax.call "cameras::entries_in" ((Syntax.copy (Syntax.place 23 [])) ∷ []) (Syntax.place 17 [])
+b6 = Syntax.call "entry_words::entries_in" ((Syntax.copy (Syntax.place 23 [])) ∷ []) (Syntax.place 17 [])
 
 abbrev b7 : Syntax.Body
 b7 = Syntax.assign (Syntax.place 24 []) (Syntax.addrOf (Syntax.place 9 ((Syntax.field 0) ∷ (Syntax.deref u16) ∷ [])))
@@ -254,7 +254,7 @@ b13 = Syntax.call "block::sharing::decode_region_shared" ((Syntax.copy (Syntax.p
     [])) ∷ (Syntax.copy (Syntax.place 14 [])) ∷ (Syntax.copy (Syntax.place 25 [])) ∷ (Syntax.copy (Syntax.place 27 [])) ∷ (Syntax.copy (Syntax.place 29 [])) ∷ []) (Syntax.place 18 [])
 
 abbrev b14 : Syntax.Body
-b14 = Syntax.call "cameras::words_of" ((Syntax.copy (Syntax.place 18 ((Syntax.field 1) ∷ []))) ∷ []) (Syntax.place 19 [])
+b14 = Syntax.call "entry_words::words_of" ((Syntax.copy (Syntax.place 18 ((Syntax.field 1) ∷ []))) ∷ []) (Syntax.place 19 [])
 
 abbrev b15 : Syntax.Body
 b15 = Syntax.assign (Syntax.place 20 []) (Syntax.rvOpd (Syntax.copy (Syntax.place 18 ((Syntax.field 0) ∷ []))))
@@ -842,10 +842,10 @@ module _ (claims· : Claims) where
   module _ (Pre· : (κs : Lifetimes.Lfts 7) → Kinds.Dens κs ps → Type 0) (Post· : (κs : Lifetimes.Lfts 7) → (a : Kinds.Dens κs ps) → Kinds.Plain 7 ps r κs) where
     module _ (M : Type 1) where
       abbrev pub Closed : Type 2
-      Closed = (𝓤 : URA.URA M) (H : Wp.Heap 𝓤) (A : Atoms.Atoms 𝓤) (W : Kit.Given 𝓤 H A) (𝓣 : Wp.Tables 𝓤 H) (known0 : Plain.Known 𝓤 H A W 𝓣 0 ps·0 r·0 (claims· .0) (claims· .1) "cameras::camera_in")
-          (known1 : Plain.Known 𝓤 H A W 𝓣 1 ps·1 r·1 (claims· .2) (claims· .3) "cameras::entries_in") (known2 : Plain.Known 𝓤 H A W 𝓣 4 ps·2 r·2 (claims· .4) (claims· .5)
-          "block::sharing::decode_region_shared") (known3 : Plain.Known 𝓤 H A W 𝓣 0 ps·3 r·3 (claims· .6) (claims· .7) "cameras::words_of") (known4 : Plain.Known 𝓤 H A W 𝓣 0 ps·4 r·4 (claims· .8) (claims·
-          .9) "block::answer_words") → Statement.Triple 𝓤 (Wp.WpFn 𝓤 H (𝓣 .C) (𝓣 .Λ) (Function.fnOf 7 ps r xs m hs body)) (Function.plainOf 𝓤 H A 7 ps r Pre· Post·)
+      Closed = (𝓤 : URA.URA M) (H : Wp.Heap 𝓤) (A : Atoms.Atoms 𝓤) (W : Kit.Given 𝓤 H A) (𝓣 : Wp.Tables 𝓤 H) (known0 : Plain.Known 𝓤 H A W 𝓣 0 ps·0 r·0 (claims· .0) (claims· .1)
+          "entry_words::camera_in") (known1 : Plain.Known 𝓤 H A W 𝓣 1 ps·1 r·1 (claims· .2) (claims· .3) "entry_words::entries_in") (known2 : Plain.Known 𝓤 H A W 𝓣 4 ps·2 r·2 (claims· .4) (claims· .5)
+          "block::sharing::decode_region_shared") (known3 : Plain.Known 𝓤 H A W 𝓣 0 ps·3 r·3 (claims· .6) (claims· .7) "entry_words::words_of") (known4 : Plain.Known 𝓤 H A W 𝓣 0 ps·4 r·4 (claims· .8)
+          (claims· .9) "block::answer_words") → Statement.Triple 𝓤 (Wp.WpFn 𝓤 H (𝓣 .C) (𝓣 .Λ) (Function.fnOf 7 ps r xs m hs body)) (Function.plainOf 𝓤 H A 7 ps r Pre· Post·)
 
     module _ where
       abbrev at0 : Typed.TF T1 O0
@@ -994,9 +994,9 @@ module _ (claims· : Claims) where
 
       module _ {M : Type 1} (𝓤 : URA.URA M) (H : Wp.Heap 𝓤) (A : Atoms.Atoms 𝓤) (W : Kit.Given 𝓤 H A) (𝓣 : Wp.Tables 𝓤 H) where
         abbrev Knowns : Type 1
-        Knowns = Plain.Known 𝓤 H A W 𝓣 0 ps·0 r·0 (claims· .0) (claims· .1) "cameras::camera_in" × Plain.Known 𝓤 H A W 𝓣 1 ps·1 r·1 (claims· .2) (claims· .3) "cameras::entries_in" × Plain.Known 𝓤 H A
-            W 𝓣 4 ps·2 r·2 (claims· .4) (claims· .5) "block::sharing::decode_region_shared" × Plain.Known 𝓤 H A W 𝓣 0 ps·3 r·3 (claims· .6) (claims· .7) "cameras::words_of" × Plain.Known 𝓤 H A W 𝓣 0 ps·4
-            r·4 (claims· .8) (claims· .9) "block::answer_words"
+        Knowns = Plain.Known 𝓤 H A W 𝓣 0 ps·0 r·0 (claims· .0) (claims· .1) "entry_words::camera_in" × Plain.Known 𝓤 H A W 𝓣 1 ps·1 r·1 (claims· .2) (claims· .3) "entry_words::entries_in" ×
+            Plain.Known 𝓤 H A W 𝓣 4 ps·2 r·2 (claims· .4) (claims· .5) "block::sharing::decode_region_shared" × Plain.Known 𝓤 H A W 𝓣 0 ps·3 r·3 (claims· .6) (claims· .7) "entry_words::words_of" ×
+            Plain.Known 𝓤 H A W 𝓣 0 ps·4 r·4 (claims· .8) (claims· .9) "block::answer_words"
 
       module _ (κs : Lifetimes.Lfts 7) (qs : Lifetimes.Shares 7) where
         abbrev k0 : Row.Life
@@ -1224,8 +1224,8 @@ module _ (claims· : Claims) where
 
           d15 : Typed.Typed 𝓤 H A 𝓣 E (on T43 l7) b26 Δ0 at15
           d15 = Typed.s-seq 𝓤 H A W 𝓣 E (on T43 l7) (on T45 l7) b14 (Syntax.seq b15 (Syntax.seq b16 b23)) Δ0 (Typed.both s43) at14 (Plain.t-call-plain 𝓤 H A W 𝓣 0 ps·3 r·3 (claims· .6) (claims· .7)
-              "cameras::words_of" (known .3) E (λ pos β. β) (on T43 l7) (record { pos = 18; st = (Syntax.field 1) ∷ []; d = 32; at = λ x. SharedAnswer.struct .as-values x .1 .0 }, tt) 19 [] (Call.sub-id
-              𝓤 H A W ((on T43 l7) .slots)) (
+              "entry_words::words_of" (known .3) E (λ pos β. β) (on T43 l7) (record { pos = 18; st = (Syntax.field 1) ∷ []; d = 32; at = λ x. SharedAnswer.struct .as-values x .1 .0 }, tt) 19 []
+              (Call.sub-id 𝓤 H A W ((on T43 l7) .slots)) (
                 (
                   Yields'.yields-acc 𝓤 H A W (Rows'.whole (Declared'.row SharedAnswer.the-type)) (Declared'.row Entries.the-type) 32 (λ x. SharedAnswer.struct .as-values x .1 .0) Path'.refl (Copies.cStruct
                       Entries.the-type Laws'3.the-laws Laws'3.the-copy .copy 𝓤 H A W) (Yields'.acc-record 𝓤 H A W (Rows'.whole (Declared'.row SharedAnswer.the-type)) Entries.the-type 32 (λ x. SharedAnswer.struct
@@ -1400,8 +1400,8 @@ module _ (claims· : Claims) where
               A (Rows'.sref (Array'.Array n32 128) y17 7))) d45
 
           d47 : Typed.Typed 𝓤 H A 𝓣 E (on T12 l5) (Syntax.seq b6 b33) Δ0 at47
-          d47 = Typed.s-seq 𝓤 H A W 𝓣 E (on T12 l5) (on T13 l5) b6 b33 Δ0 (Typed.both s11) at46 (Plain.t-call-plain 𝓤 H A W 𝓣 1 ps·1 r·1 (claims· .2) (claims· .3) "cameras::entries_in" (known .1) E (λ
-              pos β. β) (on T12 l5) (record { pos = 23; ty = y17; ref = λ x. x }, tt) 17 (7 ∷ []) (Call.sub-id 𝓤 H A W ((on T12 l5) .slots))
+          d47 = Typed.s-seq 𝓤 H A W 𝓣 E (on T12 l5) (on T13 l5) b6 b33 Δ0 (Typed.both s11) at46 (Plain.t-call-plain 𝓤 H A W 𝓣 1 ps·1 r·1 (claims· .2) (claims· .3) "entry_words::entries_in" (known .1)
+              E (λ pos β. β) (on T12 l5) (record { pos = 23; ty = y17; ref = λ x. x }, tt) 17 (7 ∷ []) (Call.sub-id 𝓤 H A W ((on T12 l5) .slots))
               (ShrRef.spares-sref 𝓤 H A W (Array'.Array n32 128) y17 7, Reads'.reads-sref 𝓤 H A W (Array'.Array n32 128) y17 7, Path'.refl, tt) (Reads'.room-gone 𝓤 H A y22) (tt, tt) Path'.refl) d46
 
           d48 : Typed.Typed 𝓤 H A 𝓣 E (on T10 l5) (Syntax.seq b5 (Syntax.seq b6 b33)) Δ0 at48
@@ -1414,7 +1414,7 @@ module _ (claims· : Claims) where
 
           d50 : Typed.Typed 𝓤 H A 𝓣 E (on T9 l7) b36 Δ0 at50
           d50 = Typed.s-seq 𝓤 H A W 𝓣 E (on T9 l7) (on T10 l7) b4 (Syntax.seq b5 (Syntax.seq b6 b33)) Δ0 (Typed.both s8) at48 (Plain.t-call-plain 𝓤 H A W 𝓣 0 ps·0 r·0 (claims· .0) (claims· .1)
-              "cameras::camera_in" (known .0) E (λ pos β. β) (on T9 l7) (Num.vAt 1 λ x. x, tt) 16 [] (Call.sub-id 𝓤 H A W ((on T9 l7) .slots))
+              "entry_words::camera_in" (known .0) E (λ pos β. β) (on T9 l7) (Num.vAt 1 λ x. x, tt) 16 [] (Call.sub-id 𝓤 H A W ((on T9 l7) .slots))
               ((Scalar.reads-sc 𝓤 H A W (Row.sInt Syntax.w32), Path'.refl), tt) (Reads'.room-gone 𝓤 H A y4) tt Path'.refl) d49
 
           d51 : Typed.Typed 𝓤 H A 𝓣 E (on T8 l7) b36 Δ0 at51
@@ -1934,8 +1934,8 @@ module _ (claims· : Claims) where
           }
 
         module _ {M : Type 1} (𝓤 : URA.URA M) (H : Wp.Heap 𝓤) (A : Atoms.Atoms 𝓤) (W : Kit.Given 𝓤 H A) (𝓣 : Wp.Tables 𝓤 H) (known0 : Plain.Known 𝓤 H A W 𝓣 0 ps·0 r·0 (claims· .0) (claims· .1)
-            "cameras::camera_in") (known1 : Plain.Known 𝓤 H A W 𝓣 1 ps·1 r·1 (claims· .2) (claims· .3) "cameras::entries_in") (known2 : Plain.Known 𝓤 H A W 𝓣 4 ps·2 r·2 (claims· .4) (claims· .5)
-            "block::sharing::decode_region_shared") (known3 : Plain.Known 𝓤 H A W 𝓣 0 ps·3 r·3 (claims· .6) (claims· .7) "cameras::words_of") (known4 : Plain.Known 𝓤 H A W 𝓣 0 ps·4 r·4 (claims· .8)
+            "entry_words::camera_in") (known1 : Plain.Known 𝓤 H A W 𝓣 1 ps·1 r·1 (claims· .2) (claims· .3) "entry_words::entries_in") (known2 : Plain.Known 𝓤 H A W 𝓣 4 ps·2 r·2 (claims· .4) (claims· .5)
+            "block::sharing::decode_region_shared") (known3 : Plain.Known 𝓤 H A W 𝓣 0 ps·3 r·3 (claims· .6) (claims· .7) "entry_words::words_of") (known4 : Plain.Known 𝓤 H A W 𝓣 0 ps·4 r·4 (claims· .8)
             (claims· .9) "block::answer_words") where
           pub spec : Statement.Triple 𝓤 (Wp.WpFn 𝓤 H (𝓣 .C) (𝓣 .Λ) (Function.fnOf 7 ps r xs m hs body)) (Function.plainOf 𝓤 H A 7 ps r Pre· Post·)
           spec = Plain.t-fn-plain 𝓤 H A W 𝓣 7 ps r xs m hs body (λ κs qs bs. Φ) (λ κs qs bs bd. typed κs qs 𝓤 H A W 𝓣 (known0, known1, known2, known3, known4) bs bd) Pre· Post· asked

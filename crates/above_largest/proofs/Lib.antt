@@ -1,0 +1,2 @@
+-- Laws on refusal 11.
+pub mod SampleLaws

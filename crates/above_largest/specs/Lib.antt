@@ -1,0 +1,2 @@
+-- The definitions of refusal 11.
+pub mod Above

@@ -1,0 +1,2 @@
+-- The definitions of a bad code.
+pub mod Reasons

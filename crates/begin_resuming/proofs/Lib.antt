@@ -1,0 +1,2 @@
+-- Laws on how going on in a block begins.
+pub mod ResumingLaws

@@ -1,0 +1,2 @@
+-- The definitions of how going on in a block begins.
+pub mod Resumings

@@ -1,0 +1,2 @@
+-- The definitions of how the writer's calls begin.
+pub mod Writings

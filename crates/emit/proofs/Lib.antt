@@ -1,0 +1,2 @@
+-- Laws about colour lines that go to the image by themselves.
+pub mod WindowLaws

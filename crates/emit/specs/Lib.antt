@@ -1,0 +1,2 @@
+-- The definitions of lines that go to the image.
+pub mod Windows

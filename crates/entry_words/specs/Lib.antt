@@ -1,0 +1,2 @@
+-- The definitions of the entries as words.
+pub mod Words

@@ -1,0 +1,2 @@
+-- Laws about a row that is put into the image.
+pub mod StartLaws

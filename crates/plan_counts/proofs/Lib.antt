@@ -1,0 +1,2 @@
+-- Laws about counts of records.
+pub mod CountLaws

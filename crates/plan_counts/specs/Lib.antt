@@ -1,0 +1,2 @@
+-- The definitions of counts of records.
+pub mod Counts

@@ -1,0 +1,5 @@
+-- Laws about the records of a plan.
+pub mod DigitLaws
+pub mod RowLaws
+pub mod RecordLaws
+pub mod BaseLaws

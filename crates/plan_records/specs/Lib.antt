@@ -1,0 +1,3 @@
+-- The definitions of the records of a plan.
+pub mod Records
+pub mod Readings

@@ -1,0 +1,2 @@
+-- The definitions of the pump.
+pub mod Pump

@@ -1,0 +1,2 @@
+-- The definitions of ranges.
+pub mod Ranges

@@ -1,0 +1,3 @@
+-- Laws of texts in a buffer, and worked cases.
+pub mod TextLaws
+pub mod ReportCases

@@ -1,0 +1,2 @@
+-- The text of what is found.
+pub mod Texts

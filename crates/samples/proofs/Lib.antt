@@ -1,0 +1,3 @@
+-- Laws about codes and samples, for its own proofs and for those of the crates above.
+pub mod SampleLaws
+pub mod NearLaws

@@ -1,0 +1,12 @@
+-- `samples::residual_size` meets its contract, for even and odd codes alike. Assumes nothing.
+use borrow.Author.Needs.{needs}
+use native.Mathlib.Omega.{arith}
+use Rattle.samples.proofs.SampleLaws.{residual-size}
+use Rattle.samples.proofs.residual_size.Statement.{statement}
+use Rattle.samples.proofs.residual_size.Tie as tie
+
+returns : tie.Need-returns
+returns c = (residual-size _, search needs)
+
+pub residual-size-spec : {M : Type 1} → statement M
+residual-size-spec = tie.close (tie.spec (λ c. omega (arith, c .pre)) returns)

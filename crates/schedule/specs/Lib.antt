@@ -1,0 +1,2 @@
+-- The passes of a line and their steps.
+pub mod Steps

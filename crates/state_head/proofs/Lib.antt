@@ -1,0 +1,2 @@
+-- Laws about bytes that are put one after the other.
+pub mod PutLaws

@@ -1,0 +1,2 @@
+-- The definitions of the head of a stored state.
+pub mod Heads

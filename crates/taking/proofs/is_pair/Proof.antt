@@ -1,0 +1,15 @@
+-- `taking::is_pair` meets its contract: depth and base, and that somebody holds it. Assumes nothing.
+use Rattle.taking.proofs.is_pair.Statement.{statement}
+use Rattle.taking.proofs.is_pair.Tie as tie
+use Rattle.taking.proofs.is_pair.Reads as reads
+use Rattle.taking.proofs.is_pair.Lts as lts
+use Rattle.cameras.proofs.is_held.Reads as is-held-reads
+
+is-held-requires : tie.Need-is-held-requires
+is-held-requires c κs = tt
+
+returns : tie.Need-returns
+returns c = rw (c .before .before .is-held .ensures)
+
+pub is-pair-spec : {M : Type 1} → statement M
+is-pair-spec = tie.close (tie.spec is-held-requires returns)

@@ -1,0 +1,2 @@
+-- A header as words.
+pub mod Words

@@ -1,0 +1,2 @@
+-- The definition of rows that become 0.
+pub mod Zeros
