@@ -1,12 +1,12 @@
 -- Both entries agree on the same call, by what each promises. Assumes nothing.
 use borrow.Author.Tests.{ltb-true, le-leb}
-use mathlib.Core.Bool.{Bool, true, false, cond, _&&_, _||_, and-false}
+use mathlib.Core.Bool.{Bool, true, false, cond, _&&_, and-false}
 use mathlib.Core.List.{List}
 use mathlib.Core.Path.{_≡_, refl, sym, ap, _∙_}
 use Prim.Native.Nat.{ℕ, _+_, _*_}
 use native.Mathlib.Omega.{arith}
-use lib.Dec.{ltb, leb}
-use lib.ListN.{length, getD}
+use lib.Dec.{ltb}
+use lib.ListN.{length}
 use Rattle.map.proofs.PartLaws.{by-test, never}
 use Rattle.stream.specs.Streams.{openOf}
 use Rattle.header.specs.declared.FujiHeader.{FujiHeader}

@@ -1,18 +1,18 @@
 -- The colour lines that have gone to the image after some passes of a line. Assumes nothing.
-use mathlib.Core.Bool.{Bool, true, false, cond, _&&_, _||_}
+use mathlib.Core.Bool.{Bool, true, false, _&&_}
 use mathlib.Core.List.{List}
 use mathlib.Core.Logic.{_≢_}
 use mathlib.Core.Path.{_≡_, refl, sym, ap, _∙_}
 use Prim.Native.Nat.{ℕ, _+_, _-_, _*_, _/_, _%_, _≤_, _<_}
 use native.Mathlib.Omega.{arith}
-use borrow.Author.Tests.{eq-eqb, eqb-true, eqb-false}
+use borrow.Author.Tests.{eqb-true, eqb-false}
 use lib.Dec.{eqb}
 use lib.ListN.{getD}
 use Rattle.numbers.proofs.OrderLaws.{split}
 use Rattle.map.specs.Places.{colourLine, placeIn, widthOf, pictureRow, inRows, emittedSample, Changed, Fits}
 use Rattle.emit.specs.Windows.{blockColumn, cellOf, colourOf, windowSample, PassEmitted}
 use Rattle.map.specs.declared.Part.{Part}
-use Rattle.map.proofs.PartLaws.{by-test, never, in-rows}
+use Rattle.map.proofs.PartLaws.{by-test, in-rows}
 use Rattle.map.proofs.PlaceLaws.{place-lt}
 use Rattle.emit.proofs.WindowLaws.{sample-of-colour}
 use Rattle.schedule.specs.declared.Plan.{Plan}

@@ -1,7 +1,7 @@
 -- Reading from a line on is the one reading with a place to start from. Assumes nothing.
 use mathlib.Core.List.{List}
-use mathlib.Core.Option.{Option, none, some}
-use mathlib.Core.Path.{_≡_, _∙_}
+use mathlib.Core.Option.{some}
+use mathlib.Core.Path.{_≡_}
 use Prim.Native.Nat.{ℕ, _+_}
 use Rattle.pass.specs.Readings.{andThen}
 use Rattle.block.specs.Blocks.{State, readLineAt, startState, readLines, readFrom}

@@ -1,12 +1,10 @@
 -- Samples stay within 0 to M, in every block. Assumes nothing.
-use mathlib.Core.Bool.{Bool, true, false, cond}
 use mathlib.Core.List.{List, [], _∷_, _++_}
 use mathlib.Core.Option.{Option, none, some}
 use mathlib.Core.Path.{_≡_, refl}
 use Prim.Native.Nat.{ℕ, zero, suc, _+_, _-_, _*_, _≤_}
 use native.Mathlib.Omega.{arith}
-use lib.Dec.{leb}
-use lib.ListN.{length, getD, set, take, drop, replicate}
+use lib.ListN.{getD, set, take, drop, replicate}
 use lib.Seq.{paste, getD-drop}
 use Rattle.quantiser.specs.Quantisers.{largest}
 use Rattle.lines.specs.ColourLines.{leftGuard, guarded, moved, turned}

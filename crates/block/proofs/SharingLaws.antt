@@ -1,14 +1,14 @@
 -- Decoding for a camera, block by block: the entries, and where the first line is that has none. Assumes nothing.
-use borrow.Author.Tests.{ltb-true, ltb-false, lt-ltb, le-ltb, le-leb, leb-true}
-use mathlib.Core.Bool.{Bool, true, false, cond, _&&_, and-true, false≢true}
+use borrow.Author.Tests.{ltb-false, lt-ltb, le-ltb, le-leb, leb-true}
+use mathlib.Core.Bool.{Bool, true, false, _&&_, and-true, false≢true}
 use mathlib.Core.List.{List}
 use mathlib.Core.Path.{_≡_, refl, sym, ap, _∙_, subst}
-use Prim.Native.Nat.{ℕ, zero, suc, _+_, _-_, _*_, _≤_, _<_}
+use Prim.Native.Nat.{ℕ, suc, _+_, _-_, _≤_, _<_}
 use native.Mathlib.Nat.{le-refl}
 use native.Mathlib.Omega.{arith}
-use lib.Dec.{ltb, leb, eqb}
+use lib.Dec.{ltb, leb}
 use Rattle.numbers.specs.Numbers.{leastFrom}
-use Rattle.numbers.proofs.LeastLaws.{Least, least, least-is}
+use Rattle.numbers.proofs.LeastLaws.{least, least-is}
 use Rattle.numbers.proofs.OrderLaws.{split}
 use Rattle.map.specs.Places.{Changed}
 use Rattle.map.specs.declared.Part.{Part}
@@ -20,11 +20,11 @@ use Rattle.cameras.specs.Entries.{linesWithEntry, afterLines, takingLines, isSt
 use Rattle.cameras.specs.declared.Camera.{Camera}
 use Rattle.cameras.specs.declared.Entry.{Entry}
 use Rattle.block.specs.Walks.{Shown, shownLines, IsWalked}
-use Rattle.block.specs.Images.{formOf, basesIn, bytesIn, linesRead, readIn, isDecoded, decodedSample, orElse, walkedAnswer, answerOf, Pictured}
-use Rattle.block.specs.Sharing.{entryLines, blockEntries, stopsIn, blockCount, entriesAfter, blocksBefore, isOut, outBlock, outLine, sharedAnswer, lastEntries, isBefore}
+use Rattle.block.specs.Images.{formOf, basesIn, bytesIn, linesRead, readIn, decodedSample, orElse, walkedAnswer, answerOf, Pictured}
+use Rattle.block.specs.Sharing.{entryLines, blockEntries, stopsIn, blockCount, entriesAfter, blocksBefore, isOut, outLine, sharedAnswer, lastEntries, isBefore}
 use Rattle.block.specs.Sharing.{isShared, PicturedShared}
 use Rattle.block.specs.declared.Decoded.{Decoded}
-use Rattle.block.specs.declared.Decoded.the-variants.{Done, Refused}
+use Rattle.block.specs.declared.Decoded.the-variants.{Refused}
 use Rattle.block.specs.declared.Form.{Form}
 use Rattle.block.specs.declared.Walked.{Walked}
 use Rattle.block.specs.declared.Walked.the-variants as Walk

@@ -2,7 +2,7 @@
 use mathlib.Core.Bool.{Bool, true, false, cond}
 use mathlib.Core.List.{List, [], _∷_, _++_}
 use mathlib.Core.Option.{Option, none, some}
-use mathlib.Core.Path.{_≡_, refl, sym, ap, _∙_}
+use mathlib.Core.Path.{_≡_, refl, sym, _∙_}
 use Prim.Native.Nat.{ℕ, zero, suc, _+_, _-_, _≤_, _<_}
 use native.Mathlib.Omega.{arith}
 use borrow.Author.Tests.{ltb-false}
@@ -22,8 +22,7 @@ use Rattle.schedule.specs.Steps.{stepPlace}
 use Rattle.steps.specs.Contexts.{usedQuantiser, noRecord, stepContext, stepLook, stepSlot}
 use Rattle.steps.specs.declared.Look.{Look}
 use Rattle.schedule.specs.declared.Plan.{Plan}
-use Rattle.pass.specs.Readings.{Reading, interpolate, taken, stepCode, readStep, andThen, reads, readPass}
-use Rattle.totals.specs.declared.Totals.{Totals}
+use Rattle.pass.specs.Readings.{Reading, interpolate, taken, stepCode, readStep, reads, readPass}
 use Rattle.bits.specs.BitLists.{isTail}
 use Rattle.header.specs.declared.Refusal.the-variants.{Truncated}
 use Rattle.map.specs.Places.{widthOf}

@@ -1,5 +1,4 @@
 -- Lines in windows before a pass: there is room for the two that it reads, their guards are set, and the lines above them are those of the 18. Assumes nothing.
-use mathlib.Core.Bool.{not}
 use mathlib.Core.List.{List}
 use mathlib.Core.Logic.{_≢_}
 use mathlib.Core.Path.{_≡_, sym, ap, _∙_}

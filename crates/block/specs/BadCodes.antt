@@ -1,7 +1,7 @@
 -- Bad codes: the first code of a block that is not tight, in coding order. Why it is not is in Reasons of `bad_code`. Assumes nothing.
 use mathlib.Core.Bool.{cond}
 use mathlib.Core.List.{List, [], _∷_}
-use mathlib.Core.Option.{Option, none, some, Option·map, orElse}
+use mathlib.Core.Option.{Option, none, Option·map, orElse}
 use Prim.Native.Nat.{ℕ, zero, suc}
 use lib.ListN.{getD}
 use Rattle.bits.specs.declared.BitPosition.{BitPosition}

@@ -102,7 +102,8 @@ ShownIn true F bases s tile a r count before after =
 -- ---- lines from line `first` on, which finds the state z
 
 -- all of them were read, with these totals; so many had only tight codes; and scratch stands for what they left
-pub record ReadOn (windowed : Bool) (F : Form) (bases s : List ℕ) (first : ℕ) (z : State) (more : ℕ) (all : Totals) (tight : TightLines) (after : Buffers) : Type 0 where
+pub record ReadOn (windowed : Bool) (F : Form) (bases s : List ℕ) (first : ℕ) (z : State) (more : ℕ) (all : Totals) (tight : TightLines)
+    (after : Buffers) : Type 0 where
   pub end : State
   pub read : readFrom F bases s first z more ≡ some end
   pub all-is : all ≡ totalsIn (some end)

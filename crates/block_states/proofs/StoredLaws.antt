@@ -3,7 +3,7 @@
 use borrow.Author.Tests.{leb-true}
 use mathlib.Core.Bool.{Bool, true, false, cond}
 use mathlib.Core.List.{List}
-use mathlib.Core.Option.{Option, none, some}
+use mathlib.Core.Option.{none, some}
 use mathlib.Core.Path.{_≡_, refl, _∙_}
 use Prim.Native.Nat.{ℕ, zero, suc, _+_, _*_, _%_, _≤_, _<_}
 use native.Mathlib.Omega.{arith}
@@ -16,12 +16,12 @@ use Rattle.schedule.specs.Steps.{planOf}
 use Rattle.steps.specs.Values.{SetInRange}
 use Rattle.schedule.specs.declared.Plan.{Plan}
 use Rattle.map.specs.Places.{widthOf}
-use Rattle.pass.specs.Readings.{Reading, readPass}
+use Rattle.pass.specs.Readings.{readPass}
 use Rattle.pass.proofs.RangeLaws.{pass-keeps}
 use Rattle.block.specs.Blocks.{State, runs, enter, passAt, endLine, readLine, beforeLine, readLineAt, startState, readLines}
 use Rattle.block.specs.Walks.{AllInRange}
 use Rattle.block.specs.Between.{recordsBefore}
-use Rattle.block.specs.Records.{baseOf, isRestarted, startRecord, startRecords, restartedMain, setOf, putSet}
+use Rattle.block.specs.Records.{baseOf, isRestarted, startRecord, startRecords, restartedMain, putSet}
 use Rattle.block.specs.declared.Form.{Form}
 use Rattle.block.proofs.TableLaws.{table-length}
 use Rattle.block.proofs.RangeLaws.{all-started, all-kept, set-in-range, set-full, put-in-range}

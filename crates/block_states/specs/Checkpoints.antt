@@ -2,7 +2,6 @@
 use mathlib.Core.Bool.{Bool, true}
 use mathlib.Core.List.{List}
 use Prim.Native.Nat.{ℕ}
-use Rattle.statistics.specs.declared.Record.{Record}
 use Rattle.lines.specs.ColourLines.{zeroLines}
 use Rattle.map.specs.Places.{widthOf}
 use Rattle.checkpoint.specs.Checkpoints.{Saved, positionIn, loadedRecord, loadedLines}

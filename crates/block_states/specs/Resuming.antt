@@ -27,7 +27,6 @@ use Rattle.block.specs.Totals.{refusedBy}
 use Rattle.block.specs.declared.Counted.{Counted}
 use Rattle.block.specs.declared.Decoded.{Decoded}
 use Rattle.block.specs.declared.Decoded.the-variants.{Done, Refused}
-use Rattle.block.specs.declared.Form.{Form}
 
 -- ---- what is read
 

@@ -1,17 +1,16 @@
 -- How many holds there are after lines took theirs, and after all of a camera went back. Assumes nothing.
-use borrow.Author.Tests.{ltb-true, ltb-false, lt-ltb, le-ltb, not-true}
+use borrow.Author.Tests.{ltb-true, ltb-false, not-true}
 use mathlib.Core.Bool.{Bool, true, false, cond, not, _||_, false≢true}
 use mathlib.Core.List.{List, [], _∷_, map}
-use mathlib.Core.Path.{_≡_, refl, sym, ap, _∙_}
+use mathlib.Core.Path.{_≡_, refl, sym, _∙_}
 use Prim.Native.Nat.{ℕ, zero, suc, _+_, _-_, _≤_, _<_}
 use native.Mathlib.Omega.{arith}
 use lib.Dec.{ltb}
 use lib.ListN.{length, getD, set, length-set, List·getD-eq-default}
-use Rattle.numbers.specs.Numbers.{flag, leastFrom}
-use Rattle.numbers.proofs.LeastLaws.{Least, least}
-use Rattle.numbers.proofs.OrderLaws.{split}
+use Rattle.numbers.specs.Numbers.{flag}
+use Rattle.numbers.proofs.LeastLaws.{least}
 use Rattle.quantiser.specs.Quantisers.{mainOf}
-use Rattle.cameras.specs.Entries.{noEntry, isHeld, isPair, holdsIt, heldBy, freeOf, newEntry, entryAt, pairIn, freeIn, hasEntry, withEntry, each, givenBack, afterLines, linesWithEntry, sumOf, holdsOf, holds, takesOne, takenBy}
+use Rattle.cameras.specs.Entries.{noEntry, isHeld, isPair, holdsIt, heldBy, freeOf, newEntry, entryAt, pairIn, freeIn, hasEntry, withEntry, givenBack, afterLines, linesWithEntry, sumOf, holdsOf, holds, takesOne, takenBy}
 use Rattle.cameras.specs.declared.Entry.{Entry}
 use Rattle.cameras.specs.declared.Camera.{Camera}
 use Rattle.cameras.specs.declared.Camera.the-variants.{One, Two}

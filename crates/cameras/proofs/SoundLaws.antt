@@ -1,26 +1,23 @@
 -- Entries that only these functions wrote keep their form, and mending leaves them as they are. Assumes nothing.
-use borrow.Author.Tests.{ltb-true, ltb-false, eqb-true, eqb-false, eq-eqb, le-leb, lt-ltb, not-true}
-use mathlib.Core.Bool.{Bool, true, false, cond, not, _&&_, _||_, false≢true}
-use mathlib.Core.List.{List, map}
+use borrow.Author.Tests.{ltb-true, ltb-false, eqb-true, eqb-false, eq-eqb, le-leb, lt-ltb}
+use mathlib.Core.Bool.{Bool, true, false, cond, _&&_, _||_, false≢true}
+use mathlib.Core.List.{List}
 use mathlib.Core.Logic.{_≢_}
 use mathlib.Core.Path.{_≡_, refl, sym, ap, _∙_}
-use Prim.Native.Nat.{ℕ, zero, suc, _+_, _-_, _≤_, _<_}
+use Prim.Native.Nat.{ℕ, zero, suc, _-_, _≤_, _<_}
 use native.Mathlib.Omega.{arith}
 use lib.Dec.{leb, ltb, eqb}
 use lib.ListN.{length, getD, set, length-set, length-replicate, getD-replicate}
 use lib.Seq.{getD-set-same, getD-set-other, ext-getD}
-use Rattle.numbers.specs.Numbers.{leastFrom}
 use Rattle.numbers.proofs.BoolLaws.{both}
-use Rattle.numbers.proofs.LeastLaws.{Least, least}
-use Rattle.numbers.proofs.OrderLaws.{split}
-use Rattle.quantiser.specs.Quantisers.{quantiserOf, mainOf}
+use Rattle.numbers.proofs.LeastLaws.{least}
+use Rattle.quantiser.specs.Quantisers.{mainOf}
 use Rattle.quantiser.specs.declared.Quantiser.{Quantiser}
-use Rattle.cameras.specs.Entries.{noEntry, noEntries, isHeld, isPair, heldBy, freeOf, newEntry, entryAt, pairIn, freeIn, hasEntry, withEntry, each, givenBack, afterLines, mendedEntry, mended, Numbered, AllNumbered, Sound}
+use Rattle.cameras.specs.Entries.{noEntry, noEntries, isHeld, isPair, heldBy, freeOf, newEntry, entryAt, pairIn, freeIn, withEntry, givenBack, afterLines, mendedEntry, mended, Numbered, Sound}
 use Rattle.cameras.specs.declared.Entry.{Entry}
 use Rattle.cameras.specs.declared.Camera.{Camera}
 use Rattle.cameras.specs.declared.Camera.the-variants.{One, Two}
 use Rattle.cameras.proofs.EntryLaws.{each-at, length-each, main-base}
-use Rattle.cameras.proofs.HoldLaws.{length-with}
 
 by-equal : {X : Type 0} (a b : ℕ) → (a ≡ b → X) → (a ≢ b → X) → X
 by-equal a b f g = by-test (eqb a b) (λ e. f (eqb-true a b e)) (λ e. g (eqb-false a b e))

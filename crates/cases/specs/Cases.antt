@@ -1,5 +1,5 @@
 -- The worked cases that are marked for proof, as one table of equations on the definitions. Assumes nothing.
-use mathlib.Core.Bool.{Bool, true, false}
+use mathlib.Core.Bool.{true, false}
 use mathlib.Core.List.{List, [], _∷_, _++_}
 use mathlib.Core.Path.{_≡_}
 use Prim.Native.Nat.{ℕ}
@@ -12,7 +12,6 @@ use Rattle.code.specs.Codes.{codeAt}
 use Rattle.samples.specs.Samples.{sampleOf}
 use Rattle.code.specs.Tight.{isTight}
 use Rattle.code.specs.declared.Code.{Code}
-use Rattle.code.specs.declared.Coded.{Coded}
 use Rattle.code.specs.declared.Coded.the-variants.{Read}
 use Rattle.map.specs.Places.{xtransPlace}
 use Rattle.header.specs.Headers.{parseOf}

@@ -7,7 +7,7 @@ use lib.ListN.{replicate, set}
 use Rattle.statistics.specs.declared.Record.{Record}
 use Rattle.state_head.specs.Heads.{beByte, putEach, headByte}
 use Rattle.checkpoint.specs.Checkpoints.{beAt, recordByte, storedRecord, recordsByte, keptLine, linesByte, sizeOfCheckpoint}
-use Rattle.checkpoint.specs.Checkpoints.{firstRecord, firstSample, sumIn, nIn, badRecord, anyBelow, loadedRecord, otherCheckpoint}
+use Rattle.checkpoint.specs.Checkpoints.{firstRecord, firstSample, badRecord, anyBelow, loadedRecord, otherCheckpoint}
 
 abbrev stat : ℕ → ℕ → Record
 stat sum n = record { sum = sum; n = n }

@@ -8,7 +8,6 @@ use lib.Seq.{getD-set-same, getD-set-other}
 use Rattle.numbers.proofs.OrderLaws.{split}
 use Rattle.lines.specs.ColourLines.{leftGuard, guarded}
 use Rattle.lines.proofs.LineLaws.{apart, line-inside, length-guarded}
-use Rattle.state_head.specs.Heads.{putEach}
 use Rattle.checkpoint.specs.Checkpoints.{storedSample, keptLine, withKept, withSix, withGuards, loadedLines}
 use Rattle.state_head.proofs.PutLaws.{put-length, put-other, put-at}
 

@@ -1,17 +1,17 @@
 -- Storing the head, the three sets and the lines stores the whole state. Assumes nothing.
 use borrow.Author.Tests.{lt-ltb, le-ltb}
-use mathlib.Core.Bool.{Bool, cond, _&&_}
+use mathlib.Core.Bool.{Bool}
 use mathlib.Core.List.{List}
-use mathlib.Core.Path.{_≡_, refl, sym, ap, _∙_}
+use mathlib.Core.Path.{_≡_, sym, _∙_}
 use Prim.Native.Nat.{ℕ, _+_, _-_, _*_, _/_, _%_, _≤_, _<_}
 use native.Mathlib.Nat.{zero-add}
 use native.Mathlib.Omega.{arith}
-use lib.ListN.{length, getD, take, drop}
+use lib.ListN.{length, take, drop}
 use lib.Seq.{getD-take, getD-drop, length-take-le}
 use Rattle.statistics.specs.declared.Record.{Record}
 use Rattle.steps.specs.Contexts.{noRecord}
 use Rattle.state_head.specs.Heads.{putEach, headByte}
-use Rattle.checkpoint.specs.Checkpoints.{storedRecord, recordByte, recordsByte, linesByte, Saved, checkpointByte, checkpointOf}
+use Rattle.checkpoint.specs.Checkpoints.{storedRecord, recordsByte, linesByte, Saved, checkpointByte, checkpointOf}
 use Rattle.checkpoint.specs.Checkpoints.{sizeOfCheckpoint, IsCheckpoint}
 use Rattle.state_head.proofs.PutLaws.{put-length, put-same, put-add, put-at}
 

@@ -3,7 +3,7 @@ use borrow.Author.Tests.{ltb-false, leb-false}
 use mathlib.Core.Bool.{Bool, true, false, cond, not, _&&_, _||_}
 use mathlib.Core.List.{List}
 use mathlib.Core.Path.{_≡_}
-use Prim.Native.Nat.{ℕ, _+_, _*_, _^_, _≤_, _<_, min}
+use Prim.Native.Nat.{ℕ, _*_, _^_, _≤_, _<_, min}
 use native.Mathlib.Nat.{min-le-right}
 use lib.Dec.{leb, ltb, eqb}
 use lib.ListN.{length}

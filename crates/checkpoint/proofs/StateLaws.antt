@@ -1,13 +1,12 @@
 -- A state that was stored loads: its bytes give back what was stored, and they are refused neither as bad nor as another block's. Assumes nothing.
-use borrow.Author.Tests.{lt-ltb, le-ltb, le-leb, lt-leb, eq-eqb}
-use mathlib.Core.Bool.{Bool, true, false, cond, not, _&&_, _||_}
+use borrow.Author.Tests.{lt-ltb, le-ltb, lt-leb, eq-eqb}
+use mathlib.Core.Bool.{Bool, true, false, cond, not, _&&_}
 use mathlib.Core.List.{List}
-use mathlib.Core.Path.{_≡_, refl, sym, ap, _∙_}
+use mathlib.Core.Path.{_≡_, refl, sym, _∙_}
 use Prim.Native.Nat.{ℕ, zero, suc, _+_, _-_, _*_, _/_, _%_, _^_, _≤_, _<_, min}
 use native.Mathlib.Nat.{mod-lt, div-add-mod', div-div-eq-div-mul, div-eq-of-lt, div-one, div-lt-iff-lt-mul, min-eq-left, add-zero}
-use native.Mathlib.Numerals.{add-one}
 use native.Mathlib.Omega.{arith}
-use lib.Dec.{leb, ltb, eqb, lit<}
+use lib.Dec.{eqb, lit<}
 use lib.ListN.{length, getD}
 use lib.Pow.{pow-mono}
 use Rattle.statistics.specs.Statistics.{InRange, largestResidual}
@@ -15,7 +14,7 @@ use Rattle.statistics.specs.declared.Record.{Record}
 use Rattle.steps.specs.Contexts.{noRecord, sampleIn}
 use Rattle.state_head.specs.Heads.{beByte, headByte}
 use Rattle.checkpoint.specs.Checkpoints.{beAt, recordByte, isFlat, storedRecord, recordsByte, keptLine, linesByte, Saved}
-use Rattle.checkpoint.specs.Checkpoints.{sizeOfCheckpoint, IsCheckpoint, anyBelow, nextLine, positionIn, sumIn, nIn, storedSample, badRecord, badSample}
+use Rattle.checkpoint.specs.Checkpoints.{sizeOfCheckpoint, IsCheckpoint, nextLine, positionIn, sumIn, nIn, storedSample, badRecord, badSample}
 use Rattle.checkpoint.specs.Checkpoints.{checkpointByte, badPlace, badCheckpoint, otherCheckpoint, checkedOf, loadedRecord}
 use Rattle.checkpoint.specs.declared.load.Checked.the-variants.{At}
 use Rattle.checkpoint.proofs.ByteLaws.{next-power, any-none}

@@ -1,12 +1,10 @@
 // The state of a block after a line, as bytes: storing, judging and loading it.
 ghost use mathlib.Core.Path.{_≡_};
-ghost use mathlib.Core.Bool.{Bool, true, false, cond, _&&_, _||_};
-ghost use Prim.Native.Nat.{ℕ, _+_, _-_, _*_, _/_, _%_, _^_, _≤_, _<_, min};
-ghost use lib.ListN.{length, getD};
+ghost use Prim.Native.Nat.{_+_, _-_, _*_, _/_, _%_, _≤_, _<_};
+ghost use lib.ListN.{length};
 ghost use Rattle.state_head.specs.Heads.{putEach};
 ghost use Rattle.checkpoint.specs.Checkpoints.{storedRecord, recordByte, recordsByte, keptLine, linesByte};
-ghost use Rattle.statistics.specs.Statistics.{largestResidual};
-ghost use Rattle.steps.specs.Values.{zipRecords, recordsOf, SetInRange};
+ghost use Rattle.steps.specs.Values.{recordsOf};
 use numbers::u16_to_u32;
 use statistics::Record;
 use steps::Set;

@@ -1,10 +1,10 @@
 // Stored bytes: whether they are a state of this block, and what they hold.
 ghost use mathlib.Core.Path.{_≡_};
-ghost use mathlib.Core.Bool.{Bool, true, false, cond, not, _&&_, _||_};
-ghost use Prim.Native.Nat.{ℕ, _+_, _-_, _*_, _/_, _%_, _^_, _≤_, _<_, min};
+ghost use mathlib.Core.Bool.{true, false, not};
+ghost use Prim.Native.Nat.{_+_, _-_, _*_, _^_, _≤_, _<_};
 ghost use lib.Dec.{eqb};
 ghost use lib.ListN.{length, getD};
-ghost use Rattle.checkpoint.specs.Checkpoints.{beAt, storedSample, anyBelow, badRecord, badSample, badPlace, badCheckpoint};
+ghost use Rattle.checkpoint.specs.Checkpoints.{beAt, anyBelow, badRecord, badSample, badPlace, badCheckpoint};
 ghost use Rattle.checkpoint.specs.Checkpoints.{otherCheckpoint, checkedOf, loadedRecord, withKept, withSix, withGuards, loadedLines};
 use crate::kept_line;
 use crate::start_of;

@@ -11,7 +11,7 @@ use lib.ListN.{length, getD, set, length-set}
 use lib.Seq.{getD-set-same, getD-set-other}
 use Rattle.numbers.proofs.BoolLaws.{both}
 use Rattle.numbers.proofs.OrderLaws.{split}
-use Rattle.map.specs.Places.{placeIn, colourLine, tileAt, sampleIndex, pictureRow, inRows, emittedSample, Changed, Fits}
+use Rattle.map.specs.Places.{colourLine, sampleIndex, pictureRow, inRows, emittedSample, Changed, Fits}
 use Rattle.emit.specs.Windows.{blockColumn, cellOf, colourOf, windowSample, ColumnEmitted, CellEmitted, CellsEmitted, ColourEmitted, PassEmitted}
 use Rattle.map.specs.declared.Part.{Part}
 use Rattle.map.proofs.ChangeLaws.{changed-as, changed-none}

@@ -1,6 +1,6 @@
 -- What is known of calls that store or go on, where these are not refused. Assumes nothing.
 use borrow.Author.Tests.{ltb-true, ltb-false, leb-false, lt-leb, le-ltb}
-use mathlib.Core.Bool.{Bool, true, false, cond, not}
+use mathlib.Core.Bool.{Bool, true, false, cond}
 use mathlib.Core.List.{List}
 use mathlib.Core.Option.{Option, none, some}
 use mathlib.Core.Path.{_≡_, refl, sym, ap, _∙_}

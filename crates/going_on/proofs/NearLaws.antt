@@ -31,7 +31,7 @@ use Rattle.block.specs.Records.{baseOf, setOf, putSet}
 use Rattle.block.specs.WindowedLines.{Windows}
 use Rattle.block.specs.declared.Form.{Form}
 use Rattle.block.proofs.PlacedLines.{Placed, placed-before}
-use Rattle.block.proofs.WindowTwins.{Two, two-lines, Stepped, held-pass, held-turn}
+use Rattle.block.proofs.WindowTwins.{two-lines, Stepped, held-pass, held-turn}
 use Rattle.going_on.proofs.CountLaws.{Both, both-then, More, pass-more}
 
 -- ---- states

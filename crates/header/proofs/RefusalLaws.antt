@@ -1,5 +1,5 @@
 -- Refusals and their numbers. Assumes nothing.
-use Prim.Native.Nat.{ℕ, _≤_}
+use Prim.Native.Nat.{_≤_}
 use lib.Dec.{lit≤}
 use Rattle.header.specs.Refusals.{refusalNumber}
 use Rattle.header.specs.declared.Refusal.{Refusal}

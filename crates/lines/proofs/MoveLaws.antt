@@ -7,7 +7,7 @@ use Prim.Native.Nat.{ℕ, _+_, _-_, _*_, _/_, _%_, _≤_, _<_}
 use native.Mathlib.Nat.{mul-le-mul-right}
 use native.Mathlib.Omega.{arith}
 use lib.Arith.{digits-div, digits-mod}
-use lib.ListN.{length, getD, set, take, drop, length-set, length-drop, List·getD-append}
+use lib.ListN.{length, getD, take, drop, length-set, length-drop, List·getD-append}
 use lib.Seq.{paste, take-paste, length-take-le, getD-take, getD-drop, getD-append-add, getD-set-same, getD-set-other}
 use Rattle.lines.specs.ColourLines.{leftGuard, guarded, moved, turned, shifted}
 use Rattle.lines.proofs.LineLaws.{after-paste, apart, length-moved}

@@ -1,14 +1,13 @@
 -- Calls of the lossy writer, held against the statement. Assumes nothing.
 use mathlib.Core.Bool.{Bool, true, false, cond}
-use mathlib.Core.List.{List, [], _∷_, _++_}
+use mathlib.Core.List.{List}
 use mathlib.Core.Logic.{_≢_}
 use mathlib.Core.Option.{Option, none, some}
 use mathlib.Core.Path.{_≡_, refl, sym, ap, _∙_}
 use Prim.Native.Nat.{ℕ, _≤_}
 use native.Mathlib.Omega.{arith}
 use lib.Dec.{ltb, eqb}
-use lib.ListN.{length, drop}
-use borrow.Author.Tests.{ltb-false}
+use lib.ListN.{length}
 use Rattle.map.specs.Places.{widthOf}
 use Rattle.lines.specs.Sets.{setSize}
 use Rattle.header.specs.Headers.{headerOf, allRules, parseOf}
@@ -28,8 +27,7 @@ use Rattle.begin_writing.specs.Writings.{withLossy, lossyBegins}
 use Rattle.begin_writing.proofs.SetLaws.{lossy-goes}
 use Rattle.block.specs.Images.{formOf}
 use Rattle.block.specs.Lent.{Outputs}
-use Rattle.block_writer.specs.Words.{ToldLossy}
-use Rattle.block_writer.specs.WrittenAnswers.{lengthAnswer, predictedAnswer, rangeAnswer, measuredAnswer, aboveIn, setAnswer, writtenOut, SetWriting, LeftLossy}
+use Rattle.block_writer.specs.WrittenAnswers.{predictedAnswer, rangeAnswer, measuredAnswer, aboveIn, setAnswer, LeftLossy}
 use Rattle.block_writer.specs.WrittenBlocks.{writeLines, writtenBlock}
 use Rattle.block.specs.declared.Form.{Form}
 use Rattle.lossy_back.specs.LossyBlocks.{lossyOf, LossyWritten, LossyCalls}

@@ -2,7 +2,7 @@
 use mathlib.Core.Bool.{Bool, false}
 use mathlib.Core.List.{List}
 use mathlib.Core.Option.{none, some}
-use mathlib.Core.Path.{_≡_, refl, ap, _∙_}
+use mathlib.Core.Path.{_≡_, refl}
 use Prim.Native.Nat.{ℕ, suc, _+_, _*_, _/_, _%_, _≤_, _<_}
 use native.Mathlib.Omega.{arith}
 use lib.ListN.{length, getD}
@@ -17,7 +17,6 @@ use Rattle.map.specs.Places.{widthOf}
 use Rattle.lines.specs.Sets.{lineSize, setSize, lineOfRank, indexIn, lineAt, colourLineAt, positionAt}
 use Rattle.writing.proofs.SetLaws.{passes-lines, line-lt, rank-lt, position-lt, index-at}
 use Rattle.stream.specs.declared.BlockLength.the-variants.{Length}
-use Rattle.header.specs.declared.FujiHeader.{FujiHeader}
 use Rattle.header.proofs.HeaderLaws.{ruled}
 use Rattle.block.specs.Records.{baseOf}
 use Rattle.block.specs.Blocks.{readLines, linesOf}
@@ -29,7 +28,7 @@ use Rattle.block_writer.proofs.AnswerLaws.{none-wanted}
 use Rattle.block.proofs.LineLaws.{width-in-range}
 use Rattle.one_to_one.proofs.BlockTwins.{Shown}
 use Rattle.one_to_one.proofs.WrittenBack.{ReadWhole, read-whole}
-use Rattle.lossy_back.specs.LossyBlocks.{passOf, baseAt, ReadsNear, LossyBlock, Writes, LossyBlocks}
+use Rattle.lossy_back.specs.LossyBlocks.{passOf, baseAt, ReadsNear, LossyBlock, LossyBlocks}
 use Rattle.lossy_back.proofs.NeverWrong.{not-strict, never-wrong}
 
 -- ---- the pass of a colour line

@@ -1,6 +1,6 @@
 -- Numbers that may be negative, as a sign and a size. No rule below needs an integer type: a difference a − b is made from the two
 -- naturals a and b, and `-` on naturals stops at 0. Assumes nothing.
-use mathlib.Core.Bool.{Bool, true, false, cond}
+use mathlib.Core.Bool.{Bool, cond}
 use Prim.Native.Nat.{ℕ, zero, suc, _+_, _-_}
 use lib.Dec.{ltb}
 use Rattle.numbers.specs.declared.Signed.{Signed}

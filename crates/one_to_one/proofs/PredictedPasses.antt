@@ -1,18 +1,17 @@
 -- The passes of a line, by the samples of a set: which lines a pass finds, and when none of its interpolated samples is wrong. Assumes nothing.
-use mathlib.Core.Bool.{Bool, true, false, cond, not, _&&_, _||_, and-false}
-use mathlib.Core.List.{List, [], _∷_}
+use mathlib.Core.Bool.{Bool, true, false, not, _&&_, _||_, and-false}
+use mathlib.Core.List.{[], _∷_}
 use mathlib.Core.Logic.{_≢_, _⊎_, inl, inr}
 use mathlib.Core.Option.{none}
 use mathlib.Core.Path.{_≡_, refl, sym, ap, _∙_}
-use Prim.Native.Nat.{ℕ, zero, suc, _+_, _-_, _*_, _/_, _%_, _≤_, _<_}
+use Prim.Native.Nat.{ℕ, zero, suc, _+_, _-_, _*_, _%_, _≤_, _<_}
 use native.Mathlib.Omega.{arith}
 use lib.Dec.{leb, ltb, eqb}
 use lib.ListN.{getD}
-use borrow.Author.Tests.{eq-eqb, ne-eqb, le-ltb, lt-ltb, le-leb, lt-leb, leb-true, ltb-true, eqb-true}
+use borrow.Author.Tests.{eq-eqb, leb-true, ltb-true, eqb-true}
 use Rattle.numbers.proofs.BoolLaws.{both}
 use Rattle.numbers.proofs.OrderLaws.{split}
-use Rattle.schedule.specs.Steps.{plans, noPlan, planOf, isInterpolated, Step, passSteps}
-use Rattle.schedule.specs.declared.Plan.{Plan}
+use Rattle.schedule.specs.Steps.{planOf, isInterpolated, Step, passSteps}
 use Rattle.schedule.proofs.OrderLaws.{All, all-both, pass-all}
 use Rattle.lines.proofs.MoveLaws.{place-is}
 use Rattle.one_to_one.specs.PredictedSets.{isBefore}

@@ -1,20 +1,17 @@
 -- What steps and passes leave as it is. Assumes nothing.
 use mathlib.Core.Bool.{Bool, true, false, cond}
-use mathlib.Core.List.{List, [], _∷_, _++_}
+use mathlib.Core.List.{List, [], _∷_}
 use mathlib.Core.Logic.{_≢_}
 use mathlib.Core.Option.{Option, none, some}
 use mathlib.Core.Path.{_≡_, refl, sym, ap, _∙_}
-use Prim.Native.Nat.{ℕ, zero, suc, _+_, _-_, _*_, _/_, _%_, _≤_, _<_}
+use Prim.Native.Nat.{ℕ, _+_, _-_, _*_, _/_, _%_, _<_}
 use native.Mathlib.Omega.{arith}
-use borrow.Author.Tests.{lt-ltb, le-ltb, le-leb, lt-leb, eq-eqb, ne-eqb}
 use lib.Arith.{digits-div}
-use lib.Dec.{leb, ltb, eqb}
 use lib.ListN.{getD}
 use lib.Seq.{getD-set-other}
-use Rattle.numbers.proofs.OrderLaws.{split}
 use Rattle.code.specs.declared.Coded.{Coded}
 use Rattle.code.specs.declared.Coded.the-variants.{Read, Truncated}
-use Rattle.schedule.specs.Steps.{Step, evenSteps, oddSteps, turnSteps, upto, passSteps}
+use Rattle.schedule.specs.Steps.{Step, passSteps}
 use Rattle.schedule.specs.Steps.{stepPlace}
 use Rattle.steps.specs.Contexts.{stepContext, stepLook, stepSlot}
 use Rattle.schedule.specs.declared.Plan.{Plan}

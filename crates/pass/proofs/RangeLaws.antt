@@ -13,7 +13,6 @@ use Rattle.statistics.specs.declared.Record.{Record}
 use Rattle.statistics.proofs.RecordLaws.{k-least, updated-in-range}
 use Rattle.quantiser.specs.Quantisers.{largest}
 use Rattle.prediction.specs.declared.Context.{Context}
-use Rattle.code.specs.Codes.{Bounds}
 use Rattle.samples.specs.Samples.{residualOf}
 use Rattle.code.specs.declared.Code.{Code}
 use Rattle.code.specs.declared.Coded.{Coded}

@@ -16,7 +16,6 @@ use Rattle.bits.specs.declared.BitPosition.{BitPosition}
 use Rattle.code.specs.Codes.{codeAt, Small}
 use Rattle.samples.specs.Samples.{residualOf, sampleOf}
 use Rattle.code.specs.Tight.{isTight, takenOf}
-use Rattle.code.specs.declared.Code.{Code}
 use Rattle.code.specs.declared.Coded.{Coded}
 use Rattle.code.specs.declared.Coded.the-variants.{Read, Truncated}
 use Rattle.code.specs.declared.Place.{Place}
@@ -24,14 +23,14 @@ use Rattle.code.specs.declared.Taken.{Taken}
 use Rattle.code.specs.declared.Taken.the-variants as Take
 use Rattle.schedule.specs.Steps.{Step, stepAt}
 use Rattle.steps.specs.Contexts.{usedBase, usedWeight, usedQuantiser, lookOf, slotOf, noRecord}
-use Rattle.steps.specs.Values.{contextAt, zipRecords, SetInRange, AreKs, recordsOf, quantisersOf, Depth}
+use Rattle.steps.specs.Values.{contextAt, zipRecords, SetInRange, AreKs, quantisersOf, Depth}
 use Rattle.steps.specs.declared.Look.{Look}
 use Rattle.steps.specs.declared.Set.{Set}
 use Rattle.steps.proofs.ContextLaws.{context-is}
 use Rattle.steps.proofs.TableLaws.{total-at, limit-at, numbers-le}
 use Rattle.pass.specs.Readings.{Reading, taken, readStep, reads}
 use Rattle.pass.specs.Sites.{siteOf, codingOf, RawFits}
-use Rattle.pass.specs.Pairs.{readingAt, placeAt, held, begun, placeOf, IsPair, IsPassed}
+use Rattle.pass.specs.Pairs.{readingAt, placeAt, held, begun, IsPair, IsPassed}
 use Rattle.pass.specs.declared.Site.{Site}
 use Rattle.pass.specs.declared.Coding.{Coding}
 use Rattle.pass.specs.declared.Pair.{Pair}

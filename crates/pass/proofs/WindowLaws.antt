@@ -1,10 +1,10 @@
 -- A pass goes by the two lines above each of its lines, wherever these stand: two readings that agree there end alike, with the same samples in
 -- the lines of the pass. Assumes nothing.
 use mathlib.Core.Bool.{Bool, true, false, cond}
-use mathlib.Core.List.{List, [], _∷_, _++_}
+use mathlib.Core.List.{List, [], _∷_}
 use mathlib.Core.Logic.{_≢_}
 use mathlib.Core.Option.{Option, none, some}
-use mathlib.Core.Path.{_≡_, refl, sym, ap, _∙_}
+use mathlib.Core.Path.{_≡_, refl, sym, _∙_}
 use Prim.Native.Nat.{ℕ, zero, suc, _+_, _-_, _*_, _/_, _%_, _≤_, _<_}
 use native.Mathlib.Omega.{arith}
 use borrow.Author.Tests.{eq-eqb, ne-eqb, eqb-true, eqb-false, lt-ltb, le-ltb, le-leb, lt-leb}
@@ -12,18 +12,16 @@ use lib.Dec.{eqb, ltb, leb}
 use lib.ListN.{length, getD, set, length-set}
 use lib.Seq.{getD-set-same, getD-set-other}
 use Rattle.numbers.proofs.OrderLaws.{split}
-use Rattle.statistics.specs.declared.Record.{Record}
 use Rattle.prediction.specs.declared.Context.{Context}
 use Rattle.code.specs.declared.Coded.{Coded}
 use Rattle.code.specs.declared.Coded.the-variants.{Read, Truncated}
-use Rattle.schedule.specs.Steps.{Step, stepAt, interpolated, evenSteps, oddSteps, turnSteps, upto, passSteps}
-use Rattle.schedule.specs.Steps.{stepPlace}
-use Rattle.steps.specs.Contexts.{contextIn, lookOf, slotOf, stepContext, stepLook, stepSlot}
+use Rattle.schedule.specs.Steps.{Step, stepAt, evenSteps, oddSteps, turnSteps, upto, passSteps}
+use Rattle.steps.specs.Contexts.{contextIn, lookOf, slotOf, stepContext}
 use Rattle.steps.specs.Values.{evenAt, oddAt, contextAt}
 use Rattle.schedule.specs.declared.Plan.{Plan}
 use Rattle.steps.specs.declared.Look.{Look}
 use Rattle.steps.proofs.ContextLaws.{context-is}
-use Rattle.pass.specs.Readings.{Reading, interpolate, taken, codeOf, stepCode, readStep, andThen, reads, readPass}
+use Rattle.pass.specs.Readings.{Reading, interpolate, taken, codeOf, readStep, andThen, reads, readPass}
 use Rattle.pass.specs.Windows.{placed}
 use Rattle.pass.proofs.StepLaws.{reads-append}
 

@@ -1,9 +1,7 @@
 -- Predictions lie among the samples that they are made from. Assumes nothing.
-use mathlib.Core.Bool.{Bool, true, false, cond, _&&_, _||_}
-use mathlib.Core.Path.{_≡_, refl}
-use Prim.Native.Nat.{ℕ, _+_, _-_, _*_, _/_, _≤_, _<_}
+use mathlib.Core.Bool.{Bool, true, false, cond}
+use Prim.Native.Nat.{ℕ, _+_, _-_, _*_, _/_, _≤_}
 use native.Mathlib.Omega.{arith}
-use lib.Dec.{ltb}
 use Rattle.numbers.specs.Numbers.{distance}
 use Rattle.numbers.proofs.OrderLaws.{cond-le}
 use Rattle.prediction.specs.Predictions.{most, droppedOf, evenPrediction, extreme, oddPrediction}

@@ -1,6 +1,6 @@
 -- The prediction of a sample from its neighbours, with its two differences and its flatness. Above the sample at position p lie rc, rb and
 -- rd (p − 1, p, p + 1, one line up) and rf (p, two lines up); ra and rg are its left and right neighbours. Assumes nothing.
-use mathlib.Core.Bool.{Bool, true, false, cond, _&&_, _||_}
+use mathlib.Core.Bool.{Bool, cond, _&&_, _||_}
 use Prim.Native.Nat.{ℕ, _+_, _-_, _*_, _/_, _^_, _<_}
 use lib.Dec.{ltb}
 use Rattle.numbers.specs.Numbers.{distance, minus}

@@ -1,12 +1,12 @@
 -- Levels and gradients: how the program counts them, and how large they are. Assumes nothing.
-use mathlib.Core.Bool.{Bool, true, false, cond}
-use mathlib.Core.Path.{_≡_, refl, ap}
+use mathlib.Core.Bool.{Bool, true, false}
+use mathlib.Core.Path.{_≡_, ap}
 use Prim.Native.Nat.{ℕ, _+_, _-_, _*_, _≤_, _<_, zero-le}
 use native.Mathlib.Nat.{mul-add, mul-le-mul-left}
 use native.Mathlib.Omega.{arith}
 use lib.Dec.{leb, ltb, lit≤}
 use borrow.Author.Tests.{lt-ltb, le-ltb, le-leb, lt-leb}
-use Rattle.numbers.specs.Numbers.{distance, minus, up, down, flag}
+use Rattle.numbers.specs.Numbers.{minus, up, down, flag}
 use Rattle.numbers.specs.declared.Signed.{Signed}
 use Rattle.numbers.proofs.OrderLaws.{split, cond-le}
 use Rattle.quantiser.specs.Quantisers.{levelSize, levelOf, gradientOf}

@@ -1,7 +1,7 @@
 -- What raw is, and how large total is. Assumes nothing.
 use mathlib.Core.Path.{_≡_, sym, _∙_}
-use Prim.Native.Nat.{ℕ, zero, suc, _+_, _-_, _*_, _/_, _^_, _≤_, _<_, zero-le}
-use native.Mathlib.Nat.{div-add-mod', mod-lt, add-mul, div-lt-iff-lt-mul, le-mul-of-pos-right, lt-of-lt-of-le, not-le-of-lt, lt-of-not-le}
+use Prim.Native.Nat.{ℕ, suc, _+_, _-_, _*_, _/_, _^_, _≤_, _<_, zero-le}
+use native.Mathlib.Nat.{div-add-mod', mod-lt, add-mul, div-lt-iff-lt-mul, le-mul-of-pos-right, lt-of-not-le}
 use native.Mathlib.Omega.{arith}
 use lib.Count.{leadingZeros, leading-length}
 use lib.Dec.{leb}

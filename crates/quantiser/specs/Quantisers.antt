@@ -1,5 +1,5 @@
 -- Quantisers: how a difference becomes a level, and the numbers by which a code is read. Assumes nothing.
-use mathlib.Core.Bool.{Bool, true, false, cond}
+use mathlib.Core.Bool.{cond}
 use mathlib.Core.Path.{_≡_}
 use Prim.Native.Nat.{ℕ, _+_, _-_, _*_, _/_, _^_, _≤_, _<_, max}
 use lib.Dec.{leb, ltb}

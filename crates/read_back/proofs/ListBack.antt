@@ -9,21 +9,17 @@ use native.Mathlib.Nat.{le-refl}
 use native.Mathlib.Omega.{arith}
 use lib.Dec.{eqb, leb}
 use lib.ListN.{getD}
-use lib.Seq.{getD-set-other}
 use borrow.Author.Tests.{eq-eqb, eqb-true, leb-true}
 use Rattle.numbers.proofs.BoolLaws.{both}
 use Rattle.quantiser.specs.Quantisers.{largest}
 use Rattle.prediction.specs.Predictions.{flatnessOf}
 use Rattle.prediction.specs.declared.Context.{Context}
 use Rattle.samples.specs.Samples.{choiceOf}
-use Rattle.code.specs.declared.Coded.{Coded}
-use Rattle.code.specs.declared.Coded.the-variants.{Read, Truncated}
 use Rattle.schedule.specs.Steps.{Step}
-use Rattle.schedule.specs.Steps.{stepPlace}
-use Rattle.steps.specs.Contexts.{usedBase, lookOf, stepContext, stepLook, stepSlot}
+use Rattle.steps.specs.Contexts.{usedBase, lookOf, stepContext, stepLook}
 use Rattle.steps.specs.Values.{Depth}
 use Rattle.schedule.proofs.OrderLaws.{All, cell, Apart}
-use Rattle.pass.specs.Readings.{Reading, interpolate, taken, readStep, andThen, reads, stepCode}
+use Rattle.pass.specs.Readings.{Reading, readStep, andThen, reads}
 use Rattle.pass.proofs.FrameLaws.{first-then, steps-leave}
 use Rattle.pass.proofs.RangeLaws.{step-keeps}
 use Rattle.writing.specs.Puts.{Wanted}

@@ -2,8 +2,8 @@
 -- quantiser that coded it. Assumes nothing.
 use mathlib.Core.Bool.{Bool, true, false, cond, not, _&&_}
 use mathlib.Core.List.{List, _++_}
-use mathlib.Core.Option.{Option, none, some}
-use mathlib.Core.Path.{_≡_, refl, sym, ap, _∙_}
+use mathlib.Core.Option.{none, some}
+use mathlib.Core.Path.{_≡_, refl, sym, _∙_}
 use Prim.Native.Nat.{ℕ, suc, _+_, _*_, _^_, _≤_, _<_}
 use native.Mathlib.Nat.{mul-le-mul-right, le-refl}
 use native.Mathlib.Omega.{arith}
@@ -15,7 +15,7 @@ use borrow.Author.Tests.{eqb-true, le-leb}
 use Rattle.numbers.proofs.BoolLaws.{both}
 use Rattle.bits.specs.BitLists.{bitsOf}
 use Rattle.statistics.specs.Statistics.{kOf}
-use Rattle.quantiser.specs.Quantisers.{largest, quantiserOf, totalOf}
+use Rattle.quantiser.specs.Quantisers.{largest, quantiserOf}
 use Rattle.quantiser.specs.declared.Quantiser.{Quantiser}
 use Rattle.quantiser.proofs.QuantiserLaws.{total-le, total-wide}
 use Rattle.prediction.specs.declared.Context.{Context}

@@ -18,7 +18,6 @@ use Rattle.bits.proofs.RunLaws.{leading-few, window-run, run-then}
 use Rattle.code.specs.Codes.{shortCode, codeAt}
 use Rattle.code.specs.Tight.{isTight, takenOf, shortAt}
 use Rattle.code.specs.declared.Coded.the-variants.{Read}
-use Rattle.code.specs.declared.Short.{Short}
 use Rattle.code.specs.declared.Short.the-variants as Brief
 use Rattle.code.specs.declared.Taken.the-variants as Take
 use Rattle.code.proofs.CodeLaws.{code-short, short-lt, shifted}

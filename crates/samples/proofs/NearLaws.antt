@@ -1,18 +1,18 @@
 -- A wanted sample reads back within the base of the quantiser that coded it, whatever base, depth, prediction and gradient. Assumes nothing.
 use mathlib.Core.Bool.{Bool, true, false, cond, not, xor}
 use mathlib.Core.Path.{_≡_, refl, sym, ap, _∙_}
-use Prim.Native.Nat.{ℕ, zero, suc, _+_, _-_, _*_, _/_, _%_, _^_, _≤_, _<_, min}
-use native.Mathlib.Nat.{div-add-mod', mod-lt, add-mul, one-mul, zero-mul, lt-of-mul-lt-mul-right, le-mul-of-pos-right}
+use Prim.Native.Nat.{ℕ, suc, _+_, _-_, _*_, _/_, _^_, _≤_, _<_}
+use native.Mathlib.Nat.{div-add-mod', mod-lt, add-mul, zero-mul, lt-of-mul-lt-mul-right, le-mul-of-pos-right}
 use native.Mathlib.Omega.{arith}
 use lib.Dec.{ltb}
-use borrow.Author.Tests.{lt-ltb, le-ltb, ltb-true, ltb-false}
+use borrow.Author.Tests.{lt-ltb, le-ltb}
 use Rattle.numbers.specs.Numbers.{distance, minus}
 use Rattle.numbers.specs.declared.Signed.{Signed}
 use Rattle.numbers.proofs.OrderLaws.{split}
 use Rattle.samples.specs.Samples.{residualOf, wrap, sampleOf}
 use Rattle.samples.specs.Wanted.{codeOfResidual, codeFor}
-use Rattle.samples.specs.Nearest.{nearest, turnedBy, codeWithin, codeNear}
-use Rattle.samples.proofs.SampleLaws.{residual-even, residual-odd, OneToOne, one-to-one}
+use Rattle.samples.specs.Nearest.{nearest, codeWithin, codeNear}
+use Rattle.samples.proofs.SampleLaws.{residual-even, residual-odd, one-to-one}
 
 abbrev signed : Bool → ℕ → Signed
 signed b n = record { negative = b; size = n }

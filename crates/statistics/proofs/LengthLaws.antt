@@ -1,7 +1,7 @@
 -- k from the lengths of sum and n in binary digits. Assumes nothing.
 use mathlib.Core.Bool.{Bool, true, false}
-use mathlib.Core.Path.{_≡_, refl}
-use Prim.Native.Nat.{ℕ, suc, _+_, _-_, _*_, _^_, _≤_, _<_, min, max}
+use mathlib.Core.Path.{_≡_}
+use Prim.Native.Nat.{ℕ, suc, _+_, _-_, _*_, _^_, _≤_, _<_, min}
 use native.Mathlib.Omega.{arith}
 use native.Mathlib.Nat.{lt-of-lt-of-le, mul-pos, mul-le-mul-right, pow-succ'}
 use lib.Bits.{bitOr, or-lt, or-add-and, and-le-l, and-le-r}

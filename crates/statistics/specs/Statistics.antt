@@ -1,5 +1,5 @@
 -- The adaptive statistics of a block: how a record gives k, and how a residual changes it. Assumes nothing.
-use mathlib.Core.Bool.{Bool, true, false, cond}
+use mathlib.Core.Bool.{Bool, cond}
 use Prim.Native.Nat.{ℕ, _+_, _*_, _/_, _^_, _≤_, max}
 use lib.Dec.{leb, eqb}
 use Rattle.numbers.specs.Numbers.{leastFrom}

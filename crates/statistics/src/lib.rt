@@ -1,6 +1,6 @@
 // The adaptive statistics: a record gives the number k of a code's low bits, and each residual changes it.
 ghost use mathlib.Core.Path.{_≡_};
-ghost use Prim.Native.Nat.{_+_, _-_, _*_, _^_, _≤_, _<_};
+ghost use Prim.Native.Nat.{_+_, _-_, _≤_, _<_};
 ghost use lib.Count.{leadingZeros};
 ghost use Rattle.numbers.specs.Numbers.{leastFrom};
 ghost use Rattle.statistics.specs.Statistics.{enough, kOf, updated, largestResidual, InRange};

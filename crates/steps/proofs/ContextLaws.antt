@@ -10,7 +10,7 @@ use lib.ListN.{getD, set}
 use Rattle.prediction.specs.Predictions.{evenContext, oddContext}
 use Rattle.prediction.proofs.PredictionLaws.{even-le, odd-le}
 use Rattle.prediction.specs.declared.Context.{Context}
-use Rattle.steps.specs.Contexts.{entryIn, sampleIn, leftIn, rightIn, evenIn, oddIn, contextIn, lookOf, slotOf}
+use Rattle.steps.specs.Contexts.{leftIn, rightIn, evenIn, oddIn, contextIn, lookOf, slotOf}
 use Rattle.steps.specs.Values.{evenAt, oddAt, contextAt}
 use Rattle.steps.proofs.LookLaws.{place-lt}
 use Rattle.steps.proofs.ZipLaws.{set-keeps}

@@ -14,7 +14,7 @@ use Rattle.schedule.specs.Steps.{Step, upto}
 use Rattle.pass.specs.Readings.{Reading, readStep, andThen, reads}
 use Rattle.block.specs.BadCodes.{BadCode, badAt, stepReason, badInSteps}
 use Rattle.trace.specs.Ways.{Way, found, cut-off, on, wayOf, spotOf, stepOf, ifDue, plain, stepWay, stepsWay}
-use Rattle.trace.proofs.PlainLaws.{steps-plain, bad-plain, step-plain}
+use Rattle.trace.proofs.PlainLaws.{steps-plain, bad-plain}
 use Rattle.trace.specs.Traces.{Said, Says}
 use Rattle.trace.proofs.Traced.{enum}
 use Rattle.bad_code.specs.declared.BadSpot.{BadSpot}

@@ -16,11 +16,11 @@ use Rattle.ranges.specs.declared.Ranged.{Ranged}
 use Rattle.ranges.specs.declared.Ranged.the-variants as Range
 use Rattle.region.specs.Regions.{firstBlock, lineCount}
 use Rattle.region.specs.declared.Rect.{Rect}
-use Rattle.cameras.specs.Entries.{noEntry, isHeld, holdsIt, entryAt, each, freeOf, linesWithEntry, afterLines, takingLines, takenBy, givenBack, handedBack, holds, holdsOf, sumOf, mended, Sound}
+use Rattle.cameras.specs.Entries.{isHeld, holdsIt, entryAt, takingLines, givenBack, handedBack, holds, holdsOf, mended, Sound}
 use Rattle.cameras.specs.declared.Camera.{Camera}
 use Rattle.cameras.specs.declared.Camera.the-variants.{One, Two}
 use Rattle.cameras.specs.declared.Entry.{Entry}
-use Rattle.cameras.proofs.EntryLaws.{all-below, length-each}
+use Rattle.cameras.proofs.EntryLaws.{all-below}
 use Rattle.cameras.proofs.HoldLaws.{length-after, holds-after, holds-given}
 use Rattle.cameras.proofs.SoundLaws.{sound-after, sound-given, mended-sound}
 use Rattle.begin.specs.Beginnings.{regionBegins}
@@ -28,7 +28,7 @@ use Rattle.begin.specs.declared.Beginning.{Beginning}
 use Rattle.begin.specs.declared.Beginning.the-variants as Begin
 use Rattle.begin.proofs.CallLaws.{region-reads}
 use Rattle.block.specs.Images.{basesIn, readIn}
-use Rattle.block.specs.Sharing.{entryLines, blockEntries, entriesAfter, blocksBefore, isOut, lastEntries, isRefused, callEntries}
+use Rattle.block.specs.Sharing.{entryLines, blockEntries, entriesAfter, lastEntries, isRefused, callEntries}
 use Rattle.two_cameras.specs.TwoCameras.{Event, call, end, callAnswer, after, takenBlocks, takenCall, taken, given, afterAll, takenAll, givenAll, OfBytes, NoneHeld}
 
 -- ---- bytes

@@ -7,7 +7,6 @@ use Prim.Native.Nat.{ℕ, zero, suc, _+_, _≤_, _<_}
 use native.Mathlib.Omega.{arith}
 use lib.Dec.{ltb, leb, eqb}
 use lib.ListN.{getD}
-use Rattle.numbers.specs.Numbers.{leastFrom}
 use Rattle.numbers.proofs.BoolLaws.{both}
 use Rattle.numbers.proofs.LeastLaws.{Least, least}
 use Rattle.numbers.proofs.OrderLaws.{split}
@@ -15,7 +14,7 @@ use Rattle.header.specs.declared.FujiHeader.{FujiHeader}
 use Rattle.header.specs.declared.Refusal.the-variants.{Truncated, NoEntry}
 use Rattle.region.specs.Regions.{firstBlock, lineCount}
 use Rattle.region.specs.declared.Rect.{Rect}
-use Rattle.cameras.specs.Entries.{isHeld, isPair, entryAt, pairIn, freeIn, hasEntry, linesWithEntry, afterLines, isStopped, handedBack, mended, Sound}
+use Rattle.cameras.specs.Entries.{isHeld, isPair, entryAt, pairIn, freeIn, hasEntry, linesWithEntry, afterLines, handedBack, mended}
 use Rattle.cameras.specs.declared.Camera.{Camera}
 use Rattle.cameras.specs.declared.Entry.{Entry}
 use Rattle.cameras.proofs.EntryLaws.{all-before, all-below}
@@ -23,14 +22,14 @@ use Rattle.cameras.proofs.SoundLaws.{mended-sound}
 use Rattle.begin.specs.Beginnings.{regionBegins}
 use Rattle.begin.specs.declared.Beginning.{Beginning}
 use Rattle.begin.specs.declared.Beginning.the-variants as Begin
-use Rattle.block.specs.Images.{basesIn, readIn, orElse, answerOf, isDecoded, Left}
+use Rattle.block.specs.Images.{basesIn, readIn, orElse, answerOf, Left}
 use Rattle.block.specs.Words.{answerWords}
 use Rattle.block.specs.Lent.{Buffers}
 use Rattle.block.specs.Sharing.{entryLines, stopsIn, blockCount, entriesAfter, blocksBefore, isOut, outBlock, outLine, sharedAnswer, isShared, SharedDecoding, isRefused}
 use Rattle.block.specs.Sharing.{callEntries, LeftBuffers, LeftShared}
 use Rattle.block.specs.declared.Decoded.{Decoded}
 use Rattle.block.specs.declared.Decoded.the-variants.{Done, Refused}
-use Rattle.two_cameras.specs.TwoCameras.{Event, call, end, callAnswer, after, afterAll, takenAll, givenAll, OfBytes, NoneHeld, NoEntryAt, FirstWithout, TwoCameras}
+use Rattle.two_cameras.specs.TwoCameras.{call, callAnswer, after, NoEntryAt, FirstWithout, TwoCameras}
 use Rattle.two_cameras.proofs.HistoryLaws.{sound-all, holds-all, none-sound, none-holds}
 
 -- ---- not refused by 23

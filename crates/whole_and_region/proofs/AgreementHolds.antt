@@ -2,8 +2,8 @@
 use borrow.Author.Tests.{ltb-true, le-ltb, le-leb, eq-eqb}
 use mathlib.Core.Bool.{Bool, true, false, cond, _&&_, false≢true}
 use mathlib.Core.List.{List}
-use mathlib.Core.Path.{_≡_, refl, sym, ap, _∙_}
-use Prim.Native.Nat.{ℕ, suc, _+_, _-_, _*_, _/_, _%_, _^_, _≤_, _<_}
+use mathlib.Core.Path.{_≡_, refl, sym, _∙_}
+use Prim.Native.Nat.{ℕ, _+_, _-_, _*_, _≤_, _<_}
 use native.Mathlib.Nat.{min-eq-left, zero-mul, mul-zero}
 use native.Mathlib.Omega.{arith}
 use lib.Dec.{ltb, leb}
@@ -23,11 +23,11 @@ use Rattle.begin.specs.declared.Beginning.{Beginning}
 use Rattle.begin.specs.declared.Beginning.the-variants.{Nothing, Reading}
 use Rattle.block.specs.Lent.{Buffers}
 use Rattle.block.specs.Images.{readIn, lineOf, isDecoded, decodedSample, Decoding, Left}
-use Rattle.block.specs.WindowedImages.{windowSize, isReached, reachedSample, WindowedDecoding, LeftWindowed}
+use Rattle.block.specs.WindowedImages.{isReached, reachedSample, WindowedDecoding, LeftWindowed}
 use Rattle.block.specs.declared.Decoded.{Decoded}
 use Rattle.block.specs.declared.Decoded.the-variants.{Done}
 use Rattle.whole_and_region.specs.Agreement.{whole, Entry, decode, decodeRegion, decodeRegionWindowed, Call, LongEnough}
-use Rattle.whole_and_region.specs.Agreement.{Within, Touches, FailsOn, Agreement, WholeAndRegion}
+use Rattle.whole_and_region.specs.Agreement.{Within, Touches, Agreement, WholeAndRegion}
 use Rattle.whole_and_region.proofs.AgreementLaws.{Reads, read-accepted, read-only, read-if, read-same}
 
 -- ---- how such a call begins

@@ -1,9 +1,9 @@
 -- A region has the whole picture's samples: first of calls that read, then of all calls. Assumes nothing.
-use borrow.Author.Tests.{ltb-true, ltb-false, lt-ltb, le-ltb}
-use mathlib.Core.Bool.{Bool, true, false, cond, _&&_, false≢true}
+use borrow.Author.Tests.{ltb-false, lt-ltb, le-ltb}
+use mathlib.Core.Bool.{Bool, true, false, cond}
 use mathlib.Core.List.{List}
 use mathlib.Core.Option.{Option, none, some}
-use mathlib.Core.Path.{_≡_, refl, sym, ap, _∙_}
+use mathlib.Core.Path.{_≡_, refl, sym, _∙_}
 use Prim.Native.Nat.{ℕ, zero, suc, _+_, _-_, _*_, _/_, _%_, _≤_, _<_}
 use native.Mathlib.Nat.{mod-lt, mul-comm, zero-add}
 use native.Mathlib.Omega.{arith}
@@ -13,16 +13,16 @@ use lib.ListN.{getD}
 use Rattle.numbers.proofs.OrderLaws.{split}
 use Rattle.header.specs.declared.FujiHeader.{FujiHeader}
 use Rattle.header.specs.declared.Refusal.the-variants.{Truncated}
-use Rattle.region.specs.Regions.{blockOf, rightOf, bottomOf, firstBlock, lastBlock, lineCount, Accepted}
+use Rattle.region.specs.Regions.{blockOf, firstBlock, lastBlock, lineCount, Accepted}
 use Rattle.region.specs.declared.Rect.{Rect}
-use Rattle.region.proofs.RegionLaws.{right-is, bottom-is, block-touched, block-order, block-inside, column-in-block, lines-inside, row-inside}
+use Rattle.region.proofs.RegionLaws.{right-is, bottom-is, block-touched, block-order, lines-inside, row-inside}
 use Rattle.block.specs.Blocks.{State, runs, readLineAt, startState, readLines}
-use Rattle.block.specs.Images.{formOf, bytesIn, basesIn, isRead, linesRead, readIn, lineOf, isDecoded, pictureSample, decodedSample, orElse, answerOf}
+use Rattle.block.specs.Images.{formOf, bytesIn, basesIn, isRead, linesRead, readIn, lineOf, isDecoded, decodedSample, orElse, answerOf}
 use Rattle.block.specs.declared.Form.{Form}
 use Rattle.block.specs.declared.Decoded.{Decoded}
 use Rattle.block.specs.declared.Decoded.the-variants.{Done, Refused}
 use Rattle.block.proofs.RunLaws.{runs-stay}
-use Rattle.whole_and_region.specs.Agreement.{Touches, FailsOn, whole}
+use Rattle.whole_and_region.specs.Agreement.{FailsOn, whole}
 
 -- ---- lines that are read
 

@@ -16,7 +16,7 @@ use Rattle.schedule.proofs.PlanLaws.{CodedIn, steps-coded}
 use Rattle.schedule.proofs.TurnLaws.{turn-is, evens-le, turns-le}
 use Rattle.lines.specs.Sets.{lineOfRank, indexIn}
 use Rattle.writing.specs.Writings.{Writing, writes, writePass}
-use Rattle.writing.specs.Puts.{Room, Within, Wanted, startOf, StepsRoom, IsPut, StepsPut, wrongAt, IsPassPut}
+use Rattle.writing.specs.Puts.{Room, Wanted, startOf, StepsRoom, IsPut, StepsPut, wrongAt, IsPassPut}
 use Rattle.output.specs.declared.Put.{Put}
 use Rattle.output.specs.declared.Put.the-variants.{At, Wrong}
 use Rattle.writing.specs.declared.PassPut.{PassPut}

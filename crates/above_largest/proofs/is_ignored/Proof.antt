@@ -1,7 +1,7 @@
 -- `above_largest::is_ignored` meets its contract. Assumes nothing.
 use borrow.Author.Needs.{needs}
 use mathlib.Core.Bool.{Bool, true, false}
-use mathlib.Core.Path.{_≡_, sym, _∙_}
+use mathlib.Core.Path.{_≡_, _∙_}
 use Prim.Native.Nat.{ℕ}
 use Rattle.map.specs.Places.{widthOf}
 use Rattle.schedule.specs.Steps.{isInterpolated}

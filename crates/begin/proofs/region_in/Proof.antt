@@ -4,7 +4,7 @@ use mathlib.Core.Path.{_≡_, sym, ap, _∙_}
 use Prim.Native.Nat.{ℕ}
 use Rattle.header.specs.declared.FujiHeader.{FujiHeader}
 use Rattle.region.specs.declared.Checked.{Checked}
-use Rattle.begin.specs.Beginnings.{begun, withScratch, withRegion}
+use Rattle.begin.specs.Beginnings.{begun, withRegion}
 use Rattle.begin.proofs.region_in.Statement.{statement}
 use Rattle.begin.proofs.region_in.Tie as tie
 

@@ -1,16 +1,11 @@
 -- `cameras::end_stream` meets its contract: all holds of the camera are given back. Assumes nothing.
-use mathlib.Core.Path.{_≡_, refl, sym, ap, _∙_}
-use Prim.Native.Nat.{ℕ, suc, _+_, _-_, _≤_, _<_}
-use native.Mathlib.Nat.{add-zero}
-use native.Mathlib.Numerals.{add-one}
+use mathlib.Core.Path.{_≡_}
+use Prim.Native.Nat.{_-_, _≤_}
 use native.Mathlib.Omega.{arith}
-use Rattle.cameras.specs.Entries.{isHeld, isPair, entryAt, pairIn, freeIn, hasEntry, withEntry, freeOf, mendedEntry, each, afterLines, linesWithEntry, AllNumbered}
+use Rattle.cameras.specs.Entries.{freeOf, each}
 use Rattle.cameras.proofs.EntryLaws.{each-start, each-more}
 use Rattle.cameras.proofs.end_stream.Statement.{statement}
 use Rattle.cameras.proofs.end_stream.Tie as tie
-use Rattle.cameras.proofs.end_stream.Reads as reads
-use Rattle.cameras.proofs.end_stream.Lts as lts
-use Rattle.cameras.proofs.free_of.Reads as free-of-reads
 
 abbrev Inv-loop : tie.InvT-loop
 Inv-loop camera after₀ i₀ after i = (i ≤ 16) × (after .all ≡ each (freeOf camera) i (after₀ .all))

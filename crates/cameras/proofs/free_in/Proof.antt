@@ -1,15 +1,12 @@
 -- `cameras::free_in` meets its contract: the lowest entry that nobody holds, or 16. Assumes nothing.
 use mathlib.Core.Bool.{not}
-use mathlib.Core.Path.{_≡_, refl, sym, ap, _∙_}
-use Prim.Native.Nat.{_-_, _≤_}
+use mathlib.Core.Path.{refl, sym, ap, _∙_}
+use Prim.Native.Nat.{_-_}
 use native.Mathlib.Omega.{arith}
 use Rattle.cameras.proofs.SearchLaws.{NoneBefore, found, goes-on, ended}
-use Rattle.cameras.specs.Entries.{isHeld, isPair, entryAt, pairIn, freeIn}
+use Rattle.cameras.specs.Entries.{isHeld, entryAt, freeIn}
 use Rattle.cameras.proofs.free_in.Statement.{statement}
 use Rattle.cameras.proofs.free_in.Tie as tie
-use Rattle.cameras.proofs.free_in.Reads as reads
-use Rattle.cameras.proofs.free_in.Lts as lts
-use Rattle.cameras.proofs.is_held.Reads as is-held-reads
 
 abbrev Inv-loop : tie.InvT-loop
 Inv-loop entries i₀ i = NoneBefore (λ j. not (isHeld (entryAt (entries .all) j))) i

@@ -1,8 +1,6 @@
 -- `cameras::free_of` meets its contract: the entry without the holds of one camera. Assumes nothing.
 use Rattle.cameras.proofs.free_of.Statement.{statement}
 use Rattle.cameras.proofs.free_of.Tie as tie
-use Rattle.cameras.proofs.free_of.Reads as reads
-use Rattle.cameras.proofs.free_of.Lts as lts
 
 enum-told : tie.Need-enum-told
 enum-told c = c .match .keys1

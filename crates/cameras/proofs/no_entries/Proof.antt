@@ -1,7 +1,6 @@
 -- `cameras::no_entries` meets its contract. Assumes nothing.
 use mathlib.Core.Bool.{false≢true}
-use mathlib.Core.Path.{_≡_, refl, sym, ap, _∙_, subst}
-use Prim.Native.Nat.{ℕ}
+use mathlib.Core.Path.{_≡_, sym, ap, _∙_, subst}
 use lib.ListN.{replicate, getD-replicate}
 use Rattle.cameras.specs.Entries.{noEntry, noEntries, isHeld, AllNumbered}
 use Rattle.cameras.specs.declared.Entry.{Entry}

@@ -1,7 +1,7 @@
 -- `checkpoint::set_byte` meets its contract. Assumes nothing.
 use borrow.Author.Needs.{needs}
-use mathlib.Core.Path.{_≡_, _∙_, ap}
-use Prim.Native.Nat.{ℕ, _%_}
+use mathlib.Core.Path.{_∙_, ap}
+use Prim.Native.Nat.{_%_}
 use Rattle.statistics.specs.declared.Record.{Record}
 use Rattle.checkpoint.specs.Checkpoints.{recordByte}
 use Rattle.checkpoint.proofs.set_byte.Statement.{statement}

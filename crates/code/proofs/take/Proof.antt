@@ -1,5 +1,4 @@
 -- `code::take` meets its contract, by what its two tests say. Assumes nothing.
-use mathlib.Core.Path.{_≡_, refl}
 use native.Mathlib.Omega.{arith}
 use Rattle.code.proofs.take.Statement.{statement}
 use Rattle.code.proofs.take.Tie as tie

@@ -1,10 +1,9 @@
 -- `emit::emit_cell` meets its contract: the cell shows another line, its row is not of the part, or its columns are stored. Assumes nothing.
-use mathlib.Core.Path.{_≡_, refl, sym, _∙_}
-use Prim.Native.Nat.{ℕ, _+_, _-_, _*_, _/_, _≤_, _<_}
+use mathlib.Core.Path.{sym, _∙_}
+use Prim.Native.Nat.{_+_, _-_, _*_, _/_, _≤_}
 use native.Mathlib.Omega.{arith}
 use lib.ListN.{length}
 use Rattle.map.proofs.PartLaws.{row-inside}
-use Rattle.map.proofs.PlaceLaws.{width-le}
 use Rattle.map.proofs.ChangeLaws.{changed-none}
 use Rattle.emit.proofs.WindowLaws.{in-cell, put-cell}
 use Rattle.emit.proofs.emit_cell.Statement.{statement}

@@ -1,7 +1,6 @@
 -- `emit::emit_line_if` meets its contract. Assumes nothing.
-use mathlib.Core.Path.{_≡_, refl}
 use native.Mathlib.Omega.{arith}
-use Rattle.map.proofs.ChangeLaws.{if-wanted, changed-none, not-wanted}
+use Rattle.map.proofs.ChangeLaws.{if-wanted, not-wanted}
 use Rattle.emit.proofs.emit_line_if.Statement.{statement}
 use Rattle.emit.proofs.emit_line_if.Tie as tie
 

@@ -2,8 +2,6 @@
 use borrow.Author.Tests.{eq-eqb, ne-eqb}
 use Rattle.entry_words.proofs.camera_in.Statement.{statement}
 use Rattle.entry_words.proofs.camera_in.Tie as tie
-use Rattle.entry_words.proofs.camera_in.Reads as reads
-use Rattle.entry_words.proofs.camera_in.Lts as lts
 
 returns : tie.Need-returns
 returns c = rw (eq-eqb _ _ (c .if1 .taken))

@@ -7,9 +7,6 @@ use Rattle.cameras.specs.declared.Entry.{Entry}
 use Rattle.entry_words.specs.Words.{entryIn, entriesIn}
 use Rattle.entry_words.proofs.entries_in.Statement.{statement}
 use Rattle.entry_words.proofs.entries_in.Tie as tie
-use Rattle.entry_words.proofs.entries_in.Reads as reads
-use Rattle.entry_words.proofs.entries_in.Lts as lts
-use Rattle.entry_words.proofs.entry_in.Reads as entry-in-reads
 
 entry-in-requires : tie.Need-entry-in-requires
 entry-in-requires c κs = lit< tt

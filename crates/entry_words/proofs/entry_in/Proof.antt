@@ -4,8 +4,6 @@ use Rattle.entry_words.specs.Words.{entryIn}
 use mathlib.Core.Path.{refl}
 use Rattle.entry_words.proofs.entry_in.Statement.{statement}
 use Rattle.entry_words.proofs.entry_in.Tie as tie
-use Rattle.entry_words.proofs.entry_in.Reads as reads
-use Rattle.entry_words.proofs.entry_in.Lts as lts
 
 mul-at : tie.Need-mul-at
 mul-at c = omega (arith, c .pre)

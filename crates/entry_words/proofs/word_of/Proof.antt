@@ -9,9 +9,6 @@ use Rattle.entry_words.specs.Words.{wordsOf}
 use Rattle.cameras.specs.declared.Entry.{Entry}
 use Rattle.entry_words.proofs.word_of.Statement.{statement}
 use Rattle.entry_words.proofs.word_of.Tie as tie
-use Rattle.entry_words.proofs.word_of.Reads as reads
-use Rattle.entry_words.proofs.word_of.Lts as lts
-use Rattle.numbers.proofs.flag.Reads as flag-reads
 
 flag-requires : tie.Need-flag-requires
 flag-requires c κs = tt

@@ -2,18 +2,15 @@
 use borrow.Author.Tests.{lt-ltb}
 use mathlib.Core.Path.{_≡_, refl, _∙_}
 use mathlib.Core.List.{List}
-use Prim.Native.Nat.{ℕ, _-_, _/_, _%_, _≤_, _<_}
+use Prim.Native.Nat.{ℕ, _-_, _/_, _%_, _≤_}
 use native.Mathlib.Omega.{arith}
 use lib.ListN.{length, getD, replicate, length-set}
 use Rattle.numbers.proofs.FillLaws.{NewTo, new-none, new-more}
 use Rattle.cameras.specs.Entries.{entryAt}
-use Rattle.entry_words.specs.Words.{wordsOf, AreWords}
+use Rattle.entry_words.specs.Words.{wordsOf}
 use Rattle.cameras.specs.declared.Entry.{Entry}
 use Rattle.entry_words.proofs.words_of.Statement.{statement}
 use Rattle.entry_words.proofs.words_of.Tie as tie
-use Rattle.entry_words.proofs.words_of.Reads as reads
-use Rattle.entry_words.proofs.words_of.Lts as lts
-use Rattle.entry_words.proofs.word_of.Reads as word-of-reads
 
 abbrev word : List Entry → ℕ → ℕ
 word l j = getD (wordsOf (entryAt l (j / 8))) (j % 8) 0

@@ -1,7 +1,7 @@
 -- `lines::start_above` meets its contract. Assumes nothing.
 use borrow.Author.Needs.{needs}
 use mathlib.Core.Path.{_≡_, _∙_}
-use Prim.Native.Nat.{ℕ, _+_, _-_, _*_, _≤_}
+use Prim.Native.Nat.{ℕ, _+_, _-_, _≤_}
 use native.Mathlib.Omega.{arith}
 use Rattle.lines.proofs.start_above.Statement.{statement}
 use Rattle.lines.proofs.start_above.Tie as tie

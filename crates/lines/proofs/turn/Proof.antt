@@ -1,7 +1,7 @@
 -- `lines::turn` meets its contract, one move after the other. Assumes nothing.
 use borrow.Author.Needs.{needs}
 use mathlib.Core.List.{List}
-use mathlib.Core.Path.{_≡_, refl}
+use mathlib.Core.Path.{_≡_}
 use Prim.Native.Nat.{ℕ}
 use Rattle.lines.specs.ColourLines.{moved, turned}
 use Rattle.lines.proofs.turn.Statement.{statement}

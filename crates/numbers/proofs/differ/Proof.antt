@@ -1,5 +1,5 @@
 -- `numbers::differ` meets its contract, by the two values of a and of b. Assumes nothing.
-use mathlib.Core.Path.{_≡_, refl}
+use mathlib.Core.Path.{_≡_}
 use mathlib.Core.Bool.{Bool, true, false, not, xor}
 use Rattle.numbers.proofs.differ.Statement.{statement}
 use Rattle.numbers.proofs.differ.Tie as tie

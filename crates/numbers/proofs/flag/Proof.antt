@@ -1,8 +1,8 @@
 -- `numbers::flag` meets its contract, by the two values of the test. Assumes nothing.
 use borrow.Author.Needs.{needs}
 use mathlib.Core.Path.{_≡_, refl}
-use mathlib.Core.Bool.{Bool, true, false, cond}
-use Prim.Native.Nat.{ℕ, _≤_}
+use mathlib.Core.Bool.{Bool, true, false}
+use Prim.Native.Nat.{_≤_}
 use lib.Dec.{lit≤}
 use mir.Val.{boolByte}
 use Rattle.numbers.specs.Numbers.{flag}

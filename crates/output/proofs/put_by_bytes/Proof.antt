@@ -1,7 +1,7 @@
 -- `output::put_by_bytes` meets its contract: after each turn the first digits stand in the output. Assumes nothing.
 use borrow.Author.Needs.{needs}
 use mathlib.Core.Path.{_≡_, refl, _∙_}
-use Prim.Native.Nat.{ℕ, _+_, _-_, _/_, _%_, _^_, _≤_, _<_, min}
+use Prim.Native.Nat.{ℕ, _+_, _-_, _%_, _^_, _≤_, _<_, min}
 use native.Mathlib.Nat.{min-le-left, min-le-right, min-eq-left, le-min}
 use native.Mathlib.Omega.{arith}
 use lib.ListN.{length, length-set}

@@ -6,7 +6,6 @@ use Prim.Native.Nat.{ℕ}
 use lib.ListN.{length}
 use Rattle.header.specs.Headers.{parseOf}
 use Rattle.header.specs.declared.Parsed.{Parsed}
-use Rattle.header.specs.declared.Parsed.the-variants as Parsing
 use Rattle.header.proofs.HeaderLaws.{ruled}
 use Rattle.plan.specs.Plans.{answerIn, plannedAnswer}
 use Rattle.plan.specs.declared.Planned.{Planned}

@@ -1,11 +1,11 @@
 -- `prediction::odd` meets its contract. Assumes nothing.
 use borrow.Author.Needs.{needs}
-use mathlib.Core.Path.{_≡_, refl, ap}
-use Prim.Native.Nat.{ℕ, _<_}
+use mathlib.Core.Path.{_≡_, ap}
+use Prim.Native.Nat.{ℕ}
 use native.Mathlib.Omega.{arith}
 use Rattle.numbers.specs.Numbers.{minus}
 use Rattle.numbers.specs.declared.Signed.{Signed}
-use Rattle.prediction.specs.Predictions.{oddPrediction, oddContext, ContextRanges}
+use Rattle.prediction.specs.Predictions.{oddPrediction, oddContext}
 use Rattle.prediction.specs.declared.Context.{Context}
 use Rattle.prediction.proofs.odd.Statement.{statement}
 use Rattle.prediction.proofs.odd.Tie as tie

@@ -1,8 +1,7 @@
 -- `quantiser::level_size` meets its contract: the level counts the thresholds that are reached. Assumes nothing.
 use borrow.Author.Needs.{needs}
-use mathlib.Core.Path.{_≡_, ap, _∙_}
+use mathlib.Core.Path.{_≡_}
 use Prim.Native.Nat.{ℕ, _+_}
-use native.Mathlib.Omega.{arith}
 use lib.Dec.{leb}
 use Rattle.numbers.specs.Numbers.{flag}
 use Rattle.quantiser.specs.Quantisers.{Serves, levelSize}

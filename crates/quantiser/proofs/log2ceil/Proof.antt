@@ -1,6 +1,5 @@
 -- `quantiser::log2ceil` meets its contract, by the length of v - 1 in binary. Assumes nothing.
 use borrow.Author.Needs.{needs}
-use mathlib.Core.Path.{_≡_}
 use native.Mathlib.Omega.{arith}
 use Rattle.quantiser.proofs.QuantiserLaws.{log2-is, log2-le}
 use Rattle.quantiser.proofs.log2ceil.Statement.{statement}

@@ -56,7 +56,7 @@ use Rattle.pump.proofs.BitPumpMsb.at_bit.Met as at-bit-thm
 use Rattle.pump.proofs.PumpOwns.{IsAt, sliced}
 use Rattle.pump.proofs.PumpMakes.{AtBit, to-at, goes-at, says-at}
 use Rattle.pump.proofs.PumpLends.{Behind, lent, LentOwn, lends-pump, takes-back}
-use Rattle.code.specs.Codes.{codeAt, Bounds}
+use Rattle.code.specs.Codes.{codeAt}
 use Rattle.code.specs.declared.Coded.{Coded}
 use Rattle.code.proofs.CodeLaws.{code-bounds}
 use Rattle.code.proofs.Coded as E

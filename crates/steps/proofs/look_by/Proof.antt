@@ -1,7 +1,6 @@
 -- `steps::look_by` meets its contract: a lossless line, or any other by the choice that is at hand. Assumes nothing.
 use borrow.Author.Needs.{needs}
-use mathlib.Core.Path.{_≡_, ap, _∙_}
-use Prim.Native.Nat.{ℕ}
+use mathlib.Core.Path.{ap, _∙_}
 use native.Mathlib.Omega.{arith}
 use Rattle.samples.specs.Samples.{choiceOf}
 use Rattle.steps.proofs.LookLaws.{in-lossless}

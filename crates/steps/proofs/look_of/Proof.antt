@@ -1,6 +1,5 @@
 -- `steps::look_of` meets its contract: a lossless line, or any other by the choice that it makes. Assumes nothing.
-use mathlib.Core.Path.{_≡_, ap, _∙_}
-use Prim.Native.Nat.{ℕ}
+use mathlib.Core.Path.{ap, _∙_}
 use native.Mathlib.Omega.{arith}
 use Rattle.samples.specs.Samples.{choiceOf}
 use Rattle.steps.proofs.LookLaws.{in-lossless}

@@ -1,17 +1,11 @@
 -- `taking::base_of` meets its contract: the base of a line, 0 where there is no base row. Assumes nothing.
 use borrow.Author.Needs.{needs}
-use mathlib.Core.Path.{_≡_, refl, sym, ap, _∙_}
-use Prim.Native.Nat.{ℕ, suc, _+_, _-_, _≤_, _<_}
-use native.Mathlib.Nat.{add-zero}
-use native.Mathlib.Numerals.{add-one}
+use mathlib.Core.Path.{sym}
+use Prim.Native.Nat.{_-_}
 use native.Mathlib.Omega.{arith}
-use Rattle.cameras.specs.Entries.{isHeld, isPair, entryAt, pairIn, freeIn, hasEntry, withEntry, freeOf, mendedEntry, each, afterLines, linesWithEntry, AllNumbered}
 use lib.ListN.{List·getD-eq-default}
 use Rattle.taking.proofs.base_of.Statement.{statement}
 use Rattle.taking.proofs.base_of.Tie as tie
-use Rattle.taking.proofs.base_of.Reads as reads
-use Rattle.taking.proofs.base_of.Lts as lts
-use Rattle.numbers.proofs.u8_to_u32.Reads as u8-to-u32-reads
 
 shared-slice-read-u8-to-u32 : tie.Need-shared-slice-read-u8-to-u32
 shared-slice-read-u8-to-u32 c = search needs

@@ -1,8 +1,6 @@
 -- `taking::held_by` meets its contract: an entry held by one camera more. Assumes nothing.
 use Rattle.taking.proofs.held_by.Statement.{statement}
 use Rattle.taking.proofs.held_by.Tie as tie
-use Rattle.taking.proofs.held_by.Reads as reads
-use Rattle.taking.proofs.held_by.Lts as lts
 
 enum-told : tie.Need-enum-told
 enum-told c = c .match .keys1

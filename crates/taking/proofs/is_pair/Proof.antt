@@ -1,9 +1,6 @@
 -- `taking::is_pair` meets its contract: depth and base, and that somebody holds it. Assumes nothing.
 use Rattle.taking.proofs.is_pair.Statement.{statement}
 use Rattle.taking.proofs.is_pair.Tie as tie
-use Rattle.taking.proofs.is_pair.Reads as reads
-use Rattle.taking.proofs.is_pair.Lts as lts
-use Rattle.cameras.proofs.is_held.Reads as is-held-reads
 
 is-held-requires : tie.Need-is-held-requires
 is-held-requires c κs = tt

@@ -1,17 +1,9 @@
 -- `taking::main_in` meets its contract: the main quantiser of a held pair, or computed anew. Assumes nothing.
-use mathlib.Core.Path.{_≡_, refl, sym, ap, _∙_}
-use Prim.Native.Nat.{ℕ, suc, _+_, _-_, _≤_, _<_}
-use native.Mathlib.Nat.{add-zero}
-use native.Mathlib.Numerals.{add-one}
+use Prim.Native.Nat.{_-_}
 use native.Mathlib.Omega.{arith}
-use Rattle.cameras.specs.Entries.{isHeld, isPair, entryAt, pairIn, freeIn, hasEntry, withEntry, freeOf, mendedEntry, each, afterLines, linesWithEntry, AllNumbered}
 use Rattle.cameras.proofs.EntryLaws.{pair-main}
 use Rattle.taking.proofs.main_in.Statement.{statement}
 use Rattle.taking.proofs.main_in.Tie as tie
-use Rattle.taking.proofs.main_in.Reads as reads
-use Rattle.taking.proofs.main_in.Lts as lts
-use Rattle.taking.proofs.pair_in.Reads as pair-in-reads
-use Rattle.quantiser.proofs.Quantiser.main.Reads as main-reads
 
 pair-in-requires : tie.Need-pair-in-requires
 pair-in-requires c κs = tt

@@ -1,16 +1,11 @@
 -- `taking::mended` meets its contract: entry by entry. Assumes nothing.
-use mathlib.Core.Path.{_≡_, refl, sym, ap, _∙_}
-use Prim.Native.Nat.{ℕ, suc, _+_, _-_, _≤_, _<_}
-use native.Mathlib.Nat.{add-zero}
-use native.Mathlib.Numerals.{add-one}
+use mathlib.Core.Path.{_≡_}
+use Prim.Native.Nat.{_-_, _≤_}
 use native.Mathlib.Omega.{arith}
-use Rattle.cameras.specs.Entries.{isHeld, isPair, entryAt, pairIn, freeIn, hasEntry, withEntry, freeOf, mendedEntry, each, afterLines, linesWithEntry, AllNumbered}
+use Rattle.cameras.specs.Entries.{mendedEntry, each}
 use Rattle.cameras.proofs.EntryLaws.{each-start, each-more, mended-numbered}
 use Rattle.taking.proofs.mended.Statement.{statement}
 use Rattle.taking.proofs.mended.Tie as tie
-use Rattle.taking.proofs.mended.Reads as reads
-use Rattle.taking.proofs.mended.Lts as lts
-use Rattle.taking.proofs.mended_entry.Reads as mended-entry-reads
 
 abbrev Inv-loop : tie.InvT-loop
 Inv-loop after₀ i₀ after i = (i ≤ 16) × (after .all ≡ each (mendedEntry) i (after₀ .all))

@@ -3,20 +3,11 @@ use borrow.Author.Tests.{not-true, not-false, leb-true, ltb-true}
 use mathlib.Core.Bool.{_&&_}
 use lib.Dec.{leb, ltb}
 use Rattle.numbers.proofs.BoolLaws.{both}
-use mathlib.Core.Path.{_≡_, refl, sym, ap, _∙_}
-use Prim.Native.Nat.{ℕ, suc, _+_, _-_, _≤_, _<_}
-use native.Mathlib.Nat.{add-zero}
-use native.Mathlib.Numerals.{add-one}
-use native.Mathlib.Omega.{arith}
-use Rattle.cameras.specs.Entries.{isHeld, isPair, entryAt, pairIn, freeIn, hasEntry, withEntry, freeOf, mendedEntry, each, afterLines, linesWithEntry, AllNumbered}
+use mathlib.Core.Path.{sym, _∙_}
+use Prim.Native.Nat.{_-_}
 use Rattle.cameras.proofs.EntryLaws.{mend-unheld, mend-good, mend-bad}
 use Rattle.taking.proofs.mended_entry.Statement.{statement}
 use Rattle.taking.proofs.mended_entry.Tie as tie
-use Rattle.taking.proofs.mended_entry.Reads as reads
-use Rattle.taking.proofs.mended_entry.Lts as lts
-use Rattle.cameras.proofs.is_held.Reads as is-held-reads
-use Rattle.cameras.proofs.no_entry.Reads as no-entry-reads
-use Rattle.quantiser.proofs.Quantiser.main.Reads as main-reads
 
 is-held-requires : tie.Need-is-held-requires
 is-held-requires c κs = tt

@@ -9,10 +9,6 @@ use Rattle.cameras.specs.declared.Entry.{Entry}
 use Rattle.cameras.specs.declared.Camera.{Camera}
 use Rattle.taking.proofs.new_entry.Statement.{statement}
 use Rattle.taking.proofs.new_entry.Tie as tie
-use Rattle.taking.proofs.new_entry.Reads as reads
-use Rattle.taking.proofs.new_entry.Lts as lts
-use Rattle.taking.proofs.held_by.Reads as held-by-reads
-use Rattle.quantiser.proofs.Quantiser.main.Reads as main-reads
 
 main-requires : tie.Need-main-requires
 main-requires c κs = c .pre

@@ -1,15 +1,11 @@
 -- `taking::pair_in` meets its contract: the lowest held entry of a pair. Assumes nothing.
-use mathlib.Core.Bool.{not}
-use mathlib.Core.Path.{_≡_, refl, sym, _∙_}
-use Prim.Native.Nat.{_-_, _≤_}
+use mathlib.Core.Path.{refl, sym, _∙_}
+use Prim.Native.Nat.{_-_}
 use native.Mathlib.Omega.{arith}
 use Rattle.cameras.proofs.SearchLaws.{NoneBefore, found, goes-on, ended}
-use Rattle.cameras.specs.Entries.{isHeld, isPair, entryAt, pairIn, freeIn}
+use Rattle.cameras.specs.Entries.{isPair, entryAt, pairIn}
 use Rattle.taking.proofs.pair_in.Statement.{statement}
 use Rattle.taking.proofs.pair_in.Tie as tie
-use Rattle.taking.proofs.pair_in.Reads as reads
-use Rattle.taking.proofs.pair_in.Lts as lts
-use Rattle.taking.proofs.is_pair.Reads as is-pair-reads
 
 abbrev Inv-loop : tie.InvT-loop
 Inv-loop bits base entries i₀ i = NoneBefore (λ j. isPair bits base (entryAt (entries .all) j)) i

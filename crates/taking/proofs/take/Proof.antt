@@ -1,19 +1,9 @@
 -- `taking::take` meets its contract: a held entry is shared, or else the lowest free one is taken. Assumes nothing.
-use mathlib.Core.Path.{_≡_, refl, sym, ap, _∙_}
-use Prim.Native.Nat.{ℕ, suc, _+_, _-_, _≤_, _<_}
-use native.Mathlib.Nat.{add-zero}
-use native.Mathlib.Numerals.{add-one}
+use Prim.Native.Nat.{_-_}
 use native.Mathlib.Omega.{arith}
-use Rattle.cameras.specs.Entries.{isHeld, isPair, entryAt, pairIn, freeIn, hasEntry, withEntry, freeOf, mendedEntry, each, afterLines, linesWithEntry, AllNumbered}
 use Rattle.cameras.proofs.EntryLaws.{pair-taken, free-taken, none-taken}
 use Rattle.taking.proofs.take.Statement.{statement}
 use Rattle.taking.proofs.take.Tie as tie
-use Rattle.taking.proofs.take.Reads as reads
-use Rattle.taking.proofs.take.Lts as lts
-use Rattle.cameras.proofs.free_in.Reads as free-in-reads
-use Rattle.taking.proofs.held_by.Reads as held-by-reads
-use Rattle.taking.proofs.new_entry.Reads as new-entry-reads
-use Rattle.taking.proofs.pair_in.Reads as pair-in-reads
 
 pair-in-requires : tie.Need-pair-in-requires
 pair-in-requires c κs = tt

@@ -1,18 +1,12 @@
 -- `taking::take_lines` meets its contract: line by line, until one has no entry. Assumes nothing.
-use borrow.Author.Tests.{not-true, not-false, leb-true, ltb-true}
-use mathlib.Core.Path.{_≡_, refl, sym, ap, _∙_}
-use Prim.Native.Nat.{ℕ, suc, _+_, _-_, _≤_, _<_}
-use native.Mathlib.Nat.{add-zero}
-use native.Mathlib.Numerals.{add-one}
+use borrow.Author.Tests.{not-true, not-false}
+use mathlib.Core.Path.{_≡_, sym}
+use Prim.Native.Nat.{_-_, _≤_}
 use native.Mathlib.Omega.{arith}
-use Rattle.cameras.specs.Entries.{isHeld, isPair, entryAt, pairIn, freeIn, hasEntry, withEntry, freeOf, mendedEntry, each, afterLines, linesWithEntry, AllNumbered}
+use Rattle.cameras.specs.Entries.{afterLines, linesWithEntry, AllNumbered}
 use Rattle.cameras.proofs.EntryLaws.{took-none, lines-none, line-taken, line-left, numbered-with}
 use Rattle.taking.proofs.take_lines.Statement.{statement}
 use Rattle.taking.proofs.take_lines.Tie as tie
-use Rattle.taking.proofs.take_lines.Reads as reads
-use Rattle.taking.proofs.take_lines.Lts as lts
-use Rattle.taking.proofs.base_of.Reads as base-of-reads
-use Rattle.taking.proofs.take.Reads as take-reads
 
 abbrev Inv-loop : tie.InvT-loop
 Inv-loop camera bits bases count after₀ n₀ after n =

@@ -6,7 +6,6 @@ use Prim.Native.Nat.{ℕ, _+_, _-_, _^_, _≤_, _<_}
 use native.Mathlib.Omega.{arith}
 use lib.ListN.{length, set, length-set}
 use Rattle.schedule.specs.Steps.{stepAt, oddSteps}
-use Rattle.writing.specs.Puts.{Wanted}
 use Rattle.quantiser.specs.Quantisers.{largest}
 use Rattle.writing.proofs.StepPuts.{sample-at, same-room, same-wanted, same-steps, no-odd, odd-due}
 use Rattle.writing.proofs.SitePuts.{Ready, Done, first-ready, second-ready, two-puts, Site, site-code}

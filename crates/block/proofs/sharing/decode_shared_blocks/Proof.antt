@@ -1,18 +1,17 @@
 -- `block::sharing::decode_shared_blocks` meets its contract: the blocks below b were read, and each of their lines had an entry. Assumes nothing.
 mod derived
 use borrow.Author.Needs.{needs}
-use borrow.Author.Tests.{not-true}
-use mathlib.Core.Bool.{Bool, true, false}
+use mathlib.Core.Bool.{false}
 use mathlib.Core.List.{List}
-use mathlib.Core.Path.{_≡_, refl, sym, ap, _∙_}
-use Prim.Native.Nat.{ℕ, _+_, _-_, _*_, _^_, _≤_, _<_}
+use mathlib.Core.Path.{_≡_, refl, sym, _∙_}
+use Prim.Native.Nat.{ℕ, _+_, _-_, _^_, _≤_, _<_}
 use native.Mathlib.Nat.{le-refl}
 use native.Mathlib.Omega.{arith}
 use lib.ListN.{length, replicate, length-replicate}
 use Rattle.statistics.specs.declared.Record.{Record}
 use Rattle.map.specs.Places.{ArePlaces}
 use Rattle.header.specs.declared.FujiHeader.{FujiHeader}
-use Rattle.region.specs.Regions.{firstBlock, lastBlock, spanOf, partIn, Accepted, lineCount}
+use Rattle.region.specs.Regions.{firstBlock, lastBlock, spanOf, Accepted, lineCount}
 use Rattle.region.specs.declared.Rect.{Rect}
 use Rattle.region.specs.declared.Span.{Span}
 use Rattle.region.proofs.RegionLaws.{block-order, block-inside, lines-inside, part-fits}
@@ -20,7 +19,7 @@ use Rattle.cameras.specs.Entries.{linesWithEntry, AllNumbered}
 use Rattle.cameras.specs.declared.Camera.{Camera}
 use Rattle.cameras.specs.declared.Entry.{Entry}
 use Rattle.cameras.proofs.EntryLaws.{all-below}
-use Rattle.block.specs.Images.{formOf, answerOf, Pictured}
+use Rattle.block.specs.Images.{answerOf, Pictured}
 use Rattle.block.specs.Records.{clearRecord, clearRecords}
 use Rattle.block.specs.Sharing.{blockCount, entriesAfter, sharedAnswer, lastEntries, PicturedShared}
 use Rattle.block.specs.WindowedLines.{samplesIn, zerosIn}

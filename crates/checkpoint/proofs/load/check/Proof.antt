@@ -1,7 +1,7 @@
 -- `checkpoint::load::check` meets its contract, by its two tests. Assumes nothing.
 use mathlib.Core.Bool.{Bool, true, false}
 use mathlib.Core.List.{List}
-use mathlib.Core.Path.{_≡_, sym, _∙_}
+use mathlib.Core.Path.{_≡_}
 use Prim.Native.Nat.{ℕ}
 use native.Mathlib.Omega.{arith}
 use Rattle.checkpoint.specs.Checkpoints.{beAt, badCheckpoint, otherCheckpoint, checkedOf}

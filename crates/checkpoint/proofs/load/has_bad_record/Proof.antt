@@ -1,7 +1,7 @@
 -- `checkpoint::load::has_bad_record` meets its contract: no record before j is bad. Assumes nothing.
 use mathlib.Core.Bool.{false}
 use mathlib.Core.Path.{_≡_, refl, sym, _∙_}
-use Prim.Native.Nat.{_-_, _*_, _≤_}
+use Prim.Native.Nat.{_-_, _≤_}
 use native.Mathlib.Omega.{arith}
 use Rattle.checkpoint.specs.Checkpoints.{badRecord, anyBelow}
 use Rattle.checkpoint.proofs.ByteLaws.{any-more, any-at, none-done}

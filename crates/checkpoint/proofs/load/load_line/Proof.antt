@@ -1,13 +1,13 @@
 -- `checkpoint::load::load_line` meets its contract: the samples before p are loaded. Assumes nothing.
 use mathlib.Core.List.{List}
-use mathlib.Core.Path.{_≡_, refl, sym, ap, _∙_}
+use mathlib.Core.Path.{_≡_, refl, _∙_}
 use Prim.Native.Nat.{ℕ, _+_, _-_, _*_, _≤_, _<_}
 use native.Mathlib.Nat.{mul-le-mul-right}
 use native.Mathlib.Omega.{arith}
 use lib.ListN.{length, length-set}
 use Rattle.state_head.specs.Heads.{putEach}
 use Rattle.checkpoint.specs.Checkpoints.{storedSample, keptLine, withKept}
-use Rattle.state_head.proofs.PutLaws.{put-more, put-done}
+use Rattle.state_head.proofs.PutLaws.{put-more}
 use Rattle.checkpoint.proofs.load.load_line.Statement.{statement}
 use Rattle.checkpoint.proofs.load.load_line.Tie as tie
 

@@ -1,14 +1,14 @@
 -- `quantiser::Quantiser::new` meets its contract: total is at most 2^bits, so that its log2 is at most 16. Assumes nothing.
 use borrow.Author.Needs.{needs}
 use mathlib.Core.Path.{_≡_}
-use Prim.Native.Nat.{ℕ, _+_, _-_, _*_, _/_, _^_, _≤_, _<_}
+use Prim.Native.Nat.{ℕ, _+_, _-_, _*_, _/_, _^_, _≤_}
 use native.Mathlib.Omega.{arith}
 use lib.Dec.{leb}
 use lib.Pow.{pow-mono}
 use Rattle.numbers.specs.Numbers.{leastFrom}
-use Rattle.quantiser.specs.Quantisers.{largest, totalOf, rawOf, quantiserOf, QuantiserRanges}
+use Rattle.quantiser.specs.Quantisers.{largest, totalOf, rawOf, quantiserOf}
 use Rattle.quantiser.specs.declared.Quantiser.{Quantiser}
-use Rattle.quantiser.proofs.QuantiserLaws.{total-le, total-pos}
+use Rattle.quantiser.proofs.QuantiserLaws.{total-le}
 use Rattle.quantiser.proofs.Quantiser.new.Statement.{statement}
 use Rattle.quantiser.proofs.Quantiser.new.Tie as tie
 

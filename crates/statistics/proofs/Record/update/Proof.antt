@@ -1,10 +1,9 @@
 -- `statistics::Record::update` meets its contract: a shift by 1 halves, and a shift by 0 does nothing. Assumes nothing.
 use borrow.Author.Needs.{needs}
-use mathlib.Core.Path.{_≡_, sym, subst}
-use Prim.Native.Nat.{ℕ, _+_, _/_, _^_, _≤_}
+use mathlib.Core.Path.{sym, subst}
 use native.Mathlib.Omega.{arith}
 use lib.Pow.{shr-le}
-use Rattle.statistics.specs.Statistics.{updated, InRange}
+use Rattle.statistics.specs.Statistics.{InRange}
 use Rattle.statistics.specs.declared.Record.{Record}
 use Rattle.statistics.proofs.RecordLaws.{shifted-update, updated-in-range}
 use Rattle.statistics.proofs.Record.update.Statement.{statement}
