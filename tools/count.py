@@ -82,15 +82,17 @@ def show_branches(out, codes):
 def main():
     words = argparse.ArgumentParser(description="Instructions a code, by callgrind.")
     words.add_argument("--noise", default="25")
-    words.add_argument("--kinds", default=",".join(KINDS))
+    words.add_argument("--kinds")
     words.add_argument("--lines", type=int, default=12)
     words.add_argument("--side", choices=sorted(COUNTED), default="ours")
     words.add_argument("--lines-only", action="store_true", help="leave out what a call takes whatever its lines are")
     words.add_argument("--branches", action="store_true")
     asked = words.parse_args()
     codes = CODES_A_LINE * asked.lines
+    # A lossy set is not measured.
+    kinds = asked.kinds.split(",") if asked.kinds else [k for k in KINDS if asked.side != "measure" or k.endswith("lossless")]
     for noise in asked.noise.split(","):
-        for kind in asked.kinds.split(","):
+        for kind in kinds:
             with tempfile.TemporaryDirectory() as folder:
                 out = os.path.join(folder, "out")
                 count = run(kind, noise, asked.lines, asked.side, out, asked.branches)
