@@ -5,6 +5,19 @@ ghost use Prim.Native.Nat.{_≤_};
 ghost use Rattle.cameras.specs.Entries.{noEntry, noEntries, isHeld, freeOf, freeIn, givenBack, handedBack, AllNumbered};
 use quantiser::Quantiser;
 
+mod entry_words;
+mod taking;
+
+pub use entry_words::camera_in;
+pub use entry_words::entries_in;
+pub use entry_words::words_of;
+pub use taking::after_block;
+pub use taking::base_of;
+pub use taking::is_stopped;
+pub use taking::main_in;
+pub use taking::mended;
+pub use taking::take_lines;
+
 pub enum Camera {
     One,
     Two,

@@ -7,6 +7,18 @@ ghost use Rattle.code.specs.Tight.{isTight, takenOf};
 ghost use Rattle.code.specs.declared.Coded.the-variants.{Read};
 use bits::BitPosition;
 
+mod reasons;
+mod samples;
+
+pub use reasons::BadSpot;
+pub use reasons::Reason;
+pub use reasons::Verdict;
+pub use reasons::verdict_of;
+pub use samples::choice;
+pub use samples::code_near;
+pub use samples::residual_size;
+pub use samples::sample;
+
 // A code that was read: the zeros before its one bit, its value, whether it has no bit that it could do without, whether it is long, how many
 // bits it used, and the position after it.
 pub struct Code {

@@ -18,7 +18,7 @@ use Rattle.quantiser.specs.declared.Quantiser.{Quantiser}
 use Rattle.quantiser.proofs.QuantiserLaws.{log2-le}
 use Rattle.code.specs.Tight.{runThen}
 use Rattle.code.proofs.TightLaws.{bits-short, short-length, long-length, length-codeBits}
-use Rattle.header.proofs.HeaderLaws.{depth}
+use Rattle.stream.proofs.HeaderLaws.{depth}
 use Rattle.short_codes.specs.Sheets.{inSheet, Bounded, stringOf, valueOf, entryOf, countOf, entryAt}
 
 -- what is not refused

@@ -8,7 +8,7 @@ use lib.ListN.{length, getD}
 use Rattle.bits.specs.BitLists.{numberOf}
 use Rattle.quantiser.specs.Quantisers.{mainOf}
 use Rattle.code.specs.Tight.{codeBits}
-use Rattle.header.specs.declared.Refusal.the-variants.{OutsideSheet}
+use Rattle.stream.specs.declared.header.Refusal.the-variants.{OutsideSheet}
 use Rattle.short_codes.specs.declared.Listed.{Listed}
 use Rattle.short_codes.specs.declared.Listed.the-variants.{Count, Refused}
 

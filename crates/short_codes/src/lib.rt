@@ -4,7 +4,7 @@ ghost use mathlib.Core.Path.{_≡_};
 ghost use Prim.Native.Nat.{_+_, _*_, _/_, _%_, _^_, _≤_, _<_};
 ghost use lib.ListN.{length};
 ghost use Rattle.short_codes.specs.Sheets.{inSheet, Bounded, countOf, Filled, listedAnswer, ListAfter};
-use header::Refusal;
+use stream::Refusal;
 
 // How many strings the sheet has, whether or not they were written.
 pub enum Listed {

@@ -7,14 +7,14 @@ use lib.Dec.{ltb}
 use lib.ListN.{length}
 use Rattle.numbers.specs.Numbers.{leastFrom}
 use Rattle.bits.specs.Bits.{be32}
-use Rattle.header.specs.Headers.{parseOf, Ruled}
-use Rattle.header.specs.declared.FujiHeader.{FujiHeader}
-use Rattle.header.specs.declared.Parsed.{Parsed}
-use Rattle.header.specs.declared.Parsed.the-variants as Parsing
-use Rattle.ranges.specs.Ranges.{cut}
-use Rattle.ranges.specs.declared.Ranged.{Ranged}
-use Rattle.ranges.specs.declared.Ranged.the-variants as Range
-use Rattle.header.specs.declared.Refusal.the-variants.{ShortSizes, ShortBases, NoBlock}
+use Rattle.stream.specs.Headers.{parseOf, Ruled}
+use Rattle.stream.specs.declared.header.FujiHeader.{FujiHeader}
+use Rattle.stream.specs.declared.header.Parsed.{Parsed}
+use Rattle.stream.specs.declared.header.Parsed.the-variants as Parsing
+use Rattle.stream.specs.Ranges.{cut}
+use Rattle.stream.specs.declared.ranges.Ranged.{Ranged}
+use Rattle.stream.specs.declared.ranges.Ranged.the-variants as Range
+use Rattle.stream.specs.declared.header.Refusal.the-variants.{ShortSizes, ShortBases, NoBlock}
 
 -- padded to 16
 abbrev pub padded : ℕ → ℕ

@@ -4,10 +4,10 @@ use Rattle.bits.proofs.Values
 use Rattle.bits.proofs.Values.{on}
 use Rattle.bits.proofs.Values.{n16, n64, n8, u16, u64, u8}
 use mathlib.Core.List.{_∷_, []}
-use Rattle.block.proofs.Element
+use Rattle.read_block.proofs.Element
 use Prim.Native.Nat
-use Rattle.block.proofs.Counted
-use Rattle.block.proofs.Counted.Laws
+use Rattle.read_block.proofs.Counted
+use Rattle.read_block.proofs.Counted.Laws
 use borrow.Author.Called
 use borrow.Fn.Any
 use borrow.Fn.Call
@@ -166,7 +166,7 @@ abbrev b5 : Syntax.Body
 b5 = Syntax.assign (Syntax.place 17 []) (Syntax.aggregate ((Syntax.copy (Syntax.place 16 [])) ∷ (Syntax.copy (Syntax.place 6 ((Syntax.field 1) ∷ []))) ∷ []))
 
 abbrev b6 : Syntax.Body
-b6 = Syntax.call "block_states::store_checkpoint" ((Syntax.copy (Syntax.place 1 [])) ∷ (Syntax.copy (Syntax.place 2 [])) ∷ (Syntax.copy (Syntax.place 3 [])) ∷ (Syntax.copy (Syntax.place 13 [])) ∷
+b6 = Syntax.call "saved_state::blocks::store_checkpoint" ((Syntax.copy (Syntax.place 1 [])) ∷ (Syntax.copy (Syntax.place 2 [])) ∷ (Syntax.copy (Syntax.place 3 [])) ∷ (Syntax.copy (Syntax.place 13 [])) ∷
     (Syntax.copy (Syntax.place 15 [])) ∷ (Syntax.copy (Syntax.place 17 [])) ∷ []) (Syntax.place 9 [])
 
 abbrev b7 : Syntax.Body
@@ -495,7 +495,7 @@ module _ (claims· : Claims) where
     module _ (M : Type 1) where
       abbrev pub Closed : Type 2
       Closed = (𝓤 : URA.URA M) (H : Wp.Heap 𝓤) (A : Atoms.Atoms 𝓤) (W : Kit.Given 𝓤 H A) (𝓣 : Wp.Tables 𝓤 H) (known0 : Plain.Known 𝓤 H A W 𝓣 4 ps·0 r·0 (claims· .0) (claims· .1)
-          "block_states::store_checkpoint") (known1 : Plain.Known 𝓤 H A W 𝓣 0 ps·1 r·1 (claims· .2) (claims· .3) "fuji_compressed::reading::totals_words") (known2 : Plain.Known 𝓤 H A W 𝓣 0 ps·2 r·2
+          "saved_state::blocks::store_checkpoint") (known1 : Plain.Known 𝓤 H A W 𝓣 0 ps·1 r·1 (claims· .2) (claims· .3) "fuji_compressed::reading::totals_words") (known2 : Plain.Known 𝓤 H A W 𝓣 0 ps·2 r·2
           (claims· .4) (claims· .5) "fuji_compressed::reading::counted_refusal") → Statement.Triple 𝓤 (Wp.WpFn 𝓤 H (𝓣 .C) (𝓣 .Λ) (Function.fnOf 6 ps r xs m hs body)) (Function.plainOf 𝓤 H A 6 ps r Pre·
           Post·)
 
@@ -583,7 +583,7 @@ module _ (claims· : Claims) where
 
       module _ {M : Type 1} (𝓤 : URA.URA M) (H : Wp.Heap 𝓤) (A : Atoms.Atoms 𝓤) (W : Kit.Given 𝓤 H A) (𝓣 : Wp.Tables 𝓤 H) where
         abbrev Knowns : Type 1
-        Knowns = Plain.Known 𝓤 H A W 𝓣 4 ps·0 r·0 (claims· .0) (claims· .1) "block_states::store_checkpoint" × Plain.Known 𝓤 H A W 𝓣 0 ps·1 r·1 (claims· .2) (claims· .3)
+        Knowns = Plain.Known 𝓤 H A W 𝓣 4 ps·0 r·0 (claims· .0) (claims· .1) "saved_state::blocks::store_checkpoint" × Plain.Known 𝓤 H A W 𝓣 0 ps·1 r·1 (claims· .2) (claims· .3)
             "fuji_compressed::reading::totals_words" × Plain.Known 𝓤 H A W 𝓣 0 ps·2 r·2 (claims· .4) (claims· .5) "fuji_compressed::reading::counted_refusal"
 
       module _ (κs : Lifetimes.Lfts 6) (qs : Lifetimes.Shares 6) where
@@ -806,7 +806,7 @@ module _ (claims· : Claims) where
           d21 = Typed.g-pre 𝓤 H A W 𝓣 E G14 G15 b17 Δ0 (λ Ψ. Ψ) at20 (Lifetime.g-end 𝓤 H A W E G14 6 Path'.refl) d20
 
           d22 : Typed.Typed 𝓤 H A 𝓣 E G13 (Syntax.seq b6 b17) Δ0 at22
-          d22 = Typed.s-seq 𝓤 H A W 𝓣 E G13 G14 b6 b17 Δ0 (Typed.both s12) at20 (Plain.t-call-plain 𝓤 H A W 𝓣 4 ps·0 r·0 (claims· .0) (claims· .1) "block_states::store_checkpoint" (known .0) E (λ pos
+          d22 = Typed.s-seq 𝓤 H A W 𝓣 E G13 G14 b6 b17 Δ0 (Typed.both s12) at20 (Plain.t-call-plain 𝓤 H A W 𝓣 4 ps·0 r·0 (claims· .0) (claims· .1) "saved_state::blocks::store_checkpoint" (known .0) E (λ pos
               β. β) G13 (
                 record { pos = 1; ty = y3; ref = λ x. x },
                 (Num.vAt 2 λ x. x, (Num.vAt 3 λ x. x, (record { pos = 13; ty = y9; ref = λ x. x }, (record { pos = 15; ty = y8; ref = λ x. x }, (record { pos = 17; ty = y7; ref = λ x. x }, tt))))),
@@ -1222,7 +1222,7 @@ module _ (claims· : Claims) where
           }
 
         module _ {M : Type 1} (𝓤 : URA.URA M) (H : Wp.Heap 𝓤) (A : Atoms.Atoms 𝓤) (W : Kit.Given 𝓤 H A) (𝓣 : Wp.Tables 𝓤 H) (known0 : Plain.Known 𝓤 H A W 𝓣 4 ps·0 r·0 (claims· .0) (claims· .1)
-            "block_states::store_checkpoint") (known1 : Plain.Known 𝓤 H A W 𝓣 0 ps·1 r·1 (claims· .2) (claims· .3) "fuji_compressed::reading::totals_words") (known2 : Plain.Known 𝓤 H A W 𝓣 0 ps·2 r·2
+            "saved_state::blocks::store_checkpoint") (known1 : Plain.Known 𝓤 H A W 𝓣 0 ps·1 r·1 (claims· .2) (claims· .3) "fuji_compressed::reading::totals_words") (known2 : Plain.Known 𝓤 H A W 𝓣 0 ps·2 r·2
             (claims· .4) (claims· .5) "fuji_compressed::reading::counted_refusal") where
           pub spec : Statement.Triple 𝓤 (Wp.WpFn 𝓤 H (𝓣 .C) (𝓣 .Λ) (Function.fnOf 6 ps r xs m hs body)) (Function.plainOf 𝓤 H A 6 ps r Pre· Post·)
           spec = Plain.t-fn-plain 𝓤 H A W 𝓣 6 ps r xs m hs body (λ κs qs bs. Φ) (λ κs qs bs bd. typed κs qs 𝓤 H A W 𝓣 (known0, known1, known2) bs bd) Pre· Post· asked

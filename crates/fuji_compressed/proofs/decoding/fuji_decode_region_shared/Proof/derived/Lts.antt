@@ -4,18 +4,18 @@ use Rattle.bits.proofs.Values
 use Rattle.bits.proofs.Values.{on}
 use Rattle.bits.proofs.Values.{n16, n32, n64, n8, u16, u32, u64, u8}
 use mathlib.Core.List.{_∷_, []}
-use Rattle.block.proofs.Element
+use Rattle.read_block.proofs.Element
 use Prim.Native.Nat
-use Rattle.block.proofs.Decoded
-use Rattle.block.proofs.Decoded.Laws
-use Rattle.block.proofs.SharedAnswer
-use Rattle.block.proofs.SharedAnswer.Laws as Laws'
+use Rattle.read_block.proofs.Decoded
+use Rattle.read_block.proofs.Decoded.Laws
+use Rattle.read_block.proofs.SharedAnswer
+use Rattle.read_block.proofs.SharedAnswer.Laws as Laws'
 use Rattle.cameras.proofs.Camera
 use Rattle.cameras.proofs.Camera.Laws as Laws''
 use Rattle.cameras.proofs.Entries
 use Rattle.cameras.proofs.Entries.Laws as Laws'3
-use Rattle.region.proofs.Rect
-use Rattle.region.proofs.Rect.Laws as Laws'4
+use Rattle.image_region.proofs.Rect
+use Rattle.image_region.proofs.Rect.Laws as Laws'4
 use borrow.Author.Called
 use borrow.Fn.Any
 use borrow.Fn.Call
@@ -223,13 +223,13 @@ abbrev b3 : Syntax.Body
 b3 = Syntax.assign (Syntax.place 15 []) (Syntax.rvOpd (Syntax.copy (Syntax.place 22 [])))
 
 abbrev b4 : Syntax.Body
-b4 = Syntax.call "entry_words::camera_in" ((Syntax.copy (Syntax.place 1 [])) ∷ []) (Syntax.place 16 [])
+b4 = Syntax.call "cameras::entry_words::camera_in" ((Syntax.copy (Syntax.place 1 [])) ∷ []) (Syntax.place 16 [])
 
 abbrev b5 : Syntax.Body
 b5 = Syntax.assign (Syntax.place 23 []) (Syntax.addrOf (Syntax.place 15 []))
 
 abbrev b6 : Syntax.Body
-b6 = Syntax.call "entry_words::entries_in" ((Syntax.copy (Syntax.place 23 [])) ∷ []) (Syntax.place 17 [])
+b6 = Syntax.call "cameras::entry_words::entries_in" ((Syntax.copy (Syntax.place 23 [])) ∷ []) (Syntax.place 17 [])
 
 abbrev b7 : Syntax.Body
 b7 = Syntax.assign (Syntax.place 24 []) (Syntax.addrOf (Syntax.place 9 ((Syntax.field 0) ∷ (Syntax.deref u16) ∷ [])))
@@ -250,17 +250,17 @@ abbrev b12 : Syntax.Body
 b12 = Syntax.assign (Syntax.place 29 []) (Syntax.aggregate ((Syntax.copy (Syntax.place 28 [])) ∷ (Syntax.copy (Syntax.place 11 ((Syntax.field 1) ∷ []))) ∷ []))
 
 abbrev b13 : Syntax.Body
-b13 = Syntax.call "block::sharing::decode_region_shared" ((Syntax.copy (Syntax.place 16 [])) ∷ (Syntax.copy (Syntax.place 17 [])) ∷ (Syntax.copy (Syntax.place 3 [])) ∷ (Syntax.copy (Syntax.place 13
+b13 = Syntax.call "read_block::sharing::decode_region_shared" ((Syntax.copy (Syntax.place 16 [])) ∷ (Syntax.copy (Syntax.place 17 [])) ∷ (Syntax.copy (Syntax.place 3 [])) ∷ (Syntax.copy (Syntax.place 13
     [])) ∷ (Syntax.copy (Syntax.place 14 [])) ∷ (Syntax.copy (Syntax.place 25 [])) ∷ (Syntax.copy (Syntax.place 27 [])) ∷ (Syntax.copy (Syntax.place 29 [])) ∷ []) (Syntax.place 18 [])
 
 abbrev b14 : Syntax.Body
-b14 = Syntax.call "entry_words::words_of" ((Syntax.copy (Syntax.place 18 ((Syntax.field 1) ∷ []))) ∷ []) (Syntax.place 19 [])
+b14 = Syntax.call "cameras::entry_words::words_of" ((Syntax.copy (Syntax.place 18 ((Syntax.field 1) ∷ []))) ∷ []) (Syntax.place 19 [])
 
 abbrev b15 : Syntax.Body
 b15 = Syntax.assign (Syntax.place 20 []) (Syntax.rvOpd (Syntax.copy (Syntax.place 18 ((Syntax.field 0) ∷ []))))
 
 abbrev b16 : Syntax.Body
-b16 = Syntax.call "block::answer_words" ((Syntax.copy (Syntax.place 20 [])) ∷ []) (Syntax.place 21 [])
+b16 = Syntax.call "read_block::answer_words" ((Syntax.copy (Syntax.place 20 [])) ∷ []) (Syntax.place 21 [])
 
 abbrev b17 : Syntax.Body
 b17 = Syntax.assign (Syntax.place 2 ((Syntax.deref y0) ∷ [])) (Syntax.rvOpd (Syntax.copy (Syntax.place 19 [])))
@@ -843,9 +843,9 @@ module _ (claims· : Claims) where
     module _ (M : Type 1) where
       abbrev pub Closed : Type 2
       Closed = (𝓤 : URA.URA M) (H : Wp.Heap 𝓤) (A : Atoms.Atoms 𝓤) (W : Kit.Given 𝓤 H A) (𝓣 : Wp.Tables 𝓤 H) (known0 : Plain.Known 𝓤 H A W 𝓣 0 ps·0 r·0 (claims· .0) (claims· .1)
-          "entry_words::camera_in") (known1 : Plain.Known 𝓤 H A W 𝓣 1 ps·1 r·1 (claims· .2) (claims· .3) "entry_words::entries_in") (known2 : Plain.Known 𝓤 H A W 𝓣 4 ps·2 r·2 (claims· .4) (claims· .5)
-          "block::sharing::decode_region_shared") (known3 : Plain.Known 𝓤 H A W 𝓣 0 ps·3 r·3 (claims· .6) (claims· .7) "entry_words::words_of") (known4 : Plain.Known 𝓤 H A W 𝓣 0 ps·4 r·4 (claims· .8)
-          (claims· .9) "block::answer_words") → Statement.Triple 𝓤 (Wp.WpFn 𝓤 H (𝓣 .C) (𝓣 .Λ) (Function.fnOf 7 ps r xs m hs body)) (Function.plainOf 𝓤 H A 7 ps r Pre· Post·)
+          "cameras::entry_words::camera_in") (known1 : Plain.Known 𝓤 H A W 𝓣 1 ps·1 r·1 (claims· .2) (claims· .3) "cameras::entry_words::entries_in") (known2 : Plain.Known 𝓤 H A W 𝓣 4 ps·2 r·2 (claims· .4) (claims· .5)
+          "read_block::sharing::decode_region_shared") (known3 : Plain.Known 𝓤 H A W 𝓣 0 ps·3 r·3 (claims· .6) (claims· .7) "cameras::entry_words::words_of") (known4 : Plain.Known 𝓤 H A W 𝓣 0 ps·4 r·4 (claims· .8)
+          (claims· .9) "read_block::answer_words") → Statement.Triple 𝓤 (Wp.WpFn 𝓤 H (𝓣 .C) (𝓣 .Λ) (Function.fnOf 7 ps r xs m hs body)) (Function.plainOf 𝓤 H A 7 ps r Pre· Post·)
 
     module _ where
       abbrev at0 : Typed.TF T1 O0
@@ -994,9 +994,9 @@ module _ (claims· : Claims) where
 
       module _ {M : Type 1} (𝓤 : URA.URA M) (H : Wp.Heap 𝓤) (A : Atoms.Atoms 𝓤) (W : Kit.Given 𝓤 H A) (𝓣 : Wp.Tables 𝓤 H) where
         abbrev Knowns : Type 1
-        Knowns = Plain.Known 𝓤 H A W 𝓣 0 ps·0 r·0 (claims· .0) (claims· .1) "entry_words::camera_in" × Plain.Known 𝓤 H A W 𝓣 1 ps·1 r·1 (claims· .2) (claims· .3) "entry_words::entries_in" ×
-            Plain.Known 𝓤 H A W 𝓣 4 ps·2 r·2 (claims· .4) (claims· .5) "block::sharing::decode_region_shared" × Plain.Known 𝓤 H A W 𝓣 0 ps·3 r·3 (claims· .6) (claims· .7) "entry_words::words_of" ×
-            Plain.Known 𝓤 H A W 𝓣 0 ps·4 r·4 (claims· .8) (claims· .9) "block::answer_words"
+        Knowns = Plain.Known 𝓤 H A W 𝓣 0 ps·0 r·0 (claims· .0) (claims· .1) "cameras::entry_words::camera_in" × Plain.Known 𝓤 H A W 𝓣 1 ps·1 r·1 (claims· .2) (claims· .3) "cameras::entry_words::entries_in" ×
+            Plain.Known 𝓤 H A W 𝓣 4 ps·2 r·2 (claims· .4) (claims· .5) "read_block::sharing::decode_region_shared" × Plain.Known 𝓤 H A W 𝓣 0 ps·3 r·3 (claims· .6) (claims· .7) "cameras::entry_words::words_of" ×
+            Plain.Known 𝓤 H A W 𝓣 0 ps·4 r·4 (claims· .8) (claims· .9) "read_block::answer_words"
 
       module _ (κs : Lifetimes.Lfts 7) (qs : Lifetimes.Shares 7) where
         abbrev k0 : Row.Life
@@ -1202,7 +1202,7 @@ module _ (claims· : Claims) where
               Decoded.the-type) y13 Path'.refl)) d10
 
           d12 : Typed.Typed 𝓤 H A 𝓣 E (on T47 l7) (Syntax.seq b16 b23) Δ0 at12
-          d12 = Typed.s-seq 𝓤 H A W 𝓣 E (on T47 l7) (on T48 l7) b16 b23 Δ0 (Typed.both s46) at11 (Plain.t-call-plain 𝓤 H A W 𝓣 0 ps·4 r·4 (claims· .8) (claims· .9) "block::answer_words" (known .4) E
+          d12 = Typed.s-seq 𝓤 H A W 𝓣 E (on T47 l7) (on T48 l7) b16 b23 Δ0 (Typed.both s46) at11 (Plain.t-call-plain 𝓤 H A W 𝓣 0 ps·4 r·4 (claims· .8) (claims· .9) "read_block::answer_words" (known .4) E
               (λ pos β. β) (on T47 l7) (record { pos = 20; st = []; d = 0; at = λ x. x }, tt) 21 [] (Call.sub-id 𝓤 H A W ((on T47 l7) .slots))
               ((Values.enum-copied 𝓤 H A W Decoded.the-type Laws.the-laws Laws.the-copy, Path'.refl), tt) (Reads'.room-gone 𝓤 H A y1) tt Path'.refl) d11
 
@@ -1224,7 +1224,7 @@ module _ (claims· : Claims) where
 
           d15 : Typed.Typed 𝓤 H A 𝓣 E (on T43 l7) b26 Δ0 at15
           d15 = Typed.s-seq 𝓤 H A W 𝓣 E (on T43 l7) (on T45 l7) b14 (Syntax.seq b15 (Syntax.seq b16 b23)) Δ0 (Typed.both s43) at14 (Plain.t-call-plain 𝓤 H A W 𝓣 0 ps·3 r·3 (claims· .6) (claims· .7)
-              "entry_words::words_of" (known .3) E (λ pos β. β) (on T43 l7) (record { pos = 18; st = (Syntax.field 1) ∷ []; d = 32; at = λ x. SharedAnswer.struct .as-values x .1 .0 }, tt) 19 []
+              "cameras::entry_words::words_of" (known .3) E (λ pos β. β) (on T43 l7) (record { pos = 18; st = (Syntax.field 1) ∷ []; d = 32; at = λ x. SharedAnswer.struct .as-values x .1 .0 }, tt) 19 []
               (Call.sub-id 𝓤 H A W ((on T43 l7) .slots)) (
                 (
                   Yields'.yields-acc 𝓤 H A W (Rows'.whole (Declared'.row SharedAnswer.the-type)) (Declared'.row Entries.the-type) 32 (λ x. SharedAnswer.struct .as-values x .1 .0) Path'.refl (Copies.cStruct
@@ -1289,7 +1289,7 @@ module _ (claims· : Claims) where
           d30 = Typed.g-pre 𝓤 H A W 𝓣 E G29 G30 b26 Δ0 (Typed.pass T29 T30 s28) at29 (Scalar.g-room 𝓤 H A W E G29 13 y12 (Local.room-whole 𝓤 H A W (Declared'.row Rect.the-type) y12 Path'.refl)) d29
 
           d31 : Typed.Typed 𝓤 H A 𝓣 E G28 (Syntax.seq b13 b26) Δ0 at31
-          d31 = Typed.s-seq 𝓤 H A W 𝓣 E G28 G29 b13 b26 Δ0 (Typed.both s27) at30 (Plain.t-call-plain 𝓤 H A W 𝓣 4 ps·2 r·2 (claims· .4) (claims· .5) "block::sharing::decode_region_shared" (known .2) E
+          d31 = Typed.s-seq 𝓤 H A W 𝓣 E G28 G29 b13 b26 Δ0 (Typed.both s27) at30 (Plain.t-call-plain 𝓤 H A W 𝓣 4 ps·2 r·2 (claims· .4) (claims· .5) "read_block::sharing::decode_region_shared" (known .2) E
               (λ pos β. β) G28 (
                 record { pos = 16; st = []; d = 0; at = λ x. x },
                 (
@@ -1400,7 +1400,7 @@ module _ (claims· : Claims) where
               A (Rows'.sref (Array'.Array n32 128) y17 7))) d45
 
           d47 : Typed.Typed 𝓤 H A 𝓣 E (on T12 l5) (Syntax.seq b6 b33) Δ0 at47
-          d47 = Typed.s-seq 𝓤 H A W 𝓣 E (on T12 l5) (on T13 l5) b6 b33 Δ0 (Typed.both s11) at46 (Plain.t-call-plain 𝓤 H A W 𝓣 1 ps·1 r·1 (claims· .2) (claims· .3) "entry_words::entries_in" (known .1)
+          d47 = Typed.s-seq 𝓤 H A W 𝓣 E (on T12 l5) (on T13 l5) b6 b33 Δ0 (Typed.both s11) at46 (Plain.t-call-plain 𝓤 H A W 𝓣 1 ps·1 r·1 (claims· .2) (claims· .3) "cameras::entry_words::entries_in" (known .1)
               E (λ pos β. β) (on T12 l5) (record { pos = 23; ty = y17; ref = λ x. x }, tt) 17 (7 ∷ []) (Call.sub-id 𝓤 H A W ((on T12 l5) .slots))
               (ShrRef.spares-sref 𝓤 H A W (Array'.Array n32 128) y17 7, Reads'.reads-sref 𝓤 H A W (Array'.Array n32 128) y17 7, Path'.refl, tt) (Reads'.room-gone 𝓤 H A y22) (tt, tt) Path'.refl) d46
 
@@ -1414,7 +1414,7 @@ module _ (claims· : Claims) where
 
           d50 : Typed.Typed 𝓤 H A 𝓣 E (on T9 l7) b36 Δ0 at50
           d50 = Typed.s-seq 𝓤 H A W 𝓣 E (on T9 l7) (on T10 l7) b4 (Syntax.seq b5 (Syntax.seq b6 b33)) Δ0 (Typed.both s8) at48 (Plain.t-call-plain 𝓤 H A W 𝓣 0 ps·0 r·0 (claims· .0) (claims· .1)
-              "entry_words::camera_in" (known .0) E (λ pos β. β) (on T9 l7) (Num.vAt 1 λ x. x, tt) 16 [] (Call.sub-id 𝓤 H A W ((on T9 l7) .slots))
+              "cameras::entry_words::camera_in" (known .0) E (λ pos β. β) (on T9 l7) (Num.vAt 1 λ x. x, tt) 16 [] (Call.sub-id 𝓤 H A W ((on T9 l7) .slots))
               ((Scalar.reads-sc 𝓤 H A W (Row.sInt Syntax.w32), Path'.refl), tt) (Reads'.room-gone 𝓤 H A y4) tt Path'.refl) d49
 
           d51 : Typed.Typed 𝓤 H A 𝓣 E (on T8 l7) b36 Δ0 at51
@@ -1934,8 +1934,8 @@ module _ (claims· : Claims) where
           }
 
         module _ {M : Type 1} (𝓤 : URA.URA M) (H : Wp.Heap 𝓤) (A : Atoms.Atoms 𝓤) (W : Kit.Given 𝓤 H A) (𝓣 : Wp.Tables 𝓤 H) (known0 : Plain.Known 𝓤 H A W 𝓣 0 ps·0 r·0 (claims· .0) (claims· .1)
-            "entry_words::camera_in") (known1 : Plain.Known 𝓤 H A W 𝓣 1 ps·1 r·1 (claims· .2) (claims· .3) "entry_words::entries_in") (known2 : Plain.Known 𝓤 H A W 𝓣 4 ps·2 r·2 (claims· .4) (claims· .5)
-            "block::sharing::decode_region_shared") (known3 : Plain.Known 𝓤 H A W 𝓣 0 ps·3 r·3 (claims· .6) (claims· .7) "entry_words::words_of") (known4 : Plain.Known 𝓤 H A W 𝓣 0 ps·4 r·4 (claims· .8)
-            (claims· .9) "block::answer_words") where
+            "cameras::entry_words::camera_in") (known1 : Plain.Known 𝓤 H A W 𝓣 1 ps·1 r·1 (claims· .2) (claims· .3) "cameras::entry_words::entries_in") (known2 : Plain.Known 𝓤 H A W 𝓣 4 ps·2 r·2 (claims· .4) (claims· .5)
+            "read_block::sharing::decode_region_shared") (known3 : Plain.Known 𝓤 H A W 𝓣 0 ps·3 r·3 (claims· .6) (claims· .7) "cameras::entry_words::words_of") (known4 : Plain.Known 𝓤 H A W 𝓣 0 ps·4 r·4 (claims· .8)
+            (claims· .9) "read_block::answer_words") where
           pub spec : Statement.Triple 𝓤 (Wp.WpFn 𝓤 H (𝓣 .C) (𝓣 .Λ) (Function.fnOf 7 ps r xs m hs body)) (Function.plainOf 𝓤 H A 7 ps r Pre· Post·)
           spec = Plain.t-fn-plain 𝓤 H A W 𝓣 7 ps r xs m hs body (λ κs qs bs. Φ) (λ κs qs bs bd. typed κs qs 𝓤 H A W 𝓣 (known0, known1, known2, known3, known4) bs bd) Pre· Post· asked

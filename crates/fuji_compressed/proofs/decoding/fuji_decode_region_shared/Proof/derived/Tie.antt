@@ -1,25 +1,25 @@
 -- Written by tools/lend.py from Rattle's derivation of the twin of `fuji_compressed`; not edited by hand. Assumes nothing.
-use Rattle.block.proofs.answer_words.Met
-use Rattle.block.proofs.answer_words.Reads
-use Rattle.block.proofs.answer_words.Symbol
-use Rattle.entry_words.proofs.camera_in.Met as Met'
-use Rattle.entry_words.proofs.camera_in.Reads as Reads'
-use Rattle.entry_words.proofs.camera_in.Symbol as Symbol'
-use Rattle.entry_words.proofs.entries_in.Met as Met''
-use Rattle.entry_words.proofs.entries_in.Reads as Reads''
-use Rattle.entry_words.proofs.entries_in.Symbol as Symbol''
-use Rattle.entry_words.proofs.words_of.Met as Met'3
-use Rattle.entry_words.proofs.words_of.Reads as Reads'3
-use Rattle.entry_words.proofs.words_of.Symbol as Symbol'3
+use Rattle.read_block.proofs.answer_words.Met
+use Rattle.read_block.proofs.answer_words.Reads
+use Rattle.read_block.proofs.answer_words.Symbol
+use Rattle.cameras.proofs.entry_words.camera_in.Met as Met'
+use Rattle.cameras.proofs.entry_words.camera_in.Reads as Reads'
+use Rattle.cameras.proofs.entry_words.camera_in.Symbol as Symbol'
+use Rattle.cameras.proofs.entry_words.entries_in.Met as Met''
+use Rattle.cameras.proofs.entry_words.entries_in.Reads as Reads''
+use Rattle.cameras.proofs.entry_words.entries_in.Symbol as Symbol''
+use Rattle.cameras.proofs.entry_words.words_of.Met as Met'3
+use Rattle.cameras.proofs.entry_words.words_of.Reads as Reads'3
+use Rattle.cameras.proofs.entry_words.words_of.Symbol as Symbol'3
 use Rattle.fuji_compressed.proofs.decoding.fuji_decode_region_shared.Code
 use Rattle.fuji_compressed.proofs.decoding.fuji_decode_region_shared.Key
 use Rattle.fuji_compressed.proofs.decoding.derived.fuji_decode_region_shared.Kinds
 use Rattle.fuji_compressed.proofs.decoding.fuji_decode_region_shared.Proof.derived.Lts
 use Rattle.fuji_compressed.proofs.decoding.derived.fuji_decode_region_shared.Reads as Reads'4
 use Rattle.fuji_compressed.proofs.decoding.fuji_decode_region_shared.Statement
-use Rattle.block.proofs.sharing.decode_region_shared.Met as Met'4
-use Rattle.block.proofs.sharing.derived.decode_region_shared.Reads as Reads'5
-use Rattle.block.proofs.sharing.decode_region_shared.Symbol as Symbol'4
+use Rattle.read_block.proofs.sharing.decode_region_shared.Met as Met'4
+use Rattle.read_block.proofs.sharing.derived.decode_region_shared.Reads as Reads'5
+use Rattle.read_block.proofs.sharing.decode_region_shared.Symbol as Symbol'4
 use borrow.Fn.Run
 use borrow.Fn.Written
 use contract.Running
@@ -65,8 +65,8 @@ module _ {M : Type 1} where
   close = λ closed 𝓤 H 𝓜 𝓖 𝓡. Written.close 7 Kinds.ps Kinds.r Reads'4.Ghost Reads'4.requires Reads'4.ensures Reads'4.pre-read Reads'4.Pinned Reads'4.Owned Reads'4.post-read record
       { M = M; 𝓤 = 𝓤; H = H; 𝓜 = 𝓜; 𝓖 = 𝓖; 𝓡 = 𝓡 } Code.env Key.name Code.function (Code.unfolded 𝓤 H 𝓜 𝓡) (λ κs a g. tt) (λ κs. Reads'4.owns κs record { M = M; 𝓤 = 𝓤; H = H; 𝓜 = 𝓜; 𝓖 = 𝓖; 𝓡 = 𝓡 })
       (Reads'4.passes record { M = M; 𝓤 = 𝓤; H = H; 𝓜 = 𝓜; 𝓖 = 𝓖; 𝓡 = 𝓡 }) λ g. closed 𝓤 H (𝓖 .A) (Running.givenOf 𝓤 H 𝓜 𝓖) (Run.Over 𝓤 H 𝓜 𝓖 𝓡 Code.env) (Reads'.known record
-      { M = M; 𝓤 = 𝓤; H = H; 𝓜 = 𝓜; 𝓖 = 𝓖; 𝓡 = 𝓡 } Code.env Symbol'.name Symbol'.routine Code.calls-entry-words·camera-in (Met'.met 𝓤 H 𝓜 𝓖 𝓡)) (Reads''.known record
-      { M = M; 𝓤 = 𝓤; H = H; 𝓜 = 𝓜; 𝓖 = 𝓖; 𝓡 = 𝓡 } Code.env Symbol''.name Symbol''.routine Code.calls-entry-words·entries-in (Met''.met 𝓤 H 𝓜 𝓖 𝓡)) (Reads'5.known record
-      { M = M; 𝓤 = 𝓤; H = H; 𝓜 = 𝓜; 𝓖 = 𝓖; 𝓡 = 𝓡 } Code.env Symbol'4.name Symbol'4.routine Code.calls-block·sharing·decode-region-shared (Met'4.met 𝓤 H 𝓜 𝓖 𝓡)) (Reads'3.known record
-      { M = M; 𝓤 = 𝓤; H = H; 𝓜 = 𝓜; 𝓖 = 𝓖; 𝓡 = 𝓡 } Code.env Symbol'3.name Symbol'3.routine Code.calls-entry-words·words-of (Met'3.met 𝓤 H 𝓜 𝓖 𝓡)) (Reads.known record
-      { M = M; 𝓤 = 𝓤; H = H; 𝓜 = 𝓜; 𝓖 = 𝓖; 𝓡 = 𝓡 } Code.env Symbol.name Symbol.routine Code.calls-block·answer-words (Met.met 𝓤 H 𝓜 𝓖 𝓡))
+      { M = M; 𝓤 = 𝓤; H = H; 𝓜 = 𝓜; 𝓖 = 𝓖; 𝓡 = 𝓡 } Code.env Symbol'.name Symbol'.routine Code.calls-cameras·entry-words·camera-in (Met'.met 𝓤 H 𝓜 𝓖 𝓡)) (Reads''.known record
+      { M = M; 𝓤 = 𝓤; H = H; 𝓜 = 𝓜; 𝓖 = 𝓖; 𝓡 = 𝓡 } Code.env Symbol''.name Symbol''.routine Code.calls-cameras·entry-words·entries-in (Met''.met 𝓤 H 𝓜 𝓖 𝓡)) (Reads'5.known record
+      { M = M; 𝓤 = 𝓤; H = H; 𝓜 = 𝓜; 𝓖 = 𝓖; 𝓡 = 𝓡 } Code.env Symbol'4.name Symbol'4.routine Code.calls-read-block·sharing·decode-region-shared (Met'4.met 𝓤 H 𝓜 𝓖 𝓡)) (Reads'3.known record
+      { M = M; 𝓤 = 𝓤; H = H; 𝓜 = 𝓜; 𝓖 = 𝓖; 𝓡 = 𝓡 } Code.env Symbol'3.name Symbol'3.routine Code.calls-cameras·entry-words·words-of (Met'3.met 𝓤 H 𝓜 𝓖 𝓡)) (Reads.known record
+      { M = M; 𝓤 = 𝓤; H = H; 𝓜 = 𝓜; 𝓖 = 𝓖; 𝓡 = 𝓡 } Code.env Symbol.name Symbol.routine Code.calls-read-block·answer-words (Met.met 𝓤 H 𝓜 𝓖 𝓡))

@@ -4,12 +4,12 @@ use Rattle.bits.proofs.Values
 use Rattle.bits.proofs.Values.{on}
 use Rattle.bits.proofs.Values.{n16, n64, n8, u16, u64, u8}
 use mathlib.Core.List.{_∷_, []}
-use Rattle.block.proofs.Element
+use Rattle.read_block.proofs.Element
 use Prim.Native.Nat
-use Rattle.block.proofs.Decoded
-use Rattle.block.proofs.Decoded.Laws
-use Rattle.region.proofs.Rect
-use Rattle.region.proofs.Rect.Laws as Laws'
+use Rattle.read_block.proofs.Decoded
+use Rattle.read_block.proofs.Decoded.Laws
+use Rattle.image_region.proofs.Rect
+use Rattle.image_region.proofs.Rect.Laws as Laws'
 use borrow.Author.Called
 use borrow.Fn.Any
 use borrow.Fn.Call
@@ -170,11 +170,11 @@ abbrev b7 : Syntax.Body
 b7 = Syntax.assign (Syntax.place 20 []) (Syntax.aggregate ((Syntax.copy (Syntax.place 19 [])) ∷ (Syntax.copy (Syntax.place 9 ((Syntax.field 1) ∷ []))) ∷ []))
 
 abbrev b8 : Syntax.Body
-b8 = Syntax.call "block::decoding::decode_region_windowed" ((Syntax.copy (Syntax.place 1 [])) ∷ (Syntax.copy (Syntax.place 11 [])) ∷ (Syntax.copy (Syntax.place 12 [])) ∷ (Syntax.copy (Syntax.place 16
+b8 = Syntax.call "read_block::decoding::decode_region_windowed" ((Syntax.copy (Syntax.place 1 [])) ∷ (Syntax.copy (Syntax.place 11 [])) ∷ (Syntax.copy (Syntax.place 12 [])) ∷ (Syntax.copy (Syntax.place 16
     [])) ∷ (Syntax.copy (Syntax.place 18 [])) ∷ (Syntax.copy (Syntax.place 20 [])) ∷ []) (Syntax.place 13 [])
 
 abbrev b9 : Syntax.Body
-b9 = Syntax.call "block::answer_words" ((Syntax.copy (Syntax.place 13 [])) ∷ []) (Syntax.place 14 [])
+b9 = Syntax.call "read_block::answer_words" ((Syntax.copy (Syntax.place 13 [])) ∷ []) (Syntax.place 14 [])
 
 abbrev b10 : Syntax.Body
 b10 = Syntax.assign (Syntax.place 10 ((Syntax.deref y0) ∷ [])) (Syntax.rvOpd (Syntax.copy (Syntax.place 14 [])))
@@ -553,7 +553,7 @@ module _ (claims· : Claims) where
     module _ (M : Type 1) where
       abbrev pub Closed : Type 2
       Closed = (𝓤 : URA.URA M) (H : Wp.Heap 𝓤) (A : Atoms.Atoms 𝓤) (W : Kit.Given 𝓤 H A) (𝓣 : Wp.Tables 𝓤 H) (known0 : Plain.Known 𝓤 H A W 𝓣 4 ps·0 r·0 (claims· .0) (claims· .1)
-          "block::decoding::decode_region_windowed") (known1 : Plain.Known 𝓤 H A W 𝓣 0 ps·1 r·1 (claims· .2) (claims· .3) "block::answer_words") → Statement.Triple 𝓤 (Wp.WpFn 𝓤 H (𝓣 .C) (𝓣 .Λ)
+          "read_block::decoding::decode_region_windowed") (known1 : Plain.Known 𝓤 H A W 𝓣 0 ps·1 r·1 (claims· .2) (claims· .3) "read_block::answer_words") → Statement.Triple 𝓤 (Wp.WpFn 𝓤 H (𝓣 .C) (𝓣 .Λ)
           (Function.fnOf 6 ps r xs m hs body)) (Function.plainOf 𝓤 H A 6 ps r Pre· Post·)
 
     module _ where
@@ -652,7 +652,7 @@ module _ (claims· : Claims) where
 
       module _ {M : Type 1} (𝓤 : URA.URA M) (H : Wp.Heap 𝓤) (A : Atoms.Atoms 𝓤) (W : Kit.Given 𝓤 H A) (𝓣 : Wp.Tables 𝓤 H) where
         abbrev Knowns : Type 1
-        Knowns = Plain.Known 𝓤 H A W 𝓣 4 ps·0 r·0 (claims· .0) (claims· .1) "block::decoding::decode_region_windowed" × Plain.Known 𝓤 H A W 𝓣 0 ps·1 r·1 (claims· .2) (claims· .3) "block::answer_words"
+        Knowns = Plain.Known 𝓤 H A W 𝓣 4 ps·0 r·0 (claims· .0) (claims· .1) "read_block::decoding::decode_region_windowed" × Plain.Known 𝓤 H A W 𝓣 0 ps·1 r·1 (claims· .2) (claims· .3) "read_block::answer_words"
 
       module _ (κs : Lifetimes.Lfts 6) (qs : Lifetimes.Shares 6) where
         abbrev k0 : Row.Life
@@ -837,7 +837,7 @@ module _ (claims· : Claims) where
 
           d9 : Typed.Typed 𝓤 H A 𝓣 E (on T29 l5) b15 Δ0 at9
           d9 = Typed.s-seq 𝓤 H A W 𝓣 E (on T29 l5) (on T31 l5) b9 (Syntax.seq b10 (Syntax.seq b11 b12)) Δ0 (Typed.both s29) at8 (Plain.t-call-plain 𝓤 H A W 𝓣 0 ps·1 r·1 (claims· .2) (claims· .3)
-              "block::answer_words" (known .1) E (λ pos β. β) (on T29 l5) (record { pos = 13; st = []; d = 0; at = λ x. x }, tt) 14 [] (Call.sub-id 𝓤 H A W ((on T29 l5) .slots))
+              "read_block::answer_words" (known .1) E (λ pos β. β) (on T29 l5) (record { pos = 13; st = []; d = 0; at = λ x. x }, tt) 14 [] (Call.sub-id 𝓤 H A W ((on T29 l5) .slots))
               ((Values.enum-copied 𝓤 H A W Decoded.the-type Laws.the-laws Laws.the-copy, Path'.refl), tt) (Reads.room-gone 𝓤 H A y0) tt Path'.refl) d8
 
           d10 : Typed.Typed 𝓤 H A 𝓣 E G29 b15 Δ0 at9
@@ -885,7 +885,7 @@ module _ (claims· : Claims) where
           d22 = Typed.g-pre 𝓤 H A W 𝓣 E G17 G18 b15 Δ0 (Typed.pass T17 T18 s16) at21 (Scalar.g-room 𝓤 H A W E G17 11 y9 (Local.room-whole 𝓤 H A W (Declared'.row Rect.the-type) y9 Path'.refl)) d21
 
           d23 : Typed.Typed 𝓤 H A 𝓣 E G16 (Syntax.seq b8 b15) Δ0 at23
-          d23 = Typed.s-seq 𝓤 H A W 𝓣 E G16 G17 b8 b15 Δ0 (Typed.both s15) at22 (Plain.t-call-plain 𝓤 H A W 𝓣 4 ps·0 r·0 (claims· .0) (claims· .1) "block::decoding::decode_region_windowed" (known .0)
+          d23 = Typed.s-seq 𝓤 H A W 𝓣 E G16 G17 b8 b15 Δ0 (Typed.both s15) at22 (Plain.t-call-plain 𝓤 H A W 𝓣 4 ps·0 r·0 (claims· .0) (claims· .1) "read_block::decoding::decode_region_windowed" (known .0)
               E (λ pos β. β) G16 (
                 record { pos = 1; ty = y3; ref = λ x. x },
                 (
@@ -1335,6 +1335,6 @@ module _ (claims· : Claims) where
           }
 
         module _ {M : Type 1} (𝓤 : URA.URA M) (H : Wp.Heap 𝓤) (A : Atoms.Atoms 𝓤) (W : Kit.Given 𝓤 H A) (𝓣 : Wp.Tables 𝓤 H) (known0 : Plain.Known 𝓤 H A W 𝓣 4 ps·0 r·0 (claims· .0) (claims· .1)
-            "block::decoding::decode_region_windowed") (known1 : Plain.Known 𝓤 H A W 𝓣 0 ps·1 r·1 (claims· .2) (claims· .3) "block::answer_words") where
+            "read_block::decoding::decode_region_windowed") (known1 : Plain.Known 𝓤 H A W 𝓣 0 ps·1 r·1 (claims· .2) (claims· .3) "read_block::answer_words") where
           pub spec : Statement.Triple 𝓤 (Wp.WpFn 𝓤 H (𝓣 .C) (𝓣 .Λ) (Function.fnOf 6 ps r xs m hs body)) (Function.plainOf 𝓤 H A 6 ps r Pre· Post·)
           spec = Plain.t-fn-plain 𝓤 H A W 𝓣 6 ps r xs m hs body (λ κs qs bs. Φ) (λ κs qs bs bd. typed κs qs 𝓤 H A W 𝓣 (known0, known1) bs bd) Pre· Post· asked
