@@ -15,13 +15,15 @@ use Rattle.stream.specs.declared.header.Refusal.{Refusal}
 use Rattle.stream.specs.declared.header.Refusal.the-variants.{NoBlock, WrongSize, Lossy, ShortScratch}
 use Rattle.stream.specs.Streams.{openOf}
 use Rattle.stream.proofs.StreamLaws.{opened}
-use Rattle.image_region.specs.Regions.{checkedOf, Accepted}
+use Rattle.image_region.specs.Regions.{checkedOf}
+use Rattle.image_region.specs.Inside.{Accepted}
 use Rattle.image_region.specs.declared.Rect.{Rect}
 use Rattle.image_region.specs.declared.Checked.{Checked}
 use Rattle.image_region.specs.declared.Checked.the-variants as Check
 use Rattle.image_region.proofs.CheckLaws.{accepted}
 use Rattle.admission.specs.Beginnings.{samplesNeeded, recordsNeeded, isShortScratch, withScratch, begun, withRegion, withStream, regionBegins}
-use Rattle.admission.specs.Beginnings.{wholeOf, isWhole, withPicture, imageBegins, withOpened, blockBegins, ScratchFits}
+use Rattle.admission.specs.Beginnings.{wholeOf, isWhole, withPicture, imageBegins, withOpened, blockBegins}
+use Rattle.admission.specs.Inside.{ScratchFits}
 use Rattle.admission.specs.declared.Beginning.the-variants.{Refused, Reading}
 
 -- ---- scratch is long enough

@@ -15,7 +15,8 @@ use Rattle.stream.specs.declared.header.Refusal.the-variants.{Lossy, WrongCount
 use Rattle.stream.proofs.HeaderLaws.{ruled}
 use Rattle.admission.specs.Beginnings.{withScratch}
 use Rattle.admission.proofs.CallLaws.{clash, scratch-fits}
-use Rattle.admission.specs.Writings.{withCount, withParsed, writingBegins, withLossy, lossyBegins, SetFits, FitsOn}
+use Rattle.admission.specs.Writings.{withCount, withParsed, writingBegins, withLossy, lossyBegins}
+use Rattle.admission.specs.Inside.{SetFits, FitsOn}
 
 module _ (d : List ℕ) (n a b : ℕ) (h : FujiHeader) where
   count-goes : (g : FujiHeader) → parseOf d ≡ Parsing.Header g → (t : Bool) → eqb n (setSize (widthOf (g .xtrans)) (g .lines)) ≡ t

@@ -1,4 +1,4 @@
--- Refusal 11: the samples of a set that are above the largest, and are not ignored. Assumes nothing.
+-- Promises. Refusal 11: the samples of a set that are above the largest, and are not ignored.
 use mathlib.Core.Bool.{Bool, cond, not, _&&_, _||_}
 use mathlib.Core.List.{List, [], _∷_}
 use mathlib.Core.Option.{Option, none, some}

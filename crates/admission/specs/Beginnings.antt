@@ -1,8 +1,8 @@
--- How a call begins: a refusal, nothing to do, or a header to go by. A call that is refused touches no buffer. Refusals come in the order of their
+-- Promises. How a call begins: a refusal, nothing to do, or a header to go by. A call that is refused touches no buffer. Refusals come in the order of their
 -- numbers. Assumes nothing.
 use mathlib.Core.Bool.{Bool, true, false, cond, not, _&&_, _||_}
 use mathlib.Core.List.{List}
-use Prim.Native.Nat.{ℕ, _+_, _*_, _≤_}
+use Prim.Native.Nat.{ℕ, _+_, _*_}
 use lib.Dec.{ltb, eqb}
 use Rattle.image_map.specs.Places.{widthOf}
 use Rattle.stream.specs.declared.header.FujiHeader.{FujiHeader}
@@ -103,7 +103,3 @@ abbrev pub tightBegins : List ℕ → ℕ → ℕ → ℕ → Parsed
 tightBegins d b samples records = blockBegins true d b samples records
 
 -- ---- what holds where scratch is long enough
-
-pub record ScratchFits (h : FujiHeader) (samples records : ℕ) : Type 0 where
-  pub for-lines : samplesNeeded (h .xtrans) ≤ samples
-  pub for-records : recordsNeeded ≤ records

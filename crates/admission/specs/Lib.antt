@@ -6,3 +6,4 @@ pub mod Resumings
 pub mod Writings
 -- The definitions of refusal 11.
 pub mod Above
+pub mod Inside

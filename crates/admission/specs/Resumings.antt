@@ -1,4 +1,4 @@
--- How going on in block b begins, to fill a region. Assumes nothing.
+-- Promises. How going on in block b begins, to fill a region.
 use mathlib.Core.Bool.{cond}
 use mathlib.Core.List.{List}
 use Prim.Native.Nat.{ℕ}

@@ -1,18 +1,17 @@
--- How the writer's calls begin: a refusal, or a header to go by. A call that is refused touches no buffer. Refusals come in the order of their
+-- Promises. How the writer's calls begin: a refusal, or a header to go by. A call that is refused touches no buffer. Refusals come in the order of their
 -- numbers, but for the lossy writer's: there 16 stands in the place of 8, and 17 follows it. Assumes nothing.
 use mathlib.Core.Bool.{cond}
 use mathlib.Core.List.{List}
-use mathlib.Core.Path.{_≡_}
 use Prim.Native.Nat.{ℕ}
 use lib.Dec.{eqb}
 use Rattle.colour_lines.specs.Sets.{setSize}
 use Rattle.image_map.specs.Places.{widthOf}
-use Rattle.stream.specs.Headers.{parseOf, Ruled}
+use Rattle.stream.specs.Headers.{parseOf}
 use Rattle.stream.specs.declared.header.FujiHeader.{FujiHeader}
 use Rattle.stream.specs.declared.header.Parsed.{Parsed}
 use Rattle.stream.specs.declared.header.Parsed.the-variants as Parsing
 use Rattle.stream.specs.declared.header.Refusal.the-variants.{Lossy, WrongCount, Lossless, WrongBases}
-use Rattle.admission.specs.Beginnings.{withScratch, ScratchFits}
+use Rattle.admission.specs.Beginnings.{withScratch}
 
 -- ---- the writer, for a set of so many samples
 
@@ -51,12 +50,3 @@ unfoldable pub lossyBegins : List ℕ → ℕ → ℕ → ℕ → ℕ → Parsed
 lossyBegins d bases count samples records = withLossy (parseOf d) bases count samples records
 
 -- ---- what holds where a set is written
-
-pub record SetFits (h : FujiHeader) (count samples records : ℕ) : Type 0 where
-  pub is-ruled : Ruled h
-  pub size : count ≡ setSize (widthOf (h .xtrans)) (h .lines)
-  pub fits : ScratchFits h samples records
-
--- of a beginning, with the writer or the lossy writer
-abbrev pub FitsOn : Parsed → ℕ → ℕ → ℕ → Type 0
-FitsOn begins count samples records = (h : FujiHeader) → begins ≡ Parsing.Header h → SetFits h count samples records

@@ -1,4 +1,5 @@
-// How a call begins: judged from the stream and from the sizes of what is lent, before a buffer is touched.
+// Document 01, Refusals in checking order: how each call begins, judged from the stream and the sizes of what is lent before any buffer is
+// touched.
 ghost use mathlib.Core.Path.{_≡_};
 ghost use Prim.Native.Nat.{_+_, _*_, _^_, _≤_, _<_};
 ghost use Rattle.image_region.specs.Regions.{checkedOf};

@@ -9,7 +9,8 @@ use Rattle.numbers.proofs.LeastLaws.{least-same}
 use Rattle.stream.specs.declared.header.Refusal.{Refusal}
 use Rattle.stream.specs.declared.header.Refusal.the-variants.{BadRecord, HeldTwice, NotHeld}
 use Rattle.base_plan.specs.Records.{startOf, goodRecords, holders}
-use Rattle.base_plan.specs.Counts.{isAmiss, sumBefore, Marked, amissIn}
+use Rattle.base_plan.specs.Counts.{isAmiss}
+use Rattle.base_plan.specs.Inside.{sumBefore, Marked, amissIn}
 use Rattle.base_plan.specs.Plans.{firstAmiss, planAnswer, BasesAfter}
 use Rattle.base_plan.specs.Readings.{Written}
 use Rattle.base_plan.specs.declared.Planned.{Planned}

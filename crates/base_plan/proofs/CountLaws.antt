@@ -14,7 +14,7 @@ use Rattle.numbers.proofs.FillLaws.{next-below}
 use Rattle.numbers.proofs.OrderLaws.{split}
 use Rattle.base_plan.specs.Records.{firstLine, lastLine, isGood, startOf, holds, goodRecords, holders}
 use Rattle.base_plan.proofs.RecordLaws.{goodFrom, good-here}
-use Rattle.base_plan.specs.Counts.{IsRead, begunBefore, endedBefore, sumBefore, Marked, Balanced}
+use Rattle.base_plan.specs.Inside.{IsRead, begunBefore, endedBefore, sumBefore, Marked, Balanced}
 
 -- ---- sums
 

@@ -6,3 +6,4 @@ pub mod Records
 pub mod Readings
 -- The definitions of counts of records.
 pub mod Counts
+pub mod Inside

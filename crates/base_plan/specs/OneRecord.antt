@@ -1,4 +1,4 @@
--- What a plan means, said of its records alone: the statements that proofs/OneRecordLaws.antt and proofs/NamedLaws.antt prove of every plan. Assumes nothing.
+-- Promises. What a plan means, said of its records alone: the statements that proofs/OneRecordLaws.antt and proofs/NamedLaws.antt prove of every plan.
 use mathlib.Core.Bool.{true, false}
 use mathlib.Core.List.{List}
 use mathlib.Core.Path.{_≡_}

@@ -1,4 +1,4 @@
--- What a plan gives: refusals 18, 19 and 20 in this order, or a base for each line; and what a call leaves. Assumes nothing.
+-- Promises. What a plan gives: refusals 18, 19 and 20 in this order, or a base for each line; and what a call leaves.
 use mathlib.Core.Bool.{Bool, true, false, cond}
 use mathlib.Core.List.{List}
 use mathlib.Core.Path.{_≡_}

@@ -1,4 +1,4 @@
--- What the functions that read and write records hand back to each other. A reader of the rules needs none of it. Assumes nothing.
+-- Inside. What the functions that read and write records hand back to each other. A reader of the rules needs none of it.
 use mathlib.Core.Bool.{cond, _&&_}
 use mathlib.Core.List.{List}
 use mathlib.Core.Path.{_≡_}

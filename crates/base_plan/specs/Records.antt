@@ -1,4 +1,4 @@
--- The records of a plan: text, one record a line, three decimal fields parted by tabs: first line, last line, base. A record is known by the place at
+-- Rules. The records of a plan: text, one record a line, three decimal fields parted by tabs: first line, last line, base. A record is known by the place at
 -- which it starts; past the end of the text there is no digit and no mark. Assumes nothing.
 use mathlib.Core.Bool.{Bool, cond, not, _&&_}
 use mathlib.Core.List.{List}

@@ -2,7 +2,8 @@
 ghost use mathlib.Core.Path.{_≡_};
 ghost use Prim.Native.Nat.{_+_, _^_, _≤_, _<_};
 ghost use lib.ListN.{getD, set};
-ghost use Rattle.base_plan.specs.Counts.{IsRead, Marked, Balanced, isAmiss, amissIn};
+ghost use Rattle.base_plan.specs.Inside.{IsRead, Marked, Balanced, amissIn};
+ghost use Rattle.base_plan.specs.Counts.{isAmiss};
 use crate::records::Row;
 
 // How many good records there are from the start on, and where they end.

@@ -1,5 +1,5 @@
-// A plan of bases: text that says for lines of six rows which base they get, one record a line, three decimal fields parted by tabs. An accepted plan
-// yields the base bytes of a lossy stream.
+// Item 7: a plan of bases is text that gives each line of six rows its base, one record a line, three tab-separated decimal fields. An
+// accepted plan yields the base bytes of a lossy stream.
 ghost use mathlib.Core.Path.{_≡_};
 ghost use Prim.Native.Nat.{_≤_};
 ghost use lib.ListN.{length};

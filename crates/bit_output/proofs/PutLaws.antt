@@ -9,7 +9,8 @@ use native.Mathlib.Omega.{arith}
 use lib.ListN.{length, getD, set, take, drop, replicate, length-append, length-drop}
 use lib.Pow.{pow-pos, pow-add, shr-shr, shr-lt, field, mod-mod-pow, split as digits}
 use lib.Seq.{drop-at, take-at, take-append-add, drop-append-add, drop-drop, length-take-le}
-use Rattle.bits.specs.BitLists.{binary, bitsOf, numberOf, packed, bytesFor}
+use Rattle.bits.specs.BitLists.{binary, bitsOf, numberOf, packed}
+use Rattle.bits.specs.Inside.{bytesFor}
 use Rattle.bits.proofs.ListLaws.{length-binary, length-bits}
 use Rattle.bits.proofs.PackLaws.{number-nil, digit, number-binary, bits-packed, length-packed}
 use Rattle.bit_output.specs.Output.{putBits}

@@ -10,7 +10,8 @@ use lib.ListN.{length, getD, set, take, drop, replicate, length-append, take-app
 use lib.Pow.{pow-pos, pow-add, pow-mono, shr-lt, high, low}
 use lib.Seq.{take-at, drop-at, take-add, getD-drop, length-take-le, sets-eq}
 use Rattle.bits.specs.Bits.{bitsAt, be32}
-use Rattle.bits.specs.BitLists.{binary, bitsOf, packed, bytesFor}
+use Rattle.bits.specs.BitLists.{binary, bitsOf, packed}
+use Rattle.bits.specs.Inside.{bytesFor}
 use Rattle.bits.proofs.BitLaws.{bitsAt-lt, bitsAt-split, be32-bits}
 use Rattle.bits.proofs.ListLaws.{length-binary, length-bits, binary-zero, bits-binary, bits-next}
 use Rattle.bits.proofs.PackLaws.{number-binary, bits-packed, packed-bits, bytes-packed}

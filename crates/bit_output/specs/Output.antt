@@ -1,9 +1,10 @@
--- What the output holds after bits were put into it. Assumes nothing.
+-- Inside. What the output holds after bits were put into it.
 use mathlib.Core.Bool.{Bool}
 use mathlib.Core.List.{List, [], _∷_, _++_}
 use Prim.Native.Nat.{ℕ, _+_}
 use lib.ListN.{length, take, drop}
-use Rattle.bits.specs.BitLists.{bitsOf, packed, bytesFor}
+use Rattle.bits.specs.BitLists.{bitsOf, packed}
+use Rattle.bits.specs.Inside.{bytesFor}
 
 -- the output after these bits were put into it from bit `at` on: what stood before them stays, the rest of their last byte is 0, and the bytes after
 -- that one are what they were

@@ -1,9 +1,10 @@
-// Bits that are stored into bytes, most significant first: the other side of `bits`.
+// Document 01, Tight block: bits stored into bytes, most significant first. The writer's counterpart of `bits`.
 ghost use mathlib.Core.Path.{_≡_};
 ghost use mathlib.Core.List.{_++_};
 ghost use Prim.Native.Nat.{_+_, _-_, _*_, _/_, _%_, _^_, _≤_, _<_};
 ghost use lib.ListN.{length, take, drop};
-ghost use Rattle.bits.specs.BitLists.{binary, packed, bytesFor};
+ghost use Rattle.bits.specs.BitLists.{binary, packed};
+ghost use Rattle.bits.specs.Inside.{bytesFor};
 ghost use Rattle.bit_output.specs.Output.{putBits};
 use bits::BitPosition;
 use numbers::u8_to_u32;
@@ -62,7 +63,8 @@ fn merged(old: u64, used: u32, n: u32, value: u64) -> u64
     kept + new + low
 }
 
-// A number as the four bytes from i on. Four stores in a row: LLVM makes one byte swap and one store of them.
+// A number as the four bytes from i on.
+// INLINING: four stores in a row, of which LLVM makes one byte swap and one store.
 fn store32(out: &mut [u8], i: usize, w: u64)
     requires { ⌜ (i + 4 ≤ length (now out)) × (w < 2 ^ 32) ⌝ }
     ensures { λ _. ⌜ now (out .exit) ≡ take i (now (out .entry)) ++ packed 4 (binary 32 w) ++ drop (i + 4) (now (out .entry)) ⌝ }

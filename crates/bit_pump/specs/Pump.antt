@@ -1,4 +1,4 @@
--- What a pump gives, and where it stands afterwards. A pump is the bytes of a block and a bit position. Assumes nothing.
+-- Promises. What a pump gives, and where it stands afterwards. A pump is the bytes of a block and a bit position.
 use Prim.Native.Nat.{ℕ, min}
 use denote.Ref.{now}
 use Rattle.bits.specs.Bits.{bitsAt, wordAt}

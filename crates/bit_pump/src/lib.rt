@@ -1,8 +1,9 @@
-// The pump over a block's bytes: the reader that the original calls `BitPumpMsb`.
+// Document 01, Bit reader: the pump over a block's bytes, which the original calls `BitPumpMsb`.
 ghost use mathlib.Core.Path.{_≡_};
 ghost use Prim.Native.Nat.{_+_, _/_, _^_, _<_, min};
 ghost use lib.ListN.{length};
-ghost use Rattle.bits.specs.Bits.{zeroRun, afterRun};
+ghost use Rattle.bits.specs.Bits.{zeroRun};
+ghost use Rattle.bits.specs.Inside.{afterRun};
 ghost use Rattle.bits.specs.Positions.{ahead, aligned};
 ghost use Rattle.bit_pump.specs.Pump.{nextBits, nextWord, movedTo};
 use bits::BitPosition;

@@ -1,4 +1,4 @@
--- The entries as 128 words, for C: of each entry the depth, then base, weight, total, raw and limit of its quantiser, then 1 or 0 for each camera that
+-- Promises. The entries as 128 words, for C: of each entry the depth, then base, weight, total, raw and limit of its quantiser, then 1 or 0 for each camera that
 -- holds it or does not. Assumes nothing.
 use mathlib.Core.Bool.{cond, not}
 use mathlib.Core.List.{List, [], _∷_}

@@ -1,5 +1,5 @@
-// The 16 quantiser entries that two cameras share, one for each pair of depth and main base in use: who holds one, and giving back. They go by value
-// and come back.
+// Item 11: the 16 quantiser entries that two cameras share, one for each pair of depth and main base in use. Each call takes them and
+// returns them.
 ghost use mathlib.Core.Path.{_≡_};
 ghost use Prim.Native.Nat.{_≤_};
 ghost use Rattle.cameras.specs.Entries.{noEntry, noEntries, isHeld, freeOf, freeIn, givenBack, handedBack, AllNumbered};

@@ -10,7 +10,8 @@ use Rattle.numbers.specs.Numbers.{distance, minus}
 use Rattle.numbers.specs.declared.Signed.{Signed}
 use Rattle.numbers.proofs.OrderLaws.{split}
 use Rattle.code.specs.Samples.{residualOf, wrap, sampleOf}
-use Rattle.code.specs.Wanted.{codeOfResidual, codeFor}
+use Rattle.code.specs.Wanted.{codeOfResidual}
+use Rattle.code.specs.Inside.{codeFor}
 use Rattle.code.specs.Nearest.{nearest, codeWithin, codeNear}
 use Rattle.code.proofs.SampleLaws.{residual-even, residual-odd, one-to-one}
 

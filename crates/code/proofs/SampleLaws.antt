@@ -10,7 +10,8 @@ use borrow.Author.Tests.{lt-ltb, le-ltb, le-leb, lt-leb, eq-eqb, ne-eqb}
 use Rattle.numbers.specs.declared.Signed.{Signed}
 use Rattle.numbers.proofs.OrderLaws.{split, parity, cond-le}
 use Rattle.code.specs.Samples.{residualOf, wrap, sampleOf}
-use Rattle.code.specs.Wanted.{stepsUp, residualUp, residualFor, codeOfResidual, codeFor}
+use Rattle.code.specs.Inside.{stepsUp, residualUp, residualFor, codeFor}
+use Rattle.code.specs.Wanted.{codeOfResidual}
 
 -- the residual of an even code, and of an odd one
 pub residual-even : (c d : ℕ) → c ≡ 2 * d → residualOf c ≡ record { negative = false; size = d }

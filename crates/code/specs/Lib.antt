@@ -7,3 +7,5 @@ pub mod Wanted
 pub mod Nearest
 -- The definitions of a bad code.
 pub mod Reasons
+pub mod UsedBits
+pub mod Inside

@@ -1,4 +1,4 @@
--- The other way, for any quantiser: the residual whose step comes nearest to a wanted sample, and its code. Assumes nothing.
+-- Rules. The other way, for any quantiser: the residual whose step comes nearest to a wanted sample, and its code.
 use mathlib.Core.Bool.{Bool, cond, not, xor}
 use Prim.Native.Nat.{ℕ, _+_, _-_, _*_, _/_}
 use lib.Dec.{ltb}

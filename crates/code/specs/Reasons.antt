@@ -1,4 +1,4 @@
--- Why a code that was read is bad. A reason is one of three: it is 2^bits or more (Large); it is long where the short form fits (Escape); it has more
+-- Rules. Why a code that was read is bad. A reason is one of three: it is 2^bits or more (Large); it is long where the short form fits (Escape); it has more
 -- zeros than the limit (Zeros). Assumes nothing.
 use mathlib.Core.Bool.{cond, _&&_}
 use mathlib.Core.Option.{Option, none, some}
@@ -9,8 +9,6 @@ use Rattle.code.specs.declared.Coded.{Coded}
 use Rattle.code.specs.declared.Coded.the-variants.{Read, Truncated}
 use Rattle.code.specs.declared.reasons.Reason.{Reason}
 use Rattle.code.specs.declared.reasons.Reason.the-variants.{Large, Escape, Zeros}
-use Rattle.code.specs.declared.reasons.Verdict.{Verdict}
-use Rattle.code.specs.declared.reasons.Verdict.the-variants.{Good, Bad}
 
 -- the reason of a code that was read; none if it is tight. Where two apply, the one that stands first above is given. A code is long when its zeros
 -- reach the limit, and the short form fits if ⌊code/2^k⌋ is below the limit
@@ -24,8 +22,3 @@ reasonOf M k limit c =
 abbrev pub codedReason : ℕ → ℕ → ℕ → Coded → Option Reason
 codedReason M k limit (Read c) = reasonOf M k limit c
 codedReason M k limit Truncated = none
-
--- as the program says it
-abbrev pub verdictOf : Option Reason → Verdict
-verdictOf none = Good
-verdictOf (some w) = Bad w

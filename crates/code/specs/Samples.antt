@@ -1,7 +1,6 @@
--- From a code to a sample: the quantiser that is used, the residual, the sample. Assumes nothing.
+-- Rules. From a code to a sample: the quantiser that is used, the residual, the sample.
 use mathlib.Core.Bool.{Bool, true, false, cond, xor, _&&_}
-use mathlib.Core.Path.{_≡_}
-use Prim.Native.Nat.{ℕ, _+_, _-_, _*_, _/_, _%_, _^_, min}
+use Prim.Native.Nat.{ℕ, _+_, _-_, _*_, _/_, _%_, min}
 use lib.Dec.{leb, ltb, eqb}
 use Rattle.numbers.specs.declared.Signed.{Signed}
 
@@ -35,8 +34,3 @@ sampleOf M q total negative prediction code =
     let d = r .size * (2 * q + 1) in
     let span = total * (2 * q + 1) in
     cond (xor negative (r .negative)) (wrap M q span prediction d) (wrap M q span (prediction + d) 0)
-
--- what the machine gives for p − d, modulo 2^32, or for p + d
-abbrev pub Moved : Bool → ℕ → ℕ → ℕ → Type 0
-Moved true p d r = (r + d) % 2 ^ 32 ≡ p
-Moved false p d r = r ≡ p + d

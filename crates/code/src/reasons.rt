@@ -1,7 +1,8 @@
 // Bad codes: why a code that was read is not tight, and where it stands.
 ghost use mathlib.Core.Path.{_≡_};
 ghost use Prim.Native.Nat.{_≤_};
-ghost use Rattle.code.specs.Reasons.{reasonOf, verdictOf};
+ghost use Rattle.code.specs.Reasons.{reasonOf};
+ghost use Rattle.code.specs.Inside.{verdictOf};
 use crate::Code;
 use bits::BitPosition;
 

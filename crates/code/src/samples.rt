@@ -3,7 +3,8 @@ ghost use mathlib.Core.Path.{_≡_};
 ghost use mathlib.Core.Bool.{cond};
 ghost use Prim.Native.Nat.{_+_, _*_, _/_, _^_, _≤_, _<_};
 ghost use lib.Dec.{ltb};
-ghost use Rattle.code.specs.Samples.{choiceOf, residualOf, wrap, Moved, sampleOf};
+ghost use Rattle.code.specs.Samples.{choiceOf, residualOf, wrap, sampleOf};
+ghost use Rattle.code.specs.Inside.{Moved};
 ghost use Rattle.code.specs.Wanted.{codeOfResidual};
 ghost use Rattle.code.specs.Nearest.{codeNear};
 

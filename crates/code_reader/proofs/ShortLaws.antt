@@ -16,7 +16,8 @@ use Rattle.bits.specs.declared.ZeroRun.the-variants.{One}
 use Rattle.bits.proofs.BitLaws.{bitsAt-lt, bitsAt-top, word-bits}
 use Rattle.bits.proofs.RunLaws.{leading-few, window-run, run-then}
 use Rattle.code.specs.Codes.{shortCode, codeAt}
-use Rattle.code.specs.Tight.{isTight, takenOf, shortAt}
+use Rattle.code.specs.Tight.{isTight}
+use Rattle.code.specs.Inside.{takenOf, shortAt}
 use Rattle.code.specs.declared.Coded.the-variants.{Read}
 use Rattle.code.specs.declared.Short.the-variants as Brief
 use Rattle.code.specs.declared.Taken.the-variants as Take

@@ -1,10 +1,12 @@
-// One code of a block, read by a pump.
+// Document 01, Code: one code of a block, read by a pump. It is apart from `code` because tools/lend.py derives a function that passes
+// the pump on only at a crate's root.
 ghost use mathlib.Core.Path.{_≡_};
 ghost use Prim.Native.Nat.{_^_, _≤_, _<_};
 ghost use lib.ListN.{length};
 ghost use Rattle.bits.specs.Bits.{wordAt};
-ghost use Rattle.code.specs.Codes.{codeAt, Bounds, Small};
-ghost use Rattle.code.specs.Tight.{takenOf, shortAt};
+ghost use Rattle.code.specs.Codes.{codeAt};
+ghost use Rattle.code.specs.Inside.{Bounds, Small};
+ghost use Rattle.code.specs.Inside.{takenOf, shortAt};
 use bit_pump::BitPumpMsb;
 use bits::BitPosition;
 use bits::ZeroRun;
@@ -62,7 +64,8 @@ fn next_word(s: &[u8], at: BitPosition) -> u64
     BitPumpMsb::at_bit(s, at).peek_word()
 }
 
-// What a pass takes of the code at `at`, whatever it is. It is called from several places, and so LLVM does not take it into the loop.
+// What a pass takes of the code at `at`, whatever it is.
+// INLINING: it is called from several places, so that LLVM does not inline it into the loop.
 pub fn take_any(
     s: &[u8],
     at: BitPosition,

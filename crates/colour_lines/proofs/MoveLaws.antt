@@ -9,7 +9,8 @@ use native.Mathlib.Omega.{arith}
 use lib.Arith.{digits-div, digits-mod}
 use lib.ListN.{length, getD, take, drop, length-set, length-drop, List·getD-append}
 use lib.Seq.{paste, take-paste, length-take-le, getD-take, getD-drop, getD-append-add, getD-set-same, getD-set-other}
-use Rattle.colour_lines.specs.ColourLines.{leftGuard, guarded, moved, turned, shifted}
+use Rattle.colour_lines.specs.ColourLines.{leftGuard, guarded, moved, turned}
+use Rattle.colour_lines.specs.Inside.{shifted}
 use Rattle.colour_lines.proofs.LineLaws.{after-paste, apart, length-moved}
 
 -- two places: their lines, and where they are in them

@@ -1,6 +1,5 @@
--- The 18 colour lines of a block, one after the other: each has a guard, W samples and a guard. Red lines are 0 to 4, green 5 to 12, blue 13
+-- Rules. The 18 colour lines of a block, one after the other: each has a guard, W samples and a guard. Red lines are 0 to 4, green 5 to 12, blue 13
 -- to 17; the first two of each colour are the last two of the line before. Assumes nothing.
-use mathlib.Core.Bool.{Bool, cond}
 use mathlib.Core.List.{List}
 use Prim.Native.Nat.{ℕ, _+_, _-_, _*_}
 use lib.ListN.{getD, set, drop, replicate}
@@ -30,15 +29,3 @@ turned W lines =
     moved W 17 14 (moved W 16 13 (moved W 12 6 (moved W 11 5 (moved W 4 1 (moved W 3 0 lines)))))
 
 -- ---- windows: of each colour only the last three lines are kept, one after the other
-
--- before a new line l comes, the two before it go one further up
-unfoldable pub shifted : ℕ → ℕ → List ℕ → List ℕ
-shifted W l lines = moved W l (l - 1) (moved W (l - 1) (l - 2) lines)
-
-unfoldable pub roomed : Bool → ℕ → ℕ → List ℕ → List ℕ
-roomed windowed W l lines = cond windowed (shifted W l lines) lines
-
--- before a pass over two lines there is room for them in their windows, and their guards are set
-unfoldable pub entered : Bool → ℕ → ℕ → ℕ → List ℕ → List ℕ
-entered windowed W first second lines =
-    guarded W second (guarded W first (roomed windowed W second (roomed windowed W first lines)))

@@ -1,4 +1,4 @@
--- Sets of colour lines: for each line of six rows the samples of red 2 to 4, green 7 to 12 and blue 15 to 17, W each, without guards. Assumes nothing.
+-- Rules. Sets of colour lines: for each line of six rows the samples of red 2 to 4, green 7 to 12 and blue 15 to 17, W each, without guards.
 use mathlib.Core.Bool.{cond}
 use Prim.Native.Nat.{ℕ, _+_, _-_, _*_, _/_, _%_}
 use lib.Dec.{ltb}

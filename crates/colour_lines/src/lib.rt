@@ -1,9 +1,10 @@
-// The colour lines of a block between passes: guards, and the turn to the next line.
+// Document 01, Pass and line: the 18 colour lines of a block between passes: guards, the turn to the next line, the layout of a set.
 ghost use mathlib.Core.Path.{_≡_};
 ghost use Prim.Native.Nat.{_+_, _-_, _*_, _≤_, _<_};
 ghost use lib.ListN.{length, replicate};
 ghost use mathlib.Core.Bool.{true, cond};
-ghost use Rattle.colour_lines.specs.ColourLines.{guarded, moved, turned, roomed, entered};
+ghost use Rattle.colour_lines.specs.ColourLines.{guarded, moved, turned};
+ghost use Rattle.colour_lines.specs.Inside.{roomed, entered};
 
 // Where a colour line begins, with its left guard.
 fn start_of(w: usize, line: usize) -> usize

@@ -1,4 +1,4 @@
--- What calls for a sheet of short codes and for a plan of bases leave, as a caller in C gets it. Assumes nothing.
+-- Promises. What calls for a sheet of short codes and for a plan of bases leave, as a caller in C gets it.
 use mathlib.Core.List.{List, [], _∷_}
 use mathlib.Core.Path.{_≡_}
 use Prim.Native.Nat.{ℕ}

@@ -1,4 +1,4 @@
--- A header, a width and a range as words, all 0 where it is refused, and a refusal's words, all 0 where there is none. Assumes nothing.
+-- Promises. A header, a width and a range as words, all 0 where it is refused, and a refusal's words, all 0 where there is none.
 use mathlib.Core.List.{List, [], _∷_}
 use Prim.Native.Nat.{ℕ}
 use lib.ListN.{replicate}

@@ -10,7 +10,8 @@ use lib.Arith.{digits-div, digits-mod}
 use lib.Dec.{leb, ltb}
 use lib.ListN.{length, getD}
 use Rattle.numbers.proofs.OrderLaws.{split}
-use Rattle.image_map.specs.Places.{sampleIndex, inRows, emittedSample, Changed, RowEmitted, Fits}
+use Rattle.image_map.specs.Places.{sampleIndex, Changed}
+use Rattle.image_map.specs.Inside.{inRows, emittedSample, RowEmitted, Fits}
 use Rattle.image_map.specs.Rows.{RowsPut}
 use Rattle.image_map.specs.declared.Part.{Part}
 use Rattle.image_map.proofs.RowLaws.{inside, outside}

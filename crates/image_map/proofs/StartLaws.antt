@@ -7,7 +7,8 @@ use native.Mathlib.Nat.{mod-lt}
 use native.Mathlib.Omega.{arith}
 use lib.Dec.{lit<}
 use lib.ListN.{length, getD, set}
-use Rattle.image_map.specs.Places.{placeIn, widthOf, sampleIndex, RowEmitted}
+use Rattle.image_map.specs.Places.{placeIn, widthOf, sampleIndex}
+use Rattle.image_map.specs.Inside.{RowEmitted}
 use Rattle.image_map.specs.Rows.{InLines, sampleBy}
 use Rattle.image_map.proofs.PlaceLaws.{line-inside}
 use Rattle.image_map.proofs.RowLaws.{Stored, stored-more}

@@ -11,7 +11,8 @@ use lib.ListN.{length, getD, set, length-set}
 use lib.Seq.{getD-set-same, getD-set-other}
 use Rattle.numbers.proofs.BoolLaws.{both}
 use Rattle.numbers.proofs.OrderLaws.{split}
-use Rattle.image_map.specs.Places.{colourLine, sampleIndex, pictureRow, inRows, emittedSample, Changed, Fits}
+use Rattle.image_map.specs.Places.{colourLine, sampleIndex, Changed}
+use Rattle.image_map.specs.Inside.{pictureRow, inRows, emittedSample, Fits}
 use Rattle.image_map.specs.Windows.{blockColumn, cellOf, colourOf, windowSample, ColumnEmitted, CellEmitted, CellsEmitted, ColourEmitted, PassEmitted}
 use Rattle.image_map.specs.declared.Part.{Part}
 use Rattle.image_map.proofs.ChangeLaws.{changed-as, changed-none}

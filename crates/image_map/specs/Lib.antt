@@ -7,3 +7,4 @@ pub mod Starts
 pub mod Zeros
 -- The definitions of lines that go to the image.
 pub mod Windows
+pub mod Inside

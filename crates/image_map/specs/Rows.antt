@@ -1,9 +1,10 @@
--- A sample by where the colour lines begin, and rows of the image. Assumes nothing.
+-- Inside. A sample by where the colour lines begin, and rows of the image.
 use mathlib.Core.Bool.{Bool}
 use mathlib.Core.List.{List}
 use Prim.Native.Nat.{ℕ, _+_, _*_, _%_, _≤_, _<_}
 use lib.ListN.{getD}
-use Rattle.image_map.specs.Places.{placeIn, inRows, Changed}
+use Rattle.image_map.specs.Places.{placeIn, Changed}
+use Rattle.image_map.specs.Inside.{inRows}
 use Rattle.image_map.specs.declared.Part.{Part}
 
 -- where the colour line of each column of the tile begins lies in the colour lines, and so does all of its line

@@ -1,4 +1,4 @@
--- Where the colour lines of a row begin, and three of its samples in the image. Assumes nothing.
+-- Inside. Where the colour lines of a row begin, and three of its samples in the image.
 use mathlib.Core.List.{List}
 use mathlib.Core.Path.{_≡_}
 use Prim.Native.Nat.{ℕ, _+_, _*_, _<_}

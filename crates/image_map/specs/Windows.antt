@@ -1,10 +1,11 @@
--- A colour line that goes to the image by itself, from where it stands in the windows. Assumes nothing.
+-- Inside. A colour line that goes to the image by itself, from where it stands in the windows.
 use mathlib.Core.Bool.{Bool, cond, _&&_, _||_}
 use mathlib.Core.List.{List}
 use Prim.Native.Nat.{ℕ, _+_, _-_, _*_, _%_}
 use lib.Dec.{leb, ltb, eqb}
 use lib.ListN.{getD}
-use Rattle.image_map.specs.Places.{placeIn, colourLine, pictureRow, imageColumn, inRows, Changed}
+use Rattle.image_map.specs.Places.{placeIn, colourLine, Changed}
+use Rattle.image_map.specs.Inside.{pictureRow, imageColumn, inRows}
 use Rattle.image_map.specs.declared.Part.{Part}
 
 -- the column of its block that entry i shows

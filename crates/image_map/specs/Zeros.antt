@@ -1,8 +1,9 @@
--- Rows that become 0. Assumes nothing.
+-- Inside. Rows that become 0.
 use mathlib.Core.Bool.{Bool, _&&_}
 use mathlib.Core.List.{List}
 use Prim.Native.Nat.{ℕ, _+_, _*_}
-use Rattle.image_map.specs.Places.{inRows, Changed}
+use Rattle.image_map.specs.Inside.{inRows}
+use Rattle.image_map.specs.Places.{Changed}
 use Rattle.image_map.specs.declared.Part.{Part}
 
 -- the rows of line n are 0, where that is wanted

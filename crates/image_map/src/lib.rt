@@ -1,8 +1,9 @@
-// Where the samples of an image stand in the colour lines, and the part of an image that a block fills.
+// Document 01, Map: where a sample of the image is in the colour lines, and how a line's rows reach the image.
 ghost use mathlib.Core.Path.{_≡_};
 ghost use Prim.Native.Nat.{_+_, _*_, _%_, _≤_, _<_};
 ghost use lib.ListN.{length};
-ghost use Rattle.image_map.specs.Places.{widthOf, ArePlaces, placeIn, colourLine};
+ghost use Rattle.image_map.specs.Places.{widthOf, placeIn, colourLine};
+ghost use Rattle.image_map.specs.Inside.{ArePlaces};
 ghost use Rattle.image_map.specs.Rows.{InLines, sampleBy};
 use places::XTRANS_PLACES;
 

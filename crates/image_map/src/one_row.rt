@@ -2,7 +2,8 @@
 ghost use mathlib.Core.Path.{_≡_};
 ghost use Prim.Native.Nat.{_+_, _-_, _*_, _%_, _≤_, _<_};
 ghost use lib.ListN.{length, set};
-ghost use Rattle.image_map.specs.Places.{widthOf, ArePlaces, colourLine, RowEmitted};
+ghost use Rattle.image_map.specs.Places.{widthOf, colourLine};
+ghost use Rattle.image_map.specs.Inside.{ArePlaces, RowEmitted};
 ghost use Rattle.image_map.specs.Rows.{InLines, sampleBy};
 ghost use Rattle.image_map.specs.Starts.{AreStarts, threePut};
 

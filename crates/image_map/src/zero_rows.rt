@@ -1,6 +1,7 @@
 // The rows of a truncated line, which become 0.
 ghost use Prim.Native.Nat.{_+_, _^_, _<_};
-ghost use Rattle.image_map.specs.Places.{inRows, Fits, Changed};
+ghost use Rattle.image_map.specs.Inside.{inRows, Fits};
+ghost use Rattle.image_map.specs.Places.{Changed};
 ghost use Rattle.image_map.specs.Zeros.{LineZeroed};
 use crate::Part;
 

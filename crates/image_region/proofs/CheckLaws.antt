@@ -6,10 +6,11 @@ use native.Mathlib.Nat.{mul-le-mul}
 use native.Mathlib.Omega.{arith}
 use lib.Dec.{ltb, eqb}
 use borrow.Author.Tests.{lt-ltb, le-ltb, ltb-false, eqb-false, ne-eqb}
-use Rattle.stream.specs.Headers.{Ruled}
+use Rattle.stream.specs.Inside.{Ruled}
 use Rattle.stream.specs.declared.header.FujiHeader.{FujiHeader}
 use Rattle.stream.specs.declared.header.Refusal.the-variants.{OutsideImage}
-use Rattle.image_region.specs.Regions.{rightOf, bottomOf, isOutside, isEmpty, spanOf, checkedOf, Accepted}
+use Rattle.image_region.specs.Regions.{rightOf, bottomOf, isOutside, isEmpty, spanOf, checkedOf}
+use Rattle.image_region.specs.Inside.{Accepted}
 use Rattle.image_region.specs.declared.Rect.{Rect}
 use Rattle.image_region.specs.declared.Span.{Span}
 use Rattle.image_region.specs.declared.Checked.the-variants.{Refused, Empty, Touched}

@@ -6,10 +6,11 @@ use native.Mathlib.Nat.{mul-comm, mod-lt, div-lt-iff-lt-mul}
 use native.Mathlib.Omega.{arith}
 use lib.ListN.{length}
 use borrow.Author.Tests.{le-ltb}
-use Rattle.image_map.specs.Places.{Fits}
+use Rattle.image_map.specs.Inside.{Fits}
 use Rattle.image_map.specs.declared.Part.{Part}
 use Rattle.stream.specs.declared.header.FujiHeader.{FujiHeader}
-use Rattle.image_region.specs.Regions.{blockOf, rightOf, bottomOf, firstBlock, lastBlock, lineCount, spanOf, checkedOf, partIn, Accepted}
+use Rattle.image_region.specs.Regions.{blockOf, rightOf, bottomOf, firstBlock, lastBlock, lineCount, spanOf, checkedOf}
+use Rattle.image_region.specs.Inside.{partIn, Accepted}
 use Rattle.image_region.specs.declared.Rect.{Rect}
 use Rattle.image_region.specs.declared.Checked.the-variants.{Touched}
 use Rattle.image_region.proofs.CheckLaws.{room-decides, has-samples, says-touched}

@@ -1,9 +1,7 @@
--- Regions of the picture: which are refused, which blocks and lines the others need, and where a block's samples go. Assumes nothing.
+-- Rules. Regions of the picture: which are refused, which blocks and lines the others need, and where a block's samples go.
 use mathlib.Core.Bool.{Bool, cond, _||_}
-use Prim.Native.Nat.{ℕ, _+_, _-_, _*_, _/_, _%_, _^_, _≤_, min}
+use Prim.Native.Nat.{ℕ, _+_, _-_, _*_, _/_, _%_, _^_, min}
 use lib.Dec.{ltb, eqb}
-use Rattle.image_map.specs.declared.Part.{Part}
-use Rattle.stream.specs.Headers.{Ruled}
 use Rattle.stream.specs.declared.header.FujiHeader.{FujiHeader}
 use Rattle.stream.specs.declared.header.Refusal.the-variants.{OutsideImage}
 use Rattle.image_region.specs.declared.Rect.{Rect}
@@ -57,25 +55,4 @@ spanOf r = record { first = firstBlock r; last = lastBlock r; lines = lineCount 
 unfoldable pub checkedOf : FujiHeader → Rect → ℕ → Checked
 checkedOf h r n = cond (isOutside h r n) (Refused OutsideImage) (cond (isEmpty r) Empty (Touched (spanOf r)))
 
--- what holds of a region that is neither refused nor empty
-pub record Accepted (h : FujiHeader) (r : Rect) (n : ℕ) : Type 0 where
-  pub ruled : Ruled h
-  pub right : r .x + r .width ≤ h .width
-  pub bottom : r .y + r .height ≤ h .height
-  pub wide : 1 ≤ r .width
-  pub high : 1 ≤ r .height
-  pub room : r .width * r .height ≤ n
-
 -- ---- where a block's samples go
-
--- the part that block b, columns 768·b to 768·b + 767 of the picture, fills of an image that holds the region alone
-unfoldable pub partIn : Rect → ℕ → Part
-partIn r b =
-    record {
-      left = r .x - 768 * b;
-      right = min (rightOf r - 768 * b) 768;
-      start = 768 * b - r .x;
-      stride = r .width;
-      top = r .y;
-      bottom = bottomOf r;
-    }

@@ -1,7 +1,8 @@
-// Regions of the picture: which are refused, which blocks and lines the others need, and where a block's samples go.
+// Document 01, Region: which regions are refused, and which blocks, lines and columns the others touch.
 ghost use mathlib.Core.Path.{_≡_};
 ghost use Prim.Native.Nat.{_^_, _≤_, _<_};
-ghost use Rattle.image_region.specs.Regions.{saturated, rightOf, bottomOf, isOutside, isEmpty, spanOf, checkedOf, partIn};
+ghost use Rattle.image_region.specs.Regions.{saturated, rightOf, bottomOf, isOutside, isEmpty, spanOf, checkedOf};
+ghost use Rattle.image_region.specs.Inside.{partIn};
 use image_map::Part;
 use numbers::saturating_sub_usize;
 use numbers::smaller_usize;

@@ -1,7 +1,8 @@
-// What is counted of the lines of a block: their bits and their long codes.
+// Item 6: bits and long codes of lines. It is apart from `read_block` because four must-fail edits would each check that crate again.
 ghost use mathlib.Core.Path.{_≡_};
 ghost use Prim.Native.Nat.{_+_, _-_, _^_, _≤_, _<_};
-ghost use Rattle.line_totals.specs.Totals.{noTotals, withLine};
+ghost use Rattle.line_totals.specs.Totals.{noTotals};
+ghost use Rattle.line_totals.specs.Inside.{withLine};
 
 pub struct Totals {
     pub bits: u64,

@@ -8,7 +8,7 @@ use lib.Dec.{eqb, leb, ltb}
 use lib.ListN.{length, getD}
 use borrow.Author.Tests.{leb-true, ltb-true}
 use Rattle.pass_schedule.specs.Steps.{interpolated, plans, noPlan, codedAll, planOf, Step, evenSteps, oddSteps, turnSteps, upto, passSteps}
-use Rattle.pass_schedule.specs.Steps.{PlanInRange}
+use Rattle.pass_schedule.specs.Inside.{PlanInRange}
 use Rattle.pass_schedule.specs.declared.Plan.{Plan}
 
 -- ---- the table

@@ -1,7 +1,7 @@
--- The order of the samples: the six passes of a line, and the steps of a pass. Assumes nothing.
+-- Rules. The order of the samples: the six passes of a line, and the steps of a pass.
 use mathlib.Core.Bool.{Bool, true, false, cond, not, _&&_, _||_}
 use mathlib.Core.List.{List, [], _∷_, _++_}
-use Prim.Native.Nat.{ℕ, zero, suc, _+_, _-_, _*_, _/_, _%_, _≤_}
+use Prim.Native.Nat.{ℕ, zero, suc, _+_, _-_, _*_, _/_, _%_}
 use lib.Dec.{leb, ltb, eqb}
 use lib.ListN.{getD}
 use Rattle.pass_schedule.specs.declared.Plan.{Plan}
@@ -106,10 +106,3 @@ passSteps W P = upto (turnSteps W P) (W / 2 + 4)
 -- one place before the sample of a step, in colour lines of W samples with a guard at either end
 abbrev pub stepPlace : ℕ → Step → ℕ
 stepPlace W x = x .line * (W + 2) + x .position
-
--- each of a pass's lines has two lines of its colour above it
-pub record PlanInRange (P : Plan) : Type 0 where
-  pub first-low : 2 ≤ P .first
-  pub first-high : P .first ≤ 17
-  pub second-low : 2 ≤ P .second
-  pub second-high : P .second ≤ 17

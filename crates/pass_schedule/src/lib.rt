@@ -1,4 +1,4 @@
-// The six passes of a line, and which positions have no code.
+// Document 01, Pass and line: the six passes of a line, the order of their samples, and which positions have no code.
 ghost use mathlib.Core.Path.{_≡_};
 ghost use mathlib.Core.Bool.{true, not};
 ghost use Prim.Native.Nat.{_<_};

@@ -6,7 +6,8 @@ use native.Mathlib.Omega.{arith}
 use lib.Dec.{leb, lit<}
 use lib.ListN.{getD}
 use borrow.Author.Tests.{leb-true, lt-leb, ne-eqb}
-use Rattle.quantiser.specs.Quantisers.{Serves, gradientOf}
+use Rattle.quantiser.specs.Inside.{Serves}
+use Rattle.quantiser.specs.Quantisers.{gradientOf}
 use Rattle.quantiser.specs.declared.Thresholds.{Thresholds}
 use Rattle.quantiser.proofs.GradientLaws.{main-le, flat-le}
 use Rattle.prediction.specs.Predictions.{flatnessOf}

@@ -1,4 +1,4 @@
--- What reading and writing share: the context of a sample, the quantiser and the record that it is coded by, and these for a step. Assumes nothing.
+-- Rules. What reading and writing share: the context of a sample, the quantiser and the record that it is coded by, and these for a step.
 use mathlib.Core.Bool.{cond}
 use mathlib.Core.List.{List}
 use Prim.Native.Nat.{ℕ, _+_, _-_, _*_, _%_}

@@ -1,11 +1,12 @@
--- What the program's values stand for, and the ranges that its functions ask for. Assumes nothing.
+-- Inside. What the program's values stand for, and the ranges that its functions ask for.
 use mathlib.Core.Bool.{cond}
 use mathlib.Core.List.{List, [], _∷_}
 use mathlib.Core.Path.{_≡_}
 use Prim.Native.Nat.{ℕ, _+_, _-_, _*_, _%_, _≤_, _<_}
 use lib.Dec.{eqb}
 use lib.ListN.{length, getD}
-use Rattle.statistics.specs.Statistics.{kOf, InRange}
+use Rattle.statistics.specs.Statistics.{kOf}
+use Rattle.statistics.specs.Inside.{InRange}
 use Rattle.statistics.specs.declared.Record.{Record}
 use Rattle.prediction.specs.Predictions.{evenContext, oddContext}
 use Rattle.prediction.specs.declared.Context.{Context}

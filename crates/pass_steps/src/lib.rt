@@ -1,9 +1,11 @@
-// What reading and writing a pass share: the context of a sample, what its coding goes by, and its record.
+// Document 01, Pass and line: what reading and writing a pass share: the context of a sample, its quantiser and its record.
 ghost use mathlib.Core.Path.{_≡_};
 ghost use Prim.Native.Nat.{_+_, _*_, _^_, _≤_, _<_};
 ghost use lib.ListN.{length, getD, set};
-ghost use Rattle.statistics.specs.Statistics.{updated, InRange};
-ghost use Rattle.prediction.specs.Predictions.{ContextRanges, flatnessOf};
+ghost use Rattle.statistics.specs.Statistics.{updated};
+ghost use Rattle.statistics.specs.Inside.{InRange};
+ghost use Rattle.prediction.specs.Inside.{ContextRanges};
+ghost use Rattle.prediction.specs.Predictions.{flatnessOf};
 ghost use Rattle.code.specs.Samples.{residualOf, choiceOf};
 ghost use Rattle.pass_steps.specs.Contexts.{usedBase, usedWeight, placeOf, lookOf, slotOf, noRecord};
 ghost use Rattle.pass_steps.specs.Values.{zipRecords, SetInRange, AreKs, choicesOf, evenAt, oddAt, contextAt};
@@ -220,8 +222,8 @@ pub fn update_at(sums: &mut [u32; 112], ns: &mut [u32; 112], slot: usize, old: R
     ns[slot] = new.n;
 }
 
-// The k of each record of a set. Reading keeps them beside the set: it needs one for each code, and finding it then would hold the code up. Where the sum
-// is small it is 0, and nothing is stored: LLVM makes a shorter loop of a store that need not be made than of four at once.
+// The k of each record of a set. Reading keeps them beside the set, since finding k when a code is read would hold the code up.
+// INLINING: where the sum is small k is 0 and nothing is stored. LLVM makes a shorter loop of a conditional store than of four at once.
 pub fn ks_of(sums: &[u32; 112], ns: &[u32; 112]) -> [u32; 112]
     requires { ⌜ SetInRange (zipRecords (now sums) (now ns)) ⌝ }
     ensures { λ r. ⌜ AreKs (zipRecords (now (sums .entry)) (now (ns .entry))) r ⌝ }

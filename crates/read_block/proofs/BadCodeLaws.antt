@@ -26,7 +26,8 @@ use Rattle.read_pass.specs.Readings.{Reading, interpolate, takeCode, taken, rea
 use Rattle.pass_schedule.specs.declared.Plan.{Plan}
 use Rattle.image_map.specs.Places.{widthOf}
 use Rattle.read_block.specs.Records.{baseOf}
-use Rattle.read_block.specs.Blocks.{State, runs, enter, leave, passAt, endLine, readLine, beforeLine, readLineAt, startState, readLines, tightIn}
+use Rattle.read_block.specs.Blocks.{State, runs, enter, leave, passAt, endLine, readLine, beforeLine, readLineAt, startState, readLines}
+use Rattle.read_block.specs.Inside.{tightIn}
 use Rattle.code.specs.declared.reasons.Reason.{Reason}
 use Rattle.code.specs.declared.reasons.Reason.the-variants.{Large, Zeros, Escape}
 use Rattle.code.specs.Reasons.{reasonOf, codedReason}

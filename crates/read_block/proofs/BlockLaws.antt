@@ -10,17 +10,19 @@ use native.Mathlib.Omega.{arith}
 use lib.Dec.{eqb}
 use lib.ListN.{length}
 use Rattle.code.specs.declared.Place.{Place}
-use Rattle.line_totals.specs.Totals.{withLine}
+use Rattle.line_totals.specs.Inside.{withLine}
 use Rattle.line_totals.specs.declared.Totals.{Totals}
 use Rattle.line_totals.specs.declared.TightLines.{TightLines}
 use Rattle.statistics.specs.declared.Record.{Record}
 use Rattle.colour_lines.specs.ColourLines.{zeroLines, turned}
 use Rattle.colour_lines.proofs.LineLaws.{length-turned}
-use Rattle.image_map.specs.Places.{widthOf, inRows, emittedSample, Changed}
+use Rattle.image_map.specs.Places.{widthOf, Changed}
+use Rattle.image_map.specs.Inside.{inRows, emittedSample}
 use Rattle.image_map.specs.declared.Part.{Part}
 use Rattle.pass_steps.specs.Values.{quantisersOf}
 use Rattle.pass_steps.specs.declared.Quantisers.{Quantisers}
-use Rattle.read_block.specs.Blocks.{State, readLine, readLineAt, beforeLine, startState, readLines, readFrom, tightIn, tightOf, totalsIn}
+use Rattle.read_block.specs.Blocks.{State, readLine, readLineAt, beforeLine, startState, readLines, readFrom, totalsIn}
+use Rattle.read_block.specs.Inside.{tightIn, tightOf}
 use Rattle.read_block.specs.Walks.{startPlace, stateAt, totalsAt, IsWalked}
 use Rattle.read_block.specs.Records.{startRecords, restartedMain, baseOf, isRestarted}
 use Rattle.read_block.specs.Lent.{Buffers}

@@ -10,12 +10,14 @@ use native.Mathlib.Omega.{arith}
 use lib.Dec.{ltb, leb, eqb}
 use lib.ListN.{length, getD}
 use Rattle.numbers.proofs.OrderLaws.{cond-le}
-use Rattle.image_map.specs.Places.{pictureRow, imageColumn, inRows, emittedSample, Changed}
+use Rattle.image_map.specs.Inside.{pictureRow, imageColumn, inRows, emittedSample}
+use Rattle.image_map.specs.Places.{Changed}
 use Rattle.image_map.specs.declared.Part.{Part}
 use Rattle.image_map.proofs.PartLaws.{by-test, not-in}
 use Rattle.stream.specs.declared.header.FujiHeader.{FujiHeader}
 use Rattle.stream.specs.declared.header.Refusal.the-variants.{Truncated}
-use Rattle.image_region.specs.Regions.{blockOf, firstBlock, bottomOf, partIn, lineCount, Accepted}
+use Rattle.image_region.specs.Regions.{blockOf, firstBlock, bottomOf, lineCount}
+use Rattle.image_region.specs.Inside.{partIn, Accepted}
 use Rattle.image_region.specs.declared.Rect.{Rect}
 use Rattle.image_region.proofs.RegionLaws.{InColumns, one-block, lines-cover, row-inside}
 use Rattle.read_block.specs.Blocks.{State, runs, readLineAt, startState, readLines}

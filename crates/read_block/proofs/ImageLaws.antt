@@ -9,7 +9,8 @@ use native.Mathlib.Omega.{arith}
 use lib.Dec.{ltb}
 use Rattle.line_totals.specs.declared.Totals.{Totals}
 use Rattle.line_totals.specs.declared.TightLines.{TightLines}
-use Rattle.image_map.specs.Places.{widthOf, pictureRow, inRows, emittedSample, Changed, Emitted}
+use Rattle.image_map.specs.Places.{widthOf, Changed}
+use Rattle.image_map.specs.Inside.{pictureRow, inRows, emittedSample, Emitted}
 use Rattle.image_map.specs.Rows.{RowsPut}
 use Rattle.image_map.specs.Zeros.{LineZeroed}
 use Rattle.image_map.specs.declared.Part.{Part}

@@ -10,7 +10,7 @@ use Rattle.statistics.specs.declared.Record.{Record}
 use Rattle.colour_lines.specs.ColourLines.{zeroLines}
 use Rattle.image_map.specs.Places.{widthOf}
 use Rattle.pass_steps.specs.Values.{Depth}
-use Rattle.stream.specs.Headers.{Ruled}
+use Rattle.stream.specs.Inside.{Ruled}
 use Rattle.stream.specs.declared.header.FujiHeader.{FujiHeader}
 use Rattle.stream.specs.declared.header.Parsed.{Parsed}
 use Rattle.stream.specs.declared.header.Parsed.the-variants as Parsing

@@ -11,12 +11,14 @@ use lib.Dec.{ltb, eqb, lit≤}
 use lib.ListN.{length, getD}
 use Rattle.code.specs.declared.Place.{Place}
 use Rattle.statistics.specs.declared.Record.{Record}
-use Rattle.colour_lines.specs.ColourLines.{guarded, entered}
-use Rattle.image_map.specs.Places.{widthOf, inRows, emittedSample, Fits}
+use Rattle.colour_lines.specs.ColourLines.{guarded}
+use Rattle.colour_lines.specs.Inside.{entered}
+use Rattle.image_map.specs.Places.{widthOf}
+use Rattle.image_map.specs.Inside.{inRows, emittedSample, Fits}
 use Rattle.image_map.specs.Windows.{colourOf, PassEmitted}
 use Rattle.image_map.specs.declared.Part.{Part}
 use Rattle.image_map.proofs.PartLaws.{by-test}
-use Rattle.pass_schedule.specs.Steps.{PlanInRange}
+use Rattle.pass_schedule.specs.Inside.{PlanInRange}
 use Rattle.pass_steps.specs.Values.{recordsOf}
 use Rattle.read_pass.specs.Readings.{Reading, readPass, andThen}
 use Rattle.read_pass.specs.Pairs.{readingAt, begun, IsPassed}

@@ -9,7 +9,8 @@ use borrow.Author.Tests.{eqb-true, eqb-false}
 use lib.Dec.{eqb}
 use lib.ListN.{getD}
 use Rattle.numbers.proofs.OrderLaws.{split}
-use Rattle.image_map.specs.Places.{colourLine, placeIn, widthOf, pictureRow, inRows, emittedSample, Changed, Fits}
+use Rattle.image_map.specs.Places.{colourLine, placeIn, widthOf, Changed}
+use Rattle.image_map.specs.Inside.{pictureRow, inRows, emittedSample, Fits}
 use Rattle.image_map.specs.Windows.{blockColumn, cellOf, colourOf, windowSample, PassEmitted}
 use Rattle.image_map.specs.declared.Part.{Part}
 use Rattle.image_map.proofs.PartLaws.{by-test, in-rows}

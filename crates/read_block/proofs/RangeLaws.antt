@@ -9,7 +9,7 @@ use lib.Dec.{ltb}
 use lib.ListN.{length, getD, List·getD-eq-default}
 use lib.Pow.{pow-mono}
 use lib.Seq.{paste, paste-zero, paste-suc}
-use Rattle.statistics.specs.Statistics.{InRange}
+use Rattle.statistics.specs.Inside.{InRange}
 use Rattle.statistics.specs.declared.Record.{Record}
 use Rattle.statistics.proofs.RecordLaws.{start-in-range}
 use Rattle.quantiser.specs.Quantisers.{quantiserOf, startSum}

@@ -14,7 +14,8 @@ use Rattle.image_map.specs.Places.{Changed}
 use Rattle.image_map.specs.declared.Part.{Part}
 use Rattle.stream.specs.declared.header.FujiHeader.{FujiHeader}
 use Rattle.stream.specs.declared.header.Refusal.the-variants.{NoEntry}
-use Rattle.image_region.specs.Regions.{firstBlock, lastBlock, lineCount, partIn, Accepted}
+use Rattle.image_region.specs.Regions.{firstBlock, lastBlock, lineCount}
+use Rattle.image_region.specs.Inside.{partIn, Accepted}
 use Rattle.image_region.specs.declared.Rect.{Rect}
 use Rattle.cameras.specs.Entries.{linesWithEntry, afterLines, takingLines, isStopped}
 use Rattle.cameras.specs.declared.Camera.{Camera}

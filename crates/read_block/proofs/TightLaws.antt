@@ -15,7 +15,8 @@ use Rattle.read_block.specs.Walks.{ReadAll, CutAt, IsWalked}
 use Rattle.read_block.specs.Images.{linesRead, blockAnswer}
 use Rattle.read_block.specs.BadCodes.{BadCode, firstBad}
 use Rattle.read_block.specs.TightBlocks.{bitsRead, readAnswer, tightAnswer}
-use Rattle.read_block.specs.Totals.{linesCounted, counted, walkedCounted}
+use Rattle.read_block.specs.Totals.{linesCounted, counted}
+use Rattle.read_block.specs.Inside.{walkedCounted}
 use Rattle.read_block.specs.declared.Decoded.{Decoded}
 use Rattle.read_block.specs.declared.Decoded.the-variants.{Done, Refused}
 use Rattle.read_block.specs.declared.Form.{Form}

@@ -6,7 +6,8 @@ use Prim.Native.Nat.{ℕ, _+_, _-_, _*_, _≤_, _<_}
 use native.Mathlib.Nat.{mul-le-mul-right}
 use native.Mathlib.Omega.{arith}
 use lib.ListN.{length, getD}
-use Rattle.colour_lines.specs.ColourLines.{guarded, shifted}
+use Rattle.colour_lines.specs.ColourLines.{guarded}
+use Rattle.colour_lines.specs.Inside.{shifted}
 use Rattle.colour_lines.proofs.LineLaws.{length-guarded}
 use Rattle.colour_lines.proofs.MoveLaws.{shifted-two, shifted-one, shifted-above, shifted-below, length-shifted, guard-leaves, left-guard, right-guard}
 use Rattle.read_pass.proofs.WindowLaws.{Rows}

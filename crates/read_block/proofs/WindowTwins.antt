@@ -11,7 +11,8 @@ use lib.Dec.{eqb, lit≤}
 use lib.ListN.{length, getD, replicate}
 use Rattle.code.specs.declared.Place.{Place}
 use Rattle.statistics.specs.declared.Record.{Record}
-use Rattle.colour_lines.specs.ColourLines.{guarded, turned, shifted, roomed, entered, zeroLines}
+use Rattle.colour_lines.specs.ColourLines.{guarded, turned, zeroLines}
+use Rattle.colour_lines.specs.Inside.{shifted, roomed, entered}
 use Rattle.colour_lines.proofs.LineLaws.{length-guarded}
 use Rattle.colour_lines.proofs.MoveLaws.{guard-leaves, turned-at}
 use Rattle.image_map.specs.Places.{widthOf}

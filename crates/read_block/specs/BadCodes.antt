@@ -1,4 +1,4 @@
--- Bad codes: the first code of a block that is not tight, in coding order. Why it is not is in Reasons of `bad_code`. Assumes nothing.
+-- Rules. Bad codes: the first code of a block that is not tight, in coding order. Why it is not is in Reasons of `bad_code`.
 use mathlib.Core.Bool.{cond}
 use mathlib.Core.List.{List, [], _∷_}
 use mathlib.Core.Option.{Option, none, Option·map, orElse}

@@ -1,4 +1,4 @@
--- Where a bad code stands: which lines, passes and steps were read before it, with tight codes alone, and how its own code was read. Assumes nothing.
+-- Rules. Where a bad code stands: which lines, passes and steps were read before it, with tight codes alone, and how its own code was read.
 use mathlib.Core.Bool.{true, false}
 use mathlib.Core.List.{List, _∷_, _++_}
 use mathlib.Core.Option.{some}

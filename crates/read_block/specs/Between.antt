@@ -1,4 +1,4 @@
--- The colour lines and the records of a block between its passes and between its lines. Reading and writing go by the same. Assumes nothing.
+-- Rules. The colour lines and the records of a block between its passes and between its lines. Reading and writing go by the same.
 use mathlib.Core.Bool.{cond}
 use mathlib.Core.List.{List}
 use Prim.Native.Nat.{ℕ}

@@ -1,4 +1,4 @@
--- What a call that reads one block answers and leaves: the ordinary reading, and the tight one. Assumes nothing.
+-- Promises. What a call that reads one block answers and leaves: the ordinary reading, and the tight one.
 use mathlib.Core.List.{List, []}
 use mathlib.Core.Path.{_≡_}
 use Prim.Native.Nat.{ℕ}

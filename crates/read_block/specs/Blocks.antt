@@ -1,16 +1,15 @@
--- Reading a block: six passes make a line, and lines make a block. Assumes nothing.
-use mathlib.Core.Bool.{Bool, true, cond, _&&_}
+-- Rules. Reading a block: six passes make a line, and lines make a block.
+use mathlib.Core.Bool.{Bool, true, cond}
 use mathlib.Core.List.{List, []}
 use mathlib.Core.Option.{Option, none, some}
 use Prim.Native.Nat.{ℕ, zero, suc, _+_, _*_}
-use lib.Dec.{leb, eqb}
+use lib.Dec.{leb}
 use lib.ListN.{length}
 use Rattle.bits.specs.declared.BitPosition.{BitPosition}
 use Rattle.statistics.specs.declared.Record.{Record}
 use Rattle.pass_schedule.specs.Steps.{planOf}
 use Rattle.line_totals.specs.Totals.{noTotals}
 use Rattle.line_totals.specs.declared.Totals.{Totals}
-use Rattle.line_totals.specs.declared.TightLines.{TightLines}
 use Rattle.read_pass.specs.Readings.{Reading, readPass, andThen}
 use Rattle.pass_schedule.specs.declared.Plan.{Plan}
 use Rattle.image_map.specs.Places.{widthOf}
@@ -105,17 +104,6 @@ abbrev pub linesOf : Option State → List ℕ
 linesOf none = []
 linesOf (some r) = r .lines
 
-abbrev pub isTightState : Option State → Bool
-isTightState none = true
-isTightState (some r) = r .tight
-
--- how many lines, from the first on, have only tight codes, where `read` reads so many of them
-unfoldable pub tightIn : (ℕ → Option State) → ℕ → ℕ
-tightIn read zero = 0
-tightIn read (suc n) =
-    let m = tightIn read n in
-    cond (eqb m n && isTightState (read (suc n))) (suc n) m
-
 -- ---- what is counted
 
 -- the bits and the long codes of lines that were read; nothing where one of them is truncated
@@ -126,10 +114,3 @@ totalsIn (some r) = record { bits = r .at .0; long = r .long }
 -- of the first n lines
 abbrev pub totalsAfter : Form → List ℕ → List ℕ → ℕ → Totals
 totalsAfter F bases s n = totalsIn (readLines F bases s n)
-
--- of the lines, from the first on, that have only tight codes
-abbrev pub tightOf : (ℕ → Option State) → ℕ → TightLines
-tightOf read n = record { lines = tightIn read n; totals = totalsIn (read (tightIn read n)) }
-
-abbrev pub tightBefore : Form → List ℕ → List ℕ → ℕ → TightLines
-tightBefore F bases s n = tightOf (λ m. readLines F bases s m) n

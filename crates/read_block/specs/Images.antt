@@ -1,4 +1,4 @@
--- Decoding a region of a stream: what is read of each block, the image, the answer and scratch. Assumes nothing.
+-- Promises. Decoding a region of a stream: what is read of each block, the image, the answer and scratch.
 use mathlib.Core.Bool.{Bool, true, false, cond, _&&_}
 use mathlib.Core.List.{List}
 use mathlib.Core.Option.{Option, none, some}

@@ -1,9 +1,8 @@
--- What a call is lent, and the scratch that it leaves. Assumes nothing.
+-- Promises. What a call is lent, and the scratch that it leaves.
 use mathlib.Core.Bool.{Bool}
 use mathlib.Core.List.{List, _++_}
-use mathlib.Core.Path.{_≡_}
 use Prim.Native.Nat.{ℕ}
-use lib.ListN.{length, drop}
+use lib.ListN.{drop}
 use Rattle.statistics.specs.declared.Record.{Record}
 use Rattle.colour_lines.specs.ColourLines.{zeroLines}
 use Rattle.image_map.specs.Places.{widthOf}
@@ -26,13 +25,6 @@ pub record Outputs : Type 0 where
   pub out : List ℕ
   pub lines : List ℕ
   pub records : List Record
-
-abbrev pub scratchOf : Outputs → Scratch
-scratchOf o = record { lines = o .lines; records = o .records }
-
--- the part of scratch that a block is read or written with
-abbrev pub ScratchOf : Bool → List ℕ → List Record → Type 0
-ScratchOf xtrans lines records = (length lines ≡ samplesNeeded xtrans) × (length records ≡ recordsNeeded)
 
 -- scratch after a call that was not refused: that part is cleared, and what follows it is what it was
 abbrev pub clearedLines : Bool → List ℕ → List ℕ

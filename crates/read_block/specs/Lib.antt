@@ -15,3 +15,4 @@ pub mod Words
 pub mod WindowedImages
 pub mod WindowedLines
 pub mod WindowedAgreement
+pub mod Inside

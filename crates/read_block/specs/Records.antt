@@ -1,4 +1,4 @@
--- The 336 records of a block: three sets, each with 56 records of even positions and 56 of odd ones, of which 41 belong to the main quantiser and
+-- Rules. The 336 records of a block: three sets, each with 56 records of even positions and 56 of odd ones, of which 41 belong to the main quantiser and
 -- 5 to each flat one. Record (set·2 + odd)·56 + place. Assumes nothing.
 use mathlib.Core.Bool.{Bool, cond, not, _||_}
 use mathlib.Core.List.{List, [], _∷_, _++_}

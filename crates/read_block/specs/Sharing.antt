@@ -1,4 +1,4 @@
--- Decoding a region for one of two cameras: which lines take an entry, where refusal 23 comes, and what a call leaves. What is read, and what it
+-- Promises. Decoding a region for one of two cameras: which lines take an entry, where refusal 23 comes, and what a call leaves. What is read, and what it
 -- shows, is that of `decode_region`. Assumes nothing.
 use mathlib.Core.Bool.{Bool, true, false, cond, _&&_}
 use mathlib.Core.List.{List}

@@ -1,4 +1,4 @@
--- Tight blocks, lossless: what the tight reading accepts, and the set of colour lines that is read from a block. Assumes nothing.
+-- Rules. Tight blocks, lossless: what the tight reading accepts, and the set of colour lines that is read from a block.
 use mathlib.Core.Bool.{Bool, true, cond}
 use mathlib.Core.List.{List, []}
 use mathlib.Core.Option.{Option, none, some}

@@ -1,4 +1,4 @@
--- The totals of a block, its bits and its long codes: as a call answers them, and counted from its codes. Assumes nothing.
+-- Promises. The totals of a block, its bits and its long codes: as a call answers them, and counted from its codes.
 use mathlib.Core.Bool.{cond}
 use mathlib.Core.List.{List, [], _∷_, _++_}
 use mathlib.Core.Option.{Option, none, some}
@@ -19,7 +19,6 @@ use Rattle.stream.specs.Refusals.{meaningOf, orZero}
 use Rattle.stream.specs.declared.header.Refusal.{Refusal}
 use Rattle.read_block.specs.Records.{baseOf}
 use Rattle.read_block.specs.Blocks.{State, runs, enter, passAt, beforeLine, readLineAt, startState, readLines, totalsAfter}
-use Rattle.read_block.specs.Images.{walkedAnswer}
 use Rattle.read_block.specs.declared.Counted.{Counted}
 use Rattle.read_block.specs.declared.Decoded.{Decoded}
 use Rattle.read_block.specs.declared.Decoded.the-variants.{Done, Refused}
@@ -46,9 +45,6 @@ refusedBy x = record { answer = Refused x; totals = noTotals }
 abbrev pub walkedTotals : Walked → Totals
 walkedTotals (Walk.Read all tight) = all
 walkedTotals (Walk.Truncated line before) = before
-
-abbrev pub walkedCounted : ℕ → Walked → Counted
-walkedCounted b w = record { answer = walkedAnswer b w; totals = walkedTotals w }
 
 -- ---- the codes of a block
 

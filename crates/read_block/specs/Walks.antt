@@ -1,19 +1,21 @@
--- What the functions that walk over a block say. No definition of the format and no entry's contract rests on these. Assumes nothing.
+-- Inside. What the functions that walk over a block say. No definition of the format and no entry's contract rests on these.
 use mathlib.Core.Bool.{true}
 use mathlib.Core.List.{List}
 use mathlib.Core.Option.{none, some}
 use mathlib.Core.Path.{_≡_}
 use Prim.Native.Nat.{ℕ, suc, _+_, _-_, _*_, _/_, _≤_, _<_}
 use lib.ListN.{getD}
-use Rattle.statistics.specs.Statistics.{InRange}
+use Rattle.statistics.specs.Inside.{InRange}
 use Rattle.statistics.specs.declared.Record.{Record}
 use Rattle.code.specs.declared.Place.{Place}
 use Rattle.line_totals.specs.declared.Totals.{Totals}
 use Rattle.line_totals.specs.declared.TightLines.{TightLines}
 use Rattle.pass_steps.specs.Contexts.{noRecord}
-use Rattle.image_map.specs.Places.{widthOf, pictureRow, inRows, emittedSample, Changed}
+use Rattle.image_map.specs.Places.{widthOf, Changed}
+use Rattle.image_map.specs.Inside.{pictureRow, inRows, emittedSample}
 use Rattle.image_map.specs.declared.Part.{Part}
-use Rattle.read_block.specs.Blocks.{State, readLines, readFrom, linesOf, totalsAfter, tightBefore}
+use Rattle.read_block.specs.Blocks.{State, readLines, readFrom, linesOf, totalsAfter}
+use Rattle.read_block.specs.Inside.{tightBefore}
 use Rattle.read_block.specs.declared.Form.{Form}
 use Rattle.read_block.specs.declared.Walked.{Walked}
 use Rattle.read_block.specs.declared.Walked.the-variants as Walk

@@ -1,4 +1,4 @@
--- On the same call `decode_region` and `decode_region_windowed` answer the same, and have the same samples wherever a line was accepted and
+-- Promises. On the same call `decode_region` and `decode_region_windowed` answer the same, and have the same samples wherever a line was accepted and
 -- wherever none was reached. Scratch may be another; what is asked of it is that neither call is refused by 10. Assumes nothing.
 use mathlib.Core.Bool.{true, false}
 use mathlib.Core.List.{List}

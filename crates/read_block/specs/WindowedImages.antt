@@ -1,4 +1,4 @@
--- Decoding a region in windows: 9·(W + 2) samples of scratch, and the first truncated line of each block shows 0. What is read, the samples and the
+-- Promises. Decoding a region in windows: 9·(W + 2) samples of scratch, and the first truncated line of each block shows 0. What is read, the samples and the
 -- answer are those of `decode_region`. Assumes nothing.
 use mathlib.Core.Bool.{Bool, cond, _&&_}
 use mathlib.Core.List.{List, _++_}

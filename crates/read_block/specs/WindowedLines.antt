@@ -1,4 +1,4 @@
--- What the functions that read a block say where of each colour only the last three lines are kept. No public contract rests on these. Assumes
+-- Inside. What the functions that read a block say where of each colour only the last three lines are kept. No public contract rests on these. Assumes
 -- nothing.
 use mathlib.Core.Bool.{Bool, true, false, cond, _&&_}
 use mathlib.Core.List.{List}
@@ -11,7 +11,8 @@ use Rattle.code.specs.declared.Place.{Place}
 use Rattle.statistics.specs.declared.Record.{Record}
 use Rattle.line_totals.specs.declared.Totals.{Totals}
 use Rattle.line_totals.specs.declared.TightLines.{TightLines}
-use Rattle.image_map.specs.Places.{widthOf, pictureRow, inRows, emittedSample, Changed}
+use Rattle.image_map.specs.Places.{widthOf, Changed}
+use Rattle.image_map.specs.Inside.{pictureRow, inRows, emittedSample}
 use Rattle.image_map.specs.Windows.{PassEmitted}
 use Rattle.image_map.specs.declared.Part.{Part}
 use Rattle.read_pass.specs.Windows.{windowPlan}
@@ -20,7 +21,8 @@ use Rattle.pass_steps.specs.declared.Quantisers.{Quantisers}
 use Rattle.stream.specs.declared.header.FujiHeader.{FujiHeader}
 use Rattle.image_region.specs.declared.Rect.{Rect}
 use Rattle.admission.specs.Beginnings.{samplesNeeded, recordsNeeded}
-use Rattle.read_block.specs.Blocks.{State, readLine, readFrom, totalsIn, tightOf}
+use Rattle.read_block.specs.Blocks.{State, readLine, readFrom, totalsIn}
+use Rattle.read_block.specs.Inside.{tightOf}
 use Rattle.read_block.specs.Walks.{stateAt, shownSample, Shown, shownFrom, shownLines}
 use Rattle.read_block.specs.Images.{Pictured}
 use Rattle.read_block.specs.Lent.{Buffers}

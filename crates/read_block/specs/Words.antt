@@ -1,4 +1,4 @@
--- Answers as numbers, as a caller in C gets them. Assumes nothing.
+-- Promises. Answers as numbers, as a caller in C gets them.
 use mathlib.Core.List.{List, [], _∷_}
 use mathlib.Core.Path.{_≡_}
 use Prim.Native.Nat.{ℕ}

@@ -1,4 +1,5 @@
-// Blocks: read, decoded, and read tightly. The types of the answers are here, the functions in a module for each role.
+// Document 01, Pass and line, and Region; Items 6, 8 and 11: blocks are read, decoded into an image, and read tightly. The types of the
+// answers are here, the functions in a module for each role.
 ghost use mathlib.Core.Path.{_≡_};
 ghost use Rattle.read_block.specs.Images.{formOf};
 ghost use Rattle.read_block.specs.Words.{answerWords};

@@ -3,7 +3,7 @@ ghost use mathlib.Core.Path.{_≡_};
 ghost use lib.ListN.{length};
 ghost use Rattle.stream.specs.Streams.{openOf};
 ghost use Rattle.stream.specs.declared.header.Parsed.the-variants.{Header};
-ghost use Rattle.image_region.specs.Regions.{Accepted};
+ghost use Rattle.image_region.specs.Inside.{Accepted};
 ghost use Rattle.cameras.specs.Entries.{mended, handedBack, AllNumbered};
 ghost use Rattle.admission.specs.Beginnings.{regionBegins};
 ghost use Rattle.read_block.specs.Walks.{shownLines};

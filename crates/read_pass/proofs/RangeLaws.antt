@@ -8,7 +8,8 @@ use Prim.Native.Nat.{ℕ, _+_, _≤_, _<_}
 use native.Mathlib.Omega.{arith}
 use lib.ListN.{length, getD, set, length-set}
 use Rattle.numbers.specs.Numbers.{flag}
-use Rattle.statistics.specs.Statistics.{kOf, updated, InRange}
+use Rattle.statistics.specs.Statistics.{kOf, updated}
+use Rattle.statistics.specs.Inside.{InRange}
 use Rattle.statistics.specs.declared.Record.{Record}
 use Rattle.statistics.proofs.RecordLaws.{k-least, updated-in-range}
 use Rattle.quantiser.specs.Quantisers.{largest}

@@ -13,9 +13,11 @@ use Rattle.quantiser.specs.Quantisers.{largest, quantiserOf}
 use Rattle.quantiser.specs.declared.Quantiser.{Quantiser}
 use Rattle.prediction.specs.declared.Context.{Context}
 use Rattle.bits.specs.declared.BitPosition.{BitPosition}
-use Rattle.code.specs.Codes.{codeAt, Small}
+use Rattle.code.specs.Codes.{codeAt}
+use Rattle.code.specs.Inside.{Small}
 use Rattle.code.specs.Samples.{residualOf, sampleOf}
-use Rattle.code.specs.Tight.{isTight, takenOf}
+use Rattle.code.specs.Tight.{isTight}
+use Rattle.code.specs.Inside.{takenOf}
 use Rattle.code.specs.declared.Coded.{Coded}
 use Rattle.code.specs.declared.Coded.the-variants.{Read, Truncated}
 use Rattle.code.specs.declared.Place.{Place}

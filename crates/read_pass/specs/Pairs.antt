@@ -1,4 +1,4 @@
--- What the functions of a pass ask for, and what they hand back. Assumes nothing.
+-- Inside. What the functions of a pass ask for, and what they hand back.
 use mathlib.Core.Bool.{Bool, true, false}
 use mathlib.Core.List.{List}
 use mathlib.Core.Option.{Option, none, some}
@@ -9,7 +9,7 @@ use Rattle.bits.specs.declared.BitPosition.{BitPosition}
 use Rattle.statistics.specs.declared.Record.{Record}
 use Rattle.code.specs.declared.Place.{Place}
 use Rattle.pass_schedule.specs.Steps.{Step}
-use Rattle.pass_schedule.specs.Steps.{PlanInRange}
+use Rattle.pass_schedule.specs.Inside.{PlanInRange}
 use Rattle.pass_steps.specs.Values.{zipRecords, recordsOf, SetInRange, AreKs, choicesOf, quantisersOf, Depth}
 use Rattle.pass_schedule.specs.declared.Plan.{Plan}
 use Rattle.pass_steps.specs.declared.Quantisers.{Quantisers}

@@ -1,4 +1,4 @@
--- Reading: what a step makes of the colour lines, the records of its set, the bit position, the verdict and the count of long codes. Assumes
+-- Rules. Reading: what a step makes of the colour lines, the records of its set, the bit position, the verdict and the count of long codes. Assumes
 -- nothing.
 use mathlib.Core.Bool.{Bool, cond, _&&_}
 use mathlib.Core.List.{List, [], _∷_}

@@ -1,12 +1,13 @@
--- Where a sample of a pass stands, and what its code is read by. Assumes nothing.
+-- Inside. Where a sample of a pass stands, and what its code is read by.
 use mathlib.Core.List.{List}
 use mathlib.Core.Path.{_≡_}
 use Prim.Native.Nat.{ℕ, _+_, _*_, _^_, _≤_, _<_}
 use lib.ListN.{length, getD}
-use Rattle.statistics.specs.Statistics.{kOf, InRange}
+use Rattle.statistics.specs.Statistics.{kOf}
+use Rattle.statistics.specs.Inside.{InRange}
 use Rattle.statistics.specs.declared.Record.{Record}
 use Rattle.quantiser.specs.Quantisers.{largest}
-use Rattle.prediction.specs.Predictions.{ContextRanges}
+use Rattle.prediction.specs.Inside.{ContextRanges}
 use Rattle.prediction.specs.declared.Context.{Context}
 use Rattle.pass_steps.specs.Contexts.{contextIn, usedQuantiser, lookOf, slotOf, noRecord}
 use Rattle.pass_steps.specs.Values.{zipRecords, SetInRange, AreKs, choicesOf, quantisersOf}

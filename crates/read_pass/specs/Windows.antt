@@ -1,4 +1,4 @@
--- Windows: of each colour only the last three lines are kept, red in lines 0 to 2, green in 3 to 5, blue in 6 to 8. The last of the three is the one
+-- Inside. Windows: of each colour only the last three lines are kept, red in lines 0 to 2, green in 3 to 5, blue in 6 to 8. The last of the three is the one
 -- that a pass reads. Assumes nothing.
 use mathlib.Core.Bool.{Bool, cond}
 use Prim.Native.Nat.{ℕ}

@@ -1,10 +1,12 @@
-// One pass over two colour lines: the hot loop of reading. The set of statistics comes by value and goes back by value; the colour lines are lent.
+// Document 01, Pass and line: one pass over two colour lines, the hot loop of reading. The set of statistics is passed and returned by
+// value; the colour lines are lent.
 ghost use mathlib.Core.Path.{_≡_};
 ghost use Prim.Native.Nat.{_+_, _-_, _*_, _^_, _≤_, _<_};
 ghost use lib.ListN.{length, getD, set};
-ghost use Rattle.code.specs.Codes.{codeAt, Small};
+ghost use Rattle.code.specs.Codes.{codeAt};
+ghost use Rattle.code.specs.Inside.{Small};
 ghost use Rattle.code.specs.Samples.{sampleOf};
-ghost use Rattle.code.specs.Tight.{takenOf};
+ghost use Rattle.code.specs.Inside.{takenOf};
 ghost use Rattle.pass_schedule.specs.Steps.{evenSteps, oddSteps};
 ghost use Rattle.pass_steps.specs.Values.{zipRecords};
 ghost use Rattle.read_pass.specs.Windows.{windowLine, windowPlan};

@@ -1,6 +1,6 @@
-// Reads blocks whose colour lines the original Rust gave, and counts how many readings were compared and how many differ. The blocks are in
-// blocks.bin; rust/record-blocks writes them, and its README.md has their layout. Each block is read with three tiles of one value, which
-// show its red, its green and its blue colour lines. A record whose numbers are out of range differs.
+// Replay, a program: blocks whose colour lines the original Rust gave. It counts how many readings were compared and how many differ. The
+// blocks are in blocks.bin; rust/record-blocks writes them and documents their layout. Each block is read with three tiles of one value,
+// which show its red, its green and its blue colour lines. A record whose numbers are out of range differs.
 ghost use Prim.Native.Nat.{_*_, _≤_, _<_};
 ghost use lib.ListN.{length};
 use image_map::Part;

@@ -1,4 +1,4 @@
-// What the comparison programs share: the numbers of a record, a tally of what was compared, the file of records, and what is printed.
+// Replays: what the four programs share: the numbers of a record, a tally of what was compared, the file of records, and what is printed.
 ghost use Prim.Native.Nat.{_^_, _≤_, _<_};
 use libc::STDOUT_FILENO;
 use numbers::u8_to_u32;

@@ -1,10 +1,10 @@
-// Runs the leaves on inputs whose answers the original Rust gave, and counts for each kind of record how many were compared and how many
-// differ. The records are in answers.bin; rust/record-leaves writes them, and its README.md has their layout. A record whose numbers are
-// out of a leaf's range differs.
+// Replay, a program: the leaves on inputs whose answers the original Rust gave. It counts for each kind of record how many were compared
+// and how many differ. The records are in answers.bin; rust/record-leaves writes them and documents their layout. A record whose numbers
+// are out of a leaf's range differs.
 ghost use Prim.Native.Nat.{_*_, _^_, _≤_, _<_};
 ghost use lib.ListN.{length};
-ghost use Rattle.prediction.specs.Predictions.{ContextRanges};
-ghost use Rattle.quantiser.specs.Quantisers.{QuantiserRanges};
+ghost use Rattle.prediction.specs.Inside.{ContextRanges};
+ghost use Rattle.quantiser.specs.Inside.{QuantiserRanges};
 use bits::BitPosition;
 use code::Coded;
 use code::Short;

@@ -1,6 +1,6 @@
-// Replays sequences of calls of a pump whose answers the original Rust gave, and counts the calls that were compared and those that differ: in
-// what they answer, or in where the pump stands afterwards. The records are in answers.bin; rust/record-pump writes them, and its README.md has
-// their layout.
+// Replay, a program: sequences of calls of a pump whose answers the original Rust gave. It counts the calls that were compared and those
+// that differ in the answer or in the pump's position. The records are in answers.bin; rust/record-pump writes them and documents their
+// layout.
 ghost use Prim.Native.Nat.{_+_, _≤_, _<_};
 ghost use lib.ListN.{length};
 use bit_pump::BitPumpMsb;

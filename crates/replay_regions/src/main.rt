@@ -1,5 +1,5 @@
-// Decodes regions of streams whose blocks the original Rust read, and counts how many calls were compared and how many differ. The records
-// are in regions.bin; tools/make-regions.py writes them, and has their layout. A record whose numbers are out of range differs.
+// Replay, a program: regions of streams whose blocks the original Rust read. It counts how many calls were compared and how many differ.
+// The records are in regions.bin; tools/make-regions.py writes them and has their layout. A record whose numbers are out of range differs.
 ghost use Prim.Native.Nat.{_*_, _≤_, _<_};
 use image_region::Rect;
 use read_block::Decoded;

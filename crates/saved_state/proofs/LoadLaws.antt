@@ -15,7 +15,8 @@ use Rattle.pass_steps.specs.Contexts.{noRecord}
 use Rattle.image_map.specs.Places.{widthOf}
 use Rattle.stream.specs.declared.header.FujiHeader.{FujiHeader}
 use Rattle.admission.specs.Beginnings.{samplesNeeded}
-use Rattle.saved_state.specs.Checkpoints.{keptLine, IsCheckpoint, checkedOf, anyBelow, badRecord, badSample, badPlace, badCheckpoint, otherCheckpoint}
+use Rattle.saved_state.specs.Checkpoints.{keptLine, checkedOf, anyBelow, badRecord, badSample, badPlace, badCheckpoint, otherCheckpoint}
+use Rattle.saved_state.specs.Inside.{IsCheckpoint}
 use Rattle.saved_state.specs.Checkpoints.{sizeOfCheckpoint, nextLine, positionIn, loadedRecord, loadedLines}
 use Rattle.saved_state.specs.declared.load.Checked.the-variants.{Bad, Other, At}
 use Rattle.saved_state.proofs.ByteLaws.{left, right}

@@ -12,7 +12,8 @@ use Rattle.statistics.specs.declared.Record.{Record}
 use Rattle.pass_steps.specs.Contexts.{noRecord}
 use Rattle.saved_state.specs.Heads.{putEach, headByte}
 use Rattle.saved_state.specs.Checkpoints.{storedRecord, recordsByte, linesByte, Saved, checkpointByte, checkpointOf}
-use Rattle.saved_state.specs.Checkpoints.{sizeOfCheckpoint, IsCheckpoint}
+use Rattle.saved_state.specs.Checkpoints.{sizeOfCheckpoint}
+use Rattle.saved_state.specs.Inside.{IsCheckpoint}
 use Rattle.saved_state.proofs.PutLaws.{put-length, put-same, put-add, put-at}
 
 -- set g among the records

@@ -7,7 +7,8 @@ use Prim.Native.Nat.{ℕ, _*_, _^_, _≤_, _<_, min}
 use native.Mathlib.Nat.{min-le-right}
 use lib.Dec.{leb, ltb, eqb}
 use lib.ListN.{length}
-use Rattle.statistics.specs.Statistics.{InRange, largestResidual}
+use Rattle.statistics.specs.Inside.{InRange}
+use Rattle.statistics.specs.Statistics.{largestResidual}
 use Rattle.statistics.specs.declared.Record.{Record}
 use Rattle.saved_state.specs.Checkpoints.{sizeOfCheckpoint, anyBelow, sumIn, nIn, storedSample, badRecord, badSample, badPlace, badCheckpoint}
 use Rattle.saved_state.specs.Checkpoints.{isFlat, loadedRecord}

@@ -8,12 +8,14 @@ use Prim.Native.Nat.{ℕ, suc, _+_, _-_, _*_, _/_, _≤_}
 use native.Mathlib.Omega.{arith}
 use lib.Dec.{ltb, leb, eqb}
 use lib.ListN.{length, getD}
-use Rattle.image_map.specs.Places.{inRows, emittedSample, Changed, Fits}
+use Rattle.image_map.specs.Inside.{inRows, emittedSample, Fits}
+use Rattle.image_map.specs.Places.{Changed}
 use Rattle.image_map.specs.declared.Part.{Part}
 use Rattle.image_map.proofs.PartLaws.{by-test, not-in}
 use Rattle.stream.specs.declared.header.FujiHeader.{FujiHeader}
 use Rattle.stream.specs.declared.header.Refusal.the-variants.{Truncated}
-use Rattle.image_region.specs.Regions.{blockOf, firstBlock, lastBlock, partIn, lineCount, Accepted}
+use Rattle.image_region.specs.Regions.{blockOf, firstBlock, lastBlock, lineCount}
+use Rattle.image_region.specs.Inside.{partIn, Accepted}
 use Rattle.image_region.specs.declared.Rect.{Rect}
 use Rattle.image_region.proofs.RegionLaws.{one-block, part-fits}
 use Rattle.saved_state.specs.Checkpoints.{nextLine, positionIn}

@@ -9,12 +9,14 @@ use native.Mathlib.Omega.{arith}
 use lib.Dec.{eqb, lit<}
 use lib.ListN.{length, getD}
 use lib.Pow.{pow-mono}
-use Rattle.statistics.specs.Statistics.{InRange, largestResidual}
+use Rattle.statistics.specs.Inside.{InRange}
+use Rattle.statistics.specs.Statistics.{largestResidual}
 use Rattle.statistics.specs.declared.Record.{Record}
 use Rattle.pass_steps.specs.Contexts.{noRecord, sampleIn}
 use Rattle.saved_state.specs.Heads.{beByte, headByte}
 use Rattle.saved_state.specs.Checkpoints.{beAt, recordByte, isFlat, storedRecord, recordsByte, keptLine, linesByte, Saved}
-use Rattle.saved_state.specs.Checkpoints.{sizeOfCheckpoint, IsCheckpoint, nextLine, positionIn, sumIn, nIn, storedSample, badRecord, badSample}
+use Rattle.saved_state.specs.Checkpoints.{sizeOfCheckpoint, nextLine, positionIn, sumIn, nIn, storedSample, badRecord, badSample}
+use Rattle.saved_state.specs.Inside.{IsCheckpoint}
 use Rattle.saved_state.specs.Checkpoints.{checkpointByte, badPlace, badCheckpoint, otherCheckpoint, checkedOf, loadedRecord}
 use Rattle.saved_state.specs.declared.load.Checked.the-variants.{At}
 use Rattle.saved_state.proofs.ByteLaws.{next-power, any-none}

@@ -20,7 +20,8 @@ use Rattle.saved_state.specs.Checkpoints.{sizeOfCheckpoint}
 use Rattle.read_block.specs.Blocks.{State, startState, readLines}
 use Rattle.read_block.specs.Images.{formOf, bytesIn, basesIn, walkedAnswer, blockAnswer}
 use Rattle.read_block.specs.Lent.{Buffers}
-use Rattle.read_block.specs.Totals.{counted, refusedBy, walkedCounted}
+use Rattle.read_block.specs.Totals.{counted, refusedBy}
+use Rattle.read_block.specs.Inside.{walkedCounted}
 use Rattle.read_block.specs.Walks.{startPlace, stateAt, IsWalked}
 use Rattle.read_block.specs.Records.{startRecords, baseOf}
 use Rattle.saved_state.specs.Storing.{storedCounted, storedOut}

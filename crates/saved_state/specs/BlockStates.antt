@@ -1,4 +1,4 @@
--- The state of a block, stored and loaded. Assumes nothing.
+-- Promises. The state of a block, stored and loaded.
 use mathlib.Core.Bool.{Bool, true}
 use mathlib.Core.List.{List}
 use Prim.Native.Nat.{ℕ}

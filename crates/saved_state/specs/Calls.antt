@@ -1,4 +1,4 @@
--- What the functions say that store a state and go on from one. No definition of the format and no entry's contract rests on these. Assumes nothing.
+-- Inside. What the functions say that store a state and go on from one. No definition of the format and no entry's contract rests on these.
 use mathlib.Core.Bool.{true, false, cond}
 use mathlib.Core.List.{List}
 use mathlib.Core.Path.{_≡_}
@@ -6,11 +6,12 @@ use Prim.Native.Nat.{ℕ}
 use lib.Dec.{leb, ltb}
 use Rattle.code.specs.declared.Place.{Place}
 use Rattle.statistics.specs.declared.Record.{Record}
-use Rattle.image_map.specs.Places.{widthOf, Fits}
+use Rattle.image_map.specs.Places.{widthOf}
+use Rattle.image_map.specs.Inside.{Fits}
 use Rattle.image_map.specs.declared.Part.{Part}
 use Rattle.stream.specs.declared.header.FujiHeader.{FujiHeader}
 use Rattle.stream.specs.declared.header.Refusal.the-variants.{ShortOutput, BadState}
-use Rattle.image_region.specs.Regions.{partIn}
+use Rattle.image_region.specs.Inside.{partIn}
 use Rattle.image_region.specs.declared.Rect.{Rect}
 use Rattle.saved_state.specs.Checkpoints.{sizeOfCheckpoint, checkpointOf}
 use Rattle.read_block.specs.Images.{walkedAnswer}

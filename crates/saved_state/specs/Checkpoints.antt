@@ -1,9 +1,8 @@
--- The state of a block after a line, as 1,707 + 12·W bytes: the header, the block, the next line and its bit position; the records; and of each
+-- Rules. The state of a block after a line, as 1,707 + 12·W bytes: the header, the block, the next line and its bit position; the records; and of each
 -- colour the two lines that the next line finds above it. Numbers are big-endian. Assumes nothing.
 use mathlib.Core.Bool.{Bool, false, cond, not, _&&_, _||_}
 use mathlib.Core.List.{List}
-use mathlib.Core.Path.{_≡_}
-use Prim.Native.Nat.{ℕ, zero, suc, _+_, _-_, _*_, _/_, _%_, _^_, _<_, min}
+use Prim.Native.Nat.{ℕ, zero, suc, _+_, _-_, _*_, _/_, _%_, _^_, min}
 use lib.Dec.{leb, ltb, eqb}
 use lib.ListN.{length, getD}
 use Rattle.statistics.specs.Statistics.{largestResidual}
@@ -78,10 +77,6 @@ checkpointByte lossless W z i =
 -- the lent bytes after storing, and bytes that are a stored state
 abbrev pub checkpointOf : Bool → ℕ → Saved → List ℕ → List ℕ
 checkpointOf lossless W z out = putEach (checkpointByte lossless W z) 0 (sizeOfCheckpoint W) out
-
-pub record IsCheckpoint (lossless : Bool) (W : ℕ) (z : Saved) (s : List ℕ) : Type 0 where
-  pub whole : length s ≡ sizeOfCheckpoint W
-  pub bytes : (i : ℕ) → i < sizeOfCheckpoint W → getD s i 0 ≡ checkpointByte lossless W z i
 
 -- ---- what is refused
 

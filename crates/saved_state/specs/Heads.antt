@@ -1,4 +1,4 @@
--- Numbers as bytes, the most significant first, and the head of a stored state. Assumes nothing.
+-- Rules. Numbers as bytes, the most significant first, and the head of a stored state.
 use mathlib.Core.Bool.{cond}
 use mathlib.Core.List.{List}
 use Prim.Native.Nat.{ℕ, zero, suc, _+_, _-_, _/_, _%_, _^_}

@@ -8,3 +8,4 @@ pub mod Storing
 pub mod Resuming
 pub mod Calls
 pub mod Words
+pub mod Inside

@@ -1,4 +1,4 @@
--- What a call answers and leaves that goes on in block b from the stored bytes s. Assumes nothing.
+-- Promises. What a call answers and leaves that goes on in block b from the stored bytes s.
 use mathlib.Core.Bool.{Bool, cond, _&&_}
 use mathlib.Core.List.{List}
 use mathlib.Core.Option.{Option}

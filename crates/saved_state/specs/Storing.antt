@@ -1,4 +1,4 @@
--- What a call answers and leaves that stores the state of block b after line n. Assumes nothing.
+-- Promises. What a call answers and leaves that stores the state of block b after line n.
 use mathlib.Core.Bool.{cond}
 use mathlib.Core.List.{List}
 use mathlib.Core.Option.{Option, none, some}

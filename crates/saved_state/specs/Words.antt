@@ -1,4 +1,4 @@
--- Answers as numbers, as a caller in C gets them that stores a state or goes on from one. Assumes nothing.
+-- Promises. Answers as numbers, as a caller in C gets them that stores a state or goes on from one.
 use mathlib.Core.List.{List}
 use mathlib.Core.Path.{_≡_}
 use Prim.Native.Nat.{ℕ}

@@ -1,4 +1,4 @@
-// The state of a block after a line: stored as bytes, judged, loaded, and gone on from.
+// Item 9: the state of a block after a line, stored as bytes, checked, loaded, and resumed.
 
 pub mod blocks;
 mod head;

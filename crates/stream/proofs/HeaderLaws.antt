@@ -8,7 +8,8 @@ use lib.Dec.{leb, ltb, eqb, lit≤}
 use lib.ListN.{length}
 use borrow.Author.Tests.{lt-ltb, le-ltb, ltb-false, leb-true, eqb-true}
 use Rattle.numbers.proofs.BoolLaws.{both}
-use Rattle.stream.specs.Headers.{byteAt, be16, headerOf, within, divides, kindRules, sizeRules, countRules, allRules, parseOf, Ruled}
+use Rattle.stream.specs.Headers.{byteAt, be16, headerOf, within, divides, kindRules, sizeRules, countRules, allRules, parseOf}
+use Rattle.stream.specs.Inside.{Ruled}
 use Rattle.stream.specs.declared.header.FujiHeader.{FujiHeader}
 use Rattle.stream.specs.declared.header.Parsed.the-variants.{Header, Refused}
 use Rattle.stream.specs.declared.header.Refusal.the-variants.{ShortHeader, BadHeader}

@@ -11,9 +11,11 @@ use borrow.Author.Tests.{lt-ltb, le-ltb, ltb-false}
 use Rattle.numbers.proofs.LeastLaws.{least}
 use Rattle.numbers.proofs.OrderLaws.{split}
 use Rattle.stream.specs.Headers.{parseOf}
-use Rattle.stream.specs.Streams.{sizesEnd, sizeOf, rowLength, rowStart, isShort, firstShort, openIn, openOf, Opened}
+use Rattle.stream.specs.Streams.{sizesEnd, sizeOf, rowLength, rowStart, isShort, firstShort, openIn, openOf}
+use Rattle.stream.specs.Inside.{Opened}
 use Rattle.stream.specs.Streams.{blockStart, rangeIn, rangeOf, rowIn, rowOf}
-use Rattle.stream.specs.Ranges.{cut, partOf, Short, Inside}
+use Rattle.stream.specs.Ranges.{cut, partOf, Short}
+use Rattle.stream.specs.Inside.{Inside}
 use Rattle.stream.specs.declared.header.FujiHeader.{FujiHeader}
 use Rattle.stream.specs.declared.header.Parsed.{Parsed}
 use Rattle.stream.specs.declared.header.Parsed.the-variants.{Header, Refused}

@@ -1,8 +1,7 @@
--- The header of a stream: 16 bytes, big-endian. Assumes nothing.
+-- Rules. The header of a stream: 16 bytes, big-endian.
 use mathlib.Core.Bool.{Bool, cond, _&&_, _||_}
 use mathlib.Core.List.{List}
-use mathlib.Core.Path.{_≡_}
-use Prim.Native.Nat.{ℕ, _+_, _-_, _*_, _/_, _%_, _≤_, _<_}
+use Prim.Native.Nat.{ℕ, _+_, _-_, _*_, _/_, _%_}
 use lib.Dec.{leb, ltb, eqb}
 use lib.ListN.{length, getD}
 use Rattle.stream.specs.declared.header.FujiHeader.{FujiHeader}
@@ -68,21 +67,6 @@ allRules d = kindRules d && sizeRules (headerOf d) && countRules (headerOf d)
 -- refusals 1 and 2, or the header
 unfoldable pub parseOf : List ℕ → Parsed
 parseOf d = cond (ltb (length d) 16) (Refused ShortHeader) (cond (allRules d) (Header (headerOf d)) (Refused BadHeader))
-
--- what the rules give for a header that parses
-pub record Ruled (h : FujiHeader) : Type 0 where
-  pub bits-low : 12 ≤ h .bits
-  pub bits-high : h .bits ≤ 16
-  pub bits-even : h .bits % 2 ≡ 0
-  pub blocks-low : 1 ≤ h .blocks
-  pub blocks-high : h .blocks ≤ 16
-  pub lines-low : 1 ≤ h .lines
-  pub lines-high : h .lines ≤ 2731
-  pub height-is : h .height ≡ 6 * h .lines
-  pub rounded-is : h .«rounded_width» ≡ 768 * h .blocks
-  pub width-high : h .width ≤ 768 * h .blocks
-  pub width-low : 768 * h .blocks < h .width + 768
-  pub block-size-is : h .«block_size» ≡ 768
 
 -- the columns of block i: 768, and what is left in the last one
 abbrev pub columnsOf : FujiHeader → ℕ → ℕ

@@ -1,4 +1,4 @@
--- The length of a block in bytes: a bound by the header alone, and a length as C gets it. Assumes nothing.
+-- Rules. The length of a block in bytes: a bound by the header alone, and a length as C gets it.
 use mathlib.Core.Bool.{cond}
 use mathlib.Core.List.{List, [], _∷_}
 use Prim.Native.Nat.{ℕ, _*_}

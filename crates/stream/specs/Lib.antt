@@ -8,3 +8,4 @@ pub mod Headers
 pub mod Ranges
 -- A header as words.
 pub mod Words
+pub mod Inside

@@ -1,6 +1,6 @@
--- Ranges of a stream: cut to its end, and the bytes that lie in one. Assumes nothing.
+-- Rules. Ranges of a stream: cut to its end, and the bytes that lie in one.
 use mathlib.Core.List.{List, []}
-use Prim.Native.Nat.{ℕ, _+_, _-_, _^_, _≤_, _<_, min}
+use Prim.Native.Nat.{ℕ, _^_, _<_, min}
 use lib.ListN.{length, take, drop}
 use Rattle.stream.specs.declared.ranges.Ranged.{Ranged}
 use Rattle.stream.specs.declared.ranges.Ranged.the-variants as Range
@@ -8,10 +8,6 @@ use Rattle.stream.specs.declared.ranges.Ranged.the-variants as Range
 -- cut to the stream's end
 abbrev pub cut : List ℕ → ℕ → ℕ
 cut d at = min at (length d)
-
--- the range of so many bytes from `start` on, its start and its end cut
-abbrev pub cutRange : List ℕ → ℕ → ℕ → Ranged
-cutRange d start size = Range.At (record { 0 = cut d start }) (cut d (start + size) - cut d start)
 
 -- the part of the bytes that a range says; a refused call hands back nothing
 abbrev pub partOf : List ℕ → Ranged → List ℕ
@@ -22,8 +18,3 @@ partOf d (Range.Refused r) = []
 abbrev pub Short : Ranged → Type 0
 Short (Range.At from n) = n < 2 ^ 32
 Short (Range.Refused r) = Unit {0}
-
--- a range that lies in the bytes
-abbrev pub Inside : List ℕ → Ranged → Type 0
-Inside d (Range.At from n) = from .0 + n ≤ length d
-Inside d (Range.Refused r) = Unit {0}

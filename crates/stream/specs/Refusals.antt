@@ -1,4 +1,4 @@
--- The refusals: the number of each, and the values that it names. Assumes nothing.
+-- Promises. The refusals: the number of each, and the values that it names.
 use Prim.Native.Nat.{ℕ}
 use mathlib.Core.List.{List, [], _∷_}
 use mathlib.Core.Option.{Option, none, some}

@@ -1,4 +1,4 @@
--- A header as words. Assumes nothing.
+-- Promises. A header as words.
 use mathlib.Core.List.{List, [], _∷_}
 use Prim.Native.Nat.{ℕ}
 use Rattle.numbers.specs.Numbers.{flag}

@@ -1,11 +1,13 @@
-// Streams: sizes, base rows, and the part of the caller's bytes that is a block.
+// Document 01, Stream and Refusals: the header, sizes, base rows, the bytes of a block, and the list of refusals with their numbers.
 ghost use mathlib.Core.Path.{_≡_};
 ghost use Prim.Native.Nat.{_+_, _*_, _^_, _≤_, _<_};
 ghost use lib.ListN.{length};
-ghost use Rattle.stream.specs.Headers.{parseOf, Ruled, widthAnswer};
+ghost use Rattle.stream.specs.Headers.{parseOf, widthAnswer};
+ghost use Rattle.stream.specs.Inside.{Ruled};
 ghost use Rattle.stream.specs.Ranges.{partOf, Short};
 ghost use Rattle.stream.specs.Lengths.{boundAnswer, lengthWord, lengthRefusal};
-ghost use Rattle.stream.specs.Streams.{sizeOf, rowLength, rowStart, firstShort, openIn, openOf, Opened, sizesBefore};
+ghost use Rattle.stream.specs.Streams.{sizeOf, rowLength, rowStart, firstShort, openIn, openOf, sizesBefore};
+ghost use Rattle.stream.specs.Inside.{Opened};
 ghost use Rattle.stream.specs.Streams.{blockStart, rangeIn, rangeOf, rowIn, rowOf};
 use bits::ByteOffset;
 

@@ -1,7 +1,8 @@
 // Ranges of a stream: cut to its end, and the bytes that lie in one.
 ghost use mathlib.Core.Path.{_≡_};
 ghost use Prim.Native.Nat.{_+_, _^_, _<_};
-ghost use Rattle.stream.specs.Ranges.{cut, cutRange, partOf, Inside};
+ghost use Rattle.stream.specs.Ranges.{cut, partOf};
+ghost use Rattle.stream.specs.Inside.{cutRange, Inside};
 use crate::header::Refusal;
 use bits::ByteOffset;
 

@@ -1,4 +1,4 @@
--- Two cameras that share 16 quantiser entries: what each reads is its own, but for refusal 23, which comes exactly where a line has no entry; entries
+-- Promises. Two cameras that share 16 quantiser entries: what each reads is its own, but for refusal 23, which comes exactly where a line has no entry; entries
 -- that began with none held keep their form; and the holds are the bases taken less those given back, over any history of calls. Assumes nothing.
 use mathlib.Core.Bool.{true, false, cond}
 use mathlib.Core.List.{List, [], _∷_}

@@ -1,4 +1,4 @@
--- The worked cases that are marked for proof, as one table of equations on the definitions. Assumes nothing.
+-- Promises. The worked cases that are marked for proof, as one table of equations on the definitions.
 use mathlib.Core.Bool.{true, false}
 use mathlib.Core.List.{List, [], _∷_, _++_}
 use mathlib.Core.Path.{_≡_}

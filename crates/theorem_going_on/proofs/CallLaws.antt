@@ -18,9 +18,11 @@ use Rattle.stream.specs.declared.header.Parsed.{Parsed}
 use Rattle.stream.specs.declared.header.Parsed.the-variants as Parsing
 use Rattle.stream.specs.declared.header.Refusal.the-variants.{ShortHeader, BadHeader, Truncated, NoBlock, BadState, ShortOutput}
 use Rattle.stream.proofs.StreamLaws.{opened}
-use Rattle.image_region.specs.Regions.{checkedOf, Accepted}
+use Rattle.image_region.specs.Regions.{checkedOf}
+use Rattle.image_region.specs.Inside.{Accepted}
 use Rattle.image_region.specs.declared.Rect.{Rect}
-use Rattle.saved_state.specs.Checkpoints.{Saved, sizeOfCheckpoint, checkpointByte, checkpointOf, IsCheckpoint}
+use Rattle.saved_state.specs.Checkpoints.{Saved, sizeOfCheckpoint, checkpointByte, checkpointOf}
+use Rattle.saved_state.specs.Inside.{IsCheckpoint}
 use Rattle.admission.specs.Beginnings.{readBegins, regionBegins, withRegion}
 use Rattle.admission.specs.Resumings.{resumeBegins, withResumed}
 use Rattle.saved_state.proofs.PutLaws.{put-length, put-at}

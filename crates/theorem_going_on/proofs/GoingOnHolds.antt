@@ -14,7 +14,8 @@ use Rattle.image_map.proofs.PartLaws.{by-test}
 use Rattle.stream.specs.declared.header.FujiHeader.{FujiHeader}
 use Rattle.image_map.proofs.ChangeLaws.{changed-as}
 use Rattle.stream.proofs.StreamLaws.{opened}
-use Rattle.image_region.specs.Regions.{blockOf, firstBlock, lastBlock, lineCount, Accepted}
+use Rattle.image_region.specs.Regions.{blockOf, firstBlock, lastBlock, lineCount}
+use Rattle.image_region.specs.Inside.{Accepted}
 use Rattle.image_region.specs.declared.Rect.{Rect}
 use Rattle.image_region.proofs.RegionLaws.{block-touched}
 use Rattle.saved_state.specs.Checkpoints.{sizeOfCheckpoint, nextLine}

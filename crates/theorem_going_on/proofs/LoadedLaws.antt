@@ -15,7 +15,8 @@ use Rattle.colour_lines.specs.ColourLines.{guarded, zeroLines}
 use Rattle.colour_lines.proofs.LineLaws.{length-guarded}
 use Rattle.image_map.specs.Places.{widthOf}
 use Rattle.image_map.proofs.PartLaws.{by-test}
-use Rattle.saved_state.specs.Checkpoints.{isFlat, keptLine, IsCheckpoint, storedSample, loadedRecord, withKept, withSix, withGuards, loadedLines}
+use Rattle.saved_state.specs.Checkpoints.{isFlat, keptLine, storedSample, loadedRecord, withKept, withSix, withGuards, loadedLines}
+use Rattle.saved_state.specs.Inside.{IsCheckpoint}
 use Rattle.saved_state.proofs.PutLaws.{put-length}
 use Rattle.saved_state.proofs.LoadedLines.{loaded-sample, left-of-4, right-of-4, left-of-12, right-of-12, left-of-17, right-of-17}
 use Rattle.saved_state.proofs.StateLaws.{Storable, record-back, sample-back, position-back}

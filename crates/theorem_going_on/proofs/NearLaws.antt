@@ -13,7 +13,8 @@ use lib.ListN.{length, getD}
 use Rattle.numbers.proofs.OrderLaws.{split}
 use Rattle.statistics.specs.declared.Record.{Record}
 use Rattle.code.specs.declared.Place.{Place}
-use Rattle.colour_lines.specs.ColourLines.{guarded, shifted, roomed, entered}
+use Rattle.colour_lines.specs.ColourLines.{guarded}
+use Rattle.colour_lines.specs.Inside.{shifted, roomed, entered}
 use Rattle.colour_lines.proofs.LineLaws.{length-guarded, length-turned}
 use Rattle.colour_lines.proofs.MoveLaws.{length-shifted}
 use Rattle.image_map.specs.Places.{widthOf}

@@ -14,7 +14,7 @@ use Rattle.numbers.proofs.OrderLaws.{split}
 use Rattle.image_map.specs.Places.{widthOf, colourLine, placeIn, tileAt, sampleIndex}
 use Rattle.image_map.proofs.PartLaws.{by-test}
 use Rattle.image_map.proofs.PlaceLaws.{place-lt}
-use Rattle.stream.specs.Headers.{Ruled}
+use Rattle.stream.specs.Inside.{Ruled}
 use Rattle.stream.specs.Streams.{openOf, rangeOf, sizeOf, blockStart}
 use Rattle.stream.specs.Ranges.{cut}
 use Rattle.stream.specs.declared.header.FujiHeader.{FujiHeader}
@@ -23,7 +23,8 @@ use Rattle.stream.specs.declared.header.Refusal.the-variants.{Truncated}
 use Rattle.stream.proofs.StreamLaws.{opened, range-opened, part-lt, row-lossless}
 use Rattle.image_region.specs.Regions.{lineCount}
 use Rattle.image_region.specs.declared.Rect.{Rect}
-use Rattle.saved_state.specs.Checkpoints.{IsCheckpoint, nextLine, positionIn}
+use Rattle.saved_state.specs.Inside.{IsCheckpoint}
+use Rattle.saved_state.specs.Checkpoints.{nextLine, positionIn}
 use Rattle.saved_state.specs.declared.load.Checked.the-variants.{At}
 use Rattle.saved_state.proofs.StateLaws.{Storable, next-back, position-back}
 use Rattle.read_block.specs.Blocks.{State, readLines, linesOf}

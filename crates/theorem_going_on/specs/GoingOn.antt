@@ -1,4 +1,4 @@
--- Going on from a stored state gives what the reading from the top gives; from any other bytes that load it gives samples in range; and when a state
+-- Promises. Going on from a stored state gives what the reading from the top gives; from any other bytes that load it gives samples in range; and when a state
 -- is stored. Of calls, whatever the buffers that they are lent held. Assumes nothing.
 use mathlib.Core.Bool.{Bool, true, cond, _&&_}
 use mathlib.Core.List.{List}

@@ -1,4 +1,4 @@
--- The block that the lossy writer writes is read whole by the ordinary rules with its bases, and ends where the writer says. Each sample that has a code reads
+-- Promises. The block that the lossy writer writes is read whole by the ordinary rules with its bases, and ends where the writer says. Each sample that has a code reads
 -- back within the base of the quantiser that coded it. Over all bases and depths. Assumes nothing.
 use mathlib.Core.Bool.{true, false}
 use mathlib.Core.List.{List, [], _∷_, _++_}

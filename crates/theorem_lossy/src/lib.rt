@@ -1,1 +1,2 @@
-// What the lossy writer writes reads back, near to what was wanted: the statement is in specs/, its proof in proofs/; there is no code.
+// Theorem of Item 5: what the lossy writer writes reads back within the base. The statement is in specs/LossyBlocks.antt, its proof in
+// proofs/; there is no code.

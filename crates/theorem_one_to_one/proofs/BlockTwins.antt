@@ -16,7 +16,8 @@ use Rattle.theorem_one_to_one.proofs.PassBack.{place-exact}
 use Rattle.write_pass.proofs.LosslessLaws.{Lossless}
 use Rattle.write_pass.proofs.SetLaws.{passes-lines}
 use Rattle.read_block.specs.Blocks.{State, runs, readLineAt, startState, readLines, linesOf}
-use Rattle.write_block.specs.WrittenBlocks.{writeLine, startWriting, writeLines, SetWanted}
+use Rattle.write_block.specs.WrittenBlocks.{writeLine, startWriting, writeLines}
+use Rattle.write_block.specs.Inside.{SetWanted}
 use Rattle.read_block.specs.declared.Form.{Form}
 use Rattle.read_block.proofs.SampleLaws.{zeros-le}
 use Rattle.write_block.proofs.WrittenLaws.{line-adds, line-right}

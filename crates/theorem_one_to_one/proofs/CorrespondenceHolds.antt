@@ -22,7 +22,8 @@ use Rattle.write_pass.proofs.SetLaws.{line-lt, rank-lt, position-lt, index-at}
 use Rattle.read_block.specs.Blocks.{State}
 use Rattle.read_block.specs.Images.{formOf}
 use Rattle.read_block.specs.TightBlocks.{Tight, setRead}
-use Rattle.write_block.specs.WrittenBlocks.{WriteState, writeLines, writtenBlock, tightBlock, SetWanted, FitSet}
+use Rattle.write_block.specs.WrittenBlocks.{WriteState, writeLines, writtenBlock, tightBlock}
+use Rattle.write_block.specs.Inside.{SetWanted, FitSet}
 use Rattle.read_block.specs.declared.Form.{Form}
 use Rattle.read_block.proofs.LineLaws.{width-in-range}
 use Rattle.theorem_one_to_one.specs.Correspondence.{Bytes, TightBlockOf, Correspondence, CorrespondenceOfHeaders, NoBases}

@@ -19,7 +19,8 @@ use Rattle.theorem_one_to_one.proofs.PassBack.{Holds, place-same}
 use Rattle.write_pass.proofs.LosslessLaws.{Lossless}
 use Rattle.read_block.specs.Blocks.{State, runs, passAt, endLine, readLine, beforeLine, readLineAt}
 use Rattle.read_block.specs.Records.{baseOf}
-use Rattle.write_block.specs.WrittenBlocks.{writePassAt, isStrict, writeLine, SetWanted}
+use Rattle.write_block.specs.WrittenBlocks.{writePassAt, isStrict, writeLine}
+use Rattle.write_block.specs.Inside.{SetWanted}
 use Rattle.read_block.specs.declared.Form.{Form}
 use Rattle.read_block.proofs.RunLaws.{runs-keep}
 use Rattle.read_block.proofs.SampleLaws.{turned-le}

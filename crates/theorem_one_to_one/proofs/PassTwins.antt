@@ -8,7 +8,7 @@ use Prim.Native.Nat.{ℕ, _+_, _-_, _*_, _%_, _≤_, _<_}
 use native.Mathlib.Omega.{arith}
 use lib.ListN.{getD, set}
 use Rattle.quantiser.specs.Quantisers.{largest}
-use Rattle.pass_schedule.specs.Steps.{PlanInRange}
+use Rattle.pass_schedule.specs.Inside.{PlanInRange}
 use Rattle.pass_steps.specs.Values.{Depth}
 use Rattle.read_pass.specs.Readings.{Reading, readPass}
 use Rattle.pass_schedule.specs.Steps.{planOf, passSteps}
@@ -25,7 +25,8 @@ use Rattle.theorem_one_to_one.proofs.PassBack.{Holds, pass-leaves, Plac
 use Rattle.theorem_one_to_one.proofs.Together.{Sound}
 use Rattle.read_block.specs.Blocks.{State, enter, leave, passAt}
 use Rattle.read_block.specs.Records.{putSet}
-use Rattle.write_block.specs.WrittenBlocks.{leaveWriting, writePassAt, SetWanted}
+use Rattle.write_block.specs.WrittenBlocks.{leaveWriting, writePassAt}
+use Rattle.write_block.specs.Inside.{SetWanted}
 use Rattle.read_block.specs.declared.Form.{Form}
 use Rattle.read_block.proofs.LineLaws.{width-in-range}
 use Rattle.read_block.proofs.SampleLaws.{guarded-le}

@@ -21,7 +21,8 @@ use Rattle.write_pass.specs.Puts.{Within}
 use Rattle.write_pass.specs.Writings.{writePass}
 use Rattle.pass_schedule.proofs.OrderLaws.{all-both, pass-all, all-pass}
 use Rattle.pass_schedule.proofs.PlanLaws.{interpolated-even, steps-coded}
-use Rattle.write_block.specs.WrittenBlocks.{WriteState, repeats, enterWriting, writePassAt, beforeWriting, writeLine, startWriting, writeLines, FitSet}
+use Rattle.write_block.specs.WrittenBlocks.{WriteState, repeats, enterWriting, writePassAt, beforeWriting, writeLine, startWriting, writeLines}
+use Rattle.write_block.specs.Inside.{FitSet}
 use Rattle.read_block.specs.declared.Form.{Form}
 use Rattle.read_block.proofs.LineLaws.{width-in-range}
 use Rattle.read_block.proofs.SampleLaws.{zeros-le, guarded-le, turned-le}

@@ -9,12 +9,14 @@ use lib.ListN.{length, replicate}
 use borrow.Author.Tests.{le-ltb}
 use Rattle.bits.proofs.PackLaws.{length-bytesOf}
 use Rattle.image_map.specs.Places.{widthOf}
-use Rattle.stream.specs.Headers.{parseOf, Ruled}
+use Rattle.stream.specs.Headers.{parseOf}
+use Rattle.stream.specs.Inside.{Ruled}
 use Rattle.stream.specs.Streams.{openOf}
 use Rattle.stream.specs.declared.header.FujiHeader.{FujiHeader}
 use Rattle.stream.specs.declared.header.Parsed.the-variants.{Header}
 use Rattle.stream.proofs.HeaderLaws.{ruled}
-use Rattle.image_region.specs.Regions.{Accepted, firstBlock, lastBlock, lineCount}
+use Rattle.image_region.specs.Inside.{Accepted}
+use Rattle.image_region.specs.Regions.{firstBlock, lastBlock, lineCount}
 use Rattle.image_region.specs.declared.Rect.{Rect}
 use Rattle.image_region.proofs.RegionLaws.{block-inside, block-order, lines-inside}
 use Rattle.colour_lines.specs.Sets.{setSize}

@@ -14,8 +14,9 @@ use Rattle.quantiser.specs.Quantisers.{largest}
 use Rattle.prediction.specs.declared.Context.{Context}
 use Rattle.code.specs.Codes.{codeAt}
 use Rattle.code.specs.Samples.{choiceOf, sampleOf}
-use Rattle.code.specs.Wanted.{codeFor}
-use Rattle.code.specs.Tight.{codeBits, codeLength, isTight}
+use Rattle.code.specs.Inside.{codeFor}
+use Rattle.code.specs.Tight.{codeBits, isTight}
+use Rattle.code.specs.Inside.{codeLength}
 use Rattle.code.specs.Nearest.{codeNear}
 use Rattle.code.specs.declared.Code.{Code}
 use Rattle.code.specs.declared.Coded.{Coded}

@@ -20,7 +20,8 @@ use Rattle.quantiser.specs.declared.Quantiser.{Quantiser}
 use Rattle.quantiser.proofs.QuantiserLaws.{total-le, total-wide}
 use Rattle.prediction.specs.declared.Context.{Context}
 use Rattle.code.specs.Samples.{sampleOf}
-use Rattle.code.specs.Tight.{codeBits, codeLength, isTight}
+use Rattle.code.specs.Tight.{codeBits, isTight}
+use Rattle.code.specs.Inside.{codeLength}
 use Rattle.code.specs.Nearest.{codeNear}
 use Rattle.code.specs.declared.Code.{Code}
 use Rattle.code.proofs.NearLaws.{near-back}

@@ -9,7 +9,8 @@ use lib.Dec.{lit<}
 use lib.ListN.{length, getD, take, drop, replicate, length-append, length-replicate, List·getD-append}
 use lib.Seq.{length-take-le, getD-take, getD-drop, getD-append-add, drop-append-add, take-at}
 use borrow.Author.Tests.{le-ltb, lt-ltb}
-use Rattle.stream.specs.Headers.{byteAt, headerOf, kindRules, parseOf, Ruled}
+use Rattle.stream.specs.Headers.{byteAt, headerOf, kindRules, parseOf}
+use Rattle.stream.specs.Inside.{Ruled}
 use Rattle.stream.specs.Streams.{padded, rowStart, openOf, sizeOf, sizesBefore, rangeOf}
 use Rattle.stream.specs.Ranges.{partOf}
 use Rattle.stream.specs.declared.header.FujiHeader.{FujiHeader}

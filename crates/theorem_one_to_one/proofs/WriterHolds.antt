@@ -8,7 +8,8 @@ use Rattle.colour_lines.specs.Sets.{setSize}
 use Rattle.stream.specs.declared.BlockLength.{BlockLength}
 use Rattle.stream.specs.declared.BlockLength.the-variants.{Length}
 use Rattle.read_block.specs.Images.{formOf}
-use Rattle.write_block.specs.WrittenBlocks.{tightBlock, FitSet}
+use Rattle.write_block.specs.WrittenBlocks.{tightBlock}
+use Rattle.write_block.specs.Inside.{FitSet}
 use Rattle.write_block.specs.WrittenAnswers.{writtenAnswer, writtenOut}
 use Rattle.read_block.specs.declared.Form.{Form}
 use Rattle.write_block.proofs.AnswerLaws.{written-fits, fits-written}

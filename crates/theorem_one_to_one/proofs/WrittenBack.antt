@@ -11,7 +11,8 @@ use Rattle.bits.proofs.ListLaws.{length-bits}
 use Rattle.bits.proofs.PackLaws.{length-bytesOf, bits-bytesOf}
 use Rattle.pass_steps.specs.Values.{Depth}
 use Rattle.read_block.specs.Blocks.{State, readLines}
-use Rattle.write_block.specs.WrittenBlocks.{WriteState, writeLines, writtenBlock, SetWanted}
+use Rattle.write_block.specs.WrittenBlocks.{WriteState, writeLines, writtenBlock}
+use Rattle.write_block.specs.Inside.{SetWanted}
 use Rattle.read_block.specs.declared.Form.{Form}
 use Rattle.theorem_one_to_one.proofs.BlockLaws.{Tail, tail-is}
 use Rattle.theorem_one_to_one.proofs.BlockTwins.{Shown, lines-forward}

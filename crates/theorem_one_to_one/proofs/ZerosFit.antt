@@ -18,7 +18,8 @@ use Rattle.colour_lines.specs.ColourLines.{guarded}
 use Rattle.colour_lines.specs.Sets.{setSize, indexIn}
 use Rattle.write_pass.specs.Writings.{Writing, wantedCode, givenSample, writeStep, writes, writePass}
 use Rattle.write_pass.proofs.WriteLaws.{wanted, write-coded, write-interpolated}
-use Rattle.write_block.specs.WrittenBlocks.{WriteState, repeats, enterWriting, writePassAt, beforeWriting, writeLine, startWriting, writeLines, FitSet}
+use Rattle.write_block.specs.WrittenBlocks.{WriteState, repeats, enterWriting, writePassAt, beforeWriting, writeLine, startWriting, writeLines}
+use Rattle.write_block.specs.Inside.{FitSet}
 use Rattle.read_block.specs.declared.Form.{Form}
 use Rattle.read_block.proofs.SampleLaws.{zeros-le, guarded-le, turned-le}
 use Rattle.write_pass.proofs.LookLaws.{given-exact}

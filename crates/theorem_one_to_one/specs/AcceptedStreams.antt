@@ -1,4 +1,4 @@
--- Something is accepted: every lossless header that breaks no rule has a stream that opens, whose blocks are tight, and from which every region is
+-- Promises. Something is accepted: every lossless header that breaks no rule has a stream that opens, whose blocks are tight, and from which every region is
 -- decoded: a call that is not refused before it reads answers Done. Assumes nothing.
 use mathlib.Core.Bool.{true}
 use mathlib.Core.List.{List}

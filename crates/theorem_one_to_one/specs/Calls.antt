@@ -1,4 +1,4 @@
--- Calls of the writer: from what `write_block` and its function for C promise (crates/block), whatever output and scratch held before.
+-- Promises. Calls of the writer: from what `write_block` and its function for C promise (crates/block), whatever output and scratch held before.
 -- For the set of a tight block they write that block, answer its length, and leave the rest of the output as it was, exactly if output and scratch
 -- are long enough. Assumes nothing.
 use mathlib.Core.Bool.{true}

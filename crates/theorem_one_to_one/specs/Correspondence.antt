@@ -1,4 +1,4 @@
--- Under one lossless form and number of lines: tight blocks and sets of colour lines that fit correspond one to one, and the block that is
+-- Promises. Under one lossless form and number of lines: tight blocks and sets of colour lines that fit correspond one to one, and the block that is
 -- written for a set is the one that corresponds to it. Assumes nothing.
 use mathlib.Core.Bool.{true}
 use mathlib.Core.List.{List, [], _++_}

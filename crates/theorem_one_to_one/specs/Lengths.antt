@@ -1,4 +1,4 @@
--- Lengths of tight blocks: the header's bound holds of all of them, and measuring answers the length that the writer does. Assumes nothing.
+-- Promises. Lengths of tight blocks: the header's bound holds of all of them, and measuring answers the length that the writer does.
 use mathlib.Core.Bool.{true}
 use mathlib.Core.List.{List}
 use mathlib.Core.Logic.{_↔_, _≢_}

@@ -1,4 +1,4 @@
--- Sets of colour lines whose interpolated positions have their predictions, by the set's own samples and without a writer. Assumes nothing.
+-- Promises. Sets of colour lines whose interpolated positions have their predictions, by the set's own samples and without a writer.
 use mathlib.Core.Bool.{Bool, true, cond, _&&_, _||_}
 use mathlib.Core.List.{List}
 use mathlib.Core.Path.{_≡_}

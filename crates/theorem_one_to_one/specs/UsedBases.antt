@@ -1,4 +1,4 @@
--- The base of the quantiser that coded a sample: the one that the reading picks as it comes to its place. Assumes nothing.
+-- Promises. The base of the quantiser that coded a sample: the one that the reading picks as it comes to its place.
 use mathlib.Core.Bool.{cond, _&&_}
 use mathlib.Core.List.{List, [], _∷_}
 use mathlib.Core.Option.{Option, none, some}

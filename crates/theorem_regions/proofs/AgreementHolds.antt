@@ -9,12 +9,13 @@ use native.Mathlib.Omega.{arith}
 use lib.Dec.{ltb, leb}
 use lib.ListN.{length, getD}
 use Rattle.numbers.proofs.OrderLaws.{split}
-use Rattle.stream.specs.Headers.{Ruled}
+use Rattle.stream.specs.Inside.{Ruled}
 use Rattle.stream.specs.Streams.{openOf}
 use Rattle.stream.specs.declared.header.FujiHeader.{FujiHeader}
 use Rattle.stream.specs.declared.header.Parsed.the-variants.{Header}
 use Rattle.stream.proofs.StreamLaws.{opened}
-use Rattle.image_region.specs.Regions.{blockOf, rightOf, bottomOf, isOutside, isEmpty, checkedOf, spanOf, lastBlock, Accepted}
+use Rattle.image_region.specs.Regions.{blockOf, rightOf, bottomOf, isOutside, isEmpty, checkedOf, spanOf, lastBlock}
+use Rattle.image_region.specs.Inside.{Accepted}
 use Rattle.image_region.specs.declared.Rect.{Rect}
 use Rattle.image_region.specs.declared.Checked.the-variants as Check
 use Rattle.image_region.proofs.CheckLaws.{not-empty, has-samples}

@@ -13,7 +13,8 @@ use lib.ListN.{getD}
 use Rattle.numbers.proofs.OrderLaws.{split}
 use Rattle.stream.specs.declared.header.FujiHeader.{FujiHeader}
 use Rattle.stream.specs.declared.header.Refusal.the-variants.{Truncated}
-use Rattle.image_region.specs.Regions.{blockOf, firstBlock, lastBlock, lineCount, Accepted}
+use Rattle.image_region.specs.Regions.{blockOf, firstBlock, lastBlock, lineCount}
+use Rattle.image_region.specs.Inside.{Accepted}
 use Rattle.image_region.specs.declared.Rect.{Rect}
 use Rattle.image_region.proofs.RegionLaws.{right-is, bottom-is, block-touched, block-order, lines-inside, row-inside}
 use Rattle.read_block.specs.Blocks.{State, runs, readLineAt, startState, readLines}

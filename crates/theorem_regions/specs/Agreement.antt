@@ -1,4 +1,4 @@
--- A region has the whole picture's samples, and which regions of a truncated picture are accepted: of calls of any of the entries that decode, each with
+-- Promises. A region has the whole picture's samples, and which regions of a truncated picture are accepted: of calls of any of the entries that decode, each with
 -- buffers that are long enough, whatever they held. Assumes nothing.
 use mathlib.Core.Bool.{Bool, true, false}
 use mathlib.Core.List.{List}

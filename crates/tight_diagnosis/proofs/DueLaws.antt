@@ -7,7 +7,7 @@ use Prim.Native.Nat.{ℕ, zero, suc, _+_, _-_, _*_, _/_, _%_, _≤_, _<_}
 use native.Mathlib.Omega.{arith}
 use lib.Dec.{eqb, ltb, leb}
 use Rattle.pass_schedule.specs.Steps.{Step, turnSteps, upto, passSteps}
-use Rattle.pass_schedule.specs.Steps.{PlanInRange}
+use Rattle.pass_schedule.specs.Inside.{PlanInRange}
 use Rattle.pass_schedule.specs.declared.Plan.{Plan}
 use Rattle.read_pass.specs.Readings.{Reading}
 use Rattle.tight_diagnosis.specs.Ways.{stepOf, ifDue, evenDue, oddDue, dueAt, stepsWay}

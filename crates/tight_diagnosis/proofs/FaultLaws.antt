@@ -15,7 +15,8 @@ use Rattle.read_block.specs.Images.{formOf, bytesIn}
 use Rattle.read_block.specs.declared.Decoded.{Decoded}
 use Rattle.read_block.specs.declared.Decoded.the-variants as Answer
 use Rattle.read_block.specs.declared.Form.{Form}
-use Rattle.tight_diagnosis.specs.Ways.{plainState, Way, found, cut-off, on, wayOf, blockWay, spotOf}
+use Rattle.tight_diagnosis.specs.Ways.{plainState, Way, found, cut-off, on, wayOf, blockWay}
+use Rattle.tight_diagnosis.specs.Faults.{spotOf}
 use Rattle.tight_diagnosis.specs.Traces.{Ends}
 use Rattle.code.specs.declared.reasons.BadSpot.{BadSpot}
 use Rattle.tight_diagnosis.specs.declared.trace.Traced.{Traced}

@@ -11,7 +11,8 @@ use Rattle.statistics.specs.Statistics.{kOf, updated}
 use Rattle.statistics.specs.declared.Record.{Record}
 use Rattle.quantiser.specs.Quantisers.{largest, mainOf}
 use Rattle.prediction.specs.declared.Context.{Context}
-use Rattle.code.specs.Codes.{codeAt, Bounds}
+use Rattle.code.specs.Codes.{codeAt}
+use Rattle.code.specs.Inside.{Bounds}
 use Rattle.code.specs.Samples.{choiceOf, residualOf, sampleOf}
 use Rattle.code.specs.Tight.{isTight}
 use Rattle.code.specs.declared.Code.{Code}
@@ -25,7 +26,8 @@ use Rattle.pass_steps.proofs.TableLaws.{numbers-le}
 use Rattle.read_pass.specs.Readings.{Reading, stepCode}
 use Rattle.read_pass.proofs.StepLaws.{step-interpolated, step-cut-off, step-read}
 use Rattle.code.specs.declared.reasons.Reason.{Reason}
-use Rattle.code.specs.Reasons.{reasonOf, codedReason, verdictOf}
+use Rattle.code.specs.Reasons.{reasonOf, codedReason}
+use Rattle.code.specs.Inside.{verdictOf}
 use Rattle.read_block.specs.BadCodes.{stepReason, badAt}
 use Rattle.read_block.proofs.BadCodeLaws.{code-stays}
 use Rattle.tight_diagnosis.specs.Ways.{found, cut-off, on, stepWay}

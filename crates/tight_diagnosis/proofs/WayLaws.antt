@@ -13,7 +13,8 @@ use Rattle.bits.specs.declared.BitPosition.{BitPosition}
 use Rattle.pass_schedule.specs.Steps.{Step, upto}
 use Rattle.read_pass.specs.Readings.{Reading, readStep, andThen, reads}
 use Rattle.read_block.specs.BadCodes.{BadCode, badAt, stepReason, badInSteps}
-use Rattle.tight_diagnosis.specs.Ways.{Way, found, cut-off, on, wayOf, spotOf, stepOf, ifDue, plain, stepWay, stepsWay}
+use Rattle.tight_diagnosis.specs.Ways.{Way, found, cut-off, on, wayOf, stepOf, ifDue, plain, stepWay, stepsWay}
+use Rattle.tight_diagnosis.specs.Faults.{spotOf}
 use Rattle.tight_diagnosis.proofs.PlainLaws.{steps-plain, bad-plain}
 use Rattle.tight_diagnosis.specs.Traces.{Said, Says}
 use Rattle.tight_diagnosis.proofs.trace.Traced.{enum}

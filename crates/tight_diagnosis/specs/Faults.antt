@@ -1,4 +1,4 @@
--- Why a block is not tight. Assumes nothing.
+-- Promises. Why a block is not tight.
 use mathlib.Core.Bool.{Bool, false, cond}
 use mathlib.Core.List.{List, [], _∷_}
 use mathlib.Core.Option.{Option, none, some}
@@ -16,12 +16,13 @@ use Rattle.read_block.specs.BadCodes.{BadCode, firstBad}
 use Rattle.read_block.specs.TightBlocks.{tightAnswer}
 use Rattle.read_block.specs.declared.Decoded.{Decoded}
 use Rattle.read_block.specs.declared.Decoded.the-variants as Answer
-use Rattle.tight_diagnosis.specs.Ways.{spotOf}
 use Rattle.code.specs.declared.reasons.BadSpot.{BadSpot}
 use Rattle.code.specs.declared.reasons.Reason.{Reason}
 use Rattle.code.specs.declared.reasons.Reason.the-variants.{Large, Escape, Zeros}
 use Rattle.tight_diagnosis.specs.declared.Fault.{Fault}
 use Rattle.tight_diagnosis.specs.declared.Fault.the-variants as Fault
+use Prim.Native.Nat.{_+_}
+use Rattle.read_block.specs.BadCodes.{BadCode}
 
 -- ---- a block
 
@@ -76,3 +77,15 @@ abbrev pub faultWords : Fault → List ℕ
 faultWords Fault.None = replicate 6 0
 faultWords (Fault.Code x) = spotWords x
 faultWords (Fault.Tail lines at) = lines ∷ 0 ∷ 0 ∷ 0 ∷ at .0 ∷ 4 ∷ []
+
+-- passes count from 1
+abbrev pub spotOf : BadCode → BadSpot
+spotOf b =
+    record {
+      line = b .line;
+      pass = b .pass + 1;
+      colour = b .step .line;
+      position = b .step .position;
+      at = b .at;
+      reason = b .reason;
+    }

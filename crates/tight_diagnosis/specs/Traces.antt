@@ -1,4 +1,4 @@
--- What the functions of the second walk ask for, and what they hand back. Assumes nothing.
+-- Inside. What the functions of the second walk ask for, and what they hand back.
 use mathlib.Core.Bool.{true}
 use mathlib.Core.List.{List}
 use mathlib.Core.Path.{_≡_}
@@ -8,7 +8,7 @@ use Rattle.bits.specs.declared.BitPosition.{BitPosition}
 use Rattle.quantiser.specs.Quantisers.{mainOf}
 use Rattle.quantiser.specs.declared.Quantiser.{Quantiser}
 use Rattle.image_map.specs.Places.{widthOf}
-use Rattle.pass_schedule.specs.Steps.{PlanInRange}
+use Rattle.pass_schedule.specs.Inside.{PlanInRange}
 use Rattle.pass_steps.specs.Values.{zipRecords, SetInRange, Depth}
 use Rattle.pass_schedule.specs.declared.Plan.{Plan}
 use Rattle.read_pass.specs.Readings.{Reading}
@@ -16,7 +16,8 @@ use Rattle.read_block.specs.Blocks.{State}
 use Rattle.read_block.specs.Walks.{AllInRange}
 use Rattle.read_block.specs.BadCodes.{BadCode}
 use Rattle.read_block.specs.declared.Form.{Form}
-use Rattle.tight_diagnosis.specs.Ways.{Way, found, cut-off, on, spotOf}
+use Rattle.tight_diagnosis.specs.Ways.{Way, found, cut-off, on}
+use Rattle.tight_diagnosis.specs.Faults.{spotOf}
 use Rattle.tight_diagnosis.specs.declared.trace.Sample.{Sample}
 use Rattle.tight_diagnosis.specs.declared.trace.Stage.{Stage}
 use Rattle.tight_diagnosis.specs.declared.trace.Traced.{Traced}

@@ -1,8 +1,8 @@
--- How a reading goes that looks for a bad code: by the definitions of reading, and of the first bad code. Assumes nothing.
+-- Inside. How a reading goes that looks for a bad code: by the definitions of reading, and of the first bad code.
 use mathlib.Core.Bool.{Bool, true, cond, not}
 use mathlib.Core.List.{List, [], _∷_}
 use mathlib.Core.Option.{Option, none, some, Option·map}
-use Prim.Native.Nat.{ℕ, _+_, _-_, _*_, _/_, _%_}
+use Prim.Native.Nat.{ℕ, _-_, _*_, _/_, _%_}
 use lib.Dec.{eqb, ltb, leb}
 use Rattle.pass_schedule.specs.Steps.{Step, interpolated, stepAt}
 use Rattle.pass_schedule.specs.declared.Plan.{Plan}
@@ -10,24 +10,11 @@ use Rattle.read_pass.specs.Readings.{Reading, readStep, andThen, reads}
 use Rattle.read_block.specs.Blocks.{State, runs, passAt, endLine, readLines}
 use Rattle.read_block.specs.BadCodes.{BadCode, stepReason, badAt, badInSteps, firstFound, badInPass, firstBad}
 use Rattle.read_block.specs.declared.Form.{Form}
-use Rattle.code.specs.declared.reasons.BadSpot.{BadSpot}
 use Rattle.tight_diagnosis.specs.declared.trace.Due.{Due}
 use Rattle.tight_diagnosis.specs.declared.trace.Sample.{Sample}
 use Rattle.tight_diagnosis.specs.declared.trace.Stage.{Stage}
 
 -- ---- the program's values
-
--- passes count from 1
-abbrev pub spotOf : BadCode → BadSpot
-spotOf b =
-    record {
-      line = b .line;
-      pass = b .pass + 1;
-      colour = b .step .line;
-      position = b .step .position;
-      at = b .at;
-      reason = b .reason;
-    }
 
 abbrev pub stepOf : Sample → Step
 stepOf x = stepAt (x .line) (x .position) (x .coded)

@@ -1,9 +1,9 @@
-// Why a block is not tight: the spot and the reason of one that the tight reading refuses with 15, and the function for C.
+// Item 1: why a block is not tight. It finds the spot and the reason of the first bad code, and has the function for C.
 ghost use mathlib.Core.Path.{_≡_};
 ghost use mathlib.Core.Bool.{true};
 ghost use Prim.Native.Nat.{_^_, _<_};
 ghost use lib.ListN.{length};
-ghost use Rattle.image_map.specs.Places.{Fits};
+ghost use Rattle.image_map.specs.Inside.{Fits};
 ghost use Rattle.pass_steps.specs.Values.{Depth};
 ghost use Rattle.stream.specs.Streams.{openOf};
 ghost use Rattle.stream.specs.declared.header.Parsed.the-variants.{Header};

@@ -13,7 +13,8 @@ use Rattle.io.specs.Digits.{digits, Fewest}
 use Rattle.numbers.specs.Numbers.{leastFrom}
 use Rattle.numbers.proofs.LeastLaws.{least-is}
 use Rattle.code.specs.declared.reasons.Reason.{Reason}
-use Rattle.tight_findings.specs.Texts.{reasonText, numberText, Put}
+use Rattle.tight_findings.specs.Texts.{reasonText, numberText}
+use Rattle.tight_findings.specs.Inside.{Put}
 
 -- ---- one text, and then another
 

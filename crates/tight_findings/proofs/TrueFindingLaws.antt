@@ -29,7 +29,7 @@ use Rattle.read_block.specs.declared.Decoded.the-variants as Answer
 use Rattle.read_block.specs.declared.Form.{Form}
 use Rattle.read_block.proofs.BadCodeLaws.{bad-in}
 use Rattle.read_block.proofs.DecodeLaws.{was-read}
-use Rattle.tight_diagnosis.specs.Ways.{spotOf}
+use Rattle.tight_diagnosis.specs.Faults.{spotOf}
 use Rattle.code.specs.declared.reasons.BadSpot.{BadSpot}
 use Rattle.tight_diagnosis.specs.Faults.{gives15, whyNot, faultAt}
 use Rattle.tight_findings.specs.Findings.{foundAt, orLater, lowest, findingIn, findingOf}

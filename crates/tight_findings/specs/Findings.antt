@@ -1,4 +1,4 @@
--- The lowest block of a stream that is not tight. Assumes nothing.
+-- Promises. The lowest block of a stream that is not tight.
 use mathlib.Core.Bool.{cond}
 use mathlib.Core.List.{List}
 use Prim.Native.Nat.{ℕ, zero, suc}

@@ -3,3 +3,4 @@ pub mod Findings
 pub mod TrueFindings
 -- The text of what is found.
 pub mod Texts
+pub mod Inside

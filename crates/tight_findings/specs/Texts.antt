@@ -1,10 +1,7 @@
--- The text of a finding, in ASCII: a heading line and at most one record, fields parted by tabs; or the number of a refusal, as a line. Assumes nothing.
+-- Promises. The text of a finding, in ASCII: a heading line and at most one record, fields parted by tabs; or the number of a refusal, as a line.
 use mathlib.Core.List.{List, [], _∷_, _++_}
-use mathlib.Core.Path.{_≡_}
 use Prim.Native.Nat.{ℕ, _+_, _^_}
 use lib.Dec.{ltb}
-use lib.ListN.{length}
-use lib.Seq.{paste}
 use Rattle.io.specs.Digits.{digits}
 use Rattle.numbers.specs.Numbers.{leastFrom}
 use Rattle.stream.specs.Refusals.{refusalNumber}
@@ -64,8 +61,3 @@ textOf (Refused x) = numberText (refusalNumber x) ++ newline ∷ []
 textOf Nothing = heading
 textOf (Code b x) = heading ++ codeText b x
 textOf (Tail b lines at) = heading ++ tailRecord b lines at
-
--- a text is put into a buffer from a place on; what stands before and after it stays
-pub record Put (before : List ℕ) (at : ℕ) (text after : List ℕ) (end : ℕ) : Type 0 where
-  pub ends : end ≡ at + length text
-  pub put : after ≡ paste before at text (length text)

@@ -1,4 +1,4 @@
--- That the fault of a block and the finding of a stream are the true ones: the statements that proofs/TrueFindingLaws.antt proves of every
+-- Promises. That the fault of a block and the finding of a stream are the true ones: the statements that proofs/TrueFindingLaws.antt proves of every
 -- input. They go by the answer, the first bad code and the tail that the tight reading itself goes by. Assumes nothing.
 use mathlib.Core.Bool.{true, false}
 use mathlib.Core.List.{List, []}
@@ -24,7 +24,7 @@ use Rattle.read_block.specs.BadSpots.{stepK, stepQuantiser, BadIn}
 use Rattle.read_block.specs.Images.{formOf, bytesIn}
 use Rattle.read_block.specs.TightBlocks.{tightAnswer}
 use Rattle.read_block.specs.declared.Decoded.the-variants as Answer
-use Rattle.tight_diagnosis.specs.Ways.{spotOf}
+use Rattle.tight_diagnosis.specs.Faults.{spotOf}
 use Rattle.code.specs.declared.reasons.BadSpot.{BadSpot}
 use Rattle.tight_diagnosis.specs.Faults.{faultAt}
 use Rattle.tight_findings.specs.Findings.{findingOf}

@@ -1,4 +1,4 @@
-// What is found in a stream that is not tight: the lowest block that the tight reading refuses with 15, the spot and the reason; and the report.
+// Item 1: the lowest block of a stream that is not tight, its spot and reason, and the text of the report.
 ghost use mathlib.Core.Path.{_≡_};
 ghost use mathlib.Core.Bool.{true};
 ghost use mathlib.Core.List.{_++_};

@@ -2,7 +2,8 @@
 ghost use mathlib.Core.Path.{_≡_};
 ghost use Prim.Native.Nat.{_+_, _≤_};
 ghost use lib.ListN.{length};
-ghost use Rattle.tight_findings.specs.Texts.{heading, numberText, field, reasonText, codeText, tailRecord, textOf, Put};
+ghost use Rattle.tight_findings.specs.Texts.{heading, numberText, field, reasonText, codeText, tailRecord, textOf};
+ghost use Rattle.tight_findings.specs.Inside.{Put};
 use bits::BitPosition;
 use code::BadSpot;
 use code::Reason;

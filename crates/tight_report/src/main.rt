@@ -1,5 +1,6 @@
-// Reads a stream from standard input, at most its first 65,536 bytes, and writes why it is not tight: a heading and at most one record, or the number of a
-// refusal. What is written is `tight_findings::report`; a read that fails ends the input, and nothing is done about a write that fails.
+// Item 1, the program: reads a stream from standard input, at most its first 65,536 bytes, and writes why it is not tight: a heading and
+// at most one record, or the number of a refusal. The text is that of `tight_findings::report`. A read that fails ends the input, and
+// write errors are ignored.
 use libc::STDIN_FILENO;
 use libc::STDOUT_FILENO;
 

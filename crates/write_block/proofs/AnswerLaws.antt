@@ -11,7 +11,8 @@ use lib.Dec.{leb, ltb}
 use lib.ListN.{length, getD, drop, replicate, length-replicate}
 use lib.Seq.{paste, take-at, take-all, drop-append-add, drop-drop}
 use Rattle.bits.specs.declared.BitPosition.{BitPosition}
-use Rattle.bits.specs.BitLists.{packed, bytesFor, blockBytes, filled, bytesOf}
+use Rattle.bits.specs.BitLists.{packed, blockBytes, bytesOf}
+use Rattle.bits.specs.Inside.{bytesFor, filled}
 use Rattle.bits.proofs.PackLaws.{length-packed, packed-more}
 use Rattle.quantiser.specs.Quantisers.{largest}
 use Rattle.stream.specs.declared.BlockLength.{BlockLength}
@@ -30,7 +31,8 @@ use Rattle.write_block.specs.Counted.{nextOf}
 use Rattle.write_block.specs.declared.counted.Next.the-variants.{Answer, Store}
 use Rattle.bit_output.specs.declared.Put.{Put}
 use Rattle.bit_output.specs.declared.Put.the-variants.{At, Wrong}
-use Rattle.write_block.specs.WrittenBlocks.{isStrict, writeLines, writtenBlock, tightBlock, SetWanted, FitSet}
+use Rattle.write_block.specs.WrittenBlocks.{isStrict, writeLines, writtenBlock, tightBlock}
+use Rattle.write_block.specs.Inside.{SetWanted, FitSet}
 use Rattle.write_block.specs.WrittenAnswers.{predictedAnswer, rangeAnswer, measuredAnswer}
 use Rattle.write_block.specs.WrittenAnswers.{aboveIn, setAnswer, writtenAnswer}
 use Rattle.write_block.specs.WriterParts.{IsSetPut, SetWritten, roomFor, outputOf, Storable, Stored}

@@ -20,7 +20,8 @@ use Rattle.write_pass.proofs.BoundLaws.{pass-most, pass-sure}
 use Rattle.write_block.specs.Counted.{isAmple}
 use Rattle.read_block.specs.Records.{baseOf}
 use Rattle.write_block.specs.WriterParts.{Storable}
-use Rattle.write_block.specs.WrittenBlocks.{WriteState, repeats, enterWriting, writePassAt, beforeWriting, isStrict, writeLine, startWriting, writeLines, writtenBlock, SetWanted}
+use Rattle.write_block.specs.WrittenBlocks.{WriteState, repeats, enterWriting, writePassAt, beforeWriting, isStrict, writeLine, startWriting, writeLines, writtenBlock}
+use Rattle.write_block.specs.Inside.{SetWanted}
 use Rattle.read_block.specs.declared.Form.{Form}
 use Rattle.write_block.proofs.AnswerLaws.{block-length}
 use Rattle.read_block.proofs.SampleLaws.{guarded-le, turned-le}

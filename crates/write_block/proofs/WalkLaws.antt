@@ -28,7 +28,8 @@ use Rattle.write_pass.proofs.PassLaws.{pass-within, pass-wrong, pass-short}
 use Rattle.bit_output.proofs.PutLaws.{put-none, put-more}
 use Rattle.read_block.specs.Records.{startRecords, restartedMain, baseOf, isRestarted, setOf, putSet}
 use Rattle.write_block.specs.WrittenBlocks.{WriteState, repeats, enterWriting, writePassAt, beforeWriting}
-use Rattle.write_block.specs.WrittenBlocks.{isStrict, writeLine, startWriting, writeLines, SetWanted}
+use Rattle.write_block.specs.WrittenBlocks.{isStrict, writeLine, startWriting, writeLines}
+use Rattle.write_block.specs.Inside.{SetWanted}
 use Rattle.write_block.specs.WriterParts.{passesFrom, IsLinePut, LineWritten, SetWritten}
 use Rattle.read_block.specs.declared.Form.{Form}
 use Rattle.read_block.proofs.SampleLaws.{zeros-le, guarded-le, turned-le}

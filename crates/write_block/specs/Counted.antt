@@ -1,4 +1,4 @@
--- What follows once a walk has counted the bits of a set: an answer, or the walk that stores them. Assumes nothing.
+-- Inside. What follows once a walk has counted the bits of a set: an answer, or the walk that stores them.
 use mathlib.Core.Bool.{Bool, false, cond}
 use Prim.Native.Nat.{ℕ, _*_}
 use lib.Dec.{leb, ltb}

@@ -1,4 +1,4 @@
--- What calls of the writer from C leave: what the same call leaves here, with the length, 0 where it is refused, and a refusal's words. Assumes nothing.
+-- Promises. What calls of the writer from C leave: what the same call leaves here, with the length, 0 where it is refused, and a refusal's words.
 use mathlib.Core.List.{List}
 use mathlib.Core.Path.{_≡_}
 use Prim.Native.Nat.{ℕ}

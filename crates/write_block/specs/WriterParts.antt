@@ -1,4 +1,4 @@
--- What the writer's functions below the entries hand back. No definition of the format and no entry's contract rests on these. Assumes nothing.
+-- Inside. What the writer's functions below the entries hand back. No definition of the format and no entry's contract rests on these.
 use mathlib.Core.Bool.{Bool, true, false}
 use mathlib.Core.List.{List, []}
 use mathlib.Core.Option.{Option, none, some}
@@ -12,7 +12,8 @@ use Rattle.stream.specs.declared.header.Parsed.{Parsed}
 use Rattle.write_pass.specs.Puts.{putIf}
 use Rattle.bit_output.specs.declared.Put.{Put}
 use Rattle.bit_output.specs.declared.Put.the-variants.{At, Wrong}
-use Rattle.read_block.specs.Lent.{Outputs, scratchOf}
+use Rattle.read_block.specs.Lent.{Outputs}
+use Rattle.read_block.specs.Inside.{scratchOf}
 use Rattle.write_block.specs.WrittenAnswers.{writtenOut, LeftLossy, MeasuredWith}
 use Rattle.write_block.specs.WrittenBlocks.{WriteState, repeats, writePassAt, writeLines, writtenBlock}
 use Rattle.read_block.specs.declared.Form.{Form}

@@ -1,4 +1,4 @@
--- What a call of the writer answers and leaves, and a call that only measures; the lossless writer is the case without bases. Assumes nothing.
+-- Promises. What a call of the writer answers and leaves, and a call that only measures; the lossless writer is the case without bases.
 use mathlib.Core.Bool.{cond}
 use mathlib.Core.List.{List, [], _++_}
 use mathlib.Core.Option.{Option, none, some}

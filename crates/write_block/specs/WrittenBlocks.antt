@@ -1,20 +1,16 @@
--- The block of a set of colour lines: line after line, by the rules of reading, each with its base; the tight block has no bases. Assumes nothing.
+-- Rules. The block of a set of colour lines: line after line, by the rules of reading, each with its base; the tight block has no bases.
 use mathlib.Core.Bool.{Bool}
 use mathlib.Core.List.{List, []}
 use mathlib.Core.Option.{Option, none}
-use mathlib.Core.Path.{_≡_}
-use Prim.Native.Nat.{ℕ, zero, suc, _≤_, _<_}
+use Prim.Native.Nat.{ℕ, zero, suc}
 use lib.Dec.{eqb}
-use lib.ListN.{length, getD}
+use lib.ListN.{length}
 use Rattle.bits.specs.BitLists.{bytesOf}
 use Rattle.statistics.specs.declared.Record.{Record}
-use Rattle.quantiser.specs.Quantisers.{largest}
-use Rattle.pass_schedule.specs.Steps.{planOf, passSteps}
+use Rattle.pass_schedule.specs.Steps.{planOf}
 use Rattle.pass_schedule.specs.declared.Plan.{Plan}
 use Rattle.image_map.specs.Places.{widthOf}
-use Rattle.colour_lines.specs.Sets.{setSize}
 use Rattle.write_pass.specs.Writings.{Writing, writePass}
-use Rattle.write_pass.specs.Puts.{Wanted}
 use Rattle.read_block.specs.Records.{baseOf, setOf, putSet}
 use Rattle.read_block.specs.Between.{linesAtStart, recordsAtStart, linesBefore, recordsBefore, linesEntered}
 use Rattle.read_block.specs.declared.Form.{Form}
@@ -84,13 +80,3 @@ writtenBlock F bases lines t = bytesOf ((writeLines F bases t lines) .bits)
 -- the tight block of the set t: it is lossless
 abbrev pub tightBlock : Form → ℕ → List ℕ → List ℕ
 tightBlock F lines t = writtenBlock F [] lines t
-
--- the samples of a set that have a code are in 0..M
-abbrev pub SetWanted : Form → List ℕ → Type 0
-SetWanted F t = (n i : ℕ) → i < 6 → Wanted (largest (F .bits)) (widthOf (F .xtrans)) t n (passSteps (widthOf (F .xtrans)) (planOf (F .xtrans) i))
-
--- a set that fits: it has all samples, each in 0..M, and each interpolated position has its prediction
-pub record FitSet (F : Form) (lines : ℕ) (t : List ℕ) : Type 0 where
-  pub size : length t ≡ setSize (widthOf (F .xtrans)) lines
-  pub range : (j : ℕ) → getD t j 0 ≤ largest (F .bits)
-  pub predicted : (writeLines F [] t lines) .wrong ≡ none

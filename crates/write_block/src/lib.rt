@@ -1,4 +1,4 @@
-// The writer: a set of colour lines becomes a block, tight where it is lossless, or is only measured.
+// Document 01, Tight block, and Items 2, 4 and 5: a set of colour lines becomes a block, tight if lossless, or is only measured.
 ghost use mathlib.Core.Path.{_≡_};
 ghost use mathlib.Core.Bool.{true, false};
 ghost use mathlib.Core.List.{[]};
@@ -13,9 +13,12 @@ ghost use Rattle.colour_lines.specs.Sets.{lineSize, setSize};
 ghost use Rattle.write_pass.specs.Puts.{Room, Within};
 ghost use Rattle.read_block.specs.Records.{clearRecords};
 ghost use Rattle.read_block.specs.Walks.{AllInRange};
-ghost use Rattle.admission.specs.Writings.{FitsOn, writingBegins, lossyBegins};
-ghost use Rattle.read_block.specs.Lent.{Outputs, Scratch, ScratchOf};
-ghost use Rattle.write_block.specs.WrittenBlocks.{isStrict, writeLines, SetWanted, writtenBlock};
+ghost use Rattle.admission.specs.Inside.{FitsOn};
+ghost use Rattle.admission.specs.Writings.{writingBegins, lossyBegins};
+ghost use Rattle.read_block.specs.Lent.{Outputs, Scratch};
+ghost use Rattle.read_block.specs.Inside.{ScratchOf};
+ghost use Rattle.write_block.specs.WrittenBlocks.{isStrict, writeLines, writtenBlock};
+ghost use Rattle.write_block.specs.Inside.{SetWanted};
 ghost use Rattle.write_block.specs.WrittenAnswers.{measuredAnswer, setAnswer};
 ghost use Rattle.write_block.specs.WrittenAnswers.{LeftWritten, LeftLossy, LeftMeasured};
 ghost use Rattle.write_block.specs.WriterParts.{passesFrom, LineWritten, SetWritten, roomFor, outputOf, RightPasses, Storable, Stored, LeftBy};

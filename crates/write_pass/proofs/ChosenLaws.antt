@@ -10,7 +10,7 @@ use Rattle.quantiser.specs.Quantisers.{largest, totalOf, quantiserOf}
 use Rattle.quantiser.proofs.QuantiserLaws.{total-le, total-wide}
 use Rattle.prediction.specs.declared.Context.{Context}
 use Rattle.code.specs.Samples.{sampleOf}
-use Rattle.code.specs.Wanted.{codeFor}
+use Rattle.code.specs.Inside.{codeFor}
 use Rattle.code.specs.Nearest.{codeNear}
 use Rattle.code.proofs.SampleLaws.{OneToOne, one-to-one}
 use Rattle.code.proofs.NearLaws.{near-back, near-exact}

@@ -10,9 +10,11 @@ use lib.ListN.{length}
 use lib.Pow.{pow-pos, pow-add, pow-mono, high, low}
 use borrow.Author.Tests.{lt-ltb, le-ltb}
 use Rattle.numbers.proofs.OrderLaws.{split}
-use Rattle.bits.specs.BitLists.{binary, bytesFor}
+use Rattle.bits.specs.BitLists.{binary}
+use Rattle.bits.specs.Inside.{bytesFor}
 use Rattle.bits.proofs.ListLaws.{binary-zero}
-use Rattle.code.specs.Tight.{runThen, codeBits, codeLength}
+use Rattle.code.specs.Tight.{runThen, codeBits}
+use Rattle.code.specs.Inside.{codeLength}
 use Rattle.code.proofs.TightLaws.{length-codeBits}
 use Rattle.bit_output.specs.Output.{putBits}
 use Rattle.bit_output.proofs.PutLaws.{binary-split}

@@ -8,10 +8,11 @@ use lib.Dec.{eqb}
 use lib.ListN.{length, getD, set, length-set}
 use lib.Pow.{pow-mono}
 use Rattle.bits.specs.declared.BitPosition.{BitPosition}
-use Rattle.statistics.specs.Statistics.{kOf, updated, InRange}
+use Rattle.statistics.specs.Statistics.{kOf, updated}
+use Rattle.statistics.specs.Inside.{InRange}
 use Rattle.statistics.specs.declared.Record.{Record}
 use Rattle.quantiser.specs.Quantisers.{largest}
-use Rattle.prediction.specs.Predictions.{ContextRanges}
+use Rattle.prediction.specs.Inside.{ContextRanges}
 use Rattle.prediction.specs.declared.Context.{Context}
 use Rattle.code.specs.Samples.{residualOf}
 use Rattle.code.specs.Tight.{codeBits}

@@ -9,12 +9,12 @@ use lib.Dec.{eqb}
 use lib.ListN.{length, getD, set, length-append}
 use borrow.Author.Tests.{lt-ltb, le-ltb, lt-leb, le-leb}
 use Rattle.bits.specs.declared.BitPosition.{BitPosition}
-use Rattle.bits.specs.BitLists.{bytesFor}
+use Rattle.bits.specs.Inside.{bytesFor}
 use Rattle.statistics.specs.Statistics.{kOf}
 use Rattle.statistics.specs.declared.Record.{Record}
 use Rattle.statistics.proofs.RecordLaws.{k-least}
 use Rattle.quantiser.specs.Quantisers.{largest}
-use Rattle.code.specs.Tight.{codeLength}
+use Rattle.code.specs.Inside.{codeLength}
 use Rattle.code.proofs.SampleLaws.{sample-le}
 use Rattle.code.proofs.TightLaws.{length-codeBits, short-length, long-length}
 use Rattle.numbers.proofs.OrderLaws.{split}

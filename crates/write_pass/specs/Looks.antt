@@ -1,4 +1,4 @@
--- What looking at a lossless set finds: that writing meets no wrong sample, and the colour lines that it leaves. Assumes nothing.
+-- Inside. What looking at a lossless set finds: that writing meets no wrong sample, and the colour lines that it leaves.
 use mathlib.Core.Bool.{Bool, true, false}
 use mathlib.Core.List.{List}
 use mathlib.Core.Option.{none}
@@ -10,7 +10,7 @@ use Rattle.quantiser.specs.Quantisers.{largest}
 use Rattle.pass_schedule.specs.Steps.{Step, passSteps}
 use Rattle.pass_schedule.specs.Steps.{stepPlace}
 use Rattle.pass_steps.specs.Contexts.{stepContext}
-use Rattle.pass_schedule.specs.Steps.{PlanInRange}
+use Rattle.pass_schedule.specs.Inside.{PlanInRange}
 use Rattle.pass_steps.specs.Values.{Depth}
 use Rattle.pass_schedule.specs.declared.Plan.{Plan}
 use Rattle.pass_steps.specs.declared.Spot.{Spot}

@@ -1,4 +1,4 @@
--- What the functions of writing do to the output, and what they hand back. Assumes nothing.
+-- Inside. What the functions of writing do to the output, and what they hand back.
 use mathlib.Core.Bool.{Bool, true, false, cond}
 use mathlib.Core.List.{List, [], _∷_}
 use mathlib.Core.Option.{Option, none, some}
@@ -6,19 +6,19 @@ use mathlib.Core.Path.{_≡_}
 use Prim.Native.Nat.{ℕ, _+_, _-_, _*_, _/_, _%_, _^_, _≤_, _<_}
 use lib.Dec.{ltb}
 use lib.ListN.{length, getD, set}
-use Rattle.bits.specs.BitLists.{bytesFor}
+use Rattle.bits.specs.Inside.{bytesFor}
 use Rattle.bits.specs.declared.BitPosition.{BitPosition}
 use Rattle.statistics.specs.Statistics.{kOf, updated}
 use Rattle.statistics.specs.declared.Record.{Record}
 use Rattle.quantiser.specs.Quantisers.{largest}
-use Rattle.prediction.specs.Predictions.{ContextRanges}
+use Rattle.prediction.specs.Inside.{ContextRanges}
 use Rattle.prediction.specs.declared.Context.{Context}
 use Rattle.code.specs.Samples.{residualOf}
 use Rattle.code.specs.Tight.{codeBits}
 use Rattle.bit_output.specs.Output.{putBits}
 use Rattle.pass_schedule.specs.Steps.{Step, passSteps}
 use Rattle.pass_steps.specs.Contexts.{usedQuantiser, lookOf, slotOf, noRecord}
-use Rattle.pass_schedule.specs.Steps.{PlanInRange}
+use Rattle.pass_schedule.specs.Inside.{PlanInRange}
 use Rattle.pass_steps.specs.Values.{zipRecords, recordsOf, SetInRange, quantisersOf, AreQuantisers, Depth}
 use Rattle.pass_schedule.specs.declared.Plan.{Plan}
 use Rattle.pass_steps.specs.declared.Quantisers.{Quantisers}

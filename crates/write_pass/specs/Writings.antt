@@ -1,4 +1,4 @@
--- Writing: what a step makes of the colour lines and the records of its set, and the bits that it adds. The samples wanted are those of a set;
+-- Rules. Writing: what a step makes of the colour lines and the records of its set, and the bits that it adds. The samples wanted are those of a set;
 -- predictions come from the samples as they will read back, by the rules of reading. A lossless line has base 0. Assumes nothing.
 use mathlib.Core.Bool.{Bool, cond, not, _&&_}
 use mathlib.Core.List.{List, [], _∷_, _++_}

@@ -1,4 +1,5 @@
-// Writing one pass over two colour lines: the samples wanted are those of a set, and their tight codes are counted or stored. A lossless line has base 0.
+// Document 01, Tight block, and Item 5: one pass of writing. The samples of a set become codes, which are counted or stored. A lossless
+// line has base 0.
 ghost use mathlib.Core.Path.{_≡_};
 ghost use Prim.Native.Nat.{_+_, _*_, _^_, _≤_, _<_};
 ghost use lib.ListN.{length};
@@ -6,8 +7,10 @@ ghost use mathlib.Core.Bool.{not, _&&_};
 ghost use lib.Dec.{eqb};
 ghost use Rattle.quantiser.specs.Quantisers.{largest, totalOf};
 ghost use Rattle.code.specs.Samples.{sampleOf};
-ghost use Rattle.code.specs.Wanted.{stepsUp, residualUp, codeOfResidual, codeFor};
-ghost use Rattle.code.specs.Tight.{codeBits, codeLength};
+ghost use Rattle.code.specs.Inside.{stepsUp, residualUp, codeFor};
+ghost use Rattle.code.specs.Wanted.{codeOfResidual};
+ghost use Rattle.code.specs.Tight.{codeBits};
+ghost use Rattle.code.specs.Inside.{codeLength};
 ghost use Rattle.code.specs.Nearest.{codeNear};
 ghost use Rattle.pass_schedule.specs.Steps.{evenPart, oddPart};
 ghost use Rattle.pass_steps.specs.Values.{zipRecords, SetInRange, AreKs, Depth};
@@ -200,8 +203,8 @@ fn lossy_as(bits: u32, base: u32, totals: &[u32; 4], p: usize, x: Context, v: u3
     }
 }
 
-// The same. A lossless line, with base 0, comes first. The other way has two calls that differ: with one LLVM takes it in here, and then this is too
-// large to be taken into the loop.
+// The same for any base. A lossless line, with base 0, comes first.
+// INLINING: the other way has two calls that differ in an operand. With one LLVM inlines `lossy_as` here, and this is then too large for the loop.
 fn coded_as(bits: u32, base: u32, totals: &[u32; 4], p: usize, x: Context, v: u32) -> Coding
     requires { ⌜ CodingAsks bits base (now totals) x v ⌝ }
     ensures { λ r. ⌜ CodedAs bits base p x v r ⌝ }

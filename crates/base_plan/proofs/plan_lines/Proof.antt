@@ -8,7 +8,7 @@ use native.Mathlib.Omega.{arith}
 use lib.ListN.{length}
 use Rattle.base_plan.specs.Records.{startOf}
 use Rattle.base_plan.specs.Plans.{firstAmiss}
-use Rattle.base_plan.specs.Counts.{IsRead, Marked, Balanced}
+use Rattle.base_plan.specs.Inside.{IsRead, Marked, Balanced}
 use Rattle.base_plan.specs.declared.counts.Read.{Read}
 use Rattle.base_plan.proofs.CountLaws.{marked-none, balanced}
 use Rattle.base_plan.proofs.AnswerLaws.{forward, amiss-is, bad-record, held-twice, not-held, accepted}

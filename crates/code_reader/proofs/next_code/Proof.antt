@@ -11,7 +11,8 @@ use native.Mathlib.Omega.{arith}
 use lib.Dec.{leb, eqb}
 use lib.ListN.{length}
 use denote.Ref.{now}
-use Rattle.bits.specs.Bits.{bitsAt, zeroRun, afterRun}
+use Rattle.bits.specs.Bits.{bitsAt, zeroRun}
+use Rattle.bits.specs.Inside.{afterRun}
 use Rattle.bits.specs.Positions.{ahead}
 use Rattle.bit_pump.specs.Pump.{nextBits, movedTo}
 use Rattle.bits.specs.declared.BitPosition.{BitPosition}

@@ -8,7 +8,7 @@ use lib.Count.{leadingZeros}
 use Rattle.bits.specs.Bits.{bitsAt, wordAt}
 use Rattle.bits.proofs.RunLaws.{run-inside}
 use Rattle.code.specs.Codes.{shortCode}
-use Rattle.code.specs.Tight.{shortAt}
+use Rattle.code.specs.Inside.{shortAt}
 use Rattle.code.specs.declared.Short.the-variants as Brief
 use Rattle.code.proofs.CodeLaws.{short-lt, shifted}
 use Rattle.code_reader.proofs.ShortLaws.{Window, window}

@@ -4,7 +4,8 @@ use mathlib.Core.Bool.{Bool}
 use mathlib.Core.List.{List}
 use mathlib.Core.Path.{_≡_}
 use Prim.Native.Nat.{ℕ}
-use Rattle.colour_lines.specs.ColourLines.{guarded, roomed, entered}
+use Rattle.colour_lines.specs.ColourLines.{guarded}
+use Rattle.colour_lines.specs.Inside.{roomed, entered}
 use Rattle.colour_lines.proofs.enter.Statement.{statement}
 use Rattle.colour_lines.proofs.enter.Tie as tie
 

@@ -6,7 +6,8 @@ use mathlib.Core.Path.{_≡_}
 use Prim.Native.Nat.{ℕ, _+_, _-_, _*_, _≤_}
 use native.Mathlib.Nat.{mul-le-mul-right}
 use native.Mathlib.Omega.{arith}
-use Rattle.colour_lines.specs.ColourLines.{moved, shifted, roomed}
+use Rattle.colour_lines.specs.ColourLines.{moved}
+use Rattle.colour_lines.specs.Inside.{shifted, roomed}
 use Rattle.colour_lines.proofs.make_room.Statement.{statement}
 use Rattle.colour_lines.proofs.make_room.Tie as tie
 

@@ -1,6 +1,6 @@
 -- `image_region::part` meets its contract. Assumes nothing.
 use borrow.Author.Needs.{needs}
-use Rattle.image_region.specs.Regions.{partIn}
+use Rattle.image_region.specs.Inside.{partIn}
 use Rattle.image_region.proofs.part.Statement.{statement}
 use Rattle.image_region.proofs.part.Tie as tie
 

@@ -3,7 +3,8 @@ use mathlib.Core.Path.{_≡_, ap, _∙_}
 use Prim.Native.Nat.{ℕ, _≤_}
 use native.Mathlib.Omega.{arith}
 use Rattle.numbers.specs.declared.Signed.{Signed}
-use Rattle.quantiser.specs.Quantisers.{thresholdsOf, Serves, gradientOf}
+use Rattle.quantiser.specs.Inside.{thresholdsOf, Serves}
+use Rattle.quantiser.specs.Quantisers.{gradientOf}
 use Rattle.quantiser.specs.declared.Thresholds.{Thresholds}
 use Rattle.prediction.specs.Predictions.{flatnessOf}
 use Rattle.prediction.specs.declared.Context.{Context}

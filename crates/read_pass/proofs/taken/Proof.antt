@@ -4,8 +4,9 @@ use mathlib.Core.Bool.{Bool}
 use mathlib.Core.List.{List}
 use mathlib.Core.Path.{_≡_, refl, sym, _∙_}
 use Prim.Native.Nat.{ℕ}
-use Rattle.code.specs.Codes.{codeAt, Small}
-use Rattle.code.specs.Tight.{takenOf}
+use Rattle.code.specs.Codes.{codeAt}
+use Rattle.code.specs.Inside.{Small}
+use Rattle.code.specs.Inside.{takenOf}
 use Rattle.code.specs.declared.Taken.{Taken}
 use Rattle.code_reader.proofs.ShortLaws.{short-taken}
 use Rattle.read_pass.proofs.taken.Statement.{statement}

@@ -6,7 +6,8 @@ use Prim.Native.Nat.{ℕ, _^_, _<_}
 use native.Mathlib.Omega.{arith}
 use Rattle.stream.specs.declared.header.FujiHeader.{FujiHeader}
 use Rattle.stream.specs.declared.header.Parsed.the-variants.{Header}
-use Rattle.stream.specs.Ranges.{cutRange, Short}
+use Rattle.stream.specs.Inside.{cutRange}
+use Rattle.stream.specs.Ranges.{Short}
 use Rattle.stream.specs.declared.ranges.Ranged.{Ranged}
 use Rattle.stream.specs.Streams.{sizeOf, blockStart, rangeIn}
 use Rattle.stream.proofs.range_in.Statement.{statement}

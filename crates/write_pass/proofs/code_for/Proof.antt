@@ -3,7 +3,8 @@ use borrow.Author.Needs.{needs}
 use mathlib.Core.Bool.{Bool, true, false}
 use mathlib.Core.Path.{_≡_}
 use Prim.Native.Nat.{ℕ}
-use Rattle.code.specs.Wanted.{stepsUp, residualUp, codeOfResidual, codeFor, residualFor}
+use Rattle.code.specs.Inside.{stepsUp, residualUp, codeFor, residualFor}
+use Rattle.code.specs.Wanted.{codeOfResidual}
 use Rattle.write_pass.proofs.code_for.Statement.{statement}
 use Rattle.write_pass.proofs.code_for.Tie as tie
 

@@ -2,7 +2,8 @@
 use borrow.Author.Needs.{needs}
 use borrow.Author.Tests.{le-leb, lt-leb}
 use native.Mathlib.Omega.{arith}
-use Rattle.code.specs.Wanted.{residualUp, codeOfResidual}
+use Rattle.code.specs.Inside.{residualUp}
+use Rattle.code.specs.Wanted.{codeOfResidual}
 use Rattle.write_pass.proofs.code_of_steps.Statement.{statement}
 use Rattle.write_pass.proofs.code_of_steps.Tie as tie
 

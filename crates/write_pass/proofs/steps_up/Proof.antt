@@ -2,7 +2,7 @@
 use borrow.Author.Needs.{needs}
 use borrow.Author.Tests.{le-leb, lt-leb}
 use native.Mathlib.Omega.{arith}
-use Rattle.code.specs.Wanted.{stepsUp}
+use Rattle.code.specs.Inside.{stepsUp}
 use Rattle.write_pass.proofs.steps_up.Statement.{statement}
 use Rattle.write_pass.proofs.steps_up.Tie as tie
 

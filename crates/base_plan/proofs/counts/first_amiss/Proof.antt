@@ -10,7 +10,8 @@ use native.Mathlib.Omega.{arith}
 use lib.ListN.{getD}
 use Rattle.numbers.specs.Numbers.{leastFrom}
 use Rattle.numbers.proofs.LeastLaws.{least-last, least-here, least-next}
-use Rattle.base_plan.specs.Counts.{isAmiss, sumBefore, Balanced, amissIn}
+use Rattle.base_plan.specs.Counts.{isAmiss}
+use Rattle.base_plan.specs.Inside.{sumBefore, Balanced, amissIn}
 use Rattle.base_plan.proofs.counts.first_amiss.Statement.{statement}
 use Rattle.base_plan.proofs.counts.first_amiss.Tie as tie
 

@@ -7,7 +7,7 @@ use Prim.Native.Nat.{ℕ, _+_, _-_, _^_, _≤_, _<_}
 use native.Mathlib.Omega.{arith}
 use lib.ListN.{length, getD, set}
 use Rattle.base_plan.specs.Records.{firstLine, lastLine, startOf, goodRecords}
-use Rattle.base_plan.specs.Counts.{Marked}
+use Rattle.base_plan.specs.Inside.{Marked}
 use Rattle.base_plan.proofs.RecordLaws.{IsRow, row-bad, row-good, none-past, goodFrom, good-start, good-next, start-next, start-none}
 use Rattle.base_plan.proofs.CountLaws.{is-read, marked-more}
 use Rattle.base_plan.proofs.counts.read_records.Statement.{statement}

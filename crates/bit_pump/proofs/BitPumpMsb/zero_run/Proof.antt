@@ -44,7 +44,8 @@ use denote.Triple.Spec.{Meets, tripleOf}
 use denote.Triple.Statement.{Contract, Triple}
 use denote.Triple.Table.{entered, cited}
 use denote.Triple.Walked.{says, Stays, needs, stay-ref, walkOf, goes-ref, Walks, ends-at, walked, walk-meets}
-use Rattle.bits.specs.Bits.{zeroRun, afterRun}
+use Rattle.bits.specs.Bits.{zeroRun}
+use Rattle.bits.specs.Inside.{afterRun}
 use Rattle.bit_pump.specs.Pump.{movedTo}
 use Rattle.bits.specs.declared.BitPosition.{BitPosition}
 use Rattle.bits.specs.declared.ZeroRun.{ZeroRun}

@@ -7,7 +7,8 @@ use Prim.Native.Nat.{ℕ, _+_, _*_, _%_, _^_, _≤_, _<_}
 use native.Mathlib.Nat.{mul-le-mul-left}
 use native.Mathlib.Omega.{arith}
 use lib.Dec.{eqb}
-use Rattle.code.specs.Samples.{residualOf, wrap, sampleOf, Moved}
+use Rattle.code.specs.Samples.{residualOf, wrap, sampleOf}
+use Rattle.code.specs.Inside.{Moved}
 use Rattle.code.proofs.SampleLaws.{residual-sign}
 use Rattle.code.proofs.samples.sample.Statement.{statement}
 use Rattle.code.proofs.samples.sample.Tie as tie

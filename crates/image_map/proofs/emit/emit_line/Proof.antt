@@ -4,7 +4,7 @@ use borrow.Author.Needs.{needs}
 use mathlib.Core.Path.{_≡_}
 use Prim.Native.Nat.{_+_, _-_, _*_, _≤_}
 use native.Mathlib.Omega.{arith}
-use Rattle.image_map.specs.Places.{emittedSample}
+use Rattle.image_map.specs.Inside.{emittedSample}
 use Rattle.image_map.specs.Rows.{RowsPut}
 use Rattle.image_map.proofs.PartLaws.{put-none, put-join, fits-kept}
 use Rattle.image_map.proofs.emit.emit_line.Statement.{statement}

@@ -3,7 +3,7 @@ use borrow.Author.Tests.{not-true, not-false}
 use mathlib.Core.Path.{_≡_}
 use Prim.Native.Nat.{_+_, _-_, _*_, _≤_}
 use native.Mathlib.Omega.{arith}
-use Rattle.image_map.specs.Places.{inRows}
+use Rattle.image_map.specs.Inside.{inRows}
 use Rattle.image_map.specs.Rows.{RowsPut}
 use Rattle.image_map.proofs.PartLaws.{put-none, put-join, fits-kept}
 use Rattle.image_map.proofs.ChangeLaws.{if-wanted, not-wanted}

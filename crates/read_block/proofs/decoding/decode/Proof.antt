@@ -5,7 +5,8 @@ use mathlib.Core.List.{List}
 use mathlib.Core.Path.{_≡_, sym, _∙_}
 use Prim.Native.Nat.{ℕ, _+_, _-_}
 use Rattle.stream.specs.declared.header.FujiHeader.{FujiHeader}
-use Rattle.image_region.specs.Regions.{firstBlock, lastBlock, Accepted}
+use Rattle.image_region.specs.Regions.{firstBlock, lastBlock}
+use Rattle.image_region.specs.Inside.{Accepted}
 use Rattle.image_region.specs.declared.Rect.{Rect}
 use Rattle.admission.specs.Beginnings.{wholeOf}
 use Rattle.admission.proofs.CallLaws.{image-reads}

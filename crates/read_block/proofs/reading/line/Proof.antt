@@ -9,9 +9,10 @@ use mathlib.Core.Path.{_≡_, refl, sym, ap, _∙_}
 use Prim.Native.Nat.{ℕ, _+_, _-_, _*_, _%_, _≤_}
 use native.Mathlib.Omega.{arith}
 use lib.ListN.{length}
-use Rattle.image_map.specs.Places.{widthOf, Fits}
+use Rattle.image_map.specs.Places.{widthOf}
+use Rattle.image_map.specs.Inside.{Fits}
 use Rattle.image_map.proofs.PartLaws.{fits-kept}
-use Rattle.pass_schedule.specs.Steps.{PlanInRange}
+use Rattle.pass_schedule.specs.Inside.{PlanInRange}
 use Rattle.pass_steps.specs.Values.{recordsOf}
 use Rattle.read_pass.proofs.RangeLaws.{pass-keeps}
 use Rattle.read_pass.proofs.SiteLaws.{pass-was-read}

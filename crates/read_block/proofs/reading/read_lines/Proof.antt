@@ -10,11 +10,13 @@ use lib.ListN.{length}
 use Rattle.code.specs.declared.Place.{Place}
 use Rattle.statistics.specs.declared.Record.{Record}
 use Rattle.line_totals.specs.declared.TightLines.{TightLines}
-use Rattle.image_map.specs.Places.{widthOf, Fits}
+use Rattle.image_map.specs.Places.{widthOf}
+use Rattle.image_map.specs.Inside.{Fits}
 use Rattle.image_map.specs.declared.Part.{Part}
 use Rattle.image_map.proofs.PartLaws.{fits-kept}
 use Rattle.image_map.proofs.PlaceLaws.{width-le}
-use Rattle.read_block.specs.Blocks.{State, readFrom, linesOf, tightOf}
+use Rattle.read_block.specs.Blocks.{State, readFrom, linesOf}
+use Rattle.read_block.specs.Inside.{tightOf}
 use Rattle.read_block.specs.Walks.{stateAt, AllInRange, ShownFrom}
 use Rattle.read_block.specs.WindowedLines.{samplesIn, Held}
 use Rattle.read_block.specs.declared.Form.{Form}

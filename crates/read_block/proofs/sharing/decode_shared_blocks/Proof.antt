@@ -9,9 +9,10 @@ use native.Mathlib.Nat.{le-refl}
 use native.Mathlib.Omega.{arith}
 use lib.ListN.{length, replicate, length-replicate}
 use Rattle.statistics.specs.declared.Record.{Record}
-use Rattle.image_map.specs.Places.{ArePlaces}
+use Rattle.image_map.specs.Inside.{ArePlaces}
 use Rattle.stream.specs.declared.header.FujiHeader.{FujiHeader}
-use Rattle.image_region.specs.Regions.{firstBlock, lastBlock, spanOf, Accepted, lineCount}
+use Rattle.image_region.specs.Regions.{firstBlock, lastBlock, spanOf, lineCount}
+use Rattle.image_region.specs.Inside.{Accepted}
 use Rattle.image_region.specs.declared.Rect.{Rect}
 use Rattle.image_region.specs.declared.Span.{Span}
 use Rattle.image_region.proofs.RegionLaws.{block-order, block-inside, lines-inside, part-fits}

@@ -5,7 +5,7 @@ use Prim.Native.Nat.{ℕ}
 use Rattle.line_totals.specs.declared.Totals.{Totals}
 use Rattle.line_totals.specs.declared.TightLines.{TightLines}
 use Rattle.stream.specs.declared.header.Refusal.the-variants.{Truncated}
-use Rattle.read_block.specs.Totals.{walkedCounted}
+use Rattle.read_block.specs.Inside.{walkedCounted}
 use Rattle.read_block.specs.declared.Decoded.the-variants.{Done, Refused}
 use Rattle.read_block.specs.declared.Walked.{Walked}
 use Rattle.read_block.specs.declared.Walked.the-variants as Walk

@@ -5,9 +5,9 @@ use mathlib.Core.List.{List}
 use mathlib.Core.Path.{_≡_, sym, _∙_}
 use Prim.Native.Nat.{ℕ}
 use native.Mathlib.Omega.{arith}
-use Rattle.image_map.specs.Places.{Fits}
+use Rattle.image_map.specs.Inside.{Fits}
 use Rattle.image_map.specs.declared.Part.{Part}
-use Rattle.image_region.specs.Regions.{partIn}
+use Rattle.image_region.specs.Inside.{partIn}
 use Rattle.image_region.specs.declared.Rect.{Rect}
 use Rattle.saved_state.specs.Calls.{PartWanted}
 use Rattle.saved_state.specs.Resuming.{isTouched}

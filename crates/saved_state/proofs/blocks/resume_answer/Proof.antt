@@ -4,7 +4,7 @@ use mathlib.Core.Path.{_≡_}
 use Prim.Native.Nat.{ℕ, _-_}
 use Rattle.line_totals.specs.declared.Totals.{Totals}
 use Rattle.saved_state.specs.Calls.{sinceCounted}
-use Rattle.read_block.specs.Totals.{walkedCounted}
+use Rattle.read_block.specs.Inside.{walkedCounted}
 use Rattle.read_block.specs.declared.Counted.{Counted}
 use Rattle.read_block.specs.declared.Walked.{Walked}
 use Rattle.saved_state.proofs.blocks.resume_answer.Statement.{statement}

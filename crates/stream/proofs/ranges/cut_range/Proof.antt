@@ -3,7 +3,8 @@ use mathlib.Core.List.{List}
 use mathlib.Core.Path.{_≡_}
 use Prim.Native.Nat.{ℕ, _+_, _-_}
 use native.Mathlib.Omega.{arith}
-use Rattle.stream.specs.Ranges.{cut, cutRange}
+use Rattle.stream.specs.Ranges.{cut}
+use Rattle.stream.specs.Inside.{cutRange}
 use Rattle.stream.specs.declared.ranges.Ranged.the-variants.{At}
 use Rattle.stream.proofs.ranges.cut_range.Statement.{statement}
 use Rattle.stream.proofs.ranges.cut_range.Tie as tie

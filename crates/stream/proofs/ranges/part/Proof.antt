@@ -7,7 +7,8 @@ use native.Mathlib.Nat.{add-sub-cancel-left}
 use native.Mathlib.Omega.{arith}
 use lib.ListN.{length, take, drop}
 use Rattle.bits.specs.declared.ByteOffset.{ByteOffset}
-use Rattle.stream.specs.Ranges.{partOf, Inside}
+use Rattle.stream.specs.Ranges.{partOf}
+use Rattle.stream.specs.Inside.{Inside}
 use Rattle.stream.specs.declared.ranges.Ranged.{Ranged}
 use Rattle.stream.specs.declared.ranges.Ranged.the-variants.{At}
 use Rattle.stream.proofs.ranges.part.Statement.{statement}
