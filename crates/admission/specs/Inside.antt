@@ -20,4 +20,4 @@ pub record SetFits (h : FujiHeader) (count samples records : ℕ) : Type 0 where
 
 -- of a beginning, with the writer or the lossy writer
 abbrev pub FitsOn : Parsed → ℕ → ℕ → ℕ → Type 0
-pub FitsOn begins count samples records = (h : FujiHeader) → begins ≡ Parsing.Header h → SetFits h count samples records
+FitsOn begins count samples records = (h : FujiHeader) → begins ≡ Parsing.Header h → SetFits h count samples records

@@ -42,7 +42,7 @@ pub record Marked (d : List ℕ) (m : ℕ) (begins ends : List ℕ) : Type 0 whe
 
 -- no more have ended than have begun, and the sums fit
 abbrev pub Balanced : List ℕ → List ℕ → Type 0
-pub Balanced begins ends = (n : ℕ) → (sumBefore ends n ≤ sumBefore begins n) × (sumBefore begins n < 2 ^ 64)
+Balanced begins ends = (n : ℕ) → (sumBefore ends n ≤ sumBefore begins n) × (sumBefore begins n < 2 ^ 64)
 
 -- the lowest line at which that many records hold too many or none
 unfoldable pub amissIn : Bool → List ℕ → List ℕ → ℕ → ℕ

@@ -10,7 +10,7 @@ use Rattle.image_map.specs.Places.{xtransPlace, sampleIndex, Changed}
 
 -- the table of X-Trans places
 abbrev pub ArePlaces : List ℕ → Type 0
-pub ArePlaces l = (p : ℕ) → p < 768 → getD l p 0 ≡ xtransPlace p
+ArePlaces l = (p : ℕ) → p < 768 → getD l p 0 ≡ xtransPlace p
 
 -- the row of the whole picture, and the column of the image, that the image's entry i shows
 abbrev pub pictureRow : Part → ℕ → ℕ

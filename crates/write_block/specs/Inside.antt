@@ -14,7 +14,7 @@ use Rattle.write_block.specs.WrittenBlocks.{writeLines}
 
 -- the samples of a set that have a code are in 0..M
 abbrev pub SetWanted : Form → List ℕ → Type 0
-pub SetWanted F t = (n i : ℕ) → i < 6 → Wanted (largest (F .bits)) (widthOf (F .xtrans)) t n (passSteps (widthOf (F .xtrans)) (planOf (F .xtrans) i))
+SetWanted F t = (n i : ℕ) → i < 6 → Wanted (largest (F .bits)) (widthOf (F .xtrans)) t n (passSteps (widthOf (F .xtrans)) (planOf (F .xtrans) i))
 
 -- a set that fits: it has all samples, each in 0..M, and each interpolated position has its prediction
 pub record FitSet (F : Form) (lines : ℕ) (t : List ℕ) : Type 0 where
