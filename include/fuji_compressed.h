@@ -1,6 +1,6 @@
 /* Fuji compressed raw streams: the functions of libfuji_compressed.a (rust/library makes it). x86-64 Linux.
  *
- * Each function meets a proved contract; crates/fuji_compressed has them, and crates/diagnosis that of fuji_bad_code. None asks anything of its numbers,
+ * Each function meets a proved contract; crates/fuji_compressed has them, and crates/tight_diagnosis that of fuji_bad_code. None asks anything of its numbers,
  * but every pointer must point to as many items as it says, and what is written to must not overlap with anything else.
  *
  * `refusal` is handed back by every function: the refusal's number, 0 where nothing is refused, then the block, the line and the index that it

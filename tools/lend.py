@@ -158,7 +158,7 @@ def twin_small(c, real):
     for m, text in c.files.items():
         own = [f for f in c.item if c.module[f] == m and f in called | set(real)]
         uses = [u for u in re.findall(r"^(?:pub )?use [^\n]*\n", text, flags=re.M) if own and kept_use(c, u, there)]
-        types = re.findall(r"^pub (?:struct|enum) \w+ \{\n.*?^\}\n", text, flags=re.S | re.M)
+        types = re.findall(r"^pub (?:struct|enum) \w+ \{\n.*?^\}\n", text, flags=re.S | re.M) if own or not m else []
         text = "".join(types) + "\n".join(function(c.item[f]["head"], c.item[f]["body"] if f in real else c.dummy(f, c.item[f]["head"])) for f in own)
         files[m] = from_lent("".join(uses), lent) + array(text)
     if lent:
@@ -184,8 +184,10 @@ def kept_use(c, line, there):
 
 def with_modules(c, files):
     """The root declares the modules that have something."""
+    gone = "|".join(m for m in c.files if m and not files.get(m)) or "-"       # modules of which the twin has nothing
+    files = {m: re.sub(r"^(?:pub )?use (?:crate::)?(?:" + gone + r")::[^\n]*\n", "", t, flags=re.M) for m, t in files.items()}
     whole = {m: trivial(t) for m, t in files.items() if t or not m}
-    uses = re.findall(r"^use [^\n]*\n", c.files[""], flags=re.M)
+    uses = [u for u in re.findall(r"^use [^\n]*\n", c.files[""], flags=re.M) if not re.match(r"use (?:crate::)?(?:" + gone + r")::", u)]
     names = [u for u in uses if re.search(r"(\w+);", u)[1] not in (c.record, *c.lower) and u not in files[""]]
     whole[""] = whole[""].split("\n", 1)[0] + "\n" + "".join(f"mod {m};\n" for m in whole if m) + "".join(names) + whole[""].split("\n", 1)[1]
     return whole

@@ -1,5 +1,5 @@
 #!/usr/bin/env python3
-"""Makes crates/region_answers/data/regions.bin from crates/block_answers/data/blocks.bin, in the repository's root.
+"""Makes crates/replay_regions/data/regions.bin from crates/replay_blocks/data/blocks.bin, in the repository's root.
 
 Streams are put together from blocks whose colour lines the original Rust gave. For each there is a region, a tile, the answer and the image that
 the rules give from those colour lines: whole pictures, single samples, regions across blocks and at the edges, empty ones, ones that pass an edge or
@@ -9,7 +9,7 @@ A record is 88 bytes, big-endian (bytes of the stream, 32 bits; x, y, width, hei
 block, line, 32 bits each; 36 bytes of the tile), the stream, and the image afterwards, 16 bits a sample. Before, every sample is 0x5a5a."""
 import random, struct
 
-BLOCKS, OUT, BEFORE = "crates/block_answers/data/blocks.bin", "crates/region_answers/data/regions.bin", 0x5A5A
+BLOCKS, OUT, BEFORE = "crates/replay_blocks/data/blocks.bin", "crates/replay_regions/data/regions.bin", 0x5A5A
 choose = random.Random(5)
 
 def recorded():

@@ -1,10 +1,9 @@
--- Bits as a list, in the order in which they are read: the view in which a tight block is described. Assumes nothing.
+-- Rules. Bits as a list, in the order in which they are read: the view in which a tight block is described.
 use mathlib.Core.Bool.{Bool, cond, _&&_}
 use mathlib.Core.List.{List, [], _∷_, _++_}
 use Prim.Native.Nat.{ℕ, zero, suc, _+_, _-_, _*_, _/_, _%_, _^_}
 use lib.Dec.{eqb}
-use lib.ListN.{length, drop, replicate}
-use lib.Seq.{paste}
+use lib.ListN.{length, drop}
 use Rattle.bits.specs.Bits.{bitsAt}
 
 -- the k binary digits of n, most significant first
@@ -28,17 +27,9 @@ unfoldable pub packed : ℕ → List Bool → List ℕ
 packed zero l = []
 packed (suc n) l = numberOf 8 l ∷ packed n (drop 8 l)
 
--- the bytes that n bits touch, the last of them counted whole
-abbrev pub bytesFor : ℕ → ℕ
-bytesFor n = (n + 7) / 8
-
 -- the bytes of a tight block with n bits: the bits rounded up to a multiple of 16 bytes
 abbrev pub blockBytes : ℕ → ℕ
 blockBytes n = (n + 127) / 128 * 16
-
--- bytes in which those after the first n bits are 0, up to the length of a tight block with so many bits
-abbrev pub filled : ℕ → List ℕ → List ℕ
-filled n s = paste s (bytesFor n) (replicate (blockBytes n - bytesFor n) 0) (blockBytes n - bytesFor n)
 
 -- the block of bits, with zeros as filling
 unfoldable pub bytesOf : List Bool → List ℕ

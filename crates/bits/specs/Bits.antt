@@ -1,4 +1,4 @@
--- The bits of a block: most significant first, zeros after the end. Positions count bits. Assumes nothing.
+-- Rules. The bits of a block: most significant first, zeros after the end. Positions count bits.
 use mathlib.Core.Bool.{cond}
 use mathlib.Core.List.{List}
 use Prim.Native.Nat.{ℕ, zero, suc, _+_, _-_, _*_, _/_, _%_, _^_}
@@ -34,11 +34,6 @@ zeros s p (suc n) = under (bitAt s p) (zeros s (suc p) n)
 unfoldable pub zeroRun : List ℕ → ℕ → ZeroRun
 zeroRun s p =
     cond (ltb (zeros s p (8 * length s - p)) (8 * length s - p)) (One (zeros s p (8 * length s - p))) None
-
--- the position behind the one bit of a run at p, or p where there is none
-abbrev pub afterRun : ℕ → ZeroRun → ℕ
-afterRun p (One z) = p + z + 1
-afterRun p None = p
 
 -- four bytes as one number, most significant first
 abbrev pub be32 : List ℕ → ℕ → ℕ

@@ -2,3 +2,4 @@
 pub mod Bits
 pub mod BitLists
 pub mod Positions
+pub mod Inside

@@ -1,4 +1,4 @@
--- Positions that a reader goes to. Assumes nothing.
+-- Rules. Positions that a reader goes to.
 use Prim.Native.Nat.{ℕ, _+_, _-_, _%_, _^_, min}
 
 -- the position n bits on; positions end at 2^64 − 1

@@ -1,10 +1,13 @@
-// The bits of a block: most significant first, zeros after the end. There is no cache: eight bytes are loaded where the position stands.
+// Document 01, Bit reader: the bits of a block, most significant first, with zeros after the end. There is no cache: eight bytes are
+// loaded at the position.
 ghost use mathlib.Core.Path.{_≡_};
 ghost use Prim.Native.Nat.{_+_, _*_, _/_, _%_, _^_, _≤_, _<_, min};
 ghost use lib.Dec.{ltb};
 ghost use lib.ListN.{length, getD};
-ghost use Rattle.bits.specs.Bits.{bitsAt, wordAt, zeroRun, afterRun, be32};
-ghost use Rattle.bits.specs.BitLists.{blockBytes, isTail, filled};
+ghost use Rattle.bits.specs.Bits.{bitsAt, wordAt, zeroRun, be32};
+ghost use Rattle.bits.specs.Inside.{afterRun};
+ghost use Rattle.bits.specs.BitLists.{blockBytes, isTail};
+ghost use Rattle.bits.specs.Inside.{filled};
 ghost use Rattle.bits.specs.Positions.{ahead, aligned};
 use numbers::u8_to_u64;
 
@@ -85,7 +88,8 @@ fn byte_at(s: &[u8], i: usize) -> u64
     if i < s.len() { u8_to_u64(s[i]) } else { 0 }
 }
 
-// The four bytes from i on. Sums of products, four bytes at a time: LLVM makes one load and one byte swap of two such groups.
+// The four bytes from i on.
+// INLINING: a sum of products of four bytes. LLVM makes one load and one byte swap of two such groups.
 pub fn load32(s: &[u8], i: usize) -> u64
     requires { ⌜ i + 4 ≤ length (now s) ⌝ }
     ensures { λ r. ⌜ (r ≡ be32 (now (s .entry)) i) × (r < 2 ^ 32) ⌝ }
@@ -104,7 +108,8 @@ fn load64(s: &[u8], i: usize) -> u64
     load32(s, i) * 0x1_0000_0000 + load32(s, i + 4)
 }
 
-// The k bytes from i on, near the end and past it. It calls itself, so that LLVM leaves it out of the functions that load.
+// The k bytes from i on, near the end and past it.
+// INLINING: it calls itself, so that LLVM leaves it out of the functions that load.
 fn load_tail(s: &[u8], i: usize, k: usize) -> u64
     requires { ⌜ (i < 2 ^ 62) × (k ≤ 8) ⌝ }
     ensures { λ r. ⌜ r ≡ bitsAt (now (s .entry)) (8 * i) (8 * k) ⌝ }

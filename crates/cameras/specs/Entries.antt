@@ -1,4 +1,4 @@
--- The 16 quantiser entries that two cameras share: who holds one, which one a line takes, and what is given back. Assumes nothing.
+-- Rules. The 16 quantiser entries that two cameras share: who holds one, which one a line takes, and what is given back.
 use mathlib.Core.Bool.{Bool, true, false, cond, not, _&&_, _||_}
 use mathlib.Core.List.{List, [], _∷_}
 use mathlib.Core.Path.{_≡_}

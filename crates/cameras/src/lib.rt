@@ -1,9 +1,22 @@
-// The 16 quantiser entries that two cameras share, one for each pair of depth and main base in use: who holds one, and giving back. They go by value
-// and come back.
+// Item 11: the 16 quantiser entries that two cameras share, one for each pair of depth and main base in use. Each call takes them and
+// returns them.
 ghost use mathlib.Core.Path.{_≡_};
 ghost use Prim.Native.Nat.{_≤_};
 ghost use Rattle.cameras.specs.Entries.{noEntry, noEntries, isHeld, freeOf, freeIn, givenBack, handedBack, AllNumbered};
 use quantiser::Quantiser;
+
+mod entry_words;
+mod taking;
+
+pub use entry_words::camera_in;
+pub use entry_words::entries_in;
+pub use entry_words::words_of;
+pub use taking::after_block;
+pub use taking::base_of;
+pub use taking::is_stopped;
+pub use taking::main_in;
+pub use taking::mended;
+pub use taking::take_lines;
 
 pub enum Camera {
     One,

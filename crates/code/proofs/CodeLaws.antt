@@ -13,7 +13,9 @@ use Rattle.bits.specs.declared.ZeroRun.the-variants.{One, None}
 use Rattle.bits.proofs.BitLaws.{bitsAt-lt}
 use Rattle.bits.proofs.RunLaws.{run-inside}
 use Rattle.numbers.proofs.OrderLaws.{split}
-use Rattle.code.specs.Codes.{shortCode, longCode, codeAt, Counts, Bounds}
+use Rattle.code.specs.Codes.{shortCode, longCode, codeAt}
+use Rattle.code.specs.UsedBits.{Counts}
+use Rattle.code.specs.Inside.{Bounds}
 use Rattle.code.specs.declared.Code.{Code}
 use Rattle.code.specs.declared.Coded.the-variants.{Read, Truncated}
 

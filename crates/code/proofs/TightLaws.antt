@@ -18,7 +18,8 @@ use Rattle.bits.proofs.ListLaws.{length-binary, run-there, run-after, run-bits,
 use Rattle.numbers.proofs.BoolLaws.{both}
 use Rattle.numbers.proofs.OrderLaws.{split}
 use Rattle.code.specs.Codes.{shortCode, longCode, codeAt}
-use Rattle.code.specs.Tight.{runThen, codeBits, codeLength, isTight}
+use Rattle.code.specs.Tight.{runThen, codeBits, isTight}
+use Rattle.code.specs.Inside.{codeLength}
 use Rattle.code.specs.declared.Code.{Code}
 use Rattle.code.specs.declared.Coded.the-variants.{Read}
 use Rattle.code.proofs.CodeLaws.{code-cases, code-short, code-long}

@@ -1,18 +1,14 @@
--- One code of a block, at a bit position. Assumes nothing.
+-- Rules. One code of a block, at a bit position.
 use mathlib.Core.Bool.{true, false, cond, _&&_}
 use mathlib.Core.List.{List}
-use mathlib.Core.Path.{_≡_}
-use Prim.Native.Nat.{ℕ, _+_, _*_, _/_, _^_, _≤_, _<_}
+use Prim.Native.Nat.{ℕ, _+_, _*_, _/_, _^_}
 use lib.Dec.{leb, ltb, eqb}
-use lib.ListN.{length}
 use Rattle.bits.specs.Bits.{bitsAt, zeroRun}
 use Rattle.bits.specs.declared.ZeroRun.{ZeroRun}
 use Rattle.bits.specs.declared.ZeroRun.the-variants.{One, None}
 use Rattle.code.specs.declared.Code.{Code}
 use Rattle.code.specs.declared.Coded.{Coded}
 use Rattle.code.specs.declared.Coded.the-variants.{Read, Truncated}
-use Rattle.code.specs.declared.Taken.{Taken}
-use Rattle.code.specs.declared.Taken.the-variants as Take
 
 -- after z zeros and a one bit. Below limit the code is short: z·2^k + the next k bits
 abbrev pub shortCode : List ℕ → ℕ → ℕ → ℕ → Code
@@ -46,17 +42,3 @@ codeAfter s p k limit raw None = Truncated
 -- the code at p: zeros are counted up to a one bit; where none is left in the block's bytes, the line is truncated
 unfoldable pub codeAt : List ℕ → ℕ → ℕ → ℕ → ℕ → Coded
 codeAt s p k limit raw = codeAfter s p k limit raw (zeroRun s p)
-
--- what is counted of a code that is read at p: its bits lead from p to the position after it, and it is long exactly if its zeros are not below limit
-pub record Counts (p limit : ℕ) (c : Code) : Type 0 where
-  pub bits : c .after .0 ≡ p + c .used
-  pub long : c .long ≡ leb limit (c .zeros)
-
--- how large a code that is read can be, and how far after the block's end it can reach
-abbrev pub Bounds : List ℕ → Coded → Type 0
-Bounds s (Read c) = (c .value < 63 * 2 ^ 15) × (c .after .0 ≤ 8 * length s + 16)
-Bounds s Truncated = Unit {0}
-
-abbrev pub Small : Taken → Type 0
-Small (Take.Read value at tight long) = value < 63 * 2 ^ 15
-Small Take.Truncated = Unit {0}

@@ -1,11 +1,25 @@
-// Codes: what is read of one, whether it is long or tight, and what a pass takes of it.
+// Document 01, Code and Tight block: what is read of a code, whether it is long, whether it is tight and why not (`reasons`), and the
+// way from a code to a sample and back (`samples`).
 ghost use mathlib.Core.Path.{_≡_};
 ghost use mathlib.Core.Bool.{_&&_};
 ghost use Prim.Native.Nat.{_/_, _^_, _≤_, _<_};
 ghost use lib.Dec.{leb, eqb};
-ghost use Rattle.code.specs.Tight.{isTight, takenOf};
+ghost use Rattle.code.specs.Tight.{isTight};
+ghost use Rattle.code.specs.Inside.{takenOf};
 ghost use Rattle.code.specs.declared.Coded.the-variants.{Read};
 use bits::BitPosition;
+
+mod reasons;
+mod samples;
+
+pub use reasons::BadSpot;
+pub use reasons::Reason;
+pub use reasons::Verdict;
+pub use reasons::verdict_of;
+pub use samples::choice;
+pub use samples::code_near;
+pub use samples::residual_size;
+pub use samples::sample;
 
 // A code that was read: the zeros before its one bit, its value, whether it has no bit that it could do without, whether it is long, how many
 // bits it used, and the position after it.
@@ -37,8 +51,8 @@ pub enum Short {
     Other,
 }
 
-// What a pass takes of a code: its value, and where the reading is after it, in parts. As one struct that would go through memory, for the slow
-// reader's sake, and cost 8 of 182 instructions a code.
+// What a pass takes of a code: its value, and where the reading is after it.
+// INLINING: the parts are fields of their own. As one struct they would go through memory, and cost 8 of 182 instructions a code.
 pub enum Taken {
     Read(u32, BitPosition, bool, u64),
     Truncated,

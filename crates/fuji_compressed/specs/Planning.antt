@@ -1,15 +1,15 @@
--- What calls for a sheet of short codes and for a plan of bases leave, as a caller in C gets it. Assumes nothing.
+-- Promises. What calls for a sheet of short codes and for a plan of bases leave, as a caller in C gets it.
 use mathlib.Core.List.{List, [], _∷_}
 use mathlib.Core.Path.{_≡_}
 use Prim.Native.Nat.{ℕ}
 use lib.ListN.{length, replicate}
-use Rattle.header.specs.Refusals.{refusalWords, noRefusal}
+use Rattle.stream.specs.Refusals.{refusalWords, noRefusal}
 use Rattle.short_codes.specs.Sheets.{listedAnswer, ListAfter}
 use Rattle.short_codes.specs.declared.Listed.{Listed}
 use Rattle.short_codes.specs.declared.Listed.the-variants as Sheet
-use Rattle.plan.specs.Plans.{plannedAnswer, BasesAfter}
-use Rattle.plan.specs.declared.Planned.{Planned}
-use Rattle.plan.specs.declared.Planned.the-variants as Plan
+use Rattle.base_plan.specs.Plans.{plannedAnswer, BasesAfter}
+use Rattle.base_plan.specs.declared.Planned.{Planned}
+use Rattle.base_plan.specs.declared.Planned.the-variants as Plan
 
 -- the count of a sheet
 abbrev pub listedWords : Listed → List ℕ

@@ -1,15 +1,15 @@
--- A header, a width and a range as words, all 0 where it is refused, and a refusal's words, all 0 where there is none. Assumes nothing.
+-- Promises. A header, a width and a range as words, all 0 where it is refused, and a refusal's words, all 0 where there is none.
 use mathlib.Core.List.{List, [], _∷_}
 use Prim.Native.Nat.{ℕ}
 use lib.ListN.{replicate}
-use Rattle.header.specs.Refusals.{refusalWords, noRefusal}
-use Rattle.words.specs.Words.{headerWords}
-use Rattle.header.specs.declared.Parsed.{Parsed}
-use Rattle.header.specs.declared.Parsed.the-variants as Parsing
-use Rattle.ranges.specs.declared.Ranged.{Ranged}
-use Rattle.ranges.specs.declared.Ranged.the-variants as Range
-use Rattle.header.specs.declared.Width.{Width}
-use Rattle.header.specs.declared.Width.the-variants as Columns
+use Rattle.stream.specs.Refusals.{refusalWords, noRefusal}
+use Rattle.stream.specs.Words.{headerWords}
+use Rattle.stream.specs.declared.header.Parsed.{Parsed}
+use Rattle.stream.specs.declared.header.Parsed.the-variants as Parsing
+use Rattle.stream.specs.declared.ranges.Ranged.{Ranged}
+use Rattle.stream.specs.declared.ranges.Ranged.the-variants as Range
+use Rattle.stream.specs.declared.header.Width.{Width}
+use Rattle.stream.specs.declared.header.Width.the-variants as Columns
 
 abbrev pub parsedWords : Parsed → List ℕ
 parsedWords (Parsing.Header h) = headerWords h

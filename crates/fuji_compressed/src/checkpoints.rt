@@ -1,12 +1,12 @@
 // The state between two lines of a block: stored, and taken up again.
-ghost use Rattle.region.specs.declared.Rect.{Rect};
-ghost use Rattle.block.specs.Lent.{Buffers, Outputs};
-ghost use Rattle.block_states.specs.Words.{ToldStored, ToldResumed};
+ghost use Rattle.image_region.specs.declared.Rect.{Rect};
+ghost use Rattle.read_block.specs.Lent.{Buffers, Outputs};
+ghost use Rattle.saved_state.specs.Words.{ToldStored, ToldResumed};
 use crate::reading::counted_refusal;
 use crate::reading::totals_words;
-use block_states::resume_region;
-use block_states::store_checkpoint;
-use region::Rect;
+use image_region::Rect;
+use saved_state::resume_region;
+use saved_state::store_checkpoint;
 use statistics::Record;
 
 // `store_checkpoint` for C.

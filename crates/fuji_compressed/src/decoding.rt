@@ -1,17 +1,17 @@
 // Decoding: an image, a region, a region in windows, and a region for a camera, with the end of its stream.
 ghost use lib.ListN.{length};
-ghost use Rattle.region.specs.declared.Rect.{Rect};
+ghost use Rattle.image_region.specs.declared.Rect.{Rect};
 ghost use Rattle.cameras.specs.Entries.{givenBack};
-ghost use Rattle.entry_words.specs.Words.{cameraIn, entriesIn, AreWords};
-ghost use Rattle.begin.specs.Beginnings.{regionBegins, windowedBegins, wholeOf, imageBegins};
-ghost use Rattle.block.specs.Lent.{Buffers};
-ghost use Rattle.block.specs.Words.{Told, ToldWindowed, ToldShared};
-use block::answer_words;
-use block::decode;
-use block::decode_region;
-use block::decode_region_shared;
-use block::decode_region_windowed;
-use region::Rect;
+ghost use Rattle.cameras.specs.Words.{cameraIn, entriesIn, AreWords};
+ghost use Rattle.admission.specs.Beginnings.{regionBegins, windowedBegins, wholeOf, imageBegins};
+ghost use Rattle.read_block.specs.Lent.{Buffers};
+ghost use Rattle.read_block.specs.Words.{Told, ToldWindowed, ToldShared};
+use image_region::Rect;
+use read_block::answer_words;
+use read_block::decode;
+use read_block::decode_region;
+use read_block::decode_region_shared;
+use read_block::decode_region_windowed;
 use statistics::Record;
 
 // `decode_region` for C.
@@ -112,10 +112,10 @@ pub extern "C" fn fuji_decode_region_shared(
     };
     let t = *tile;
     let given = *entries;
-    let c = entry_words::camera_in(camera);
-    let held = entry_words::entries_in(&given);
+    let c = cameras::camera_in(camera);
+    let held = cameras::entries_in(&given);
     let a = decode_region_shared(c, held, d, r, t, image, lines, rs);
-    let words = entry_words::words_of(a.entries);
+    let words = cameras::words_of(a.entries);
     let answer = a.answer;
     let w = answer_words(answer);
     *entries = words;
@@ -128,10 +128,10 @@ pub extern "C" fn fuji_end_stream(camera: u32, entries: &mut [u32; 128])
     ensures { λ _. ⌜ AreWords (givenBack (cameraIn camera) (entriesIn (now (entries .entry)))) (now (entries .exit)) ⌝ }
 {
     let given = *entries;
-    let c = entry_words::camera_in(camera);
-    let held = entry_words::entries_in(&given);
+    let c = cameras::camera_in(camera);
+    let held = cameras::entries_in(&given);
     let left = cameras::end_stream(c, held);
-    let words = entry_words::words_of(left);
+    let words = cameras::words_of(left);
     *entries = words;
 }
 

@@ -1,5 +1,5 @@
-// The functions that C and Rust link to, which include/fuji_compressed.h declares: a module for each role. Each hands back a refusal's four words, all 0
-// where nothing is refused, and what was asked for, all 0 where it is refused.
+// The functions for C, which include/fuji_compressed.h declares: a module for each role. Each hands back a refusal's four words, all 0
+// if nothing is refused, and its results, all 0 if it is refused.
 mod checkpoints;
 mod decoding;
 mod planning;

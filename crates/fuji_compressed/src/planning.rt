@@ -1,9 +1,9 @@
 // What is known before a block is written: the bound of its length, the sheet of short codes, and plans of bases.
 ghost use mathlib.Core.Path.{_≡_};
-ghost use Rattle.header.specs.Headers.{parseOf};
+ghost use Rattle.stream.specs.Headers.{parseOf};
 ghost use Rattle.stream.specs.Lengths.{boundAnswer, lengthWord, lengthRefusal};
 ghost use Rattle.fuji_compressed.specs.Planning.{listedWords, listedRefusal, ToldSheet, plannedRefusal, ToldPlan};
-use plan::Planned;
+use base_plan::Planned;
 use short_codes::Listed;
 
 // The length that no tight block under a header exceeds.
@@ -34,7 +34,7 @@ fn listed_refusal(a: Listed) -> [usize; 4]
 {
     match a {
         Listed::Count(_) => [0; 4],
-        Listed::Refused(r) => words::refusal_words(r),
+        Listed::Refused(r) => stream::refusal_words(r),
     }
 }
 
@@ -62,7 +62,7 @@ fn planned_refusal(a: Planned) -> [usize; 4]
 {
     match a {
         Planned::Done => [0; 4],
-        Planned::Refused(r) => words::refusal_words(r),
+        Planned::Refused(r) => stream::refusal_words(r),
     }
 }
 
@@ -76,7 +76,7 @@ pub extern "C" fn fuji_plan_bases(
 )
     ensures { λ _. ⌜ ToldPlan (now (header .entry)) (now (plan .entry)) (now (bases .entry)) (now (bases .exit)) (now (refusal .exit)) ⌝ }
 {
-    let x = plan::plan_bases(header, plan, bases);
+    let x = base_plan::plan_bases(header, plan, bases);
     let r = planned_refusal(x);
     *refusal = r;
 }

@@ -1,11 +1,11 @@
 // Reading a block, and reading it tightly.
 ghost use mathlib.Core.Path.{_≡_};
-ghost use Rattle.block.specs.Lent.{Scratch};
-ghost use Rattle.block.specs.Words.{answerWords, totalsWords, ToldRead, ToldTight};
-use block::Counted;
-use block::answer_words;
-use block::read_block;
-use block::read_tight;
+ghost use Rattle.read_block.specs.Lent.{Scratch};
+ghost use Rattle.read_block.specs.Words.{answerWords, totalsWords, ToldRead, ToldTight};
+use read_block::Counted;
+use read_block::answer_words;
+use read_block::read_block;
+use read_block::read_tight;
 use statistics::Record;
 
 // Bits and long codes.

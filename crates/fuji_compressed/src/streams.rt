@@ -1,18 +1,18 @@
 // A stream: its header, and where its blocks and base rows lie.
 ghost use mathlib.Core.Path.{_≡_};
-ghost use Rattle.header.specs.Headers.{parseOf, widthAnswer};
+ghost use Rattle.stream.specs.Headers.{parseOf, widthAnswer};
 ghost use Rattle.stream.specs.Streams.{openOf, rangeOf, rowOf};
 ghost use Rattle.fuji_compressed.specs.Streams.{parsedWords, parsedRefusal, rangedWords, rangedRefusal, widthWords, widthRefusal};
-use header::FujiHeader;
-use header::Parsed;
-use header::Width;
-use ranges::Ranged;
+use stream::FujiHeader;
+use stream::Parsed;
+use stream::Ranged;
+use stream::Width;
 
 fn parsed_words(p: Parsed) -> [usize; 9]
     ensures { λ w. ⌜ w ≡ parsedWords p ⌝ }
 {
     match p {
-        Parsed::Header(h) => words::header_words(h),
+        Parsed::Header(h) => stream::header_words(h),
         Parsed::Refused(_) => [0; 9],
     }
 }
@@ -22,7 +22,7 @@ fn parsed_refusal(p: Parsed) -> [usize; 4]
 {
     match p {
         Parsed::Header(_) => [0; 4],
-        Parsed::Refused(r) => words::refusal_words(r),
+        Parsed::Refused(r) => stream::refusal_words(r),
     }
 }
 
@@ -40,7 +40,7 @@ fn ranged_refusal(r: Ranged) -> [usize; 4]
 {
     match r {
         Ranged::At(_, _) => [0; 4],
-        Ranged::Refused(x) => words::refusal_words(x),
+        Ranged::Refused(x) => stream::refusal_words(x),
     }
 }
 
@@ -58,7 +58,7 @@ fn width_refusal(c: Width) -> [usize; 4]
 {
     match c {
         Width::Columns(_) => [0; 4],
-        Width::Refused(r) => words::refusal_words(r),
+        Width::Refused(r) => stream::refusal_words(r),
     }
 }
 

@@ -1,10 +1,10 @@
 // Writing a block, without loss and with it, and measuring what would be written.
-ghost use Rattle.block.specs.Lent.{Scratch, Outputs};
-ghost use Rattle.block_writer.specs.Words.{ToldWritten, ToldLossy, ToldMeasured};
-use block_writer::measure_block;
-use block_writer::write_block;
-use block_writer::write_lossy;
+ghost use Rattle.read_block.specs.Lent.{Scratch, Outputs};
+ghost use Rattle.write_block.specs.Words.{ToldWritten, ToldLossy, ToldMeasured};
 use statistics::Record;
+use write_block::measure_block;
+use write_block::write_block;
+use write_block::write_lossy;
 
 // `write_block` for C.
 #[no_mangle]

@@ -1,4 +1,5 @@
-// The limits that blocks and calls are judged by: tests and lengths on numbers alone.
+// Shared by all crates: tests and lengths on numbers alone, by which blocks and calls are judged. They are apart from the crates that
+// call them because a must-fail edit of a test then costs seconds and stands for every entry that makes the test.
 ghost use mathlib.Core.Path.{_≡_};
 ghost use mathlib.Core.Bool.{cond, _&&_, _||_};
 ghost use Prim.Native.Nat.{suc, _+_, _-_, _*_, _/_, _%_, _^_, _≤_, _<_};

@@ -1,4 +1,4 @@
--- Numbers that may be negative, as a sign and a size. No rule below needs an integer type: a difference a − b is made from the two
+-- Rules. Numbers that may be negative, as a sign and a size. No rule below needs an integer type: a difference a − b is made from the two
 -- naturals a and b, and `-` on naturals stops at 0. Assumes nothing.
 use mathlib.Core.Bool.{Bool, cond}
 use Prim.Native.Nat.{ℕ, zero, suc, _+_, _-_}

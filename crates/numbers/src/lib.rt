@@ -1,4 +1,4 @@
-// Small functions on unsigned numbers that the other crates share.
+// Shared by all crates: small functions on unsigned numbers, conversions, and numbers as a sign and a size.
 ghost use mathlib.Core.Path.{_≡_};
 ghost use mathlib.Core.Bool.{cond, xor};
 ghost use Prim.Native.Nat.{_-_, _^_, _≤_, _<_, min, max};
@@ -104,7 +104,8 @@ pub fn u16_to_usize(x: u16) -> usize
     x as usize
 }
 
-// One of two numbers that are both at hand: LLVM makes a conditional move of it and no branch.
+// One of two numbers.
+// INLINING: both are computed already, so that LLVM makes a conditional move and no branch.
 pub fn pick(test: bool, a: u32, b: u32) -> u32
     ensures { λ r. ⌜ r ≡ cond test a b ⌝ }
 {

@@ -1,2 +1,3 @@
 -- The definitions of the prediction.
 pub mod Predictions
+pub mod Inside

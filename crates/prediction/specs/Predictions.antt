@@ -1,7 +1,7 @@
--- The prediction of a sample from its neighbours, with its two differences and its flatness. Above the sample at position p lie rc, rb and
+-- Rules. The prediction of a sample from its neighbours, with its two differences and its flatness. Above the sample at position p lie rc, rb and
 -- rd (p − 1, p, p + 1, one line up) and rf (p, two lines up); ra and rg are its left and right neighbours. Assumes nothing.
 use mathlib.Core.Bool.{Bool, cond, _&&_, _||_}
-use Prim.Native.Nat.{ℕ, _+_, _-_, _*_, _/_, _^_, _<_}
+use Prim.Native.Nat.{ℕ, _+_, _-_, _*_, _/_}
 use lib.Dec.{ltb}
 use Rattle.numbers.specs.Numbers.{distance, minus}
 use Rattle.prediction.specs.declared.Context.{Context}
@@ -40,9 +40,3 @@ oddContext ra rg rb rc rd = record { prediction = oddPrediction ra rg rb rc rd; 
 -- the flatness: the sizes of the two differences added
 abbrev pub flatnessOf : Context → ℕ
 flatnessOf x = x .first .size + x .second .size
-
--- the ranges of a context's numbers, where the neighbours are samples of 16 bits
-pub record ContextRanges (x : Context) : Type 0 where
-  pub prediction : x .prediction < 2 ^ 16
-  pub first : x .first .size < 2 ^ 16
-  pub second : x .second .size < 2 ^ 16

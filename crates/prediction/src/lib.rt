@@ -1,7 +1,8 @@
-// The prediction of a sample from its neighbours, with the two differences that pick its record.
+// Document 01, Prediction: the prediction of a sample from its neighbours, with the two differences that pick its record.
 ghost use mathlib.Core.Path.{_≡_};
 ghost use Prim.Native.Nat.{_+_, _*_, _^_, _≤_, _<_};
-ghost use Rattle.prediction.specs.Predictions.{droppedOf, evenPrediction, extreme, oddPrediction, evenContext, oddContext, flatnessOf, ContextRanges};
+ghost use Rattle.prediction.specs.Predictions.{droppedOf, evenPrediction, extreme, oddPrediction, evenContext, oddContext, flatnessOf};
+ghost use Rattle.prediction.specs.Inside.{ContextRanges};
 use numbers::Signed;
 
 // All that a sample's coding goes by.
@@ -25,7 +26,7 @@ fn even_prediction(rf: u32, rc: u32, rb: u32, rd: u32) -> u32
     requires { ⌜ (rf < 2 ^ 16) × ((rc < 2 ^ 16) × ((rb < 2 ^ 16) × (rd < 2 ^ 16))) ⌝ }
     ensures { λ r. ⌜ (r ≡ evenPrediction rf rc rb rd) × (r < 2 ^ 16) ⌝ }
 {
-    // In the order of the context's difference, so that LLVM makes the distance once.
+    // INLINING: in the order of the context's difference, so that LLVM computes the distance once.
     let f = numbers::distance(rb, rf);
     let c = numbers::distance(rc, rb);
     let d = numbers::distance(rd, rb);

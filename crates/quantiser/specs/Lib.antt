@@ -1,2 +1,3 @@
 -- The definitions of the quantisers.
 pub mod Quantisers
+pub mod Inside

@@ -1,10 +1,12 @@
-// Quantisers: the numbers by which a code is read, the levels of differences and the gradient.
+// Document 01, Quantiser: the main and the flat quantisers, the levels of differences and the gradient.
 ghost use mathlib.Core.Path.{_≡_};
 ghost use Prim.Native.Nat.{_+_, _-_, _*_, _^_, _≤_, _<_};
 ghost use lib.Dec.{leb};
 ghost use Rattle.numbers.specs.Numbers.{up, down, flag, leastFrom};
-ghost use Rattle.quantiser.specs.Quantisers.{largest, quantiserOf, mainOf, flatOf, QuantiserRanges, startSum};
-ghost use Rattle.quantiser.specs.Quantisers.{thresholdsOf, Serves, levelSize, levelOf, gradientOf};
+ghost use Rattle.quantiser.specs.Quantisers.{largest, quantiserOf, mainOf, flatOf, startSum};
+ghost use Rattle.quantiser.specs.Inside.{QuantiserRanges};
+ghost use Rattle.quantiser.specs.Inside.{thresholdsOf, Serves};
+ghost use Rattle.quantiser.specs.Quantisers.{levelSize, levelOf, gradientOf};
 use numbers::Signed;
 
 pub struct Quantiser {
@@ -110,7 +112,8 @@ impl Thresholds {
     }
 }
 
-// 1 if m has reached the threshold, else 0. It is above the number before it: so asked, LLVM adds the carry of the test.
+// 1 if m has reached the threshold, else 0.
+// INLINING: asked as "above the number before it", so that LLVM adds the carry of the test.
 fn reached(threshold: u32, m: u32) -> u32
     requires { ⌜ 1 ≤ threshold ⌝ }
     ensures { λ r. ⌜ (r ≡ flag (leb threshold m)) × (r ≤ 1) ⌝ }

@@ -18,7 +18,8 @@ use Rattle.code.specs.Tight.{isTight, codeBits}
 use Rattle.code.specs.declared.Code.{Code}
 use Rattle.code.specs.declared.Coded.the-variants.{Read}
 use Rattle.code.proofs.TightLaws.{length-codeBits, read-back, stands-there}
-use Rattle.short_codes.specs.Sheets.{Bounded, stringOf}
+use Rattle.short_codes.specs.Inside.{Bounded}
+use Rattle.short_codes.specs.Sheets.{stringOf}
 use Rattle.short_codes.specs.Whole.{TightString, codeThere, IsRead, AllAsRead}
 use Rattle.short_codes.proofs.SheetLaws.{bounded, limit-large}
 

@@ -4,7 +4,7 @@ use Rattle.numbers.specs.Numbers.{leastFrom}
 use Rattle.bits.specs.BitLists.{binary, numberOf}
 use Rattle.quantiser.specs.Quantisers.{totalOf, rawOf, quantiserOf}
 use Rattle.code.specs.Tight.{codeBits}
-use Rattle.header.specs.declared.Refusal.the-variants.{OutsideSheet}
+use Rattle.stream.specs.declared.header.Refusal.the-variants.{OutsideSheet}
 use Rattle.short_codes.specs.Sheets.{inSheet, stringOf, entryOf, countOf, entryAt, listedAnswer}
 use Rattle.short_codes.specs.declared.Listed.the-variants.{Count, Refused}
 

@@ -18,8 +18,9 @@ use Rattle.quantiser.specs.declared.Quantiser.{Quantiser}
 use Rattle.quantiser.proofs.QuantiserLaws.{log2-le}
 use Rattle.code.specs.Tight.{runThen}
 use Rattle.code.proofs.TightLaws.{bits-short, short-length, long-length, length-codeBits}
-use Rattle.header.proofs.HeaderLaws.{depth}
-use Rattle.short_codes.specs.Sheets.{inSheet, Bounded, stringOf, valueOf, entryOf, countOf, entryAt}
+use Rattle.stream.proofs.HeaderLaws.{depth}
+use Rattle.short_codes.specs.Sheets.{inSheet, stringOf, valueOf, entryOf, countOf, entryAt}
+use Rattle.short_codes.specs.Inside.{Bounded}
 
 -- what is not refused
 pub bounded : (d k n : ℕ) → inSheet d k n ≡ true → Bounded d k n

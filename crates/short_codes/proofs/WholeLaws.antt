@@ -11,7 +11,8 @@ use lib.Pow.{pow-pos, pow-mono, shr-mono, split as digits}
 use Rattle.numbers.proofs.OrderLaws.{split}
 use Rattle.bits.specs.BitLists.{numberOf}
 use Rattle.bits.proofs.PackLaws.{number-lt}
-use Rattle.short_codes.specs.Sheets.{Bounded, stringOf, valueOf, entryOf, countOf, entryAt}
+use Rattle.short_codes.specs.Inside.{Bounded}
+use Rattle.short_codes.specs.Sheets.{stringOf, valueOf, entryOf, countOf, entryAt}
 use Rattle.short_codes.specs.Whole.{TightString, Stands, IsString, AllWhole}
 use Rattle.short_codes.proofs.SheetLaws.{bounded, short-string, string-length, entry-is, counted, is-counted}
 

@@ -1,27 +1,20 @@
--- A sheet of short codes: every bit string up to a greatest length that is one tight lossless code, as a number. Assumes nothing.
+-- Rules. A sheet of short codes: every bit string up to a greatest length that is one tight lossless code, as a number.
 use mathlib.Core.Bool.{Bool, cond, _&&_, _||_}
 use mathlib.Core.List.{List}
 use mathlib.Core.Path.{_≡_}
-use Prim.Native.Nat.{ℕ, _+_, _-_, _*_, _^_, _≤_, min}
+use Prim.Native.Nat.{ℕ, _+_, _-_, _*_, _^_, min}
 use lib.Dec.{leb, ltb, eqb}
 use lib.ListN.{length, getD}
 use Rattle.bits.specs.BitLists.{numberOf}
 use Rattle.quantiser.specs.Quantisers.{mainOf}
 use Rattle.code.specs.Tight.{codeBits}
-use Rattle.header.specs.declared.Refusal.the-variants.{OutsideSheet}
+use Rattle.stream.specs.declared.header.Refusal.the-variants.{OutsideSheet}
 use Rattle.short_codes.specs.declared.Listed.{Listed}
 use Rattle.short_codes.specs.declared.Listed.the-variants.{Count, Refused}
 
 -- a depth of 12, 14 or 16, a k from 0 to 15, a greatest length n from 1 to 16
 unfoldable pub inSheet : ℕ → ℕ → ℕ → Bool
 inSheet depth k n = (eqb depth 12 || eqb depth 14 || eqb depth 16) && leb k 15 && leb 1 n && leb n 16
-
--- what that gives for our own functions
-pub record Bounded (depth k n : ℕ) : Type 0 where
-  pub depth-low : 12 ≤ depth
-  pub depth-high : depth ≤ 16
-  pub k-high : k ≤ 15
-  pub n-high : n ≤ 16
 
 -- the bits of a tight lossless code: those of the main quantiser with base 0
 unfoldable pub stringOf : ℕ → ℕ → ℕ → List Bool
@@ -48,11 +41,6 @@ entryAt depth k i = entryOf (stringOf depth k i)
 -- refusal 24, or the count
 unfoldable pub listedAnswer : ℕ → ℕ → ℕ → Listed
 listedAnswer depth k n = cond (inSheet depth k n) (Count (countOf depth k n)) (Refused OutsideSheet)
-
--- the sheet stands at the start of a list, and the rest is as it was
-pub record Filled (depth k n : ℕ) (list list' : List ℕ) : Type 0 where
-  pub as-long : length list' ≡ length list
-  pub entries : (i : ℕ) → getD list' i 0 ≡ cond (ltb i (countOf depth k n)) (entryAt depth k i) (getD list i 0)
 
 -- whether entry i of a list with so many entries is written: nothing is refused, the whole sheet has room, and i belongs to it
 unfoldable pub isWritten : ℕ → ℕ → ℕ → ℕ → ℕ → Bool

@@ -1,4 +1,4 @@
--- What it means that a sheet is whole: the statements that proofs/WholeLaws.antt and proofs/ReadLaws.antt prove of every depth, k and greatest length
+-- Promises. What it means that a sheet is whole: the statements that proofs/WholeLaws.antt and proofs/ReadLaws.antt prove of every depth, k and greatest length
 -- that are not refused. Assumes nothing.
 use mathlib.Core.Bool.{Bool, true}
 use mathlib.Core.List.{List, _++_}

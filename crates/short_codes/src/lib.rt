@@ -1,10 +1,10 @@
-// The full sheet of short codes: every bit string up to a greatest length that is one tight lossless code, for a repair bench that tests bit
-// readers by hand.
+// Item 12: every bit string up to a greatest length that is one tight lossless code, for a bench that tests bit readers by hand.
 ghost use mathlib.Core.Path.{_≡_};
 ghost use Prim.Native.Nat.{_+_, _*_, _/_, _%_, _^_, _≤_, _<_};
 ghost use lib.ListN.{length};
-ghost use Rattle.short_codes.specs.Sheets.{inSheet, Bounded, countOf, Filled, listedAnswer, ListAfter};
-use header::Refusal;
+ghost use Rattle.short_codes.specs.Sheets.{inSheet, countOf, listedAnswer, ListAfter};
+ghost use Rattle.short_codes.specs.Inside.{Bounded, Filled};
+use stream::Refusal;
 
 // How many strings the sheet has, whether or not they were written.
 pub enum Listed {

@@ -11,7 +11,8 @@ use lib.Pow.{pow-add, pow-mono, pow-pos, shl-lt}
 use borrow.Author.Tests.{ltb-true, ltb-false}
 use Rattle.numbers.specs.Numbers.{flag}
 use Rattle.numbers.proofs.OrderLaws.{split}
-use Rattle.statistics.specs.Statistics.{kOf, InRange}
+use Rattle.statistics.specs.Statistics.{kOf}
+use Rattle.statistics.specs.Inside.{InRange}
 use Rattle.statistics.specs.declared.Record.{Record}
 use Rattle.statistics.proofs.RecordLaws.{k-least, sum-lt}
 

@@ -11,7 +11,8 @@ use borrow.Author.Tests.{le-leb, lt-leb, leb-true, leb-false, eqb-true, eqb-fals
 use Rattle.numbers.specs.Numbers.{leastFrom, flag}
 use Rattle.numbers.proofs.LeastLaws.{least, least-here, least-next}
 use Rattle.numbers.proofs.OrderLaws.{split}
-use Rattle.statistics.specs.Statistics.{enough, kOf, updated, largestResidual, InRange}
+use Rattle.statistics.specs.Statistics.{enough, kOf, updated, largestResidual}
+use Rattle.statistics.specs.Inside.{InRange}
 use Rattle.statistics.specs.declared.Record.{Record}
 
 -- k is the least number with n·2^k ≥ max(sum, 1), capped at 15

@@ -1,2 +1,3 @@
 -- The definitions of the adaptive statistics.
 pub mod Statistics
+pub mod Inside

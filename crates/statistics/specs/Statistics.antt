@@ -1,6 +1,6 @@
--- The adaptive statistics of a block: how a record gives k, and how a residual changes it. Assumes nothing.
+-- Rules. The adaptive statistics of a block: how a record gives k, and how a residual changes it.
 use mathlib.Core.Bool.{Bool, cond}
-use Prim.Native.Nat.{ℕ, _+_, _*_, _/_, _^_, _≤_, max}
+use Prim.Native.Nat.{ℕ, _+_, _*_, _/_, _^_, max}
 use lib.Dec.{leb, eqb}
 use Rattle.numbers.specs.Numbers.{leastFrom}
 use Rattle.statistics.specs.declared.Record.{Record}
@@ -23,9 +23,3 @@ updated t r =
 -- no residual is larger: a code has at most 63 zeros before its one bit if it is short, and at most 15 bits after it
 abbrev pub largestResidual : ℕ
 largestResidual = 63 * 2 ^ 14
-
--- what holds of every record of a block that is being read: a start record has it, and an update keeps it
-pub record InRange (t : Record) : Type 0 where
-  pub some : 1 ≤ t .n
-  pub most : t .n ≤ 64
-  pub sums : t .sum ≤ t .n * largestResidual

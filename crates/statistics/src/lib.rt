@@ -1,9 +1,10 @@
-// The adaptive statistics: a record gives the number k of a code's low bits, and each residual changes it.
+// Document 01, Statistics: a record gives the number k of a code's low bits, and each residual updates it.
 ghost use mathlib.Core.Path.{_≡_};
 ghost use Prim.Native.Nat.{_+_, _-_, _≤_, _<_};
 ghost use lib.Count.{leadingZeros};
 ghost use Rattle.numbers.specs.Numbers.{leastFrom};
-ghost use Rattle.statistics.specs.Statistics.{enough, kOf, updated, largestResidual, InRange};
+ghost use Rattle.statistics.specs.Statistics.{enough, kOf, updated, largestResidual};
+ghost use Rattle.statistics.specs.Inside.{InRange};
 
 // The sizes of the residuals so far, and their number; both are halved when 64 are counted.
 #[repr(C)]
@@ -55,8 +56,8 @@ impl Record {
         too_small_from(self.sum, self.n, 0)
     }
 
-    // The same k, from the lengths of sum and n in binary digits, which tell it but for one: so there is one number that may be too small, and LLVM makes
-    // no loop of it.
+    // The same k, from the lengths of sum and n in binary digits, which determine it but for one.
+    // INLINING: the loop has one turn, so that LLVM leaves no branch.
     pub fn k_by_lengths(self) -> u32
         requires { ⌜ InRange self ⌝ }
         ensures { λ r. ⌜ (r ≡ kOf self) × (r ≤ 15) ⌝ }

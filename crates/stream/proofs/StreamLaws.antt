@@ -10,18 +10,20 @@ use lib.ListN.{length, take, drop, length-take, length-drop}
 use borrow.Author.Tests.{lt-ltb, le-ltb, ltb-false}
 use Rattle.numbers.proofs.LeastLaws.{least}
 use Rattle.numbers.proofs.OrderLaws.{split}
-use Rattle.header.specs.Headers.{parseOf}
-use Rattle.stream.specs.Streams.{sizesEnd, sizeOf, rowLength, rowStart, isShort, firstShort, openIn, openOf, Opened}
+use Rattle.stream.specs.Headers.{parseOf}
+use Rattle.stream.specs.Streams.{sizesEnd, sizeOf, rowLength, rowStart, isShort, firstShort, openIn, openOf}
+use Rattle.stream.specs.Inside.{Opened}
 use Rattle.stream.specs.Streams.{blockStart, rangeIn, rangeOf, rowIn, rowOf}
-use Rattle.ranges.specs.Ranges.{cut, partOf, Short, Inside}
-use Rattle.header.specs.declared.FujiHeader.{FujiHeader}
-use Rattle.header.specs.declared.Parsed.{Parsed}
-use Rattle.header.specs.declared.Parsed.the-variants.{Header, Refused}
-use Rattle.ranges.specs.declared.Ranged.{Ranged}
-use Rattle.ranges.specs.declared.Ranged.the-variants as Range
-use Rattle.header.specs.declared.Refusal.{Refusal}
-use Rattle.header.specs.declared.Refusal.the-variants.{ShortSizes, ShortBases}
-use Rattle.header.proofs.HeaderLaws.{ruled}
+use Rattle.stream.specs.Ranges.{cut, partOf, Short}
+use Rattle.stream.specs.Inside.{Inside}
+use Rattle.stream.specs.declared.header.FujiHeader.{FujiHeader}
+use Rattle.stream.specs.declared.header.Parsed.{Parsed}
+use Rattle.stream.specs.declared.header.Parsed.the-variants.{Header, Refused}
+use Rattle.stream.specs.declared.ranges.Ranged.{Ranged}
+use Rattle.stream.specs.declared.ranges.Ranged.the-variants as Range
+use Rattle.stream.specs.declared.header.Refusal.{Refusal}
+use Rattle.stream.specs.declared.header.Refusal.the-variants.{ShortSizes, ShortBases}
+use Rattle.stream.proofs.HeaderLaws.{ruled}
 
 -- a refusal is no header
 clash : {X : Type 0} (r : Refusal) (h : FujiHeader) → Refused r ≡ Header h → X

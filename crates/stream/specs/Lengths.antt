@@ -1,14 +1,14 @@
--- The length of a block in bytes: a bound by the header alone, and a length as C gets it. Assumes nothing.
+-- Rules. The length of a block in bytes: a bound by the header alone, and a length as C gets it.
 use mathlib.Core.Bool.{cond}
 use mathlib.Core.List.{List, [], _∷_}
 use Prim.Native.Nat.{ℕ, _*_}
-use Rattle.header.specs.Refusals.{refusalWords, noRefusal}
+use Rattle.stream.specs.Refusals.{refusalWords, noRefusal}
 use Rattle.stream.specs.declared.BlockLength.{BlockLength}
 use Rattle.stream.specs.declared.BlockLength.the-variants.{Length, Refused}
-use Rattle.header.specs.declared.FujiHeader.{FujiHeader}
-use Rattle.header.specs.declared.Parsed.{Parsed}
-use Rattle.header.specs.declared.Parsed.the-variants as Parsing
-use Rattle.header.specs.declared.Refusal.the-variants.{Lossy}
+use Rattle.stream.specs.declared.header.FujiHeader.{FujiHeader}
+use Rattle.stream.specs.declared.header.Parsed.{Parsed}
+use Rattle.stream.specs.declared.header.Parsed.the-variants as Parsing
+use Rattle.stream.specs.declared.header.Refusal.the-variants.{Lossy}
 
 -- a line has 4608 codes, and a tight code has at most 4·bits bits
 abbrev pub lengthBound : FujiHeader → ℕ

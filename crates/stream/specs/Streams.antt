@@ -1,20 +1,19 @@
--- Where the sizes, the base rows and the blocks of a stream stand. All offsets count bytes from the header's first. Assumes nothing.
-use mathlib.Core.Bool.{Bool, false, cond, not, _&&_}
+-- Rules. Where the sizes, the base rows and the blocks of a stream stand. All offsets count bytes from the header's first.
+use mathlib.Core.Bool.{Bool, cond, not, _&&_}
 use mathlib.Core.List.{List}
-use mathlib.Core.Path.{_≡_}
-use Prim.Native.Nat.{ℕ, zero, suc, _+_, _-_, _*_, _/_, _≤_, _<_}
+use Prim.Native.Nat.{ℕ, zero, suc, _+_, _-_, _*_, _/_}
 use lib.Dec.{ltb}
 use lib.ListN.{length}
 use Rattle.numbers.specs.Numbers.{leastFrom}
 use Rattle.bits.specs.Bits.{be32}
-use Rattle.header.specs.Headers.{parseOf, Ruled}
-use Rattle.header.specs.declared.FujiHeader.{FujiHeader}
-use Rattle.header.specs.declared.Parsed.{Parsed}
-use Rattle.header.specs.declared.Parsed.the-variants as Parsing
-use Rattle.ranges.specs.Ranges.{cut}
-use Rattle.ranges.specs.declared.Ranged.{Ranged}
-use Rattle.ranges.specs.declared.Ranged.the-variants as Range
-use Rattle.header.specs.declared.Refusal.the-variants.{ShortSizes, ShortBases, NoBlock}
+use Rattle.stream.specs.Headers.{parseOf}
+use Rattle.stream.specs.declared.header.FujiHeader.{FujiHeader}
+use Rattle.stream.specs.declared.header.Parsed.{Parsed}
+use Rattle.stream.specs.declared.header.Parsed.the-variants as Parsing
+use Rattle.stream.specs.Ranges.{cut}
+use Rattle.stream.specs.declared.ranges.Ranged.{Ranged}
+use Rattle.stream.specs.declared.ranges.Ranged.the-variants as Range
+use Rattle.stream.specs.declared.header.Refusal.the-variants.{ShortSizes, ShortBases, NoBlock}
 
 -- padded to 16
 abbrev pub padded : ℕ → ℕ
@@ -52,13 +51,6 @@ openIn d (Parsing.Header h) =
 
 unfoldable pub openOf : List ℕ → Parsed
 openOf d = openIn d (parseOf d)
-
--- what holds of a stream that opens
-pub record Opened (d : List ℕ) (h : FujiHeader) : Type 0 where
-  pub parsed : parseOf d ≡ Parsing.Header h
-  pub ruled : Ruled h
-  pub sizes : sizesEnd h ≤ length d
-  pub whole : h .lossless ≡ false → (b : ℕ) → b < h .blocks → rowStart h b + h .lines ≤ length d
 
 -- where block b would start: the blocks follow the rows, one after the other
 unfoldable pub sizesBefore : List ℕ → ℕ → ℕ

@@ -1,18 +1,27 @@
-// Streams: sizes, base rows, and the part of the caller's bytes that is a block.
+// Document 01, Stream and Refusals: the header, sizes, base rows, the bytes of a block, and the list of refusals with their numbers.
 ghost use mathlib.Core.Path.{_≡_};
 ghost use Prim.Native.Nat.{_+_, _*_, _^_, _≤_, _<_};
 ghost use lib.ListN.{length};
-ghost use Rattle.header.specs.Headers.{parseOf, Ruled, widthAnswer};
-ghost use Rattle.ranges.specs.Ranges.{partOf, Short};
+ghost use Rattle.stream.specs.Headers.{parseOf, widthAnswer};
+ghost use Rattle.stream.specs.Inside.{Ruled};
+ghost use Rattle.stream.specs.Ranges.{partOf, Short};
 ghost use Rattle.stream.specs.Lengths.{boundAnswer, lengthWord, lengthRefusal};
-ghost use Rattle.stream.specs.Streams.{sizeOf, rowLength, rowStart, firstShort, openIn, openOf, Opened, sizesBefore};
+ghost use Rattle.stream.specs.Streams.{sizeOf, rowLength, rowStart, firstShort, openIn, openOf, sizesBefore};
+ghost use Rattle.stream.specs.Inside.{Opened};
 ghost use Rattle.stream.specs.Streams.{blockStart, rangeIn, rangeOf, rowIn, rowOf};
 use bits::ByteOffset;
-use header::FujiHeader;
-use header::Parsed;
-use header::Refusal;
-use header::Width;
-use ranges::Ranged;
+
+mod header;
+mod ranges;
+mod words;
+
+pub use header::FujiHeader;
+pub use header::Parsed;
+pub use header::Refusal;
+pub use header::Width;
+pub use ranges::Ranged;
+pub use words::header_words;
+pub use words::refusal_words;
 
 // A block's length in bytes: its bound, as it is measured, or as it is written.
 pub enum BlockLength {

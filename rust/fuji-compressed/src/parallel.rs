@@ -1,5 +1,5 @@
 //! A picture by several threads, one block's columns each. That this gives the picture rests on a proved statement: a region has the whole picture's
-//! samples at its places (crates/whole_and_region/specs/Agreement.antt).
+//! samples at its places (crates/theorem_regions/specs/Agreement.antt).
 use crate::{ColorTile, FujiCompressed, Rect, Refusal, Result, Scratch};
 use std::sync::Mutex;
 use std::thread;

@@ -3,7 +3,7 @@ use borrow.Author.Needs.{needs}
 use mathlib.Core.Path.{_≡_}
 use Prim.Native.Nat.{ℕ, _+_, _^_, _<_}
 use native.Mathlib.Omega.{arith}
-use Rattle.bits.specs.Bits.{afterRun}
+use Rattle.bits.specs.Inside.{afterRun}
 use Rattle.bits.specs.declared.ZeroRun.{ZeroRun}
 use Rattle.bits.specs.declared.ZeroRun.the-variants.{One}
 use Rattle.bits.proofs.after_run.Statement.{statement}

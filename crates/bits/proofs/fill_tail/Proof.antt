@@ -6,7 +6,8 @@ use Prim.Native.Nat.{ℕ, zero, suc, _+_, _-_, _≤_, _<_}
 use native.Mathlib.Omega.{arith}
 use lib.ListN.{length, getD, set, replicate, length-replicate}
 use lib.Seq.{paste, paste-zero, paste-suc}
-use Rattle.bits.specs.BitLists.{bytesFor, blockBytes, filled}
+use Rattle.bits.specs.Inside.{bytesFor, filled}
+use Rattle.bits.specs.BitLists.{blockBytes}
 use Rattle.bits.proofs.fill_tail.Statement.{statement}
 use Rattle.bits.proofs.fill_tail.Tie as tie
 

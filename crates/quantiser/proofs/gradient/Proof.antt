@@ -3,7 +3,8 @@ use borrow.Author.Needs.{needs}
 use mathlib.Core.Path.{_≡_, refl, ap, _∙_}
 use Prim.Native.Nat.{ℕ, _<_}
 use native.Mathlib.Omega.{arith}
-use Rattle.quantiser.specs.Quantisers.{thresholdsOf, Serves, gradientOf}
+use Rattle.quantiser.specs.Inside.{thresholdsOf, Serves}
+use Rattle.quantiser.specs.Quantisers.{gradientOf}
 use Rattle.quantiser.specs.declared.Thresholds.{Thresholds}
 use Rattle.quantiser.proofs.gradient.Statement.{statement}
 use Rattle.quantiser.proofs.gradient.Tie as tie

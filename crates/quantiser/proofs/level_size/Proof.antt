@@ -4,7 +4,8 @@ use mathlib.Core.Path.{_≡_}
 use Prim.Native.Nat.{ℕ, _+_}
 use lib.Dec.{leb}
 use Rattle.numbers.specs.Numbers.{flag}
-use Rattle.quantiser.specs.Quantisers.{Serves, levelSize}
+use Rattle.quantiser.specs.Inside.{Serves}
+use Rattle.quantiser.specs.Quantisers.{levelSize}
 use Rattle.quantiser.specs.declared.Thresholds.{Thresholds}
 use Rattle.quantiser.proofs.GradientLaws.{level-count}
 use Rattle.quantiser.proofs.level_size.Statement.{statement}

@@ -6,7 +6,8 @@ use Prim.Native.Nat.{ℕ, _+_, _-_, _*_, _/_, _%_, _^_, _≤_, _<_}
 use native.Mathlib.Omega.{arith}
 use lib.ListN.{length}
 use Rattle.numbers.proofs.FillLaws.{NewTo, new-none, new-more}
-use Rattle.short_codes.specs.Sheets.{Bounded, countOf, entryAt, Filled}
+use Rattle.short_codes.specs.Inside.{Bounded, Filled}
+use Rattle.short_codes.specs.Sheets.{countOf, entryAt}
 use Rattle.short_codes.proofs.SheetLaws.{entry-is, counted}
 use Rattle.short_codes.proofs.fill.Statement.{statement}
 use Rattle.short_codes.proofs.fill.Tie as tie

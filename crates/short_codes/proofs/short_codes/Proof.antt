@@ -7,8 +7,9 @@ use mathlib.Core.Path.{_≡_, refl, sym, _∙_}
 use Prim.Native.Nat.{ℕ, _≤_, _<_}
 use native.Mathlib.Omega.{arith}
 use lib.ListN.{length}
-use Rattle.header.specs.declared.Refusal.the-variants.{OutsideSheet}
-use Rattle.short_codes.specs.Sheets.{inSheet, countOf, Filled, listedAnswer, isWritten, ListAfter}
+use Rattle.stream.specs.declared.header.Refusal.the-variants.{OutsideSheet}
+use Rattle.short_codes.specs.Sheets.{inSheet, countOf, listedAnswer, isWritten, ListAfter}
+use Rattle.short_codes.specs.Inside.{Filled}
 use Rattle.short_codes.specs.declared.Listed.{Listed}
 use Rattle.short_codes.specs.declared.Listed.the-variants.{Count, Refused}
 use Rattle.short_codes.proofs.SheetLaws.{bounded}

@@ -3,8 +3,9 @@ use mathlib.Core.List.{List}
 use mathlib.Core.Path.{_≡_, ap, _∙_}
 use Prim.Native.Nat.{ℕ}
 use Rattle.stream.specs.Streams.{rowOf}
-use Rattle.ranges.specs.Ranges.{partOf, Inside}
-use Rattle.ranges.specs.declared.Ranged.{Ranged}
+use Rattle.stream.specs.Ranges.{partOf}
+use Rattle.stream.specs.Inside.{Inside}
+use Rattle.stream.specs.declared.ranges.Ranged.{Ranged}
 use Rattle.stream.proofs.StreamLaws.{row-inside}
 use Rattle.stream.proofs.base_row.Statement.{statement}
 use Rattle.stream.proofs.base_row.Tie as tie

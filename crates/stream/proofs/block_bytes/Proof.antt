@@ -4,8 +4,9 @@ use mathlib.Core.Path.{_≡_, ap, _∙_}
 use Prim.Native.Nat.{ℕ, _^_, _<_}
 use lib.ListN.{length}
 use Rattle.stream.specs.Streams.{rangeOf}
-use Rattle.ranges.specs.Ranges.{partOf, Short, Inside}
-use Rattle.ranges.specs.declared.Ranged.{Ranged}
+use Rattle.stream.specs.Ranges.{partOf, Short}
+use Rattle.stream.specs.Inside.{Inside}
+use Rattle.stream.specs.declared.ranges.Ranged.{Ranged}
 use Rattle.stream.proofs.StreamLaws.{range-inside, part-lt}
 use Rattle.stream.proofs.block_bytes.Statement.{statement}
 use Rattle.stream.proofs.block_bytes.Tie as tie

@@ -1,14 +1,14 @@
 -- `stream::block_width` meets its contract, by the two ways in which parsing ends. Assumes nothing.
 use mathlib.Core.Path.{_≡_, sym, _∙_}
 use Prim.Native.Nat.{ℕ}
-use Rattle.header.specs.Headers.{widthAnswer}
-use Rattle.header.specs.declared.FujiHeader.{FujiHeader}
-use Rattle.header.specs.declared.Parsed.{Parsed}
-use Rattle.header.specs.declared.Parsed.the-variants.{Header, Refused}
-use Rattle.header.specs.declared.Refusal.{Refusal}
-use Rattle.header.specs.declared.Width.{Width}
-use Rattle.header.specs.declared.Width.the-variants as Columns
-use Rattle.header.proofs.HeaderLaws.{ruled}
+use Rattle.stream.specs.Headers.{widthAnswer}
+use Rattle.stream.specs.declared.header.FujiHeader.{FujiHeader}
+use Rattle.stream.specs.declared.header.Parsed.{Parsed}
+use Rattle.stream.specs.declared.header.Parsed.the-variants.{Header, Refused}
+use Rattle.stream.specs.declared.header.Refusal.{Refusal}
+use Rattle.stream.specs.declared.header.Width.{Width}
+use Rattle.stream.specs.declared.header.Width.the-variants as Columns
+use Rattle.stream.proofs.HeaderLaws.{ruled}
 use Rattle.stream.proofs.block_width.Statement.{statement}
 use Rattle.stream.proofs.block_width.Tie as tie
 

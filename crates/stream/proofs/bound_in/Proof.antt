@@ -6,8 +6,8 @@ use Prim.Native.Nat.{ℕ}
 use native.Mathlib.Omega.{arith}
 use Rattle.stream.specs.Lengths.{lengthBound, boundAnswer}
 use Rattle.stream.specs.declared.BlockLength.the-variants.{Length}
-use Rattle.header.specs.declared.FujiHeader.{FujiHeader}
-use Rattle.header.specs.declared.Parsed.the-variants.{Header}
+use Rattle.stream.specs.declared.header.FujiHeader.{FujiHeader}
+use Rattle.stream.specs.declared.header.Parsed.the-variants.{Header}
 use Rattle.stream.proofs.bound_in.Statement.{statement}
 use Rattle.stream.proofs.bound_in.Tie as tie
 

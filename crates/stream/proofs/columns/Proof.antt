@@ -3,10 +3,10 @@ use borrow.Author.Tests.{lt-ltb, le-ltb}
 use mathlib.Core.Path.{_≡_}
 use Prim.Native.Nat.{ℕ, _<_}
 use native.Mathlib.Omega.{arith}
-use Rattle.header.specs.Headers.{columnsOf, widthAnswer}
-use Rattle.header.specs.declared.FujiHeader.{FujiHeader}
-use Rattle.header.specs.declared.Parsed.the-variants.{Header}
-use Rattle.header.specs.declared.Width.the-variants.{Columns}
+use Rattle.stream.specs.Headers.{columnsOf, widthAnswer}
+use Rattle.stream.specs.declared.header.FujiHeader.{FujiHeader}
+use Rattle.stream.specs.declared.header.Parsed.the-variants.{Header}
+use Rattle.stream.specs.declared.header.Width.the-variants.{Columns}
 use Rattle.stream.proofs.columns.Statement.{statement}
 use Rattle.stream.proofs.columns.Tie as tie
 

@@ -11,7 +11,7 @@ use lib.ListN.{length}
 use Rattle.numbers.specs.Numbers.{leastFrom}
 use Rattle.numbers.proofs.LeastLaws.{least-last, least-here, least-next}
 use Rattle.stream.specs.Streams.{rowLength, rowStart, isShort, firstShort}
-use Rattle.header.specs.declared.FujiHeader.{FujiHeader}
+use Rattle.stream.specs.declared.header.FujiHeader.{FujiHeader}
 use Rattle.stream.proofs.first_short.Statement.{statement}
 use Rattle.stream.proofs.first_short.Tie as tie
 

@@ -1,7 +1,7 @@
 -- `stream::length_bound` meets its contract, by the two ways in which parsing ends. Assumes nothing.
 use mathlib.Core.Path.{sym, ap, _∙_}
 use Rattle.stream.specs.Lengths.{boundAnswer}
-use Rattle.header.proofs.HeaderLaws.{ruled}
+use Rattle.stream.proofs.HeaderLaws.{ruled}
 use Rattle.stream.proofs.length_bound.Statement.{statement}
 use Rattle.stream.proofs.length_bound.Tie as tie
 

@@ -1,6 +1,6 @@
 -- `stream::open` meets its contract, by the two ways in which parsing ends. Assumes nothing.
 use mathlib.Core.Path.{sym, _∙_}
-use Rattle.header.proofs.HeaderLaws.{ruled}
+use Rattle.stream.proofs.HeaderLaws.{ruled}
 use Rattle.stream.proofs.StreamLaws.{open-refused, open-parsed}
 use Rattle.stream.proofs.open.Statement.{statement}
 use Rattle.stream.proofs.open.Tie as tie

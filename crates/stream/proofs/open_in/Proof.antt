@@ -6,9 +6,9 @@ use mathlib.Core.Path.{_≡_}
 use Prim.Native.Nat.{ℕ, _≤_, _<_}
 use lib.ListN.{length}
 use Rattle.stream.specs.Streams.{sizesEnd, firstShort, openIn}
-use Rattle.header.specs.declared.FujiHeader.{FujiHeader}
-use Rattle.header.specs.declared.Parsed.the-variants.{Header, Refused}
-use Rattle.header.specs.declared.Refusal.the-variants.{ShortBases}
+use Rattle.stream.specs.declared.header.FujiHeader.{FujiHeader}
+use Rattle.stream.specs.declared.header.Parsed.the-variants.{Header, Refused}
+use Rattle.stream.specs.declared.header.Refusal.the-variants.{ShortBases}
 use native.Mathlib.Omega.{arith}
 use Rattle.stream.proofs.open_in.Statement.{statement}
 use Rattle.stream.proofs.open_in.Tie as tie

@@ -4,10 +4,11 @@ use mathlib.Core.List.{List}
 use mathlib.Core.Path.{_≡_}
 use Prim.Native.Nat.{ℕ, _^_, _<_}
 use native.Mathlib.Omega.{arith}
-use Rattle.header.specs.declared.FujiHeader.{FujiHeader}
-use Rattle.header.specs.declared.Parsed.the-variants.{Header}
-use Rattle.ranges.specs.Ranges.{cutRange, Short}
-use Rattle.ranges.specs.declared.Ranged.{Ranged}
+use Rattle.stream.specs.declared.header.FujiHeader.{FujiHeader}
+use Rattle.stream.specs.declared.header.Parsed.the-variants.{Header}
+use Rattle.stream.specs.Inside.{cutRange}
+use Rattle.stream.specs.Ranges.{Short}
+use Rattle.stream.specs.declared.ranges.Ranged.{Ranged}
 use Rattle.stream.specs.Streams.{sizeOf, blockStart, rangeIn}
 use Rattle.stream.proofs.range_in.Statement.{statement}
 use Rattle.stream.proofs.range_in.Tie as tie

@@ -5,10 +5,10 @@ use mathlib.Core.Path.{_≡_}
 use Prim.Native.Nat.{ℕ, _<_}
 use native.Mathlib.Omega.{arith}
 use Rattle.stream.specs.Streams.{rowLength, rowStart, rowIn}
-use Rattle.ranges.specs.Ranges.{cut}
-use Rattle.header.specs.declared.FujiHeader.{FujiHeader}
-use Rattle.header.specs.declared.Parsed.the-variants.{Header}
-use Rattle.ranges.specs.declared.Ranged.the-variants.{At}
+use Rattle.stream.specs.Ranges.{cut}
+use Rattle.stream.specs.declared.header.FujiHeader.{FujiHeader}
+use Rattle.stream.specs.declared.header.Parsed.the-variants.{Header}
+use Rattle.stream.specs.declared.ranges.Ranged.the-variants.{At}
 use Rattle.stream.proofs.row_in.Statement.{statement}
 use Rattle.stream.proofs.row_in.Tie as tie
 

@@ -3,7 +3,7 @@ use mathlib.Core.Path.{_≡_}
 use Prim.Native.Nat.{ℕ, _+_, _*_, _≤_}
 use native.Mathlib.Nat.{mul-le-mul-right}
 use native.Mathlib.Omega.{arith}
-use Rattle.header.specs.declared.FujiHeader.{FujiHeader}
+use Rattle.stream.specs.declared.header.FujiHeader.{FujiHeader}
 use Rattle.stream.specs.Streams.{padded, rowLength, rowStart}
 use Rattle.stream.proofs.row_start.Statement.{statement}
 use Rattle.stream.proofs.row_start.Tie as tie

@@ -5,7 +5,7 @@ use mathlib.Core.Path.{_≡_}
 use Prim.Native.Nat.{ℕ, _+_, _*_}
 use native.Mathlib.Omega.{arith}
 use Rattle.bits.specs.Bits.{be32}
-use Rattle.header.specs.Headers.{be16}
+use Rattle.stream.specs.Headers.{be16}
 use Rattle.stream.proofs.size_of.Statement.{statement}
 use Rattle.stream.proofs.size_of.Tie as tie
 

@@ -2,10 +2,10 @@
 mod derived
 use borrow.Author.Needs.{needs}
 use lib.ListN.{length}
-use Rattle.region.specs.declared.Rect.{Rect}
-use Rattle.begin.specs.Beginnings.{regionBegins}
-use Rattle.block.specs.Lent.{Buffers}
-use Rattle.block.proofs.SharedLeft.{same-call}
+use Rattle.image_region.specs.declared.Rect.{Rect}
+use Rattle.admission.specs.Beginnings.{regionBegins}
+use Rattle.read_block.specs.Lent.{Buffers}
+use Rattle.read_block.proofs.SharedLeft.{same-call}
 use Rattle.fuji_compressed.proofs.decoding.fuji_decode_region_shared.Statement.{statement}
 use Rattle.fuji_compressed.proofs.decoding.fuji_decode_region_shared.Proof.derived.Tie as tie
 

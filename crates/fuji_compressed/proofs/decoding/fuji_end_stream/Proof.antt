@@ -4,7 +4,7 @@ use mathlib.Core.List.{List}
 use mathlib.Core.Path.{_≡_, ap, _∙_, subst}
 use Prim.Native.Nat.{ℕ}
 use Rattle.cameras.specs.Entries.{givenBack}
-use Rattle.entry_words.specs.Words.{AreWords}
+use Rattle.cameras.specs.Words.{AreWords}
 use Rattle.cameras.specs.declared.Camera.{Camera}
 use Rattle.cameras.specs.declared.Entry.{Entry}
 use Rattle.fuji_compressed.proofs.decoding.fuji_end_stream.Statement.{statement}

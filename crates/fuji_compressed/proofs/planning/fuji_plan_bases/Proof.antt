@@ -3,8 +3,8 @@ use borrow.Author.Needs.{needs}
 use mathlib.Core.List.{List}
 use mathlib.Core.Path.{_≡_, sym}
 use Prim.Native.Nat.{ℕ}
-use Rattle.plan.specs.Plans.{BasesAfter}
-use Rattle.plan.specs.declared.Planned.{Planned}
+use Rattle.base_plan.specs.Plans.{BasesAfter}
+use Rattle.base_plan.specs.declared.Planned.{Planned}
 use Rattle.fuji_compressed.specs.Planning.{plannedRefusal}
 use Rattle.fuji_compressed.proofs.SameWords.{same}
 use Rattle.fuji_compressed.proofs.planning.fuji_plan_bases.Statement.{statement}

@@ -8,7 +8,8 @@ use native.Mathlib.Nat.{mod-eq-of-lt}
 use native.Mathlib.Omega.{arith}
 use lib.Dec.{ltb}
 use Rattle.numbers.specs.Numbers.{flag}
-use Rattle.statistics.specs.Statistics.{kOf, InRange}
+use Rattle.statistics.specs.Statistics.{kOf}
+use Rattle.statistics.specs.Inside.{InRange}
 use Rattle.statistics.specs.declared.Record.{Record}
 use Rattle.statistics.proofs.LengthLaws.{Near, lengths-near, near-k}
 use Rattle.statistics.proofs.Record.k_by_lengths.Statement.{statement}

@@ -3,7 +3,7 @@ use borrow.Author.Needs.{needs}
 use mathlib.Core.Path.{sym, subst}
 use native.Mathlib.Omega.{arith}
 use lib.Pow.{shr-le}
-use Rattle.statistics.specs.Statistics.{InRange}
+use Rattle.statistics.specs.Inside.{InRange}
 use Rattle.statistics.specs.declared.Record.{Record}
 use Rattle.statistics.proofs.RecordLaws.{shifted-update, updated-in-range}
 use Rattle.statistics.proofs.Record.update.Statement.{statement}

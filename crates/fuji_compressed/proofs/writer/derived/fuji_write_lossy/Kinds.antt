@@ -1,7 +1,7 @@
 -- Written by tools/lend.py from Rattle's derivation of the twin of `fuji_compressed`; not edited by hand. Assumes nothing.
 use Rattle.bits.proofs.Values.{n16, n64, n8}
 use mathlib.Core.List.{_∷_, []}
-use Rattle.block.proofs.Element
+use Rattle.read_block.proofs.Element
 use borrow.Fn.Kinds
 use borrow.Kind.MutSlice
 use borrow.Kind.ShrSlice

@@ -5,9 +5,9 @@ use Rattle.fuji_compressed.proofs.checkpoints.derived.fuji_store_checkp
 use Rattle.fuji_compressed.proofs.checkpoints.fuji_store_checkpoint.Proof.derived.Lts
 use Rattle.fuji_compressed.proofs.checkpoints.derived.fuji_store_checkpoint.Reads
 use Rattle.fuji_compressed.proofs.checkpoints.fuji_store_checkpoint.Statement
-use Rattle.block_states.proofs.store_checkpoint.Met
-use Rattle.block_states.proofs.derived.store_checkpoint.Reads as Reads'
-use Rattle.block_states.proofs.store_checkpoint.Symbol
+use Rattle.saved_state.proofs.blocks.store_checkpoint.Met
+use Rattle.saved_state.proofs.blocks.derived.store_checkpoint.Reads as Reads'
+use Rattle.saved_state.proofs.blocks.store_checkpoint.Symbol
 use Rattle.fuji_compressed.proofs.reading.counted_refusal.Met as Met'
 use Rattle.fuji_compressed.proofs.reading.counted_refusal.Reads as Reads''
 use Rattle.fuji_compressed.proofs.reading.counted_refusal.Symbol as Symbol'
@@ -52,6 +52,6 @@ module _ {M : Type 1} where
   close = λ closed 𝓤 H 𝓜 𝓖 𝓡. Written.close 6 Kinds.ps Kinds.r Reads.Ghost Reads.requires Reads.ensures Reads.pre-read Reads.Pinned Reads.Owned Reads.post-read record
       { M = M; 𝓤 = 𝓤; H = H; 𝓜 = 𝓜; 𝓖 = 𝓖; 𝓡 = 𝓡 } Code.env Key.name Code.function (Code.unfolded 𝓤 H 𝓜 𝓡) (λ κs a g. tt) (λ κs. Reads.owns κs record { M = M; 𝓤 = 𝓤; H = H; 𝓜 = 𝓜; 𝓖 = 𝓖; 𝓡 = 𝓡 })
       (Reads.passes record { M = M; 𝓤 = 𝓤; H = H; 𝓜 = 𝓜; 𝓖 = 𝓖; 𝓡 = 𝓡 }) λ g. closed 𝓤 H (𝓖 .A) (Running.givenOf 𝓤 H 𝓜 𝓖) (Run.Over 𝓤 H 𝓜 𝓖 𝓡 Code.env) (Reads'.known record
-      { M = M; 𝓤 = 𝓤; H = H; 𝓜 = 𝓜; 𝓖 = 𝓖; 𝓡 = 𝓡 } Code.env Symbol.name Symbol.routine Code.calls-block-states·store-checkpoint (Met.met 𝓤 H 𝓜 𝓖 𝓡)) (Reads'3.known record
+      { M = M; 𝓤 = 𝓤; H = H; 𝓜 = 𝓜; 𝓖 = 𝓖; 𝓡 = 𝓡 } Code.env Symbol.name Symbol.routine Code.calls-saved-state·blocks·store-checkpoint (Met.met 𝓤 H 𝓜 𝓖 𝓡)) (Reads'3.known record
       { M = M; 𝓤 = 𝓤; H = H; 𝓜 = 𝓜; 𝓖 = 𝓖; 𝓡 = 𝓡 } Code.env Symbol''.name Symbol''.routine Code.calls-fuji-compressed·reading·totals-words (Met''.met 𝓤 H 𝓜 𝓖 𝓡)) (Reads''.known record
       { M = M; 𝓤 = 𝓤; H = H; 𝓜 = 𝓜; 𝓖 = 𝓖; 𝓡 = 𝓡 } Code.env Symbol'.name Symbol'.routine Code.calls-fuji-compressed·reading·counted-refusal (Met'.met 𝓤 H 𝓜 𝓖 𝓡))

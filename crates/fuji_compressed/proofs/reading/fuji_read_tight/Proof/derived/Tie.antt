@@ -1,7 +1,7 @@
 -- Written by tools/lend.py from Rattle's derivation of the twin of `fuji_compressed`; not edited by hand. Assumes nothing.
-use Rattle.block.proofs.tight.read_tight.Met
-use Rattle.block.proofs.tight.derived.read_tight.Reads
-use Rattle.block.proofs.tight.read_tight.Symbol
+use Rattle.read_block.proofs.tight.read_tight.Met
+use Rattle.read_block.proofs.tight.derived.read_tight.Reads
+use Rattle.read_block.proofs.tight.read_tight.Symbol
 use Rattle.fuji_compressed.proofs.reading.counted_refusal.Met as Met'
 use Rattle.fuji_compressed.proofs.reading.counted_refusal.Reads as Reads'
 use Rattle.fuji_compressed.proofs.reading.counted_refusal.Symbol as Symbol'
@@ -49,6 +49,6 @@ module _ {M : Type 1} where
   close = λ closed 𝓤 H 𝓜 𝓖 𝓡. Written.close 5 Kinds.ps Kinds.r Reads''.Ghost Reads''.requires Reads''.ensures Reads''.pre-read Reads''.Pinned Reads''.Owned Reads''.post-read record
       { M = M; 𝓤 = 𝓤; H = H; 𝓜 = 𝓜; 𝓖 = 𝓖; 𝓡 = 𝓡 } Code.env Key.name Code.function (Code.unfolded 𝓤 H 𝓜 𝓡) (λ κs a g. tt) (λ κs. Reads''.owns κs record { M = M; 𝓤 = 𝓤; H = H; 𝓜 = 𝓜; 𝓖 = 𝓖; 𝓡 = 𝓡 })
       (Reads''.passes record { M = M; 𝓤 = 𝓤; H = H; 𝓜 = 𝓜; 𝓖 = 𝓖; 𝓡 = 𝓡 }) λ g. closed 𝓤 H (𝓖 .A) (Running.givenOf 𝓤 H 𝓜 𝓖) (Run.Over 𝓤 H 𝓜 𝓖 𝓡 Code.env) (Reads.known record
-      { M = M; 𝓤 = 𝓤; H = H; 𝓜 = 𝓜; 𝓖 = 𝓖; 𝓡 = 𝓡 } Code.env Symbol.name Symbol.routine Code.calls-block·tight·read-tight (Met.met 𝓤 H 𝓜 𝓖 𝓡)) (Reads'3.known record
+      { M = M; 𝓤 = 𝓤; H = H; 𝓜 = 𝓜; 𝓖 = 𝓖; 𝓡 = 𝓡 } Code.env Symbol.name Symbol.routine Code.calls-read-block·tight·read-tight (Met.met 𝓤 H 𝓜 𝓖 𝓡)) (Reads'3.known record
       { M = M; 𝓤 = 𝓤; H = H; 𝓜 = 𝓜; 𝓖 = 𝓖; 𝓡 = 𝓡 } Code.env Symbol''.name Symbol''.routine Code.calls-fuji-compressed·reading·totals-words (Met''.met 𝓤 H 𝓜 𝓖 𝓡)) (Reads'.known record
       { M = M; 𝓤 = 𝓤; H = H; 𝓜 = 𝓜; 𝓖 = 𝓖; 𝓡 = 𝓡 } Code.env Symbol'.name Symbol'.routine Code.calls-fuji-compressed·reading·counted-refusal (Met'.met 𝓤 H 𝓜 𝓖 𝓡))

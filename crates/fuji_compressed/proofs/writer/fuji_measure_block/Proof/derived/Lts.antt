@@ -4,7 +4,7 @@ use Rattle.bits.proofs.Values
 use Rattle.bits.proofs.Values.{on}
 use Rattle.bits.proofs.Values.{n16, n64, n8, u16, u64, u8}
 use mathlib.Core.List.{_∷_, []}
-use Rattle.block.proofs.Element
+use Rattle.read_block.proofs.Element
 use Prim.Native.Nat
 use Rattle.stream.proofs.BlockLength
 use Rattle.stream.proofs.BlockLength.Laws
@@ -61,12 +61,12 @@ abbrev pub y1 : Syntax.Ty
 y1 = Syntax.tyArray u64 4
 
 abbrev pub y2 : Syntax.Ty
-y2 = Syntax.tyEnum (104 ∷ 101 ∷ 97 ∷ 100 ∷ 101 ∷ 114 ∷ 58 ∷ 58 ∷ 82 ∷ 101 ∷ 102 ∷ 117 ∷ 115 ∷ 97 ∷ 108 ∷ []) (Syntax.ttcons Syntax.tnil (Syntax.ttcons Syntax.tnil (Syntax.ttcons Syntax.tnil
-    (Syntax.ttcons (Syntax.tcons u64 Syntax.tnil) (Syntax.ttcons Syntax.tnil (Syntax.ttcons Syntax.tnil (Syntax.ttcons Syntax.tnil (Syntax.ttcons Syntax.tnil (Syntax.ttcons Syntax.tnil (Syntax.ttcons
-    Syntax.tnil (Syntax.ttcons (Syntax.tcons u64 Syntax.tnil) (Syntax.ttcons (Syntax.tcons u64 Syntax.tnil) (Syntax.ttcons Syntax.tnil (Syntax.ttcons (Syntax.tcons u64 (Syntax.tcons u64 Syntax.tnil))
-    (Syntax.ttcons (Syntax.tcons u64 Syntax.tnil) (Syntax.ttcons Syntax.tnil (Syntax.ttcons Syntax.tnil (Syntax.ttcons (Syntax.tcons u64 Syntax.tnil) (Syntax.ttcons (Syntax.tcons u64 Syntax.tnil)
-    (Syntax.ttcons (Syntax.tcons u64 Syntax.tnil) (Syntax.ttcons Syntax.tnil (Syntax.ttcons Syntax.tnil (Syntax.ttcons (Syntax.tcons u64 (Syntax.tcons u64 Syntax.tnil)) (Syntax.ttcons Syntax.tnil
-    Syntax.ttnil))))))))))))))))))))))))
+y2 = Syntax.tyEnum (115 ∷ 116 ∷ 114 ∷ 101 ∷ 97 ∷ 109 ∷ 58 ∷ 58 ∷ 104 ∷ 101 ∷ 97 ∷ 100 ∷ 101 ∷ 114 ∷ 58 ∷ 58 ∷ 82 ∷ 101 ∷ 102 ∷ 117 ∷ 115 ∷ 97 ∷ 108 ∷ []) (Syntax.ttcons Syntax.tnil (Syntax.ttcons
+    Syntax.tnil (Syntax.ttcons Syntax.tnil (Syntax.ttcons (Syntax.tcons u64 Syntax.tnil) (Syntax.ttcons Syntax.tnil (Syntax.ttcons Syntax.tnil (Syntax.ttcons Syntax.tnil (Syntax.ttcons Syntax.tnil
+    (Syntax.ttcons Syntax.tnil (Syntax.ttcons Syntax.tnil (Syntax.ttcons (Syntax.tcons u64 Syntax.tnil) (Syntax.ttcons (Syntax.tcons u64 Syntax.tnil) (Syntax.ttcons Syntax.tnil (Syntax.ttcons
+    (Syntax.tcons u64 (Syntax.tcons u64 Syntax.tnil)) (Syntax.ttcons (Syntax.tcons u64 Syntax.tnil) (Syntax.ttcons Syntax.tnil (Syntax.ttcons Syntax.tnil (Syntax.ttcons (Syntax.tcons u64 Syntax.tnil)
+    (Syntax.ttcons (Syntax.tcons u64 Syntax.tnil) (Syntax.ttcons (Syntax.tcons u64 Syntax.tnil) (Syntax.ttcons Syntax.tnil (Syntax.ttcons Syntax.tnil (Syntax.ttcons (Syntax.tcons u64 (Syntax.tcons u64
+    Syntax.tnil)) (Syntax.ttcons Syntax.tnil Syntax.ttnil))))))))))))))))))))))))
 
 abbrev pub y3 : Syntax.Ty
 y3 = Syntax.tyRef (Syntax.named 0) Syntax.imm u8
@@ -150,7 +150,7 @@ abbrev b3 : Syntax.Body
 b3 = Syntax.assign (Syntax.place 13 []) (Syntax.aggregate ((Syntax.copy (Syntax.place 12 [])) ∷ (Syntax.copy (Syntax.place 4 ((Syntax.field 1) ∷ []))) ∷ []))
 
 abbrev b4 : Syntax.Body
-b4 = Syntax.call "block_writer::measure_block" ((Syntax.copy (Syntax.place 1 [])) ∷ (Syntax.copy (Syntax.place 2 [])) ∷ (Syntax.copy (Syntax.place 11 [])) ∷ (Syntax.copy (Syntax.place 13 [])) ∷ [])
+b4 = Syntax.call "write_block::measure_block" ((Syntax.copy (Syntax.place 1 [])) ∷ (Syntax.copy (Syntax.place 2 [])) ∷ (Syntax.copy (Syntax.place 11 [])) ∷ (Syntax.copy (Syntax.place 13 [])) ∷ [])
     (Syntax.place 7 [])
 
 abbrev b5 : Syntax.Body
@@ -395,7 +395,7 @@ module _ (claims· : Claims) where
     module _ (M : Type 1) where
       abbrev pub Closed : Type 2
       Closed = (𝓤 : URA.URA M) (H : Wp.Heap 𝓤) (A : Atoms.Atoms 𝓤) (W : Kit.Given 𝓤 H A) (𝓣 : Wp.Tables 𝓤 H) (known0 : Plain.Known 𝓤 H A W 𝓣 4 ps·0 r·0 (claims· .0) (claims· .1)
-          "block_writer::measure_block") (known1 : Plain.Known 𝓤 H A W 𝓣 0 ps·1 r·1 (claims· .2) (claims· .3) "stream::length_word") (known2 : Plain.Known 𝓤 H A W 𝓣 0 ps·2 r·2 (claims· .4) (claims· .5)
+          "write_block::measure_block") (known1 : Plain.Known 𝓤 H A W 𝓣 0 ps·1 r·1 (claims· .2) (claims· .3) "stream::length_word") (known2 : Plain.Known 𝓤 H A W 𝓣 0 ps·2 r·2 (claims· .4) (claims· .5)
           "stream::length_refusal") → Statement.Triple 𝓤 (Wp.WpFn 𝓤 H (𝓣 .C) (𝓣 .Λ) (Function.fnOf 6 ps r xs m hs body)) (Function.plainOf 𝓤 H A 6 ps r Pre· Post·)
 
     module _ where
@@ -464,7 +464,7 @@ module _ (claims· : Claims) where
 
       module _ {M : Type 1} (𝓤 : URA.URA M) (H : Wp.Heap 𝓤) (A : Atoms.Atoms 𝓤) (W : Kit.Given 𝓤 H A) (𝓣 : Wp.Tables 𝓤 H) where
         abbrev Knowns : Type 1
-        Knowns = Plain.Known 𝓤 H A W 𝓣 4 ps·0 r·0 (claims· .0) (claims· .1) "block_writer::measure_block" × Plain.Known 𝓤 H A W 𝓣 0 ps·1 r·1 (claims· .2) (claims· .3) "stream::length_word" ×
+        Knowns = Plain.Known 𝓤 H A W 𝓣 4 ps·0 r·0 (claims· .0) (claims· .1) "write_block::measure_block" × Plain.Known 𝓤 H A W 𝓣 0 ps·1 r·1 (claims· .2) (claims· .3) "stream::length_word" ×
             Plain.Known 𝓤 H A W 𝓣 0 ps·2 r·2 (claims· .4) (claims· .5) "stream::length_refusal"
 
       module _ (κs : Lifetimes.Lfts 6) (qs : Lifetimes.Shares 6) where
@@ -631,8 +631,8 @@ module _ (claims· : Claims) where
           d15 = Typed.g-pre 𝓤 H A W 𝓣 E G11 G12 b15 Δ0 (λ Ψ. Ψ) at14 (Lifetime.g-end 𝓤 H A W E G11 6 Path'.refl) d14
 
           d16 : Typed.Typed 𝓤 H A 𝓣 E G10 (Syntax.seq b4 b15) Δ0 at16
-          d16 = Typed.s-seq 𝓤 H A W 𝓣 E G10 G11 b4 b15 Δ0 (Typed.both s9) at14 (Plain.t-call-plain 𝓤 H A W 𝓣 4 ps·0 r·0 (claims· .0) (claims· .1) "block_writer::measure_block" (known .0) E (λ pos β.
-              β) G10
+          d16 = Typed.s-seq 𝓤 H A W 𝓣 E G10 G11 b4 b15 Δ0 (Typed.both s9) at14 (Plain.t-call-plain 𝓤 H A W 𝓣 4 ps·0 r·0 (claims· .0) (claims· .1) "write_block::measure_block" (known .0) E (λ pos β. β)
+              G10
               (record { pos = 1; ty = y3; ref = λ x. x }, (record { pos = 2; ty = y4; ref = λ x. x }, (record { pos = 11; ty = y8; ref = λ x. x }, (record { pos = 13; ty = y7; ref = λ x. x }, tt)))) 7
               (0 ∷ 1 ∷ 6 ∷ 7 ∷ []) (Call.sub-id 𝓤 H A W (G10 .slots)) (
                 ShrSlice.spares-sslice 𝓤 H A W n8 y3 0,
@@ -960,7 +960,7 @@ module _ (claims· : Claims) where
               { κs = κs; args = record { header = a .0; samples = a .1 .0; lines = a .1 .1 .0; rs = a .1 .1 .1 .0; size = a .1 .1 .1 .1 .0; refusal = a .1 .1 .1 .1 .1 .0 }; good = good; pre = pre }
 
         module _ {M : Type 1} (𝓤 : URA.URA M) (H : Wp.Heap 𝓤) (A : Atoms.Atoms 𝓤) (W : Kit.Given 𝓤 H A) (𝓣 : Wp.Tables 𝓤 H) (known0 : Plain.Known 𝓤 H A W 𝓣 4 ps·0 r·0 (claims· .0) (claims· .1)
-            "block_writer::measure_block") (known1 : Plain.Known 𝓤 H A W 𝓣 0 ps·1 r·1 (claims· .2) (claims· .3) "stream::length_word") (known2 : Plain.Known 𝓤 H A W 𝓣 0 ps·2 r·2 (claims· .4) (claims· .5)
+            "write_block::measure_block") (known1 : Plain.Known 𝓤 H A W 𝓣 0 ps·1 r·1 (claims· .2) (claims· .3) "stream::length_word") (known2 : Plain.Known 𝓤 H A W 𝓣 0 ps·2 r·2 (claims· .4) (claims· .5)
             "stream::length_refusal") where
           pub spec : Statement.Triple 𝓤 (Wp.WpFn 𝓤 H (𝓣 .C) (𝓣 .Λ) (Function.fnOf 6 ps r xs m hs body)) (Function.plainOf 𝓤 H A 6 ps r Pre· Post·)
           spec = Plain.t-fn-plain 𝓤 H A W 𝓣 6 ps r xs m hs body (λ κs qs bs. Φ) (λ κs qs bs bd. typed κs qs 𝓤 H A W 𝓣 (known0, known1, known2) bs bd) Pre· Post· asked

@@ -4,7 +4,7 @@ use Rattle.bits.proofs.Values
 use Rattle.bits.proofs.Values.{on}
 use Rattle.bits.proofs.Values.{n16, n64, n8, u16, u64, u8}
 use mathlib.Core.List.{_∷_, []}
-use Rattle.block.proofs.Element
+use Rattle.read_block.proofs.Element
 use Prim.Native.Nat
 use Rattle.stream.proofs.BlockLength
 use Rattle.stream.proofs.BlockLength.Laws
@@ -61,12 +61,12 @@ abbrev pub y1 : Syntax.Ty
 y1 = Syntax.tyArray u64 4
 
 abbrev pub y2 : Syntax.Ty
-y2 = Syntax.tyEnum (104 ∷ 101 ∷ 97 ∷ 100 ∷ 101 ∷ 114 ∷ 58 ∷ 58 ∷ 82 ∷ 101 ∷ 102 ∷ 117 ∷ 115 ∷ 97 ∷ 108 ∷ []) (Syntax.ttcons Syntax.tnil (Syntax.ttcons Syntax.tnil (Syntax.ttcons Syntax.tnil
-    (Syntax.ttcons (Syntax.tcons u64 Syntax.tnil) (Syntax.ttcons Syntax.tnil (Syntax.ttcons Syntax.tnil (Syntax.ttcons Syntax.tnil (Syntax.ttcons Syntax.tnil (Syntax.ttcons Syntax.tnil (Syntax.ttcons
-    Syntax.tnil (Syntax.ttcons (Syntax.tcons u64 Syntax.tnil) (Syntax.ttcons (Syntax.tcons u64 Syntax.tnil) (Syntax.ttcons Syntax.tnil (Syntax.ttcons (Syntax.tcons u64 (Syntax.tcons u64 Syntax.tnil))
-    (Syntax.ttcons (Syntax.tcons u64 Syntax.tnil) (Syntax.ttcons Syntax.tnil (Syntax.ttcons Syntax.tnil (Syntax.ttcons (Syntax.tcons u64 Syntax.tnil) (Syntax.ttcons (Syntax.tcons u64 Syntax.tnil)
-    (Syntax.ttcons (Syntax.tcons u64 Syntax.tnil) (Syntax.ttcons Syntax.tnil (Syntax.ttcons Syntax.tnil (Syntax.ttcons (Syntax.tcons u64 (Syntax.tcons u64 Syntax.tnil)) (Syntax.ttcons Syntax.tnil
-    Syntax.ttnil))))))))))))))))))))))))
+y2 = Syntax.tyEnum (115 ∷ 116 ∷ 114 ∷ 101 ∷ 97 ∷ 109 ∷ 58 ∷ 58 ∷ 104 ∷ 101 ∷ 97 ∷ 100 ∷ 101 ∷ 114 ∷ 58 ∷ 58 ∷ 82 ∷ 101 ∷ 102 ∷ 117 ∷ 115 ∷ 97 ∷ 108 ∷ []) (Syntax.ttcons Syntax.tnil (Syntax.ttcons
+    Syntax.tnil (Syntax.ttcons Syntax.tnil (Syntax.ttcons (Syntax.tcons u64 Syntax.tnil) (Syntax.ttcons Syntax.tnil (Syntax.ttcons Syntax.tnil (Syntax.ttcons Syntax.tnil (Syntax.ttcons Syntax.tnil
+    (Syntax.ttcons Syntax.tnil (Syntax.ttcons Syntax.tnil (Syntax.ttcons (Syntax.tcons u64 Syntax.tnil) (Syntax.ttcons (Syntax.tcons u64 Syntax.tnil) (Syntax.ttcons Syntax.tnil (Syntax.ttcons
+    (Syntax.tcons u64 (Syntax.tcons u64 Syntax.tnil)) (Syntax.ttcons (Syntax.tcons u64 Syntax.tnil) (Syntax.ttcons Syntax.tnil (Syntax.ttcons Syntax.tnil (Syntax.ttcons (Syntax.tcons u64 Syntax.tnil)
+    (Syntax.ttcons (Syntax.tcons u64 Syntax.tnil) (Syntax.ttcons (Syntax.tcons u64 Syntax.tnil) (Syntax.ttcons Syntax.tnil (Syntax.ttcons Syntax.tnil (Syntax.ttcons (Syntax.tcons u64 (Syntax.tcons u64
+    Syntax.tnil)) (Syntax.ttcons Syntax.tnil Syntax.ttnil))))))))))))))))))))))))
 
 abbrev pub y3 : Syntax.Ty
 y3 = Syntax.tyRef (Syntax.named 0) Syntax.imm u8
@@ -165,7 +165,7 @@ abbrev b5 : Syntax.Body
 b5 = Syntax.assign (Syntax.place 17 []) (Syntax.aggregate ((Syntax.copy (Syntax.place 16 [])) ∷ (Syntax.copy (Syntax.place 6 ((Syntax.field 1) ∷ []))) ∷ []))
 
 abbrev b6 : Syntax.Body
-b6 = Syntax.call "block_writer::write_lossy" ((Syntax.copy (Syntax.place 1 [])) ∷ (Syntax.copy (Syntax.place 2 [])) ∷ (Syntax.copy (Syntax.place 3 [])) ∷ (Syntax.copy (Syntax.place 13 [])) ∷
+b6 = Syntax.call "write_block::write_lossy" ((Syntax.copy (Syntax.place 1 [])) ∷ (Syntax.copy (Syntax.place 2 [])) ∷ (Syntax.copy (Syntax.place 3 [])) ∷ (Syntax.copy (Syntax.place 13 [])) ∷
     (Syntax.copy (Syntax.place 15 [])) ∷ (Syntax.copy (Syntax.place 17 [])) ∷ []) (Syntax.place 9 [])
 
 abbrev b7 : Syntax.Body
@@ -479,7 +479,7 @@ module _ (claims· : Claims) where
     module _ (M : Type 1) where
       abbrev pub Closed : Type 2
       Closed = (𝓤 : URA.URA M) (H : Wp.Heap 𝓤) (A : Atoms.Atoms 𝓤) (W : Kit.Given 𝓤 H A) (𝓣 : Wp.Tables 𝓤 H) (known0 : Plain.Known 𝓤 H A W 𝓣 6 ps·0 r·0 (claims· .0) (claims· .1)
-          "block_writer::write_lossy") (known1 : Plain.Known 𝓤 H A W 𝓣 0 ps·1 r·1 (claims· .2) (claims· .3) "stream::length_word") (known2 : Plain.Known 𝓤 H A W 𝓣 0 ps·2 r·2 (claims· .4) (claims· .5)
+          "write_block::write_lossy") (known1 : Plain.Known 𝓤 H A W 𝓣 0 ps·1 r·1 (claims· .2) (claims· .3) "stream::length_word") (known2 : Plain.Known 𝓤 H A W 𝓣 0 ps·2 r·2 (claims· .4) (claims· .5)
           "stream::length_refusal") → Statement.Triple 𝓤 (Wp.WpFn 𝓤 H (𝓣 .C) (𝓣 .Λ) (Function.fnOf 8 ps r xs m hs body)) (Function.plainOf 𝓤 H A 8 ps r Pre· Post·)
 
     module _ where
@@ -566,7 +566,7 @@ module _ (claims· : Claims) where
 
       module _ {M : Type 1} (𝓤 : URA.URA M) (H : Wp.Heap 𝓤) (A : Atoms.Atoms 𝓤) (W : Kit.Given 𝓤 H A) (𝓣 : Wp.Tables 𝓤 H) where
         abbrev Knowns : Type 1
-        Knowns = Plain.Known 𝓤 H A W 𝓣 6 ps·0 r·0 (claims· .0) (claims· .1) "block_writer::write_lossy" × Plain.Known 𝓤 H A W 𝓣 0 ps·1 r·1 (claims· .2) (claims· .3) "stream::length_word" × Plain.Known
+        Knowns = Plain.Known 𝓤 H A W 𝓣 6 ps·0 r·0 (claims· .0) (claims· .1) "write_block::write_lossy" × Plain.Known 𝓤 H A W 𝓣 0 ps·1 r·1 (claims· .2) (claims· .3) "stream::length_word" × Plain.Known
             𝓤 H A W 𝓣 0 ps·2 r·2 (claims· .4) (claims· .5) "stream::length_refusal"
 
       module _ (κs : Lifetimes.Lfts 8) (qs : Lifetimes.Shares 8) where
@@ -788,7 +788,7 @@ module _ (claims· : Claims) where
           d19 = Typed.g-pre 𝓤 H A W 𝓣 E G16 G17 b17 Δ0 (λ Ψ. Ψ) at18 (Lifetime.g-end 𝓤 H A W E G16 8 Path'.refl) d18
 
           d20 : Typed.Typed 𝓤 H A 𝓣 E G15 (Syntax.seq b6 b17) Δ0 at20
-          d20 = Typed.s-seq 𝓤 H A W 𝓣 E G15 G16 b6 b17 Δ0 (Typed.both s14) at18 (Plain.t-call-plain 𝓤 H A W 𝓣 6 ps·0 r·0 (claims· .0) (claims· .1) "block_writer::write_lossy" (known .0) E (λ pos β. β)
+          d20 = Typed.s-seq 𝓤 H A W 𝓣 E G15 G16 b6 b17 Δ0 (Typed.both s14) at18 (Plain.t-call-plain 𝓤 H A W 𝓣 6 ps·0 r·0 (claims· .0) (claims· .1) "write_block::write_lossy" (known .0) E (λ pos β. β)
               G15 (
                 record { pos = 1; ty = y3; ref = λ x. x },
                 (
@@ -1238,7 +1238,7 @@ module _ (claims· : Claims) where
           }
 
         module _ {M : Type 1} (𝓤 : URA.URA M) (H : Wp.Heap 𝓤) (A : Atoms.Atoms 𝓤) (W : Kit.Given 𝓤 H A) (𝓣 : Wp.Tables 𝓤 H) (known0 : Plain.Known 𝓤 H A W 𝓣 6 ps·0 r·0 (claims· .0) (claims· .1)
-            "block_writer::write_lossy") (known1 : Plain.Known 𝓤 H A W 𝓣 0 ps·1 r·1 (claims· .2) (claims· .3) "stream::length_word") (known2 : Plain.Known 𝓤 H A W 𝓣 0 ps·2 r·2 (claims· .4) (claims· .5)
+            "write_block::write_lossy") (known1 : Plain.Known 𝓤 H A W 𝓣 0 ps·1 r·1 (claims· .2) (claims· .3) "stream::length_word") (known2 : Plain.Known 𝓤 H A W 𝓣 0 ps·2 r·2 (claims· .4) (claims· .5)
             "stream::length_refusal") where
           pub spec : Statement.Triple 𝓤 (Wp.WpFn 𝓤 H (𝓣 .C) (𝓣 .Λ) (Function.fnOf 8 ps r xs m hs body)) (Function.plainOf 𝓤 H A 8 ps r Pre· Post·)
           spec = Plain.t-fn-plain 𝓤 H A W 𝓣 8 ps r xs m hs body (λ κs qs bs. Φ) (λ κs qs bs bd. typed κs qs 𝓤 H A W 𝓣 (known0, known1, known2) bs bd) Pre· Post· asked

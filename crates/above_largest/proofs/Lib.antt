@@ -1,2 +1,0 @@
--- Laws on refusal 11.
-pub mod SampleLaws

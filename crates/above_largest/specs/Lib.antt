@@ -1,2 +1,0 @@
--- The definitions of refusal 11.
-pub mod Above

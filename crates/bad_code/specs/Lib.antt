@@ -1,2 +1,0 @@
--- The definitions of a bad code.
-pub mod Reasons

@@ -1,3 +1,0 @@
--- Laws on how calls begin.
-pub mod BeginningLaws
-pub mod CallLaws

@@ -1,2 +1,0 @@
--- The definitions of how calls begin.
-pub mod Beginnings

@@ -1,2 +1,0 @@
--- Laws on how going on in a block begins.
-pub mod ResumingLaws

@@ -1,2 +1,0 @@
--- The definitions of how the writer's calls begin.
-pub mod Writings

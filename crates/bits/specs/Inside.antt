@@ -1,0 +1,21 @@
+-- Inside. What only our own functions say.
+use mathlib.Core.List.{List}
+use Prim.Native.Nat.{ℕ, _+_, _-_, _/_}
+use lib.ListN.{replicate}
+use lib.Seq.{paste}
+use Rattle.bits.specs.BitLists.{blockBytes}
+use Rattle.bits.specs.declared.ZeroRun.{ZeroRun}
+use Rattle.bits.specs.declared.ZeroRun.the-variants.{One, None}
+
+-- the bytes that n bits touch, the last of them counted whole
+abbrev pub bytesFor : ℕ → ℕ
+bytesFor n = (n + 7) / 8
+
+-- bytes in which those after the first n bits are 0, up to the length of a tight block with so many bits
+abbrev pub filled : ℕ → List ℕ → List ℕ
+filled n s = paste s (bytesFor n) (replicate (blockBytes n - bytesFor n) 0) (blockBytes n - bytesFor n)
+
+-- the position behind the one bit of a run at p, or p where there is none
+abbrev pub afterRun : ℕ → ZeroRun → ℕ
+afterRun p (One z) = p + z + 1
+afterRun p None = p

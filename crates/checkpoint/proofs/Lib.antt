@@ -1,7 +1,0 @@
--- Laws about stored states.
-pub mod ByteLaws
-pub mod StateLaws
-pub mod PartLaws
-pub mod RangeLaws
-pub mod LoadedLines
-pub mod Cases

@@ -1,2 +1,0 @@
--- The definitions of stored states.
-pub mod Checkpoints

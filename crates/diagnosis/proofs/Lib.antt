@@ -1,2 +1,0 @@
--- Laws of the fault of a block.
-pub mod FaultLaws

@@ -1,2 +1,0 @@
--- The definitions of why a block is not tight.
-pub mod Faults

@@ -1,2 +1,0 @@
--- Laws about colour lines that go to the image by themselves.
-pub mod WindowLaws

@@ -1,2 +1,0 @@
--- The definitions of lines that go to the image.
-pub mod Windows

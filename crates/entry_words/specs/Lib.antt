@@ -1,2 +1,0 @@
--- The definitions of the entries as words.
-pub mod Words

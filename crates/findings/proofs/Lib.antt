@@ -1,3 +1,0 @@
--- Laws of the search and of the report.
-pub mod FindingLaws
-pub mod TrueFindingLaws

@@ -1,3 +1,0 @@
--- The definitions of the report on a stream that is not tight.
-pub mod Findings
-pub mod TrueFindings

@@ -1,3 +1,0 @@
--- The definitions of headers and of the refusals.
-pub mod Refusals
-pub mod Headers

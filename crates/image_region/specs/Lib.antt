@@ -1,0 +1,3 @@
+-- The definitions of regions.
+pub mod Regions
+pub mod Inside

@@ -1,0 +1,3 @@
+-- The definitions of what is counted of a block's lines.
+pub mod Totals
+pub mod Inside

@@ -1,2 +1,0 @@
--- Laws about a row that is put into the image.
-pub mod StartLaws

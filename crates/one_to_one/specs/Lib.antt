@@ -1,6 +1,0 @@
--- Tight blocks and sets of colour lines correspond one to one: the statements.
-pub mod PredictedSets
-pub mod Correspondence
-pub mod Calls
-pub mod AcceptedStreams
-pub mod Lengths

@@ -1,1 +1,0 @@
-// Tight blocks and sets of colour lines correspond one to one. The statement is in specs/Correspondence.antt, its proof in proofs/; there is no code.

@@ -1,0 +1,3 @@
+-- The passes of a line and their steps.
+pub mod Steps
+pub mod Inside

@@ -1,5 +1,0 @@
--- Laws about plans of bases.
-pub mod AnswerLaws
-pub mod OneRecordLaws
-pub mod NamedLaws
-pub mod PlanCases

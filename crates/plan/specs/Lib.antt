@@ -1,3 +1,0 @@
--- The definitions of plans of bases.
-pub mod Plans
-pub mod OneRecord

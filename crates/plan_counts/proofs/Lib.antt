@@ -1,2 +1,0 @@
--- Laws about counts of records.
-pub mod CountLaws

@@ -1,2 +1,0 @@
--- The definitions of counts of records.
-pub mod Counts

@@ -1,3 +1,0 @@
--- The definitions of the records of a plan.
-pub mod Records
-pub mod Readings

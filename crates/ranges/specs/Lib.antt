@@ -1,2 +1,0 @@
--- The definitions of ranges.
-pub mod Ranges

@@ -1,2 +1,0 @@
--- The base by which a sample was coded.
-pub mod UsedBases

@@ -1,0 +1,83 @@
+-- Written by tools/lend.py from Rattle's derivation of the twin of `read_block`; not edited by hand. Assumes nothing.
+use Rattle.read_block.proofs.records.store_set
+use Rattle.read_block.proofs.records.derived.store_set.Kinds
+use base.Logic
+use borrow.Fn.Kinds as Kinds'
+use borrow.Fn.Learn
+use borrow.Fn.Picked
+use borrow.Fn.Read
+use borrow.Fn.World
+use borrow.Fn.Written
+use contract.Lifetimes
+use contract.Monad
+use denote.Triple.Clauses
+use mathlib.Core.Path as Path'
+
+abbrev pub Ghost : Type 0
+Ghost = Unit {0}
+
+module _ (κs : Lifetimes.Lfts 1) where
+  abbrev pub Pinned : (a : World.ArgsD store_set.signature κs) → (w : World.World) → Type 1
+  Pinned = Learn.no-pin store_set.signature κs
+
+  abbrev pub Owned : (r : World.ResD store_set.signature κs) → (s : Clauses.AtExit (Kinds'.endedOf 1 Kinds.ps Kinds.r) κs) → (w : World.World) → Type 1
+  Owned = Learn.no-own (Kinds'.endedOf 1 Kinds.ps Kinds.r) κs
+
+  abbrev pub Base : (a : World.ArgsD store_set.signature κs) → (w : World.World) → World.Pr w
+  Base = Written.Base 1 Kinds.ps Kinds.r (λ κs. Pinned) κs
+
+  abbrev pub pins : (w : World.World) → Learn.PinOf store_set.signature κs w λ a. Pinned a w
+  pins = λ w. Learn.no-pins store_set.signature κs w
+
+  abbrev pub owns : (w : World.World) → Learn.OwnOf (Kinds'.endedOf 1 Kinds.ps Kinds.r) (Kinds'.stays Kinds.ps) κs w λ r s. Owned r s w
+  owns = λ w. Learn.no-owns (Kinds'.endedOf 1 Kinds.ps Kinds.r) (Kinds'.stays Kinds.ps) κs w
+
+  abbrev pub requires : (a : World.ArgsD store_set.signature κs) → (g : Ghost) → (w : World.World) → World.Pr w
+  requires = λ a g w. store_set.clauses (w .𝓤) (w .H) (w .𝓖 .A) (w .𝓜 .mem) (w .𝓡 .run) κs a .requires g
+
+  abbrev pub ensures : (a : World.ArgsD store_set.signature κs) → (g : Ghost) → (r : World.ResD store_set.signature κs) → (s : Clauses.AtExit (Kinds'.endedOf 1 Kinds.ps Kinds.r) κs) → (w :
+      World.World) → World.Pr w
+  ensures = λ a g r s w. store_set.clauses (w .𝓤) (w .H) (w .𝓖 .A) (w .𝓜 .mem) (w .𝓡 .run) κs a .ensures g r s
+
+  abbrev ensures-1·at : (a : World.ArgsD store_set.signature κs) → (r : World.ResD store_set.signature κs) → (s : Clauses.AtExit (Kinds'.endedOf 1 Kinds.ps Kinds.r) κs) → (w : World.World) → World.Pr
+      w
+  ensures-1·at = λ a r s w. store_set.ensures-1 (w .𝓤) (w .H) κs (w .𝓖 .A) (w .𝓜 .mem) (w .𝓡 .run) (a .0) (a .1 .0) (a .1 .1 .0) record { entry = a .0; exit = s .0 } record
+      { entry = a .1 .0; exit = s .1 .0 } record { entry = a .1 .1 .0; exit = s .1 .1 .0 } r
+
+  abbrev requires-1·at : (a : World.ArgsD store_set.signature κs) → (w : World.World) → World.Pr w
+  requires-1·at = λ a w. store_set.requires-1 (w .𝓤) (w .H) κs (w .𝓖 .A) (w .𝓜 .mem) (w .𝓡 .run) (a .0) (a .1 .0) (a .1 .1 .0)
+
+  abbrev pub requires-1·read : (a : World.ArgsD store_set.signature κs) → (g : Ghost) → Read.Read (World.In store_set.signature κs a) Read.no-know (requires-1·at a)
+  requires-1·read = λ a g. Read.all-models (requires-1·at a) (λ w. search Read.reads) (λ w. Path'.refl) (λ w. Path'.refl) λ w. Path'.refl
+
+  abbrev pub pre-read : (a : World.ArgsD store_set.signature κs) → (g : Ghost) → Read.Read (World.In store_set.signature κs a) Read.no-know (requires a g)
+  pre-read = λ a g. requires-1·read a g
+
+  abbrev pub ensures-1·read : (a : World.ArgsD store_set.signature κs) → (g : Ghost) → (r : World.ResD store_set.signature κs) → (s : Clauses.AtExit (Kinds'.endedOf 1 Kinds.ps Kinds.r) κs) → Read.Read
+      (Base a) (Owned r s) (ensures-1·at a r s)
+  ensures-1·read = λ a g r s. Read.all-models (ensures-1·at a r s) (λ w. search Read.reads) (λ w. Path'.refl) (λ w. Path'.refl) λ w. Path'.refl
+
+  abbrev pub post-read : (a : World.ArgsD store_set.signature κs) → (g : Ghost) → (r : World.ResD store_set.signature κs) → (s : Clauses.AtExit (Kinds'.endedOf 1 Kinds.ps Kinds.r) κs) → Read.Read
+      (Base a) (Owned r s) (ensures a g r s)
+  post-read = λ a g r s. ensures-1·read a g r s
+
+abbrev pub Pre : Kinds'.In 1 Kinds.ps
+Pre = Written.Pre 1 Kinds.ps Kinds.r Ghost requires ensures pre-read Pinned Owned post-read tt
+
+abbrev pub Post : Kinds'.Out 1 Kinds.ps Kinds.r
+Post = Written.Post 1 Kinds.ps Kinds.r Ghost requires ensures pre-read Pinned Owned post-read tt
+
+abbrev pub Asked : Kinds'.In 1 Kinds.ps
+Asked = Written.Asked 1 Kinds.ps Kinds.r Ghost requires ensures pre-read Pinned Owned post-read tt
+
+abbrev pub Learnt : Kinds'.Out 1 Kinds.ps Kinds.r
+Learnt = Written.Learnt 1 Kinds.ps Kinds.r Ghost requires ensures pre-read Pinned Owned post-read tt
+
+pub passes : (w : World.World) → Written.Passes 1 Kinds.ps Kinds.r Ghost requires ensures pre-read Pinned Owned post-read w
+passes = λ w κs a g r ws ft p q. Monad.top (w .𝓤) (Read.all∗ w (pre-read κs a g .held w))
+
+pub lent : (w : World.World) → (κs : Lifetimes.Lfts 1) → (a : World.ArgsD store_set.signature κs) → Logic.ent (w .𝓤) (Logic.emp (w .𝓤)) (Read.all∗ w (pre-read κs a tt .held w))
+lent = λ w κs a. Logic.id⊢ (w .𝓤) (Logic.emp (w .𝓤))
+
+pub known : Picked.KnownAs 1 Kinds.ps Kinds.r Ghost requires ensures Asked Learnt
+known = λ w γ k ρ same met. Written.cited 1 Kinds.ps Kinds.r Ghost requires ensures pre-read Pinned Owned post-read w γ k ρ same (λ κs a. tt) (lent w) (λ κs a r ws ft p. tt) (λ κs. pins κs w) met

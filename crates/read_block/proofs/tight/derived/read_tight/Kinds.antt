@@ -1,0 +1,19 @@
+-- Written by tools/lend.py from Rattle's derivation of the twin of `read_block`; not edited by hand. Assumes nothing.
+use Rattle.bits.proofs.Values
+use Rattle.bits.proofs.Values.{n16, n8}
+use mathlib.Core.List.{_∷_, []}
+use Rattle.read_block.proofs.Element
+use Rattle.read_block.proofs.Counted
+use Rattle.read_block.proofs.Counted.Laws
+use borrow.Fn.Kinds
+use borrow.Kind.MutSlice
+use borrow.Kind.ShrSlice
+use denote.Array
+use mathlib.Core.List
+use mir.Syntax
+
+abbrev pub ps : List.List (Kinds.PK 3)
+ps = (ShrSlice.pShrS n8 0 tt) ∷ (Kinds.pNum Syntax.w64) ∷ (MutSlice.pMutS n16 1 tt) ∷ (MutSlice.pMutS (Element.type) 2 tt) ∷ []
+
+abbrev pub r : Kinds.RK 3
+r = Values.struct-result Counted.the-type Laws.the-laws Laws.the-copy Laws.the-plain

@@ -1,2 +1,0 @@
--- The definitions of regions.
-pub mod Regions

@@ -1,3 +1,0 @@
--- Laws of texts in a buffer, and worked cases.
-pub mod TextLaws
-pub mod ReportCases

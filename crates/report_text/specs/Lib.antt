@@ -1,2 +1,0 @@
--- The text of what is found.
-pub mod Texts

@@ -1,3 +1,0 @@
--- Laws about codes and samples, for its own proofs and for those of the crates above.
-pub mod SampleLaws
-pub mod NearLaws

@@ -1,2 +1,0 @@
--- The passes of a line and their steps.
-pub mod Steps

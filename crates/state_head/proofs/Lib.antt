@@ -1,2 +1,0 @@
--- Laws about bytes that are put one after the other.
-pub mod PutLaws

@@ -1,2 +1,0 @@
--- The definitions of the head of a stored state.
-pub mod Heads

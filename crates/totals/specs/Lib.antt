@@ -1,2 +1,0 @@
--- The definitions of what is counted of a block's lines.
-pub mod Totals

@@ -1,6 +1,0 @@
--- Laws of the second walk.
-pub mod PlainLaws
-pub mod WayLaws
-mod DueLaws
-pub mod SampleLaws
-pub mod LineLaws

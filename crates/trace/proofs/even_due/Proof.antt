@@ -1,9 +1,0 @@
--- `trace::even_due` meets its contract. Assumes nothing.
-use Rattle.trace.proofs.even_due.Statement.{statement}
-use Rattle.trace.proofs.even_due.Tie as tie
-
-returns : tie.Need-returns
-returns c = rw (c .has-code .ensures)
-
-pub even-due-spec : {M : Type 1} → statement M
-even-due-spec = tie.close (tie.spec (λ c κs. tt) returns)

@@ -1,3 +1,0 @@
--- The definitions of the second walk.
-pub mod Ways
-pub mod Traces

@@ -1,2 +1,0 @@
--- A header as words.
-pub mod Words

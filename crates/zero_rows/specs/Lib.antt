@@ -1,2 +1,0 @@
--- The definition of rows that become 0.
-pub mod Zeros
