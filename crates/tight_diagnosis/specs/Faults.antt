@@ -2,7 +2,7 @@
 use mathlib.Core.Bool.{Bool, false, cond}
 use mathlib.Core.List.{List, [], _∷_}
 use mathlib.Core.Option.{Option, none, some}
-use Prim.Native.Nat.{ℕ}
+use Prim.Native.Nat.{ℕ, _+_}
 use lib.Dec.{eqb}
 use lib.ListN.{replicate}
 use Rattle.stream.specs.Refusals.{refusalNumber}
@@ -21,10 +21,20 @@ use Rattle.code.specs.declared.reasons.Reason.{Reason}
 use Rattle.code.specs.declared.reasons.Reason.the-variants.{Large, Escape, Zeros}
 use Rattle.tight_diagnosis.specs.declared.Fault.{Fault}
 use Rattle.tight_diagnosis.specs.declared.Fault.the-variants as Fault
-use Prim.Native.Nat.{_+_}
-use Rattle.read_block.specs.BadCodes.{BadCode}
 
 -- ---- a block
+
+-- passes count from 1
+abbrev pub spotOf : BadCode → BadSpot
+spotOf b =
+    record {
+      line = b .line;
+      pass = b .pass + 1;
+      colour = b .step .line;
+      position = b .step .position;
+      at = b .at;
+      reason = b .reason;
+    }
 
 -- the answer of the tight reading is refusal 15
 abbrev pub gives15 : Decoded → Bool
@@ -77,15 +87,3 @@ abbrev pub faultWords : Fault → List ℕ
 faultWords Fault.None = replicate 6 0
 faultWords (Fault.Code x) = spotWords x
 faultWords (Fault.Tail lines at) = lines ∷ 0 ∷ 0 ∷ 0 ∷ at .0 ∷ 4 ∷ []
-
--- passes count from 1
-abbrev pub spotOf : BadCode → BadSpot
-spotOf b =
-    record {
-      line = b .line;
-      pass = b .pass + 1;
-      colour = b .step .line;
-      position = b .step .position;
-      at = b .at;
-      reason = b .reason;
-    }
