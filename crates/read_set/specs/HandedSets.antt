@@ -28,7 +28,7 @@ use Rattle.read_block.specs.BlockReadings.{readCounted}
 use Rattle.read_block.specs.declared.Counted.{Counted}
 use Rattle.read_block.specs.declared.Form.{Form}
 
--- the set of the first n lines of the block s with these bases (crates/whole_streams has the same definition; one of the two goes)
+-- the set of the first n lines of the block s with these bases
 unfoldable pub setWith : Form → (bases : List ℕ) → ℕ → List ℕ → List ℕ
 setWith F bases n s = table (readSample F bases s) (setSize (widthOf (F .xtrans)) n)
 

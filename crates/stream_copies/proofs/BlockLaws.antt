@@ -43,9 +43,8 @@ use Rattle.write_block.specs.WrittenAnswers.{lengthAnswer, measuredAnswer, abov
 use Rattle.theorem_one_to_one.specs.PredictedSets.{PredictedSet}
 use Rattle.theorem_one_to_one.proofs.PredictedBlocks.{fits-is}
 use Rattle.theorem_lossy.proofs.NeverWrong.{not-strict, never-wrong}
-use Rattle.read_set.specs.HandedSets as Handed
-use Rattle.read_set.specs.HandedSets.{putOver, Sets, setBegins, SetReading, LeftSet}
-use Rattle.theorem_whole_streams.specs.ReadSets.{ReadsWhole, setWith}
+use Rattle.read_set.specs.HandedSets.{setWith, putOver, Sets, setBegins, SetReading, LeftSet}
+use Rattle.theorem_whole_streams.specs.ReadSets.{ReadsWhole}
 use Rattle.theorem_whole_streams.specs.Kinds.{flagged, withFlag, setIn}
 use Rattle.theorem_whole_streams.proofs.ReadRight.{set-size, set-le, readable-predicted}
 use Rattle.theorem_whole_streams.proofs.KindsHold.{flagged-parses}
@@ -173,20 +172,16 @@ module _ (d : List ℕ) (h : FujiHeader) (rows : List ℕ) (b : ℕ) (opens : op
         none-above (isIgnored (F .xtrans) (isStrict (basesOf h rows b))) (largest (F .bits)) 0 (setIn d h b) in-range in
         rw (low, right-by (isTightCall rows) refl fit)
 
-    -- what was read is the set
-    same-set : (m : ℕ) → m ≡ h .lines → Handed.setWith F (basesIn d b) m (bytesIn d b) ≡ setIn d h b
-    unfolding Handed.setWith setWith
-    same-set m e = rw e
-
     covers : (set s : List ℕ) → length set ≡ length s → putOver set 0 s ≡ s
     covers set s e =
         let k : drop (0 + length s) set ≡ [] = drop-of-length-le set {i = 0 + length s} (omega arith) in
         rw k (append-nil s)
 
+    -- what was read is the set
     set-is : (set : List ℕ) → length set ≡ setSize (widthOf (h .xtrans)) (h .lines)
-        → putOver set 0 (Handed.setWith F (basesIn d b) n (bytesIn d b)) ≡ setIn d h b
+        → putOver set 0 (setWith F (basesIn d b) n (bytesIn d b)) ≡ setIn d h b
     set-is set size =
-        ap (putOver set 0) (same-set n lines-all) ∙ covers set (setIn d h b) (size ∙ sym (set-size F (basesIn d b) (h .lines) (bytesIn d b)))
+        ap (λ (m : ℕ). putOver set 0 (setWith F (basesIn d b) m (bytesIn d b))) lines-all ∙ covers set (setIn d h b) (size ∙ sym (set-size F (basesIn d b) (h .lines) (bytesIn d b)))
 
 -- ---- scratch that is cleared twice
 

@@ -21,16 +21,13 @@ use Rattle.stream.specs.Headers.{parseOf}
 use Rattle.stream.specs.declared.header.Parsed.{Parsed}
 use Rattle.stream.specs.declared.header.Parsed.the-variants as Parsing
 use Rattle.stream.specs.declared.header.Refusal.{Refusal}
-use Rattle.stream.specs.declared.header.Refusal.the-variants.{WrongCount, WrongBases, AboveLargest, ShortOutput}
+use Rattle.stream.specs.declared.header.Refusal.the-variants.{WrongLengths, WrongBases, LongBlock, ShortOutput}
 use Rattle.stream.specs.declared.BlockLength.{BlockLength}
 use Rattle.stream.specs.declared.BlockLength.the-variants.{Length, Refused}
 use Rattle.read_block.specs.Records.{table}
 use Rattle.read_block.proofs.TableLaws.{table-length}
 
 -- 16 rows at most
-pub rows-le : (b n : ℕ) → b ≤ 16 → n ≤ 2746 → b * n ≤ 43936
-rows-le b n hb hn = let p : b * n ≤ 16 * n = mul-le-mul-right n hb in omega arith
-
 pub product-le : (b n : ℕ) → b ≤ 16 → n ≤ 65536 → b * n ≤ 16 * 65536
 product-le b n hb hn = let p : b * n ≤ 16 * n = mul-le-mul-right n hb in omega arith
 
@@ -77,10 +74,6 @@ pub rows-end : (h : FujiHeader) (i : ℕ) → i < rowStart h (h .blocks) → 16 
 unfolding rowStart
 rows-end h i l k = omega arith
 
-pub starts : (h : FujiHeader) (p n q : ℕ) → p ≡ padded (4 * h .blocks) → n ≡ rowLength h → q ≡ padded n → 16 + p + h .blocks * q ≡ rowStart h (h .blocks)
-unfolding rowStart
-starts h p n q ep en eq = rw (ep, eq, en)
-
 -- what a row's byte asks for
 pub row-asks : (h : FujiHeader) (i p n q len : ℕ) → h .blocks ≤ 16 → h .lines ≤ 2731 → p ≡ padded (4 * h .blocks) → n ≡ rowLength h → n ≤ h .lines → q ≡ padded n → len ≡ h .blocks * rowLength h
     → i < rowStart h (h .blocks) → 16 + p ≤ i → (n ≤ q) × ((q < 2 ^ 16) × ((h .blocks ≤ 16) × ((i - (16 + p) < h .blocks * q) × (len ≡ h .blocks * n))))
@@ -96,7 +89,7 @@ fill-next f d i v l e =
 -- ---- the answer
 
 module _ (h : FujiHeader) (rows lengths : List ℕ) (room : ℕ) where
-  pub answer-count : (length lengths ≡ h .blocks → ⊥) → Refused WrongCount ≡ frontAnswer h rows lengths room
+  pub answer-count : (length lengths ≡ h .blocks → ⊥) → Refused WrongLengths ≡ frontAnswer h rows lengths room
   unfolding frontAnswer
   answer-count ne = rw (ne-eqb (length lengths) (h .blocks) ne)
 
@@ -105,7 +98,7 @@ module _ (h : FujiHeader) (rows lengths : List ℕ) (room : ℕ) where
   answer-rows e ne = rw (eq-eqb (length lengths) (h .blocks) e, ne-eqb (length rows) (h .blocks * rowLength h) ne)
 
   module _ (e : length lengths ≡ h .blocks) (f : length rows ≡ h .blocks * rowLength h) where
-    pub answer-long : firstLong lengths < h .blocks → Refused (AboveLargest (firstLong lengths)) ≡ frontAnswer h rows lengths room
+    pub answer-long : firstLong lengths < h .blocks → Refused (LongBlock (firstLong lengths)) ≡ frontAnswer h rows lengths room
     unfolding frontAnswer
     answer-long l = rw (eq-eqb (length lengths) (h .blocks) e, eq-eqb (length rows) (h .blocks * rowLength h) f, lt-ltb (firstLong lengths) (h .blocks) l)
 

@@ -10,7 +10,7 @@ use Rattle.stream.specs.Headers.{byteAt}
 use Rattle.stream.specs.declared.header.FujiHeader.{FujiHeader}
 use Rattle.stream.specs.declared.header.Parsed.{Parsed}
 use Rattle.stream.specs.declared.header.Parsed.the-variants as Parsing
-use Rattle.stream.specs.declared.header.Refusal.the-variants.{WrongCount, WrongBases, AboveLargest, ShortOutput}
+use Rattle.stream.specs.declared.header.Refusal.the-variants.{WrongLengths, WrongBases, LongBlock, ShortOutput}
 use Rattle.stream.specs.Streams.{padded, rowLength, rowStart}
 use Rattle.stream.specs.declared.BlockLength.{BlockLength}
 use Rattle.stream.specs.declared.BlockLength.the-variants.{Length, Refused}
@@ -57,10 +57,10 @@ unfoldable pub frontAnswer : FujiHeader → (rows lengths : List ℕ) → ℕ �
 frontAnswer h rows lengths room =
     cond (eqb (length lengths) (h .blocks))
     (cond (eqb (length rows) (h .blocks * rowLength h))
-    (cond (ltb (firstLong lengths) (h .blocks)) (Refused (AboveLargest (firstLong lengths)))
+    (cond (ltb (firstLong lengths) (h .blocks)) (Refused (LongBlock (firstLong lengths)))
     (cond (ltb room (rowStart h (h .blocks))) (Refused ShortOutput) (Length (rowStart h (h .blocks) + sumOf lengths (h .blocks)))))
     (Refused WrongBases))
-    (Refused WrongCount)
+    (Refused WrongLengths)
 
 abbrev pub frontOut : BlockLength → (front out : List ℕ) → List ℕ
 frontOut (Length n) front out = front ++ drop (length front) out

@@ -10,17 +10,7 @@ use stream::BlockLength;
 use stream::FujiHeader;
 use stream::Parsed;
 use stream::Refusal;
-
-// The bytes of a base row.
-fn row_length(h: FujiHeader) -> usize
-    ensures { λ r. ⌜ (r ≡ rowLength h) × (r ≤ h .lines) ⌝ }
-{
-    let lossless = h.lossless;
-    if lossless {
-        return 0;
-    }
-    h.lines as usize
-}
+use stream::row_length;
 
 // How many bytes stand before the blocks.
 pub fn front_length(h: FujiHeader) -> usize
@@ -28,7 +18,7 @@ pub fn front_length(h: FujiHeader) -> usize
     ensures { λ r. ⌜ (r ≡ rowStart h (h .blocks)) × (r < 2 ^ 16) ⌝ }
 {
     let blocks = h.blocks as usize;
-    16 + limits::padded(4 * blocks) + blocks * limits::padded(row_length(h))
+    stream::row_start(h, blocks)
 }
 
 // Byte j of the four of a size.
@@ -145,14 +135,14 @@ fn put_in(
     let blocks = h.blocks as usize;
     let row = row_length(h);
     if lengths.len() != blocks {
-        return BlockLength::Refused(Refusal::WrongCount);
+        return BlockLength::Refused(Refusal::WrongLengths);
     }
     if rows.len() != blocks * row {
         return BlockLength::Refused(Refusal::WrongBases);
     }
     let long = first_long(lengths);
     if long < blocks {
-        return BlockLength::Refused(Refusal::AboveLargest(long));
+        return BlockLength::Refused(Refusal::LongBlock(long));
     }
     let n = front_length(h);
     if out.len() < n {
@@ -162,9 +152,10 @@ fn put_in(
     BlockLength::Length(n + sum_of(lengths, blocks))
 }
 
-// The header's bytes, the sizes and the rows go to the start of the output, and the answer is the length of the whole stream. Refusals 1 and 2; 25
-// (WrongCount here) where there is not one length for each block; 17 where the rows have not one byte for each line of each block, none if lossless; 26
-// (AboveLargest here) for a block of 2^32 bytes or more, with the lowest such block; 13 for an output shorter than what stands before the blocks.
+// The header's bytes, the sizes and the rows go to the start of the output, and the answer is the length of the whole stream.
+// Refusals, in this order: 1 and 2; 25 where there is not one length for each block; 17 where the rows have not one byte for each
+// line of each block (a lossless header has none); 26 for the lowest block of 2^32 bytes or more; 13 for an output shorter than
+// what stands before the blocks. Each leaves the output as it was.
 pub fn put_front(header: &[u8], rows: &[u8], lengths: &[usize], out: &mut [u8]) -> BlockLength
     ensures { λ r. ⌜ LeftFront (now (header .entry)) (now (rows .entry)) (now (lengths .entry)) (parseOf (now (header .entry))) (now (out .entry))
         (now (out .exit)) r ⌝ }

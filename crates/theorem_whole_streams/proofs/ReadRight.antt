@@ -39,7 +39,8 @@ use Rattle.read_block.proofs.TableLaws.{table-length, table-getD}
 use Rattle.theorem_one_to_one.proofs.LineTwins.{line-sound}
 use Rattle.theorem_one_to_one.proofs.PassTwins.{SoundState, PassHolds, pass-sound, pass-keeps-others}
 use Rattle.theorem_one_to_one.proofs.PredictedBlocks.{fits-is}
-use Rattle.theorem_whole_streams.specs.ReadSets.{setWith, WithoutBases, ReadablePredicted, LinesDetermined}
+use Rattle.read_set.specs.HandedSets.{setWith}
+use Rattle.theorem_whole_streams.specs.ReadSets.{WithoutBases, ReadablePredicted, LinesDetermined}
 use Rattle.theorem_whole_streams.proofs.StepRight.{Same, steps-same}
 
 -- writing goes through the lines of this state, and has met no wrong sample

@@ -10,7 +10,8 @@ use Rattle.stream.specs.declared.header.FujiHeader.{FujiHeader}
 use Rattle.stream.specs.declared.header.Parsed.the-variants.{Header}
 use Rattle.stream.specs.Streams.{openOf}
 use Rattle.read_block.specs.Images.{formOf, bytesIn, basesIn}
-use Rattle.theorem_whole_streams.specs.ReadSets.{ReadsWhole, setWith}
+use Rattle.read_set.specs.HandedSets.{setWith}
+use Rattle.theorem_whole_streams.specs.ReadSets.{ReadsWhole}
 
 -- the header's 16 bytes with this flag, in byte 2, and the header that they say
 abbrev pub flagged : Bool → List ℕ → List ℕ

@@ -4,24 +4,18 @@ use mathlib.Core.Option.{some}
 use mathlib.Core.Path.{_≡_}
 use Prim.Native.Nat.{ℕ, _≤_}
 use Rattle.pass_steps.specs.Values.{Depth}
-use Rattle.image_map.specs.Places.{widthOf}
-use Rattle.colour_lines.specs.Sets.{setSize}
 use Rattle.read_block.specs.Blocks.{State, readLines, linesOf}
-use Rattle.read_block.specs.Records.{table}
-use Rattle.read_block.specs.TightBlocks.{readSample, setRead}
+use Rattle.read_block.specs.TightBlocks.{setRead}
 use Rattle.write_block.specs.WrittenBlocks.{writeLines}
 use Rattle.read_block.specs.declared.Form.{Form}
+use Rattle.read_set.specs.HandedSets.{setWith}
 use Rattle.theorem_one_to_one.specs.PredictedSets.{PredictedSet}
 
 -- all lines of the block s are read, with these bases
 abbrev pub ReadsWhole : Form → (bases : List ℕ) → ℕ → List ℕ → Type 0
 ReadsWhole F bases lines s = (z : State) × (readLines F bases s lines ≡ some z)
 
--- the set of its colour lines
-unfoldable pub setWith : Form → (bases : List ℕ) → ℕ → List ℕ → List ℕ
-setWith F bases lines s = table (readSample F bases s) (setSize (widthOf (F .xtrans)) lines)
-
--- without bases it is the set of a lossless block
+-- without bases, what `read_set` hands out is the set of a lossless block
 abbrev pub WithoutBases : Type 0
 WithoutBases = (F : Form) (lines : ℕ) (s : List ℕ) → setWith F [] lines s ≡ setRead F lines s
 

@@ -6,7 +6,7 @@ use Prim.Native.Nat.{ℕ, _+_, _*_, _≤_, _<_}
 use native.Mathlib.Omega.{arith}
 use lib.ListN.{length, drop}
 use Rattle.stream.specs.declared.header.FujiHeader.{FujiHeader}
-use Rattle.stream.specs.declared.header.Refusal.the-variants.{AboveLargest, ShortOutput}
+use Rattle.stream.specs.declared.header.Refusal.the-variants.{LongBlock, ShortOutput}
 use Rattle.stream.specs.Streams.{rowLength, rowStart}
 use Rattle.stream.specs.declared.BlockLength.{BlockLength}
 use Rattle.stream.specs.declared.BlockLength.the-variants.{Length, Refused}
@@ -19,7 +19,7 @@ other-rows : (h : FujiHeader) (n row : ℕ) → row ≡ rowLength h → (n ≡ h
 other-rows h n row e ne f = ne (f ∙ rw e)
 
 long-answer : (h : FujiHeader) (rows lengths : List ℕ) (room long : ℕ) → long ≡ firstLong lengths → length lengths ≡ h .blocks → length rows ≡ h .blocks * rowLength h → long < h .blocks
-    → Refused (AboveLargest long) ≡ frontAnswer h rows lengths room
+    → Refused (LongBlock long) ≡ frontAnswer h rows lengths room
 long-answer h rows lengths room long e f g l = rw e (answer-long h rows lengths room f g (rw e at l))
 
 short-answer : (h : FujiHeader) (rows lengths : List ℕ) (room long n : ℕ) → long ≡ firstLong lengths → n ≡ rowStart h (h .blocks) → length lengths ≡ h .blocks
