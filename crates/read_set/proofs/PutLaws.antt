@@ -18,6 +18,7 @@ use Rattle.stream.specs.declared.header.Refusal.the-variants.{NoBlock, WrongCou
 use Rattle.stream.specs.Streams.{openOf}
 use Rattle.stream.proofs.StreamLaws.{opened}
 use Rattle.admission.specs.Beginnings.{withScratch}
+use Rattle.colour_lines.proofs.LineLaws.{line-inside}
 use Rattle.colour_lines.specs.Sets.{setSize, lineOfRank}
 use Rattle.pass_schedule.specs.Steps.{upto}
 use Rattle.read_set.specs.HandedSets.{putOver, twelve, setBegins}
@@ -95,9 +96,6 @@ rank-small (suc (suc (suc (suc (suc (suc (suc (suc (suc zero))))))))) h = omega 
 rank-small (suc (suc (suc (suc (suc (suc (suc (suc (suc (suc zero)))))))))) h = omega arith
 rank-small (suc (suc (suc (suc (suc (suc (suc (suc (suc (suc (suc zero))))))))))) h = omega arith
 rank-small (suc (suc (suc (suc (suc (suc (suc (suc (suc (suc (suc (suc c)))))))))))) h = absurd (omega arith)
-
-pub line-inside : (w l : ℕ) → l ≤ 17 → l * (w + 2) + (w + 2) ≤ 18 * (w + 2)
-line-inside w l h = let m : suc l * (w + 2) ≤ 18 * (w + 2) = mul-le-mul-right (w + 2) (omega arith) in omega arith
 
 module _ (w : ℕ) (lines : List ℕ) (long : length lines ≡ 18 * (w + 2)) where
   pub colours-long : (c : ℕ) → c ≤ 12 → length (upto (colour w lines) c) ≡ c * w

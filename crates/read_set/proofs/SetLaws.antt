@@ -19,7 +19,8 @@ use Rattle.read_block.specs.declared.Form.{Form}
 use Rattle.read_block.proofs.LineLaws.{width-in-range}
 use Rattle.read_block.proofs.TableLaws.{table-length, table-getD}
 use Rattle.read_set.specs.HandedSets.{setWith, twelve}
-use Rattle.read_set.proofs.PutLaws.{colour, colours-long, line-inside, rank-small}
+use Rattle.colour_lines.proofs.LineLaws.{line-inside}
+use Rattle.read_set.proofs.PutLaws.{colour, colours-long, rank-small}
 
 table-split : (f : ℕ → ℕ) (a b : ℕ) → table f (a + b) ≡ table f a ++ table (λ j. f (a + j)) b
 unfolding table

@@ -1,5 +1,5 @@
 -- One block of a new stream: its set is read, and no set that is read is refused by the writer. Assumes nothing.
-use borrow.Author.Tests.{lt-ltb, le-ltb, ltb-false, le-leb, eq-eqb, ne-eqb}
+use borrow.Author.Tests.{lt-ltb, le-ltb, ltb-false, eq-eqb, ne-eqb}
 use borrow.Rule.Slice.PartMut.{putMid}
 use mathlib.Core.Bool.{Bool, true, false, cond}
 use mathlib.Core.List.{List, [], _∷_, _++_, append-nil}
@@ -48,6 +48,7 @@ use Rattle.theorem_whole_streams.specs.ReadSets.{ReadsWhole}
 use Rattle.theorem_whole_streams.specs.Kinds.{flagged, withFlag, setIn}
 use Rattle.theorem_whole_streams.proofs.ReadRight.{set-size, set-le, readable-predicted}
 use Rattle.theorem_whole_streams.proofs.KindsHold.{flagged-parses}
+use Rattle.theorem_whole_streams.proofs.LossyCopiesHold.{none-above}
 use Rattle.stream_copies.specs.MadeStreams.{isTightCall, basesOf, newHeader, newBlock, isCut, RowsFit, putAnswer, BlockPut}
 
 -- ---- how the writers begin
@@ -104,11 +105,6 @@ head-parses d h rows head o e = rw e (flagged-parses (isTightCall rows) d h (ope
 
 -- ---- no set that is read is refused
 
-none-above : (ignored : ℕ → Bool) (M i : ℕ) (t : List ℕ) → ((j : ℕ) → getD t j 0 ≤ M) → firstAbove ignored M i t ≡ none
-unfolding firstAbove
-none-above ignored M i [] h = refl
-none-above ignored M i (v ∷ t) h = rw (le-leb v M (h 0)) (none-above ignored M (suc i) t (λ j. h (suc j)))
-
 module _ (d : List ℕ) (h : FujiHeader) (rows : List ℕ) (b : ℕ) (opens : openOf d ≡ Parsing.Header h) (inside : b < h .blocks) where
   abbrev F : Form
   F = formOf h
@@ -149,7 +145,7 @@ module _ (d : List ℕ) (h : FujiHeader) (rows : List ℕ) (b : ℕ) (opens : op
   done-by false e = refl
 
   module _ (whole : isCut d h b ≡ false) where
-    reads-all : ReadsWhole F (basesIn d b) (h .lines) (bytesIn d b)
+    pub reads-all : ReadsWhole F (basesIn d b) (h .lines) (bytesIn d b)
     reads-all = was-read F (basesIn d b) (bytesIn d b) (h .lines) (ltb-false n (h .lines) whole)
 
     lines-all : n ≡ h .lines

@@ -66,6 +66,17 @@ module _ (d : List ℕ) (h : FujiHeader) (rows : List ℕ) where
   unfolding lengthOf
   length-next b = refl
 
+  -- where no block stops it, all are made
+  pub made-whole : (room : ℕ) → ((b : ℕ) → b < h .blocks → stops room b ≡ false) → made d h rows room ≡ h .blocks
+  unfolding made
+  made-whole room goes =
+      let Z = least (h .blocks) (stops room) 0 in
+      let r : ℕ = leastFrom (h .blocks) (stops room) 0 in
+      split (h .blocks) r (λ u. omega (arith, Z .high)) (λ u. absurd (clash (stops room r) (Z .holds (omega arith)) (goes r u)))
+    where
+      clash : (t : Bool) → t ≡ true → t ≡ false → ⊥
+      clash t e g = let no : _≡_ {A = ℕ} 0 1 = cc in omega arith
+
 -- b blocks are laid
 pub record Laid (d : List ℕ) (h : FujiHeader) (rows : List ℕ) (before now : Outputs) (lengths : List ℕ) (at b : ℕ) : Type 0 where
   pub place : at ≡ newFront h rows + lengthOf (newBlock d h rows) b
@@ -251,15 +262,7 @@ module _ (d : List ℕ) (h : FujiHeader) (rows : List ℕ) (before now : Outputs
 
   -- nothing stops it
   made-all : made d h rows (length (before .out)) ≡ h .blocks
-  unfolding made
-  made-all =
-      let test : ℕ → Bool = stops d h rows (length (before .out)) in
-      let Z = least (h .blocks) test 0 in
-      let r : ℕ = leastFrom (h .blocks) test 0 in
-      split (h .blocks) r (λ u. omega (arith, Z .high)) (λ u. absurd (clash (test r) (Z .holds (omega arith)) (L .goes r u)))
-    where
-      clash : (t : Bool) → t ≡ true → t ≡ false → ⊥
-      clash t e g = let no : _≡_ {A = ℕ} 0 1 = cc in omega arith
+  made-all = made-whole d h rows (length (before .out)) (L .goes)
 
   bytes-are : madeBytes d h rows (length (before .out)) ≡ newStream d h rows
   bytes-are = rw (made-all, le-ltb (h .blocks) (h .blocks) (omega arith))

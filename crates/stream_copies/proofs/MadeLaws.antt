@@ -21,9 +21,10 @@ use Rattle.stream.specs.declared.BlockLength.the-variants.{Length, Refused}
 use Rattle.stream.proofs.StreamLaws.{opened}
 use Rattle.read_block.specs.Lent.{Outputs}
 use Rattle.theorem_whole_streams.specs.Kinds.{withFlag}
+use Rattle.theorem_whole_streams.proofs.SameSetsHold.{ruled-flag}
 use Rattle.stream_copies.specs.MadeStreams.{Lent, isTightCall, newFront, madeBytes, RowsFit, withRoom, makingBegins, Making, LeftMade, BlocksMade}
 use Rattle.stream_copies.proofs.LaidLaws.{made-least}
-use Rattle.stream_copies.proofs.RoomLaws.{RoomAccepted, ruled-flag}
+use Rattle.stream_copies.proofs.RoomLaws.{RoomAccepted}
 
 module _ (d rows : List ℕ) (before : Lent) (p : Parsed) where
   pub made-refused : (x : Refusal) → p ≡ Parsing.Refused x → LeftMade d rows p before before (Refused x)

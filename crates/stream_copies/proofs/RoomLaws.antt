@@ -19,24 +19,8 @@ use Rattle.stream.specs.Streams.{rowStart}
 use Rattle.admission.specs.Beginnings.{samplesNeeded, recordsNeeded, isShortScratch, withScratch, ScratchFits}
 use Rattle.admission.proofs.CallLaws.{clash, scratch-fits}
 use Rattle.theorem_whole_streams.specs.Kinds.{withFlag}
+use Rattle.theorem_whole_streams.proofs.SameSetsHold.{ruled-flag}
 use Rattle.stream_copies.specs.MadeStreams.{withRoom}
-
-pub ruled-flag : (l : Bool) (h : FujiHeader) → Ruled h → Ruled (withFlag l h)
-ruled-flag l h R =
-    record {
-      bits-low = R .bits-low;
-      bits-high = R .bits-high;
-      bits-even = R .bits-even;
-      blocks-low = R .blocks-low;
-      blocks-high = R .blocks-high;
-      lines-low = R .lines-low;
-      lines-high = R .lines-high;
-      height-is = R .height-is;
-      rounded-is = R .rounded-is;
-      width-high = R .width-high;
-      width-low = R .width-low;
-      block-size-is = R .block-size-is;
-    }
 
 module _ (h : FujiHeader) (tight : Bool) (room count samples records : ℕ) (n : ℕ) (en : n ≡ setSize (widthOf (h .xtrans)) (h .lines)) where
   pub room-count : (count ≡ n → ⊥) → Parsing.Refused WrongCount ≡ withRoom h tight room count samples records

@@ -3,7 +3,7 @@ use mathlib.Core.Bool.{Bool, false, _||_}
 use mathlib.Core.List.{List, [], _∷_}
 use mathlib.Core.Option.{none}
 use mathlib.Core.Path.{_≡_, refl, sym, ap, _∙_}
-use Prim.Native.Nat.{ℕ, suc, _+_, _≤_, _<_}
+use Prim.Native.Nat.{ℕ, suc, _+_, _*_, _≤_, _<_}
 use native.Mathlib.Omega.{arith}
 use lib.Dec.{leb}
 use lib.ListN.{length, getD, take}
@@ -25,6 +25,9 @@ use Rattle.read_block.specs.Images.{formOf, bytesIn, basesIn}
 use Rattle.read_block.specs.Records.{baseOf}
 use Rattle.read_block.specs.TightBlocks.{readSample}
 use Rattle.read_block.specs.declared.Form.{Form}
+use Rattle.stream.specs.Lengths.{lengthBound}
+use Rattle.write_block.proofs.AnswerLaws.{none-wanted}
+use Rattle.write_block.proofs.BoundLaws.{block-most}
 use Rattle.write_block.specs.WrittenAnswers.{aboveIn}
 use Rattle.write_block.specs.WrittenBlocks.{isStrict, writeLines, writtenBlock}
 use Rattle.theorem_one_to_one.specs.Correspondence.{Bytes}
@@ -33,6 +36,8 @@ use Rattle.theorem_lossy.proofs.LossyHolds.{lossy-blocks}
 use Rattle.theorem_whole_streams.specs.Assembled.{Parts, Assembling}
 use Rattle.theorem_whole_streams.specs.Kinds.{flagged, withFlag, Readable, setIn}
 use Rattle.theorem_whole_streams.specs.LossyCopies.{lossyOf, LossyStream, LossyParts, LossyStreams, lossyHeader, lossyCopy, LossyCopy, LossyCopies}
+use Rattle.theorem_whole_streams.specs.LengthBounds.{LossyCopyBound}
+use Rattle.theorem_whole_streams.proofs.StandLaws.{length-most}
 use Rattle.theorem_whole_streams.proofs.AssembledHolds.{assembled-opens}
 use Rattle.theorem_whole_streams.proofs.KindsHold.{flagged-parses}
 use Rattle.theorem_whole_streams.proofs.ReadRight.{set-size, set-at, set-le}
@@ -76,7 +81,7 @@ lossy-streams d h e lossy bases sets L = lossy-stream d h e lossy bases sets L
 
 -- ---- of a stream
 
-none-above : (ignored : ℕ → Bool) (M i : ℕ) (t : List ℕ) → ((j : ℕ) → getD t j 0 ≤ M) → firstAbove ignored M i t ≡ none
+pub none-above : (ignored : ℕ → Bool) (M i : ℕ) (t : List ℕ) → ((j : ℕ) → getD t j 0 ≤ M) → firstAbove ignored M i t ≡ none
 unfolding firstAbove
 none-above ignored M i [] h = refl
 none-above ignored M i (v ∷ t) h = rw (le-leb v M (h 0)) (none-above ignored M (suc i) t (λ j. h (suc j)))
@@ -116,3 +121,12 @@ module _ (d : List ℕ) (h : FujiHeader) (R : Readable d h) (bases : ℕ → Lis
 
 pub lossy-copies : LossyCopies
 lossy-copies d h R bases rows = record { stream = S d h R bases rows; near = near d h R bases rows }
+
+pub lossy-copy-bound : LossyCopyBound
+lossy-copy-bound d h R bases rows =
+    let L = the-parts d h R bases rows in
+    let Z = A (flagged false d) (lossyHeader h) (e' d h R bases rows) refl bases (setIn d h) L in
+    let blocks : ℕ → List ℕ = λ b. writtenBlock (formOf h) (bases b) (h .lines) (setIn d h b) in
+    let each : (b : ℕ) → b < h .blocks → length (blocks b) ≤ lengthBound h =
+    λ b l. block-most (formOf h) (depth-of d h R) (setIn d h b) (none-wanted (formOf h) (bases b) (setIn d h b) (L .range b l)) (bases b) (h .lines) in
+    omega (arith, Z .size, length-most blocks (h .blocks) (lengthBound h) each (h .blocks) (omega arith))

@@ -72,8 +72,8 @@ module _ (d : List ℕ) (h : FujiHeader) (R : Readable d h) where
 -- ---- two streams
 
 -- a region is accepted whatever the flag
-other-ruled : (h : FujiHeader) (lossless : Bool) → Ruled h → Ruled (withFlag lossless h)
-other-ruled h lossless r =
+pub ruled-flag : (lossless : Bool) (h : FujiHeader) → Ruled h → Ruled (withFlag lossless h)
+ruled-flag lossless h r =
     record {
       bits-low = r .bits-low;
       bits-high = r .bits-high;
@@ -91,7 +91,7 @@ other-ruled h lossless r =
 
 other-accepted : (h : FujiHeader) (lossless : Bool) (r : Rect) (n : ℕ) → Accepted h r n → Accepted (withFlag lossless h) r n
 other-accepted h lossless r n a =
-    record { ruled = other-ruled h lossless (a .ruled); right = a .right; bottom = a .bottom; wide = a .wide; high = a .high; room = a .room }
+    record { ruled = ruled-flag lossless h (a .ruled); right = a .right; bottom = a .bottom; wide = a .wide; high = a .high; room = a .room }
 
 other-checked : (h : FujiHeader) (lossless : Bool) (r : Rect) (n : ℕ) → checkedOf (withFlag lossless h) r n ≡ checkedOf h r n
 unfolding checkedOf isOutside

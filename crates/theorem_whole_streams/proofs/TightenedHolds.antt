@@ -30,7 +30,9 @@ use Rattle.theorem_one_to_one.proofs.BoundHolds.{bounds}
 use Rattle.theorem_one_to_one.proofs.CorrespondenceHolds.{correspondence-of-headers, no-bases}
 use Rattle.theorem_whole_streams.specs.Assembled.{fourBytes, filled, assembled, Parts, Assembling}
 use Rattle.theorem_whole_streams.specs.Kinds.{flagged, withFlag, Readable, setIn}
-use Rattle.theorem_whole_streams.specs.Tightened.{SameSets, streamOf, TightStream, TightStreams, tightHeader, tightened, remade, Tightened, TightenedStreams, Canonical, TightenedBound}
+use Rattle.theorem_whole_streams.specs.Tightened.{SameSets, streamOf, TightStream, TightStreams, tightHeader, tightened, remade, Tightened, TightenedStreams}
+use Rattle.theorem_whole_streams.specs.CanonicalForm.{Canonical}
+use Rattle.theorem_whole_streams.specs.LengthBounds.{TightenedBound}
 use Rattle.theorem_whole_streams.proofs.StandLaws.{upto-same, length-most, bytes-take}
 use Rattle.theorem_whole_streams.proofs.AssembledHolds.{assembled-opens}
 use Rattle.theorem_whole_streams.proofs.ReadRight.{without-bases, readable-predicted}

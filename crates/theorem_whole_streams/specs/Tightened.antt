@@ -1,16 +1,13 @@
--- Tight streams: of sets, and of the sets of a stream. The tight stream of a stream is lossless and decodes to the same samples, and is the same for all
--- streams that have the same header bytes, but for the lossless flag, and the same sets. Assumes nothing.
+-- Tight streams: of sets, and of the sets of a stream. The tight stream of a stream is lossless and decodes to the same samples. Assumes nothing.
 use mathlib.Core.Bool.{Bool, true}
 use mathlib.Core.List.{List, []}
 use mathlib.Core.Logic.{_↔_}
 use mathlib.Core.Path.{_≡_}
-use Prim.Native.Nat.{ℕ, _+_, _*_, _/_, _≤_, _<_}
-use lib.ListN.{length, take}
+use Prim.Native.Nat.{ℕ, _/_, _<_}
+use lib.ListN.{take}
 use Rattle.stream.specs.Headers.{parseOf}
 use Rattle.stream.specs.declared.header.FujiHeader.{FujiHeader}
 use Rattle.stream.specs.declared.header.Parsed.the-variants.{Header}
-use Rattle.stream.specs.Lengths.{lengthBound}
-use Rattle.stream.specs.Streams.{rowStart}
 use Rattle.image_region.specs.declared.Rect.{Rect}
 use Rattle.read_block.specs.Images.{formOf, bytesIn, pictureSample, Left}
 use Rattle.read_block.specs.Lent.{Buffers}
@@ -93,15 +90,3 @@ pub record Tightened (d : List ℕ) (h : FujiHeader) : Type 0 where
 
 abbrev pub TightenedStreams : Type 0
 TightenedStreams = (d : List ℕ) (h : FujiHeader) → Readable d h → Tightened d h
-
--- the canonical form: streams whose header bytes are the same but for the flag have the same tight stream exactly if they have the same sets
-abbrev pub Canonical : Type 0
-Canonical =
-    (d e : List ℕ) (h : FujiHeader) (lossless : Bool) → Readable d h → Readable e (withFlag lossless h) → flagged true d ≡ flagged true e
-    → (tightened d h ≡ tightened e (withFlag lossless h)) ↔ SameSets d e h (withFlag lossless h)
-
--- no tight stream is longer than what stands before the blocks and the bound of `length_bound` for each block
-abbrev pub TightenedBound : Type 0
-TightenedBound =
-    (d : List ℕ) (h : FujiHeader) → Readable d h
-    → length (tightened d h) ≤ rowStart (tightHeader h) (h .blocks) + h .blocks * lengthBound h

@@ -9,7 +9,8 @@ use lib.ListN.{length, take, drop}
 use Rattle.colour_lines.specs.Sets.{lineSize, lineOfRank}
 use Rattle.pass_schedule.specs.Steps.{upto}
 use Rattle.read_set.specs.HandedSets.{putOver}
-use Rattle.read_set.proofs.PutLaws.{colour, put-none, put-length, colours-long, colour-step, all-twelve, line-inside}
+use Rattle.colour_lines.proofs.LineLaws.{line-inside}
+use Rattle.read_set.proofs.PutLaws.{colour, put-none, put-length, colours-long, colour-step, all-twelve}
 use Rattle.read_set.proofs.keep_line.Statement.{statement}
 use Rattle.read_set.proofs.keep_line.Tie as tie
 
