@@ -86,4 +86,4 @@ LossyCopyTold =
     (d bases : List ℕ) (before after : Lent) (size words : List ℕ) → ToldCopy d bases before after size words
     → ((words ≡ noRefusal) ↔ LossyCopyFits d bases before)
     × ((F : LossyCopyFits d bases before) → let s = lossyCopy d (F .header) (basesRow (F .header) bases) in
-      (size ≡ length s ∷ []) × (after .out ≡ s ++ drop (length s) (before .out)))
+    (size ≡ length s ∷ []) × (after .out ≡ s ++ drop (length s) (before .out)))

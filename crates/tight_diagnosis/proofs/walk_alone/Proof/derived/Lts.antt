@@ -759,16 +759,31 @@ module _ (claims· : Claims) where
   s30 = λ bs. Call.callB ps·3 r·3 (claims· .6) (claims· .7) T31 tt 24 [] y22
 
   abbrev s31 : (bs : List.List Nat.ℕ) → Typed.Both T32 T33
-  s31 = λ bs. Call.callB ps·4 r·4 (claims· .8) (claims· .9) T32
-      (record { pos = 1; ty = y5; ref = λ x. x; },
-      (record { pos = 2; ty = y6; ref = λ x. x; },
-      (record { pos = 18; ty = y9; ref = λ x. x; },
-      (record { pos = 20; ty = y8; ref = λ x. x; },
-      (record { pos = 22; ty = y9; ref = λ x. x; },
-      (record { pos = 4; st = []; d = 0; at = λ x. x },
-      (record { pos = 23; ty = y14; ref = λ x. x; },
-      (record { pos = 5; st = []; d = 0; at = λ x. x },
-      (record { pos = 6; st = []; d = 0; at = λ x. x }, (Num.vAt 7 λ x. x, (Bool.bLit Bool'.false, (record { pos = 24; st = []; d = 0; at = λ x. x }, tt)))))))))))) 0 (0 ∷ 1 ∷ 3 ∷ 4 ∷ 5 ∷ 6 ∷ []) y21
+  s31 = λ bs. Call.callB ps·4 r·4 (claims· .8) (claims· .9) T32 (
+    record { pos = 1; ty = y5; ref = λ x. x },
+    (
+      record { pos = 2; ty = y6; ref = λ x. x },
+      (
+        record { pos = 18; ty = y9; ref = λ x. x },
+        (
+          record { pos = 20; ty = y8; ref = λ x. x },
+          (
+            record { pos = 22; ty = y9; ref = λ x. x },
+            (
+              record { pos = 4; st = []; d = 0; at = λ x. x },
+              (
+                record { pos = 23; ty = y14; ref = λ x. x },
+                (
+                  record { pos = 5; st = []; d = 0; at = λ x. x },
+                  (record { pos = 6; st = []; d = 0; at = λ x. x }, (Num.vAt 7 λ x. x, (Bool.bLit Bool'.false, (record { pos = 24; st = []; d = 0; at = λ x. x }, tt)))),
+                ),
+              ),
+            ),
+          ),
+        ),
+      ),
+    ),
+  ) 0 (0 ∷ 1 ∷ 3 ∷ 4 ∷ 5 ∷ 6 ∷ []) y21
 
   abbrev s32 : (bs : List.List Nat.ℕ) → Typed.Mo T33 → Typed.Mo T34
   s32 = λ bs. Scalar.n-room T33 23 y14
@@ -1207,27 +1222,71 @@ module _ (claims· : Claims) where
 
           d24 : Typed.Typed 𝓤 H A 𝓣 E G32 (Syntax.seq b17 b18) Δ0 (at24 bs)
           d24 = Typed.s-seq 𝓤 H A W 𝓣 E G32 G33 b17 b18 Δ0 (Typed.both (s31 bs)) (at23 bs) (Plain.t-call-plain 𝓤 H A W 𝓣 6 ps·4 r·4 (claims· .8) (claims· .9) "read_block::reading::walk" (known .4) E
-              (λ pos β. β) G32
-              (record { pos = 1; ty = y5; ref = λ x. x; },
-              (record { pos = 2; ty = y6; ref = λ x. x; },
-              (record { pos = 18; ty = y9; ref = λ x. x; },
-              (record { pos = 20; ty = y8; ref = λ x. x; },
-              (record { pos = 22; ty = y9; ref = λ x. x; },
-              (record { pos = 4; st = []; d = 0; at = λ x. x },
-              (record { pos = 23; ty = y14; ref = λ x. x; },
-              (record { pos = 5; st = []; d = 0; at = λ x. x },
-              (record { pos = 6; st = []; d = 0; at = λ x. x }, (Num.vAt 7 λ x. x, (Bool.bLit Bool'.false, (record { pos = 24; st = []; d = 0; at = λ x. x }, tt)))))))))))) 0 (0 ∷ 1 ∷ 3 ∷ 4 ∷ 5 ∷ 6 ∷ [])
-              (Call.sub-id 𝓤 H A W (G32 .slots))
-              (ShrSlice.spares-sslice 𝓤 H A W n8 y5 0, Shared.reads-sslice 𝓤 H A W n8 y5 0, Path'.refl,
-              (ShrSlice.spares-sslice 𝓤 H A W n8 y6 1, Shared.reads-sslice 𝓤 H A W n8 y6 1, Path'.refl,
-              (Reads'.as-is 𝓤 H A (Mut.mslice n16 y9 3), Mut.reads-mslice 𝓤 H A W n16 y9 3, Path'.refl,
-              (Reads'.as-is 𝓤 H A (Mut.mslice (Element.type) y8 4), Mut.reads-mslice 𝓤 H A W (Element.type) y8 4, Path'.refl,
-              (Reads'.as-is 𝓤 H A (Mut.mslice n16 y9 5), Mut.reads-mslice 𝓤 H A W n16 y9 5, Path'.refl,
-              ((Values.struct-copied 𝓤 H A W Form.the-type Laws''.the-laws Laws''.the-copy, Path'.refl),
-              (ShrRef.spares-sref 𝓤 H A W (Array'.Array n16 768) y14 6, Reads'.reads-sref 𝓤 H A W (Array'.Array n16 768) y14 6, Path'.refl,
-              ((Array.arr-yields 𝓤 H A W (Array.eInt Syntax.w8) (Array.eInt-laws Syntax.w8) 36, Path'.refl),
-              ((Values.struct-copied 𝓤 H A W Part.the-type Laws'.the-laws Laws'.the-copy, Path'.refl),
-              ((Scalar.reads-sc 𝓤 H A W (Row.sInt Syntax.w64), Path'.refl), (tt, ((Values.struct-copied 𝓤 H A W Entries.the-type Laws.the-laws Laws.the-copy, Path'.refl), tt)))))))))))) (Reads'.room-gone
+              (λ pos β. β) G32 (
+                record { pos = 1; ty = y5; ref = λ x. x },
+                (
+                  record { pos = 2; ty = y6; ref = λ x. x },
+                  (
+                    record { pos = 18; ty = y9; ref = λ x. x },
+                    (
+                      record { pos = 20; ty = y8; ref = λ x. x },
+                      (
+                        record { pos = 22; ty = y9; ref = λ x. x },
+                        (
+                          record { pos = 4; st = []; d = 0; at = λ x. x },
+                          (
+                            record { pos = 23; ty = y14; ref = λ x. x },
+                            (
+                              record { pos = 5; st = []; d = 0; at = λ x. x },
+                              (record { pos = 6; st = []; d = 0; at = λ x. x }, (Num.vAt 7 λ x. x, (Bool.bLit Bool'.false, (record { pos = 24; st = []; d = 0; at = λ x. x }, tt)))),
+                            ),
+                          ),
+                        ),
+                      ),
+                    ),
+                  ),
+                ),
+              ) 0 (0 ∷ 1 ∷ 3 ∷ 4 ∷ 5 ∷ 6 ∷ [])
+              (Call.sub-id 𝓤 H A W (G32 .slots)) (
+                ShrSlice.spares-sslice 𝓤 H A W n8 y5 0,
+                Shared.reads-sslice 𝓤 H A W n8 y5 0,
+                Path'.refl,
+                (
+                  ShrSlice.spares-sslice 𝓤 H A W n8 y6 1,
+                  Shared.reads-sslice 𝓤 H A W n8 y6 1,
+                  Path'.refl,
+                  (
+                    Reads'.as-is 𝓤 H A (Mut.mslice n16 y9 3),
+                    Mut.reads-mslice 𝓤 H A W n16 y9 3,
+                    Path'.refl,
+                    (
+                      Reads'.as-is 𝓤 H A (Mut.mslice (Element.type) y8 4),
+                      Mut.reads-mslice 𝓤 H A W (Element.type) y8 4,
+                      Path'.refl,
+                      (
+                        Reads'.as-is 𝓤 H A (Mut.mslice n16 y9 5),
+                        Mut.reads-mslice 𝓤 H A W n16 y9 5,
+                        Path'.refl,
+                        (
+                          (Values.struct-copied 𝓤 H A W Form.the-type Laws''.the-laws Laws''.the-copy, Path'.refl),
+                          (
+                            ShrRef.spares-sref 𝓤 H A W (Array'.Array n16 768) y14 6,
+                            Reads'.reads-sref 𝓤 H A W (Array'.Array n16 768) y14 6,
+                            Path'.refl,
+                            (
+                              (Array.arr-yields 𝓤 H A W (Array.eInt Syntax.w8) (Array.eInt-laws Syntax.w8) 36, Path'.refl),
+                              (
+                                (Values.struct-copied 𝓤 H A W Part.the-type Laws'.the-laws Laws'.the-copy, Path'.refl),
+                                ((Scalar.reads-sc 𝓤 H A W (Row.sInt Syntax.w64), Path'.refl), (tt, ((Values.struct-copied 𝓤 H A W Entries.the-type Laws.the-laws Laws.the-copy, Path'.refl), tt))),
+                              ),
+                            ),
+                          ),
+                        ),
+                      ),
+                    ),
+                  ),
+                ),
+              ) (Reads'.room-gone
               𝓤 H A y21) (tt, (tt, (tt, (tt, (tt, (tt, tt)))))) Path'.refl) d23
 
           d25 : Typed.Typed 𝓤 H A 𝓣 E G31 (Syntax.seq b16 (Syntax.seq b17 b18)) Δ0 (at25 bs)
@@ -1392,9 +1451,12 @@ module _ (claims· : Claims) where
       m0 = λ κs args blocks. (tt, Enter.partsP κs 1 ps xs (dens κs args))
 
       abbrev W0 : (κs : Lifetimes.Lfts 3) → (args : Args κs) → (blocks : List.List Nat.ℕ) → Typed.Want O0
-      W0 = λ κs args blocks.
-          (λ u. ⊥, tt, λ u. Enter.Fixs κs 1 ps xs (dens κs args) (u .1) × Post· κs (dens κs args) (Function.resV r κs (u .0)) (Clauses.atExit (Kinds.endedOf 3 ps r) κs (dens κs args) (Enter.lastsP κs 1 ps
-          xs (dens κs args) (u .1))))
+      W0 = λ κs args blocks. (
+        λ u. ⊥,
+        tt,
+        λ u. Enter.Fixs κs 1 ps xs (dens κs args) (u .1) × Post· κs (dens κs args) (Function.resV r κs (u .0)) (Clauses.atExit (Kinds.endedOf 3 ps r) κs (dens κs args) (Enter.lastsP κs 1 ps
+            xs (dens κs args) (u .1))),
+      )
 
       pub record Start : Type 0 where
         pub κs : Lifetimes.Lfts 3
@@ -1522,7 +1584,7 @@ module _ (claims· : Claims) where
       Need-part-lines-start = (c : After-samples-needed) → PartAt.PartFrom T18 (λ u. 0) (λ u. u .1 .1 .1 .1 .1 .1 .1 .1 .1 .1 .1 .0) (m17 (c .before) (After-samples-needed·gave c))
 
       abbrev pub Need-part-lines-end : Type 0
-      Need-part-lines-end = (c : After-samples-needed) → PartAt.PartTo T18 9 15 (λ x. record { ptr = (0, 0); name = 0; now = x; }) (λ u. u .1 .1 .1 .1 .1 .1 .1 .1 .1 .1 .1 .0) (m17 (c .before)
+      Need-part-lines-end = (c : After-samples-needed) → PartAt.PartTo T18 9 15 (λ x. record { ptr = (0, 0); name = 0; now = x }) (λ u. u .1 .1 .1 .1 .1 .1 .1 .1 .1 .1 .1 .0) (m17 (c .before)
           (After-samples-needed·gave c))
 
       abbrev pub m19 : (before : After-samples-needed) → (given : s18 (before .before .before .before .before .before .before .blocks) .gives (m17 (before .before) (After-samples-needed·gave before)))
@@ -1619,16 +1681,31 @@ module _ (claims· : Claims) where
 
       module _ (before· : After-no-entries) where
         abbrev pub After-walk·own : Type 0
-        After-walk·own = Called.Called ps·4 r·4 (claims· .9) T32
-            (record { pos = 1; ty = y5; ref = λ x. x; },
-            (record { pos = 2; ty = y6; ref = λ x. x; },
-            (record { pos = 18; ty = y9; ref = λ x. x; },
-            (record { pos = 20; ty = y8; ref = λ x. x; },
-            (record { pos = 22; ty = y9; ref = λ x. x; },
-            (record { pos = 4; st = []; d = 0; at = λ x. x },
-            (record { pos = 23; ty = y14; ref = λ x. x; },
-            (record { pos = 5; st = []; d = 0; at = λ x. x },
-            (record { pos = 6; st = []; d = 0; at = λ x. x }, (Num.vAt 7 λ x. x, (Bool.bLit Bool'.false, (record { pos = 24; st = []; d = 0; at = λ x. x }, tt)))))))))))) (m27 (before· .before)
+        After-walk·own = Called.Called ps·4 r·4 (claims· .9) T32 (
+          record { pos = 1; ty = y5; ref = λ x. x },
+          (
+            record { pos = 2; ty = y6; ref = λ x. x },
+            (
+              record { pos = 18; ty = y9; ref = λ x. x },
+              (
+                record { pos = 20; ty = y8; ref = λ x. x },
+                (
+                  record { pos = 22; ty = y9; ref = λ x. x },
+                  (
+                    record { pos = 4; st = []; d = 0; at = λ x. x },
+                    (
+                      record { pos = 23; ty = y14; ref = λ x. x },
+                      (
+                        record { pos = 5; st = []; d = 0; at = λ x. x },
+                        (record { pos = 6; st = []; d = 0; at = λ x. x }, (Num.vAt 7 λ x. x, (Bool.bLit Bool'.false, (record { pos = 24; st = []; d = 0; at = λ x. x }, tt)))),
+                      ),
+                    ),
+                  ),
+                ),
+              ),
+            ),
+          ),
+        ) (m27 (before· .before)
             (After-no-entries·gave before·))
 
       pub record After-walk : Type 0 where
@@ -1640,16 +1717,31 @@ module _ (claims· : Claims) where
 
       abbrev pub After-walk·gave : (c : After-walk) → s31 (c .before .before .before .before .before .before .before .before .before .before .before .before .blocks) .gives (m27 (c .before .before)
           (After-no-entries·gave (c .before)))
-      After-walk·gave = λ c. Called.given ps·4 r·4 (claims· .9) T32
-          (record { pos = 1; ty = y5; ref = λ x. x; },
-          (record { pos = 2; ty = y6; ref = λ x. x; },
-          (record { pos = 18; ty = y9; ref = λ x. x; },
-          (record { pos = 20; ty = y8; ref = λ x. x; },
-          (record { pos = 22; ty = y9; ref = λ x. x; },
-          (record { pos = 4; st = []; d = 0; at = λ x. x },
-          (record { pos = 23; ty = y14; ref = λ x. x; },
-          (record { pos = 5; st = []; d = 0; at = λ x. x },
-          (record { pos = 6; st = []; d = 0; at = λ x. x }, (Num.vAt 7 λ x. x, (Bool.bLit Bool'.false, (record { pos = 24; st = []; d = 0; at = λ x. x }, tt)))))))))))) (m27 (c .before .before)
+      After-walk·gave = λ c. Called.given ps·4 r·4 (claims· .9) T32 (
+        record { pos = 1; ty = y5; ref = λ x. x },
+        (
+          record { pos = 2; ty = y6; ref = λ x. x },
+          (
+            record { pos = 18; ty = y9; ref = λ x. x },
+            (
+              record { pos = 20; ty = y8; ref = λ x. x },
+              (
+                record { pos = 22; ty = y9; ref = λ x. x },
+                (
+                  record { pos = 4; st = []; d = 0; at = λ x. x },
+                  (
+                    record { pos = 23; ty = y14; ref = λ x. x },
+                    (
+                      record { pos = 5; st = []; d = 0; at = λ x. x },
+                      (record { pos = 6; st = []; d = 0; at = λ x. x }, (Num.vAt 7 λ x. x, (Bool.bLit Bool'.false, (record { pos = 24; st = []; d = 0; at = λ x. x }, tt)))),
+                    ),
+                  ),
+                ),
+              ),
+            ),
+          ),
+        ),
+      ) (m27 (c .before .before)
           (After-no-entries·gave (c .before))) (c .walk)
 
       abbrev pub m34 : (before : After-no-entries) → (given : s31 (before .before .before .before .before .before .before .before .before .before .before .before .blocks) .gives (m27 (before .before)
@@ -1737,66 +1829,121 @@ module _ (claims· : Claims) where
           (walk-requires : Need-walk-requires) (same-length : Need-same-length) (returns : Need-returns) where
         lay5 : (c : After-walk) → at23 (c .before .before .before .before .before .before .before .before .before .before .before .before .blocks) (W0 (After-walk·start c .κs) (After-walk·start c
             .args) (c .before .before .before .before .before .before .before .before .before .before .before .before .blocks)) (m28 (c .before) (After-walk·gave c))
-        lay5 = λ c.
-            (Path'.refl, λ g. let c1 : After-lines2 = record { before = c; lines2 = record { given = g }; } in
-            (Path'.refl, λ g'. let c2 : After-rs2 = record { before = c1; rs2 = record { given = g' }; } in
-            (Path'.refl, λ g''. let c3 : After-image = record { before = c2; image = record { given = g'' }; } in λ g'3. let c4 : After-slice-known2 = record
-            { before = c3; slice-known2 = record { given = g'3 }; } in
-            ((Path'.refl,
-            (Path'.refl,
-            (MutSlice.fix-len (Row.get 3 (T1 .locals) (m43 c3 g'3) .ptr) (Row.get 3 (T1 .locals) (m43 c3 g'3) .name) (Row.get 3 (T1 .locals) (m43 c3 g'3) .now) (dens (After-walk·start c .κs)
-            (After-walk·start c .args) .1 .1 .0 .now) (same-length c4), (tt, (tt, (tt, (tt, tt))))))), returns c4))))
+        lay5 = λ c. (
+          Path'.refl,
+          λ g. let c1 : After-lines2 = record { before = c; lines2 = record { given = g } } in (
+            Path'.refl,
+            λ g'. let c2 : After-rs2 = record { before = c1; rs2 = record { given = g' } } in (
+              Path'.refl,
+              λ g''. let c3 : After-image = record { before = c2; image = record { given = g'' } } in λ g'3. let c4 : After-slice-known2 = record
+                  { before = c3; slice-known2 = record { given = g'3 } } in (
+                    (
+                      Path'.refl,
+                      (
+                        Path'.refl,
+                        (
+                          MutSlice.fix-len (Row.get 3 (T1 .locals) (m43 c3 g'3) .ptr) (Row.get 3 (T1 .locals) (m43 c3 g'3) .name) (Row.get 3 (T1 .locals) (m43 c3 g'3) .now) (dens (After-walk·start c .κs)
+                              (After-walk·start c .args) .1 .1 .0 .now) (same-length c4),
+                          (tt, (tt, (tt, (tt, tt)))),
+                        ),
+                      ),
+                    ),
+                    returns c4,
+                  ),
+            ),
+          ),
+        )
 
         lay4 : (c : After-no-entries) → at24 (c .before .before .before .before .before .before .before .before .before .before .before .blocks) (W0 (After-no-entries·start c .κs)
             (After-no-entries·start c .args) (c .before .before .before .before .before .before .before .before .before .before .before .blocks)) (m27 (c .before) (After-no-entries·gave c))
-        lay4 = λ c.
-            (walk-requires c, λ g. lay5 record
-            { before = c; walk = Called.called ps·4 r·4 (claims· .9) T32
-            (record { pos = 1; ty = y5; ref = λ x. x; },
-            (record { pos = 2; ty = y6; ref = λ x. x; },
-            (record { pos = 18; ty = y9; ref = λ x. x; },
-            (record { pos = 20; ty = y8; ref = λ x. x; },
-            (record { pos = 22; ty = y9; ref = λ x. x; },
-            (record { pos = 4; st = []; d = 0; at = λ x. x },
-            (record { pos = 23; ty = y14; ref = λ x. x; },
-            (record { pos = 5; st = []; d = 0; at = λ x. x },
-            (record { pos = 6; st = []; d = 0; at = λ x. x }, (Num.vAt 7 λ x. x, (Bool.bLit Bool'.false, (record { pos = 24; st = []; d = 0; at = λ x. x }, tt)))))))))))) (m27 (c .before)
-            (After-no-entries·gave c)) g; })
+        lay4 = λ c. (
+          walk-requires c,
+          λ g. lay5 record {
+            before = c;
+            walk = Called.called ps·4 r·4 (claims· .9) T32 (
+              record { pos = 1; ty = y5; ref = λ x. x },
+              (
+                record { pos = 2; ty = y6; ref = λ x. x },
+                (
+                  record { pos = 18; ty = y9; ref = λ x. x },
+                  (
+                    record { pos = 20; ty = y8; ref = λ x. x },
+                    (
+                      record { pos = 22; ty = y9; ref = λ x. x },
+                      (
+                        record { pos = 4; st = []; d = 0; at = λ x. x },
+                        (
+                          record { pos = 23; ty = y14; ref = λ x. x },
+                          (
+                            record { pos = 5; st = []; d = 0; at = λ x. x },
+                            (record { pos = 6; st = []; d = 0; at = λ x. x }, (Num.vAt 7 λ x. x, (Bool.bLit Bool'.false, (record { pos = 24; st = []; d = 0; at = λ x. x }, tt)))),
+                          ),
+                        ),
+                      ),
+                    ),
+                  ),
+                ),
+              ),
+            ) (m27 (c .before)
+                (After-no-entries·gave c)) g;
+          },
+        )
 
         lay3 : (c : After-samples-needed) → at42 (c .before .before .before .before .before .before .blocks) (W0 (After-samples-needed·start c .κs) (After-samples-needed·start c .args) (c .before
             .before .before .before .before .before .blocks)) (m13 (c .before) (After-samples-needed·gave c))
-        lay3 = λ c.
-            (tt,
-            (sub-walk c,
-            ((Path'.refl, Path'.refl, part-lines-start c, part-lines-end c), λ g. let c1 : After-lines = record { before = c; lines = record { given = g }; } in
-            (Relend.count-is T21 17 18 (λ x. x) (λ u. u .1 .1 .1 .1 .1 .1 .1 .1 .1 .1 .1 .1 .1 .1 .1 .1 .0) (m19 c g) (g .1), λ g'. let c2 : After-rs = record { before = c1; rs = record { given = g' }; }
-            in
-            (Relend.count-is T25 19 20 (λ x. x) (λ u. 336) (m22 c1 g') (slice-aggregate-walk c2), λ g''. let c3 : After-walk-arg = record { before = c2; walk-arg = record { given = g'' }; } in
-            (Path'.refl, λ g'3. let c4 : After-places = record { before = c3; places = record { given = g'3 }; } in
-            (no-entries-requires c4, λ g'4. lay4 record { before = c4; no-entries = Called.called ps·3 r·3 (claims· .7) T31 tt (m26 c3 g'3) g'4; })))))))
+        lay3 = λ c. (
+          tt,
+          (
+            sub-walk c,
+            (
+              (Path'.refl, Path'.refl, part-lines-start c, part-lines-end c),
+              λ g. let c1 : After-lines = record { before = c; lines = record { given = g } } in (
+                Relend.count-is T21 17 18 (λ x. x) (λ u. u .1 .1 .1 .1 .1 .1 .1 .1 .1 .1 .1 .1 .1 .1 .1 .1 .0) (m19 c g) (g .1),
+                λ g'. let c2 : After-rs = record { before = c1; rs = record { given = g' } }
+                    in (
+                      Relend.count-is T25 19 20 (λ x. x) (λ u. 336) (m22 c1 g') (slice-aggregate-walk c2),
+                      λ g''. let c3 : After-walk-arg = record { before = c2; walk-arg = record { given = g'' } } in (
+                        Path'.refl,
+                        λ g'3. let c4 : After-places = record { before = c3; places = record { given = g'3 } } in
+                            (no-entries-requires c4, λ g'4. lay4 record { before = c4; no-entries = Called.called ps·3 r·3 (claims· .7) T31 tt (m26 c3 g'3) g'4 }),
+                      ),
+                    ),
+              ),
+            ),
+          ),
+        )
 
         lay2 : (c : After-cleared) → at46 (c .before .before .before .before .before .blocks) (W0 (After-cleared·start c .κs) (After-cleared·start c .args) (c .before .before .before .before .before
             .blocks)) (m9 (c .before) (After-cleared·gave c))
-        lay2 = λ c.
-            (samples-needed-requires c, λ g. lay3 record
-            { before = c; samples-needed = Called.called ps·2 r·2 (claims· .5) T13 (Bool.bFld 4 ((Syntax.field 1) ∷ []) 4 λ x. Form.struct .as-values x .1 .0, tt) (m12 (c .before) (After-cleared·gave c))
-            g; })
+        lay2 = λ c. (
+          samples-needed-requires c,
+          λ g. lay3 record {
+            before = c;
+            samples-needed = Called.called ps·2 r·2 (claims· .5) T13 (Bool.bFld 4 ((Syntax.field 1) ∷ []) 4 λ x. Form.struct .as-values x .1 .0, tt) (m12 (c .before) (After-cleared·gave c))
+                g;
+          },
+        )
 
         lay1 : (c : After-xtrans-places) → at51 (c .before .before .before .before .blocks) (W0 (After-xtrans-places·start c .κs) (After-xtrans-places·start c .args) (c .before .before .before .before
             .blocks)) (m4 (c .before) (After-xtrans-places·gave c))
-        lay1 = λ c. (cleared-requires c, λ g. lay2 record { before = c; cleared = Called.called ps·1 r·1 (claims· .3) T9 tt (m8 (c .before) (After-xtrans-places·gave c)) g; })
+        lay1 = λ c. (cleared-requires c, λ g. lay2 record { before = c; cleared = Called.called ps·1 r·1 (claims· .3) T9 tt (m8 (c .before) (After-xtrans-places·gave c)) g })
 
         pub laid : (c : Start) → at55 (c .blocks) (W0 (c .κs) (c .args) (c .blocks)) (m0 (c .κs) (c .args) (c .blocks))
         laid = λ c. λ g. let c1 : After-shared-slice-known = record { before = c; shared-slice-known = record { given = g } } in λ g'. let c2 : After-shared-slice-known2 = record
-            { before = c1; shared-slice-known2 = record { given = g' }; } in λ g''. let c3 : After-slice-known = record { before = c2; slice-known = record { given = g'' }; } in
-            (xtrans-places-requires c3, λ g'3. lay1 record { before = c3; xtrans-places = Called.called ps·0 r·0 (claims· .1) T0 tt (m3 c2 g'') g'3; })
+            { before = c1; shared-slice-known2 = record { given = g' } } in λ g''. let c3 : After-slice-known = record { before = c2; slice-known = record { given = g'' } } in
+            (xtrans-places-requires c3, λ g'3. lay1 record { before = c3; xtrans-places = Called.called ps·0 r·0 (claims· .1) T0 tt (m3 c2 g'') g'3 })
 
         module _ (κs : Lifetimes.Lfts 3) (qs : Lifetimes.Shares 3) where
           pub asked : (a : Kinds.Dens κs ps) → (good : Kinds.GoodsP κs ps a) → (pre : Pre· κs a) → (bs : List.List Nat.ℕ) → Φ bs (Any.wantQ 3 ps r xs m κs qs a (Post· κs a)) (Function.init 3 ps r xs m
               κs qs a)
-          asked = λ a good pre bs. laid record
-              { κs = κs; args = record { block = a .0; bases = a .1 .0; image = a .1 .1 .0; form = a .1 .1 .1 .0; tile = a .1 .1 .1 .1 .0; part = a .1 .1 .1 .1 .1 .0; count = a .1 .1 .1 .1 .1 .1 .0; };
-              blocks = bs; good = good; fits = record { count = record { fits = good .1 .1 .1 .1 .1 .1 .0 .1 } }; pre = pre; }
+          asked = λ a good pre bs. laid record {
+            κs = κs;
+            args = record { block = a .0; bases = a .1 .0; image = a .1 .1 .0; form = a .1 .1 .1 .0; tile = a .1 .1 .1 .1 .0; part = a .1 .1 .1 .1 .1 .0; count = a .1 .1 .1 .1 .1 .1 .0 };
+            blocks = bs;
+            good = good;
+            fits = record { count = record { fits = good .1 .1 .1 .1 .1 .1 .0 .1 } };
+            pre = pre;
+          }
 
         module _ {M : Type 1} (𝓤 : URA.URA M) (H : Wp.Heap 𝓤) (A : Atoms.Atoms 𝓤) (W : Kit.Given 𝓤 H A) (𝓣 : Wp.Tables 𝓤 H) (known0 : Plain.Known 𝓤 H A W 𝓣 0 ps·0 r·0 (claims· .0) (claims· .1)
             "image_map::xtrans_places") (known1 : Plain.Known 𝓤 H A W 𝓣 0 ps·1 r·1 (claims· .2) (claims· .3) "read_block::records::cleared") (known2 : Plain.Known 𝓤 H A W 𝓣 0 ps·2 r·2 (claims· .4)

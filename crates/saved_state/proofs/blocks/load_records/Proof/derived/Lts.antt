@@ -338,7 +338,7 @@ module _ (claims· : Claims) where
   s5 = Call.callB ps·0 r·0 (claims· .0) (claims· .1) T3 (Num.vAt 4 λ x. x, (Num.vAt 5 λ x. x, (Num.vAt 6 λ x. x, tt))) 7 [] y3
 
   abbrev pub a0 : ArgsT ps·1 (T9 .locals)
-  a0 = (record { pos = 2; ty = y1; ref = λ x. x; }, (Num.vAt 6 λ x. x, (Bool.bAt 3 λ x. x, (record { pos = 7; st = []; d = 0; at = λ x. x }, tt))))
+  a0 = (record { pos = 2; ty = y1; ref = λ x. x }, (Num.vAt 6 λ x. x, (Bool.bAt 3 λ x. x, (record { pos = 7; st = []; d = 0; at = λ x. x }, tt))))
 
   abbrev s6 : Typed.Both T9 T10
   s6 = Call.callB ps·1 r·1 (claims· .2) (claims· .3) T9 a0 8 (1 ∷ []) y3
@@ -353,7 +353,7 @@ module _ (claims· : Claims) where
   s10 = Relend.k-sl-aggregate (Element.type) (Relend.asMut (Element.type)) T13 11 12 2 y2 y2 (λ x. x) (Scalar.oFld 1 ((Syntax.field 1) ∷ []) u64 8 λ v. Shared.lenV (v .0))
 
   abbrev s11 : Typed.Both T14 T15
-  s11 = Call.callB ps·2 r·2 (claims· .4) (claims· .5) T14 (record { pos = 12; ty = y2; ref = λ x. x; }, (Num.vAt 6 λ x. x, (record { pos = 8; st = []; d = 0; at = λ x. x }, tt))) 10 (2 ∷ [])
+  s11 = Call.callB ps·2 r·2 (claims· .4) (claims· .5) T14 (record { pos = 12; ty = y2; ref = λ x. x }, (Num.vAt 6 λ x. x, (record { pos = 8; st = []; d = 0; at = λ x. x }, tt))) 10 (2 ∷ [])
       Syntax.tyUnit
 
   abbrev s12 : Typed.Mo T15 → Typed.Mo T16
@@ -385,7 +385,7 @@ module _ (claims· : Claims) where
 
   abbrev put0 : List.List (Element.type .Denot) × Rows.sc-here (Row.sInt Syntax.w64) .Mod → Typed.Mo T3 → Typed.Mo T3
   put0 = λ vs u. Row.set 6 (6, Rows.sc-here (Row.sInt Syntax.w64)) (vs .1) (T3 .locals) (Row.set 1 (1, Mut.mslice (Element.type) y0 0) record
-      { ptr = Row.get 1 (T3 .locals) u .ptr; name = Row.get 1 (T3 .locals) u .name; now = vs .0; } (T3 .locals) u)
+      { ptr = Row.get 1 (T3 .locals) u .ptr; name = Row.get 1 (T3 .locals) u .name; now = vs .0 } (T3 .locals) u)
 
   module _ (Pre· : (κs : Lifetimes.Lfts 2) → Kinds.Dens κs ps → Type 0) (Post· : (κs : Lifetimes.Lfts 2) → (a : Kinds.Dens κs ps) → Kinds.Plain 2 ps r κs) where
     module _ (M : Type 1) where
@@ -602,9 +602,12 @@ module _ (claims· : Claims) where
 
           d11 : Typed.Typed 𝓤 H A 𝓣 E G14 (Syntax.seq b9 b10) Δ3 at11
           d11 = Typed.s-seq 𝓤 H A W 𝓣 E G14 G15 b9 b10 Δ3 (Typed.both s11) at10 (Plain.t-call-plain 𝓤 H A W 𝓣 1 ps·2 r·2 (claims· .4) (claims· .5) "read_block::records::update" (known .2) E (λ pos β.
-              β) G14 (record { pos = 12; ty = y2; ref = λ x. x; }, (Num.vAt 6 λ x. x, (record { pos = 8; st = []; d = 0; at = λ x. x }, tt))) 10 (2 ∷ []) (Call.sub-id 𝓤 H A W (G14 .slots))
-              (Reads.as-is 𝓤 H A (Mut.mslice (Element.type) y2 2), Mut.reads-mslice 𝓤 H A W (Element.type) y2 2, Path'.refl,
-              ((Scalar.reads-sc 𝓤 H A W (Row.sInt Syntax.w64), Path'.refl), ((Values.struct-copied 𝓤 H A W Record.the-type Laws.the-laws Laws.the-copy, Path'.refl), tt))) (Reads.room-gone 𝓤 H A
+              β) G14 (record { pos = 12; ty = y2; ref = λ x. x }, (Num.vAt 6 λ x. x, (record { pos = 8; st = []; d = 0; at = λ x. x }, tt))) 10 (2 ∷ []) (Call.sub-id 𝓤 H A W (G14 .slots)) (
+                Reads.as-is 𝓤 H A (Mut.mslice (Element.type) y2 2),
+                Mut.reads-mslice 𝓤 H A W (Element.type) y2 2,
+                Path'.refl,
+                ((Scalar.reads-sc 𝓤 H A W (Row.sInt Syntax.w64), Path'.refl), ((Values.struct-copied 𝓤 H A W Record.the-type Laws.the-laws Laws.the-copy, Path'.refl), tt)),
+              ) (Reads.room-gone 𝓤 H A
               Syntax.tyUnit) (tt, tt) Path'.refl) d10
 
           d12 : Typed.Typed 𝓤 H A 𝓣 E G13 (Syntax.seq b8 (Syntax.seq b9 b10)) Δ3 at12
@@ -626,18 +629,24 @@ module _ (claims· : Claims) where
 
           d16 : Typed.Typed 𝓤 H A 𝓣 E (on T9 l1) (Syntax.seq b6 b13) Δ3 at16
           d16 = Typed.s-seq 𝓤 H A W 𝓣 E (on T9 l1) (on T10 l1) b6 b13 Δ3 (Typed.both s6) at15 (Plain.t-call-plain 𝓤 H A W 𝓣 1 ps·1 r·1 (claims· .2) (claims· .3) "saved_state::load::load_record" (known
-              .1) E (λ pos β. β) (on T9 l1) (record { pos = 2; ty = y1; ref = λ x. x; }, (Num.vAt 6 λ x. x, (Bool.bAt 3 λ x. x, (record { pos = 7; st = []; d = 0; at = λ x. x }, tt)))) 8 (1 ∷ [])
-              (Call.sub-id 𝓤 H A W ((on T9 l1) .slots))
-              (ShrSlice.spares-sslice 𝓤 H A W n8 y1 1, Shared.reads-sslice 𝓤 H A W n8 y1 1, Path'.refl,
-              ((Scalar.reads-sc 𝓤 H A W (Row.sInt Syntax.w64), Path'.refl),
-              ((Scalar.reads-sc 𝓤 H A W Row.sBool, Path'.refl), ((Values.struct-copied 𝓤 H A W Record.the-type Laws.the-laws Laws.the-copy, Path'.refl), tt)))) (Reads.room-gone 𝓤 H A y3) (tt, tt)
+              .1) E (λ pos β. β) (on T9 l1) (record { pos = 2; ty = y1; ref = λ x. x }, (Num.vAt 6 λ x. x, (Bool.bAt 3 λ x. x, (record { pos = 7; st = []; d = 0; at = λ x. x }, tt)))) 8 (1 ∷ [])
+              (Call.sub-id 𝓤 H A W ((on T9 l1) .slots)) (
+                ShrSlice.spares-sslice 𝓤 H A W n8 y1 1,
+                Shared.reads-sslice 𝓤 H A W n8 y1 1,
+                Path'.refl,
+                (
+                  (Scalar.reads-sc 𝓤 H A W (Row.sInt Syntax.w64), Path'.refl),
+                  ((Scalar.reads-sc 𝓤 H A W Row.sBool, Path'.refl), ((Values.struct-copied 𝓤 H A W Record.the-type Laws.the-laws Laws.the-copy, Path'.refl), tt)),
+                ),
+              ) (Reads.room-gone 𝓤 H A y3) (tt, tt)
               Path'.refl) d15
 
           d17 : Typed.Typed 𝓤 H A 𝓣 E (on T3 l1) (Syntax.seq b5 (Syntax.seq b6 b13)) Δ3 at17
           d17 = Typed.s-seq 𝓤 H A W 𝓣 E (on T3 l1) (on T9 l1) b5 (Syntax.seq b6 b13) Δ3 (Typed.both s5) at16 (Plain.t-call-plain 𝓤 H A W 𝓣 0 ps·0 r·0 (claims· .0) (claims· .1)
-              "read_block::records::start_record" (known .0) E (λ pos β. β) (on T3 l1) (Num.vAt 4 λ x. x, (Num.vAt 5 λ x. x, (Num.vAt 6 λ x. x, tt))) 7 [] (Call.sub-id 𝓤 H A W ((on T3 l1) .slots))
-              ((Scalar.reads-sc 𝓤 H A W (Row.sInt Syntax.w32), Path'.refl),
-              ((Scalar.reads-sc 𝓤 H A W (Row.sInt Syntax.w32), Path'.refl), ((Scalar.reads-sc 𝓤 H A W (Row.sInt Syntax.w64), Path'.refl), tt))) (Reads.room-gone 𝓤 H A y3) tt Path'.refl) d16
+              "read_block::records::start_record" (known .0) E (λ pos β. β) (on T3 l1) (Num.vAt 4 λ x. x, (Num.vAt 5 λ x. x, (Num.vAt 6 λ x. x, tt))) 7 [] (Call.sub-id 𝓤 H A W ((on T3 l1) .slots)) (
+                (Scalar.reads-sc 𝓤 H A W (Row.sInt Syntax.w32), Path'.refl),
+                ((Scalar.reads-sc 𝓤 H A W (Row.sInt Syntax.w32), Path'.refl), ((Scalar.reads-sc 𝓤 H A W (Row.sInt Syntax.w64), Path'.refl), tt)),
+              ) (Reads.room-gone 𝓤 H A y3) tt Path'.refl) d16
 
           d18 : Typed.Typed 𝓤 H A 𝓣 E (on T5 l1) b16 Δ3 at18
           d18 = Typed.t-seq 𝓤 H A W 𝓣 E (on T5 l1) (on T3 l1) b4 (Syntax.seq b5 (Syntax.seq b6 b13)) Δ3 at4 at17 d4 d17
@@ -709,9 +718,12 @@ module _ (claims· : Claims) where
       m0 = λ κs args. (tt, Enter.partsP κs 1 ps xs (dens κs args))
 
       abbrev W0 : (κs : Lifetimes.Lfts 2) → (args : Args κs) → Typed.Want O0
-      W0 = λ κs args.
-          (λ u. ⊥, tt, λ u. Enter.Fixs κs 1 ps xs (dens κs args) (u .1) × Post· κs (dens κs args) (Function.resV r κs (u .0)) (Clauses.atExit (Kinds.endedOf 2 ps r) κs (dens κs args) (Enter.lastsP κs 1 ps
-          xs (dens κs args) (u .1))))
+      W0 = λ κs args. (
+        λ u. ⊥,
+        tt,
+        λ u. Enter.Fixs κs 1 ps xs (dens κs args) (u .1) × Post· κs (dens κs args) (Function.resV r κs (u .0)) (Clauses.atExit (Kinds.endedOf 2 ps r) κs (dens κs args) (Enter.lastsP κs 1 ps
+            xs (dens κs args) (u .1))),
+      )
 
       pub record Start : Type 0 where
         pub κs : Lifetimes.Lfts 2
@@ -744,9 +756,12 @@ module _ (claims· : Claims) where
           .shared-slice-known .given)) .now) (Row.get 6 (T3 .locals) (m2 (c .before) (c .shared-slice-known .given)))
 
       abbrev pub m3 : (before : After-shared-slice-known) → (rs : List.List (Element.type .Denot)) → (j : Rows.sc-here (Row.sInt Syntax.w64) .Mod) → Typed.Mo T3
-      m3 = λ before rs j. Row.set 6 (6, Rows.sc-here (Row.sInt Syntax.w64)) j (Row.setRow 1 (1, Mut.mslice (Element.type) y0 0) (T3 .locals)) (Row.set 1 (1, Mut.mslice (Element.type) y0 0) record
-          { ptr = Row.get 1 (T3 .locals) (m2 (before .before) (before .shared-slice-known .given)) .ptr; name = Row.get 1 (T3 .locals) (m2 (before .before) (before .shared-slice-known .given)) .name; now
-          = rs; } (T3 .locals) (m2 (before .before) (before .shared-slice-known .given)))
+      m3 = λ before rs j. Row.set 6 (6, Rows.sc-here (Row.sInt Syntax.w64)) j (Row.setRow 1 (1, Mut.mslice (Element.type) y0 0) (T3 .locals)) (Row.set 1 (1, Mut.mslice (Element.type) y0 0) record {
+        ptr = Row.get 1 (T3 .locals) (m2 (before .before) (before .shared-slice-known .given)) .ptr;
+        name = Row.get 1 (T3 .locals) (m2 (before .before) (before .shared-slice-known .given)) .name;
+        now
+            = rs;
+      } (T3 .locals) (m2 (before .before) (before .shared-slice-known .given)))
 
       abbrev W3 : (before : After-shared-slice-known) → (rs : List.List (Element.type .Denot)) → (j : Rows.sc-here (Row.sInt Syntax.w64) .Mod) → Typed.Want O3
       W3 = λ before rs j. Typed.inLoop T3 O2 (Typed.Round T3 O2 put0 (λ u vs. Inv·0 (Row.get 1 (T3 .locals) u .now) (Row.get 2 (T3 .locals) u .now) (Row.get 3 (T3 .locals) u) (Row.get 4 (T3 .locals)
@@ -850,7 +865,7 @@ module _ (claims· : Claims) where
 
       module _ (before· : After-update-arg) where
         abbrev pub After-update·own : Type 0
-        After-update·own = Called.Called ps·2 r·2 (claims· .5) T14 (record { pos = 12; ty = y2; ref = λ x. x; }, (Num.vAt 6 λ x. x, (record { pos = 8; st = []; d = 0; at = λ x. x }, tt))) (m11
+        After-update·own = Called.Called ps·2 r·2 (claims· .5) T14 (record { pos = 12; ty = y2; ref = λ x. x }, (Num.vAt 6 λ x. x, (record { pos = 8; st = []; d = 0; at = λ x. x }, tt))) (m11
             (before· .before) (before· .update-arg .given))
 
       pub record After-update : Type 0 where
@@ -858,7 +873,7 @@ module _ (claims· : Claims) where
         pub update : After-update·own before
 
       abbrev pub After-update·gave : (c : After-update) → s11 .gives (m11 (c .before .before) (c .before .update-arg .given))
-      After-update·gave = λ c. Called.given ps·2 r·2 (claims· .5) T14 (record { pos = 12; ty = y2; ref = λ x. x; }, (Num.vAt 6 λ x. x, (record { pos = 8; st = []; d = 0; at = λ x. x }, tt))) (m11 (c
+      After-update·gave = λ c. Called.given ps·2 r·2 (claims· .5) T14 (record { pos = 12; ty = y2; ref = λ x. x }, (Num.vAt 6 λ x. x, (record { pos = 8; st = []; d = 0; at = λ x. x }, tt))) (m11 (c
           .before .before) (c .before .update-arg .given)) (c .update)
 
       abbrev pub m14 : (before : After-update-arg) → (given : s11 .gives (m11 (before .before) (before .update-arg .given))) → Typed.Mo T17
@@ -920,44 +935,68 @@ module _ (claims· : Claims) where
       module _ (loop-holds : Need-loop-holds) (start-record-requires : Need-start-record-requires) (load-record-requires : Need-load-record-requires) (update-requires : Need-update-requires) (add-j :
           Need-add-j) (loop-less : Need-loop-less) (loop-again : Need-loop-again) (same-length : Need-same-length) (returns : Need-returns) where
         lay7 : (c : After-loop) → at27 (W0 (c .before .before .before .κs) (c .before .before .before .args)) (m6 (c .before))
-        lay7 = λ c.
-            ((MutSlice.fix-len (Row.get 1 (T1 .locals) (m21 (c .before)) .ptr) (Row.get 1 (T1 .locals) (m21 (c .before)) .name) (Row.get 1 (T1 .locals) (m21 (c .before)) .now) (dens (c .before .before
-            .before .κs) (c .before .before .before .args) .0 .now) (same-length c), (Path'.refl, (tt, (tt, (tt, tt))))), returns c)
+        lay7 = λ c. (
+          (
+            MutSlice.fix-len (Row.get 1 (T1 .locals) (m21 (c .before)) .ptr) (Row.get 1 (T1 .locals) (m21 (c .before)) .name) (Row.get 1 (T1 .locals) (m21 (c .before)) .now) (dens (c .before .before
+                .before .κs) (c .before .before .before .args) .0 .now) (same-length c),
+            (Path'.refl, (tt, (tt, (tt, tt)))),
+          ),
+          returns c,
+        )
 
         lay6 : (c : After-update) → at10 (W3 (c .before .before .before .before .before .before) (c .before .before .before .before .before .loop .rs) (c .before .before .before .before .before .loop
             .j)) (m12 (c .before) (After-update·gave c))
-        lay6 = λ c.
-            (Path'.refl, λ g. let c1 : After-rs = record { before = c; rs = record { given = g }; } in
-            (add-j c1,
-            (μ·0 (Row.get 1 (T3 .locals) (m2 (c .before .before .before .before .before .before .before) (c .before .before .before .before .before .before .shared-slice-known .given)) .now) (Row.get 2
-            (T3 .locals) (m2 (c .before .before .before .before .before .before .before) (c .before .before .before .before .before .before .shared-slice-known .given)) .now) (Row.get 3 (T3 .locals) (m2
-            (c .before .before .before .before .before .before .before) (c .before .before .before .before .before .before .shared-slice-known .given))) (Row.get 4 (T3 .locals) (m2 (c .before .before
-            .before .before .before .before .before) (c .before .before .before .before .before .before .shared-slice-known .given))) (Row.get 5 (T3 .locals) (m2 (c .before .before .before .before .before
-            .before .before) (c .before .before .before .before .before .before .shared-slice-known .given))) (Row.get 6 (T3 .locals) (m2 (c .before .before .before .before .before .before .before) (c
-            .before .before .before .before .before .before .shared-slice-known .given))) (Row.get 1 (T3 .locals) (m16 c g) .now) (Row.get 6 (T3 .locals) (m16 c g)), loop-less c1,
-            ((Row.get 1 (T3 .locals) (m16 c g) .now, Row.get 6 (T3 .locals) (m16 c g)), Path'.refl {a = m16 c g}, loop-again c1, Path'.refl
-            {a = μ·0 (Row.get 1 (T3 .locals) (m2 (c .before .before .before .before .before .before .before) (c .before .before .before .before .before .before .shared-slice-known .given)) .now) (Row.get
-            2 (T3 .locals) (m2 (c .before .before .before .before .before .before .before) (c .before .before .before .before .before .before .shared-slice-known .given)) .now) (Row.get 3 (T3 .locals) (m2
-            (c .before .before .before .before .before .before .before) (c .before .before .before .before .before .before .shared-slice-known .given))) (Row.get 4 (T3 .locals) (m2 (c .before .before
-            .before .before .before .before .before) (c .before .before .before .before .before .before .shared-slice-known .given))) (Row.get 5 (T3 .locals) (m2 (c .before .before .before .before .before
-            .before .before) (c .before .before .before .before .before .before .shared-slice-known .given))) (Row.get 6 (T3 .locals) (m2 (c .before .before .before .before .before .before .before) (c
-            .before .before .before .before .before .before .shared-slice-known .given))) (Row.get 1 (T3 .locals) (m16 c g) .now) (Row.get 6 (T3 .locals) (m16 c g))}))))
+        lay6 = λ c. (
+          Path'.refl,
+          λ g. let c1 : After-rs = record { before = c; rs = record { given = g } } in (
+            add-j c1,
+            (
+              μ·0 (Row.get 1 (T3 .locals) (m2 (c .before .before .before .before .before .before .before) (c .before .before .before .before .before .before .shared-slice-known .given)) .now) (Row.get 2
+                  (T3 .locals) (m2 (c .before .before .before .before .before .before .before) (c .before .before .before .before .before .before .shared-slice-known .given)) .now) (Row.get 3 (T3 .locals) (m2
+                  (c .before .before .before .before .before .before .before) (c .before .before .before .before .before .before .shared-slice-known .given))) (Row.get 4 (T3 .locals) (m2 (c .before .before
+                  .before .before .before .before .before) (c .before .before .before .before .before .before .shared-slice-known .given))) (Row.get 5 (T3 .locals) (m2 (c .before .before .before .before .before
+                  .before .before) (c .before .before .before .before .before .before .shared-slice-known .given))) (Row.get 6 (T3 .locals) (m2 (c .before .before .before .before .before .before .before) (c
+                  .before .before .before .before .before .before .shared-slice-known .given))) (Row.get 1 (T3 .locals) (m16 c g) .now) (Row.get 6 (T3 .locals) (m16 c g)),
+              loop-less c1,
+              (
+                (Row.get 1 (T3 .locals) (m16 c g) .now, Row.get 6 (T3 .locals) (m16 c g)),
+                Path'.refl {a = m16 c g},
+                loop-again c1,
+                Path'.refl
+                    {a = μ·0 (Row.get 1 (T3 .locals) (m2 (c .before .before .before .before .before .before .before) (c .before .before .before .before .before .before .shared-slice-known .given)) .now) (Row.get
+                    2 (T3 .locals) (m2 (c .before .before .before .before .before .before .before) (c .before .before .before .before .before .before .shared-slice-known .given)) .now) (Row.get 3 (T3 .locals) (m2
+                    (c .before .before .before .before .before .before .before) (c .before .before .before .before .before .before .shared-slice-known .given))) (Row.get 4 (T3 .locals) (m2 (c .before .before
+                    .before .before .before .before .before) (c .before .before .before .before .before .before .shared-slice-known .given))) (Row.get 5 (T3 .locals) (m2 (c .before .before .before .before .before
+                    .before .before) (c .before .before .before .before .before .before .shared-slice-known .given))) (Row.get 6 (T3 .locals) (m2 (c .before .before .before .before .before .before .before) (c
+                    .before .before .before .before .before .before .shared-slice-known .given))) (Row.get 1 (T3 .locals) (m16 c g) .now) (Row.get 6 (T3 .locals) (m16 c g))},
+              ),
+            ),
+          ),
+        )
 
         lay5 : (c : After-load-record) → at15 (W3 (c .before .before .before .before) (c .before .before .before .loop .rs) (c .before .before .before .loop .j)) (m8 (c .before)
             (After-load-record·gave c))
-        lay5 = λ c. λ g. let c1 : After-update-arg = record { before = c; update-arg = record { given = g }; } in
-            (Path'.refl,
-            (update-requires c1, λ g'. lay6 record
-            { before = c1; update = Called.called ps·2 r·2 (claims· .5) T14 (record { pos = 12; ty = y2; ref = λ x. x; }, (Num.vAt 6 λ x. x, (record { pos = 8; st = []; d = 0; at = λ x. x }, tt))) (m11 c
-            g) g'; }))
+        lay5 = λ c. λ g. let c1 : After-update-arg = record { before = c; update-arg = record { given = g } } in (
+          Path'.refl,
+          (
+            update-requires c1,
+            λ g'. lay6 record {
+              before = c1;
+              update = Called.called ps·2 r·2 (claims· .5) T14 (record { pos = 12; ty = y2; ref = λ x. x }, (Num.vAt 6 λ x. x, (record { pos = 8; st = []; d = 0; at = λ x. x }, tt))) (m11 c
+                  g) g';
+            },
+          ),
+        )
 
         lay4 : (c : After-start-record) → at16 (W3 (c .before .before .before) (c .before .before .loop .rs) (c .before .before .loop .j)) (m7 (c .before) (After-start-record·gave c))
-        lay4 = λ c. (load-record-requires c, λ g. lay5 record { before = c; load-record = Called.called ps·1 r·1 (claims· .3) T9 a0 (m7 (c .before) (After-start-record·gave c)) g; })
+        lay4 = λ c. (load-record-requires c, λ g. lay5 record { before = c; load-record = Called.called ps·1 r·1 (claims· .3) T9 a0 (m7 (c .before) (After-start-record·gave c)) g })
 
         lay3 : (c : In-loop) → at17 (W3 (c .before .before) (c .before .loop .rs) (c .before .loop .j)) (m5 (c .before))
-        lay3 = λ c.
-            (start-record-requires c, λ g. lay4 record
-            { before = c; start-record = Called.called ps·0 r·0 (claims· .1) T3 (Num.vAt 4 λ x. x, (Num.vAt 5 λ x. x, (Num.vAt 6 λ x. x, tt))) (m5 (c .before)) g; })
+        lay3 = λ c. (
+          start-record-requires c,
+          λ g. lay4 record
+              { before = c; start-record = Called.called ps·0 r·0 (claims· .1) T3 (Num.vAt 4 λ x. x, (Num.vAt 5 λ x. x, (Num.vAt 6 λ x. x, tt))) (m5 (c .before)) g },
+        )
 
         lay2 : (c : After-loop) → at3 (W4 (c .before .before) (c .before .loop .rs) (c .before .loop .j)) (m4 (c .before .before) (c .before .loop .rs) (c .before .loop .j))
         lay2 = λ c. lay7 c
@@ -966,21 +1005,36 @@ module _ (claims· : Claims) where
         lay1 = λ c. lay3 c
 
         pub laid : (c : Start) → at30 (W0 (c .κs) (c .args)) (m0 (c .κs) (c .args))
-        laid = λ c. λ g. let c1 : After-shared-slice-known = record { before = c; shared-slice-known = record { given = g } } in
-            (((Row.get 1 (T3 .locals) (m2 c g) .now, Row.get 6 (T3 .locals) (m2 c g)), Path'.refl {a = m2 c g}, loop-holds c1), λ vs inv.
-            (tt,
-            (λ taken. lay1 record
-            { before = record { before = c1; loop = record { rs = vs .0; j = vs .1; inv = inv }; }; loop-test = record
-            { taken = Tests.ltb-true (Row.get 6 (T3 .locals) (m3 record { before = c; shared-slice-known = record { given = g }; } (vs .0) (vs .1))) 336 taken; }; }, λ left. lay2 record
-            { before = record { before = c1; loop = record { rs = vs .0; j = vs .1; inv = inv }; }; loop-test = record
-            { left = Tests.ltb-false (Row.get 6 (T3 .locals) (m3 record { before = c; shared-slice-known = record { given = g }; } (vs .0) (vs .1))) 336 left; }; })))
+        laid = λ c. λ g. let c1 : After-shared-slice-known = record { before = c; shared-slice-known = record { given = g } } in (
+          ((Row.get 1 (T3 .locals) (m2 c g) .now, Row.get 6 (T3 .locals) (m2 c g)), Path'.refl {a = m2 c g}, loop-holds c1),
+          λ vs inv. (
+            tt,
+            (
+              λ taken. lay1 record {
+                before = record { before = c1; loop = record { rs = vs .0; j = vs .1; inv = inv } };
+                loop-test = record
+                    { taken = Tests.ltb-true (Row.get 6 (T3 .locals) (m3 record { before = c; shared-slice-known = record { given = g } } (vs .0) (vs .1))) 336 taken };
+              },
+              λ left. lay2 record {
+                before = record { before = c1; loop = record { rs = vs .0; j = vs .1; inv = inv } };
+                loop-test = record
+                    { left = Tests.ltb-false (Row.get 6 (T3 .locals) (m3 record { before = c; shared-slice-known = record { given = g } } (vs .0) (vs .1))) 336 left };
+              },
+            ),
+          ),
+        )
 
         module _ (κs : Lifetimes.Lfts 2) (qs : Lifetimes.Shares 2) where
           pub asked : (a : Kinds.Dens κs ps) → (good : Kinds.GoodsP κs ps a) → (pre : Pre· κs a) → (bs : List.List Nat.ℕ) → Φ (Any.wantQ 2 ps r xs m κs qs a (Post· κs a)) (Function.init 2 ps r xs m κs
               qs a)
-          asked = λ a good pre bs. laid record
-              { κs = κs; args = record { rs = a .0; s = a .1 .0; lossless = a .1 .1 .0; bits = a .1 .1 .1 .0; base = a .1 .1 .1 .1 .0; }; good = good; fits = record
-              { bits = record { fits = good .1 .1 .1 .0 .1 }; base = record { fits = good .1 .1 .1 .1 .0 .1 }; }; pre = pre; }
+          asked = λ a good pre bs. laid record {
+            κs = κs;
+            args = record { rs = a .0; s = a .1 .0; lossless = a .1 .1 .0; bits = a .1 .1 .1 .0; base = a .1 .1 .1 .1 .0 };
+            good = good;
+            fits = record
+                { bits = record { fits = good .1 .1 .1 .0 .1 }; base = record { fits = good .1 .1 .1 .1 .0 .1 } };
+            pre = pre;
+          }
 
         module _ {M : Type 1} (𝓤 : URA.URA M) (H : Wp.Heap 𝓤) (A : Atoms.Atoms 𝓤) (W : Kit.Given 𝓤 H A) (𝓣 : Wp.Tables 𝓤 H) (known0 : Plain.Known 𝓤 H A W 𝓣 0 ps·0 r·0 (claims· .0) (claims· .1)
             "read_block::records::start_record") (known1 : Plain.Known 𝓤 H A W 𝓣 1 ps·1 r·1 (claims· .2) (claims· .3) "saved_state::load::load_record") (known2 : Plain.Known 𝓤 H A W 𝓣 1 ps·2 r·2 (claims·

@@ -685,7 +685,7 @@ module _ (claims· : Claims) where
   s6 = Relend.k-sl-aggregate n8 (Relend.asMut n8) T7 11 12 4 y6 y6 (λ x. x) (Scalar.oFld 1 ((Syntax.field 1) ∷ []) u64 8 λ v. Shared.lenV (v .0))
 
   abbrev pub a0 : ArgsT ps·0 (T8 .locals)
-  a0 = (record { pos = 12; ty = y6; ref = λ x. x; }, (record { pos = 2; ty = y2; ref = λ x. x; }, (Num.vAt 4 λ x. x, (Num.vAt 5 λ x. x, (Num.vAt 6 λ x. x, tt)))))
+  a0 = (record { pos = 12; ty = y6; ref = λ x. x }, (record { pos = 2; ty = y2; ref = λ x. x }, (Num.vAt 4 λ x. x, (Num.vAt 5 λ x. x, (Num.vAt 6 λ x. x, tt)))))
 
   abbrev s7 : Typed.Both T8 T9
   s7 = Call.callB ps·0 r·0 (claims· .0) (claims· .1) T8 a0 10 (4 ∷ 1 ∷ []) Syntax.tyUnit
@@ -712,13 +712,13 @@ module _ (claims· : Claims) where
   s18 = Relend.k-sl-aggregate (Element.type) (Relend.asMut (Element.type)) T19 16 17 6 y5 y5 (λ x. x) (Scalar.oFld 8 ((Syntax.field 1) ∷ []) u64 8 λ v. Shared.lenV (v .0))
 
   abbrev s19 : Typed.Both T20 T21
-  s19 = Call.callB ps·1 r·1 (claims· .2) (claims· .3) T20 (record { pos = 17; ty = y5; ref = λ x. x; }, (Num.vLit 0, tt)) 15 (6 ∷ []) y8
+  s19 = Call.callB ps·1 r·1 (claims· .2) (claims· .3) T20 (record { pos = 17; ty = y5; ref = λ x. x }, (Num.vLit 0, tt)) 15 (6 ∷ []) y8
 
   abbrev s21 : Typed.Both T21 T23
   s21 = Relend.k-back-sl (Element.type) T21 17 8 3 6 y4 y5 Row.off (λ x. x) λ x. x
 
   abbrev pub a1 : ArgsT ps·2 (T23 .locals)
-  a1 = (record { pos = 14; ty = y6; ref = λ x. x; }, (Num.vLit 0, (record { pos = 15; st = []; d = 0; at = λ x. x }, (Bool.bAt 9 λ x. x, tt))))
+  a1 = (record { pos = 14; ty = y6; ref = λ x. x }, (Num.vLit 0, (record { pos = 15; st = []; d = 0; at = λ x. x }, (Bool.bAt 9 λ x. x, tt))))
 
   abbrev s23 : Typed.Both T23 T25
   s23 = Call.callB ps·2 r·2 (claims· .4) (claims· .5) T23 a1 10 (5 ∷ []) Syntax.tyUnit
@@ -748,13 +748,13 @@ module _ (claims· : Claims) where
   s35 = Relend.k-sl-aggregate (Element.type) (Relend.asMut (Element.type)) T36 20 21 8 y5 y5 (λ x. x) (Scalar.oFld 8 ((Syntax.field 1) ∷ []) u64 8 λ v. Shared.lenV (v .0))
 
   abbrev s36 : Typed.Both T37 T38
-  s36 = Call.callB ps·1 r·1 (claims· .2) (claims· .3) T37 (record { pos = 21; ty = y5; ref = λ x. x; }, (Num.vLit 1, tt)) 15 (8 ∷ []) y8
+  s36 = Call.callB ps·1 r·1 (claims· .2) (claims· .3) T37 (record { pos = 21; ty = y5; ref = λ x. x }, (Num.vLit 1, tt)) 15 (8 ∷ []) y8
 
   abbrev s38 : Typed.Both T38 T40
   s38 = Relend.k-back-sl (Element.type) T38 21 8 3 8 y4 y5 Row.off (λ x. x) λ x. x
 
   abbrev pub a2 : ArgsT ps·2 (T40 .locals)
-  a2 = (record { pos = 19; ty = y6; ref = λ x. x; }, (Num.vLit 1, (record { pos = 15; st = []; d = 0; at = λ x. x }, (Bool.bAt 9 λ x. x, tt))))
+  a2 = (record { pos = 19; ty = y6; ref = λ x. x }, (Num.vLit 1, (record { pos = 15; st = []; d = 0; at = λ x. x }, (Bool.bAt 9 λ x. x, tt))))
 
   abbrev s40 : Typed.Both T40 T42
   s40 = Call.callB ps·2 r·2 (claims· .4) (claims· .5) T40 a2 10 (7 ∷ []) Syntax.tyUnit
@@ -784,13 +784,13 @@ module _ (claims· : Claims) where
   s52 = Relend.k-sl-aggregate (Element.type) (Relend.asMut (Element.type)) T53 24 25 10 y5 y5 (λ x. x) (Scalar.oFld 8 ((Syntax.field 1) ∷ []) u64 8 λ v. Shared.lenV (v .0))
 
   abbrev s53 : Typed.Both T54 T55
-  s53 = Call.callB ps·1 r·1 (claims· .2) (claims· .3) T54 (record { pos = 25; ty = y5; ref = λ x. x; }, (Num.vLit 2, tt)) 15 (10 ∷ []) y8
+  s53 = Call.callB ps·1 r·1 (claims· .2) (claims· .3) T54 (record { pos = 25; ty = y5; ref = λ x. x }, (Num.vLit 2, tt)) 15 (10 ∷ []) y8
 
   abbrev s55 : Typed.Both T55 T57
   s55 = Relend.k-back-sl (Element.type) T55 25 8 3 10 y4 y5 Row.off (λ x. x) λ x. x
 
   abbrev pub a3 : ArgsT ps·2 (T57 .locals)
-  a3 = (record { pos = 23; ty = y6; ref = λ x. x; }, (Num.vLit 2, (record { pos = 15; st = []; d = 0; at = λ x. x }, (Bool.bAt 9 λ x. x, tt))))
+  a3 = (record { pos = 23; ty = y6; ref = λ x. x }, (Num.vLit 2, (record { pos = 15; st = []; d = 0; at = λ x. x }, (Bool.bAt 9 λ x. x, tt))))
 
   abbrev s57 : Typed.Both T57 T59
   s57 = Call.callB ps·2 r·2 (claims· .4) (claims· .5) T57 a3 10 (9 ∷ []) Syntax.tyUnit
@@ -820,7 +820,7 @@ module _ (claims· : Claims) where
   s68 = Scalar.n-room T69 3 y7
 
   abbrev s69 : Typed.Both T70 T71
-  s69 = Call.callB ps·4 r·4 (claims· .8) (claims· .9) T70 (record { pos = 27; ty = y6; ref = λ x. x; }, (record { pos = 7; ty = y3; ref = λ x. x; }, (Num.vAt 28 λ x. x, tt))) 10 (11 ∷ 2 ∷ [])
+  s69 = Call.callB ps·4 r·4 (claims· .8) (claims· .9) T70 (record { pos = 27; ty = y6; ref = λ x. x }, (record { pos = 7; ty = y3; ref = λ x. x }, (Num.vAt 28 λ x. x, tt))) 10 (11 ∷ 2 ∷ [])
       Syntax.tyUnit
 
   abbrev s70 : Typed.Mo T71 → Typed.Mo T72
@@ -1415,9 +1415,12 @@ module _ (claims· : Claims) where
 
           d12 : Typed.Typed 𝓤 H A 𝓣 E G70 (Syntax.seq b25 b28) Δ0 at12
           d12 = Typed.s-seq 𝓤 H A W 𝓣 E G70 G71 b25 b28 Δ0 (Typed.both s69) at11 (Plain.t-call-plain 𝓤 H A W 𝓣 2 ps·4 r·4 (claims· .8) (claims· .9) "saved_state::store::store_lines" (known .4) E (λ
-              pos β. β) G70 (record { pos = 27; ty = y6; ref = λ x. x; }, (record { pos = 7; ty = y3; ref = λ x. x; }, (Num.vAt 28 λ x. x, tt))) 10 (11 ∷ 2 ∷ []) (Call.sub-id 𝓤 H A W (G70 .slots))
-              (Reads'.as-is 𝓤 H A (Mut.mslice n8 y6 11), Mut.reads-mslice 𝓤 H A W n8 y6 11, Path'.refl,
-              (ShrSlice.spares-sslice 𝓤 H A W n16 y3 2, Shared.reads-sslice 𝓤 H A W n16 y3 2, Path'.refl, ((Scalar.reads-sc 𝓤 H A W (Row.sInt Syntax.w64), Path'.refl), tt))) (Reads'.room-gone 𝓤 H A
+              pos β. β) G70 (record { pos = 27; ty = y6; ref = λ x. x }, (record { pos = 7; ty = y3; ref = λ x. x }, (Num.vAt 28 λ x. x, tt))) 10 (11 ∷ 2 ∷ []) (Call.sub-id 𝓤 H A W (G70 .slots)) (
+                Reads'.as-is 𝓤 H A (Mut.mslice n8 y6 11),
+                Mut.reads-mslice 𝓤 H A W n8 y6 11,
+                Path'.refl,
+                (ShrSlice.spares-sslice 𝓤 H A W n16 y3 2, Shared.reads-sslice 𝓤 H A W n16 y3 2, Path'.refl, ((Scalar.reads-sc 𝓤 H A W (Row.sInt Syntax.w64), Path'.refl), tt)),
+              ) (Reads'.room-gone 𝓤 H A
               Syntax.tyUnit) (tt, (tt, tt)) Path'.refl) d11
 
           d13 : Typed.Typed 𝓤 H A 𝓣 E G69 (Syntax.seq b25 b28) Δ0 at13
@@ -1464,10 +1467,13 @@ module _ (claims· : Claims) where
 
           d24 : Typed.Typed 𝓤 H A 𝓣 E G58 b33 Δ0 at24
           d24 = Typed.s-seq 𝓤 H A W 𝓣 E G58 G59 b21 b32 Δ0 (Typed.both s57) at23 (Plain.t-call-plain 𝓤 H A W 𝓣 1 ps·2 r·2 (claims· .4) (claims· .5) "saved_state::store::store_set" (known .2) E (λ pos
-              β. β) G58 (record { pos = 23; ty = y6; ref = λ x. x; }, (Num.vLit 2, (record { pos = 15; st = []; d = 0; at = λ x. x }, (Bool.bAt 9 λ x. x, tt)))) 10 (9 ∷ []) (Call.sub-id 𝓤 H A W (G58
-              .slots))
-              (Reads'.as-is 𝓤 H A (Mut.mslice n8 y6 9), Mut.reads-mslice 𝓤 H A W n8 y6 9, Path'.refl,
-              (tt, ((Values.struct-copied 𝓤 H A W Set.the-type Laws.the-laws Laws.the-copy, Path'.refl), ((Scalar.reads-sc 𝓤 H A W Row.sBool, Path'.refl), tt)))) (Reads'.room-gone 𝓤 H A Syntax.tyUnit)
+              β. β) G58 (record { pos = 23; ty = y6; ref = λ x. x }, (Num.vLit 2, (record { pos = 15; st = []; d = 0; at = λ x. x }, (Bool.bAt 9 λ x. x, tt)))) 10 (9 ∷ []) (Call.sub-id 𝓤 H A W (G58
+              .slots)) (
+                Reads'.as-is 𝓤 H A (Mut.mslice n8 y6 9),
+                Mut.reads-mslice 𝓤 H A W n8 y6 9,
+                Path'.refl,
+                (tt, ((Values.struct-copied 𝓤 H A W Set.the-type Laws.the-laws Laws.the-copy, Path'.refl), ((Scalar.reads-sc 𝓤 H A W Row.sBool, Path'.refl), tt))),
+              ) (Reads'.room-gone 𝓤 H A Syntax.tyUnit)
               (tt, tt) Path'.refl) d23
 
           d25 : Typed.Typed 𝓤 H A 𝓣 E G57 b33 Δ0 at24
@@ -1482,7 +1488,7 @@ module _ (claims· : Claims) where
 
           d28 : Typed.Typed 𝓤 H A 𝓣 E G54 (Syntax.seq b20 b33) Δ0 at28
           d28 = Typed.s-seq 𝓤 H A W 𝓣 E G54 G55 b20 b33 Δ0 (Typed.both s53) at26 (Plain.t-call-plain 𝓤 H A W 𝓣 1 ps·1 r·1 (claims· .2) (claims· .3) "read_block::records::load_set" (known .1) E (λ pos
-              β. β) G54 (record { pos = 25; ty = y5; ref = λ x. x; }, (Num.vLit 2, tt)) 15 (10 ∷ []) (Call.sub-id 𝓤 H A W (G54 .slots))
+              β. β) G54 (record { pos = 25; ty = y5; ref = λ x. x }, (Num.vLit 2, tt)) 15 (10 ∷ []) (Call.sub-id 𝓤 H A W (G54 .slots))
               (Reads'.as-is 𝓤 H A (Mut.mslice (Element.type) y5 10), Mut.reads-mslice 𝓤 H A W (Element.type) y5 10, Path'.refl, (tt, tt)) (Reads'.room-gone 𝓤 H A y8) (tt, tt) Path'.refl) d27
 
           d29 : Typed.Typed 𝓤 H A 𝓣 E G53 (Syntax.seq b19 (Syntax.seq b20 b33)) Δ0 at29
@@ -1533,10 +1539,13 @@ module _ (claims· : Claims) where
 
           d41 : Typed.Typed 𝓤 H A 𝓣 E G41 b39 Δ0 at41
           d41 = Typed.s-seq 𝓤 H A W 𝓣 E G41 G42 b15 b38 Δ0 (Typed.both s40) at40 (Plain.t-call-plain 𝓤 H A W 𝓣 1 ps·2 r·2 (claims· .4) (claims· .5) "saved_state::store::store_set" (known .2) E (λ pos
-              β. β) G41 (record { pos = 19; ty = y6; ref = λ x. x; }, (Num.vLit 1, (record { pos = 15; st = []; d = 0; at = λ x. x }, (Bool.bAt 9 λ x. x, tt)))) 10 (7 ∷ []) (Call.sub-id 𝓤 H A W (G41
-              .slots))
-              (Reads'.as-is 𝓤 H A (Mut.mslice n8 y6 7), Mut.reads-mslice 𝓤 H A W n8 y6 7, Path'.refl,
-              (tt, ((Values.struct-copied 𝓤 H A W Set.the-type Laws.the-laws Laws.the-copy, Path'.refl), ((Scalar.reads-sc 𝓤 H A W Row.sBool, Path'.refl), tt)))) (Reads'.room-gone 𝓤 H A Syntax.tyUnit)
+              β. β) G41 (record { pos = 19; ty = y6; ref = λ x. x }, (Num.vLit 1, (record { pos = 15; st = []; d = 0; at = λ x. x }, (Bool.bAt 9 λ x. x, tt)))) 10 (7 ∷ []) (Call.sub-id 𝓤 H A W (G41
+              .slots)) (
+                Reads'.as-is 𝓤 H A (Mut.mslice n8 y6 7),
+                Mut.reads-mslice 𝓤 H A W n8 y6 7,
+                Path'.refl,
+                (tt, ((Values.struct-copied 𝓤 H A W Set.the-type Laws.the-laws Laws.the-copy, Path'.refl), ((Scalar.reads-sc 𝓤 H A W Row.sBool, Path'.refl), tt))),
+              ) (Reads'.room-gone 𝓤 H A Syntax.tyUnit)
               (tt, tt) Path'.refl) d40
 
           d42 : Typed.Typed 𝓤 H A 𝓣 E G40 b39 Δ0 at41
@@ -1551,7 +1560,7 @@ module _ (claims· : Claims) where
 
           d45 : Typed.Typed 𝓤 H A 𝓣 E G37 (Syntax.seq b14 b39) Δ0 at45
           d45 = Typed.s-seq 𝓤 H A W 𝓣 E G37 G38 b14 b39 Δ0 (Typed.both s36) at43 (Plain.t-call-plain 𝓤 H A W 𝓣 1 ps·1 r·1 (claims· .2) (claims· .3) "read_block::records::load_set" (known .1) E (λ pos
-              β. β) G37 (record { pos = 21; ty = y5; ref = λ x. x; }, (Num.vLit 1, tt)) 15 (8 ∷ []) (Call.sub-id 𝓤 H A W (G37 .slots))
+              β. β) G37 (record { pos = 21; ty = y5; ref = λ x. x }, (Num.vLit 1, tt)) 15 (8 ∷ []) (Call.sub-id 𝓤 H A W (G37 .slots))
               (Reads'.as-is 𝓤 H A (Mut.mslice (Element.type) y5 8), Mut.reads-mslice 𝓤 H A W (Element.type) y5 8, Path'.refl, (tt, tt)) (Reads'.room-gone 𝓤 H A y8) (tt, tt) Path'.refl) d44
 
           d46 : Typed.Typed 𝓤 H A 𝓣 E G36 (Syntax.seq b13 (Syntax.seq b14 b39)) Δ0 at46
@@ -1602,10 +1611,13 @@ module _ (claims· : Claims) where
 
           d58 : Typed.Typed 𝓤 H A 𝓣 E G24 b45 Δ0 at58
           d58 = Typed.s-seq 𝓤 H A W 𝓣 E G24 G25 b9 b44 Δ0 (Typed.both s23) at57 (Plain.t-call-plain 𝓤 H A W 𝓣 1 ps·2 r·2 (claims· .4) (claims· .5) "saved_state::store::store_set" (known .2) E (λ pos
-              β. β) G24 (record { pos = 14; ty = y6; ref = λ x. x; }, (Num.vLit 0, (record { pos = 15; st = []; d = 0; at = λ x. x }, (Bool.bAt 9 λ x. x, tt)))) 10 (5 ∷ []) (Call.sub-id 𝓤 H A W (G24
-              .slots))
-              (Reads'.as-is 𝓤 H A (Mut.mslice n8 y6 5), Mut.reads-mslice 𝓤 H A W n8 y6 5, Path'.refl,
-              (tt, ((Values.struct-copied 𝓤 H A W Set.the-type Laws.the-laws Laws.the-copy, Path'.refl), ((Scalar.reads-sc 𝓤 H A W Row.sBool, Path'.refl), tt)))) (Reads'.room-gone 𝓤 H A Syntax.tyUnit)
+              β. β) G24 (record { pos = 14; ty = y6; ref = λ x. x }, (Num.vLit 0, (record { pos = 15; st = []; d = 0; at = λ x. x }, (Bool.bAt 9 λ x. x, tt)))) 10 (5 ∷ []) (Call.sub-id 𝓤 H A W (G24
+              .slots)) (
+                Reads'.as-is 𝓤 H A (Mut.mslice n8 y6 5),
+                Mut.reads-mslice 𝓤 H A W n8 y6 5,
+                Path'.refl,
+                (tt, ((Values.struct-copied 𝓤 H A W Set.the-type Laws.the-laws Laws.the-copy, Path'.refl), ((Scalar.reads-sc 𝓤 H A W Row.sBool, Path'.refl), tt))),
+              ) (Reads'.room-gone 𝓤 H A Syntax.tyUnit)
               (tt, tt) Path'.refl) d57
 
           d59 : Typed.Typed 𝓤 H A 𝓣 E G23 b45 Δ0 at58
@@ -1620,7 +1632,7 @@ module _ (claims· : Claims) where
 
           d62 : Typed.Typed 𝓤 H A 𝓣 E G20 (Syntax.seq b8 b45) Δ0 at62
           d62 = Typed.s-seq 𝓤 H A W 𝓣 E G20 G21 b8 b45 Δ0 (Typed.both s19) at60 (Plain.t-call-plain 𝓤 H A W 𝓣 1 ps·1 r·1 (claims· .2) (claims· .3) "read_block::records::load_set" (known .1) E (λ pos
-              β. β) G20 (record { pos = 17; ty = y5; ref = λ x. x; }, (Num.vLit 0, tt)) 15 (6 ∷ []) (Call.sub-id 𝓤 H A W (G20 .slots))
+              β. β) G20 (record { pos = 17; ty = y5; ref = λ x. x }, (Num.vLit 0, tt)) 15 (6 ∷ []) (Call.sub-id 𝓤 H A W (G20 .slots))
               (Reads'.as-is 𝓤 H A (Mut.mslice (Element.type) y5 6), Mut.reads-mslice 𝓤 H A W (Element.type) y5 6, Path'.refl, (tt, tt)) (Reads'.room-gone 𝓤 H A y8) (tt, tt) Path'.refl) d61
 
           d63 : Typed.Typed 𝓤 H A 𝓣 E G19 (Syntax.seq b7 (Syntax.seq b8 b45)) Δ0 at63
@@ -1668,12 +1680,21 @@ module _ (claims· : Claims) where
 
           d74 : Typed.Typed 𝓤 H A 𝓣 E G8 (Syntax.seq b3 b50) Δ0 at74
           d74 = Typed.s-seq 𝓤 H A W 𝓣 E G8 G9 b3 b50 Δ0 (Typed.both s7) at73 (Plain.t-call-plain 𝓤 H A W 𝓣 2 ps·0 r·0 (claims· .0) (claims· .1) "saved_state::head::store_head" (known .0) E (λ pos β.
-              β) G8 (record { pos = 12; ty = y6; ref = λ x. x; }, (record { pos = 2; ty = y2; ref = λ x. x; }, (Num.vAt 4 λ x. x, (Num.vAt 5 λ x. x, (Num.vAt 6 λ x. x, tt))))) 10 (4 ∷ 1 ∷ []) (Call.sub-id
-              𝓤 H A W (G8 .slots))
-              (Reads'.as-is 𝓤 H A (Mut.mslice n8 y6 4), Mut.reads-mslice 𝓤 H A W n8 y6 4, Path'.refl,
-              (ShrSlice.spares-sslice 𝓤 H A W n8 y2 1, Shared.reads-sslice 𝓤 H A W n8 y2 1, Path'.refl,
-              ((Scalar.reads-sc 𝓤 H A W (Row.sInt Syntax.w64), Path'.refl),
-              ((Scalar.reads-sc 𝓤 H A W (Row.sInt Syntax.w64), Path'.refl), ((Scalar.reads-sc 𝓤 H A W (Row.sInt Syntax.w64), Path'.refl), tt))))) (Reads'.room-gone 𝓤 H A Syntax.tyUnit) (tt, (tt, tt))
+              β) G8 (record { pos = 12; ty = y6; ref = λ x. x }, (record { pos = 2; ty = y2; ref = λ x. x }, (Num.vAt 4 λ x. x, (Num.vAt 5 λ x. x, (Num.vAt 6 λ x. x, tt))))) 10 (4 ∷ 1 ∷ []) (Call.sub-id
+              𝓤 H A W (G8 .slots)) (
+                Reads'.as-is 𝓤 H A (Mut.mslice n8 y6 4),
+                Mut.reads-mslice 𝓤 H A W n8 y6 4,
+                Path'.refl,
+                (
+                  ShrSlice.spares-sslice 𝓤 H A W n8 y2 1,
+                  Shared.reads-sslice 𝓤 H A W n8 y2 1,
+                  Path'.refl,
+                  (
+                    (Scalar.reads-sc 𝓤 H A W (Row.sInt Syntax.w64), Path'.refl),
+                    ((Scalar.reads-sc 𝓤 H A W (Row.sInt Syntax.w64), Path'.refl), ((Scalar.reads-sc 𝓤 H A W (Row.sInt Syntax.w64), Path'.refl), tt)),
+                  ),
+                ),
+              ) (Reads'.room-gone 𝓤 H A Syntax.tyUnit) (tt, (tt, tt))
               Path'.refl) d73
 
           d75 : Typed.Typed 𝓤 H A 𝓣 E G7 (Syntax.seq b2 (Syntax.seq b3 b50)) Δ0 at75
@@ -1734,9 +1755,12 @@ module _ (claims· : Claims) where
       m0 = λ κs args. (tt, Enter.partsP κs 1 ps xs (dens κs args))
 
       abbrev W0 : (κs : Lifetimes.Lfts 4) → (args : Args κs) → Typed.Want O0
-      W0 = λ κs args.
-          (λ u. ⊥, tt, λ u. Enter.Fixs κs 1 ps xs (dens κs args) (u .1) × Post· κs (dens κs args) (Function.resV r κs (u .0)) (Clauses.atExit (Kinds.endedOf 4 ps r) κs (dens κs args) (Enter.lastsP κs 1 ps
-          xs (dens κs args) (u .1))))
+      W0 = λ κs args. (
+        λ u. ⊥,
+        tt,
+        λ u. Enter.Fixs κs 1 ps xs (dens κs args) (u .1) × Post· κs (dens κs args) (Function.resV r κs (u .0)) (Clauses.atExit (Kinds.endedOf 4 ps r) κs (dens κs args) (Enter.lastsP κs 1 ps
+            xs (dens κs args) (u .1))),
+      )
 
       pub record Start : Type 0 where
         pub κs : Lifetimes.Lfts 4
@@ -1864,7 +1888,7 @@ module _ (claims· : Claims) where
 
       module _ (before· : After-load-set-arg) where
         abbrev pub After-load-set·own : Type 0
-        After-load-set·own = Called.Called ps·1 r·1 (claims· .3) T20 (record { pos = 17; ty = y5; ref = λ x. x; }, (Num.vLit 0, tt)) (m14 (before· .before) (before· .load-set-arg .given))
+        After-load-set·own = Called.Called ps·1 r·1 (claims· .3) T20 (record { pos = 17; ty = y5; ref = λ x. x }, (Num.vLit 0, tt)) (m14 (before· .before) (before· .load-set-arg .given))
 
       pub record After-load-set : Type 0 where
         pub before : After-load-set-arg
@@ -1874,7 +1898,7 @@ module _ (claims· : Claims) where
       After-load-set·start = λ c. c .before .before .before .before .before .before .before .before .before .before
 
       abbrev pub After-load-set·gave : (c : After-load-set) → s19 .gives (m14 (c .before .before) (c .before .load-set-arg .given))
-      After-load-set·gave = λ c. Called.given ps·1 r·1 (claims· .3) T20 (record { pos = 17; ty = y5; ref = λ x. x; }, (Num.vLit 0, tt)) (m14 (c .before .before) (c .before .load-set-arg .given)) (c
+      After-load-set·gave = λ c. Called.given ps·1 r·1 (claims· .3) T20 (record { pos = 17; ty = y5; ref = λ x. x }, (Num.vLit 0, tt)) (m14 (c .before .before) (c .before .load-set-arg .given)) (c
           .load-set)
 
       abbrev pub m16 : (before : After-load-set) → (given : s21 .gives (m15 (before .before) (After-load-set·gave before))) → Typed.Mo T23
@@ -1963,7 +1987,7 @@ module _ (claims· : Claims) where
 
       module _ (before· : After-load-set-arg2) where
         abbrev pub After-load-set2·own : Type 0
-        After-load-set2·own = Called.Called ps·1 r·1 (claims· .3) T37 (record { pos = 21; ty = y5; ref = λ x. x; }, (Num.vLit 1, tt)) (m25 (before· .before) (before· .load-set-arg2 .given))
+        After-load-set2·own = Called.Called ps·1 r·1 (claims· .3) T37 (record { pos = 21; ty = y5; ref = λ x. x }, (Num.vLit 1, tt)) (m25 (before· .before) (before· .load-set-arg2 .given))
 
       pub record After-load-set2 : Type 0 where
         pub before : After-load-set-arg2
@@ -1973,7 +1997,7 @@ module _ (claims· : Claims) where
       After-load-set2·start = λ c. c .before .before .before .before .before .before .before .before .before .before .before .before .before .before .before .before .before
 
       abbrev pub After-load-set2·gave : (c : After-load-set2) → s36 .gives (m25 (c .before .before) (c .before .load-set-arg2 .given))
-      After-load-set2·gave = λ c. Called.given ps·1 r·1 (claims· .3) T37 (record { pos = 21; ty = y5; ref = λ x. x; }, (Num.vLit 1, tt)) (m25 (c .before .before) (c .before .load-set-arg2 .given)) (c
+      After-load-set2·gave = λ c. Called.given ps·1 r·1 (claims· .3) T37 (record { pos = 21; ty = y5; ref = λ x. x }, (Num.vLit 1, tt)) (m25 (c .before .before) (c .before .load-set-arg2 .given)) (c
           .load-set2)
 
       abbrev pub m27 : (before : After-load-set2) → (given : s38 .gives (m26 (before .before) (After-load-set2·gave before))) → Typed.Mo T40
@@ -2062,7 +2086,7 @@ module _ (claims· : Claims) where
 
       module _ (before· : After-load-set-arg3) where
         abbrev pub After-load-set3·own : Type 0
-        After-load-set3·own = Called.Called ps·1 r·1 (claims· .3) T54 (record { pos = 25; ty = y5; ref = λ x. x; }, (Num.vLit 2, tt)) (m36 (before· .before) (before· .load-set-arg3 .given))
+        After-load-set3·own = Called.Called ps·1 r·1 (claims· .3) T54 (record { pos = 25; ty = y5; ref = λ x. x }, (Num.vLit 2, tt)) (m36 (before· .before) (before· .load-set-arg3 .given))
 
       pub record After-load-set3 : Type 0 where
         pub before : After-load-set-arg3
@@ -2073,7 +2097,7 @@ module _ (claims· : Claims) where
           .before .before .before .before
 
       abbrev pub After-load-set3·gave : (c : After-load-set3) → s53 .gives (m36 (c .before .before) (c .before .load-set-arg3 .given))
-      After-load-set3·gave = λ c. Called.given ps·1 r·1 (claims· .3) T54 (record { pos = 25; ty = y5; ref = λ x. x; }, (Num.vLit 2, tt)) (m36 (c .before .before) (c .before .load-set-arg3 .given)) (c
+      After-load-set3·gave = λ c. Called.given ps·1 r·1 (claims· .3) T54 (record { pos = 25; ty = y5; ref = λ x. x }, (Num.vLit 2, tt)) (m36 (c .before .before) (c .before .load-set-arg3 .given)) (c
           .load-set3)
 
       abbrev pub m38 : (before : After-load-set3) → (given : s55 .gives (m37 (before .before) (After-load-set3·gave before))) → Typed.Mo T57
@@ -2178,7 +2202,7 @@ module _ (claims· : Claims) where
 
       module _ (before· : After-width) where
         abbrev pub After-store-lines·own : Type 0
-        After-store-lines·own = Called.Called ps·4 r·4 (claims· .9) T70 (record { pos = 27; ty = y6; ref = λ x. x; }, (record { pos = 7; ty = y3; ref = λ x. x; }, (Num.vAt 28 λ x. x, tt))) (m47
+        After-store-lines·own = Called.Called ps·4 r·4 (claims· .9) T70 (record { pos = 27; ty = y6; ref = λ x. x }, (record { pos = 7; ty = y3; ref = λ x. x }, (Num.vAt 28 λ x. x, tt))) (m47
             (before· .before) (After-width·gave before·))
 
       pub record After-store-lines : Type 0 where
@@ -2190,7 +2214,7 @@ module _ (claims· : Claims) where
           .before .before .before .before .before .before .before .before .before .before .before
 
       abbrev pub After-store-lines·gave : (c : After-store-lines) → s69 .gives (m47 (c .before .before) (After-width·gave (c .before)))
-      After-store-lines·gave = λ c. Called.given ps·4 r·4 (claims· .9) T70 (record { pos = 27; ty = y6; ref = λ x. x; }, (record { pos = 7; ty = y3; ref = λ x. x; }, (Num.vAt 28 λ x. x, tt))) (m47 (c
+      After-store-lines·gave = λ c. Called.given ps·4 r·4 (claims· .9) T70 (record { pos = 27; ty = y6; ref = λ x. x }, (record { pos = 7; ty = y3; ref = λ x. x }, (Num.vAt 28 λ x. x, tt))) (m47 (c
           .before .before) (After-width·gave (c .before))) (c .store-lines)
 
       abbrev pub m50 : (before : After-width) → (given : s69 .gives (m47 (before .before) (After-width·gave before))) → Typed.Mo T73
@@ -2252,89 +2276,155 @@ module _ (claims· : Claims) where
           Need-load-set-requires-2) (store-set-requires-2 : Need-store-set-requires-2) (load-set-requires-3 : Need-load-set-requires-3) (store-set-requires-3 : Need-store-set-requires-3) (width-requires :
           Need-width-requires) (store-lines-requires : Need-store-lines-requires) (same-length : Need-same-length) (same-length-2 : Need-same-length-2) (returns : Need-returns) where
         lay9 : (c : After-store-lines) → at11 (W0 (After-store-lines·start c .κs) (After-store-lines·start c .args)) (m48 (c .before) (After-store-lines·gave c))
-        lay9 = λ c.
-            (Path'.refl, λ g. let c1 : After-state5 = record { before = c; state5 = record { given = g }; } in λ g'. let c2 : After-slice-known6 = record
-            { before = c1; slice-known6 = record { given = g' }; } in
-            ((MutSlice.fix-len (Row.get 1 (T1 .locals) (m57 c1 g') .ptr) (Row.get 1 (T1 .locals) (m57 c1 g') .name) (Row.get 1 (T1 .locals) (m57 c1 g') .now) (dens (After-store-lines·start c .κs)
-            (After-store-lines·start c .args) .0 .now) (same-length c2),
-            (Path'.refl,
-            (tt,
-            (tt,
-            (tt,
-            (tt,
-            (Path'.refl,
-            (MutSlice.fix-len (Row.get 8 (T1 .locals) (m57 c1 g') .ptr) (Row.get 8 (T1 .locals) (m57 c1 g') .name) (Row.get 8 (T1 .locals) (m57 c1 g') .now) (dens (After-store-lines·start c .κs)
-            (After-store-lines·start c .args) .1 .1 .1 .1 .1 .1 .1 .0 .now) (same-length-2 c2), tt)))))))), returns c2))
+        lay9 = λ c. (
+          Path'.refl,
+          λ g. let c1 : After-state5 = record { before = c; state5 = record { given = g } } in λ g'. let c2 : After-slice-known6 = record
+              { before = c1; slice-known6 = record { given = g' } } in (
+                (
+                  MutSlice.fix-len (Row.get 1 (T1 .locals) (m57 c1 g') .ptr) (Row.get 1 (T1 .locals) (m57 c1 g') .name) (Row.get 1 (T1 .locals) (m57 c1 g') .now) (dens (After-store-lines·start c .κs)
+                      (After-store-lines·start c .args) .0 .now) (same-length c2),
+                  (
+                    Path'.refl,
+                    (
+                      tt,
+                      (
+                        tt,
+                        (
+                          tt,
+                          (
+                            tt,
+                            (
+                              Path'.refl,
+                              (
+                                MutSlice.fix-len (Row.get 8 (T1 .locals) (m57 c1 g') .ptr) (Row.get 8 (T1 .locals) (m57 c1 g') .name) (Row.get 8 (T1 .locals) (m57 c1 g') .now) (dens (After-store-lines·start c .κs)
+                                    (After-store-lines·start c .args) .1 .1 .1 .1 .1 .1 .1 .0 .now) (same-length-2 c2),
+                                tt,
+                              ),
+                            ),
+                          ),
+                        ),
+                      ),
+                    ),
+                  ),
+                ),
+                returns c2,
+              ),
+        )
 
         lay8 : (c : After-width) → at13 (W0 (After-width·start c .κs) (After-width·start c .args)) (m46 (c .before) (After-width·gave c))
-        lay8 = λ c.
-            (store-lines-requires c, λ g. lay9 record
-            { before = c; store-lines = Called.called ps·4 r·4 (claims· .9) T70 (record { pos = 27; ty = y6; ref = λ x. x; }, (record { pos = 7; ty = y3; ref = λ x. x; }, (Num.vAt 28 λ x. x, tt))) (m47 (c
-            .before) (After-width·gave c)) g; })
+        lay8 = λ c. (
+          store-lines-requires c,
+          λ g. lay9 record {
+            before = c;
+            store-lines = Called.called ps·4 r·4 (claims· .9) T70 (record { pos = 27; ty = y6; ref = λ x. x }, (record { pos = 7; ty = y3; ref = λ x. x }, (Num.vAt 28 λ x. x, tt))) (m47 (c
+                .before) (After-width·gave c)) g;
+          },
+        )
 
         lay7 : (c : After-store-set3) → at23 (W0 (After-store-set3·start c .κs) (After-store-set3·start c .args)) (m39 (c .before) (After-store-set3·gave c))
-        lay7 = λ c.
-            (Path'.refl, λ g. let c1 : After-state4 = record { before = c; state4 = record { given = g }; } in λ g'. let c2 : After-slice-known5 = record
-            { before = c1; slice-known5 = record { given = g' }; } in λ g''. let c3 : After-store-lines-arg = record { before = c2; store-lines-arg = record { given = g'' }; } in
-            (Path'.refl,
-            (width-requires c3, λ g'3. lay8 record
-            { before = c3; width = Called.called ps·3 r·3 (claims· .7) T68 (Bool.bFld 3 ((Syntax.field 1) ∷ []) 1 λ x. FujiHeader.struct .as-values x .1 .0, tt) (m45 c2 g'') g'3; })))
+        lay7 = λ c. (
+          Path'.refl,
+          λ g. let c1 : After-state4 = record { before = c; state4 = record { given = g } } in λ g'. let c2 : After-slice-known5 = record
+              { before = c1; slice-known5 = record { given = g' } } in λ g''. let c3 : After-store-lines-arg = record { before = c2; store-lines-arg = record { given = g'' } } in (
+                Path'.refl,
+                (
+                  width-requires c3,
+                  λ g'3. lay8 record
+                      { before = c3; width = Called.called ps·3 r·3 (claims· .7) T68 (Bool.bFld 3 ((Syntax.field 1) ∷ []) 1 λ x. FujiHeader.struct .as-values x .1 .0, tt) (m45 c2 g'') g'3 },
+                ),
+              ),
+        )
 
         lay6 : (c : After-load-set3) → at26 (W0 (After-load-set3·start c .κs) (After-load-set3·start c .args)) (m37 (c .before) (After-load-set3·gave c))
-        lay6 = λ c.
-            (Path'.refl, λ g. let c1 : After-rs3 = record { before = c; rs3 = record { given = g }; } in
-            (store-set-requires-3 c1, λ g'. lay7 record { before = c1; store-set3 = Called.called ps·2 r·2 (claims· .5) T57 a3 (m38 c g) g'; }))
+        lay6 = λ c. (
+          Path'.refl,
+          λ g. let c1 : After-rs3 = record { before = c; rs3 = record { given = g } } in
+              (store-set-requires-3 c1, λ g'. lay7 record { before = c1; store-set3 = Called.called ps·2 r·2 (claims· .5) T57 a3 (m38 c g) g' }),
+        )
 
         lay5 : (c : After-store-set2) → at40 (W0 (After-store-set2·start c .κs) (After-store-set2·start c .args)) (m28 (c .before) (After-store-set2·gave c))
-        lay5 = λ c.
-            (Path'.refl, λ g. let c1 : After-state3 = record { before = c; state3 = record { given = g }; } in λ g'. let c2 : After-slice-known4 = record
-            { before = c1; slice-known4 = record { given = g' }; } in λ g''. let c3 : After-store-set-arg3 = record { before = c2; store-set-arg3 = record { given = g'' }; } in
-            (Path'.refl, λ g'3. let c4 : After-load-set-arg3 = record { before = c3; load-set-arg3 = record { given = g'3 }; } in
-            (Path'.refl,
-            (load-set-requires-3 c4, λ g'4. lay6 record
-            { before = c4; load-set3 = Called.called ps·1 r·1 (claims· .3) T54 (record { pos = 25; ty = y5; ref = λ x. x; }, (Num.vLit 2, tt)) (m36 c3 g'3) g'4; }))))
+        lay5 = λ c. (
+          Path'.refl,
+          λ g. let c1 : After-state3 = record { before = c; state3 = record { given = g } } in λ g'. let c2 : After-slice-known4 = record
+              { before = c1; slice-known4 = record { given = g' } } in λ g''. let c3 : After-store-set-arg3 = record { before = c2; store-set-arg3 = record { given = g'' } } in (
+                Path'.refl,
+                λ g'3. let c4 : After-load-set-arg3 = record { before = c3; load-set-arg3 = record { given = g'3 } } in (
+                  Path'.refl,
+                  (
+                    load-set-requires-3 c4,
+                    λ g'4. lay6 record
+                        { before = c4; load-set3 = Called.called ps·1 r·1 (claims· .3) T54 (record { pos = 25; ty = y5; ref = λ x. x }, (Num.vLit 2, tt)) (m36 c3 g'3) g'4 },
+                  ),
+                ),
+              ),
+        )
 
         lay4 : (c : After-load-set2) → at43 (W0 (After-load-set2·start c .κs) (After-load-set2·start c .args)) (m26 (c .before) (After-load-set2·gave c))
-        lay4 = λ c.
-            (Path'.refl, λ g. let c1 : After-rs2 = record { before = c; rs2 = record { given = g }; } in
-            (store-set-requires-2 c1, λ g'. lay5 record { before = c1; store-set2 = Called.called ps·2 r·2 (claims· .5) T40 a2 (m27 c g) g'; }))
+        lay4 = λ c. (
+          Path'.refl,
+          λ g. let c1 : After-rs2 = record { before = c; rs2 = record { given = g } } in
+              (store-set-requires-2 c1, λ g'. lay5 record { before = c1; store-set2 = Called.called ps·2 r·2 (claims· .5) T40 a2 (m27 c g) g' }),
+        )
 
         lay3 : (c : After-store-set) → at57 (W0 (After-store-set·start c .κs) (After-store-set·start c .args)) (m17 (c .before) (After-store-set·gave c))
-        lay3 = λ c.
-            (Path'.refl, λ g. let c1 : After-state2 = record { before = c; state2 = record { given = g }; } in λ g'. let c2 : After-slice-known3 = record
-            { before = c1; slice-known3 = record { given = g' }; } in λ g''. let c3 : After-store-set-arg2 = record { before = c2; store-set-arg2 = record { given = g'' }; } in
-            (Path'.refl, λ g'3. let c4 : After-load-set-arg2 = record { before = c3; load-set-arg2 = record { given = g'3 }; } in
-            (Path'.refl,
-            (load-set-requires-2 c4, λ g'4. lay4 record
-            { before = c4; load-set2 = Called.called ps·1 r·1 (claims· .3) T37 (record { pos = 21; ty = y5; ref = λ x. x; }, (Num.vLit 1, tt)) (m25 c3 g'3) g'4; }))))
+        lay3 = λ c. (
+          Path'.refl,
+          λ g. let c1 : After-state2 = record { before = c; state2 = record { given = g } } in λ g'. let c2 : After-slice-known3 = record
+              { before = c1; slice-known3 = record { given = g' } } in λ g''. let c3 : After-store-set-arg2 = record { before = c2; store-set-arg2 = record { given = g'' } } in (
+                Path'.refl,
+                λ g'3. let c4 : After-load-set-arg2 = record { before = c3; load-set-arg2 = record { given = g'3 } } in (
+                  Path'.refl,
+                  (
+                    load-set-requires-2 c4,
+                    λ g'4. lay4 record
+                        { before = c4; load-set2 = Called.called ps·1 r·1 (claims· .3) T37 (record { pos = 21; ty = y5; ref = λ x. x }, (Num.vLit 1, tt)) (m25 c3 g'3) g'4 },
+                  ),
+                ),
+              ),
+        )
 
         lay2 : (c : After-load-set) → at60 (W0 (After-load-set·start c .κs) (After-load-set·start c .args)) (m15 (c .before) (After-load-set·gave c))
-        lay2 = λ c.
-            (Path'.refl, λ g. let c1 : After-rs = record { before = c; rs = record { given = g }; } in
-            (store-set-requires c1, λ g'. lay3 record { before = c1; store-set = Called.called ps·2 r·2 (claims· .5) T23 a1 (m16 c g) g'; }))
+        lay2 = λ c. (
+          Path'.refl,
+          λ g. let c1 : After-rs = record { before = c; rs = record { given = g } } in
+              (store-set-requires c1, λ g'. lay3 record { before = c1; store-set = Called.called ps·2 r·2 (claims· .5) T23 a1 (m16 c g) g' }),
+        )
 
         lay1 : (c : After-store-head) → at73 (W0 (After-store-head·start c .κs) (After-store-head·start c .args)) (m7 (c .before) (After-store-head·gave c))
-        lay1 = λ c.
-            (Path'.refl, λ g. let c1 : After-state = record { before = c; state = record { given = g }; } in λ g'. let c2 : After-slice-known2 = record
-            { before = c1; slice-known2 = record { given = g' }; } in λ g''. let c3 : After-store-set-arg = record { before = c2; store-set-arg = record { given = g'' }; } in
-            (Path'.refl, λ g'3. let c4 : After-load-set-arg = record { before = c3; load-set-arg = record { given = g'3 }; } in
-            (Path'.refl,
-            (load-set-requires c4, λ g'4. lay2 record
-            { before = c4; load-set = Called.called ps·1 r·1 (claims· .3) T20 (record { pos = 17; ty = y5; ref = λ x. x; }, (Num.vLit 0, tt)) (m14 c3 g'3) g'4; }))))
+        lay1 = λ c. (
+          Path'.refl,
+          λ g. let c1 : After-state = record { before = c; state = record { given = g } } in λ g'. let c2 : After-slice-known2 = record
+              { before = c1; slice-known2 = record { given = g' } } in λ g''. let c3 : After-store-set-arg = record { before = c2; store-set-arg = record { given = g'' } } in (
+                Path'.refl,
+                λ g'3. let c4 : After-load-set-arg = record { before = c3; load-set-arg = record { given = g'3 } } in (
+                  Path'.refl,
+                  (
+                    load-set-requires c4,
+                    λ g'4. lay2 record
+                        { before = c4; load-set = Called.called ps·1 r·1 (claims· .3) T20 (record { pos = 17; ty = y5; ref = λ x. x }, (Num.vLit 0, tt)) (m14 c3 g'3) g'4 },
+                  ),
+                ),
+              ),
+        )
 
         pub laid : (c : Start) → at81 (W0 (c .κs) (c .args)) (m0 (c .κs) (c .args))
         laid = λ c. λ g. let c1 : After-slice-known = record { before = c; slice-known = record { given = g } } in λ g'. let c2 : After-shared-slice-known = record
-            { before = c1; shared-slice-known = record { given = g' }; } in λ g''. let c3 : After-shared-slice-known2 = record { before = c2; shared-slice-known2 = record { given = g'' }; } in λ g'3. let
-            c4 : After-store-head-arg = record { before = c3; store-head-arg = record { given = g'3 }; } in
-            (Path'.refl, (store-head-requires c4, λ g'4. lay1 record { before = c4; store-head = Called.called ps·0 r·0 (claims· .1) T8 a0 (m6 c3 g'3) g'4; }))
+            { before = c1; shared-slice-known = record { given = g' } } in λ g''. let c3 : After-shared-slice-known2 = record { before = c2; shared-slice-known2 = record { given = g'' } } in λ g'3. let
+            c4 : After-store-head-arg = record { before = c3; store-head-arg = record { given = g'3 } } in
+            (Path'.refl, (store-head-requires c4, λ g'4. lay1 record { before = c4; store-head = Called.called ps·0 r·0 (claims· .1) T8 a0 (m6 c3 g'3) g'4 }))
 
         module _ (κs : Lifetimes.Lfts 4) (qs : Lifetimes.Shares 4) where
           pub asked : (a : Kinds.Dens κs ps) → (good : Kinds.GoodsP κs ps a) → (pre : Pre· κs a) → (bs : List.List Nat.ℕ) → Φ (Any.wantQ 4 ps r xs m κs qs a (Post· κs a)) (Function.init 4 ps r xs m κs
               qs a)
-          asked = λ a good pre bs. laid record
-              { κs = κs; args = record
-              { state = a .0; d = a .1 .0; h = a .1 .1 .0; b = a .1 .1 .1 .0; line = a .1 .1 .1 .1 .0; at = a .1 .1 .1 .1 .1 .0; lines = a .1 .1 .1 .1 .1 .1 .0; rs = a .1 .1 .1 .1 .1 .1 .1 .0; }; good =
-              good; fits = record { b = record { fits = good .1 .1 .1 .0 .1 }; line = record { fits = good .1 .1 .1 .1 .0 .1 }; at = record { fits = good .1 .1 .1 .1 .1 .0 .1 }; }; pre = pre; }
+          asked = λ a good pre bs. laid record {
+            κs = κs;
+            args = record
+                { state = a .0; d = a .1 .0; h = a .1 .1 .0; b = a .1 .1 .1 .0; line = a .1 .1 .1 .1 .0; at = a .1 .1 .1 .1 .1 .0; lines = a .1 .1 .1 .1 .1 .1 .0; rs = a .1 .1 .1 .1 .1 .1 .1 .0 };
+            good =
+                good;
+            fits = record { b = record { fits = good .1 .1 .1 .0 .1 }; line = record { fits = good .1 .1 .1 .1 .0 .1 }; at = record { fits = good .1 .1 .1 .1 .1 .0 .1 } };
+            pre = pre;
+          }
 
         module _ {M : Type 1} (𝓤 : URA.URA M) (H : Wp.Heap 𝓤) (A : Atoms.Atoms 𝓤) (W : Kit.Given 𝓤 H A) (𝓣 : Wp.Tables 𝓤 H) (known0 : Plain.Known 𝓤 H A W 𝓣 2 ps·0 r·0 (claims· .0) (claims· .1)
             "saved_state::head::store_head") (known1 : Plain.Known 𝓤 H A W 𝓣 1 ps·1 r·1 (claims· .2) (claims· .3) "read_block::records::load_set") (known2 : Plain.Known 𝓤 H A W 𝓣 1 ps·2 r·2 (claims· .4)

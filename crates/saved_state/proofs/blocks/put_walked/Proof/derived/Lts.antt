@@ -402,12 +402,19 @@ module _ (claims· : Claims) where
   s15 = Relend.k-sl-aggregate (Element.type) (Relend.asMut (Element.type)) T17 13 14 5 y4 y4 (λ x. x) (Scalar.oFld 8 ((Syntax.field 1) ∷ []) u64 8 λ v. Shared.lenV (v .0))
 
   abbrev pub a0 : ArgsT ps·0 (T18 .locals)
-  a0 =
-      (record { pos = 12; ty = y5; ref = λ x. x; },
-      (record { pos = 2; ty = y1; ref = λ x. x; },
-      (record { pos = 3; st = []; d = 0; at = λ x. x },
-      (Num.vAt 4 λ x. x,
-      (Num.vAt 5 λ x. x, (Num.vFld 9 ((Syntax.field 0) ∷ []) 0 λ x. Totals.struct .as-values x .0, (record { pos = 7; ty = y2; ref = λ x. x; }, (record { pos = 14; ty = y4; ref = λ x. x; }, tt))))))))
+  a0 = (
+    record { pos = 12; ty = y5; ref = λ x. x },
+    (
+      record { pos = 2; ty = y1; ref = λ x. x },
+      (
+        record { pos = 3; st = []; d = 0; at = λ x. x },
+        (
+          Num.vAt 4 λ x. x,
+          (Num.vAt 5 λ x. x, (Num.vFld 9 ((Syntax.field 0) ∷ []) 0 λ x. Totals.struct .as-values x .0, (record { pos = 7; ty = y2; ref = λ x. x }, (record { pos = 14; ty = y4; ref = λ x. x }, tt)))),
+        ),
+      ),
+    ),
+  )
 
   abbrev s16 : Typed.Both T18 T19
   s16 = Call.callB ps·0 r·0 (claims· .0) (claims· .1) T18 a0 10 (4 ∷ 1 ∷ 2 ∷ 5 ∷ []) Syntax.tyUnit
@@ -659,22 +666,50 @@ module _ (claims· : Claims) where
               G23 b6 (λ Ψ. Typed.both s16 (Typed.pass T19 T20 s17 (Typed.pass T20 T21 s18 (Typed.pass T21 T22 s19 Ψ)))) (λ Ψ. Ψ) (Typed.g-post 𝓤 H A W 𝓣 E G18 G21 G22 b6 (λ Ψ. Typed.both s16 (Typed.pass
               T19 T20 s17 (Typed.pass T20 T21 s18 Ψ))) (Typed.pass T21 T22 s19) (Typed.g-post 𝓤 H A W 𝓣 E G18 G20 G21 b6 (λ Ψ. Typed.both s16 (Typed.pass T19 T20 s17 Ψ)) (Typed.pass T20 T21 s18)
               (Typed.g-post 𝓤 H A W 𝓣 E G18 G19 G20 b6 (Typed.both s16) (Typed.pass T19 T20 s17) (Plain.t-call-plain 𝓤 H A W 𝓣 4 ps·0 r·0 (claims· .0) (claims· .1) "saved_state::blocks::put_state" known E
-              (λ pos β. β) G18
-              (record { pos = 12; ty = y5; ref = λ x. x; },
-              (record { pos = 2; ty = y1; ref = λ x. x; },
-              (record { pos = 3; st = []; d = 0; at = λ x. x },
-              (Num.vAt 4 λ x. x,
-              (Num.vAt 5 λ x. x,
-              (Num.vFld 9 ((Syntax.field 0) ∷ []) 0 λ x. Totals.struct .as-values x .0, (record { pos = 7; ty = y2; ref = λ x. x; }, (record { pos = 14; ty = y4; ref = λ x. x; }, tt)))))))) 10 (4 ∷ 1 ∷ 2
-              ∷ 5 ∷ []) (Call.sub-id 𝓤 H A W (G18 .slots))
-              (Reads'.as-is 𝓤 H A (Mut.mslice n8 y5 4), Mut.reads-mslice 𝓤 H A W n8 y5 4, Path'.refl,
-              (ShrSlice.spares-sslice 𝓤 H A W n8 y1 1, Shared.reads-sslice 𝓤 H A W n8 y1 1, Path'.refl,
-              ((Values.struct-copied 𝓤 H A W FujiHeader.the-type Laws'3.the-laws Laws'3.the-copy, Path'.refl),
-              ((Scalar.reads-sc 𝓤 H A W (Row.sInt Syntax.w64), Path'.refl),
-              ((Scalar.reads-sc 𝓤 H A W (Row.sInt Syntax.w64), Path'.refl),
-              ((Reads.reads-field 𝓤 H A W Totals.the-type Laws'.the-laws 0 u64 0 Path'.refl, Path'.refl),
-              (ShrSlice.spares-sslice 𝓤 H A W n16 y2 2, Shared.reads-sslice 𝓤 H A W n16 y2 2, Path'.refl,
-              (Reads'.as-is 𝓤 H A (Mut.mslice (Element.type) y4 5), Mut.reads-mslice 𝓤 H A W (Element.type) y4 5, Path'.refl, tt)))))))) (Reads'.room-gone 𝓤 H A Syntax.tyUnit) (tt, (tt, (tt, (tt, tt))))
+              (λ pos β. β) G18 (
+                record { pos = 12; ty = y5; ref = λ x. x },
+                (
+                  record { pos = 2; ty = y1; ref = λ x. x },
+                  (
+                    record { pos = 3; st = []; d = 0; at = λ x. x },
+                    (
+                      Num.vAt 4 λ x. x,
+                      (
+                        Num.vAt 5 λ x. x,
+                        (Num.vFld 9 ((Syntax.field 0) ∷ []) 0 λ x. Totals.struct .as-values x .0, (record { pos = 7; ty = y2; ref = λ x. x }, (record { pos = 14; ty = y4; ref = λ x. x }, tt))),
+                      ),
+                    ),
+                  ),
+                ),
+              ) 10 (4 ∷ 1 ∷ 2
+              ∷ 5 ∷ []) (Call.sub-id 𝓤 H A W (G18 .slots)) (
+                Reads'.as-is 𝓤 H A (Mut.mslice n8 y5 4),
+                Mut.reads-mslice 𝓤 H A W n8 y5 4,
+                Path'.refl,
+                (
+                  ShrSlice.spares-sslice 𝓤 H A W n8 y1 1,
+                  Shared.reads-sslice 𝓤 H A W n8 y1 1,
+                  Path'.refl,
+                  (
+                    (Values.struct-copied 𝓤 H A W FujiHeader.the-type Laws'3.the-laws Laws'3.the-copy, Path'.refl),
+                    (
+                      (Scalar.reads-sc 𝓤 H A W (Row.sInt Syntax.w64), Path'.refl),
+                      (
+                        (Scalar.reads-sc 𝓤 H A W (Row.sInt Syntax.w64), Path'.refl),
+                        (
+                          (Reads.reads-field 𝓤 H A W Totals.the-type Laws'.the-laws 0 u64 0 Path'.refl, Path'.refl),
+                          (
+                            ShrSlice.spares-sslice 𝓤 H A W n16 y2 2,
+                            Shared.reads-sslice 𝓤 H A W n16 y2 2,
+                            Path'.refl,
+                            (Reads'.as-is 𝓤 H A (Mut.mslice (Element.type) y4 5), Mut.reads-mslice 𝓤 H A W (Element.type) y4 5, Path'.refl, tt),
+                          ),
+                        ),
+                      ),
+                    ),
+                  ),
+                ),
+              ) (Reads'.room-gone 𝓤 H A Syntax.tyUnit) (tt, (tt, (tt, (tt, tt))))
               Path'.refl) (Scalar.g-room 𝓤 H A W E G19 3 y7 (Local.room-whole 𝓤 H A W (Declared'.row FujiHeader.the-type) y7 Path'.refl))) (Scalar.g-room 𝓤 H A W E G20 9 y6 (Local.room-whole 𝓤 H A W
               (Declared'.row Totals.the-type) y6 Path'.refl))) (Scalar.g-room 𝓤 H A W E G21 10 Syntax.tyUnit (Scalar.room-sc 𝓤 H A W Row.sUnit))) (Lifetime.g-end 𝓤 H A W E G22 4 Path'.refl))
               (Relend.g-back-sl 𝓤 H A W E n8 G23 12 1 0 4 y0 y5 k0 (λ x. x) (λ x. x) (Reads'.as-is 𝓤 H A (Mut.msleft n8 y5)) (Reads'.as-is 𝓤 H A (Relend.mslice-owed n8 y0 0 4 k0)) Path'.refl Path'.refl))
@@ -716,9 +751,11 @@ module _ (claims· : Claims) where
           d12 = Typed.s-seq 𝓤 H A W 𝓣 E (on T9 l3) (on T11 l3) b1 b10 Δ1 (Typed.pass T9 T11 s8) at11 (CopyOut.t-copy-told 𝓤 H A W E 𝓣 (Declared'.row Totals.the-type) Path'.refl (Laws'5.val
               Totals.the-type Laws'.the-laws) (Laws'5.lawful Totals.the-type Laws'.the-laws 𝓤 H A W) (Laws'5.makes Totals.the-type Laws'.the-plain 𝓤 H A) (on T9 l3) 9 (Scalar.oFld 6 ((Syntax.variant 0) ∷
               (Syntax.field 1) ∷ []) y6 8 λ v. Laws'5.val Totals.the-type Laws'.the-laws (v .0)) (λ m. m .1 .1 .1 .1 .1 .1 .0 .0) (λ m. Laws'4.Fields (Declared.variants Walked.the-type) (Laws'4.spellss
-              (Walked.enum .parts) Laws''.the-laws) (Walked.the-type .to (Known.at Walked.enum 0 (m .1 .1 .1 .1 .1 .1 .0)))) (Reads'.room-gone 𝓤 H A y6)
-              (Match.reads-payload 𝓤 H A W Walked.enum Laws''.the-laws 0 Path'.refl Path'.refl (λ v. Val.vcons (Laws'5.val Totals.the-type Laws'.the-laws (v .0)) (Val.vcons (Laws'5.val TightLines.the-type
-              Laws.the-laws (v .1 .0)) Val.vnil)) (λ v. Path'.refl) 0 y6 8 Path'.refl, Path'.refl) Path'.refl (λ ρ m. Make.tells-row 𝓤 H A W E ρ (Row.out 9 ((on T9 l3) .locals)) m 6 (Laws'4.Fields
+              (Walked.enum .parts) Laws''.the-laws) (Walked.the-type .to (Known.at Walked.enum 0 (m .1 .1 .1 .1 .1 .1 .0)))) (Reads'.room-gone 𝓤 H A y6) (
+                Match.reads-payload 𝓤 H A W Walked.enum Laws''.the-laws 0 Path'.refl Path'.refl (λ v. Val.vcons (Laws'5.val Totals.the-type Laws'.the-laws (v .0)) (Val.vcons (Laws'5.val TightLines.the-type
+                    Laws.the-laws (v .1 .0)) Val.vnil)) (λ v. Path'.refl) 0 y6 8 Path'.refl,
+                Path'.refl,
+              ) Path'.refl (λ ρ m. Make.tells-row 𝓤 H A W E ρ (Row.out 9 ((on T9 l3) .locals)) m 6 (Laws'4.Fields
               (Declared.variants Walked.the-type) (Laws'4.spellss (Walked.enum .parts) Laws''.the-laws) (Walked.the-type .to (Known.at Walked.enum 0 (m .1 .1 .1 .1 .1 .1 .0)))) (Known.known-is 𝓤 H A W E
               Walked.enum 0 Laws''.the-laws ρ 6 (m .1 .1 .1 .1 .1 .1 .0))) (λ m k wa. Path'.refl) λ m k wa. k .0) d11
 
@@ -790,9 +827,12 @@ module _ (claims· : Claims) where
       m0 = λ κs args. (tt, Enter.partsP κs 1 ps xs (dens κs args))
 
       abbrev W0 : (κs : Lifetimes.Lfts 4) → (args : Args κs) → Typed.Want O0
-      W0 = λ κs args.
-          (λ u. ⊥, tt, λ u. Enter.Fixs κs 1 ps xs (dens κs args) (u .1) × Post· κs (dens κs args) (Function.resV r κs (u .0)) (Clauses.atExit (Kinds.endedOf 4 ps r) κs (dens κs args) (Enter.lastsP κs 1 ps
-          xs (dens κs args) (u .1))))
+      W0 = λ κs args. (
+        λ u. ⊥,
+        tt,
+        λ u. Enter.Fixs κs 1 ps xs (dens κs args) (u .1) × Post· κs (dens κs args) (Function.resV r κs (u .0)) (Clauses.atExit (Kinds.endedOf 4 ps r) κs (dens κs args) (Enter.lastsP κs 1 ps
+            xs (dens κs args) (u .1))),
+      )
 
       pub record Start : Type 0 where
         pub κs : Lifetimes.Lfts 4
@@ -1002,68 +1042,142 @@ module _ (claims· : Claims) where
       module _ (enum-told : Need-enum-told) (enum-known-got : Need-enum-known-got) (put-state-requires : Need-put-state-requires) (returns : Need-returns) (same-length : Need-same-length)
           (same-length-2 : Need-same-length-2) (returns-2 : Need-returns-2) where
         lay2 : (c : After-rs) → at22 (W0 (After-rs·start c .κs) (After-rs·start c .args)) (m21 (c .before) (c .rs .given))
-        lay2 = λ c.
-            ((MutSlice.fix-len (Row.get 1 (T1 .locals) (m27 (c .before) (c .rs .given)) .ptr) (Row.get 1 (T1 .locals) (m27 (c .before) (c .rs .given)) .name) (Row.get 1 (T1 .locals) (m27 (c .before) (c
-            .rs .given)) .now) (dens (After-rs·start c .κs) (After-rs·start c .args) .0 .now) (same-length c),
-            (Path'.refl,
-            (tt,
-            (tt,
-            (tt,
-            (tt,
-            (Path'.refl,
-            (MutSlice.fix-len (Row.get 8 (T1 .locals) (m27 (c .before) (c .rs .given)) .ptr) (Row.get 8 (T1 .locals) (m27 (c .before) (c .rs .given)) .name) (Row.get 8 (T1 .locals) (m27 (c .before) (c .rs
-            .given)) .now) (dens (After-rs·start c .κs) (After-rs·start c .args) .1 .1 .1 .1 .1 .1 .1 .0 .now) (same-length-2 c), tt)))))))), returns-2 c)
+        lay2 = λ c. (
+          (
+            MutSlice.fix-len (Row.get 1 (T1 .locals) (m27 (c .before) (c .rs .given)) .ptr) (Row.get 1 (T1 .locals) (m27 (c .before) (c .rs .given)) .name) (Row.get 1 (T1 .locals) (m27 (c .before) (c
+                .rs .given)) .now) (dens (After-rs·start c .κs) (After-rs·start c .args) .0 .now) (same-length c),
+            (
+              Path'.refl,
+              (
+                tt,
+                (
+                  tt,
+                  (
+                    tt,
+                    (
+                      tt,
+                      (
+                        Path'.refl,
+                        (
+                          MutSlice.fix-len (Row.get 8 (T1 .locals) (m27 (c .before) (c .rs .given)) .ptr) (Row.get 8 (T1 .locals) (m27 (c .before) (c .rs .given)) .name) (Row.get 8 (T1 .locals) (m27 (c .before) (c .rs
+                              .given)) .now) (dens (After-rs·start c .κs) (After-rs·start c .args) .1 .1 .1 .1 .1 .1 .1 .0 .now) (same-length-2 c),
+                          tt,
+                        ),
+                      ),
+                    ),
+                  ),
+                ),
+              ),
+            ),
+          ),
+          returns-2 c,
+        )
 
         lay1 : (c : After-enum-told) → at22 (W0 (After-enum-told·start c .κs) (After-enum-told·start c .args)) (m6 (c .before) (c .enum-told .given))
         lay1 = λ c. ((Path'.refl, (Path'.refl, (tt, (tt, (tt, (tt, (Path'.refl, (Path'.refl, tt)))))))), returns c)
 
         pub laid : (c : Start) → at23 (W0 (c .κs) (c .args)) (m0 (c .κs) (c .args))
         laid = λ c. λ g. let c1 : After-slice-known = record { before = c; slice-known = record { given = g } } in λ g'. let c2 : After-shared-slice-known = record
-            { before = c1; shared-slice-known = record { given = g' }; } in λ g''. let c3 : After-shared-slice-known2 = record { before = c2; shared-slice-known2 = record { given = g'' }; } in
-            (λ k. let c4 : At-match-keys1 = record { before = c3; match = record { keys1 = k }; } in (enum-told c4, λ g'3. lay1 record { before = c4; enum-told = record { given = g'3 }; }),
-            (λ k.
-            (enum-known-got record { before = c3; match = record { keys2 = k }; }, λ g'4. λ g'5. λ g'6.
-            (Path'.refl, λ g'7.
-            (Path'.refl,
-            (put-state-requires record
-            { before = record
-            { before = record
-            { before = record
-            { before = record
-            { before = record
-            { before = record { before = record { before = c; slice-known = record { given = g }; }; shared-slice-known = record { given = g' }; }; shared-slice-known2 = record { given = g'' }; }; match =
-            record { keys2 = k }; }; got = record { given = g'4 }; }; known-told = record { given = g'5 }; }; put-state-arg = record { given = g'6 }; }; put-state-arg2 = record { given = g'7 }; }, λ g'8.
-            (Path'.refl, λ g'9. λ g'10.
-            (Path'.refl, λ g'11. lay2 record
-            { before = record
-            { before = record
-            { before = record
-            { before = record
-            { before = record
-            { before = record
-            { before = record
-            { before = record
-            { before = record
-            { before = record { before = record { before = c; slice-known = record { given = g }; }; shared-slice-known = record { given = g' }; }; shared-slice-known2 = record { given = g'' }; }; match =
-            record { keys2 = k }; }; got = record { given = g'4 }; }; known-told = record { given = g'5 }; }; put-state-arg = record { given = g'6 }; }; put-state-arg2 = record { given = g'7 }; };
-            put-state = Called.called ps·0 r·0 (claims· .1) T18 a0 (m14 record
-            { before = record
-            { before = record
-            { before = record
-            { before = record
-            { before = record { before = record { before = c; slice-known = record { given = g }; }; shared-slice-known = record { given = g' }; }; shared-slice-known2 = record { given = g'' }; }; match =
-            record { keys2 = k }; }; got = record { given = g'4 }; }; known-told = record { given = g'5 }; }; put-state-arg = record { given = g'6 }; } g'7) g'8; }; state = record { given = g'9 }; };
-            slice-known2 = record { given = g'10 }; }; rs = record { given = g'11 }; })))))), Match.each-below 2 (λ j. (Unit {0} × (Run.OneOf (1 ∷ []) j → ⊥)) × (Run.OneOf (0 ∷ []) j → ⊥) → ⊥)
-            (λ n. n .0 .1 Path'.refl, (λ n. n .1 Path'.refl, tt)) (Declared.tagOf Walked.the-type (Row.get 6 (T0 .locals) (m3 c2 g''))) (Match.tag-small Walked.the-type (Row.get 6 (T0 .locals) (m3 c2
-            g'')))))
+            { before = c1; shared-slice-known = record { given = g' } } in λ g''. let c3 : After-shared-slice-known2 = record { before = c2; shared-slice-known2 = record { given = g'' } } in (
+              λ k. let c4 : At-match-keys1 = record { before = c3; match = record { keys1 = k } } in (enum-told c4, λ g'3. lay1 record { before = c4; enum-told = record { given = g'3 } }),
+              (
+                λ k. (
+                  enum-known-got record { before = c3; match = record { keys2 = k } },
+                  λ g'4. λ g'5. λ g'6. (
+                    Path'.refl,
+                    λ g'7. (
+                      Path'.refl,
+                      (
+                        put-state-requires record {
+                          before = record {
+                            before = record {
+                              before = record {
+                                before = record {
+                                  before = record
+                                      { before = record { before = record { before = c; slice-known = record { given = g } }; shared-slice-known = record { given = g' } }; shared-slice-known2 = record { given = g'' } };
+                                  match =
+                                      record { keys2 = k };
+                                };
+                                got = record { given = g'4 };
+                              };
+                              known-told = record { given = g'5 };
+                            };
+                            put-state-arg = record { given = g'6 };
+                          };
+                          put-state-arg2 = record { given = g'7 };
+                        },
+                        λ g'8. (
+                          Path'.refl,
+                          λ g'9. λ g'10. (
+                            Path'.refl,
+                            λ g'11. lay2 record {
+                              before = record {
+                                before = record {
+                                  before = record {
+                                    before = record {
+                                      before = record {
+                                        before = record {
+                                          before = record {
+                                            before = record {
+                                              before = record
+                                                  { before = record { before = record { before = c; slice-known = record { given = g } }; shared-slice-known = record { given = g' } }; shared-slice-known2 = record { given = g'' } };
+                                              match =
+                                                  record { keys2 = k };
+                                            };
+                                            got = record { given = g'4 };
+                                          };
+                                          known-told = record { given = g'5 };
+                                        };
+                                        put-state-arg = record { given = g'6 };
+                                      };
+                                      put-state-arg2 = record { given = g'7 };
+                                    };
+                                    put-state = Called.called ps·0 r·0 (claims· .1) T18 a0 (m14 record {
+                                      before = record {
+                                        before = record {
+                                          before = record {
+                                            before = record
+                                                { before = record { before = record { before = c; slice-known = record { given = g } }; shared-slice-known = record { given = g' } }; shared-slice-known2 = record { given = g'' } };
+                                            match =
+                                                record { keys2 = k };
+                                          };
+                                          got = record { given = g'4 };
+                                        };
+                                        known-told = record { given = g'5 };
+                                      };
+                                      put-state-arg = record { given = g'6 };
+                                    } g'7) g'8;
+                                  };
+                                  state = record { given = g'9 };
+                                };
+                                slice-known2 = record { given = g'10 };
+                              };
+                              rs = record { given = g'11 };
+                            },
+                          ),
+                        ),
+                      ),
+                    ),
+                  ),
+                ),
+                Match.each-below 2 (λ j. (Unit {0} × (Run.OneOf (1 ∷ []) j → ⊥)) × (Run.OneOf (0 ∷ []) j → ⊥) → ⊥)
+                    (λ n. n .0 .1 Path'.refl, (λ n. n .1 Path'.refl, tt)) (Declared.tagOf Walked.the-type (Row.get 6 (T0 .locals) (m3 c2 g''))) (Match.tag-small Walked.the-type (Row.get 6 (T0 .locals) (m3 c2
+                    g''))),
+              ),
+            )
 
         module _ (κs : Lifetimes.Lfts 4) (qs : Lifetimes.Shares 4) where
           pub asked : (a : Kinds.Dens κs ps) → (good : Kinds.GoodsP κs ps a) → (pre : Pre· κs a) → (bs : List.List Nat.ℕ) → Φ (Any.wantQ 4 ps r xs m κs qs a (Post· κs a)) (Function.init 4 ps r xs m κs
               qs a)
-          asked = λ a good pre bs. laid record
-              { κs = κs; args = record
-              { state = a .0; d = a .1 .0; h = a .1 .1 .0; b = a .1 .1 .1 .0; line = a .1 .1 .1 .1 .0; got = a .1 .1 .1 .1 .1 .0; lines = a .1 .1 .1 .1 .1 .1 .0; rs = a .1 .1 .1 .1 .1 .1 .1 .0; }; good =
-              good; fits = record { b = record { fits = good .1 .1 .1 .0 .1 }; line = record { fits = good .1 .1 .1 .1 .0 .1 }; }; pre = pre; }
+          asked = λ a good pre bs. laid record {
+            κs = κs;
+            args = record
+                { state = a .0; d = a .1 .0; h = a .1 .1 .0; b = a .1 .1 .1 .0; line = a .1 .1 .1 .1 .0; got = a .1 .1 .1 .1 .1 .0; lines = a .1 .1 .1 .1 .1 .1 .0; rs = a .1 .1 .1 .1 .1 .1 .1 .0 };
+            good =
+                good;
+            fits = record { b = record { fits = good .1 .1 .1 .0 .1 }; line = record { fits = good .1 .1 .1 .1 .0 .1 } };
+            pre = pre;
+          }
 
         module _ {M : Type 1} (𝓤 : URA.URA M) (H : Wp.Heap 𝓤) (A : Atoms.Atoms 𝓤) (W : Kit.Given 𝓤 H A) (𝓣 : Wp.Tables 𝓤 H) (known0 : Plain.Known 𝓤 H A W 𝓣 4 ps·0 r·0 (claims· .0) (claims· .1)
             "saved_state::blocks::put_state") where

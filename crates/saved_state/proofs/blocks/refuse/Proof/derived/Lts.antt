@@ -274,7 +274,7 @@ module _ (claims· : Claims) where
   s3 = Relend.k-sl-aggregate n16 (Relend.asMut n16) T4 5 6 2 y4 y4 (λ x. x) (Scalar.oFld 1 ((Syntax.field 1) ∷ []) u64 8 λ v. Shared.lenV (v .0))
 
   abbrev s4 : Typed.Both T5 T6
-  s4 = Call.callB ps·0 r·0 (claims· .0) (claims· .1) T5 (record { pos = 6; ty = y4; ref = λ x. x; }, tt) 4 (2 ∷ []) Syntax.tyUnit
+  s4 = Call.callB ps·0 r·0 (claims· .0) (claims· .1) T5 (record { pos = 6; ty = y4; ref = λ x. x }, tt) 4 (2 ∷ []) Syntax.tyUnit
 
   abbrev s5 : Typed.Mo T6 → Typed.Mo T7
   s5 = Scalar.n-room T6 4 Syntax.tyUnit
@@ -292,7 +292,7 @@ module _ (claims· : Claims) where
   s12 = Relend.k-sl-aggregate (Element.type) (Relend.asMut (Element.type)) T13 7 8 3 y3 y3 (λ x. x) (Scalar.oFld 2 ((Syntax.field 1) ∷ []) u64 8 λ v. Shared.lenV (v .0))
 
   abbrev s13 : Typed.Both T14 T15
-  s13 = Call.callB ps·1 r·1 (claims· .2) (claims· .3) T14 (record { pos = 8; ty = y3; ref = λ x. x; }, tt) 4 (3 ∷ []) Syntax.tyUnit
+  s13 = Call.callB ps·1 r·1 (claims· .2) (claims· .3) T14 (record { pos = 8; ty = y3; ref = λ x. x }, tt) 4 (3 ∷ []) Syntax.tyUnit
 
   abbrev s14 : Typed.Mo T15 → Typed.Mo T16
   s14 = Scalar.n-room T15 4 Syntax.tyUnit
@@ -490,7 +490,7 @@ module _ (claims· : Claims) where
 
           d7 : Typed.Typed 𝓤 H A 𝓣 E G14 (Syntax.seq b5 b8) Δ0 at7
           d7 = Typed.s-seq 𝓤 H A W 𝓣 E G14 G15 b5 b8 Δ0 (Typed.both s13) at6 (Plain.t-call-plain 𝓤 H A W 𝓣 1 ps·1 r·1 (claims· .2) (claims· .3) "read_block::records::clear_records" (known .1) E (λ pos
-              β. β) G14 (record { pos = 8; ty = y3; ref = λ x. x; }, tt) 4 (3 ∷ []) (Call.sub-id 𝓤 H A W (G14 .slots))
+              β. β) G14 (record { pos = 8; ty = y3; ref = λ x. x }, tt) 4 (3 ∷ []) (Call.sub-id 𝓤 H A W (G14 .slots))
               (Reads.as-is 𝓤 H A (Mut.mslice (Element.type) y3 3), Mut.reads-mslice 𝓤 H A W (Element.type) y3 3, Path'.refl, tt) (Reads.room-gone 𝓤 H A Syntax.tyUnit) (tt, tt) Path'.refl) d6
 
           d8 : Typed.Typed 𝓤 H A 𝓣 E G13 (Syntax.seq b4 (Syntax.seq b5 b8)) Δ0 at8
@@ -524,7 +524,7 @@ module _ (claims· : Claims) where
 
           d16 : Typed.Typed 𝓤 H A 𝓣 E G5 (Syntax.seq b2 b11) Δ0 at16
           d16 = Typed.s-seq 𝓤 H A W 𝓣 E G5 G6 b2 b11 Δ0 (Typed.both s4) at15 (Plain.t-call-plain 𝓤 H A W 𝓣 1 ps·0 r·0 (claims· .0) (claims· .1) "colour_lines::clear" (known .0) E (λ pos β. β) G5
-              (record { pos = 6; ty = y4; ref = λ x. x; }, tt) 4 (2 ∷ []) (Call.sub-id 𝓤 H A W (G5 .slots)) (Reads.as-is 𝓤 H A (Mut.mslice n16 y4 2), Mut.reads-mslice 𝓤 H A W n16 y4 2, Path'.refl, tt)
+              (record { pos = 6; ty = y4; ref = λ x. x }, tt) 4 (2 ∷ []) (Call.sub-id 𝓤 H A W (G5 .slots)) (Reads.as-is 𝓤 H A (Mut.mslice n16 y4 2), Mut.reads-mslice 𝓤 H A W n16 y4 2, Path'.refl, tt)
               (Reads.room-gone 𝓤 H A Syntax.tyUnit) (tt, tt) Path'.refl) d15
 
           d17 : Typed.Typed 𝓤 H A 𝓣 E G4 (Syntax.seq b1 (Syntax.seq b2 b11)) Δ0 at17
@@ -559,9 +559,12 @@ module _ (claims· : Claims) where
       m0 = λ κs args. (tt, Enter.partsP κs 1 ps xs (dens κs args))
 
       abbrev W0 : (κs : Lifetimes.Lfts 2) → (args : Args κs) → Typed.Want O0
-      W0 = λ κs args.
-          (λ u. ⊥, tt, λ u. Enter.Fixs κs 1 ps xs (dens κs args) (u .1) × Post· κs (dens κs args) (Function.resV r κs (u .0)) (Clauses.atExit (Kinds.endedOf 2 ps r) κs (dens κs args) (Enter.lastsP κs 1 ps
-          xs (dens κs args) (u .1))))
+      W0 = λ κs args. (
+        λ u. ⊥,
+        tt,
+        λ u. Enter.Fixs κs 1 ps xs (dens κs args) (u .1) × Post· κs (dens κs args) (Function.resV r κs (u .0)) (Clauses.atExit (Kinds.endedOf 2 ps r) κs (dens κs args) (Enter.lastsP κs 1 ps
+            xs (dens κs args) (u .1))),
+      )
 
       pub record Start : Type 0 where
         pub κs : Lifetimes.Lfts 2
@@ -599,14 +602,14 @@ module _ (claims· : Claims) where
 
       module _ (before· : After-clear-arg) where
         abbrev pub After-clear·own : Type 0
-        After-clear·own = Called.Called ps·0 r·0 (claims· .1) T5 (record { pos = 6; ty = y4; ref = λ x. x; }, tt) (m3 (before· .before) (before· .clear-arg .given))
+        After-clear·own = Called.Called ps·0 r·0 (claims· .1) T5 (record { pos = 6; ty = y4; ref = λ x. x }, tt) (m3 (before· .before) (before· .clear-arg .given))
 
       pub record After-clear : Type 0 where
         pub before : After-clear-arg
         pub clear : After-clear·own before
 
       abbrev pub After-clear·gave : (c : After-clear) → s4 .gives (m3 (c .before .before) (c .before .clear-arg .given))
-      After-clear·gave = λ c. Called.given ps·0 r·0 (claims· .1) T5 (record { pos = 6; ty = y4; ref = λ x. x; }, tt) (m3 (c .before .before) (c .before .clear-arg .given)) (c .clear)
+      After-clear·gave = λ c. Called.given ps·0 r·0 (claims· .1) T5 (record { pos = 6; ty = y4; ref = λ x. x }, tt) (m3 (c .before .before) (c .before .clear-arg .given)) (c .clear)
 
       abbrev pub m5 : (before : After-clear-arg) → (given : s4 .gives (m3 (before .before) (before .clear-arg .given))) → Typed.Mo T7
       m5 = λ before given. s5 (m4 before given)
@@ -652,7 +655,7 @@ module _ (claims· : Claims) where
 
       module _ (before· : After-clear-records-arg) where
         abbrev pub After-clear-records·own : Type 0
-        After-clear-records·own = Called.Called ps·1 r·1 (claims· .3) T14 (record { pos = 8; ty = y3; ref = λ x. x; }, tt) (m9 (before· .before) (before· .clear-records-arg .given))
+        After-clear-records·own = Called.Called ps·1 r·1 (claims· .3) T14 (record { pos = 8; ty = y3; ref = λ x. x }, tt) (m9 (before· .before) (before· .clear-records-arg .given))
 
       pub record After-clear-records : Type 0 where
         pub before : After-clear-records-arg
@@ -662,7 +665,7 @@ module _ (claims· : Claims) where
       After-clear-records·start = λ c. c .before .before .before .before .before .before .before
 
       abbrev pub After-clear-records·gave : (c : After-clear-records) → s13 .gives (m9 (c .before .before) (c .before .clear-records-arg .given))
-      After-clear-records·gave = λ c. Called.given ps·1 r·1 (claims· .3) T14 (record { pos = 8; ty = y3; ref = λ x. x; }, tt) (m9 (c .before .before) (c .before .clear-records-arg .given)) (c
+      After-clear-records·gave = λ c. Called.given ps·1 r·1 (claims· .3) T14 (record { pos = 8; ty = y3; ref = λ x. x }, tt) (m9 (c .before .before) (c .before .clear-records-arg .given)) (c
           .clear-records)
 
       abbrev pub m11 : (before : After-clear-records-arg) → (given : s13 .gives (m9 (before .before) (before .clear-records-arg .given))) → Typed.Mo T16
@@ -721,33 +724,45 @@ module _ (claims· : Claims) where
       module _ (clear-requires : Need-clear-requires) (clear-records-requires : Need-clear-records-requires) (refused-requires : Need-refused-requires) (same-length : Need-same-length) (same-length-2
           : Need-same-length-2) (returns : Need-returns) where
         lay3 : (c : After-refused) → at1 (W0 (After-refused·start c .κs) (After-refused·start c .args)) (m13 (c .before) (After-refused·gave c))
-        lay3 = λ c.
-            ((MutSlice.fix-len (Row.get 1 (T1 .locals) (m14 (c .before) (After-refused·gave c)) .ptr) (Row.get 1 (T1 .locals) (m14 (c .before) (After-refused·gave c)) .name) (Row.get 1 (T1 .locals) (m14
-            (c .before) (After-refused·gave c)) .now) (dens (After-refused·start c .κs) (After-refused·start c .args) .0 .now) (same-length c),
-            (MutSlice.fix-len (Row.get 2 (T1 .locals) (m14 (c .before) (After-refused·gave c)) .ptr) (Row.get 2 (T1 .locals) (m14 (c .before) (After-refused·gave c)) .name) (Row.get 2 (T1 .locals) (m14 (c
-            .before) (After-refused·gave c)) .now) (dens (After-refused·start c .κs) (After-refused·start c .args) .1 .0 .now) (same-length-2 c), (tt, tt))), returns c)
+        lay3 = λ c. (
+          (
+            MutSlice.fix-len (Row.get 1 (T1 .locals) (m14 (c .before) (After-refused·gave c)) .ptr) (Row.get 1 (T1 .locals) (m14 (c .before) (After-refused·gave c)) .name) (Row.get 1 (T1 .locals) (m14
+                (c .before) (After-refused·gave c)) .now) (dens (After-refused·start c .κs) (After-refused·start c .args) .0 .now) (same-length c),
+            (
+              MutSlice.fix-len (Row.get 2 (T1 .locals) (m14 (c .before) (After-refused·gave c)) .ptr) (Row.get 2 (T1 .locals) (m14 (c .before) (After-refused·gave c)) .name) (Row.get 2 (T1 .locals) (m14 (c
+                  .before) (After-refused·gave c)) .now) (dens (After-refused·start c .κs) (After-refused·start c .args) .1 .0 .now) (same-length-2 c),
+              (tt, tt),
+            ),
+          ),
+          returns c,
+        )
 
         lay2 : (c : After-clear-records) → at6 (W0 (After-clear-records·start c .κs) (After-clear-records·start c .args)) (m10 (c .before) (After-clear-records·gave c))
-        lay2 = λ c.
-            (Path'.refl, λ g. let c1 : After-rs = record { before = c; rs = record { given = g }; } in
-            (refused-requires c1, λ g'. lay3 record { before = c1; refused = Called.called ps·2 r·2 (claims· .5) T0 (record { pos = 3; st = []; d = 0; at = λ x. x }, tt) (m12 c g) g'; }))
+        lay2 = λ c. (
+          Path'.refl,
+          λ g. let c1 : After-rs = record { before = c; rs = record { given = g } } in
+              (refused-requires c1, λ g'. lay3 record { before = c1; refused = Called.called ps·2 r·2 (claims· .5) T0 (record { pos = 3; st = []; d = 0; at = λ x. x }, tt) (m12 c g) g' }),
+        )
 
         lay1 : (c : After-clear) → at15 (W0 (c .before .before .before .κs) (c .before .before .before .args)) (m4 (c .before) (After-clear·gave c))
-        lay1 = λ c.
-            (Path'.refl, λ g. let c1 : After-lines = record { before = c; lines = record { given = g }; } in λ g'. let c2 : After-slice-known2 = record
-            { before = c1; slice-known2 = record { given = g' }; } in λ g''. let c3 : After-clear-records-arg = record { before = c2; clear-records-arg = record { given = g'' }; } in
-            (Path'.refl,
-            (clear-records-requires c3, λ g'3. lay2 record { before = c3; clear-records = Called.called ps·1 r·1 (claims· .3) T14 (record { pos = 8; ty = y3; ref = λ x. x; }, tt) (m9 c2 g'') g'3; })))
+        lay1 = λ c. (
+          Path'.refl,
+          λ g. let c1 : After-lines = record { before = c; lines = record { given = g } } in λ g'. let c2 : After-slice-known2 = record
+              { before = c1; slice-known2 = record { given = g' } } in λ g''. let c3 : After-clear-records-arg = record { before = c2; clear-records-arg = record { given = g'' } } in (
+                Path'.refl,
+                (clear-records-requires c3, λ g'3. lay2 record { before = c3; clear-records = Called.called ps·1 r·1 (claims· .3) T14 (record { pos = 8; ty = y3; ref = λ x. x }, tt) (m9 c2 g'') g'3 }),
+              ),
+        )
 
         pub laid : (c : Start) → at20 (W0 (c .κs) (c .args)) (m0 (c .κs) (c .args))
         laid = λ c. λ g. let c1 : After-slice-known = record { before = c; slice-known = record { given = g } } in λ g'. let c2 : After-clear-arg = record
-            { before = c1; clear-arg = record { given = g' }; } in
-            (Path'.refl, (clear-requires c2, λ g''. lay1 record { before = c2; clear = Called.called ps·0 r·0 (claims· .1) T5 (record { pos = 6; ty = y4; ref = λ x. x; }, tt) (m3 c1 g') g''; }))
+            { before = c1; clear-arg = record { given = g' } } in
+            (Path'.refl, (clear-requires c2, λ g''. lay1 record { before = c2; clear = Called.called ps·0 r·0 (claims· .1) T5 (record { pos = 6; ty = y4; ref = λ x. x }, tt) (m3 c1 g') g'' }))
 
         module _ (κs : Lifetimes.Lfts 2) (qs : Lifetimes.Shares 2) where
           pub asked : (a : Kinds.Dens κs ps) → (good : Kinds.GoodsP κs ps a) → (pre : Pre· κs a) → (bs : List.List Nat.ℕ) → Φ (Any.wantQ 2 ps r xs m κs qs a (Post· κs a)) (Function.init 2 ps r xs m κs
               qs a)
-          asked = λ a good pre bs. laid record { κs = κs; args = record { lines = a .0; rs = a .1 .0; x = a .1 .1 .0 }; good = good; pre = pre; }
+          asked = λ a good pre bs. laid record { κs = κs; args = record { lines = a .0; rs = a .1 .0; x = a .1 .1 .0 }; good = good; pre = pre }
 
         module _ {M : Type 1} (𝓤 : URA.URA M) (H : Wp.Heap 𝓤) (A : Atoms.Atoms 𝓤) (W : Kit.Given 𝓤 H A) (𝓣 : Wp.Tables 𝓤 H) (known0 : Plain.Known 𝓤 H A W 𝓣 1 ps·0 r·0 (claims· .0) (claims· .1)
             "colour_lines::clear") (known1 : Plain.Known 𝓤 H A W 𝓣 1 ps·1 r·1 (claims· .2) (claims· .3) "read_block::records::clear_records") (known2 : Plain.Known 𝓤 H A W 𝓣 0 ps·2 r·2 (claims· .4)

@@ -711,7 +711,7 @@ module _ (claims· : Claims) where
   s3 = Know.k-sl-known (Referent.fInt Syntax.w16) T0 8 3 y6 Row.off 0 λ x. x
 
   abbrev pub a0 : ArgsT ps·0 (T0 .locals)
-  a0 = (record { pos = 1; ty = y3; ref = λ x. x; }, (record { pos = 2; st = []; d = 0; at = λ x. x }, (Num.vAt 3 λ x. x, (record { pos = 4; ty = y4; ref = λ x. x; }, tt))))
+  a0 = (record { pos = 1; ty = y3; ref = λ x. x }, (record { pos = 2; st = []; d = 0; at = λ x. x }, (Num.vAt 3 λ x. x, (record { pos = 4; ty = y4; ref = λ x. x }, tt))))
 
   abbrev s4 : Typed.Both T0 T6
   s4 = Call.callB ps·0 r·0 (claims· .0) (claims· .1) T0 a0 10 (0 ∷ 1 ∷ []) y2
@@ -748,7 +748,7 @@ module _ (claims· : Claims) where
       (Logic.inr (Logic.inr (Logic.inr (Logic.inr (Logic.inr (Logic.inr (Logic.inr (Logic.inr (Logic.inr (Logic.inl tt)))))))))))))))))))))
 
   abbrev pub a1 : ArgsT ps·1 (T19 .locals)
-  a1 = (record { pos = 15; ty = y9; ref = λ x. x; }, (record { pos = 17; ty = y8; ref = λ x. x; }, (record { pos = 18; st = []; d = 0; at = λ x. x }, tt)))
+  a1 = (record { pos = 15; ty = y9; ref = λ x. x }, (record { pos = 17; ty = y8; ref = λ x. x }, (record { pos = 18; st = []; d = 0; at = λ x. x }, tt)))
 
   abbrev s17 : Typed.Both T19 T20
   s17 = Call.callB ps·1 r·1 (claims· .2) (claims· .3) T19 a1 13 (5 ∷ 6 ∷ []) y16
@@ -797,7 +797,7 @@ module _ (claims· : Claims) where
       (Logic.inr (Logic.inr (Logic.inr (Logic.inr (Logic.inr (Logic.inr (Logic.inr (Logic.inr (Logic.inr (Logic.inr (Logic.inl tt))))))))))))))))))))))
 
   abbrev pub a2 : ArgsT ps·1 (T40 .locals)
-  a2 = (record { pos = 20; ty = y9; ref = λ x. x; }, (record { pos = 22; ty = y8; ref = λ x. x; }, (record { pos = 23; st = []; d = 0; at = λ x. x }, tt)))
+  a2 = (record { pos = 20; ty = y9; ref = λ x. x }, (record { pos = 22; ty = y8; ref = λ x. x }, (record { pos = 23; st = []; d = 0; at = λ x. x }, tt)))
 
   abbrev s38 : Typed.Both T40 T41
   s38 = Call.callB ps·1 r·1 (claims· .2) (claims· .3) T40 a2 13 (7 ∷ 8 ∷ []) y16
@@ -850,16 +850,31 @@ module _ (claims· : Claims) where
   s60 = Relend.k-sl-aggregate (Element.type) (Relend.asMut (Element.type)) T62 28 29 11 y8 y8 (λ x. x) (Scalar.oFld 9 ((Syntax.field 1) ∷ []) u64 8 λ v. Shared.lenV (v .0))
 
   abbrev pub a3 : ArgsT ps·2 (T63 .locals)
-  a3 =
-      (record { pos = 1; ty = y3; ref = λ x. x; },
-      (record { pos = 2; st = []; d = 0; at = λ x. x },
-      (Num.vAt 3 λ x. x,
-      (record { pos = 4; ty = y4; ref = λ x. x; },
-      (Num.vAt 11 λ x. x,
-      (Num.vAt 12 λ x. x,
-      (record { pos = 5; st = []; d = 0; at = λ x. x },
-      (record { pos = 6; st = []; d = 0; at = λ x. x },
-      (record { pos = 25; ty = y9; ref = λ x. x; }, (record { pos = 27; ty = y9; ref = λ x. x; }, (record { pos = 29; ty = y8; ref = λ x. x; }, tt)))))))))))
+  a3 = (
+    record { pos = 1; ty = y3; ref = λ x. x },
+    (
+      record { pos = 2; st = []; d = 0; at = λ x. x },
+      (
+        Num.vAt 3 λ x. x,
+        (
+          record { pos = 4; ty = y4; ref = λ x. x },
+          (
+            Num.vAt 11 λ x. x,
+            (
+              Num.vAt 12 λ x. x,
+              (
+                record { pos = 5; st = []; d = 0; at = λ x. x },
+                (
+                  record { pos = 6; st = []; d = 0; at = λ x. x },
+                  (record { pos = 25; ty = y9; ref = λ x. x }, (record { pos = 27; ty = y9; ref = λ x. x }, (record { pos = 29; ty = y8; ref = λ x. x }, tt))),
+                ),
+              ),
+            ),
+          ),
+        ),
+      ),
+    ),
+  )
 
   abbrev s61 : Typed.Both T63 T64
   s61 = Call.callB ps·2 r·2 (claims· .4) (claims· .5) T63 a3 13 (0 ∷ 1 ∷ 9 ∷ 10 ∷ 11 ∷ []) y16
@@ -1361,11 +1376,18 @@ module _ (claims· : Claims) where
               Typed.both s17 (Typed.pass T20 T21 s18 (Typed.both s20 Ψ))) (Typed.give s21) (Typed.g-post 𝓤 H A W 𝓣 E G19 G22 G23 b6 (λ Ψ. Typed.both s17 (Typed.pass T20 T21 s18 Ψ)) (Typed.both s20)
               (Typed.g-post 𝓤 H A W 𝓣 E G19 G21 G22 b6 (λ Ψ. Typed.both s17 (Typed.pass T20 T21 s18 Ψ)) (λ Ψ. Ψ) (Typed.g-post 𝓤 H A W 𝓣 E G19 G20 G21 b6 (Typed.both s17) (Typed.pass T20 T21 s18)
               (Plain.t-call-plain 𝓤 H A W 𝓣 2 ps·1 r·1 (claims· .2) (claims· .3) "saved_state::blocks::refuse" (known .1) E (λ pos β. β) G19
-              (record { pos = 15; ty = y9; ref = λ x. x; }, (record { pos = 17; ty = y8; ref = λ x. x; }, (record { pos = 18; st = []; d = 0; at = λ x. x }, tt))) 13 (5 ∷ 6 ∷ []) (Call.sub-id 𝓤 H A W (G19
-              .slots))
-              (Reads.as-is 𝓤 H A (Mut.mslice n16 y9 5), Mut.reads-mslice 𝓤 H A W n16 y9 5, Path'.refl,
-              (Reads.as-is 𝓤 H A (Mut.mslice (Element.type) y8 6), Mut.reads-mslice 𝓤 H A W (Element.type) y8 6, Path'.refl,
-              ((Values.enum-copied 𝓤 H A W Refusal.the-type Laws'4.the-laws Laws'4.the-copy, Path'.refl), tt))) (Reads.room-gone 𝓤 H A y16) (tt, (tt, tt)) Path'.refl) (Scalar.g-room 𝓤 H A W E G20 18 y1
+              (record { pos = 15; ty = y9; ref = λ x. x }, (record { pos = 17; ty = y8; ref = λ x. x }, (record { pos = 18; st = []; d = 0; at = λ x. x }, tt))) 13 (5 ∷ 6 ∷ []) (Call.sub-id 𝓤 H A W (G19
+              .slots)) (
+                Reads.as-is 𝓤 H A (Mut.mslice n16 y9 5),
+                Mut.reads-mslice 𝓤 H A W n16 y9 5,
+                Path'.refl,
+                (
+                  Reads.as-is 𝓤 H A (Mut.mslice (Element.type) y8 6),
+                  Mut.reads-mslice 𝓤 H A W (Element.type) y8 6,
+                  Path'.refl,
+                  ((Values.enum-copied 𝓤 H A W Refusal.the-type Laws'4.the-laws Laws'4.the-copy, Path'.refl), tt),
+                ),
+              ) (Reads.room-gone 𝓤 H A y16) (tt, (tt, tt)) Path'.refl) (Scalar.g-room 𝓤 H A W E G20 18 y1
               (Local.room-whole 𝓤 H A W (Declared.row Refusal.the-type) y1 Path'.refl))) (Lifetime.g-end 𝓤 H A W E G21 5 Path'.refl)) (Relend.g-back-sl 𝓤 H A W E n16 G22 15 8 3 5 y6 y9 k3 (λ x. x) (λ x.
               x) (Reads.as-is 𝓤 H A (Mut.msleft n16 y9)) (Reads.as-is 𝓤 H A (Relend.mslice-owed n16 y6 3 5 k3)) Path'.refl Path'.refl)) (Know.g-sl-known 𝓤 H A W (Referent.fInt Syntax.w16) E G23 8 3 y6 k3
               0 (λ x. x) record { fits = Dec'.lit< tt } (Reads.as-is 𝓤 H A (Mut.mslice n16 y6 3)) Path'.refl tt)) (Lifetime.g-forget 𝓤 H A W E G23 5 Row.dead Path'.refl)) (Lifetime.g-end 𝓤 H A W E G25 6
@@ -1434,11 +1456,18 @@ module _ (claims· : Claims) where
               G40 G44 G44 b17 (λ Ψ. Typed.both s38 (Typed.pass T41 T42 s39 (Typed.both s41 Ψ))) (Typed.give s42) (Typed.g-post 𝓤 H A W 𝓣 E G40 G43 G44 b17 (λ Ψ. Typed.both s38 (Typed.pass T41 T42 s39 Ψ))
               (Typed.both s41) (Typed.g-post 𝓤 H A W 𝓣 E G40 G42 G43 b17 (λ Ψ. Typed.both s38 (Typed.pass T41 T42 s39 Ψ)) (λ Ψ. Ψ) (Typed.g-post 𝓤 H A W 𝓣 E G40 G41 G42 b17 (Typed.both s38) (Typed.pass
               T41 T42 s39) (Plain.t-call-plain 𝓤 H A W 𝓣 2 ps·1 r·1 (claims· .2) (claims· .3) "saved_state::blocks::refuse" (known .1) E (λ pos β. β) G40
-              (record { pos = 20; ty = y9; ref = λ x. x; }, (record { pos = 22; ty = y8; ref = λ x. x; }, (record { pos = 23; st = []; d = 0; at = λ x. x }, tt))) 13 (7 ∷ 8 ∷ []) (Call.sub-id 𝓤 H A W (G40
-              .slots))
-              (Reads.as-is 𝓤 H A (Mut.mslice n16 y9 7), Mut.reads-mslice 𝓤 H A W n16 y9 7, Path'.refl,
-              (Reads.as-is 𝓤 H A (Mut.mslice (Element.type) y8 8), Mut.reads-mslice 𝓤 H A W (Element.type) y8 8, Path'.refl,
-              ((Values.enum-copied 𝓤 H A W Refusal.the-type Laws'4.the-laws Laws'4.the-copy, Path'.refl), tt))) (Reads.room-gone 𝓤 H A y16) (tt, (tt, tt)) Path'.refl) (Scalar.g-room 𝓤 H A W E G41 23 y1
+              (record { pos = 20; ty = y9; ref = λ x. x }, (record { pos = 22; ty = y8; ref = λ x. x }, (record { pos = 23; st = []; d = 0; at = λ x. x }, tt))) 13 (7 ∷ 8 ∷ []) (Call.sub-id 𝓤 H A W (G40
+              .slots)) (
+                Reads.as-is 𝓤 H A (Mut.mslice n16 y9 7),
+                Mut.reads-mslice 𝓤 H A W n16 y9 7,
+                Path'.refl,
+                (
+                  Reads.as-is 𝓤 H A (Mut.mslice (Element.type) y8 8),
+                  Mut.reads-mslice 𝓤 H A W (Element.type) y8 8,
+                  Path'.refl,
+                  ((Values.enum-copied 𝓤 H A W Refusal.the-type Laws'4.the-laws Laws'4.the-copy, Path'.refl), tt),
+                ),
+              ) (Reads.room-gone 𝓤 H A y16) (tt, (tt, tt)) Path'.refl) (Scalar.g-room 𝓤 H A W E G41 23 y1
               (Local.room-whole 𝓤 H A W (Declared.row Refusal.the-type) y1 Path'.refl))) (Lifetime.g-end 𝓤 H A W E G42 7 Path'.refl)) (Relend.g-back-sl 𝓤 H A W E n16 G43 20 8 3 7 y6 y9 k3 (λ x. x) (λ x.
               x) (Reads.as-is 𝓤 H A (Mut.msleft n16 y9)) (Reads.as-is 𝓤 H A (Relend.mslice-owed n16 y6 3 7 k3)) Path'.refl Path'.refl)) (Know.g-sl-known 𝓤 H A W (Referent.fInt Syntax.w16) E G44 8 3 y6 k3
               0 (λ x. x) record { fits = Dec'.lit< tt } (Reads.as-is 𝓤 H A (Mut.mslice n16 y6 3)) Path'.refl tt)) (Lifetime.g-forget 𝓤 H A W E G44 7 Row.dead Path'.refl)) (Lifetime.g-end 𝓤 H A W E G46 8
@@ -1520,28 +1549,70 @@ module _ (claims· : Claims) where
               W 𝓣 E G63 G67 G68 b31 (λ Ψ. Typed.both s61 (Typed.pass T64 T65 s62 (Typed.pass T65 T66 s63 (Typed.pass T66 T67 s64 Ψ)))) (Typed.pass T67 T68 s65) (Typed.g-post 𝓤 H A W 𝓣 E G63 G66 G67 b31 (λ
               Ψ. Typed.both s61 (Typed.pass T64 T65 s62 (Typed.pass T65 T66 s63 Ψ))) (Typed.pass T66 T67 s64) (Typed.g-post 𝓤 H A W 𝓣 E G63 G65 G66 b31 (λ Ψ. Typed.both s61 (Typed.pass T64 T65 s62 Ψ))
               (Typed.pass T65 T66 s63) (Typed.g-post 𝓤 H A W 𝓣 E G63 G64 G65 b31 (Typed.both s61) (Typed.pass T64 T65 s62) (Plain.t-call-plain 𝓤 H A W 𝓣 5 ps·2 r·2 (claims· .4) (claims· .5)
-              "saved_state::blocks::resume_lines" (known .2) E (λ pos β. β) G63
-              (record { pos = 1; ty = y3; ref = λ x. x; },
-              (record { pos = 2; st = []; d = 0; at = λ x. x },
-              (Num.vAt 3 λ x. x,
-              (record { pos = 4; ty = y4; ref = λ x. x; },
-              (Num.vAt 11 λ x. x,
-              (Num.vAt 12 λ x. x,
-              (record { pos = 5; st = []; d = 0; at = λ x. x },
-              (record { pos = 6; st = []; d = 0; at = λ x. x },
-              (record { pos = 25; ty = y9; ref = λ x. x; }, (record { pos = 27; ty = y9; ref = λ x. x; }, (record { pos = 29; ty = y8; ref = λ x. x; }, tt))))))))))) 13 (0 ∷ 1 ∷ 9 ∷ 10 ∷ 11 ∷ [])
-              (Call.sub-id 𝓤 H A W (G63 .slots))
-              (ShrSlice.spares-sslice 𝓤 H A W n8 y3 0, Shared.reads-sslice 𝓤 H A W n8 y3 0, Path'.refl,
-              ((Values.struct-copied 𝓤 H A W FujiHeader.the-type Laws'3.the-laws Laws'3.the-copy, Path'.refl),
-              ((Scalar.reads-sc 𝓤 H A W (Row.sInt Syntax.w64), Path'.refl),
-              (ShrSlice.spares-sslice 𝓤 H A W n8 y4 1, Shared.reads-sslice 𝓤 H A W n8 y4 1, Path'.refl,
-              ((Scalar.reads-sc 𝓤 H A W (Row.sInt Syntax.w64), Path'.refl),
-              ((Scalar.reads-sc 𝓤 H A W (Row.sInt Syntax.w64), Path'.refl),
-              ((Values.struct-copied 𝓤 H A W Rect.the-type Laws.the-laws Laws.the-copy, Path'.refl),
-              ((Array.arr-yields 𝓤 H A W (Array.eInt Syntax.w8) (Array.eInt-laws Syntax.w8) 36, Path'.refl),
-              (Reads.as-is 𝓤 H A (Mut.mslice n16 y9 9), Mut.reads-mslice 𝓤 H A W n16 y9 9, Path'.refl,
-              (Reads.as-is 𝓤 H A (Mut.mslice n16 y9 10), Mut.reads-mslice 𝓤 H A W n16 y9 10, Path'.refl,
-              (Reads.as-is 𝓤 H A (Mut.mslice (Element.type) y8 11), Mut.reads-mslice 𝓤 H A W (Element.type) y8 11, Path'.refl, tt))))))))))) (Reads.room-gone 𝓤 H A y16) (tt, (tt, (tt, (tt, (tt, tt)))))
+              "saved_state::blocks::resume_lines" (known .2) E (λ pos β. β) G63 (
+                record { pos = 1; ty = y3; ref = λ x. x },
+                (
+                  record { pos = 2; st = []; d = 0; at = λ x. x },
+                  (
+                    Num.vAt 3 λ x. x,
+                    (
+                      record { pos = 4; ty = y4; ref = λ x. x },
+                      (
+                        Num.vAt 11 λ x. x,
+                        (
+                          Num.vAt 12 λ x. x,
+                          (
+                            record { pos = 5; st = []; d = 0; at = λ x. x },
+                            (
+                              record { pos = 6; st = []; d = 0; at = λ x. x },
+                              (record { pos = 25; ty = y9; ref = λ x. x }, (record { pos = 27; ty = y9; ref = λ x. x }, (record { pos = 29; ty = y8; ref = λ x. x }, tt))),
+                            ),
+                          ),
+                        ),
+                      ),
+                    ),
+                  ),
+                ),
+              ) 13 (0 ∷ 1 ∷ 9 ∷ 10 ∷ 11 ∷ [])
+              (Call.sub-id 𝓤 H A W (G63 .slots)) (
+                ShrSlice.spares-sslice 𝓤 H A W n8 y3 0,
+                Shared.reads-sslice 𝓤 H A W n8 y3 0,
+                Path'.refl,
+                (
+                  (Values.struct-copied 𝓤 H A W FujiHeader.the-type Laws'3.the-laws Laws'3.the-copy, Path'.refl),
+                  (
+                    (Scalar.reads-sc 𝓤 H A W (Row.sInt Syntax.w64), Path'.refl),
+                    (
+                      ShrSlice.spares-sslice 𝓤 H A W n8 y4 1,
+                      Shared.reads-sslice 𝓤 H A W n8 y4 1,
+                      Path'.refl,
+                      (
+                        (Scalar.reads-sc 𝓤 H A W (Row.sInt Syntax.w64), Path'.refl),
+                        (
+                          (Scalar.reads-sc 𝓤 H A W (Row.sInt Syntax.w64), Path'.refl),
+                          (
+                            (Values.struct-copied 𝓤 H A W Rect.the-type Laws.the-laws Laws.the-copy, Path'.refl),
+                            (
+                              (Array.arr-yields 𝓤 H A W (Array.eInt Syntax.w8) (Array.eInt-laws Syntax.w8) 36, Path'.refl),
+                              (
+                                Reads.as-is 𝓤 H A (Mut.mslice n16 y9 9),
+                                Mut.reads-mslice 𝓤 H A W n16 y9 9,
+                                Path'.refl,
+                                (
+                                  Reads.as-is 𝓤 H A (Mut.mslice n16 y9 10),
+                                  Mut.reads-mslice 𝓤 H A W n16 y9 10,
+                                  Path'.refl,
+                                  (Reads.as-is 𝓤 H A (Mut.mslice (Element.type) y8 11), Mut.reads-mslice 𝓤 H A W (Element.type) y8 11, Path'.refl, tt),
+                                ),
+                              ),
+                            ),
+                          ),
+                        ),
+                      ),
+                    ),
+                  ),
+                ),
+              ) (Reads.room-gone 𝓤 H A y16) (tt, (tt, (tt, (tt, (tt, tt)))))
               Path'.refl) (Scalar.g-room 𝓤 H A W E G64 2 y12 (Local.room-whole 𝓤 H A W (Declared'.row FujiHeader.the-type) y12 Path'.refl))) (Scalar.g-room 𝓤 H A W E G65 5 y10 (Local.room-whole 𝓤 H A W
               (Declared'.row Rect.the-type) y10 Path'.refl))) (Scalar.g-room 𝓤 H A W E G66 6 y0 (Init.room-arr 𝓤 H A W n8 36 0 36 Path'.refl))) (Scalar.g-room 𝓤 H A W E G67 11 u64 (Scalar.room-sc 𝓤 H A W
               (Row.sInt Syntax.w64)))) (Scalar.g-room 𝓤 H A W E G68 12 u64 (Scalar.room-sc 𝓤 H A W (Row.sInt Syntax.w64)))) (Lifetime.g-end 𝓤 H A W E G69 9 Path'.refl)) (Relend.g-back-sl 𝓤 H A W E n16 G70
@@ -1600,15 +1671,19 @@ module _ (claims· : Claims) where
 
           d37 : Typed.Typed 𝓤 H A 𝓣 E (on T52 l11) (Syntax.seq b24 b37) Δ1 at37
           d37 = Typed.s-seq 𝓤 H A W 𝓣 E (on T52 l11) (on T53 l11) b24 b37 Δ1 (Typed.pass T52 T53 s50) at36 (Scalar.t-use 𝓤 H A W E 𝓣 (on T52 l11) (Scalar.oFld 10 ((Syntax.variant 2) ∷ (Syntax.field 2)
-              ∷ []) u64 16 λ v. Laws''.the-laws .1 .1 .0 .1 .0 .val (v .1 .0)) 12 (Rows'.sc-here (Row.sInt Syntax.w64)) u64 (Row.valS (Row.sInt Syntax.w64)) (Row.sInt Syntax.w64 .of)
-              (Match.reads-payload 𝓤 H A W Checked.enum Laws''.the-laws 2 Path'.refl Path'.refl (λ v. Val.vcons (Laws''.the-laws .1 .1 .0 .0 .val (v .0)) (Val.vcons (Laws''.the-laws .1 .1 .0 .1 .0 .val (v
-              .1 .0)) Val.vnil)) (λ v. Path'.refl) 1 u64 16 Path'.refl, Path'.refl) (Reads.room-gone 𝓤 H A u64) (Scalar.holds-sc 𝓤 H A W (Row.sInt Syntax.w64)) Path'.refl (λ u. Path'.refl) λ u. tt) d36
+              ∷ []) u64 16 λ v. Laws''.the-laws .1 .1 .0 .1 .0 .val (v .1 .0)) 12 (Rows'.sc-here (Row.sInt Syntax.w64)) u64 (Row.valS (Row.sInt Syntax.w64)) (Row.sInt Syntax.w64 .of) (
+                Match.reads-payload 𝓤 H A W Checked.enum Laws''.the-laws 2 Path'.refl Path'.refl (λ v. Val.vcons (Laws''.the-laws .1 .1 .0 .0 .val (v .0)) (Val.vcons (Laws''.the-laws .1 .1 .0 .1 .0 .val (v
+                    .1 .0)) Val.vnil)) (λ v. Path'.refl) 1 u64 16 Path'.refl,
+                Path'.refl,
+              ) (Reads.room-gone 𝓤 H A u64) (Scalar.holds-sc 𝓤 H A W (Row.sInt Syntax.w64)) Path'.refl (λ u. Path'.refl) λ u. tt) d36
 
           d38 : Typed.Typed 𝓤 H A 𝓣 E (on T50 l11) b39 Δ1 at38
           d38 = Typed.s-seq 𝓤 H A W 𝓣 E (on T50 l11) (on T52 l11) b23 (Syntax.seq b24 b37) Δ1 (Typed.pass T50 T52 s49) at37 (Scalar.t-use 𝓤 H A W E 𝓣 (on T50 l11) (Scalar.oFld 10 ((Syntax.variant 2) ∷
-              (Syntax.field 1) ∷ []) u64 8 λ v. Laws''.the-laws .1 .1 .0 .0 .val (v .0)) 11 (Rows'.sc-here (Row.sInt Syntax.w64)) u64 (Row.valS (Row.sInt Syntax.w64)) (Row.sInt Syntax.w64 .of)
-              (Match.reads-payload 𝓤 H A W Checked.enum Laws''.the-laws 2 Path'.refl Path'.refl (λ v. Val.vcons (Laws''.the-laws .1 .1 .0 .0 .val (v .0)) (Val.vcons (Laws''.the-laws .1 .1 .0 .1 .0 .val (v
-              .1 .0)) Val.vnil)) (λ v. Path'.refl) 0 u64 8 Path'.refl, Path'.refl) (Reads.room-gone 𝓤 H A u64) (Scalar.holds-sc 𝓤 H A W (Row.sInt Syntax.w64)) Path'.refl (λ u. Path'.refl) λ u. tt) d37
+              (Syntax.field 1) ∷ []) u64 8 λ v. Laws''.the-laws .1 .1 .0 .0 .val (v .0)) 11 (Rows'.sc-here (Row.sInt Syntax.w64)) u64 (Row.valS (Row.sInt Syntax.w64)) (Row.sInt Syntax.w64 .of) (
+                Match.reads-payload 𝓤 H A W Checked.enum Laws''.the-laws 2 Path'.refl Path'.refl (λ v. Val.vcons (Laws''.the-laws .1 .1 .0 .0 .val (v .0)) (Val.vcons (Laws''.the-laws .1 .1 .0 .1 .0 .val (v
+                    .1 .0)) Val.vnil)) (λ v. Path'.refl) 0 u64 8 Path'.refl,
+                Path'.refl,
+              ) (Reads.room-gone 𝓤 H A u64) (Scalar.holds-sc 𝓤 H A W (Row.sInt Syntax.w64)) Path'.refl (λ u. Path'.refl) λ u. tt) d37
 
           d39 : Typed.Typed 𝓤 H A 𝓣 E (on T50 l11) b39 Δ1 at39
           d39 = Typed.g-pre 𝓤 H A W 𝓣 E (on T50 l11) (on T50 l11) b39 Δ1 (Typed.give s48) at38 (Known.g-known-told 𝓤 H A W E Checked.enum 2 (on T50 l11) 10 Laws''.the-laws (λ x. x) (Reads.as-is 𝓤 H A
@@ -1647,11 +1722,16 @@ module _ (claims· : Claims) where
           d47 : Typed.Typed 𝓤 H A 𝓣 E (on T0 l11) b45 Δ0 at47
           d47 = Typed.s-seq 𝓤 H A W 𝓣 E (on T0 l11) (on T6 l11) b0 (Syntax.seq b40 (Syntax.seq b41 b42)) Δ0 (Typed.both s4) at46 (Plain.t-call-plain 𝓤 H A W 𝓣 2 ps·0 r·0 (claims· .0) (claims· .1)
               "saved_state::blocks::checked_in" (known .0) E (λ pos β. β) (on T0 l11)
-              (record { pos = 1; ty = y3; ref = λ x. x; }, (record { pos = 2; st = []; d = 0; at = λ x. x }, (Num.vAt 3 λ x. x, (record { pos = 4; ty = y4; ref = λ x. x; }, tt)))) 10 (0 ∷ 1 ∷ [])
-              (Call.sub-id 𝓤 H A W ((on T0 l11) .slots))
-              (ShrSlice.spares-sslice 𝓤 H A W n8 y3 0, Shared.reads-sslice 𝓤 H A W n8 y3 0, Path'.refl,
-              ((Values.struct-copied 𝓤 H A W FujiHeader.the-type Laws'3.the-laws Laws'3.the-copy, Path'.refl),
-              ((Scalar.reads-sc 𝓤 H A W (Row.sInt Syntax.w64), Path'.refl), (ShrSlice.spares-sslice 𝓤 H A W n8 y4 1, Shared.reads-sslice 𝓤 H A W n8 y4 1, Path'.refl, tt)))) (Reads.room-gone 𝓤 H A y2)
+              (record { pos = 1; ty = y3; ref = λ x. x }, (record { pos = 2; st = []; d = 0; at = λ x. x }, (Num.vAt 3 λ x. x, (record { pos = 4; ty = y4; ref = λ x. x }, tt)))) 10 (0 ∷ 1 ∷ [])
+              (Call.sub-id 𝓤 H A W ((on T0 l11) .slots)) (
+                ShrSlice.spares-sslice 𝓤 H A W n8 y3 0,
+                Shared.reads-sslice 𝓤 H A W n8 y3 0,
+                Path'.refl,
+                (
+                  (Values.struct-copied 𝓤 H A W FujiHeader.the-type Laws'3.the-laws Laws'3.the-copy, Path'.refl),
+                  ((Scalar.reads-sc 𝓤 H A W (Row.sInt Syntax.w64), Path'.refl), (ShrSlice.spares-sslice 𝓤 H A W n8 y4 1, Shared.reads-sslice 𝓤 H A W n8 y4 1, Path'.refl, tt)),
+                ),
+              ) (Reads.room-gone 𝓤 H A y2)
               (tt, (tt, tt)) Path'.refl) d46
 
           d48 : Typed.Typed 𝓤 H A 𝓣 E (on T0 l11) b45 Δ0 at48
@@ -1696,9 +1776,12 @@ module _ (claims· : Claims) where
       m0 = λ κs args. (tt, Enter.partsP κs 1 ps xs (dens κs args))
 
       abbrev W0 : (κs : Lifetimes.Lfts 5) → (args : Args κs) → Typed.Want O0
-      W0 = λ κs args.
-          (λ u. ⊥, tt, λ u. Enter.Fixs κs 1 ps xs (dens κs args) (u .1) × Post· κs (dens κs args) (Function.resV r κs (u .0)) (Clauses.atExit (Kinds.endedOf 5 ps r) κs (dens κs args) (Enter.lastsP κs 1 ps
-          xs (dens κs args) (u .1))))
+      W0 = λ κs args. (
+        λ u. ⊥,
+        tt,
+        λ u. Enter.Fixs κs 1 ps xs (dens κs args) (u .1) × Post· κs (dens κs args) (Function.resV r κs (u .0)) (Clauses.atExit (Kinds.endedOf 5 ps r) κs (dens κs args) (Enter.lastsP κs 1 ps
+            xs (dens κs args) (u .1))),
+      )
 
       pub record Start : Type 0 where
         pub κs : Lifetimes.Lfts 5
@@ -2186,104 +2269,238 @@ module _ (claims· : Claims) where
           (returns : Need-returns) (same-length-3 : Need-same-length-3) (same-length-4 : Need-same-length-4) (returns-2 : Need-returns-2) (same-length-5 : Need-same-length-5) (same-length-6 :
           Need-same-length-6) (same-length-7 : Need-same-length-7) (returns-3 : Need-returns-3) where
         lay4 : (c : After-rs3) → at45 (W0 (After-rs3·start c .κs) (After-rs3·start c .args)) (m57 (c .before) (c .rs3 .given))
-        lay4 = λ c.
-            ((Path'.refl,
-            (tt,
-            (tt,
-            (Path'.refl,
-            (tt,
-            (tt,
-            (MutSlice.fix-len (Row.get 7 (T1 .locals) (m66 (c .before) (c .rs3 .given)) .ptr) (Row.get 7 (T1 .locals) (m66 (c .before) (c .rs3 .given)) .name) (Row.get 7 (T1 .locals) (m66 (c .before) (c
-            .rs3 .given)) .now) (dens (After-rs3·start c .κs) (After-rs3·start c .args) .1 .1 .1 .1 .1 .1 .0 .now) (same-length-5 c),
-            (MutSlice.fix-len (Row.get 8 (T1 .locals) (m66 (c .before) (c .rs3 .given)) .ptr) (Row.get 8 (T1 .locals) (m66 (c .before) (c .rs3 .given)) .name) (Row.get 8 (T1 .locals) (m66 (c .before) (c
-            .rs3 .given)) .now) (dens (After-rs3·start c .κs) (After-rs3·start c .args) .1 .1 .1 .1 .1 .1 .1 .0 .now) (same-length-6 c),
-            (MutSlice.fix-len (Row.get 9 (T1 .locals) (m66 (c .before) (c .rs3 .given)) .ptr) (Row.get 9 (T1 .locals) (m66 (c .before) (c .rs3 .given)) .name) (Row.get 9 (T1 .locals) (m66 (c .before) (c
-            .rs3 .given)) .now) (dens (After-rs3·start c .κs) (After-rs3·start c .args) .1 .1 .1 .1 .1 .1 .1 .1 .0 .now) (same-length-7 c), tt))))))))), returns-3 c)
+        lay4 = λ c. (
+          (
+            Path'.refl,
+            (
+              tt,
+              (
+                tt,
+                (
+                  Path'.refl,
+                  (
+                    tt,
+                    (
+                      tt,
+                      (
+                        MutSlice.fix-len (Row.get 7 (T1 .locals) (m66 (c .before) (c .rs3 .given)) .ptr) (Row.get 7 (T1 .locals) (m66 (c .before) (c .rs3 .given)) .name) (Row.get 7 (T1 .locals) (m66 (c .before) (c
+                            .rs3 .given)) .now) (dens (After-rs3·start c .κs) (After-rs3·start c .args) .1 .1 .1 .1 .1 .1 .0 .now) (same-length-5 c),
+                        (
+                          MutSlice.fix-len (Row.get 8 (T1 .locals) (m66 (c .before) (c .rs3 .given)) .ptr) (Row.get 8 (T1 .locals) (m66 (c .before) (c .rs3 .given)) .name) (Row.get 8 (T1 .locals) (m66 (c .before) (c
+                              .rs3 .given)) .now) (dens (After-rs3·start c .κs) (After-rs3·start c .args) .1 .1 .1 .1 .1 .1 .1 .0 .now) (same-length-6 c),
+                          (
+                            MutSlice.fix-len (Row.get 9 (T1 .locals) (m66 (c .before) (c .rs3 .given)) .ptr) (Row.get 9 (T1 .locals) (m66 (c .before) (c .rs3 .given)) .name) (Row.get 9 (T1 .locals) (m66 (c .before) (c
+                                .rs3 .given)) .now) (dens (After-rs3·start c .κs) (After-rs3·start c .args) .1 .1 .1 .1 .1 .1 .1 .1 .0 .now) (same-length-7 c),
+                            tt,
+                          ),
+                        ),
+                      ),
+                    ),
+                  ),
+                ),
+              ),
+            ),
+          ),
+          returns-3 c,
+        )
 
         lay3 : (c : After-rs2) → at45 (W0 (After-rs2·start c .κs) (After-rs2·start c .args)) (m35 (c .before) (c .rs2 .given))
-        lay3 = λ c.
-            ((Path'.refl,
-            (tt,
-            (tt,
-            (Path'.refl,
-            (tt,
-            (tt,
-            (Path'.refl,
-            (MutSlice.fix-len (Row.get 8 (T1 .locals) (m63 (c .before) (c .rs2 .given)) .ptr) (Row.get 8 (T1 .locals) (m63 (c .before) (c .rs2 .given)) .name) (Row.get 8 (T1 .locals) (m63 (c .before) (c
-            .rs2 .given)) .now) (dens (After-rs2·start c .κs) (After-rs2·start c .args) .1 .1 .1 .1 .1 .1 .1 .0 .now) (same-length-3 c),
-            (MutSlice.fix-len (Row.get 9 (T1 .locals) (m63 (c .before) (c .rs2 .given)) .ptr) (Row.get 9 (T1 .locals) (m63 (c .before) (c .rs2 .given)) .name) (Row.get 9 (T1 .locals) (m63 (c .before) (c
-            .rs2 .given)) .now) (dens (After-rs2·start c .κs) (After-rs2·start c .args) .1 .1 .1 .1 .1 .1 .1 .1 .0 .now) (same-length-4 c), tt))))))))), returns-2 c)
+        lay3 = λ c. (
+          (
+            Path'.refl,
+            (
+              tt,
+              (
+                tt,
+                (
+                  Path'.refl,
+                  (
+                    tt,
+                    (
+                      tt,
+                      (
+                        Path'.refl,
+                        (
+                          MutSlice.fix-len (Row.get 8 (T1 .locals) (m63 (c .before) (c .rs2 .given)) .ptr) (Row.get 8 (T1 .locals) (m63 (c .before) (c .rs2 .given)) .name) (Row.get 8 (T1 .locals) (m63 (c .before) (c
+                              .rs2 .given)) .now) (dens (After-rs2·start c .κs) (After-rs2·start c .args) .1 .1 .1 .1 .1 .1 .1 .0 .now) (same-length-3 c),
+                          (
+                            MutSlice.fix-len (Row.get 9 (T1 .locals) (m63 (c .before) (c .rs2 .given)) .ptr) (Row.get 9 (T1 .locals) (m63 (c .before) (c .rs2 .given)) .name) (Row.get 9 (T1 .locals) (m63 (c .before) (c
+                                .rs2 .given)) .now) (dens (After-rs2·start c .κs) (After-rs2·start c .args) .1 .1 .1 .1 .1 .1 .1 .1 .0 .now) (same-length-4 c),
+                            tt,
+                          ),
+                        ),
+                      ),
+                    ),
+                  ),
+                ),
+              ),
+            ),
+          ),
+          returns-2 c,
+        )
 
         lay2 : (c : After-rs) → at45 (W0 (After-rs·start c .κs) (After-rs·start c .args)) (m20 (c .before) (c .rs .given))
-        lay2 = λ c.
-            ((Path'.refl,
-            (tt,
-            (tt,
-            (Path'.refl,
-            (tt,
-            (tt,
-            (Path'.refl,
-            (MutSlice.fix-len (Row.get 8 (T1 .locals) (m60 (c .before) (c .rs .given)) .ptr) (Row.get 8 (T1 .locals) (m60 (c .before) (c .rs .given)) .name) (Row.get 8 (T1 .locals) (m60 (c .before) (c .rs
-            .given)) .now) (dens (After-rs·start c .κs) (After-rs·start c .args) .1 .1 .1 .1 .1 .1 .1 .0 .now) (same-length c),
-            (MutSlice.fix-len (Row.get 9 (T1 .locals) (m60 (c .before) (c .rs .given)) .ptr) (Row.get 9 (T1 .locals) (m60 (c .before) (c .rs .given)) .name) (Row.get 9 (T1 .locals) (m60 (c .before) (c .rs
-            .given)) .now) (dens (After-rs·start c .κs) (After-rs·start c .args) .1 .1 .1 .1 .1 .1 .1 .1 .0 .now) (same-length-2 c), tt))))))))), returns c)
+        lay2 = λ c. (
+          (
+            Path'.refl,
+            (
+              tt,
+              (
+                tt,
+                (
+                  Path'.refl,
+                  (
+                    tt,
+                    (
+                      tt,
+                      (
+                        Path'.refl,
+                        (
+                          MutSlice.fix-len (Row.get 8 (T1 .locals) (m60 (c .before) (c .rs .given)) .ptr) (Row.get 8 (T1 .locals) (m60 (c .before) (c .rs .given)) .name) (Row.get 8 (T1 .locals) (m60 (c .before) (c .rs
+                              .given)) .now) (dens (After-rs·start c .κs) (After-rs·start c .args) .1 .1 .1 .1 .1 .1 .1 .0 .now) (same-length c),
+                          (
+                            MutSlice.fix-len (Row.get 9 (T1 .locals) (m60 (c .before) (c .rs .given)) .ptr) (Row.get 9 (T1 .locals) (m60 (c .before) (c .rs .given)) .name) (Row.get 9 (T1 .locals) (m60 (c .before) (c .rs
+                                .given)) .now) (dens (After-rs·start c .κs) (After-rs·start c .args) .1 .1 .1 .1 .1 .1 .1 .1 .0 .now) (same-length-2 c),
+                            tt,
+                          ),
+                        ),
+                      ),
+                    ),
+                  ),
+                ),
+              ),
+            ),
+          ),
+          returns c,
+        )
 
         lay1 : (c : After-checked-in) → at46 (W0 (After-checked-in·start c .κs) (After-checked-in·start c .args)) (m5 (c .before) (After-checked-in·gave c))
-        lay1 = λ c.
-            (λ k. let c1 : At-match-keys1 = record { before = c; match = record { keys1 = k }; } in
-            (enum-told c1, λ g. let c2 : After-enum-told = record { before = c1; enum-told = record { given = g }; } in λ g'. let c3 : After-refuse-arg = record
-            { before = c2; refuse-arg = record { given = g' }; } in
-            (Path'.refl, λ g''. let c4 : After-refuse-arg2 = record { before = c3; refuse-arg2 = record { given = g'' }; } in
-            (Path'.refl,
-            (refuse-requires c4, λ g'3. let c5 : After-refuse = record { before = c4; refuse = Called.called ps·1 r·1 (claims· .3) T19 a1 (m15 c3 g'') g'3; } in
-            (Path'.refl, λ g'4. let c6 : After-lines = record { before = c5; lines = record { given = g'4 }; } in λ g'5. let c7 : After-slice-known3 = record
-            { before = c6; slice-known3 = record { given = g'5 }; } in (Path'.refl, λ g'6. lay2 record { before = c7; rs = record { given = g'6 }; })))))),
-            (λ k. let c8 : At-match-keys2 = record { before = c; match = record { keys2 = k }; } in
-            (enum-told-2 c8, λ g. let c9 : After-enum-told2 = record { before = c8; enum-told2 = record { given = g }; } in λ g'7. let c10 : After-refuse-arg3 = record
-            { before = c9; refuse-arg3 = record { given = g'7 }; } in
-            (Path'.refl, λ g'8. let c11 : After-refuse-arg4 = record { before = c10; refuse-arg4 = record { given = g'8 }; } in
-            (Path'.refl,
-            (refuse-requires-2 c11, λ g'9. let c12 : After-refuse2 = record { before = c11; refuse2 = Called.called ps·1 r·1 (claims· .3) T40 a2 (m30 c10 g'8) g'9; } in
-            (Path'.refl, λ g'10. let c13 : After-lines2 = record { before = c12; lines2 = record { given = g'10 }; } in λ g'11. let c14 : After-slice-known4 = record
-            { before = c13; slice-known4 = record { given = g'11 }; } in (Path'.refl, λ g'12. lay3 record { before = c14; rs2 = record { given = g'12 }; })))))),
-            (λ k. let c15 : At-match-keys3 = record { before = c; match = record { keys3 = k }; } in
-            (enum-known-checked c15, λ g. let c16 : After-checked = record { before = c15; checked = record { given = g }; } in λ g'13. let c17 : After-known-told = record
-            { before = c16; known-told = record { given = g'13 }; } in λ g'14. let c18 : After-resume-lines-arg = record { before = c17; resume-lines-arg = record { given = g'14 }; } in
-            (Path'.refl, λ g'15. let c19 : After-resume-lines-arg2 = record { before = c18; resume-lines-arg2 = record { given = g'15 }; } in
-            (Path'.refl, λ g'16. let c20 : After-resume-lines-arg3 = record { before = c19; resume-lines-arg3 = record { given = g'16 }; } in
-            (Path'.refl,
-            (resume-lines-requires c20, λ g'17. let c21 : After-resume-lines = record
-            { before = c20; resume-lines = Called.called ps·2 r·2 (claims· .5) T63
-            (record { pos = 1; ty = y3; ref = λ x. x; },
-            (record { pos = 2; st = []; d = 0; at = λ x. x; },
-            (Num.vAt 3 λ x. x,
-            (record { pos = 4; ty = y4; ref = λ x. x; },
-            (Num.vAt 11 λ x. x,
-            (Num.vAt 12 λ x. x,
-            (record { pos = 5; st = []; d = 0; at = λ x. x; },
-            (record { pos = 6; st = []; d = 0; at = λ x. x; },
-            (record { pos = 25; ty = y9; ref = λ x. x; }, (record { pos = 27; ty = y9; ref = λ x. x; }, (record { pos = 29; ty = y8; ref = λ x. x; }, tt))))))))))) (m46 c19 g'16) g'17; } in
-            (Path'.refl, λ g'18. let c22 : After-image = record { before = c21; image = record { given = g'18 }; } in λ g'19. let c23 : After-slice-known5 = record
-            { before = c22; slice-known5 = record { given = g'19 }; } in
-            (Path'.refl, λ g'20. let c24 : After-lines3 = record { before = c23; lines3 = record { given = g'20 }; } in λ g'21. let c25 : After-slice-known6 = record
-            { before = c24; slice-known6 = record { given = g'21 }; } in (Path'.refl, λ g'22. lay4 record { before = c25; rs3 = record { given = g'22 }; })))))))), Match.each-below 3 (λ j. ((Unit {0} ×
-            (Run.OneOf (0 ∷ []) j → ⊥)) × (Run.OneOf (1 ∷ []) j → ⊥)) × (Run.OneOf (2 ∷ []) j → ⊥) → ⊥) (λ n. n .1 Path'.refl, (λ n. n .0 .1 Path'.refl, (λ n. n .0 .0 .1 Path'.refl, tt))) (Declared.tagOf
-            Checked.the-type (Row.get 10 (T6 .locals) (m5 (c .before) (After-checked-in·gave c)))) (Match.tag-small Checked.the-type (Row.get 10 (T6 .locals) (m5 (c .before) (After-checked-in·gave
-            c)))))))
+        lay1 = λ c. (
+          λ k. let c1 : At-match-keys1 = record { before = c; match = record { keys1 = k } } in (
+            enum-told c1,
+            λ g. let c2 : After-enum-told = record { before = c1; enum-told = record { given = g } } in λ g'. let c3 : After-refuse-arg = record
+                { before = c2; refuse-arg = record { given = g' } } in (
+                  Path'.refl,
+                  λ g''. let c4 : After-refuse-arg2 = record { before = c3; refuse-arg2 = record { given = g'' } } in (
+                    Path'.refl,
+                    (
+                      refuse-requires c4,
+                      λ g'3. let c5 : After-refuse = record { before = c4; refuse = Called.called ps·1 r·1 (claims· .3) T19 a1 (m15 c3 g'') g'3 } in (
+                        Path'.refl,
+                        λ g'4. let c6 : After-lines = record { before = c5; lines = record { given = g'4 } } in λ g'5. let c7 : After-slice-known3 = record
+                            { before = c6; slice-known3 = record { given = g'5 } } in (Path'.refl, λ g'6. lay2 record { before = c7; rs = record { given = g'6 } }),
+                      ),
+                    ),
+                  ),
+                ),
+          ),
+          (
+            λ k. let c8 : At-match-keys2 = record { before = c; match = record { keys2 = k } } in (
+              enum-told-2 c8,
+              λ g. let c9 : After-enum-told2 = record { before = c8; enum-told2 = record { given = g } } in λ g'7. let c10 : After-refuse-arg3 = record
+                  { before = c9; refuse-arg3 = record { given = g'7 } } in (
+                    Path'.refl,
+                    λ g'8. let c11 : After-refuse-arg4 = record { before = c10; refuse-arg4 = record { given = g'8 } } in (
+                      Path'.refl,
+                      (
+                        refuse-requires-2 c11,
+                        λ g'9. let c12 : After-refuse2 = record { before = c11; refuse2 = Called.called ps·1 r·1 (claims· .3) T40 a2 (m30 c10 g'8) g'9 } in (
+                          Path'.refl,
+                          λ g'10. let c13 : After-lines2 = record { before = c12; lines2 = record { given = g'10 } } in λ g'11. let c14 : After-slice-known4 = record
+                              { before = c13; slice-known4 = record { given = g'11 } } in (Path'.refl, λ g'12. lay3 record { before = c14; rs2 = record { given = g'12 } }),
+                        ),
+                      ),
+                    ),
+                  ),
+            ),
+            (
+              λ k. let c15 : At-match-keys3 = record { before = c; match = record { keys3 = k } } in (
+                enum-known-checked c15,
+                λ g. let c16 : After-checked = record { before = c15; checked = record { given = g } } in λ g'13. let c17 : After-known-told = record
+                    { before = c16; known-told = record { given = g'13 } } in λ g'14. let c18 : After-resume-lines-arg = record { before = c17; resume-lines-arg = record { given = g'14 } } in (
+                      Path'.refl,
+                      λ g'15. let c19 : After-resume-lines-arg2 = record { before = c18; resume-lines-arg2 = record { given = g'15 } } in (
+                        Path'.refl,
+                        λ g'16. let c20 : After-resume-lines-arg3 = record { before = c19; resume-lines-arg3 = record { given = g'16 } } in (
+                          Path'.refl,
+                          (
+                            resume-lines-requires c20,
+                            λ g'17. let c21 : After-resume-lines = record {
+                              before = c20;
+                              resume-lines = Called.called ps·2 r·2 (claims· .5) T63 (
+                                record { pos = 1; ty = y3; ref = λ x. x },
+                                (
+                                  record { pos = 2; st = []; d = 0; at = λ x. x },
+                                  (
+                                    Num.vAt 3 λ x. x,
+                                    (
+                                      record { pos = 4; ty = y4; ref = λ x. x },
+                                      (
+                                        Num.vAt 11 λ x. x,
+                                        (
+                                          Num.vAt 12 λ x. x,
+                                          (
+                                            record { pos = 5; st = []; d = 0; at = λ x. x },
+                                            (
+                                              record { pos = 6; st = []; d = 0; at = λ x. x },
+                                              (record { pos = 25; ty = y9; ref = λ x. x }, (record { pos = 27; ty = y9; ref = λ x. x }, (record { pos = 29; ty = y8; ref = λ x. x }, tt))),
+                                            ),
+                                          ),
+                                        ),
+                                      ),
+                                    ),
+                                  ),
+                                ),
+                              ) (m46 c19 g'16) g'17;
+                            } in (
+                              Path'.refl,
+                              λ g'18. let c22 : After-image = record { before = c21; image = record { given = g'18 } } in λ g'19. let c23 : After-slice-known5 = record
+                                  { before = c22; slice-known5 = record { given = g'19 } } in (
+                                    Path'.refl,
+                                    λ g'20. let c24 : After-lines3 = record { before = c23; lines3 = record { given = g'20 } } in λ g'21. let c25 : After-slice-known6 = record
+                                        { before = c24; slice-known6 = record { given = g'21 } } in (Path'.refl, λ g'22. lay4 record { before = c25; rs3 = record { given = g'22 } }),
+                                  ),
+                            ),
+                          ),
+                        ),
+                      ),
+                    ),
+              ),
+              Match.each-below 3 (λ j. ((Unit {0} ×
+                  (Run.OneOf (0 ∷ []) j → ⊥)) × (Run.OneOf (1 ∷ []) j → ⊥)) × (Run.OneOf (2 ∷ []) j → ⊥) → ⊥) (λ n. n .1 Path'.refl, (λ n. n .0 .1 Path'.refl, (λ n. n .0 .0 .1 Path'.refl, tt))) (Declared.tagOf
+                  Checked.the-type (Row.get 10 (T6 .locals) (m5 (c .before) (After-checked-in·gave c)))) (Match.tag-small Checked.the-type (Row.get 10 (T6 .locals) (m5 (c .before) (After-checked-in·gave
+                  c)))),
+            ),
+          ),
+        )
 
         pub laid : (c : Start) → at51 (W0 (c .κs) (c .args)) (m0 (c .κs) (c .args))
         laid = λ c. λ g. let c1 : After-shared-slice-known = record { before = c; shared-slice-known = record { given = g } } in λ g'. let c2 : After-shared-slice-known2 = record
-            { before = c1; shared-slice-known2 = record { given = g' }; } in λ g''. let c3 : After-slice-known = record { before = c2; slice-known = record { given = g'' }; } in λ g'3. let c4 :
-            After-slice-known2 = record { before = c3; slice-known2 = record { given = g'3 }; } in
-            (checked-in-requires c4, λ g'4. lay1 record { before = c4; checked-in = Called.called ps·0 r·0 (claims· .1) T0 a0 (m4 c3 g'3) g'4; })
+            { before = c1; shared-slice-known2 = record { given = g' } } in λ g''. let c3 : After-slice-known = record { before = c2; slice-known = record { given = g'' } } in λ g'3. let c4 :
+            After-slice-known2 = record { before = c3; slice-known2 = record { given = g'3 } } in
+            (checked-in-requires c4, λ g'4. lay1 record { before = c4; checked-in = Called.called ps·0 r·0 (claims· .1) T0 a0 (m4 c3 g'3) g'4 })
 
         module _ (κs : Lifetimes.Lfts 5) (qs : Lifetimes.Shares 5) where
           pub asked : (a : Kinds.Dens κs ps) → (good : Kinds.GoodsP κs ps a) → (pre : Pre· κs a) → (bs : List.List Nat.ℕ) → Φ (Any.wantQ 5 ps r xs m κs qs a (Post· κs a)) (Function.init 5 ps r xs m κs
               qs a)
-          asked = λ a good pre bs. laid record
-              { κs = κs; args = record
-              { d = a .0; h = a .1 .0; b = a .1 .1 .0; s = a .1 .1 .1 .0; r = a .1 .1 .1 .1 .0; tile = a .1 .1 .1 .1 .1 .0; image = a .1 .1 .1 .1 .1 .1 .0; lines = a .1 .1 .1 .1 .1 .1 .1 .0; rs = a .1 .1
-              .1 .1 .1 .1 .1 .1 .0; }; good = good; fits = record { b = record { fits = good .1 .1 .0 .1 } }; pre = pre; }
+          asked = λ a good pre bs. laid record {
+            κs = κs;
+            args = record {
+              d = a .0;
+              h = a .1 .0;
+              b = a .1 .1 .0;
+              s = a .1 .1 .1 .0;
+              r = a .1 .1 .1 .1 .0;
+              tile = a .1 .1 .1 .1 .1 .0;
+              image = a .1 .1 .1 .1 .1 .1 .0;
+              lines = a .1 .1 .1 .1 .1 .1 .1 .0;
+              rs = a .1 .1
+                  .1 .1 .1 .1 .1 .1 .0;
+            };
+            good = good;
+            fits = record { b = record { fits = good .1 .1 .0 .1 } };
+            pre = pre;
+          }
 
         module _ {M : Type 1} (𝓤 : URA.URA M) (H : Wp.Heap 𝓤) (A : Atoms.Atoms 𝓤) (W : Kit.Given 𝓤 H A) (𝓣 : Wp.Tables 𝓤 H) (known0 : Plain.Known 𝓤 H A W 𝓣 2 ps·0 r·0 (claims· .0) (claims· .1)
             "saved_state::blocks::checked_in") (known1 : Plain.Known 𝓤 H A W 𝓣 2 ps·1 r·1 (claims· .2) (claims· .3) "saved_state::blocks::refuse") (known2 : Plain.Known 𝓤 H A W 𝓣 5 ps·2 r·2 (claims· .4)

@@ -1064,10 +1064,10 @@ module _ (claims· : Claims) where
   s4 = Call.callB ps·0 r·0 (claims· .0) (claims· .1) T0 (record { pos = 2; st = []; d = 0; at = λ x. x }, tt) 12 [] y15
 
   abbrev s5 : Typed.Both T6 T7
-  s5 = Call.callB ps·1 r·1 (claims· .2) (claims· .3) T6 (record { pos = 1; ty = y3; ref = λ x. x; }, (Num.vAt 3 λ x. x, tt)) 13 (0 ∷ []) y22
+  s5 = Call.callB ps·1 r·1 (claims· .2) (claims· .3) T6 (record { pos = 1; ty = y3; ref = λ x. x }, (Num.vAt 3 λ x. x, tt)) 13 (0 ∷ []) y22
 
   abbrev s6 : Typed.Both T7 T8
-  s6 = Call.callB ps·2 r·2 (claims· .4) (claims· .5) T7 (record { pos = 1; ty = y3; ref = λ x. x; }, (Num.vAt 3 λ x. x, tt)) 14 (0 ∷ []) y22
+  s6 = Call.callB ps·2 r·2 (claims· .4) (claims· .5) T7 (record { pos = 1; ty = y3; ref = λ x. x }, (Num.vAt 3 λ x. x, tt)) 14 (0 ∷ []) y22
 
   abbrev s7 : Typed.Both T8 T9
   s7 = Call.callB ps·3 r·3 (claims· .6) (claims· .7) T8 tt 19 [] y0
@@ -1094,7 +1094,7 @@ module _ (claims· : Claims) where
   s15 = Relend.k-sl-aggregate n16 (Relend.asMut n16) T16 21 22 5 y10 y10 (λ x. x) (Scalar.oFld 10 ((Syntax.field 1) ∷ []) u64 8 λ v. Shared.lenV (v .0))
 
   abbrev s16 : Typed.Both T17 T18
-  s16 = Call.callB ps·6 r·6 (claims· .12) (claims· .13) T17 (record { pos = 22; ty = y10; ref = λ x. x; }, tt) 20 (5 ∷ []) Syntax.tyUnit
+  s16 = Call.callB ps·6 r·6 (claims· .12) (claims· .13) T17 (record { pos = 22; ty = y10; ref = λ x. x }, tt) 20 (5 ∷ []) Syntax.tyUnit
 
   abbrev s17 : Typed.Mo T18 → Typed.Mo T19
   s17 = Scalar.n-room T18 20 Syntax.tyUnit
@@ -1112,13 +1112,16 @@ module _ (claims· : Claims) where
   s24 = Relend.k-sl-aggregate (Element.type) (Relend.asMut (Element.type)) T25 23 24 6 y9 y9 (λ x. x) (Scalar.oFld 11 ((Syntax.field 1) ∷ []) u64 8 λ v. Shared.lenV (v .0))
 
   abbrev s25 : Typed.Both T26 T27
-  s25 = Call.callB ps·7 r·7 (claims· .14) (claims· .15) T26 (record { pos = 14; ty = y8; ref = λ x. x; }, (Num.vLit 0, tt)) 25 (0 ∷ []) u32
+  s25 = Call.callB ps·7 r·7 (claims· .14) (claims· .15) T26 (record { pos = 14; ty = y8; ref = λ x. x }, (Num.vLit 0, tt)) 25 (0 ∷ []) u32
 
   abbrev pub a1 : ArgsT ps·8 (T27 .locals)
-  a1 =
-      (record { pos = 24; ty = y9; ref = λ x. x; },
-      (record { pos = 4; ty = y4; ref = λ x. x; },
-      (Bool.bFld 2 ((Syntax.field 0) ∷ []) 0 λ x. FujiHeader.struct .as-values x .0, (Num.vFld 2 ((Syntax.field 2) ∷ []) 4 λ x. FujiHeader.struct .as-values x .1 .1 .0, (Num.vAt 25 λ x. x, tt)))))
+  a1 = (
+    record { pos = 24; ty = y9; ref = λ x. x },
+    (
+      record { pos = 4; ty = y4; ref = λ x. x },
+      (Bool.bFld 2 ((Syntax.field 0) ∷ []) 0 λ x. FujiHeader.struct .as-values x .0, (Num.vFld 2 ((Syntax.field 2) ∷ []) 4 λ x. FujiHeader.struct .as-values x .1 .1 .0, (Num.vAt 25 λ x. x, tt))),
+    ),
+  )
 
   abbrev s26 : Typed.Both T27 T28
   s26 = Call.callB ps·8 r·8 (claims· .16) (claims· .17) T27 a1 20 (6 ∷ 1 ∷ []) Syntax.tyUnit
@@ -1145,7 +1148,7 @@ module _ (claims· : Claims) where
   s36 = Scalar.n-room T37 2 y16
 
   abbrev s37 : Typed.Both T38 T39
-  s37 = Call.callB ps·10 r·10 (claims· .20) (claims· .21) T38 (record { pos = 4; ty = y4; ref = λ x. x; }, (record { pos = 27; ty = y10; ref = λ x. x; }, (Num.vAt 28 λ x. x, tt))) 20 (1 ∷ 7 ∷ [])
+  s37 = Call.callB ps·10 r·10 (claims· .20) (claims· .21) T38 (record { pos = 4; ty = y4; ref = λ x. x }, (record { pos = 27; ty = y10; ref = λ x. x }, (Num.vAt 28 λ x. x, tt))) 20 (1 ∷ 7 ∷ [])
       Syntax.tyUnit
 
   abbrev s38 : Typed.Mo T39 → Typed.Mo T40
@@ -1188,17 +1191,34 @@ module _ (claims· : Claims) where
   s56 = Call.callB ps·12 r·12 (claims· .24) (claims· .25) T57 tt 37 [] y29
 
   abbrev pub a0 : ArgsT ps·13 (T58 .locals)
-  a0 =
-      (record { pos = 13; ty = y8; ref = λ x. x; },
-      (record { pos = 14; ty = y8; ref = λ x. x; },
-      (record { pos = 30; ty = y10; ref = λ x. x; },
-      (record { pos = 32; ty = y9; ref = λ x. x; },
-      (record { pos = 34; ty = y10; ref = λ x. x; },
-      (record { pos = 12; st = []; d = 0; at = λ x. x },
-      (record { pos = 35; ty = y19; ref = λ x. x; },
-      (record { pos = 8; st = []; d = 0; at = λ x. x },
-      (record { pos = 16; st = []; d = 0; at = λ x. x },
-      (Num.vAt 5 λ x. x, (record { pos = 36; st = []; d = 0; at = λ x. x }, (Num.vAt 17 λ x. x, (Bool.bLit Bool'.false, (record { pos = 37; st = []; d = 0; at = λ x. x }, tt))))))))))))))
+  a0 = (
+    record { pos = 13; ty = y8; ref = λ x. x },
+    (
+      record { pos = 14; ty = y8; ref = λ x. x },
+      (
+        record { pos = 30; ty = y10; ref = λ x. x },
+        (
+          record { pos = 32; ty = y9; ref = λ x. x },
+          (
+            record { pos = 34; ty = y10; ref = λ x. x },
+            (
+              record { pos = 12; st = []; d = 0; at = λ x. x },
+              (
+                record { pos = 35; ty = y19; ref = λ x. x },
+                (
+                  record { pos = 8; st = []; d = 0; at = λ x. x },
+                  (
+                    record { pos = 16; st = []; d = 0; at = λ x. x },
+                    (Num.vAt 5 λ x. x, (record { pos = 36; st = []; d = 0; at = λ x. x }, (Num.vAt 17 λ x. x, (Bool.bLit Bool'.false, (record { pos = 37; st = []; d = 0; at = λ x. x }, tt))))),
+                  ),
+                ),
+              ),
+            ),
+          ),
+        ),
+      ),
+    ),
+  )
 
   abbrev s57 : Typed.Both T58 T59
   s57 = Call.callB ps·13 r·13 (claims· .26) (claims· .27) T58 a0 18 (0 ∷ 0 ∷ 8 ∷ 9 ∷ 10 ∷ 11 ∷ []) y27
@@ -1255,7 +1275,7 @@ module _ (claims· : Claims) where
   s83 = Relend.k-sl-aggregate n16 (Relend.asMut n16) T84 38 39 12 y10 y10 (λ x. x) (Scalar.oFld 10 ((Syntax.field 1) ∷ []) u64 8 λ v. Shared.lenV (v .0))
 
   abbrev s84 : Typed.Both T85 T86
-  s84 = Call.callB ps·6 r·6 (claims· .12) (claims· .13) T85 (record { pos = 39; ty = y10; ref = λ x. x; }, tt) 20 (12 ∷ []) Syntax.tyUnit
+  s84 = Call.callB ps·6 r·6 (claims· .12) (claims· .13) T85 (record { pos = 39; ty = y10; ref = λ x. x }, tt) 20 (12 ∷ []) Syntax.tyUnit
 
   abbrev s85 : Typed.Mo T86 → Typed.Mo T87
   s85 = Scalar.n-room T86 20 Syntax.tyUnit
@@ -1273,7 +1293,7 @@ module _ (claims· : Claims) where
   s92 = Relend.k-sl-aggregate (Element.type) (Relend.asMut (Element.type)) T93 40 41 13 y9 y9 (λ x. x) (Scalar.oFld 11 ((Syntax.field 1) ∷ []) u64 8 λ v. Shared.lenV (v .0))
 
   abbrev s93 : Typed.Both T94 T95
-  s93 = Call.callB ps·14 r·14 (claims· .28) (claims· .29) T94 (record { pos = 41; ty = y9; ref = λ x. x; }, tt) 20 (13 ∷ []) Syntax.tyUnit
+  s93 = Call.callB ps·14 r·14 (claims· .28) (claims· .29) T94 (record { pos = 41; ty = y9; ref = λ x. x }, tt) 20 (13 ∷ []) Syntax.tyUnit
 
   abbrev s94 : Typed.Mo T95 → Typed.Mo T96
   s94 = Scalar.n-room T95 20 Syntax.tyUnit
@@ -1830,9 +1850,11 @@ module _ (claims· : Claims) where
         G67 = record { locals = List._++_ g52 (List._++_ t53 t55); slots = l0 }
 
         abbrev G68 : Row.Cx
-        G68 = record
-            { locals = List._++_ g52 (List._++_ t53 t55); slots = k0 ∷ k1 ∷ Row.off ∷ Row.off ∷ Row.off ∷ Row.off ∷ Row.off ∷ Row.off ∷ Row.dead ∷ Row.alive ∷ Row.alive ∷ Row.alive ∷ Row.off ∷ Row.off ∷
-            [] }
+        G68 = record {
+          locals = List._++_ g52 (List._++_ t53 t55);
+          slots = k0 ∷ k1 ∷ Row.off ∷ Row.off ∷ Row.off ∷ Row.off ∷ Row.off ∷ Row.off ∷ Row.dead ∷ Row.alive ∷ Row.alive ∷ Row.alive ∷ Row.off ∷ Row.off ∷
+              [];
+        }
 
         abbrev G69 : Row.Cx
         G69 = record { locals = List._++_ g56 (List._++_ t57 t55); slots = l2 }
@@ -1932,9 +1954,10 @@ module _ (claims· : Claims) where
           d6 : Typed.Typed 𝓤 H A 𝓣 E (on T82 l15) b36 Δ0 at6
           d6 = Typed.s-seq 𝓤 H A W 𝓣 E (on T82 l15) (on T100 l15) b34 b35 Δ0 (Typed.both s98) at5 (Plain.t-call-plain 𝓤 H A W 𝓣 0 ps·15 r·15 (claims· .30) (claims· .31)
               "saved_state::blocks::resume_answer" (known .15) E (λ pos β. β) (on T82 l15) (Num.vAt 3 λ x. x, (Num.vAt 6 λ x. x, (record { pos = 18; st = []; d = 0; at = λ x. x }, tt))) 0 [] (Call.sub-id
-              𝓤 H A W ((on T82 l15) .slots))
-              ((Scalar.reads-sc 𝓤 H A W (Row.sInt Syntax.w64), Path'.refl),
-              ((Scalar.reads-sc 𝓤 H A W (Row.sInt Syntax.w64), Path'.refl), ((Values.enum-copied 𝓤 H A W Walked.the-type Laws'6.the-laws Laws'6.the-copy, Path'.refl), tt))) (Reads'.room-gone 𝓤 H A y28) tt
+              𝓤 H A W ((on T82 l15) .slots)) (
+                (Scalar.reads-sc 𝓤 H A W (Row.sInt Syntax.w64), Path'.refl),
+                ((Scalar.reads-sc 𝓤 H A W (Row.sInt Syntax.w64), Path'.refl), ((Values.enum-copied 𝓤 H A W Walked.the-type Laws'6.the-laws Laws'6.the-copy, Path'.refl), tt)),
+              ) (Reads'.room-gone 𝓤 H A y28) tt
               Path'.refl) d5
 
           d7 : Typed.Typed 𝓤 H A 𝓣 E G98 b36 Δ0 at6
@@ -1952,7 +1975,7 @@ module _ (claims· : Claims) where
 
           d11 : Typed.Typed 𝓤 H A 𝓣 E G94 (Syntax.seq b33 b36) Δ0 at11
           d11 = Typed.s-seq 𝓤 H A W 𝓣 E G94 G95 b33 b36 Δ0 (Typed.both s93) at10 (Plain.t-call-plain 𝓤 H A W 𝓣 1 ps·14 r·14 (claims· .28) (claims· .29) "read_block::records::clear_records" (known .14)
-              E (λ pos β. β) G94 (record { pos = 41; ty = y9; ref = λ x. x; }, tt) 20 (13 ∷ []) (Call.sub-id 𝓤 H A W (G94 .slots))
+              E (λ pos β. β) G94 (record { pos = 41; ty = y9; ref = λ x. x }, tt) 20 (13 ∷ []) (Call.sub-id 𝓤 H A W (G94 .slots))
               (Reads'.as-is 𝓤 H A (Mut.mslice (Element.type) y9 13), Mut.reads-mslice 𝓤 H A W (Element.type) y9 13, Path'.refl, tt) (Reads'.room-gone 𝓤 H A Syntax.tyUnit) (tt, tt) Path'.refl) d10
 
           d12 : Typed.Typed 𝓤 H A 𝓣 E G93 (Syntax.seq b32 (Syntax.seq b33 b36)) Δ0 at12
@@ -1988,7 +2011,7 @@ module _ (claims· : Claims) where
 
           d20 : Typed.Typed 𝓤 H A 𝓣 E G85 (Syntax.seq b30 b39) Δ0 at20
           d20 = Typed.s-seq 𝓤 H A W 𝓣 E G85 G86 b30 b39 Δ0 (Typed.both s84) at19 (Plain.t-call-plain 𝓤 H A W 𝓣 1 ps·6 r·6 (claims· .12) (claims· .13) "colour_lines::clear" (known .6) E (λ pos β. β)
-              G85 (record { pos = 39; ty = y10; ref = λ x. x; }, tt) 20 (12 ∷ []) (Call.sub-id 𝓤 H A W (G85 .slots))
+              G85 (record { pos = 39; ty = y10; ref = λ x. x }, tt) 20 (12 ∷ []) (Call.sub-id 𝓤 H A W (G85 .slots))
               (Reads'.as-is 𝓤 H A (Mut.mslice n16 y10 12), Mut.reads-mslice 𝓤 H A W n16 y10 12, Path'.refl, tt) (Reads'.room-gone 𝓤 H A Syntax.tyUnit) (tt, tt) Path'.refl) d19
 
           d21 : Typed.Typed 𝓤 H A 𝓣 E G84 (Syntax.seq b29 (Syntax.seq b30 b39)) Δ0 at21
@@ -2084,30 +2107,80 @@ module _ (claims· : Claims) where
 
           d47 : Typed.Typed 𝓤 H A 𝓣 E G58 (Syntax.seq b27 b42) Δ0 at47
           d47 = Typed.s-seq 𝓤 H A W 𝓣 E G58 G59 b27 b42 Δ0 (Typed.both s57) at46 (Plain.t-call-plain 𝓤 H A W 𝓣 6 ps·13 r·13 (claims· .26) (claims· .27) "read_block::reading::read_lines" (known .13) E
-              (λ pos β. β) G58
-              (record { pos = 13; ty = y8; ref = λ x. x; },
-              (record { pos = 14; ty = y8; ref = λ x. x; },
-              (record { pos = 30; ty = y10; ref = λ x. x; },
-              (record { pos = 32; ty = y9; ref = λ x. x; },
-              (record { pos = 34; ty = y10; ref = λ x. x; },
-              (record { pos = 12; st = []; d = 0; at = λ x. x },
-              (record { pos = 35; ty = y19; ref = λ x. x; },
-              (record { pos = 8; st = []; d = 0; at = λ x. x },
-              (record { pos = 16; st = []; d = 0; at = λ x. x },
-              (Num.vAt 5 λ x. x, (record { pos = 36; st = []; d = 0; at = λ x. x }, (Num.vAt 17 λ x. x, (Bool.bLit Bool'.false, (record { pos = 37; st = []; d = 0; at = λ x. x }, tt)))))))))))))) 18 (0 ∷
-              0 ∷ 8 ∷ 9 ∷ 10 ∷ 11 ∷ []) (Call.sub-id 𝓤 H A W (G58 .slots))
-              (ShrSlice.spares-sslice 𝓤 H A W n8 y8 0, Shared.reads-sslice 𝓤 H A W n8 y8 0, Path'.refl,
-              (ShrSlice.spares-sslice 𝓤 H A W n8 y8 0, Shared.reads-sslice 𝓤 H A W n8 y8 0, Path'.refl,
-              (Reads'.as-is 𝓤 H A (Mut.mslice n16 y10 8), Mut.reads-mslice 𝓤 H A W n16 y10 8, Path'.refl,
-              (Reads'.as-is 𝓤 H A (Mut.mslice (Element.type) y9 9), Mut.reads-mslice 𝓤 H A W (Element.type) y9 9, Path'.refl,
-              (Reads'.as-is 𝓤 H A (Mut.mslice n16 y10 10), Mut.reads-mslice 𝓤 H A W n16 y10 10, Path'.refl,
-              ((Values.struct-copied 𝓤 H A W Form.the-type Laws'5.the-laws Laws'5.the-copy, Path'.refl),
-              (ShrRef.spares-sref 𝓤 H A W (Array'.Array n16 768) y19 11, Reads'.reads-sref 𝓤 H A W (Array'.Array n16 768) y19 11, Path'.refl,
-              ((Array.arr-yields 𝓤 H A W (Array.eInt Syntax.w8) (Array.eInt-laws Syntax.w8) 36, Path'.refl),
-              ((Values.struct-copied 𝓤 H A W Part.the-type Laws''.the-laws Laws''.the-copy, Path'.refl),
-              ((Scalar.reads-sc 𝓤 H A W (Row.sInt Syntax.w64), Path'.refl),
-              ((Values.struct-copied 𝓤 H A W Place.the-type Laws'.the-laws Laws'.the-copy, Path'.refl),
-              ((Scalar.reads-sc 𝓤 H A W (Row.sInt Syntax.w64), Path'.refl), (tt, ((Values.struct-copied 𝓤 H A W Entries.the-type Laws.the-laws Laws.the-copy, Path'.refl), tt))))))))))))))
+              (λ pos β. β) G58 (
+                record { pos = 13; ty = y8; ref = λ x. x },
+                (
+                  record { pos = 14; ty = y8; ref = λ x. x },
+                  (
+                    record { pos = 30; ty = y10; ref = λ x. x },
+                    (
+                      record { pos = 32; ty = y9; ref = λ x. x },
+                      (
+                        record { pos = 34; ty = y10; ref = λ x. x },
+                        (
+                          record { pos = 12; st = []; d = 0; at = λ x. x },
+                          (
+                            record { pos = 35; ty = y19; ref = λ x. x },
+                            (
+                              record { pos = 8; st = []; d = 0; at = λ x. x },
+                              (
+                                record { pos = 16; st = []; d = 0; at = λ x. x },
+                                (Num.vAt 5 λ x. x, (record { pos = 36; st = []; d = 0; at = λ x. x }, (Num.vAt 17 λ x. x, (Bool.bLit Bool'.false, (record { pos = 37; st = []; d = 0; at = λ x. x }, tt))))),
+                              ),
+                            ),
+                          ),
+                        ),
+                      ),
+                    ),
+                  ),
+                ),
+              ) 18 (0 ∷
+              0 ∷ 8 ∷ 9 ∷ 10 ∷ 11 ∷ []) (Call.sub-id 𝓤 H A W (G58 .slots)) (
+                ShrSlice.spares-sslice 𝓤 H A W n8 y8 0,
+                Shared.reads-sslice 𝓤 H A W n8 y8 0,
+                Path'.refl,
+                (
+                  ShrSlice.spares-sslice 𝓤 H A W n8 y8 0,
+                  Shared.reads-sslice 𝓤 H A W n8 y8 0,
+                  Path'.refl,
+                  (
+                    Reads'.as-is 𝓤 H A (Mut.mslice n16 y10 8),
+                    Mut.reads-mslice 𝓤 H A W n16 y10 8,
+                    Path'.refl,
+                    (
+                      Reads'.as-is 𝓤 H A (Mut.mslice (Element.type) y9 9),
+                      Mut.reads-mslice 𝓤 H A W (Element.type) y9 9,
+                      Path'.refl,
+                      (
+                        Reads'.as-is 𝓤 H A (Mut.mslice n16 y10 10),
+                        Mut.reads-mslice 𝓤 H A W n16 y10 10,
+                        Path'.refl,
+                        (
+                          (Values.struct-copied 𝓤 H A W Form.the-type Laws'5.the-laws Laws'5.the-copy, Path'.refl),
+                          (
+                            ShrRef.spares-sref 𝓤 H A W (Array'.Array n16 768) y19 11,
+                            Reads'.reads-sref 𝓤 H A W (Array'.Array n16 768) y19 11,
+                            Path'.refl,
+                            (
+                              (Array.arr-yields 𝓤 H A W (Array.eInt Syntax.w8) (Array.eInt-laws Syntax.w8) 36, Path'.refl),
+                              (
+                                (Values.struct-copied 𝓤 H A W Part.the-type Laws''.the-laws Laws''.the-copy, Path'.refl),
+                                (
+                                  (Scalar.reads-sc 𝓤 H A W (Row.sInt Syntax.w64), Path'.refl),
+                                  (
+                                    (Values.struct-copied 𝓤 H A W Place.the-type Laws'.the-laws Laws'.the-copy, Path'.refl),
+                                    ((Scalar.reads-sc 𝓤 H A W (Row.sInt Syntax.w64), Path'.refl), (tt, ((Values.struct-copied 𝓤 H A W Entries.the-type Laws.the-laws Laws.the-copy, Path'.refl), tt))),
+                                  ),
+                                ),
+                              ),
+                            ),
+                          ),
+                        ),
+                      ),
+                    ),
+                  ),
+                ),
+              )
               (Reads'.room-gone 𝓤 H A y27) (tt, (tt, (tt, (tt, (tt, (tt, tt)))))) Path'.refl) d46
 
           d48 : Typed.Typed 𝓤 H A 𝓣 E G57 (Syntax.seq b26 (Syntax.seq b27 b42)) Δ0 at48
@@ -2192,9 +2265,12 @@ module _ (claims· : Claims) where
 
           d67 : Typed.Typed 𝓤 H A 𝓣 E G38 (Syntax.seq b17 b52) Δ0 at67
           d67 = Typed.s-seq 𝓤 H A W 𝓣 E G38 G39 b17 b52 Δ0 (Typed.both s37) at66 (Plain.t-call-plain 𝓤 H A W 𝓣 2 ps·10 r·10 (claims· .20) (claims· .21) "saved_state::load::load_lines" (known .10) E (λ
-              pos β. β) G38 (record { pos = 4; ty = y4; ref = λ x. x; }, (record { pos = 27; ty = y10; ref = λ x. x; }, (Num.vAt 28 λ x. x, tt))) 20 (1 ∷ 7 ∷ []) (Call.sub-id 𝓤 H A W (G38 .slots))
-              (ShrSlice.spares-sslice 𝓤 H A W n8 y4 1, Shared.reads-sslice 𝓤 H A W n8 y4 1, Path'.refl,
-              (Reads'.as-is 𝓤 H A (Mut.mslice n16 y10 7), Mut.reads-mslice 𝓤 H A W n16 y10 7, Path'.refl, ((Scalar.reads-sc 𝓤 H A W (Row.sInt Syntax.w64), Path'.refl), tt))) (Reads'.room-gone 𝓤 H A
+              pos β. β) G38 (record { pos = 4; ty = y4; ref = λ x. x }, (record { pos = 27; ty = y10; ref = λ x. x }, (Num.vAt 28 λ x. x, tt))) 20 (1 ∷ 7 ∷ []) (Call.sub-id 𝓤 H A W (G38 .slots)) (
+                ShrSlice.spares-sslice 𝓤 H A W n8 y4 1,
+                Shared.reads-sslice 𝓤 H A W n8 y4 1,
+                Path'.refl,
+                (Reads'.as-is 𝓤 H A (Mut.mslice n16 y10 7), Mut.reads-mslice 𝓤 H A W n16 y10 7, Path'.refl, ((Scalar.reads-sc 𝓤 H A W (Row.sInt Syntax.w64), Path'.refl), tt)),
+              ) (Reads'.room-gone 𝓤 H A
               Syntax.tyUnit) (tt, (tt, tt)) Path'.refl) d66
 
           d68 : Typed.Typed 𝓤 H A 𝓣 E G37 (Syntax.seq b17 b52) Δ0 at68
@@ -2238,20 +2314,32 @@ module _ (claims· : Claims) where
 
           d78 : Typed.Typed 𝓤 H A 𝓣 E G27 (Syntax.seq b13 b56) Δ0 at78
           d78 = Typed.s-seq 𝓤 H A W 𝓣 E G27 G28 b13 b56 Δ0 (Typed.both s26) at77 (Plain.t-call-plain 𝓤 H A W 𝓣 2 ps·8 r·8 (claims· .16) (claims· .17) "saved_state::blocks::load_records" (known .8) E
-              (λ pos β. β) G27
-              (record { pos = 24; ty = y9; ref = λ x. x; },
-              (record { pos = 4; ty = y4; ref = λ x. x; },
-              (Bool.bFld 2 ((Syntax.field 0) ∷ []) 0 λ x. FujiHeader.struct .as-values x .0, (Num.vFld 2 ((Syntax.field 2) ∷ []) 4 λ x. FujiHeader.struct .as-values x .1 .1 .0, (Num.vAt 25 λ x. x, tt)))))
-              20 (6 ∷ 1 ∷ []) (Call.sub-id 𝓤 H A W (G27 .slots))
-              (Reads'.as-is 𝓤 H A (Mut.mslice (Element.type) y9 6), Mut.reads-mslice 𝓤 H A W (Element.type) y9 6, Path'.refl,
-              (ShrSlice.spares-sslice 𝓤 H A W n8 y4 1, Shared.reads-sslice 𝓤 H A W n8 y4 1, Path'.refl,
-              ((Reads.reads-field 𝓤 H A W FujiHeader.the-type Laws'7.the-laws 0 Syntax.tyBool 0 Path'.refl, Path'.refl),
-              ((Reads.reads-field 𝓤 H A W FujiHeader.the-type Laws'7.the-laws 2 u32 4 Path'.refl, Path'.refl), ((Scalar.reads-sc 𝓤 H A W (Row.sInt Syntax.w32), Path'.refl), tt))))) (Reads'.room-gone 𝓤 H A
+              (λ pos β. β) G27 (
+                record { pos = 24; ty = y9; ref = λ x. x },
+                (
+                  record { pos = 4; ty = y4; ref = λ x. x },
+                  (Bool.bFld 2 ((Syntax.field 0) ∷ []) 0 λ x. FujiHeader.struct .as-values x .0, (Num.vFld 2 ((Syntax.field 2) ∷ []) 4 λ x. FujiHeader.struct .as-values x .1 .1 .0, (Num.vAt 25 λ x. x, tt))),
+                ),
+              )
+              20 (6 ∷ 1 ∷ []) (Call.sub-id 𝓤 H A W (G27 .slots)) (
+                Reads'.as-is 𝓤 H A (Mut.mslice (Element.type) y9 6),
+                Mut.reads-mslice 𝓤 H A W (Element.type) y9 6,
+                Path'.refl,
+                (
+                  ShrSlice.spares-sslice 𝓤 H A W n8 y4 1,
+                  Shared.reads-sslice 𝓤 H A W n8 y4 1,
+                  Path'.refl,
+                  (
+                    (Reads.reads-field 𝓤 H A W FujiHeader.the-type Laws'7.the-laws 0 Syntax.tyBool 0 Path'.refl, Path'.refl),
+                    ((Reads.reads-field 𝓤 H A W FujiHeader.the-type Laws'7.the-laws 2 u32 4 Path'.refl, Path'.refl), ((Scalar.reads-sc 𝓤 H A W (Row.sInt Syntax.w32), Path'.refl), tt)),
+                  ),
+                ),
+              ) (Reads'.room-gone 𝓤 H A
               Syntax.tyUnit) (tt, (tt, tt)) Path'.refl) d77
 
           d79 : Typed.Typed 𝓤 H A 𝓣 E G26 (Syntax.seq b12 (Syntax.seq b13 b56)) Δ0 at79
           d79 = Typed.s-seq 𝓤 H A W 𝓣 E G26 G27 b12 (Syntax.seq b13 b56) Δ0 (Typed.both s25) at78 (Plain.t-call-plain 𝓤 H A W 𝓣 1 ps·7 r·7 (claims· .14) (claims· .15) "cameras::taking::base_of" (known
-              .7) E (λ pos β. β) G26 (record { pos = 14; ty = y8; ref = λ x. x; }, (Num.vLit 0, tt)) 25 (0 ∷ []) (Call.sub-id 𝓤 H A W (G26 .slots))
+              .7) E (λ pos β. β) G26 (record { pos = 14; ty = y8; ref = λ x. x }, (Num.vLit 0, tt)) 25 (0 ∷ []) (Call.sub-id 𝓤 H A W (G26 .slots))
               (ShrSlice.spares-sslice 𝓤 H A W n8 y8 0, Shared.reads-sslice 𝓤 H A W n8 y8 0, Path'.refl, (tt, tt)) (Reads'.room-gone 𝓤 H A u32) (tt, tt) Path'.refl) d78
 
           d80 : Typed.Typed 𝓤 H A 𝓣 E G25 b59 Δ0 at80
@@ -2287,7 +2375,7 @@ module _ (claims· : Claims) where
 
           d88 : Typed.Typed 𝓤 H A 𝓣 E G17 (Syntax.seq b9 b60) Δ0 at88
           d88 = Typed.s-seq 𝓤 H A W 𝓣 E G17 G18 b9 b60 Δ0 (Typed.both s16) at87 (Plain.t-call-plain 𝓤 H A W 𝓣 1 ps·6 r·6 (claims· .12) (claims· .13) "colour_lines::clear" (known .6) E (λ pos β. β) G17
-              (record { pos = 22; ty = y10; ref = λ x. x; }, tt) 20 (5 ∷ []) (Call.sub-id 𝓤 H A W (G17 .slots))
+              (record { pos = 22; ty = y10; ref = λ x. x }, tt) 20 (5 ∷ []) (Call.sub-id 𝓤 H A W (G17 .slots))
               (Reads'.as-is 𝓤 H A (Mut.mslice n16 y10 5), Mut.reads-mslice 𝓤 H A W n16 y10 5, Path'.refl, tt) (Reads'.room-gone 𝓤 H A Syntax.tyUnit) (tt, tt) Path'.refl) d87
 
           d89 : Typed.Typed 𝓤 H A 𝓣 E G16 (Syntax.seq b8 (Syntax.seq b9 b60)) Δ0 at89
@@ -2311,9 +2399,10 @@ module _ (claims· : Claims) where
           d93 : Typed.Typed 𝓤 H A 𝓣 E (on T12 l15) (Syntax.seq b6 b63) Δ0 at93
           d93 = Typed.s-seq 𝓤 H A W 𝓣 E (on T12 l15) (on T13 l15) b6 b63 Δ0 (Typed.both s11) at92 (Plain.t-call-plain 𝓤 H A W 𝓣 0 ps·5 r·5 (claims· .10) (claims· .11)
               "saved_state::blocks::lines_wanted" (known .5) E (λ pos β. β) (on T12 l15) (record { pos = 7; st = []; d = 0; at = λ x. x }, (Num.vAt 3 λ x. x, (Num.vAt 5 λ x. x, tt))) 17 [] (Call.sub-id 𝓤
-              H A W ((on T12 l15) .slots))
-              ((Values.struct-copied 𝓤 H A W Rect.the-type Laws'3.the-laws Laws'3.the-copy, Path'.refl),
-              ((Scalar.reads-sc 𝓤 H A W (Row.sInt Syntax.w64), Path'.refl), ((Scalar.reads-sc 𝓤 H A W (Row.sInt Syntax.w64), Path'.refl), tt))) (Reads'.room-gone 𝓤 H A u64) tt Path'.refl) d92
+              H A W ((on T12 l15) .slots)) (
+                (Values.struct-copied 𝓤 H A W Rect.the-type Laws'3.the-laws Laws'3.the-copy, Path'.refl),
+                ((Scalar.reads-sc 𝓤 H A W (Row.sInt Syntax.w64), Path'.refl), ((Scalar.reads-sc 𝓤 H A W (Row.sInt Syntax.w64), Path'.refl), tt)),
+              ) (Reads'.room-gone 𝓤 H A u64) tt Path'.refl) d92
 
           d94 : Typed.Typed 𝓤 H A 𝓣 E (on T11 l15) (Syntax.seq b5 (Syntax.seq b6 b63)) Δ0 at94
           d94 = Typed.s-seq 𝓤 H A W 𝓣 E (on T11 l15) (on T12 l15) b5 (Syntax.seq b6 b63) Δ0 (Typed.both s10) at93 (Plain.t-call-plain 𝓤 H A W 𝓣 0 ps·4 r·4 (claims· .8) (claims· .9)
@@ -2338,13 +2427,13 @@ module _ (claims· : Claims) where
 
           d98 : Typed.Typed 𝓤 H A 𝓣 E (on T7 l15) (Syntax.seq b2 (Syntax.seq b3 b66)) Δ0 at98
           d98 = Typed.s-seq 𝓤 H A W 𝓣 E (on T7 l15) (on T8 l15) b2 (Syntax.seq b3 b66) Δ0 (Typed.both s6) at97 (Plain.t-call-plain 𝓤 H A W 𝓣 1 ps·2 r·2 (claims· .4) (claims· .5) "stream::base_row"
-              (known .2) E (λ pos β. β) (on T7 l15) (record { pos = 1; ty = y3; ref = λ x. x; }, (Num.vAt 3 λ x. x, tt)) 14 (0 ∷ []) (Call.sub-id 𝓤 H A W ((on T7 l15) .slots))
+              (known .2) E (λ pos β. β) (on T7 l15) (record { pos = 1; ty = y3; ref = λ x. x }, (Num.vAt 3 λ x. x, tt)) 14 (0 ∷ []) (Call.sub-id 𝓤 H A W ((on T7 l15) .slots))
               (ShrSlice.spares-sslice 𝓤 H A W n8 y3 0, Shared.reads-sslice 𝓤 H A W n8 y3 0, Path'.refl, ((Scalar.reads-sc 𝓤 H A W (Row.sInt Syntax.w64), Path'.refl), tt)) (Reads'.room-gone 𝓤 H A y22)
               (tt, tt) (Path'.refl, λ b o k. tt)) d97
 
           d99 : Typed.Typed 𝓤 H A 𝓣 E (on T6 l15) b69 Δ0 at99
           d99 = Typed.s-seq 𝓤 H A W 𝓣 E (on T6 l15) (on T7 l15) b1 (Syntax.seq b2 (Syntax.seq b3 b66)) Δ0 (Typed.both s5) at98 (Plain.t-call-plain 𝓤 H A W 𝓣 1 ps·1 r·1 (claims· .2) (claims· .3)
-              "stream::block_bytes" (known .1) E (λ pos β. β) (on T6 l15) (record { pos = 1; ty = y3; ref = λ x. x; }, (Num.vAt 3 λ x. x, tt)) 13 (0 ∷ []) (Call.sub-id 𝓤 H A W ((on T6 l15) .slots))
+              "stream::block_bytes" (known .1) E (λ pos β. β) (on T6 l15) (record { pos = 1; ty = y3; ref = λ x. x }, (Num.vAt 3 λ x. x, tt)) 13 (0 ∷ []) (Call.sub-id 𝓤 H A W ((on T6 l15) .slots))
               (ShrSlice.spares-sslice 𝓤 H A W n8 y3 0, Shared.reads-sslice 𝓤 H A W n8 y3 0, Path'.refl, ((Scalar.reads-sc 𝓤 H A W (Row.sInt Syntax.w64), Path'.refl), tt)) (Reads'.room-gone 𝓤 H A y22)
               (tt, tt) (Path'.refl, λ b o k. tt)) d98
 
@@ -2399,9 +2488,12 @@ module _ (claims· : Claims) where
       m0 = λ κs args. (tt, Enter.partsP κs 1 ps xs (dens κs args))
 
       abbrev W0 : (κs : Lifetimes.Lfts 5) → (args : Args κs) → Typed.Want O0
-      W0 = λ κs args.
-          (λ u. ⊥, tt, λ u. Enter.Fixs κs 1 ps xs (dens κs args) (u .1) × Post· κs (dens κs args) (Function.resV r κs (u .0)) (Clauses.atExit (Kinds.endedOf 5 ps r) κs (dens κs args) (Enter.lastsP κs 1 ps
-          xs (dens κs args) (u .1))))
+      W0 = λ κs args. (
+        λ u. ⊥,
+        tt,
+        λ u. Enter.Fixs κs 1 ps xs (dens κs args) (u .1) × Post· κs (dens κs args) (Function.resV r κs (u .0)) (Clauses.atExit (Kinds.endedOf 5 ps r) κs (dens κs args) (Enter.lastsP κs 1 ps
+            xs (dens κs args) (u .1))),
+      )
 
       pub record Start : Type 0 where
         pub κs : Lifetimes.Lfts 5
@@ -2482,7 +2574,7 @@ module _ (claims· : Claims) where
 
       module _ (before· : After-form-of) where
         abbrev pub After-block-bytes·own : Type 0
-        After-block-bytes·own = Called.Called ps·1 r·1 (claims· .3) T6 (record { pos = 1; ty = y3; ref = λ x. x; }, (Num.vAt 3 λ x. x, tt)) (m5 (before· .before) (After-form-of·gave before·))
+        After-block-bytes·own = Called.Called ps·1 r·1 (claims· .3) T6 (record { pos = 1; ty = y3; ref = λ x. x }, (Num.vAt 3 λ x. x, tt)) (m5 (before· .before) (After-form-of·gave before·))
 
       pub record After-block-bytes : Type 0 where
         pub before : After-form-of
@@ -2492,7 +2584,7 @@ module _ (claims· : Claims) where
       After-block-bytes·start = λ c. c .before .before .before .before .before .before
 
       abbrev pub After-block-bytes·gave : (c : After-block-bytes) → s5 .gives (m5 (c .before .before) (After-form-of·gave (c .before)))
-      After-block-bytes·gave = λ c. Called.given ps·1 r·1 (claims· .3) T6 (record { pos = 1; ty = y3; ref = λ x. x; }, (Num.vAt 3 λ x. x, tt)) (m5 (c .before .before) (After-form-of·gave (c .before)))
+      After-block-bytes·gave = λ c. Called.given ps·1 r·1 (claims· .3) T6 (record { pos = 1; ty = y3; ref = λ x. x }, (Num.vAt 3 λ x. x, tt)) (m5 (c .before .before) (After-form-of·gave (c .before)))
           (c .block-bytes)
 
       abbrev pub Need-base-row-requires : Type 0
@@ -2503,7 +2595,7 @@ module _ (claims· : Claims) where
 
       module _ (before· : After-block-bytes) where
         abbrev pub After-base-row·own : Type 0
-        After-base-row·own = Called.Called ps·2 r·2 (claims· .5) T7 (record { pos = 1; ty = y3; ref = λ x. x; }, (Num.vAt 3 λ x. x, tt)) (m6 (before· .before) (After-block-bytes·gave before·))
+        After-base-row·own = Called.Called ps·2 r·2 (claims· .5) T7 (record { pos = 1; ty = y3; ref = λ x. x }, (Num.vAt 3 λ x. x, tt)) (m6 (before· .before) (After-block-bytes·gave before·))
 
       pub record After-base-row : Type 0 where
         pub before : After-block-bytes
@@ -2513,7 +2605,7 @@ module _ (claims· : Claims) where
       After-base-row·start = λ c. c .before .before .before .before .before .before .before
 
       abbrev pub After-base-row·gave : (c : After-base-row) → s6 .gives (m6 (c .before .before) (After-block-bytes·gave (c .before)))
-      After-base-row·gave = λ c. Called.given ps·2 r·2 (claims· .5) T7 (record { pos = 1; ty = y3; ref = λ x. x; }, (Num.vAt 3 λ x. x, tt)) (m6 (c .before .before) (After-block-bytes·gave (c
+      After-base-row·gave = λ c. Called.given ps·2 r·2 (claims· .5) T7 (record { pos = 1; ty = y3; ref = λ x. x }, (Num.vAt 3 λ x. x, tt)) (m6 (c .before .before) (After-block-bytes·gave (c
           .before))) (c .base-row)
 
       abbrev pub Need-xtrans-places-requires : Type 0
@@ -2605,7 +2697,7 @@ module _ (claims· : Claims) where
 
       module _ (before· : After-clear-arg) where
         abbrev pub After-clear·own : Type 0
-        After-clear·own = Called.Called ps·6 r·6 (claims· .13) T17 (record { pos = 22; ty = y10; ref = λ x. x; }, tt) (m15 (before· .before) (before· .clear-arg .given))
+        After-clear·own = Called.Called ps·6 r·6 (claims· .13) T17 (record { pos = 22; ty = y10; ref = λ x. x }, tt) (m15 (before· .before) (before· .clear-arg .given))
 
       pub record After-clear : Type 0 where
         pub before : After-clear-arg
@@ -2615,7 +2707,7 @@ module _ (claims· : Claims) where
       After-clear·start = λ c. c .before .before .before .before .before .before .before .before .before .before .before .before
 
       abbrev pub After-clear·gave : (c : After-clear) → s16 .gives (m15 (c .before .before) (c .before .clear-arg .given))
-      After-clear·gave = λ c. Called.given ps·6 r·6 (claims· .13) T17 (record { pos = 22; ty = y10; ref = λ x. x; }, tt) (m15 (c .before .before) (c .before .clear-arg .given)) (c .clear)
+      After-clear·gave = λ c. Called.given ps·6 r·6 (claims· .13) T17 (record { pos = 22; ty = y10; ref = λ x. x }, tt) (m15 (c .before .before) (c .before .clear-arg .given)) (c .clear)
 
       abbrev pub m17 : (before : After-clear-arg) → (given : s16 .gives (m15 (before .before) (before .clear-arg .given))) → Typed.Mo T19
       m17 = λ before given. s17 (m16 before given)
@@ -2661,7 +2753,7 @@ module _ (claims· : Claims) where
 
       module _ (before· : After-load-records-arg) where
         abbrev pub After-base-of·own : Type 0
-        After-base-of·own = Called.Called ps·7 r·7 (claims· .15) T26 (record { pos = 14; ty = y8; ref = λ x. x; }, (Num.vLit 0, tt)) (m21 (before· .before) (before· .load-records-arg .given))
+        After-base-of·own = Called.Called ps·7 r·7 (claims· .15) T26 (record { pos = 14; ty = y8; ref = λ x. x }, (Num.vLit 0, tt)) (m21 (before· .before) (before· .load-records-arg .given))
 
       pub record After-base-of : Type 0 where
         pub before : After-load-records-arg
@@ -2671,7 +2763,7 @@ module _ (claims· : Claims) where
       After-base-of·start = λ c. c .before .before .before .before .before .before .before .before .before .before .before .before .before .before .before .before
 
       abbrev pub After-base-of·gave : (c : After-base-of) → s25 .gives (m21 (c .before .before) (c .before .load-records-arg .given))
-      After-base-of·gave = λ c. Called.given ps·7 r·7 (claims· .15) T26 (record { pos = 14; ty = y8; ref = λ x. x; }, (Num.vLit 0, tt)) (m21 (c .before .before) (c .before .load-records-arg .given))
+      After-base-of·gave = λ c. Called.given ps·7 r·7 (claims· .15) T26 (record { pos = 14; ty = y8; ref = λ x. x }, (Num.vLit 0, tt)) (m21 (c .before .before) (c .before .load-records-arg .given))
           (c .base-of)
 
       abbrev pub Need-load-records-requires : Type 0
@@ -2752,7 +2844,7 @@ module _ (claims· : Claims) where
 
       module _ (before· : After-width) where
         abbrev pub After-load-lines·own : Type 0
-        After-load-lines·own = Called.Called ps·10 r·10 (claims· .21) T38 (record { pos = 4; ty = y4; ref = λ x. x; }, (record { pos = 27; ty = y10; ref = λ x. x; }, (Num.vAt 28 λ x. x, tt))) (m30
+        After-load-lines·own = Called.Called ps·10 r·10 (claims· .21) T38 (record { pos = 4; ty = y4; ref = λ x. x }, (record { pos = 27; ty = y10; ref = λ x. x }, (Num.vAt 28 λ x. x, tt))) (m30
             (before· .before) (After-width·gave before·))
 
       pub record After-load-lines : Type 0 where
@@ -2764,7 +2856,7 @@ module _ (claims· : Claims) where
           .before
 
       abbrev pub After-load-lines·gave : (c : After-load-lines) → s37 .gives (m30 (c .before .before) (After-width·gave (c .before)))
-      After-load-lines·gave = λ c. Called.given ps·10 r·10 (claims· .21) T38 (record { pos = 4; ty = y4; ref = λ x. x; }, (record { pos = 27; ty = y10; ref = λ x. x; }, (Num.vAt 28 λ x. x, tt))) (m30
+      After-load-lines·gave = λ c. Called.given ps·10 r·10 (claims· .21) T38 (record { pos = 4; ty = y4; ref = λ x. x }, (record { pos = 27; ty = y10; ref = λ x. x }, (Num.vAt 28 λ x. x, tt))) (m30
           (c .before .before) (After-width·gave (c .before))) (c .load-lines)
 
       abbrev pub m33 : (before : After-width) → (given : s37 .gives (m30 (before .before) (After-width·gave before))) → Typed.Mo T41
@@ -2976,7 +3068,7 @@ module _ (claims· : Claims) where
 
       module _ (before· : After-clear-arg2) where
         abbrev pub After-clear2·own : Type 0
-        After-clear2·own = Called.Called ps·6 r·6 (claims· .13) T85 (record { pos = 39; ty = y10; ref = λ x. x; }, tt) (m62 (before· .before) (before· .clear-arg2 .given))
+        After-clear2·own = Called.Called ps·6 r·6 (claims· .13) T85 (record { pos = 39; ty = y10; ref = λ x. x }, tt) (m62 (before· .before) (before· .clear-arg2 .given))
 
       pub record After-clear2 : Type 0 where
         pub before : After-clear-arg2
@@ -2987,7 +3079,7 @@ module _ (claims· : Claims) where
           .before .before .before .before .before .before .before .before .before .before .before .before .before .before .before .before .before
 
       abbrev pub After-clear2·gave : (c : After-clear2) → s84 .gives (m62 (c .before .before) (c .before .clear-arg2 .given))
-      After-clear2·gave = λ c. Called.given ps·6 r·6 (claims· .13) T85 (record { pos = 39; ty = y10; ref = λ x. x; }, tt) (m62 (c .before .before) (c .before .clear-arg2 .given)) (c .clear2)
+      After-clear2·gave = λ c. Called.given ps·6 r·6 (claims· .13) T85 (record { pos = 39; ty = y10; ref = λ x. x }, tt) (m62 (c .before .before) (c .before .clear-arg2 .given)) (c .clear2)
 
       abbrev pub m64 : (before : After-clear-arg2) → (given : s84 .gives (m62 (before .before) (before .clear-arg2 .given))) → Typed.Mo T87
       m64 = λ before given. s85 (m63 before given)
@@ -3033,7 +3125,7 @@ module _ (claims· : Claims) where
 
       module _ (before· : After-clear-records-arg) where
         abbrev pub After-clear-records·own : Type 0
-        After-clear-records·own = Called.Called ps·14 r·14 (claims· .29) T94 (record { pos = 41; ty = y9; ref = λ x. x; }, tt) (m68 (before· .before) (before· .clear-records-arg .given))
+        After-clear-records·own = Called.Called ps·14 r·14 (claims· .29) T94 (record { pos = 41; ty = y9; ref = λ x. x }, tt) (m68 (before· .before) (before· .clear-records-arg .given))
 
       pub record After-clear-records : Type 0 where
         pub before : After-clear-records-arg
@@ -3044,7 +3136,7 @@ module _ (claims· : Claims) where
           .before .before .before .before .before .before .before .before .before .before .before .before .before .before .before .before .before .before .before .before .before
 
       abbrev pub After-clear-records·gave : (c : After-clear-records) → s93 .gives (m68 (c .before .before) (c .before .clear-records-arg .given))
-      After-clear-records·gave = λ c. Called.given ps·14 r·14 (claims· .29) T94 (record { pos = 41; ty = y9; ref = λ x. x; }, tt) (m68 (c .before .before) (c .before .clear-records-arg .given)) (c
+      After-clear-records·gave = λ c. Called.given ps·14 r·14 (claims· .29) T94 (record { pos = 41; ty = y9; ref = λ x. x }, tt) (m68 (c .before .before) (c .before .clear-records-arg .given)) (c
           .clear-records)
 
       abbrev pub m70 : (before : After-clear-records-arg) → (given : s93 .gives (m68 (before .before) (before .clear-records-arg .given))) → Typed.Mo T96
@@ -3137,130 +3229,223 @@ module _ (claims· : Claims) where
           Need-clear-records-requires) (resume-answer-requires : Need-resume-answer-requires) (same-length : Need-same-length) (same-length-2 : Need-same-length-2) (same-length-3 : Need-same-length-3)
           (returns : Need-returns) where
         lay17 : (c : After-resume-answer) → at5 (W0 (After-resume-answer·start c .κs) (After-resume-answer·start c .args)) (m72 (c .before) (After-resume-answer·gave c))
-        lay17 = λ c.
-            ((Path'.refl,
-            (tt,
-            (tt,
-            (Path'.refl,
-            (tt,
-            (tt,
-            (tt,
-            (tt,
-            (MutSlice.fix-len (Row.get 9 (T1 .locals) (m77 (c .before) (After-resume-answer·gave c)) .ptr) (Row.get 9 (T1 .locals) (m77 (c .before) (After-resume-answer·gave c)) .name) (Row.get 9 (T1
-            .locals) (m77 (c .before) (After-resume-answer·gave c)) .now) (dens (After-resume-answer·start c .κs) (After-resume-answer·start c .args) .1 .1 .1 .1 .1 .1 .1 .1 .0 .now) (same-length c),
-            (MutSlice.fix-len (Row.get 10 (T1 .locals) (m77 (c .before) (After-resume-answer·gave c)) .ptr) (Row.get 10 (T1 .locals) (m77 (c .before) (After-resume-answer·gave c)) .name) (Row.get 10 (T1
-            .locals) (m77 (c .before) (After-resume-answer·gave c)) .now) (dens (After-resume-answer·start c .κs) (After-resume-answer·start c .args) .1 .1 .1 .1 .1 .1 .1 .1 .1 .0 .now) (same-length-2 c),
-            (MutSlice.fix-len (Row.get 11 (T1 .locals) (m77 (c .before) (After-resume-answer·gave c)) .ptr) (Row.get 11 (T1 .locals) (m77 (c .before) (After-resume-answer·gave c)) .name) (Row.get 11 (T1
-            .locals) (m77 (c .before) (After-resume-answer·gave c)) .now) (dens (After-resume-answer·start c .κs) (After-resume-answer·start c .args) .1 .1 .1 .1 .1 .1 .1 .1 .1 .1 .0 .now) (same-length-3
-            c), tt))))))))))), returns c)
+        lay17 = λ c. (
+          (
+            Path'.refl,
+            (
+              tt,
+              (
+                tt,
+                (
+                  Path'.refl,
+                  (
+                    tt,
+                    (
+                      tt,
+                      (
+                        tt,
+                        (
+                          tt,
+                          (
+                            MutSlice.fix-len (Row.get 9 (T1 .locals) (m77 (c .before) (After-resume-answer·gave c)) .ptr) (Row.get 9 (T1 .locals) (m77 (c .before) (After-resume-answer·gave c)) .name) (Row.get 9 (T1
+                                .locals) (m77 (c .before) (After-resume-answer·gave c)) .now) (dens (After-resume-answer·start c .κs) (After-resume-answer·start c .args) .1 .1 .1 .1 .1 .1 .1 .1 .0 .now) (same-length c),
+                            (
+                              MutSlice.fix-len (Row.get 10 (T1 .locals) (m77 (c .before) (After-resume-answer·gave c)) .ptr) (Row.get 10 (T1 .locals) (m77 (c .before) (After-resume-answer·gave c)) .name) (Row.get 10 (T1
+                                  .locals) (m77 (c .before) (After-resume-answer·gave c)) .now) (dens (After-resume-answer·start c .κs) (After-resume-answer·start c .args) .1 .1 .1 .1 .1 .1 .1 .1 .1 .0 .now) (same-length-2 c),
+                              (
+                                MutSlice.fix-len (Row.get 11 (T1 .locals) (m77 (c .before) (After-resume-answer·gave c)) .ptr) (Row.get 11 (T1 .locals) (m77 (c .before) (After-resume-answer·gave c)) .name) (Row.get 11 (T1
+                                    .locals) (m77 (c .before) (After-resume-answer·gave c)) .now) (dens (After-resume-answer·start c .κs) (After-resume-answer·start c .args) .1 .1 .1 .1 .1 .1 .1 .1 .1 .1 .0 .now) (same-length-3
+                                    c),
+                                tt,
+                              ),
+                            ),
+                          ),
+                        ),
+                      ),
+                    ),
+                  ),
+                ),
+              ),
+            ),
+          ),
+          returns c,
+        )
 
         lay16 : (c : After-clear-records) → at10 (W0 (After-clear-records·start c .κs) (After-clear-records·start c .args)) (m69 (c .before) (After-clear-records·gave c))
-        lay16 = λ c.
-            (Path'.refl, λ g. let c1 : After-rs3 = record { before = c; rs3 = record { given = g }; } in
-            (resume-answer-requires c1, λ g'. lay17 record
-            { before = c1; resume-answer = Called.called ps·15 r·15 (claims· .31) T82 (Num.vAt 3 λ x. x, (Num.vAt 6 λ x. x, (record { pos = 18; st = []; d = 0; at = λ x. x }, tt))) (m71 c g) g'; }))
+        lay16 = λ c. (
+          Path'.refl,
+          λ g. let c1 : After-rs3 = record { before = c; rs3 = record { given = g } } in (
+            resume-answer-requires c1,
+            λ g'. lay17 record
+                { before = c1; resume-answer = Called.called ps·15 r·15 (claims· .31) T82 (Num.vAt 3 λ x. x, (Num.vAt 6 λ x. x, (record { pos = 18; st = []; d = 0; at = λ x. x }, tt))) (m71 c g) g' },
+          ),
+        )
 
         lay15 : (c : After-clear2) → at19 (W0 (After-clear2·start c .κs) (After-clear2·start c .args)) (m63 (c .before) (After-clear2·gave c))
-        lay15 = λ c.
-            (Path'.refl, λ g. let c1 : After-lines4 = record { before = c; lines4 = record { given = g }; } in λ g'. let c2 : After-slice-known7 = record
-            { before = c1; slice-known7 = record { given = g' }; } in λ g''. let c3 : After-clear-records-arg = record { before = c2; clear-records-arg = record { given = g'' }; } in
-            (Path'.refl,
-            (clear-records-requires c3, λ g'3. lay16 record
-            { before = c3; clear-records = Called.called ps·14 r·14 (claims· .29) T94 (record { pos = 41; ty = y9; ref = λ x. x; }, tt) (m68 c2 g'') g'3; })))
+        lay15 = λ c. (
+          Path'.refl,
+          λ g. let c1 : After-lines4 = record { before = c; lines4 = record { given = g } } in λ g'. let c2 : After-slice-known7 = record
+              { before = c1; slice-known7 = record { given = g' } } in λ g''. let c3 : After-clear-records-arg = record { before = c2; clear-records-arg = record { given = g'' } } in (
+                Path'.refl,
+                (
+                  clear-records-requires c3,
+                  λ g'3. lay16 record
+                      { before = c3; clear-records = Called.called ps·14 r·14 (claims· .29) T94 (record { pos = 41; ty = y9; ref = λ x. x }, tt) (m68 c2 g'') g'3 },
+                ),
+              ),
+        )
 
         lay14 : (c : After-read-lines) → at46 (W0 (After-read-lines·start c .κs) (After-read-lines·start c .args)) (m45 (c .before) (After-read-lines·gave c))
-        lay14 = λ c.
-            (Path'.refl, λ g. let c1 : After-lines3 = record { before = c; lines3 = record { given = g }; } in λ g'. let c2 : After-slice-known5 = record
-            { before = c1; slice-known5 = record { given = g' }; } in
-            (Path'.refl, λ g''. let c3 : After-rs2 = record { before = c2; rs2 = record { given = g'' }; } in
-            (Path'.refl, λ g'3. let c4 : After-image = record { before = c3; image = record { given = g'3 }; } in λ g'4. let c5 : After-slice-known6 = record
-            { before = c4; slice-known6 = record { given = g'4 }; } in λ g'5. let c6 : After-clear-arg2 = record { before = c5; clear-arg2 = record { given = g'5 }; } in
-            (Path'.refl,
-            (clear-requires-2 c6, λ g'6. lay15 record { before = c6; clear2 = Called.called ps·6 r·6 (claims· .13) T85 (record { pos = 39; ty = y10; ref = λ x. x; }, tt) (m62 c5 g'5) g'6; })))))
+        lay14 = λ c. (
+          Path'.refl,
+          λ g. let c1 : After-lines3 = record { before = c; lines3 = record { given = g } } in λ g'. let c2 : After-slice-known5 = record
+              { before = c1; slice-known5 = record { given = g' } } in (
+                Path'.refl,
+                λ g''. let c3 : After-rs2 = record { before = c2; rs2 = record { given = g'' } } in (
+                  Path'.refl,
+                  λ g'3. let c4 : After-image = record { before = c3; image = record { given = g'3 } } in λ g'4. let c5 : After-slice-known6 = record
+                      { before = c4; slice-known6 = record { given = g'4 } } in λ g'5. let c6 : After-clear-arg2 = record { before = c5; clear-arg2 = record { given = g'5 } } in (
+                        Path'.refl,
+                        (clear-requires-2 c6, λ g'6. lay15 record { before = c6; clear2 = Called.called ps·6 r·6 (claims· .13) T85 (record { pos = 39; ty = y10; ref = λ x. x }, tt) (m62 c5 g'5) g'6 }),
+                      ),
+                ),
+              ),
+        )
 
         lay13 : (c : After-no-entries) → at47 (W0 (After-no-entries·start c .κs) (After-no-entries·start c .args)) (m44 (c .before) (After-no-entries·gave c))
-        lay13 = λ c. (read-lines-requires c, λ g. lay14 record { before = c; read-lines = Called.called ps·13 r·13 (claims· .27) T58 a0 (m44 (c .before) (After-no-entries·gave c)) g; })
+        lay13 = λ c. (read-lines-requires c, λ g. lay14 record { before = c; read-lines = Called.called ps·13 r·13 (claims· .27) T58 a0 (m44 (c .before) (After-no-entries·gave c)) g })
 
         lay12 : (c : After-place-at) → at48 (W0 (After-place-at·start c .κs) (After-place-at·start c .args)) (m43 (c .before) (After-place-at·gave c))
-        lay12 = λ c. (no-entries-requires c, λ g. lay13 record { before = c; no-entries = Called.called ps·12 r·12 (claims· .25) T57 tt (m43 (c .before) (After-place-at·gave c)) g; })
+        lay12 = λ c. (no-entries-requires c, λ g. lay13 record { before = c; no-entries = Called.called ps·12 r·12 (claims· .25) T57 tt (m43 (c .before) (After-place-at·gave c)) g })
 
         lay11 : (c : After-load-lines) → at66 (W0 (After-load-lines·start c .κs) (After-load-lines·start c .args)) (m31 (c .before) (After-load-lines·gave c))
-        lay11 = λ c.
-            (Path'.refl, λ g. let c1 : After-lines2 = record { before = c; lines2 = record { given = g }; } in λ g'. let c2 : After-slice-known4 = record
-            { before = c1; slice-known4 = record { given = g' }; } in λ g''. let c3 : After-read-lines-arg = record { before = c2; read-lines-arg = record { given = g'' }; } in
-            (Path'.refl, λ g'3. let c4 : After-read-lines-arg2 = record { before = c3; read-lines-arg2 = record { given = g'3 }; } in
-            (Path'.refl, λ g'4. let c5 : After-read-lines-arg3 = record { before = c4; read-lines-arg3 = record { given = g'4 }; } in
-            (Path'.refl, λ g'5. let c6 : After-places = record { before = c5; places = record { given = g'5 }; } in
-            (place-at-requires c6, λ g'6. lay12 record { before = c6; place-at = Called.called ps·11 r·11 (claims· .23) T56 (Num.vAt 6 λ x. x, tt) (m42 c5 g'5) g'6; })))))
+        lay11 = λ c. (
+          Path'.refl,
+          λ g. let c1 : After-lines2 = record { before = c; lines2 = record { given = g } } in λ g'. let c2 : After-slice-known4 = record
+              { before = c1; slice-known4 = record { given = g' } } in λ g''. let c3 : After-read-lines-arg = record { before = c2; read-lines-arg = record { given = g'' } } in (
+                Path'.refl,
+                λ g'3. let c4 : After-read-lines-arg2 = record { before = c3; read-lines-arg2 = record { given = g'3 } } in (
+                  Path'.refl,
+                  λ g'4. let c5 : After-read-lines-arg3 = record { before = c4; read-lines-arg3 = record { given = g'4 } } in (
+                    Path'.refl,
+                    λ g'5. let c6 : After-places = record { before = c5; places = record { given = g'5 } } in
+                        (place-at-requires c6, λ g'6. lay12 record { before = c6; place-at = Called.called ps·11 r·11 (claims· .23) T56 (Num.vAt 6 λ x. x, tt) (m42 c5 g'5) g'6 }),
+                  ),
+                ),
+              ),
+        )
 
         lay10 : (c : After-width) → at68 (W0 (After-width·start c .κs) (After-width·start c .args)) (m29 (c .before) (After-width·gave c))
-        lay10 = λ c.
-            (load-lines-requires c, λ g. lay11 record
-            { before = c; load-lines = Called.called ps·10 r·10 (claims· .21) T38 (record { pos = 4; ty = y4; ref = λ x. x; }, (record { pos = 27; ty = y10; ref = λ x. x; }, (Num.vAt 28 λ x. x, tt))) (m30
-            (c .before) (After-width·gave c)) g; })
+        lay10 = λ c. (
+          load-lines-requires c,
+          λ g. lay11 record {
+            before = c;
+            load-lines = Called.called ps·10 r·10 (claims· .21) T38 (record { pos = 4; ty = y4; ref = λ x. x }, (record { pos = 27; ty = y10; ref = λ x. x }, (Num.vAt 28 λ x. x, tt))) (m30
+                (c .before) (After-width·gave c)) g;
+          },
+        )
 
         lay9 : (c : After-load-records) → at77 (W0 (After-load-records·start c .κs) (After-load-records·start c .args)) (m23 (c .before) (After-load-records·gave c))
-        lay9 = λ c.
-            (Path'.refl, λ g. let c1 : After-rs = record { before = c; rs = record { given = g }; } in λ g'. let c2 : After-load-lines-arg = record { before = c1; load-lines-arg = record { given = g' }; }
-            in
-            (Path'.refl,
-            (width-requires c2, λ g''. lay10 record
-            { before = c2; width = Called.called ps·9 r·9 (claims· .19) T36 (Bool.bFld 2 ((Syntax.field 1) ∷ []) 1 λ x. FujiHeader.struct .as-values x .1 .0, tt) (m28 c1 g') g''; })))
+        lay9 = λ c. (
+          Path'.refl,
+          λ g. let c1 : After-rs = record { before = c; rs = record { given = g } } in λ g'. let c2 : After-load-lines-arg = record { before = c1; load-lines-arg = record { given = g' } }
+              in (
+                Path'.refl,
+                (
+                  width-requires c2,
+                  λ g''. lay10 record
+                      { before = c2; width = Called.called ps·9 r·9 (claims· .19) T36 (Bool.bFld 2 ((Syntax.field 1) ∷ []) 1 λ x. FujiHeader.struct .as-values x .1 .0, tt) (m28 c1 g') g'' },
+                ),
+              ),
+        )
 
         lay8 : (c : After-base-of) → at78 (W0 (After-base-of·start c .κs) (After-base-of·start c .args)) (m22 (c .before) (After-base-of·gave c))
-        lay8 = λ c. (load-records-requires c, λ g. lay9 record { before = c; load-records = Called.called ps·8 r·8 (claims· .17) T27 a1 (m22 (c .before) (After-base-of·gave c)) g; })
+        lay8 = λ c. (load-records-requires c, λ g. lay9 record { before = c; load-records = Called.called ps·8 r·8 (claims· .17) T27 a1 (m22 (c .before) (After-base-of·gave c)) g })
 
         lay7 : (c : After-clear) → at87 (W0 (After-clear·start c .κs) (After-clear·start c .args)) (m16 (c .before) (After-clear·gave c))
-        lay7 = λ c.
-            (Path'.refl, λ g. let c1 : After-lines = record { before = c; lines = record { given = g }; } in λ g'. let c2 : After-slice-known3 = record
-            { before = c1; slice-known3 = record { given = g' }; } in λ g''. let c3 : After-load-records-arg = record { before = c2; load-records-arg = record { given = g'' }; } in
-            (Path'.refl,
-            (base-of-requires c3, λ g'3. lay8 record
-            { before = c3; base-of = Called.called ps·7 r·7 (claims· .15) T26 (record { pos = 14; ty = y8; ref = λ x. x; }, (Num.vLit 0, tt)) (m21 c2 g'') g'3; })))
+        lay7 = λ c. (
+          Path'.refl,
+          λ g. let c1 : After-lines = record { before = c; lines = record { given = g } } in λ g'. let c2 : After-slice-known3 = record
+              { before = c1; slice-known3 = record { given = g' } } in λ g''. let c3 : After-load-records-arg = record { before = c2; load-records-arg = record { given = g'' } } in (
+                Path'.refl,
+                (
+                  base-of-requires c3,
+                  λ g'3. lay8 record
+                      { before = c3; base-of = Called.called ps·7 r·7 (claims· .15) T26 (record { pos = 14; ty = y8; ref = λ x. x }, (Num.vLit 0, tt)) (m21 c2 g'') g'3 },
+                ),
+              ),
+        )
 
         lay6 : (c : After-lines-wanted) → at92 (W0 (After-lines-wanted·start c .κs) (After-lines-wanted·start c .args)) (m12 (c .before) (After-lines-wanted·gave c))
-        lay6 = λ c. λ g. let c1 : After-clear-arg = record { before = c; clear-arg = record { given = g }; } in
-            (Path'.refl, (clear-requires c1, λ g'. lay7 record { before = c1; clear = Called.called ps·6 r·6 (claims· .13) T17 (record { pos = 22; ty = y10; ref = λ x. x; }, tt) (m15 c g) g'; }))
+        lay6 = λ c. λ g. let c1 : After-clear-arg = record { before = c; clear-arg = record { given = g } } in
+            (Path'.refl, (clear-requires c1, λ g'. lay7 record { before = c1; clear = Called.called ps·6 r·6 (claims· .13) T17 (record { pos = 22; ty = y10; ref = λ x. x }, tt) (m15 c g) g' }))
 
         lay5 : (c : After-part-wanted) → at93 (W0 (After-part-wanted·start c .κs) (After-part-wanted·start c .args)) (m11 (c .before) (After-part-wanted·gave c))
-        lay5 = λ c.
-            (lines-wanted-requires c, λ g. lay6 record
-            { before = c; lines-wanted = Called.called ps·5 r·5 (claims· .11) T12 (record { pos = 7; st = []; d = 0; at = λ x. x }, (Num.vAt 3 λ x. x, (Num.vAt 5 λ x. x, tt))) (m11 (c .before)
-            (After-part-wanted·gave c)) g; })
+        lay5 = λ c. (
+          lines-wanted-requires c,
+          λ g. lay6 record {
+            before = c;
+            lines-wanted = Called.called ps·5 r·5 (claims· .11) T12 (record { pos = 7; st = []; d = 0; at = λ x. x }, (Num.vAt 3 λ x. x, (Num.vAt 5 λ x. x, tt))) (m11 (c .before)
+                (After-part-wanted·gave c)) g;
+          },
+        )
 
         lay4 : (c : After-xtrans-places) → at96 (W0 (After-xtrans-places·start c .κs) (After-xtrans-places·start c .args)) (m8 (c .before) (After-xtrans-places·gave c))
-        lay4 = λ c.
-            (part-wanted-requires c, λ g. lay5 record
-            { before = c; part-wanted = Called.called ps·4 r·4 (claims· .9) T11 (record { pos = 7; st = []; d = 0; at = λ x. x }, (Num.vAt 3 λ x. x, tt)) (m10 (c .before) (After-xtrans-places·gave c)) g;
-            })
+        lay4 = λ c. (
+          part-wanted-requires c,
+          λ g. lay5 record {
+            before = c;
+            part-wanted = Called.called ps·4 r·4 (claims· .9) T11 (record { pos = 7; st = []; d = 0; at = λ x. x }, (Num.vAt 3 λ x. x, tt)) (m10 (c .before) (After-xtrans-places·gave c)) g;
+          },
+        )
 
         lay3 : (c : After-base-row) → at97 (W0 (After-base-row·start c .κs) (After-base-row·start c .args)) (m7 (c .before) (After-base-row·gave c))
-        lay3 = λ c. (xtrans-places-requires c, λ g. lay4 record { before = c; xtrans-places = Called.called ps·3 r·3 (claims· .7) T8 tt (m7 (c .before) (After-base-row·gave c)) g; })
+        lay3 = λ c. (xtrans-places-requires c, λ g. lay4 record { before = c; xtrans-places = Called.called ps·3 r·3 (claims· .7) T8 tt (m7 (c .before) (After-base-row·gave c)) g })
 
         lay2 : (c : After-block-bytes) → at98 (W0 (After-block-bytes·start c .κs) (After-block-bytes·start c .args)) (m6 (c .before) (After-block-bytes·gave c))
-        lay2 = λ c.
-            (base-row-requires c, λ g. lay3 record
-            { before = c; base-row = Called.called ps·2 r·2 (claims· .5) T7 (record { pos = 1; ty = y3; ref = λ x. x; }, (Num.vAt 3 λ x. x, tt)) (m6 (c .before) (After-block-bytes·gave c)) g; })
+        lay2 = λ c. (
+          base-row-requires c,
+          λ g. lay3 record
+              { before = c; base-row = Called.called ps·2 r·2 (claims· .5) T7 (record { pos = 1; ty = y3; ref = λ x. x }, (Num.vAt 3 λ x. x, tt)) (m6 (c .before) (After-block-bytes·gave c)) g },
+        )
 
         lay1 : (c : After-form-of) → at99 (W0 (After-form-of·start c .κs) (After-form-of·start c .args)) (m5 (c .before) (After-form-of·gave c))
-        lay1 = λ c.
-            (block-bytes-requires c, λ g. lay2 record
-            { before = c; block-bytes = Called.called ps·1 r·1 (claims· .3) T6 (record { pos = 1; ty = y3; ref = λ x. x; }, (Num.vAt 3 λ x. x, tt)) (m5 (c .before) (After-form-of·gave c)) g; })
+        lay1 = λ c. (
+          block-bytes-requires c,
+          λ g. lay2 record
+              { before = c; block-bytes = Called.called ps·1 r·1 (claims· .3) T6 (record { pos = 1; ty = y3; ref = λ x. x }, (Num.vAt 3 λ x. x, tt)) (m5 (c .before) (After-form-of·gave c)) g },
+        )
 
         pub laid : (c : Start) → at104 (W0 (c .κs) (c .args)) (m0 (c .κs) (c .args))
         laid = λ c. λ g. let c1 : After-shared-slice-known = record { before = c; shared-slice-known = record { given = g } } in λ g'. let c2 : After-shared-slice-known2 = record
-            { before = c1; shared-slice-known2 = record { given = g' }; } in λ g''. let c3 : After-slice-known = record { before = c2; slice-known = record { given = g'' }; } in λ g'3. let c4 :
-            After-slice-known2 = record { before = c3; slice-known2 = record { given = g'3 }; } in
-            (form-of-requires c4, λ g'4. lay1 record { before = c4; form-of = Called.called ps·0 r·0 (claims· .1) T0 (record { pos = 2; st = []; d = 0; at = λ x. x }, tt) (m4 c3 g'3) g'4; })
+            { before = c1; shared-slice-known2 = record { given = g' } } in λ g''. let c3 : After-slice-known = record { before = c2; slice-known = record { given = g'' } } in λ g'3. let c4 :
+            After-slice-known2 = record { before = c3; slice-known2 = record { given = g'3 } } in
+            (form-of-requires c4, λ g'4. lay1 record { before = c4; form-of = Called.called ps·0 r·0 (claims· .1) T0 (record { pos = 2; st = []; d = 0; at = λ x. x }, tt) (m4 c3 g'3) g'4 })
 
         module _ (κs : Lifetimes.Lfts 5) (qs : Lifetimes.Shares 5) where
           pub asked : (a : Kinds.Dens κs ps) → (good : Kinds.GoodsP κs ps a) → (pre : Pre· κs a) → (bs : List.List Nat.ℕ) → Φ (Any.wantQ 5 ps r xs m κs qs a (Post· κs a)) (Function.init 5 ps r xs m κs
               qs a)
-          asked = λ a good pre bs. laid record
-              { κs = κs; args = record
-              { d = a .0; h = a .1 .0; b = a .1 .1 .0; s = a .1 .1 .1 .0; k = a .1 .1 .1 .1 .0; at = a .1 .1 .1 .1 .1 .0; r = a .1 .1 .1 .1 .1 .1 .0; tile = a .1 .1 .1 .1 .1 .1 .1 .0; image = a .1 .1 .1
-              .1 .1 .1 .1 .1 .0; lines = a .1 .1 .1 .1 .1 .1 .1 .1 .1 .0; rs = a .1 .1 .1 .1 .1 .1 .1 .1 .1 .1 .0; }; good = good; fits = record
-              { b = record { fits = good .1 .1 .0 .1 }; k = record { fits = good .1 .1 .1 .1 .0 .1 }; at = record { fits = good .1 .1 .1 .1 .1 .0 .1 }; }; pre = pre; }
+          asked = λ a good pre bs. laid record {
+            κs = κs;
+            args = record {
+              d = a .0;
+              h = a .1 .0;
+              b = a .1 .1 .0;
+              s = a .1 .1 .1 .0;
+              k = a .1 .1 .1 .1 .0;
+              at = a .1 .1 .1 .1 .1 .0;
+              r = a .1 .1 .1 .1 .1 .1 .0;
+              tile = a .1 .1 .1 .1 .1 .1 .1 .0;
+              image = a .1 .1 .1
+                  .1 .1 .1 .1 .1 .0;
+              lines = a .1 .1 .1 .1 .1 .1 .1 .1 .1 .0;
+              rs = a .1 .1 .1 .1 .1 .1 .1 .1 .1 .1 .0;
+            };
+            good = good;
+            fits = record
+                { b = record { fits = good .1 .1 .0 .1 }; k = record { fits = good .1 .1 .1 .1 .0 .1 }; at = record { fits = good .1 .1 .1 .1 .1 .0 .1 } };
+            pre = pre;
+          }
 
         module _ {M : Type 1} (𝓤 : URA.URA M) (H : Wp.Heap 𝓤) (A : Atoms.Atoms 𝓤) (W : Kit.Given 𝓤 H A) (𝓣 : Wp.Tables 𝓤 H) (known0 : Plain.Known 𝓤 H A W 𝓣 0 ps·0 r·0 (claims· .0) (claims· .1)
             "read_block::form_of") (known1 : Plain.Known 𝓤 H A W 𝓣 1 ps·1 r·1 (claims· .2) (claims· .3) "stream::block_bytes") (known2 : Plain.Known 𝓤 H A W 𝓣 1 ps·2 r·2 (claims· .4) (claims· .5)

@@ -58,10 +58,40 @@ use borrow.Fn.Written
 use contract.Running
 
 abbrev claims : Lts.Claims
-claims =
-    (Reads'5.Asked, Reads'5.Learnt, Reads'16.Asked, Reads'16.Learnt, Reads'15.Asked, Reads'15.Learnt, Reads'4.Asked, Reads'4.Learnt, Reads'8.Asked, Reads'8.Learnt, Reads'6.Asked, Reads'6.Learnt,
-    Reads''.Asked, Reads''.Learnt, Reads.Asked, Reads.Learnt, Reads'7.Asked, Reads'7.Learnt, Reads'3.Asked, Reads'3.Learnt, Reads'14.Asked, Reads'14.Learnt, Reads'9.Asked, Reads'9.Learnt, Reads'.Asked,
-    Reads'.Learnt, Reads'13.Asked, Reads'13.Learnt, Reads'12.Asked, Reads'12.Learnt, Reads'10.Asked, Reads'10.Learnt)
+claims = (
+  Reads'5.Asked,
+  Reads'5.Learnt,
+  Reads'16.Asked,
+  Reads'16.Learnt,
+  Reads'15.Asked,
+  Reads'15.Learnt,
+  Reads'4.Asked,
+  Reads'4.Learnt,
+  Reads'8.Asked,
+  Reads'8.Learnt,
+  Reads'6.Asked,
+  Reads'6.Learnt,
+  Reads''.Asked,
+  Reads''.Learnt,
+  Reads.Asked,
+  Reads.Learnt,
+  Reads'7.Asked,
+  Reads'7.Learnt,
+  Reads'3.Asked,
+  Reads'3.Learnt,
+  Reads'14.Asked,
+  Reads'14.Learnt,
+  Reads'9.Asked,
+  Reads'9.Learnt,
+  Reads'.Asked,
+  Reads'.Learnt,
+  Reads'13.Asked,
+  Reads'13.Learnt,
+  Reads'12.Asked,
+  Reads'12.Learnt,
+  Reads'10.Asked,
+  Reads'10.Learnt,
+)
 
 abbrev pub Start : Type 0
 Start = Lts.Start claims Reads'11.Pre Reads'11.Post

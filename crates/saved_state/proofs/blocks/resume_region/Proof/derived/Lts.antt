@@ -704,7 +704,7 @@ module _ (claims· : Claims) where
   s6 = Scalar.n-use T7 (Scalar.oFld 8 ((Syntax.field 1) ∷ []) u64 8 Shared.lenV) 15 (Rows'.sc-here (Row.sInt Syntax.w64)) (Row.sInt Syntax.w64 .of)
 
   abbrev pub a0 : ArgsT ps·0 (T8 .locals)
-  a0 = (record { pos = 1; ty = y2; ref = λ x. x; }, (Num.vAt 2 λ x. x, (record { pos = 4; st = []; d = 0; at = λ x. x }, (Num.vAt 13 λ x. x, (Num.vAt 14 λ x. x, (Num.vAt 15 λ x. x, tt))))))
+  a0 = (record { pos = 1; ty = y2; ref = λ x. x }, (Num.vAt 2 λ x. x, (record { pos = 4; st = []; d = 0; at = λ x. x }, (Num.vAt 13 λ x. x, (Num.vAt 14 λ x. x, (Num.vAt 15 λ x. x, tt))))))
 
   abbrev s7 : Typed.Both T8 T9
   s7 = Call.callB ps·0 r·0 (claims· .0) (claims· .1) T8 a0 9 (0 ∷ []) y13
@@ -815,14 +815,25 @@ module _ (claims· : Claims) where
   s45 = Scalar.n-room T47 24 u64
 
   abbrev pub a1 : ArgsT ps·4 (T48 .locals)
-  a1 =
-      (record { pos = 1; ty = y2; ref = λ x. x; },
-      (record { pos = 11; st = []; d = 0; at = λ x. x },
-      (Num.vAt 2 λ x. x,
-      (record { pos = 3; ty = y3; ref = λ x. x; },
-      (record { pos = 4; st = []; d = 0; at = λ x. x },
-      (record { pos = 5; st = []; d = 0; at = λ x. x },
-      (record { pos = 18; ty = y8; ref = λ x. x; }, (record { pos = 22; ty = y8; ref = λ x. x; }, (record { pos = 26; ty = y7; ref = λ x. x; }, tt)))))))))
+  a1 = (
+    record { pos = 1; ty = y2; ref = λ x. x },
+    (
+      record { pos = 11; st = []; d = 0; at = λ x. x },
+      (
+        Num.vAt 2 λ x. x,
+        (
+          record { pos = 3; ty = y3; ref = λ x. x },
+          (
+            record { pos = 4; st = []; d = 0; at = λ x. x },
+            (
+              record { pos = 5; st = []; d = 0; at = λ x. x },
+              (record { pos = 18; ty = y8; ref = λ x. x }, (record { pos = 22; ty = y8; ref = λ x. x }, (record { pos = 26; ty = y7; ref = λ x. x }, tt))),
+            ),
+          ),
+        ),
+      ),
+    ),
+  )
 
   abbrev s46 : Typed.Both T48 T49
   s46 = Call.callB ps·4 r·4 (claims· .8) (claims· .9) T48 a1 16 (0 ∷ 1 ∷ 5 ∷ 6 ∷ 7 ∷ []) y16
@@ -1215,9 +1226,11 @@ module _ (claims· : Claims) where
           d2 = Typed.s-seq 𝓤 H A W 𝓣 E (on T17 l5) (on T18 l5) b4 b5 Δ1 (Typed.pass T17 T18 s15) at1 (CopyOut.t-copy-told 𝓤 H A W E 𝓣 (Declared.row Refusal.the-type) Path'.refl (Laws'5.val
               Refusal.the-type Laws'4.the-laws) (Laws'5.lawful Refusal.the-type Laws'4.the-laws 𝓤 H A W tt) (Laws'5.makes Refusal.the-type Laws'4.the-plain 𝓤 H A) (on T17 l5) 10 (Scalar.oFld 9
               ((Syntax.variant 0) ∷ (Syntax.field 1) ∷ []) y1 8 λ v. Laws'5.val Refusal.the-type Laws'4.the-laws (v .0)) (λ m. m .1 .1 .1 .1 .1 .1 .1 .1 .1 .0 .0) (λ m. Laws'5.Fields (Declared.variants
-              Beginning.the-type) (Laws'5.spellss (Beginning.enum .parts) Laws.the-laws) (Beginning.the-type .to (Known.at Beginning.enum 0 (m .1 .1 .1 .1 .1 .1 .1 .1 .1 .0)))) (Reads'.room-gone 𝓤 H A y1)
-              (Match.reads-payload 𝓤 H A W Beginning.enum Laws.the-laws 0 Path'.refl Path'.refl (λ v. Val.vcons (Laws'5.val Refusal.the-type Laws'4.the-laws (v .0)) Val.vnil) (λ v. Path'.refl) 0 y1 8
-              Path'.refl, Path'.refl) Path'.refl (λ ρ m. Make.tells-row 𝓤 H A W E ρ (Row.out 10 ((on T17 l5) .locals)) m 9 (Laws'5.Fields (Declared.variants Beginning.the-type) (Laws'5.spellss
+              Beginning.the-type) (Laws'5.spellss (Beginning.enum .parts) Laws.the-laws) (Beginning.the-type .to (Known.at Beginning.enum 0 (m .1 .1 .1 .1 .1 .1 .1 .1 .1 .0)))) (Reads'.room-gone 𝓤 H A y1) (
+                Match.reads-payload 𝓤 H A W Beginning.enum Laws.the-laws 0 Path'.refl Path'.refl (λ v. Val.vcons (Laws'5.val Refusal.the-type Laws'4.the-laws (v .0)) Val.vnil) (λ v. Path'.refl) 0 y1 8
+                    Path'.refl,
+                Path'.refl,
+              ) Path'.refl (λ ρ m. Make.tells-row 𝓤 H A W E ρ (Row.out 10 ((on T17 l5) .locals)) m 9 (Laws'5.Fields (Declared.variants Beginning.the-type) (Laws'5.spellss
               (Beginning.enum .parts) Laws.the-laws) (Beginning.the-type .to (Known.at Beginning.enum 0 (m .1 .1 .1 .1 .1 .1 .1 .1 .1 .0)))) (Known.known-is 𝓤 H A W E Beginning.enum 0 Laws.the-laws ρ 9 (m
               .1 .1 .1 .1 .1 .1 .1 .1 .1 .0))) (λ m k wa. Path'.refl) λ m k wa. k .0) d1
 
@@ -1272,24 +1285,58 @@ module _ (claims· : Claims) where
               s48 (Typed.pass T51 T52 s49 (Typed.pass T52 T53 s50 Ψ))))) (λ Ψ. Ψ) (Typed.g-post 𝓤 H A W 𝓣 E G48 G52 G53 b20 (λ Ψ. Typed.both s46 (Typed.pass T49 T50 s47 (Typed.pass T50 T51 s48 (Typed.pass
               T51 T52 s49 Ψ)))) (Typed.pass T52 T53 s50) (Typed.g-post 𝓤 H A W 𝓣 E G48 G51 G52 b20 (λ Ψ. Typed.both s46 (Typed.pass T49 T50 s47 (Typed.pass T50 T51 s48 Ψ))) (Typed.pass T51 T52 s49)
               (Typed.g-post 𝓤 H A W 𝓣 E G48 G50 G51 b20 (λ Ψ. Typed.both s46 (Typed.pass T49 T50 s47 Ψ)) (Typed.pass T50 T51 s48) (Typed.g-post 𝓤 H A W 𝓣 E G48 G49 G50 b20 (Typed.both s46) (Typed.pass T49
-              T50 s47) (Plain.t-call-plain 𝓤 H A W 𝓣 5 ps·4 r·4 (claims· .8) (claims· .9) "saved_state::blocks::resume_in" (known .4) E (λ pos β. β) G48
-              (record { pos = 1; ty = y2; ref = λ x. x; },
-              (record { pos = 11; st = []; d = 0; at = λ x. x },
-              (Num.vAt 2 λ x. x,
-              (record { pos = 3; ty = y3; ref = λ x. x; },
-              (record { pos = 4; st = []; d = 0; at = λ x. x },
-              (record { pos = 5; st = []; d = 0; at = λ x. x },
-              (record { pos = 18; ty = y8; ref = λ x. x; }, (record { pos = 22; ty = y8; ref = λ x. x; }, (record { pos = 26; ty = y7; ref = λ x. x; }, tt))))))))) 16 (0 ∷ 1 ∷ 5 ∷ 6 ∷ 7 ∷ []) (Call.sub-id
-              𝓤 H A W (G48 .slots))
-              (ShrSlice.spares-sslice 𝓤 H A W n8 y2 0, Shared.reads-sslice 𝓤 H A W n8 y2 0, Path'.refl,
-              ((Values.struct-copied 𝓤 H A W FujiHeader.the-type Laws'3.the-laws Laws'3.the-copy, Path'.refl),
-              ((Scalar.reads-sc 𝓤 H A W (Row.sInt Syntax.w64), Path'.refl),
-              (ShrSlice.spares-sslice 𝓤 H A W n8 y3 1, Shared.reads-sslice 𝓤 H A W n8 y3 1, Path'.refl,
-              ((Values.struct-copied 𝓤 H A W Rect.the-type Laws'.the-laws Laws'.the-copy, Path'.refl),
-              ((Array.arr-yields 𝓤 H A W (Array.eInt Syntax.w8) (Array.eInt-laws Syntax.w8) 36, Path'.refl),
-              (Reads'.as-is 𝓤 H A (Mut.mslice n16 y8 5), Mut.reads-mslice 𝓤 H A W n16 y8 5, Path'.refl,
-              (Reads'.as-is 𝓤 H A (Mut.mslice n16 y8 6), Mut.reads-mslice 𝓤 H A W n16 y8 6, Path'.refl,
-              (Reads'.as-is 𝓤 H A (Mut.mslice (Element.type) y7 7), Mut.reads-mslice 𝓤 H A W (Element.type) y7 7, Path'.refl, tt))))))))) (Reads'.room-gone 𝓤 H A y16) (tt, (tt, (tt, (tt, (tt, tt)))))
+              T50 s47) (Plain.t-call-plain 𝓤 H A W 𝓣 5 ps·4 r·4 (claims· .8) (claims· .9) "saved_state::blocks::resume_in" (known .4) E (λ pos β. β) G48 (
+                record { pos = 1; ty = y2; ref = λ x. x },
+                (
+                  record { pos = 11; st = []; d = 0; at = λ x. x },
+                  (
+                    Num.vAt 2 λ x. x,
+                    (
+                      record { pos = 3; ty = y3; ref = λ x. x },
+                      (
+                        record { pos = 4; st = []; d = 0; at = λ x. x },
+                        (
+                          record { pos = 5; st = []; d = 0; at = λ x. x },
+                          (record { pos = 18; ty = y8; ref = λ x. x }, (record { pos = 22; ty = y8; ref = λ x. x }, (record { pos = 26; ty = y7; ref = λ x. x }, tt))),
+                        ),
+                      ),
+                    ),
+                  ),
+                ),
+              ) 16 (0 ∷ 1 ∷ 5 ∷ 6 ∷ 7 ∷ []) (Call.sub-id
+              𝓤 H A W (G48 .slots)) (
+                ShrSlice.spares-sslice 𝓤 H A W n8 y2 0,
+                Shared.reads-sslice 𝓤 H A W n8 y2 0,
+                Path'.refl,
+                (
+                  (Values.struct-copied 𝓤 H A W FujiHeader.the-type Laws'3.the-laws Laws'3.the-copy, Path'.refl),
+                  (
+                    (Scalar.reads-sc 𝓤 H A W (Row.sInt Syntax.w64), Path'.refl),
+                    (
+                      ShrSlice.spares-sslice 𝓤 H A W n8 y3 1,
+                      Shared.reads-sslice 𝓤 H A W n8 y3 1,
+                      Path'.refl,
+                      (
+                        (Values.struct-copied 𝓤 H A W Rect.the-type Laws'.the-laws Laws'.the-copy, Path'.refl),
+                        (
+                          (Array.arr-yields 𝓤 H A W (Array.eInt Syntax.w8) (Array.eInt-laws Syntax.w8) 36, Path'.refl),
+                          (
+                            Reads'.as-is 𝓤 H A (Mut.mslice n16 y8 5),
+                            Mut.reads-mslice 𝓤 H A W n16 y8 5,
+                            Path'.refl,
+                            (
+                              Reads'.as-is 𝓤 H A (Mut.mslice n16 y8 6),
+                              Mut.reads-mslice 𝓤 H A W n16 y8 6,
+                              Path'.refl,
+                              (Reads'.as-is 𝓤 H A (Mut.mslice (Element.type) y7 7), Mut.reads-mslice 𝓤 H A W (Element.type) y7 7, Path'.refl, tt),
+                            ),
+                          ),
+                        ),
+                      ),
+                    ),
+                  ),
+                ),
+              ) (Reads'.room-gone 𝓤 H A y16) (tt, (tt, (tt, (tt, (tt, tt)))))
               Path'.refl) (Scalar.g-room 𝓤 H A W E G49 4 y9 (Local.room-whole 𝓤 H A W (Declared'.row Rect.the-type) y9 Path'.refl))) (Scalar.g-room 𝓤 H A W E G50 5 y0 (Init.room-arr 𝓤 H A W n8 36 0 36
               Path'.refl))) (Scalar.g-room 𝓤 H A W E G51 11 y11 (Local.room-whole 𝓤 H A W (Declared'.row FujiHeader.the-type) y11 Path'.refl))) (Scalar.g-room 𝓤 H A W E G52 12 u64 (Scalar.room-sc 𝓤 H A W
               (Row.sInt Syntax.w64)))) (Lifetime.g-end 𝓤 H A W E G53 5 Path'.refl)) (Relend.g-back-sl 𝓤 H A W E n16 G54 18 6 2 5 y4 y8 k2 (λ x. x) (λ x. x) (Reads'.as-is 𝓤 H A (Mut.msleft n16 y8))
@@ -1388,9 +1435,11 @@ module _ (claims· : Claims) where
               FujiHeader.the-type) Path'.refl (Laws'6.val FujiHeader.the-type Laws'3.the-laws) (Laws'6.lawful FujiHeader.the-type Laws'3.the-laws 𝓤 H A W) (Laws'6.makes FujiHeader.the-type
               Laws'3.the-plain 𝓤 H A) (on T27 l5) 11 (Scalar.oFld 9 ((Syntax.variant 2) ∷ (Syntax.field 1) ∷ []) y11 4 λ v. Laws'6.val FujiHeader.the-type Laws'3.the-laws (v .0)) (λ m. m .1 .1 .1 .1 .1 .1
               .1 .1 .1 .0 .0) (λ m. Laws'5.Fields (Declared.variants Beginning.the-type) (Laws'5.spellss (Beginning.enum .parts) Laws.the-laws) (Beginning.the-type .to (Known.at Beginning.enum 2 (m .1 .1
-              .1 .1 .1 .1 .1 .1 .1 .0)))) (Reads'.room-gone 𝓤 H A y11)
-              (Match.reads-payload 𝓤 H A W Beginning.enum Laws.the-laws 2 Path'.refl Path'.refl (λ v. Val.vcons (Laws'6.val FujiHeader.the-type Laws'3.the-laws (v .0)) Val.vnil) (λ v. Path'.refl) 0 y11 4
-              Path'.refl, Path'.refl) Path'.refl (λ ρ m. Make.tells-row 𝓤 H A W E ρ (Row.out 11 ((on T27 l5) .locals)) m 9 (Laws'5.Fields (Declared.variants Beginning.the-type) (Laws'5.spellss
+              .1 .1 .1 .1 .1 .1 .1 .0)))) (Reads'.room-gone 𝓤 H A y11) (
+                Match.reads-payload 𝓤 H A W Beginning.enum Laws.the-laws 2 Path'.refl Path'.refl (λ v. Val.vcons (Laws'6.val FujiHeader.the-type Laws'3.the-laws (v .0)) Val.vnil) (λ v. Path'.refl) 0 y11 4
+                    Path'.refl,
+                Path'.refl,
+              ) Path'.refl (λ ρ m. Make.tells-row 𝓤 H A W E ρ (Row.out 11 ((on T27 l5) .locals)) m 9 (Laws'5.Fields (Declared.variants Beginning.the-type) (Laws'5.spellss
               (Beginning.enum .parts) Laws.the-laws) (Beginning.the-type .to (Known.at Beginning.enum 2 (m .1 .1 .1 .1 .1 .1 .1 .1 .1 .0)))) (Known.known-is 𝓤 H A W E Beginning.enum 2 Laws.the-laws ρ 9 (m
               .1 .1 .1 .1 .1 .1 .1 .1 .1 .0))) (λ m k wa. Path'.refl) λ m k wa. k .0) d31
 
@@ -1440,13 +1489,22 @@ module _ (claims· : Claims) where
           d44 : Typed.Typed 𝓤 H A 𝓣 E (on T8 l5) b38 Δ0 at44
           d44 = Typed.s-seq 𝓤 H A W 𝓣 E (on T8 l5) (on T9 l5) b3 (Syntax.seq b33 (Syntax.seq b34 b35)) Δ0 (Typed.both s7) at43 (Plain.t-call-plain 𝓤 H A W 𝓣 1 ps·0 r·0 (claims· .0) (claims· .1)
               "admission::resuming::resume_begins" (known .0) E (λ pos β. β) (on T8 l5)
-              (record { pos = 1; ty = y2; ref = λ x. x; }, (Num.vAt 2 λ x. x, (record { pos = 4; st = []; d = 0; at = λ x. x }, (Num.vAt 13 λ x. x, (Num.vAt 14 λ x. x, (Num.vAt 15 λ x. x, tt)))))) 9 (0 ∷
-              []) (Call.sub-id 𝓤 H A W ((on T8 l5) .slots))
-              (ShrSlice.spares-sslice 𝓤 H A W n8 y2 0, Shared.reads-sslice 𝓤 H A W n8 y2 0, Path'.refl,
-              ((Scalar.reads-sc 𝓤 H A W (Row.sInt Syntax.w64), Path'.refl),
-              ((Values.struct-copied 𝓤 H A W Rect.the-type Laws'.the-laws Laws'.the-copy, Path'.refl),
-              ((Scalar.reads-sc 𝓤 H A W (Row.sInt Syntax.w64), Path'.refl),
-              ((Scalar.reads-sc 𝓤 H A W (Row.sInt Syntax.w64), Path'.refl), ((Scalar.reads-sc 𝓤 H A W (Row.sInt Syntax.w64), Path'.refl), tt)))))) (Reads'.room-gone 𝓤 H A y13) (tt, tt) Path'.refl) d43
+              (record { pos = 1; ty = y2; ref = λ x. x }, (Num.vAt 2 λ x. x, (record { pos = 4; st = []; d = 0; at = λ x. x }, (Num.vAt 13 λ x. x, (Num.vAt 14 λ x. x, (Num.vAt 15 λ x. x, tt)))))) 9 (0 ∷
+              []) (Call.sub-id 𝓤 H A W ((on T8 l5) .slots)) (
+                ShrSlice.spares-sslice 𝓤 H A W n8 y2 0,
+                Shared.reads-sslice 𝓤 H A W n8 y2 0,
+                Path'.refl,
+                (
+                  (Scalar.reads-sc 𝓤 H A W (Row.sInt Syntax.w64), Path'.refl),
+                  (
+                    (Values.struct-copied 𝓤 H A W Rect.the-type Laws'.the-laws Laws'.the-copy, Path'.refl),
+                    (
+                      (Scalar.reads-sc 𝓤 H A W (Row.sInt Syntax.w64), Path'.refl),
+                      ((Scalar.reads-sc 𝓤 H A W (Row.sInt Syntax.w64), Path'.refl), ((Scalar.reads-sc 𝓤 H A W (Row.sInt Syntax.w64), Path'.refl), tt)),
+                    ),
+                  ),
+                ),
+              ) (Reads'.room-gone 𝓤 H A y13) (tt, tt) Path'.refl) d43
 
           d45 : Typed.Typed 𝓤 H A 𝓣 E (on T7 l5) (Syntax.seq b2 b38) Δ0 at45
           d45 = Typed.s-seq 𝓤 H A W 𝓣 E (on T7 l5) (on T8 l5) b2 b38 Δ0 (Typed.pass T7 T8 s6) at44 (Scalar.t-use 𝓤 H A W E 𝓣 (on T7 l5) (Scalar.oFld 8 ((Syntax.field 1) ∷ []) u64 8 Shared.lenV) 15
@@ -1504,9 +1562,12 @@ module _ (claims· : Claims) where
       m0 = λ κs args. (tt, Enter.partsP κs 1 ps xs (dens κs args))
 
       abbrev W0 : (κs : Lifetimes.Lfts 5) → (args : Args κs) → Typed.Want O0
-      W0 = λ κs args.
-          (λ u. ⊥, tt, λ u. Enter.Fixs κs 1 ps xs (dens κs args) (u .1) × Post· κs (dens κs args) (Function.resV r κs (u .0)) (Clauses.atExit (Kinds.endedOf 5 ps r) κs (dens κs args) (Enter.lastsP κs 1 ps
-          xs (dens κs args) (u .1))))
+      W0 = λ κs args. (
+        λ u. ⊥,
+        tt,
+        λ u. Enter.Fixs κs 1 ps xs (dens κs args) (u .1) × Post· κs (dens κs args) (Function.resV r κs (u .0)) (Clauses.atExit (Kinds.endedOf 5 ps r) κs (dens κs args) (Enter.lastsP κs 1 ps
+            xs (dens κs args) (u .1))),
+      )
 
       pub record Start : Type 0 where
         pub κs : Lifetimes.Lfts 5
@@ -1929,18 +1990,37 @@ module _ (claims· : Claims) where
           Need-part-resume-in-start-2) (part-resume-in-end-2 : Need-part-resume-in-end-2) (resume-in-requires : Need-resume-in-requires) (returns : Need-returns) (returns-2 : Need-returns-2) (same-length
           : Need-same-length) (same-length-2 : Need-same-length-2) (same-length-3 : Need-same-length-3) (returns-3 : Need-returns-3) where
         lay5 : (c : After-rs) → at42 (W0 (After-rs·start c .κs) (After-rs·start c .args)) (m53 (c .before) (c .rs .given))
-        lay5 = λ c.
-            ((Path'.refl,
-            (tt,
-            (Path'.refl,
-            (tt,
-            (tt,
-            (MutSlice.fix-len (Row.get 6 (T1 .locals) (m62 (c .before) (c .rs .given)) .ptr) (Row.get 6 (T1 .locals) (m62 (c .before) (c .rs .given)) .name) (Row.get 6 (T1 .locals) (m62 (c .before) (c .rs
-            .given)) .now) (dens (After-rs·start c .κs) (After-rs·start c .args) .1 .1 .1 .1 .1 .0 .now) (same-length c),
-            (MutSlice.fix-len (Row.get 7 (T1 .locals) (m62 (c .before) (c .rs .given)) .ptr) (Row.get 7 (T1 .locals) (m62 (c .before) (c .rs .given)) .name) (Row.get 7 (T1 .locals) (m62 (c .before) (c .rs
-            .given)) .now) (dens (After-rs·start c .κs) (After-rs·start c .args) .1 .1 .1 .1 .1 .1 .0 .now) (same-length-2 c),
-            (MutSlice.fix-len (Row.get 8 (T1 .locals) (m62 (c .before) (c .rs .given)) .ptr) (Row.get 8 (T1 .locals) (m62 (c .before) (c .rs .given)) .name) (Row.get 8 (T1 .locals) (m62 (c .before) (c .rs
-            .given)) .now) (dens (After-rs·start c .κs) (After-rs·start c .args) .1 .1 .1 .1 .1 .1 .1 .0 .now) (same-length-3 c), tt)))))))), returns-3 c)
+        lay5 = λ c. (
+          (
+            Path'.refl,
+            (
+              tt,
+              (
+                Path'.refl,
+                (
+                  tt,
+                  (
+                    tt,
+                    (
+                      MutSlice.fix-len (Row.get 6 (T1 .locals) (m62 (c .before) (c .rs .given)) .ptr) (Row.get 6 (T1 .locals) (m62 (c .before) (c .rs .given)) .name) (Row.get 6 (T1 .locals) (m62 (c .before) (c .rs
+                          .given)) .now) (dens (After-rs·start c .κs) (After-rs·start c .args) .1 .1 .1 .1 .1 .0 .now) (same-length c),
+                      (
+                        MutSlice.fix-len (Row.get 7 (T1 .locals) (m62 (c .before) (c .rs .given)) .ptr) (Row.get 7 (T1 .locals) (m62 (c .before) (c .rs .given)) .name) (Row.get 7 (T1 .locals) (m62 (c .before) (c .rs
+                            .given)) .now) (dens (After-rs·start c .κs) (After-rs·start c .args) .1 .1 .1 .1 .1 .1 .0 .now) (same-length-2 c),
+                        (
+                          MutSlice.fix-len (Row.get 8 (T1 .locals) (m62 (c .before) (c .rs .given)) .ptr) (Row.get 8 (T1 .locals) (m62 (c .before) (c .rs .given)) .name) (Row.get 8 (T1 .locals) (m62 (c .before) (c .rs
+                              .given)) .now) (dens (After-rs·start c .κs) (After-rs·start c .args) .1 .1 .1 .1 .1 .1 .1 .0 .now) (same-length-3 c),
+                          tt,
+                        ),
+                      ),
+                    ),
+                  ),
+                ),
+              ),
+            ),
+          ),
+          returns-3 c,
+        )
 
         lay4 : (c : After-nothing-counted) → at42 (W0 (After-nothing-counted·start c .κs) (After-nothing-counted·start c .args)) (m24 (c .before) (After-nothing-counted·gave c))
         lay4 = λ c. ((Path'.refl, (tt, (Path'.refl, (tt, (tt, (Path'.refl, (Path'.refl, (Path'.refl, tt)))))))), returns-2 c)
@@ -1950,61 +2030,116 @@ module _ (claims· : Claims) where
 
         lay2 : (c : After-samples-needed) → at28 (W1 (c .before .before .before .before .before) (After-resume-begins·gave (c .before .before .before .before))) (m29 (c .before)
             (After-samples-needed·gave c))
-        lay2 = λ c. λ g. let c1 : After-resume-in-arg = record { before = c; resume-in-arg = record { given = g }; } in
-            (Path'.refl,
-            (tt,
-            (sub-resume-in c1,
-            ((Path'.refl, Path'.refl, part-resume-in-start c1, part-resume-in-end c1), λ g'. let c2 : After-resume-in-arg2 = record { before = c1; resume-in-arg2 = record { given = g' }; } in
-            (Relend.count-is T39 21 22 (λ x. x) (λ u. u .1 .1 .1 .1 .1 .1 .1 .1 .1 .1 .1 .1 .1 .1 .1 .1 .1 .1 .1 .1 .0) (m35 c1 g') (g' .1),
-            (tt,
-            (sub-resume-in-2 c2,
-            ((Path'.refl, Path'.refl, part-resume-in-start-2 c2, part-resume-in-end-2 c2), λ g''. let c3 : After-resume-in-arg3 = record { before = c2; resume-in-arg3 = record { given = g'' }; } in
-            (Relend.count-is T46 25 26 (λ x. x) (λ u. u .1 .1 .1 .1 .1 .1 .1 .1 .1 .1 .1 .1 .1 .1 .1 .1 .1 .1 .1 .1 .1 .1 .1 .1 .0) (m41 c2 g'') (g'' .1),
-            (resume-in-requires c3, λ g'3. let c4 : After-resume-in = record
-            { before = c3; resume-in = Called.called ps·4 r·4 (claims· .9) T48
-            (record { pos = 1; ty = y2; ref = λ x. x; },
-            (record { pos = 11; st = []; d = 0; at = λ x. x; },
-            (Num.vAt 2 λ x. x,
-            (record { pos = 3; ty = y3; ref = λ x. x; },
-            (record { pos = 4; st = []; d = 0; at = λ x. x; },
-            (record { pos = 5; st = []; d = 0; at = λ x. x; },
-            (record { pos = 18; ty = y8; ref = λ x. x; }, (record { pos = 22; ty = y8; ref = λ x. x; }, (record { pos = 26; ty = y7; ref = λ x. x; }, tt))))))))) (m43 c2 g'') g'3; } in
-            (Path'.refl, λ g'4. let c5 : After-image = record { before = c4; image = record { given = g'4 }; } in λ g'5. let c6 : After-slice-known3 = record
-            { before = c5; slice-known3 = record { given = g'5 }; } in
-            (Path'.refl, λ g'6. let c7 : After-lines = record { before = c6; lines = record { given = g'6 }; } in λ g'7. let c8 : After-slice-known4 = record
-            { before = c7; slice-known4 = record { given = g'7 }; } in (Path'.refl, λ g'8. lay5 record { before = c8; rs = record { given = g'8 }; })))))))))))))
+        lay2 = λ c. λ g. let c1 : After-resume-in-arg = record { before = c; resume-in-arg = record { given = g } } in (
+          Path'.refl,
+          (
+            tt,
+            (
+              sub-resume-in c1,
+              (
+                (Path'.refl, Path'.refl, part-resume-in-start c1, part-resume-in-end c1),
+                λ g'. let c2 : After-resume-in-arg2 = record { before = c1; resume-in-arg2 = record { given = g' } } in (
+                  Relend.count-is T39 21 22 (λ x. x) (λ u. u .1 .1 .1 .1 .1 .1 .1 .1 .1 .1 .1 .1 .1 .1 .1 .1 .1 .1 .1 .1 .0) (m35 c1 g') (g' .1),
+                  (
+                    tt,
+                    (
+                      sub-resume-in-2 c2,
+                      (
+                        (Path'.refl, Path'.refl, part-resume-in-start-2 c2, part-resume-in-end-2 c2),
+                        λ g''. let c3 : After-resume-in-arg3 = record { before = c2; resume-in-arg3 = record { given = g'' } } in (
+                          Relend.count-is T46 25 26 (λ x. x) (λ u. u .1 .1 .1 .1 .1 .1 .1 .1 .1 .1 .1 .1 .1 .1 .1 .1 .1 .1 .1 .1 .1 .1 .1 .1 .0) (m41 c2 g'') (g'' .1),
+                          (
+                            resume-in-requires c3,
+                            λ g'3. let c4 : After-resume-in = record {
+                              before = c3;
+                              resume-in = Called.called ps·4 r·4 (claims· .9) T48 (
+                                record { pos = 1; ty = y2; ref = λ x. x },
+                                (
+                                  record { pos = 11; st = []; d = 0; at = λ x. x },
+                                  (
+                                    Num.vAt 2 λ x. x,
+                                    (
+                                      record { pos = 3; ty = y3; ref = λ x. x },
+                                      (
+                                        record { pos = 4; st = []; d = 0; at = λ x. x },
+                                        (
+                                          record { pos = 5; st = []; d = 0; at = λ x. x },
+                                          (record { pos = 18; ty = y8; ref = λ x. x }, (record { pos = 22; ty = y8; ref = λ x. x }, (record { pos = 26; ty = y7; ref = λ x. x }, tt))),
+                                        ),
+                                      ),
+                                    ),
+                                  ),
+                                ),
+                              ) (m43 c2 g'') g'3;
+                            } in (
+                              Path'.refl,
+                              λ g'4. let c5 : After-image = record { before = c4; image = record { given = g'4 } } in λ g'5. let c6 : After-slice-known3 = record
+                                  { before = c5; slice-known3 = record { given = g'5 } } in (
+                                    Path'.refl,
+                                    λ g'6. let c7 : After-lines = record { before = c6; lines = record { given = g'6 } } in λ g'7. let c8 : After-slice-known4 = record
+                                        { before = c7; slice-known4 = record { given = g'7 } } in (Path'.refl, λ g'8. lay5 record { before = c8; rs = record { given = g'8 } }),
+                                  ),
+                            ),
+                          ),
+                        ),
+                      ),
+                    ),
+                  ),
+                ),
+              ),
+            ),
+          ),
+        )
 
         lay1 : (c : After-resume-begins) → at43 (W0 (After-resume-begins·start c .κs) (After-resume-begins·start c .args)) (m8 (c .before) (After-resume-begins·gave c))
-        lay1 = λ c.
-            (λ k. let c1 : At-match-keys1 = record { before = c; match = record { keys1 = k }; } in
-            (enum-known-begins c1, λ g. let c2 : After-begins = record { before = c1; begins = record { given = g }; } in λ g'. let c3 : After-known-told = record
-            { before = c2; known-told = record { given = g' }; } in
-            (refused-requires c3, λ g''. lay3 record { before = c3; refused = Called.called ps·1 r·1 (claims· .3) T19 (record { pos = 10; st = []; d = 0; at = λ x. x }, tt) (m17 c2 g') g''; })),
-            (λ k. let c4 : At-match-keys2 = record { before = c; match = record { keys2 = k }; } in
-            (enum-told c4, λ g. let c5 : After-enum-told = record { before = c4; enum-told = record { given = g }; } in
-            (nothing-counted-requires c5, λ g'3. lay4 record { before = c5; nothing-counted = Called.called ps·2 r·2 (claims· .5) T25 tt (m23 c4 g) g'3; })),
-            (λ k. let c6 : At-match-keys3 = record { before = c; match = record { keys3 = k }; } in
-            (enum-known-begins-2 c6, λ g. let c7 : After-begins2 = record { before = c6; begins2 = record { given = g }; } in λ g'4. let c8 : After-known-told2 = record
-            { before = c7; known-told2 = record { given = g'4 }; } in
-            (samples-needed-requires c8, λ g'5. lay2 record
-            { before = c8; samples-needed = Called.called ps·3 r·3 (claims· .7) T30 (Bool.bFld 11 ((Syntax.field 1) ∷ []) 1 λ x. FujiHeader.struct .as-values x .1 .0, tt) (m28 c7 g'4) g'5; })),
-            Match.each-below 3 (λ j. ((Unit {0} × (Run.OneOf (0 ∷ []) j → ⊥)) × (Run.OneOf (1 ∷ []) j → ⊥)) × (Run.OneOf (2 ∷ []) j → ⊥) → ⊥)
-            (λ n. n .1 Path'.refl, (λ n. n .0 .1 Path'.refl, (λ n. n .0 .0 .1 Path'.refl, tt))) (Declared.tagOf Beginning.the-type (Row.get 9 (T13 .locals) (m11 (c .before) (After-resume-begins·gave c))))
-            (Match.tag-small Beginning.the-type (Row.get 9 (T13 .locals) (m11 (c .before) (After-resume-begins·gave c)))))))
+        lay1 = λ c. (
+          λ k. let c1 : At-match-keys1 = record { before = c; match = record { keys1 = k } } in (
+            enum-known-begins c1,
+            λ g. let c2 : After-begins = record { before = c1; begins = record { given = g } } in λ g'. let c3 : After-known-told = record
+                { before = c2; known-told = record { given = g' } } in
+                (refused-requires c3, λ g''. lay3 record { before = c3; refused = Called.called ps·1 r·1 (claims· .3) T19 (record { pos = 10; st = []; d = 0; at = λ x. x }, tt) (m17 c2 g') g'' }),
+          ),
+          (
+            λ k. let c4 : At-match-keys2 = record { before = c; match = record { keys2 = k } } in (
+              enum-told c4,
+              λ g. let c5 : After-enum-told = record { before = c4; enum-told = record { given = g } } in
+                  (nothing-counted-requires c5, λ g'3. lay4 record { before = c5; nothing-counted = Called.called ps·2 r·2 (claims· .5) T25 tt (m23 c4 g) g'3 }),
+            ),
+            (
+              λ k. let c6 : At-match-keys3 = record { before = c; match = record { keys3 = k } } in (
+                enum-known-begins-2 c6,
+                λ g. let c7 : After-begins2 = record { before = c6; begins2 = record { given = g } } in λ g'4. let c8 : After-known-told2 = record
+                    { before = c7; known-told2 = record { given = g'4 } } in (
+                      samples-needed-requires c8,
+                      λ g'5. lay2 record
+                          { before = c8; samples-needed = Called.called ps·3 r·3 (claims· .7) T30 (Bool.bFld 11 ((Syntax.field 1) ∷ []) 1 λ x. FujiHeader.struct .as-values x .1 .0, tt) (m28 c7 g'4) g'5 },
+                    ),
+              ),
+              Match.each-below 3 (λ j. ((Unit {0} × (Run.OneOf (0 ∷ []) j → ⊥)) × (Run.OneOf (1 ∷ []) j → ⊥)) × (Run.OneOf (2 ∷ []) j → ⊥) → ⊥)
+                  (λ n. n .1 Path'.refl, (λ n. n .0 .1 Path'.refl, (λ n. n .0 .0 .1 Path'.refl, tt))) (Declared.tagOf Beginning.the-type (Row.get 9 (T13 .locals) (m11 (c .before) (After-resume-begins·gave c))))
+                  (Match.tag-small Beginning.the-type (Row.get 9 (T13 .locals) (m11 (c .before) (After-resume-begins·gave c)))),
+            ),
+          ),
+        )
 
         pub laid : (c : Start) → at51 (W0 (c .κs) (c .args)) (m0 (c .κs) (c .args))
         laid = λ c. λ g. let c1 : After-shared-slice-known = record { before = c; shared-slice-known = record { given = g } } in λ g'. let c2 : After-shared-slice-known2 = record
-            { before = c1; shared-slice-known2 = record { given = g' }; } in λ g''. let c3 : After-slice-known = record { before = c2; slice-known = record { given = g'' }; } in λ g'3. let c4 :
-            After-slice-known2 = record { before = c3; slice-known2 = record { given = g'3 }; } in
-            (resume-begins-requires c4, λ g'4. lay1 record { before = c4; resume-begins = Called.called ps·0 r·0 (claims· .1) T8 a0 (m7 c3 g'3) g'4; })
+            { before = c1; shared-slice-known2 = record { given = g' } } in λ g''. let c3 : After-slice-known = record { before = c2; slice-known = record { given = g'' } } in λ g'3. let c4 :
+            After-slice-known2 = record { before = c3; slice-known2 = record { given = g'3 } } in
+            (resume-begins-requires c4, λ g'4. lay1 record { before = c4; resume-begins = Called.called ps·0 r·0 (claims· .1) T8 a0 (m7 c3 g'3) g'4 })
 
         module _ (κs : Lifetimes.Lfts 5) (qs : Lifetimes.Shares 5) where
           pub asked : (a : Kinds.Dens κs ps) → (good : Kinds.GoodsP κs ps a) → (pre : Pre· κs a) → (bs : List.List Nat.ℕ) → Φ (Any.wantQ 5 ps r xs m κs qs a (Post· κs a)) (Function.init 5 ps r xs m κs
               qs a)
-          asked = λ a good pre bs. laid record
-              { κs = κs; args = record
-              { d = a .0; b = a .1 .0; state = a .1 .1 .0; r = a .1 .1 .1 .0; tile = a .1 .1 .1 .1 .0; image = a .1 .1 .1 .1 .1 .0; lines = a .1 .1 .1 .1 .1 .1 .0; rs = a .1 .1 .1 .1 .1 .1 .1 .0; }; good
-              = good; fits = record { b = record { fits = good .1 .0 .1 } }; pre = pre; }
+          asked = λ a good pre bs. laid record {
+            κs = κs;
+            args = record
+                { d = a .0; b = a .1 .0; state = a .1 .1 .0; r = a .1 .1 .1 .0; tile = a .1 .1 .1 .1 .0; image = a .1 .1 .1 .1 .1 .0; lines = a .1 .1 .1 .1 .1 .1 .0; rs = a .1 .1 .1 .1 .1 .1 .1 .0 };
+            good
+                = good;
+            fits = record { b = record { fits = good .1 .0 .1 } };
+            pre = pre;
+          }
 
         module _ {M : Type 1} (𝓤 : URA.URA M) (H : Wp.Heap 𝓤) (A : Atoms.Atoms 𝓤) (W : Kit.Given 𝓤 H A) (𝓣 : Wp.Tables 𝓤 H) (known0 : Plain.Known 𝓤 H A W 𝓣 1 ps·0 r·0 (claims· .0) (claims· .1)
             "admission::resuming::resume_begins") (known1 : Plain.Known 𝓤 H A W 𝓣 0 ps·1 r·1 (claims· .2) (claims· .3) "read_block::tight::refused") (known2 : Plain.Known 𝓤 H A W 𝓣 0 ps·2 r·2 (claims· .4)

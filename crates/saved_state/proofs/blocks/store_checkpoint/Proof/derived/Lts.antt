@@ -616,7 +616,7 @@ module _ (claims· : Claims) where
   s4 = Scalar.n-use T5 (Scalar.oFld 6 ((Syntax.field 1) ∷ []) u64 8 Shared.lenV) 12 (Rows.sc-here (Row.sInt Syntax.w64)) (Row.sInt Syntax.w64 .of)
 
   abbrev pub a0 : ArgsT ps·0 (T6 .locals)
-  a0 = (record { pos = 1; ty = y1; ref = λ x. x; }, (Num.vAt 2 λ x. x, (Bool.bLit Bool'.false, (Num.vAt 11 λ x. x, (Num.vAt 12 λ x. x, tt)))))
+  a0 = (record { pos = 1; ty = y1; ref = λ x. x }, (Num.vAt 2 λ x. x, (Bool.bLit Bool'.false, (Num.vAt 11 λ x. x, (Num.vAt 12 λ x. x, tt)))))
 
   abbrev s5 : Typed.Both T6 T7
   s5 = Call.callB ps·0 r·0 (claims· .0) (claims· .1) T6 a0 7 (0 ∷ []) y11
@@ -703,10 +703,13 @@ module _ (claims· : Claims) where
   s35 = Scalar.n-room T37 21 u64
 
   abbrev pub a1 : ArgsT ps·3 (T38 .locals)
-  a1 =
-      (record { pos = 1; ty = y1; ref = λ x. x; },
-      (record { pos = 9; st = []; d = 0; at = λ x. x },
-      (Num.vAt 2 λ x. x, (Num.vAt 3 λ x. x, (record { pos = 15; ty = y7; ref = λ x. x; }, (record { pos = 19; ty = y6; ref = λ x. x; }, (record { pos = 23; ty = y5; ref = λ x. x; }, tt)))))))
+  a1 = (
+    record { pos = 1; ty = y1; ref = λ x. x },
+    (
+      record { pos = 9; st = []; d = 0; at = λ x. x },
+      (Num.vAt 2 λ x. x, (Num.vAt 3 λ x. x, (record { pos = 15; ty = y7; ref = λ x. x }, (record { pos = 19; ty = y6; ref = λ x. x }, (record { pos = 23; ty = y5; ref = λ x. x }, tt))))),
+    ),
+  )
 
   abbrev s36 : Typed.Both T38 T39
   s36 = Call.callB ps·3 r·3 (claims· .6) (claims· .7) T38 a1 13 (0 ∷ 4 ∷ 5 ∷ 6 ∷ []) y15
@@ -1059,9 +1062,11 @@ module _ (claims· : Claims) where
           d2 = Typed.s-seq 𝓤 H A W 𝓣 E (on T11 l5) (on T13 l5) b3 b4 Δ1 (Typed.pass T11 T13 s10) at1 (CopyOut.t-copy-told 𝓤 H A W E 𝓣 (Declared.row Refusal.the-type) Path'.refl (Laws'4.val
               Refusal.the-type Laws'3.the-laws) (Laws'4.lawful Refusal.the-type Laws'3.the-laws 𝓤 H A W tt) (Laws'4.makes Refusal.the-type Laws'3.the-plain 𝓤 H A) (on T11 l5) 8 (Scalar.oFld 7
               ((Syntax.variant 1) ∷ (Syntax.field 1) ∷ []) y0 8 λ v. Laws'4.val Refusal.the-type Laws'3.the-laws (v .0)) (λ m. m .1 .1 .1 .1 .1 .1 .1 .0 .0) (λ m. Laws'4.Fields (Declared.variants
-              Parsed.the-type) (Laws'4.spellss (Parsed.enum .parts) Laws''.the-laws) (Parsed.the-type .to (Known.at Parsed.enum 1 (m .1 .1 .1 .1 .1 .1 .1 .0)))) (Reads'.room-gone 𝓤 H A y0)
-              (Match.reads-payload 𝓤 H A W Parsed.enum Laws''.the-laws 1 Path'.refl Path'.refl (λ v. Val.vcons (Laws'4.val Refusal.the-type Laws'3.the-laws (v .0)) Val.vnil) (λ v. Path'.refl) 0 y0 8
-              Path'.refl, Path'.refl) Path'.refl (λ ρ m. Make.tells-row 𝓤 H A W E ρ (Row.out 8 ((on T11 l5) .locals)) m 7 (Laws'4.Fields (Declared.variants Parsed.the-type) (Laws'4.spellss (Parsed.enum
+              Parsed.the-type) (Laws'4.spellss (Parsed.enum .parts) Laws''.the-laws) (Parsed.the-type .to (Known.at Parsed.enum 1 (m .1 .1 .1 .1 .1 .1 .1 .0)))) (Reads'.room-gone 𝓤 H A y0) (
+                Match.reads-payload 𝓤 H A W Parsed.enum Laws''.the-laws 1 Path'.refl Path'.refl (λ v. Val.vcons (Laws'4.val Refusal.the-type Laws'3.the-laws (v .0)) Val.vnil) (λ v. Path'.refl) 0 y0 8
+                    Path'.refl,
+                Path'.refl,
+              ) Path'.refl (λ ρ m. Make.tells-row 𝓤 H A W E ρ (Row.out 8 ((on T11 l5) .locals)) m 7 (Laws'4.Fields (Declared.variants Parsed.the-type) (Laws'4.spellss (Parsed.enum
               .parts) Laws''.the-laws) (Parsed.the-type .to (Known.at Parsed.enum 1 (m .1 .1 .1 .1 .1 .1 .1 .0)))) (Known.known-is 𝓤 H A W E Parsed.enum 1 Laws''.the-laws ρ 7 (m .1 .1 .1 .1 .1 .1 .1 .0)))
               (λ m k wa. Path'.refl) λ m k wa. k .0) d1
 
@@ -1086,18 +1091,38 @@ module _ (claims· : Claims) where
               (Typed.g-post 𝓤 H A W 𝓣 E G38 G43 G43 b18 (λ Ψ. Typed.both s36 (Typed.pass T39 T40 s37 (Typed.pass T40 T41 s38 (Typed.both s40 Ψ)))) (Typed.give s41) (Typed.g-post 𝓤 H A W 𝓣 E G38 G42 G43
               b18 (λ Ψ. Typed.both s36 (Typed.pass T39 T40 s37 (Typed.pass T40 T41 s38 Ψ))) (Typed.both s40) (Typed.g-post 𝓤 H A W 𝓣 E G38 G41 G42 b18 (λ Ψ. Typed.both s36 (Typed.pass T39 T40 s37
               (Typed.pass T40 T41 s38 Ψ))) (λ Ψ. Ψ) (Typed.g-post 𝓤 H A W 𝓣 E G38 G40 G41 b18 (λ Ψ. Typed.both s36 (Typed.pass T39 T40 s37 Ψ)) (Typed.pass T40 T41 s38) (Typed.g-post 𝓤 H A W 𝓣 E G38 G39
-              G40 b18 (Typed.both s36) (Typed.pass T39 T40 s37) (Plain.t-call-plain 𝓤 H A W 𝓣 4 ps·3 r·3 (claims· .6) (claims· .7) "saved_state::blocks::store_in" (known .3) E (λ pos β. β) G38
-              (record { pos = 1; ty = y1; ref = λ x. x; },
-              (record { pos = 9; st = []; d = 0; at = λ x. x },
-              (Num.vAt 2 λ x. x, (Num.vAt 3 λ x. x, (record { pos = 15; ty = y7; ref = λ x. x; }, (record { pos = 19; ty = y6; ref = λ x. x; }, (record { pos = 23; ty = y5; ref = λ x. x; }, tt))))))) 13
-              (0 ∷ 4 ∷ 5 ∷ 6 ∷ []) (Call.sub-id 𝓤 H A W (G38 .slots))
-              (ShrSlice.spares-sslice 𝓤 H A W n8 y1 0, Shared.reads-sslice 𝓤 H A W n8 y1 0, Path'.refl,
-              ((Values.struct-copied 𝓤 H A W FujiHeader.the-type Laws'.the-laws Laws'.the-copy, Path'.refl),
-              ((Scalar.reads-sc 𝓤 H A W (Row.sInt Syntax.w64), Path'.refl),
-              ((Scalar.reads-sc 𝓤 H A W (Row.sInt Syntax.w64), Path'.refl),
-              (Reads'.as-is 𝓤 H A (Mut.mslice n8 y7 4), Mut.reads-mslice 𝓤 H A W n8 y7 4, Path'.refl,
-              (Reads'.as-is 𝓤 H A (Mut.mslice n16 y6 5), Mut.reads-mslice 𝓤 H A W n16 y6 5, Path'.refl,
-              (Reads'.as-is 𝓤 H A (Mut.mslice (Element.type) y5 6), Mut.reads-mslice 𝓤 H A W (Element.type) y5 6, Path'.refl, tt))))))) (Reads'.room-gone 𝓤 H A y15) (tt, (tt, (tt, (tt, tt)))) Path'.refl)
+              G40 b18 (Typed.both s36) (Typed.pass T39 T40 s37) (Plain.t-call-plain 𝓤 H A W 𝓣 4 ps·3 r·3 (claims· .6) (claims· .7) "saved_state::blocks::store_in" (known .3) E (λ pos β. β) G38 (
+                record { pos = 1; ty = y1; ref = λ x. x },
+                (
+                  record { pos = 9; st = []; d = 0; at = λ x. x },
+                  (Num.vAt 2 λ x. x, (Num.vAt 3 λ x. x, (record { pos = 15; ty = y7; ref = λ x. x }, (record { pos = 19; ty = y6; ref = λ x. x }, (record { pos = 23; ty = y5; ref = λ x. x }, tt))))),
+                ),
+              ) 13
+              (0 ∷ 4 ∷ 5 ∷ 6 ∷ []) (Call.sub-id 𝓤 H A W (G38 .slots)) (
+                ShrSlice.spares-sslice 𝓤 H A W n8 y1 0,
+                Shared.reads-sslice 𝓤 H A W n8 y1 0,
+                Path'.refl,
+                (
+                  (Values.struct-copied 𝓤 H A W FujiHeader.the-type Laws'.the-laws Laws'.the-copy, Path'.refl),
+                  (
+                    (Scalar.reads-sc 𝓤 H A W (Row.sInt Syntax.w64), Path'.refl),
+                    (
+                      (Scalar.reads-sc 𝓤 H A W (Row.sInt Syntax.w64), Path'.refl),
+                      (
+                        Reads'.as-is 𝓤 H A (Mut.mslice n8 y7 4),
+                        Mut.reads-mslice 𝓤 H A W n8 y7 4,
+                        Path'.refl,
+                        (
+                          Reads'.as-is 𝓤 H A (Mut.mslice n16 y6 5),
+                          Mut.reads-mslice 𝓤 H A W n16 y6 5,
+                          Path'.refl,
+                          (Reads'.as-is 𝓤 H A (Mut.mslice (Element.type) y5 6), Mut.reads-mslice 𝓤 H A W (Element.type) y5 6, Path'.refl, tt),
+                        ),
+                      ),
+                    ),
+                  ),
+                ),
+              ) (Reads'.room-gone 𝓤 H A y15) (tt, (tt, (tt, (tt, tt)))) Path'.refl)
               (Scalar.g-room 𝓤 H A W E G39 9 y9 (Local.room-whole 𝓤 H A W (Declared'.row FujiHeader.the-type) y9 Path'.refl))) (Scalar.g-room 𝓤 H A W E G40 10 u64 (Scalar.room-sc 𝓤 H A W (Row.sInt
               Syntax.w64)))) (Lifetime.g-end 𝓤 H A W E G41 4 Path'.refl)) (Relend.g-back-sl 𝓤 H A W E n8 G42 15 4 1 4 y2 y7 k1 (λ x. x) (λ x. x) (Reads'.as-is 𝓤 H A (Mut.msleft n8 y7)) (Reads'.as-is 𝓤 H A
               (Relend.mslice-owed n8 y2 1 4 k1)) Path'.refl Path'.refl)) (Know.g-sl-known 𝓤 H A W (Referent.fInt Syntax.w8) E G43 4 1 y2 k1 0 (λ x. x) record { fits = Dec'.lit< tt } (Reads'.as-is 𝓤 H A
@@ -1195,9 +1220,11 @@ module _ (claims· : Claims) where
               FujiHeader.the-type) Path'.refl (Laws'5.val FujiHeader.the-type Laws'.the-laws) (Laws'5.lawful FujiHeader.the-type Laws'.the-laws 𝓤 H A W) (Laws'5.makes FujiHeader.the-type Laws'.the-plain 𝓤
               H A) (on T17 l5) 9 (Scalar.oFld 7 ((Syntax.variant 0) ∷ (Syntax.field 1) ∷ []) y9 4 λ v. Laws'5.val FujiHeader.the-type Laws'.the-laws (v .0)) (λ m. m .1 .1 .1 .1 .1 .1 .1 .0 .0) (λ m.
               Laws'4.Fields (Declared.variants Parsed.the-type) (Laws'4.spellss (Parsed.enum .parts) Laws''.the-laws) (Parsed.the-type .to (Known.at Parsed.enum 0 (m .1 .1 .1 .1 .1 .1 .1 .0))))
-              (Reads'.room-gone 𝓤 H A y9)
-              (Match.reads-payload 𝓤 H A W Parsed.enum Laws''.the-laws 0 Path'.refl Path'.refl (λ v. Val.vcons (Laws'5.val FujiHeader.the-type Laws'.the-laws (v .0)) Val.vnil) (λ v. Path'.refl) 0 y9 4
-              Path'.refl, Path'.refl) Path'.refl (λ ρ m. Make.tells-row 𝓤 H A W E ρ (Row.out 9 ((on T17 l5) .locals)) m 7 (Laws'4.Fields (Declared.variants Parsed.the-type) (Laws'4.spellss (Parsed.enum
+              (Reads'.room-gone 𝓤 H A y9) (
+                Match.reads-payload 𝓤 H A W Parsed.enum Laws''.the-laws 0 Path'.refl Path'.refl (λ v. Val.vcons (Laws'5.val FujiHeader.the-type Laws'.the-laws (v .0)) Val.vnil) (λ v. Path'.refl) 0 y9 4
+                    Path'.refl,
+                Path'.refl,
+              ) Path'.refl (λ ρ m. Make.tells-row 𝓤 H A W E ρ (Row.out 9 ((on T17 l5) .locals)) m 7 (Laws'4.Fields (Declared.variants Parsed.the-type) (Laws'4.spellss (Parsed.enum
               .parts) Laws''.the-laws) (Parsed.the-type .to (Known.at Parsed.enum 0 (m .1 .1 .1 .1 .1 .1 .1 .0)))) (Known.known-is 𝓤 H A W E Parsed.enum 0 Laws''.the-laws ρ 7 (m .1 .1 .1 .1 .1 .1 .1 .0)))
               (λ m k wa. Path'.refl) λ m k wa. k .0) d24
 
@@ -1246,10 +1273,15 @@ module _ (claims· : Claims) where
           d37 : Typed.Typed 𝓤 H A 𝓣 E (on T6 l5) b36 Δ0 at37
           d37 = Typed.s-seq 𝓤 H A W 𝓣 E (on T6 l5) (on T7 l5) b2 (Syntax.seq b31 (Syntax.seq b32 b33)) Δ0 (Typed.both s5) at36 (Plain.t-call-plain 𝓤 H A W 𝓣 1 ps·0 r·0 (claims· .0) (claims· .1)
               "admission::block_begins" (known .0) E (λ pos β. β) (on T6 l5)
-              (record { pos = 1; ty = y1; ref = λ x. x; }, (Num.vAt 2 λ x. x, (Bool.bLit Bool'.false, (Num.vAt 11 λ x. x, (Num.vAt 12 λ x. x, tt))))) 7 (0 ∷ []) (Call.sub-id 𝓤 H A W ((on T6 l5) .slots))
-              (ShrSlice.spares-sslice 𝓤 H A W n8 y1 0, Shared.reads-sslice 𝓤 H A W n8 y1 0, Path'.refl,
-              ((Scalar.reads-sc 𝓤 H A W (Row.sInt Syntax.w64), Path'.refl),
-              (tt, ((Scalar.reads-sc 𝓤 H A W (Row.sInt Syntax.w64), Path'.refl), ((Scalar.reads-sc 𝓤 H A W (Row.sInt Syntax.w64), Path'.refl), tt))))) (Reads'.room-gone 𝓤 H A y11) (tt, tt) Path'.refl) d36
+              (record { pos = 1; ty = y1; ref = λ x. x }, (Num.vAt 2 λ x. x, (Bool.bLit Bool'.false, (Num.vAt 11 λ x. x, (Num.vAt 12 λ x. x, tt))))) 7 (0 ∷ []) (Call.sub-id 𝓤 H A W ((on T6 l5) .slots)) (
+                ShrSlice.spares-sslice 𝓤 H A W n8 y1 0,
+                Shared.reads-sslice 𝓤 H A W n8 y1 0,
+                Path'.refl,
+                (
+                  (Scalar.reads-sc 𝓤 H A W (Row.sInt Syntax.w64), Path'.refl),
+                  (tt, ((Scalar.reads-sc 𝓤 H A W (Row.sInt Syntax.w64), Path'.refl), ((Scalar.reads-sc 𝓤 H A W (Row.sInt Syntax.w64), Path'.refl), tt))),
+                ),
+              ) (Reads'.room-gone 𝓤 H A y11) (tt, tt) Path'.refl) d36
 
           d38 : Typed.Typed 𝓤 H A 𝓣 E (on T5 l5) (Syntax.seq b1 b36) Δ0 at38
           d38 = Typed.s-seq 𝓤 H A W 𝓣 E (on T5 l5) (on T6 l5) b1 b36 Δ0 (Typed.pass T5 T6 s4) at37 (Scalar.t-use 𝓤 H A W E 𝓣 (on T5 l5) (Scalar.oFld 6 ((Syntax.field 1) ∷ []) u64 8 Shared.lenV) 12
@@ -1297,9 +1329,12 @@ module _ (claims· : Claims) where
       m0 = λ κs args. (tt, Enter.partsP κs 1 ps xs (dens κs args))
 
       abbrev W0 : (κs : Lifetimes.Lfts 4) → (args : Args κs) → Typed.Want O0
-      W0 = λ κs args.
-          (λ u. ⊥, tt, λ u. Enter.Fixs κs 1 ps xs (dens κs args) (u .1) × Post· κs (dens κs args) (Function.resV r κs (u .0)) (Clauses.atExit (Kinds.endedOf 4 ps r) κs (dens κs args) (Enter.lastsP κs 1 ps
-          xs (dens κs args) (u .1))))
+      W0 = λ κs args. (
+        λ u. ⊥,
+        tt,
+        λ u. Enter.Fixs κs 1 ps xs (dens κs args) (u .1) × Post· κs (dens κs args) (Function.resV r κs (u .0)) (Clauses.atExit (Kinds.endedOf 4 ps r) κs (dens κs args) (Enter.lastsP κs 1 ps
+            xs (dens κs args) (u .1))),
+      )
 
       pub record Start : Type 0 where
         pub κs : Lifetimes.Lfts 4
@@ -1656,68 +1691,126 @@ module _ (claims· : Claims) where
           Need-part-store-in-end) (sub-store-in-2 : Need-sub-store-in-2) (part-store-in-start-2 : Need-part-store-in-start-2) (part-store-in-end-2 : Need-part-store-in-end-2) (store-in-requires :
           Need-store-in-requires) (returns : Need-returns) (same-length : Need-same-length) (same-length-2 : Need-same-length-2) (same-length-3 : Need-same-length-3) (returns-2 : Need-returns-2) where
         lay4 : (c : After-rs) → at35 (W0 (After-rs·start c .κs) (After-rs·start c .args)) (m41 (c .before) (c .rs .given))
-        lay4 = λ c.
-            ((Path'.refl,
-            (tt,
-            (tt,
-            (MutSlice.fix-len (Row.get 4 (T1 .locals) (m49 (c .before) (c .rs .given)) .ptr) (Row.get 4 (T1 .locals) (m49 (c .before) (c .rs .given)) .name) (Row.get 4 (T1 .locals) (m49 (c .before) (c .rs
-            .given)) .now) (dens (After-rs·start c .κs) (After-rs·start c .args) .1 .1 .1 .0 .now) (same-length c),
-            (MutSlice.fix-len (Row.get 5 (T1 .locals) (m49 (c .before) (c .rs .given)) .ptr) (Row.get 5 (T1 .locals) (m49 (c .before) (c .rs .given)) .name) (Row.get 5 (T1 .locals) (m49 (c .before) (c .rs
-            .given)) .now) (dens (After-rs·start c .κs) (After-rs·start c .args) .1 .1 .1 .1 .0 .now) (same-length-2 c),
-            (MutSlice.fix-len (Row.get 6 (T1 .locals) (m49 (c .before) (c .rs .given)) .ptr) (Row.get 6 (T1 .locals) (m49 (c .before) (c .rs .given)) .name) (Row.get 6 (T1 .locals) (m49 (c .before) (c .rs
-            .given)) .now) (dens (After-rs·start c .κs) (After-rs·start c .args) .1 .1 .1 .1 .1 .0 .now) (same-length-3 c), tt)))))), returns-2 c)
+        lay4 = λ c. (
+          (
+            Path'.refl,
+            (
+              tt,
+              (
+                tt,
+                (
+                  MutSlice.fix-len (Row.get 4 (T1 .locals) (m49 (c .before) (c .rs .given)) .ptr) (Row.get 4 (T1 .locals) (m49 (c .before) (c .rs .given)) .name) (Row.get 4 (T1 .locals) (m49 (c .before) (c .rs
+                      .given)) .now) (dens (After-rs·start c .κs) (After-rs·start c .args) .1 .1 .1 .0 .now) (same-length c),
+                  (
+                    MutSlice.fix-len (Row.get 5 (T1 .locals) (m49 (c .before) (c .rs .given)) .ptr) (Row.get 5 (T1 .locals) (m49 (c .before) (c .rs .given)) .name) (Row.get 5 (T1 .locals) (m49 (c .before) (c .rs
+                        .given)) .now) (dens (After-rs·start c .κs) (After-rs·start c .args) .1 .1 .1 .1 .0 .now) (same-length-2 c),
+                    (
+                      MutSlice.fix-len (Row.get 6 (T1 .locals) (m49 (c .before) (c .rs .given)) .ptr) (Row.get 6 (T1 .locals) (m49 (c .before) (c .rs .given)) .name) (Row.get 6 (T1 .locals) (m49 (c .before) (c .rs
+                          .given)) .now) (dens (After-rs·start c .κs) (After-rs·start c .args) .1 .1 .1 .1 .1 .0 .now) (same-length-3 c),
+                      tt,
+                    ),
+                  ),
+                ),
+              ),
+            ),
+          ),
+          returns-2 c,
+        )
 
         lay3 : (c : After-refused) → at35 (W0 (After-refused·start c .κs) (After-refused·start c .args)) (m14 (c .before) (After-refused·gave c))
         lay3 = λ c. ((Path'.refl, (tt, (tt, (Path'.refl, (Path'.refl, (Path'.refl, tt)))))), returns c)
 
         lay2 : (c : After-samples-needed) → at21 (W1 (c .before .before .before .before .before) (After-block-begins·gave (c .before .before .before .before))) (m19 (c .before)
             (After-samples-needed·gave c))
-        lay2 = λ c. λ g. let c1 : After-store-in-arg = record { before = c; store-in-arg = record { given = g }; } in
-            (Path'.refl,
-            (tt,
-            (sub-store-in c1,
-            ((Path'.refl, Path'.refl, part-store-in-start c1, part-store-in-end c1), λ g'. let c2 : After-store-in-arg2 = record { before = c1; store-in-arg2 = record { given = g' }; } in
-            (Relend.count-is T29 18 19 (λ x. x) (λ u. u .1 .1 .1 .1 .1 .1 .1 .1 .1 .1 .1 .1 .1 .1 .1 .1 .1 .0) (m25 c1 g') (g' .1),
-            (tt,
-            (sub-store-in-2 c2,
-            ((Path'.refl, Path'.refl, part-store-in-start-2 c2, part-store-in-end-2 c2), λ g''. let c3 : After-store-in-arg3 = record { before = c2; store-in-arg3 = record { given = g'' }; } in
-            (Relend.count-is T36 22 23 (λ x. x) (λ u. u .1 .1 .1 .1 .1 .1 .1 .1 .1 .1 .1 .1 .1 .1 .1 .1 .1 .1 .1 .1 .1 .0) (m31 c2 g'') (g'' .1),
-            (store-in-requires c3, λ g'3. let c4 : After-store-in = record
-            { before = c3; store-in = Called.called ps·3 r·3 (claims· .7) T38
-            (record { pos = 1; ty = y1; ref = λ x. x; },
-            (record { pos = 9; st = []; d = 0; at = λ x. x; },
-            (Num.vAt 2 λ x. x, (Num.vAt 3 λ x. x, (record { pos = 15; ty = y7; ref = λ x. x; }, (record { pos = 19; ty = y6; ref = λ x. x; }, (record { pos = 23; ty = y5; ref = λ x. x; }, tt))))))) (m33
-            c2 g'') g'3; } in
-            (Path'.refl, λ g'4. let c5 : After-state = record { before = c4; state = record { given = g'4 }; } in λ g'5. let c6 : After-slice-known3 = record
-            { before = c5; slice-known3 = record { given = g'5 }; } in
-            (Path'.refl, λ g'6. let c7 : After-lines = record { before = c6; lines = record { given = g'6 }; } in λ g'7. let c8 : After-slice-known4 = record
-            { before = c7; slice-known4 = record { given = g'7 }; } in (Path'.refl, λ g'8. lay4 record { before = c8; rs = record { given = g'8 }; })))))))))))))
+        lay2 = λ c. λ g. let c1 : After-store-in-arg = record { before = c; store-in-arg = record { given = g } } in (
+          Path'.refl,
+          (
+            tt,
+            (
+              sub-store-in c1,
+              (
+                (Path'.refl, Path'.refl, part-store-in-start c1, part-store-in-end c1),
+                λ g'. let c2 : After-store-in-arg2 = record { before = c1; store-in-arg2 = record { given = g' } } in (
+                  Relend.count-is T29 18 19 (λ x. x) (λ u. u .1 .1 .1 .1 .1 .1 .1 .1 .1 .1 .1 .1 .1 .1 .1 .1 .1 .0) (m25 c1 g') (g' .1),
+                  (
+                    tt,
+                    (
+                      sub-store-in-2 c2,
+                      (
+                        (Path'.refl, Path'.refl, part-store-in-start-2 c2, part-store-in-end-2 c2),
+                        λ g''. let c3 : After-store-in-arg3 = record { before = c2; store-in-arg3 = record { given = g'' } } in (
+                          Relend.count-is T36 22 23 (λ x. x) (λ u. u .1 .1 .1 .1 .1 .1 .1 .1 .1 .1 .1 .1 .1 .1 .1 .1 .1 .1 .1 .1 .1 .0) (m31 c2 g'') (g'' .1),
+                          (
+                            store-in-requires c3,
+                            λ g'3. let c4 : After-store-in = record {
+                              before = c3;
+                              store-in = Called.called ps·3 r·3 (claims· .7) T38 (
+                                record { pos = 1; ty = y1; ref = λ x. x },
+                                (
+                                  record { pos = 9; st = []; d = 0; at = λ x. x },
+                                  (Num.vAt 2 λ x. x, (Num.vAt 3 λ x. x, (record { pos = 15; ty = y7; ref = λ x. x }, (record { pos = 19; ty = y6; ref = λ x. x }, (record { pos = 23; ty = y5; ref = λ x. x }, tt))))),
+                                ),
+                              ) (m33
+                                  c2 g'') g'3;
+                            } in (
+                              Path'.refl,
+                              λ g'4. let c5 : After-state = record { before = c4; state = record { given = g'4 } } in λ g'5. let c6 : After-slice-known3 = record
+                                  { before = c5; slice-known3 = record { given = g'5 } } in (
+                                    Path'.refl,
+                                    λ g'6. let c7 : After-lines = record { before = c6; lines = record { given = g'6 } } in λ g'7. let c8 : After-slice-known4 = record
+                                        { before = c7; slice-known4 = record { given = g'7 } } in (Path'.refl, λ g'8. lay4 record { before = c8; rs = record { given = g'8 } }),
+                                  ),
+                            ),
+                          ),
+                        ),
+                      ),
+                    ),
+                  ),
+                ),
+              ),
+            ),
+          ),
+        )
 
         lay1 : (c : After-block-begins) → at36 (W0 (After-block-begins·start c .κs) (After-block-begins·start c .args)) (m6 (c .before) (After-block-begins·gave c))
-        lay1 = λ c.
-            (λ k. let c1 : At-match-keys1 = record { before = c; match = record { keys1 = k }; } in
-            (enum-known-begins c1, λ g. let c2 : After-begins = record { before = c1; begins = record { given = g }; } in λ g'. let c3 : After-known-told = record
-            { before = c2; known-told = record { given = g' }; } in
-            (refused-requires c3, λ g''. lay3 record { before = c3; refused = Called.called ps·1 r·1 (claims· .3) T14 (record { pos = 8; st = []; d = 0; at = λ x. x }, tt) (m12 c2 g') g''; })),
-            (λ k. let c4 : At-match-keys2 = record { before = c; match = record { keys2 = k }; } in
-            (enum-known-begins-2 c4, λ g. let c5 : After-begins2 = record { before = c4; begins2 = record { given = g }; } in λ g'3. let c6 : After-known-told2 = record
-            { before = c5; known-told2 = record { given = g'3 }; } in
-            (samples-needed-requires c6, λ g'4. lay2 record
-            { before = c6; samples-needed = Called.called ps·2 r·2 (claims· .5) T20 (Bool.bFld 9 ((Syntax.field 1) ∷ []) 1 λ x. FujiHeader.struct .as-values x .1 .0, tt) (m18 c5 g'3) g'4; })),
+        lay1 = λ c. (
+          λ k. let c1 : At-match-keys1 = record { before = c; match = record { keys1 = k } } in (
+            enum-known-begins c1,
+            λ g. let c2 : After-begins = record { before = c1; begins = record { given = g } } in λ g'. let c3 : After-known-told = record
+                { before = c2; known-told = record { given = g' } } in
+                (refused-requires c3, λ g''. lay3 record { before = c3; refused = Called.called ps·1 r·1 (claims· .3) T14 (record { pos = 8; st = []; d = 0; at = λ x. x }, tt) (m12 c2 g') g'' }),
+          ),
+          (
+            λ k. let c4 : At-match-keys2 = record { before = c; match = record { keys2 = k } } in (
+              enum-known-begins-2 c4,
+              λ g. let c5 : After-begins2 = record { before = c4; begins2 = record { given = g } } in λ g'3. let c6 : After-known-told2 = record
+                  { before = c5; known-told2 = record { given = g'3 } } in (
+                    samples-needed-requires c6,
+                    λ g'4. lay2 record
+                        { before = c6; samples-needed = Called.called ps·2 r·2 (claims· .5) T20 (Bool.bFld 9 ((Syntax.field 1) ∷ []) 1 λ x. FujiHeader.struct .as-values x .1 .0, tt) (m18 c5 g'3) g'4 },
+                  ),
+            ),
             Match.each-below 2 (λ j. (Unit {0} × (Run.OneOf (1 ∷ []) j → ⊥)) × (Run.OneOf (0 ∷ []) j → ⊥) → ⊥) (λ n. n .0 .1 Path'.refl, (λ n. n .1 Path'.refl, tt)) (Declared.tagOf Parsed.the-type
-            (Row.get 7 (T10 .locals) (m8 (c .before) (After-block-begins·gave c)))) (Match.tag-small Parsed.the-type (Row.get 7 (T10 .locals) (m8 (c .before) (After-block-begins·gave c))))))
+                (Row.get 7 (T10 .locals) (m8 (c .before) (After-block-begins·gave c)))) (Match.tag-small Parsed.the-type (Row.get 7 (T10 .locals) (m8 (c .before) (After-block-begins·gave c)))),
+          ),
+        )
 
         pub laid : (c : Start) → at42 (W0 (c .κs) (c .args)) (m0 (c .κs) (c .args))
         laid = λ c. λ g. let c1 : After-shared-slice-known = record { before = c; shared-slice-known = record { given = g } } in λ g'. let c2 : After-slice-known = record
-            { before = c1; slice-known = record { given = g' }; } in λ g''. let c3 : After-slice-known2 = record { before = c2; slice-known2 = record { given = g'' }; } in
-            (block-begins-requires c3, λ g'3. lay1 record { before = c3; block-begins = Called.called ps·0 r·0 (claims· .1) T6 a0 (m5 c2 g'') g'3; })
+            { before = c1; slice-known = record { given = g' } } in λ g''. let c3 : After-slice-known2 = record { before = c2; slice-known2 = record { given = g'' } } in
+            (block-begins-requires c3, λ g'3. lay1 record { before = c3; block-begins = Called.called ps·0 r·0 (claims· .1) T6 a0 (m5 c2 g'') g'3 })
 
         module _ (κs : Lifetimes.Lfts 4) (qs : Lifetimes.Shares 4) where
           pub asked : (a : Kinds.Dens κs ps) → (good : Kinds.GoodsP κs ps a) → (pre : Pre· κs a) → (bs : List.List Nat.ℕ) → Φ (Any.wantQ 4 ps r xs m κs qs a (Post· κs a)) (Function.init 4 ps r xs m κs
               qs a)
-          asked = λ a good pre bs. laid record
-              { κs = κs; args = record { d = a .0; b = a .1 .0; line = a .1 .1 .0; state = a .1 .1 .1 .0; lines = a .1 .1 .1 .1 .0; rs = a .1 .1 .1 .1 .1 .0; }; good = good; fits = record
-              { b = record { fits = good .1 .0 .1 }; line = record { fits = good .1 .1 .0 .1 }; }; pre = pre; }
+          asked = λ a good pre bs. laid record {
+            κs = κs;
+            args = record { d = a .0; b = a .1 .0; line = a .1 .1 .0; state = a .1 .1 .1 .0; lines = a .1 .1 .1 .1 .0; rs = a .1 .1 .1 .1 .1 .0 };
+            good = good;
+            fits = record
+                { b = record { fits = good .1 .0 .1 }; line = record { fits = good .1 .1 .0 .1 } };
+            pre = pre;
+          }
 
         module _ {M : Type 1} (𝓤 : URA.URA M) (H : Wp.Heap 𝓤) (A : Atoms.Atoms 𝓤) (W : Kit.Given 𝓤 H A) (𝓣 : Wp.Tables 𝓤 H) (known0 : Plain.Known 𝓤 H A W 𝓣 1 ps·0 r·0 (claims· .0) (claims· .1)
             "admission::block_begins") (known1 : Plain.Known 𝓤 H A W 𝓣 0 ps·1 r·1 (claims· .2) (claims· .3) "read_block::tight::refused") (known2 : Plain.Known 𝓤 H A W 𝓣 0 ps·2 r·2 (claims· .4) (claims·

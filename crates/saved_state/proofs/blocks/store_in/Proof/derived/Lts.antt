@@ -584,7 +584,7 @@ module _ (claims· : Claims) where
   s16 = Relend.k-sl-aggregate (Element.type) (Relend.asMut (Element.type)) T18 14 15 5 y5 y5 (λ x. x) (Scalar.oFld 7 ((Syntax.field 1) ∷ []) u64 8 λ v. Shared.lenV (v .0))
 
   abbrev pub a0 : ArgsT ps·1 (T19 .locals)
-  a0 = (record { pos = 13; ty = y6; ref = λ x. x; }, (record { pos = 15; ty = y5; ref = λ x. x; }, (record { pos = 9; st = []; d = 0; at = λ x. x }, tt)))
+  a0 = (record { pos = 13; ty = y6; ref = λ x. x }, (record { pos = 15; ty = y5; ref = λ x. x }, (record { pos = 9; st = []; d = 0; at = λ x. x }, tt)))
 
   abbrev s17 : Typed.Both T19 T20
   s17 = Call.callB ps·1 r·1 (claims· .2) (claims· .3) T19 a0 11 (4 ∷ 5 ∷ []) y14
@@ -626,10 +626,13 @@ module _ (claims· : Claims) where
   s36 = Relend.k-sl-aggregate (Element.type) (Relend.asMut (Element.type)) T38 20 21 8 y5 y5 (λ x. x) (Scalar.oFld 7 ((Syntax.field 1) ∷ []) u64 8 λ v. Shared.lenV (v .0))
 
   abbrev pub a1 : ArgsT ps·2 (T39 .locals)
-  a1 =
-      (record { pos = 1; ty = y1; ref = λ x. x; },
-      (record { pos = 2; st = []; d = 0; at = λ x. x },
-      (Num.vAt 3 λ x. x, (Num.vAt 4 λ x. x, (record { pos = 17; ty = y7; ref = λ x. x; }, (record { pos = 19; ty = y6; ref = λ x. x; }, (record { pos = 21; ty = y5; ref = λ x. x; }, tt)))))))
+  a1 = (
+    record { pos = 1; ty = y1; ref = λ x. x },
+    (
+      record { pos = 2; st = []; d = 0; at = λ x. x },
+      (Num.vAt 3 λ x. x, (Num.vAt 4 λ x. x, (record { pos = 17; ty = y7; ref = λ x. x }, (record { pos = 19; ty = y6; ref = λ x. x }, (record { pos = 21; ty = y5; ref = λ x. x }, tt))))),
+    ),
+  )
 
   abbrev s37 : Typed.Both T39 T40
   s37 = Call.callB ps·2 r·2 (claims· .4) (claims· .5) T39 a1 11 (0 ∷ 6 ∷ 7 ∷ 8 ∷ []) y14
@@ -991,11 +994,18 @@ module _ (claims· : Claims) where
               Typed.both s17 (Typed.pass T20 T21 s18 (Typed.both s20 Ψ))) (Typed.give s21) (Typed.g-post 𝓤 H A W 𝓣 E G19 G22 G23 b7 (λ Ψ. Typed.both s17 (Typed.pass T20 T21 s18 Ψ)) (Typed.both s20)
               (Typed.g-post 𝓤 H A W 𝓣 E G19 G21 G22 b7 (λ Ψ. Typed.both s17 (Typed.pass T20 T21 s18 Ψ)) (λ Ψ. Ψ) (Typed.g-post 𝓤 H A W 𝓣 E G19 G20 G21 b7 (Typed.both s17) (Typed.pass T20 T21 s18)
               (Plain.t-call-plain 𝓤 H A W 𝓣 2 ps·1 r·1 (claims· .2) (claims· .3) "saved_state::blocks::refuse" (known .1) E (λ pos β. β) G19
-              (record { pos = 13; ty = y6; ref = λ x. x; }, (record { pos = 15; ty = y5; ref = λ x. x; }, (record { pos = 9; st = []; d = 0; at = λ x. x }, tt))) 11 (4 ∷ 5 ∷ []) (Call.sub-id 𝓤 H A W (G19
-              .slots))
-              (Reads.as-is 𝓤 H A (Mut.mslice n16 y6 4), Mut.reads-mslice 𝓤 H A W n16 y6 4, Path'.refl,
-              (Reads.as-is 𝓤 H A (Mut.mslice (Element.type) y5 5), Mut.reads-mslice 𝓤 H A W (Element.type) y5 5, Path'.refl,
-              ((Values.enum-copied 𝓤 H A W Refusal.the-type Laws'3.the-laws Laws'3.the-copy, Path'.refl), tt))) (Reads.room-gone 𝓤 H A y14) (tt, (tt, tt)) Path'.refl) (Scalar.g-room 𝓤 H A W E G20 9 y0
+              (record { pos = 13; ty = y6; ref = λ x. x }, (record { pos = 15; ty = y5; ref = λ x. x }, (record { pos = 9; st = []; d = 0; at = λ x. x }, tt))) 11 (4 ∷ 5 ∷ []) (Call.sub-id 𝓤 H A W (G19
+              .slots)) (
+                Reads.as-is 𝓤 H A (Mut.mslice n16 y6 4),
+                Mut.reads-mslice 𝓤 H A W n16 y6 4,
+                Path'.refl,
+                (
+                  Reads.as-is 𝓤 H A (Mut.mslice (Element.type) y5 5),
+                  Mut.reads-mslice 𝓤 H A W (Element.type) y5 5,
+                  Path'.refl,
+                  ((Values.enum-copied 𝓤 H A W Refusal.the-type Laws'3.the-laws Laws'3.the-copy, Path'.refl), tt),
+                ),
+              ) (Reads.room-gone 𝓤 H A y14) (tt, (tt, tt)) Path'.refl) (Scalar.g-room 𝓤 H A W E G20 9 y0
               (Local.room-whole 𝓤 H A W (Declared.row Refusal.the-type) y0 Path'.refl))) (Lifetime.g-end 𝓤 H A W E G21 4 Path'.refl)) (Relend.g-back-sl 𝓤 H A W E n16 G22 13 6 2 4 y3 y6 k2 (λ x. x) (λ x.
               x) (Reads.as-is 𝓤 H A (Mut.msleft n16 y6)) (Reads.as-is 𝓤 H A (Relend.mslice-owed n16 y3 2 4 k2)) Path'.refl Path'.refl)) (Know.g-sl-known 𝓤 H A W (Referent.fInt Syntax.w16) E G23 6 2 y3 k2
               0 (λ x. x) record { fits = Dec'.lit< tt } (Reads.as-is 𝓤 H A (Mut.mslice n16 y3 2)) Path'.refl tt)) (Lifetime.g-forget 𝓤 H A W E G23 4 Row.dead Path'.refl)) (Lifetime.g-end 𝓤 H A W E G25 5
@@ -1036,9 +1046,11 @@ module _ (claims· : Claims) where
           d8 = Typed.s-seq 𝓤 H A W 𝓣 E (on T11 l8) (on T12 l8) b2 b11 Δ1 (Typed.pass T11 T12 s9) at7 (CopyOut.t-copy-told 𝓤 H A W E 𝓣 (Declared.row Refusal.the-type) Path'.refl (Laws'4.val
               Refusal.the-type Laws'3.the-laws) (Laws'4.lawful Refusal.the-type Laws'3.the-laws 𝓤 H A W tt) (Laws'4.makes Refusal.the-type Laws'3.the-plain 𝓤 H A) (on T11 l8) 9 (Scalar.oFld 8
               ((Syntax.variant 1) ∷ (Syntax.field 1) ∷ []) y0 8 λ v. Laws'4.val Refusal.the-type Laws'3.the-laws (v .0)) (λ m. m .1 .1 .1 .1 .1 .1 .1 .1 .0 .0) (λ m. Laws'4.Fields (Declared.variants
-              Decoded.the-type) (Laws'4.spellss (Decoded.enum .parts) Laws'.the-laws) (Decoded.the-type .to (Known.at Decoded.enum 1 (m .1 .1 .1 .1 .1 .1 .1 .1 .0)))) (Reads.room-gone 𝓤 H A y0)
-              (Match.reads-payload 𝓤 H A W Decoded.enum Laws'.the-laws 1 Path'.refl Path'.refl (λ v. Val.vcons (Laws'4.val Refusal.the-type Laws'3.the-laws (v .0)) Val.vnil) (λ v. Path'.refl) 0 y0 8
-              Path'.refl, Path'.refl) Path'.refl (λ ρ m. Make.tells-row 𝓤 H A W E ρ (Row.out 9 ((on T11 l8) .locals)) m 8 (Laws'4.Fields (Declared.variants Decoded.the-type) (Laws'4.spellss (Decoded.enum
+              Decoded.the-type) (Laws'4.spellss (Decoded.enum .parts) Laws'.the-laws) (Decoded.the-type .to (Known.at Decoded.enum 1 (m .1 .1 .1 .1 .1 .1 .1 .1 .0)))) (Reads.room-gone 𝓤 H A y0) (
+                Match.reads-payload 𝓤 H A W Decoded.enum Laws'.the-laws 1 Path'.refl Path'.refl (λ v. Val.vcons (Laws'4.val Refusal.the-type Laws'3.the-laws (v .0)) Val.vnil) (λ v. Path'.refl) 0 y0 8
+                    Path'.refl,
+                Path'.refl,
+              ) Path'.refl (λ ρ m. Make.tells-row 𝓤 H A W E ρ (Row.out 9 ((on T11 l8) .locals)) m 8 (Laws'4.Fields (Declared.variants Decoded.the-type) (Laws'4.spellss (Decoded.enum
               .parts) Laws'.the-laws) (Decoded.the-type .to (Known.at Decoded.enum 1 (m .1 .1 .1 .1 .1 .1 .1 .1 .0)))) (Known.known-is 𝓤 H A W E Decoded.enum 1 Laws'.the-laws ρ 8 (m .1 .1 .1 .1 .1 .1 .1
               .1 .0))) (λ m k wa. Path'.refl) λ m k wa. k .0) d7
 
@@ -1065,18 +1077,38 @@ module _ (claims· : Claims) where
               Ψ)))) (λ Ψ. Ψ) (Typed.g-post 𝓤 H A W 𝓣 E G39 G43 G45 b19 (λ Ψ. Typed.both s37 (Typed.pass T40 T41 s38 (Typed.both s40 (Typed.give s41 Ψ)))) (λ Ψ. Ψ) (Typed.g-post 𝓤 H A W 𝓣 E G39 G43 G43 b19
               (λ Ψ. Typed.both s37 (Typed.pass T40 T41 s38 (Typed.both s40 Ψ))) (Typed.give s41) (Typed.g-post 𝓤 H A W 𝓣 E G39 G42 G43 b19 (λ Ψ. Typed.both s37 (Typed.pass T40 T41 s38 Ψ)) (Typed.both s40)
               (Typed.g-post 𝓤 H A W 𝓣 E G39 G41 G42 b19 (λ Ψ. Typed.both s37 (Typed.pass T40 T41 s38 Ψ)) (λ Ψ. Ψ) (Typed.g-post 𝓤 H A W 𝓣 E G39 G40 G41 b19 (Typed.both s37) (Typed.pass T40 T41 s38)
-              (Plain.t-call-plain 𝓤 H A W 𝓣 4 ps·2 r·2 (claims· .4) (claims· .5) "saved_state::blocks::store_state" (known .2) E (λ pos β. β) G39
-              (record { pos = 1; ty = y1; ref = λ x. x; },
-              (record { pos = 2; st = []; d = 0; at = λ x. x },
-              (Num.vAt 3 λ x. x, (Num.vAt 4 λ x. x, (record { pos = 17; ty = y7; ref = λ x. x; }, (record { pos = 19; ty = y6; ref = λ x. x; }, (record { pos = 21; ty = y5; ref = λ x. x; }, tt))))))) 11
-              (0 ∷ 6 ∷ 7 ∷ 8 ∷ []) (Call.sub-id 𝓤 H A W (G39 .slots))
-              (ShrSlice.spares-sslice 𝓤 H A W n8 y1 0, Shared.reads-sslice 𝓤 H A W n8 y1 0, Path'.refl,
-              ((Values.struct-copied 𝓤 H A W FujiHeader.the-type Laws''.the-laws Laws''.the-copy, Path'.refl),
-              ((Scalar.reads-sc 𝓤 H A W (Row.sInt Syntax.w64), Path'.refl),
-              ((Scalar.reads-sc 𝓤 H A W (Row.sInt Syntax.w64), Path'.refl),
-              (Reads.as-is 𝓤 H A (Mut.mslice n8 y7 6), Mut.reads-mslice 𝓤 H A W n8 y7 6, Path'.refl,
-              (Reads.as-is 𝓤 H A (Mut.mslice n16 y6 7), Mut.reads-mslice 𝓤 H A W n16 y6 7, Path'.refl,
-              (Reads.as-is 𝓤 H A (Mut.mslice (Element.type) y5 8), Mut.reads-mslice 𝓤 H A W (Element.type) y5 8, Path'.refl, tt))))))) (Reads.room-gone 𝓤 H A y14) (tt, (tt, (tt, (tt, tt)))) Path'.refl)
+              (Plain.t-call-plain 𝓤 H A W 𝓣 4 ps·2 r·2 (claims· .4) (claims· .5) "saved_state::blocks::store_state" (known .2) E (λ pos β. β) G39 (
+                record { pos = 1; ty = y1; ref = λ x. x },
+                (
+                  record { pos = 2; st = []; d = 0; at = λ x. x },
+                  (Num.vAt 3 λ x. x, (Num.vAt 4 λ x. x, (record { pos = 17; ty = y7; ref = λ x. x }, (record { pos = 19; ty = y6; ref = λ x. x }, (record { pos = 21; ty = y5; ref = λ x. x }, tt))))),
+                ),
+              ) 11
+              (0 ∷ 6 ∷ 7 ∷ 8 ∷ []) (Call.sub-id 𝓤 H A W (G39 .slots)) (
+                ShrSlice.spares-sslice 𝓤 H A W n8 y1 0,
+                Shared.reads-sslice 𝓤 H A W n8 y1 0,
+                Path'.refl,
+                (
+                  (Values.struct-copied 𝓤 H A W FujiHeader.the-type Laws''.the-laws Laws''.the-copy, Path'.refl),
+                  (
+                    (Scalar.reads-sc 𝓤 H A W (Row.sInt Syntax.w64), Path'.refl),
+                    (
+                      (Scalar.reads-sc 𝓤 H A W (Row.sInt Syntax.w64), Path'.refl),
+                      (
+                        Reads.as-is 𝓤 H A (Mut.mslice n8 y7 6),
+                        Mut.reads-mslice 𝓤 H A W n8 y7 6,
+                        Path'.refl,
+                        (
+                          Reads.as-is 𝓤 H A (Mut.mslice n16 y6 7),
+                          Mut.reads-mslice 𝓤 H A W n16 y6 7,
+                          Path'.refl,
+                          (Reads.as-is 𝓤 H A (Mut.mslice (Element.type) y5 8), Mut.reads-mslice 𝓤 H A W (Element.type) y5 8, Path'.refl, tt),
+                        ),
+                      ),
+                    ),
+                  ),
+                ),
+              ) (Reads.room-gone 𝓤 H A y14) (tt, (tt, (tt, (tt, tt)))) Path'.refl)
               (Scalar.g-room 𝓤 H A W E G40 2 y9 (Local.room-whole 𝓤 H A W (Declared'.row FujiHeader.the-type) y9 Path'.refl))) (Lifetime.g-end 𝓤 H A W E G41 6 Path'.refl)) (Relend.g-back-sl 𝓤 H A W E n8
               G42 17 5 1 6 y2 y7 k1 (λ x. x) (λ x. x) (Reads.as-is 𝓤 H A (Mut.msleft n8 y7)) (Reads.as-is 𝓤 H A (Relend.mslice-owed n8 y2 1 6 k1)) Path'.refl Path'.refl)) (Know.g-sl-known 𝓤 H A W
               (Referent.fInt Syntax.w8) E G43 5 1 y2 k1 0 (λ x. x) record { fits = Dec'.lit< tt } (Reads.as-is 𝓤 H A (Mut.mslice n8 y2 1)) Path'.refl tt)) (Lifetime.g-forget 𝓤 H A W E G43 6 Row.dead
@@ -1166,9 +1198,10 @@ module _ (claims· : Claims) where
           d32 : Typed.Typed 𝓤 H A 𝓣 E (on T5 l8) b31 Δ0 at32
           d32 = Typed.s-seq 𝓤 H A W 𝓣 E (on T5 l8) (on T6 l8) b1 (Syntax.seq b26 (Syntax.seq b27 b28)) Δ0 (Typed.both s4) at31 (Plain.t-call-plain 𝓤 H A W 𝓣 0 ps·0 r·0 (claims· .0) (claims· .1)
               "saved_state::blocks::store_judged" (known .0) E (λ pos β. β) (on T5 l8) (record { pos = 2; st = []; d = 0; at = λ x. x }, (Num.vAt 4 λ x. x, (Num.vAt 10 λ x. x, tt))) 8 [] (Call.sub-id 𝓤 H
-              A W ((on T5 l8) .slots))
-              ((Values.struct-copied 𝓤 H A W FujiHeader.the-type Laws''.the-laws Laws''.the-copy, Path'.refl),
-              ((Scalar.reads-sc 𝓤 H A W (Row.sInt Syntax.w64), Path'.refl), ((Scalar.reads-sc 𝓤 H A W (Row.sInt Syntax.w64), Path'.refl), tt))) (Reads.room-gone 𝓤 H A y10) tt Path'.refl) d31
+              A W ((on T5 l8) .slots)) (
+                (Values.struct-copied 𝓤 H A W FujiHeader.the-type Laws''.the-laws Laws''.the-copy, Path'.refl),
+                ((Scalar.reads-sc 𝓤 H A W (Row.sInt Syntax.w64), Path'.refl), ((Scalar.reads-sc 𝓤 H A W (Row.sInt Syntax.w64), Path'.refl), tt)),
+              ) (Reads.room-gone 𝓤 H A y10) tt Path'.refl) d31
 
           d33 : Typed.Typed 𝓤 H A 𝓣 E (on T0 l8) b32 Δ0 at33
           d33 = Typed.s-seq 𝓤 H A W 𝓣 E (on T0 l8) (on T5 l8) b0 b31 Δ0 (Typed.pass T0 T5 s3) at32 (Scalar.t-use 𝓤 H A W E 𝓣 (on T0 l8) (Scalar.oFld 5 ((Syntax.field 1) ∷ []) u64 8 Shared.lenV) 10
@@ -1212,9 +1245,12 @@ module _ (claims· : Claims) where
       m0 = λ κs args. (tt, Enter.partsP κs 1 ps xs (dens κs args))
 
       abbrev W0 : (κs : Lifetimes.Lfts 4) → (args : Args κs) → Typed.Want O0
-      W0 = λ κs args.
-          (λ u. ⊥, tt, λ u. Enter.Fixs κs 1 ps xs (dens κs args) (u .1) × Post· κs (dens κs args) (Function.resV r κs (u .0)) (Clauses.atExit (Kinds.endedOf 4 ps r) κs (dens κs args) (Enter.lastsP κs 1 ps
-          xs (dens κs args) (u .1))))
+      W0 = λ κs args. (
+        λ u. ⊥,
+        tt,
+        λ u. Enter.Fixs κs 1 ps xs (dens κs args) (u .1) × Post· κs (dens κs args) (Function.resV r κs (u .0)) (Clauses.atExit (Kinds.endedOf 4 ps r) κs (dens κs args) (Enter.lastsP κs 1 ps
+            xs (dens κs args) (u .1))),
+      )
 
       pub record Start : Type 0 where
         pub κs : Lifetimes.Lfts 4
@@ -1576,66 +1612,134 @@ module _ (claims· : Claims) where
           (store-state-requires : Need-store-state-requires) (same-length : Need-same-length) (same-length-2 : Need-same-length-2) (returns : Need-returns) (same-length-3 : Need-same-length-3)
           (same-length-4 : Need-same-length-4) (same-length-5 : Need-same-length-5) (returns-2 : Need-returns-2) where
         lay3 : (c : After-rs2) → at30 (W0 (After-rs2·start c .κs) (After-rs2·start c .args)) (m35 (c .before) (c .rs2 .given))
-        lay3 = λ c.
-            ((Path'.refl,
-            (tt,
-            (tt,
-            (tt,
-            (MutSlice.fix-len (Row.get 5 (T1 .locals) (m43 (c .before) (c .rs2 .given)) .ptr) (Row.get 5 (T1 .locals) (m43 (c .before) (c .rs2 .given)) .name) (Row.get 5 (T1 .locals) (m43 (c .before) (c
-            .rs2 .given)) .now) (dens (After-rs2·start c .κs) (After-rs2·start c .args) .1 .1 .1 .1 .0 .now) (same-length-3 c),
-            (MutSlice.fix-len (Row.get 6 (T1 .locals) (m43 (c .before) (c .rs2 .given)) .ptr) (Row.get 6 (T1 .locals) (m43 (c .before) (c .rs2 .given)) .name) (Row.get 6 (T1 .locals) (m43 (c .before) (c
-            .rs2 .given)) .now) (dens (After-rs2·start c .κs) (After-rs2·start c .args) .1 .1 .1 .1 .1 .0 .now) (same-length-4 c),
-            (MutSlice.fix-len (Row.get 7 (T1 .locals) (m43 (c .before) (c .rs2 .given)) .ptr) (Row.get 7 (T1 .locals) (m43 (c .before) (c .rs2 .given)) .name) (Row.get 7 (T1 .locals) (m43 (c .before) (c
-            .rs2 .given)) .now) (dens (After-rs2·start c .κs) (After-rs2·start c .args) .1 .1 .1 .1 .1 .1 .0 .now) (same-length-5 c), tt))))))), returns-2 c)
+        lay3 = λ c. (
+          (
+            Path'.refl,
+            (
+              tt,
+              (
+                tt,
+                (
+                  tt,
+                  (
+                    MutSlice.fix-len (Row.get 5 (T1 .locals) (m43 (c .before) (c .rs2 .given)) .ptr) (Row.get 5 (T1 .locals) (m43 (c .before) (c .rs2 .given)) .name) (Row.get 5 (T1 .locals) (m43 (c .before) (c
+                        .rs2 .given)) .now) (dens (After-rs2·start c .κs) (After-rs2·start c .args) .1 .1 .1 .1 .0 .now) (same-length-3 c),
+                    (
+                      MutSlice.fix-len (Row.get 6 (T1 .locals) (m43 (c .before) (c .rs2 .given)) .ptr) (Row.get 6 (T1 .locals) (m43 (c .before) (c .rs2 .given)) .name) (Row.get 6 (T1 .locals) (m43 (c .before) (c
+                          .rs2 .given)) .now) (dens (After-rs2·start c .κs) (After-rs2·start c .args) .1 .1 .1 .1 .1 .0 .now) (same-length-4 c),
+                      (
+                        MutSlice.fix-len (Row.get 7 (T1 .locals) (m43 (c .before) (c .rs2 .given)) .ptr) (Row.get 7 (T1 .locals) (m43 (c .before) (c .rs2 .given)) .name) (Row.get 7 (T1 .locals) (m43 (c .before) (c
+                            .rs2 .given)) .now) (dens (After-rs2·start c .κs) (After-rs2·start c .args) .1 .1 .1 .1 .1 .1 .0 .now) (same-length-5 c),
+                        tt,
+                      ),
+                    ),
+                  ),
+                ),
+              ),
+            ),
+          ),
+          returns-2 c,
+        )
 
         lay2 : (c : After-rs) → at30 (W0 (After-rs·start c .κs) (After-rs·start c .args)) (m20 (c .before) (c .rs .given))
-        lay2 = λ c.
-            ((Path'.refl,
-            (tt,
-            (tt,
-            (tt,
-            (Path'.refl,
-            (MutSlice.fix-len (Row.get 6 (T1 .locals) (m39 (c .before) (c .rs .given)) .ptr) (Row.get 6 (T1 .locals) (m39 (c .before) (c .rs .given)) .name) (Row.get 6 (T1 .locals) (m39 (c .before) (c .rs
-            .given)) .now) (dens (After-rs·start c .κs) (After-rs·start c .args) .1 .1 .1 .1 .1 .0 .now) (same-length c),
-            (MutSlice.fix-len (Row.get 7 (T1 .locals) (m39 (c .before) (c .rs .given)) .ptr) (Row.get 7 (T1 .locals) (m39 (c .before) (c .rs .given)) .name) (Row.get 7 (T1 .locals) (m39 (c .before) (c .rs
-            .given)) .now) (dens (After-rs·start c .κs) (After-rs·start c .args) .1 .1 .1 .1 .1 .1 .0 .now) (same-length-2 c), tt))))))), returns c)
+        lay2 = λ c. (
+          (
+            Path'.refl,
+            (
+              tt,
+              (
+                tt,
+                (
+                  tt,
+                  (
+                    Path'.refl,
+                    (
+                      MutSlice.fix-len (Row.get 6 (T1 .locals) (m39 (c .before) (c .rs .given)) .ptr) (Row.get 6 (T1 .locals) (m39 (c .before) (c .rs .given)) .name) (Row.get 6 (T1 .locals) (m39 (c .before) (c .rs
+                          .given)) .now) (dens (After-rs·start c .κs) (After-rs·start c .args) .1 .1 .1 .1 .1 .0 .now) (same-length c),
+                      (
+                        MutSlice.fix-len (Row.get 7 (T1 .locals) (m39 (c .before) (c .rs .given)) .ptr) (Row.get 7 (T1 .locals) (m39 (c .before) (c .rs .given)) .name) (Row.get 7 (T1 .locals) (m39 (c .before) (c .rs
+                            .given)) .now) (dens (After-rs·start c .κs) (After-rs·start c .args) .1 .1 .1 .1 .1 .1 .0 .now) (same-length-2 c),
+                        tt,
+                      ),
+                    ),
+                  ),
+                ),
+              ),
+            ),
+          ),
+          returns c,
+        )
 
         lay1 : (c : After-store-judged) → at31 (W0 (After-store-judged·start c .κs) (After-store-judged·start c .args)) (m5 (c .before) (After-store-judged·gave c))
-        lay1 = λ c.
-            (λ k. let c1 : At-match-keys1 = record { before = c; match = record { keys1 = k }; } in
-            (enum-known-judged c1, λ g. let c2 : After-judged = record { before = c1; judged = record { given = g }; } in λ g'. let c3 : After-known-told = record
-            { before = c2; known-told = record { given = g' }; } in λ g''. let c4 : After-refuse-arg = record { before = c3; refuse-arg = record { given = g'' }; } in
-            (Path'.refl, λ g'3. let c5 : After-refuse-arg2 = record { before = c4; refuse-arg2 = record { given = g'3 }; } in
-            (Path'.refl,
-            (refuse-requires c5, λ g'4. let c6 : After-refuse = record { before = c5; refuse = Called.called ps·1 r·1 (claims· .3) T19 a0 (m15 c4 g'3) g'4; } in
-            (Path'.refl, λ g'5. let c7 : After-lines = record { before = c6; lines = record { given = g'5 }; } in λ g'6. let c8 : After-slice-known3 = record
-            { before = c7; slice-known3 = record { given = g'6 }; } in (Path'.refl, λ g'7. lay2 record { before = c8; rs = record { given = g'7 }; })))))),
-            (λ k. let c9 : At-match-keys2 = record { before = c; match = record { keys2 = k }; } in
-            (enum-told c9, λ g. let c10 : After-enum-told = record { before = c9; enum-told = record { given = g }; } in λ g'8. let c11 : After-store-state-arg = record
-            { before = c10; store-state-arg = record { given = g'8 }; } in
-            (Path'.refl, λ g'9. let c12 : After-store-state-arg2 = record { before = c11; store-state-arg2 = record { given = g'9 }; } in
-            (Path'.refl, λ g'10. let c13 : After-store-state-arg3 = record { before = c12; store-state-arg3 = record { given = g'10 }; } in
-            (Path'.refl,
-            (store-state-requires c13, λ g'11. let c14 : After-store-state = record { before = c13; store-state = Called.called ps·2 r·2 (claims· .5) T39 a1 (m28 c12 g'10) g'11; } in
-            (Path'.refl, λ g'12. let c15 : After-state = record { before = c14; state = record { given = g'12 }; } in λ g'13. let c16 : After-slice-known4 = record
-            { before = c15; slice-known4 = record { given = g'13 }; } in
-            (Path'.refl, λ g'14. let c17 : After-lines2 = record { before = c16; lines2 = record { given = g'14 }; } in λ g'15. let c18 : After-slice-known5 = record
-            { before = c17; slice-known5 = record { given = g'15 }; } in (Path'.refl, λ g'16. lay3 record { before = c18; rs2 = record { given = g'16 }; })))))))), Match.each-below 2 (λ j. (Unit {0} ×
-            (Run.OneOf (1 ∷ []) j → ⊥)) × (Run.OneOf (0 ∷ []) j → ⊥) → ⊥) (λ n. n .0 .1 Path'.refl, (λ n. n .1 Path'.refl, tt)) (Declared.tagOf Decoded.the-type (Row.get 8 (T8 .locals) (m6 (c .before)
-            (After-store-judged·gave c)))) (Match.tag-small Decoded.the-type (Row.get 8 (T8 .locals) (m6 (c .before) (After-store-judged·gave c))))))
+        lay1 = λ c. (
+          λ k. let c1 : At-match-keys1 = record { before = c; match = record { keys1 = k } } in (
+            enum-known-judged c1,
+            λ g. let c2 : After-judged = record { before = c1; judged = record { given = g } } in λ g'. let c3 : After-known-told = record
+                { before = c2; known-told = record { given = g' } } in λ g''. let c4 : After-refuse-arg = record { before = c3; refuse-arg = record { given = g'' } } in (
+                  Path'.refl,
+                  λ g'3. let c5 : After-refuse-arg2 = record { before = c4; refuse-arg2 = record { given = g'3 } } in (
+                    Path'.refl,
+                    (
+                      refuse-requires c5,
+                      λ g'4. let c6 : After-refuse = record { before = c5; refuse = Called.called ps·1 r·1 (claims· .3) T19 a0 (m15 c4 g'3) g'4 } in (
+                        Path'.refl,
+                        λ g'5. let c7 : After-lines = record { before = c6; lines = record { given = g'5 } } in λ g'6. let c8 : After-slice-known3 = record
+                            { before = c7; slice-known3 = record { given = g'6 } } in (Path'.refl, λ g'7. lay2 record { before = c8; rs = record { given = g'7 } }),
+                      ),
+                    ),
+                  ),
+                ),
+          ),
+          (
+            λ k. let c9 : At-match-keys2 = record { before = c; match = record { keys2 = k } } in (
+              enum-told c9,
+              λ g. let c10 : After-enum-told = record { before = c9; enum-told = record { given = g } } in λ g'8. let c11 : After-store-state-arg = record
+                  { before = c10; store-state-arg = record { given = g'8 } } in (
+                    Path'.refl,
+                    λ g'9. let c12 : After-store-state-arg2 = record { before = c11; store-state-arg2 = record { given = g'9 } } in (
+                      Path'.refl,
+                      λ g'10. let c13 : After-store-state-arg3 = record { before = c12; store-state-arg3 = record { given = g'10 } } in (
+                        Path'.refl,
+                        (
+                          store-state-requires c13,
+                          λ g'11. let c14 : After-store-state = record { before = c13; store-state = Called.called ps·2 r·2 (claims· .5) T39 a1 (m28 c12 g'10) g'11 } in (
+                            Path'.refl,
+                            λ g'12. let c15 : After-state = record { before = c14; state = record { given = g'12 } } in λ g'13. let c16 : After-slice-known4 = record
+                                { before = c15; slice-known4 = record { given = g'13 } } in (
+                                  Path'.refl,
+                                  λ g'14. let c17 : After-lines2 = record { before = c16; lines2 = record { given = g'14 } } in λ g'15. let c18 : After-slice-known5 = record
+                                      { before = c17; slice-known5 = record { given = g'15 } } in (Path'.refl, λ g'16. lay3 record { before = c18; rs2 = record { given = g'16 } }),
+                                ),
+                          ),
+                        ),
+                      ),
+                    ),
+                  ),
+            ),
+            Match.each-below 2 (λ j. (Unit {0} ×
+                (Run.OneOf (1 ∷ []) j → ⊥)) × (Run.OneOf (0 ∷ []) j → ⊥) → ⊥) (λ n. n .0 .1 Path'.refl, (λ n. n .1 Path'.refl, tt)) (Declared.tagOf Decoded.the-type (Row.get 8 (T8 .locals) (m6 (c .before)
+                (After-store-judged·gave c)))) (Match.tag-small Decoded.the-type (Row.get 8 (T8 .locals) (m6 (c .before) (After-store-judged·gave c)))),
+          ),
+        )
 
         pub laid : (c : Start) → at36 (W0 (c .κs) (c .args)) (m0 (c .κs) (c .args))
         laid = λ c. λ g. let c1 : After-shared-slice-known = record { before = c; shared-slice-known = record { given = g } } in λ g'. let c2 : After-slice-known = record
-            { before = c1; slice-known = record { given = g' }; } in λ g''. let c3 : After-slice-known2 = record { before = c2; slice-known2 = record { given = g'' }; } in
-            (store-judged-requires c3, λ g'3. lay1 record
-            { before = c3; store-judged = Called.called ps·0 r·0 (claims· .1) T5 (record { pos = 2; st = []; d = 0; at = λ x. x }, (Num.vAt 4 λ x. x, (Num.vAt 10 λ x. x, tt))) (m4 c2 g'') g'3; })
+            { before = c1; slice-known = record { given = g' } } in λ g''. let c3 : After-slice-known2 = record { before = c2; slice-known2 = record { given = g'' } } in (
+              store-judged-requires c3,
+              λ g'3. lay1 record
+                  { before = c3; store-judged = Called.called ps·0 r·0 (claims· .1) T5 (record { pos = 2; st = []; d = 0; at = λ x. x }, (Num.vAt 4 λ x. x, (Num.vAt 10 λ x. x, tt))) (m4 c2 g'') g'3 },
+            )
 
         module _ (κs : Lifetimes.Lfts 4) (qs : Lifetimes.Shares 4) where
           pub asked : (a : Kinds.Dens κs ps) → (good : Kinds.GoodsP κs ps a) → (pre : Pre· κs a) → (bs : List.List Nat.ℕ) → Φ (Any.wantQ 4 ps r xs m κs qs a (Post· κs a)) (Function.init 4 ps r xs m κs
               qs a)
-          asked = λ a good pre bs. laid record
-              { κs = κs; args = record { d = a .0; h = a .1 .0; b = a .1 .1 .0; line = a .1 .1 .1 .0; state = a .1 .1 .1 .1 .0; lines = a .1 .1 .1 .1 .1 .0; rs = a .1 .1 .1 .1 .1 .1 .0; }; good = good;
-              fits = record { b = record { fits = good .1 .1 .0 .1 }; line = record { fits = good .1 .1 .1 .0 .1 }; }; pre = pre; }
+          asked = λ a good pre bs. laid record {
+            κs = κs;
+            args = record { d = a .0; h = a .1 .0; b = a .1 .1 .0; line = a .1 .1 .1 .0; state = a .1 .1 .1 .1 .0; lines = a .1 .1 .1 .1 .1 .0; rs = a .1 .1 .1 .1 .1 .1 .0 };
+            good = good;
+            fits = record { b = record { fits = good .1 .1 .0 .1 }; line = record { fits = good .1 .1 .1 .0 .1 } };
+            pre = pre;
+          }
 
         module _ {M : Type 1} (𝓤 : URA.URA M) (H : Wp.Heap 𝓤) (A : Atoms.Atoms 𝓤) (W : Kit.Given 𝓤 H A) (𝓣 : Wp.Tables 𝓤 H) (known0 : Plain.Known 𝓤 H A W 𝓣 0 ps·0 r·0 (claims· .0) (claims· .1)
             "saved_state::blocks::store_judged") (known1 : Plain.Known 𝓤 H A W 𝓣 2 ps·1 r·1 (claims· .2) (claims· .3) "saved_state::blocks::refuse") (known2 : Plain.Known 𝓤 H A W 𝓣 4 ps·2 r·2 (claims· .4)

@@ -1176,10 +1176,10 @@ module _ (claims· : Claims) where
   s3 = λ bs. Call.callB ps·0 r·0 (claims· .0) (claims· .1) T0 (record { pos = 2; st = []; d = 0; at = λ x. x }, tt) 8 [] y16
 
   abbrev s4 : (bs : List.List Nat.ℕ) → Typed.Both T5 T6
-  s4 = λ bs. Call.callB ps·1 r·1 (claims· .2) (claims· .3) T5 (record { pos = 1; ty = y4; ref = λ x. x; }, (Num.vAt 3 λ x. x, tt)) 9 (0 ∷ []) y27
+  s4 = λ bs. Call.callB ps·1 r·1 (claims· .2) (claims· .3) T5 (record { pos = 1; ty = y4; ref = λ x. x }, (Num.vAt 3 λ x. x, tt)) 9 (0 ∷ []) y27
 
   abbrev s5 : (bs : List.List Nat.ℕ) → Typed.Both T6 T7
-  s5 = λ bs. Call.callB ps·2 r·2 (claims· .4) (claims· .5) T6 (record { pos = 1; ty = y4; ref = λ x. x; }, (Num.vAt 3 λ x. x, tt)) 10 (0 ∷ []) y27
+  s5 = λ bs. Call.callB ps·2 r·2 (claims· .4) (claims· .5) T6 (record { pos = 1; ty = y4; ref = λ x. x }, (Num.vAt 3 λ x. x, tt)) 10 (0 ∷ []) y27
 
   abbrev s6 : (bs : List.List Nat.ℕ) → Typed.Both T7 T8
   s6 = λ bs. Call.callB ps·3 r·3 (claims· .6) (claims· .7) T7 tt 14 [] y1
@@ -1203,7 +1203,7 @@ module _ (claims· : Claims) where
   s13 = λ bs. Relend.k-sl-aggregate n16 (Relend.asMut n16) T14 16 17 4 y11 y11 (λ x. x) (Scalar.oFld 6 ((Syntax.field 1) ∷ []) u64 8 λ v. Shared.lenV (v .0))
 
   abbrev s14 : (bs : List.List Nat.ℕ) → Typed.Both T15 T16
-  s14 = λ bs. Call.callB ps·4 r·4 (claims· .8) (claims· .9) T15 (record { pos = 17; ty = y11; ref = λ x. x; }, tt) 15 (4 ∷ []) Syntax.tyUnit
+  s14 = λ bs. Call.callB ps·4 r·4 (claims· .8) (claims· .9) T15 (record { pos = 17; ty = y11; ref = λ x. x }, tt) 15 (4 ∷ []) Syntax.tyUnit
 
   abbrev s15 : (bs : List.List Nat.ℕ) → Typed.Mo T16 → Typed.Mo T17
   s15 = λ bs. Scalar.n-room T16 15 Syntax.tyUnit
@@ -1221,11 +1221,11 @@ module _ (claims· : Claims) where
   s22 = λ bs. Relend.k-sl-aggregate (Element.type) (Relend.asMut (Element.type)) T23 18 19 5 y10 y10 (λ x. x) (Scalar.oFld 7 ((Syntax.field 1) ∷ []) u64 8 λ v. Shared.lenV (v .0))
 
   abbrev s23 : (bs : List.List Nat.ℕ) → Typed.Both T24 T25
-  s23 = λ bs. Call.callB ps·5 r·5 (claims· .10) (claims· .11) T24 (record { pos = 10; ty = y9; ref = λ x. x; }, (Num.vLit 0, tt)) 20 (0 ∷ []) u32
+  s23 = λ bs. Call.callB ps·5 r·5 (claims· .10) (claims· .11) T24 (record { pos = 10; ty = y9; ref = λ x. x }, (Num.vLit 0, tt)) 20 (0 ∷ []) u32
 
   abbrev s24 : (bs : List.List Nat.ℕ) → Typed.Both T25 T26
   s24 = λ bs. Call.callB ps·6 r·6 (claims· .12) (claims· .13) T25
-      (record { pos = 19; ty = y10; ref = λ x. x; }, (Num.vFld 2 ((Syntax.field 2) ∷ []) 4 λ x. FujiHeader.struct .as-values x .1 .1 .0, (Num.vAt 20 λ x. x, tt))) 15 (5 ∷ []) Syntax.tyUnit
+      (record { pos = 19; ty = y10; ref = λ x. x }, (Num.vFld 2 ((Syntax.field 2) ∷ []) 4 λ x. FujiHeader.struct .as-values x .1 .1 .0, (Num.vAt 20 λ x. x, tt))) 15 (5 ∷ []) Syntax.tyUnit
 
   abbrev s25 : (bs : List.List Nat.ℕ) → Typed.Mo T26 → Typed.Mo T27
   s25 = λ bs. Scalar.n-room T26 15 Syntax.tyUnit
@@ -1277,17 +1277,34 @@ module _ (claims· : Claims) where
   s46 = λ bs. Call.callB ps·9 r·9 (claims· .18) (claims· .19) T47 tt 32 [] y33
 
   abbrev s47 : (bs : List.List Nat.ℕ) → Typed.Both T48 T49
-  s47 = λ bs. Call.callB ps·10 r·10 (claims· .20) (claims· .21) T48
-      (record { pos = 9; ty = y9; ref = λ x. x; },
-      (record { pos = 10; ty = y9; ref = λ x. x; },
-      (record { pos = 22; ty = y11; ref = λ x. x; },
-      (record { pos = 24; ty = y10; ref = λ x. x; },
-      (record { pos = 26; ty = y11; ref = λ x. x; },
-      (record { pos = 8; st = []; d = 0; at = λ x. x },
-      (record { pos = 27; ty = y20; ref = λ x. x; },
-      (record { pos = 28; st = []; d = 0; at = λ x. x },
-      (record { pos = 29; st = []; d = 0; at = λ x. x },
-      (Num.vLit 0, (record { pos = 30; st = []; d = 0; at = λ x. x }, (Num.vAt 31 λ x. x, (Bool.bLit Bool'.false, (record { pos = 32; st = []; d = 0; at = λ x. x }, tt)))))))))))))) 13 (0 ∷ 0 ∷ 6 ∷ 7 ∷ 8
+  s47 = λ bs. Call.callB ps·10 r·10 (claims· .20) (claims· .21) T48 (
+    record { pos = 9; ty = y9; ref = λ x. x },
+    (
+      record { pos = 10; ty = y9; ref = λ x. x },
+      (
+        record { pos = 22; ty = y11; ref = λ x. x },
+        (
+          record { pos = 24; ty = y10; ref = λ x. x },
+          (
+            record { pos = 26; ty = y11; ref = λ x. x },
+            (
+              record { pos = 8; st = []; d = 0; at = λ x. x },
+              (
+                record { pos = 27; ty = y20; ref = λ x. x },
+                (
+                  record { pos = 28; st = []; d = 0; at = λ x. x },
+                  (
+                    record { pos = 29; st = []; d = 0; at = λ x. x },
+                    (Num.vLit 0, (record { pos = 30; st = []; d = 0; at = λ x. x }, (Num.vAt 31 λ x. x, (Bool.bLit Bool'.false, (record { pos = 32; st = []; d = 0; at = λ x. x }, tt))))),
+                  ),
+                ),
+              ),
+            ),
+          ),
+        ),
+      ),
+    ),
+  ) 13 (0 ∷ 0 ∷ 6 ∷ 7 ∷ 8
       ∷ 9 ∷ []) y31
 
   abbrev s48 : (bs : List.List Nat.ℕ) → Typed.Mo T49 → Typed.Mo T50
@@ -1357,11 +1374,16 @@ module _ (claims· : Claims) where
   s80 = λ bs. Relend.k-sl-aggregate (Element.type) (Relend.asMut (Element.type)) T81 37 38 12 y10 y10 (λ x. x) (Scalar.oFld 7 ((Syntax.field 1) ∷ []) u64 8 λ v. Shared.lenV (v .0))
 
   abbrev s81 : (bs : List.List Nat.ℕ) → Typed.Both T82 T83
-  s81 = λ bs. Call.callB ps·11 r·11 (claims· .22) (claims· .23) T82
-      (record { pos = 34; ty = y12; ref = λ x. x; },
-      (record { pos = 1; ty = y4; ref = λ x. x; },
-      (record { pos = 2; st = []; d = 0; at = λ x. x },
-      (Num.vAt 3 λ x. x, (Num.vAt 4 λ x. x, (record { pos = 13; st = []; d = 0; at = λ x. x }, (record { pos = 36; ty = y8; ref = λ x. x; }, (record { pos = 38; ty = y10; ref = λ x. x; }, tt)))))))) 15
+  s81 = λ bs. Call.callB ps·11 r·11 (claims· .22) (claims· .23) T82 (
+    record { pos = 34; ty = y12; ref = λ x. x },
+    (
+      record { pos = 1; ty = y4; ref = λ x. x },
+      (
+        record { pos = 2; st = []; d = 0; at = λ x. x },
+        (Num.vAt 3 λ x. x, (Num.vAt 4 λ x. x, (record { pos = 13; st = []; d = 0; at = λ x. x }, (record { pos = 36; ty = y8; ref = λ x. x }, (record { pos = 38; ty = y10; ref = λ x. x }, tt))))),
+      ),
+    ),
+  ) 15
       (10 ∷ 0 ∷ 11 ∷ 12 ∷ []) Syntax.tyUnit
 
   abbrev s82 : (bs : List.List Nat.ℕ) → Typed.Mo T83 → Typed.Mo T84
@@ -1392,7 +1414,7 @@ module _ (claims· : Claims) where
   s97 = λ bs. Relend.k-sl-aggregate n16 (Relend.asMut n16) T98 39 40 13 y11 y11 (λ x. x) (Scalar.oFld 6 ((Syntax.field 1) ∷ []) u64 8 λ v. Shared.lenV (v .0))
 
   abbrev s98 : (bs : List.List Nat.ℕ) → Typed.Both T99 T100
-  s98 = λ bs. Call.callB ps·4 r·4 (claims· .8) (claims· .9) T99 (record { pos = 40; ty = y11; ref = λ x. x; }, tt) 15 (13 ∷ []) Syntax.tyUnit
+  s98 = λ bs. Call.callB ps·4 r·4 (claims· .8) (claims· .9) T99 (record { pos = 40; ty = y11; ref = λ x. x }, tt) 15 (13 ∷ []) Syntax.tyUnit
 
   abbrev s99 : (bs : List.List Nat.ℕ) → Typed.Mo T100 → Typed.Mo T101
   s99 = λ bs. Scalar.n-room T100 15 Syntax.tyUnit
@@ -1410,7 +1432,7 @@ module _ (claims· : Claims) where
   s106 = λ bs. Relend.k-sl-aggregate (Element.type) (Relend.asMut (Element.type)) T107 41 42 14 y10 y10 (λ x. x) (Scalar.oFld 7 ((Syntax.field 1) ∷ []) u64 8 λ v. Shared.lenV (v .0))
 
   abbrev s107 : (bs : List.List Nat.ℕ) → Typed.Both T108 T109
-  s107 = λ bs. Call.callB ps·12 r·12 (claims· .24) (claims· .25) T108 (record { pos = 42; ty = y10; ref = λ x. x; }, tt) 15 (14 ∷ []) Syntax.tyUnit
+  s107 = λ bs. Call.callB ps·12 r·12 (claims· .24) (claims· .25) T108 (record { pos = 42; ty = y10; ref = λ x. x }, tt) 15 (14 ∷ []) Syntax.tyUnit
 
   abbrev s108 : (bs : List.List Nat.ℕ) → Typed.Mo T109 → Typed.Mo T110
   s108 = λ bs. Scalar.n-room T109 15 Syntax.tyUnit
@@ -1894,9 +1916,10 @@ module _ (claims· : Claims) where
         G17 = record { locals = List._++_ g12 (List._++_ t16 t2); slots = l7 }
 
         abbrev G18 : Row.Cx
-        G18 = record
-            { locals = List._++_ g12 (List._++_ t16 t2); slots = k0 ∷ k1 ∷ Row.off ∷ k3 ∷ Row.dead ∷ Row.off ∷ Row.off ∷ Row.off ∷ Row.off ∷ Row.off ∷ Row.off ∷ Row.off ∷ Row.off ∷ Row.off ∷ Row.off ∷ []
-            }
+        G18 = record {
+          locals = List._++_ g12 (List._++_ t16 t2);
+          slots = k0 ∷ k1 ∷ Row.off ∷ k3 ∷ Row.dead ∷ Row.off ∷ Row.off ∷ Row.off ∷ Row.off ∷ Row.off ∷ Row.off ∷ Row.off ∷ Row.off ∷ Row.off ∷ Row.off ∷ [];
+        }
 
         abbrev G22 : Row.Cx
         G22 = record
@@ -1921,9 +1944,10 @@ module _ (claims· : Claims) where
         G28 = record { locals = List._++_ g17 (List._++_ t23 t2); slots = l10 }
 
         abbrev G29 : Row.Cx
-        G29 = record
-            { locals = List._++_ g17 (List._++_ t23 t2); slots = k0 ∷ k1 ∷ k2 ∷ Row.off ∷ Row.off ∷ Row.dead ∷ Row.off ∷ Row.off ∷ Row.off ∷ Row.off ∷ Row.off ∷ Row.off ∷ Row.off ∷ Row.off ∷ Row.off ∷ []
-            }
+        G29 = record {
+          locals = List._++_ g17 (List._++_ t23 t2);
+          slots = k0 ∷ k1 ∷ k2 ∷ Row.off ∷ Row.off ∷ Row.dead ∷ Row.off ∷ Row.off ∷ Row.off ∷ Row.off ∷ Row.off ∷ Row.off ∷ Row.off ∷ Row.off ∷ Row.off ∷ [];
+        }
 
         abbrev G30 : Row.Cx
         G30 = record
@@ -1940,9 +1964,11 @@ module _ (claims· : Claims) where
         G34 = record { locals = List._++_ g24 (List._++_ t26 t2); slots = l8 }
 
         abbrev G35 : Row.Cx
-        G35 = record
-            { locals = List._++_ g24 (List._++_ t26 t2); slots = k0 ∷ k1 ∷ Row.off ∷ k3 ∷ Row.off ∷ Row.off ∷ Row.alive ∷ Row.alive ∷ Row.off ∷ Row.off ∷ Row.off ∷ Row.off ∷ Row.off ∷ Row.off ∷ Row.off ∷
-            [] }
+        G35 = record {
+          locals = List._++_ g24 (List._++_ t26 t2);
+          slots = k0 ∷ k1 ∷ Row.off ∷ k3 ∷ Row.off ∷ Row.off ∷ Row.alive ∷ Row.alive ∷ Row.off ∷ Row.off ∷ Row.off ∷ Row.off ∷ Row.off ∷ Row.off ∷ Row.off ∷
+              [];
+        }
 
         abbrev G36 : Row.Cx
         G36 = record { locals = List._++_ g27 (List._++_ t28 t2); slots = l5 }
@@ -2014,22 +2040,28 @@ module _ (claims· : Claims) where
         G58 = record { locals = List._++_ g46 (List._++_ t50 t2); slots = l3 }
 
         abbrev G59 : Row.Cx
-        G59 = record
-            { locals = List._++_ g46 (List._++_ t50 t2); slots = k0 ∷ k1 ∷ Row.off ∷ Row.off ∷ Row.off ∷ Row.off ∷ Row.dead ∷ Row.alive ∷ Row.alive ∷ Row.alive ∷ Row.off ∷ Row.off ∷ Row.off ∷ Row.off ∷
-            Row.off ∷ [] }
+        G59 = record {
+          locals = List._++_ g46 (List._++_ t50 t2);
+          slots = k0 ∷ k1 ∷ Row.off ∷ Row.off ∷ Row.off ∷ Row.off ∷ Row.dead ∷ Row.alive ∷ Row.alive ∷ Row.alive ∷ Row.off ∷ Row.off ∷ Row.off ∷ Row.off ∷
+              Row.off ∷ [];
+        }
 
         abbrev G60 : Row.Cx
         G60 = record { locals = List._++_ g51 (List._++_ t52 t2); slots = l11 }
 
         abbrev G62 : Row.Cx
-        G62 = record
-            { locals = List._++_ g51 (List._++_ t52 t2); slots = k0 ∷ k1 ∷ k2 ∷ Row.off ∷ Row.off ∷ Row.off ∷ Row.off ∷ Row.alive ∷ Row.alive ∷ Row.alive ∷ Row.off ∷ Row.off ∷ Row.off ∷ Row.off ∷ Row.off
-            ∷ [] }
+        G62 = record {
+          locals = List._++_ g51 (List._++_ t52 t2);
+          slots = k0 ∷ k1 ∷ k2 ∷ Row.off ∷ Row.off ∷ Row.off ∷ Row.off ∷ Row.alive ∷ Row.alive ∷ Row.alive ∷ Row.off ∷ Row.off ∷ Row.off ∷ Row.off ∷ Row.off
+              ∷ [];
+        }
 
         abbrev G63 : Row.Cx
-        G63 = record
-            { locals = List._++_ g51 (List._++_ t52 t2); slots = k0 ∷ k1 ∷ k2 ∷ Row.off ∷ Row.off ∷ Row.off ∷ Row.off ∷ Row.dead ∷ Row.alive ∷ Row.alive ∷ Row.off ∷ Row.off ∷ Row.off ∷ Row.off ∷ Row.off ∷
-            [] }
+        G63 = record {
+          locals = List._++_ g51 (List._++_ t52 t2);
+          slots = k0 ∷ k1 ∷ k2 ∷ Row.off ∷ Row.off ∷ Row.off ∷ Row.off ∷ Row.dead ∷ Row.alive ∷ Row.alive ∷ Row.off ∷ Row.off ∷ Row.off ∷ Row.off ∷ Row.off ∷
+              [];
+        }
 
         abbrev G64 : Row.Cx
         G64 = record
@@ -2050,9 +2082,11 @@ module _ (claims· : Claims) where
         G76 = record { locals = List._++_ g59 (List._++_ t1 t61); slots = l2 }
 
         abbrev G77 : Row.Cx
-        G77 = record
-            { locals = List._++_ g59 (List._++_ t1 t61); slots = k0 ∷ Row.off ∷ k2 ∷ k3 ∷ Row.off ∷ Row.off ∷ Row.off ∷ Row.off ∷ Row.off ∷ Row.off ∷ Row.alive ∷ Row.alive ∷ Row.off ∷ Row.off ∷ Row.off ∷
-            [] }
+        G77 = record {
+          locals = List._++_ g59 (List._++_ t1 t61);
+          slots = k0 ∷ Row.off ∷ k2 ∷ k3 ∷ Row.off ∷ Row.off ∷ Row.off ∷ Row.off ∷ Row.off ∷ Row.off ∷ Row.alive ∷ Row.alive ∷ Row.off ∷ Row.off ∷ Row.off ∷
+              [];
+        }
 
         abbrev G78 : Row.Cx
         G78 = record { locals = List._++_ g62 (List._++_ t1 t63); slots = l1 }
@@ -2061,9 +2095,11 @@ module _ (claims· : Claims) where
         G79 = record { locals = List._++_ g62 (List._++_ t1 t64); slots = l1 }
 
         abbrev G80 : Row.Cx
-        G80 = record
-            { locals = List._++_ g62 (List._++_ t1 t64); slots = k0 ∷ Row.off ∷ Row.off ∷ k3 ∷ Row.off ∷ Row.off ∷ Row.off ∷ Row.off ∷ Row.off ∷ Row.off ∷ Row.alive ∷ Row.alive ∷ Row.alive ∷ Row.off ∷
-            Row.off ∷ [] }
+        G80 = record {
+          locals = List._++_ g62 (List._++_ t1 t64);
+          slots = k0 ∷ Row.off ∷ Row.off ∷ k3 ∷ Row.off ∷ Row.off ∷ Row.off ∷ Row.off ∷ Row.off ∷ Row.off ∷ Row.alive ∷ Row.alive ∷ Row.alive ∷ Row.off ∷
+              Row.off ∷ [];
+        }
 
         abbrev G81 : Row.Cx
         G81 = record { locals = List._++_ g65 (List._++_ t1 t66); slots = l0 }
@@ -2084,37 +2120,47 @@ module _ (claims· : Claims) where
         G86 = record { locals = List._++_ g72 (List._++_ t1 t70); slots = l0 }
 
         abbrev G87 : Row.Cx
-        G87 = record
-            { locals = List._++_ g72 (List._++_ t1 t70); slots = k0 ∷ Row.off ∷ Row.off ∷ Row.off ∷ Row.off ∷ Row.off ∷ Row.off ∷ Row.off ∷ Row.off ∷ Row.off ∷ Row.dead ∷ Row.alive ∷ Row.alive ∷ Row.off ∷
-            Row.off ∷ [] }
+        G87 = record {
+          locals = List._++_ g72 (List._++_ t1 t70);
+          slots = k0 ∷ Row.off ∷ Row.off ∷ Row.off ∷ Row.off ∷ Row.off ∷ Row.off ∷ Row.off ∷ Row.off ∷ Row.off ∷ Row.dead ∷ Row.alive ∷ Row.alive ∷ Row.off ∷
+              Row.off ∷ [];
+        }
 
         abbrev G88 : Row.Cx
         G88 = record { locals = List._++_ g73 (List._++_ t1 t74); slots = l6 }
 
         abbrev G90 : Row.Cx
-        G90 = record
-            { locals = List._++_ g73 (List._++_ t1 t74); slots = k0 ∷ k1 ∷ Row.off ∷ Row.off ∷ Row.off ∷ Row.off ∷ Row.off ∷ Row.off ∷ Row.off ∷ Row.off ∷ Row.off ∷ Row.alive ∷ Row.alive ∷ Row.off ∷
-            Row.off ∷ [] }
+        G90 = record {
+          locals = List._++_ g73 (List._++_ t1 t74);
+          slots = k0 ∷ k1 ∷ Row.off ∷ Row.off ∷ Row.off ∷ Row.off ∷ Row.off ∷ Row.off ∷ Row.off ∷ Row.off ∷ Row.off ∷ Row.alive ∷ Row.alive ∷ Row.off ∷
+              Row.off ∷ [];
+        }
 
         abbrev G91 : Row.Cx
-        G91 = record
-            { locals = List._++_ g73 (List._++_ t1 t74); slots = k0 ∷ k1 ∷ Row.off ∷ Row.off ∷ Row.off ∷ Row.off ∷ Row.off ∷ Row.off ∷ Row.off ∷ Row.off ∷ Row.off ∷ Row.dead ∷ Row.alive ∷ Row.off ∷
-            Row.off ∷ [] }
+        G91 = record {
+          locals = List._++_ g73 (List._++_ t1 t74);
+          slots = k0 ∷ k1 ∷ Row.off ∷ Row.off ∷ Row.off ∷ Row.off ∷ Row.off ∷ Row.off ∷ Row.off ∷ Row.off ∷ Row.off ∷ Row.dead ∷ Row.alive ∷ Row.off ∷
+              Row.off ∷ [];
+        }
 
         abbrev G92 : Row.Cx
-        G92 = record
-            { locals = List._++_ g75 (List._++_ t1 t74); slots = k0 ∷ k1 ∷ k2 ∷ Row.off ∷ Row.off ∷ Row.off ∷ Row.off ∷ Row.off ∷ Row.off ∷ Row.off ∷ Row.off ∷ Row.dead ∷ Row.alive ∷ Row.off ∷ Row.off ∷
-            [] }
+        G92 = record {
+          locals = List._++_ g75 (List._++_ t1 t74);
+          slots = k0 ∷ k1 ∷ k2 ∷ Row.off ∷ Row.off ∷ Row.off ∷ Row.off ∷ Row.off ∷ Row.off ∷ Row.off ∷ Row.off ∷ Row.dead ∷ Row.alive ∷ Row.off ∷ Row.off ∷
+              [];
+        }
 
         abbrev G93 : Row.Cx
-        G93 = record
-            { locals = List._++_ g75 (List._++_ t1 t74); slots = k0 ∷ k1 ∷ k2 ∷ Row.off ∷ Row.off ∷ Row.off ∷ Row.off ∷ Row.off ∷ Row.off ∷ Row.off ∷ Row.off ∷ Row.off ∷ Row.alive ∷ Row.off ∷ Row.off ∷ []
-            }
+        G93 = record {
+          locals = List._++_ g75 (List._++_ t1 t74);
+          slots = k0 ∷ k1 ∷ k2 ∷ Row.off ∷ Row.off ∷ Row.off ∷ Row.off ∷ Row.off ∷ Row.off ∷ Row.off ∷ Row.off ∷ Row.off ∷ Row.alive ∷ Row.off ∷ Row.off ∷ [];
+        }
 
         abbrev G94 : Row.Cx
-        G94 = record
-            { locals = List._++_ g75 (List._++_ t1 t74); slots = k0 ∷ k1 ∷ k2 ∷ Row.off ∷ Row.off ∷ Row.off ∷ Row.off ∷ Row.off ∷ Row.off ∷ Row.off ∷ Row.off ∷ Row.off ∷ Row.dead ∷ Row.off ∷ Row.off ∷ []
-            }
+        G94 = record {
+          locals = List._++_ g75 (List._++_ t1 t74);
+          slots = k0 ∷ k1 ∷ k2 ∷ Row.off ∷ Row.off ∷ Row.off ∷ Row.off ∷ Row.off ∷ Row.off ∷ Row.off ∷ Row.off ∷ Row.off ∷ Row.dead ∷ Row.off ∷ Row.off ∷ [];
+        }
 
         abbrev G95 : Row.Cx
         G95 = record
@@ -2137,9 +2183,10 @@ module _ (claims· : Claims) where
         G101 = record { locals = List._++_ g77 (List._++_ t1 t81); slots = l9 }
 
         abbrev G102 : Row.Cx
-        G102 = record
-            { locals = List._++_ g77 (List._++_ t1 t81); slots = k0 ∷ k1 ∷ Row.off ∷ k3 ∷ Row.off ∷ Row.off ∷ Row.off ∷ Row.off ∷ Row.off ∷ Row.off ∷ Row.off ∷ Row.off ∷ Row.off ∷ Row.dead ∷ Row.off ∷ []
-            }
+        G102 = record {
+          locals = List._++_ g77 (List._++_ t1 t81);
+          slots = k0 ∷ k1 ∷ Row.off ∷ k3 ∷ Row.off ∷ Row.off ∷ Row.off ∷ Row.off ∷ Row.off ∷ Row.off ∷ Row.off ∷ Row.off ∷ Row.off ∷ Row.dead ∷ Row.off ∷ [];
+        }
 
         abbrev G106 : Row.Cx
         G106 = record
@@ -2158,9 +2205,10 @@ module _ (claims· : Claims) where
         G110 = record { locals = List._++_ g82 (List._++_ t1 t86); slots = l12 }
 
         abbrev G111 : Row.Cx
-        G111 = record
-            { locals = List._++_ g82 (List._++_ t1 t86); slots = k0 ∷ k1 ∷ k2 ∷ Row.off ∷ Row.off ∷ Row.off ∷ Row.off ∷ Row.off ∷ Row.off ∷ Row.off ∷ Row.off ∷ Row.off ∷ Row.off ∷ Row.off ∷ Row.dead ∷ []
-            }
+        G111 = record {
+          locals = List._++_ g82 (List._++_ t1 t86);
+          slots = k0 ∷ k1 ∷ k2 ∷ Row.off ∷ Row.off ∷ Row.off ∷ Row.off ∷ Row.off ∷ Row.off ∷ Row.off ∷ Row.off ∷ Row.off ∷ Row.off ∷ Row.off ∷ Row.dead ∷ [];
+        }
 
         abbrev G112 : Row.Cx
         G112 = record
@@ -2210,7 +2258,7 @@ module _ (claims· : Claims) where
 
           d9 : Typed.Typed 𝓤 H A 𝓣 E G108 (Syntax.seq b38 b41) Δ0 (at9 bs)
           d9 = Typed.s-seq 𝓤 H A W 𝓣 E G108 G109 b38 b41 Δ0 (Typed.both (s107 bs)) (at8 bs) (Plain.t-call-plain 𝓤 H A W 𝓣 1 ps·12 r·12 (claims· .24) (claims· .25) "read_block::records::clear_records"
-              (known .12) E (λ pos β. β) G108 (record { pos = 42; ty = y10; ref = λ x. x; }, tt) 15 (14 ∷ []) (Call.sub-id 𝓤 H A W (G108 .slots))
+              (known .12) E (λ pos β. β) G108 (record { pos = 42; ty = y10; ref = λ x. x }, tt) 15 (14 ∷ []) (Call.sub-id 𝓤 H A W (G108 .slots))
               (Reads'.as-is 𝓤 H A (Mut.mslice (Element.type) y10 14), Mut.reads-mslice 𝓤 H A W (Element.type) y10 14, Path'.refl, tt) (Reads'.room-gone 𝓤 H A Syntax.tyUnit) (tt, tt) Path'.refl) d8
 
           d10 : Typed.Typed 𝓤 H A 𝓣 E G107 (Syntax.seq b37 (Syntax.seq b38 b41)) Δ0 (at10 bs)
@@ -2246,7 +2294,7 @@ module _ (claims· : Claims) where
 
           d18 : Typed.Typed 𝓤 H A 𝓣 E G99 (Syntax.seq b35 b44) Δ0 (at18 bs)
           d18 = Typed.s-seq 𝓤 H A W 𝓣 E G99 G100 b35 b44 Δ0 (Typed.both (s98 bs)) (at17 bs) (Plain.t-call-plain 𝓤 H A W 𝓣 1 ps·4 r·4 (claims· .8) (claims· .9) "colour_lines::clear" (known .4) E (λ pos
-              β. β) G99 (record { pos = 40; ty = y11; ref = λ x. x; }, tt) 15 (13 ∷ []) (Call.sub-id 𝓤 H A W (G99 .slots))
+              β. β) G99 (record { pos = 40; ty = y11; ref = λ x. x }, tt) 15 (13 ∷ []) (Call.sub-id 𝓤 H A W (G99 .slots))
               (Reads'.as-is 𝓤 H A (Mut.mslice n16 y11 13), Mut.reads-mslice 𝓤 H A W n16 y11 13, Path'.refl, tt) (Reads'.room-gone 𝓤 H A Syntax.tyUnit) (tt, tt) Path'.refl) d17
 
           d19 : Typed.Typed 𝓤 H A 𝓣 E G98 (Syntax.seq b34 (Syntax.seq b35 b44)) Δ0 (at19 bs)
@@ -2309,21 +2357,47 @@ module _ (claims· : Claims) where
 
           d35 : Typed.Typed 𝓤 H A 𝓣 E G82 (Syntax.seq b32 b47) Δ0 (at35 bs)
           d35 = Typed.s-seq 𝓤 H A W 𝓣 E G82 G83 b32 b47 Δ0 (Typed.both (s81 bs)) (at34 bs) (Plain.t-call-plain 𝓤 H A W 𝓣 4 ps·11 r·11 (claims· .22) (claims· .23) "saved_state::blocks::put_walked"
-              (known .11) E (λ pos β. β) G82
-              (record { pos = 34; ty = y12; ref = λ x. x; },
-              (record { pos = 1; ty = y4; ref = λ x. x; },
-              (record { pos = 2; st = []; d = 0; at = λ x. x },
-              (Num.vAt 3 λ x. x,
-              (Num.vAt 4 λ x. x, (record { pos = 13; st = []; d = 0; at = λ x. x }, (record { pos = 36; ty = y8; ref = λ x. x; }, (record { pos = 38; ty = y10; ref = λ x. x; }, tt)))))))) 15 (10 ∷ 0 ∷ 11
-              ∷ 12 ∷ []) (Call.sub-id 𝓤 H A W (G82 .slots))
-              (Reads'.as-is 𝓤 H A (Mut.mslice n8 y12 10), Mut.reads-mslice 𝓤 H A W n8 y12 10, Path'.refl,
-              (ShrSlice.spares-sslice 𝓤 H A W n8 y4 0, Shared.reads-sslice 𝓤 H A W n8 y4 0, Path'.refl,
-              ((Values.struct-copied 𝓤 H A W FujiHeader.the-type Laws'6.the-laws Laws'6.the-copy, Path'.refl),
-              ((Scalar.reads-sc 𝓤 H A W (Row.sInt Syntax.w64), Path'.refl),
-              ((Scalar.reads-sc 𝓤 H A W (Row.sInt Syntax.w64), Path'.refl),
-              ((Values.enum-copied 𝓤 H A W Walked.the-type Laws'5.the-laws Laws'5.the-copy, Path'.refl),
-              (ShrSlice.spares-sslice 𝓤 H A W n16 y8 11, Shared.reads-sslice 𝓤 H A W n16 y8 11, Path'.refl,
-              (Reads'.as-is 𝓤 H A (Mut.mslice (Element.type) y10 12), Mut.reads-mslice 𝓤 H A W (Element.type) y10 12, Path'.refl, tt)))))))) (Reads'.room-gone 𝓤 H A Syntax.tyUnit)
+              (known .11) E (λ pos β. β) G82 (
+                record { pos = 34; ty = y12; ref = λ x. x },
+                (
+                  record { pos = 1; ty = y4; ref = λ x. x },
+                  (
+                    record { pos = 2; st = []; d = 0; at = λ x. x },
+                    (
+                      Num.vAt 3 λ x. x,
+                      (Num.vAt 4 λ x. x, (record { pos = 13; st = []; d = 0; at = λ x. x }, (record { pos = 36; ty = y8; ref = λ x. x }, (record { pos = 38; ty = y10; ref = λ x. x }, tt)))),
+                    ),
+                  ),
+                ),
+              ) 15 (10 ∷ 0 ∷ 11
+              ∷ 12 ∷ []) (Call.sub-id 𝓤 H A W (G82 .slots)) (
+                Reads'.as-is 𝓤 H A (Mut.mslice n8 y12 10),
+                Mut.reads-mslice 𝓤 H A W n8 y12 10,
+                Path'.refl,
+                (
+                  ShrSlice.spares-sslice 𝓤 H A W n8 y4 0,
+                  Shared.reads-sslice 𝓤 H A W n8 y4 0,
+                  Path'.refl,
+                  (
+                    (Values.struct-copied 𝓤 H A W FujiHeader.the-type Laws'6.the-laws Laws'6.the-copy, Path'.refl),
+                    (
+                      (Scalar.reads-sc 𝓤 H A W (Row.sInt Syntax.w64), Path'.refl),
+                      (
+                        (Scalar.reads-sc 𝓤 H A W (Row.sInt Syntax.w64), Path'.refl),
+                        (
+                          (Values.enum-copied 𝓤 H A W Walked.the-type Laws'5.the-laws Laws'5.the-copy, Path'.refl),
+                          (
+                            ShrSlice.spares-sslice 𝓤 H A W n16 y8 11,
+                            Shared.reads-sslice 𝓤 H A W n16 y8 11,
+                            Path'.refl,
+                            (Reads'.as-is 𝓤 H A (Mut.mslice (Element.type) y10 12), Mut.reads-mslice 𝓤 H A W (Element.type) y10 12, Path'.refl, tt),
+                          ),
+                        ),
+                      ),
+                    ),
+                  ),
+                ),
+              ) (Reads'.room-gone 𝓤 H A Syntax.tyUnit)
               (tt, (tt, (tt, (tt, tt)))) Path'.refl) d34
 
           d36 : Typed.Typed 𝓤 H A 𝓣 E G81 (Syntax.seq b31 (Syntax.seq b32 b47)) Δ0 (at36 bs)
@@ -2455,30 +2529,80 @@ module _ (claims· : Claims) where
 
           d69 : Typed.Typed 𝓤 H A 𝓣 E G48 (Syntax.seq b25 b54) Δ0 (at69 bs)
           d69 = Typed.s-seq 𝓤 H A W 𝓣 E G48 G49 b25 b54 Δ0 (Typed.both (s47 bs)) (at68 bs) (Plain.t-call-plain 𝓤 H A W 𝓣 6 ps·10 r·10 (claims· .20) (claims· .21) "read_block::reading::read_lines"
-              (known .10) E (λ pos β. β) G48
-              (record { pos = 9; ty = y9; ref = λ x. x; },
-              (record { pos = 10; ty = y9; ref = λ x. x; },
-              (record { pos = 22; ty = y11; ref = λ x. x; },
-              (record { pos = 24; ty = y10; ref = λ x. x; },
-              (record { pos = 26; ty = y11; ref = λ x. x; },
-              (record { pos = 8; st = []; d = 0; at = λ x. x },
-              (record { pos = 27; ty = y20; ref = λ x. x; },
-              (record { pos = 28; st = []; d = 0; at = λ x. x },
-              (record { pos = 29; st = []; d = 0; at = λ x. x },
-              (Num.vLit 0, (record { pos = 30; st = []; d = 0; at = λ x. x }, (Num.vAt 31 λ x. x, (Bool.bLit Bool'.false, (record { pos = 32; st = []; d = 0; at = λ x. x }, tt)))))))))))))) 13 (0 ∷ 0 ∷ 6
-              ∷ 7 ∷ 8 ∷ 9 ∷ []) (Call.sub-id 𝓤 H A W (G48 .slots))
-              (ShrSlice.spares-sslice 𝓤 H A W n8 y9 0, Shared.reads-sslice 𝓤 H A W n8 y9 0, Path'.refl,
-              (ShrSlice.spares-sslice 𝓤 H A W n8 y9 0, Shared.reads-sslice 𝓤 H A W n8 y9 0, Path'.refl,
-              (Reads'.as-is 𝓤 H A (Mut.mslice n16 y11 6), Mut.reads-mslice 𝓤 H A W n16 y11 6, Path'.refl,
-              (Reads'.as-is 𝓤 H A (Mut.mslice (Element.type) y10 7), Mut.reads-mslice 𝓤 H A W (Element.type) y10 7, Path'.refl,
-              (Reads'.as-is 𝓤 H A (Mut.mslice n16 y11 8), Mut.reads-mslice 𝓤 H A W n16 y11 8, Path'.refl,
-              ((Values.struct-copied 𝓤 H A W Form.the-type Laws'4.the-laws Laws'4.the-copy, Path'.refl),
-              (ShrRef.spares-sref 𝓤 H A W (Array'.Array n16 768) y20 9, Reads'.reads-sref 𝓤 H A W (Array'.Array n16 768) y20 9, Path'.refl,
-              ((Array.arr-yields 𝓤 H A W (Array.eInt Syntax.w8) (Array.eInt-laws Syntax.w8) 36, Path'.refl),
-              ((Values.struct-copied 𝓤 H A W Part.the-type Laws''.the-laws Laws''.the-copy, Path'.refl),
-              (tt,
-              ((Values.struct-copied 𝓤 H A W Place.the-type Laws'.the-laws Laws'.the-copy, Path'.refl),
-              ((Scalar.reads-sc 𝓤 H A W (Row.sInt Syntax.w64), Path'.refl), (tt, ((Values.struct-copied 𝓤 H A W Entries.the-type Laws.the-laws Laws.the-copy, Path'.refl), tt))))))))))))))
+              (known .10) E (λ pos β. β) G48 (
+                record { pos = 9; ty = y9; ref = λ x. x },
+                (
+                  record { pos = 10; ty = y9; ref = λ x. x },
+                  (
+                    record { pos = 22; ty = y11; ref = λ x. x },
+                    (
+                      record { pos = 24; ty = y10; ref = λ x. x },
+                      (
+                        record { pos = 26; ty = y11; ref = λ x. x },
+                        (
+                          record { pos = 8; st = []; d = 0; at = λ x. x },
+                          (
+                            record { pos = 27; ty = y20; ref = λ x. x },
+                            (
+                              record { pos = 28; st = []; d = 0; at = λ x. x },
+                              (
+                                record { pos = 29; st = []; d = 0; at = λ x. x },
+                                (Num.vLit 0, (record { pos = 30; st = []; d = 0; at = λ x. x }, (Num.vAt 31 λ x. x, (Bool.bLit Bool'.false, (record { pos = 32; st = []; d = 0; at = λ x. x }, tt))))),
+                              ),
+                            ),
+                          ),
+                        ),
+                      ),
+                    ),
+                  ),
+                ),
+              ) 13 (0 ∷ 0 ∷ 6
+              ∷ 7 ∷ 8 ∷ 9 ∷ []) (Call.sub-id 𝓤 H A W (G48 .slots)) (
+                ShrSlice.spares-sslice 𝓤 H A W n8 y9 0,
+                Shared.reads-sslice 𝓤 H A W n8 y9 0,
+                Path'.refl,
+                (
+                  ShrSlice.spares-sslice 𝓤 H A W n8 y9 0,
+                  Shared.reads-sslice 𝓤 H A W n8 y9 0,
+                  Path'.refl,
+                  (
+                    Reads'.as-is 𝓤 H A (Mut.mslice n16 y11 6),
+                    Mut.reads-mslice 𝓤 H A W n16 y11 6,
+                    Path'.refl,
+                    (
+                      Reads'.as-is 𝓤 H A (Mut.mslice (Element.type) y10 7),
+                      Mut.reads-mslice 𝓤 H A W (Element.type) y10 7,
+                      Path'.refl,
+                      (
+                        Reads'.as-is 𝓤 H A (Mut.mslice n16 y11 8),
+                        Mut.reads-mslice 𝓤 H A W n16 y11 8,
+                        Path'.refl,
+                        (
+                          (Values.struct-copied 𝓤 H A W Form.the-type Laws'4.the-laws Laws'4.the-copy, Path'.refl),
+                          (
+                            ShrRef.spares-sref 𝓤 H A W (Array'.Array n16 768) y20 9,
+                            Reads'.reads-sref 𝓤 H A W (Array'.Array n16 768) y20 9,
+                            Path'.refl,
+                            (
+                              (Array.arr-yields 𝓤 H A W (Array.eInt Syntax.w8) (Array.eInt-laws Syntax.w8) 36, Path'.refl),
+                              (
+                                (Values.struct-copied 𝓤 H A W Part.the-type Laws''.the-laws Laws''.the-copy, Path'.refl),
+                                (
+                                  tt,
+                                  (
+                                    (Values.struct-copied 𝓤 H A W Place.the-type Laws'.the-laws Laws'.the-copy, Path'.refl),
+                                    ((Scalar.reads-sc 𝓤 H A W (Row.sInt Syntax.w64), Path'.refl), (tt, ((Values.struct-copied 𝓤 H A W Entries.the-type Laws.the-laws Laws.the-copy, Path'.refl), tt))),
+                                  ),
+                                ),
+                              ),
+                            ),
+                          ),
+                        ),
+                      ),
+                    ),
+                  ),
+                ),
+              )
               (Reads'.room-gone 𝓤 H A y31) (tt, (tt, (tt, (tt, (tt, (tt, tt)))))) Path'.refl) d68
 
           d70 : Typed.Typed 𝓤 H A 𝓣 E G47 (Syntax.seq b24 (Syntax.seq b25 b54)) Δ0 (at70 bs)
@@ -2575,15 +2699,18 @@ module _ (claims· : Claims) where
 
           d92 : Typed.Typed 𝓤 H A 𝓣 E G25 (Syntax.seq b12 b67) Δ0 (at92 bs)
           d92 = Typed.s-seq 𝓤 H A W 𝓣 E G25 G26 b12 b67 Δ0 (Typed.both (s24 bs)) (at91 bs) (Plain.t-call-plain 𝓤 H A W 𝓣 1 ps·6 r·6 (claims· .12) (claims· .13) "read_block::records::start_records"
-              (known .6) E (λ pos β. β) G25 (record { pos = 19; ty = y10; ref = λ x. x; }, (Num.vFld 2 ((Syntax.field 2) ∷ []) 4 λ x. FujiHeader.struct .as-values x .1 .1 .0, (Num.vAt 20 λ x. x, tt))) 15
-              (5 ∷ []) (Call.sub-id 𝓤 H A W (G25 .slots))
-              (Reads'.as-is 𝓤 H A (Mut.mslice (Element.type) y10 5), Mut.reads-mslice 𝓤 H A W (Element.type) y10 5, Path'.refl,
-              ((Reads.reads-field 𝓤 H A W FujiHeader.the-type Laws'6.the-laws 2 u32 4 Path'.refl, Path'.refl), ((Scalar.reads-sc 𝓤 H A W (Row.sInt Syntax.w32), Path'.refl), tt))) (Reads'.room-gone 𝓤 H A
+              (known .6) E (λ pos β. β) G25 (record { pos = 19; ty = y10; ref = λ x. x }, (Num.vFld 2 ((Syntax.field 2) ∷ []) 4 λ x. FujiHeader.struct .as-values x .1 .1 .0, (Num.vAt 20 λ x. x, tt))) 15
+              (5 ∷ []) (Call.sub-id 𝓤 H A W (G25 .slots)) (
+                Reads'.as-is 𝓤 H A (Mut.mslice (Element.type) y10 5),
+                Mut.reads-mslice 𝓤 H A W (Element.type) y10 5,
+                Path'.refl,
+                ((Reads.reads-field 𝓤 H A W FujiHeader.the-type Laws'6.the-laws 2 u32 4 Path'.refl, Path'.refl), ((Scalar.reads-sc 𝓤 H A W (Row.sInt Syntax.w32), Path'.refl), tt)),
+              ) (Reads'.room-gone 𝓤 H A
               Syntax.tyUnit) (tt, tt) Path'.refl) d91
 
           d93 : Typed.Typed 𝓤 H A 𝓣 E G24 (Syntax.seq b11 (Syntax.seq b12 b67)) Δ0 (at93 bs)
           d93 = Typed.s-seq 𝓤 H A W 𝓣 E G24 G25 b11 (Syntax.seq b12 b67) Δ0 (Typed.both (s23 bs)) (at92 bs) (Plain.t-call-plain 𝓤 H A W 𝓣 1 ps·5 r·5 (claims· .10) (claims· .11)
-              "cameras::taking::base_of" (known .5) E (λ pos β. β) G24 (record { pos = 10; ty = y9; ref = λ x. x; }, (Num.vLit 0, tt)) 20 (0 ∷ []) (Call.sub-id 𝓤 H A W (G24 .slots))
+              "cameras::taking::base_of" (known .5) E (λ pos β. β) G24 (record { pos = 10; ty = y9; ref = λ x. x }, (Num.vLit 0, tt)) 20 (0 ∷ []) (Call.sub-id 𝓤 H A W (G24 .slots))
               (ShrSlice.spares-sslice 𝓤 H A W n8 y9 0, Shared.reads-sslice 𝓤 H A W n8 y9 0, Path'.refl, (tt, tt)) (Reads'.room-gone 𝓤 H A u32) (tt, tt) Path'.refl) d92
 
           d94 : Typed.Typed 𝓤 H A 𝓣 E G23 b70 Δ0 (at94 bs)
@@ -2619,7 +2746,7 @@ module _ (claims· : Claims) where
 
           d102 : Typed.Typed 𝓤 H A 𝓣 E G15 (Syntax.seq b8 b71) Δ0 (at102 bs)
           d102 = Typed.s-seq 𝓤 H A W 𝓣 E G15 G16 b8 b71 Δ0 (Typed.both (s14 bs)) (at101 bs) (Plain.t-call-plain 𝓤 H A W 𝓣 1 ps·4 r·4 (claims· .8) (claims· .9) "colour_lines::clear" (known .4) E (λ pos
-              β. β) G15 (record { pos = 17; ty = y11; ref = λ x. x; }, tt) 15 (4 ∷ []) (Call.sub-id 𝓤 H A W (G15 .slots))
+              β. β) G15 (record { pos = 17; ty = y11; ref = λ x. x }, tt) 15 (4 ∷ []) (Call.sub-id 𝓤 H A W (G15 .slots))
               (Reads'.as-is 𝓤 H A (Mut.mslice n16 y11 4), Mut.reads-mslice 𝓤 H A W n16 y11 4, Path'.refl, tt) (Reads'.room-gone 𝓤 H A Syntax.tyUnit) (tt, tt) Path'.refl) d101
 
           d103 : Typed.Typed 𝓤 H A 𝓣 E G14 (Syntax.seq b7 (Syntax.seq b8 b71)) Δ0 (at103 bs)
@@ -2663,13 +2790,13 @@ module _ (claims· : Claims) where
 
           d111 : Typed.Typed 𝓤 H A 𝓣 E (on T6 l18) (Syntax.seq b2 b77) Δ0 (at111 bs)
           d111 = Typed.s-seq 𝓤 H A W 𝓣 E (on T6 l18) (on T7 l18) b2 b77 Δ0 (Typed.both (s5 bs)) (at110 bs) (Plain.t-call-plain 𝓤 H A W 𝓣 1 ps·2 r·2 (claims· .4) (claims· .5) "stream::base_row" (known
-              .2) E (λ pos β. β) (on T6 l18) (record { pos = 1; ty = y4; ref = λ x. x; }, (Num.vAt 3 λ x. x, tt)) 10 (0 ∷ []) (Call.sub-id 𝓤 H A W ((on T6 l18) .slots))
+              .2) E (λ pos β. β) (on T6 l18) (record { pos = 1; ty = y4; ref = λ x. x }, (Num.vAt 3 λ x. x, tt)) 10 (0 ∷ []) (Call.sub-id 𝓤 H A W ((on T6 l18) .slots))
               (ShrSlice.spares-sslice 𝓤 H A W n8 y4 0, Shared.reads-sslice 𝓤 H A W n8 y4 0, Path'.refl, ((Scalar.reads-sc 𝓤 H A W (Row.sInt Syntax.w64), Path'.refl), tt)) (Reads'.room-gone 𝓤 H A y27)
               (tt, tt) (Path'.refl, λ b o k. tt)) d110
 
           d112 : Typed.Typed 𝓤 H A 𝓣 E (on T5 l18) (Syntax.seq b1 (Syntax.seq b2 b77)) Δ0 (at112 bs)
           d112 = Typed.s-seq 𝓤 H A W 𝓣 E (on T5 l18) (on T6 l18) b1 (Syntax.seq b2 b77) Δ0 (Typed.both (s4 bs)) (at111 bs) (Plain.t-call-plain 𝓤 H A W 𝓣 1 ps·1 r·1 (claims· .2) (claims· .3)
-              "stream::block_bytes" (known .1) E (λ pos β. β) (on T5 l18) (record { pos = 1; ty = y4; ref = λ x. x; }, (Num.vAt 3 λ x. x, tt)) 9 (0 ∷ []) (Call.sub-id 𝓤 H A W ((on T5 l18) .slots))
+              "stream::block_bytes" (known .1) E (λ pos β. β) (on T5 l18) (record { pos = 1; ty = y4; ref = λ x. x }, (Num.vAt 3 λ x. x, tt)) 9 (0 ∷ []) (Call.sub-id 𝓤 H A W ((on T5 l18) .slots))
               (ShrSlice.spares-sslice 𝓤 H A W n8 y4 0, Shared.reads-sslice 𝓤 H A W n8 y4 0, Path'.refl, ((Scalar.reads-sc 𝓤 H A W (Row.sInt Syntax.w64), Path'.refl), tt)) (Reads'.room-gone 𝓤 H A y27)
               (tt, tt) (Path'.refl, λ b o k. tt)) d111
 
@@ -2715,9 +2842,12 @@ module _ (claims· : Claims) where
       m0 = λ κs args blocks. (tt, Enter.partsP κs 1 ps xs (dens κs args))
 
       abbrev W0 : (κs : Lifetimes.Lfts 4) → (args : Args κs) → (blocks : List.List Nat.ℕ) → Typed.Want O0
-      W0 = λ κs args blocks.
-          (λ u. ⊥, tt, λ u. Enter.Fixs κs 1 ps xs (dens κs args) (u .1) × Post· κs (dens κs args) (Function.resV r κs (u .0)) (Clauses.atExit (Kinds.endedOf 4 ps r) κs (dens κs args) (Enter.lastsP κs 1 ps
-          xs (dens κs args) (u .1))))
+      W0 = λ κs args blocks. (
+        λ u. ⊥,
+        tt,
+        λ u. Enter.Fixs κs 1 ps xs (dens κs args) (u .1) × Post· κs (dens κs args) (Function.resV r κs (u .0)) (Clauses.atExit (Kinds.endedOf 4 ps r) κs (dens κs args) (Enter.lastsP κs 1 ps
+            xs (dens κs args) (u .1))),
+      )
 
       pub record Start : Type 0 where
         pub κs : Lifetimes.Lfts 4
@@ -2788,7 +2918,7 @@ module _ (claims· : Claims) where
 
       module _ (before· : After-form-of) where
         abbrev pub After-block-bytes·own : Type 0
-        After-block-bytes·own = Called.Called ps·1 r·1 (claims· .3) T5 (record { pos = 1; ty = y4; ref = λ x. x; }, (Num.vAt 3 λ x. x, tt)) (m4 (before· .before) (After-form-of·gave before·))
+        After-block-bytes·own = Called.Called ps·1 r·1 (claims· .3) T5 (record { pos = 1; ty = y4; ref = λ x. x }, (Num.vAt 3 λ x. x, tt)) (m4 (before· .before) (After-form-of·gave before·))
 
       pub record After-block-bytes : Type 0 where
         pub before : After-form-of
@@ -2798,7 +2928,7 @@ module _ (claims· : Claims) where
       After-block-bytes·start = λ c. c .before .before .before .before .before
 
       abbrev pub After-block-bytes·gave : (c : After-block-bytes) → s4 (c .before .before .before .before .before .blocks) .gives (m4 (c .before .before) (After-form-of·gave (c .before)))
-      After-block-bytes·gave = λ c. Called.given ps·1 r·1 (claims· .3) T5 (record { pos = 1; ty = y4; ref = λ x. x; }, (Num.vAt 3 λ x. x, tt)) (m4 (c .before .before) (After-form-of·gave (c .before)))
+      After-block-bytes·gave = λ c. Called.given ps·1 r·1 (claims· .3) T5 (record { pos = 1; ty = y4; ref = λ x. x }, (Num.vAt 3 λ x. x, tt)) (m4 (c .before .before) (After-form-of·gave (c .before)))
           (c .block-bytes)
 
       abbrev pub Need-base-row-requires : Type 0
@@ -2809,7 +2939,7 @@ module _ (claims· : Claims) where
 
       module _ (before· : After-block-bytes) where
         abbrev pub After-base-row·own : Type 0
-        After-base-row·own = Called.Called ps·2 r·2 (claims· .5) T6 (record { pos = 1; ty = y4; ref = λ x. x; }, (Num.vAt 3 λ x. x, tt)) (m5 (before· .before) (After-block-bytes·gave before·))
+        After-base-row·own = Called.Called ps·2 r·2 (claims· .5) T6 (record { pos = 1; ty = y4; ref = λ x. x }, (Num.vAt 3 λ x. x, tt)) (m5 (before· .before) (After-block-bytes·gave before·))
 
       pub record After-base-row : Type 0 where
         pub before : After-block-bytes
@@ -2819,7 +2949,7 @@ module _ (claims· : Claims) where
       After-base-row·start = λ c. c .before .before .before .before .before .before
 
       abbrev pub After-base-row·gave : (c : After-base-row) → s5 (c .before .before .before .before .before .before .blocks) .gives (m5 (c .before .before) (After-block-bytes·gave (c .before)))
-      After-base-row·gave = λ c. Called.given ps·2 r·2 (claims· .5) T6 (record { pos = 1; ty = y4; ref = λ x. x; }, (Num.vAt 3 λ x. x, tt)) (m5 (c .before .before) (After-block-bytes·gave (c
+      After-base-row·gave = λ c. Called.given ps·2 r·2 (claims· .5) T6 (record { pos = 1; ty = y4; ref = λ x. x }, (Num.vAt 3 λ x. x, tt)) (m5 (c .before .before) (After-block-bytes·gave (c
           .before))) (c .base-row)
 
       abbrev pub Need-xtrans-places-requires : Type 0
@@ -2870,7 +3000,7 @@ module _ (claims· : Claims) where
 
       module _ (before· : After-clear-arg) where
         abbrev pub After-clear·own : Type 0
-        After-clear·own = Called.Called ps·4 r·4 (claims· .9) T15 (record { pos = 17; ty = y11; ref = λ x. x; }, tt) (m13 (before· .before) (before· .clear-arg .given))
+        After-clear·own = Called.Called ps·4 r·4 (claims· .9) T15 (record { pos = 17; ty = y11; ref = λ x. x }, tt) (m13 (before· .before) (before· .clear-arg .given))
 
       pub record After-clear : Type 0 where
         pub before : After-clear-arg
@@ -2881,7 +3011,7 @@ module _ (claims· : Claims) where
 
       abbrev pub After-clear·gave : (c : After-clear) → s14 (c .before .before .before .before .before .before .before .before .before .blocks) .gives (m13 (c .before .before) (c .before .clear-arg
           .given))
-      After-clear·gave = λ c. Called.given ps·4 r·4 (claims· .9) T15 (record { pos = 17; ty = y11; ref = λ x. x; }, tt) (m13 (c .before .before) (c .before .clear-arg .given)) (c .clear)
+      After-clear·gave = λ c. Called.given ps·4 r·4 (claims· .9) T15 (record { pos = 17; ty = y11; ref = λ x. x }, tt) (m13 (c .before .before) (c .before .clear-arg .given)) (c .clear)
 
       abbrev pub m15 : (before : After-clear-arg) → (given : s14 (before .before .before .before .before .before .before .before .before .blocks) .gives (m13 (before .before) (before .clear-arg
           .given))) → Typed.Mo T17
@@ -2935,7 +3065,7 @@ module _ (claims· : Claims) where
 
       module _ (before· : After-start-records-arg) where
         abbrev pub After-base-of·own : Type 0
-        After-base-of·own = Called.Called ps·5 r·5 (claims· .11) T24 (record { pos = 10; ty = y9; ref = λ x. x; }, (Num.vLit 0, tt)) (m19 (before· .before) (before· .start-records-arg .given))
+        After-base-of·own = Called.Called ps·5 r·5 (claims· .11) T24 (record { pos = 10; ty = y9; ref = λ x. x }, (Num.vLit 0, tt)) (m19 (before· .before) (before· .start-records-arg .given))
 
       pub record After-base-of : Type 0 where
         pub before : After-start-records-arg
@@ -2946,7 +3076,7 @@ module _ (claims· : Claims) where
 
       abbrev pub After-base-of·gave : (c : After-base-of) → s23 (c .before .before .before .before .before .before .before .before .before .before .before .before .before .blocks) .gives (m19 (c
           .before .before) (c .before .start-records-arg .given))
-      After-base-of·gave = λ c. Called.given ps·5 r·5 (claims· .11) T24 (record { pos = 10; ty = y9; ref = λ x. x; }, (Num.vLit 0, tt)) (m19 (c .before .before) (c .before .start-records-arg .given))
+      After-base-of·gave = λ c. Called.given ps·5 r·5 (claims· .11) T24 (record { pos = 10; ty = y9; ref = λ x. x }, (Num.vLit 0, tt)) (m19 (c .before .before) (c .before .start-records-arg .given))
           (c .base-of)
 
       abbrev pub Need-start-records-requires : Type 0
@@ -2961,7 +3091,7 @@ module _ (claims· : Claims) where
       module _ (before· : After-base-of) where
         abbrev pub After-start-records·own : Type 0
         After-start-records·own = Called.Called ps·6 r·6 (claims· .13) T25
-            (record { pos = 19; ty = y10; ref = λ x. x; }, (Num.vFld 2 ((Syntax.field 2) ∷ []) 4 λ x. FujiHeader.struct .as-values x .1 .1 .0, (Num.vAt 20 λ x. x, tt))) (m20 (before· .before)
+            (record { pos = 19; ty = y10; ref = λ x. x }, (Num.vFld 2 ((Syntax.field 2) ∷ []) 4 λ x. FujiHeader.struct .as-values x .1 .1 .0, (Num.vAt 20 λ x. x, tt))) (m20 (before· .before)
             (After-base-of·gave before·))
 
       pub record After-start-records : Type 0 where
@@ -2974,7 +3104,7 @@ module _ (claims· : Claims) where
       abbrev pub After-start-records·gave : (c : After-start-records) → s24 (c .before .before .before .before .before .before .before .before .before .before .before .before .before .before .blocks)
           .gives (m20 (c .before .before) (After-base-of·gave (c .before)))
       After-start-records·gave = λ c. Called.given ps·6 r·6 (claims· .13) T25
-          (record { pos = 19; ty = y10; ref = λ x. x; }, (Num.vFld 2 ((Syntax.field 2) ∷ []) 4 λ x. FujiHeader.struct .as-values x .1 .1 .0, (Num.vAt 20 λ x. x, tt))) (m20 (c .before .before)
+          (record { pos = 19; ty = y10; ref = λ x. x }, (Num.vFld 2 ((Syntax.field 2) ∷ []) 4 λ x. FujiHeader.struct .as-values x .1 .1 .0, (Num.vAt 20 λ x. x, tt))) (m20 (c .before .before)
           (After-base-of·gave (c .before))) (c .start-records)
 
       abbrev pub m23 : (before : After-base-of) → (given : s24 (before .before .before .before .before .before .before .before .before .before .before .before .before .before .blocks) .gives (m20
@@ -3157,17 +3287,34 @@ module _ (claims· : Claims) where
 
       module _ (before· : After-no-entries) where
         abbrev pub After-read-lines·own : Type 0
-        After-read-lines·own = Called.Called ps·10 r·10 (claims· .21) T48
-            (record { pos = 9; ty = y9; ref = λ x. x; },
-            (record { pos = 10; ty = y9; ref = λ x. x; },
-            (record { pos = 22; ty = y11; ref = λ x. x; },
-            (record { pos = 24; ty = y10; ref = λ x. x; },
-            (record { pos = 26; ty = y11; ref = λ x. x; },
-            (record { pos = 8; st = []; d = 0; at = λ x. x },
-            (record { pos = 27; ty = y20; ref = λ x. x; },
-            (record { pos = 28; st = []; d = 0; at = λ x. x },
-            (record { pos = 29; st = []; d = 0; at = λ x. x },
-            (Num.vLit 0, (record { pos = 30; st = []; d = 0; at = λ x. x }, (Num.vAt 31 λ x. x, (Bool.bLit Bool'.false, (record { pos = 32; st = []; d = 0; at = λ x. x }, tt)))))))))))))) (m37 (before·
+        After-read-lines·own = Called.Called ps·10 r·10 (claims· .21) T48 (
+          record { pos = 9; ty = y9; ref = λ x. x },
+          (
+            record { pos = 10; ty = y9; ref = λ x. x },
+            (
+              record { pos = 22; ty = y11; ref = λ x. x },
+              (
+                record { pos = 24; ty = y10; ref = λ x. x },
+                (
+                  record { pos = 26; ty = y11; ref = λ x. x },
+                  (
+                    record { pos = 8; st = []; d = 0; at = λ x. x },
+                    (
+                      record { pos = 27; ty = y20; ref = λ x. x },
+                      (
+                        record { pos = 28; st = []; d = 0; at = λ x. x },
+                        (
+                          record { pos = 29; st = []; d = 0; at = λ x. x },
+                          (Num.vLit 0, (record { pos = 30; st = []; d = 0; at = λ x. x }, (Num.vAt 31 λ x. x, (Bool.bLit Bool'.false, (record { pos = 32; st = []; d = 0; at = λ x. x }, tt))))),
+                        ),
+                      ),
+                    ),
+                  ),
+                ),
+              ),
+            ),
+          ),
+        ) (m37 (before·
             .before) (After-no-entries·gave before·))
 
       pub record After-read-lines : Type 0 where
@@ -3180,17 +3327,34 @@ module _ (claims· : Claims) where
 
       abbrev pub After-read-lines·gave : (c : After-read-lines) → s47 (c .before .before .before .before .before .before .before .before .before .before .before .before .before .before .before .before
           .before .before .before .before .before .before .before .blocks) .gives (m37 (c .before .before) (After-no-entries·gave (c .before)))
-      After-read-lines·gave = λ c. Called.given ps·10 r·10 (claims· .21) T48
-          (record { pos = 9; ty = y9; ref = λ x. x; },
-          (record { pos = 10; ty = y9; ref = λ x. x; },
-          (record { pos = 22; ty = y11; ref = λ x. x; },
-          (record { pos = 24; ty = y10; ref = λ x. x; },
-          (record { pos = 26; ty = y11; ref = λ x. x; },
-          (record { pos = 8; st = []; d = 0; at = λ x. x },
-          (record { pos = 27; ty = y20; ref = λ x. x; },
-          (record { pos = 28; st = []; d = 0; at = λ x. x },
-          (record { pos = 29; st = []; d = 0; at = λ x. x },
-          (Num.vLit 0, (record { pos = 30; st = []; d = 0; at = λ x. x }, (Num.vAt 31 λ x. x, (Bool.bLit Bool'.false, (record { pos = 32; st = []; d = 0; at = λ x. x }, tt)))))))))))))) (m37 (c .before
+      After-read-lines·gave = λ c. Called.given ps·10 r·10 (claims· .21) T48 (
+        record { pos = 9; ty = y9; ref = λ x. x },
+        (
+          record { pos = 10; ty = y9; ref = λ x. x },
+          (
+            record { pos = 22; ty = y11; ref = λ x. x },
+            (
+              record { pos = 24; ty = y10; ref = λ x. x },
+              (
+                record { pos = 26; ty = y11; ref = λ x. x },
+                (
+                  record { pos = 8; st = []; d = 0; at = λ x. x },
+                  (
+                    record { pos = 27; ty = y20; ref = λ x. x },
+                    (
+                      record { pos = 28; st = []; d = 0; at = λ x. x },
+                      (
+                        record { pos = 29; st = []; d = 0; at = λ x. x },
+                        (Num.vLit 0, (record { pos = 30; st = []; d = 0; at = λ x. x }, (Num.vAt 31 λ x. x, (Bool.bLit Bool'.false, (record { pos = 32; st = []; d = 0; at = λ x. x }, tt))))),
+                      ),
+                    ),
+                  ),
+                ),
+              ),
+            ),
+          ),
+        ),
+      ) (m37 (c .before
           .before) (After-no-entries·gave (c .before))) (c .read-lines)
 
       abbrev pub m47 : (before : After-no-entries) → (given : s47 (before .before .before .before .before .before .before .before .before .before .before .before .before .before .before .before
@@ -3334,11 +3498,16 @@ module _ (claims· : Claims) where
 
       module _ (before· : After-put-walked-arg3) where
         abbrev pub After-put-walked·own : Type 0
-        After-put-walked·own = Called.Called ps·11 r·11 (claims· .23) T82
-            (record { pos = 34; ty = y12; ref = λ x. x; },
-            (record { pos = 1; ty = y4; ref = λ x. x; },
-            (record { pos = 2; st = []; d = 0; at = λ x. x },
-            (Num.vAt 3 λ x. x, (Num.vAt 4 λ x. x, (record { pos = 13; st = []; d = 0; at = λ x. x }, (record { pos = 36; ty = y8; ref = λ x. x; }, (record { pos = 38; ty = y10; ref = λ x. x; }, tt))))))))
+        After-put-walked·own = Called.Called ps·11 r·11 (claims· .23) T82 (
+          record { pos = 34; ty = y12; ref = λ x. x },
+          (
+            record { pos = 1; ty = y4; ref = λ x. x },
+            (
+              record { pos = 2; st = []; d = 0; at = λ x. x },
+              (Num.vAt 3 λ x. x, (Num.vAt 4 λ x. x, (record { pos = 13; st = []; d = 0; at = λ x. x }, (record { pos = 36; ty = y8; ref = λ x. x }, (record { pos = 38; ty = y10; ref = λ x. x }, tt))))),
+            ),
+          ),
+        )
             (m60 (before· .before) (before· .put-walked-arg3 .given))
 
       pub record After-put-walked : Type 0 where
@@ -3352,11 +3521,16 @@ module _ (claims· : Claims) where
       abbrev pub After-put-walked·gave : (c : After-put-walked) → s81 (c .before .before .before .before .before .before .before .before .before .before .before .before .before .before .before .before
           .before .before .before .before .before .before .before .before .before .before .before .before .before .before .before .blocks) .gives (m60 (c .before .before) (c .before .put-walked-arg3
           .given))
-      After-put-walked·gave = λ c. Called.given ps·11 r·11 (claims· .23) T82
-          (record { pos = 34; ty = y12; ref = λ x. x; },
-          (record { pos = 1; ty = y4; ref = λ x. x; },
-          (record { pos = 2; st = []; d = 0; at = λ x. x },
-          (Num.vAt 3 λ x. x, (Num.vAt 4 λ x. x, (record { pos = 13; st = []; d = 0; at = λ x. x }, (record { pos = 36; ty = y8; ref = λ x. x; }, (record { pos = 38; ty = y10; ref = λ x. x; }, tt))))))))
+      After-put-walked·gave = λ c. Called.given ps·11 r·11 (claims· .23) T82 (
+        record { pos = 34; ty = y12; ref = λ x. x },
+        (
+          record { pos = 1; ty = y4; ref = λ x. x },
+          (
+            record { pos = 2; st = []; d = 0; at = λ x. x },
+            (Num.vAt 3 λ x. x, (Num.vAt 4 λ x. x, (record { pos = 13; st = []; d = 0; at = λ x. x }, (record { pos = 36; ty = y8; ref = λ x. x }, (record { pos = 38; ty = y10; ref = λ x. x }, tt))))),
+          ),
+        ),
+      )
           (m60 (c .before .before) (c .before .put-walked-arg3 .given)) (c .put-walked)
 
       abbrev pub m64 : (before : After-put-walked-arg3) → (given : s81 (before .before .before .before .before .before .before .before .before .before .before .before .before .before .before .before
@@ -3445,7 +3619,7 @@ module _ (claims· : Claims) where
 
       module _ (before· : After-clear-arg2) where
         abbrev pub After-clear2·own : Type 0
-        After-clear2·own = Called.Called ps·4 r·4 (claims· .9) T99 (record { pos = 40; ty = y11; ref = λ x. x; }, tt) (m70 (before· .before) (before· .clear-arg2 .given))
+        After-clear2·own = Called.Called ps·4 r·4 (claims· .9) T99 (record { pos = 40; ty = y11; ref = λ x. x }, tt) (m70 (before· .before) (before· .clear-arg2 .given))
 
       pub record After-clear2 : Type 0 where
         pub before : After-clear-arg2
@@ -3458,7 +3632,7 @@ module _ (claims· : Claims) where
       abbrev pub After-clear2·gave : (c : After-clear2) → s98 (c .before .before .before .before .before .before .before .before .before .before .before .before .before .before .before .before .before
           .before .before .before .before .before .before .before .before .before .before .before .before .before .before .before .before .before .before .before .blocks) .gives (m70 (c .before .before)
           (c .before .clear-arg2 .given))
-      After-clear2·gave = λ c. Called.given ps·4 r·4 (claims· .9) T99 (record { pos = 40; ty = y11; ref = λ x. x; }, tt) (m70 (c .before .before) (c .before .clear-arg2 .given)) (c .clear2)
+      After-clear2·gave = λ c. Called.given ps·4 r·4 (claims· .9) T99 (record { pos = 40; ty = y11; ref = λ x. x }, tt) (m70 (c .before .before) (c .before .clear-arg2 .given)) (c .clear2)
 
       abbrev pub m72 : (before : After-clear-arg2) → (given : s98 (before .before .before .before .before .before .before .before .before .before .before .before .before .before .before .before
           .before .before .before .before .before .before .before .before .before .before .before .before .before .before .before .before .before .before .before .before .blocks) .gives (m70 (before
@@ -3532,7 +3706,7 @@ module _ (claims· : Claims) where
 
       module _ (before· : After-clear-records-arg) where
         abbrev pub After-clear-records·own : Type 0
-        After-clear-records·own = Called.Called ps·12 r·12 (claims· .25) T108 (record { pos = 42; ty = y10; ref = λ x. x; }, tt) (m76 (before· .before) (before· .clear-records-arg .given))
+        After-clear-records·own = Called.Called ps·12 r·12 (claims· .25) T108 (record { pos = 42; ty = y10; ref = λ x. x }, tt) (m76 (before· .before) (before· .clear-records-arg .given))
 
       pub record After-clear-records : Type 0 where
         pub before : After-clear-records-arg
@@ -3545,7 +3719,7 @@ module _ (claims· : Claims) where
       abbrev pub After-clear-records·gave : (c : After-clear-records) → s107 (c .before .before .before .before .before .before .before .before .before .before .before .before .before .before .before
           .before .before .before .before .before .before .before .before .before .before .before .before .before .before .before .before .before .before .before .before .before .before .before .before
           .before .blocks) .gives (m76 (c .before .before) (c .before .clear-records-arg .given))
-      After-clear-records·gave = λ c. Called.given ps·12 r·12 (claims· .25) T108 (record { pos = 42; ty = y10; ref = λ x. x; }, tt) (m76 (c .before .before) (c .before .clear-records-arg .given)) (c
+      After-clear-records·gave = λ c. Called.given ps·12 r·12 (claims· .25) T108 (record { pos = 42; ty = y10; ref = λ x. x }, tt) (m76 (c .before .before) (c .before .clear-records-arg .given)) (c
           .clear-records)
 
       abbrev pub m78 : (before : After-clear-records-arg) → (given : s107 (before .before .before .before .before .before .before .before .before .before .before .before .before .before .before
@@ -3665,166 +3839,265 @@ module _ (claims· : Claims) where
             (W0 (After-read-answer·start c .κs) (After-read-answer·start c .args) (c .before .before .before .before .before .before .before .before .before .before .before .before .before .before .before
             .before .before .before .before .before .before .before .before .before .before .before .before .before .before .before .before .before .before .before .before .before .before .before .before
             .before .before .before .blocks)) (m80 (c .before) (After-read-answer·gave c))
-        lay16 = λ c.
-            ((Path'.refl,
-            (tt,
-            (tt,
-            (tt,
-            (MutSlice.fix-len (Row.get 5 (T1 .locals) (m83 (c .before) (After-read-answer·gave c)) .ptr) (Row.get 5 (T1 .locals) (m83 (c .before) (After-read-answer·gave c)) .name) (Row.get 5 (T1 .locals)
-            (m83 (c .before) (After-read-answer·gave c)) .now) (dens (After-read-answer·start c .κs) (After-read-answer·start c .args) .1 .1 .1 .1 .0 .now) (same-length c),
-            (MutSlice.fix-len (Row.get 6 (T1 .locals) (m83 (c .before) (After-read-answer·gave c)) .ptr) (Row.get 6 (T1 .locals) (m83 (c .before) (After-read-answer·gave c)) .name) (Row.get 6 (T1 .locals)
-            (m83 (c .before) (After-read-answer·gave c)) .now) (dens (After-read-answer·start c .κs) (After-read-answer·start c .args) .1 .1 .1 .1 .1 .0 .now) (same-length-2 c),
-            (MutSlice.fix-len (Row.get 7 (T1 .locals) (m83 (c .before) (After-read-answer·gave c)) .ptr) (Row.get 7 (T1 .locals) (m83 (c .before) (After-read-answer·gave c)) .name) (Row.get 7 (T1 .locals)
-            (m83 (c .before) (After-read-answer·gave c)) .now) (dens (After-read-answer·start c .κs) (After-read-answer·start c .args) .1 .1 .1 .1 .1 .1 .0 .now) (same-length-3 c), tt))))))), returns c)
+        lay16 = λ c. (
+          (
+            Path'.refl,
+            (
+              tt,
+              (
+                tt,
+                (
+                  tt,
+                  (
+                    MutSlice.fix-len (Row.get 5 (T1 .locals) (m83 (c .before) (After-read-answer·gave c)) .ptr) (Row.get 5 (T1 .locals) (m83 (c .before) (After-read-answer·gave c)) .name) (Row.get 5 (T1 .locals)
+                        (m83 (c .before) (After-read-answer·gave c)) .now) (dens (After-read-answer·start c .κs) (After-read-answer·start c .args) .1 .1 .1 .1 .0 .now) (same-length c),
+                    (
+                      MutSlice.fix-len (Row.get 6 (T1 .locals) (m83 (c .before) (After-read-answer·gave c)) .ptr) (Row.get 6 (T1 .locals) (m83 (c .before) (After-read-answer·gave c)) .name) (Row.get 6 (T1 .locals)
+                          (m83 (c .before) (After-read-answer·gave c)) .now) (dens (After-read-answer·start c .κs) (After-read-answer·start c .args) .1 .1 .1 .1 .1 .0 .now) (same-length-2 c),
+                      (
+                        MutSlice.fix-len (Row.get 7 (T1 .locals) (m83 (c .before) (After-read-answer·gave c)) .ptr) (Row.get 7 (T1 .locals) (m83 (c .before) (After-read-answer·gave c)) .name) (Row.get 7 (T1 .locals)
+                            (m83 (c .before) (After-read-answer·gave c)) .now) (dens (After-read-answer·start c .κs) (After-read-answer·start c .args) .1 .1 .1 .1 .1 .1 .0 .now) (same-length-3 c),
+                        tt,
+                      ),
+                    ),
+                  ),
+                ),
+              ),
+            ),
+          ),
+          returns c,
+        )
 
         lay15 : (c : After-clear-records) → at8 (c .before .before .before .before .before .before .before .before .before .before .before .before .before .before .before .before .before .before
             .before .before .before .before .before .before .before .before .before .before .before .before .before .before .before .before .before .before .before .before .before .before .blocks) (W0
             (After-clear-records·start c .κs) (After-clear-records·start c .args) (c .before .before .before .before .before .before .before .before .before .before .before .before .before .before .before
             .before .before .before .before .before .before .before .before .before .before .before .before .before .before .before .before .before .before .before .before .before .before .before .before
             .before .blocks)) (m77 (c .before) (After-clear-records·gave c))
-        lay15 = λ c.
-            (Path'.refl, λ g. let c1 : After-rs4 = record { before = c; rs4 = record { given = g }; } in
-            (read-answer-requires c1, λ g'. lay16 record
-            { before = c1; read-answer = Called.called ps·13 r·13 (claims· .27) T95 (Num.vAt 3 λ x. x, (record { pos = 13; st = []; d = 0; at = λ x. x }, tt)) (m79 c g) g'; }))
+        lay15 = λ c. (
+          Path'.refl,
+          λ g. let c1 : After-rs4 = record { before = c; rs4 = record { given = g } } in (
+            read-answer-requires c1,
+            λ g'. lay16 record
+                { before = c1; read-answer = Called.called ps·13 r·13 (claims· .27) T95 (Num.vAt 3 λ x. x, (record { pos = 13; st = []; d = 0; at = λ x. x }, tt)) (m79 c g) g' },
+          ),
+        )
 
         lay14 : (c : After-clear2) → at17 (c .before .before .before .before .before .before .before .before .before .before .before .before .before .before .before .before .before .before .before
             .before .before .before .before .before .before .before .before .before .before .before .before .before .before .before .before .before .blocks) (W0 (After-clear2·start c .κs)
             (After-clear2·start c .args) (c .before .before .before .before .before .before .before .before .before .before .before .before .before .before .before .before .before .before .before .before
             .before .before .before .before .before .before .before .before .before .before .before .before .before .before .before .before .blocks)) (m71 (c .before) (After-clear2·gave c))
-        lay14 = λ c.
-            (Path'.refl, λ g. let c1 : After-lines3 = record { before = c; lines3 = record { given = g }; } in λ g'. let c2 : After-slice-known6 = record
-            { before = c1; slice-known6 = record { given = g' }; } in λ g''. let c3 : After-clear-records-arg = record { before = c2; clear-records-arg = record { given = g'' }; } in
-            (Path'.refl,
-            (clear-records-requires c3, λ g'3. lay15 record
-            { before = c3; clear-records = Called.called ps·12 r·12 (claims· .25) T108 (record { pos = 42; ty = y10; ref = λ x. x; }, tt) (m76 c2 g'') g'3; })))
+        lay14 = λ c. (
+          Path'.refl,
+          λ g. let c1 : After-lines3 = record { before = c; lines3 = record { given = g } } in λ g'. let c2 : After-slice-known6 = record
+              { before = c1; slice-known6 = record { given = g' } } in λ g''. let c3 : After-clear-records-arg = record { before = c2; clear-records-arg = record { given = g'' } } in (
+                Path'.refl,
+                (
+                  clear-records-requires c3,
+                  λ g'3. lay15 record
+                      { before = c3; clear-records = Called.called ps·12 r·12 (claims· .25) T108 (record { pos = 42; ty = y10; ref = λ x. x }, tt) (m76 c2 g'') g'3 },
+                ),
+              ),
+        )
 
         lay13 : (c : After-put-walked) → at34 (c .before .before .before .before .before .before .before .before .before .before .before .before .before .before .before .before .before .before .before
             .before .before .before .before .before .before .before .before .before .before .before .before .blocks) (W0 (After-put-walked·start c .κs) (After-put-walked·start c .args) (c .before .before
             .before .before .before .before .before .before .before .before .before .before .before .before .before .before .before .before .before .before .before .before .before .before .before .before
             .before .before .before .before .before .blocks)) (m61 (c .before) (After-put-walked·gave c))
-        lay13 = λ c.
-            (Path'.refl, λ g. let c1 : After-state = record { before = c; state = record { given = g }; } in λ g'. let c2 : After-slice-known5 = record
-            { before = c1; slice-known5 = record { given = g' }; } in
-            (Path'.refl, λ g''. let c3 : After-rs3 = record { before = c2; rs3 = record { given = g'' }; } in λ g'3. let c4 : After-clear-arg2 = record
-            { before = c3; clear-arg2 = record { given = g'3 }; } in
-            (Path'.refl,
-            (clear-requires-2 c4, λ g'4. lay14 record { before = c4; clear2 = Called.called ps·4 r·4 (claims· .9) T99 (record { pos = 40; ty = y11; ref = λ x. x; }, tt) (m70 c3 g'3) g'4; }))))
+        lay13 = λ c. (
+          Path'.refl,
+          λ g. let c1 : After-state = record { before = c; state = record { given = g } } in λ g'. let c2 : After-slice-known5 = record
+              { before = c1; slice-known5 = record { given = g' } } in (
+                Path'.refl,
+                λ g''. let c3 : After-rs3 = record { before = c2; rs3 = record { given = g'' } } in λ g'3. let c4 : After-clear-arg2 = record
+                    { before = c3; clear-arg2 = record { given = g'3 } } in (
+                      Path'.refl,
+                      (clear-requires-2 c4, λ g'4. lay14 record { before = c4; clear2 = Called.called ps·4 r·4 (claims· .9) T99 (record { pos = 40; ty = y11; ref = λ x. x }, tt) (m70 c3 g'3) g'4 }),
+                    ),
+              ),
+        )
 
         lay12 : (c : After-put-walked-arg3) → at36 (c .before .before .before .before .before .before .before .before .before .before .before .before .before .before .before .before .before .before
             .before .before .before .before .before .before .before .before .before .before .before .before .blocks) (W0 (After-put-walked-arg3·start c .κs) (After-put-walked-arg3·start c .args) (c
             .before .before .before .before .before .before .before .before .before .before .before .before .before .before .before .before .before .before .before .before .before .before .before .before
             .before .before .before .before .before .before .blocks)) (m59 (c .before) (c .put-walked-arg3 .given))
-        lay12 = λ c.
-            (Path'.refl,
-            (put-walked-requires c, λ g. lay13 record
-            { before = c; put-walked = Called.called ps·11 r·11 (claims· .23) T82
-            (record { pos = 34; ty = y12; ref = λ x. x; },
-            (record { pos = 1; ty = y4; ref = λ x. x; },
-            (record { pos = 2; st = []; d = 0; at = λ x. x },
-            (Num.vAt 3 λ x. x, (Num.vAt 4 λ x. x, (record { pos = 13; st = []; d = 0; at = λ x. x }, (record { pos = 36; ty = y8; ref = λ x. x; }, (record { pos = 38; ty = y10; ref = λ x. x; }, tt))))))))
-            (m60 (c .before) (c .put-walked-arg3 .given)) g; }))
+        lay12 = λ c. (
+          Path'.refl,
+          (
+            put-walked-requires c,
+            λ g. lay13 record {
+              before = c;
+              put-walked = Called.called ps·11 r·11 (claims· .23) T82 (
+                record { pos = 34; ty = y12; ref = λ x. x },
+                (
+                  record { pos = 1; ty = y4; ref = λ x. x },
+                  (
+                    record { pos = 2; st = []; d = 0; at = λ x. x },
+                    (Num.vAt 3 λ x. x, (Num.vAt 4 λ x. x, (record { pos = 13; st = []; d = 0; at = λ x. x }, (record { pos = 36; ty = y8; ref = λ x. x }, (record { pos = 38; ty = y10; ref = λ x. x }, tt))))),
+                  ),
+                ),
+              )
+                  (m60 (c .before) (c .put-walked-arg3 .given)) g;
+            },
+          ),
+        )
 
         lay11 : (c : After-read-lines) → at68 (c .before .before .before .before .before .before .before .before .before .before .before .before .before .before .before .before .before .before .before
             .before .before .before .before .blocks) (W0 (After-read-lines·start c .κs) (After-read-lines·start c .args) (c .before .before .before .before .before .before .before .before .before .before
             .before .before .before .before .before .before .before .before .before .before .before .before .before .blocks)) (m38 (c .before) (After-read-lines·gave c))
-        lay11 = λ c.
-            (Path'.refl, λ g. let c1 : After-lines2 = record { before = c; lines2 = record { given = g }; } in λ g'. let c2 : After-slice-known4 = record
-            { before = c1; slice-known4 = record { given = g' }; } in
-            (Path'.refl, λ g''. let c3 : After-rs2 = record { before = c2; rs2 = record { given = g'' }; } in
-            (Path'.refl, λ g'3. let c4 : After-nothing2 = record { before = c3; nothing2 = record { given = g'3 }; } in λ g'4. let c5 : After-put-walked-arg = record
-            { before = c4; put-walked-arg = record { given = g'4 }; } in
-            (Path'.refl, λ g'5. let c6 : After-put-walked-arg2 = record { before = c5; put-walked-arg2 = record { given = g'5 }; } in
-            (Path'.refl, λ g'6. lay12 record { before = c6; put-walked-arg3 = record { given = g'6 }; })))))
+        lay11 = λ c. (
+          Path'.refl,
+          λ g. let c1 : After-lines2 = record { before = c; lines2 = record { given = g } } in λ g'. let c2 : After-slice-known4 = record
+              { before = c1; slice-known4 = record { given = g' } } in (
+                Path'.refl,
+                λ g''. let c3 : After-rs2 = record { before = c2; rs2 = record { given = g'' } } in (
+                  Path'.refl,
+                  λ g'3. let c4 : After-nothing2 = record { before = c3; nothing2 = record { given = g'3 } } in λ g'4. let c5 : After-put-walked-arg = record
+                      { before = c4; put-walked-arg = record { given = g'4 } } in (
+                        Path'.refl,
+                        λ g'5. let c6 : After-put-walked-arg2 = record { before = c5; put-walked-arg2 = record { given = g'5 } } in
+                            (Path'.refl, λ g'6. lay12 record { before = c6; put-walked-arg3 = record { given = g'6 } }),
+                      ),
+                ),
+              ),
+        )
 
         lay10 : (c : After-no-entries) → at69 (c .before .before .before .before .before .before .before .before .before .before .before .before .before .before .before .before .before .before .before
             .before .before .before .blocks) (W0 (After-no-entries·start c .κs) (After-no-entries·start c .args) (c .before .before .before .before .before .before .before .before .before .before .before
             .before .before .before .before .before .before .before .before .before .before .before .blocks)) (m37 (c .before) (After-no-entries·gave c))
-        lay10 = λ c.
-            (read-lines-requires c, λ g. lay11 record
-            { before = c; read-lines = Called.called ps·10 r·10 (claims· .21) T48
-            (record { pos = 9; ty = y9; ref = λ x. x; },
-            (record { pos = 10; ty = y9; ref = λ x. x; },
-            (record { pos = 22; ty = y11; ref = λ x. x; },
-            (record { pos = 24; ty = y10; ref = λ x. x; },
-            (record { pos = 26; ty = y11; ref = λ x. x; },
-            (record { pos = 8; st = []; d = 0; at = λ x. x },
-            (record { pos = 27; ty = y20; ref = λ x. x; },
-            (record { pos = 28; st = []; d = 0; at = λ x. x },
-            (record { pos = 29; st = []; d = 0; at = λ x. x },
-            (Num.vLit 0, (record { pos = 30; st = []; d = 0; at = λ x. x }, (Num.vAt 31 λ x. x, (Bool.bLit Bool'.false, (record { pos = 32; st = []; d = 0; at = λ x. x }, tt)))))))))))))) (m37 (c .before)
-            (After-no-entries·gave c)) g; })
+        lay10 = λ c. (
+          read-lines-requires c,
+          λ g. lay11 record {
+            before = c;
+            read-lines = Called.called ps·10 r·10 (claims· .21) T48 (
+              record { pos = 9; ty = y9; ref = λ x. x },
+              (
+                record { pos = 10; ty = y9; ref = λ x. x },
+                (
+                  record { pos = 22; ty = y11; ref = λ x. x },
+                  (
+                    record { pos = 24; ty = y10; ref = λ x. x },
+                    (
+                      record { pos = 26; ty = y11; ref = λ x. x },
+                      (
+                        record { pos = 8; st = []; d = 0; at = λ x. x },
+                        (
+                          record { pos = 27; ty = y20; ref = λ x. x },
+                          (
+                            record { pos = 28; st = []; d = 0; at = λ x. x },
+                            (
+                              record { pos = 29; st = []; d = 0; at = λ x. x },
+                              (Num.vLit 0, (record { pos = 30; st = []; d = 0; at = λ x. x }, (Num.vAt 31 λ x. x, (Bool.bLit Bool'.false, (record { pos = 32; st = []; d = 0; at = λ x. x }, tt))))),
+                            ),
+                          ),
+                        ),
+                      ),
+                    ),
+                  ),
+                ),
+              ),
+            ) (m37 (c .before)
+                (After-no-entries·gave c)) g;
+          },
+        )
 
         lay9 : (c : After-start-place) → at71 (c .before .before .before .before .before .before .before .before .before .before .before .before .before .before .before .before .before .before .before
             .before .before .blocks) (W0 (After-start-place·start c .κs) (After-start-place·start c .args) (c .before .before .before .before .before .before .before .before .before .before .before
             .before .before .before .before .before .before .before .before .before .before .blocks)) (m35 (c .before) (After-start-place·gave c))
         lay9 = λ c.
-            (add-read-lines c, (no-entries-requires c, λ g. lay10 record { before = c; no-entries = Called.called ps·9 r·9 (claims· .19) T47 tt (m36 (c .before) (After-start-place·gave c)) g; }))
+            (add-read-lines c, (no-entries-requires c, λ g. lay10 record { before = c; no-entries = Called.called ps·9 r·9 (claims· .19) T47 tt (m36 (c .before) (After-start-place·gave c)) g }))
 
         lay8 : (c : After-no-part) → at72 (c .before .before .before .before .before .before .before .before .before .before .before .before .before .before .before .before .before .before .before
             .before .blocks) (W0 (After-no-part·start c .κs) (After-no-part·start c .args) (c .before .before .before .before .before .before .before .before .before .before .before .before .before
             .before .before .before .before .before .before .before .blocks)) (m34 (c .before) (After-no-part·gave c))
-        lay8 = λ c. (start-place-requires c, λ g. lay9 record { before = c; start-place = Called.called ps·8 r·8 (claims· .17) T45 tt (m34 (c .before) (After-no-part·gave c)) g; })
+        lay8 = λ c. (start-place-requires c, λ g. lay9 record { before = c; start-place = Called.called ps·8 r·8 (claims· .17) T45 tt (m34 (c .before) (After-no-part·gave c)) g })
 
         lay7 : (c : After-start-records) → at91 (c .before .before .before .before .before .before .before .before .before .before .before .before .before .before .blocks) (W0
             (After-start-records·start c .κs) (After-start-records·start c .args) (c .before .before .before .before .before .before .before .before .before .before .before .before .before .before
             .blocks)) (m21 (c .before) (After-start-records·gave c))
-        lay7 = λ c.
-            (Path'.refl, λ g. let c1 : After-rs = record { before = c; rs = record { given = g }; } in λ g'. let c2 : After-read-lines-arg = record { before = c1; read-lines-arg = record { given = g' }; }
-            in
-            (Path'.refl, λ g''. let c3 : After-read-lines-arg2 = record { before = c2; read-lines-arg2 = record { given = g'' }; } in
-            (Path'.refl, λ g'3. let c4 : After-nothing = record { before = c3; nothing = record { given = g'3 }; } in
-            (Relend.count-is T39 25 26 (λ x. x) (λ u. 1) (m29 c3 g'3) (slice-aggregate-read-lines c4), λ g'4. let c5 : After-places = record { before = c4; places = record { given = g'4 }; } in
-            (no-part-requires c5, λ g'5. lay8 record { before = c5; no-part = Called.called ps·7 r·7 (claims· .15) T44 tt (m33 c4 g'4) g'5; })))))
+        lay7 = λ c. (
+          Path'.refl,
+          λ g. let c1 : After-rs = record { before = c; rs = record { given = g } } in λ g'. let c2 : After-read-lines-arg = record { before = c1; read-lines-arg = record { given = g' } }
+              in (
+                Path'.refl,
+                λ g''. let c3 : After-read-lines-arg2 = record { before = c2; read-lines-arg2 = record { given = g'' } } in (
+                  Path'.refl,
+                  λ g'3. let c4 : After-nothing = record { before = c3; nothing = record { given = g'3 } } in (
+                    Relend.count-is T39 25 26 (λ x. x) (λ u. 1) (m29 c3 g'3) (slice-aggregate-read-lines c4),
+                    λ g'4. let c5 : After-places = record { before = c4; places = record { given = g'4 } } in
+                        (no-part-requires c5, λ g'5. lay8 record { before = c5; no-part = Called.called ps·7 r·7 (claims· .15) T44 tt (m33 c4 g'4) g'5 }),
+                  ),
+                ),
+              ),
+        )
 
         lay6 : (c : After-base-of) → at92 (c .before .before .before .before .before .before .before .before .before .before .before .before .before .blocks) (W0 (After-base-of·start c .κs)
             (After-base-of·start c .args) (c .before .before .before .before .before .before .before .before .before .before .before .before .before .blocks)) (m20 (c .before) (After-base-of·gave c))
-        lay6 = λ c.
-            (start-records-requires c, λ g. lay7 record
-            { before = c; start-records = Called.called ps·6 r·6 (claims· .13) T25
-            (record { pos = 19; ty = y10; ref = λ x. x; }, (Num.vFld 2 ((Syntax.field 2) ∷ []) 4 λ x. FujiHeader.struct .as-values x .1 .1 .0, (Num.vAt 20 λ x. x, tt))) (m20 (c .before)
-            (After-base-of·gave c)) g; })
+        lay6 = λ c. (
+          start-records-requires c,
+          λ g. lay7 record {
+            before = c;
+            start-records = Called.called ps·6 r·6 (claims· .13) T25
+                (record { pos = 19; ty = y10; ref = λ x. x }, (Num.vFld 2 ((Syntax.field 2) ∷ []) 4 λ x. FujiHeader.struct .as-values x .1 .1 .0, (Num.vAt 20 λ x. x, tt))) (m20 (c .before)
+                (After-base-of·gave c)) g;
+          },
+        )
 
         lay5 : (c : After-clear) → at101 (c .before .before .before .before .before .before .before .before .before .blocks) (W0 (After-clear·start c .κs) (After-clear·start c .args) (c .before
             .before .before .before .before .before .before .before .before .blocks)) (m14 (c .before) (After-clear·gave c))
-        lay5 = λ c.
-            (Path'.refl, λ g. let c1 : After-lines = record { before = c; lines = record { given = g }; } in λ g'. let c2 : After-slice-known3 = record
-            { before = c1; slice-known3 = record { given = g' }; } in λ g''. let c3 : After-start-records-arg = record { before = c2; start-records-arg = record { given = g'' }; } in
-            (Path'.refl,
-            (base-of-requires c3, λ g'3. lay6 record
-            { before = c3; base-of = Called.called ps·5 r·5 (claims· .11) T24 (record { pos = 10; ty = y9; ref = λ x. x; }, (Num.vLit 0, tt)) (m19 c2 g'') g'3; })))
+        lay5 = λ c. (
+          Path'.refl,
+          λ g. let c1 : After-lines = record { before = c; lines = record { given = g } } in λ g'. let c2 : After-slice-known3 = record
+              { before = c1; slice-known3 = record { given = g' } } in λ g''. let c3 : After-start-records-arg = record { before = c2; start-records-arg = record { given = g'' } } in (
+                Path'.refl,
+                (
+                  base-of-requires c3,
+                  λ g'3. lay6 record
+                      { before = c3; base-of = Called.called ps·5 r·5 (claims· .11) T24 (record { pos = 10; ty = y9; ref = λ x. x }, (Num.vLit 0, tt)) (m19 c2 g'') g'3 },
+                ),
+              ),
+        )
 
         lay4 : (c : After-xtrans-places) → at109 (c .before .before .before .before .before .before .before .blocks) (W0 (After-xtrans-places·start c .κs) (After-xtrans-places·start c .args) (c
             .before .before .before .before .before .before .before .blocks)) (m7 (c .before) (After-xtrans-places·gave c))
-        lay4 = λ c. λ g. let c1 : After-clear-arg = record { before = c; clear-arg = record { given = g }; } in
-            (Path'.refl, (clear-requires c1, λ g'. lay5 record { before = c1; clear = Called.called ps·4 r·4 (claims· .9) T15 (record { pos = 17; ty = y11; ref = λ x. x; }, tt) (m13 c g) g'; }))
+        lay4 = λ c. λ g. let c1 : After-clear-arg = record { before = c; clear-arg = record { given = g } } in
+            (Path'.refl, (clear-requires c1, λ g'. lay5 record { before = c1; clear = Called.called ps·4 r·4 (claims· .9) T15 (record { pos = 17; ty = y11; ref = λ x. x }, tt) (m13 c g) g' }))
 
         lay3 : (c : After-base-row) → at110 (c .before .before .before .before .before .before .blocks) (W0 (After-base-row·start c .κs) (After-base-row·start c .args) (c .before .before .before
             .before .before .before .blocks)) (m6 (c .before) (After-base-row·gave c))
-        lay3 = λ c. (xtrans-places-requires c, λ g. lay4 record { before = c; xtrans-places = Called.called ps·3 r·3 (claims· .7) T7 tt (m6 (c .before) (After-base-row·gave c)) g; })
+        lay3 = λ c. (xtrans-places-requires c, λ g. lay4 record { before = c; xtrans-places = Called.called ps·3 r·3 (claims· .7) T7 tt (m6 (c .before) (After-base-row·gave c)) g })
 
         lay2 : (c : After-block-bytes) → at111 (c .before .before .before .before .before .blocks) (W0 (After-block-bytes·start c .κs) (After-block-bytes·start c .args) (c .before .before .before
             .before .before .blocks)) (m5 (c .before) (After-block-bytes·gave c))
-        lay2 = λ c.
-            (base-row-requires c, λ g. lay3 record
-            { before = c; base-row = Called.called ps·2 r·2 (claims· .5) T6 (record { pos = 1; ty = y4; ref = λ x. x; }, (Num.vAt 3 λ x. x, tt)) (m5 (c .before) (After-block-bytes·gave c)) g; })
+        lay2 = λ c. (
+          base-row-requires c,
+          λ g. lay3 record
+              { before = c; base-row = Called.called ps·2 r·2 (claims· .5) T6 (record { pos = 1; ty = y4; ref = λ x. x }, (Num.vAt 3 λ x. x, tt)) (m5 (c .before) (After-block-bytes·gave c)) g },
+        )
 
         lay1 : (c : After-form-of) → at112 (c .before .before .before .before .blocks) (W0 (After-form-of·start c .κs) (After-form-of·start c .args) (c .before .before .before .before .blocks)) (m4 (c
             .before) (After-form-of·gave c))
-        lay1 = λ c.
-            (block-bytes-requires c, λ g. lay2 record
-            { before = c; block-bytes = Called.called ps·1 r·1 (claims· .3) T5 (record { pos = 1; ty = y4; ref = λ x. x; }, (Num.vAt 3 λ x. x, tt)) (m4 (c .before) (After-form-of·gave c)) g; })
+        lay1 = λ c. (
+          block-bytes-requires c,
+          λ g. lay2 record
+              { before = c; block-bytes = Called.called ps·1 r·1 (claims· .3) T5 (record { pos = 1; ty = y4; ref = λ x. x }, (Num.vAt 3 λ x. x, tt)) (m4 (c .before) (After-form-of·gave c)) g },
+        )
 
         pub laid : (c : Start) → at116 (c .blocks) (W0 (c .κs) (c .args) (c .blocks)) (m0 (c .κs) (c .args) (c .blocks))
         laid = λ c. λ g. let c1 : After-shared-slice-known = record { before = c; shared-slice-known = record { given = g } } in λ g'. let c2 : After-slice-known = record
-            { before = c1; slice-known = record { given = g' }; } in λ g''. let c3 : After-slice-known2 = record { before = c2; slice-known2 = record { given = g'' }; } in
-            (form-of-requires c3, λ g'3. lay1 record { before = c3; form-of = Called.called ps·0 r·0 (claims· .1) T0 (record { pos = 2; st = []; d = 0; at = λ x. x }, tt) (m3 c2 g'') g'3; })
+            { before = c1; slice-known = record { given = g' } } in λ g''. let c3 : After-slice-known2 = record { before = c2; slice-known2 = record { given = g'' } } in
+            (form-of-requires c3, λ g'3. lay1 record { before = c3; form-of = Called.called ps·0 r·0 (claims· .1) T0 (record { pos = 2; st = []; d = 0; at = λ x. x }, tt) (m3 c2 g'') g'3 })
 
         module _ (κs : Lifetimes.Lfts 4) (qs : Lifetimes.Shares 4) where
           pub asked : (a : Kinds.Dens κs ps) → (good : Kinds.GoodsP κs ps a) → (pre : Pre· κs a) → (bs : List.List Nat.ℕ) → Φ bs (Any.wantQ 4 ps r xs m κs qs a (Post· κs a)) (Function.init 4 ps r xs m
               κs qs a)
-          asked = λ a good pre bs. laid record
-              { κs = κs; args = record { d = a .0; h = a .1 .0; b = a .1 .1 .0; line = a .1 .1 .1 .0; state = a .1 .1 .1 .1 .0; lines = a .1 .1 .1 .1 .1 .0; rs = a .1 .1 .1 .1 .1 .1 .0; }; blocks = bs;
-              good = good; fits = record { b = record { fits = good .1 .1 .0 .1 }; line = record { fits = good .1 .1 .1 .0 .1 }; }; pre = pre; }
+          asked = λ a good pre bs. laid record {
+            κs = κs;
+            args = record { d = a .0; h = a .1 .0; b = a .1 .1 .0; line = a .1 .1 .1 .0; state = a .1 .1 .1 .1 .0; lines = a .1 .1 .1 .1 .1 .0; rs = a .1 .1 .1 .1 .1 .1 .0 };
+            blocks = bs;
+            good = good;
+            fits = record { b = record { fits = good .1 .1 .0 .1 }; line = record { fits = good .1 .1 .1 .0 .1 } };
+            pre = pre;
+          }
 
         module _ {M : Type 1} (𝓤 : URA.URA M) (H : Wp.Heap 𝓤) (A : Atoms.Atoms 𝓤) (W : Kit.Given 𝓤 H A) (𝓣 : Wp.Tables 𝓤 H) (known0 : Plain.Known 𝓤 H A W 𝓣 0 ps·0 r·0 (claims· .0) (claims· .1)
             "read_block::form_of") (known1 : Plain.Known 𝓤 H A W 𝓣 1 ps·1 r·1 (claims· .2) (claims· .3) "stream::block_bytes") (known2 : Plain.Known 𝓤 H A W 𝓣 1 ps·2 r·2 (claims· .4) (claims· .5)

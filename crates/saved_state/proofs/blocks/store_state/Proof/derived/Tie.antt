@@ -52,10 +52,36 @@ use borrow.Fn.Written
 use contract.Running
 
 abbrev claims : Lts.Claims
-claims =
-    (Reads'4.Asked, Reads'4.Learnt, Reads'14.Asked, Reads'14.Learnt, Reads'13.Asked, Reads'13.Learnt, Reads'3.Asked, Reads'3.Learnt, Reads''.Asked, Reads''.Learnt, Reads.Asked, Reads.Learnt,
-    Reads'12.Asked, Reads'12.Learnt, Reads'5.Asked, Reads'5.Learnt, Reads'7.Asked, Reads'7.Learnt, Reads'.Asked, Reads'.Learnt, Reads'11.Asked, Reads'11.Learnt, Reads'8.Asked, Reads'8.Learnt,
-    Reads'10.Asked, Reads'10.Learnt, Reads'6.Asked, Reads'6.Learnt)
+claims = (
+  Reads'4.Asked,
+  Reads'4.Learnt,
+  Reads'14.Asked,
+  Reads'14.Learnt,
+  Reads'13.Asked,
+  Reads'13.Learnt,
+  Reads'3.Asked,
+  Reads'3.Learnt,
+  Reads''.Asked,
+  Reads''.Learnt,
+  Reads.Asked,
+  Reads.Learnt,
+  Reads'12.Asked,
+  Reads'12.Learnt,
+  Reads'5.Asked,
+  Reads'5.Learnt,
+  Reads'7.Asked,
+  Reads'7.Learnt,
+  Reads'.Asked,
+  Reads'.Learnt,
+  Reads'11.Asked,
+  Reads'11.Learnt,
+  Reads'8.Asked,
+  Reads'8.Learnt,
+  Reads'10.Asked,
+  Reads'10.Learnt,
+  Reads'6.Asked,
+  Reads'6.Learnt,
+)
 
 abbrev pub Start : Type 0
 Start = Lts.Start claims Reads'9.Pre Reads'9.Post
