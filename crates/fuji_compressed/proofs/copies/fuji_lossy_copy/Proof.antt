@@ -6,7 +6,7 @@ use Rattle.fuji_compressed.proofs.copies.fuji_lossy_copy.Proof.derived.
 
 returns : tie.Need-returns
 returns c =
-    let k = c .before .before .before .before .before .before .before .before in
+    let k = c .before .before .before .before .before .before .before .before .before in
     record {
       answer = k .lossy-copy .result;
       left = k .lossy-copy .ensures;

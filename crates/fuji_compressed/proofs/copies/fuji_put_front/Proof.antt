@@ -5,7 +5,7 @@ use Rattle.fuji_compressed.proofs.copies.fuji_put_front.Tie as tie
 
 returns : tie.Need-returns
 returns c =
-    let k = c .before .before .before in
+    let k = c .before .before .before .before in
     record {
       answer = k .put-front .result;
       left = k .put-front .ensures;

@@ -7,7 +7,7 @@ use Rattle.fuji_compressed.proofs.copies.fuji_read_set.Proof.derived.Ti
 returns : tie.Need-returns
 returns c =
     let t = c .before in
-    let k = t .before .before .before .before .before in
+    let k = t .before .before .before .before .before .before in
     record { answer = k .read-set .result; left = k .read-set .ensures; told-totals = t .totals-words .ensures; told = c .counted-refusal .ensures }
 
 pub fuji-read-set-spec : {M : Type 1} → statement M

@@ -6,7 +6,7 @@ use Rattle.fuji_compressed.proofs.copies.fuji_tighten.Proof.derived.Tie
 
 returns : tie.Need-returns
 returns c =
-    let k = c .before .before .before .before .before .before .before .before in
+    let k = c .before .before .before .before .before .before .before .before .before in
     record {
       answer = k .tighten .result;
       left = k .tighten .ensures;
