@@ -2,7 +2,7 @@
 use mathlib.Core.Bool.{cond}
 use mathlib.Core.List.{List, [], _∷_}
 use mathlib.Core.Path.{_≡_}
-use Prim.Native.Nat.{ℕ, _+_, _-_, _*_, _%_, _≤_, _<_}
+use Prim.Native.Nat.{ℕ, _+_, _-_, _*_, _%_, _<_}
 use lib.Dec.{eqb}
 use lib.ListN.{length, getD}
 use Rattle.statistics.specs.Statistics.{kOf}
@@ -57,10 +57,6 @@ pub record AreQuantisers (bits q : ℕ) (totals raws limits : List ℕ) : Type 0
 abbrev pub choicesOf : ℕ → List ℕ
 choicesOf q =
     choiceOf q 0 ∷ choiceOf q 1 ∷ choiceOf q 2 ∷ choiceOf q 3 ∷ choiceOf q 4 ∷ choiceOf q 5 ∷ choiceOf q 6 ∷ choiceOf q 7 ∷ choiceOf q 8 ∷ []
-
--- the depths of the format lie in this range
-abbrev pub Depth : ℕ → Type 0
-Depth bits = (12 ≤ bits) × (bits ≤ 16)
 
 -- the context of the sample after place i, at position p, as the program finds it: in lines that are S apart
 unfoldable pub evenAt : List ℕ → ℕ → ℕ → Context

@@ -25,7 +25,8 @@ use Rattle.code.specs.declared.Taken.{Taken}
 use Rattle.code.specs.declared.Taken.the-variants as Take
 use Rattle.pass_schedule.specs.Steps.{Step, stepAt}
 use Rattle.pass_steps.specs.Contexts.{usedBase, usedWeight, usedQuantiser, lookOf, slotOf, noRecord}
-use Rattle.pass_steps.specs.Values.{contextAt, zipRecords, SetInRange, AreKs, quantisersOf, Depth}
+use Rattle.pass_steps.specs.Values.{contextAt, zipRecords, SetInRange, AreKs, quantisersOf}
+use Rattle.pass_steps.specs.Contexts.{Depth}
 use Rattle.pass_steps.specs.declared.Look.{Look}
 use Rattle.pass_steps.specs.declared.Set.{Set}
 use Rattle.pass_steps.proofs.ContextLaws.{context-is}

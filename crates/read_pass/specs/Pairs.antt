@@ -10,7 +10,8 @@ use Rattle.statistics.specs.declared.Record.{Record}
 use Rattle.code.specs.declared.Place.{Place}
 use Rattle.pass_schedule.specs.Steps.{Step}
 use Rattle.pass_schedule.specs.Inside.{PlanInRange}
-use Rattle.pass_steps.specs.Values.{zipRecords, recordsOf, SetInRange, AreKs, choicesOf, quantisersOf, Depth}
+use Rattle.pass_steps.specs.Values.{zipRecords, recordsOf, SetInRange, AreKs, choicesOf, quantisersOf}
+use Rattle.pass_steps.specs.Contexts.{Depth}
 use Rattle.pass_schedule.specs.declared.Plan.{Plan}
 use Rattle.pass_steps.specs.declared.Quantisers.{Quantisers}
 use Rattle.pass_steps.specs.declared.Set.{Set}

@@ -14,7 +14,7 @@ use Rattle.stream.specs.declared.header.Refusal.{Refusal}
 use Rattle.stream.specs.declared.header.Refusal.the-variants.{NoBlock, WrongCount}
 use Rattle.stream.specs.Streams.{openOf}
 use Rattle.admission.specs.Beginnings.{withScratch}
-use Rattle.admission.specs.Inside.{ScratchFits}
+use Rattle.admission.specs.Beginnings.{ScratchFits}
 use Rattle.admission.proofs.CallLaws.{clash, scratch-fits}
 use Rattle.read_block.specs.Images.{formOf, bytesIn, basesIn, linesRead}
 use Rattle.read_block.specs.Totals.{refusedBy}

@@ -5,7 +5,7 @@ ghost use lib.ListN.{length, take, drop};
 ghost use Rattle.colour_lines.specs.ColourLines.{zeroLines};
 ghost use Rattle.colour_lines.specs.Sets.{lineSize, setSize, lineOfRank};
 ghost use Rattle.image_map.specs.Places.{widthOf};
-ghost use Rattle.pass_steps.specs.Values.{Depth};
+ghost use Rattle.pass_steps.specs.Contexts.{Depth};
 ghost use Rattle.stream.specs.Streams.{openOf};
 ghost use Rattle.stream.specs.declared.header.Parsed.the-variants.{Header};
 ghost use Rattle.read_block.specs.Images.{formOf, bytesIn, basesIn, linesRead};

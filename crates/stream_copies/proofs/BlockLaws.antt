@@ -13,7 +13,7 @@ use lib.ListN.{length, getD, take, drop, replicate, length-replicate, length-dro
 use lib.Seq.{take-all, drop-at, length-take-le}
 use Rattle.statistics.specs.declared.Record.{Record}
 use Rattle.quantiser.specs.Quantisers.{largest}
-use Rattle.pass_steps.specs.Values.{Depth}
+use Rattle.pass_steps.specs.Contexts.{Depth}
 use Rattle.image_map.specs.Places.{widthOf}
 use Rattle.colour_lines.specs.Sets.{setSize}
 use Rattle.colour_lines.specs.ColourLines.{zeroLines}
@@ -29,7 +29,7 @@ use Rattle.stream.specs.declared.BlockLength.{BlockLength}
 use Rattle.stream.specs.declared.BlockLength.the-variants.{Length, Refused}
 use Rattle.stream.proofs.StreamLaws.{opened}
 use Rattle.admission.specs.Beginnings.{samplesNeeded, recordsNeeded}
-use Rattle.admission.specs.Inside.{ScratchFits}
+use Rattle.admission.specs.Beginnings.{ScratchFits}
 use Rattle.admission.specs.Writings.{writingBegins, lossyBegins}
 use Rattle.admission.specs.Above.{isIgnored, firstAbove}
 use Rattle.read_block.specs.Images.{formOf, bytesIn, basesIn, linesRead}

@@ -17,7 +17,7 @@ use Rattle.stream.specs.declared.header.Refusal.{Refusal}
 use Rattle.stream.specs.declared.header.Refusal.the-variants.{WrongCount, ShortScratch, ShortOutput}
 use Rattle.stream.specs.Streams.{rowStart}
 use Rattle.admission.specs.Beginnings.{samplesNeeded, recordsNeeded, isShortScratch, withScratch}
-use Rattle.admission.specs.Inside.{ScratchFits}
+use Rattle.admission.specs.Beginnings.{ScratchFits}
 use Rattle.admission.proofs.CallLaws.{clash, scratch-fits}
 use Rattle.theorem_whole_streams.specs.Kinds.{withFlag}
 use Rattle.theorem_whole_streams.proofs.SameSetsHold.{ruled-flag}

@@ -13,7 +13,7 @@ use Rattle.stream.specs.Refusals.{noRefusal}
 use Rattle.stream.specs.Streams.{openOf}
 use Rattle.stream.specs.declared.BlockLength.{BlockLength}
 use Rattle.stream.specs.declared.BlockLength.the-variants.{Length}
-use Rattle.admission.specs.Inside.{ScratchFits}
+use Rattle.admission.specs.Beginnings.{ScratchFits}
 use Rattle.theorem_whole_streams.specs.Kinds.{Readable}
 use Rattle.theorem_whole_streams.specs.Tightened.{tightened}
 use Rattle.theorem_whole_streams.specs.LossyCopies.{lossyCopy}

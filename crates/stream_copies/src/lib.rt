@@ -10,7 +10,7 @@ ghost use Rattle.stream.specs.Headers.{parseOf};
 ghost use Rattle.stream.specs.Inside.{Ruled};
 ghost use Rattle.stream.specs.declared.header.Parsed.the-variants.{Header};
 ghost use Rattle.stream.specs.Streams.{openOf};
-ghost use Rattle.admission.specs.Inside.{ScratchFits};
+ghost use Rattle.admission.specs.Beginnings.{ScratchFits};
 ghost use Rattle.read_block.specs.Lent.{Outputs};
 ghost use Rattle.write_block.specs.WrittenAnswers.{SetWriting};
 ghost use Rattle.stream_front.specs.Fronts.{LeftFront};

@@ -14,7 +14,7 @@ use Rattle.pass_schedule.specs.declared.Plan.{Plan}
 use Rattle.pass_schedule.proofs.OrderLaws.{All, cell, pass-all, pass-apart}
 use Rattle.pass_schedule.proofs.PlanLaws.{two-lines, other-lines}
 use Rattle.pass_schedule.proofs.ScheduleLaws.{plan-in-range}
-use Rattle.pass_steps.specs.Values.{Depth}
+use Rattle.pass_steps.specs.Contexts.{Depth}
 use Rattle.colour_lines.specs.ColourLines.{guarded}
 use Rattle.colour_lines.specs.Sets.{setSize, lineOfRank, indexIn, lineAt, colourLineAt, positionAt}
 use Rattle.colour_lines.proofs.LineLaws.{length-guarded, length-turned}

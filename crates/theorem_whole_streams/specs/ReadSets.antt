@@ -3,7 +3,7 @@ use mathlib.Core.List.{List, []}
 use mathlib.Core.Option.{some}
 use mathlib.Core.Path.{_≡_}
 use Prim.Native.Nat.{ℕ, _≤_}
-use Rattle.pass_steps.specs.Values.{Depth}
+use Rattle.pass_steps.specs.Contexts.{Depth}
 use Rattle.read_block.specs.Blocks.{State, readLines, linesOf}
 use Rattle.read_block.specs.TightBlocks.{setRead}
 use Rattle.write_block.specs.WrittenBlocks.{writeLines}
