@@ -12,10 +12,13 @@ use Rattle.read_block.specs.Blocks.{State, readLines, totalsIn}
 use mathlib.Core.Path.{_≡_}
 use Rattle.admission.specs.Beginnings.{samplesNeeded, recordsNeeded}
 use Rattle.read_block.specs.Lent.{Scratch, Outputs}
-use Rattle.read_block.specs.Images.{walkedAnswer}
 use Rattle.read_block.specs.declared.Counted.{Counted}
 use Rattle.read_block.specs.declared.Walked.{Walked}
-use Rattle.read_block.specs.Totals.{walkedTotals}
+use Rattle.stream.specs.declared.header.Refusal.the-variants.{Truncated}
+use Rattle.read_block.specs.declared.Walked.the-variants as Walk
+use Rattle.read_block.specs.declared.Decoded.{Decoded}
+use Rattle.read_block.specs.declared.Decoded.the-variants.{Done, Refused}
+use Rattle.line_totals.specs.declared.Totals.{Totals}
 
 abbrev pub isTightState : Option State → Bool
 isTightState none = true
@@ -44,3 +47,13 @@ ScratchOf xtrans lines records = (length lines ≡ samplesNeeded xtrans) × (len
 
 abbrev pub walkedCounted : ℕ → Walked → Counted
 walkedCounted b w = record { answer = walkedAnswer b w; totals = walkedTotals w }
+
+-- what a walk over block b answers
+abbrev pub walkedAnswer : ℕ → Walked → Decoded
+walkedAnswer b (Walk.Read all tight) = Done
+walkedAnswer b (Walk.Truncated line before) = Refused (Truncated b line)
+
+-- what a walk over block b says
+abbrev pub walkedTotals : Walked → Totals
+walkedTotals (Walk.Read all tight) = all
+walkedTotals (Walk.Truncated line before) = before

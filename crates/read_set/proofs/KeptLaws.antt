@@ -35,7 +35,8 @@ use Rattle.read_block.proofs.DecodeLaws.{walked-lines}
 use Rattle.read_block.proofs.KeepLaws.{lines-long, lines-few}
 use Rattle.read_block.proofs.ResumeLaws.{from-top, from-none, goes-on}
 use Rattle.read_block.proofs.TableLaws.{table-length}
-use Rattle.read_set.specs.HandedSets.{setWith, putOver, twelve, nextPlace}
+use Rattle.read_set.specs.HandedSets.{setWith, putOver}
+use Rattle.read_set.specs.Inside.{twelve, nextPlace}
 use Rattle.read_set.proofs.PutLaws.{put-none, put-length, put-after}
 use Rattle.read_set.proofs.SetLaws.{set-more}
 use Rattle.read_set.proofs.RecordLaws.{records-whole}

@@ -21,7 +21,8 @@ use Rattle.admission.specs.Beginnings.{withScratch}
 use Rattle.colour_lines.proofs.LineLaws.{line-inside}
 use Rattle.colour_lines.specs.Sets.{setSize, lineOfRank}
 use Rattle.pass_schedule.specs.Steps.{upto}
-use Rattle.read_set.specs.HandedSets.{putOver, twelve, setBegins}
+use Rattle.read_set.specs.HandedSets.{putOver, setBegins}
+use Rattle.read_set.specs.Inside.{twelve}
 
 pub put-none : (d : List ℕ) (at : ℕ) → d ≡ putOver d at []
 put-none d at = let z : at + 0 ≡ at = omega arith in rw z (sym (take-append-drop at d))

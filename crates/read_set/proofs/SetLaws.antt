@@ -18,7 +18,8 @@ use Rattle.read_block.specs.TightBlocks.{readSample}
 use Rattle.read_block.specs.declared.Form.{Form}
 use Rattle.read_block.proofs.LineLaws.{width-in-range}
 use Rattle.read_block.proofs.TableLaws.{table-length, table-getD}
-use Rattle.read_set.specs.HandedSets.{setWith, twelve}
+use Rattle.read_set.specs.HandedSets.{setWith}
+use Rattle.read_set.specs.Inside.{twelve}
 use Rattle.colour_lines.proofs.LineLaws.{line-inside}
 use Rattle.read_set.proofs.PutLaws.{colour, colours-long, rank-small}
 

@@ -2,17 +2,12 @@
 use mathlib.Core.Bool.{cond}
 use mathlib.Core.List.{List, _++_}
 use mathlib.Core.Path.{_≡_}
-use Prim.Native.Nat.{ℕ, _+_, _*_}
+use Prim.Native.Nat.{ℕ, _+_}
 use lib.Dec.{ltb, eqb}
 use lib.ListN.{length, take, drop}
 use Rattle.statistics.specs.declared.Record.{Record}
-use Rattle.bits.specs.declared.BitPosition.{BitPosition}
-use Rattle.code.specs.declared.Place.{Place}
-use Rattle.line_totals.specs.declared.Totals.{Totals}
-use Rattle.line_totals.specs.declared.TightLines.{TightLines}
 use Rattle.image_map.specs.Places.{widthOf}
-use Rattle.colour_lines.specs.Sets.{lineSize, setSize, lineOfRank}
-use Rattle.pass_schedule.specs.Steps.{upto}
+use Rattle.colour_lines.specs.Sets.{setSize}
 use Rattle.stream.specs.declared.header.FujiHeader.{FujiHeader}
 use Rattle.stream.specs.declared.header.Parsed.{Parsed}
 use Rattle.stream.specs.declared.header.Parsed.the-variants as Parsing
@@ -35,14 +30,6 @@ setWith F bases n s = table (readSample F bases s) (setSize (widthOf (F .xtrans)
 -- s stands over d from `at` on
 abbrev pub putOver : List ℕ → ℕ → List ℕ → List ℕ
 putOver d at s = take at d ++ (s ++ drop (at + length s) d)
-
--- the twelve colour lines of these lines, W samples each, without guards
-unfoldable pub twelve : ℕ → List ℕ → List ℕ
-twelve W lines = upto (λ c. take W (drop (lineOfRank c * (W + 2) + 1) lines)) 12
-
--- the place that one line left, by what was counted up to there and whether that line is among the tight ones
-abbrev pub nextPlace : Totals → TightLines → Place
-nextPlace all tight = record { at = record { 0 = all .bits }; tight = eqb (tight .lines) 1; long = all .long }
 
 -- ---- a call
 

@@ -3,10 +3,7 @@ use Prim.Native.Nat.{ℕ}
 use mathlib.Core.List.{List, [], _∷_}
 use mathlib.Core.Option.{Option, none, some}
 use Rattle.stream.specs.declared.header.Refusal.{Refusal}
-use Rattle.stream.specs.declared.header.Refusal.the-variants.{ShortHeader, BadHeader, ShortSizes, ShortBases, NoBlock, WrongSize, OutsideImage, Lossy}
-use Rattle.stream.specs.declared.header.Refusal.the-variants.{WrongCount, ShortScratch, AboveLargest, NotPredicted, ShortOutput, Truncated, NotTight}
-use Rattle.stream.specs.declared.header.Refusal.the-variants.{Lossless, WrongBases, BadRecord, HeldTwice, NotHeld, BadState, OtherState, NoEntry, OutsideSheet}
-use Rattle.stream.specs.declared.header.Refusal.the-variants.{WrongLengths, LongBlock}
+use Rattle.stream.specs.declared.header.Refusal.the-variants.{ShortHeader, BadHeader, ShortSizes, ShortBases, NoBlock, WrongSize, OutsideImage, Lossy, WrongCount, ShortScratch, AboveLargest, NotPredicted, ShortOutput, Truncated, NotTight, Lossless, WrongBases, BadRecord, HeldTwice, NotHeld, BadState, OtherState, NoEntry, OutsideSheet, WrongLengths, LongBlock}
 
 -- what a refusal says: its number, and the block, the line and the index that it names
 pub record Meaning : Type 0 where

@@ -51,7 +51,8 @@ use Rattle.theorem_whole_streams.specs.Kinds.{flagged, withFlag, setIn}
 use Rattle.theorem_whole_streams.proofs.ReadRight.{set-size, set-le, readable-predicted}
 use Rattle.theorem_whole_streams.proofs.KindsHold.{flagged-parses}
 use Rattle.theorem_whole_streams.proofs.LossyCopiesHold.{none-above}
-use Rattle.stream_copies.specs.MadeStreams.{isTightCall, basesOf, newHeader, newBlock, isCut, RowsFit, putAnswer, BlockPut}
+use Rattle.stream_copies.specs.MadeStreams.{isTightCall, basesOf, newHeader, newBlock, isCut}
+use Rattle.stream_copies.specs.Inside.{RowsFit, putAnswer, BlockPut}
 
 -- ---- how the writers begin
 

@@ -31,7 +31,8 @@ use Rattle.theorem_whole_streams.specs.Assembled.{lengthOf, assembled}
 use Rattle.theorem_whole_streams.specs.Kinds.{flagged, withFlag, Readable, setIn}
 use Rattle.theorem_whole_streams.specs.Tightened.{tightened}
 use Rattle.theorem_whole_streams.specs.LossyCopies.{lossyCopy}
-use Rattle.stream_copies.specs.MadeStreams.{Lent, isTightCall, newBlock, newFront, newStream, isCut, made, stopAnswer, madeAnswer, madeBytes, RowsFit, withRoom, makingBegins, Making, LeftMade}
+use Rattle.stream_copies.specs.MadeStreams.{Lent, isTightCall, newBlock, newFront, newStream, isCut, made, stopAnswer, madeAnswer, madeBytes, withRoom, makingBegins, Making, LeftMade}
+use Rattle.stream_copies.specs.Inside.{RowsFit}
 use Rattle.stream_copies.specs.MadeCalls.{Asked, Puts, TightenPuts, basesRow, LossyCopyPuts}
 use Rattle.stream_copies.specs.MadeCalls.{TightenFits, TightenAnswers, LossyCopyFits, LossyCopyAnswers, TightenTold, LossyCopyTold}
 use Rattle.stream_copies.proofs.BlockLaws.{reads-all}

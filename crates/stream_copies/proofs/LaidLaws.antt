@@ -39,7 +39,8 @@ use Rattle.theorem_whole_streams.proofs.FrontHolds.{front-assembles}
 use Rattle.theorem_whole_streams.proofs.KindsHold.{flagged-parses}
 use Rattle.theorem_whole_streams.proofs.StandLaws.{length-upto}
 use Rattle.theorem_whole_streams.proofs.TightenedHolds.{assembled-same, written-short}
-use Rattle.stream_copies.specs.MadeStreams.{isTightCall, basesOf, newHeader, newBlock, newFront, newStream, isCut, made, stopAnswer, madeAnswer, madeBytes, RowsFit, putAnswer, BlockPut, BlocksMade}
+use Rattle.stream_copies.specs.MadeStreams.{isTightCall, basesOf, newHeader, newBlock, newFront, newStream, isCut, made, stopAnswer, madeAnswer, madeBytes}
+use Rattle.stream_copies.specs.Inside.{RowsFit, putAnswer, BlockPut, BlocksMade}
 use Rattle.stream_copies.proofs.BlockLaws.{row-long, lines-again, records-again}
 
 module _ (d : List ℕ) (h : FujiHeader) (rows : List ℕ) where

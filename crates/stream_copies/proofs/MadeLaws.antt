@@ -22,7 +22,8 @@ use Rattle.stream.proofs.StreamLaws.{opened}
 use Rattle.read_block.specs.Lent.{Outputs}
 use Rattle.theorem_whole_streams.specs.Kinds.{withFlag}
 use Rattle.theorem_whole_streams.proofs.SameSetsHold.{ruled-flag}
-use Rattle.stream_copies.specs.MadeStreams.{Lent, isTightCall, newFront, madeBytes, RowsFit, withRoom, makingBegins, Making, LeftMade, BlocksMade}
+use Rattle.stream_copies.specs.MadeStreams.{Lent, isTightCall, newFront, madeBytes, withRoom, makingBegins, Making, LeftMade}
+use Rattle.stream_copies.specs.Inside.{RowsFit, BlocksMade}
 use Rattle.stream_copies.proofs.LaidLaws.{made-least}
 use Rattle.stream_copies.proofs.RoomLaws.{RoomAccepted}
 

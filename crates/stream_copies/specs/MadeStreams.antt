@@ -1,8 +1,8 @@
 -- Promises. What `tighten` and `lossy_copy` leave.
-use mathlib.Core.Bool.{Bool, false, cond, not, _||_}
+use mathlib.Core.Bool.{Bool, cond, not, _||_}
 use mathlib.Core.List.{List, [], _++_}
 use mathlib.Core.Path.{_≡_}
-use Prim.Native.Nat.{ℕ, suc, _+_, _-_, _*_}
+use Prim.Native.Nat.{ℕ, suc, _+_, _*_}
 use lib.Dec.{ltb, eqb}
 use lib.ListN.{length, take, drop, replicate}
 use Rattle.numbers.specs.Numbers.{leastFrom}
@@ -14,13 +14,12 @@ use Rattle.stream.specs.declared.header.FujiHeader.{FujiHeader}
 use Rattle.stream.specs.declared.header.Parsed.{Parsed}
 use Rattle.stream.specs.declared.header.Parsed.the-variants as Parsing
 use Rattle.stream.specs.declared.header.Refusal.the-variants.{WrongBases, WrongCount, ShortScratch, ShortOutput, Truncated}
-use Rattle.stream.specs.Streams.{rowStart, openOf}
+use Rattle.stream.specs.Streams.{rowStart}
 use Rattle.stream.specs.declared.BlockLength.{BlockLength}
 use Rattle.stream.specs.declared.BlockLength.the-variants.{Length, Refused}
 use Rattle.admission.specs.Beginnings.{isShortScratch}
 use Rattle.read_block.specs.Images.{formOf, bytesIn, basesIn, linesRead}
-use Rattle.read_block.specs.Lent.{Outputs, clearedLines, clearedRecords}
-use Rattle.write_block.specs.WrittenAnswers.{lengthAnswer, writtenOut}
+use Rattle.read_block.specs.Lent.{clearedLines, clearedRecords}
 use Rattle.write_block.specs.WrittenBlocks.{writtenBlock}
 use Rattle.theorem_whole_streams.specs.Assembled.{lengthOf, assembled}
 use Rattle.theorem_whole_streams.specs.Kinds.{flagged, withFlag, setIn}
@@ -107,28 +106,3 @@ makingBegins lossy (Parsing.Header h) rows before = begins lossy h rows before
 abbrev pub LeftMade : List ℕ → List ℕ → Parsed → (before after : Lent) → BlockLength → Type 0
 LeftMade d rows (Parsing.Refused x) before after answer = (answer ≡ Refused x) × (after ≡ before)
 LeftMade d rows (Parsing.Header h) before after answer = Making d h rows before after answer
-
--- ---- what the functions below the entries say. No entry's contract rests on these
-
--- no rows, or a byte for each line of each block
-abbrev pub RowsFit : FujiHeader → List ℕ → Type 0
-RowsFit h rows = isTightCall rows ≡ false → length rows ≡ h .blocks * h .lines
-
--- one block, with so many bytes of output from its place on
-unfoldable pub putAnswer : List ℕ → FujiHeader → List ℕ → (b room : ℕ) → BlockLength
-putAnswer d h rows b room =
-    cond (isCut d h b) (Refused (Truncated b (linesRead (formOf h) (basesIn d b) (bytesIn d b) (h .lines))))
-    (lengthAnswer (length (newBlock d h rows b)) room)
-
-pub record BlockPut (d : List ℕ) (h : FujiHeader) (rows : List ℕ) (b at : ℕ) (before after : Outputs) (answer : BlockLength) : Type 0 where
-  pub answered : answer ≡ putAnswer d h rows b (length (before .out) - at)
-  pub output : after .out ≡ take at (before .out) ++ writtenOut answer (newBlock d h rows b) (drop at (before .out))
-  pub lines : after .lines ≡ clearedLines (h .xtrans) (before .lines)
-  pub records : after .records ≡ clearedRecords (before .records)
-
--- all blocks, where zeros stand before them
-pub record BlocksMade (d : List ℕ) (h : FujiHeader) (rows : List ℕ) (before after : Outputs) (answer : BlockLength) : Type 0 where
-  pub answered : answer ≡ madeAnswer d h rows (length (before .out))
-  pub output : after .out ≡ madeBytes d h rows (length (before .out)) ++ drop (length (madeBytes d h rows (length (before .out)))) (before .out)
-  pub lines : after .lines ≡ clearedLines (h .xtrans) (before .lines)
-  pub records : after .records ≡ clearedRecords (before .records)
