@@ -50,7 +50,7 @@ listed q (suc (suc (suc (suc (suc (suc (suc zero))))))) h = refl
 listed q (suc (suc (suc (suc (suc (suc (suc (suc zero)))))))) h = refl
 listed q (suc (suc (suc (suc (suc (suc (suc (suc (suc f))))))))) h = absurd (omega arith)
 
-no-flat : (q f : ℕ) → 8 ≤ f → choiceOf q f ≡ 0
+pub no-flat : (q f : ℕ) → 8 ≤ f → choiceOf q f ≡ 0
 unfolding choiceOf
 no-flat q f h = rw (lt-leb f 5 (omega arith), lt-leb f 6 (omega arith), lt-leb f 7 h, and-false (leb 1 q), and-false (leb 2 q), and-false (leb 3 q))
 

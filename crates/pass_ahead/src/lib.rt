@@ -1,0 +1,813 @@
+// What a pass can know of its samples before any code of it is read: all of the contexts of even positions, and of odd ones what the line above gives. It is
+// made for many positions at once, in 16 bits and without a branch, so that LLVM takes eight of them at a time.
+ghost use mathlib.Core.Path.{_≡_};
+ghost use mathlib.Core.Bool.{cond};
+ghost use Prim.Native.Nat.{_+_, _-_, _*_, _/_, _%_, _^_, _≤_, _<_, min};
+ghost use lib.Dec.{leb, ltb, eqb};
+ghost use lib.ListN.{length, getD, set};
+ghost use Rattle.numbers.specs.Numbers.{distance, minus, flag};
+ghost use lib.Count.{leadingZeros};
+ghost use Rattle.statistics.specs.Statistics.{kOf, updated, InRange};
+ghost use Rattle.quantiser.specs.Quantisers.{levelSize, Serves};
+ghost use Rattle.prediction.specs.Predictions.{most, evenPrediction, extreme};
+ghost use Rattle.code.specs.Samples.{choiceOf, residualOf, sampleOf};
+ghost use Rattle.pass_steps.specs.Contexts.{usedBase, usedWeight, placeOf, lookOf, noRecord};
+ghost use Rattle.pass_steps.specs.Values.{zipRecords, SetInRange, AreKs, oddAt};
+ghost use Rattle.pass_ahead.specs.Looks.{packedLook, lookBy, marksOf, boundsOf, reachedOf, Marked, Raised, Part};
+ghost use Rattle.pass_ahead.specs.Odds.{rcAt, rbAt, rdAt, Beyond, Upper, Continued, AimsAt, LossyAims, ByFlatness};
+ghost use Rattle.pass_ahead.specs.Arrays.{Filled, Second, After, PredictionAhead, LookAhead, BeyondAhead, HalvingAhead, MainAhead, SizeAhead, PartsAhead, Sized, Ahead};
+ghost use Rattle.pass_ahead.specs.Tables.{AreNext, AreDigits, choiceAt, Five, BySlot};
+use numbers::Signed;
+use numbers::u8_to_u32;
+use numbers::u16_to_u32;
+use quantiser::Thresholds;
+
+// ---- numbers of 16 bits
+
+fn flag16(b: bool) -> u16
+    ensures { λ r. ⌜ (r ≡ flag b) × (r ≤ 1) ⌝ }
+{
+    b as u16
+}
+
+fn pick16(test: bool, a: u16, b: u16) -> u16
+    ensures { λ r. ⌜ r ≡ cond test a b ⌝ }
+{
+    if test { a } else { b }
+}
+
+fn distance16(a: u16, b: u16) -> u16
+    ensures { λ r. ⌜ r ≡ distance a b ⌝ }
+{
+    if a < b { b - a } else { a - b }
+}
+
+fn smaller16(a: u16, b: u16) -> u16
+    ensures { λ r. ⌜ (r ≡ min a b) × (r ≤ a) ⌝ }
+{
+    if a < b { a } else { b }
+}
+
+// Half of a sum that need not have 16 bits.
+fn half_sum(a: u16, b: u16) -> u16
+    ensures { λ r. ⌜ r ≡ (a + b) / 2 ⌝ }
+{
+    (a & b) + (a ^ b) / 2
+}
+
+fn is_most(a: u16, b: u16, c: u16) -> bool
+    ensures { λ r. ⌜ r ≡ most a b c ⌝ }
+{
+    (b < a) & (c < a)
+}
+
+fn is_extreme(rb: u16, rc: u16, rd: u16) -> bool
+    ensures { λ r. ⌜ r ≡ extreme rb rc rd ⌝ }
+{
+    ((rc < rb) & (rd < rb)) | ((rb < rc) & (rb < rd))
+}
+
+// ---- the contexts of even positions
+
+// The prediction. The two that are kept of rf, rc and rd are halved first, so that it all has 16 bits.
+fn even_prediction(rf: u16, rc: u16, rb: u16, rd: u16) -> u16
+    ensures { λ r. ⌜ r ≡ evenPrediction rf rc rb rd ⌝ }
+{
+    let f = distance16(rb, rf);
+    let c = distance16(rc, rb);
+    let d = distance16(rd, rb);
+    let no_c = is_most(c, f, d);
+    let no_d = is_most(d, f, c);
+    let x = pick16(no_c, rd, rc);
+    let y = pick16(no_c | no_d, rf, rd);
+    half_sum(half_sum(x, y), rb)
+}
+
+// The base of a line, and what its thresholds after the first lie above.
+struct Marks {
+    base: u16,
+    second: u16,
+    third: u16,
+    fourth: u16,
+}
+
+fn marks_of(base: u16) -> Marks
+    requires { ⌜ base < 256 ⌝ }
+    ensures { λ r. ⌜ r ≡ marksOf base ⌝ }
+{
+    Marks {
+        base,
+        second: 3 * base + 17,
+        third: 5 * base + 66,
+        fourth: 7 * base + 275,
+    }
+}
+
+// The size of the level of a difference of size m, by another base.
+fn level_size16(used: u16, t: Marks, m: u16) -> u16
+    requires { ⌜ Marked used t m ⌝ }
+    ensures { λ r. ⌜ (r ≡ levelSize used m) × (r ≤ 4) ⌝ }
+{
+    flag16(used < m) + flag16(t.second < m) + flag16(t.third < m) + flag16(t.fourth < m)
+}
+
+// The level of a - b, plus 4.
+fn raised16(used: u16, t: Marks, a: u16, b: u16) -> u16
+    requires { ⌜ Marked used t (distance a b) ⌝ }
+    ensures { λ r. ⌜ Raised used (minus a b) r × (r ≤ 8) ⌝ }
+{
+    let size = level_size16(used, t, distance16(a, b));
+    if a < b { 4 - size } else { 4 + size }
+}
+
+// A look as one number, by its gradient, raised by `middle`, and the place of its quantiser's records.
+fn packed(raised: u16, middle: u16, place: u16) -> u16
+    requires { ⌜ (raised ≤ 80) × ((middle ≤ 40) × (place ≤ 51)) ⌝ }
+    ensures { λ r. ⌜ r ≡ 2 * (place + distance raised middle) + flag (ltb raised middle) ⌝ }
+{
+    2 * (place + distance16(raised, middle)) + flag16(raised < middle)
+}
+
+// The look of an even position in a lossless line.
+fn lossless_packed(rf: u16, rc: u16, rb: u16) -> u16
+    ensures { λ r. ⌜ r ≡ packedLook (lookBy 0 (minus rb rf) (minus rc rb)) ⌝ }
+{
+    let t = marks_of(0);
+    packed(9 * raised16(0, t, rb, rf) + raised16(0, t, rc, rb), 40, 0)
+}
+
+// The flatness from which on a quantiser is passed over.
+struct Bounds {
+    first: u16,
+    second: u16,
+    third: u16,
+}
+
+fn bounds_of(base: u16) -> Bounds
+    ensures { λ r. ⌜ r ≡ boundsOf base ⌝ }
+{
+    let first = pick16(base < 1, 0, 6);
+    let second = pick16(base < 2, first, 7);
+    let third = pick16(base < 3, second, 8);
+    Bounds {
+        first,
+        second,
+        third,
+    }
+}
+
+fn choice16(b: Bounds, flatness: u16) -> u16
+    ensures { λ r. ⌜ (r ≡ reachedOf b flatness) × (r ≤ 3) ⌝ }
+{
+    (flag16(b.first <= flatness) + flag16(b.second <= flatness) + flag16(b.third <= flatness) + 1)
+        % 4
+}
+
+fn used_base16(choice: u16, base: u16) -> u16
+    ensures { λ r. ⌜ r ≡ usedBase base choice ⌝ }
+{
+    if choice == 0 { base } else { choice - 1 }
+}
+
+fn weight16(choice: u16) -> u16
+    ensures { λ r. ⌜ (r ≡ usedWeight choice) × (r ≤ 9) ⌝ }
+{
+    if choice == 0 { 9 } else { 3 }
+}
+
+// Where a quantiser's records begin among the 56 of a parity.
+fn first_place(choice: u16) -> u16
+    requires { ⌜ choice ≤ 3 ⌝ }
+    ensures { λ r. ⌜ (r ≡ placeOf choice 0) × (r ≤ 51) ⌝ }
+{
+    if choice == 0 { 0 } else { 36 + 5 * choice }
+}
+
+// The look of an even position in any line, once its quantiser is chosen.
+fn packed_by(t: Marks, choice: u16, rf: u16, rc: u16, rb: u16) -> u16
+    requires { ⌜ (t ≡ marksOf (t .base)) × ((choice ≡ choiceOf (t .base) (distance rb rf + distance rc rb)) × (choice ≤ 3)) ⌝ }
+    ensures { λ r. ⌜ r ≡ packedLook (lookBy (t .base) (minus rb rf) (minus rc rb)) ⌝ }
+{
+    let used = used_base16(choice, t.base);
+    let weight = weight16(choice);
+    let raised = weight * raised16(used, t, rb, rf) + raised16(used, t, rc, rb);
+    packed(raised, 4 * weight + 4, first_place(choice))
+}
+
+fn lossy_packed(t: Marks, b: Bounds, rf: u16, rc: u16, rb: u16) -> u16
+    requires { ⌜ (t ≡ marksOf (t .base)) × (b ≡ boundsOf (t .base)) ⌝ }
+    ensures { λ r. ⌜ r ≡ packedLook (lookBy (t .base) (minus rb rf) (minus rc rb)) ⌝ }
+{
+    let flatness = smaller16(8, distance16(rb, rf)) + smaller16(8, distance16(rc, rb));
+    packed_by(t, choice16(b, flatness), rf, rc, rb)
+}
+
+// ---- what the line above gives of odd positions
+
+// 3 times the level of rb - rc by flat quantiser 1 to 3, so raised that 0 is 36, as with the main one.
+fn flat_part(choice: u16, rb: u16, rc: u16) -> u16
+    requires { ⌜ 1 ≤ choice ⌝ }
+    ensures { λ r. ⌜ (distance rb rc ≤ 7 → Part 3 (choice - 1) (minus rb rc) r) × (r ≤ 39) ⌝ }
+{
+    let size = 3 * flag16(choice <= distance16(rb, rc));
+    if rb < rc { 36 - size } else { 36 + size }
+}
+
+// ---- odd positions, once the samples beside them are known
+
+// Where the record of a sample is in its set, and a number that is odd where its gradient is negative.
+pub struct Aim {
+    pub slot: usize,
+    pub flip: u32,
+}
+
+// The prediction, by what the line above gives.
+fn odd_prediction(ra: u32, rg: u32, beyond: u32, halving: u32) -> u32
+    requires { ⌜ (ra < 2 ^ 16) × ((rg < 2 ^ 16) × ((beyond < 2 ^ 16) × (halving < 32))) ⌝ }
+    ensures { λ r. ⌜ r ≡ (ra + rg + 2 * beyond) / 2 ^ halving ⌝ }
+{
+    (ra + rg + 2 * beyond) >> halving
+}
+
+// The prediction of the sample after place i, in lines that are s apart, by entry h of what is known ahead.
+pub fn odd_prediction_at(
+    lines: &[u16],
+    s: usize,
+    i: usize,
+    beyond: &[u16; 48],
+    halvings: &[u16; 48],
+    h: usize,
+) -> u32
+    requires { ⌜ (h < 48) × ((s ≤ 514) × ((s ≤ i) × (i + 2 < length (now lines)))) ⌝ }
+    requires { ⌜ Beyond (rbAt (now lines) s i) (rcAt (now lines) s i) (rdAt (now lines) s i) (getD (now beyond) h 0) (getD (now halvings) h 0) ⌝ }
+    ensures { λ r. ⌜ r ≡ (oddAt (now (lines .entry)) s i) .prediction ⌝ }
+{
+    odd_prediction(
+        u16_to_u32(lines[i]),
+        u16_to_u32(lines[i + 2]),
+        u16_to_u32(beyond[h]),
+        u16_to_u32(halvings[h]),
+    )
+}
+
+// The gradient, by what the line above gives of it, and the difference rc - ra.
+fn gradient_with(t: Thresholds, part: u32, rc: u32, ra: u32) -> Signed
+    requires { ⌜ (t .base < 256) × (Serves t (distance rc ra) × (part < 2 ^ 16)) ⌝ }
+    ensures { λ r. ⌜ Continued (t .base) part (minus rc ra) r × (r .size < 2 ^ 17) ⌝ }
+{
+    let v = numbers::difference(rc, ra);
+    numbers::difference(part + quantiser::raised_level(t, v), 40)
+}
+
+// Where the record of an odd position is in a line that is not lossless. The lists have for each flatness, 8 at most, the row of the parts, the first of the quantiser's records, and its base.
+fn lossy_aim(
+    base: u32,
+    rows: &[u32; 9],
+    firsts: &[u32; 9],
+    bases: &[u32; 9],
+    parts: &[u16; 192],
+    h: usize,
+    size: u32,
+    rc: u32,
+    ra: u32,
+) -> Aim
+    requires { ⌜ (base < 256) × ((h < 48) × ((size < 2 ^ 16) × ((rc < 2 ^ 16) × (ra < 2 ^ 16)))) ⌝ }
+    requires { ⌜ ByFlatness base (now rows) (now firsts) (now bases) ⌝ }
+    ensures { λ r. ⌜ LossyAims base (now (parts .entry)) h size (minus rc ra) r ⌝ }
+{
+    let j = numbers::smaller(8, size + numbers::distance(rc, ra)) as usize;
+    let row = rows[j] as usize;
+    let t = quantiser::thresholds_of(base).with_base(bases[j]);
+    let g = gradient_with(t, u16_to_u32(parts[row + h]), rc, ra);
+    Aim {
+        slot: (firsts[j] + g.size) as usize,
+        flip: numbers::flag(g.negative),
+    }
+}
+
+// Where the record of the sample after place i is, by entry h of what is known ahead.
+pub fn odd_aim_at(
+    lines: &[u16],
+    s: usize,
+    i: usize,
+    base: u32,
+    rows: &[u32; 9],
+    firsts: &[u32; 9],
+    bases: &[u32; 9],
+    parts: &[u16; 192],
+    sizes: &[u16; 48],
+    h: usize,
+) -> Aim
+    requires { ⌜ (h < 48) × ((s ≤ 514) × ((s ≤ i) × (i + 2 < length (now lines)))) ⌝ }
+    requires { ⌜ (base < 256) × ByFlatness base (now rows) (now firsts) (now bases) ⌝ }
+    requires { ⌜ Upper base (minus (rbAt (now lines) s i) (rcAt (now lines) s i)) (now parts) (now sizes) h ⌝ }
+    ensures { λ r. ⌜ AimsAt (lookOf base (oddAt (now (lines .entry)) s i)) r ⌝ }
+{
+    let ra = u16_to_u32(lines[i]);
+    let rc = u16_to_u32(lines[i - s]);
+    if base == 0 {
+        let g = gradient_with(quantiser::thresholds_of(0), u16_to_u32(parts[h]), rc, ra);
+        return Aim {
+            slot: g.size as usize + 56,
+            flip: numbers::flag(g.negative),
+        };
+    }
+    lossy_aim(
+        base,
+        rows,
+        firsts,
+        bases,
+        parts,
+        h,
+        u16_to_u32(sizes[h]),
+        rc,
+        ra,
+    )
+}
+
+// ---- lists by flatness and by record
+
+// What a flatness decides, 8 at most, for an odd position: the row of the parts, the first of the quantiser's records in a set, and its base.
+pub struct Flatness {
+    pub rows: [u32; 9],
+    pub firsts: [u32; 9],
+    pub bases: [u32; 9],
+}
+
+fn first_slot(choice: u32) -> u32
+    requires { ⌜ choice ≤ 3 ⌝ }
+    ensures { λ r. ⌜ r ≡ 56 + placeOf choice 0 ⌝ }
+{
+    if choice == 0 { 56 } else { 92 + 5 * choice }
+}
+
+fn used_base(choice: u32, base: u32) -> u32
+    ensures { λ r. ⌜ r ≡ usedBase base choice ⌝ }
+{
+    if choice == 0 { base } else { choice - 1 }
+}
+
+pub fn by_flatness(base: u32) -> Flatness
+    ensures { λ r. ⌜ ByFlatness base (r .rows) (r .firsts) (r .bases) ⌝ }
+{
+    let mut rows = [0u32; 9];
+    let mut firsts = [0u32; 9];
+    let mut bases = [0u32; 9];
+    let mut j = 0usize;
+    while j < 9 {
+        let choice = code::choice(base, j as u32);
+        rows[j] = 48 * choice;
+        firsts[j] = first_slot(choice);
+        bases[j] = used_base(choice, base);
+        j += 1;
+    }
+    Flatness {
+        rows,
+        firsts,
+        bases,
+    }
+}
+
+// Five entries from place `at` on.
+fn put_five(r: &mut [u16; 112], at: usize, v: u16)
+    requires { ⌜ (at ≤ 107) × (length (now r) ≡ 112) ⌝ }
+    ensures { λ _. ⌜ (length (now (r .exit)) ≡ 112) × Five at v (now (r .entry)) (now (r .exit)) ⌝ }
+{
+    let mut i = at;
+    while i < at + 5 {
+        r[i] = v;
+        i += 1;
+    }
+}
+
+// A number of each of the four quantisers, for each record of a set.
+pub fn by_slot(main: u16, first: u16, second: u16, third: u16) -> [u16; 112]
+    ensures { λ r. ⌜ Filled 112 (BySlot main first second third) 112 r ⌝ }
+{
+    let mut r = [main; 112];
+    put_five(&mut r, 41, first);
+    put_five(&mut r, 46, second);
+    put_five(&mut r, 51, third);
+    put_five(&mut r, 97, first);
+    put_five(&mut r, 102, second);
+    put_five(&mut r, 107, third);
+    r
+}
+
+// ---- a record and its k
+
+// What n becomes, and the digits of that less 1, for each n from 1 to 64.
+const NEXT: [u8; 65] = [
+    1,
+    2,
+    3,
+    4,
+    5,
+    6,
+    7,
+    8,
+    9,
+    10,
+    11,
+    12,
+    13,
+    14,
+    15,
+    16,
+    17,
+    18,
+    19,
+    20,
+    21,
+    22,
+    23,
+    24,
+    25,
+    26,
+    27,
+    28,
+    29,
+    30,
+    31,
+    32,
+    33,
+    34,
+    35,
+    36,
+    37,
+    38,
+    39,
+    40,
+    41,
+    42,
+    43,
+    44,
+    45,
+    46,
+    47,
+    48,
+    49,
+    50,
+    51,
+    52,
+    53,
+    54,
+    55,
+    56,
+    57,
+    58,
+    59,
+    60,
+    61,
+    62,
+    63,
+    64,
+    33,
+];
+
+const DIGITS: [u8; 65] = [
+    0,
+    1,
+    1,
+    2,
+    2,
+    2,
+    2,
+    3,
+    3,
+    3,
+    3,
+    3,
+    3,
+    3,
+    3,
+    4,
+    4,
+    4,
+    4,
+    4,
+    4,
+    4,
+    4,
+    4,
+    4,
+    4,
+    4,
+    4,
+    4,
+    4,
+    4,
+    5,
+    5,
+    5,
+    5,
+    5,
+    5,
+    5,
+    5,
+    5,
+    5,
+    5,
+    5,
+    5,
+    5,
+    5,
+    5,
+    5,
+    5,
+    5,
+    5,
+    5,
+    5,
+    5,
+    5,
+    5,
+    5,
+    5,
+    5,
+    5,
+    5,
+    5,
+    5,
+    6,
+    5,
+];
+
+pub fn next_table() -> [u8; 65]
+    ensures { λ r. ⌜ AreNext r ⌝ }
+{
+    NEXT
+}
+
+pub fn digits_table() -> [u8; 65]
+    ensures { λ r. ⌜ AreDigits r ⌝ }
+{
+    DIGITS
+}
+
+// The k of a record, from the digits of n less 1.
+fn k_with(sum: u32, n: u32, digits: u32) -> u32
+    requires { ⌜ InRange (record { sum = sum; n = n }) × (digits ≡ 31 - leadingZeros 32 n) ⌝ }
+    ensures { λ r. ⌜ r ≡ kOf (record { sum = sum; n = n }) ⌝ }
+{
+    let least = 31 - u32::leading_zeros(sum | n | 1) - digits;
+    numbers::smaller(15, least + numbers::flag(n << least < sum))
+}
+
+// `pass_steps::update_with_k` of the record that is there, by lists for n.
+pub fn update_by(
+    sums: &mut [u32; 112],
+    ns: &mut [u32; 112],
+    ks: &mut [u32; 112],
+    next: &[u8; 65],
+    digits: &[u8; 65],
+    slot: usize,
+    code: u32,
+)
+    requires { ⌜ (code < 63 * 2 ^ 15) × ((slot < 112) × (AreNext (now next) × AreDigits (now digits))) ⌝ }
+    requires { ⌜ SetInRange (zipRecords (now sums) (now ns)) ⌝ }
+    requires { ⌜ AreKs (zipRecords (now sums) (now ns)) (now ks) ⌝ }
+    ensures { λ _. ⌜ zipRecords (now (sums .exit)) (now (ns .exit))
+        ≡ set (zipRecords (now (sums .entry)) (now (ns .entry))) slot
+        (updated (getD (zipRecords (now (sums .entry)) (now (ns .entry))) slot noRecord) ((residualOf code) .size)) ⌝ }
+    ensures { λ _. ⌜ SetInRange (zipRecords (now (sums .exit)) (now (ns .exit))) ⌝ }
+    ensures { λ _. ⌜ AreKs (zipRecords (now (sums .exit)) (now (ns .exit))) (now (ks .exit)) ⌝ }
+{
+    let n = ns[slot];
+    let old = n as usize;
+    let sum = (sums[slot] + code::residual_size(code)) >> numbers::flag(n == 64);
+    let more = u8_to_u32(next[old]);
+    sums[slot] = sum;
+    ns[slot] = more;
+    ks[slot] = k_with(sum, more, u8_to_u32(digits[old]));
+}
+
+// ---- a sample
+
+// The quantiser of a record.
+fn choice_at(slot: usize) -> usize
+    ensures { λ r. ⌜ (r ≡ choiceAt slot) × (r ≤ 3) ⌝ }
+{
+    let place = slot % 56;
+    if place < 41 {
+        return 0;
+    }
+    (place - 36) / 5
+}
+
+// `code::samples::sample` by the step 2 * base + 1, and by a number that is odd where the gradient is negative.
+pub fn sample_by(
+    m: u32,
+    step: u32,
+    totals: &[u32; 4],
+    slot: usize,
+    flip: u32,
+    prediction: u32,
+    code: u32,
+) -> u32
+    requires { ⌜ (m < 2 ^ 16) × ((step < 512) × ((step % 2 ≡ 1) × ((prediction < 2 ^ 16) × ((code < 63 * 2 ^ 15) × (flip < 2 ^ 16))))) ⌝ }
+    requires { ⌜ getD (now totals) (choiceAt slot) 0 ≤ 2 ^ 16 ⌝ }
+    ensures { λ r. ⌜ (r ≡ sampleOf m (step / 2) (getD (now (totals .entry)) (choiceAt slot) 0) (eqb (flip % 2) 1) prediction code) × (r ≤ m) ⌝ }
+{
+    let minus = (flip + code) % 2 == 1;
+    let d = code::residual_size(code) * step;
+    let x = code::moved(minus, prediction, d);
+    if x <= m {
+        return x;
+    }
+    let total = totals[choice_at(slot)];
+    if minus {
+        return code::wrap(m, step / 2, total * step, prediction, d);
+    }
+    code::wrap(m, step / 2, total * step, prediction + d, 0)
+}
+
+// ---- many positions at once
+
+// Every second sample, from place `from` on.
+fn take_every_second(lines: &[u16], from: usize, n: usize, out: &mut [u16; 56])
+    requires { ⌜ (n ≤ 56) × ((from + 2 * n ≤ length (now lines) + 1) × (length (now out) ≡ 56)) ⌝ }
+    ensures { λ _. ⌜ Filled 56 (Second (now (lines .entry)) from) n (now (out .exit)) ⌝ }
+{
+    let mut i = 0usize;
+    while i < n {
+        out[i] = lines[from + 2 * i];
+        i += 1;
+    }
+}
+
+// The samples of the line above at odd positions, the guards counted, and at even ones.
+fn split(lines: &[u16], from: usize, n: usize, odds: &mut [u16; 56], evens: &mut [u16; 56])
+    requires { ⌜ (n ≤ 56) × (from + 2 * n ≤ length (now lines)) ⌝ }
+    requires { ⌜ (length (now odds) ≡ 56) × (length (now evens) ≡ 56) ⌝ }
+    ensures { λ _. ⌜ Filled 56 (Second (now (lines .entry)) from) n (now (odds .exit)) ⌝ }
+    ensures { λ _. ⌜ Filled 56 (After (now (lines .entry)) from) n (now (evens .exit)) ⌝ }
+{
+    let mut i = 0usize;
+    while i < n {
+        let j = from + 2 * i;
+        odds[i] = lines[j];
+        evens[i] = lines[j + 1];
+        i += 1;
+    }
+}
+
+fn evens_lossless(
+    odds: &[u16; 56],
+    evens: &[u16; 56],
+    tops: &[u16; 56],
+    n: usize,
+    preds: &mut [u16; 48],
+    looks: &mut [u16; 48],
+)
+    requires { ⌜ (n ≤ 48) × ((length (now preds) ≡ 48) × (length (now looks) ≡ 48)) ⌝ }
+    ensures { λ _. ⌜ Filled 48 (PredictionAhead (now (odds .entry)) (now (evens .entry)) (now (tops .entry))) n (now (preds .exit)) ⌝ }
+    ensures { λ _. ⌜ Filled 48 (LookAhead 0 (now (odds .entry)) (now (evens .entry)) (now (tops .entry))) n (now (looks .exit)) ⌝ }
+{
+    let mut i = 0usize;
+    while i < n {
+        let rf = tops[i];
+        let rc = odds[i + 4];
+        let rb = evens[i + 4];
+        let rd = odds[i + 5];
+        preds[i] = even_prediction(rf, rc, rb, rd);
+        looks[i] = lossless_packed(rf, rc, rb);
+        i += 1;
+    }
+}
+
+fn evens_lossy(
+    odds: &[u16; 56],
+    evens: &[u16; 56],
+    tops: &[u16; 56],
+    n: usize,
+    base: u16,
+    preds: &mut [u16; 48],
+    looks: &mut [u16; 48],
+)
+    requires { ⌜ (base < 256) × ((n ≤ 48) × ((length (now preds) ≡ 48) × (length (now looks) ≡ 48))) ⌝ }
+    ensures { λ _. ⌜ Filled 48 (PredictionAhead (now (odds .entry)) (now (evens .entry)) (now (tops .entry))) n (now (preds .exit)) ⌝ }
+    ensures { λ _. ⌜ Filled 48 (LookAhead base (now (odds .entry)) (now (evens .entry)) (now (tops .entry))) n (now (looks .exit)) ⌝ }
+{
+    let t = marks_of(base);
+    let bounds = bounds_of(base);
+    let mut i = 0usize;
+    while i < n {
+        let rf = tops[i];
+        let rc = odds[i + 4];
+        let rb = evens[i + 4];
+        let rd = odds[i + 5];
+        preds[i] = even_prediction(rf, rc, rb, rd);
+        looks[i] = lossy_packed(t, bounds, rf, rc, rb);
+        i += 1;
+    }
+}
+
+fn odds_lossless(
+    odds: &[u16; 56],
+    evens: &[u16; 56],
+    n: usize,
+    beyond: &mut [u16; 48],
+    halvings: &mut [u16; 48],
+    parts: &mut [u16; 192],
+)
+    requires { ⌜ (n ≤ 48) × ((length (now beyond) ≡ 48) × ((length (now halvings) ≡ 48) × (length (now parts) ≡ 192))) ⌝ }
+    ensures { λ _. ⌜ Filled 48 (BeyondAhead (now (odds .entry)) (now (evens .entry))) n (now (beyond .exit)) ⌝ }
+    ensures { λ _. ⌜ Filled 48 (HalvingAhead (now (odds .entry)) (now (evens .entry))) n (now (halvings .exit)) ⌝ }
+    ensures { λ _. ⌜ Filled 192 (MainAhead 0 (now (odds .entry)) (now (evens .entry))) n (now (parts .exit)) ⌝ }
+{
+    let t = marks_of(0);
+    let mut i = 0usize;
+    while i < n {
+        let rc = evens[i];
+        let rb = odds[i + 1];
+        let rd = evens[i + 1];
+        let e = is_extreme(rb, rc, rd);
+        beyond[i] = pick16(e, rb, 0);
+        halvings[i] = 1 + flag16(e);
+        parts[i] = 9 * raised16(0, t, rb, rc);
+        i += 1;
+    }
+}
+
+fn odds_lossy(
+    odds: &[u16; 56],
+    evens: &[u16; 56],
+    n: usize,
+    base: u16,
+    beyond: &mut [u16; 48],
+    halvings: &mut [u16; 48],
+    parts: &mut [u16; 192],
+    sizes: &mut [u16; 48],
+)
+    requires { ⌜ (base < 256) × ((n ≤ 48) × ((length (now beyond) ≡ 48) × ((length (now halvings) ≡ 48) × (length (now parts) ≡ 192)))) ⌝ }
+    requires { ⌜ length (now sizes) ≡ 48 ⌝ }
+    ensures { λ _. ⌜ Filled 48 (BeyondAhead (now (odds .entry)) (now (evens .entry))) n (now (beyond .exit)) ⌝ }
+    ensures { λ _. ⌜ Filled 48 (HalvingAhead (now (odds .entry)) (now (evens .entry))) n (now (halvings .exit)) ⌝ }
+    ensures { λ _. ⌜ PartsAhead base (now (odds .entry)) (now (evens .entry)) n (now (parts .exit)) ⌝ }
+    ensures { λ _. ⌜ Filled 48 (SizeAhead (now (odds .entry)) (now (evens .entry))) n (now (sizes .exit)) ⌝ }
+{
+    let t = marks_of(base);
+    let mut i = 0usize;
+    while i < n {
+        let rc = evens[i];
+        let rb = odds[i + 1];
+        let rd = evens[i + 1];
+        let e = is_extreme(rb, rc, rd);
+        beyond[i] = pick16(e, rb, 0);
+        halvings[i] = 1 + flag16(e);
+        parts[i] = 9 * raised16(base, t, rb, rc);
+        parts[48 + i] = flat_part(1, rb, rc);
+        parts[96 + i] = flat_part(2, rb, rc);
+        parts[144 + i] = flat_part(3, rb, rc);
+        sizes[i] = smaller16(8, distance16(rb, rc));
+        i += 1;
+    }
+}
+
+// What is known ahead of n turns of a pass in a line, from position c on.
+pub fn fill(
+    lines: &[u16],
+    w: usize,
+    line: usize,
+    c: usize,
+    n: usize,
+    base: u32,
+    preds: &mut [u16; 48],
+    looks: &mut [u16; 48],
+    beyond: &mut [u16; 48],
+    halvings: &mut [u16; 48],
+    parts: &mut [u16; 192],
+    sizes: &mut [u16; 48],
+)
+    requires { ⌜ (8 ≤ w) × ((w ≤ 512) × ((2 ≤ line) × ((line ≤ 17) × ((n ≤ 48) × ((c + 2 * n ≤ w + 8) × (base < 256)))))) ⌝ }
+    requires { ⌜ (line + 1) * (w + 2) ≤ length (now lines) ⌝ }
+    requires { ⌜ Sized (now preds) (now looks) (now beyond) (now halvings) (now parts) (now sizes) ⌝ }
+    ensures { λ _. ⌜ Sized (now (preds .exit)) (now (looks .exit)) (now (beyond .exit)) (now (halvings .exit)) (now (parts .exit)) (now (sizes .exit)) ⌝ }
+    ensures { λ _. ⌜ Ahead base w (now (lines .entry)) line c n
+        (now (preds .exit)) (now (looks .exit)) (now (beyond .exit)) (now (halvings .exit)) (now (parts .exit)) (now (sizes .exit)) ⌝ }
+{
+    let s = w + 2;
+    let from = line * s + c - s;
+    let mut odds = [0u16; 56];
+    let mut evens = [0u16; 56];
+    let mut tops = [0u16; 56];
+    split(lines, from - 8, n + 5, &mut odds, &mut evens);
+    take_every_second(lines, from + 1 - s, n, &mut tops);
+    if base == 0 {
+        evens_lossless(&odds, &evens, &tops, n, preds, looks);
+        odds_lossless(&odds, &evens, n, beyond, halvings, parts);
+    } else {
+        evens_lossy(&odds, &evens, &tops, n, base as u16, preds, looks);
+        odds_lossy(
+            &odds,
+            &evens,
+            n,
+            base as u16,
+            beyond,
+            halvings,
+            parts,
+            sizes,
+        );
+    }
+}
