@@ -12,8 +12,8 @@ use Rattle.prediction.specs.declared.Context.{Context}
 use Rattle.pass_steps.specs.Contexts.{lookOf}
 use Rattle.pass_steps.specs.Values.{evenAt}
 use Rattle.pass_ahead.specs.Looks.{packedLook, Part}
-use Rattle.pass_ahead.specs.Odds.{rcAt, rbAt, rdAt, Beyond, Upper}
-use Rattle.pass_ahead.specs.Arrays.{Filled, Second, After, PredictionAhead, LookAhead, BeyondAhead, HalvingAhead, MainAhead, FlatAhead, SizeAhead, PartsAhead, leftAt, EvensAhead, OddsAhead, Ahead}
+use Rattle.pass_ahead.specs.Odds.{rcAt, rbAt, rdAt, Beyond}
+use Rattle.pass_ahead.specs.Arrays.{Filled, Second, After, BeyondAhead, HalvingAhead, AheadRow, Rows, leftAt, EvenHere, OddHere, Ahead}
 
 -- a line has two above it, and ends within the lines
 pub placed : (w line len : ℕ) → 2 ≤ line → (line + 1) * (w + 2) ≤ len → (2 * (w + 2) ≤ line * (w + 2)) × (line * (w + 2) + (w + 2) ≤ len)
@@ -24,12 +24,12 @@ placed w line len h k =
 less : {x y : ℕ} (d : ℕ) → x + d ≡ y → x ≡ y - d
 less d e = omega arith
 
-three : (h : ℕ) (v : Signed) (parts : List ℕ) → Part 3 0 v (getD parts (48 + h) 0) → Part 3 1 v (getD parts (96 + h) 0) → Part 3 2 v (getD parts (144 + h) 0)
-    → (i : ℕ) → i < 3 → Part 3 i v (getD parts (48 * suc i + h) 0)
-three h v parts a b c zero lt = a
-three h v parts a b c (suc zero) lt = b
-three h v parts a b c (suc (suc zero)) lt = c
-three h v parts a b c (suc (suc (suc i))) lt = absurd (omega arith)
+three : (h : ℕ) (v : Signed) (l : List ℕ) → Part 3 0 v (getD l (240 + h) 0) → Part 3 1 v (getD l (288 + h) 0) → Part 3 2 v (getD l (336 + h) 0)
+    → (i : ℕ) → i < 3 → Part 3 i v (getD l (240 + 48 * i + h) 0)
+three h v l a b c zero lt = a
+three h v l a b c (suc zero) lt = b
+three h v l a b c (suc (suc zero)) lt = c
+three h v l a b c (suc (suc (suc i))) lt = absurd (omega arith)
 
 module _ (w line c n from top : ℕ) (lines odds evens : List ℕ) (low : 2 * (w + 2) ≤ line * (w + 2)) (wide : 8 ≤ w)
     (ef : from + 8 + (w + 2) ≡ line * (w + 2) + c) (et : top + 2 * (w + 2) ≡ line * (w + 2) + c + 1)
@@ -58,15 +58,15 @@ module _ (w line c n from top : ℕ) (lines odds evens : List ℕ) (low : 2 * (w
     unfolding evenContext
     prediction-is rf rc rb rd = refl
 
-    pub evens-ahead : (q : ℕ) (preds looks : List ℕ) → Filled 48 (PredictionAhead odds evens tops) n preds → Filled 48 (LookAhead q odds evens tops) n looks
-        → EvensAhead q w lines line c n preds looks
-    evens-ahead q preds looks p l =
+    pub even-here : (q rows h : ℕ) (l : List ℕ) → 5 ≤ rows → Rows (AheadRow q odds evens tops) rows n l → h < n → EvenHere q w lines line (c + 2 * h) h l
+    even-here q rows h l five r lt =
+        let z : 48 * 0 + h ≡ h = omega arith in
         record {
-          prediction = λ h lt inside. p .each h lt ∙ prediction-is _ _ _ _ ∙ ap (λ (x : Context). x .prediction) (context-is h lt);
-          look = λ h lt inside. l .each h lt ∙ ap (λ (x : Context). packedLook (lookOf q x)) (context-is h lt);
+          prediction = (rw z at (r .each 0 h (omega arith) lt)) ∙ prediction-is _ _ _ _ ∙ ap (λ (x : Context). x .prediction) (context-is h lt);
+          look = r .each 1 h (omega arith) lt ∙ ap (λ (x : Context). packedLook (lookOf q x)) (context-is h lt);
         }
 
-  module _ (h : ℕ) (lt : h < n) (far : 8 ≤ c + 2 * h) where
+  module _ (h : ℕ) (lt : h < n) (far : 8 ≤ c + 2 * h) (tops : List ℕ) where
     abbrev i : ℕ
     i = leftAt w line (c + 2 * h - 7)
 
@@ -79,40 +79,43 @@ module _ (w line c n from top : ℕ) (lines odds evens : List ℕ) (low : 2 * (w
     rd-is : getD evens (h + 1) 0 ≡ rdAt lines (w + 2) i
     rd-is = let e : from + 2 * (h + 1) + 1 ≡ i + 2 - (w + 2) = less (w + 2) (omega arith) in fe .each (h + 1) (omega arith) ∙ rw e
 
-    beyond-is : (beyond halvings : List ℕ) → Filled 48 (BeyondAhead odds evens) n beyond → Filled 48 (HalvingAhead odds evens) n halvings
-        → Beyond (rbAt lines (w + 2) i) (rcAt lines (w + 2) i) (rdAt lines (w + 2) i) (getD beyond h 0) (getD halvings h 0)
-    beyond-is beyond halvings b t = (rw (rb-is, rc-is, rd-is) at (b .each h lt), rw (rb-is, rc-is, rd-is) at (t .each h lt))
+    beyond-is : (b t : ℕ) → BeyondAhead odds evens h b → HalvingAhead odds evens h t → Beyond (rbAt lines (w + 2) i) (rcAt lines (w + 2) i) (rdAt lines (w + 2) i) b t
+    beyond-is b t eb et = (rw (rb-is, rc-is, rd-is) at eb, rw (rb-is, rc-is, rd-is) at et)
 
-    lossless-is : (parts sizes : List ℕ) → Filled 192 (MainAhead 0 odds evens) n parts
-        → Upper 0 (minus (rbAt lines (w + 2) i) (rcAt lines (w + 2) i)) parts sizes h
-    lossless-is parts sizes m =
+    pub lossless-here : (l : List ℕ) → Rows (AheadRow 0 odds evens tops) 5 n l → OddHere 0 w lines line (c + 2 * h - 7) h l
+    lossless-here l r =
         record {
-          main = rw (rb-is, rc-is) at (m .each h lt);
-          flat = λ one. absurd (omega arith);
-          size = λ one. absurd (omega arith);
+          prediction = beyond-is _ _ (r .each 2 h (omega arith) lt) (r .each 3 h (omega arith) lt);
+          gradient = record {
+            main = rw (rb-is, rc-is) at (r .each 4 h (omega arith) lt);
+            flat = λ one. absurd (omega arith);
+            size = λ one. absurd (omega arith);
+          };
         }
 
-    lossy-is : (q : ℕ) (parts sizes : List ℕ) → PartsAhead q odds evens n parts → Filled 48 (SizeAhead odds evens) n sizes
-        → Upper q (minus (rbAt lines (w + 2) i) (rcAt lines (w + 2) i)) parts sizes h
-    lossy-is q parts sizes m z =
+    pub lossy-here : (q : ℕ) (l : List ℕ) → Rows (AheadRow q odds evens tops) 9 n l → OddHere q w lines line (c + 2 * h - 7) h l
+    lossy-here q l r =
         record {
-          main = rw (rb-is, rc-is) at (m .main h lt);
-          flat = λ one small. three h (minus (rbAt lines (w + 2) i) (rcAt lines (w + 2) i)) parts ((rw (rb-is, rc-is) at (m .first h lt)) small) ((rw (rb-is, rc-is) at (m .second h lt)) small) ((rw (rb-is, rc-is) at (m .third h lt)) small);
-          size = λ one. rw (rb-is, rc-is) at (z .each h lt);
+          prediction = beyond-is _ _ (r .each 2 h (omega arith) lt) (r .each 3 h (omega arith) lt);
+          gradient = record {
+            main = rw (rb-is, rc-is) at (r .each 4 h (omega arith) lt);
+            flat = λ one small.
+                three h (minus (rbAt lines (w + 2) i) (rcAt lines (w + 2) i)) l ((rw (rb-is, rc-is) at (r .each 5 h (omega arith) lt)) small)
+                ((rw (rb-is, rc-is) at (r .each 6 h (omega arith) lt)) small) ((rw (rb-is, rc-is) at (r .each 7 h (omega arith) lt)) small);
+            size = λ one. rw (rb-is, rc-is) at (r .each 8 h (omega arith) lt);
+          };
         }
 
-  pub lossless-ahead : (beyond halvings parts sizes : List ℕ) → Filled 48 (BeyondAhead odds evens) n beyond → Filled 48 (HalvingAhead odds evens) n halvings
-      → Filled 192 (MainAhead 0 odds evens) n parts → OddsAhead 0 w lines line c n beyond halvings parts sizes
-  lossless-ahead beyond halvings parts sizes b t m =
-      record { prediction = λ h lt far. beyond-is h lt far beyond halvings b t; gradient = λ h lt far. lossless-is h lt far parts sizes m }
+  pub lossless-ahead : (tops l : List ℕ) → Filled 56 (Second lines top) n tops → Rows (AheadRow 0 odds evens tops) 5 n l → Ahead 0 w lines line c n l
+  lossless-ahead tops l ft r =
+      record { evens = λ h lt inside. even-here tops ft 0 5 h l (omega arith) r lt; odds = λ h lt far. lossless-here h lt far tops l r }
 
-  pub lossy-ahead : (q : ℕ) (beyond halvings parts sizes : List ℕ) → Filled 48 (BeyondAhead odds evens) n beyond → Filled 48 (HalvingAhead odds evens) n halvings
-      → PartsAhead q odds evens n parts → Filled 48 (SizeAhead odds evens) n sizes → OddsAhead q w lines line c n beyond halvings parts sizes
-  lossy-ahead q beyond halvings parts sizes b t m z =
-      record { prediction = λ h lt far. beyond-is h lt far beyond halvings b t; gradient = λ h lt far. lossy-is h lt far q parts sizes m z }
+  pub lossy-ahead : (q : ℕ) (tops l : List ℕ) → Filled 56 (Second lines top) n tops → Rows (AheadRow q odds evens tops) 9 n l → Ahead q w lines line c n l
+  lossy-ahead q tops l ft r =
+      record { evens = λ h lt inside. even-here tops ft q 9 h l (omega arith) r lt; odds = λ h lt far. lossy-here h lt far tops q l r }
 
 -- ---- what is known ahead reads the two lines above alone: where these stay, it stays
-module _ (q W line c n : ℕ) (lines new : List ℕ) (two : 2 ≤ line) (most : c + 2 * n ≤ W + 8)
+module _ (q W line : ℕ) (lines new : List ℕ) (two : 2 ≤ line)
     (same : (j : ℕ) → (line - 2) * (W + 2) ≤ j → j < line * (W + 2) → getD new j 0 ≡ getD lines j 0) where
   begins : line * (W + 2) ≡ (line - 2) * (W + 2) + 2 * (W + 2)
   begins = let e : line ≡ line - 2 + 2 = omega arith in ap (λ (m : ℕ). m * (W + 2)) e ∙ add-mul (line - 2) 2 (W + 2)
@@ -146,21 +149,23 @@ module _ (q W line c n : ℕ) (lines new : List ℕ) (two : 2 ≤ line) (most : 
   unfolding evenAt
   even-kept p h = rw (rf-kept p h, rc-kept p h, rb-kept p h, rd-kept p h)
 
-  odd-place : (h : ℕ) → h < n → 8 ≤ c + 2 * h → c + 2 * h - 7 < W
-  odd-place h lt far = omega arith
-
-  pub ahead-kept : (preds looks beyond halvings parts sizes : List ℕ) → Ahead q W lines line c n preds looks beyond halvings parts sizes
-      → Ahead q W new line c n preds looks beyond halvings parts sizes
-  ahead-kept preds looks beyond halvings parts sizes a =
+  pub even-here-kept : (p h : ℕ) (l : List ℕ) → p < W → EvenHere q W lines line p h l → EvenHere q W new line p h l
+  even-here-kept p h l inside e =
       record {
-        evens = record {
-          prediction = λ h lt inside. a .evens .prediction h lt inside ∙ ap (λ (x : Context). x .prediction) (even-kept (c + 2 * h) inside);
-          look = λ h lt inside. a .evens .look h lt inside ∙ ap (λ (x : Context). packedLook (lookOf q x)) (even-kept (c + 2 * h) inside);
-        };
-        odds = record {
-          prediction = λ h lt far.
-              let p = odd-place h lt far in
-              rw (rb-kept (c + 2 * h - 7) p, rc-kept (c + 2 * h - 7) p, rd-kept (c + 2 * h - 7) p) (a .odds .prediction h lt far);
-          gradient = λ h lt far. let p = odd-place h lt far in rw (rb-kept (c + 2 * h - 7) p, rc-kept (c + 2 * h - 7) p) (a .odds .gradient h lt far);
-        };
+        prediction = e .prediction ∙ ap (λ (x : Context). x .prediction) (even-kept p inside);
+        look = e .look ∙ ap (λ (x : Context). packedLook (lookOf q x)) (even-kept p inside);
+      }
+
+  pub odd-here-kept : (p h : ℕ) (l : List ℕ) → p < W → OddHere q W lines line p h l → OddHere q W new line p h l
+  odd-here-kept p h l inside e =
+      record {
+        prediction = rw (rb-kept p inside, rc-kept p inside, rd-kept p inside) (e .prediction);
+        gradient = rw (rb-kept p inside, rc-kept p inside) (e .gradient);
+      }
+
+  pub ahead-kept : (c n : ℕ) (l : List ℕ) → c + 2 * n ≤ W + 8 → Ahead q W lines line c n l → Ahead q W new line c n l
+  ahead-kept c n l most a =
+      record {
+        evens = λ h lt inside. even-here-kept (c + 2 * h) h l inside (a .evens h lt inside);
+        odds = λ h lt far. odd-here-kept (c + 2 * h - 7) h l (omega arith) (a .odds h lt far);
       }

@@ -1,7 +1,7 @@
 -- Loops that fill arrays, entry by entry. Assumes nothing.
 use mathlib.Core.List.{List}
 use mathlib.Core.Path.{_≡_, refl, sym, subst}
-use Prim.Native.Nat.{ℕ, _+_, _*_, _≤_, _<_}
+use Prim.Native.Nat.{ℕ, suc, _+_, _*_, _≤_, _<_}
 use native.Mathlib.Omega.{arith}
 use lib.ListN.{length, getD, set, length-set}
 use lib.Seq.{getD-set-same, getD-set-other}
@@ -32,64 +32,49 @@ fill-more size P n v l lt new e = record { all = simp length-set (e .all); each 
 pub fill-none : (size : ℕ) (P : ℕ → ℕ → Type 0) (l : List ℕ) → length l ≡ size → Filled size P 0 l
 fill-none size P l e = record { all = e; each = each-none here P l }
 
--- an entry in each of the four rows
-module _ (P0 P1 P2 P3 : ℕ → ℕ → Type 0) (n v0 v1 v2 v3 : ℕ) (l : List ℕ) (lt : n < 48) where
-  abbrev l0 : List ℕ
-  l0 = set l n v0
-
-  abbrev l1 : List ℕ
-  l1 = set l0 (48 + n) v1
-
-  abbrev l2 : List ℕ
-  l2 = set l1 (96 + n) v2
-
-  abbrev l3 : List ℕ
-  l3 = set l2 (144 + n) v3
-
-  pub rows-more : P0 n v0 → P1 n v1 → P2 n v2 → P3 n v3 → Rows P0 P1 P2 P3 n l → Rows P0 P1 P2 P3 (n + 1) l3
-  rows-more a b c d e =
-      let z : length l ≡ 192 = e .all in
-      let z0 : length l0 ≡ 192 = simp length-set z in
-      let z1 : length l1 ≡ 192 = simp length-set z in
-      let z2 : length l2 ≡ 192 = simp length-set z in
-      record {
-        all = simp length-set z;
-        main =
-            each-kept here P0 (n + 1) (144 + n) v3 l2 (λ h k q. omega arith)
-            (each-kept here P0 (n + 1) (96 + n) v2 l1 (λ h k q. omega arith)
-            (each-kept here P0 (n + 1) (48 + n) v1 l0 (λ h k q. omega arith)
-            (each-more here P0 n v0 l (omega arith) (λ h k q. omega arith) a (e .main))));
-        first =
-            each-kept (λ h. 48 + h) P1 (n + 1) (144 + n) v3 l2 (λ h k q. omega arith)
-            (each-kept (λ h. 48 + h) P1 (n + 1) (96 + n) v2 l1 (λ h k q. omega arith)
-            (each-more (λ h. 48 + h) P1 n v1 l0 (omega arith) (λ h k q. omega arith) b
-            (each-kept (λ h. 48 + h) P1 n n v0 l (λ h k q. omega arith) (e .first))));
-        second =
-            each-kept (λ h. 96 + h) P2 (n + 1) (144 + n) v3 l2 (λ h k q. omega arith)
-            (each-more (λ h. 96 + h) P2 n v2 l1 (omega arith) (λ h k q. omega arith) c
-            (each-kept (λ h. 96 + h) P2 n (48 + n) v1 l0 (λ h k q. omega arith)
-            (each-kept (λ h. 96 + h) P2 n n v0 l (λ h k q. omega arith) (e .second))));
-        third =
-            each-more (λ h. 144 + h) P3 n v3 l2 (omega arith) (λ h k q. omega arith) d
-            (each-kept (λ h. 144 + h) P3 n (96 + n) v2 l1 (λ h k q. omega arith)
-            (each-kept (λ h. 144 + h) P3 n (48 + n) v1 l0 (λ h k q. omega arith)
-            (each-kept (λ h. 144 + h) P3 n n v0 l (λ h k q. omega arith) (e .third))));
-      }
-
-pub rows-none : (P0 P1 P2 P3 : ℕ → ℕ → Type 0) (l : List ℕ) → length l ≡ 192 → Rows P0 P1 P2 P3 0 l
-rows-none P0 P1 P2 P3 l e =
-    record { all = e; main = each-none here P0 l; first = each-none (λ h. 48 + h) P1 l; second = each-none (λ h. 96 + h) P2 l; third = each-none (λ h. 144 + h) P3 l }
-
 -- fewer are there too
 pub fewer : (size : ℕ) (P : ℕ → ℕ → Type 0) (n m : ℕ) (l : List ℕ) → m ≤ n → Filled size P n l → Filled size P m l
 fewer size P n m l h e = record { all = e .all; each = λ k lt. e .each k (omega arith) }
 
-pub rows-fewer : (P0 P1 P2 P3 : ℕ → ℕ → Type 0) (n m : ℕ) (l : List ℕ) → m ≤ n → Rows P0 P1 P2 P3 n l → Rows P0 P1 P2 P3 m l
-rows-fewer P0 P1 P2 P3 n m l h e =
-    record {
-      all = e .all;
-      main = λ k lt. e .main k (omega arith);
-      first = λ k lt. e .first k (omega arith);
-      second = λ k lt. e .second k (omega arith);
-      third = λ k lt. e .third k (omega arith);
-    }
+-- ---- rows of 48 entries: those before row k have entry n too
+pub record Partly (P : ℕ → ℕ → ℕ → Type 0) (rows k n : ℕ) (l : List ℕ) : Type 0 where
+  pub all : length l ≡ 432
+  pub each : (r h : ℕ) → r < rows → h ≤ n → (h ≡ n → r < k) → P r h (getD l (48 * r + h) 0)
+
+same-or : {X : Type 0} (a b : ℕ) → (a ≡ b → X) → ((a ≡ b → ⊥) → X) → X
+same-or a b f g = split a b (λ h. split b a (λ k. f (omega arith)) (λ k. g (λ e. omega arith))) (λ h. g (λ e. omega arith))
+
+less : {a b : ℕ} → a < suc b → (a ≡ b → ⊥) → a < b
+less h f = omega (arith, f)
+
+module _ (P : ℕ → ℕ → ℕ → Type 0) (rows : ℕ) where
+  pub rows-none : (l : List ℕ) → length l ≡ 432 → Rows P rows 0 l
+  rows-none l e = record { all = e; each = λ r h a b. absurd (omega arith) }
+
+  pub rows-fewer : (n m : ℕ) (l : List ℕ) → m ≤ n → Rows P rows n l → Rows P rows m l
+  rows-fewer n m l h e = record { all = e .all; each = λ r k a b. e .each r k a (omega arith) }
+
+  pub turn-begins : {n : ℕ} {l : List ℕ} → Rows P rows n l → Partly P rows 0 n l
+  turn-begins e = record { all = e .all; each = λ r h a b f. e .each r h a (less (omega arith) (λ z. omega (arith, f z))) }
+
+  -- entry n of row k is stored
+  pub row-more : (k n j v : ℕ) (l : List ℕ) → n < 48 → k < 9 → j ≡ 48 * k + n → P k n v → Partly P rows k n l → Partly P rows (suc k) n (set l j v)
+  row-more k n j v l small row ej new e =
+      record {
+        all = simp length-set (e .all);
+        each = λ r h a b f.
+            same-or (48 * r + h) j
+            (λ eq.
+            let er : r ≡ k = omega arith in
+            let eh : h ≡ n = omega arith in
+            rw (er, eh) (subst (λ (x : ℕ). P k n x) (sym stored) new))
+            (λ ne.
+            subst (λ (x : ℕ). P r h x) (sym (getD-set-other l j (48 * r + h) v 0 ne))
+            (e .each r h a b (λ z. less (f z) (λ er. ne (omega arith)))));
+      }
+    where
+      stored : getD (set l j v) (48 * k + n) 0 ≡ v
+      stored = subst (λ (m : ℕ). getD (set l j v) m 0 ≡ v) ej (getD-set-same l j v 0 (omega (arith, e .all)))
+
+  pub turn-ends : {n : ℕ} {l : List ℕ} → Partly P rows rows n l → Rows P rows (n + 1) l
+  turn-ends e = record { all = e .all; each = λ r h a b. e .each r h a (omega arith) (λ z. a) }

@@ -82,12 +82,12 @@ choice-small : (q f c : ℕ) → c ≡ choiceOf q f → c ≤ 3
 choice-small q f c e = choice-cases q f (λ z. omega arith) (λ i z l h. omega arith)
 
 -- rows of the parts, and where their quantisers' records begin, fit their arrays
-pub rows-fit : (q j : ℕ) (rows firsts bases : List ℕ) → ByFlatness q rows firsts bases → j ≤ 8 → q < 256
-    → (getD rows j 0 ≤ 144) × (getD firsts j 0 < 2 ^ 16) × (getD bases j 0 < 256)
-rows-fit q j rows firsts bases t h s =
+pub rows-fit : (q j : ℕ) (l : List ℕ) → ByFlatness q l → j ≤ 8 → q < 256
+    → (getD l j 0 ≤ 336) × (getD l (9 + j) 0 < 2 ^ 16) × (getD l (18 + j) 0 < 256)
+rows-fit q j l t h s =
     let c : ℕ = choiceOf q j in
-    let l : c ≤ 3 = choice-small q j c refl in
-    (omega (arith, t .row j h), omega (arith, t .first j h, place-small c l), omega (arith, t .base j h, base-small c l))
+    let m : c ≤ 3 = choice-small q j c refl in
+    (omega (arith, t .row j h), omega (arith, t .first j h, place-small c m), omega (arith, t .base j h, base-small c m))
   where
     place-small : (c : ℕ) → c ≤ 3 → placeOf c 0 ≤ 51
     place-small c l = go (eqb c 0)
@@ -103,19 +103,19 @@ rows-fit q j rows firsts bases t h s =
         go true = s
         go false = omega arith
 
-pub lossy-aims : (q h size j part used : ℕ) (rows firsts bases parts : List ℕ) (u : Signed) (r : Aim) → ByFlatness q rows firsts bases → j ≡ min 8 (size + u .size)
-    → part ≡ getD parts (getD rows j 0 + h) 0 → used ≡ getD bases j 0 → Aimed used part (getD firsts j 0) u r → LossyAims q parts h size u r
-lossy-aims q h size j part used rows firsts bases parts u r t ej ep eu a v p es =
+pub lossy-aims : (q h size j part used : ℕ) (flats parts : List ℕ) (u : Signed) (r : Aim) → ByFlatness q flats → j ≡ min 8 (size + u .size)
+    → part ≡ getD parts (getD flats j 0 + h) 0 → used ≡ getD flats (18 + j) 0 → Aimed used part (getD flats (9 + j) 0) u r → LossyAims q parts h size u r
+lossy-aims q h size j part used flats parts u r t ej ep eu a v p es =
     let le : j ≤ 8 = omega arith in
     let ec : choiceOf q j ≡ choiceOf q (v .size + u .size) = rw (ej, es) (near-choice q (v .size) (u .size)) in
     let b : Aimed (usedBase q (choiceOf q j)) part (56 + placeOf (choiceOf q j) 0) u r = rw (eu, t .first j le, t .base j le) at a in
     choice-cases q j
     (λ z.
-    let row : getD rows j 0 + h ≡ h = omega (arith, t .row j le) in
+    let row : getD flats j 0 + h ≡ 192 + h = omega (arith, t .row j le) in
     let m : Part 9 q v part = rw (ep, row) (p .main) in
     aims q 0 q 9 0 part v u r (sym z ∙ ec) refl refl refl m (rw z at b))
     (λ i z l f.
-    let row : getD rows j 0 + h ≡ 48 * suc i + h = omega (arith, t .row j le) in
+    let row : getD flats j 0 + h ≡ 240 + 48 * i + h = omega (arith, t .row j le) in
     let m : Part 3 i v part = rw (ep, row) (p .flat (omega arith) i l) in
     aims q (suc i) i 3 (placeOf (suc i) 0) part v u r (sym z ∙ ec) (flat-base i) (flat-weight i) refl m (based i (rw z at b)))
   where
@@ -129,8 +129,8 @@ lossy-aims q h size j part used rows firsts bases parts u r t ej ep eu a v p es 
     based i x = subst (λ (n : ℕ). Aimed n part (56 + placeOf (suc i) 0) u r) (sym (flat-base i)) x
 
 -- the parts of a line that is not lossless
-pub upper-parts : (q h : ℕ) (v : Signed) (parts sizes : List ℕ) → 1 ≤ q → Upper q v parts sizes h → Parts q v parts h
-upper-parts q h v parts sizes one x = record { main = x .main; flat = x .flat one }
+pub upper-parts : (q h : ℕ) (v : Signed) (l : List ℕ) → 1 ≤ q → Upper q v l h → Parts q v l h
+upper-parts q h v l one x = record { main = x .main; flat = x .flat one }
 
 -- ---- among the lines
 
@@ -154,15 +154,15 @@ look-at q S i lines = refl
 pub own-serves : (q m : ℕ) (t : Thresholds) → t ≡ thresholdsOf q → Serves t m
 own-serves q m t e = rw e (refl, refl, refl, omega arith, omega arith, omega arith)
 
-module _ (q S i h : ℕ) (lines parts sizes : List ℕ) (ra rc : ℕ) (r : Aim) (ea : ra ≡ getD lines i 0) (ec : rc ≡ rcAt lines S i)
-    (up : Upper q (minus (rbAt lines S i) (rcAt lines S i)) parts sizes h) where
-  pub aims-lossless-at : (used part : ℕ) → q ≡ 0 → used ≡ 0 → part ≡ getD parts h 0 → Aimed used part 56 (minus rc ra) r → AimsAt (lookOf q (oddAt lines S i)) r
+module _ (q S i h : ℕ) (lines l : List ℕ) (ra rc : ℕ) (r : Aim) (ea : ra ≡ getD lines i 0) (ec : rc ≡ rcAt lines S i)
+    (up : Upper q (minus (rbAt lines S i) (rcAt lines S i)) l h) where
+  pub aims-lossless-at : (used part : ℕ) → q ≡ 0 → used ≡ 0 → part ≡ getD l (192 + h) 0 → Aimed used part 56 (minus rc ra) r → AimsAt (lookOf q (oddAt lines S i)) r
   aims-lossless-at used part z eu ep a =
       let b : Aimed 0 part 56 (minus (rcAt lines S i) (getD lines i 0)) r = rw (eu, ec, ea) at a in
       rw (look-at q S i lines) (lossless-aims q part 56 _ _ r z refl (rw ep (up .main)) b)
 
-  pub aims-lossy-at : (size : ℕ) → (q ≡ 0 → ⊥) → size ≡ getD sizes h 0 → LossyAims q parts h size (minus rc ra) r → AimsAt (lookOf q (oddAt lines S i)) r
+  pub aims-lossy-at : (size : ℕ) → (q ≡ 0 → ⊥) → size ≡ getD l (384 + h) 0 → LossyAims q l h size (minus rc ra) r → AimsAt (lookOf q (oddAt lines S i)) r
   aims-lossy-at size nz es a =
       let one : 1 ≤ q = omega (arith, nz) in
-      let b : LossyAims q parts h size (minus (rcAt lines S i) (getD lines i 0)) r = rw (ec, ea) at a in
-      rw (look-at q S i lines) (b _ (upper-parts q h _ parts sizes one up) (es ∙ up .size one))
+      let b : LossyAims q l h size (minus (rcAt lines S i) (getD lines i 0)) r = rw (ec, ea) at a in
+      rw (look-at q S i lines) (b _ (upper-parts q h _ l one up) (es ∙ up .size one))

@@ -5,12 +5,14 @@ use mathlib.Core.Path.{_≡_, refl, sym, ap, _∙_}
 use Prim.Native.Nat.{ℕ, zero, suc, _+_, _*_, _≤_, _<_}
 use native.Mathlib.Omega.{arith}
 use lib.Dec.{T, leb, ltb, eqb, eqb→eq}
-use lib.ListN.{length, getD, replicate}
+use lib.ListN.{length, getD, set, length-set, replicate}
+use Rattle.numbers.proofs.TableLaws.{both-left, both-right}
 use Rattle.code.specs.Samples.{choiceOf}
 use Rattle.pass_steps.specs.Contexts.{usedBase, placeOf}
 use Rattle.pass_ahead.specs.Odds.{ByFlatness}
-use Rattle.pass_ahead.specs.Arrays.{Filled}
+use Rattle.pass_ahead.specs.Arrays.{Each, here, Filled}
 use Rattle.pass_ahead.specs.Tables.{choiceAt, Five, BySlot}
+use Rattle.pass_ahead.proofs.ArrayLaws.{each-kept, each-more}
 
 abbrev inFive : ℕ → ℕ → Bool
 inFive at i = leb at i && ltb i (at + 5)
@@ -23,14 +25,6 @@ putAt i =
 abbrev allPut : ℕ → ℕ → Bool
 allPut zero i = true
 allPut (suc n) i = eqb (putAt i) (choiceAt i) && allPut n (suc i)
-
-both-left : (a b : Bool) → T (a && b) → T a
-both-left true b t = tt
-both-left false b t = t
-
-both-right : (a b : Bool) → T (a && b) → T b
-both-right true b t = t
-both-right false b t = absurd t
 
 put-from : (n i k : ℕ) → T (allPut n i) → k < n → putAt (i + k) ≡ choiceAt (i + k)
 put-from zero i k t h = absurd (omega arith)
@@ -76,16 +70,35 @@ slots m x y z l0 l1 l2 l3 l4 l5 l6 e0 e1 e2 e3 e4 e5 e6 all =
           ∙ ap (λ (k : ℕ). getD (m ∷ x ∷ y ∷ z ∷ []) k 0) (put-is i h));
     }
 
--- the three lists by flatness
-abbrev pub RowOf : ℕ → ℕ → ℕ → Type 0
-RowOf q j v = v ≡ 48 * choiceOf q j
+-- the three rows by flatness
+pub record Flats (q n : ℕ) (l : List ℕ) : Type 0 where
+  pub all : length l ≡ 27
+  pub rows : Each here (λ j v. v ≡ 192 + 48 * choiceOf q j) n l
+  pub firsts : Each (λ j. 9 + j) (λ j v. v ≡ 56 + placeOf (choiceOf q j) 0) n l
+  pub bases : Each (λ j. 18 + j) (λ j v. v ≡ usedBase q (choiceOf q j)) n l
 
-abbrev pub FirstOf : ℕ → ℕ → ℕ → Type 0
-FirstOf q j v = v ≡ 56 + placeOf (choiceOf q j) 0
+pub flats-none : (q : ℕ) (l : List ℕ) → length l ≡ 27 → Flats q 0 l
+flats-none q l e = record { all = e; rows = λ h lt. absurd (omega arith); firsts = λ h lt. absurd (omega arith); bases = λ h lt. absurd (omega arith) }
 
-abbrev pub BaseOf : ℕ → ℕ → ℕ → Type 0
-BaseOf q j v = v ≡ usedBase q (choiceOf q j)
+pub flats-more : (q j u v w : ℕ) (l : List ℕ) → j < 9 → u ≡ 192 + 48 * choiceOf q j → v ≡ 56 + placeOf (choiceOf q j) 0 → w ≡ usedBase q (choiceOf q j)
+    → Flats q j l → Flats q (j + 1) (set (set (set l j u) (9 + j) v) (18 + j) w)
+flats-more q j u v w l lt eu ev ew e =
+    record {
+      all = simp length-set (e .all);
+      rows =
+          each-kept here (λ j v. v ≡ 192 + 48 * choiceOf q j) (j + 1) (18 + j) w (set (set l j u) (9 + j) v) (λ h k x. omega arith)
+          (each-kept here (λ j v. v ≡ 192 + 48 * choiceOf q j) (j + 1) (9 + j) v (set l j u) (λ h k x. omega arith)
+          (each-more here (λ j v. v ≡ 192 + 48 * choiceOf q j) j u l (omega (arith, e .all)) (λ h k x. omega arith) eu (e .rows)));
+      firsts =
+          each-kept (λ j. 9 + j) (λ j v. v ≡ 56 + placeOf (choiceOf q j) 0) (j + 1) (18 + j) w (set (set l j u) (9 + j) v) (λ h k x. omega arith)
+          (each-more (λ j. 9 + j) (λ j v. v ≡ 56 + placeOf (choiceOf q j) 0) j v (set l j u) (simp length-set (omega (arith, e .all))) (λ h k x. omega arith) ev
+          (each-kept (λ j. 9 + j) (λ j v. v ≡ 56 + placeOf (choiceOf q j) 0) j j u l (λ h k x. omega arith) (e .firsts)));
+      bases =
+          each-more (λ j. 18 + j) (λ j v. v ≡ usedBase q (choiceOf q j)) j w (set (set l j u) (9 + j) v) (simp length-set (omega (arith, e .all))) (λ h k x. omega arith) ew
+          (each-kept (λ j. 18 + j) (λ j v. v ≡ usedBase q (choiceOf q j)) j (9 + j) v (set l j u) (λ h k x. omega arith)
+          (each-kept (λ j. 18 + j) (λ j v. v ≡ usedBase q (choiceOf q j)) j j u l (λ h k x. omega arith) (e .bases)));
+    }
 
-pub by-flatness : (q n : ℕ) (rows firsts bases : List ℕ) → 9 ≤ n → Filled 9 (RowOf q) n rows → Filled 9 (FirstOf q) n firsts → Filled 9 (BaseOf q) n bases → ByFlatness q rows firsts bases
-by-flatness q n rows firsts bases h r f b =
-    record { row = λ j l. r .each j (omega arith); first = λ j l. f .each j (omega arith); base = λ j l. b .each j (omega arith) }
+pub by-flatness : (q n : ℕ) (l : List ℕ) → 9 ≤ n → Flats q n l → ByFlatness q l
+by-flatness q n l h e =
+    record { row = λ j k. e .rows j (omega arith); first = λ j k. e .firsts j (omega arith); base = λ j k. e .bases j (omega arith) }

@@ -2,7 +2,7 @@
 use mathlib.Core.Bool.{cond}
 use mathlib.Core.List.{List}
 use mathlib.Core.Path.{_≡_}
-use Prim.Native.Nat.{ℕ, _+_, _-_, _*_, _≤_, _<_, min}
+use Prim.Native.Nat.{ℕ, zero, suc, _+_, _-_, _*_, _≤_, _<_, min}
 use lib.ListN.{length, getD}
 use Rattle.numbers.specs.Numbers.{distance, minus, flag}
 use Rattle.prediction.specs.Predictions.{evenPrediction, evenContext, extreme}
@@ -55,42 +55,42 @@ FlatAhead i odds evens h v = distance (getD odds (h + 1) 0) (getD evens h 0) ≤
 abbrev pub SizeAhead : List ℕ → List ℕ → ℕ → ℕ → Type 0
 SizeAhead odds evens h v = v ≡ min 8 (distance (getD odds (h + 1) 0) (getD evens h 0))
 
--- the four rows of the parts
-pub record Rows (P0 P1 P2 P3 : ℕ → ℕ → Type 0) (n : ℕ) (l : List ℕ) : Type 0 where
-  pub all : length l ≡ 192
-  pub main : Each here P0 n l
-  pub first : Each (λ h. 48 + h) P1 n l
-  pub second : Each (λ h. 96 + h) P2 n l
-  pub third : Each (λ h. 144 + h) P3 n l
+-- ---- the rows, of 48 entries each
 
-abbrev pub PartsAhead : ℕ → List ℕ → List ℕ → ℕ → List ℕ → Type 0
-PartsAhead q odds evens = Rows (MainAhead q odds evens) (FlatAhead 0 odds evens) (FlatAhead 1 odds evens) (FlatAhead 2 odds evens)
+-- what row r has at h; a lossless line has rows 0 to 4 alone
+abbrev pub AheadRow : ℕ → List ℕ → List ℕ → List ℕ → ℕ → ℕ → ℕ → Type 0
+AheadRow q odds evens tops zero h v = PredictionAhead odds evens tops h v
+AheadRow q odds evens tops (suc zero) h v = LookAhead q odds evens tops h v
+AheadRow q odds evens tops (suc (suc zero)) h v = BeyondAhead odds evens h v
+AheadRow q odds evens tops (suc (suc (suc zero))) h v = HalvingAhead odds evens h v
+AheadRow q odds evens tops (suc (suc (suc (suc zero)))) h v = MainAhead q odds evens h v
+AheadRow q odds evens tops (suc (suc (suc (suc (suc zero))))) h v = FlatAhead 0 odds evens h v
+AheadRow q odds evens tops (suc (suc (suc (suc (suc (suc zero)))))) h v = FlatAhead 1 odds evens h v
+AheadRow q odds evens tops (suc (suc (suc (suc (suc (suc (suc zero))))))) h v = FlatAhead 2 odds evens h v
+AheadRow q odds evens tops (suc (suc (suc (suc (suc (suc (suc (suc r)))))))) h v = SizeAhead odds evens h v
 
--- ---- n turns of a pass in a line with base q, from position c on, in lines of W samples
+-- the first n entries of each row are as they should be
+pub record Rows (P : ℕ → ℕ → ℕ → Type 0) (rows n : ℕ) (l : List ℕ) : Type 0 where
+  pub all : length l ≡ 432
+  pub each : (r h : ℕ) → r < rows → h < n → P r h (getD l (48 * r + h) 0)
+
+-- ---- among the lines of W samples
 
 -- the place before that of position p
 abbrev pub leftAt : ℕ → ℕ → ℕ → ℕ
 leftAt W line p = line * (W + 2) + p
 
-pub record EvensAhead (q W : ℕ) (lines : List ℕ) (line c n : ℕ) (preds looks : List ℕ) : Type 0 where
-  pub prediction : (h : ℕ) → h < n → c + 2 * h < W → getD preds h 0 ≡ (evenAt lines (W + 2) (leftAt W line (c + 2 * h))) .prediction
-  pub look : (h : ℕ) → h < n → c + 2 * h < W → getD looks h 0 ≡ packedLook (lookOf q (evenAt lines (W + 2) (leftAt W line (c + 2 * h))))
+-- entry h is that of the even position p of a line with base q, and that of the odd one
+pub record EvenHere (q W : ℕ) (lines : List ℕ) (line p h : ℕ) (l : List ℕ) : Type 0 where
+  pub prediction : getD l h 0 ≡ (evenAt lines (W + 2) (leftAt W line p)) .prediction
+  pub look : getD l (48 + h) 0 ≡ packedLook (lookOf q (evenAt lines (W + 2) (leftAt W line p)))
 
-pub record OddsAhead (q W : ℕ) (lines : List ℕ) (line c n : ℕ) (beyond halvings parts sizes : List ℕ) : Type 0 where
-  pub prediction : (h : ℕ) → h < n → 8 ≤ c + 2 * h → let i = leftAt W line (c + 2 * h - 7) in
-      Beyond (rbAt lines (W + 2) i) (rcAt lines (W + 2) i) (rdAt lines (W + 2) i) (getD beyond h 0) (getD halvings h 0)
-  pub gradient : (h : ℕ) → h < n → 8 ≤ c + 2 * h → let i = leftAt W line (c + 2 * h - 7) in
-      Upper q (minus (rbAt lines (W + 2) i) (rcAt lines (W + 2) i)) parts sizes h
+pub record OddHere (q W : ℕ) (lines : List ℕ) (line p h : ℕ) (l : List ℕ) : Type 0 where
+  pub prediction : let i = leftAt W line p in
+      Beyond (rbAt lines (W + 2) i) (rcAt lines (W + 2) i) (rdAt lines (W + 2) i) (getD l (96 + h) 0) (getD l (144 + h) 0)
+  pub gradient : let i = leftAt W line p in Upper q (minus (rbAt lines (W + 2) i) (rcAt lines (W + 2) i)) l h
 
-pub record Ahead (q W : ℕ) (lines : List ℕ) (line c n : ℕ) (preds looks beyond halvings parts sizes : List ℕ) : Type 0 where
-  pub evens : EvensAhead q W lines line c n preds looks
-  pub odds : OddsAhead q W lines line c n beyond halvings parts sizes
-
--- the arrays have their sizes
-pub record Sized (preds looks beyond halvings parts sizes : List ℕ) : Type 0 where
-  pub all-preds : length preds ≡ 48
-  pub all-looks : length looks ≡ 48
-  pub all-beyond : length beyond ≡ 48
-  pub all-halvings : length halvings ≡ 48
-  pub all-parts : length parts ≡ 192
-  pub all-sizes : length sizes ≡ 48
+-- n turns of a pass, from position c on
+pub record Ahead (q W : ℕ) (lines : List ℕ) (line c n : ℕ) (l : List ℕ) : Type 0 where
+  pub evens : (h : ℕ) → h < n → c + 2 * h < W → EvenHere q W lines line (c + 2 * h) h l
+  pub odds : (h : ℕ) → h < n → 8 ≤ c + 2 * h → OddHere q W lines line (c + 2 * h - 7) h l

@@ -3,24 +3,28 @@
 ghost use mathlib.Core.Path.{_≡_};
 ghost use mathlib.Core.Bool.{cond};
 ghost use Prim.Native.Nat.{_+_, _-_, _*_, _/_, _%_, _^_, _≤_, _<_, min};
-ghost use lib.Dec.{leb, ltb, eqb};
-ghost use lib.ListN.{length, getD, set};
+ghost use lib.Dec.{ltb};
+ghost use lib.ListN.{length, getD};
 ghost use Rattle.numbers.specs.Numbers.{distance, minus, flag};
-ghost use lib.Count.{leadingZeros};
-ghost use Rattle.statistics.specs.Statistics.{kOf, updated, InRange};
 ghost use Rattle.quantiser.specs.Quantisers.{levelSize, Serves};
 ghost use Rattle.prediction.specs.Predictions.{most, evenPrediction, extreme};
-ghost use Rattle.code.specs.Samples.{choiceOf, residualOf, sampleOf};
-ghost use Rattle.pass_steps.specs.Contexts.{usedBase, usedWeight, placeOf, lookOf, noRecord};
-ghost use Rattle.pass_steps.specs.Values.{zipRecords, SetInRange, AreKs, oddAt};
+ghost use Rattle.code.specs.Samples.{choiceOf};
+ghost use Rattle.pass_steps.specs.Contexts.{usedBase, usedWeight, placeOf, lookOf};
+ghost use Rattle.pass_steps.specs.Values.{oddAt};
 ghost use Rattle.pass_ahead.specs.Looks.{packedLook, lookBy, marksOf, boundsOf, reachedOf, Marked, Raised, Part};
 ghost use Rattle.pass_ahead.specs.Odds.{rcAt, rbAt, rdAt, Beyond, Upper, Continued, AimsAt, LossyAims, ByFlatness};
-ghost use Rattle.pass_ahead.specs.Arrays.{Filled, Second, After, PredictionAhead, LookAhead, BeyondAhead, HalvingAhead, MainAhead, SizeAhead, PartsAhead, Sized, Ahead};
-ghost use Rattle.pass_ahead.specs.Tables.{AreNext, AreDigits, choiceAt, Five, BySlot};
+ghost use Rattle.pass_ahead.specs.Arrays.{Filled, Second, After, Rows, AheadRow, Ahead};
 use numbers::Signed;
-use numbers::u8_to_u32;
 use numbers::u16_to_u32;
 use quantiser::Thresholds;
+
+mod records;
+
+pub use records::by_slot;
+pub use records::digits_table;
+pub use records::next_table;
+pub use records::sample_by;
+pub use records::update_by;
 
 // ---- numbers of 16 bits
 
@@ -234,19 +238,18 @@ pub fn odd_prediction_at(
     lines: &[u16],
     s: usize,
     i: usize,
-    beyond: &[u16; 48],
-    halvings: &[u16; 48],
+    ahead: &[u16; 432],
     h: usize,
 ) -> u32
     requires { ⌜ (h < 48) × ((s ≤ 514) × ((s ≤ i) × (i + 2 < length (now lines)))) ⌝ }
-    requires { ⌜ Beyond (rbAt (now lines) s i) (rcAt (now lines) s i) (rdAt (now lines) s i) (getD (now beyond) h 0) (getD (now halvings) h 0) ⌝ }
+    requires { ⌜ Beyond (rbAt (now lines) s i) (rcAt (now lines) s i) (rdAt (now lines) s i) (getD (now ahead) (96 + h) 0) (getD (now ahead) (144 + h) 0) ⌝ }
     ensures { λ r. ⌜ r ≡ (oddAt (now (lines .entry)) s i) .prediction ⌝ }
 {
     odd_prediction(
         u16_to_u32(lines[i]),
         u16_to_u32(lines[i + 2]),
-        u16_to_u32(beyond[h]),
-        u16_to_u32(halvings[h]),
+        u16_to_u32(ahead[96 + h]),
+        u16_to_u32(ahead[144 + h]),
     )
 }
 
@@ -259,28 +262,26 @@ fn gradient_with(t: Thresholds, part: u32, rc: u32, ra: u32) -> Signed
     numbers::difference(part + quantiser::raised_level(t, v), 40)
 }
 
-// Where the record of an odd position is in a line that is not lossless. The lists have for each flatness, 8 at most, the row of the parts, the first of the quantiser's records, and its base.
+// Where the record of an odd position is in a line that is not lossless.
 fn lossy_aim(
     base: u32,
-    rows: &[u32; 9],
-    firsts: &[u32; 9],
-    bases: &[u32; 9],
-    parts: &[u16; 192],
+    flatness: &[u32; 27],
+    ahead: &[u16; 432],
     h: usize,
     size: u32,
     rc: u32,
     ra: u32,
 ) -> Aim
     requires { ⌜ (base < 256) × ((h < 48) × ((size < 2 ^ 16) × ((rc < 2 ^ 16) × (ra < 2 ^ 16)))) ⌝ }
-    requires { ⌜ ByFlatness base (now rows) (now firsts) (now bases) ⌝ }
-    ensures { λ r. ⌜ LossyAims base (now (parts .entry)) h size (minus rc ra) r ⌝ }
+    requires { ⌜ ByFlatness base (now flatness) ⌝ }
+    ensures { λ r. ⌜ LossyAims base (now (ahead .entry)) h size (minus rc ra) r ⌝ }
 {
     let j = numbers::smaller(8, size + numbers::distance(rc, ra)) as usize;
-    let row = rows[j] as usize;
-    let t = quantiser::thresholds_of(base).with_base(bases[j]);
-    let g = gradient_with(t, u16_to_u32(parts[row + h]), rc, ra);
+    let row = flatness[j] as usize;
+    let t = quantiser::thresholds_of(base).with_base(flatness[18 + j]);
+    let g = gradient_with(t, u16_to_u32(ahead[row + h]), rc, ra);
     Aim {
-        slot: (firsts[j] + g.size) as usize,
+        slot: (flatness[9 + j] + g.size) as usize,
         flip: numbers::flag(g.negative),
     }
 }
@@ -291,22 +292,19 @@ pub fn odd_aim_at(
     s: usize,
     i: usize,
     base: u32,
-    rows: &[u32; 9],
-    firsts: &[u32; 9],
-    bases: &[u32; 9],
-    parts: &[u16; 192],
-    sizes: &[u16; 48],
+    flatness: &[u32; 27],
+    ahead: &[u16; 432],
     h: usize,
 ) -> Aim
     requires { ⌜ (h < 48) × ((s ≤ 514) × ((s ≤ i) × (i + 2 < length (now lines)))) ⌝ }
-    requires { ⌜ (base < 256) × ByFlatness base (now rows) (now firsts) (now bases) ⌝ }
-    requires { ⌜ Upper base (minus (rbAt (now lines) s i) (rcAt (now lines) s i)) (now parts) (now sizes) h ⌝ }
+    requires { ⌜ (base < 256) × ByFlatness base (now flatness) ⌝ }
+    requires { ⌜ Upper base (minus (rbAt (now lines) s i) (rcAt (now lines) s i)) (now ahead) h ⌝ }
     ensures { λ r. ⌜ AimsAt (lookOf base (oddAt (now (lines .entry)) s i)) r ⌝ }
 {
     let ra = u16_to_u32(lines[i]);
     let rc = u16_to_u32(lines[i - s]);
     if base == 0 {
-        let g = gradient_with(quantiser::thresholds_of(0), u16_to_u32(parts[h]), rc, ra);
+        let g = gradient_with(quantiser::thresholds_of(0), u16_to_u32(ahead[192 + h]), rc, ra);
         return Aim {
             slot: g.size as usize + 56,
             flip: numbers::flag(g.negative),
@@ -314,25 +312,16 @@ pub fn odd_aim_at(
     }
     lossy_aim(
         base,
-        rows,
-        firsts,
-        bases,
-        parts,
+        flatness,
+        ahead,
         h,
-        u16_to_u32(sizes[h]),
+        u16_to_u32(ahead[384 + h]),
         rc,
         ra,
     )
 }
 
 // ---- lists by flatness and by record
-
-// What a flatness decides, 8 at most, for an odd position: the row of the parts, the first of the quantiser's records in a set, and its base.
-pub struct Flatness {
-    pub rows: [u32; 9],
-    pub firsts: [u32; 9],
-    pub bases: [u32; 9],
-}
 
 fn first_slot(choice: u32) -> u32
     requires { ⌜ choice ≤ 3 ⌝ }
@@ -347,279 +336,20 @@ fn used_base(choice: u32, base: u32) -> u32
     if choice == 0 { base } else { choice - 1 }
 }
 
-pub fn by_flatness(base: u32) -> Flatness
-    ensures { λ r. ⌜ ByFlatness base (r .rows) (r .firsts) (r .bases) ⌝ }
+// What a flatness decides, 8 at most, for an odd position: at j its row of what is known ahead, at 9 + j the first of the quantiser's records, at 18 + j its base.
+pub fn by_flatness(base: u32) -> [u32; 27]
+    ensures { λ r. ⌜ ByFlatness base r ⌝ }
 {
-    let mut rows = [0u32; 9];
-    let mut firsts = [0u32; 9];
-    let mut bases = [0u32; 9];
+    let mut r = [0u32; 27];
     let mut j = 0usize;
     while j < 9 {
         let choice = code::choice(base, j as u32);
-        rows[j] = 48 * choice;
-        firsts[j] = first_slot(choice);
-        bases[j] = used_base(choice, base);
+        r[j] = 192 + 48 * choice;
+        r[9 + j] = first_slot(choice);
+        r[18 + j] = used_base(choice, base);
         j += 1;
     }
-    Flatness {
-        rows,
-        firsts,
-        bases,
-    }
-}
-
-// Five entries from place `at` on.
-fn put_five(r: &mut [u16; 112], at: usize, v: u16)
-    requires { ⌜ (at ≤ 107) × (length (now r) ≡ 112) ⌝ }
-    ensures { λ _. ⌜ (length (now (r .exit)) ≡ 112) × Five at v (now (r .entry)) (now (r .exit)) ⌝ }
-{
-    let mut i = at;
-    while i < at + 5 {
-        r[i] = v;
-        i += 1;
-    }
-}
-
-// A number of each of the four quantisers, for each record of a set.
-pub fn by_slot(main: u16, first: u16, second: u16, third: u16) -> [u16; 112]
-    ensures { λ r. ⌜ Filled 112 (BySlot main first second third) 112 r ⌝ }
-{
-    let mut r = [main; 112];
-    put_five(&mut r, 41, first);
-    put_five(&mut r, 46, second);
-    put_five(&mut r, 51, third);
-    put_five(&mut r, 97, first);
-    put_five(&mut r, 102, second);
-    put_five(&mut r, 107, third);
     r
-}
-
-// ---- a record and its k
-
-// What n becomes, and the digits of that less 1, for each n from 1 to 64.
-const NEXT: [u8; 65] = [
-    1,
-    2,
-    3,
-    4,
-    5,
-    6,
-    7,
-    8,
-    9,
-    10,
-    11,
-    12,
-    13,
-    14,
-    15,
-    16,
-    17,
-    18,
-    19,
-    20,
-    21,
-    22,
-    23,
-    24,
-    25,
-    26,
-    27,
-    28,
-    29,
-    30,
-    31,
-    32,
-    33,
-    34,
-    35,
-    36,
-    37,
-    38,
-    39,
-    40,
-    41,
-    42,
-    43,
-    44,
-    45,
-    46,
-    47,
-    48,
-    49,
-    50,
-    51,
-    52,
-    53,
-    54,
-    55,
-    56,
-    57,
-    58,
-    59,
-    60,
-    61,
-    62,
-    63,
-    64,
-    33,
-];
-
-const DIGITS: [u8; 65] = [
-    0,
-    1,
-    1,
-    2,
-    2,
-    2,
-    2,
-    3,
-    3,
-    3,
-    3,
-    3,
-    3,
-    3,
-    3,
-    4,
-    4,
-    4,
-    4,
-    4,
-    4,
-    4,
-    4,
-    4,
-    4,
-    4,
-    4,
-    4,
-    4,
-    4,
-    4,
-    5,
-    5,
-    5,
-    5,
-    5,
-    5,
-    5,
-    5,
-    5,
-    5,
-    5,
-    5,
-    5,
-    5,
-    5,
-    5,
-    5,
-    5,
-    5,
-    5,
-    5,
-    5,
-    5,
-    5,
-    5,
-    5,
-    5,
-    5,
-    5,
-    5,
-    5,
-    5,
-    6,
-    5,
-];
-
-pub fn next_table() -> [u8; 65]
-    ensures { λ r. ⌜ AreNext r ⌝ }
-{
-    NEXT
-}
-
-pub fn digits_table() -> [u8; 65]
-    ensures { λ r. ⌜ AreDigits r ⌝ }
-{
-    DIGITS
-}
-
-// The k of a record, from the digits of n less 1.
-fn k_with(sum: u32, n: u32, digits: u32) -> u32
-    requires { ⌜ InRange (record { sum = sum; n = n }) × (digits ≡ 31 - leadingZeros 32 n) ⌝ }
-    ensures { λ r. ⌜ r ≡ kOf (record { sum = sum; n = n }) ⌝ }
-{
-    let least = 31 - u32::leading_zeros(sum | n | 1) - digits;
-    numbers::smaller(15, least + numbers::flag(n << least < sum))
-}
-
-// `pass_steps::update_with_k` of the record that is there, by lists for n.
-pub fn update_by(
-    sums: &mut [u32; 112],
-    ns: &mut [u32; 112],
-    ks: &mut [u32; 112],
-    next: &[u8; 65],
-    digits: &[u8; 65],
-    slot: usize,
-    code: u32,
-)
-    requires { ⌜ (code < 63 * 2 ^ 15) × ((slot < 112) × (AreNext (now next) × AreDigits (now digits))) ⌝ }
-    requires { ⌜ SetInRange (zipRecords (now sums) (now ns)) ⌝ }
-    requires { ⌜ AreKs (zipRecords (now sums) (now ns)) (now ks) ⌝ }
-    ensures { λ _. ⌜ zipRecords (now (sums .exit)) (now (ns .exit))
-        ≡ set (zipRecords (now (sums .entry)) (now (ns .entry))) slot
-        (updated (getD (zipRecords (now (sums .entry)) (now (ns .entry))) slot noRecord) ((residualOf code) .size)) ⌝ }
-    ensures { λ _. ⌜ SetInRange (zipRecords (now (sums .exit)) (now (ns .exit))) ⌝ }
-    ensures { λ _. ⌜ AreKs (zipRecords (now (sums .exit)) (now (ns .exit))) (now (ks .exit)) ⌝ }
-{
-    let n = ns[slot];
-    let old = n as usize;
-    let sum = (sums[slot] + code::residual_size(code)) >> numbers::flag(n == 64);
-    let more = u8_to_u32(next[old]);
-    sums[slot] = sum;
-    ns[slot] = more;
-    ks[slot] = k_with(sum, more, u8_to_u32(digits[old]));
-}
-
-// ---- a sample
-
-// The quantiser of a record.
-fn choice_at(slot: usize) -> usize
-    ensures { λ r. ⌜ (r ≡ choiceAt slot) × (r ≤ 3) ⌝ }
-{
-    let place = slot % 56;
-    if place < 41 {
-        return 0;
-    }
-    (place - 36) / 5
-}
-
-// `code::samples::sample` by the step 2 * base + 1, and by a number that is odd where the gradient is negative.
-pub fn sample_by(
-    m: u32,
-    step: u32,
-    totals: &[u32; 4],
-    slot: usize,
-    flip: u32,
-    prediction: u32,
-    code: u32,
-) -> u32
-    requires { ⌜ (m < 2 ^ 16) × ((step < 512) × ((step % 2 ≡ 1) × ((prediction < 2 ^ 16) × ((code < 63 * 2 ^ 15) × (flip < 2 ^ 16))))) ⌝ }
-    requires { ⌜ getD (now totals) (choiceAt slot) 0 ≤ 2 ^ 16 ⌝ }
-    ensures { λ r. ⌜ (r ≡ sampleOf m (step / 2) (getD (now (totals .entry)) (choiceAt slot) 0) (eqb (flip % 2) 1) prediction code) × (r ≤ m) ⌝ }
-{
-    let minus = (flip + code) % 2 == 1;
-    let d = code::residual_size(code) * step;
-    let x = code::moved(minus, prediction, d);
-    if x <= m {
-        return x;
-    }
-    let total = totals[choice_at(slot)];
-    if minus {
-        return code::wrap(m, step / 2, total * step, prediction, d);
-    }
-    code::wrap(m, step / 2, total * step, prediction + d, 0)
 }
 
 // ---- many positions at once
@@ -652,42 +382,34 @@ fn split(lines: &[u16], from: usize, n: usize, odds: &mut [u16; 56], evens: &mut
     }
 }
 
-fn evens_lossless(
-    odds: &[u16; 56],
-    evens: &[u16; 56],
-    tops: &[u16; 56],
-    n: usize,
-    preds: &mut [u16; 48],
-    looks: &mut [u16; 48],
-)
-    requires { ⌜ (n ≤ 48) × ((length (now preds) ≡ 48) × (length (now looks) ≡ 48)) ⌝ }
-    ensures { λ _. ⌜ Filled 48 (PredictionAhead (now (odds .entry)) (now (evens .entry)) (now (tops .entry))) n (now (preds .exit)) ⌝ }
-    ensures { λ _. ⌜ Filled 48 (LookAhead 0 (now (odds .entry)) (now (evens .entry)) (now (tops .entry))) n (now (looks .exit)) ⌝ }
+// What is known ahead of n turns, in rows of 48 entries: of even positions the predictions (row 0) and the looks (1); of odd ones what the line above gives of
+// their predictions (2, 3) and gradients (4).
+fn lossless(odds: &[u16; 56], evens: &[u16; 56], tops: &[u16; 56], n: usize, out: &mut [u16; 432])
+    requires { ⌜ (n ≤ 48) × (length (now out) ≡ 432) ⌝ }
+    ensures { λ _. ⌜ Rows (AheadRow 0 (now (odds .entry)) (now (evens .entry)) (now (tops .entry))) 5 n (now (out .exit)) ⌝ }
 {
+    let t = marks_of(0);
     let mut i = 0usize;
     while i < n {
         let rf = tops[i];
         let rc = odds[i + 4];
         let rb = evens[i + 4];
-        let rd = odds[i + 5];
-        preds[i] = even_prediction(rf, rc, rb, rd);
-        looks[i] = lossless_packed(rf, rc, rb);
+        out[i] = even_prediction(rf, rc, rb, odds[i + 5]);
+        out[48 + i] = lossless_packed(rf, rc, rb);
+        let rc = evens[i];
+        let rb = odds[i + 1];
+        let e = is_extreme(rb, rc, evens[i + 1]);
+        out[96 + i] = pick16(e, rb, 0);
+        out[144 + i] = 1 + flag16(e);
+        out[192 + i] = 9 * raised16(0, t, rb, rc);
         i += 1;
     }
 }
 
-fn evens_lossy(
-    odds: &[u16; 56],
-    evens: &[u16; 56],
-    tops: &[u16; 56],
-    n: usize,
-    base: u16,
-    preds: &mut [u16; 48],
-    looks: &mut [u16; 48],
-)
-    requires { ⌜ (base < 256) × ((n ≤ 48) × ((length (now preds) ≡ 48) × (length (now looks) ≡ 48))) ⌝ }
-    ensures { λ _. ⌜ Filled 48 (PredictionAhead (now (odds .entry)) (now (evens .entry)) (now (tops .entry))) n (now (preds .exit)) ⌝ }
-    ensures { λ _. ⌜ Filled 48 (LookAhead base (now (odds .entry)) (now (evens .entry)) (now (tops .entry))) n (now (looks .exit)) ⌝ }
+// The same in a line that is not lossless, and of the gradients also what flat quantisers give (5 to 7), and a size (8).
+fn lossy(odds: &[u16; 56], evens: &[u16; 56], tops: &[u16; 56], n: usize, base: u16, out: &mut [u16; 432])
+    requires { ⌜ (base < 256) × ((n ≤ 48) × (length (now out) ≡ 432)) ⌝ }
+    ensures { λ _. ⌜ Rows (AheadRow base (now (odds .entry)) (now (evens .entry)) (now (tops .entry))) 9 n (now (out .exit)) ⌝ }
 {
     let t = marks_of(base);
     let bounds = bounds_of(base);
@@ -696,96 +418,29 @@ fn evens_lossy(
         let rf = tops[i];
         let rc = odds[i + 4];
         let rb = evens[i + 4];
-        let rd = odds[i + 5];
-        preds[i] = even_prediction(rf, rc, rb, rd);
-        looks[i] = lossy_packed(t, bounds, rf, rc, rb);
-        i += 1;
-    }
-}
-
-fn odds_lossless(
-    odds: &[u16; 56],
-    evens: &[u16; 56],
-    n: usize,
-    beyond: &mut [u16; 48],
-    halvings: &mut [u16; 48],
-    parts: &mut [u16; 192],
-)
-    requires { ⌜ (n ≤ 48) × ((length (now beyond) ≡ 48) × ((length (now halvings) ≡ 48) × (length (now parts) ≡ 192))) ⌝ }
-    ensures { λ _. ⌜ Filled 48 (BeyondAhead (now (odds .entry)) (now (evens .entry))) n (now (beyond .exit)) ⌝ }
-    ensures { λ _. ⌜ Filled 48 (HalvingAhead (now (odds .entry)) (now (evens .entry))) n (now (halvings .exit)) ⌝ }
-    ensures { λ _. ⌜ Filled 192 (MainAhead 0 (now (odds .entry)) (now (evens .entry))) n (now (parts .exit)) ⌝ }
-{
-    let t = marks_of(0);
-    let mut i = 0usize;
-    while i < n {
+        out[i] = even_prediction(rf, rc, rb, odds[i + 5]);
+        out[48 + i] = lossy_packed(t, bounds, rf, rc, rb);
         let rc = evens[i];
         let rb = odds[i + 1];
-        let rd = evens[i + 1];
-        let e = is_extreme(rb, rc, rd);
-        beyond[i] = pick16(e, rb, 0);
-        halvings[i] = 1 + flag16(e);
-        parts[i] = 9 * raised16(0, t, rb, rc);
-        i += 1;
-    }
-}
-
-fn odds_lossy(
-    odds: &[u16; 56],
-    evens: &[u16; 56],
-    n: usize,
-    base: u16,
-    beyond: &mut [u16; 48],
-    halvings: &mut [u16; 48],
-    parts: &mut [u16; 192],
-    sizes: &mut [u16; 48],
-)
-    requires { ⌜ (base < 256) × ((n ≤ 48) × ((length (now beyond) ≡ 48) × ((length (now halvings) ≡ 48) × (length (now parts) ≡ 192)))) ⌝ }
-    requires { ⌜ length (now sizes) ≡ 48 ⌝ }
-    ensures { λ _. ⌜ Filled 48 (BeyondAhead (now (odds .entry)) (now (evens .entry))) n (now (beyond .exit)) ⌝ }
-    ensures { λ _. ⌜ Filled 48 (HalvingAhead (now (odds .entry)) (now (evens .entry))) n (now (halvings .exit)) ⌝ }
-    ensures { λ _. ⌜ PartsAhead base (now (odds .entry)) (now (evens .entry)) n (now (parts .exit)) ⌝ }
-    ensures { λ _. ⌜ Filled 48 (SizeAhead (now (odds .entry)) (now (evens .entry))) n (now (sizes .exit)) ⌝ }
-{
-    let t = marks_of(base);
-    let mut i = 0usize;
-    while i < n {
-        let rc = evens[i];
-        let rb = odds[i + 1];
-        let rd = evens[i + 1];
-        let e = is_extreme(rb, rc, rd);
-        beyond[i] = pick16(e, rb, 0);
-        halvings[i] = 1 + flag16(e);
-        parts[i] = 9 * raised16(base, t, rb, rc);
-        parts[48 + i] = flat_part(1, rb, rc);
-        parts[96 + i] = flat_part(2, rb, rc);
-        parts[144 + i] = flat_part(3, rb, rc);
-        sizes[i] = smaller16(8, distance16(rb, rc));
+        let e = is_extreme(rb, rc, evens[i + 1]);
+        out[96 + i] = pick16(e, rb, 0);
+        out[144 + i] = 1 + flag16(e);
+        out[192 + i] = 9 * raised16(base, t, rb, rc);
+        out[240 + i] = flat_part(1, rb, rc);
+        out[288 + i] = flat_part(2, rb, rc);
+        out[336 + i] = flat_part(3, rb, rc);
+        out[384 + i] = smaller16(8, distance16(rb, rc));
         i += 1;
     }
 }
 
 // What is known ahead of n turns of a pass in a line, from position c on.
-pub fn fill(
-    lines: &[u16],
-    w: usize,
-    line: usize,
-    c: usize,
-    n: usize,
-    base: u32,
-    preds: &mut [u16; 48],
-    looks: &mut [u16; 48],
-    beyond: &mut [u16; 48],
-    halvings: &mut [u16; 48],
-    parts: &mut [u16; 192],
-    sizes: &mut [u16; 48],
-)
+pub fn fill(lines: &[u16], w: usize, line: usize, c: usize, n: usize, base: u32, out: &mut [u16; 432])
     requires { ⌜ (8 ≤ w) × ((w ≤ 512) × ((2 ≤ line) × ((line ≤ 17) × ((n ≤ 48) × ((c + 2 * n ≤ w + 8) × (base < 256)))))) ⌝ }
     requires { ⌜ (line + 1) * (w + 2) ≤ length (now lines) ⌝ }
-    requires { ⌜ Sized (now preds) (now looks) (now beyond) (now halvings) (now parts) (now sizes) ⌝ }
-    ensures { λ _. ⌜ Sized (now (preds .exit)) (now (looks .exit)) (now (beyond .exit)) (now (halvings .exit)) (now (parts .exit)) (now (sizes .exit)) ⌝ }
-    ensures { λ _. ⌜ Ahead base w (now (lines .entry)) line c n
-        (now (preds .exit)) (now (looks .exit)) (now (beyond .exit)) (now (halvings .exit)) (now (parts .exit)) (now (sizes .exit)) ⌝ }
+    requires { ⌜ length (now out) ≡ 432 ⌝ }
+    ensures { λ _. ⌜ length (now (out .exit)) ≡ 432 ⌝ }
+    ensures { λ _. ⌜ Ahead base w (now (lines .entry)) line c n (now (out .exit)) ⌝ }
 {
     let s = w + 2;
     let from = line * s + c - s;
@@ -795,19 +450,8 @@ pub fn fill(
     split(lines, from - 8, n + 5, &mut odds, &mut evens);
     take_every_second(lines, from + 1 - s, n, &mut tops);
     if base == 0 {
-        evens_lossless(&odds, &evens, &tops, n, preds, looks);
-        odds_lossless(&odds, &evens, n, beyond, halvings, parts);
+        lossless(&odds, &evens, &tops, n, out);
     } else {
-        evens_lossy(&odds, &evens, &tops, n, base as u16, preds, looks);
-        odds_lossy(
-            &odds,
-            &evens,
-            n,
-            base as u16,
-            beyond,
-            halvings,
-            parts,
-            sizes,
-        );
+        lossy(&odds, &evens, &tops, n, base as u16, out);
     }
 }

@@ -4,7 +4,7 @@ use native.Mathlib.Omega.{arith}
 use mathlib.Core.Path.{_≡_, refl}
 use Prim.Native.Nat.{ℕ, _+_, _-_, _*_, _≤_}
 use lib.ListN.{length}
-use Rattle.pass_ahead.proofs.AheadLaws.{placed, evens-ahead, lossless-ahead, lossy-ahead}
+use Rattle.pass_ahead.proofs.AheadLaws.{placed, lossless-ahead, lossy-ahead}
 use Rattle.pass_ahead.proofs.fill.Statement.{statement}
 use Rattle.pass_ahead.proofs.fill.Tie as tie
 
@@ -45,58 +45,27 @@ sub-take-every-second c = let s = c .before .before .before .before in omega (ar
 take-every-second-requires : tie.Need-take-every-second-requires
 take-every-second-requires c κs = let s = c .before .before .before .before .before in (omega (arith, s .pre .0), (omega (arith, low s, high s, s .pre .0), refl))
 
-odds-lossless-requires : tie.Need-odds-lossless-requires
-odds-lossless-requires c κs =
-    let e = c .before .before .before .before .before in
-    let s = begun (e .before .before .before .before .before .before .before) in
-    let z = s .pre .1 .1 in
-    (s .pre .0 .1 .1 .1 .1 .0, (z .all-beyond, (z .all-halvings, z .all-parts)))
-
-cast-odds-lossy : tie.Need-cast-odds-lossy
-cast-odds-lossy c =
-    let e = c .before .before in
-    let s = begun (e .before .before .before .before .before .before .before) in
-    omega (arith, s .pre .0)
-
-odds-lossy-requires : tie.Need-odds-lossy-requires
-odds-lossy-requires c κs =
-    let e = c .before .before .before .before .before .before in
-    let s = begun (e .before .before .before .before .before .before .before) in
-    let z = s .pre .1 .1 in
-    ((s .pre .0 .1 .1 .1 .1 .1 .1, (s .pre .0 .1 .1 .1 .1 .0, (z .all-beyond, (z .all-halvings, z .all-parts)))), z .all-sizes)
-
 returns : tie.Need-returns
 returns c =
-    let e = c .before .before .before .before .before .before in
-    let b = e .before .before .before .before .before .before in
+    let b = c .before .before .before .before .before in
     let t = b .before in
     let p = t .before .before in
     let s = begun t in
     let a = s .args in
-    let x = e .evens-lossless .ensures in
-    let o = c .odds-lossless .ensures in (
-      record { all-preds = x .0 .all; all-looks = x .1 .all; all-beyond = o .0 .all; all-halvings = o .1 .0 .all; all-parts = o .1 .1 .all; all-sizes = s .pre .1 .1 .all-sizes },
-      rw (b .if1 .taken) (record {
-        evens = evens-ahead (a .w) (a .line) (a .c) (a .n) (from s) (top s) (a .lines .now) _ _ (low s) (s .pre .0 .0) (from-is s) (top-is s) (p .split .ensures .0) (p .split .ensures .1) _ (t .take-every-second .ensures) 0 _ _ (x .0) (x .1);
-        odds = lossless-ahead (a .w) (a .line) (a .c) (a .n) (from s) (top s) (a .lines .now) _ _ (low s) (s .pre .0 .0) (from-is s) (top-is s) (p .split .ensures .0) (p .split .ensures .1) _ _ _ _ (o .0) (o .1 .0) (o .1 .1);
-      }),
+    let r = c .lossless .ensures in (
+      r .all,
+      rw (b .if1 .taken) (lossless-ahead (a .w) (a .line) (a .c) (a .n) (from s) (top s) (a .lines .now) _ _ (low s) (s .pre .0 .0) (from-is s) (top-is s) (p .split .ensures .0) (p .split .ensures .1) _ _ (t .take-every-second .ensures) r),
     )
 
 returns-2 : tie.Need-returns-2
 returns-2 c =
-    let e = c .before .before .before .before .before .before .before in
-    let b = e .before .before .before .before .before .before in
-    let t = b .before in
+    let t = c .before .before .before .before .before .before in
     let p = t .before .before in
     let s = begun t in
     let a = s .args in
-    let x = e .evens-lossy .ensures in
-    let o = c .odds-lossy .ensures in (
-      record { all-preds = x .0 .all; all-looks = x .1 .all; all-beyond = o .0 .all; all-halvings = o .1 .0 .all; all-parts = o .1 .1 .0 .all; all-sizes = o .1 .1 .1 .all },
-      record {
-        evens = evens-ahead (a .w) (a .line) (a .c) (a .n) (from s) (top s) (a .lines .now) _ _ (low s) (s .pre .0 .0) (from-is s) (top-is s) (p .split .ensures .0) (p .split .ensures .1) _ (t .take-every-second .ensures) (a .base) _ _ (x .0) (x .1);
-        odds = lossy-ahead (a .w) (a .line) (a .c) (a .n) (from s) (top s) (a .lines .now) _ _ (low s) (s .pre .0 .0) (from-is s) (top-is s) (p .split .ensures .0) (p .split .ensures .1) (a .base) _ _ _ _ (o .0) (o .1 .0) (o .1 .1 .0) (o .1 .1 .1);
-      },
+    let r = c .lossy .ensures in (
+      r .all,
+      lossy-ahead (a .w) (a .line) (a .c) (a .n) (from s) (top s) (a .lines .now) _ _ (low s) (s .pre .0 .0) (from-is s) (top-is s) (p .split .ensures .0) (p .split .ensures .1) (a .base) _ _ (t .take-every-second .ensures) r,
     )
 
 pub fill-spec : {M : Type 1} → statement M
@@ -114,10 +83,7 @@ fill-spec =
     sub-take-every-second
     take-every-second-requires
     (λ c κs. search needs)
-    odds-lossless-requires
     (λ c. search needs)
     (λ c κs. search needs)
-    cast-odds-lossy
-    odds-lossy-requires
     returns
     returns-2)

@@ -12,10 +12,10 @@ use Rattle.pass_ahead.proofs.lossy_aim.Statement.{statement}
 use Rattle.pass_ahead.proofs.lossy_aim.Tie as tie
 
 fit : (c : tie.After-smaller) → let a = c .before .before .args in let j = c .smaller .result in
-    (getD (a .rows .now) j 0 ≤ 144) × (getD (a .firsts .now) j 0 < 2 ^ 16) × (getD (a .bases .now) j 0 < 256)
+    (getD (a .flatness .now) j 0 ≤ 336) × (getD (a .flatness .now) (9 + j) 0 < 2 ^ 16) × (getD (a .flatness .now) (18 + j) 0 < 256)
 fit c =
     let s = c .before .before in
-    rows-fit (s .args .base) (c .smaller .result) _ _ _ (s .pre .1) (c .smaller .ensures .1) (s .pre .0 .0)
+    rows-fit (s .args .base) (c .smaller .result) _ (s .pre .1) (c .smaller .ensures .1) (s .pre .0 .0)
 
 -- the flatness, 8 at most
 capped : (c : tie.After-smaller) → let a = c .before .before .args in c .smaller .result ≡ min 8 (a .size + distance (a .rc) (a .ra))
@@ -23,11 +23,11 @@ capped c = c .smaller .ensures .0 ∙ ap (λ (d : ℕ). min 8 (c .before .before
 
 -- the thresholds, and their base
 by-base : (c : tie.After-with-base) → let s = c .before .before .before .before .before .before in
-    c .with-base .result ≡ thresholdsFor (s .args .base) (getD (s .args .bases .now) (c .before .before .before .before .smaller .result) 0)
+    c .with-base .result ≡ thresholdsFor (s .args .base) (getD (s .args .flatness .now) (18 + c .before .before .before .before .smaller .result) 0)
 by-base c = c .with-base .ensures ∙ rw (c .before .before .thresholds-of .ensures)
 
 used : (c : tie.After-with-base) → let s = c .before .before .before .before .before .before in
-    c .with-base .result .base ≡ getD (s .args .bases .now) (c .before .before .before .before .smaller .result) 0
+    c .with-base .result .base ≡ getD (s .args .flatness .now) (18 + c .before .before .before .before .smaller .result) 0
 used c = ap (λ (t : Thresholds). t .base) (by-base c)
 
 cast-row : tie.Need-cast-row
@@ -49,13 +49,13 @@ gradient-with-requires c κs =
     let s = m .before .before in
     (omega (arith, fit m .2, used w), (capped-serves (s .args .base) (s .args .size) _ (m .smaller .result) _ (w .with-base .result) (capped m) (s .pre .1 .base (m .smaller .result) (m .smaller .ensures .1)) (by-base w), c .u16-to-u32 .ensures .1))
 
-add-t15 : tie.Need-add-t15
-add-t15 c =
+add-t13 : tie.Need-add-t13
+add-t13 c =
     let g = c .before .before in
     omega (arith, fit (g .before .before .before .before .before .before .before), g .gradient-with .ensures .1)
 
-cast-t23 : tie.Need-cast-t23
-cast-t23 c =
+cast-t27 : tie.Need-cast-t27
+cast-t27 c =
     let g = c .before .before in
     omega (arith, fit (g .before .before .before .before .before .before .before), g .gradient-with .ensures .1)
 
@@ -68,8 +68,8 @@ returns c =
     let s = m .before .before in
     let a = s .args in
     let n = minus (a .rc) (a .ra) in
-    lossy-aims (a .base) (a .h) (a .size) (m .smaller .result) (u .u16-to-u32 .result) (w .with-base .result .base) (a .rows .now) (a .firsts .now) (a .bases .now) (a .parts .now) n _ (s .pre .1) (capped m) (u .u16-to-u32 .ensures .0) (used w)
-    (aimed (w .with-base .result .base) (u .u16-to-u32 .result) (getD (a .firsts .now) (m .smaller .result) 0) _ _ n (g .gradient-with .result) (g .gradient-with .ensures .0) refl (c .flag .ensures .0))
+    lossy-aims (a .base) (a .h) (a .size) (m .smaller .result) (u .u16-to-u32 .result) (w .with-base .result .base) (a .flatness .now) (a .ahead .now) n _ (s .pre .1) (capped m) (u .u16-to-u32 .ensures .0) (used w)
+    (aimed (w .with-base .result .base) (u .u16-to-u32 .result) (getD (a .flatness .now) (9 + m .smaller .result) 0) _ _ n (g .gradient-with .result) (g .gradient-with .ensures .0) refl (c .flag .ensures .0))
 
 pub lossy-aim-spec : {M : Type 1} → statement M
 lossy-aim-spec =
@@ -85,6 +85,7 @@ lossy-aim-spec =
     (λ c κs. search needs)
     (λ c. search needs)
     (λ c. search needs)
+    (λ c. search needs)
     (λ c κs. search needs)
     add-u16-to-u32
     mul-u16-to-u32
@@ -93,7 +94,8 @@ lossy-aim-spec =
     gradient-with-requires
     (λ c. search needs)
     (λ c. search needs)
-    add-t15
-    cast-t23
+    (λ c. search needs)
+    add-t13
+    cast-t27
     (λ c κs. search needs)
     returns)

@@ -23,7 +23,7 @@ returns c =
     let s = ra .before .before .before in
     let a = s .args in
     let n = minus (rc .u16-to-u322 .result) (ra .u16-to-u32 .result) in
-    aims-lossless-at (a .base) (a .s) (a .i) (a .h) (a .lines .now) (a .parts .now) (a .sizes .now) _ _ _ (ra .u16-to-u32 .ensures .0) (rc .u16-to-u322 .ensures .0) (s .pre .1 .1) _ _ (t .before .if1 .taken) (ap (λ (x : Thresholds). x .base) (t .thresholds-of .ensures)) (u .u16-to-u323 .ensures .0)
+    aims-lossless-at (a .base) (a .s) (a .i) (a .h) (a .lines .now) (a .ahead .now) _ _ _ (ra .u16-to-u32 .ensures .0) (rc .u16-to-u322 .ensures .0) (s .pre .1 .1) _ _ (t .before .if1 .taken) (ap (λ (x : Thresholds). x .base) (t .thresholds-of .ensures)) (u .u16-to-u323 .ensures .0)
     (aimed (t .thresholds-of .result .base) (u .u16-to-u323 .result) 56 _ _ n (g .gradient-with .result) (g .gradient-with .ensures .0) (omega arith) (c .flag .ensures .0))
 
 lossy-aim-requires : tie.Need-lossy-aim-requires
@@ -41,7 +41,7 @@ returns-2 c =
     let ra = rc .before .before in
     let s = ra .before .before .before in
     let a = s .args in
-    aims-lossy-at (a .base) (a .s) (a .i) (a .h) (a .lines .now) (a .parts .now) (a .sizes .now) _ _ _ (ra .u16-to-u32 .ensures .0) (rc .u16-to-u322 .ensures .0) (s .pre .1 .1) _ (d .before .before .if1 .left) (d .u16-to-u324 .ensures .0) (c .lossy-aim .ensures)
+    aims-lossy-at (a .base) (a .s) (a .i) (a .h) (a .lines .now) (a .ahead .now) _ _ _ (ra .u16-to-u32 .ensures .0) (rc .u16-to-u322 .ensures .0) (s .pre .1 .1) _ (d .before .before .if1 .left) (d .u16-to-u324 .ensures .0) (c .lossy-aim .ensures)
 
 pub odd-aim-at-spec : {M : Type 1} → statement M
 odd-aim-at-spec =
@@ -57,12 +57,14 @@ odd-aim-at-spec =
     (λ c κs. search needs)
     (λ c. search needs)
     (λ c. search needs)
+    (λ c. search needs)
     (λ c κs. search needs)
     gradient-with-requires
     (λ c. search needs)
     (λ c. search needs)
     (λ c κs. search needs)
     returns
+    (λ c. search needs)
     (λ c. search needs)
     (λ c. search needs)
     (λ c κs. search needs)

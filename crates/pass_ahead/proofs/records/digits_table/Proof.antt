@@ -1,12 +1,12 @@
--- `pass_ahead::digits_table` meets its contract: the table's rule is one test over its 65 entries, which antt computes. Assumes nothing.
+-- `pass_ahead::records::digits_table` meets its contract: the table's rule is one test over its 65 entries, which antt computes. Assumes nothing.
 use native.Mathlib.Omega.{arith}
 use Prim.Native.Nat.{ℕ, _-_}
 use lib.Count.{leadingZeros}
 use Rattle.pass_ahead.specs.Tables.{nextOf}
-use Rattle.pass_ahead.proofs.TableLaws.{at-each}
-use Rattle.pass_ahead.proofs.digits_table.Lts as lts
-use Rattle.pass_ahead.proofs.digits_table.Statement.{statement}
-use Rattle.pass_ahead.proofs.digits_table.Tie as tie
+use Rattle.numbers.proofs.TableLaws.{at-each}
+use Rattle.pass_ahead.proofs.records.digits_table.Lts as lts
+use Rattle.pass_ahead.proofs.records.digits_table.Statement.{statement}
+use Rattle.pass_ahead.proofs.records.digits_table.Tie as tie
 
 returns : tie.Need-returns
 unfolding leadingZeros

@@ -1,4 +1,4 @@
--- `pass_ahead::k_with` meets its contract. Assumes nothing.
+-- `pass_ahead::records::k_with` meets its contract. Assumes nothing.
 use borrow.Author.Needs.{needs}
 use native.Mathlib.Omega.{arith}
 use mathlib.Core.Path.{_≡_, ap, _∙_}
@@ -7,8 +7,8 @@ use lib.Bits.{bitOr}
 use lib.Count.{leadingZeros}
 use Rattle.statistics.proofs.RecordLaws.{sum-lt}
 use Rattle.pass_ahead.proofs.UpdateLaws.{Longer, digits-longer, k-found}
-use Rattle.pass_ahead.proofs.k_with.Statement.{statement}
-use Rattle.pass_ahead.proofs.k_with.Tie as tie
+use Rattle.pass_ahead.proofs.records.k_with.Statement.{statement}
+use Rattle.pass_ahead.proofs.records.k_with.Tie as tie
 
 longer : (s : tie.Start) → Longer (s .args .sum) (s .args .n)
 longer s =

@@ -1,4 +1,4 @@
--- `pass_ahead::update_by` meets its contract. Assumes nothing.
+-- `pass_ahead::records::update_by` meets its contract. Assumes nothing.
 use borrow.Author.Needs.{needs}
 use native.Mathlib.Omega.{arith}
 use mathlib.Core.Path.{_≡_, sym, ap, _∙_}
@@ -9,8 +9,8 @@ use Rattle.statistics.proofs.RecordLaws.{sum-lt}
 use Rattle.pass_steps.proofs.ZipLaws.{n-in-range, record-in-range}
 use Rattle.pass_ahead.specs.Tables.{nextOf}
 use Rattle.pass_ahead.proofs.UpdateLaws.{new-ok, after-is, after-ok, after-ks}
-use Rattle.pass_ahead.proofs.update_by.Statement.{statement}
-use Rattle.pass_ahead.proofs.update_by.Tie as tie
+use Rattle.pass_ahead.proofs.records.update_by.Statement.{statement}
+use Rattle.pass_ahead.proofs.records.update_by.Tie as tie
 
 range : (s : tie.Start) → let n = getD (s .args .ns .now) (s .args .slot) 0 in (1 ≤ n) × (n ≤ 64)
 range s = n-in-range (s .args .sums .now) (s .args .ns .now) (s .pre .1 .0) (s .args .slot) (s .pre .0 .1 .0)

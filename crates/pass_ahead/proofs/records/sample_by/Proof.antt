@@ -1,12 +1,12 @@
--- `pass_ahead::sample_by` meets its contract. Assumes nothing.
+-- `pass_ahead::records::sample_by` meets its contract. Assumes nothing.
 use borrow.Author.Needs.{needs}
 use native.Mathlib.Omega.{arith}
 use mathlib.Core.Path.{_≡_, refl, sym}
 use Prim.Native.Nat.{ℕ, _+_, _*_, _/_, _≤_, _<_, _^_}
 use lib.ListN.{getD}
 use Rattle.pass_ahead.proofs.SignLaws.{product-lt, inside-by, down-by, up-by}
-use Rattle.pass_ahead.proofs.sample_by.Statement.{statement}
-use Rattle.pass_ahead.proofs.sample_by.Tie as tie
+use Rattle.pass_ahead.proofs.records.sample_by.Statement.{statement}
+use Rattle.pass_ahead.proofs.records.sample_by.Tie as tie
 
 halved : (s : tie.Start) → s .args .step ≡ 2 * (s .args .step / 2) + 1
 halved s = omega (arith, s .pre .0 .1 .1 .0)

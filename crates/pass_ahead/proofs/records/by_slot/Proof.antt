@@ -1,9 +1,9 @@
--- `pass_ahead::by_slot` meets its contract. Assumes nothing.
+-- `pass_ahead::records::by_slot` meets its contract. Assumes nothing.
 use borrow.Author.Needs.{needs}
 use lib.ListN.{replicate}
 use Rattle.pass_ahead.proofs.SlotLaws.{repeated, slots}
-use Rattle.pass_ahead.proofs.by_slot.Statement.{statement}
-use Rattle.pass_ahead.proofs.by_slot.Tie as tie
+use Rattle.pass_ahead.proofs.records.by_slot.Statement.{statement}
+use Rattle.pass_ahead.proofs.records.by_slot.Tie as tie
 
 returns : tie.Need-returns
 returns c =

@@ -1,4 +1,4 @@
--- `pass_ahead::put_five` meets its contract: the entries from `at` on and before i are there. Assumes nothing.
+-- `pass_ahead::records::put_five` meets its contract: the entries from `at` on and before i are there. Assumes nothing.
 use native.Mathlib.Omega.{arith}
 use mathlib.Core.List.{List}
 use mathlib.Core.Path.{_≡_, refl}
@@ -6,8 +6,8 @@ use Prim.Native.Nat.{ℕ, _+_, _-_, _≤_}
 use lib.ListN.{length, length-set}
 use Rattle.numbers.proofs.FillLaws.{NewIn, in-none, in-more}
 use Rattle.pass_ahead.specs.Tables.{Five}
-use Rattle.pass_ahead.proofs.put_five.Statement.{statement}
-use Rattle.pass_ahead.proofs.put_five.Tie as tie
+use Rattle.pass_ahead.proofs.records.put_five.Statement.{statement}
+use Rattle.pass_ahead.proofs.records.put_five.Tie as tie
 
 ended : (at i v : ℕ) (old new : List ℕ) → i ≡ at + 5 → NewIn (λ j. v) at i old new → Five at v old new
 ended at i v old new e h = rw e at h

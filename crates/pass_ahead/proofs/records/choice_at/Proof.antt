@@ -1,8 +1,8 @@
--- `pass_ahead::choice_at` meets its contract. Assumes nothing.
+-- `pass_ahead::records::choice_at` meets its contract. Assumes nothing.
 use borrow.Author.Needs.{needs}
 use Rattle.pass_ahead.proofs.SignLaws.{choice-first, choice-flat}
-use Rattle.pass_ahead.proofs.choice_at.Statement.{statement}
-use Rattle.pass_ahead.proofs.choice_at.Tie as tie
+use Rattle.pass_ahead.proofs.records.choice_at.Statement.{statement}
+use Rattle.pass_ahead.proofs.records.choice_at.Tie as tie
 
 returns : tie.Need-returns
 returns c = (choice-first _ (c .if1 .taken), search needs)
