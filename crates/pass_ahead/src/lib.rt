@@ -234,13 +234,7 @@ fn odd_prediction(ra: u32, rg: u32, beyond: u32, halving: u32) -> u32
 }
 
 // The prediction of the sample after place i, in lines that are s apart, by entry h of what is known ahead.
-pub fn odd_prediction_at(
-    lines: &[u16],
-    s: usize,
-    i: usize,
-    ahead: &[u16; 432],
-    h: usize,
-) -> u32
+pub fn odd_prediction_at(lines: &[u16], s: usize, i: usize, ahead: &[u16; 432], h: usize) -> u32
     requires { ⌜ (h < 48) × ((s ≤ 514) × ((s ≤ i) × (i + 2 < length (now lines)))) ⌝ }
     requires { ⌜ Beyond (rbAt (now lines) s i) (rcAt (now lines) s i) (rdAt (now lines) s i) (getD (now ahead) (96 + h) 0) (getD (now ahead) (144 + h) 0) ⌝ }
     ensures { λ r. ⌜ r ≡ (oddAt (now (lines .entry)) s i) .prediction ⌝ }
@@ -304,21 +298,18 @@ pub fn odd_aim_at(
     let ra = u16_to_u32(lines[i]);
     let rc = u16_to_u32(lines[i - s]);
     if base == 0 {
-        let g = gradient_with(quantiser::thresholds_of(0), u16_to_u32(ahead[192 + h]), rc, ra);
+        let g = gradient_with(
+            quantiser::thresholds_of(0),
+            u16_to_u32(ahead[192 + h]),
+            rc,
+            ra,
+        );
         return Aim {
             slot: g.size as usize + 56,
             flip: numbers::flag(g.negative),
         };
     }
-    lossy_aim(
-        base,
-        flatness,
-        ahead,
-        h,
-        u16_to_u32(ahead[384 + h]),
-        rc,
-        ra,
-    )
+    lossy_aim(base, flatness, ahead, h, u16_to_u32(ahead[384 + h]), rc, ra)
 }
 
 // ---- lists by flatness and by record
@@ -407,7 +398,14 @@ fn lossless(odds: &[u16; 56], evens: &[u16; 56], tops: &[u16; 56], n: usize, out
 }
 
 // The same in a line that is not lossless, and of the gradients also what flat quantisers give (5 to 7), and a size (8).
-fn lossy(odds: &[u16; 56], evens: &[u16; 56], tops: &[u16; 56], n: usize, base: u16, out: &mut [u16; 432])
+fn lossy(
+    odds: &[u16; 56],
+    evens: &[u16; 56],
+    tops: &[u16; 56],
+    n: usize,
+    base: u16,
+    out: &mut [u16; 432],
+)
     requires { ⌜ (base < 256) × ((n ≤ 48) × (length (now out) ≡ 432)) ⌝ }
     ensures { λ _. ⌜ Rows (AheadRow base (now (odds .entry)) (now (evens .entry)) (now (tops .entry))) 9 n (now (out .exit)) ⌝ }
 {
@@ -435,7 +433,15 @@ fn lossy(odds: &[u16; 56], evens: &[u16; 56], tops: &[u16; 56], n: usize, base: 
 }
 
 // What is known ahead of n turns of a pass in a line, from position c on.
-pub fn fill(lines: &[u16], w: usize, line: usize, c: usize, n: usize, base: u32, out: &mut [u16; 432])
+pub fn fill(
+    lines: &[u16],
+    w: usize,
+    line: usize,
+    c: usize,
+    n: usize,
+    base: u32,
+    out: &mut [u16; 432],
+)
     requires { ⌜ (8 ≤ w) × ((w ≤ 512) × ((2 ≤ line) × ((line ≤ 17) × ((n ≤ 48) × ((c + 2 * n ≤ w + 8) × (base < 256)))))) ⌝ }
     requires { ⌜ (line + 1) * (w + 2) ≤ length (now lines) ⌝ }
     requires { ⌜ length (now out) ≡ 432 ⌝ }

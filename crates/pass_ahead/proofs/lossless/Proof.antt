@@ -53,11 +53,11 @@ loop-again c =
     let small : l .i < 48 = omega (arith, lt, s .pre .0) in (
       omega (arith, lt),
       turn-ends (row s) 5
-      (row-more (row s) 5 4 (l .i) _ _ _ small (omega arith) (omega arith) (nine-raised 0 _ (minus upper (getD (a .evens .now) (l .i) 0)) (c .raised16 .ensures .0))
-      (row-more (row s) 5 3 (l .i) _ _ _ small (omega arith) (omega arith) (ap (λ (n : ℕ). 1 + n) (f .flag16 .ensures .0 ∙ ap flag (x .is-extreme .ensures)))
-      (row-more (row s) 5 2 (l .i) _ _ _ small (omega arith) (omega arith) (p .pick16 .ensures ∙ ap (λ (e : Bool). cond e upper 0) (x .is-extreme .ensures))
-      (row-more (row s) 5 1 (l .i) _ _ _ small (omega arith) (omega arith) (even-look 0 rf rc rb rd _ (k .lossless-packed .ensures))
-      (row-more (row s) 5 0 (l .i) _ _ _ small (omega arith) (omega arith) (e .even-prediction .ensures) (turn-begins (row s) 5 (l .inv .1))))))),
+          (row-more (row s) 5 4 (l .i) _ _ _ small (omega arith) (omega arith) (nine-raised 0 _ (minus upper (getD (a .evens .now) (l .i) 0)) (c .raised16 .ensures .0))
+          (row-more (row s) 5 3 (l .i) _ _ _ small (omega arith) (omega arith) (ap (λ (n : ℕ). 1 + n) (f .flag16 .ensures .0 ∙ ap flag (x .is-extreme .ensures)))
+          (row-more (row s) 5 2 (l .i) _ _ _ small (omega arith) (omega arith) (p .pick16 .ensures ∙ ap (λ (e : Bool). cond e upper 0) (x .is-extreme .ensures))
+          (row-more (row s) 5 1 (l .i) _ _ _ small (omega arith) (omega arith) (even-look 0 rf rc rb rd _ (k .lossless-packed .ensures))
+          (row-more (row s) 5 0 (l .i) _ _ _ small (omega arith) (omega arith) (e .even-prediction .ensures) (turn-begins (row s) 5 (l .inv .1))))))),
     )
 
 returns : tie.Need-returns Inv-loop μ-loop

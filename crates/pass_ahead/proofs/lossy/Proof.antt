@@ -70,15 +70,15 @@ loop-again c =
     let small : l .i < 48 = omega (arith, lt, s .pre .1 .0) in (
       omega (arith, lt),
       turn-ends (row s) 9
-      (row-more (row s) 9 8 (l .i) _ _ _ small (omega arith) (omega arith) (c .smaller16 .ensures .0 ∙ ap (min 8) (c .before .distance16 .ensures))
-      (row-more (row s) 9 7 (l .i) _ _ _ small (omega arith) (omega arith) (f3 .flat-part3 .ensures .0)
-      (row-more (row s) 9 6 (l .i) _ _ _ small (omega arith) (omega arith) (f2 .flat-part2 .ensures .0)
-      (row-more (row s) 9 5 (l .i) _ _ _ small (omega arith) (omega arith) (f1 .flat-part .ensures .0)
-      (row-more (row s) 9 4 (l .i) _ _ _ small (omega arith) (omega arith) (nine-raised (a .base) _ (minus upper (getD (a .evens .now) (l .i) 0)) (r .raised16 .ensures .0))
-      (row-more (row s) 9 3 (l .i) _ _ _ small (omega arith) (omega arith) (ap (λ (n : ℕ). 1 + n) (f .flag16 .ensures .0 ∙ ap flag (x .is-extreme .ensures)))
-      (row-more (row s) 9 2 (l .i) _ _ _ small (omega arith) (omega arith) (p .pick16 .ensures ∙ ap (λ (e : Bool). cond e upper 0) (x .is-extreme .ensures))
-      (row-more (row s) 9 1 (l .i) _ _ _ small (omega arith) (omega arith) (look-based (a .base) rf rc rb rd _ _ (m .marks-of .ensures) (k .lossy-packed .ensures))
-      (row-more (row s) 9 0 (l .i) _ _ _ small (omega arith) (omega arith) (e .even-prediction .ensures) (turn-begins (row s) 9 (l .inv .1))))))))))),
+          (row-more (row s) 9 8 (l .i) _ _ _ small (omega arith) (omega arith) (c .smaller16 .ensures .0 ∙ ap (min 8) (c .before .distance16 .ensures))
+          (row-more (row s) 9 7 (l .i) _ _ _ small (omega arith) (omega arith) (f3 .flat-part3 .ensures .0)
+          (row-more (row s) 9 6 (l .i) _ _ _ small (omega arith) (omega arith) (f2 .flat-part2 .ensures .0)
+          (row-more (row s) 9 5 (l .i) _ _ _ small (omega arith) (omega arith) (f1 .flat-part .ensures .0)
+          (row-more (row s) 9 4 (l .i) _ _ _ small (omega arith) (omega arith) (nine-raised (a .base) _ (minus upper (getD (a .evens .now) (l .i) 0)) (r .raised16 .ensures .0))
+          (row-more (row s) 9 3 (l .i) _ _ _ small (omega arith) (omega arith) (ap (λ (n : ℕ). 1 + n) (f .flag16 .ensures .0 ∙ ap flag (x .is-extreme .ensures)))
+          (row-more (row s) 9 2 (l .i) _ _ _ small (omega arith) (omega arith) (p .pick16 .ensures ∙ ap (λ (e : Bool). cond e upper 0) (x .is-extreme .ensures))
+          (row-more (row s) 9 1 (l .i) _ _ _ small (omega arith) (omega arith) (look-based (a .base) rf rc rb rd _ _ (m .marks-of .ensures) (k .lossy-packed .ensures))
+          (row-more (row s) 9 0 (l .i) _ _ _ small (omega arith) (omega arith) (e .even-prediction .ensures) (turn-begins (row s) 9 (l .inv .1))))))))))),
     )
 
 returns : tie.Need-returns Inv-loop μ-loop
