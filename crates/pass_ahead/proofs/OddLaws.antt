@@ -32,6 +32,15 @@ odd-predicted ra rg rb rc rd b t r e er = er ∙ rw (e .0, e .1) (go (extreme rb
     go true = refl
     go false = omega arith
 
+-- it has 16 bits
+pub odd-small : (ra rg rb rc rd b t x y r : ℕ) → Beyond rb rc rd b t → ra < 2 ^ 16 → rg < 2 ^ 16 → x < 2 ^ 16 → x ≡ b → y ≡ t → r ≡ (ra + rg + 2 * x) / 2 ^ y
+    → r < 2 ^ 16
+odd-small ra rg rb rc rd b t x y r e ha hg hx ex ey er = go (extreme rb rc rd) (ex ∙ e .0) (ey ∙ e .1)
+  where
+    go : (z : Bool) → x ≡ cond z rb 0 → y ≡ 1 + flag z → r < 2 ^ 16
+    go true fx fy = let f : 2 ^ y ≡ 4 = rw fy refl in let g = rw f at er in omega arith
+    go false fx fy = let f : 2 ^ y ≡ 2 = rw fy refl in let g = rw f at er in omega arith
+
 -- a part and a raised level make the gradient, raised by 40
 pub continued : (used part y : ℕ) (u g : Signed) → Raised used u y → g ≡ minus (part + y) 40 → Continued used part u g
 unfolding gradientOf

@@ -237,7 +237,7 @@ fn odd_prediction(ra: u32, rg: u32, beyond: u32, halving: u32) -> u32
 pub fn odd_prediction_at(lines: &[u16], s: usize, i: usize, ahead: &[u16; 432], h: usize) -> u32
     requires { ⌜ (h < 48) × ((s ≤ 514) × ((s ≤ i) × (i + 2 < length (now lines)))) ⌝ }
     requires { ⌜ Beyond (rbAt (now lines) s i) (rcAt (now lines) s i) (rdAt (now lines) s i) (getD (now ahead) (96 + h) 0) (getD (now ahead) (144 + h) 0) ⌝ }
-    ensures { λ r. ⌜ r ≡ (oddAt (now (lines .entry)) s i) .prediction ⌝ }
+    ensures { λ r. ⌜ (r ≡ (oddAt (now (lines .entry)) s i) .prediction) × (r < 2 ^ 16) ⌝ }
 {
     odd_prediction(
         u16_to_u32(lines[i]),

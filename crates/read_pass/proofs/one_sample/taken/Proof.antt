@@ -1,4 +1,4 @@
--- `read_pass::taken` meets its contract: at once, or by the slow reader. Assumes nothing.
+-- `read_pass::one_sample::taken` meets its contract: at once, or by the slow reader. Assumes nothing.
 use borrow.Author.Needs.{needs}
 use mathlib.Core.Bool.{Bool}
 use mathlib.Core.List.{List}
@@ -8,8 +8,8 @@ use Rattle.code.specs.Codes.{codeAt, Small}
 use Rattle.code.specs.Tight.{takenOf}
 use Rattle.code.specs.declared.Taken.{Taken}
 use Rattle.code_reader.proofs.ShortLaws.{short-taken}
-use Rattle.read_pass.proofs.taken.Statement.{statement}
-use Rattle.read_pass.proofs.taken.Tie as tie
+use Rattle.read_pass.proofs.one_sample.taken.Statement.{statement}
+use Rattle.read_pass.proofs.one_sample.taken.Tie as tie
 
 -- the slow reader's answer, put together anew
 slowly : (m k k′ limit raw : ℕ) (s : List ℕ) (p : ℕ) (tight : Bool) (long : ℕ) {r t : Taken} → k ≡ k′ → r ≡ t

@@ -1,8 +1,8 @@
--- `read_pass::put_sample` meets its contract: the sample of the code, which fits 16 bits. Assumes nothing.
+-- `read_pass::one_sample::put_sample` meets its contract: the sample of the code, which fits 16 bits. Assumes nothing.
 use borrow.Author.Needs.{needs}
 use mathlib.Core.Path.{refl}
-use Rattle.read_pass.proofs.put_sample.Statement.{statement}
-use Rattle.read_pass.proofs.put_sample.Tie as tie
+use Rattle.read_pass.proofs.one_sample.put_sample.Statement.{statement}
+use Rattle.read_pass.proofs.one_sample.put_sample.Tie as tie
 
 returns : tie.Need-returns
 returns c = rw (c .sample .ensures .0) refl
