@@ -1,16 +1,17 @@
 -- One sample of a pair, from the answers of the leaves, and what pairs and passes hand back. Assumes nothing.
 use borrow.Author.Tests.{eq-eqb, ne-eqb}
 use mathlib.Core.Bool.{Bool, true, false, cond, _&&_, false≢true}
-use mathlib.Core.List.{List}
+use mathlib.Core.List.{List, [], _∷_}
 use mathlib.Core.Option.{Option, none, some}
 use mathlib.Core.Path.{_≡_, refl, sym, ap, _∙_}
-use Prim.Native.Nat.{ℕ, _+_, _-_, _*_, _/_, _%_, _^_, _≤_, _<_}
+use Prim.Native.Nat.{ℕ, zero, suc, _+_, _-_, _*_, _/_, _%_, _^_, _≤_, _<_}
 use native.Mathlib.Nat.{mul-le-mul-right}
 use native.Mathlib.Omega.{arith}
-use lib.Dec.{eqb}
+use lib.Dec.{ltb, eqb}
 use lib.ListN.{length, getD, set}
 use lib.Pow.{pow-mono}
 use Rattle.numbers.specs.Numbers.{flag}
+use Rattle.numbers.proofs.OrderLaws.{cond-le}
 use Rattle.statistics.specs.Statistics.{kOf, updated}
 use Rattle.statistics.specs.declared.Record.{Record}
 use Rattle.statistics.proofs.RecordLaws.{k-least}
@@ -28,20 +29,23 @@ use Rattle.code.specs.declared.Place.{Place}
 use Rattle.code.specs.declared.Taken.{Taken}
 use Rattle.code.specs.declared.Taken.the-variants as Take
 use Rattle.pass_schedule.specs.Steps.{Step, stepAt}
+use Rattle.pass_schedule.specs.declared.Plan.{Plan}
 use Rattle.pass_steps.specs.Contexts.{contextIn, usedBase, usedWeight, usedQuantiser, lookOf, slotOf, noRecord}
-use Rattle.pass_steps.specs.Values.{evenAt, oddAt, contextAt, zipRecords, SetInRange, AreKs, Depth}
+use Rattle.pass_steps.specs.Values.{evenAt, oddAt, contextAt, zipRecords, SetInRange, AreKs, quantisersOf, Depth}
 use Rattle.pass_steps.specs.declared.Look.{Look}
 use Rattle.pass_steps.specs.declared.Set.{Set}
 use Rattle.pass_steps.proofs.ContextLaws.{context-is, slot-lt}
 use Rattle.pass_steps.proofs.LookLaws.{choice-le, place-lt}
-use Rattle.pass_steps.proofs.TableLaws.{total-at, numbers-le}
+use Rattle.pass_steps.proofs.TableLaws.{total-at, limit-at, numbers-le}
 use Rattle.pass_ahead.specs.Looks.{packedLook}
-use Rattle.pass_ahead.specs.Arrays.{leftAt, EvenHere}
-use Rattle.pass_ahead.specs.Tables.{choiceAt}
+use Rattle.pass_ahead.specs.Odds.{AimsAt}
+use Rattle.pass_ahead.specs.declared.Aim.{Aim}
+use Rattle.pass_ahead.specs.Arrays.{Filled, leftAt, EvenHere, Ahead}
+use Rattle.pass_ahead.specs.Tables.{choiceAt, BySlot}
 use Rattle.pass_ahead.proofs.SignLaws.{choice-of-look}
 use Rattle.read_pass.specs.Readings.{Reading, taken, readStep, reads}
-use Rattle.read_pass.specs.Sites.{codingBy, OddCoding, IsCoding, CodingFits, LineTables, RawFits}
-use Rattle.read_pass.specs.Pairs.{readingAt, placeAt, held, begun, IsPair, IsPassed}
+use Rattle.read_pass.specs.Sites.{codingBy, OddCoding, IsCoding, CodingFits, LineTables, LimitsFit, RawFits}
+use Rattle.read_pass.specs.Pairs.{readingAt, placeAt, held, begun, Holds, IsPair, IsPassed}
 use Rattle.read_pass.specs.declared.one_sample.Coding.{Coding}
 use Rattle.read_pass.specs.declared.Pair.{Pair}
 use Rattle.read_pass.specs.declared.Pair.the-variants.{At, CutOff}
@@ -96,6 +100,14 @@ flag-le false = omega arith
 pub packed-small : (q x : ℕ) (t : Context) → x ≡ packedLook (lookOf q t) → x < 224
 packed-small q x t e = omega (arith, place-lt q t, flag-le ((lookOf q t) .negative))
 
+-- what the leaves say of an odd position
+pub aim-small : (q : ℕ) (x : Context) (a : Aim) → AimsAt (lookOf q x) a → a .slot < 112
+aim-small q x a e = omega (arith, e .0, place-lt q x)
+
+pub odd-made : (bits q S : ℕ) {i j g : ℕ} (lines limits ks : List ℕ) (a : Aim) (c : Coding) → c ≡ codingBy bits i g (a .slot) (a .flip) limits ks → i ≡ j
+    → g ≡ (oddAt lines S i) .prediction → AimsAt (lookOf q (oddAt lines S i)) a → g < 2 ^ 16 → OddCoding bits q (oddAt lines S j) j limits ks c
+odd-made bits q S lines limits ks a c e ei eg ea small = rw (← ei) (record { is = e ∙ rw (eg, ea .0, ea .1); small = rw e small })
+
 largest-lt : (bits : ℕ) → bits ≤ 16 → largest bits < 2 ^ 16
 largest-lt bits h = let p : 2 ^ bits ≤ 2 ^ 16 = pow-mono h in omega arith
 
@@ -118,7 +130,7 @@ module _ {bits q W line p : ℕ} {s lines sums ns ks steps limits totals : List 
   coded-by x c i slot flip ex ec ei es ef small g =
       let lt : slot < 112 = rw es (slot-lt p q x) in
       let choice : choiceAt slot ≡ (lookOf q x) .choice = rw es (choice-of-look p q x) in
-      let end : (18 * (W + 2) : ℕ) ≤ 18 * 514 = omega arith in
+      let end : 18 * (W + 2) ≤ 18 * 514 = omega arith in
       let high-end = mul-le-mul-right (W + 2) high in
       record {
         is = record {
@@ -150,8 +162,9 @@ module _ {bits q W line p : ℕ} {s lines sums ns ks steps limits totals : List 
   even-coded {ahead} {h} {i} c even e ei ec g =
       let x : Context = evenAt lines (W + 2) (leftAt W line p) in
       let l : Look = lookOf q x in
-      let half : getD ahead (48 + h) 0 / 2 ≡ l .place = half-flag (l .negative) (l .place) _ (e .look) in
-      coded-by x c i _ _ (even-context W line p lines low even) (ec ∙ rw (e .prediction)) ei (omega (arith, half, even)) (odd-flag (l .negative) (l .place) _ (e .look))
+      let half : getD ahead (48 + h) 0 / 2 ≡ l .place = half-flag (l .negative) (l .place) (getD ahead (48 + h) 0) (e .look) in
+      coded-by x c i (getD ahead (48 + h) 0 / 2) (getD ahead (48 + h) 0) (even-context W line p lines low even) (ec ∙ rw (e .prediction)) ei (omega (arith, half, even))
+      (odd-flag (l .negative) (l .place) (getD ahead (48 + h) 0) (e .look))
       (rw ec at (g .1)) (g .0)
 
   pub odd-coded : (c : Coding) → p % 2 ≡ 1 → OddCoding bits q (oddAt lines (W + 2) (leftAt W line p)) (leftAt W line p) limits ks c
@@ -159,7 +172,8 @@ module _ {bits q W line p : ℕ} {s lines sums ns ks steps limits totals : List 
   odd-coded c odd e =
       let x : Context = oddAt lines (W + 2) (leftAt W line p) in
       let l : Look = lookOf q x in
-      coded-by x c (leftAt W line p) _ _ (odd-context W line p lines low odd) (e .is) refl (omega (arith, odd)) (odd-flag (l .negative) 0 _ (omega arith))
+      coded-by x c (leftAt W line p) (l .place + 56) (flag (l .negative)) (odd-context W line p lines low odd) (e .is) refl (omega (arith, odd))
+      (odd-flag (l .negative) 0 (flag (l .negative)) (omega arith))
       (omega (arith, flag-le (l .negative))) (e .small)
 
 module _ {bits q W line p : ℕ} {s lines sums ns steps limits totals : List ℕ} {c : Coding} (y : CodedAt bits q W line p s lines sums ns steps limits totals c) where
@@ -294,8 +308,73 @@ module _ {y z : Reading} (e : y ≡ z) where
   pub ks-met : {ks ks′ : List ℕ} → ks ≡ ks′ → AreKs (z .set) ks′ → AreKs (y .set) ks
   ks-met f g = rw (e, f) g
 
+  pub ahead-met : {q W line c n : ℕ} {l : List ℕ} → Ahead q W (z .lines) line c n l → Ahead q W (y .lines) line c n l
+  ahead-met g = rw e g
+
   pub length-met : length (y .lines) ≡ length (z .lines)
   length-met = ap (λ (r : Reading). length (r .lines)) e
+
+-- ---- what a pass holds while it goes on
+
+pub holds-on : {bits W q : ℕ} {P : Plan} {from after : Place} {s lines new sums sums′ ns ns′ ks ks′ steps limits totals next digits : List ℕ}
+    → Holds bits W P q from s lines sums ns ks steps limits totals next digits → length new ≡ length lines → SetInRange (zipRecords sums′ ns′)
+    → AreKs (zipRecords sums′ ns′) ks′ → after .long ≤ after .at .0
+    → Holds bits W P q after s new sums′ ns′ ks′ steps limits totals next digits
+holds-on o same records kept counted =
+    record {
+      bytes = o .bytes;
+      width = o .width;
+      room = (omega (arith, o .room .0, same), omega (arith, o .room .1, same));
+      plan = o .plan;
+      apart = o .apart;
+      depth = o .depth;
+      base = o .base;
+      tables = o .tables;
+      becomes = o .becomes;
+      lengths = o .lengths;
+      records = records;
+      ks-kept = kept;
+      counted = counted;
+    }
+
+-- ---- what a line keeps by the places of records
+
+limit-small : (bits q i : ℕ) (limits : List ℕ) → limits ≡ (quantisersOf bits q) .limits → i ≤ 3 → bits ≤ 16 → getD limits i 0 < 64
+limit-small bits q i limits e h b =
+    let is : getD limits i 0 ≡ (usedQuantiser bits q i) .limit = rw e (limit-at bits q i h) in
+    rw is (numbers-le bits (usedBase q i) (usedWeight i) b .2)
+
+pub limits-fit : (bits q : ℕ) (limits : List ℕ) → limits ≡ (quantisersOf bits q) .limits → bits ≤ 16 → LimitsFit limits
+limits-fit bits q limits e b =
+    (limit-small bits q 0 limits e (omega arith) b, limit-small bits q 1 limits e (omega arith) b, limit-small bits q 2 limits e (omega arith) b, limit-small bits q 3 limits e (omega arith) b)
+
+choice-at-le : (j : ℕ) → choiceAt j ≤ 3
+unfolding choiceAt
+choice-at-le j = cond-le 3 (ltb (j % 56) 41) 0 ((j % 56 - 36) / 5) (omega arith) (omega arith)
+
+step-at : (q i : ℕ) → i ≤ 3 → getD ((2 * q + 1) ∷ 1 ∷ 3 ∷ 5 ∷ []) i 0 ≡ 2 * usedBase q i + 1
+step-at q zero h = refl
+step-at q (suc zero) h = refl
+step-at q (suc (suc zero)) h = refl
+step-at q (suc (suc (suc zero))) h = refl
+step-at q (suc (suc (suc (suc i)))) h = absurd (omega arith)
+
+four-at : (l : List ℕ) (i : ℕ) → i ≤ 3 → getD (getD l 0 0 ∷ getD l 1 0 ∷ getD l 2 0 ∷ getD l 3 0 ∷ []) i 0 ≡ getD l i 0
+four-at l zero h = refl
+four-at l (suc zero) h = refl
+four-at l (suc (suc zero)) h = refl
+four-at l (suc (suc (suc zero))) h = refl
+four-at l (suc (suc (suc (suc i)))) h = absurd (omega arith)
+
+pub tables-made : (bits q : ℕ) (four steps limits totals : List ℕ) → four ≡ (quantisersOf bits q) .limits → totals ≡ (quantisersOf bits q) .totals
+    → Filled 112 (BySlot (2 * q + 1) 1 3 5) 112 steps
+    → Filled 112 (BySlot (getD four 0 0) (getD four 1 0) (getD four 2 0) (getD four 3 0)) 112 limits → LineTables bits q steps limits totals
+tables-made bits q four steps limits totals ef et s l =
+    record {
+      step = λ j h. s .each j h ∙ step-at q (choiceAt j) (choice-at-le j);
+      limit = λ j h. l .each j h ∙ four-at four (choiceAt j) (choice-at-le j) ∙ rw ef (limit-at bits q (choiceAt j) (choice-at-le j));
+      summed = et;
+    }
 
 -- ---- what a pair hands back, and what is known of it by a caller
 

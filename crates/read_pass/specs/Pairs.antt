@@ -63,8 +63,8 @@ pub record Holds (bits W : ℕ) (P : Plan) (q : ℕ) (from : Place) (s lines sum
   pub depth : Depth bits
   pub base : q < 256
   pub tables : LineTables bits q steps limits totals
-  pub next : AreNext next
-  pub digits : AreDigits digits
+  pub becomes : AreNext next
+  pub lengths : AreDigits digits
   pub records : SetInRange (zipRecords sums ns)
   pub ks-kept : AreKs (zipRecords sums ns) ks
   pub counted : from .long ≤ from .at .0
@@ -105,7 +105,7 @@ chunkSteps W P c n = upto (λ t. turnSteps W P (c / 2 + t)) n
 pub record ChunkAsks (spot : Spot) (q n : ℕ) (from : Place) (s lines sums ns ks steps limits totals next digits flatness : List ℕ) : Type 0 where
   pub holds : Holds (spot .bits) (spot .w) (spot .plan) q from s lines sums ns ks steps limits totals next digits
   pub flats : ByFlatness q flatness
-  pub even-width : spot .w % 2 ≡ 0
+  pub low : 8 ≤ spot .w
   pub begins : spot .p % 2 ≡ 0
   pub ends : spot .p + 2 * n ≤ spot .w + 8
   pub most : n ≤ 48

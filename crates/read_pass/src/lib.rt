@@ -303,7 +303,8 @@ pub fn pass(
     let mut ks = pass_steps::ks_of(&sums, &ns);
     let base = qs.base;
     let totals = qs.totals;
-    let limits = one_sample::limits_of(qs.limits);
+    let four = qs.limits;
+    let limits = one_sample::limits_of(four);
     let steps = pass_ahead::by_slot((2 * base + 1) as u16, 1, 3, 5);
     let flatness = pass_ahead::by_flatness(base);
     let next = pass_ahead::next_table();

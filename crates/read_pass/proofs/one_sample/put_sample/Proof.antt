@@ -5,7 +5,7 @@ use Rattle.read_pass.proofs.one_sample.put_sample.Statement.{statement}
 use Rattle.read_pass.proofs.one_sample.put_sample.Tie as tie
 
 returns : tie.Need-returns
-returns c = rw (c .sample .ensures .0) refl
+returns c = rw (c .sample-by .ensures .0, c .before .u16-to-u32 .ensures .0) refl
 
 pub put-sample-spec : {M : Type 1} → statement M
 put-sample-spec =
@@ -14,6 +14,7 @@ put-sample-spec =
     (λ c. search needs)
     (λ c. search needs)
     (λ c. search needs)
+    (λ c κs. search needs)
     (λ c κs. search needs)
     (λ c. search needs)
     (λ c. search needs)
