@@ -53,7 +53,7 @@ impl Folder {
         let out = self.run(line);
         let said = text(&out.stderr);
         assert_eq!((out.status.code(), said.lines().next()), (Some(2), Some(format!("fujiraw: {says}").as_str())), "{line}");
-        assert!(said.contains("usage: fujiraw info STREAM"), "{line}");
+        assert!(said.contains("usage: fujiraw "), "{line}");
         assert_eq!(self.names(), before, "{line}");
     }
 }
