@@ -126,6 +126,40 @@ void fuji_length_bound(const uint8_t *header, size_t header_length, size_t lengt
 void fuji_measure_block(const uint8_t *header, size_t header_length, const uint16_t *samples, size_t samples_length, uint16_t *scratch,
                         size_t scratch_length, fuji_record *records, size_t records_length, size_t length[1], size_t refusal[4]);
 
+/* The colour lines of a block, lossless or lossy: the set that fuji_write_block and fuji_write_lossy take. `set` has exactly lines * 12 * 384 samples
+ * (X-Trans: lines * 12 * 512). `totals` and the refusal are those of fuji_read_block. Refusals 1, 2, 3, 4, 5, 9 (a set of another size), 10 and 14, in this
+ * order. With 14 the lines before the truncated one are in the set, and the rest of it is as it was. The others leave set and scratch as they were. Where
+ * the block is read, scratch is cleared: its used samples are 0, its records (0, n 1). */
+void fuji_read_set(const uint8_t *stream, size_t stream_length, size_t block, uint16_t *set, size_t set_length, uint16_t *scratch,
+                   size_t scratch_length, fuji_record *records, size_t records_length, size_t totals[2], size_t refusal[4]);
+
+/* Puts what stands before the blocks of a stream to the start of the output: the header's 16 bytes, the blocks' sizes and the base rows, each filled with
+ * zeros to a multiple of 16 bytes. `rows` has a byte for each line of each block, block after block, and none if the header is lossless. `lengths` has one
+ * length for each block. The length that is handed back is that of the whole stream: its blocks follow, one after the other. So many bytes suffice: 16,
+ * 4 * blocks rounded up to a multiple of 16 and, if the header is lossy, for each block `lines` rounded up to a multiple of 16; at most 43,856. Refusals 1,
+ * 2, 25 (not one length for each block), 17 (another number of bases), 26 (the lowest block of 2^32 bytes or more is named) and 13, in this order. Then
+ * the length is 0, and the output is as it was. */
+void fuji_put_front(const uint8_t *header, size_t header_length, const uint8_t *rows, size_t rows_length, const size_t *lengths,
+                    size_t lengths_length, uint8_t *out, size_t out_length, size_t length[1], size_t refusal[4]);
+
+/* Writes the tight stream of a stream, lossless or lossy, to the start of the output, and hands back its length; what follows it is as it was. It has the
+ * same header but for the lossless flag, only tight blocks, and the same samples. `set` has exactly as many samples as for fuji_read_set, and is scratch.
+ * So many bytes of output suffice: 16, 4 * blocks rounded up to a multiple of 16, and blocks * lines * 2304 * bits. Refusals 1, 2, 3, 4, 9, 10 and 13 (no
+ * room for what stands before the blocks), in this order, leave everything as it was. Then the blocks are read and written, one after the other: 14 for a
+ * truncated line, or 13 for a block that has no room, names or means the lowest such block. The output then begins with zeros in the place of what stands
+ * before the blocks, at least 16 of them, so that it does not open; the blocks before the failing one follow; the rest is as it was. Once the blocks are
+ * begun, the set is all 0 at the end, and scratch is cleared. Where it is refused the length is 0. */
+void fuji_tighten(const uint8_t *stream, size_t stream_length, uint8_t *out, size_t out_length, uint16_t *set, size_t set_length,
+                  uint16_t *scratch, size_t scratch_length, fuji_record *records, size_t records_length, size_t length[1],
+                  size_t refusal[4]);
+
+/* Writes a lossy working copy of a stream, lossless or lossy, to the start of the output. `bases` has a byte for each line of each block, block after block.
+ * Each sample that has a code reads back within the base of its line. All else is as with fuji_tighten; refusal 17, for another number of bases, comes
+ * after 4. So many bytes of output suffice: those for fuji_tighten, and for each block `lines` rounded up to a multiple of 16. */
+void fuji_lossy_copy(const uint8_t *stream, size_t stream_length, const uint8_t *bases, size_t bases_length, uint8_t *out, size_t out_length,
+                     uint16_t *set, size_t set_length, uint16_t *scratch, size_t scratch_length, fuji_record *records,
+                     size_t records_length, size_t length[1], size_t refusal[4]);
+
 /* The full sheet of short codes: every bit string of at most `length` bits (1 to 16) that is one tight lossless code for a depth of 12, 14 or 16 and
  * a k of 0 to 15, as 65536 * (its bits) + its value, by length and then by value. The count is that of the whole sheet, at most 32,768, and 0 where it
  * is refused (24). A list that is shorter than the sheet is left as it was, and so is the rest of a longer one. */

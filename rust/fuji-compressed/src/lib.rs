@@ -9,6 +9,7 @@
 //! assert_eq!(refused.to_string(), "refusal 2: a header rule is broken");
 //! ```
 mod checkpoint;
+mod copies;
 mod fault;
 mod ffi;
 mod parallel;
@@ -17,6 +18,7 @@ mod shared;
 mod windowed;
 mod writer;
 
+pub use copies::{lossy_copy, lossy_copy_parallel, lossy_copy_with, put_front, tighten, tighten_parallel, tighten_with};
 pub use fault::{Fault, Reason};
 pub use refusal::Refusal;
 pub use shared::{Camera, Quantisers};

@@ -45,6 +45,8 @@ impl Refusal {
             22 => "the stored state is of another header or block",
             23 => "the line's depth and base have no entry, and all 16 are held",
             24 => "the depth is not 12, 14 or 16, k is above 15, or the length is not 1 to 16",
+            25 => "there is not one length for each block",
+            26 => "the block has 2^32 bytes or more",
             _ => "refused",
         }
     }
@@ -54,7 +56,7 @@ impl fmt::Display for Refusal {
     fn fmt(&self, f: &mut fmt::Formatter) -> fmt::Result {
         write!(f, "refusal {}: ", self.number)?;
         match self.number {
-            4 => write!(f, "block {}: ", self.block)?,
+            4 | 26 => write!(f, "block {}: ", self.block)?,
             11 | 12 => write!(f, "sample {}: ", self.index)?,
             14 | 23 => write!(f, "block {}, line {}: ", self.block, self.line)?,
             15 | 19 | 20 => write!(f, "line {}: ", self.line)?,

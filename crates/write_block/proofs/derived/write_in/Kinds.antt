@@ -3,10 +3,10 @@ use Rattle.bits.proofs.Values
 use Rattle.bits.proofs.Values.{n16, n8}
 use mathlib.Core.List.{_∷_, []}
 use Rattle.read_block.proofs.Element
-use Rattle.stream.proofs.header.Parsed
-use Rattle.stream.proofs.header.Parsed.Laws
 use Rattle.stream.proofs.BlockLength
-use Rattle.stream.proofs.BlockLength.Laws as Laws'
+use Rattle.stream.proofs.BlockLength.Laws
+use Rattle.stream.proofs.header.Parsed
+use Rattle.stream.proofs.header.Parsed.Laws as Laws'
 use borrow.Fn.Kinds
 use borrow.Kind.MutSlice
 use borrow.Kind.ShrSlice
@@ -14,8 +14,8 @@ use denote.Array
 use mathlib.Core.List
 
 abbrev pub ps : List.List (Kinds.PK 5)
-ps = (Values.enum Parsed.the-type Laws.the-laws Laws.the-copy Laws.the-plain tt) ∷ (ShrSlice.pShrS n8 0 tt) ∷ (ShrSlice.pShrS n16 1 tt) ∷ (MutSlice.pMutS n8 2 tt) ∷ Kinds.pBool ∷ (MutSlice.pMutS n16 3
-    tt) ∷ (MutSlice.pMutS (Element.type) 4 tt) ∷ []
+ps = (Values.enum Parsed.the-type Laws'.the-laws Laws'.the-copy Laws'.the-plain tt) ∷ (ShrSlice.pShrS n8 0 tt) ∷ (ShrSlice.pShrS n16 1 tt) ∷ (MutSlice.pMutS n8 2 tt) ∷ Kinds.pBool ∷ (MutSlice.pMutS
+    n16 3 tt) ∷ (MutSlice.pMutS (Element.type) 4 tt) ∷ []
 
 abbrev pub r : Kinds.RK 5
-r = Values.enum-result BlockLength.the-type Laws'.the-laws Laws'.the-copy Laws'.the-plain tt
+r = Values.enum-result BlockLength.the-type Laws.the-laws Laws.the-copy Laws.the-plain tt

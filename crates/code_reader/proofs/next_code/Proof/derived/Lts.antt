@@ -1132,8 +1132,8 @@ module _ (claims· : Claims) where
       abbrev pub Closed : Type 2
       Closed = (𝓤 : URA.URA M) (H : Wp.Heap 𝓤) (A : Atoms.Atoms 𝓤) (W : Kit.Given 𝓤 H A) (𝓣 : Wp.Tables 𝓤 H) (known0 : Plain.Known 𝓤 H A W 𝓣 2 ps·0 r·0 (claims· .0) (claims· .1)
           "bit_pump::BitPumpMsb::zero_run") (known1 : Plain.Known 𝓤 H A W 𝓣 0 ps·1 r·1 (claims· .2) (claims· .3) "code::is_long") (known2 : Plain.Known 𝓤 H A W 𝓣 2 ps·2 r·2 (claims· .4) (claims· .5)
-          "bit_pump::BitPumpMsb::get") (known3 : Plain.Known 𝓤 H A W 𝓣 2 ps·3 r·3 (claims· .6) (claims· .7) "bit_pump::BitPumpMsb::bit_position") (known4 : Plain.Known 𝓤 H A W 𝓣 0 ps·4 r·4 (claims· .8) (claims·
-          .9) "code::is_needed") → Statement.Triple 𝓤 (Wp.WpFn 𝓤 H (𝓣 .C) (𝓣 .Λ) (Function.fnOf 2 ps r xs m hs body)) (Function.plainOf 𝓤 H A 2 ps r Pre· Post·)
+          "bit_pump::BitPumpMsb::get") (known3 : Plain.Known 𝓤 H A W 𝓣 2 ps·3 r·3 (claims· .6) (claims· .7) "bit_pump::BitPumpMsb::bit_position") (known4 : Plain.Known 𝓤 H A W 𝓣 0 ps·4 r·4 (claims· .8)
+          (claims· .9) "code::is_needed") → Statement.Triple 𝓤 (Wp.WpFn 𝓤 H (𝓣 .C) (𝓣 .Λ) (Function.fnOf 2 ps r xs m hs body)) (Function.plainOf 𝓤 H A 2 ps r Pre· Post·)
 
     module _ where
       abbrev at0 : Typed.TF T18 O1
@@ -1414,9 +1414,9 @@ module _ (claims· : Claims) where
 
       module _ {M : Type 1} (𝓤 : URA.URA M) (H : Wp.Heap 𝓤) (A : Atoms.Atoms 𝓤) (W : Kit.Given 𝓤 H A) (𝓣 : Wp.Tables 𝓤 H) where
         abbrev Knowns : Type 1
-        Knowns = Plain.Known 𝓤 H A W 𝓣 2 ps·0 r·0 (claims· .0) (claims· .1) "bit_pump::BitPumpMsb::zero_run" × Plain.Known 𝓤 H A W 𝓣 0 ps·1 r·1 (claims· .2) (claims· .3) "code::is_long" × Plain.Known 𝓤 H
-            A W 𝓣 2 ps·2 r·2 (claims· .4) (claims· .5) "bit_pump::BitPumpMsb::get" × Plain.Known 𝓤 H A W 𝓣 2 ps·3 r·3 (claims· .6) (claims· .7) "bit_pump::BitPumpMsb::bit_position" × Plain.Known 𝓤 H A W 𝓣 0 ps·4
-            r·4 (claims· .8) (claims· .9) "code::is_needed"
+        Knowns = Plain.Known 𝓤 H A W 𝓣 2 ps·0 r·0 (claims· .0) (claims· .1) "bit_pump::BitPumpMsb::zero_run" × Plain.Known 𝓤 H A W 𝓣 0 ps·1 r·1 (claims· .2) (claims· .3) "code::is_long" × Plain.Known
+            𝓤 H A W 𝓣 2 ps·2 r·2 (claims· .4) (claims· .5) "bit_pump::BitPumpMsb::get" × Plain.Known 𝓤 H A W 𝓣 2 ps·3 r·3 (claims· .6) (claims· .7) "bit_pump::BitPumpMsb::bit_position" × Plain.Known 𝓤 H A
+            W 𝓣 0 ps·4 r·4 (claims· .8) (claims· .9) "code::is_needed"
 
       module _ (κs : Lifetimes.Lfts 2) (qs : Lifetimes.Shares 2) where
         abbrev k0 : Row.Life
@@ -2478,7 +2478,8 @@ module _ (claims· : Claims) where
 
           d46 : (at : Nat.ℕ → Nat.ℕ) → Typed.Typed 𝓤 H A 𝓣 E (G54 at) b26 (Δ2 at) at46
           d46 = λ at. Typed.s-seq 𝓤 H A W 𝓣 E (G54 at) (G55 at) b12 b25 (Δ2 at) (Typed.both s51) at45 (Plain.t-call-plain-by 𝓤 H A W 𝓣 2 ps·3 r·3 (claims· .6) (claims· .7)
-              "bit_pump::BitPumpMsb::bit_position" (known .3) E (λ pos β. β) (G54 at) (record { pos = 15; ty = y2; βs = 9 ∷ 1 ∷ []; ref = λ x. x }, tt) 8 (9 ∷ 1 ∷ []) (Call.sub-id 𝓤 H A W (G54 at .slots)) (
+              "bit_pump::BitPumpMsb::bit_position" (known .3) E (λ pos β. β) (G54 at) (record { pos = 15; ty = y2; βs = 9 ∷ 1 ∷ []; ref = λ x. x }, tt) 8 (9 ∷ 1 ∷ []) (Call.sub-id 𝓤 H A W (G54 at
+              .slots)) (
                 ShrRefTo.spares-sref-at 𝓤 H A W 2 (λ κc. Held.type (Syntax.named 1) (κc .1 .0)) Held.Value (λ κc v. v) (9 ∷ 1 ∷ []) y2 9,
                 AtSlots.reads-sref-at 𝓤 H A W 2 (λ κc. Held.type (Syntax.named 1)
                     (κc .1 .0)) Held.Value (λ κc v. v) (9 ∷ 1 ∷ []) y2 9,
@@ -2872,8 +2873,9 @@ module _ (claims· : Claims) where
               .0) (qs .1 .0) (Bool'.false ∷ [])) ((MeetSlot.to-whole 5 (at 1)) ∷ []) Path'.refl ((Path'.refl, (Path'.refl, Path'.refl)), (Path'.refl, tt))) (d120 at)
 
           d122 : (at : Nat.ℕ → Nat.ℕ) → Typed.Typed 𝓤 H A 𝓣 E (G90 at) b56 (Δ0 at) at122
-          d122 = λ at. Typed.s-seq 𝓤 H A W 𝓣 E (G90 at) (G91 at) b34 b55 (Δ0 at) (Typed.both s87) at116 (Plain.t-call-plain-by 𝓤 H A W 𝓣 2 ps·2 r·2 (claims· .4) (claims· .5) "bit_pump::BitPumpMsb::get"
-              (known .2) E (λ pos β. β) (G90 at) (record { pos = 21; ty = y3; βs = 10 ∷ 1 ∷ []; ref = λ x. x }, (Num.vAt 2 λ x. x, tt)) 9 (10 ∷ 1 ∷ []) (Call.sub-id 𝓤 H A W (G90 at .slots)) (
+          d122 = λ at. Typed.s-seq 𝓤 H A W 𝓣 E (G90 at) (G91 at) b34 b55 (Δ0 at) (Typed.both s87) at116 (Plain.t-call-plain-by 𝓤 H A W 𝓣 2 ps·2 r·2 (claims· .4) (claims· .5)
+              "bit_pump::BitPumpMsb::get" (known .2) E (λ pos β. β) (G90 at) (record { pos = 21; ty = y3; βs = 10 ∷ 1 ∷ []; ref = λ x. x }, (Num.vAt 2 λ x. x, tt)) 9 (10 ∷ 1 ∷ []) (Call.sub-id 𝓤 H A W
+              (G90 at .slots)) (
                 Reads'.as-is 𝓤 H A (AtSlots.mrefAt 2 (λ κc. Held.type (Syntax.named 1) (κc .1 .0)) Held.Value (λ κc v. v) (10 ∷ 1 ∷ []) y3 10),
                 AtSlots.reads-mref-at 𝓤 H A W 2 (λ κc. Held.type
                     (Syntax.named 1) (κc .1 .0)) Held.Value (λ κc v. v) (10 ∷ 1 ∷ []) y3 10,
@@ -3512,7 +3514,7 @@ module _ (claims· : Claims) where
 
         module _ {M : Type 1} (𝓤 : URA.URA M) (H : Wp.Heap 𝓤) (A : Atoms.Atoms 𝓤) (W : Kit.Given 𝓤 H A) (𝓣 : Wp.Tables 𝓤 H) (known0 : Plain.Known 𝓤 H A W 𝓣 2 ps·0 r·0 (claims· .0) (claims· .1)
             "bit_pump::BitPumpMsb::zero_run") (known1 : Plain.Known 𝓤 H A W 𝓣 0 ps·1 r·1 (claims· .2) (claims· .3) "code::is_long") (known2 : Plain.Known 𝓤 H A W 𝓣 2 ps·2 r·2 (claims· .4) (claims· .5)
-            "bit_pump::BitPumpMsb::get") (known3 : Plain.Known 𝓤 H A W 𝓣 2 ps·3 r·3 (claims· .6) (claims· .7) "bit_pump::BitPumpMsb::bit_position") (known4 : Plain.Known 𝓤 H A W 𝓣 0 ps·4 r·4 (claims· .8) (claims·
-            .9) "code::is_needed") where
+            "bit_pump::BitPumpMsb::get") (known3 : Plain.Known 𝓤 H A W 𝓣 2 ps·3 r·3 (claims· .6) (claims· .7) "bit_pump::BitPumpMsb::bit_position") (known4 : Plain.Known 𝓤 H A W 𝓣 0 ps·4 r·4 (claims· .8)
+            (claims· .9) "code::is_needed") where
           pub spec : Statement.Triple 𝓤 (Wp.WpFn 𝓤 H (𝓣 .C) (𝓣 .Λ) (Function.fnOf 2 ps r xs m hs body)) (Function.plainOf 𝓤 H A 2 ps r Pre· Post·)
           spec = Plain.t-fn-plain 𝓤 H A W 𝓣 2 ps r xs m hs body (λ κs qs bs. Φ) (λ κs qs bs bd. typed κs qs 𝓤 H A W 𝓣 (known0, known1, known2, known3, known4) bs bd) Pre· Post· asked

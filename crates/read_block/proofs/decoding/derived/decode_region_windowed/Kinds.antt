@@ -3,10 +3,10 @@ use Rattle.bits.proofs.Values
 use Rattle.bits.proofs.Values.{n16, n8}
 use mathlib.Core.List.{_∷_, []}
 use Rattle.read_block.proofs.Element
-use Rattle.read_block.proofs.Decoded
-use Rattle.read_block.proofs.Decoded.Laws
 use Rattle.image_region.proofs.Rect
-use Rattle.image_region.proofs.Rect.Laws as Laws'
+use Rattle.image_region.proofs.Rect.Laws
+use Rattle.read_block.proofs.Decoded
+use Rattle.read_block.proofs.Decoded.Laws as Laws'
 use borrow.Fn.Kinds
 use borrow.Kind.Array
 use borrow.Kind.MutSlice
@@ -16,8 +16,8 @@ use mathlib.Core.List
 use mir.Syntax
 
 abbrev pub ps : List.List (Kinds.PK 4)
-ps = (ShrSlice.pShrS n8 0 tt) ∷ (Values.struct Rect.the-type Laws'.the-laws Laws'.the-copy Laws'.the-plain) ∷ (Array.pArr (Array.eInt Syntax.w8) (Array.eInt-laws Syntax.w8) 36) ∷ (MutSlice.pMutS n16 1
+ps = (ShrSlice.pShrS n8 0 tt) ∷ (Values.struct Rect.the-type Laws.the-laws Laws.the-copy Laws.the-plain) ∷ (Array.pArr (Array.eInt Syntax.w8) (Array.eInt-laws Syntax.w8) 36) ∷ (MutSlice.pMutS n16 1
     tt) ∷ (MutSlice.pMutS n16 2 tt) ∷ (MutSlice.pMutS (Element.type) 3 tt) ∷ []
 
 abbrev pub r : Kinds.RK 4
-r = Values.enum-result Decoded.the-type Laws.the-laws Laws.the-copy Laws.the-plain tt
+r = Values.enum-result Decoded.the-type Laws'.the-laws Laws'.the-copy Laws'.the-plain tt

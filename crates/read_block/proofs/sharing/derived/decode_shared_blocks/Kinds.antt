@@ -3,16 +3,16 @@ use Rattle.bits.proofs.Values
 use Rattle.bits.proofs.Values.{n16, n8}
 use mathlib.Core.List.{_∷_, []}
 use Rattle.read_block.proofs.Element
-use Rattle.read_block.proofs.SharedAnswer
-use Rattle.read_block.proofs.SharedAnswer.Laws
 use Rattle.cameras.proofs.Camera
-use Rattle.cameras.proofs.Camera.Laws as Laws'
+use Rattle.cameras.proofs.Camera.Laws
 use Rattle.cameras.proofs.Entries
-use Rattle.cameras.proofs.Entries.Laws as Laws''
-use Rattle.stream.proofs.header.FujiHeader
-use Rattle.stream.proofs.header.FujiHeader.Laws as Laws'3
+use Rattle.cameras.proofs.Entries.Laws as Laws'
 use Rattle.image_region.proofs.Rect
-use Rattle.image_region.proofs.Rect.Laws as Laws'4
+use Rattle.image_region.proofs.Rect.Laws as Laws''
+use Rattle.read_block.proofs.SharedAnswer
+use Rattle.read_block.proofs.SharedAnswer.Laws as Laws'3
+use Rattle.stream.proofs.header.FujiHeader
+use Rattle.stream.proofs.header.FujiHeader.Laws as Laws'4
 use borrow.Fn.Kinds
 use borrow.Kind.Array
 use borrow.Kind.MutSlice
@@ -22,9 +22,9 @@ use mathlib.Core.List
 use mir.Syntax
 
 abbrev pub ps : List.List (Kinds.PK 4)
-ps = (Values.enum Camera.the-type Laws'.the-laws Laws'.the-copy Laws'.the-plain tt) ∷ (Values.struct Entries.the-type Laws''.the-laws Laws''.the-copy Laws''.the-plain) ∷ (ShrSlice.pShrS n8 0 tt) ∷
-    (Values.struct FujiHeader.the-type Laws'3.the-laws Laws'3.the-copy Laws'3.the-plain) ∷ (Values.struct Rect.the-type Laws'4.the-laws Laws'4.the-copy Laws'4.the-plain) ∷ (Array.pArr (Array.eInt
+ps = (Values.enum Camera.the-type Laws.the-laws Laws.the-copy Laws.the-plain tt) ∷ (Values.struct Entries.the-type Laws'.the-laws Laws'.the-copy Laws'.the-plain) ∷ (ShrSlice.pShrS n8 0 tt) ∷
+    (Values.struct FujiHeader.the-type Laws'4.the-laws Laws'4.the-copy Laws'4.the-plain) ∷ (Values.struct Rect.the-type Laws''.the-laws Laws''.the-copy Laws''.the-plain) ∷ (Array.pArr (Array.eInt
     Syntax.w8) (Array.eInt-laws Syntax.w8) 36) ∷ (MutSlice.pMutS n16 1 tt) ∷ (MutSlice.pMutS n16 2 tt) ∷ (MutSlice.pMutS (Element.type) 3 tt) ∷ []
 
 abbrev pub r : Kinds.RK 4
-r = Values.struct-result SharedAnswer.the-type Laws.the-laws Laws.the-copy Laws.the-plain
+r = Values.struct-result SharedAnswer.the-type Laws'3.the-laws Laws'3.the-copy Laws'3.the-plain

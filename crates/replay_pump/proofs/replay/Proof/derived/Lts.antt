@@ -81,7 +81,7 @@ abbrev pub y3 : Syntax.Ty
 y3 = Syntax.tyRef Syntax.erased Syntax.mut (Held.behind Syntax.erased)
 
 abbrev pub y4 : Syntax.Ty
-y4 = Syntax.tyStruct (112 ∷ 117 ∷ 109 ∷ 112 ∷ 95 ∷ 97 ∷ 110 ∷ 115 ∷ 119 ∷ 101 ∷ 114 ∷ 115 ∷ 58 ∷ 58 ∷ 67 ∷ 97 ∷ 108 ∷ 108 ∷ []) (Syntax.tcons u32 (Syntax.tcons u32 (Syntax.tcons u32 (Syntax.tcons u32
+y4 = Syntax.tyStruct (114 ∷ 101 ∷ 112 ∷ 108 ∷ 97 ∷ 121 ∷ 95 ∷ 112 ∷ 117 ∷ 109 ∷ 112 ∷ 58 ∷ 58 ∷ 67 ∷ 97 ∷ 108 ∷ 108 ∷ []) (Syntax.tcons u32 (Syntax.tcons u32 (Syntax.tcons u32 (Syntax.tcons u32
     (Syntax.tcons u32 Syntax.tnil)))))
 
 abbrev pub y5 : Syntax.Ty
@@ -641,8 +641,8 @@ module _ (claims· : Claims) where
       abbrev pub Closed : Type 2
       Closed = (𝓤 : URA.URA M) (H : Wp.Heap 𝓤) (A : Atoms.Atoms 𝓤) (W : Kit.Given 𝓤 H A) (𝓣 : Wp.Tables 𝓤 H) (known0 : Plain.Known 𝓤 H A W 𝓣 1 ps·0 r·0 (claims· .0) (claims· .1)
           "replay_pump::call_at") (known1 : Plain.Known 𝓤 H A W 𝓣 2 ps·1 r·1 (claims· .2) (claims· .3) "replay_pump::answer") (known2 : Plain.Known 𝓤 H A W 𝓣 2 ps·2 r·2 (claims· .4) (claims· .5)
-          "bit_pump::BitPumpMsb::bit_position") (known3 : Plain.Known 𝓤 H A W 𝓣 2 ps·3 r·3 (claims· .6) (claims· .7) "bit_pump::BitPumpMsb::byte_position") (known4 : Plain.Known 𝓤 H A W 𝓣 0 ps·4 r·4 (claims· .8)
-          (claims· .9) "replay_pump::agrees") (known5 : Plain.Known 𝓤 H A W 𝓣 0 ps·5 r·5 (claims· .10) (claims· .11) "replay_pump::counted") → Statement.Triple 𝓤 (Wp.WpFn 𝓤 H (𝓣 .C) (𝓣 .Λ)
+          "bit_pump::BitPumpMsb::bit_position") (known3 : Plain.Known 𝓤 H A W 𝓣 2 ps·3 r·3 (claims· .6) (claims· .7) "bit_pump::BitPumpMsb::byte_position") (known4 : Plain.Known 𝓤 H A W 𝓣 0 ps·4 r·4
+          (claims· .8) (claims· .9) "replay_pump::agrees") (known5 : Plain.Known 𝓤 H A W 𝓣 0 ps·5 r·5 (claims· .10) (claims· .11) "replay_pump::counted") → Statement.Triple 𝓤 (Wp.WpFn 𝓤 H (𝓣 .C) (𝓣 .Λ)
           (Function.fnOf 2 ps r xs m hs body)) (Function.plainOf 𝓤 H A 2 ps r Pre· Post·)
 
     module _ (Inv·0 : InvT-loop) (μ·0 : MeasureT-loop) where
@@ -784,9 +784,9 @@ module _ (claims· : Claims) where
 
       module _ {M : Type 1} (𝓤 : URA.URA M) (H : Wp.Heap 𝓤) (A : Atoms.Atoms 𝓤) (W : Kit.Given 𝓤 H A) (𝓣 : Wp.Tables 𝓤 H) where
         abbrev Knowns : Type 1
-        Knowns = Plain.Known 𝓤 H A W 𝓣 1 ps·0 r·0 (claims· .0) (claims· .1) "replay_pump::call_at" × Plain.Known 𝓤 H A W 𝓣 2 ps·1 r·1 (claims· .2) (claims· .3) "replay_pump::answer" × Plain.Known 𝓤
-            H A W 𝓣 2 ps·2 r·2 (claims· .4) (claims· .5) "bit_pump::BitPumpMsb::bit_position" × Plain.Known 𝓤 H A W 𝓣 2 ps·3 r·3 (claims· .6) (claims· .7) "bit_pump::BitPumpMsb::byte_position" × Plain.Known 𝓤 H A
-            W 𝓣 0 ps·4 r·4 (claims· .8) (claims· .9) "replay_pump::agrees" × Plain.Known 𝓤 H A W 𝓣 0 ps·5 r·5 (claims· .10) (claims· .11) "replay_pump::counted"
+        Knowns = Plain.Known 𝓤 H A W 𝓣 1 ps·0 r·0 (claims· .0) (claims· .1) "replay_pump::call_at" × Plain.Known 𝓤 H A W 𝓣 2 ps·1 r·1 (claims· .2) (claims· .3) "replay_pump::answer" × Plain.Known 𝓤 H
+            A W 𝓣 2 ps·2 r·2 (claims· .4) (claims· .5) "bit_pump::BitPumpMsb::bit_position" × Plain.Known 𝓤 H A W 𝓣 2 ps·3 r·3 (claims· .6) (claims· .7) "bit_pump::BitPumpMsb::byte_position" × Plain.Known
+            𝓤 H A W 𝓣 0 ps·4 r·4 (claims· .8) (claims· .9) "replay_pump::agrees" × Plain.Known 𝓤 H A W 𝓣 0 ps·5 r·5 (claims· .10) (claims· .11) "replay_pump::counted"
 
       module _ (κs : Lifetimes.Lfts 2) (qs : Lifetimes.Shares 2) where
         abbrev k0 : Row.Life
@@ -1329,7 +1329,8 @@ module _ (claims· : Claims) where
 
           d21 : (at : Nat.ℕ → Nat.ℕ) → Typed.Typed 𝓤 H A 𝓣 E (G49 at) b18 (Δ3 at) at21
           d21 = λ at. Typed.s-seq 𝓤 H A W 𝓣 E (G49 at) (G50 at) b12 b17 (Δ3 at) (Typed.both s46) at20 (Plain.t-call-plain-by 𝓤 H A W 𝓣 2 ps·3 r·3 (claims· .6) (claims· .7)
-              "bit_pump::BitPumpMsb::byte_position" (known .3) E (λ pos β. β) (G49 at) (record { pos = 12; ty = y2; βs = 7 ∷ 1 ∷ []; ref = λ x. x }, tt) 8 (7 ∷ 1 ∷ []) (Call'.sub-id 𝓤 H A W (G49 at .slots)) (
+              "bit_pump::BitPumpMsb::byte_position" (known .3) E (λ pos β. β) (G49 at) (record { pos = 12; ty = y2; βs = 7 ∷ 1 ∷ []; ref = λ x. x }, tt) 8 (7 ∷ 1 ∷ []) (Call'.sub-id 𝓤 H A W (G49 at
+              .slots)) (
                 ShrRefTo.spares-sref-at 𝓤 H A W 2 (λ κc. Held.type (Syntax.named 1) (κc .1 .0)) Held.Value (λ κc v. v) (7 ∷ 1 ∷ []) y2 7,
                 AtSlots.reads-sref-at 𝓤 H A W 2 (λ κc. Held.type (Syntax.named 1)
                     (κc .1 .0)) Held.Value (λ κc v. v) (7 ∷ 1 ∷ []) y2 7,
@@ -1408,7 +1409,8 @@ module _ (claims· : Claims) where
 
           d38 : (at : Nat.ℕ → Nat.ℕ) → Typed.Typed 𝓤 H A 𝓣 E (G32 at) b20 (Δ3 at) at38
           d38 = λ at. Typed.s-seq 𝓤 H A W 𝓣 E (G32 at) (G33 at) b10 b19 (Δ3 at) (Typed.both s29) at37 (Plain.t-call-plain-by 𝓤 H A W 𝓣 2 ps·2 r·2 (claims· .4) (claims· .5)
-              "bit_pump::BitPumpMsb::bit_position" (known .2) E (λ pos β. β) (G32 at) (record { pos = 11; ty = y2; βs = 6 ∷ 1 ∷ []; ref = λ x. x }, tt) 7 (6 ∷ 1 ∷ []) (Call'.sub-id 𝓤 H A W (G32 at .slots)) (
+              "bit_pump::BitPumpMsb::bit_position" (known .2) E (λ pos β. β) (G32 at) (record { pos = 11; ty = y2; βs = 6 ∷ 1 ∷ []; ref = λ x. x }, tt) 7 (6 ∷ 1 ∷ []) (Call'.sub-id 𝓤 H A W (G32 at
+              .slots)) (
                 ShrRefTo.spares-sref-at 𝓤 H A W 2 (λ κc. Held.type (Syntax.named 1) (κc .1 .0)) Held.Value (λ κc v. v) (6 ∷ 1 ∷ []) y2 6,
                 AtSlots.reads-sref-at 𝓤 H A W 2 (λ κc. Held.type (Syntax.named 1)
                     (κc .1 .0)) Held.Value (λ κc v. v) (6 ∷ 1 ∷ []) y2 6,
@@ -1998,7 +2000,7 @@ module _ (claims· : Claims) where
 
         module _ {M : Type 1} (𝓤 : URA.URA M) (H : Wp.Heap 𝓤) (A : Atoms.Atoms 𝓤) (W : Kit.Given 𝓤 H A) (𝓣 : Wp.Tables 𝓤 H) (known0 : Plain.Known 𝓤 H A W 𝓣 1 ps·0 r·0 (claims· .0) (claims· .1)
             "replay_pump::call_at") (known1 : Plain.Known 𝓤 H A W 𝓣 2 ps·1 r·1 (claims· .2) (claims· .3) "replay_pump::answer") (known2 : Plain.Known 𝓤 H A W 𝓣 2 ps·2 r·2 (claims· .4) (claims· .5)
-            "bit_pump::BitPumpMsb::bit_position") (known3 : Plain.Known 𝓤 H A W 𝓣 2 ps·3 r·3 (claims· .6) (claims· .7) "bit_pump::BitPumpMsb::byte_position") (known4 : Plain.Known 𝓤 H A W 𝓣 0 ps·4 r·4 (claims·
-            .8) (claims· .9) "replay_pump::agrees") (known5 : Plain.Known 𝓤 H A W 𝓣 0 ps·5 r·5 (claims· .10) (claims· .11) "replay_pump::counted") where
+            "bit_pump::BitPumpMsb::bit_position") (known3 : Plain.Known 𝓤 H A W 𝓣 2 ps·3 r·3 (claims· .6) (claims· .7) "bit_pump::BitPumpMsb::byte_position") (known4 : Plain.Known 𝓤 H A W 𝓣 0 ps·4 r·4
+            (claims· .8) (claims· .9) "replay_pump::agrees") (known5 : Plain.Known 𝓤 H A W 𝓣 0 ps·5 r·5 (claims· .10) (claims· .11) "replay_pump::counted") where
           pub spec : Statement.Triple 𝓤 (Wp.WpFn 𝓤 H (𝓣 .C) (𝓣 .Λ) (Function.fnOf 2 ps r xs m hs body)) (Function.plainOf 𝓤 H A 2 ps r Pre· Post·)
           spec = Plain.t-fn-plain 𝓤 H A W 𝓣 2 ps r xs m hs body (λ κs qs bs. Φ) (λ κs qs bs bd. typed κs qs 𝓤 H A W 𝓣 (known0, known1, known2, known3, known4, known5) bs bd) Pre· Post· asked

@@ -127,5 +127,5 @@ module _ {M : Type 1} where
       { M = M; 𝓤 = 𝓤; H = H; 𝓜 = 𝓜; 𝓖 = 𝓖; 𝓡 = 𝓡 } Code.env Symbol'.name Symbol'.routine Code.calls-replay-pump·answer (Met'.met 𝓤 H 𝓜 𝓖 𝓡)) (Reads''.known record
       { M = M; 𝓤 = 𝓤; H = H; 𝓜 = 𝓜; 𝓖 = 𝓖; 𝓡 = 𝓡 } Code.env Symbol''.name Symbol''.routine Code.calls-bit-pump·BitPumpMsb·bit-position (Met''.met 𝓤 H 𝓜 𝓖 𝓡)) (Reads'3.known record
       { M = M; 𝓤 = 𝓤; H = H; 𝓜 = 𝓜; 𝓖 = 𝓖; 𝓡 = 𝓡 } Code.env Symbol'3.name Symbol'3.routine Code.calls-bit-pump·BitPumpMsb·byte-position (Met'3.met 𝓤 H 𝓜 𝓖 𝓡)) (Reads.known record
-      { M = M; 𝓤 = 𝓤; H = H; 𝓜 = 𝓜; 𝓖 = 𝓖; 𝓡 = 𝓡 } Code.env Symbol.name Symbol.routine Code.calls-replay-pump·agrees (Met.met 𝓤 H 𝓜 𝓖 𝓡)) (Reads'5.known record
-      { M = M; 𝓤 = 𝓤; H = H; 𝓜 = 𝓜; 𝓖 = 𝓖; 𝓡 = 𝓡 } Code.env Symbol'5.name Symbol'5.routine Code.calls-replay-pump·counted (Met'5.met 𝓤 H 𝓜 𝓖 𝓡))
+      { M = M; 𝓤 = 𝓤; H = H; 𝓜 = 𝓜; 𝓖 = 𝓖; 𝓡 = 𝓡 } Code.env Symbol.name Symbol.routine Code.calls-replay-pump·agrees (Met.met 𝓤 H 𝓜 𝓖 𝓡)) (Reads'5.known record { M = M; 𝓤 = 𝓤; H = H; 𝓜 = 𝓜; 𝓖 = 𝓖; 𝓡 = 𝓡 }
+      Code.env Symbol'5.name Symbol'5.routine Code.calls-replay-pump·counted (Met'5.met 𝓤 H 𝓜 𝓖 𝓡))

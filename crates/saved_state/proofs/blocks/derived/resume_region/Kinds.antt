@@ -3,10 +3,10 @@ use Rattle.bits.proofs.Values
 use Rattle.bits.proofs.Values.{n16, n8}
 use mathlib.Core.List.{_∷_, []}
 use Rattle.read_block.proofs.Element
-use Rattle.read_block.proofs.Counted
-use Rattle.read_block.proofs.Counted.Laws
 use Rattle.image_region.proofs.Rect
-use Rattle.image_region.proofs.Rect.Laws as Laws'
+use Rattle.image_region.proofs.Rect.Laws
+use Rattle.read_block.proofs.Counted
+use Rattle.read_block.proofs.Counted.Laws as Laws'
 use borrow.Fn.Kinds
 use borrow.Kind.Array
 use borrow.Kind.MutSlice
@@ -16,8 +16,8 @@ use mathlib.Core.List
 use mir.Syntax
 
 abbrev pub ps : List.List (Kinds.PK 5)
-ps = (ShrSlice.pShrS n8 0 tt) ∷ (Kinds.pNum Syntax.w64) ∷ (ShrSlice.pShrS n8 1 tt) ∷ (Values.struct Rect.the-type Laws'.the-laws Laws'.the-copy Laws'.the-plain) ∷ (Array.pArr (Array.eInt Syntax.w8)
+ps = (ShrSlice.pShrS n8 0 tt) ∷ (Kinds.pNum Syntax.w64) ∷ (ShrSlice.pShrS n8 1 tt) ∷ (Values.struct Rect.the-type Laws.the-laws Laws.the-copy Laws.the-plain) ∷ (Array.pArr (Array.eInt Syntax.w8)
     (Array.eInt-laws Syntax.w8) 36) ∷ (MutSlice.pMutS n16 2 tt) ∷ (MutSlice.pMutS n16 3 tt) ∷ (MutSlice.pMutS (Element.type) 4 tt) ∷ []
 
 abbrev pub r : Kinds.RK 5
-r = Values.struct-result Counted.the-type Laws.the-laws Laws.the-copy Laws.the-plain
+r = Values.struct-result Counted.the-type Laws'.the-laws Laws'.the-copy Laws'.the-plain

@@ -5,14 +5,14 @@ use Rattle.bits.proofs.Values.{n16, n8, u16, u32, u64, u8}
 use mathlib.Core.List.{_∷_, []}
 use Rattle.read_block.proofs.Element
 use Prim.Native.Nat
-use Rattle.read_block.proofs.Form
-use Rattle.read_block.proofs.Form.Laws
-use Rattle.read_block.proofs.Walked
-use Rattle.read_block.proofs.Walked.Laws as Laws'
 use Rattle.cameras.proofs.Entries
-use Rattle.cameras.proofs.Entries.Laws as Laws''
+use Rattle.cameras.proofs.Entries.Laws
 use Rattle.image_map.proofs.Part
-use Rattle.image_map.proofs.Part.Laws as Laws'3
+use Rattle.image_map.proofs.Part.Laws as Laws'
+use Rattle.read_block.proofs.Form
+use Rattle.read_block.proofs.Form.Laws as Laws''
+use Rattle.read_block.proofs.Walked
+use Rattle.read_block.proofs.Walked.Laws as Laws'3
 use borrow.Author.Called
 use borrow.Fn.Any
 use borrow.Fn.Call
@@ -105,18 +105,18 @@ abbrev pub y9 : Syntax.Ty
 y9 = Syntax.tyRef Syntax.erased Syntax.mut u16
 
 abbrev pub y10 : Syntax.Ty
-y10 = Syntax.tyStruct (109 ∷ 97 ∷ 112 ∷ 58 ∷ 58 ∷ 80 ∷ 97 ∷ 114 ∷ 116 ∷ []) (Syntax.tcons u64 (Syntax.tcons u64 (Syntax.tcons u64 (Syntax.tcons u64 (Syntax.tcons u64 (Syntax.tcons u64
-    Syntax.tnil))))))
+y10 = Syntax.tyStruct (105 ∷ 109 ∷ 97 ∷ 103 ∷ 101 ∷ 95 ∷ 109 ∷ 97 ∷ 112 ∷ 58 ∷ 58 ∷ 80 ∷ 97 ∷ 114 ∷ 116 ∷ []) (Syntax.tcons u64 (Syntax.tcons u64 (Syntax.tcons u64 (Syntax.tcons u64 (Syntax.tcons u64
+    (Syntax.tcons u64 Syntax.tnil))))))
 
 abbrev pub y11 : Syntax.Ty
-y11 = Syntax.tyStruct (113 ∷ 117 ∷ 97 ∷ 110 ∷ 116 ∷ 105 ∷ 115 ∷ 101 ∷ 114 ∷ 58 ∷ 58 ∷ 81 ∷ 117 ∷ 97 ∷ 110 ∷ 116 ∷ 105 ∷ 115 ∷ 101 ∷ 114 ∷ []) (Syntax.tcons u32 (Syntax.tcons u32 (Syntax.tcons u32
-    (Syntax.tcons u32 (Syntax.tcons u32 Syntax.tnil)))))
+y11 = Syntax.tyStruct (108 ∷ 105 ∷ 110 ∷ 101 ∷ 95 ∷ 116 ∷ 111 ∷ 116 ∷ 97 ∷ 108 ∷ 115 ∷ 58 ∷ 58 ∷ 84 ∷ 111 ∷ 116 ∷ 97 ∷ 108 ∷ 115 ∷ []) (Syntax.tcons u64 (Syntax.tcons u64 Syntax.tnil))
 
 abbrev pub y12 : Syntax.Ty
-y12 = Syntax.tyStruct (116 ∷ 111 ∷ 116 ∷ 97 ∷ 108 ∷ 115 ∷ 58 ∷ 58 ∷ 84 ∷ 111 ∷ 116 ∷ 97 ∷ 108 ∷ 115 ∷ []) (Syntax.tcons u64 (Syntax.tcons u64 Syntax.tnil))
+y12 = Syntax.tyStruct (113 ∷ 117 ∷ 97 ∷ 110 ∷ 116 ∷ 105 ∷ 115 ∷ 101 ∷ 114 ∷ 58 ∷ 58 ∷ 81 ∷ 117 ∷ 97 ∷ 110 ∷ 116 ∷ 105 ∷ 115 ∷ 101 ∷ 114 ∷ []) (Syntax.tcons u32 (Syntax.tcons u32 (Syntax.tcons u32
+    (Syntax.tcons u32 (Syntax.tcons u32 Syntax.tnil)))))
 
 abbrev pub y13 : Syntax.Ty
-y13 = Syntax.tyStruct (98 ∷ 108 ∷ 111 ∷ 99 ∷ 107 ∷ 58 ∷ 58 ∷ 70 ∷ 111 ∷ 114 ∷ 109 ∷ []) (Syntax.tcons u32 (Syntax.tcons Syntax.tyBool Syntax.tnil))
+y13 = Syntax.tyStruct (114 ∷ 101 ∷ 97 ∷ 100 ∷ 95 ∷ 98 ∷ 108 ∷ 111 ∷ 99 ∷ 107 ∷ 58 ∷ 58 ∷ 70 ∷ 111 ∷ 114 ∷ 109 ∷ []) (Syntax.tcons u32 (Syntax.tcons Syntax.tyBool Syntax.tnil))
 
 abbrev pub y14 : Syntax.Ty
 y14 = Syntax.tyRef Syntax.erased Syntax.imm y2
@@ -125,7 +125,8 @@ abbrev pub y15 : Syntax.Ty
 y15 = Syntax.tyRef Syntax.erased Syntax.mut y1
 
 abbrev pub y16 : Syntax.Ty
-y16 = Syntax.tyStruct (116 ∷ 111 ∷ 116 ∷ 97 ∷ 108 ∷ 115 ∷ 58 ∷ 58 ∷ 84 ∷ 105 ∷ 103 ∷ 104 ∷ 116 ∷ 76 ∷ 105 ∷ 110 ∷ 101 ∷ 115 ∷ []) (Syntax.tcons u64 (Syntax.tcons y12 Syntax.tnil))
+y16 = Syntax.tyStruct (108 ∷ 105 ∷ 110 ∷ 101 ∷ 95 ∷ 116 ∷ 111 ∷ 116 ∷ 97 ∷ 108 ∷ 115 ∷ 58 ∷ 58 ∷ 84 ∷ 105 ∷ 103 ∷ 104 ∷ 116 ∷ 76 ∷ 105 ∷ 110 ∷ 101 ∷ 115 ∷ []) (Syntax.tcons u64 (Syntax.tcons y11
+    Syntax.tnil))
 
 abbrev pub y17 : Syntax.Ty
 y17 = Syntax.tyStruct (38 ∷ 91 ∷ 93 ∷ []) (Syntax.tcons y8 (Syntax.tcons u64 Syntax.tnil))
@@ -134,25 +135,25 @@ abbrev pub y18 : Syntax.Ty
 y18 = Syntax.tyStruct (38 ∷ 91 ∷ 93 ∷ []) (Syntax.tcons y9 (Syntax.tcons u64 Syntax.tnil))
 
 abbrev pub y19 : Syntax.Ty
-y19 = Syntax.tyStruct (99 ∷ 97 ∷ 109 ∷ 101 ∷ 114 ∷ 97 ∷ 115 ∷ 58 ∷ 58 ∷ 69 ∷ 110 ∷ 116 ∷ 114 ∷ 121 ∷ []) (Syntax.tcons u32 (Syntax.tcons y11 (Syntax.tcons Syntax.tyBool (Syntax.tcons Syntax.tyBool
+y19 = Syntax.tyStruct (99 ∷ 97 ∷ 109 ∷ 101 ∷ 114 ∷ 97 ∷ 115 ∷ 58 ∷ 58 ∷ 69 ∷ 110 ∷ 116 ∷ 114 ∷ 121 ∷ []) (Syntax.tcons u32 (Syntax.tcons y12 (Syntax.tcons Syntax.tyBool (Syntax.tcons Syntax.tyBool
     Syntax.tnil))))
 
 abbrev pub y20 : Syntax.Ty
 y20 = Syntax.tyArray y19 16
 
 abbrev pub y21 : Syntax.Ty
-y21 = Syntax.tyEnum (98 ∷ 108 ∷ 111 ∷ 99 ∷ 107 ∷ 58 ∷ 58 ∷ 87 ∷ 97 ∷ 108 ∷ 107 ∷ 101 ∷ 100 ∷ []) (Syntax.ttcons (Syntax.tcons y12 (Syntax.tcons y16 Syntax.tnil)) (Syntax.ttcons (Syntax.tcons u64
-    (Syntax.tcons y12 Syntax.tnil)) Syntax.ttnil))
+y21 = Syntax.tyEnum (114 ∷ 101 ∷ 97 ∷ 100 ∷ 95 ∷ 98 ∷ 108 ∷ 111 ∷ 99 ∷ 107 ∷ 58 ∷ 58 ∷ 87 ∷ 97 ∷ 108 ∷ 107 ∷ 101 ∷ 100 ∷ []) (Syntax.ttcons (Syntax.tcons y11 (Syntax.tcons y16 Syntax.tnil))
+    (Syntax.ttcons (Syntax.tcons u64 (Syntax.tcons y11 Syntax.tnil)) Syntax.ttnil))
 
 abbrev pub y22 : Syntax.Ty
 y22 = Syntax.tyStruct (99 ∷ 97 ∷ 109 ∷ 101 ∷ 114 ∷ 97 ∷ 115 ∷ 58 ∷ 58 ∷ 69 ∷ 110 ∷ 116 ∷ 114 ∷ 105 ∷ 101 ∷ 115 ∷ []) (Syntax.tcons y20 Syntax.tnil)
 
 abbrev pub ps : List.List (Kinds.PK 3)
-ps = (ShrSlice.pShrS n8 0 tt) ∷ (ShrSlice.pShrS n8 1 tt) ∷ (MutSlice.pMutS n16 2 tt) ∷ (Values.struct Form.the-type Laws.the-laws Laws.the-copy Laws.the-plain) ∷ (Array.pArr (Array.eInt Syntax.w8)
-    (Array.eInt-laws Syntax.w8) 36) ∷ (Values.struct Part.the-type Laws'3.the-laws Laws'3.the-copy Laws'3.the-plain) ∷ (Num.pNum Syntax.w64) ∷ []
+ps = (ShrSlice.pShrS n8 0 tt) ∷ (ShrSlice.pShrS n8 1 tt) ∷ (MutSlice.pMutS n16 2 tt) ∷ (Values.struct Form.the-type Laws''.the-laws Laws''.the-copy Laws''.the-plain) ∷ (Array.pArr (Array.eInt
+    Syntax.w8) (Array.eInt-laws Syntax.w8) 36) ∷ (Values.struct Part.the-type Laws'.the-laws Laws'.the-copy Laws'.the-plain) ∷ (Num.pNum Syntax.w64) ∷ []
 
 abbrev pub r : Kinds.RK 3
-r = Values.enum-result Walked.the-type Laws'.the-laws Laws'.the-copy Laws'.the-plain tt
+r = Values.enum-result Walked.the-type Laws'3.the-laws Laws'3.the-copy Laws'3.the-plain tt
 
 abbrev pub xs : List.List Syntax.Ty
 xs = y2 ∷ y3 ∷ y0 ∷ u64 ∷ y2 ∷ (Element.held) ∷ Syntax.tyPtr ∷ Syntax.tyPtr ∷ u64 ∷ y9 ∷ y18 ∷ y15 ∷ y17 ∷ y9 ∷ y18 ∷ y14 ∷ y22 ∷ []
@@ -182,15 +183,15 @@ abbrev pub ps·3 : List.List (Kinds.PK 0)
 ps·3 = []
 
 abbrev pub r·3 : Kinds.RK 0
-r·3 = Values.struct-result Entries.the-type Laws''.the-laws Laws''.the-copy Laws''.the-plain
+r·3 = Values.struct-result Entries.the-type Laws.the-laws Laws.the-copy Laws.the-plain
 
 abbrev pub ps·4 : List.List (Kinds.PK 6)
-ps·4 = (ShrSlice.pShrS n8 0 tt) ∷ (ShrSlice.pShrS n8 1 tt) ∷ (MutSlice.pMutS n16 2 tt) ∷ (MutSlice.pMutS (Element.type) 3 tt) ∷ (MutSlice.pMutS n16 4 tt) ∷ (Values.struct Form.the-type Laws.the-laws
-    Laws.the-copy Laws.the-plain) ∷ (ShrRef.pShr (Array'.Array n16 768) 5 tt) ∷ (Array.pArr (Array.eInt Syntax.w8) (Array.eInt-laws Syntax.w8) 36) ∷ (Values.struct Part.the-type Laws'3.the-laws
-    Laws'3.the-copy Laws'3.the-plain) ∷ (Num.pNum Syntax.w64) ∷ Bool.pBool ∷ (Values.struct Entries.the-type Laws''.the-laws Laws''.the-copy Laws''.the-plain) ∷ []
+ps·4 = (ShrSlice.pShrS n8 0 tt) ∷ (ShrSlice.pShrS n8 1 tt) ∷ (MutSlice.pMutS n16 2 tt) ∷ (MutSlice.pMutS (Element.type) 3 tt) ∷ (MutSlice.pMutS n16 4 tt) ∷ (Values.struct Form.the-type Laws''.the-laws
+    Laws''.the-copy Laws''.the-plain) ∷ (ShrRef.pShr (Array'.Array n16 768) 5 tt) ∷ (Array.pArr (Array.eInt Syntax.w8) (Array.eInt-laws Syntax.w8) 36) ∷ (Values.struct Part.the-type Laws'.the-laws
+    Laws'.the-copy Laws'.the-plain) ∷ (Num.pNum Syntax.w64) ∷ Bool.pBool ∷ (Values.struct Entries.the-type Laws.the-laws Laws.the-copy Laws.the-plain) ∷ []
 
 abbrev pub r·4 : Kinds.RK 6
-r·4 = Values.enum-result Walked.the-type Laws'.the-laws Laws'.the-copy Laws'.the-plain tt
+r·4 = Values.enum-result Walked.the-type Laws'3.the-laws Laws'3.the-copy Laws'3.the-plain tt
 
 abbrev pub hs : List.List Syntax.Home
 hs = Syntax.valueLocal ∷ Syntax.valueLocal ∷ Syntax.valueLocal ∷ Syntax.valueLocal ∷ Syntax.valueLocal ∷ Syntax.valueLocal ∷ Syntax.valueLocal ∷ Syntax.valueLocal ∷ Syntax.memorySlot ∷
@@ -249,9 +250,9 @@ abbrev b16 : Syntax.Body
 b16 = Syntax.call "cameras::no_entries" [] (Syntax.place 24 [])
 
 abbrev b17 : Syntax.Body
-b17 = Syntax.call "read_block::reading::walk" ((Syntax.copy (Syntax.place 1 [])) ∷ (Syntax.copy (Syntax.place 2 [])) ∷ (Syntax.copy (Syntax.place 18 [])) ∷ (Syntax.copy (Syntax.place 20 [])) ∷ (Syntax.copy
-    (Syntax.place 22 [])) ∷ (Syntax.copy (Syntax.place 4 [])) ∷ (Syntax.copy (Syntax.place 23 [])) ∷ (Syntax.copy (Syntax.place 5 [])) ∷ (Syntax.copy (Syntax.place 6 [])) ∷ (Syntax.copy (Syntax.place 7
-    [])) ∷ Syntax.opdFalse ∷ (Syntax.copy (Syntax.place 24 [])) ∷ []) (Syntax.place 0 [])
+b17 = Syntax.call "read_block::reading::walk" ((Syntax.copy (Syntax.place 1 [])) ∷ (Syntax.copy (Syntax.place 2 [])) ∷ (Syntax.copy (Syntax.place 18 [])) ∷ (Syntax.copy (Syntax.place 20 [])) ∷
+    (Syntax.copy (Syntax.place 22 [])) ∷ (Syntax.copy (Syntax.place 4 [])) ∷ (Syntax.copy (Syntax.place 23 [])) ∷ (Syntax.copy (Syntax.place 5 [])) ∷ (Syntax.copy (Syntax.place 6 [])) ∷ (Syntax.copy
+    (Syntax.place 7 [])) ∷ Syntax.opdFalse ∷ (Syntax.copy (Syntax.place 24 [])) ∷ []) (Syntax.place 0 [])
 
 abbrev b18 : Syntax.Body
 b18 = Syntax.return
@@ -832,10 +833,10 @@ module _ (claims· : Claims) where
   module _ (Pre· : (κs : Lifetimes.Lfts 3) → Kinds.Dens κs ps → Type 0) (Post· : (κs : Lifetimes.Lfts 3) → (a : Kinds.Dens κs ps) → Kinds.Plain 3 ps r κs) where
     module _ (M : Type 1) where
       abbrev pub Closed : Type 2
-      Closed = (𝓤 : URA.URA M) (H : Wp.Heap 𝓤) (A : Atoms.Atoms 𝓤) (W : Kit.Given 𝓤 H A) (𝓣 : Wp.Tables 𝓤 H) (known0 : Plain.Known 𝓤 H A W 𝓣 0 ps·0 r·0 (claims· .0) (claims· .1) "image_map::xtrans_places")
-          (known1 : Plain.Known 𝓤 H A W 𝓣 0 ps·1 r·1 (claims· .2) (claims· .3) "read_block::records::cleared") (known2 : Plain.Known 𝓤 H A W 𝓣 0 ps·2 r·2 (claims· .4) (claims· .5) "admission::samples_needed")
-          (known3 : Plain.Known 𝓤 H A W 𝓣 0 ps·3 r·3 (claims· .6) (claims· .7) "cameras::no_entries") (known4 : Plain.Known 𝓤 H A W 𝓣 6 ps·4 r·4 (claims· .8) (claims· .9) "read_block::reading::walk") →
-          Statement.Triple 𝓤 (Wp.WpFn 𝓤 H (𝓣 .C) (𝓣 .Λ) (Function.fnOf 3 ps r xs m hs body)) (Function.plainOf 𝓤 H A 3 ps r Pre· Post·)
+      Closed = (𝓤 : URA.URA M) (H : Wp.Heap 𝓤) (A : Atoms.Atoms 𝓤) (W : Kit.Given 𝓤 H A) (𝓣 : Wp.Tables 𝓤 H) (known0 : Plain.Known 𝓤 H A W 𝓣 0 ps·0 r·0 (claims· .0) (claims· .1)
+          "image_map::xtrans_places") (known1 : Plain.Known 𝓤 H A W 𝓣 0 ps·1 r·1 (claims· .2) (claims· .3) "read_block::records::cleared") (known2 : Plain.Known 𝓤 H A W 𝓣 0 ps·2 r·2 (claims· .4) (claims·
+          .5) "admission::samples_needed") (known3 : Plain.Known 𝓤 H A W 𝓣 0 ps·3 r·3 (claims· .6) (claims· .7) "cameras::no_entries") (known4 : Plain.Known 𝓤 H A W 𝓣 6 ps·4 r·4 (claims· .8) (claims· .9)
+          "read_block::reading::walk") → Statement.Triple 𝓤 (Wp.WpFn 𝓤 H (𝓣 .C) (𝓣 .Λ) (Function.fnOf 3 ps r xs m hs body)) (Function.plainOf 𝓤 H A 3 ps r Pre· Post·)
 
     module _ where
       abbrev at0 : (bs : List.List Nat.ℕ) → Typed.TF T1 O0
@@ -975,9 +976,9 @@ module _ (claims· : Claims) where
 
       module _ {M : Type 1} (𝓤 : URA.URA M) (H : Wp.Heap 𝓤) (A : Atoms.Atoms 𝓤) (W : Kit.Given 𝓤 H A) (𝓣 : Wp.Tables 𝓤 H) where
         abbrev Knowns : Type 1
-        Knowns = Plain.Known 𝓤 H A W 𝓣 0 ps·0 r·0 (claims· .0) (claims· .1) "image_map::xtrans_places" × Plain.Known 𝓤 H A W 𝓣 0 ps·1 r·1 (claims· .2) (claims· .3) "read_block::records::cleared" × Plain.Known 𝓤
-            H A W 𝓣 0 ps·2 r·2 (claims· .4) (claims· .5) "admission::samples_needed" × Plain.Known 𝓤 H A W 𝓣 0 ps·3 r·3 (claims· .6) (claims· .7) "cameras::no_entries" × Plain.Known 𝓤 H A W 𝓣 6 ps·4 r·4
-            (claims· .8) (claims· .9) "read_block::reading::walk"
+        Knowns = Plain.Known 𝓤 H A W 𝓣 0 ps·0 r·0 (claims· .0) (claims· .1) "image_map::xtrans_places" × Plain.Known 𝓤 H A W 𝓣 0 ps·1 r·1 (claims· .2) (claims· .3) "read_block::records::cleared" ×
+            Plain.Known 𝓤 H A W 𝓣 0 ps·2 r·2 (claims· .4) (claims· .5) "admission::samples_needed" × Plain.Known 𝓤 H A W 𝓣 0 ps·3 r·3 (claims· .6) (claims· .7) "cameras::no_entries" × Plain.Known 𝓤 H A W
+            𝓣 6 ps·4 r·4 (claims· .8) (claims· .9) "read_block::reading::walk"
 
       module _ (κs : Lifetimes.Lfts 3) (qs : Lifetimes.Shares 3) where
         abbrev k0 : Row.Life
@@ -1220,8 +1221,8 @@ module _ (claims· : Claims) where
               (Array'.Array n16 768) y14 6))) d22
 
           d24 : Typed.Typed 𝓤 H A 𝓣 E G32 (Syntax.seq b17 b18) Δ0 (at24 bs)
-          d24 = Typed.s-seq 𝓤 H A W 𝓣 E G32 G33 b17 b18 Δ0 (Typed.both (s31 bs)) (at23 bs) (Plain.t-call-plain 𝓤 H A W 𝓣 6 ps·4 r·4 (claims· .8) (claims· .9) "read_block::reading::walk" (known .4) E (λ pos
-              β. β) G32 (
+          d24 = Typed.s-seq 𝓤 H A W 𝓣 E G32 G33 b17 b18 Δ0 (Typed.both (s31 bs)) (at23 bs) (Plain.t-call-plain 𝓤 H A W 𝓣 6 ps·4 r·4 (claims· .8) (claims· .9) "read_block::reading::walk" (known .4) E
+              (λ pos β. β) G32 (
                 record { pos = 1; ty = y5; ref = λ x. x },
                 (
                   record { pos = 2; ty = y6; ref = λ x. x },
@@ -1267,7 +1268,7 @@ module _ (claims· : Claims) where
                         Mut.reads-mslice 𝓤 H A W n16 y9 5,
                         Path'.refl,
                         (
-                          (Values.struct-copied 𝓤 H A W Form.the-type Laws.the-laws Laws.the-copy, Path'.refl),
+                          (Values.struct-copied 𝓤 H A W Form.the-type Laws''.the-laws Laws''.the-copy, Path'.refl),
                           (
                             ShrRef.spares-sref 𝓤 H A W (Array'.Array n16 768) y14 6,
                             Reads'.reads-sref 𝓤 H A W (Array'.Array n16 768) y14 6,
@@ -1275,8 +1276,8 @@ module _ (claims· : Claims) where
                             (
                               (Array.arr-yields 𝓤 H A W (Array.eInt Syntax.w8) (Array.eInt-laws Syntax.w8) 36, Path'.refl),
                               (
-                                (Values.struct-copied 𝓤 H A W Part.the-type Laws'3.the-laws Laws'3.the-copy, Path'.refl),
-                                ((Scalar.reads-sc 𝓤 H A W (Row.sInt Syntax.w64), Path'.refl), (tt, ((Values.struct-copied 𝓤 H A W Entries.the-type Laws''.the-laws Laws''.the-copy, Path'.refl), tt))),
+                                (Values.struct-copied 𝓤 H A W Part.the-type Laws'.the-laws Laws'.the-copy, Path'.refl),
+                                ((Scalar.reads-sc 𝓤 H A W (Row.sInt Syntax.w64), Path'.refl), (tt, ((Values.struct-copied 𝓤 H A W Entries.the-type Laws.the-laws Laws.the-copy, Path'.refl), tt))),
                               ),
                             ),
                           ),
@@ -1285,8 +1286,8 @@ module _ (claims· : Claims) where
                     ),
                   ),
                 ),
-              )
-              (Reads'.room-gone 𝓤 H A y21) (tt, (tt, (tt, (tt, (tt, (tt, tt)))))) Path'.refl) d23
+              ) (Reads'.room-gone
+              𝓤 H A y21) (tt, (tt, (tt, (tt, (tt, (tt, tt)))))) Path'.refl) d23
 
           d25 : Typed.Typed 𝓤 H A 𝓣 E G31 (Syntax.seq b16 (Syntax.seq b17 b18)) Δ0 (at25 bs)
           d25 = Typed.s-seq 𝓤 H A W 𝓣 E G31 G32 b16 (Syntax.seq b17 b18) Δ0 (Typed.both (s30 bs)) (at24 bs) (Plain.t-call-plain 𝓤 H A W 𝓣 0 ps·3 r·3 (claims· .6) (claims· .7) "cameras::no_entries"
@@ -1369,8 +1370,8 @@ module _ (claims· : Claims) where
 
           d43 : Typed.Typed 𝓤 H A 𝓣 E (on T13 l10) b31 Δ0 (at43 bs)
           d43 = Typed.s-seq 𝓤 H A W 𝓣 E (on T13 l10) (on T14 l10) b5 (Syntax.seq b6 (Syntax.seq b7 b28)) Δ0 (Typed.both (s12 bs)) (at42 bs) (Plain.t-call-plain 𝓤 H A W 𝓣 0 ps·2 r·2 (claims· .4)
-              (claims· .5) "admission::samples_needed" (known .2) E (λ pos β. β) (on T13 l10) (Bool.bFld 4 ((Syntax.field 1) ∷ []) 4 λ x. Form.struct .as-values x .1 .0, tt) 11 [] (Call.sub-id 𝓤 H A W ((on
-              T13 l10) .slots)) ((Reads.reads-field 𝓤 H A W Form.the-type Laws.the-laws 1 Syntax.tyBool 4 Path'.refl, Path'.refl), tt) (Reads'.room-gone 𝓤 H A u64) tt Path'.refl) d42
+              (claims· .5) "admission::samples_needed" (known .2) E (λ pos β. β) (on T13 l10) (Bool.bFld 4 ((Syntax.field 1) ∷ []) 4 λ x. Form.struct .as-values x .1 .0, tt) 11 [] (Call.sub-id 𝓤 H A W
+              ((on T13 l10) .slots)) ((Reads.reads-field 𝓤 H A W Form.the-type Laws''.the-laws 1 Syntax.tyBool 4 Path'.refl, Path'.refl), tt) (Reads'.room-gone 𝓤 H A u64) tt Path'.refl) d42
 
           d44 : Typed.Typed 𝓤 H A 𝓣 E (on T12 l10) b31 Δ0 (at44 bs)
           d44 = Typed.g-pre 𝓤 H A W 𝓣 E (on T12 l10) (on T13 l10) b31 Δ0 (Typed.pass T12 T13 (s11 bs)) (at43 bs) (Scalar.g-room 𝓤 H A W E (on T12 l10) 13 (Element.held) (Element.room 𝓤 H A W)) d43
@@ -1434,9 +1435,9 @@ module _ (claims· : Claims) where
           pub block : Kinds.Den {n = 3} κs (ShrSlice.pShrS n8 0 tt)
           pub bases : Kinds.Den {n = 3} κs (ShrSlice.pShrS n8 1 tt)
           pub image : Kinds.Den {n = 3} κs (MutSlice.pMutS n16 2 tt)
-          pub form : Kinds.Den {n = 3} κs (Values.struct Form.the-type Laws.the-laws Laws.the-copy Laws.the-plain)
+          pub form : Kinds.Den {n = 3} κs (Values.struct Form.the-type Laws''.the-laws Laws''.the-copy Laws''.the-plain)
           pub tile : Kinds.Den {n = 3} κs (Array.pArr (Array.eInt Syntax.w8) (Array.eInt-laws Syntax.w8) 36)
-          pub part : Kinds.Den {n = 3} κs (Values.struct Part.the-type Laws'3.the-laws Laws'3.the-copy Laws'3.the-plain)
+          pub part : Kinds.Den {n = 3} κs (Values.struct Part.the-type Laws'.the-laws Laws'.the-copy Laws'.the-plain)
           pub count : Kinds.Den {n = 3} κs (Num.pNum Syntax.w64)
 
         abbrev pub dens : (a : Args) → Kinds.Dens κs ps
@@ -1945,8 +1946,8 @@ module _ (claims· : Claims) where
           }
 
         module _ {M : Type 1} (𝓤 : URA.URA M) (H : Wp.Heap 𝓤) (A : Atoms.Atoms 𝓤) (W : Kit.Given 𝓤 H A) (𝓣 : Wp.Tables 𝓤 H) (known0 : Plain.Known 𝓤 H A W 𝓣 0 ps·0 r·0 (claims· .0) (claims· .1)
-            "image_map::xtrans_places") (known1 : Plain.Known 𝓤 H A W 𝓣 0 ps·1 r·1 (claims· .2) (claims· .3) "read_block::records::cleared") (known2 : Plain.Known 𝓤 H A W 𝓣 0 ps·2 r·2 (claims· .4) (claims· .5)
-            "admission::samples_needed") (known3 : Plain.Known 𝓤 H A W 𝓣 0 ps·3 r·3 (claims· .6) (claims· .7) "cameras::no_entries") (known4 : Plain.Known 𝓤 H A W 𝓣 6 ps·4 r·4 (claims· .8) (claims· .9)
-            "read_block::reading::walk") where
+            "image_map::xtrans_places") (known1 : Plain.Known 𝓤 H A W 𝓣 0 ps·1 r·1 (claims· .2) (claims· .3) "read_block::records::cleared") (known2 : Plain.Known 𝓤 H A W 𝓣 0 ps·2 r·2 (claims· .4)
+            (claims· .5) "admission::samples_needed") (known3 : Plain.Known 𝓤 H A W 𝓣 0 ps·3 r·3 (claims· .6) (claims· .7) "cameras::no_entries") (known4 : Plain.Known 𝓤 H A W 𝓣 6 ps·4 r·4 (claims· .8)
+            (claims· .9) "read_block::reading::walk") where
           pub spec : Statement.Triple 𝓤 (Wp.WpFn 𝓤 H (𝓣 .C) (𝓣 .Λ) (Function.fnOf 3 ps r xs m hs body)) (Function.plainOf 𝓤 H A 3 ps r Pre· Post·)
           spec = Plain.t-fn-plain 𝓤 H A W 𝓣 3 ps r xs m hs body (λ κs qs bs. Φ bs) (λ κs qs bs bd. typed κs qs 𝓤 H A W 𝓣 (known0, known1, known2, known3, known4) bs bd) Pre· Post· asked

@@ -8,14 +8,14 @@ use Rattle.read_block.proofs.Element
 use Prim.Native.Nat
 use Rattle.read_block.proofs.Form
 use Rattle.read_block.proofs.Form.Laws
-use Rattle.stream.proofs.header.FujiHeader
-use Rattle.stream.proofs.header.FujiHeader.Laws as Laws'
-use Rattle.stream.proofs.header.Parsed
-use Rattle.stream.proofs.header.Parsed.Laws as Laws''
-use Rattle.stream.proofs.header.Refusal
-use Rattle.stream.proofs.header.Refusal.Laws as Laws'3
 use Rattle.stream.proofs.BlockLength
-use Rattle.stream.proofs.BlockLength.Laws as Laws'4
+use Rattle.stream.proofs.BlockLength.Laws as Laws'
+use Rattle.stream.proofs.header.FujiHeader
+use Rattle.stream.proofs.header.FujiHeader.Laws as Laws''
+use Rattle.stream.proofs.header.Parsed
+use Rattle.stream.proofs.header.Parsed.Laws as Laws'3
+use Rattle.stream.proofs.header.Refusal
+use Rattle.stream.proofs.header.Refusal.Laws as Laws'4
 use borrow.Author.Called
 use borrow.Enum.Known
 use borrow.Enum.Make
@@ -77,12 +77,12 @@ use types.Kit
 use types.Run
 
 abbrev pub y0 : Syntax.Ty
-y0 = Syntax.tyEnum (104 ∷ 101 ∷ 97 ∷ 100 ∷ 101 ∷ 114 ∷ 58 ∷ 58 ∷ 82 ∷ 101 ∷ 102 ∷ 117 ∷ 115 ∷ 97 ∷ 108 ∷ []) (Syntax.ttcons Syntax.tnil (Syntax.ttcons Syntax.tnil (Syntax.ttcons Syntax.tnil
-    (Syntax.ttcons (Syntax.tcons u64 Syntax.tnil) (Syntax.ttcons Syntax.tnil (Syntax.ttcons Syntax.tnil (Syntax.ttcons Syntax.tnil (Syntax.ttcons Syntax.tnil (Syntax.ttcons Syntax.tnil (Syntax.ttcons
-    Syntax.tnil (Syntax.ttcons (Syntax.tcons u64 Syntax.tnil) (Syntax.ttcons (Syntax.tcons u64 Syntax.tnil) (Syntax.ttcons Syntax.tnil (Syntax.ttcons (Syntax.tcons u64 (Syntax.tcons u64 Syntax.tnil))
-    (Syntax.ttcons (Syntax.tcons u64 Syntax.tnil) (Syntax.ttcons Syntax.tnil (Syntax.ttcons Syntax.tnil (Syntax.ttcons (Syntax.tcons u64 Syntax.tnil) (Syntax.ttcons (Syntax.tcons u64 Syntax.tnil)
-    (Syntax.ttcons (Syntax.tcons u64 Syntax.tnil) (Syntax.ttcons Syntax.tnil (Syntax.ttcons Syntax.tnil (Syntax.ttcons (Syntax.tcons u64 (Syntax.tcons u64 Syntax.tnil)) (Syntax.ttcons Syntax.tnil
-    Syntax.ttnil))))))))))))))))))))))))
+y0 = Syntax.tyEnum (115 ∷ 116 ∷ 114 ∷ 101 ∷ 97 ∷ 109 ∷ 58 ∷ 58 ∷ 104 ∷ 101 ∷ 97 ∷ 100 ∷ 101 ∷ 114 ∷ 58 ∷ 58 ∷ 82 ∷ 101 ∷ 102 ∷ 117 ∷ 115 ∷ 97 ∷ 108 ∷ []) (Syntax.ttcons Syntax.tnil (Syntax.ttcons
+    Syntax.tnil (Syntax.ttcons Syntax.tnil (Syntax.ttcons (Syntax.tcons u64 Syntax.tnil) (Syntax.ttcons Syntax.tnil (Syntax.ttcons Syntax.tnil (Syntax.ttcons Syntax.tnil (Syntax.ttcons Syntax.tnil
+    (Syntax.ttcons Syntax.tnil (Syntax.ttcons Syntax.tnil (Syntax.ttcons (Syntax.tcons u64 Syntax.tnil) (Syntax.ttcons (Syntax.tcons u64 Syntax.tnil) (Syntax.ttcons Syntax.tnil (Syntax.ttcons
+    (Syntax.tcons u64 (Syntax.tcons u64 Syntax.tnil)) (Syntax.ttcons (Syntax.tcons u64 Syntax.tnil) (Syntax.ttcons Syntax.tnil (Syntax.ttcons Syntax.tnil (Syntax.ttcons (Syntax.tcons u64 Syntax.tnil)
+    (Syntax.ttcons (Syntax.tcons u64 Syntax.tnil) (Syntax.ttcons (Syntax.tcons u64 Syntax.tnil) (Syntax.ttcons Syntax.tnil (Syntax.ttcons Syntax.tnil (Syntax.ttcons (Syntax.tcons u64 (Syntax.tcons u64
+    Syntax.tnil)) (Syntax.ttcons Syntax.tnil (Syntax.ttcons Syntax.tnil (Syntax.ttcons (Syntax.tcons u64 Syntax.tnil) Syntax.ttnil))))))))))))))))))))))))))
 
 abbrev pub y1 : Syntax.Ty
 y1 = Syntax.tyRef (Syntax.named 0) Syntax.imm u8
@@ -109,15 +109,15 @@ abbrev pub y8 : Syntax.Ty
 y8 = Syntax.tyRef Syntax.erased Syntax.mut u8
 
 abbrev pub y9 : Syntax.Ty
-y9 = Syntax.tyStruct (104 ∷ 101 ∷ 97 ∷ 100 ∷ 101 ∷ 114 ∷ 58 ∷ 58 ∷ 70 ∷ 117 ∷ 106 ∷ 105 ∷ 72 ∷ 101 ∷ 97 ∷ 100 ∷ 101 ∷ 114 ∷ []) (Syntax.tcons Syntax.tyBool (Syntax.tcons Syntax.tyBool (Syntax.tcons
-    u32 (Syntax.tcons u32 (Syntax.tcons u32 (Syntax.tcons u32 (Syntax.tcons u32 (Syntax.tcons u32 (Syntax.tcons u32 Syntax.tnil)))))))))
+y9 = Syntax.tyStruct (114 ∷ 101 ∷ 97 ∷ 100 ∷ 95 ∷ 98 ∷ 108 ∷ 111 ∷ 99 ∷ 107 ∷ 58 ∷ 58 ∷ 70 ∷ 111 ∷ 114 ∷ 109 ∷ []) (Syntax.tcons u32 (Syntax.tcons Syntax.tyBool Syntax.tnil))
 
 abbrev pub y10 : Syntax.Ty
-y10 = Syntax.tyStruct (98 ∷ 108 ∷ 111 ∷ 99 ∷ 107 ∷ 58 ∷ 58 ∷ 70 ∷ 111 ∷ 114 ∷ 109 ∷ []) (Syntax.tcons u32 (Syntax.tcons Syntax.tyBool Syntax.tnil))
+y10 = Syntax.tyStruct (115 ∷ 116 ∷ 114 ∷ 101 ∷ 97 ∷ 109 ∷ 58 ∷ 58 ∷ 104 ∷ 101 ∷ 97 ∷ 100 ∷ 101 ∷ 114 ∷ 58 ∷ 58 ∷ 70 ∷ 117 ∷ 106 ∷ 105 ∷ 72 ∷ 101 ∷ 97 ∷ 100 ∷ 101 ∷ 114 ∷ []) (Syntax.tcons
+    Syntax.tyBool (Syntax.tcons Syntax.tyBool (Syntax.tcons u32 (Syntax.tcons u32 (Syntax.tcons u32 (Syntax.tcons u32 (Syntax.tcons u32 (Syntax.tcons u32 (Syntax.tcons u32 Syntax.tnil)))))))))
 
 abbrev pub y11 : Syntax.Ty
-y11 = Syntax.tyEnum (104 ∷ 101 ∷ 97 ∷ 100 ∷ 101 ∷ 114 ∷ 58 ∷ 58 ∷ 80 ∷ 97 ∷ 114 ∷ 115 ∷ 101 ∷ 100 ∷ []) (Syntax.ttcons (Syntax.tcons y9 Syntax.tnil) (Syntax.ttcons (Syntax.tcons y0 Syntax.tnil)
-    Syntax.ttnil))
+y11 = Syntax.tyEnum (115 ∷ 116 ∷ 114 ∷ 101 ∷ 97 ∷ 109 ∷ 58 ∷ 58 ∷ 104 ∷ 101 ∷ 97 ∷ 100 ∷ 101 ∷ 114 ∷ 58 ∷ 58 ∷ 80 ∷ 97 ∷ 114 ∷ 115 ∷ 101 ∷ 100 ∷ []) (Syntax.ttcons (Syntax.tcons y10 Syntax.tnil)
+    (Syntax.ttcons (Syntax.tcons y0 Syntax.tnil) Syntax.ttnil))
 
 abbrev pub y12 : Syntax.Ty
 y12 = Syntax.tyEnum (115 ∷ 116 ∷ 114 ∷ 101 ∷ 97 ∷ 109 ∷ 58 ∷ 58 ∷ 66 ∷ 108 ∷ 111 ∷ 99 ∷ 107 ∷ 76 ∷ 101 ∷ 110 ∷ 103 ∷ 116 ∷ 104 ∷ []) (Syntax.ttcons (Syntax.tcons u64 Syntax.tnil) (Syntax.ttcons
@@ -133,14 +133,14 @@ abbrev pub y15 : Syntax.Ty
 y15 = Syntax.tyStruct (38 ∷ 91 ∷ 93 ∷ []) (Syntax.tcons y8 (Syntax.tcons u64 Syntax.tnil))
 
 abbrev pub ps : List.List (Kinds.PK 5)
-ps = (Values.enum Parsed.the-type Laws''.the-laws Laws''.the-copy Laws''.the-plain tt) ∷ (ShrSlice.pShrS n8 0 tt) ∷ (ShrSlice.pShrS n16 1 tt) ∷ (MutSlice.pMutS n8 2 tt) ∷ Bool.pBool ∷ (MutSlice.pMutS
+ps = (Values.enum Parsed.the-type Laws'3.the-laws Laws'3.the-copy Laws'3.the-plain tt) ∷ (ShrSlice.pShrS n8 0 tt) ∷ (ShrSlice.pShrS n16 1 tt) ∷ (MutSlice.pMutS n8 2 tt) ∷ Bool.pBool ∷ (MutSlice.pMutS
     n16 3 tt) ∷ (MutSlice.pMutS (Element.type) 4 tt) ∷ []
 
 abbrev pub r : Kinds.RK 5
-r = Values.enum-result BlockLength.the-type Laws'4.the-laws Laws'4.the-copy Laws'4.the-plain tt
+r = Values.enum-result BlockLength.the-type Laws'.the-laws Laws'.the-copy Laws'.the-plain tt
 
 abbrev pub xs : List.List Syntax.Ty
-xs = y0 ∷ y9 ∷ u64 ∷ y10 ∷ u64 ∷ y12 ∷ y8 ∷ y15 ∷ Syntax.tyPtr ∷ u64 ∷ y7 ∷ y14 ∷ Syntax.tyPtr ∷ u64 ∷ y6 ∷ y13 ∷ []
+xs = y0 ∷ y10 ∷ u64 ∷ y9 ∷ u64 ∷ y12 ∷ y8 ∷ y15 ∷ Syntax.tyPtr ∷ u64 ∷ y7 ∷ y14 ∷ Syntax.tyPtr ∷ u64 ∷ y6 ∷ y13 ∷ []
 
 abbrev pub m : Nat.ℕ
 m = 3
@@ -152,13 +152,13 @@ abbrev pub r·0 : Kinds.RK 0
 r·0 = Num.rNum Syntax.w64
 
 abbrev pub ps·1 : List.List (Kinds.PK 0)
-ps·1 = (Values.struct FujiHeader.the-type Laws'.the-laws Laws'.the-copy Laws'.the-plain) ∷ []
+ps·1 = (Values.struct FujiHeader.the-type Laws''.the-laws Laws''.the-copy Laws''.the-plain) ∷ []
 
 abbrev pub r·1 : Kinds.RK 0
 r·1 = Values.struct-result Form.the-type Laws.the-laws Laws.the-copy Laws.the-plain
 
 abbrev pub ps·2 : List.List (Kinds.PK 0)
-ps·2 = (Values.struct FujiHeader.the-type Laws'.the-laws Laws'.the-copy Laws'.the-plain) ∷ []
+ps·2 = (Values.struct FujiHeader.the-type Laws''.the-laws Laws''.the-copy Laws''.the-plain) ∷ []
 
 abbrev pub r·2 : Kinds.RK 0
 r·2 = Num.rNum Syntax.w64
@@ -168,7 +168,7 @@ ps·3 = (ShrSlice.pShrS n16 0 tt) ∷ (MutSlice.pMutS n8 1 tt) ∷ Bool.pBool �
     Laws.the-plain) ∷ (ShrSlice.pShrS n8 4 tt) ∷ (Num.pNum Syntax.w64) ∷ []
 
 abbrev pub r·3 : Kinds.RK 5
-r·3 = Values.enum-result BlockLength.the-type Laws'4.the-laws Laws'4.the-copy Laws'4.the-plain tt
+r·3 = Values.enum-result BlockLength.the-type Laws'.the-laws Laws'.the-copy Laws'.the-plain tt
 
 abbrev pub hs : List.List Syntax.Home
 hs = Syntax.valueLocal ∷ Syntax.valueLocal ∷ Syntax.valueLocal ∷ Syntax.valueLocal ∷ Syntax.valueLocal ∷ Syntax.valueLocal ∷ Syntax.valueLocal ∷ Syntax.valueLocal ∷ Syntax.valueLocal ∷
@@ -288,7 +288,7 @@ abbrev pub v7 : Row.Row
 v7 = Rows.any-gone y0
 
 abbrev pub v8 : Row.Row
-v8 = Rows.any-gone y9
+v8 = Rows.any-gone y10
 
 abbrev pub v9 : Row.Row
 v9 = Rows.any-gone y11
@@ -306,7 +306,7 @@ abbrev pub v13 : Row.Row
 v13 = Rows.any-gone y15
 
 abbrev pub v14 : Row.Row
-v14 = Rows.any-gone y10
+v14 = Rows.any-gone y9
 
 abbrev pub v15 : Row.Row
 v15 = Mut.mslice n8 y3 2
@@ -616,7 +616,7 @@ module _ (claims· : Claims) where
   s4 = Known.k-enum-known Parsed.enum 1 T0 1 λ x. x
 
   abbrev s5 : Typed.Gives T7 T7
-  s5 = Known.k-known-told Parsed.enum Laws''.the-laws 1 T7 1 λ x. x
+  s5 = Known.k-known-told Parsed.enum Laws'3.the-laws 1 T7 1 λ x. x
 
   abbrev s6 : Typed.Mo T7 → Typed.Mo T9
   s6 = Make'.n-make (Declared.row Refusal.the-type) T7 8 λ m. m .1 .0 .0
@@ -634,7 +634,7 @@ module _ (claims· : Claims) where
   s10 = Known.k-enum-known Parsed.enum 0 T0 1 λ x. x
 
   abbrev s11 : Typed.Gives T13 T13
-  s11 = Known.k-known-told Parsed.enum Laws''.the-laws 0 T13 1 λ x. x
+  s11 = Known.k-known-told Parsed.enum Laws'3.the-laws 0 T13 1 λ x. x
 
   abbrev s12 : Typed.Mo T13 → Typed.Mo T15
   s12 = Make'.n-make (Declared'.row FujiHeader.the-type) T13 9 λ m. m .1 .0 .0
@@ -646,13 +646,13 @@ module _ (claims· : Claims) where
   s14 = Call.callB ps·0 r·0 (claims· .0) (claims· .1) T16 (Bool.bFld 9 ((Syntax.field 1) ∷ []) 1 λ x. FujiHeader.struct .as-values x .1 .0, tt) 10 [] u64
 
   abbrev s15 : Typed.Both T17 T18
-  s15 = Call.callB ps·1 r·1 (claims· .2) (claims· .3) T17 (record { pos = 9; st = []; d = 0; at = λ x. x }, tt) 11 [] y10
+  s15 = Call.callB ps·1 r·1 (claims· .2) (claims· .3) T17 (record { pos = 9; st = []; d = 0; at = λ x. x }, tt) 11 [] y9
 
   abbrev s16 : Typed.Both T18 T19
   s16 = Call.callB ps·2 r·2 (claims· .4) (claims· .5) T18 (record { pos = 9; st = []; d = 0; at = λ x. x }, tt) 12 [] u64
 
   abbrev s17 : Typed.Mo T19 → Typed.Mo T20
-  s17 = Scalar.n-room T19 9 y9
+  s17 = Scalar.n-room T19 9 y10
 
   abbrev s19 : Typed.Gives T20 T22
   s19 = Relend.k-sl-relend n8 T20 4 14 2 5 y3 y8 Row.off λ x. x
@@ -718,7 +718,7 @@ module _ (claims· : Claims) where
   s36 = Scalar.n-room T38 10 u64
 
   abbrev s37 : Typed.Mo T39 → Typed.Mo T40
-  s37 = Scalar.n-room T39 11 y10
+  s37 = Scalar.n-room T39 11 y9
 
   abbrev s38 : Typed.Mo T40 → Typed.Mo T41
   s38 = Scalar.n-room T40 12 u64
@@ -752,8 +752,8 @@ module _ (claims· : Claims) where
       abbrev pub Closed : Type 2
       Closed = (𝓤 : URA.URA M) (H : Wp.Heap 𝓤) (A : Atoms.Atoms 𝓤) (W : Kit.Given 𝓤 H A) (𝓣 : Wp.Tables 𝓤 H) (known0 : Plain.Known 𝓤 H A W 𝓣 0 ps·0 r·0 (claims· .0) (claims· .1)
           "admission::samples_needed") (known1 : Plain.Known 𝓤 H A W 𝓣 0 ps·1 r·1 (claims· .2) (claims· .3) "read_block::form_of") (known2 : Plain.Known 𝓤 H A W 𝓣 0 ps·2 r·2 (claims· .4) (claims· .5)
-          "read_block::tight::line_count") (known3 : Plain.Known 𝓤 H A W 𝓣 5 ps·3 r·3 (claims· .6) (claims· .7) "write_block::write_set") → Statement.Triple 𝓤 (Wp.WpFn 𝓤 H (𝓣 .C) (𝓣 .Λ) (Function.fnOf 5 ps r
-          xs m hs body)) (Function.plainOf 𝓤 H A 5 ps r Pre· Post·)
+          "read_block::tight::line_count") (known3 : Plain.Known 𝓤 H A W 𝓣 5 ps·3 r·3 (claims· .6) (claims· .7) "write_block::write_set") → Statement.Triple 𝓤 (Wp.WpFn 𝓤 H (𝓣 .C) (𝓣 .Λ) (Function.fnOf 5
+          ps r xs m hs body)) (Function.plainOf 𝓤 H A 5 ps r Pre· Post·)
 
     module _ where
       abbrev at0 : Typed.TF T10 O1
@@ -876,8 +876,8 @@ module _ (claims· : Claims) where
 
       module _ {M : Type 1} (𝓤 : URA.URA M) (H : Wp.Heap 𝓤) (A : Atoms.Atoms 𝓤) (W : Kit.Given 𝓤 H A) (𝓣 : Wp.Tables 𝓤 H) where
         abbrev Knowns : Type 1
-        Knowns = Plain.Known 𝓤 H A W 𝓣 0 ps·0 r·0 (claims· .0) (claims· .1) "admission::samples_needed" × Plain.Known 𝓤 H A W 𝓣 0 ps·1 r·1 (claims· .2) (claims· .3) "read_block::form_of" × Plain.Known 𝓤 H A W
-            𝓣 0 ps·2 r·2 (claims· .4) (claims· .5) "read_block::tight::line_count" × Plain.Known 𝓤 H A W 𝓣 5 ps·3 r·3 (claims· .6) (claims· .7) "write_block::write_set"
+        Knowns = Plain.Known 𝓤 H A W 𝓣 0 ps·0 r·0 (claims· .0) (claims· .1) "admission::samples_needed" × Plain.Known 𝓤 H A W 𝓣 0 ps·1 r·1 (claims· .2) (claims· .3) "read_block::form_of" × Plain.Known
+            𝓤 H A W 𝓣 0 ps·2 r·2 (claims· .4) (claims· .5) "read_block::tight::line_count" × Plain.Known 𝓤 H A W 𝓣 5 ps·3 r·3 (claims· .6) (claims· .7) "write_block::write_set"
 
       module _ (κs : Lifetimes.Lfts 5) (qs : Lifetimes.Shares 5) where
         abbrev k0 : Row.Life
@@ -1053,11 +1053,11 @@ module _ (claims· : Claims) where
 
           d0 : Typed.Typed 𝓤 H A 𝓣 E (on T10 l5) b1 Δ1 at0
           d0 = Typed.s-typed 𝓤 H A W 𝓣 E (on T10 l5) b1 Δ1 (λ Ψ. Typed.pass T10 T11 s8 (Typed.pass T11 T2 s9 Ψ)) tt (Typed.g-post 𝓤 H A W 𝓣 E (on T10 l5) (on T11 l5) (on T2 l5) b1 (Typed.pass T10 T11
-              s8) (Typed.pass T11 T2 s9) (Make.t-enum-make-wt 𝓤 H A W E 𝓣 BlockLength.the-type Laws'4.the-laws Laws'4.the-plain tt (on T10 l5) 13 ((Scalar.oInt Syntax.w8 1) ∷ (Scalar.oAt 8 y0 (Laws'5.val
-              Refusal.the-type Laws'3.the-laws)) ∷ []) (λ m. BlockLength.enum .make (Logic.inr (Logic.inl (m .1 .1 .1 .1 .1 .1 .1 .1 .0, tt)))) (Reads'.room-gone 𝓤 H A y12)
-              (tt, ((Whole.reads-enum 𝓤 H A W Refusal.the-type Laws'3.the-laws, Path'.refl), tt)) Path'.refl (λ m wa. Make.made-val BlockLength.the-type Laws'4.the-laws ((Laws'5.val Refusal.the-type
-              Laws'3.the-laws (m .1 .1 .1 .1 .1 .1 .1 .1 .0)) ∷ []) (BlockLength.enum .make (Logic.inr (Logic.inl (m .1 .1 .1 .1 .1 .1 .1 .1 .0, tt)))) (
-                Signed.made-wt Refusal.the-field Laws'3.the-field-laws (Whole.enum-wt Refusal.the-type Laws'3.the-laws (
+              s8) (Typed.pass T11 T2 s9) (Make.t-enum-make-wt 𝓤 H A W E 𝓣 BlockLength.the-type Laws'.the-laws Laws'.the-plain tt (on T10 l5) 13 ((Scalar.oInt Syntax.w8 1) ∷ (Scalar.oAt 8 y0 (Laws'5.val
+              Refusal.the-type Laws'4.the-laws)) ∷ []) (λ m. BlockLength.enum .make (Logic.inr (Logic.inl (m .1 .1 .1 .1 .1 .1 .1 .1 .0, tt)))) (Reads'.room-gone 𝓤 H A y12)
+              (tt, ((Whole.reads-enum 𝓤 H A W Refusal.the-type Laws'4.the-laws, Path'.refl), tt)) Path'.refl (λ m wa. Make.made-val BlockLength.the-type Laws'.the-laws ((Laws'5.val Refusal.the-type
+              Laws'4.the-laws (m .1 .1 .1 .1 .1 .1 .1 .1 .0)) ∷ []) (BlockLength.enum .make (Logic.inr (Logic.inl (m .1 .1 .1 .1 .1 .1 .1 .1 .0, tt)))) (
+                Signed.made-wt Refusal.the-field Laws'4.the-field-laws (Whole.enum-wt Refusal.the-type Laws'4.the-laws (
                   tt,
                   (
                     tt,
@@ -1085,7 +1085,10 @@ module _ (claims· : Claims) where
                                           tt,
                                           (
                                             (Make'.u64-wt, (Make'.u64-wt, tt)),
-                                            ((Make'.u64-wt, tt), (tt, (tt, ((Make'.u64-wt, tt), ((Make'.u64-wt, tt), ((Make'.u64-wt, tt), (tt, (tt, ((Make'.u64-wt, (Make'.u64-wt, tt)), (tt, tt)))))))))),
+                                            (
+                                              (Make'.u64-wt, tt),
+                                              (tt, (tt, ((Make'.u64-wt, tt), ((Make'.u64-wt, tt), ((Make'.u64-wt, tt), (tt, (tt, ((Make'.u64-wt, (Make'.u64-wt, tt)), (tt, (tt, ((Make'.u64-wt, tt), tt))))))))))),
+                                            ),
                                           ),
                                         ),
                                       ),
@@ -1102,9 +1105,9 @@ module _ (claims· : Claims) where
                 ))
                     (Refusal.the-type .to (m .1 .1 .1 .1 .1 .1 .1 .1 .0)),
                 tt,
-              ) (wa .1)) λ m wa. Make.made-is BlockLength.the-type Laws'4.the-laws ((Laws'5.val Refusal.the-type Laws'3.the-laws (m .1 .1 .1 .1 .1
+              ) (wa .1)) λ m wa. Make.made-is BlockLength.the-type Laws'.the-laws ((Laws'5.val Refusal.the-type Laws'4.the-laws (m .1 .1 .1 .1 .1
               .1 .1 .1 .0)) ∷ []) (BlockLength.enum .make (Logic.inr (Logic.inl (m .1 .1 .1 .1 .1 .1 .1 .1 .0, tt)))) (
-                Signed.made-wt Refusal.the-field Laws'3.the-field-laws (Whole.enum-wt Refusal.the-type Laws'3.the-laws (
+                Signed.made-wt Refusal.the-field Laws'4.the-field-laws (Whole.enum-wt Refusal.the-type Laws'4.the-laws (
                   tt,
                   (
                     tt,
@@ -1132,7 +1135,10 @@ module _ (claims· : Claims) where
                                           tt,
                                           (
                                             (Make'.u64-wt, (Make'.u64-wt, tt)),
-                                            ((Make'.u64-wt, tt), (tt, (tt, ((Make'.u64-wt, tt), ((Make'.u64-wt, tt), ((Make'.u64-wt, tt), (tt, (tt, ((Make'.u64-wt, (Make'.u64-wt, tt)), (tt, tt)))))))))),
+                                            (
+                                              (Make'.u64-wt, tt),
+                                              (tt, (tt, ((Make'.u64-wt, tt), ((Make'.u64-wt, tt), ((Make'.u64-wt, tt), (tt, (tt, ((Make'.u64-wt, (Make'.u64-wt, tt)), (tt, (tt, ((Make'.u64-wt, tt), tt))))))))))),
+                                            ),
                                           ),
                                         ),
                                       ),
@@ -1157,18 +1163,18 @@ module _ (claims· : Claims) where
 
           d2 : Typed.Typed 𝓤 H A 𝓣 E (on T7 l5) b2 Δ1 at2
           d2 = Typed.s-seq 𝓤 H A W 𝓣 E (on T7 l5) (on T9 l5) b0 b1 Δ1 (Typed.pass T7 T9 s6) at1 (CopyOut.t-copy-told 𝓤 H A W E 𝓣 (Declared.row Refusal.the-type) Path'.refl (Laws'5.val Refusal.the-type
-              Laws'3.the-laws) (Laws'5.lawful Refusal.the-type Laws'3.the-laws 𝓤 H A W tt) (Laws'5.makes Refusal.the-type Laws'3.the-plain 𝓤 H A) (on T7 l5) 8 (Scalar.oFld 1 ((Syntax.variant 1) ∷
-              (Syntax.field 1) ∷ []) y0 8 λ v. Laws'5.val Refusal.the-type Laws'3.the-laws (v .0)) (λ m. m .1 .0 .0) (λ m. Laws'5.Fields (Declared.variants Parsed.the-type) (Laws'5.spellss (Parsed.enum
-              .parts) Laws''.the-laws) (Parsed.the-type .to (Known.at Parsed.enum 1 (m .1 .0)))) (Reads'.room-gone 𝓤 H A y0) (
-                Match.reads-payload 𝓤 H A W Parsed.enum Laws''.the-laws 1 Path'.refl Path'.refl (λ v. Val.vcons (Laws'5.val Refusal.the-type Laws'3.the-laws (v .0)) Val.vnil) (λ v. Path'.refl) 0 y0 8
+              Laws'4.the-laws) (Laws'5.lawful Refusal.the-type Laws'4.the-laws 𝓤 H A W tt) (Laws'5.makes Refusal.the-type Laws'4.the-plain 𝓤 H A) (on T7 l5) 8 (Scalar.oFld 1 ((Syntax.variant 1) ∷
+              (Syntax.field 1) ∷ []) y0 8 λ v. Laws'5.val Refusal.the-type Laws'4.the-laws (v .0)) (λ m. m .1 .0 .0) (λ m. Laws'5.Fields (Declared.variants Parsed.the-type) (Laws'5.spellss (Parsed.enum
+              .parts) Laws'3.the-laws) (Parsed.the-type .to (Known.at Parsed.enum 1 (m .1 .0)))) (Reads'.room-gone 𝓤 H A y0) (
+                Match.reads-payload 𝓤 H A W Parsed.enum Laws'3.the-laws 1 Path'.refl Path'.refl (λ v. Val.vcons (Laws'5.val Refusal.the-type Laws'4.the-laws (v .0)) Val.vnil) (λ v. Path'.refl) 0 y0 8
                     Path'.refl,
                 Path'.refl,
               ) Path'.refl (λ ρ m. Make'.tells-row 𝓤 H A W E ρ (Row.out 8 ((on T7 l5) .locals)) m 1 (Laws'5.Fields (Declared.variants Parsed.the-type) (Laws'5.spellss (Parsed.enum
-              .parts) Laws''.the-laws) (Parsed.the-type .to (Known.at Parsed.enum 1 (m .1 .0)))) (Known.known-is 𝓤 H A W E Parsed.enum 1 Laws''.the-laws ρ 1 (m .1 .0))) (λ m k wa. Path'.refl) λ m k wa. k
+              .parts) Laws'3.the-laws) (Parsed.the-type .to (Known.at Parsed.enum 1 (m .1 .0)))) (Known.known-is 𝓤 H A W E Parsed.enum 1 Laws'3.the-laws ρ 1 (m .1 .0))) (λ m k wa. Path'.refl) λ m k wa. k
               .0) d1
 
           d3 : Typed.Typed 𝓤 H A 𝓣 E (on T7 l5) b2 Δ1 at3
-          d3 = Typed.g-pre 𝓤 H A W 𝓣 E (on T7 l5) (on T7 l5) b2 Δ1 (Typed.give s5) at2 (Known.g-known-told 𝓤 H A W E Parsed.enum 1 (on T7 l5) 1 Laws''.the-laws (λ x. x) (Reads'.as-is 𝓤 H A (Rows.whole
+          d3 = Typed.g-pre 𝓤 H A W 𝓣 E (on T7 l5) (on T7 l5) b2 Δ1 (Typed.give s5) at2 (Known.g-known-told 𝓤 H A W E Parsed.enum 1 (on T7 l5) 1 Laws'3.the-laws (λ x. x) (Reads'.as-is 𝓤 H A (Rows.whole
               (Known.Known Parsed.enum 1)))) d2
 
           d4 : Typed.Typed 𝓤 H A 𝓣 E (on T0 l5) b2 Δ1 at4
@@ -1231,8 +1237,8 @@ module _ (claims· : Claims) where
                   ),
                 ),
               ) (Reads'.room-gone 𝓤 H A
-              y12) (tt, (tt, (tt, (tt, (tt, tt))))) Path'.refl) (Scalar.g-room 𝓤 H A W E G38 10 u64 (Scalar.room-sc 𝓤 H A W (Row.sInt Syntax.w64)))) (Scalar.g-room 𝓤 H A W E G39 11 y10 (Local.room-whole 𝓤
-              H A W (Declared'.row Form.the-type) y10 Path'.refl))) (Scalar.g-room 𝓤 H A W E G40 12 u64 (Scalar.room-sc 𝓤 H A W (Row.sInt Syntax.w64)))) (Lifetime.g-end 𝓤 H A W E G41 5 Path'.refl))
+              y12) (tt, (tt, (tt, (tt, (tt, tt))))) Path'.refl) (Scalar.g-room 𝓤 H A W E G38 10 u64 (Scalar.room-sc 𝓤 H A W (Row.sInt Syntax.w64)))) (Scalar.g-room 𝓤 H A W E G39 11 y9 (Local.room-whole 𝓤
+              H A W (Declared'.row Form.the-type) y9 Path'.refl))) (Scalar.g-room 𝓤 H A W E G40 12 u64 (Scalar.room-sc 𝓤 H A W (Row.sInt Syntax.w64)))) (Lifetime.g-end 𝓤 H A W E G41 5 Path'.refl))
               (Relend.g-back-sl 𝓤 H A W E n8 G42 15 4 2 5 y3 y8 k2 (λ x. x) (λ x. x) (Reads'.as-is 𝓤 H A (Mut.msleft n8 y8)) (Reads'.as-is 𝓤 H A (Relend.mslice-owed n8 y3 2 5 k2)) Path'.refl Path'.refl))
               (Know.g-sl-known 𝓤 H A W (Referent.fInt Syntax.w8) E G43 4 2 y3 k2 0 (λ x. x) record { fits = Dec'.lit< tt } (Reads'.as-is 𝓤 H A (Mut.mslice n8 y3 2)) Path'.refl tt)) (Lifetime.g-forget 𝓤 H
               A W E G43 5 Row.dead Path'.refl)) (Lifetime.g-end 𝓤 H A W E G45 6 Path'.refl)) (PartMut.g-back-slᵐ 𝓤 H A W E n16 G46 19 6 3 6 y4 y7 k3 (λ x. x) (λ x. x) (Reads'.as-is 𝓤 H A (Mut.msleft n16
@@ -1316,23 +1322,23 @@ module _ (claims· : Claims) where
               (tt, (tt, (tt, (tt, (tt, (tt, (tt, (tt, (tt, (tt, (tt, (tt, (tt, (tt, (tt, (tt, (tt, (tt, (tt, (tt, (tt, (tt, (tt, (tt, tt))))))))))))))))))))))))) d21
 
           d23 : Typed.Typed 𝓤 H A 𝓣 E (on T19 l5) b27 Δ1 at23
-          d23 = Typed.g-pre 𝓤 H A W 𝓣 E (on T19 l5) (on T20 l5) b27 Δ1 (Typed.pass T19 T20 s17) at21 (Scalar.g-room 𝓤 H A W E (on T19 l5) 9 y9 (Local.room-whole 𝓤 H A W (Declared'.row
-              FujiHeader.the-type) y9 Path'.refl)) d22
+          d23 = Typed.g-pre 𝓤 H A W 𝓣 E (on T19 l5) (on T20 l5) b27 Δ1 (Typed.pass T19 T20 s17) at21 (Scalar.g-room 𝓤 H A W E (on T19 l5) 9 y10 (Local.room-whole 𝓤 H A W (Declared'.row
+              FujiHeader.the-type) y10 Path'.refl)) d22
 
           d24 : Typed.Typed 𝓤 H A 𝓣 E (on T18 l5) (Syntax.seq b6 b27) Δ1 at24
-          d24 = Typed.s-seq 𝓤 H A W 𝓣 E (on T18 l5) (on T19 l5) b6 b27 Δ1 (Typed.both s16) at23 (Plain.t-call-plain 𝓤 H A W 𝓣 0 ps·2 r·2 (claims· .4) (claims· .5) "read_block::tight::line_count" (known .2)
-              E (λ pos β. β) (on T18 l5) (record { pos = 9; st = []; d = 0; at = λ x. x }, tt) 12 [] (Call.sub-id 𝓤 H A W ((on T18 l5) .slots))
-              ((Values.struct-copied 𝓤 H A W FujiHeader.the-type Laws'.the-laws Laws'.the-copy, Path'.refl), tt) (Reads'.room-gone 𝓤 H A u64) tt Path'.refl) d23
+          d24 = Typed.s-seq 𝓤 H A W 𝓣 E (on T18 l5) (on T19 l5) b6 b27 Δ1 (Typed.both s16) at23 (Plain.t-call-plain 𝓤 H A W 𝓣 0 ps·2 r·2 (claims· .4) (claims· .5) "read_block::tight::line_count"
+              (known .2) E (λ pos β. β) (on T18 l5) (record { pos = 9; st = []; d = 0; at = λ x. x }, tt) 12 [] (Call.sub-id 𝓤 H A W ((on T18 l5) .slots))
+              ((Values.struct-copied 𝓤 H A W FujiHeader.the-type Laws''.the-laws Laws''.the-copy, Path'.refl), tt) (Reads'.room-gone 𝓤 H A u64) tt Path'.refl) d23
 
           d25 : Typed.Typed 𝓤 H A 𝓣 E (on T17 l5) (Syntax.seq b5 (Syntax.seq b6 b27)) Δ1 at25
           d25 = Typed.s-seq 𝓤 H A W 𝓣 E (on T17 l5) (on T18 l5) b5 (Syntax.seq b6 b27) Δ1 (Typed.both s15) at24 (Plain.t-call-plain 𝓤 H A W 𝓣 0 ps·1 r·1 (claims· .2) (claims· .3) "read_block::form_of"
               (known .1) E (λ pos β. β) (on T17 l5) (record { pos = 9; st = []; d = 0; at = λ x. x }, tt) 11 [] (Call.sub-id 𝓤 H A W ((on T17 l5) .slots))
-              ((Values.struct-copied 𝓤 H A W FujiHeader.the-type Laws'.the-laws Laws'.the-copy, Path'.refl), tt) (Reads'.room-gone 𝓤 H A y10) tt Path'.refl) d24
+              ((Values.struct-copied 𝓤 H A W FujiHeader.the-type Laws''.the-laws Laws''.the-copy, Path'.refl), tt) (Reads'.room-gone 𝓤 H A y9) tt Path'.refl) d24
 
           d26 : Typed.Typed 𝓤 H A 𝓣 E (on T16 l5) b30 Δ1 at26
           d26 = Typed.s-seq 𝓤 H A W 𝓣 E (on T16 l5) (on T17 l5) b4 (Syntax.seq b5 (Syntax.seq b6 b27)) Δ1 (Typed.both s14) at25 (Plain.t-call-plain 𝓤 H A W 𝓣 0 ps·0 r·0 (claims· .0) (claims· .1)
-              "admission::samples_needed" (known .0) E (λ pos β. β) (on T16 l5) (Bool.bFld 9 ((Syntax.field 1) ∷ []) 1 λ x. FujiHeader.struct .as-values x .1 .0, tt) 10 [] (Call.sub-id 𝓤 H A W ((on T16 l5)
-              .slots)) ((Reads.reads-field 𝓤 H A W FujiHeader.the-type Laws'.the-laws 1 Syntax.tyBool 1 Path'.refl, Path'.refl), tt) (Reads'.room-gone 𝓤 H A u64) tt Path'.refl) d25
+              "admission::samples_needed" (known .0) E (λ pos β. β) (on T16 l5) (Bool.bFld 9 ((Syntax.field 1) ∷ []) 1 λ x. FujiHeader.struct .as-values x .1 .0, tt) 10 [] (Call.sub-id 𝓤 H A W ((on T16
+              l5) .slots)) ((Reads.reads-field 𝓤 H A W FujiHeader.the-type Laws''.the-laws 1 Syntax.tyBool 1 Path'.refl, Path'.refl), tt) (Reads'.room-gone 𝓤 H A u64) tt Path'.refl) d25
 
           d27 : Typed.Typed 𝓤 H A 𝓣 E (on T15 l5) b30 Δ1 at27
           d27 = Typed.g-pre 𝓤 H A W 𝓣 E (on T15 l5) (on T16 l5) b30 Δ1 (Typed.pass T15 T16 s13) at26 (Scalar.g-room 𝓤 H A W E (on T15 l5) 1 y11 (Local.room-whole 𝓤 H A W (Known.Known Parsed.enum 0)
@@ -1340,18 +1346,18 @@ module _ (claims· : Claims) where
 
           d28 : Typed.Typed 𝓤 H A 𝓣 E (on T13 l5) b31 Δ1 at28
           d28 = Typed.s-seq 𝓤 H A W 𝓣 E (on T13 l5) (on T15 l5) b3 b30 Δ1 (Typed.pass T13 T15 s12) at27 (CopyOut.t-copy-told 𝓤 H A W E 𝓣 (Declared'.row FujiHeader.the-type) Path'.refl (Laws'6.val
-              FujiHeader.the-type Laws'.the-laws) (Laws'6.lawful FujiHeader.the-type Laws'.the-laws 𝓤 H A W) (Laws'6.makes FujiHeader.the-type Laws'.the-plain 𝓤 H A) (on T13 l5) 9 (Scalar.oFld 1
-              ((Syntax.variant 0) ∷ (Syntax.field 1) ∷ []) y9 4 λ v. Laws'6.val FujiHeader.the-type Laws'.the-laws (v .0)) (λ m. m .1 .0 .0) (λ m. Laws'5.Fields (Declared.variants Parsed.the-type)
-              (Laws'5.spellss (Parsed.enum .parts) Laws''.the-laws) (Parsed.the-type .to (Known.at Parsed.enum 0 (m .1 .0)))) (Reads'.room-gone 𝓤 H A y9) (
-                Match.reads-payload 𝓤 H A W Parsed.enum Laws''.the-laws 0 Path'.refl Path'.refl (λ v. Val.vcons (Laws'6.val FujiHeader.the-type Laws'.the-laws (v .0)) Val.vnil) (λ v. Path'.refl) 0 y9 4
+              FujiHeader.the-type Laws''.the-laws) (Laws'6.lawful FujiHeader.the-type Laws''.the-laws 𝓤 H A W) (Laws'6.makes FujiHeader.the-type Laws''.the-plain 𝓤 H A) (on T13 l5) 9 (Scalar.oFld 1
+              ((Syntax.variant 0) ∷ (Syntax.field 1) ∷ []) y10 4 λ v. Laws'6.val FujiHeader.the-type Laws''.the-laws (v .0)) (λ m. m .1 .0 .0) (λ m. Laws'5.Fields (Declared.variants Parsed.the-type)
+              (Laws'5.spellss (Parsed.enum .parts) Laws'3.the-laws) (Parsed.the-type .to (Known.at Parsed.enum 0 (m .1 .0)))) (Reads'.room-gone 𝓤 H A y10) (
+                Match.reads-payload 𝓤 H A W Parsed.enum Laws'3.the-laws 0 Path'.refl Path'.refl (λ v. Val.vcons (Laws'6.val FujiHeader.the-type Laws''.the-laws (v .0)) Val.vnil) (λ v. Path'.refl) 0 y10 4
                     Path'.refl,
                 Path'.refl,
               ) Path'.refl (λ ρ m. Make'.tells-row 𝓤 H A W E ρ (Row.out 9 ((on T13 l5) .locals)) m 1 (Laws'5.Fields (Declared.variants Parsed.the-type) (Laws'5.spellss (Parsed.enum
-              .parts) Laws''.the-laws) (Parsed.the-type .to (Known.at Parsed.enum 0 (m .1 .0)))) (Known.known-is 𝓤 H A W E Parsed.enum 0 Laws''.the-laws ρ 1 (m .1 .0))) (λ m k wa. Path'.refl) λ m k wa. k
+              .parts) Laws'3.the-laws) (Parsed.the-type .to (Known.at Parsed.enum 0 (m .1 .0)))) (Known.known-is 𝓤 H A W E Parsed.enum 0 Laws'3.the-laws ρ 1 (m .1 .0))) (λ m k wa. Path'.refl) λ m k wa. k
               .0) d27
 
           d29 : Typed.Typed 𝓤 H A 𝓣 E (on T13 l5) b31 Δ1 at29
-          d29 = Typed.g-pre 𝓤 H A W 𝓣 E (on T13 l5) (on T13 l5) b31 Δ1 (Typed.give s11) at28 (Known.g-known-told 𝓤 H A W E Parsed.enum 0 (on T13 l5) 1 Laws''.the-laws (λ x. x) (Reads'.as-is 𝓤 H A
+          d29 = Typed.g-pre 𝓤 H A W 𝓣 E (on T13 l5) (on T13 l5) b31 Δ1 (Typed.give s11) at28 (Known.g-known-told 𝓤 H A W E Parsed.enum 0 (on T13 l5) 1 Laws'3.the-laws (λ x. x) (Reads'.as-is 𝓤 H A
               (Rows.whole (Known.Known Parsed.enum 0)))) d28
 
           d30 : Typed.Typed 𝓤 H A 𝓣 E (on T0 l5) b31 Δ1 at30
@@ -1361,7 +1367,7 @@ module _ (claims· : Claims) where
           d31 : Typed.Typed 𝓤 H A 𝓣 E (on T0 l5) b32 Δ1 at31
           d31 = Switch.t-switch-on 𝓤 H A W E 𝓣 (on T0 l5) (Scalar.oFld 1 ((Syntax.variant 0) ∷ (Syntax.field 0) ∷ []) u8 0 λ x. Val.vint Syntax.w8 (Declared.tagOf Parsed.the-type x)) Syntax.w8 (λ u.
               Declared.tagOf Parsed.the-type (u .1 .0)) (Syntax.arm (1 ∷ []) b2 (Syntax.arm (0 ∷ []) b31 Syntax.noDefault)) Δ1 (at4, (at30, tt))
-              (Match.reads-tag 𝓤 H A W Parsed.the-type Laws''.the-laws (Rows.whole (Declared.row Parsed.the-type)) 0 (λ x. x) (Whole.reads-enum 𝓤 H A W Parsed.the-type Laws''.the-laws), Path'.refl) (λ u.
+              (Match.reads-tag 𝓤 H A W Parsed.the-type Laws'3.the-laws (Rows.whole (Declared.row Parsed.the-type)) 0 (λ x. x) (Whole.reads-enum 𝓤 H A W Parsed.the-type Laws'3.the-laws), Path'.refl) (λ u.
               Path'.refl) (d4, (d30, tt))
 
           d32 : Typed.Typed 𝓤 H A 𝓣 E (on T0 l5) b32 Δ1 at32
@@ -1393,7 +1399,7 @@ module _ (claims· : Claims) where
           d39 : Typed.Typed 𝓤 H A 𝓣 E (on T2 l5) (Syntax.seq b33 b34) Δ0 at39
           d39 = Typed.s-seq 𝓤 H A W 𝓣 E (on T2 l5) (on T53 l5) b33 b34 Δ0 (Typed.pass T2 T53 s50) at38 (LocalCopy.t-val-copy 𝓤 H A W E 𝓣 (λ ρ. Unit) (on T2 l5) 13 0 (Declared.row BlockLength.the-type)
               y12 y12 (Rows.whole (Declared.row BlockLength.the-type)) (Rows.whole (Declared.row BlockLength.the-type)) (λ x. x) (λ x. x) (λ x. x) Path'.refl (Own.told-none 𝓤 H A ((on T2 l5) .slots))
-              (Values.enum-copied 𝓤 H A W BlockLength.the-type Laws'4.the-laws Laws'4.the-copy) (Reads'.room-gone 𝓤 H A y12) (Yields.makes-mem 𝓤 H A W (λ ρ. Unit) (Declared.row BlockLength.the-type)
+              (Values.enum-copied 𝓤 H A W BlockLength.the-type Laws'.the-laws Laws'.the-copy) (Reads'.room-gone 𝓤 H A y12) (Yields.makes-mem 𝓤 H A W (λ ρ. Unit) (Declared.row BlockLength.the-type)
               Path'.refl (Rows.whole (Declared.row BlockLength.the-type)) (λ x. x) λ ρ told. Local.whole-mem 𝓤 H A W (Declared.row BlockLength.the-type) ρ) Path'.refl Path'.refl) d38
 
           d40 : Typed.Typed 𝓤 H A 𝓣 E (on T0 l5) (Syntax.seq b32 (Syntax.seq b33 b34)) Δ0 at40
@@ -1404,7 +1410,7 @@ module _ (claims· : Claims) where
 
       module _ (κs : Lifetimes.Lfts 5) where
         pub record Args : Type 0 where
-          pub begins : Kinds.Den {n = 5} κs (Values.enum Parsed.the-type Laws''.the-laws Laws''.the-copy Laws''.the-plain tt)
+          pub begins : Kinds.Den {n = 5} κs (Values.enum Parsed.the-type Laws'3.the-laws Laws'3.the-copy Laws'3.the-plain tt)
           pub bases : Kinds.Den {n = 5} κs (ShrSlice.pShrS n8 0 tt)
           pub samples : Kinds.Den {n = 5} κs (ShrSlice.pShrS n16 1 tt)
           pub out : Kinds.Den {n = 5} κs (MutSlice.pMutS n8 2 tt)

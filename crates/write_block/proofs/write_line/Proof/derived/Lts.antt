@@ -5,18 +5,18 @@ use Rattle.bits.proofs.Values.{n16, n8, u16, u32, u64, u8}
 use mathlib.Core.List.{_∷_, []}
 use Rattle.read_block.proofs.Element
 use Prim.Native.Nat
-use Rattle.bits.proofs.BitPosition
-use Rattle.bits.proofs.BitPosition.Laws
-use Rattle.read_block.proofs.Form
-use Rattle.read_block.proofs.Form.Laws as Laws'
 use Rattle.bit_output.proofs.Put
-use Rattle.bit_output.proofs.Put.Laws as Laws''
+use Rattle.bit_output.proofs.Put.Laws
+use Rattle.bits.proofs.BitPosition
+use Rattle.bits.proofs.BitPosition.Laws as Laws'
 use Rattle.pass_schedule.proofs.Plan
-use Rattle.pass_schedule.proofs.Plan.Laws as Laws'3
+use Rattle.pass_schedule.proofs.Plan.Laws as Laws''
 use Rattle.pass_steps.proofs.Quantisers
-use Rattle.pass_steps.proofs.Quantisers.Laws as Laws'4
+use Rattle.pass_steps.proofs.Quantisers.Laws as Laws'3
 use Rattle.pass_steps.proofs.Set
-use Rattle.pass_steps.proofs.Set.Laws as Laws'5
+use Rattle.pass_steps.proofs.Set.Laws as Laws'4
+use Rattle.read_block.proofs.Form
+use Rattle.read_block.proofs.Form.Laws as Laws'5
 use Rattle.write_pass.proofs.PassPut
 use Rattle.write_pass.proofs.PassPut.Laws as Laws'6
 use borrow.Author.Called
@@ -109,24 +109,25 @@ abbrev pub y8 : Syntax.Ty
 y8 = Syntax.tyRef Syntax.erased Syntax.mut u8
 
 abbrev pub y9 : Syntax.Ty
-y9 = Syntax.tyStruct (115 ∷ 99 ∷ 104 ∷ 101 ∷ 100 ∷ 117 ∷ 108 ∷ 101 ∷ 58 ∷ 58 ∷ 80 ∷ 108 ∷ 97 ∷ 110 ∷ []) (Syntax.tcons u64 (Syntax.tcons u64 (Syntax.tcons u64 (Syntax.tcons u32 (Syntax.tcons u32
-    Syntax.tnil)))))
+y9 = Syntax.tyStruct (112 ∷ 97 ∷ 115 ∷ 115 ∷ 95 ∷ 115 ∷ 99 ∷ 104 ∷ 101 ∷ 100 ∷ 117 ∷ 108 ∷ 101 ∷ 58 ∷ 58 ∷ 80 ∷ 108 ∷ 97 ∷ 110 ∷ []) (Syntax.tcons u64 (Syntax.tcons u64 (Syntax.tcons u64 (Syntax.tcons
+    u32 (Syntax.tcons u32 Syntax.tnil)))))
 
 abbrev pub y10 : Syntax.Ty
-y10 = Syntax.tyStruct (98 ∷ 105 ∷ 116 ∷ 115 ∷ 58 ∷ 58 ∷ 66 ∷ 105 ∷ 116 ∷ 80 ∷ 111 ∷ 115 ∷ 105 ∷ 116 ∷ 105 ∷ 111 ∷ 110 ∷ []) (Syntax.tcons u64 Syntax.tnil)
+y10 = Syntax.tyStruct (114 ∷ 101 ∷ 97 ∷ 100 ∷ 95 ∷ 98 ∷ 108 ∷ 111 ∷ 99 ∷ 107 ∷ 58 ∷ 58 ∷ 70 ∷ 111 ∷ 114 ∷ 109 ∷ []) (Syntax.tcons u32 (Syntax.tcons Syntax.tyBool Syntax.tnil))
 
 abbrev pub y11 : Syntax.Ty
-y11 = Syntax.tyStruct (98 ∷ 108 ∷ 111 ∷ 99 ∷ 107 ∷ 58 ∷ 58 ∷ 70 ∷ 111 ∷ 114 ∷ 109 ∷ []) (Syntax.tcons u32 (Syntax.tcons Syntax.tyBool Syntax.tnil))
+y11 = Syntax.tyStruct (98 ∷ 105 ∷ 116 ∷ 115 ∷ 58 ∷ 58 ∷ 66 ∷ 105 ∷ 116 ∷ 80 ∷ 111 ∷ 115 ∷ 105 ∷ 116 ∷ 105 ∷ 111 ∷ 110 ∷ []) (Syntax.tcons u64 Syntax.tnil)
 
 abbrev pub y12 : Syntax.Ty
-y12 = Syntax.tyEnum (111 ∷ 117 ∷ 116 ∷ 112 ∷ 117 ∷ 116 ∷ 58 ∷ 58 ∷ 80 ∷ 117 ∷ 116 ∷ []) (Syntax.ttcons (Syntax.tcons y10 Syntax.tnil) (Syntax.ttcons (Syntax.tcons u64 Syntax.tnil) Syntax.ttnil))
+y12 = Syntax.tyEnum (98 ∷ 105 ∷ 116 ∷ 95 ∷ 111 ∷ 117 ∷ 116 ∷ 112 ∷ 117 ∷ 116 ∷ 58 ∷ 58 ∷ 80 ∷ 117 ∷ 116 ∷ []) (Syntax.ttcons (Syntax.tcons y11 Syntax.tnil) (Syntax.ttcons (Syntax.tcons u64
+    Syntax.tnil) Syntax.ttnil))
 
 abbrev pub y13 : Syntax.Ty
-y13 = Syntax.tyStruct (115 ∷ 116 ∷ 101 ∷ 112 ∷ 115 ∷ 58 ∷ 58 ∷ 81 ∷ 117 ∷ 97 ∷ 110 ∷ 116 ∷ 105 ∷ 115 ∷ 101 ∷ 114 ∷ 115 ∷ []) (Syntax.tcons u32 (Syntax.tcons y1 (Syntax.tcons y1 (Syntax.tcons y1
-    Syntax.tnil))))
+y13 = Syntax.tyStruct (112 ∷ 97 ∷ 115 ∷ 115 ∷ 95 ∷ 115 ∷ 116 ∷ 101 ∷ 112 ∷ 115 ∷ 58 ∷ 58 ∷ 81 ∷ 117 ∷ 97 ∷ 110 ∷ 116 ∷ 105 ∷ 115 ∷ 101 ∷ 114 ∷ 115 ∷ []) (Syntax.tcons u32 (Syntax.tcons y1
+    (Syntax.tcons y1 (Syntax.tcons y1 Syntax.tnil))))
 
 abbrev pub y14 : Syntax.Ty
-y14 = Syntax.tyStruct (115 ∷ 116 ∷ 101 ∷ 112 ∷ 115 ∷ 58 ∷ 58 ∷ 83 ∷ 101 ∷ 116 ∷ []) (Syntax.tcons y0 (Syntax.tcons y0 Syntax.tnil))
+y14 = Syntax.tyStruct (112 ∷ 97 ∷ 115 ∷ 115 ∷ 95 ∷ 115 ∷ 116 ∷ 101 ∷ 112 ∷ 115 ∷ 58 ∷ 58 ∷ 83 ∷ 101 ∷ 116 ∷ []) (Syntax.tcons y0 (Syntax.tcons y0 Syntax.tnil))
 
 abbrev pub y15 : Syntax.Ty
 y15 = Syntax.tyStruct (38 ∷ 91 ∷ 93 ∷ []) (Syntax.tcons y6 (Syntax.tcons u64 Syntax.tnil))
@@ -138,19 +139,19 @@ abbrev pub y17 : Syntax.Ty
 y17 = Syntax.tyStruct (38 ∷ 91 ∷ 93 ∷ []) (Syntax.tcons y8 (Syntax.tcons u64 Syntax.tnil))
 
 abbrev pub y18 : Syntax.Ty
-y18 = Syntax.tyStruct (119 ∷ 114 ∷ 105 ∷ 116 ∷ 105 ∷ 110 ∷ 103 ∷ 58 ∷ 58 ∷ 80 ∷ 97 ∷ 115 ∷ 115 ∷ 80 ∷ 117 ∷ 116 ∷ []) (Syntax.tcons Syntax.tyBool (Syntax.tcons u64 (Syntax.tcons y10 (Syntax.tcons y14
-    Syntax.tnil))))
+y18 = Syntax.tyStruct (119 ∷ 114 ∷ 105 ∷ 116 ∷ 101 ∷ 95 ∷ 112 ∷ 97 ∷ 115 ∷ 115 ∷ 58 ∷ 58 ∷ 80 ∷ 97 ∷ 115 ∷ 115 ∷ 80 ∷ 117 ∷ 116 ∷ []) (Syntax.tcons Syntax.tyBool (Syntax.tcons u64 (Syntax.tcons y11
+    (Syntax.tcons y14 Syntax.tnil))))
 
 abbrev pub ps : List.List (Kinds.PK 4)
-ps = (ShrSlice.pShrS n16 0 tt) ∷ (Num.pNum Syntax.w64) ∷ (MutSlice.pMutS n8 1 tt) ∷ Bool.pBool ∷ (Values.struct BitPosition.the-type Laws.the-laws Laws.the-copy Laws.the-plain) ∷ (MutSlice.pMutS n16 2
-    tt) ∷ (MutSlice.pMutS (Element.type) 3 tt) ∷ (Values.struct Form.the-type Laws'.the-laws Laws'.the-copy Laws'.the-plain) ∷ (Values.struct Quantisers.the-type Laws'4.the-laws Laws'4.the-copy
-    Laws'4.the-plain) ∷ Bool.pBool ∷ []
+ps = (ShrSlice.pShrS n16 0 tt) ∷ (Num.pNum Syntax.w64) ∷ (MutSlice.pMutS n8 1 tt) ∷ Bool.pBool ∷ (Values.struct BitPosition.the-type Laws'.the-laws Laws'.the-copy Laws'.the-plain) ∷ (MutSlice.pMutS
+    n16 2 tt) ∷ (MutSlice.pMutS (Element.type) 3 tt) ∷ (Values.struct Form.the-type Laws'5.the-laws Laws'5.the-copy Laws'5.the-plain) ∷ (Values.struct Quantisers.the-type Laws'3.the-laws Laws'3.the-copy
+    Laws'3.the-plain) ∷ Bool.pBool ∷ []
 
 abbrev pub r : Kinds.RK 4
-r = Values.enum-result Put.the-type Laws''.the-laws Laws''.the-copy Laws''.the-plain tt
+r = Values.enum-result Put.the-type Laws.the-laws Laws.the-copy Laws.the-plain tt
 
 abbrev pub xs : List.List Syntax.Ty
-xs = u32 ∷ Syntax.tyBool ∷ u64 ∷ y10 ∷ u64 ∷ y9 ∷ y14 ∷ y18 ∷ Syntax.tyBool ∷ y14 ∷ Syntax.tyBool ∷ Syntax.tyUnit ∷ y7 ∷ y16 ∷ y7 ∷ y16 ∷ y6 ∷ y15 ∷ y8 ∷ y17 ∷ y7 ∷ y16 ∷ y6 ∷ y15 ∷ []
+xs = u32 ∷ Syntax.tyBool ∷ u64 ∷ y11 ∷ u64 ∷ y9 ∷ y14 ∷ y18 ∷ Syntax.tyBool ∷ y14 ∷ Syntax.tyBool ∷ Syntax.tyUnit ∷ y7 ∷ y16 ∷ y7 ∷ y16 ∷ y6 ∷ y15 ∷ y8 ∷ y17 ∷ y7 ∷ y16 ∷ y6 ∷ y15 ∷ []
 
 abbrev pub m : Nat.ℕ
 m = 6
@@ -165,7 +166,7 @@ abbrev pub ps·1 : List.List (Kinds.PK 0)
 ps·1 = (Num.pNum Syntax.w64) ∷ Bool.pBool ∷ []
 
 abbrev pub r·1 : Kinds.RK 0
-r·1 = Values.struct-result Plan.the-type Laws'3.the-laws Laws'3.the-copy Laws'3.the-plain
+r·1 = Values.struct-result Plan.the-type Laws''.the-laws Laws''.the-copy Laws''.the-plain
 
 abbrev pub ps·2 : List.List (Kinds.PK 1)
 ps·2 = (MutSlice.pMutS n16 0 tt) ∷ (Num.pNum Syntax.w64) ∷ (Num.pNum Syntax.w64) ∷ []
@@ -177,18 +178,18 @@ abbrev pub ps·3 : List.List (Kinds.PK 1)
 ps·3 = (MutSlice.pMutS (Element.type) 0 tt) ∷ (Num.pNum Syntax.w64) ∷ []
 
 abbrev pub r·3 : Kinds.RK 1
-r·3 = Values.struct-result Set.the-type Laws'5.the-laws Laws'5.the-copy Laws'5.the-plain
+r·3 = Values.struct-result Set.the-type Laws'4.the-laws Laws'4.the-copy Laws'4.the-plain
 
 abbrev pub ps·4 : List.List (Kinds.PK 3)
-ps·4 = (ShrSlice.pShrS n16 0 tt) ∷ (Num.pNum Syntax.w64) ∷ (MutSlice.pMutS n8 1 tt) ∷ Bool.pBool ∷ (Values.struct BitPosition.the-type Laws.the-laws Laws.the-copy Laws.the-plain) ∷ (MutSlice.pMutS n16
-    2 tt) ∷ (Values.struct Set.the-type Laws'5.the-laws Laws'5.the-copy Laws'5.the-plain) ∷ (Num.pNum Syntax.w64) ∷ (Values.struct Plan.the-type Laws'3.the-laws Laws'3.the-copy Laws'3.the-plain) ∷
-    (Values.struct Quantisers.the-type Laws'4.the-laws Laws'4.the-copy Laws'4.the-plain) ∷ (Num.pNum Syntax.w32) ∷ Bool.pBool ∷ []
+ps·4 = (ShrSlice.pShrS n16 0 tt) ∷ (Num.pNum Syntax.w64) ∷ (MutSlice.pMutS n8 1 tt) ∷ Bool.pBool ∷ (Values.struct BitPosition.the-type Laws'.the-laws Laws'.the-copy Laws'.the-plain) ∷ (MutSlice.pMutS
+    n16 2 tt) ∷ (Values.struct Set.the-type Laws'4.the-laws Laws'4.the-copy Laws'4.the-plain) ∷ (Num.pNum Syntax.w64) ∷ (Values.struct Plan.the-type Laws''.the-laws Laws''.the-copy Laws''.the-plain) ∷
+    (Values.struct Quantisers.the-type Laws'3.the-laws Laws'3.the-copy Laws'3.the-plain) ∷ (Num.pNum Syntax.w32) ∷ Bool.pBool ∷ []
 
 abbrev pub r·4 : Kinds.RK 3
 r·4 = Values.struct-result PassPut.the-type Laws'6.the-laws Laws'6.the-copy Laws'6.the-plain
 
 abbrev pub ps·5 : List.List (Kinds.PK 1)
-ps·5 = (MutSlice.pMutS (Element.type) 0 tt) ∷ (Num.pNum Syntax.w64) ∷ (Values.struct Set.the-type Laws'5.the-laws Laws'5.the-copy Laws'5.the-plain) ∷ []
+ps·5 = (MutSlice.pMutS (Element.type) 0 tt) ∷ (Num.pNum Syntax.w64) ∷ (Values.struct Set.the-type Laws'4.the-laws Laws'4.the-copy Laws'4.the-plain) ∷ []
 
 abbrev pub r·5 : Kinds.RK 1
 r·5 = Unit'.rUnit
@@ -233,7 +234,8 @@ abbrev b11 : Syntax.Body
 b11 = Syntax.assign (Syntax.place 24 []) (Syntax.aggregate ((Syntax.copy (Syntax.place 23 [])) ∷ (Syntax.copy (Syntax.place 6 ((Syntax.field 1) ∷ []))) ∷ []))
 
 abbrev b12 : Syntax.Body
-b12 = Syntax.call "colour_lines::set_guards" ((Syntax.copy (Syntax.place 24 [])) ∷ (Syntax.copy (Syntax.place 13 [])) ∷ (Syntax.copy (Syntax.place 16 ((Syntax.field 0) ∷ []))) ∷ []) (Syntax.place 22 [])
+b12 = Syntax.call "colour_lines::set_guards" ((Syntax.copy (Syntax.place 24 [])) ∷ (Syntax.copy (Syntax.place 13 [])) ∷ (Syntax.copy (Syntax.place 16 ((Syntax.field 0) ∷ []))) ∷ []) (Syntax.place 22
+    [])
 
 abbrev b13 : Syntax.Body
 b13 = Syntax.assign (Syntax.place 25 []) (Syntax.addrOf (Syntax.place 6 ((Syntax.field 0) ∷ (Syntax.deref u16) ∷ [])))
@@ -242,7 +244,8 @@ abbrev b14 : Syntax.Body
 b14 = Syntax.assign (Syntax.place 26 []) (Syntax.aggregate ((Syntax.copy (Syntax.place 25 [])) ∷ (Syntax.copy (Syntax.place 6 ((Syntax.field 1) ∷ []))) ∷ []))
 
 abbrev b15 : Syntax.Body
-b15 = Syntax.call "colour_lines::set_guards" ((Syntax.copy (Syntax.place 26 [])) ∷ (Syntax.copy (Syntax.place 13 [])) ∷ (Syntax.copy (Syntax.place 16 ((Syntax.field 1) ∷ []))) ∷ []) (Syntax.place 22 [])
+b15 = Syntax.call "colour_lines::set_guards" ((Syntax.copy (Syntax.place 26 [])) ∷ (Syntax.copy (Syntax.place 13 [])) ∷ (Syntax.copy (Syntax.place 16 ((Syntax.field 1) ∷ []))) ∷ []) (Syntax.place 22
+    [])
 
 abbrev b16 : Syntax.Body
 b16 = Syntax.assign (Syntax.place 27 []) (Syntax.addrOf (Syntax.place 7 ((Syntax.field 0) ∷ (Syntax.deref (Element.held)) ∷ [])))
@@ -266,9 +269,9 @@ abbrev b22 : Syntax.Body
 b22 = Syntax.assign (Syntax.place 32 []) (Syntax.aggregate ((Syntax.copy (Syntax.place 31 [])) ∷ (Syntax.copy (Syntax.place 6 ((Syntax.field 1) ∷ []))) ∷ []))
 
 abbrev b23 : Syntax.Body
-b23 = Syntax.call "write_pass::write_pass" ((Syntax.copy (Syntax.place 1 [])) ∷ (Syntax.copy (Syntax.place 2 [])) ∷ (Syntax.copy (Syntax.place 30 [])) ∷ (Syntax.copy (Syntax.place 4 [])) ∷ (Syntax.copy
-    (Syntax.place 14 [])) ∷ (Syntax.copy (Syntax.place 32 [])) ∷ (Syntax.copy (Syntax.place 17 [])) ∷ (Syntax.copy (Syntax.place 13 [])) ∷ (Syntax.copy (Syntax.place 16 [])) ∷ (Syntax.copy (Syntax.place 9
-    [])) ∷ (Syntax.copy (Syntax.place 11 [])) ∷ (Syntax.copy (Syntax.place 10 [])) ∷ []) (Syntax.place 18 [])
+b23 = Syntax.call "write_pass::write_pass" ((Syntax.copy (Syntax.place 1 [])) ∷ (Syntax.copy (Syntax.place 2 [])) ∷ (Syntax.copy (Syntax.place 30 [])) ∷ (Syntax.copy (Syntax.place 4 [])) ∷
+    (Syntax.copy (Syntax.place 14 [])) ∷ (Syntax.copy (Syntax.place 32 [])) ∷ (Syntax.copy (Syntax.place 17 [])) ∷ (Syntax.copy (Syntax.place 13 [])) ∷ (Syntax.copy (Syntax.place 16 [])) ∷ (Syntax.copy
+    (Syntax.place 9 [])) ∷ (Syntax.copy (Syntax.place 11 [])) ∷ (Syntax.copy (Syntax.place 10 [])) ∷ []) (Syntax.place 18 [])
 
 abbrev b24 : Syntax.Body
 b24 = Syntax.assign (Syntax.place 19 []) (Syntax.rvOpd (Syntax.copy (Syntax.place 18 ((Syntax.field 0) ∷ []))))
@@ -298,8 +301,8 @@ abbrev b33 : Syntax.Body
 b33 = Syntax.assign (Syntax.place 34 []) (Syntax.aggregate ((Syntax.copy (Syntax.place 33 [])) ∷ (Syntax.copy (Syntax.place 7 ((Syntax.field 1) ∷ []))) ∷ []))
 
 abbrev b34 : Syntax.Body
-b34 = Syntax.call "read_block::records::store_set" ((Syntax.copy (Syntax.place 34 [])) ∷ (Syntax.copy (Syntax.place 16 ((Syntax.field 2) ∷ []))) ∷ (Syntax.copy (Syntax.place 20 [])) ∷ []) (Syntax.place 22
-    [])
+b34 = Syntax.call "read_block::records::store_set" ((Syntax.copy (Syntax.place 34 [])) ∷ (Syntax.copy (Syntax.place 16 ((Syntax.field 2) ∷ []))) ∷ (Syntax.copy (Syntax.place 20 [])) ∷ [])
+    (Syntax.place 22 [])
 
 abbrev b35 : Syntax.Body
 b35 = Syntax.assign (Syntax.place 14 []) (Syntax.rvOpd (Syntax.copy (Syntax.place 18 ((Syntax.field 2) ∷ []))))
@@ -372,7 +375,7 @@ abbrev pub v3 : Row.Row
 v3 = Rows.any-gone Syntax.tyBool
 
 abbrev pub v4 : Row.Row
-v4 = Rows.any-gone y10
+v4 = Rows.any-gone y11
 
 abbrev pub v5 : Row.Row
 v5 = Rows.any-gone y16
@@ -384,7 +387,7 @@ abbrev pub v7 : Row.Row
 v7 = Rows.sslice n16 y2 0
 
 abbrev pub v8 : Row.Row
-v8 = Rows.any-gone y11
+v8 = Rows.any-gone y10
 
 abbrev pub v9 : Row.Row
 v9 = Mut.mslice (Element.type) y5 3
@@ -934,13 +937,13 @@ module _ (claims· : Claims) where
   s2 = λ bs. Know.k-sl-known (Referent.fInt Syntax.w16) T0 6 2 y4 Row.off 0 λ x. x
 
   abbrev s3 : (bs : List.List Nat.ℕ) → Typed.Mo T0 → Typed.Mo T5
-  s3 = λ bs. Scalar.n-use T0 (Scalar.oFld 8 ((Syntax.field 0) ∷ []) u32 0 (Reads.fieldV Form.the-type Laws'.the-laws 0)) 11 (Rows.sc-here (Row.sInt Syntax.w32)) (Row.sInt Syntax.w32 .of)
+  s3 = λ bs. Scalar.n-use T0 (Scalar.oFld 8 ((Syntax.field 0) ∷ []) u32 0 (Reads.fieldV Form.the-type Laws'5.the-laws 0)) 11 (Rows.sc-here (Row.sInt Syntax.w32)) (Row.sInt Syntax.w32 .of)
 
   abbrev s4 : (bs : List.List Nat.ℕ) → Typed.Mo T5 → Typed.Mo T6
-  s4 = λ bs. Scalar.n-use T5 (Scalar.oFld 8 ((Syntax.field 1) ∷ []) Syntax.tyBool 4 (Reads.fieldV Form.the-type Laws'.the-laws 1)) 12 (Rows.sc-here Row.sBool) (Row.sBool .of)
+  s4 = λ bs. Scalar.n-use T5 (Scalar.oFld 8 ((Syntax.field 1) ∷ []) Syntax.tyBool 4 (Reads.fieldV Form.the-type Laws'5.the-laws 1)) 12 (Rows.sc-here Row.sBool) (Row.sBool .of)
 
   abbrev s5 : (bs : List.List Nat.ℕ) → Typed.Mo T6 → Typed.Mo T7
-  s5 = λ bs. Scalar.n-room T6 8 y11
+  s5 = λ bs. Scalar.n-room T6 8 y10
 
   abbrev s6 : (bs : List.List Nat.ℕ) → Typed.Both T7 T8
   s6 = λ bs. Call.callB ps·0 r·0 (claims· .0) (claims· .1) T7 (Bool.bAt 12 λ x. x, tt) 13 [] u64
@@ -950,7 +953,7 @@ module _ (claims· : Claims) where
       x. x
 
   abbrev s8 : (bs : List.List Nat.ℕ) → Typed.Mo T9 → Typed.Mo T10
-  s8 = λ bs. Scalar.n-room T9 5 y10
+  s8 = λ bs. Scalar.n-room T9 5 y11
 
   abbrev s9 : (bs : List.List Nat.ℕ) → Typed.Mo T10 → Typed.Mo T11
   s9 = λ bs. Scalar.n-use T10 (Scalar.oInt Syntax.w64 0) 15 (Rows.sc-here (Row.sInt Syntax.w64)) (Row.sInt Syntax.w64 .of)
@@ -1059,7 +1062,7 @@ module _ (claims· : Claims) where
       y18
 
   abbrev s47 : (bs : List.List Nat.ℕ) → Typed.Mo T50 → Typed.Mo T51
-  s47 = λ bs. Scalar.n-room T50 14 y10
+  s47 = λ bs. Scalar.n-room T50 14 y11
 
   abbrev s48 : (bs : List.List Nat.ℕ) → Typed.Mo T51 → Typed.Mo T52
   s48 = λ bs. Scalar.n-room T51 17 y14
@@ -1180,7 +1183,7 @@ module _ (claims· : Claims) where
   s91 = λ bs. Scalar.n-room T95 13 u64
 
   abbrev s92 : (bs : List.List Nat.ℕ) → Typed.Mo T96 → Typed.Mo T97
-  s92 = λ bs. Scalar.n-room T96 14 y10
+  s92 = λ bs. Scalar.n-room T96 14 y11
 
   abbrev s93 : (bs : List.List Nat.ℕ) → Typed.Mo T97 → Typed.Mo T98
   s93 = λ bs. Scalar.n-room T97 15 u64
@@ -1204,11 +1207,11 @@ module _ (claims· : Claims) where
   module _ (Pre· : (κs : Lifetimes.Lfts 4) → Kinds.Dens κs ps → Type 0) (Post· : (κs : Lifetimes.Lfts 4) → (a : Kinds.Dens κs ps) → Kinds.Plain 4 ps r κs) where
     module _ (M : Type 1) where
       abbrev pub Closed : Type 2
-      Closed = (𝓤 : URA.URA M) (H : Wp.Heap 𝓤) (A : Atoms.Atoms 𝓤) (W : Kit.Given 𝓤 H A) (𝓣 : Wp.Tables 𝓤 H) (known0 : Plain.Known 𝓤 H A W 𝓣 0 ps·0 r·0 (claims· .0) (claims· .1) "image_map::width") (known1
-          : Plain.Known 𝓤 H A W 𝓣 0 ps·1 r·1 (claims· .2) (claims· .3) "pass_schedule::plan_at") (known2 : Plain.Known 𝓤 H A W 𝓣 1 ps·2 r·2 (claims· .4) (claims· .5) "colour_lines::set_guards") (known3 : Plain.Known
-          𝓤 H A W 𝓣 1 ps·3 r·3 (claims· .6) (claims· .7) "read_block::records::load_set") (known4 : Plain.Known 𝓤 H A W 𝓣 3 ps·4 r·4 (claims· .8) (claims· .9) "write_pass::write_pass") (known5 : Plain.Known 𝓤 H A
-          W 𝓣 1 ps·5 r·5 (claims· .10) (claims· .11) "read_block::records::store_set") → Statement.Triple 𝓤 (Wp.WpFn 𝓤 H (𝓣 .C) (𝓣 .Λ) (Function.fnOf 4 ps r xs m hs body)) (Function.plainOf 𝓤 H A 4 ps r Pre·
-          Post·)
+      Closed = (𝓤 : URA.URA M) (H : Wp.Heap 𝓤) (A : Atoms.Atoms 𝓤) (W : Kit.Given 𝓤 H A) (𝓣 : Wp.Tables 𝓤 H) (known0 : Plain.Known 𝓤 H A W 𝓣 0 ps·0 r·0 (claims· .0) (claims· .1) "image_map::width")
+          (known1 : Plain.Known 𝓤 H A W 𝓣 0 ps·1 r·1 (claims· .2) (claims· .3) "pass_schedule::plan_at") (known2 : Plain.Known 𝓤 H A W 𝓣 1 ps·2 r·2 (claims· .4) (claims· .5) "colour_lines::set_guards")
+          (known3 : Plain.Known 𝓤 H A W 𝓣 1 ps·3 r·3 (claims· .6) (claims· .7) "read_block::records::load_set") (known4 : Plain.Known 𝓤 H A W 𝓣 3 ps·4 r·4 (claims· .8) (claims· .9)
+          "write_pass::write_pass") (known5 : Plain.Known 𝓤 H A W 𝓣 1 ps·5 r·5 (claims· .10) (claims· .11) "read_block::records::store_set") → Statement.Triple 𝓤 (Wp.WpFn 𝓤 H (𝓣 .C) (𝓣 .Λ) (Function.fnOf
+          4 ps r xs m hs body)) (Function.plainOf 𝓤 H A 4 ps r Pre· Post·)
 
     module _ (Inv·0 : InvT-loop) (μ·0 : MeasureT-loop) where
       abbrev at0 : (bs : List.List Nat.ℕ) → Typed.TF T11 O4
@@ -1490,9 +1493,9 @@ module _ (claims· : Claims) where
 
       module _ {M : Type 1} (𝓤 : URA.URA M) (H : Wp.Heap 𝓤) (A : Atoms.Atoms 𝓤) (W : Kit.Given 𝓤 H A) (𝓣 : Wp.Tables 𝓤 H) where
         abbrev Knowns : Type 1
-        Knowns = Plain.Known 𝓤 H A W 𝓣 0 ps·0 r·0 (claims· .0) (claims· .1) "image_map::width" × Plain.Known 𝓤 H A W 𝓣 0 ps·1 r·1 (claims· .2) (claims· .3) "pass_schedule::plan_at" × Plain.Known 𝓤 H A W 𝓣 1 ps·2
-            r·2 (claims· .4) (claims· .5) "colour_lines::set_guards" × Plain.Known 𝓤 H A W 𝓣 1 ps·3 r·3 (claims· .6) (claims· .7) "read_block::records::load_set" × Plain.Known 𝓤 H A W 𝓣 3 ps·4 r·4 (claims· .8)
-            (claims· .9) "write_pass::write_pass" × Plain.Known 𝓤 H A W 𝓣 1 ps·5 r·5 (claims· .10) (claims· .11) "read_block::records::store_set"
+        Knowns = Plain.Known 𝓤 H A W 𝓣 0 ps·0 r·0 (claims· .0) (claims· .1) "image_map::width" × Plain.Known 𝓤 H A W 𝓣 0 ps·1 r·1 (claims· .2) (claims· .3) "pass_schedule::plan_at" × Plain.Known 𝓤 H A
+            W 𝓣 1 ps·2 r·2 (claims· .4) (claims· .5) "colour_lines::set_guards" × Plain.Known 𝓤 H A W 𝓣 1 ps·3 r·3 (claims· .6) (claims· .7) "read_block::records::load_set" × Plain.Known 𝓤 H A W 𝓣 3 ps·4
+            r·4 (claims· .8) (claims· .9) "write_pass::write_pass" × Plain.Known 𝓤 H A W 𝓣 1 ps·5 r·5 (claims· .10) (claims· .11) "read_block::records::store_set"
 
       module _ (κs : Lifetimes.Lfts 4) (qs : Lifetimes.Shares 4) where
         abbrev k0 : Row.Life
@@ -1778,16 +1781,16 @@ module _ (claims· : Claims) where
               PassPut.the-type) y18 Path'.refl)) d14
 
           d16 : Typed.Typed 𝓤 H A 𝓣 E (on T66 l10) b28 Δ5 (at16 bs)
-          d16 = Typed.s-seq 𝓤 H A W 𝓣 E (on T66 l10) (on T67 l10) b26 b27 Δ5 (Typed.pass T66 T67 (s62 bs)) (at15 bs) (Make.t-enum-make-wt 𝓤 H A W E 𝓣 Put.the-type Laws''.the-laws Laws''.the-plain tt
-              (on T66 l10) 0 ((Scalar.oInt Syntax.w8 1) ∷ (Scalar.oFld 18 ((Syntax.field 1) ∷ []) u64 8 (Reads.fieldV PassPut.the-type Laws'6.the-laws 1)) ∷ []) (λ m. Put.enum .make (Logic.inr (Logic.inl
+          d16 = Typed.s-seq 𝓤 H A W 𝓣 E (on T66 l10) (on T67 l10) b26 b27 Δ5 (Typed.pass T66 T67 (s62 bs)) (at15 bs) (Make.t-enum-make-wt 𝓤 H A W E 𝓣 Put.the-type Laws.the-laws Laws.the-plain tt (on
+              T66 l10) 0 ((Scalar.oInt Syntax.w8 1) ∷ (Scalar.oFld 18 ((Syntax.field 1) ∷ []) u64 8 (Reads.fieldV PassPut.the-type Laws'6.the-laws 1)) ∷ []) (λ m. Put.enum .make (Logic.inr (Logic.inl
               (PassPut.struct .as-values (m .1 .1 .1 .1 .1 .1 .1 .1 .1 .1 .1 .1 .1 .1 .1 .1 .1 .1 .0) .1 .0, tt)))) (Reads'.room-gone 𝓤 H A y12)
-              (tt, ((Reads.reads-field 𝓤 H A W PassPut.the-type Laws'6.the-laws 1 u64 8 Path'.refl, Path'.refl), tt)) Path'.refl (λ m wa. Make.made-val Put.the-type Laws''.the-laws ((Laws''.the-laws .1 .0
-              .0 .val (PassPut.struct .as-values (m .1 .1 .1 .1 .1 .1 .1 .1 .1 .1 .1 .1 .1 .1 .1 .1 .1 .1 .0) .1 .0)) ∷ []) (Put.enum .make (Logic.inr (Logic.inl
+              (tt, ((Reads.reads-field 𝓤 H A W PassPut.the-type Laws'6.the-laws 1 u64 8 Path'.refl, Path'.refl), tt)) Path'.refl (λ m wa. Make.made-val Put.the-type Laws.the-laws ((Laws.the-laws .1 .0 .0
+              .val (PassPut.struct .as-values (m .1 .1 .1 .1 .1 .1 .1 .1 .1 .1 .1 .1 .1 .1 .1 .1 .1 .1 .0) .1 .0)) ∷ []) (Put.enum .make (Logic.inr (Logic.inl
               (PassPut.struct .as-values (m .1 .1 .1 .1 .1 .1 .1 .1 .1 .1 .1 .1 .1 .1 .1 .1 .1 .1 .0) .1 .0, tt))))
-              (Signed.made-wt Field.u64-field (Laws''.the-laws .1 .0 .0) Make'.u64-wt (PassPut.struct .as-values (m .1 .1 .1 .1 .1 .1 .1 .1 .1 .1 .1 .1 .1 .1 .1 .1 .1 .1 .0) .1 .0), tt) (wa .1)) λ m wa.
-              Make.made-is Put.the-type Laws''.the-laws ((Laws''.the-laws .1 .0 .0 .val (PassPut.struct .as-values (m .1 .1 .1 .1 .1 .1 .1 .1 .1 .1 .1 .1 .1 .1 .1 .1 .1 .1 .0) .1 .0)) ∷ []) (Put.enum
-              .make (Logic.inr (Logic.inl (PassPut.struct .as-values (m .1 .1 .1 .1 .1 .1 .1 .1 .1 .1 .1 .1 .1 .1 .1 .1 .1 .1 .0) .1 .0, tt))))
-              (Signed.made-wt Field.u64-field (Laws''.the-laws .1 .0 .0) Make'.u64-wt (PassPut.struct .as-values (m .1 .1 .1 .1 .1 .1 .1 .1 .1 .1 .1 .1 .1 .1 .1 .1 .1 .1 .0) .1 .0), tt) (wa .1)) d15
+              (Signed.made-wt Field.u64-field (Laws.the-laws .1 .0 .0) Make'.u64-wt (PassPut.struct .as-values (m .1 .1 .1 .1 .1 .1 .1 .1 .1 .1 .1 .1 .1 .1 .1 .1 .1 .1 .0) .1 .0), tt) (wa .1)) λ m wa.
+              Make.made-is Put.the-type Laws.the-laws ((Laws.the-laws .1 .0 .0 .val (PassPut.struct .as-values (m .1 .1 .1 .1 .1 .1 .1 .1 .1 .1 .1 .1 .1 .1 .1 .1 .1 .1 .0) .1 .0)) ∷ []) (Put.enum .make
+              (Logic.inr (Logic.inl (PassPut.struct .as-values (m .1 .1 .1 .1 .1 .1 .1 .1 .1 .1 .1 .1 .1 .1 .1 .1 .1 .1 .0) .1 .0, tt))))
+              (Signed.made-wt Field.u64-field (Laws.the-laws .1 .0 .0) Make'.u64-wt (PassPut.struct .as-values (m .1 .1 .1 .1 .1 .1 .1 .1 .1 .1 .1 .1 .1 .1 .1 .1 .1 .1 .0) .1 .0), tt) (wa .1)) d15
 
           d17 : Typed.Typed 𝓤 H A 𝓣 E (on T65 l10) b28 Δ5 (at17 bs)
           d17 = Typed.g-pre 𝓤 H A W 𝓣 E (on T65 l10) (on T66 l10) b28 Δ5 (Typed.pass T65 T66 (s61 bs)) (at16 bs) (Scalar.g-room 𝓤 H A W E (on T65 l10) 21 Syntax.tyBool (Scalar.room-sc 𝓤 H A W
@@ -1824,13 +1827,13 @@ module _ (claims· : Claims) where
 
           d25 : Typed.Typed 𝓤 H A 𝓣 E (on T87 l10) b37 Δ3 (at25 bs)
           d25 = Typed.s-seq 𝓤 H A W 𝓣 E (on T87 l10) (on T89 l10) b35 b36 Δ3 (Typed.both (s84 bs)) (at24 bs) (WayStmt.t-way-copy-out 𝓤 H A W E 𝓣 (Declared'.row BitPosition.the-type) Path'.refl
-              (Copies.cStruct BitPosition.the-type Laws.the-laws Laws.the-copy .copy 𝓤 H A W) (λ ρ. Unit) (on T87 l10) (Row.out 18 ((on T87 l10) .locals)) (λ u. Row.drop 18 ((on T87 l10) .locals) u) ((on
-              T87 l10) .slots) 18 (λ t. (Syntax.field 2) ∷ t) y10 y10 14 (Rows.whole (Declared'.row BitPosition.the-type)) (λ x. x) (λ u. At.getAt (PassPut.the-type .parts) 2 (PassPut.struct .as-values (u
-              .1 .1 .1 .1 .1 .1 .1 .1 .1 .1 .1 .1 .1 .1 .1 .1 .1 .1 .0))) (λ u.
+              (Copies.cStruct BitPosition.the-type Laws'.the-laws Laws'.the-copy .copy 𝓤 H A W) (λ ρ. Unit) (on T87 l10) (Row.out 18 ((on T87 l10) .locals)) (λ u. Row.drop 18 ((on T87 l10) .locals) u)
+              ((on T87 l10) .slots) 18 (λ t. (Syntax.field 2) ∷ t) y11 y11 14 (Rows.whole (Declared'.row BitPosition.the-type)) (λ x. x) (λ u. At.getAt (PassPut.the-type .parts) 2 (PassPut.struct
+              .as-values (u .1 .1 .1 .1 .1 .1 .1 .1 .1 .1 .1 .1 .1 .1 .1 .1 .1 .1 .0))) (λ u.
               (Row.hd 0 (Row.tl (Row.tl (Row.tl (Row.tl (Row.tl (Row.tl (Row.tl (Row.tl (Row.tl (Row.tl (Row.tl (Row.tl (Row.tl (Row.tl (Row.tl (Row.tl (Row.tl (Row.tl bs)))))))))))))))))), Nat._+_ 0 16))
               (λ T′. record { locals = Row.setRow 18 (18, Rows.whole (Declared'.row PassPut.the-type)) T′; slots = (on T87 l10) .slots }) (λ u T′ m′. Row.set 18
               (18, Rows.whole (Declared'.row PassPut.the-type)) (u .1 .1 .1 .1 .1 .1 .1 .1 .1 .1 .1 .1 .1 .1 .1 .1 .1 .1 .0) T′ m′) (λ u. Unit) (λ x. Unit) (Own.told-none 𝓤 H A ((on T87 l10) .slots))
-              (DerefMove.learns-nothing 𝓤 H A (Declared'.row BitPosition.the-type)) (λ ρ told u asked. Way'.w-partˢ 𝓤 H A W E (Declared'.row PassPut.the-type) (Declared'.row BitPosition.the-type) y18 y10
+              (DerefMove.learns-nothing 𝓤 H A (Declared'.row BitPosition.the-type)) (λ ρ told u asked. Way'.w-partˢ 𝓤 H A W E (Declared'.row PassPut.the-type) (Declared'.row BitPosition.the-type) y18 y11
               2 16 (u .1 .1 .1 .1 .1 .1 .1 .1 .1 .1 .1 .1 .1 .1 .1 .1 .1 .1 .0) (At.getAt (PassPut.the-type .parts) 2 (PassPut.struct .as-values (u .1 .1 .1 .1 .1 .1 .1 .1 .1 .1 .1 .1 .1 .1 .1 .1 .1 .1
               .0))) (Row.hd 0 (Row.tl (Row.tl (Row.tl (Row.tl (Row.tl (Row.tl (Row.tl (Row.tl (Row.tl (Row.tl (Row.tl (Row.tl (Row.tl (Row.tl (Row.tl (Row.tl (Row.tl (Row.tl bs)))))))))))))))))), 0)
               (Way.w-look 𝓤 H A W E (Way.w-local 𝓤 H A W E (on T87 l10) ρ u ((on T87 l10) .slots) 18 (Declared'.row PassPut.the-type) (Rows.whole (Declared'.row PassPut.the-type)) (λ x. x) (λ x. x) (u .1
@@ -1843,7 +1846,7 @@ module _ (claims· : Claims) where
               (Row.hd 0 (Row.tl (Row.tl (Row.tl (Row.tl (Row.tl (Row.tl (Row.tl (Row.tl (Row.tl (Row.tl (Row.tl (Row.tl (Row.tl (Row.tl (Row.tl (Row.tl (Row.tl (Row.tl bs)))))))))))))))))), 0)
               (Behind.look-at 𝓤 H A W q PassPut.the-type Laws'6.the-laws 2 16 Path'.refl Path'.refl
               (Row.hd 0 (Row.tl (Row.tl (Row.tl (Row.tl (Row.tl (Row.tl (Row.tl (Row.tl (Row.tl (Row.tl (Row.tl (Row.tl (Row.tl (Row.tl (Row.tl (Row.tl (Row.tl (Row.tl bs)))))))))))))))))), 0) (u .1 .1 .1
-              .1 .1 .1 .1 .1 .1 .1 .1 .1 .1 .1 .1 .1 .1 .1 .0) (PassPut.struct .as-values (u .1 .1 .1 .1 .1 .1 .1 .1 .1 .1 .1 .1 .1 .1 .1 .1 .1 .1 .0)) Path'.refl)) (Reads'.room-gone 𝓤 H A y10)
+              .1 .1 .1 .1 .1 .1 .1 .1 .1 .1 .1 .1 .1 .1 .1 .0) (PassPut.struct .as-values (u .1 .1 .1 .1 .1 .1 .1 .1 .1 .1 .1 .1 .1 .1 .1 .1 .1 .1 .0)) Path'.refl)) (Reads'.room-gone 𝓤 H A y11)
               (Yields.makes-mem 𝓤 H A W (λ ρ. Unit) (Declared'.row BitPosition.the-type) Path'.refl (Rows.whole (Declared'.row BitPosition.the-type)) (λ x. x) λ ρ told. Local.whole-mem 𝓤 H A W
               (Declared'.row BitPosition.the-type) ρ) Path'.refl Path'.refl Path'.refl) d24
 
@@ -1869,14 +1872,14 @@ module _ (claims· : Claims) where
               Path'.refl)) d30
 
           d32 : Typed.Typed 𝓤 H A 𝓣 E G81 (Syntax.seq b34 b37) Δ3 (at32 bs)
-          d32 = Typed.s-seq 𝓤 H A W 𝓣 E G81 G82 b34 b37 Δ3 (Typed.both (s77 bs)) (at31 bs) (Plain.t-call-plain 𝓤 H A W 𝓣 1 ps·5 r·5 (claims· .10) (claims· .11) "read_block::records::store_set" (known .5) E
-              (λ pos β. β) G81
+          d32 = Typed.s-seq 𝓤 H A W 𝓣 E G81 G82 b34 b37 Δ3 (Typed.both (s77 bs)) (at31 bs) (Plain.t-call-plain 𝓤 H A W 𝓣 1 ps·5 r·5 (claims· .10) (claims· .11) "read_block::records::store_set" (known
+              .5) E (λ pos β. β) G81
               (record { pos = 34; ty = y6; ref = λ x. x }, (Num.vFld 16 ((Syntax.field 2) ∷ []) 16 λ x. Plan.struct .as-values x .1 .1 .0, (record { pos = 20; st = []; d = 0; at = λ x. x }, tt))) 22 (9 ∷
               []) (Call.sub-id 𝓤 H A W (G81 .slots)) (
                 Reads'.as-is 𝓤 H A (Mut.mslice (Element.type) y6 9),
                 Mut.reads-mslice 𝓤 H A W (Element.type) y6 9,
                 Path'.refl,
-                ((Reads.reads-field 𝓤 H A W Plan.the-type Laws'3.the-laws 2 u64 16 Path'.refl, Path'.refl), ((Values.struct-copied 𝓤 H A W Set.the-type Laws'5.the-laws Laws'5.the-copy, Path'.refl), tt)),
+                ((Reads.reads-field 𝓤 H A W Plan.the-type Laws''.the-laws 2 u64 16 Path'.refl, Path'.refl), ((Values.struct-copied 𝓤 H A W Set.the-type Laws'4.the-laws Laws'4.the-copy, Path'.refl), tt)),
               )
               (Reads'.room-gone 𝓤 H A Syntax.tyUnit) (tt, tt) Path'.refl) d31
 
@@ -1896,7 +1899,7 @@ module _ (claims· : Claims) where
 
           d36 : Typed.Typed 𝓤 H A 𝓣 E (on T61 l10) (Syntax.seq b31 b40) Δ3 (at36 bs)
           d36 = Typed.s-seq 𝓤 H A W 𝓣 E (on T61 l10) (on T78 l10) b31 b40 Δ3 (Typed.both (s73 bs)) (at34 bs) (WayStmt.t-way-copy-out 𝓤 H A W E 𝓣 (Declared'.row Set.the-type) Path'.refl (Copies.cStruct
-              Set.the-type Laws'5.the-laws Laws'5.the-copy .copy 𝓤 H A W) (λ ρ. Unit) (on T61 l10) (Row.out 18 ((on T61 l10) .locals)) (λ u. Row.drop 18 ((on T61 l10) .locals) u) ((on T61 l10) .slots) 18
+              Set.the-type Laws'4.the-laws Laws'4.the-copy .copy 𝓤 H A W) (λ ρ. Unit) (on T61 l10) (Row.out 18 ((on T61 l10) .locals)) (λ u. Row.drop 18 ((on T61 l10) .locals) u) ((on T61 l10) .slots) 18
               (λ t. (Syntax.field 3) ∷ t) y14 y14 20 (Rows.whole (Declared'.row Set.the-type)) (λ x. x) (λ u. At.getAt (PassPut.the-type .parts) 3 (PassPut.struct .as-values (u .1 .1 .1 .1 .1 .1 .1 .1 .1
               .1 .1 .1 .1 .1 .1 .1 .1 .1 .0))) (λ u.
               (Row.hd 0 (Row.tl (Row.tl (Row.tl (Row.tl (Row.tl (Row.tl (Row.tl (Row.tl (Row.tl (Row.tl (Row.tl (Row.tl (Row.tl (Row.tl (Row.tl (Row.tl (Row.tl (Row.tl bs)))))))))))))))))), Nat._+_ 0 24))
@@ -1966,12 +1969,12 @@ module _ (claims· : Claims) where
               Path'.refl)) d47
 
           d49 : Typed.Typed 𝓤 H A 𝓣 E G50 b44 Δ3 (at49 bs)
-          d49 = Typed.g-pre 𝓤 H A W 𝓣 E G50 G51 b44 Δ3 (Typed.pass T50 T51 (s47 bs)) (at48 bs) (Scalar.g-room 𝓤 H A W E G50 14 y10 (Local.room-whole 𝓤 H A W (Declared'.row BitPosition.the-type) y10
+          d49 = Typed.g-pre 𝓤 H A W 𝓣 E G50 G51 b44 Δ3 (Typed.pass T50 T51 (s47 bs)) (at48 bs) (Scalar.g-room 𝓤 H A W E G50 14 y11 (Local.room-whole 𝓤 H A W (Declared'.row BitPosition.the-type) y11
               Path'.refl)) d48
 
           d50 : Typed.Typed 𝓤 H A 𝓣 E G49 (Syntax.seq b23 b44) Δ3 (at50 bs)
-          d50 = Typed.s-seq 𝓤 H A W 𝓣 E G49 G50 b23 b44 Δ3 (Typed.both (s46 bs)) (at49 bs) (Plain.t-call-plain 𝓤 H A W 𝓣 3 ps·4 r·4 (claims· .8) (claims· .9) "write_pass::write_pass" (known .4) E (λ pos
-              β. β) G49 (
+          d50 = Typed.s-seq 𝓤 H A W 𝓣 E G49 G50 b23 b44 Δ3 (Typed.both (s46 bs)) (at49 bs) (Plain.t-call-plain 𝓤 H A W 𝓣 3 ps·4 r·4 (claims· .8) (claims· .9) "write_pass::write_pass" (known .4) E (λ
+              pos β. β) G49 (
                 record { pos = 1; ty = y2; ref = λ x. x },
                 (
                   Num.vAt 2 λ x. x,
@@ -2006,19 +2009,19 @@ module _ (claims· : Claims) where
                     (
                       (Scalar.reads-sc 𝓤 H A W Row.sBool, Path'.refl),
                       (
-                        (Values.struct-copied 𝓤 H A W BitPosition.the-type Laws.the-laws Laws.the-copy, Path'.refl),
+                        (Values.struct-copied 𝓤 H A W BitPosition.the-type Laws'.the-laws Laws'.the-copy, Path'.refl),
                         (
                           Reads'.as-is 𝓤 H A (Mut.mslice n16 y7 8),
                           Mut.reads-mslice 𝓤 H A W n16 y7 8,
                           Path'.refl,
                           (
-                            (Values.struct-copied 𝓤 H A W Set.the-type Laws'5.the-laws Laws'5.the-copy, Path'.refl),
+                            (Values.struct-copied 𝓤 H A W Set.the-type Laws'4.the-laws Laws'4.the-copy, Path'.refl),
                             (
                               (Scalar.reads-sc 𝓤 H A W (Row.sInt Syntax.w64), Path'.refl),
                               (
-                                (Values.struct-copied 𝓤 H A W Plan.the-type Laws'3.the-laws Laws'3.the-copy, Path'.refl),
+                                (Values.struct-copied 𝓤 H A W Plan.the-type Laws''.the-laws Laws''.the-copy, Path'.refl),
                                 (
-                                  (Values.struct-copied 𝓤 H A W Quantisers.the-type Laws'4.the-laws Laws'4.the-copy, Path'.refl),
+                                  (Values.struct-copied 𝓤 H A W Quantisers.the-type Laws'3.the-laws Laws'3.the-copy, Path'.refl),
                                   ((Scalar.reads-sc 𝓤 H A W (Row.sInt Syntax.w32), Path'.refl), ((Scalar.reads-sc 𝓤 H A W Row.sBool, Path'.refl), tt)),
                                 ),
                               ),
@@ -2071,13 +2074,13 @@ module _ (claims· : Claims) where
           d59 = Typed.g-pre 𝓤 H A W 𝓣 E G40 G41 b49 Δ3 (λ Ψ. Ψ) (at58 bs) (Lifetime.g-end 𝓤 H A W E G40 6 Path'.refl) d58
 
           d60 : Typed.Typed 𝓤 H A 𝓣 E G39 (Syntax.seq b18 b49) Δ3 (at60 bs)
-          d60 = Typed.s-seq 𝓤 H A W 𝓣 E G39 G40 b18 b49 Δ3 (Typed.both (s36 bs)) (at58 bs) (Plain.t-call-plain 𝓤 H A W 𝓣 1 ps·3 r·3 (claims· .6) (claims· .7) "read_block::records::load_set" (known .3) E (λ
-              pos β. β) G39 (record { pos = 28; ty = y6; ref = λ x. x }, (Num.vFld 16 ((Syntax.field 2) ∷ []) 16 λ x. Plan.struct .as-values x .1 .1 .0, tt)) 17 (6 ∷ []) (Call.sub-id 𝓤 H A W (G39
+          d60 = Typed.s-seq 𝓤 H A W 𝓣 E G39 G40 b18 b49 Δ3 (Typed.both (s36 bs)) (at58 bs) (Plain.t-call-plain 𝓤 H A W 𝓣 1 ps·3 r·3 (claims· .6) (claims· .7) "read_block::records::load_set" (known .3)
+              E (λ pos β. β) G39 (record { pos = 28; ty = y6; ref = λ x. x }, (Num.vFld 16 ((Syntax.field 2) ∷ []) 16 λ x. Plan.struct .as-values x .1 .1 .0, tt)) 17 (6 ∷ []) (Call.sub-id 𝓤 H A W (G39
               .slots)) (
                 Reads'.as-is 𝓤 H A (Mut.mslice (Element.type) y6 6),
                 Mut.reads-mslice 𝓤 H A W (Element.type) y6 6,
                 Path'.refl,
-                ((Reads.reads-field 𝓤 H A W Plan.the-type Laws'3.the-laws 2 u64 16 Path'.refl, Path'.refl), tt),
+                ((Reads.reads-field 𝓤 H A W Plan.the-type Laws''.the-laws 2 u64 16 Path'.refl, Path'.refl), tt),
               ) (Reads'.room-gone 𝓤 H A y14) (tt, tt) Path'.refl) d59
 
           d61 : Typed.Typed 𝓤 H A 𝓣 E G38 (Syntax.seq b17 (Syntax.seq b18 b49)) Δ3 (at61 bs)
@@ -2112,13 +2115,13 @@ module _ (claims· : Claims) where
           d68 = Typed.g-pre 𝓤 H A W 𝓣 E G31 G32 b52 Δ3 (Typed.pass T31 T32 (s28 bs)) (at66 bs) (Scalar.g-room 𝓤 H A W E G31 22 Syntax.tyUnit (Scalar.room-sc 𝓤 H A W Row.sUnit)) d67
 
           d69 : Typed.Typed 𝓤 H A 𝓣 E G30 (Syntax.seq b15 b52) Δ3 (at69 bs)
-          d69 = Typed.s-seq 𝓤 H A W 𝓣 E G30 G31 b15 b52 Δ3 (Typed.both (s27 bs)) (at68 bs) (Plain.t-call-plain 𝓤 H A W 𝓣 1 ps·2 r·2 (claims· .4) (claims· .5) "colour_lines::set_guards" (known .2) E (λ pos β.
-              β) G30 (record { pos = 26; ty = y7; ref = λ x. x }, (Num.vAt 13 λ x. x, (Num.vFld 16 ((Syntax.field 1) ∷ []) 8 λ x. Plan.struct .as-values x .1 .0, tt))) 22 (5 ∷ []) (Call.sub-id 𝓤 H A W
-              (G30 .slots)) (
+          d69 = Typed.s-seq 𝓤 H A W 𝓣 E G30 G31 b15 b52 Δ3 (Typed.both (s27 bs)) (at68 bs) (Plain.t-call-plain 𝓤 H A W 𝓣 1 ps·2 r·2 (claims· .4) (claims· .5) "colour_lines::set_guards" (known .2) E (λ
+              pos β. β) G30 (record { pos = 26; ty = y7; ref = λ x. x }, (Num.vAt 13 λ x. x, (Num.vFld 16 ((Syntax.field 1) ∷ []) 8 λ x. Plan.struct .as-values x .1 .0, tt))) 22 (5 ∷ []) (Call.sub-id 𝓤 H
+              A W (G30 .slots)) (
                 Reads'.as-is 𝓤 H A (Mut.mslice n16 y7 5),
                 Mut.reads-mslice 𝓤 H A W n16 y7 5,
                 Path'.refl,
-                ((Scalar.reads-sc 𝓤 H A W (Row.sInt Syntax.w64), Path'.refl), ((Reads.reads-field 𝓤 H A W Plan.the-type Laws'3.the-laws 1 u64 8 Path'.refl, Path'.refl), tt)),
+                ((Scalar.reads-sc 𝓤 H A W (Row.sInt Syntax.w64), Path'.refl), ((Reads.reads-field 𝓤 H A W Plan.the-type Laws''.the-laws 1 u64 8 Path'.refl, Path'.refl), tt)),
               ) (Reads'.room-gone 𝓤 H A
               Syntax.tyUnit) (tt, tt) Path'.refl) d68
 
@@ -2154,13 +2157,13 @@ module _ (claims· : Claims) where
           d77 = Typed.g-pre 𝓤 H A W 𝓣 E G22 G23 b55 Δ3 (Typed.pass T22 T23 (s19 bs)) (at75 bs) (Scalar.g-room 𝓤 H A W E G22 22 Syntax.tyUnit (Scalar.room-sc 𝓤 H A W Row.sUnit)) d76
 
           d78 : Typed.Typed 𝓤 H A 𝓣 E G21 (Syntax.seq b12 b55) Δ3 (at78 bs)
-          d78 = Typed.s-seq 𝓤 H A W 𝓣 E G21 G22 b12 b55 Δ3 (Typed.both (s18 bs)) (at77 bs) (Plain.t-call-plain 𝓤 H A W 𝓣 1 ps·2 r·2 (claims· .4) (claims· .5) "colour_lines::set_guards" (known .2) E (λ pos β.
-              β) G21 (record { pos = 24; ty = y7; ref = λ x. x }, (Num.vAt 13 λ x. x, (Num.vFld 16 ((Syntax.field 0) ∷ []) 0 λ x. Plan.struct .as-values x .0, tt))) 22 (4 ∷ []) (Call.sub-id 𝓤 H A W (G21
-              .slots)) (
+          d78 = Typed.s-seq 𝓤 H A W 𝓣 E G21 G22 b12 b55 Δ3 (Typed.both (s18 bs)) (at77 bs) (Plain.t-call-plain 𝓤 H A W 𝓣 1 ps·2 r·2 (claims· .4) (claims· .5) "colour_lines::set_guards" (known .2) E (λ
+              pos β. β) G21 (record { pos = 24; ty = y7; ref = λ x. x }, (Num.vAt 13 λ x. x, (Num.vFld 16 ((Syntax.field 0) ∷ []) 0 λ x. Plan.struct .as-values x .0, tt))) 22 (4 ∷ []) (Call.sub-id 𝓤 H A
+              W (G21 .slots)) (
                 Reads'.as-is 𝓤 H A (Mut.mslice n16 y7 4),
                 Mut.reads-mslice 𝓤 H A W n16 y7 4,
                 Path'.refl,
-                ((Scalar.reads-sc 𝓤 H A W (Row.sInt Syntax.w64), Path'.refl), ((Reads.reads-field 𝓤 H A W Plan.the-type Laws'3.the-laws 0 u64 0 Path'.refl, Path'.refl), tt)),
+                ((Scalar.reads-sc 𝓤 H A W (Row.sInt Syntax.w64), Path'.refl), ((Reads.reads-field 𝓤 H A W Plan.the-type Laws''.the-laws 0 u64 0 Path'.refl, Path'.refl), tt)),
               ) (Reads'.room-gone 𝓤 H A
               Syntax.tyUnit) (tt, tt) Path'.refl) d77
 
@@ -2222,8 +2225,8 @@ module _ (claims· : Claims) where
               Syntax.w64))) d90
 
           d92 : Typed.Typed 𝓤 H A 𝓣 E (on T96 l10) b65 Δ0 (at92 bs)
-          d92 = Typed.g-pre 𝓤 H A W 𝓣 E (on T96 l10) (on T97 l10) b65 Δ0 (Typed.pass T96 T97 (s92 bs)) (at91 bs) (Scalar.g-room 𝓤 H A W E (on T96 l10) 14 y10 (Local.room-whole 𝓤 H A W (Declared'.row
-              BitPosition.the-type) y10 Path'.refl)) d91
+          d92 = Typed.g-pre 𝓤 H A W 𝓣 E (on T96 l10) (on T97 l10) b65 Δ0 (Typed.pass T96 T97 (s92 bs)) (at91 bs) (Scalar.g-room 𝓤 H A W E (on T96 l10) 14 y11 (Local.room-whole 𝓤 H A W (Declared'.row
+              BitPosition.the-type) y11 Path'.refl)) d91
 
           d93 : Typed.Typed 𝓤 H A 𝓣 E (on T95 l10) b65 Δ0 (at93 bs)
           d93 = Typed.g-pre 𝓤 H A W 𝓣 E (on T95 l10) (on T96 l10) b65 Δ0 (Typed.pass T95 T96 (s91 bs)) (at92 bs) (Scalar.g-room 𝓤 H A W E (on T95 l10) 13 u64 (Scalar.room-sc 𝓤 H A W (Row.sInt
@@ -2238,17 +2241,17 @@ module _ (claims· : Claims) where
               Syntax.w32))) d94
 
           d96 : Typed.Typed 𝓤 H A 𝓣 E (on T12 l10) (Syntax.seq b64 b65) Δ0 (at96 bs)
-          d96 = Typed.s-seq 𝓤 H A W 𝓣 E (on T12 l10) (on T93 l10) b64 b65 Δ0 (Typed.pass T12 T93 (s88 bs)) (at95 bs) (Make.t-enum-make-wt 𝓤 H A W E 𝓣 Put.the-type Laws''.the-laws Laws''.the-plain tt
-              (on T12 l10) 0 ((Scalar.oInt Syntax.w8 0) ∷ (Scalar.oAt 14 y10 (Laws'8.val BitPosition.the-type Laws.the-laws)) ∷ []) (λ m. Put.enum .make (Logic.inl
-              (m .1 .1 .1 .1 .1 .1 .1 .1 .1 .1 .1 .1 .1 .1 .0, tt))) (Reads'.room-gone 𝓤 H A y12) (tt, ((Reads.reads-struct 𝓤 H A W BitPosition.the-type Laws.the-laws, Path'.refl), tt)) Path'.refl (λ m
-              wa. Make.made-val Put.the-type Laws''.the-laws ((Laws'8.val BitPosition.the-type Laws.the-laws (m .1 .1 .1 .1 .1 .1 .1 .1 .1 .1 .1 .1 .1 .1 .0)) ∷ []) (Put.enum .make (Logic.inl
+          d96 = Typed.s-seq 𝓤 H A W 𝓣 E (on T12 l10) (on T93 l10) b64 b65 Δ0 (Typed.pass T12 T93 (s88 bs)) (at95 bs) (Make.t-enum-make-wt 𝓤 H A W E 𝓣 Put.the-type Laws.the-laws Laws.the-plain tt (on
+              T12 l10) 0 ((Scalar.oInt Syntax.w8 0) ∷ (Scalar.oAt 14 y11 (Laws'8.val BitPosition.the-type Laws'.the-laws)) ∷ []) (λ m. Put.enum .make (Logic.inl
+              (m .1 .1 .1 .1 .1 .1 .1 .1 .1 .1 .1 .1 .1 .1 .0, tt))) (Reads'.room-gone 𝓤 H A y12) (tt, ((Reads.reads-struct 𝓤 H A W BitPosition.the-type Laws'.the-laws, Path'.refl), tt)) Path'.refl (λ m
+              wa. Make.made-val Put.the-type Laws.the-laws ((Laws'8.val BitPosition.the-type Laws'.the-laws (m .1 .1 .1 .1 .1 .1 .1 .1 .1 .1 .1 .1 .1 .1 .0)) ∷ []) (Put.enum .make (Logic.inl
               (m .1 .1 .1 .1 .1 .1 .1 .1 .1 .1 .1 .1 .1 .1 .0, tt))) (
-                Signed.made-wt BitPosition.the-field Laws.the-field-laws (Make'.struct-wt BitPosition.the-type Laws.the-laws (Make'.u64-wt, tt)) (BitPosition.the-type .to (m .1 .1 .1 .1 .1 .1 .1 .1 .1 .1
+                Signed.made-wt BitPosition.the-field Laws'.the-field-laws (Make'.struct-wt BitPosition.the-type Laws'.the-laws (Make'.u64-wt, tt)) (BitPosition.the-type .to (m .1 .1 .1 .1 .1 .1 .1 .1 .1 .1
                     .1 .1 .1 .1 .0)),
                 tt,
-              ) (wa .1)) λ m wa. Make.made-is Put.the-type Laws''.the-laws ((Laws'8.val BitPosition.the-type Laws.the-laws (m .1 .1 .1 .1 .1 .1 .1 .1 .1 .1 .1 .1 .1 .1 .0)) ∷ [])
+              ) (wa .1)) λ m wa. Make.made-is Put.the-type Laws.the-laws ((Laws'8.val BitPosition.the-type Laws'.the-laws (m .1 .1 .1 .1 .1 .1 .1 .1 .1 .1 .1 .1 .1 .1 .0)) ∷ [])
               (Put.enum .make (Logic.inl (m .1 .1 .1 .1 .1 .1 .1 .1 .1 .1 .1 .1 .1 .1 .0, tt))) (
-                Signed.made-wt BitPosition.the-field Laws.the-field-laws (Make'.struct-wt BitPosition.the-type Laws.the-laws (Make'.u64-wt, tt)) (BitPosition.the-type .to (m .1 .1 .1 .1 .1 .1 .1 .1 .1 .1
+                Signed.made-wt BitPosition.the-field Laws'.the-field-laws (Make'.struct-wt BitPosition.the-type Laws'.the-laws (Make'.u64-wt, tt)) (BitPosition.the-type .to (m .1 .1 .1 .1 .1 .1 .1 .1 .1 .1
                     .1 .1 .1 .1 .0)),
                 tt,
               ) (wa .1)) d95
@@ -2262,14 +2265,14 @@ module _ (claims· : Claims) where
               Path'.refl) λ u. tt) d97
 
           d99 : Typed.Typed 𝓤 H A 𝓣 E (on T9 l10) (Syntax.seq b4 b67) Δ0 (at99 bs)
-          d99 = Typed.g-pre 𝓤 H A W 𝓣 E (on T9 l10) (on T10 l10) (Syntax.seq b4 b67) Δ0 (Typed.pass T9 T10 (s8 bs)) (at98 bs) (Scalar.g-room 𝓤 H A W E (on T9 l10) 5 y10 (Local.room-whole 𝓤 H A W
-              (Declared'.row BitPosition.the-type) y10 Path'.refl)) d98
+          d99 = Typed.g-pre 𝓤 H A W 𝓣 E (on T9 l10) (on T10 l10) (Syntax.seq b4 b67) Δ0 (Typed.pass T9 T10 (s8 bs)) (at98 bs) (Scalar.g-room 𝓤 H A W E (on T9 l10) 5 y11 (Local.room-whole 𝓤 H A W
+              (Declared'.row BitPosition.the-type) y11 Path'.refl)) d98
 
           d100 : Typed.Typed 𝓤 H A 𝓣 E (on T8 l10) (Syntax.seq b3 (Syntax.seq b4 b67)) Δ0 (at100 bs)
           d100 = Typed.s-seq 𝓤 H A W 𝓣 E (on T8 l10) (on T9 l10) b3 (Syntax.seq b4 b67) Δ0 (Typed.pass T8 T9 (s7 bs)) (at99 bs) (LocalCopy.t-val-copy 𝓤 H A W E 𝓣 (λ ρ. Unit) (on T8 l10) 5 14
-              (Declared'.row BitPosition.the-type) y10 y10 (Rows.whole (Declared'.row BitPosition.the-type)) (Rows.whole (Declared'.row BitPosition.the-type)) (λ x. x) (λ x. x) (λ x. x) Path'.refl
-              (Own.told-none 𝓤 H A ((on T8 l10) .slots)) (Values.struct-copied 𝓤 H A W BitPosition.the-type Laws.the-laws Laws.the-copy) (Reads'.room-gone 𝓤 H A y10) (Yields.makes-mem 𝓤 H A W (λ ρ. Unit)
-              (Declared'.row BitPosition.the-type) Path'.refl (Rows.whole (Declared'.row BitPosition.the-type)) (λ x. x) λ ρ told. Local.whole-mem 𝓤 H A W (Declared'.row BitPosition.the-type) ρ)
+              (Declared'.row BitPosition.the-type) y11 y11 (Rows.whole (Declared'.row BitPosition.the-type)) (Rows.whole (Declared'.row BitPosition.the-type)) (λ x. x) (λ x. x) (λ x. x) Path'.refl
+              (Own.told-none 𝓤 H A ((on T8 l10) .slots)) (Values.struct-copied 𝓤 H A W BitPosition.the-type Laws'.the-laws Laws'.the-copy) (Reads'.room-gone 𝓤 H A y11) (Yields.makes-mem 𝓤 H A W (λ ρ.
+              Unit) (Declared'.row BitPosition.the-type) Path'.refl (Rows.whole (Declared'.row BitPosition.the-type)) (λ x. x) λ ρ told. Local.whole-mem 𝓤 H A W (Declared'.row BitPosition.the-type) ρ)
               Path'.refl Path'.refl) d99
 
           d101 : Typed.Typed 𝓤 H A 𝓣 E (on T7 l10) b70 Δ0 (at101 bs)
@@ -2278,19 +2281,19 @@ module _ (claims· : Claims) where
               ((Scalar.reads-sc 𝓤 H A W Row.sBool, Path'.refl), tt) (Reads'.room-gone 𝓤 H A u64) tt Path'.refl) d100
 
           d102 : Typed.Typed 𝓤 H A 𝓣 E (on T6 l10) b70 Δ0 (at102 bs)
-          d102 = Typed.g-pre 𝓤 H A W 𝓣 E (on T6 l10) (on T7 l10) b70 Δ0 (Typed.pass T6 T7 (s5 bs)) (at101 bs) (Scalar.g-room 𝓤 H A W E (on T6 l10) 8 y11 (Local.room-whole 𝓤 H A W (Declared'.row
-              Form.the-type) y11 Path'.refl)) d101
+          d102 = Typed.g-pre 𝓤 H A W 𝓣 E (on T6 l10) (on T7 l10) b70 Δ0 (Typed.pass T6 T7 (s5 bs)) (at101 bs) (Scalar.g-room 𝓤 H A W E (on T6 l10) 8 y10 (Local.room-whole 𝓤 H A W (Declared'.row
+              Form.the-type) y10 Path'.refl)) d101
 
           d103 : Typed.Typed 𝓤 H A 𝓣 E (on T5 l10) (Syntax.seq b1 b70) Δ0 (at103 bs)
           d103 = Typed.s-seq 𝓤 H A W 𝓣 E (on T5 l10) (on T6 l10) b1 b70 Δ0 (Typed.pass T5 T6 (s4 bs)) (at102 bs) (Scalar.t-use 𝓤 H A W E 𝓣 (on T5 l10) (Scalar.oFld 8 ((Syntax.field 1) ∷ [])
-              Syntax.tyBool 4 (Reads.fieldV Form.the-type Laws'.the-laws 1)) 12 (Rows.sc-here Row.sBool) Syntax.tyBool (Row.valS Row.sBool) (Row.sBool .of)
-              (Reads.reads-field 𝓤 H A W Form.the-type Laws'.the-laws 1 Syntax.tyBool 4 Path'.refl, Path'.refl) (Reads'.room-gone 𝓤 H A Syntax.tyBool) (Scalar.holds-sc 𝓤 H A W Row.sBool) Path'.refl (λ u.
+              Syntax.tyBool 4 (Reads.fieldV Form.the-type Laws'5.the-laws 1)) 12 (Rows.sc-here Row.sBool) Syntax.tyBool (Row.valS Row.sBool) (Row.sBool .of)
+              (Reads.reads-field 𝓤 H A W Form.the-type Laws'5.the-laws 1 Syntax.tyBool 4 Path'.refl, Path'.refl) (Reads'.room-gone 𝓤 H A Syntax.tyBool) (Scalar.holds-sc 𝓤 H A W Row.sBool) Path'.refl (λ u.
               Path'.refl) λ u. tt) d102
 
           d104 : Typed.Typed 𝓤 H A 𝓣 E (on T0 l10) b72 Δ0 (at104 bs)
           d104 = Typed.s-seq 𝓤 H A W 𝓣 E (on T0 l10) (on T5 l10) b0 (Syntax.seq b1 b70) Δ0 (Typed.pass T0 T5 (s3 bs)) (at103 bs) (Scalar.t-use 𝓤 H A W E 𝓣 (on T0 l10) (Scalar.oFld 8 ((Syntax.field 0)
-              ∷ []) u32 0 (Reads.fieldV Form.the-type Laws'.the-laws 0)) 11 (Rows.sc-here (Row.sInt Syntax.w32)) u32 (Row.valS (Row.sInt Syntax.w32)) (Row.sInt Syntax.w32 .of)
-              (Reads.reads-field 𝓤 H A W Form.the-type Laws'.the-laws 0 u32 0 Path'.refl, Path'.refl) (Reads'.room-gone 𝓤 H A u32) (Scalar.holds-sc 𝓤 H A W (Row.sInt Syntax.w32)) Path'.refl (λ u.
+              ∷ []) u32 0 (Reads.fieldV Form.the-type Laws'5.the-laws 0)) 11 (Rows.sc-here (Row.sInt Syntax.w32)) u32 (Row.valS (Row.sInt Syntax.w32)) (Row.sInt Syntax.w32 .of)
+              (Reads.reads-field 𝓤 H A W Form.the-type Laws'5.the-laws 0 u32 0 Path'.refl, Path'.refl) (Reads'.room-gone 𝓤 H A u32) (Scalar.holds-sc 𝓤 H A W (Row.sInt Syntax.w32)) Path'.refl (λ u.
               Path'.refl) λ u. tt) d103
 
           d105 : Typed.Typed 𝓤 H A 𝓣 E (on T0 l10) b72 Δ0 (at105 bs)
@@ -2314,11 +2317,11 @@ module _ (claims· : Claims) where
           pub n : Kinds.Den {n = 4} κs (Num.pNum Syntax.w64)
           pub out : Kinds.Den {n = 4} κs (MutSlice.pMutS n8 1 tt)
           pub store : Kinds.Den {n = 4} κs Bool.pBool
-          pub from : Kinds.Den {n = 4} κs (Values.struct BitPosition.the-type Laws.the-laws Laws.the-copy Laws.the-plain)
+          pub from : Kinds.Den {n = 4} κs (Values.struct BitPosition.the-type Laws'.the-laws Laws'.the-copy Laws'.the-plain)
           pub lines : Kinds.Den {n = 4} κs (MutSlice.pMutS n16 2 tt)
           pub rs : Kinds.Den {n = 4} κs (MutSlice.pMutS (Element.type) 3 tt)
-          pub form : Kinds.Den {n = 4} κs (Values.struct Form.the-type Laws'.the-laws Laws'.the-copy Laws'.the-plain)
-          pub qs : Kinds.Den {n = 4} κs (Values.struct Quantisers.the-type Laws'4.the-laws Laws'4.the-copy Laws'4.the-plain)
+          pub form : Kinds.Den {n = 4} κs (Values.struct Form.the-type Laws'5.the-laws Laws'5.the-copy Laws'5.the-plain)
+          pub qs : Kinds.Den {n = 4} κs (Values.struct Quantisers.the-type Laws'3.the-laws Laws'3.the-copy Laws'3.the-plain)
           pub strict : Kinds.Den {n = 4} κs Bool.pBool
 
         abbrev pub dens : (a : Args) → Kinds.Dens κs ps
@@ -3572,7 +3575,7 @@ module _ (claims· : Claims) where
 
         module _ {M : Type 1} (𝓤 : URA.URA M) (H : Wp.Heap 𝓤) (A : Atoms.Atoms 𝓤) (W : Kit.Given 𝓤 H A) (𝓣 : Wp.Tables 𝓤 H) (known0 : Plain.Known 𝓤 H A W 𝓣 0 ps·0 r·0 (claims· .0) (claims· .1)
             "image_map::width") (known1 : Plain.Known 𝓤 H A W 𝓣 0 ps·1 r·1 (claims· .2) (claims· .3) "pass_schedule::plan_at") (known2 : Plain.Known 𝓤 H A W 𝓣 1 ps·2 r·2 (claims· .4) (claims· .5)
-            "colour_lines::set_guards") (known3 : Plain.Known 𝓤 H A W 𝓣 1 ps·3 r·3 (claims· .6) (claims· .7) "read_block::records::load_set") (known4 : Plain.Known 𝓤 H A W 𝓣 3 ps·4 r·4 (claims· .8) (claims· .9)
-            "write_pass::write_pass") (known5 : Plain.Known 𝓤 H A W 𝓣 1 ps·5 r·5 (claims· .10) (claims· .11) "read_block::records::store_set") where
+            "colour_lines::set_guards") (known3 : Plain.Known 𝓤 H A W 𝓣 1 ps·3 r·3 (claims· .6) (claims· .7) "read_block::records::load_set") (known4 : Plain.Known 𝓤 H A W 𝓣 3 ps·4 r·4 (claims· .8)
+            (claims· .9) "write_pass::write_pass") (known5 : Plain.Known 𝓤 H A W 𝓣 1 ps·5 r·5 (claims· .10) (claims· .11) "read_block::records::store_set") where
           pub spec : Statement.Triple 𝓤 (Wp.WpFn 𝓤 H (𝓣 .C) (𝓣 .Λ) (Function.fnOf 4 ps r xs m hs body)) (Function.plainOf 𝓤 H A 4 ps r Pre· Post·)
           spec = Plain.t-fn-plain 𝓤 H A W 𝓣 4 ps r xs m hs body (λ κs qs bs. Φ bs) (λ κs qs bs bd. typed κs qs 𝓤 H A W 𝓣 (known0, known1, known2, known3, known4, known5) bs bd) Pre· Post· asked

@@ -1,25 +1,25 @@
 -- Written by tools/lend.py from Rattle's derivation of the twin of `write_block`; not edited by hand. Assumes nothing.
-use Rattle.read_block.proofs.records.load_set.Met
-use Rattle.read_block.proofs.records.derived.load_set.Reads
-use Rattle.read_block.proofs.records.load_set.Symbol
-use Rattle.read_block.proofs.records.store_set.Met as Met'
-use Rattle.read_block.proofs.records.derived.store_set.Reads as Reads'
-use Rattle.read_block.proofs.records.store_set.Symbol as Symbol'
+use Rattle.colour_lines.proofs.set_guards.Met
+use Rattle.colour_lines.proofs.set_guards.Reads
+use Rattle.colour_lines.proofs.set_guards.Symbol
+use Rattle.image_map.proofs.width.Met as Met'
+use Rattle.image_map.proofs.width.Reads as Reads'
+use Rattle.image_map.proofs.width.Symbol as Symbol'
+use Rattle.pass_schedule.proofs.plan_at.Met as Met''
+use Rattle.pass_schedule.proofs.plan_at.Reads as Reads''
+use Rattle.pass_schedule.proofs.plan_at.Symbol as Symbol''
+use Rattle.read_block.proofs.records.load_set.Met as Met'3
+use Rattle.read_block.proofs.records.derived.load_set.Reads as Reads'3
+use Rattle.read_block.proofs.records.load_set.Symbol as Symbol'3
+use Rattle.read_block.proofs.records.store_set.Met as Met'4
+use Rattle.read_block.proofs.records.derived.store_set.Reads as Reads'4
+use Rattle.read_block.proofs.records.store_set.Symbol as Symbol'4
 use Rattle.write_block.proofs.write_line.Code
 use Rattle.write_block.proofs.write_line.Key
 use Rattle.write_block.proofs.derived.write_line.Kinds
 use Rattle.write_block.proofs.write_line.Proof.derived.Lts
-use Rattle.write_block.proofs.derived.write_line.Reads as Reads''
+use Rattle.write_block.proofs.derived.write_line.Reads as Reads'5
 use Rattle.write_block.proofs.write_line.Statement
-use Rattle.colour_lines.proofs.set_guards.Met as Met''
-use Rattle.colour_lines.proofs.set_guards.Reads as Reads'3
-use Rattle.colour_lines.proofs.set_guards.Symbol as Symbol''
-use Rattle.image_map.proofs.width.Met as Met'3
-use Rattle.image_map.proofs.width.Reads as Reads'4
-use Rattle.image_map.proofs.width.Symbol as Symbol'3
-use Rattle.pass_schedule.proofs.plan_at.Met as Met'4
-use Rattle.pass_schedule.proofs.plan_at.Reads as Reads'5
-use Rattle.pass_schedule.proofs.plan_at.Symbol as Symbol'4
 use Rattle.write_pass.proofs.write_pass.Met as Met'5
 use Rattle.write_pass.proofs.write_pass.Reads as Reads'6
 use Rattle.write_pass.proofs.write_pass.Symbol as Symbol'5
@@ -28,7 +28,7 @@ use borrow.Fn.Written
 use contract.Running
 
 abbrev claims : Lts.Claims
-claims = (Reads'4.Asked, Reads'4.Learnt, Reads'5.Asked, Reads'5.Learnt, Reads'3.Asked, Reads'3.Learnt, Reads.Asked, Reads.Learnt, Reads'6.Asked, Reads'6.Learnt, Reads'.Asked, Reads'.Learnt)
+claims = (Reads'.Asked, Reads'.Learnt, Reads''.Asked, Reads''.Learnt, Reads.Asked, Reads.Learnt, Reads'3.Asked, Reads'3.Learnt, Reads'6.Asked, Reads'6.Learnt, Reads'4.Asked, Reads'4.Learnt)
 
 abbrev pub InvT-loop : Type 1
 InvT-loop = Lts.InvT-loop
@@ -37,181 +37,182 @@ abbrev pub MeasureT-loop : Type 0
 MeasureT-loop = Lts.MeasureT-loop
 
 abbrev pub Start : (Inv : InvT-loop) → (μ : MeasureT-loop) → Type 0
-Start = λ Inv μ. Lts.Start claims Reads''.Pre Reads''.Post Inv μ
+Start = λ Inv μ. Lts.Start claims Reads'5.Pre Reads'5.Post Inv μ
 
 abbrev pub After-shared-slice-known : (Inv : InvT-loop) → (μ : MeasureT-loop) → Type 0
-After-shared-slice-known = λ Inv μ. Lts.After-shared-slice-known claims Reads''.Pre Reads''.Post Inv μ
+After-shared-slice-known = λ Inv μ. Lts.After-shared-slice-known claims Reads'5.Pre Reads'5.Post Inv μ
 
 abbrev pub After-slice-known : (Inv : InvT-loop) → (μ : MeasureT-loop) → Type 0
-After-slice-known = λ Inv μ. Lts.After-slice-known claims Reads''.Pre Reads''.Post Inv μ
+After-slice-known = λ Inv μ. Lts.After-slice-known claims Reads'5.Pre Reads'5.Post Inv μ
 
 abbrev pub After-slice-known2 : (Inv : InvT-loop) → (μ : MeasureT-loop) → Type 0
-After-slice-known2 = λ Inv μ. Lts.After-slice-known2 claims Reads''.Pre Reads''.Post Inv μ
+After-slice-known2 = λ Inv μ. Lts.After-slice-known2 claims Reads'5.Pre Reads'5.Post Inv μ
 
 abbrev pub After-width : (Inv : InvT-loop) → (μ : MeasureT-loop) → Type 0
-After-width = λ Inv μ. Lts.After-width claims Reads''.Pre Reads''.Post Inv μ
+After-width = λ Inv μ. Lts.After-width claims Reads'5.Pre Reads'5.Post Inv μ
 
 abbrev pub At-loop : (Inv : InvT-loop) → (μ : MeasureT-loop) → Type 0
-At-loop = λ Inv μ. Lts.At-loop claims Reads''.Pre Reads''.Post Inv μ
+At-loop = λ Inv μ. Lts.At-loop claims Reads'5.Pre Reads'5.Post Inv μ
 
 abbrev pub In-loop : (Inv : InvT-loop) → (μ : MeasureT-loop) → Type 0
-In-loop = λ Inv μ. Lts.In-loop claims Reads''.Pre Reads''.Post Inv μ
+In-loop = λ Inv μ. Lts.In-loop claims Reads'5.Pre Reads'5.Post Inv μ
 
 abbrev pub After-loop : (Inv : InvT-loop) → (μ : MeasureT-loop) → Type 0
-After-loop = λ Inv μ. Lts.After-loop claims Reads''.Pre Reads''.Post Inv μ
+After-loop = λ Inv μ. Lts.After-loop claims Reads'5.Pre Reads'5.Post Inv μ
 
 abbrev pub After-plan-at : (Inv : InvT-loop) → (μ : MeasureT-loop) → Type 0
-After-plan-at = λ Inv μ. Lts.After-plan-at claims Reads''.Pre Reads''.Post Inv μ
+After-plan-at = λ Inv μ. Lts.After-plan-at claims Reads'5.Pre Reads'5.Post Inv μ
 
 abbrev pub After-set-guards-arg : (Inv : InvT-loop) → (μ : MeasureT-loop) → Type 0
-After-set-guards-arg = λ Inv μ. Lts.After-set-guards-arg claims Reads''.Pre Reads''.Post Inv μ
+After-set-guards-arg = λ Inv μ. Lts.After-set-guards-arg claims Reads'5.Pre Reads'5.Post Inv μ
 
 abbrev pub After-set-guards : (Inv : InvT-loop) → (μ : MeasureT-loop) → Type 0
-After-set-guards = λ Inv μ. Lts.After-set-guards claims Reads''.Pre Reads''.Post Inv μ
+After-set-guards = λ Inv μ. Lts.After-set-guards claims Reads'5.Pre Reads'5.Post Inv μ
 
 abbrev pub After-lines : (Inv : InvT-loop) → (μ : MeasureT-loop) → Type 0
-After-lines = λ Inv μ. Lts.After-lines claims Reads''.Pre Reads''.Post Inv μ
+After-lines = λ Inv μ. Lts.After-lines claims Reads'5.Pre Reads'5.Post Inv μ
 
 abbrev pub After-slice-known3 : (Inv : InvT-loop) → (μ : MeasureT-loop) → Type 0
-After-slice-known3 = λ Inv μ. Lts.After-slice-known3 claims Reads''.Pre Reads''.Post Inv μ
+After-slice-known3 = λ Inv μ. Lts.After-slice-known3 claims Reads'5.Pre Reads'5.Post Inv μ
 
 abbrev pub After-set-guards-arg2 : (Inv : InvT-loop) → (μ : MeasureT-loop) → Type 0
-After-set-guards-arg2 = λ Inv μ. Lts.After-set-guards-arg2 claims Reads''.Pre Reads''.Post Inv μ
+After-set-guards-arg2 = λ Inv μ. Lts.After-set-guards-arg2 claims Reads'5.Pre Reads'5.Post Inv μ
 
 abbrev pub After-set-guards2 : (Inv : InvT-loop) → (μ : MeasureT-loop) → Type 0
-After-set-guards2 = λ Inv μ. Lts.After-set-guards2 claims Reads''.Pre Reads''.Post Inv μ
+After-set-guards2 = λ Inv μ. Lts.After-set-guards2 claims Reads'5.Pre Reads'5.Post Inv μ
 
 abbrev pub After-lines2 : (Inv : InvT-loop) → (μ : MeasureT-loop) → Type 0
-After-lines2 = λ Inv μ. Lts.After-lines2 claims Reads''.Pre Reads''.Post Inv μ
+After-lines2 = λ Inv μ. Lts.After-lines2 claims Reads'5.Pre Reads'5.Post Inv μ
 
 abbrev pub After-slice-known4 : (Inv : InvT-loop) → (μ : MeasureT-loop) → Type 0
-After-slice-known4 = λ Inv μ. Lts.After-slice-known4 claims Reads''.Pre Reads''.Post Inv μ
+After-slice-known4 = λ Inv μ. Lts.After-slice-known4 claims Reads'5.Pre Reads'5.Post Inv μ
 
 abbrev pub After-load-set-arg : (Inv : InvT-loop) → (μ : MeasureT-loop) → Type 0
-After-load-set-arg = λ Inv μ. Lts.After-load-set-arg claims Reads''.Pre Reads''.Post Inv μ
+After-load-set-arg = λ Inv μ. Lts.After-load-set-arg claims Reads'5.Pre Reads'5.Post Inv μ
 
 abbrev pub After-load-set : (Inv : InvT-loop) → (μ : MeasureT-loop) → Type 0
-After-load-set = λ Inv μ. Lts.After-load-set claims Reads''.Pre Reads''.Post Inv μ
+After-load-set = λ Inv μ. Lts.After-load-set claims Reads'5.Pre Reads'5.Post Inv μ
 
 abbrev pub After-rs : (Inv : InvT-loop) → (μ : MeasureT-loop) → Type 0
-After-rs = λ Inv μ. Lts.After-rs claims Reads''.Pre Reads''.Post Inv μ
+After-rs = λ Inv μ. Lts.After-rs claims Reads'5.Pre Reads'5.Post Inv μ
 
 abbrev pub After-write-pass-arg : (Inv : InvT-loop) → (μ : MeasureT-loop) → Type 0
-After-write-pass-arg = λ Inv μ. Lts.After-write-pass-arg claims Reads''.Pre Reads''.Post Inv μ
+After-write-pass-arg = λ Inv μ. Lts.After-write-pass-arg claims Reads'5.Pre Reads'5.Post Inv μ
 
 abbrev pub After-write-pass-arg2 : (Inv : InvT-loop) → (μ : MeasureT-loop) → Type 0
-After-write-pass-arg2 = λ Inv μ. Lts.After-write-pass-arg2 claims Reads''.Pre Reads''.Post Inv μ
+After-write-pass-arg2 = λ Inv μ. Lts.After-write-pass-arg2 claims Reads'5.Pre Reads'5.Post Inv μ
 
 abbrev pub After-write-pass : (Inv : InvT-loop) → (μ : MeasureT-loop) → Type 0
-After-write-pass = λ Inv μ. Lts.After-write-pass claims Reads''.Pre Reads''.Post Inv μ
+After-write-pass = λ Inv μ. Lts.After-write-pass claims Reads'5.Pre Reads'5.Post Inv μ
 
 abbrev pub After-out : (Inv : InvT-loop) → (μ : MeasureT-loop) → Type 0
-After-out = λ Inv μ. Lts.After-out claims Reads''.Pre Reads''.Post Inv μ
+After-out = λ Inv μ. Lts.After-out claims Reads'5.Pre Reads'5.Post Inv μ
 
 abbrev pub After-slice-known5 : (Inv : InvT-loop) → (μ : MeasureT-loop) → Type 0
-After-slice-known5 = λ Inv μ. Lts.After-slice-known5 claims Reads''.Pre Reads''.Post Inv μ
+After-slice-known5 = λ Inv μ. Lts.After-slice-known5 claims Reads'5.Pre Reads'5.Post Inv μ
 
 abbrev pub After-lines3 : (Inv : InvT-loop) → (μ : MeasureT-loop) → Type 0
-After-lines3 = λ Inv μ. Lts.After-lines3 claims Reads''.Pre Reads''.Post Inv μ
+After-lines3 = λ Inv μ. Lts.After-lines3 claims Reads'5.Pre Reads'5.Post Inv μ
 
 abbrev pub After-slice-known6 : (Inv : InvT-loop) → (μ : MeasureT-loop) → Type 0
-After-slice-known6 = λ Inv μ. Lts.After-slice-known6 claims Reads''.Pre Reads''.Post Inv μ
+After-slice-known6 = λ Inv μ. Lts.After-slice-known6 claims Reads'5.Pre Reads'5.Post Inv μ
 
 abbrev pub Then1 : (Inv : InvT-loop) → (μ : MeasureT-loop) → Type 0
-Then1 = λ Inv μ. Lts.Then1 claims Reads''.Pre Reads''.Post Inv μ
+Then1 = λ Inv μ. Lts.Then1 claims Reads'5.Pre Reads'5.Post Inv μ
 
 abbrev pub Else1 : (Inv : InvT-loop) → (μ : MeasureT-loop) → Type 0
-Else1 = λ Inv μ. Lts.Else1 claims Reads''.Pre Reads''.Post Inv μ
+Else1 = λ Inv μ. Lts.Else1 claims Reads'5.Pre Reads'5.Post Inv μ
 
 abbrev pub After-new : (Inv : InvT-loop) → (μ : MeasureT-loop) → Type 0
-After-new = λ Inv μ. Lts.After-new claims Reads''.Pre Reads''.Post Inv μ
+After-new = λ Inv μ. Lts.After-new claims Reads'5.Pre Reads'5.Post Inv μ
 
 abbrev pub After-store-set-arg : (Inv : InvT-loop) → (μ : MeasureT-loop) → Type 0
-After-store-set-arg = λ Inv μ. Lts.After-store-set-arg claims Reads''.Pre Reads''.Post Inv μ
+After-store-set-arg = λ Inv μ. Lts.After-store-set-arg claims Reads'5.Pre Reads'5.Post Inv μ
 
 abbrev pub After-store-set : (Inv : InvT-loop) → (μ : MeasureT-loop) → Type 0
-After-store-set = λ Inv μ. Lts.After-store-set claims Reads''.Pre Reads''.Post Inv μ
+After-store-set = λ Inv μ. Lts.After-store-set claims Reads'5.Pre Reads'5.Post Inv μ
 
 abbrev pub After-rs2 : (Inv : InvT-loop) → (μ : MeasureT-loop) → Type 0
-After-rs2 = λ Inv μ. Lts.After-rs2 claims Reads''.Pre Reads''.Post Inv μ
+After-rs2 = λ Inv μ. Lts.After-rs2 claims Reads'5.Pre Reads'5.Post Inv μ
 
 abbrev pub After-at : (Inv : InvT-loop) → (μ : MeasureT-loop) → Type 0
-After-at = λ Inv μ. Lts.After-at claims Reads''.Pre Reads''.Post Inv μ
+After-at = λ Inv μ. Lts.After-at claims Reads'5.Pre Reads'5.Post Inv μ
 
 abbrev pub Need-width-requires : (Inv : InvT-loop) → (μ : MeasureT-loop) → Type 0
-Need-width-requires = λ Inv μ. Lts.Need-width-requires claims Reads''.Pre Reads''.Post Inv μ
+Need-width-requires = λ Inv μ. Lts.Need-width-requires claims Reads'5.Pre Reads'5.Post Inv μ
 
 abbrev pub Need-loop-holds : (Inv : InvT-loop) → (μ : MeasureT-loop) → Type 0
-Need-loop-holds = λ Inv μ. Lts.Need-loop-holds claims Reads''.Pre Reads''.Post Inv μ
+Need-loop-holds = λ Inv μ. Lts.Need-loop-holds claims Reads'5.Pre Reads'5.Post Inv μ
 
 abbrev pub Need-plan-at-requires : (Inv : InvT-loop) → (μ : MeasureT-loop) → Type 0
-Need-plan-at-requires = λ Inv μ. Lts.Need-plan-at-requires claims Reads''.Pre Reads''.Post Inv μ
+Need-plan-at-requires = λ Inv μ. Lts.Need-plan-at-requires claims Reads'5.Pre Reads'5.Post Inv μ
 
 abbrev pub Need-set-guards-requires : (Inv : InvT-loop) → (μ : MeasureT-loop) → Type 0
-Need-set-guards-requires = λ Inv μ. Lts.Need-set-guards-requires claims Reads''.Pre Reads''.Post Inv μ
+Need-set-guards-requires = λ Inv μ. Lts.Need-set-guards-requires claims Reads'5.Pre Reads'5.Post Inv μ
 
 abbrev pub Need-set-guards-requires-2 : (Inv : InvT-loop) → (μ : MeasureT-loop) → Type 0
-Need-set-guards-requires-2 = λ Inv μ. Lts.Need-set-guards-requires-2 claims Reads''.Pre Reads''.Post Inv μ
+Need-set-guards-requires-2 = λ Inv μ. Lts.Need-set-guards-requires-2 claims Reads'5.Pre Reads'5.Post Inv μ
 
 abbrev pub Need-load-set-requires : (Inv : InvT-loop) → (μ : MeasureT-loop) → Type 0
-Need-load-set-requires = λ Inv μ. Lts.Need-load-set-requires claims Reads''.Pre Reads''.Post Inv μ
+Need-load-set-requires = λ Inv μ. Lts.Need-load-set-requires claims Reads'5.Pre Reads'5.Post Inv μ
 
 abbrev pub Need-write-pass-requires : (Inv : InvT-loop) → (μ : MeasureT-loop) → Type 0
-Need-write-pass-requires = λ Inv μ. Lts.Need-write-pass-requires claims Reads''.Pre Reads''.Post Inv μ
+Need-write-pass-requires = λ Inv μ. Lts.Need-write-pass-requires claims Reads'5.Pre Reads'5.Post Inv μ
 
 abbrev pub Need-same-length : (Inv : InvT-loop) → (μ : MeasureT-loop) → Type 0
-Need-same-length = λ Inv μ. Lts.Need-same-length claims Reads''.Pre Reads''.Post Inv μ
+Need-same-length = λ Inv μ. Lts.Need-same-length claims Reads'5.Pre Reads'5.Post Inv μ
 
 abbrev pub Need-same-length-2 : (Inv : InvT-loop) → (μ : MeasureT-loop) → Type 0
-Need-same-length-2 = λ Inv μ. Lts.Need-same-length-2 claims Reads''.Pre Reads''.Post Inv μ
+Need-same-length-2 = λ Inv μ. Lts.Need-same-length-2 claims Reads'5.Pre Reads'5.Post Inv μ
 
 abbrev pub Need-same-length-3 : (Inv : InvT-loop) → (μ : MeasureT-loop) → Type 0
-Need-same-length-3 = λ Inv μ. Lts.Need-same-length-3 claims Reads''.Pre Reads''.Post Inv μ
+Need-same-length-3 = λ Inv μ. Lts.Need-same-length-3 claims Reads'5.Pre Reads'5.Post Inv μ
 
 abbrev pub Need-returns : (Inv : InvT-loop) → (μ : MeasureT-loop) → Type 0
-Need-returns = λ Inv μ. Lts.Need-returns claims Reads''.Pre Reads''.Post Inv μ
+Need-returns = λ Inv μ. Lts.Need-returns claims Reads'5.Pre Reads'5.Post Inv μ
 
 abbrev pub Need-store-set-requires : (Inv : InvT-loop) → (μ : MeasureT-loop) → Type 0
-Need-store-set-requires = λ Inv μ. Lts.Need-store-set-requires claims Reads''.Pre Reads''.Post Inv μ
+Need-store-set-requires = λ Inv μ. Lts.Need-store-set-requires claims Reads'5.Pre Reads'5.Post Inv μ
 
 abbrev pub Need-add-i : (Inv : InvT-loop) → (μ : MeasureT-loop) → Type 0
-Need-add-i = λ Inv μ. Lts.Need-add-i claims Reads''.Pre Reads''.Post Inv μ
+Need-add-i = λ Inv μ. Lts.Need-add-i claims Reads'5.Pre Reads'5.Post Inv μ
 
 abbrev pub Need-loop-less : (Inv : InvT-loop) → (μ : MeasureT-loop) → Type 0
-Need-loop-less = λ Inv μ. Lts.Need-loop-less claims Reads''.Pre Reads''.Post Inv μ
+Need-loop-less = λ Inv μ. Lts.Need-loop-less claims Reads'5.Pre Reads'5.Post Inv μ
 
 abbrev pub Need-loop-again : (Inv : InvT-loop) → (μ : MeasureT-loop) → Type 0
-Need-loop-again = λ Inv μ. Lts.Need-loop-again claims Reads''.Pre Reads''.Post Inv μ
+Need-loop-again = λ Inv μ. Lts.Need-loop-again claims Reads'5.Pre Reads'5.Post Inv μ
 
 abbrev pub Need-same-length-4 : (Inv : InvT-loop) → (μ : MeasureT-loop) → Type 0
-Need-same-length-4 = λ Inv μ. Lts.Need-same-length-4 claims Reads''.Pre Reads''.Post Inv μ
+Need-same-length-4 = λ Inv μ. Lts.Need-same-length-4 claims Reads'5.Pre Reads'5.Post Inv μ
 
 abbrev pub Need-same-length-5 : (Inv : InvT-loop) → (μ : MeasureT-loop) → Type 0
-Need-same-length-5 = λ Inv μ. Lts.Need-same-length-5 claims Reads''.Pre Reads''.Post Inv μ
+Need-same-length-5 = λ Inv μ. Lts.Need-same-length-5 claims Reads'5.Pre Reads'5.Post Inv μ
 
 abbrev pub Need-same-length-6 : (Inv : InvT-loop) → (μ : MeasureT-loop) → Type 0
-Need-same-length-6 = λ Inv μ. Lts.Need-same-length-6 claims Reads''.Pre Reads''.Post Inv μ
+Need-same-length-6 = λ Inv μ. Lts.Need-same-length-6 claims Reads'5.Pre Reads'5.Post Inv μ
 
 abbrev pub Need-returns-2 : (Inv : InvT-loop) → (μ : MeasureT-loop) → Type 0
-Need-returns-2 = λ Inv μ. Lts.Need-returns-2 claims Reads''.Pre Reads''.Post Inv μ
+Need-returns-2 = λ Inv μ. Lts.Need-returns-2 claims Reads'5.Pre Reads'5.Post Inv μ
 
 module _ {M : Type 1} where
   pub spec : (Inv : InvT-loop) → (μ : MeasureT-loop) → (answer : Need-width-requires Inv μ) → (answer : Need-loop-holds Inv μ) → (answer : Need-plan-at-requires Inv μ) → (answer :
       Need-set-guards-requires Inv μ) → (answer : Need-set-guards-requires-2 Inv μ) → (answer : Need-load-set-requires Inv μ) → (answer : Need-write-pass-requires Inv μ) → (answer : Need-same-length Inv
       μ) → (answer : Need-same-length-2 Inv μ) → (answer : Need-same-length-3 Inv μ) → (answer : Need-returns Inv μ) → (answer : Need-store-set-requires Inv μ) → (answer : Need-add-i Inv μ) → (answer :
       Need-loop-less Inv μ) → (answer : Need-loop-again Inv μ) → (answer : Need-same-length-4 Inv μ) → (answer : Need-same-length-5 Inv μ) → (answer : Need-same-length-6 Inv μ) → (answer : Need-returns-2
-      Inv μ) → Lts.Closed claims Reads''.Pre Reads''.Post M
+      Inv μ) → Lts.Closed claims Reads'5.Pre Reads'5.Post M
   spec = λ Inv μ answer answer' answer'' answer'3 answer'4 answer'5 answer'6 answer'7 answer'8 answer'9 answer'10 answer'11 answer'12 answer'13 answer'14 answer'15 answer'16 answer'17 answer'18.
-      Lts.spec claims Reads''.Pre Reads''.Post Inv μ answer answer' answer'' answer'3 answer'4 answer'5 answer'6 answer'7 answer'8 answer'9 answer'10 answer'11 answer'12 answer'13 answer'14 answer'15
+      Lts.spec claims Reads'5.Pre Reads'5.Post Inv μ answer answer' answer'' answer'3 answer'4 answer'5 answer'6 answer'7 answer'8 answer'9 answer'10 answer'11 answer'12 answer'13 answer'14 answer'15
       answer'16 answer'17 answer'18
 
-  pub close : Lts.Closed claims Reads''.Pre Reads''.Post M → Statement.statement M
+  pub close : Lts.Closed claims Reads'5.Pre Reads'5.Post M → Statement.statement M
   unfolding Code.routine Running.tablesOf
-  close = λ closed 𝓤 H 𝓜 𝓖 𝓡. Written.close 4 Kinds.ps Kinds.r Reads''.Ghost Reads''.requires Reads''.ensures Reads''.pre-read Reads''.Pinned Reads''.Owned Reads''.post-read record
-      { M = M; 𝓤 = 𝓤; H = H; 𝓜 = 𝓜; 𝓖 = 𝓖; 𝓡 = 𝓡 } Code.env Key.name Code.function (Code.unfolded 𝓤 H 𝓜 𝓡) (λ κs a g. tt) (λ κs. Reads''.owns κs record { M = M; 𝓤 = 𝓤; H = H; 𝓜 = 𝓜; 𝓖 = 𝓖; 𝓡 = 𝓡 })
-      (Reads''.passes record { M = M; 𝓤 = 𝓤; H = H; 𝓜 = 𝓜; 𝓖 = 𝓖; 𝓡 = 𝓡 }) λ g. closed 𝓤 H (𝓖 .A) (Running.givenOf 𝓤 H 𝓜 𝓖) (Run.Over 𝓤 H 𝓜 𝓖 𝓡 Code.env) (Reads'4.known record
-      { M = M; 𝓤 = 𝓤; H = H; 𝓜 = 𝓜; 𝓖 = 𝓖; 𝓡 = 𝓡 } Code.env Symbol'3.name Symbol'3.routine Code.calls-image-map·width (Met'3.met 𝓤 H 𝓜 𝓖 𝓡)) (Reads'5.known record { M = M; 𝓤 = 𝓤; H = H; 𝓜 = 𝓜; 𝓖 = 𝓖; 𝓡 = 𝓡 }
-      Code.env Symbol'4.name Symbol'4.routine Code.calls-pass-schedule·plan-at (Met'4.met 𝓤 H 𝓜 𝓖 𝓡)) (Reads'3.known record { M = M; 𝓤 = 𝓤; H = H; 𝓜 = 𝓜; 𝓖 = 𝓖; 𝓡 = 𝓡 } Code.env Symbol''.name Symbol''.routine
-      Code.calls-colour-lines·set-guards (Met''.met 𝓤 H 𝓜 𝓖 𝓡)) (Reads.known record { M = M; 𝓤 = 𝓤; H = H; 𝓜 = 𝓜; 𝓖 = 𝓖; 𝓡 = 𝓡 } Code.env Symbol.name Symbol.routine Code.calls-read-block·records·load-set (Met.met 𝓤 H
-      𝓜 𝓖 𝓡)) (Reads'6.known record { M = M; 𝓤 = 𝓤; H = H; 𝓜 = 𝓜; 𝓖 = 𝓖; 𝓡 = 𝓡 } Code.env Symbol'5.name Symbol'5.routine Code.calls-write-pass·write-pass (Met'5.met 𝓤 H 𝓜 𝓖 𝓡)) (Reads'.known record
-      { M = M; 𝓤 = 𝓤; H = H; 𝓜 = 𝓜; 𝓖 = 𝓖; 𝓡 = 𝓡 } Code.env Symbol'.name Symbol'.routine Code.calls-read-block·records·store-set (Met'.met 𝓤 H 𝓜 𝓖 𝓡))
+  close = λ closed 𝓤 H 𝓜 𝓖 𝓡. Written.close 4 Kinds.ps Kinds.r Reads'5.Ghost Reads'5.requires Reads'5.ensures Reads'5.pre-read Reads'5.Pinned Reads'5.Owned Reads'5.post-read record
+      { M = M; 𝓤 = 𝓤; H = H; 𝓜 = 𝓜; 𝓖 = 𝓖; 𝓡 = 𝓡 } Code.env Key.name Code.function (Code.unfolded 𝓤 H 𝓜 𝓡) (λ κs a g. tt) (λ κs. Reads'5.owns κs record { M = M; 𝓤 = 𝓤; H = H; 𝓜 = 𝓜; 𝓖 = 𝓖; 𝓡 = 𝓡 })
+      (Reads'5.passes record { M = M; 𝓤 = 𝓤; H = H; 𝓜 = 𝓜; 𝓖 = 𝓖; 𝓡 = 𝓡 }) λ g. closed 𝓤 H (𝓖 .A) (Running.givenOf 𝓤 H 𝓜 𝓖) (Run.Over 𝓤 H 𝓜 𝓖 𝓡 Code.env) (Reads'.known record
+      { M = M; 𝓤 = 𝓤; H = H; 𝓜 = 𝓜; 𝓖 = 𝓖; 𝓡 = 𝓡 } Code.env Symbol'.name Symbol'.routine Code.calls-image-map·width (Met'.met 𝓤 H 𝓜 𝓖 𝓡)) (Reads''.known record { M = M; 𝓤 = 𝓤; H = H; 𝓜 = 𝓜; 𝓖 = 𝓖; 𝓡 = 𝓡 }
+      Code.env Symbol''.name Symbol''.routine Code.calls-pass-schedule·plan-at (Met''.met 𝓤 H 𝓜 𝓖 𝓡)) (Reads.known record { M = M; 𝓤 = 𝓤; H = H; 𝓜 = 𝓜; 𝓖 = 𝓖; 𝓡 = 𝓡 } Code.env Symbol.name Symbol.routine
+      Code.calls-colour-lines·set-guards (Met.met 𝓤 H 𝓜 𝓖 𝓡)) (Reads'3.known record { M = M; 𝓤 = 𝓤; H = H; 𝓜 = 𝓜; 𝓖 = 𝓖; 𝓡 = 𝓡 } Code.env Symbol'3.name Symbol'3.routine
+      Code.calls-read-block·records·load-set (Met'3.met 𝓤 H 𝓜 𝓖 𝓡)) (Reads'6.known record { M = M; 𝓤 = 𝓤; H = H; 𝓜 = 𝓜; 𝓖 = 𝓖; 𝓡 = 𝓡 } Code.env Symbol'5.name Symbol'5.routine
+      Code.calls-write-pass·write-pass (Met'5.met 𝓤 H 𝓜 𝓖 𝓡)) (Reads'4.known record { M = M; 𝓤 = 𝓤; H = H; 𝓜 = 𝓜; 𝓖 = 𝓖; 𝓡 = 𝓡 } Code.env Symbol'4.name Symbol'4.routine
+      Code.calls-read-block·records·store-set (Met'4.met 𝓤 H 𝓜 𝓖 𝓡))

@@ -6,14 +6,14 @@ use Rattle.bits.proofs.Values.{n16, n8, u16, u32, u64, u8}
 use mathlib.Core.List.{_∷_, []}
 use Rattle.read_block.proofs.Element
 use Prim.Native.Nat
-use Rattle.bits.proofs.BitPosition
-use Rattle.bits.proofs.BitPosition.Laws
-use Rattle.read_block.proofs.Form
-use Rattle.read_block.proofs.Form.Laws as Laws'
 use Rattle.bit_output.proofs.Put
-use Rattle.bit_output.proofs.Put.Laws as Laws''
+use Rattle.bit_output.proofs.Put.Laws
+use Rattle.bits.proofs.BitPosition
+use Rattle.bits.proofs.BitPosition.Laws as Laws'
 use Rattle.pass_steps.proofs.Quantisers
-use Rattle.pass_steps.proofs.Quantisers.Laws as Laws'3
+use Rattle.pass_steps.proofs.Quantisers.Laws as Laws''
+use Rattle.read_block.proofs.Form
+use Rattle.read_block.proofs.Form.Laws as Laws'3
 use borrow.Author.Called
 use borrow.Author.Tests
 use borrow.Enum.Known
@@ -103,17 +103,18 @@ abbrev pub y8 : Syntax.Ty
 y8 = Syntax.tyRef Syntax.erased Syntax.mut u8
 
 abbrev pub y9 : Syntax.Ty
-y9 = Syntax.tyStruct (98 ∷ 105 ∷ 116 ∷ 115 ∷ 58 ∷ 58 ∷ 66 ∷ 105 ∷ 116 ∷ 80 ∷ 111 ∷ 115 ∷ 105 ∷ 116 ∷ 105 ∷ 111 ∷ 110 ∷ []) (Syntax.tcons u64 Syntax.tnil)
+y9 = Syntax.tyStruct (114 ∷ 101 ∷ 97 ∷ 100 ∷ 95 ∷ 98 ∷ 108 ∷ 111 ∷ 99 ∷ 107 ∷ 58 ∷ 58 ∷ 70 ∷ 111 ∷ 114 ∷ 109 ∷ []) (Syntax.tcons u32 (Syntax.tcons Syntax.tyBool Syntax.tnil))
 
 abbrev pub y10 : Syntax.Ty
-y10 = Syntax.tyStruct (98 ∷ 108 ∷ 111 ∷ 99 ∷ 107 ∷ 58 ∷ 58 ∷ 70 ∷ 111 ∷ 114 ∷ 109 ∷ []) (Syntax.tcons u32 (Syntax.tcons Syntax.tyBool Syntax.tnil))
+y10 = Syntax.tyStruct (98 ∷ 105 ∷ 116 ∷ 115 ∷ 58 ∷ 58 ∷ 66 ∷ 105 ∷ 116 ∷ 80 ∷ 111 ∷ 115 ∷ 105 ∷ 116 ∷ 105 ∷ 111 ∷ 110 ∷ []) (Syntax.tcons u64 Syntax.tnil)
 
 abbrev pub y11 : Syntax.Ty
-y11 = Syntax.tyEnum (111 ∷ 117 ∷ 116 ∷ 112 ∷ 117 ∷ 116 ∷ 58 ∷ 58 ∷ 80 ∷ 117 ∷ 116 ∷ []) (Syntax.ttcons (Syntax.tcons y9 Syntax.tnil) (Syntax.ttcons (Syntax.tcons u64 Syntax.tnil) Syntax.ttnil))
+y11 = Syntax.tyEnum (98 ∷ 105 ∷ 116 ∷ 95 ∷ 111 ∷ 117 ∷ 116 ∷ 112 ∷ 117 ∷ 116 ∷ 58 ∷ 58 ∷ 80 ∷ 117 ∷ 116 ∷ []) (Syntax.ttcons (Syntax.tcons y10 Syntax.tnil) (Syntax.ttcons (Syntax.tcons u64
+    Syntax.tnil) Syntax.ttnil))
 
 abbrev pub y12 : Syntax.Ty
-y12 = Syntax.tyStruct (115 ∷ 116 ∷ 101 ∷ 112 ∷ 115 ∷ 58 ∷ 58 ∷ 81 ∷ 117 ∷ 97 ∷ 110 ∷ 116 ∷ 105 ∷ 115 ∷ 101 ∷ 114 ∷ 115 ∷ []) (Syntax.tcons u32 (Syntax.tcons y0 (Syntax.tcons y0 (Syntax.tcons y0
-    Syntax.tnil))))
+y12 = Syntax.tyStruct (112 ∷ 97 ∷ 115 ∷ 115 ∷ 95 ∷ 115 ∷ 116 ∷ 101 ∷ 112 ∷ 115 ∷ 58 ∷ 58 ∷ 81 ∷ 117 ∷ 97 ∷ 110 ∷ 116 ∷ 105 ∷ 115 ∷ 101 ∷ 114 ∷ 115 ∷ []) (Syntax.tcons u32 (Syntax.tcons y0
+    (Syntax.tcons y0 (Syntax.tcons y0 Syntax.tnil))))
 
 abbrev pub y13 : Syntax.Ty
 y13 = Syntax.tyStruct (38 ∷ 91 ∷ 93 ∷ []) (Syntax.tcons y6 (Syntax.tcons u64 Syntax.tnil))
@@ -125,14 +126,15 @@ abbrev pub y15 : Syntax.Ty
 y15 = Syntax.tyStruct (38 ∷ 91 ∷ 93 ∷ []) (Syntax.tcons y8 (Syntax.tcons u64 Syntax.tnil))
 
 abbrev pub ps : List.List (Kinds.PK 5)
-ps = (ShrSlice.pShrS n16 0 tt) ∷ (MutSlice.pMutS n8 1 tt) ∷ Bool.pBool ∷ (MutSlice.pMutS n16 2 tt) ∷ (MutSlice.pMutS (Element.type) 3 tt) ∷ (Values.struct Form.the-type Laws'.the-laws Laws'.the-copy
-    Laws'.the-plain) ∷ (ShrSlice.pShrS n8 4 tt) ∷ (Num.pNum Syntax.w64) ∷ []
+ps = (ShrSlice.pShrS n16 0 tt) ∷ (MutSlice.pMutS n8 1 tt) ∷ Bool.pBool ∷ (MutSlice.pMutS n16 2 tt) ∷ (MutSlice.pMutS (Element.type) 3 tt) ∷ (Values.struct Form.the-type Laws'3.the-laws Laws'3.the-copy
+    Laws'3.the-plain) ∷ (ShrSlice.pShrS n8 4 tt) ∷ (Num.pNum Syntax.w64) ∷ []
 
 abbrev pub r : Kinds.RK 5
-r = Values.enum-result Put.the-type Laws''.the-laws Laws''.the-copy Laws''.the-plain tt
+r = Values.enum-result Put.the-type Laws.the-laws Laws.the-copy Laws.the-plain tt
 
 abbrev pub xs : List.List Syntax.Ty
-xs = u32 ∷ u64 ∷ Syntax.tyBool ∷ y9 ∷ u64 ∷ u32 ∷ y11 ∷ y9 ∷ Syntax.tyUnit ∷ y7 ∷ y14 ∷ y6 ∷ y13 ∷ u32 ∷ Syntax.tyBool ∷ Syntax.tyUnit ∷ y7 ∷ y14 ∷ y6 ∷ y13 ∷ y8 ∷ y15 ∷ y7 ∷ y14 ∷ y6 ∷ y13 ∷ y12 ∷ []
+xs = u32 ∷ u64 ∷ Syntax.tyBool ∷ y10 ∷ u64 ∷ u32 ∷ y11 ∷ y10 ∷ Syntax.tyUnit ∷ y7 ∷ y14 ∷ y6 ∷ y13 ∷ u32 ∷ Syntax.tyBool ∷ Syntax.tyUnit ∷ y7 ∷ y14 ∷ y6 ∷ y13 ∷ y8 ∷ y15 ∷ y7 ∷ y14 ∷ y6 ∷ y13 ∷ y12 ∷
+    []
 
 abbrev pub m : Nat.ℕ
 m = 7
@@ -189,15 +191,15 @@ abbrev pub ps·8 : List.List (Kinds.PK 0)
 ps·8 = (Num.pNum Syntax.w32) ∷ (Num.pNum Syntax.w32) ∷ []
 
 abbrev pub r·8 : Kinds.RK 0
-r·8 = Values.struct-result Quantisers.the-type Laws'3.the-laws Laws'3.the-copy Laws'3.the-plain
+r·8 = Values.struct-result Quantisers.the-type Laws''.the-laws Laws''.the-copy Laws''.the-plain
 
 abbrev pub ps·9 : List.List (Kinds.PK 4)
-ps·9 = (ShrSlice.pShrS n16 0 tt) ∷ (Num.pNum Syntax.w64) ∷ (MutSlice.pMutS n8 1 tt) ∷ Bool.pBool ∷ (Values.struct BitPosition.the-type Laws.the-laws Laws.the-copy Laws.the-plain) ∷ (MutSlice.pMutS n16
-    2 tt) ∷ (MutSlice.pMutS (Element.type) 3 tt) ∷ (Values.struct Form.the-type Laws'.the-laws Laws'.the-copy Laws'.the-plain) ∷ (Values.struct Quantisers.the-type Laws'3.the-laws Laws'3.the-copy
-    Laws'3.the-plain) ∷ Bool.pBool ∷ []
+ps·9 = (ShrSlice.pShrS n16 0 tt) ∷ (Num.pNum Syntax.w64) ∷ (MutSlice.pMutS n8 1 tt) ∷ Bool.pBool ∷ (Values.struct BitPosition.the-type Laws'.the-laws Laws'.the-copy Laws'.the-plain) ∷ (MutSlice.pMutS
+    n16 2 tt) ∷ (MutSlice.pMutS (Element.type) 3 tt) ∷ (Values.struct Form.the-type Laws'3.the-laws Laws'3.the-copy Laws'3.the-plain) ∷ (Values.struct Quantisers.the-type Laws''.the-laws Laws''.the-copy
+    Laws''.the-plain) ∷ Bool.pBool ∷ []
 
 abbrev pub r·9 : Kinds.RK 4
-r·9 = Values.enum-result Put.the-type Laws''.the-laws Laws''.the-copy Laws''.the-plain tt
+r·9 = Values.enum-result Put.the-type Laws.the-laws Laws.the-copy Laws.the-plain tt
 
 abbrev pub hs : List.List Syntax.Home
 hs = Syntax.valueLocal ∷ Syntax.valueLocal ∷ Syntax.valueLocal ∷ Syntax.valueLocal ∷ Syntax.valueLocal ∷ Syntax.valueLocal ∷ Syntax.valueLocal ∷ Syntax.valueLocal ∷ Syntax.valueLocal ∷
@@ -400,7 +402,7 @@ abbrev pub v6 : Row.Row
 v6 = Rows.any-gone u32
 
 abbrev pub v7 : Row.Row
-v7 = Rows.any-gone y9
+v7 = Rows.any-gone y10
 
 abbrev pub v8 : Row.Row
 v8 = Rows.sslice n16 y1 0
@@ -448,7 +450,7 @@ abbrev pub v22 : Row.Row
 v22 = Rows.whole (Declared'.row BitPosition.the-type)
 
 abbrev pub v23 : Row.Row
-v23 = Rows.any-gone y10
+v23 = Rows.any-gone y9
 
 abbrev pub v24 : Row.Row
 v24 = Mut.msleft (Element.type) y6
@@ -961,7 +963,7 @@ module _ (claims· : Claims) where
   s3 = Know.k-shs-known (Referent.fInt Syntax.w8) T0 7 4 y5 Row.off 0 λ x. x
 
   abbrev s4 : Typed.Mo T0 → Typed.Mo T6
-  s4 = Scalar.n-use T0 (Scalar.oFld 6 ((Syntax.field 0) ∷ []) u32 0 (Reads.fieldV Form.the-type Laws'.the-laws 0)) 9 (Rows.sc-here (Row.sInt Syntax.w32)) (Row.sInt Syntax.w32 .of)
+  s4 = Scalar.n-use T0 (Scalar.oFld 6 ((Syntax.field 0) ∷ []) u32 0 (Reads.fieldV Form.the-type Laws'3.the-laws 0)) 9 (Rows.sc-here (Row.sInt Syntax.w32)) (Row.sInt Syntax.w32 .of)
 
   abbrev s5 : Typed.Both T6 T7
   s5 = Call.callB ps·0 r·0 (claims· .0) (claims· .1) T6 (Bool.bFld 6 ((Syntax.field 1) ∷ []) 4 λ x. Form.struct .as-values x .1 .0, tt) 10 [] u64
@@ -1025,7 +1027,7 @@ module _ (claims· : Claims) where
   s30 = Scalar.n-room T32 23 Syntax.tyBool
 
   abbrev s31 : Typed.Mo T32 → Typed.Mo T35
-  s31 = Scalar.n-room T32 6 y10
+  s31 = Scalar.n-room T32 6 y9
 
   abbrev s32 : Typed.Mo T35 → Typed.Mo T30
   s32 = Scalar.n-room T35 23 Syntax.tyBool
@@ -1118,7 +1120,7 @@ module _ (claims· : Claims) where
   s63 = Call.callB ps·9 r·9 (claims· .18) (claims· .19) T66 a0 15 (0 ∷ 9 ∷ 10 ∷ 11 ∷ []) y11
 
   abbrev s64 : Typed.Mo T67 → Typed.Mo T69
-  s64 = Scalar.n-room T67 12 y9
+  s64 = Scalar.n-room T67 12 y10
 
   abbrev s65 : Typed.Mo T69 → Typed.Mo T70
   s65 = Scalar.n-room T69 35 y12
@@ -1142,7 +1144,7 @@ module _ (claims· : Claims) where
   s77 = Known.k-enum-known Put.enum 0 T80 15 λ x. x
 
   abbrev s78 : Typed.Gives T82 T82
-  s78 = Known.k-known-told Put.enum Laws''.the-laws 0 T82 15 λ x. x
+  s78 = Known.k-known-told Put.enum Laws.the-laws 0 T82 15 λ x. x
 
   abbrev s79 : Typed.Mo T82 → Typed.Mo T84
   s79 = Make'.n-make (Declared'.row BitPosition.the-type) T82 16 λ m. m .1 .1 .1 .1 .1 .1 .1 .1 .1 .1 .1 .1 .1 .1 .1 .0 .0
@@ -1154,7 +1156,7 @@ module _ (claims· : Claims) where
   s81 = Known.k-enum-told Put.enum 1 T80 15 λ x. x
 
   abbrev s82 : Typed.Mo T80 → Typed.Mo T87
-  s82 = Scalar.n-room T80 6 y10
+  s82 = Scalar.n-room T80 6 y9
 
   abbrev s83 : Typed.Mo T87 → Typed.Mo T88
   s83 = LocalCopy.n-val-copy T87 15 0 (Declared.row Put.the-type) (Rows.whole (Declared.row Put.the-type)) (Rows.whole (Declared.row Put.the-type)) (λ x. x) (λ x. x) λ x. x
@@ -1187,7 +1189,7 @@ module _ (claims· : Claims) where
   s92 = LocalCopy.n-val-copy T68 16 12 (Declared'.row BitPosition.the-type) (Rows.whole (Declared'.row BitPosition.the-type)) (Rows.whole (Declared'.row BitPosition.the-type)) (λ x. x) (λ x. x) λ x. x
 
   abbrev s93 : Typed.Mo T97 → Typed.Mo T46
-  s93 = Scalar.n-room T97 16 y9
+  s93 = Scalar.n-room T97 16 y10
 
   abbrev s94 : Typed.Asks T46 T46
   s94 = Scalar.k-op2 T46 (Syntax.add Syntax.unsigned) (Scalar.oAt 13 u64 (Row.valS (Row.sInt Syntax.w64))) (Scalar.oInt Syntax.w64 1) 13 (Rows.sc-here (Row.sInt Syntax.w64)) (Row.sInt Syntax.w64 .of)
@@ -1208,7 +1210,7 @@ module _ (claims· : Claims) where
   s99 = Scalar.n-room T103 11 Syntax.tyBool
 
   abbrev s100 : Typed.Mo T104 → Typed.Mo T105
-  s100 = Scalar.n-room T104 12 y9
+  s100 = Scalar.n-room T104 12 y10
 
   abbrev s101 : Typed.Mo T105 → Typed.Mo T106
   s101 = Scalar.n-room T105 13 u64
@@ -1229,13 +1231,13 @@ module _ (claims· : Claims) where
   module _ (Pre· : (κs : Lifetimes.Lfts 5) → Kinds.Dens κs ps → Type 0) (Post· : (κs : Lifetimes.Lfts 5) → (a : Kinds.Dens κs ps) → Kinds.Plain 5 ps r κs) where
     module _ (M : Type 1) where
       abbrev pub Closed : Type 2
-      Closed = (𝓤 : URA.URA M) (H : Wp.Heap 𝓤) (A : Atoms.Atoms 𝓤) (W : Kit.Given 𝓤 H A) (𝓣 : Wp.Tables 𝓤 H) (known0 : Plain.Known 𝓤 H A W 𝓣 0 ps·0 r·0 (claims· .0) (claims· .1) "image_map::width") (known1
-          : Plain.Known 𝓤 H A W 𝓣 1 ps·1 r·1 (claims· .2) (claims· .3) "write_block::is_strict") (known2 : Plain.Known 𝓤 H A W 𝓣 1 ps·2 r·2 (claims· .4) (claims· .5) "colour_lines::clear") (known3 : Plain.Known
-          𝓤 H A W 𝓣 1 ps·3 r·3 (claims· .6) (claims· .7) "cameras::taking::base_of") (known4 : Plain.Known 𝓤 H A W 𝓣 1 ps·4 r·4 (claims· .8) (claims· .9) "read_block::records::start_records") (known5 : Plain.Known 𝓤 H
-          A W 𝓣 1 ps·5 r·5 (claims· .10) (claims· .11) "colour_lines::turn") (known6 : Plain.Known 𝓤 H A W 𝓣 1 ps·6 r·6 (claims· .12) (claims· .13) "read_block::reading::is_restarted") (known7 : Plain.Known 𝓤 H A W 𝓣
-          1 ps·7 r·7 (claims· .14) (claims· .15) "read_block::records::restart") (known8 : Plain.Known 𝓤 H A W 𝓣 0 ps·8 r·8 (claims· .16) (claims· .17) "read_block::reading::quantisers_of") (known9 : Plain.Known 𝓤
-          H A W 𝓣 4 ps·9 r·9 (claims· .18) (claims· .19) "write_block::write_line") → Statement.Triple 𝓤 (Wp.WpFn 𝓤 H (𝓣 .C) (𝓣 .Λ) (Function.fnOf 5 ps r xs m hs body)) (Function.plainOf 𝓤 H A 5 ps r
-          Pre· Post·)
+      Closed = (𝓤 : URA.URA M) (H : Wp.Heap 𝓤) (A : Atoms.Atoms 𝓤) (W : Kit.Given 𝓤 H A) (𝓣 : Wp.Tables 𝓤 H) (known0 : Plain.Known 𝓤 H A W 𝓣 0 ps·0 r·0 (claims· .0) (claims· .1) "image_map::width")
+          (known1 : Plain.Known 𝓤 H A W 𝓣 1 ps·1 r·1 (claims· .2) (claims· .3) "write_block::is_strict") (known2 : Plain.Known 𝓤 H A W 𝓣 1 ps·2 r·2 (claims· .4) (claims· .5) "colour_lines::clear") (known3
+          : Plain.Known 𝓤 H A W 𝓣 1 ps·3 r·3 (claims· .6) (claims· .7) "cameras::taking::base_of") (known4 : Plain.Known 𝓤 H A W 𝓣 1 ps·4 r·4 (claims· .8) (claims· .9)
+          "read_block::records::start_records") (known5 : Plain.Known 𝓤 H A W 𝓣 1 ps·5 r·5 (claims· .10) (claims· .11) "colour_lines::turn") (known6 : Plain.Known 𝓤 H A W 𝓣 1 ps·6 r·6 (claims· .12)
+          (claims· .13) "read_block::reading::is_restarted") (known7 : Plain.Known 𝓤 H A W 𝓣 1 ps·7 r·7 (claims· .14) (claims· .15) "read_block::records::restart") (known8 : Plain.Known 𝓤 H A W 𝓣 0 ps·8
+          r·8 (claims· .16) (claims· .17) "read_block::reading::quantisers_of") (known9 : Plain.Known 𝓤 H A W 𝓣 4 ps·9 r·9 (claims· .18) (claims· .19) "write_block::write_line") → Statement.Triple 𝓤
+          (Wp.WpFn 𝓤 H (𝓣 .C) (𝓣 .Λ) (Function.fnOf 5 ps r xs m hs body)) (Function.plainOf 𝓤 H A 5 ps r Pre· Post·)
 
     module _ (Inv·0 : InvT-loop) (μ·0 : MeasureT-loop) where
       abbrev at0 : Typed.TF T31 O4
@@ -1523,11 +1525,11 @@ module _ (claims· : Claims) where
 
       module _ {M : Type 1} (𝓤 : URA.URA M) (H : Wp.Heap 𝓤) (A : Atoms.Atoms 𝓤) (W : Kit.Given 𝓤 H A) (𝓣 : Wp.Tables 𝓤 H) where
         abbrev Knowns : Type 1
-        Knowns = Plain.Known 𝓤 H A W 𝓣 0 ps·0 r·0 (claims· .0) (claims· .1) "image_map::width" × Plain.Known 𝓤 H A W 𝓣 1 ps·1 r·1 (claims· .2) (claims· .3) "write_block::is_strict" × Plain.Known 𝓤 H A W 𝓣
-            1 ps·2 r·2 (claims· .4) (claims· .5) "colour_lines::clear" × Plain.Known 𝓤 H A W 𝓣 1 ps·3 r·3 (claims· .6) (claims· .7) "cameras::taking::base_of" × Plain.Known 𝓤 H A W 𝓣 1 ps·4 r·4 (claims· .8) (claims· .9)
-            "read_block::records::start_records" × Plain.Known 𝓤 H A W 𝓣 1 ps·5 r·5 (claims· .10) (claims· .11) "colour_lines::turn" × Plain.Known 𝓤 H A W 𝓣 1 ps·6 r·6 (claims· .12) (claims· .13)
-            "read_block::reading::is_restarted" × Plain.Known 𝓤 H A W 𝓣 1 ps·7 r·7 (claims· .14) (claims· .15) "read_block::records::restart" × Plain.Known 𝓤 H A W 𝓣 0 ps·8 r·8 (claims· .16) (claims· .17)
-            "read_block::reading::quantisers_of" × Plain.Known 𝓤 H A W 𝓣 4 ps·9 r·9 (claims· .18) (claims· .19) "write_block::write_line"
+        Knowns = Plain.Known 𝓤 H A W 𝓣 0 ps·0 r·0 (claims· .0) (claims· .1) "image_map::width" × Plain.Known 𝓤 H A W 𝓣 1 ps·1 r·1 (claims· .2) (claims· .3) "write_block::is_strict" × Plain.Known 𝓤 H A
+            W 𝓣 1 ps·2 r·2 (claims· .4) (claims· .5) "colour_lines::clear" × Plain.Known 𝓤 H A W 𝓣 1 ps·3 r·3 (claims· .6) (claims· .7) "cameras::taking::base_of" × Plain.Known 𝓤 H A W 𝓣 1 ps·4 r·4
+            (claims· .8) (claims· .9) "read_block::records::start_records" × Plain.Known 𝓤 H A W 𝓣 1 ps·5 r·5 (claims· .10) (claims· .11) "colour_lines::turn" × Plain.Known 𝓤 H A W 𝓣 1 ps·6 r·6 (claims·
+            .12) (claims· .13) "read_block::reading::is_restarted" × Plain.Known 𝓤 H A W 𝓣 1 ps·7 r·7 (claims· .14) (claims· .15) "read_block::records::restart" × Plain.Known 𝓤 H A W 𝓣 0 ps·8 r·8 (claims·
+            .16) (claims· .17) "read_block::reading::quantisers_of" × Plain.Known 𝓤 H A W 𝓣 4 ps·9 r·9 (claims· .18) (claims· .19) "write_block::write_line"
 
       module _ (κs : Lifetimes.Lfts 5) (qs : Lifetimes.Shares 5) where
         abbrev k0 : Row.Life
@@ -1817,28 +1819,27 @@ module _ (claims· : Claims) where
           d3 = Typed.g-pre 𝓤 H A W 𝓣 E (on T35 l11) (on T30 l11) b14 Δ4 (Typed.pass T35 T30 s32) at2 (Scalar.g-room 𝓤 H A W E (on T35 l11) 23 Syntax.tyBool (Scalar.room-sc 𝓤 H A W Row.sBool)) d2
 
           d4 : Typed.Typed 𝓤 H A 𝓣 E (on T32 l11) b14 Δ4 at4
-          d4 = Typed.g-pre 𝓤 H A W 𝓣 E (on T32 l11) (on T35 l11) b14 Δ4 (Typed.pass T32 T35 s31) at3 (Scalar.g-room 𝓤 H A W E (on T32 l11) 6 y10 (Local.room-whole 𝓤 H A W (Declared'.row Form.the-type)
-              y10 Path'.refl)) d3
+          d4 = Typed.g-pre 𝓤 H A W 𝓣 E (on T32 l11) (on T35 l11) b14 Δ4 (Typed.pass T32 T35 s31) at3 (Scalar.g-room 𝓤 H A W E (on T32 l11) 6 y9 (Local.room-whole 𝓤 H A W (Declared'.row Form.the-type)
+              y9 Path'.refl)) d3
 
           d5 : Typed.Typed 𝓤 H A 𝓣 E (on T32 l11) b15 Δ4 at5
           d5 = Scalar.t-cond 𝓤 H A W E 𝓣 (on T32 l11) 23 (λ x. x) Syntax.skip b14 Δ4 at1 at4 (Scalar.reads-sc 𝓤 H A W Row.sBool) Path'.refl d1 d4
 
           d6 : Typed.Typed 𝓤 H A 𝓣 E (on T82 l11) b32 Δ5 at6
           d6 = Typed.s-typed 𝓤 H A W 𝓣 E (on T82 l11) b32 Δ5 (λ Ψ. Typed.pass T82 T84 s79 (Typed.pass T84 T68 s80 Ψ)) tt (Typed.g-post 𝓤 H A W 𝓣 E (on T82 l11) (on T84 l11) (on T68 l11) b32
-              (Typed.pass T82 T84 s79) (Typed.pass T84 T68 s80) (CopyOut.t-copy-told 𝓤 H A W E 𝓣 (Declared'.row BitPosition.the-type) Path'.refl (Laws'5.val BitPosition.the-type Laws.the-laws)
-              (Laws'5.lawful BitPosition.the-type Laws.the-laws 𝓤 H A W) (Laws'5.makes BitPosition.the-type Laws.the-plain 𝓤 H A) (on T82 l11) 16 (Scalar.oFld 15 ((Syntax.variant 0) ∷ (Syntax.field 1) ∷
-              []) y9 8 λ v. Laws'5.val BitPosition.the-type Laws.the-laws (v .0)) (λ m. m .1 .1 .1 .1 .1 .1 .1 .1 .1 .1 .1 .1 .1 .1 .1 .0 .0) (λ m. Laws'4.Fields (Declared.variants Put.the-type)
-              (Laws'4.spellss (Put.enum .parts) Laws''.the-laws) (Put.the-type .to (Known.at Put.enum 0 (m .1 .1 .1 .1 .1 .1 .1 .1 .1 .1 .1 .1 .1 .1 .1 .0)))) (Reads'.room-gone 𝓤 H A y9) (
-                Match.reads-payload 𝓤 H A W Put.enum Laws''.the-laws 0 Path'.refl Path'.refl (λ v. Val.vcons (Laws'5.val BitPosition.the-type Laws.the-laws (v .0)) Val.vnil) (λ v. Path'.refl) 0 y9 8
+              (Typed.pass T82 T84 s79) (Typed.pass T84 T68 s80) (CopyOut.t-copy-told 𝓤 H A W E 𝓣 (Declared'.row BitPosition.the-type) Path'.refl (Laws'5.val BitPosition.the-type Laws'.the-laws)
+              (Laws'5.lawful BitPosition.the-type Laws'.the-laws 𝓤 H A W) (Laws'5.makes BitPosition.the-type Laws'.the-plain 𝓤 H A) (on T82 l11) 16 (Scalar.oFld 15 ((Syntax.variant 0) ∷ (Syntax.field 1) ∷
+              []) y10 8 λ v. Laws'5.val BitPosition.the-type Laws'.the-laws (v .0)) (λ m. m .1 .1 .1 .1 .1 .1 .1 .1 .1 .1 .1 .1 .1 .1 .1 .0 .0) (λ m. Laws'4.Fields (Declared.variants Put.the-type)
+              (Laws'4.spellss (Put.enum .parts) Laws.the-laws) (Put.the-type .to (Known.at Put.enum 0 (m .1 .1 .1 .1 .1 .1 .1 .1 .1 .1 .1 .1 .1 .1 .1 .0)))) (Reads'.room-gone 𝓤 H A y10) (
+                Match.reads-payload 𝓤 H A W Put.enum Laws.the-laws 0 Path'.refl Path'.refl (λ v. Val.vcons (Laws'5.val BitPosition.the-type Laws'.the-laws (v .0)) Val.vnil) (λ v. Path'.refl) 0 y10 8
                     Path'.refl,
                 Path'.refl,
               ) Path'.refl (λ ρ m. Make'.tells-row 𝓤 H A W E ρ (Row.out 16 ((on T82 l11) .locals)) m 15 (Laws'4.Fields (Declared.variants Put.the-type) (Laws'4.spellss (Put.enum
-              .parts) Laws''.the-laws) (Put.the-type .to (Known.at Put.enum 0 (m .1 .1 .1 .1 .1 .1 .1 .1 .1 .1 .1 .1 .1 .1 .1 .0)))) (Known.known-is 𝓤 H A W E Put.enum 0 Laws''.the-laws ρ 15 (m .1 .1 .1
-              .1 .1 .1 .1 .1 .1 .1 .1 .1 .1 .1 .1 .0))) (λ m k wa. Path'.refl) λ m k wa. k .0) (Scalar.g-room 𝓤 H A W E (on T84 l11) 15 y11 (Local.room-whole 𝓤 H A W (Known.Known Put.enum 0) y11
-              Path'.refl)))
+              .parts) Laws.the-laws) (Put.the-type .to (Known.at Put.enum 0 (m .1 .1 .1 .1 .1 .1 .1 .1 .1 .1 .1 .1 .1 .1 .1 .0)))) (Known.known-is 𝓤 H A W E Put.enum 0 Laws.the-laws ρ 15 (m .1 .1 .1 .1 .1
+              .1 .1 .1 .1 .1 .1 .1 .1 .1 .1 .0))) (λ m k wa. Path'.refl) λ m k wa. k .0) (Scalar.g-room 𝓤 H A W E (on T84 l11) 15 y11 (Local.room-whole 𝓤 H A W (Known.Known Put.enum 0) y11 Path'.refl)))
 
           d7 : Typed.Typed 𝓤 H A 𝓣 E (on T82 l11) b32 Δ5 at7
-          d7 = Typed.g-pre 𝓤 H A W 𝓣 E (on T82 l11) (on T82 l11) b32 Δ5 (Typed.give s78) at6 (Known.g-known-told 𝓤 H A W E Put.enum 0 (on T82 l11) 15 Laws''.the-laws (λ x. x) (Reads'.as-is 𝓤 H A
+          d7 = Typed.g-pre 𝓤 H A W 𝓣 E (on T82 l11) (on T82 l11) b32 Δ5 (Typed.give s78) at6 (Known.g-known-told 𝓤 H A W E Put.enum 0 (on T82 l11) 15 Laws.the-laws (λ x. x) (Reads'.as-is 𝓤 H A
               (Rows.whole (Known.Known Put.enum 0)))) d6
 
           d8 : Typed.Typed 𝓤 H A 𝓣 E (on T80 l11) b32 Δ5 at8
@@ -1876,12 +1877,12 @@ module _ (claims· : Claims) where
           d18 : Typed.Typed 𝓤 H A 𝓣 E (on T87 l11) b35 Δ5 at18
           d18 = Typed.s-seq 𝓤 H A W 𝓣 E (on T87 l11) (on T88 l11) b33 b34 Δ5 (Typed.pass T87 T88 s83) at17 (LocalCopy.t-val-copy 𝓤 H A W E 𝓣 (λ ρ. Unit) (on T87 l11) 15 0 (Declared.row Put.the-type)
               y11 y11 (Rows.whole (Declared.row Put.the-type)) (Rows.whole (Declared.row Put.the-type)) (λ x. x) (λ x. x) (λ x. x) Path'.refl (Own.told-none 𝓤 H A ((on T87 l11) .slots))
-              (Values.enum-copied 𝓤 H A W Put.the-type Laws''.the-laws Laws''.the-copy) (Reads'.room-gone 𝓤 H A y11) (Yields.makes-mem 𝓤 H A W (λ ρ. Unit) (Declared.row Put.the-type) Path'.refl
-              (Rows.whole (Declared.row Put.the-type)) (λ x. x) λ ρ told. Local.whole-mem 𝓤 H A W (Declared.row Put.the-type) ρ) Path'.refl Path'.refl) d17
+              (Values.enum-copied 𝓤 H A W Put.the-type Laws.the-laws Laws.the-copy) (Reads'.room-gone 𝓤 H A y11) (Yields.makes-mem 𝓤 H A W (λ ρ. Unit) (Declared.row Put.the-type) Path'.refl (Rows.whole
+              (Declared.row Put.the-type)) (λ x. x) λ ρ told. Local.whole-mem 𝓤 H A W (Declared.row Put.the-type) ρ) Path'.refl Path'.refl) d17
 
           d19 : Typed.Typed 𝓤 H A 𝓣 E (on T80 l11) b35 Δ5 at19
-          d19 = Typed.g-pre 𝓤 H A W 𝓣 E (on T80 l11) (on T87 l11) b35 Δ5 (Typed.pass T80 T87 s82) at18 (Scalar.g-room 𝓤 H A W E (on T80 l11) 6 y10 (Local.room-whole 𝓤 H A W (Declared'.row
-              Form.the-type) y10 Path'.refl)) d18
+          d19 = Typed.g-pre 𝓤 H A W 𝓣 E (on T80 l11) (on T87 l11) b35 Δ5 (Typed.pass T80 T87 s82) at18 (Scalar.g-room 𝓤 H A W E (on T80 l11) 6 y9 (Local.room-whole 𝓤 H A W (Declared'.row
+              Form.the-type) y9 Path'.refl)) d18
 
           d20 : Typed.Typed 𝓤 H A 𝓣 E (on T80 l11) b35 Δ5 at20
           d20 = Typed.g-pre 𝓤 H A W 𝓣 E (on T80 l11) (on T80 l11) b35 Δ5 (Typed.both s81) at19 (Known.g-enum-told 𝓤 H A W E Put.enum 1 (on T80 l11) 15 λ x. x) d19
@@ -1889,8 +1890,8 @@ module _ (claims· : Claims) where
           d21 : Typed.Typed 𝓤 H A 𝓣 E (on T80 l11) b36 Δ5 at21
           d21 = Switch.t-switch-on 𝓤 H A W E 𝓣 (on T80 l11) (Scalar.oFld 15 ((Syntax.variant 0) ∷ (Syntax.field 0) ∷ []) u8 0 λ x. Val.vint Syntax.w8 (Declared.tagOf Put.the-type x)) Syntax.w8 (λ u.
               Declared.tagOf Put.the-type (u .1 .1 .1 .1 .1 .1 .1 .1 .1 .1 .1 .1 .1 .1 .1 .0)) (Syntax.arm (0 ∷ []) b32 (Syntax.arm (1 ∷ []) b35 Syntax.noDefault)) Δ5 (at8, (at20, tt))
-              (Match.reads-tag 𝓤 H A W Put.the-type Laws''.the-laws (Rows.whole (Declared.row Put.the-type)) 0 (λ x. x) (Whole.reads-enum 𝓤 H A W Put.the-type Laws''.the-laws), Path'.refl) (λ u.
-              Path'.refl) (d8, (d20, tt))
+              (Match.reads-tag 𝓤 H A W Put.the-type Laws.the-laws (Rows.whole (Declared.row Put.the-type)) 0 (λ x. x) (Whole.reads-enum 𝓤 H A W Put.the-type Laws.the-laws), Path'.refl) (λ u. Path'.refl)
+              (d8, (d20, tt))
 
           d22 : Typed.Typed 𝓤 H A 𝓣 E G80 b36 Δ5 at21
           d22 = Typed.g-pre 𝓤 H A W 𝓣 E G80 (on T80 l11) b36 Δ5 (λ Ψ. Ψ) at21 (Lifetime.g-forget 𝓤 H A W E G80 11 Row.dead Path'.refl) d21
@@ -1935,7 +1936,7 @@ module _ (claims· : Claims) where
               d32
 
           d34 : Typed.Typed 𝓤 H A 𝓣 E G67 b36 Δ5 at34
-          d34 = Typed.g-pre 𝓤 H A W 𝓣 E G67 G69 b36 Δ5 (Typed.pass T67 T69 s64) at33 (Scalar.g-room 𝓤 H A W E G67 12 y9 (Local.room-whole 𝓤 H A W (Declared'.row BitPosition.the-type) y9 Path'.refl))
+          d34 = Typed.g-pre 𝓤 H A W 𝓣 E G67 G69 b36 Δ5 (Typed.pass T67 T69 s64) at33 (Scalar.g-room 𝓤 H A W E G67 12 y10 (Local.room-whole 𝓤 H A W (Declared'.row BitPosition.the-type) y10 Path'.refl))
               d33
 
           d35 : Typed.Typed 𝓤 H A 𝓣 E (on T46 l11) b38 Δ3 at35
@@ -1946,13 +1947,13 @@ module _ (claims· : Claims) where
               Syntax.w32))))
 
           d36 : Typed.Typed 𝓤 H A 𝓣 E (on T97 l11) b38 Δ3 at36
-          d36 = Typed.g-pre 𝓤 H A W 𝓣 E (on T97 l11) (on T46 l11) b38 Δ3 (Typed.pass T97 T46 s93) at35 (Scalar.g-room 𝓤 H A W E (on T97 l11) 16 y9 (Local.room-whole 𝓤 H A W (Declared'.row
-              BitPosition.the-type) y9 Path'.refl)) d35
+          d36 = Typed.g-pre 𝓤 H A W 𝓣 E (on T97 l11) (on T46 l11) b38 Δ3 (Typed.pass T97 T46 s93) at35 (Scalar.g-room 𝓤 H A W E (on T97 l11) 16 y10 (Local.room-whole 𝓤 H A W (Declared'.row
+              BitPosition.the-type) y10 Path'.refl)) d35
 
           d37 : Typed.Typed 𝓤 H A 𝓣 E (on T68 l11) (Syntax.seq b37 b38) Δ3 at37
           d37 = Typed.s-seq 𝓤 H A W 𝓣 E (on T68 l11) (on T97 l11) b37 b38 Δ3 (Typed.pass T68 T97 s92) at36 (LocalCopy.t-val-copy 𝓤 H A W E 𝓣 (λ ρ. Unit) (on T68 l11) 16 12 (Declared'.row
-              BitPosition.the-type) y9 y9 (Rows.whole (Declared'.row BitPosition.the-type)) (Rows.whole (Declared'.row BitPosition.the-type)) (λ x. x) (λ x. x) (λ x. x) Path'.refl (Own.told-none 𝓤 H A
-              ((on T68 l11) .slots)) (Values.struct-copied 𝓤 H A W BitPosition.the-type Laws.the-laws Laws.the-copy) (Reads'.room-gone 𝓤 H A y9) (Yields.makes-mem 𝓤 H A W (λ ρ. Unit) (Declared'.row
+              BitPosition.the-type) y10 y10 (Rows.whole (Declared'.row BitPosition.the-type)) (Rows.whole (Declared'.row BitPosition.the-type)) (λ x. x) (λ x. x) (λ x. x) Path'.refl (Own.told-none 𝓤 H A
+              ((on T68 l11) .slots)) (Values.struct-copied 𝓤 H A W BitPosition.the-type Laws'.the-laws Laws'.the-copy) (Reads'.room-gone 𝓤 H A y10) (Yields.makes-mem 𝓤 H A W (λ ρ. Unit) (Declared'.row
               BitPosition.the-type) Path'.refl (Rows.whole (Declared'.row BitPosition.the-type)) (λ x. x) λ ρ told. Local.whole-mem 𝓤 H A W (Declared'.row BitPosition.the-type) ρ) Path'.refl Path'.refl)
               d36
 
@@ -1993,7 +1994,7 @@ module _ (claims· : Claims) where
                     (
                       (Scalar.reads-sc 𝓤 H A W Row.sBool, Path'.refl),
                       (
-                        (Values.struct-copied 𝓤 H A W BitPosition.the-type Laws.the-laws Laws.the-copy, Path'.refl),
+                        (Values.struct-copied 𝓤 H A W BitPosition.the-type Laws'.the-laws Laws'.the-copy, Path'.refl),
                         (
                           Reads'.as-is 𝓤 H A (Mut.mslice n16 y7 10),
                           Mut.reads-mslice 𝓤 H A W n16 y7 10,
@@ -2003,8 +2004,8 @@ module _ (claims· : Claims) where
                             Mut.reads-mslice 𝓤 H A W (Element.type) y6 11,
                             Path'.refl,
                             (
-                              (Values.struct-copied 𝓤 H A W Form.the-type Laws'.the-laws Laws'.the-copy, Path'.refl),
-                              ((Values.struct-copied 𝓤 H A W Quantisers.the-type Laws'3.the-laws Laws'3.the-copy, Path'.refl), ((Scalar.reads-sc 𝓤 H A W Row.sBool, Path'.refl), tt)),
+                              (Values.struct-copied 𝓤 H A W Form.the-type Laws'3.the-laws Laws'3.the-copy, Path'.refl),
+                              ((Values.struct-copied 𝓤 H A W Quantisers.the-type Laws''.the-laws Laws''.the-copy, Path'.refl), ((Scalar.reads-sc 𝓤 H A W Row.sBool, Path'.refl), tt)),
                             ),
                           ),
                         ),
@@ -2016,8 +2017,8 @@ module _ (claims· : Claims) where
               (tt, (tt, (tt, (tt, tt)))) Path'.refl) d38
 
           d40 : Typed.Typed 𝓤 H A 𝓣 E G65 (Syntax.seq b30 b41) Δ3 at40
-          d40 = Typed.s-seq 𝓤 H A W 𝓣 E G65 G66 b30 b41 Δ3 (Typed.both s62) at39 (Plain.t-call-plain 𝓤 H A W 𝓣 0 ps·8 r·8 (claims· .16) (claims· .17) "read_block::reading::quantisers_of" (known .8) E (λ
-              pos β. β) G65 (Num.vAt 9 λ x. x, (Num.vAt 14 λ x. x, tt)) 35 [] (Call.sub-id 𝓤 H A W (G65 .slots))
+          d40 = Typed.s-seq 𝓤 H A W 𝓣 E G65 G66 b30 b41 Δ3 (Typed.both s62) at39 (Plain.t-call-plain 𝓤 H A W 𝓣 0 ps·8 r·8 (claims· .16) (claims· .17) "read_block::reading::quantisers_of" (known .8) E
+              (λ pos β. β) G65 (Num.vAt 9 λ x. x, (Num.vAt 14 λ x. x, tt)) 35 [] (Call.sub-id 𝓤 H A W (G65 .slots))
               ((Scalar.reads-sc 𝓤 H A W (Row.sInt Syntax.w32), Path'.refl), ((Scalar.reads-sc 𝓤 H A W (Row.sInt Syntax.w32), Path'.refl), tt)) (Reads'.room-gone 𝓤 H A y12) tt Path'.refl) d39
 
           d41 : Typed.Typed 𝓤 H A 𝓣 E G64 (Syntax.seq b29 (Syntax.seq b30 b41)) Δ3 at41
@@ -2079,8 +2080,8 @@ module _ (claims· : Claims) where
           d54 = Typed.g-pre 𝓤 H A W 𝓣 E G51 G52 b48 Δ3 (Typed.pass T51 T52 s48) at53 (Scalar.g-room 𝓤 H A W E G51 23 Syntax.tyBool (Scalar.room-sc 𝓤 H A W Row.sBool)) d53
 
           d55 : Typed.Typed 𝓤 H A 𝓣 E G50 (Syntax.seq b23 b48) Δ3 at55
-          d55 = Typed.s-seq 𝓤 H A W 𝓣 E G50 G51 b23 b48 Δ3 (Typed.both s47) at54 (Plain.t-call-plain 𝓤 H A W 𝓣 1 ps·7 r·7 (claims· .14) (claims· .15) "read_block::records::restart" (known .7) E (λ pos β.
-              β) G50 (record { pos = 28; ty = y6; ref = λ x. x }, (Num.vAt 9 λ x. x, (Num.vAt 14 λ x. x, (Bool.bAt 23 λ x. x, tt)))) 24 (8 ∷ []) (Call.sub-id 𝓤 H A W (G50 .slots)) (
+          d55 = Typed.s-seq 𝓤 H A W 𝓣 E G50 G51 b23 b48 Δ3 (Typed.both s47) at54 (Plain.t-call-plain 𝓤 H A W 𝓣 1 ps·7 r·7 (claims· .14) (claims· .15) "read_block::records::restart" (known .7) E (λ pos
+              β. β) G50 (record { pos = 28; ty = y6; ref = λ x. x }, (Num.vAt 9 λ x. x, (Num.vAt 14 λ x. x, (Bool.bAt 23 λ x. x, tt)))) 24 (8 ∷ []) (Call.sub-id 𝓤 H A W (G50 .slots)) (
                 Reads'.as-is 𝓤 H A (Mut.mslice (Element.type) y6 8),
                 Mut.reads-mslice 𝓤 H A W (Element.type) y6 8,
                 Path'.refl,
@@ -2089,8 +2090,8 @@ module _ (claims· : Claims) where
               (Reads'.room-gone 𝓤 H A Syntax.tyUnit) (tt, tt) Path'.refl) d54
 
           d56 : Typed.Typed 𝓤 H A 𝓣 E G49 (Syntax.seq b22 (Syntax.seq b23 b48)) Δ3 at56
-          d56 = Typed.s-seq 𝓤 H A W 𝓣 E G49 G50 b22 (Syntax.seq b23 b48) Δ3 (Typed.both s46) at55 (Plain.t-call-plain 𝓤 H A W 𝓣 1 ps·6 r·6 (claims· .12) (claims· .13) "read_block::reading::is_restarted"
-              (known .6) E (λ pos β. β) G49 (record { pos = 7; ty = y5; ref = λ x. x }, (Num.vAt 13 λ x. x, tt)) 23 (4 ∷ []) (Call.sub-id 𝓤 H A W (G49 .slots))
+          d56 = Typed.s-seq 𝓤 H A W 𝓣 E G49 G50 b22 (Syntax.seq b23 b48) Δ3 (Typed.both s46) at55 (Plain.t-call-plain 𝓤 H A W 𝓣 1 ps·6 r·6 (claims· .12) (claims· .13)
+              "read_block::reading::is_restarted" (known .6) E (λ pos β. β) G49 (record { pos = 7; ty = y5; ref = λ x. x }, (Num.vAt 13 λ x. x, tt)) 23 (4 ∷ []) (Call.sub-id 𝓤 H A W (G49 .slots))
               (ShrSlice.spares-sslice 𝓤 H A W n8 y5 4, Shared.reads-sslice 𝓤 H A W n8 y5 4, Path'.refl, ((Scalar.reads-sc 𝓤 H A W (Row.sInt Syntax.w64), Path'.refl), tt)) (Reads'.room-gone 𝓤 H A
               Syntax.tyBool) (tt, tt) Path'.refl) d55
 
@@ -2109,10 +2110,10 @@ module _ (claims· : Claims) where
               d58
 
           d60 : Typed.Typed 𝓤 H A 𝓣 E (on T31 l11) b53 Δ3 at60
-          d60 = Typed.s-seq 𝓤 H A W 𝓣 E (on T31 l11) (on T46 l11) b19 (Syntax.seq b20 b51) Δ3 (Typed.both s42) at58 (Plain.t-call-plain 𝓤 H A W 𝓣 1 ps·3 r·3 (claims· .6) (claims· .7) "cameras::taking::base_of"
-              (known .3) E (λ pos β. β) (on T31 l11) (record { pos = 7; ty = y5; ref = λ x. x }, (Num.vAt 13 λ x. x, tt)) 14 (4 ∷ []) (Call.sub-id 𝓤 H A W ((on T31 l11) .slots))
-              (ShrSlice.spares-sslice 𝓤 H A W n8 y5 4, Shared.reads-sslice 𝓤 H A W n8 y5 4, Path'.refl, ((Scalar.reads-sc 𝓤 H A W (Row.sInt Syntax.w64), Path'.refl), tt)) (Reads'.room-gone 𝓤 H A u32)
-              (tt, tt) Path'.refl) d59
+          d60 = Typed.s-seq 𝓤 H A W 𝓣 E (on T31 l11) (on T46 l11) b19 (Syntax.seq b20 b51) Δ3 (Typed.both s42) at58 (Plain.t-call-plain 𝓤 H A W 𝓣 1 ps·3 r·3 (claims· .6) (claims· .7)
+              "cameras::taking::base_of" (known .3) E (λ pos β. β) (on T31 l11) (record { pos = 7; ty = y5; ref = λ x. x }, (Num.vAt 13 λ x. x, tt)) 14 (4 ∷ []) (Call.sub-id 𝓤 H A W ((on T31 l11)
+              .slots)) (ShrSlice.spares-sslice 𝓤 H A W n8 y5 4, Shared.reads-sslice 𝓤 H A W n8 y5 4, Path'.refl, ((Scalar.reads-sc 𝓤 H A W (Row.sInt Syntax.w64), Path'.refl), tt)) (Reads'.room-gone 𝓤 H A
+              u32) (tt, tt) Path'.refl) d59
 
           d61 : Typed.Typed 𝓤 H A 𝓣 E (on T31 l10) b53 Δ3 at60
           d61 = Typed.g-pre 𝓤 H A W 𝓣 E (on T31 l10) (on T31 l11) b53 Δ3 (λ Ψ. Ψ) at60 (Lifetime.g-forget 𝓤 H A W E (on T31 l10) 7 Row.dead Path'.refl) d60
@@ -2191,8 +2192,8 @@ module _ (claims· : Claims) where
               Syntax.w64))) d77
 
           d79 : Typed.Typed 𝓤 H A 𝓣 E (on T104 l11) b62 Δ0 at79
-          d79 = Typed.g-pre 𝓤 H A W 𝓣 E (on T104 l11) (on T105 l11) b62 Δ0 (Typed.pass T104 T105 s100) at78 (Scalar.g-room 𝓤 H A W E (on T104 l11) 12 y9 (Local.room-whole 𝓤 H A W (Declared'.row
-              BitPosition.the-type) y9 Path'.refl)) d78
+          d79 = Typed.g-pre 𝓤 H A W 𝓣 E (on T104 l11) (on T105 l11) b62 Δ0 (Typed.pass T104 T105 s100) at78 (Scalar.g-room 𝓤 H A W E (on T104 l11) 12 y10 (Local.room-whole 𝓤 H A W (Declared'.row
+              BitPosition.the-type) y10 Path'.refl)) d78
 
           d80 : Typed.Typed 𝓤 H A 𝓣 E (on T103 l11) b62 Δ0 at80
           d80 = Typed.g-pre 𝓤 H A W 𝓣 E (on T103 l11) (on T104 l11) b62 Δ0 (Typed.pass T103 T104 s99) at79 (Scalar.g-room 𝓤 H A W E (on T103 l11) 11 Syntax.tyBool (Scalar.room-sc 𝓤 H A W Row.sBool))
@@ -2207,16 +2208,16 @@ module _ (claims· : Claims) where
               d81
 
           d83 : Typed.Typed 𝓤 H A 𝓣 E (on T30 l11) (Syntax.seq b61 b62) Δ0 at83
-          d83 = Typed.s-seq 𝓤 H A W 𝓣 E (on T30 l11) (on T101 l11) b61 b62 Δ0 (Typed.pass T30 T101 s96) at82 (Make.t-enum-make-wt 𝓤 H A W E 𝓣 Put.the-type Laws''.the-laws Laws''.the-plain tt (on T30
-              l11) 0 ((Scalar.oInt Syntax.w8 0) ∷ (Scalar.oAt 12 y9 (Laws'5.val BitPosition.the-type Laws.the-laws)) ∷ []) (λ m. Put.enum .make (Logic.inl (m .1 .1 .1 .1 .1 .1 .1 .1 .1 .1 .1 .1 .0, tt)))
-              (Reads'.room-gone 𝓤 H A y11) (tt, ((Reads.reads-struct 𝓤 H A W BitPosition.the-type Laws.the-laws, Path'.refl), tt)) Path'.refl (λ m wa. Make.made-val Put.the-type Laws''.the-laws
-              ((Laws'5.val BitPosition.the-type Laws.the-laws (m .1 .1 .1 .1 .1 .1 .1 .1 .1 .1 .1 .1 .0)) ∷ []) (Put.enum .make (Logic.inl (m .1 .1 .1 .1 .1 .1 .1 .1 .1 .1 .1 .1 .0, tt))) (
-                Signed.made-wt BitPosition.the-field Laws.the-field-laws (Make'.struct-wt BitPosition.the-type Laws.the-laws (Make'.u64-wt, tt)) (BitPosition.the-type .to (m .1 .1 .1 .1 .1 .1 .1 .1 .1 .1
+          d83 = Typed.s-seq 𝓤 H A W 𝓣 E (on T30 l11) (on T101 l11) b61 b62 Δ0 (Typed.pass T30 T101 s96) at82 (Make.t-enum-make-wt 𝓤 H A W E 𝓣 Put.the-type Laws.the-laws Laws.the-plain tt (on T30 l11)
+              0 ((Scalar.oInt Syntax.w8 0) ∷ (Scalar.oAt 12 y10 (Laws'5.val BitPosition.the-type Laws'.the-laws)) ∷ []) (λ m. Put.enum .make (Logic.inl (m .1 .1 .1 .1 .1 .1 .1 .1 .1 .1 .1 .1 .0, tt)))
+              (Reads'.room-gone 𝓤 H A y11) (tt, ((Reads.reads-struct 𝓤 H A W BitPosition.the-type Laws'.the-laws, Path'.refl), tt)) Path'.refl (λ m wa. Make.made-val Put.the-type Laws.the-laws
+              ((Laws'5.val BitPosition.the-type Laws'.the-laws (m .1 .1 .1 .1 .1 .1 .1 .1 .1 .1 .1 .1 .0)) ∷ []) (Put.enum .make (Logic.inl (m .1 .1 .1 .1 .1 .1 .1 .1 .1 .1 .1 .1 .0, tt))) (
+                Signed.made-wt BitPosition.the-field Laws'.the-field-laws (Make'.struct-wt BitPosition.the-type Laws'.the-laws (Make'.u64-wt, tt)) (BitPosition.the-type .to (m .1 .1 .1 .1 .1 .1 .1 .1 .1 .1
                     .1 .1 .0)),
                 tt,
-              ) (wa .1)) λ m wa. Make.made-is Put.the-type Laws''.the-laws ((Laws'5.val BitPosition.the-type Laws.the-laws (m .1 .1 .1 .1 .1 .1 .1 .1 .1 .1 .1 .1 .0)) ∷ []) (Put.enum .make
+              ) (wa .1)) λ m wa. Make.made-is Put.the-type Laws.the-laws ((Laws'5.val BitPosition.the-type Laws'.the-laws (m .1 .1 .1 .1 .1 .1 .1 .1 .1 .1 .1 .1 .0)) ∷ []) (Put.enum .make
               (Logic.inl (m .1 .1 .1 .1 .1 .1 .1 .1 .1 .1 .1 .1 .0, tt))) (
-                Signed.made-wt BitPosition.the-field Laws.the-field-laws (Make'.struct-wt BitPosition.the-type Laws.the-laws (Make'.u64-wt, tt)) (BitPosition.the-type .to (m .1 .1 .1 .1 .1 .1 .1 .1 .1 .1
+                Signed.made-wt BitPosition.the-field Laws'.the-field-laws (Make'.struct-wt BitPosition.the-type Laws'.the-laws (Make'.u64-wt, tt)) (BitPosition.the-type .to (m .1 .1 .1 .1 .1 .1 .1 .1 .1 .1
                     .1 .1 .0)),
                 tt,
               ) (wa .1)) d82
@@ -2231,8 +2232,8 @@ module _ (claims· : Claims) where
 
           d86 : Typed.Typed 𝓤 H A 𝓣 E (on T8 l11) b66 Δ0 at86
           d86 = Typed.s-seq 𝓤 H A W 𝓣 E (on T8 l11) (on T28 l11) b10 (Syntax.seq b11 b64) Δ0 (Typed.pass T8 T28 s26) at85 (Make'.t-struct-make 𝓤 H A W E 𝓣 (Apart.apartT BitPosition.the-type)
-              Laws.the-laws Laws.the-plain (on T8 l11) 12 ((Scalar.oInt Syntax.w64 0) ∷ []) (λ m. (0, tt)) (Reads'.room-gone 𝓤 H A y9) (tt, tt) Path'.refl (λ u. Path'.refl) λ m. Make'.is-wt (Apart.apartT
-              BitPosition.the-type) Laws.the-laws (Make'.u64-wt, tt) (0, tt)) d85
+              Laws'.the-laws Laws'.the-plain (on T8 l11) 12 ((Scalar.oInt Syntax.w64 0) ∷ []) (λ m. (0, tt)) (Reads'.room-gone 𝓤 H A y10) (tt, tt) Path'.refl (λ u. Path'.refl) λ m. Make'.is-wt
+              (Apart.apartT BitPosition.the-type) Laws'.the-laws (Make'.u64-wt, tt) (0, tt)) d85
 
           d87 : Typed.Typed 𝓤 H A 𝓣 E G26 b66 Δ0 at86
           d87 = Typed.g-pre 𝓤 H A W 𝓣 E G26 (on T8 l11) b66 Δ0 (λ Ψ. Ψ) at86 (Lifetime.g-forget 𝓤 H A W E G26 6 Row.dead Path'.refl) d86
@@ -2251,8 +2252,8 @@ module _ (claims· : Claims) where
           d91 = Typed.g-pre 𝓤 H A W 𝓣 E G22 G23 b66 Δ0 (Typed.pass T22 T23 s21) at90 (Scalar.g-room 𝓤 H A W E G22 17 Syntax.tyUnit (Scalar.room-sc 𝓤 H A W Row.sUnit)) d90
 
           d92 : Typed.Typed 𝓤 H A 𝓣 E G21 (Syntax.seq b9 b66) Δ0 at92
-          d92 = Typed.s-seq 𝓤 H A W 𝓣 E G21 G22 b9 b66 Δ0 (Typed.both s20) at91 (Plain.t-call-plain 𝓤 H A W 𝓣 1 ps·4 r·4 (claims· .8) (claims· .9) "read_block::records::start_records" (known .4) E (λ pos
-              β. β) G21 (record { pos = 21; ty = y6; ref = λ x. x }, (Num.vAt 9 λ x. x, (Num.vAt 22 λ x. x, tt))) 17 (6 ∷ []) (Call.sub-id 𝓤 H A W (G21 .slots)) (
+          d92 = Typed.s-seq 𝓤 H A W 𝓣 E G21 G22 b9 b66 Δ0 (Typed.both s20) at91 (Plain.t-call-plain 𝓤 H A W 𝓣 1 ps·4 r·4 (claims· .8) (claims· .9) "read_block::records::start_records" (known .4) E (λ
+              pos β. β) G21 (record { pos = 21; ty = y6; ref = λ x. x }, (Num.vAt 9 λ x. x, (Num.vAt 22 λ x. x, tt))) 17 (6 ∷ []) (Call.sub-id 𝓤 H A W (G21 .slots)) (
                 Reads'.as-is 𝓤 H A (Mut.mslice (Element.type) y6 6),
                 Mut.reads-mslice 𝓤 H A W (Element.type) y6 6,
                 Path'.refl,
@@ -2261,8 +2262,8 @@ module _ (claims· : Claims) where
               d91
 
           d93 : Typed.Typed 𝓤 H A 𝓣 E G20 (Syntax.seq b8 (Syntax.seq b9 b66)) Δ0 at93
-          d93 = Typed.s-seq 𝓤 H A W 𝓣 E G20 G21 b8 (Syntax.seq b9 b66) Δ0 (Typed.both s19) at92 (Plain.t-call-plain 𝓤 H A W 𝓣 1 ps·3 r·3 (claims· .6) (claims· .7) "cameras::taking::base_of" (known .3) E (λ pos
-              β. β) G20 (record { pos = 7; ty = y5; ref = λ x. x }, (Num.vLit 0, tt)) 22 (4 ∷ []) (Call.sub-id 𝓤 H A W (G20 .slots))
+          d93 = Typed.s-seq 𝓤 H A W 𝓣 E G20 G21 b8 (Syntax.seq b9 b66) Δ0 (Typed.both s19) at92 (Plain.t-call-plain 𝓤 H A W 𝓣 1 ps·3 r·3 (claims· .6) (claims· .7) "cameras::taking::base_of" (known .3)
+              E (λ pos β. β) G20 (record { pos = 7; ty = y5; ref = λ x. x }, (Num.vLit 0, tt)) 22 (4 ∷ []) (Call.sub-id 𝓤 H A W (G20 .slots))
               (ShrSlice.spares-sslice 𝓤 H A W n8 y5 4, Shared.reads-sslice 𝓤 H A W n8 y5 4, Path'.refl, (tt, tt)) (Reads'.room-gone 𝓤 H A u32) (tt, tt) Path'.refl) d92
 
           d94 : Typed.Typed 𝓤 H A 𝓣 E G19 b69 Δ0 at94
@@ -2321,14 +2322,14 @@ module _ (claims· : Claims) where
               (ShrSlice.spares-sslice 𝓤 H A W n8 y5 4, Shared.reads-sslice 𝓤 H A W n8 y5 4, Path'.refl, tt) (Reads'.room-gone 𝓤 H A Syntax.tyBool) (tt, tt) Path'.refl) d105
 
           d107 : Typed.Typed 𝓤 H A 𝓣 E (on T6 l11) (Syntax.seq b1 (Syntax.seq b2 b73)) Δ0 at107
-          d107 = Typed.s-seq 𝓤 H A W 𝓣 E (on T6 l11) (on T7 l11) b1 (Syntax.seq b2 b73) Δ0 (Typed.both s5) at106 (Plain.t-call-plain 𝓤 H A W 𝓣 0 ps·0 r·0 (claims· .0) (claims· .1) "image_map::width" (known
-              .0) E (λ pos β. β) (on T6 l11) (Bool.bFld 6 ((Syntax.field 1) ∷ []) 4 λ x. Form.struct .as-values x .1 .0, tt) 10 [] (Call.sub-id 𝓤 H A W ((on T6 l11) .slots))
-              ((Reads.reads-field 𝓤 H A W Form.the-type Laws'.the-laws 1 Syntax.tyBool 4 Path'.refl, Path'.refl), tt) (Reads'.room-gone 𝓤 H A u64) tt Path'.refl) d106
+          d107 = Typed.s-seq 𝓤 H A W 𝓣 E (on T6 l11) (on T7 l11) b1 (Syntax.seq b2 b73) Δ0 (Typed.both s5) at106 (Plain.t-call-plain 𝓤 H A W 𝓣 0 ps·0 r·0 (claims· .0) (claims· .1) "image_map::width"
+              (known .0) E (λ pos β. β) (on T6 l11) (Bool.bFld 6 ((Syntax.field 1) ∷ []) 4 λ x. Form.struct .as-values x .1 .0, tt) 10 [] (Call.sub-id 𝓤 H A W ((on T6 l11) .slots))
+              ((Reads.reads-field 𝓤 H A W Form.the-type Laws'3.the-laws 1 Syntax.tyBool 4 Path'.refl, Path'.refl), tt) (Reads'.room-gone 𝓤 H A u64) tt Path'.refl) d106
 
           d108 : Typed.Typed 𝓤 H A 𝓣 E (on T0 l11) b76 Δ0 at108
           d108 = Typed.s-seq 𝓤 H A W 𝓣 E (on T0 l11) (on T6 l11) b0 (Syntax.seq b1 (Syntax.seq b2 b73)) Δ0 (Typed.pass T0 T6 s4) at107 (Scalar.t-use 𝓤 H A W E 𝓣 (on T0 l11) (Scalar.oFld 6
-              ((Syntax.field 0) ∷ []) u32 0 (Reads.fieldV Form.the-type Laws'.the-laws 0)) 9 (Rows.sc-here (Row.sInt Syntax.w32)) u32 (Row.valS (Row.sInt Syntax.w32)) (Row.sInt Syntax.w32 .of)
-              (Reads.reads-field 𝓤 H A W Form.the-type Laws'.the-laws 0 u32 0 Path'.refl, Path'.refl) (Reads'.room-gone 𝓤 H A u32) (Scalar.holds-sc 𝓤 H A W (Row.sInt Syntax.w32)) Path'.refl (λ u.
+              ((Syntax.field 0) ∷ []) u32 0 (Reads.fieldV Form.the-type Laws'3.the-laws 0)) 9 (Rows.sc-here (Row.sInt Syntax.w32)) u32 (Row.valS (Row.sInt Syntax.w32)) (Row.sInt Syntax.w32 .of)
+              (Reads.reads-field 𝓤 H A W Form.the-type Laws'3.the-laws 0 u32 0 Path'.refl, Path'.refl) (Reads'.room-gone 𝓤 H A u32) (Scalar.holds-sc 𝓤 H A W (Row.sInt Syntax.w32)) Path'.refl (λ u.
               Path'.refl) λ u. tt) d107
 
           d109 : Typed.Typed 𝓤 H A 𝓣 E (on T0 l11) b76 Δ0 at109
@@ -2357,7 +2358,7 @@ module _ (claims· : Claims) where
           pub store : Kinds.Den {n = 5} κs Bool.pBool
           pub lines : Kinds.Den {n = 5} κs (MutSlice.pMutS n16 2 tt)
           pub rs : Kinds.Den {n = 5} κs (MutSlice.pMutS (Element.type) 3 tt)
-          pub form : Kinds.Den {n = 5} κs (Values.struct Form.the-type Laws'.the-laws Laws'.the-copy Laws'.the-plain)
+          pub form : Kinds.Den {n = 5} κs (Values.struct Form.the-type Laws'3.the-laws Laws'3.the-copy Laws'3.the-plain)
           pub bases : Kinds.Den {n = 5} κs (ShrSlice.pShrS n8 4 tt)
           pub count : Kinds.Den {n = 5} κs (Num.pNum Syntax.w64)
 
@@ -3549,9 +3550,9 @@ module _ (claims· : Claims) where
         module _ {M : Type 1} (𝓤 : URA.URA M) (H : Wp.Heap 𝓤) (A : Atoms.Atoms 𝓤) (W : Kit.Given 𝓤 H A) (𝓣 : Wp.Tables 𝓤 H) (known0 : Plain.Known 𝓤 H A W 𝓣 0 ps·0 r·0 (claims· .0) (claims· .1)
             "image_map::width") (known1 : Plain.Known 𝓤 H A W 𝓣 1 ps·1 r·1 (claims· .2) (claims· .3) "write_block::is_strict") (known2 : Plain.Known 𝓤 H A W 𝓣 1 ps·2 r·2 (claims· .4) (claims· .5)
             "colour_lines::clear") (known3 : Plain.Known 𝓤 H A W 𝓣 1 ps·3 r·3 (claims· .6) (claims· .7) "cameras::taking::base_of") (known4 : Plain.Known 𝓤 H A W 𝓣 1 ps·4 r·4 (claims· .8) (claims· .9)
-            "read_block::records::start_records") (known5 : Plain.Known 𝓤 H A W 𝓣 1 ps·5 r·5 (claims· .10) (claims· .11) "colour_lines::turn") (known6 : Plain.Known 𝓤 H A W 𝓣 1 ps·6 r·6 (claims· .12) (claims· .13)
-            "read_block::reading::is_restarted") (known7 : Plain.Known 𝓤 H A W 𝓣 1 ps·7 r·7 (claims· .14) (claims· .15) "read_block::records::restart") (known8 : Plain.Known 𝓤 H A W 𝓣 0 ps·8 r·8 (claims· .16)
-            (claims· .17) "read_block::reading::quantisers_of") (known9 : Plain.Known 𝓤 H A W 𝓣 4 ps·9 r·9 (claims· .18) (claims· .19) "write_block::write_line") where
+            "read_block::records::start_records") (known5 : Plain.Known 𝓤 H A W 𝓣 1 ps·5 r·5 (claims· .10) (claims· .11) "colour_lines::turn") (known6 : Plain.Known 𝓤 H A W 𝓣 1 ps·6 r·6 (claims· .12)
+            (claims· .13) "read_block::reading::is_restarted") (known7 : Plain.Known 𝓤 H A W 𝓣 1 ps·7 r·7 (claims· .14) (claims· .15) "read_block::records::restart") (known8 : Plain.Known 𝓤 H A W 𝓣 0 ps·8
+            r·8 (claims· .16) (claims· .17) "read_block::reading::quantisers_of") (known9 : Plain.Known 𝓤 H A W 𝓣 4 ps·9 r·9 (claims· .18) (claims· .19) "write_block::write_line") where
           pub spec : Statement.Triple 𝓤 (Wp.WpFn 𝓤 H (𝓣 .C) (𝓣 .Λ) (Function.fnOf 5 ps r xs m hs body)) (Function.plainOf 𝓤 H A 5 ps r Pre· Post·)
           spec = Plain.t-fn-plain 𝓤 H A W 𝓣 5 ps r xs m hs body (λ κs qs bs. Φ) (λ κs qs bs bd. typed κs qs 𝓤 H A W 𝓣 (known0, known1, known2, known3, known4, known5, known6, known7, known8, known9)
               bs bd) Pre· Post· asked

@@ -6,10 +6,10 @@ use Rattle.bits.proofs.Values.{n16, n8, u16, u32, u64, u8}
 use mathlib.Core.List.{_∷_, []}
 use Rattle.read_block.proofs.Element
 use Prim.Native.Nat
-use Rattle.stream.proofs.header.Parsed
-use Rattle.stream.proofs.header.Parsed.Laws
 use Rattle.stream.proofs.BlockLength
-use Rattle.stream.proofs.BlockLength.Laws as Laws'
+use Rattle.stream.proofs.BlockLength.Laws
+use Rattle.stream.proofs.header.Parsed
+use Rattle.stream.proofs.header.Parsed.Laws as Laws'
 use borrow.Author.Called
 use borrow.Fn.Any
 use borrow.Fn.Call
@@ -51,12 +51,12 @@ use prog.Wp
 use types.Kit
 
 abbrev pub y0 : Syntax.Ty
-y0 = Syntax.tyEnum (104 ∷ 101 ∷ 97 ∷ 100 ∷ 101 ∷ 114 ∷ 58 ∷ 58 ∷ 82 ∷ 101 ∷ 102 ∷ 117 ∷ 115 ∷ 97 ∷ 108 ∷ []) (Syntax.ttcons Syntax.tnil (Syntax.ttcons Syntax.tnil (Syntax.ttcons Syntax.tnil
-    (Syntax.ttcons (Syntax.tcons u64 Syntax.tnil) (Syntax.ttcons Syntax.tnil (Syntax.ttcons Syntax.tnil (Syntax.ttcons Syntax.tnil (Syntax.ttcons Syntax.tnil (Syntax.ttcons Syntax.tnil (Syntax.ttcons
-    Syntax.tnil (Syntax.ttcons (Syntax.tcons u64 Syntax.tnil) (Syntax.ttcons (Syntax.tcons u64 Syntax.tnil) (Syntax.ttcons Syntax.tnil (Syntax.ttcons (Syntax.tcons u64 (Syntax.tcons u64 Syntax.tnil))
-    (Syntax.ttcons (Syntax.tcons u64 Syntax.tnil) (Syntax.ttcons Syntax.tnil (Syntax.ttcons Syntax.tnil (Syntax.ttcons (Syntax.tcons u64 Syntax.tnil) (Syntax.ttcons (Syntax.tcons u64 Syntax.tnil)
-    (Syntax.ttcons (Syntax.tcons u64 Syntax.tnil) (Syntax.ttcons Syntax.tnil (Syntax.ttcons Syntax.tnil (Syntax.ttcons (Syntax.tcons u64 (Syntax.tcons u64 Syntax.tnil)) (Syntax.ttcons Syntax.tnil
-    Syntax.ttnil))))))))))))))))))))))))
+y0 = Syntax.tyEnum (115 ∷ 116 ∷ 114 ∷ 101 ∷ 97 ∷ 109 ∷ 58 ∷ 58 ∷ 104 ∷ 101 ∷ 97 ∷ 100 ∷ 101 ∷ 114 ∷ 58 ∷ 58 ∷ 82 ∷ 101 ∷ 102 ∷ 117 ∷ 115 ∷ 97 ∷ 108 ∷ []) (Syntax.ttcons Syntax.tnil (Syntax.ttcons
+    Syntax.tnil (Syntax.ttcons Syntax.tnil (Syntax.ttcons (Syntax.tcons u64 Syntax.tnil) (Syntax.ttcons Syntax.tnil (Syntax.ttcons Syntax.tnil (Syntax.ttcons Syntax.tnil (Syntax.ttcons Syntax.tnil
+    (Syntax.ttcons Syntax.tnil (Syntax.ttcons Syntax.tnil (Syntax.ttcons (Syntax.tcons u64 Syntax.tnil) (Syntax.ttcons (Syntax.tcons u64 Syntax.tnil) (Syntax.ttcons Syntax.tnil (Syntax.ttcons
+    (Syntax.tcons u64 (Syntax.tcons u64 Syntax.tnil)) (Syntax.ttcons (Syntax.tcons u64 Syntax.tnil) (Syntax.ttcons Syntax.tnil (Syntax.ttcons Syntax.tnil (Syntax.ttcons (Syntax.tcons u64 Syntax.tnil)
+    (Syntax.ttcons (Syntax.tcons u64 Syntax.tnil) (Syntax.ttcons (Syntax.tcons u64 Syntax.tnil) (Syntax.ttcons Syntax.tnil (Syntax.ttcons Syntax.tnil (Syntax.ttcons (Syntax.tcons u64 (Syntax.tcons u64
+    Syntax.tnil)) (Syntax.ttcons Syntax.tnil (Syntax.ttcons Syntax.tnil (Syntax.ttcons (Syntax.tcons u64 Syntax.tnil) Syntax.ttnil))))))))))))))))))))))))))
 
 abbrev pub y1 : Syntax.Ty
 y1 = Syntax.tyRef (Syntax.named 0) Syntax.imm u8
@@ -86,12 +86,12 @@ abbrev pub y9 : Syntax.Ty
 y9 = Syntax.tyRef Syntax.erased Syntax.mut u8
 
 abbrev pub y10 : Syntax.Ty
-y10 = Syntax.tyStruct (104 ∷ 101 ∷ 97 ∷ 100 ∷ 101 ∷ 114 ∷ 58 ∷ 58 ∷ 70 ∷ 117 ∷ 106 ∷ 105 ∷ 72 ∷ 101 ∷ 97 ∷ 100 ∷ 101 ∷ 114 ∷ []) (Syntax.tcons Syntax.tyBool (Syntax.tcons Syntax.tyBool (Syntax.tcons
-    u32 (Syntax.tcons u32 (Syntax.tcons u32 (Syntax.tcons u32 (Syntax.tcons u32 (Syntax.tcons u32 (Syntax.tcons u32 Syntax.tnil)))))))))
+y10 = Syntax.tyStruct (115 ∷ 116 ∷ 114 ∷ 101 ∷ 97 ∷ 109 ∷ 58 ∷ 58 ∷ 104 ∷ 101 ∷ 97 ∷ 100 ∷ 101 ∷ 114 ∷ 58 ∷ 58 ∷ 70 ∷ 117 ∷ 106 ∷ 105 ∷ 72 ∷ 101 ∷ 97 ∷ 100 ∷ 101 ∷ 114 ∷ []) (Syntax.tcons
+    Syntax.tyBool (Syntax.tcons Syntax.tyBool (Syntax.tcons u32 (Syntax.tcons u32 (Syntax.tcons u32 (Syntax.tcons u32 (Syntax.tcons u32 (Syntax.tcons u32 (Syntax.tcons u32 Syntax.tnil)))))))))
 
 abbrev pub y11 : Syntax.Ty
-y11 = Syntax.tyEnum (104 ∷ 101 ∷ 97 ∷ 100 ∷ 101 ∷ 114 ∷ 58 ∷ 58 ∷ 80 ∷ 97 ∷ 114 ∷ 115 ∷ 101 ∷ 100 ∷ []) (Syntax.ttcons (Syntax.tcons y10 Syntax.tnil) (Syntax.ttcons (Syntax.tcons y0 Syntax.tnil)
-    Syntax.ttnil))
+y11 = Syntax.tyEnum (115 ∷ 116 ∷ 114 ∷ 101 ∷ 97 ∷ 109 ∷ 58 ∷ 58 ∷ 104 ∷ 101 ∷ 97 ∷ 100 ∷ 101 ∷ 114 ∷ 58 ∷ 58 ∷ 80 ∷ 97 ∷ 114 ∷ 115 ∷ 101 ∷ 100 ∷ []) (Syntax.ttcons (Syntax.tcons y10 Syntax.tnil)
+    (Syntax.ttcons (Syntax.tcons y0 Syntax.tnil) Syntax.ttnil))
 
 abbrev pub y12 : Syntax.Ty
 y12 = Syntax.tyEnum (115 ∷ 116 ∷ 114 ∷ 101 ∷ 97 ∷ 109 ∷ 58 ∷ 58 ∷ 66 ∷ 108 ∷ 111 ∷ 99 ∷ 107 ∷ 76 ∷ 101 ∷ 110 ∷ 103 ∷ 116 ∷ 104 ∷ []) (Syntax.ttcons (Syntax.tcons u64 Syntax.tnil) (Syntax.ttcons
@@ -107,7 +107,7 @@ abbrev pub ps : List.List (Kinds.PK 6)
 ps = (ShrSlice.pShrS n8 0 tt) ∷ (ShrSlice.pShrS n8 1 tt) ∷ (ShrSlice.pShrS n16 2 tt) ∷ (MutSlice.pMutS n8 3 tt) ∷ (MutSlice.pMutS n16 4 tt) ∷ (MutSlice.pMutS (Element.type) 5 tt) ∷ []
 
 abbrev pub r : Kinds.RK 6
-r = Values.enum-result BlockLength.the-type Laws'.the-laws Laws'.the-copy Laws'.the-plain tt
+r = Values.enum-result BlockLength.the-type Laws.the-laws Laws.the-copy Laws.the-plain tt
 
 abbrev pub xs : List.List Syntax.Ty
 xs = y11 ∷ u64 ∷ u64 ∷ u64 ∷ u64 ∷ y9 ∷ y14 ∷ y8 ∷ y13 ∷ y7 ∷ (Syntax.tyStruct (38 ∷ 91 ∷ 93 ∷ []) (Syntax.tcons y7 (Syntax.tcons u64 Syntax.tnil))) ∷ []
@@ -119,14 +119,14 @@ abbrev pub ps·0 : List.List (Kinds.PK 1)
 ps·0 = (ShrSlice.pShrS n8 0 tt) ∷ (Num.pNum Syntax.w64) ∷ (Num.pNum Syntax.w64) ∷ (Num.pNum Syntax.w64) ∷ (Num.pNum Syntax.w64) ∷ []
 
 abbrev pub r·0 : Kinds.RK 1
-r·0 = Values.enum-result Parsed.the-type Laws.the-laws Laws.the-copy Laws.the-plain tt
+r·0 = Values.enum-result Parsed.the-type Laws'.the-laws Laws'.the-copy Laws'.the-plain tt
 
 abbrev pub ps·1 : List.List (Kinds.PK 5)
-ps·1 = (Values.enum Parsed.the-type Laws.the-laws Laws.the-copy Laws.the-plain tt) ∷ (ShrSlice.pShrS n8 0 tt) ∷ (ShrSlice.pShrS n16 1 tt) ∷ (MutSlice.pMutS n8 2 tt) ∷ Bool.pBool ∷ (MutSlice.pMutS n16
-    3 tt) ∷ (MutSlice.pMutS (Element.type) 4 tt) ∷ []
+ps·1 = (Values.enum Parsed.the-type Laws'.the-laws Laws'.the-copy Laws'.the-plain tt) ∷ (ShrSlice.pShrS n8 0 tt) ∷ (ShrSlice.pShrS n16 1 tt) ∷ (MutSlice.pMutS n8 2 tt) ∷ Bool.pBool ∷ (MutSlice.pMutS
+    n16 3 tt) ∷ (MutSlice.pMutS (Element.type) 4 tt) ∷ []
 
 abbrev pub r·1 : Kinds.RK 5
-r·1 = Values.enum-result BlockLength.the-type Laws'.the-laws Laws'.the-copy Laws'.the-plain tt
+r·1 = Values.enum-result BlockLength.the-type Laws.the-laws Laws.the-copy Laws.the-plain tt
 
 abbrev pub hs : List.List Syntax.Home
 hs = Syntax.valueLocal ∷ Syntax.valueLocal ∷ Syntax.valueLocal ∷ Syntax.valueLocal ∷ Syntax.valueLocal ∷ Syntax.valueLocal ∷ Syntax.valueLocal ∷ Syntax.valueLocal ∷ Syntax.valueLocal ∷
@@ -503,8 +503,8 @@ module _ (claims· : Claims) where
     module _ (M : Type 1) where
       abbrev pub Closed : Type 2
       Closed = (𝓤 : URA.URA M) (H : Wp.Heap 𝓤) (A : Atoms.Atoms 𝓤) (W : Kit.Given 𝓤 H A) (𝓣 : Wp.Tables 𝓤 H) (known0 : Plain.Known 𝓤 H A W 𝓣 1 ps·0 r·0 (claims· .0) (claims· .1)
-          "admission::writing::lossy_begins") (known1 : Plain.Known 𝓤 H A W 𝓣 5 ps·1 r·1 (claims· .2) (claims· .3) "write_block::write_in") → Statement.Triple 𝓤 (Wp.WpFn 𝓤 H (𝓣 .C) (𝓣 .Λ) (Function.fnOf 6 ps
-          r xs m hs body)) (Function.plainOf 𝓤 H A 6 ps r Pre· Post·)
+          "admission::writing::lossy_begins") (known1 : Plain.Known 𝓤 H A W 𝓣 5 ps·1 r·1 (claims· .2) (claims· .3) "write_block::write_in") → Statement.Triple 𝓤 (Wp.WpFn 𝓤 H (𝓣 .C) (𝓣 .Λ) (Function.fnOf 6
+          ps r xs m hs body)) (Function.plainOf 𝓤 H A 6 ps r Pre· Post·)
 
     module _ where
       abbrev at0 : Typed.TF T1 O0
@@ -795,7 +795,7 @@ module _ (claims· : Claims) where
                 ),
               ) 0 (1 ∷ 2 ∷ 6 ∷ 7 ∷
               8 ∷ []) (Call.sub-id 𝓤 H A W (G24 .slots)) (
-                (Values.enum-copied 𝓤 H A W Parsed.the-type Laws.the-laws Laws.the-copy, Path'.refl),
+                (Values.enum-copied 𝓤 H A W Parsed.the-type Laws'.the-laws Laws'.the-copy, Path'.refl),
                 (
                   ShrSlice.spares-sslice 𝓤 H A W n8 y2 1,
                   Shared.reads-sslice 𝓤 H A W n8 y2 1,
@@ -875,9 +875,9 @@ module _ (claims· : Claims) where
           d26 = Typed.g-pre 𝓤 H A W 𝓣 E (on T11 l5) (on T12 l5) b19 Δ0 (Typed.pass T11 T12 s10) at25 (Scalar.g-room 𝓤 H A W E (on T11 l5) 8 u64 (Scalar.room-sc 𝓤 H A W (Row.sInt Syntax.w64))) d25
 
           d27 : Typed.Typed 𝓤 H A 𝓣 E (on T10 l5) (Syntax.seq b4 b19) Δ0 at27
-          d27 = Typed.s-seq 𝓤 H A W 𝓣 E (on T10 l5) (on T11 l5) b4 b19 Δ0 (Typed.both s9) at26 (Plain.t-call-plain 𝓤 H A W 𝓣 1 ps·0 r·0 (claims· .0) (claims· .1) "admission::writing::lossy_begins" (known
-              .0) E (λ pos β. β) (on T10 l5) (record { pos = 1; ty = y1; ref = λ x. x }, (Num.vAt 8 λ x. x, (Num.vAt 9 λ x. x, (Num.vAt 10 λ x. x, (Num.vAt 11 λ x. x, tt))))) 7 (0 ∷ []) (Call.sub-id 𝓤 H
-              A W ((on T10 l5) .slots)) (
+          d27 = Typed.s-seq 𝓤 H A W 𝓣 E (on T10 l5) (on T11 l5) b4 b19 Δ0 (Typed.both s9) at26 (Plain.t-call-plain 𝓤 H A W 𝓣 1 ps·0 r·0 (claims· .0) (claims· .1) "admission::writing::lossy_begins"
+              (known .0) E (λ pos β. β) (on T10 l5) (record { pos = 1; ty = y1; ref = λ x. x }, (Num.vAt 8 λ x. x, (Num.vAt 9 λ x. x, (Num.vAt 10 λ x. x, (Num.vAt 11 λ x. x, tt))))) 7 (0 ∷ [])
+              (Call.sub-id 𝓤 H A W ((on T10 l5) .slots)) (
                 ShrSlice.spares-sslice 𝓤 H A W n8 y1 0,
                 Shared.reads-sslice 𝓤 H A W n8 y1 0,
                 Path'.refl,

@@ -1,7 +1,7 @@
 -- Written by tools/lend.py from Rattle's derivation of the twin of `write_block`; not edited by hand. Assumes nothing.
-use Rattle.admission.proofs.writing.lossy_begins.Met
-use Rattle.admission.proofs.writing.lossy_begins.Reads
-use Rattle.admission.proofs.writing.lossy_begins.Symbol
+use Rattle.admission.proofs.lossy_begins.Met
+use Rattle.admission.proofs.lossy_begins.Reads
+use Rattle.admission.proofs.lossy_begins.Symbol
 use Rattle.write_block.proofs.write_in.Met as Met'
 use Rattle.write_block.proofs.derived.write_in.Reads as Reads'
 use Rattle.write_block.proofs.write_in.Symbol as Symbol'
@@ -52,5 +52,5 @@ module _ {M : Type 1} where
   close = λ closed 𝓤 H 𝓜 𝓖 𝓡. Written.close 6 Kinds.ps Kinds.r Reads''.Ghost Reads''.requires Reads''.ensures Reads''.pre-read Reads''.Pinned Reads''.Owned Reads''.post-read record
       { M = M; 𝓤 = 𝓤; H = H; 𝓜 = 𝓜; 𝓖 = 𝓖; 𝓡 = 𝓡 } Code.env Key.name Code.function (Code.unfolded 𝓤 H 𝓜 𝓡) (λ κs a g. tt) (λ κs. Reads''.owns κs record { M = M; 𝓤 = 𝓤; H = H; 𝓜 = 𝓜; 𝓖 = 𝓖; 𝓡 = 𝓡 })
       (Reads''.passes record { M = M; 𝓤 = 𝓤; H = H; 𝓜 = 𝓜; 𝓖 = 𝓖; 𝓡 = 𝓡 }) λ g. closed 𝓤 H (𝓖 .A) (Running.givenOf 𝓤 H 𝓜 𝓖) (Run.Over 𝓤 H 𝓜 𝓖 𝓡 Code.env) (Reads.known record
-      { M = M; 𝓤 = 𝓤; H = H; 𝓜 = 𝓜; 𝓖 = 𝓖; 𝓡 = 𝓡 } Code.env Symbol.name Symbol.routine Code.calls-admission·writing·lossy-begins (Met.met 𝓤 H 𝓜 𝓖 𝓡)) (Reads'.known record
+      { M = M; 𝓤 = 𝓤; H = H; 𝓜 = 𝓜; 𝓖 = 𝓖; 𝓡 = 𝓡 } Code.env Symbol.name Symbol.routine Code.calls-admission·lossy-begins (Met.met 𝓤 H 𝓜 𝓖 𝓡)) (Reads'.known record
       { M = M; 𝓤 = 𝓤; H = H; 𝓜 = 𝓜; 𝓖 = 𝓖; 𝓡 = 𝓡 } Code.env Symbol'.name Symbol'.routine Code.calls-write-block·write-in (Met'.met 𝓤 H 𝓜 𝓖 𝓡))

@@ -6,14 +6,14 @@ use Rattle.bits.proofs.Values.{n16, n8, u16, u32, u64, u8}
 use mathlib.Core.List.{_∷_, []}
 use Rattle.read_block.proofs.Element
 use Prim.Native.Nat
-use Rattle.read_block.proofs.Form
-use Rattle.read_block.proofs.Form.Laws
-use Rattle.write_block.proofs.counted.Next
-use Rattle.write_block.proofs.counted.Next.Laws as Laws'
 use Rattle.bit_output.proofs.Put
-use Rattle.bit_output.proofs.Put.Laws as Laws''
+use Rattle.bit_output.proofs.Put.Laws
+use Rattle.read_block.proofs.Form
+use Rattle.read_block.proofs.Form.Laws as Laws'
 use Rattle.stream.proofs.BlockLength
-use Rattle.stream.proofs.BlockLength.Laws as Laws'3
+use Rattle.stream.proofs.BlockLength.Laws as Laws''
+use Rattle.write_block.proofs.counted.Next
+use Rattle.write_block.proofs.counted.Next.Laws as Laws'3
 use borrow.Author.Called
 use borrow.Enum.Known
 use borrow.Enum.Match
@@ -68,12 +68,12 @@ use types.Kit
 use types.Run
 
 abbrev pub y0 : Syntax.Ty
-y0 = Syntax.tyEnum (104 ∷ 101 ∷ 97 ∷ 100 ∷ 101 ∷ 114 ∷ 58 ∷ 58 ∷ 82 ∷ 101 ∷ 102 ∷ 117 ∷ 115 ∷ 97 ∷ 108 ∷ []) (Syntax.ttcons Syntax.tnil (Syntax.ttcons Syntax.tnil (Syntax.ttcons Syntax.tnil
-    (Syntax.ttcons (Syntax.tcons u64 Syntax.tnil) (Syntax.ttcons Syntax.tnil (Syntax.ttcons Syntax.tnil (Syntax.ttcons Syntax.tnil (Syntax.ttcons Syntax.tnil (Syntax.ttcons Syntax.tnil (Syntax.ttcons
-    Syntax.tnil (Syntax.ttcons (Syntax.tcons u64 Syntax.tnil) (Syntax.ttcons (Syntax.tcons u64 Syntax.tnil) (Syntax.ttcons Syntax.tnil (Syntax.ttcons (Syntax.tcons u64 (Syntax.tcons u64 Syntax.tnil))
-    (Syntax.ttcons (Syntax.tcons u64 Syntax.tnil) (Syntax.ttcons Syntax.tnil (Syntax.ttcons Syntax.tnil (Syntax.ttcons (Syntax.tcons u64 Syntax.tnil) (Syntax.ttcons (Syntax.tcons u64 Syntax.tnil)
-    (Syntax.ttcons (Syntax.tcons u64 Syntax.tnil) (Syntax.ttcons Syntax.tnil (Syntax.ttcons Syntax.tnil (Syntax.ttcons (Syntax.tcons u64 (Syntax.tcons u64 Syntax.tnil)) (Syntax.ttcons Syntax.tnil
-    Syntax.ttnil))))))))))))))))))))))))
+y0 = Syntax.tyEnum (115 ∷ 116 ∷ 114 ∷ 101 ∷ 97 ∷ 109 ∷ 58 ∷ 58 ∷ 104 ∷ 101 ∷ 97 ∷ 100 ∷ 101 ∷ 114 ∷ 58 ∷ 58 ∷ 82 ∷ 101 ∷ 102 ∷ 117 ∷ 115 ∷ 97 ∷ 108 ∷ []) (Syntax.ttcons Syntax.tnil (Syntax.ttcons
+    Syntax.tnil (Syntax.ttcons Syntax.tnil (Syntax.ttcons (Syntax.tcons u64 Syntax.tnil) (Syntax.ttcons Syntax.tnil (Syntax.ttcons Syntax.tnil (Syntax.ttcons Syntax.tnil (Syntax.ttcons Syntax.tnil
+    (Syntax.ttcons Syntax.tnil (Syntax.ttcons Syntax.tnil (Syntax.ttcons (Syntax.tcons u64 Syntax.tnil) (Syntax.ttcons (Syntax.tcons u64 Syntax.tnil) (Syntax.ttcons Syntax.tnil (Syntax.ttcons
+    (Syntax.tcons u64 (Syntax.tcons u64 Syntax.tnil)) (Syntax.ttcons (Syntax.tcons u64 Syntax.tnil) (Syntax.ttcons Syntax.tnil (Syntax.ttcons Syntax.tnil (Syntax.ttcons (Syntax.tcons u64 Syntax.tnil)
+    (Syntax.ttcons (Syntax.tcons u64 Syntax.tnil) (Syntax.ttcons (Syntax.tcons u64 Syntax.tnil) (Syntax.ttcons Syntax.tnil (Syntax.ttcons Syntax.tnil (Syntax.ttcons (Syntax.tcons u64 (Syntax.tcons u64
+    Syntax.tnil)) (Syntax.ttcons Syntax.tnil (Syntax.ttcons Syntax.tnil (Syntax.ttcons (Syntax.tcons u64 Syntax.tnil) Syntax.ttnil))))))))))))))))))))))))))
 
 abbrev pub y1 : Syntax.Ty
 y1 = Syntax.tyRef (Syntax.named 0) Syntax.imm u16
@@ -100,17 +100,18 @@ abbrev pub y8 : Syntax.Ty
 y8 = Syntax.tyRef Syntax.erased Syntax.mut u8
 
 abbrev pub y9 : Syntax.Ty
-y9 = Syntax.tyStruct (98 ∷ 105 ∷ 116 ∷ 115 ∷ 58 ∷ 58 ∷ 66 ∷ 105 ∷ 116 ∷ 80 ∷ 111 ∷ 115 ∷ 105 ∷ 116 ∷ 105 ∷ 111 ∷ 110 ∷ []) (Syntax.tcons u64 Syntax.tnil)
+y9 = Syntax.tyStruct (114 ∷ 101 ∷ 97 ∷ 100 ∷ 95 ∷ 98 ∷ 108 ∷ 111 ∷ 99 ∷ 107 ∷ 58 ∷ 58 ∷ 70 ∷ 111 ∷ 114 ∷ 109 ∷ []) (Syntax.tcons u32 (Syntax.tcons Syntax.tyBool Syntax.tnil))
 
 abbrev pub y10 : Syntax.Ty
-y10 = Syntax.tyStruct (98 ∷ 108 ∷ 111 ∷ 99 ∷ 107 ∷ 58 ∷ 58 ∷ 70 ∷ 111 ∷ 114 ∷ 109 ∷ []) (Syntax.tcons u32 (Syntax.tcons Syntax.tyBool Syntax.tnil))
+y10 = Syntax.tyStruct (98 ∷ 105 ∷ 116 ∷ 115 ∷ 58 ∷ 58 ∷ 66 ∷ 105 ∷ 116 ∷ 80 ∷ 111 ∷ 115 ∷ 105 ∷ 116 ∷ 105 ∷ 111 ∷ 110 ∷ []) (Syntax.tcons u64 Syntax.tnil)
 
 abbrev pub y11 : Syntax.Ty
-y11 = Syntax.tyEnum (111 ∷ 117 ∷ 116 ∷ 112 ∷ 117 ∷ 116 ∷ 58 ∷ 58 ∷ 80 ∷ 117 ∷ 116 ∷ []) (Syntax.ttcons (Syntax.tcons y9 Syntax.tnil) (Syntax.ttcons (Syntax.tcons u64 Syntax.tnil) Syntax.ttnil))
+y11 = Syntax.tyEnum (115 ∷ 116 ∷ 114 ∷ 101 ∷ 97 ∷ 109 ∷ 58 ∷ 58 ∷ 66 ∷ 108 ∷ 111 ∷ 99 ∷ 107 ∷ 76 ∷ 101 ∷ 110 ∷ 103 ∷ 116 ∷ 104 ∷ []) (Syntax.ttcons (Syntax.tcons u64 Syntax.tnil) (Syntax.ttcons
+    (Syntax.tcons y0 Syntax.tnil) Syntax.ttnil))
 
 abbrev pub y12 : Syntax.Ty
-y12 = Syntax.tyEnum (115 ∷ 116 ∷ 114 ∷ 101 ∷ 97 ∷ 109 ∷ 58 ∷ 58 ∷ 66 ∷ 108 ∷ 111 ∷ 99 ∷ 107 ∷ 76 ∷ 101 ∷ 110 ∷ 103 ∷ 116 ∷ 104 ∷ []) (Syntax.ttcons (Syntax.tcons u64 Syntax.tnil) (Syntax.ttcons
-    (Syntax.tcons y0 Syntax.tnil) Syntax.ttnil))
+y12 = Syntax.tyEnum (98 ∷ 105 ∷ 116 ∷ 95 ∷ 111 ∷ 117 ∷ 116 ∷ 112 ∷ 117 ∷ 116 ∷ 58 ∷ 58 ∷ 80 ∷ 117 ∷ 116 ∷ []) (Syntax.ttcons (Syntax.tcons y10 Syntax.tnil) (Syntax.ttcons (Syntax.tcons u64
+    Syntax.tnil) Syntax.ttnil))
 
 abbrev pub y13 : Syntax.Ty
 y13 = Syntax.tyStruct (38 ∷ 91 ∷ 93 ∷ []) (Syntax.tcons y6 (Syntax.tcons u64 Syntax.tnil))
@@ -122,48 +123,48 @@ abbrev pub y15 : Syntax.Ty
 y15 = Syntax.tyStruct (38 ∷ 91 ∷ 93 ∷ []) (Syntax.tcons y8 (Syntax.tcons u64 Syntax.tnil))
 
 abbrev pub y16 : Syntax.Ty
-y16 = Syntax.tyEnum (99 ∷ 111 ∷ 117 ∷ 110 ∷ 116 ∷ 101 ∷ 100 ∷ 58 ∷ 58 ∷ 78 ∷ 101 ∷ 120 ∷ 116 ∷ []) (Syntax.ttcons (Syntax.tcons y12 Syntax.tnil) (Syntax.ttcons (Syntax.tcons y9 Syntax.tnil)
-    Syntax.ttnil))
+y16 = Syntax.tyEnum (119 ∷ 114 ∷ 105 ∷ 116 ∷ 101 ∷ 95 ∷ 98 ∷ 108 ∷ 111 ∷ 99 ∷ 107 ∷ 58 ∷ 58 ∷ 99 ∷ 111 ∷ 117 ∷ 110 ∷ 116 ∷ 101 ∷ 100 ∷ 58 ∷ 58 ∷ 78 ∷ 101 ∷ 120 ∷ 116 ∷ []) (Syntax.ttcons (Syntax.tcons
+    y11 Syntax.tnil) (Syntax.ttcons (Syntax.tcons y10 Syntax.tnil) Syntax.ttnil))
 
 abbrev pub ps : List.List (Kinds.PK 5)
-ps = (ShrSlice.pShrS n16 0 tt) ∷ (MutSlice.pMutS n8 1 tt) ∷ Bool.pBool ∷ (MutSlice.pMutS n16 2 tt) ∷ (MutSlice.pMutS (Element.type) 3 tt) ∷ (Values.struct Form.the-type Laws.the-laws Laws.the-copy
-    Laws.the-plain) ∷ (ShrSlice.pShrS n8 4 tt) ∷ (Num.pNum Syntax.w64) ∷ []
+ps = (ShrSlice.pShrS n16 0 tt) ∷ (MutSlice.pMutS n8 1 tt) ∷ Bool.pBool ∷ (MutSlice.pMutS n16 2 tt) ∷ (MutSlice.pMutS (Element.type) 3 tt) ∷ (Values.struct Form.the-type Laws'.the-laws Laws'.the-copy
+    Laws'.the-plain) ∷ (ShrSlice.pShrS n8 4 tt) ∷ (Num.pNum Syntax.w64) ∷ []
 
 abbrev pub r : Kinds.RK 5
-r = Values.enum-result BlockLength.the-type Laws'3.the-laws Laws'3.the-copy Laws'3.the-plain tt
+r = Values.enum-result BlockLength.the-type Laws''.the-laws Laws''.the-copy Laws''.the-plain tt
 
 abbrev pub xs : List.List Syntax.Ty
-xs = y11 ∷ y16 ∷ y12 ∷ Syntax.tyBool ∷ y7 ∷ y14 ∷ u64 ∷ y8 ∷ y15 ∷ y7 ∷ y14 ∷ y6 ∷ y13 ∷ y8 ∷ y15 ∷ y7 ∷ y14 ∷ y6 ∷ y13 ∷ y12 ∷ y8 ∷ y15 ∷ y7 ∷ y14 ∷ y6 ∷ y13 ∷ []
+xs = y12 ∷ y16 ∷ y11 ∷ Syntax.tyBool ∷ y7 ∷ y14 ∷ u64 ∷ y8 ∷ y15 ∷ y7 ∷ y14 ∷ y6 ∷ y13 ∷ y8 ∷ y15 ∷ y7 ∷ y14 ∷ y6 ∷ y13 ∷ y11 ∷ y8 ∷ y15 ∷ y7 ∷ y14 ∷ y6 ∷ y13 ∷ []
 
 abbrev pub m : Nat.ℕ
 m = 10
 
 abbrev pub ps·0 : List.List (Kinds.PK 3)
-ps·0 = (ShrSlice.pShrS n16 0 tt) ∷ (MutSlice.pMutS n16 1 tt) ∷ (Values.struct Form.the-type Laws.the-laws Laws.the-copy Laws.the-plain) ∷ (ShrSlice.pShrS n8 2 tt) ∷ (Num.pNum Syntax.w64) ∷ Bool.pBool
-    ∷ (Num.pNum Syntax.w64) ∷ []
+ps·0 = (ShrSlice.pShrS n16 0 tt) ∷ (MutSlice.pMutS n16 1 tt) ∷ (Values.struct Form.the-type Laws'.the-laws Laws'.the-copy Laws'.the-plain) ∷ (ShrSlice.pShrS n8 2 tt) ∷ (Num.pNum Syntax.w64) ∷
+    Bool.pBool ∷ (Num.pNum Syntax.w64) ∷ []
 
 abbrev pub r·0 : Kinds.RK 3
 r·0 = Bool.rBool
 
 abbrev pub ps·1 : List.List (Kinds.PK 5)
-ps·1 = (ShrSlice.pShrS n16 0 tt) ∷ (MutSlice.pMutS n8 1 tt) ∷ (MutSlice.pMutS n16 2 tt) ∷ (MutSlice.pMutS (Element.type) 3 tt) ∷ (Values.struct Form.the-type Laws.the-laws Laws.the-copy
-    Laws.the-plain) ∷ (ShrSlice.pShrS n8 4 tt) ∷ (Num.pNum Syntax.w64) ∷ []
+ps·1 = (ShrSlice.pShrS n16 0 tt) ∷ (MutSlice.pMutS n8 1 tt) ∷ (MutSlice.pMutS n16 2 tt) ∷ (MutSlice.pMutS (Element.type) 3 tt) ∷ (Values.struct Form.the-type Laws'.the-laws Laws'.the-copy
+    Laws'.the-plain) ∷ (ShrSlice.pShrS n8 4 tt) ∷ (Num.pNum Syntax.w64) ∷ []
 
 abbrev pub r·1 : Kinds.RK 5
-r·1 = Values.enum-result BlockLength.the-type Laws'3.the-laws Laws'3.the-copy Laws'3.the-plain tt
+r·1 = Values.enum-result BlockLength.the-type Laws''.the-laws Laws''.the-copy Laws''.the-plain tt
 
 abbrev pub ps·2 : List.List (Kinds.PK 5)
-ps·2 = (ShrSlice.pShrS n16 0 tt) ∷ (MutSlice.pMutS n8 1 tt) ∷ Bool.pBool ∷ (MutSlice.pMutS n16 2 tt) ∷ (MutSlice.pMutS (Element.type) 3 tt) ∷ (Values.struct Form.the-type Laws.the-laws Laws.the-copy
-    Laws.the-plain) ∷ (ShrSlice.pShrS n8 4 tt) ∷ (Num.pNum Syntax.w64) ∷ []
+ps·2 = (ShrSlice.pShrS n16 0 tt) ∷ (MutSlice.pMutS n8 1 tt) ∷ Bool.pBool ∷ (MutSlice.pMutS n16 2 tt) ∷ (MutSlice.pMutS (Element.type) 3 tt) ∷ (Values.struct Form.the-type Laws'.the-laws Laws'.the-copy
+    Laws'.the-plain) ∷ (ShrSlice.pShrS n8 4 tt) ∷ (Num.pNum Syntax.w64) ∷ []
 
 abbrev pub r·2 : Kinds.RK 5
-r·2 = Values.enum-result Put.the-type Laws''.the-laws Laws''.the-copy Laws''.the-plain tt
+r·2 = Values.enum-result Put.the-type Laws.the-laws Laws.the-copy Laws.the-plain tt
 
 abbrev pub ps·3 : List.List (Kinds.PK 0)
-ps·3 = (Values.enum Put.the-type Laws''.the-laws Laws''.the-copy Laws''.the-plain tt) ∷ Bool.pBool ∷ (Num.pNum Syntax.w64) ∷ []
+ps·3 = (Values.enum Put.the-type Laws.the-laws Laws.the-copy Laws.the-plain tt) ∷ Bool.pBool ∷ (Num.pNum Syntax.w64) ∷ []
 
 abbrev pub r·3 : Kinds.RK 0
-r·3 = Values.enum-result Next.the-type Laws'.the-laws Laws'.the-copy Laws'.the-plain tt
+r·3 = Values.enum-result Next.the-type Laws'3.the-laws Laws'3.the-copy Laws'3.the-plain tt
 
 abbrev pub hs : List.List Syntax.Home
 hs = Syntax.valueLocal ∷ Syntax.valueLocal ∷ Syntax.valueLocal ∷ Syntax.valueLocal ∷ Syntax.valueLocal ∷ Syntax.valueLocal ∷ Syntax.valueLocal ∷ Syntax.valueLocal ∷ Syntax.valueLocal ∷
@@ -320,7 +321,7 @@ abbrev pub Claims : Type 1
 Claims = Kinds.In 3 ps·0 × Kinds.Out 3 ps·0 r·0 × Kinds.In 5 ps·1 × Kinds.Out 5 ps·1 r·1 × Kinds.In 5 ps·2 × Kinds.Out 5 ps·2 r·2 × Kinds.In 0 ps·3 × Kinds.Out 0 ps·3 r·3
 
 abbrev pub v0 : Row.Row
-v0 = Rows.any-gone y12
+v0 = Rows.any-gone y11
 
 abbrev pub v1 : Row.Row
 v1 = Rows.any-gone y7
@@ -356,7 +357,7 @@ abbrev pub v11 : Row.Row
 v11 = Rows.any-gone y15
 
 abbrev pub v12 : Row.Row
-v12 = Rows.any-gone y11
+v12 = Rows.any-gone y12
 
 abbrev pub v13 : Row.Row
 v13 = Rows.any-gone y6
@@ -377,7 +378,7 @@ abbrev pub v18 : Row.Row
 v18 = Mut.mslice n16 y3 2
 
 abbrev pub v19 : Row.Row
-v19 = Rows.any-gone y10
+v19 = Rows.any-gone y9
 
 abbrev pub v20 : Row.Row
 v20 = Rows.whole (Declared.row BlockLength.the-type)
@@ -905,10 +906,10 @@ module _ (claims· : Claims) where
   )
 
   abbrev s24 : Typed.Both T26 T27
-  s24 = Call.callB ps·1 r·1 (claims· .2) (claims· .3) T26 a1 0 (0 ∷ 6 ∷ 7 ∷ 8 ∷ 4 ∷ []) y12
+  s24 = Call.callB ps·1 r·1 (claims· .2) (claims· .3) T26 a1 0 (0 ∷ 6 ∷ 7 ∷ 8 ∷ 4 ∷ []) y11
 
   abbrev s25 : Typed.Mo T27 → Typed.Mo T28
-  s25 = Scalar.n-room T27 6 y10
+  s25 = Scalar.n-room T27 6 y9
 
   abbrev s27 : Typed.Both T28 T30
   s27 = Relend.k-back-sl n8 T28 17 2 1 6 y2 y8 Row.off (λ x. x) λ x. x
@@ -968,7 +969,7 @@ module _ (claims· : Claims) where
   )
 
   abbrev s49 : Typed.Both T51 T52
-  s49 = Call.callB ps·2 r·2 (claims· .4) (claims· .5) T51 a3 9 (0 ∷ 9 ∷ 10 ∷ 11 ∷ 4 ∷ []) y11
+  s49 = Call.callB ps·2 r·2 (claims· .4) (claims· .5) T51 a3 9 (0 ∷ 9 ∷ 10 ∷ 11 ∷ 4 ∷ []) y12
 
   abbrev s51 : Typed.Both T52 T54
   s51 = Relend.k-back-sl n8 T52 23 2 1 9 y2 y8 Row.off (λ x. x) λ x. x
@@ -992,7 +993,7 @@ module _ (claims· : Claims) where
   s62 = Call.callB ps·3 r·3 (claims· .6) (claims· .7) T64 (record { pos = 9; st = []; d = 0; at = λ x. x }, (Bool.bAt 3 λ x. x, (Num.vAt 15 λ x. x, tt))) 10 [] y16
 
   abbrev s63 : Typed.Mo T65 → Typed.Mo T67
-  s63 = Scalar.n-room T65 9 y11
+  s63 = Scalar.n-room T65 9 y12
 
   abbrev s64 : Typed.Mo T67 → Typed.Mo T68
   s64 = Scalar.n-room T67 15 u64
@@ -1001,10 +1002,10 @@ module _ (claims· : Claims) where
   s65 = Known.k-enum-known Next.enum 0 T68 10 λ x. x
 
   abbrev s66 : Typed.Gives T69 T69
-  s66 = Known.k-known-told Next.enum Laws'.the-laws 0 T69 10 λ x. x
+  s66 = Known.k-known-told Next.enum Laws'3.the-laws 0 T69 10 λ x. x
 
   abbrev s67 : Typed.Mo T69 → Typed.Mo T71
-  s67 = Scalar.n-room T69 6 y10
+  s67 = Scalar.n-room T69 6 y9
 
   abbrev s68 : Typed.Mo T71 → Typed.Mo T72
   s68 = Make.n-make (Declared.row BlockLength.the-type) T71 11 λ m. m .1 .1 .1 .1 .1 .1 .1 .1 .1 .1 .0 .0
@@ -1016,7 +1017,7 @@ module _ (claims· : Claims) where
   s70 = LocalCopy.n-val-copy T73 11 28 (Declared.row BlockLength.the-type) (Rows.whole (Declared.row BlockLength.the-type)) (Rows.whole (Declared.row BlockLength.the-type)) (λ x. x) (λ x. x) λ x. x
 
   abbrev s71 : Typed.Mo T74 → Typed.Mo T66
-  s71 = Scalar.n-room T74 11 y12
+  s71 = Scalar.n-room T74 11 y11
 
   abbrev s72 : Typed.Both T68 T68
   s72 = Known.k-enum-told Next.enum 1 T68 10 λ x. x
@@ -1055,10 +1056,10 @@ module _ (claims· : Claims) where
   )
 
   abbrev s83 : Typed.Both T86 T87
-  s83 = Call.callB ps·1 r·1 (claims· .2) (claims· .3) T86 a2 28 (0 ∷ 12 ∷ 13 ∷ 14 ∷ 4 ∷ []) y12
+  s83 = Call.callB ps·1 r·1 (claims· .2) (claims· .3) T86 a2 28 (0 ∷ 12 ∷ 13 ∷ 14 ∷ 4 ∷ []) y11
 
   abbrev s84 : Typed.Mo T87 → Typed.Mo T88
-  s84 = Scalar.n-room T87 6 y10
+  s84 = Scalar.n-room T87 6 y9
 
   abbrev s86 : Typed.Both T88 T90
   s86 = Relend.k-back-sl n8 T88 30 2 1 12 y2 y8 Row.off (λ x. x) λ x. x
@@ -1079,7 +1080,7 @@ module _ (claims· : Claims) where
   s96 = LocalCopy.n-val-copy T66 28 0 (Declared.row BlockLength.the-type) (Rows.whole (Declared.row BlockLength.the-type)) (Rows.whole (Declared.row BlockLength.the-type)) (λ x. x) (λ x. x) λ x. x
 
   abbrev s97 : Typed.Mo T100 → Typed.Mo T38
-  s97 = Scalar.n-room T100 28 y12
+  s97 = Scalar.n-room T100 28 y11
 
   abbrev s98 : Typed.Mo T38 → Typed.Mo T40
   s98 = Scalar.n-room T38 3 Syntax.tyBool
@@ -1092,8 +1093,8 @@ module _ (claims· : Claims) where
       abbrev pub Closed : Type 2
       Closed = (𝓤 : URA.URA M) (H : Wp.Heap 𝓤) (A : Atoms.Atoms 𝓤) (W : Kit.Given 𝓤 H A) (𝓣 : Wp.Tables 𝓤 H) (known0 : Plain.Known 𝓤 H A W 𝓣 3 ps·0 r·0 (claims· .0) (claims· .1)
           "write_block::is_sure") (known1 : Plain.Known 𝓤 H A W 𝓣 5 ps·1 r·1 (claims· .2) (claims· .3) "write_block::write_stored") (known2 : Plain.Known 𝓤 H A W 𝓣 5 ps·2 r·2 (claims· .4) (claims· .5)
-          "write_block::write_walk") (known3 : Plain.Known 𝓤 H A W 𝓣 0 ps·3 r·3 (claims· .6) (claims· .7) "write_block::counted::after_counting") → Statement.Triple 𝓤 (Wp.WpFn 𝓤 H (𝓣 .C) (𝓣 .Λ) (Function.fnOf 5 ps r
-          xs m hs body)) (Function.plainOf 𝓤 H A 5 ps r Pre· Post·)
+          "write_block::write_walk") (known3 : Plain.Known 𝓤 H A W 𝓣 0 ps·3 r·3 (claims· .6) (claims· .7) "write_block::counted::after_counting") → Statement.Triple 𝓤 (Wp.WpFn 𝓤 H (𝓣 .C) (𝓣 .Λ)
+          (Function.fnOf 5 ps r xs m hs body)) (Function.plainOf 𝓤 H A 5 ps r Pre· Post·)
 
     module _ where
       abbrev at0 : Typed.TF T1 O1
@@ -1803,7 +1804,7 @@ module _ (claims· : Claims) where
           d13 = Typed.g-pre 𝓤 H A W 𝓣 E G28 G29 b11 Δ1 (λ Ψ. Ψ) at12 (Lifetime.g-end 𝓤 H A W E G28 6 Path'.refl) d12
 
           d14 : Typed.Typed 𝓤 H A 𝓣 E G27 b11 Δ1 at14
-          d14 = Typed.g-pre 𝓤 H A W 𝓣 E G27 G28 b11 Δ1 (Typed.pass T27 T28 s25) at12 (Scalar.g-room 𝓤 H A W E G27 6 y10 (Local.room-whole 𝓤 H A W (Declared'.row Form.the-type) y10 Path'.refl)) d13
+          d14 = Typed.g-pre 𝓤 H A W 𝓣 E G27 G28 b11 Δ1 (Typed.pass T27 T28 s25) at12 (Scalar.g-room 𝓤 H A W E G27 6 y9 (Local.room-whole 𝓤 H A W (Declared'.row Form.the-type) y9 Path'.refl)) d13
 
           d15 : Typed.Typed 𝓤 H A 𝓣 E G26 (Syntax.seq b10 b11) Δ1 at15
           d15 = Typed.s-seq 𝓤 H A W 𝓣 E G26 G27 b10 b11 Δ1 (Typed.both s24) at14 (Plain.t-call-plain 𝓤 H A W 𝓣 5 ps·1 r·1 (claims· .2) (claims· .3) "write_block::write_stored" (known .1) E (λ pos β.
@@ -1834,13 +1835,13 @@ module _ (claims· : Claims) where
                       Mut.reads-mslice 𝓤 H A W (Element.type) y6 8,
                       Path'.refl,
                       (
-                        (Values.struct-copied 𝓤 H A W Form.the-type Laws.the-laws Laws.the-copy, Path'.refl),
+                        (Values.struct-copied 𝓤 H A W Form.the-type Laws'.the-laws Laws'.the-copy, Path'.refl),
                         (ShrSlice.spares-sslice 𝓤 H A W n8 y5 4, Shared.reads-sslice 𝓤 H A W n8 y5 4, Path'.refl, ((Scalar.reads-sc 𝓤 H A W (Row.sInt Syntax.w64), Path'.refl), tt)),
                       ),
                     ),
                   ),
                 ),
-              ) (Reads.room-gone 𝓤 H A y12)
+              ) (Reads.room-gone 𝓤 H A y11)
               (tt, (tt, (tt, (tt, (tt, tt))))) Path'.refl) d14
 
           d16 : Typed.Typed 𝓤 H A 𝓣 E G25 (Syntax.seq b9 (Syntax.seq b10 b11)) Δ1 at16
@@ -1917,11 +1918,11 @@ module _ (claims· : Claims) where
 
           d34 : Typed.Typed 𝓤 H A 𝓣 E (on T73 l17) b31 Δ2 at34
           d34 = Typed.s-typed 𝓤 H A W 𝓣 E (on T73 l17) b31 Δ2 (λ Ψ. Typed.pass T73 T74 s70 (Typed.pass T74 T66 s71 Ψ)) tt (Typed.g-post 𝓤 H A W 𝓣 E (on T73 l17) (on T74 l17) (on T66 l17) b31
-              (Typed.pass T73 T74 s70) (Typed.pass T74 T66 s71) (LocalCopy.t-val-copy 𝓤 H A W E 𝓣 (λ ρ. Unit) (on T73 l17) 11 28 (Declared.row BlockLength.the-type) y12 y12 (Rows.whole (Declared.row
+              (Typed.pass T73 T74 s70) (Typed.pass T74 T66 s71) (LocalCopy.t-val-copy 𝓤 H A W E 𝓣 (λ ρ. Unit) (on T73 l17) 11 28 (Declared.row BlockLength.the-type) y11 y11 (Rows.whole (Declared.row
               BlockLength.the-type)) (Rows.whole (Declared.row BlockLength.the-type)) (λ x. x) (λ x. x) (λ x. x) Path'.refl (Own.told-none 𝓤 H A ((on T73 l17) .slots)) (Values.enum-copied 𝓤 H A W
-              BlockLength.the-type Laws'3.the-laws Laws'3.the-copy) (Reads.room-gone 𝓤 H A y12) (Yields.makes-mem 𝓤 H A W (λ ρ. Unit) (Declared.row BlockLength.the-type) Path'.refl (Rows.whole
-              (Declared.row BlockLength.the-type)) (λ x. x) λ ρ told. Local.whole-mem 𝓤 H A W (Declared.row BlockLength.the-type) ρ) Path'.refl Path'.refl) (Scalar.g-room 𝓤 H A W E (on T74 l17) 11 y12
-              (Local.room-whole 𝓤 H A W (Declared.row BlockLength.the-type) y12 Path'.refl)))
+              BlockLength.the-type Laws''.the-laws Laws''.the-copy) (Reads.room-gone 𝓤 H A y11) (Yields.makes-mem 𝓤 H A W (λ ρ. Unit) (Declared.row BlockLength.the-type) Path'.refl (Rows.whole
+              (Declared.row BlockLength.the-type)) (λ x. x) λ ρ told. Local.whole-mem 𝓤 H A W (Declared.row BlockLength.the-type) ρ) Path'.refl Path'.refl) (Scalar.g-room 𝓤 H A W E (on T74 l17) 11 y11
+              (Local.room-whole 𝓤 H A W (Declared.row BlockLength.the-type) y11 Path'.refl)))
 
           d35 : Typed.Typed 𝓤 H A 𝓣 E (on T72 l17) b31 Δ2 at35
           d35 = Typed.g-pre 𝓤 H A W 𝓣 E (on T72 l17) (on T73 l17) b31 Δ2 (Typed.pass T72 T73 s69) at34 (Scalar.g-room 𝓤 H A W E (on T72 l17) 10 y16 (Local.room-whole 𝓤 H A W (Known.Known Next.enum 0)
@@ -1929,23 +1930,23 @@ module _ (claims· : Claims) where
 
           d36 : Typed.Typed 𝓤 H A 𝓣 E (on T71 l17) b32 Δ2 at36
           d36 = Typed.s-seq 𝓤 H A W 𝓣 E (on T71 l17) (on T72 l17) b30 b31 Δ2 (Typed.pass T71 T72 s68) at35 (CopyOut.t-copy-told 𝓤 H A W E 𝓣 (Declared.row BlockLength.the-type) Path'.refl (Laws'4.val
-              BlockLength.the-type Laws'3.the-laws) (Laws'4.lawful BlockLength.the-type Laws'3.the-laws 𝓤 H A W tt) (Laws'4.makes BlockLength.the-type Laws'3.the-plain 𝓤 H A) (on T71 l17) 11 (Scalar.oFld
-              10 ((Syntax.variant 0) ∷ (Syntax.field 1) ∷ []) y12 8 λ v. Laws'4.val BlockLength.the-type Laws'3.the-laws (v .0)) (λ m. m .1 .1 .1 .1 .1 .1 .1 .1 .1 .1 .0 .0) (λ m. Laws'4.Fields
-              (Declared.variants Next.the-type) (Laws'4.spellss (Next.enum .parts) Laws'.the-laws) (Next.the-type .to (Known.at Next.enum 0 (m .1 .1 .1 .1 .1 .1 .1 .1 .1 .1 .0)))) (Reads.room-gone 𝓤 H A
-              y12) (
-                Match.reads-payload 𝓤 H A W Next.enum Laws'.the-laws 0 Path'.refl Path'.refl (λ v. Val.vcons (Laws'4.val BlockLength.the-type Laws'3.the-laws (v .0)) Val.vnil) (λ v. Path'.refl) 0 y12 8
+              BlockLength.the-type Laws''.the-laws) (Laws'4.lawful BlockLength.the-type Laws''.the-laws 𝓤 H A W tt) (Laws'4.makes BlockLength.the-type Laws''.the-plain 𝓤 H A) (on T71 l17) 11 (Scalar.oFld
+              10 ((Syntax.variant 0) ∷ (Syntax.field 1) ∷ []) y11 8 λ v. Laws'4.val BlockLength.the-type Laws''.the-laws (v .0)) (λ m. m .1 .1 .1 .1 .1 .1 .1 .1 .1 .1 .0 .0) (λ m. Laws'4.Fields
+              (Declared.variants Next.the-type) (Laws'4.spellss (Next.enum .parts) Laws'3.the-laws) (Next.the-type .to (Known.at Next.enum 0 (m .1 .1 .1 .1 .1 .1 .1 .1 .1 .1 .0)))) (Reads.room-gone 𝓤 H A
+              y11) (
+                Match.reads-payload 𝓤 H A W Next.enum Laws'3.the-laws 0 Path'.refl Path'.refl (λ v. Val.vcons (Laws'4.val BlockLength.the-type Laws''.the-laws (v .0)) Val.vnil) (λ v. Path'.refl) 0 y11 8
                     Path'.refl,
                 Path'.refl,
               ) Path'.refl (λ ρ m. Make.tells-row 𝓤 H A W E ρ (Row.out 11 ((on T71 l17) .locals)) m 10 (Laws'4.Fields (Declared.variants Next.the-type) (Laws'4.spellss (Next.enum
-              .parts) Laws'.the-laws) (Next.the-type .to (Known.at Next.enum 0 (m .1 .1 .1 .1 .1 .1 .1 .1 .1 .1 .0)))) (Known.known-is 𝓤 H A W E Next.enum 0 Laws'.the-laws ρ 10 (m .1 .1 .1 .1 .1 .1 .1 .1
-              .1 .1 .0))) (λ m k wa. Path'.refl) λ m k wa. k .0) d35
+              .parts) Laws'3.the-laws) (Next.the-type .to (Known.at Next.enum 0 (m .1 .1 .1 .1 .1 .1 .1 .1 .1 .1 .0)))) (Known.known-is 𝓤 H A W E Next.enum 0 Laws'3.the-laws ρ 10 (m .1 .1 .1 .1 .1 .1 .1
+              .1 .1 .1 .0))) (λ m k wa. Path'.refl) λ m k wa. k .0) d35
 
           d37 : Typed.Typed 𝓤 H A 𝓣 E (on T69 l17) b32 Δ2 at37
-          d37 = Typed.g-pre 𝓤 H A W 𝓣 E (on T69 l17) (on T71 l17) b32 Δ2 (Typed.pass T69 T71 s67) at36 (Scalar.g-room 𝓤 H A W E (on T69 l17) 6 y10 (Local.room-whole 𝓤 H A W (Declared'.row
-              Form.the-type) y10 Path'.refl)) d36
+          d37 = Typed.g-pre 𝓤 H A W 𝓣 E (on T69 l17) (on T71 l17) b32 Δ2 (Typed.pass T69 T71 s67) at36 (Scalar.g-room 𝓤 H A W E (on T69 l17) 6 y9 (Local.room-whole 𝓤 H A W (Declared'.row
+              Form.the-type) y9 Path'.refl)) d36
 
           d38 : Typed.Typed 𝓤 H A 𝓣 E (on T69 l17) b32 Δ2 at38
-          d38 = Typed.g-pre 𝓤 H A W 𝓣 E (on T69 l17) (on T69 l17) b32 Δ2 (Typed.give s66) at37 (Known.g-known-told 𝓤 H A W E Next.enum 0 (on T69 l17) 10 Laws'.the-laws (λ x. x) (Reads.as-is 𝓤 H A
+          d38 = Typed.g-pre 𝓤 H A W 𝓣 E (on T69 l17) (on T69 l17) b32 Δ2 (Typed.give s66) at37 (Known.g-known-told 𝓤 H A W E Next.enum 0 (on T69 l17) 10 Laws'3.the-laws (λ x. x) (Reads.as-is 𝓤 H A
               (Rows.whole (Known.Known Next.enum 0)))) d37
 
           d39 : Typed.Typed 𝓤 H A 𝓣 E (on T68 l17) b32 Δ2 at39
@@ -1990,14 +1991,14 @@ module _ (claims· : Claims) where
                       Mut.reads-mslice 𝓤 H A W (Element.type) y6 14,
                       Path'.refl,
                       (
-                        (Values.struct-copied 𝓤 H A W Form.the-type Laws.the-laws Laws.the-copy, Path'.refl),
+                        (Values.struct-copied 𝓤 H A W Form.the-type Laws'.the-laws Laws'.the-copy, Path'.refl),
                         (ShrSlice.spares-sslice 𝓤 H A W n8 y5 4, Shared.reads-sslice 𝓤 H A W n8 y5 4, Path'.refl, ((Scalar.reads-sc 𝓤 H A W (Row.sInt Syntax.w64), Path'.refl), tt)),
                       ),
                     ),
                   ),
                 ),
-              ) (Reads.room-gone 𝓤 H A y12)
-              (tt, (tt, (tt, (tt, (tt, tt))))) Path'.refl) (Scalar.g-room 𝓤 H A W E G87 6 y10 (Local.room-whole 𝓤 H A W (Declared'.row Form.the-type) y10 Path'.refl))) (Lifetime.g-end 𝓤 H A W E G88 12
+              ) (Reads.room-gone 𝓤 H A y11)
+              (tt, (tt, (tt, (tt, (tt, tt))))) Path'.refl) (Scalar.g-room 𝓤 H A W E G87 6 y9 (Local.room-whole 𝓤 H A W (Declared'.row Form.the-type) y9 Path'.refl))) (Lifetime.g-end 𝓤 H A W E G88 12
               Path'.refl)) (Relend.g-back-sl 𝓤 H A W E n8 G89 30 2 1 12 y2 y8 k1 (λ x. x) (λ x. x) (Reads.as-is 𝓤 H A (Mut.msleft n8 y8)) (Reads.as-is 𝓤 H A (Relend.mslice-owed n8 y2 1 12 k1)) Path'.refl
               Path'.refl)) (Know.g-sl-known 𝓤 H A W (Referent.fInt Syntax.w8) E G90 2 1 y2 k1 0 (λ x. x) record { fits = Dec'.lit< tt } (Reads.as-is 𝓤 H A (Mut.mslice n8 y2 1)) Path'.refl tt))
               (Lifetime.g-forget 𝓤 H A W E G90 12 Row.dead Path'.refl)) (Lifetime.g-end 𝓤 H A W E G92 13 Path'.refl)) (Relend.g-back-sl 𝓤 H A W E n16 G93 32 4 2 13 y3 y7 k2 (λ x. x) (λ x. x) (Reads.as-is
@@ -2058,15 +2059,15 @@ module _ (claims· : Claims) where
           d52 : Typed.Typed 𝓤 H A 𝓣 E (on T68 l17) b46 Δ2 at52
           d52 = Switch.t-switch-on 𝓤 H A W E 𝓣 (on T68 l17) (Scalar.oFld 10 ((Syntax.variant 0) ∷ (Syntax.field 0) ∷ []) u8 0 λ x. Val.vint Syntax.w8 (Declared.tagOf Next.the-type x)) Syntax.w8 (λ u.
               Declared.tagOf Next.the-type (u .1 .1 .1 .1 .1 .1 .1 .1 .1 .1 .0)) (Syntax.arm (0 ∷ []) b32 (Syntax.arm (1 ∷ []) b45 Syntax.noDefault)) Δ2 (at39, (at51, tt))
-              (Match.reads-tag 𝓤 H A W Next.the-type Laws'.the-laws (Rows.whole (Declared.row Next.the-type)) 0 (λ x. x) (Whole.reads-enum 𝓤 H A W Next.the-type Laws'.the-laws), Path'.refl) (λ u.
+              (Match.reads-tag 𝓤 H A W Next.the-type Laws'3.the-laws (Rows.whole (Declared.row Next.the-type)) 0 (λ x. x) (Whole.reads-enum 𝓤 H A W Next.the-type Laws'3.the-laws), Path'.refl) (λ u.
               Path'.refl) (d39, (d51, tt))
 
           d53 : Typed.Typed 𝓤 H A 𝓣 E (on T67 l17) b46 Δ2 at53
           d53 = Typed.g-pre 𝓤 H A W 𝓣 E (on T67 l17) (on T68 l17) b46 Δ2 (Typed.pass T67 T68 s64) at52 (Scalar.g-room 𝓤 H A W E (on T67 l17) 15 u64 (Scalar.room-sc 𝓤 H A W (Row.sInt Syntax.w64))) d52
 
           d54 : Typed.Typed 𝓤 H A 𝓣 E (on T65 l17) b46 Δ2 at54
-          d54 = Typed.g-pre 𝓤 H A W 𝓣 E (on T65 l17) (on T67 l17) b46 Δ2 (Typed.pass T65 T67 s63) at53 (Scalar.g-room 𝓤 H A W E (on T65 l17) 9 y11 (Local.room-whole 𝓤 H A W (Declared.row Put.the-type)
-              y11 Path'.refl)) d53
+          d54 = Typed.g-pre 𝓤 H A W 𝓣 E (on T65 l17) (on T67 l17) b46 Δ2 (Typed.pass T65 T67 s63) at53 (Scalar.g-room 𝓤 H A W E (on T65 l17) 9 y12 (Local.room-whole 𝓤 H A W (Declared.row Put.the-type)
+              y12 Path'.refl)) d53
 
           d55 : Typed.Typed 𝓤 H A 𝓣 E (on T1 l17) b48 Δ0 at55
           d55 = Typed.t-return 𝓤 H A W 𝓣 E Δ0 tt
@@ -2078,13 +2079,13 @@ module _ (claims· : Claims) where
           d57 = Typed.g-pre 𝓤 H A W 𝓣 E (on T38 l17) (on T40 l17) b48 Δ0 (Typed.pass T38 T40 s98) at56 (Scalar.g-room 𝓤 H A W E (on T38 l17) 3 Syntax.tyBool (Scalar.room-sc 𝓤 H A W Row.sBool)) d56
 
           d58 : Typed.Typed 𝓤 H A 𝓣 E (on T100 l17) b48 Δ0 at58
-          d58 = Typed.g-pre 𝓤 H A W 𝓣 E (on T100 l17) (on T38 l17) b48 Δ0 (Typed.pass T100 T38 s97) at57 (Scalar.g-room 𝓤 H A W E (on T100 l17) 28 y12 (Local.room-whole 𝓤 H A W (Declared.row
-              BlockLength.the-type) y12 Path'.refl)) d57
+          d58 = Typed.g-pre 𝓤 H A W 𝓣 E (on T100 l17) (on T38 l17) b48 Δ0 (Typed.pass T100 T38 s97) at57 (Scalar.g-room 𝓤 H A W E (on T100 l17) 28 y11 (Local.room-whole 𝓤 H A W (Declared.row
+              BlockLength.the-type) y11 Path'.refl)) d57
 
           d59 : Typed.Typed 𝓤 H A 𝓣 E (on T66 l17) (Syntax.seq b47 b48) Δ0 at59
           d59 = Typed.s-seq 𝓤 H A W 𝓣 E (on T66 l17) (on T100 l17) b47 b48 Δ0 (Typed.pass T66 T100 s96) at58 (LocalCopy.t-val-copy 𝓤 H A W E 𝓣 (λ ρ. Unit) (on T66 l17) 28 0 (Declared.row
-              BlockLength.the-type) y12 y12 (Rows.whole (Declared.row BlockLength.the-type)) (Rows.whole (Declared.row BlockLength.the-type)) (λ x. x) (λ x. x) (λ x. x) Path'.refl (Own.told-none 𝓤 H A
-              ((on T66 l17) .slots)) (Values.enum-copied 𝓤 H A W BlockLength.the-type Laws'3.the-laws Laws'3.the-copy) (Reads.room-gone 𝓤 H A y12) (Yields.makes-mem 𝓤 H A W (λ ρ. Unit) (Declared.row
+              BlockLength.the-type) y11 y11 (Rows.whole (Declared.row BlockLength.the-type)) (Rows.whole (Declared.row BlockLength.the-type)) (λ x. x) (λ x. x) (λ x. x) Path'.refl (Own.told-none 𝓤 H A
+              ((on T66 l17) .slots)) (Values.enum-copied 𝓤 H A W BlockLength.the-type Laws''.the-laws Laws''.the-copy) (Reads.room-gone 𝓤 H A y11) (Yields.makes-mem 𝓤 H A W (λ ρ. Unit) (Declared.row
               BlockLength.the-type) Path'.refl (Rows.whole (Declared.row BlockLength.the-type)) (λ x. x) λ ρ told. Local.whole-mem 𝓤 H A W (Declared.row BlockLength.the-type) ρ) Path'.refl Path'.refl) d58
 
           d60 : Typed.Typed 𝓤 H A 𝓣 E (on T65 l17) (Syntax.seq b46 (Syntax.seq b47 b48)) Δ0 at60
@@ -2092,9 +2093,9 @@ module _ (claims· : Claims) where
 
           d61 : Typed.Typed 𝓤 H A 𝓣 E (on T64 l17) b51 Δ0 at61
           d61 = Typed.s-seq 𝓤 H A W 𝓣 E (on T64 l17) (on T65 l17) b29 (Syntax.seq b46 (Syntax.seq b47 b48)) Δ0 (Typed.both s62) at60 (Plain.t-call-plain 𝓤 H A W 𝓣 0 ps·3 r·3 (claims· .6) (claims· .7)
-              "write_block::counted::after_counting" (known .3) E (λ pos β. β) (on T64 l17) (record { pos = 9; st = []; d = 0; at = λ x. x }, (Bool.bAt 3 λ x. x, (Num.vAt 15 λ x. x, tt))) 10 [] (Call.sub-id 𝓤 H A W
-              ((on T64 l17) .slots)) (
-                (Values.enum-copied 𝓤 H A W Put.the-type Laws''.the-laws Laws''.the-copy, Path'.refl),
+              "write_block::counted::after_counting" (known .3) E (λ pos β. β) (on T64 l17) (record { pos = 9; st = []; d = 0; at = λ x. x }, (Bool.bAt 3 λ x. x, (Num.vAt 15 λ x. x, tt))) 10 []
+              (Call.sub-id 𝓤 H A W ((on T64 l17) .slots)) (
+                (Values.enum-copied 𝓤 H A W Put.the-type Laws.the-laws Laws.the-copy, Path'.refl),
                 ((Scalar.reads-sc 𝓤 H A W Row.sBool, Path'.refl), ((Scalar.reads-sc 𝓤 H A W (Row.sInt Syntax.w64), Path'.refl), tt)),
               ) (Reads.room-gone 𝓤 H A y16) tt Path'.refl) d60
 
@@ -2175,14 +2176,14 @@ module _ (claims· : Claims) where
                         Mut.reads-mslice 𝓤 H A W (Element.type) y6 11,
                         Path'.refl,
                         (
-                          (Values.struct-copied 𝓤 H A W Form.the-type Laws.the-laws Laws.the-copy, Path'.refl),
+                          (Values.struct-copied 𝓤 H A W Form.the-type Laws'.the-laws Laws'.the-copy, Path'.refl),
                           (ShrSlice.spares-sslice 𝓤 H A W n8 y5 4, Shared.reads-sslice 𝓤 H A W n8 y5 4, Path'.refl, ((Scalar.reads-sc 𝓤 H A W (Row.sInt Syntax.w64), Path'.refl), tt)),
                         ),
                       ),
                     ),
                   ),
                 ),
-              ) (Reads.room-gone 𝓤 H A y11)
+              ) (Reads.room-gone 𝓤 H A y12)
               (tt, (tt, (tt, (tt, (tt, tt))))) Path'.refl) d73
 
           d75 : Typed.Typed 𝓤 H A 𝓣 E G50 (Syntax.seq b26 (Syntax.seq b27 b52)) Δ0 at75
@@ -2248,7 +2249,7 @@ module _ (claims· : Claims) where
                   Mut.reads-mslice 𝓤 H A W n16 y7 5,
                   Path'.refl,
                   (
-                    (Values.struct-copied 𝓤 H A W Form.the-type Laws.the-laws Laws.the-copy, Path'.refl),
+                    (Values.struct-copied 𝓤 H A W Form.the-type Laws'.the-laws Laws'.the-copy, Path'.refl),
                     (
                       ShrSlice.spares-sslice 𝓤 H A W n8 y5 4,
                       Shared.reads-sslice 𝓤 H A W n8 y5 4,
@@ -2305,7 +2306,7 @@ module _ (claims· : Claims) where
           pub measure : Kinds.Den {n = 5} κs Bool.pBool
           pub lines : Kinds.Den {n = 5} κs (MutSlice.pMutS n16 2 tt)
           pub rs : Kinds.Den {n = 5} κs (MutSlice.pMutS (Element.type) 3 tt)
-          pub form : Kinds.Den {n = 5} κs (Values.struct Form.the-type Laws.the-laws Laws.the-copy Laws.the-plain)
+          pub form : Kinds.Den {n = 5} κs (Values.struct Form.the-type Laws'.the-laws Laws'.the-copy Laws'.the-plain)
           pub bases : Kinds.Den {n = 5} κs (ShrSlice.pShrS n8 4 tt)
           pub count : Kinds.Den {n = 5} κs (Num.pNum Syntax.w64)
 

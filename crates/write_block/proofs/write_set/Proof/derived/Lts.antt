@@ -8,10 +8,10 @@ use Rattle.read_block.proofs.Element
 use Prim.Native.Nat
 use Rattle.read_block.proofs.Form
 use Rattle.read_block.proofs.Form.Laws
-use Rattle.stream.proofs.header.Refusal
-use Rattle.stream.proofs.header.Refusal.Laws as Laws'
 use Rattle.stream.proofs.BlockLength
-use Rattle.stream.proofs.BlockLength.Laws as Laws''
+use Rattle.stream.proofs.BlockLength.Laws as Laws'
+use Rattle.stream.proofs.header.Refusal
+use Rattle.stream.proofs.header.Refusal.Laws as Laws''
 use borrow.Author.Called
 use borrow.Author.Tests
 use borrow.Enum.Make
@@ -64,12 +64,12 @@ use prog.Wp
 use types.Kit
 
 abbrev pub y0 : Syntax.Ty
-y0 = Syntax.tyEnum (104 ∷ 101 ∷ 97 ∷ 100 ∷ 101 ∷ 114 ∷ 58 ∷ 58 ∷ 82 ∷ 101 ∷ 102 ∷ 117 ∷ 115 ∷ 97 ∷ 108 ∷ []) (Syntax.ttcons Syntax.tnil (Syntax.ttcons Syntax.tnil (Syntax.ttcons Syntax.tnil
-    (Syntax.ttcons (Syntax.tcons u64 Syntax.tnil) (Syntax.ttcons Syntax.tnil (Syntax.ttcons Syntax.tnil (Syntax.ttcons Syntax.tnil (Syntax.ttcons Syntax.tnil (Syntax.ttcons Syntax.tnil (Syntax.ttcons
-    Syntax.tnil (Syntax.ttcons (Syntax.tcons u64 Syntax.tnil) (Syntax.ttcons (Syntax.tcons u64 Syntax.tnil) (Syntax.ttcons Syntax.tnil (Syntax.ttcons (Syntax.tcons u64 (Syntax.tcons u64 Syntax.tnil))
-    (Syntax.ttcons (Syntax.tcons u64 Syntax.tnil) (Syntax.ttcons Syntax.tnil (Syntax.ttcons Syntax.tnil (Syntax.ttcons (Syntax.tcons u64 Syntax.tnil) (Syntax.ttcons (Syntax.tcons u64 Syntax.tnil)
-    (Syntax.ttcons (Syntax.tcons u64 Syntax.tnil) (Syntax.ttcons Syntax.tnil (Syntax.ttcons Syntax.tnil (Syntax.ttcons (Syntax.tcons u64 (Syntax.tcons u64 Syntax.tnil)) (Syntax.ttcons Syntax.tnil
-    Syntax.ttnil))))))))))))))))))))))))
+y0 = Syntax.tyEnum (115 ∷ 116 ∷ 114 ∷ 101 ∷ 97 ∷ 109 ∷ 58 ∷ 58 ∷ 104 ∷ 101 ∷ 97 ∷ 100 ∷ 101 ∷ 114 ∷ 58 ∷ 58 ∷ 82 ∷ 101 ∷ 102 ∷ 117 ∷ 115 ∷ 97 ∷ 108 ∷ []) (Syntax.ttcons Syntax.tnil (Syntax.ttcons
+    Syntax.tnil (Syntax.ttcons Syntax.tnil (Syntax.ttcons (Syntax.tcons u64 Syntax.tnil) (Syntax.ttcons Syntax.tnil (Syntax.ttcons Syntax.tnil (Syntax.ttcons Syntax.tnil (Syntax.ttcons Syntax.tnil
+    (Syntax.ttcons Syntax.tnil (Syntax.ttcons Syntax.tnil (Syntax.ttcons (Syntax.tcons u64 Syntax.tnil) (Syntax.ttcons (Syntax.tcons u64 Syntax.tnil) (Syntax.ttcons Syntax.tnil (Syntax.ttcons
+    (Syntax.tcons u64 (Syntax.tcons u64 Syntax.tnil)) (Syntax.ttcons (Syntax.tcons u64 Syntax.tnil) (Syntax.ttcons Syntax.tnil (Syntax.ttcons Syntax.tnil (Syntax.ttcons (Syntax.tcons u64 Syntax.tnil)
+    (Syntax.ttcons (Syntax.tcons u64 Syntax.tnil) (Syntax.ttcons (Syntax.tcons u64 Syntax.tnil) (Syntax.ttcons Syntax.tnil (Syntax.ttcons Syntax.tnil (Syntax.ttcons (Syntax.tcons u64 (Syntax.tcons u64
+    Syntax.tnil)) (Syntax.ttcons Syntax.tnil (Syntax.ttcons Syntax.tnil (Syntax.ttcons (Syntax.tcons u64 Syntax.tnil) Syntax.ttnil))))))))))))))))))))))))))
 
 abbrev pub y1 : Syntax.Ty
 y1 = Syntax.tyRef (Syntax.named 0) Syntax.imm u16
@@ -96,7 +96,7 @@ abbrev pub y8 : Syntax.Ty
 y8 = Syntax.tyRef Syntax.erased Syntax.mut u8
 
 abbrev pub y9 : Syntax.Ty
-y9 = Syntax.tyStruct (98 ∷ 108 ∷ 111 ∷ 99 ∷ 107 ∷ 58 ∷ 58 ∷ 70 ∷ 111 ∷ 114 ∷ 109 ∷ []) (Syntax.tcons u32 (Syntax.tcons Syntax.tyBool Syntax.tnil))
+y9 = Syntax.tyStruct (114 ∷ 101 ∷ 97 ∷ 100 ∷ 95 ∷ 98 ∷ 108 ∷ 111 ∷ 99 ∷ 107 ∷ 58 ∷ 58 ∷ 70 ∷ 111 ∷ 114 ∷ 109 ∷ []) (Syntax.tcons u32 (Syntax.tcons Syntax.tyBool Syntax.tnil))
 
 abbrev pub y10 : Syntax.Ty
 y10 = Syntax.tyEnum (115 ∷ 116 ∷ 114 ∷ 101 ∷ 97 ∷ 109 ∷ 58 ∷ 58 ∷ 66 ∷ 108 ∷ 111 ∷ 99 ∷ 107 ∷ 76 ∷ 101 ∷ 110 ∷ 103 ∷ 116 ∷ 104 ∷ []) (Syntax.ttcons (Syntax.tcons u64 Syntax.tnil) (Syntax.ttcons
@@ -116,7 +116,7 @@ ps = (ShrSlice.pShrS n16 0 tt) ∷ (MutSlice.pMutS n8 1 tt) ∷ Bool.pBool ∷ (
     Laws.the-plain) ∷ (ShrSlice.pShrS n8 4 tt) ∷ (Num.pNum Syntax.w64) ∷ []
 
 abbrev pub r : Kinds.RK 5
-r = Values.enum-result BlockLength.the-type Laws''.the-laws Laws''.the-copy Laws''.the-plain tt
+r = Values.enum-result BlockLength.the-type Laws'.the-laws Laws'.the-copy Laws'.the-plain tt
 
 abbrev pub xs : List.List Syntax.Ty
 xs = u32 ∷ u64 ∷ Syntax.tyBool ∷ u64 ∷ Syntax.tyUnit ∷ y7 ∷ y12 ∷ y6 ∷ y11 ∷ y0 ∷ y8 ∷ y13 ∷ y7 ∷ y12 ∷ y6 ∷ y11 ∷ []
@@ -159,7 +159,7 @@ ps·5 = (ShrSlice.pShrS n16 0 tt) ∷ (MutSlice.pMutS n8 1 tt) ∷ Bool.pBool �
     Laws.the-plain) ∷ (ShrSlice.pShrS n8 4 tt) ∷ (Num.pNum Syntax.w64) ∷ []
 
 abbrev pub r·5 : Kinds.RK 5
-r·5 = Values.enum-result BlockLength.the-type Laws''.the-laws Laws''.the-copy Laws''.the-plain tt
+r·5 = Values.enum-result BlockLength.the-type Laws'.the-laws Laws'.the-copy Laws'.the-plain tt
 
 abbrev pub hs : List.List Syntax.Home
 hs = Syntax.valueLocal ∷ Syntax.valueLocal ∷ Syntax.valueLocal ∷ Syntax.valueLocal ∷ Syntax.valueLocal ∷ Syntax.valueLocal ∷ Syntax.valueLocal ∷ Syntax.valueLocal ∷ Syntax.valueLocal ∷
@@ -793,10 +793,10 @@ module _ (claims· : Claims) where
     module _ (M : Type 1) where
       abbrev pub Closed : Type 2
       Closed = (𝓤 : URA.URA M) (H : Wp.Heap 𝓤) (A : Atoms.Atoms 𝓤) (W : Kit.Given 𝓤 H A) (𝓣 : Wp.Tables 𝓤 H) (known0 : Plain.Known 𝓤 H A W 𝓣 0 ps·0 r·0 (claims· .0) (claims· .1) "quantiser::largest")
-          (known1 : Plain.Known 𝓤 H A W 𝓣 1 ps·1 r·1 (claims· .2) (claims· .3) "write_block::is_strict") (known2 : Plain.Known 𝓤 H A W 𝓣 1 ps·2 r·2 (claims· .4) (claims· .5) "admission::largest::first_above")
-          (known3 : Plain.Known 𝓤 H A W 𝓣 1 ps·3 r·3 (claims· .6) (claims· .7) "colour_lines::clear") (known4 : Plain.Known 𝓤 H A W 𝓣 1 ps·4 r·4 (claims· .8) (claims· .9) "read_block::records::clear_records") (known5
-          : Plain.Known 𝓤 H A W 𝓣 5 ps·5 r·5 (claims· .10) (claims· .11) "write_block::write_measured") → Statement.Triple 𝓤 (Wp.WpFn 𝓤 H (𝓣 .C) (𝓣 .Λ) (Function.fnOf 5 ps r xs m hs body))
-          (Function.plainOf 𝓤 H A 5 ps r Pre· Post·)
+          (known1 : Plain.Known 𝓤 H A W 𝓣 1 ps·1 r·1 (claims· .2) (claims· .3) "write_block::is_strict") (known2 : Plain.Known 𝓤 H A W 𝓣 1 ps·2 r·2 (claims· .4) (claims· .5)
+          "admission::largest::first_above") (known3 : Plain.Known 𝓤 H A W 𝓣 1 ps·3 r·3 (claims· .6) (claims· .7) "colour_lines::clear") (known4 : Plain.Known 𝓤 H A W 𝓣 1 ps·4 r·4 (claims· .8) (claims·
+          .9) "read_block::records::clear_records") (known5 : Plain.Known 𝓤 H A W 𝓣 5 ps·5 r·5 (claims· .10) (claims· .11) "write_block::write_measured") → Statement.Triple 𝓤 (Wp.WpFn 𝓤 H (𝓣 .C) (𝓣 .Λ)
+          (Function.fnOf 5 ps r xs m hs body)) (Function.plainOf 𝓤 H A 5 ps r Pre· Post·)
 
     module _ where
       abbrev at0 : Typed.TF T1 O1
@@ -966,9 +966,9 @@ module _ (claims· : Claims) where
 
       module _ {M : Type 1} (𝓤 : URA.URA M) (H : Wp.Heap 𝓤) (A : Atoms.Atoms 𝓤) (W : Kit.Given 𝓤 H A) (𝓣 : Wp.Tables 𝓤 H) where
         abbrev Knowns : Type 1
-        Knowns = Plain.Known 𝓤 H A W 𝓣 0 ps·0 r·0 (claims· .0) (claims· .1) "quantiser::largest" × Plain.Known 𝓤 H A W 𝓣 1 ps·1 r·1 (claims· .2) (claims· .3) "write_block::is_strict" × Plain.Known 𝓤
-            H A W 𝓣 1 ps·2 r·2 (claims· .4) (claims· .5) "admission::largest::first_above" × Plain.Known 𝓤 H A W 𝓣 1 ps·3 r·3 (claims· .6) (claims· .7) "colour_lines::clear" × Plain.Known 𝓤 H A W 𝓣 1 ps·4 r·4
-            (claims· .8) (claims· .9) "read_block::records::clear_records" × Plain.Known 𝓤 H A W 𝓣 5 ps·5 r·5 (claims· .10) (claims· .11) "write_block::write_measured"
+        Knowns = Plain.Known 𝓤 H A W 𝓣 0 ps·0 r·0 (claims· .0) (claims· .1) "quantiser::largest" × Plain.Known 𝓤 H A W 𝓣 1 ps·1 r·1 (claims· .2) (claims· .3) "write_block::is_strict" × Plain.Known 𝓤 H
+            A W 𝓣 1 ps·2 r·2 (claims· .4) (claims· .5) "admission::largest::first_above" × Plain.Known 𝓤 H A W 𝓣 1 ps·3 r·3 (claims· .6) (claims· .7) "colour_lines::clear" × Plain.Known 𝓤 H A W 𝓣 1 ps·4
+            r·4 (claims· .8) (claims· .9) "read_block::records::clear_records" × Plain.Known 𝓤 H A W 𝓣 5 ps·5 r·5 (claims· .10) (claims· .11) "write_block::write_measured"
 
       module _ (κs : Lifetimes.Lfts 5) (qs : Lifetimes.Shares 5) where
         abbrev k0 : Row.Life
@@ -1207,12 +1207,12 @@ module _ (claims· : Claims) where
               y0 Path'.refl)) d4
 
           d6 : Typed.Typed 𝓤 H A 𝓣 E (on T33 l8) (Syntax.seq b12 b13) Δ1 at6
-          d6 = Typed.s-seq 𝓤 H A W 𝓣 E (on T33 l8) (on T34 l8) b12 b13 Δ1 (Typed.pass T33 T34 s31) at5 (Make.t-enum-make-wt 𝓤 H A W E 𝓣 BlockLength.the-type Laws''.the-laws Laws''.the-plain tt (on T33
-              l8) 0 ((Scalar.oInt Syntax.w8 1) ∷ (Scalar.oAt 18 y0 (Laws'3.val Refusal.the-type Laws'.the-laws)) ∷ []) (λ m. BlockLength.enum .make (Logic.inr (Logic.inl
-              (m .1 .1 .1 .1 .1 .1 .1 .1 .1 .1 .1 .1 .1 .1 .1 .1 .1 .1 .0, tt)))) (Reads'.room-gone 𝓤 H A y10) (tt, ((Whole.reads-enum 𝓤 H A W Refusal.the-type Laws'.the-laws, Path'.refl), tt)) Path'.refl
-              (λ m wa. Make.made-val BlockLength.the-type Laws''.the-laws ((Laws'3.val Refusal.the-type Laws'.the-laws (m .1 .1 .1 .1 .1 .1 .1 .1 .1 .1 .1 .1 .1 .1 .1 .1 .1 .1 .0)) ∷ []) (BlockLength.enum
-              .make (Logic.inr (Logic.inl (m .1 .1 .1 .1 .1 .1 .1 .1 .1 .1 .1 .1 .1 .1 .1 .1 .1 .1 .0, tt)))) (
-                Signed.made-wt Refusal.the-field Laws'.the-field-laws (Whole.enum-wt Refusal.the-type Laws'.the-laws (
+          d6 = Typed.s-seq 𝓤 H A W 𝓣 E (on T33 l8) (on T34 l8) b12 b13 Δ1 (Typed.pass T33 T34 s31) at5 (Make.t-enum-make-wt 𝓤 H A W E 𝓣 BlockLength.the-type Laws'.the-laws Laws'.the-plain tt (on T33
+              l8) 0 ((Scalar.oInt Syntax.w8 1) ∷ (Scalar.oAt 18 y0 (Laws'3.val Refusal.the-type Laws''.the-laws)) ∷ []) (λ m. BlockLength.enum .make (Logic.inr (Logic.inl
+              (m .1 .1 .1 .1 .1 .1 .1 .1 .1 .1 .1 .1 .1 .1 .1 .1 .1 .1 .0, tt)))) (Reads'.room-gone 𝓤 H A y10) (tt, ((Whole.reads-enum 𝓤 H A W Refusal.the-type Laws''.the-laws, Path'.refl), tt))
+              Path'.refl (λ m wa. Make.made-val BlockLength.the-type Laws'.the-laws ((Laws'3.val Refusal.the-type Laws''.the-laws (m .1 .1 .1 .1 .1 .1 .1 .1 .1 .1 .1 .1 .1 .1 .1 .1 .1 .1 .0)) ∷ [])
+              (BlockLength.enum .make (Logic.inr (Logic.inl (m .1 .1 .1 .1 .1 .1 .1 .1 .1 .1 .1 .1 .1 .1 .1 .1 .1 .1 .0, tt)))) (
+                Signed.made-wt Refusal.the-field Laws''.the-field-laws (Whole.enum-wt Refusal.the-type Laws''.the-laws (
                   tt,
                   (
                     tt,
@@ -1240,7 +1240,10 @@ module _ (claims· : Claims) where
                                           tt,
                                           (
                                             (Make'.u64-wt, (Make'.u64-wt, tt)),
-                                            ((Make'.u64-wt, tt), (tt, (tt, ((Make'.u64-wt, tt), ((Make'.u64-wt, tt), ((Make'.u64-wt, tt), (tt, (tt, ((Make'.u64-wt, (Make'.u64-wt, tt)), (tt, tt)))))))))),
+                                            (
+                                              (Make'.u64-wt, tt),
+                                              (tt, (tt, ((Make'.u64-wt, tt), ((Make'.u64-wt, tt), ((Make'.u64-wt, tt), (tt, (tt, ((Make'.u64-wt, (Make'.u64-wt, tt)), (tt, (tt, ((Make'.u64-wt, tt), tt))))))))))),
+                                            ),
                                           ),
                                         ),
                                       ),
@@ -1257,10 +1260,10 @@ module _ (claims· : Claims) where
                 ))
                     (Refusal.the-type .to (m .1 .1 .1 .1 .1 .1 .1 .1 .1 .1 .1 .1 .1 .1 .1 .1 .1 .1 .0)),
                 tt,
-              ) (wa .1)) λ m wa. Make.made-is BlockLength.the-type Laws''.the-laws ((Laws'3.val Refusal.the-type
-              Laws'.the-laws (m .1 .1 .1 .1 .1 .1 .1 .1 .1 .1 .1 .1 .1 .1 .1 .1 .1 .1 .0)) ∷ []) (BlockLength.enum .make (Logic.inr (Logic.inl
+              ) (wa .1)) λ m wa. Make.made-is BlockLength.the-type Laws'.the-laws ((Laws'3.val Refusal.the-type
+              Laws''.the-laws (m .1 .1 .1 .1 .1 .1 .1 .1 .1 .1 .1 .1 .1 .1 .1 .1 .1 .1 .0)) ∷ []) (BlockLength.enum .make (Logic.inr (Logic.inl
               (m .1 .1 .1 .1 .1 .1 .1 .1 .1 .1 .1 .1 .1 .1 .1 .1 .1 .1 .0, tt)))) (
-                Signed.made-wt Refusal.the-field Laws'.the-field-laws (Whole.enum-wt Refusal.the-type Laws'.the-laws (
+                Signed.made-wt Refusal.the-field Laws''.the-field-laws (Whole.enum-wt Refusal.the-type Laws''.the-laws (
                   tt,
                   (
                     tt,
@@ -1288,7 +1291,10 @@ module _ (claims· : Claims) where
                                           tt,
                                           (
                                             (Make'.u64-wt, (Make'.u64-wt, tt)),
-                                            ((Make'.u64-wt, tt), (tt, (tt, ((Make'.u64-wt, tt), ((Make'.u64-wt, tt), ((Make'.u64-wt, tt), (tt, (tt, ((Make'.u64-wt, (Make'.u64-wt, tt)), (tt, tt)))))))))),
+                                            (
+                                              (Make'.u64-wt, tt),
+                                              (tt, (tt, ((Make'.u64-wt, tt), ((Make'.u64-wt, tt), ((Make'.u64-wt, tt), (tt, (tt, ((Make'.u64-wt, (Make'.u64-wt, tt)), (tt, (tt, ((Make'.u64-wt, tt), tt))))))))))),
+                                            ),
                                           ),
                                         ),
                                       ),
@@ -1308,16 +1314,16 @@ module _ (claims· : Claims) where
               ) (wa .1)) d5
 
           d7 : Typed.Typed 𝓤 H A 𝓣 E (on T15 l8) b15 Δ1 at7
-          d7 = Typed.s-seq 𝓤 H A W 𝓣 E (on T15 l8) (on T33 l8) b11 (Syntax.seq b12 b13) Δ1 (Typed.pass T15 T33 s30) at6 (Make.t-enum-make-wt 𝓤 H A W E 𝓣 Refusal.the-type Laws'.the-laws Laws'.the-plain
-              tt (on T15 l8) 18 ((Scalar.oInt Syntax.w8 10) ∷ (Scalar.oAt 10 u64 (Row.valS (Row.sInt Syntax.w64))) ∷ []) (λ m. Refusal.enum .make (Logic.inr (Logic.inr (Logic.inr (Logic.inr (Logic.inr
-              (Logic.inr (Logic.inr (Logic.inr (Logic.inr (Logic.inr (Logic.inl (m .1 .1 .1 .1 .1 .1 .1 .1 .1 .1 .0, tt))))))))))))) (Reads'.room-gone 𝓤 H A y0)
-              (tt, ((Scalar.reads-sc 𝓤 H A W (Row.sInt Syntax.w64), Path'.refl), tt)) Path'.refl (λ m wa. Make.made-val Refusal.the-type Laws'.the-laws ((Laws'.the-laws .1 .1 .1 .1 .1 .1 .1 .1 .1 .1 .0 .0
-              .val (m .1 .1 .1 .1 .1 .1 .1 .1 .1 .1 .0)) ∷ []) (Refusal.enum .make (Logic.inr (Logic.inr (Logic.inr (Logic.inr (Logic.inr (Logic.inr (Logic.inr (Logic.inr (Logic.inr (Logic.inr (Logic.inl
-              (m .1 .1 .1 .1 .1 .1 .1 .1 .1 .1 .0, tt)))))))))))))
-              (Signed.made-wt Field.u64-field (Laws'.the-laws .1 .1 .1 .1 .1 .1 .1 .1 .1 .1 .0 .0) Make'.u64-wt (m .1 .1 .1 .1 .1 .1 .1 .1 .1 .1 .0), tt) (wa .1)) λ m wa. Make.made-is Refusal.the-type
-              Laws'.the-laws ((Laws'.the-laws .1 .1 .1 .1 .1 .1 .1 .1 .1 .1 .0 .0 .val (m .1 .1 .1 .1 .1 .1 .1 .1 .1 .1 .0)) ∷ []) (Refusal.enum .make (Logic.inr (Logic.inr (Logic.inr (Logic.inr
+          d7 = Typed.s-seq 𝓤 H A W 𝓣 E (on T15 l8) (on T33 l8) b11 (Syntax.seq b12 b13) Δ1 (Typed.pass T15 T33 s30) at6 (Make.t-enum-make-wt 𝓤 H A W E 𝓣 Refusal.the-type Laws''.the-laws
+              Laws''.the-plain tt (on T15 l8) 18 ((Scalar.oInt Syntax.w8 10) ∷ (Scalar.oAt 10 u64 (Row.valS (Row.sInt Syntax.w64))) ∷ []) (λ m. Refusal.enum .make (Logic.inr (Logic.inr (Logic.inr
+              (Logic.inr (Logic.inr (Logic.inr (Logic.inr (Logic.inr (Logic.inr (Logic.inr (Logic.inl (m .1 .1 .1 .1 .1 .1 .1 .1 .1 .1 .0, tt))))))))))))) (Reads'.room-gone 𝓤 H A y0)
+              (tt, ((Scalar.reads-sc 𝓤 H A W (Row.sInt Syntax.w64), Path'.refl), tt)) Path'.refl (λ m wa. Make.made-val Refusal.the-type Laws''.the-laws ((Laws''.the-laws .1 .1 .1 .1 .1 .1 .1 .1 .1 .1 .0
+              .0 .val (m .1 .1 .1 .1 .1 .1 .1 .1 .1 .1 .0)) ∷ []) (Refusal.enum .make (Logic.inr (Logic.inr (Logic.inr (Logic.inr (Logic.inr (Logic.inr (Logic.inr (Logic.inr (Logic.inr (Logic.inr
+              (Logic.inl (m .1 .1 .1 .1 .1 .1 .1 .1 .1 .1 .0, tt)))))))))))))
+              (Signed.made-wt Field.u64-field (Laws''.the-laws .1 .1 .1 .1 .1 .1 .1 .1 .1 .1 .0 .0) Make'.u64-wt (m .1 .1 .1 .1 .1 .1 .1 .1 .1 .1 .0), tt) (wa .1)) λ m wa. Make.made-is Refusal.the-type
+              Laws''.the-laws ((Laws''.the-laws .1 .1 .1 .1 .1 .1 .1 .1 .1 .1 .0 .0 .val (m .1 .1 .1 .1 .1 .1 .1 .1 .1 .1 .0)) ∷ []) (Refusal.enum .make (Logic.inr (Logic.inr (Logic.inr (Logic.inr
               (Logic.inr (Logic.inr (Logic.inr (Logic.inr (Logic.inr (Logic.inr (Logic.inl (m .1 .1 .1 .1 .1 .1 .1 .1 .1 .1 .0, tt)))))))))))))
-              (Signed.made-wt Field.u64-field (Laws'.the-laws .1 .1 .1 .1 .1 .1 .1 .1 .1 .1 .0 .0) Make'.u64-wt (m .1 .1 .1 .1 .1 .1 .1 .1 .1 .1 .0), tt) (wa .1)) d6
+              (Signed.made-wt Field.u64-field (Laws''.the-laws .1 .1 .1 .1 .1 .1 .1 .1 .1 .1 .0 .0) Make'.u64-wt (m .1 .1 .1 .1 .1 .1 .1 .1 .1 .1 .0), tt) (wa .1)) d6
 
           d8 : Typed.Typed 𝓤 H A 𝓣 E G31 b15 Δ1 at7
           d8 = Typed.g-pre 𝓤 H A W 𝓣 E G31 (on T15 l8) b15 Δ1 (λ Ψ. Ψ) at7 (Lifetime.g-forget 𝓤 H A W E G31 6 Row.dead Path'.refl) d7
@@ -1333,8 +1339,8 @@ module _ (claims· : Claims) where
           d11 = Typed.g-pre 𝓤 H A W 𝓣 E G28 G29 b15 Δ1 (Typed.pass T28 T29 s26) at9 (Scalar.g-room 𝓤 H A W E G28 13 Syntax.tyUnit (Scalar.room-sc 𝓤 H A W Row.sUnit)) d10
 
           d12 : Typed.Typed 𝓤 H A 𝓣 E G27 (Syntax.seq b10 b15) Δ1 at12
-          d12 = Typed.s-seq 𝓤 H A W 𝓣 E G27 G28 b10 b15 Δ1 (Typed.both s25) at11 (Plain.t-call-plain 𝓤 H A W 𝓣 1 ps·4 r·4 (claims· .8) (claims· .9) "read_block::records::clear_records" (known .4) E (λ pos
-              β. β) G27 (record { pos = 17; ty = y6; ref = λ x. x }, tt) 13 (6 ∷ []) (Call.sub-id 𝓤 H A W (G27 .slots))
+          d12 = Typed.s-seq 𝓤 H A W 𝓣 E G27 G28 b10 b15 Δ1 (Typed.both s25) at11 (Plain.t-call-plain 𝓤 H A W 𝓣 1 ps·4 r·4 (claims· .8) (claims· .9) "read_block::records::clear_records" (known .4) E (λ
+              pos β. β) G27 (record { pos = 17; ty = y6; ref = λ x. x }, tt) 13 (6 ∷ []) (Call.sub-id 𝓤 H A W (G27 .slots))
               (Reads'.as-is 𝓤 H A (Mut.mslice (Element.type) y6 6), Mut.reads-mslice 𝓤 H A W (Element.type) y6 6, Path'.refl, tt) (Reads'.room-gone 𝓤 H A Syntax.tyUnit) (tt, tt) Path'.refl) d11
 
           d13 : Typed.Typed 𝓤 H A 𝓣 E G26 (Syntax.seq b9 (Syntax.seq b10 b15)) Δ1 at13
@@ -2190,7 +2196,7 @@ module _ (claims· : Claims) where
 
         module _ {M : Type 1} (𝓤 : URA.URA M) (H : Wp.Heap 𝓤) (A : Atoms.Atoms 𝓤) (W : Kit.Given 𝓤 H A) (𝓣 : Wp.Tables 𝓤 H) (known0 : Plain.Known 𝓤 H A W 𝓣 0 ps·0 r·0 (claims· .0) (claims· .1)
             "quantiser::largest") (known1 : Plain.Known 𝓤 H A W 𝓣 1 ps·1 r·1 (claims· .2) (claims· .3) "write_block::is_strict") (known2 : Plain.Known 𝓤 H A W 𝓣 1 ps·2 r·2 (claims· .4) (claims· .5)
-            "admission::largest::first_above") (known3 : Plain.Known 𝓤 H A W 𝓣 1 ps·3 r·3 (claims· .6) (claims· .7) "colour_lines::clear") (known4 : Plain.Known 𝓤 H A W 𝓣 1 ps·4 r·4 (claims· .8) (claims· .9)
-            "read_block::records::clear_records") (known5 : Plain.Known 𝓤 H A W 𝓣 5 ps·5 r·5 (claims· .10) (claims· .11) "write_block::write_measured") where
+            "admission::largest::first_above") (known3 : Plain.Known 𝓤 H A W 𝓣 1 ps·3 r·3 (claims· .6) (claims· .7) "colour_lines::clear") (known4 : Plain.Known 𝓤 H A W 𝓣 1 ps·4 r·4 (claims· .8) (claims·
+            .9) "read_block::records::clear_records") (known5 : Plain.Known 𝓤 H A W 𝓣 5 ps·5 r·5 (claims· .10) (claims· .11) "write_block::write_measured") where
           pub spec : Statement.Triple 𝓤 (Wp.WpFn 𝓤 H (𝓣 .C) (𝓣 .Λ) (Function.fnOf 5 ps r xs m hs body)) (Function.plainOf 𝓤 H A 5 ps r Pre· Post·)
           spec = Plain.t-fn-plain 𝓤 H A W 𝓣 5 ps r xs m hs body (λ κs qs bs. Φ) (λ κs qs bs bd. typed κs qs 𝓤 H A W 𝓣 (known0, known1, known2, known3, known4, known5) bs bd) Pre· Post· asked

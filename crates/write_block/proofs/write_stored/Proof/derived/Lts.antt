@@ -6,16 +6,16 @@ use Rattle.bits.proofs.Values.{n16, n8, u16, u32, u64, u8}
 use mathlib.Core.List.{_∷_, []}
 use Rattle.read_block.proofs.Element
 use Prim.Native.Nat
-use Rattle.bits.proofs.BitPosition
-use Rattle.bits.proofs.BitPosition.Laws
-use Rattle.read_block.proofs.Form
-use Rattle.read_block.proofs.Form.Laws as Laws'
-use Rattle.stream.proofs.header.Refusal
-use Rattle.stream.proofs.header.Refusal.Laws as Laws''
 use Rattle.bit_output.proofs.Put
-use Rattle.bit_output.proofs.Put.Laws as Laws'3
+use Rattle.bit_output.proofs.Put.Laws
+use Rattle.bits.proofs.BitPosition
+use Rattle.bits.proofs.BitPosition.Laws as Laws'
+use Rattle.read_block.proofs.Form
+use Rattle.read_block.proofs.Form.Laws as Laws''
 use Rattle.stream.proofs.BlockLength
-use Rattle.stream.proofs.BlockLength.Laws as Laws'4
+use Rattle.stream.proofs.BlockLength.Laws as Laws'3
+use Rattle.stream.proofs.header.Refusal
+use Rattle.stream.proofs.header.Refusal.Laws as Laws'4
 use borrow.Author.Called
 use borrow.Enum.Known
 use borrow.Enum.Make
@@ -76,12 +76,12 @@ use types.Kit
 use types.Run
 
 abbrev pub y0 : Syntax.Ty
-y0 = Syntax.tyEnum (104 ∷ 101 ∷ 97 ∷ 100 ∷ 101 ∷ 114 ∷ 58 ∷ 58 ∷ 82 ∷ 101 ∷ 102 ∷ 117 ∷ 115 ∷ 97 ∷ 108 ∷ []) (Syntax.ttcons Syntax.tnil (Syntax.ttcons Syntax.tnil (Syntax.ttcons Syntax.tnil
-    (Syntax.ttcons (Syntax.tcons u64 Syntax.tnil) (Syntax.ttcons Syntax.tnil (Syntax.ttcons Syntax.tnil (Syntax.ttcons Syntax.tnil (Syntax.ttcons Syntax.tnil (Syntax.ttcons Syntax.tnil (Syntax.ttcons
-    Syntax.tnil (Syntax.ttcons (Syntax.tcons u64 Syntax.tnil) (Syntax.ttcons (Syntax.tcons u64 Syntax.tnil) (Syntax.ttcons Syntax.tnil (Syntax.ttcons (Syntax.tcons u64 (Syntax.tcons u64 Syntax.tnil))
-    (Syntax.ttcons (Syntax.tcons u64 Syntax.tnil) (Syntax.ttcons Syntax.tnil (Syntax.ttcons Syntax.tnil (Syntax.ttcons (Syntax.tcons u64 Syntax.tnil) (Syntax.ttcons (Syntax.tcons u64 Syntax.tnil)
-    (Syntax.ttcons (Syntax.tcons u64 Syntax.tnil) (Syntax.ttcons Syntax.tnil (Syntax.ttcons Syntax.tnil (Syntax.ttcons (Syntax.tcons u64 (Syntax.tcons u64 Syntax.tnil)) (Syntax.ttcons Syntax.tnil
-    Syntax.ttnil))))))))))))))))))))))))
+y0 = Syntax.tyEnum (115 ∷ 116 ∷ 114 ∷ 101 ∷ 97 ∷ 109 ∷ 58 ∷ 58 ∷ 104 ∷ 101 ∷ 97 ∷ 100 ∷ 101 ∷ 114 ∷ 58 ∷ 58 ∷ 82 ∷ 101 ∷ 102 ∷ 117 ∷ 115 ∷ 97 ∷ 108 ∷ []) (Syntax.ttcons Syntax.tnil (Syntax.ttcons
+    Syntax.tnil (Syntax.ttcons Syntax.tnil (Syntax.ttcons (Syntax.tcons u64 Syntax.tnil) (Syntax.ttcons Syntax.tnil (Syntax.ttcons Syntax.tnil (Syntax.ttcons Syntax.tnil (Syntax.ttcons Syntax.tnil
+    (Syntax.ttcons Syntax.tnil (Syntax.ttcons Syntax.tnil (Syntax.ttcons (Syntax.tcons u64 Syntax.tnil) (Syntax.ttcons (Syntax.tcons u64 Syntax.tnil) (Syntax.ttcons Syntax.tnil (Syntax.ttcons
+    (Syntax.tcons u64 (Syntax.tcons u64 Syntax.tnil)) (Syntax.ttcons (Syntax.tcons u64 Syntax.tnil) (Syntax.ttcons Syntax.tnil (Syntax.ttcons Syntax.tnil (Syntax.ttcons (Syntax.tcons u64 Syntax.tnil)
+    (Syntax.ttcons (Syntax.tcons u64 Syntax.tnil) (Syntax.ttcons (Syntax.tcons u64 Syntax.tnil) (Syntax.ttcons Syntax.tnil (Syntax.ttcons Syntax.tnil (Syntax.ttcons (Syntax.tcons u64 (Syntax.tcons u64
+    Syntax.tnil)) (Syntax.ttcons Syntax.tnil (Syntax.ttcons Syntax.tnil (Syntax.ttcons (Syntax.tcons u64 Syntax.tnil) Syntax.ttnil))))))))))))))))))))))))))
 
 abbrev pub y1 : Syntax.Ty
 y1 = Syntax.tyRef (Syntax.named 0) Syntax.imm u16
@@ -108,17 +108,18 @@ abbrev pub y8 : Syntax.Ty
 y8 = Syntax.tyRef Syntax.erased Syntax.mut u8
 
 abbrev pub y9 : Syntax.Ty
-y9 = Syntax.tyStruct (98 ∷ 105 ∷ 116 ∷ 115 ∷ 58 ∷ 58 ∷ 66 ∷ 105 ∷ 116 ∷ 80 ∷ 111 ∷ 115 ∷ 105 ∷ 116 ∷ 105 ∷ 111 ∷ 110 ∷ []) (Syntax.tcons u64 Syntax.tnil)
+y9 = Syntax.tyStruct (114 ∷ 101 ∷ 97 ∷ 100 ∷ 95 ∷ 98 ∷ 108 ∷ 111 ∷ 99 ∷ 107 ∷ 58 ∷ 58 ∷ 70 ∷ 111 ∷ 114 ∷ 109 ∷ []) (Syntax.tcons u32 (Syntax.tcons Syntax.tyBool Syntax.tnil))
 
 abbrev pub y10 : Syntax.Ty
-y10 = Syntax.tyStruct (98 ∷ 108 ∷ 111 ∷ 99 ∷ 107 ∷ 58 ∷ 58 ∷ 70 ∷ 111 ∷ 114 ∷ 109 ∷ []) (Syntax.tcons u32 (Syntax.tcons Syntax.tyBool Syntax.tnil))
+y10 = Syntax.tyStruct (98 ∷ 105 ∷ 116 ∷ 115 ∷ 58 ∷ 58 ∷ 66 ∷ 105 ∷ 116 ∷ 80 ∷ 111 ∷ 115 ∷ 105 ∷ 116 ∷ 105 ∷ 111 ∷ 110 ∷ []) (Syntax.tcons u64 Syntax.tnil)
 
 abbrev pub y11 : Syntax.Ty
-y11 = Syntax.tyEnum (111 ∷ 117 ∷ 116 ∷ 112 ∷ 117 ∷ 116 ∷ 58 ∷ 58 ∷ 80 ∷ 117 ∷ 116 ∷ []) (Syntax.ttcons (Syntax.tcons y9 Syntax.tnil) (Syntax.ttcons (Syntax.tcons u64 Syntax.tnil) Syntax.ttnil))
+y11 = Syntax.tyEnum (115 ∷ 116 ∷ 114 ∷ 101 ∷ 97 ∷ 109 ∷ 58 ∷ 58 ∷ 66 ∷ 108 ∷ 111 ∷ 99 ∷ 107 ∷ 76 ∷ 101 ∷ 110 ∷ 103 ∷ 116 ∷ 104 ∷ []) (Syntax.ttcons (Syntax.tcons u64 Syntax.tnil) (Syntax.ttcons
+    (Syntax.tcons y0 Syntax.tnil) Syntax.ttnil))
 
 abbrev pub y12 : Syntax.Ty
-y12 = Syntax.tyEnum (115 ∷ 116 ∷ 114 ∷ 101 ∷ 97 ∷ 109 ∷ 58 ∷ 58 ∷ 66 ∷ 108 ∷ 111 ∷ 99 ∷ 107 ∷ 76 ∷ 101 ∷ 110 ∷ 103 ∷ 116 ∷ 104 ∷ []) (Syntax.ttcons (Syntax.tcons u64 Syntax.tnil) (Syntax.ttcons
-    (Syntax.tcons y0 Syntax.tnil) Syntax.ttnil))
+y12 = Syntax.tyEnum (98 ∷ 105 ∷ 116 ∷ 95 ∷ 111 ∷ 117 ∷ 116 ∷ 112 ∷ 117 ∷ 116 ∷ 58 ∷ 58 ∷ 80 ∷ 117 ∷ 116 ∷ []) (Syntax.ttcons (Syntax.tcons y10 Syntax.tnil) (Syntax.ttcons (Syntax.tcons u64
+    Syntax.tnil) Syntax.ttnil))
 
 abbrev pub y13 : Syntax.Ty
 y13 = Syntax.tyStruct (38 ∷ 91 ∷ 93 ∷ []) (Syntax.tcons y6 (Syntax.tcons u64 Syntax.tnil))
@@ -130,33 +131,33 @@ abbrev pub y15 : Syntax.Ty
 y15 = Syntax.tyStruct (38 ∷ 91 ∷ 93 ∷ []) (Syntax.tcons y8 (Syntax.tcons u64 Syntax.tnil))
 
 abbrev pub ps : List.List (Kinds.PK 5)
-ps = (ShrSlice.pShrS n16 0 tt) ∷ (MutSlice.pMutS n8 1 tt) ∷ (MutSlice.pMutS n16 2 tt) ∷ (MutSlice.pMutS (Element.type) 3 tt) ∷ (Values.struct Form.the-type Laws'.the-laws Laws'.the-copy
-    Laws'.the-plain) ∷ (ShrSlice.pShrS n8 4 tt) ∷ (Num.pNum Syntax.w64) ∷ []
+ps = (ShrSlice.pShrS n16 0 tt) ∷ (MutSlice.pMutS n8 1 tt) ∷ (MutSlice.pMutS n16 2 tt) ∷ (MutSlice.pMutS (Element.type) 3 tt) ∷ (Values.struct Form.the-type Laws''.the-laws Laws''.the-copy
+    Laws''.the-plain) ∷ (ShrSlice.pShrS n8 4 tt) ∷ (Num.pNum Syntax.w64) ∷ []
 
 abbrev pub r : Kinds.RK 5
-r = Values.enum-result BlockLength.the-type Laws'4.the-laws Laws'4.the-copy Laws'4.the-plain tt
+r = Values.enum-result BlockLength.the-type Laws'3.the-laws Laws'3.the-copy Laws'3.the-plain tt
 
 abbrev pub xs : List.List Syntax.Ty
-xs = y11 ∷ u64 ∷ y9 ∷ y8 ∷ y15 ∷ y7 ∷ y14 ∷ y6 ∷ y13 ∷ y12 ∷ y0 ∷ Syntax.tyUnit ∷ y8 ∷ y15 ∷ u64 ∷ []
+xs = y12 ∷ u64 ∷ y10 ∷ y8 ∷ y15 ∷ y7 ∷ y14 ∷ y6 ∷ y13 ∷ y11 ∷ y0 ∷ Syntax.tyUnit ∷ y8 ∷ y15 ∷ u64 ∷ []
 
 abbrev pub m : Nat.ℕ
 m = 4
 
 abbrev pub ps·0 : List.List (Kinds.PK 5)
-ps·0 = (ShrSlice.pShrS n16 0 tt) ∷ (MutSlice.pMutS n8 1 tt) ∷ Bool.pBool ∷ (MutSlice.pMutS n16 2 tt) ∷ (MutSlice.pMutS (Element.type) 3 tt) ∷ (Values.struct Form.the-type Laws'.the-laws Laws'.the-copy
-    Laws'.the-plain) ∷ (ShrSlice.pShrS n8 4 tt) ∷ (Num.pNum Syntax.w64) ∷ []
+ps·0 = (ShrSlice.pShrS n16 0 tt) ∷ (MutSlice.pMutS n8 1 tt) ∷ Bool.pBool ∷ (MutSlice.pMutS n16 2 tt) ∷ (MutSlice.pMutS (Element.type) 3 tt) ∷ (Values.struct Form.the-type Laws''.the-laws
+    Laws''.the-copy Laws''.the-plain) ∷ (ShrSlice.pShrS n8 4 tt) ∷ (Num.pNum Syntax.w64) ∷ []
 
 abbrev pub r·0 : Kinds.RK 5
-r·0 = Values.enum-result Put.the-type Laws'3.the-laws Laws'3.the-copy Laws'3.the-plain tt
+r·0 = Values.enum-result Put.the-type Laws.the-laws Laws.the-copy Laws.the-plain tt
 
 abbrev pub ps·1 : List.List (Kinds.PK 1)
-ps·1 = (MutSlice.pMutS n8 0 tt) ∷ (Values.struct BitPosition.the-type Laws.the-laws Laws.the-copy Laws.the-plain) ∷ []
+ps·1 = (MutSlice.pMutS n8 0 tt) ∷ (Values.struct BitPosition.the-type Laws'.the-laws Laws'.the-copy Laws'.the-plain) ∷ []
 
 abbrev pub r·1 : Kinds.RK 1
 r·1 = Unit'.rUnit
 
 abbrev pub ps·2 : List.List (Kinds.PK 0)
-ps·2 = (Values.struct BitPosition.the-type Laws.the-laws Laws.the-copy Laws.the-plain) ∷ []
+ps·2 = (Values.struct BitPosition.the-type Laws'.the-laws Laws'.the-copy Laws'.the-plain) ∷ []
 
 abbrev pub r·2 : Kinds.RK 0
 r·2 = Num.rNum Syntax.w64
@@ -185,8 +186,8 @@ abbrev b5 : Syntax.Body
 b5 = Syntax.assign (Syntax.place 16 []) (Syntax.aggregate ((Syntax.copy (Syntax.place 15 [])) ∷ (Syntax.copy (Syntax.place 4 ((Syntax.field 1) ∷ []))) ∷ []))
 
 abbrev b6 : Syntax.Body
-b6 = Syntax.call "write_block::write_walk" ((Syntax.copy (Syntax.place 1 [])) ∷ (Syntax.copy (Syntax.place 12 [])) ∷ Syntax.opdTrue ∷ (Syntax.copy (Syntax.place 14 [])) ∷ (Syntax.copy (Syntax.place
-    16 [])) ∷ (Syntax.copy (Syntax.place 5 [])) ∷ (Syntax.copy (Syntax.place 6 [])) ∷ (Syntax.copy (Syntax.place 7 [])) ∷ []) (Syntax.place 8 [])
+b6 = Syntax.call "write_block::write_walk" ((Syntax.copy (Syntax.place 1 [])) ∷ (Syntax.copy (Syntax.place 12 [])) ∷ Syntax.opdTrue ∷ (Syntax.copy (Syntax.place 14 [])) ∷ (Syntax.copy (Syntax.place 16
+    [])) ∷ (Syntax.copy (Syntax.place 5 [])) ∷ (Syntax.copy (Syntax.place 6 [])) ∷ (Syntax.copy (Syntax.place 7 [])) ∷ []) (Syntax.place 8 [])
 
 abbrev b7 : Syntax.Body
 b7 = Syntax.assign (Syntax.place 9 []) (Syntax.rvOpd (Syntax.copy (Syntax.place 8 ((Syntax.variant 1) ∷ (Syntax.field 1) ∷ []))))
@@ -258,7 +259,7 @@ abbrev pub v1 : Row.Row
 v1 = Rows.any-gone y8
 
 abbrev pub v2 : Row.Row
-v2 = Rows.any-gone y12
+v2 = Rows.any-gone y11
 
 abbrev pub v3 : Row.Row
 v3 = Rows.sc-here (Row.sInt Syntax.w64)
@@ -276,7 +277,7 @@ abbrev pub v7 : Row.Row
 v7 = Rows.any-gone y6
 
 abbrev pub v8 : Row.Row
-v8 = Rows.any-gone y9
+v8 = Rows.any-gone y10
 
 abbrev pub v9 : Row.Row
 v9 = Rows.any-gone y15
@@ -288,13 +289,13 @@ abbrev pub v11 : Row.Row
 v11 = Rows.any-gone y14
 
 abbrev pub v12 : Row.Row
-v12 = Rows.any-gone y11
+v12 = Rows.any-gone y12
 
 abbrev pub v13 : Row.Row
 v13 = Mut.mslice n16 y3 2
 
 abbrev pub v14 : Row.Row
-v14 = Rows.any-gone y10
+v14 = Rows.any-gone y9
 
 abbrev pub v15 : Row.Row
 v15 = Mut.mslice n8 y2 1
@@ -598,10 +599,10 @@ module _ (claims· : Claims) where
   )
 
   abbrev s13 : Typed.Both T14 T15
-  s13 = Call.callB ps·0 r·0 (claims· .0) (claims· .1) T14 a0 8 (0 ∷ 5 ∷ 6 ∷ 7 ∷ 4 ∷ []) y11
+  s13 = Call.callB ps·0 r·0 (claims· .0) (claims· .1) T14 a0 8 (0 ∷ 5 ∷ 6 ∷ 7 ∷ 4 ∷ []) y12
 
   abbrev s14 : Typed.Mo T15 → Typed.Mo T17
-  s14 = Scalar.n-room T15 5 y10
+  s14 = Scalar.n-room T15 5 y9
 
   abbrev s16 : Typed.Both T17 T19
   s16 = Relend.k-back-sl n8 T17 12 2 1 5 y2 y8 Row.off (λ x. x) λ x. x
@@ -622,13 +623,13 @@ module _ (claims· : Claims) where
   s26 = Known.k-enum-known Put.enum 1 T27 8 λ x. x
 
   abbrev s27 : Typed.Gives T29 T29
-  s27 = Known.k-known-told Put.enum Laws'3.the-laws 1 T29 8 λ x. x
+  s27 = Known.k-known-told Put.enum Laws.the-laws 1 T29 8 λ x. x
 
   abbrev s28 : Typed.Mo T29 → Typed.Mo T31
-  s28 = Scalar.n-use T29 (Scalar.oFld 8 ((Syntax.variant 1) ∷ (Syntax.field 1) ∷ []) u64 8 λ v. Laws'3.the-laws .1 .0 .0 .val (v .0)) 9 (Rows.sc-here (Row.sInt Syntax.w64)) (Row.sInt Syntax.w64 .of)
+  s28 = Scalar.n-use T29 (Scalar.oFld 8 ((Syntax.variant 1) ∷ (Syntax.field 1) ∷ []) u64 8 λ v. Laws.the-laws .1 .0 .0 .val (v .0)) 9 (Rows.sc-here (Row.sInt Syntax.w64)) (Row.sInt Syntax.w64 .of)
 
   abbrev s29 : Typed.Mo T31 → Typed.Mo T32
-  s29 = Scalar.n-room T31 8 y11
+  s29 = Scalar.n-room T31 8 y12
 
   abbrev s30 : Typed.Mo T32 → Typed.Mo T33
   s30 = Make.n-enum-make Refusal.the-type T32 18 λ m. Refusal.enum .make (Logic.inr (Logic.inr (Logic.inr (Logic.inr (Logic.inr (Logic.inr (Logic.inr (Logic.inr (Logic.inr (Logic.inr (Logic.inr
@@ -647,13 +648,13 @@ module _ (claims· : Claims) where
   s34 = Known.k-enum-known Put.enum 0 T27 8 λ x. x
 
   abbrev s35 : Typed.Gives T37 T37
-  s35 = Known.k-known-told Put.enum Laws'3.the-laws 0 T37 8 λ x. x
+  s35 = Known.k-known-told Put.enum Laws.the-laws 0 T37 8 λ x. x
 
   abbrev s36 : Typed.Mo T37 → Typed.Mo T39
   s36 = Make'.n-make (Declared'.row BitPosition.the-type) T37 10 λ m. m .1 .1 .1 .1 .1 .1 .1 .1 .0 .0
 
   abbrev s37 : Typed.Mo T39 → Typed.Mo T40
-  s37 = Scalar.n-room T39 8 y11
+  s37 = Scalar.n-room T39 8 y12
 
   abbrev s39 : Typed.Gives T40 T42
   s39 = Relend.k-sl-relend n8 T40 2 20 1 8 y2 y8 Row.off λ x. x
@@ -677,7 +678,7 @@ module _ (claims· : Claims) where
   s47 = Call.callB ps·2 r·2 (claims· .4) (claims· .5) T40 (record { pos = 10; st = []; d = 0; at = λ x. x }, tt) 22 [] u64
 
   abbrev s48 : Typed.Mo T50 → Typed.Mo T51
-  s48 = Scalar.n-room T50 10 y9
+  s48 = Scalar.n-room T50 10 y10
 
   abbrev s49 : Typed.Mo T51 → Typed.Mo T52
   s49 = Make.n-enum-make BlockLength.the-type T51 17 λ m. BlockLength.enum .make (Logic.inl (m .1 .1 .1 .1 .1 .1 .1 .1 .1 .1 .1 .1 .1 .1 .1 .1 .1 .1 .1 .1 .1 .1 .0, tt))
@@ -689,7 +690,7 @@ module _ (claims· : Claims) where
   s51 = LocalCopy.n-val-copy T16 17 0 (Declared.row BlockLength.the-type) (Rows.whole (Declared.row BlockLength.the-type)) (Rows.whole (Declared.row BlockLength.the-type)) (λ x. x) (λ x. x) λ x. x
 
   abbrev s52 : Typed.Mo T54 → Typed.Mo T55
-  s52 = Scalar.n-room T54 17 y12
+  s52 = Scalar.n-room T54 17 y11
 
   abbrev s53 : Typed.Mo T55 → Typed.Mo T1
   s53 = Scalar.n-room T55 7 u64
@@ -833,8 +834,8 @@ module _ (claims· : Claims) where
 
       module _ {M : Type 1} (𝓤 : URA.URA M) (H : Wp.Heap 𝓤) (A : Atoms.Atoms 𝓤) (W : Kit.Given 𝓤 H A) (𝓣 : Wp.Tables 𝓤 H) where
         abbrev Knowns : Type 1
-        Knowns = Plain.Known 𝓤 H A W 𝓣 5 ps·0 r·0 (claims· .0) (claims· .1) "write_block::write_walk" × Plain.Known 𝓤 H A W 𝓣 1 ps·1 r·1 (claims· .2) (claims· .3) "bits::fill_tail" × Plain.Known 𝓤 H
-            A W 𝓣 0 ps·2 r·2 (claims· .4) (claims· .5) "write_block::counted::block_bytes"
+        Knowns = Plain.Known 𝓤 H A W 𝓣 5 ps·0 r·0 (claims· .0) (claims· .1) "write_block::write_walk" × Plain.Known 𝓤 H A W 𝓣 1 ps·1 r·1 (claims· .2) (claims· .3) "bits::fill_tail" × Plain.Known 𝓤 H A
+            W 𝓣 0 ps·2 r·2 (claims· .4) (claims· .5) "write_block::counted::block_bytes"
 
       module _ (κs : Lifetimes.Lfts 5) (qs : Lifetimes.Shares 5) where
         abbrev k0 : Row.Life
@@ -1011,12 +1012,12 @@ module _ (claims· : Claims) where
           d0 : Typed.Typed 𝓤 H A 𝓣 E (on T33 l7) b9 Δ1 at0
           d0 = Typed.s-typed 𝓤 H A W 𝓣 E (on T33 l7) b9 Δ1 (λ Ψ. Typed.pass T33 T34 s31 (Typed.pass T34 T35 s32 (Typed.pass T35 T16 s33 Ψ))) tt (Typed.g-post 𝓤 H A W 𝓣 E (on T33 l7) (on T35 l7) (on
               T16 l7) b9 (λ Ψ. Typed.pass T33 T34 s31 (Typed.pass T34 T35 s32 Ψ)) (Typed.pass T35 T16 s33) (Typed.g-post 𝓤 H A W 𝓣 E (on T33 l7) (on T34 l7) (on T35 l7) b9 (Typed.pass T33 T34 s31)
-              (Typed.pass T34 T35 s32) (Make.t-enum-make-wt 𝓤 H A W E 𝓣 BlockLength.the-type Laws'4.the-laws Laws'4.the-plain tt (on T33 l7) 17 ((Scalar.oInt Syntax.w8 1) ∷ (Scalar.oAt 18 y0 (Laws'5.val
-              Refusal.the-type Laws''.the-laws)) ∷ []) (λ m. BlockLength.enum .make (Logic.inr (Logic.inl (m .1 .1 .1 .1 .1 .1 .1 .1 .1 .1 .1 .1 .1 .1 .1 .1 .1 .1 .0, tt)))) (Reads.room-gone 𝓤 H A y12)
-              (tt, ((Whole.reads-enum 𝓤 H A W Refusal.the-type Laws''.the-laws, Path'.refl), tt)) Path'.refl (λ m wa. Make.made-val BlockLength.the-type Laws'4.the-laws ((Laws'5.val Refusal.the-type
-              Laws''.the-laws (m .1 .1 .1 .1 .1 .1 .1 .1 .1 .1 .1 .1 .1 .1 .1 .1 .1 .1 .0)) ∷ []) (BlockLength.enum .make (Logic.inr (Logic.inl
+              (Typed.pass T34 T35 s32) (Make.t-enum-make-wt 𝓤 H A W E 𝓣 BlockLength.the-type Laws'3.the-laws Laws'3.the-plain tt (on T33 l7) 17 ((Scalar.oInt Syntax.w8 1) ∷ (Scalar.oAt 18 y0 (Laws'5.val
+              Refusal.the-type Laws'4.the-laws)) ∷ []) (λ m. BlockLength.enum .make (Logic.inr (Logic.inl (m .1 .1 .1 .1 .1 .1 .1 .1 .1 .1 .1 .1 .1 .1 .1 .1 .1 .1 .0, tt)))) (Reads.room-gone 𝓤 H A y11)
+              (tt, ((Whole.reads-enum 𝓤 H A W Refusal.the-type Laws'4.the-laws, Path'.refl), tt)) Path'.refl (λ m wa. Make.made-val BlockLength.the-type Laws'3.the-laws ((Laws'5.val Refusal.the-type
+              Laws'4.the-laws (m .1 .1 .1 .1 .1 .1 .1 .1 .1 .1 .1 .1 .1 .1 .1 .1 .1 .1 .0)) ∷ []) (BlockLength.enum .make (Logic.inr (Logic.inl
               (m .1 .1 .1 .1 .1 .1 .1 .1 .1 .1 .1 .1 .1 .1 .1 .1 .1 .1 .0, tt)))) (
-                Signed.made-wt Refusal.the-field Laws''.the-field-laws (Whole.enum-wt Refusal.the-type Laws''.the-laws (
+                Signed.made-wt Refusal.the-field Laws'4.the-field-laws (Whole.enum-wt Refusal.the-type Laws'4.the-laws (
                   tt,
                   (
                     tt,
@@ -1044,7 +1045,10 @@ module _ (claims· : Claims) where
                                           tt,
                                           (
                                             (Make'.u64-wt, (Make'.u64-wt, tt)),
-                                            ((Make'.u64-wt, tt), (tt, (tt, ((Make'.u64-wt, tt), ((Make'.u64-wt, tt), ((Make'.u64-wt, tt), (tt, (tt, ((Make'.u64-wt, (Make'.u64-wt, tt)), (tt, tt)))))))))),
+                                            (
+                                              (Make'.u64-wt, tt),
+                                              (tt, (tt, ((Make'.u64-wt, tt), ((Make'.u64-wt, tt), ((Make'.u64-wt, tt), (tt, (tt, ((Make'.u64-wt, (Make'.u64-wt, tt)), (tt, (tt, ((Make'.u64-wt, tt), tt))))))))))),
+                                            ),
                                           ),
                                         ),
                                       ),
@@ -1061,10 +1065,10 @@ module _ (claims· : Claims) where
                 ))
                     (Refusal.the-type .to (m .1 .1 .1 .1 .1 .1 .1 .1 .1 .1 .1 .1 .1 .1 .1 .1 .1 .1 .0)),
                 tt,
-              ) (wa .1)) λ m wa. Make.made-is BlockLength.the-type Laws'4.the-laws ((Laws'5.val Refusal.the-type
-              Laws''.the-laws (m .1 .1 .1 .1 .1 .1 .1 .1 .1 .1 .1 .1 .1 .1 .1 .1 .1 .1 .0)) ∷ []) (BlockLength.enum .make (Logic.inr (Logic.inl
+              ) (wa .1)) λ m wa. Make.made-is BlockLength.the-type Laws'3.the-laws ((Laws'5.val Refusal.the-type
+              Laws'4.the-laws (m .1 .1 .1 .1 .1 .1 .1 .1 .1 .1 .1 .1 .1 .1 .1 .1 .1 .1 .0)) ∷ []) (BlockLength.enum .make (Logic.inr (Logic.inl
               (m .1 .1 .1 .1 .1 .1 .1 .1 .1 .1 .1 .1 .1 .1 .1 .1 .1 .1 .0, tt)))) (
-                Signed.made-wt Refusal.the-field Laws''.the-field-laws (Whole.enum-wt Refusal.the-type Laws''.the-laws (
+                Signed.made-wt Refusal.the-field Laws'4.the-field-laws (Whole.enum-wt Refusal.the-type Laws'4.the-laws (
                   tt,
                   (
                     tt,
@@ -1092,7 +1096,10 @@ module _ (claims· : Claims) where
                                           tt,
                                           (
                                             (Make'.u64-wt, (Make'.u64-wt, tt)),
-                                            ((Make'.u64-wt, tt), (tt, (tt, ((Make'.u64-wt, tt), ((Make'.u64-wt, tt), ((Make'.u64-wt, tt), (tt, (tt, ((Make'.u64-wt, (Make'.u64-wt, tt)), (tt, tt)))))))))),
+                                            (
+                                              (Make'.u64-wt, tt),
+                                              (tt, (tt, ((Make'.u64-wt, tt), ((Make'.u64-wt, tt), ((Make'.u64-wt, tt), (tt, (tt, ((Make'.u64-wt, (Make'.u64-wt, tt)), (tt, (tt, ((Make'.u64-wt, tt), tt))))))))))),
+                                            ),
                                           ),
                                         ),
                                       ),
@@ -1113,31 +1120,30 @@ module _ (claims· : Claims) where
               (Scalar.g-room 𝓤 H A W E (on T35 l7) 18 y0 (Local.room-whole 𝓤 H A W (Declared.row Refusal.the-type) y0 Path'.refl)))
 
           d1 : Typed.Typed 𝓤 H A 𝓣 E (on T32 l7) (Syntax.seq b8 b9) Δ1 at1
-          d1 = Typed.s-seq 𝓤 H A W 𝓣 E (on T32 l7) (on T33 l7) b8 b9 Δ1 (Typed.pass T32 T33 s30) at0 (Make.t-enum-make-wt 𝓤 H A W E 𝓣 Refusal.the-type Laws''.the-laws Laws''.the-plain tt (on T32 l7)
+          d1 = Typed.s-seq 𝓤 H A W 𝓣 E (on T32 l7) (on T33 l7) b8 b9 Δ1 (Typed.pass T32 T33 s30) at0 (Make.t-enum-make-wt 𝓤 H A W E 𝓣 Refusal.the-type Laws'4.the-laws Laws'4.the-plain tt (on T32 l7)
               18 ((Scalar.oInt Syntax.w8 11) ∷ (Scalar.oAt 9 u64 (Row.valS (Row.sInt Syntax.w64))) ∷ []) (λ m. Refusal.enum .make (Logic.inr (Logic.inr (Logic.inr (Logic.inr (Logic.inr (Logic.inr
               (Logic.inr (Logic.inr (Logic.inr (Logic.inr (Logic.inr (Logic.inl (m .1 .1 .1 .1 .1 .1 .1 .1 .1 .0, tt)))))))))))))) (Reads.room-gone 𝓤 H A y0)
-              (tt, ((Scalar.reads-sc 𝓤 H A W (Row.sInt Syntax.w64), Path'.refl), tt)) Path'.refl (λ m wa. Make.made-val Refusal.the-type Laws''.the-laws ((Laws''.the-laws .1 .1 .1 .1 .1 .1 .1 .1 .1 .1 .1
+              (tt, ((Scalar.reads-sc 𝓤 H A W (Row.sInt Syntax.w64), Path'.refl), tt)) Path'.refl (λ m wa. Make.made-val Refusal.the-type Laws'4.the-laws ((Laws'4.the-laws .1 .1 .1 .1 .1 .1 .1 .1 .1 .1 .1
               .0 .0 .val (m .1 .1 .1 .1 .1 .1 .1 .1 .1 .0)) ∷ []) (Refusal.enum .make (Logic.inr (Logic.inr (Logic.inr (Logic.inr (Logic.inr (Logic.inr (Logic.inr (Logic.inr (Logic.inr (Logic.inr
               (Logic.inr (Logic.inl (m .1 .1 .1 .1 .1 .1 .1 .1 .1 .0, tt))))))))))))))
-              (Signed.made-wt Field.u64-field (Laws''.the-laws .1 .1 .1 .1 .1 .1 .1 .1 .1 .1 .1 .0 .0) Make'.u64-wt (m .1 .1 .1 .1 .1 .1 .1 .1 .1 .0), tt) (wa .1)) λ m wa. Make.made-is Refusal.the-type
-              Laws''.the-laws ((Laws''.the-laws .1 .1 .1 .1 .1 .1 .1 .1 .1 .1 .1 .0 .0 .val (m .1 .1 .1 .1 .1 .1 .1 .1 .1 .0)) ∷ []) (Refusal.enum .make (Logic.inr (Logic.inr (Logic.inr (Logic.inr
+              (Signed.made-wt Field.u64-field (Laws'4.the-laws .1 .1 .1 .1 .1 .1 .1 .1 .1 .1 .1 .0 .0) Make'.u64-wt (m .1 .1 .1 .1 .1 .1 .1 .1 .1 .0), tt) (wa .1)) λ m wa. Make.made-is Refusal.the-type
+              Laws'4.the-laws ((Laws'4.the-laws .1 .1 .1 .1 .1 .1 .1 .1 .1 .1 .1 .0 .0 .val (m .1 .1 .1 .1 .1 .1 .1 .1 .1 .0)) ∷ []) (Refusal.enum .make (Logic.inr (Logic.inr (Logic.inr (Logic.inr
               (Logic.inr (Logic.inr (Logic.inr (Logic.inr (Logic.inr (Logic.inr (Logic.inr (Logic.inl (m .1 .1 .1 .1 .1 .1 .1 .1 .1 .0, tt))))))))))))))
-              (Signed.made-wt Field.u64-field (Laws''.the-laws .1 .1 .1 .1 .1 .1 .1 .1 .1 .1 .1 .0 .0) Make'.u64-wt (m .1 .1 .1 .1 .1 .1 .1 .1 .1 .0), tt) (wa .1)) d0
+              (Signed.made-wt Field.u64-field (Laws'4.the-laws .1 .1 .1 .1 .1 .1 .1 .1 .1 .1 .1 .0 .0) Make'.u64-wt (m .1 .1 .1 .1 .1 .1 .1 .1 .1 .0), tt) (wa .1)) d0
 
           d2 : Typed.Typed 𝓤 H A 𝓣 E (on T31 l7) (Syntax.seq b8 b9) Δ1 at2
-          d2 = Typed.g-pre 𝓤 H A W 𝓣 E (on T31 l7) (on T32 l7) (Syntax.seq b8 b9) Δ1 (Typed.pass T31 T32 s29) at1 (Scalar.g-room 𝓤 H A W E (on T31 l7) 8 y11 (Local.room-whole 𝓤 H A W (Known.Known
-              Put.enum 1) y11 Path'.refl)) d1
+          d2 = Typed.g-pre 𝓤 H A W 𝓣 E (on T31 l7) (on T32 l7) (Syntax.seq b8 b9) Δ1 (Typed.pass T31 T32 s29) at1 (Scalar.g-room 𝓤 H A W E (on T31 l7) 8 y12 (Local.room-whole 𝓤 H A W (Known.Known
+              Put.enum 1) y12 Path'.refl)) d1
 
           d3 : Typed.Typed 𝓤 H A 𝓣 E (on T29 l7) b11 Δ1 at3
           d3 = Typed.s-seq 𝓤 H A W 𝓣 E (on T29 l7) (on T31 l7) b7 (Syntax.seq b8 b9) Δ1 (Typed.pass T29 T31 s28) at2 (Scalar.t-use 𝓤 H A W E 𝓣 (on T29 l7) (Scalar.oFld 8 ((Syntax.variant 1) ∷
-              (Syntax.field 1) ∷ []) u64 8 λ v. Laws'3.the-laws .1 .0 .0 .val (v .0)) 9 (Rows.sc-here (Row.sInt Syntax.w64)) u64 (Row.valS (Row.sInt Syntax.w64)) (Row.sInt Syntax.w64 .of) (
-                Match.reads-payload 𝓤 H A W Put.enum Laws'3.the-laws 1 Path'.refl Path'.refl (λ v. Val.vcons (Laws'3.the-laws .1 .0 .0 .val (v .0)) Val.vnil) (λ v. Path'.refl) 0 u64 8 Path'.refl,
-                Path'.refl,
-              ) (Reads.room-gone 𝓤 H A u64) (Scalar.holds-sc 𝓤 H A W (Row.sInt Syntax.w64)) Path'.refl (λ u. Path'.refl) λ u. tt) d2
+              (Syntax.field 1) ∷ []) u64 8 λ v. Laws.the-laws .1 .0 .0 .val (v .0)) 9 (Rows.sc-here (Row.sInt Syntax.w64)) u64 (Row.valS (Row.sInt Syntax.w64)) (Row.sInt Syntax.w64 .of)
+              (Match.reads-payload 𝓤 H A W Put.enum Laws.the-laws 1 Path'.refl Path'.refl (λ v. Val.vcons (Laws.the-laws .1 .0 .0 .val (v .0)) Val.vnil) (λ v. Path'.refl) 0 u64 8 Path'.refl, Path'.refl)
+              (Reads.room-gone 𝓤 H A u64) (Scalar.holds-sc 𝓤 H A W (Row.sInt Syntax.w64)) Path'.refl (λ u. Path'.refl) λ u. tt) d2
 
           d4 : Typed.Typed 𝓤 H A 𝓣 E (on T29 l7) b11 Δ1 at4
-          d4 = Typed.g-pre 𝓤 H A W 𝓣 E (on T29 l7) (on T29 l7) b11 Δ1 (Typed.give s27) at3 (Known.g-known-told 𝓤 H A W E Put.enum 1 (on T29 l7) 8 Laws'3.the-laws (λ x. x) (Reads.as-is 𝓤 H A
-              (Rows.whole (Known.Known Put.enum 1)))) d3
+          d4 = Typed.g-pre 𝓤 H A W 𝓣 E (on T29 l7) (on T29 l7) b11 Δ1 (Typed.give s27) at3 (Known.g-known-told 𝓤 H A W E Put.enum 1 (on T29 l7) 8 Laws.the-laws (λ x. x) (Reads.as-is 𝓤 H A (Rows.whole
+              (Known.Known Put.enum 1)))) d3
 
           d5 : Typed.Typed 𝓤 H A 𝓣 E (on T27 l7) b11 Δ1 at5
           d5 = Typed.g-pre 𝓤 H A W 𝓣 E (on T27 l7) (on T29 l7) b11 Δ1 (Typed.both s26) at4 (Known.g-enum-known 𝓤 H A W E Put.enum 1 (on T27 l7) 8 (λ x. x) (Reads.as-is 𝓤 H A (Rows.whole (Declared.row
@@ -1145,24 +1151,24 @@ module _ (claims· : Claims) where
 
           d6 : Typed.Typed 𝓤 H A 𝓣 E (on T51 l7) b17 Δ1 at6
           d6 = Typed.s-typed 𝓤 H A W 𝓣 E (on T51 l7) b17 Δ1 (λ Ψ. Typed.pass T51 T52 s49 (Typed.pass T52 T16 s50 Ψ)) tt (Typed.g-post 𝓤 H A W 𝓣 E (on T51 l7) (on T52 l7) (on T16 l7) b17 (Typed.pass
-              T51 T52 s49) (Typed.pass T52 T16 s50) (Make.t-enum-make-wt 𝓤 H A W E 𝓣 BlockLength.the-type Laws'4.the-laws Laws'4.the-plain tt (on T51 l7) 17 ((Scalar.oInt Syntax.w8 0) ∷ (Scalar.oAt 22 u64
-              (Row.valS (Row.sInt Syntax.w64))) ∷ []) (λ m. BlockLength.enum .make (Logic.inl (m .1 .1 .1 .1 .1 .1 .1 .1 .1 .1 .1 .1 .1 .1 .1 .1 .1 .1 .1 .1 .1 .1 .0, tt))) (Reads.room-gone 𝓤 H A y12)
-              (tt, ((Scalar.reads-sc 𝓤 H A W (Row.sInt Syntax.w64), Path'.refl), tt)) Path'.refl (λ m wa. Make.made-val BlockLength.the-type Laws'4.the-laws ((Laws'4.the-laws .0 .0 .val (m .1 .1 .1 .1 .1
+              T51 T52 s49) (Typed.pass T52 T16 s50) (Make.t-enum-make-wt 𝓤 H A W E 𝓣 BlockLength.the-type Laws'3.the-laws Laws'3.the-plain tt (on T51 l7) 17 ((Scalar.oInt Syntax.w8 0) ∷ (Scalar.oAt 22 u64
+              (Row.valS (Row.sInt Syntax.w64))) ∷ []) (λ m. BlockLength.enum .make (Logic.inl (m .1 .1 .1 .1 .1 .1 .1 .1 .1 .1 .1 .1 .1 .1 .1 .1 .1 .1 .1 .1 .1 .1 .0, tt))) (Reads.room-gone 𝓤 H A y11)
+              (tt, ((Scalar.reads-sc 𝓤 H A W (Row.sInt Syntax.w64), Path'.refl), tt)) Path'.refl (λ m wa. Make.made-val BlockLength.the-type Laws'3.the-laws ((Laws'3.the-laws .0 .0 .val (m .1 .1 .1 .1 .1
               .1 .1 .1 .1 .1 .1 .1 .1 .1 .1 .1 .1 .1 .1 .1 .1 .1 .0)) ∷ []) (BlockLength.enum .make (Logic.inl (m .1 .1 .1 .1 .1 .1 .1 .1 .1 .1 .1 .1 .1 .1 .1 .1 .1 .1 .1 .1 .1 .1 .0, tt)))
-              (Signed.made-wt Field.u64-field (Laws'4.the-laws .0 .0) Make'.u64-wt (m .1 .1 .1 .1 .1 .1 .1 .1 .1 .1 .1 .1 .1 .1 .1 .1 .1 .1 .1 .1 .1 .1 .0), tt) (wa .1)) λ m wa. Make.made-is
-              BlockLength.the-type Laws'4.the-laws ((Laws'4.the-laws .0 .0 .val (m .1 .1 .1 .1 .1 .1 .1 .1 .1 .1 .1 .1 .1 .1 .1 .1 .1 .1 .1 .1 .1 .1 .0)) ∷ []) (BlockLength.enum .make (Logic.inl
+              (Signed.made-wt Field.u64-field (Laws'3.the-laws .0 .0) Make'.u64-wt (m .1 .1 .1 .1 .1 .1 .1 .1 .1 .1 .1 .1 .1 .1 .1 .1 .1 .1 .1 .1 .1 .1 .0), tt) (wa .1)) λ m wa. Make.made-is
+              BlockLength.the-type Laws'3.the-laws ((Laws'3.the-laws .0 .0 .val (m .1 .1 .1 .1 .1 .1 .1 .1 .1 .1 .1 .1 .1 .1 .1 .1 .1 .1 .1 .1 .1 .1 .0)) ∷ []) (BlockLength.enum .make (Logic.inl
               (m .1 .1 .1 .1 .1 .1 .1 .1 .1 .1 .1 .1 .1 .1 .1 .1 .1 .1 .1 .1 .1 .1 .0, tt)))
-              (Signed.made-wt Field.u64-field (Laws'4.the-laws .0 .0) Make'.u64-wt (m .1 .1 .1 .1 .1 .1 .1 .1 .1 .1 .1 .1 .1 .1 .1 .1 .1 .1 .1 .1 .1 .1 .0), tt) (wa .1)) (Scalar.g-room 𝓤 H A W E (on T52
+              (Signed.made-wt Field.u64-field (Laws'3.the-laws .0 .0) Make'.u64-wt (m .1 .1 .1 .1 .1 .1 .1 .1 .1 .1 .1 .1 .1 .1 .1 .1 .1 .1 .1 .1 .1 .1 .0), tt) (wa .1)) (Scalar.g-room 𝓤 H A W E (on T52
               l7) 22 u64 (Scalar.room-sc 𝓤 H A W (Row.sInt Syntax.w64))))
 
           d7 : Typed.Typed 𝓤 H A 𝓣 E (on T50 l7) b17 Δ1 at7
-          d7 = Typed.g-pre 𝓤 H A W 𝓣 E (on T50 l7) (on T51 l7) b17 Δ1 (Typed.pass T50 T51 s48) at6 (Scalar.g-room 𝓤 H A W E (on T50 l7) 10 y9 (Local.room-whole 𝓤 H A W (Declared'.row
-              BitPosition.the-type) y9 Path'.refl)) d6
+          d7 = Typed.g-pre 𝓤 H A W 𝓣 E (on T50 l7) (on T51 l7) b17 Δ1 (Typed.pass T50 T51 s48) at6 (Scalar.g-room 𝓤 H A W E (on T50 l7) 10 y10 (Local.room-whole 𝓤 H A W (Declared'.row
+              BitPosition.the-type) y10 Path'.refl)) d6
 
           d8 : Typed.Typed 𝓤 H A 𝓣 E (on T40 l7) b18 Δ1 at8
-          d8 = Typed.s-seq 𝓤 H A W 𝓣 E (on T40 l7) (on T50 l7) b16 b17 Δ1 (Typed.both s47) at7 (Plain.t-call-plain 𝓤 H A W 𝓣 0 ps·2 r·2 (claims· .4) (claims· .5) "write_block::counted::block_bytes" (known .2) E (λ
-              pos β. β) (on T40 l7) (record { pos = 10; st = []; d = 0; at = λ x. x }, tt) 22 [] (Call.sub-id 𝓤 H A W ((on T40 l7) .slots))
-              ((Values.struct-copied 𝓤 H A W BitPosition.the-type Laws.the-laws Laws.the-copy, Path'.refl), tt) (Reads.room-gone 𝓤 H A u64) tt Path'.refl) d7
+          d8 = Typed.s-seq 𝓤 H A W 𝓣 E (on T40 l7) (on T50 l7) b16 b17 Δ1 (Typed.both s47) at7 (Plain.t-call-plain 𝓤 H A W 𝓣 0 ps·2 r·2 (claims· .4) (claims· .5) "write_block::counted::block_bytes"
+              (known .2) E (λ pos β. β) (on T40 l7) (record { pos = 10; st = []; d = 0; at = λ x. x }, tt) 22 [] (Call.sub-id 𝓤 H A W ((on T40 l7) .slots))
+              ((Values.struct-copied 𝓤 H A W BitPosition.the-type Laws'.the-laws Laws'.the-copy, Path'.refl), tt) (Reads.room-gone 𝓤 H A u64) tt Path'.refl) d7
 
           d9 : Typed.Typed 𝓤 H A 𝓣 E (on T40 l6) b18 Δ1 at8
           d9 = Typed.g-pre 𝓤 H A W 𝓣 E (on T40 l6) (on T40 l7) b18 Δ1 (λ Ψ. Ψ) at8 (Lifetime.g-forget 𝓤 H A W E (on T40 l6) 8 Row.dead Path'.refl) d8
@@ -1184,7 +1190,7 @@ module _ (claims· : Claims) where
           d14 : Typed.Typed 𝓤 H A 𝓣 E G43 (Syntax.seq b15 b18) Δ1 at14
           d14 = Typed.s-seq 𝓤 H A W 𝓣 E G43 G44 b15 b18 Δ1 (Typed.both s41) at13 (Plain.t-call-plain 𝓤 H A W 𝓣 1 ps·1 r·1 (claims· .2) (claims· .3) "bits::fill_tail" (known .1) E (λ pos β. β) G43
               (record { pos = 21; ty = y8; ref = λ x. x }, (record { pos = 10; st = []; d = 0; at = λ x. x }, tt)) 19 (8 ∷ []) (Call.sub-id 𝓤 H A W (G43 .slots))
-              (Reads.as-is 𝓤 H A (Mut.mslice n8 y8 8), Mut.reads-mslice 𝓤 H A W n8 y8 8, Path'.refl, ((Values.struct-copied 𝓤 H A W BitPosition.the-type Laws.the-laws Laws.the-copy, Path'.refl), tt))
+              (Reads.as-is 𝓤 H A (Mut.mslice n8 y8 8), Mut.reads-mslice 𝓤 H A W n8 y8 8, Path'.refl, ((Values.struct-copied 𝓤 H A W BitPosition.the-type Laws'.the-laws Laws'.the-copy, Path'.refl), tt))
               (Reads.room-gone 𝓤 H A Syntax.tyUnit) (tt, tt) Path'.refl) d13
 
           d15 : Typed.Typed 𝓤 H A 𝓣 E G42 (Syntax.seq b14 (Syntax.seq b15 b18)) Δ1 at15
@@ -1201,23 +1207,23 @@ module _ (claims· : Claims) where
               (tt, (tt, (tt, (tt, (tt, (tt, (tt, (tt, (tt, (tt, (tt, (tt, (tt, (tt, (tt, (tt, (tt, (tt, (tt, (tt, (tt, (tt, (tt, tt)))))))))))))))))))))))) d16
 
           d18 : Typed.Typed 𝓤 H A 𝓣 E (on T39 l7) b21 Δ1 at18
-          d18 = Typed.g-pre 𝓤 H A W 𝓣 E (on T39 l7) (on T40 l7) b21 Δ1 (Typed.pass T39 T40 s37) at16 (Scalar.g-room 𝓤 H A W E (on T39 l7) 8 y11 (Local.room-whole 𝓤 H A W (Known.Known Put.enum 0) y11
+          d18 = Typed.g-pre 𝓤 H A W 𝓣 E (on T39 l7) (on T40 l7) b21 Δ1 (Typed.pass T39 T40 s37) at16 (Scalar.g-room 𝓤 H A W E (on T39 l7) 8 y12 (Local.room-whole 𝓤 H A W (Known.Known Put.enum 0) y12
               Path'.refl)) d17
 
           d19 : Typed.Typed 𝓤 H A 𝓣 E (on T37 l7) b22 Δ1 at19
           d19 = Typed.s-seq 𝓤 H A W 𝓣 E (on T37 l7) (on T39 l7) b12 b21 Δ1 (Typed.pass T37 T39 s36) at18 (CopyOut.t-copy-told 𝓤 H A W E 𝓣 (Declared'.row BitPosition.the-type) Path'.refl (Laws'6.val
-              BitPosition.the-type Laws.the-laws) (Laws'6.lawful BitPosition.the-type Laws.the-laws 𝓤 H A W) (Laws'6.makes BitPosition.the-type Laws.the-plain 𝓤 H A) (on T37 l7) 10 (Scalar.oFld 8
-              ((Syntax.variant 0) ∷ (Syntax.field 1) ∷ []) y9 8 λ v. Laws'6.val BitPosition.the-type Laws.the-laws (v .0)) (λ m. m .1 .1 .1 .1 .1 .1 .1 .1 .0 .0) (λ m. Laws'5.Fields (Declared.variants
-              Put.the-type) (Laws'5.spellss (Put.enum .parts) Laws'3.the-laws) (Put.the-type .to (Known.at Put.enum 0 (m .1 .1 .1 .1 .1 .1 .1 .1 .0)))) (Reads.room-gone 𝓤 H A y9) (
-                Match.reads-payload 𝓤 H A W Put.enum Laws'3.the-laws 0 Path'.refl Path'.refl (λ v. Val.vcons (Laws'6.val BitPosition.the-type Laws.the-laws (v .0)) Val.vnil) (λ v. Path'.refl) 0 y9 8
+              BitPosition.the-type Laws'.the-laws) (Laws'6.lawful BitPosition.the-type Laws'.the-laws 𝓤 H A W) (Laws'6.makes BitPosition.the-type Laws'.the-plain 𝓤 H A) (on T37 l7) 10 (Scalar.oFld 8
+              ((Syntax.variant 0) ∷ (Syntax.field 1) ∷ []) y10 8 λ v. Laws'6.val BitPosition.the-type Laws'.the-laws (v .0)) (λ m. m .1 .1 .1 .1 .1 .1 .1 .1 .0 .0) (λ m. Laws'5.Fields (Declared.variants
+              Put.the-type) (Laws'5.spellss (Put.enum .parts) Laws.the-laws) (Put.the-type .to (Known.at Put.enum 0 (m .1 .1 .1 .1 .1 .1 .1 .1 .0)))) (Reads.room-gone 𝓤 H A y10) (
+                Match.reads-payload 𝓤 H A W Put.enum Laws.the-laws 0 Path'.refl Path'.refl (λ v. Val.vcons (Laws'6.val BitPosition.the-type Laws'.the-laws (v .0)) Val.vnil) (λ v. Path'.refl) 0 y10 8
                     Path'.refl,
                 Path'.refl,
               ) Path'.refl (λ ρ m. Make'.tells-row 𝓤 H A W E ρ (Row.out 10 ((on T37 l7) .locals)) m 8 (Laws'5.Fields (Declared.variants Put.the-type) (Laws'5.spellss (Put.enum
-              .parts) Laws'3.the-laws) (Put.the-type .to (Known.at Put.enum 0 (m .1 .1 .1 .1 .1 .1 .1 .1 .0)))) (Known.known-is 𝓤 H A W E Put.enum 0 Laws'3.the-laws ρ 8 (m .1 .1 .1 .1 .1 .1 .1 .1 .0))) (λ
-              m k wa. Path'.refl) λ m k wa. k .0) d18
+              .parts) Laws.the-laws) (Put.the-type .to (Known.at Put.enum 0 (m .1 .1 .1 .1 .1 .1 .1 .1 .0)))) (Known.known-is 𝓤 H A W E Put.enum 0 Laws.the-laws ρ 8 (m .1 .1 .1 .1 .1 .1 .1 .1 .0))) (λ m k
+              wa. Path'.refl) λ m k wa. k .0) d18
 
           d20 : Typed.Typed 𝓤 H A 𝓣 E (on T37 l7) b22 Δ1 at20
-          d20 = Typed.g-pre 𝓤 H A W 𝓣 E (on T37 l7) (on T37 l7) b22 Δ1 (Typed.give s35) at19 (Known.g-known-told 𝓤 H A W E Put.enum 0 (on T37 l7) 8 Laws'3.the-laws (λ x. x) (Reads.as-is 𝓤 H A
+          d20 = Typed.g-pre 𝓤 H A W 𝓣 E (on T37 l7) (on T37 l7) b22 Δ1 (Typed.give s35) at19 (Known.g-known-told 𝓤 H A W E Put.enum 0 (on T37 l7) 8 Laws.the-laws (λ x. x) (Reads.as-is 𝓤 H A
               (Rows.whole (Known.Known Put.enum 0)))) d19
 
           d21 : Typed.Typed 𝓤 H A 𝓣 E (on T27 l7) b22 Δ1 at21
@@ -1227,8 +1233,8 @@ module _ (claims· : Claims) where
           d22 : Typed.Typed 𝓤 H A 𝓣 E (on T27 l7) b23 Δ1 at22
           d22 = Switch.t-switch-on 𝓤 H A W E 𝓣 (on T27 l7) (Scalar.oFld 8 ((Syntax.variant 0) ∷ (Syntax.field 0) ∷ []) u8 0 λ x. Val.vint Syntax.w8 (Declared.tagOf Put.the-type x)) Syntax.w8 (λ u.
               Declared.tagOf Put.the-type (u .1 .1 .1 .1 .1 .1 .1 .1 .0)) (Syntax.arm (1 ∷ []) b11 (Syntax.arm (0 ∷ []) b22 Syntax.noDefault)) Δ1 (at5, (at21, tt))
-              (Match.reads-tag 𝓤 H A W Put.the-type Laws'3.the-laws (Rows.whole (Declared.row Put.the-type)) 0 (λ x. x) (Whole.reads-enum 𝓤 H A W Put.the-type Laws'3.the-laws), Path'.refl) (λ u.
-              Path'.refl) (d5, (d21, tt))
+              (Match.reads-tag 𝓤 H A W Put.the-type Laws.the-laws (Rows.whole (Declared.row Put.the-type)) 0 (λ x. x) (Whole.reads-enum 𝓤 H A W Put.the-type Laws.the-laws), Path'.refl) (λ u. Path'.refl)
+              (d5, (d21, tt))
 
           d23 : Typed.Typed 𝓤 H A 𝓣 E G27 b23 Δ1 at22
           d23 = Typed.g-pre 𝓤 H A W 𝓣 E G27 (on T27 l7) b23 Δ1 (λ Ψ. Ψ) at22 (Lifetime.g-forget 𝓤 H A W E G27 7 Row.dead Path'.refl) d22
@@ -1269,7 +1275,7 @@ module _ (claims· : Claims) where
           d33 = Typed.g-pre 𝓤 H A W 𝓣 E G17 G18 b23 Δ1 (λ Ψ. Ψ) at32 (Lifetime.g-end 𝓤 H A W E G17 5 Path'.refl) d32
 
           d34 : Typed.Typed 𝓤 H A 𝓣 E G15 b23 Δ1 at34
-          d34 = Typed.g-pre 𝓤 H A W 𝓣 E G15 G17 b23 Δ1 (Typed.pass T15 T17 s14) at32 (Scalar.g-room 𝓤 H A W E G15 5 y10 (Local.room-whole 𝓤 H A W (Declared'.row Form.the-type) y10 Path'.refl)) d33
+          d34 = Typed.g-pre 𝓤 H A W 𝓣 E G15 G17 b23 Δ1 (Typed.pass T15 T17 s14) at32 (Scalar.g-room 𝓤 H A W E G15 5 y9 (Local.room-whole 𝓤 H A W (Declared'.row Form.the-type) y9 Path'.refl)) d33
 
           d35 : Typed.Typed 𝓤 H A 𝓣 E (on T1 l7) b25 Δ0 at35
           d35 = Typed.t-return 𝓤 H A W 𝓣 E Δ0 tt
@@ -1278,13 +1284,13 @@ module _ (claims· : Claims) where
           d36 = Typed.g-pre 𝓤 H A W 𝓣 E (on T55 l7) (on T1 l7) b25 Δ0 (Typed.pass T55 T1 s53) at35 (Scalar.g-room 𝓤 H A W E (on T55 l7) 7 u64 (Scalar.room-sc 𝓤 H A W (Row.sInt Syntax.w64))) d35
 
           d37 : Typed.Typed 𝓤 H A 𝓣 E (on T54 l7) b25 Δ0 at37
-          d37 = Typed.g-pre 𝓤 H A W 𝓣 E (on T54 l7) (on T55 l7) b25 Δ0 (Typed.pass T54 T55 s52) at36 (Scalar.g-room 𝓤 H A W E (on T54 l7) 17 y12 (Local.room-whole 𝓤 H A W (Declared.row
-              BlockLength.the-type) y12 Path'.refl)) d36
+          d37 = Typed.g-pre 𝓤 H A W 𝓣 E (on T54 l7) (on T55 l7) b25 Δ0 (Typed.pass T54 T55 s52) at36 (Scalar.g-room 𝓤 H A W E (on T54 l7) 17 y11 (Local.room-whole 𝓤 H A W (Declared.row
+              BlockLength.the-type) y11 Path'.refl)) d36
 
           d38 : Typed.Typed 𝓤 H A 𝓣 E (on T16 l7) (Syntax.seq b24 b25) Δ0 at38
           d38 = Typed.s-seq 𝓤 H A W 𝓣 E (on T16 l7) (on T54 l7) b24 b25 Δ0 (Typed.pass T16 T54 s51) at37 (LocalCopy.t-val-copy 𝓤 H A W E 𝓣 (λ ρ. Unit) (on T16 l7) 17 0 (Declared.row
-              BlockLength.the-type) y12 y12 (Rows.whole (Declared.row BlockLength.the-type)) (Rows.whole (Declared.row BlockLength.the-type)) (λ x. x) (λ x. x) (λ x. x) Path'.refl (Own.told-none 𝓤 H A
-              ((on T16 l7) .slots)) (Values.enum-copied 𝓤 H A W BlockLength.the-type Laws'4.the-laws Laws'4.the-copy) (Reads.room-gone 𝓤 H A y12) (Yields.makes-mem 𝓤 H A W (λ ρ. Unit) (Declared.row
+              BlockLength.the-type) y11 y11 (Rows.whole (Declared.row BlockLength.the-type)) (Rows.whole (Declared.row BlockLength.the-type)) (λ x. x) (λ x. x) (λ x. x) Path'.refl (Own.told-none 𝓤 H A
+              ((on T16 l7) .slots)) (Values.enum-copied 𝓤 H A W BlockLength.the-type Laws'3.the-laws Laws'3.the-copy) (Reads.room-gone 𝓤 H A y11) (Yields.makes-mem 𝓤 H A W (λ ρ. Unit) (Declared.row
               BlockLength.the-type) Path'.refl (Rows.whole (Declared.row BlockLength.the-type)) (λ x. x) λ ρ told. Local.whole-mem 𝓤 H A W (Declared.row BlockLength.the-type) ρ) Path'.refl Path'.refl) d37
 
           d39 : Typed.Typed 𝓤 H A 𝓣 E G15 (Syntax.seq b23 (Syntax.seq b24 b25)) Δ0 at39
@@ -1324,14 +1330,14 @@ module _ (claims· : Claims) where
                         Mut.reads-mslice 𝓤 H A W (Element.type) y6 7,
                         Path'.refl,
                         (
-                          (Values.struct-copied 𝓤 H A W Form.the-type Laws'.the-laws Laws'.the-copy, Path'.refl),
+                          (Values.struct-copied 𝓤 H A W Form.the-type Laws''.the-laws Laws''.the-copy, Path'.refl),
                           (ShrSlice.spares-sslice 𝓤 H A W n8 y5 4, Shared.reads-sslice 𝓤 H A W n8 y5 4, Path'.refl, ((Scalar.reads-sc 𝓤 H A W (Row.sInt Syntax.w64), Path'.refl), tt)),
                         ),
                       ),
                     ),
                   ),
                 ),
-              ) (Reads.room-gone 𝓤 H A y11)
+              ) (Reads.room-gone 𝓤 H A y12)
               (tt, (tt, (tt, (tt, (tt, tt))))) Path'.refl) d39
 
           d41 : Typed.Typed 𝓤 H A 𝓣 E G13 (Syntax.seq b5 b28) Δ0 at41
@@ -1398,7 +1404,7 @@ module _ (claims· : Claims) where
           pub out : Kinds.Den {n = 5} κs (MutSlice.pMutS n8 1 tt)
           pub lines : Kinds.Den {n = 5} κs (MutSlice.pMutS n16 2 tt)
           pub rs : Kinds.Den {n = 5} κs (MutSlice.pMutS (Element.type) 3 tt)
-          pub form : Kinds.Den {n = 5} κs (Values.struct Form.the-type Laws'.the-laws Laws'.the-copy Laws'.the-plain)
+          pub form : Kinds.Den {n = 5} κs (Values.struct Form.the-type Laws''.the-laws Laws''.the-copy Laws''.the-plain)
           pub bases : Kinds.Den {n = 5} κs (ShrSlice.pShrS n8 4 tt)
           pub count : Kinds.Den {n = 5} κs (Num.pNum Syntax.w64)
 

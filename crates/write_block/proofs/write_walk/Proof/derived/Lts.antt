@@ -6,10 +6,10 @@ use Rattle.bits.proofs.Values.{n16, n8, u16, u32, u64, u8}
 use mathlib.Core.List.{_∷_, []}
 use Rattle.read_block.proofs.Element
 use Prim.Native.Nat
-use Rattle.read_block.proofs.Form
-use Rattle.read_block.proofs.Form.Laws
 use Rattle.bit_output.proofs.Put
-use Rattle.bit_output.proofs.Put.Laws as Laws'
+use Rattle.bit_output.proofs.Put.Laws
+use Rattle.read_block.proofs.Form
+use Rattle.read_block.proofs.Form.Laws as Laws'
 use borrow.Author.Called
 use borrow.Fn.Any
 use borrow.Fn.Call
@@ -80,13 +80,14 @@ abbrev pub y7 : Syntax.Ty
 y7 = Syntax.tyRef Syntax.erased Syntax.mut u8
 
 abbrev pub y8 : Syntax.Ty
-y8 = Syntax.tyStruct (98 ∷ 105 ∷ 116 ∷ 115 ∷ 58 ∷ 58 ∷ 66 ∷ 105 ∷ 116 ∷ 80 ∷ 111 ∷ 115 ∷ 105 ∷ 116 ∷ 105 ∷ 111 ∷ 110 ∷ []) (Syntax.tcons u64 Syntax.tnil)
+y8 = Syntax.tyStruct (114 ∷ 101 ∷ 97 ∷ 100 ∷ 95 ∷ 98 ∷ 108 ∷ 111 ∷ 99 ∷ 107 ∷ 58 ∷ 58 ∷ 70 ∷ 111 ∷ 114 ∷ 109 ∷ []) (Syntax.tcons u32 (Syntax.tcons Syntax.tyBool Syntax.tnil))
 
 abbrev pub y9 : Syntax.Ty
-y9 = Syntax.tyStruct (98 ∷ 108 ∷ 111 ∷ 99 ∷ 107 ∷ 58 ∷ 58 ∷ 70 ∷ 111 ∷ 114 ∷ 109 ∷ []) (Syntax.tcons u32 (Syntax.tcons Syntax.tyBool Syntax.tnil))
+y9 = Syntax.tyStruct (98 ∷ 105 ∷ 116 ∷ 115 ∷ 58 ∷ 58 ∷ 66 ∷ 105 ∷ 116 ∷ 80 ∷ 111 ∷ 115 ∷ 105 ∷ 116 ∷ 105 ∷ 111 ∷ 110 ∷ []) (Syntax.tcons u64 Syntax.tnil)
 
 abbrev pub y10 : Syntax.Ty
-y10 = Syntax.tyEnum (111 ∷ 117 ∷ 116 ∷ 112 ∷ 117 ∷ 116 ∷ 58 ∷ 58 ∷ 80 ∷ 117 ∷ 116 ∷ []) (Syntax.ttcons (Syntax.tcons y8 Syntax.tnil) (Syntax.ttcons (Syntax.tcons u64 Syntax.tnil) Syntax.ttnil))
+y10 = Syntax.tyEnum (98 ∷ 105 ∷ 116 ∷ 95 ∷ 111 ∷ 117 ∷ 116 ∷ 112 ∷ 117 ∷ 116 ∷ 58 ∷ 58 ∷ 80 ∷ 117 ∷ 116 ∷ []) (Syntax.ttcons (Syntax.tcons y9 Syntax.tnil) (Syntax.ttcons (Syntax.tcons u64 Syntax.tnil)
+    Syntax.ttnil))
 
 abbrev pub y11 : Syntax.Ty
 y11 = Syntax.tyStruct (38 ∷ 91 ∷ 93 ∷ []) (Syntax.tcons y5 (Syntax.tcons u64 Syntax.tnil))
@@ -98,11 +99,11 @@ abbrev pub y13 : Syntax.Ty
 y13 = Syntax.tyStruct (38 ∷ 91 ∷ 93 ∷ []) (Syntax.tcons y7 (Syntax.tcons u64 Syntax.tnil))
 
 abbrev pub ps : List.List (Kinds.PK 5)
-ps = (ShrSlice.pShrS n16 0 tt) ∷ (MutSlice.pMutS n8 1 tt) ∷ Bool.pBool ∷ (MutSlice.pMutS n16 2 tt) ∷ (MutSlice.pMutS (Element.type) 3 tt) ∷ (Values.struct Form.the-type Laws.the-laws Laws.the-copy
-    Laws.the-plain) ∷ (ShrSlice.pShrS n8 4 tt) ∷ (Num.pNum Syntax.w64) ∷ []
+ps = (ShrSlice.pShrS n16 0 tt) ∷ (MutSlice.pMutS n8 1 tt) ∷ Bool.pBool ∷ (MutSlice.pMutS n16 2 tt) ∷ (MutSlice.pMutS (Element.type) 3 tt) ∷ (Values.struct Form.the-type Laws'.the-laws Laws'.the-copy
+    Laws'.the-plain) ∷ (ShrSlice.pShrS n8 4 tt) ∷ (Num.pNum Syntax.w64) ∷ []
 
 abbrev pub r : Kinds.RK 5
-r = Values.enum-result Put.the-type Laws'.the-laws Laws'.the-copy Laws'.the-plain tt
+r = Values.enum-result Put.the-type Laws.the-laws Laws.the-copy Laws.the-plain tt
 
 abbrev pub xs : List.List Syntax.Ty
 xs = y10 ∷ y7 ∷ y13 ∷ y6 ∷ y12 ∷ y5 ∷ y11 ∷ Syntax.tyUnit ∷ y6 ∷ y12 ∷ y5 ∷ y11 ∷ []
@@ -111,11 +112,11 @@ abbrev pub m : Nat.ℕ
 m = 5
 
 abbrev pub ps·0 : List.List (Kinds.PK 5)
-ps·0 = (ShrSlice.pShrS n16 0 tt) ∷ (MutSlice.pMutS n8 1 tt) ∷ Bool.pBool ∷ (MutSlice.pMutS n16 2 tt) ∷ (MutSlice.pMutS (Element.type) 3 tt) ∷ (Values.struct Form.the-type Laws.the-laws Laws.the-copy
-    Laws.the-plain) ∷ (ShrSlice.pShrS n8 4 tt) ∷ (Num.pNum Syntax.w64) ∷ []
+ps·0 = (ShrSlice.pShrS n16 0 tt) ∷ (MutSlice.pMutS n8 1 tt) ∷ Bool.pBool ∷ (MutSlice.pMutS n16 2 tt) ∷ (MutSlice.pMutS (Element.type) 3 tt) ∷ (Values.struct Form.the-type Laws'.the-laws Laws'.the-copy
+    Laws'.the-plain) ∷ (ShrSlice.pShrS n8 4 tt) ∷ (Num.pNum Syntax.w64) ∷ []
 
 abbrev pub r·0 : Kinds.RK 5
-r·0 = Values.enum-result Put.the-type Laws'.the-laws Laws'.the-copy Laws'.the-plain tt
+r·0 = Values.enum-result Put.the-type Laws.the-laws Laws.the-copy Laws.the-plain tt
 
 abbrev pub ps·1 : List.List (Kinds.PK 1)
 ps·1 = (MutSlice.pMutS n16 0 tt) ∷ []
@@ -247,7 +248,7 @@ abbrev pub v13 : Row.Row
 v13 = Rows.whole (Declared'.row Form.the-type)
 
 abbrev pub v14 : Row.Row
-v14 = Rows.any-gone y9
+v14 = Rows.any-gone y8
 
 abbrev pub v15 : Row.Row
 v15 = Mut.mslice n8 y1 1
@@ -494,7 +495,7 @@ module _ (claims· : Claims) where
   s13 = Call.callB ps·0 r·0 (claims· .0) (claims· .1) T14 a0 9 (0 ∷ 5 ∷ 6 ∷ 7 ∷ 4 ∷ []) y10
 
   abbrev s14 : Typed.Mo T15 → Typed.Mo T16
-  s14 = Scalar.n-room T15 6 y9
+  s14 = Scalar.n-room T15 6 y8
 
   abbrev s16 : Typed.Both T16 T18
   s16 = Relend.k-back-sl n8 T16 11 2 1 5 y1 y7 Row.off (λ x. x) λ x. x
@@ -668,8 +669,8 @@ module _ (claims· : Claims) where
 
       module _ {M : Type 1} (𝓤 : URA.URA M) (H : Wp.Heap 𝓤) (A : Atoms.Atoms 𝓤) (W : Kit.Given 𝓤 H A) (𝓣 : Wp.Tables 𝓤 H) where
         abbrev Knowns : Type 1
-        Knowns = Plain.Known 𝓤 H A W 𝓣 5 ps·0 r·0 (claims· .0) (claims· .1) "write_block::write_lines" × Plain.Known 𝓤 H A W 𝓣 1 ps·1 r·1 (claims· .2) (claims· .3) "colour_lines::clear" × Plain.Known 𝓤 H A
-            W 𝓣 1 ps·2 r·2 (claims· .4) (claims· .5) "read_block::records::clear_records"
+        Knowns = Plain.Known 𝓤 H A W 𝓣 5 ps·0 r·0 (claims· .0) (claims· .1) "write_block::write_lines" × Plain.Known 𝓤 H A W 𝓣 1 ps·1 r·1 (claims· .2) (claims· .3) "colour_lines::clear" × Plain.Known
+            𝓤 H A W 𝓣 1 ps·2 r·2 (claims· .4) (claims· .5) "read_block::records::clear_records"
 
       module _ (κs : Lifetimes.Lfts 5) (qs : Lifetimes.Shares 5) where
         abbrev k0 : Row.Life
@@ -885,8 +886,8 @@ module _ (claims· : Claims) where
           d4 : Typed.Typed 𝓤 H A 𝓣 E (on T26 l8) b15 Δ0 at4
           d4 = Typed.s-seq 𝓤 H A W 𝓣 E (on T26 l8) (on T45 l8) b13 b14 Δ0 (Typed.pass T26 T45 s43) at3 (LocalCopy.t-val-copy 𝓤 H A W E 𝓣 (λ ρ. Unit) (on T26 l8) 9 0 (Declared.row Put.the-type) y10 y10
               (Rows.whole (Declared.row Put.the-type)) (Rows.whole (Declared.row Put.the-type)) (λ x. x) (λ x. x) (λ x. x) Path'.refl (Own.told-none 𝓤 H A ((on T26 l8) .slots)) (Values.enum-copied 𝓤 H A W
-              Put.the-type Laws'.the-laws Laws'.the-copy) (Reads.room-gone 𝓤 H A y10) (Yields.makes-mem 𝓤 H A W (λ ρ. Unit) (Declared.row Put.the-type) Path'.refl (Rows.whole (Declared.row Put.the-type))
-              (λ x. x) λ ρ told. Local.whole-mem 𝓤 H A W (Declared.row Put.the-type) ρ) Path'.refl Path'.refl) d3
+              Put.the-type Laws.the-laws Laws.the-copy) (Reads.room-gone 𝓤 H A y10) (Yields.makes-mem 𝓤 H A W (λ ρ. Unit) (Declared.row Put.the-type) Path'.refl (Rows.whole (Declared.row Put.the-type)) (λ
+              x. x) λ ρ told. Local.whole-mem 𝓤 H A W (Declared.row Put.the-type) ρ) Path'.refl Path'.refl) d3
 
           d5 : Typed.Typed 𝓤 H A 𝓣 E G43 b15 Δ0 at4
           d5 = Typed.g-pre 𝓤 H A W 𝓣 E G43 (on T26 l8) b15 Δ0 (λ Ψ. Ψ) at4 (Lifetime.g-forget 𝓤 H A W E G43 9 Row.dead Path'.refl) d4
@@ -902,8 +903,8 @@ module _ (claims· : Claims) where
           d8 = Typed.g-pre 𝓤 H A W 𝓣 E G40 G41 b15 Δ0 (Typed.pass T40 T41 s39) at6 (Scalar.g-room 𝓤 H A W E G40 16 Syntax.tyUnit (Scalar.room-sc 𝓤 H A W Row.sUnit)) d7
 
           d9 : Typed.Typed 𝓤 H A 𝓣 E G39 (Syntax.seq b12 b15) Δ0 at9
-          d9 = Typed.s-seq 𝓤 H A W 𝓣 E G39 G40 b12 b15 Δ0 (Typed.both s38) at8 (Plain.t-call-plain 𝓤 H A W 𝓣 1 ps·2 r·2 (claims· .4) (claims· .5) "read_block::records::clear_records" (known .2) E (λ pos β.
-              β) G39 (record { pos = 20; ty = y5; ref = λ x. x }, tt) 16 (9 ∷ []) (Call.sub-id 𝓤 H A W (G39 .slots))
+          d9 = Typed.s-seq 𝓤 H A W 𝓣 E G39 G40 b12 b15 Δ0 (Typed.both s38) at8 (Plain.t-call-plain 𝓤 H A W 𝓣 1 ps·2 r·2 (claims· .4) (claims· .5) "read_block::records::clear_records" (known .2) E (λ
+              pos β. β) G39 (record { pos = 20; ty = y5; ref = λ x. x }, tt) 16 (9 ∷ []) (Call.sub-id 𝓤 H A W (G39 .slots))
               (Reads.as-is 𝓤 H A (Mut.mslice (Element.type) y5 9), Mut.reads-mslice 𝓤 H A W (Element.type) y5 9, Path'.refl, tt) (Reads.room-gone 𝓤 H A Syntax.tyUnit) (tt, tt) Path'.refl) d8
 
           d10 : Typed.Typed 𝓤 H A 𝓣 E G38 (Syntax.seq b11 (Syntax.seq b12 b15)) Δ0 at10
@@ -993,7 +994,7 @@ module _ (claims· : Claims) where
           d32 = Typed.g-pre 𝓤 H A W 𝓣 E G16 G17 b21 Δ0 (λ Ψ. Ψ) at31 (Lifetime.g-end 𝓤 H A W E G16 5 Path'.refl) d31
 
           d33 : Typed.Typed 𝓤 H A 𝓣 E G15 b21 Δ0 at33
-          d33 = Typed.g-pre 𝓤 H A W 𝓣 E G15 G16 b21 Δ0 (Typed.pass T15 T16 s14) at31 (Scalar.g-room 𝓤 H A W E G15 6 y9 (Local.room-whole 𝓤 H A W (Declared'.row Form.the-type) y9 Path'.refl)) d32
+          d33 = Typed.g-pre 𝓤 H A W 𝓣 E G15 G16 b21 Δ0 (Typed.pass T15 T16 s14) at31 (Scalar.g-room 𝓤 H A W E G15 6 y8 (Local.room-whole 𝓤 H A W (Declared'.row Form.the-type) y8 Path'.refl)) d32
 
           d34 : Typed.Typed 𝓤 H A 𝓣 E G14 (Syntax.seq b6 b21) Δ0 at34
           d34 = Typed.s-seq 𝓤 H A W 𝓣 E G14 G15 b6 b21 Δ0 (Typed.both s13) at33 (Plain.t-call-plain 𝓤 H A W 𝓣 5 ps·0 r·0 (claims· .0) (claims· .1) "write_block::write_lines" (known .0) E (λ pos β. β)
@@ -1029,7 +1030,7 @@ module _ (claims· : Claims) where
                         Mut.reads-mslice 𝓤 H A W (Element.type) y5 7,
                         Path'.refl,
                         (
-                          (Values.struct-copied 𝓤 H A W Form.the-type Laws.the-laws Laws.the-copy, Path'.refl),
+                          (Values.struct-copied 𝓤 H A W Form.the-type Laws'.the-laws Laws'.the-copy, Path'.refl),
                           (ShrSlice.spares-sslice 𝓤 H A W n8 y4 4, Shared.reads-sslice 𝓤 H A W n8 y4 4, Path'.refl, ((Scalar.reads-sc 𝓤 H A W (Row.sInt Syntax.w64), Path'.refl), tt)),
                         ),
                       ),
@@ -1104,7 +1105,7 @@ module _ (claims· : Claims) where
           pub store : Kinds.Den {n = 5} κs Bool.pBool
           pub lines : Kinds.Den {n = 5} κs (MutSlice.pMutS n16 2 tt)
           pub rs : Kinds.Den {n = 5} κs (MutSlice.pMutS (Element.type) 3 tt)
-          pub form : Kinds.Den {n = 5} κs (Values.struct Form.the-type Laws.the-laws Laws.the-copy Laws.the-plain)
+          pub form : Kinds.Den {n = 5} κs (Values.struct Form.the-type Laws'.the-laws Laws'.the-copy Laws'.the-plain)
           pub bases : Kinds.Den {n = 5} κs (ShrSlice.pShrS n8 4 tt)
           pub count : Kinds.Den {n = 5} κs (Num.pNum Syntax.w64)
 

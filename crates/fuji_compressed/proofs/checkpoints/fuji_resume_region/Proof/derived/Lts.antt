@@ -6,10 +6,10 @@ use Rattle.bits.proofs.Values.{n16, n64, n8, u16, u64, u8}
 use mathlib.Core.List.{_∷_, []}
 use Rattle.read_block.proofs.Element
 use Prim.Native.Nat
-use Rattle.read_block.proofs.Counted
-use Rattle.read_block.proofs.Counted.Laws
 use Rattle.image_region.proofs.Rect
-use Rattle.image_region.proofs.Rect.Laws as Laws'
+use Rattle.image_region.proofs.Rect.Laws
+use Rattle.read_block.proofs.Counted
+use Rattle.read_block.proofs.Counted.Laws as Laws'
 use borrow.Author.Called
 use borrow.Fn.Any
 use borrow.Fn.Call
@@ -72,12 +72,12 @@ abbrev pub y2 : Syntax.Ty
 y2 = Syntax.tyArray u8 36
 
 abbrev pub y3 : Syntax.Ty
-y3 = Syntax.tyEnum (104 ∷ 101 ∷ 97 ∷ 100 ∷ 101 ∷ 114 ∷ 58 ∷ 58 ∷ 82 ∷ 101 ∷ 102 ∷ 117 ∷ 115 ∷ 97 ∷ 108 ∷ []) (Syntax.ttcons Syntax.tnil (Syntax.ttcons Syntax.tnil (Syntax.ttcons Syntax.tnil
-    (Syntax.ttcons (Syntax.tcons u64 Syntax.tnil) (Syntax.ttcons Syntax.tnil (Syntax.ttcons Syntax.tnil (Syntax.ttcons Syntax.tnil (Syntax.ttcons Syntax.tnil (Syntax.ttcons Syntax.tnil (Syntax.ttcons
-    Syntax.tnil (Syntax.ttcons (Syntax.tcons u64 Syntax.tnil) (Syntax.ttcons (Syntax.tcons u64 Syntax.tnil) (Syntax.ttcons Syntax.tnil (Syntax.ttcons (Syntax.tcons u64 (Syntax.tcons u64 Syntax.tnil))
-    (Syntax.ttcons (Syntax.tcons u64 Syntax.tnil) (Syntax.ttcons Syntax.tnil (Syntax.ttcons Syntax.tnil (Syntax.ttcons (Syntax.tcons u64 Syntax.tnil) (Syntax.ttcons (Syntax.tcons u64 Syntax.tnil)
-    (Syntax.ttcons (Syntax.tcons u64 Syntax.tnil) (Syntax.ttcons Syntax.tnil (Syntax.ttcons Syntax.tnil (Syntax.ttcons (Syntax.tcons u64 (Syntax.tcons u64 Syntax.tnil)) (Syntax.ttcons Syntax.tnil
-    Syntax.ttnil))))))))))))))))))))))))
+y3 = Syntax.tyEnum (115 ∷ 116 ∷ 114 ∷ 101 ∷ 97 ∷ 109 ∷ 58 ∷ 58 ∷ 104 ∷ 101 ∷ 97 ∷ 100 ∷ 101 ∷ 114 ∷ 58 ∷ 58 ∷ 82 ∷ 101 ∷ 102 ∷ 117 ∷ 115 ∷ 97 ∷ 108 ∷ []) (Syntax.ttcons Syntax.tnil (Syntax.ttcons
+    Syntax.tnil (Syntax.ttcons Syntax.tnil (Syntax.ttcons (Syntax.tcons u64 Syntax.tnil) (Syntax.ttcons Syntax.tnil (Syntax.ttcons Syntax.tnil (Syntax.ttcons Syntax.tnil (Syntax.ttcons Syntax.tnil
+    (Syntax.ttcons Syntax.tnil (Syntax.ttcons Syntax.tnil (Syntax.ttcons (Syntax.tcons u64 Syntax.tnil) (Syntax.ttcons (Syntax.tcons u64 Syntax.tnil) (Syntax.ttcons Syntax.tnil (Syntax.ttcons
+    (Syntax.tcons u64 (Syntax.tcons u64 Syntax.tnil)) (Syntax.ttcons (Syntax.tcons u64 Syntax.tnil) (Syntax.ttcons Syntax.tnil (Syntax.ttcons Syntax.tnil (Syntax.ttcons (Syntax.tcons u64 Syntax.tnil)
+    (Syntax.ttcons (Syntax.tcons u64 Syntax.tnil) (Syntax.ttcons (Syntax.tcons u64 Syntax.tnil) (Syntax.ttcons Syntax.tnil (Syntax.ttcons Syntax.tnil (Syntax.ttcons (Syntax.tcons u64 (Syntax.tcons u64
+    Syntax.tnil)) (Syntax.ttcons Syntax.tnil (Syntax.ttcons Syntax.tnil (Syntax.ttcons (Syntax.tcons u64 Syntax.tnil) Syntax.ttnil))))))))))))))))))))))))))
 
 abbrev pub y4 : Syntax.Ty
 y4 = Syntax.tyRef (Syntax.named 0) Syntax.imm u8
@@ -101,13 +101,15 @@ abbrev pub y10 : Syntax.Ty
 y10 = Syntax.tyRef Syntax.erased Syntax.mut u16
 
 abbrev pub y11 : Syntax.Ty
-y11 = Syntax.tyStruct (114 ∷ 101 ∷ 103 ∷ 105 ∷ 111 ∷ 110 ∷ 58 ∷ 58 ∷ 82 ∷ 101 ∷ 99 ∷ 116 ∷ []) (Syntax.tcons u64 (Syntax.tcons u64 (Syntax.tcons u64 (Syntax.tcons u64 Syntax.tnil))))
+y11 = Syntax.tyStruct (105 ∷ 109 ∷ 97 ∷ 103 ∷ 101 ∷ 95 ∷ 114 ∷ 101 ∷ 103 ∷ 105 ∷ 111 ∷ 110 ∷ 58 ∷ 58 ∷ 82 ∷ 101 ∷ 99 ∷ 116 ∷ []) (Syntax.tcons u64 (Syntax.tcons u64 (Syntax.tcons u64 (Syntax.tcons u64
+    Syntax.tnil))))
 
 abbrev pub y12 : Syntax.Ty
-y12 = Syntax.tyStruct (116 ∷ 111 ∷ 116 ∷ 97 ∷ 108 ∷ 115 ∷ 58 ∷ 58 ∷ 84 ∷ 111 ∷ 116 ∷ 97 ∷ 108 ∷ 115 ∷ []) (Syntax.tcons u64 (Syntax.tcons u64 Syntax.tnil))
+y12 = Syntax.tyStruct (108 ∷ 105 ∷ 110 ∷ 101 ∷ 95 ∷ 116 ∷ 111 ∷ 116 ∷ 97 ∷ 108 ∷ 115 ∷ 58 ∷ 58 ∷ 84 ∷ 111 ∷ 116 ∷ 97 ∷ 108 ∷ 115 ∷ []) (Syntax.tcons u64 (Syntax.tcons u64 Syntax.tnil))
 
 abbrev pub y13 : Syntax.Ty
-y13 = Syntax.tyEnum (98 ∷ 108 ∷ 111 ∷ 99 ∷ 107 ∷ 58 ∷ 58 ∷ 68 ∷ 101 ∷ 99 ∷ 111 ∷ 100 ∷ 101 ∷ 100 ∷ []) (Syntax.ttcons Syntax.tnil (Syntax.ttcons (Syntax.tcons y3 Syntax.tnil) Syntax.ttnil))
+y13 = Syntax.tyEnum (114 ∷ 101 ∷ 97 ∷ 100 ∷ 95 ∷ 98 ∷ 108 ∷ 111 ∷ 99 ∷ 107 ∷ 58 ∷ 58 ∷ 68 ∷ 101 ∷ 99 ∷ 111 ∷ 100 ∷ 101 ∷ 100 ∷ []) (Syntax.ttcons Syntax.tnil (Syntax.ttcons (Syntax.tcons y3
+    Syntax.tnil) Syntax.ttnil))
 
 abbrev pub y14 : Syntax.Ty
 y14 = Syntax.tyRef (Syntax.named 2) Syntax.imm y2
@@ -125,7 +127,7 @@ abbrev pub y18 : Syntax.Ty
 y18 = Syntax.tyStruct (38 ∷ 91 ∷ 93 ∷ []) (Syntax.tcons y9 (Syntax.tcons u64 Syntax.tnil))
 
 abbrev pub y19 : Syntax.Ty
-y19 = Syntax.tyStruct (98 ∷ 108 ∷ 111 ∷ 99 ∷ 107 ∷ 58 ∷ 58 ∷ 67 ∷ 111 ∷ 117 ∷ 110 ∷ 116 ∷ 101 ∷ 100 ∷ []) (Syntax.tcons y13 (Syntax.tcons y12 Syntax.tnil))
+y19 = Syntax.tyStruct (114 ∷ 101 ∷ 97 ∷ 100 ∷ 95 ∷ 98 ∷ 108 ∷ 111 ∷ 99 ∷ 107 ∷ 58 ∷ 58 ∷ 67 ∷ 111 ∷ 117 ∷ 110 ∷ 116 ∷ 101 ∷ 100 ∷ []) (Syntax.tcons y13 (Syntax.tcons y12 Syntax.tnil))
 
 abbrev pub ps : List.List (Kinds.PK 8)
 ps = (ShrSlice.pShrS n8 0 tt) ∷ (Num.pNum Syntax.w64) ∷ (ShrSlice.pShrS n8 1 tt) ∷ (Num.pNum Syntax.w64) ∷ (Num.pNum Syntax.w64) ∷ (Num.pNum Syntax.w64) ∷ (Num.pNum Syntax.w64) ∷ (ShrRef.pShr
@@ -142,20 +144,20 @@ abbrev pub m : Nat.ℕ
 m = 3
 
 abbrev pub ps·0 : List.List (Kinds.PK 5)
-ps·0 = (ShrSlice.pShrS n8 0 tt) ∷ (Num.pNum Syntax.w64) ∷ (ShrSlice.pShrS n8 1 tt) ∷ (Values.struct Rect.the-type Laws'.the-laws Laws'.the-copy Laws'.the-plain) ∷ (Array.pArr (Array.eInt Syntax.w8)
+ps·0 = (ShrSlice.pShrS n8 0 tt) ∷ (Num.pNum Syntax.w64) ∷ (ShrSlice.pShrS n8 1 tt) ∷ (Values.struct Rect.the-type Laws.the-laws Laws.the-copy Laws.the-plain) ∷ (Array.pArr (Array.eInt Syntax.w8)
     (Array.eInt-laws Syntax.w8) 36) ∷ (MutSlice.pMutS n16 2 tt) ∷ (MutSlice.pMutS n16 3 tt) ∷ (MutSlice.pMutS (Element.type) 4 tt) ∷ []
 
 abbrev pub r·0 : Kinds.RK 5
-r·0 = Values.struct-result Counted.the-type Laws.the-laws Laws.the-copy Laws.the-plain
+r·0 = Values.struct-result Counted.the-type Laws'.the-laws Laws'.the-copy Laws'.the-plain
 
 abbrev pub ps·1 : List.List (Kinds.PK 0)
-ps·1 = (Values.struct Counted.the-type Laws.the-laws Laws.the-copy Laws.the-plain) ∷ []
+ps·1 = (Values.struct Counted.the-type Laws'.the-laws Laws'.the-copy Laws'.the-plain) ∷ []
 
 abbrev pub r·1 : Kinds.RK 0
 r·1 = Array.rArr (Array.eInt Syntax.w64) (Array.eInt-laws Syntax.w64) 2
 
 abbrev pub ps·2 : List.List (Kinds.PK 0)
-ps·2 = (Values.struct Counted.the-type Laws.the-laws Laws.the-copy Laws.the-plain) ∷ []
+ps·2 = (Values.struct Counted.the-type Laws'.the-laws Laws'.the-copy Laws'.the-plain) ∷ []
 
 abbrev pub r·2 : Kinds.RK 0
 r·2 = Array.rArr (Array.eInt Syntax.w64) (Array.eInt-laws Syntax.w64) 4
@@ -635,8 +637,9 @@ module _ (claims· : Claims) where
     module _ (M : Type 1) where
       abbrev pub Closed : Type 2
       Closed = (𝓤 : URA.URA M) (H : Wp.Heap 𝓤) (A : Atoms.Atoms 𝓤) (W : Kit.Given 𝓤 H A) (𝓣 : Wp.Tables 𝓤 H) (known0 : Plain.Known 𝓤 H A W 𝓣 5 ps·0 r·0 (claims· .0) (claims· .1)
-          "saved_state::blocks::resume_region") (known1 : Plain.Known 𝓤 H A W 𝓣 0 ps·1 r·1 (claims· .2) (claims· .3) "fuji_compressed::reading::totals_words") (known2 : Plain.Known 𝓤 H A W 𝓣 0 ps·2 r·2 (claims·
-          .4) (claims· .5) "fuji_compressed::reading::counted_refusal") → Statement.Triple 𝓤 (Wp.WpFn 𝓤 H (𝓣 .C) (𝓣 .Λ) (Function.fnOf 8 ps r xs m hs body)) (Function.plainOf 𝓤 H A 8 ps r Pre· Post·)
+          "saved_state::blocks::resume_region") (known1 : Plain.Known 𝓤 H A W 𝓣 0 ps·1 r·1 (claims· .2) (claims· .3) "fuji_compressed::reading::totals_words") (known2 : Plain.Known 𝓤 H A W 𝓣 0 ps·2 r·2
+          (claims· .4) (claims· .5) "fuji_compressed::reading::counted_refusal") → Statement.Triple 𝓤 (Wp.WpFn 𝓤 H (𝓣 .C) (𝓣 .Λ) (Function.fnOf 8 ps r xs m hs body)) (Function.plainOf 𝓤 H A 8 ps r Pre·
+          Post·)
 
     module _ where
       abbrev at0 : Typed.TF T1 O0
@@ -949,12 +952,12 @@ module _ (claims· : Claims) where
           d12 : Typed.Typed 𝓤 H A 𝓣 E (on T32 l5) (Syntax.seq b10 b17) Δ0 at12
           d12 = Typed.s-seq 𝓤 H A W 𝓣 E (on T32 l5) (on T33 l5) b10 b17 Δ0 (Typed.both s31) at11 (Plain.t-call-plain 𝓤 H A W 𝓣 0 ps·2 r·2 (claims· .4) (claims· .5)
               "fuji_compressed::reading::counted_refusal" (known .2) E (λ pos β. β) (on T32 l5) (record { pos = 16; st = []; d = 0; at = λ x. x }, tt) 18 [] (Call.sub-id 𝓤 H A W ((on T32 l5) .slots))
-              ((Values.struct-copied 𝓤 H A W Counted.the-type Laws.the-laws Laws.the-copy, Path'.refl), tt) (Reads.room-gone 𝓤 H A y1) tt Path'.refl) d11
+              ((Values.struct-copied 𝓤 H A W Counted.the-type Laws'.the-laws Laws'.the-copy, Path'.refl), tt) (Reads.room-gone 𝓤 H A y1) tt Path'.refl) d11
 
           d13 : Typed.Typed 𝓤 H A 𝓣 E (on T30 l5) b19 Δ0 at13
           d13 = Typed.s-seq 𝓤 H A W 𝓣 E (on T30 l5) (on T32 l5) b9 (Syntax.seq b10 b17) Δ0 (Typed.both s30) at12 (Plain.t-call-plain 𝓤 H A W 𝓣 0 ps·1 r·1 (claims· .2) (claims· .3)
               "fuji_compressed::reading::totals_words" (known .1) E (λ pos β. β) (on T30 l5) (record { pos = 16; st = []; d = 0; at = λ x. x }, tt) 17 [] (Call.sub-id 𝓤 H A W ((on T30 l5) .slots))
-              ((Values.struct-copied 𝓤 H A W Counted.the-type Laws.the-laws Laws.the-copy, Path'.refl), tt) (Reads.room-gone 𝓤 H A y0) tt Path'.refl) d12
+              ((Values.struct-copied 𝓤 H A W Counted.the-type Laws'.the-laws Laws'.the-copy, Path'.refl), tt) (Reads.room-gone 𝓤 H A y0) tt Path'.refl) d12
 
           d14 : Typed.Typed 𝓤 H A 𝓣 E G30 b19 Δ0 at13
           d14 = Typed.g-pre 𝓤 H A W 𝓣 E G30 (on T30 l5) b19 Δ0 (λ Ψ. Ψ) at13 (Lifetime.g-forget 𝓤 H A W E G30 10 Row.dead Path'.refl) d13
@@ -1001,8 +1004,8 @@ module _ (claims· : Claims) where
           d26 = Typed.g-pre 𝓤 H A W 𝓣 E G18 G19 b19 Δ0 (Typed.pass T18 T19 s17) at25 (Scalar.g-room 𝓤 H A W E G18 14 y11 (Local.room-whole 𝓤 H A W (Declared.row Rect.the-type) y11 Path'.refl)) d25
 
           d27 : Typed.Typed 𝓤 H A 𝓣 E G17 (Syntax.seq b8 b19) Δ0 at27
-          d27 = Typed.s-seq 𝓤 H A W 𝓣 E G17 G18 b8 b19 Δ0 (Typed.both s16) at26 (Plain.t-call-plain 𝓤 H A W 𝓣 5 ps·0 r·0 (claims· .0) (claims· .1) "saved_state::blocks::resume_region" (known .0) E (λ pos β.
-              β) G17 (
+          d27 = Typed.s-seq 𝓤 H A W 𝓣 E G17 G18 b8 b19 Δ0 (Typed.both s16) at26 (Plain.t-call-plain 𝓤 H A W 𝓣 5 ps·0 r·0 (claims· .0) (claims· .1) "saved_state::blocks::resume_region" (known .0) E (λ
+              pos β. β) G17 (
                 record { pos = 1; ty = y4; ref = λ x. x },
                 (
                   Num.vAt 2 λ x. x,
@@ -1029,7 +1032,7 @@ module _ (claims· : Claims) where
                     Shared.reads-sslice 𝓤 H A W n8 y5 1,
                     Path'.refl,
                     (
-                      (Values.struct-copied 𝓤 H A W Rect.the-type Laws'.the-laws Laws'.the-copy, Path'.refl),
+                      (Values.struct-copied 𝓤 H A W Rect.the-type Laws.the-laws Laws.the-copy, Path'.refl),
                       (
                         (Array.arr-yields 𝓤 H A W (Array.eInt Syntax.w8) (Array.eInt-laws Syntax.w8) 36, Path'.refl),
                         (
@@ -1102,16 +1105,16 @@ module _ (claims· : Claims) where
 
           d39 : Typed.Typed 𝓤 H A 𝓣 E (on T0 l5) b28 Δ0 at39
           d39 = Typed.s-seq 𝓤 H A W 𝓣 E (on T0 l5) (on T6 l5) b0 (Syntax.seq b1 (Syntax.seq b2 b25)) Δ0 (Typed.pass T0 T6 s4) at38 (Make.t-struct-make 𝓤 H A W E 𝓣 (Apart.apartT Rect.the-type)
-              Laws'.the-laws Laws'.the-plain (on T0 l5) 14 ((Scalar.oAt 4 u64 (Row.valS (Row.sInt Syntax.w64))) ∷ (Scalar.oAt 5 u64 (Row.valS (Row.sInt Syntax.w64))) ∷ (Scalar.oAt 6 u64 (Row.valS
-              (Row.sInt Syntax.w64))) ∷ (Scalar.oAt 7 u64 (Row.valS (Row.sInt Syntax.w64))) ∷ []) (λ m.
-              (m .1 .1 .1 .1 .0, (m .1 .1 .1 .1 .1 .0, (m .1 .1 .1 .1 .1 .1 .0, (m .1 .1 .1 .1 .1 .1 .1 .0, tt))))) (Reads.room-gone 𝓤 H A y11) (
+              Laws.the-laws Laws.the-plain (on T0 l5) 14 ((Scalar.oAt 4 u64 (Row.valS (Row.sInt Syntax.w64))) ∷ (Scalar.oAt 5 u64 (Row.valS (Row.sInt Syntax.w64))) ∷ (Scalar.oAt 6 u64 (Row.valS (Row.sInt
+              Syntax.w64))) ∷ (Scalar.oAt 7 u64 (Row.valS (Row.sInt Syntax.w64))) ∷ []) (λ m. (m .1 .1 .1 .1 .0, (m .1 .1 .1 .1 .1 .0, (m .1 .1 .1 .1 .1 .1 .0, (m .1 .1 .1 .1 .1 .1 .1 .0, tt)))))
+              (Reads.room-gone 𝓤 H A y11) (
                 (Scalar.reads-sc 𝓤 H A W (Row.sInt Syntax.w64), Path'.refl),
                 (
                   (Scalar.reads-sc 𝓤 H A W (Row.sInt Syntax.w64), Path'.refl),
                   ((Scalar.reads-sc 𝓤 H A W (Row.sInt Syntax.w64), Path'.refl), ((Scalar.reads-sc 𝓤 H A W (Row.sInt Syntax.w64), Path'.refl), tt)),
                 ),
               ) Path'.refl (λ u. Path'.refl) λ m. Make.is-wt (Apart.apartT
-              Rect.the-type) Laws'.the-laws (Make.u64-wt, (Make.u64-wt, (Make.u64-wt, (Make.u64-wt, tt))))
+              Rect.the-type) Laws.the-laws (Make.u64-wt, (Make.u64-wt, (Make.u64-wt, (Make.u64-wt, tt))))
               (m .1 .1 .1 .1 .0, (m .1 .1 .1 .1 .1 .0, (m .1 .1 .1 .1 .1 .1 .0, (m .1 .1 .1 .1 .1 .1 .1 .0, tt))))) d38
 
           d40 : Typed.Typed 𝓤 H A 𝓣 E (on T0 l5) b28 Δ0 at40

@@ -6,10 +6,10 @@ use Rattle.bits.proofs.Values.{n16, n64, n8, u16, u64, u8}
 use mathlib.Core.List.{_∷_, []}
 use Rattle.read_block.proofs.Element
 use Prim.Native.Nat
-use Rattle.read_block.proofs.Decoded
-use Rattle.read_block.proofs.Decoded.Laws
 use Rattle.image_region.proofs.Rect
-use Rattle.image_region.proofs.Rect.Laws as Laws'
+use Rattle.image_region.proofs.Rect.Laws
+use Rattle.read_block.proofs.Decoded
+use Rattle.read_block.proofs.Decoded.Laws as Laws'
 use borrow.Author.Called
 use borrow.Fn.Any
 use borrow.Fn.Call
@@ -70,12 +70,12 @@ abbrev pub y1 : Syntax.Ty
 y1 = Syntax.tyArray u8 36
 
 abbrev pub y2 : Syntax.Ty
-y2 = Syntax.tyEnum (104 ∷ 101 ∷ 97 ∷ 100 ∷ 101 ∷ 114 ∷ 58 ∷ 58 ∷ 82 ∷ 101 ∷ 102 ∷ 117 ∷ 115 ∷ 97 ∷ 108 ∷ []) (Syntax.ttcons Syntax.tnil (Syntax.ttcons Syntax.tnil (Syntax.ttcons Syntax.tnil
-    (Syntax.ttcons (Syntax.tcons u64 Syntax.tnil) (Syntax.ttcons Syntax.tnil (Syntax.ttcons Syntax.tnil (Syntax.ttcons Syntax.tnil (Syntax.ttcons Syntax.tnil (Syntax.ttcons Syntax.tnil (Syntax.ttcons
-    Syntax.tnil (Syntax.ttcons (Syntax.tcons u64 Syntax.tnil) (Syntax.ttcons (Syntax.tcons u64 Syntax.tnil) (Syntax.ttcons Syntax.tnil (Syntax.ttcons (Syntax.tcons u64 (Syntax.tcons u64 Syntax.tnil))
-    (Syntax.ttcons (Syntax.tcons u64 Syntax.tnil) (Syntax.ttcons Syntax.tnil (Syntax.ttcons Syntax.tnil (Syntax.ttcons (Syntax.tcons u64 Syntax.tnil) (Syntax.ttcons (Syntax.tcons u64 Syntax.tnil)
-    (Syntax.ttcons (Syntax.tcons u64 Syntax.tnil) (Syntax.ttcons Syntax.tnil (Syntax.ttcons Syntax.tnil (Syntax.ttcons (Syntax.tcons u64 (Syntax.tcons u64 Syntax.tnil)) (Syntax.ttcons Syntax.tnil
-    Syntax.ttnil))))))))))))))))))))))))
+y2 = Syntax.tyEnum (115 ∷ 116 ∷ 114 ∷ 101 ∷ 97 ∷ 109 ∷ 58 ∷ 58 ∷ 104 ∷ 101 ∷ 97 ∷ 100 ∷ 101 ∷ 114 ∷ 58 ∷ 58 ∷ 82 ∷ 101 ∷ 102 ∷ 117 ∷ 115 ∷ 97 ∷ 108 ∷ []) (Syntax.ttcons Syntax.tnil (Syntax.ttcons
+    Syntax.tnil (Syntax.ttcons Syntax.tnil (Syntax.ttcons (Syntax.tcons u64 Syntax.tnil) (Syntax.ttcons Syntax.tnil (Syntax.ttcons Syntax.tnil (Syntax.ttcons Syntax.tnil (Syntax.ttcons Syntax.tnil
+    (Syntax.ttcons Syntax.tnil (Syntax.ttcons Syntax.tnil (Syntax.ttcons (Syntax.tcons u64 Syntax.tnil) (Syntax.ttcons (Syntax.tcons u64 Syntax.tnil) (Syntax.ttcons Syntax.tnil (Syntax.ttcons
+    (Syntax.tcons u64 (Syntax.tcons u64 Syntax.tnil)) (Syntax.ttcons (Syntax.tcons u64 Syntax.tnil) (Syntax.ttcons Syntax.tnil (Syntax.ttcons Syntax.tnil (Syntax.ttcons (Syntax.tcons u64 Syntax.tnil)
+    (Syntax.ttcons (Syntax.tcons u64 Syntax.tnil) (Syntax.ttcons (Syntax.tcons u64 Syntax.tnil) (Syntax.ttcons Syntax.tnil (Syntax.ttcons Syntax.tnil (Syntax.ttcons (Syntax.tcons u64 (Syntax.tcons u64
+    Syntax.tnil)) (Syntax.ttcons Syntax.tnil (Syntax.ttcons Syntax.tnil (Syntax.ttcons (Syntax.tcons u64 Syntax.tnil) Syntax.ttnil))))))))))))))))))))))))))
 
 abbrev pub y3 : Syntax.Ty
 y3 = Syntax.tyRef (Syntax.named 0) Syntax.imm u8
@@ -96,10 +96,12 @@ abbrev pub y8 : Syntax.Ty
 y8 = Syntax.tyRef Syntax.erased Syntax.mut u16
 
 abbrev pub y9 : Syntax.Ty
-y9 = Syntax.tyStruct (114 ∷ 101 ∷ 103 ∷ 105 ∷ 111 ∷ 110 ∷ 58 ∷ 58 ∷ 82 ∷ 101 ∷ 99 ∷ 116 ∷ []) (Syntax.tcons u64 (Syntax.tcons u64 (Syntax.tcons u64 (Syntax.tcons u64 Syntax.tnil))))
+y9 = Syntax.tyStruct (105 ∷ 109 ∷ 97 ∷ 103 ∷ 101 ∷ 95 ∷ 114 ∷ 101 ∷ 103 ∷ 105 ∷ 111 ∷ 110 ∷ 58 ∷ 58 ∷ 82 ∷ 101 ∷ 99 ∷ 116 ∷ []) (Syntax.tcons u64 (Syntax.tcons u64 (Syntax.tcons u64 (Syntax.tcons u64
+    Syntax.tnil))))
 
 abbrev pub y10 : Syntax.Ty
-y10 = Syntax.tyEnum (98 ∷ 108 ∷ 111 ∷ 99 ∷ 107 ∷ 58 ∷ 58 ∷ 68 ∷ 101 ∷ 99 ∷ 111 ∷ 100 ∷ 101 ∷ 100 ∷ []) (Syntax.ttcons Syntax.tnil (Syntax.ttcons (Syntax.tcons y2 Syntax.tnil) Syntax.ttnil))
+y10 = Syntax.tyEnum (114 ∷ 101 ∷ 97 ∷ 100 ∷ 95 ∷ 98 ∷ 108 ∷ 111 ∷ 99 ∷ 107 ∷ 58 ∷ 58 ∷ 68 ∷ 101 ∷ 99 ∷ 111 ∷ 100 ∷ 101 ∷ 100 ∷ []) (Syntax.ttcons Syntax.tnil (Syntax.ttcons (Syntax.tcons y2
+    Syntax.tnil) Syntax.ttnil))
 
 abbrev pub y11 : Syntax.Ty
 y11 = Syntax.tyRef (Syntax.named 1) Syntax.imm y1
@@ -127,14 +129,14 @@ abbrev pub m : Nat.ℕ
 m = 3
 
 abbrev pub ps·0 : List.List (Kinds.PK 4)
-ps·0 = (ShrSlice.pShrS n8 0 tt) ∷ (Values.struct Rect.the-type Laws'.the-laws Laws'.the-copy Laws'.the-plain) ∷ (Array.pArr (Array.eInt Syntax.w8) (Array.eInt-laws Syntax.w8) 36) ∷ (MutSlice.pMutS n16
-    1 tt) ∷ (MutSlice.pMutS n16 2 tt) ∷ (MutSlice.pMutS (Element.type) 3 tt) ∷ []
+ps·0 = (ShrSlice.pShrS n8 0 tt) ∷ (Values.struct Rect.the-type Laws.the-laws Laws.the-copy Laws.the-plain) ∷ (Array.pArr (Array.eInt Syntax.w8) (Array.eInt-laws Syntax.w8) 36) ∷ (MutSlice.pMutS n16 1
+    tt) ∷ (MutSlice.pMutS n16 2 tt) ∷ (MutSlice.pMutS (Element.type) 3 tt) ∷ []
 
 abbrev pub r·0 : Kinds.RK 4
-r·0 = Values.enum-result Decoded.the-type Laws.the-laws Laws.the-copy Laws.the-plain tt
+r·0 = Values.enum-result Decoded.the-type Laws'.the-laws Laws'.the-copy Laws'.the-plain tt
 
 abbrev pub ps·1 : List.List (Kinds.PK 0)
-ps·1 = (Values.enum Decoded.the-type Laws.the-laws Laws.the-copy Laws.the-plain tt) ∷ []
+ps·1 = (Values.enum Decoded.the-type Laws'.the-laws Laws'.the-copy Laws'.the-plain tt) ∷ []
 
 abbrev pub r·1 : Kinds.RK 0
 r·1 = Array.rArr (Array.eInt Syntax.w64) (Array.eInt-laws Syntax.w64) 4
@@ -170,8 +172,8 @@ abbrev b7 : Syntax.Body
 b7 = Syntax.assign (Syntax.place 20 []) (Syntax.aggregate ((Syntax.copy (Syntax.place 19 [])) ∷ (Syntax.copy (Syntax.place 9 ((Syntax.field 1) ∷ []))) ∷ []))
 
 abbrev b8 : Syntax.Body
-b8 = Syntax.call "read_block::decoding::decode_region" ((Syntax.copy (Syntax.place 1 [])) ∷ (Syntax.copy (Syntax.place 11 [])) ∷ (Syntax.copy (Syntax.place 12 [])) ∷ (Syntax.copy (Syntax.place 16 [])) ∷
-    (Syntax.copy (Syntax.place 18 [])) ∷ (Syntax.copy (Syntax.place 20 [])) ∷ []) (Syntax.place 13 [])
+b8 = Syntax.call "read_block::decoding::decode_region" ((Syntax.copy (Syntax.place 1 [])) ∷ (Syntax.copy (Syntax.place 11 [])) ∷ (Syntax.copy (Syntax.place 12 [])) ∷ (Syntax.copy (Syntax.place 16 []))
+    ∷ (Syntax.copy (Syntax.place 18 [])) ∷ (Syntax.copy (Syntax.place 20 [])) ∷ []) (Syntax.place 13 [])
 
 abbrev b9 : Syntax.Body
 b9 = Syntax.call "read_block::answer_words" ((Syntax.copy (Syntax.place 13 [])) ∷ []) (Syntax.place 14 [])
@@ -553,8 +555,8 @@ module _ (claims· : Claims) where
     module _ (M : Type 1) where
       abbrev pub Closed : Type 2
       Closed = (𝓤 : URA.URA M) (H : Wp.Heap 𝓤) (A : Atoms.Atoms 𝓤) (W : Kit.Given 𝓤 H A) (𝓣 : Wp.Tables 𝓤 H) (known0 : Plain.Known 𝓤 H A W 𝓣 4 ps·0 r·0 (claims· .0) (claims· .1)
-          "read_block::decoding::decode_region") (known1 : Plain.Known 𝓤 H A W 𝓣 0 ps·1 r·1 (claims· .2) (claims· .3) "read_block::answer_words") → Statement.Triple 𝓤 (Wp.WpFn 𝓤 H (𝓣 .C) (𝓣 .Λ) (Function.fnOf 6 ps
-          r xs m hs body)) (Function.plainOf 𝓤 H A 6 ps r Pre· Post·)
+          "read_block::decoding::decode_region") (known1 : Plain.Known 𝓤 H A W 𝓣 0 ps·1 r·1 (claims· .2) (claims· .3) "read_block::answer_words") → Statement.Triple 𝓤 (Wp.WpFn 𝓤 H (𝓣 .C) (𝓣 .Λ)
+          (Function.fnOf 6 ps r xs m hs body)) (Function.plainOf 𝓤 H A 6 ps r Pre· Post·)
 
     module _ where
       abbrev at0 : Typed.TF T1 O0
@@ -652,7 +654,8 @@ module _ (claims· : Claims) where
 
       module _ {M : Type 1} (𝓤 : URA.URA M) (H : Wp.Heap 𝓤) (A : Atoms.Atoms 𝓤) (W : Kit.Given 𝓤 H A) (𝓣 : Wp.Tables 𝓤 H) where
         abbrev Knowns : Type 1
-        Knowns = Plain.Known 𝓤 H A W 𝓣 4 ps·0 r·0 (claims· .0) (claims· .1) "read_block::decoding::decode_region" × Plain.Known 𝓤 H A W 𝓣 0 ps·1 r·1 (claims· .2) (claims· .3) "read_block::answer_words"
+        Knowns = Plain.Known 𝓤 H A W 𝓣 4 ps·0 r·0 (claims· .0) (claims· .1) "read_block::decoding::decode_region" × Plain.Known 𝓤 H A W 𝓣 0 ps·1 r·1 (claims· .2) (claims· .3)
+            "read_block::answer_words"
 
       module _ (κs : Lifetimes.Lfts 6) (qs : Lifetimes.Shares 6) where
         abbrev k0 : Row.Life
@@ -838,7 +841,7 @@ module _ (claims· : Claims) where
           d9 : Typed.Typed 𝓤 H A 𝓣 E (on T29 l5) b15 Δ0 at9
           d9 = Typed.s-seq 𝓤 H A W 𝓣 E (on T29 l5) (on T31 l5) b9 (Syntax.seq b10 (Syntax.seq b11 b12)) Δ0 (Typed.both s29) at8 (Plain.t-call-plain 𝓤 H A W 𝓣 0 ps·1 r·1 (claims· .2) (claims· .3)
               "read_block::answer_words" (known .1) E (λ pos β. β) (on T29 l5) (record { pos = 13; st = []; d = 0; at = λ x. x }, tt) 14 [] (Call.sub-id 𝓤 H A W ((on T29 l5) .slots))
-              ((Values.enum-copied 𝓤 H A W Decoded.the-type Laws.the-laws Laws.the-copy, Path'.refl), tt) (Reads.room-gone 𝓤 H A y0) tt Path'.refl) d8
+              ((Values.enum-copied 𝓤 H A W Decoded.the-type Laws'.the-laws Laws'.the-copy, Path'.refl), tt) (Reads.room-gone 𝓤 H A y0) tt Path'.refl) d8
 
           d10 : Typed.Typed 𝓤 H A 𝓣 E G29 b15 Δ0 at9
           d10 = Typed.g-pre 𝓤 H A W 𝓣 E G29 (on T29 l5) b15 Δ0 (λ Ψ. Ψ) at9 (Lifetime.g-forget 𝓤 H A W E G29 8 Row.dead Path'.refl) d9
@@ -885,8 +888,8 @@ module _ (claims· : Claims) where
           d22 = Typed.g-pre 𝓤 H A W 𝓣 E G17 G18 b15 Δ0 (Typed.pass T17 T18 s16) at21 (Scalar.g-room 𝓤 H A W E G17 11 y9 (Local.room-whole 𝓤 H A W (Declared'.row Rect.the-type) y9 Path'.refl)) d21
 
           d23 : Typed.Typed 𝓤 H A 𝓣 E G16 (Syntax.seq b8 b15) Δ0 at23
-          d23 = Typed.s-seq 𝓤 H A W 𝓣 E G16 G17 b8 b15 Δ0 (Typed.both s15) at22 (Plain.t-call-plain 𝓤 H A W 𝓣 4 ps·0 r·0 (claims· .0) (claims· .1) "read_block::decoding::decode_region" (known .0) E (λ pos
-              β. β) G16 (
+          d23 = Typed.s-seq 𝓤 H A W 𝓣 E G16 G17 b8 b15 Δ0 (Typed.both s15) at22 (Plain.t-call-plain 𝓤 H A W 𝓣 4 ps·0 r·0 (claims· .0) (claims· .1) "read_block::decoding::decode_region" (known .0) E (λ
+              pos β. β) G16 (
                 record { pos = 1; ty = y3; ref = λ x. x },
                 (
                   record { pos = 11; st = []; d = 0; at = λ x. x },
@@ -901,7 +904,7 @@ module _ (claims· : Claims) where
                 Shared.reads-sslice 𝓤 H A W n8 y3 0,
                 Path'.refl,
                 (
-                  (Values.struct-copied 𝓤 H A W Rect.the-type Laws'.the-laws Laws'.the-copy, Path'.refl),
+                  (Values.struct-copied 𝓤 H A W Rect.the-type Laws.the-laws Laws.the-copy, Path'.refl),
                   (
                     (Array.arr-yields 𝓤 H A W (Array.eInt Syntax.w8) (Array.eInt-laws Syntax.w8) 36, Path'.refl),
                     (
@@ -971,16 +974,15 @@ module _ (claims· : Claims) where
 
           d35 : Typed.Typed 𝓤 H A 𝓣 E (on T0 l5) b24 Δ0 at35
           d35 = Typed.s-seq 𝓤 H A W 𝓣 E (on T0 l5) (on T5 l5) b0 (Syntax.seq b1 (Syntax.seq b2 b21)) Δ0 (Typed.pass T0 T5 s3) at34 (Make.t-struct-make 𝓤 H A W E 𝓣 (Apart.apartT Rect.the-type)
-              Laws'.the-laws Laws'.the-plain (on T0 l5) 11 ((Scalar.oAt 2 u64 (Row.valS (Row.sInt Syntax.w64))) ∷ (Scalar.oAt 3 u64 (Row.valS (Row.sInt Syntax.w64))) ∷ (Scalar.oAt 4 u64 (Row.valS
-              (Row.sInt Syntax.w64))) ∷ (Scalar.oAt 5 u64 (Row.valS (Row.sInt Syntax.w64))) ∷ []) (λ m. (m .1 .1 .0, (m .1 .1 .1 .0, (m .1 .1 .1 .1 .0, (m .1 .1 .1 .1 .1 .0, tt))))) (Reads.room-gone 𝓤 H A
-              y9) (
+              Laws.the-laws Laws.the-plain (on T0 l5) 11 ((Scalar.oAt 2 u64 (Row.valS (Row.sInt Syntax.w64))) ∷ (Scalar.oAt 3 u64 (Row.valS (Row.sInt Syntax.w64))) ∷ (Scalar.oAt 4 u64 (Row.valS (Row.sInt
+              Syntax.w64))) ∷ (Scalar.oAt 5 u64 (Row.valS (Row.sInt Syntax.w64))) ∷ []) (λ m. (m .1 .1 .0, (m .1 .1 .1 .0, (m .1 .1 .1 .1 .0, (m .1 .1 .1 .1 .1 .0, tt))))) (Reads.room-gone 𝓤 H A y9) (
                 (Scalar.reads-sc 𝓤 H A W (Row.sInt Syntax.w64), Path'.refl),
                 (
                   (Scalar.reads-sc 𝓤 H A W (Row.sInt Syntax.w64), Path'.refl),
                   ((Scalar.reads-sc 𝓤 H A W (Row.sInt Syntax.w64), Path'.refl), ((Scalar.reads-sc 𝓤 H A W (Row.sInt Syntax.w64), Path'.refl), tt)),
                 ),
               ) Path'.refl (λ u. Path'.refl) λ m. Make.is-wt (Apart.apartT
-              Rect.the-type) Laws'.the-laws (Make.u64-wt, (Make.u64-wt, (Make.u64-wt, (Make.u64-wt, tt)))) (m .1 .1 .0, (m .1 .1 .1 .0, (m .1 .1 .1 .1 .0, (m .1 .1 .1 .1 .1 .0, tt))))) d34
+              Rect.the-type) Laws.the-laws (Make.u64-wt, (Make.u64-wt, (Make.u64-wt, (Make.u64-wt, tt)))) (m .1 .1 .0, (m .1 .1 .1 .0, (m .1 .1 .1 .1 .0, (m .1 .1 .1 .1 .1 .0, tt))))) d34
 
           d36 : Typed.Typed 𝓤 H A 𝓣 E (on T0 l5) b24 Δ0 at36
           d36 = Typed.g-pre 𝓤 H A W 𝓣 E (on T0 l5) (on T0 l5) b24 Δ0 (Typed.give s2) at35 (Know.g-sl-known 𝓤 H A W (Referent.fInt Syntax.w16) E (on T0 l5) 8 3 y5 k3 0 (λ x. x) record

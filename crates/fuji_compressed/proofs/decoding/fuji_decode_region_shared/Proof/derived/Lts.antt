@@ -6,16 +6,16 @@ use Rattle.bits.proofs.Values.{n16, n32, n64, n8, u16, u32, u64, u8}
 use mathlib.Core.List.{_∷_, []}
 use Rattle.read_block.proofs.Element
 use Prim.Native.Nat
-use Rattle.read_block.proofs.Decoded
-use Rattle.read_block.proofs.Decoded.Laws
-use Rattle.read_block.proofs.SharedAnswer
-use Rattle.read_block.proofs.SharedAnswer.Laws as Laws'
 use Rattle.cameras.proofs.Camera
-use Rattle.cameras.proofs.Camera.Laws as Laws''
+use Rattle.cameras.proofs.Camera.Laws
 use Rattle.cameras.proofs.Entries
-use Rattle.cameras.proofs.Entries.Laws as Laws'3
+use Rattle.cameras.proofs.Entries.Laws as Laws'
 use Rattle.image_region.proofs.Rect
-use Rattle.image_region.proofs.Rect.Laws as Laws'4
+use Rattle.image_region.proofs.Rect.Laws as Laws''
+use Rattle.read_block.proofs.Decoded
+use Rattle.read_block.proofs.Decoded.Laws as Laws'3
+use Rattle.read_block.proofs.SharedAnswer
+use Rattle.read_block.proofs.SharedAnswer.Laws as Laws'4
 use borrow.Author.Called
 use borrow.Fn.Any
 use borrow.Fn.Call
@@ -89,12 +89,12 @@ abbrev pub y2 : Syntax.Ty
 y2 = Syntax.tyArray u8 36
 
 abbrev pub y3 : Syntax.Ty
-y3 = Syntax.tyEnum (104 ∷ 101 ∷ 97 ∷ 100 ∷ 101 ∷ 114 ∷ 58 ∷ 58 ∷ 82 ∷ 101 ∷ 102 ∷ 117 ∷ 115 ∷ 97 ∷ 108 ∷ []) (Syntax.ttcons Syntax.tnil (Syntax.ttcons Syntax.tnil (Syntax.ttcons Syntax.tnil
-    (Syntax.ttcons (Syntax.tcons u64 Syntax.tnil) (Syntax.ttcons Syntax.tnil (Syntax.ttcons Syntax.tnil (Syntax.ttcons Syntax.tnil (Syntax.ttcons Syntax.tnil (Syntax.ttcons Syntax.tnil (Syntax.ttcons
-    Syntax.tnil (Syntax.ttcons (Syntax.tcons u64 Syntax.tnil) (Syntax.ttcons (Syntax.tcons u64 Syntax.tnil) (Syntax.ttcons Syntax.tnil (Syntax.ttcons (Syntax.tcons u64 (Syntax.tcons u64 Syntax.tnil))
-    (Syntax.ttcons (Syntax.tcons u64 Syntax.tnil) (Syntax.ttcons Syntax.tnil (Syntax.ttcons Syntax.tnil (Syntax.ttcons (Syntax.tcons u64 Syntax.tnil) (Syntax.ttcons (Syntax.tcons u64 Syntax.tnil)
-    (Syntax.ttcons (Syntax.tcons u64 Syntax.tnil) (Syntax.ttcons Syntax.tnil (Syntax.ttcons Syntax.tnil (Syntax.ttcons (Syntax.tcons u64 (Syntax.tcons u64 Syntax.tnil)) (Syntax.ttcons Syntax.tnil
-    Syntax.ttnil))))))))))))))))))))))))
+y3 = Syntax.tyEnum (115 ∷ 116 ∷ 114 ∷ 101 ∷ 97 ∷ 109 ∷ 58 ∷ 58 ∷ 104 ∷ 101 ∷ 97 ∷ 100 ∷ 101 ∷ 114 ∷ 58 ∷ 58 ∷ 82 ∷ 101 ∷ 102 ∷ 117 ∷ 115 ∷ 97 ∷ 108 ∷ []) (Syntax.ttcons Syntax.tnil (Syntax.ttcons
+    Syntax.tnil (Syntax.ttcons Syntax.tnil (Syntax.ttcons (Syntax.tcons u64 Syntax.tnil) (Syntax.ttcons Syntax.tnil (Syntax.ttcons Syntax.tnil (Syntax.ttcons Syntax.tnil (Syntax.ttcons Syntax.tnil
+    (Syntax.ttcons Syntax.tnil (Syntax.ttcons Syntax.tnil (Syntax.ttcons (Syntax.tcons u64 Syntax.tnil) (Syntax.ttcons (Syntax.tcons u64 Syntax.tnil) (Syntax.ttcons Syntax.tnil (Syntax.ttcons
+    (Syntax.tcons u64 (Syntax.tcons u64 Syntax.tnil)) (Syntax.ttcons (Syntax.tcons u64 Syntax.tnil) (Syntax.ttcons Syntax.tnil (Syntax.ttcons Syntax.tnil (Syntax.ttcons (Syntax.tcons u64 Syntax.tnil)
+    (Syntax.ttcons (Syntax.tcons u64 Syntax.tnil) (Syntax.ttcons (Syntax.tcons u64 Syntax.tnil) (Syntax.ttcons Syntax.tnil (Syntax.ttcons Syntax.tnil (Syntax.ttcons (Syntax.tcons u64 (Syntax.tcons u64
+    Syntax.tnil)) (Syntax.ttcons Syntax.tnil (Syntax.ttcons Syntax.tnil (Syntax.ttcons (Syntax.tcons u64 Syntax.tnil) Syntax.ttnil))))))))))))))))))))))))))
 
 abbrev pub y4 : Syntax.Ty
 y4 = Syntax.tyEnum (99 ∷ 97 ∷ 109 ∷ 101 ∷ 114 ∷ 97 ∷ 115 ∷ 58 ∷ 58 ∷ 67 ∷ 97 ∷ 109 ∷ 101 ∷ 114 ∷ 97 ∷ []) (Syntax.ttcons Syntax.tnil (Syntax.ttcons Syntax.tnil Syntax.ttnil))
@@ -118,14 +118,16 @@ abbrev pub y10 : Syntax.Ty
 y10 = Syntax.tyRef Syntax.erased Syntax.mut u16
 
 abbrev pub y11 : Syntax.Ty
-y11 = Syntax.tyStruct (113 ∷ 117 ∷ 97 ∷ 110 ∷ 116 ∷ 105 ∷ 115 ∷ 101 ∷ 114 ∷ 58 ∷ 58 ∷ 81 ∷ 117 ∷ 97 ∷ 110 ∷ 116 ∷ 105 ∷ 115 ∷ 101 ∷ 114 ∷ []) (Syntax.tcons u32 (Syntax.tcons u32 (Syntax.tcons u32
-    (Syntax.tcons u32 (Syntax.tcons u32 Syntax.tnil)))))
+y11 = Syntax.tyStruct (105 ∷ 109 ∷ 97 ∷ 103 ∷ 101 ∷ 95 ∷ 114 ∷ 101 ∷ 103 ∷ 105 ∷ 111 ∷ 110 ∷ 58 ∷ 58 ∷ 82 ∷ 101 ∷ 99 ∷ 116 ∷ []) (Syntax.tcons u64 (Syntax.tcons u64 (Syntax.tcons u64 (Syntax.tcons u64
+    Syntax.tnil))))
 
 abbrev pub y12 : Syntax.Ty
-y12 = Syntax.tyStruct (114 ∷ 101 ∷ 103 ∷ 105 ∷ 111 ∷ 110 ∷ 58 ∷ 58 ∷ 82 ∷ 101 ∷ 99 ∷ 116 ∷ []) (Syntax.tcons u64 (Syntax.tcons u64 (Syntax.tcons u64 (Syntax.tcons u64 Syntax.tnil))))
+y12 = Syntax.tyStruct (113 ∷ 117 ∷ 97 ∷ 110 ∷ 116 ∷ 105 ∷ 115 ∷ 101 ∷ 114 ∷ 58 ∷ 58 ∷ 81 ∷ 117 ∷ 97 ∷ 110 ∷ 116 ∷ 105 ∷ 115 ∷ 101 ∷ 114 ∷ []) (Syntax.tcons u32 (Syntax.tcons u32 (Syntax.tcons u32
+    (Syntax.tcons u32 (Syntax.tcons u32 Syntax.tnil)))))
 
 abbrev pub y13 : Syntax.Ty
-y13 = Syntax.tyEnum (98 ∷ 108 ∷ 111 ∷ 99 ∷ 107 ∷ 58 ∷ 58 ∷ 68 ∷ 101 ∷ 99 ∷ 111 ∷ 100 ∷ 101 ∷ 100 ∷ []) (Syntax.ttcons Syntax.tnil (Syntax.ttcons (Syntax.tcons y3 Syntax.tnil) Syntax.ttnil))
+y13 = Syntax.tyEnum (114 ∷ 101 ∷ 97 ∷ 100 ∷ 95 ∷ 98 ∷ 108 ∷ 111 ∷ 99 ∷ 107 ∷ 58 ∷ 58 ∷ 68 ∷ 101 ∷ 99 ∷ 111 ∷ 100 ∷ 101 ∷ 100 ∷ []) (Syntax.ttcons Syntax.tnil (Syntax.ttcons (Syntax.tcons y3
+    Syntax.tnil) Syntax.ttnil))
 
 abbrev pub y14 : Syntax.Ty
 y14 = Syntax.tyRef (Syntax.named 0) Syntax.mut y0
@@ -146,7 +148,7 @@ abbrev pub y19 : Syntax.Ty
 y19 = Syntax.tyStruct (38 ∷ 91 ∷ 93 ∷ []) (Syntax.tcons y9 (Syntax.tcons u64 Syntax.tnil))
 
 abbrev pub y20 : Syntax.Ty
-y20 = Syntax.tyStruct (99 ∷ 97 ∷ 109 ∷ 101 ∷ 114 ∷ 97 ∷ 115 ∷ 58 ∷ 58 ∷ 69 ∷ 110 ∷ 116 ∷ 114 ∷ 121 ∷ []) (Syntax.tcons u32 (Syntax.tcons y11 (Syntax.tcons Syntax.tyBool (Syntax.tcons Syntax.tyBool
+y20 = Syntax.tyStruct (99 ∷ 97 ∷ 109 ∷ 101 ∷ 114 ∷ 97 ∷ 115 ∷ 58 ∷ 58 ∷ 69 ∷ 110 ∷ 116 ∷ 114 ∷ 121 ∷ []) (Syntax.tcons u32 (Syntax.tcons y12 (Syntax.tcons Syntax.tyBool (Syntax.tcons Syntax.tyBool
     Syntax.tnil))))
 
 abbrev pub y21 : Syntax.Ty
@@ -156,7 +158,8 @@ abbrev pub y22 : Syntax.Ty
 y22 = Syntax.tyStruct (99 ∷ 97 ∷ 109 ∷ 101 ∷ 114 ∷ 97 ∷ 115 ∷ 58 ∷ 58 ∷ 69 ∷ 110 ∷ 116 ∷ 114 ∷ 105 ∷ 101 ∷ 115 ∷ []) (Syntax.tcons y21 Syntax.tnil)
 
 abbrev pub y23 : Syntax.Ty
-y23 = Syntax.tyStruct (98 ∷ 108 ∷ 111 ∷ 99 ∷ 107 ∷ 58 ∷ 58 ∷ 83 ∷ 104 ∷ 97 ∷ 114 ∷ 101 ∷ 100 ∷ 65 ∷ 110 ∷ 115 ∷ 119 ∷ 101 ∷ 114 ∷ []) (Syntax.tcons y13 (Syntax.tcons y22 Syntax.tnil))
+y23 = Syntax.tyStruct (114 ∷ 101 ∷ 97 ∷ 100 ∷ 95 ∷ 98 ∷ 108 ∷ 111 ∷ 99 ∷ 107 ∷ 58 ∷ 58 ∷ 83 ∷ 104 ∷ 97 ∷ 114 ∷ 101 ∷ 100 ∷ 65 ∷ 110 ∷ 115 ∷ 119 ∷ 101 ∷ 114 ∷ []) (Syntax.tcons y13 (Syntax.tcons y22
+    Syntax.tnil))
 
 abbrev pub ps : List.List (Kinds.PK 7)
 ps = (Num.pNum Syntax.w32) ∷ (Kinds.pMut (Array'.Array n32 128) 0 tt) ∷ (ShrSlice.pShrS n8 1 tt) ∷ (Num.pNum Syntax.w64) ∷ (Num.pNum Syntax.w64) ∷ (Num.pNum Syntax.w64) ∷ (Num.pNum Syntax.w64) ∷
@@ -166,7 +169,7 @@ abbrev pub r : Kinds.RK 7
 r = Unit'.rUnit
 
 abbrev pub xs : List.List Syntax.Ty
-xs = y12 ∷ y2 ∷ y0 ∷ y4 ∷ y22 ∷ y23 ∷ y0 ∷ y13 ∷ y1 ∷ y0 ∷ y17 ∷ y10 ∷ y18 ∷ y10 ∷ y18 ∷ y9 ∷ y19 ∷ []
+xs = y11 ∷ y2 ∷ y0 ∷ y4 ∷ y22 ∷ y23 ∷ y0 ∷ y13 ∷ y1 ∷ y0 ∷ y17 ∷ y10 ∷ y18 ∷ y10 ∷ y18 ∷ y9 ∷ y19 ∷ []
 
 abbrev pub m : Nat.ℕ
 m = 4
@@ -175,30 +178,30 @@ abbrev pub ps·0 : List.List (Kinds.PK 0)
 ps·0 = (Num.pNum Syntax.w32) ∷ []
 
 abbrev pub r·0 : Kinds.RK 0
-r·0 = Values.enum-result Camera.the-type Laws''.the-laws Laws''.the-copy Laws''.the-plain tt
+r·0 = Values.enum-result Camera.the-type Laws.the-laws Laws.the-copy Laws.the-plain tt
 
 abbrev pub ps·1 : List.List (Kinds.PK 1)
 ps·1 = (ShrRef.pShr (Array'.Array n32 128) 0 tt) ∷ []
 
 abbrev pub r·1 : Kinds.RK 1
-r·1 = Values.struct-result Entries.the-type Laws'3.the-laws Laws'3.the-copy Laws'3.the-plain
+r·1 = Values.struct-result Entries.the-type Laws'.the-laws Laws'.the-copy Laws'.the-plain
 
 abbrev pub ps·2 : List.List (Kinds.PK 4)
-ps·2 = (Values.enum Camera.the-type Laws''.the-laws Laws''.the-copy Laws''.the-plain tt) ∷ (Values.struct Entries.the-type Laws'3.the-laws Laws'3.the-copy Laws'3.the-plain) ∷ (ShrSlice.pShrS n8 0 tt)
-    ∷ (Values.struct Rect.the-type Laws'4.the-laws Laws'4.the-copy Laws'4.the-plain) ∷ (Array.pArr (Array.eInt Syntax.w8) (Array.eInt-laws Syntax.w8) 36) ∷ (MutSlice.pMutS n16 1 tt) ∷ (MutSlice.pMutS n16
-    2 tt) ∷ (MutSlice.pMutS (Element.type) 3 tt) ∷ []
+ps·2 = (Values.enum Camera.the-type Laws.the-laws Laws.the-copy Laws.the-plain tt) ∷ (Values.struct Entries.the-type Laws'.the-laws Laws'.the-copy Laws'.the-plain) ∷ (ShrSlice.pShrS n8 0 tt) ∷
+    (Values.struct Rect.the-type Laws''.the-laws Laws''.the-copy Laws''.the-plain) ∷ (Array.pArr (Array.eInt Syntax.w8) (Array.eInt-laws Syntax.w8) 36) ∷ (MutSlice.pMutS n16 1 tt) ∷ (MutSlice.pMutS n16 2
+    tt) ∷ (MutSlice.pMutS (Element.type) 3 tt) ∷ []
 
 abbrev pub r·2 : Kinds.RK 4
-r·2 = Values.struct-result SharedAnswer.the-type Laws'.the-laws Laws'.the-copy Laws'.the-plain
+r·2 = Values.struct-result SharedAnswer.the-type Laws'4.the-laws Laws'4.the-copy Laws'4.the-plain
 
 abbrev pub ps·3 : List.List (Kinds.PK 0)
-ps·3 = (Values.struct Entries.the-type Laws'3.the-laws Laws'3.the-copy Laws'3.the-plain) ∷ []
+ps·3 = (Values.struct Entries.the-type Laws'.the-laws Laws'.the-copy Laws'.the-plain) ∷ []
 
 abbrev pub r·3 : Kinds.RK 0
 r·3 = Array.rArr (Array.eInt Syntax.w32) (Array.eInt-laws Syntax.w32) 128
 
 abbrev pub ps·4 : List.List (Kinds.PK 0)
-ps·4 = (Values.enum Decoded.the-type Laws.the-laws Laws.the-copy Laws.the-plain tt) ∷ []
+ps·4 = (Values.enum Decoded.the-type Laws'3.the-laws Laws'3.the-copy Laws'3.the-plain tt) ∷ []
 
 abbrev pub r·4 : Kinds.RK 0
 r·4 = Array.rArr (Array.eInt Syntax.w64) (Array.eInt-laws Syntax.w64) 4
@@ -250,8 +253,8 @@ abbrev b12 : Syntax.Body
 b12 = Syntax.assign (Syntax.place 29 []) (Syntax.aggregate ((Syntax.copy (Syntax.place 28 [])) ∷ (Syntax.copy (Syntax.place 11 ((Syntax.field 1) ∷ []))) ∷ []))
 
 abbrev b13 : Syntax.Body
-b13 = Syntax.call "read_block::sharing::decode_region_shared" ((Syntax.copy (Syntax.place 16 [])) ∷ (Syntax.copy (Syntax.place 17 [])) ∷ (Syntax.copy (Syntax.place 3 [])) ∷ (Syntax.copy (Syntax.place 13
-    [])) ∷ (Syntax.copy (Syntax.place 14 [])) ∷ (Syntax.copy (Syntax.place 25 [])) ∷ (Syntax.copy (Syntax.place 27 [])) ∷ (Syntax.copy (Syntax.place 29 [])) ∷ []) (Syntax.place 18 [])
+b13 = Syntax.call "read_block::sharing::decode_region_shared" ((Syntax.copy (Syntax.place 16 [])) ∷ (Syntax.copy (Syntax.place 17 [])) ∷ (Syntax.copy (Syntax.place 3 [])) ∷ (Syntax.copy (Syntax.place
+    13 [])) ∷ (Syntax.copy (Syntax.place 14 [])) ∷ (Syntax.copy (Syntax.place 25 [])) ∷ (Syntax.copy (Syntax.place 27 [])) ∷ (Syntax.copy (Syntax.place 29 [])) ∷ []) (Syntax.place 18 [])
 
 abbrev b14 : Syntax.Body
 b14 = Syntax.call "cameras::entry_words::words_of" ((Syntax.copy (Syntax.place 18 ((Syntax.field 1) ∷ []))) ∷ []) (Syntax.place 19 [])
@@ -363,7 +366,7 @@ abbrev pub v18 : Row.Row
 v18 = Mut.mslice (Element.type) y8 5
 
 abbrev pub v19 : Row.Row
-v19 = Rows'.any-gone y12
+v19 = Rows'.any-gone y11
 
 abbrev pub v20 : Row.Row
 v20 = Rows'.any-gone y2
@@ -768,7 +771,7 @@ module _ (claims· : Claims) where
   s27 = Call.callB ps·2 r·2 (claims· .4) (claims· .5) T28 a0 18 (1 ∷ 8 ∷ 9 ∷ 10 ∷ []) y23
 
   abbrev s28 : Typed.Mo T29 → Typed.Mo T30
-  s28 = Scalar.n-room T29 13 y12
+  s28 = Scalar.n-room T29 13 y11
 
   abbrev s29 : Typed.Mo T30 → Typed.Mo T31
   s29 = Scalar.n-room T30 14 y2
@@ -843,9 +846,9 @@ module _ (claims· : Claims) where
     module _ (M : Type 1) where
       abbrev pub Closed : Type 2
       Closed = (𝓤 : URA.URA M) (H : Wp.Heap 𝓤) (A : Atoms.Atoms 𝓤) (W : Kit.Given 𝓤 H A) (𝓣 : Wp.Tables 𝓤 H) (known0 : Plain.Known 𝓤 H A W 𝓣 0 ps·0 r·0 (claims· .0) (claims· .1)
-          "cameras::entry_words::camera_in") (known1 : Plain.Known 𝓤 H A W 𝓣 1 ps·1 r·1 (claims· .2) (claims· .3) "cameras::entry_words::entries_in") (known2 : Plain.Known 𝓤 H A W 𝓣 4 ps·2 r·2 (claims· .4) (claims· .5)
-          "read_block::sharing::decode_region_shared") (known3 : Plain.Known 𝓤 H A W 𝓣 0 ps·3 r·3 (claims· .6) (claims· .7) "cameras::entry_words::words_of") (known4 : Plain.Known 𝓤 H A W 𝓣 0 ps·4 r·4 (claims· .8)
-          (claims· .9) "read_block::answer_words") → Statement.Triple 𝓤 (Wp.WpFn 𝓤 H (𝓣 .C) (𝓣 .Λ) (Function.fnOf 7 ps r xs m hs body)) (Function.plainOf 𝓤 H A 7 ps r Pre· Post·)
+          "cameras::entry_words::camera_in") (known1 : Plain.Known 𝓤 H A W 𝓣 1 ps·1 r·1 (claims· .2) (claims· .3) "cameras::entry_words::entries_in") (known2 : Plain.Known 𝓤 H A W 𝓣 4 ps·2 r·2 (claims·
+          .4) (claims· .5) "read_block::sharing::decode_region_shared") (known3 : Plain.Known 𝓤 H A W 𝓣 0 ps·3 r·3 (claims· .6) (claims· .7) "cameras::entry_words::words_of") (known4 : Plain.Known 𝓤 H A W
+          𝓣 0 ps·4 r·4 (claims· .8) (claims· .9) "read_block::answer_words") → Statement.Triple 𝓤 (Wp.WpFn 𝓤 H (𝓣 .C) (𝓣 .Λ) (Function.fnOf 7 ps r xs m hs body)) (Function.plainOf 𝓤 H A 7 ps r Pre· Post·)
 
     module _ where
       abbrev at0 : Typed.TF T1 O0
@@ -994,9 +997,9 @@ module _ (claims· : Claims) where
 
       module _ {M : Type 1} (𝓤 : URA.URA M) (H : Wp.Heap 𝓤) (A : Atoms.Atoms 𝓤) (W : Kit.Given 𝓤 H A) (𝓣 : Wp.Tables 𝓤 H) where
         abbrev Knowns : Type 1
-        Knowns = Plain.Known 𝓤 H A W 𝓣 0 ps·0 r·0 (claims· .0) (claims· .1) "cameras::entry_words::camera_in" × Plain.Known 𝓤 H A W 𝓣 1 ps·1 r·1 (claims· .2) (claims· .3) "cameras::entry_words::entries_in" ×
-            Plain.Known 𝓤 H A W 𝓣 4 ps·2 r·2 (claims· .4) (claims· .5) "read_block::sharing::decode_region_shared" × Plain.Known 𝓤 H A W 𝓣 0 ps·3 r·3 (claims· .6) (claims· .7) "cameras::entry_words::words_of" ×
-            Plain.Known 𝓤 H A W 𝓣 0 ps·4 r·4 (claims· .8) (claims· .9) "read_block::answer_words"
+        Knowns = Plain.Known 𝓤 H A W 𝓣 0 ps·0 r·0 (claims· .0) (claims· .1) "cameras::entry_words::camera_in" × Plain.Known 𝓤 H A W 𝓣 1 ps·1 r·1 (claims· .2) (claims· .3)
+            "cameras::entry_words::entries_in" × Plain.Known 𝓤 H A W 𝓣 4 ps·2 r·2 (claims· .4) (claims· .5) "read_block::sharing::decode_region_shared" × Plain.Known 𝓤 H A W 𝓣 0 ps·3 r·3 (claims· .6)
+            (claims· .7) "cameras::entry_words::words_of" × Plain.Known 𝓤 H A W 𝓣 0 ps·4 r·4 (claims· .8) (claims· .9) "read_block::answer_words"
 
       module _ (κs : Lifetimes.Lfts 7) (qs : Lifetimes.Shares 7) where
         abbrev k0 : Row.Life
@@ -1202,9 +1205,9 @@ module _ (claims· : Claims) where
               Decoded.the-type) y13 Path'.refl)) d10
 
           d12 : Typed.Typed 𝓤 H A 𝓣 E (on T47 l7) (Syntax.seq b16 b23) Δ0 at12
-          d12 = Typed.s-seq 𝓤 H A W 𝓣 E (on T47 l7) (on T48 l7) b16 b23 Δ0 (Typed.both s46) at11 (Plain.t-call-plain 𝓤 H A W 𝓣 0 ps·4 r·4 (claims· .8) (claims· .9) "read_block::answer_words" (known .4) E
-              (λ pos β. β) (on T47 l7) (record { pos = 20; st = []; d = 0; at = λ x. x }, tt) 21 [] (Call.sub-id 𝓤 H A W ((on T47 l7) .slots))
-              ((Values.enum-copied 𝓤 H A W Decoded.the-type Laws.the-laws Laws.the-copy, Path'.refl), tt) (Reads'.room-gone 𝓤 H A y1) tt Path'.refl) d11
+          d12 = Typed.s-seq 𝓤 H A W 𝓣 E (on T47 l7) (on T48 l7) b16 b23 Δ0 (Typed.both s46) at11 (Plain.t-call-plain 𝓤 H A W 𝓣 0 ps·4 r·4 (claims· .8) (claims· .9) "read_block::answer_words" (known
+              .4) E (λ pos β. β) (on T47 l7) (record { pos = 20; st = []; d = 0; at = λ x. x }, tt) 21 [] (Call.sub-id 𝓤 H A W ((on T47 l7) .slots))
+              ((Values.enum-copied 𝓤 H A W Decoded.the-type Laws'3.the-laws Laws'3.the-copy, Path'.refl), tt) (Reads'.room-gone 𝓤 H A y1) tt Path'.refl) d11
 
           d13 : Typed.Typed 𝓤 H A 𝓣 E (on T46 l7) (Syntax.seq b16 b23) Δ0 at13
           d13 = Typed.g-pre 𝓤 H A W 𝓣 E (on T46 l7) (on T47 l7) (Syntax.seq b16 b23) Δ0 (Typed.pass T46 T47 s45) at12 (Scalar.g-room 𝓤 H A W E (on T46 l7) 18 y23 (Local.room-whole 𝓤 H A W
@@ -1212,15 +1215,15 @@ module _ (claims· : Claims) where
 
           d14 : Typed.Typed 𝓤 H A 𝓣 E (on T45 l7) (Syntax.seq b15 (Syntax.seq b16 b23)) Δ0 at14
           d14 = Typed.s-seq 𝓤 H A W 𝓣 E (on T45 l7) (on T46 l7) b15 (Syntax.seq b16 b23) Δ0 (Typed.pass T45 T46 s44) at13 (CopyOut.t-copy-told 𝓤 H A W E 𝓣 (Declared.row Decoded.the-type) Path'.refl
-              (Laws'5.val Decoded.the-type Laws.the-laws) (Laws'5.lawful Decoded.the-type Laws.the-laws 𝓤 H A W tt) (Laws'5.makes Decoded.the-type Laws.the-plain 𝓤 H A) (on T45 l7) 20 (Scalar.oFld 18
-              ((Syntax.field 0) ∷ []) y13 0 λ x. Laws'5.val Decoded.the-type Laws.the-laws (SharedAnswer.struct .as-values x .0)) (λ m. SharedAnswer.struct .as-values (m .1 .1 .1 .1 .1 .1 .1 .1 .1 .1 .1
-              .1 .1 .1 .1 .1 .1 .1 .0) .0) (λ m. Laws'6.Is (Declared'.row SharedAnswer.the-type) (m .1 .1 .1 .1 .1 .1 .1 .1 .1 .1 .1 .1 .1 .1 .1 .1 .1 .1 .0) (Laws'7.vals SharedAnswer.the-type
-              Laws'.the-laws (m .1 .1 .1 .1 .1 .1 .1 .1 .1 .1 .1 .1 .1 .1 .1 .1 .1 .1 .0))) (Reads'.room-gone 𝓤 H A y13)
-              (Reads.reads-field 𝓤 H A W SharedAnswer.the-type Laws'.the-laws 0 y13 0 Path'.refl, Path'.refl) Path'.refl (λ ρ m. Make.tells-row 𝓤 H A W E ρ (Row.out 20 ((on T45 l7) .locals)) m 18
-              (Laws'6.Is (Declared'.row SharedAnswer.the-type) (m .1 .1 .1 .1 .1 .1 .1 .1 .1 .1 .1 .1 .1 .1 .1 .1 .1 .1 .0) (Laws'7.vals SharedAnswer.the-type Laws'.the-laws (m .1 .1 .1 .1 .1 .1 .1 .1 .1
-              .1 .1 .1 .1 .1 .1 .1 .1 .1 .0))) (Make.whole-is 𝓤 H A W E (Declared'.row SharedAnswer.the-type) Path'.refl (Laws'7.val SharedAnswer.the-type Laws'.the-laws) (Laws'7.tells
-              SharedAnswer.the-type Laws'.the-laws) ρ 18 (m .1 .1 .1 .1 .1 .1 .1 .1 .1 .1 .1 .1 .1 .1 .1 .1 .1 .1 .0))) (λ m k wa. Path'.refl) λ m k wa. Laws'7.owed SharedAnswer.the-type Laws'.the-laws (m
-              .1 .1 .1 .1 .1 .1 .1 .1 .1 .1 .1 .1 .1 .1 .1 .1 .1 .1 .0) (Laws'7.vals SharedAnswer.the-type Laws'.the-laws (m .1 .1 .1 .1 .1 .1 .1 .1 .1 .1 .1 .1 .1 .1 .1 .1 .1 .1 .0)) k .0) d13
+              (Laws'5.val Decoded.the-type Laws'3.the-laws) (Laws'5.lawful Decoded.the-type Laws'3.the-laws 𝓤 H A W tt) (Laws'5.makes Decoded.the-type Laws'3.the-plain 𝓤 H A) (on T45 l7) 20 (Scalar.oFld
+              18 ((Syntax.field 0) ∷ []) y13 0 λ x. Laws'5.val Decoded.the-type Laws'3.the-laws (SharedAnswer.struct .as-values x .0)) (λ m. SharedAnswer.struct .as-values (m .1 .1 .1 .1 .1 .1 .1 .1 .1 .1
+              .1 .1 .1 .1 .1 .1 .1 .1 .0) .0) (λ m. Laws'6.Is (Declared'.row SharedAnswer.the-type) (m .1 .1 .1 .1 .1 .1 .1 .1 .1 .1 .1 .1 .1 .1 .1 .1 .1 .1 .0) (Laws'7.vals SharedAnswer.the-type
+              Laws'4.the-laws (m .1 .1 .1 .1 .1 .1 .1 .1 .1 .1 .1 .1 .1 .1 .1 .1 .1 .1 .0))) (Reads'.room-gone 𝓤 H A y13)
+              (Reads.reads-field 𝓤 H A W SharedAnswer.the-type Laws'4.the-laws 0 y13 0 Path'.refl, Path'.refl) Path'.refl (λ ρ m. Make.tells-row 𝓤 H A W E ρ (Row.out 20 ((on T45 l7) .locals)) m 18
+              (Laws'6.Is (Declared'.row SharedAnswer.the-type) (m .1 .1 .1 .1 .1 .1 .1 .1 .1 .1 .1 .1 .1 .1 .1 .1 .1 .1 .0) (Laws'7.vals SharedAnswer.the-type Laws'4.the-laws (m .1 .1 .1 .1 .1 .1 .1 .1 .1
+              .1 .1 .1 .1 .1 .1 .1 .1 .1 .0))) (Make.whole-is 𝓤 H A W E (Declared'.row SharedAnswer.the-type) Path'.refl (Laws'7.val SharedAnswer.the-type Laws'4.the-laws) (Laws'7.tells
+              SharedAnswer.the-type Laws'4.the-laws) ρ 18 (m .1 .1 .1 .1 .1 .1 .1 .1 .1 .1 .1 .1 .1 .1 .1 .1 .1 .1 .0))) (λ m k wa. Path'.refl) λ m k wa. Laws'7.owed SharedAnswer.the-type Laws'4.the-laws
+              (m .1 .1 .1 .1 .1 .1 .1 .1 .1 .1 .1 .1 .1 .1 .1 .1 .1 .1 .0) (Laws'7.vals SharedAnswer.the-type Laws'4.the-laws (m .1 .1 .1 .1 .1 .1 .1 .1 .1 .1 .1 .1 .1 .1 .1 .1 .1 .1 .0)) k .0) d13
 
           d15 : Typed.Typed 𝓤 H A 𝓣 E (on T43 l7) b26 Δ0 at15
           d15 = Typed.s-seq 𝓤 H A W 𝓣 E (on T43 l7) (on T45 l7) b14 (Syntax.seq b15 (Syntax.seq b16 b23)) Δ0 (Typed.both s43) at14 (Plain.t-call-plain 𝓤 H A W 𝓣 0 ps·3 r·3 (claims· .6) (claims· .7)
@@ -1228,10 +1231,10 @@ module _ (claims· : Claims) where
               (Call.sub-id 𝓤 H A W ((on T43 l7) .slots)) (
                 (
                   Yields'.yields-acc 𝓤 H A W (Rows'.whole (Declared'.row SharedAnswer.the-type)) (Declared'.row Entries.the-type) 32 (λ x. SharedAnswer.struct .as-values x .1 .0) Path'.refl (Copies.cStruct
-                      Entries.the-type Laws'3.the-laws Laws'3.the-copy .copy 𝓤 H A W) (Yields'.acc-record 𝓤 H A W (Rows'.whole (Declared'.row SharedAnswer.the-type)) Entries.the-type 32 (λ x. SharedAnswer.struct
+                      Entries.the-type Laws'.the-laws Laws'.the-copy .copy 𝓤 H A W) (Yields'.acc-record 𝓤 H A W (Rows'.whole (Declared'.row SharedAnswer.the-type)) Entries.the-type 32 (λ x. SharedAnswer.struct
                       .as-values x .1 .0) (Yields'.acc-part 𝓤 H A W (Rows'.whole (Declared'.row SharedAnswer.the-type)) (Declared'.row SharedAnswer.the-type) (Struct.Struct (Declared'.shape Entries.the-type)) 0
                       32 (λ x. x) (λ y. Entries.the-type .to (SharedAnswer.struct .as-values y .1 .0)) (Yields'.acc-whole 𝓤 H A W (Declared'.row SharedAnswer.the-type)) λ y a. Behind.look-at 𝓤 H A W
-                      TreeShare.fullShare SharedAnswer.the-type Laws'.the-laws 1 32 Path'.refl Path'.refl a y (SharedAnswer.struct .as-values y) Path'.refl)),
+                      TreeShare.fullShare SharedAnswer.the-type Laws'4.the-laws 1 32 Path'.refl Path'.refl a y (SharedAnswer.struct .as-values y) Path'.refl)),
                   Path'.refl,
                 ),
                 tt,
@@ -1286,11 +1289,11 @@ module _ (claims· : Claims) where
           d29 = Typed.g-pre 𝓤 H A W 𝓣 E G30 G31 b26 Δ0 (Typed.pass T30 T31 s29) at28 (Scalar.g-room 𝓤 H A W E G30 14 y2 (Init.room-arr 𝓤 H A W n8 36 0 36 Path'.refl)) d28
 
           d30 : Typed.Typed 𝓤 H A 𝓣 E G29 b26 Δ0 at30
-          d30 = Typed.g-pre 𝓤 H A W 𝓣 E G29 G30 b26 Δ0 (Typed.pass T29 T30 s28) at29 (Scalar.g-room 𝓤 H A W E G29 13 y12 (Local.room-whole 𝓤 H A W (Declared'.row Rect.the-type) y12 Path'.refl)) d29
+          d30 = Typed.g-pre 𝓤 H A W 𝓣 E G29 G30 b26 Δ0 (Typed.pass T29 T30 s28) at29 (Scalar.g-room 𝓤 H A W E G29 13 y11 (Local.room-whole 𝓤 H A W (Declared'.row Rect.the-type) y11 Path'.refl)) d29
 
           d31 : Typed.Typed 𝓤 H A 𝓣 E G28 (Syntax.seq b13 b26) Δ0 at31
-          d31 = Typed.s-seq 𝓤 H A W 𝓣 E G28 G29 b13 b26 Δ0 (Typed.both s27) at30 (Plain.t-call-plain 𝓤 H A W 𝓣 4 ps·2 r·2 (claims· .4) (claims· .5) "read_block::sharing::decode_region_shared" (known .2) E
-              (λ pos β. β) G28 (
+          d31 = Typed.s-seq 𝓤 H A W 𝓣 E G28 G29 b13 b26 Δ0 (Typed.both s27) at30 (Plain.t-call-plain 𝓤 H A W 𝓣 4 ps·2 r·2 (claims· .4) (claims· .5) "read_block::sharing::decode_region_shared" (known
+              .2) E (λ pos β. β) G28 (
                 record { pos = 16; st = []; d = 0; at = λ x. x },
                 (
                   record { pos = 17; st = []; d = 0; at = λ x. x },
@@ -1307,15 +1310,15 @@ module _ (claims· : Claims) where
                 ),
               ) 18 (1 ∷ 8 ∷ 9 ∷ 10 ∷ []) (Call.sub-id 𝓤
               H A W (G28 .slots)) (
-                (Values.enum-copied 𝓤 H A W Camera.the-type Laws''.the-laws Laws''.the-copy, Path'.refl),
+                (Values.enum-copied 𝓤 H A W Camera.the-type Laws.the-laws Laws.the-copy, Path'.refl),
                 (
-                  (Values.struct-copied 𝓤 H A W Entries.the-type Laws'3.the-laws Laws'3.the-copy, Path'.refl),
+                  (Values.struct-copied 𝓤 H A W Entries.the-type Laws'.the-laws Laws'.the-copy, Path'.refl),
                   (
                     ShrSlice.spares-sslice 𝓤 H A W n8 y5 1,
                     Shared.reads-sslice 𝓤 H A W n8 y5 1,
                     Path'.refl,
                     (
-                      (Values.struct-copied 𝓤 H A W Rect.the-type Laws'4.the-laws Laws'4.the-copy, Path'.refl),
+                      (Values.struct-copied 𝓤 H A W Rect.the-type Laws''.the-laws Laws''.the-copy, Path'.refl),
                       (
                         (Array.arr-yields 𝓤 H A W (Array.eInt Syntax.w8) (Array.eInt-laws Syntax.w8) 36, Path'.refl),
                         (
@@ -1400,8 +1403,8 @@ module _ (claims· : Claims) where
               A (Rows'.sref (Array'.Array n32 128) y17 7))) d45
 
           d47 : Typed.Typed 𝓤 H A 𝓣 E (on T12 l5) (Syntax.seq b6 b33) Δ0 at47
-          d47 = Typed.s-seq 𝓤 H A W 𝓣 E (on T12 l5) (on T13 l5) b6 b33 Δ0 (Typed.both s11) at46 (Plain.t-call-plain 𝓤 H A W 𝓣 1 ps·1 r·1 (claims· .2) (claims· .3) "cameras::entry_words::entries_in" (known .1)
-              E (λ pos β. β) (on T12 l5) (record { pos = 23; ty = y17; ref = λ x. x }, tt) 17 (7 ∷ []) (Call.sub-id 𝓤 H A W ((on T12 l5) .slots))
+          d47 = Typed.s-seq 𝓤 H A W 𝓣 E (on T12 l5) (on T13 l5) b6 b33 Δ0 (Typed.both s11) at46 (Plain.t-call-plain 𝓤 H A W 𝓣 1 ps·1 r·1 (claims· .2) (claims· .3) "cameras::entry_words::entries_in"
+              (known .1) E (λ pos β. β) (on T12 l5) (record { pos = 23; ty = y17; ref = λ x. x }, tt) 17 (7 ∷ []) (Call.sub-id 𝓤 H A W ((on T12 l5) .slots))
               (ShrRef.spares-sref 𝓤 H A W (Array'.Array n32 128) y17 7, Reads'.reads-sref 𝓤 H A W (Array'.Array n32 128) y17 7, Path'.refl, tt) (Reads'.room-gone 𝓤 H A y22) (tt, tt) Path'.refl) d46
 
           d48 : Typed.Typed 𝓤 H A 𝓣 E (on T10 l5) (Syntax.seq b5 (Syntax.seq b6 b33)) Δ0 at48
@@ -1441,16 +1444,16 @@ module _ (claims· : Claims) where
               ρ told. Whole.arr-mem 𝓤 H A W n8 36 tt ρ) Path'.refl tt Path'.refl Path'.refl) d53
 
           d55 : Typed.Typed 𝓤 H A 𝓣 E (on T0 l7) b40 Δ0 at55
-          d55 = Typed.s-seq 𝓤 H A W 𝓣 E (on T0 l7) (on T5 l7) b0 b39 Δ0 (Typed.pass T0 T5 s3) at54 (Make.t-struct-make 𝓤 H A W E 𝓣 (Apart.apartT Rect.the-type) Laws'4.the-laws Laws'4.the-plain (on T0
+          d55 = Typed.s-seq 𝓤 H A W 𝓣 E (on T0 l7) (on T5 l7) b0 b39 Δ0 (Typed.pass T0 T5 s3) at54 (Make.t-struct-make 𝓤 H A W E 𝓣 (Apart.apartT Rect.the-type) Laws''.the-laws Laws''.the-plain (on T0
               l7) 13 ((Scalar.oAt 4 u64 (Row.valS (Row.sInt Syntax.w64))) ∷ (Scalar.oAt 5 u64 (Row.valS (Row.sInt Syntax.w64))) ∷ (Scalar.oAt 6 u64 (Row.valS (Row.sInt Syntax.w64))) ∷ (Scalar.oAt 7 u64
-              (Row.valS (Row.sInt Syntax.w64))) ∷ []) (λ m. (m .1 .1 .1 .1 .0, (m .1 .1 .1 .1 .1 .0, (m .1 .1 .1 .1 .1 .1 .0, (m .1 .1 .1 .1 .1 .1 .1 .0, tt))))) (Reads'.room-gone 𝓤 H A y12) (
+              (Row.valS (Row.sInt Syntax.w64))) ∷ []) (λ m. (m .1 .1 .1 .1 .0, (m .1 .1 .1 .1 .1 .0, (m .1 .1 .1 .1 .1 .1 .0, (m .1 .1 .1 .1 .1 .1 .1 .0, tt))))) (Reads'.room-gone 𝓤 H A y11) (
                 (Scalar.reads-sc 𝓤 H A W (Row.sInt Syntax.w64), Path'.refl),
                 (
                   (Scalar.reads-sc 𝓤 H A W (Row.sInt Syntax.w64), Path'.refl),
                   ((Scalar.reads-sc 𝓤 H A W (Row.sInt Syntax.w64), Path'.refl), ((Scalar.reads-sc 𝓤 H A W (Row.sInt Syntax.w64), Path'.refl), tt)),
                 ),
               ) Path'.refl (λ u. Path'.refl) λ m. Make.is-wt (Apart.apartT
-              Rect.the-type) Laws'4.the-laws (Make.u64-wt, (Make.u64-wt, (Make.u64-wt, (Make.u64-wt, tt))))
+              Rect.the-type) Laws''.the-laws (Make.u64-wt, (Make.u64-wt, (Make.u64-wt, (Make.u64-wt, tt))))
               (m .1 .1 .1 .1 .0, (m .1 .1 .1 .1 .1 .0, (m .1 .1 .1 .1 .1 .1 .0, (m .1 .1 .1 .1 .1 .1 .1 .0, tt))))) d54
 
           d56 : Typed.Typed 𝓤 H A 𝓣 E (on T0 l7) b40 Δ0 at56
@@ -1934,8 +1937,8 @@ module _ (claims· : Claims) where
           }
 
         module _ {M : Type 1} (𝓤 : URA.URA M) (H : Wp.Heap 𝓤) (A : Atoms.Atoms 𝓤) (W : Kit.Given 𝓤 H A) (𝓣 : Wp.Tables 𝓤 H) (known0 : Plain.Known 𝓤 H A W 𝓣 0 ps·0 r·0 (claims· .0) (claims· .1)
-            "cameras::entry_words::camera_in") (known1 : Plain.Known 𝓤 H A W 𝓣 1 ps·1 r·1 (claims· .2) (claims· .3) "cameras::entry_words::entries_in") (known2 : Plain.Known 𝓤 H A W 𝓣 4 ps·2 r·2 (claims· .4) (claims· .5)
-            "read_block::sharing::decode_region_shared") (known3 : Plain.Known 𝓤 H A W 𝓣 0 ps·3 r·3 (claims· .6) (claims· .7) "cameras::entry_words::words_of") (known4 : Plain.Known 𝓤 H A W 𝓣 0 ps·4 r·4 (claims· .8)
-            (claims· .9) "read_block::answer_words") where
+            "cameras::entry_words::camera_in") (known1 : Plain.Known 𝓤 H A W 𝓣 1 ps·1 r·1 (claims· .2) (claims· .3) "cameras::entry_words::entries_in") (known2 : Plain.Known 𝓤 H A W 𝓣 4 ps·2 r·2 (claims·
+            .4) (claims· .5) "read_block::sharing::decode_region_shared") (known3 : Plain.Known 𝓤 H A W 𝓣 0 ps·3 r·3 (claims· .6) (claims· .7) "cameras::entry_words::words_of") (known4 : Plain.Known 𝓤 H A
+            W 𝓣 0 ps·4 r·4 (claims· .8) (claims· .9) "read_block::answer_words") where
           pub spec : Statement.Triple 𝓤 (Wp.WpFn 𝓤 H (𝓣 .C) (𝓣 .Λ) (Function.fnOf 7 ps r xs m hs body)) (Function.plainOf 𝓤 H A 7 ps r Pre· Post·)
           spec = Plain.t-fn-plain 𝓤 H A W 𝓣 7 ps r xs m hs body (λ κs qs bs. Φ) (λ κs qs bs bd. typed κs qs 𝓤 H A W 𝓣 (known0, known1, known2, known3, known4) bs bd) Pre· Post· asked

@@ -63,12 +63,12 @@ abbrev pub y1 : Syntax.Ty
 y1 = Syntax.tyArray u64 4
 
 abbrev pub y2 : Syntax.Ty
-y2 = Syntax.tyEnum (104 ∷ 101 ∷ 97 ∷ 100 ∷ 101 ∷ 114 ∷ 58 ∷ 58 ∷ 82 ∷ 101 ∷ 102 ∷ 117 ∷ 115 ∷ 97 ∷ 108 ∷ []) (Syntax.ttcons Syntax.tnil (Syntax.ttcons Syntax.tnil (Syntax.ttcons Syntax.tnil
-    (Syntax.ttcons (Syntax.tcons u64 Syntax.tnil) (Syntax.ttcons Syntax.tnil (Syntax.ttcons Syntax.tnil (Syntax.ttcons Syntax.tnil (Syntax.ttcons Syntax.tnil (Syntax.ttcons Syntax.tnil (Syntax.ttcons
-    Syntax.tnil (Syntax.ttcons (Syntax.tcons u64 Syntax.tnil) (Syntax.ttcons (Syntax.tcons u64 Syntax.tnil) (Syntax.ttcons Syntax.tnil (Syntax.ttcons (Syntax.tcons u64 (Syntax.tcons u64 Syntax.tnil))
-    (Syntax.ttcons (Syntax.tcons u64 Syntax.tnil) (Syntax.ttcons Syntax.tnil (Syntax.ttcons Syntax.tnil (Syntax.ttcons (Syntax.tcons u64 Syntax.tnil) (Syntax.ttcons (Syntax.tcons u64 Syntax.tnil)
-    (Syntax.ttcons (Syntax.tcons u64 Syntax.tnil) (Syntax.ttcons Syntax.tnil (Syntax.ttcons Syntax.tnil (Syntax.ttcons (Syntax.tcons u64 (Syntax.tcons u64 Syntax.tnil)) (Syntax.ttcons Syntax.tnil
-    Syntax.ttnil))))))))))))))))))))))))
+y2 = Syntax.tyEnum (115 ∷ 116 ∷ 114 ∷ 101 ∷ 97 ∷ 109 ∷ 58 ∷ 58 ∷ 104 ∷ 101 ∷ 97 ∷ 100 ∷ 101 ∷ 114 ∷ 58 ∷ 58 ∷ 82 ∷ 101 ∷ 102 ∷ 117 ∷ 115 ∷ 97 ∷ 108 ∷ []) (Syntax.ttcons Syntax.tnil (Syntax.ttcons
+    Syntax.tnil (Syntax.ttcons Syntax.tnil (Syntax.ttcons (Syntax.tcons u64 Syntax.tnil) (Syntax.ttcons Syntax.tnil (Syntax.ttcons Syntax.tnil (Syntax.ttcons Syntax.tnil (Syntax.ttcons Syntax.tnil
+    (Syntax.ttcons Syntax.tnil (Syntax.ttcons Syntax.tnil (Syntax.ttcons (Syntax.tcons u64 Syntax.tnil) (Syntax.ttcons (Syntax.tcons u64 Syntax.tnil) (Syntax.ttcons Syntax.tnil (Syntax.ttcons
+    (Syntax.tcons u64 (Syntax.tcons u64 Syntax.tnil)) (Syntax.ttcons (Syntax.tcons u64 Syntax.tnil) (Syntax.ttcons Syntax.tnil (Syntax.ttcons Syntax.tnil (Syntax.ttcons (Syntax.tcons u64 Syntax.tnil)
+    (Syntax.ttcons (Syntax.tcons u64 Syntax.tnil) (Syntax.ttcons (Syntax.tcons u64 Syntax.tnil) (Syntax.ttcons Syntax.tnil (Syntax.ttcons Syntax.tnil (Syntax.ttcons (Syntax.tcons u64 (Syntax.tcons u64
+    Syntax.tnil)) (Syntax.ttcons Syntax.tnil (Syntax.ttcons Syntax.tnil (Syntax.ttcons (Syntax.tcons u64 Syntax.tnil) Syntax.ttnil))))))))))))))))))))))))))
 
 abbrev pub y3 : Syntax.Ty
 y3 = Syntax.tyRef (Syntax.named 0) Syntax.imm u8
@@ -86,10 +86,11 @@ abbrev pub y7 : Syntax.Ty
 y7 = Syntax.tyRef Syntax.erased Syntax.mut u16
 
 abbrev pub y8 : Syntax.Ty
-y8 = Syntax.tyStruct (116 ∷ 111 ∷ 116 ∷ 97 ∷ 108 ∷ 115 ∷ 58 ∷ 58 ∷ 84 ∷ 111 ∷ 116 ∷ 97 ∷ 108 ∷ 115 ∷ []) (Syntax.tcons u64 (Syntax.tcons u64 Syntax.tnil))
+y8 = Syntax.tyStruct (108 ∷ 105 ∷ 110 ∷ 101 ∷ 95 ∷ 116 ∷ 111 ∷ 116 ∷ 97 ∷ 108 ∷ 115 ∷ 58 ∷ 58 ∷ 84 ∷ 111 ∷ 116 ∷ 97 ∷ 108 ∷ 115 ∷ []) (Syntax.tcons u64 (Syntax.tcons u64 Syntax.tnil))
 
 abbrev pub y9 : Syntax.Ty
-y9 = Syntax.tyEnum (98 ∷ 108 ∷ 111 ∷ 99 ∷ 107 ∷ 58 ∷ 58 ∷ 68 ∷ 101 ∷ 99 ∷ 111 ∷ 100 ∷ 101 ∷ 100 ∷ []) (Syntax.ttcons Syntax.tnil (Syntax.ttcons (Syntax.tcons y2 Syntax.tnil) Syntax.ttnil))
+y9 = Syntax.tyEnum (114 ∷ 101 ∷ 97 ∷ 100 ∷ 95 ∷ 98 ∷ 108 ∷ 111 ∷ 99 ∷ 107 ∷ 58 ∷ 58 ∷ 68 ∷ 101 ∷ 99 ∷ 111 ∷ 100 ∷ 101 ∷ 100 ∷ []) (Syntax.ttcons Syntax.tnil (Syntax.ttcons (Syntax.tcons y2
+    Syntax.tnil) Syntax.ttnil))
 
 abbrev pub y10 : Syntax.Ty
 y10 = Syntax.tyRef (Syntax.named 3) Syntax.mut y0
@@ -104,7 +105,7 @@ abbrev pub y13 : Syntax.Ty
 y13 = Syntax.tyStruct (38 ∷ 91 ∷ 93 ∷ []) (Syntax.tcons y7 (Syntax.tcons u64 Syntax.tnil))
 
 abbrev pub y14 : Syntax.Ty
-y14 = Syntax.tyStruct (98 ∷ 108 ∷ 111 ∷ 99 ∷ 107 ∷ 58 ∷ 58 ∷ 67 ∷ 111 ∷ 117 ∷ 110 ∷ 116 ∷ 101 ∷ 100 ∷ []) (Syntax.tcons y9 (Syntax.tcons y8 Syntax.tnil))
+y14 = Syntax.tyStruct (114 ∷ 101 ∷ 97 ∷ 100 ∷ 95 ∷ 98 ∷ 108 ∷ 111 ∷ 99 ∷ 107 ∷ 58 ∷ 58 ∷ 67 ∷ 111 ∷ 117 ∷ 110 ∷ 116 ∷ 101 ∷ 100 ∷ []) (Syntax.tcons y9 (Syntax.tcons y8 Syntax.tnil))
 
 abbrev pub ps : List.List (Kinds.PK 5)
 ps = (ShrSlice.pShrS n8 0 tt) ∷ (Num.pNum Syntax.w64) ∷ (MutSlice.pMutS n16 1 tt) ∷ (MutSlice.pMutS (Element.type) 2 tt) ∷ (Kinds.pMut (Array'.Array n64 2) 3 tt) ∷ (Kinds.pMut (Array'.Array n64 4) 4
@@ -405,8 +406,9 @@ module _ (claims· : Claims) where
     module _ (M : Type 1) where
       abbrev pub Closed : Type 2
       Closed = (𝓤 : URA.URA M) (H : Wp.Heap 𝓤) (A : Atoms.Atoms 𝓤) (W : Kit.Given 𝓤 H A) (𝓣 : Wp.Tables 𝓤 H) (known0 : Plain.Known 𝓤 H A W 𝓣 3 ps·0 r·0 (claims· .0) (claims· .1)
-          "read_block::tight::read_block") (known1 : Plain.Known 𝓤 H A W 𝓣 0 ps·1 r·1 (claims· .2) (claims· .3) "fuji_compressed::reading::totals_words") (known2 : Plain.Known 𝓤 H A W 𝓣 0 ps·2 r·2 (claims· .4)
-          (claims· .5) "fuji_compressed::reading::counted_refusal") → Statement.Triple 𝓤 (Wp.WpFn 𝓤 H (𝓣 .C) (𝓣 .Λ) (Function.fnOf 5 ps r xs m hs body)) (Function.plainOf 𝓤 H A 5 ps r Pre· Post·)
+          "read_block::tight::read_block") (known1 : Plain.Known 𝓤 H A W 𝓣 0 ps·1 r·1 (claims· .2) (claims· .3) "fuji_compressed::reading::totals_words") (known2 : Plain.Known 𝓤 H A W 𝓣 0 ps·2 r·2
+          (claims· .4) (claims· .5) "fuji_compressed::reading::counted_refusal") → Statement.Triple 𝓤 (Wp.WpFn 𝓤 H (𝓣 .C) (𝓣 .Λ) (Function.fnOf 5 ps r xs m hs body)) (Function.plainOf 𝓤 H A 5 ps r Pre·
+          Post·)
 
     module _ where
       abbrev at0 : Typed.TF T1 O0
@@ -641,8 +643,8 @@ module _ (claims· : Claims) where
           d16 = Typed.g-pre 𝓤 H A W 𝓣 E G10 G11 b15 Δ0 (λ Ψ. Ψ) at15 (Lifetime.g-end 𝓤 H A W E G10 5 Path'.refl) d15
 
           d17 : Typed.Typed 𝓤 H A 𝓣 E G9 (Syntax.seq b4 b15) Δ0 at17
-          d17 = Typed.s-seq 𝓤 H A W 𝓣 E G9 G10 b4 b15 Δ0 (Typed.both s8) at15 (Plain.t-call-plain 𝓤 H A W 𝓣 3 ps·0 r·0 (claims· .0) (claims· .1) "read_block::tight::read_block" (known .0) E (λ pos β. β) G9
-              (record { pos = 1; ty = y3; ref = λ x. x }, (Num.vAt 2 λ x. x, (record { pos = 11; ty = y7; ref = λ x. x }, (record { pos = 13; ty = y6; ref = λ x. x }, tt)))) 7 (0 ∷ 5 ∷ 6 ∷ [])
+          d17 = Typed.s-seq 𝓤 H A W 𝓣 E G9 G10 b4 b15 Δ0 (Typed.both s8) at15 (Plain.t-call-plain 𝓤 H A W 𝓣 3 ps·0 r·0 (claims· .0) (claims· .1) "read_block::tight::read_block" (known .0) E (λ pos β.
+              β) G9 (record { pos = 1; ty = y3; ref = λ x. x }, (Num.vAt 2 λ x. x, (record { pos = 11; ty = y7; ref = λ x. x }, (record { pos = 13; ty = y6; ref = λ x. x }, tt)))) 7 (0 ∷ 5 ∷ 6 ∷ [])
               (Call.sub-id 𝓤 H A W (G9 .slots)) (
                 ShrSlice.spares-sslice 𝓤 H A W n8 y3 0,
                 Shared.reads-sslice 𝓤 H A W n8 y3 0,
@@ -947,7 +949,7 @@ module _ (claims· : Claims) where
           }
 
         module _ {M : Type 1} (𝓤 : URA.URA M) (H : Wp.Heap 𝓤) (A : Atoms.Atoms 𝓤) (W : Kit.Given 𝓤 H A) (𝓣 : Wp.Tables 𝓤 H) (known0 : Plain.Known 𝓤 H A W 𝓣 3 ps·0 r·0 (claims· .0) (claims· .1)
-            "read_block::tight::read_block") (known1 : Plain.Known 𝓤 H A W 𝓣 0 ps·1 r·1 (claims· .2) (claims· .3) "fuji_compressed::reading::totals_words") (known2 : Plain.Known 𝓤 H A W 𝓣 0 ps·2 r·2 (claims·
-            .4) (claims· .5) "fuji_compressed::reading::counted_refusal") where
+            "read_block::tight::read_block") (known1 : Plain.Known 𝓤 H A W 𝓣 0 ps·1 r·1 (claims· .2) (claims· .3) "fuji_compressed::reading::totals_words") (known2 : Plain.Known 𝓤 H A W 𝓣 0 ps·2 r·2
+            (claims· .4) (claims· .5) "fuji_compressed::reading::counted_refusal") where
           pub spec : Statement.Triple 𝓤 (Wp.WpFn 𝓤 H (𝓣 .C) (𝓣 .Λ) (Function.fnOf 5 ps r xs m hs body)) (Function.plainOf 𝓤 H A 5 ps r Pre· Post·)
           spec = Plain.t-fn-plain 𝓤 H A W 𝓣 5 ps r xs m hs body (λ κs qs bs. Φ) (λ κs qs bs bd. typed κs qs 𝓤 H A W 𝓣 (known0, known1, known2) bs bd) Pre· Post· asked

@@ -8,14 +8,14 @@ use Rattle.read_block.proofs.Element
 use Prim.Native.Nat
 use Rattle.admission.proofs.Beginning
 use Rattle.admission.proofs.Beginning.Laws
-use Rattle.read_block.proofs.Decoded
-use Rattle.read_block.proofs.Decoded.Laws as Laws'
-use Rattle.stream.proofs.header.FujiHeader
-use Rattle.stream.proofs.header.FujiHeader.Laws as Laws''
-use Rattle.stream.proofs.header.Refusal
-use Rattle.stream.proofs.header.Refusal.Laws as Laws'3
 use Rattle.image_region.proofs.Rect
-use Rattle.image_region.proofs.Rect.Laws as Laws'4
+use Rattle.image_region.proofs.Rect.Laws as Laws'
+use Rattle.read_block.proofs.Decoded
+use Rattle.read_block.proofs.Decoded.Laws as Laws''
+use Rattle.stream.proofs.header.FujiHeader
+use Rattle.stream.proofs.header.FujiHeader.Laws as Laws'3
+use Rattle.stream.proofs.header.Refusal
+use Rattle.stream.proofs.header.Refusal.Laws as Laws'4
 use borrow.Author.Called
 use borrow.Enum.Known
 use borrow.Enum.Make
@@ -84,12 +84,12 @@ abbrev pub y0 : Syntax.Ty
 y0 = Syntax.tyArray u8 36
 
 abbrev pub y1 : Syntax.Ty
-y1 = Syntax.tyEnum (104 ∷ 101 ∷ 97 ∷ 100 ∷ 101 ∷ 114 ∷ 58 ∷ 58 ∷ 82 ∷ 101 ∷ 102 ∷ 117 ∷ 115 ∷ 97 ∷ 108 ∷ []) (Syntax.ttcons Syntax.tnil (Syntax.ttcons Syntax.tnil (Syntax.ttcons Syntax.tnil
-    (Syntax.ttcons (Syntax.tcons u64 Syntax.tnil) (Syntax.ttcons Syntax.tnil (Syntax.ttcons Syntax.tnil (Syntax.ttcons Syntax.tnil (Syntax.ttcons Syntax.tnil (Syntax.ttcons Syntax.tnil (Syntax.ttcons
-    Syntax.tnil (Syntax.ttcons (Syntax.tcons u64 Syntax.tnil) (Syntax.ttcons (Syntax.tcons u64 Syntax.tnil) (Syntax.ttcons Syntax.tnil (Syntax.ttcons (Syntax.tcons u64 (Syntax.tcons u64 Syntax.tnil))
-    (Syntax.ttcons (Syntax.tcons u64 Syntax.tnil) (Syntax.ttcons Syntax.tnil (Syntax.ttcons Syntax.tnil (Syntax.ttcons (Syntax.tcons u64 Syntax.tnil) (Syntax.ttcons (Syntax.tcons u64 Syntax.tnil)
-    (Syntax.ttcons (Syntax.tcons u64 Syntax.tnil) (Syntax.ttcons Syntax.tnil (Syntax.ttcons Syntax.tnil (Syntax.ttcons (Syntax.tcons u64 (Syntax.tcons u64 Syntax.tnil)) (Syntax.ttcons Syntax.tnil
-    Syntax.ttnil))))))))))))))))))))))))
+y1 = Syntax.tyEnum (115 ∷ 116 ∷ 114 ∷ 101 ∷ 97 ∷ 109 ∷ 58 ∷ 58 ∷ 104 ∷ 101 ∷ 97 ∷ 100 ∷ 101 ∷ 114 ∷ 58 ∷ 58 ∷ 82 ∷ 101 ∷ 102 ∷ 117 ∷ 115 ∷ 97 ∷ 108 ∷ []) (Syntax.ttcons Syntax.tnil (Syntax.ttcons
+    Syntax.tnil (Syntax.ttcons Syntax.tnil (Syntax.ttcons (Syntax.tcons u64 Syntax.tnil) (Syntax.ttcons Syntax.tnil (Syntax.ttcons Syntax.tnil (Syntax.ttcons Syntax.tnil (Syntax.ttcons Syntax.tnil
+    (Syntax.ttcons Syntax.tnil (Syntax.ttcons Syntax.tnil (Syntax.ttcons (Syntax.tcons u64 Syntax.tnil) (Syntax.ttcons (Syntax.tcons u64 Syntax.tnil) (Syntax.ttcons Syntax.tnil (Syntax.ttcons
+    (Syntax.tcons u64 (Syntax.tcons u64 Syntax.tnil)) (Syntax.ttcons (Syntax.tcons u64 Syntax.tnil) (Syntax.ttcons Syntax.tnil (Syntax.ttcons Syntax.tnil (Syntax.ttcons (Syntax.tcons u64 Syntax.tnil)
+    (Syntax.ttcons (Syntax.tcons u64 Syntax.tnil) (Syntax.ttcons (Syntax.tcons u64 Syntax.tnil) (Syntax.ttcons Syntax.tnil (Syntax.ttcons Syntax.tnil (Syntax.ttcons (Syntax.tcons u64 (Syntax.tcons u64
+    Syntax.tnil)) (Syntax.ttcons Syntax.tnil (Syntax.ttcons Syntax.tnil (Syntax.ttcons (Syntax.tcons u64 Syntax.tnil) Syntax.ttnil))))))))))))))))))))))))))
 
 abbrev pub y2 : Syntax.Ty
 y2 = Syntax.tyRef (Syntax.named 0) Syntax.imm u8
@@ -110,18 +110,20 @@ abbrev pub y7 : Syntax.Ty
 y7 = Syntax.tyRef Syntax.erased Syntax.mut u16
 
 abbrev pub y8 : Syntax.Ty
-y8 = Syntax.tyStruct (104 ∷ 101 ∷ 97 ∷ 100 ∷ 101 ∷ 114 ∷ 58 ∷ 58 ∷ 70 ∷ 117 ∷ 106 ∷ 105 ∷ 72 ∷ 101 ∷ 97 ∷ 100 ∷ 101 ∷ 114 ∷ []) (Syntax.tcons Syntax.tyBool (Syntax.tcons Syntax.tyBool (Syntax.tcons
-    u32 (Syntax.tcons u32 (Syntax.tcons u32 (Syntax.tcons u32 (Syntax.tcons u32 (Syntax.tcons u32 (Syntax.tcons u32 Syntax.tnil)))))))))
+y8 = Syntax.tyStruct (105 ∷ 109 ∷ 97 ∷ 103 ∷ 101 ∷ 95 ∷ 114 ∷ 101 ∷ 103 ∷ 105 ∷ 111 ∷ 110 ∷ 58 ∷ 58 ∷ 82 ∷ 101 ∷ 99 ∷ 116 ∷ []) (Syntax.tcons u64 (Syntax.tcons u64 (Syntax.tcons u64 (Syntax.tcons u64
+    Syntax.tnil))))
 
 abbrev pub y9 : Syntax.Ty
-y9 = Syntax.tyStruct (114 ∷ 101 ∷ 103 ∷ 105 ∷ 111 ∷ 110 ∷ 58 ∷ 58 ∷ 82 ∷ 101 ∷ 99 ∷ 116 ∷ []) (Syntax.tcons u64 (Syntax.tcons u64 (Syntax.tcons u64 (Syntax.tcons u64 Syntax.tnil))))
+y9 = Syntax.tyStruct (115 ∷ 116 ∷ 114 ∷ 101 ∷ 97 ∷ 109 ∷ 58 ∷ 58 ∷ 104 ∷ 101 ∷ 97 ∷ 100 ∷ 101 ∷ 114 ∷ 58 ∷ 58 ∷ 70 ∷ 117 ∷ 106 ∷ 105 ∷ 72 ∷ 101 ∷ 97 ∷ 100 ∷ 101 ∷ 114 ∷ []) (Syntax.tcons Syntax.tyBool
+    (Syntax.tcons Syntax.tyBool (Syntax.tcons u32 (Syntax.tcons u32 (Syntax.tcons u32 (Syntax.tcons u32 (Syntax.tcons u32 (Syntax.tcons u32 (Syntax.tcons u32 Syntax.tnil)))))))))
 
 abbrev pub y10 : Syntax.Ty
-y10 = Syntax.tyEnum (98 ∷ 101 ∷ 103 ∷ 105 ∷ 110 ∷ 58 ∷ 58 ∷ 66 ∷ 101 ∷ 103 ∷ 105 ∷ 110 ∷ 110 ∷ 105 ∷ 110 ∷ 103 ∷ []) (Syntax.ttcons (Syntax.tcons y1 Syntax.tnil) (Syntax.ttcons Syntax.tnil
-    (Syntax.ttcons (Syntax.tcons y8 Syntax.tnil) Syntax.ttnil)))
+y10 = Syntax.tyEnum (114 ∷ 101 ∷ 97 ∷ 100 ∷ 95 ∷ 98 ∷ 108 ∷ 111 ∷ 99 ∷ 107 ∷ 58 ∷ 58 ∷ 68 ∷ 101 ∷ 99 ∷ 111 ∷ 100 ∷ 101 ∷ 100 ∷ []) (Syntax.ttcons Syntax.tnil (Syntax.ttcons (Syntax.tcons y1
+    Syntax.tnil) Syntax.ttnil))
 
 abbrev pub y11 : Syntax.Ty
-y11 = Syntax.tyEnum (98 ∷ 108 ∷ 111 ∷ 99 ∷ 107 ∷ 58 ∷ 58 ∷ 68 ∷ 101 ∷ 99 ∷ 111 ∷ 100 ∷ 101 ∷ 100 ∷ []) (Syntax.ttcons Syntax.tnil (Syntax.ttcons (Syntax.tcons y1 Syntax.tnil) Syntax.ttnil))
+y11 = Syntax.tyEnum (97 ∷ 100 ∷ 109 ∷ 105 ∷ 115 ∷ 115 ∷ 105 ∷ 111 ∷ 110 ∷ 58 ∷ 58 ∷ 66 ∷ 101 ∷ 103 ∷ 105 ∷ 110 ∷ 110 ∷ 105 ∷ 110 ∷ 103 ∷ []) (Syntax.ttcons (Syntax.tcons y1 Syntax.tnil) (Syntax.ttcons
+    Syntax.tnil (Syntax.ttcons (Syntax.tcons y9 Syntax.tnil) Syntax.ttnil)))
 
 abbrev pub y12 : Syntax.Ty
 y12 = Syntax.tyStruct (38 ∷ 91 ∷ 93 ∷ []) (Syntax.tcons y6 (Syntax.tcons u64 Syntax.tnil))
@@ -134,10 +136,10 @@ ps = (ShrSlice.pShrS n8 0 tt) ∷ (Num.pNum Syntax.w64) ∷ (Num.pNum Syntax.w64
     tt) ∷ (MutSlice.pMutS (Element.type) 3 tt) ∷ []
 
 abbrev pub r : Kinds.RK 4
-r = Values.enum-result Decoded.the-type Laws'.the-laws Laws'.the-copy Laws'.the-plain tt
+r = Values.enum-result Decoded.the-type Laws''.the-laws Laws''.the-copy Laws''.the-plain tt
 
 abbrev pub xs : List.List Syntax.Ty
-xs = y10 ∷ y1 ∷ y8 ∷ y9 ∷ u64 ∷ u64 ∷ u64 ∷ u64 ∷ y11 ∷ y7 ∷ y13 ∷ Syntax.tyPtr ∷ u64 ∷ y7 ∷ y13 ∷ Syntax.tyPtr ∷ u64 ∷ y6 ∷ y12 ∷ []
+xs = y11 ∷ y1 ∷ y9 ∷ y8 ∷ u64 ∷ u64 ∷ u64 ∷ u64 ∷ y10 ∷ y7 ∷ y13 ∷ Syntax.tyPtr ∷ u64 ∷ y7 ∷ y13 ∷ Syntax.tyPtr ∷ u64 ∷ y6 ∷ y12 ∷ []
 
 abbrev pub m : Nat.ℕ
 m = 3
@@ -152,7 +154,7 @@ abbrev pub ps·1 : List.List (Kinds.PK 0)
 ps·1 = (Num.pNum Syntax.w64) ∷ (Num.pNum Syntax.w64) ∷ []
 
 abbrev pub r·1 : Kinds.RK 0
-r·1 = Values.struct-result Rect.the-type Laws'4.the-laws Laws'4.the-copy Laws'4.the-plain
+r·1 = Values.struct-result Rect.the-type Laws'.the-laws Laws'.the-copy Laws'.the-plain
 
 abbrev pub ps·2 : List.List (Kinds.PK 0)
 ps·2 = Bool.pBool ∷ []
@@ -161,11 +163,11 @@ abbrev pub r·2 : Kinds.RK 0
 r·2 = Num.rNum Syntax.w64
 
 abbrev pub ps·3 : List.List (Kinds.PK 4)
-ps·3 = (ShrSlice.pShrS n8 0 tt) ∷ (Values.struct FujiHeader.the-type Laws''.the-laws Laws''.the-copy Laws''.the-plain) ∷ (Values.struct Rect.the-type Laws'4.the-laws Laws'4.the-copy Laws'4.the-plain)
-    ∷ (Array.pArr (Array.eInt Syntax.w8) (Array.eInt-laws Syntax.w8) 36) ∷ (MutSlice.pMutS n16 1 tt) ∷ (MutSlice.pMutS n16 2 tt) ∷ (MutSlice.pMutS (Element.type) 3 tt) ∷ Bool.pBool ∷ []
+ps·3 = (ShrSlice.pShrS n8 0 tt) ∷ (Values.struct FujiHeader.the-type Laws'3.the-laws Laws'3.the-copy Laws'3.the-plain) ∷ (Values.struct Rect.the-type Laws'.the-laws Laws'.the-copy Laws'.the-plain) ∷
+    (Array.pArr (Array.eInt Syntax.w8) (Array.eInt-laws Syntax.w8) 36) ∷ (MutSlice.pMutS n16 1 tt) ∷ (MutSlice.pMutS n16 2 tt) ∷ (MutSlice.pMutS (Element.type) 3 tt) ∷ Bool.pBool ∷ []
 
 abbrev pub r·3 : Kinds.RK 4
-r·3 = Values.enum-result Decoded.the-type Laws'.the-laws Laws'.the-copy Laws'.the-plain tt
+r·3 = Values.enum-result Decoded.the-type Laws''.the-laws Laws''.the-copy Laws''.the-plain tt
 
 abbrev pub hs : List.List Syntax.Home
 hs = Syntax.valueLocal ∷ Syntax.valueLocal ∷ Syntax.valueLocal ∷ Syntax.valueLocal ∷ Syntax.valueLocal ∷ Syntax.valueLocal ∷ Syntax.valueLocal ∷ Syntax.valueLocal ∷ Syntax.valueLocal ∷
@@ -182,8 +184,8 @@ abbrev b2 : Syntax.Body
 b2 = Syntax.assign (Syntax.place 15 []) (Syntax.rvOpd (Syntax.copy (Syntax.place 7 ((Syntax.field 1) ∷ []))))
 
 abbrev b3 : Syntax.Body
-b3 = Syntax.call "admission::image_begins" ((Syntax.copy (Syntax.place 1 [])) ∷ (Syntax.copy (Syntax.place 2 [])) ∷ (Syntax.copy (Syntax.place 3 [])) ∷ (Syntax.copy (Syntax.place 13 [])) ∷ (Syntax.copy
-    (Syntax.place 14 [])) ∷ (Syntax.copy (Syntax.place 15 [])) ∷ []) (Syntax.place 8 [])
+b3 = Syntax.call "admission::image_begins" ((Syntax.copy (Syntax.place 1 [])) ∷ (Syntax.copy (Syntax.place 2 [])) ∷ (Syntax.copy (Syntax.place 3 [])) ∷ (Syntax.copy (Syntax.place 13 [])) ∷
+    (Syntax.copy (Syntax.place 14 [])) ∷ (Syntax.copy (Syntax.place 15 [])) ∷ []) (Syntax.place 8 [])
 
 abbrev b4 : Syntax.Body
 b4 = Syntax.assign (Syntax.place 9 []) (Syntax.rvOpd (Syntax.copy (Syntax.place 8 ((Syntax.variant 0) ∷ (Syntax.field 1) ∷ []))))
@@ -237,8 +239,8 @@ abbrev b20 : Syntax.Body
 b20 = Syntax.assign (Syntax.place 26 []) (Syntax.aggregate ((Syntax.copy (Syntax.place 25 [])) ∷ (Syntax.copy (Syntax.place 24 [])) ∷ []))
 
 abbrev b21 : Syntax.Body
-b21 = Syntax.call "read_block::decoding::decode_blocks" ((Syntax.copy (Syntax.place 1 [])) ∷ (Syntax.copy (Syntax.place 10 [])) ∷ (Syntax.copy (Syntax.place 11 [])) ∷ (Syntax.copy (Syntax.place 4 [])) ∷
-    (Syntax.copy (Syntax.place 18 [])) ∷ (Syntax.copy (Syntax.place 22 [])) ∷ (Syntax.copy (Syntax.place 26 [])) ∷ Syntax.opdFalse ∷ []) (Syntax.place 16 [])
+b21 = Syntax.call "read_block::decoding::decode_blocks" ((Syntax.copy (Syntax.place 1 [])) ∷ (Syntax.copy (Syntax.place 10 [])) ∷ (Syntax.copy (Syntax.place 11 [])) ∷ (Syntax.copy (Syntax.place 4 []))
+    ∷ (Syntax.copy (Syntax.place 18 [])) ∷ (Syntax.copy (Syntax.place 22 [])) ∷ (Syntax.copy (Syntax.place 26 [])) ∷ Syntax.opdFalse ∷ []) (Syntax.place 16 [])
 
 abbrev b24 : Syntax.Body
 b24 = Syntax.seq b18 (Syntax.seq b19 (Syntax.seq b20 b21))
@@ -283,7 +285,7 @@ abbrev pub v1 : Row.Row
 v1 = Rows'.sc-here (Row.sInt Syntax.w64)
 
 abbrev pub v2 : Row.Row
-v2 = Rows'.any-gone y11
+v2 = Rows'.any-gone y10
 
 abbrev pub v3 : Row.Row
 v3 = Rows'.sslice n8 y2 0
@@ -298,13 +300,13 @@ abbrev pub v6 : Row.Row
 v6 = Rows'.any-gone Syntax.tyPtr
 
 abbrev pub v7 : Row.Row
-v7 = Rows'.any-gone y10
+v7 = Rows'.any-gone y11
 
 abbrev pub v8 : Row.Row
-v8 = Rows'.any-gone y8
+v8 = Rows'.any-gone y9
 
 abbrev pub v9 : Row.Row
-v9 = Rows'.any-gone y9
+v9 = Rows'.any-gone y8
 
 abbrev pub v10 : Row.Row
 v10 = Mut.mslice n16 y3 1
@@ -690,7 +692,7 @@ module _ (claims· : Claims) where
   a0 = (record { pos = 1; ty = y2; ref = λ x. x }, (Num.vAt 2 λ x. x, (Num.vAt 3 λ x. x, (Num.vAt 13 λ x. x, (Num.vAt 14 λ x. x, (Num.vAt 15 λ x. x, tt))))))
 
   abbrev s6 : Typed.Both T7 T8
-  s6 = Call.callB ps·0 r·0 (claims· .0) (claims· .1) T7 a0 8 (0 ∷ []) y10
+  s6 = Call.callB ps·0 r·0 (claims· .0) (claims· .1) T7 a0 8 (0 ∷ []) y11
 
   abbrev s7 : Typed.Mo T8 → Typed.Mo T10
   s7 = Scalar.n-room T8 13 u64
@@ -714,7 +716,7 @@ module _ (claims· : Claims) where
   s13 = Make'.n-make (Declared.row Refusal.the-type) T15 9 λ m. m .1 .1 .1 .1 .1 .1 .1 .1 .0 .0
 
   abbrev s14 : Typed.Mo T16 → Typed.Mo T17
-  s14 = Scalar.n-room T16 8 y10
+  s14 = Scalar.n-room T16 8 y11
 
   abbrev s15 : Typed.Mo T17 → Typed.Mo T18
   s15 = Make.n-enum-make Decoded.the-type T17 16 λ m. Decoded.enum .make (Logic.inr (Logic.inl (m .1 .1 .1 .1 .1 .1 .1 .1 .1 .0, tt)))
@@ -729,7 +731,7 @@ module _ (claims· : Claims) where
   s18 = Scalar.n-room T12 4 y0
 
   abbrev s19 : Typed.Mo T21 → Typed.Mo T22
-  s19 = Scalar.n-room T21 8 y10
+  s19 = Scalar.n-room T21 8 y11
 
   abbrev s20 : Typed.Mo T22 → Typed.Mo T9
   s20 = Make.n-enum-make Decoded.the-type T22 16 λ m. Decoded.enum .make (Logic.inl tt)
@@ -744,10 +746,10 @@ module _ (claims· : Claims) where
   s23 = Make'.n-make (Declared'.row FujiHeader.the-type) T24 10 λ m. m .1 .1 .1 .1 .1 .1 .1 .1 .0 .0
 
   abbrev s24 : Typed.Mo T26 → Typed.Mo T27
-  s24 = Scalar.n-room T26 8 y10
+  s24 = Scalar.n-room T26 8 y11
 
   abbrev s25 : Typed.Both T27 T28
-  s25 = Call.callB ps·1 r·1 (claims· .2) (claims· .3) T27 (Num.vAt 2 λ x. x, (Num.vAt 3 λ x. x, tt)) 11 [] y9
+  s25 = Call.callB ps·1 r·1 (claims· .2) (claims· .3) T27 (Num.vAt 2 λ x. x, (Num.vAt 3 λ x. x, tt)) 11 [] y8
 
   abbrev s26 : Typed.Both T28 T29
   s26 = Call.callB ps·2 r·2 (claims· .4) (claims· .5) T28 (Bool.bFld 10 ((Syntax.field 1) ∷ []) 1 λ x. FujiHeader.struct .as-values x .1 .0, tt) 12 [] u64
@@ -810,16 +812,16 @@ module _ (claims· : Claims) where
   )
 
   abbrev s44 : Typed.Both T46 T47
-  s44 = Call.callB ps·3 r·3 (claims· .6) (claims· .7) T46 a1 16 (0 ∷ 4 ∷ 5 ∷ 6 ∷ []) y11
+  s44 = Call.callB ps·3 r·3 (claims· .6) (claims· .7) T46 a1 16 (0 ∷ 4 ∷ 5 ∷ 6 ∷ []) y10
 
   abbrev s45 : Typed.Mo T47 → Typed.Mo T48
   s45 = Scalar.n-room T47 4 y0
 
   abbrev s46 : Typed.Mo T48 → Typed.Mo T49
-  s46 = Scalar.n-room T48 10 y8
+  s46 = Scalar.n-room T48 10 y9
 
   abbrev s47 : Typed.Mo T49 → Typed.Mo T50
-  s47 = Scalar.n-room T49 11 y9
+  s47 = Scalar.n-room T49 11 y8
 
   abbrev s48 : Typed.Mo T50 → Typed.Mo T51
   s48 = Scalar.n-room T50 12 u64
@@ -843,7 +845,7 @@ module _ (claims· : Claims) where
   s60 = LocalCopy.n-val-copy T9 16 0 (Declared.row Decoded.the-type) (Rows'.whole (Declared.row Decoded.the-type)) (Rows'.whole (Declared.row Decoded.the-type)) (λ x. x) (λ x. x) λ x. x
 
   abbrev s61 : Typed.Mo T63 → Typed.Mo T64
-  s61 = Scalar.n-room T63 16 y11
+  s61 = Scalar.n-room T63 16 y10
 
   abbrev s62 : Typed.Mo T64 → Typed.Mo T65
   s62 = Scalar.n-room T64 2 u64
@@ -854,10 +856,10 @@ module _ (claims· : Claims) where
   module _ (Pre· : (κs : Lifetimes.Lfts 4) → Kinds.Dens κs ps → Type 0) (Post· : (κs : Lifetimes.Lfts 4) → (a : Kinds.Dens κs ps) → Kinds.Plain 4 ps r κs) where
     module _ (M : Type 1) where
       abbrev pub Closed : Type 2
-      Closed = (𝓤 : URA.URA M) (H : Wp.Heap 𝓤) (A : Atoms.Atoms 𝓤) (W : Kit.Given 𝓤 H A) (𝓣 : Wp.Tables 𝓤 H) (known0 : Plain.Known 𝓤 H A W 𝓣 1 ps·0 r·0 (claims· .0) (claims· .1) "admission::image_begins")
-          (known1 : Plain.Known 𝓤 H A W 𝓣 0 ps·1 r·1 (claims· .2) (claims· .3) "admission::whole") (known2 : Plain.Known 𝓤 H A W 𝓣 0 ps·2 r·2 (claims· .4) (claims· .5) "admission::samples_needed") (known3 :
-          Plain.Known 𝓤 H A W 𝓣 4 ps·3 r·3 (claims· .6) (claims· .7) "read_block::decoding::decode_blocks") → Statement.Triple 𝓤 (Wp.WpFn 𝓤 H (𝓣 .C) (𝓣 .Λ) (Function.fnOf 4 ps r xs m hs body))
-          (Function.plainOf 𝓤 H A 4 ps r Pre· Post·)
+      Closed = (𝓤 : URA.URA M) (H : Wp.Heap 𝓤) (A : Atoms.Atoms 𝓤) (W : Kit.Given 𝓤 H A) (𝓣 : Wp.Tables 𝓤 H) (known0 : Plain.Known 𝓤 H A W 𝓣 1 ps·0 r·0 (claims· .0) (claims· .1)
+          "admission::image_begins") (known1 : Plain.Known 𝓤 H A W 𝓣 0 ps·1 r·1 (claims· .2) (claims· .3) "admission::whole") (known2 : Plain.Known 𝓤 H A W 𝓣 0 ps·2 r·2 (claims· .4) (claims· .5)
+          "admission::samples_needed") (known3 : Plain.Known 𝓤 H A W 𝓣 4 ps·3 r·3 (claims· .6) (claims· .7) "read_block::decoding::decode_blocks") → Statement.Triple 𝓤 (Wp.WpFn 𝓤 H (𝓣 .C) (𝓣 .Λ)
+          (Function.fnOf 4 ps r xs m hs body)) (Function.plainOf 𝓤 H A 4 ps r Pre· Post·)
 
     module _ where
       abbrev at0 : Typed.TF T17 O1
@@ -1010,8 +1012,8 @@ module _ (claims· : Claims) where
 
       module _ {M : Type 1} (𝓤 : URA.URA M) (H : Wp.Heap 𝓤) (A : Atoms.Atoms 𝓤) (W : Kit.Given 𝓤 H A) (𝓣 : Wp.Tables 𝓤 H) where
         abbrev Knowns : Type 1
-        Knowns = Plain.Known 𝓤 H A W 𝓣 1 ps·0 r·0 (claims· .0) (claims· .1) "admission::image_begins" × Plain.Known 𝓤 H A W 𝓣 0 ps·1 r·1 (claims· .2) (claims· .3) "admission::whole" × Plain.Known 𝓤 H A W 𝓣 0
-            ps·2 r·2 (claims· .4) (claims· .5) "admission::samples_needed" × Plain.Known 𝓤 H A W 𝓣 4 ps·3 r·3 (claims· .6) (claims· .7) "read_block::decoding::decode_blocks"
+        Knowns = Plain.Known 𝓤 H A W 𝓣 1 ps·0 r·0 (claims· .0) (claims· .1) "admission::image_begins" × Plain.Known 𝓤 H A W 𝓣 0 ps·1 r·1 (claims· .2) (claims· .3) "admission::whole" × Plain.Known 𝓤 H
+            A W 𝓣 0 ps·2 r·2 (claims· .4) (claims· .5) "admission::samples_needed" × Plain.Known 𝓤 H A W 𝓣 4 ps·3 r·3 (claims· .6) (claims· .7) "read_block::decoding::decode_blocks"
 
       module _ (κs : Lifetimes.Lfts 4) (qs : Lifetimes.Shares 4) where
         abbrev k0 : Row.Life
@@ -1183,11 +1185,11 @@ module _ (claims· : Claims) where
 
           d0 : Typed.Typed 𝓤 H A 𝓣 E (on T17 l5) b5 Δ1 at0
           d0 = Typed.s-typed 𝓤 H A W 𝓣 E (on T17 l5) b5 Δ1 (λ Ψ. Typed.pass T17 T18 s15 (Typed.pass T18 T9 s16 Ψ)) tt (Typed.g-post 𝓤 H A W 𝓣 E (on T17 l5) (on T18 l5) (on T9 l5) b5 (Typed.pass T17
-              T18 s15) (Typed.pass T18 T9 s16) (Make.t-enum-make-wt 𝓤 H A W E 𝓣 Decoded.the-type Laws'.the-laws Laws'.the-plain tt (on T17 l5) 16 ((Scalar.oInt Syntax.w8 1) ∷ (Scalar.oAt 9 y1 (Laws'5.val
-              Refusal.the-type Laws'3.the-laws)) ∷ []) (λ m. Decoded.enum .make (Logic.inr (Logic.inl (m .1 .1 .1 .1 .1 .1 .1 .1 .1 .0, tt)))) (Reads'.room-gone 𝓤 H A y11)
-              (tt, ((Whole.reads-enum 𝓤 H A W Refusal.the-type Laws'3.the-laws, Path'.refl), tt)) Path'.refl (λ m wa. Make.made-val Decoded.the-type Laws'.the-laws ((Laws'5.val Refusal.the-type
-              Laws'3.the-laws (m .1 .1 .1 .1 .1 .1 .1 .1 .1 .0)) ∷ []) (Decoded.enum .make (Logic.inr (Logic.inl (m .1 .1 .1 .1 .1 .1 .1 .1 .1 .0, tt)))) (
-                Signed.made-wt Refusal.the-field Laws'3.the-field-laws (Whole.enum-wt Refusal.the-type Laws'3.the-laws (
+              T18 s15) (Typed.pass T18 T9 s16) (Make.t-enum-make-wt 𝓤 H A W E 𝓣 Decoded.the-type Laws''.the-laws Laws''.the-plain tt (on T17 l5) 16 ((Scalar.oInt Syntax.w8 1) ∷ (Scalar.oAt 9 y1
+              (Laws'5.val Refusal.the-type Laws'4.the-laws)) ∷ []) (λ m. Decoded.enum .make (Logic.inr (Logic.inl (m .1 .1 .1 .1 .1 .1 .1 .1 .1 .0, tt)))) (Reads'.room-gone 𝓤 H A y10)
+              (tt, ((Whole.reads-enum 𝓤 H A W Refusal.the-type Laws'4.the-laws, Path'.refl), tt)) Path'.refl (λ m wa. Make.made-val Decoded.the-type Laws''.the-laws ((Laws'5.val Refusal.the-type
+              Laws'4.the-laws (m .1 .1 .1 .1 .1 .1 .1 .1 .1 .0)) ∷ []) (Decoded.enum .make (Logic.inr (Logic.inl (m .1 .1 .1 .1 .1 .1 .1 .1 .1 .0, tt)))) (
+                Signed.made-wt Refusal.the-field Laws'4.the-field-laws (Whole.enum-wt Refusal.the-type Laws'4.the-laws (
                   tt,
                   (
                     tt,
@@ -1215,7 +1217,10 @@ module _ (claims· : Claims) where
                                           tt,
                                           (
                                             (Make'.u64-wt, (Make'.u64-wt, tt)),
-                                            ((Make'.u64-wt, tt), (tt, (tt, ((Make'.u64-wt, tt), ((Make'.u64-wt, tt), ((Make'.u64-wt, tt), (tt, (tt, ((Make'.u64-wt, (Make'.u64-wt, tt)), (tt, tt)))))))))),
+                                            (
+                                              (Make'.u64-wt, tt),
+                                              (tt, (tt, ((Make'.u64-wt, tt), ((Make'.u64-wt, tt), ((Make'.u64-wt, tt), (tt, (tt, ((Make'.u64-wt, (Make'.u64-wt, tt)), (tt, (tt, ((Make'.u64-wt, tt), tt))))))))))),
+                                            ),
                                           ),
                                         ),
                                       ),
@@ -1232,9 +1237,9 @@ module _ (claims· : Claims) where
                 ))
                     (Refusal.the-type .to (m .1 .1 .1 .1 .1 .1 .1 .1 .1 .0)),
                 tt,
-              ) (wa .1)) λ m wa. Make.made-is Decoded.the-type Laws'.the-laws ((Laws'5.val Refusal.the-type Laws'3.the-laws (m .1 .1 .1 .1 .1 .1
-              .1 .1 .1 .0)) ∷ []) (Decoded.enum .make (Logic.inr (Logic.inl (m .1 .1 .1 .1 .1 .1 .1 .1 .1 .0, tt)))) (
-                Signed.made-wt Refusal.the-field Laws'3.the-field-laws (Whole.enum-wt Refusal.the-type Laws'3.the-laws (
+              ) (wa .1)) λ m wa. Make.made-is Decoded.the-type Laws''.the-laws ((Laws'5.val Refusal.the-type Laws'4.the-laws (m .1 .1 .1 .1 .1
+              .1 .1 .1 .1 .0)) ∷ []) (Decoded.enum .make (Logic.inr (Logic.inl (m .1 .1 .1 .1 .1 .1 .1 .1 .1 .0, tt)))) (
+                Signed.made-wt Refusal.the-field Laws'4.the-field-laws (Whole.enum-wt Refusal.the-type Laws'4.the-laws (
                   tt,
                   (
                     tt,
@@ -1262,7 +1267,10 @@ module _ (claims· : Claims) where
                                           tt,
                                           (
                                             (Make'.u64-wt, (Make'.u64-wt, tt)),
-                                            ((Make'.u64-wt, tt), (tt, (tt, ((Make'.u64-wt, tt), ((Make'.u64-wt, tt), ((Make'.u64-wt, tt), (tt, (tt, ((Make'.u64-wt, (Make'.u64-wt, tt)), (tt, tt)))))))))),
+                                            (
+                                              (Make'.u64-wt, tt),
+                                              (tt, (tt, ((Make'.u64-wt, tt), ((Make'.u64-wt, tt), ((Make'.u64-wt, tt), (tt, (tt, ((Make'.u64-wt, (Make'.u64-wt, tt)), (tt, (tt, ((Make'.u64-wt, tt), tt))))))))))),
+                                            ),
                                           ),
                                         ),
                                       ),
@@ -1282,15 +1290,15 @@ module _ (claims· : Claims) where
               ) (wa .1)) (Scalar.g-room 𝓤 H A W E (on T18 l5) 9 y1 (Local.room-whole 𝓤 H A W (Declared.row Refusal.the-type) y1 Path'.refl)))
 
           d1 : Typed.Typed 𝓤 H A 𝓣 E (on T16 l5) b5 Δ1 at1
-          d1 = Typed.g-pre 𝓤 H A W 𝓣 E (on T16 l5) (on T17 l5) b5 Δ1 (Typed.pass T16 T17 s14) at0 (Scalar.g-room 𝓤 H A W E (on T16 l5) 8 y10 (Local.room-whole 𝓤 H A W (Known.Known Beginning.enum 0)
-              y10 Path'.refl)) d0
+          d1 = Typed.g-pre 𝓤 H A W 𝓣 E (on T16 l5) (on T17 l5) b5 Δ1 (Typed.pass T16 T17 s14) at0 (Scalar.g-room 𝓤 H A W E (on T16 l5) 8 y11 (Local.room-whole 𝓤 H A W (Known.Known Beginning.enum 0)
+              y11 Path'.refl)) d0
 
           d2 : Typed.Typed 𝓤 H A 𝓣 E (on T15 l5) b6 Δ1 at2
           d2 = Typed.s-seq 𝓤 H A W 𝓣 E (on T15 l5) (on T16 l5) b4 b5 Δ1 (Typed.pass T15 T16 s13) at1 (CopyOut.t-copy-told 𝓤 H A W E 𝓣 (Declared.row Refusal.the-type) Path'.refl (Laws'5.val
-              Refusal.the-type Laws'3.the-laws) (Laws'5.lawful Refusal.the-type Laws'3.the-laws 𝓤 H A W tt) (Laws'5.makes Refusal.the-type Laws'3.the-plain 𝓤 H A) (on T15 l5) 9 (Scalar.oFld 8
-              ((Syntax.variant 0) ∷ (Syntax.field 1) ∷ []) y1 8 λ v. Laws'5.val Refusal.the-type Laws'3.the-laws (v .0)) (λ m. m .1 .1 .1 .1 .1 .1 .1 .1 .0 .0) (λ m. Laws'5.Fields (Declared.variants
+              Refusal.the-type Laws'4.the-laws) (Laws'5.lawful Refusal.the-type Laws'4.the-laws 𝓤 H A W tt) (Laws'5.makes Refusal.the-type Laws'4.the-plain 𝓤 H A) (on T15 l5) 9 (Scalar.oFld 8
+              ((Syntax.variant 0) ∷ (Syntax.field 1) ∷ []) y1 8 λ v. Laws'5.val Refusal.the-type Laws'4.the-laws (v .0)) (λ m. m .1 .1 .1 .1 .1 .1 .1 .1 .0 .0) (λ m. Laws'5.Fields (Declared.variants
               Beginning.the-type) (Laws'5.spellss (Beginning.enum .parts) Laws.the-laws) (Beginning.the-type .to (Known.at Beginning.enum 0 (m .1 .1 .1 .1 .1 .1 .1 .1 .0)))) (Reads'.room-gone 𝓤 H A y1) (
-                Match.reads-payload 𝓤 H A W Beginning.enum Laws.the-laws 0 Path'.refl Path'.refl (λ v. Val.vcons (Laws'5.val Refusal.the-type Laws'3.the-laws (v .0)) Val.vnil) (λ v. Path'.refl) 0 y1 8
+                Match.reads-payload 𝓤 H A W Beginning.enum Laws.the-laws 0 Path'.refl Path'.refl (λ v. Val.vcons (Laws'5.val Refusal.the-type Laws'4.the-laws (v .0)) Val.vnil) (λ v. Path'.refl) 0 y1 8
                     Path'.refl,
                 Path'.refl,
               ) Path'.refl (λ ρ m. Make'.tells-row 𝓤 H A W E ρ (Row.out 9 ((on T15 l5) .locals)) m 8 (Laws'5.Fields (Declared.variants Beginning.the-type) (Laws'5.spellss
@@ -1309,13 +1317,13 @@ module _ (claims· : Claims) where
               (Declared.row Beginning.the-type)))) d4
 
           d6 : Typed.Typed 𝓤 H A 𝓣 E (on T22 l5) b7 Δ1 at6
-          d6 = Typed.s-typed 𝓤 H A W 𝓣 E (on T22 l5) b7 Δ1 (Typed.pass T22 T9 s20) tt (Make.t-enum-make-wt 𝓤 H A W E 𝓣 Decoded.the-type Laws'.the-laws Laws'.the-plain tt (on T22 l5) 16 ((Scalar.oInt
-              Syntax.w8 0) ∷ []) (λ m. Decoded.enum .make (Logic.inl tt)) (Reads'.room-gone 𝓤 H A y11) (tt, tt) Path'.refl (λ m wa. Make.made-val Decoded.the-type Laws'.the-laws [] (Decoded.enum .make
-              (Logic.inl tt)) tt (wa .1)) λ m wa. Make.made-is Decoded.the-type Laws'.the-laws [] (Decoded.enum .make (Logic.inl tt)) tt (wa .1))
+          d6 = Typed.s-typed 𝓤 H A W 𝓣 E (on T22 l5) b7 Δ1 (Typed.pass T22 T9 s20) tt (Make.t-enum-make-wt 𝓤 H A W E 𝓣 Decoded.the-type Laws''.the-laws Laws''.the-plain tt (on T22 l5) 16 ((Scalar.oInt
+              Syntax.w8 0) ∷ []) (λ m. Decoded.enum .make (Logic.inl tt)) (Reads'.room-gone 𝓤 H A y10) (tt, tt) Path'.refl (λ m wa. Make.made-val Decoded.the-type Laws''.the-laws [] (Decoded.enum .make
+              (Logic.inl tt)) tt (wa .1)) λ m wa. Make.made-is Decoded.the-type Laws''.the-laws [] (Decoded.enum .make (Logic.inl tt)) tt (wa .1))
 
           d7 : Typed.Typed 𝓤 H A 𝓣 E (on T21 l5) b7 Δ1 at7
-          d7 = Typed.g-pre 𝓤 H A W 𝓣 E (on T21 l5) (on T22 l5) b7 Δ1 (Typed.pass T21 T22 s19) at6 (Scalar.g-room 𝓤 H A W E (on T21 l5) 8 y10 (Local.room-whole 𝓤 H A W (Declared.row Beginning.the-type)
-              y10 Path'.refl)) d6
+          d7 = Typed.g-pre 𝓤 H A W 𝓣 E (on T21 l5) (on T22 l5) b7 Δ1 (Typed.pass T21 T22 s19) at6 (Scalar.g-room 𝓤 H A W E (on T21 l5) 8 y11 (Local.room-whole 𝓤 H A W (Declared.row Beginning.the-type)
+              y11 Path'.refl)) d6
 
           d8 : Typed.Typed 𝓤 H A 𝓣 E (on T12 l5) b7 Δ1 at8
           d8 = Typed.g-pre 𝓤 H A W 𝓣 E (on T12 l5) (on T21 l5) b7 Δ1 (Typed.pass T12 T21 s18) at7 (Scalar.g-room 𝓤 H A W E (on T12 l5) 4 y0 (Init.room-arr 𝓤 H A W n8 36 0 36 Path'.refl)) d7
@@ -1359,9 +1367,9 @@ module _ (claims· : Claims) where
                 Shared.reads-sslice 𝓤 H A W n8 y2 0,
                 Path'.refl,
                 (
-                  (Values.struct-copied 𝓤 H A W FujiHeader.the-type Laws''.the-laws Laws''.the-copy, Path'.refl),
+                  (Values.struct-copied 𝓤 H A W FujiHeader.the-type Laws'3.the-laws Laws'3.the-copy, Path'.refl),
                   (
-                    (Values.struct-copied 𝓤 H A W Rect.the-type Laws'4.the-laws Laws'4.the-copy, Path'.refl),
+                    (Values.struct-copied 𝓤 H A W Rect.the-type Laws'.the-laws Laws'.the-copy, Path'.refl),
                     (
                       (Array.arr-yields 𝓤 H A W (Array.eInt Syntax.w8) (Array.eInt-laws Syntax.w8) 36, Path'.refl),
                       (
@@ -1378,9 +1386,9 @@ module _ (claims· : Claims) where
                     ),
                   ),
                 ),
-              ) (Reads'.room-gone 𝓤 H A y11) (tt, (tt, (tt, (tt, tt))))
-              Path'.refl) (Scalar.g-room 𝓤 H A W E G47 4 y0 (Init.room-arr 𝓤 H A W n8 36 0 36 Path'.refl))) (Scalar.g-room 𝓤 H A W E G48 10 y8 (Local.room-whole 𝓤 H A W (Declared'.row FujiHeader.the-type)
-              y8 Path'.refl))) (Scalar.g-room 𝓤 H A W E G49 11 y9 (Local.room-whole 𝓤 H A W (Declared'.row Rect.the-type) y9 Path'.refl))) (Scalar.g-room 𝓤 H A W E G50 12 u64 (Scalar.room-sc 𝓤 H A W
+              ) (Reads'.room-gone 𝓤 H A y10) (tt, (tt, (tt, (tt, tt))))
+              Path'.refl) (Scalar.g-room 𝓤 H A W E G47 4 y0 (Init.room-arr 𝓤 H A W n8 36 0 36 Path'.refl))) (Scalar.g-room 𝓤 H A W E G48 10 y9 (Local.room-whole 𝓤 H A W (Declared'.row FujiHeader.the-type)
+              y9 Path'.refl))) (Scalar.g-room 𝓤 H A W E G49 11 y8 (Local.room-whole 𝓤 H A W (Declared'.row Rect.the-type) y8 Path'.refl))) (Scalar.g-room 𝓤 H A W E G50 12 u64 (Scalar.room-sc 𝓤 H A W
               (Row.sInt Syntax.w64)))) (Lifetime.g-end 𝓤 H A W E G51 4 Path'.refl)) (Relend.g-back-sl 𝓤 H A W E n16 G52 18 5 1 4 y3 y7 k1 (λ x. x) (λ x. x) (Reads'.as-is 𝓤 H A (Mut.msleft n16 y7))
               (Reads'.as-is 𝓤 H A (Relend.mslice-owed n16 y3 1 4 k1)) Path'.refl Path'.refl)) (Know.g-sl-known 𝓤 H A W (Referent.fInt Syntax.w16) E G53 5 1 y3 k1 0 (λ x. x) record { fits = Dec'.lit< tt }
               (Reads'.as-is 𝓤 H A (Mut.mslice n16 y3 1)) Path'.refl tt)) (Lifetime.g-forget 𝓤 H A W E G53 4 Row.dead Path'.refl)) (Lifetime.g-end 𝓤 H A W E G55 5 Path'.refl)) (PartMut.g-back-slᵐ 𝓤 H A W E
@@ -1465,24 +1473,24 @@ module _ (claims· : Claims) where
 
           d28 : Typed.Typed 𝓤 H A 𝓣 E (on T28 l5) (Syntax.seq b10 (Syntax.seq b11 b30)) Δ1 at28
           d28 = Typed.s-seq 𝓤 H A W 𝓣 E (on T28 l5) (on T29 l5) b10 (Syntax.seq b11 b30) Δ1 (Typed.both s26) at26 (Plain.t-call-plain 𝓤 H A W 𝓣 0 ps·2 r·2 (claims· .4) (claims· .5)
-              "admission::samples_needed" (known .2) E (λ pos β. β) (on T28 l5) (Bool.bFld 10 ((Syntax.field 1) ∷ []) 1 λ x. FujiHeader.struct .as-values x .1 .0, tt) 12 [] (Call.sub-id 𝓤 H A W ((on T28 l5)
-              .slots)) ((Reads.reads-field 𝓤 H A W FujiHeader.the-type Laws''.the-laws 1 Syntax.tyBool 1 Path'.refl, Path'.refl), tt) (Reads'.room-gone 𝓤 H A u64) tt Path'.refl) d27
+              "admission::samples_needed" (known .2) E (λ pos β. β) (on T28 l5) (Bool.bFld 10 ((Syntax.field 1) ∷ []) 1 λ x. FujiHeader.struct .as-values x .1 .0, tt) 12 [] (Call.sub-id 𝓤 H A W ((on T28
+              l5) .slots)) ((Reads.reads-field 𝓤 H A W FujiHeader.the-type Laws'3.the-laws 1 Syntax.tyBool 1 Path'.refl, Path'.refl), tt) (Reads'.room-gone 𝓤 H A u64) tt Path'.refl) d27
 
           d29 : Typed.Typed 𝓤 H A 𝓣 E (on T27 l5) b33 Δ1 at29
           d29 = Typed.s-seq 𝓤 H A W 𝓣 E (on T27 l5) (on T28 l5) b9 (Syntax.seq b10 (Syntax.seq b11 b30)) Δ1 (Typed.both s25) at28 (Plain.t-call-plain 𝓤 H A W 𝓣 0 ps·1 r·1 (claims· .2) (claims· .3)
               "admission::whole" (known .1) E (λ pos β. β) (on T27 l5) (Num.vAt 2 λ x. x, (Num.vAt 3 λ x. x, tt)) 11 [] (Call.sub-id 𝓤 H A W ((on T27 l5) .slots))
-              ((Scalar.reads-sc 𝓤 H A W (Row.sInt Syntax.w64), Path'.refl), ((Scalar.reads-sc 𝓤 H A W (Row.sInt Syntax.w64), Path'.refl), tt)) (Reads'.room-gone 𝓤 H A y9) tt Path'.refl) d28
+              ((Scalar.reads-sc 𝓤 H A W (Row.sInt Syntax.w64), Path'.refl), ((Scalar.reads-sc 𝓤 H A W (Row.sInt Syntax.w64), Path'.refl), tt)) (Reads'.room-gone 𝓤 H A y8) tt Path'.refl) d28
 
           d30 : Typed.Typed 𝓤 H A 𝓣 E (on T26 l5) b33 Δ1 at30
-          d30 = Typed.g-pre 𝓤 H A W 𝓣 E (on T26 l5) (on T27 l5) b33 Δ1 (Typed.pass T26 T27 s24) at29 (Scalar.g-room 𝓤 H A W E (on T26 l5) 8 y10 (Local.room-whole 𝓤 H A W (Known.Known Beginning.enum 2)
-              y10 Path'.refl)) d29
+          d30 = Typed.g-pre 𝓤 H A W 𝓣 E (on T26 l5) (on T27 l5) b33 Δ1 (Typed.pass T26 T27 s24) at29 (Scalar.g-room 𝓤 H A W E (on T26 l5) 8 y11 (Local.room-whole 𝓤 H A W (Known.Known Beginning.enum 2)
+              y11 Path'.refl)) d29
 
           d31 : Typed.Typed 𝓤 H A 𝓣 E (on T24 l5) b34 Δ1 at31
           d31 = Typed.s-seq 𝓤 H A W 𝓣 E (on T24 l5) (on T26 l5) b8 b33 Δ1 (Typed.pass T24 T26 s23) at30 (CopyOut.t-copy-told 𝓤 H A W E 𝓣 (Declared'.row FujiHeader.the-type) Path'.refl (Laws'6.val
-              FujiHeader.the-type Laws''.the-laws) (Laws'6.lawful FujiHeader.the-type Laws''.the-laws 𝓤 H A W) (Laws'6.makes FujiHeader.the-type Laws''.the-plain 𝓤 H A) (on T24 l5) 10 (Scalar.oFld 8
-              ((Syntax.variant 2) ∷ (Syntax.field 1) ∷ []) y8 4 λ v. Laws'6.val FujiHeader.the-type Laws''.the-laws (v .0)) (λ m. m .1 .1 .1 .1 .1 .1 .1 .1 .0 .0) (λ m. Laws'5.Fields (Declared.variants
-              Beginning.the-type) (Laws'5.spellss (Beginning.enum .parts) Laws.the-laws) (Beginning.the-type .to (Known.at Beginning.enum 2 (m .1 .1 .1 .1 .1 .1 .1 .1 .0)))) (Reads'.room-gone 𝓤 H A y8) (
-                Match.reads-payload 𝓤 H A W Beginning.enum Laws.the-laws 2 Path'.refl Path'.refl (λ v. Val.vcons (Laws'6.val FujiHeader.the-type Laws''.the-laws (v .0)) Val.vnil) (λ v. Path'.refl) 0 y8 4
+              FujiHeader.the-type Laws'3.the-laws) (Laws'6.lawful FujiHeader.the-type Laws'3.the-laws 𝓤 H A W) (Laws'6.makes FujiHeader.the-type Laws'3.the-plain 𝓤 H A) (on T24 l5) 10 (Scalar.oFld 8
+              ((Syntax.variant 2) ∷ (Syntax.field 1) ∷ []) y9 4 λ v. Laws'6.val FujiHeader.the-type Laws'3.the-laws (v .0)) (λ m. m .1 .1 .1 .1 .1 .1 .1 .1 .0 .0) (λ m. Laws'5.Fields (Declared.variants
+              Beginning.the-type) (Laws'5.spellss (Beginning.enum .parts) Laws.the-laws) (Beginning.the-type .to (Known.at Beginning.enum 2 (m .1 .1 .1 .1 .1 .1 .1 .1 .0)))) (Reads'.room-gone 𝓤 H A y9) (
+                Match.reads-payload 𝓤 H A W Beginning.enum Laws.the-laws 2 Path'.refl Path'.refl (λ v. Val.vcons (Laws'6.val FujiHeader.the-type Laws'3.the-laws (v .0)) Val.vnil) (λ v. Path'.refl) 0 y9 4
                     Path'.refl,
                 Path'.refl,
               ) Path'.refl (λ ρ m. Make'.tells-row 𝓤 H A W E ρ (Row.out 10 ((on T24 l5) .locals)) m 8 (Laws'5.Fields (Declared.variants Beginning.the-type) (Laws'5.spellss
@@ -1522,13 +1530,13 @@ module _ (claims· : Claims) where
           d40 = Typed.g-pre 𝓤 H A W 𝓣 E (on T64 l5) (on T65 l5) b37 Δ0 (Typed.pass T64 T65 s62) at39 (Scalar.g-room 𝓤 H A W E (on T64 l5) 2 u64 (Scalar.room-sc 𝓤 H A W (Row.sInt Syntax.w64))) d39
 
           d41 : Typed.Typed 𝓤 H A 𝓣 E (on T63 l5) b37 Δ0 at41
-          d41 = Typed.g-pre 𝓤 H A W 𝓣 E (on T63 l5) (on T64 l5) b37 Δ0 (Typed.pass T63 T64 s61) at40 (Scalar.g-room 𝓤 H A W E (on T63 l5) 16 y11 (Local.room-whole 𝓤 H A W (Declared.row
-              Decoded.the-type) y11 Path'.refl)) d40
+          d41 = Typed.g-pre 𝓤 H A W 𝓣 E (on T63 l5) (on T64 l5) b37 Δ0 (Typed.pass T63 T64 s61) at40 (Scalar.g-room 𝓤 H A W E (on T63 l5) 16 y10 (Local.room-whole 𝓤 H A W (Declared.row
+              Decoded.the-type) y10 Path'.refl)) d40
 
           d42 : Typed.Typed 𝓤 H A 𝓣 E (on T9 l5) (Syntax.seq b36 b37) Δ0 at42
-          d42 = Typed.s-seq 𝓤 H A W 𝓣 E (on T9 l5) (on T63 l5) b36 b37 Δ0 (Typed.pass T9 T63 s60) at41 (LocalCopy.t-val-copy 𝓤 H A W E 𝓣 (λ ρ. Unit) (on T9 l5) 16 0 (Declared.row Decoded.the-type) y11
-              y11 (Rows'.whole (Declared.row Decoded.the-type)) (Rows'.whole (Declared.row Decoded.the-type)) (λ x. x) (λ x. x) (λ x. x) Path'.refl (Own.told-none 𝓤 H A ((on T9 l5) .slots))
-              (Values.enum-copied 𝓤 H A W Decoded.the-type Laws'.the-laws Laws'.the-copy) (Reads'.room-gone 𝓤 H A y11) (Yields.makes-mem 𝓤 H A W (λ ρ. Unit) (Declared.row Decoded.the-type) Path'.refl
+          d42 = Typed.s-seq 𝓤 H A W 𝓣 E (on T9 l5) (on T63 l5) b36 b37 Δ0 (Typed.pass T9 T63 s60) at41 (LocalCopy.t-val-copy 𝓤 H A W E 𝓣 (λ ρ. Unit) (on T9 l5) 16 0 (Declared.row Decoded.the-type) y10
+              y10 (Rows'.whole (Declared.row Decoded.the-type)) (Rows'.whole (Declared.row Decoded.the-type)) (λ x. x) (λ x. x) (λ x. x) Path'.refl (Own.told-none 𝓤 H A ((on T9 l5) .slots))
+              (Values.enum-copied 𝓤 H A W Decoded.the-type Laws''.the-laws Laws''.the-copy) (Reads'.room-gone 𝓤 H A y10) (Yields.makes-mem 𝓤 H A W (λ ρ. Unit) (Declared.row Decoded.the-type) Path'.refl
               (Rows'.whole (Declared.row Decoded.the-type)) (λ x. x) λ ρ told. Local.whole-mem 𝓤 H A W (Declared.row Decoded.the-type) ρ) Path'.refl Path'.refl) d41
 
           d43 : Typed.Typed 𝓤 H A 𝓣 E (on T8 l5) (Syntax.seq b35 (Syntax.seq b36 b37)) Δ0 at43
@@ -1552,7 +1560,7 @@ module _ (claims· : Claims) where
                     ),
                   ),
                 ),
-              ) (Reads'.room-gone 𝓤 H A y10) (tt, tt) Path'.refl) d43
+              ) (Reads'.room-gone 𝓤 H A y11) (tt, tt) Path'.refl) d43
 
           d45 : Typed.Typed 𝓤 H A 𝓣 E (on T6 l5) (Syntax.seq b2 b40) Δ0 at45
           d45 = Typed.s-seq 𝓤 H A W 𝓣 E (on T6 l5) (on T7 l5) b2 b40 Δ0 (Typed.pass T6 T7 s5) at44 (Scalar.t-use 𝓤 H A W E 𝓣 (on T6 l5) (Scalar.oFld 7 ((Syntax.field 1) ∷ []) u64 8 Shared.lenV) 15

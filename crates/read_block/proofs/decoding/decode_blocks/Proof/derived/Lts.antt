@@ -6,22 +6,22 @@ use Rattle.bits.proofs.Values.{n16, n8, u16, u32, u64, u8}
 use mathlib.Core.List.{_∷_, []}
 use Rattle.read_block.proofs.Element
 use Prim.Native.Nat
-use Rattle.read_block.proofs.Decoded
-use Rattle.read_block.proofs.Decoded.Laws
-use Rattle.read_block.proofs.Form
-use Rattle.read_block.proofs.Form.Laws as Laws'
-use Rattle.read_block.proofs.Walked
-use Rattle.read_block.proofs.Walked.Laws as Laws''
 use Rattle.cameras.proofs.Entries
-use Rattle.cameras.proofs.Entries.Laws as Laws'3
-use Rattle.stream.proofs.header.FujiHeader
-use Rattle.stream.proofs.header.FujiHeader.Laws as Laws'4
+use Rattle.cameras.proofs.Entries.Laws
 use Rattle.image_map.proofs.Part
-use Rattle.image_map.proofs.Part.Laws as Laws'5
+use Rattle.image_map.proofs.Part.Laws as Laws'
 use Rattle.image_region.proofs.Rect
-use Rattle.image_region.proofs.Rect.Laws as Laws'6
+use Rattle.image_region.proofs.Rect.Laws as Laws''
 use Rattle.image_region.proofs.Span
-use Rattle.image_region.proofs.Span.Laws as Laws'7
+use Rattle.image_region.proofs.Span.Laws as Laws'3
+use Rattle.read_block.proofs.Decoded
+use Rattle.read_block.proofs.Decoded.Laws as Laws'4
+use Rattle.read_block.proofs.Form
+use Rattle.read_block.proofs.Form.Laws as Laws'5
+use Rattle.read_block.proofs.Walked
+use Rattle.read_block.proofs.Walked.Laws as Laws'6
+use Rattle.stream.proofs.header.FujiHeader
+use Rattle.stream.proofs.header.FujiHeader.Laws as Laws'7
 use borrow.Author.Called
 use borrow.Author.Tests
 use borrow.Enum.Make
@@ -80,12 +80,12 @@ abbrev pub y0 : Syntax.Ty
 y0 = Syntax.tyArray u16 768
 
 abbrev pub y1 : Syntax.Ty
-y1 = Syntax.tyEnum (104 ∷ 101 ∷ 97 ∷ 100 ∷ 101 ∷ 114 ∷ 58 ∷ 58 ∷ 82 ∷ 101 ∷ 102 ∷ 117 ∷ 115 ∷ 97 ∷ 108 ∷ []) (Syntax.ttcons Syntax.tnil (Syntax.ttcons Syntax.tnil (Syntax.ttcons Syntax.tnil
-    (Syntax.ttcons (Syntax.tcons u64 Syntax.tnil) (Syntax.ttcons Syntax.tnil (Syntax.ttcons Syntax.tnil (Syntax.ttcons Syntax.tnil (Syntax.ttcons Syntax.tnil (Syntax.ttcons Syntax.tnil (Syntax.ttcons
-    Syntax.tnil (Syntax.ttcons (Syntax.tcons u64 Syntax.tnil) (Syntax.ttcons (Syntax.tcons u64 Syntax.tnil) (Syntax.ttcons Syntax.tnil (Syntax.ttcons (Syntax.tcons u64 (Syntax.tcons u64 Syntax.tnil))
-    (Syntax.ttcons (Syntax.tcons u64 Syntax.tnil) (Syntax.ttcons Syntax.tnil (Syntax.ttcons Syntax.tnil (Syntax.ttcons (Syntax.tcons u64 Syntax.tnil) (Syntax.ttcons (Syntax.tcons u64 Syntax.tnil)
-    (Syntax.ttcons (Syntax.tcons u64 Syntax.tnil) (Syntax.ttcons Syntax.tnil (Syntax.ttcons Syntax.tnil (Syntax.ttcons (Syntax.tcons u64 (Syntax.tcons u64 Syntax.tnil)) (Syntax.ttcons Syntax.tnil
-    Syntax.ttnil))))))))))))))))))))))))
+y1 = Syntax.tyEnum (115 ∷ 116 ∷ 114 ∷ 101 ∷ 97 ∷ 109 ∷ 58 ∷ 58 ∷ 104 ∷ 101 ∷ 97 ∷ 100 ∷ 101 ∷ 114 ∷ 58 ∷ 58 ∷ 82 ∷ 101 ∷ 102 ∷ 117 ∷ 115 ∷ 97 ∷ 108 ∷ []) (Syntax.ttcons Syntax.tnil (Syntax.ttcons
+    Syntax.tnil (Syntax.ttcons Syntax.tnil (Syntax.ttcons (Syntax.tcons u64 Syntax.tnil) (Syntax.ttcons Syntax.tnil (Syntax.ttcons Syntax.tnil (Syntax.ttcons Syntax.tnil (Syntax.ttcons Syntax.tnil
+    (Syntax.ttcons Syntax.tnil (Syntax.ttcons Syntax.tnil (Syntax.ttcons (Syntax.tcons u64 Syntax.tnil) (Syntax.ttcons (Syntax.tcons u64 Syntax.tnil) (Syntax.ttcons Syntax.tnil (Syntax.ttcons
+    (Syntax.tcons u64 (Syntax.tcons u64 Syntax.tnil)) (Syntax.ttcons (Syntax.tcons u64 Syntax.tnil) (Syntax.ttcons Syntax.tnil (Syntax.ttcons Syntax.tnil (Syntax.ttcons (Syntax.tcons u64 Syntax.tnil)
+    (Syntax.ttcons (Syntax.tcons u64 Syntax.tnil) (Syntax.ttcons (Syntax.tcons u64 Syntax.tnil) (Syntax.ttcons Syntax.tnil (Syntax.ttcons Syntax.tnil (Syntax.ttcons (Syntax.tcons u64 (Syntax.tcons u64
+    Syntax.tnil)) (Syntax.ttcons Syntax.tnil (Syntax.ttcons Syntax.tnil (Syntax.ttcons (Syntax.tcons u64 Syntax.tnil) Syntax.ttnil))))))))))))))))))))))))))
 
 abbrev pub y2 : Syntax.Ty
 y2 = Syntax.tyRef (Syntax.named 0) Syntax.imm u8
@@ -109,37 +109,40 @@ abbrev pub y8 : Syntax.Ty
 y8 = Syntax.tyRef Syntax.erased Syntax.mut u16
 
 abbrev pub y9 : Syntax.Ty
-y9 = Syntax.tyStruct (104 ∷ 101 ∷ 97 ∷ 100 ∷ 101 ∷ 114 ∷ 58 ∷ 58 ∷ 70 ∷ 117 ∷ 106 ∷ 105 ∷ 72 ∷ 101 ∷ 97 ∷ 100 ∷ 101 ∷ 114 ∷ []) (Syntax.tcons Syntax.tyBool (Syntax.tcons Syntax.tyBool (Syntax.tcons
-    u32 (Syntax.tcons u32 (Syntax.tcons u32 (Syntax.tcons u32 (Syntax.tcons u32 (Syntax.tcons u32 (Syntax.tcons u32 Syntax.tnil)))))))))
+y9 = Syntax.tyStruct (105 ∷ 109 ∷ 97 ∷ 103 ∷ 101 ∷ 95 ∷ 109 ∷ 97 ∷ 112 ∷ 58 ∷ 58 ∷ 80 ∷ 97 ∷ 114 ∷ 116 ∷ []) (Syntax.tcons u64 (Syntax.tcons u64 (Syntax.tcons u64 (Syntax.tcons u64 (Syntax.tcons u64
+    (Syntax.tcons u64 Syntax.tnil))))))
 
 abbrev pub y10 : Syntax.Ty
-y10 = Syntax.tyStruct (109 ∷ 97 ∷ 112 ∷ 58 ∷ 58 ∷ 80 ∷ 97 ∷ 114 ∷ 116 ∷ []) (Syntax.tcons u64 (Syntax.tcons u64 (Syntax.tcons u64 (Syntax.tcons u64 (Syntax.tcons u64 (Syntax.tcons u64
-    Syntax.tnil))))))
+y10 = Syntax.tyStruct (105 ∷ 109 ∷ 97 ∷ 103 ∷ 101 ∷ 95 ∷ 114 ∷ 101 ∷ 103 ∷ 105 ∷ 111 ∷ 110 ∷ 58 ∷ 58 ∷ 82 ∷ 101 ∷ 99 ∷ 116 ∷ []) (Syntax.tcons u64 (Syntax.tcons u64 (Syntax.tcons u64 (Syntax.tcons u64
+    Syntax.tnil))))
 
 abbrev pub y11 : Syntax.Ty
-y11 = Syntax.tyStruct (113 ∷ 117 ∷ 97 ∷ 110 ∷ 116 ∷ 105 ∷ 115 ∷ 101 ∷ 114 ∷ 58 ∷ 58 ∷ 81 ∷ 117 ∷ 97 ∷ 110 ∷ 116 ∷ 105 ∷ 115 ∷ 101 ∷ 114 ∷ []) (Syntax.tcons u32 (Syntax.tcons u32 (Syntax.tcons u32
-    (Syntax.tcons u32 (Syntax.tcons u32 Syntax.tnil)))))
+y11 = Syntax.tyStruct (105 ∷ 109 ∷ 97 ∷ 103 ∷ 101 ∷ 95 ∷ 114 ∷ 101 ∷ 103 ∷ 105 ∷ 111 ∷ 110 ∷ 58 ∷ 58 ∷ 83 ∷ 112 ∷ 97 ∷ 110 ∷ []) (Syntax.tcons u64 (Syntax.tcons u64 (Syntax.tcons u64 Syntax.tnil)))
 
 abbrev pub y12 : Syntax.Ty
-y12 = Syntax.tyStruct (114 ∷ 101 ∷ 103 ∷ 105 ∷ 111 ∷ 110 ∷ 58 ∷ 58 ∷ 82 ∷ 101 ∷ 99 ∷ 116 ∷ []) (Syntax.tcons u64 (Syntax.tcons u64 (Syntax.tcons u64 (Syntax.tcons u64 Syntax.tnil))))
+y12 = Syntax.tyStruct (108 ∷ 105 ∷ 110 ∷ 101 ∷ 95 ∷ 116 ∷ 111 ∷ 116 ∷ 97 ∷ 108 ∷ 115 ∷ 58 ∷ 58 ∷ 84 ∷ 111 ∷ 116 ∷ 97 ∷ 108 ∷ 115 ∷ []) (Syntax.tcons u64 (Syntax.tcons u64 Syntax.tnil))
 
 abbrev pub y13 : Syntax.Ty
-y13 = Syntax.tyStruct (114 ∷ 101 ∷ 103 ∷ 105 ∷ 111 ∷ 110 ∷ 58 ∷ 58 ∷ 83 ∷ 112 ∷ 97 ∷ 110 ∷ []) (Syntax.tcons u64 (Syntax.tcons u64 (Syntax.tcons u64 Syntax.tnil)))
+y13 = Syntax.tyStruct (113 ∷ 117 ∷ 97 ∷ 110 ∷ 116 ∷ 105 ∷ 115 ∷ 101 ∷ 114 ∷ 58 ∷ 58 ∷ 81 ∷ 117 ∷ 97 ∷ 110 ∷ 116 ∷ 105 ∷ 115 ∷ 101 ∷ 114 ∷ []) (Syntax.tcons u32 (Syntax.tcons u32 (Syntax.tcons u32
+    (Syntax.tcons u32 (Syntax.tcons u32 Syntax.tnil)))))
 
 abbrev pub y14 : Syntax.Ty
-y14 = Syntax.tyStruct (116 ∷ 111 ∷ 116 ∷ 97 ∷ 108 ∷ 115 ∷ 58 ∷ 58 ∷ 84 ∷ 111 ∷ 116 ∷ 97 ∷ 108 ∷ 115 ∷ []) (Syntax.tcons u64 (Syntax.tcons u64 Syntax.tnil))
+y14 = Syntax.tyStruct (114 ∷ 101 ∷ 97 ∷ 100 ∷ 95 ∷ 98 ∷ 108 ∷ 111 ∷ 99 ∷ 107 ∷ 58 ∷ 58 ∷ 70 ∷ 111 ∷ 114 ∷ 109 ∷ []) (Syntax.tcons u32 (Syntax.tcons Syntax.tyBool Syntax.tnil))
 
 abbrev pub y15 : Syntax.Ty
-y15 = Syntax.tyStruct (98 ∷ 108 ∷ 111 ∷ 99 ∷ 107 ∷ 58 ∷ 58 ∷ 70 ∷ 111 ∷ 114 ∷ 109 ∷ []) (Syntax.tcons u32 (Syntax.tcons Syntax.tyBool Syntax.tnil))
+y15 = Syntax.tyStruct (115 ∷ 116 ∷ 114 ∷ 101 ∷ 97 ∷ 109 ∷ 58 ∷ 58 ∷ 104 ∷ 101 ∷ 97 ∷ 100 ∷ 101 ∷ 114 ∷ 58 ∷ 58 ∷ 70 ∷ 117 ∷ 106 ∷ 105 ∷ 72 ∷ 101 ∷ 97 ∷ 100 ∷ 101 ∷ 114 ∷ []) (Syntax.tcons
+    Syntax.tyBool (Syntax.tcons Syntax.tyBool (Syntax.tcons u32 (Syntax.tcons u32 (Syntax.tcons u32 (Syntax.tcons u32 (Syntax.tcons u32 (Syntax.tcons u32 (Syntax.tcons u32 Syntax.tnil)))))))))
 
 abbrev pub y16 : Syntax.Ty
-y16 = Syntax.tyEnum (98 ∷ 108 ∷ 111 ∷ 99 ∷ 107 ∷ 58 ∷ 58 ∷ 68 ∷ 101 ∷ 99 ∷ 111 ∷ 100 ∷ 101 ∷ 100 ∷ []) (Syntax.ttcons Syntax.tnil (Syntax.ttcons (Syntax.tcons y1 Syntax.tnil) Syntax.ttnil))
+y16 = Syntax.tyEnum (114 ∷ 101 ∷ 97 ∷ 100 ∷ 95 ∷ 98 ∷ 108 ∷ 111 ∷ 99 ∷ 107 ∷ 58 ∷ 58 ∷ 68 ∷ 101 ∷ 99 ∷ 111 ∷ 100 ∷ 101 ∷ 100 ∷ []) (Syntax.ttcons Syntax.tnil (Syntax.ttcons (Syntax.tcons y1
+    Syntax.tnil) Syntax.ttnil))
 
 abbrev pub y17 : Syntax.Ty
 y17 = Syntax.tyRef Syntax.erased Syntax.imm y0
 
 abbrev pub y18 : Syntax.Ty
-y18 = Syntax.tyStruct (116 ∷ 111 ∷ 116 ∷ 97 ∷ 108 ∷ 115 ∷ 58 ∷ 58 ∷ 84 ∷ 105 ∷ 103 ∷ 104 ∷ 116 ∷ 76 ∷ 105 ∷ 110 ∷ 101 ∷ 115 ∷ []) (Syntax.tcons u64 (Syntax.tcons y14 Syntax.tnil))
+y18 = Syntax.tyStruct (108 ∷ 105 ∷ 110 ∷ 101 ∷ 95 ∷ 116 ∷ 111 ∷ 116 ∷ 97 ∷ 108 ∷ 115 ∷ 58 ∷ 58 ∷ 84 ∷ 105 ∷ 103 ∷ 104 ∷ 116 ∷ 76 ∷ 105 ∷ 110 ∷ 101 ∷ 115 ∷ []) (Syntax.tcons u64 (Syntax.tcons y12
+    Syntax.tnil))
 
 abbrev pub y19 : Syntax.Ty
 y19 = Syntax.tyStruct (38 ∷ 91 ∷ 93 ∷ []) (Syntax.tcons y6 (Syntax.tcons u64 Syntax.tnil))
@@ -151,37 +154,37 @@ abbrev pub y21 : Syntax.Ty
 y21 = Syntax.tyStruct (38 ∷ 91 ∷ 93 ∷ []) (Syntax.tcons y8 (Syntax.tcons u64 Syntax.tnil))
 
 abbrev pub y22 : Syntax.Ty
-y22 = Syntax.tyStruct (99 ∷ 97 ∷ 109 ∷ 101 ∷ 114 ∷ 97 ∷ 115 ∷ 58 ∷ 58 ∷ 69 ∷ 110 ∷ 116 ∷ 114 ∷ 121 ∷ []) (Syntax.tcons u32 (Syntax.tcons y11 (Syntax.tcons Syntax.tyBool (Syntax.tcons Syntax.tyBool
+y22 = Syntax.tyStruct (99 ∷ 97 ∷ 109 ∷ 101 ∷ 114 ∷ 97 ∷ 115 ∷ 58 ∷ 58 ∷ 69 ∷ 110 ∷ 116 ∷ 114 ∷ 121 ∷ []) (Syntax.tcons u32 (Syntax.tcons y13 (Syntax.tcons Syntax.tyBool (Syntax.tcons Syntax.tyBool
     Syntax.tnil))))
 
 abbrev pub y23 : Syntax.Ty
 y23 = Syntax.tyArray y22 16
 
 abbrev pub y24 : Syntax.Ty
-y24 = Syntax.tyEnum (98 ∷ 108 ∷ 111 ∷ 99 ∷ 107 ∷ 58 ∷ 58 ∷ 87 ∷ 97 ∷ 108 ∷ 107 ∷ 101 ∷ 100 ∷ []) (Syntax.ttcons (Syntax.tcons y14 (Syntax.tcons y18 Syntax.tnil)) (Syntax.ttcons (Syntax.tcons u64
-    (Syntax.tcons y14 Syntax.tnil)) Syntax.ttnil))
+y24 = Syntax.tyEnum (114 ∷ 101 ∷ 97 ∷ 100 ∷ 95 ∷ 98 ∷ 108 ∷ 111 ∷ 99 ∷ 107 ∷ 58 ∷ 58 ∷ 87 ∷ 97 ∷ 108 ∷ 107 ∷ 101 ∷ 100 ∷ []) (Syntax.ttcons (Syntax.tcons y12 (Syntax.tcons y18 Syntax.tnil))
+    (Syntax.ttcons (Syntax.tcons u64 (Syntax.tcons y12 Syntax.tnil)) Syntax.ttnil))
 
 abbrev pub y25 : Syntax.Ty
 y25 = Syntax.tyStruct (99 ∷ 97 ∷ 109 ∷ 101 ∷ 114 ∷ 97 ∷ 115 ∷ 58 ∷ 58 ∷ 69 ∷ 110 ∷ 116 ∷ 114 ∷ 105 ∷ 101 ∷ 115 ∷ []) (Syntax.tcons y23 Syntax.tnil)
 
 abbrev pub ps : List.List (Kinds.PK 4)
-ps = (ShrSlice.pShrS n8 0 tt) ∷ (Values.struct FujiHeader.the-type Laws'4.the-laws Laws'4.the-copy Laws'4.the-plain) ∷ (Values.struct Rect.the-type Laws'6.the-laws Laws'6.the-copy Laws'6.the-plain) ∷
+ps = (ShrSlice.pShrS n8 0 tt) ∷ (Values.struct FujiHeader.the-type Laws'7.the-laws Laws'7.the-copy Laws'7.the-plain) ∷ (Values.struct Rect.the-type Laws''.the-laws Laws''.the-copy Laws''.the-plain) ∷
     (Array.pArr (Array.eInt Syntax.w8) (Array.eInt-laws Syntax.w8) 36) ∷ (MutSlice.pMutS n16 1 tt) ∷ (MutSlice.pMutS n16 2 tt) ∷ (MutSlice.pMutS (Element.type) 3 tt) ∷ Bool.pBool ∷ []
 
 abbrev pub r : Kinds.RK 4
-r = Values.enum-result Decoded.the-type Laws.the-laws Laws.the-copy Laws.the-plain tt
+r = Values.enum-result Decoded.the-type Laws'4.the-laws Laws'4.the-copy Laws'4.the-plain tt
 
 abbrev pub xs : List.List Syntax.Ty
-xs = y13 ∷ u64 ∷ u64 ∷ y0 ∷ y16 ∷ u64 ∷ y15 ∷ y19 ∷ y19 ∷ y10 ∷ y24 ∷ y0 ∷ Syntax.tyBool ∷ y8 ∷ y21 ∷ y7 ∷ y20 ∷ y8 ∷ y21 ∷ y17 ∷ y25 ∷ []
+xs = y11 ∷ u64 ∷ u64 ∷ y0 ∷ y16 ∷ u64 ∷ y14 ∷ y19 ∷ y19 ∷ y9 ∷ y24 ∷ y0 ∷ Syntax.tyBool ∷ y8 ∷ y21 ∷ y7 ∷ y20 ∷ y8 ∷ y21 ∷ y17 ∷ y25 ∷ []
 
 abbrev pub m : Nat.ℕ
 m = 4
 
 abbrev pub ps·0 : List.List (Kinds.PK 0)
-ps·0 = (Values.struct Rect.the-type Laws'6.the-laws Laws'6.the-copy Laws'6.the-plain) ∷ []
+ps·0 = (Values.struct Rect.the-type Laws''.the-laws Laws''.the-copy Laws''.the-plain) ∷ []
 
 abbrev pub r·0 : Kinds.RK 0
-r·0 = Values.struct-result Span.the-type Laws'7.the-laws Laws'7.the-copy Laws'7.the-plain
+r·0 = Values.struct-result Span.the-type Laws'3.the-laws Laws'3.the-copy Laws'3.the-plain
 
 abbrev pub ps·1 : List.List (Kinds.PK 0)
 ps·1 = []
@@ -190,10 +193,10 @@ abbrev pub r·1 : Kinds.RK 0
 r·1 = Array.rArr (Array.eInt Syntax.w16) (Array.eInt-laws Syntax.w16) 768
 
 abbrev pub ps·2 : List.List (Kinds.PK 0)
-ps·2 = (Values.struct FujiHeader.the-type Laws'4.the-laws Laws'4.the-copy Laws'4.the-plain) ∷ []
+ps·2 = (Values.struct FujiHeader.the-type Laws'7.the-laws Laws'7.the-copy Laws'7.the-plain) ∷ []
 
 abbrev pub r·2 : Kinds.RK 0
-r·2 = Values.struct-result Form.the-type Laws'.the-laws Laws'.the-copy Laws'.the-plain
+r·2 = Values.struct-result Form.the-type Laws'5.the-laws Laws'5.the-copy Laws'5.the-plain
 
 abbrev pub ps·3 : List.List (Kinds.PK 1)
 ps·3 = (ShrSlice.pShrS n8 0 tt) ∷ (Num.pNum Syntax.w64) ∷ []
@@ -208,30 +211,31 @@ abbrev pub r·4 : Kinds.RK 1
 r·4 = ShrSlice.rShrS n8 0 tt
 
 abbrev pub ps·5 : List.List (Kinds.PK 0)
-ps·5 = (Values.struct Rect.the-type Laws'6.the-laws Laws'6.the-copy Laws'6.the-plain) ∷ (Num.pNum Syntax.w64) ∷ []
+ps·5 = (Values.struct Rect.the-type Laws''.the-laws Laws''.the-copy Laws''.the-plain) ∷ (Num.pNum Syntax.w64) ∷ []
 
 abbrev pub r·5 : Kinds.RK 0
-r·5 = Values.struct-result Part.the-type Laws'5.the-laws Laws'5.the-copy Laws'5.the-plain
+r·5 = Values.struct-result Part.the-type Laws'.the-laws Laws'.the-copy Laws'.the-plain
 
 abbrev pub ps·6 : List.List (Kinds.PK 0)
 ps·6 = []
 
 abbrev pub r·6 : Kinds.RK 0
-r·6 = Values.struct-result Entries.the-type Laws'3.the-laws Laws'3.the-copy Laws'3.the-plain
+r·6 = Values.struct-result Entries.the-type Laws.the-laws Laws.the-copy Laws.the-plain
 
 abbrev pub ps·7 : List.List (Kinds.PK 6)
-ps·7 = (ShrSlice.pShrS n8 0 tt) ∷ (ShrSlice.pShrS n8 1 tt) ∷ (MutSlice.pMutS n16 2 tt) ∷ (MutSlice.pMutS (Element.type) 3 tt) ∷ (MutSlice.pMutS n16 4 tt) ∷ (Values.struct Form.the-type Laws'.the-laws
-    Laws'.the-copy Laws'.the-plain) ∷ (ShrRef.pShr (Array'.Array n16 768) 5 tt) ∷ (Array.pArr (Array.eInt Syntax.w8) (Array.eInt-laws Syntax.w8) 36) ∷ (Values.struct Part.the-type Laws'5.the-laws
-    Laws'5.the-copy Laws'5.the-plain) ∷ (Num.pNum Syntax.w64) ∷ Bool.pBool ∷ (Values.struct Entries.the-type Laws'3.the-laws Laws'3.the-copy Laws'3.the-plain) ∷ []
+ps·7 = (ShrSlice.pShrS n8 0 tt) ∷ (ShrSlice.pShrS n8 1 tt) ∷ (MutSlice.pMutS n16 2 tt) ∷ (MutSlice.pMutS (Element.type) 3 tt) ∷ (MutSlice.pMutS n16 4 tt) ∷ (Values.struct Form.the-type Laws'5.the-laws
+    Laws'5.the-copy Laws'5.the-plain) ∷ (ShrRef.pShr (Array'.Array n16 768) 5 tt) ∷ (Array.pArr (Array.eInt Syntax.w8) (Array.eInt-laws Syntax.w8) 36) ∷ (Values.struct Part.the-type Laws'.the-laws
+    Laws'.the-copy Laws'.the-plain) ∷ (Num.pNum Syntax.w64) ∷ Bool.pBool ∷ (Values.struct Entries.the-type Laws.the-laws Laws.the-copy Laws.the-plain) ∷ []
 
 abbrev pub r·7 : Kinds.RK 6
-r·7 = Values.enum-result Walked.the-type Laws''.the-laws Laws''.the-copy Laws''.the-plain tt
+r·7 = Values.enum-result Walked.the-type Laws'6.the-laws Laws'6.the-copy Laws'6.the-plain tt
 
 abbrev pub ps·8 : List.List (Kinds.PK 0)
-ps·8 = (Values.enum Decoded.the-type Laws.the-laws Laws.the-copy Laws.the-plain tt) ∷ (Num.pNum Syntax.w64) ∷ (Values.enum Walked.the-type Laws''.the-laws Laws''.the-copy Laws''.the-plain tt) ∷ []
+ps·8 = (Values.enum Decoded.the-type Laws'4.the-laws Laws'4.the-copy Laws'4.the-plain tt) ∷ (Num.pNum Syntax.w64) ∷ (Values.enum Walked.the-type Laws'6.the-laws Laws'6.the-copy Laws'6.the-plain tt) ∷
+    []
 
 abbrev pub r·8 : Kinds.RK 0
-r·8 = Values.enum-result Decoded.the-type Laws.the-laws Laws.the-copy Laws.the-plain tt
+r·8 = Values.enum-result Decoded.the-type Laws'4.the-laws Laws'4.the-copy Laws'4.the-plain tt
 
 abbrev pub hs : List.List Syntax.Home
 hs = Syntax.valueLocal ∷ Syntax.valueLocal ∷ Syntax.valueLocal ∷ Syntax.valueLocal ∷ Syntax.valueLocal ∷ Syntax.valueLocal ∷ Syntax.valueLocal ∷ Syntax.valueLocal ∷ Syntax.valueLocal ∷
@@ -381,7 +385,7 @@ abbrev pub v6 : Row.Row
 v6 = Rows'.whole (Declared.row Decoded.the-type)
 
 abbrev pub v7 : Row.Row
-v7 = Rows'.any-gone y13
+v7 = Rows'.any-gone y11
 
 abbrev pub v8 : Row.Row
 v8 = Rows.arrF n8 36 0
@@ -390,7 +394,7 @@ abbrev pub v9 : Row.Row
 v9 = Rows'.whole (Declared'.row Rect.the-type)
 
 abbrev pub v10 : Row.Row
-v10 = Rows'.any-gone y15
+v10 = Rows'.any-gone y14
 
 abbrev pub v11 : Row.Row
 v11 = Rows'.whole (Declared'.row FujiHeader.the-type)
@@ -444,13 +448,13 @@ abbrev pub v27 : Row.Row
 v27 = Rows'.any-gone y20
 
 abbrev pub v28 : Row.Row
-v28 = Rows'.any-gone y10
+v28 = Rows'.any-gone y9
 
 abbrev pub v29 : Row.Row
-v29 = Rows'.any-gone y9
+v29 = Rows'.any-gone y15
 
 abbrev pub v30 : Row.Row
-v30 = Rows'.any-gone y12
+v30 = Rows'.any-gone y10
 
 abbrev pub v31 : Row.Row
 v31 = Rows'.whole (Declared'.row Form.the-type)
@@ -820,16 +824,16 @@ module _ (claims· : Claims) where
   s2 = Know.k-sl-known (Referent.fInt Syntax.w16) T0 6 2 y4 Row.off 0 λ x. x
 
   abbrev s3 : Typed.Both T0 T5
-  s3 = Call.callB ps·0 r·0 (claims· .0) (claims· .1) T0 (record { pos = 3; st = []; d = 0; at = λ x. x }, tt) 9 [] y13
+  s3 = Call.callB ps·0 r·0 (claims· .0) (claims· .1) T0 (record { pos = 3; st = []; d = 0; at = λ x. x }, tt) 9 [] y11
 
   abbrev s4 : Typed.Mo T5 → Typed.Mo T6
-  s4 = Scalar.n-use T5 (Scalar.oFld 9 ((Syntax.field 2) ∷ []) u64 16 (Reads.fieldV Span.the-type Laws'7.the-laws 2)) 10 (Rows'.sc-here (Row.sInt Syntax.w64)) (Row.sInt Syntax.w64 .of)
+  s4 = Scalar.n-use T5 (Scalar.oFld 9 ((Syntax.field 2) ∷ []) u64 16 (Reads.fieldV Span.the-type Laws'3.the-laws 2)) 10 (Rows'.sc-here (Row.sInt Syntax.w64)) (Row.sInt Syntax.w64 .of)
 
   abbrev s5 : Typed.Gives T6 T6
-  s5 = Know'.k-struct-known Span.the-type Laws'7.the-laws T6 9 λ x. x
+  s5 = Know'.k-struct-known Span.the-type Laws'3.the-laws T6 9 λ x. x
 
   abbrev s6 : Typed.Asks T6 T8
-  s6 = Scalar.k-op2 T6 (Syntax.add Syntax.unsigned) (Scalar.oFld 9 ((Syntax.field 1) ∷ []) u64 8 (Reads.fieldV Span.the-type Laws'7.the-laws 1)) (Scalar.oInt Syntax.w64 1) 11 (Rows'.sc-here (Row.sInt
+  s6 = Scalar.k-op2 T6 (Syntax.add Syntax.unsigned) (Scalar.oFld 9 ((Syntax.field 1) ∷ []) u64 8 (Reads.fieldV Span.the-type Laws'3.the-laws 1)) (Scalar.oInt Syntax.w64 1) 11 (Rows'.sc-here (Row.sInt
       Syntax.w64)) (Row.sInt Syntax.w64 .of)
 
   abbrev s7 : Typed.Both T8 T9
@@ -845,10 +849,10 @@ module _ (claims· : Claims) where
   s10 = Make.n-enum-make Decoded.the-type T11 13 λ m. Decoded.enum .make (Logic.inl tt)
 
   abbrev s11 : Typed.Mo T12 → Typed.Mo T13
-  s11 = Scalar.n-use T12 (Scalar.oFld 9 ((Syntax.field 0) ∷ []) u64 0 (Reads.fieldV Span.the-type Laws'7.the-laws 0)) 14 (Rows'.sc-here (Row.sInt Syntax.w64)) (Row.sInt Syntax.w64 .of)
+  s11 = Scalar.n-use T12 (Scalar.oFld 9 ((Syntax.field 0) ∷ []) u64 0 (Reads.fieldV Span.the-type Laws'3.the-laws 0)) 14 (Rows'.sc-here (Row.sInt Syntax.w64)) (Row.sInt Syntax.w64 .of)
 
   abbrev s12 : Typed.Mo T13 → Typed.Mo T15
-  s12 = Scalar.n-room T13 9 y13
+  s12 = Scalar.n-room T13 9 y11
 
   abbrev s13 : Typed.Asks T15 T16
   s13 = Scalar.k-op2 T15 (Syntax.lt Syntax.unsigned) (Scalar.oAt 14 u64 (Row.valS (Row.sInt Syntax.w64))) (Scalar.oAt 11 u64 (Row.valS (Row.sInt Syntax.w64))) 21 (Rows'.sc-here Row.sBool) (Row.sBool
@@ -858,10 +862,10 @@ module _ (claims· : Claims) where
   s14 = Scalar.n-room T16 21 Syntax.tyBool
 
   abbrev s15 : Typed.Mo T16 → Typed.Mo T19
-  s15 = Scalar.n-room T16 2 y9
+  s15 = Scalar.n-room T16 2 y15
 
   abbrev s16 : Typed.Mo T19 → Typed.Mo T20
-  s16 = Scalar.n-room T19 3 y12
+  s16 = Scalar.n-room T19 3 y10
 
   abbrev s17 : Typed.Mo T20 → Typed.Mo T21
   s17 = Scalar.n-room T20 4 (Syntax.tyArray u8 36)
@@ -873,7 +877,7 @@ module _ (claims· : Claims) where
   s19 = Scalar.n-room T22 21 Syntax.tyBool
 
   abbrev s20 : Typed.Both T15 T24
-  s20 = Call.callB ps·2 r·2 (claims· .4) (claims· .5) T15 (record { pos = 2; st = []; d = 0; at = λ x. x }, tt) 15 [] y15
+  s20 = Call.callB ps·2 r·2 (claims· .4) (claims· .5) T15 (record { pos = 2; st = []; d = 0; at = λ x. x }, tt) 15 [] y14
 
   abbrev s21 : Typed.Both T24 T25
   s21 = Call.callB ps·3 r·3 (claims· .6) (claims· .7) T24 (record { pos = 1; ty = y2; ref = λ x. x }, (Num.vAt 14 λ x. x, tt)) 16 (0 ∷ []) y19
@@ -882,7 +886,7 @@ module _ (claims· : Claims) where
   s22 = Call.callB ps·4 r·4 (claims· .8) (claims· .9) T25 (record { pos = 1; ty = y2; ref = λ x. x }, (Num.vAt 14 λ x. x, tt)) 17 (0 ∷ []) y19
 
   abbrev s23 : Typed.Both T26 T27
-  s23 = Call.callB ps·5 r·5 (claims· .10) (claims· .11) T26 (record { pos = 3; st = []; d = 0; at = λ x. x }, (Num.vAt 14 λ x. x, tt)) 18 [] y10
+  s23 = Call.callB ps·5 r·5 (claims· .10) (claims· .11) T26 (record { pos = 3; st = []; d = 0; at = λ x. x }, (Num.vAt 14 λ x. x, tt)) 18 [] y9
 
   abbrev s25 : Typed.Gives T27 T29
   s25 = Relend.k-sl-relend n16 T27 6 22 2 4 y4 y8 Row.off λ x. x
@@ -948,10 +952,10 @@ module _ (claims· : Claims) where
   s39 = Scalar.n-room T42 28 y17
 
   abbrev s40 : Typed.Mo T43 → Typed.Mo T44
-  s40 = Scalar.n-room T43 15 y15
+  s40 = Scalar.n-room T43 15 y14
 
   abbrev s41 : Typed.Mo T44 → Typed.Mo T45
-  s41 = Scalar.n-room T44 18 y10
+  s41 = Scalar.n-room T44 18 y9
 
   abbrev s42 : Typed.Mo T45 → Typed.Mo T46
   s42 = Scalar.n-room T45 29 y25
@@ -1011,12 +1015,12 @@ module _ (claims· : Claims) where
   module _ (Pre· : (κs : Lifetimes.Lfts 4) → Kinds.Dens κs ps → Type 0) (Post· : (κs : Lifetimes.Lfts 4) → (a : Kinds.Dens κs ps) → Kinds.Plain 4 ps r κs) where
     module _ (M : Type 1) where
       abbrev pub Closed : Type 2
-      Closed = (𝓤 : URA.URA M) (H : Wp.Heap 𝓤) (A : Atoms.Atoms 𝓤) (W : Kit.Given 𝓤 H A) (𝓣 : Wp.Tables 𝓤 H) (known0 : Plain.Known 𝓤 H A W 𝓣 0 ps·0 r·0 (claims· .0) (claims· .1) "image_region::span_of")
-          (known1 : Plain.Known 𝓤 H A W 𝓣 0 ps·1 r·1 (claims· .2) (claims· .3) "image_map::xtrans_places") (known2 : Plain.Known 𝓤 H A W 𝓣 0 ps·2 r·2 (claims· .4) (claims· .5) "read_block::form_of") (known3 :
-          Plain.Known 𝓤 H A W 𝓣 1 ps·3 r·3 (claims· .6) (claims· .7) "stream::block_bytes") (known4 : Plain.Known 𝓤 H A W 𝓣 1 ps·4 r·4 (claims· .8) (claims· .9) "stream::base_row") (known5 : Plain.Known 𝓤
-          H A W 𝓣 0 ps·5 r·5 (claims· .10) (claims· .11) "image_region::part") (known6 : Plain.Known 𝓤 H A W 𝓣 0 ps·6 r·6 (claims· .12) (claims· .13) "cameras::no_entries") (known7 : Plain.Known 𝓤 H A W 𝓣 6
-          ps·7 r·7 (claims· .14) (claims· .15) "read_block::reading::walk") (known8 : Plain.Known 𝓤 H A W 𝓣 0 ps·8 r·8 (claims· .16) (claims· .17) "read_block::decoding::judged") → Statement.Triple 𝓤 (Wp.WpFn 𝓤 H
-          (𝓣 .C) (𝓣 .Λ) (Function.fnOf 4 ps r xs m hs body)) (Function.plainOf 𝓤 H A 4 ps r Pre· Post·)
+      Closed = (𝓤 : URA.URA M) (H : Wp.Heap 𝓤) (A : Atoms.Atoms 𝓤) (W : Kit.Given 𝓤 H A) (𝓣 : Wp.Tables 𝓤 H) (known0 : Plain.Known 𝓤 H A W 𝓣 0 ps·0 r·0 (claims· .0) (claims· .1)
+          "image_region::span_of") (known1 : Plain.Known 𝓤 H A W 𝓣 0 ps·1 r·1 (claims· .2) (claims· .3) "image_map::xtrans_places") (known2 : Plain.Known 𝓤 H A W 𝓣 0 ps·2 r·2 (claims· .4) (claims· .5)
+          "read_block::form_of") (known3 : Plain.Known 𝓤 H A W 𝓣 1 ps·3 r·3 (claims· .6) (claims· .7) "stream::block_bytes") (known4 : Plain.Known 𝓤 H A W 𝓣 1 ps·4 r·4 (claims· .8) (claims· .9)
+          "stream::base_row") (known5 : Plain.Known 𝓤 H A W 𝓣 0 ps·5 r·5 (claims· .10) (claims· .11) "image_region::part") (known6 : Plain.Known 𝓤 H A W 𝓣 0 ps·6 r·6 (claims· .12) (claims· .13)
+          "cameras::no_entries") (known7 : Plain.Known 𝓤 H A W 𝓣 6 ps·7 r·7 (claims· .14) (claims· .15) "read_block::reading::walk") (known8 : Plain.Known 𝓤 H A W 𝓣 0 ps·8 r·8 (claims· .16) (claims· .17)
+          "read_block::decoding::judged") → Statement.Triple 𝓤 (Wp.WpFn 𝓤 H (𝓣 .C) (𝓣 .Λ) (Function.fnOf 4 ps r xs m hs body)) (Function.plainOf 𝓤 H A 4 ps r Pre· Post·)
 
     module _ (Inv·0 : InvT-loop) (μ·0 : MeasureT-loop) where
       abbrev at0 : Typed.TF T15 O4
@@ -1214,10 +1218,10 @@ module _ (claims· : Claims) where
 
       module _ {M : Type 1} (𝓤 : URA.URA M) (H : Wp.Heap 𝓤) (A : Atoms.Atoms 𝓤) (W : Kit.Given 𝓤 H A) (𝓣 : Wp.Tables 𝓤 H) where
         abbrev Knowns : Type 1
-        Knowns = Plain.Known 𝓤 H A W 𝓣 0 ps·0 r·0 (claims· .0) (claims· .1) "image_region::span_of" × Plain.Known 𝓤 H A W 𝓣 0 ps·1 r·1 (claims· .2) (claims· .3) "image_map::xtrans_places" × Plain.Known 𝓤 H A W 𝓣
-            0 ps·2 r·2 (claims· .4) (claims· .5) "read_block::form_of" × Plain.Known 𝓤 H A W 𝓣 1 ps·3 r·3 (claims· .6) (claims· .7) "stream::block_bytes" × Plain.Known 𝓤 H A W 𝓣 1 ps·4 r·4 (claims· .8)
-            (claims· .9) "stream::base_row" × Plain.Known 𝓤 H A W 𝓣 0 ps·5 r·5 (claims· .10) (claims· .11) "image_region::part" × Plain.Known 𝓤 H A W 𝓣 0 ps·6 r·6 (claims· .12) (claims· .13)
-            "cameras::no_entries" × Plain.Known 𝓤 H A W 𝓣 6 ps·7 r·7 (claims· .14) (claims· .15) "read_block::reading::walk" × Plain.Known 𝓤 H A W 𝓣 0 ps·8 r·8 (claims· .16) (claims· .17)
+        Knowns = Plain.Known 𝓤 H A W 𝓣 0 ps·0 r·0 (claims· .0) (claims· .1) "image_region::span_of" × Plain.Known 𝓤 H A W 𝓣 0 ps·1 r·1 (claims· .2) (claims· .3) "image_map::xtrans_places" ×
+            Plain.Known 𝓤 H A W 𝓣 0 ps·2 r·2 (claims· .4) (claims· .5) "read_block::form_of" × Plain.Known 𝓤 H A W 𝓣 1 ps·3 r·3 (claims· .6) (claims· .7) "stream::block_bytes" × Plain.Known 𝓤 H A W 𝓣 1
+            ps·4 r·4 (claims· .8) (claims· .9) "stream::base_row" × Plain.Known 𝓤 H A W 𝓣 0 ps·5 r·5 (claims· .10) (claims· .11) "image_region::part" × Plain.Known 𝓤 H A W 𝓣 0 ps·6 r·6 (claims· .12)
+            (claims· .13) "cameras::no_entries" × Plain.Known 𝓤 H A W 𝓣 6 ps·7 r·7 (claims· .14) (claims· .15) "read_block::reading::walk" × Plain.Known 𝓤 H A W 𝓣 0 ps·8 r·8 (claims· .16) (claims· .17)
             "read_block::decoding::judged"
 
       module _ (κs : Lifetimes.Lfts 4) (qs : Lifetimes.Shares 4) where
@@ -1408,12 +1412,12 @@ module _ (claims· : Claims) where
               Path'.refl)) d4
 
           d6 : Typed.Typed 𝓤 H A 𝓣 E (on T19 l7) b9 Δ4 at6
-          d6 = Typed.g-pre 𝓤 H A W 𝓣 E (on T19 l7) (on T20 l7) b9 Δ4 (Typed.pass T19 T20 s16) at5 (Scalar.g-room 𝓤 H A W E (on T19 l7) 3 y12 (Local.room-whole 𝓤 H A W (Declared'.row Rect.the-type) y12
+          d6 = Typed.g-pre 𝓤 H A W 𝓣 E (on T19 l7) (on T20 l7) b9 Δ4 (Typed.pass T19 T20 s16) at5 (Scalar.g-room 𝓤 H A W E (on T19 l7) 3 y10 (Local.room-whole 𝓤 H A W (Declared'.row Rect.the-type) y10
               Path'.refl)) d5
 
           d7 : Typed.Typed 𝓤 H A 𝓣 E (on T16 l7) b9 Δ4 at7
-          d7 = Typed.g-pre 𝓤 H A W 𝓣 E (on T16 l7) (on T19 l7) b9 Δ4 (Typed.pass T16 T19 s15) at6 (Scalar.g-room 𝓤 H A W E (on T16 l7) 2 y9 (Local.room-whole 𝓤 H A W (Declared'.row
-              FujiHeader.the-type) y9 Path'.refl)) d6
+          d7 = Typed.g-pre 𝓤 H A W 𝓣 E (on T16 l7) (on T19 l7) b9 Δ4 (Typed.pass T16 T19 s15) at6 (Scalar.g-room 𝓤 H A W E (on T16 l7) 2 y15 (Local.room-whole 𝓤 H A W (Declared'.row
+              FujiHeader.the-type) y15 Path'.refl)) d6
 
           d8 : Typed.Typed 𝓤 H A 𝓣 E (on T16 l7) b10 Δ4 at8
           d8 = Scalar.t-cond 𝓤 H A W E 𝓣 (on T16 l7) 21 (λ x. x) Syntax.skip b9 Δ4 at1 at7 (Scalar.reads-sc 𝓤 H A W Row.sBool) Path'.refl d1 d7
@@ -1428,11 +1432,11 @@ module _ (claims· : Claims) where
               y24 Path'.refl)) d9
 
           d11 : Typed.Typed 𝓤 H A 𝓣 E (on T59 l7) b26 Δ3 at11
-          d11 = Typed.s-seq 𝓤 H A W 𝓣 E (on T59 l7) (on T59 l7) b24 b25 Δ3 (Typed.both s57) at10 (Plain.t-call-plain 𝓤 H A W 𝓣 0 ps·8 r·8 (claims· .16) (claims· .17) "read_block::decoding::judged" (known
-              .8) E (λ pos β. β) (on T59 l7) (record { pos = 13; st = []; d = 0; at = λ x. x }, (Num.vAt 14 λ x. x, (record { pos = 19; st = []; d = 0; at = λ x. x }, tt))) 13 [] (Call.sub-id 𝓤 H A W ((on
-              T59 l7) .slots)) (
-                (Values.enum-copied 𝓤 H A W Decoded.the-type Laws.the-laws Laws.the-copy, Path'.refl),
-                ((Scalar.reads-sc 𝓤 H A W (Row.sInt Syntax.w64), Path'.refl), ((Values.enum-copied 𝓤 H A W Walked.the-type Laws''.the-laws Laws''.the-copy, Path'.refl), tt)),
+          d11 = Typed.s-seq 𝓤 H A W 𝓣 E (on T59 l7) (on T59 l7) b24 b25 Δ3 (Typed.both s57) at10 (Plain.t-call-plain 𝓤 H A W 𝓣 0 ps·8 r·8 (claims· .16) (claims· .17) "read_block::decoding::judged"
+              (known .8) E (λ pos β. β) (on T59 l7) (record { pos = 13; st = []; d = 0; at = λ x. x }, (Num.vAt 14 λ x. x, (record { pos = 19; st = []; d = 0; at = λ x. x }, tt))) 13 [] (Call.sub-id 𝓤 H A
+              W ((on T59 l7) .slots)) (
+                (Values.enum-copied 𝓤 H A W Decoded.the-type Laws'4.the-laws Laws'4.the-copy, Path'.refl),
+                ((Scalar.reads-sc 𝓤 H A W (Row.sInt Syntax.w64), Path'.refl), ((Values.enum-copied 𝓤 H A W Walked.the-type Laws'6.the-laws Laws'6.the-copy, Path'.refl), tt)),
               ) (Local.room-whole 𝓤 H A W
               (Declared.row Decoded.the-type) y16 Path'.refl) tt Path'.refl) d10
 
@@ -1489,10 +1493,10 @@ module _ (claims· : Claims) where
           d26 = Typed.g-pre 𝓤 H A W 𝓣 E G45 G46 b26 Δ3 (Typed.pass T45 T46 s42) at24 (Scalar.g-room 𝓤 H A W E G45 29 y25 (Local.room-whole 𝓤 H A W (Declared'.row Entries.the-type) y25 Path'.refl)) d25
 
           d27 : Typed.Typed 𝓤 H A 𝓣 E G44 b26 Δ3 at27
-          d27 = Typed.g-pre 𝓤 H A W 𝓣 E G44 G45 b26 Δ3 (Typed.pass T44 T45 s41) at26 (Scalar.g-room 𝓤 H A W E G44 18 y10 (Local.room-whole 𝓤 H A W (Declared'.row Part.the-type) y10 Path'.refl)) d26
+          d27 = Typed.g-pre 𝓤 H A W 𝓣 E G44 G45 b26 Δ3 (Typed.pass T44 T45 s41) at26 (Scalar.g-room 𝓤 H A W E G44 18 y9 (Local.room-whole 𝓤 H A W (Declared'.row Part.the-type) y9 Path'.refl)) d26
 
           d28 : Typed.Typed 𝓤 H A 𝓣 E G43 b26 Δ3 at28
-          d28 = Typed.g-pre 𝓤 H A W 𝓣 E G43 G44 b26 Δ3 (Typed.pass T43 T44 s40) at27 (Scalar.g-room 𝓤 H A W E G43 15 y15 (Local.room-whole 𝓤 H A W (Declared'.row Form.the-type) y15 Path'.refl)) d27
+          d28 = Typed.g-pre 𝓤 H A W 𝓣 E G43 G44 b26 Δ3 (Typed.pass T43 T44 s40) at27 (Scalar.g-room 𝓤 H A W E G43 15 y14 (Local.room-whole 𝓤 H A W (Declared'.row Form.the-type) y14 Path'.refl)) d27
 
           d29 : Typed.Typed 𝓤 H A 𝓣 E G42 b26 Δ3 at29
           d29 = Typed.g-pre 𝓤 H A W 𝓣 E G42 G43 b26 Δ3 (Typed.pass T42 T43 s39) at28 (Local.g-drop-sref 𝓤 H A W E G42 28 7 (Array'.Array n16 768) y17 (λ x. x) (Reads'.as-is 𝓤 H A (Rows'.sref
@@ -1505,8 +1509,8 @@ module _ (claims· : Claims) where
           d31 = Typed.g-pre 𝓤 H A W 𝓣 E G40 G41 b26 Δ3 (Typed.pass T40 T41 s37) at30 (Scalar.g-room 𝓤 H A W E G40 16 y19 (Shared.room-sslice 𝓤 H A W n8 y6 0)) d30
 
           d32 : Typed.Typed 𝓤 H A 𝓣 E G39 (Syntax.seq b23 b26) Δ3 at32
-          d32 = Typed.s-seq 𝓤 H A W 𝓣 E G39 G40 b23 b26 Δ3 (Typed.both s36) at31 (Plain.t-call-plain 𝓤 H A W 𝓣 6 ps·7 r·7 (claims· .14) (claims· .15) "read_block::reading::walk" (known .7) E (λ pos β. β)
-              G39 (
+          d32 = Typed.s-seq 𝓤 H A W 𝓣 E G39 G40 b23 b26 Δ3 (Typed.both s36) at31 (Plain.t-call-plain 𝓤 H A W 𝓣 6 ps·7 r·7 (claims· .14) (claims· .15) "read_block::reading::walk" (known .7) E (λ pos β.
+              β) G39 (
                 record { pos = 16; ty = y6; ref = λ x. x },
                 (
                   record { pos = 17; ty = y6; ref = λ x. x },
@@ -1552,7 +1556,7 @@ module _ (claims· : Claims) where
                         Mut.reads-mslice 𝓤 H A W n16 y8 6,
                         Path'.refl,
                         (
-                          (Values.struct-copied 𝓤 H A W Form.the-type Laws'.the-laws Laws'.the-copy, Path'.refl),
+                          (Values.struct-copied 𝓤 H A W Form.the-type Laws'5.the-laws Laws'5.the-copy, Path'.refl),
                           (
                             ShrRef.spares-sref 𝓤 H A W (Array'.Array n16 768) y17 7,
                             Reads'.reads-sref 𝓤 H A W (Array'.Array n16 768) y17 7,
@@ -1560,10 +1564,10 @@ module _ (claims· : Claims) where
                             (
                               (Array.arr-yields 𝓤 H A W (Array.eInt Syntax.w8) (Array.eInt-laws Syntax.w8) 36, Path'.refl),
                               (
-                                (Values.struct-copied 𝓤 H A W Part.the-type Laws'5.the-laws Laws'5.the-copy, Path'.refl),
+                                (Values.struct-copied 𝓤 H A W Part.the-type Laws'.the-laws Laws'.the-copy, Path'.refl),
                                 (
                                   (Scalar.reads-sc 𝓤 H A W (Row.sInt Syntax.w64), Path'.refl),
-                                  ((Scalar.reads-sc 𝓤 H A W Row.sBool, Path'.refl), ((Values.struct-copied 𝓤 H A W Entries.the-type Laws'3.the-laws Laws'3.the-copy, Path'.refl), tt)),
+                                  ((Scalar.reads-sc 𝓤 H A W Row.sBool, Path'.refl), ((Values.struct-copied 𝓤 H A W Entries.the-type Laws.the-laws Laws.the-copy, Path'.refl), tt)),
                                 ),
                               ),
                             ),
@@ -1631,9 +1635,9 @@ module _ (claims· : Claims) where
               (tt, (tt, (tt, (tt, (tt, (tt, (tt, (tt, (tt, (tt, (tt, (tt, (tt, (tt, (tt, (tt, (tt, (tt, (tt, (tt, (tt, (tt, (tt, (tt, (tt, (tt, (tt, (tt, (tt, (tt, tt))))))))))))))))))))))))))))))) d43
 
           d45 : Typed.Typed 𝓤 H A 𝓣 E (on T26 l7) (Syntax.seq b14 b35) Δ3 at45
-          d45 = Typed.s-seq 𝓤 H A W 𝓣 E (on T26 l7) (on T27 l7) b14 b35 Δ3 (Typed.both s23) at43 (Plain.t-call-plain 𝓤 H A W 𝓣 0 ps·5 r·5 (claims· .10) (claims· .11) "image_region::part" (known .5) E (λ pos
-              β. β) (on T26 l7) (record { pos = 3; st = []; d = 0; at = λ x. x }, (Num.vAt 14 λ x. x, tt)) 18 [] (Call.sub-id 𝓤 H A W ((on T26 l7) .slots))
-              ((Values.struct-copied 𝓤 H A W Rect.the-type Laws'6.the-laws Laws'6.the-copy, Path'.refl), ((Scalar.reads-sc 𝓤 H A W (Row.sInt Syntax.w64), Path'.refl), tt)) (Reads'.room-gone 𝓤 H A y10) tt
+          d45 = Typed.s-seq 𝓤 H A W 𝓣 E (on T26 l7) (on T27 l7) b14 b35 Δ3 (Typed.both s23) at43 (Plain.t-call-plain 𝓤 H A W 𝓣 0 ps·5 r·5 (claims· .10) (claims· .11) "image_region::part" (known .5) E
+              (λ pos β. β) (on T26 l7) (record { pos = 3; st = []; d = 0; at = λ x. x }, (Num.vAt 14 λ x. x, tt)) 18 [] (Call.sub-id 𝓤 H A W ((on T26 l7) .slots))
+              ((Values.struct-copied 𝓤 H A W Rect.the-type Laws''.the-laws Laws''.the-copy, Path'.refl), ((Scalar.reads-sc 𝓤 H A W (Row.sInt Syntax.w64), Path'.refl), tt)) (Reads'.room-gone 𝓤 H A y9) tt
               Path'.refl) d44
 
           d46 : Typed.Typed 𝓤 H A 𝓣 E (on T25 l7) (Syntax.seq b13 (Syntax.seq b14 b35)) Δ3 at46
@@ -1649,9 +1653,9 @@ module _ (claims· : Claims) where
               (tt, tt) (Path'.refl, λ b o k. tt)) d46
 
           d48 : Typed.Typed 𝓤 H A 𝓣 E (on T15 l7) (Syntax.seq b11 b38) Δ3 at48
-          d48 = Typed.s-seq 𝓤 H A W 𝓣 E (on T15 l7) (on T24 l7) b11 b38 Δ3 (Typed.both s20) at47 (Plain.t-call-plain 𝓤 H A W 𝓣 0 ps·2 r·2 (claims· .4) (claims· .5) "read_block::form_of" (known .2) E (λ pos
-              β. β) (on T15 l7) (record { pos = 2; st = []; d = 0; at = λ x. x }, tt) 15 [] (Call.sub-id 𝓤 H A W ((on T15 l7) .slots))
-              ((Values.struct-copied 𝓤 H A W FujiHeader.the-type Laws'4.the-laws Laws'4.the-copy, Path'.refl), tt) (Reads'.room-gone 𝓤 H A y15) tt Path'.refl) d47
+          d48 = Typed.s-seq 𝓤 H A W 𝓣 E (on T15 l7) (on T24 l7) b11 b38 Δ3 (Typed.both s20) at47 (Plain.t-call-plain 𝓤 H A W 𝓣 0 ps·2 r·2 (claims· .4) (claims· .5) "read_block::form_of" (known .2) E
+              (λ pos β. β) (on T15 l7) (record { pos = 2; st = []; d = 0; at = λ x. x }, tt) 15 [] (Call.sub-id 𝓤 H A W ((on T15 l7) .slots))
+              ((Values.struct-copied 𝓤 H A W FujiHeader.the-type Laws'7.the-laws Laws'7.the-copy, Path'.refl), tt) (Reads'.room-gone 𝓤 H A y14) tt Path'.refl) d47
 
           d49 : Typed.Typed 𝓤 H A 𝓣 E (on T16 l7) (Syntax.seq b10 (Syntax.seq b11 b38)) Δ3 at49
           d49 = Typed.t-seq 𝓤 H A W 𝓣 E (on T16 l7) (on T15 l7) b10 (Syntax.seq b11 b38) Δ3 at8 at48 d8 d48
@@ -1674,8 +1678,8 @@ module _ (claims· : Claims) where
           d52 = Typed.t-block 𝓤 H A W 𝓣 E (on T15 l7) (Syntax.loop b41) Δ1 at51 d51
 
           d53 : Typed.Typed 𝓤 H A 𝓣 E (on T13 l7) (Syntax.block (Syntax.loop b41)) Δ1 at53
-          d53 = Typed.g-pre 𝓤 H A W 𝓣 E (on T13 l7) (on T15 l7) (Syntax.block (Syntax.loop b41)) Δ1 (Typed.pass T13 T15 s12) at52 (Scalar.g-room 𝓤 H A W E (on T13 l7) 9 y13 (Local.room-whole 𝓤 H A W
-              (Declared'.row Span.the-type) y13 Path'.refl)) d52
+          d53 = Typed.g-pre 𝓤 H A W 𝓣 E (on T13 l7) (on T15 l7) (Syntax.block (Syntax.loop b41)) Δ1 (Typed.pass T13 T15 s12) at52 (Scalar.g-room 𝓤 H A W E (on T13 l7) 9 y11 (Local.room-whole 𝓤 H A W
+              (Declared'.row Span.the-type) y11 Path'.refl)) d52
 
           d54 : Typed.Typed 𝓤 H A 𝓣 E (on T1 l7) b45 Δ0 at54
           d54 = Typed.t-return 𝓤 H A W 𝓣 E Δ0 tt
@@ -1699,7 +1703,7 @@ module _ (claims· : Claims) where
           d60 : Typed.Typed 𝓤 H A 𝓣 E (on T14 l7) (Syntax.seq b44 b45) Δ0 at60
           d60 = Typed.s-seq 𝓤 H A W 𝓣 E (on T14 l7) (on T64 l7) b44 b45 Δ0 (Typed.pass T14 T64 s60) at59 (LocalCopy.t-val-copy 𝓤 H A W E 𝓣 (λ ρ. Unit) (on T14 l7) 13 0 (Declared.row Decoded.the-type)
               y16 y16 (Rows'.whole (Declared.row Decoded.the-type)) (Rows'.whole (Declared.row Decoded.the-type)) (λ x. x) (λ x. x) (λ x. x) Path'.refl (Own.told-none 𝓤 H A ((on T14 l7) .slots))
-              (Values.enum-copied 𝓤 H A W Decoded.the-type Laws.the-laws Laws.the-copy) (Reads'.room-gone 𝓤 H A y16) (Yields.makes-mem 𝓤 H A W (λ ρ. Unit) (Declared.row Decoded.the-type) Path'.refl
+              (Values.enum-copied 𝓤 H A W Decoded.the-type Laws'4.the-laws Laws'4.the-copy) (Reads'.room-gone 𝓤 H A y16) (Yields.makes-mem 𝓤 H A W (λ ρ. Unit) (Declared.row Decoded.the-type) Path'.refl
               (Rows'.whole (Declared.row Decoded.the-type)) (λ x. x) λ ρ told. Local.whole-mem 𝓤 H A W (Declared.row Decoded.the-type) ρ) Path'.refl Path'.refl) d59
 
           d61 : Typed.Typed 𝓤 H A 𝓣 E (on T13 l7) b47 Δ0 at61
@@ -1707,14 +1711,15 @@ module _ (claims· : Claims) where
 
           d62 : Typed.Typed 𝓤 H A 𝓣 E (on T12 l7) (Syntax.seq b6 b47) Δ0 at62
           d62 = Typed.s-seq 𝓤 H A W 𝓣 E (on T12 l7) (on T13 l7) b6 b47 Δ0 (Typed.pass T12 T13 s11) at61 (Scalar.t-use 𝓤 H A W E 𝓣 (on T12 l7) (Scalar.oFld 9 ((Syntax.field 0) ∷ []) u64 0 (Reads.fieldV
-              Span.the-type Laws'7.the-laws 0)) 14 (Rows'.sc-here (Row.sInt Syntax.w64)) u64 (Row.valS (Row.sInt Syntax.w64)) (Row.sInt Syntax.w64 .of)
-              (Reads.reads-field 𝓤 H A W Span.the-type Laws'7.the-laws 0 u64 0 Path'.refl, Path'.refl) (Reads'.room-gone 𝓤 H A u64) (Scalar.holds-sc 𝓤 H A W (Row.sInt Syntax.w64)) Path'.refl (λ u.
+              Span.the-type Laws'3.the-laws 0)) 14 (Rows'.sc-here (Row.sInt Syntax.w64)) u64 (Row.valS (Row.sInt Syntax.w64)) (Row.sInt Syntax.w64 .of)
+              (Reads.reads-field 𝓤 H A W Span.the-type Laws'3.the-laws 0 u64 0 Path'.refl, Path'.refl) (Reads'.room-gone 𝓤 H A u64) (Scalar.holds-sc 𝓤 H A W (Row.sInt Syntax.w64)) Path'.refl (λ u.
               Path'.refl) λ u. tt) d61
 
           d63 : Typed.Typed 𝓤 H A 𝓣 E (on T11 l7) (Syntax.seq b5 (Syntax.seq b6 b47)) Δ0 at63
-          d63 = Typed.s-seq 𝓤 H A W 𝓣 E (on T11 l7) (on T12 l7) b5 (Syntax.seq b6 b47) Δ0 (Typed.pass T11 T12 s10) at62 (Make.t-enum-make-wt 𝓤 H A W E 𝓣 Decoded.the-type Laws.the-laws Laws.the-plain
-              tt (on T11 l7) 13 ((Scalar.oInt Syntax.w8 0) ∷ []) (λ m. Decoded.enum .make (Logic.inl tt)) (Reads'.room-gone 𝓤 H A y16) (tt, tt) Path'.refl (λ m wa. Make.made-val Decoded.the-type
-              Laws.the-laws [] (Decoded.enum .make (Logic.inl tt)) tt (wa .1)) λ m wa. Make.made-is Decoded.the-type Laws.the-laws [] (Decoded.enum .make (Logic.inl tt)) tt (wa .1)) d62
+          d63 = Typed.s-seq 𝓤 H A W 𝓣 E (on T11 l7) (on T12 l7) b5 (Syntax.seq b6 b47) Δ0 (Typed.pass T11 T12 s10) at62 (Make.t-enum-make-wt 𝓤 H A W E 𝓣 Decoded.the-type Laws'4.the-laws
+              Laws'4.the-plain tt (on T11 l7) 13 ((Scalar.oInt Syntax.w8 0) ∷ []) (λ m. Decoded.enum .make (Logic.inl tt)) (Reads'.room-gone 𝓤 H A y16) (tt, tt) Path'.refl (λ m wa. Make.made-val
+              Decoded.the-type Laws'4.the-laws [] (Decoded.enum .make (Logic.inl tt)) tt (wa .1)) λ m wa. Make.made-is Decoded.the-type Laws'4.the-laws [] (Decoded.enum .make (Logic.inl tt)) tt (wa .1))
+              d62
 
           d64 : Typed.Typed 𝓤 H A 𝓣 E (on T10 l7) (Syntax.seq b5 (Syntax.seq b6 b47)) Δ0 at64
           d64 = Typed.g-pre 𝓤 H A W 𝓣 E (on T10 l7) (on T11 l7) (Syntax.seq b5 (Syntax.seq b6 b47)) Δ0 (Typed.pass T10 T11 s9) at63 (Scalar.g-room 𝓤 H A W E (on T10 l7) 20 y0 (Init.room-arr 𝓤 H A W
@@ -1728,29 +1733,29 @@ module _ (claims· : Claims) where
               ρ told. Whole.arr-mem 𝓤 H A W n16 768 tt ρ) Path'.refl Path'.refl) d64
 
           d66 : Typed.Typed 𝓤 H A 𝓣 E (on T8 l7) (Syntax.seq b3 b50) Δ0 at66
-          d66 = Typed.s-seq 𝓤 H A W 𝓣 E (on T8 l7) (on T9 l7) b3 b50 Δ0 (Typed.both s7) at65 (Plain.t-call-plain 𝓤 H A W 𝓣 0 ps·1 r·1 (claims· .2) (claims· .3) "image_map::xtrans_places" (known .1) E (λ pos
-              β. β) (on T8 l7) tt 20 [] (Call.sub-id 𝓤 H A W ((on T8 l7) .slots)) tt (Reads'.room-gone 𝓤 H A y0) tt Path'.refl) d65
+          d66 = Typed.s-seq 𝓤 H A W 𝓣 E (on T8 l7) (on T9 l7) b3 b50 Δ0 (Typed.both s7) at65 (Plain.t-call-plain 𝓤 H A W 𝓣 0 ps·1 r·1 (claims· .2) (claims· .3) "image_map::xtrans_places" (known .1) E
+              (λ pos β. β) (on T8 l7) tt 20 [] (Call.sub-id 𝓤 H A W ((on T8 l7) .slots)) tt (Reads'.room-gone 𝓤 H A y0) tt Path'.refl) d65
 
           d67 : Typed.Typed 𝓤 H A 𝓣 E (on T6 l7) (Syntax.seq b2 (Syntax.seq b3 b50)) Δ0 at67
           d67 = Typed.s-seq 𝓤 H A W 𝓣 E (on T6 l7) (on T8 l7) b2 (Syntax.seq b3 b50) Δ0 (Typed.ask s6) at66 (Scalar.t-op2 𝓤 H A W E 𝓣 (on T6 l7) (Syntax.add Syntax.unsigned) (Scalar.oFld 9
-              ((Syntax.field 1) ∷ []) u64 8 (Reads.fieldV Span.the-type Laws'7.the-laws 1)) (Scalar.oInt Syntax.w64 1) 11 (Rows'.sc-here (Row.sInt Syntax.w64)) u64 (Row.valS (Row.sInt Syntax.w64))
-              (Row.sInt Syntax.w64 .of) (Reads.reads-field 𝓤 H A W Span.the-type Laws'7.the-laws 1 u64 8 Path'.refl, Path'.refl) tt (Reads'.room-gone 𝓤 H A u64) (Scalar.holds-sc 𝓤 H A W (Row.sInt
+              ((Syntax.field 1) ∷ []) u64 8 (Reads.fieldV Span.the-type Laws'3.the-laws 1)) (Scalar.oInt Syntax.w64 1) 11 (Rows'.sc-here (Row.sInt Syntax.w64)) u64 (Row.valS (Row.sInt Syntax.w64))
+              (Row.sInt Syntax.w64 .of) (Reads.reads-field 𝓤 H A W Span.the-type Laws'3.the-laws 1 u64 8 Path'.refl, Path'.refl) tt (Reads'.room-gone 𝓤 H A u64) (Scalar.holds-sc 𝓤 H A W (Row.sInt
               Syntax.w64)) Path'.refl (λ u. Path'.refl) λ u. tt) d66
 
           d68 : Typed.Typed 𝓤 H A 𝓣 E (on T6 l7) (Syntax.seq b2 (Syntax.seq b3 b50)) Δ0 at68
-          d68 = Typed.g-pre 𝓤 H A W 𝓣 E (on T6 l7) (on T6 l7) (Syntax.seq b2 (Syntax.seq b3 b50)) Δ0 (Typed.give s5) at67 (Know'.g-struct-known 𝓤 H A W E Span.the-type Laws'7.the-laws (on T6 l7) 9 (λ
+          d68 = Typed.g-pre 𝓤 H A W 𝓣 E (on T6 l7) (on T6 l7) (Syntax.seq b2 (Syntax.seq b3 b50)) Δ0 (Typed.give s5) at67 (Know'.g-struct-known 𝓤 H A W E Span.the-type Laws'3.the-laws (on T6 l7) 9 (λ
               x. x) (Reads'.as-is 𝓤 H A (Rows'.whole (Declared'.row Span.the-type)))) d67
 
           d69 : Typed.Typed 𝓤 H A 𝓣 E (on T5 l7) b53 Δ0 at69
           d69 = Typed.s-seq 𝓤 H A W 𝓣 E (on T5 l7) (on T6 l7) b1 (Syntax.seq b2 (Syntax.seq b3 b50)) Δ0 (Typed.pass T5 T6 s4) at68 (Scalar.t-use 𝓤 H A W E 𝓣 (on T5 l7) (Scalar.oFld 9 ((Syntax.field 2)
-              ∷ []) u64 16 (Reads.fieldV Span.the-type Laws'7.the-laws 2)) 10 (Rows'.sc-here (Row.sInt Syntax.w64)) u64 (Row.valS (Row.sInt Syntax.w64)) (Row.sInt Syntax.w64 .of)
-              (Reads.reads-field 𝓤 H A W Span.the-type Laws'7.the-laws 2 u64 16 Path'.refl, Path'.refl) (Reads'.room-gone 𝓤 H A u64) (Scalar.holds-sc 𝓤 H A W (Row.sInt Syntax.w64)) Path'.refl (λ u.
+              ∷ []) u64 16 (Reads.fieldV Span.the-type Laws'3.the-laws 2)) 10 (Rows'.sc-here (Row.sInt Syntax.w64)) u64 (Row.valS (Row.sInt Syntax.w64)) (Row.sInt Syntax.w64 .of)
+              (Reads.reads-field 𝓤 H A W Span.the-type Laws'3.the-laws 2 u64 16 Path'.refl, Path'.refl) (Reads'.room-gone 𝓤 H A u64) (Scalar.holds-sc 𝓤 H A W (Row.sInt Syntax.w64)) Path'.refl (λ u.
               Path'.refl) λ u. tt) d68
 
           d70 : Typed.Typed 𝓤 H A 𝓣 E (on T0 l7) b54 Δ0 at70
-          d70 = Typed.s-seq 𝓤 H A W 𝓣 E (on T0 l7) (on T5 l7) b0 b53 Δ0 (Typed.both s3) at69 (Plain.t-call-plain 𝓤 H A W 𝓣 0 ps·0 r·0 (claims· .0) (claims· .1) "image_region::span_of" (known .0) E (λ pos β.
-              β) (on T0 l7) (record { pos = 3; st = []; d = 0; at = λ x. x }, tt) 9 [] (Call.sub-id 𝓤 H A W ((on T0 l7) .slots))
-              ((Values.struct-copied 𝓤 H A W Rect.the-type Laws'6.the-laws Laws'6.the-copy, Path'.refl), tt) (Reads'.room-gone 𝓤 H A y13) tt Path'.refl) d69
+          d70 = Typed.s-seq 𝓤 H A W 𝓣 E (on T0 l7) (on T5 l7) b0 b53 Δ0 (Typed.both s3) at69 (Plain.t-call-plain 𝓤 H A W 𝓣 0 ps·0 r·0 (claims· .0) (claims· .1) "image_region::span_of" (known .0) E (λ
+              pos β. β) (on T0 l7) (record { pos = 3; st = []; d = 0; at = λ x. x }, tt) 9 [] (Call.sub-id 𝓤 H A W ((on T0 l7) .slots))
+              ((Values.struct-copied 𝓤 H A W Rect.the-type Laws''.the-laws Laws''.the-copy, Path'.refl), tt) (Reads'.room-gone 𝓤 H A y11) tt Path'.refl) d69
 
           d71 : Typed.Typed 𝓤 H A 𝓣 E (on T0 l7) b54 Δ0 at71
           d71 = Typed.g-pre 𝓤 H A W 𝓣 E (on T0 l7) (on T0 l7) b54 Δ0 (Typed.give s2) at70 (Know.g-sl-known 𝓤 H A W (Referent.fInt Syntax.w16) E (on T0 l7) 6 2 y4 k2 0 (λ x. x) record
@@ -1770,8 +1775,8 @@ module _ (claims· : Claims) where
       module _ (κs : Lifetimes.Lfts 4) where
         pub record Args : Type 0 where
           pub d : Kinds.Den {n = 4} κs (ShrSlice.pShrS n8 0 tt)
-          pub h : Kinds.Den {n = 4} κs (Values.struct FujiHeader.the-type Laws'4.the-laws Laws'4.the-copy Laws'4.the-plain)
-          pub r : Kinds.Den {n = 4} κs (Values.struct Rect.the-type Laws'6.the-laws Laws'6.the-copy Laws'6.the-plain)
+          pub h : Kinds.Den {n = 4} κs (Values.struct FujiHeader.the-type Laws'7.the-laws Laws'7.the-copy Laws'7.the-plain)
+          pub r : Kinds.Den {n = 4} κs (Values.struct Rect.the-type Laws''.the-laws Laws''.the-copy Laws''.the-plain)
           pub tile : Kinds.Den {n = 4} κs (Array.pArr (Array.eInt Syntax.w8) (Array.eInt-laws Syntax.w8) 36)
           pub image : Kinds.Den {n = 4} κs (MutSlice.pMutS n16 1 tt)
           pub lines : Kinds.Den {n = 4} κs (MutSlice.pMutS n16 2 tt)
@@ -2595,8 +2600,8 @@ module _ (claims· : Claims) where
             "image_region::span_of") (known1 : Plain.Known 𝓤 H A W 𝓣 0 ps·1 r·1 (claims· .2) (claims· .3) "image_map::xtrans_places") (known2 : Plain.Known 𝓤 H A W 𝓣 0 ps·2 r·2 (claims· .4) (claims· .5)
             "read_block::form_of") (known3 : Plain.Known 𝓤 H A W 𝓣 1 ps·3 r·3 (claims· .6) (claims· .7) "stream::block_bytes") (known4 : Plain.Known 𝓤 H A W 𝓣 1 ps·4 r·4 (claims· .8) (claims· .9)
             "stream::base_row") (known5 : Plain.Known 𝓤 H A W 𝓣 0 ps·5 r·5 (claims· .10) (claims· .11) "image_region::part") (known6 : Plain.Known 𝓤 H A W 𝓣 0 ps·6 r·6 (claims· .12) (claims· .13)
-            "cameras::no_entries") (known7 : Plain.Known 𝓤 H A W 𝓣 6 ps·7 r·7 (claims· .14) (claims· .15) "read_block::reading::walk") (known8 : Plain.Known 𝓤 H A W 𝓣 0 ps·8 r·8 (claims· .16) (claims· .17)
-            "read_block::decoding::judged") where
+            "cameras::no_entries") (known7 : Plain.Known 𝓤 H A W 𝓣 6 ps·7 r·7 (claims· .14) (claims· .15) "read_block::reading::walk") (known8 : Plain.Known 𝓤 H A W 𝓣 0 ps·8 r·8 (claims· .16) (claims·
+            .17) "read_block::decoding::judged") where
           pub spec : Statement.Triple 𝓤 (Wp.WpFn 𝓤 H (𝓣 .C) (𝓣 .Λ) (Function.fnOf 4 ps r xs m hs body)) (Function.plainOf 𝓤 H A 4 ps r Pre· Post·)
           spec = Plain.t-fn-plain 𝓤 H A W 𝓣 4 ps r xs m hs body (λ κs qs bs. Φ) (λ κs qs bs bd. typed κs qs 𝓤 H A W 𝓣 (known0, known1, known2, known3, known4, known5, known6, known7, known8) bs bd)
               Pre· Post· asked

@@ -8,14 +8,14 @@ use Rattle.read_block.proofs.Element
 use Prim.Native.Nat
 use Rattle.admission.proofs.Beginning
 use Rattle.admission.proofs.Beginning.Laws
-use Rattle.read_block.proofs.Decoded
-use Rattle.read_block.proofs.Decoded.Laws as Laws'
-use Rattle.stream.proofs.header.FujiHeader
-use Rattle.stream.proofs.header.FujiHeader.Laws as Laws''
-use Rattle.stream.proofs.header.Refusal
-use Rattle.stream.proofs.header.Refusal.Laws as Laws'3
 use Rattle.image_region.proofs.Rect
-use Rattle.image_region.proofs.Rect.Laws as Laws'4
+use Rattle.image_region.proofs.Rect.Laws as Laws'
+use Rattle.read_block.proofs.Decoded
+use Rattle.read_block.proofs.Decoded.Laws as Laws''
+use Rattle.stream.proofs.header.FujiHeader
+use Rattle.stream.proofs.header.FujiHeader.Laws as Laws'3
+use Rattle.stream.proofs.header.Refusal
+use Rattle.stream.proofs.header.Refusal.Laws as Laws'4
 use borrow.Author.Called
 use borrow.Enum.Known
 use borrow.Enum.Make
@@ -84,12 +84,12 @@ abbrev pub y0 : Syntax.Ty
 y0 = Syntax.tyArray u8 36
 
 abbrev pub y1 : Syntax.Ty
-y1 = Syntax.tyEnum (104 ∷ 101 ∷ 97 ∷ 100 ∷ 101 ∷ 114 ∷ 58 ∷ 58 ∷ 82 ∷ 101 ∷ 102 ∷ 117 ∷ 115 ∷ 97 ∷ 108 ∷ []) (Syntax.ttcons Syntax.tnil (Syntax.ttcons Syntax.tnil (Syntax.ttcons Syntax.tnil
-    (Syntax.ttcons (Syntax.tcons u64 Syntax.tnil) (Syntax.ttcons Syntax.tnil (Syntax.ttcons Syntax.tnil (Syntax.ttcons Syntax.tnil (Syntax.ttcons Syntax.tnil (Syntax.ttcons Syntax.tnil (Syntax.ttcons
-    Syntax.tnil (Syntax.ttcons (Syntax.tcons u64 Syntax.tnil) (Syntax.ttcons (Syntax.tcons u64 Syntax.tnil) (Syntax.ttcons Syntax.tnil (Syntax.ttcons (Syntax.tcons u64 (Syntax.tcons u64 Syntax.tnil))
-    (Syntax.ttcons (Syntax.tcons u64 Syntax.tnil) (Syntax.ttcons Syntax.tnil (Syntax.ttcons Syntax.tnil (Syntax.ttcons (Syntax.tcons u64 Syntax.tnil) (Syntax.ttcons (Syntax.tcons u64 Syntax.tnil)
-    (Syntax.ttcons (Syntax.tcons u64 Syntax.tnil) (Syntax.ttcons Syntax.tnil (Syntax.ttcons Syntax.tnil (Syntax.ttcons (Syntax.tcons u64 (Syntax.tcons u64 Syntax.tnil)) (Syntax.ttcons Syntax.tnil
-    Syntax.ttnil))))))))))))))))))))))))
+y1 = Syntax.tyEnum (115 ∷ 116 ∷ 114 ∷ 101 ∷ 97 ∷ 109 ∷ 58 ∷ 58 ∷ 104 ∷ 101 ∷ 97 ∷ 100 ∷ 101 ∷ 114 ∷ 58 ∷ 58 ∷ 82 ∷ 101 ∷ 102 ∷ 117 ∷ 115 ∷ 97 ∷ 108 ∷ []) (Syntax.ttcons Syntax.tnil (Syntax.ttcons
+    Syntax.tnil (Syntax.ttcons Syntax.tnil (Syntax.ttcons (Syntax.tcons u64 Syntax.tnil) (Syntax.ttcons Syntax.tnil (Syntax.ttcons Syntax.tnil (Syntax.ttcons Syntax.tnil (Syntax.ttcons Syntax.tnil
+    (Syntax.ttcons Syntax.tnil (Syntax.ttcons Syntax.tnil (Syntax.ttcons (Syntax.tcons u64 Syntax.tnil) (Syntax.ttcons (Syntax.tcons u64 Syntax.tnil) (Syntax.ttcons Syntax.tnil (Syntax.ttcons
+    (Syntax.tcons u64 (Syntax.tcons u64 Syntax.tnil)) (Syntax.ttcons (Syntax.tcons u64 Syntax.tnil) (Syntax.ttcons Syntax.tnil (Syntax.ttcons Syntax.tnil (Syntax.ttcons (Syntax.tcons u64 Syntax.tnil)
+    (Syntax.ttcons (Syntax.tcons u64 Syntax.tnil) (Syntax.ttcons (Syntax.tcons u64 Syntax.tnil) (Syntax.ttcons Syntax.tnil (Syntax.ttcons Syntax.tnil (Syntax.ttcons (Syntax.tcons u64 (Syntax.tcons u64
+    Syntax.tnil)) (Syntax.ttcons Syntax.tnil (Syntax.ttcons Syntax.tnil (Syntax.ttcons (Syntax.tcons u64 Syntax.tnil) Syntax.ttnil))))))))))))))))))))))))))
 
 abbrev pub y2 : Syntax.Ty
 y2 = Syntax.tyRef (Syntax.named 0) Syntax.imm u8
@@ -110,18 +110,20 @@ abbrev pub y7 : Syntax.Ty
 y7 = Syntax.tyRef Syntax.erased Syntax.mut u16
 
 abbrev pub y8 : Syntax.Ty
-y8 = Syntax.tyStruct (104 ∷ 101 ∷ 97 ∷ 100 ∷ 101 ∷ 114 ∷ 58 ∷ 58 ∷ 70 ∷ 117 ∷ 106 ∷ 105 ∷ 72 ∷ 101 ∷ 97 ∷ 100 ∷ 101 ∷ 114 ∷ []) (Syntax.tcons Syntax.tyBool (Syntax.tcons Syntax.tyBool (Syntax.tcons
-    u32 (Syntax.tcons u32 (Syntax.tcons u32 (Syntax.tcons u32 (Syntax.tcons u32 (Syntax.tcons u32 (Syntax.tcons u32 Syntax.tnil)))))))))
+y8 = Syntax.tyStruct (105 ∷ 109 ∷ 97 ∷ 103 ∷ 101 ∷ 95 ∷ 114 ∷ 101 ∷ 103 ∷ 105 ∷ 111 ∷ 110 ∷ 58 ∷ 58 ∷ 82 ∷ 101 ∷ 99 ∷ 116 ∷ []) (Syntax.tcons u64 (Syntax.tcons u64 (Syntax.tcons u64 (Syntax.tcons u64
+    Syntax.tnil))))
 
 abbrev pub y9 : Syntax.Ty
-y9 = Syntax.tyStruct (114 ∷ 101 ∷ 103 ∷ 105 ∷ 111 ∷ 110 ∷ 58 ∷ 58 ∷ 82 ∷ 101 ∷ 99 ∷ 116 ∷ []) (Syntax.tcons u64 (Syntax.tcons u64 (Syntax.tcons u64 (Syntax.tcons u64 Syntax.tnil))))
+y9 = Syntax.tyStruct (115 ∷ 116 ∷ 114 ∷ 101 ∷ 97 ∷ 109 ∷ 58 ∷ 58 ∷ 104 ∷ 101 ∷ 97 ∷ 100 ∷ 101 ∷ 114 ∷ 58 ∷ 58 ∷ 70 ∷ 117 ∷ 106 ∷ 105 ∷ 72 ∷ 101 ∷ 97 ∷ 100 ∷ 101 ∷ 114 ∷ []) (Syntax.tcons Syntax.tyBool
+    (Syntax.tcons Syntax.tyBool (Syntax.tcons u32 (Syntax.tcons u32 (Syntax.tcons u32 (Syntax.tcons u32 (Syntax.tcons u32 (Syntax.tcons u32 (Syntax.tcons u32 Syntax.tnil)))))))))
 
 abbrev pub y10 : Syntax.Ty
-y10 = Syntax.tyEnum (98 ∷ 101 ∷ 103 ∷ 105 ∷ 110 ∷ 58 ∷ 58 ∷ 66 ∷ 101 ∷ 103 ∷ 105 ∷ 110 ∷ 110 ∷ 105 ∷ 110 ∷ 103 ∷ []) (Syntax.ttcons (Syntax.tcons y1 Syntax.tnil) (Syntax.ttcons Syntax.tnil
-    (Syntax.ttcons (Syntax.tcons y8 Syntax.tnil) Syntax.ttnil)))
+y10 = Syntax.tyEnum (114 ∷ 101 ∷ 97 ∷ 100 ∷ 95 ∷ 98 ∷ 108 ∷ 111 ∷ 99 ∷ 107 ∷ 58 ∷ 58 ∷ 68 ∷ 101 ∷ 99 ∷ 111 ∷ 100 ∷ 101 ∷ 100 ∷ []) (Syntax.ttcons Syntax.tnil (Syntax.ttcons (Syntax.tcons y1
+    Syntax.tnil) Syntax.ttnil))
 
 abbrev pub y11 : Syntax.Ty
-y11 = Syntax.tyEnum (98 ∷ 108 ∷ 111 ∷ 99 ∷ 107 ∷ 58 ∷ 58 ∷ 68 ∷ 101 ∷ 99 ∷ 111 ∷ 100 ∷ 101 ∷ 100 ∷ []) (Syntax.ttcons Syntax.tnil (Syntax.ttcons (Syntax.tcons y1 Syntax.tnil) Syntax.ttnil))
+y11 = Syntax.tyEnum (97 ∷ 100 ∷ 109 ∷ 105 ∷ 115 ∷ 115 ∷ 105 ∷ 111 ∷ 110 ∷ 58 ∷ 58 ∷ 66 ∷ 101 ∷ 103 ∷ 105 ∷ 110 ∷ 110 ∷ 105 ∷ 110 ∷ 103 ∷ []) (Syntax.ttcons (Syntax.tcons y1 Syntax.tnil) (Syntax.ttcons
+    Syntax.tnil (Syntax.ttcons (Syntax.tcons y9 Syntax.tnil) Syntax.ttnil)))
 
 abbrev pub y12 : Syntax.Ty
 y12 = Syntax.tyStruct (38 ∷ 91 ∷ 93 ∷ []) (Syntax.tcons y6 (Syntax.tcons u64 Syntax.tnil))
@@ -130,20 +132,20 @@ abbrev pub y13 : Syntax.Ty
 y13 = Syntax.tyStruct (38 ∷ 91 ∷ 93 ∷ []) (Syntax.tcons y7 (Syntax.tcons u64 Syntax.tnil))
 
 abbrev pub ps : List.List (Kinds.PK 4)
-ps = (ShrSlice.pShrS n8 0 tt) ∷ (Values.struct Rect.the-type Laws'4.the-laws Laws'4.the-copy Laws'4.the-plain) ∷ (Array.pArr (Array.eInt Syntax.w8) (Array.eInt-laws Syntax.w8) 36) ∷ (MutSlice.pMutS
-    n16 1 tt) ∷ (MutSlice.pMutS n16 2 tt) ∷ (MutSlice.pMutS (Element.type) 3 tt) ∷ []
+ps = (ShrSlice.pShrS n8 0 tt) ∷ (Values.struct Rect.the-type Laws'.the-laws Laws'.the-copy Laws'.the-plain) ∷ (Array.pArr (Array.eInt Syntax.w8) (Array.eInt-laws Syntax.w8) 36) ∷ (MutSlice.pMutS n16 1
+    tt) ∷ (MutSlice.pMutS n16 2 tt) ∷ (MutSlice.pMutS (Element.type) 3 tt) ∷ []
 
 abbrev pub r : Kinds.RK 4
-r = Values.enum-result Decoded.the-type Laws'.the-laws Laws'.the-copy Laws'.the-plain tt
+r = Values.enum-result Decoded.the-type Laws''.the-laws Laws''.the-copy Laws''.the-plain tt
 
 abbrev pub xs : List.List Syntax.Ty
-xs = y10 ∷ y1 ∷ y8 ∷ u64 ∷ u64 ∷ u64 ∷ u64 ∷ y11 ∷ y7 ∷ y13 ∷ Syntax.tyPtr ∷ u64 ∷ y7 ∷ y13 ∷ Syntax.tyPtr ∷ u64 ∷ y6 ∷ y12 ∷ []
+xs = y11 ∷ y1 ∷ y9 ∷ u64 ∷ u64 ∷ u64 ∷ u64 ∷ y10 ∷ y7 ∷ y13 ∷ Syntax.tyPtr ∷ u64 ∷ y7 ∷ y13 ∷ Syntax.tyPtr ∷ u64 ∷ y6 ∷ y12 ∷ []
 
 abbrev pub m : Nat.ℕ
 m = 3
 
 abbrev pub ps·0 : List.List (Kinds.PK 1)
-ps·0 = (ShrSlice.pShrS n8 0 tt) ∷ (Values.struct Rect.the-type Laws'4.the-laws Laws'4.the-copy Laws'4.the-plain) ∷ (Num.pNum Syntax.w64) ∷ (Num.pNum Syntax.w64) ∷ (Num.pNum Syntax.w64) ∷ []
+ps·0 = (ShrSlice.pShrS n8 0 tt) ∷ (Values.struct Rect.the-type Laws'.the-laws Laws'.the-copy Laws'.the-plain) ∷ (Num.pNum Syntax.w64) ∷ (Num.pNum Syntax.w64) ∷ (Num.pNum Syntax.w64) ∷ []
 
 abbrev pub r·0 : Kinds.RK 1
 r·0 = Values.enum-result Beginning.the-type Laws.the-laws Laws.the-copy Laws.the-plain tt
@@ -155,11 +157,11 @@ abbrev pub r·1 : Kinds.RK 0
 r·1 = Num.rNum Syntax.w64
 
 abbrev pub ps·2 : List.List (Kinds.PK 4)
-ps·2 = (ShrSlice.pShrS n8 0 tt) ∷ (Values.struct FujiHeader.the-type Laws''.the-laws Laws''.the-copy Laws''.the-plain) ∷ (Values.struct Rect.the-type Laws'4.the-laws Laws'4.the-copy Laws'4.the-plain)
-    ∷ (Array.pArr (Array.eInt Syntax.w8) (Array.eInt-laws Syntax.w8) 36) ∷ (MutSlice.pMutS n16 1 tt) ∷ (MutSlice.pMutS n16 2 tt) ∷ (MutSlice.pMutS (Element.type) 3 tt) ∷ Bool.pBool ∷ []
+ps·2 = (ShrSlice.pShrS n8 0 tt) ∷ (Values.struct FujiHeader.the-type Laws'3.the-laws Laws'3.the-copy Laws'3.the-plain) ∷ (Values.struct Rect.the-type Laws'.the-laws Laws'.the-copy Laws'.the-plain) ∷
+    (Array.pArr (Array.eInt Syntax.w8) (Array.eInt-laws Syntax.w8) 36) ∷ (MutSlice.pMutS n16 1 tt) ∷ (MutSlice.pMutS n16 2 tt) ∷ (MutSlice.pMutS (Element.type) 3 tt) ∷ Bool.pBool ∷ []
 
 abbrev pub r·2 : Kinds.RK 4
-r·2 = Values.enum-result Decoded.the-type Laws'.the-laws Laws'.the-copy Laws'.the-plain tt
+r·2 = Values.enum-result Decoded.the-type Laws''.the-laws Laws''.the-copy Laws''.the-plain tt
 
 abbrev pub hs : List.List Syntax.Home
 hs = Syntax.valueLocal ∷ Syntax.valueLocal ∷ Syntax.valueLocal ∷ Syntax.valueLocal ∷ Syntax.valueLocal ∷ Syntax.valueLocal ∷ Syntax.valueLocal ∷ Syntax.valueLocal ∷ Syntax.valueLocal ∷
@@ -268,7 +270,7 @@ abbrev pub v0 : Row.Row
 v0 = Rows'.any-gone u64
 
 abbrev pub v1 : Row.Row
-v1 = Rows'.any-gone y11
+v1 = Rows'.any-gone y10
 
 abbrev pub v2 : Row.Row
 v2 = Rows'.any-gone y7
@@ -283,7 +285,7 @@ abbrev pub v5 : Row.Row
 v5 = Rows'.sc-here (Row.sInt Syntax.w64)
 
 abbrev pub v6 : Row.Row
-v6 = Rows'.any-gone y10
+v6 = Rows'.any-gone y11
 
 abbrev pub v7 : Row.Row
 v7 = Mut.mslice n16 y4 2
@@ -292,7 +294,7 @@ abbrev pub v8 : Row.Row
 v8 = Mut.mslice (Element.type) y5 3
 
 abbrev pub v9 : Row.Row
-v9 = Rows'.any-gone y8
+v9 = Rows'.any-gone y9
 
 abbrev pub v10 : Row.Row
 v10 = Mut.mslice n16 y3 1
@@ -307,7 +309,7 @@ abbrev pub v13 : Row.Row
 v13 = Rows'.whole (Declared'.row Rect.the-type)
 
 abbrev pub v14 : Row.Row
-v14 = Rows'.any-gone y9
+v14 = Rows'.any-gone y8
 
 abbrev pub v15 : Row.Row
 v15 = Rows'.whole (Declared.row Decoded.the-type)
@@ -682,7 +684,7 @@ module _ (claims· : Claims) where
   a0 = (record { pos = 1; ty = y2; ref = λ x. x }, (record { pos = 2; st = []; d = 0; at = λ x. x }, (Num.vAt 11 λ x. x, (Num.vAt 12 λ x. x, (Num.vAt 13 λ x. x, tt)))))
 
   abbrev s6 : Typed.Both T7 T8
-  s6 = Call.callB ps·0 r·0 (claims· .0) (claims· .1) T7 a0 7 (0 ∷ []) y10
+  s6 = Call.callB ps·0 r·0 (claims· .0) (claims· .1) T7 a0 7 (0 ∷ []) y11
 
   abbrev s7 : Typed.Mo T8 → Typed.Mo T10
   s7 = Scalar.n-room T8 11 u64
@@ -700,7 +702,7 @@ module _ (claims· : Claims) where
   s11 = Known.k-known-told Beginning.enum Laws.the-laws 0 T13 7 λ x. x
 
   abbrev s12 : Typed.Mo T13 → Typed.Mo T15
-  s12 = Scalar.n-room T13 2 y9
+  s12 = Scalar.n-room T13 2 y8
 
   abbrev s13 : Typed.Mo T15 → Typed.Mo T16
   s13 = Scalar.n-room T15 3 y0
@@ -709,7 +711,7 @@ module _ (claims· : Claims) where
   s14 = Make'.n-make (Declared.row Refusal.the-type) T16 8 λ m. m .1 .1 .1 .1 .1 .1 .1 .0 .0
 
   abbrev s15 : Typed.Mo T17 → Typed.Mo T18
-  s15 = Scalar.n-room T17 7 y10
+  s15 = Scalar.n-room T17 7 y11
 
   abbrev s16 : Typed.Mo T18 → Typed.Mo T19
   s16 = Make.n-enum-make Decoded.the-type T18 14 λ m. Decoded.enum .make (Logic.inr (Logic.inl (m .1 .1 .1 .1 .1 .1 .1 .1 .0, tt)))
@@ -721,13 +723,13 @@ module _ (claims· : Claims) where
   s18 = Known.k-enum-told Beginning.enum 1 T12 7 λ x. x
 
   abbrev s19 : Typed.Mo T12 → Typed.Mo T22
-  s19 = Scalar.n-room T12 2 y9
+  s19 = Scalar.n-room T12 2 y8
 
   abbrev s20 : Typed.Mo T22 → Typed.Mo T23
   s20 = Scalar.n-room T22 3 y0
 
   abbrev s21 : Typed.Mo T23 → Typed.Mo T24
-  s21 = Scalar.n-room T23 7 y10
+  s21 = Scalar.n-room T23 7 y11
 
   abbrev s22 : Typed.Mo T24 → Typed.Mo T9
   s22 = Make.n-enum-make Decoded.the-type T24 14 λ m. Decoded.enum .make (Logic.inl tt)
@@ -742,7 +744,7 @@ module _ (claims· : Claims) where
   s25 = Make'.n-make (Declared'.row FujiHeader.the-type) T26 9 λ m. m .1 .1 .1 .1 .1 .1 .1 .0 .0
 
   abbrev s26 : Typed.Mo T28 → Typed.Mo T29
-  s26 = Scalar.n-room T28 7 y10
+  s26 = Scalar.n-room T28 7 y11
 
   abbrev s27 : Typed.Both T29 T30
   s27 = Call.callB ps·1 r·1 (claims· .2) (claims· .3) T29 (Bool.bFld 9 ((Syntax.field 1) ∷ []) 1 λ x. FujiHeader.struct .as-values x .1 .0, tt) 10 [] u64
@@ -805,16 +807,16 @@ module _ (claims· : Claims) where
   )
 
   abbrev s45 : Typed.Both T47 T48
-  s45 = Call.callB ps·2 r·2 (claims· .4) (claims· .5) T47 a1 14 (0 ∷ 4 ∷ 5 ∷ 6 ∷ []) y11
+  s45 = Call.callB ps·2 r·2 (claims· .4) (claims· .5) T47 a1 14 (0 ∷ 4 ∷ 5 ∷ 6 ∷ []) y10
 
   abbrev s46 : Typed.Mo T48 → Typed.Mo T49
-  s46 = Scalar.n-room T48 2 y9
+  s46 = Scalar.n-room T48 2 y8
 
   abbrev s47 : Typed.Mo T49 → Typed.Mo T50
   s47 = Scalar.n-room T49 3 y0
 
   abbrev s48 : Typed.Mo T50 → Typed.Mo T51
-  s48 = Scalar.n-room T50 9 y8
+  s48 = Scalar.n-room T50 9 y9
 
   abbrev s49 : Typed.Mo T51 → Typed.Mo T52
   s49 = Scalar.n-room T51 10 u64
@@ -838,14 +840,14 @@ module _ (claims· : Claims) where
   s61 = LocalCopy.n-val-copy T9 14 0 (Declared.row Decoded.the-type) (Rows'.whole (Declared.row Decoded.the-type)) (Rows'.whole (Declared.row Decoded.the-type)) (λ x. x) (λ x. x) λ x. x
 
   abbrev s62 : Typed.Mo T64 → Typed.Mo T1
-  s62 = Scalar.n-room T64 14 y11
+  s62 = Scalar.n-room T64 14 y10
 
   module _ (Pre· : (κs : Lifetimes.Lfts 4) → Kinds.Dens κs ps → Type 0) (Post· : (κs : Lifetimes.Lfts 4) → (a : Kinds.Dens κs ps) → Kinds.Plain 4 ps r κs) where
     module _ (M : Type 1) where
       abbrev pub Closed : Type 2
       Closed = (𝓤 : URA.URA M) (H : Wp.Heap 𝓤) (A : Atoms.Atoms 𝓤) (W : Kit.Given 𝓤 H A) (𝓣 : Wp.Tables 𝓤 H) (known0 : Plain.Known 𝓤 H A W 𝓣 1 ps·0 r·0 (claims· .0) (claims· .1)
-          "admission::windowed_begins") (known1 : Plain.Known 𝓤 H A W 𝓣 0 ps·1 r·1 (claims· .2) (claims· .3) "admission::window_samples") (known2 : Plain.Known 𝓤 H A W 𝓣 4 ps·2 r·2 (claims· .4) (claims· .5)
-          "read_block::decoding::decode_blocks") → Statement.Triple 𝓤 (Wp.WpFn 𝓤 H (𝓣 .C) (𝓣 .Λ) (Function.fnOf 4 ps r xs m hs body)) (Function.plainOf 𝓤 H A 4 ps r Pre· Post·)
+          "admission::windowed_begins") (known1 : Plain.Known 𝓤 H A W 𝓣 0 ps·1 r·1 (claims· .2) (claims· .3) "admission::window_samples") (known2 : Plain.Known 𝓤 H A W 𝓣 4 ps·2 r·2 (claims· .4) (claims·
+          .5) "read_block::decoding::decode_blocks") → Statement.Triple 𝓤 (Wp.WpFn 𝓤 H (𝓣 .C) (𝓣 .Λ) (Function.fnOf 4 ps r xs m hs body)) (Function.plainOf 𝓤 H A 4 ps r Pre· Post·)
 
     module _ where
       abbrev at0 : Typed.TF T18 O1
@@ -995,8 +997,8 @@ module _ (claims· : Claims) where
 
       module _ {M : Type 1} (𝓤 : URA.URA M) (H : Wp.Heap 𝓤) (A : Atoms.Atoms 𝓤) (W : Kit.Given 𝓤 H A) (𝓣 : Wp.Tables 𝓤 H) where
         abbrev Knowns : Type 1
-        Knowns = Plain.Known 𝓤 H A W 𝓣 1 ps·0 r·0 (claims· .0) (claims· .1) "admission::windowed_begins" × Plain.Known 𝓤 H A W 𝓣 0 ps·1 r·1 (claims· .2) (claims· .3) "admission::window_samples" × Plain.Known
-            𝓤 H A W 𝓣 4 ps·2 r·2 (claims· .4) (claims· .5) "read_block::decoding::decode_blocks"
+        Knowns = Plain.Known 𝓤 H A W 𝓣 1 ps·0 r·0 (claims· .0) (claims· .1) "admission::windowed_begins" × Plain.Known 𝓤 H A W 𝓣 0 ps·1 r·1 (claims· .2) (claims· .3) "admission::window_samples" ×
+            Plain.Known 𝓤 H A W 𝓣 4 ps·2 r·2 (claims· .4) (claims· .5) "read_block::decoding::decode_blocks"
 
       module _ (κs : Lifetimes.Lfts 4) (qs : Lifetimes.Shares 4) where
         abbrev k0 : Row.Life
@@ -1175,11 +1177,11 @@ module _ (claims· : Claims) where
 
           d0 : Typed.Typed 𝓤 H A 𝓣 E (on T18 l5) b5 Δ1 at0
           d0 = Typed.s-typed 𝓤 H A W 𝓣 E (on T18 l5) b5 Δ1 (λ Ψ. Typed.pass T18 T19 s16 (Typed.pass T19 T9 s17 Ψ)) tt (Typed.g-post 𝓤 H A W 𝓣 E (on T18 l5) (on T19 l5) (on T9 l5) b5 (Typed.pass T18
-              T19 s16) (Typed.pass T19 T9 s17) (Make.t-enum-make-wt 𝓤 H A W E 𝓣 Decoded.the-type Laws'.the-laws Laws'.the-plain tt (on T18 l5) 14 ((Scalar.oInt Syntax.w8 1) ∷ (Scalar.oAt 8 y1 (Laws'5.val
-              Refusal.the-type Laws'3.the-laws)) ∷ []) (λ m. Decoded.enum .make (Logic.inr (Logic.inl (m .1 .1 .1 .1 .1 .1 .1 .1 .0, tt)))) (Reads'.room-gone 𝓤 H A y11)
-              (tt, ((Whole.reads-enum 𝓤 H A W Refusal.the-type Laws'3.the-laws, Path'.refl), tt)) Path'.refl (λ m wa. Make.made-val Decoded.the-type Laws'.the-laws ((Laws'5.val Refusal.the-type
-              Laws'3.the-laws (m .1 .1 .1 .1 .1 .1 .1 .1 .0)) ∷ []) (Decoded.enum .make (Logic.inr (Logic.inl (m .1 .1 .1 .1 .1 .1 .1 .1 .0, tt)))) (
-                Signed.made-wt Refusal.the-field Laws'3.the-field-laws (Whole.enum-wt Refusal.the-type Laws'3.the-laws (
+              T19 s16) (Typed.pass T19 T9 s17) (Make.t-enum-make-wt 𝓤 H A W E 𝓣 Decoded.the-type Laws''.the-laws Laws''.the-plain tt (on T18 l5) 14 ((Scalar.oInt Syntax.w8 1) ∷ (Scalar.oAt 8 y1
+              (Laws'5.val Refusal.the-type Laws'4.the-laws)) ∷ []) (λ m. Decoded.enum .make (Logic.inr (Logic.inl (m .1 .1 .1 .1 .1 .1 .1 .1 .0, tt)))) (Reads'.room-gone 𝓤 H A y10)
+              (tt, ((Whole.reads-enum 𝓤 H A W Refusal.the-type Laws'4.the-laws, Path'.refl), tt)) Path'.refl (λ m wa. Make.made-val Decoded.the-type Laws''.the-laws ((Laws'5.val Refusal.the-type
+              Laws'4.the-laws (m .1 .1 .1 .1 .1 .1 .1 .1 .0)) ∷ []) (Decoded.enum .make (Logic.inr (Logic.inl (m .1 .1 .1 .1 .1 .1 .1 .1 .0, tt)))) (
+                Signed.made-wt Refusal.the-field Laws'4.the-field-laws (Whole.enum-wt Refusal.the-type Laws'4.the-laws (
                   tt,
                   (
                     tt,
@@ -1207,7 +1209,10 @@ module _ (claims· : Claims) where
                                           tt,
                                           (
                                             (Make'.u64-wt, (Make'.u64-wt, tt)),
-                                            ((Make'.u64-wt, tt), (tt, (tt, ((Make'.u64-wt, tt), ((Make'.u64-wt, tt), ((Make'.u64-wt, tt), (tt, (tt, ((Make'.u64-wt, (Make'.u64-wt, tt)), (tt, tt)))))))))),
+                                            (
+                                              (Make'.u64-wt, tt),
+                                              (tt, (tt, ((Make'.u64-wt, tt), ((Make'.u64-wt, tt), ((Make'.u64-wt, tt), (tt, (tt, ((Make'.u64-wt, (Make'.u64-wt, tt)), (tt, (tt, ((Make'.u64-wt, tt), tt))))))))))),
+                                            ),
                                           ),
                                         ),
                                       ),
@@ -1224,9 +1229,9 @@ module _ (claims· : Claims) where
                 ))
                     (Refusal.the-type .to (m .1 .1 .1 .1 .1 .1 .1 .1 .0)),
                 tt,
-              ) (wa .1)) λ m wa. Make.made-is Decoded.the-type Laws'.the-laws ((Laws'5.val Refusal.the-type Laws'3.the-laws (m .1 .1 .1 .1 .1 .1 .1
-              .1 .0)) ∷ []) (Decoded.enum .make (Logic.inr (Logic.inl (m .1 .1 .1 .1 .1 .1 .1 .1 .0, tt)))) (
-                Signed.made-wt Refusal.the-field Laws'3.the-field-laws (Whole.enum-wt Refusal.the-type Laws'3.the-laws (
+              ) (wa .1)) λ m wa. Make.made-is Decoded.the-type Laws''.the-laws ((Laws'5.val Refusal.the-type Laws'4.the-laws (m .1 .1 .1 .1 .1 .1
+              .1 .1 .0)) ∷ []) (Decoded.enum .make (Logic.inr (Logic.inl (m .1 .1 .1 .1 .1 .1 .1 .1 .0, tt)))) (
+                Signed.made-wt Refusal.the-field Laws'4.the-field-laws (Whole.enum-wt Refusal.the-type Laws'4.the-laws (
                   tt,
                   (
                     tt,
@@ -1254,7 +1259,10 @@ module _ (claims· : Claims) where
                                           tt,
                                           (
                                             (Make'.u64-wt, (Make'.u64-wt, tt)),
-                                            ((Make'.u64-wt, tt), (tt, (tt, ((Make'.u64-wt, tt), ((Make'.u64-wt, tt), ((Make'.u64-wt, tt), (tt, (tt, ((Make'.u64-wt, (Make'.u64-wt, tt)), (tt, tt)))))))))),
+                                            (
+                                              (Make'.u64-wt, tt),
+                                              (tt, (tt, ((Make'.u64-wt, tt), ((Make'.u64-wt, tt), ((Make'.u64-wt, tt), (tt, (tt, ((Make'.u64-wt, (Make'.u64-wt, tt)), (tt, (tt, ((Make'.u64-wt, tt), tt))))))))))),
+                                            ),
                                           ),
                                         ),
                                       ),
@@ -1274,15 +1282,15 @@ module _ (claims· : Claims) where
               ) (wa .1)) (Scalar.g-room 𝓤 H A W E (on T19 l5) 8 y1 (Local.room-whole 𝓤 H A W (Declared.row Refusal.the-type) y1 Path'.refl)))
 
           d1 : Typed.Typed 𝓤 H A 𝓣 E (on T17 l5) b5 Δ1 at1
-          d1 = Typed.g-pre 𝓤 H A W 𝓣 E (on T17 l5) (on T18 l5) b5 Δ1 (Typed.pass T17 T18 s15) at0 (Scalar.g-room 𝓤 H A W E (on T17 l5) 7 y10 (Local.room-whole 𝓤 H A W (Known.Known Beginning.enum 0)
-              y10 Path'.refl)) d0
+          d1 = Typed.g-pre 𝓤 H A W 𝓣 E (on T17 l5) (on T18 l5) b5 Δ1 (Typed.pass T17 T18 s15) at0 (Scalar.g-room 𝓤 H A W E (on T17 l5) 7 y11 (Local.room-whole 𝓤 H A W (Known.Known Beginning.enum 0)
+              y11 Path'.refl)) d0
 
           d2 : Typed.Typed 𝓤 H A 𝓣 E (on T16 l5) b6 Δ1 at2
           d2 = Typed.s-seq 𝓤 H A W 𝓣 E (on T16 l5) (on T17 l5) b4 b5 Δ1 (Typed.pass T16 T17 s14) at1 (CopyOut.t-copy-told 𝓤 H A W E 𝓣 (Declared.row Refusal.the-type) Path'.refl (Laws'5.val
-              Refusal.the-type Laws'3.the-laws) (Laws'5.lawful Refusal.the-type Laws'3.the-laws 𝓤 H A W tt) (Laws'5.makes Refusal.the-type Laws'3.the-plain 𝓤 H A) (on T16 l5) 8 (Scalar.oFld 7
-              ((Syntax.variant 0) ∷ (Syntax.field 1) ∷ []) y1 8 λ v. Laws'5.val Refusal.the-type Laws'3.the-laws (v .0)) (λ m. m .1 .1 .1 .1 .1 .1 .1 .0 .0) (λ m. Laws'5.Fields (Declared.variants
+              Refusal.the-type Laws'4.the-laws) (Laws'5.lawful Refusal.the-type Laws'4.the-laws 𝓤 H A W tt) (Laws'5.makes Refusal.the-type Laws'4.the-plain 𝓤 H A) (on T16 l5) 8 (Scalar.oFld 7
+              ((Syntax.variant 0) ∷ (Syntax.field 1) ∷ []) y1 8 λ v. Laws'5.val Refusal.the-type Laws'4.the-laws (v .0)) (λ m. m .1 .1 .1 .1 .1 .1 .1 .0 .0) (λ m. Laws'5.Fields (Declared.variants
               Beginning.the-type) (Laws'5.spellss (Beginning.enum .parts) Laws.the-laws) (Beginning.the-type .to (Known.at Beginning.enum 0 (m .1 .1 .1 .1 .1 .1 .1 .0)))) (Reads'.room-gone 𝓤 H A y1) (
-                Match.reads-payload 𝓤 H A W Beginning.enum Laws.the-laws 0 Path'.refl Path'.refl (λ v. Val.vcons (Laws'5.val Refusal.the-type Laws'3.the-laws (v .0)) Val.vnil) (λ v. Path'.refl) 0 y1 8
+                Match.reads-payload 𝓤 H A W Beginning.enum Laws.the-laws 0 Path'.refl Path'.refl (λ v. Val.vcons (Laws'5.val Refusal.the-type Laws'4.the-laws (v .0)) Val.vnil) (λ v. Path'.refl) 0 y1 8
                     Path'.refl,
                 Path'.refl,
               ) Path'.refl (λ ρ m. Make'.tells-row 𝓤 H A W E ρ (Row.out 8 ((on T16 l5) .locals)) m 7 (Laws'5.Fields (Declared.variants Beginning.the-type) (Laws'5.spellss
@@ -1293,7 +1301,7 @@ module _ (claims· : Claims) where
           d3 = Typed.g-pre 𝓤 H A W 𝓣 E (on T15 l5) (on T16 l5) b6 Δ1 (Typed.pass T15 T16 s13) at2 (Scalar.g-room 𝓤 H A W E (on T15 l5) 3 y0 (Init.room-arr 𝓤 H A W n8 36 0 36 Path'.refl)) d2
 
           d4 : Typed.Typed 𝓤 H A 𝓣 E (on T13 l5) b6 Δ1 at4
-          d4 = Typed.g-pre 𝓤 H A W 𝓣 E (on T13 l5) (on T15 l5) b6 Δ1 (Typed.pass T13 T15 s12) at3 (Scalar.g-room 𝓤 H A W E (on T13 l5) 2 y9 (Local.room-whole 𝓤 H A W (Declared'.row Rect.the-type) y9
+          d4 = Typed.g-pre 𝓤 H A W 𝓣 E (on T13 l5) (on T15 l5) b6 Δ1 (Typed.pass T13 T15 s12) at3 (Scalar.g-room 𝓤 H A W E (on T13 l5) 2 y8 (Local.room-whole 𝓤 H A W (Declared'.row Rect.the-type) y8
               Path'.refl)) d3
 
           d5 : Typed.Typed 𝓤 H A 𝓣 E (on T13 l5) b6 Δ1 at5
@@ -1305,19 +1313,19 @@ module _ (claims· : Claims) where
               (Declared.row Beginning.the-type)))) d5
 
           d7 : Typed.Typed 𝓤 H A 𝓣 E (on T24 l5) b7 Δ1 at7
-          d7 = Typed.s-typed 𝓤 H A W 𝓣 E (on T24 l5) b7 Δ1 (Typed.pass T24 T9 s22) tt (Make.t-enum-make-wt 𝓤 H A W E 𝓣 Decoded.the-type Laws'.the-laws Laws'.the-plain tt (on T24 l5) 14 ((Scalar.oInt
-              Syntax.w8 0) ∷ []) (λ m. Decoded.enum .make (Logic.inl tt)) (Reads'.room-gone 𝓤 H A y11) (tt, tt) Path'.refl (λ m wa. Make.made-val Decoded.the-type Laws'.the-laws [] (Decoded.enum .make
-              (Logic.inl tt)) tt (wa .1)) λ m wa. Make.made-is Decoded.the-type Laws'.the-laws [] (Decoded.enum .make (Logic.inl tt)) tt (wa .1))
+          d7 = Typed.s-typed 𝓤 H A W 𝓣 E (on T24 l5) b7 Δ1 (Typed.pass T24 T9 s22) tt (Make.t-enum-make-wt 𝓤 H A W E 𝓣 Decoded.the-type Laws''.the-laws Laws''.the-plain tt (on T24 l5) 14 ((Scalar.oInt
+              Syntax.w8 0) ∷ []) (λ m. Decoded.enum .make (Logic.inl tt)) (Reads'.room-gone 𝓤 H A y10) (tt, tt) Path'.refl (λ m wa. Make.made-val Decoded.the-type Laws''.the-laws [] (Decoded.enum .make
+              (Logic.inl tt)) tt (wa .1)) λ m wa. Make.made-is Decoded.the-type Laws''.the-laws [] (Decoded.enum .make (Logic.inl tt)) tt (wa .1))
 
           d8 : Typed.Typed 𝓤 H A 𝓣 E (on T23 l5) b7 Δ1 at8
-          d8 = Typed.g-pre 𝓤 H A W 𝓣 E (on T23 l5) (on T24 l5) b7 Δ1 (Typed.pass T23 T24 s21) at7 (Scalar.g-room 𝓤 H A W E (on T23 l5) 7 y10 (Local.room-whole 𝓤 H A W (Declared.row Beginning.the-type)
-              y10 Path'.refl)) d7
+          d8 = Typed.g-pre 𝓤 H A W 𝓣 E (on T23 l5) (on T24 l5) b7 Δ1 (Typed.pass T23 T24 s21) at7 (Scalar.g-room 𝓤 H A W E (on T23 l5) 7 y11 (Local.room-whole 𝓤 H A W (Declared.row Beginning.the-type)
+              y11 Path'.refl)) d7
 
           d9 : Typed.Typed 𝓤 H A 𝓣 E (on T22 l5) b7 Δ1 at9
           d9 = Typed.g-pre 𝓤 H A W 𝓣 E (on T22 l5) (on T23 l5) b7 Δ1 (Typed.pass T22 T23 s20) at8 (Scalar.g-room 𝓤 H A W E (on T22 l5) 3 y0 (Init.room-arr 𝓤 H A W n8 36 0 36 Path'.refl)) d8
 
           d10 : Typed.Typed 𝓤 H A 𝓣 E (on T12 l5) b7 Δ1 at10
-          d10 = Typed.g-pre 𝓤 H A W 𝓣 E (on T12 l5) (on T22 l5) b7 Δ1 (Typed.pass T12 T22 s19) at9 (Scalar.g-room 𝓤 H A W E (on T12 l5) 2 y9 (Local.room-whole 𝓤 H A W (Declared'.row Rect.the-type) y9
+          d10 = Typed.g-pre 𝓤 H A W 𝓣 E (on T12 l5) (on T22 l5) b7 Δ1 (Typed.pass T12 T22 s19) at9 (Scalar.g-room 𝓤 H A W E (on T12 l5) 2 y8 (Local.room-whole 𝓤 H A W (Declared'.row Rect.the-type) y8
               Path'.refl)) d9
 
           d11 : Typed.Typed 𝓤 H A 𝓣 E (on T12 l5) b7 Δ1 at11
@@ -1359,9 +1367,9 @@ module _ (claims· : Claims) where
                 Shared.reads-sslice 𝓤 H A W n8 y2 0,
                 Path'.refl,
                 (
-                  (Values.struct-copied 𝓤 H A W FujiHeader.the-type Laws''.the-laws Laws''.the-copy, Path'.refl),
+                  (Values.struct-copied 𝓤 H A W FujiHeader.the-type Laws'3.the-laws Laws'3.the-copy, Path'.refl),
                   (
-                    (Values.struct-copied 𝓤 H A W Rect.the-type Laws'4.the-laws Laws'4.the-copy, Path'.refl),
+                    (Values.struct-copied 𝓤 H A W Rect.the-type Laws'.the-laws Laws'.the-copy, Path'.refl),
                     (
                       (Array.arr-yields 𝓤 H A W (Array.eInt Syntax.w8) (Array.eInt-laws Syntax.w8) 36, Path'.refl),
                       (
@@ -1378,9 +1386,9 @@ module _ (claims· : Claims) where
                     ),
                   ),
                 ),
-              ) (Reads'.room-gone 𝓤 H A y11) (tt, (tt, (tt, (tt, tt))))
-              Path'.refl) (Scalar.g-room 𝓤 H A W E G48 2 y9 (Local.room-whole 𝓤 H A W (Declared'.row Rect.the-type) y9 Path'.refl))) (Scalar.g-room 𝓤 H A W E G49 3 y0 (Init.room-arr 𝓤 H A W n8 36 0 36
-              Path'.refl))) (Scalar.g-room 𝓤 H A W E G50 9 y8 (Local.room-whole 𝓤 H A W (Declared'.row FujiHeader.the-type) y8 Path'.refl))) (Scalar.g-room 𝓤 H A W E G51 10 u64 (Scalar.room-sc 𝓤 H A W
+              ) (Reads'.room-gone 𝓤 H A y10) (tt, (tt, (tt, (tt, tt))))
+              Path'.refl) (Scalar.g-room 𝓤 H A W E G48 2 y8 (Local.room-whole 𝓤 H A W (Declared'.row Rect.the-type) y8 Path'.refl))) (Scalar.g-room 𝓤 H A W E G49 3 y0 (Init.room-arr 𝓤 H A W n8 36 0 36
+              Path'.refl))) (Scalar.g-room 𝓤 H A W E G50 9 y9 (Local.room-whole 𝓤 H A W (Declared'.row FujiHeader.the-type) y9 Path'.refl))) (Scalar.g-room 𝓤 H A W E G51 10 u64 (Scalar.room-sc 𝓤 H A W
               (Row.sInt Syntax.w64)))) (Lifetime.g-end 𝓤 H A W E G52 4 Path'.refl)) (Relend.g-back-sl 𝓤 H A W E n16 G53 16 4 1 4 y3 y7 k1 (λ x. x) (λ x. x) (Reads'.as-is 𝓤 H A (Mut.msleft n16 y7))
               (Reads'.as-is 𝓤 H A (Relend.mslice-owed n16 y3 1 4 k1)) Path'.refl Path'.refl)) (Know.g-sl-known 𝓤 H A W (Referent.fInt Syntax.w16) E G54 4 1 y3 k1 0 (λ x. x) record { fits = Dec'.lit< tt }
               (Reads'.as-is 𝓤 H A (Mut.mslice n16 y3 1)) Path'.refl tt)) (Lifetime.g-forget 𝓤 H A W E G54 4 Row.dead Path'.refl)) (Lifetime.g-end 𝓤 H A W E G56 5 Path'.refl)) (PartMut.g-back-slᵐ 𝓤 H A W E
@@ -1465,20 +1473,20 @@ module _ (claims· : Claims) where
 
           d30 : Typed.Typed 𝓤 H A 𝓣 E (on T29 l5) (Syntax.seq b9 (Syntax.seq b10 b29)) Δ1 at30
           d30 = Typed.s-seq 𝓤 H A W 𝓣 E (on T29 l5) (on T30 l5) b9 (Syntax.seq b10 b29) Δ1 (Typed.both s27) at28 (Plain.t-call-plain 𝓤 H A W 𝓣 0 ps·1 r·1 (claims· .2) (claims· .3)
-              "admission::window_samples" (known .1) E (λ pos β. β) (on T29 l5) (Bool.bFld 9 ((Syntax.field 1) ∷ []) 1 λ x. FujiHeader.struct .as-values x .1 .0, tt) 10 [] (Call.sub-id 𝓤 H A W ((on T29 l5)
-              .slots)) ((Reads.reads-field 𝓤 H A W FujiHeader.the-type Laws''.the-laws 1 Syntax.tyBool 1 Path'.refl, Path'.refl), tt) (Reads'.room-gone 𝓤 H A u64) tt Path'.refl) d29
+              "admission::window_samples" (known .1) E (λ pos β. β) (on T29 l5) (Bool.bFld 9 ((Syntax.field 1) ∷ []) 1 λ x. FujiHeader.struct .as-values x .1 .0, tt) 10 [] (Call.sub-id 𝓤 H A W ((on T29
+              l5) .slots)) ((Reads.reads-field 𝓤 H A W FujiHeader.the-type Laws'3.the-laws 1 Syntax.tyBool 1 Path'.refl, Path'.refl), tt) (Reads'.room-gone 𝓤 H A u64) tt Path'.refl) d29
 
           d31 : Typed.Typed 𝓤 H A 𝓣 E (on T28 l5) (Syntax.seq b9 (Syntax.seq b10 b29)) Δ1 at31
-          d31 = Typed.g-pre 𝓤 H A W 𝓣 E (on T28 l5) (on T29 l5) (Syntax.seq b9 (Syntax.seq b10 b29)) Δ1 (Typed.pass T28 T29 s26) at30 (Scalar.g-room 𝓤 H A W E (on T28 l5) 7 y10 (Local.room-whole 𝓤 H A
-              W (Known.Known Beginning.enum 2) y10 Path'.refl)) d30
+          d31 = Typed.g-pre 𝓤 H A W 𝓣 E (on T28 l5) (on T29 l5) (Syntax.seq b9 (Syntax.seq b10 b29)) Δ1 (Typed.pass T28 T29 s26) at30 (Scalar.g-room 𝓤 H A W E (on T28 l5) 7 y11 (Local.room-whole 𝓤 H A
+              W (Known.Known Beginning.enum 2) y11 Path'.refl)) d30
 
           d32 : Typed.Typed 𝓤 H A 𝓣 E (on T26 l5) b32 Δ1 at32
           d32 = Typed.s-seq 𝓤 H A W 𝓣 E (on T26 l5) (on T28 l5) b8 (Syntax.seq b9 (Syntax.seq b10 b29)) Δ1 (Typed.pass T26 T28 s25) at31 (CopyOut.t-copy-told 𝓤 H A W E 𝓣 (Declared'.row
-              FujiHeader.the-type) Path'.refl (Laws'6.val FujiHeader.the-type Laws''.the-laws) (Laws'6.lawful FujiHeader.the-type Laws''.the-laws 𝓤 H A W) (Laws'6.makes FujiHeader.the-type
-              Laws''.the-plain 𝓤 H A) (on T26 l5) 9 (Scalar.oFld 7 ((Syntax.variant 2) ∷ (Syntax.field 1) ∷ []) y8 4 λ v. Laws'6.val FujiHeader.the-type Laws''.the-laws (v .0)) (λ m. m .1 .1 .1 .1 .1 .1
+              FujiHeader.the-type) Path'.refl (Laws'6.val FujiHeader.the-type Laws'3.the-laws) (Laws'6.lawful FujiHeader.the-type Laws'3.the-laws 𝓤 H A W) (Laws'6.makes FujiHeader.the-type
+              Laws'3.the-plain 𝓤 H A) (on T26 l5) 9 (Scalar.oFld 7 ((Syntax.variant 2) ∷ (Syntax.field 1) ∷ []) y9 4 λ v. Laws'6.val FujiHeader.the-type Laws'3.the-laws (v .0)) (λ m. m .1 .1 .1 .1 .1 .1
               .1 .0 .0) (λ m. Laws'5.Fields (Declared.variants Beginning.the-type) (Laws'5.spellss (Beginning.enum .parts) Laws.the-laws) (Beginning.the-type .to (Known.at Beginning.enum 2 (m .1 .1 .1 .1
-              .1 .1 .1 .0)))) (Reads'.room-gone 𝓤 H A y8) (
-                Match.reads-payload 𝓤 H A W Beginning.enum Laws.the-laws 2 Path'.refl Path'.refl (λ v. Val.vcons (Laws'6.val FujiHeader.the-type Laws''.the-laws (v .0)) Val.vnil) (λ v. Path'.refl) 0 y8 4
+              .1 .1 .1 .0)))) (Reads'.room-gone 𝓤 H A y9) (
+                Match.reads-payload 𝓤 H A W Beginning.enum Laws.the-laws 2 Path'.refl Path'.refl (λ v. Val.vcons (Laws'6.val FujiHeader.the-type Laws'3.the-laws (v .0)) Val.vnil) (λ v. Path'.refl) 0 y9 4
                     Path'.refl,
                 Path'.refl,
               ) Path'.refl (λ ρ m. Make'.tells-row 𝓤 H A W E ρ (Row.out 9 ((on T26 l5) .locals)) m 7 (Laws'5.Fields (Declared.variants Beginning.the-type) (Laws'5.spellss
@@ -1512,33 +1520,33 @@ module _ (claims· : Claims) where
           d39 = Typed.t-return 𝓤 H A W 𝓣 E Δ0 tt
 
           d40 : Typed.Typed 𝓤 H A 𝓣 E (on T64 l5) Syntax.return Δ0 at40
-          d40 = Typed.g-pre 𝓤 H A W 𝓣 E (on T64 l5) (on T1 l5) Syntax.return Δ0 (Typed.pass T64 T1 s62) at39 (Scalar.g-room 𝓤 H A W E (on T64 l5) 14 y11 (Local.room-whole 𝓤 H A W (Declared.row
-              Decoded.the-type) y11 Path'.refl)) d39
+          d40 = Typed.g-pre 𝓤 H A W 𝓣 E (on T64 l5) (on T1 l5) Syntax.return Δ0 (Typed.pass T64 T1 s62) at39 (Scalar.g-room 𝓤 H A W E (on T64 l5) 14 y10 (Local.room-whole 𝓤 H A W (Declared.row
+              Decoded.the-type) y10 Path'.refl)) d39
 
           d41 : Typed.Typed 𝓤 H A 𝓣 E (on T9 l5) (Syntax.seq b34 Syntax.return) Δ0 at41
           d41 = Typed.s-seq 𝓤 H A W 𝓣 E (on T9 l5) (on T64 l5) b34 Syntax.return Δ0 (Typed.pass T9 T64 s61) at40 (LocalCopy.t-val-copy 𝓤 H A W E 𝓣 (λ ρ. Unit) (on T9 l5) 14 0 (Declared.row
-              Decoded.the-type) y11 y11 (Rows'.whole (Declared.row Decoded.the-type)) (Rows'.whole (Declared.row Decoded.the-type)) (λ x. x) (λ x. x) (λ x. x) Path'.refl (Own.told-none 𝓤 H A ((on T9 l5)
-              .slots)) (Values.enum-copied 𝓤 H A W Decoded.the-type Laws'.the-laws Laws'.the-copy) (Reads'.room-gone 𝓤 H A y11) (Yields.makes-mem 𝓤 H A W (λ ρ. Unit) (Declared.row Decoded.the-type)
+              Decoded.the-type) y10 y10 (Rows'.whole (Declared.row Decoded.the-type)) (Rows'.whole (Declared.row Decoded.the-type)) (λ x. x) (λ x. x) (λ x. x) Path'.refl (Own.told-none 𝓤 H A ((on T9 l5)
+              .slots)) (Values.enum-copied 𝓤 H A W Decoded.the-type Laws''.the-laws Laws''.the-copy) (Reads'.room-gone 𝓤 H A y10) (Yields.makes-mem 𝓤 H A W (λ ρ. Unit) (Declared.row Decoded.the-type)
               Path'.refl (Rows'.whole (Declared.row Decoded.the-type)) (λ x. x) λ ρ told. Local.whole-mem 𝓤 H A W (Declared.row Decoded.the-type) ρ) Path'.refl Path'.refl) d40
 
           d42 : Typed.Typed 𝓤 H A 𝓣 E (on T8 l5) b37 Δ0 at42
           d42 = Typed.t-seq 𝓤 H A W 𝓣 E (on T8 l5) (on T9 l5) b33 (Syntax.seq b34 Syntax.return) Δ0 at38 at41 d38 d41
 
           d43 : Typed.Typed 𝓤 H A 𝓣 E (on T7 l5) (Syntax.seq b3 b37) Δ0 at43
-          d43 = Typed.s-seq 𝓤 H A W 𝓣 E (on T7 l5) (on T8 l5) b3 b37 Δ0 (Typed.both s6) at42 (Plain.t-call-plain 𝓤 H A W 𝓣 1 ps·0 r·0 (claims· .0) (claims· .1) "admission::windowed_begins" (known .0) E (λ
-              pos β. β) (on T7 l5) (record { pos = 1; ty = y2; ref = λ x. x }, (record { pos = 2; st = []; d = 0; at = λ x. x }, (Num.vAt 11 λ x. x, (Num.vAt 12 λ x. x, (Num.vAt 13 λ x. x, tt))))) 7 (0 ∷
-              []) (Call.sub-id 𝓤 H A W ((on T7 l5) .slots)) (
+          d43 = Typed.s-seq 𝓤 H A W 𝓣 E (on T7 l5) (on T8 l5) b3 b37 Δ0 (Typed.both s6) at42 (Plain.t-call-plain 𝓤 H A W 𝓣 1 ps·0 r·0 (claims· .0) (claims· .1) "admission::windowed_begins" (known .0)
+              E (λ pos β. β) (on T7 l5) (record { pos = 1; ty = y2; ref = λ x. x }, (record { pos = 2; st = []; d = 0; at = λ x. x }, (Num.vAt 11 λ x. x, (Num.vAt 12 λ x. x, (Num.vAt 13 λ x. x, tt))))) 7
+              (0 ∷ []) (Call.sub-id 𝓤 H A W ((on T7 l5) .slots)) (
                 ShrSlice.spares-sslice 𝓤 H A W n8 y2 0,
                 Shared.reads-sslice 𝓤 H A W n8 y2 0,
                 Path'.refl,
                 (
-                  (Values.struct-copied 𝓤 H A W Rect.the-type Laws'4.the-laws Laws'4.the-copy, Path'.refl),
+                  (Values.struct-copied 𝓤 H A W Rect.the-type Laws'.the-laws Laws'.the-copy, Path'.refl),
                   (
                     (Scalar.reads-sc 𝓤 H A W (Row.sInt Syntax.w64), Path'.refl),
                     ((Scalar.reads-sc 𝓤 H A W (Row.sInt Syntax.w64), Path'.refl), ((Scalar.reads-sc 𝓤 H A W (Row.sInt Syntax.w64), Path'.refl), tt)),
                   ),
                 ),
-              ) (Reads'.room-gone 𝓤 H A y10) (tt, tt) Path'.refl) d42
+              ) (Reads'.room-gone 𝓤 H A y11) (tt, tt) Path'.refl) d42
 
           d44 : Typed.Typed 𝓤 H A 𝓣 E (on T6 l5) (Syntax.seq b2 (Syntax.seq b3 b37)) Δ0 at44
           d44 = Typed.s-seq 𝓤 H A W 𝓣 E (on T6 l5) (on T7 l5) b2 (Syntax.seq b3 b37) Δ0 (Typed.pass T6 T7 s5) at43 (Scalar.t-use 𝓤 H A W E 𝓣 (on T6 l5) (Scalar.oFld 6 ((Syntax.field 1) ∷ []) u64 8
@@ -1574,7 +1582,7 @@ module _ (claims· : Claims) where
       module _ (κs : Lifetimes.Lfts 4) where
         pub record Args : Type 0 where
           pub d : Kinds.Den {n = 4} κs (ShrSlice.pShrS n8 0 tt)
-          pub r : Kinds.Den {n = 4} κs (Values.struct Rect.the-type Laws'4.the-laws Laws'4.the-copy Laws'4.the-plain)
+          pub r : Kinds.Den {n = 4} κs (Values.struct Rect.the-type Laws'.the-laws Laws'.the-copy Laws'.the-plain)
           pub tile : Kinds.Den {n = 4} κs (Array.pArr (Array.eInt Syntax.w8) (Array.eInt-laws Syntax.w8) 36)
           pub image : Kinds.Den {n = 4} κs (MutSlice.pMutS n16 1 tt)
           pub lines : Kinds.Den {n = 4} κs (MutSlice.pMutS n16 2 tt)
@@ -2093,7 +2101,7 @@ module _ (claims· : Claims) where
               { κs = κs; args = record { d = a .0; r = a .1 .0; tile = a .1 .1 .0; image = a .1 .1 .1 .0; lines = a .1 .1 .1 .1 .0; rs = a .1 .1 .1 .1 .1 .0 }; good = good; pre = pre }
 
         module _ {M : Type 1} (𝓤 : URA.URA M) (H : Wp.Heap 𝓤) (A : Atoms.Atoms 𝓤) (W : Kit.Given 𝓤 H A) (𝓣 : Wp.Tables 𝓤 H) (known0 : Plain.Known 𝓤 H A W 𝓣 1 ps·0 r·0 (claims· .0) (claims· .1)
-            "admission::windowed_begins") (known1 : Plain.Known 𝓤 H A W 𝓣 0 ps·1 r·1 (claims· .2) (claims· .3) "admission::window_samples") (known2 : Plain.Known 𝓤 H A W 𝓣 4 ps·2 r·2 (claims· .4) (claims· .5)
-            "read_block::decoding::decode_blocks") where
+            "admission::windowed_begins") (known1 : Plain.Known 𝓤 H A W 𝓣 0 ps·1 r·1 (claims· .2) (claims· .3) "admission::window_samples") (known2 : Plain.Known 𝓤 H A W 𝓣 4 ps·2 r·2 (claims· .4) (claims·
+            .5) "read_block::decoding::decode_blocks") where
           pub spec : Statement.Triple 𝓤 (Wp.WpFn 𝓤 H (𝓣 .C) (𝓣 .Λ) (Function.fnOf 4 ps r xs m hs body)) (Function.plainOf 𝓤 H A 4 ps r Pre· Post·)
           spec = Plain.t-fn-plain 𝓤 H A W 𝓣 4 ps r xs m hs body (λ κs qs bs. Φ) (λ κs qs bs bd. typed κs qs 𝓤 H A W 𝓣 (known0, known1, known2) bs bd) Pre· Post· asked

@@ -7,22 +7,22 @@ use Rattle.read_block.proofs.Element
 use Prim.Native.Nat
 use Rattle.bits.proofs.BitPosition
 use Rattle.bits.proofs.BitPosition.Laws
-use Rattle.read_block.proofs.Form
-use Rattle.read_block.proofs.Form.Laws as Laws'
-use Rattle.read_block.proofs.Lined
-use Rattle.read_block.proofs.Lined.Laws as Laws''
 use Rattle.code.proofs.Place
-use Rattle.code.proofs.Place.Laws as Laws'3
+use Rattle.code.proofs.Place.Laws as Laws'
 use Rattle.image_map.proofs.Part
-use Rattle.image_map.proofs.Part.Laws as Laws'4
-use Rattle.read_pass.proofs.Passed
-use Rattle.read_pass.proofs.Passed.Laws as Laws'5
+use Rattle.image_map.proofs.Part.Laws as Laws''
 use Rattle.pass_schedule.proofs.Plan
-use Rattle.pass_schedule.proofs.Plan.Laws as Laws'6
+use Rattle.pass_schedule.proofs.Plan.Laws as Laws'3
 use Rattle.pass_steps.proofs.Quantisers
-use Rattle.pass_steps.proofs.Quantisers.Laws as Laws'7
+use Rattle.pass_steps.proofs.Quantisers.Laws as Laws'4
 use Rattle.pass_steps.proofs.Set
-use Rattle.pass_steps.proofs.Set.Laws as Laws'8
+use Rattle.pass_steps.proofs.Set.Laws as Laws'5
+use Rattle.read_block.proofs.Form
+use Rattle.read_block.proofs.Form.Laws as Laws'6
+use Rattle.read_block.proofs.Lined
+use Rattle.read_block.proofs.Lined.Laws as Laws'7
+use Rattle.read_pass.proofs.Passed
+use Rattle.read_pass.proofs.Passed.Laws as Laws'8
 use borrow.Author.Called
 use borrow.Author.Tests
 use borrow.Enum.Make
@@ -120,28 +120,28 @@ abbrev pub y9 : Syntax.Ty
 y9 = Syntax.tyRef Syntax.erased Syntax.mut u16
 
 abbrev pub y10 : Syntax.Ty
-y10 = Syntax.tyStruct (109 ∷ 97 ∷ 112 ∷ 58 ∷ 58 ∷ 80 ∷ 97 ∷ 114 ∷ 116 ∷ []) (Syntax.tcons u64 (Syntax.tcons u64 (Syntax.tcons u64 (Syntax.tcons u64 (Syntax.tcons u64 (Syntax.tcons u64
-    Syntax.tnil))))))
+y10 = Syntax.tyStruct (105 ∷ 109 ∷ 97 ∷ 103 ∷ 101 ∷ 95 ∷ 109 ∷ 97 ∷ 112 ∷ 58 ∷ 58 ∷ 80 ∷ 97 ∷ 114 ∷ 116 ∷ []) (Syntax.tcons u64 (Syntax.tcons u64 (Syntax.tcons u64 (Syntax.tcons u64 (Syntax.tcons u64
+    (Syntax.tcons u64 Syntax.tnil))))))
 
 abbrev pub y11 : Syntax.Ty
-y11 = Syntax.tyStruct (115 ∷ 99 ∷ 104 ∷ 101 ∷ 100 ∷ 117 ∷ 108 ∷ 101 ∷ 58 ∷ 58 ∷ 80 ∷ 108 ∷ 97 ∷ 110 ∷ []) (Syntax.tcons u64 (Syntax.tcons u64 (Syntax.tcons u64 (Syntax.tcons u32 (Syntax.tcons u32
-    Syntax.tnil)))))
+y11 = Syntax.tyStruct (112 ∷ 97 ∷ 115 ∷ 115 ∷ 95 ∷ 115 ∷ 99 ∷ 104 ∷ 101 ∷ 100 ∷ 117 ∷ 108 ∷ 101 ∷ 58 ∷ 58 ∷ 80 ∷ 108 ∷ 97 ∷ 110 ∷ []) (Syntax.tcons u64 (Syntax.tcons u64 (Syntax.tcons u64
+    (Syntax.tcons u32 (Syntax.tcons u32 Syntax.tnil)))))
 
 abbrev pub y12 : Syntax.Ty
-y12 = Syntax.tyStruct (98 ∷ 105 ∷ 116 ∷ 115 ∷ 58 ∷ 58 ∷ 66 ∷ 105 ∷ 116 ∷ 80 ∷ 111 ∷ 115 ∷ 105 ∷ 116 ∷ 105 ∷ 111 ∷ 110 ∷ []) (Syntax.tcons u64 Syntax.tnil)
+y12 = Syntax.tyStruct (114 ∷ 101 ∷ 97 ∷ 100 ∷ 95 ∷ 98 ∷ 108 ∷ 111 ∷ 99 ∷ 107 ∷ 58 ∷ 58 ∷ 70 ∷ 111 ∷ 114 ∷ 109 ∷ []) (Syntax.tcons u32 (Syntax.tcons Syntax.tyBool Syntax.tnil))
 
 abbrev pub y13 : Syntax.Ty
-y13 = Syntax.tyStruct (98 ∷ 108 ∷ 111 ∷ 99 ∷ 107 ∷ 58 ∷ 58 ∷ 70 ∷ 111 ∷ 114 ∷ 109 ∷ []) (Syntax.tcons u32 (Syntax.tcons Syntax.tyBool Syntax.tnil))
+y13 = Syntax.tyStruct (98 ∷ 105 ∷ 116 ∷ 115 ∷ 58 ∷ 58 ∷ 66 ∷ 105 ∷ 116 ∷ 80 ∷ 111 ∷ 115 ∷ 105 ∷ 116 ∷ 105 ∷ 111 ∷ 110 ∷ []) (Syntax.tcons u64 Syntax.tnil)
 
 abbrev pub y14 : Syntax.Ty
 y14 = Syntax.tyRef (Syntax.named 4) Syntax.imm y0
 
 abbrev pub y15 : Syntax.Ty
-y15 = Syntax.tyStruct (115 ∷ 116 ∷ 101 ∷ 112 ∷ 115 ∷ 58 ∷ 58 ∷ 81 ∷ 117 ∷ 97 ∷ 110 ∷ 116 ∷ 105 ∷ 115 ∷ 101 ∷ 114 ∷ 115 ∷ []) (Syntax.tcons u32 (Syntax.tcons y2 (Syntax.tcons y2 (Syntax.tcons y2
-    Syntax.tnil))))
+y15 = Syntax.tyStruct (112 ∷ 97 ∷ 115 ∷ 115 ∷ 95 ∷ 115 ∷ 116 ∷ 101 ∷ 112 ∷ 115 ∷ 58 ∷ 58 ∷ 81 ∷ 117 ∷ 97 ∷ 110 ∷ 116 ∷ 105 ∷ 115 ∷ 101 ∷ 114 ∷ 115 ∷ []) (Syntax.tcons u32 (Syntax.tcons y2
+    (Syntax.tcons y2 (Syntax.tcons y2 Syntax.tnil))))
 
 abbrev pub y16 : Syntax.Ty
-y16 = Syntax.tyStruct (115 ∷ 116 ∷ 101 ∷ 112 ∷ 115 ∷ 58 ∷ 58 ∷ 83 ∷ 101 ∷ 116 ∷ []) (Syntax.tcons y1 (Syntax.tcons y1 Syntax.tnil))
+y16 = Syntax.tyStruct (112 ∷ 97 ∷ 115 ∷ 115 ∷ 95 ∷ 115 ∷ 116 ∷ 101 ∷ 112 ∷ 115 ∷ 58 ∷ 58 ∷ 83 ∷ 101 ∷ 116 ∷ []) (Syntax.tcons y1 (Syntax.tcons y1 Syntax.tnil))
 
 abbrev pub y17 : Syntax.Ty
 y17 = Syntax.tyStruct (38 ∷ 91 ∷ 93 ∷ []) (Syntax.tcons y7 (Syntax.tcons u64 Syntax.tnil))
@@ -153,25 +153,26 @@ abbrev pub y19 : Syntax.Ty
 y19 = Syntax.tyStruct (38 ∷ 91 ∷ 93 ∷ []) (Syntax.tcons y9 (Syntax.tcons u64 Syntax.tnil))
 
 abbrev pub y20 : Syntax.Ty
-y20 = Syntax.tyStruct (99 ∷ 111 ∷ 100 ∷ 101 ∷ 58 ∷ 58 ∷ 80 ∷ 108 ∷ 97 ∷ 99 ∷ 101 ∷ []) (Syntax.tcons y12 (Syntax.tcons Syntax.tyBool (Syntax.tcons u64 Syntax.tnil)))
+y20 = Syntax.tyStruct (99 ∷ 111 ∷ 100 ∷ 101 ∷ 58 ∷ 58 ∷ 80 ∷ 108 ∷ 97 ∷ 99 ∷ 101 ∷ []) (Syntax.tcons y13 (Syntax.tcons Syntax.tyBool (Syntax.tcons u64 Syntax.tnil)))
 
 abbrev pub y21 : Syntax.Ty
-y21 = Syntax.tyEnum (98 ∷ 108 ∷ 111 ∷ 99 ∷ 107 ∷ 58 ∷ 58 ∷ 76 ∷ 105 ∷ 110 ∷ 101 ∷ 100 ∷ []) (Syntax.ttcons (Syntax.tcons y20 Syntax.tnil) (Syntax.ttcons Syntax.tnil Syntax.ttnil))
+y21 = Syntax.tyEnum (114 ∷ 101 ∷ 97 ∷ 100 ∷ 95 ∷ 98 ∷ 108 ∷ 111 ∷ 99 ∷ 107 ∷ 58 ∷ 58 ∷ 76 ∷ 105 ∷ 110 ∷ 101 ∷ 100 ∷ []) (Syntax.ttcons (Syntax.tcons y20 Syntax.tnil) (Syntax.ttcons Syntax.tnil
+    Syntax.ttnil))
 
 abbrev pub y22 : Syntax.Ty
-y22 = Syntax.tyStruct (112 ∷ 97 ∷ 115 ∷ 115 ∷ 58 ∷ 58 ∷ 80 ∷ 97 ∷ 115 ∷ 115 ∷ 101 ∷ 100 ∷ []) (Syntax.tcons Syntax.tyBool (Syntax.tcons y20 (Syntax.tcons y16 Syntax.tnil)))
+y22 = Syntax.tyStruct (114 ∷ 101 ∷ 97 ∷ 100 ∷ 95 ∷ 112 ∷ 97 ∷ 115 ∷ 115 ∷ 58 ∷ 58 ∷ 80 ∷ 97 ∷ 115 ∷ 115 ∷ 101 ∷ 100 ∷ []) (Syntax.tcons Syntax.tyBool (Syntax.tcons y20 (Syntax.tcons y16 Syntax.tnil)))
 
 abbrev pub ps : List.List (Kinds.PK 5)
-ps = (ShrSlice.pShrS n8 0 tt) ∷ (Values.struct Place.the-type Laws'3.the-laws Laws'3.the-copy Laws'3.the-plain) ∷ (MutSlice.pMutS n16 1 tt) ∷ (MutSlice.pMutS (Element.type) 2 tt) ∷ (MutSlice.pMutS n16
-    3 tt) ∷ (Values.struct Form.the-type Laws'.the-laws Laws'.the-copy Laws'.the-plain) ∷ (Values.struct Quantisers.the-type Laws'7.the-laws Laws'7.the-copy Laws'7.the-plain) ∷ (ShrRef.pShr (Array'.Array
-    n16 768) 4 tt) ∷ (Array.pArr (Array.eInt Syntax.w8) (Array.eInt-laws Syntax.w8) 36) ∷ (Values.struct Part.the-type Laws'4.the-laws Laws'4.the-copy Laws'4.the-plain) ∷ (Num.pNum Syntax.w64) ∷
+ps = (ShrSlice.pShrS n8 0 tt) ∷ (Values.struct Place.the-type Laws'.the-laws Laws'.the-copy Laws'.the-plain) ∷ (MutSlice.pMutS n16 1 tt) ∷ (MutSlice.pMutS (Element.type) 2 tt) ∷ (MutSlice.pMutS n16 3
+    tt) ∷ (Values.struct Form.the-type Laws'6.the-laws Laws'6.the-copy Laws'6.the-plain) ∷ (Values.struct Quantisers.the-type Laws'4.the-laws Laws'4.the-copy Laws'4.the-plain) ∷ (ShrRef.pShr (Array'.Array
+    n16 768) 4 tt) ∷ (Array.pArr (Array.eInt Syntax.w8) (Array.eInt-laws Syntax.w8) 36) ∷ (Values.struct Part.the-type Laws''.the-laws Laws''.the-copy Laws''.the-plain) ∷ (Num.pNum Syntax.w64) ∷
     Bool.pBool ∷ []
 
 abbrev pub r : Kinds.RK 5
-r = Values.enum-result Lined.the-type Laws''.the-laws Laws''.the-copy Laws''.the-plain tt
+r = Values.enum-result Lined.the-type Laws'7.the-laws Laws'7.the-copy Laws'7.the-plain tt
 
 abbrev pub xs : List.List Syntax.Ty
-xs = u32 ∷ Syntax.tyBool ∷ u64 ∷ y20 ∷ u64 ∷ y11 ∷ y11 ∷ y16 ∷ y22 ∷ Syntax.tyBool ∷ y16 ∷ y12 ∷ Syntax.tyBool ∷ Syntax.tyUnit ∷ y9 ∷ y19 ∷ y8 ∷ y18 ∷ y9 ∷ y19 ∷ y8 ∷ y18 ∷ y7 ∷ y17 ∷ y9 ∷ y19 ∷
+xs = u32 ∷ Syntax.tyBool ∷ u64 ∷ y20 ∷ u64 ∷ y11 ∷ y11 ∷ y16 ∷ y22 ∷ Syntax.tyBool ∷ y16 ∷ y13 ∷ Syntax.tyBool ∷ Syntax.tyUnit ∷ y9 ∷ y19 ∷ y8 ∷ y18 ∷ y9 ∷ y19 ∷ y8 ∷ y18 ∷ y7 ∷ y17 ∷ y9 ∷ y19 ∷
     Syntax.tyBool ∷ []
 
 abbrev pub m : Nat.ℕ
@@ -187,13 +188,13 @@ abbrev pub ps·1 : List.List (Kinds.PK 0)
 ps·1 = (Num.pNum Syntax.w64) ∷ Bool.pBool ∷ []
 
 abbrev pub r·1 : Kinds.RK 0
-r·1 = Values.struct-result Plan.the-type Laws'6.the-laws Laws'6.the-copy Laws'6.the-plain
+r·1 = Values.struct-result Plan.the-type Laws'3.the-laws Laws'3.the-copy Laws'3.the-plain
 
 abbrev pub ps·2 : List.List (Kinds.PK 0)
-ps·2 = (Values.struct Plan.the-type Laws'6.the-laws Laws'6.the-copy Laws'6.the-plain) ∷ Bool.pBool ∷ []
+ps·2 = (Values.struct Plan.the-type Laws'3.the-laws Laws'3.the-copy Laws'3.the-plain) ∷ Bool.pBool ∷ []
 
 abbrev pub r·2 : Kinds.RK 0
-r·2 = Values.struct-result Plan.the-type Laws'6.the-laws Laws'6.the-copy Laws'6.the-plain
+r·2 = Values.struct-result Plan.the-type Laws'3.the-laws Laws'3.the-copy Laws'3.the-plain
 
 abbrev pub ps·3 : List.List (Kinds.PK 1)
 ps·3 = (MutSlice.pMutS n16 0 tt) ∷ (Num.pNum Syntax.w64) ∷ (Num.pNum Syntax.w64) ∷ (Num.pNum Syntax.w64) ∷ Bool.pBool ∷ []
@@ -205,25 +206,25 @@ abbrev pub ps·4 : List.List (Kinds.PK 1)
 ps·4 = (MutSlice.pMutS (Element.type) 0 tt) ∷ (Num.pNum Syntax.w64) ∷ []
 
 abbrev pub r·4 : Kinds.RK 1
-r·4 = Values.struct-result Set.the-type Laws'8.the-laws Laws'8.the-copy Laws'8.the-plain
+r·4 = Values.struct-result Set.the-type Laws'5.the-laws Laws'5.the-copy Laws'5.the-plain
 
 abbrev pub ps·5 : List.List (Kinds.PK 2)
-ps·5 = (ShrSlice.pShrS n8 0 tt) ∷ (Values.struct Place.the-type Laws'3.the-laws Laws'3.the-copy Laws'3.the-plain) ∷ (MutSlice.pMutS n16 1 tt) ∷ (Values.struct Set.the-type Laws'8.the-laws
-    Laws'8.the-copy Laws'8.the-plain) ∷ (Num.pNum Syntax.w64) ∷ (Values.struct Plan.the-type Laws'6.the-laws Laws'6.the-copy Laws'6.the-plain) ∷ (Values.struct Quantisers.the-type Laws'7.the-laws
-    Laws'7.the-copy Laws'7.the-plain) ∷ (Num.pNum Syntax.w32) ∷ []
+ps·5 = (ShrSlice.pShrS n8 0 tt) ∷ (Values.struct Place.the-type Laws'.the-laws Laws'.the-copy Laws'.the-plain) ∷ (MutSlice.pMutS n16 1 tt) ∷ (Values.struct Set.the-type Laws'5.the-laws Laws'5.the-copy
+    Laws'5.the-plain) ∷ (Num.pNum Syntax.w64) ∷ (Values.struct Plan.the-type Laws'3.the-laws Laws'3.the-copy Laws'3.the-plain) ∷ (Values.struct Quantisers.the-type Laws'4.the-laws Laws'4.the-copy
+    Laws'4.the-plain) ∷ (Num.pNum Syntax.w32) ∷ []
 
 abbrev pub r·5 : Kinds.RK 2
-r·5 = Values.struct-result Passed.the-type Laws'5.the-laws Laws'5.the-copy Laws'5.the-plain
+r·5 = Values.struct-result Passed.the-type Laws'8.the-laws Laws'8.the-copy Laws'8.the-plain
 
 abbrev pub ps·6 : List.List (Kinds.PK 1)
-ps·6 = (MutSlice.pMutS (Element.type) 0 tt) ∷ (Num.pNum Syntax.w64) ∷ (Values.struct Set.the-type Laws'8.the-laws Laws'8.the-copy Laws'8.the-plain) ∷ []
+ps·6 = (MutSlice.pMutS (Element.type) 0 tt) ∷ (Num.pNum Syntax.w64) ∷ (Values.struct Set.the-type Laws'5.the-laws Laws'5.the-copy Laws'5.the-plain) ∷ []
 
 abbrev pub r·6 : Kinds.RK 1
 r·6 = Unit'.rUnit
 
 abbrev pub ps·7 : List.List (Kinds.PK 3)
 ps·7 = (ShrSlice.pShrS n16 0 tt) ∷ (MutSlice.pMutS n16 1 tt) ∷ (Num.pNum Syntax.w64) ∷ Bool.pBool ∷ (ShrRef.pShr (Array'.Array n16 768) 2 tt) ∷ (Array.pArr (Array.eInt Syntax.w8) (Array.eInt-laws
-    Syntax.w8) 36) ∷ (Values.struct Part.the-type Laws'4.the-laws Laws'4.the-copy Laws'4.the-plain) ∷ (Num.pNum Syntax.w64) ∷ (Num.pNum Syntax.w64) ∷ Bool.pBool ∷ []
+    Syntax.w8) 36) ∷ (Values.struct Part.the-type Laws''.the-laws Laws''.the-copy Laws''.the-plain) ∷ (Num.pNum Syntax.w64) ∷ (Num.pNum Syntax.w64) ∷ Bool.pBool ∷ []
 
 abbrev pub r·7 : Kinds.RK 3
 r·7 = Unit'.rUnit
@@ -278,8 +279,8 @@ abbrev b12 : Syntax.Body
 b12 = Syntax.assign (Syntax.place 28 []) (Syntax.aggregate ((Syntax.copy (Syntax.place 27 [])) ∷ (Syntax.copy (Syntax.place 3 ((Syntax.field 1) ∷ []))) ∷ []))
 
 abbrev b13 : Syntax.Body
-b13 = Syntax.call "colour_lines::enter" ((Syntax.copy (Syntax.place 28 [])) ∷ (Syntax.copy (Syntax.place 15 [])) ∷ (Syntax.copy (Syntax.place 19 ((Syntax.field 0) ∷ []))) ∷ (Syntax.copy (Syntax.place 19
-    ((Syntax.field 1) ∷ []))) ∷ (Syntax.copy (Syntax.place 12 [])) ∷ []) (Syntax.place 26 [])
+b13 = Syntax.call "colour_lines::enter" ((Syntax.copy (Syntax.place 28 [])) ∷ (Syntax.copy (Syntax.place 15 [])) ∷ (Syntax.copy (Syntax.place 19 ((Syntax.field 0) ∷ []))) ∷ (Syntax.copy (Syntax.place
+    19 ((Syntax.field 1) ∷ []))) ∷ (Syntax.copy (Syntax.place 12 [])) ∷ []) (Syntax.place 26 [])
 
 abbrev b14 : Syntax.Body
 b14 = Syntax.assign (Syntax.place 29 []) (Syntax.addrOf (Syntax.place 4 ((Syntax.field 0) ∷ (Syntax.deref (Element.held)) ∷ [])))
@@ -328,8 +329,8 @@ abbrev b29 : Syntax.Body
 b29 = Syntax.assign (Syntax.place 34 []) (Syntax.aggregate ((Syntax.copy (Syntax.place 33 [])) ∷ (Syntax.copy (Syntax.place 4 ((Syntax.field 1) ∷ []))) ∷ []))
 
 abbrev b30 : Syntax.Body
-b30 = Syntax.call "read_block::records::store_set" ((Syntax.copy (Syntax.place 34 [])) ∷ (Syntax.copy (Syntax.place 18 ((Syntax.field 2) ∷ []))) ∷ (Syntax.copy (Syntax.place 23 [])) ∷ []) (Syntax.place 26
-    [])
+b30 = Syntax.call "read_block::records::store_set" ((Syntax.copy (Syntax.place 34 [])) ∷ (Syntax.copy (Syntax.place 18 ((Syntax.field 2) ∷ []))) ∷ (Syntax.copy (Syntax.place 23 [])) ∷ [])
+    (Syntax.place 26 [])
 
 abbrev b31 : Syntax.Body
 b31 = Syntax.assign (Syntax.place 16 []) (Syntax.rvOpd (Syntax.copy (Syntax.place 21 ((Syntax.field 1) ∷ []))))
@@ -347,8 +348,8 @@ abbrev b35 : Syntax.Body
 b35 = Syntax.assign (Syntax.place 38 []) (Syntax.aggregate ((Syntax.copy (Syntax.place 37 [])) ∷ (Syntax.copy (Syntax.place 5 ((Syntax.field 1) ∷ []))) ∷ []))
 
 abbrev b36 : Syntax.Body
-b36 = Syntax.call "read_block::reading::emit_pass_at" ((Syntax.copy (Syntax.place 36 [])) ∷ (Syntax.copy (Syntax.place 38 [])) ∷ (Syntax.copy (Syntax.place 15 [])) ∷ (Syntax.copy (Syntax.place 14 [])) ∷
-    (Syntax.copy (Syntax.place 8 [])) ∷ (Syntax.copy (Syntax.place 9 [])) ∷ (Syntax.copy (Syntax.place 10 [])) ∷ (Syntax.copy (Syntax.place 11 [])) ∷ (Syntax.copy (Syntax.place 17 [])) ∷ (Syntax.copy
+b36 = Syntax.call "read_block::reading::emit_pass_at" ((Syntax.copy (Syntax.place 36 [])) ∷ (Syntax.copy (Syntax.place 38 [])) ∷ (Syntax.copy (Syntax.place 15 [])) ∷ (Syntax.copy (Syntax.place 14 []))
+    ∷ (Syntax.copy (Syntax.place 8 [])) ∷ (Syntax.copy (Syntax.place 9 [])) ∷ (Syntax.copy (Syntax.place 10 [])) ∷ (Syntax.copy (Syntax.place 11 [])) ∷ (Syntax.copy (Syntax.place 17 [])) ∷ (Syntax.copy
     (Syntax.place 12 [])) ∷ []) (Syntax.place 26 [])
 
 abbrev b37 : Syntax.Body
@@ -461,7 +462,7 @@ abbrev pub v9 : Row.Row
 v9 = Rows'.any-gone y11
 
 abbrev pub v10 : Row.Row
-v10 = Rows'.any-gone y12
+v10 = Rows'.any-gone y13
 
 abbrev pub v11 : Row.Row
 v11 = Rows'.sslice n8 y3 0
@@ -476,7 +477,7 @@ abbrev pub v14 : Row.Row
 v14 = Rows'.any-gone Syntax.tyUnit
 
 abbrev pub v15 : Row.Row
-v15 = Rows'.any-gone y13
+v15 = Rows'.any-gone y12
 
 abbrev pub v16 : Row.Row
 v16 = Mut.mslice (Element.type) y5 2
@@ -1078,13 +1079,13 @@ module _ (claims· : Claims) where
   s2 = λ bs. Know.k-sl-known (Referent.fInt Syntax.w16) T0 5 3 y6 Row.off 0 λ x. x
 
   abbrev s3 : (bs : List.List Nat.ℕ) → Typed.Mo T0 → Typed.Mo T5
-  s3 = λ bs. Scalar.n-use T0 (Scalar.oFld 6 ((Syntax.field 0) ∷ []) u32 0 (Reads.fieldV Form.the-type Laws'.the-laws 0)) 13 (Rows'.sc-here (Row.sInt Syntax.w32)) (Row.sInt Syntax.w32 .of)
+  s3 = λ bs. Scalar.n-use T0 (Scalar.oFld 6 ((Syntax.field 0) ∷ []) u32 0 (Reads.fieldV Form.the-type Laws'6.the-laws 0)) 13 (Rows'.sc-here (Row.sInt Syntax.w32)) (Row.sInt Syntax.w32 .of)
 
   abbrev s4 : (bs : List.List Nat.ℕ) → Typed.Mo T5 → Typed.Mo T6
-  s4 = λ bs. Scalar.n-use T5 (Scalar.oFld 6 ((Syntax.field 1) ∷ []) Syntax.tyBool 4 (Reads.fieldV Form.the-type Laws'.the-laws 1)) 14 (Rows'.sc-here Row.sBool) (Row.sBool .of)
+  s4 = λ bs. Scalar.n-use T5 (Scalar.oFld 6 ((Syntax.field 1) ∷ []) Syntax.tyBool 4 (Reads.fieldV Form.the-type Laws'6.the-laws 1)) 14 (Rows'.sc-here Row.sBool) (Row.sBool .of)
 
   abbrev s5 : (bs : List.List Nat.ℕ) → Typed.Mo T6 → Typed.Mo T7
-  s5 = λ bs. Scalar.n-room T6 6 y13
+  s5 = λ bs. Scalar.n-room T6 6 y12
 
   abbrev s6 : (bs : List.List Nat.ℕ) → Typed.Both T7 T8
   s6 = λ bs. Call.callB ps·0 r·0 (claims· .0) (claims· .1) T7 (Bool.bAt 14 λ x. x, tt) 15 [] u64
@@ -1194,7 +1195,7 @@ module _ (claims· : Claims) where
   s43 = λ bs. Know.k-sl-known (Referent.fInt Syntax.w16) T46 3 1 y4 Row.off 0 λ x. x
 
   abbrev s45 : (bs : List.List Nat.ℕ) → Typed.Mo T46 → Typed.Mo T49
-  s45 = λ bs. Scalar.n-use T46 (Scalar.oFld 21 ((Syntax.field 0) ∷ []) Syntax.tyBool 0 (Reads.fieldV Passed.the-type Laws'5.the-laws 0)) 22 (Rows'.sc-here Row.sBool) (Row.sBool .of)
+  s45 = λ bs. Scalar.n-use T46 (Scalar.oFld 21 ((Syntax.field 0) ∷ []) Syntax.tyBool 0 (Reads.fieldV Passed.the-type Laws'8.the-laws 0)) 22 (Rows'.sc-here Row.sBool) (Row.sBool .of)
 
   abbrev s46 : (bs : List.List Nat.ℕ) → Typed.Asks T49 T50
   s46 = λ bs. Scalar.k-op1 T49 Syntax.bitNot (Scalar.oAt 22 Syntax.tyBool (Row.valS Row.sBool)) 25 (Rows'.sc-here Row.sBool) (Row.sBool .of)
@@ -1344,7 +1345,7 @@ module _ (claims· : Claims) where
   s94 = λ bs. Call.callB ps·8 r·8 (claims· .16) (claims· .17) T98 (record { pos = 1; ty = y3; ref = λ x. x }, (record { pos = 24; st = []; d = 0; at = λ x. x }, tt)) 39 (0 ∷ []) Syntax.tyBool
 
   abbrev s95 : (bs : List.List Nat.ℕ) → Typed.Mo T99 → Typed.Mo T101
-  s95 = λ bs. Scalar.n-room T99 24 y12
+  s95 = λ bs. Scalar.n-room T99 24 y13
 
   abbrev s96 : (bs : List.List Nat.ℕ) → Typed.Mo T101 → Typed.Mo T102
   s96 = λ bs. Scalar.n-room T101 16 y20
@@ -1410,12 +1411,12 @@ module _ (claims· : Claims) where
   module _ (Pre· : (κs : Lifetimes.Lfts 5) → Kinds.Dens κs ps → Type 0) (Post· : (κs : Lifetimes.Lfts 5) → (a : Kinds.Dens κs ps) → Kinds.Plain 5 ps r κs) where
     module _ (M : Type 1) where
       abbrev pub Closed : Type 2
-      Closed = (𝓤 : URA.URA M) (H : Wp.Heap 𝓤) (A : Atoms.Atoms 𝓤) (W : Kit.Given 𝓤 H A) (𝓣 : Wp.Tables 𝓤 H) (known0 : Plain.Known 𝓤 H A W 𝓣 0 ps·0 r·0 (claims· .0) (claims· .1) "image_map::width") (known1
-          : Plain.Known 𝓤 H A W 𝓣 0 ps·1 r·1 (claims· .2) (claims· .3) "pass_schedule::plan_at") (known2 : Plain.Known 𝓤 H A W 𝓣 0 ps·2 r·2 (claims· .4) (claims· .5) "read_pass::window_plan") (known3 : Plain.Known
-          𝓤 H A W 𝓣 1 ps·3 r·3 (claims· .6) (claims· .7) "colour_lines::enter") (known4 : Plain.Known 𝓤 H A W 𝓣 1 ps·4 r·4 (claims· .8) (claims· .9) "read_block::records::load_set") (known5 : Plain.Known 𝓤 H A W 𝓣 2
-          ps·5 r·5 (claims· .10) (claims· .11) "read_pass::pass") (known6 : Plain.Known 𝓤 H A W 𝓣 1 ps·6 r·6 (claims· .12) (claims· .13) "read_block::records::store_set") (known7 : Plain.Known 𝓤 H A W 𝓣 3 ps·7 r·7
-          (claims· .14) (claims· .15) "read_block::reading::emit_pass_at") (known8 : Plain.Known 𝓤 H A W 𝓣 1 ps·8 r·8 (claims· .16) (claims· .17) "bits::is_past") → Statement.Triple 𝓤 (Wp.WpFn 𝓤 H (𝓣 .C) (𝓣
-          .Λ) (Function.fnOf 5 ps r xs m hs body)) (Function.plainOf 𝓤 H A 5 ps r Pre· Post·)
+      Closed = (𝓤 : URA.URA M) (H : Wp.Heap 𝓤) (A : Atoms.Atoms 𝓤) (W : Kit.Given 𝓤 H A) (𝓣 : Wp.Tables 𝓤 H) (known0 : Plain.Known 𝓤 H A W 𝓣 0 ps·0 r·0 (claims· .0) (claims· .1) "image_map::width")
+          (known1 : Plain.Known 𝓤 H A W 𝓣 0 ps·1 r·1 (claims· .2) (claims· .3) "pass_schedule::plan_at") (known2 : Plain.Known 𝓤 H A W 𝓣 0 ps·2 r·2 (claims· .4) (claims· .5) "read_pass::window_plan")
+          (known3 : Plain.Known 𝓤 H A W 𝓣 1 ps·3 r·3 (claims· .6) (claims· .7) "colour_lines::enter") (known4 : Plain.Known 𝓤 H A W 𝓣 1 ps·4 r·4 (claims· .8) (claims· .9) "read_block::records::load_set")
+          (known5 : Plain.Known 𝓤 H A W 𝓣 2 ps·5 r·5 (claims· .10) (claims· .11) "read_pass::pass") (known6 : Plain.Known 𝓤 H A W 𝓣 1 ps·6 r·6 (claims· .12) (claims· .13) "read_block::records::store_set")
+          (known7 : Plain.Known 𝓤 H A W 𝓣 3 ps·7 r·7 (claims· .14) (claims· .15) "read_block::reading::emit_pass_at") (known8 : Plain.Known 𝓤 H A W 𝓣 1 ps·8 r·8 (claims· .16) (claims· .17)
+          "bits::is_past") → Statement.Triple 𝓤 (Wp.WpFn 𝓤 H (𝓣 .C) (𝓣 .Λ) (Function.fnOf 5 ps r xs m hs body)) (Function.plainOf 𝓤 H A 5 ps r Pre· Post·)
 
     module _ (Inv·0 : InvT-loop) (μ·0 : MeasureT-loop) where
       abbrev at0 : (bs : List.List Nat.ℕ) → Typed.TF T11 O4
@@ -1761,11 +1762,11 @@ module _ (claims· : Claims) where
 
       module _ {M : Type 1} (𝓤 : URA.URA M) (H : Wp.Heap 𝓤) (A : Atoms.Atoms 𝓤) (W : Kit.Given 𝓤 H A) (𝓣 : Wp.Tables 𝓤 H) where
         abbrev Knowns : Type 1
-        Knowns = Plain.Known 𝓤 H A W 𝓣 0 ps·0 r·0 (claims· .0) (claims· .1) "image_map::width" × Plain.Known 𝓤 H A W 𝓣 0 ps·1 r·1 (claims· .2) (claims· .3) "pass_schedule::plan_at" × Plain.Known 𝓤 H A W 𝓣 0 ps·2
-            r·2 (claims· .4) (claims· .5) "read_pass::window_plan" × Plain.Known 𝓤 H A W 𝓣 1 ps·3 r·3 (claims· .6) (claims· .7) "colour_lines::enter" × Plain.Known 𝓤 H A W 𝓣 1 ps·4 r·4 (claims· .8) (claims· .9)
-            "read_block::records::load_set" × Plain.Known 𝓤 H A W 𝓣 2 ps·5 r·5 (claims· .10) (claims· .11) "read_pass::pass" × Plain.Known 𝓤 H A W 𝓣 1 ps·6 r·6 (claims· .12) (claims· .13)
-            "read_block::records::store_set" × Plain.Known 𝓤 H A W 𝓣 3 ps·7 r·7 (claims· .14) (claims· .15) "read_block::reading::emit_pass_at" × Plain.Known 𝓤 H A W 𝓣 1 ps·8 r·8 (claims· .16) (claims· .17)
-            "bits::is_past"
+        Knowns = Plain.Known 𝓤 H A W 𝓣 0 ps·0 r·0 (claims· .0) (claims· .1) "image_map::width" × Plain.Known 𝓤 H A W 𝓣 0 ps·1 r·1 (claims· .2) (claims· .3) "pass_schedule::plan_at" × Plain.Known 𝓤 H A
+            W 𝓣 0 ps·2 r·2 (claims· .4) (claims· .5) "read_pass::window_plan" × Plain.Known 𝓤 H A W 𝓣 1 ps·3 r·3 (claims· .6) (claims· .7) "colour_lines::enter" × Plain.Known 𝓤 H A W 𝓣 1 ps·4 r·4 (claims·
+            .8) (claims· .9) "read_block::records::load_set" × Plain.Known 𝓤 H A W 𝓣 2 ps·5 r·5 (claims· .10) (claims· .11) "read_pass::pass" × Plain.Known 𝓤 H A W 𝓣 1 ps·6 r·6 (claims· .12) (claims· .13)
+            "read_block::records::store_set" × Plain.Known 𝓤 H A W 𝓣 3 ps·7 r·7 (claims· .14) (claims· .15) "read_block::reading::emit_pass_at" × Plain.Known 𝓤 H A W 𝓣 1 ps·8 r·8 (claims· .16) (claims·
+            .17) "bits::is_past"
 
       module _ (κs : Lifetimes.Lfts 5) (qs : Lifetimes.Shares 5) where
         abbrev k0 : Row.Life
@@ -2052,9 +2053,9 @@ module _ (claims· : Claims) where
               Syntax.w64))) d14
 
           d16 : Typed.Typed 𝓤 H A 𝓣 E (on T57 l9) b24 Δ5 (at16 bs)
-          d16 = Typed.s-seq 𝓤 H A W 𝓣 E (on T57 l9) (on T58 l9) b22 b23 Δ5 (Typed.pass T57 T58 (s53 bs)) (at15 bs) (Make.t-enum-make-wt 𝓤 H A W E 𝓣 Lined.the-type Laws''.the-laws Laws''.the-plain tt
+          d16 = Typed.s-seq 𝓤 H A W 𝓣 E (on T57 l9) (on T58 l9) b22 b23 Δ5 (Typed.pass T57 T58 (s53 bs)) (at15 bs) (Make.t-enum-make-wt 𝓤 H A W E 𝓣 Lined.the-type Laws'7.the-laws Laws'7.the-plain tt
               (on T57 l9) 0 ((Scalar.oInt Syntax.w8 1) ∷ []) (λ m. Lined.enum .make (Logic.inr (Logic.inl tt))) (Reads'.room-gone 𝓤 H A y21) (tt, tt) Path'.refl (λ m wa. Make.made-val Lined.the-type
-              Laws''.the-laws [] (Lined.enum .make (Logic.inr (Logic.inl tt))) tt (wa .1)) λ m wa. Make.made-is Lined.the-type Laws''.the-laws [] (Lined.enum .make (Logic.inr (Logic.inl tt))) tt (wa .1))
+              Laws'7.the-laws [] (Lined.enum .make (Logic.inr (Logic.inl tt))) tt (wa .1)) λ m wa. Make.made-is Lined.the-type Laws'7.the-laws [] (Lined.enum .make (Logic.inr (Logic.inl tt))) tt (wa .1))
               d15
 
           d17 : Typed.Typed 𝓤 H A 𝓣 E (on T56 l9) b24 Δ5 (at17 bs)
@@ -2129,8 +2130,8 @@ module _ (claims· : Claims) where
           d35 = Typed.g-pre 𝓤 H A W 𝓣 E G86 G87 b37 Δ3 (Typed.pass T86 T87 (s82 bs)) (at34 bs) (Scalar.g-room 𝓤 H A W E G86 36 y17 (Shared.room-sslice 𝓤 H A W n16 y7 9)) d34
 
           d36 : Typed.Typed 𝓤 H A 𝓣 E G85 (Syntax.seq b36 b37) Δ3 (at36 bs)
-          d36 = Typed.s-seq 𝓤 H A W 𝓣 E G85 G86 b36 b37 Δ3 (Typed.both (s81 bs)) (at35 bs) (Plain.t-call-plain 𝓤 H A W 𝓣 3 ps·7 r·7 (claims· .14) (claims· .15) "read_block::reading::emit_pass_at" (known
-              .7) E (λ pos β. β) G85 (
+          d36 = Typed.s-seq 𝓤 H A W 𝓣 E G85 G86 b36 b37 Δ3 (Typed.both (s81 bs)) (at35 bs) (Plain.t-call-plain 𝓤 H A W 𝓣 3 ps·7 r·7 (claims· .14) (claims· .15) "read_block::reading::emit_pass_at"
+              (known .7) E (λ pos β. β) G85 (
                 record { pos = 36; ty = y7; ref = λ x. x },
                 (
                   record { pos = 38; ty = y9; ref = λ x. x },
@@ -2165,7 +2166,7 @@ module _ (claims· : Claims) where
                         (
                           (Array.arr-yields 𝓤 H A W (Array.eInt Syntax.w8) (Array.eInt-laws Syntax.w8) 36, Path'.refl),
                           (
-                            (Values.struct-copied 𝓤 H A W Part.the-type Laws'4.the-laws Laws'4.the-copy, Path'.refl),
+                            (Values.struct-copied 𝓤 H A W Part.the-type Laws''.the-laws Laws''.the-copy, Path'.refl),
                             ((Scalar.reads-sc 𝓤 H A W (Row.sInt Syntax.w64), Path'.refl), ((Scalar.reads-sc 𝓤 H A W (Row.sInt Syntax.w64), Path'.refl), ((Scalar.reads-sc 𝓤 H A W Row.sBool, Path'.refl), tt))),
                           ),
                         ),
@@ -2210,7 +2211,7 @@ module _ (claims· : Claims) where
 
           d44 : Typed.Typed 𝓤 H A 𝓣 E (on T76 l9) b43 Δ3 (at44 bs)
           d44 = Typed.s-seq 𝓤 H A W 𝓣 E (on T76 l9) (on T78 l9) b31 b42 Δ3 (Typed.both (s73 bs)) (at43 bs) (WayStmt.t-way-copy-out 𝓤 H A W E 𝓣 (Declared'.row Place.the-type) Path'.refl (Copies.cStruct
-              Place.the-type Laws'3.the-laws Laws'3.the-copy .copy 𝓤 H A W) (λ ρ. Unit) (on T76 l9) (Row.out 21 ((on T76 l9) .locals)) (λ u. Row.drop 21 ((on T76 l9) .locals) u) ((on T76 l9) .slots) 21 (λ
+              Place.the-type Laws'.the-laws Laws'.the-copy .copy 𝓤 H A W) (λ ρ. Unit) (on T76 l9) (Row.out 21 ((on T76 l9) .locals)) (λ u. Row.drop 21 ((on T76 l9) .locals) u) ((on T76 l9) .slots) 21 (λ
               t. (Syntax.field 1) ∷ t) y20 y20 16 (Rows'.whole (Declared'.row Place.the-type)) (λ x. x) (λ u. At.getAt (Passed.the-type .parts) 1 (Passed.struct .as-values (u .1 .1 .1 .1 .1 .1 .1 .1 .1 .1
               .1 .1 .1 .1 .1 .1 .1 .1 .1 .1 .1 .0))) (λ u. (
                 Row.hd 0 (Row.tl (Row.tl (Row.tl (Row.tl (Row.tl (Row.tl (Row.tl (Row.tl (Row.tl (Row.tl (Row.tl (Row.tl (Row.tl (Row.tl (Row.tl (Row.tl (Row.tl (Row.tl (Row.tl (Row.tl (Row.tl
@@ -2235,7 +2236,7 @@ module _ (claims· : Claims) where
                 Row.hd 0 (Row.tl (Row.tl (Row.tl (Row.tl (Row.tl (Row.tl (Row.tl (Row.tl (Row.tl (Row.tl (Row.tl (Row.tl (Row.tl (Row.tl (Row.tl (Row.tl (Row.tl (Row.tl (Row.tl (Row.tl (Row.tl
                     bs))))))))))))))))))))),
                 0,
-              ) (Behind.look-at 𝓤 H A W q Passed.the-type Laws'5.the-laws 1 8 Path'.refl Path'.refl (
+              ) (Behind.look-at 𝓤 H A W q Passed.the-type Laws'8.the-laws 1 8 Path'.refl Path'.refl (
                 Row.hd 0 (Row.tl (Row.tl (Row.tl (Row.tl (Row.tl (Row.tl (Row.tl (Row.tl (Row.tl (Row.tl (Row.tl (Row.tl (Row.tl (Row.tl (Row.tl (Row.tl (Row.tl (Row.tl (Row.tl (Row.tl (Row.tl
                     bs))))))))))))))))))))),
                 0,
@@ -2265,14 +2266,14 @@ module _ (claims· : Claims) where
               Path'.refl)) d49
 
           d51 : Typed.Typed 𝓤 H A 𝓣 E G70 (Syntax.seq b30 b43) Δ3 (at51 bs)
-          d51 = Typed.s-seq 𝓤 H A W 𝓣 E G70 G71 b30 b43 Δ3 (Typed.both (s66 bs)) (at50 bs) (Plain.t-call-plain 𝓤 H A W 𝓣 1 ps·6 r·6 (claims· .12) (claims· .13) "read_block::records::store_set" (known .6) E
-              (λ pos β. β) G70
+          d51 = Typed.s-seq 𝓤 H A W 𝓣 E G70 G71 b30 b43 Δ3 (Typed.both (s66 bs)) (at50 bs) (Plain.t-call-plain 𝓤 H A W 𝓣 1 ps·6 r·6 (claims· .12) (claims· .13) "read_block::records::store_set" (known
+              .6) E (λ pos β. β) G70
               (record { pos = 34; ty = y8; ref = λ x. x }, (Num.vFld 18 ((Syntax.field 2) ∷ []) 16 λ x. Plan.struct .as-values x .1 .1 .0, (record { pos = 23; st = []; d = 0; at = λ x. x }, tt))) 26 (8 ∷
               []) (Call.sub-id 𝓤 H A W (G70 .slots)) (
                 Reads'.as-is 𝓤 H A (Mut.mslice (Element.type) y8 8),
                 Mut.reads-mslice 𝓤 H A W (Element.type) y8 8,
                 Path'.refl,
-                ((Reads.reads-field 𝓤 H A W Plan.the-type Laws'6.the-laws 2 u64 16 Path'.refl, Path'.refl), ((Values.struct-copied 𝓤 H A W Set.the-type Laws'8.the-laws Laws'8.the-copy, Path'.refl), tt)),
+                ((Reads.reads-field 𝓤 H A W Plan.the-type Laws'3.the-laws 2 u64 16 Path'.refl, Path'.refl), ((Values.struct-copied 𝓤 H A W Set.the-type Laws'5.the-laws Laws'5.the-copy, Path'.refl), tt)),
               )
               (Reads'.room-gone 𝓤 H A Syntax.tyUnit) (tt, tt) Path'.refl) d50
 
@@ -2292,7 +2293,7 @@ module _ (claims· : Claims) where
 
           d55 : Typed.Typed 𝓤 H A 𝓣 E (on T49 l9) (Syntax.seq b27 b46) Δ3 (at55 bs)
           d55 = Typed.s-seq 𝓤 H A W 𝓣 E (on T49 l9) (on T67 l9) b27 b46 Δ3 (Typed.both (s62 bs)) (at53 bs) (WayStmt.t-way-copy-out 𝓤 H A W E 𝓣 (Declared'.row Set.the-type) Path'.refl (Copies.cStruct
-              Set.the-type Laws'8.the-laws Laws'8.the-copy .copy 𝓤 H A W) (λ ρ. Unit) (on T49 l9) (Row.out 21 ((on T49 l9) .locals)) (λ u. Row.drop 21 ((on T49 l9) .locals) u) ((on T49 l9) .slots) 21 (λ
+              Set.the-type Laws'5.the-laws Laws'5.the-copy .copy 𝓤 H A W) (λ ρ. Unit) (on T49 l9) (Row.out 21 ((on T49 l9) .locals)) (λ u. Row.drop 21 ((on T49 l9) .locals) u) ((on T49 l9) .slots) 21 (λ
               t. (Syntax.field 2) ∷ t) y16 y16 23 (Rows'.whole (Declared'.row Set.the-type)) (λ x. x) (λ u. At.getAt (Passed.the-type .parts) 2 (Passed.struct .as-values (u .1 .1 .1 .1 .1 .1 .1 .1 .1 .1
               .1 .1 .1 .1 .1 .1 .1 .1 .1 .1 .1 .0))) (λ u. (
                 Row.hd 0 (Row.tl (Row.tl (Row.tl (Row.tl (Row.tl (Row.tl (Row.tl (Row.tl (Row.tl (Row.tl (Row.tl (Row.tl (Row.tl (Row.tl (Row.tl (Row.tl (Row.tl (Row.tl (Row.tl (Row.tl (Row.tl
@@ -2317,7 +2318,7 @@ module _ (claims· : Claims) where
                 Row.hd 0 (Row.tl (Row.tl (Row.tl (Row.tl (Row.tl (Row.tl (Row.tl (Row.tl (Row.tl (Row.tl (Row.tl (Row.tl (Row.tl (Row.tl (Row.tl (Row.tl (Row.tl (Row.tl (Row.tl (Row.tl (Row.tl
                     bs))))))))))))))))))))),
                 0,
-              ) (Behind.look-at 𝓤 H A W q Passed.the-type Laws'5.the-laws 2 32 Path'.refl Path'.refl (
+              ) (Behind.look-at 𝓤 H A W q Passed.the-type Laws'8.the-laws 2 32 Path'.refl Path'.refl (
                 Row.hd 0 (Row.tl (Row.tl (Row.tl (Row.tl (Row.tl (Row.tl (Row.tl (Row.tl (Row.tl (Row.tl (Row.tl (Row.tl (Row.tl (Row.tl (Row.tl (Row.tl (Row.tl (Row.tl (Row.tl (Row.tl (Row.tl
                     bs))))))))))))))))))))),
                 0,
@@ -2335,8 +2336,8 @@ module _ (claims· : Claims) where
 
           d58 : Typed.Typed 𝓤 H A 𝓣 E (on T46 l9) b50 Δ3 (at58 bs)
           d58 = Typed.s-seq 𝓤 H A W 𝓣 E (on T46 l9) (on T49 l9) b20 b49 Δ3 (Typed.pass T46 T49 (s45 bs)) (at57 bs) (Scalar.t-use 𝓤 H A W E 𝓣 (on T46 l9) (Scalar.oFld 21 ((Syntax.field 0) ∷ [])
-              Syntax.tyBool 0 (Reads.fieldV Passed.the-type Laws'5.the-laws 0)) 22 (Rows'.sc-here Row.sBool) Syntax.tyBool (Row.valS Row.sBool) (Row.sBool .of)
-              (Reads.reads-field 𝓤 H A W Passed.the-type Laws'5.the-laws 0 Syntax.tyBool 0 Path'.refl, Path'.refl) (Reads'.room-gone 𝓤 H A Syntax.tyBool) (Scalar.holds-sc 𝓤 H A W Row.sBool) Path'.refl (λ
+              Syntax.tyBool 0 (Reads.fieldV Passed.the-type Laws'8.the-laws 0)) 22 (Rows'.sc-here Row.sBool) Syntax.tyBool (Row.valS Row.sBool) (Row.sBool .of)
+              (Reads.reads-field 𝓤 H A W Passed.the-type Laws'8.the-laws 0 Syntax.tyBool 0 Path'.refl, Path'.refl) (Reads'.room-gone 𝓤 H A Syntax.tyBool) (Scalar.holds-sc 𝓤 H A W Row.sBool) Path'.refl (λ
               u. Path'.refl) λ u. tt) d57
 
           d59 : Typed.Typed 𝓤 H A 𝓣 E (on T46 l7) b50 Δ3 (at58 bs)
@@ -2366,8 +2367,8 @@ module _ (claims· : Claims) where
               Path'.refl)) d64
 
           d66 : Typed.Typed 𝓤 H A 𝓣 E G40 (Syntax.seq b19 b50) Δ3 (at66 bs)
-          d66 = Typed.s-seq 𝓤 H A W 𝓣 E G40 G41 b19 b50 Δ3 (Typed.both (s37 bs)) (at65 bs) (Plain.t-call-plain 𝓤 H A W 𝓣 2 ps·5 r·5 (claims· .10) (claims· .11) "read_pass::pass" (known .5) E (λ pos β. β)
-              G40 (
+          d66 = Typed.s-seq 𝓤 H A W 𝓣 E G40 G41 b19 b50 Δ3 (Typed.both (s37 bs)) (at65 bs) (Plain.t-call-plain 𝓤 H A W 𝓣 2 ps·5 r·5 (claims· .10) (claims· .11) "read_pass::pass" (known .5) E (λ pos β.
+              β) G40 (
                 record { pos = 1; ty = y3; ref = λ x. x },
                 (
                   record { pos = 16; st = []; d = 0; at = λ x. x },
@@ -2385,18 +2386,18 @@ module _ (claims· : Claims) where
                 Shared.reads-sslice 𝓤 H A W n8 y3 0,
                 Path'.refl,
                 (
-                  (Values.struct-copied 𝓤 H A W Place.the-type Laws'3.the-laws Laws'3.the-copy, Path'.refl),
+                  (Values.struct-copied 𝓤 H A W Place.the-type Laws'.the-laws Laws'.the-copy, Path'.refl),
                   (
                     Reads'.as-is 𝓤 H A (Mut.mslice n16 y9 7),
                     Mut.reads-mslice 𝓤 H A W n16 y9 7,
                     Path'.refl,
                     (
-                      (Values.struct-copied 𝓤 H A W Set.the-type Laws'8.the-laws Laws'8.the-copy, Path'.refl),
+                      (Values.struct-copied 𝓤 H A W Set.the-type Laws'5.the-laws Laws'5.the-copy, Path'.refl),
                       (
                         (Scalar.reads-sc 𝓤 H A W (Row.sInt Syntax.w64), Path'.refl),
                         (
-                          (Values.struct-copied 𝓤 H A W Plan.the-type Laws'6.the-laws Laws'6.the-copy, Path'.refl),
-                          ((Values.struct-copied 𝓤 H A W Quantisers.the-type Laws'7.the-laws Laws'7.the-copy, Path'.refl), ((Scalar.reads-sc 𝓤 H A W (Row.sInt Syntax.w32), Path'.refl), tt)),
+                          (Values.struct-copied 𝓤 H A W Plan.the-type Laws'3.the-laws Laws'3.the-copy, Path'.refl),
+                          ((Values.struct-copied 𝓤 H A W Quantisers.the-type Laws'4.the-laws Laws'4.the-copy, Path'.refl), ((Scalar.reads-sc 𝓤 H A W (Row.sInt Syntax.w32), Path'.refl), tt)),
                         ),
                       ),
                     ),
@@ -2430,13 +2431,13 @@ module _ (claims· : Claims) where
           d72 = Typed.g-pre 𝓤 H A W 𝓣 E G34 G35 b53 Δ3 (λ Ψ. Ψ) (at71 bs) (Lifetime.g-end 𝓤 H A W E G34 6 Path'.refl) d71
 
           d73 : Typed.Typed 𝓤 H A 𝓣 E G33 (Syntax.seq b16 b53) Δ3 (at73 bs)
-          d73 = Typed.s-seq 𝓤 H A W 𝓣 E G33 G34 b16 b53 Δ3 (Typed.both (s30 bs)) (at71 bs) (Plain.t-call-plain 𝓤 H A W 𝓣 1 ps·4 r·4 (claims· .8) (claims· .9) "read_block::records::load_set" (known .4) E (λ
-              pos β. β) G33 (record { pos = 30; ty = y8; ref = λ x. x }, (Num.vFld 18 ((Syntax.field 2) ∷ []) 16 λ x. Plan.struct .as-values x .1 .1 .0, tt)) 20 (6 ∷ []) (Call.sub-id 𝓤 H A W (G33
+          d73 = Typed.s-seq 𝓤 H A W 𝓣 E G33 G34 b16 b53 Δ3 (Typed.both (s30 bs)) (at71 bs) (Plain.t-call-plain 𝓤 H A W 𝓣 1 ps·4 r·4 (claims· .8) (claims· .9) "read_block::records::load_set" (known .4)
+              E (λ pos β. β) G33 (record { pos = 30; ty = y8; ref = λ x. x }, (Num.vFld 18 ((Syntax.field 2) ∷ []) 16 λ x. Plan.struct .as-values x .1 .1 .0, tt)) 20 (6 ∷ []) (Call.sub-id 𝓤 H A W (G33
               .slots)) (
                 Reads'.as-is 𝓤 H A (Mut.mslice (Element.type) y8 6),
                 Mut.reads-mslice 𝓤 H A W (Element.type) y8 6,
                 Path'.refl,
-                ((Reads.reads-field 𝓤 H A W Plan.the-type Laws'6.the-laws 2 u64 16 Path'.refl, Path'.refl), tt),
+                ((Reads.reads-field 𝓤 H A W Plan.the-type Laws'3.the-laws 2 u64 16 Path'.refl, Path'.refl), tt),
               ) (Reads'.room-gone 𝓤 H A y16) (tt, tt) Path'.refl) d72
 
           d74 : Typed.Typed 𝓤 H A 𝓣 E G32 (Syntax.seq b15 (Syntax.seq b16 b53)) Δ3 (at74 bs)
@@ -2471,8 +2472,8 @@ module _ (claims· : Claims) where
           d81 = Typed.g-pre 𝓤 H A W 𝓣 E G25 G26 b56 Δ3 (Typed.pass T25 T26 (s22 bs)) (at79 bs) (Scalar.g-room 𝓤 H A W E G25 26 Syntax.tyUnit (Scalar.room-sc 𝓤 H A W Row.sUnit)) d80
 
           d82 : Typed.Typed 𝓤 H A 𝓣 E G24 (Syntax.seq b13 b56) Δ3 (at82 bs)
-          d82 = Typed.s-seq 𝓤 H A W 𝓣 E G24 G25 b13 b56 Δ3 (Typed.both (s21 bs)) (at81 bs) (Plain.t-call-plain 𝓤 H A W 𝓣 1 ps·3 r·3 (claims· .6) (claims· .7) "colour_lines::enter" (known .3) E (λ pos β. β)
-              G24 (
+          d82 = Typed.s-seq 𝓤 H A W 𝓣 E G24 G25 b13 b56 Δ3 (Typed.both (s21 bs)) (at81 bs) (Plain.t-call-plain 𝓤 H A W 𝓣 1 ps·3 r·3 (claims· .6) (claims· .7) "colour_lines::enter" (known .3) E (λ pos
+              β. β) G24 (
                 record { pos = 28; ty = y9; ref = λ x. x },
                 (
                   Num.vAt 15 λ x. x,
@@ -2486,8 +2487,8 @@ module _ (claims· : Claims) where
                 (
                   (Scalar.reads-sc 𝓤 H A W (Row.sInt Syntax.w64), Path'.refl),
                   (
-                    (Reads.reads-field 𝓤 H A W Plan.the-type Laws'6.the-laws 0 u64 0 Path'.refl, Path'.refl),
-                    ((Reads.reads-field 𝓤 H A W Plan.the-type Laws'6.the-laws 1 u64 8 Path'.refl, Path'.refl), ((Scalar.reads-sc 𝓤 H A W Row.sBool, Path'.refl), tt)),
+                    (Reads.reads-field 𝓤 H A W Plan.the-type Laws'3.the-laws 0 u64 0 Path'.refl, Path'.refl),
+                    ((Reads.reads-field 𝓤 H A W Plan.the-type Laws'3.the-laws 1 u64 8 Path'.refl, Path'.refl), ((Scalar.reads-sc 𝓤 H A W Row.sBool, Path'.refl), tt)),
                   ),
                 ),
               ) (Reads'.room-gone 𝓤 H A Syntax.tyUnit)
@@ -2508,9 +2509,9 @@ module _ (claims· : Claims) where
               d84
 
           d86 : Typed.Typed 𝓤 H A 𝓣 E (on T20 l9) (Syntax.seq b10 b59) Δ3 (at86 bs)
-          d86 = Typed.s-seq 𝓤 H A W 𝓣 E (on T20 l9) (on T21 l9) b10 b59 Δ3 (Typed.both (s17 bs)) (at84 bs) (Plain.t-call-plain 𝓤 H A W 𝓣 0 ps·2 r·2 (claims· .4) (claims· .5) "read_pass::window_plan" (known
-              .2) E (λ pos β. β) (on T20 l9) (record { pos = 18; st = []; d = 0; at = λ x. x }, (Bool.bAt 12 λ x. x, tt)) 19 [] (Call.sub-id 𝓤 H A W ((on T20 l9) .slots))
-              ((Values.struct-copied 𝓤 H A W Plan.the-type Laws'6.the-laws Laws'6.the-copy, Path'.refl), ((Scalar.reads-sc 𝓤 H A W Row.sBool, Path'.refl), tt)) (Reads'.room-gone 𝓤 H A y11) tt Path'.refl)
+          d86 = Typed.s-seq 𝓤 H A W 𝓣 E (on T20 l9) (on T21 l9) b10 b59 Δ3 (Typed.both (s17 bs)) (at84 bs) (Plain.t-call-plain 𝓤 H A W 𝓣 0 ps·2 r·2 (claims· .4) (claims· .5) "read_pass::window_plan"
+              (known .2) E (λ pos β. β) (on T20 l9) (record { pos = 18; st = []; d = 0; at = λ x. x }, (Bool.bAt 12 λ x. x, tt)) 19 [] (Call.sub-id 𝓤 H A W ((on T20 l9) .slots))
+              ((Values.struct-copied 𝓤 H A W Plan.the-type Laws'3.the-laws Laws'3.the-copy, Path'.refl), ((Scalar.reads-sc 𝓤 H A W Row.sBool, Path'.refl), tt)) (Reads'.room-gone 𝓤 H A y11) tt Path'.refl)
               d85
 
           d87 : Typed.Typed 𝓤 H A 𝓣 E (on T11 l9) (Syntax.seq b9 (Syntax.seq b10 b59)) Δ3 (at87 bs)
@@ -2565,9 +2566,9 @@ module _ (claims· : Claims) where
               Syntax.w64))) d97
 
           d99 : Typed.Typed 𝓤 H A 𝓣 E (on T103 l9) b70 Δ6 (at99 bs)
-          d99 = Typed.s-seq 𝓤 H A W 𝓣 E (on T103 l9) (on T104 l9) b68 b69 Δ6 (Typed.pass T103 T104 (s98 bs)) (at98 bs) (Make.t-enum-make-wt 𝓤 H A W E 𝓣 Lined.the-type Laws''.the-laws Laws''.the-plain
+          d99 = Typed.s-seq 𝓤 H A W 𝓣 E (on T103 l9) (on T104 l9) b68 b69 Δ6 (Typed.pass T103 T104 (s98 bs)) (at98 bs) (Make.t-enum-make-wt 𝓤 H A W E 𝓣 Lined.the-type Laws'7.the-laws Laws'7.the-plain
               tt (on T103 l9) 0 ((Scalar.oInt Syntax.w8 1) ∷ []) (λ m. Lined.enum .make (Logic.inr (Logic.inl tt))) (Reads'.room-gone 𝓤 H A y21) (tt, tt) Path'.refl (λ m wa. Make.made-val Lined.the-type
-              Laws''.the-laws [] (Lined.enum .make (Logic.inr (Logic.inl tt))) tt (wa .1)) λ m wa. Make.made-is Lined.the-type Laws''.the-laws [] (Lined.enum .make (Logic.inr (Logic.inl tt))) tt (wa .1))
+              Laws'7.the-laws [] (Lined.enum .make (Logic.inr (Logic.inl tt))) tt (wa .1)) λ m wa. Make.made-is Lined.the-type Laws'7.the-laws [] (Lined.enum .make (Logic.inr (Logic.inl tt))) tt (wa .1))
               d98
 
           d100 : Typed.Typed 𝓤 H A 𝓣 E (on T102 l9) b70 Δ6 (at100 bs)
@@ -2589,8 +2590,8 @@ module _ (claims· : Claims) where
           d104 = Scalar.t-cond 𝓤 H A W E 𝓣 (on T101 l9) 39 (λ x. x) b70 Syntax.skip Δ6 (at101 bs) (at103 bs) (Scalar.reads-sc 𝓤 H A W Row.sBool) Path'.refl d101 d103
 
           d105 : Typed.Typed 𝓤 H A 𝓣 E (on T99 l9) b72 Δ6 (at105 bs)
-          d105 = Typed.g-pre 𝓤 H A W 𝓣 E (on T99 l9) (on T101 l9) b72 Δ6 (Typed.pass T99 T101 (s95 bs)) (at104 bs) (Scalar.g-room 𝓤 H A W E (on T99 l9) 24 y12 (Local.room-whole 𝓤 H A W (Declared'.row
-              BitPosition.the-type) y12 Path'.refl)) d104
+          d105 = Typed.g-pre 𝓤 H A W 𝓣 E (on T99 l9) (on T101 l9) b72 Δ6 (Typed.pass T99 T101 (s95 bs)) (at104 bs) (Scalar.g-room 𝓤 H A W E (on T99 l9) 24 y13 (Local.room-whole 𝓤 H A W (Declared'.row
+              BitPosition.the-type) y13 Path'.refl)) d104
 
           d106 : Typed.Typed 𝓤 H A 𝓣 E (on T1 l9) b74 Δ0 (at106 bs)
           d106 = Typed.t-return 𝓤 H A W 𝓣 E Δ0 tt
@@ -2624,18 +2625,18 @@ module _ (claims· : Claims) where
               Syntax.w32))) d112
 
           d114 : Typed.Typed 𝓤 H A 𝓣 E (on T12 l9) (Syntax.seq b73 b74) Δ0 (at114 bs)
-          d114 = Typed.s-seq 𝓤 H A W 𝓣 E (on T12 l9) (on T112 l9) b73 b74 Δ0 (Typed.pass T12 T112 (s106 bs)) (at113 bs) (Make.t-enum-make-wt 𝓤 H A W E 𝓣 Lined.the-type Laws''.the-laws Laws''.the-plain
-              tt (on T12 l9) 0 ((Scalar.oInt Syntax.w8 0) ∷ (Scalar.oAt 16 y20 (Laws'10.val Place.the-type Laws'3.the-laws)) ∷ []) (λ m. Lined.enum .make (Logic.inl
-              (m .1 .1 .1 .1 .1 .1 .1 .1 .1 .1 .1 .1 .1 .1 .1 .1 .0, tt))) (Reads'.room-gone 𝓤 H A y21) (tt, ((Reads.reads-struct 𝓤 H A W Place.the-type Laws'3.the-laws, Path'.refl), tt)) Path'.refl (λ m
-              wa. Make.made-val Lined.the-type Laws''.the-laws ((Laws'10.val Place.the-type Laws'3.the-laws (m .1 .1 .1 .1 .1 .1 .1 .1 .1 .1 .1 .1 .1 .1 .1 .1 .0)) ∷ []) (Lined.enum .make (Logic.inl
+          d114 = Typed.s-seq 𝓤 H A W 𝓣 E (on T12 l9) (on T112 l9) b73 b74 Δ0 (Typed.pass T12 T112 (s106 bs)) (at113 bs) (Make.t-enum-make-wt 𝓤 H A W E 𝓣 Lined.the-type Laws'7.the-laws Laws'7.the-plain
+              tt (on T12 l9) 0 ((Scalar.oInt Syntax.w8 0) ∷ (Scalar.oAt 16 y20 (Laws'10.val Place.the-type Laws'.the-laws)) ∷ []) (λ m. Lined.enum .make (Logic.inl
+              (m .1 .1 .1 .1 .1 .1 .1 .1 .1 .1 .1 .1 .1 .1 .1 .1 .0, tt))) (Reads'.room-gone 𝓤 H A y21) (tt, ((Reads.reads-struct 𝓤 H A W Place.the-type Laws'.the-laws, Path'.refl), tt)) Path'.refl (λ m
+              wa. Make.made-val Lined.the-type Laws'7.the-laws ((Laws'10.val Place.the-type Laws'.the-laws (m .1 .1 .1 .1 .1 .1 .1 .1 .1 .1 .1 .1 .1 .1 .1 .1 .0)) ∷ []) (Lined.enum .make (Logic.inl
               (m .1 .1 .1 .1 .1 .1 .1 .1 .1 .1 .1 .1 .1 .1 .1 .1 .0, tt))) (
-                Signed.made-wt Place.the-field Laws'3.the-field-laws (Make'.struct-wt Place.the-type Laws'3.the-laws
+                Signed.made-wt Place.the-field Laws'.the-field-laws (Make'.struct-wt Place.the-type Laws'.the-laws
                     (Make'.struct-wt BitPosition.the-type Laws.the-laws (Make'.u64-wt, tt), (Make'.bool-wt, (Make'.u64-wt, tt)))) (Place.the-type .to (m .1 .1 .1 .1 .1 .1 .1 .1 .1 .1 .1 .1 .1 .1 .1 .1 .0)),
                 tt,
               )
-              (wa .1)) λ m wa. Make.made-is Lined.the-type Laws''.the-laws ((Laws'10.val Place.the-type Laws'3.the-laws (m .1 .1 .1 .1 .1 .1 .1 .1 .1 .1 .1 .1 .1 .1 .1 .1 .0)) ∷ []) (Lined.enum .make
+              (wa .1)) λ m wa. Make.made-is Lined.the-type Laws'7.the-laws ((Laws'10.val Place.the-type Laws'.the-laws (m .1 .1 .1 .1 .1 .1 .1 .1 .1 .1 .1 .1 .1 .1 .1 .1 .0)) ∷ []) (Lined.enum .make
               (Logic.inl (m .1 .1 .1 .1 .1 .1 .1 .1 .1 .1 .1 .1 .1 .1 .1 .1 .0, tt))) (
-                Signed.made-wt Place.the-field Laws'3.the-field-laws (Make'.struct-wt Place.the-type Laws'3.the-laws
+                Signed.made-wt Place.the-field Laws'.the-field-laws (Make'.struct-wt Place.the-type Laws'.the-laws
                     (Make'.struct-wt BitPosition.the-type Laws.the-laws (Make'.u64-wt, tt), (Make'.bool-wt, (Make'.u64-wt, tt)))) (Place.the-type .to (m .1 .1 .1 .1 .1 .1 .1 .1 .1 .1 .1 .1 .1 .1 .1 .1 .0)),
                 tt,
               )
@@ -2654,12 +2655,12 @@ module _ (claims· : Claims) where
           d117 : Typed.Typed 𝓤 H A 𝓣 E (on T12 l9) (Syntax.seq b66 b77) Δ0 (at117 bs)
           d117 = Typed.s-seq 𝓤 H A W 𝓣 E (on T12 l9) (on T98 l9) b66 b77 Δ0 (Typed.both (s93 bs)) (at116 bs) (WayStmt.t-way-copy-out 𝓤 H A W E 𝓣 (Declared'.row BitPosition.the-type) Path'.refl
               (Copies.cStruct BitPosition.the-type Laws.the-laws Laws.the-copy .copy 𝓤 H A W) (λ ρ. Unit) (on T12 l9) (Row.out 16 ((on T12 l9) .locals)) (λ u. Row.drop 16 ((on T12 l9) .locals) u) ((on T12
-              l9) .slots) 16 (λ t. (Syntax.field 0) ∷ t) y12 y12 24 (Rows'.whole (Declared'.row BitPosition.the-type)) (λ x. x) (λ u. At.getAt (Place.the-type .parts) 0 (Place.struct .as-values (u .1 .1
+              l9) .slots) 16 (λ t. (Syntax.field 0) ∷ t) y13 y13 24 (Rows'.whole (Declared'.row BitPosition.the-type)) (λ x. x) (λ u. At.getAt (Place.the-type .parts) 0 (Place.struct .as-values (u .1 .1
               .1 .1 .1 .1 .1 .1 .1 .1 .1 .1 .1 .1 .1 .1 .0))) (λ u.
               (Row.hd 0 (Row.tl (Row.tl (Row.tl (Row.tl (Row.tl (Row.tl (Row.tl (Row.tl (Row.tl (Row.tl (Row.tl (Row.tl (Row.tl (Row.tl (Row.tl (Row.tl bs)))))))))))))))), Nat._+_ 0 0)) (λ T′. record
               { locals = Row.setRow 16 (16, Rows'.whole (Declared'.row Place.the-type)) T′; slots = (on T12 l9) .slots }) (λ u T′ m′. Row.set 16 (16, Rows'.whole (Declared'.row Place.the-type)) (u .1 .1
               .1 .1 .1 .1 .1 .1 .1 .1 .1 .1 .1 .1 .1 .1 .0) T′ m′) (λ u. Unit) (λ x. Unit) (Own.told-none 𝓤 H A ((on T12 l9) .slots)) (DerefMove.learns-nothing 𝓤 H A (Declared'.row BitPosition.the-type))
-              (λ ρ told u asked. Way'.w-partˢ 𝓤 H A W E (Declared'.row Place.the-type) (Declared'.row BitPosition.the-type) y20 y12 0 0 (u .1 .1 .1 .1 .1 .1 .1 .1 .1 .1 .1 .1 .1 .1 .1 .1 .0) (At.getAt
+              (λ ρ told u asked. Way'.w-partˢ 𝓤 H A W E (Declared'.row Place.the-type) (Declared'.row BitPosition.the-type) y20 y13 0 0 (u .1 .1 .1 .1 .1 .1 .1 .1 .1 .1 .1 .1 .1 .1 .1 .1 .0) (At.getAt
               (Place.the-type .parts) 0 (Place.struct .as-values (u .1 .1 .1 .1 .1 .1 .1 .1 .1 .1 .1 .1 .1 .1 .1 .1 .0)))
               (Row.hd 0 (Row.tl (Row.tl (Row.tl (Row.tl (Row.tl (Row.tl (Row.tl (Row.tl (Row.tl (Row.tl (Row.tl (Row.tl (Row.tl (Row.tl (Row.tl (Row.tl bs)))))))))))))))), 0) (Way.w-look 𝓤 H A W E
               (Way.w-local 𝓤 H A W E (on T12 l9) ρ u ((on T12 l9) .slots) 16 (Declared'.row Place.the-type) (Rows'.whole (Declared'.row Place.the-type)) (λ x. x) (λ x. x) (u .1 .1 .1 .1 .1 .1 .1 .1 .1 .1
@@ -2670,9 +2671,9 @@ module _ (claims· : Claims) where
               .1 .1 .1 .1 .1 .1 .1 .1 .1 .1 .1 .0) (At.getAt (Place.the-type .parts) 0 (Place.struct .as-values (u .1 .1 .1 .1 .1 .1 .1 .1 .1 .1 .1 .1 .1 .1 .1 .1 .0))) (At.getAt (Place.the-type .parts) 0
               (Place.struct .as-values (u .1 .1 .1 .1 .1 .1 .1 .1 .1 .1 .1 .1 .1 .1 .1 .1 .0)))
               (Row.hd 0 (Row.tl (Row.tl (Row.tl (Row.tl (Row.tl (Row.tl (Row.tl (Row.tl (Row.tl (Row.tl (Row.tl (Row.tl (Row.tl (Row.tl (Row.tl (Row.tl bs)))))))))))))))), 0) (Behind.look-at 𝓤 H A W q
-              Place.the-type Laws'3.the-laws 0 0 Path'.refl Path'.refl
+              Place.the-type Laws'.the-laws 0 0 Path'.refl Path'.refl
               (Row.hd 0 (Row.tl (Row.tl (Row.tl (Row.tl (Row.tl (Row.tl (Row.tl (Row.tl (Row.tl (Row.tl (Row.tl (Row.tl (Row.tl (Row.tl (Row.tl (Row.tl bs)))))))))))))))), 0) (u .1 .1 .1 .1 .1 .1 .1 .1 .1
-              .1 .1 .1 .1 .1 .1 .1 .0) (Place.struct .as-values (u .1 .1 .1 .1 .1 .1 .1 .1 .1 .1 .1 .1 .1 .1 .1 .1 .0)) Path'.refl)) (Reads'.room-gone 𝓤 H A y12) (Yields.makes-mem 𝓤 H A W (λ ρ. Unit)
+              .1 .1 .1 .1 .1 .1 .1 .0) (Place.struct .as-values (u .1 .1 .1 .1 .1 .1 .1 .1 .1 .1 .1 .1 .1 .1 .1 .1 .0)) Path'.refl)) (Reads'.room-gone 𝓤 H A y13) (Yields.makes-mem 𝓤 H A W (λ ρ. Unit)
               (Declared'.row BitPosition.the-type) Path'.refl (Rows'.whole (Declared'.row BitPosition.the-type)) (λ x. x) λ ρ told. Local.whole-mem 𝓤 H A W (Declared'.row BitPosition.the-type) ρ)
               Path'.refl Path'.refl Path'.refl) d116
 
@@ -2691,28 +2692,28 @@ module _ (claims· : Claims) where
           d121 : Typed.Typed 𝓤 H A 𝓣 E (on T8 l9) (Syntax.seq b3 b80) Δ0 (at121 bs)
           d121 = Typed.s-seq 𝓤 H A W 𝓣 E (on T8 l9) (on T9 l9) b3 b80 Δ0 (Typed.pass T8 T9 (s7 bs)) (at120 bs) (LocalCopy.t-val-copy 𝓤 H A W E 𝓣 (λ ρ. Unit) (on T8 l9) 2 16 (Declared'.row
               Place.the-type) y20 y20 (Rows'.whole (Declared'.row Place.the-type)) (Rows'.whole (Declared'.row Place.the-type)) (λ x. x) (λ x. x) (λ x. x) Path'.refl (Own.told-none 𝓤 H A ((on T8 l9)
-              .slots)) (Values.struct-copied 𝓤 H A W Place.the-type Laws'3.the-laws Laws'3.the-copy) (Reads'.room-gone 𝓤 H A y20) (Yields.makes-mem 𝓤 H A W (λ ρ. Unit) (Declared'.row Place.the-type)
+              .slots)) (Values.struct-copied 𝓤 H A W Place.the-type Laws'.the-laws Laws'.the-copy) (Reads'.room-gone 𝓤 H A y20) (Yields.makes-mem 𝓤 H A W (λ ρ. Unit) (Declared'.row Place.the-type)
               Path'.refl (Rows'.whole (Declared'.row Place.the-type)) (λ x. x) λ ρ told. Local.whole-mem 𝓤 H A W (Declared'.row Place.the-type) ρ) Path'.refl Path'.refl) d120
 
           d122 : Typed.Typed 𝓤 H A 𝓣 E (on T7 l9) (Syntax.seq b2 (Syntax.seq b3 b80)) Δ0 (at122 bs)
-          d122 = Typed.s-seq 𝓤 H A W 𝓣 E (on T7 l9) (on T8 l9) b2 (Syntax.seq b3 b80) Δ0 (Typed.both (s6 bs)) (at121 bs) (Plain.t-call-plain 𝓤 H A W 𝓣 0 ps·0 r·0 (claims· .0) (claims· .1) "image_map::width"
-              (known .0) E (λ pos β. β) (on T7 l9) (Bool.bAt 14 λ x. x, tt) 15 [] (Call.sub-id 𝓤 H A W ((on T7 l9) .slots)) ((Scalar.reads-sc 𝓤 H A W Row.sBool, Path'.refl), tt) (Reads'.room-gone 𝓤 H A
-              u64) tt Path'.refl) d121
+          d122 = Typed.s-seq 𝓤 H A W 𝓣 E (on T7 l9) (on T8 l9) b2 (Syntax.seq b3 b80) Δ0 (Typed.both (s6 bs)) (at121 bs) (Plain.t-call-plain 𝓤 H A W 𝓣 0 ps·0 r·0 (claims· .0) (claims· .1)
+              "image_map::width" (known .0) E (λ pos β. β) (on T7 l9) (Bool.bAt 14 λ x. x, tt) 15 [] (Call.sub-id 𝓤 H A W ((on T7 l9) .slots)) ((Scalar.reads-sc 𝓤 H A W Row.sBool, Path'.refl), tt)
+              (Reads'.room-gone 𝓤 H A u64) tt Path'.refl) d121
 
           d123 : Typed.Typed 𝓤 H A 𝓣 E (on T6 l9) (Syntax.seq b2 (Syntax.seq b3 b80)) Δ0 (at123 bs)
-          d123 = Typed.g-pre 𝓤 H A W 𝓣 E (on T6 l9) (on T7 l9) (Syntax.seq b2 (Syntax.seq b3 b80)) Δ0 (Typed.pass T6 T7 (s5 bs)) (at122 bs) (Scalar.g-room 𝓤 H A W E (on T6 l9) 6 y13 (Local.room-whole
-              𝓤 H A W (Declared'.row Form.the-type) y13 Path'.refl)) d122
+          d123 = Typed.g-pre 𝓤 H A W 𝓣 E (on T6 l9) (on T7 l9) (Syntax.seq b2 (Syntax.seq b3 b80)) Δ0 (Typed.pass T6 T7 (s5 bs)) (at122 bs) (Scalar.g-room 𝓤 H A W E (on T6 l9) 6 y12 (Local.room-whole
+              𝓤 H A W (Declared'.row Form.the-type) y12 Path'.refl)) d122
 
           d124 : Typed.Typed 𝓤 H A 𝓣 E (on T5 l9) b83 Δ0 (at124 bs)
           d124 = Typed.s-seq 𝓤 H A W 𝓣 E (on T5 l9) (on T6 l9) b1 (Syntax.seq b2 (Syntax.seq b3 b80)) Δ0 (Typed.pass T5 T6 (s4 bs)) (at123 bs) (Scalar.t-use 𝓤 H A W E 𝓣 (on T5 l9) (Scalar.oFld 6
-              ((Syntax.field 1) ∷ []) Syntax.tyBool 4 (Reads.fieldV Form.the-type Laws'.the-laws 1)) 14 (Rows'.sc-here Row.sBool) Syntax.tyBool (Row.valS Row.sBool) (Row.sBool .of)
-              (Reads.reads-field 𝓤 H A W Form.the-type Laws'.the-laws 1 Syntax.tyBool 4 Path'.refl, Path'.refl) (Reads'.room-gone 𝓤 H A Syntax.tyBool) (Scalar.holds-sc 𝓤 H A W Row.sBool) Path'.refl (λ u.
+              ((Syntax.field 1) ∷ []) Syntax.tyBool 4 (Reads.fieldV Form.the-type Laws'6.the-laws 1)) 14 (Rows'.sc-here Row.sBool) Syntax.tyBool (Row.valS Row.sBool) (Row.sBool .of)
+              (Reads.reads-field 𝓤 H A W Form.the-type Laws'6.the-laws 1 Syntax.tyBool 4 Path'.refl, Path'.refl) (Reads'.room-gone 𝓤 H A Syntax.tyBool) (Scalar.holds-sc 𝓤 H A W Row.sBool) Path'.refl (λ u.
               Path'.refl) λ u. tt) d123
 
           d125 : Typed.Typed 𝓤 H A 𝓣 E (on T0 l9) b84 Δ0 (at125 bs)
           d125 = Typed.s-seq 𝓤 H A W 𝓣 E (on T0 l9) (on T5 l9) b0 b83 Δ0 (Typed.pass T0 T5 (s3 bs)) (at124 bs) (Scalar.t-use 𝓤 H A W E 𝓣 (on T0 l9) (Scalar.oFld 6 ((Syntax.field 0) ∷ []) u32 0
-              (Reads.fieldV Form.the-type Laws'.the-laws 0)) 13 (Rows'.sc-here (Row.sInt Syntax.w32)) u32 (Row.valS (Row.sInt Syntax.w32)) (Row.sInt Syntax.w32 .of)
-              (Reads.reads-field 𝓤 H A W Form.the-type Laws'.the-laws 0 u32 0 Path'.refl, Path'.refl) (Reads'.room-gone 𝓤 H A u32) (Scalar.holds-sc 𝓤 H A W (Row.sInt Syntax.w32)) Path'.refl (λ u.
+              (Reads.fieldV Form.the-type Laws'6.the-laws 0)) 13 (Rows'.sc-here (Row.sInt Syntax.w32)) u32 (Row.valS (Row.sInt Syntax.w32)) (Row.sInt Syntax.w32 .of)
+              (Reads.reads-field 𝓤 H A W Form.the-type Laws'6.the-laws 0 u32 0 Path'.refl, Path'.refl) (Reads'.room-gone 𝓤 H A u32) (Scalar.holds-sc 𝓤 H A W (Row.sInt Syntax.w32)) Path'.refl (λ u.
               Path'.refl) λ u. tt) d124
 
           d126 : Typed.Typed 𝓤 H A 𝓣 E (on T0 l9) b84 Δ0 (at126 bs)
@@ -2733,15 +2734,15 @@ module _ (claims· : Claims) where
       module _ (κs : Lifetimes.Lfts 5) where
         pub record Args : Type 0 where
           pub block : Kinds.Den {n = 5} κs (ShrSlice.pShrS n8 0 tt)
-          pub from : Kinds.Den {n = 5} κs (Values.struct Place.the-type Laws'3.the-laws Laws'3.the-copy Laws'3.the-plain)
+          pub from : Kinds.Den {n = 5} κs (Values.struct Place.the-type Laws'.the-laws Laws'.the-copy Laws'.the-plain)
           pub lines : Kinds.Den {n = 5} κs (MutSlice.pMutS n16 1 tt)
           pub rs : Kinds.Den {n = 5} κs (MutSlice.pMutS (Element.type) 2 tt)
           pub image : Kinds.Den {n = 5} κs (MutSlice.pMutS n16 3 tt)
-          pub form : Kinds.Den {n = 5} κs (Values.struct Form.the-type Laws'.the-laws Laws'.the-copy Laws'.the-plain)
-          pub qs : Kinds.Den {n = 5} κs (Values.struct Quantisers.the-type Laws'7.the-laws Laws'7.the-copy Laws'7.the-plain)
+          pub form : Kinds.Den {n = 5} κs (Values.struct Form.the-type Laws'6.the-laws Laws'6.the-copy Laws'6.the-plain)
+          pub qs : Kinds.Den {n = 5} κs (Values.struct Quantisers.the-type Laws'4.the-laws Laws'4.the-copy Laws'4.the-plain)
           pub places : Kinds.Den {n = 5} κs (ShrRef.pShr (Array'.Array n16 768) 4 tt)
           pub tile : Kinds.Den {n = 5} κs (Array.pArr (Array.eInt Syntax.w8) (Array.eInt-laws Syntax.w8) 36)
-          pub part : Kinds.Den {n = 5} κs (Values.struct Part.the-type Laws'4.the-laws Laws'4.the-copy Laws'4.the-plain)
+          pub part : Kinds.Den {n = 5} κs (Values.struct Part.the-type Laws''.the-laws Laws''.the-copy Laws''.the-plain)
           pub n : Kinds.Den {n = 5} κs (Num.pNum Syntax.w64)
           pub windowed : Kinds.Den {n = 5} κs Bool.pBool
 
@@ -4163,9 +4164,9 @@ module _ (claims· : Claims) where
         module _ {M : Type 1} (𝓤 : URA.URA M) (H : Wp.Heap 𝓤) (A : Atoms.Atoms 𝓤) (W : Kit.Given 𝓤 H A) (𝓣 : Wp.Tables 𝓤 H) (known0 : Plain.Known 𝓤 H A W 𝓣 0 ps·0 r·0 (claims· .0) (claims· .1)
             "image_map::width") (known1 : Plain.Known 𝓤 H A W 𝓣 0 ps·1 r·1 (claims· .2) (claims· .3) "pass_schedule::plan_at") (known2 : Plain.Known 𝓤 H A W 𝓣 0 ps·2 r·2 (claims· .4) (claims· .5)
             "read_pass::window_plan") (known3 : Plain.Known 𝓤 H A W 𝓣 1 ps·3 r·3 (claims· .6) (claims· .7) "colour_lines::enter") (known4 : Plain.Known 𝓤 H A W 𝓣 1 ps·4 r·4 (claims· .8) (claims· .9)
-            "read_block::records::load_set") (known5 : Plain.Known 𝓤 H A W 𝓣 2 ps·5 r·5 (claims· .10) (claims· .11) "read_pass::pass") (known6 : Plain.Known 𝓤 H A W 𝓣 1 ps·6 r·6 (claims· .12) (claims· .13)
-            "read_block::records::store_set") (known7 : Plain.Known 𝓤 H A W 𝓣 3 ps·7 r·7 (claims· .14) (claims· .15) "read_block::reading::emit_pass_at") (known8 : Plain.Known 𝓤 H A W 𝓣 1 ps·8 r·8 (claims· .16)
-            (claims· .17) "bits::is_past") where
+            "read_block::records::load_set") (known5 : Plain.Known 𝓤 H A W 𝓣 2 ps·5 r·5 (claims· .10) (claims· .11) "read_pass::pass") (known6 : Plain.Known 𝓤 H A W 𝓣 1 ps·6 r·6 (claims· .12) (claims·
+            .13) "read_block::records::store_set") (known7 : Plain.Known 𝓤 H A W 𝓣 3 ps·7 r·7 (claims· .14) (claims· .15) "read_block::reading::emit_pass_at") (known8 : Plain.Known 𝓤 H A W 𝓣 1 ps·8 r·8
+            (claims· .16) (claims· .17) "bits::is_past") where
           pub spec : Statement.Triple 𝓤 (Wp.WpFn 𝓤 H (𝓣 .C) (𝓣 .Λ) (Function.fnOf 5 ps r xs m hs body)) (Function.plainOf 𝓤 H A 5 ps r Pre· Post·)
           spec = Plain.t-fn-plain 𝓤 H A W 𝓣 5 ps r xs m hs body (λ κs qs bs. Φ bs) (λ κs qs bs bd. typed κs qs 𝓤 H A W 𝓣 (known0, known1, known2, known3, known4, known5, known6, known7, known8) bs bd)
               Pre· Post· asked

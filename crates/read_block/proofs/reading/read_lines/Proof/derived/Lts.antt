@@ -6,24 +6,24 @@ use Rattle.bits.proofs.Values.{n16, n8, u16, u32, u64, u8}
 use mathlib.Core.List.{_∷_, []}
 use Rattle.read_block.proofs.Element
 use Prim.Native.Nat
-use Rattle.read_block.proofs.Form
-use Rattle.read_block.proofs.Form.Laws
-use Rattle.read_block.proofs.Lined
-use Rattle.read_block.proofs.Lined.Laws as Laws'
-use Rattle.read_block.proofs.Walked
-use Rattle.read_block.proofs.Walked.Laws as Laws''
 use Rattle.cameras.proofs.Entries
-use Rattle.cameras.proofs.Entries.Laws as Laws'3
+use Rattle.cameras.proofs.Entries.Laws
 use Rattle.code.proofs.Place
-use Rattle.code.proofs.Place.Laws as Laws'4
+use Rattle.code.proofs.Place.Laws as Laws'
 use Rattle.image_map.proofs.Part
-use Rattle.image_map.proofs.Part.Laws as Laws'5
-use Rattle.pass_steps.proofs.Quantisers
-use Rattle.pass_steps.proofs.Quantisers.Laws as Laws'6
+use Rattle.image_map.proofs.Part.Laws as Laws''
 use Rattle.line_totals.proofs.TightLines
-use Rattle.line_totals.proofs.TightLines.Laws as Laws'7
+use Rattle.line_totals.proofs.TightLines.Laws as Laws'3
 use Rattle.line_totals.proofs.Totals
-use Rattle.line_totals.proofs.Totals.Laws as Laws'8
+use Rattle.line_totals.proofs.Totals.Laws as Laws'4
+use Rattle.pass_steps.proofs.Quantisers
+use Rattle.pass_steps.proofs.Quantisers.Laws as Laws'5
+use Rattle.read_block.proofs.Form
+use Rattle.read_block.proofs.Form.Laws as Laws'6
+use Rattle.read_block.proofs.Lined
+use Rattle.read_block.proofs.Lined.Laws as Laws'7
+use Rattle.read_block.proofs.Walked
+use Rattle.read_block.proofs.Walked.Laws as Laws'8
 use borrow.Author.Called
 use borrow.Author.Tests
 use borrow.Enum.Known
@@ -123,31 +123,32 @@ abbrev pub y10 : Syntax.Ty
 y10 = Syntax.tyRef Syntax.erased Syntax.mut u16
 
 abbrev pub y11 : Syntax.Ty
-y11 = Syntax.tyStruct (109 ∷ 97 ∷ 112 ∷ 58 ∷ 58 ∷ 80 ∷ 97 ∷ 114 ∷ 116 ∷ []) (Syntax.tcons u64 (Syntax.tcons u64 (Syntax.tcons u64 (Syntax.tcons u64 (Syntax.tcons u64 (Syntax.tcons u64
-    Syntax.tnil))))))
+y11 = Syntax.tyStruct (105 ∷ 109 ∷ 97 ∷ 103 ∷ 101 ∷ 95 ∷ 109 ∷ 97 ∷ 112 ∷ 58 ∷ 58 ∷ 80 ∷ 97 ∷ 114 ∷ 116 ∷ []) (Syntax.tcons u64 (Syntax.tcons u64 (Syntax.tcons u64 (Syntax.tcons u64 (Syntax.tcons u64
+    (Syntax.tcons u64 Syntax.tnil))))))
 
 abbrev pub y12 : Syntax.Ty
-y12 = Syntax.tyStruct (113 ∷ 117 ∷ 97 ∷ 110 ∷ 116 ∷ 105 ∷ 115 ∷ 101 ∷ 114 ∷ 58 ∷ 58 ∷ 81 ∷ 117 ∷ 97 ∷ 110 ∷ 116 ∷ 105 ∷ 115 ∷ 101 ∷ 114 ∷ []) (Syntax.tcons u32 (Syntax.tcons u32 (Syntax.tcons u32
-    (Syntax.tcons u32 (Syntax.tcons u32 Syntax.tnil)))))
+y12 = Syntax.tyStruct (108 ∷ 105 ∷ 110 ∷ 101 ∷ 95 ∷ 116 ∷ 111 ∷ 116 ∷ 97 ∷ 108 ∷ 115 ∷ 58 ∷ 58 ∷ 84 ∷ 111 ∷ 116 ∷ 97 ∷ 108 ∷ 115 ∷ []) (Syntax.tcons u64 (Syntax.tcons u64 Syntax.tnil))
 
 abbrev pub y13 : Syntax.Ty
-y13 = Syntax.tyStruct (116 ∷ 111 ∷ 116 ∷ 97 ∷ 108 ∷ 115 ∷ 58 ∷ 58 ∷ 84 ∷ 111 ∷ 116 ∷ 97 ∷ 108 ∷ 115 ∷ []) (Syntax.tcons u64 (Syntax.tcons u64 Syntax.tnil))
+y13 = Syntax.tyStruct (113 ∷ 117 ∷ 97 ∷ 110 ∷ 116 ∷ 105 ∷ 115 ∷ 101 ∷ 114 ∷ 58 ∷ 58 ∷ 81 ∷ 117 ∷ 97 ∷ 110 ∷ 116 ∷ 105 ∷ 115 ∷ 101 ∷ 114 ∷ []) (Syntax.tcons u32 (Syntax.tcons u32 (Syntax.tcons u32
+    (Syntax.tcons u32 (Syntax.tcons u32 Syntax.tnil)))))
 
 abbrev pub y14 : Syntax.Ty
-y14 = Syntax.tyStruct (98 ∷ 105 ∷ 116 ∷ 115 ∷ 58 ∷ 58 ∷ 66 ∷ 105 ∷ 116 ∷ 80 ∷ 111 ∷ 115 ∷ 105 ∷ 116 ∷ 105 ∷ 111 ∷ 110 ∷ []) (Syntax.tcons u64 Syntax.tnil)
+y14 = Syntax.tyStruct (114 ∷ 101 ∷ 97 ∷ 100 ∷ 95 ∷ 98 ∷ 108 ∷ 111 ∷ 99 ∷ 107 ∷ 58 ∷ 58 ∷ 70 ∷ 111 ∷ 114 ∷ 109 ∷ []) (Syntax.tcons u32 (Syntax.tcons Syntax.tyBool Syntax.tnil))
 
 abbrev pub y15 : Syntax.Ty
-y15 = Syntax.tyStruct (98 ∷ 108 ∷ 111 ∷ 99 ∷ 107 ∷ 58 ∷ 58 ∷ 70 ∷ 111 ∷ 114 ∷ 109 ∷ []) (Syntax.tcons u32 (Syntax.tcons Syntax.tyBool Syntax.tnil))
+y15 = Syntax.tyStruct (98 ∷ 105 ∷ 116 ∷ 115 ∷ 58 ∷ 58 ∷ 66 ∷ 105 ∷ 116 ∷ 80 ∷ 111 ∷ 115 ∷ 105 ∷ 116 ∷ 105 ∷ 111 ∷ 110 ∷ []) (Syntax.tcons u64 Syntax.tnil)
 
 abbrev pub y16 : Syntax.Ty
 y16 = Syntax.tyRef (Syntax.named 5) Syntax.imm y0
 
 abbrev pub y17 : Syntax.Ty
-y17 = Syntax.tyStruct (115 ∷ 116 ∷ 101 ∷ 112 ∷ 115 ∷ 58 ∷ 58 ∷ 81 ∷ 117 ∷ 97 ∷ 110 ∷ 116 ∷ 105 ∷ 115 ∷ 101 ∷ 114 ∷ 115 ∷ []) (Syntax.tcons u32 (Syntax.tcons y1 (Syntax.tcons y1 (Syntax.tcons y1
-    Syntax.tnil))))
+y17 = Syntax.tyStruct (108 ∷ 105 ∷ 110 ∷ 101 ∷ 95 ∷ 116 ∷ 111 ∷ 116 ∷ 97 ∷ 108 ∷ 115 ∷ 58 ∷ 58 ∷ 84 ∷ 105 ∷ 103 ∷ 104 ∷ 116 ∷ 76 ∷ 105 ∷ 110 ∷ 101 ∷ 115 ∷ []) (Syntax.tcons u64 (Syntax.tcons y12
+    Syntax.tnil))
 
 abbrev pub y18 : Syntax.Ty
-y18 = Syntax.tyStruct (116 ∷ 111 ∷ 116 ∷ 97 ∷ 108 ∷ 115 ∷ 58 ∷ 58 ∷ 84 ∷ 105 ∷ 103 ∷ 104 ∷ 116 ∷ 76 ∷ 105 ∷ 110 ∷ 101 ∷ 115 ∷ []) (Syntax.tcons u64 (Syntax.tcons y13 Syntax.tnil))
+y18 = Syntax.tyStruct (112 ∷ 97 ∷ 115 ∷ 115 ∷ 95 ∷ 115 ∷ 116 ∷ 101 ∷ 112 ∷ 115 ∷ 58 ∷ 58 ∷ 81 ∷ 117 ∷ 97 ∷ 110 ∷ 116 ∷ 105 ∷ 115 ∷ 101 ∷ 114 ∷ 115 ∷ []) (Syntax.tcons u32 (Syntax.tcons y1
+    (Syntax.tcons y1 (Syntax.tcons y1 Syntax.tnil))))
 
 abbrev pub y19 : Syntax.Ty
 y19 = Syntax.tyStruct (38 ∷ 91 ∷ 93 ∷ []) (Syntax.tcons y10 (Syntax.tcons u64 Syntax.tnil))
@@ -159,37 +160,38 @@ abbrev pub y21 : Syntax.Ty
 y21 = Syntax.tyStruct (38 ∷ 91 ∷ 93 ∷ []) (Syntax.tcons y9 (Syntax.tcons u64 Syntax.tnil))
 
 abbrev pub y22 : Syntax.Ty
-y22 = Syntax.tyStruct (99 ∷ 111 ∷ 100 ∷ 101 ∷ 58 ∷ 58 ∷ 80 ∷ 108 ∷ 97 ∷ 99 ∷ 101 ∷ []) (Syntax.tcons y14 (Syntax.tcons Syntax.tyBool (Syntax.tcons u64 Syntax.tnil)))
+y22 = Syntax.tyStruct (99 ∷ 111 ∷ 100 ∷ 101 ∷ 58 ∷ 58 ∷ 80 ∷ 108 ∷ 97 ∷ 99 ∷ 101 ∷ []) (Syntax.tcons y15 (Syntax.tcons Syntax.tyBool (Syntax.tcons u64 Syntax.tnil)))
 
 abbrev pub y23 : Syntax.Ty
-y23 = Syntax.tyStruct (99 ∷ 97 ∷ 109 ∷ 101 ∷ 114 ∷ 97 ∷ 115 ∷ 58 ∷ 58 ∷ 69 ∷ 110 ∷ 116 ∷ 114 ∷ 121 ∷ []) (Syntax.tcons u32 (Syntax.tcons y12 (Syntax.tcons Syntax.tyBool (Syntax.tcons Syntax.tyBool
+y23 = Syntax.tyStruct (99 ∷ 97 ∷ 109 ∷ 101 ∷ 114 ∷ 97 ∷ 115 ∷ 58 ∷ 58 ∷ 69 ∷ 110 ∷ 116 ∷ 114 ∷ 121 ∷ []) (Syntax.tcons u32 (Syntax.tcons y13 (Syntax.tcons Syntax.tyBool (Syntax.tcons Syntax.tyBool
     Syntax.tnil))))
 
 abbrev pub y24 : Syntax.Ty
 y24 = Syntax.tyArray y23 16
 
 abbrev pub y25 : Syntax.Ty
-y25 = Syntax.tyEnum (98 ∷ 108 ∷ 111 ∷ 99 ∷ 107 ∷ 58 ∷ 58 ∷ 76 ∷ 105 ∷ 110 ∷ 101 ∷ 100 ∷ []) (Syntax.ttcons (Syntax.tcons y22 Syntax.tnil) (Syntax.ttcons Syntax.tnil Syntax.ttnil))
+y25 = Syntax.tyEnum (114 ∷ 101 ∷ 97 ∷ 100 ∷ 95 ∷ 98 ∷ 108 ∷ 111 ∷ 99 ∷ 107 ∷ 58 ∷ 58 ∷ 76 ∷ 105 ∷ 110 ∷ 101 ∷ 100 ∷ []) (Syntax.ttcons (Syntax.tcons y22 Syntax.tnil) (Syntax.ttcons Syntax.tnil
+    Syntax.ttnil))
 
 abbrev pub y26 : Syntax.Ty
-y26 = Syntax.tyEnum (98 ∷ 108 ∷ 111 ∷ 99 ∷ 107 ∷ 58 ∷ 58 ∷ 87 ∷ 97 ∷ 108 ∷ 107 ∷ 101 ∷ 100 ∷ []) (Syntax.ttcons (Syntax.tcons y13 (Syntax.tcons y18 Syntax.tnil)) (Syntax.ttcons (Syntax.tcons u64
-    (Syntax.tcons y13 Syntax.tnil)) Syntax.ttnil))
+y26 = Syntax.tyEnum (114 ∷ 101 ∷ 97 ∷ 100 ∷ 95 ∷ 98 ∷ 108 ∷ 111 ∷ 99 ∷ 107 ∷ 58 ∷ 58 ∷ 87 ∷ 97 ∷ 108 ∷ 107 ∷ 101 ∷ 100 ∷ []) (Syntax.ttcons (Syntax.tcons y12 (Syntax.tcons y17 Syntax.tnil))
+    (Syntax.ttcons (Syntax.tcons u64 (Syntax.tcons y12 Syntax.tnil)) Syntax.ttnil))
 
 abbrev pub y27 : Syntax.Ty
 y27 = Syntax.tyStruct (99 ∷ 97 ∷ 109 ∷ 101 ∷ 114 ∷ 97 ∷ 115 ∷ 58 ∷ 58 ∷ 69 ∷ 110 ∷ 116 ∷ 114 ∷ 105 ∷ 101 ∷ 115 ∷ []) (Syntax.tcons y24 Syntax.tnil)
 
 abbrev pub ps : List.List (Kinds.PK 6)
-ps = (ShrSlice.pShrS n8 0 tt) ∷ (ShrSlice.pShrS n8 1 tt) ∷ (MutSlice.pMutS n16 2 tt) ∷ (MutSlice.pMutS (Element.type) 3 tt) ∷ (MutSlice.pMutS n16 4 tt) ∷ (Values.struct Form.the-type Laws.the-laws
-    Laws.the-copy Laws.the-plain) ∷ (ShrRef.pShr (Array'.Array n16 768) 5 tt) ∷ (Array.pArr (Array.eInt Syntax.w8) (Array.eInt-laws Syntax.w8) 36) ∷ (Values.struct Part.the-type Laws'5.the-laws
-    Laws'5.the-copy Laws'5.the-plain) ∷ (Num.pNum Syntax.w64) ∷ (Values.struct Place.the-type Laws'4.the-laws Laws'4.the-copy Laws'4.the-plain) ∷ (Num.pNum Syntax.w64) ∷ Bool.pBool ∷ (Values.struct
-    Entries.the-type Laws'3.the-laws Laws'3.the-copy Laws'3.the-plain) ∷ []
+ps = (ShrSlice.pShrS n8 0 tt) ∷ (ShrSlice.pShrS n8 1 tt) ∷ (MutSlice.pMutS n16 2 tt) ∷ (MutSlice.pMutS (Element.type) 3 tt) ∷ (MutSlice.pMutS n16 4 tt) ∷ (Values.struct Form.the-type Laws'6.the-laws
+    Laws'6.the-copy Laws'6.the-plain) ∷ (ShrRef.pShr (Array'.Array n16 768) 5 tt) ∷ (Array.pArr (Array.eInt Syntax.w8) (Array.eInt-laws Syntax.w8) 36) ∷ (Values.struct Part.the-type Laws''.the-laws
+    Laws''.the-copy Laws''.the-plain) ∷ (Num.pNum Syntax.w64) ∷ (Values.struct Place.the-type Laws'.the-laws Laws'.the-copy Laws'.the-plain) ∷ (Num.pNum Syntax.w64) ∷ Bool.pBool ∷ (Values.struct
+    Entries.the-type Laws.the-laws Laws.the-copy Laws.the-plain) ∷ []
 
 abbrev pub r : Kinds.RK 6
-r = Values.enum-result Walked.the-type Laws''.the-laws Laws''.the-copy Laws''.the-plain tt
+r = Values.enum-result Walked.the-type Laws'8.the-laws Laws'8.the-copy Laws'8.the-plain tt
 
 abbrev pub xs : List.List Syntax.Ty
-xs = u32 ∷ Syntax.tyBool ∷ u64 ∷ y22 ∷ y18 ∷ u64 ∷ u64 ∷ u32 ∷ y25 ∷ y22 ∷ y13 ∷ Syntax.tyBool ∷ Syntax.tyUnit ∷ y10 ∷ y19 ∷ y9 ∷ y21 ∷ y10 ∷ y19 ∷ y9 ∷ y21 ∷ y10 ∷ y19 ∷ y17 ∷ Syntax.tyUnit ∷ y10 ∷
-    y19 ∷ y13 ∷ y13 ∷ y8 ∷ y20 ∷ y10 ∷ y19 ∷ []
+xs = u32 ∷ Syntax.tyBool ∷ u64 ∷ y22 ∷ y17 ∷ u64 ∷ u64 ∷ u32 ∷ y25 ∷ y22 ∷ y12 ∷ Syntax.tyBool ∷ Syntax.tyUnit ∷ y10 ∷ y19 ∷ y9 ∷ y21 ∷ y10 ∷ y19 ∷ y9 ∷ y21 ∷ y10 ∷ y19 ∷ y18 ∷ Syntax.tyUnit ∷ y10 ∷
+    y19 ∷ y12 ∷ y12 ∷ y8 ∷ y20 ∷ y10 ∷ y19 ∷ []
 
 abbrev pub m : Nat.ℕ
 m = 8
@@ -201,16 +203,16 @@ abbrev pub r·0 : Kinds.RK 0
 r·0 = Num.rNum Syntax.w64
 
 abbrev pub ps·1 : List.List (Kinds.PK 0)
-ps·1 = (Values.struct Place.the-type Laws'4.the-laws Laws'4.the-copy Laws'4.the-plain) ∷ []
+ps·1 = (Values.struct Place.the-type Laws'.the-laws Laws'.the-copy Laws'.the-plain) ∷ []
 
 abbrev pub r·1 : Kinds.RK 0
-r·1 = Values.struct-result Totals.the-type Laws'8.the-laws Laws'8.the-copy Laws'8.the-plain
+r·1 = Values.struct-result Totals.the-type Laws'4.the-laws Laws'4.the-copy Laws'4.the-plain
 
 abbrev pub ps·2 : List.List (Kinds.PK 0)
-ps·2 = (Values.struct Totals.the-type Laws'8.the-laws Laws'8.the-copy Laws'8.the-plain) ∷ []
+ps·2 = (Values.struct Totals.the-type Laws'4.the-laws Laws'4.the-copy Laws'4.the-plain) ∷ []
 
 abbrev pub r·2 : Kinds.RK 0
-r·2 = Values.struct-result TightLines.the-type Laws'7.the-laws Laws'7.the-copy Laws'7.the-plain
+r·2 = Values.struct-result TightLines.the-type Laws'3.the-laws Laws'3.the-copy Laws'3.the-plain
 
 abbrev pub ps·3 : List.List (Kinds.PK 1)
 ps·3 = (MutSlice.pMutS n16 0 tt) ∷ (Num.pNum Syntax.w64) ∷ Bool.pBool ∷ []
@@ -237,36 +239,36 @@ abbrev pub r·6 : Kinds.RK 1
 r·6 = Unit'.rUnit
 
 abbrev pub ps·7 : List.List (Kinds.PK 0)
-ps·7 = (Values.struct Entries.the-type Laws'3.the-laws Laws'3.the-copy Laws'3.the-plain) ∷ (Num.pNum Syntax.w32) ∷ (Num.pNum Syntax.w32) ∷ []
+ps·7 = (Values.struct Entries.the-type Laws.the-laws Laws.the-copy Laws.the-plain) ∷ (Num.pNum Syntax.w32) ∷ (Num.pNum Syntax.w32) ∷ []
 
 abbrev pub r·7 : Kinds.RK 0
-r·7 = Values.struct-result Quantisers.the-type Laws'6.the-laws Laws'6.the-copy Laws'6.the-plain
+r·7 = Values.struct-result Quantisers.the-type Laws'5.the-laws Laws'5.the-copy Laws'5.the-plain
 
 abbrev pub ps·8 : List.List (Kinds.PK 5)
-ps·8 = (ShrSlice.pShrS n8 0 tt) ∷ (Values.struct Place.the-type Laws'4.the-laws Laws'4.the-copy Laws'4.the-plain) ∷ (MutSlice.pMutS n16 1 tt) ∷ (MutSlice.pMutS (Element.type) 2 tt) ∷ (MutSlice.pMutS
-    n16 3 tt) ∷ (Values.struct Form.the-type Laws.the-laws Laws.the-copy Laws.the-plain) ∷ (Values.struct Quantisers.the-type Laws'6.the-laws Laws'6.the-copy Laws'6.the-plain) ∷ (ShrRef.pShr (Array'.Array
-    n16 768) 4 tt) ∷ (Array.pArr (Array.eInt Syntax.w8) (Array.eInt-laws Syntax.w8) 36) ∷ (Values.struct Part.the-type Laws'5.the-laws Laws'5.the-copy Laws'5.the-plain) ∷ (Num.pNum Syntax.w64) ∷
-    Bool.pBool ∷ []
+ps·8 = (ShrSlice.pShrS n8 0 tt) ∷ (Values.struct Place.the-type Laws'.the-laws Laws'.the-copy Laws'.the-plain) ∷ (MutSlice.pMutS n16 1 tt) ∷ (MutSlice.pMutS (Element.type) 2 tt) ∷ (MutSlice.pMutS n16
+    3 tt) ∷ (Values.struct Form.the-type Laws'6.the-laws Laws'6.the-copy Laws'6.the-plain) ∷ (Values.struct Quantisers.the-type Laws'5.the-laws Laws'5.the-copy Laws'5.the-plain) ∷ (ShrRef.pShr
+    (Array'.Array n16 768) 4 tt) ∷ (Array.pArr (Array.eInt Syntax.w8) (Array.eInt-laws Syntax.w8) 36) ∷ (Values.struct Part.the-type Laws''.the-laws Laws''.the-copy Laws''.the-plain) ∷ (Num.pNum
+    Syntax.w64) ∷ Bool.pBool ∷ []
 
 abbrev pub r·8 : Kinds.RK 5
-r·8 = Values.enum-result Lined.the-type Laws'.the-laws Laws'.the-copy Laws'.the-plain tt
+r·8 = Values.enum-result Lined.the-type Laws'7.the-laws Laws'7.the-copy Laws'7.the-plain tt
 
 abbrev pub ps·9 : List.List (Kinds.PK 1)
-ps·9 = (MutSlice.pMutS n16 0 tt) ∷ (Values.struct Part.the-type Laws'5.the-laws Laws'5.the-copy Laws'5.the-plain) ∷ (Num.pNum Syntax.w64) ∷ Bool.pBool ∷ []
+ps·9 = (MutSlice.pMutS n16 0 tt) ∷ (Values.struct Part.the-type Laws''.the-laws Laws''.the-copy Laws''.the-plain) ∷ (Num.pNum Syntax.w64) ∷ Bool.pBool ∷ []
 
 abbrev pub r·9 : Kinds.RK 1
 r·9 = Unit'.rUnit
 
 abbrev pub ps·10 : List.List (Kinds.PK 0)
-ps·10 = (Values.struct TightLines.the-type Laws'7.the-laws Laws'7.the-copy Laws'7.the-plain) ∷ (Num.pNum Syntax.w64) ∷ Bool.pBool ∷ (Values.struct Totals.the-type Laws'8.the-laws Laws'8.the-copy
-    Laws'8.the-plain) ∷ []
+ps·10 = (Values.struct TightLines.the-type Laws'3.the-laws Laws'3.the-copy Laws'3.the-plain) ∷ (Num.pNum Syntax.w64) ∷ Bool.pBool ∷ (Values.struct Totals.the-type Laws'4.the-laws Laws'4.the-copy
+    Laws'4.the-plain) ∷ []
 
 abbrev pub r·10 : Kinds.RK 0
-r·10 = Values.struct-result TightLines.the-type Laws'7.the-laws Laws'7.the-copy Laws'7.the-plain
+r·10 = Values.struct-result TightLines.the-type Laws'3.the-laws Laws'3.the-copy Laws'3.the-plain
 
 abbrev pub ps·11 : List.List (Kinds.PK 3)
 ps·11 = (ShrSlice.pShrS n16 0 tt) ∷ (MutSlice.pMutS n16 1 tt) ∷ (Num.pNum Syntax.w64) ∷ Bool.pBool ∷ (ShrRef.pShr (Array'.Array n16 768) 2 tt) ∷ (Array.pArr (Array.eInt Syntax.w8) (Array.eInt-laws
-    Syntax.w8) 36) ∷ (Values.struct Part.the-type Laws'5.the-laws Laws'5.the-copy Laws'5.the-plain) ∷ (Num.pNum Syntax.w64) ∷ Bool.pBool ∷ []
+    Syntax.w8) 36) ∷ (Values.struct Part.the-type Laws''.the-laws Laws''.the-copy Laws''.the-plain) ∷ (Num.pNum Syntax.w64) ∷ Bool.pBool ∷ []
 
 abbrev pub r·11 : Kinds.RK 3
 r·11 = Unit'.rUnit
@@ -336,8 +338,8 @@ abbrev b19 : Syntax.Body
 b19 = Syntax.call "read_block::reading::is_restarted" ((Syntax.copy (Syntax.place 2 [])) ∷ (Syntax.copy (Syntax.place 21 [])) ∷ []) (Syntax.place 26 [])
 
 abbrev b20 : Syntax.Body
-b20 = Syntax.call "read_block::records::restart" ((Syntax.copy (Syntax.place 31 [])) ∷ (Syntax.copy (Syntax.place 15 [])) ∷ (Syntax.copy (Syntax.place 22 [])) ∷ (Syntax.copy (Syntax.place 26 [])) ∷ [])
-    (Syntax.place 27 [])
+b20 = Syntax.call "read_block::records::restart" ((Syntax.copy (Syntax.place 31 [])) ∷ (Syntax.copy (Syntax.place 15 [])) ∷ (Syntax.copy (Syntax.place 22 [])) ∷ (Syntax.copy (Syntax.place 26 [])) ∷
+    []) (Syntax.place 27 [])
 
 abbrev b21 : Syntax.Body
 b21 = Syntax.assign (Syntax.place 32 []) (Syntax.addrOf (Syntax.place 3 ((Syntax.field 0) ∷ (Syntax.deref u16) ∷ [])))
@@ -375,8 +377,8 @@ abbrev b31 : Syntax.Body
 b31 = Syntax.assign (Syntax.place 41 []) (Syntax.aggregate ((Syntax.copy (Syntax.place 40 [])) ∷ (Syntax.copy (Syntax.place 5 ((Syntax.field 1) ∷ []))) ∷ []))
 
 abbrev b32 : Syntax.Body
-b32 = Syntax.call "image_map::zero_rows::zero_line" ((Syntax.copy (Syntax.place 41 [])) ∷ (Syntax.copy (Syntax.place 9 [])) ∷ (Syntax.copy (Syntax.place 21 [])) ∷ (Syntax.copy (Syntax.place 13 [])) ∷ [])
-    (Syntax.place 39 [])
+b32 = Syntax.call "image_map::zero_rows::zero_line" ((Syntax.copy (Syntax.place 41 [])) ∷ (Syntax.copy (Syntax.place 9 [])) ∷ (Syntax.copy (Syntax.place 21 [])) ∷ (Syntax.copy (Syntax.place 13 [])) ∷
+    []) (Syntax.place 39 [])
 
 abbrev b33 : Syntax.Body
 b33 = Syntax.call "read_block::reading::totals_at" ((Syntax.copy (Syntax.place 18 [])) ∷ []) (Syntax.place 42 [])
@@ -403,8 +405,8 @@ abbrev b43 : Syntax.Body
 b43 = Syntax.call "read_block::reading::totals_at" ((Syntax.copy (Syntax.place 18 [])) ∷ []) (Syntax.place 43 [])
 
 abbrev b44 : Syntax.Body
-b44 = Syntax.call "line_totals::with_line" ((Syntax.copy (Syntax.place 19 [])) ∷ (Syntax.copy (Syntax.place 20 [])) ∷ (Syntax.copy (Syntax.place 18 ((Syntax.field 1) ∷ []))) ∷ (Syntax.copy (Syntax.place 43
-    [])) ∷ []) (Syntax.place 19 [])
+b44 = Syntax.call "line_totals::with_line" ((Syntax.copy (Syntax.place 19 [])) ∷ (Syntax.copy (Syntax.place 20 [])) ∷ (Syntax.copy (Syntax.place 18 ((Syntax.field 1) ∷ []))) ∷ (Syntax.copy
+    (Syntax.place 43 [])) ∷ []) (Syntax.place 19 [])
 
 abbrev b45 : Syntax.Body
 b45 = Syntax.assign (Syntax.place 44 []) (Syntax.addrOf (Syntax.place 3 ((Syntax.field 0) ∷ (Syntax.deref u16) ∷ [])))
@@ -422,8 +424,9 @@ abbrev b49 : Syntax.Body
 b49 = Syntax.assign (Syntax.place 26 []) (Syntax.op1 Syntax.bitNot (Syntax.copy (Syntax.place 13 [])))
 
 abbrev b50 : Syntax.Body
-b50 = Syntax.call "image_map::emit::emit_line_if" ((Syntax.copy (Syntax.place 45 [])) ∷ (Syntax.copy (Syntax.place 47 [])) ∷ (Syntax.copy (Syntax.place 17 [])) ∷ (Syntax.copy (Syntax.place 16 [])) ∷ (Syntax.copy
-    (Syntax.place 7 [])) ∷ (Syntax.copy (Syntax.place 8 [])) ∷ (Syntax.copy (Syntax.place 9 [])) ∷ (Syntax.copy (Syntax.place 21 [])) ∷ (Syntax.copy (Syntax.place 26 [])) ∷ []) (Syntax.place 27 [])
+b50 = Syntax.call "image_map::emit::emit_line_if" ((Syntax.copy (Syntax.place 45 [])) ∷ (Syntax.copy (Syntax.place 47 [])) ∷ (Syntax.copy (Syntax.place 17 [])) ∷ (Syntax.copy (Syntax.place 16 [])) ∷
+    (Syntax.copy (Syntax.place 7 [])) ∷ (Syntax.copy (Syntax.place 8 [])) ∷ (Syntax.copy (Syntax.place 9 [])) ∷ (Syntax.copy (Syntax.place 21 [])) ∷ (Syntax.copy (Syntax.place 26 [])) ∷ []) (Syntax.place
+    27 [])
 
 abbrev b51 : Syntax.Body
 b51 = Syntax.assign (Syntax.place 20 []) (Syntax.op2 (Syntax.add Syntax.unsigned) (Syntax.copy (Syntax.place 20 [])) (Syntax.int Syntax.w64 1))
@@ -503,7 +506,7 @@ abbrev pub v3 : Row.Row
 v3 = Rows'.any-gone y22
 
 abbrev pub v4 : Row.Row
-v4 = Rows'.any-gone y13
+v4 = Rows'.any-gone y12
 
 abbrev pub v5 : Row.Row
 v5 = Rows'.sc-here Row.sBool
@@ -575,19 +578,19 @@ abbrev pub v27 : Row.Row
 v27 = Rows'.any-gone y8
 
 abbrev pub v28 : Row.Row
-v28 = Rows'.any-gone y17
+v28 = Rows'.any-gone y18
 
 abbrev pub v29 : Row.Row
 v29 = Rows'.any-gone y20
 
 abbrev pub v30 : Row.Row
-v30 = Rows'.any-gone y15
+v30 = Rows'.any-gone y14
 
 abbrev pub v31 : Row.Row
 v31 = Rows'.any-gone y2
 
 abbrev pub v32 : Row.Row
-v32 = Rows'.any-gone y18
+v32 = Rows'.any-gone y17
 
 abbrev pub v33 : Row.Row
 v33 = Rows'.any-gone y27
@@ -1283,10 +1286,10 @@ module _ (claims· : Claims) where
   s3 = Know.k-sl-known (Referent.fInt Syntax.w16) T0 5 4 y7 Row.off 0 λ x. x
 
   abbrev s4 : Typed.Mo T0 → Typed.Mo T6
-  s4 = Scalar.n-use T0 (Scalar.oFld 6 ((Syntax.field 0) ∷ []) u32 0 (Reads.fieldV Form.the-type Laws.the-laws 0)) 15 (Rows'.sc-here (Row.sInt Syntax.w32)) (Row.sInt Syntax.w32 .of)
+  s4 = Scalar.n-use T0 (Scalar.oFld 6 ((Syntax.field 0) ∷ []) u32 0 (Reads.fieldV Form.the-type Laws'6.the-laws 0)) 15 (Rows'.sc-here (Row.sInt Syntax.w32)) (Row.sInt Syntax.w32 .of)
 
   abbrev s5 : Typed.Mo T6 → Typed.Mo T7
-  s5 = Scalar.n-use T6 (Scalar.oFld 6 ((Syntax.field 1) ∷ []) Syntax.tyBool 4 (Reads.fieldV Form.the-type Laws.the-laws 1)) 16 (Rows'.sc-here Row.sBool) (Row.sBool .of)
+  s5 = Scalar.n-use T6 (Scalar.oFld 6 ((Syntax.field 1) ∷ []) Syntax.tyBool 4 (Reads.fieldV Form.the-type Laws'6.the-laws 1)) 16 (Rows'.sc-here Row.sBool) (Row.sBool .of)
 
   abbrev s6 : Typed.Both T7 T8
   s6 = Call.callB ps·0 r·0 (claims· .0) (claims· .1) T7 (Bool.bAt 16 λ x. x, tt) 17 [] u64
@@ -1295,16 +1298,16 @@ module _ (claims· : Claims) where
   s7 = LocalCopy.n-val-copy T8 11 18 (Declared'.row Place.the-type) (Rows'.whole (Declared'.row Place.the-type)) (Rows'.whole (Declared'.row Place.the-type)) (λ x. x) (λ x. x) λ x. x
 
   abbrev s8 : Typed.Both T9 T10
-  s8 = Call.callB ps·1 r·1 (claims· .2) (claims· .3) T9 (record { pos = 11; st = []; d = 0; at = λ x. x }, tt) 25 [] y13
+  s8 = Call.callB ps·1 r·1 (claims· .2) (claims· .3) T9 (record { pos = 11; st = []; d = 0; at = λ x. x }, tt) 25 [] y12
 
   abbrev s9 : Typed.Mo T10 → Typed.Mo T11
   s9 = Scalar.n-room T10 11 y22
 
   abbrev s10 : Typed.Both T11 T12
-  s10 = Call.callB ps·2 r·2 (claims· .4) (claims· .5) T11 (record { pos = 25; st = []; d = 0; at = λ x. x }, tt) 19 [] y18
+  s10 = Call.callB ps·2 r·2 (claims· .4) (claims· .5) T11 (record { pos = 25; st = []; d = 0; at = λ x. x }, tt) 19 [] y17
 
   abbrev s11 : Typed.Mo T12 → Typed.Mo T13
-  s11 = Scalar.n-room T12 25 y13
+  s11 = Scalar.n-room T12 25 y12
 
   abbrev s12 : Typed.Mo T13 → Typed.Mo T14
   s12 = Scalar.n-use T13 (Scalar.oInt Syntax.w64 0) 20 (Rows'.sc-here (Row.sInt Syntax.w64)) (Row.sInt Syntax.w64 .of)
@@ -1317,7 +1320,7 @@ module _ (claims· : Claims) where
   s14 = Scalar.n-room T16 26 Syntax.tyBool
 
   abbrev s15 : Typed.Mo T16 → Typed.Mo T19
-  s15 = Scalar.n-room T16 6 y15
+  s15 = Scalar.n-room T16 6 y14
 
   abbrev s16 : Typed.Mo T19 → Typed.Mo T20
   s16 = Scalar.n-room T19 8 y2
@@ -1402,7 +1405,7 @@ module _ (claims· : Claims) where
   s51 = Relend.k-sl-aggregate n16 (Relend.asMut n16) T54 36 37 10 y10 y10 (λ x. x) (Scalar.oFld 5 ((Syntax.field 1) ∷ []) u64 8 λ v. Shared.lenV (v .0))
 
   abbrev s52 : Typed.Both T55 T56
-  s52 = Call.callB ps·7 r·7 (claims· .14) (claims· .15) T55 (record { pos = 14; st = []; d = 0; at = λ x. x }, (Num.vAt 15 λ x. x, (Num.vAt 22 λ x. x, tt))) 38 [] y17
+  s52 = Call.callB ps·7 r·7 (claims· .14) (claims· .15) T55 (record { pos = 14; st = []; d = 0; at = λ x. x }, (Num.vAt 15 λ x. x, (Num.vAt 22 λ x. x, tt))) 38 [] y18
 
   abbrev pub a2 : ArgsT ps·8 (T56 .locals)
   a2 = (
@@ -1435,7 +1438,7 @@ module _ (claims· : Claims) where
   s53 = Call.callB ps·8 r·8 (claims· .16) (claims· .17) T56 a2 23 (0 ∷ 8 ∷ 9 ∷ 10 ∷ 5 ∷ []) y25
 
   abbrev s54 : Typed.Mo T57 → Typed.Mo T59
-  s54 = Scalar.n-room T57 38 y17
+  s54 = Scalar.n-room T57 38 y18
 
   abbrev s56 : Typed.Both T59 T61
   s56 = Relend.k-back-sl n16 T59 33 3 2 8 y5 y10 Row.off (λ x. x) λ x. x
@@ -1456,7 +1459,7 @@ module _ (claims· : Claims) where
   s66 = Known.k-enum-known Lined.enum 0 T68 23 λ x. x
 
   abbrev s67 : Typed.Gives T71 T71
-  s67 = Known.k-known-told Lined.enum Laws'.the-laws 0 T71 23 λ x. x
+  s67 = Known.k-known-told Lined.enum Laws'7.the-laws 0 T71 23 λ x. x
 
   abbrev s68 : Typed.Mo T71 → Typed.Mo T73
   s68 = Scalar.n-room T71 18 y22
@@ -1471,7 +1474,7 @@ module _ (claims· : Claims) where
   s71 = Known.k-enum-told Lined.enum 1 T68 23 λ x. x
 
   abbrev s72 : Typed.Mo T68 → Typed.Mo T77
-  s72 = Scalar.n-room T68 6 y15
+  s72 = Scalar.n-room T68 6 y14
 
   abbrev s73 : Typed.Mo T77 → Typed.Mo T78
   s73 = Scalar.n-room T77 8 y2
@@ -1480,7 +1483,7 @@ module _ (claims· : Claims) where
   s74 = Scalar.n-room T78 14 y27
 
   abbrev s75 : Typed.Mo T79 → Typed.Mo T80
-  s75 = Scalar.n-room T79 19 y18
+  s75 = Scalar.n-room T79 19 y17
 
   abbrev s76 : Typed.Mo T80 → Typed.Mo T81
   s76 = Scalar.n-room T80 23 y25
@@ -1510,7 +1513,7 @@ module _ (claims· : Claims) where
   s85 = Know.k-sl-known (Referent.fInt Syntax.w16) T89 5 4 y7 Row.off 0 λ x. x
 
   abbrev s87 : Typed.Both T89 T92
-  s87 = Call.callB ps·1 r·1 (claims· .2) (claims· .3) T89 (record { pos = 18; st = []; d = 0; at = λ x. x }, tt) 42 [] y13
+  s87 = Call.callB ps·1 r·1 (claims· .2) (claims· .3) T89 (record { pos = 18; st = []; d = 0; at = λ x. x }, tt) 42 [] y12
 
   abbrev s88 : Typed.Mo T92 → Typed.Mo T93
   s88 = Scalar.n-room T92 18 y22
@@ -1522,7 +1525,7 @@ module _ (claims· : Claims) where
   )))
 
   abbrev s90 : Typed.Mo T94 → Typed.Mo T95
-  s90 = Scalar.n-room T94 42 y13
+  s90 = Scalar.n-room T94 42 y12
 
   abbrev s91 : Typed.Mo T95 → Typed.Mo T96
   s91 = Scalar.n-room T95 10 u64
@@ -1558,7 +1561,7 @@ module _ (claims· : Claims) where
   s101 = Scalar.n-room T105 24 y22
 
   abbrev s102 : Typed.Both T36 T107
-  s102 = Call.callB ps·1 r·1 (claims· .2) (claims· .3) T36 (record { pos = 18; st = []; d = 0; at = λ x. x }, tt) 43 [] y13
+  s102 = Call.callB ps·1 r·1 (claims· .2) (claims· .3) T36 (record { pos = 18; st = []; d = 0; at = λ x. x }, tt) 43 [] y12
 
   abbrev pub a0 : ArgsT ps·10 (T107 .locals)
   a0 = (
@@ -1567,10 +1570,10 @@ module _ (claims· : Claims) where
   )
 
   abbrev s103 : Typed.Both T107 T107
-  s103 = Call.callB ps·10 r·10 (claims· .20) (claims· .21) T107 a0 19 [] y18
+  s103 = Call.callB ps·10 r·10 (claims· .20) (claims· .21) T107 a0 19 [] y17
 
   abbrev s104 : Typed.Mo T107 → Typed.Mo T36
-  s104 = Scalar.n-room T107 43 y13
+  s104 = Scalar.n-room T107 43 y12
 
   abbrev s106 : Typed.Gives T36 T111
   s106 = Reshare.k-sl-reshare n16 T36 3 44 2 12 y5 y8 Row.off λ x. x
@@ -1634,7 +1637,7 @@ module _ (claims· : Claims) where
   s125 = Scalar.n-room T129 22 u32
 
   abbrev s126 : Typed.Both T15 T131
-  s126 = Call.callB ps·1 r·1 (claims· .2) (claims· .3) T15 (record { pos = 18; st = []; d = 0; at = λ x. x }, tt) 25 [] y13
+  s126 = Call.callB ps·1 r·1 (claims· .2) (claims· .3) T15 (record { pos = 18; st = []; d = 0; at = λ x. x }, tt) 25 [] y12
 
   abbrev s127 : Typed.Mo T131 → Typed.Mo T132
   s127 = Scalar.n-room T131 18 y22
@@ -1653,13 +1656,13 @@ module _ (claims· : Claims) where
   s131 = Scalar.n-room T135 17 u64
 
   abbrev s132 : Typed.Mo T136 → Typed.Mo T137
-  s132 = Scalar.n-room T136 19 y18
+  s132 = Scalar.n-room T136 19 y17
 
   abbrev s133 : Typed.Mo T137 → Typed.Mo T138
   s133 = Scalar.n-room T137 20 u64
 
   abbrev s134 : Typed.Mo T138 → Typed.Mo T139
-  s134 = Scalar.n-room T138 25 y13
+  s134 = Scalar.n-room T138 25 y12
 
   abbrev s135 : Typed.Mo T139 → Typed.Mo T140
   s135 = Scalar.n-room T139 10 u64
@@ -1681,14 +1684,14 @@ module _ (claims· : Claims) where
   module _ (Pre· : (κs : Lifetimes.Lfts 6) → Kinds.Dens κs ps → Type 0) (Post· : (κs : Lifetimes.Lfts 6) → (a : Kinds.Dens κs ps) → Kinds.Plain 6 ps r κs) where
     module _ (M : Type 1) where
       abbrev pub Closed : Type 2
-      Closed = (𝓤 : URA.URA M) (H : Wp.Heap 𝓤) (A : Atoms.Atoms 𝓤) (W : Kit.Given 𝓤 H A) (𝓣 : Wp.Tables 𝓤 H) (known0 : Plain.Known 𝓤 H A W 𝓣 0 ps·0 r·0 (claims· .0) (claims· .1) "image_map::width") (known1
-          : Plain.Known 𝓤 H A W 𝓣 0 ps·1 r·1 (claims· .2) (claims· .3) "read_block::reading::totals_at") (known2 : Plain.Known 𝓤 H A W 𝓣 0 ps·2 r·2 (claims· .4) (claims· .5) "read_block::reading::no_lines") (known3
-          : Plain.Known 𝓤 H A W 𝓣 1 ps·3 r·3 (claims· .6) (claims· .7) "colour_lines::turn_if") (known4 : Plain.Known 𝓤 H A W 𝓣 1 ps·4 r·4 (claims· .8) (claims· .9) "cameras::taking::base_of") (known5 : Plain.Known 𝓤 H A
-          W 𝓣 1 ps·5 r·5 (claims· .10) (claims· .11) "read_block::reading::is_restarted") (known6 : Plain.Known 𝓤 H A W 𝓣 1 ps·6 r·6 (claims· .12) (claims· .13) "read_block::records::restart") (known7 : Plain.Known
-          𝓤 H A W 𝓣 0 ps·7 r·7 (claims· .14) (claims· .15) "read_block::reading::quantisers_in") (known8 : Plain.Known 𝓤 H A W 𝓣 5 ps·8 r·8 (claims· .16) (claims· .17) "read_block::reading::line") (known9 :
-          Plain.Known 𝓤 H A W 𝓣 1 ps·9 r·9 (claims· .18) (claims· .19) "image_map::zero_rows::zero_line") (known10 : Plain.Known 𝓤 H A W 𝓣 0 ps·10 r·10 (claims· .20) (claims· .21) "line_totals::with_line") (known11 :
-          Plain.Known 𝓤 H A W 𝓣 3 ps·11 r·11 (claims· .22) (claims· .23) "image_map::emit::emit_line_if") → Statement.Triple 𝓤 (Wp.WpFn 𝓤 H (𝓣 .C) (𝓣 .Λ) (Function.fnOf 6 ps r xs m hs body)) (Function.plainOf 𝓤 H A
-          6 ps r Pre· Post·)
+      Closed = (𝓤 : URA.URA M) (H : Wp.Heap 𝓤) (A : Atoms.Atoms 𝓤) (W : Kit.Given 𝓤 H A) (𝓣 : Wp.Tables 𝓤 H) (known0 : Plain.Known 𝓤 H A W 𝓣 0 ps·0 r·0 (claims· .0) (claims· .1) "image_map::width")
+          (known1 : Plain.Known 𝓤 H A W 𝓣 0 ps·1 r·1 (claims· .2) (claims· .3) "read_block::reading::totals_at") (known2 : Plain.Known 𝓤 H A W 𝓣 0 ps·2 r·2 (claims· .4) (claims· .5)
+          "read_block::reading::no_lines") (known3 : Plain.Known 𝓤 H A W 𝓣 1 ps·3 r·3 (claims· .6) (claims· .7) "colour_lines::turn_if") (known4 : Plain.Known 𝓤 H A W 𝓣 1 ps·4 r·4 (claims· .8) (claims·
+          .9) "cameras::taking::base_of") (known5 : Plain.Known 𝓤 H A W 𝓣 1 ps·5 r·5 (claims· .10) (claims· .11) "read_block::reading::is_restarted") (known6 : Plain.Known 𝓤 H A W 𝓣 1 ps·6 r·6 (claims·
+          .12) (claims· .13) "read_block::records::restart") (known7 : Plain.Known 𝓤 H A W 𝓣 0 ps·7 r·7 (claims· .14) (claims· .15) "read_block::reading::quantisers_in") (known8 : Plain.Known 𝓤 H A W 𝓣 5
+          ps·8 r·8 (claims· .16) (claims· .17) "read_block::reading::line") (known9 : Plain.Known 𝓤 H A W 𝓣 1 ps·9 r·9 (claims· .18) (claims· .19) "image_map::zero_rows::zero_line") (known10 : Plain.Known
+          𝓤 H A W 𝓣 0 ps·10 r·10 (claims· .20) (claims· .21) "line_totals::with_line") (known11 : Plain.Known 𝓤 H A W 𝓣 3 ps·11 r·11 (claims· .22) (claims· .23) "image_map::emit::emit_line_if") →
+          Statement.Triple 𝓤 (Wp.WpFn 𝓤 H (𝓣 .C) (𝓣 .Λ) (Function.fnOf 6 ps r xs m hs body)) (Function.plainOf 𝓤 H A 6 ps r Pre· Post·)
 
     module _ (Inv·0 : InvT-loop) (μ·0 : MeasureT-loop) where
       abbrev at0 : Typed.TF T14 O4
@@ -2068,12 +2071,12 @@ module _ (claims· : Claims) where
 
       module _ {M : Type 1} (𝓤 : URA.URA M) (H : Wp.Heap 𝓤) (A : Atoms.Atoms 𝓤) (W : Kit.Given 𝓤 H A) (𝓣 : Wp.Tables 𝓤 H) where
         abbrev Knowns : Type 1
-        Knowns = Plain.Known 𝓤 H A W 𝓣 0 ps·0 r·0 (claims· .0) (claims· .1) "image_map::width" × Plain.Known 𝓤 H A W 𝓣 0 ps·1 r·1 (claims· .2) (claims· .3) "read_block::reading::totals_at" × Plain.Known 𝓤 H A W
-            𝓣 0 ps·2 r·2 (claims· .4) (claims· .5) "read_block::reading::no_lines" × Plain.Known 𝓤 H A W 𝓣 1 ps·3 r·3 (claims· .6) (claims· .7) "colour_lines::turn_if" × Plain.Known 𝓤 H A W 𝓣 1 ps·4 r·4 (claims· .8)
-            (claims· .9) "cameras::taking::base_of" × Plain.Known 𝓤 H A W 𝓣 1 ps·5 r·5 (claims· .10) (claims· .11) "read_block::reading::is_restarted" × Plain.Known 𝓤 H A W 𝓣 1 ps·6 r·6 (claims· .12) (claims· .13)
-            "read_block::records::restart" × Plain.Known 𝓤 H A W 𝓣 0 ps·7 r·7 (claims· .14) (claims· .15) "read_block::reading::quantisers_in" × Plain.Known 𝓤 H A W 𝓣 5 ps·8 r·8 (claims· .16) (claims· .17)
-            "read_block::reading::line" × Plain.Known 𝓤 H A W 𝓣 1 ps·9 r·9 (claims· .18) (claims· .19) "image_map::zero_rows::zero_line" × Plain.Known 𝓤 H A W 𝓣 0 ps·10 r·10 (claims· .20) (claims· .21)
-            "line_totals::with_line" × Plain.Known 𝓤 H A W 𝓣 3 ps·11 r·11 (claims· .22) (claims· .23) "image_map::emit::emit_line_if"
+        Knowns = Plain.Known 𝓤 H A W 𝓣 0 ps·0 r·0 (claims· .0) (claims· .1) "image_map::width" × Plain.Known 𝓤 H A W 𝓣 0 ps·1 r·1 (claims· .2) (claims· .3) "read_block::reading::totals_at" ×
+            Plain.Known 𝓤 H A W 𝓣 0 ps·2 r·2 (claims· .4) (claims· .5) "read_block::reading::no_lines" × Plain.Known 𝓤 H A W 𝓣 1 ps·3 r·3 (claims· .6) (claims· .7) "colour_lines::turn_if" × Plain.Known 𝓤
+            H A W 𝓣 1 ps·4 r·4 (claims· .8) (claims· .9) "cameras::taking::base_of" × Plain.Known 𝓤 H A W 𝓣 1 ps·5 r·5 (claims· .10) (claims· .11) "read_block::reading::is_restarted" × Plain.Known 𝓤 H A W
+            𝓣 1 ps·6 r·6 (claims· .12) (claims· .13) "read_block::records::restart" × Plain.Known 𝓤 H A W 𝓣 0 ps·7 r·7 (claims· .14) (claims· .15) "read_block::reading::quantisers_in" × Plain.Known 𝓤 H A
+            W 𝓣 5 ps·8 r·8 (claims· .16) (claims· .17) "read_block::reading::line" × Plain.Known 𝓤 H A W 𝓣 1 ps·9 r·9 (claims· .18) (claims· .19) "image_map::zero_rows::zero_line" × Plain.Known 𝓤 H A W 𝓣
+            0 ps·10 r·10 (claims· .20) (claims· .21) "line_totals::with_line" × Plain.Known 𝓤 H A W 𝓣 3 ps·11 r·11 (claims· .22) (claims· .23) "image_map::emit::emit_line_if"
 
       module _ (κs : Lifetimes.Lfts 6) (qs : Lifetimes.Shares 6) where
         abbrev k0 : Row.Life
@@ -2415,25 +2418,25 @@ module _ (claims· : Claims) where
           d6 = Typed.g-pre 𝓤 H A W 𝓣 E (on T19 l13) (on T20 l13) b9 Δ4 (Typed.pass T19 T20 s16) at5 (Scalar.g-room 𝓤 H A W E (on T19 l13) 8 y2 (Init.room-arr 𝓤 H A W n8 36 0 36 Path'.refl)) d5
 
           d7 : Typed.Typed 𝓤 H A 𝓣 E (on T16 l13) b9 Δ4 at7
-          d7 = Typed.g-pre 𝓤 H A W 𝓣 E (on T16 l13) (on T19 l13) b9 Δ4 (Typed.pass T16 T19 s15) at6 (Scalar.g-room 𝓤 H A W E (on T16 l13) 6 y15 (Local.room-whole 𝓤 H A W (Declared'.row Form.the-type)
-              y15 Path'.refl)) d6
+          d7 = Typed.g-pre 𝓤 H A W 𝓣 E (on T16 l13) (on T19 l13) b9 Δ4 (Typed.pass T16 T19 s15) at6 (Scalar.g-room 𝓤 H A W E (on T16 l13) 6 y14 (Local.room-whole 𝓤 H A W (Declared'.row Form.the-type)
+              y14 Path'.refl)) d6
 
           d8 : Typed.Typed 𝓤 H A 𝓣 E (on T16 l13) b10 Δ4 at8
           d8 = Scalar.t-cond 𝓤 H A W E 𝓣 (on T16 l13) 26 (λ x. x) Syntax.skip b9 Δ4 at1 at7 (Scalar.reads-sc 𝓤 H A W Row.sBool) Path'.refl d1 d7
 
           d9 : Typed.Typed 𝓤 H A 𝓣 E (on T73 l13) b29 Δ5 at9
           d9 = Typed.s-typed 𝓤 H A W 𝓣 E (on T73 l13) b29 Δ5 (λ Ψ. Typed.pass T73 T74 s69 (Typed.pass T74 T58 s70 Ψ)) tt (Typed.g-post 𝓤 H A W 𝓣 E (on T73 l13) (on T74 l13) (on T58 l13) b29
-              (Typed.pass T73 T74 s69) (Typed.pass T74 T58 s70) (CopyOut.t-copy-told 𝓤 H A W E 𝓣 (Declared'.row Place.the-type) Path'.refl (Laws'10.val Place.the-type Laws'4.the-laws) (Laws'10.lawful
-              Place.the-type Laws'4.the-laws 𝓤 H A W) (Laws'10.makes Place.the-type Laws'4.the-plain 𝓤 H A) (on T73 l13) 24 (Scalar.oFld 23 ((Syntax.variant 0) ∷ (Syntax.field 1) ∷ []) y22 8 λ v.
-              Laws'10.val Place.the-type Laws'4.the-laws (v .0)) (λ m. m .1 .1 .1 .1 .1 .1 .1 .1 .1 .1 .1 .1 .1 .1 .1 .1 .1 .1 .1 .1 .1 .1 .1 .0 .0) (λ m. Laws'9.Fields (Declared.variants Lined.the-type)
-              (Laws'9.spellss (Lined.enum .parts) Laws'.the-laws) (Lined.the-type .to (Known.at Lined.enum 0 (m .1 .1 .1 .1 .1 .1 .1 .1 .1 .1 .1 .1 .1 .1 .1 .1 .1 .1 .1 .1 .1 .1 .1 .0))))
+              (Typed.pass T73 T74 s69) (Typed.pass T74 T58 s70) (CopyOut.t-copy-told 𝓤 H A W E 𝓣 (Declared'.row Place.the-type) Path'.refl (Laws'10.val Place.the-type Laws'.the-laws) (Laws'10.lawful
+              Place.the-type Laws'.the-laws 𝓤 H A W) (Laws'10.makes Place.the-type Laws'.the-plain 𝓤 H A) (on T73 l13) 24 (Scalar.oFld 23 ((Syntax.variant 0) ∷ (Syntax.field 1) ∷ []) y22 8 λ v.
+              Laws'10.val Place.the-type Laws'.the-laws (v .0)) (λ m. m .1 .1 .1 .1 .1 .1 .1 .1 .1 .1 .1 .1 .1 .1 .1 .1 .1 .1 .1 .1 .1 .1 .1 .0 .0) (λ m. Laws'9.Fields (Declared.variants Lined.the-type)
+              (Laws'9.spellss (Lined.enum .parts) Laws'7.the-laws) (Lined.the-type .to (Known.at Lined.enum 0 (m .1 .1 .1 .1 .1 .1 .1 .1 .1 .1 .1 .1 .1 .1 .1 .1 .1 .1 .1 .1 .1 .1 .1 .0))))
               (Reads'.room-gone 𝓤 H A y22) (
-                Match.reads-payload 𝓤 H A W Lined.enum Laws'.the-laws 0 Path'.refl Path'.refl (λ v. Val.vcons (Laws'10.val Place.the-type Laws'4.the-laws (v .0)) Val.vnil) (λ v. Path'.refl) 0 y22 8
+                Match.reads-payload 𝓤 H A W Lined.enum Laws'7.the-laws 0 Path'.refl Path'.refl (λ v. Val.vcons (Laws'10.val Place.the-type Laws'.the-laws (v .0)) Val.vnil) (λ v. Path'.refl) 0 y22 8
                     Path'.refl,
                 Path'.refl,
               ) Path'.refl (λ ρ m. Make'.tells-row 𝓤 H A W E ρ (Row.out 24 ((on T73 l13) .locals)) m 23 (Laws'9.Fields (Declared.variants Lined.the-type) (Laws'9.spellss (Lined.enum
-              .parts) Laws'.the-laws) (Lined.the-type .to (Known.at Lined.enum 0 (m .1 .1 .1 .1 .1 .1 .1 .1 .1 .1 .1 .1 .1 .1 .1 .1 .1 .1 .1 .1 .1 .1 .1 .0)))) (Known.known-is 𝓤 H A W E Lined.enum 0
-              Laws'.the-laws ρ 23 (m .1 .1 .1 .1 .1 .1 .1 .1 .1 .1 .1 .1 .1 .1 .1 .1 .1 .1 .1 .1 .1 .1 .1 .0))) (λ m k wa. Path'.refl) λ m k wa. k .0) (Scalar.g-room 𝓤 H A W E (on T74 l13) 23 y25
+              .parts) Laws'7.the-laws) (Lined.the-type .to (Known.at Lined.enum 0 (m .1 .1 .1 .1 .1 .1 .1 .1 .1 .1 .1 .1 .1 .1 .1 .1 .1 .1 .1 .1 .1 .1 .1 .0)))) (Known.known-is 𝓤 H A W E Lined.enum 0
+              Laws'7.the-laws ρ 23 (m .1 .1 .1 .1 .1 .1 .1 .1 .1 .1 .1 .1 .1 .1 .1 .1 .1 .1 .1 .1 .1 .1 .1 .0))) (λ m k wa. Path'.refl) λ m k wa. k .0) (Scalar.g-room 𝓤 H A W E (on T74 l13) 23 y25
               (Local.room-whole 𝓤 H A W (Known.Known Lined.enum 0) y25 Path'.refl)))
 
           d10 : Typed.Typed 𝓤 H A 𝓣 E (on T71 l13) b29 Δ5 at10
@@ -2441,7 +2444,7 @@ module _ (claims· : Claims) where
               Place.the-type) y22 Path'.refl)) d9
 
           d11 : Typed.Typed 𝓤 H A 𝓣 E (on T71 l13) b29 Δ5 at11
-          d11 = Typed.g-pre 𝓤 H A W 𝓣 E (on T71 l13) (on T71 l13) b29 Δ5 (Typed.give s67) at10 (Known.g-known-told 𝓤 H A W E Lined.enum 0 (on T71 l13) 23 Laws'.the-laws (λ x. x) (Reads'.as-is 𝓤 H A
+          d11 = Typed.g-pre 𝓤 H A W 𝓣 E (on T71 l13) (on T71 l13) b29 Δ5 (Typed.give s67) at10 (Known.g-known-told 𝓤 H A W E Lined.enum 0 (on T71 l13) 23 Laws'7.the-laws (λ x. x) (Reads'.as-is 𝓤 H A
               (Rows'.whole (Known.Known Lined.enum 0)))) d10
 
           d12 : Typed.Typed 𝓤 H A 𝓣 E (on T68 l13) b29 Δ5 at12
@@ -2482,37 +2485,37 @@ module _ (claims· : Claims) where
           d22 = Typed.g-pre 𝓤 H A W 𝓣 E (on T95 l13) (on T96 l13) b35 Δ5 (Typed.pass T95 T96 s91) at21 (Scalar.g-room 𝓤 H A W E (on T95 l13) 10 u64 (Scalar.room-sc 𝓤 H A W (Row.sInt Syntax.w64))) d21
 
           d23 : Typed.Typed 𝓤 H A 𝓣 E (on T94 l13) b35 Δ5 at23
-          d23 = Typed.g-pre 𝓤 H A W 𝓣 E (on T94 l13) (on T95 l13) b35 Δ5 (Typed.pass T94 T95 s90) at22 (Scalar.g-room 𝓤 H A W E (on T94 l13) 42 y13 (Local.room-whole 𝓤 H A W (Declared'.row
-              Totals.the-type) y13 Path'.refl)) d22
+          d23 = Typed.g-pre 𝓤 H A W 𝓣 E (on T94 l13) (on T95 l13) b35 Δ5 (Typed.pass T94 T95 s90) at22 (Scalar.g-room 𝓤 H A W E (on T94 l13) 42 y12 (Local.room-whole 𝓤 H A W (Declared'.row
+              Totals.the-type) y12 Path'.refl)) d22
 
           d24 : Typed.Typed 𝓤 H A 𝓣 E (on T93 l13) (Syntax.seq b34 b35) Δ5 at24
-          d24 = Typed.s-seq 𝓤 H A W 𝓣 E (on T93 l13) (on T94 l13) b34 b35 Δ5 (Typed.pass T93 T94 s89) at23 (Make.t-enum-make-wt 𝓤 H A W E 𝓣 Walked.the-type Laws''.the-laws Laws''.the-plain tt (on T93
-              l13) 0 ((Scalar.oInt Syntax.w8 1) ∷ (Scalar.oAt 21 u64 (Row.valS (Row.sInt Syntax.w64))) ∷ (Scalar.oAt 42 y13 (Laws'10.val Totals.the-type Laws'8.the-laws)) ∷ []) (λ m. Walked.enum .make
+          d24 = Typed.s-seq 𝓤 H A W 𝓣 E (on T93 l13) (on T94 l13) b34 b35 Δ5 (Typed.pass T93 T94 s89) at23 (Make.t-enum-make-wt 𝓤 H A W E 𝓣 Walked.the-type Laws'8.the-laws Laws'8.the-plain tt (on T93
+              l13) 0 ((Scalar.oInt Syntax.w8 1) ∷ (Scalar.oAt 21 u64 (Row.valS (Row.sInt Syntax.w64))) ∷ (Scalar.oAt 42 y12 (Laws'10.val Totals.the-type Laws'4.the-laws)) ∷ []) (λ m. Walked.enum .make
               (Logic.inr (Logic.inl (
                 m .1 .1 .1 .1 .1 .1 .1 .1 .1 .1 .1 .1 .1 .1 .1 .1 .1 .1 .1 .1 .1 .0,
                 (m .1 .1 .1 .1 .1 .1 .1 .1 .1 .1 .1 .1 .1 .1 .1 .1 .1 .1 .1 .1 .1 .1 .1 .1 .1 .1 .1 .1 .1 .1 .1 .1 .1 .1 .1 .1 .1 .1 .1 .1 .1 .1 .0, tt),
               )))) (Reads'.room-gone 𝓤 H A y26)
-              (tt, ((Scalar.reads-sc 𝓤 H A W (Row.sInt Syntax.w64), Path'.refl), ((Reads.reads-struct 𝓤 H A W Totals.the-type Laws'8.the-laws, Path'.refl), tt))) Path'.refl (λ m wa. Make.made-val
-              Walked.the-type Laws''.the-laws ((Laws''.the-laws .1 .0 .0 .val (m .1 .1 .1 .1 .1 .1 .1 .1 .1 .1 .1 .1 .1 .1 .1 .1 .1 .1 .1 .1 .1 .0)) ∷ (Laws'10.val Totals.the-type Laws'8.the-laws (m .1 .1
+              (tt, ((Scalar.reads-sc 𝓤 H A W (Row.sInt Syntax.w64), Path'.refl), ((Reads.reads-struct 𝓤 H A W Totals.the-type Laws'4.the-laws, Path'.refl), tt))) Path'.refl (λ m wa. Make.made-val
+              Walked.the-type Laws'8.the-laws ((Laws'8.the-laws .1 .0 .0 .val (m .1 .1 .1 .1 .1 .1 .1 .1 .1 .1 .1 .1 .1 .1 .1 .1 .1 .1 .1 .1 .1 .0)) ∷ (Laws'10.val Totals.the-type Laws'4.the-laws (m .1 .1
               .1 .1 .1 .1 .1 .1 .1 .1 .1 .1 .1 .1 .1 .1 .1 .1 .1 .1 .1 .1 .1 .1 .1 .1 .1 .1 .1 .1 .1 .1 .1 .1 .1 .1 .1 .1 .1 .1 .1 .1 .0)) ∷ []) (Walked.enum .make (Logic.inr (Logic.inl (
                 m .1 .1 .1 .1 .1 .1 .1 .1 .1 .1 .1 .1 .1 .1 .1 .1 .1 .1 .1 .1 .1 .0,
                 (m .1 .1 .1 .1 .1 .1 .1 .1 .1 .1 .1 .1 .1 .1 .1 .1 .1 .1 .1 .1 .1 .1 .1 .1 .1 .1 .1 .1 .1 .1 .1 .1 .1 .1 .1 .1 .1 .1 .1 .1 .1 .1 .0, tt),
               )))) (
-                Signed.made-wt Field.u64-field (Laws''.the-laws .1 .0 .0) Make'.u64-wt (m .1 .1 .1 .1 .1 .1 .1 .1 .1 .1 .1 .1 .1 .1 .1 .1 .1 .1 .1 .1 .1 .0),
+                Signed.made-wt Field.u64-field (Laws'8.the-laws .1 .0 .0) Make'.u64-wt (m .1 .1 .1 .1 .1 .1 .1 .1 .1 .1 .1 .1 .1 .1 .1 .1 .1 .1 .1 .1 .1 .0),
                 (
-                  Signed.made-wt Totals.the-field Laws'8.the-field-laws (Make'.struct-wt Totals.the-type Laws'8.the-laws (Make'.u64-wt, (Make'.u64-wt, tt))) (Totals.the-type .to (m .1 .1 .1 .1 .1 .1 .1 .1 .1
+                  Signed.made-wt Totals.the-field Laws'4.the-field-laws (Make'.struct-wt Totals.the-type Laws'4.the-laws (Make'.u64-wt, (Make'.u64-wt, tt))) (Totals.the-type .to (m .1 .1 .1 .1 .1 .1 .1 .1 .1
                       .1 .1 .1 .1 .1 .1 .1 .1 .1 .1 .1 .1 .1 .1 .1 .1 .1 .1 .1 .1 .1 .1 .1 .1 .1 .1 .1 .1 .1 .1 .1 .1 .1 .0)),
                   tt,
                 ),
-              ) (wa .1)) λ m wa. Make.made-is Walked.the-type Laws''.the-laws ((Laws''.the-laws
-              .1 .0 .0 .val (m .1 .1 .1 .1 .1 .1 .1 .1 .1 .1 .1 .1 .1 .1 .1 .1 .1 .1 .1 .1 .1 .0)) ∷ (Laws'10.val Totals.the-type Laws'8.the-laws (m .1 .1 .1 .1 .1 .1 .1 .1 .1 .1 .1 .1 .1 .1 .1 .1 .1 .1
+              ) (wa .1)) λ m wa. Make.made-is Walked.the-type Laws'8.the-laws ((Laws'8.the-laws
+              .1 .0 .0 .val (m .1 .1 .1 .1 .1 .1 .1 .1 .1 .1 .1 .1 .1 .1 .1 .1 .1 .1 .1 .1 .1 .0)) ∷ (Laws'10.val Totals.the-type Laws'4.the-laws (m .1 .1 .1 .1 .1 .1 .1 .1 .1 .1 .1 .1 .1 .1 .1 .1 .1 .1
               .1 .1 .1 .1 .1 .1 .1 .1 .1 .1 .1 .1 .1 .1 .1 .1 .1 .1 .1 .1 .1 .1 .1 .1 .0)) ∷ []) (Walked.enum .make (Logic.inr (Logic.inl (
                 m .1 .1 .1 .1 .1 .1 .1 .1 .1 .1 .1 .1 .1 .1 .1 .1 .1 .1 .1 .1 .1 .0,
                 (m .1 .1 .1 .1 .1 .1 .1 .1 .1 .1 .1 .1 .1 .1 .1 .1 .1 .1 .1 .1 .1 .1 .1 .1 .1 .1 .1 .1 .1 .1 .1 .1 .1 .1 .1 .1 .1 .1 .1 .1 .1 .1 .0, tt),
               )))) (
-                Signed.made-wt Field.u64-field (Laws''.the-laws .1 .0 .0) Make'.u64-wt (m .1 .1 .1 .1 .1 .1 .1 .1 .1 .1 .1 .1 .1 .1 .1 .1 .1 .1 .1 .1 .1 .0),
+                Signed.made-wt Field.u64-field (Laws'8.the-laws .1 .0 .0) Make'.u64-wt (m .1 .1 .1 .1 .1 .1 .1 .1 .1 .1 .1 .1 .1 .1 .1 .1 .1 .1 .1 .1 .1 .0),
                 (
-                  Signed.made-wt Totals.the-field Laws'8.the-field-laws (Make'.struct-wt Totals.the-type Laws'8.the-laws (Make'.u64-wt, (Make'.u64-wt, tt))) (Totals.the-type .to (m .1 .1 .1 .1 .1 .1 .1 .1 .1
+                  Signed.made-wt Totals.the-field Laws'4.the-field-laws (Make'.struct-wt Totals.the-type Laws'4.the-laws (Make'.u64-wt, (Make'.u64-wt, tt))) (Totals.the-type .to (m .1 .1 .1 .1 .1 .1 .1 .1 .1
                       .1 .1 .1 .1 .1 .1 .1 .1 .1 .1 .1 .1 .1 .1 .1 .1 .1 .1 .1 .1 .1 .1 .1 .1 .1 .1 .1 .1 .1 .1 .1 .1 .1 .0)),
                   tt,
                 ),
@@ -2525,7 +2528,7 @@ module _ (claims· : Claims) where
           d26 : Typed.Typed 𝓤 H A 𝓣 E (on T89 l13) b37 Δ5 at26
           d26 = Typed.s-seq 𝓤 H A W 𝓣 E (on T89 l13) (on T92 l13) b33 (Syntax.seq b34 b35) Δ5 (Typed.both s87) at25 (Plain.t-call-plain 𝓤 H A W 𝓣 0 ps·1 r·1 (claims· .2) (claims· .3)
               "read_block::reading::totals_at" (known .1) E (λ pos β. β) (on T89 l13) (record { pos = 18; st = []; d = 0; at = λ x. x }, tt) 42 [] (Call.sub-id 𝓤 H A W ((on T89 l13) .slots))
-              ((Values.struct-copied 𝓤 H A W Place.the-type Laws'4.the-laws Laws'4.the-copy, Path'.refl), tt) (Reads'.room-gone 𝓤 H A y13) tt Path'.refl) d25
+              ((Values.struct-copied 𝓤 H A W Place.the-type Laws'.the-laws Laws'.the-copy, Path'.refl), tt) (Reads'.room-gone 𝓤 H A y12) tt Path'.refl) d25
 
           d27 : Typed.Typed 𝓤 H A 𝓣 E (on T89 l11) b37 Δ5 at26
           d27 = Typed.g-pre 𝓤 H A W 𝓣 E (on T89 l11) (on T89 l13) b37 Δ5 (λ Ψ. Ψ) at26 (Lifetime.g-forget 𝓤 H A W E (on T89 l11) 11 Row.dead Path'.refl) d26
@@ -2548,14 +2551,14 @@ module _ (claims· : Claims) where
           d32 = Typed.g-pre 𝓤 H A W 𝓣 E G85 G86 b37 Δ5 (Typed.pass T85 T86 s81) at31 (Scalar.g-room 𝓤 H A W E G85 9 y11 (Local.room-whole 𝓤 H A W (Declared'.row Part.the-type) y11 Path'.refl)) d31
 
           d33 : Typed.Typed 𝓤 H A 𝓣 E G84 (Syntax.seq b32 b37) Δ5 at33
-          d33 = Typed.s-seq 𝓤 H A W 𝓣 E G84 G85 b32 b37 Δ5 (Typed.both s80) at32 (Plain.t-call-plain 𝓤 H A W 𝓣 1 ps·9 r·9 (claims· .18) (claims· .19) "image_map::zero_rows::zero_line" (known .9) E (λ pos β. β)
-              G84 (record { pos = 41; ty = y10; ref = λ x. x }, (record { pos = 9; st = []; d = 0; at = λ x. x }, (Num.vAt 21 λ x. x, (Bool.bAt 13 λ x. x, tt)))) 39 (11 ∷ []) (Call.sub-id 𝓤 H A W (G84
-              .slots)) (
+          d33 = Typed.s-seq 𝓤 H A W 𝓣 E G84 G85 b32 b37 Δ5 (Typed.both s80) at32 (Plain.t-call-plain 𝓤 H A W 𝓣 1 ps·9 r·9 (claims· .18) (claims· .19) "image_map::zero_rows::zero_line" (known .9) E (λ
+              pos β. β) G84 (record { pos = 41; ty = y10; ref = λ x. x }, (record { pos = 9; st = []; d = 0; at = λ x. x }, (Num.vAt 21 λ x. x, (Bool.bAt 13 λ x. x, tt)))) 39 (11 ∷ []) (Call.sub-id 𝓤 H A
+              W (G84 .slots)) (
                 Reads'.as-is 𝓤 H A (Mut.mslice n16 y10 11),
                 Mut.reads-mslice 𝓤 H A W n16 y10 11,
                 Path'.refl,
                 (
-                  (Values.struct-copied 𝓤 H A W Part.the-type Laws'5.the-laws Laws'5.the-copy, Path'.refl),
+                  (Values.struct-copied 𝓤 H A W Part.the-type Laws''.the-laws Laws''.the-copy, Path'.refl),
                   ((Scalar.reads-sc 𝓤 H A W (Row.sInt Syntax.w64), Path'.refl), ((Scalar.reads-sc 𝓤 H A W Row.sBool, Path'.refl), tt)),
                 ),
               ) (Reads'.room-gone 𝓤 H A Syntax.tyUnit) (tt, tt) Path'.refl) d32
@@ -2579,8 +2582,8 @@ module _ (claims· : Claims) where
               Lined.the-type) y25 Path'.refl)) d36
 
           d38 : Typed.Typed 𝓤 H A 𝓣 E (on T79 l13) b40 Δ5 at38
-          d38 = Typed.g-pre 𝓤 H A W 𝓣 E (on T79 l13) (on T80 l13) b40 Δ5 (Typed.pass T79 T80 s75) at37 (Scalar.g-room 𝓤 H A W E (on T79 l13) 19 y18 (Local.room-whole 𝓤 H A W (Declared'.row
-              TightLines.the-type) y18 Path'.refl)) d37
+          d38 = Typed.g-pre 𝓤 H A W 𝓣 E (on T79 l13) (on T80 l13) b40 Δ5 (Typed.pass T79 T80 s75) at37 (Scalar.g-room 𝓤 H A W E (on T79 l13) 19 y17 (Local.room-whole 𝓤 H A W (Declared'.row
+              TightLines.the-type) y17 Path'.refl)) d37
 
           d39 : Typed.Typed 𝓤 H A 𝓣 E (on T78 l13) b40 Δ5 at39
           d39 = Typed.g-pre 𝓤 H A W 𝓣 E (on T78 l13) (on T79 l13) b40 Δ5 (Typed.pass T78 T79 s74) at38 (Scalar.g-room 𝓤 H A W E (on T78 l13) 14 y27 (Local.room-whole 𝓤 H A W (Declared'.row
@@ -2590,8 +2593,8 @@ module _ (claims· : Claims) where
           d40 = Typed.g-pre 𝓤 H A W 𝓣 E (on T77 l13) (on T78 l13) b40 Δ5 (Typed.pass T77 T78 s73) at39 (Scalar.g-room 𝓤 H A W E (on T77 l13) 8 y2 (Init.room-arr 𝓤 H A W n8 36 0 36 Path'.refl)) d39
 
           d41 : Typed.Typed 𝓤 H A 𝓣 E (on T68 l13) b40 Δ5 at41
-          d41 = Typed.g-pre 𝓤 H A W 𝓣 E (on T68 l13) (on T77 l13) b40 Δ5 (Typed.pass T68 T77 s72) at40 (Scalar.g-room 𝓤 H A W E (on T68 l13) 6 y15 (Local.room-whole 𝓤 H A W (Declared'.row
-              Form.the-type) y15 Path'.refl)) d40
+          d41 = Typed.g-pre 𝓤 H A W 𝓣 E (on T68 l13) (on T77 l13) b40 Δ5 (Typed.pass T68 T77 s72) at40 (Scalar.g-room 𝓤 H A W E (on T68 l13) 6 y14 (Local.room-whole 𝓤 H A W (Declared'.row
+              Form.the-type) y14 Path'.refl)) d40
 
           d42 : Typed.Typed 𝓤 H A 𝓣 E (on T68 l13) b40 Δ5 at42
           d42 = Typed.g-pre 𝓤 H A W 𝓣 E (on T68 l13) (on T68 l13) b40 Δ5 (Typed.both s71) at41 (Known.g-enum-told 𝓤 H A W E Lined.enum 1 (on T68 l13) 23 λ x. x) d41
@@ -2600,7 +2603,7 @@ module _ (claims· : Claims) where
           d43 = Switch.t-switch-on 𝓤 H A W E 𝓣 (on T68 l13) (Scalar.oFld 23 ((Syntax.variant 0) ∷ (Syntax.field 0) ∷ []) u8 0 λ x. Val.vint Syntax.w8 (Declared.tagOf Lined.the-type x)) Syntax.w8 (λ u.
               Declared.tagOf Lined.the-type (u .1 .1 .1 .1 .1 .1 .1 .1 .1 .1 .1 .1 .1 .1 .1 .1 .1 .1 .1 .1 .1 .1 .1 .0)) (Syntax.arm (0 ∷ []) b29 (Syntax.arm (1 ∷ []) b40 Syntax.noDefault)) Δ5
               (at12, (at42, tt))
-              (Match.reads-tag 𝓤 H A W Lined.the-type Laws'.the-laws (Rows'.whole (Declared.row Lined.the-type)) 0 (λ x. x) (Whole.reads-enum 𝓤 H A W Lined.the-type Laws'.the-laws), Path'.refl) (λ u.
+              (Match.reads-tag 𝓤 H A W Lined.the-type Laws'7.the-laws (Rows'.whole (Declared.row Lined.the-type)) 0 (λ x. x) (Whole.reads-enum 𝓤 H A W Lined.the-type Laws'7.the-laws), Path'.refl) (λ u.
               Path'.refl) (d12, (d42, tt))
 
           d44 : Typed.Typed 𝓤 H A 𝓣 E (on T68 l10) b41 Δ5 at43
@@ -2642,7 +2645,7 @@ module _ (claims· : Claims) where
           d54 = Typed.g-pre 𝓤 H A W 𝓣 E G59 G60 b41 Δ5 (λ Ψ. Ψ) at53 (Lifetime.g-end 𝓤 H A W E G59 8 Path'.refl) d53
 
           d55 : Typed.Typed 𝓤 H A 𝓣 E G57 b41 Δ5 at55
-          d55 = Typed.g-pre 𝓤 H A W 𝓣 E G57 G59 b41 Δ5 (Typed.pass T57 T59 s54) at53 (Scalar.g-room 𝓤 H A W E G57 38 y17 (Local.room-whole 𝓤 H A W (Declared'.row Quantisers.the-type) y17 Path'.refl))
+          d55 = Typed.g-pre 𝓤 H A W 𝓣 E G57 G59 b41 Δ5 (Typed.pass T57 T59 s54) at53 (Scalar.g-room 𝓤 H A W E G57 38 y18 (Local.room-whole 𝓤 H A W (Declared'.row Quantisers.the-type) y18 Path'.refl))
               d54
 
           d56 : Typed.Typed 𝓤 H A 𝓣 E (on T36 l13) b51 Δ3 at56
@@ -2687,8 +2690,8 @@ module _ (claims· : Claims) where
           d66 = Typed.g-pre 𝓤 H A W 𝓣 E G117 G118 b51 Δ3 (Typed.pass T117 T118 s113) at65 (Scalar.g-room 𝓤 H A W E G117 45 y20 (Shared.room-sslice 𝓤 H A W n16 y8 12)) d65
 
           d67 : Typed.Typed 𝓤 H A 𝓣 E G116 (Syntax.seq b50 b51) Δ3 at67
-          d67 = Typed.s-seq 𝓤 H A W 𝓣 E G116 G117 b50 b51 Δ3 (Typed.both s112) at66 (Plain.t-call-plain 𝓤 H A W 𝓣 3 ps·11 r·11 (claims· .22) (claims· .23) "image_map::emit::emit_line_if" (known .11) E (λ pos β.
-              β) G116 (
+          d67 = Typed.s-seq 𝓤 H A W 𝓣 E G116 G117 b50 b51 Δ3 (Typed.both s112) at66 (Plain.t-call-plain 𝓤 H A W 𝓣 3 ps·11 r·11 (claims· .22) (claims· .23) "image_map::emit::emit_line_if" (known .11) E
+              (λ pos β. β) G116 (
                 record { pos = 45; ty = y8; ref = λ x. x },
                 (
                   record { pos = 47; ty = y10; ref = λ x. x },
@@ -2723,7 +2726,7 @@ module _ (claims· : Claims) where
                         (
                           (Array.arr-yields 𝓤 H A W (Array.eInt Syntax.w8) (Array.eInt-laws Syntax.w8) 36, Path'.refl),
                           (
-                            (Values.struct-copied 𝓤 H A W Part.the-type Laws'5.the-laws Laws'5.the-copy, Path'.refl),
+                            (Values.struct-copied 𝓤 H A W Part.the-type Laws''.the-laws Laws''.the-copy, Path'.refl),
                             ((Scalar.reads-sc 𝓤 H A W (Row.sInt Syntax.w64), Path'.refl), ((Scalar.reads-sc 𝓤 H A W Row.sBool, Path'.refl), tt)),
                           ),
                         ),
@@ -2768,31 +2771,31 @@ module _ (claims· : Claims) where
               d73
 
           d75 : Typed.Typed 𝓤 H A 𝓣 E (on T107 l13) b57 Δ3 at75
-          d75 = Typed.g-pre 𝓤 H A W 𝓣 E (on T107 l13) (on T36 l13) b57 Δ3 (Typed.pass T107 T36 s104) at73 (Scalar.g-room 𝓤 H A W E (on T107 l13) 43 y13 (Local.room-whole 𝓤 H A W (Declared'.row
-              Totals.the-type) y13 Path'.refl)) d74
+          d75 = Typed.g-pre 𝓤 H A W 𝓣 E (on T107 l13) (on T36 l13) b57 Δ3 (Typed.pass T107 T36 s104) at73 (Scalar.g-room 𝓤 H A W E (on T107 l13) 43 y12 (Local.room-whole 𝓤 H A W (Declared'.row
+              Totals.the-type) y12 Path'.refl)) d74
 
           d76 : Typed.Typed 𝓤 H A 𝓣 E (on T107 l13) (Syntax.seq b44 b57) Δ3 at76
-          d76 = Typed.s-seq 𝓤 H A W 𝓣 E (on T107 l13) (on T107 l13) b44 b57 Δ3 (Typed.both s103) at75 (Plain.t-call-plain 𝓤 H A W 𝓣 0 ps·10 r·10 (claims· .20) (claims· .21) "line_totals::with_line" (known
-              .10) E (λ pos β. β) (on T107 l13) (
+          d76 = Typed.s-seq 𝓤 H A W 𝓣 E (on T107 l13) (on T107 l13) b44 b57 Δ3 (Typed.both s103) at75 (Plain.t-call-plain 𝓤 H A W 𝓣 0 ps·10 r·10 (claims· .20) (claims· .21) "line_totals::with_line"
+              (known .10) E (λ pos β. β) (on T107 l13) (
                 record { pos = 19; st = []; d = 0; at = λ x. x },
                 (Num.vAt 20 λ x. x, (Bool.bFld 18 ((Syntax.field 1) ∷ []) 8 λ x. Place.struct .as-values x .1 .0, (record { pos = 43; st = []; d = 0; at = λ x. x }, tt))),
               ) 19 [] (Call.sub-id 𝓤 H A W ((on
               T107 l13) .slots)) (
-                (Values.struct-copied 𝓤 H A W TightLines.the-type Laws'7.the-laws Laws'7.the-copy, Path'.refl),
+                (Values.struct-copied 𝓤 H A W TightLines.the-type Laws'3.the-laws Laws'3.the-copy, Path'.refl),
                 (
                   (Scalar.reads-sc 𝓤 H A W (Row.sInt Syntax.w64), Path'.refl),
                   (
-                    (Reads.reads-field 𝓤 H A W Place.the-type Laws'4.the-laws 1 Syntax.tyBool 8 Path'.refl, Path'.refl),
-                    ((Values.struct-copied 𝓤 H A W Totals.the-type Laws'8.the-laws Laws'8.the-copy, Path'.refl), tt),
+                    (Reads.reads-field 𝓤 H A W Place.the-type Laws'.the-laws 1 Syntax.tyBool 8 Path'.refl, Path'.refl),
+                    ((Values.struct-copied 𝓤 H A W Totals.the-type Laws'4.the-laws Laws'4.the-copy, Path'.refl), tt),
                   ),
                 ),
-              ) (Local.room-whole 𝓤 H A W (Declared'.row TightLines.the-type) y18 Path'.refl) tt
+              ) (Local.room-whole 𝓤 H A W (Declared'.row TightLines.the-type) y17 Path'.refl) tt
               Path'.refl) d75
 
           d77 : Typed.Typed 𝓤 H A 𝓣 E (on T36 l13) (Syntax.seq b43 (Syntax.seq b44 b57)) Δ3 at77
           d77 = Typed.s-seq 𝓤 H A W 𝓣 E (on T36 l13) (on T107 l13) b43 (Syntax.seq b44 b57) Δ3 (Typed.both s102) at76 (Plain.t-call-plain 𝓤 H A W 𝓣 0 ps·1 r·1 (claims· .2) (claims· .3)
               "read_block::reading::totals_at" (known .1) E (λ pos β. β) (on T36 l13) (record { pos = 18; st = []; d = 0; at = λ x. x }, tt) 43 [] (Call.sub-id 𝓤 H A W ((on T36 l13) .slots))
-              ((Values.struct-copied 𝓤 H A W Place.the-type Laws'4.the-laws Laws'4.the-copy, Path'.refl), tt) (Reads'.room-gone 𝓤 H A y13) tt Path'.refl) d76
+              ((Values.struct-copied 𝓤 H A W Place.the-type Laws'.the-laws Laws'.the-copy, Path'.refl), tt) (Reads'.room-gone 𝓤 H A y12) tt Path'.refl) d76
 
           d78 : Typed.Typed 𝓤 H A 𝓣 E (on T105 l13) (Syntax.seq b43 (Syntax.seq b44 b57)) Δ3 at78
           d78 = Typed.g-pre 𝓤 H A W 𝓣 E (on T105 l13) (on T36 l13) (Syntax.seq b43 (Syntax.seq b44 b57)) Δ3 (Typed.pass T105 T36 s101) at77 (Scalar.g-room 𝓤 H A W E (on T105 l13) 24 y22
@@ -2801,15 +2804,15 @@ module _ (claims· : Claims) where
           d79 : Typed.Typed 𝓤 H A 𝓣 E (on T58 l13) b60 Δ3 at79
           d79 = Typed.s-seq 𝓤 H A W 𝓣 E (on T58 l13) (on T105 l13) b42 (Syntax.seq b43 (Syntax.seq b44 b57)) Δ3 (Typed.pass T58 T105 s100) at78 (LocalCopy.t-val-copy 𝓤 H A W E 𝓣 (λ ρ. Unit) (on T58
               l13) 24 18 (Declared'.row Place.the-type) y22 y22 (Rows'.whole (Declared'.row Place.the-type)) (Rows'.whole (Declared'.row Place.the-type)) (λ x. x) (λ x. x) (λ x. x) Path'.refl
-              (Own.told-none 𝓤 H A ((on T58 l13) .slots)) (Values.struct-copied 𝓤 H A W Place.the-type Laws'4.the-laws Laws'4.the-copy) (Reads'.room-gone 𝓤 H A y22) (Yields.makes-mem 𝓤 H A W (λ ρ. Unit)
+              (Own.told-none 𝓤 H A ((on T58 l13) .slots)) (Values.struct-copied 𝓤 H A W Place.the-type Laws'.the-laws Laws'.the-copy) (Reads'.room-gone 𝓤 H A y22) (Yields.makes-mem 𝓤 H A W (λ ρ. Unit)
               (Declared'.row Place.the-type) Path'.refl (Rows'.whole (Declared'.row Place.the-type)) (λ x. x) λ ρ told. Local.whole-mem 𝓤 H A W (Declared'.row Place.the-type) ρ) Path'.refl Path'.refl) d78
 
           d80 : Typed.Typed 𝓤 H A 𝓣 E G57 (Syntax.seq b41 b60) Δ3 at80
           d80 = Typed.t-seq 𝓤 H A W 𝓣 E G57 (on T58 l13) b41 b60 Δ3 at55 at79 d55 d79
 
           d81 : Typed.Typed 𝓤 H A 𝓣 E G56 (Syntax.seq b28 (Syntax.seq b41 b60)) Δ3 at81
-          d81 = Typed.s-seq 𝓤 H A W 𝓣 E G56 G57 b28 (Syntax.seq b41 b60) Δ3 (Typed.both s53) at80 (Plain.t-call-plain 𝓤 H A W 𝓣 5 ps·8 r·8 (claims· .16) (claims· .17) "read_block::reading::line" (known .8)
-              E (λ pos β. β) G56 (
+          d81 = Typed.s-seq 𝓤 H A W 𝓣 E G56 G57 b28 (Syntax.seq b41 b60) Δ3 (Typed.both s53) at80 (Plain.t-call-plain 𝓤 H A W 𝓣 5 ps·8 r·8 (claims· .16) (claims· .17) "read_block::reading::line"
+              (known .8) E (λ pos β. β) G56 (
                 record { pos = 1; ty = y3; ref = λ x. x },
                 (
                   record { pos = 18; st = []; d = 0; at = λ x. x },
@@ -2839,7 +2842,7 @@ module _ (claims· : Claims) where
                 Shared.reads-sslice 𝓤 H A W n8 y3 0,
                 Path'.refl,
                 (
-                  (Values.struct-copied 𝓤 H A W Place.the-type Laws'4.the-laws Laws'4.the-copy, Path'.refl),
+                  (Values.struct-copied 𝓤 H A W Place.the-type Laws'.the-laws Laws'.the-copy, Path'.refl),
                   (
                     Reads'.as-is 𝓤 H A (Mut.mslice n16 y10 8),
                     Mut.reads-mslice 𝓤 H A W n16 y10 8,
@@ -2853,9 +2856,9 @@ module _ (claims· : Claims) where
                         Mut.reads-mslice 𝓤 H A W n16 y10 10,
                         Path'.refl,
                         (
-                          (Values.struct-copied 𝓤 H A W Form.the-type Laws.the-laws Laws.the-copy, Path'.refl),
+                          (Values.struct-copied 𝓤 H A W Form.the-type Laws'6.the-laws Laws'6.the-copy, Path'.refl),
                           (
-                            (Values.struct-copied 𝓤 H A W Quantisers.the-type Laws'6.the-laws Laws'6.the-copy, Path'.refl),
+                            (Values.struct-copied 𝓤 H A W Quantisers.the-type Laws'5.the-laws Laws'5.the-copy, Path'.refl),
                             (
                               ShrRef.spares-sref 𝓤 H A W (Array'.Array n16 768) y16 5,
                               Reads'.reads-sref 𝓤 H A W (Array'.Array n16 768) y16 5,
@@ -2863,7 +2866,7 @@ module _ (claims· : Claims) where
                               (
                                 (Array.arr-yields 𝓤 H A W (Array.eInt Syntax.w8) (Array.eInt-laws Syntax.w8) 36, Path'.refl),
                                 (
-                                  (Values.struct-copied 𝓤 H A W Part.the-type Laws'5.the-laws Laws'5.the-copy, Path'.refl),
+                                  (Values.struct-copied 𝓤 H A W Part.the-type Laws''.the-laws Laws''.the-copy, Path'.refl),
                                   ((Scalar.reads-sc 𝓤 H A W (Row.sInt Syntax.w64), Path'.refl), ((Scalar.reads-sc 𝓤 H A W Row.sBool, Path'.refl), tt)),
                                 ),
                               ),
@@ -2879,11 +2882,11 @@ module _ (claims· : Claims) where
 
           d82 : Typed.Typed 𝓤 H A 𝓣 E G55 b63 Δ3 at82
           d82 = Typed.s-seq 𝓤 H A W 𝓣 E G55 G56 b27 (Syntax.seq b28 (Syntax.seq b41 b60)) Δ3 (Typed.both s52) at81 (Plain.t-call-plain 𝓤 H A W 𝓣 0 ps·7 r·7 (claims· .14) (claims· .15)
-              "read_block::reading::quantisers_in" (known .7) E (λ pos β. β) G55 (record { pos = 14; st = []; d = 0; at = λ x. x }, (Num.vAt 15 λ x. x, (Num.vAt 22 λ x. x, tt))) 38 [] (Call.sub-id 𝓤 H A W (G55
-              .slots)) (
-                (Values.struct-copied 𝓤 H A W Entries.the-type Laws'3.the-laws Laws'3.the-copy, Path'.refl),
+              "read_block::reading::quantisers_in" (known .7) E (λ pos β. β) G55 (record { pos = 14; st = []; d = 0; at = λ x. x }, (Num.vAt 15 λ x. x, (Num.vAt 22 λ x. x, tt))) 38 [] (Call.sub-id 𝓤 H A W
+              (G55 .slots)) (
+                (Values.struct-copied 𝓤 H A W Entries.the-type Laws.the-laws Laws.the-copy, Path'.refl),
                 ((Scalar.reads-sc 𝓤 H A W (Row.sInt Syntax.w32), Path'.refl), ((Scalar.reads-sc 𝓤 H A W (Row.sInt Syntax.w32), Path'.refl), tt)),
-              ) (Reads'.room-gone 𝓤 H A y17) tt Path'.refl) d81
+              ) (Reads'.room-gone 𝓤 H A y18) tt Path'.refl) d81
 
           d83 : Typed.Typed 𝓤 H A 𝓣 E G54 (Syntax.seq b26 b63) Δ3 at83
           d83 = Typed.s-seq 𝓤 H A W 𝓣 E G54 G55 b26 b63 Δ3 (Typed.ask s51) at82 (Relend.t-sl-aggregate 𝓤 H A W E n16 𝓣 (Relend.asMut n16) G54 36 37 10 y10 y10 (λ x. x) (Scalar.oFld 5 ((Syntax.field 1)
@@ -2944,8 +2947,8 @@ module _ (claims· : Claims) where
           d96 = Typed.g-pre 𝓤 H A W 𝓣 E G41 G42 b69 Δ3 (Typed.pass T41 T42 s38) at95 (Scalar.g-room 𝓤 H A W E G41 26 Syntax.tyBool (Scalar.room-sc 𝓤 H A W Row.sBool)) d95
 
           d97 : Typed.Typed 𝓤 H A 𝓣 E G40 (Syntax.seq b20 b69) Δ3 at97
-          d97 = Typed.s-seq 𝓤 H A W 𝓣 E G40 G41 b20 b69 Δ3 (Typed.both s37) at96 (Plain.t-call-plain 𝓤 H A W 𝓣 1 ps·6 r·6 (claims· .12) (claims· .13) "read_block::records::restart" (known .6) E (λ pos β.
-              β) G40 (record { pos = 31; ty = y9; ref = λ x. x }, (Num.vAt 15 λ x. x, (Num.vAt 22 λ x. x, (Bool.bAt 26 λ x. x, tt)))) 27 (7 ∷ []) (Call.sub-id 𝓤 H A W (G40 .slots)) (
+          d97 = Typed.s-seq 𝓤 H A W 𝓣 E G40 G41 b20 b69 Δ3 (Typed.both s37) at96 (Plain.t-call-plain 𝓤 H A W 𝓣 1 ps·6 r·6 (claims· .12) (claims· .13) "read_block::records::restart" (known .6) E (λ pos
+              β. β) G40 (record { pos = 31; ty = y9; ref = λ x. x }, (Num.vAt 15 λ x. x, (Num.vAt 22 λ x. x, (Bool.bAt 26 λ x. x, tt)))) 27 (7 ∷ []) (Call.sub-id 𝓤 H A W (G40 .slots)) (
                 Reads'.as-is 𝓤 H A (Mut.mslice (Element.type) y9 7),
                 Mut.reads-mslice 𝓤 H A W (Element.type) y9 7,
                 Path'.refl,
@@ -2954,8 +2957,8 @@ module _ (claims· : Claims) where
               (Reads'.room-gone 𝓤 H A Syntax.tyUnit) (tt, tt) Path'.refl) d96
 
           d98 : Typed.Typed 𝓤 H A 𝓣 E G39 (Syntax.seq b19 (Syntax.seq b20 b69)) Δ3 at98
-          d98 = Typed.s-seq 𝓤 H A W 𝓣 E G39 G40 b19 (Syntax.seq b20 b69) Δ3 (Typed.both s36) at97 (Plain.t-call-plain 𝓤 H A W 𝓣 1 ps·5 r·5 (claims· .10) (claims· .11) "read_block::reading::is_restarted"
-              (known .5) E (λ pos β. β) G39 (record { pos = 2; ty = y4; ref = λ x. x }, (Num.vAt 21 λ x. x, tt)) 26 (1 ∷ []) (Call.sub-id 𝓤 H A W (G39 .slots))
+          d98 = Typed.s-seq 𝓤 H A W 𝓣 E G39 G40 b19 (Syntax.seq b20 b69) Δ3 (Typed.both s36) at97 (Plain.t-call-plain 𝓤 H A W 𝓣 1 ps·5 r·5 (claims· .10) (claims· .11)
+              "read_block::reading::is_restarted" (known .5) E (λ pos β. β) G39 (record { pos = 2; ty = y4; ref = λ x. x }, (Num.vAt 21 λ x. x, tt)) 26 (1 ∷ []) (Call.sub-id 𝓤 H A W (G39 .slots))
               (ShrSlice.spares-sslice 𝓤 H A W n8 y4 1, Shared.reads-sslice 𝓤 H A W n8 y4 1, Path'.refl, ((Scalar.reads-sc 𝓤 H A W (Row.sInt Syntax.w64), Path'.refl), tt)) (Reads'.room-gone 𝓤 H A
               Syntax.tyBool) (tt, tt) Path'.refl) d97
 
@@ -2975,9 +2978,9 @@ module _ (claims· : Claims) where
 
           d102 : Typed.Typed 𝓤 H A 𝓣 E (on T24 l13) b74 Δ3 at102
           d102 = Typed.s-seq 𝓤 H A W 𝓣 E (on T24 l13) (on T36 l13) b16 (Syntax.seq b17 b72) Δ3 (Typed.both s32) at100 (Plain.t-call-plain 𝓤 H A W 𝓣 1 ps·4 r·4 (claims· .8) (claims· .9)
-              "cameras::taking::base_of" (known .4) E (λ pos β. β) (on T24 l13) (record { pos = 2; ty = y4; ref = λ x. x }, (Num.vAt 21 λ x. x, tt)) 22 (1 ∷ []) (Call.sub-id 𝓤 H A W ((on T24 l13) .slots))
-              (ShrSlice.spares-sslice 𝓤 H A W n8 y4 1, Shared.reads-sslice 𝓤 H A W n8 y4 1, Path'.refl, ((Scalar.reads-sc 𝓤 H A W (Row.sInt Syntax.w64), Path'.refl), tt)) (Reads'.room-gone 𝓤 H A u32)
-              (tt, tt) Path'.refl) d101
+              "cameras::taking::base_of" (known .4) E (λ pos β. β) (on T24 l13) (record { pos = 2; ty = y4; ref = λ x. x }, (Num.vAt 21 λ x. x, tt)) 22 (1 ∷ []) (Call.sub-id 𝓤 H A W ((on T24 l13)
+              .slots)) (ShrSlice.spares-sslice 𝓤 H A W n8 y4 1, Shared.reads-sslice 𝓤 H A W n8 y4 1, Path'.refl, ((Scalar.reads-sc 𝓤 H A W (Row.sInt Syntax.w64), Path'.refl), tt)) (Reads'.room-gone 𝓤 H A
+              u32) (tt, tt) Path'.refl) d101
 
           d103 : Typed.Typed 𝓤 H A 𝓣 E (on T24 l9) b74 Δ3 at102
           d103 = Typed.g-pre 𝓤 H A W 𝓣 E (on T24 l9) (on T24 l13) b74 Δ3 (λ Ψ. Ψ) at102 (Lifetime.g-forget 𝓤 H A W E (on T24 l9) 6 Row.dead Path'.refl) d102
@@ -3000,8 +3003,8 @@ module _ (claims· : Claims) where
           d108 = Typed.g-pre 𝓤 H A W 𝓣 E G29 G30 b74 Δ3 (Typed.pass T29 T30 s26) at107 (Scalar.g-room 𝓤 H A W E G29 26 Syntax.tyBool (Scalar.room-sc 𝓤 H A W Row.sBool)) d107
 
           d109 : Typed.Typed 𝓤 H A 𝓣 E G28 (Syntax.seq b15 b74) Δ3 at109
-          d109 = Typed.s-seq 𝓤 H A W 𝓣 E G28 G29 b15 b74 Δ3 (Typed.both s25) at108 (Plain.t-call-plain 𝓤 H A W 𝓣 1 ps·3 r·3 (claims· .6) (claims· .7) "colour_lines::turn_if" (known .3) E (λ pos β. β) G28
-              (record { pos = 29; ty = y10; ref = λ x. x }, (Num.vAt 17 λ x. x, (Bool.bAt 26 λ x. x, tt))) 27 (6 ∷ []) (Call.sub-id 𝓤 H A W (G28 .slots)) (
+          d109 = Typed.s-seq 𝓤 H A W 𝓣 E G28 G29 b15 b74 Δ3 (Typed.both s25) at108 (Plain.t-call-plain 𝓤 H A W 𝓣 1 ps·3 r·3 (claims· .6) (claims· .7) "colour_lines::turn_if" (known .3) E (λ pos β. β)
+              G28 (record { pos = 29; ty = y10; ref = λ x. x }, (Num.vAt 17 λ x. x, (Bool.bAt 26 λ x. x, tt))) 27 (6 ∷ []) (Call.sub-id 𝓤 H A W (G28 .slots)) (
                 Reads'.as-is 𝓤 H A (Mut.mslice n16 y10 6),
                 Mut.reads-mslice 𝓤 H A W n16 y10 6,
                 Path'.refl,
@@ -3071,16 +3074,16 @@ module _ (claims· : Claims) where
               Syntax.w64))) d121
 
           d123 : Typed.Typed 𝓤 H A 𝓣 E (on T138 l13) b86 Δ0 at123
-          d123 = Typed.g-pre 𝓤 H A W 𝓣 E (on T138 l13) (on T139 l13) b86 Δ0 (Typed.pass T138 T139 s134) at122 (Scalar.g-room 𝓤 H A W E (on T138 l13) 25 y13 (Local.room-whole 𝓤 H A W (Declared'.row
-              Totals.the-type) y13 Path'.refl)) d122
+          d123 = Typed.g-pre 𝓤 H A W 𝓣 E (on T138 l13) (on T139 l13) b86 Δ0 (Typed.pass T138 T139 s134) at122 (Scalar.g-room 𝓤 H A W E (on T138 l13) 25 y12 (Local.room-whole 𝓤 H A W (Declared'.row
+              Totals.the-type) y12 Path'.refl)) d122
 
           d124 : Typed.Typed 𝓤 H A 𝓣 E (on T137 l13) b86 Δ0 at124
           d124 = Typed.g-pre 𝓤 H A W 𝓣 E (on T137 l13) (on T138 l13) b86 Δ0 (Typed.pass T137 T138 s133) at123 (Scalar.g-room 𝓤 H A W E (on T137 l13) 20 u64 (Scalar.room-sc 𝓤 H A W (Row.sInt
               Syntax.w64))) d123
 
           d125 : Typed.Typed 𝓤 H A 𝓣 E (on T136 l13) b86 Δ0 at125
-          d125 = Typed.g-pre 𝓤 H A W 𝓣 E (on T136 l13) (on T137 l13) b86 Δ0 (Typed.pass T136 T137 s132) at124 (Scalar.g-room 𝓤 H A W E (on T136 l13) 19 y18 (Local.room-whole 𝓤 H A W (Declared'.row
-              TightLines.the-type) y18 Path'.refl)) d124
+          d125 = Typed.g-pre 𝓤 H A W 𝓣 E (on T136 l13) (on T137 l13) b86 Δ0 (Typed.pass T136 T137 s132) at124 (Scalar.g-room 𝓤 H A W E (on T136 l13) 19 y17 (Local.room-whole 𝓤 H A W (Declared'.row
+              TightLines.the-type) y17 Path'.refl)) d124
 
           d126 : Typed.Typed 𝓤 H A 𝓣 E (on T135 l13) b86 Δ0 at126
           d126 = Typed.g-pre 𝓤 H A W 𝓣 E (on T135 l13) (on T136 l13) b86 Δ0 (Typed.pass T135 T136 s131) at125 (Scalar.g-room 𝓤 H A W E (on T135 l13) 17 u64 (Scalar.room-sc 𝓤 H A W (Row.sInt
@@ -3095,30 +3098,30 @@ module _ (claims· : Claims) where
               Syntax.w32))) d127
 
           d129 : Typed.Typed 𝓤 H A 𝓣 E (on T132 l13) (Syntax.seq b85 b86) Δ0 at129
-          d129 = Typed.s-seq 𝓤 H A W 𝓣 E (on T132 l13) (on T133 l13) b85 b86 Δ0 (Typed.pass T132 T133 s128) at128 (Make.t-enum-make-wt 𝓤 H A W E 𝓣 Walked.the-type Laws''.the-laws Laws''.the-plain tt
-              (on T132 l13) 0 ((Scalar.oInt Syntax.w8 0) ∷ (Scalar.oAt 25 y13 (Laws'10.val Totals.the-type Laws'8.the-laws)) ∷ (Scalar.oAt 19 y18 (Laws'10.val TightLines.the-type Laws'7.the-laws)) ∷ [])
+          d129 = Typed.s-seq 𝓤 H A W 𝓣 E (on T132 l13) (on T133 l13) b85 b86 Δ0 (Typed.pass T132 T133 s128) at128 (Make.t-enum-make-wt 𝓤 H A W E 𝓣 Walked.the-type Laws'8.the-laws Laws'8.the-plain tt
+              (on T132 l13) 0 ((Scalar.oInt Syntax.w8 0) ∷ (Scalar.oAt 25 y12 (Laws'10.val Totals.the-type Laws'4.the-laws)) ∷ (Scalar.oAt 19 y17 (Laws'10.val TightLines.the-type Laws'3.the-laws)) ∷ [])
               (λ m. Walked.enum .make (Logic.inl (m .1 .1 .1 .1 .1 .1 .1 .1 .1 .1 .1 .1 .1 .1 .1 .1 .1 .1 .1 .1 .1 .1 .1 .1 .1 .0, (m .1 .1 .1 .1 .1 .1 .1 .1 .1 .1 .1 .1 .1 .1 .1 .1 .1 .1 .1 .0, tt))))
               (Reads'.room-gone 𝓤 H A y26)
-              (tt, ((Reads.reads-struct 𝓤 H A W Totals.the-type Laws'8.the-laws, Path'.refl), ((Reads.reads-struct 𝓤 H A W TightLines.the-type Laws'7.the-laws, Path'.refl), tt))) Path'.refl (λ m wa.
-              Make.made-val Walked.the-type Laws''.the-laws ((Laws'10.val Totals.the-type Laws'8.the-laws (m .1 .1 .1 .1 .1 .1 .1 .1 .1 .1 .1 .1 .1 .1 .1 .1 .1 .1 .1 .1 .1 .1 .1 .1 .1 .0)) ∷ (Laws'10.val
-              TightLines.the-type Laws'7.the-laws (m .1 .1 .1 .1 .1 .1 .1 .1 .1 .1 .1 .1 .1 .1 .1 .1 .1 .1 .1 .0)) ∷ []) (Walked.enum .make (Logic.inl
+              (tt, ((Reads.reads-struct 𝓤 H A W Totals.the-type Laws'4.the-laws, Path'.refl), ((Reads.reads-struct 𝓤 H A W TightLines.the-type Laws'3.the-laws, Path'.refl), tt))) Path'.refl (λ m wa.
+              Make.made-val Walked.the-type Laws'8.the-laws ((Laws'10.val Totals.the-type Laws'4.the-laws (m .1 .1 .1 .1 .1 .1 .1 .1 .1 .1 .1 .1 .1 .1 .1 .1 .1 .1 .1 .1 .1 .1 .1 .1 .1 .0)) ∷ (Laws'10.val
+              TightLines.the-type Laws'3.the-laws (m .1 .1 .1 .1 .1 .1 .1 .1 .1 .1 .1 .1 .1 .1 .1 .1 .1 .1 .1 .0)) ∷ []) (Walked.enum .make (Logic.inl
               (m .1 .1 .1 .1 .1 .1 .1 .1 .1 .1 .1 .1 .1 .1 .1 .1 .1 .1 .1 .1 .1 .1 .1 .1 .1 .0, (m .1 .1 .1 .1 .1 .1 .1 .1 .1 .1 .1 .1 .1 .1 .1 .1 .1 .1 .1 .0, tt)))) (
-                Signed.made-wt Totals.the-field Laws'8.the-field-laws (Make'.struct-wt Totals.the-type Laws'8.the-laws (Make'.u64-wt, (Make'.u64-wt, tt))) (Totals.the-type .to (m .1 .1 .1 .1 .1 .1 .1 .1 .1
+                Signed.made-wt Totals.the-field Laws'4.the-field-laws (Make'.struct-wt Totals.the-type Laws'4.the-laws (Make'.u64-wt, (Make'.u64-wt, tt))) (Totals.the-type .to (m .1 .1 .1 .1 .1 .1 .1 .1 .1
                     .1 .1 .1 .1 .1 .1 .1 .1 .1 .1 .1 .1 .1 .1 .1 .1 .0)),
                 (
-                  Signed.made-wt TightLines.the-field Laws'7.the-field-laws (Make'.struct-wt TightLines.the-type Laws'7.the-laws
-                      (Make'.u64-wt, (Make'.struct-wt Totals.the-type Laws'8.the-laws (Make'.u64-wt, (Make'.u64-wt, tt)), tt))) (TightLines.the-type .to (m .1 .1 .1 .1 .1 .1 .1 .1 .1 .1 .1 .1 .1 .1 .1 .1 .1 .1 .1
+                  Signed.made-wt TightLines.the-field Laws'3.the-field-laws (Make'.struct-wt TightLines.the-type Laws'3.the-laws
+                      (Make'.u64-wt, (Make'.struct-wt Totals.the-type Laws'4.the-laws (Make'.u64-wt, (Make'.u64-wt, tt)), tt))) (TightLines.the-type .to (m .1 .1 .1 .1 .1 .1 .1 .1 .1 .1 .1 .1 .1 .1 .1 .1 .1 .1 .1
                       .0)),
                   tt,
                 ),
-              ) (wa .1)) λ m wa. Make.made-is Walked.the-type Laws''.the-laws ((Laws'10.val Totals.the-type Laws'8.the-laws (m .1 .1 .1 .1 .1 .1 .1 .1 .1 .1 .1 .1 .1 .1 .1 .1 .1 .1 .1 .1 .1 .1 .1
-              .1 .1 .0)) ∷ (Laws'10.val TightLines.the-type Laws'7.the-laws (m .1 .1 .1 .1 .1 .1 .1 .1 .1 .1 .1 .1 .1 .1 .1 .1 .1 .1 .1 .0)) ∷ []) (Walked.enum .make (Logic.inl
+              ) (wa .1)) λ m wa. Make.made-is Walked.the-type Laws'8.the-laws ((Laws'10.val Totals.the-type Laws'4.the-laws (m .1 .1 .1 .1 .1 .1 .1 .1 .1 .1 .1 .1 .1 .1 .1 .1 .1 .1 .1 .1 .1 .1 .1
+              .1 .1 .0)) ∷ (Laws'10.val TightLines.the-type Laws'3.the-laws (m .1 .1 .1 .1 .1 .1 .1 .1 .1 .1 .1 .1 .1 .1 .1 .1 .1 .1 .1 .0)) ∷ []) (Walked.enum .make (Logic.inl
               (m .1 .1 .1 .1 .1 .1 .1 .1 .1 .1 .1 .1 .1 .1 .1 .1 .1 .1 .1 .1 .1 .1 .1 .1 .1 .0, (m .1 .1 .1 .1 .1 .1 .1 .1 .1 .1 .1 .1 .1 .1 .1 .1 .1 .1 .1 .0, tt)))) (
-                Signed.made-wt Totals.the-field Laws'8.the-field-laws (Make'.struct-wt Totals.the-type Laws'8.the-laws (Make'.u64-wt, (Make'.u64-wt, tt))) (Totals.the-type .to (m .1 .1 .1 .1 .1 .1 .1 .1 .1
+                Signed.made-wt Totals.the-field Laws'4.the-field-laws (Make'.struct-wt Totals.the-type Laws'4.the-laws (Make'.u64-wt, (Make'.u64-wt, tt))) (Totals.the-type .to (m .1 .1 .1 .1 .1 .1 .1 .1 .1
                     .1 .1 .1 .1 .1 .1 .1 .1 .1 .1 .1 .1 .1 .1 .1 .1 .0)),
                 (
-                  Signed.made-wt TightLines.the-field Laws'7.the-field-laws (Make'.struct-wt TightLines.the-type Laws'7.the-laws
-                      (Make'.u64-wt, (Make'.struct-wt Totals.the-type Laws'8.the-laws (Make'.u64-wt, (Make'.u64-wt, tt)), tt))) (TightLines.the-type .to (m .1 .1 .1 .1 .1 .1 .1 .1 .1 .1 .1 .1 .1 .1 .1 .1 .1 .1 .1
+                  Signed.made-wt TightLines.the-field Laws'3.the-field-laws (Make'.struct-wt TightLines.the-type Laws'3.the-laws
+                      (Make'.u64-wt, (Make'.struct-wt Totals.the-type Laws'4.the-laws (Make'.u64-wt, (Make'.u64-wt, tt)), tt))) (TightLines.the-type .to (m .1 .1 .1 .1 .1 .1 .1 .1 .1 .1 .1 .1 .1 .1 .1 .1 .1 .1 .1
                       .0)),
                   tt,
                 ),
@@ -3131,7 +3134,7 @@ module _ (claims· : Claims) where
           d131 : Typed.Typed 𝓤 H A 𝓣 E (on T15 l13) (Syntax.seq b84 (Syntax.seq b85 b86)) Δ0 at131
           d131 = Typed.s-seq 𝓤 H A W 𝓣 E (on T15 l13) (on T131 l13) b84 (Syntax.seq b85 b86) Δ0 (Typed.both s126) at130 (Plain.t-call-plain 𝓤 H A W 𝓣 0 ps·1 r·1 (claims· .2) (claims· .3)
               "read_block::reading::totals_at" (known .1) E (λ pos β. β) (on T15 l13) (record { pos = 18; st = []; d = 0; at = λ x. x }, tt) 25 [] (Call.sub-id 𝓤 H A W ((on T15 l13) .slots))
-              ((Values.struct-copied 𝓤 H A W Place.the-type Laws'4.the-laws Laws'4.the-copy, Path'.refl), tt) (Reads'.room-gone 𝓤 H A y13) tt Path'.refl) d130
+              ((Values.struct-copied 𝓤 H A W Place.the-type Laws'.the-laws Laws'.the-copy, Path'.refl), tt) (Reads'.room-gone 𝓤 H A y12) tt Path'.refl) d130
 
           d132 : Typed.Typed 𝓤 H A 𝓣 E (on T14 l13) b89 Δ0 at132
           d132 = Typed.t-seq 𝓤 H A W 𝓣 E (on T14 l13) (on T15 l13) b83 (Syntax.seq b84 (Syntax.seq b85 b86)) Δ0 at118 at131 d118 d131
@@ -3142,13 +3145,13 @@ module _ (claims· : Claims) where
               Path'.refl) λ u. tt) d132
 
           d134 : Typed.Typed 𝓤 H A 𝓣 E (on T12 l13) (Syntax.seq b6 b89) Δ0 at134
-          d134 = Typed.g-pre 𝓤 H A W 𝓣 E (on T12 l13) (on T13 l13) (Syntax.seq b6 b89) Δ0 (Typed.pass T12 T13 s11) at133 (Scalar.g-room 𝓤 H A W E (on T12 l13) 25 y13 (Local.room-whole 𝓤 H A W
-              (Declared'.row Totals.the-type) y13 Path'.refl)) d133
+          d134 = Typed.g-pre 𝓤 H A W 𝓣 E (on T12 l13) (on T13 l13) (Syntax.seq b6 b89) Δ0 (Typed.pass T12 T13 s11) at133 (Scalar.g-room 𝓤 H A W E (on T12 l13) 25 y12 (Local.room-whole 𝓤 H A W
+              (Declared'.row Totals.the-type) y12 Path'.refl)) d133
 
           d135 : Typed.Typed 𝓤 H A 𝓣 E (on T11 l13) (Syntax.seq b5 (Syntax.seq b6 b89)) Δ0 at135
           d135 = Typed.s-seq 𝓤 H A W 𝓣 E (on T11 l13) (on T12 l13) b5 (Syntax.seq b6 b89) Δ0 (Typed.both s10) at134 (Plain.t-call-plain 𝓤 H A W 𝓣 0 ps·2 r·2 (claims· .4) (claims· .5)
               "read_block::reading::no_lines" (known .2) E (λ pos β. β) (on T11 l13) (record { pos = 25; st = []; d = 0; at = λ x. x }, tt) 19 [] (Call.sub-id 𝓤 H A W ((on T11 l13) .slots))
-              ((Values.struct-copied 𝓤 H A W Totals.the-type Laws'8.the-laws Laws'8.the-copy, Path'.refl), tt) (Reads'.room-gone 𝓤 H A y18) tt Path'.refl) d134
+              ((Values.struct-copied 𝓤 H A W Totals.the-type Laws'4.the-laws Laws'4.the-copy, Path'.refl), tt) (Reads'.room-gone 𝓤 H A y17) tt Path'.refl) d134
 
           d136 : Typed.Typed 𝓤 H A 𝓣 E (on T10 l13) (Syntax.seq b5 (Syntax.seq b6 b89)) Δ0 at136
           d136 = Typed.g-pre 𝓤 H A W 𝓣 E (on T10 l13) (on T11 l13) (Syntax.seq b5 (Syntax.seq b6 b89)) Δ0 (Typed.pass T10 T11 s9) at135 (Scalar.g-room 𝓤 H A W E (on T10 l13) 11 y22 (Local.room-whole 𝓤
@@ -3157,29 +3160,29 @@ module _ (claims· : Claims) where
           d137 : Typed.Typed 𝓤 H A 𝓣 E (on T9 l13) b92 Δ0 at137
           d137 = Typed.s-seq 𝓤 H A W 𝓣 E (on T9 l13) (on T10 l13) b4 (Syntax.seq b5 (Syntax.seq b6 b89)) Δ0 (Typed.both s8) at136 (Plain.t-call-plain 𝓤 H A W 𝓣 0 ps·1 r·1 (claims· .2) (claims· .3)
               "read_block::reading::totals_at" (known .1) E (λ pos β. β) (on T9 l13) (record { pos = 11; st = []; d = 0; at = λ x. x }, tt) 25 [] (Call.sub-id 𝓤 H A W ((on T9 l13) .slots))
-              ((Values.struct-copied 𝓤 H A W Place.the-type Laws'4.the-laws Laws'4.the-copy, Path'.refl), tt) (Reads'.room-gone 𝓤 H A y13) tt Path'.refl) d136
+              ((Values.struct-copied 𝓤 H A W Place.the-type Laws'.the-laws Laws'.the-copy, Path'.refl), tt) (Reads'.room-gone 𝓤 H A y12) tt Path'.refl) d136
 
           d138 : Typed.Typed 𝓤 H A 𝓣 E (on T8 l13) (Syntax.seq b3 b92) Δ0 at138
           d138 = Typed.s-seq 𝓤 H A W 𝓣 E (on T8 l13) (on T9 l13) b3 b92 Δ0 (Typed.pass T8 T9 s7) at137 (LocalCopy.t-val-copy 𝓤 H A W E 𝓣 (λ ρ. Unit) (on T8 l13) 11 18 (Declared'.row Place.the-type)
               y22 y22 (Rows'.whole (Declared'.row Place.the-type)) (Rows'.whole (Declared'.row Place.the-type)) (λ x. x) (λ x. x) (λ x. x) Path'.refl (Own.told-none 𝓤 H A ((on T8 l13) .slots))
-              (Values.struct-copied 𝓤 H A W Place.the-type Laws'4.the-laws Laws'4.the-copy) (Reads'.room-gone 𝓤 H A y22) (Yields.makes-mem 𝓤 H A W (λ ρ. Unit) (Declared'.row Place.the-type) Path'.refl
+              (Values.struct-copied 𝓤 H A W Place.the-type Laws'.the-laws Laws'.the-copy) (Reads'.room-gone 𝓤 H A y22) (Yields.makes-mem 𝓤 H A W (λ ρ. Unit) (Declared'.row Place.the-type) Path'.refl
               (Rows'.whole (Declared'.row Place.the-type)) (λ x. x) λ ρ told. Local.whole-mem 𝓤 H A W (Declared'.row Place.the-type) ρ) Path'.refl Path'.refl) d137
 
           d139 : Typed.Typed 𝓤 H A 𝓣 E (on T7 l13) (Syntax.seq b2 (Syntax.seq b3 b92)) Δ0 at139
-          d139 = Typed.s-seq 𝓤 H A W 𝓣 E (on T7 l13) (on T8 l13) b2 (Syntax.seq b3 b92) Δ0 (Typed.both s6) at138 (Plain.t-call-plain 𝓤 H A W 𝓣 0 ps·0 r·0 (claims· .0) (claims· .1) "image_map::width" (known
-              .0) E (λ pos β. β) (on T7 l13) (Bool.bAt 16 λ x. x, tt) 17 [] (Call.sub-id 𝓤 H A W ((on T7 l13) .slots)) ((Scalar.reads-sc 𝓤 H A W Row.sBool, Path'.refl), tt) (Reads'.room-gone 𝓤 H A u64) tt
-              Path'.refl) d138
+          d139 = Typed.s-seq 𝓤 H A W 𝓣 E (on T7 l13) (on T8 l13) b2 (Syntax.seq b3 b92) Δ0 (Typed.both s6) at138 (Plain.t-call-plain 𝓤 H A W 𝓣 0 ps·0 r·0 (claims· .0) (claims· .1) "image_map::width"
+              (known .0) E (λ pos β. β) (on T7 l13) (Bool.bAt 16 λ x. x, tt) 17 [] (Call.sub-id 𝓤 H A W ((on T7 l13) .slots)) ((Scalar.reads-sc 𝓤 H A W Row.sBool, Path'.refl), tt) (Reads'.room-gone 𝓤 H A
+              u64) tt Path'.refl) d138
 
           d140 : Typed.Typed 𝓤 H A 𝓣 E (on T6 l13) b95 Δ0 at140
           d140 = Typed.s-seq 𝓤 H A W 𝓣 E (on T6 l13) (on T7 l13) b1 (Syntax.seq b2 (Syntax.seq b3 b92)) Δ0 (Typed.pass T6 T7 s5) at139 (Scalar.t-use 𝓤 H A W E 𝓣 (on T6 l13) (Scalar.oFld 6
-              ((Syntax.field 1) ∷ []) Syntax.tyBool 4 (Reads.fieldV Form.the-type Laws.the-laws 1)) 16 (Rows'.sc-here Row.sBool) Syntax.tyBool (Row.valS Row.sBool) (Row.sBool .of)
-              (Reads.reads-field 𝓤 H A W Form.the-type Laws.the-laws 1 Syntax.tyBool 4 Path'.refl, Path'.refl) (Reads'.room-gone 𝓤 H A Syntax.tyBool) (Scalar.holds-sc 𝓤 H A W Row.sBool) Path'.refl (λ u.
+              ((Syntax.field 1) ∷ []) Syntax.tyBool 4 (Reads.fieldV Form.the-type Laws'6.the-laws 1)) 16 (Rows'.sc-here Row.sBool) Syntax.tyBool (Row.valS Row.sBool) (Row.sBool .of)
+              (Reads.reads-field 𝓤 H A W Form.the-type Laws'6.the-laws 1 Syntax.tyBool 4 Path'.refl, Path'.refl) (Reads'.room-gone 𝓤 H A Syntax.tyBool) (Scalar.holds-sc 𝓤 H A W Row.sBool) Path'.refl (λ u.
               Path'.refl) λ u. tt) d139
 
           d141 : Typed.Typed 𝓤 H A 𝓣 E (on T0 l13) b96 Δ0 at141
           d141 = Typed.s-seq 𝓤 H A W 𝓣 E (on T0 l13) (on T6 l13) b0 b95 Δ0 (Typed.pass T0 T6 s4) at140 (Scalar.t-use 𝓤 H A W E 𝓣 (on T0 l13) (Scalar.oFld 6 ((Syntax.field 0) ∷ []) u32 0 (Reads.fieldV
-              Form.the-type Laws.the-laws 0)) 15 (Rows'.sc-here (Row.sInt Syntax.w32)) u32 (Row.valS (Row.sInt Syntax.w32)) (Row.sInt Syntax.w32 .of)
-              (Reads.reads-field 𝓤 H A W Form.the-type Laws.the-laws 0 u32 0 Path'.refl, Path'.refl) (Reads'.room-gone 𝓤 H A u32) (Scalar.holds-sc 𝓤 H A W (Row.sInt Syntax.w32)) Path'.refl (λ u.
+              Form.the-type Laws'6.the-laws 0)) 15 (Rows'.sc-here (Row.sInt Syntax.w32)) u32 (Row.valS (Row.sInt Syntax.w32)) (Row.sInt Syntax.w32 .of)
+              (Reads.reads-field 𝓤 H A W Form.the-type Laws'6.the-laws 0 u32 0 Path'.refl, Path'.refl) (Reads'.room-gone 𝓤 H A u32) (Scalar.holds-sc 𝓤 H A W (Row.sInt Syntax.w32)) Path'.refl (λ u.
               Path'.refl) λ u. tt) d140
 
           d142 : Typed.Typed 𝓤 H A 𝓣 E (on T0 l13) b96 Δ0 at142
@@ -3208,15 +3211,15 @@ module _ (claims· : Claims) where
           pub lines : Kinds.Den {n = 6} κs (MutSlice.pMutS n16 2 tt)
           pub rs : Kinds.Den {n = 6} κs (MutSlice.pMutS (Element.type) 3 tt)
           pub image : Kinds.Den {n = 6} κs (MutSlice.pMutS n16 4 tt)
-          pub form : Kinds.Den {n = 6} κs (Values.struct Form.the-type Laws.the-laws Laws.the-copy Laws.the-plain)
+          pub form : Kinds.Den {n = 6} κs (Values.struct Form.the-type Laws'6.the-laws Laws'6.the-copy Laws'6.the-plain)
           pub places : Kinds.Den {n = 6} κs (ShrRef.pShr (Array'.Array n16 768) 5 tt)
           pub tile : Kinds.Den {n = 6} κs (Array.pArr (Array.eInt Syntax.w8) (Array.eInt-laws Syntax.w8) 36)
-          pub part : Kinds.Den {n = 6} κs (Values.struct Part.the-type Laws'5.the-laws Laws'5.the-copy Laws'5.the-plain)
+          pub part : Kinds.Den {n = 6} κs (Values.struct Part.the-type Laws''.the-laws Laws''.the-copy Laws''.the-plain)
           pub first : Kinds.Den {n = 6} κs (Num.pNum Syntax.w64)
-          pub from : Kinds.Den {n = 6} κs (Values.struct Place.the-type Laws'4.the-laws Laws'4.the-copy Laws'4.the-plain)
+          pub from : Kinds.Den {n = 6} κs (Values.struct Place.the-type Laws'.the-laws Laws'.the-copy Laws'.the-plain)
           pub more : Kinds.Den {n = 6} κs (Num.pNum Syntax.w64)
           pub windowed : Kinds.Den {n = 6} κs Bool.pBool
-          pub entries : Kinds.Den {n = 6} κs (Values.struct Entries.the-type Laws'3.the-laws Laws'3.the-copy Laws'3.the-plain)
+          pub entries : Kinds.Den {n = 6} κs (Values.struct Entries.the-type Laws.the-laws Laws.the-copy Laws.the-plain)
 
         abbrev pub dens : (a : Args) → Kinds.Dens κs ps
         dens = λ a. (a .block, (a .bases, (a .lines, (a .rs, (a .image, (a .form, (a .places, (a .tile, (a .part, (a .first, (a .from, (a .more, (a .windowed, (a .entries, tt))))))))))))))
@@ -4727,11 +4730,12 @@ module _ (claims· : Claims) where
 
         module _ {M : Type 1} (𝓤 : URA.URA M) (H : Wp.Heap 𝓤) (A : Atoms.Atoms 𝓤) (W : Kit.Given 𝓤 H A) (𝓣 : Wp.Tables 𝓤 H) (known0 : Plain.Known 𝓤 H A W 𝓣 0 ps·0 r·0 (claims· .0) (claims· .1)
             "image_map::width") (known1 : Plain.Known 𝓤 H A W 𝓣 0 ps·1 r·1 (claims· .2) (claims· .3) "read_block::reading::totals_at") (known2 : Plain.Known 𝓤 H A W 𝓣 0 ps·2 r·2 (claims· .4) (claims· .5)
-            "read_block::reading::no_lines") (known3 : Plain.Known 𝓤 H A W 𝓣 1 ps·3 r·3 (claims· .6) (claims· .7) "colour_lines::turn_if") (known4 : Plain.Known 𝓤 H A W 𝓣 1 ps·4 r·4 (claims· .8) (claims· .9)
-            "cameras::taking::base_of") (known5 : Plain.Known 𝓤 H A W 𝓣 1 ps·5 r·5 (claims· .10) (claims· .11) "read_block::reading::is_restarted") (known6 : Plain.Known 𝓤 H A W 𝓣 1 ps·6 r·6 (claims· .12) (claims· .13)
-            "read_block::records::restart") (known7 : Plain.Known 𝓤 H A W 𝓣 0 ps·7 r·7 (claims· .14) (claims· .15) "read_block::reading::quantisers_in") (known8 : Plain.Known 𝓤 H A W 𝓣 5 ps·8 r·8 (claims· .16)
-            (claims· .17) "read_block::reading::line") (known9 : Plain.Known 𝓤 H A W 𝓣 1 ps·9 r·9 (claims· .18) (claims· .19) "image_map::zero_rows::zero_line") (known10 : Plain.Known 𝓤 H A W 𝓣 0 ps·10 r·10 (claims· .20)
-            (claims· .21) "line_totals::with_line") (known11 : Plain.Known 𝓤 H A W 𝓣 3 ps·11 r·11 (claims· .22) (claims· .23) "image_map::emit::emit_line_if") where
+            "read_block::reading::no_lines") (known3 : Plain.Known 𝓤 H A W 𝓣 1 ps·3 r·3 (claims· .6) (claims· .7) "colour_lines::turn_if") (known4 : Plain.Known 𝓤 H A W 𝓣 1 ps·4 r·4 (claims· .8) (claims·
+            .9) "cameras::taking::base_of") (known5 : Plain.Known 𝓤 H A W 𝓣 1 ps·5 r·5 (claims· .10) (claims· .11) "read_block::reading::is_restarted") (known6 : Plain.Known 𝓤 H A W 𝓣 1 ps·6 r·6 (claims·
+            .12) (claims· .13) "read_block::records::restart") (known7 : Plain.Known 𝓤 H A W 𝓣 0 ps·7 r·7 (claims· .14) (claims· .15) "read_block::reading::quantisers_in") (known8 : Plain.Known 𝓤 H A W 𝓣
+            5 ps·8 r·8 (claims· .16) (claims· .17) "read_block::reading::line") (known9 : Plain.Known 𝓤 H A W 𝓣 1 ps·9 r·9 (claims· .18) (claims· .19) "image_map::zero_rows::zero_line") (known10 :
+            Plain.Known 𝓤 H A W 𝓣 0 ps·10 r·10 (claims· .20) (claims· .21) "line_totals::with_line") (known11 : Plain.Known 𝓤 H A W 𝓣 3 ps·11 r·11 (claims· .22) (claims· .23)
+            "image_map::emit::emit_line_if") where
           pub spec : Statement.Triple 𝓤 (Wp.WpFn 𝓤 H (𝓣 .C) (𝓣 .Λ) (Function.fnOf 6 ps r xs m hs body)) (Function.plainOf 𝓤 H A 6 ps r Pre· Post·)
           spec = Plain.t-fn-plain 𝓤 H A W 𝓣 6 ps r xs m hs body (λ κs qs bs. Φ) (λ κs qs bs bd. typed κs qs 𝓤 H A W 𝓣
               (known0, known1, known2, known3, known4, known5, known6, known7, known8, known9, known10, known11) bs bd) Pre· Post· asked

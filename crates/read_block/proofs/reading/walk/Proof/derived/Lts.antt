@@ -6,16 +6,16 @@ use Rattle.bits.proofs.Values.{n16, n8, u16, u32, u64, u8}
 use mathlib.Core.List.{_∷_, []}
 use Rattle.read_block.proofs.Element
 use Prim.Native.Nat
-use Rattle.read_block.proofs.Form
-use Rattle.read_block.proofs.Form.Laws
-use Rattle.read_block.proofs.Walked
-use Rattle.read_block.proofs.Walked.Laws as Laws'
 use Rattle.cameras.proofs.Entries
-use Rattle.cameras.proofs.Entries.Laws as Laws''
+use Rattle.cameras.proofs.Entries.Laws
 use Rattle.code.proofs.Place
-use Rattle.code.proofs.Place.Laws as Laws'3
+use Rattle.code.proofs.Place.Laws as Laws'
 use Rattle.image_map.proofs.Part
-use Rattle.image_map.proofs.Part.Laws as Laws'4
+use Rattle.image_map.proofs.Part.Laws as Laws''
+use Rattle.read_block.proofs.Form
+use Rattle.read_block.proofs.Form.Laws as Laws'3
+use Rattle.read_block.proofs.Walked
+use Rattle.read_block.proofs.Walked.Laws as Laws'4
 use borrow.Author.Called
 use borrow.Fn.Any
 use borrow.Fn.Call
@@ -94,26 +94,28 @@ abbrev pub y8 : Syntax.Ty
 y8 = Syntax.tyRef Syntax.erased Syntax.mut u16
 
 abbrev pub y9 : Syntax.Ty
-y9 = Syntax.tyStruct (109 ∷ 97 ∷ 112 ∷ 58 ∷ 58 ∷ 80 ∷ 97 ∷ 114 ∷ 116 ∷ []) (Syntax.tcons u64 (Syntax.tcons u64 (Syntax.tcons u64 (Syntax.tcons u64 (Syntax.tcons u64 (Syntax.tcons u64 Syntax.tnil))))))
+y9 = Syntax.tyStruct (105 ∷ 109 ∷ 97 ∷ 103 ∷ 101 ∷ 95 ∷ 109 ∷ 97 ∷ 112 ∷ 58 ∷ 58 ∷ 80 ∷ 97 ∷ 114 ∷ 116 ∷ []) (Syntax.tcons u64 (Syntax.tcons u64 (Syntax.tcons u64 (Syntax.tcons u64 (Syntax.tcons u64
+    (Syntax.tcons u64 Syntax.tnil))))))
 
 abbrev pub y10 : Syntax.Ty
-y10 = Syntax.tyStruct (113 ∷ 117 ∷ 97 ∷ 110 ∷ 116 ∷ 105 ∷ 115 ∷ 101 ∷ 114 ∷ 58 ∷ 58 ∷ 81 ∷ 117 ∷ 97 ∷ 110 ∷ 116 ∷ 105 ∷ 115 ∷ 101 ∷ 114 ∷ []) (Syntax.tcons u32 (Syntax.tcons u32 (Syntax.tcons u32
-    (Syntax.tcons u32 (Syntax.tcons u32 Syntax.tnil)))))
+y10 = Syntax.tyStruct (108 ∷ 105 ∷ 110 ∷ 101 ∷ 95 ∷ 116 ∷ 111 ∷ 116 ∷ 97 ∷ 108 ∷ 115 ∷ 58 ∷ 58 ∷ 84 ∷ 111 ∷ 116 ∷ 97 ∷ 108 ∷ 115 ∷ []) (Syntax.tcons u64 (Syntax.tcons u64 Syntax.tnil))
 
 abbrev pub y11 : Syntax.Ty
-y11 = Syntax.tyStruct (116 ∷ 111 ∷ 116 ∷ 97 ∷ 108 ∷ 115 ∷ 58 ∷ 58 ∷ 84 ∷ 111 ∷ 116 ∷ 97 ∷ 108 ∷ 115 ∷ []) (Syntax.tcons u64 (Syntax.tcons u64 Syntax.tnil))
+y11 = Syntax.tyStruct (113 ∷ 117 ∷ 97 ∷ 110 ∷ 116 ∷ 105 ∷ 115 ∷ 101 ∷ 114 ∷ 58 ∷ 58 ∷ 81 ∷ 117 ∷ 97 ∷ 110 ∷ 116 ∷ 105 ∷ 115 ∷ 101 ∷ 114 ∷ []) (Syntax.tcons u32 (Syntax.tcons u32 (Syntax.tcons u32
+    (Syntax.tcons u32 (Syntax.tcons u32 Syntax.tnil)))))
 
 abbrev pub y12 : Syntax.Ty
-y12 = Syntax.tyStruct (98 ∷ 105 ∷ 116 ∷ 115 ∷ 58 ∷ 58 ∷ 66 ∷ 105 ∷ 116 ∷ 80 ∷ 111 ∷ 115 ∷ 105 ∷ 116 ∷ 105 ∷ 111 ∷ 110 ∷ []) (Syntax.tcons u64 Syntax.tnil)
+y12 = Syntax.tyStruct (114 ∷ 101 ∷ 97 ∷ 100 ∷ 95 ∷ 98 ∷ 108 ∷ 111 ∷ 99 ∷ 107 ∷ 58 ∷ 58 ∷ 70 ∷ 111 ∷ 114 ∷ 109 ∷ []) (Syntax.tcons u32 (Syntax.tcons Syntax.tyBool Syntax.tnil))
 
 abbrev pub y13 : Syntax.Ty
-y13 = Syntax.tyStruct (98 ∷ 108 ∷ 111 ∷ 99 ∷ 107 ∷ 58 ∷ 58 ∷ 70 ∷ 111 ∷ 114 ∷ 109 ∷ []) (Syntax.tcons u32 (Syntax.tcons Syntax.tyBool Syntax.tnil))
+y13 = Syntax.tyStruct (98 ∷ 105 ∷ 116 ∷ 115 ∷ 58 ∷ 58 ∷ 66 ∷ 105 ∷ 116 ∷ 80 ∷ 111 ∷ 115 ∷ 105 ∷ 116 ∷ 105 ∷ 111 ∷ 110 ∷ []) (Syntax.tcons u64 Syntax.tnil)
 
 abbrev pub y14 : Syntax.Ty
 y14 = Syntax.tyRef (Syntax.named 5) Syntax.imm y0
 
 abbrev pub y15 : Syntax.Ty
-y15 = Syntax.tyStruct (116 ∷ 111 ∷ 116 ∷ 97 ∷ 108 ∷ 115 ∷ 58 ∷ 58 ∷ 84 ∷ 105 ∷ 103 ∷ 104 ∷ 116 ∷ 76 ∷ 105 ∷ 110 ∷ 101 ∷ 115 ∷ []) (Syntax.tcons u64 (Syntax.tcons y11 Syntax.tnil))
+y15 = Syntax.tyStruct (108 ∷ 105 ∷ 110 ∷ 101 ∷ 95 ∷ 116 ∷ 111 ∷ 116 ∷ 97 ∷ 108 ∷ 115 ∷ 58 ∷ 58 ∷ 84 ∷ 105 ∷ 103 ∷ 104 ∷ 116 ∷ 76 ∷ 105 ∷ 110 ∷ 101 ∷ 115 ∷ []) (Syntax.tcons u64 (Syntax.tcons y10
+    Syntax.tnil))
 
 abbrev pub y16 : Syntax.Ty
 y16 = Syntax.tyStruct (38 ∷ 91 ∷ 93 ∷ []) (Syntax.tcons y7 (Syntax.tcons u64 Syntax.tnil))
@@ -122,29 +124,29 @@ abbrev pub y17 : Syntax.Ty
 y17 = Syntax.tyStruct (38 ∷ 91 ∷ 93 ∷ []) (Syntax.tcons y8 (Syntax.tcons u64 Syntax.tnil))
 
 abbrev pub y18 : Syntax.Ty
-y18 = Syntax.tyStruct (99 ∷ 111 ∷ 100 ∷ 101 ∷ 58 ∷ 58 ∷ 80 ∷ 108 ∷ 97 ∷ 99 ∷ 101 ∷ []) (Syntax.tcons y12 (Syntax.tcons Syntax.tyBool (Syntax.tcons u64 Syntax.tnil)))
+y18 = Syntax.tyStruct (99 ∷ 111 ∷ 100 ∷ 101 ∷ 58 ∷ 58 ∷ 80 ∷ 108 ∷ 97 ∷ 99 ∷ 101 ∷ []) (Syntax.tcons y13 (Syntax.tcons Syntax.tyBool (Syntax.tcons u64 Syntax.tnil)))
 
 abbrev pub y19 : Syntax.Ty
-y19 = Syntax.tyStruct (99 ∷ 97 ∷ 109 ∷ 101 ∷ 114 ∷ 97 ∷ 115 ∷ 58 ∷ 58 ∷ 69 ∷ 110 ∷ 116 ∷ 114 ∷ 121 ∷ []) (Syntax.tcons u32 (Syntax.tcons y10 (Syntax.tcons Syntax.tyBool (Syntax.tcons Syntax.tyBool
+y19 = Syntax.tyStruct (99 ∷ 97 ∷ 109 ∷ 101 ∷ 114 ∷ 97 ∷ 115 ∷ 58 ∷ 58 ∷ 69 ∷ 110 ∷ 116 ∷ 114 ∷ 121 ∷ []) (Syntax.tcons u32 (Syntax.tcons y11 (Syntax.tcons Syntax.tyBool (Syntax.tcons Syntax.tyBool
     Syntax.tnil))))
 
 abbrev pub y20 : Syntax.Ty
 y20 = Syntax.tyArray y19 16
 
 abbrev pub y21 : Syntax.Ty
-y21 = Syntax.tyEnum (98 ∷ 108 ∷ 111 ∷ 99 ∷ 107 ∷ 58 ∷ 58 ∷ 87 ∷ 97 ∷ 108 ∷ 107 ∷ 101 ∷ 100 ∷ []) (Syntax.ttcons (Syntax.tcons y11 (Syntax.tcons y15 Syntax.tnil)) (Syntax.ttcons (Syntax.tcons u64
-    (Syntax.tcons y11 Syntax.tnil)) Syntax.ttnil))
+y21 = Syntax.tyEnum (114 ∷ 101 ∷ 97 ∷ 100 ∷ 95 ∷ 98 ∷ 108 ∷ 111 ∷ 99 ∷ 107 ∷ 58 ∷ 58 ∷ 87 ∷ 97 ∷ 108 ∷ 107 ∷ 101 ∷ 100 ∷ []) (Syntax.ttcons (Syntax.tcons y10 (Syntax.tcons y15 Syntax.tnil))
+    (Syntax.ttcons (Syntax.tcons u64 (Syntax.tcons y10 Syntax.tnil)) Syntax.ttnil))
 
 abbrev pub y22 : Syntax.Ty
 y22 = Syntax.tyStruct (99 ∷ 97 ∷ 109 ∷ 101 ∷ 114 ∷ 97 ∷ 115 ∷ 58 ∷ 58 ∷ 69 ∷ 110 ∷ 116 ∷ 114 ∷ 105 ∷ 101 ∷ 115 ∷ []) (Syntax.tcons y20 Syntax.tnil)
 
 abbrev pub ps : List.List (Kinds.PK 6)
-ps = (ShrSlice.pShrS n8 0 tt) ∷ (ShrSlice.pShrS n8 1 tt) ∷ (MutSlice.pMutS n16 2 tt) ∷ (MutSlice.pMutS (Element.type) 3 tt) ∷ (MutSlice.pMutS n16 4 tt) ∷ (Values.struct Form.the-type Laws.the-laws
-    Laws.the-copy Laws.the-plain) ∷ (ShrRef.pShr (Array'.Array n16 768) 5 tt) ∷ (Array.pArr (Array.eInt Syntax.w8) (Array.eInt-laws Syntax.w8) 36) ∷ (Values.struct Part.the-type Laws'4.the-laws
-    Laws'4.the-copy Laws'4.the-plain) ∷ (Num.pNum Syntax.w64) ∷ Bool.pBool ∷ (Values.struct Entries.the-type Laws''.the-laws Laws''.the-copy Laws''.the-plain) ∷ []
+ps = (ShrSlice.pShrS n8 0 tt) ∷ (ShrSlice.pShrS n8 1 tt) ∷ (MutSlice.pMutS n16 2 tt) ∷ (MutSlice.pMutS (Element.type) 3 tt) ∷ (MutSlice.pMutS n16 4 tt) ∷ (Values.struct Form.the-type Laws'3.the-laws
+    Laws'3.the-copy Laws'3.the-plain) ∷ (ShrRef.pShr (Array'.Array n16 768) 5 tt) ∷ (Array.pArr (Array.eInt Syntax.w8) (Array.eInt-laws Syntax.w8) 36) ∷ (Values.struct Part.the-type Laws''.the-laws
+    Laws''.the-copy Laws''.the-plain) ∷ (Num.pNum Syntax.w64) ∷ Bool.pBool ∷ (Values.struct Entries.the-type Laws.the-laws Laws.the-copy Laws.the-plain) ∷ []
 
 abbrev pub r : Kinds.RK 6
-r = Values.enum-result Walked.the-type Laws'.the-laws Laws'.the-copy Laws'.the-plain tt
+r = Values.enum-result Walked.the-type Laws'4.the-laws Laws'4.the-copy Laws'4.the-plain tt
 
 abbrev pub xs : List.List Syntax.Ty
 xs = y21 ∷ Syntax.tyUnit ∷ y8 ∷ y17 ∷ y7 ∷ y16 ∷ u32 ∷ y8 ∷ y17 ∷ y7 ∷ y16 ∷ y8 ∷ y17 ∷ y18 ∷ y8 ∷ y17 ∷ y7 ∷ y16 ∷ []
@@ -174,16 +176,16 @@ abbrev pub ps·3 : List.List (Kinds.PK 0)
 ps·3 = []
 
 abbrev pub r·3 : Kinds.RK 0
-r·3 = Values.struct-result Place.the-type Laws'3.the-laws Laws'3.the-copy Laws'3.the-plain
+r·3 = Values.struct-result Place.the-type Laws'.the-laws Laws'.the-copy Laws'.the-plain
 
 abbrev pub ps·4 : List.List (Kinds.PK 6)
-ps·4 = (ShrSlice.pShrS n8 0 tt) ∷ (ShrSlice.pShrS n8 1 tt) ∷ (MutSlice.pMutS n16 2 tt) ∷ (MutSlice.pMutS (Element.type) 3 tt) ∷ (MutSlice.pMutS n16 4 tt) ∷ (Values.struct Form.the-type Laws.the-laws
-    Laws.the-copy Laws.the-plain) ∷ (ShrRef.pShr (Array'.Array n16 768) 5 tt) ∷ (Array.pArr (Array.eInt Syntax.w8) (Array.eInt-laws Syntax.w8) 36) ∷ (Values.struct Part.the-type Laws'4.the-laws
-    Laws'4.the-copy Laws'4.the-plain) ∷ (Num.pNum Syntax.w64) ∷ (Values.struct Place.the-type Laws'3.the-laws Laws'3.the-copy Laws'3.the-plain) ∷ (Num.pNum Syntax.w64) ∷ Bool.pBool ∷ (Values.struct
-    Entries.the-type Laws''.the-laws Laws''.the-copy Laws''.the-plain) ∷ []
+ps·4 = (ShrSlice.pShrS n8 0 tt) ∷ (ShrSlice.pShrS n8 1 tt) ∷ (MutSlice.pMutS n16 2 tt) ∷ (MutSlice.pMutS (Element.type) 3 tt) ∷ (MutSlice.pMutS n16 4 tt) ∷ (Values.struct Form.the-type Laws'3.the-laws
+    Laws'3.the-copy Laws'3.the-plain) ∷ (ShrRef.pShr (Array'.Array n16 768) 5 tt) ∷ (Array.pArr (Array.eInt Syntax.w8) (Array.eInt-laws Syntax.w8) 36) ∷ (Values.struct Part.the-type Laws''.the-laws
+    Laws''.the-copy Laws''.the-plain) ∷ (Num.pNum Syntax.w64) ∷ (Values.struct Place.the-type Laws'.the-laws Laws'.the-copy Laws'.the-plain) ∷ (Num.pNum Syntax.w64) ∷ Bool.pBool ∷ (Values.struct
+    Entries.the-type Laws.the-laws Laws.the-copy Laws.the-plain) ∷ []
 
 abbrev pub r·4 : Kinds.RK 6
-r·4 = Values.enum-result Walked.the-type Laws'.the-laws Laws'.the-copy Laws'.the-plain tt
+r·4 = Values.enum-result Walked.the-type Laws'4.the-laws Laws'4.the-copy Laws'4.the-plain tt
 
 abbrev pub ps·5 : List.List (Kinds.PK 1)
 ps·5 = (MutSlice.pMutS (Element.type) 0 tt) ∷ []
@@ -216,8 +218,8 @@ abbrev b5 : Syntax.Body
 b5 = Syntax.call "cameras::taking::base_of" ((Syntax.copy (Syntax.place 2 [])) ∷ (Syntax.int Syntax.w64 0) ∷ []) (Syntax.place 19 [])
 
 abbrev b6 : Syntax.Body
-b6 = Syntax.call "read_block::records::start_records" ((Syntax.copy (Syntax.place 18 [])) ∷ (Syntax.copy (Syntax.place 6 ((Syntax.field 0) ∷ []))) ∷ (Syntax.copy (Syntax.place 19 [])) ∷ []) (Syntax.place
-    14 [])
+b6 = Syntax.call "read_block::records::start_records" ((Syntax.copy (Syntax.place 18 [])) ∷ (Syntax.copy (Syntax.place 6 ((Syntax.field 0) ∷ []))) ∷ (Syntax.copy (Syntax.place 19 [])) ∷ [])
+    (Syntax.place 14 [])
 
 abbrev b7 : Syntax.Body
 b7 = Syntax.assign (Syntax.place 20 []) (Syntax.addrOf (Syntax.place 3 ((Syntax.field 0) ∷ (Syntax.deref u16) ∷ [])))
@@ -346,7 +348,7 @@ abbrev pub v13 : Row.Row
 v13 = Rows'.whole (Declared'.row Entries.the-type)
 
 abbrev pub v14 : Row.Row
-v14 = Rows'.any-gone y13
+v14 = Rows'.any-gone y12
 
 abbrev pub v15 : Row.Row
 v15 = Rows'.whole (Declared'.row Part.the-type)
@@ -801,7 +803,7 @@ module _ (claims· : Claims) where
   s33 = Call.callB ps·4 r·4 (claims· .8) (claims· .9) T34 a1 13 (0 ∷ 1 ∷ 8 ∷ 9 ∷ 10 ∷ 5 ∷ []) y21
 
   abbrev s34 : Typed.Mo T35 → Typed.Mo T36
-  s34 = Scalar.n-room T35 6 y13
+  s34 = Scalar.n-room T35 6 y12
 
   abbrev s35 : Typed.Mo T36 → Typed.Mo T37
   s35 = Scalar.n-room T36 8 y1
@@ -879,10 +881,10 @@ module _ (claims· : Claims) where
     module _ (M : Type 1) where
       abbrev pub Closed : Type 2
       Closed = (𝓤 : URA.URA M) (H : Wp.Heap 𝓤) (A : Atoms.Atoms 𝓤) (W : Kit.Given 𝓤 H A) (𝓣 : Wp.Tables 𝓤 H) (known0 : Plain.Known 𝓤 H A W 𝓣 1 ps·0 r·0 (claims· .0) (claims· .1) "colour_lines::clear")
-          (known1 : Plain.Known 𝓤 H A W 𝓣 1 ps·1 r·1 (claims· .2) (claims· .3) "cameras::taking::base_of") (known2 : Plain.Known 𝓤 H A W 𝓣 1 ps·2 r·2 (claims· .4) (claims· .5) "read_block::records::start_records")
-          (known3 : Plain.Known 𝓤 H A W 𝓣 0 ps·3 r·3 (claims· .6) (claims· .7) "read_block::reading::start_place") (known4 : Plain.Known 𝓤 H A W 𝓣 6 ps·4 r·4 (claims· .8) (claims· .9)
-          "read_block::reading::read_lines") (known5 : Plain.Known 𝓤 H A W 𝓣 1 ps·5 r·5 (claims· .10) (claims· .11) "read_block::records::clear_records") → Statement.Triple 𝓤 (Wp.WpFn 𝓤 H (𝓣 .C) (𝓣 .Λ)
-          (Function.fnOf 6 ps r xs m hs body)) (Function.plainOf 𝓤 H A 6 ps r Pre· Post·)
+          (known1 : Plain.Known 𝓤 H A W 𝓣 1 ps·1 r·1 (claims· .2) (claims· .3) "cameras::taking::base_of") (known2 : Plain.Known 𝓤 H A W 𝓣 1 ps·2 r·2 (claims· .4) (claims· .5)
+          "read_block::records::start_records") (known3 : Plain.Known 𝓤 H A W 𝓣 0 ps·3 r·3 (claims· .6) (claims· .7) "read_block::reading::start_place") (known4 : Plain.Known 𝓤 H A W 𝓣 6 ps·4 r·4 (claims·
+          .8) (claims· .9) "read_block::reading::read_lines") (known5 : Plain.Known 𝓤 H A W 𝓣 1 ps·5 r·5 (claims· .10) (claims· .11) "read_block::records::clear_records") → Statement.Triple 𝓤 (Wp.WpFn 𝓤 H
+          (𝓣 .C) (𝓣 .Λ) (Function.fnOf 6 ps r xs m hs body)) (Function.plainOf 𝓤 H A 6 ps r Pre· Post·)
 
     module _ where
       abbrev at0 : Typed.TF T1 O0
@@ -1043,9 +1045,9 @@ module _ (claims· : Claims) where
 
       module _ {M : Type 1} (𝓤 : URA.URA M) (H : Wp.Heap 𝓤) (A : Atoms.Atoms 𝓤) (W : Kit.Given 𝓤 H A) (𝓣 : Wp.Tables 𝓤 H) where
         abbrev Knowns : Type 1
-        Knowns = Plain.Known 𝓤 H A W 𝓣 1 ps·0 r·0 (claims· .0) (claims· .1) "colour_lines::clear" × Plain.Known 𝓤 H A W 𝓣 1 ps·1 r·1 (claims· .2) (claims· .3) "cameras::taking::base_of" × Plain.Known 𝓤 H A W 𝓣 1 ps·2
-            r·2 (claims· .4) (claims· .5) "read_block::records::start_records" × Plain.Known 𝓤 H A W 𝓣 0 ps·3 r·3 (claims· .6) (claims· .7) "read_block::reading::start_place" × Plain.Known 𝓤 H A W 𝓣 6 ps·4 r·4
-            (claims· .8) (claims· .9) "read_block::reading::read_lines" × Plain.Known 𝓤 H A W 𝓣 1 ps·5 r·5 (claims· .10) (claims· .11) "read_block::records::clear_records"
+        Knowns = Plain.Known 𝓤 H A W 𝓣 1 ps·0 r·0 (claims· .0) (claims· .1) "colour_lines::clear" × Plain.Known 𝓤 H A W 𝓣 1 ps·1 r·1 (claims· .2) (claims· .3) "cameras::taking::base_of" × Plain.Known
+            𝓤 H A W 𝓣 1 ps·2 r·2 (claims· .4) (claims· .5) "read_block::records::start_records" × Plain.Known 𝓤 H A W 𝓣 0 ps·3 r·3 (claims· .6) (claims· .7) "read_block::reading::start_place" ×
+            Plain.Known 𝓤 H A W 𝓣 6 ps·4 r·4 (claims· .8) (claims· .9) "read_block::reading::read_lines" × Plain.Known 𝓤 H A W 𝓣 1 ps·5 r·5 (claims· .10) (claims· .11) "read_block::records::clear_records"
 
       module _ (κs : Lifetimes.Lfts 6) (qs : Lifetimes.Shares 6) where
         abbrev k0 : Row.Life
@@ -1355,7 +1357,7 @@ module _ (claims· : Claims) where
           d4 : Typed.Typed 𝓤 H A 𝓣 E (on T49 l11) b23 Δ0 at4
           d4 = Typed.s-seq 𝓤 H A W 𝓣 E (on T49 l11) (on T69 l11) b21 b22 Δ0 (Typed.pass T49 T69 s67) at3 (LocalCopy.t-val-copy 𝓤 H A W E 𝓣 (λ ρ. Unit) (on T49 l11) 13 0 (Declared.row Walked.the-type)
               y21 y21 (Rows'.whole (Declared.row Walked.the-type)) (Rows'.whole (Declared.row Walked.the-type)) (λ x. x) (λ x. x) (λ x. x) Path'.refl (Own.told-none 𝓤 H A ((on T49 l11) .slots))
-              (Values.enum-copied 𝓤 H A W Walked.the-type Laws'.the-laws Laws'.the-copy) (Reads'.room-gone 𝓤 H A y21) (Yields.makes-mem 𝓤 H A W (λ ρ. Unit) (Declared.row Walked.the-type) Path'.refl
+              (Values.enum-copied 𝓤 H A W Walked.the-type Laws'4.the-laws Laws'4.the-copy) (Reads'.room-gone 𝓤 H A y21) (Yields.makes-mem 𝓤 H A W (λ ρ. Unit) (Declared.row Walked.the-type) Path'.refl
               (Rows'.whole (Declared.row Walked.the-type)) (λ x. x) λ ρ told. Local.whole-mem 𝓤 H A W (Declared.row Walked.the-type) ρ) Path'.refl Path'.refl) d3
 
           d5 : Typed.Typed 𝓤 H A 𝓣 E G67 b23 Δ0 at4
@@ -1372,8 +1374,8 @@ module _ (claims· : Claims) where
           d8 = Typed.g-pre 𝓤 H A W 𝓣 E G64 G65 b23 Δ0 (Typed.pass T64 T65 s63) at6 (Scalar.g-room 𝓤 H A W E G64 14 Syntax.tyUnit (Scalar.room-sc 𝓤 H A W Row.sUnit)) d7
 
           d9 : Typed.Typed 𝓤 H A 𝓣 E G63 (Syntax.seq b20 b23) Δ0 at9
-          d9 = Typed.s-seq 𝓤 H A W 𝓣 E G63 G64 b20 b23 Δ0 (Typed.both s62) at8 (Plain.t-call-plain 𝓤 H A W 𝓣 1 ps·5 r·5 (claims· .10) (claims· .11) "read_block::records::clear_records" (known .5) E (λ pos
-              β. β) G63 (record { pos = 30; ty = y7; ref = λ x. x }, tt) 14 (12 ∷ []) (Call.sub-id 𝓤 H A W (G63 .slots))
+          d9 = Typed.s-seq 𝓤 H A W 𝓣 E G63 G64 b20 b23 Δ0 (Typed.both s62) at8 (Plain.t-call-plain 𝓤 H A W 𝓣 1 ps·5 r·5 (claims· .10) (claims· .11) "read_block::records::clear_records" (known .5) E (λ
+              pos β. β) G63 (record { pos = 30; ty = y7; ref = λ x. x }, tt) 14 (12 ∷ []) (Call.sub-id 𝓤 H A W (G63 .slots))
               (Reads'.as-is 𝓤 H A (Mut.mslice (Element.type) y7 12), Mut.reads-mslice 𝓤 H A W (Element.type) y7 12, Path'.refl, tt) (Reads'.room-gone 𝓤 H A Syntax.tyUnit) (tt, tt) Path'.refl) d8
 
           d10 : Typed.Typed 𝓤 H A 𝓣 E G62 (Syntax.seq b19 (Syntax.seq b20 b23)) Δ0 at10
@@ -1477,11 +1479,11 @@ module _ (claims· : Claims) where
           d36 = Typed.g-pre 𝓤 H A W 𝓣 E G36 G37 b29 Δ0 (Typed.pass T36 T37 s35) at35 (Scalar.g-room 𝓤 H A W E G36 8 y1 (Init.room-arr 𝓤 H A W n8 36 0 36 Path'.refl)) d35
 
           d37 : Typed.Typed 𝓤 H A 𝓣 E G35 b29 Δ0 at37
-          d37 = Typed.g-pre 𝓤 H A W 𝓣 E G35 G36 b29 Δ0 (Typed.pass T35 T36 s34) at36 (Scalar.g-room 𝓤 H A W E G35 6 y13 (Local.room-whole 𝓤 H A W (Declared'.row Form.the-type) y13 Path'.refl)) d36
+          d37 = Typed.g-pre 𝓤 H A W 𝓣 E G35 G36 b29 Δ0 (Typed.pass T35 T36 s34) at36 (Scalar.g-room 𝓤 H A W E G35 6 y12 (Local.room-whole 𝓤 H A W (Declared'.row Form.the-type) y12 Path'.refl)) d36
 
           d38 : Typed.Typed 𝓤 H A 𝓣 E G34 (Syntax.seq b14 b29) Δ0 at38
-          d38 = Typed.s-seq 𝓤 H A W 𝓣 E G34 G35 b14 b29 Δ0 (Typed.both s33) at37 (Plain.t-call-plain 𝓤 H A W 𝓣 6 ps·4 r·4 (claims· .8) (claims· .9) "read_block::reading::read_lines" (known .4) E (λ pos β.
-              β) G34 (
+          d38 = Typed.s-seq 𝓤 H A W 𝓣 E G34 G35 b14 b29 Δ0 (Typed.both s33) at37 (Plain.t-call-plain 𝓤 H A W 𝓣 6 ps·4 r·4 (claims· .8) (claims· .9) "read_block::reading::read_lines" (known .4) E (λ
+              pos β. β) G34 (
                 record { pos = 1; ty = y2; ref = λ x. x },
                 (
                   record { pos = 2; ty = y3; ref = λ x. x },
@@ -1530,7 +1532,7 @@ module _ (claims· : Claims) where
                         Mut.reads-mslice 𝓤 H A W n16 y8 10,
                         Path'.refl,
                         (
-                          (Values.struct-copied 𝓤 H A W Form.the-type Laws.the-laws Laws.the-copy, Path'.refl),
+                          (Values.struct-copied 𝓤 H A W Form.the-type Laws'3.the-laws Laws'3.the-copy, Path'.refl),
                           (
                             ShrRef.spares-sref 𝓤 H A W (Array'.Array n16 768) y14 5,
                             Reads'.reads-sref 𝓤 H A W (Array'.Array n16 768) y14 5,
@@ -1538,14 +1540,14 @@ module _ (claims· : Claims) where
                             (
                               (Array.arr-yields 𝓤 H A W (Array.eInt Syntax.w8) (Array.eInt-laws Syntax.w8) 36, Path'.refl),
                               (
-                                (Values.struct-copied 𝓤 H A W Part.the-type Laws'4.the-laws Laws'4.the-copy, Path'.refl),
+                                (Values.struct-copied 𝓤 H A W Part.the-type Laws''.the-laws Laws''.the-copy, Path'.refl),
                                 (
                                   tt,
                                   (
-                                    (Values.struct-copied 𝓤 H A W Place.the-type Laws'3.the-laws Laws'3.the-copy, Path'.refl),
+                                    (Values.struct-copied 𝓤 H A W Place.the-type Laws'.the-laws Laws'.the-copy, Path'.refl),
                                     (
                                       (Scalar.reads-sc 𝓤 H A W (Row.sInt Syntax.w64), Path'.refl),
-                                      ((Scalar.reads-sc 𝓤 H A W Row.sBool, Path'.refl), ((Values.struct-copied 𝓤 H A W Entries.the-type Laws''.the-laws Laws''.the-copy, Path'.refl), tt)),
+                                      ((Scalar.reads-sc 𝓤 H A W Row.sBool, Path'.refl), ((Values.struct-copied 𝓤 H A W Entries.the-type Laws.the-laws Laws.the-copy, Path'.refl), tt)),
                                     ),
                                   ),
                                 ),
@@ -1623,19 +1625,19 @@ module _ (claims· : Claims) where
           d53 = Typed.g-pre 𝓤 H A W 𝓣 E G19 G20 b37 Δ0 (Typed.pass T19 T20 s18) at52 (Scalar.g-room 𝓤 H A W E G19 14 Syntax.tyUnit (Scalar.room-sc 𝓤 H A W Row.sUnit)) d52
 
           d54 : Typed.Typed 𝓤 H A 𝓣 E G18 (Syntax.seq b6 b37) Δ0 at54
-          d54 = Typed.s-seq 𝓤 H A W 𝓣 E G18 G19 b6 b37 Δ0 (Typed.both s17) at53 (Plain.t-call-plain 𝓤 H A W 𝓣 1 ps·2 r·2 (claims· .4) (claims· .5) "read_block::records::start_records" (known .2) E (λ pos
-              β. β) G18 (record { pos = 18; ty = y7; ref = λ x. x }, (Num.vFld 6 ((Syntax.field 0) ∷ []) 0 λ x. Form.struct .as-values x .0, (Num.vAt 19 λ x. x, tt))) 14 (7 ∷ []) (Call.sub-id 𝓤 H A W
+          d54 = Typed.s-seq 𝓤 H A W 𝓣 E G18 G19 b6 b37 Δ0 (Typed.both s17) at53 (Plain.t-call-plain 𝓤 H A W 𝓣 1 ps·2 r·2 (claims· .4) (claims· .5) "read_block::records::start_records" (known .2) E (λ
+              pos β. β) G18 (record { pos = 18; ty = y7; ref = λ x. x }, (Num.vFld 6 ((Syntax.field 0) ∷ []) 0 λ x. Form.struct .as-values x .0, (Num.vAt 19 λ x. x, tt))) 14 (7 ∷ []) (Call.sub-id 𝓤 H A W
               (G18 .slots)) (
                 Reads'.as-is 𝓤 H A (Mut.mslice (Element.type) y7 7),
                 Mut.reads-mslice 𝓤 H A W (Element.type) y7 7,
                 Path'.refl,
-                ((Reads.reads-field 𝓤 H A W Form.the-type Laws.the-laws 0 u32 0 Path'.refl, Path'.refl), ((Scalar.reads-sc 𝓤 H A W (Row.sInt Syntax.w32), Path'.refl), tt)),
+                ((Reads.reads-field 𝓤 H A W Form.the-type Laws'3.the-laws 0 u32 0 Path'.refl, Path'.refl), ((Scalar.reads-sc 𝓤 H A W (Row.sInt Syntax.w32), Path'.refl), tt)),
               ) (Reads'.room-gone 𝓤 H A
               Syntax.tyUnit) (tt, tt) Path'.refl) d53
 
           d55 : Typed.Typed 𝓤 H A 𝓣 E G17 (Syntax.seq b5 (Syntax.seq b6 b37)) Δ0 at55
-          d55 = Typed.s-seq 𝓤 H A W 𝓣 E G17 G18 b5 (Syntax.seq b6 b37) Δ0 (Typed.both s16) at54 (Plain.t-call-plain 𝓤 H A W 𝓣 1 ps·1 r·1 (claims· .2) (claims· .3) "cameras::taking::base_of" (known .1) E (λ pos
-              β. β) G17 (record { pos = 2; ty = y3; ref = λ x. x }, (Num.vLit 0, tt)) 19 (1 ∷ []) (Call.sub-id 𝓤 H A W (G17 .slots))
+          d55 = Typed.s-seq 𝓤 H A W 𝓣 E G17 G18 b5 (Syntax.seq b6 b37) Δ0 (Typed.both s16) at54 (Plain.t-call-plain 𝓤 H A W 𝓣 1 ps·1 r·1 (claims· .2) (claims· .3) "cameras::taking::base_of" (known .1)
+              E (λ pos β. β) G17 (record { pos = 2; ty = y3; ref = λ x. x }, (Num.vLit 0, tt)) 19 (1 ∷ []) (Call.sub-id 𝓤 H A W (G17 .slots))
               (ShrSlice.spares-sslice 𝓤 H A W n8 y3 1, Shared.reads-sslice 𝓤 H A W n8 y3 1, Path'.refl, (tt, tt)) (Reads'.room-gone 𝓤 H A u32) (tt, tt) Path'.refl) d54
 
           d56 : Typed.Typed 𝓤 H A 𝓣 E G16 b40 Δ0 at56
@@ -1714,13 +1716,13 @@ module _ (claims· : Claims) where
           pub lines : Kinds.Den {n = 6} κs (MutSlice.pMutS n16 2 tt)
           pub rs : Kinds.Den {n = 6} κs (MutSlice.pMutS (Element.type) 3 tt)
           pub image : Kinds.Den {n = 6} κs (MutSlice.pMutS n16 4 tt)
-          pub form : Kinds.Den {n = 6} κs (Values.struct Form.the-type Laws.the-laws Laws.the-copy Laws.the-plain)
+          pub form : Kinds.Den {n = 6} κs (Values.struct Form.the-type Laws'3.the-laws Laws'3.the-copy Laws'3.the-plain)
           pub places : Kinds.Den {n = 6} κs (ShrRef.pShr (Array'.Array n16 768) 5 tt)
           pub tile : Kinds.Den {n = 6} κs (Array.pArr (Array.eInt Syntax.w8) (Array.eInt-laws Syntax.w8) 36)
-          pub part : Kinds.Den {n = 6} κs (Values.struct Part.the-type Laws'4.the-laws Laws'4.the-copy Laws'4.the-plain)
+          pub part : Kinds.Den {n = 6} κs (Values.struct Part.the-type Laws''.the-laws Laws''.the-copy Laws''.the-plain)
           pub count : Kinds.Den {n = 6} κs (Num.pNum Syntax.w64)
           pub windowed : Kinds.Den {n = 6} κs Bool.pBool
-          pub entries : Kinds.Den {n = 6} κs (Values.struct Entries.the-type Laws''.the-laws Laws''.the-copy Laws''.the-plain)
+          pub entries : Kinds.Den {n = 6} κs (Values.struct Entries.the-type Laws.the-laws Laws.the-copy Laws.the-plain)
 
         abbrev pub dens : (a : Args) → Kinds.Dens κs ps
         dens = λ a. (a .block, (a .bases, (a .lines, (a .rs, (a .image, (a .form, (a .places, (a .tile, (a .part, (a .count, (a .windowed, (a .entries, tt))))))))))))
@@ -2301,7 +2303,7 @@ module _ (claims· : Claims) where
 
         module _ {M : Type 1} (𝓤 : URA.URA M) (H : Wp.Heap 𝓤) (A : Atoms.Atoms 𝓤) (W : Kit.Given 𝓤 H A) (𝓣 : Wp.Tables 𝓤 H) (known0 : Plain.Known 𝓤 H A W 𝓣 1 ps·0 r·0 (claims· .0) (claims· .1)
             "colour_lines::clear") (known1 : Plain.Known 𝓤 H A W 𝓣 1 ps·1 r·1 (claims· .2) (claims· .3) "cameras::taking::base_of") (known2 : Plain.Known 𝓤 H A W 𝓣 1 ps·2 r·2 (claims· .4) (claims· .5)
-            "read_block::records::start_records") (known3 : Plain.Known 𝓤 H A W 𝓣 0 ps·3 r·3 (claims· .6) (claims· .7) "read_block::reading::start_place") (known4 : Plain.Known 𝓤 H A W 𝓣 6 ps·4 r·4 (claims· .8)
-            (claims· .9) "read_block::reading::read_lines") (known5 : Plain.Known 𝓤 H A W 𝓣 1 ps·5 r·5 (claims· .10) (claims· .11) "read_block::records::clear_records") where
+            "read_block::records::start_records") (known3 : Plain.Known 𝓤 H A W 𝓣 0 ps·3 r·3 (claims· .6) (claims· .7) "read_block::reading::start_place") (known4 : Plain.Known 𝓤 H A W 𝓣 6 ps·4 r·4
+            (claims· .8) (claims· .9) "read_block::reading::read_lines") (known5 : Plain.Known 𝓤 H A W 𝓣 1 ps·5 r·5 (claims· .10) (claims· .11) "read_block::records::clear_records") where
           pub spec : Statement.Triple 𝓤 (Wp.WpFn 𝓤 H (𝓣 .C) (𝓣 .Λ) (Function.fnOf 6 ps r xs m hs body)) (Function.plainOf 𝓤 H A 6 ps r Pre· Post·)
           spec = Plain.t-fn-plain 𝓤 H A W 𝓣 6 ps r xs m hs body (λ κs qs bs. Φ) (λ κs qs bs bd. typed κs qs 𝓤 H A W 𝓣 (known0, known1, known2, known3, known4, known5) bs bd) Pre· Post· asked

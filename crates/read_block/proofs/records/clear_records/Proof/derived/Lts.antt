@@ -300,8 +300,8 @@ module _ (claims· : Claims) where
     module _ (M : Type 1) where
       abbrev pub Closed : Type 2
       Closed = (𝓤 : URA.URA M) (H : Wp.Heap 𝓤) (A : Atoms.Atoms 𝓤) (W : Kit.Given 𝓤 H A) (𝓣 : Wp.Tables 𝓤 H) (known0 : Plain.Known 𝓤 H A W 𝓣 0 ps·0 r·0 (claims· .0) (claims· .1)
-          "read_block::records::cleared") (known1 : Plain.Known 𝓤 H A W 𝓣 1 ps·1 r·1 (claims· .2) (claims· .3) "read_block::records::update") → Statement.Triple 𝓤 (Wp.WpFn 𝓤 H (𝓣 .C) (𝓣 .Λ) (Function.fnOf 1 ps r xs
-          m hs body)) (Function.plainOf 𝓤 H A 1 ps r Pre· Post·)
+          "read_block::records::cleared") (known1 : Plain.Known 𝓤 H A W 𝓣 1 ps·1 r·1 (claims· .2) (claims· .3) "read_block::records::update") → Statement.Triple 𝓤 (Wp.WpFn 𝓤 H (𝓣 .C) (𝓣 .Λ) (Function.fnOf
+          1 ps r xs m hs body)) (Function.plainOf 𝓤 H A 1 ps r Pre· Post·)
 
     module _ (Inv·0 : InvT-loop) (μ·0 : MeasureT-loop) where
       abbrev at0 : Typed.TF T2 O4
@@ -493,8 +493,8 @@ module _ (claims· : Claims) where
           d10 = Typed.g-pre 𝓤 H A W 𝓣 E G12 G13 b9 Δ3 (Typed.pass T12 T13 s9) at9 (Scalar.g-room 𝓤 H A W E G12 4 Syntax.tyUnit (Scalar.room-sc 𝓤 H A W Row.sUnit)) d9
 
           d11 : Typed.Typed 𝓤 H A 𝓣 E G11 (Syntax.seq b8 b9) Δ3 at11
-          d11 = Typed.s-seq 𝓤 H A W 𝓣 E G11 G12 b8 b9 Δ3 (Typed.both s8) at10 (Plain.t-call-plain 𝓤 H A W 𝓣 1 ps·1 r·1 (claims· .2) (claims· .3) "read_block::records::update" (known .1) E (λ pos β. β) G11
-              (record { pos = 6; ty = y1; ref = λ x. x }, (Num.vAt 2 λ x. x, (record { pos = 7; st = []; d = 0; at = λ x. x }, tt))) 4 (1 ∷ []) (Call.sub-id 𝓤 H A W (G11 .slots)) (
+          d11 = Typed.s-seq 𝓤 H A W 𝓣 E G11 G12 b8 b9 Δ3 (Typed.both s8) at10 (Plain.t-call-plain 𝓤 H A W 𝓣 1 ps·1 r·1 (claims· .2) (claims· .3) "read_block::records::update" (known .1) E (λ pos β. β)
+              G11 (record { pos = 6; ty = y1; ref = λ x. x }, (Num.vAt 2 λ x. x, (record { pos = 7; st = []; d = 0; at = λ x. x }, tt))) 4 (1 ∷ []) (Call.sub-id 𝓤 H A W (G11 .slots)) (
                 Reads.as-is 𝓤 H A (Mut.mslice (Element.type) y1 1),
                 Mut.reads-mslice 𝓤 H A W (Element.type) y1 1,
                 Path'.refl,
@@ -503,8 +503,8 @@ module _ (claims· : Claims) where
               Syntax.tyUnit) (tt, tt) Path'.refl) d10
 
           d12 : Typed.Typed 𝓤 H A 𝓣 E G10 (Syntax.seq b7 (Syntax.seq b8 b9)) Δ3 at12
-          d12 = Typed.s-seq 𝓤 H A W 𝓣 E G10 G11 b7 (Syntax.seq b8 b9) Δ3 (Typed.both s7) at11 (Plain.t-call-plain 𝓤 H A W 𝓣 0 ps·0 r·0 (claims· .0) (claims· .1) "read_block::records::cleared" (known .0) E
-              (λ pos β. β) G10 tt 7 [] (Call.sub-id 𝓤 H A W (G10 .slots)) tt (Reads.room-gone 𝓤 H A y2) tt Path'.refl) d11
+          d12 = Typed.s-seq 𝓤 H A W 𝓣 E G10 G11 b7 (Syntax.seq b8 b9) Δ3 (Typed.both s7) at11 (Plain.t-call-plain 𝓤 H A W 𝓣 0 ps·0 r·0 (claims· .0) (claims· .1) "read_block::records::cleared" (known
+              .0) E (λ pos β. β) G10 tt 7 [] (Call.sub-id 𝓤 H A W (G10 .slots)) tt (Reads.room-gone 𝓤 H A y2) tt Path'.refl) d11
 
           d13 : Typed.Typed 𝓤 H A 𝓣 E G9 b12 Δ3 at13
           d13 = Typed.s-seq 𝓤 H A W 𝓣 E G9 G10 b6 (Syntax.seq b7 (Syntax.seq b8 b9)) Δ3 (Typed.ask s6) at12 (Relend.t-sl-aggregate 𝓤 H A W E (Element.type) 𝓣 (Relend.asMut (Element.type)) G9 5 6 1 y1

@@ -5,10 +5,10 @@ use Rattle.bits.proofs.Values.{n32, u32, u64}
 use mathlib.Core.List.{_∷_, []}
 use Rattle.read_block.proofs.Element
 use Prim.Native.Nat
-use Rattle.statistics.proofs.Record
-use Rattle.statistics.proofs.Record.Laws
 use Rattle.pass_steps.proofs.Set
-use Rattle.pass_steps.proofs.Set.Laws as Laws'
+use Rattle.pass_steps.proofs.Set.Laws
+use Rattle.statistics.proofs.Record
+use Rattle.statistics.proofs.Record.Laws as Laws'
 use borrow.Author.Called
 use borrow.Author.Tests
 use borrow.Fn.Any
@@ -81,7 +81,7 @@ abbrev pub y3 : Syntax.Ty
 y3 = Syntax.tyStruct (115 ∷ 116 ∷ 97 ∷ 116 ∷ 105 ∷ 115 ∷ 116 ∷ 105 ∷ 99 ∷ 115 ∷ 58 ∷ 58 ∷ 82 ∷ 101 ∷ 99 ∷ 111 ∷ 114 ∷ 100 ∷ []) (Syntax.tcons u32 (Syntax.tcons u32 Syntax.tnil))
 
 abbrev pub y4 : Syntax.Ty
-y4 = Syntax.tyStruct (115 ∷ 116 ∷ 101 ∷ 112 ∷ 115 ∷ 58 ∷ 58 ∷ 83 ∷ 101 ∷ 116 ∷ []) (Syntax.tcons y0 (Syntax.tcons y0 Syntax.tnil))
+y4 = Syntax.tyStruct (112 ∷ 97 ∷ 115 ∷ 115 ∷ 95 ∷ 115 ∷ 116 ∷ 101 ∷ 112 ∷ 115 ∷ 58 ∷ 58 ∷ 83 ∷ 101 ∷ 116 ∷ []) (Syntax.tcons y0 (Syntax.tcons y0 Syntax.tnil))
 
 abbrev pub y5 : Syntax.Ty
 y5 = Syntax.tyStruct (38 ∷ 91 ∷ 93 ∷ []) (Syntax.tcons y2 (Syntax.tcons u64 Syntax.tnil))
@@ -90,7 +90,7 @@ abbrev pub ps : List.List (Kinds.PK 1)
 ps = (MutSlice.pMutS (Element.type) 0 tt) ∷ (Num.pNum Syntax.w64) ∷ []
 
 abbrev pub r : Kinds.RK 1
-r = Values.struct-result Set.the-type Laws'.the-laws Laws'.the-copy Laws'.the-plain
+r = Values.struct-result Set.the-type Laws.the-laws Laws.the-copy Laws.the-plain
 
 abbrev pub xs : List.List Syntax.Ty
 xs = y0 ∷ y0 ∷ u64 ∷ y3 ∷ Syntax.tyBool ∷ y2 ∷ y5 ∷ u64 ∷ u64 ∷ Syntax.tyPtr ∷ Syntax.tyPtr ∷ Syntax.tyPtr ∷ Syntax.tyPtr ∷ y0 ∷ y0 ∷ []
@@ -102,7 +102,7 @@ abbrev pub ps·0 : List.List (Kinds.PK 1)
 ps·0 = (MutSlice.pMutS (Element.type) 0 tt) ∷ (Num.pNum Syntax.w64) ∷ []
 
 abbrev pub r·0 : Kinds.RK 1
-r·0 = Values.struct-result Record.the-type Laws.the-laws Laws.the-copy Laws.the-plain
+r·0 = Values.struct-result Record.the-type Laws'.the-laws Laws'.the-copy Laws'.the-plain
 
 abbrev pub hs : List.List Syntax.Home
 hs = Syntax.valueLocal ∷ Syntax.valueLocal ∷ Syntax.valueLocal ∷ Syntax.memorySlot ∷ Syntax.memorySlot ∷ Syntax.valueLocal ∷ Syntax.valueLocal ∷ Syntax.valueLocal ∷ Syntax.valueLocal ∷
@@ -570,7 +570,7 @@ module _ (claims· : Claims) where
 
   abbrev s23 : (bs : List.List Nat.ℕ) → Typed.Asks T26 T26
   s23 = λ bs. Borrow.k-arr-write (Referent.fInt Syntax.w32) T26 (Init.scaled n32 .off) (Row.hd 0 (Row.tl (Row.tl (Row.tl bs)))) 3 13 112 0 (λ x. x) (λ x. x) (λ u. u .1 .1 .1 .1 .1 .0) (Scalar.oFld 6
-      ((Syntax.field 0) ∷ []) u32 0 (Reads.fieldV Record.the-type Laws.the-laws 0))
+      ((Syntax.field 0) ∷ []) u32 0 (Reads.fieldV Record.the-type Laws'.the-laws 0))
 
   abbrev s24 : (bs : List.List Nat.ℕ) → Typed.Mo T26 → Typed.Mo T28
   s24 = λ bs. Scalar.n-room T26 10 u64
@@ -593,7 +593,7 @@ module _ (claims· : Claims) where
 
   abbrev s30 : (bs : List.List Nat.ℕ) → Typed.Asks T33 T33
   s30 = λ bs. Borrow.k-arr-write (Referent.fInt Syntax.w32) T33 (Init.scaled n32 .off) (Row.hd 0 (Row.tl (Row.tl (Row.tl (Row.tl bs))))) 4 15 112 0 (λ x. x) (λ x. x) (λ u. u .1 .1 .1 .1 .1 .0)
-      (Scalar.oFld 6 ((Syntax.field 1) ∷ []) u32 4 (Reads.fieldV Record.the-type Laws.the-laws 1))
+      (Scalar.oFld 6 ((Syntax.field 1) ∷ []) u32 4 (Reads.fieldV Record.the-type Laws'.the-laws 1))
 
   abbrev s31 : (bs : List.List Nat.ℕ) → Typed.Mo T33 → Typed.Mo T35
   s31 = λ bs. Scalar.n-room T33 6 y3
@@ -928,8 +928,8 @@ module _ (claims· : Claims) where
 
           d9 : Typed.Typed 𝓤 H A 𝓣 E (on T33 l1) (Syntax.seq b19 b20) Δ3 (at9 bs)
           d9 = Typed.s-seq 𝓤 H A W 𝓣 E (on T33 l1) (on T33 l1) b19 b20 Δ3 (Typed.ask (s30 bs)) (at8 bs) (Borrow.t-arr-write 𝓤 H A W E 𝓣 (Referent.fInt Syntax.w32) (Init.scaled n32) (on T33 l1) 4 15
-              112 0 (λ x. x) (λ x. x) (Scalar.oFld 6 ((Syntax.field 1) ∷ []) u32 4 (Reads.fieldV Record.the-type Laws.the-laws 1)) (λ u. u .1 .1 .1 .1 .1 .0) (Reads'.as-is 𝓤 H A (Rows.arrF n32 112 0))
-              (Reads'.as-is 𝓤 H A (Rows'.sc-here Row.sPtr)) (Reads.reads-field 𝓤 H A W Record.the-type Laws.the-laws 1 u32 4 Path'.refl, Path'.refl) Path'.refl λ u. Path'.refl) d8
+              112 0 (λ x. x) (λ x. x) (Scalar.oFld 6 ((Syntax.field 1) ∷ []) u32 4 (Reads.fieldV Record.the-type Laws'.the-laws 1)) (λ u. u .1 .1 .1 .1 .1 .0) (Reads'.as-is 𝓤 H A (Rows.arrF n32 112 0))
+              (Reads'.as-is 𝓤 H A (Rows'.sc-here Row.sPtr)) (Reads.reads-field 𝓤 H A W Record.the-type Laws'.the-laws 1 u32 4 Path'.refl, Path'.refl) Path'.refl λ u. Path'.refl) d8
 
           d10 : Typed.Typed 𝓤 H A 𝓣 E (on T32 l1) (Syntax.seq b19 b20) Δ3 (at10 bs)
           d10 = Typed.g-pre 𝓤 H A W 𝓣 E (on T32 l1) (on T33 l1) (Syntax.seq b19 b20) Δ3 (Typed.pass T32 T33 (s29 bs)) (at9 bs) (Scalar.g-room 𝓤 H A W E (on T32 l1) 14 Syntax.tyPtr (Scalar.room-sc 𝓤 H
@@ -960,8 +960,8 @@ module _ (claims· : Claims) where
 
           d16 : Typed.Typed 𝓤 H A 𝓣 E (on T26 l1) (Syntax.seq b15 b24) Δ3 (at16 bs)
           d16 = Typed.s-seq 𝓤 H A W 𝓣 E (on T26 l1) (on T26 l1) b15 b24 Δ3 (Typed.ask (s23 bs)) (at15 bs) (Borrow.t-arr-write 𝓤 H A W E 𝓣 (Referent.fInt Syntax.w32) (Init.scaled n32) (on T26 l1) 3 13
-              112 0 (λ x. x) (λ x. x) (Scalar.oFld 6 ((Syntax.field 0) ∷ []) u32 0 (Reads.fieldV Record.the-type Laws.the-laws 0)) (λ u. u .1 .1 .1 .1 .1 .0) (Reads'.as-is 𝓤 H A (Rows.arrF n32 112 0))
-              (Reads'.as-is 𝓤 H A (Rows'.sc-here Row.sPtr)) (Reads.reads-field 𝓤 H A W Record.the-type Laws.the-laws 0 u32 0 Path'.refl, Path'.refl) Path'.refl λ u. Path'.refl) d15
+              112 0 (λ x. x) (λ x. x) (Scalar.oFld 6 ((Syntax.field 0) ∷ []) u32 0 (Reads.fieldV Record.the-type Laws'.the-laws 0)) (λ u. u .1 .1 .1 .1 .1 .0) (Reads'.as-is 𝓤 H A (Rows.arrF n32 112 0))
+              (Reads'.as-is 𝓤 H A (Rows'.sc-here Row.sPtr)) (Reads.reads-field 𝓤 H A W Record.the-type Laws'.the-laws 0 u32 0 Path'.refl, Path'.refl) Path'.refl λ u. Path'.refl) d15
 
           d17 : Typed.Typed 𝓤 H A 𝓣 E (on T25 l1) (Syntax.seq b15 b24) Δ3 (at17 bs)
           d17 = Typed.g-pre 𝓤 H A W 𝓣 E (on T25 l1) (on T26 l1) (Syntax.seq b15 b24) Δ3 (Typed.pass T25 T26 (s22 bs)) (at16 bs) (Scalar.g-room 𝓤 H A W E (on T25 l1) 12 Syntax.tyPtr (Scalar.room-sc 𝓤 H
@@ -996,8 +996,8 @@ module _ (claims· : Claims) where
           d24 = Typed.g-pre 𝓤 H A W 𝓣 E G18 G19 b28 Δ3 (Typed.pass T18 T19 (s15 bs)) (at22 bs) (Scalar.g-room 𝓤 H A W E G18 11 u64 (Scalar.room-sc 𝓤 H A W (Row.sInt Syntax.w64))) d23
 
           d25 : Typed.Typed 𝓤 H A 𝓣 E G17 (Syntax.seq b11 b28) Δ3 (at25 bs)
-          d25 = Typed.s-seq 𝓤 H A W 𝓣 E G17 G18 b11 b28 Δ3 (Typed.both (s14 bs)) (at24 bs) (Plain.t-call-plain 𝓤 H A W 𝓣 1 ps·0 r·0 (claims· .0) (claims· .1) "read_block::records::fetch" known E (λ pos β.
-              β) G17 (record { pos = 9; ty = y2; ref = λ x. x }, (Num.vAt 11 λ x. x, tt)) 6 (1 ∷ []) (Call.sub-id 𝓤 H A W (G17 .slots))
+          d25 = Typed.s-seq 𝓤 H A W 𝓣 E G17 G18 b11 b28 Δ3 (Typed.both (s14 bs)) (at24 bs) (Plain.t-call-plain 𝓤 H A W 𝓣 1 ps·0 r·0 (claims· .0) (claims· .1) "read_block::records::fetch" known E (λ
+              pos β. β) G17 (record { pos = 9; ty = y2; ref = λ x. x }, (Num.vAt 11 λ x. x, tt)) 6 (1 ∷ []) (Call.sub-id 𝓤 H A W (G17 .slots))
               (Reads'.as-is 𝓤 H A (Mut.mslice (Element.type) y2 1), Mut.reads-mslice 𝓤 H A W (Element.type) y2 1, Path'.refl, ((Scalar.reads-sc 𝓤 H A W (Row.sInt Syntax.w64), Path'.refl), tt))
               (Reads'.room-gone 𝓤 H A y3) (tt, tt) Path'.refl) d24
 
@@ -1070,8 +1070,8 @@ module _ (claims· : Claims) where
 
           d42 : Typed.Typed 𝓤 H A 𝓣 E (on T42 l1) (Syntax.seq b40 b41) Δ0 (at42 bs)
           d42 = Typed.s-seq 𝓤 H A W 𝓣 E (on T42 l1) (on T43 l1) b40 b41 Δ0 (Typed.pass T42 T43 (s39 bs)) (at41 bs) (Make.t-make-told 𝓤 H A W E 𝓣 (Declared.row (Apart.apartT Set.the-type)) Path'.refl
-              (Laws''.val (Apart.apartT Set.the-type) Laws'.the-laws) (Laws''.lawful (Apart.apartT Set.the-type) Laws'.the-laws 𝓤 H A W) (Laws''.makes (Apart.apartT Set.the-type) Laws'.the-plain 𝓤 H A)
-              (on T42 l1) 0 ((Scalar.oAt 16 y0 λ xs. Array'.arrayVal (List.map (Laws''.u32-laws .val) xs)) ∷ (Scalar.oAt 17 y0 λ xs. Array'.arrayVal (List.map (Laws''.u32-laws .val) xs)) ∷ []) (λ m.
+              (Laws''.val (Apart.apartT Set.the-type) Laws.the-laws) (Laws''.lawful (Apart.apartT Set.the-type) Laws.the-laws 𝓤 H A W) (Laws''.makes (Apart.apartT Set.the-type) Laws.the-plain 𝓤 H A) (on
+              T42 l1) 0 ((Scalar.oAt 16 y0 λ xs. Array'.arrayVal (List.map (Laws''.u32-laws .val) xs)) ∷ (Scalar.oAt 17 y0 λ xs. Array'.arrayVal (List.map (Laws''.u32-laws .val) xs)) ∷ []) (λ m.
               (m .1 .1 .1 .1 .1 .1 .1 .1 .1 .1 .1 .1 .1 .1 .1 .1 .0, (m .1 .1 .1 .1 .1 .1 .1 .1 .1 .1 .1 .1 .1 .1 .1 .1 .1 .0, tt))) (λ m. Path'._≡_ (ListN.length (m .1 .1 .1 .1 .1 .1 .1 .1 .1 .1 .1 .1 .1
               .1 .1 .1 .0)) 112 × Path'._≡_ (ListN.length (m .1 .1 .1 .1 .1 .1 .1 .1 .1 .1 .1 .1 .1 .1 .1 .1 .1 .0)) 112) (Reads'.room-gone 𝓤 H A y4) (
                 (Array.arr-reads 𝓤 H A W (Array.eInt Syntax.w32) (Array.eInt-laws Syntax.w32) 112, Path'.refl),
@@ -1080,13 +1080,13 @@ module _ (claims· : Claims) where
               (Path'._≡_ (ListN.length (m .1 .1 .1 .1 .1 .1 .1 .1 .1 .1 .1 .1 .1 .1 .1 .1 .0)) 112) (Path'._≡_ (ListN.length (m .1 .1 .1 .1 .1 .1 .1 .1 .1 .1 .1 .1 .1 .1 .1 .1 .1 .0)) 112) (Make.tells-row
               𝓤 H A W E ρ (Row.out 0 ((on T42 l1) .locals)) m 16 (Path'._≡_ (ListN.length (m .1 .1 .1 .1 .1 .1 .1 .1 .1 .1 .1 .1 .1 .1 .1 .1 .0)) 112) (Init.arr-len 𝓤 H A W E n32 ρ 16 112 Nat.zero (m .1
               .1 .1 .1 .1 .1 .1 .1 .1 .1 .1 .1 .1 .1 .1 .1 .0))) (Make.tells-row 𝓤 H A W E ρ (Row.out 0 ((on T42 l1) .locals)) m 17 (Path'._≡_ (ListN.length (m .1 .1 .1 .1 .1 .1 .1 .1 .1 .1 .1 .1 .1 .1 .1
-              .1 .1 .0)) 112) (Init.arr-len 𝓤 H A W E n32 ρ 17 112 Nat.zero (m .1 .1 .1 .1 .1 .1 .1 .1 .1 .1 .1 .1 .1 .1 .1 .1 .1 .0)))) (λ m q. Signed.made-val (Apart.apartT Set.the-type) Laws'.the-laws
+              .1 .1 .0)) 112) (Init.arr-len 𝓤 H A W E n32 ρ 17 112 Nat.zero (m .1 .1 .1 .1 .1 .1 .1 .1 .1 .1 .1 .1 .1 .1 .1 .1 .1 .0)))) (λ m q. Signed.made-val (Apart.apartT Set.the-type) Laws.the-laws
               ((Array'.arrayVal (List.map (Laws''.u32-laws .val) (m .1 .1 .1 .1 .1 .1 .1 .1 .1 .1 .1 .1 .1 .1 .1 .1 .0))) ∷ (Array'.arrayVal (List.map (Laws''.u32-laws .val) (m .1 .1 .1 .1 .1 .1 .1 .1 .1
               .1 .1 .1 .1 .1 .1 .1 .1 .0))) ∷ []) (m .1 .1 .1 .1 .1 .1 .1 .1 .1 .1 .1 .1 .1 .1 .1 .1 .0, (m .1 .1 .1 .1 .1 .1 .1 .1 .1 .1 .1 .1 .1 .1 .1 .1 .1 .0, tt)) (
                 Items.array-made Field.u32-field Laws''.u32-laws Make.u32-wt 112 (m .1 .1 .1 .1 .1 .1 .1 .1 .1 .1 .1 .1 .1 .1 .1 .1 .0) (q .0),
                 (Items.array-made Field.u32-field Laws''.u32-laws Make.u32-wt 112 (m .1 .1 .1 .1 .1 .1 .1 .1 .1 .1 .1 .1 .1 .1 .1 .1 .1 .0) (q .1), tt),
               )) λ m q. Signed.made-is (Apart.apartT Set.the-type)
-              Laws'.the-laws ((Array'.arrayVal (List.map (Laws''.u32-laws .val) (m .1 .1 .1 .1 .1 .1 .1 .1 .1 .1 .1 .1 .1 .1 .1 .1 .0))) ∷ (Array'.arrayVal (List.map (Laws''.u32-laws .val) (m .1 .1 .1 .1
+              Laws.the-laws ((Array'.arrayVal (List.map (Laws''.u32-laws .val) (m .1 .1 .1 .1 .1 .1 .1 .1 .1 .1 .1 .1 .1 .1 .1 .1 .0))) ∷ (Array'.arrayVal (List.map (Laws''.u32-laws .val) (m .1 .1 .1 .1
               .1 .1 .1 .1 .1 .1 .1 .1 .1 .1 .1 .1 .1 .0))) ∷ []) (m .1 .1 .1 .1 .1 .1 .1 .1 .1 .1 .1 .1 .1 .1 .1 .1 .0, (m .1 .1 .1 .1 .1 .1 .1 .1 .1 .1 .1 .1 .1 .1 .1 .1 .1 .0, tt)) (
                 Items.array-made Field.u32-field Laws''.u32-laws Make.u32-wt 112 (m .1 .1 .1 .1 .1 .1 .1 .1 .1 .1 .1 .1 .1 .1 .1 .1 .0) (q .0),
                 (Items.array-made Field.u32-field Laws''.u32-laws Make.u32-wt 112 (m .1 .1 .1 .1 .1 .1 .1 .1 .1 .1 .1 .1 .1 .1 .1 .1 .1 .0) (q .1), tt),

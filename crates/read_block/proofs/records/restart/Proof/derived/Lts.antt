@@ -357,7 +357,8 @@ module _ (claims· : Claims) where
           d0 = Typed.s-typed 𝓤 H A W 𝓣 E G7 b3 Δ1 (λ Ψ. Typed.both s5 (Typed.pass T8 T9 s6 (Typed.both s8 Ψ))) tt (Typed.g-post 𝓤 H A W 𝓣 E G7 G11 (on T0 l1) b3 (λ Ψ. Typed.both s5 (Typed.pass T8 T9
               s6 (Typed.both s8 Ψ))) (λ Ψ. Ψ) (Typed.g-post 𝓤 H A W 𝓣 E G7 G10 G11 b3 (λ Ψ. Typed.both s5 (Typed.pass T8 T9 s6 Ψ)) (Typed.both s8) (Typed.g-post 𝓤 H A W 𝓣 E G7 G9 G10 b3 (λ Ψ. Typed.both
               s5 (Typed.pass T8 T9 s6 Ψ)) (λ Ψ. Ψ) (Typed.g-post 𝓤 H A W 𝓣 E G7 G8 G9 b3 (Typed.both s5) (Typed.pass T8 T9 s6) (Plain.t-call-plain 𝓤 H A W 𝓣 1 ps·0 r·0 (claims· .0) (claims· .1)
-              "read_block::records::restart_main" known E (λ pos β. β) G7 (record { pos = 8; ty = y1; ref = λ x. x }, (Num.vAt 2 λ x. x, (Num.vAt 3 λ x. x, tt))) 6 (1 ∷ []) (Call.sub-id 𝓤 H A W (G7 .slots)) (
+              "read_block::records::restart_main" known E (λ pos β. β) G7 (record { pos = 8; ty = y1; ref = λ x. x }, (Num.vAt 2 λ x. x, (Num.vAt 3 λ x. x, tt))) 6 (1 ∷ []) (Call.sub-id 𝓤 H A W (G7
+              .slots)) (
                 Reads.as-is 𝓤 H A (Mut.mslice (Element.type) y1 1),
                 Mut.reads-mslice 𝓤 H A W (Element.type) y1 1,
                 Path'.refl,

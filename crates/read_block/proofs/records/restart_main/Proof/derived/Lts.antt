@@ -110,8 +110,8 @@ abbrev b7 : Syntax.Body
 b7 = Syntax.call "read_block::records::fetch" ((Syntax.copy (Syntax.place 9 [])) ∷ (Syntax.copy (Syntax.place 4 [])) ∷ []) (Syntax.place 5 [])
 
 abbrev b8 : Syntax.Body
-b8 = Syntax.call "read_block::records::restarted_record" ((Syntax.copy (Syntax.place 5 [])) ∷ (Syntax.copy (Syntax.place 2 [])) ∷ (Syntax.copy (Syntax.place 3 [])) ∷ (Syntax.copy (Syntax.place 4 [])) ∷ [])
-    (Syntax.place 6 [])
+b8 = Syntax.call "read_block::records::restarted_record" ((Syntax.copy (Syntax.place 5 [])) ∷ (Syntax.copy (Syntax.place 2 [])) ∷ (Syntax.copy (Syntax.place 3 [])) ∷ (Syntax.copy (Syntax.place 4 []))
+    ∷ []) (Syntax.place 6 [])
 
 abbrev b9 : Syntax.Body
 b9 = Syntax.assign (Syntax.place 11 []) (Syntax.addrOf (Syntax.place 1 ((Syntax.field 0) ∷ (Syntax.deref (Element.held)) ∷ [])))
@@ -401,8 +401,8 @@ module _ (claims· : Claims) where
     module _ (M : Type 1) where
       abbrev pub Closed : Type 2
       Closed = (𝓤 : URA.URA M) (H : Wp.Heap 𝓤) (A : Atoms.Atoms 𝓤) (W : Kit.Given 𝓤 H A) (𝓣 : Wp.Tables 𝓤 H) (known0 : Plain.Known 𝓤 H A W 𝓣 1 ps·0 r·0 (claims· .0) (claims· .1)
-          "read_block::records::fetch") (known1 : Plain.Known 𝓤 H A W 𝓣 0 ps·1 r·1 (claims· .2) (claims· .3) "read_block::records::restarted_record") (known2 : Plain.Known 𝓤 H A W 𝓣 1 ps·2 r·2 (claims· .4) (claims·
-          .5) "read_block::records::update") → Statement.Triple 𝓤 (Wp.WpFn 𝓤 H (𝓣 .C) (𝓣 .Λ) (Function.fnOf 1 ps r xs m hs body)) (Function.plainOf 𝓤 H A 1 ps r Pre· Post·)
+          "read_block::records::fetch") (known1 : Plain.Known 𝓤 H A W 𝓣 0 ps·1 r·1 (claims· .2) (claims· .3) "read_block::records::restarted_record") (known2 : Plain.Known 𝓤 H A W 𝓣 1 ps·2 r·2 (claims·
+          .4) (claims· .5) "read_block::records::update") → Statement.Triple 𝓤 (Wp.WpFn 𝓤 H (𝓣 .C) (𝓣 .Λ) (Function.fnOf 1 ps r xs m hs body)) (Function.plainOf 𝓤 H A 1 ps r Pre· Post·)
 
     module _ (Inv·0 : InvT-loop) (μ·0 : MeasureT-loop) where
       abbrev at0 : Typed.TF T2 O4
@@ -498,8 +498,8 @@ module _ (claims· : Claims) where
 
       module _ {M : Type 1} (𝓤 : URA.URA M) (H : Wp.Heap 𝓤) (A : Atoms.Atoms 𝓤) (W : Kit.Given 𝓤 H A) (𝓣 : Wp.Tables 𝓤 H) where
         abbrev Knowns : Type 1
-        Knowns = Plain.Known 𝓤 H A W 𝓣 1 ps·0 r·0 (claims· .0) (claims· .1) "read_block::records::fetch" × Plain.Known 𝓤 H A W 𝓣 0 ps·1 r·1 (claims· .2) (claims· .3) "read_block::records::restarted_record" ×
-            Plain.Known 𝓤 H A W 𝓣 1 ps·2 r·2 (claims· .4) (claims· .5) "read_block::records::update"
+        Knowns = Plain.Known 𝓤 H A W 𝓣 1 ps·0 r·0 (claims· .0) (claims· .1) "read_block::records::fetch" × Plain.Known 𝓤 H A W 𝓣 0 ps·1 r·1 (claims· .2) (claims· .3)
+            "read_block::records::restarted_record" × Plain.Known 𝓤 H A W 𝓣 1 ps·2 r·2 (claims· .4) (claims· .5) "read_block::records::update"
 
       module _ (κs : Lifetimes.Lfts 1) (qs : Lifetimes.Shares 1) where
         abbrev k0 : Row.Life
@@ -643,8 +643,8 @@ module _ (claims· : Claims) where
           d10 = Typed.g-pre 𝓤 H A W 𝓣 E G20 G21 b12 Δ3 (Typed.pass T20 T21 s17) at9 (Scalar.g-room 𝓤 H A W E G20 6 y2 (Local.room-whole 𝓤 H A W (Declared.row Record.the-type) y2 Path'.refl)) d9
 
           d11 : Typed.Typed 𝓤 H A 𝓣 E G19 (Syntax.seq b11 b12) Δ3 at11
-          d11 = Typed.s-seq 𝓤 H A W 𝓣 E G19 G20 b11 b12 Δ3 (Typed.both s16) at10 (Plain.t-call-plain 𝓤 H A W 𝓣 1 ps·2 r·2 (claims· .4) (claims· .5) "read_block::records::update" (known .2) E (λ pos β. β)
-              G19 (record { pos = 12; ty = y1; ref = λ x. x }, (Num.vAt 4 λ x. x, (record { pos = 6; st = []; d = 0; at = λ x. x }, tt))) 10 (2 ∷ []) (Call.sub-id 𝓤 H A W (G19 .slots)) (
+          d11 = Typed.s-seq 𝓤 H A W 𝓣 E G19 G20 b11 b12 Δ3 (Typed.both s16) at10 (Plain.t-call-plain 𝓤 H A W 𝓣 1 ps·2 r·2 (claims· .4) (claims· .5) "read_block::records::update" (known .2) E (λ pos β.
+              β) G19 (record { pos = 12; ty = y1; ref = λ x. x }, (Num.vAt 4 λ x. x, (record { pos = 6; st = []; d = 0; at = λ x. x }, tt))) 10 (2 ∷ []) (Call.sub-id 𝓤 H A W (G19 .slots)) (
                 Reads.as-is 𝓤 H A (Mut.mslice (Element.type) y1 2),
                 Mut.reads-mslice 𝓤 H A W (Element.type) y1 2,
                 Path'.refl,
@@ -670,9 +670,9 @@ module _ (claims· : Claims) where
               y2 Path'.refl)) d14
 
           d16 : Typed.Typed 𝓤 H A 𝓣 E (on T13 l2) b16 Δ3 at16
-          d16 = Typed.s-seq 𝓤 H A W 𝓣 E (on T13 l2) (on T15 l2) b8 b15 Δ3 (Typed.both s11) at15 (Plain.t-call-plain 𝓤 H A W 𝓣 0 ps·1 r·1 (claims· .2) (claims· .3) "read_block::records::restarted_record"
-              (known .1) E (λ pos β. β) (on T13 l2) (record { pos = 5; st = []; d = 0; at = λ x. x }, (Num.vAt 2 λ x. x, (Num.vAt 3 λ x. x, (Num.vAt 4 λ x. x, tt)))) 6 [] (Call.sub-id 𝓤 H A W ((on T13 l2)
-              .slots)) (
+          d16 = Typed.s-seq 𝓤 H A W 𝓣 E (on T13 l2) (on T15 l2) b8 b15 Δ3 (Typed.both s11) at15 (Plain.t-call-plain 𝓤 H A W 𝓣 0 ps·1 r·1 (claims· .2) (claims· .3)
+              "read_block::records::restarted_record" (known .1) E (λ pos β. β) (on T13 l2)
+              (record { pos = 5; st = []; d = 0; at = λ x. x }, (Num.vAt 2 λ x. x, (Num.vAt 3 λ x. x, (Num.vAt 4 λ x. x, tt)))) 6 [] (Call.sub-id 𝓤 H A W ((on T13 l2) .slots)) (
                 (Values.struct-copied 𝓤 H A W Record.the-type Laws.the-laws Laws.the-copy, Path'.refl),
                 (
                   (Scalar.reads-sc 𝓤 H A W (Row.sInt Syntax.w32), Path'.refl),
@@ -691,8 +691,8 @@ module _ (claims· : Claims) where
           d19 = Typed.g-pre 𝓤 H A W 𝓣 E G11 G12 b16 Δ3 (λ Ψ. Ψ) at18 (Lifetime.g-end 𝓤 H A W E G11 1 Path'.refl) d18
 
           d20 : Typed.Typed 𝓤 H A 𝓣 E G10 (Syntax.seq b7 b16) Δ3 at20
-          d20 = Typed.s-seq 𝓤 H A W 𝓣 E G10 G11 b7 b16 Δ3 (Typed.both s7) at18 (Plain.t-call-plain 𝓤 H A W 𝓣 1 ps·0 r·0 (claims· .0) (claims· .1) "read_block::records::fetch" (known .0) E (λ pos β. β) G10
-              (record { pos = 9; ty = y1; ref = λ x. x }, (Num.vAt 4 λ x. x, tt)) 5 (1 ∷ []) (Call.sub-id 𝓤 H A W (G10 .slots))
+          d20 = Typed.s-seq 𝓤 H A W 𝓣 E G10 G11 b7 b16 Δ3 (Typed.both s7) at18 (Plain.t-call-plain 𝓤 H A W 𝓣 1 ps·0 r·0 (claims· .0) (claims· .1) "read_block::records::fetch" (known .0) E (λ pos β. β)
+              G10 (record { pos = 9; ty = y1; ref = λ x. x }, (Num.vAt 4 λ x. x, tt)) 5 (1 ∷ []) (Call.sub-id 𝓤 H A W (G10 .slots))
               (Reads.as-is 𝓤 H A (Mut.mslice (Element.type) y1 1), Mut.reads-mslice 𝓤 H A W (Element.type) y1 1, Path'.refl, ((Scalar.reads-sc 𝓤 H A W (Row.sInt Syntax.w64), Path'.refl), tt))
               (Reads.room-gone 𝓤 H A y2) (tt, tt) Path'.refl) d19
 
@@ -1096,7 +1096,7 @@ module _ (claims· : Claims) where
           }
 
         module _ {M : Type 1} (𝓤 : URA.URA M) (H : Wp.Heap 𝓤) (A : Atoms.Atoms 𝓤) (W : Kit.Given 𝓤 H A) (𝓣 : Wp.Tables 𝓤 H) (known0 : Plain.Known 𝓤 H A W 𝓣 1 ps·0 r·0 (claims· .0) (claims· .1)
-            "read_block::records::fetch") (known1 : Plain.Known 𝓤 H A W 𝓣 0 ps·1 r·1 (claims· .2) (claims· .3) "read_block::records::restarted_record") (known2 : Plain.Known 𝓤 H A W 𝓣 1 ps·2 r·2 (claims· .4)
-            (claims· .5) "read_block::records::update") where
+            "read_block::records::fetch") (known1 : Plain.Known 𝓤 H A W 𝓣 0 ps·1 r·1 (claims· .2) (claims· .3) "read_block::records::restarted_record") (known2 : Plain.Known 𝓤 H A W 𝓣 1 ps·2 r·2 (claims·
+            .4) (claims· .5) "read_block::records::update") where
           pub spec : Statement.Triple 𝓤 (Wp.WpFn 𝓤 H (𝓣 .C) (𝓣 .Λ) (Function.fnOf 1 ps r xs m hs body)) (Function.plainOf 𝓤 H A 1 ps r Pre· Post·)
           spec = Plain.t-fn-plain 𝓤 H A W 𝓣 1 ps r xs m hs body (λ κs qs bs. Φ) (λ κs qs bs bd. typed κs qs 𝓤 H A W 𝓣 (known0, known1, known2) bs bd) Pre· Post· asked

@@ -331,8 +331,8 @@ module _ (claims· : Claims) where
     module _ (M : Type 1) where
       abbrev pub Closed : Type 2
       Closed = (𝓤 : URA.URA M) (H : Wp.Heap 𝓤) (A : Atoms.Atoms 𝓤) (W : Kit.Given 𝓤 H A) (𝓣 : Wp.Tables 𝓤 H) (known0 : Plain.Known 𝓤 H A W 𝓣 0 ps·0 r·0 (claims· .0) (claims· .1)
-          "read_block::records::start_record") (known1 : Plain.Known 𝓤 H A W 𝓣 1 ps·1 r·1 (claims· .2) (claims· .3) "read_block::records::update") → Statement.Triple 𝓤 (Wp.WpFn 𝓤 H (𝓣 .C) (𝓣 .Λ) (Function.fnOf 1 ps
-          r xs m hs body)) (Function.plainOf 𝓤 H A 1 ps r Pre· Post·)
+          "read_block::records::start_record") (known1 : Plain.Known 𝓤 H A W 𝓣 1 ps·1 r·1 (claims· .2) (claims· .3) "read_block::records::update") → Statement.Triple 𝓤 (Wp.WpFn 𝓤 H (𝓣 .C) (𝓣 .Λ)
+          (Function.fnOf 1 ps r xs m hs body)) (Function.plainOf 𝓤 H A 1 ps r Pre· Post·)
 
     module _ (Inv·0 : InvT-loop) (μ·0 : MeasureT-loop) where
       abbrev at0 : Typed.TF T2 O4
@@ -413,7 +413,8 @@ module _ (claims· : Claims) where
 
       module _ {M : Type 1} (𝓤 : URA.URA M) (H : Wp.Heap 𝓤) (A : Atoms.Atoms 𝓤) (W : Kit.Given 𝓤 H A) (𝓣 : Wp.Tables 𝓤 H) where
         abbrev Knowns : Type 1
-        Knowns = Plain.Known 𝓤 H A W 𝓣 0 ps·0 r·0 (claims· .0) (claims· .1) "read_block::records::start_record" × Plain.Known 𝓤 H A W 𝓣 1 ps·1 r·1 (claims· .2) (claims· .3) "read_block::records::update"
+        Knowns = Plain.Known 𝓤 H A W 𝓣 0 ps·0 r·0 (claims· .0) (claims· .1) "read_block::records::start_record" × Plain.Known 𝓤 H A W 𝓣 1 ps·1 r·1 (claims· .2) (claims· .3)
+            "read_block::records::update"
 
       module _ (κs : Lifetimes.Lfts 1) (qs : Lifetimes.Shares 1) where
         abbrev k0 : Row.Life
@@ -524,8 +525,8 @@ module _ (claims· : Claims) where
           d10 = Typed.g-pre 𝓤 H A W 𝓣 E G12 G13 b9 Δ3 (Typed.pass T12 T13 s9) at9 (Scalar.g-room 𝓤 H A W E G12 5 y2 (Local.room-whole 𝓤 H A W (Declared.row Record.the-type) y2 Path'.refl)) d9
 
           d11 : Typed.Typed 𝓤 H A 𝓣 E G11 (Syntax.seq b8 b9) Δ3 at11
-          d11 = Typed.s-seq 𝓤 H A W 𝓣 E G11 G12 b8 b9 Δ3 (Typed.both s8) at10 (Plain.t-call-plain 𝓤 H A W 𝓣 1 ps·1 r·1 (claims· .2) (claims· .3) "read_block::records::update" (known .1) E (λ pos β. β) G11
-              (record { pos = 9; ty = y1; ref = λ x. x }, (Num.vAt 4 λ x. x, (record { pos = 5; st = []; d = 0; at = λ x. x }, tt))) 7 (1 ∷ []) (Call.sub-id 𝓤 H A W (G11 .slots)) (
+          d11 = Typed.s-seq 𝓤 H A W 𝓣 E G11 G12 b8 b9 Δ3 (Typed.both s8) at10 (Plain.t-call-plain 𝓤 H A W 𝓣 1 ps·1 r·1 (claims· .2) (claims· .3) "read_block::records::update" (known .1) E (λ pos β. β)
+              G11 (record { pos = 9; ty = y1; ref = λ x. x }, (Num.vAt 4 λ x. x, (record { pos = 5; st = []; d = 0; at = λ x. x }, tt))) 7 (1 ∷ []) (Call.sub-id 𝓤 H A W (G11 .slots)) (
                 Reads.as-is 𝓤 H A (Mut.mslice (Element.type) y1 1),
                 Mut.reads-mslice 𝓤 H A W (Element.type) y1 1,
                 Path'.refl,
@@ -546,8 +547,8 @@ module _ (claims· : Claims) where
           d14 = Typed.g-pre 𝓤 H A W 𝓣 E (on T8 l1) G9 b12 Δ3 (λ Ψ. Ψ) at13 (Lifetime.g-begin 𝓤 H A W E (on T8 l1) 1 (tt, (tt, (tt, (tt, (tt, (tt, (tt, (tt, (tt, (tt, tt))))))))))) d13
 
           d15 : Typed.Typed 𝓤 H A 𝓣 E (on T2 l1) (Syntax.seq b5 b12) Δ3 at15
-          d15 = Typed.s-seq 𝓤 H A W 𝓣 E (on T2 l1) (on T8 l1) b5 b12 Δ3 (Typed.both s4) at13 (Plain.t-call-plain 𝓤 H A W 𝓣 0 ps·0 r·0 (claims· .0) (claims· .1) "read_block::records::start_record" (known
-              .0) E (λ pos β. β) (on T2 l1) (Num.vAt 2 λ x. x, (Num.vAt 3 λ x. x, (Num.vAt 4 λ x. x, tt))) 5 [] (Call.sub-id 𝓤 H A W ((on T2 l1) .slots)) (
+          d15 = Typed.s-seq 𝓤 H A W 𝓣 E (on T2 l1) (on T8 l1) b5 b12 Δ3 (Typed.both s4) at13 (Plain.t-call-plain 𝓤 H A W 𝓣 0 ps·0 r·0 (claims· .0) (claims· .1) "read_block::records::start_record"
+              (known .0) E (λ pos β. β) (on T2 l1) (Num.vAt 2 λ x. x, (Num.vAt 3 λ x. x, (Num.vAt 4 λ x. x, tt))) 5 [] (Call.sub-id 𝓤 H A W ((on T2 l1) .slots)) (
                 (Scalar.reads-sc 𝓤 H A W (Row.sInt Syntax.w32), Path'.refl),
                 ((Scalar.reads-sc 𝓤 H A W (Row.sInt Syntax.w32), Path'.refl), ((Scalar.reads-sc 𝓤 H A W (Row.sInt Syntax.w64), Path'.refl), tt)),
               ) (Reads.room-gone 𝓤 H A y2) tt Path'.refl) d14

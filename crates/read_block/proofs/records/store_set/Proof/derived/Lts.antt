@@ -5,10 +5,10 @@ use Rattle.bits.proofs.Values.{n32, u32, u64}
 use mathlib.Core.List.{_∷_, []}
 use Rattle.read_block.proofs.Element
 use Prim.Native.Nat
-use Rattle.statistics.proofs.Record
-use Rattle.statistics.proofs.Record.Laws
 use Rattle.pass_steps.proofs.Set
-use Rattle.pass_steps.proofs.Set.Laws as Laws'
+use Rattle.pass_steps.proofs.Set.Laws
+use Rattle.statistics.proofs.Record
+use Rattle.statistics.proofs.Record.Laws as Laws'
 use borrow.Author.Called
 use borrow.Author.Tests
 use borrow.Fn.Any
@@ -78,10 +78,10 @@ abbrev pub y3 : Syntax.Ty
 y3 = Syntax.tyStruct (115 ∷ 116 ∷ 97 ∷ 116 ∷ 105 ∷ 115 ∷ 116 ∷ 105 ∷ 99 ∷ 115 ∷ 58 ∷ 58 ∷ 82 ∷ 101 ∷ 99 ∷ 111 ∷ 114 ∷ 100 ∷ []) (Syntax.tcons u32 (Syntax.tcons u32 Syntax.tnil))
 
 abbrev pub y4 : Syntax.Ty
-y4 = Syntax.tyStruct (115 ∷ 116 ∷ 101 ∷ 112 ∷ 115 ∷ 58 ∷ 58 ∷ 83 ∷ 101 ∷ 116 ∷ []) (Syntax.tcons y0 (Syntax.tcons y0 Syntax.tnil))
+y4 = Syntax.tyStruct (112 ∷ 97 ∷ 115 ∷ 115 ∷ 95 ∷ 115 ∷ 116 ∷ 101 ∷ 112 ∷ 115 ∷ 58 ∷ 58 ∷ 83 ∷ 101 ∷ 116 ∷ []) (Syntax.tcons y0 (Syntax.tcons y0 Syntax.tnil))
 
 abbrev pub ps : List.List (Kinds.PK 1)
-ps = (MutSlice.pMutS (Element.type) 0 tt) ∷ (Num.pNum Syntax.w64) ∷ (Values.struct Set.the-type Laws'.the-laws Laws'.the-copy Laws'.the-plain) ∷ []
+ps = (MutSlice.pMutS (Element.type) 0 tt) ∷ (Num.pNum Syntax.w64) ∷ (Values.struct Set.the-type Laws.the-laws Laws.the-copy Laws.the-plain) ∷ []
 
 abbrev pub r : Kinds.RK 1
 r = Unit'.rUnit
@@ -94,7 +94,7 @@ abbrev pub m : Nat.ℕ
 m = 1
 
 abbrev pub ps·0 : List.List (Kinds.PK 1)
-ps·0 = (MutSlice.pMutS (Element.type) 0 tt) ∷ (Num.pNum Syntax.w64) ∷ (Values.struct Record.the-type Laws.the-laws Laws.the-copy Laws.the-plain) ∷ []
+ps·0 = (MutSlice.pMutS (Element.type) 0 tt) ∷ (Num.pNum Syntax.w64) ∷ (Values.struct Record.the-type Laws'.the-laws Laws'.the-copy Laws'.the-plain) ∷ []
 
 abbrev pub r·0 : Kinds.RK 1
 r·0 = Unit'.rUnit
@@ -973,12 +973,12 @@ module _ (claims· : Claims) where
               Path'.refl)) d12
 
           d14 : Typed.Typed 𝓤 H A 𝓣 E G36 b22 Δ3 (at14 bs)
-          d14 = Typed.s-seq 𝓤 H A W 𝓣 E G36 G37 b20 b21 Δ3 (Typed.both (s33 bs)) (at13 bs) (Plain.t-call-plain 𝓤 H A W 𝓣 1 ps·0 r·0 (claims· .0) (claims· .1) "read_block::records::update" known E (λ pos β.
-              β) G36 (record { pos = 19; ty = y2; ref = λ x. x }, (Num.vAt 13 λ x. x, (record { pos = 7; st = []; d = 0; at = λ x. x }, tt))) 17 (1 ∷ []) (Call.sub-id 𝓤 H A W (G36 .slots)) (
+          d14 = Typed.s-seq 𝓤 H A W 𝓣 E G36 G37 b20 b21 Δ3 (Typed.both (s33 bs)) (at13 bs) (Plain.t-call-plain 𝓤 H A W 𝓣 1 ps·0 r·0 (claims· .0) (claims· .1) "read_block::records::update" known E (λ
+              pos β. β) G36 (record { pos = 19; ty = y2; ref = λ x. x }, (Num.vAt 13 λ x. x, (record { pos = 7; st = []; d = 0; at = λ x. x }, tt))) 17 (1 ∷ []) (Call.sub-id 𝓤 H A W (G36 .slots)) (
                 Reads.as-is 𝓤 H A (Mut.mslice (Element.type) y2 1),
                 Mut.reads-mslice 𝓤 H A W (Element.type) y2 1,
                 Path'.refl,
-                ((Scalar.reads-sc 𝓤 H A W (Row.sInt Syntax.w64), Path'.refl), ((Values.struct-copied 𝓤 H A W Record.the-type Laws.the-laws Laws.the-copy, Path'.refl), tt)),
+                ((Scalar.reads-sc 𝓤 H A W (Row.sInt Syntax.w64), Path'.refl), ((Values.struct-copied 𝓤 H A W Record.the-type Laws'.the-laws Laws'.the-copy, Path'.refl), tt)),
               ) (Reads.room-gone 𝓤 H A
               Syntax.tyUnit) (tt, tt) Path'.refl) d13
 
@@ -1023,11 +1023,11 @@ module _ (claims· : Claims) where
               Syntax.w32))) d22
 
           d24 : Typed.Typed 𝓤 H A 𝓣 E (on T26 l1) b27 Δ3 (at24 bs)
-          d24 = Typed.s-seq 𝓤 H A W 𝓣 E (on T26 l1) (on T27 l1) b15 b26 Δ3 (Typed.pass T26 T27 (s23 bs)) (at23 bs) (Make.t-struct-make 𝓤 H A W E 𝓣 (Apart.apartT Record.the-type) Laws.the-laws
-              Laws.the-plain (on T26 l1) 7 ((Scalar.oAt 12 u32 (Row.valS (Row.sInt Syntax.w32))) ∷ (Scalar.oAt 16 u32 (Row.valS (Row.sInt Syntax.w32))) ∷ []) (λ m.
+          d24 = Typed.s-seq 𝓤 H A W 𝓣 E (on T26 l1) (on T27 l1) b15 b26 Δ3 (Typed.pass T26 T27 (s23 bs)) (at23 bs) (Make.t-struct-make 𝓤 H A W E 𝓣 (Apart.apartT Record.the-type) Laws'.the-laws
+              Laws'.the-plain (on T26 l1) 7 ((Scalar.oAt 12 u32 (Row.valS (Row.sInt Syntax.w32))) ∷ (Scalar.oAt 16 u32 (Row.valS (Row.sInt Syntax.w32))) ∷ []) (λ m.
               (m .1 .1 .1 .1 .1 .1 .1 .1 .1 .1 .1 .1 .0, (m .1 .1 .1 .1 .1 .1 .1 .1 .1 .1 .1 .1 .1 .1 .1 .1 .0, tt))) (Reads.room-gone 𝓤 H A y3)
               ((Scalar.reads-sc 𝓤 H A W (Row.sInt Syntax.w32), Path'.refl), ((Scalar.reads-sc 𝓤 H A W (Row.sInt Syntax.w32), Path'.refl), tt)) Path'.refl (λ u. Path'.refl) λ m. Make.is-wt (Apart.apartT
-              Record.the-type) Laws.the-laws (Make.u32-wt, (Make.u32-wt, tt)) (m .1 .1 .1 .1 .1 .1 .1 .1 .1 .1 .1 .1 .0, (m .1 .1 .1 .1 .1 .1 .1 .1 .1 .1 .1 .1 .1 .1 .1 .1 .0, tt))) d23
+              Record.the-type) Laws'.the-laws (Make.u32-wt, (Make.u32-wt, tt)) (m .1 .1 .1 .1 .1 .1 .1 .1 .1 .1 .1 .1 .0, (m .1 .1 .1 .1 .1 .1 .1 .1 .1 .1 .1 .1 .1 .1 .1 .1 .0, tt))) d23
 
           d25 : Typed.Typed 𝓤 H A 𝓣 E (on T25 l1) b27 Δ3 (at25 bs)
           d25 = Typed.g-pre 𝓤 H A W 𝓣 E (on T25 l1) (on T26 l1) b27 Δ3 (Typed.pass T25 T26 (s22 bs)) (at24 bs) (Scalar.g-room 𝓤 H A W E (on T25 l1) 15 Syntax.tyPtr (Scalar.room-sc 𝓤 H A W Row.sPtr))
@@ -1147,7 +1147,7 @@ module _ (claims· : Claims) where
               (Declared.row Set.the-type)) (λ x. x) (λ x. x) (u .1 .1 .1 .0) (Local.mem-whole 𝓤 H A W (Declared.row Set.the-type) ρ (u .1 .1 .1 .0) (Row.hd 0 (Row.tl (Row.tl (Row.tl bs)))))
               (Local.whole-mem 𝓤 H A W (Declared.row Set.the-type) ρ (u .1 .1 .1 .0) (Row.hd 0 (Row.tl (Row.tl (Row.tl bs))))))) Path'.refl λ q. Items.cut-array 𝓤 H A q (Declared.row Set.the-type) n32 112
               448 (u .1 .1 .1 .0) (u .1 .1 .1 .0) (At.getAt (Set.the-type .parts) 1 (Set.struct .as-values (u .1 .1 .1 .0))) (At.getAt (Set.the-type .parts) 1 (Set.struct .as-values (u .1 .1 .1 .0)))
-              (Row.hd 0 (Row.tl (Row.tl (Row.tl bs))), 0) (Behind.look-at 𝓤 H A W q Set.the-type Laws'.the-laws 1 448 Path'.refl Path'.refl (Row.hd 0 (Row.tl (Row.tl (Row.tl bs))), 0) (u .1 .1 .1 .0)
+              (Row.hd 0 (Row.tl (Row.tl (Row.tl bs))), 0) (Behind.look-at 𝓤 H A W q Set.the-type Laws.the-laws 1 448 Path'.refl Path'.refl (Row.hd 0 (Row.tl (Row.tl (Row.tl bs))), 0) (u .1 .1 .1 .0)
               (Set.struct .as-values (u .1 .1 .1 .0)) Path'.refl)) (Reads.room-gone 𝓤 H A y0) (Yields.makes-mem 𝓤 H A W (λ ρ. Unit) (Array.Array n32 112) Path'.refl (Rows.arrF n32 112 0) (λ x. x) λ ρ
               told. Whole.arr-mem 𝓤 H A W n32 112 tt ρ) Path'.refl Path'.refl Path'.refl) d49
 
@@ -1162,7 +1162,7 @@ module _ (claims· : Claims) where
               (Declared.row Set.the-type)) (λ x. x) (λ x. x) (u .1 .1 .1 .0) (Local.mem-whole 𝓤 H A W (Declared.row Set.the-type) ρ (u .1 .1 .1 .0) (Row.hd 0 (Row.tl (Row.tl (Row.tl bs)))))
               (Local.whole-mem 𝓤 H A W (Declared.row Set.the-type) ρ (u .1 .1 .1 .0) (Row.hd 0 (Row.tl (Row.tl (Row.tl bs))))))) Path'.refl λ q. Items.cut-array 𝓤 H A q (Declared.row Set.the-type) n32 112
               0 (u .1 .1 .1 .0) (u .1 .1 .1 .0) (At.getAt (Set.the-type .parts) 0 (Set.struct .as-values (u .1 .1 .1 .0))) (At.getAt (Set.the-type .parts) 0 (Set.struct .as-values (u .1 .1 .1 .0)))
-              (Row.hd 0 (Row.tl (Row.tl (Row.tl bs))), 0) (Behind.look-at 𝓤 H A W q Set.the-type Laws'.the-laws 0 0 Path'.refl Path'.refl (Row.hd 0 (Row.tl (Row.tl (Row.tl bs))), 0) (u .1 .1 .1 .0)
+              (Row.hd 0 (Row.tl (Row.tl (Row.tl bs))), 0) (Behind.look-at 𝓤 H A W q Set.the-type Laws.the-laws 0 0 Path'.refl Path'.refl (Row.hd 0 (Row.tl (Row.tl (Row.tl bs))), 0) (u .1 .1 .1 .0)
               (Set.struct .as-values (u .1 .1 .1 .0)) Path'.refl)) (Reads.room-gone 𝓤 H A y0) (Yields.makes-mem 𝓤 H A W (λ ρ. Unit) (Array.Array n32 112) Path'.refl (Rows.arrF n32 112 0) (λ x. x) λ ρ
               told. Whole.arr-mem 𝓤 H A W n32 112 tt ρ) Path'.refl Path'.refl Path'.refl) d50
 
@@ -1173,7 +1173,7 @@ module _ (claims· : Claims) where
         pub record Args : Type 0 where
           pub rs : Kinds.Den {n = 1} κs (MutSlice.pMutS (Element.type) 0 tt)
           pub g : Kinds.Den {n = 1} κs (Num.pNum Syntax.w64)
-          pub set : Kinds.Den {n = 1} κs (Values.struct Set.the-type Laws'.the-laws Laws'.the-copy Laws'.the-plain)
+          pub set : Kinds.Den {n = 1} κs (Values.struct Set.the-type Laws.the-laws Laws.the-copy Laws.the-plain)
 
         abbrev pub dens : (a : Args) → Kinds.Dens κs ps
         dens = λ a. (a .rs, (a .g, (a .set, tt)))

@@ -8,20 +8,20 @@ use Rattle.read_block.proofs.Element
 use Prim.Native.Nat
 use Rattle.admission.proofs.Beginning
 use Rattle.admission.proofs.Beginning.Laws
-use Rattle.read_block.proofs.Decoded
-use Rattle.read_block.proofs.Decoded.Laws as Laws'
-use Rattle.read_block.proofs.SharedAnswer
-use Rattle.read_block.proofs.SharedAnswer.Laws as Laws''
 use Rattle.cameras.proofs.Camera
-use Rattle.cameras.proofs.Camera.Laws as Laws'3
+use Rattle.cameras.proofs.Camera.Laws as Laws'
 use Rattle.cameras.proofs.Entries
-use Rattle.cameras.proofs.Entries.Laws as Laws'4
-use Rattle.stream.proofs.header.FujiHeader
-use Rattle.stream.proofs.header.FujiHeader.Laws as Laws'5
-use Rattle.stream.proofs.header.Refusal
-use Rattle.stream.proofs.header.Refusal.Laws as Laws'6
+use Rattle.cameras.proofs.Entries.Laws as Laws''
 use Rattle.image_region.proofs.Rect
-use Rattle.image_region.proofs.Rect.Laws as Laws'7
+use Rattle.image_region.proofs.Rect.Laws as Laws'3
+use Rattle.read_block.proofs.Decoded
+use Rattle.read_block.proofs.Decoded.Laws as Laws'4
+use Rattle.read_block.proofs.SharedAnswer
+use Rattle.read_block.proofs.SharedAnswer.Laws as Laws'5
+use Rattle.stream.proofs.header.FujiHeader
+use Rattle.stream.proofs.header.FujiHeader.Laws as Laws'6
+use Rattle.stream.proofs.header.Refusal
+use Rattle.stream.proofs.header.Refusal.Laws as Laws'7
 use borrow.Author.Called
 use borrow.Enum.Known
 use borrow.Enum.Make
@@ -95,12 +95,12 @@ abbrev pub y0 : Syntax.Ty
 y0 = Syntax.tyArray u8 36
 
 abbrev pub y1 : Syntax.Ty
-y1 = Syntax.tyEnum (104 ∷ 101 ∷ 97 ∷ 100 ∷ 101 ∷ 114 ∷ 58 ∷ 58 ∷ 82 ∷ 101 ∷ 102 ∷ 117 ∷ 115 ∷ 97 ∷ 108 ∷ []) (Syntax.ttcons Syntax.tnil (Syntax.ttcons Syntax.tnil (Syntax.ttcons Syntax.tnil
-    (Syntax.ttcons (Syntax.tcons u64 Syntax.tnil) (Syntax.ttcons Syntax.tnil (Syntax.ttcons Syntax.tnil (Syntax.ttcons Syntax.tnil (Syntax.ttcons Syntax.tnil (Syntax.ttcons Syntax.tnil (Syntax.ttcons
-    Syntax.tnil (Syntax.ttcons (Syntax.tcons u64 Syntax.tnil) (Syntax.ttcons (Syntax.tcons u64 Syntax.tnil) (Syntax.ttcons Syntax.tnil (Syntax.ttcons (Syntax.tcons u64 (Syntax.tcons u64 Syntax.tnil))
-    (Syntax.ttcons (Syntax.tcons u64 Syntax.tnil) (Syntax.ttcons Syntax.tnil (Syntax.ttcons Syntax.tnil (Syntax.ttcons (Syntax.tcons u64 Syntax.tnil) (Syntax.ttcons (Syntax.tcons u64 Syntax.tnil)
-    (Syntax.ttcons (Syntax.tcons u64 Syntax.tnil) (Syntax.ttcons Syntax.tnil (Syntax.ttcons Syntax.tnil (Syntax.ttcons (Syntax.tcons u64 (Syntax.tcons u64 Syntax.tnil)) (Syntax.ttcons Syntax.tnil
-    Syntax.ttnil))))))))))))))))))))))))
+y1 = Syntax.tyEnum (115 ∷ 116 ∷ 114 ∷ 101 ∷ 97 ∷ 109 ∷ 58 ∷ 58 ∷ 104 ∷ 101 ∷ 97 ∷ 100 ∷ 101 ∷ 114 ∷ 58 ∷ 58 ∷ 82 ∷ 101 ∷ 102 ∷ 117 ∷ 115 ∷ 97 ∷ 108 ∷ []) (Syntax.ttcons Syntax.tnil (Syntax.ttcons
+    Syntax.tnil (Syntax.ttcons Syntax.tnil (Syntax.ttcons (Syntax.tcons u64 Syntax.tnil) (Syntax.ttcons Syntax.tnil (Syntax.ttcons Syntax.tnil (Syntax.ttcons Syntax.tnil (Syntax.ttcons Syntax.tnil
+    (Syntax.ttcons Syntax.tnil (Syntax.ttcons Syntax.tnil (Syntax.ttcons (Syntax.tcons u64 Syntax.tnil) (Syntax.ttcons (Syntax.tcons u64 Syntax.tnil) (Syntax.ttcons Syntax.tnil (Syntax.ttcons
+    (Syntax.tcons u64 (Syntax.tcons u64 Syntax.tnil)) (Syntax.ttcons (Syntax.tcons u64 Syntax.tnil) (Syntax.ttcons Syntax.tnil (Syntax.ttcons Syntax.tnil (Syntax.ttcons (Syntax.tcons u64 Syntax.tnil)
+    (Syntax.ttcons (Syntax.tcons u64 Syntax.tnil) (Syntax.ttcons (Syntax.tcons u64 Syntax.tnil) (Syntax.ttcons Syntax.tnil (Syntax.ttcons Syntax.tnil (Syntax.ttcons (Syntax.tcons u64 (Syntax.tcons u64
+    Syntax.tnil)) (Syntax.ttcons Syntax.tnil (Syntax.ttcons Syntax.tnil (Syntax.ttcons (Syntax.tcons u64 Syntax.tnil) Syntax.ttnil))))))))))))))))))))))))))
 
 abbrev pub y2 : Syntax.Ty
 y2 = Syntax.tyEnum (99 ∷ 97 ∷ 109 ∷ 101 ∷ 114 ∷ 97 ∷ 115 ∷ 58 ∷ 58 ∷ 67 ∷ 97 ∷ 109 ∷ 101 ∷ 114 ∷ 97 ∷ []) (Syntax.ttcons Syntax.tnil (Syntax.ttcons Syntax.tnil Syntax.ttnil))
@@ -124,22 +124,24 @@ abbrev pub y8 : Syntax.Ty
 y8 = Syntax.tyRef Syntax.erased Syntax.mut u16
 
 abbrev pub y9 : Syntax.Ty
-y9 = Syntax.tyStruct (104 ∷ 101 ∷ 97 ∷ 100 ∷ 101 ∷ 114 ∷ 58 ∷ 58 ∷ 70 ∷ 117 ∷ 106 ∷ 105 ∷ 72 ∷ 101 ∷ 97 ∷ 100 ∷ 101 ∷ 114 ∷ []) (Syntax.tcons Syntax.tyBool (Syntax.tcons Syntax.tyBool (Syntax.tcons
-    u32 (Syntax.tcons u32 (Syntax.tcons u32 (Syntax.tcons u32 (Syntax.tcons u32 (Syntax.tcons u32 (Syntax.tcons u32 Syntax.tnil)))))))))
+y9 = Syntax.tyStruct (105 ∷ 109 ∷ 97 ∷ 103 ∷ 101 ∷ 95 ∷ 114 ∷ 101 ∷ 103 ∷ 105 ∷ 111 ∷ 110 ∷ 58 ∷ 58 ∷ 82 ∷ 101 ∷ 99 ∷ 116 ∷ []) (Syntax.tcons u64 (Syntax.tcons u64 (Syntax.tcons u64 (Syntax.tcons u64
+    Syntax.tnil))))
 
 abbrev pub y10 : Syntax.Ty
 y10 = Syntax.tyStruct (113 ∷ 117 ∷ 97 ∷ 110 ∷ 116 ∷ 105 ∷ 115 ∷ 101 ∷ 114 ∷ 58 ∷ 58 ∷ 81 ∷ 117 ∷ 97 ∷ 110 ∷ 116 ∷ 105 ∷ 115 ∷ 101 ∷ 114 ∷ []) (Syntax.tcons u32 (Syntax.tcons u32 (Syntax.tcons u32
     (Syntax.tcons u32 (Syntax.tcons u32 Syntax.tnil)))))
 
 abbrev pub y11 : Syntax.Ty
-y11 = Syntax.tyStruct (114 ∷ 101 ∷ 103 ∷ 105 ∷ 111 ∷ 110 ∷ 58 ∷ 58 ∷ 82 ∷ 101 ∷ 99 ∷ 116 ∷ []) (Syntax.tcons u64 (Syntax.tcons u64 (Syntax.tcons u64 (Syntax.tcons u64 Syntax.tnil))))
+y11 = Syntax.tyStruct (115 ∷ 116 ∷ 114 ∷ 101 ∷ 97 ∷ 109 ∷ 58 ∷ 58 ∷ 104 ∷ 101 ∷ 97 ∷ 100 ∷ 101 ∷ 114 ∷ 58 ∷ 58 ∷ 70 ∷ 117 ∷ 106 ∷ 105 ∷ 72 ∷ 101 ∷ 97 ∷ 100 ∷ 101 ∷ 114 ∷ []) (Syntax.tcons
+    Syntax.tyBool (Syntax.tcons Syntax.tyBool (Syntax.tcons u32 (Syntax.tcons u32 (Syntax.tcons u32 (Syntax.tcons u32 (Syntax.tcons u32 (Syntax.tcons u32 (Syntax.tcons u32 Syntax.tnil)))))))))
 
 abbrev pub y12 : Syntax.Ty
-y12 = Syntax.tyEnum (98 ∷ 101 ∷ 103 ∷ 105 ∷ 110 ∷ 58 ∷ 58 ∷ 66 ∷ 101 ∷ 103 ∷ 105 ∷ 110 ∷ 110 ∷ 105 ∷ 110 ∷ 103 ∷ []) (Syntax.ttcons (Syntax.tcons y1 Syntax.tnil) (Syntax.ttcons Syntax.tnil
-    (Syntax.ttcons (Syntax.tcons y9 Syntax.tnil) Syntax.ttnil)))
+y12 = Syntax.tyEnum (114 ∷ 101 ∷ 97 ∷ 100 ∷ 95 ∷ 98 ∷ 108 ∷ 111 ∷ 99 ∷ 107 ∷ 58 ∷ 58 ∷ 68 ∷ 101 ∷ 99 ∷ 111 ∷ 100 ∷ 101 ∷ 100 ∷ []) (Syntax.ttcons Syntax.tnil (Syntax.ttcons (Syntax.tcons y1
+    Syntax.tnil) Syntax.ttnil))
 
 abbrev pub y13 : Syntax.Ty
-y13 = Syntax.tyEnum (98 ∷ 108 ∷ 111 ∷ 99 ∷ 107 ∷ 58 ∷ 58 ∷ 68 ∷ 101 ∷ 99 ∷ 111 ∷ 100 ∷ 101 ∷ 100 ∷ []) (Syntax.ttcons Syntax.tnil (Syntax.ttcons (Syntax.tcons y1 Syntax.tnil) Syntax.ttnil))
+y13 = Syntax.tyEnum (97 ∷ 100 ∷ 109 ∷ 105 ∷ 115 ∷ 115 ∷ 105 ∷ 111 ∷ 110 ∷ 58 ∷ 58 ∷ 66 ∷ 101 ∷ 103 ∷ 105 ∷ 110 ∷ 110 ∷ 105 ∷ 110 ∷ 103 ∷ []) (Syntax.ttcons (Syntax.tcons y1 Syntax.tnil) (Syntax.ttcons
+    Syntax.tnil (Syntax.ttcons (Syntax.tcons y11 Syntax.tnil) Syntax.ttnil)))
 
 abbrev pub y14 : Syntax.Ty
 y14 = Syntax.tyStruct (38 ∷ 91 ∷ 93 ∷ []) (Syntax.tcons y7 (Syntax.tcons u64 Syntax.tnil))
@@ -158,40 +160,41 @@ abbrev pub y18 : Syntax.Ty
 y18 = Syntax.tyStruct (99 ∷ 97 ∷ 109 ∷ 101 ∷ 114 ∷ 97 ∷ 115 ∷ 58 ∷ 58 ∷ 69 ∷ 110 ∷ 116 ∷ 114 ∷ 105 ∷ 101 ∷ 115 ∷ []) (Syntax.tcons y17 Syntax.tnil)
 
 abbrev pub y19 : Syntax.Ty
-y19 = Syntax.tyStruct (98 ∷ 108 ∷ 111 ∷ 99 ∷ 107 ∷ 58 ∷ 58 ∷ 83 ∷ 104 ∷ 97 ∷ 114 ∷ 101 ∷ 100 ∷ 65 ∷ 110 ∷ 115 ∷ 119 ∷ 101 ∷ 114 ∷ []) (Syntax.tcons y13 (Syntax.tcons y18 Syntax.tnil))
+y19 = Syntax.tyStruct (114 ∷ 101 ∷ 97 ∷ 100 ∷ 95 ∷ 98 ∷ 108 ∷ 111 ∷ 99 ∷ 107 ∷ 58 ∷ 58 ∷ 83 ∷ 104 ∷ 97 ∷ 114 ∷ 101 ∷ 100 ∷ 65 ∷ 110 ∷ 115 ∷ 119 ∷ 101 ∷ 114 ∷ []) (Syntax.tcons y12 (Syntax.tcons y18
+    Syntax.tnil))
 
 abbrev pub ps : List.List (Kinds.PK 4)
-ps = (Values.enum Camera.the-type Laws'3.the-laws Laws'3.the-copy Laws'3.the-plain tt) ∷ (Values.struct Entries.the-type Laws'4.the-laws Laws'4.the-copy Laws'4.the-plain) ∷ (ShrSlice.pShrS n8 0 tt) ∷
-    (Values.struct Rect.the-type Laws'7.the-laws Laws'7.the-copy Laws'7.the-plain) ∷ (Array.pArr (Array.eInt Syntax.w8) (Array.eInt-laws Syntax.w8) 36) ∷ (MutSlice.pMutS n16 1 tt) ∷ (MutSlice.pMutS n16 2
+ps = (Values.enum Camera.the-type Laws'.the-laws Laws'.the-copy Laws'.the-plain tt) ∷ (Values.struct Entries.the-type Laws''.the-laws Laws''.the-copy Laws''.the-plain) ∷ (ShrSlice.pShrS n8 0 tt) ∷
+    (Values.struct Rect.the-type Laws'3.the-laws Laws'3.the-copy Laws'3.the-plain) ∷ (Array.pArr (Array.eInt Syntax.w8) (Array.eInt-laws Syntax.w8) 36) ∷ (MutSlice.pMutS n16 1 tt) ∷ (MutSlice.pMutS n16 2
     tt) ∷ (MutSlice.pMutS (Element.type) 3 tt) ∷ []
 
 abbrev pub r : Kinds.RK 4
-r = Values.struct-result SharedAnswer.the-type Laws''.the-laws Laws''.the-copy Laws''.the-plain
+r = Values.struct-result SharedAnswer.the-type Laws'5.the-laws Laws'5.the-copy Laws'5.the-plain
 
 abbrev pub xs : List.List Syntax.Ty
-xs = y12 ∷ y18 ∷ y1 ∷ y9 ∷ u64 ∷ y19 ∷ y13 ∷ u64 ∷ u64 ∷ u64 ∷ y19 ∷ y13 ∷ y13 ∷ y8 ∷ y15 ∷ Syntax.tyPtr ∷ u64 ∷ y8 ∷ y15 ∷ Syntax.tyPtr ∷ u64 ∷ y7 ∷ y14 ∷ []
+xs = y13 ∷ y18 ∷ y1 ∷ y11 ∷ u64 ∷ y19 ∷ y12 ∷ u64 ∷ u64 ∷ u64 ∷ y19 ∷ y12 ∷ y12 ∷ y8 ∷ y15 ∷ Syntax.tyPtr ∷ u64 ∷ y8 ∷ y15 ∷ Syntax.tyPtr ∷ u64 ∷ y7 ∷ y14 ∷ []
 
 abbrev pub m : Nat.ℕ
 m = 3
 
 abbrev pub ps·0 : List.List (Kinds.PK 1)
-ps·0 = (ShrSlice.pShrS n8 0 tt) ∷ (Values.struct Rect.the-type Laws'7.the-laws Laws'7.the-copy Laws'7.the-plain) ∷ (Num.pNum Syntax.w64) ∷ (Num.pNum Syntax.w64) ∷ (Num.pNum Syntax.w64) ∷ []
+ps·0 = (ShrSlice.pShrS n8 0 tt) ∷ (Values.struct Rect.the-type Laws'3.the-laws Laws'3.the-copy Laws'3.the-plain) ∷ (Num.pNum Syntax.w64) ∷ (Num.pNum Syntax.w64) ∷ (Num.pNum Syntax.w64) ∷ []
 
 abbrev pub r·0 : Kinds.RK 1
 r·0 = Values.enum-result Beginning.the-type Laws.the-laws Laws.the-copy Laws.the-plain tt
 
 abbrev pub ps·1 : List.List (Kinds.PK 0)
-ps·1 = (Values.struct Entries.the-type Laws'4.the-laws Laws'4.the-copy Laws'4.the-plain) ∷ []
+ps·1 = (Values.struct Entries.the-type Laws''.the-laws Laws''.the-copy Laws''.the-plain) ∷ []
 
 abbrev pub r·1 : Kinds.RK 0
-r·1 = Values.struct-result Entries.the-type Laws'4.the-laws Laws'4.the-copy Laws'4.the-plain
+r·1 = Values.struct-result Entries.the-type Laws''.the-laws Laws''.the-copy Laws''.the-plain
 
 abbrev pub ps·2 : List.List (Kinds.PK 0)
-ps·2 = (Values.enum Camera.the-type Laws'3.the-laws Laws'3.the-copy Laws'3.the-plain tt) ∷ (Values.struct Entries.the-type Laws'4.the-laws Laws'4.the-copy Laws'4.the-plain) ∷ (Values.enum
-    Decoded.the-type Laws'.the-laws Laws'.the-copy Laws'.the-plain tt) ∷ []
+ps·2 = (Values.enum Camera.the-type Laws'.the-laws Laws'.the-copy Laws'.the-plain tt) ∷ (Values.struct Entries.the-type Laws''.the-laws Laws''.the-copy Laws''.the-plain) ∷ (Values.enum
+    Decoded.the-type Laws'4.the-laws Laws'4.the-copy Laws'4.the-plain tt) ∷ []
 
 abbrev pub r·2 : Kinds.RK 0
-r·2 = Values.struct-result SharedAnswer.the-type Laws''.the-laws Laws''.the-copy Laws''.the-plain
+r·2 = Values.struct-result SharedAnswer.the-type Laws'5.the-laws Laws'5.the-copy Laws'5.the-plain
 
 abbrev pub ps·3 : List.List (Kinds.PK 0)
 ps·3 = Bool.pBool ∷ []
@@ -200,12 +203,12 @@ abbrev pub r·3 : Kinds.RK 0
 r·3 = Num.rNum Syntax.w64
 
 abbrev pub ps·4 : List.List (Kinds.PK 4)
-ps·4 = (Values.enum Camera.the-type Laws'3.the-laws Laws'3.the-copy Laws'3.the-plain tt) ∷ (Values.struct Entries.the-type Laws'4.the-laws Laws'4.the-copy Laws'4.the-plain) ∷ (ShrSlice.pShrS n8 0 tt)
-    ∷ (Values.struct FujiHeader.the-type Laws'5.the-laws Laws'5.the-copy Laws'5.the-plain) ∷ (Values.struct Rect.the-type Laws'7.the-laws Laws'7.the-copy Laws'7.the-plain) ∷ (Array.pArr (Array.eInt
+ps·4 = (Values.enum Camera.the-type Laws'.the-laws Laws'.the-copy Laws'.the-plain tt) ∷ (Values.struct Entries.the-type Laws''.the-laws Laws''.the-copy Laws''.the-plain) ∷ (ShrSlice.pShrS n8 0 tt) ∷
+    (Values.struct FujiHeader.the-type Laws'6.the-laws Laws'6.the-copy Laws'6.the-plain) ∷ (Values.struct Rect.the-type Laws'3.the-laws Laws'3.the-copy Laws'3.the-plain) ∷ (Array.pArr (Array.eInt
     Syntax.w8) (Array.eInt-laws Syntax.w8) 36) ∷ (MutSlice.pMutS n16 1 tt) ∷ (MutSlice.pMutS n16 2 tt) ∷ (MutSlice.pMutS (Element.type) 3 tt) ∷ []
 
 abbrev pub r·4 : Kinds.RK 4
-r·4 = Values.struct-result SharedAnswer.the-type Laws''.the-laws Laws''.the-copy Laws''.the-plain
+r·4 = Values.struct-result SharedAnswer.the-type Laws'5.the-laws Laws'5.the-copy Laws'5.the-plain
 
 abbrev pub hs : List.List Syntax.Home
 hs = Syntax.valueLocal ∷ Syntax.valueLocal ∷ Syntax.valueLocal ∷ Syntax.valueLocal ∷ Syntax.valueLocal ∷ Syntax.valueLocal ∷ Syntax.valueLocal ∷ Syntax.valueLocal ∷ Syntax.valueLocal ∷
@@ -223,8 +226,8 @@ abbrev b2 : Syntax.Body
 b2 = Syntax.assign (Syntax.place 18 []) (Syntax.rvOpd (Syntax.copy (Syntax.place 8 ((Syntax.field 1) ∷ []))))
 
 abbrev b3 : Syntax.Body
-b3 = Syntax.call "admission::region_begins" ((Syntax.copy (Syntax.place 3 [])) ∷ (Syntax.copy (Syntax.place 4 [])) ∷ (Syntax.copy (Syntax.place 16 [])) ∷ (Syntax.copy (Syntax.place 17 [])) ∷ (Syntax.copy
-    (Syntax.place 18 [])) ∷ []) (Syntax.place 9 [])
+b3 = Syntax.call "admission::region_begins" ((Syntax.copy (Syntax.place 3 [])) ∷ (Syntax.copy (Syntax.place 4 [])) ∷ (Syntax.copy (Syntax.place 16 [])) ∷ (Syntax.copy (Syntax.place 17 [])) ∷
+    (Syntax.copy (Syntax.place 18 [])) ∷ []) (Syntax.place 9 [])
 
 abbrev b4 : Syntax.Body
 b4 = Syntax.call "cameras::taking::mended" ((Syntax.copy (Syntax.place 2 [])) ∷ []) (Syntax.place 10 [])
@@ -287,16 +290,16 @@ abbrev b24 : Syntax.Body
 b24 = Syntax.assign (Syntax.place 31 []) (Syntax.aggregate ((Syntax.copy (Syntax.place 30 [])) ∷ (Syntax.copy (Syntax.place 29 [])) ∷ []))
 
 abbrev b25 : Syntax.Body
-b25 = Syntax.call "read_block::sharing::decode_shared_blocks" ((Syntax.copy (Syntax.place 1 [])) ∷ (Syntax.copy (Syntax.place 10 [])) ∷ (Syntax.copy (Syntax.place 3 [])) ∷ (Syntax.copy (Syntax.place 12
-    [])) ∷ (Syntax.copy (Syntax.place 4 [])) ∷ (Syntax.copy (Syntax.place 5 [])) ∷ (Syntax.copy (Syntax.place 23 [])) ∷ (Syntax.copy (Syntax.place 27 [])) ∷ (Syntax.copy (Syntax.place 31 [])) ∷ [])
+b25 = Syntax.call "read_block::sharing::decode_shared_blocks" ((Syntax.copy (Syntax.place 1 [])) ∷ (Syntax.copy (Syntax.place 10 [])) ∷ (Syntax.copy (Syntax.place 3 [])) ∷ (Syntax.copy (Syntax.place
+    12 [])) ∷ (Syntax.copy (Syntax.place 4 [])) ∷ (Syntax.copy (Syntax.place 5 [])) ∷ (Syntax.copy (Syntax.place 23 [])) ∷ (Syntax.copy (Syntax.place 27 [])) ∷ (Syntax.copy (Syntax.place 31 [])) ∷ [])
     (Syntax.place 14 [])
 
 abbrev b26 : Syntax.Body
 b26 = Syntax.assign (Syntax.place 15 []) (Syntax.rvOpd (Syntax.copy (Syntax.place 14 ((Syntax.field 0) ∷ []))))
 
 abbrev b27 : Syntax.Body
-b27 = Syntax.call "read_block::sharing::handed_back" ((Syntax.copy (Syntax.place 1 [])) ∷ (Syntax.copy (Syntax.place 14 ((Syntax.field 1) ∷ []))) ∷ (Syntax.copy (Syntax.place 15 [])) ∷ []) (Syntax.place 19
-    [])
+b27 = Syntax.call "read_block::sharing::handed_back" ((Syntax.copy (Syntax.place 1 [])) ∷ (Syntax.copy (Syntax.place 14 ((Syntax.field 1) ∷ []))) ∷ (Syntax.copy (Syntax.place 15 [])) ∷ [])
+    (Syntax.place 19 [])
 
 abbrev b28 : Syntax.Body
 b28 = Syntax.seq b26 b27
@@ -348,7 +351,7 @@ abbrev pub v1 : Row.Row
 v1 = Rows'.any-gone y19
 
 abbrev pub v2 : Row.Row
-v2 = Rows'.any-gone y13
+v2 = Rows'.any-gone y12
 
 abbrev pub v3 : Row.Row
 v3 = Rows'.any-gone y18
@@ -372,7 +375,7 @@ abbrev pub v9 : Row.Row
 v9 = Rows'.whole (Declared.row Camera.the-type)
 
 abbrev pub v10 : Row.Row
-v10 = Rows'.any-gone y12
+v10 = Rows'.any-gone y13
 
 abbrev pub v11 : Row.Row
 v11 = Rows'.any-gone y15
@@ -390,10 +393,10 @@ abbrev pub v15 : Row.Row
 v15 = Mut.mslice (Element.type) y6 3
 
 abbrev pub v16 : Row.Row
-v16 = Rows'.any-gone y9
+v16 = Rows'.any-gone y11
 
 abbrev pub v17 : Row.Row
-v17 = Rows'.any-gone y11
+v17 = Rows'.any-gone y9
 
 abbrev pub v18 : Row.Row
 v18 = Rows'.any-gone y7
@@ -861,7 +864,7 @@ module _ (claims· : Claims) where
   a0 = (record { pos = 3; ty = y3; ref = λ x. x }, (record { pos = 4; st = []; d = 0; at = λ x. x }, (Num.vAt 16 λ x. x, (Num.vAt 17 λ x. x, (Num.vAt 18 λ x. x, tt)))))
 
   abbrev s6 : Typed.Both T7 T8
-  s6 = Call.callB ps·0 r·0 (claims· .0) (claims· .1) T7 a0 9 (0 ∷ []) y12
+  s6 = Call.callB ps·0 r·0 (claims· .0) (claims· .1) T7 a0 9 (0 ∷ []) y13
 
   abbrev s7 : Typed.Mo T8 → Typed.Mo T9
   s7 = Scalar.n-room T8 16 u64
@@ -885,7 +888,7 @@ module _ (claims· : Claims) where
   s13 = Known.k-known-told Beginning.enum Laws.the-laws 0 T15 9 λ x. x
 
   abbrev s14 : Typed.Mo T15 → Typed.Mo T17
-  s14 = Scalar.n-room T15 4 y11
+  s14 = Scalar.n-room T15 4 y9
 
   abbrev s15 : Typed.Mo T17 → Typed.Mo T18
   s15 = Scalar.n-room T17 5 y0
@@ -894,7 +897,7 @@ module _ (claims· : Claims) where
   s16 = Make'.n-make (Declared.row Refusal.the-type) T18 11 λ m. m .1 .1 .1 .1 .1 .1 .1 .1 .1 .0 .0
 
   abbrev s17 : Typed.Mo T19 → Typed.Mo T20
-  s17 = Scalar.n-room T19 9 y12
+  s17 = Scalar.n-room T19 9 y13
 
   abbrev s18 : Typed.Mo T20 → Typed.Mo T21
   s18 = Make.n-enum-make Decoded.the-type T20 20 λ m. Decoded.enum .make (Logic.inr (Logic.inl (m .1 .1 .1 .1 .1 .1 .1 .1 .1 .1 .1 .0, tt)))
@@ -915,19 +918,19 @@ module _ (claims· : Claims) where
   s22 = Scalar.n-room T24 10 y18
 
   abbrev s23 : Typed.Mo T25 → Typed.Mo T13
-  s23 = Scalar.n-room T25 20 y13
+  s23 = Scalar.n-room T25 20 y12
 
   abbrev s24 : Typed.Both T14 T14
   s24 = Known.k-enum-told Beginning.enum 1 T14 9 λ x. x
 
   abbrev s25 : Typed.Mo T14 → Typed.Mo T28
-  s25 = Scalar.n-room T14 4 y11
+  s25 = Scalar.n-room T14 4 y9
 
   abbrev s26 : Typed.Mo T28 → Typed.Mo T29
   s26 = Scalar.n-room T28 5 y0
 
   abbrev s27 : Typed.Mo T29 → Typed.Mo T30
-  s27 = Scalar.n-room T29 9 y12
+  s27 = Scalar.n-room T29 9 y13
 
   abbrev s28 : Typed.Mo T30 → Typed.Mo T31
   s28 = Make.n-enum-make Decoded.the-type T30 21 λ m. Decoded.enum .make (Logic.inl tt)
@@ -945,7 +948,7 @@ module _ (claims· : Claims) where
   s31 = Scalar.n-room T33 10 y18
 
   abbrev s32 : Typed.Mo T34 → Typed.Mo T13
-  s32 = Scalar.n-room T34 21 y13
+  s32 = Scalar.n-room T34 21 y12
 
   abbrev s33 : Typed.Both T14 T36
   s33 = Known.k-enum-known Beginning.enum 2 T14 9 λ x. x
@@ -957,7 +960,7 @@ module _ (claims· : Claims) where
   s35 = Make'.n-make (Declared'.row FujiHeader.the-type) T36 12 λ m. m .1 .1 .1 .1 .1 .1 .1 .1 .1 .0 .0
 
   abbrev s36 : Typed.Mo T38 → Typed.Mo T39
-  s36 = Scalar.n-room T38 9 y12
+  s36 = Scalar.n-room T38 9 y13
 
   abbrev s37 : Typed.Both T39 T40
   s37 = Call.callB ps·3 r·3 (claims· .6) (claims· .7) T39 (Bool.bFld 12 ((Syntax.field 1) ∷ []) 1 λ x. FujiHeader.struct .as-values x .1 .0, tt) 13 [] u64
@@ -1029,7 +1032,7 @@ module _ (claims· : Claims) where
   s55 = Call.callB ps·4 r·4 (claims· .8) (claims· .9) T57 a4 14 (0 ∷ 4 ∷ 5 ∷ 6 ∷ []) y19
 
   abbrev s56 : Typed.Mo T58 → Typed.Mo T59
-  s56 = Scalar.n-room T58 4 y11
+  s56 = Scalar.n-room T58 4 y9
 
   abbrev s57 : Typed.Mo T59 → Typed.Mo T60
   s57 = Scalar.n-room T59 5 y0
@@ -1038,7 +1041,7 @@ module _ (claims· : Claims) where
   s58 = Scalar.n-room T60 10 y18
 
   abbrev s59 : Typed.Mo T61 → Typed.Mo T62
-  s59 = Scalar.n-room T61 12 y9
+  s59 = Scalar.n-room T61 12 y11
 
   abbrev s61 : Typed.Both T62 T64
   s61 = Relend.k-back-sl n16 T62 23 6 1 4 y4 y8 Row.off (λ x. x) λ x. x
@@ -1077,7 +1080,7 @@ module _ (claims· : Claims) where
   s75 = Scalar.n-room T77 14 y19
 
   abbrev s76 : Typed.Mo T78 → Typed.Mo T13
-  s76 = Scalar.n-room T78 15 y13
+  s76 = Scalar.n-room T78 15 y12
 
   abbrev s77 : Typed.Mo T13 → Typed.Mo T80
   s77 = LocalCopy.n-val-copy T13 19 0 (Declared'.row SharedAnswer.the-type) (Rows'.whole (Declared'.row SharedAnswer.the-type)) (Rows'.whole (Declared'.row SharedAnswer.the-type)) (λ x. x) (λ x. x) λ
@@ -1091,8 +1094,8 @@ module _ (claims· : Claims) where
       abbrev pub Closed : Type 2
       Closed = (𝓤 : URA.URA M) (H : Wp.Heap 𝓤) (A : Atoms.Atoms 𝓤) (W : Kit.Given 𝓤 H A) (𝓣 : Wp.Tables 𝓤 H) (known0 : Plain.Known 𝓤 H A W 𝓣 1 ps·0 r·0 (claims· .0) (claims· .1)
           "admission::region_begins") (known1 : Plain.Known 𝓤 H A W 𝓣 0 ps·1 r·1 (claims· .2) (claims· .3) "cameras::taking::mended") (known2 : Plain.Known 𝓤 H A W 𝓣 0 ps·2 r·2 (claims· .4) (claims· .5)
-          "read_block::sharing::handed_back") (known3 : Plain.Known 𝓤 H A W 𝓣 0 ps·3 r·3 (claims· .6) (claims· .7) "admission::samples_needed") (known4 : Plain.Known 𝓤 H A W 𝓣 4 ps·4 r·4 (claims· .8) (claims· .9)
-          "read_block::sharing::decode_shared_blocks") → Statement.Triple 𝓤 (Wp.WpFn 𝓤 H (𝓣 .C) (𝓣 .Λ) (Function.fnOf 4 ps r xs m hs body)) (Function.plainOf 𝓤 H A 4 ps r Pre· Post·)
+          "read_block::sharing::handed_back") (known3 : Plain.Known 𝓤 H A W 𝓣 0 ps·3 r·3 (claims· .6) (claims· .7) "admission::samples_needed") (known4 : Plain.Known 𝓤 H A W 𝓣 4 ps·4 r·4 (claims· .8)
+          (claims· .9) "read_block::sharing::decode_shared_blocks") → Statement.Triple 𝓤 (Wp.WpFn 𝓤 H (𝓣 .C) (𝓣 .Λ) (Function.fnOf 4 ps r xs m hs body)) (Function.plainOf 𝓤 H A 4 ps r Pre· Post·)
 
     module _ where
       abbrev at0 : Typed.TF T22 O1
@@ -1289,9 +1292,9 @@ module _ (claims· : Claims) where
 
       module _ {M : Type 1} (𝓤 : URA.URA M) (H : Wp.Heap 𝓤) (A : Atoms.Atoms 𝓤) (W : Kit.Given 𝓤 H A) (𝓣 : Wp.Tables 𝓤 H) where
         abbrev Knowns : Type 1
-        Knowns = Plain.Known 𝓤 H A W 𝓣 1 ps·0 r·0 (claims· .0) (claims· .1) "admission::region_begins" × Plain.Known 𝓤 H A W 𝓣 0 ps·1 r·1 (claims· .2) (claims· .3) "cameras::taking::mended" × Plain.Known 𝓤 H A W 𝓣
-            0 ps·2 r·2 (claims· .4) (claims· .5) "read_block::sharing::handed_back" × Plain.Known 𝓤 H A W 𝓣 0 ps·3 r·3 (claims· .6) (claims· .7) "admission::samples_needed" × Plain.Known 𝓤 H A W 𝓣 4 ps·4 r·4
-            (claims· .8) (claims· .9) "read_block::sharing::decode_shared_blocks"
+        Knowns = Plain.Known 𝓤 H A W 𝓣 1 ps·0 r·0 (claims· .0) (claims· .1) "admission::region_begins" × Plain.Known 𝓤 H A W 𝓣 0 ps·1 r·1 (claims· .2) (claims· .3) "cameras::taking::mended" ×
+            Plain.Known 𝓤 H A W 𝓣 0 ps·2 r·2 (claims· .4) (claims· .5) "read_block::sharing::handed_back" × Plain.Known 𝓤 H A W 𝓣 0 ps·3 r·3 (claims· .6) (claims· .7) "admission::samples_needed" ×
+            Plain.Known 𝓤 H A W 𝓣 4 ps·4 r·4 (claims· .8) (claims· .9) "read_block::sharing::decode_shared_blocks"
 
       module _ (κs : Lifetimes.Lfts 4) (qs : Lifetimes.Shares 4) where
         abbrev k0 : Row.Life
@@ -1471,24 +1474,26 @@ module _ (claims· : Claims) where
               (Plain.t-call-plain 𝓤 H A W 𝓣 0 ps·2 r·2 (claims· .4) (claims· .5) "read_block::sharing::handed_back" (known .2) E (λ pos β. β) (on T22 l5)
               (record { pos = 1; st = []; d = 0; at = λ x. x }, (record { pos = 10; st = []; d = 0; at = λ x. x }, (record { pos = 20; st = []; d = 0; at = λ x. x }, tt))) 19 [] (Call.sub-id 𝓤 H A W ((on
               T22 l5) .slots)) (
-                (Values.enum-copied 𝓤 H A W Camera.the-type Laws'3.the-laws Laws'3.the-copy, Path'.refl),
-                ((Values.struct-copied 𝓤 H A W Entries.the-type Laws'4.the-laws Laws'4.the-copy, Path'.refl), ((Values.enum-copied 𝓤 H A W Decoded.the-type Laws'.the-laws Laws'.the-copy, Path'.refl), tt)),
-              )
-              (Reads'.room-gone 𝓤 H A y19) tt Path'.refl) (Scalar.g-room 𝓤 H A W E (on T23 l5) 1 y2 (Local.room-whole 𝓤 H A W (Declared.row Camera.the-type) y2 Path'.refl))) (Scalar.g-room 𝓤 H A W E (on
-              T24 l5) 10 y18 (Local.room-whole 𝓤 H A W (Declared'.row Entries.the-type) y18 Path'.refl))) (Scalar.g-room 𝓤 H A W E (on T25 l5) 20 y13 (Local.room-whole 𝓤 H A W (Declared.row
-              Decoded.the-type) y13 Path'.refl)))
+                (Values.enum-copied 𝓤 H A W Camera.the-type Laws'.the-laws Laws'.the-copy, Path'.refl),
+                (
+                  (Values.struct-copied 𝓤 H A W Entries.the-type Laws''.the-laws Laws''.the-copy, Path'.refl),
+                  ((Values.enum-copied 𝓤 H A W Decoded.the-type Laws'4.the-laws Laws'4.the-copy, Path'.refl), tt),
+                ),
+              ) (Reads'.room-gone 𝓤 H A y19) tt Path'.refl) (Scalar.g-room 𝓤 H A W E (on T23 l5) 1 y2
+              (Local.room-whole 𝓤 H A W (Declared.row Camera.the-type) y2 Path'.refl))) (Scalar.g-room 𝓤 H A W E (on T24 l5) 10 y18 (Local.room-whole 𝓤 H A W (Declared'.row Entries.the-type) y18
+              Path'.refl))) (Scalar.g-room 𝓤 H A W E (on T25 l5) 20 y12 (Local.room-whole 𝓤 H A W (Declared.row Decoded.the-type) y12 Path'.refl)))
 
           d1 : Typed.Typed 𝓤 H A 𝓣 E (on T21 l5) b7 Δ1 at1
           d1 = Typed.g-pre 𝓤 H A W 𝓣 E (on T21 l5) (on T22 l5) b7 Δ1 (Typed.pass T21 T22 s19) at0 (Scalar.g-room 𝓤 H A W E (on T21 l5) 11 y1 (Local.room-whole 𝓤 H A W (Declared.row Refusal.the-type)
               y1 Path'.refl)) d0
 
           d2 : Typed.Typed 𝓤 H A 𝓣 E (on T20 l5) (Syntax.seq b6 b7) Δ1 at2
-          d2 = Typed.s-seq 𝓤 H A W 𝓣 E (on T20 l5) (on T21 l5) b6 b7 Δ1 (Typed.pass T20 T21 s18) at1 (Make.t-enum-make-wt 𝓤 H A W E 𝓣 Decoded.the-type Laws'.the-laws Laws'.the-plain tt (on T20 l5) 20
-              ((Scalar.oInt Syntax.w8 1) ∷ (Scalar.oAt 11 y1 (Laws'8.val Refusal.the-type Laws'6.the-laws)) ∷ []) (λ m. Decoded.enum .make (Logic.inr (Logic.inl
-              (m .1 .1 .1 .1 .1 .1 .1 .1 .1 .1 .1 .0, tt)))) (Reads'.room-gone 𝓤 H A y13) (tt, ((Whole.reads-enum 𝓤 H A W Refusal.the-type Laws'6.the-laws, Path'.refl), tt)) Path'.refl (λ m wa.
-              Make.made-val Decoded.the-type Laws'.the-laws ((Laws'8.val Refusal.the-type Laws'6.the-laws (m .1 .1 .1 .1 .1 .1 .1 .1 .1 .1 .1 .0)) ∷ []) (Decoded.enum .make (Logic.inr (Logic.inl
+          d2 = Typed.s-seq 𝓤 H A W 𝓣 E (on T20 l5) (on T21 l5) b6 b7 Δ1 (Typed.pass T20 T21 s18) at1 (Make.t-enum-make-wt 𝓤 H A W E 𝓣 Decoded.the-type Laws'4.the-laws Laws'4.the-plain tt (on T20 l5)
+              20 ((Scalar.oInt Syntax.w8 1) ∷ (Scalar.oAt 11 y1 (Laws'8.val Refusal.the-type Laws'7.the-laws)) ∷ []) (λ m. Decoded.enum .make (Logic.inr (Logic.inl
+              (m .1 .1 .1 .1 .1 .1 .1 .1 .1 .1 .1 .0, tt)))) (Reads'.room-gone 𝓤 H A y12) (tt, ((Whole.reads-enum 𝓤 H A W Refusal.the-type Laws'7.the-laws, Path'.refl), tt)) Path'.refl (λ m wa.
+              Make.made-val Decoded.the-type Laws'4.the-laws ((Laws'8.val Refusal.the-type Laws'7.the-laws (m .1 .1 .1 .1 .1 .1 .1 .1 .1 .1 .1 .0)) ∷ []) (Decoded.enum .make (Logic.inr (Logic.inl
               (m .1 .1 .1 .1 .1 .1 .1 .1 .1 .1 .1 .0, tt)))) (
-                Signed.made-wt Refusal.the-field Laws'6.the-field-laws (Whole.enum-wt Refusal.the-type Laws'6.the-laws (
+                Signed.made-wt Refusal.the-field Laws'7.the-field-laws (Whole.enum-wt Refusal.the-type Laws'7.the-laws (
                   tt,
                   (
                     tt,
@@ -1516,7 +1521,10 @@ module _ (claims· : Claims) where
                                           tt,
                                           (
                                             (Make'.u64-wt, (Make'.u64-wt, tt)),
-                                            ((Make'.u64-wt, tt), (tt, (tt, ((Make'.u64-wt, tt), ((Make'.u64-wt, tt), ((Make'.u64-wt, tt), (tt, (tt, ((Make'.u64-wt, (Make'.u64-wt, tt)), (tt, tt)))))))))),
+                                            (
+                                              (Make'.u64-wt, tt),
+                                              (tt, (tt, ((Make'.u64-wt, tt), ((Make'.u64-wt, tt), ((Make'.u64-wt, tt), (tt, (tt, ((Make'.u64-wt, (Make'.u64-wt, tt)), (tt, (tt, ((Make'.u64-wt, tt), tt))))))))))),
+                                            ),
                                           ),
                                         ),
                                       ),
@@ -1533,9 +1541,9 @@ module _ (claims· : Claims) where
                 ))
                     (Refusal.the-type .to (m .1 .1 .1 .1 .1 .1 .1 .1 .1 .1 .1 .0)),
                 tt,
-              ) (wa .1)) λ m wa. Make.made-is Decoded.the-type Laws'.the-laws ((Laws'8.val Refusal.the-type Laws'6.the-laws (m .1 .1 .1 .1
-              .1 .1 .1 .1 .1 .1 .1 .0)) ∷ []) (Decoded.enum .make (Logic.inr (Logic.inl (m .1 .1 .1 .1 .1 .1 .1 .1 .1 .1 .1 .0, tt)))) (
-                Signed.made-wt Refusal.the-field Laws'6.the-field-laws (Whole.enum-wt Refusal.the-type Laws'6.the-laws (
+              ) (wa .1)) λ m wa. Make.made-is Decoded.the-type Laws'4.the-laws ((Laws'8.val Refusal.the-type Laws'7.the-laws (m .1 .1 .1
+              .1 .1 .1 .1 .1 .1 .1 .1 .0)) ∷ []) (Decoded.enum .make (Logic.inr (Logic.inl (m .1 .1 .1 .1 .1 .1 .1 .1 .1 .1 .1 .0, tt)))) (
+                Signed.made-wt Refusal.the-field Laws'7.the-field-laws (Whole.enum-wt Refusal.the-type Laws'7.the-laws (
                   tt,
                   (
                     tt,
@@ -1563,7 +1571,10 @@ module _ (claims· : Claims) where
                                           tt,
                                           (
                                             (Make'.u64-wt, (Make'.u64-wt, tt)),
-                                            ((Make'.u64-wt, tt), (tt, (tt, ((Make'.u64-wt, tt), ((Make'.u64-wt, tt), ((Make'.u64-wt, tt), (tt, (tt, ((Make'.u64-wt, (Make'.u64-wt, tt)), (tt, tt)))))))))),
+                                            (
+                                              (Make'.u64-wt, tt),
+                                              (tt, (tt, ((Make'.u64-wt, tt), ((Make'.u64-wt, tt), ((Make'.u64-wt, tt), (tt, (tt, ((Make'.u64-wt, (Make'.u64-wt, tt)), (tt, (tt, ((Make'.u64-wt, tt), tt))))))))))),
+                                            ),
                                           ),
                                         ),
                                       ),
@@ -1583,15 +1594,15 @@ module _ (claims· : Claims) where
               ) (wa .1)) d1
 
           d3 : Typed.Typed 𝓤 H A 𝓣 E (on T19 l5) (Syntax.seq b6 b7) Δ1 at3
-          d3 = Typed.g-pre 𝓤 H A W 𝓣 E (on T19 l5) (on T20 l5) (Syntax.seq b6 b7) Δ1 (Typed.pass T19 T20 s17) at2 (Scalar.g-room 𝓤 H A W E (on T19 l5) 9 y12 (Local.room-whole 𝓤 H A W (Known.Known
-              Beginning.enum 0) y12 Path'.refl)) d2
+          d3 = Typed.g-pre 𝓤 H A W 𝓣 E (on T19 l5) (on T20 l5) (Syntax.seq b6 b7) Δ1 (Typed.pass T19 T20 s17) at2 (Scalar.g-room 𝓤 H A W E (on T19 l5) 9 y13 (Local.room-whole 𝓤 H A W (Known.Known
+              Beginning.enum 0) y13 Path'.refl)) d2
 
           d4 : Typed.Typed 𝓤 H A 𝓣 E (on T18 l5) b9 Δ1 at4
           d4 = Typed.s-seq 𝓤 H A W 𝓣 E (on T18 l5) (on T19 l5) b5 (Syntax.seq b6 b7) Δ1 (Typed.pass T18 T19 s16) at3 (CopyOut.t-copy-told 𝓤 H A W E 𝓣 (Declared.row Refusal.the-type) Path'.refl
-              (Laws'8.val Refusal.the-type Laws'6.the-laws) (Laws'8.lawful Refusal.the-type Laws'6.the-laws 𝓤 H A W tt) (Laws'8.makes Refusal.the-type Laws'6.the-plain 𝓤 H A) (on T18 l5) 11 (Scalar.oFld 9
-              ((Syntax.variant 0) ∷ (Syntax.field 1) ∷ []) y1 8 λ v. Laws'8.val Refusal.the-type Laws'6.the-laws (v .0)) (λ m. m .1 .1 .1 .1 .1 .1 .1 .1 .1 .0 .0) (λ m. Laws'8.Fields (Declared.variants
+              (Laws'8.val Refusal.the-type Laws'7.the-laws) (Laws'8.lawful Refusal.the-type Laws'7.the-laws 𝓤 H A W tt) (Laws'8.makes Refusal.the-type Laws'7.the-plain 𝓤 H A) (on T18 l5) 11 (Scalar.oFld 9
+              ((Syntax.variant 0) ∷ (Syntax.field 1) ∷ []) y1 8 λ v. Laws'8.val Refusal.the-type Laws'7.the-laws (v .0)) (λ m. m .1 .1 .1 .1 .1 .1 .1 .1 .1 .0 .0) (λ m. Laws'8.Fields (Declared.variants
               Beginning.the-type) (Laws'8.spellss (Beginning.enum .parts) Laws.the-laws) (Beginning.the-type .to (Known.at Beginning.enum 0 (m .1 .1 .1 .1 .1 .1 .1 .1 .1 .0)))) (Reads'.room-gone 𝓤 H A y1) (
-                Match.reads-payload 𝓤 H A W Beginning.enum Laws.the-laws 0 Path'.refl Path'.refl (λ v. Val.vcons (Laws'8.val Refusal.the-type Laws'6.the-laws (v .0)) Val.vnil) (λ v. Path'.refl) 0 y1 8
+                Match.reads-payload 𝓤 H A W Beginning.enum Laws.the-laws 0 Path'.refl Path'.refl (λ v. Val.vcons (Laws'8.val Refusal.the-type Laws'7.the-laws (v .0)) Val.vnil) (λ v. Path'.refl) 0 y1 8
                     Path'.refl,
                 Path'.refl,
               ) Path'.refl (λ ρ m. Make'.tells-row 𝓤 H A W E ρ (Row.out 11 ((on T18 l5) .locals)) m 9 (Laws'8.Fields (Declared.variants Beginning.the-type) (Laws'8.spellss
@@ -1602,7 +1613,7 @@ module _ (claims· : Claims) where
           d5 = Typed.g-pre 𝓤 H A W 𝓣 E (on T17 l5) (on T18 l5) b9 Δ1 (Typed.pass T17 T18 s15) at4 (Scalar.g-room 𝓤 H A W E (on T17 l5) 5 y0 (Init.room-arr 𝓤 H A W n8 36 0 36 Path'.refl)) d4
 
           d6 : Typed.Typed 𝓤 H A 𝓣 E (on T15 l5) b9 Δ1 at6
-          d6 = Typed.g-pre 𝓤 H A W 𝓣 E (on T15 l5) (on T17 l5) b9 Δ1 (Typed.pass T15 T17 s14) at5 (Scalar.g-room 𝓤 H A W E (on T15 l5) 4 y11 (Local.room-whole 𝓤 H A W (Declared'.row Rect.the-type) y11
+          d6 = Typed.g-pre 𝓤 H A W 𝓣 E (on T15 l5) (on T17 l5) b9 Δ1 (Typed.pass T15 T17 s14) at5 (Scalar.g-room 𝓤 H A W E (on T15 l5) 4 y9 (Local.room-whole 𝓤 H A W (Declared'.row Rect.the-type) y9
               Path'.refl)) d5
 
           d7 : Typed.Typed 𝓤 H A 𝓣 E (on T15 l5) b9 Δ1 at7
@@ -1620,28 +1631,30 @@ module _ (claims· : Claims) where
               (Plain.t-call-plain 𝓤 H A W 𝓣 0 ps·2 r·2 (claims· .4) (claims· .5) "read_block::sharing::handed_back" (known .2) E (λ pos β. β) (on T31 l5)
               (record { pos = 1; st = []; d = 0; at = λ x. x }, (record { pos = 10; st = []; d = 0; at = λ x. x }, (record { pos = 21; st = []; d = 0; at = λ x. x }, tt))) 19 [] (Call.sub-id 𝓤 H A W ((on
               T31 l5) .slots)) (
-                (Values.enum-copied 𝓤 H A W Camera.the-type Laws'3.the-laws Laws'3.the-copy, Path'.refl),
-                ((Values.struct-copied 𝓤 H A W Entries.the-type Laws'4.the-laws Laws'4.the-copy, Path'.refl), ((Values.enum-copied 𝓤 H A W Decoded.the-type Laws'.the-laws Laws'.the-copy, Path'.refl), tt)),
-              )
-              (Reads'.room-gone 𝓤 H A y19) tt Path'.refl) (Scalar.g-room 𝓤 H A W E (on T32 l5) 1 y2 (Local.room-whole 𝓤 H A W (Declared.row Camera.the-type) y2 Path'.refl))) (Scalar.g-room 𝓤 H A W E (on
-              T33 l5) 10 y18 (Local.room-whole 𝓤 H A W (Declared'.row Entries.the-type) y18 Path'.refl))) (Scalar.g-room 𝓤 H A W E (on T34 l5) 21 y13 (Local.room-whole 𝓤 H A W (Declared.row
-              Decoded.the-type) y13 Path'.refl)))
+                (Values.enum-copied 𝓤 H A W Camera.the-type Laws'.the-laws Laws'.the-copy, Path'.refl),
+                (
+                  (Values.struct-copied 𝓤 H A W Entries.the-type Laws''.the-laws Laws''.the-copy, Path'.refl),
+                  ((Values.enum-copied 𝓤 H A W Decoded.the-type Laws'4.the-laws Laws'4.the-copy, Path'.refl), tt),
+                ),
+              ) (Reads'.room-gone 𝓤 H A y19) tt Path'.refl) (Scalar.g-room 𝓤 H A W E (on T32 l5) 1 y2
+              (Local.room-whole 𝓤 H A W (Declared.row Camera.the-type) y2 Path'.refl))) (Scalar.g-room 𝓤 H A W E (on T33 l5) 10 y18 (Local.room-whole 𝓤 H A W (Declared'.row Entries.the-type) y18
+              Path'.refl))) (Scalar.g-room 𝓤 H A W E (on T34 l5) 21 y12 (Local.room-whole 𝓤 H A W (Declared.row Decoded.the-type) y12 Path'.refl)))
 
           d10 : Typed.Typed 𝓤 H A 𝓣 E (on T30 l5) b12 Δ1 at10
-          d10 = Typed.s-seq 𝓤 H A W 𝓣 E (on T30 l5) (on T31 l5) b10 b11 Δ1 (Typed.pass T30 T31 s28) at9 (Make.t-enum-make-wt 𝓤 H A W E 𝓣 Decoded.the-type Laws'.the-laws Laws'.the-plain tt (on T30 l5)
-              21 ((Scalar.oInt Syntax.w8 0) ∷ []) (λ m. Decoded.enum .make (Logic.inl tt)) (Reads'.room-gone 𝓤 H A y13) (tt, tt) Path'.refl (λ m wa. Make.made-val Decoded.the-type Laws'.the-laws []
-              (Decoded.enum .make (Logic.inl tt)) tt (wa .1)) λ m wa. Make.made-is Decoded.the-type Laws'.the-laws [] (Decoded.enum .make (Logic.inl tt)) tt (wa .1)) d9
+          d10 = Typed.s-seq 𝓤 H A W 𝓣 E (on T30 l5) (on T31 l5) b10 b11 Δ1 (Typed.pass T30 T31 s28) at9 (Make.t-enum-make-wt 𝓤 H A W E 𝓣 Decoded.the-type Laws'4.the-laws Laws'4.the-plain tt (on T30
+              l5) 21 ((Scalar.oInt Syntax.w8 0) ∷ []) (λ m. Decoded.enum .make (Logic.inl tt)) (Reads'.room-gone 𝓤 H A y12) (tt, tt) Path'.refl (λ m wa. Make.made-val Decoded.the-type Laws'4.the-laws []
+              (Decoded.enum .make (Logic.inl tt)) tt (wa .1)) λ m wa. Make.made-is Decoded.the-type Laws'4.the-laws [] (Decoded.enum .make (Logic.inl tt)) tt (wa .1)) d9
 
           d11 : Typed.Typed 𝓤 H A 𝓣 E (on T29 l5) b12 Δ1 at11
-          d11 = Typed.g-pre 𝓤 H A W 𝓣 E (on T29 l5) (on T30 l5) b12 Δ1 (Typed.pass T29 T30 s27) at10 (Scalar.g-room 𝓤 H A W E (on T29 l5) 9 y12 (Local.room-whole 𝓤 H A W (Declared.row
-              Beginning.the-type) y12 Path'.refl)) d10
+          d11 = Typed.g-pre 𝓤 H A W 𝓣 E (on T29 l5) (on T30 l5) b12 Δ1 (Typed.pass T29 T30 s27) at10 (Scalar.g-room 𝓤 H A W E (on T29 l5) 9 y13 (Local.room-whole 𝓤 H A W (Declared.row
+              Beginning.the-type) y13 Path'.refl)) d10
 
           d12 : Typed.Typed 𝓤 H A 𝓣 E (on T28 l5) b12 Δ1 at12
           d12 = Typed.g-pre 𝓤 H A W 𝓣 E (on T28 l5) (on T29 l5) b12 Δ1 (Typed.pass T28 T29 s26) at11 (Scalar.g-room 𝓤 H A W E (on T28 l5) 5 y0 (Init.room-arr 𝓤 H A W n8 36 0 36 Path'.refl)) d11
 
           d13 : Typed.Typed 𝓤 H A 𝓣 E (on T14 l5) b12 Δ1 at13
-          d13 = Typed.g-pre 𝓤 H A W 𝓣 E (on T14 l5) (on T28 l5) b12 Δ1 (Typed.pass T14 T28 s25) at12 (Scalar.g-room 𝓤 H A W E (on T14 l5) 4 y11 (Local.room-whole 𝓤 H A W (Declared'.row Rect.the-type)
-              y11 Path'.refl)) d12
+          d13 = Typed.g-pre 𝓤 H A W 𝓣 E (on T14 l5) (on T28 l5) b12 Δ1 (Typed.pass T14 T28 s25) at12 (Scalar.g-room 𝓤 H A W E (on T14 l5) 4 y9 (Local.room-whole 𝓤 H A W (Declared'.row Rect.the-type)
+              y9 Path'.refl)) d12
 
           d14 : Typed.Typed 𝓤 H A 𝓣 E (on T14 l5) b12 Δ1 at14
           d14 = Typed.g-pre 𝓤 H A W 𝓣 E (on T14 l5) (on T14 l5) b12 Δ1 (Typed.both s24) at13 (Known.g-enum-told 𝓤 H A W E Beginning.enum 1 (on T14 l5) 9 λ x. x) d13
@@ -1656,33 +1669,33 @@ module _ (claims· : Claims) where
                 (record { pos = 14; st = (Syntax.field 1) ∷ []; d = 32; at = λ x. SharedAnswer.struct .as-values x .1 .0 }, (record { pos = 15; st = []; d = 0; at = λ x. x }, tt)),
               ) 19 [] (Call.sub-id 𝓤 H A
               W ((on T74 l5) .slots)) (
-                (Values.enum-copied 𝓤 H A W Camera.the-type Laws'3.the-laws Laws'3.the-copy, Path'.refl),
+                (Values.enum-copied 𝓤 H A W Camera.the-type Laws'.the-laws Laws'.the-copy, Path'.refl),
                 (
                   (
                     Yields'.yields-acc 𝓤 H A W (Rows'.whole (Declared'.row SharedAnswer.the-type)) (Declared'.row Entries.the-type) 32 (λ x. SharedAnswer.struct .as-values x .1 .0) Path'.refl (Copies.cStruct
-                        Entries.the-type Laws'4.the-laws Laws'4.the-copy .copy 𝓤 H A W) (Yields'.acc-record 𝓤 H A W (Rows'.whole (Declared'.row SharedAnswer.the-type)) Entries.the-type 32 (λ x. SharedAnswer.struct
+                        Entries.the-type Laws''.the-laws Laws''.the-copy .copy 𝓤 H A W) (Yields'.acc-record 𝓤 H A W (Rows'.whole (Declared'.row SharedAnswer.the-type)) Entries.the-type 32 (λ x. SharedAnswer.struct
                         .as-values x .1 .0) (Yields'.acc-part 𝓤 H A W (Rows'.whole (Declared'.row SharedAnswer.the-type)) (Declared'.row SharedAnswer.the-type) (Struct.Struct (Declared'.shape Entries.the-type)) 0
                         32 (λ x. x) (λ y. Entries.the-type .to (SharedAnswer.struct .as-values y .1 .0)) (Yields'.acc-whole 𝓤 H A W (Declared'.row SharedAnswer.the-type)) λ y a. Behind.look-at 𝓤 H A W
-                        TreeShare.fullShare SharedAnswer.the-type Laws''.the-laws 1 32 Path'.refl Path'.refl a y (SharedAnswer.struct .as-values y) Path'.refl)),
+                        TreeShare.fullShare SharedAnswer.the-type Laws'5.the-laws 1 32 Path'.refl Path'.refl a y (SharedAnswer.struct .as-values y) Path'.refl)),
                     Path'.refl,
                   ),
-                  ((Values.enum-copied 𝓤 H A W Decoded.the-type Laws'.the-laws Laws'.the-copy, Path'.refl), tt),
+                  ((Values.enum-copied 𝓤 H A W Decoded.the-type Laws'4.the-laws Laws'4.the-copy, Path'.refl), tt),
                 ),
               ) (Reads'.room-gone 𝓤 H A y19) tt Path'.refl) (Scalar.g-room 𝓤 H A W E (on T75 l5) 1 y2
               (Local.room-whole 𝓤 H A W (Declared.row Camera.the-type) y2 Path'.refl))) (Scalar.g-room 𝓤 H A W E (on T76 l5) 13 u64 (Scalar.room-sc 𝓤 H A W (Row.sInt Syntax.w64)))) (Scalar.g-room 𝓤 H A W
-              E (on T77 l5) 14 y19 (Local.room-whole 𝓤 H A W (Declared'.row SharedAnswer.the-type) y19 Path'.refl))) (Scalar.g-room 𝓤 H A W E (on T78 l5) 15 y13 (Local.room-whole 𝓤 H A W (Declared.row
-              Decoded.the-type) y13 Path'.refl)))
+              E (on T77 l5) 14 y19 (Local.room-whole 𝓤 H A W (Declared'.row SharedAnswer.the-type) y19 Path'.refl))) (Scalar.g-room 𝓤 H A W E (on T78 l5) 15 y12 (Local.room-whole 𝓤 H A W (Declared.row
+              Decoded.the-type) y12 Path'.refl)))
 
           d16 : Typed.Typed 𝓤 H A 𝓣 E (on T72 l5) b28 Δ1 at16
           d16 = Typed.s-seq 𝓤 H A W 𝓣 E (on T72 l5) (on T74 l5) b26 b27 Δ1 (Typed.pass T72 T74 s71) at15 (CopyOut.t-copy-told 𝓤 H A W E 𝓣 (Declared.row Decoded.the-type) Path'.refl (Laws'8.val
-              Decoded.the-type Laws'.the-laws) (Laws'8.lawful Decoded.the-type Laws'.the-laws 𝓤 H A W tt) (Laws'8.makes Decoded.the-type Laws'.the-plain 𝓤 H A) (on T72 l5) 15 (Scalar.oFld 14
-              ((Syntax.field 0) ∷ []) y13 0 λ x. Laws'8.val Decoded.the-type Laws'.the-laws (SharedAnswer.struct .as-values x .0)) (λ m. SharedAnswer.struct .as-values (m .1 .1 .1 .1 .1 .1 .1 .1 .1 .1 .1
-              .1 .1 .1 .0) .0) (λ m. Laws'9.Is (Declared'.row SharedAnswer.the-type) (m .1 .1 .1 .1 .1 .1 .1 .1 .1 .1 .1 .1 .1 .1 .0) (Laws'10.vals SharedAnswer.the-type Laws''.the-laws (m .1 .1 .1 .1 .1
-              .1 .1 .1 .1 .1 .1 .1 .1 .1 .0))) (Reads'.room-gone 𝓤 H A y13) (Reads.reads-field 𝓤 H A W SharedAnswer.the-type Laws''.the-laws 0 y13 0 Path'.refl, Path'.refl) Path'.refl (λ ρ m.
+              Decoded.the-type Laws'4.the-laws) (Laws'8.lawful Decoded.the-type Laws'4.the-laws 𝓤 H A W tt) (Laws'8.makes Decoded.the-type Laws'4.the-plain 𝓤 H A) (on T72 l5) 15 (Scalar.oFld 14
+              ((Syntax.field 0) ∷ []) y12 0 λ x. Laws'8.val Decoded.the-type Laws'4.the-laws (SharedAnswer.struct .as-values x .0)) (λ m. SharedAnswer.struct .as-values (m .1 .1 .1 .1 .1 .1 .1 .1 .1 .1 .1
+              .1 .1 .1 .0) .0) (λ m. Laws'9.Is (Declared'.row SharedAnswer.the-type) (m .1 .1 .1 .1 .1 .1 .1 .1 .1 .1 .1 .1 .1 .1 .0) (Laws'10.vals SharedAnswer.the-type Laws'5.the-laws (m .1 .1 .1 .1 .1
+              .1 .1 .1 .1 .1 .1 .1 .1 .1 .0))) (Reads'.room-gone 𝓤 H A y12) (Reads.reads-field 𝓤 H A W SharedAnswer.the-type Laws'5.the-laws 0 y12 0 Path'.refl, Path'.refl) Path'.refl (λ ρ m.
               Make'.tells-row 𝓤 H A W E ρ (Row.out 15 ((on T72 l5) .locals)) m 14 (Laws'9.Is (Declared'.row SharedAnswer.the-type) (m .1 .1 .1 .1 .1 .1 .1 .1 .1 .1 .1 .1 .1 .1 .0) (Laws'10.vals
-              SharedAnswer.the-type Laws''.the-laws (m .1 .1 .1 .1 .1 .1 .1 .1 .1 .1 .1 .1 .1 .1 .0))) (Make'.whole-is 𝓤 H A W E (Declared'.row SharedAnswer.the-type) Path'.refl (Laws'10.val
-              SharedAnswer.the-type Laws''.the-laws) (Laws'10.tells SharedAnswer.the-type Laws''.the-laws) ρ 14 (m .1 .1 .1 .1 .1 .1 .1 .1 .1 .1 .1 .1 .1 .1 .0))) (λ m k wa. Path'.refl) λ m k wa.
-              Laws'10.owed SharedAnswer.the-type Laws''.the-laws (m .1 .1 .1 .1 .1 .1 .1 .1 .1 .1 .1 .1 .1 .1 .0) (Laws'10.vals SharedAnswer.the-type Laws''.the-laws (m .1 .1 .1 .1 .1 .1 .1 .1 .1 .1 .1 .1
+              SharedAnswer.the-type Laws'5.the-laws (m .1 .1 .1 .1 .1 .1 .1 .1 .1 .1 .1 .1 .1 .1 .0))) (Make'.whole-is 𝓤 H A W E (Declared'.row SharedAnswer.the-type) Path'.refl (Laws'10.val
+              SharedAnswer.the-type Laws'5.the-laws) (Laws'10.tells SharedAnswer.the-type Laws'5.the-laws) ρ 14 (m .1 .1 .1 .1 .1 .1 .1 .1 .1 .1 .1 .1 .1 .1 .0))) (λ m k wa. Path'.refl) λ m k wa.
+              Laws'10.owed SharedAnswer.the-type Laws'5.the-laws (m .1 .1 .1 .1 .1 .1 .1 .1 .1 .1 .1 .1 .1 .1 .0) (Laws'10.vals SharedAnswer.the-type Laws'5.the-laws (m .1 .1 .1 .1 .1 .1 .1 .1 .1 .1 .1 .1
               .1 .1 .0)) k .0) d15
 
           d17 : Typed.Typed 𝓤 H A 𝓣 E G72 b28 Δ1 at16
@@ -1724,7 +1737,7 @@ module _ (claims· : Claims) where
           d27 = Typed.g-pre 𝓤 H A W 𝓣 E G62 G63 b28 Δ1 (λ Ψ. Ψ) at26 (Lifetime.g-end 𝓤 H A W E G62 4 Path'.refl) d26
 
           d28 : Typed.Typed 𝓤 H A 𝓣 E G61 b28 Δ1 at28
-          d28 = Typed.g-pre 𝓤 H A W 𝓣 E G61 G62 b28 Δ1 (Typed.pass T61 T62 s59) at26 (Scalar.g-room 𝓤 H A W E G61 12 y9 (Local.room-whole 𝓤 H A W (Declared'.row FujiHeader.the-type) y9 Path'.refl))
+          d28 = Typed.g-pre 𝓤 H A W 𝓣 E G61 G62 b28 Δ1 (Typed.pass T61 T62 s59) at26 (Scalar.g-room 𝓤 H A W E G61 12 y11 (Local.room-whole 𝓤 H A W (Declared'.row FujiHeader.the-type) y11 Path'.refl))
               d27
 
           d29 : Typed.Typed 𝓤 H A 𝓣 E G60 b28 Δ1 at29
@@ -1734,11 +1747,11 @@ module _ (claims· : Claims) where
           d30 = Typed.g-pre 𝓤 H A W 𝓣 E G59 G60 b28 Δ1 (Typed.pass T59 T60 s57) at29 (Scalar.g-room 𝓤 H A W E G59 5 y0 (Init.room-arr 𝓤 H A W n8 36 0 36 Path'.refl)) d29
 
           d31 : Typed.Typed 𝓤 H A 𝓣 E G58 b28 Δ1 at31
-          d31 = Typed.g-pre 𝓤 H A W 𝓣 E G58 G59 b28 Δ1 (Typed.pass T58 T59 s56) at30 (Scalar.g-room 𝓤 H A W E G58 4 y11 (Local.room-whole 𝓤 H A W (Declared'.row Rect.the-type) y11 Path'.refl)) d30
+          d31 = Typed.g-pre 𝓤 H A W 𝓣 E G58 G59 b28 Δ1 (Typed.pass T58 T59 s56) at30 (Scalar.g-room 𝓤 H A W E G58 4 y9 (Local.room-whole 𝓤 H A W (Declared'.row Rect.the-type) y9 Path'.refl)) d30
 
           d32 : Typed.Typed 𝓤 H A 𝓣 E G57 (Syntax.seq b25 b28) Δ1 at32
-          d32 = Typed.s-seq 𝓤 H A W 𝓣 E G57 G58 b25 b28 Δ1 (Typed.both s55) at31 (Plain.t-call-plain 𝓤 H A W 𝓣 4 ps·4 r·4 (claims· .8) (claims· .9) "read_block::sharing::decode_shared_blocks" (known .4) E
-              (λ pos β. β) G57 (
+          d32 = Typed.s-seq 𝓤 H A W 𝓣 E G57 G58 b25 b28 Δ1 (Typed.both s55) at31 (Plain.t-call-plain 𝓤 H A W 𝓣 4 ps·4 r·4 (claims· .8) (claims· .9) "read_block::sharing::decode_shared_blocks" (known
+              .4) E (λ pos β. β) G57 (
                 record { pos = 1; st = []; d = 0; at = λ x. x },
                 (
                   record { pos = 10; st = []; d = 0; at = λ x. x },
@@ -1758,17 +1771,17 @@ module _ (claims· : Claims) where
                 ),
               ) 14 (0 ∷ 4 ∷ 5 ∷ 6 ∷ []) (Call.sub-id 𝓤 H
               A W (G57 .slots)) (
-                (Values.enum-copied 𝓤 H A W Camera.the-type Laws'3.the-laws Laws'3.the-copy, Path'.refl),
+                (Values.enum-copied 𝓤 H A W Camera.the-type Laws'.the-laws Laws'.the-copy, Path'.refl),
                 (
-                  (Values.struct-copied 𝓤 H A W Entries.the-type Laws'4.the-laws Laws'4.the-copy, Path'.refl),
+                  (Values.struct-copied 𝓤 H A W Entries.the-type Laws''.the-laws Laws''.the-copy, Path'.refl),
                   (
                     ShrSlice.spares-sslice 𝓤 H A W n8 y3 0,
                     Shared.reads-sslice 𝓤 H A W n8 y3 0,
                     Path'.refl,
                     (
-                      (Values.struct-copied 𝓤 H A W FujiHeader.the-type Laws'5.the-laws Laws'5.the-copy, Path'.refl),
+                      (Values.struct-copied 𝓤 H A W FujiHeader.the-type Laws'6.the-laws Laws'6.the-copy, Path'.refl),
                       (
-                        (Values.struct-copied 𝓤 H A W Rect.the-type Laws'7.the-laws Laws'7.the-copy, Path'.refl),
+                        (Values.struct-copied 𝓤 H A W Rect.the-type Laws'3.the-laws Laws'3.the-copy, Path'.refl),
                         (
                           (Array.arr-yields 𝓤 H A W (Array.eInt Syntax.w8) (Array.eInt-laws Syntax.w8) 36, Path'.refl),
                           (
@@ -1870,20 +1883,20 @@ module _ (claims· : Claims) where
 
           d50 : Typed.Typed 𝓤 H A 𝓣 E (on T39 l5) b40 Δ1 at50
           d50 = Typed.s-seq 𝓤 H A W 𝓣 E (on T39 l5) (on T40 l5) b14 (Syntax.seq b15 (Syntax.seq b16 b37)) Δ1 (Typed.both s37) at48 (Plain.t-call-plain 𝓤 H A W 𝓣 0 ps·3 r·3 (claims· .6) (claims· .7)
-              "admission::samples_needed" (known .3) E (λ pos β. β) (on T39 l5) (Bool.bFld 12 ((Syntax.field 1) ∷ []) 1 λ x. FujiHeader.struct .as-values x .1 .0, tt) 13 [] (Call.sub-id 𝓤 H A W ((on T39 l5)
-              .slots)) ((Reads.reads-field 𝓤 H A W FujiHeader.the-type Laws'5.the-laws 1 Syntax.tyBool 1 Path'.refl, Path'.refl), tt) (Reads'.room-gone 𝓤 H A u64) tt Path'.refl) d49
+              "admission::samples_needed" (known .3) E (λ pos β. β) (on T39 l5) (Bool.bFld 12 ((Syntax.field 1) ∷ []) 1 λ x. FujiHeader.struct .as-values x .1 .0, tt) 13 [] (Call.sub-id 𝓤 H A W ((on T39
+              l5) .slots)) ((Reads.reads-field 𝓤 H A W FujiHeader.the-type Laws'6.the-laws 1 Syntax.tyBool 1 Path'.refl, Path'.refl), tt) (Reads'.room-gone 𝓤 H A u64) tt Path'.refl) d49
 
           d51 : Typed.Typed 𝓤 H A 𝓣 E (on T38 l5) b40 Δ1 at51
-          d51 = Typed.g-pre 𝓤 H A W 𝓣 E (on T38 l5) (on T39 l5) b40 Δ1 (Typed.pass T38 T39 s36) at50 (Scalar.g-room 𝓤 H A W E (on T38 l5) 9 y12 (Local.room-whole 𝓤 H A W (Known.Known Beginning.enum 2)
-              y12 Path'.refl)) d50
+          d51 = Typed.g-pre 𝓤 H A W 𝓣 E (on T38 l5) (on T39 l5) b40 Δ1 (Typed.pass T38 T39 s36) at50 (Scalar.g-room 𝓤 H A W E (on T38 l5) 9 y13 (Local.room-whole 𝓤 H A W (Known.Known Beginning.enum 2)
+              y13 Path'.refl)) d50
 
           d52 : Typed.Typed 𝓤 H A 𝓣 E (on T36 l5) b41 Δ1 at52
           d52 = Typed.s-seq 𝓤 H A W 𝓣 E (on T36 l5) (on T38 l5) b13 b40 Δ1 (Typed.pass T36 T38 s35) at51 (CopyOut.t-copy-told 𝓤 H A W E 𝓣 (Declared'.row FujiHeader.the-type) Path'.refl (Laws'10.val
-              FujiHeader.the-type Laws'5.the-laws) (Laws'10.lawful FujiHeader.the-type Laws'5.the-laws 𝓤 H A W) (Laws'10.makes FujiHeader.the-type Laws'5.the-plain 𝓤 H A) (on T36 l5) 12 (Scalar.oFld 9
-              ((Syntax.variant 2) ∷ (Syntax.field 1) ∷ []) y9 4 λ v. Laws'10.val FujiHeader.the-type Laws'5.the-laws (v .0)) (λ m. m .1 .1 .1 .1 .1 .1 .1 .1 .1 .0 .0) (λ m. Laws'8.Fields
+              FujiHeader.the-type Laws'6.the-laws) (Laws'10.lawful FujiHeader.the-type Laws'6.the-laws 𝓤 H A W) (Laws'10.makes FujiHeader.the-type Laws'6.the-plain 𝓤 H A) (on T36 l5) 12 (Scalar.oFld 9
+              ((Syntax.variant 2) ∷ (Syntax.field 1) ∷ []) y11 4 λ v. Laws'10.val FujiHeader.the-type Laws'6.the-laws (v .0)) (λ m. m .1 .1 .1 .1 .1 .1 .1 .1 .1 .0 .0) (λ m. Laws'8.Fields
               (Declared.variants Beginning.the-type) (Laws'8.spellss (Beginning.enum .parts) Laws.the-laws) (Beginning.the-type .to (Known.at Beginning.enum 2 (m .1 .1 .1 .1 .1 .1 .1 .1 .1 .0))))
-              (Reads'.room-gone 𝓤 H A y9) (
-                Match.reads-payload 𝓤 H A W Beginning.enum Laws.the-laws 2 Path'.refl Path'.refl (λ v. Val.vcons (Laws'10.val FujiHeader.the-type Laws'5.the-laws (v .0)) Val.vnil) (λ v. Path'.refl) 0 y9 4
+              (Reads'.room-gone 𝓤 H A y11) (
+                Match.reads-payload 𝓤 H A W Beginning.enum Laws.the-laws 2 Path'.refl Path'.refl (λ v. Val.vcons (Laws'10.val FujiHeader.the-type Laws'6.the-laws (v .0)) Val.vnil) (λ v. Path'.refl) 0 y11 4
                     Path'.refl,
                 Path'.refl,
               ) Path'.refl (λ ρ m. Make'.tells-row 𝓤 H A W E ρ (Row.out 12 ((on T36 l5) .locals)) m 9 (Laws'8.Fields (Declared.variants Beginning.the-type) (Laws'8.spellss
@@ -1919,7 +1932,7 @@ module _ (claims· : Claims) where
           d59 : Typed.Typed 𝓤 H A 𝓣 E (on T13 l5) (Syntax.seq b43 Syntax.return) Δ0 at59
           d59 = Typed.s-seq 𝓤 H A W 𝓣 E (on T13 l5) (on T80 l5) b43 Syntax.return Δ0 (Typed.pass T13 T80 s77) at58 (LocalCopy.t-val-copy 𝓤 H A W E 𝓣 (λ ρ. Unit) (on T13 l5) 19 0 (Declared'.row
               SharedAnswer.the-type) y19 y19 (Rows'.whole (Declared'.row SharedAnswer.the-type)) (Rows'.whole (Declared'.row SharedAnswer.the-type)) (λ x. x) (λ x. x) (λ x. x) Path'.refl (Own.told-none 𝓤
-              H A ((on T13 l5) .slots)) (Values.struct-copied 𝓤 H A W SharedAnswer.the-type Laws''.the-laws Laws''.the-copy) (Reads'.room-gone 𝓤 H A y19) (Yields.makes-mem 𝓤 H A W (λ ρ. Unit)
+              H A ((on T13 l5) .slots)) (Values.struct-copied 𝓤 H A W SharedAnswer.the-type Laws'5.the-laws Laws'5.the-copy) (Reads'.room-gone 𝓤 H A y19) (Yields.makes-mem 𝓤 H A W (λ ρ. Unit)
               (Declared'.row SharedAnswer.the-type) Path'.refl (Rows'.whole (Declared'.row SharedAnswer.the-type)) (λ x. x) λ ρ told. Local.whole-mem 𝓤 H A W (Declared'.row SharedAnswer.the-type) ρ)
               Path'.refl Path'.refl) d58
 
@@ -1927,9 +1940,9 @@ module _ (claims· : Claims) where
           d60 = Typed.t-seq 𝓤 H A W 𝓣 E (on T12 l5) (on T13 l5) b42 (Syntax.seq b43 Syntax.return) Δ0 at56 at59 d56 d59
 
           d61 : Typed.Typed 𝓤 H A 𝓣 E (on T11 l5) b47 Δ0 at61
-          d61 = Typed.s-seq 𝓤 H A W 𝓣 E (on T11 l5) (on T12 l5) b4 b46 Δ0 (Typed.both s10) at60 (Plain.t-call-plain 𝓤 H A W 𝓣 0 ps·1 r·1 (claims· .2) (claims· .3) "cameras::taking::mended" (known .1) E (λ pos
-              β. β) (on T11 l5) (record { pos = 2; st = []; d = 0; at = λ x. x }, tt) 10 [] (Call.sub-id 𝓤 H A W ((on T11 l5) .slots))
-              ((Values.struct-copied 𝓤 H A W Entries.the-type Laws'4.the-laws Laws'4.the-copy, Path'.refl), tt) (Reads'.room-gone 𝓤 H A y18) tt Path'.refl) d60
+          d61 = Typed.s-seq 𝓤 H A W 𝓣 E (on T11 l5) (on T12 l5) b4 b46 Δ0 (Typed.both s10) at60 (Plain.t-call-plain 𝓤 H A W 𝓣 0 ps·1 r·1 (claims· .2) (claims· .3) "cameras::taking::mended" (known .1)
+              E (λ pos β. β) (on T11 l5) (record { pos = 2; st = []; d = 0; at = λ x. x }, tt) 10 [] (Call.sub-id 𝓤 H A W ((on T11 l5) .slots))
+              ((Values.struct-copied 𝓤 H A W Entries.the-type Laws''.the-laws Laws''.the-copy, Path'.refl), tt) (Reads'.room-gone 𝓤 H A y18) tt Path'.refl) d60
 
           d62 : Typed.Typed 𝓤 H A 𝓣 E (on T10 l5) b47 Δ0 at62
           d62 = Typed.g-pre 𝓤 H A W 𝓣 E (on T10 l5) (on T11 l5) b47 Δ0 (Typed.pass T10 T11 s9) at61 (Scalar.g-room 𝓤 H A W E (on T10 l5) 18 u64 (Scalar.room-sc 𝓤 H A W (Row.sInt Syntax.w64))) d61
@@ -1941,20 +1954,20 @@ module _ (claims· : Claims) where
           d64 = Typed.g-pre 𝓤 H A W 𝓣 E (on T8 l5) (on T9 l5) b47 Δ0 (Typed.pass T8 T9 s7) at63 (Scalar.g-room 𝓤 H A W E (on T8 l5) 16 u64 (Scalar.room-sc 𝓤 H A W (Row.sInt Syntax.w64))) d63
 
           d65 : Typed.Typed 𝓤 H A 𝓣 E (on T7 l5) (Syntax.seq b3 b47) Δ0 at65
-          d65 = Typed.s-seq 𝓤 H A W 𝓣 E (on T7 l5) (on T8 l5) b3 b47 Δ0 (Typed.both s6) at64 (Plain.t-call-plain 𝓤 H A W 𝓣 1 ps·0 r·0 (claims· .0) (claims· .1) "admission::region_begins" (known .0) E (λ
-              pos β. β) (on T7 l5) (record { pos = 3; ty = y3; ref = λ x. x }, (record { pos = 4; st = []; d = 0; at = λ x. x }, (Num.vAt 16 λ x. x, (Num.vAt 17 λ x. x, (Num.vAt 18 λ x. x, tt))))) 9 (0 ∷
-              []) (Call.sub-id 𝓤 H A W ((on T7 l5) .slots)) (
+          d65 = Typed.s-seq 𝓤 H A W 𝓣 E (on T7 l5) (on T8 l5) b3 b47 Δ0 (Typed.both s6) at64 (Plain.t-call-plain 𝓤 H A W 𝓣 1 ps·0 r·0 (claims· .0) (claims· .1) "admission::region_begins" (known .0) E
+              (λ pos β. β) (on T7 l5) (record { pos = 3; ty = y3; ref = λ x. x }, (record { pos = 4; st = []; d = 0; at = λ x. x }, (Num.vAt 16 λ x. x, (Num.vAt 17 λ x. x, (Num.vAt 18 λ x. x, tt))))) 9
+              (0 ∷ []) (Call.sub-id 𝓤 H A W ((on T7 l5) .slots)) (
                 ShrSlice.spares-sslice 𝓤 H A W n8 y3 0,
                 Shared.reads-sslice 𝓤 H A W n8 y3 0,
                 Path'.refl,
                 (
-                  (Values.struct-copied 𝓤 H A W Rect.the-type Laws'7.the-laws Laws'7.the-copy, Path'.refl),
+                  (Values.struct-copied 𝓤 H A W Rect.the-type Laws'3.the-laws Laws'3.the-copy, Path'.refl),
                   (
                     (Scalar.reads-sc 𝓤 H A W (Row.sInt Syntax.w64), Path'.refl),
                     ((Scalar.reads-sc 𝓤 H A W (Row.sInt Syntax.w64), Path'.refl), ((Scalar.reads-sc 𝓤 H A W (Row.sInt Syntax.w64), Path'.refl), tt)),
                   ),
                 ),
-              ) (Reads'.room-gone 𝓤 H A y12) (tt, tt) Path'.refl) d64
+              ) (Reads'.room-gone 𝓤 H A y13) (tt, tt) Path'.refl) d64
 
           d66 : Typed.Typed 𝓤 H A 𝓣 E (on T6 l5) (Syntax.seq b2 (Syntax.seq b3 b47)) Δ0 at66
           d66 = Typed.s-seq 𝓤 H A W 𝓣 E (on T6 l5) (on T7 l5) b2 (Syntax.seq b3 b47) Δ0 (Typed.pass T6 T7 s5) at65 (Scalar.t-use 𝓤 H A W E 𝓣 (on T6 l5) (Scalar.oFld 8 ((Syntax.field 1) ∷ []) u64 8
@@ -1989,10 +2002,10 @@ module _ (claims· : Claims) where
 
       module _ (κs : Lifetimes.Lfts 4) where
         pub record Args : Type 0 where
-          pub camera : Kinds.Den {n = 4} κs (Values.enum Camera.the-type Laws'3.the-laws Laws'3.the-copy Laws'3.the-plain tt)
-          pub entries : Kinds.Den {n = 4} κs (Values.struct Entries.the-type Laws'4.the-laws Laws'4.the-copy Laws'4.the-plain)
+          pub camera : Kinds.Den {n = 4} κs (Values.enum Camera.the-type Laws'.the-laws Laws'.the-copy Laws'.the-plain tt)
+          pub entries : Kinds.Den {n = 4} κs (Values.struct Entries.the-type Laws''.the-laws Laws''.the-copy Laws''.the-plain)
           pub d : Kinds.Den {n = 4} κs (ShrSlice.pShrS n8 0 tt)
-          pub r : Kinds.Den {n = 4} κs (Values.struct Rect.the-type Laws'7.the-laws Laws'7.the-copy Laws'7.the-plain)
+          pub r : Kinds.Den {n = 4} κs (Values.struct Rect.the-type Laws'3.the-laws Laws'3.the-copy Laws'3.the-plain)
           pub tile : Kinds.Den {n = 4} κs (Array.pArr (Array.eInt Syntax.w8) (Array.eInt-laws Syntax.w8) 36)
           pub image : Kinds.Den {n = 4} κs (MutSlice.pMutS n16 1 tt)
           pub lines : Kinds.Den {n = 4} κs (MutSlice.pMutS n16 2 tt)
@@ -2619,7 +2632,7 @@ module _ (claims· : Claims) where
 
         module _ {M : Type 1} (𝓤 : URA.URA M) (H : Wp.Heap 𝓤) (A : Atoms.Atoms 𝓤) (W : Kit.Given 𝓤 H A) (𝓣 : Wp.Tables 𝓤 H) (known0 : Plain.Known 𝓤 H A W 𝓣 1 ps·0 r·0 (claims· .0) (claims· .1)
             "admission::region_begins") (known1 : Plain.Known 𝓤 H A W 𝓣 0 ps·1 r·1 (claims· .2) (claims· .3) "cameras::taking::mended") (known2 : Plain.Known 𝓤 H A W 𝓣 0 ps·2 r·2 (claims· .4) (claims· .5)
-            "read_block::sharing::handed_back") (known3 : Plain.Known 𝓤 H A W 𝓣 0 ps·3 r·3 (claims· .6) (claims· .7) "admission::samples_needed") (known4 : Plain.Known 𝓤 H A W 𝓣 4 ps·4 r·4 (claims· .8) (claims·
-            .9) "read_block::sharing::decode_shared_blocks") where
+            "read_block::sharing::handed_back") (known3 : Plain.Known 𝓤 H A W 𝓣 0 ps·3 r·3 (claims· .6) (claims· .7) "admission::samples_needed") (known4 : Plain.Known 𝓤 H A W 𝓣 4 ps·4 r·4 (claims· .8)
+            (claims· .9) "read_block::sharing::decode_shared_blocks") where
           pub spec : Statement.Triple 𝓤 (Wp.WpFn 𝓤 H (𝓣 .C) (𝓣 .Λ) (Function.fnOf 4 ps r xs m hs body)) (Function.plainOf 𝓤 H A 4 ps r Pre· Post·)
           spec = Plain.t-fn-plain 𝓤 H A W 𝓣 4 ps r xs m hs body (λ κs qs bs. Φ) (λ κs qs bs bd. typed κs qs 𝓤 H A W 𝓣 (known0, known1, known2, known3, known4) bs bd) Pre· Post· asked

@@ -6,30 +6,30 @@ use Rattle.bits.proofs.Values.{n16, n8, u16, u32, u64, u8}
 use mathlib.Core.List.{_∷_, []}
 use Rattle.read_block.proofs.Element
 use Prim.Native.Nat
-use Rattle.read_block.proofs.Decoded
-use Rattle.read_block.proofs.Decoded.Laws
-use Rattle.read_block.proofs.Form
-use Rattle.read_block.proofs.Form.Laws as Laws'
-use Rattle.read_block.proofs.SharedAnswer
-use Rattle.read_block.proofs.SharedAnswer.Laws as Laws''
-use Rattle.read_block.proofs.Walked
-use Rattle.read_block.proofs.Walked.Laws as Laws'3
 use Rattle.cameras.proofs.Camera
-use Rattle.cameras.proofs.Camera.Laws as Laws'4
+use Rattle.cameras.proofs.Camera.Laws
 use Rattle.cameras.proofs.Entries
-use Rattle.cameras.proofs.Entries.Laws as Laws'5
-use Rattle.stream.proofs.header.FujiHeader
-use Rattle.stream.proofs.header.FujiHeader.Laws as Laws'6
-use Rattle.stream.proofs.header.Refusal
-use Rattle.stream.proofs.header.Refusal.Laws as Laws'7
-use Rattle.image_map.proofs.Part
-use Rattle.image_map.proofs.Part.Laws as Laws'8
-use Rattle.image_region.proofs.Rect
-use Rattle.image_region.proofs.Rect.Laws as Laws'9
-use Rattle.image_region.proofs.Span
-use Rattle.image_region.proofs.Span.Laws as Laws'10
+use Rattle.cameras.proofs.Entries.Laws as Laws'
 use Rattle.cameras.proofs.taking.Took
-use Rattle.cameras.proofs.taking.Took.Laws as Laws'11
+use Rattle.cameras.proofs.taking.Took.Laws as Laws''
+use Rattle.image_map.proofs.Part
+use Rattle.image_map.proofs.Part.Laws as Laws'3
+use Rattle.image_region.proofs.Rect
+use Rattle.image_region.proofs.Rect.Laws as Laws'4
+use Rattle.image_region.proofs.Span
+use Rattle.image_region.proofs.Span.Laws as Laws'5
+use Rattle.read_block.proofs.Decoded
+use Rattle.read_block.proofs.Decoded.Laws as Laws'6
+use Rattle.read_block.proofs.Form
+use Rattle.read_block.proofs.Form.Laws as Laws'7
+use Rattle.read_block.proofs.SharedAnswer
+use Rattle.read_block.proofs.SharedAnswer.Laws as Laws'8
+use Rattle.read_block.proofs.Walked
+use Rattle.read_block.proofs.Walked.Laws as Laws'9
+use Rattle.stream.proofs.header.FujiHeader
+use Rattle.stream.proofs.header.FujiHeader.Laws as Laws'10
+use Rattle.stream.proofs.header.Refusal
+use Rattle.stream.proofs.header.Refusal.Laws as Laws'11
 use borrow.Author.Called
 use borrow.Author.Tests
 use borrow.Enum.Make
@@ -102,12 +102,12 @@ abbrev pub y0 : Syntax.Ty
 y0 = Syntax.tyArray u16 768
 
 abbrev pub y1 : Syntax.Ty
-y1 = Syntax.tyEnum (104 ∷ 101 ∷ 97 ∷ 100 ∷ 101 ∷ 114 ∷ 58 ∷ 58 ∷ 82 ∷ 101 ∷ 102 ∷ 117 ∷ 115 ∷ 97 ∷ 108 ∷ []) (Syntax.ttcons Syntax.tnil (Syntax.ttcons Syntax.tnil (Syntax.ttcons Syntax.tnil
-    (Syntax.ttcons (Syntax.tcons u64 Syntax.tnil) (Syntax.ttcons Syntax.tnil (Syntax.ttcons Syntax.tnil (Syntax.ttcons Syntax.tnil (Syntax.ttcons Syntax.tnil (Syntax.ttcons Syntax.tnil (Syntax.ttcons
-    Syntax.tnil (Syntax.ttcons (Syntax.tcons u64 Syntax.tnil) (Syntax.ttcons (Syntax.tcons u64 Syntax.tnil) (Syntax.ttcons Syntax.tnil (Syntax.ttcons (Syntax.tcons u64 (Syntax.tcons u64 Syntax.tnil))
-    (Syntax.ttcons (Syntax.tcons u64 Syntax.tnil) (Syntax.ttcons Syntax.tnil (Syntax.ttcons Syntax.tnil (Syntax.ttcons (Syntax.tcons u64 Syntax.tnil) (Syntax.ttcons (Syntax.tcons u64 Syntax.tnil)
-    (Syntax.ttcons (Syntax.tcons u64 Syntax.tnil) (Syntax.ttcons Syntax.tnil (Syntax.ttcons Syntax.tnil (Syntax.ttcons (Syntax.tcons u64 (Syntax.tcons u64 Syntax.tnil)) (Syntax.ttcons Syntax.tnil
-    Syntax.ttnil))))))))))))))))))))))))
+y1 = Syntax.tyEnum (115 ∷ 116 ∷ 114 ∷ 101 ∷ 97 ∷ 109 ∷ 58 ∷ 58 ∷ 104 ∷ 101 ∷ 97 ∷ 100 ∷ 101 ∷ 114 ∷ 58 ∷ 58 ∷ 82 ∷ 101 ∷ 102 ∷ 117 ∷ 115 ∷ 97 ∷ 108 ∷ []) (Syntax.ttcons Syntax.tnil (Syntax.ttcons
+    Syntax.tnil (Syntax.ttcons Syntax.tnil (Syntax.ttcons (Syntax.tcons u64 Syntax.tnil) (Syntax.ttcons Syntax.tnil (Syntax.ttcons Syntax.tnil (Syntax.ttcons Syntax.tnil (Syntax.ttcons Syntax.tnil
+    (Syntax.ttcons Syntax.tnil (Syntax.ttcons Syntax.tnil (Syntax.ttcons (Syntax.tcons u64 Syntax.tnil) (Syntax.ttcons (Syntax.tcons u64 Syntax.tnil) (Syntax.ttcons Syntax.tnil (Syntax.ttcons
+    (Syntax.tcons u64 (Syntax.tcons u64 Syntax.tnil)) (Syntax.ttcons (Syntax.tcons u64 Syntax.tnil) (Syntax.ttcons Syntax.tnil (Syntax.ttcons Syntax.tnil (Syntax.ttcons (Syntax.tcons u64 Syntax.tnil)
+    (Syntax.ttcons (Syntax.tcons u64 Syntax.tnil) (Syntax.ttcons (Syntax.tcons u64 Syntax.tnil) (Syntax.ttcons Syntax.tnil (Syntax.ttcons Syntax.tnil (Syntax.ttcons (Syntax.tcons u64 (Syntax.tcons u64
+    Syntax.tnil)) (Syntax.ttcons Syntax.tnil (Syntax.ttcons Syntax.tnil (Syntax.ttcons (Syntax.tcons u64 Syntax.tnil) Syntax.ttnil))))))))))))))))))))))))))
 
 abbrev pub y2 : Syntax.Ty
 y2 = Syntax.tyEnum (99 ∷ 97 ∷ 109 ∷ 101 ∷ 114 ∷ 97 ∷ 115 ∷ 58 ∷ 58 ∷ 67 ∷ 97 ∷ 109 ∷ 101 ∷ 114 ∷ 97 ∷ []) (Syntax.ttcons Syntax.tnil (Syntax.ttcons Syntax.tnil Syntax.ttnil))
@@ -134,37 +134,40 @@ abbrev pub y9 : Syntax.Ty
 y9 = Syntax.tyRef Syntax.erased Syntax.mut u16
 
 abbrev pub y10 : Syntax.Ty
-y10 = Syntax.tyStruct (104 ∷ 101 ∷ 97 ∷ 100 ∷ 101 ∷ 114 ∷ 58 ∷ 58 ∷ 70 ∷ 117 ∷ 106 ∷ 105 ∷ 72 ∷ 101 ∷ 97 ∷ 100 ∷ 101 ∷ 114 ∷ []) (Syntax.tcons Syntax.tyBool (Syntax.tcons Syntax.tyBool (Syntax.tcons
-    u32 (Syntax.tcons u32 (Syntax.tcons u32 (Syntax.tcons u32 (Syntax.tcons u32 (Syntax.tcons u32 (Syntax.tcons u32 Syntax.tnil)))))))))
+y10 = Syntax.tyStruct (105 ∷ 109 ∷ 97 ∷ 103 ∷ 101 ∷ 95 ∷ 109 ∷ 97 ∷ 112 ∷ 58 ∷ 58 ∷ 80 ∷ 97 ∷ 114 ∷ 116 ∷ []) (Syntax.tcons u64 (Syntax.tcons u64 (Syntax.tcons u64 (Syntax.tcons u64 (Syntax.tcons u64
+    (Syntax.tcons u64 Syntax.tnil))))))
 
 abbrev pub y11 : Syntax.Ty
-y11 = Syntax.tyStruct (109 ∷ 97 ∷ 112 ∷ 58 ∷ 58 ∷ 80 ∷ 97 ∷ 114 ∷ 116 ∷ []) (Syntax.tcons u64 (Syntax.tcons u64 (Syntax.tcons u64 (Syntax.tcons u64 (Syntax.tcons u64 (Syntax.tcons u64
-    Syntax.tnil))))))
+y11 = Syntax.tyStruct (105 ∷ 109 ∷ 97 ∷ 103 ∷ 101 ∷ 95 ∷ 114 ∷ 101 ∷ 103 ∷ 105 ∷ 111 ∷ 110 ∷ 58 ∷ 58 ∷ 82 ∷ 101 ∷ 99 ∷ 116 ∷ []) (Syntax.tcons u64 (Syntax.tcons u64 (Syntax.tcons u64 (Syntax.tcons u64
+    Syntax.tnil))))
 
 abbrev pub y12 : Syntax.Ty
-y12 = Syntax.tyStruct (113 ∷ 117 ∷ 97 ∷ 110 ∷ 116 ∷ 105 ∷ 115 ∷ 101 ∷ 114 ∷ 58 ∷ 58 ∷ 81 ∷ 117 ∷ 97 ∷ 110 ∷ 116 ∷ 105 ∷ 115 ∷ 101 ∷ 114 ∷ []) (Syntax.tcons u32 (Syntax.tcons u32 (Syntax.tcons u32
-    (Syntax.tcons u32 (Syntax.tcons u32 Syntax.tnil)))))
+y12 = Syntax.tyStruct (105 ∷ 109 ∷ 97 ∷ 103 ∷ 101 ∷ 95 ∷ 114 ∷ 101 ∷ 103 ∷ 105 ∷ 111 ∷ 110 ∷ 58 ∷ 58 ∷ 83 ∷ 112 ∷ 97 ∷ 110 ∷ []) (Syntax.tcons u64 (Syntax.tcons u64 (Syntax.tcons u64 Syntax.tnil)))
 
 abbrev pub y13 : Syntax.Ty
-y13 = Syntax.tyStruct (114 ∷ 101 ∷ 103 ∷ 105 ∷ 111 ∷ 110 ∷ 58 ∷ 58 ∷ 82 ∷ 101 ∷ 99 ∷ 116 ∷ []) (Syntax.tcons u64 (Syntax.tcons u64 (Syntax.tcons u64 (Syntax.tcons u64 Syntax.tnil))))
+y13 = Syntax.tyStruct (108 ∷ 105 ∷ 110 ∷ 101 ∷ 95 ∷ 116 ∷ 111 ∷ 116 ∷ 97 ∷ 108 ∷ 115 ∷ 58 ∷ 58 ∷ 84 ∷ 111 ∷ 116 ∷ 97 ∷ 108 ∷ 115 ∷ []) (Syntax.tcons u64 (Syntax.tcons u64 Syntax.tnil))
 
 abbrev pub y14 : Syntax.Ty
-y14 = Syntax.tyStruct (114 ∷ 101 ∷ 103 ∷ 105 ∷ 111 ∷ 110 ∷ 58 ∷ 58 ∷ 83 ∷ 112 ∷ 97 ∷ 110 ∷ []) (Syntax.tcons u64 (Syntax.tcons u64 (Syntax.tcons u64 Syntax.tnil)))
+y14 = Syntax.tyStruct (113 ∷ 117 ∷ 97 ∷ 110 ∷ 116 ∷ 105 ∷ 115 ∷ 101 ∷ 114 ∷ 58 ∷ 58 ∷ 81 ∷ 117 ∷ 97 ∷ 110 ∷ 116 ∷ 105 ∷ 115 ∷ 101 ∷ 114 ∷ []) (Syntax.tcons u32 (Syntax.tcons u32 (Syntax.tcons u32
+    (Syntax.tcons u32 (Syntax.tcons u32 Syntax.tnil)))))
 
 abbrev pub y15 : Syntax.Ty
-y15 = Syntax.tyStruct (116 ∷ 111 ∷ 116 ∷ 97 ∷ 108 ∷ 115 ∷ 58 ∷ 58 ∷ 84 ∷ 111 ∷ 116 ∷ 97 ∷ 108 ∷ 115 ∷ []) (Syntax.tcons u64 (Syntax.tcons u64 Syntax.tnil))
+y15 = Syntax.tyStruct (114 ∷ 101 ∷ 97 ∷ 100 ∷ 95 ∷ 98 ∷ 108 ∷ 111 ∷ 99 ∷ 107 ∷ 58 ∷ 58 ∷ 70 ∷ 111 ∷ 114 ∷ 109 ∷ []) (Syntax.tcons u32 (Syntax.tcons Syntax.tyBool Syntax.tnil))
 
 abbrev pub y16 : Syntax.Ty
-y16 = Syntax.tyStruct (98 ∷ 108 ∷ 111 ∷ 99 ∷ 107 ∷ 58 ∷ 58 ∷ 70 ∷ 111 ∷ 114 ∷ 109 ∷ []) (Syntax.tcons u32 (Syntax.tcons Syntax.tyBool Syntax.tnil))
+y16 = Syntax.tyStruct (115 ∷ 116 ∷ 114 ∷ 101 ∷ 97 ∷ 109 ∷ 58 ∷ 58 ∷ 104 ∷ 101 ∷ 97 ∷ 100 ∷ 101 ∷ 114 ∷ 58 ∷ 58 ∷ 70 ∷ 117 ∷ 106 ∷ 105 ∷ 72 ∷ 101 ∷ 97 ∷ 100 ∷ 101 ∷ 114 ∷ []) (Syntax.tcons
+    Syntax.tyBool (Syntax.tcons Syntax.tyBool (Syntax.tcons u32 (Syntax.tcons u32 (Syntax.tcons u32 (Syntax.tcons u32 (Syntax.tcons u32 (Syntax.tcons u32 (Syntax.tcons u32 Syntax.tnil)))))))))
 
 abbrev pub y17 : Syntax.Ty
-y17 = Syntax.tyEnum (98 ∷ 108 ∷ 111 ∷ 99 ∷ 107 ∷ 58 ∷ 58 ∷ 68 ∷ 101 ∷ 99 ∷ 111 ∷ 100 ∷ 101 ∷ 100 ∷ []) (Syntax.ttcons Syntax.tnil (Syntax.ttcons (Syntax.tcons y1 Syntax.tnil) Syntax.ttnil))
+y17 = Syntax.tyEnum (114 ∷ 101 ∷ 97 ∷ 100 ∷ 95 ∷ 98 ∷ 108 ∷ 111 ∷ 99 ∷ 107 ∷ 58 ∷ 58 ∷ 68 ∷ 101 ∷ 99 ∷ 111 ∷ 100 ∷ 101 ∷ 100 ∷ []) (Syntax.ttcons Syntax.tnil (Syntax.ttcons (Syntax.tcons y1
+    Syntax.tnil) Syntax.ttnil))
 
 abbrev pub y18 : Syntax.Ty
 y18 = Syntax.tyRef Syntax.erased Syntax.imm y0
 
 abbrev pub y19 : Syntax.Ty
-y19 = Syntax.tyStruct (116 ∷ 111 ∷ 116 ∷ 97 ∷ 108 ∷ 115 ∷ 58 ∷ 58 ∷ 84 ∷ 105 ∷ 103 ∷ 104 ∷ 116 ∷ 76 ∷ 105 ∷ 110 ∷ 101 ∷ 115 ∷ []) (Syntax.tcons u64 (Syntax.tcons y15 Syntax.tnil))
+y19 = Syntax.tyStruct (108 ∷ 105 ∷ 110 ∷ 101 ∷ 95 ∷ 116 ∷ 111 ∷ 116 ∷ 97 ∷ 108 ∷ 115 ∷ 58 ∷ 58 ∷ 84 ∷ 105 ∷ 103 ∷ 104 ∷ 116 ∷ 76 ∷ 105 ∷ 110 ∷ 101 ∷ 115 ∷ []) (Syntax.tcons u64 (Syntax.tcons y13
+    Syntax.tnil))
 
 abbrev pub y20 : Syntax.Ty
 y20 = Syntax.tyStruct (38 ∷ 91 ∷ 93 ∷ []) (Syntax.tcons y7 (Syntax.tcons u64 Syntax.tnil))
@@ -176,44 +179,45 @@ abbrev pub y22 : Syntax.Ty
 y22 = Syntax.tyStruct (38 ∷ 91 ∷ 93 ∷ []) (Syntax.tcons y9 (Syntax.tcons u64 Syntax.tnil))
 
 abbrev pub y23 : Syntax.Ty
-y23 = Syntax.tyStruct (99 ∷ 97 ∷ 109 ∷ 101 ∷ 114 ∷ 97 ∷ 115 ∷ 58 ∷ 58 ∷ 69 ∷ 110 ∷ 116 ∷ 114 ∷ 121 ∷ []) (Syntax.tcons u32 (Syntax.tcons y12 (Syntax.tcons Syntax.tyBool (Syntax.tcons Syntax.tyBool
+y23 = Syntax.tyStruct (99 ∷ 97 ∷ 109 ∷ 101 ∷ 114 ∷ 97 ∷ 115 ∷ 58 ∷ 58 ∷ 69 ∷ 110 ∷ 116 ∷ 114 ∷ 121 ∷ []) (Syntax.tcons u32 (Syntax.tcons y14 (Syntax.tcons Syntax.tyBool (Syntax.tcons Syntax.tyBool
     Syntax.tnil))))
 
 abbrev pub y24 : Syntax.Ty
 y24 = Syntax.tyArray y23 16
 
 abbrev pub y25 : Syntax.Ty
-y25 = Syntax.tyEnum (98 ∷ 108 ∷ 111 ∷ 99 ∷ 107 ∷ 58 ∷ 58 ∷ 87 ∷ 97 ∷ 108 ∷ 107 ∷ 101 ∷ 100 ∷ []) (Syntax.ttcons (Syntax.tcons y15 (Syntax.tcons y19 Syntax.tnil)) (Syntax.ttcons (Syntax.tcons u64
-    (Syntax.tcons y15 Syntax.tnil)) Syntax.ttnil))
+y25 = Syntax.tyEnum (114 ∷ 101 ∷ 97 ∷ 100 ∷ 95 ∷ 98 ∷ 108 ∷ 111 ∷ 99 ∷ 107 ∷ 58 ∷ 58 ∷ 87 ∷ 97 ∷ 108 ∷ 107 ∷ 101 ∷ 100 ∷ []) (Syntax.ttcons (Syntax.tcons y13 (Syntax.tcons y19 Syntax.tnil))
+    (Syntax.ttcons (Syntax.tcons u64 (Syntax.tcons y13 Syntax.tnil)) Syntax.ttnil))
 
 abbrev pub y26 : Syntax.Ty
 y26 = Syntax.tyStruct (99 ∷ 97 ∷ 109 ∷ 101 ∷ 114 ∷ 97 ∷ 115 ∷ 58 ∷ 58 ∷ 69 ∷ 110 ∷ 116 ∷ 114 ∷ 105 ∷ 101 ∷ 115 ∷ []) (Syntax.tcons y24 Syntax.tnil)
 
 abbrev pub y27 : Syntax.Ty
-y27 = Syntax.tyStruct (116 ∷ 97 ∷ 107 ∷ 105 ∷ 110 ∷ 103 ∷ 58 ∷ 58 ∷ 84 ∷ 111 ∷ 111 ∷ 107 ∷ []) (Syntax.tcons u64 (Syntax.tcons y26 Syntax.tnil))
+y27 = Syntax.tyStruct (114 ∷ 101 ∷ 97 ∷ 100 ∷ 95 ∷ 98 ∷ 108 ∷ 111 ∷ 99 ∷ 107 ∷ 58 ∷ 58 ∷ 83 ∷ 104 ∷ 97 ∷ 114 ∷ 101 ∷ 100 ∷ 65 ∷ 110 ∷ 115 ∷ 119 ∷ 101 ∷ 114 ∷ []) (Syntax.tcons y17 (Syntax.tcons y26
+    Syntax.tnil))
 
 abbrev pub y28 : Syntax.Ty
-y28 = Syntax.tyStruct (98 ∷ 108 ∷ 111 ∷ 99 ∷ 107 ∷ 58 ∷ 58 ∷ 83 ∷ 104 ∷ 97 ∷ 114 ∷ 101 ∷ 100 ∷ 65 ∷ 110 ∷ 115 ∷ 119 ∷ 101 ∷ 114 ∷ []) (Syntax.tcons y17 (Syntax.tcons y26 Syntax.tnil))
+y28 = Syntax.tyStruct (99 ∷ 97 ∷ 109 ∷ 101 ∷ 114 ∷ 97 ∷ 115 ∷ 58 ∷ 58 ∷ 116 ∷ 97 ∷ 107 ∷ 105 ∷ 110 ∷ 103 ∷ 58 ∷ 58 ∷ 84 ∷ 111 ∷ 111 ∷ 107 ∷ []) (Syntax.tcons u64 (Syntax.tcons y26 Syntax.tnil))
 
 abbrev pub ps : List.List (Kinds.PK 4)
-ps = (Values.enum Camera.the-type Laws'4.the-laws Laws'4.the-copy Laws'4.the-plain tt) ∷ (Values.struct Entries.the-type Laws'5.the-laws Laws'5.the-copy Laws'5.the-plain) ∷ (ShrSlice.pShrS n8 0 tt) ∷
-    (Values.struct FujiHeader.the-type Laws'6.the-laws Laws'6.the-copy Laws'6.the-plain) ∷ (Values.struct Rect.the-type Laws'9.the-laws Laws'9.the-copy Laws'9.the-plain) ∷ (Array.pArr (Array.eInt
+ps = (Values.enum Camera.the-type Laws.the-laws Laws.the-copy Laws.the-plain tt) ∷ (Values.struct Entries.the-type Laws'.the-laws Laws'.the-copy Laws'.the-plain) ∷ (ShrSlice.pShrS n8 0 tt) ∷
+    (Values.struct FujiHeader.the-type Laws'10.the-laws Laws'10.the-copy Laws'10.the-plain) ∷ (Values.struct Rect.the-type Laws'4.the-laws Laws'4.the-copy Laws'4.the-plain) ∷ (Array.pArr (Array.eInt
     Syntax.w8) (Array.eInt-laws Syntax.w8) 36) ∷ (MutSlice.pMutS n16 1 tt) ∷ (MutSlice.pMutS n16 2 tt) ∷ (MutSlice.pMutS (Element.type) 3 tt) ∷ []
 
 abbrev pub r : Kinds.RK 4
-r = Values.struct-result SharedAnswer.the-type Laws''.the-laws Laws''.the-copy Laws''.the-plain
+r = Values.struct-result SharedAnswer.the-type Laws'8.the-laws Laws'8.the-copy Laws'8.the-plain
 
 abbrev pub xs : List.List Syntax.Ty
-xs = y14 ∷ u64 ∷ u64 ∷ u32 ∷ y0 ∷ y26 ∷ y17 ∷ u64 ∷ y16 ∷ y20 ∷ y20 ∷ y11 ∷ y27 ∷ u64 ∷ y25 ∷ u64 ∷ y17 ∷ y0 ∷ Syntax.tyBool ∷ y9 ∷ y22 ∷ y8 ∷ y21 ∷ y9 ∷ y22 ∷ y18 ∷ Syntax.tyBool ∷ y1 ∷ []
+xs = y12 ∷ u64 ∷ u64 ∷ u32 ∷ y0 ∷ y26 ∷ y17 ∷ u64 ∷ y15 ∷ y20 ∷ y20 ∷ y10 ∷ y28 ∷ u64 ∷ y25 ∷ u64 ∷ y17 ∷ y0 ∷ Syntax.tyBool ∷ y9 ∷ y22 ∷ y8 ∷ y21 ∷ y9 ∷ y22 ∷ y18 ∷ Syntax.tyBool ∷ y1 ∷ []
 
 abbrev pub m : Nat.ℕ
 m = 4
 
 abbrev pub ps·0 : List.List (Kinds.PK 0)
-ps·0 = (Values.struct Rect.the-type Laws'9.the-laws Laws'9.the-copy Laws'9.the-plain) ∷ []
+ps·0 = (Values.struct Rect.the-type Laws'4.the-laws Laws'4.the-copy Laws'4.the-plain) ∷ []
 
 abbrev pub r·0 : Kinds.RK 0
-r·0 = Values.struct-result Span.the-type Laws'10.the-laws Laws'10.the-copy Laws'10.the-plain
+r·0 = Values.struct-result Span.the-type Laws'5.the-laws Laws'5.the-copy Laws'5.the-plain
 
 abbrev pub ps·1 : List.List (Kinds.PK 0)
 ps·1 = []
@@ -222,10 +226,10 @@ abbrev pub r·1 : Kinds.RK 0
 r·1 = Array.rArr (Array.eInt Syntax.w16) (Array.eInt-laws Syntax.w16) 768
 
 abbrev pub ps·2 : List.List (Kinds.PK 0)
-ps·2 = (Values.struct FujiHeader.the-type Laws'6.the-laws Laws'6.the-copy Laws'6.the-plain) ∷ []
+ps·2 = (Values.struct FujiHeader.the-type Laws'10.the-laws Laws'10.the-copy Laws'10.the-plain) ∷ []
 
 abbrev pub r·2 : Kinds.RK 0
-r·2 = Values.struct-result Form.the-type Laws'.the-laws Laws'.the-copy Laws'.the-plain
+r·2 = Values.struct-result Form.the-type Laws'7.the-laws Laws'7.the-copy Laws'7.the-plain
 
 abbrev pub ps·3 : List.List (Kinds.PK 1)
 ps·3 = (ShrSlice.pShrS n8 0 tt) ∷ (Num.pNum Syntax.w64) ∷ []
@@ -240,38 +244,38 @@ abbrev pub r·4 : Kinds.RK 1
 r·4 = ShrSlice.rShrS n8 0 tt
 
 abbrev pub ps·5 : List.List (Kinds.PK 0)
-ps·5 = (Values.struct Rect.the-type Laws'9.the-laws Laws'9.the-copy Laws'9.the-plain) ∷ (Num.pNum Syntax.w64) ∷ []
+ps·5 = (Values.struct Rect.the-type Laws'4.the-laws Laws'4.the-copy Laws'4.the-plain) ∷ (Num.pNum Syntax.w64) ∷ []
 
 abbrev pub r·5 : Kinds.RK 0
-r·5 = Values.struct-result Part.the-type Laws'8.the-laws Laws'8.the-copy Laws'8.the-plain
+r·5 = Values.struct-result Part.the-type Laws'3.the-laws Laws'3.the-copy Laws'3.the-plain
 
 abbrev pub ps·6 : List.List (Kinds.PK 1)
-ps·6 = (Values.enum Camera.the-type Laws'4.the-laws Laws'4.the-copy Laws'4.the-plain tt) ∷ (Values.struct Entries.the-type Laws'5.the-laws Laws'5.the-copy Laws'5.the-plain) ∷ (Num.pNum Syntax.w32) ∷
+ps·6 = (Values.enum Camera.the-type Laws.the-laws Laws.the-copy Laws.the-plain tt) ∷ (Values.struct Entries.the-type Laws'.the-laws Laws'.the-copy Laws'.the-plain) ∷ (Num.pNum Syntax.w32) ∷
     (ShrSlice.pShrS n8 0 tt) ∷ (Num.pNum Syntax.w64) ∷ []
 
 abbrev pub r·6 : Kinds.RK 1
-r·6 = Values.struct-result Took.the-type Laws'11.the-laws Laws'11.the-copy Laws'11.the-plain
+r·6 = Values.struct-result Took.the-type Laws''.the-laws Laws''.the-copy Laws''.the-plain
 
 abbrev pub ps·7 : List.List (Kinds.PK 6)
-ps·7 = (ShrSlice.pShrS n8 0 tt) ∷ (ShrSlice.pShrS n8 1 tt) ∷ (MutSlice.pMutS n16 2 tt) ∷ (MutSlice.pMutS (Element.type) 3 tt) ∷ (MutSlice.pMutS n16 4 tt) ∷ (Values.struct Form.the-type Laws'.the-laws
-    Laws'.the-copy Laws'.the-plain) ∷ (ShrRef.pShr (Array'.Array n16 768) 5 tt) ∷ (Array.pArr (Array.eInt Syntax.w8) (Array.eInt-laws Syntax.w8) 36) ∷ (Values.struct Part.the-type Laws'8.the-laws
-    Laws'8.the-copy Laws'8.the-plain) ∷ (Num.pNum Syntax.w64) ∷ Bool.pBool ∷ (Values.struct Entries.the-type Laws'5.the-laws Laws'5.the-copy Laws'5.the-plain) ∷ []
+ps·7 = (ShrSlice.pShrS n8 0 tt) ∷ (ShrSlice.pShrS n8 1 tt) ∷ (MutSlice.pMutS n16 2 tt) ∷ (MutSlice.pMutS (Element.type) 3 tt) ∷ (MutSlice.pMutS n16 4 tt) ∷ (Values.struct Form.the-type Laws'7.the-laws
+    Laws'7.the-copy Laws'7.the-plain) ∷ (ShrRef.pShr (Array'.Array n16 768) 5 tt) ∷ (Array.pArr (Array.eInt Syntax.w8) (Array.eInt-laws Syntax.w8) 36) ∷ (Values.struct Part.the-type Laws'3.the-laws
+    Laws'3.the-copy Laws'3.the-plain) ∷ (Num.pNum Syntax.w64) ∷ Bool.pBool ∷ (Values.struct Entries.the-type Laws'.the-laws Laws'.the-copy Laws'.the-plain) ∷ []
 
 abbrev pub r·7 : Kinds.RK 6
-r·7 = Values.enum-result Walked.the-type Laws'3.the-laws Laws'3.the-copy Laws'3.the-plain tt
+r·7 = Values.enum-result Walked.the-type Laws'9.the-laws Laws'9.the-copy Laws'9.the-plain tt
 
 abbrev pub ps·8 : List.List (Kinds.PK 0)
-ps·8 = (Values.enum Walked.the-type Laws'3.the-laws Laws'3.the-copy Laws'3.the-plain tt) ∷ (Num.pNum Syntax.w64) ∷ []
+ps·8 = (Values.enum Walked.the-type Laws'9.the-laws Laws'9.the-copy Laws'9.the-plain tt) ∷ (Num.pNum Syntax.w64) ∷ []
 
 abbrev pub r·8 : Kinds.RK 0
 r·8 = Num.rNum Syntax.w64
 
 abbrev pub ps·9 : List.List (Kinds.PK 1)
-ps·9 = (Values.enum Camera.the-type Laws'4.the-laws Laws'4.the-copy Laws'4.the-plain tt) ∷ (Values.struct Entries.the-type Laws'5.the-laws Laws'5.the-copy Laws'5.the-plain) ∷ (Num.pNum Syntax.w32) ∷
+ps·9 = (Values.enum Camera.the-type Laws.the-laws Laws.the-copy Laws.the-plain tt) ∷ (Values.struct Entries.the-type Laws'.the-laws Laws'.the-copy Laws'.the-plain) ∷ (Num.pNum Syntax.w32) ∷
     (ShrSlice.pShrS n8 0 tt) ∷ (Num.pNum Syntax.w64) ∷ (Num.pNum Syntax.w64) ∷ []
 
 abbrev pub r·9 : Kinds.RK 1
-r·9 = Values.struct-result Entries.the-type Laws'5.the-laws Laws'5.the-copy Laws'5.the-plain
+r·9 = Values.struct-result Entries.the-type Laws'.the-laws Laws'.the-copy Laws'.the-plain
 
 abbrev pub ps·10 : List.List (Kinds.PK 0)
 ps·10 = (Num.pNum Syntax.w64) ∷ (Num.pNum Syntax.w64) ∷ (Num.pNum Syntax.w64) ∷ []
@@ -280,10 +284,11 @@ abbrev pub r·10 : Kinds.RK 0
 r·10 = Bool.rBool
 
 abbrev pub ps·11 : List.List (Kinds.PK 0)
-ps·11 = (Values.enum Decoded.the-type Laws.the-laws Laws.the-copy Laws.the-plain tt) ∷ (Num.pNum Syntax.w64) ∷ (Values.enum Walked.the-type Laws'3.the-laws Laws'3.the-copy Laws'3.the-plain tt) ∷ []
+ps·11 = (Values.enum Decoded.the-type Laws'6.the-laws Laws'6.the-copy Laws'6.the-plain tt) ∷ (Num.pNum Syntax.w64) ∷ (Values.enum Walked.the-type Laws'9.the-laws Laws'9.the-copy Laws'9.the-plain tt) ∷
+    []
 
 abbrev pub r·11 : Kinds.RK 0
-r·11 = Values.enum-result Decoded.the-type Laws.the-laws Laws.the-copy Laws.the-plain tt
+r·11 = Values.enum-result Decoded.the-type Laws'6.the-laws Laws'6.the-copy Laws'6.the-plain tt
 
 abbrev pub hs : List.List Syntax.Home
 hs = Syntax.valueLocal ∷ Syntax.valueLocal ∷ Syntax.valueLocal ∷ Syntax.valueLocal ∷ Syntax.valueLocal ∷ Syntax.valueLocal ∷ Syntax.valueLocal ∷ Syntax.valueLocal ∷ Syntax.valueLocal ∷
@@ -340,8 +345,8 @@ abbrev b16 : Syntax.Body
 b16 = Syntax.call "image_region::part" ((Syntax.copy (Syntax.place 5 [])) ∷ (Syntax.copy (Syntax.place 17 [])) ∷ []) (Syntax.place 21 [])
 
 abbrev b17 : Syntax.Body
-b17 = Syntax.call "cameras::taking::take_lines" ((Syntax.copy (Syntax.place 1 [])) ∷ (Syntax.copy (Syntax.place 15 [])) ∷ (Syntax.copy (Syntax.place 13 [])) ∷ (Syntax.copy (Syntax.place 20 [])) ∷ (Syntax.copy
-    (Syntax.place 11 [])) ∷ []) (Syntax.place 22 [])
+b17 = Syntax.call "cameras::taking::take_lines" ((Syntax.copy (Syntax.place 1 [])) ∷ (Syntax.copy (Syntax.place 15 [])) ∷ (Syntax.copy (Syntax.place 13 [])) ∷ (Syntax.copy (Syntax.place 20 [])) ∷
+    (Syntax.copy (Syntax.place 11 [])) ∷ []) (Syntax.place 22 [])
 
 abbrev b18 : Syntax.Body
 b18 = Syntax.assign (Syntax.place 23 []) (Syntax.rvOpd (Syntax.copy (Syntax.place 22 ((Syntax.field 0) ∷ []))))
@@ -376,8 +381,8 @@ abbrev b27 : Syntax.Body
 b27 = Syntax.call "read_block::sharing::lines_read" ((Syntax.copy (Syntax.place 24 [])) ∷ (Syntax.copy (Syntax.place 23 [])) ∷ []) (Syntax.place 25 [])
 
 abbrev b28 : Syntax.Body
-b28 = Syntax.call "cameras::taking::after_block" ((Syntax.copy (Syntax.place 1 [])) ∷ (Syntax.copy (Syntax.place 15 [])) ∷ (Syntax.copy (Syntax.place 13 [])) ∷ (Syntax.copy (Syntax.place 20 [])) ∷ (Syntax.copy
-    (Syntax.place 23 [])) ∷ (Syntax.copy (Syntax.place 25 [])) ∷ []) (Syntax.place 15 [])
+b28 = Syntax.call "cameras::taking::after_block" ((Syntax.copy (Syntax.place 1 [])) ∷ (Syntax.copy (Syntax.place 15 [])) ∷ (Syntax.copy (Syntax.place 13 [])) ∷ (Syntax.copy (Syntax.place 20 [])) ∷
+    (Syntax.copy (Syntax.place 23 [])) ∷ (Syntax.copy (Syntax.place 25 [])) ∷ []) (Syntax.place 15 [])
 
 abbrev b29 : Syntax.Body
 b29 = Syntax.call "cameras::taking::is_stopped" ((Syntax.copy (Syntax.place 25 [])) ∷ (Syntax.copy (Syntax.place 23 [])) ∷ (Syntax.copy (Syntax.place 11 [])) ∷ []) (Syntax.place 36 [])
@@ -487,7 +492,7 @@ abbrev pub v9 : Row.Row
 v9 = Rows'.whole (Declared'.row Entries.the-type)
 
 abbrev pub v10 : Row.Row
-v10 = Rows'.any-gone y14
+v10 = Rows'.any-gone y12
 
 abbrev pub v11 : Row.Row
 v11 = Rows'.any-gone y8
@@ -508,7 +513,7 @@ abbrev pub v16 : Row.Row
 v16 = Rows'.any-gone y22
 
 abbrev pub v17 : Row.Row
-v17 = Rows'.any-gone y28
+v17 = Rows'.any-gone y27
 
 abbrev pub v18 : Row.Row
 v18 = Rows.arrF n8 36 0
@@ -529,16 +534,16 @@ abbrev pub v23 : Row.Row
 v23 = Rows'.whole (Declared.row Camera.the-type)
 
 abbrev pub v24 : Row.Row
-v24 = Rows'.any-gone y11
+v24 = Rows'.any-gone y10
 
 abbrev pub v25 : Row.Row
-v25 = Rows'.any-gone y27
+v25 = Rows'.any-gone y28
 
 abbrev pub v26 : Row.Row
 v26 = Rows'.any-gone y25
 
 abbrev pub v27 : Row.Row
-v27 = Rows'.any-gone y16
+v27 = Rows'.any-gone y15
 
 abbrev pub v28 : Row.Row
 v28 = Rows.arrF n16 768 0
@@ -547,10 +552,10 @@ abbrev pub v29 : Row.Row
 v29 = Rows'.any-gone y2
 
 abbrev pub v30 : Row.Row
-v30 = Rows'.any-gone y10
+v30 = Rows'.any-gone y16
 
 abbrev pub v31 : Row.Row
-v31 = Rows'.any-gone y13
+v31 = Rows'.any-gone y11
 
 abbrev pub v32 : Row.Row
 v32 = Rows'.any-gone (Syntax.tyArray u8 36)
@@ -1088,20 +1093,20 @@ module _ (claims· : Claims) where
   s2 = Know.k-sl-known (Referent.fInt Syntax.w16) T0 8 2 y5 Row.off 0 λ x. x
 
   abbrev s3 : Typed.Both T0 T5
-  s3 = Call.callB ps·0 r·0 (claims· .0) (claims· .1) T0 (record { pos = 5; st = []; d = 0; at = λ x. x }, tt) 10 [] y14
+  s3 = Call.callB ps·0 r·0 (claims· .0) (claims· .1) T0 (record { pos = 5; st = []; d = 0; at = λ x. x }, tt) 10 [] y12
 
   abbrev s4 : Typed.Mo T5 → Typed.Mo T6
-  s4 = Scalar.n-use T5 (Scalar.oFld 10 ((Syntax.field 2) ∷ []) u64 16 (Reads.fieldV Span.the-type Laws'10.the-laws 2)) 11 (Rows'.sc-here (Row.sInt Syntax.w64)) (Row.sInt Syntax.w64 .of)
+  s4 = Scalar.n-use T5 (Scalar.oFld 10 ((Syntax.field 2) ∷ []) u64 16 (Reads.fieldV Span.the-type Laws'5.the-laws 2)) 11 (Rows'.sc-here (Row.sInt Syntax.w64)) (Row.sInt Syntax.w64 .of)
 
   abbrev s5 : Typed.Gives T6 T6
-  s5 = Know'.k-struct-known Span.the-type Laws'10.the-laws T6 10 λ x. x
+  s5 = Know'.k-struct-known Span.the-type Laws'5.the-laws T6 10 λ x. x
 
   abbrev s6 : Typed.Asks T6 T8
-  s6 = Scalar.k-op2 T6 (Syntax.add Syntax.unsigned) (Scalar.oFld 10 ((Syntax.field 1) ∷ []) u64 8 (Reads.fieldV Span.the-type Laws'10.the-laws 1)) (Scalar.oInt Syntax.w64 1) 12 (Rows'.sc-here
-      (Row.sInt Syntax.w64)) (Row.sInt Syntax.w64 .of)
+  s6 = Scalar.k-op2 T6 (Syntax.add Syntax.unsigned) (Scalar.oFld 10 ((Syntax.field 1) ∷ []) u64 8 (Reads.fieldV Span.the-type Laws'5.the-laws 1)) (Scalar.oInt Syntax.w64 1) 12 (Rows'.sc-here (Row.sInt
+      Syntax.w64)) (Row.sInt Syntax.w64 .of)
 
   abbrev s7 : Typed.Mo T8 → Typed.Mo T9
-  s7 = Scalar.n-use T8 (Scalar.oFld 4 ((Syntax.field 2) ∷ []) u32 4 (Reads.fieldV FujiHeader.the-type Laws'6.the-laws 2)) 13 (Rows'.sc-here (Row.sInt Syntax.w32)) (Row.sInt Syntax.w32 .of)
+  s7 = Scalar.n-use T8 (Scalar.oFld 4 ((Syntax.field 2) ∷ []) u32 4 (Reads.fieldV FujiHeader.the-type Laws'10.the-laws 2)) 13 (Rows'.sc-here (Row.sInt Syntax.w32)) (Row.sInt Syntax.w32 .of)
 
   abbrev s8 : Typed.Both T9 T10
   s8 = Call.callB ps·1 r·1 (claims· .2) (claims· .3) T9 tt 27 [] y0
@@ -1122,10 +1127,10 @@ module _ (claims· : Claims) where
   s13 = Make.n-enum-make Decoded.the-type T14 16 λ m. Decoded.enum .make (Logic.inl tt)
 
   abbrev s14 : Typed.Mo T15 → Typed.Mo T16
-  s14 = Scalar.n-use T15 (Scalar.oFld 10 ((Syntax.field 0) ∷ []) u64 0 (Reads.fieldV Span.the-type Laws'10.the-laws 0)) 17 (Rows'.sc-here (Row.sInt Syntax.w64)) (Row.sInt Syntax.w64 .of)
+  s14 = Scalar.n-use T15 (Scalar.oFld 10 ((Syntax.field 0) ∷ []) u64 0 (Reads.fieldV Span.the-type Laws'5.the-laws 0)) 17 (Rows'.sc-here (Row.sInt Syntax.w64)) (Row.sInt Syntax.w64 .of)
 
   abbrev s15 : Typed.Mo T16 → Typed.Mo T18
-  s15 = Scalar.n-room T16 10 y14
+  s15 = Scalar.n-room T16 10 y12
 
   abbrev s16 : Typed.Asks T18 T19
   s16 = Scalar.k-op2 T18 (Syntax.lt Syntax.unsigned) (Scalar.oAt 17 u64 (Row.valS (Row.sInt Syntax.w64))) (Scalar.oAt 12 u64 (Row.valS (Row.sInt Syntax.w64))) 28 (Rows'.sc-here Row.sBool) (Row.sBool
@@ -1138,10 +1143,10 @@ module _ (claims· : Claims) where
   s18 = Scalar.n-room T19 1 y2
 
   abbrev s19 : Typed.Mo T22 → Typed.Mo T23
-  s19 = Scalar.n-room T22 4 y10
+  s19 = Scalar.n-room T22 4 y16
 
   abbrev s20 : Typed.Mo T23 → Typed.Mo T24
-  s20 = Scalar.n-room T23 5 y13
+  s20 = Scalar.n-room T23 5 y11
 
   abbrev s21 : Typed.Mo T24 → Typed.Mo T25
   s21 = Scalar.n-room T24 6 (Syntax.tyArray u8 36)
@@ -1153,7 +1158,7 @@ module _ (claims· : Claims) where
   s23 = Scalar.n-room T26 28 Syntax.tyBool
 
   abbrev s24 : Typed.Both T18 T28
-  s24 = Call.callB ps·2 r·2 (claims· .4) (claims· .5) T18 (record { pos = 4; st = []; d = 0; at = λ x. x }, tt) 18 [] y16
+  s24 = Call.callB ps·2 r·2 (claims· .4) (claims· .5) T18 (record { pos = 4; st = []; d = 0; at = λ x. x }, tt) 18 [] y15
 
   abbrev s25 : Typed.Both T28 T29
   s25 = Call.callB ps·3 r·3 (claims· .6) (claims· .7) T28 (record { pos = 3; ty = y3; ref = λ x. x }, (Num.vAt 17 λ x. x, tt)) 19 (0 ∷ []) y20
@@ -1162,17 +1167,17 @@ module _ (claims· : Claims) where
   s26 = Call.callB ps·4 r·4 (claims· .8) (claims· .9) T29 (record { pos = 3; ty = y3; ref = λ x. x }, (Num.vAt 17 λ x. x, tt)) 20 (0 ∷ []) y20
 
   abbrev s27 : Typed.Both T30 T31
-  s27 = Call.callB ps·5 r·5 (claims· .10) (claims· .11) T30 (record { pos = 5; st = []; d = 0; at = λ x. x }, (Num.vAt 17 λ x. x, tt)) 21 [] y11
+  s27 = Call.callB ps·5 r·5 (claims· .10) (claims· .11) T30 (record { pos = 5; st = []; d = 0; at = λ x. x }, (Num.vAt 17 λ x. x, tt)) 21 [] y10
 
   abbrev pub a0 : ArgsT ps·6 (T31 .locals)
   a0 =
       (record { pos = 1; st = []; d = 0; at = λ x. x }, (record { pos = 15; st = []; d = 0; at = λ x. x }, (Num.vAt 13 λ x. x, (record { pos = 20; ty = y7; ref = λ x. x }, (Num.vAt 11 λ x. x, tt)))))
 
   abbrev s28 : Typed.Both T31 T32
-  s28 = Call.callB ps·6 r·6 (claims· .12) (claims· .13) T31 a0 22 (0 ∷ []) y27
+  s28 = Call.callB ps·6 r·6 (claims· .12) (claims· .13) T31 a0 22 (0 ∷ []) y28
 
   abbrev s29 : Typed.Mo T32 → Typed.Mo T33
-  s29 = Scalar.n-use T32 (Scalar.oFld 22 ((Syntax.field 0) ∷ []) u64 0 (Reads.fieldV Took.the-type Laws'11.the-laws 0)) 23 (Rows'.sc-here (Row.sInt Syntax.w64)) (Row.sInt Syntax.w64 .of)
+  s29 = Scalar.n-use T32 (Scalar.oFld 22 ((Syntax.field 0) ∷ []) u64 0 (Reads.fieldV Took.the-type Laws''.the-laws 0)) 23 (Rows'.sc-here (Row.sInt Syntax.w64)) (Row.sInt Syntax.w64 .of)
 
   abbrev s31 : Typed.Gives T33 T35
   s31 = Relend.k-sl-relend n16 T33 8 29 2 4 y5 y9 Row.off λ x. x
@@ -1235,13 +1240,13 @@ module _ (claims· : Claims) where
   s43 = Scalar.n-room T46 35 y18
 
   abbrev s44 : Typed.Mo T47 → Typed.Mo T48
-  s44 = Scalar.n-room T47 18 y16
+  s44 = Scalar.n-room T47 18 y15
 
   abbrev s45 : Typed.Mo T48 → Typed.Mo T49
-  s45 = Scalar.n-room T48 21 y11
+  s45 = Scalar.n-room T48 21 y10
 
   abbrev s46 : Typed.Mo T49 → Typed.Mo T50
-  s46 = Scalar.n-room T49 22 y27
+  s46 = Scalar.n-room T49 22 y28
 
   abbrev s48 : Typed.Both T50 T52
   s48 = Relend.k-back-sl n16 T50 30 8 2 4 y5 y9 Row.off (λ x. x) λ x. x
@@ -1283,10 +1288,10 @@ module _ (claims· : Claims) where
   s65 = Scalar.n-room T68 1 y2
 
   abbrev s66 : Typed.Mo T70 → Typed.Mo T71
-  s66 = Scalar.n-room T70 4 y10
+  s66 = Scalar.n-room T70 4 y16
 
   abbrev s67 : Typed.Mo T71 → Typed.Mo T72
-  s67 = Scalar.n-room T71 5 y13
+  s67 = Scalar.n-room T71 5 y11
 
   abbrev s68 : Typed.Mo T72 → Typed.Mo T73
   s68 = Scalar.n-room T72 6 (Syntax.tyArray u8 36)
@@ -1399,13 +1404,14 @@ module _ (claims· : Claims) where
   module _ (Pre· : (κs : Lifetimes.Lfts 4) → Kinds.Dens κs ps → Type 0) (Post· : (κs : Lifetimes.Lfts 4) → (a : Kinds.Dens κs ps) → Kinds.Plain 4 ps r κs) where
     module _ (M : Type 1) where
       abbrev pub Closed : Type 2
-      Closed = (𝓤 : URA.URA M) (H : Wp.Heap 𝓤) (A : Atoms.Atoms 𝓤) (W : Kit.Given 𝓤 H A) (𝓣 : Wp.Tables 𝓤 H) (known0 : Plain.Known 𝓤 H A W 𝓣 0 ps·0 r·0 (claims· .0) (claims· .1) "image_region::span_of")
-          (known1 : Plain.Known 𝓤 H A W 𝓣 0 ps·1 r·1 (claims· .2) (claims· .3) "image_map::xtrans_places") (known2 : Plain.Known 𝓤 H A W 𝓣 0 ps·2 r·2 (claims· .4) (claims· .5) "read_block::form_of") (known3 :
-          Plain.Known 𝓤 H A W 𝓣 1 ps·3 r·3 (claims· .6) (claims· .7) "stream::block_bytes") (known4 : Plain.Known 𝓤 H A W 𝓣 1 ps·4 r·4 (claims· .8) (claims· .9) "stream::base_row") (known5 : Plain.Known 𝓤
-          H A W 𝓣 0 ps·5 r·5 (claims· .10) (claims· .11) "image_region::part") (known6 : Plain.Known 𝓤 H A W 𝓣 1 ps·6 r·6 (claims· .12) (claims· .13) "cameras::taking::take_lines") (known7 : Plain.Known 𝓤 H A W 𝓣 6 ps·7
-          r·7 (claims· .14) (claims· .15) "read_block::reading::walk") (known8 : Plain.Known 𝓤 H A W 𝓣 0 ps·8 r·8 (claims· .16) (claims· .17) "read_block::sharing::lines_read") (known9 : Plain.Known 𝓤 H A W 𝓣 1
-          ps·9 r·9 (claims· .18) (claims· .19) "cameras::taking::after_block") (known10 : Plain.Known 𝓤 H A W 𝓣 0 ps·10 r·10 (claims· .20) (claims· .21) "cameras::taking::is_stopped") (known11 : Plain.Known 𝓤 H A W 𝓣 0
-          ps·11 r·11 (claims· .22) (claims· .23) "read_block::decoding::judged") → Statement.Triple 𝓤 (Wp.WpFn 𝓤 H (𝓣 .C) (𝓣 .Λ) (Function.fnOf 4 ps r xs m hs body)) (Function.plainOf 𝓤 H A 4 ps r Pre· Post·)
+      Closed = (𝓤 : URA.URA M) (H : Wp.Heap 𝓤) (A : Atoms.Atoms 𝓤) (W : Kit.Given 𝓤 H A) (𝓣 : Wp.Tables 𝓤 H) (known0 : Plain.Known 𝓤 H A W 𝓣 0 ps·0 r·0 (claims· .0) (claims· .1)
+          "image_region::span_of") (known1 : Plain.Known 𝓤 H A W 𝓣 0 ps·1 r·1 (claims· .2) (claims· .3) "image_map::xtrans_places") (known2 : Plain.Known 𝓤 H A W 𝓣 0 ps·2 r·2 (claims· .4) (claims· .5)
+          "read_block::form_of") (known3 : Plain.Known 𝓤 H A W 𝓣 1 ps·3 r·3 (claims· .6) (claims· .7) "stream::block_bytes") (known4 : Plain.Known 𝓤 H A W 𝓣 1 ps·4 r·4 (claims· .8) (claims· .9)
+          "stream::base_row") (known5 : Plain.Known 𝓤 H A W 𝓣 0 ps·5 r·5 (claims· .10) (claims· .11) "image_region::part") (known6 : Plain.Known 𝓤 H A W 𝓣 1 ps·6 r·6 (claims· .12) (claims· .13)
+          "cameras::taking::take_lines") (known7 : Plain.Known 𝓤 H A W 𝓣 6 ps·7 r·7 (claims· .14) (claims· .15) "read_block::reading::walk") (known8 : Plain.Known 𝓤 H A W 𝓣 0 ps·8 r·8 (claims· .16)
+          (claims· .17) "read_block::sharing::lines_read") (known9 : Plain.Known 𝓤 H A W 𝓣 1 ps·9 r·9 (claims· .18) (claims· .19) "cameras::taking::after_block") (known10 : Plain.Known 𝓤 H A W 𝓣 0 ps·10
+          r·10 (claims· .20) (claims· .21) "cameras::taking::is_stopped") (known11 : Plain.Known 𝓤 H A W 𝓣 0 ps·11 r·11 (claims· .22) (claims· .23) "read_block::decoding::judged") → Statement.Triple 𝓤
+          (Wp.WpFn 𝓤 H (𝓣 .C) (𝓣 .Λ) (Function.fnOf 4 ps r xs m hs body)) (Function.plainOf 𝓤 H A 4 ps r Pre· Post·)
 
     module _ (Inv·0 : InvT-loop) (μ·0 : MeasureT-loop) where
       abbrev at0 : Typed.TF T18 O4
@@ -1712,12 +1718,12 @@ module _ (claims· : Claims) where
 
       module _ {M : Type 1} (𝓤 : URA.URA M) (H : Wp.Heap 𝓤) (A : Atoms.Atoms 𝓤) (W : Kit.Given 𝓤 H A) (𝓣 : Wp.Tables 𝓤 H) where
         abbrev Knowns : Type 1
-        Knowns = Plain.Known 𝓤 H A W 𝓣 0 ps·0 r·0 (claims· .0) (claims· .1) "image_region::span_of" × Plain.Known 𝓤 H A W 𝓣 0 ps·1 r·1 (claims· .2) (claims· .3) "image_map::xtrans_places" × Plain.Known 𝓤 H A W 𝓣
-            0 ps·2 r·2 (claims· .4) (claims· .5) "read_block::form_of" × Plain.Known 𝓤 H A W 𝓣 1 ps·3 r·3 (claims· .6) (claims· .7) "stream::block_bytes" × Plain.Known 𝓤 H A W 𝓣 1 ps·4 r·4 (claims· .8)
-            (claims· .9) "stream::base_row" × Plain.Known 𝓤 H A W 𝓣 0 ps·5 r·5 (claims· .10) (claims· .11) "image_region::part" × Plain.Known 𝓤 H A W 𝓣 1 ps·6 r·6 (claims· .12) (claims· .13)
-            "cameras::taking::take_lines" × Plain.Known 𝓤 H A W 𝓣 6 ps·7 r·7 (claims· .14) (claims· .15) "read_block::reading::walk" × Plain.Known 𝓤 H A W 𝓣 0 ps·8 r·8 (claims· .16) (claims· .17)
-            "read_block::sharing::lines_read" × Plain.Known 𝓤 H A W 𝓣 1 ps·9 r·9 (claims· .18) (claims· .19) "cameras::taking::after_block" × Plain.Known 𝓤 H A W 𝓣 0 ps·10 r·10 (claims· .20) (claims· .21)
-            "cameras::taking::is_stopped" × Plain.Known 𝓤 H A W 𝓣 0 ps·11 r·11 (claims· .22) (claims· .23) "read_block::decoding::judged"
+        Knowns = Plain.Known 𝓤 H A W 𝓣 0 ps·0 r·0 (claims· .0) (claims· .1) "image_region::span_of" × Plain.Known 𝓤 H A W 𝓣 0 ps·1 r·1 (claims· .2) (claims· .3) "image_map::xtrans_places" ×
+            Plain.Known 𝓤 H A W 𝓣 0 ps·2 r·2 (claims· .4) (claims· .5) "read_block::form_of" × Plain.Known 𝓤 H A W 𝓣 1 ps·3 r·3 (claims· .6) (claims· .7) "stream::block_bytes" × Plain.Known 𝓤 H A W 𝓣 1
+            ps·4 r·4 (claims· .8) (claims· .9) "stream::base_row" × Plain.Known 𝓤 H A W 𝓣 0 ps·5 r·5 (claims· .10) (claims· .11) "image_region::part" × Plain.Known 𝓤 H A W 𝓣 1 ps·6 r·6 (claims· .12)
+            (claims· .13) "cameras::taking::take_lines" × Plain.Known 𝓤 H A W 𝓣 6 ps·7 r·7 (claims· .14) (claims· .15) "read_block::reading::walk" × Plain.Known 𝓤 H A W 𝓣 0 ps·8 r·8 (claims· .16) (claims·
+            .17) "read_block::sharing::lines_read" × Plain.Known 𝓤 H A W 𝓣 1 ps·9 r·9 (claims· .18) (claims· .19) "cameras::taking::after_block" × Plain.Known 𝓤 H A W 𝓣 0 ps·10 r·10 (claims· .20) (claims·
+            .21) "cameras::taking::is_stopped" × Plain.Known 𝓤 H A W 𝓣 0 ps·11 r·11 (claims· .22) (claims· .23) "read_block::decoding::judged"
 
       module _ (κs : Lifetimes.Lfts 4) (qs : Lifetimes.Shares 4) where
         abbrev k0 : Row.Life
@@ -1901,12 +1907,12 @@ module _ (claims· : Claims) where
               Path'.refl)) d4
 
           d6 : Typed.Typed 𝓤 H A 𝓣 E (on T23 l7) b11 Δ4 at6
-          d6 = Typed.g-pre 𝓤 H A W 𝓣 E (on T23 l7) (on T24 l7) b11 Δ4 (Typed.pass T23 T24 s20) at5 (Scalar.g-room 𝓤 H A W E (on T23 l7) 5 y13 (Local.room-whole 𝓤 H A W (Declared'.row Rect.the-type)
-              y13 Path'.refl)) d5
+          d6 = Typed.g-pre 𝓤 H A W 𝓣 E (on T23 l7) (on T24 l7) b11 Δ4 (Typed.pass T23 T24 s20) at5 (Scalar.g-room 𝓤 H A W E (on T23 l7) 5 y11 (Local.room-whole 𝓤 H A W (Declared'.row Rect.the-type)
+              y11 Path'.refl)) d5
 
           d7 : Typed.Typed 𝓤 H A 𝓣 E (on T22 l7) b11 Δ4 at7
-          d7 = Typed.g-pre 𝓤 H A W 𝓣 E (on T22 l7) (on T23 l7) b11 Δ4 (Typed.pass T22 T23 s19) at6 (Scalar.g-room 𝓤 H A W E (on T22 l7) 4 y10 (Local.room-whole 𝓤 H A W (Declared'.row
-              FujiHeader.the-type) y10 Path'.refl)) d6
+          d7 = Typed.g-pre 𝓤 H A W 𝓣 E (on T22 l7) (on T23 l7) b11 Δ4 (Typed.pass T22 T23 s19) at6 (Scalar.g-room 𝓤 H A W E (on T22 l7) 4 y16 (Local.room-whole 𝓤 H A W (Declared'.row
+              FujiHeader.the-type) y16 Path'.refl)) d6
 
           d8 : Typed.Typed 𝓤 H A 𝓣 E (on T19 l7) b11 Δ4 at8
           d8 = Typed.g-pre 𝓤 H A W 𝓣 E (on T19 l7) (on T22 l7) b11 Δ4 (Typed.pass T19 T22 s18) at7 (Scalar.g-room 𝓤 H A W E (on T19 l7) 1 y2 (Local.room-whole 𝓤 H A W (Declared.row Camera.the-type) y2
@@ -1951,32 +1957,32 @@ module _ (claims· : Claims) where
 
           d20 : Typed.Typed 𝓤 H A 𝓣 E (on T80 l7) (Syntax.seq b32 b33) Δ5 at20
           d20 = Typed.s-seq 𝓤 H A W 𝓣 E (on T80 l7) (on T81 l7) b32 b33 Δ5 (Typed.pass T80 T81 s76) at19 (Make'.t-make-told 𝓤 H A W E 𝓣 (Declared'.row (Apart.apartT SharedAnswer.the-type)) Path'.refl
-              (Laws'14.val (Apart.apartT SharedAnswer.the-type) Laws''.the-laws) (Laws'14.lawful (Apart.apartT SharedAnswer.the-type) Laws''.the-laws 𝓤 H A W) (Laws'14.makes (Apart.apartT
-              SharedAnswer.the-type) Laws''.the-plain 𝓤 H A) (on T80 l7) 0 ((Scalar.oAt 26 y17 (Laws'12.val Decoded.the-type Laws.the-laws)) ∷ (Scalar.oAt 15 y26 (Laws'14.val Entries.the-type
-              Laws'5.the-laws)) ∷ []) (λ m. (m .1 .1 .1 .1 .1 .1 .1 .1 .1 .1 .1 .1 .1 .1 .1 .1 .1 .1 .1 .1 .1 .1 .1 .1 .1 .1 .0, (m .1 .1 .1 .1 .1 .1 .1 .1 .1 .1 .1 .1 .1 .1 .1 .0, tt))) (λ m. Laws'13.Is
-              (Declared.row Decoded.the-type) (m .1 .1 .1 .1 .1 .1 .1 .1 .1 .1 .1 .1 .1 .1 .1 .1 .1 .1 .1 .1 .1 .1 .1 .1 .1 .1 .0) (Laws'12.vals Decoded.the-type Laws.the-laws (m .1 .1 .1 .1 .1 .1 .1 .1
+              (Laws'14.val (Apart.apartT SharedAnswer.the-type) Laws'8.the-laws) (Laws'14.lawful (Apart.apartT SharedAnswer.the-type) Laws'8.the-laws 𝓤 H A W) (Laws'14.makes (Apart.apartT
+              SharedAnswer.the-type) Laws'8.the-plain 𝓤 H A) (on T80 l7) 0 ((Scalar.oAt 26 y17 (Laws'12.val Decoded.the-type Laws'6.the-laws)) ∷ (Scalar.oAt 15 y26 (Laws'14.val Entries.the-type
+              Laws'.the-laws)) ∷ []) (λ m. (m .1 .1 .1 .1 .1 .1 .1 .1 .1 .1 .1 .1 .1 .1 .1 .1 .1 .1 .1 .1 .1 .1 .1 .1 .1 .1 .0, (m .1 .1 .1 .1 .1 .1 .1 .1 .1 .1 .1 .1 .1 .1 .1 .0, tt))) (λ m. Laws'13.Is
+              (Declared.row Decoded.the-type) (m .1 .1 .1 .1 .1 .1 .1 .1 .1 .1 .1 .1 .1 .1 .1 .1 .1 .1 .1 .1 .1 .1 .1 .1 .1 .1 .0) (Laws'12.vals Decoded.the-type Laws'6.the-laws (m .1 .1 .1 .1 .1 .1 .1 .1
               .1 .1 .1 .1 .1 .1 .1 .1 .1 .1 .1 .1 .1 .1 .1 .1 .1 .1 .0)) × Laws'13.Is (Declared'.row Entries.the-type) (m .1 .1 .1 .1 .1 .1 .1 .1 .1 .1 .1 .1 .1 .1 .1 .0) (Laws'14.vals Entries.the-type
-              Laws'5.the-laws (m .1 .1 .1 .1 .1 .1 .1 .1 .1 .1 .1 .1 .1 .1 .1 .0))) (Reads'.room-gone 𝓤 H A y28)
-              ((Whole.reads-enum 𝓤 H A W Decoded.the-type Laws.the-laws, Path'.refl), ((Reads.reads-struct 𝓤 H A W Entries.the-type Laws'5.the-laws, Path'.refl), tt)) Path'.refl (λ ρ m. Make'.tells-both 𝓤
-              H A W E ρ (Row.out 0 ((on T80 l7) .locals)) m (Laws'13.Is (Declared.row Decoded.the-type) (m .1 .1 .1 .1 .1 .1 .1 .1 .1 .1 .1 .1 .1 .1 .1 .1 .1 .1 .1 .1 .1 .1 .1 .1 .1 .1 .0) (Laws'12.vals
-              Decoded.the-type Laws.the-laws (m .1 .1 .1 .1 .1 .1 .1 .1 .1 .1 .1 .1 .1 .1 .1 .1 .1 .1 .1 .1 .1 .1 .1 .1 .1 .1 .0))) (Laws'13.Is (Declared'.row Entries.the-type) (m .1 .1 .1 .1 .1 .1 .1 .1
-              .1 .1 .1 .1 .1 .1 .1 .0) (Laws'14.vals Entries.the-type Laws'5.the-laws (m .1 .1 .1 .1 .1 .1 .1 .1 .1 .1 .1 .1 .1 .1 .1 .0))) (Make'.tells-row 𝓤 H A W E ρ (Row.out 0 ((on T80 l7) .locals)) m
-              26 (Laws'13.Is (Declared.row Decoded.the-type) (m .1 .1 .1 .1 .1 .1 .1 .1 .1 .1 .1 .1 .1 .1 .1 .1 .1 .1 .1 .1 .1 .1 .1 .1 .1 .1 .0) (Laws'12.vals Decoded.the-type Laws.the-laws (m .1 .1 .1
-              .1 .1 .1 .1 .1 .1 .1 .1 .1 .1 .1 .1 .1 .1 .1 .1 .1 .1 .1 .1 .1 .1 .1 .0))) (Make'.whole-is 𝓤 H A W E (Declared.row Decoded.the-type) Path'.refl (Laws'12.val Decoded.the-type Laws.the-laws)
-              (Laws'12.tells Decoded.the-type Laws.the-laws) ρ 26 (m .1 .1 .1 .1 .1 .1 .1 .1 .1 .1 .1 .1 .1 .1 .1 .1 .1 .1 .1 .1 .1 .1 .1 .1 .1 .1 .0))) (Make'.tells-row 𝓤 H A W E ρ (Row.out 0 ((on T80
-              l7) .locals)) m 15 (Laws'13.Is (Declared'.row Entries.the-type) (m .1 .1 .1 .1 .1 .1 .1 .1 .1 .1 .1 .1 .1 .1 .1 .0) (Laws'14.vals Entries.the-type Laws'5.the-laws (m .1 .1 .1 .1 .1 .1 .1 .1
-              .1 .1 .1 .1 .1 .1 .1 .0))) (Make'.whole-is 𝓤 H A W E (Declared'.row Entries.the-type) Path'.refl (Laws'14.val Entries.the-type Laws'5.the-laws) (Laws'14.tells Entries.the-type
-              Laws'5.the-laws) ρ 15 (m .1 .1 .1 .1 .1 .1 .1 .1 .1 .1 .1 .1 .1 .1 .1 .0)))) (λ m q. Signed.made-val (Apart.apartT SharedAnswer.the-type) Laws''.the-laws ((Laws'12.val Decoded.the-type
-              Laws.the-laws (m .1 .1 .1 .1 .1 .1 .1 .1 .1 .1 .1 .1 .1 .1 .1 .1 .1 .1 .1 .1 .1 .1 .1 .1 .1 .1 .0)) ∷ (Laws'14.val Entries.the-type Laws'5.the-laws (m .1 .1 .1 .1 .1 .1 .1 .1 .1 .1 .1 .1 .1
-              .1 .1 .0)) ∷ []) (m .1 .1 .1 .1 .1 .1 .1 .1 .1 .1 .1 .1 .1 .1 .1 .1 .1 .1 .1 .1 .1 .1 .1 .1 .1 .1 .0, (m .1 .1 .1 .1 .1 .1 .1 .1 .1 .1 .1 .1 .1 .1 .1 .0, tt)) (
-                Make.made-enum Decoded.the-type Laws.the-laws tt Laws.lowers (m .1 .1 .1 .1 .1 .1 .1 .1 .1 .1 .1 .1 .1 .1 .1 .1 .1 .1 .1 .1 .1 .1 .1 .1 .1 .1 .0) (q .0),
-                (Signed.made-struct Entries.the-type Laws'5.the-laws Laws'5.lowers (m .1 .1 .1 .1 .1 .1 .1 .1 .1 .1 .1 .1 .1 .1 .1 .0) (q .1), tt),
-              )) λ m q. Signed.made-is (Apart.apartT
-              SharedAnswer.the-type) Laws''.the-laws ((Laws'12.val Decoded.the-type Laws.the-laws (m .1 .1 .1 .1 .1 .1 .1 .1 .1 .1 .1 .1 .1 .1 .1 .1 .1 .1 .1 .1 .1 .1 .1 .1 .1 .1 .0)) ∷ (Laws'14.val
-              Entries.the-type Laws'5.the-laws (m .1 .1 .1 .1 .1 .1 .1 .1 .1 .1 .1 .1 .1 .1 .1 .0)) ∷ [])
+              Laws'.the-laws (m .1 .1 .1 .1 .1 .1 .1 .1 .1 .1 .1 .1 .1 .1 .1 .0))) (Reads'.room-gone 𝓤 H A y27)
+              ((Whole.reads-enum 𝓤 H A W Decoded.the-type Laws'6.the-laws, Path'.refl), ((Reads.reads-struct 𝓤 H A W Entries.the-type Laws'.the-laws, Path'.refl), tt)) Path'.refl (λ ρ m. Make'.tells-both
+              𝓤 H A W E ρ (Row.out 0 ((on T80 l7) .locals)) m (Laws'13.Is (Declared.row Decoded.the-type) (m .1 .1 .1 .1 .1 .1 .1 .1 .1 .1 .1 .1 .1 .1 .1 .1 .1 .1 .1 .1 .1 .1 .1 .1 .1 .1 .0) (Laws'12.vals
+              Decoded.the-type Laws'6.the-laws (m .1 .1 .1 .1 .1 .1 .1 .1 .1 .1 .1 .1 .1 .1 .1 .1 .1 .1 .1 .1 .1 .1 .1 .1 .1 .1 .0))) (Laws'13.Is (Declared'.row Entries.the-type) (m .1 .1 .1 .1 .1 .1 .1
+              .1 .1 .1 .1 .1 .1 .1 .1 .0) (Laws'14.vals Entries.the-type Laws'.the-laws (m .1 .1 .1 .1 .1 .1 .1 .1 .1 .1 .1 .1 .1 .1 .1 .0))) (Make'.tells-row 𝓤 H A W E ρ (Row.out 0 ((on T80 l7) .locals))
+              m 26 (Laws'13.Is (Declared.row Decoded.the-type) (m .1 .1 .1 .1 .1 .1 .1 .1 .1 .1 .1 .1 .1 .1 .1 .1 .1 .1 .1 .1 .1 .1 .1 .1 .1 .1 .0) (Laws'12.vals Decoded.the-type Laws'6.the-laws (m .1 .1
+              .1 .1 .1 .1 .1 .1 .1 .1 .1 .1 .1 .1 .1 .1 .1 .1 .1 .1 .1 .1 .1 .1 .1 .1 .0))) (Make'.whole-is 𝓤 H A W E (Declared.row Decoded.the-type) Path'.refl (Laws'12.val Decoded.the-type
+              Laws'6.the-laws) (Laws'12.tells Decoded.the-type Laws'6.the-laws) ρ 26 (m .1 .1 .1 .1 .1 .1 .1 .1 .1 .1 .1 .1 .1 .1 .1 .1 .1 .1 .1 .1 .1 .1 .1 .1 .1 .1 .0))) (Make'.tells-row 𝓤 H A W E ρ
+              (Row.out 0 ((on T80 l7) .locals)) m 15 (Laws'13.Is (Declared'.row Entries.the-type) (m .1 .1 .1 .1 .1 .1 .1 .1 .1 .1 .1 .1 .1 .1 .1 .0) (Laws'14.vals Entries.the-type Laws'.the-laws (m .1 .1
+              .1 .1 .1 .1 .1 .1 .1 .1 .1 .1 .1 .1 .1 .0))) (Make'.whole-is 𝓤 H A W E (Declared'.row Entries.the-type) Path'.refl (Laws'14.val Entries.the-type Laws'.the-laws) (Laws'14.tells
+              Entries.the-type Laws'.the-laws) ρ 15 (m .1 .1 .1 .1 .1 .1 .1 .1 .1 .1 .1 .1 .1 .1 .1 .0)))) (λ m q. Signed.made-val (Apart.apartT SharedAnswer.the-type) Laws'8.the-laws ((Laws'12.val
+              Decoded.the-type Laws'6.the-laws (m .1 .1 .1 .1 .1 .1 .1 .1 .1 .1 .1 .1 .1 .1 .1 .1 .1 .1 .1 .1 .1 .1 .1 .1 .1 .1 .0)) ∷ (Laws'14.val Entries.the-type Laws'.the-laws (m .1 .1 .1 .1 .1 .1 .1
+              .1 .1 .1 .1 .1 .1 .1 .1 .0)) ∷ []) (m .1 .1 .1 .1 .1 .1 .1 .1 .1 .1 .1 .1 .1 .1 .1 .1 .1 .1 .1 .1 .1 .1 .1 .1 .1 .1 .0, (m .1 .1 .1 .1 .1 .1 .1 .1 .1 .1 .1 .1 .1 .1 .1 .0, tt)) (
+                Make.made-enum Decoded.the-type Laws'6.the-laws tt Laws'6.lowers (m .1 .1 .1 .1 .1 .1 .1 .1 .1 .1 .1 .1 .1 .1 .1 .1 .1 .1 .1 .1 .1 .1 .1 .1 .1 .1 .0) (q .0),
+                (Signed.made-struct Entries.the-type Laws'.the-laws Laws'.lowers (m .1 .1 .1 .1 .1 .1 .1 .1 .1 .1 .1 .1 .1 .1 .1 .0) (q .1), tt),
+              )) λ m q. Signed.made-is (Apart.apartT SharedAnswer.the-type)
+              Laws'8.the-laws ((Laws'12.val Decoded.the-type Laws'6.the-laws (m .1 .1 .1 .1 .1 .1 .1 .1 .1 .1 .1 .1 .1 .1 .1 .1 .1 .1 .1 .1 .1 .1 .1 .1 .1 .1 .0)) ∷ (Laws'14.val Entries.the-type
+              Laws'.the-laws (m .1 .1 .1 .1 .1 .1 .1 .1 .1 .1 .1 .1 .1 .1 .1 .0)) ∷ [])
               (m .1 .1 .1 .1 .1 .1 .1 .1 .1 .1 .1 .1 .1 .1 .1 .1 .1 .1 .1 .1 .1 .1 .1 .1 .1 .1 .0, (m .1 .1 .1 .1 .1 .1 .1 .1 .1 .1 .1 .1 .1 .1 .1 .0, tt)) (
-                Make.made-enum Decoded.the-type Laws.the-laws tt Laws.lowers (m .1 .1 .1 .1 .1 .1 .1 .1 .1 .1 .1 .1 .1 .1 .1 .1 .1 .1 .1 .1 .1 .1 .1 .1 .1 .1 .0) (q .0),
-                (Signed.made-struct Entries.the-type Laws'5.the-laws Laws'5.lowers (m .1 .1 .1 .1 .1 .1 .1 .1 .1 .1 .1 .1 .1 .1 .1 .0) (q .1), tt),
+                Make.made-enum Decoded.the-type Laws'6.the-laws tt Laws'6.lowers (m .1 .1 .1 .1 .1 .1 .1 .1 .1 .1 .1 .1 .1 .1 .1 .1 .1 .1 .1 .1 .1 .1 .1 .1 .1 .1 .0) (q .0),
+                (Signed.made-struct Entries.the-type Laws'.the-laws Laws'.lowers (m .1 .1 .1 .1 .1 .1 .1 .1 .1 .1 .1 .1 .1 .1 .1 .0) (q .1), tt),
               )) d19
 
           d21 : Typed.Typed 𝓤 H A 𝓣 E (on T79 l7) (Syntax.seq b32 b33) Δ5 at21
@@ -1984,13 +1990,13 @@ module _ (claims· : Claims) where
               Refusal.the-type) y1 Path'.refl)) d20
 
           d22 : Typed.Typed 𝓤 H A 𝓣 E (on T78 l7) (Syntax.seq b31 (Syntax.seq b32 b33)) Δ5 at22
-          d22 = Typed.s-seq 𝓤 H A W 𝓣 E (on T78 l7) (on T79 l7) b31 (Syntax.seq b32 b33) Δ5 (Typed.pass T78 T79 s74) at21 (Make.t-enum-make-wt 𝓤 H A W E 𝓣 Decoded.the-type Laws.the-laws Laws.the-plain
-              tt (on T78 l7) 26 ((Scalar.oInt Syntax.w8 1) ∷ (Scalar.oAt 37 y1 (Laws'12.val Refusal.the-type Laws'7.the-laws)) ∷ []) (λ m. Decoded.enum .make (Logic.inr (Logic.inl
+          d22 = Typed.s-seq 𝓤 H A W 𝓣 E (on T78 l7) (on T79 l7) b31 (Syntax.seq b32 b33) Δ5 (Typed.pass T78 T79 s74) at21 (Make.t-enum-make-wt 𝓤 H A W E 𝓣 Decoded.the-type Laws'6.the-laws
+              Laws'6.the-plain tt (on T78 l7) 26 ((Scalar.oInt Syntax.w8 1) ∷ (Scalar.oAt 37 y1 (Laws'12.val Refusal.the-type Laws'11.the-laws)) ∷ []) (λ m. Decoded.enum .make (Logic.inr (Logic.inl
               (m .1 .1 .1 .1 .1 .1 .1 .1 .1 .1 .1 .1 .1 .1 .1 .1 .1 .1 .1 .1 .1 .1 .1 .1 .1 .1 .1 .1 .1 .1 .1 .1 .1 .1 .1 .1 .1 .0, tt)))) (Reads'.room-gone 𝓤 H A y17)
-              (tt, ((Whole.reads-enum 𝓤 H A W Refusal.the-type Laws'7.the-laws, Path'.refl), tt)) Path'.refl (λ m wa. Make.made-val Decoded.the-type Laws.the-laws ((Laws'12.val Refusal.the-type
-              Laws'7.the-laws (m .1 .1 .1 .1 .1 .1 .1 .1 .1 .1 .1 .1 .1 .1 .1 .1 .1 .1 .1 .1 .1 .1 .1 .1 .1 .1 .1 .1 .1 .1 .1 .1 .1 .1 .1 .1 .1 .0)) ∷ []) (Decoded.enum .make (Logic.inr (Logic.inl
+              (tt, ((Whole.reads-enum 𝓤 H A W Refusal.the-type Laws'11.the-laws, Path'.refl), tt)) Path'.refl (λ m wa. Make.made-val Decoded.the-type Laws'6.the-laws ((Laws'12.val Refusal.the-type
+              Laws'11.the-laws (m .1 .1 .1 .1 .1 .1 .1 .1 .1 .1 .1 .1 .1 .1 .1 .1 .1 .1 .1 .1 .1 .1 .1 .1 .1 .1 .1 .1 .1 .1 .1 .1 .1 .1 .1 .1 .1 .0)) ∷ []) (Decoded.enum .make (Logic.inr (Logic.inl
               (m .1 .1 .1 .1 .1 .1 .1 .1 .1 .1 .1 .1 .1 .1 .1 .1 .1 .1 .1 .1 .1 .1 .1 .1 .1 .1 .1 .1 .1 .1 .1 .1 .1 .1 .1 .1 .1 .0, tt)))) (
-                Signed.made-wt Refusal.the-field Laws'7.the-field-laws (Whole.enum-wt Refusal.the-type Laws'7.the-laws (
+                Signed.made-wt Refusal.the-field Laws'11.the-field-laws (Whole.enum-wt Refusal.the-type Laws'11.the-laws (
                   tt,
                   (
                     tt,
@@ -2018,7 +2024,10 @@ module _ (claims· : Claims) where
                                           tt,
                                           (
                                             (Make'.u64-wt, (Make'.u64-wt, tt)),
-                                            ((Make'.u64-wt, tt), (tt, (tt, ((Make'.u64-wt, tt), ((Make'.u64-wt, tt), ((Make'.u64-wt, tt), (tt, (tt, ((Make'.u64-wt, (Make'.u64-wt, tt)), (tt, tt)))))))))),
+                                            (
+                                              (Make'.u64-wt, tt),
+                                              (tt, (tt, ((Make'.u64-wt, tt), ((Make'.u64-wt, tt), ((Make'.u64-wt, tt), (tt, (tt, ((Make'.u64-wt, (Make'.u64-wt, tt)), (tt, (tt, ((Make'.u64-wt, tt), tt))))))))))),
+                                            ),
                                           ),
                                         ),
                                       ),
@@ -2036,9 +2045,9 @@ module _ (claims· : Claims) where
                     (Refusal.the-type .to (m .1 .1 .1 .1 .1 .1 .1 .1 .1 .1 .1 .1 .1 .1 .1 .1 .1 .1 .1 .1 .1 .1 .1 .1 .1 .1 .1 .1 .1 .1 .1 .1 .1 .1 .1 .1 .1 .0)),
                 tt,
               ) (wa .1)) λ m wa. Make.made-is
-              Decoded.the-type Laws.the-laws ((Laws'12.val Refusal.the-type Laws'7.the-laws (m .1 .1 .1 .1 .1 .1 .1 .1 .1 .1 .1 .1 .1 .1 .1 .1 .1 .1 .1 .1 .1 .1 .1 .1 .1 .1 .1 .1 .1 .1 .1 .1 .1 .1 .1 .1
-              .1 .0)) ∷ []) (Decoded.enum .make (Logic.inr (Logic.inl (m .1 .1 .1 .1 .1 .1 .1 .1 .1 .1 .1 .1 .1 .1 .1 .1 .1 .1 .1 .1 .1 .1 .1 .1 .1 .1 .1 .1 .1 .1 .1 .1 .1 .1 .1 .1 .1 .0, tt)))) (
-                Signed.made-wt Refusal.the-field Laws'7.the-field-laws (Whole.enum-wt Refusal.the-type Laws'7.the-laws (
+              Decoded.the-type Laws'6.the-laws ((Laws'12.val Refusal.the-type Laws'11.the-laws (m .1 .1 .1 .1 .1 .1 .1 .1 .1 .1 .1 .1 .1 .1 .1 .1 .1 .1 .1 .1 .1 .1 .1 .1 .1 .1 .1 .1 .1 .1 .1 .1 .1 .1 .1
+              .1 .1 .0)) ∷ []) (Decoded.enum .make (Logic.inr (Logic.inl (m .1 .1 .1 .1 .1 .1 .1 .1 .1 .1 .1 .1 .1 .1 .1 .1 .1 .1 .1 .1 .1 .1 .1 .1 .1 .1 .1 .1 .1 .1 .1 .1 .1 .1 .1 .1 .1 .0, tt)))) (
+                Signed.made-wt Refusal.the-field Laws'11.the-field-laws (Whole.enum-wt Refusal.the-type Laws'11.the-laws (
                   tt,
                   (
                     tt,
@@ -2066,7 +2075,10 @@ module _ (claims· : Claims) where
                                           tt,
                                           (
                                             (Make'.u64-wt, (Make'.u64-wt, tt)),
-                                            ((Make'.u64-wt, tt), (tt, (tt, ((Make'.u64-wt, tt), ((Make'.u64-wt, tt), ((Make'.u64-wt, tt), (tt, (tt, ((Make'.u64-wt, (Make'.u64-wt, tt)), (tt, tt)))))))))),
+                                            (
+                                              (Make'.u64-wt, tt),
+                                              (tt, (tt, ((Make'.u64-wt, tt), ((Make'.u64-wt, tt), ((Make'.u64-wt, tt), (tt, (tt, ((Make'.u64-wt, (Make'.u64-wt, tt)), (tt, (tt, ((Make'.u64-wt, tt), tt))))))))))),
+                                            ),
                                           ),
                                         ),
                                       ),
@@ -2087,32 +2099,32 @@ module _ (claims· : Claims) where
 
           d23 : Typed.Typed 𝓤 H A 𝓣 E (on T77 l7) b36 Δ5 at23
           d23 = Typed.s-seq 𝓤 H A W 𝓣 E (on T77 l7) (on T78 l7) b30 (Syntax.seq b31 (Syntax.seq b32 b33)) Δ5 (Typed.pass T77 T78 s73) at22 (Make.t-enum-make-wt 𝓤 H A W E 𝓣 Refusal.the-type
-              Laws'7.the-laws Laws'7.the-plain tt (on T77 l7) 37 ((Scalar.oInt Syntax.w8 22) ∷ (Scalar.oAt 17 u64 (Row.valS (Row.sInt Syntax.w64))) ∷ (Scalar.oAt 23 u64 (Row.valS (Row.sInt Syntax.w64))) ∷
-              []) (λ m. Refusal.enum .make (Logic.inr (Logic.inr (Logic.inr (Logic.inr (Logic.inr (Logic.inr (Logic.inr (Logic.inr (Logic.inr (Logic.inr (Logic.inr (Logic.inr (Logic.inr (Logic.inr
+              Laws'11.the-laws Laws'11.the-plain tt (on T77 l7) 37 ((Scalar.oInt Syntax.w8 22) ∷ (Scalar.oAt 17 u64 (Row.valS (Row.sInt Syntax.w64))) ∷ (Scalar.oAt 23 u64 (Row.valS (Row.sInt Syntax.w64)))
+              ∷ []) (λ m. Refusal.enum .make (Logic.inr (Logic.inr (Logic.inr (Logic.inr (Logic.inr (Logic.inr (Logic.inr (Logic.inr (Logic.inr (Logic.inr (Logic.inr (Logic.inr (Logic.inr (Logic.inr
               (Logic.inr (Logic.inr (Logic.inr (Logic.inr (Logic.inr (Logic.inr (Logic.inr (Logic.inr (Logic.inl
               (m .1 .1 .1 .1 .1 .1 .1 .1 .1 .1 .1 .1 .1 .1 .1 .1 .1 .0, (m .1 .1 .1 .1 .1 .1 .1 .1 .1 .1 .1 .1 .1 .1 .1 .1 .1 .1 .1 .1 .1 .1 .1 .0, tt)))))))))))))))))))))))))) (Reads'.room-gone 𝓤 H A y1)
               (tt, ((Scalar.reads-sc 𝓤 H A W (Row.sInt Syntax.w64), Path'.refl), ((Scalar.reads-sc 𝓤 H A W (Row.sInt Syntax.w64), Path'.refl), tt))) Path'.refl (λ m wa. Make.made-val Refusal.the-type
-              Laws'7.the-laws ((Laws'7.the-laws .1 .1 .1 .1 .1 .1 .1 .1 .1 .1 .1 .1 .1 .1 .1 .1 .1 .1 .1 .1 .1 .1 .0 .0 .val (m .1 .1 .1 .1 .1 .1 .1 .1 .1 .1 .1 .1 .1 .1 .1 .1 .1 .0)) ∷ (Laws'7.the-laws
-              .1 .1 .1 .1 .1 .1 .1 .1 .1 .1 .1 .1 .1 .1 .1 .1 .1 .1 .1 .1 .1 .1 .0 .1 .0 .val (m .1 .1 .1 .1 .1 .1 .1 .1 .1 .1 .1 .1 .1 .1 .1 .1 .1 .1 .1 .1 .1 .1 .1 .0)) ∷ []) (Refusal.enum .make
-              (Logic.inr (Logic.inr (Logic.inr (Logic.inr (Logic.inr (Logic.inr (Logic.inr (Logic.inr (Logic.inr (Logic.inr (Logic.inr (Logic.inr (Logic.inr (Logic.inr (Logic.inr (Logic.inr (Logic.inr
-              (Logic.inr (Logic.inr (Logic.inr (Logic.inr (Logic.inr (Logic.inl
+              Laws'11.the-laws ((Laws'11.the-laws .1 .1 .1 .1 .1 .1 .1 .1 .1 .1 .1 .1 .1 .1 .1 .1 .1 .1 .1 .1 .1 .1 .0 .0 .val (m .1 .1 .1 .1 .1 .1 .1 .1 .1 .1 .1 .1 .1 .1 .1 .1 .1 .0)) ∷
+              (Laws'11.the-laws .1 .1 .1 .1 .1 .1 .1 .1 .1 .1 .1 .1 .1 .1 .1 .1 .1 .1 .1 .1 .1 .1 .0 .1 .0 .val (m .1 .1 .1 .1 .1 .1 .1 .1 .1 .1 .1 .1 .1 .1 .1 .1 .1 .1 .1 .1 .1 .1 .1 .0)) ∷ [])
+              (Refusal.enum .make (Logic.inr (Logic.inr (Logic.inr (Logic.inr (Logic.inr (Logic.inr (Logic.inr (Logic.inr (Logic.inr (Logic.inr (Logic.inr (Logic.inr (Logic.inr (Logic.inr (Logic.inr
+              (Logic.inr (Logic.inr (Logic.inr (Logic.inr (Logic.inr (Logic.inr (Logic.inr (Logic.inl
               (m .1 .1 .1 .1 .1 .1 .1 .1 .1 .1 .1 .1 .1 .1 .1 .1 .1 .0, (m .1 .1 .1 .1 .1 .1 .1 .1 .1 .1 .1 .1 .1 .1 .1 .1 .1 .1 .1 .1 .1 .1 .1 .0, tt)))))))))))))))))))))))))) (
-                Signed.made-wt Field.u64-field (Laws'7.the-laws .1 .1 .1 .1 .1 .1 .1 .1 .1 .1 .1 .1 .1 .1 .1 .1 .1 .1 .1 .1 .1 .1 .0 .0) Make'.u64-wt (m .1 .1 .1 .1 .1 .1 .1 .1 .1 .1 .1 .1 .1 .1 .1 .1 .1
+                Signed.made-wt Field.u64-field (Laws'11.the-laws .1 .1 .1 .1 .1 .1 .1 .1 .1 .1 .1 .1 .1 .1 .1 .1 .1 .1 .1 .1 .1 .1 .0 .0) Make'.u64-wt (m .1 .1 .1 .1 .1 .1 .1 .1 .1 .1 .1 .1 .1 .1 .1 .1 .1
                     .0),
                 (
-                  Signed.made-wt Field.u64-field (Laws'7.the-laws .1 .1 .1 .1 .1 .1 .1 .1 .1 .1 .1 .1 .1 .1 .1 .1 .1 .1 .1 .1 .1 .1 .0 .1 .0) Make'.u64-wt (m .1 .1 .1 .1 .1 .1 .1 .1 .1 .1 .1 .1 .1 .1 .1 .1
+                  Signed.made-wt Field.u64-field (Laws'11.the-laws .1 .1 .1 .1 .1 .1 .1 .1 .1 .1 .1 .1 .1 .1 .1 .1 .1 .1 .1 .1 .1 .1 .0 .1 .0) Make'.u64-wt (m .1 .1 .1 .1 .1 .1 .1 .1 .1 .1 .1 .1 .1 .1 .1 .1
                       .1 .1 .1 .1 .1 .1 .1 .0),
                   tt,
                 ),
-              ) (wa .1)) λ m wa. Make.made-is Refusal.the-type Laws'7.the-laws ((Laws'7.the-laws .1 .1 .1 .1 .1 .1 .1 .1 .1 .1 .1 .1 .1 .1 .1 .1 .1 .1 .1 .1 .1 .1 .0 .0 .val
-              (m .1 .1 .1 .1 .1 .1 .1 .1 .1 .1 .1 .1 .1 .1 .1 .1 .1 .0)) ∷ (Laws'7.the-laws .1 .1 .1 .1 .1 .1 .1 .1 .1 .1 .1 .1 .1 .1 .1 .1 .1 .1 .1 .1 .1 .1 .0 .1 .0 .val (m .1 .1 .1 .1 .1 .1 .1 .1 .1 .1
-              .1 .1 .1 .1 .1 .1 .1 .1 .1 .1 .1 .1 .1 .0)) ∷ []) (Refusal.enum .make (Logic.inr (Logic.inr (Logic.inr (Logic.inr (Logic.inr (Logic.inr (Logic.inr (Logic.inr (Logic.inr (Logic.inr (Logic.inr
-              (Logic.inr (Logic.inr (Logic.inr (Logic.inr (Logic.inr (Logic.inr (Logic.inr (Logic.inr (Logic.inr (Logic.inr (Logic.inr (Logic.inl
+              ) (wa .1)) λ m wa. Make.made-is Refusal.the-type Laws'11.the-laws ((Laws'11.the-laws .1 .1 .1 .1 .1 .1 .1 .1 .1 .1 .1 .1 .1 .1 .1 .1 .1 .1 .1 .1 .1 .1 .0 .0 .val
+              (m .1 .1 .1 .1 .1 .1 .1 .1 .1 .1 .1 .1 .1 .1 .1 .1 .1 .0)) ∷ (Laws'11.the-laws .1 .1 .1 .1 .1 .1 .1 .1 .1 .1 .1 .1 .1 .1 .1 .1 .1 .1 .1 .1 .1 .1 .0 .1 .0 .val (m .1 .1 .1 .1 .1 .1 .1 .1 .1
+              .1 .1 .1 .1 .1 .1 .1 .1 .1 .1 .1 .1 .1 .1 .0)) ∷ []) (Refusal.enum .make (Logic.inr (Logic.inr (Logic.inr (Logic.inr (Logic.inr (Logic.inr (Logic.inr (Logic.inr (Logic.inr (Logic.inr
+              (Logic.inr (Logic.inr (Logic.inr (Logic.inr (Logic.inr (Logic.inr (Logic.inr (Logic.inr (Logic.inr (Logic.inr (Logic.inr (Logic.inr (Logic.inl
               (m .1 .1 .1 .1 .1 .1 .1 .1 .1 .1 .1 .1 .1 .1 .1 .1 .1 .0, (m .1 .1 .1 .1 .1 .1 .1 .1 .1 .1 .1 .1 .1 .1 .1 .1 .1 .1 .1 .1 .1 .1 .1 .0, tt)))))))))))))))))))))))))) (
-                Signed.made-wt Field.u64-field (Laws'7.the-laws .1 .1 .1 .1 .1 .1 .1 .1 .1 .1 .1 .1 .1 .1 .1 .1 .1 .1 .1 .1 .1 .1 .0 .0) Make'.u64-wt (m .1 .1 .1 .1 .1 .1 .1 .1 .1 .1 .1 .1 .1 .1 .1 .1 .1
+                Signed.made-wt Field.u64-field (Laws'11.the-laws .1 .1 .1 .1 .1 .1 .1 .1 .1 .1 .1 .1 .1 .1 .1 .1 .1 .1 .1 .1 .1 .1 .0 .0) Make'.u64-wt (m .1 .1 .1 .1 .1 .1 .1 .1 .1 .1 .1 .1 .1 .1 .1 .1 .1
                     .0),
                 (
-                  Signed.made-wt Field.u64-field (Laws'7.the-laws .1 .1 .1 .1 .1 .1 .1 .1 .1 .1 .1 .1 .1 .1 .1 .1 .1 .1 .1 .1 .1 .1 .0 .1 .0) Make'.u64-wt (m .1 .1 .1 .1 .1 .1 .1 .1 .1 .1 .1 .1 .1 .1 .1 .1
+                  Signed.made-wt Field.u64-field (Laws'11.the-laws .1 .1 .1 .1 .1 .1 .1 .1 .1 .1 .1 .1 .1 .1 .1 .1 .1 .1 .1 .1 .1 .1 .0 .1 .0) Make'.u64-wt (m .1 .1 .1 .1 .1 .1 .1 .1 .1 .1 .1 .1 .1 .1 .1 .1
                       .1 .1 .1 .1 .1 .1 .1 .0),
                   tt,
                 ),
@@ -2137,12 +2149,12 @@ module _ (claims· : Claims) where
               Path'.refl)) d27
 
           d29 : Typed.Typed 𝓤 H A 𝓣 E (on T71 l7) b36 Δ5 at29
-          d29 = Typed.g-pre 𝓤 H A W 𝓣 E (on T71 l7) (on T72 l7) b36 Δ5 (Typed.pass T71 T72 s67) at28 (Scalar.g-room 𝓤 H A W E (on T71 l7) 5 y13 (Local.room-whole 𝓤 H A W (Declared'.row Rect.the-type)
-              y13 Path'.refl)) d28
+          d29 = Typed.g-pre 𝓤 H A W 𝓣 E (on T71 l7) (on T72 l7) b36 Δ5 (Typed.pass T71 T72 s67) at28 (Scalar.g-room 𝓤 H A W E (on T71 l7) 5 y11 (Local.room-whole 𝓤 H A W (Declared'.row Rect.the-type)
+              y11 Path'.refl)) d28
 
           d30 : Typed.Typed 𝓤 H A 𝓣 E (on T70 l7) b36 Δ5 at30
-          d30 = Typed.g-pre 𝓤 H A W 𝓣 E (on T70 l7) (on T71 l7) b36 Δ5 (Typed.pass T70 T71 s66) at29 (Scalar.g-room 𝓤 H A W E (on T70 l7) 4 y10 (Local.room-whole 𝓤 H A W (Declared'.row
-              FujiHeader.the-type) y10 Path'.refl)) d29
+          d30 = Typed.g-pre 𝓤 H A W 𝓣 E (on T70 l7) (on T71 l7) b36 Δ5 (Typed.pass T70 T71 s66) at29 (Scalar.g-room 𝓤 H A W E (on T70 l7) 4 y16 (Local.room-whole 𝓤 H A W (Declared'.row
+              FujiHeader.the-type) y16 Path'.refl)) d29
 
           d31 : Typed.Typed 𝓤 H A 𝓣 E (on T68 l7) b36 Δ5 at31
           d31 = Typed.g-pre 𝓤 H A W 𝓣 E (on T68 l7) (on T70 l7) b36 Δ5 (Typed.pass T68 T70 s65) at30 (Scalar.g-room 𝓤 H A W E (on T68 l7) 1 y2 (Local.room-whole 𝓤 H A W (Declared.row Camera.the-type)
@@ -2171,11 +2183,11 @@ module _ (claims· : Claims) where
               Walked.the-type) y25 Path'.refl)) d35
 
           d37 : Typed.Typed 𝓤 H A 𝓣 E (on T67 l7) (Syntax.seq b39 b40) Δ3 at37
-          d37 = Typed.s-seq 𝓤 H A W 𝓣 E (on T67 l7) (on T67 l7) b39 b40 Δ3 (Typed.both s87) at36 (Plain.t-call-plain 𝓤 H A W 𝓣 0 ps·11 r·11 (claims· .22) (claims· .23) "read_block::decoding::judged" (known
-              .11) E (λ pos β. β) (on T67 l7) (record { pos = 16; st = []; d = 0; at = λ x. x }, (Num.vAt 17 λ x. x, (record { pos = 24; st = []; d = 0; at = λ x. x }, tt))) 16 [] (Call.sub-id 𝓤 H A W
-              ((on T67 l7) .slots)) (
-                (Values.enum-copied 𝓤 H A W Decoded.the-type Laws.the-laws Laws.the-copy, Path'.refl),
-                ((Scalar.reads-sc 𝓤 H A W (Row.sInt Syntax.w64), Path'.refl), ((Values.enum-copied 𝓤 H A W Walked.the-type Laws'3.the-laws Laws'3.the-copy, Path'.refl), tt)),
+          d37 = Typed.s-seq 𝓤 H A W 𝓣 E (on T67 l7) (on T67 l7) b39 b40 Δ3 (Typed.both s87) at36 (Plain.t-call-plain 𝓤 H A W 𝓣 0 ps·11 r·11 (claims· .22) (claims· .23) "read_block::decoding::judged"
+              (known .11) E (λ pos β. β) (on T67 l7) (record { pos = 16; st = []; d = 0; at = λ x. x }, (Num.vAt 17 λ x. x, (record { pos = 24; st = []; d = 0; at = λ x. x }, tt))) 16 [] (Call.sub-id 𝓤 H
+              A W ((on T67 l7) .slots)) (
+                (Values.enum-copied 𝓤 H A W Decoded.the-type Laws'6.the-laws Laws'6.the-copy, Path'.refl),
+                ((Scalar.reads-sc 𝓤 H A W (Row.sInt Syntax.w64), Path'.refl), ((Values.enum-copied 𝓤 H A W Walked.the-type Laws'9.the-laws Laws'9.the-copy, Path'.refl), tt)),
               ) (Local.room-whole 𝓤 H A W
               (Declared.row Decoded.the-type) y17 Path'.refl) tt Path'.refl) d36
 
@@ -2193,15 +2205,15 @@ module _ (claims· : Claims) where
           d40 = Typed.g-pre 𝓤 H A W 𝓣 E (on T65 l7) (on T67 l7) b43 Δ3 (Typed.pass T65 T67 s63) at39 (Scalar.g-room 𝓤 H A W E (on T65 l7) 20 y20 (Shared.room-sslice 𝓤 H A W n8 y7 0)) d39
 
           d41 : Typed.Typed 𝓤 H A 𝓣 E (on T65 l7) (Syntax.seq b28 b43) Δ3 at41
-          d41 = Typed.s-seq 𝓤 H A W 𝓣 E (on T65 l7) (on T65 l7) b28 b43 Δ3 (Typed.both s62) at40 (Plain.t-call-plain 𝓤 H A W 𝓣 1 ps·9 r·9 (claims· .18) (claims· .19) "cameras::taking::after_block" (known .9) E
-              (λ pos β. β) (on T65 l7) (
+          d41 = Typed.s-seq 𝓤 H A W 𝓣 E (on T65 l7) (on T65 l7) b28 b43 Δ3 (Typed.both s62) at40 (Plain.t-call-plain 𝓤 H A W 𝓣 1 ps·9 r·9 (claims· .18) (claims· .19) "cameras::taking::after_block"
+              (known .9) E (λ pos β. β) (on T65 l7) (
                 record { pos = 1; st = []; d = 0; at = λ x. x },
                 (record { pos = 15; st = []; d = 0; at = λ x. x }, (Num.vAt 13 λ x. x, (record { pos = 20; ty = y7; ref = λ x. x }, (Num.vAt 23 λ x. x, (Num.vAt 25 λ x. x, tt))))),
               ) 15 (0 ∷ []) (Call.sub-id
               𝓤 H A W ((on T65 l7) .slots)) (
-                (Values.enum-copied 𝓤 H A W Camera.the-type Laws'4.the-laws Laws'4.the-copy, Path'.refl),
+                (Values.enum-copied 𝓤 H A W Camera.the-type Laws.the-laws Laws.the-copy, Path'.refl),
                 (
-                  (Values.struct-copied 𝓤 H A W Entries.the-type Laws'5.the-laws Laws'5.the-copy, Path'.refl),
+                  (Values.struct-copied 𝓤 H A W Entries.the-type Laws'.the-laws Laws'.the-copy, Path'.refl),
                   (
                     (Scalar.reads-sc 𝓤 H A W (Row.sInt Syntax.w32), Path'.refl),
                     (
@@ -2218,7 +2230,7 @@ module _ (claims· : Claims) where
           d42 : Typed.Typed 𝓤 H A 𝓣 E (on T63 l7) b45 Δ3 at42
           d42 = Typed.s-seq 𝓤 H A W 𝓣 E (on T63 l7) (on T65 l7) b27 (Syntax.seq b28 b43) Δ3 (Typed.both s61) at41 (Plain.t-call-plain 𝓤 H A W 𝓣 0 ps·8 r·8 (claims· .16) (claims· .17)
               "read_block::sharing::lines_read" (known .8) E (λ pos β. β) (on T63 l7) (record { pos = 24; st = []; d = 0; at = λ x. x }, (Num.vAt 23 λ x. x, tt)) 25 [] (Call.sub-id 𝓤 H A W ((on T63 l7)
-              .slots)) ((Values.enum-copied 𝓤 H A W Walked.the-type Laws'3.the-laws Laws'3.the-copy, Path'.refl), ((Scalar.reads-sc 𝓤 H A W (Row.sInt Syntax.w64), Path'.refl), tt)) (Reads'.room-gone 𝓤 H A
+              .slots)) ((Values.enum-copied 𝓤 H A W Walked.the-type Laws'9.the-laws Laws'9.the-copy, Path'.refl), ((Scalar.reads-sc 𝓤 H A W (Row.sInt Syntax.w64), Path'.refl), tt)) (Reads'.room-gone 𝓤 H A
               u64) tt Path'.refl) d41
 
           d43 : Typed.Typed 𝓤 H A 𝓣 E (on T63 l6) b45 Δ3 at42
@@ -2271,13 +2283,13 @@ module _ (claims· : Claims) where
           d56 = Typed.g-pre 𝓤 H A W 𝓣 E G50 G51 b45 Δ3 (λ Ψ. Ψ) at55 (Lifetime.g-end 𝓤 H A W E G50 4 Path'.refl) d55
 
           d57 : Typed.Typed 𝓤 H A 𝓣 E G49 b45 Δ3 at57
-          d57 = Typed.g-pre 𝓤 H A W 𝓣 E G49 G50 b45 Δ3 (Typed.pass T49 T50 s46) at55 (Scalar.g-room 𝓤 H A W E G49 22 y27 (Local.room-whole 𝓤 H A W (Declared'.row Took.the-type) y27 Path'.refl)) d56
+          d57 = Typed.g-pre 𝓤 H A W 𝓣 E G49 G50 b45 Δ3 (Typed.pass T49 T50 s46) at55 (Scalar.g-room 𝓤 H A W E G49 22 y28 (Local.room-whole 𝓤 H A W (Declared'.row Took.the-type) y28 Path'.refl)) d56
 
           d58 : Typed.Typed 𝓤 H A 𝓣 E G48 b45 Δ3 at58
-          d58 = Typed.g-pre 𝓤 H A W 𝓣 E G48 G49 b45 Δ3 (Typed.pass T48 T49 s45) at57 (Scalar.g-room 𝓤 H A W E G48 21 y11 (Local.room-whole 𝓤 H A W (Declared'.row Part.the-type) y11 Path'.refl)) d57
+          d58 = Typed.g-pre 𝓤 H A W 𝓣 E G48 G49 b45 Δ3 (Typed.pass T48 T49 s45) at57 (Scalar.g-room 𝓤 H A W E G48 21 y10 (Local.room-whole 𝓤 H A W (Declared'.row Part.the-type) y10 Path'.refl)) d57
 
           d59 : Typed.Typed 𝓤 H A 𝓣 E G47 b45 Δ3 at59
-          d59 = Typed.g-pre 𝓤 H A W 𝓣 E G47 G48 b45 Δ3 (Typed.pass T47 T48 s44) at58 (Scalar.g-room 𝓤 H A W E G47 18 y16 (Local.room-whole 𝓤 H A W (Declared'.row Form.the-type) y16 Path'.refl)) d58
+          d59 = Typed.g-pre 𝓤 H A W 𝓣 E G47 G48 b45 Δ3 (Typed.pass T47 T48 s44) at58 (Scalar.g-room 𝓤 H A W E G47 18 y15 (Local.room-whole 𝓤 H A W (Declared'.row Form.the-type) y15 Path'.refl)) d58
 
           d60 : Typed.Typed 𝓤 H A 𝓣 E G46 b45 Δ3 at60
           d60 = Typed.g-pre 𝓤 H A W 𝓣 E G46 G47 b45 Δ3 (Typed.pass T46 T47 s43) at59 (Local.g-drop-sref 𝓤 H A W E G46 35 7 (Array'.Array n16 768) y18 (λ x. x) (Reads'.as-is 𝓤 H A (Rows'.sref
@@ -2287,8 +2299,8 @@ module _ (claims· : Claims) where
           d61 = Typed.g-pre 𝓤 H A W 𝓣 E G45 G46 b45 Δ3 (Typed.pass T45 T46 s42) at60 (Scalar.g-room 𝓤 H A W E G45 19 y20 (Shared.room-sslice 𝓤 H A W n8 y7 0)) d60
 
           d62 : Typed.Typed 𝓤 H A 𝓣 E G44 (Syntax.seq b26 b45) Δ3 at62
-          d62 = Typed.s-seq 𝓤 H A W 𝓣 E G44 G45 b26 b45 Δ3 (Typed.both s41) at61 (Plain.t-call-plain 𝓤 H A W 𝓣 6 ps·7 r·7 (claims· .14) (claims· .15) "read_block::reading::walk" (known .7) E (λ pos β. β)
-              G44 (
+          d62 = Typed.s-seq 𝓤 H A W 𝓣 E G44 G45 b26 b45 Δ3 (Typed.both s41) at61 (Plain.t-call-plain 𝓤 H A W 𝓣 6 ps·7 r·7 (claims· .14) (claims· .15) "read_block::reading::walk" (known .7) E (λ pos β.
+              β) G44 (
                 record { pos = 19; ty = y7; ref = λ x. x },
                 (
                   record { pos = 20; ty = y7; ref = λ x. x },
@@ -2337,7 +2349,7 @@ module _ (claims· : Claims) where
                         Mut.reads-mslice 𝓤 H A W n16 y9 6,
                         Path'.refl,
                         (
-                          (Values.struct-copied 𝓤 H A W Form.the-type Laws'.the-laws Laws'.the-copy, Path'.refl),
+                          (Values.struct-copied 𝓤 H A W Form.the-type Laws'7.the-laws Laws'7.the-copy, Path'.refl),
                           (
                             ShrRef.spares-sref 𝓤 H A W (Array'.Array n16 768) y18 7,
                             Reads'.reads-sref 𝓤 H A W (Array'.Array n16 768) y18 7,
@@ -2345,7 +2357,7 @@ module _ (claims· : Claims) where
                             (
                               (Array.arr-yields 𝓤 H A W (Array.eInt Syntax.w8) (Array.eInt-laws Syntax.w8) 36, Path'.refl),
                               (
-                                (Values.struct-copied 𝓤 H A W Part.the-type Laws'8.the-laws Laws'8.the-copy, Path'.refl),
+                                (Values.struct-copied 𝓤 H A W Part.the-type Laws'3.the-laws Laws'3.the-copy, Path'.refl),
                                 (
                                   (Scalar.reads-sc 𝓤 H A W (Row.sInt Syntax.w64), Path'.refl),
                                   (
@@ -2353,9 +2365,9 @@ module _ (claims· : Claims) where
                                     (
                                       (
                                         Yields'.yields-acc 𝓤 H A W (Rows'.whole (Declared'.row Took.the-type)) (Declared'.row Entries.the-type) 8 (λ x. Took.struct .as-values x .1 .0) Path'.refl (Copies.cStruct Entries.the-type
-                                            Laws'5.the-laws Laws'5.the-copy .copy 𝓤 H A W) (Yields'.acc-record 𝓤 H A W (Rows'.whole (Declared'.row Took.the-type)) Entries.the-type 8 (λ x. Took.struct .as-values x .1 .0)
+                                            Laws'.the-laws Laws'.the-copy .copy 𝓤 H A W) (Yields'.acc-record 𝓤 H A W (Rows'.whole (Declared'.row Took.the-type)) Entries.the-type 8 (λ x. Took.struct .as-values x .1 .0)
                                             (Yields'.acc-part 𝓤 H A W (Rows'.whole (Declared'.row Took.the-type)) (Declared'.row Took.the-type) (Struct.Struct (Declared'.shape Entries.the-type)) 0 8 (λ x. x) (λ y. Entries.the-type .to
-                                            (Took.struct .as-values y .1 .0)) (Yields'.acc-whole 𝓤 H A W (Declared'.row Took.the-type)) λ y a. Behind.look-at 𝓤 H A W TreeShare.fullShare Took.the-type Laws'11.the-laws 1 8 Path'.refl
+                                            (Took.struct .as-values y .1 .0)) (Yields'.acc-whole 𝓤 H A W (Declared'.row Took.the-type)) λ y a. Behind.look-at 𝓤 H A W TreeShare.fullShare Took.the-type Laws''.the-laws 1 8 Path'.refl
                                             Path'.refl a y (Took.struct .as-values y) Path'.refl)),
                                         Path'.refl,
                                       ),
@@ -2426,32 +2438,32 @@ module _ (claims· : Claims) where
 
           d74 : Typed.Typed 𝓤 H A 𝓣 E (on T32 l7) b54 Δ3 at74
           d74 = Typed.s-seq 𝓤 H A W 𝓣 E (on T32 l7) (on T33 l7) b18 (Syntax.seq b19 (Syntax.seq b20 b51)) Δ3 (Typed.pass T32 T33 s29) at72 (Scalar.t-use 𝓤 H A W E 𝓣 (on T32 l7) (Scalar.oFld 22
-              ((Syntax.field 0) ∷ []) u64 0 (Reads.fieldV Took.the-type Laws'11.the-laws 0)) 23 (Rows'.sc-here (Row.sInt Syntax.w64)) u64 (Row.valS (Row.sInt Syntax.w64)) (Row.sInt Syntax.w64 .of)
-              (Reads.reads-field 𝓤 H A W Took.the-type Laws'11.the-laws 0 u64 0 Path'.refl, Path'.refl) (Reads'.room-gone 𝓤 H A u64) (Scalar.holds-sc 𝓤 H A W (Row.sInt Syntax.w64)) Path'.refl (λ u.
+              ((Syntax.field 0) ∷ []) u64 0 (Reads.fieldV Took.the-type Laws''.the-laws 0)) 23 (Rows'.sc-here (Row.sInt Syntax.w64)) u64 (Row.valS (Row.sInt Syntax.w64)) (Row.sInt Syntax.w64 .of)
+              (Reads.reads-field 𝓤 H A W Took.the-type Laws''.the-laws 0 u64 0 Path'.refl, Path'.refl) (Reads'.room-gone 𝓤 H A u64) (Scalar.holds-sc 𝓤 H A W (Row.sInt Syntax.w64)) Path'.refl (λ u.
               Path'.refl) λ u. tt) d73
 
           d75 : Typed.Typed 𝓤 H A 𝓣 E (on T31 l7) (Syntax.seq b17 b54) Δ3 at75
-          d75 = Typed.s-seq 𝓤 H A W 𝓣 E (on T31 l7) (on T32 l7) b17 b54 Δ3 (Typed.both s28) at74 (Plain.t-call-plain 𝓤 H A W 𝓣 1 ps·6 r·6 (claims· .12) (claims· .13) "cameras::taking::take_lines" (known .6) E
-              (λ pos β. β) (on T31 l7) (
+          d75 = Typed.s-seq 𝓤 H A W 𝓣 E (on T31 l7) (on T32 l7) b17 b54 Δ3 (Typed.both s28) at74 (Plain.t-call-plain 𝓤 H A W 𝓣 1 ps·6 r·6 (claims· .12) (claims· .13) "cameras::taking::take_lines"
+              (known .6) E (λ pos β. β) (on T31 l7) (
                 record { pos = 1; st = []; d = 0; at = λ x. x },
                 (record { pos = 15; st = []; d = 0; at = λ x. x }, (Num.vAt 13 λ x. x, (record { pos = 20; ty = y7; ref = λ x. x }, (Num.vAt 11 λ x. x, tt)))),
               ) 22 (0 ∷ []) (Call.sub-id 𝓤 H A W ((on T31 l7)
               .slots)) (
-                (Values.enum-copied 𝓤 H A W Camera.the-type Laws'4.the-laws Laws'4.the-copy, Path'.refl),
+                (Values.enum-copied 𝓤 H A W Camera.the-type Laws.the-laws Laws.the-copy, Path'.refl),
                 (
-                  (Values.struct-copied 𝓤 H A W Entries.the-type Laws'5.the-laws Laws'5.the-copy, Path'.refl),
+                  (Values.struct-copied 𝓤 H A W Entries.the-type Laws'.the-laws Laws'.the-copy, Path'.refl),
                   (
                     (Scalar.reads-sc 𝓤 H A W (Row.sInt Syntax.w32), Path'.refl),
                     (ShrSlice.spares-sslice 𝓤 H A W n8 y7 0, Shared.reads-sslice 𝓤 H A W n8 y7 0, Path'.refl, ((Scalar.reads-sc 𝓤 H A W (Row.sInt Syntax.w64), Path'.refl), tt)),
                   ),
                 ),
-              ) (Reads'.room-gone 𝓤 H A y27)
+              ) (Reads'.room-gone 𝓤 H A y28)
               (tt, tt) Path'.refl) d74
 
           d76 : Typed.Typed 𝓤 H A 𝓣 E (on T30 l7) (Syntax.seq b16 (Syntax.seq b17 b54)) Δ3 at76
-          d76 = Typed.s-seq 𝓤 H A W 𝓣 E (on T30 l7) (on T31 l7) b16 (Syntax.seq b17 b54) Δ3 (Typed.both s27) at75 (Plain.t-call-plain 𝓤 H A W 𝓣 0 ps·5 r·5 (claims· .10) (claims· .11) "image_region::part"
-              (known .5) E (λ pos β. β) (on T30 l7) (record { pos = 5; st = []; d = 0; at = λ x. x }, (Num.vAt 17 λ x. x, tt)) 21 [] (Call.sub-id 𝓤 H A W ((on T30 l7) .slots))
-              ((Values.struct-copied 𝓤 H A W Rect.the-type Laws'9.the-laws Laws'9.the-copy, Path'.refl), ((Scalar.reads-sc 𝓤 H A W (Row.sInt Syntax.w64), Path'.refl), tt)) (Reads'.room-gone 𝓤 H A y11) tt
+          d76 = Typed.s-seq 𝓤 H A W 𝓣 E (on T30 l7) (on T31 l7) b16 (Syntax.seq b17 b54) Δ3 (Typed.both s27) at75 (Plain.t-call-plain 𝓤 H A W 𝓣 0 ps·5 r·5 (claims· .10) (claims· .11)
+              "image_region::part" (known .5) E (λ pos β. β) (on T30 l7) (record { pos = 5; st = []; d = 0; at = λ x. x }, (Num.vAt 17 λ x. x, tt)) 21 [] (Call.sub-id 𝓤 H A W ((on T30 l7) .slots))
+              ((Values.struct-copied 𝓤 H A W Rect.the-type Laws'4.the-laws Laws'4.the-copy, Path'.refl), ((Scalar.reads-sc 𝓤 H A W (Row.sInt Syntax.w64), Path'.refl), tt)) (Reads'.room-gone 𝓤 H A y10) tt
               Path'.refl) d75
 
           d77 : Typed.Typed 𝓤 H A 𝓣 E (on T29 l7) b57 Δ3 at77
@@ -2467,9 +2479,9 @@ module _ (claims· : Claims) where
               (tt, tt) (Path'.refl, λ b o k. tt)) d77
 
           d79 : Typed.Typed 𝓤 H A 𝓣 E (on T18 l7) (Syntax.seq b13 (Syntax.seq b14 b57)) Δ3 at79
-          d79 = Typed.s-seq 𝓤 H A W 𝓣 E (on T18 l7) (on T28 l7) b13 (Syntax.seq b14 b57) Δ3 (Typed.both s24) at78 (Plain.t-call-plain 𝓤 H A W 𝓣 0 ps·2 r·2 (claims· .4) (claims· .5) "read_block::form_of"
-              (known .2) E (λ pos β. β) (on T18 l7) (record { pos = 4; st = []; d = 0; at = λ x. x }, tt) 18 [] (Call.sub-id 𝓤 H A W ((on T18 l7) .slots))
-              ((Values.struct-copied 𝓤 H A W FujiHeader.the-type Laws'6.the-laws Laws'6.the-copy, Path'.refl), tt) (Reads'.room-gone 𝓤 H A y16) tt Path'.refl) d78
+          d79 = Typed.s-seq 𝓤 H A W 𝓣 E (on T18 l7) (on T28 l7) b13 (Syntax.seq b14 b57) Δ3 (Typed.both s24) at78 (Plain.t-call-plain 𝓤 H A W 𝓣 0 ps·2 r·2 (claims· .4) (claims· .5)
+              "read_block::form_of" (known .2) E (λ pos β. β) (on T18 l7) (record { pos = 4; st = []; d = 0; at = λ x. x }, tt) 18 [] (Call.sub-id 𝓤 H A W ((on T18 l7) .slots))
+              ((Values.struct-copied 𝓤 H A W FujiHeader.the-type Laws'10.the-laws Laws'10.the-copy, Path'.refl), tt) (Reads'.room-gone 𝓤 H A y15) tt Path'.refl) d78
 
           d80 : Typed.Typed 𝓤 H A 𝓣 E (on T19 l7) b60 Δ3 at80
           d80 = Typed.t-seq 𝓤 H A W 𝓣 E (on T19 l7) (on T18 l7) b12 (Syntax.seq b13 (Syntax.seq b14 b57)) Δ3 at9 at79 d9 d79
@@ -2492,8 +2504,8 @@ module _ (claims· : Claims) where
           d83 = Typed.t-block 𝓤 H A W 𝓣 E (on T18 l7) (Syntax.loop (Syntax.seq b9 b60)) Δ1 at82 d82
 
           d84 : Typed.Typed 𝓤 H A 𝓣 E (on T16 l7) b63 Δ1 at84
-          d84 = Typed.g-pre 𝓤 H A W 𝓣 E (on T16 l7) (on T18 l7) b63 Δ1 (Typed.pass T16 T18 s15) at83 (Scalar.g-room 𝓤 H A W E (on T16 l7) 10 y14 (Local.room-whole 𝓤 H A W (Declared'.row Span.the-type)
-              y14 Path'.refl)) d83
+          d84 = Typed.g-pre 𝓤 H A W 𝓣 E (on T16 l7) (on T18 l7) b63 Δ1 (Typed.pass T16 T18 s15) at83 (Scalar.g-room 𝓤 H A W E (on T16 l7) 10 y12 (Local.room-whole 𝓤 H A W (Declared'.row Span.the-type)
+              y12 Path'.refl)) d83
 
           d85 : Typed.Typed 𝓤 H A 𝓣 E (on T1 l7) b65 Δ0 at85
           d85 = Typed.t-return 𝓤 H A W 𝓣 E Δ0 tt
@@ -2525,29 +2537,29 @@ module _ (claims· : Claims) where
 
           d93 : Typed.Typed 𝓤 H A 𝓣 E (on T17 l7) (Syntax.seq b64 b65) Δ0 at93
           d93 = Typed.s-seq 𝓤 H A W 𝓣 E (on T17 l7) (on T97 l7) b64 b65 Δ0 (Typed.pass T17 T97 s92) at92 (Make'.t-make-told 𝓤 H A W E 𝓣 (Declared'.row (Apart.apartT SharedAnswer.the-type)) Path'.refl
-              (Laws'14.val (Apart.apartT SharedAnswer.the-type) Laws''.the-laws) (Laws'14.lawful (Apart.apartT SharedAnswer.the-type) Laws''.the-laws 𝓤 H A W) (Laws'14.makes (Apart.apartT
-              SharedAnswer.the-type) Laws''.the-plain 𝓤 H A) (on T17 l7) 0 ((Scalar.oAt 16 y17 (Laws'12.val Decoded.the-type Laws.the-laws)) ∷ (Scalar.oAt 15 y26 (Laws'14.val Entries.the-type
-              Laws'5.the-laws)) ∷ []) (λ m. (m .1 .1 .1 .1 .1 .1 .1 .1 .1 .1 .1 .1 .1 .1 .1 .1 .0, (m .1 .1 .1 .1 .1 .1 .1 .1 .1 .1 .1 .1 .1 .1 .1 .0, tt))) (λ m. Laws'13.Is (Declared.row
-              Decoded.the-type) (m .1 .1 .1 .1 .1 .1 .1 .1 .1 .1 .1 .1 .1 .1 .1 .1 .0) (Laws'12.vals Decoded.the-type Laws.the-laws (m .1 .1 .1 .1 .1 .1 .1 .1 .1 .1 .1 .1 .1 .1 .1 .1 .0)) × Laws'13.Is
-              (Declared'.row Entries.the-type) (m .1 .1 .1 .1 .1 .1 .1 .1 .1 .1 .1 .1 .1 .1 .1 .0) (Laws'14.vals Entries.the-type Laws'5.the-laws (m .1 .1 .1 .1 .1 .1 .1 .1 .1 .1 .1 .1 .1 .1 .1 .0)))
-              (Reads'.room-gone 𝓤 H A y28) ((Whole.reads-enum 𝓤 H A W Decoded.the-type Laws.the-laws, Path'.refl), ((Reads.reads-struct 𝓤 H A W Entries.the-type Laws'5.the-laws, Path'.refl), tt))
-              Path'.refl (λ ρ m. Make'.tells-both 𝓤 H A W E ρ (Row.out 0 ((on T17 l7) .locals)) m (Laws'13.Is (Declared.row Decoded.the-type) (m .1 .1 .1 .1 .1 .1 .1 .1 .1 .1 .1 .1 .1 .1 .1 .1 .0)
-              (Laws'12.vals Decoded.the-type Laws.the-laws (m .1 .1 .1 .1 .1 .1 .1 .1 .1 .1 .1 .1 .1 .1 .1 .1 .0))) (Laws'13.Is (Declared'.row Entries.the-type) (m .1 .1 .1 .1 .1 .1 .1 .1 .1 .1 .1 .1 .1
-              .1 .1 .0) (Laws'14.vals Entries.the-type Laws'5.the-laws (m .1 .1 .1 .1 .1 .1 .1 .1 .1 .1 .1 .1 .1 .1 .1 .0))) (Make'.tells-row 𝓤 H A W E ρ (Row.out 0 ((on T17 l7) .locals)) m 16 (Laws'13.Is
-              (Declared.row Decoded.the-type) (m .1 .1 .1 .1 .1 .1 .1 .1 .1 .1 .1 .1 .1 .1 .1 .1 .0) (Laws'12.vals Decoded.the-type Laws.the-laws (m .1 .1 .1 .1 .1 .1 .1 .1 .1 .1 .1 .1 .1 .1 .1 .1 .0)))
-              (Make'.whole-is 𝓤 H A W E (Declared.row Decoded.the-type) Path'.refl (Laws'12.val Decoded.the-type Laws.the-laws) (Laws'12.tells Decoded.the-type Laws.the-laws) ρ 16 (m .1 .1 .1 .1 .1 .1 .1
-              .1 .1 .1 .1 .1 .1 .1 .1 .1 .0))) (Make'.tells-row 𝓤 H A W E ρ (Row.out 0 ((on T17 l7) .locals)) m 15 (Laws'13.Is (Declared'.row Entries.the-type) (m .1 .1 .1 .1 .1 .1 .1 .1 .1 .1 .1 .1 .1 .1
-              .1 .0) (Laws'14.vals Entries.the-type Laws'5.the-laws (m .1 .1 .1 .1 .1 .1 .1 .1 .1 .1 .1 .1 .1 .1 .1 .0))) (Make'.whole-is 𝓤 H A W E (Declared'.row Entries.the-type) Path'.refl (Laws'14.val
-              Entries.the-type Laws'5.the-laws) (Laws'14.tells Entries.the-type Laws'5.the-laws) ρ 15 (m .1 .1 .1 .1 .1 .1 .1 .1 .1 .1 .1 .1 .1 .1 .1 .0)))) (λ m q. Signed.made-val (Apart.apartT
-              SharedAnswer.the-type) Laws''.the-laws ((Laws'12.val Decoded.the-type Laws.the-laws (m .1 .1 .1 .1 .1 .1 .1 .1 .1 .1 .1 .1 .1 .1 .1 .1 .0)) ∷ (Laws'14.val Entries.the-type Laws'5.the-laws (m
-              .1 .1 .1 .1 .1 .1 .1 .1 .1 .1 .1 .1 .1 .1 .1 .0)) ∷ []) (m .1 .1 .1 .1 .1 .1 .1 .1 .1 .1 .1 .1 .1 .1 .1 .1 .0, (m .1 .1 .1 .1 .1 .1 .1 .1 .1 .1 .1 .1 .1 .1 .1 .0, tt)) (
-                Make.made-enum Decoded.the-type Laws.the-laws tt Laws.lowers (m .1 .1 .1 .1 .1 .1 .1 .1 .1 .1 .1 .1 .1 .1 .1 .1 .0) (q .0),
-                (Signed.made-struct Entries.the-type Laws'5.the-laws Laws'5.lowers (m .1 .1 .1 .1 .1 .1 .1 .1 .1 .1 .1 .1 .1 .1 .1 .0) (q .1), tt),
-              )) λ m q. Signed.made-is (Apart.apartT
-              SharedAnswer.the-type) Laws''.the-laws ((Laws'12.val Decoded.the-type Laws.the-laws (m .1 .1 .1 .1 .1 .1 .1 .1 .1 .1 .1 .1 .1 .1 .1 .1 .0)) ∷ (Laws'14.val Entries.the-type Laws'5.the-laws (m
-              .1 .1 .1 .1 .1 .1 .1 .1 .1 .1 .1 .1 .1 .1 .1 .0)) ∷ []) (m .1 .1 .1 .1 .1 .1 .1 .1 .1 .1 .1 .1 .1 .1 .1 .1 .0, (m .1 .1 .1 .1 .1 .1 .1 .1 .1 .1 .1 .1 .1 .1 .1 .0, tt)) (
-                Make.made-enum Decoded.the-type Laws.the-laws tt Laws.lowers (m .1 .1 .1 .1 .1 .1 .1 .1 .1 .1 .1 .1 .1 .1 .1 .1 .0) (q .0),
-                (Signed.made-struct Entries.the-type Laws'5.the-laws Laws'5.lowers (m .1 .1 .1 .1 .1 .1 .1 .1 .1 .1 .1 .1 .1 .1 .1 .0) (q .1), tt),
+              (Laws'14.val (Apart.apartT SharedAnswer.the-type) Laws'8.the-laws) (Laws'14.lawful (Apart.apartT SharedAnswer.the-type) Laws'8.the-laws 𝓤 H A W) (Laws'14.makes (Apart.apartT
+              SharedAnswer.the-type) Laws'8.the-plain 𝓤 H A) (on T17 l7) 0 ((Scalar.oAt 16 y17 (Laws'12.val Decoded.the-type Laws'6.the-laws)) ∷ (Scalar.oAt 15 y26 (Laws'14.val Entries.the-type
+              Laws'.the-laws)) ∷ []) (λ m. (m .1 .1 .1 .1 .1 .1 .1 .1 .1 .1 .1 .1 .1 .1 .1 .1 .0, (m .1 .1 .1 .1 .1 .1 .1 .1 .1 .1 .1 .1 .1 .1 .1 .0, tt))) (λ m. Laws'13.Is (Declared.row Decoded.the-type)
+              (m .1 .1 .1 .1 .1 .1 .1 .1 .1 .1 .1 .1 .1 .1 .1 .1 .0) (Laws'12.vals Decoded.the-type Laws'6.the-laws (m .1 .1 .1 .1 .1 .1 .1 .1 .1 .1 .1 .1 .1 .1 .1 .1 .0)) × Laws'13.Is (Declared'.row
+              Entries.the-type) (m .1 .1 .1 .1 .1 .1 .1 .1 .1 .1 .1 .1 .1 .1 .1 .0) (Laws'14.vals Entries.the-type Laws'.the-laws (m .1 .1 .1 .1 .1 .1 .1 .1 .1 .1 .1 .1 .1 .1 .1 .0))) (Reads'.room-gone 𝓤
+              H A y27) ((Whole.reads-enum 𝓤 H A W Decoded.the-type Laws'6.the-laws, Path'.refl), ((Reads.reads-struct 𝓤 H A W Entries.the-type Laws'.the-laws, Path'.refl), tt)) Path'.refl (λ ρ m.
+              Make'.tells-both 𝓤 H A W E ρ (Row.out 0 ((on T17 l7) .locals)) m (Laws'13.Is (Declared.row Decoded.the-type) (m .1 .1 .1 .1 .1 .1 .1 .1 .1 .1 .1 .1 .1 .1 .1 .1 .0) (Laws'12.vals
+              Decoded.the-type Laws'6.the-laws (m .1 .1 .1 .1 .1 .1 .1 .1 .1 .1 .1 .1 .1 .1 .1 .1 .0))) (Laws'13.Is (Declared'.row Entries.the-type) (m .1 .1 .1 .1 .1 .1 .1 .1 .1 .1 .1 .1 .1 .1 .1 .0)
+              (Laws'14.vals Entries.the-type Laws'.the-laws (m .1 .1 .1 .1 .1 .1 .1 .1 .1 .1 .1 .1 .1 .1 .1 .0))) (Make'.tells-row 𝓤 H A W E ρ (Row.out 0 ((on T17 l7) .locals)) m 16 (Laws'13.Is
+              (Declared.row Decoded.the-type) (m .1 .1 .1 .1 .1 .1 .1 .1 .1 .1 .1 .1 .1 .1 .1 .1 .0) (Laws'12.vals Decoded.the-type Laws'6.the-laws (m .1 .1 .1 .1 .1 .1 .1 .1 .1 .1 .1 .1 .1 .1 .1 .1 .0)))
+              (Make'.whole-is 𝓤 H A W E (Declared.row Decoded.the-type) Path'.refl (Laws'12.val Decoded.the-type Laws'6.the-laws) (Laws'12.tells Decoded.the-type Laws'6.the-laws) ρ 16 (m .1 .1 .1 .1 .1 .1
+              .1 .1 .1 .1 .1 .1 .1 .1 .1 .1 .0))) (Make'.tells-row 𝓤 H A W E ρ (Row.out 0 ((on T17 l7) .locals)) m 15 (Laws'13.Is (Declared'.row Entries.the-type) (m .1 .1 .1 .1 .1 .1 .1 .1 .1 .1 .1 .1 .1
+              .1 .1 .0) (Laws'14.vals Entries.the-type Laws'.the-laws (m .1 .1 .1 .1 .1 .1 .1 .1 .1 .1 .1 .1 .1 .1 .1 .0))) (Make'.whole-is 𝓤 H A W E (Declared'.row Entries.the-type) Path'.refl
+              (Laws'14.val Entries.the-type Laws'.the-laws) (Laws'14.tells Entries.the-type Laws'.the-laws) ρ 15 (m .1 .1 .1 .1 .1 .1 .1 .1 .1 .1 .1 .1 .1 .1 .1 .0)))) (λ m q. Signed.made-val
+              (Apart.apartT SharedAnswer.the-type) Laws'8.the-laws ((Laws'12.val Decoded.the-type Laws'6.the-laws (m .1 .1 .1 .1 .1 .1 .1 .1 .1 .1 .1 .1 .1 .1 .1 .1 .0)) ∷ (Laws'14.val Entries.the-type
+              Laws'.the-laws (m .1 .1 .1 .1 .1 .1 .1 .1 .1 .1 .1 .1 .1 .1 .1 .0)) ∷ []) (m .1 .1 .1 .1 .1 .1 .1 .1 .1 .1 .1 .1 .1 .1 .1 .1 .0, (m .1 .1 .1 .1 .1 .1 .1 .1 .1 .1 .1 .1 .1 .1 .1 .0, tt)) (
+                Make.made-enum Decoded.the-type Laws'6.the-laws tt Laws'6.lowers (m .1 .1 .1 .1 .1 .1 .1 .1 .1 .1 .1 .1 .1 .1 .1 .1 .0) (q .0),
+                (Signed.made-struct Entries.the-type Laws'.the-laws Laws'.lowers (m .1 .1 .1 .1 .1 .1 .1 .1 .1 .1 .1 .1 .1 .1 .1 .0) (q .1), tt),
+              )) λ m q. Signed.made-is (Apart.apartT SharedAnswer.the-type)
+              Laws'8.the-laws ((Laws'12.val Decoded.the-type Laws'6.the-laws (m .1 .1 .1 .1 .1 .1 .1 .1 .1 .1 .1 .1 .1 .1 .1 .1 .0)) ∷ (Laws'14.val Entries.the-type Laws'.the-laws (m .1 .1 .1 .1 .1 .1 .1
+              .1 .1 .1 .1 .1 .1 .1 .1 .0)) ∷ []) (m .1 .1 .1 .1 .1 .1 .1 .1 .1 .1 .1 .1 .1 .1 .1 .1 .0, (m .1 .1 .1 .1 .1 .1 .1 .1 .1 .1 .1 .1 .1 .1 .1 .0, tt)) (
+                Make.made-enum Decoded.the-type Laws'6.the-laws tt Laws'6.lowers (m .1 .1 .1 .1 .1 .1 .1 .1 .1 .1 .1 .1 .1 .1 .1 .1 .0) (q .0),
+                (Signed.made-struct Entries.the-type Laws'.the-laws Laws'.lowers (m .1 .1 .1 .1 .1 .1 .1 .1 .1 .1 .1 .1 .1 .1 .1 .0) (q .1), tt),
               )) d92
 
           d94 : Typed.Typed 𝓤 H A 𝓣 E (on T16 l7) (Syntax.seq b63 (Syntax.seq b64 b65)) Δ0 at94
@@ -2555,14 +2567,14 @@ module _ (claims· : Claims) where
 
           d95 : Typed.Typed 𝓤 H A 𝓣 E (on T15 l7) b68 Δ0 at95
           d95 = Typed.s-seq 𝓤 H A W 𝓣 E (on T15 l7) (on T16 l7) b8 (Syntax.seq b63 (Syntax.seq b64 b65)) Δ0 (Typed.pass T15 T16 s14) at94 (Scalar.t-use 𝓤 H A W E 𝓣 (on T15 l7) (Scalar.oFld 10
-              ((Syntax.field 0) ∷ []) u64 0 (Reads.fieldV Span.the-type Laws'10.the-laws 0)) 17 (Rows'.sc-here (Row.sInt Syntax.w64)) u64 (Row.valS (Row.sInt Syntax.w64)) (Row.sInt Syntax.w64 .of)
-              (Reads.reads-field 𝓤 H A W Span.the-type Laws'10.the-laws 0 u64 0 Path'.refl, Path'.refl) (Reads'.room-gone 𝓤 H A u64) (Scalar.holds-sc 𝓤 H A W (Row.sInt Syntax.w64)) Path'.refl (λ u.
+              ((Syntax.field 0) ∷ []) u64 0 (Reads.fieldV Span.the-type Laws'5.the-laws 0)) 17 (Rows'.sc-here (Row.sInt Syntax.w64)) u64 (Row.valS (Row.sInt Syntax.w64)) (Row.sInt Syntax.w64 .of)
+              (Reads.reads-field 𝓤 H A W Span.the-type Laws'5.the-laws 0 u64 0 Path'.refl, Path'.refl) (Reads'.room-gone 𝓤 H A u64) (Scalar.holds-sc 𝓤 H A W (Row.sInt Syntax.w64)) Path'.refl (λ u.
               Path'.refl) λ u. tt) d94
 
           d96 : Typed.Typed 𝓤 H A 𝓣 E (on T14 l7) (Syntax.seq b7 b68) Δ0 at96
-          d96 = Typed.s-seq 𝓤 H A W 𝓣 E (on T14 l7) (on T15 l7) b7 b68 Δ0 (Typed.pass T14 T15 s13) at95 (Make.t-enum-make-wt 𝓤 H A W E 𝓣 Decoded.the-type Laws.the-laws Laws.the-plain tt (on T14 l7) 16
-              ((Scalar.oInt Syntax.w8 0) ∷ []) (λ m. Decoded.enum .make (Logic.inl tt)) (Reads'.room-gone 𝓤 H A y17) (tt, tt) Path'.refl (λ m wa. Make.made-val Decoded.the-type Laws.the-laws []
-              (Decoded.enum .make (Logic.inl tt)) tt (wa .1)) λ m wa. Make.made-is Decoded.the-type Laws.the-laws [] (Decoded.enum .make (Logic.inl tt)) tt (wa .1)) d95
+          d96 = Typed.s-seq 𝓤 H A W 𝓣 E (on T14 l7) (on T15 l7) b7 b68 Δ0 (Typed.pass T14 T15 s13) at95 (Make.t-enum-make-wt 𝓤 H A W E 𝓣 Decoded.the-type Laws'6.the-laws Laws'6.the-plain tt (on T14
+              l7) 16 ((Scalar.oInt Syntax.w8 0) ∷ []) (λ m. Decoded.enum .make (Logic.inl tt)) (Reads'.room-gone 𝓤 H A y17) (tt, tt) Path'.refl (λ m wa. Make.made-val Decoded.the-type Laws'6.the-laws []
+              (Decoded.enum .make (Logic.inl tt)) tt (wa .1)) λ m wa. Make.made-is Decoded.the-type Laws'6.the-laws [] (Decoded.enum .make (Logic.inl tt)) tt (wa .1)) d95
 
           d97 : Typed.Typed 𝓤 H A 𝓣 E (on T13 l7) (Syntax.seq b7 b68) Δ0 at97
           d97 = Typed.g-pre 𝓤 H A W 𝓣 E (on T13 l7) (on T14 l7) (Syntax.seq b7 b68) Δ0 (Typed.pass T13 T14 s12) at96 (Scalar.g-room 𝓤 H A W E (on T13 l7) 2 y26 (Local.room-whole 𝓤 H A W (Declared'.row
@@ -2571,8 +2583,8 @@ module _ (claims· : Claims) where
           d98 : Typed.Typed 𝓤 H A 𝓣 E (on T12 l7) (Syntax.seq b6 (Syntax.seq b7 b68)) Δ0 at98
           d98 = Typed.s-seq 𝓤 H A W 𝓣 E (on T12 l7) (on T13 l7) b6 (Syntax.seq b7 b68) Δ0 (Typed.pass T12 T13 s11) at97 (LocalCopy.t-val-copy 𝓤 H A W E 𝓣 (λ ρ. Unit) (on T12 l7) 2 15 (Declared'.row
               Entries.the-type) y26 y26 (Rows'.whole (Declared'.row Entries.the-type)) (Rows'.whole (Declared'.row Entries.the-type)) (λ x. x) (λ x. x) (λ x. x) Path'.refl (Own.told-none 𝓤 H A ((on T12
-              l7) .slots)) (Values.struct-copied 𝓤 H A W Entries.the-type Laws'5.the-laws Laws'5.the-copy) (Reads'.room-gone 𝓤 H A y26) (Yields.makes-mem 𝓤 H A W (λ ρ. Unit) (Declared'.row
-              Entries.the-type) Path'.refl (Rows'.whole (Declared'.row Entries.the-type)) (λ x. x) λ ρ told. Local.whole-mem 𝓤 H A W (Declared'.row Entries.the-type) ρ) Path'.refl Path'.refl) d97
+              l7) .slots)) (Values.struct-copied 𝓤 H A W Entries.the-type Laws'.the-laws Laws'.the-copy) (Reads'.room-gone 𝓤 H A y26) (Yields.makes-mem 𝓤 H A W (λ ρ. Unit) (Declared'.row Entries.the-type)
+              Path'.refl (Rows'.whole (Declared'.row Entries.the-type)) (λ x. x) λ ρ told. Local.whole-mem 𝓤 H A W (Declared'.row Entries.the-type) ρ) Path'.refl Path'.refl) d97
 
           d99 : Typed.Typed 𝓤 H A 𝓣 E (on T11 l7) (Syntax.seq b6 (Syntax.seq b7 b68)) Δ0 at99
           d99 = Typed.g-pre 𝓤 H A W 𝓣 E (on T11 l7) (on T12 l7) (Syntax.seq b6 (Syntax.seq b7 b68)) Δ0 (Typed.pass T11 T12 s10) at98 (Scalar.g-room 𝓤 H A W E (on T11 l7) 27 y0 (Init.room-arr 𝓤 H A W
@@ -2586,35 +2598,35 @@ module _ (claims· : Claims) where
               ρ told. Whole'.arr-mem 𝓤 H A W n16 768 tt ρ) Path'.refl Path'.refl) d99
 
           d101 : Typed.Typed 𝓤 H A 𝓣 E (on T9 l7) (Syntax.seq b4 b71) Δ0 at101
-          d101 = Typed.s-seq 𝓤 H A W 𝓣 E (on T9 l7) (on T10 l7) b4 b71 Δ0 (Typed.both s8) at100 (Plain.t-call-plain 𝓤 H A W 𝓣 0 ps·1 r·1 (claims· .2) (claims· .3) "image_map::xtrans_places" (known .1) E (λ
-              pos β. β) (on T9 l7) tt 27 [] (Call.sub-id 𝓤 H A W ((on T9 l7) .slots)) tt (Reads'.room-gone 𝓤 H A y0) tt Path'.refl) d100
+          d101 = Typed.s-seq 𝓤 H A W 𝓣 E (on T9 l7) (on T10 l7) b4 b71 Δ0 (Typed.both s8) at100 (Plain.t-call-plain 𝓤 H A W 𝓣 0 ps·1 r·1 (claims· .2) (claims· .3) "image_map::xtrans_places" (known .1)
+              E (λ pos β. β) (on T9 l7) tt 27 [] (Call.sub-id 𝓤 H A W ((on T9 l7) .slots)) tt (Reads'.room-gone 𝓤 H A y0) tt Path'.refl) d100
 
           d102 : Typed.Typed 𝓤 H A 𝓣 E (on T8 l7) (Syntax.seq b3 (Syntax.seq b4 b71)) Δ0 at102
           d102 = Typed.s-seq 𝓤 H A W 𝓣 E (on T8 l7) (on T9 l7) b3 (Syntax.seq b4 b71) Δ0 (Typed.pass T8 T9 s7) at101 (Scalar.t-use 𝓤 H A W E 𝓣 (on T8 l7) (Scalar.oFld 4 ((Syntax.field 2) ∷ []) u32 4
-              (Reads.fieldV FujiHeader.the-type Laws'6.the-laws 2)) 13 (Rows'.sc-here (Row.sInt Syntax.w32)) u32 (Row.valS (Row.sInt Syntax.w32)) (Row.sInt Syntax.w32 .of)
-              (Reads.reads-field 𝓤 H A W FujiHeader.the-type Laws'6.the-laws 2 u32 4 Path'.refl, Path'.refl) (Reads'.room-gone 𝓤 H A u32) (Scalar.holds-sc 𝓤 H A W (Row.sInt Syntax.w32)) Path'.refl (λ u.
+              (Reads.fieldV FujiHeader.the-type Laws'10.the-laws 2)) 13 (Rows'.sc-here (Row.sInt Syntax.w32)) u32 (Row.valS (Row.sInt Syntax.w32)) (Row.sInt Syntax.w32 .of)
+              (Reads.reads-field 𝓤 H A W FujiHeader.the-type Laws'10.the-laws 2 u32 4 Path'.refl, Path'.refl) (Reads'.room-gone 𝓤 H A u32) (Scalar.holds-sc 𝓤 H A W (Row.sInt Syntax.w32)) Path'.refl (λ u.
               Path'.refl) λ u. tt) d101
 
           d103 : Typed.Typed 𝓤 H A 𝓣 E (on T6 l7) b74 Δ0 at103
           d103 = Typed.s-seq 𝓤 H A W 𝓣 E (on T6 l7) (on T8 l7) b2 (Syntax.seq b3 (Syntax.seq b4 b71)) Δ0 (Typed.ask s6) at102 (Scalar.t-op2 𝓤 H A W E 𝓣 (on T6 l7) (Syntax.add Syntax.unsigned)
-              (Scalar.oFld 10 ((Syntax.field 1) ∷ []) u64 8 (Reads.fieldV Span.the-type Laws'10.the-laws 1)) (Scalar.oInt Syntax.w64 1) 12 (Rows'.sc-here (Row.sInt Syntax.w64)) u64 (Row.valS (Row.sInt
-              Syntax.w64)) (Row.sInt Syntax.w64 .of) (Reads.reads-field 𝓤 H A W Span.the-type Laws'10.the-laws 1 u64 8 Path'.refl, Path'.refl) tt (Reads'.room-gone 𝓤 H A u64) (Scalar.holds-sc 𝓤 H A W
+              (Scalar.oFld 10 ((Syntax.field 1) ∷ []) u64 8 (Reads.fieldV Span.the-type Laws'5.the-laws 1)) (Scalar.oInt Syntax.w64 1) 12 (Rows'.sc-here (Row.sInt Syntax.w64)) u64 (Row.valS (Row.sInt
+              Syntax.w64)) (Row.sInt Syntax.w64 .of) (Reads.reads-field 𝓤 H A W Span.the-type Laws'5.the-laws 1 u64 8 Path'.refl, Path'.refl) tt (Reads'.room-gone 𝓤 H A u64) (Scalar.holds-sc 𝓤 H A W
               (Row.sInt Syntax.w64)) Path'.refl (λ u. Path'.refl) λ u. tt) d102
 
           d104 : Typed.Typed 𝓤 H A 𝓣 E (on T6 l7) b74 Δ0 at104
-          d104 = Typed.g-pre 𝓤 H A W 𝓣 E (on T6 l7) (on T6 l7) b74 Δ0 (Typed.give s5) at103 (Know'.g-struct-known 𝓤 H A W E Span.the-type Laws'10.the-laws (on T6 l7) 10 (λ x. x) (Reads'.as-is 𝓤 H A
+          d104 = Typed.g-pre 𝓤 H A W 𝓣 E (on T6 l7) (on T6 l7) b74 Δ0 (Typed.give s5) at103 (Know'.g-struct-known 𝓤 H A W E Span.the-type Laws'5.the-laws (on T6 l7) 10 (λ x. x) (Reads'.as-is 𝓤 H A
               (Rows'.whole (Declared'.row Span.the-type)))) d103
 
           d105 : Typed.Typed 𝓤 H A 𝓣 E (on T5 l7) (Syntax.seq b1 b74) Δ0 at105
           d105 = Typed.s-seq 𝓤 H A W 𝓣 E (on T5 l7) (on T6 l7) b1 b74 Δ0 (Typed.pass T5 T6 s4) at104 (Scalar.t-use 𝓤 H A W E 𝓣 (on T5 l7) (Scalar.oFld 10 ((Syntax.field 2) ∷ []) u64 16 (Reads.fieldV
-              Span.the-type Laws'10.the-laws 2)) 11 (Rows'.sc-here (Row.sInt Syntax.w64)) u64 (Row.valS (Row.sInt Syntax.w64)) (Row.sInt Syntax.w64 .of)
-              (Reads.reads-field 𝓤 H A W Span.the-type Laws'10.the-laws 2 u64 16 Path'.refl, Path'.refl) (Reads'.room-gone 𝓤 H A u64) (Scalar.holds-sc 𝓤 H A W (Row.sInt Syntax.w64)) Path'.refl (λ u.
+              Span.the-type Laws'5.the-laws 2)) 11 (Rows'.sc-here (Row.sInt Syntax.w64)) u64 (Row.valS (Row.sInt Syntax.w64)) (Row.sInt Syntax.w64 .of)
+              (Reads.reads-field 𝓤 H A W Span.the-type Laws'5.the-laws 2 u64 16 Path'.refl, Path'.refl) (Reads'.room-gone 𝓤 H A u64) (Scalar.holds-sc 𝓤 H A W (Row.sInt Syntax.w64)) Path'.refl (λ u.
               Path'.refl) λ u. tt) d104
 
           d106 : Typed.Typed 𝓤 H A 𝓣 E (on T0 l7) b76 Δ0 at106
-          d106 = Typed.s-seq 𝓤 H A W 𝓣 E (on T0 l7) (on T5 l7) b0 (Syntax.seq b1 b74) Δ0 (Typed.both s3) at105 (Plain.t-call-plain 𝓤 H A W 𝓣 0 ps·0 r·0 (claims· .0) (claims· .1) "image_region::span_of"
-              (known .0) E (λ pos β. β) (on T0 l7) (record { pos = 5; st = []; d = 0; at = λ x. x }, tt) 10 [] (Call.sub-id 𝓤 H A W ((on T0 l7) .slots))
-              ((Values.struct-copied 𝓤 H A W Rect.the-type Laws'9.the-laws Laws'9.the-copy, Path'.refl), tt) (Reads'.room-gone 𝓤 H A y14) tt Path'.refl) d105
+          d106 = Typed.s-seq 𝓤 H A W 𝓣 E (on T0 l7) (on T5 l7) b0 (Syntax.seq b1 b74) Δ0 (Typed.both s3) at105 (Plain.t-call-plain 𝓤 H A W 𝓣 0 ps·0 r·0 (claims· .0) (claims· .1)
+              "image_region::span_of" (known .0) E (λ pos β. β) (on T0 l7) (record { pos = 5; st = []; d = 0; at = λ x. x }, tt) 10 [] (Call.sub-id 𝓤 H A W ((on T0 l7) .slots))
+              ((Values.struct-copied 𝓤 H A W Rect.the-type Laws'4.the-laws Laws'4.the-copy, Path'.refl), tt) (Reads'.room-gone 𝓤 H A y12) tt Path'.refl) d105
 
           d107 : Typed.Typed 𝓤 H A 𝓣 E (on T0 l7) b76 Δ0 at107
           d107 = Typed.g-pre 𝓤 H A W 𝓣 E (on T0 l7) (on T0 l7) b76 Δ0 (Typed.give s2) at106 (Know.g-sl-known 𝓤 H A W (Referent.fInt Syntax.w16) E (on T0 l7) 8 2 y5 k2 0 (λ x. x) record
@@ -2633,11 +2645,11 @@ module _ (claims· : Claims) where
 
       module _ (κs : Lifetimes.Lfts 4) where
         pub record Args : Type 0 where
-          pub camera : Kinds.Den {n = 4} κs (Values.enum Camera.the-type Laws'4.the-laws Laws'4.the-copy Laws'4.the-plain tt)
-          pub entries : Kinds.Den {n = 4} κs (Values.struct Entries.the-type Laws'5.the-laws Laws'5.the-copy Laws'5.the-plain)
+          pub camera : Kinds.Den {n = 4} κs (Values.enum Camera.the-type Laws.the-laws Laws.the-copy Laws.the-plain tt)
+          pub entries : Kinds.Den {n = 4} κs (Values.struct Entries.the-type Laws'.the-laws Laws'.the-copy Laws'.the-plain)
           pub d : Kinds.Den {n = 4} κs (ShrSlice.pShrS n8 0 tt)
-          pub h : Kinds.Den {n = 4} κs (Values.struct FujiHeader.the-type Laws'6.the-laws Laws'6.the-copy Laws'6.the-plain)
-          pub r : Kinds.Den {n = 4} κs (Values.struct Rect.the-type Laws'9.the-laws Laws'9.the-copy Laws'9.the-plain)
+          pub h : Kinds.Den {n = 4} κs (Values.struct FujiHeader.the-type Laws'10.the-laws Laws'10.the-copy Laws'10.the-plain)
+          pub r : Kinds.Den {n = 4} κs (Values.struct Rect.the-type Laws'4.the-laws Laws'4.the-copy Laws'4.the-plain)
           pub tile : Kinds.Den {n = 4} κs (Array.pArr (Array.eInt Syntax.w8) (Array.eInt-laws Syntax.w8) 36)
           pub image : Kinds.Den {n = 4} κs (MutSlice.pMutS n16 1 tt)
           pub lines : Kinds.Den {n = 4} κs (MutSlice.pMutS n16 2 tt)
@@ -3757,9 +3769,9 @@ module _ (claims· : Claims) where
             "image_region::span_of") (known1 : Plain.Known 𝓤 H A W 𝓣 0 ps·1 r·1 (claims· .2) (claims· .3) "image_map::xtrans_places") (known2 : Plain.Known 𝓤 H A W 𝓣 0 ps·2 r·2 (claims· .4) (claims· .5)
             "read_block::form_of") (known3 : Plain.Known 𝓤 H A W 𝓣 1 ps·3 r·3 (claims· .6) (claims· .7) "stream::block_bytes") (known4 : Plain.Known 𝓤 H A W 𝓣 1 ps·4 r·4 (claims· .8) (claims· .9)
             "stream::base_row") (known5 : Plain.Known 𝓤 H A W 𝓣 0 ps·5 r·5 (claims· .10) (claims· .11) "image_region::part") (known6 : Plain.Known 𝓤 H A W 𝓣 1 ps·6 r·6 (claims· .12) (claims· .13)
-            "cameras::taking::take_lines") (known7 : Plain.Known 𝓤 H A W 𝓣 6 ps·7 r·7 (claims· .14) (claims· .15) "read_block::reading::walk") (known8 : Plain.Known 𝓤 H A W 𝓣 0 ps·8 r·8 (claims· .16) (claims· .17)
-            "read_block::sharing::lines_read") (known9 : Plain.Known 𝓤 H A W 𝓣 1 ps·9 r·9 (claims· .18) (claims· .19) "cameras::taking::after_block") (known10 : Plain.Known 𝓤 H A W 𝓣 0 ps·10 r·10 (claims· .20) (claims·
-            .21) "cameras::taking::is_stopped") (known11 : Plain.Known 𝓤 H A W 𝓣 0 ps·11 r·11 (claims· .22) (claims· .23) "read_block::decoding::judged") where
+            "cameras::taking::take_lines") (known7 : Plain.Known 𝓤 H A W 𝓣 6 ps·7 r·7 (claims· .14) (claims· .15) "read_block::reading::walk") (known8 : Plain.Known 𝓤 H A W 𝓣 0 ps·8 r·8 (claims· .16)
+            (claims· .17) "read_block::sharing::lines_read") (known9 : Plain.Known 𝓤 H A W 𝓣 1 ps·9 r·9 (claims· .18) (claims· .19) "cameras::taking::after_block") (known10 : Plain.Known 𝓤 H A W 𝓣 0 ps·10
+            r·10 (claims· .20) (claims· .21) "cameras::taking::is_stopped") (known11 : Plain.Known 𝓤 H A W 𝓣 0 ps·11 r·11 (claims· .22) (claims· .23) "read_block::decoding::judged") where
           pub spec : Statement.Triple 𝓤 (Wp.WpFn 𝓤 H (𝓣 .C) (𝓣 .Λ) (Function.fnOf 4 ps r xs m hs body)) (Function.plainOf 𝓤 H A 4 ps r Pre· Post·)
           spec = Plain.t-fn-plain 𝓤 H A W 𝓣 4 ps r xs m hs body (λ κs qs bs. Φ) (λ κs qs bs bd. typed κs qs 𝓤 H A W 𝓣
               (known0, known1, known2, known3, known4, known5, known6, known7, known8, known9, known10, known11) bs bd) Pre· Post· asked

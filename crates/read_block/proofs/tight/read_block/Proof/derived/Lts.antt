@@ -75,12 +75,12 @@ use types.Kit
 use types.Run
 
 abbrev pub y0 : Syntax.Ty
-y0 = Syntax.tyEnum (104 ∷ 101 ∷ 97 ∷ 100 ∷ 101 ∷ 114 ∷ 58 ∷ 58 ∷ 82 ∷ 101 ∷ 102 ∷ 117 ∷ 115 ∷ 97 ∷ 108 ∷ []) (Syntax.ttcons Syntax.tnil (Syntax.ttcons Syntax.tnil (Syntax.ttcons Syntax.tnil
-    (Syntax.ttcons (Syntax.tcons u64 Syntax.tnil) (Syntax.ttcons Syntax.tnil (Syntax.ttcons Syntax.tnil (Syntax.ttcons Syntax.tnil (Syntax.ttcons Syntax.tnil (Syntax.ttcons Syntax.tnil (Syntax.ttcons
-    Syntax.tnil (Syntax.ttcons (Syntax.tcons u64 Syntax.tnil) (Syntax.ttcons (Syntax.tcons u64 Syntax.tnil) (Syntax.ttcons Syntax.tnil (Syntax.ttcons (Syntax.tcons u64 (Syntax.tcons u64 Syntax.tnil))
-    (Syntax.ttcons (Syntax.tcons u64 Syntax.tnil) (Syntax.ttcons Syntax.tnil (Syntax.ttcons Syntax.tnil (Syntax.ttcons (Syntax.tcons u64 Syntax.tnil) (Syntax.ttcons (Syntax.tcons u64 Syntax.tnil)
-    (Syntax.ttcons (Syntax.tcons u64 Syntax.tnil) (Syntax.ttcons Syntax.tnil (Syntax.ttcons Syntax.tnil (Syntax.ttcons (Syntax.tcons u64 (Syntax.tcons u64 Syntax.tnil)) (Syntax.ttcons Syntax.tnil
-    Syntax.ttnil))))))))))))))))))))))))
+y0 = Syntax.tyEnum (115 ∷ 116 ∷ 114 ∷ 101 ∷ 97 ∷ 109 ∷ 58 ∷ 58 ∷ 104 ∷ 101 ∷ 97 ∷ 100 ∷ 101 ∷ 114 ∷ 58 ∷ 58 ∷ 82 ∷ 101 ∷ 102 ∷ 117 ∷ 115 ∷ 97 ∷ 108 ∷ []) (Syntax.ttcons Syntax.tnil (Syntax.ttcons
+    Syntax.tnil (Syntax.ttcons Syntax.tnil (Syntax.ttcons (Syntax.tcons u64 Syntax.tnil) (Syntax.ttcons Syntax.tnil (Syntax.ttcons Syntax.tnil (Syntax.ttcons Syntax.tnil (Syntax.ttcons Syntax.tnil
+    (Syntax.ttcons Syntax.tnil (Syntax.ttcons Syntax.tnil (Syntax.ttcons (Syntax.tcons u64 Syntax.tnil) (Syntax.ttcons (Syntax.tcons u64 Syntax.tnil) (Syntax.ttcons Syntax.tnil (Syntax.ttcons
+    (Syntax.tcons u64 (Syntax.tcons u64 Syntax.tnil)) (Syntax.ttcons (Syntax.tcons u64 Syntax.tnil) (Syntax.ttcons Syntax.tnil (Syntax.ttcons Syntax.tnil (Syntax.ttcons (Syntax.tcons u64 Syntax.tnil)
+    (Syntax.ttcons (Syntax.tcons u64 Syntax.tnil) (Syntax.ttcons (Syntax.tcons u64 Syntax.tnil) (Syntax.ttcons Syntax.tnil (Syntax.ttcons Syntax.tnil (Syntax.ttcons (Syntax.tcons u64 (Syntax.tcons u64
+    Syntax.tnil)) (Syntax.ttcons Syntax.tnil (Syntax.ttcons Syntax.tnil (Syntax.ttcons (Syntax.tcons u64 Syntax.tnil) Syntax.ttnil))))))))))))))))))))))))))
 
 abbrev pub y1 : Syntax.Ty
 y1 = Syntax.tyRef (Syntax.named 0) Syntax.imm u8
@@ -98,31 +98,33 @@ abbrev pub y5 : Syntax.Ty
 y5 = Syntax.tyRef Syntax.erased Syntax.mut u16
 
 abbrev pub y6 : Syntax.Ty
-y6 = Syntax.tyStruct (104 ∷ 101 ∷ 97 ∷ 100 ∷ 101 ∷ 114 ∷ 58 ∷ 58 ∷ 70 ∷ 117 ∷ 106 ∷ 105 ∷ 72 ∷ 101 ∷ 97 ∷ 100 ∷ 101 ∷ 114 ∷ []) (Syntax.tcons Syntax.tyBool (Syntax.tcons Syntax.tyBool (Syntax.tcons
-    u32 (Syntax.tcons u32 (Syntax.tcons u32 (Syntax.tcons u32 (Syntax.tcons u32 (Syntax.tcons u32 (Syntax.tcons u32 Syntax.tnil)))))))))
+y6 = Syntax.tyStruct (108 ∷ 105 ∷ 110 ∷ 101 ∷ 95 ∷ 116 ∷ 111 ∷ 116 ∷ 97 ∷ 108 ∷ 115 ∷ 58 ∷ 58 ∷ 84 ∷ 111 ∷ 116 ∷ 97 ∷ 108 ∷ 115 ∷ []) (Syntax.tcons u64 (Syntax.tcons u64 Syntax.tnil))
 
 abbrev pub y7 : Syntax.Ty
-y7 = Syntax.tyStruct (116 ∷ 111 ∷ 116 ∷ 97 ∷ 108 ∷ 115 ∷ 58 ∷ 58 ∷ 84 ∷ 111 ∷ 116 ∷ 97 ∷ 108 ∷ 115 ∷ []) (Syntax.tcons u64 (Syntax.tcons u64 Syntax.tnil))
+y7 = Syntax.tyStruct (115 ∷ 116 ∷ 114 ∷ 101 ∷ 97 ∷ 109 ∷ 58 ∷ 58 ∷ 104 ∷ 101 ∷ 97 ∷ 100 ∷ 101 ∷ 114 ∷ 58 ∷ 58 ∷ 70 ∷ 117 ∷ 106 ∷ 105 ∷ 72 ∷ 101 ∷ 97 ∷ 100 ∷ 101 ∷ 114 ∷ []) (Syntax.tcons Syntax.tyBool
+    (Syntax.tcons Syntax.tyBool (Syntax.tcons u32 (Syntax.tcons u32 (Syntax.tcons u32 (Syntax.tcons u32 (Syntax.tcons u32 (Syntax.tcons u32 (Syntax.tcons u32 Syntax.tnil)))))))))
 
 abbrev pub y8 : Syntax.Ty
-y8 = Syntax.tyEnum (104 ∷ 101 ∷ 97 ∷ 100 ∷ 101 ∷ 114 ∷ 58 ∷ 58 ∷ 80 ∷ 97 ∷ 114 ∷ 115 ∷ 101 ∷ 100 ∷ []) (Syntax.ttcons (Syntax.tcons y6 Syntax.tnil) (Syntax.ttcons (Syntax.tcons y0 Syntax.tnil)
-    Syntax.ttnil))
+y8 = Syntax.tyEnum (114 ∷ 101 ∷ 97 ∷ 100 ∷ 95 ∷ 98 ∷ 108 ∷ 111 ∷ 99 ∷ 107 ∷ 58 ∷ 58 ∷ 68 ∷ 101 ∷ 99 ∷ 111 ∷ 100 ∷ 101 ∷ 100 ∷ []) (Syntax.ttcons Syntax.tnil (Syntax.ttcons (Syntax.tcons y0
+    Syntax.tnil) Syntax.ttnil))
 
 abbrev pub y9 : Syntax.Ty
-y9 = Syntax.tyEnum (98 ∷ 108 ∷ 111 ∷ 99 ∷ 107 ∷ 58 ∷ 58 ∷ 68 ∷ 101 ∷ 99 ∷ 111 ∷ 100 ∷ 101 ∷ 100 ∷ []) (Syntax.ttcons Syntax.tnil (Syntax.ttcons (Syntax.tcons y0 Syntax.tnil) Syntax.ttnil))
+y9 = Syntax.tyEnum (115 ∷ 116 ∷ 114 ∷ 101 ∷ 97 ∷ 109 ∷ 58 ∷ 58 ∷ 104 ∷ 101 ∷ 97 ∷ 100 ∷ 101 ∷ 114 ∷ 58 ∷ 58 ∷ 80 ∷ 97 ∷ 114 ∷ 115 ∷ 101 ∷ 100 ∷ []) (Syntax.ttcons (Syntax.tcons y7 Syntax.tnil)
+    (Syntax.ttcons (Syntax.tcons y0 Syntax.tnil) Syntax.ttnil))
 
 abbrev pub y10 : Syntax.Ty
-y10 = Syntax.tyStruct (116 ∷ 111 ∷ 116 ∷ 97 ∷ 108 ∷ 115 ∷ 58 ∷ 58 ∷ 84 ∷ 105 ∷ 103 ∷ 104 ∷ 116 ∷ 76 ∷ 105 ∷ 110 ∷ 101 ∷ 115 ∷ []) (Syntax.tcons u64 (Syntax.tcons y7 Syntax.tnil))
+y10 = Syntax.tyStruct (108 ∷ 105 ∷ 110 ∷ 101 ∷ 95 ∷ 116 ∷ 111 ∷ 116 ∷ 97 ∷ 108 ∷ 115 ∷ 58 ∷ 58 ∷ 84 ∷ 105 ∷ 103 ∷ 104 ∷ 116 ∷ 76 ∷ 105 ∷ 110 ∷ 101 ∷ 115 ∷ []) (Syntax.tcons u64 (Syntax.tcons y6
+    Syntax.tnil))
 
 abbrev pub y11 : Syntax.Ty
 y11 = Syntax.tyStruct (38 ∷ 91 ∷ 93 ∷ []) (Syntax.tcons y4 (Syntax.tcons u64 Syntax.tnil))
 
 abbrev pub y12 : Syntax.Ty
-y12 = Syntax.tyEnum (98 ∷ 108 ∷ 111 ∷ 99 ∷ 107 ∷ 58 ∷ 58 ∷ 87 ∷ 97 ∷ 108 ∷ 107 ∷ 101 ∷ 100 ∷ []) (Syntax.ttcons (Syntax.tcons y7 (Syntax.tcons y10 Syntax.tnil)) (Syntax.ttcons (Syntax.tcons u64
-    (Syntax.tcons y7 Syntax.tnil)) Syntax.ttnil))
+y12 = Syntax.tyEnum (114 ∷ 101 ∷ 97 ∷ 100 ∷ 95 ∷ 98 ∷ 108 ∷ 111 ∷ 99 ∷ 107 ∷ 58 ∷ 58 ∷ 87 ∷ 97 ∷ 108 ∷ 107 ∷ 101 ∷ 100 ∷ []) (Syntax.ttcons (Syntax.tcons y6 (Syntax.tcons y10 Syntax.tnil))
+    (Syntax.ttcons (Syntax.tcons u64 (Syntax.tcons y6 Syntax.tnil)) Syntax.ttnil))
 
 abbrev pub y13 : Syntax.Ty
-y13 = Syntax.tyStruct (98 ∷ 108 ∷ 111 ∷ 99 ∷ 107 ∷ 58 ∷ 58 ∷ 67 ∷ 111 ∷ 117 ∷ 110 ∷ 116 ∷ 101 ∷ 100 ∷ []) (Syntax.tcons y9 (Syntax.tcons y7 Syntax.tnil))
+y13 = Syntax.tyStruct (114 ∷ 101 ∷ 97 ∷ 100 ∷ 95 ∷ 98 ∷ 108 ∷ 111 ∷ 99 ∷ 107 ∷ 58 ∷ 58 ∷ 67 ∷ 111 ∷ 117 ∷ 110 ∷ 116 ∷ 101 ∷ 100 ∷ []) (Syntax.tcons y8 (Syntax.tcons y6 Syntax.tnil))
 
 abbrev pub ps : List.List (Kinds.PK 3)
 ps = (ShrSlice.pShrS n8 0 tt) ∷ (Num.pNum Syntax.w64) ∷ (MutSlice.pMutS n16 1 tt) ∷ (MutSlice.pMutS (Element.type) 2 tt) ∷ []
@@ -131,7 +133,7 @@ abbrev pub r : Kinds.RK 3
 r = Values.struct-result Counted.the-type Laws.the-laws Laws.the-copy Laws.the-plain
 
 abbrev pub xs : List.List Syntax.Ty
-xs = y8 ∷ y0 ∷ y6 ∷ u64 ∷ y12 ∷ u64 ∷ u64 ∷ y13 ∷ Syntax.tyPtr ∷ u64 ∷ y5 ∷ (Syntax.tyStruct (38 ∷ 91 ∷ 93 ∷ []) (Syntax.tcons y5 (Syntax.tcons u64 Syntax.tnil))) ∷ Syntax.tyPtr ∷ u64 ∷ y4 ∷ y11 ∷ []
+xs = y9 ∷ y0 ∷ y7 ∷ u64 ∷ y12 ∷ u64 ∷ u64 ∷ y13 ∷ Syntax.tyPtr ∷ u64 ∷ y5 ∷ (Syntax.tyStruct (38 ∷ 91 ∷ 93 ∷ []) (Syntax.tcons y5 (Syntax.tcons u64 Syntax.tnil))) ∷ Syntax.tyPtr ∷ u64 ∷ y4 ∷ y11 ∷ []
 
 abbrev pub m : Nat.ℕ
 m = 2
@@ -284,7 +286,7 @@ abbrev pub v6 : Row.Row
 v6 = Rows.any-gone y5
 
 abbrev pub v7 : Row.Row
-v7 = Rows.any-gone y8
+v7 = Rows.any-gone y9
 
 abbrev pub v8 : Row.Row
 v8 = Mut.mslice (Element.type) y3 2
@@ -296,7 +298,7 @@ abbrev pub v10 : Row.Row
 v10 = Mut.mslice n16 y2 1
 
 abbrev pub v11 : Row.Row
-v11 = Rows.any-gone y6
+v11 = Rows.any-gone y7
 
 abbrev pub v12 : Row.Row
 v12 = Rows.whole (Declared'.row FujiHeader.the-type)
@@ -592,7 +594,7 @@ module _ (claims· : Claims) where
   a0 = (record { pos = 1; ty = y1; ref = λ x. x }, (Num.vAt 2 λ x. x, (Bool.bLit Bool'.false, (Num.vAt 10 λ x. x, (Num.vAt 11 λ x. x, tt)))))
 
   abbrev s4 : Typed.Both T5 T6
-  s4 = Call.callB ps·0 r·0 (claims· .0) (claims· .1) T5 a0 5 (0 ∷ []) y8
+  s4 = Call.callB ps·0 r·0 (claims· .0) (claims· .1) T5 a0 5 (0 ∷ []) y9
 
   abbrev s5 : Typed.Mo T6 → Typed.Mo T8
   s5 = Scalar.n-room T6 10 u64
@@ -610,7 +612,7 @@ module _ (claims· : Claims) where
   s9 = Make.n-make (Declared.row Refusal.the-type) T10 6 λ m. m .1 .1 .1 .1 .1 .0 .0
 
   abbrev s10 : Typed.Mo T12 → Typed.Mo T13
-  s10 = Scalar.n-room T12 5 y8
+  s10 = Scalar.n-room T12 5 y9
 
   abbrev s11 : Typed.Both T13 T14
   s11 = Call.callB ps·1 r·1 (claims· .2) (claims· .3) T13 (record { pos = 6; st = []; d = 0; at = λ x. x }, tt) 12 [] y13
@@ -628,7 +630,7 @@ module _ (claims· : Claims) where
   s15 = Make.n-make (Declared'.row FujiHeader.the-type) T16 7 λ m. m .1 .1 .1 .1 .1 .0 .0
 
   abbrev s16 : Typed.Mo T18 → Typed.Mo T19
-  s16 = Scalar.n-room T18 5 y8
+  s16 = Scalar.n-room T18 5 y9
 
   abbrev s17 : Typed.Both T19 T20
   s17 = Call.callB ps·2 r·2 (claims· .4) (claims· .5) T19 (Bool.bFld 7 ((Syntax.field 1) ∷ []) 1 λ x. FujiHeader.struct .as-values x .1 .0, tt) 8 [] u64
@@ -679,7 +681,7 @@ module _ (claims· : Claims) where
   s32 = Call.callB ps·3 r·3 (claims· .6) (claims· .7) T34 a1 9 (0 ∷ 3 ∷ 4 ∷ []) y12
 
   abbrev s33 : Typed.Mo T35 → Typed.Mo T36
-  s33 = Scalar.n-room T35 7 y6
+  s33 = Scalar.n-room T35 7 y7
 
   abbrev s35 : Typed.Both T36 T38
   s35 = PartMut.k-back-slᵐ n16 T36 16 3 1 3 y2 y5 Row.off (λ x. x) λ x. x
@@ -711,10 +713,10 @@ module _ (claims· : Claims) where
   module _ (Pre· : (κs : Lifetimes.Lfts 3) → Kinds.Dens κs ps → Type 0) (Post· : (κs : Lifetimes.Lfts 3) → (a : Kinds.Dens κs ps) → Kinds.Plain 3 ps r κs) where
     module _ (M : Type 1) where
       abbrev pub Closed : Type 2
-      Closed = (𝓤 : URA.URA M) (H : Wp.Heap 𝓤) (A : Atoms.Atoms 𝓤) (W : Kit.Given 𝓤 H A) (𝓣 : Wp.Tables 𝓤 H) (known0 : Plain.Known 𝓤 H A W 𝓣 1 ps·0 r·0 (claims· .0) (claims· .1) "admission::block_begins")
-          (known1 : Plain.Known 𝓤 H A W 𝓣 0 ps·1 r·1 (claims· .2) (claims· .3) "read_block::tight::refused") (known2 : Plain.Known 𝓤 H A W 𝓣 0 ps·2 r·2 (claims· .4) (claims· .5) "admission::samples_needed")
-          (known3 : Plain.Known 𝓤 H A W 𝓣 3 ps·3 r·3 (claims· .6) (claims· .7) "read_block::tight::walk_block") (known4 : Plain.Known 𝓤 H A W 𝓣 0 ps·4 r·4 (claims· .8) (claims· .9) "read_block::tight::read_answer")
-          → Statement.Triple 𝓤 (Wp.WpFn 𝓤 H (𝓣 .C) (𝓣 .Λ) (Function.fnOf 3 ps r xs m hs body)) (Function.plainOf 𝓤 H A 3 ps r Pre· Post·)
+      Closed = (𝓤 : URA.URA M) (H : Wp.Heap 𝓤) (A : Atoms.Atoms 𝓤) (W : Kit.Given 𝓤 H A) (𝓣 : Wp.Tables 𝓤 H) (known0 : Plain.Known 𝓤 H A W 𝓣 1 ps·0 r·0 (claims· .0) (claims· .1)
+          "admission::block_begins") (known1 : Plain.Known 𝓤 H A W 𝓣 0 ps·1 r·1 (claims· .2) (claims· .3) "read_block::tight::refused") (known2 : Plain.Known 𝓤 H A W 𝓣 0 ps·2 r·2 (claims· .4) (claims· .5)
+          "admission::samples_needed") (known3 : Plain.Known 𝓤 H A W 𝓣 3 ps·3 r·3 (claims· .6) (claims· .7) "read_block::tight::walk_block") (known4 : Plain.Known 𝓤 H A W 𝓣 0 ps·4 r·4 (claims· .8)
+          (claims· .9) "read_block::tight::read_answer") → Statement.Triple 𝓤 (Wp.WpFn 𝓤 H (𝓣 .C) (𝓣 .Λ) (Function.fnOf 3 ps r xs m hs body)) (Function.plainOf 𝓤 H A 3 ps r Pre· Post·)
 
     module _ where
       abbrev at0 : Typed.TF T13 O1
@@ -845,9 +847,9 @@ module _ (claims· : Claims) where
 
       module _ {M : Type 1} (𝓤 : URA.URA M) (H : Wp.Heap 𝓤) (A : Atoms.Atoms 𝓤) (W : Kit.Given 𝓤 H A) (𝓣 : Wp.Tables 𝓤 H) where
         abbrev Knowns : Type 1
-        Knowns = Plain.Known 𝓤 H A W 𝓣 1 ps·0 r·0 (claims· .0) (claims· .1) "admission::block_begins" × Plain.Known 𝓤 H A W 𝓣 0 ps·1 r·1 (claims· .2) (claims· .3) "read_block::tight::refused" × Plain.Known 𝓤 H
-            A W 𝓣 0 ps·2 r·2 (claims· .4) (claims· .5) "admission::samples_needed" × Plain.Known 𝓤 H A W 𝓣 3 ps·3 r·3 (claims· .6) (claims· .7) "read_block::tight::walk_block" × Plain.Known 𝓤 H A W 𝓣 0 ps·4 r·4
-            (claims· .8) (claims· .9) "read_block::tight::read_answer"
+        Knowns = Plain.Known 𝓤 H A W 𝓣 1 ps·0 r·0 (claims· .0) (claims· .1) "admission::block_begins" × Plain.Known 𝓤 H A W 𝓣 0 ps·1 r·1 (claims· .2) (claims· .3) "read_block::tight::refused" ×
+            Plain.Known 𝓤 H A W 𝓣 0 ps·2 r·2 (claims· .4) (claims· .5) "admission::samples_needed" × Plain.Known 𝓤 H A W 𝓣 3 ps·3 r·3 (claims· .6) (claims· .7) "read_block::tight::walk_block" ×
+            Plain.Known 𝓤 H A W 𝓣 0 ps·4 r·4 (claims· .8) (claims· .9) "read_block::tight::read_answer"
 
       module _ (κs : Lifetimes.Lfts 3) (qs : Lifetimes.Shares 3) where
         abbrev k0 : Row.Life
@@ -977,7 +979,7 @@ module _ (claims· : Claims) where
               (Local.room-whole 𝓤 H A W (Declared.row Refusal.the-type) y0 Path'.refl)))
 
           d1 : Typed.Typed 𝓤 H A 𝓣 E (on T12 l3) b4 Δ1 at1
-          d1 = Typed.g-pre 𝓤 H A W 𝓣 E (on T12 l3) (on T13 l3) b4 Δ1 (Typed.pass T12 T13 s10) at0 (Scalar.g-room 𝓤 H A W E (on T12 l3) 5 y8 (Local.room-whole 𝓤 H A W (Known.Known Parsed.enum 1) y8
+          d1 = Typed.g-pre 𝓤 H A W 𝓣 E (on T12 l3) (on T13 l3) b4 Δ1 (Typed.pass T12 T13 s10) at0 (Scalar.g-room 𝓤 H A W E (on T12 l3) 5 y9 (Local.room-whole 𝓤 H A W (Known.Known Parsed.enum 1) y9
               Path'.refl)) d0
 
           d2 : Typed.Typed 𝓤 H A 𝓣 E (on T10 l3) b5 Δ1 at2
@@ -1034,11 +1036,11 @@ module _ (claims· : Claims) where
           d12 = Typed.g-pre 𝓤 H A W 𝓣 E G36 G37 b17 Δ1 (λ Ψ. Ψ) at11 (Lifetime.g-end 𝓤 H A W E G36 3 Path'.refl) d11
 
           d13 : Typed.Typed 𝓤 H A 𝓣 E G35 b17 Δ1 at13
-          d13 = Typed.g-pre 𝓤 H A W 𝓣 E G35 G36 b17 Δ1 (Typed.pass T35 T36 s33) at11 (Scalar.g-room 𝓤 H A W E G35 7 y6 (Local.room-whole 𝓤 H A W (Declared'.row FujiHeader.the-type) y6 Path'.refl)) d12
+          d13 = Typed.g-pre 𝓤 H A W 𝓣 E G35 G36 b17 Δ1 (Typed.pass T35 T36 s33) at11 (Scalar.g-room 𝓤 H A W E G35 7 y7 (Local.room-whole 𝓤 H A W (Declared'.row FujiHeader.the-type) y7 Path'.refl)) d12
 
           d14 : Typed.Typed 𝓤 H A 𝓣 E G34 (Syntax.seq b16 b17) Δ1 at14
-          d14 = Typed.s-seq 𝓤 H A W 𝓣 E G34 G35 b16 b17 Δ1 (Typed.both s32) at13 (Plain.t-call-plain 𝓤 H A W 𝓣 3 ps·3 r·3 (claims· .6) (claims· .7) "read_block::tight::walk_block" (known .3) E (λ pos β. β)
-              G34 (
+          d14 = Typed.s-seq 𝓤 H A W 𝓣 E G34 G35 b16 b17 Δ1 (Typed.both s32) at13 (Plain.t-call-plain 𝓤 H A W 𝓣 3 ps·3 r·3 (claims· .6) (claims· .7) "read_block::tight::walk_block" (known .3) E (λ pos
+              β. β) G34 (
                 record { pos = 1; ty = y1; ref = λ x. x },
                 (record { pos = 7; st = []; d = 0; at = λ x. x }, (Num.vAt 2 λ x. x, (record { pos = 16; ty = y5; ref = λ x. x }, (record { pos = 20; ty = y4; ref = λ x. x }, tt)))),
               ) 9 (0 ∷ 3 ∷ 4 ∷ [])
@@ -1123,20 +1125,20 @@ module _ (claims· : Claims) where
               (Mut.reads-mslice-ptr 𝓤 H A W n16 y2 1 0 Path'.refl, Path'.refl) tt (Reads'.room-gone 𝓤 H A Syntax.tyPtr) (Scalar.holds-sc 𝓤 H A W Row.sPtr) Path'.refl (λ u. Path'.refl) λ u. tt) d27
 
           d29 : Typed.Typed 𝓤 H A 𝓣 E (on T19 l3) (Syntax.seq b7 b26) Δ1 at29
-          d29 = Typed.s-seq 𝓤 H A W 𝓣 E (on T19 l3) (on T20 l3) b7 b26 Δ1 (Typed.both s17) at28 (Plain.t-call-plain 𝓤 H A W 𝓣 0 ps·2 r·2 (claims· .4) (claims· .5) "admission::samples_needed" (known .2) E
-              (λ pos β. β) (on T19 l3) (Bool.bFld 7 ((Syntax.field 1) ∷ []) 1 λ x. FujiHeader.struct .as-values x .1 .0, tt) 8 [] (Call.sub-id 𝓤 H A W ((on T19 l3) .slots))
+          d29 = Typed.s-seq 𝓤 H A W 𝓣 E (on T19 l3) (on T20 l3) b7 b26 Δ1 (Typed.both s17) at28 (Plain.t-call-plain 𝓤 H A W 𝓣 0 ps·2 r·2 (claims· .4) (claims· .5) "admission::samples_needed" (known
+              .2) E (λ pos β. β) (on T19 l3) (Bool.bFld 7 ((Syntax.field 1) ∷ []) 1 λ x. FujiHeader.struct .as-values x .1 .0, tt) 8 [] (Call.sub-id 𝓤 H A W ((on T19 l3) .slots))
               ((Reads.reads-field 𝓤 H A W FujiHeader.the-type Laws''.the-laws 1 Syntax.tyBool 1 Path'.refl, Path'.refl), tt) (Reads'.room-gone 𝓤 H A u64) tt Path'.refl) d28
 
           d30 : Typed.Typed 𝓤 H A 𝓣 E (on T18 l3) (Syntax.seq b7 b26) Δ1 at30
-          d30 = Typed.g-pre 𝓤 H A W 𝓣 E (on T18 l3) (on T19 l3) (Syntax.seq b7 b26) Δ1 (Typed.pass T18 T19 s16) at29 (Scalar.g-room 𝓤 H A W E (on T18 l3) 5 y8 (Local.room-whole 𝓤 H A W (Known.Known
-              Parsed.enum 0) y8 Path'.refl)) d29
+          d30 = Typed.g-pre 𝓤 H A W 𝓣 E (on T18 l3) (on T19 l3) (Syntax.seq b7 b26) Δ1 (Typed.pass T18 T19 s16) at29 (Scalar.g-room 𝓤 H A W E (on T18 l3) 5 y9 (Local.room-whole 𝓤 H A W (Known.Known
+              Parsed.enum 0) y9 Path'.refl)) d29
 
           d31 : Typed.Typed 𝓤 H A 𝓣 E (on T16 l3) b28 Δ1 at31
           d31 = Typed.s-seq 𝓤 H A W 𝓣 E (on T16 l3) (on T18 l3) b6 (Syntax.seq b7 b26) Δ1 (Typed.pass T16 T18 s15) at30 (CopyOut.t-copy-told 𝓤 H A W E 𝓣 (Declared'.row FujiHeader.the-type) Path'.refl
               (Laws'6.val FujiHeader.the-type Laws''.the-laws) (Laws'6.lawful FujiHeader.the-type Laws''.the-laws 𝓤 H A W) (Laws'6.makes FujiHeader.the-type Laws''.the-plain 𝓤 H A) (on T16 l3) 7
-              (Scalar.oFld 5 ((Syntax.variant 0) ∷ (Syntax.field 1) ∷ []) y6 4 λ v. Laws'6.val FujiHeader.the-type Laws''.the-laws (v .0)) (λ m. m .1 .1 .1 .1 .1 .0 .0) (λ m. Laws'5.Fields
-              (Declared.variants Parsed.the-type) (Laws'5.spellss (Parsed.enum .parts) Laws'3.the-laws) (Parsed.the-type .to (Known.at Parsed.enum 0 (m .1 .1 .1 .1 .1 .0)))) (Reads'.room-gone 𝓤 H A y6) (
-                Match.reads-payload 𝓤 H A W Parsed.enum Laws'3.the-laws 0 Path'.refl Path'.refl (λ v. Val.vcons (Laws'6.val FujiHeader.the-type Laws''.the-laws (v .0)) Val.vnil) (λ v. Path'.refl) 0 y6 4
+              (Scalar.oFld 5 ((Syntax.variant 0) ∷ (Syntax.field 1) ∷ []) y7 4 λ v. Laws'6.val FujiHeader.the-type Laws''.the-laws (v .0)) (λ m. m .1 .1 .1 .1 .1 .0 .0) (λ m. Laws'5.Fields
+              (Declared.variants Parsed.the-type) (Laws'5.spellss (Parsed.enum .parts) Laws'3.the-laws) (Parsed.the-type .to (Known.at Parsed.enum 0 (m .1 .1 .1 .1 .1 .0)))) (Reads'.room-gone 𝓤 H A y7) (
+                Match.reads-payload 𝓤 H A W Parsed.enum Laws'3.the-laws 0 Path'.refl Path'.refl (λ v. Val.vcons (Laws'6.val FujiHeader.the-type Laws''.the-laws (v .0)) Val.vnil) (λ v. Path'.refl) 0 y7 4
                     Path'.refl,
                 Path'.refl,
               ) Path'.refl (λ ρ m. Make.tells-row 𝓤 H A W E ρ (Row.out 7 ((on T16 l3) .locals)) m 5 (Laws'5.Fields (Declared.variants Parsed.the-type) (Laws'5.spellss (Parsed.enum
@@ -1193,7 +1195,7 @@ module _ (claims· : Claims) where
                   (Scalar.reads-sc 𝓤 H A W (Row.sInt Syntax.w64), Path'.refl),
                   (tt, ((Scalar.reads-sc 𝓤 H A W (Row.sInt Syntax.w64), Path'.refl), ((Scalar.reads-sc 𝓤 H A W (Row.sInt Syntax.w64), Path'.refl), tt))),
                 ),
-              ) (Reads'.room-gone 𝓤 H A y8) (tt, tt) Path'.refl) d41
+              ) (Reads'.room-gone 𝓤 H A y9) (tt, tt) Path'.refl) d41
 
           d43 : Typed.Typed 𝓤 H A 𝓣 E (on T4 l3) (Syntax.seq b1 b34) Δ0 at43
           d43 = Typed.s-seq 𝓤 H A W 𝓣 E (on T4 l3) (on T5 l3) b1 b34 Δ0 (Typed.pass T4 T5 s3) at42 (Scalar.t-use 𝓤 H A W E 𝓣 (on T4 l3) (Scalar.oFld 4 ((Syntax.field 1) ∷ []) u64 8 Shared.lenV) 11
@@ -1666,8 +1668,8 @@ module _ (claims· : Claims) where
               { κs = κs; args = record { d = a .0; b = a .1 .0; lines = a .1 .1 .0; rs = a .1 .1 .1 .0 }; good = good; fits = record { b = record { fits = good .1 .0 .1 } }; pre = pre }
 
         module _ {M : Type 1} (𝓤 : URA.URA M) (H : Wp.Heap 𝓤) (A : Atoms.Atoms 𝓤) (W : Kit.Given 𝓤 H A) (𝓣 : Wp.Tables 𝓤 H) (known0 : Plain.Known 𝓤 H A W 𝓣 1 ps·0 r·0 (claims· .0) (claims· .1)
-            "admission::block_begins") (known1 : Plain.Known 𝓤 H A W 𝓣 0 ps·1 r·1 (claims· .2) (claims· .3) "read_block::tight::refused") (known2 : Plain.Known 𝓤 H A W 𝓣 0 ps·2 r·2 (claims· .4) (claims· .5)
-            "admission::samples_needed") (known3 : Plain.Known 𝓤 H A W 𝓣 3 ps·3 r·3 (claims· .6) (claims· .7) "read_block::tight::walk_block") (known4 : Plain.Known 𝓤 H A W 𝓣 0 ps·4 r·4 (claims· .8) (claims· .9)
-            "read_block::tight::read_answer") where
+            "admission::block_begins") (known1 : Plain.Known 𝓤 H A W 𝓣 0 ps·1 r·1 (claims· .2) (claims· .3) "read_block::tight::refused") (known2 : Plain.Known 𝓤 H A W 𝓣 0 ps·2 r·2 (claims· .4) (claims·
+            .5) "admission::samples_needed") (known3 : Plain.Known 𝓤 H A W 𝓣 3 ps·3 r·3 (claims· .6) (claims· .7) "read_block::tight::walk_block") (known4 : Plain.Known 𝓤 H A W 𝓣 0 ps·4 r·4 (claims· .8)
+            (claims· .9) "read_block::tight::read_answer") where
           pub spec : Statement.Triple 𝓤 (Wp.WpFn 𝓤 H (𝓣 .C) (𝓣 .Λ) (Function.fnOf 3 ps r xs m hs body)) (Function.plainOf 𝓤 H A 3 ps r Pre· Post·)
           spec = Plain.t-fn-plain 𝓤 H A W 𝓣 3 ps r xs m hs body (λ κs qs bs. Φ) (λ κs qs bs bd. typed κs qs 𝓤 H A W 𝓣 (known0, known1, known2, known3, known4) bs bd) Pre· Post· asked

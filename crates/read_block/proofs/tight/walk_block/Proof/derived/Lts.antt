@@ -5,16 +5,16 @@ use Rattle.bits.proofs.Values.{n16, n8, u16, u32, u64, u8}
 use mathlib.Core.List.{_∷_, []}
 use Rattle.read_block.proofs.Element
 use Prim.Native.Nat
-use Rattle.read_block.proofs.Form
-use Rattle.read_block.proofs.Form.Laws
-use Rattle.read_block.proofs.Walked
-use Rattle.read_block.proofs.Walked.Laws as Laws'
 use Rattle.cameras.proofs.Entries
-use Rattle.cameras.proofs.Entries.Laws as Laws''
-use Rattle.stream.proofs.header.FujiHeader
-use Rattle.stream.proofs.header.FujiHeader.Laws as Laws'3
+use Rattle.cameras.proofs.Entries.Laws
 use Rattle.image_map.proofs.Part
-use Rattle.image_map.proofs.Part.Laws as Laws'4
+use Rattle.image_map.proofs.Part.Laws as Laws'
+use Rattle.read_block.proofs.Form
+use Rattle.read_block.proofs.Form.Laws as Laws''
+use Rattle.read_block.proofs.Walked
+use Rattle.read_block.proofs.Walked.Laws as Laws'3
+use Rattle.stream.proofs.header.FujiHeader
+use Rattle.stream.proofs.header.FujiHeader.Laws as Laws'4
 use borrow.Author.Called
 use borrow.Fn.Any
 use borrow.Fn.Call
@@ -98,21 +98,22 @@ abbrev pub y7 : Syntax.Ty
 y7 = Syntax.tyRef Syntax.erased Syntax.mut u16
 
 abbrev pub y8 : Syntax.Ty
-y8 = Syntax.tyStruct (104 ∷ 101 ∷ 97 ∷ 100 ∷ 101 ∷ 114 ∷ 58 ∷ 58 ∷ 70 ∷ 117 ∷ 106 ∷ 105 ∷ 72 ∷ 101 ∷ 97 ∷ 100 ∷ 101 ∷ 114 ∷ []) (Syntax.tcons Syntax.tyBool (Syntax.tcons Syntax.tyBool (Syntax.tcons
-    u32 (Syntax.tcons u32 (Syntax.tcons u32 (Syntax.tcons u32 (Syntax.tcons u32 (Syntax.tcons u32 (Syntax.tcons u32 Syntax.tnil)))))))))
+y8 = Syntax.tyStruct (105 ∷ 109 ∷ 97 ∷ 103 ∷ 101 ∷ 95 ∷ 109 ∷ 97 ∷ 112 ∷ 58 ∷ 58 ∷ 80 ∷ 97 ∷ 114 ∷ 116 ∷ []) (Syntax.tcons u64 (Syntax.tcons u64 (Syntax.tcons u64 (Syntax.tcons u64 (Syntax.tcons u64
+    (Syntax.tcons u64 Syntax.tnil))))))
 
 abbrev pub y9 : Syntax.Ty
-y9 = Syntax.tyStruct (109 ∷ 97 ∷ 112 ∷ 58 ∷ 58 ∷ 80 ∷ 97 ∷ 114 ∷ 116 ∷ []) (Syntax.tcons u64 (Syntax.tcons u64 (Syntax.tcons u64 (Syntax.tcons u64 (Syntax.tcons u64 (Syntax.tcons u64 Syntax.tnil))))))
+y9 = Syntax.tyStruct (108 ∷ 105 ∷ 110 ∷ 101 ∷ 95 ∷ 116 ∷ 111 ∷ 116 ∷ 97 ∷ 108 ∷ 115 ∷ 58 ∷ 58 ∷ 84 ∷ 111 ∷ 116 ∷ 97 ∷ 108 ∷ 115 ∷ []) (Syntax.tcons u64 (Syntax.tcons u64 Syntax.tnil))
 
 abbrev pub y10 : Syntax.Ty
 y10 = Syntax.tyStruct (113 ∷ 117 ∷ 97 ∷ 110 ∷ 116 ∷ 105 ∷ 115 ∷ 101 ∷ 114 ∷ 58 ∷ 58 ∷ 81 ∷ 117 ∷ 97 ∷ 110 ∷ 116 ∷ 105 ∷ 115 ∷ 101 ∷ 114 ∷ []) (Syntax.tcons u32 (Syntax.tcons u32 (Syntax.tcons u32
     (Syntax.tcons u32 (Syntax.tcons u32 Syntax.tnil)))))
 
 abbrev pub y11 : Syntax.Ty
-y11 = Syntax.tyStruct (116 ∷ 111 ∷ 116 ∷ 97 ∷ 108 ∷ 115 ∷ 58 ∷ 58 ∷ 84 ∷ 111 ∷ 116 ∷ 97 ∷ 108 ∷ 115 ∷ []) (Syntax.tcons u64 (Syntax.tcons u64 Syntax.tnil))
+y11 = Syntax.tyStruct (114 ∷ 101 ∷ 97 ∷ 100 ∷ 95 ∷ 98 ∷ 108 ∷ 111 ∷ 99 ∷ 107 ∷ 58 ∷ 58 ∷ 70 ∷ 111 ∷ 114 ∷ 109 ∷ []) (Syntax.tcons u32 (Syntax.tcons Syntax.tyBool Syntax.tnil))
 
 abbrev pub y12 : Syntax.Ty
-y12 = Syntax.tyStruct (98 ∷ 108 ∷ 111 ∷ 99 ∷ 107 ∷ 58 ∷ 58 ∷ 70 ∷ 111 ∷ 114 ∷ 109 ∷ []) (Syntax.tcons u32 (Syntax.tcons Syntax.tyBool Syntax.tnil))
+y12 = Syntax.tyStruct (115 ∷ 116 ∷ 114 ∷ 101 ∷ 97 ∷ 109 ∷ 58 ∷ 58 ∷ 104 ∷ 101 ∷ 97 ∷ 100 ∷ 101 ∷ 114 ∷ 58 ∷ 58 ∷ 70 ∷ 117 ∷ 106 ∷ 105 ∷ 72 ∷ 101 ∷ 97 ∷ 100 ∷ 101 ∷ 114 ∷ []) (Syntax.tcons
+    Syntax.tyBool (Syntax.tcons Syntax.tyBool (Syntax.tcons u32 (Syntax.tcons u32 (Syntax.tcons u32 (Syntax.tcons u32 (Syntax.tcons u32 (Syntax.tcons u32 (Syntax.tcons u32 Syntax.tnil)))))))))
 
 abbrev pub y13 : Syntax.Ty
 y13 = Syntax.tyRef Syntax.erased Syntax.imm y1
@@ -121,7 +122,8 @@ abbrev pub y14 : Syntax.Ty
 y14 = Syntax.tyRef Syntax.erased Syntax.mut y0
 
 abbrev pub y15 : Syntax.Ty
-y15 = Syntax.tyStruct (116 ∷ 111 ∷ 116 ∷ 97 ∷ 108 ∷ 115 ∷ 58 ∷ 58 ∷ 84 ∷ 105 ∷ 103 ∷ 104 ∷ 116 ∷ 76 ∷ 105 ∷ 110 ∷ 101 ∷ 115 ∷ []) (Syntax.tcons u64 (Syntax.tcons y11 Syntax.tnil))
+y15 = Syntax.tyStruct (108 ∷ 105 ∷ 110 ∷ 101 ∷ 95 ∷ 116 ∷ 111 ∷ 116 ∷ 97 ∷ 108 ∷ 115 ∷ 58 ∷ 58 ∷ 84 ∷ 105 ∷ 103 ∷ 104 ∷ 116 ∷ 76 ∷ 105 ∷ 110 ∷ 101 ∷ 115 ∷ []) (Syntax.tcons u64 (Syntax.tcons y9
+    Syntax.tnil))
 
 abbrev pub y16 : Syntax.Ty
 y16 = Syntax.tyStruct (38 ∷ 91 ∷ 93 ∷ []) (Syntax.tcons y5 (Syntax.tcons u64 Syntax.tnil))
@@ -134,34 +136,34 @@ y18 = Syntax.tyStruct (99 ∷ 97 ∷ 109 ∷ 101 ∷ 114 ∷ 97 ∷ 115 ∷ 58 �
     Syntax.tnil))))
 
 abbrev pub y19 : Syntax.Ty
-y19 = Syntax.tyEnum (98 ∷ 108 ∷ 111 ∷ 99 ∷ 107 ∷ 58 ∷ 58 ∷ 87 ∷ 97 ∷ 108 ∷ 107 ∷ 101 ∷ 100 ∷ []) (Syntax.ttcons (Syntax.tcons y11 (Syntax.tcons y15 Syntax.tnil)) (Syntax.ttcons (Syntax.tcons u64
-    (Syntax.tcons y11 Syntax.tnil)) Syntax.ttnil))
+y19 = Syntax.tyEnum (114 ∷ 101 ∷ 97 ∷ 100 ∷ 95 ∷ 98 ∷ 108 ∷ 111 ∷ 99 ∷ 107 ∷ 58 ∷ 58 ∷ 87 ∷ 97 ∷ 108 ∷ 107 ∷ 101 ∷ 100 ∷ []) (Syntax.ttcons (Syntax.tcons y9 (Syntax.tcons y15 Syntax.tnil))
+    (Syntax.ttcons (Syntax.tcons u64 (Syntax.tcons y9 Syntax.tnil)) Syntax.ttnil))
 
 abbrev pub y20 : Syntax.Ty
 y20 = Syntax.tyStruct (99 ∷ 97 ∷ 109 ∷ 101 ∷ 114 ∷ 97 ∷ 115 ∷ 58 ∷ 58 ∷ 69 ∷ 110 ∷ 116 ∷ 114 ∷ 105 ∷ 101 ∷ 115 ∷ []) (Syntax.tcons (Syntax.tyArray y18 16) Syntax.tnil)
 
 abbrev pub ps : List.List (Kinds.PK 3)
-ps = (ShrSlice.pShrS n8 0 tt) ∷ (Values.struct FujiHeader.the-type Laws'3.the-laws Laws'3.the-copy Laws'3.the-plain) ∷ (Num.pNum Syntax.w64) ∷ (MutSlice.pMutS n16 1 tt) ∷ (MutSlice.pMutS
+ps = (ShrSlice.pShrS n8 0 tt) ∷ (Values.struct FujiHeader.the-type Laws'4.the-laws Laws'4.the-copy Laws'4.the-plain) ∷ (Num.pNum Syntax.w64) ∷ (MutSlice.pMutS n16 1 tt) ∷ (MutSlice.pMutS
     (Element.type) 2 tt) ∷ []
 
 abbrev pub r : Kinds.RK 3
-r = Values.enum-result Walked.the-type Laws'.the-laws Laws'.the-copy Laws'.the-plain tt
+r = Values.enum-result Walked.the-type Laws'3.the-laws Laws'3.the-copy Laws'3.the-plain tt
 
 abbrev pub xs : List.List Syntax.Ty
-xs = y12 ∷ u64 ∷ y16 ∷ y16 ∷ y1 ∷ y0 ∷ y1 ∷ y7 ∷ y17 ∷ y6 ∷ (Syntax.tyStruct (38 ∷ 91 ∷ 93 ∷ []) (Syntax.tcons y6 (Syntax.tcons u64 Syntax.tnil))) ∷ y14 ∷ y17 ∷ y13 ∷ (Syntax.tyArray u8 36) ∷ y9 ∷ y20
+xs = y11 ∷ u64 ∷ y16 ∷ y16 ∷ y1 ∷ y0 ∷ y1 ∷ y7 ∷ y17 ∷ y6 ∷ (Syntax.tyStruct (38 ∷ 91 ∷ 93 ∷ []) (Syntax.tcons y6 (Syntax.tcons u64 Syntax.tnil))) ∷ y14 ∷ y17 ∷ y13 ∷ (Syntax.tyArray u8 36) ∷ y8 ∷ y20
     ∷ []
 
 abbrev pub m : Nat.ℕ
 m = 4
 
 abbrev pub ps·0 : List.List (Kinds.PK 0)
-ps·0 = (Values.struct FujiHeader.the-type Laws'3.the-laws Laws'3.the-copy Laws'3.the-plain) ∷ []
+ps·0 = (Values.struct FujiHeader.the-type Laws'4.the-laws Laws'4.the-copy Laws'4.the-plain) ∷ []
 
 abbrev pub r·0 : Kinds.RK 0
-r·0 = Values.struct-result Form.the-type Laws.the-laws Laws.the-copy Laws.the-plain
+r·0 = Values.struct-result Form.the-type Laws''.the-laws Laws''.the-copy Laws''.the-plain
 
 abbrev pub ps·1 : List.List (Kinds.PK 0)
-ps·1 = (Values.struct FujiHeader.the-type Laws'3.the-laws Laws'3.the-copy Laws'3.the-plain) ∷ []
+ps·1 = (Values.struct FujiHeader.the-type Laws'4.the-laws Laws'4.the-copy Laws'4.the-plain) ∷ []
 
 abbrev pub r·1 : Kinds.RK 0
 r·1 = Num.rNum Syntax.w64
@@ -188,21 +190,21 @@ abbrev pub ps·5 : List.List (Kinds.PK 0)
 ps·5 = []
 
 abbrev pub r·5 : Kinds.RK 0
-r·5 = Values.struct-result Part.the-type Laws'4.the-laws Laws'4.the-copy Laws'4.the-plain
+r·5 = Values.struct-result Part.the-type Laws'.the-laws Laws'.the-copy Laws'.the-plain
 
 abbrev pub ps·6 : List.List (Kinds.PK 0)
 ps·6 = []
 
 abbrev pub r·6 : Kinds.RK 0
-r·6 = Values.struct-result Entries.the-type Laws''.the-laws Laws''.the-copy Laws''.the-plain
+r·6 = Values.struct-result Entries.the-type Laws.the-laws Laws.the-copy Laws.the-plain
 
 abbrev pub ps·7 : List.List (Kinds.PK 6)
-ps·7 = (ShrSlice.pShrS n8 0 tt) ∷ (ShrSlice.pShrS n8 1 tt) ∷ (MutSlice.pMutS n16 2 tt) ∷ (MutSlice.pMutS (Element.type) 3 tt) ∷ (MutSlice.pMutS n16 4 tt) ∷ (Values.struct Form.the-type Laws.the-laws
-    Laws.the-copy Laws.the-plain) ∷ (ShrRef.pShr (Array'.Array n16 768) 5 tt) ∷ (Array.pArr (Array.eInt Syntax.w8) (Array.eInt-laws Syntax.w8) 36) ∷ (Values.struct Part.the-type Laws'4.the-laws
-    Laws'4.the-copy Laws'4.the-plain) ∷ (Num.pNum Syntax.w64) ∷ Bool.pBool ∷ (Values.struct Entries.the-type Laws''.the-laws Laws''.the-copy Laws''.the-plain) ∷ []
+ps·7 = (ShrSlice.pShrS n8 0 tt) ∷ (ShrSlice.pShrS n8 1 tt) ∷ (MutSlice.pMutS n16 2 tt) ∷ (MutSlice.pMutS (Element.type) 3 tt) ∷ (MutSlice.pMutS n16 4 tt) ∷ (Values.struct Form.the-type Laws''.the-laws
+    Laws''.the-copy Laws''.the-plain) ∷ (ShrRef.pShr (Array'.Array n16 768) 5 tt) ∷ (Array.pArr (Array.eInt Syntax.w8) (Array.eInt-laws Syntax.w8) 36) ∷ (Values.struct Part.the-type Laws'.the-laws
+    Laws'.the-copy Laws'.the-plain) ∷ (Num.pNum Syntax.w64) ∷ Bool.pBool ∷ (Values.struct Entries.the-type Laws.the-laws Laws.the-copy Laws.the-plain) ∷ []
 
 abbrev pub r·7 : Kinds.RK 6
-r·7 = Values.enum-result Walked.the-type Laws'.the-laws Laws'.the-copy Laws'.the-plain tt
+r·7 = Values.enum-result Walked.the-type Laws'3.the-laws Laws'3.the-copy Laws'3.the-plain tt
 
 abbrev pub hs : List.List Syntax.Home
 hs = Syntax.valueLocal ∷ Syntax.valueLocal ∷ Syntax.valueLocal ∷ Syntax.valueLocal ∷ Syntax.valueLocal ∷ Syntax.valueLocal ∷ Syntax.valueLocal ∷ Syntax.valueLocal ∷ Syntax.valueLocal ∷
@@ -261,9 +263,9 @@ abbrev b16 : Syntax.Body
 b16 = Syntax.call "cameras::no_entries" [] (Syntax.place 22 [])
 
 abbrev b17 : Syntax.Body
-b17 = Syntax.call "read_block::reading::walk" ((Syntax.copy (Syntax.place 8 [])) ∷ (Syntax.copy (Syntax.place 9 [])) ∷ (Syntax.copy (Syntax.place 14 [])) ∷ (Syntax.copy (Syntax.place 16 [])) ∷ (Syntax.copy
-    (Syntax.place 18 [])) ∷ (Syntax.copy (Syntax.place 6 [])) ∷ (Syntax.copy (Syntax.place 19 [])) ∷ (Syntax.copy (Syntax.place 20 [])) ∷ (Syntax.copy (Syntax.place 21 [])) ∷ (Syntax.copy (Syntax.place 7
-    [])) ∷ Syntax.opdFalse ∷ (Syntax.copy (Syntax.place 22 [])) ∷ []) (Syntax.place 0 [])
+b17 = Syntax.call "read_block::reading::walk" ((Syntax.copy (Syntax.place 8 [])) ∷ (Syntax.copy (Syntax.place 9 [])) ∷ (Syntax.copy (Syntax.place 14 [])) ∷ (Syntax.copy (Syntax.place 16 [])) ∷
+    (Syntax.copy (Syntax.place 18 [])) ∷ (Syntax.copy (Syntax.place 6 [])) ∷ (Syntax.copy (Syntax.place 19 [])) ∷ (Syntax.copy (Syntax.place 20 [])) ∷ (Syntax.copy (Syntax.place 21 [])) ∷ (Syntax.copy
+    (Syntax.place 7 [])) ∷ Syntax.opdFalse ∷ (Syntax.copy (Syntax.place 22 [])) ∷ []) (Syntax.place 0 [])
 
 abbrev b18 : Syntax.Body
 b18 = Syntax.return
@@ -318,7 +320,7 @@ abbrev pub v6 : Row.Row
 v6 = Rows'.any-gone y6
 
 abbrev pub v7 : Row.Row
-v7 = Rows'.any-gone y8
+v7 = Rows'.any-gone y12
 
 abbrev pub v8 : Row.Row
 v8 = Rows'.whole (Declared'.row Form.the-type)
@@ -354,7 +356,7 @@ abbrev pub v18 : Row.Row
 v18 = Rows'.any-gone y14
 
 abbrev pub v19 : Row.Row
-v19 = Rows'.any-gone y12
+v19 = Rows'.any-gone y11
 
 abbrev pub v20 : Row.Row
 v20 = Rows'.any-gone u64
@@ -366,7 +368,7 @@ abbrev pub v22 : Row.Row
 v22 = Relend.mslice-owed n16 y3 1 3 Row.off
 
 abbrev pub v23 : Row.Row
-v23 = Rows'.any-gone y9
+v23 = Rows'.any-gone y8
 
 abbrev pub v24 : Row.Row
 v24 = Rows'.any-gone y20
@@ -669,13 +671,13 @@ module _ (claims· : Claims) where
   s1 = λ bs. Know.k-sl-known (Referent.fInt Syntax.w16) T0 4 1 y3 Row.off 0 λ x. x
 
   abbrev s2 : (bs : List.List Nat.ℕ) → Typed.Both T0 T4
-  s2 = λ bs. Call.callB ps·0 r·0 (claims· .0) (claims· .1) T0 (record { pos = 2; st = []; d = 0; at = λ x. x }, tt) 6 [] y12
+  s2 = λ bs. Call.callB ps·0 r·0 (claims· .0) (claims· .1) T0 (record { pos = 2; st = []; d = 0; at = λ x. x }, tt) 6 [] y11
 
   abbrev s3 : (bs : List.List Nat.ℕ) → Typed.Both T4 T5
   s3 = λ bs. Call.callB ps·1 r·1 (claims· .2) (claims· .3) T4 (record { pos = 2; st = []; d = 0; at = λ x. x }, tt) 7 [] u64
 
   abbrev s4 : (bs : List.List Nat.ℕ) → Typed.Mo T5 → Typed.Mo T6
-  s4 = λ bs. Scalar.n-room T5 2 y8
+  s4 = λ bs. Scalar.n-room T5 2 y12
 
   abbrev s5 : (bs : List.List Nat.ℕ) → Typed.Both T6 T7
   s5 = λ bs. Call.callB ps·2 r·2 (claims· .4) (claims· .5) T6 (record { pos = 1; ty = y2; ref = λ x. x }, (Num.vAt 3 λ x. x, tt)) 8 (0 ∷ []) y16
@@ -726,7 +728,7 @@ module _ (claims· : Claims) where
   s24 = λ bs. AtSlots.n-as-by T25 20 (Rows.arrF n8 36 0) λ x. x
 
   abbrev s25 : (bs : List.List Nat.ℕ) → Typed.Both T26 T27
-  s25 = λ bs. Call.callB ps·5 r·5 (claims· .10) (claims· .11) T26 tt 21 [] y9
+  s25 = λ bs. Call.callB ps·5 r·5 (claims· .10) (claims· .11) T26 tt 21 [] y8
 
   abbrev s26 : (bs : List.List Nat.ℕ) → Typed.Both T27 T28
   s26 = λ bs. Call.callB ps·6 r·6 (claims· .12) (claims· .13) T27 tt 22 [] y20
@@ -768,7 +770,7 @@ module _ (claims· : Claims) where
   s30 = λ bs. Scalar.n-room T31 19 y13
 
   abbrev s31 : (bs : List.List Nat.ℕ) → Typed.Mo T32 → Typed.Mo T33
-  s31 = λ bs. Scalar.n-room T32 6 y12
+  s31 = λ bs. Scalar.n-room T32 6 y11
 
   abbrev s32 : (bs : List.List Nat.ℕ) → Typed.Mo T33 → Typed.Mo T34
   s32 = λ bs. Scalar.n-room T33 7 u64
@@ -777,7 +779,7 @@ module _ (claims· : Claims) where
   s33 = λ bs. Scalar.n-room T34 20 (Syntax.tyArray u8 36)
 
   abbrev s34 : (bs : List.List Nat.ℕ) → Typed.Mo T35 → Typed.Mo T36
-  s34 = λ bs. Scalar.n-room T35 21 y9
+  s34 = λ bs. Scalar.n-room T35 21 y8
 
   abbrev s35 : (bs : List.List Nat.ℕ) → Typed.Mo T36 → Typed.Mo T37
   s35 = λ bs. Scalar.n-room T36 22 y20
@@ -811,10 +813,10 @@ module _ (claims· : Claims) where
       abbrev pub Closed : Type 2
       Closed = (𝓤 : URA.URA M) (H : Wp.Heap 𝓤) (A : Atoms.Atoms 𝓤) (W : Kit.Given 𝓤 H A) (𝓣 : Wp.Tables 𝓤 H) (known0 : Plain.Known 𝓤 H A W 𝓣 0 ps·0 r·0 (claims· .0) (claims· .1) "read_block::form_of")
           (known1 : Plain.Known 𝓤 H A W 𝓣 0 ps·1 r·1 (claims· .2) (claims· .3) "read_block::tight::line_count") (known2 : Plain.Known 𝓤 H A W 𝓣 1 ps·2 r·2 (claims· .4) (claims· .5) "stream::block_bytes")
-          (known3 : Plain.Known 𝓤 H A W 𝓣 1 ps·3 r·3 (claims· .6) (claims· .7) "stream::base_row") (known4 : Plain.Known 𝓤 H A W 𝓣 0 ps·4 r·4 (claims· .8) (claims· .9) "image_map::xtrans_places") (known5 :
-          Plain.Known 𝓤 H A W 𝓣 0 ps·5 r·5 (claims· .10) (claims· .11) "read_block::tight::no_part") (known6 : Plain.Known 𝓤 H A W 𝓣 0 ps·6 r·6 (claims· .12) (claims· .13) "cameras::no_entries") (known7 :
-          Plain.Known 𝓤 H A W 𝓣 6 ps·7 r·7 (claims· .14) (claims· .15) "read_block::reading::walk") → Statement.Triple 𝓤 (Wp.WpFn 𝓤 H (𝓣 .C) (𝓣 .Λ) (Function.fnOf 3 ps r xs m hs body)) (Function.plainOf 𝓤 H A
-          3 ps r Pre· Post·)
+          (known3 : Plain.Known 𝓤 H A W 𝓣 1 ps·3 r·3 (claims· .6) (claims· .7) "stream::base_row") (known4 : Plain.Known 𝓤 H A W 𝓣 0 ps·4 r·4 (claims· .8) (claims· .9) "image_map::xtrans_places") (known5
+          : Plain.Known 𝓤 H A W 𝓣 0 ps·5 r·5 (claims· .10) (claims· .11) "read_block::tight::no_part") (known6 : Plain.Known 𝓤 H A W 𝓣 0 ps·6 r·6 (claims· .12) (claims· .13) "cameras::no_entries") (known7
+          : Plain.Known 𝓤 H A W 𝓣 6 ps·7 r·7 (claims· .14) (claims· .15) "read_block::reading::walk") → Statement.Triple 𝓤 (Wp.WpFn 𝓤 H (𝓣 .C) (𝓣 .Λ) (Function.fnOf 3 ps r xs m hs body)) (Function.plainOf
+          𝓤 H A 3 ps r Pre· Post·)
 
     module _ where
       abbrev at0 : (bs : List.List Nat.ℕ) → Typed.TF T1 O0
@@ -945,10 +947,10 @@ module _ (claims· : Claims) where
 
       module _ {M : Type 1} (𝓤 : URA.URA M) (H : Wp.Heap 𝓤) (A : Atoms.Atoms 𝓤) (W : Kit.Given 𝓤 H A) (𝓣 : Wp.Tables 𝓤 H) where
         abbrev Knowns : Type 1
-        Knowns = Plain.Known 𝓤 H A W 𝓣 0 ps·0 r·0 (claims· .0) (claims· .1) "read_block::form_of" × Plain.Known 𝓤 H A W 𝓣 0 ps·1 r·1 (claims· .2) (claims· .3) "read_block::tight::line_count" × Plain.Known 𝓤 H A
-            W 𝓣 1 ps·2 r·2 (claims· .4) (claims· .5) "stream::block_bytes" × Plain.Known 𝓤 H A W 𝓣 1 ps·3 r·3 (claims· .6) (claims· .7) "stream::base_row" × Plain.Known 𝓤 H A W 𝓣 0 ps·4 r·4 (claims· .8)
-            (claims· .9) "image_map::xtrans_places" × Plain.Known 𝓤 H A W 𝓣 0 ps·5 r·5 (claims· .10) (claims· .11) "read_block::tight::no_part" × Plain.Known 𝓤 H A W 𝓣 0 ps·6 r·6 (claims· .12) (claims· .13)
-            "cameras::no_entries" × Plain.Known 𝓤 H A W 𝓣 6 ps·7 r·7 (claims· .14) (claims· .15) "read_block::reading::walk"
+        Knowns = Plain.Known 𝓤 H A W 𝓣 0 ps·0 r·0 (claims· .0) (claims· .1) "read_block::form_of" × Plain.Known 𝓤 H A W 𝓣 0 ps·1 r·1 (claims· .2) (claims· .3) "read_block::tight::line_count" ×
+            Plain.Known 𝓤 H A W 𝓣 1 ps·2 r·2 (claims· .4) (claims· .5) "stream::block_bytes" × Plain.Known 𝓤 H A W 𝓣 1 ps·3 r·3 (claims· .6) (claims· .7) "stream::base_row" × Plain.Known 𝓤 H A W 𝓣 0 ps·4
+            r·4 (claims· .8) (claims· .9) "image_map::xtrans_places" × Plain.Known 𝓤 H A W 𝓣 0 ps·5 r·5 (claims· .10) (claims· .11) "read_block::tight::no_part" × Plain.Known 𝓤 H A W 𝓣 0 ps·6 r·6 (claims·
+            .12) (claims· .13) "cameras::no_entries" × Plain.Known 𝓤 H A W 𝓣 6 ps·7 r·7 (claims· .14) (claims· .15) "read_block::reading::walk"
 
       module _ (κs : Lifetimes.Lfts 3) (qs : Lifetimes.Shares 3) where
         abbrev k0 : Row.Life
@@ -1192,7 +1194,7 @@ module _ (claims· : Claims) where
               Path'.refl)) d16
 
           d18 : Typed.Typed 𝓤 H A 𝓣 E G35 b18 Δ0 (at18 bs)
-          d18 = Typed.g-pre 𝓤 H A W 𝓣 E G35 G36 b18 Δ0 (Typed.pass T35 T36 (s34 bs)) (at17 bs) (Scalar.g-room 𝓤 H A W E G35 21 y9 (Local.room-whole 𝓤 H A W (Declared'.row Part.the-type) y9
+          d18 = Typed.g-pre 𝓤 H A W 𝓣 E G35 G36 b18 Δ0 (Typed.pass T35 T36 (s34 bs)) (at17 bs) (Scalar.g-room 𝓤 H A W E G35 21 y8 (Local.room-whole 𝓤 H A W (Declared'.row Part.the-type) y8
               Path'.refl)) d17
 
           d19 : Typed.Typed 𝓤 H A 𝓣 E G34 b18 Δ0 (at19 bs)
@@ -1202,7 +1204,7 @@ module _ (claims· : Claims) where
           d20 = Typed.g-pre 𝓤 H A W 𝓣 E G33 G34 b18 Δ0 (Typed.pass T33 T34 (s32 bs)) (at19 bs) (Scalar.g-room 𝓤 H A W E G33 7 u64 (Scalar.room-sc 𝓤 H A W (Row.sInt Syntax.w64))) d19
 
           d21 : Typed.Typed 𝓤 H A 𝓣 E G32 b18 Δ0 (at21 bs)
-          d21 = Typed.g-pre 𝓤 H A W 𝓣 E G32 G33 b18 Δ0 (Typed.pass T32 T33 (s31 bs)) (at20 bs) (Scalar.g-room 𝓤 H A W E G32 6 y12 (Local.room-whole 𝓤 H A W (Declared'.row Form.the-type) y12
+          d21 = Typed.g-pre 𝓤 H A W 𝓣 E G32 G33 b18 Δ0 (Typed.pass T32 T33 (s31 bs)) (at20 bs) (Scalar.g-room 𝓤 H A W E G32 6 y11 (Local.room-whole 𝓤 H A W (Declared'.row Form.the-type) y11
               Path'.refl)) d20
 
           d22 : Typed.Typed 𝓤 H A 𝓣 E G31 b18 Δ0 (at22 bs)
@@ -1216,8 +1218,8 @@ module _ (claims· : Claims) where
           d24 = Typed.g-pre 𝓤 H A W 𝓣 E G29 G30 b18 Δ0 (Typed.pass T29 T30 (s28 bs)) (at23 bs) (Scalar.g-room 𝓤 H A W E G29 8 y16 (Shared.room-sslice 𝓤 H A W n8 y5 0)) d23
 
           d25 : Typed.Typed 𝓤 H A 𝓣 E G28 (Syntax.seq b17 b18) Δ0 (at25 bs)
-          d25 = Typed.s-seq 𝓤 H A W 𝓣 E G28 G29 b17 b18 Δ0 (Typed.both (s27 bs)) (at24 bs) (Plain.t-call-plain 𝓤 H A W 𝓣 6 ps·7 r·7 (claims· .14) (claims· .15) "read_block::reading::walk" (known .7) E (λ
-              pos β. β) G28 (
+          d25 = Typed.s-seq 𝓤 H A W 𝓣 E G28 G29 b17 b18 Δ0 (Typed.both (s27 bs)) (at24 bs) (Plain.t-call-plain 𝓤 H A W 𝓣 6 ps·7 r·7 (claims· .14) (claims· .15) "read_block::reading::walk" (known .7) E
+              (λ pos β. β) G28 (
                 record { pos = 8; ty = y5; ref = λ x. x },
                 (
                   record { pos = 9; ty = y5; ref = λ x. x },
@@ -1263,7 +1265,7 @@ module _ (claims· : Claims) where
                         Mut.reads-mslice 𝓤 H A W n16 y7 5,
                         Path'.refl,
                         (
-                          (Values.struct-copied 𝓤 H A W Form.the-type Laws.the-laws Laws.the-copy, Path'.refl),
+                          (Values.struct-copied 𝓤 H A W Form.the-type Laws''.the-laws Laws''.the-copy, Path'.refl),
                           (
                             ShrRef.spares-sref 𝓤 H A W (Array'.Array n16 768) y13 6,
                             Reads.reads-sref 𝓤 H A W (Array'.Array n16 768) y13 6,
@@ -1271,8 +1273,8 @@ module _ (claims· : Claims) where
                             (
                               (Array.arr-yields 𝓤 H A W (Array.eInt Syntax.w8) (Array.eInt-laws Syntax.w8) 36, Path'.refl),
                               (
-                                (Values.struct-copied 𝓤 H A W Part.the-type Laws'4.the-laws Laws'4.the-copy, Path'.refl),
-                                ((Scalar.reads-sc 𝓤 H A W (Row.sInt Syntax.w64), Path'.refl), (tt, ((Values.struct-copied 𝓤 H A W Entries.the-type Laws''.the-laws Laws''.the-copy, Path'.refl), tt))),
+                                (Values.struct-copied 𝓤 H A W Part.the-type Laws'.the-laws Laws'.the-copy, Path'.refl),
+                                ((Scalar.reads-sc 𝓤 H A W (Row.sInt Syntax.w64), Path'.refl), (tt, ((Values.struct-copied 𝓤 H A W Entries.the-type Laws.the-laws Laws.the-copy, Path'.refl), tt))),
                               ),
                             ),
                           ),
@@ -1281,8 +1283,8 @@ module _ (claims· : Claims) where
                     ),
                   ),
                 ),
-              )
-              (Reads.room-gone 𝓤 H A y19) (tt, (tt, (tt, (tt, (tt, (tt, tt)))))) Path'.refl) d24
+              ) (Reads.room-gone 𝓤
+              H A y19) (tt, (tt, (tt, (tt, (tt, (tt, tt)))))) Path'.refl) d24
 
           d26 : Typed.Typed 𝓤 H A 𝓣 E G27 (Syntax.seq b16 (Syntax.seq b17 b18)) Δ0 (at26 bs)
           d26 = Typed.s-seq 𝓤 H A W 𝓣 E G27 G28 b16 (Syntax.seq b17 b18) Δ0 (Typed.both (s26 bs)) (at25 bs) (Plain.t-call-plain 𝓤 H A W 𝓣 0 ps·6 r·6 (claims· .12) (claims· .13) "cameras::no_entries"
@@ -1290,7 +1292,7 @@ module _ (claims· : Claims) where
 
           d27 : Typed.Typed 𝓤 H A 𝓣 E G26 b21 Δ0 (at27 bs)
           d27 = Typed.s-seq 𝓤 H A W 𝓣 E G26 G27 b15 (Syntax.seq b16 (Syntax.seq b17 b18)) Δ0 (Typed.both (s25 bs)) (at26 bs) (Plain.t-call-plain 𝓤 H A W 𝓣 0 ps·5 r·5 (claims· .10) (claims· .11)
-              "read_block::tight::no_part" (known .5) E (λ pos β. β) G26 tt 21 [] (Call.sub-id 𝓤 H A W (G26 .slots)) tt (Reads.room-gone 𝓤 H A y9) tt Path'.refl) d26
+              "read_block::tight::no_part" (known .5) E (λ pos β. β) G26 tt 21 [] (Call.sub-id 𝓤 H A W (G26 .slots)) tt (Reads.room-gone 𝓤 H A y8) tt Path'.refl) d26
 
           d28 : Typed.Typed 𝓤 H A 𝓣 E G25 b21 Δ0 (at28 bs)
           d28 = Typed.g-pre 𝓤 H A W 𝓣 E G25 G26 b21 Δ0 (Typed.pass T25 T26 (s24 bs)) (at27 bs) (AtSlots.g-as-by 𝓤 H A W E (λ ρ. Unit) G25 20 (Rows.arrF n8 36 0) (λ x. x) (Own.told-none 𝓤 H A (G25
@@ -1385,18 +1387,18 @@ module _ (claims· : Claims) where
               (tt, tt) (Path'.refl, λ b o k. tt)) d46
 
           d48 : Typed.Typed 𝓤 H A 𝓣 E (on T5 l8) (Syntax.seq b2 (Syntax.seq b3 b32)) Δ0 (at48 bs)
-          d48 = Typed.g-pre 𝓤 H A W 𝓣 E (on T5 l8) (on T6 l8) (Syntax.seq b2 (Syntax.seq b3 b32)) Δ0 (Typed.pass T5 T6 (s4 bs)) (at47 bs) (Scalar.g-room 𝓤 H A W E (on T5 l8) 2 y8 (Local.room-whole 𝓤 H
-              A W (Declared'.row FujiHeader.the-type) y8 Path'.refl)) d47
+          d48 = Typed.g-pre 𝓤 H A W 𝓣 E (on T5 l8) (on T6 l8) (Syntax.seq b2 (Syntax.seq b3 b32)) Δ0 (Typed.pass T5 T6 (s4 bs)) (at47 bs) (Scalar.g-room 𝓤 H A W E (on T5 l8) 2 y12 (Local.room-whole 𝓤
+              H A W (Declared'.row FujiHeader.the-type) y12 Path'.refl)) d47
 
           d49 : Typed.Typed 𝓤 H A 𝓣 E (on T4 l8) b35 Δ0 (at49 bs)
           d49 = Typed.s-seq 𝓤 H A W 𝓣 E (on T4 l8) (on T5 l8) b1 (Syntax.seq b2 (Syntax.seq b3 b32)) Δ0 (Typed.both (s3 bs)) (at48 bs) (Plain.t-call-plain 𝓤 H A W 𝓣 0 ps·1 r·1 (claims· .2) (claims·
               .3) "read_block::tight::line_count" (known .1) E (λ pos β. β) (on T4 l8) (record { pos = 2; st = []; d = 0; at = λ x. x }, tt) 7 [] (Call.sub-id 𝓤 H A W ((on T4 l8) .slots))
-              ((Values.struct-copied 𝓤 H A W FujiHeader.the-type Laws'3.the-laws Laws'3.the-copy, Path'.refl), tt) (Reads.room-gone 𝓤 H A u64) tt Path'.refl) d48
+              ((Values.struct-copied 𝓤 H A W FujiHeader.the-type Laws'4.the-laws Laws'4.the-copy, Path'.refl), tt) (Reads.room-gone 𝓤 H A u64) tt Path'.refl) d48
 
           d50 : Typed.Typed 𝓤 H A 𝓣 E (on T0 l8) b36 Δ0 (at50 bs)
-          d50 = Typed.s-seq 𝓤 H A W 𝓣 E (on T0 l8) (on T4 l8) b0 b35 Δ0 (Typed.both (s2 bs)) (at49 bs) (Plain.t-call-plain 𝓤 H A W 𝓣 0 ps·0 r·0 (claims· .0) (claims· .1) "read_block::form_of" (known .0) E
-              (λ pos β. β) (on T0 l8) (record { pos = 2; st = []; d = 0; at = λ x. x }, tt) 6 [] (Call.sub-id 𝓤 H A W ((on T0 l8) .slots))
-              ((Values.struct-copied 𝓤 H A W FujiHeader.the-type Laws'3.the-laws Laws'3.the-copy, Path'.refl), tt) (Reads.room-gone 𝓤 H A y12) tt Path'.refl) d49
+          d50 = Typed.s-seq 𝓤 H A W 𝓣 E (on T0 l8) (on T4 l8) b0 b35 Δ0 (Typed.both (s2 bs)) (at49 bs) (Plain.t-call-plain 𝓤 H A W 𝓣 0 ps·0 r·0 (claims· .0) (claims· .1) "read_block::form_of" (known
+              .0) E (λ pos β. β) (on T0 l8) (record { pos = 2; st = []; d = 0; at = λ x. x }, tt) 6 [] (Call.sub-id 𝓤 H A W ((on T0 l8) .slots))
+              ((Values.struct-copied 𝓤 H A W FujiHeader.the-type Laws'4.the-laws Laws'4.the-copy, Path'.refl), tt) (Reads.room-gone 𝓤 H A y11) tt Path'.refl) d49
 
           d51 : Typed.Typed 𝓤 H A 𝓣 E (on T0 l8) b36 Δ0 (at51 bs)
           d51 = Typed.g-pre 𝓤 H A W 𝓣 E (on T0 l8) (on T0 l8) b36 Δ0 (Typed.give (s1 bs)) (at50 bs) (Know.g-sl-known 𝓤 H A W (Referent.fInt Syntax.w16) E (on T0 l8) 4 1 y3 k1 0 (λ x. x) record
@@ -1412,7 +1414,7 @@ module _ (claims· : Claims) where
       module _ (κs : Lifetimes.Lfts 3) where
         pub record Args : Type 0 where
           pub d : Kinds.Den {n = 3} κs (ShrSlice.pShrS n8 0 tt)
-          pub h : Kinds.Den {n = 3} κs (Values.struct FujiHeader.the-type Laws'3.the-laws Laws'3.the-copy Laws'3.the-plain)
+          pub h : Kinds.Den {n = 3} κs (Values.struct FujiHeader.the-type Laws'4.the-laws Laws'4.the-copy Laws'4.the-plain)
           pub b : Kinds.Den {n = 3} κs (Num.pNum Syntax.w64)
           pub lines : Kinds.Den {n = 3} κs (MutSlice.pMutS n16 1 tt)
           pub rs : Kinds.Den {n = 3} κs (MutSlice.pMutS (Element.type) 2 tt)
@@ -1980,10 +1982,10 @@ module _ (claims· : Claims) where
           }
 
         module _ {M : Type 1} (𝓤 : URA.URA M) (H : Wp.Heap 𝓤) (A : Atoms.Atoms 𝓤) (W : Kit.Given 𝓤 H A) (𝓣 : Wp.Tables 𝓤 H) (known0 : Plain.Known 𝓤 H A W 𝓣 0 ps·0 r·0 (claims· .0) (claims· .1)
-            "read_block::form_of") (known1 : Plain.Known 𝓤 H A W 𝓣 0 ps·1 r·1 (claims· .2) (claims· .3) "read_block::tight::line_count") (known2 : Plain.Known 𝓤 H A W 𝓣 1 ps·2 r·2 (claims· .4) (claims· .5)
-            "stream::block_bytes") (known3 : Plain.Known 𝓤 H A W 𝓣 1 ps·3 r·3 (claims· .6) (claims· .7) "stream::base_row") (known4 : Plain.Known 𝓤 H A W 𝓣 0 ps·4 r·4 (claims· .8) (claims· .9)
-            "image_map::xtrans_places") (known5 : Plain.Known 𝓤 H A W 𝓣 0 ps·5 r·5 (claims· .10) (claims· .11) "read_block::tight::no_part") (known6 : Plain.Known 𝓤 H A W 𝓣 0 ps·6 r·6 (claims· .12) (claims· .13)
-            "cameras::no_entries") (known7 : Plain.Known 𝓤 H A W 𝓣 6 ps·7 r·7 (claims· .14) (claims· .15) "read_block::reading::walk") where
+            "read_block::form_of") (known1 : Plain.Known 𝓤 H A W 𝓣 0 ps·1 r·1 (claims· .2) (claims· .3) "read_block::tight::line_count") (known2 : Plain.Known 𝓤 H A W 𝓣 1 ps·2 r·2 (claims· .4) (claims·
+            .5) "stream::block_bytes") (known3 : Plain.Known 𝓤 H A W 𝓣 1 ps·3 r·3 (claims· .6) (claims· .7) "stream::base_row") (known4 : Plain.Known 𝓤 H A W 𝓣 0 ps·4 r·4 (claims· .8) (claims· .9)
+            "image_map::xtrans_places") (known5 : Plain.Known 𝓤 H A W 𝓣 0 ps·5 r·5 (claims· .10) (claims· .11) "read_block::tight::no_part") (known6 : Plain.Known 𝓤 H A W 𝓣 0 ps·6 r·6 (claims· .12)
+            (claims· .13) "cameras::no_entries") (known7 : Plain.Known 𝓤 H A W 𝓣 6 ps·7 r·7 (claims· .14) (claims· .15) "read_block::reading::walk") where
           pub spec : Statement.Triple 𝓤 (Wp.WpFn 𝓤 H (𝓣 .C) (𝓣 .Λ) (Function.fnOf 3 ps r xs m hs body)) (Function.plainOf 𝓤 H A 3 ps r Pre· Post·)
           spec = Plain.t-fn-plain 𝓤 H A W 𝓣 3 ps r xs m hs body (λ κs qs bs. Φ bs) (λ κs qs bs bd. typed κs qs 𝓤 H A W 𝓣 (known0, known1, known2, known3, known4, known5, known6, known7) bs bd) Pre·
               Post· asked

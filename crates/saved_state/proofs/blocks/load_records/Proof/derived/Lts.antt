@@ -391,8 +391,8 @@ module _ (claims· : Claims) where
     module _ (M : Type 1) where
       abbrev pub Closed : Type 2
       Closed = (𝓤 : URA.URA M) (H : Wp.Heap 𝓤) (A : Atoms.Atoms 𝓤) (W : Kit.Given 𝓤 H A) (𝓣 : Wp.Tables 𝓤 H) (known0 : Plain.Known 𝓤 H A W 𝓣 0 ps·0 r·0 (claims· .0) (claims· .1)
-          "read_block::records::start_record") (known1 : Plain.Known 𝓤 H A W 𝓣 1 ps·1 r·1 (claims· .2) (claims· .3) "saved_state::load::load_record") (known2 : Plain.Known 𝓤 H A W 𝓣 1 ps·2 r·2 (claims· .4)
-          (claims· .5) "read_block::records::update") → Statement.Triple 𝓤 (Wp.WpFn 𝓤 H (𝓣 .C) (𝓣 .Λ) (Function.fnOf 2 ps r xs m hs body)) (Function.plainOf 𝓤 H A 2 ps r Pre· Post·)
+          "read_block::records::start_record") (known1 : Plain.Known 𝓤 H A W 𝓣 1 ps·1 r·1 (claims· .2) (claims· .3) "saved_state::load::load_record") (known2 : Plain.Known 𝓤 H A W 𝓣 1 ps·2 r·2 (claims·
+          .4) (claims· .5) "read_block::records::update") → Statement.Triple 𝓤 (Wp.WpFn 𝓤 H (𝓣 .C) (𝓣 .Λ) (Function.fnOf 2 ps r xs m hs body)) (Function.plainOf 𝓤 H A 2 ps r Pre· Post·)
 
     module _ (Inv·0 : InvT-loop) (μ·0 : MeasureT-loop) where
       abbrev at0 : Typed.TF T3 O4
@@ -486,8 +486,8 @@ module _ (claims· : Claims) where
 
       module _ {M : Type 1} (𝓤 : URA.URA M) (H : Wp.Heap 𝓤) (A : Atoms.Atoms 𝓤) (W : Kit.Given 𝓤 H A) (𝓣 : Wp.Tables 𝓤 H) where
         abbrev Knowns : Type 1
-        Knowns = Plain.Known 𝓤 H A W 𝓣 0 ps·0 r·0 (claims· .0) (claims· .1) "read_block::records::start_record" × Plain.Known 𝓤 H A W 𝓣 1 ps·1 r·1 (claims· .2) (claims· .3) "saved_state::load::load_record"
-            × Plain.Known 𝓤 H A W 𝓣 1 ps·2 r·2 (claims· .4) (claims· .5) "read_block::records::update"
+        Knowns = Plain.Known 𝓤 H A W 𝓣 0 ps·0 r·0 (claims· .0) (claims· .1) "read_block::records::start_record" × Plain.Known 𝓤 H A W 𝓣 1 ps·1 r·1 (claims· .2) (claims· .3)
+            "saved_state::load::load_record" × Plain.Known 𝓤 H A W 𝓣 1 ps·2 r·2 (claims· .4) (claims· .5) "read_block::records::update"
 
       module _ (κs : Lifetimes.Lfts 2) (qs : Lifetimes.Shares 2) where
         abbrev k0 : Row.Life
@@ -601,8 +601,8 @@ module _ (claims· : Claims) where
           d10 = Typed.g-pre 𝓤 H A W 𝓣 E G15 G16 b10 Δ3 (Typed.pass T15 T16 s12) at9 (Scalar.g-room 𝓤 H A W E G15 8 y3 (Local.room-whole 𝓤 H A W (Declared.row Record.the-type) y3 Path'.refl)) d9
 
           d11 : Typed.Typed 𝓤 H A 𝓣 E G14 (Syntax.seq b9 b10) Δ3 at11
-          d11 = Typed.s-seq 𝓤 H A W 𝓣 E G14 G15 b9 b10 Δ3 (Typed.both s11) at10 (Plain.t-call-plain 𝓤 H A W 𝓣 1 ps·2 r·2 (claims· .4) (claims· .5) "read_block::records::update" (known .2) E (λ pos β. β)
-              G14 (record { pos = 12; ty = y2; ref = λ x. x }, (Num.vAt 6 λ x. x, (record { pos = 8; st = []; d = 0; at = λ x. x }, tt))) 10 (2 ∷ []) (Call.sub-id 𝓤 H A W (G14 .slots)) (
+          d11 = Typed.s-seq 𝓤 H A W 𝓣 E G14 G15 b9 b10 Δ3 (Typed.both s11) at10 (Plain.t-call-plain 𝓤 H A W 𝓣 1 ps·2 r·2 (claims· .4) (claims· .5) "read_block::records::update" (known .2) E (λ pos β.
+              β) G14 (record { pos = 12; ty = y2; ref = λ x. x }, (Num.vAt 6 λ x. x, (record { pos = 8; st = []; d = 0; at = λ x. x }, tt))) 10 (2 ∷ []) (Call.sub-id 𝓤 H A W (G14 .slots)) (
                 Reads.as-is 𝓤 H A (Mut.mslice (Element.type) y2 2),
                 Mut.reads-mslice 𝓤 H A W (Element.type) y2 2,
                 Path'.refl,
@@ -1037,7 +1037,7 @@ module _ (claims· : Claims) where
           }
 
         module _ {M : Type 1} (𝓤 : URA.URA M) (H : Wp.Heap 𝓤) (A : Atoms.Atoms 𝓤) (W : Kit.Given 𝓤 H A) (𝓣 : Wp.Tables 𝓤 H) (known0 : Plain.Known 𝓤 H A W 𝓣 0 ps·0 r·0 (claims· .0) (claims· .1)
-            "read_block::records::start_record") (known1 : Plain.Known 𝓤 H A W 𝓣 1 ps·1 r·1 (claims· .2) (claims· .3) "saved_state::load::load_record") (known2 : Plain.Known 𝓤 H A W 𝓣 1 ps·2 r·2 (claims· .4)
-            (claims· .5) "read_block::records::update") where
+            "read_block::records::start_record") (known1 : Plain.Known 𝓤 H A W 𝓣 1 ps·1 r·1 (claims· .2) (claims· .3) "saved_state::load::load_record") (known2 : Plain.Known 𝓤 H A W 𝓣 1 ps·2 r·2 (claims·
+            .4) (claims· .5) "read_block::records::update") where
           pub spec : Statement.Triple 𝓤 (Wp.WpFn 𝓤 H (𝓣 .C) (𝓣 .Λ) (Function.fnOf 2 ps r xs m hs body)) (Function.plainOf 𝓤 H A 2 ps r Pre· Post·)
           spec = Plain.t-fn-plain 𝓤 H A W 𝓣 2 ps r xs m hs body (λ κs qs bs. Φ) (λ κs qs bs bd. typed κs qs 𝓤 H A W 𝓣 (known0, known1, known2) bs bd) Pre· Post· asked

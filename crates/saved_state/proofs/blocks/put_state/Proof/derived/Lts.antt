@@ -6,10 +6,10 @@ use Rattle.bits.proofs.Values.{n16, n8, u16, u32, u64, u8}
 use mathlib.Core.List.{_∷_, []}
 use Rattle.read_block.proofs.Element
 use Prim.Native.Nat
-use Rattle.stream.proofs.header.FujiHeader
-use Rattle.stream.proofs.header.FujiHeader.Laws
 use Rattle.pass_steps.proofs.Set
-use Rattle.pass_steps.proofs.Set.Laws as Laws'
+use Rattle.pass_steps.proofs.Set.Laws
+use Rattle.stream.proofs.header.FujiHeader
+use Rattle.stream.proofs.header.FujiHeader.Laws as Laws'
 use borrow.Author.Called
 use borrow.Fn.Any
 use borrow.Fn.Call
@@ -74,11 +74,11 @@ abbrev pub y6 : Syntax.Ty
 y6 = Syntax.tyRef Syntax.erased Syntax.mut u8
 
 abbrev pub y7 : Syntax.Ty
-y7 = Syntax.tyStruct (104 ∷ 101 ∷ 97 ∷ 100 ∷ 101 ∷ 114 ∷ 58 ∷ 58 ∷ 70 ∷ 117 ∷ 106 ∷ 105 ∷ 72 ∷ 101 ∷ 97 ∷ 100 ∷ 101 ∷ 114 ∷ []) (Syntax.tcons Syntax.tyBool (Syntax.tcons Syntax.tyBool (Syntax.tcons
-    u32 (Syntax.tcons u32 (Syntax.tcons u32 (Syntax.tcons u32 (Syntax.tcons u32 (Syntax.tcons u32 (Syntax.tcons u32 Syntax.tnil)))))))))
+y7 = Syntax.tyStruct (115 ∷ 116 ∷ 114 ∷ 101 ∷ 97 ∷ 109 ∷ 58 ∷ 58 ∷ 104 ∷ 101 ∷ 97 ∷ 100 ∷ 101 ∷ 114 ∷ 58 ∷ 58 ∷ 70 ∷ 117 ∷ 106 ∷ 105 ∷ 72 ∷ 101 ∷ 97 ∷ 100 ∷ 101 ∷ 114 ∷ []) (Syntax.tcons Syntax.tyBool
+    (Syntax.tcons Syntax.tyBool (Syntax.tcons u32 (Syntax.tcons u32 (Syntax.tcons u32 (Syntax.tcons u32 (Syntax.tcons u32 (Syntax.tcons u32 (Syntax.tcons u32 Syntax.tnil)))))))))
 
 abbrev pub y8 : Syntax.Ty
-y8 = Syntax.tyStruct (115 ∷ 116 ∷ 101 ∷ 112 ∷ 115 ∷ 58 ∷ 58 ∷ 83 ∷ 101 ∷ 116 ∷ []) (Syntax.tcons y0 (Syntax.tcons y0 Syntax.tnil))
+y8 = Syntax.tyStruct (112 ∷ 97 ∷ 115 ∷ 115 ∷ 95 ∷ 115 ∷ 116 ∷ 101 ∷ 112 ∷ 115 ∷ 58 ∷ 58 ∷ 83 ∷ 101 ∷ 116 ∷ []) (Syntax.tcons y0 (Syntax.tcons y0 Syntax.tnil))
 
 abbrev pub y9 : Syntax.Ty
 y9 = Syntax.tyStruct (38 ∷ 91 ∷ 93 ∷ []) (Syntax.tcons y5 (Syntax.tcons u64 Syntax.tnil))
@@ -87,7 +87,7 @@ abbrev pub y10 : Syntax.Ty
 y10 = Syntax.tyStruct (38 ∷ 91 ∷ 93 ∷ []) (Syntax.tcons y6 (Syntax.tcons u64 Syntax.tnil))
 
 abbrev pub ps : List.List (Kinds.PK 4)
-ps = (MutSlice.pMutS n8 0 tt) ∷ (ShrSlice.pShrS n8 1 tt) ∷ (Values.struct FujiHeader.the-type Laws.the-laws Laws.the-copy Laws.the-plain) ∷ (Num.pNum Syntax.w64) ∷ (Num.pNum Syntax.w64) ∷ (Num.pNum
+ps = (MutSlice.pMutS n8 0 tt) ∷ (ShrSlice.pShrS n8 1 tt) ∷ (Values.struct FujiHeader.the-type Laws'.the-laws Laws'.the-copy Laws'.the-plain) ∷ (Num.pNum Syntax.w64) ∷ (Num.pNum Syntax.w64) ∷ (Num.pNum
     Syntax.w64) ∷ (ShrSlice.pShrS n16 2 tt) ∷ (MutSlice.pMutS (Element.type) 3 tt) ∷ []
 
 abbrev pub r : Kinds.RK 4
@@ -109,10 +109,10 @@ abbrev pub ps·1 : List.List (Kinds.PK 1)
 ps·1 = (MutSlice.pMutS (Element.type) 0 tt) ∷ (Num.pNum Syntax.w64) ∷ []
 
 abbrev pub r·1 : Kinds.RK 1
-r·1 = Values.struct-result Set.the-type Laws'.the-laws Laws'.the-copy Laws'.the-plain
+r·1 = Values.struct-result Set.the-type Laws.the-laws Laws.the-copy Laws.the-plain
 
 abbrev pub ps·2 : List.List (Kinds.PK 1)
-ps·2 = (MutSlice.pMutS n8 0 tt) ∷ (Num.pNum Syntax.w64) ∷ (Values.struct Set.the-type Laws'.the-laws Laws'.the-copy Laws'.the-plain) ∷ Bool.pBool ∷ []
+ps·2 = (MutSlice.pMutS n8 0 tt) ∷ (Num.pNum Syntax.w64) ∷ (Values.struct Set.the-type Laws.the-laws Laws.the-copy Laws.the-plain) ∷ Bool.pBool ∷ []
 
 abbrev pub r·2 : Kinds.RK 1
 r·2 = Unit'.rUnit
@@ -145,8 +145,8 @@ abbrev b2 : Syntax.Body
 b2 = Syntax.assign (Syntax.place 12 []) (Syntax.aggregate ((Syntax.copy (Syntax.place 11 [])) ∷ (Syntax.copy (Syntax.place 1 ((Syntax.field 1) ∷ []))) ∷ []))
 
 abbrev b3 : Syntax.Body
-b3 = Syntax.call "saved_state::head::store_head" ((Syntax.copy (Syntax.place 12 [])) ∷ (Syntax.copy (Syntax.place 2 [])) ∷ (Syntax.copy (Syntax.place 4 [])) ∷ (Syntax.copy (Syntax.place 5 [])) ∷ (Syntax.copy
-    (Syntax.place 6 [])) ∷ []) (Syntax.place 10 [])
+b3 = Syntax.call "saved_state::head::store_head" ((Syntax.copy (Syntax.place 12 [])) ∷ (Syntax.copy (Syntax.place 2 [])) ∷ (Syntax.copy (Syntax.place 4 [])) ∷ (Syntax.copy (Syntax.place 5 [])) ∷
+    (Syntax.copy (Syntax.place 6 [])) ∷ []) (Syntax.place 10 [])
 
 abbrev b4 : Syntax.Body
 b4 = Syntax.assign (Syntax.place 13 []) (Syntax.addrOf (Syntax.place 1 ((Syntax.field 0) ∷ (Syntax.deref u8) ∷ [])))
@@ -164,8 +164,8 @@ abbrev b8 : Syntax.Body
 b8 = Syntax.call "read_block::records::load_set" ((Syntax.copy (Syntax.place 17 [])) ∷ (Syntax.int Syntax.w64 0) ∷ []) (Syntax.place 15 [])
 
 abbrev b9 : Syntax.Body
-b9 = Syntax.call "saved_state::store::store_set" ((Syntax.copy (Syntax.place 14 [])) ∷ (Syntax.int Syntax.w64 0) ∷ (Syntax.copy (Syntax.place 15 [])) ∷ (Syntax.copy (Syntax.place 9 [])) ∷ []) (Syntax.place 10
-    [])
+b9 = Syntax.call "saved_state::store::store_set" ((Syntax.copy (Syntax.place 14 [])) ∷ (Syntax.int Syntax.w64 0) ∷ (Syntax.copy (Syntax.place 15 [])) ∷ (Syntax.copy (Syntax.place 9 [])) ∷ [])
+    (Syntax.place 10 [])
 
 abbrev b10 : Syntax.Body
 b10 = Syntax.assign (Syntax.place 18 []) (Syntax.addrOf (Syntax.place 1 ((Syntax.field 0) ∷ (Syntax.deref u8) ∷ [])))
@@ -183,8 +183,8 @@ abbrev b14 : Syntax.Body
 b14 = Syntax.call "read_block::records::load_set" ((Syntax.copy (Syntax.place 21 [])) ∷ (Syntax.int Syntax.w64 1) ∷ []) (Syntax.place 15 [])
 
 abbrev b15 : Syntax.Body
-b15 = Syntax.call "saved_state::store::store_set" ((Syntax.copy (Syntax.place 19 [])) ∷ (Syntax.int Syntax.w64 1) ∷ (Syntax.copy (Syntax.place 15 [])) ∷ (Syntax.copy (Syntax.place 9 [])) ∷ []) (Syntax.place
-    10 [])
+b15 = Syntax.call "saved_state::store::store_set" ((Syntax.copy (Syntax.place 19 [])) ∷ (Syntax.int Syntax.w64 1) ∷ (Syntax.copy (Syntax.place 15 [])) ∷ (Syntax.copy (Syntax.place 9 [])) ∷ [])
+    (Syntax.place 10 [])
 
 abbrev b16 : Syntax.Body
 b16 = Syntax.assign (Syntax.place 22 []) (Syntax.addrOf (Syntax.place 1 ((Syntax.field 0) ∷ (Syntax.deref u8) ∷ [])))
@@ -202,8 +202,8 @@ abbrev b20 : Syntax.Body
 b20 = Syntax.call "read_block::records::load_set" ((Syntax.copy (Syntax.place 25 [])) ∷ (Syntax.int Syntax.w64 2) ∷ []) (Syntax.place 15 [])
 
 abbrev b21 : Syntax.Body
-b21 = Syntax.call "saved_state::store::store_set" ((Syntax.copy (Syntax.place 23 [])) ∷ (Syntax.int Syntax.w64 2) ∷ (Syntax.copy (Syntax.place 15 [])) ∷ (Syntax.copy (Syntax.place 9 [])) ∷ []) (Syntax.place
-    10 [])
+b21 = Syntax.call "saved_state::store::store_set" ((Syntax.copy (Syntax.place 23 [])) ∷ (Syntax.int Syntax.w64 2) ∷ (Syntax.copy (Syntax.place 15 [])) ∷ (Syntax.copy (Syntax.place 9 [])) ∷ [])
+    (Syntax.place 10 [])
 
 abbrev b22 : Syntax.Body
 b22 = Syntax.assign (Syntax.place 26 []) (Syntax.addrOf (Syntax.place 1 ((Syntax.field 0) ∷ (Syntax.deref u8) ∷ [])))
@@ -676,7 +676,7 @@ module _ (claims· : Claims) where
   s2 = Know.k-shs-known (Referent.fInt Syntax.w16) T0 7 2 y3 Row.off 0 λ x. x
 
   abbrev s3 : Typed.Mo T0 → Typed.Mo T5
-  s3 = Scalar.n-use T0 (Scalar.oFld 3 ((Syntax.field 0) ∷ []) Syntax.tyBool 0 (Reads.fieldV FujiHeader.the-type Laws.the-laws 0)) 9 (Rows.sc-here Row.sBool) (Row.sBool .of)
+  s3 = Scalar.n-use T0 (Scalar.oFld 3 ((Syntax.field 0) ∷ []) Syntax.tyBool 0 (Reads.fieldV FujiHeader.the-type Laws'.the-laws 0)) 9 (Rows.sc-here Row.sBool) (Row.sBool .of)
 
   abbrev s5 : Typed.Gives T5 T7
   s5 = Relend.k-sl-relend n8 T5 1 11 0 4 y1 y6 Row.off λ x. x
@@ -854,9 +854,9 @@ module _ (claims· : Claims) where
     module _ (M : Type 1) where
       abbrev pub Closed : Type 2
       Closed = (𝓤 : URA.URA M) (H : Wp.Heap 𝓤) (A : Atoms.Atoms 𝓤) (W : Kit.Given 𝓤 H A) (𝓣 : Wp.Tables 𝓤 H) (known0 : Plain.Known 𝓤 H A W 𝓣 2 ps·0 r·0 (claims· .0) (claims· .1)
-          "saved_state::head::store_head") (known1 : Plain.Known 𝓤 H A W 𝓣 1 ps·1 r·1 (claims· .2) (claims· .3) "read_block::records::load_set") (known2 : Plain.Known 𝓤 H A W 𝓣 1 ps·2 r·2 (claims· .4) (claims· .5)
-          "saved_state::store::store_set") (known3 : Plain.Known 𝓤 H A W 𝓣 0 ps·3 r·3 (claims· .6) (claims· .7) "image_map::width") (known4 : Plain.Known 𝓤 H A W 𝓣 2 ps·4 r·4 (claims· .8) (claims· .9)
-          "saved_state::store::store_lines") → Statement.Triple 𝓤 (Wp.WpFn 𝓤 H (𝓣 .C) (𝓣 .Λ) (Function.fnOf 4 ps r xs m hs body)) (Function.plainOf 𝓤 H A 4 ps r Pre· Post·)
+          "saved_state::head::store_head") (known1 : Plain.Known 𝓤 H A W 𝓣 1 ps·1 r·1 (claims· .2) (claims· .3) "read_block::records::load_set") (known2 : Plain.Known 𝓤 H A W 𝓣 1 ps·2 r·2 (claims· .4)
+          (claims· .5) "saved_state::store::store_set") (known3 : Plain.Known 𝓤 H A W 𝓣 0 ps·3 r·3 (claims· .6) (claims· .7) "image_map::width") (known4 : Plain.Known 𝓤 H A W 𝓣 2 ps·4 r·4 (claims· .8)
+          (claims· .9) "saved_state::store::store_lines") → Statement.Triple 𝓤 (Wp.WpFn 𝓤 H (𝓣 .C) (𝓣 .Λ) (Function.fnOf 4 ps r xs m hs body)) (Function.plainOf 𝓤 H A 4 ps r Pre· Post·)
 
     module _ where
       abbrev at0 : Typed.TF T1 O0
@@ -1038,9 +1038,9 @@ module _ (claims· : Claims) where
 
       module _ {M : Type 1} (𝓤 : URA.URA M) (H : Wp.Heap 𝓤) (A : Atoms.Atoms 𝓤) (W : Kit.Given 𝓤 H A) (𝓣 : Wp.Tables 𝓤 H) where
         abbrev Knowns : Type 1
-        Knowns = Plain.Known 𝓤 H A W 𝓣 2 ps·0 r·0 (claims· .0) (claims· .1) "saved_state::head::store_head" × Plain.Known 𝓤 H A W 𝓣 1 ps·1 r·1 (claims· .2) (claims· .3) "read_block::records::load_set" ×
-            Plain.Known 𝓤 H A W 𝓣 1 ps·2 r·2 (claims· .4) (claims· .5) "saved_state::store::store_set" × Plain.Known 𝓤 H A W 𝓣 0 ps·3 r·3 (claims· .6) (claims· .7) "image_map::width" × Plain.Known 𝓤 H A W 𝓣 2 ps·4 r·4
-            (claims· .8) (claims· .9) "saved_state::store::store_lines"
+        Knowns = Plain.Known 𝓤 H A W 𝓣 2 ps·0 r·0 (claims· .0) (claims· .1) "saved_state::head::store_head" × Plain.Known 𝓤 H A W 𝓣 1 ps·1 r·1 (claims· .2) (claims· .3) "read_block::records::load_set"
+            × Plain.Known 𝓤 H A W 𝓣 1 ps·2 r·2 (claims· .4) (claims· .5) "saved_state::store::store_set" × Plain.Known 𝓤 H A W 𝓣 0 ps·3 r·3 (claims· .6) (claims· .7) "image_map::width" × Plain.Known 𝓤 H A
+            W 𝓣 2 ps·4 r·4 (claims· .8) (claims· .9) "saved_state::store::store_lines"
 
       module _ (κs : Lifetimes.Lfts 4) (qs : Lifetimes.Shares 4) where
         abbrev k0 : Row.Life
@@ -1414,8 +1414,8 @@ module _ (claims· : Claims) where
           d11 = Typed.g-pre 𝓤 H A W 𝓣 E G71 G72 b28 Δ0 (Typed.pass T71 T72 s70) at10 (Scalar.g-room 𝓤 H A W E G71 10 Syntax.tyUnit (Scalar.room-sc 𝓤 H A W Row.sUnit)) d10
 
           d12 : Typed.Typed 𝓤 H A 𝓣 E G70 (Syntax.seq b25 b28) Δ0 at12
-          d12 = Typed.s-seq 𝓤 H A W 𝓣 E G70 G71 b25 b28 Δ0 (Typed.both s69) at11 (Plain.t-call-plain 𝓤 H A W 𝓣 2 ps·4 r·4 (claims· .8) (claims· .9) "saved_state::store::store_lines" (known .4) E (λ pos β. β)
-              G70 (record { pos = 27; ty = y6; ref = λ x. x }, (record { pos = 7; ty = y3; ref = λ x. x }, (Num.vAt 28 λ x. x, tt))) 10 (11 ∷ 2 ∷ []) (Call.sub-id 𝓤 H A W (G70 .slots)) (
+          d12 = Typed.s-seq 𝓤 H A W 𝓣 E G70 G71 b25 b28 Δ0 (Typed.both s69) at11 (Plain.t-call-plain 𝓤 H A W 𝓣 2 ps·4 r·4 (claims· .8) (claims· .9) "saved_state::store::store_lines" (known .4) E (λ
+              pos β. β) G70 (record { pos = 27; ty = y6; ref = λ x. x }, (record { pos = 7; ty = y3; ref = λ x. x }, (Num.vAt 28 λ x. x, tt))) 10 (11 ∷ 2 ∷ []) (Call.sub-id 𝓤 H A W (G70 .slots)) (
                 Reads'.as-is 𝓤 H A (Mut.mslice n8 y6 11),
                 Mut.reads-mslice 𝓤 H A W n8 y6 11,
                 Path'.refl,
@@ -1428,9 +1428,9 @@ module _ (claims· : Claims) where
               Path'.refl)) d12
 
           d14 : Typed.Typed 𝓤 H A 𝓣 E G68 (Syntax.seq b24 (Syntax.seq b25 b28)) Δ0 at14
-          d14 = Typed.s-seq 𝓤 H A W 𝓣 E G68 G69 b24 (Syntax.seq b25 b28) Δ0 (Typed.both s67) at13 (Plain.t-call-plain 𝓤 H A W 𝓣 0 ps·3 r·3 (claims· .6) (claims· .7) "image_map::width" (known .3) E (λ pos β.
-              β) G68 (Bool.bFld 3 ((Syntax.field 1) ∷ []) 1 λ x. FujiHeader.struct .as-values x .1 .0, tt) 28 [] (Call.sub-id 𝓤 H A W (G68 .slots))
-              ((Reads.reads-field 𝓤 H A W FujiHeader.the-type Laws.the-laws 1 Syntax.tyBool 1 Path'.refl, Path'.refl), tt) (Reads'.room-gone 𝓤 H A u64) tt Path'.refl) d13
+          d14 = Typed.s-seq 𝓤 H A W 𝓣 E G68 G69 b24 (Syntax.seq b25 b28) Δ0 (Typed.both s67) at13 (Plain.t-call-plain 𝓤 H A W 𝓣 0 ps·3 r·3 (claims· .6) (claims· .7) "image_map::width" (known .3) E (λ
+              pos β. β) G68 (Bool.bFld 3 ((Syntax.field 1) ∷ []) 1 λ x. FujiHeader.struct .as-values x .1 .0, tt) 28 [] (Call.sub-id 𝓤 H A W (G68 .slots))
+              ((Reads.reads-field 𝓤 H A W FujiHeader.the-type Laws'.the-laws 1 Syntax.tyBool 1 Path'.refl, Path'.refl), tt) (Reads'.room-gone 𝓤 H A u64) tt Path'.refl) d13
 
           d15 : Typed.Typed 𝓤 H A 𝓣 E G67 b31 Δ0 at15
           d15 = Typed.s-seq 𝓤 H A W 𝓣 E G67 G68 b23 (Syntax.seq b24 (Syntax.seq b25 b28)) Δ0 (Typed.ask s66) at14 (Relend.t-sl-aggregate 𝓤 H A W E n8 𝓣 (Relend.asMut n8) G67 26 27 11 y6 y6 (λ x. x)
@@ -1466,12 +1466,13 @@ module _ (claims· : Claims) where
           d23 = Typed.g-pre 𝓤 H A W 𝓣 E G59 G60 b32 Δ0 (Typed.pass T59 T60 s58) at22 (Scalar.g-room 𝓤 H A W E G59 10 Syntax.tyUnit (Scalar.room-sc 𝓤 H A W Row.sUnit)) d22
 
           d24 : Typed.Typed 𝓤 H A 𝓣 E G58 b33 Δ0 at24
-          d24 = Typed.s-seq 𝓤 H A W 𝓣 E G58 G59 b21 b32 Δ0 (Typed.both s57) at23 (Plain.t-call-plain 𝓤 H A W 𝓣 1 ps·2 r·2 (claims· .4) (claims· .5) "saved_state::store::store_set" (known .2) E (λ pos β. β)
-              G58 (record { pos = 23; ty = y6; ref = λ x. x }, (Num.vLit 2, (record { pos = 15; st = []; d = 0; at = λ x. x }, (Bool.bAt 9 λ x. x, tt)))) 10 (9 ∷ []) (Call.sub-id 𝓤 H A W (G58 .slots)) (
+          d24 = Typed.s-seq 𝓤 H A W 𝓣 E G58 G59 b21 b32 Δ0 (Typed.both s57) at23 (Plain.t-call-plain 𝓤 H A W 𝓣 1 ps·2 r·2 (claims· .4) (claims· .5) "saved_state::store::store_set" (known .2) E (λ pos
+              β. β) G58 (record { pos = 23; ty = y6; ref = λ x. x }, (Num.vLit 2, (record { pos = 15; st = []; d = 0; at = λ x. x }, (Bool.bAt 9 λ x. x, tt)))) 10 (9 ∷ []) (Call.sub-id 𝓤 H A W (G58
+              .slots)) (
                 Reads'.as-is 𝓤 H A (Mut.mslice n8 y6 9),
                 Mut.reads-mslice 𝓤 H A W n8 y6 9,
                 Path'.refl,
-                (tt, ((Values.struct-copied 𝓤 H A W Set.the-type Laws'.the-laws Laws'.the-copy, Path'.refl), ((Scalar.reads-sc 𝓤 H A W Row.sBool, Path'.refl), tt))),
+                (tt, ((Values.struct-copied 𝓤 H A W Set.the-type Laws.the-laws Laws.the-copy, Path'.refl), ((Scalar.reads-sc 𝓤 H A W Row.sBool, Path'.refl), tt))),
               ) (Reads'.room-gone 𝓤 H A Syntax.tyUnit)
               (tt, tt) Path'.refl) d23
 
@@ -1486,8 +1487,8 @@ module _ (claims· : Claims) where
           d27 = Typed.g-pre 𝓤 H A W 𝓣 E G55 G56 b33 Δ0 (λ Ψ. Ψ) at26 (Lifetime.g-end 𝓤 H A W E G55 10 Path'.refl) d26
 
           d28 : Typed.Typed 𝓤 H A 𝓣 E G54 (Syntax.seq b20 b33) Δ0 at28
-          d28 = Typed.s-seq 𝓤 H A W 𝓣 E G54 G55 b20 b33 Δ0 (Typed.both s53) at26 (Plain.t-call-plain 𝓤 H A W 𝓣 1 ps·1 r·1 (claims· .2) (claims· .3) "read_block::records::load_set" (known .1) E (λ pos β. β)
-              G54 (record { pos = 25; ty = y5; ref = λ x. x }, (Num.vLit 2, tt)) 15 (10 ∷ []) (Call.sub-id 𝓤 H A W (G54 .slots))
+          d28 = Typed.s-seq 𝓤 H A W 𝓣 E G54 G55 b20 b33 Δ0 (Typed.both s53) at26 (Plain.t-call-plain 𝓤 H A W 𝓣 1 ps·1 r·1 (claims· .2) (claims· .3) "read_block::records::load_set" (known .1) E (λ pos
+              β. β) G54 (record { pos = 25; ty = y5; ref = λ x. x }, (Num.vLit 2, tt)) 15 (10 ∷ []) (Call.sub-id 𝓤 H A W (G54 .slots))
               (Reads'.as-is 𝓤 H A (Mut.mslice (Element.type) y5 10), Mut.reads-mslice 𝓤 H A W (Element.type) y5 10, Path'.refl, (tt, tt)) (Reads'.room-gone 𝓤 H A y8) (tt, tt) Path'.refl) d27
 
           d29 : Typed.Typed 𝓤 H A 𝓣 E G53 (Syntax.seq b19 (Syntax.seq b20 b33)) Δ0 at29
@@ -1537,12 +1538,13 @@ module _ (claims· : Claims) where
           d40 = Typed.g-pre 𝓤 H A W 𝓣 E G42 G43 b38 Δ0 (Typed.pass T42 T43 s41) at39 (Scalar.g-room 𝓤 H A W E G42 10 Syntax.tyUnit (Scalar.room-sc 𝓤 H A W Row.sUnit)) d39
 
           d41 : Typed.Typed 𝓤 H A 𝓣 E G41 b39 Δ0 at41
-          d41 = Typed.s-seq 𝓤 H A W 𝓣 E G41 G42 b15 b38 Δ0 (Typed.both s40) at40 (Plain.t-call-plain 𝓤 H A W 𝓣 1 ps·2 r·2 (claims· .4) (claims· .5) "saved_state::store::store_set" (known .2) E (λ pos β. β)
-              G41 (record { pos = 19; ty = y6; ref = λ x. x }, (Num.vLit 1, (record { pos = 15; st = []; d = 0; at = λ x. x }, (Bool.bAt 9 λ x. x, tt)))) 10 (7 ∷ []) (Call.sub-id 𝓤 H A W (G41 .slots)) (
+          d41 = Typed.s-seq 𝓤 H A W 𝓣 E G41 G42 b15 b38 Δ0 (Typed.both s40) at40 (Plain.t-call-plain 𝓤 H A W 𝓣 1 ps·2 r·2 (claims· .4) (claims· .5) "saved_state::store::store_set" (known .2) E (λ pos
+              β. β) G41 (record { pos = 19; ty = y6; ref = λ x. x }, (Num.vLit 1, (record { pos = 15; st = []; d = 0; at = λ x. x }, (Bool.bAt 9 λ x. x, tt)))) 10 (7 ∷ []) (Call.sub-id 𝓤 H A W (G41
+              .slots)) (
                 Reads'.as-is 𝓤 H A (Mut.mslice n8 y6 7),
                 Mut.reads-mslice 𝓤 H A W n8 y6 7,
                 Path'.refl,
-                (tt, ((Values.struct-copied 𝓤 H A W Set.the-type Laws'.the-laws Laws'.the-copy, Path'.refl), ((Scalar.reads-sc 𝓤 H A W Row.sBool, Path'.refl), tt))),
+                (tt, ((Values.struct-copied 𝓤 H A W Set.the-type Laws.the-laws Laws.the-copy, Path'.refl), ((Scalar.reads-sc 𝓤 H A W Row.sBool, Path'.refl), tt))),
               ) (Reads'.room-gone 𝓤 H A Syntax.tyUnit)
               (tt, tt) Path'.refl) d40
 
@@ -1557,8 +1559,8 @@ module _ (claims· : Claims) where
           d44 = Typed.g-pre 𝓤 H A W 𝓣 E G38 G39 b39 Δ0 (λ Ψ. Ψ) at43 (Lifetime.g-end 𝓤 H A W E G38 8 Path'.refl) d43
 
           d45 : Typed.Typed 𝓤 H A 𝓣 E G37 (Syntax.seq b14 b39) Δ0 at45
-          d45 = Typed.s-seq 𝓤 H A W 𝓣 E G37 G38 b14 b39 Δ0 (Typed.both s36) at43 (Plain.t-call-plain 𝓤 H A W 𝓣 1 ps·1 r·1 (claims· .2) (claims· .3) "read_block::records::load_set" (known .1) E (λ pos β. β)
-              G37 (record { pos = 21; ty = y5; ref = λ x. x }, (Num.vLit 1, tt)) 15 (8 ∷ []) (Call.sub-id 𝓤 H A W (G37 .slots))
+          d45 = Typed.s-seq 𝓤 H A W 𝓣 E G37 G38 b14 b39 Δ0 (Typed.both s36) at43 (Plain.t-call-plain 𝓤 H A W 𝓣 1 ps·1 r·1 (claims· .2) (claims· .3) "read_block::records::load_set" (known .1) E (λ pos
+              β. β) G37 (record { pos = 21; ty = y5; ref = λ x. x }, (Num.vLit 1, tt)) 15 (8 ∷ []) (Call.sub-id 𝓤 H A W (G37 .slots))
               (Reads'.as-is 𝓤 H A (Mut.mslice (Element.type) y5 8), Mut.reads-mslice 𝓤 H A W (Element.type) y5 8, Path'.refl, (tt, tt)) (Reads'.room-gone 𝓤 H A y8) (tt, tt) Path'.refl) d44
 
           d46 : Typed.Typed 𝓤 H A 𝓣 E G36 (Syntax.seq b13 (Syntax.seq b14 b39)) Δ0 at46
@@ -1608,12 +1610,13 @@ module _ (claims· : Claims) where
           d57 = Typed.g-pre 𝓤 H A W 𝓣 E G25 G26 b44 Δ0 (Typed.pass T25 T26 s24) at56 (Scalar.g-room 𝓤 H A W E G25 10 Syntax.tyUnit (Scalar.room-sc 𝓤 H A W Row.sUnit)) d56
 
           d58 : Typed.Typed 𝓤 H A 𝓣 E G24 b45 Δ0 at58
-          d58 = Typed.s-seq 𝓤 H A W 𝓣 E G24 G25 b9 b44 Δ0 (Typed.both s23) at57 (Plain.t-call-plain 𝓤 H A W 𝓣 1 ps·2 r·2 (claims· .4) (claims· .5) "saved_state::store::store_set" (known .2) E (λ pos β. β) G24
-              (record { pos = 14; ty = y6; ref = λ x. x }, (Num.vLit 0, (record { pos = 15; st = []; d = 0; at = λ x. x }, (Bool.bAt 9 λ x. x, tt)))) 10 (5 ∷ []) (Call.sub-id 𝓤 H A W (G24 .slots)) (
+          d58 = Typed.s-seq 𝓤 H A W 𝓣 E G24 G25 b9 b44 Δ0 (Typed.both s23) at57 (Plain.t-call-plain 𝓤 H A W 𝓣 1 ps·2 r·2 (claims· .4) (claims· .5) "saved_state::store::store_set" (known .2) E (λ pos
+              β. β) G24 (record { pos = 14; ty = y6; ref = λ x. x }, (Num.vLit 0, (record { pos = 15; st = []; d = 0; at = λ x. x }, (Bool.bAt 9 λ x. x, tt)))) 10 (5 ∷ []) (Call.sub-id 𝓤 H A W (G24
+              .slots)) (
                 Reads'.as-is 𝓤 H A (Mut.mslice n8 y6 5),
                 Mut.reads-mslice 𝓤 H A W n8 y6 5,
                 Path'.refl,
-                (tt, ((Values.struct-copied 𝓤 H A W Set.the-type Laws'.the-laws Laws'.the-copy, Path'.refl), ((Scalar.reads-sc 𝓤 H A W Row.sBool, Path'.refl), tt))),
+                (tt, ((Values.struct-copied 𝓤 H A W Set.the-type Laws.the-laws Laws.the-copy, Path'.refl), ((Scalar.reads-sc 𝓤 H A W Row.sBool, Path'.refl), tt))),
               ) (Reads'.room-gone 𝓤 H A Syntax.tyUnit)
               (tt, tt) Path'.refl) d57
 
@@ -1628,8 +1631,8 @@ module _ (claims· : Claims) where
           d61 = Typed.g-pre 𝓤 H A W 𝓣 E G21 G22 b45 Δ0 (λ Ψ. Ψ) at60 (Lifetime.g-end 𝓤 H A W E G21 6 Path'.refl) d60
 
           d62 : Typed.Typed 𝓤 H A 𝓣 E G20 (Syntax.seq b8 b45) Δ0 at62
-          d62 = Typed.s-seq 𝓤 H A W 𝓣 E G20 G21 b8 b45 Δ0 (Typed.both s19) at60 (Plain.t-call-plain 𝓤 H A W 𝓣 1 ps·1 r·1 (claims· .2) (claims· .3) "read_block::records::load_set" (known .1) E (λ pos β. β)
-              G20 (record { pos = 17; ty = y5; ref = λ x. x }, (Num.vLit 0, tt)) 15 (6 ∷ []) (Call.sub-id 𝓤 H A W (G20 .slots))
+          d62 = Typed.s-seq 𝓤 H A W 𝓣 E G20 G21 b8 b45 Δ0 (Typed.both s19) at60 (Plain.t-call-plain 𝓤 H A W 𝓣 1 ps·1 r·1 (claims· .2) (claims· .3) "read_block::records::load_set" (known .1) E (λ pos
+              β. β) G20 (record { pos = 17; ty = y5; ref = λ x. x }, (Num.vLit 0, tt)) 15 (6 ∷ []) (Call.sub-id 𝓤 H A W (G20 .slots))
               (Reads'.as-is 𝓤 H A (Mut.mslice (Element.type) y5 6), Mut.reads-mslice 𝓤 H A W (Element.type) y5 6, Path'.refl, (tt, tt)) (Reads'.room-gone 𝓤 H A y8) (tt, tt) Path'.refl) d61
 
           d63 : Typed.Typed 𝓤 H A 𝓣 E G19 (Syntax.seq b7 (Syntax.seq b8 b45)) Δ0 at63
@@ -1676,9 +1679,9 @@ module _ (claims· : Claims) where
           d73 = Typed.g-pre 𝓤 H A W 𝓣 E G9 G10 b50 Δ0 (Typed.pass T9 T10 s8) at71 (Scalar.g-room 𝓤 H A W E G9 10 Syntax.tyUnit (Scalar.room-sc 𝓤 H A W Row.sUnit)) d72
 
           d74 : Typed.Typed 𝓤 H A 𝓣 E G8 (Syntax.seq b3 b50) Δ0 at74
-          d74 = Typed.s-seq 𝓤 H A W 𝓣 E G8 G9 b3 b50 Δ0 (Typed.both s7) at73 (Plain.t-call-plain 𝓤 H A W 𝓣 2 ps·0 r·0 (claims· .0) (claims· .1) "saved_state::head::store_head" (known .0) E (λ pos β. β) G8
-              (record { pos = 12; ty = y6; ref = λ x. x }, (record { pos = 2; ty = y2; ref = λ x. x }, (Num.vAt 4 λ x. x, (Num.vAt 5 λ x. x, (Num.vAt 6 λ x. x, tt))))) 10 (4 ∷ 1 ∷ []) (Call.sub-id 𝓤 H A
-              W (G8 .slots)) (
+          d74 = Typed.s-seq 𝓤 H A W 𝓣 E G8 G9 b3 b50 Δ0 (Typed.both s7) at73 (Plain.t-call-plain 𝓤 H A W 𝓣 2 ps·0 r·0 (claims· .0) (claims· .1) "saved_state::head::store_head" (known .0) E (λ pos β.
+              β) G8 (record { pos = 12; ty = y6; ref = λ x. x }, (record { pos = 2; ty = y2; ref = λ x. x }, (Num.vAt 4 λ x. x, (Num.vAt 5 λ x. x, (Num.vAt 6 λ x. x, tt))))) 10 (4 ∷ 1 ∷ []) (Call.sub-id
+              𝓤 H A W (G8 .slots)) (
                 Reads'.as-is 𝓤 H A (Mut.mslice n8 y6 4),
                 Mut.reads-mslice 𝓤 H A W n8 y6 4,
                 Path'.refl,
@@ -1709,8 +1712,8 @@ module _ (claims· : Claims) where
 
           d78 : Typed.Typed 𝓤 H A 𝓣 E (on T0 l13) b54 Δ0 at78
           d78 = Typed.s-seq 𝓤 H A W 𝓣 E (on T0 l13) (on T5 l13) b0 b53 Δ0 (Typed.pass T0 T5 s3) at76 (Scalar.t-use 𝓤 H A W E 𝓣 (on T0 l13) (Scalar.oFld 3 ((Syntax.field 0) ∷ []) Syntax.tyBool 0
-              (Reads.fieldV FujiHeader.the-type Laws.the-laws 0)) 9 (Rows.sc-here Row.sBool) Syntax.tyBool (Row.valS Row.sBool) (Row.sBool .of)
-              (Reads.reads-field 𝓤 H A W FujiHeader.the-type Laws.the-laws 0 Syntax.tyBool 0 Path'.refl, Path'.refl) (Reads'.room-gone 𝓤 H A Syntax.tyBool) (Scalar.holds-sc 𝓤 H A W Row.sBool) Path'.refl
+              (Reads.fieldV FujiHeader.the-type Laws'.the-laws 0)) 9 (Rows.sc-here Row.sBool) Syntax.tyBool (Row.valS Row.sBool) (Row.sBool .of)
+              (Reads.reads-field 𝓤 H A W FujiHeader.the-type Laws'.the-laws 0 Syntax.tyBool 0 Path'.refl, Path'.refl) (Reads'.room-gone 𝓤 H A Syntax.tyBool) (Scalar.holds-sc 𝓤 H A W Row.sBool) Path'.refl
               (λ u. Path'.refl) λ u. tt) d77
 
           d79 : Typed.Typed 𝓤 H A 𝓣 E (on T0 l13) b54 Δ0 at79
@@ -1732,7 +1735,7 @@ module _ (claims· : Claims) where
         pub record Args : Type 0 where
           pub state : Kinds.Den {n = 4} κs (MutSlice.pMutS n8 0 tt)
           pub d : Kinds.Den {n = 4} κs (ShrSlice.pShrS n8 1 tt)
-          pub h : Kinds.Den {n = 4} κs (Values.struct FujiHeader.the-type Laws.the-laws Laws.the-copy Laws.the-plain)
+          pub h : Kinds.Den {n = 4} κs (Values.struct FujiHeader.the-type Laws'.the-laws Laws'.the-copy Laws'.the-plain)
           pub b : Kinds.Den {n = 4} κs (Num.pNum Syntax.w64)
           pub line : Kinds.Den {n = 4} κs (Num.pNum Syntax.w64)
           pub at : Kinds.Den {n = 4} κs (Num.pNum Syntax.w64)
@@ -2424,8 +2427,8 @@ module _ (claims· : Claims) where
           }
 
         module _ {M : Type 1} (𝓤 : URA.URA M) (H : Wp.Heap 𝓤) (A : Atoms.Atoms 𝓤) (W : Kit.Given 𝓤 H A) (𝓣 : Wp.Tables 𝓤 H) (known0 : Plain.Known 𝓤 H A W 𝓣 2 ps·0 r·0 (claims· .0) (claims· .1)
-            "saved_state::head::store_head") (known1 : Plain.Known 𝓤 H A W 𝓣 1 ps·1 r·1 (claims· .2) (claims· .3) "read_block::records::load_set") (known2 : Plain.Known 𝓤 H A W 𝓣 1 ps·2 r·2 (claims· .4) (claims· .5)
-            "saved_state::store::store_set") (known3 : Plain.Known 𝓤 H A W 𝓣 0 ps·3 r·3 (claims· .6) (claims· .7) "image_map::width") (known4 : Plain.Known 𝓤 H A W 𝓣 2 ps·4 r·4 (claims· .8) (claims· .9)
-            "saved_state::store::store_lines") where
+            "saved_state::head::store_head") (known1 : Plain.Known 𝓤 H A W 𝓣 1 ps·1 r·1 (claims· .2) (claims· .3) "read_block::records::load_set") (known2 : Plain.Known 𝓤 H A W 𝓣 1 ps·2 r·2 (claims· .4)
+            (claims· .5) "saved_state::store::store_set") (known3 : Plain.Known 𝓤 H A W 𝓣 0 ps·3 r·3 (claims· .6) (claims· .7) "image_map::width") (known4 : Plain.Known 𝓤 H A W 𝓣 2 ps·4 r·4 (claims· .8)
+            (claims· .9) "saved_state::store::store_lines") where
           pub spec : Statement.Triple 𝓤 (Wp.WpFn 𝓤 H (𝓣 .C) (𝓣 .Λ) (Function.fnOf 4 ps r xs m hs body)) (Function.plainOf 𝓤 H A 4 ps r Pre· Post·)
           spec = Plain.t-fn-plain 𝓤 H A W 𝓣 4 ps r xs m hs body (λ κs qs bs. Φ) (λ κs qs bs bd. typed κs qs 𝓤 H A W 𝓣 (known0, known1, known2, known3, known4) bs bd) Pre· Post· asked

@@ -1,31 +1,31 @@
 -- Written by tools/lend.py from Rattle's derivation of the twin of `saved_state`; not edited by hand. Assumes nothing.
-use Rattle.read_block.proofs.records.load_set.Met
-use Rattle.read_block.proofs.records.derived.load_set.Reads
-use Rattle.read_block.proofs.records.load_set.Symbol
+use Rattle.image_map.proofs.width.Met
+use Rattle.image_map.proofs.width.Reads
+use Rattle.image_map.proofs.width.Symbol
 use Rattle.saved_state.proofs.blocks.put_state.Code
 use Rattle.saved_state.proofs.blocks.put_state.Key
 use Rattle.saved_state.proofs.blocks.derived.put_state.Kinds
 use Rattle.saved_state.proofs.blocks.put_state.Proof.derived.Lts
 use Rattle.saved_state.proofs.blocks.derived.put_state.Reads as Reads'
 use Rattle.saved_state.proofs.blocks.put_state.Statement
-use Rattle.saved_state.proofs.store.store_lines.Met as Met'
-use Rattle.saved_state.proofs.store.store_lines.Reads as Reads''
-use Rattle.saved_state.proofs.store.store_lines.Symbol as Symbol'
-use Rattle.saved_state.proofs.store.store_set.Met as Met''
-use Rattle.saved_state.proofs.store.store_set.Reads as Reads'3
-use Rattle.saved_state.proofs.store.store_set.Symbol as Symbol''
-use Rattle.image_map.proofs.width.Met as Met'3
-use Rattle.image_map.proofs.width.Reads as Reads'4
-use Rattle.image_map.proofs.width.Symbol as Symbol'3
-use Rattle.saved_state.proofs.head.store_head.Met as Met'4
-use Rattle.saved_state.proofs.head.store_head.Reads as Reads'5
-use Rattle.saved_state.proofs.head.store_head.Symbol as Symbol'4
+use Rattle.saved_state.proofs.head.store_head.Met as Met'
+use Rattle.saved_state.proofs.head.store_head.Reads as Reads''
+use Rattle.saved_state.proofs.head.store_head.Symbol as Symbol'
+use Rattle.read_block.proofs.records.load_set.Met as Met''
+use Rattle.read_block.proofs.records.derived.load_set.Reads as Reads'3
+use Rattle.read_block.proofs.records.load_set.Symbol as Symbol''
+use Rattle.saved_state.proofs.store.store_lines.Met as Met'3
+use Rattle.saved_state.proofs.store.store_lines.Reads as Reads'4
+use Rattle.saved_state.proofs.store.store_lines.Symbol as Symbol'3
+use Rattle.saved_state.proofs.store.store_set.Met as Met'4
+use Rattle.saved_state.proofs.store.store_set.Reads as Reads'5
+use Rattle.saved_state.proofs.store.store_set.Symbol as Symbol'4
 use borrow.Fn.Run
 use borrow.Fn.Written
 use contract.Running
 
 abbrev claims : Lts.Claims
-claims = (Reads'5.Asked, Reads'5.Learnt, Reads.Asked, Reads.Learnt, Reads'3.Asked, Reads'3.Learnt, Reads'4.Asked, Reads'4.Learnt, Reads''.Asked, Reads''.Learnt)
+claims = (Reads''.Asked, Reads''.Learnt, Reads'3.Asked, Reads'3.Learnt, Reads'5.Asked, Reads'5.Learnt, Reads.Asked, Reads.Learnt, Reads'4.Asked, Reads'4.Learnt)
 
 abbrev pub Start : Type 0
 Start = Lts.Start claims Reads'.Pre Reads'.Post
@@ -92,9 +92,9 @@ module _ {M : Type 1} where
   unfolding Code.routine Running.tablesOf
   close = λ closed 𝓤 H 𝓜 𝓖 𝓡. Written.close 4 Kinds.ps Kinds.r Reads'.Ghost Reads'.requires Reads'.ensures Reads'.pre-read Reads'.Pinned Reads'.Owned Reads'.post-read record
       { M = M; 𝓤 = 𝓤; H = H; 𝓜 = 𝓜; 𝓖 = 𝓖; 𝓡 = 𝓡 } Code.env Key.name Code.function (Code.unfolded 𝓤 H 𝓜 𝓡) (λ κs a g. tt) (λ κs. Reads'.owns κs record { M = M; 𝓤 = 𝓤; H = H; 𝓜 = 𝓜; 𝓖 = 𝓖; 𝓡 = 𝓡 })
-      (Reads'.passes record { M = M; 𝓤 = 𝓤; H = H; 𝓜 = 𝓜; 𝓖 = 𝓖; 𝓡 = 𝓡 }) λ g. closed 𝓤 H (𝓖 .A) (Running.givenOf 𝓤 H 𝓜 𝓖) (Run.Over 𝓤 H 𝓜 𝓖 𝓡 Code.env) (Reads'5.known record
-      { M = M; 𝓤 = 𝓤; H = H; 𝓜 = 𝓜; 𝓖 = 𝓖; 𝓡 = 𝓡 } Code.env Symbol'4.name Symbol'4.routine Code.calls-saved-state·head·store-head (Met'4.met 𝓤 H 𝓜 𝓖 𝓡)) (Reads.known record
-      { M = M; 𝓤 = 𝓤; H = H; 𝓜 = 𝓜; 𝓖 = 𝓖; 𝓡 = 𝓡 } Code.env Symbol.name Symbol.routine Code.calls-read-block·records·load-set (Met.met 𝓤 H 𝓜 𝓖 𝓡)) (Reads'3.known record
-      { M = M; 𝓤 = 𝓤; H = H; 𝓜 = 𝓜; 𝓖 = 𝓖; 𝓡 = 𝓡 } Code.env Symbol''.name Symbol''.routine Code.calls-saved-state·store·store-set (Met''.met 𝓤 H 𝓜 𝓖 𝓡)) (Reads'4.known record
-      { M = M; 𝓤 = 𝓤; H = H; 𝓜 = 𝓜; 𝓖 = 𝓖; 𝓡 = 𝓡 } Code.env Symbol'3.name Symbol'3.routine Code.calls-image-map·width (Met'3.met 𝓤 H 𝓜 𝓖 𝓡)) (Reads''.known record { M = M; 𝓤 = 𝓤; H = H; 𝓜 = 𝓜; 𝓖 = 𝓖; 𝓡 = 𝓡 }
-      Code.env Symbol'.name Symbol'.routine Code.calls-saved-state·store·store-lines (Met'.met 𝓤 H 𝓜 𝓖 𝓡))
+      (Reads'.passes record { M = M; 𝓤 = 𝓤; H = H; 𝓜 = 𝓜; 𝓖 = 𝓖; 𝓡 = 𝓡 }) λ g. closed 𝓤 H (𝓖 .A) (Running.givenOf 𝓤 H 𝓜 𝓖) (Run.Over 𝓤 H 𝓜 𝓖 𝓡 Code.env) (Reads''.known record
+      { M = M; 𝓤 = 𝓤; H = H; 𝓜 = 𝓜; 𝓖 = 𝓖; 𝓡 = 𝓡 } Code.env Symbol'.name Symbol'.routine Code.calls-saved-state·head·store-head (Met'.met 𝓤 H 𝓜 𝓖 𝓡)) (Reads'3.known record
+      { M = M; 𝓤 = 𝓤; H = H; 𝓜 = 𝓜; 𝓖 = 𝓖; 𝓡 = 𝓡 } Code.env Symbol''.name Symbol''.routine Code.calls-read-block·records·load-set (Met''.met 𝓤 H 𝓜 𝓖 𝓡)) (Reads'5.known record
+      { M = M; 𝓤 = 𝓤; H = H; 𝓜 = 𝓜; 𝓖 = 𝓖; 𝓡 = 𝓡 } Code.env Symbol'4.name Symbol'4.routine Code.calls-saved-state·store·store-set (Met'4.met 𝓤 H 𝓜 𝓖 𝓡)) (Reads.known record
+      { M = M; 𝓤 = 𝓤; H = H; 𝓜 = 𝓜; 𝓖 = 𝓖; 𝓡 = 𝓡 } Code.env Symbol.name Symbol.routine Code.calls-image-map·width (Met.met 𝓤 H 𝓜 𝓖 𝓡)) (Reads'4.known record { M = M; 𝓤 = 𝓤; H = H; 𝓜 = 𝓜; 𝓖 = 𝓖; 𝓡 = 𝓡 }
+      Code.env Symbol'3.name Symbol'3.routine Code.calls-saved-state·store·store-lines (Met'3.met 𝓤 H 𝓜 𝓖 𝓡))

@@ -6,14 +6,14 @@ use Rattle.bits.proofs.Values.{n16, n8, u16, u32, u64, u8}
 use mathlib.Core.List.{_∷_, []}
 use Rattle.read_block.proofs.Element
 use Prim.Native.Nat
-use Rattle.read_block.proofs.Walked
-use Rattle.read_block.proofs.Walked.Laws
-use Rattle.stream.proofs.header.FujiHeader
-use Rattle.stream.proofs.header.FujiHeader.Laws as Laws'
 use Rattle.line_totals.proofs.TightLines
-use Rattle.line_totals.proofs.TightLines.Laws as Laws''
+use Rattle.line_totals.proofs.TightLines.Laws
 use Rattle.line_totals.proofs.Totals
-use Rattle.line_totals.proofs.Totals.Laws as Laws'3
+use Rattle.line_totals.proofs.Totals.Laws as Laws'
+use Rattle.read_block.proofs.Walked
+use Rattle.read_block.proofs.Walked.Laws as Laws''
+use Rattle.stream.proofs.header.FujiHeader
+use Rattle.stream.proofs.header.FujiHeader.Laws as Laws'3
 use borrow.Author.Called
 use borrow.Enum.Known
 use borrow.Enum.Match
@@ -84,14 +84,15 @@ abbrev pub y5 : Syntax.Ty
 y5 = Syntax.tyRef Syntax.erased Syntax.mut u8
 
 abbrev pub y6 : Syntax.Ty
-y6 = Syntax.tyStruct (104 ∷ 101 ∷ 97 ∷ 100 ∷ 101 ∷ 114 ∷ 58 ∷ 58 ∷ 70 ∷ 117 ∷ 106 ∷ 105 ∷ 72 ∷ 101 ∷ 97 ∷ 100 ∷ 101 ∷ 114 ∷ []) (Syntax.tcons Syntax.tyBool (Syntax.tcons Syntax.tyBool (Syntax.tcons
-    u32 (Syntax.tcons u32 (Syntax.tcons u32 (Syntax.tcons u32 (Syntax.tcons u32 (Syntax.tcons u32 (Syntax.tcons u32 Syntax.tnil)))))))))
+y6 = Syntax.tyStruct (108 ∷ 105 ∷ 110 ∷ 101 ∷ 95 ∷ 116 ∷ 111 ∷ 116 ∷ 97 ∷ 108 ∷ 115 ∷ 58 ∷ 58 ∷ 84 ∷ 111 ∷ 116 ∷ 97 ∷ 108 ∷ 115 ∷ []) (Syntax.tcons u64 (Syntax.tcons u64 Syntax.tnil))
 
 abbrev pub y7 : Syntax.Ty
-y7 = Syntax.tyStruct (116 ∷ 111 ∷ 116 ∷ 97 ∷ 108 ∷ 115 ∷ 58 ∷ 58 ∷ 84 ∷ 111 ∷ 116 ∷ 97 ∷ 108 ∷ 115 ∷ []) (Syntax.tcons u64 (Syntax.tcons u64 Syntax.tnil))
+y7 = Syntax.tyStruct (115 ∷ 116 ∷ 114 ∷ 101 ∷ 97 ∷ 109 ∷ 58 ∷ 58 ∷ 104 ∷ 101 ∷ 97 ∷ 100 ∷ 101 ∷ 114 ∷ 58 ∷ 58 ∷ 70 ∷ 117 ∷ 106 ∷ 105 ∷ 72 ∷ 101 ∷ 97 ∷ 100 ∷ 101 ∷ 114 ∷ []) (Syntax.tcons Syntax.tyBool
+    (Syntax.tcons Syntax.tyBool (Syntax.tcons u32 (Syntax.tcons u32 (Syntax.tcons u32 (Syntax.tcons u32 (Syntax.tcons u32 (Syntax.tcons u32 (Syntax.tcons u32 Syntax.tnil)))))))))
 
 abbrev pub y8 : Syntax.Ty
-y8 = Syntax.tyStruct (116 ∷ 111 ∷ 116 ∷ 97 ∷ 108 ∷ 115 ∷ 58 ∷ 58 ∷ 84 ∷ 105 ∷ 103 ∷ 104 ∷ 116 ∷ 76 ∷ 105 ∷ 110 ∷ 101 ∷ 115 ∷ []) (Syntax.tcons u64 (Syntax.tcons y7 Syntax.tnil))
+y8 = Syntax.tyStruct (108 ∷ 105 ∷ 110 ∷ 101 ∷ 95 ∷ 116 ∷ 111 ∷ 116 ∷ 97 ∷ 108 ∷ 115 ∷ 58 ∷ 58 ∷ 84 ∷ 105 ∷ 103 ∷ 104 ∷ 116 ∷ 76 ∷ 105 ∷ 110 ∷ 101 ∷ 115 ∷ []) (Syntax.tcons u64 (Syntax.tcons y6
+    Syntax.tnil))
 
 abbrev pub y9 : Syntax.Ty
 y9 = Syntax.tyStruct (38 ∷ 91 ∷ 93 ∷ []) (Syntax.tcons y4 (Syntax.tcons u64 Syntax.tnil))
@@ -100,24 +101,24 @@ abbrev pub y10 : Syntax.Ty
 y10 = Syntax.tyStruct (38 ∷ 91 ∷ 93 ∷ []) (Syntax.tcons y5 (Syntax.tcons u64 Syntax.tnil))
 
 abbrev pub y11 : Syntax.Ty
-y11 = Syntax.tyEnum (98 ∷ 108 ∷ 111 ∷ 99 ∷ 107 ∷ 58 ∷ 58 ∷ 87 ∷ 97 ∷ 108 ∷ 107 ∷ 101 ∷ 100 ∷ []) (Syntax.ttcons (Syntax.tcons y7 (Syntax.tcons y8 Syntax.tnil)) (Syntax.ttcons (Syntax.tcons u64
-    (Syntax.tcons y7 Syntax.tnil)) Syntax.ttnil))
+y11 = Syntax.tyEnum (114 ∷ 101 ∷ 97 ∷ 100 ∷ 95 ∷ 98 ∷ 108 ∷ 111 ∷ 99 ∷ 107 ∷ 58 ∷ 58 ∷ 87 ∷ 97 ∷ 108 ∷ 107 ∷ 101 ∷ 100 ∷ []) (Syntax.ttcons (Syntax.tcons y6 (Syntax.tcons y8 Syntax.tnil))
+    (Syntax.ttcons (Syntax.tcons u64 (Syntax.tcons y6 Syntax.tnil)) Syntax.ttnil))
 
 abbrev pub ps : List.List (Kinds.PK 4)
-ps = (MutSlice.pMutS n8 0 tt) ∷ (ShrSlice.pShrS n8 1 tt) ∷ (Values.struct FujiHeader.the-type Laws'.the-laws Laws'.the-copy Laws'.the-plain) ∷ (Num.pNum Syntax.w64) ∷ (Num.pNum Syntax.w64) ∷
-    (Values.enum Walked.the-type Laws.the-laws Laws.the-copy Laws.the-plain tt) ∷ (ShrSlice.pShrS n16 2 tt) ∷ (MutSlice.pMutS (Element.type) 3 tt) ∷ []
+ps = (MutSlice.pMutS n8 0 tt) ∷ (ShrSlice.pShrS n8 1 tt) ∷ (Values.struct FujiHeader.the-type Laws'3.the-laws Laws'3.the-copy Laws'3.the-plain) ∷ (Num.pNum Syntax.w64) ∷ (Num.pNum Syntax.w64) ∷
+    (Values.enum Walked.the-type Laws''.the-laws Laws''.the-copy Laws''.the-plain tt) ∷ (ShrSlice.pShrS n16 2 tt) ∷ (MutSlice.pMutS (Element.type) 3 tt) ∷ []
 
 abbrev pub r : Kinds.RK 4
 r = Unit'.rUnit
 
 abbrev pub xs : List.List Syntax.Ty
-xs = y7 ∷ Syntax.tyUnit ∷ y5 ∷ y10 ∷ y4 ∷ y9 ∷ []
+xs = y6 ∷ Syntax.tyUnit ∷ y5 ∷ y10 ∷ y4 ∷ y9 ∷ []
 
 abbrev pub m : Nat.ℕ
 m = 2
 
 abbrev pub ps·0 : List.List (Kinds.PK 4)
-ps·0 = (MutSlice.pMutS n8 0 tt) ∷ (ShrSlice.pShrS n8 1 tt) ∷ (Values.struct FujiHeader.the-type Laws'.the-laws Laws'.the-copy Laws'.the-plain) ∷ (Num.pNum Syntax.w64) ∷ (Num.pNum Syntax.w64) ∷
+ps·0 = (MutSlice.pMutS n8 0 tt) ∷ (ShrSlice.pShrS n8 1 tt) ∷ (Values.struct FujiHeader.the-type Laws'3.the-laws Laws'3.the-copy Laws'3.the-plain) ∷ (Num.pNum Syntax.w64) ∷ (Num.pNum Syntax.w64) ∷
     (Num.pNum Syntax.w64) ∷ (ShrSlice.pShrS n16 2 tt) ∷ (MutSlice.pMutS (Element.type) 3 tt) ∷ []
 
 abbrev pub r·0 : Kinds.RK 4
@@ -207,13 +208,13 @@ abbrev pub v10 : Row.Row
 v10 = Mut.mslice (Element.type) y3 3
 
 abbrev pub v11 : Row.Row
-v11 = Rows.any-gone y7
+v11 = Rows.any-gone y6
 
 abbrev pub v12 : Row.Row
 v12 = Rows.any-gone y10
 
 abbrev pub v13 : Row.Row
-v13 = Rows.any-gone y6
+v13 = Rows.any-gone y7
 
 abbrev pub v14 : Row.Row
 v14 = Mut.mslice n8 y0 0
@@ -371,7 +372,7 @@ module _ (claims· : Claims) where
   s3 = Known.k-enum-told Walked.enum 1 T0 6 λ x. x
 
   abbrev s4 : Typed.Mo T0 → Typed.Mo T7
-  s4 = Scalar.n-room T0 3 y6
+  s4 = Scalar.n-room T0 3 y7
 
   abbrev s5 : Typed.Mo T7 → Typed.Mo T2
   s5 = Scalar.n-room T7 6 y11
@@ -380,7 +381,7 @@ module _ (claims· : Claims) where
   s6 = Known.k-enum-known Walked.enum 0 T0 6 λ x. x
 
   abbrev s7 : Typed.Gives T9 T9
-  s7 = Known.k-known-told Walked.enum Laws.the-laws 0 T9 6 λ x. x
+  s7 = Known.k-known-told Walked.enum Laws''.the-laws 0 T9 6 λ x. x
 
   abbrev s8 : Typed.Mo T9 → Typed.Mo T11
   s8 = Make.n-make (Declared'.row Totals.the-type) T9 9 λ m. m .1 .1 .1 .1 .1 .1 .0 .0
@@ -419,10 +420,10 @@ module _ (claims· : Claims) where
   s16 = Call.callB ps·0 r·0 (claims· .0) (claims· .1) T18 a0 10 (4 ∷ 1 ∷ 2 ∷ 5 ∷ []) Syntax.tyUnit
 
   abbrev s17 : Typed.Mo T19 → Typed.Mo T20
-  s17 = Scalar.n-room T19 3 y6
+  s17 = Scalar.n-room T19 3 y7
 
   abbrev s18 : Typed.Mo T20 → Typed.Mo T21
-  s18 = Scalar.n-room T20 9 y7
+  s18 = Scalar.n-room T20 9 y6
 
   abbrev s19 : Typed.Mo T21 → Typed.Mo T22
   s19 = Scalar.n-room T21 10 Syntax.tyUnit
@@ -648,7 +649,7 @@ module _ (claims· : Claims) where
               Path'.refl)) d0
 
           d2 : Typed.Typed 𝓤 H A 𝓣 E (on T0 l3) b0 Δ1 at2
-          d2 = Typed.g-pre 𝓤 H A W 𝓣 E (on T0 l3) (on T7 l3) b0 Δ1 (Typed.pass T0 T7 s4) at1 (Scalar.g-room 𝓤 H A W E (on T0 l3) 3 y6 (Local.room-whole 𝓤 H A W (Declared'.row FujiHeader.the-type) y6
+          d2 = Typed.g-pre 𝓤 H A W 𝓣 E (on T0 l3) (on T7 l3) b0 Δ1 (Typed.pass T0 T7 s4) at1 (Scalar.g-room 𝓤 H A W E (on T0 l3) 3 y7 (Local.room-whole 𝓤 H A W (Declared'.row FujiHeader.the-type) y7
               Path'.refl)) d1
 
           d3 : Typed.Typed 𝓤 H A 𝓣 E (on T0 l3) b0 Δ1 at3
@@ -664,8 +665,8 @@ module _ (claims· : Claims) where
               (Typed.g-post 𝓤 H A W 𝓣 E G18 G23 G24 b6 (λ Ψ. Typed.both s16 (Typed.pass T19 T20 s17 (Typed.pass T20 T21 s18 (Typed.pass T21 T22 s19 Ψ)))) (Typed.both s21) (Typed.g-post 𝓤 H A W 𝓣 E G18 G22
               G23 b6 (λ Ψ. Typed.both s16 (Typed.pass T19 T20 s17 (Typed.pass T20 T21 s18 (Typed.pass T21 T22 s19 Ψ)))) (λ Ψ. Ψ) (Typed.g-post 𝓤 H A W 𝓣 E G18 G21 G22 b6 (λ Ψ. Typed.both s16 (Typed.pass
               T19 T20 s17 (Typed.pass T20 T21 s18 Ψ))) (Typed.pass T21 T22 s19) (Typed.g-post 𝓤 H A W 𝓣 E G18 G20 G21 b6 (λ Ψ. Typed.both s16 (Typed.pass T19 T20 s17 Ψ)) (Typed.pass T20 T21 s18)
-              (Typed.g-post 𝓤 H A W 𝓣 E G18 G19 G20 b6 (Typed.both s16) (Typed.pass T19 T20 s17) (Plain.t-call-plain 𝓤 H A W 𝓣 4 ps·0 r·0 (claims· .0) (claims· .1) "saved_state::blocks::put_state" known E (λ pos
-              β. β) G18 (
+              (Typed.g-post 𝓤 H A W 𝓣 E G18 G19 G20 b6 (Typed.both s16) (Typed.pass T19 T20 s17) (Plain.t-call-plain 𝓤 H A W 𝓣 4 ps·0 r·0 (claims· .0) (claims· .1) "saved_state::blocks::put_state" known E
+              (λ pos β. β) G18 (
                 record { pos = 12; ty = y5; ref = λ x. x },
                 (
                   record { pos = 2; ty = y1; ref = λ x. x },
@@ -690,13 +691,13 @@ module _ (claims· : Claims) where
                   Shared.reads-sslice 𝓤 H A W n8 y1 1,
                   Path'.refl,
                   (
-                    (Values.struct-copied 𝓤 H A W FujiHeader.the-type Laws'.the-laws Laws'.the-copy, Path'.refl),
+                    (Values.struct-copied 𝓤 H A W FujiHeader.the-type Laws'3.the-laws Laws'3.the-copy, Path'.refl),
                     (
                       (Scalar.reads-sc 𝓤 H A W (Row.sInt Syntax.w64), Path'.refl),
                       (
                         (Scalar.reads-sc 𝓤 H A W (Row.sInt Syntax.w64), Path'.refl),
                         (
-                          (Reads.reads-field 𝓤 H A W Totals.the-type Laws'3.the-laws 0 u64 0 Path'.refl, Path'.refl),
+                          (Reads.reads-field 𝓤 H A W Totals.the-type Laws'.the-laws 0 u64 0 Path'.refl, Path'.refl),
                           (
                             ShrSlice.spares-sslice 𝓤 H A W n16 y2 2,
                             Shared.reads-sslice 𝓤 H A W n16 y2 2,
@@ -709,8 +710,8 @@ module _ (claims· : Claims) where
                   ),
                 ),
               ) (Reads'.room-gone 𝓤 H A Syntax.tyUnit) (tt, (tt, (tt, (tt, tt))))
-              Path'.refl) (Scalar.g-room 𝓤 H A W E G19 3 y6 (Local.room-whole 𝓤 H A W (Declared'.row FujiHeader.the-type) y6 Path'.refl))) (Scalar.g-room 𝓤 H A W E G20 9 y7 (Local.room-whole 𝓤 H A W
-              (Declared'.row Totals.the-type) y7 Path'.refl))) (Scalar.g-room 𝓤 H A W E G21 10 Syntax.tyUnit (Scalar.room-sc 𝓤 H A W Row.sUnit))) (Lifetime.g-end 𝓤 H A W E G22 4 Path'.refl))
+              Path'.refl) (Scalar.g-room 𝓤 H A W E G19 3 y7 (Local.room-whole 𝓤 H A W (Declared'.row FujiHeader.the-type) y7 Path'.refl))) (Scalar.g-room 𝓤 H A W E G20 9 y6 (Local.room-whole 𝓤 H A W
+              (Declared'.row Totals.the-type) y6 Path'.refl))) (Scalar.g-room 𝓤 H A W E G21 10 Syntax.tyUnit (Scalar.room-sc 𝓤 H A W Row.sUnit))) (Lifetime.g-end 𝓤 H A W E G22 4 Path'.refl))
               (Relend.g-back-sl 𝓤 H A W E n8 G23 12 1 0 4 y0 y5 k0 (λ x. x) (λ x. x) (Reads'.as-is 𝓤 H A (Mut.msleft n8 y5)) (Reads'.as-is 𝓤 H A (Relend.mslice-owed n8 y0 0 4 k0)) Path'.refl Path'.refl))
               (Know.g-sl-known 𝓤 H A W (Referent.fInt Syntax.w8) E G24 1 0 y0 k0 0 (λ x. x) record { fits = Dec'.lit< tt } (Reads'.as-is 𝓤 H A (Mut.mslice n8 y0 0)) Path'.refl tt)) (Lifetime.g-forget 𝓤 H
               A W E G24 4 Row.dead Path'.refl)) (Lifetime.g-end 𝓤 H A W E G26 5 Path'.refl)) (Relend.g-back-sl 𝓤 H A W E (Element.type) G27 14 8 3 5 y3 y4 k3 (λ x. x) (λ x. x) (Reads'.as-is 𝓤 H A
@@ -748,18 +749,18 @@ module _ (claims· : Claims) where
 
           d12 : Typed.Typed 𝓤 H A 𝓣 E (on T9 l3) b11 Δ1 at12
           d12 = Typed.s-seq 𝓤 H A W 𝓣 E (on T9 l3) (on T11 l3) b1 b10 Δ1 (Typed.pass T9 T11 s8) at11 (CopyOut.t-copy-told 𝓤 H A W E 𝓣 (Declared'.row Totals.the-type) Path'.refl (Laws'5.val
-              Totals.the-type Laws'3.the-laws) (Laws'5.lawful Totals.the-type Laws'3.the-laws 𝓤 H A W) (Laws'5.makes Totals.the-type Laws'3.the-plain 𝓤 H A) (on T9 l3) 9 (Scalar.oFld 6 ((Syntax.variant 0)
-              ∷ (Syntax.field 1) ∷ []) y7 8 λ v. Laws'5.val Totals.the-type Laws'3.the-laws (v .0)) (λ m. m .1 .1 .1 .1 .1 .1 .0 .0) (λ m. Laws'4.Fields (Declared.variants Walked.the-type) (Laws'4.spellss
-              (Walked.enum .parts) Laws.the-laws) (Walked.the-type .to (Known.at Walked.enum 0 (m .1 .1 .1 .1 .1 .1 .0)))) (Reads'.room-gone 𝓤 H A y7) (
-                Match.reads-payload 𝓤 H A W Walked.enum Laws.the-laws 0 Path'.refl Path'.refl (λ v. Val.vcons (Laws'5.val Totals.the-type Laws'3.the-laws (v .0)) (Val.vcons (Laws'5.val TightLines.the-type
-                    Laws''.the-laws (v .1 .0)) Val.vnil)) (λ v. Path'.refl) 0 y7 8 Path'.refl,
+              Totals.the-type Laws'.the-laws) (Laws'5.lawful Totals.the-type Laws'.the-laws 𝓤 H A W) (Laws'5.makes Totals.the-type Laws'.the-plain 𝓤 H A) (on T9 l3) 9 (Scalar.oFld 6 ((Syntax.variant 0) ∷
+              (Syntax.field 1) ∷ []) y6 8 λ v. Laws'5.val Totals.the-type Laws'.the-laws (v .0)) (λ m. m .1 .1 .1 .1 .1 .1 .0 .0) (λ m. Laws'4.Fields (Declared.variants Walked.the-type) (Laws'4.spellss
+              (Walked.enum .parts) Laws''.the-laws) (Walked.the-type .to (Known.at Walked.enum 0 (m .1 .1 .1 .1 .1 .1 .0)))) (Reads'.room-gone 𝓤 H A y6) (
+                Match.reads-payload 𝓤 H A W Walked.enum Laws''.the-laws 0 Path'.refl Path'.refl (λ v. Val.vcons (Laws'5.val Totals.the-type Laws'.the-laws (v .0)) (Val.vcons (Laws'5.val TightLines.the-type
+                    Laws.the-laws (v .1 .0)) Val.vnil)) (λ v. Path'.refl) 0 y6 8 Path'.refl,
                 Path'.refl,
               ) Path'.refl (λ ρ m. Make.tells-row 𝓤 H A W E ρ (Row.out 9 ((on T9 l3) .locals)) m 6 (Laws'4.Fields
-              (Declared.variants Walked.the-type) (Laws'4.spellss (Walked.enum .parts) Laws.the-laws) (Walked.the-type .to (Known.at Walked.enum 0 (m .1 .1 .1 .1 .1 .1 .0)))) (Known.known-is 𝓤 H A W E
-              Walked.enum 0 Laws.the-laws ρ 6 (m .1 .1 .1 .1 .1 .1 .0))) (λ m k wa. Path'.refl) λ m k wa. k .0) d11
+              (Declared.variants Walked.the-type) (Laws'4.spellss (Walked.enum .parts) Laws''.the-laws) (Walked.the-type .to (Known.at Walked.enum 0 (m .1 .1 .1 .1 .1 .1 .0)))) (Known.known-is 𝓤 H A W E
+              Walked.enum 0 Laws''.the-laws ρ 6 (m .1 .1 .1 .1 .1 .1 .0))) (λ m k wa. Path'.refl) λ m k wa. k .0) d11
 
           d13 : Typed.Typed 𝓤 H A 𝓣 E (on T9 l3) b11 Δ1 at13
-          d13 = Typed.g-pre 𝓤 H A W 𝓣 E (on T9 l3) (on T9 l3) b11 Δ1 (Typed.give s7) at12 (Known.g-known-told 𝓤 H A W E Walked.enum 0 (on T9 l3) 6 Laws.the-laws (λ x. x) (Reads'.as-is 𝓤 H A
+          d13 = Typed.g-pre 𝓤 H A W 𝓣 E (on T9 l3) (on T9 l3) b11 Δ1 (Typed.give s7) at12 (Known.g-known-told 𝓤 H A W E Walked.enum 0 (on T9 l3) 6 Laws''.the-laws (λ x. x) (Reads'.as-is 𝓤 H A
               (Rows.whole (Known.Known Walked.enum 0)))) d12
 
           d14 : Typed.Typed 𝓤 H A 𝓣 E (on T0 l3) b11 Δ1 at14
@@ -769,7 +770,7 @@ module _ (claims· : Claims) where
           d15 : Typed.Typed 𝓤 H A 𝓣 E (on T0 l3) b12 Δ1 at15
           d15 = Switch.t-switch-on 𝓤 H A W E 𝓣 (on T0 l3) (Scalar.oFld 6 ((Syntax.variant 0) ∷ (Syntax.field 0) ∷ []) u8 0 λ x. Val.vint Syntax.w8 (Declared.tagOf Walked.the-type x)) Syntax.w8 (λ u.
               Declared.tagOf Walked.the-type (u .1 .1 .1 .1 .1 .1 .0)) (Syntax.arm (1 ∷ []) b0 (Syntax.arm (0 ∷ []) b11 Syntax.noDefault)) Δ1 (at3, (at14, tt))
-              (Match.reads-tag 𝓤 H A W Walked.the-type Laws.the-laws (Rows.whole (Declared.row Walked.the-type)) 0 (λ x. x) (Whole.reads-enum 𝓤 H A W Walked.the-type Laws.the-laws), Path'.refl) (λ u.
+              (Match.reads-tag 𝓤 H A W Walked.the-type Laws''.the-laws (Rows.whole (Declared.row Walked.the-type)) 0 (λ x. x) (Whole.reads-enum 𝓤 H A W Walked.the-type Laws''.the-laws), Path'.refl) (λ u.
               Path'.refl) (d3, (d14, tt))
 
           d16 : Typed.Typed 𝓤 H A 𝓣 E (on T0 l3) b12 Δ1 at16
@@ -807,10 +808,10 @@ module _ (claims· : Claims) where
         pub record Args : Type 0 where
           pub state : Kinds.Den {n = 4} κs (MutSlice.pMutS n8 0 tt)
           pub d : Kinds.Den {n = 4} κs (ShrSlice.pShrS n8 1 tt)
-          pub h : Kinds.Den {n = 4} κs (Values.struct FujiHeader.the-type Laws'.the-laws Laws'.the-copy Laws'.the-plain)
+          pub h : Kinds.Den {n = 4} κs (Values.struct FujiHeader.the-type Laws'3.the-laws Laws'3.the-copy Laws'3.the-plain)
           pub b : Kinds.Den {n = 4} κs (Num.pNum Syntax.w64)
           pub line : Kinds.Den {n = 4} κs (Num.pNum Syntax.w64)
-          pub got : Kinds.Den {n = 4} κs (Values.enum Walked.the-type Laws.the-laws Laws.the-copy Laws.the-plain tt)
+          pub got : Kinds.Den {n = 4} κs (Values.enum Walked.the-type Laws''.the-laws Laws''.the-copy Laws''.the-plain tt)
           pub lines : Kinds.Den {n = 4} κs (ShrSlice.pShrS n16 2 tt)
           pub rs : Kinds.Den {n = 4} κs (MutSlice.pMutS (Element.type) 3 tt)
 

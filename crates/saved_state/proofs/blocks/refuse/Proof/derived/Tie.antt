@@ -1,25 +1,25 @@
 -- Written by tools/lend.py from Rattle's derivation of the twin of `saved_state`; not edited by hand. Assumes nothing.
-use Rattle.read_block.proofs.refused.Met
-use Rattle.read_block.proofs.refused.Reads
-use Rattle.read_block.proofs.refused.Symbol
-use Rattle.read_block.proofs.records.clear_records.Met as Met'
-use Rattle.read_block.proofs.records.derived.clear_records.Reads as Reads'
-use Rattle.read_block.proofs.records.clear_records.Symbol as Symbol'
+use Rattle.colour_lines.proofs.clear.Met
+use Rattle.colour_lines.proofs.clear.Reads
+use Rattle.colour_lines.proofs.clear.Symbol
+use Rattle.read_block.proofs.refused.Met as Met'
+use Rattle.read_block.proofs.refused.Reads as Reads'
+use Rattle.read_block.proofs.refused.Symbol as Symbol'
 use Rattle.saved_state.proofs.blocks.refuse.Code
 use Rattle.saved_state.proofs.blocks.refuse.Key
 use Rattle.saved_state.proofs.blocks.derived.refuse.Kinds
 use Rattle.saved_state.proofs.blocks.refuse.Proof.derived.Lts
 use Rattle.saved_state.proofs.blocks.derived.refuse.Reads as Reads''
 use Rattle.saved_state.proofs.blocks.refuse.Statement
-use Rattle.colour_lines.proofs.clear.Met as Met''
-use Rattle.colour_lines.proofs.clear.Reads as Reads'3
-use Rattle.colour_lines.proofs.clear.Symbol as Symbol''
+use Rattle.read_block.proofs.records.clear_records.Met as Met''
+use Rattle.read_block.proofs.records.derived.clear_records.Reads as Reads'3
+use Rattle.read_block.proofs.records.clear_records.Symbol as Symbol''
 use borrow.Fn.Run
 use borrow.Fn.Written
 use contract.Running
 
 abbrev claims : Lts.Claims
-claims = (Reads'3.Asked, Reads'3.Learnt, Reads'.Asked, Reads'.Learnt, Reads.Asked, Reads.Learnt)
+claims = (Reads.Asked, Reads.Learnt, Reads'3.Asked, Reads'3.Learnt, Reads'.Asked, Reads'.Learnt)
 
 abbrev pub Start : Type 0
 Start = Lts.Start claims Reads''.Pre Reads''.Post
@@ -54,7 +54,7 @@ module _ {M : Type 1} where
   unfolding Code.routine Running.tablesOf
   close = λ closed 𝓤 H 𝓜 𝓖 𝓡. Written.close 2 Kinds.ps Kinds.r Reads''.Ghost Reads''.requires Reads''.ensures Reads''.pre-read Reads''.Pinned Reads''.Owned Reads''.post-read record
       { M = M; 𝓤 = 𝓤; H = H; 𝓜 = 𝓜; 𝓖 = 𝓖; 𝓡 = 𝓡 } Code.env Key.name Code.function (Code.unfolded 𝓤 H 𝓜 𝓡) (λ κs a g. tt) (λ κs. Reads''.owns κs record { M = M; 𝓤 = 𝓤; H = H; 𝓜 = 𝓜; 𝓖 = 𝓖; 𝓡 = 𝓡 })
-      (Reads''.passes record { M = M; 𝓤 = 𝓤; H = H; 𝓜 = 𝓜; 𝓖 = 𝓖; 𝓡 = 𝓡 }) λ g. closed 𝓤 H (𝓖 .A) (Running.givenOf 𝓤 H 𝓜 𝓖) (Run.Over 𝓤 H 𝓜 𝓖 𝓡 Code.env) (Reads'3.known record
-      { M = M; 𝓤 = 𝓤; H = H; 𝓜 = 𝓜; 𝓖 = 𝓖; 𝓡 = 𝓡 } Code.env Symbol''.name Symbol''.routine Code.calls-colour-lines·clear (Met''.met 𝓤 H 𝓜 𝓖 𝓡)) (Reads'.known record { M = M; 𝓤 = 𝓤; H = H; 𝓜 = 𝓜; 𝓖 = 𝓖; 𝓡 = 𝓡 }
-      Code.env Symbol'.name Symbol'.routine Code.calls-read-block·records·clear-records (Met'.met 𝓤 H 𝓜 𝓖 𝓡)) (Reads.known record { M = M; 𝓤 = 𝓤; H = H; 𝓜 = 𝓜; 𝓖 = 𝓖; 𝓡 = 𝓡 } Code.env Symbol.name
-      Symbol.routine Code.calls-read-block·tight·refused (Met.met 𝓤 H 𝓜 𝓖 𝓡))
+      (Reads''.passes record { M = M; 𝓤 = 𝓤; H = H; 𝓜 = 𝓜; 𝓖 = 𝓖; 𝓡 = 𝓡 }) λ g. closed 𝓤 H (𝓖 .A) (Running.givenOf 𝓤 H 𝓜 𝓖) (Run.Over 𝓤 H 𝓜 𝓖 𝓡 Code.env) (Reads.known record
+      { M = M; 𝓤 = 𝓤; H = H; 𝓜 = 𝓜; 𝓖 = 𝓖; 𝓡 = 𝓡 } Code.env Symbol.name Symbol.routine Code.calls-colour-lines·clear (Met.met 𝓤 H 𝓜 𝓖 𝓡)) (Reads'3.known record { M = M; 𝓤 = 𝓤; H = H; 𝓜 = 𝓜; 𝓖 = 𝓖; 𝓡 = 𝓡 }
+      Code.env Symbol''.name Symbol''.routine Code.calls-read-block·records·clear-records (Met''.met 𝓤 H 𝓜 𝓖 𝓡)) (Reads'.known record { M = M; 𝓤 = 𝓤; H = H; 𝓜 = 𝓜; 𝓖 = 𝓖; 𝓡 = 𝓡 } Code.env Symbol'.name
+      Symbol'.routine Code.calls-read-block·refused (Met'.met 𝓤 H 𝓜 𝓖 𝓡))

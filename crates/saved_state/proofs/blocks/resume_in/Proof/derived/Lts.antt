@@ -6,16 +6,16 @@ use Rattle.bits.proofs.Values.{n16, n8, u16, u32, u64, u8}
 use mathlib.Core.List.{_∷_, []}
 use Rattle.read_block.proofs.Element
 use Prim.Native.Nat
-use Rattle.read_block.proofs.Counted
-use Rattle.read_block.proofs.Counted.Laws
-use Rattle.saved_state.proofs.load.Checked
-use Rattle.saved_state.proofs.load.Checked.Laws as Laws'
-use Rattle.stream.proofs.header.FujiHeader
-use Rattle.stream.proofs.header.FujiHeader.Laws as Laws''
-use Rattle.stream.proofs.header.Refusal
-use Rattle.stream.proofs.header.Refusal.Laws as Laws'3
 use Rattle.image_region.proofs.Rect
-use Rattle.image_region.proofs.Rect.Laws as Laws'4
+use Rattle.image_region.proofs.Rect.Laws
+use Rattle.read_block.proofs.Counted
+use Rattle.read_block.proofs.Counted.Laws as Laws'
+use Rattle.saved_state.proofs.load.Checked
+use Rattle.saved_state.proofs.load.Checked.Laws as Laws''
+use Rattle.stream.proofs.header.FujiHeader
+use Rattle.stream.proofs.header.FujiHeader.Laws as Laws'3
+use Rattle.stream.proofs.header.Refusal
+use Rattle.stream.proofs.header.Refusal.Laws as Laws'4
 use borrow.Author.Called
 use borrow.Enum.Known
 use borrow.Enum.Make
@@ -73,15 +73,15 @@ abbrev pub y0 : Syntax.Ty
 y0 = Syntax.tyArray u8 36
 
 abbrev pub y1 : Syntax.Ty
-y1 = Syntax.tyEnum (104 ∷ 101 ∷ 97 ∷ 100 ∷ 101 ∷ 114 ∷ 58 ∷ 58 ∷ 82 ∷ 101 ∷ 102 ∷ 117 ∷ 115 ∷ 97 ∷ 108 ∷ []) (Syntax.ttcons Syntax.tnil (Syntax.ttcons Syntax.tnil (Syntax.ttcons Syntax.tnil
-    (Syntax.ttcons (Syntax.tcons u64 Syntax.tnil) (Syntax.ttcons Syntax.tnil (Syntax.ttcons Syntax.tnil (Syntax.ttcons Syntax.tnil (Syntax.ttcons Syntax.tnil (Syntax.ttcons Syntax.tnil (Syntax.ttcons
-    Syntax.tnil (Syntax.ttcons (Syntax.tcons u64 Syntax.tnil) (Syntax.ttcons (Syntax.tcons u64 Syntax.tnil) (Syntax.ttcons Syntax.tnil (Syntax.ttcons (Syntax.tcons u64 (Syntax.tcons u64 Syntax.tnil))
-    (Syntax.ttcons (Syntax.tcons u64 Syntax.tnil) (Syntax.ttcons Syntax.tnil (Syntax.ttcons Syntax.tnil (Syntax.ttcons (Syntax.tcons u64 Syntax.tnil) (Syntax.ttcons (Syntax.tcons u64 Syntax.tnil)
-    (Syntax.ttcons (Syntax.tcons u64 Syntax.tnil) (Syntax.ttcons Syntax.tnil (Syntax.ttcons Syntax.tnil (Syntax.ttcons (Syntax.tcons u64 (Syntax.tcons u64 Syntax.tnil)) (Syntax.ttcons Syntax.tnil
-    Syntax.ttnil))))))))))))))))))))))))
+y1 = Syntax.tyEnum (115 ∷ 116 ∷ 114 ∷ 101 ∷ 97 ∷ 109 ∷ 58 ∷ 58 ∷ 104 ∷ 101 ∷ 97 ∷ 100 ∷ 101 ∷ 114 ∷ 58 ∷ 58 ∷ 82 ∷ 101 ∷ 102 ∷ 117 ∷ 115 ∷ 97 ∷ 108 ∷ []) (Syntax.ttcons Syntax.tnil (Syntax.ttcons
+    Syntax.tnil (Syntax.ttcons Syntax.tnil (Syntax.ttcons (Syntax.tcons u64 Syntax.tnil) (Syntax.ttcons Syntax.tnil (Syntax.ttcons Syntax.tnil (Syntax.ttcons Syntax.tnil (Syntax.ttcons Syntax.tnil
+    (Syntax.ttcons Syntax.tnil (Syntax.ttcons Syntax.tnil (Syntax.ttcons (Syntax.tcons u64 Syntax.tnil) (Syntax.ttcons (Syntax.tcons u64 Syntax.tnil) (Syntax.ttcons Syntax.tnil (Syntax.ttcons
+    (Syntax.tcons u64 (Syntax.tcons u64 Syntax.tnil)) (Syntax.ttcons (Syntax.tcons u64 Syntax.tnil) (Syntax.ttcons Syntax.tnil (Syntax.ttcons Syntax.tnil (Syntax.ttcons (Syntax.tcons u64 Syntax.tnil)
+    (Syntax.ttcons (Syntax.tcons u64 Syntax.tnil) (Syntax.ttcons (Syntax.tcons u64 Syntax.tnil) (Syntax.ttcons Syntax.tnil (Syntax.ttcons Syntax.tnil (Syntax.ttcons (Syntax.tcons u64 (Syntax.tcons u64
+    Syntax.tnil)) (Syntax.ttcons Syntax.tnil (Syntax.ttcons Syntax.tnil (Syntax.ttcons (Syntax.tcons u64 Syntax.tnil) Syntax.ttnil))))))))))))))))))))))))))
 
 abbrev pub y2 : Syntax.Ty
-y2 = Syntax.tyEnum (99 ∷ 104 ∷ 101 ∷ 99 ∷ 107 ∷ 112 ∷ 111 ∷ 105 ∷ 110 ∷ 116 ∷ 58 ∷ 58 ∷ 108 ∷ 111 ∷ 97 ∷ 100 ∷ 58 ∷ 58 ∷ 67 ∷ 104 ∷ 101 ∷ 99 ∷ 107 ∷ 101 ∷ 100 ∷ []) (Syntax.ttcons Syntax.tnil
+y2 = Syntax.tyEnum (115 ∷ 97 ∷ 118 ∷ 101 ∷ 100 ∷ 95 ∷ 115 ∷ 116 ∷ 97 ∷ 116 ∷ 101 ∷ 58 ∷ 58 ∷ 108 ∷ 111 ∷ 97 ∷ 100 ∷ 58 ∷ 58 ∷ 67 ∷ 104 ∷ 101 ∷ 99 ∷ 107 ∷ 101 ∷ 100 ∷ []) (Syntax.ttcons Syntax.tnil
     (Syntax.ttcons Syntax.tnil (Syntax.ttcons (Syntax.tcons u64 (Syntax.tcons u64 Syntax.tnil)) Syntax.ttnil)))
 
 abbrev pub y3 : Syntax.Ty
@@ -106,17 +106,19 @@ abbrev pub y9 : Syntax.Ty
 y9 = Syntax.tyRef Syntax.erased Syntax.mut u16
 
 abbrev pub y10 : Syntax.Ty
-y10 = Syntax.tyStruct (104 ∷ 101 ∷ 97 ∷ 100 ∷ 101 ∷ 114 ∷ 58 ∷ 58 ∷ 70 ∷ 117 ∷ 106 ∷ 105 ∷ 72 ∷ 101 ∷ 97 ∷ 100 ∷ 101 ∷ 114 ∷ []) (Syntax.tcons Syntax.tyBool (Syntax.tcons Syntax.tyBool (Syntax.tcons
-    u32 (Syntax.tcons u32 (Syntax.tcons u32 (Syntax.tcons u32 (Syntax.tcons u32 (Syntax.tcons u32 (Syntax.tcons u32 Syntax.tnil)))))))))
+y10 = Syntax.tyStruct (105 ∷ 109 ∷ 97 ∷ 103 ∷ 101 ∷ 95 ∷ 114 ∷ 101 ∷ 103 ∷ 105 ∷ 111 ∷ 110 ∷ 58 ∷ 58 ∷ 82 ∷ 101 ∷ 99 ∷ 116 ∷ []) (Syntax.tcons u64 (Syntax.tcons u64 (Syntax.tcons u64 (Syntax.tcons u64
+    Syntax.tnil))))
 
 abbrev pub y11 : Syntax.Ty
-y11 = Syntax.tyStruct (114 ∷ 101 ∷ 103 ∷ 105 ∷ 111 ∷ 110 ∷ 58 ∷ 58 ∷ 82 ∷ 101 ∷ 99 ∷ 116 ∷ []) (Syntax.tcons u64 (Syntax.tcons u64 (Syntax.tcons u64 (Syntax.tcons u64 Syntax.tnil))))
+y11 = Syntax.tyStruct (108 ∷ 105 ∷ 110 ∷ 101 ∷ 95 ∷ 116 ∷ 111 ∷ 116 ∷ 97 ∷ 108 ∷ 115 ∷ 58 ∷ 58 ∷ 84 ∷ 111 ∷ 116 ∷ 97 ∷ 108 ∷ 115 ∷ []) (Syntax.tcons u64 (Syntax.tcons u64 Syntax.tnil))
 
 abbrev pub y12 : Syntax.Ty
-y12 = Syntax.tyStruct (116 ∷ 111 ∷ 116 ∷ 97 ∷ 108 ∷ 115 ∷ 58 ∷ 58 ∷ 84 ∷ 111 ∷ 116 ∷ 97 ∷ 108 ∷ 115 ∷ []) (Syntax.tcons u64 (Syntax.tcons u64 Syntax.tnil))
+y12 = Syntax.tyStruct (115 ∷ 116 ∷ 114 ∷ 101 ∷ 97 ∷ 109 ∷ 58 ∷ 58 ∷ 104 ∷ 101 ∷ 97 ∷ 100 ∷ 101 ∷ 114 ∷ 58 ∷ 58 ∷ 70 ∷ 117 ∷ 106 ∷ 105 ∷ 72 ∷ 101 ∷ 97 ∷ 100 ∷ 101 ∷ 114 ∷ []) (Syntax.tcons
+    Syntax.tyBool (Syntax.tcons Syntax.tyBool (Syntax.tcons u32 (Syntax.tcons u32 (Syntax.tcons u32 (Syntax.tcons u32 (Syntax.tcons u32 (Syntax.tcons u32 (Syntax.tcons u32 Syntax.tnil)))))))))
 
 abbrev pub y13 : Syntax.Ty
-y13 = Syntax.tyEnum (98 ∷ 108 ∷ 111 ∷ 99 ∷ 107 ∷ 58 ∷ 58 ∷ 68 ∷ 101 ∷ 99 ∷ 111 ∷ 100 ∷ 101 ∷ 100 ∷ []) (Syntax.ttcons Syntax.tnil (Syntax.ttcons (Syntax.tcons y1 Syntax.tnil) Syntax.ttnil))
+y13 = Syntax.tyEnum (114 ∷ 101 ∷ 97 ∷ 100 ∷ 95 ∷ 98 ∷ 108 ∷ 111 ∷ 99 ∷ 107 ∷ 58 ∷ 58 ∷ 68 ∷ 101 ∷ 99 ∷ 111 ∷ 100 ∷ 101 ∷ 100 ∷ []) (Syntax.ttcons Syntax.tnil (Syntax.ttcons (Syntax.tcons y1
+    Syntax.tnil) Syntax.ttnil))
 
 abbrev pub y14 : Syntax.Ty
 y14 = Syntax.tyStruct (38 ∷ 91 ∷ 93 ∷ []) (Syntax.tcons y8 (Syntax.tcons u64 Syntax.tnil))
@@ -125,15 +127,15 @@ abbrev pub y15 : Syntax.Ty
 y15 = Syntax.tyStruct (38 ∷ 91 ∷ 93 ∷ []) (Syntax.tcons y9 (Syntax.tcons u64 Syntax.tnil))
 
 abbrev pub y16 : Syntax.Ty
-y16 = Syntax.tyStruct (98 ∷ 108 ∷ 111 ∷ 99 ∷ 107 ∷ 58 ∷ 58 ∷ 67 ∷ 111 ∷ 117 ∷ 110 ∷ 116 ∷ 101 ∷ 100 ∷ []) (Syntax.tcons y13 (Syntax.tcons y12 Syntax.tnil))
+y16 = Syntax.tyStruct (114 ∷ 101 ∷ 97 ∷ 100 ∷ 95 ∷ 98 ∷ 108 ∷ 111 ∷ 99 ∷ 107 ∷ 58 ∷ 58 ∷ 67 ∷ 111 ∷ 117 ∷ 110 ∷ 116 ∷ 101 ∷ 100 ∷ []) (Syntax.tcons y13 (Syntax.tcons y11 Syntax.tnil))
 
 abbrev pub ps : List.List (Kinds.PK 5)
-ps = (ShrSlice.pShrS n8 0 tt) ∷ (Values.struct FujiHeader.the-type Laws''.the-laws Laws''.the-copy Laws''.the-plain) ∷ (Num.pNum Syntax.w64) ∷ (ShrSlice.pShrS n8 1 tt) ∷ (Values.struct Rect.the-type
-    Laws'4.the-laws Laws'4.the-copy Laws'4.the-plain) ∷ (Array.pArr (Array.eInt Syntax.w8) (Array.eInt-laws Syntax.w8) 36) ∷ (MutSlice.pMutS n16 2 tt) ∷ (MutSlice.pMutS n16 3 tt) ∷ (MutSlice.pMutS
+ps = (ShrSlice.pShrS n8 0 tt) ∷ (Values.struct FujiHeader.the-type Laws'3.the-laws Laws'3.the-copy Laws'3.the-plain) ∷ (Num.pNum Syntax.w64) ∷ (ShrSlice.pShrS n8 1 tt) ∷ (Values.struct Rect.the-type
+    Laws.the-laws Laws.the-copy Laws.the-plain) ∷ (Array.pArr (Array.eInt Syntax.w8) (Array.eInt-laws Syntax.w8) 36) ∷ (MutSlice.pMutS n16 2 tt) ∷ (MutSlice.pMutS n16 3 tt) ∷ (MutSlice.pMutS
     (Element.type) 4 tt) ∷ []
 
 abbrev pub r : Kinds.RK 5
-r = Values.struct-result Counted.the-type Laws.the-laws Laws.the-copy Laws.the-plain
+r = Values.struct-result Counted.the-type Laws'.the-laws Laws'.the-copy Laws'.the-plain
 
 abbrev pub xs : List.List Syntax.Ty
 xs = y2 ∷ u64 ∷ u64 ∷ y16 ∷ y9 ∷ y15 ∷ y8 ∷ y14 ∷ y1 ∷ y9 ∷ y15 ∷ y8 ∷ y14 ∷ y1 ∷ y9 ∷ y15 ∷ y9 ∷ y15 ∷ y8 ∷ y14 ∷ []
@@ -142,24 +144,24 @@ abbrev pub m : Nat.ℕ
 m = 7
 
 abbrev pub ps·0 : List.List (Kinds.PK 2)
-ps·0 = (ShrSlice.pShrS n8 0 tt) ∷ (Values.struct FujiHeader.the-type Laws''.the-laws Laws''.the-copy Laws''.the-plain) ∷ (Num.pNum Syntax.w64) ∷ (ShrSlice.pShrS n8 1 tt) ∷ []
+ps·0 = (ShrSlice.pShrS n8 0 tt) ∷ (Values.struct FujiHeader.the-type Laws'3.the-laws Laws'3.the-copy Laws'3.the-plain) ∷ (Num.pNum Syntax.w64) ∷ (ShrSlice.pShrS n8 1 tt) ∷ []
 
 abbrev pub r·0 : Kinds.RK 2
-r·0 = Values.enum-result Checked.the-type Laws'.the-laws Laws'.the-copy Laws'.the-plain tt
+r·0 = Values.enum-result Checked.the-type Laws''.the-laws Laws''.the-copy Laws''.the-plain tt
 
 abbrev pub ps·1 : List.List (Kinds.PK 2)
-ps·1 = (MutSlice.pMutS n16 0 tt) ∷ (MutSlice.pMutS (Element.type) 1 tt) ∷ (Values.enum Refusal.the-type Laws'3.the-laws Laws'3.the-copy Laws'3.the-plain tt) ∷ []
+ps·1 = (MutSlice.pMutS n16 0 tt) ∷ (MutSlice.pMutS (Element.type) 1 tt) ∷ (Values.enum Refusal.the-type Laws'4.the-laws Laws'4.the-copy Laws'4.the-plain tt) ∷ []
 
 abbrev pub r·1 : Kinds.RK 2
-r·1 = Values.struct-result Counted.the-type Laws.the-laws Laws.the-copy Laws.the-plain
+r·1 = Values.struct-result Counted.the-type Laws'.the-laws Laws'.the-copy Laws'.the-plain
 
 abbrev pub ps·2 : List.List (Kinds.PK 5)
-ps·2 = (ShrSlice.pShrS n8 0 tt) ∷ (Values.struct FujiHeader.the-type Laws''.the-laws Laws''.the-copy Laws''.the-plain) ∷ (Num.pNum Syntax.w64) ∷ (ShrSlice.pShrS n8 1 tt) ∷ (Num.pNum Syntax.w64) ∷
-    (Num.pNum Syntax.w64) ∷ (Values.struct Rect.the-type Laws'4.the-laws Laws'4.the-copy Laws'4.the-plain) ∷ (Array.pArr (Array.eInt Syntax.w8) (Array.eInt-laws Syntax.w8) 36) ∷ (MutSlice.pMutS n16 2 tt)
-    ∷ (MutSlice.pMutS n16 3 tt) ∷ (MutSlice.pMutS (Element.type) 4 tt) ∷ []
+ps·2 = (ShrSlice.pShrS n8 0 tt) ∷ (Values.struct FujiHeader.the-type Laws'3.the-laws Laws'3.the-copy Laws'3.the-plain) ∷ (Num.pNum Syntax.w64) ∷ (ShrSlice.pShrS n8 1 tt) ∷ (Num.pNum Syntax.w64) ∷
+    (Num.pNum Syntax.w64) ∷ (Values.struct Rect.the-type Laws.the-laws Laws.the-copy Laws.the-plain) ∷ (Array.pArr (Array.eInt Syntax.w8) (Array.eInt-laws Syntax.w8) 36) ∷ (MutSlice.pMutS n16 2 tt) ∷
+    (MutSlice.pMutS n16 3 tt) ∷ (MutSlice.pMutS (Element.type) 4 tt) ∷ []
 
 abbrev pub r·2 : Kinds.RK 5
-r·2 = Values.struct-result Counted.the-type Laws.the-laws Laws.the-copy Laws.the-plain
+r·2 = Values.struct-result Counted.the-type Laws'.the-laws Laws'.the-copy Laws'.the-plain
 
 abbrev pub hs : List.List Syntax.Home
 hs = Syntax.valueLocal ∷ Syntax.valueLocal ∷ Syntax.valueLocal ∷ Syntax.valueLocal ∷ Syntax.valueLocal ∷ Syntax.valueLocal ∷ Syntax.valueLocal ∷ Syntax.valueLocal ∷ Syntax.valueLocal ∷
@@ -309,10 +311,10 @@ abbrev pub v10 : Row.Row
 v10 = Rows'.any-gone y1
 
 abbrev pub v11 : Row.Row
-v11 = Rows'.any-gone y10
+v11 = Rows'.any-gone y12
 
 abbrev pub v12 : Row.Row
-v12 = Rows'.any-gone y11
+v12 = Rows'.any-gone y10
 
 abbrev pub v13 : Row.Row
 v13 = Mut.mslice n16 y5 2
@@ -718,10 +720,10 @@ module _ (claims· : Claims) where
   s5 = Known.k-enum-told Checked.enum 0 T6 10 λ x. x
 
   abbrev s6 : Typed.Mo T6 → Typed.Mo T9
-  s6 = Scalar.n-room T6 2 y10
+  s6 = Scalar.n-room T6 2 y12
 
   abbrev s7 : Typed.Mo T9 → Typed.Mo T10
-  s7 = Scalar.n-room T9 5 y11
+  s7 = Scalar.n-room T9 5 y10
 
   abbrev s8 : Typed.Mo T10 → Typed.Mo T11
   s8 = Scalar.n-room T10 6 y0
@@ -767,10 +769,10 @@ module _ (claims· : Claims) where
   s26 = Known.k-enum-told Checked.enum 1 T6 10 λ x. x
 
   abbrev s27 : Typed.Mo T6 → Typed.Mo T9
-  s27 = Scalar.n-room T6 2 y10
+  s27 = Scalar.n-room T6 2 y12
 
   abbrev s28 : Typed.Mo T9 → Typed.Mo T10
-  s28 = Scalar.n-room T9 5 y11
+  s28 = Scalar.n-room T9 5 y10
 
   abbrev s29 : Typed.Mo T10 → Typed.Mo T11
   s29 = Scalar.n-room T10 6 y0
@@ -816,14 +818,14 @@ module _ (claims· : Claims) where
   s47 = Known.k-enum-known Checked.enum 2 T6 10 λ x. x
 
   abbrev s48 : Typed.Gives T50 T50
-  s48 = Known.k-known-told Checked.enum Laws'.the-laws 2 T50 10 λ x. x
+  s48 = Known.k-known-told Checked.enum Laws''.the-laws 2 T50 10 λ x. x
 
   abbrev s49 : Typed.Mo T50 → Typed.Mo T52
-  s49 = Scalar.n-use T50 (Scalar.oFld 10 ((Syntax.variant 2) ∷ (Syntax.field 1) ∷ []) u64 8 λ v. Laws'.the-laws .1 .1 .0 .0 .val (v .0)) 11 (Rows'.sc-here (Row.sInt Syntax.w64)) (Row.sInt Syntax.w64
+  s49 = Scalar.n-use T50 (Scalar.oFld 10 ((Syntax.variant 2) ∷ (Syntax.field 1) ∷ []) u64 8 λ v. Laws''.the-laws .1 .1 .0 .0 .val (v .0)) 11 (Rows'.sc-here (Row.sInt Syntax.w64)) (Row.sInt Syntax.w64
       .of)
 
   abbrev s50 : Typed.Mo T52 → Typed.Mo T53
-  s50 = Scalar.n-use T52 (Scalar.oFld 10 ((Syntax.variant 2) ∷ (Syntax.field 2) ∷ []) u64 16 λ v. Laws'.the-laws .1 .1 .0 .1 .0 .val (v .1 .0)) 12 (Rows'.sc-here (Row.sInt Syntax.w64)) (Row.sInt
+  s50 = Scalar.n-use T52 (Scalar.oFld 10 ((Syntax.variant 2) ∷ (Syntax.field 2) ∷ []) u64 16 λ v. Laws''.the-laws .1 .1 .0 .1 .0 .val (v .1 .0)) 12 (Rows'.sc-here (Row.sInt Syntax.w64)) (Row.sInt
       Syntax.w64 .of)
 
   abbrev s51 : Typed.Mo T53 → Typed.Mo T54
@@ -878,10 +880,10 @@ module _ (claims· : Claims) where
   s61 = Call.callB ps·2 r·2 (claims· .4) (claims· .5) T63 a3 13 (0 ∷ 1 ∷ 9 ∷ 10 ∷ 11 ∷ []) y16
 
   abbrev s62 : Typed.Mo T64 → Typed.Mo T65
-  s62 = Scalar.n-room T64 2 y10
+  s62 = Scalar.n-room T64 2 y12
 
   abbrev s63 : Typed.Mo T65 → Typed.Mo T66
-  s63 = Scalar.n-room T65 5 y11
+  s63 = Scalar.n-room T65 5 y10
 
   abbrev s64 : Typed.Mo T66 → Typed.Mo T67
   s64 = Scalar.n-room T66 6 y0
@@ -920,8 +922,8 @@ module _ (claims· : Claims) where
     module _ (M : Type 1) where
       abbrev pub Closed : Type 2
       Closed = (𝓤 : URA.URA M) (H : Wp.Heap 𝓤) (A : Atoms.Atoms 𝓤) (W : Kit.Given 𝓤 H A) (𝓣 : Wp.Tables 𝓤 H) (known0 : Plain.Known 𝓤 H A W 𝓣 2 ps·0 r·0 (claims· .0) (claims· .1)
-          "saved_state::blocks::checked_in") (known1 : Plain.Known 𝓤 H A W 𝓣 2 ps·1 r·1 (claims· .2) (claims· .3) "saved_state::blocks::refuse") (known2 : Plain.Known 𝓤 H A W 𝓣 5 ps·2 r·2 (claims· .4) (claims· .5)
-          "saved_state::blocks::resume_lines") → Statement.Triple 𝓤 (Wp.WpFn 𝓤 H (𝓣 .C) (𝓣 .Λ) (Function.fnOf 5 ps r xs m hs body)) (Function.plainOf 𝓤 H A 5 ps r Pre· Post·)
+          "saved_state::blocks::checked_in") (known1 : Plain.Known 𝓤 H A W 𝓣 2 ps·1 r·1 (claims· .2) (claims· .3) "saved_state::blocks::refuse") (known2 : Plain.Known 𝓤 H A W 𝓣 5 ps·2 r·2 (claims· .4)
+          (claims· .5) "saved_state::blocks::resume_lines") → Statement.Triple 𝓤 (Wp.WpFn 𝓤 H (𝓣 .C) (𝓣 .Λ) (Function.fnOf 5 ps r xs m hs body)) (Function.plainOf 𝓤 H A 5 ps r Pre· Post·)
 
     module _ where
       abbrev at0 : Typed.TF T19 O1
@@ -1065,8 +1067,8 @@ module _ (claims· : Claims) where
 
       module _ {M : Type 1} (𝓤 : URA.URA M) (H : Wp.Heap 𝓤) (A : Atoms.Atoms 𝓤) (W : Kit.Given 𝓤 H A) (𝓣 : Wp.Tables 𝓤 H) where
         abbrev Knowns : Type 1
-        Knowns = Plain.Known 𝓤 H A W 𝓣 2 ps·0 r·0 (claims· .0) (claims· .1) "saved_state::blocks::checked_in" × Plain.Known 𝓤 H A W 𝓣 2 ps·1 r·1 (claims· .2) (claims· .3) "saved_state::blocks::refuse" × Plain.Known
-            𝓤 H A W 𝓣 5 ps·2 r·2 (claims· .4) (claims· .5) "saved_state::blocks::resume_lines"
+        Knowns = Plain.Known 𝓤 H A W 𝓣 2 ps·0 r·0 (claims· .0) (claims· .1) "saved_state::blocks::checked_in" × Plain.Known 𝓤 H A W 𝓣 2 ps·1 r·1 (claims· .2) (claims· .3) "saved_state::blocks::refuse"
+            × Plain.Known 𝓤 H A W 𝓣 5 ps·2 r·2 (claims· .4) (claims· .5) "saved_state::blocks::resume_lines"
 
       module _ (κs : Lifetimes.Lfts 5) (qs : Lifetimes.Shares 5) where
         abbrev k0 : Row.Life
@@ -1383,7 +1385,7 @@ module _ (claims· : Claims) where
                   Reads.as-is 𝓤 H A (Mut.mslice (Element.type) y8 6),
                   Mut.reads-mslice 𝓤 H A W (Element.type) y8 6,
                   Path'.refl,
-                  ((Values.enum-copied 𝓤 H A W Refusal.the-type Laws'3.the-laws Laws'3.the-copy, Path'.refl), tt),
+                  ((Values.enum-copied 𝓤 H A W Refusal.the-type Laws'4.the-laws Laws'4.the-copy, Path'.refl), tt),
                 ),
               ) (Reads.room-gone 𝓤 H A y16) (tt, (tt, tt)) Path'.refl) (Scalar.g-room 𝓤 H A W E G20 18 y1
               (Local.room-whole 𝓤 H A W (Declared.row Refusal.the-type) y1 Path'.refl))) (Lifetime.g-end 𝓤 H A W E G21 5 Path'.refl)) (Relend.g-back-sl 𝓤 H A W E n16 G22 15 8 3 5 y6 y9 k3 (λ x. x) (λ x.
@@ -1393,11 +1395,11 @@ module _ (claims· : Claims) where
               (Element.type) y7 4 6 k4)) Path'.refl Path'.refl)) (Lifetime.g-forget 𝓤 H A W E G27 6 Row.dead Path'.refl))
 
           d1 : Typed.Typed 𝓤 H A 𝓣 E G18 (Syntax.seq b5 b6) Δ1 at1
-          d1 = Typed.s-seq 𝓤 H A W 𝓣 E G18 G19 b5 b6 Δ1 (Typed.pass T18 T19 s16) at0 (Make.t-enum-make-wt 𝓤 H A W E 𝓣 Refusal.the-type Laws'3.the-laws Laws'3.the-plain tt G18 18 ((Scalar.oInt
+          d1 = Typed.s-seq 𝓤 H A W 𝓣 E G18 G19 b5 b6 Δ1 (Typed.pass T18 T19 s16) at0 (Make.t-enum-make-wt 𝓤 H A W E 𝓣 Refusal.the-type Laws'4.the-laws Laws'4.the-plain tt G18 18 ((Scalar.oInt
               Syntax.w8 20) ∷ []) (λ m. Refusal.enum .make (Logic.inr (Logic.inr (Logic.inr (Logic.inr (Logic.inr (Logic.inr (Logic.inr (Logic.inr (Logic.inr (Logic.inr (Logic.inr (Logic.inr (Logic.inr
               (Logic.inr (Logic.inr (Logic.inr (Logic.inr (Logic.inr (Logic.inr (Logic.inr (Logic.inl tt)))))))))))))))))))))) (Reads.room-gone 𝓤 H A y1) (tt, tt) Path'.refl (λ m wa. Make.made-val
-              Refusal.the-type Laws'3.the-laws [] (Refusal.enum .make (Logic.inr (Logic.inr (Logic.inr (Logic.inr (Logic.inr (Logic.inr (Logic.inr (Logic.inr (Logic.inr (Logic.inr (Logic.inr (Logic.inr
-              (Logic.inr (Logic.inr (Logic.inr (Logic.inr (Logic.inr (Logic.inr (Logic.inr (Logic.inr (Logic.inl tt)))))))))))))))))))))) tt (wa .1)) λ m wa. Make.made-is Refusal.the-type Laws'3.the-laws
+              Refusal.the-type Laws'4.the-laws [] (Refusal.enum .make (Logic.inr (Logic.inr (Logic.inr (Logic.inr (Logic.inr (Logic.inr (Logic.inr (Logic.inr (Logic.inr (Logic.inr (Logic.inr (Logic.inr
+              (Logic.inr (Logic.inr (Logic.inr (Logic.inr (Logic.inr (Logic.inr (Logic.inr (Logic.inr (Logic.inl tt)))))))))))))))))))))) tt (wa .1)) λ m wa. Make.made-is Refusal.the-type Laws'4.the-laws
               [] (Refusal.enum .make (Logic.inr (Logic.inr (Logic.inr (Logic.inr (Logic.inr (Logic.inr (Logic.inr (Logic.inr (Logic.inr (Logic.inr (Logic.inr (Logic.inr (Logic.inr (Logic.inr (Logic.inr
               (Logic.inr (Logic.inr (Logic.inr (Logic.inr (Logic.inr (Logic.inl tt)))))))))))))))))))))) tt (wa .1)) d0
 
@@ -1436,12 +1438,12 @@ module _ (claims· : Claims) where
           d9 = Typed.g-pre 𝓤 H A W 𝓣 E (on T10 l11) (on T11 l11) b11 Δ1 (Typed.pass T10 T11 s8) at8 (Scalar.g-room 𝓤 H A W E (on T10 l11) 6 y0 (Init.room-arr 𝓤 H A W n8 36 0 36 Path'.refl)) d8
 
           d10 : Typed.Typed 𝓤 H A 𝓣 E (on T9 l11) b11 Δ1 at10
-          d10 = Typed.g-pre 𝓤 H A W 𝓣 E (on T9 l11) (on T10 l11) b11 Δ1 (Typed.pass T9 T10 s7) at9 (Scalar.g-room 𝓤 H A W E (on T9 l11) 5 y11 (Local.room-whole 𝓤 H A W (Declared'.row Rect.the-type)
-              y11 Path'.refl)) d9
+          d10 = Typed.g-pre 𝓤 H A W 𝓣 E (on T9 l11) (on T10 l11) b11 Δ1 (Typed.pass T9 T10 s7) at9 (Scalar.g-room 𝓤 H A W E (on T9 l11) 5 y10 (Local.room-whole 𝓤 H A W (Declared'.row Rect.the-type)
+              y10 Path'.refl)) d9
 
           d11 : Typed.Typed 𝓤 H A 𝓣 E (on T6 l11) b11 Δ1 at11
-          d11 = Typed.g-pre 𝓤 H A W 𝓣 E (on T6 l11) (on T9 l11) b11 Δ1 (Typed.pass T6 T9 s6) at10 (Scalar.g-room 𝓤 H A W E (on T6 l11) 2 y10 (Local.room-whole 𝓤 H A W (Declared'.row
-              FujiHeader.the-type) y10 Path'.refl)) d10
+          d11 = Typed.g-pre 𝓤 H A W 𝓣 E (on T6 l11) (on T9 l11) b11 Δ1 (Typed.pass T6 T9 s6) at10 (Scalar.g-room 𝓤 H A W E (on T6 l11) 2 y12 (Local.room-whole 𝓤 H A W (Declared'.row
+              FujiHeader.the-type) y12 Path'.refl)) d10
 
           d12 : Typed.Typed 𝓤 H A 𝓣 E (on T6 l11) b11 Δ1 at12
           d12 = Typed.g-pre 𝓤 H A W 𝓣 E (on T6 l11) (on T6 l11) b11 Δ1 (Typed.both s5) at11 (Known.g-enum-told 𝓤 H A W E Checked.enum 0 (on T6 l11) 10 λ x. x) d11
@@ -1463,7 +1465,7 @@ module _ (claims· : Claims) where
                   Reads.as-is 𝓤 H A (Mut.mslice (Element.type) y8 8),
                   Mut.reads-mslice 𝓤 H A W (Element.type) y8 8,
                   Path'.refl,
-                  ((Values.enum-copied 𝓤 H A W Refusal.the-type Laws'3.the-laws Laws'3.the-copy, Path'.refl), tt),
+                  ((Values.enum-copied 𝓤 H A W Refusal.the-type Laws'4.the-laws Laws'4.the-copy, Path'.refl), tt),
                 ),
               ) (Reads.room-gone 𝓤 H A y16) (tt, (tt, tt)) Path'.refl) (Scalar.g-room 𝓤 H A W E G41 23 y1
               (Local.room-whole 𝓤 H A W (Declared.row Refusal.the-type) y1 Path'.refl))) (Lifetime.g-end 𝓤 H A W E G42 7 Path'.refl)) (Relend.g-back-sl 𝓤 H A W E n16 G43 20 8 3 7 y6 y9 k3 (λ x. x) (λ x.
@@ -1473,12 +1475,12 @@ module _ (claims· : Claims) where
               (Element.type) y7 4 8 k4)) Path'.refl Path'.refl)) (Lifetime.g-forget 𝓤 H A W E G48 8 Row.dead Path'.refl))
 
           d14 : Typed.Typed 𝓤 H A 𝓣 E G39 (Syntax.seq b16 b17) Δ1 at14
-          d14 = Typed.s-seq 𝓤 H A W 𝓣 E G39 G40 b16 b17 Δ1 (Typed.pass T39 T40 s37) at13 (Make.t-enum-make-wt 𝓤 H A W E 𝓣 Refusal.the-type Laws'3.the-laws Laws'3.the-plain tt G39 23 ((Scalar.oInt
+          d14 = Typed.s-seq 𝓤 H A W 𝓣 E G39 G40 b16 b17 Δ1 (Typed.pass T39 T40 s37) at13 (Make.t-enum-make-wt 𝓤 H A W E 𝓣 Refusal.the-type Laws'4.the-laws Laws'4.the-plain tt G39 23 ((Scalar.oInt
               Syntax.w8 21) ∷ []) (λ m. Refusal.enum .make (Logic.inr (Logic.inr (Logic.inr (Logic.inr (Logic.inr (Logic.inr (Logic.inr (Logic.inr (Logic.inr (Logic.inr (Logic.inr (Logic.inr (Logic.inr
               (Logic.inr (Logic.inr (Logic.inr (Logic.inr (Logic.inr (Logic.inr (Logic.inr (Logic.inr (Logic.inl tt))))))))))))))))))))))) (Reads.room-gone 𝓤 H A y1) (tt, tt) Path'.refl (λ m wa.
-              Make.made-val Refusal.the-type Laws'3.the-laws [] (Refusal.enum .make (Logic.inr (Logic.inr (Logic.inr (Logic.inr (Logic.inr (Logic.inr (Logic.inr (Logic.inr (Logic.inr (Logic.inr (Logic.inr
+              Make.made-val Refusal.the-type Laws'4.the-laws [] (Refusal.enum .make (Logic.inr (Logic.inr (Logic.inr (Logic.inr (Logic.inr (Logic.inr (Logic.inr (Logic.inr (Logic.inr (Logic.inr (Logic.inr
               (Logic.inr (Logic.inr (Logic.inr (Logic.inr (Logic.inr (Logic.inr (Logic.inr (Logic.inr (Logic.inr (Logic.inr (Logic.inl tt))))))))))))))))))))))) tt (wa .1)) λ m wa. Make.made-is
-              Refusal.the-type Laws'3.the-laws [] (Refusal.enum .make (Logic.inr (Logic.inr (Logic.inr (Logic.inr (Logic.inr (Logic.inr (Logic.inr (Logic.inr (Logic.inr (Logic.inr (Logic.inr (Logic.inr
+              Refusal.the-type Laws'4.the-laws [] (Refusal.enum .make (Logic.inr (Logic.inr (Logic.inr (Logic.inr (Logic.inr (Logic.inr (Logic.inr (Logic.inr (Logic.inr (Logic.inr (Logic.inr (Logic.inr
               (Logic.inr (Logic.inr (Logic.inr (Logic.inr (Logic.inr (Logic.inr (Logic.inr (Logic.inr (Logic.inr (Logic.inl tt))))))))))))))))))))))) tt (wa .1)) d13
 
           d15 : Typed.Typed 𝓤 H A 𝓣 E G38 (Syntax.seq b15 (Syntax.seq b16 b17)) Δ1 at15
@@ -1516,12 +1518,12 @@ module _ (claims· : Claims) where
           d22 = Typed.g-pre 𝓤 H A W 𝓣 E (on T10 l11) (on T11 l11) b22 Δ1 (Typed.pass T10 T11 s29) at21 (Scalar.g-room 𝓤 H A W E (on T10 l11) 6 y0 (Init.room-arr 𝓤 H A W n8 36 0 36 Path'.refl)) d21
 
           d23 : Typed.Typed 𝓤 H A 𝓣 E (on T9 l11) b22 Δ1 at23
-          d23 = Typed.g-pre 𝓤 H A W 𝓣 E (on T9 l11) (on T10 l11) b22 Δ1 (Typed.pass T9 T10 s28) at22 (Scalar.g-room 𝓤 H A W E (on T9 l11) 5 y11 (Local.room-whole 𝓤 H A W (Declared'.row Rect.the-type)
-              y11 Path'.refl)) d22
+          d23 = Typed.g-pre 𝓤 H A W 𝓣 E (on T9 l11) (on T10 l11) b22 Δ1 (Typed.pass T9 T10 s28) at22 (Scalar.g-room 𝓤 H A W E (on T9 l11) 5 y10 (Local.room-whole 𝓤 H A W (Declared'.row Rect.the-type)
+              y10 Path'.refl)) d22
 
           d24 : Typed.Typed 𝓤 H A 𝓣 E (on T6 l11) b22 Δ1 at24
-          d24 = Typed.g-pre 𝓤 H A W 𝓣 E (on T6 l11) (on T9 l11) b22 Δ1 (Typed.pass T6 T9 s27) at23 (Scalar.g-room 𝓤 H A W E (on T6 l11) 2 y10 (Local.room-whole 𝓤 H A W (Declared'.row
-              FujiHeader.the-type) y10 Path'.refl)) d23
+          d24 = Typed.g-pre 𝓤 H A W 𝓣 E (on T6 l11) (on T9 l11) b22 Δ1 (Typed.pass T6 T9 s27) at23 (Scalar.g-room 𝓤 H A W E (on T6 l11) 2 y12 (Local.room-whole 𝓤 H A W (Declared'.row
+              FujiHeader.the-type) y12 Path'.refl)) d23
 
           d25 : Typed.Typed 𝓤 H A 𝓣 E (on T6 l11) b22 Δ1 at25
           d25 = Typed.g-pre 𝓤 H A W 𝓣 E (on T6 l11) (on T6 l11) b22 Δ1 (Typed.both s26) at24 (Known.g-enum-told 𝓤 H A W E Checked.enum 1 (on T6 l11) 10 λ x. x) d24
@@ -1577,7 +1579,7 @@ module _ (claims· : Claims) where
                 Shared.reads-sslice 𝓤 H A W n8 y3 0,
                 Path'.refl,
                 (
-                  (Values.struct-copied 𝓤 H A W FujiHeader.the-type Laws''.the-laws Laws''.the-copy, Path'.refl),
+                  (Values.struct-copied 𝓤 H A W FujiHeader.the-type Laws'3.the-laws Laws'3.the-copy, Path'.refl),
                   (
                     (Scalar.reads-sc 𝓤 H A W (Row.sInt Syntax.w64), Path'.refl),
                     (
@@ -1589,7 +1591,7 @@ module _ (claims· : Claims) where
                         (
                           (Scalar.reads-sc 𝓤 H A W (Row.sInt Syntax.w64), Path'.refl),
                           (
-                            (Values.struct-copied 𝓤 H A W Rect.the-type Laws'4.the-laws Laws'4.the-copy, Path'.refl),
+                            (Values.struct-copied 𝓤 H A W Rect.the-type Laws.the-laws Laws.the-copy, Path'.refl),
                             (
                               (Array.arr-yields 𝓤 H A W (Array.eInt Syntax.w8) (Array.eInt-laws Syntax.w8) 36, Path'.refl),
                               (
@@ -1611,8 +1613,8 @@ module _ (claims· : Claims) where
                   ),
                 ),
               ) (Reads.room-gone 𝓤 H A y16) (tt, (tt, (tt, (tt, (tt, tt)))))
-              Path'.refl) (Scalar.g-room 𝓤 H A W E G64 2 y10 (Local.room-whole 𝓤 H A W (Declared'.row FujiHeader.the-type) y10 Path'.refl))) (Scalar.g-room 𝓤 H A W E G65 5 y11 (Local.room-whole 𝓤 H A W
-              (Declared'.row Rect.the-type) y11 Path'.refl))) (Scalar.g-room 𝓤 H A W E G66 6 y0 (Init.room-arr 𝓤 H A W n8 36 0 36 Path'.refl))) (Scalar.g-room 𝓤 H A W E G67 11 u64 (Scalar.room-sc 𝓤 H A W
+              Path'.refl) (Scalar.g-room 𝓤 H A W E G64 2 y12 (Local.room-whole 𝓤 H A W (Declared'.row FujiHeader.the-type) y12 Path'.refl))) (Scalar.g-room 𝓤 H A W E G65 5 y10 (Local.room-whole 𝓤 H A W
+              (Declared'.row Rect.the-type) y10 Path'.refl))) (Scalar.g-room 𝓤 H A W E G66 6 y0 (Init.room-arr 𝓤 H A W n8 36 0 36 Path'.refl))) (Scalar.g-room 𝓤 H A W E G67 11 u64 (Scalar.room-sc 𝓤 H A W
               (Row.sInt Syntax.w64)))) (Scalar.g-room 𝓤 H A W E G68 12 u64 (Scalar.room-sc 𝓤 H A W (Row.sInt Syntax.w64)))) (Lifetime.g-end 𝓤 H A W E G69 9 Path'.refl)) (Relend.g-back-sl 𝓤 H A W E n16 G70
               25 7 2 9 y5 y9 k2 (λ x. x) (λ x. x) (Reads.as-is 𝓤 H A (Mut.msleft n16 y9)) (Reads.as-is 𝓤 H A (Relend.mslice-owed n16 y5 2 9 k2)) Path'.refl Path'.refl)) (Know.g-sl-known 𝓤 H A W
               (Referent.fInt Syntax.w16) E G71 7 2 y5 k2 0 (λ x. x) record { fits = Dec'.lit< tt } (Reads.as-is 𝓤 H A (Mut.mslice n16 y5 2)) Path'.refl tt)) (Lifetime.g-forget 𝓤 H A W E G71 9 Row.dead
@@ -1669,22 +1671,22 @@ module _ (claims· : Claims) where
 
           d37 : Typed.Typed 𝓤 H A 𝓣 E (on T52 l11) (Syntax.seq b24 b37) Δ1 at37
           d37 = Typed.s-seq 𝓤 H A W 𝓣 E (on T52 l11) (on T53 l11) b24 b37 Δ1 (Typed.pass T52 T53 s50) at36 (Scalar.t-use 𝓤 H A W E 𝓣 (on T52 l11) (Scalar.oFld 10 ((Syntax.variant 2) ∷ (Syntax.field 2)
-              ∷ []) u64 16 λ v. Laws'.the-laws .1 .1 .0 .1 .0 .val (v .1 .0)) 12 (Rows'.sc-here (Row.sInt Syntax.w64)) u64 (Row.valS (Row.sInt Syntax.w64)) (Row.sInt Syntax.w64 .of) (
-                Match.reads-payload 𝓤 H A W Checked.enum Laws'.the-laws 2 Path'.refl Path'.refl (λ v. Val.vcons (Laws'.the-laws .1 .1 .0 .0 .val (v .0)) (Val.vcons (Laws'.the-laws .1 .1 .0 .1 .0 .val (v .1
-                    .0)) Val.vnil)) (λ v. Path'.refl) 1 u64 16 Path'.refl,
+              ∷ []) u64 16 λ v. Laws''.the-laws .1 .1 .0 .1 .0 .val (v .1 .0)) 12 (Rows'.sc-here (Row.sInt Syntax.w64)) u64 (Row.valS (Row.sInt Syntax.w64)) (Row.sInt Syntax.w64 .of) (
+                Match.reads-payload 𝓤 H A W Checked.enum Laws''.the-laws 2 Path'.refl Path'.refl (λ v. Val.vcons (Laws''.the-laws .1 .1 .0 .0 .val (v .0)) (Val.vcons (Laws''.the-laws .1 .1 .0 .1 .0 .val (v
+                    .1 .0)) Val.vnil)) (λ v. Path'.refl) 1 u64 16 Path'.refl,
                 Path'.refl,
               ) (Reads.room-gone 𝓤 H A u64) (Scalar.holds-sc 𝓤 H A W (Row.sInt Syntax.w64)) Path'.refl (λ u. Path'.refl) λ u. tt) d36
 
           d38 : Typed.Typed 𝓤 H A 𝓣 E (on T50 l11) b39 Δ1 at38
           d38 = Typed.s-seq 𝓤 H A W 𝓣 E (on T50 l11) (on T52 l11) b23 (Syntax.seq b24 b37) Δ1 (Typed.pass T50 T52 s49) at37 (Scalar.t-use 𝓤 H A W E 𝓣 (on T50 l11) (Scalar.oFld 10 ((Syntax.variant 2) ∷
-              (Syntax.field 1) ∷ []) u64 8 λ v. Laws'.the-laws .1 .1 .0 .0 .val (v .0)) 11 (Rows'.sc-here (Row.sInt Syntax.w64)) u64 (Row.valS (Row.sInt Syntax.w64)) (Row.sInt Syntax.w64 .of) (
-                Match.reads-payload 𝓤 H A W Checked.enum Laws'.the-laws 2 Path'.refl Path'.refl (λ v. Val.vcons (Laws'.the-laws .1 .1 .0 .0 .val (v .0)) (Val.vcons (Laws'.the-laws .1 .1 .0 .1 .0 .val (v .1
-                    .0)) Val.vnil)) (λ v. Path'.refl) 0 u64 8 Path'.refl,
+              (Syntax.field 1) ∷ []) u64 8 λ v. Laws''.the-laws .1 .1 .0 .0 .val (v .0)) 11 (Rows'.sc-here (Row.sInt Syntax.w64)) u64 (Row.valS (Row.sInt Syntax.w64)) (Row.sInt Syntax.w64 .of) (
+                Match.reads-payload 𝓤 H A W Checked.enum Laws''.the-laws 2 Path'.refl Path'.refl (λ v. Val.vcons (Laws''.the-laws .1 .1 .0 .0 .val (v .0)) (Val.vcons (Laws''.the-laws .1 .1 .0 .1 .0 .val (v
+                    .1 .0)) Val.vnil)) (λ v. Path'.refl) 0 u64 8 Path'.refl,
                 Path'.refl,
               ) (Reads.room-gone 𝓤 H A u64) (Scalar.holds-sc 𝓤 H A W (Row.sInt Syntax.w64)) Path'.refl (λ u. Path'.refl) λ u. tt) d37
 
           d39 : Typed.Typed 𝓤 H A 𝓣 E (on T50 l11) b39 Δ1 at39
-          d39 = Typed.g-pre 𝓤 H A W 𝓣 E (on T50 l11) (on T50 l11) b39 Δ1 (Typed.give s48) at38 (Known.g-known-told 𝓤 H A W E Checked.enum 2 (on T50 l11) 10 Laws'.the-laws (λ x. x) (Reads.as-is 𝓤 H A
+          d39 = Typed.g-pre 𝓤 H A W 𝓣 E (on T50 l11) (on T50 l11) b39 Δ1 (Typed.give s48) at38 (Known.g-known-told 𝓤 H A W E Checked.enum 2 (on T50 l11) 10 Laws''.the-laws (λ x. x) (Reads.as-is 𝓤 H A
               (Rows'.whole (Known.Known Checked.enum 2)))) d38
 
           d40 : Typed.Typed 𝓤 H A 𝓣 E (on T6 l11) b39 Δ1 at40
@@ -1695,7 +1697,7 @@ module _ (claims· : Claims) where
           d41 = Switch.t-switch-on 𝓤 H A W E 𝓣 (on T6 l11) (Scalar.oFld 10 ((Syntax.variant 0) ∷ (Syntax.field 0) ∷ []) u8 0 λ x. Val.vint Syntax.w8 (Declared.tagOf Checked.the-type x)) Syntax.w8 (λ
               u. Declared.tagOf Checked.the-type (u .1 .1 .1 .1 .1 .1 .1 .1 .1 .1 .0)) (Syntax.arm (0 ∷ []) b11 (Syntax.arm (1 ∷ []) b22 (Syntax.arm (2 ∷ []) b39 Syntax.noDefault))) Δ1
               (at12, (at25, (at40, tt)))
-              (Match.reads-tag 𝓤 H A W Checked.the-type Laws'.the-laws (Rows'.whole (Declared.row Checked.the-type)) 0 (λ x. x) (Whole.reads-enum 𝓤 H A W Checked.the-type Laws'.the-laws), Path'.refl) (λ
+              (Match.reads-tag 𝓤 H A W Checked.the-type Laws''.the-laws (Rows'.whole (Declared.row Checked.the-type)) 0 (λ x. x) (Whole.reads-enum 𝓤 H A W Checked.the-type Laws''.the-laws), Path'.refl) (λ
               u. Path'.refl) (d12, (d25, (d40, tt)))
 
           d42 : Typed.Typed 𝓤 H A 𝓣 E (on T1 l11) b42 Δ0 at42
@@ -1711,7 +1713,7 @@ module _ (claims· : Claims) where
           d45 : Typed.Typed 𝓤 H A 𝓣 E (on T7 l11) (Syntax.seq b41 b42) Δ0 at45
           d45 = Typed.s-seq 𝓤 H A W 𝓣 E (on T7 l11) (on T81 l11) b41 b42 Δ0 (Typed.pass T7 T81 s78) at44 (LocalCopy.t-val-copy 𝓤 H A W E 𝓣 (λ ρ. Unit) (on T7 l11) 13 0 (Declared'.row Counted.the-type)
               y16 y16 (Rows'.whole (Declared'.row Counted.the-type)) (Rows'.whole (Declared'.row Counted.the-type)) (λ x. x) (λ x. x) (λ x. x) Path'.refl (Own.told-none 𝓤 H A ((on T7 l11) .slots))
-              (Values.struct-copied 𝓤 H A W Counted.the-type Laws.the-laws Laws.the-copy) (Reads.room-gone 𝓤 H A y16) (Yields.makes-mem 𝓤 H A W (λ ρ. Unit) (Declared'.row Counted.the-type) Path'.refl
+              (Values.struct-copied 𝓤 H A W Counted.the-type Laws'.the-laws Laws'.the-copy) (Reads.room-gone 𝓤 H A y16) (Yields.makes-mem 𝓤 H A W (λ ρ. Unit) (Declared'.row Counted.the-type) Path'.refl
               (Rows'.whole (Declared'.row Counted.the-type)) (λ x. x) λ ρ told. Local.whole-mem 𝓤 H A W (Declared'.row Counted.the-type) ρ) Path'.refl Path'.refl) d44
 
           d46 : Typed.Typed 𝓤 H A 𝓣 E (on T6 l11) (Syntax.seq b40 (Syntax.seq b41 b42)) Δ0 at46
@@ -1726,7 +1728,7 @@ module _ (claims· : Claims) where
                 Shared.reads-sslice 𝓤 H A W n8 y3 0,
                 Path'.refl,
                 (
-                  (Values.struct-copied 𝓤 H A W FujiHeader.the-type Laws''.the-laws Laws''.the-copy, Path'.refl),
+                  (Values.struct-copied 𝓤 H A W FujiHeader.the-type Laws'3.the-laws Laws'3.the-copy, Path'.refl),
                   ((Scalar.reads-sc 𝓤 H A W (Row.sInt Syntax.w64), Path'.refl), (ShrSlice.spares-sslice 𝓤 H A W n8 y4 1, Shared.reads-sslice 𝓤 H A W n8 y4 1, Path'.refl, tt)),
                 ),
               ) (Reads.room-gone 𝓤 H A y2)
@@ -1754,10 +1756,10 @@ module _ (claims· : Claims) where
       module _ (κs : Lifetimes.Lfts 5) where
         pub record Args : Type 0 where
           pub d : Kinds.Den {n = 5} κs (ShrSlice.pShrS n8 0 tt)
-          pub h : Kinds.Den {n = 5} κs (Values.struct FujiHeader.the-type Laws''.the-laws Laws''.the-copy Laws''.the-plain)
+          pub h : Kinds.Den {n = 5} κs (Values.struct FujiHeader.the-type Laws'3.the-laws Laws'3.the-copy Laws'3.the-plain)
           pub b : Kinds.Den {n = 5} κs (Num.pNum Syntax.w64)
           pub s : Kinds.Den {n = 5} κs (ShrSlice.pShrS n8 1 tt)
-          pub r : Kinds.Den {n = 5} κs (Values.struct Rect.the-type Laws'4.the-laws Laws'4.the-copy Laws'4.the-plain)
+          pub r : Kinds.Den {n = 5} κs (Values.struct Rect.the-type Laws.the-laws Laws.the-copy Laws.the-plain)
           pub tile : Kinds.Den {n = 5} κs (Array.pArr (Array.eInt Syntax.w8) (Array.eInt-laws Syntax.w8) 36)
           pub image : Kinds.Den {n = 5} κs (MutSlice.pMutS n16 2 tt)
           pub lines : Kinds.Den {n = 5} κs (MutSlice.pMutS n16 3 tt)
@@ -2501,7 +2503,7 @@ module _ (claims· : Claims) where
           }
 
         module _ {M : Type 1} (𝓤 : URA.URA M) (H : Wp.Heap 𝓤) (A : Atoms.Atoms 𝓤) (W : Kit.Given 𝓤 H A) (𝓣 : Wp.Tables 𝓤 H) (known0 : Plain.Known 𝓤 H A W 𝓣 2 ps·0 r·0 (claims· .0) (claims· .1)
-            "saved_state::blocks::checked_in") (known1 : Plain.Known 𝓤 H A W 𝓣 2 ps·1 r·1 (claims· .2) (claims· .3) "saved_state::blocks::refuse") (known2 : Plain.Known 𝓤 H A W 𝓣 5 ps·2 r·2 (claims· .4) (claims· .5)
-            "saved_state::blocks::resume_lines") where
+            "saved_state::blocks::checked_in") (known1 : Plain.Known 𝓤 H A W 𝓣 2 ps·1 r·1 (claims· .2) (claims· .3) "saved_state::blocks::refuse") (known2 : Plain.Known 𝓤 H A W 𝓣 5 ps·2 r·2 (claims· .4)
+            (claims· .5) "saved_state::blocks::resume_lines") where
           pub spec : Statement.Triple 𝓤 (Wp.WpFn 𝓤 H (𝓣 .C) (𝓣 .Λ) (Function.fnOf 5 ps r xs m hs body)) (Function.plainOf 𝓤 H A 5 ps r Pre· Post·)
           spec = Plain.t-fn-plain 𝓤 H A W 𝓣 5 ps r xs m hs body (λ κs qs bs. Φ) (λ κs qs bs bd. typed κs qs 𝓤 H A W 𝓣 (known0, known1, known2) bs bd) Pre· Post· asked

@@ -6,22 +6,22 @@ use Rattle.bits.proofs.Values.{n16, n8, u16, u32, u64, u8}
 use mathlib.Core.List.{_∷_, []}
 use Rattle.read_block.proofs.Element
 use Prim.Native.Nat
-use Rattle.read_block.proofs.Counted
-use Rattle.read_block.proofs.Counted.Laws
-use Rattle.read_block.proofs.Form
-use Rattle.read_block.proofs.Form.Laws as Laws'
-use Rattle.read_block.proofs.Walked
-use Rattle.read_block.proofs.Walked.Laws as Laws''
 use Rattle.cameras.proofs.Entries
-use Rattle.cameras.proofs.Entries.Laws as Laws'3
+use Rattle.cameras.proofs.Entries.Laws
 use Rattle.code.proofs.Place
-use Rattle.code.proofs.Place.Laws as Laws'4
-use Rattle.stream.proofs.header.FujiHeader
-use Rattle.stream.proofs.header.FujiHeader.Laws as Laws'5
+use Rattle.code.proofs.Place.Laws as Laws'
 use Rattle.image_map.proofs.Part
-use Rattle.image_map.proofs.Part.Laws as Laws'6
+use Rattle.image_map.proofs.Part.Laws as Laws''
 use Rattle.image_region.proofs.Rect
-use Rattle.image_region.proofs.Rect.Laws as Laws'7
+use Rattle.image_region.proofs.Rect.Laws as Laws'3
+use Rattle.read_block.proofs.Counted
+use Rattle.read_block.proofs.Counted.Laws as Laws'4
+use Rattle.read_block.proofs.Form
+use Rattle.read_block.proofs.Form.Laws as Laws'5
+use Rattle.read_block.proofs.Walked
+use Rattle.read_block.proofs.Walked.Laws as Laws'6
+use Rattle.stream.proofs.header.FujiHeader
+use Rattle.stream.proofs.header.FujiHeader.Laws as Laws'7
 use borrow.Author.Called
 use borrow.Fn.Any
 use borrow.Fn.Call
@@ -82,12 +82,12 @@ abbrev pub y1 : Syntax.Ty
 y1 = Syntax.tyArray u8 36
 
 abbrev pub y2 : Syntax.Ty
-y2 = Syntax.tyEnum (104 ∷ 101 ∷ 97 ∷ 100 ∷ 101 ∷ 114 ∷ 58 ∷ 58 ∷ 82 ∷ 101 ∷ 102 ∷ 117 ∷ 115 ∷ 97 ∷ 108 ∷ []) (Syntax.ttcons Syntax.tnil (Syntax.ttcons Syntax.tnil (Syntax.ttcons Syntax.tnil
-    (Syntax.ttcons (Syntax.tcons u64 Syntax.tnil) (Syntax.ttcons Syntax.tnil (Syntax.ttcons Syntax.tnil (Syntax.ttcons Syntax.tnil (Syntax.ttcons Syntax.tnil (Syntax.ttcons Syntax.tnil (Syntax.ttcons
-    Syntax.tnil (Syntax.ttcons (Syntax.tcons u64 Syntax.tnil) (Syntax.ttcons (Syntax.tcons u64 Syntax.tnil) (Syntax.ttcons Syntax.tnil (Syntax.ttcons (Syntax.tcons u64 (Syntax.tcons u64 Syntax.tnil))
-    (Syntax.ttcons (Syntax.tcons u64 Syntax.tnil) (Syntax.ttcons Syntax.tnil (Syntax.ttcons Syntax.tnil (Syntax.ttcons (Syntax.tcons u64 Syntax.tnil) (Syntax.ttcons (Syntax.tcons u64 Syntax.tnil)
-    (Syntax.ttcons (Syntax.tcons u64 Syntax.tnil) (Syntax.ttcons Syntax.tnil (Syntax.ttcons Syntax.tnil (Syntax.ttcons (Syntax.tcons u64 (Syntax.tcons u64 Syntax.tnil)) (Syntax.ttcons Syntax.tnil
-    Syntax.ttnil))))))))))))))))))))))))
+y2 = Syntax.tyEnum (115 ∷ 116 ∷ 114 ∷ 101 ∷ 97 ∷ 109 ∷ 58 ∷ 58 ∷ 104 ∷ 101 ∷ 97 ∷ 100 ∷ 101 ∷ 114 ∷ 58 ∷ 58 ∷ 82 ∷ 101 ∷ 102 ∷ 117 ∷ 115 ∷ 97 ∷ 108 ∷ []) (Syntax.ttcons Syntax.tnil (Syntax.ttcons
+    Syntax.tnil (Syntax.ttcons Syntax.tnil (Syntax.ttcons (Syntax.tcons u64 Syntax.tnil) (Syntax.ttcons Syntax.tnil (Syntax.ttcons Syntax.tnil (Syntax.ttcons Syntax.tnil (Syntax.ttcons Syntax.tnil
+    (Syntax.ttcons Syntax.tnil (Syntax.ttcons Syntax.tnil (Syntax.ttcons (Syntax.tcons u64 Syntax.tnil) (Syntax.ttcons (Syntax.tcons u64 Syntax.tnil) (Syntax.ttcons Syntax.tnil (Syntax.ttcons
+    (Syntax.tcons u64 (Syntax.tcons u64 Syntax.tnil)) (Syntax.ttcons (Syntax.tcons u64 Syntax.tnil) (Syntax.ttcons Syntax.tnil (Syntax.ttcons Syntax.tnil (Syntax.ttcons (Syntax.tcons u64 Syntax.tnil)
+    (Syntax.ttcons (Syntax.tcons u64 Syntax.tnil) (Syntax.ttcons (Syntax.tcons u64 Syntax.tnil) (Syntax.ttcons Syntax.tnil (Syntax.ttcons Syntax.tnil (Syntax.ttcons (Syntax.tcons u64 (Syntax.tcons u64
+    Syntax.tnil)) (Syntax.ttcons Syntax.tnil (Syntax.ttcons Syntax.tnil (Syntax.ttcons (Syntax.tcons u64 Syntax.tnil) Syntax.ttnil))))))))))))))))))))))))))
 
 abbrev pub y3 : Syntax.Ty
 y3 = Syntax.tyRef (Syntax.named 0) Syntax.imm u8
@@ -114,37 +114,40 @@ abbrev pub y10 : Syntax.Ty
 y10 = Syntax.tyRef Syntax.erased Syntax.mut u16
 
 abbrev pub y11 : Syntax.Ty
-y11 = Syntax.tyStruct (104 ∷ 101 ∷ 97 ∷ 100 ∷ 101 ∷ 114 ∷ 58 ∷ 58 ∷ 70 ∷ 117 ∷ 106 ∷ 105 ∷ 72 ∷ 101 ∷ 97 ∷ 100 ∷ 101 ∷ 114 ∷ []) (Syntax.tcons Syntax.tyBool (Syntax.tcons Syntax.tyBool (Syntax.tcons
-    u32 (Syntax.tcons u32 (Syntax.tcons u32 (Syntax.tcons u32 (Syntax.tcons u32 (Syntax.tcons u32 (Syntax.tcons u32 Syntax.tnil)))))))))
+y11 = Syntax.tyStruct (105 ∷ 109 ∷ 97 ∷ 103 ∷ 101 ∷ 95 ∷ 109 ∷ 97 ∷ 112 ∷ 58 ∷ 58 ∷ 80 ∷ 97 ∷ 114 ∷ 116 ∷ []) (Syntax.tcons u64 (Syntax.tcons u64 (Syntax.tcons u64 (Syntax.tcons u64 (Syntax.tcons u64
+    (Syntax.tcons u64 Syntax.tnil))))))
 
 abbrev pub y12 : Syntax.Ty
-y12 = Syntax.tyStruct (109 ∷ 97 ∷ 112 ∷ 58 ∷ 58 ∷ 80 ∷ 97 ∷ 114 ∷ 116 ∷ []) (Syntax.tcons u64 (Syntax.tcons u64 (Syntax.tcons u64 (Syntax.tcons u64 (Syntax.tcons u64 (Syntax.tcons u64
-    Syntax.tnil))))))
+y12 = Syntax.tyStruct (105 ∷ 109 ∷ 97 ∷ 103 ∷ 101 ∷ 95 ∷ 114 ∷ 101 ∷ 103 ∷ 105 ∷ 111 ∷ 110 ∷ 58 ∷ 58 ∷ 82 ∷ 101 ∷ 99 ∷ 116 ∷ []) (Syntax.tcons u64 (Syntax.tcons u64 (Syntax.tcons u64 (Syntax.tcons u64
+    Syntax.tnil))))
 
 abbrev pub y13 : Syntax.Ty
-y13 = Syntax.tyStruct (113 ∷ 117 ∷ 97 ∷ 110 ∷ 116 ∷ 105 ∷ 115 ∷ 101 ∷ 114 ∷ 58 ∷ 58 ∷ 81 ∷ 117 ∷ 97 ∷ 110 ∷ 116 ∷ 105 ∷ 115 ∷ 101 ∷ 114 ∷ []) (Syntax.tcons u32 (Syntax.tcons u32 (Syntax.tcons u32
-    (Syntax.tcons u32 (Syntax.tcons u32 Syntax.tnil)))))
+y13 = Syntax.tyStruct (108 ∷ 105 ∷ 110 ∷ 101 ∷ 95 ∷ 116 ∷ 111 ∷ 116 ∷ 97 ∷ 108 ∷ 115 ∷ 58 ∷ 58 ∷ 84 ∷ 111 ∷ 116 ∷ 97 ∷ 108 ∷ 115 ∷ []) (Syntax.tcons u64 (Syntax.tcons u64 Syntax.tnil))
 
 abbrev pub y14 : Syntax.Ty
-y14 = Syntax.tyStruct (114 ∷ 101 ∷ 103 ∷ 105 ∷ 111 ∷ 110 ∷ 58 ∷ 58 ∷ 82 ∷ 101 ∷ 99 ∷ 116 ∷ []) (Syntax.tcons u64 (Syntax.tcons u64 (Syntax.tcons u64 (Syntax.tcons u64 Syntax.tnil))))
+y14 = Syntax.tyStruct (113 ∷ 117 ∷ 97 ∷ 110 ∷ 116 ∷ 105 ∷ 115 ∷ 101 ∷ 114 ∷ 58 ∷ 58 ∷ 81 ∷ 117 ∷ 97 ∷ 110 ∷ 116 ∷ 105 ∷ 115 ∷ 101 ∷ 114 ∷ []) (Syntax.tcons u32 (Syntax.tcons u32 (Syntax.tcons u32
+    (Syntax.tcons u32 (Syntax.tcons u32 Syntax.tnil)))))
 
 abbrev pub y15 : Syntax.Ty
-y15 = Syntax.tyStruct (116 ∷ 111 ∷ 116 ∷ 97 ∷ 108 ∷ 115 ∷ 58 ∷ 58 ∷ 84 ∷ 111 ∷ 116 ∷ 97 ∷ 108 ∷ 115 ∷ []) (Syntax.tcons u64 (Syntax.tcons u64 Syntax.tnil))
+y15 = Syntax.tyStruct (114 ∷ 101 ∷ 97 ∷ 100 ∷ 95 ∷ 98 ∷ 108 ∷ 111 ∷ 99 ∷ 107 ∷ 58 ∷ 58 ∷ 70 ∷ 111 ∷ 114 ∷ 109 ∷ []) (Syntax.tcons u32 (Syntax.tcons Syntax.tyBool Syntax.tnil))
 
 abbrev pub y16 : Syntax.Ty
-y16 = Syntax.tyStruct (98 ∷ 105 ∷ 116 ∷ 115 ∷ 58 ∷ 58 ∷ 66 ∷ 105 ∷ 116 ∷ 80 ∷ 111 ∷ 115 ∷ 105 ∷ 116 ∷ 105 ∷ 111 ∷ 110 ∷ []) (Syntax.tcons u64 Syntax.tnil)
+y16 = Syntax.tyStruct (115 ∷ 116 ∷ 114 ∷ 101 ∷ 97 ∷ 109 ∷ 58 ∷ 58 ∷ 104 ∷ 101 ∷ 97 ∷ 100 ∷ 101 ∷ 114 ∷ 58 ∷ 58 ∷ 70 ∷ 117 ∷ 106 ∷ 105 ∷ 72 ∷ 101 ∷ 97 ∷ 100 ∷ 101 ∷ 114 ∷ []) (Syntax.tcons
+    Syntax.tyBool (Syntax.tcons Syntax.tyBool (Syntax.tcons u32 (Syntax.tcons u32 (Syntax.tcons u32 (Syntax.tcons u32 (Syntax.tcons u32 (Syntax.tcons u32 (Syntax.tcons u32 Syntax.tnil)))))))))
 
 abbrev pub y17 : Syntax.Ty
-y17 = Syntax.tyStruct (98 ∷ 108 ∷ 111 ∷ 99 ∷ 107 ∷ 58 ∷ 58 ∷ 70 ∷ 111 ∷ 114 ∷ 109 ∷ []) (Syntax.tcons u32 (Syntax.tcons Syntax.tyBool Syntax.tnil))
+y17 = Syntax.tyStruct (98 ∷ 105 ∷ 116 ∷ 115 ∷ 58 ∷ 58 ∷ 66 ∷ 105 ∷ 116 ∷ 80 ∷ 111 ∷ 115 ∷ 105 ∷ 116 ∷ 105 ∷ 111 ∷ 110 ∷ []) (Syntax.tcons u64 Syntax.tnil)
 
 abbrev pub y18 : Syntax.Ty
-y18 = Syntax.tyEnum (98 ∷ 108 ∷ 111 ∷ 99 ∷ 107 ∷ 58 ∷ 58 ∷ 68 ∷ 101 ∷ 99 ∷ 111 ∷ 100 ∷ 101 ∷ 100 ∷ []) (Syntax.ttcons Syntax.tnil (Syntax.ttcons (Syntax.tcons y2 Syntax.tnil) Syntax.ttnil))
+y18 = Syntax.tyEnum (114 ∷ 101 ∷ 97 ∷ 100 ∷ 95 ∷ 98 ∷ 108 ∷ 111 ∷ 99 ∷ 107 ∷ 58 ∷ 58 ∷ 68 ∷ 101 ∷ 99 ∷ 111 ∷ 100 ∷ 101 ∷ 100 ∷ []) (Syntax.ttcons Syntax.tnil (Syntax.ttcons (Syntax.tcons y2
+    Syntax.tnil) Syntax.ttnil))
 
 abbrev pub y19 : Syntax.Ty
 y19 = Syntax.tyRef Syntax.erased Syntax.imm y0
 
 abbrev pub y20 : Syntax.Ty
-y20 = Syntax.tyStruct (116 ∷ 111 ∷ 116 ∷ 97 ∷ 108 ∷ 115 ∷ 58 ∷ 58 ∷ 84 ∷ 105 ∷ 103 ∷ 104 ∷ 116 ∷ 76 ∷ 105 ∷ 110 ∷ 101 ∷ 115 ∷ []) (Syntax.tcons u64 (Syntax.tcons y15 Syntax.tnil))
+y20 = Syntax.tyStruct (108 ∷ 105 ∷ 110 ∷ 101 ∷ 95 ∷ 116 ∷ 111 ∷ 116 ∷ 97 ∷ 108 ∷ 115 ∷ 58 ∷ 58 ∷ 84 ∷ 105 ∷ 103 ∷ 104 ∷ 116 ∷ 76 ∷ 105 ∷ 110 ∷ 101 ∷ 115 ∷ []) (Syntax.tcons u64 (Syntax.tcons y13
+    Syntax.tnil))
 
 abbrev pub y21 : Syntax.Ty
 y21 = Syntax.tyStruct (38 ∷ 91 ∷ 93 ∷ []) (Syntax.tcons y10 (Syntax.tcons u64 Syntax.tnil))
@@ -156,44 +159,44 @@ abbrev pub y23 : Syntax.Ty
 y23 = Syntax.tyStruct (38 ∷ 91 ∷ 93 ∷ []) (Syntax.tcons y9 (Syntax.tcons u64 Syntax.tnil))
 
 abbrev pub y24 : Syntax.Ty
-y24 = Syntax.tyStruct (99 ∷ 111 ∷ 100 ∷ 101 ∷ 58 ∷ 58 ∷ 80 ∷ 108 ∷ 97 ∷ 99 ∷ 101 ∷ []) (Syntax.tcons y16 (Syntax.tcons Syntax.tyBool (Syntax.tcons u64 Syntax.tnil)))
+y24 = Syntax.tyStruct (99 ∷ 111 ∷ 100 ∷ 101 ∷ 58 ∷ 58 ∷ 80 ∷ 108 ∷ 97 ∷ 99 ∷ 101 ∷ []) (Syntax.tcons y17 (Syntax.tcons Syntax.tyBool (Syntax.tcons u64 Syntax.tnil)))
 
 abbrev pub y25 : Syntax.Ty
-y25 = Syntax.tyStruct (99 ∷ 97 ∷ 109 ∷ 101 ∷ 114 ∷ 97 ∷ 115 ∷ 58 ∷ 58 ∷ 69 ∷ 110 ∷ 116 ∷ 114 ∷ 121 ∷ []) (Syntax.tcons u32 (Syntax.tcons y13 (Syntax.tcons Syntax.tyBool (Syntax.tcons Syntax.tyBool
+y25 = Syntax.tyStruct (99 ∷ 97 ∷ 109 ∷ 101 ∷ 114 ∷ 97 ∷ 115 ∷ 58 ∷ 58 ∷ 69 ∷ 110 ∷ 116 ∷ 114 ∷ 121 ∷ []) (Syntax.tcons u32 (Syntax.tcons y14 (Syntax.tcons Syntax.tyBool (Syntax.tcons Syntax.tyBool
     Syntax.tnil))))
 
 abbrev pub y26 : Syntax.Ty
 y26 = Syntax.tyArray y25 16
 
 abbrev pub y27 : Syntax.Ty
-y27 = Syntax.tyEnum (98 ∷ 108 ∷ 111 ∷ 99 ∷ 107 ∷ 58 ∷ 58 ∷ 87 ∷ 97 ∷ 108 ∷ 107 ∷ 101 ∷ 100 ∷ []) (Syntax.ttcons (Syntax.tcons y15 (Syntax.tcons y20 Syntax.tnil)) (Syntax.ttcons (Syntax.tcons u64
-    (Syntax.tcons y15 Syntax.tnil)) Syntax.ttnil))
+y27 = Syntax.tyEnum (114 ∷ 101 ∷ 97 ∷ 100 ∷ 95 ∷ 98 ∷ 108 ∷ 111 ∷ 99 ∷ 107 ∷ 58 ∷ 58 ∷ 87 ∷ 97 ∷ 108 ∷ 107 ∷ 101 ∷ 100 ∷ []) (Syntax.ttcons (Syntax.tcons y13 (Syntax.tcons y20 Syntax.tnil))
+    (Syntax.ttcons (Syntax.tcons u64 (Syntax.tcons y13 Syntax.tnil)) Syntax.ttnil))
 
 abbrev pub y28 : Syntax.Ty
-y28 = Syntax.tyStruct (98 ∷ 108 ∷ 111 ∷ 99 ∷ 107 ∷ 58 ∷ 58 ∷ 67 ∷ 111 ∷ 117 ∷ 110 ∷ 116 ∷ 101 ∷ 100 ∷ []) (Syntax.tcons y18 (Syntax.tcons y15 Syntax.tnil))
+y28 = Syntax.tyStruct (114 ∷ 101 ∷ 97 ∷ 100 ∷ 95 ∷ 98 ∷ 108 ∷ 111 ∷ 99 ∷ 107 ∷ 58 ∷ 58 ∷ 67 ∷ 111 ∷ 117 ∷ 110 ∷ 116 ∷ 101 ∷ 100 ∷ []) (Syntax.tcons y18 (Syntax.tcons y13 Syntax.tnil))
 
 abbrev pub y29 : Syntax.Ty
 y29 = Syntax.tyStruct (99 ∷ 97 ∷ 109 ∷ 101 ∷ 114 ∷ 97 ∷ 115 ∷ 58 ∷ 58 ∷ 69 ∷ 110 ∷ 116 ∷ 114 ∷ 105 ∷ 101 ∷ 115 ∷ []) (Syntax.tcons y26 Syntax.tnil)
 
 abbrev pub ps : List.List (Kinds.PK 5)
-ps = (ShrSlice.pShrS n8 0 tt) ∷ (Values.struct FujiHeader.the-type Laws'5.the-laws Laws'5.the-copy Laws'5.the-plain) ∷ (Num.pNum Syntax.w64) ∷ (ShrSlice.pShrS n8 1 tt) ∷ (Num.pNum Syntax.w64) ∷
-    (Num.pNum Syntax.w64) ∷ (Values.struct Rect.the-type Laws'7.the-laws Laws'7.the-copy Laws'7.the-plain) ∷ (Array.pArr (Array.eInt Syntax.w8) (Array.eInt-laws Syntax.w8) 36) ∷ (MutSlice.pMutS n16 2 tt)
+ps = (ShrSlice.pShrS n8 0 tt) ∷ (Values.struct FujiHeader.the-type Laws'7.the-laws Laws'7.the-copy Laws'7.the-plain) ∷ (Num.pNum Syntax.w64) ∷ (ShrSlice.pShrS n8 1 tt) ∷ (Num.pNum Syntax.w64) ∷
+    (Num.pNum Syntax.w64) ∷ (Values.struct Rect.the-type Laws'3.the-laws Laws'3.the-copy Laws'3.the-plain) ∷ (Array.pArr (Array.eInt Syntax.w8) (Array.eInt-laws Syntax.w8) 36) ∷ (MutSlice.pMutS n16 2 tt)
     ∷ (MutSlice.pMutS n16 3 tt) ∷ (MutSlice.pMutS (Element.type) 4 tt) ∷ []
 
 abbrev pub r : Kinds.RK 5
-r = Values.struct-result Counted.the-type Laws.the-laws Laws.the-copy Laws.the-plain
+r = Values.struct-result Counted.the-type Laws'4.the-laws Laws'4.the-copy Laws'4.the-plain
 
 abbrev pub xs : List.List Syntax.Ty
-xs = y17 ∷ y22 ∷ y22 ∷ y0 ∷ y12 ∷ u64 ∷ y27 ∷ y0 ∷ Syntax.tyUnit ∷ y10 ∷ y21 ∷ y9 ∷ y23 ∷ u32 ∷ y10 ∷ y21 ∷ u64 ∷ y10 ∷ y21 ∷ y9 ∷ y23 ∷ y10 ∷ y21 ∷ y19 ∷ y24 ∷ y29 ∷ y10 ∷ y21 ∷ y9 ∷ y23 ∷ []
+xs = y15 ∷ y22 ∷ y22 ∷ y0 ∷ y11 ∷ u64 ∷ y27 ∷ y0 ∷ Syntax.tyUnit ∷ y10 ∷ y21 ∷ y9 ∷ y23 ∷ u32 ∷ y10 ∷ y21 ∷ u64 ∷ y10 ∷ y21 ∷ y9 ∷ y23 ∷ y10 ∷ y21 ∷ y19 ∷ y24 ∷ y29 ∷ y10 ∷ y21 ∷ y9 ∷ y23 ∷ []
 
 abbrev pub m : Nat.ℕ
 m = 9
 
 abbrev pub ps·0 : List.List (Kinds.PK 0)
-ps·0 = (Values.struct FujiHeader.the-type Laws'5.the-laws Laws'5.the-copy Laws'5.the-plain) ∷ []
+ps·0 = (Values.struct FujiHeader.the-type Laws'7.the-laws Laws'7.the-copy Laws'7.the-plain) ∷ []
 
 abbrev pub r·0 : Kinds.RK 0
-r·0 = Values.struct-result Form.the-type Laws'.the-laws Laws'.the-copy Laws'.the-plain
+r·0 = Values.struct-result Form.the-type Laws'5.the-laws Laws'5.the-copy Laws'5.the-plain
 
 abbrev pub ps·1 : List.List (Kinds.PK 1)
 ps·1 = (ShrSlice.pShrS n8 0 tt) ∷ (Num.pNum Syntax.w64) ∷ []
@@ -214,13 +217,13 @@ abbrev pub r·3 : Kinds.RK 0
 r·3 = Array.rArr (Array.eInt Syntax.w16) (Array.eInt-laws Syntax.w16) 768
 
 abbrev pub ps·4 : List.List (Kinds.PK 0)
-ps·4 = (Values.struct Rect.the-type Laws'7.the-laws Laws'7.the-copy Laws'7.the-plain) ∷ (Num.pNum Syntax.w64) ∷ []
+ps·4 = (Values.struct Rect.the-type Laws'3.the-laws Laws'3.the-copy Laws'3.the-plain) ∷ (Num.pNum Syntax.w64) ∷ []
 
 abbrev pub r·4 : Kinds.RK 0
-r·4 = Values.struct-result Part.the-type Laws'6.the-laws Laws'6.the-copy Laws'6.the-plain
+r·4 = Values.struct-result Part.the-type Laws''.the-laws Laws''.the-copy Laws''.the-plain
 
 abbrev pub ps·5 : List.List (Kinds.PK 0)
-ps·5 = (Values.struct Rect.the-type Laws'7.the-laws Laws'7.the-copy Laws'7.the-plain) ∷ (Num.pNum Syntax.w64) ∷ (Num.pNum Syntax.w64) ∷ []
+ps·5 = (Values.struct Rect.the-type Laws'3.the-laws Laws'3.the-copy Laws'3.the-plain) ∷ (Num.pNum Syntax.w64) ∷ (Num.pNum Syntax.w64) ∷ []
 
 abbrev pub r·5 : Kinds.RK 0
 r·5 = Num.rNum Syntax.w64
@@ -259,22 +262,22 @@ abbrev pub ps·11 : List.List (Kinds.PK 0)
 ps·11 = (Num.pNum Syntax.w64) ∷ []
 
 abbrev pub r·11 : Kinds.RK 0
-r·11 = Values.struct-result Place.the-type Laws'4.the-laws Laws'4.the-copy Laws'4.the-plain
+r·11 = Values.struct-result Place.the-type Laws'.the-laws Laws'.the-copy Laws'.the-plain
 
 abbrev pub ps·12 : List.List (Kinds.PK 0)
 ps·12 = []
 
 abbrev pub r·12 : Kinds.RK 0
-r·12 = Values.struct-result Entries.the-type Laws'3.the-laws Laws'3.the-copy Laws'3.the-plain
+r·12 = Values.struct-result Entries.the-type Laws.the-laws Laws.the-copy Laws.the-plain
 
 abbrev pub ps·13 : List.List (Kinds.PK 6)
-ps·13 = (ShrSlice.pShrS n8 0 tt) ∷ (ShrSlice.pShrS n8 1 tt) ∷ (MutSlice.pMutS n16 2 tt) ∷ (MutSlice.pMutS (Element.type) 3 tt) ∷ (MutSlice.pMutS n16 4 tt) ∷ (Values.struct Form.the-type Laws'.the-laws
-    Laws'.the-copy Laws'.the-plain) ∷ (ShrRef.pShr (Array'.Array n16 768) 5 tt) ∷ (Array.pArr (Array.eInt Syntax.w8) (Array.eInt-laws Syntax.w8) 36) ∷ (Values.struct Part.the-type Laws'6.the-laws
-    Laws'6.the-copy Laws'6.the-plain) ∷ (Num.pNum Syntax.w64) ∷ (Values.struct Place.the-type Laws'4.the-laws Laws'4.the-copy Laws'4.the-plain) ∷ (Num.pNum Syntax.w64) ∷ Bool.pBool ∷ (Values.struct
-    Entries.the-type Laws'3.the-laws Laws'3.the-copy Laws'3.the-plain) ∷ []
+ps·13 = (ShrSlice.pShrS n8 0 tt) ∷ (ShrSlice.pShrS n8 1 tt) ∷ (MutSlice.pMutS n16 2 tt) ∷ (MutSlice.pMutS (Element.type) 3 tt) ∷ (MutSlice.pMutS n16 4 tt) ∷ (Values.struct Form.the-type
+    Laws'5.the-laws Laws'5.the-copy Laws'5.the-plain) ∷ (ShrRef.pShr (Array'.Array n16 768) 5 tt) ∷ (Array.pArr (Array.eInt Syntax.w8) (Array.eInt-laws Syntax.w8) 36) ∷ (Values.struct Part.the-type
+    Laws''.the-laws Laws''.the-copy Laws''.the-plain) ∷ (Num.pNum Syntax.w64) ∷ (Values.struct Place.the-type Laws'.the-laws Laws'.the-copy Laws'.the-plain) ∷ (Num.pNum Syntax.w64) ∷ Bool.pBool ∷
+    (Values.struct Entries.the-type Laws.the-laws Laws.the-copy Laws.the-plain) ∷ []
 
 abbrev pub r·13 : Kinds.RK 6
-r·13 = Values.enum-result Walked.the-type Laws''.the-laws Laws''.the-copy Laws''.the-plain tt
+r·13 = Values.enum-result Walked.the-type Laws'6.the-laws Laws'6.the-copy Laws'6.the-plain tt
 
 abbrev pub ps·14 : List.List (Kinds.PK 1)
 ps·14 = (MutSlice.pMutS (Element.type) 0 tt) ∷ []
@@ -283,10 +286,10 @@ abbrev pub r·14 : Kinds.RK 1
 r·14 = Unit'.rUnit
 
 abbrev pub ps·15 : List.List (Kinds.PK 0)
-ps·15 = (Num.pNum Syntax.w64) ∷ (Num.pNum Syntax.w64) ∷ (Values.enum Walked.the-type Laws''.the-laws Laws''.the-copy Laws''.the-plain tt) ∷ []
+ps·15 = (Num.pNum Syntax.w64) ∷ (Num.pNum Syntax.w64) ∷ (Values.enum Walked.the-type Laws'6.the-laws Laws'6.the-copy Laws'6.the-plain tt) ∷ []
 
 abbrev pub r·15 : Kinds.RK 0
-r·15 = Values.struct-result Counted.the-type Laws.the-laws Laws.the-copy Laws.the-plain
+r·15 = Values.struct-result Counted.the-type Laws'4.the-laws Laws'4.the-copy Laws'4.the-plain
 
 abbrev pub hs : List.List Syntax.Home
 hs = Syntax.valueLocal ∷ Syntax.valueLocal ∷ Syntax.valueLocal ∷ Syntax.valueLocal ∷ Syntax.valueLocal ∷ Syntax.valueLocal ∷ Syntax.valueLocal ∷ Syntax.valueLocal ∷ Syntax.valueLocal ∷
@@ -491,7 +494,7 @@ abbrev pub v9 : Row.Row
 v9 = Rows'.any-gone y28
 
 abbrev pub v10 : Row.Row
-v10 = Rows'.any-gone y14
+v10 = Rows'.any-gone y12
 
 abbrev pub v11 : Row.Row
 v11 = Rows'.any-gone y0
@@ -500,7 +503,7 @@ abbrev pub v12 : Row.Row
 v12 = Rows'.any-gone u64
 
 abbrev pub v13 : Row.Row
-v13 = Rows'.any-gone y11
+v13 = Rows'.any-gone y16
 
 abbrev pub v14 : Row.Row
 v14 = Mut.mslice n16 y5 2
@@ -536,7 +539,7 @@ abbrev pub v24 : Row.Row
 v24 = Rows.arrF n16 768 0
 
 abbrev pub v25 : Row.Row
-v25 = Rows'.any-gone y17
+v25 = Rows'.any-gone y15
 
 abbrev pub v26 : Row.Row
 v26 = Rows'.sc-shr (Rows.arrF n16 768 0) (Array'.Array n16 768) (λ x. x) 11
@@ -569,7 +572,7 @@ abbrev pub v35 : Row.Row
 v35 = Relend.mslice-owed n16 y5 2 10 Row.off
 
 abbrev pub v36 : Row.Row
-v36 = Rows'.any-gone y12
+v36 = Rows'.any-gone y11
 
 abbrev pub v37 : Row.Row
 v37 = Mut.mslice (Element.type) y9 9
@@ -1058,7 +1061,7 @@ module _ (claims· : Claims) where
   s3 = Know.k-sl-known (Referent.fInt Syntax.w16) T0 10 3 y6 Row.off 0 λ x. x
 
   abbrev s4 : Typed.Both T0 T6
-  s4 = Call.callB ps·0 r·0 (claims· .0) (claims· .1) T0 (record { pos = 2; st = []; d = 0; at = λ x. x }, tt) 12 [] y17
+  s4 = Call.callB ps·0 r·0 (claims· .0) (claims· .1) T0 (record { pos = 2; st = []; d = 0; at = λ x. x }, tt) 12 [] y15
 
   abbrev s5 : Typed.Both T6 T7
   s5 = Call.callB ps·1 r·1 (claims· .2) (claims· .3) T6 (record { pos = 1; ty = y3; ref = λ x. x }, (Num.vAt 3 λ x. x, tt)) 13 (0 ∷ []) y22
@@ -1076,13 +1079,13 @@ module _ (claims· : Claims) where
   s9 = Scalar.n-room T10 19 y0
 
   abbrev s10 : Typed.Both T11 T12
-  s10 = Call.callB ps·4 r·4 (claims· .8) (claims· .9) T11 (record { pos = 7; st = []; d = 0; at = λ x. x }, (Num.vAt 3 λ x. x, tt)) 16 [] y12
+  s10 = Call.callB ps·4 r·4 (claims· .8) (claims· .9) T11 (record { pos = 7; st = []; d = 0; at = λ x. x }, (Num.vAt 3 λ x. x, tt)) 16 [] y11
 
   abbrev s11 : Typed.Both T12 T13
   s11 = Call.callB ps·5 r·5 (claims· .10) (claims· .11) T12 (record { pos = 7; st = []; d = 0; at = λ x. x }, (Num.vAt 3 λ x. x, (Num.vAt 5 λ x. x, tt))) 17 [] u64
 
   abbrev s12 : Typed.Mo T13 → Typed.Mo T14
-  s12 = Scalar.n-room T13 7 y14
+  s12 = Scalar.n-room T13 7 y12
 
   abbrev s14 : Typed.Gives T14 T16
   s14 = Relend.k-sl-relend n16 T14 10 21 3 5 y6 y10 Row.off λ x. x
@@ -1142,7 +1145,7 @@ module _ (claims· : Claims) where
   s35 = Call.callB ps·9 r·9 (claims· .18) (claims· .19) T36 (Bool.bFld 2 ((Syntax.field 1) ∷ []) 1 λ x. FujiHeader.struct .as-values x .1 .0, tt) 28 [] u64
 
   abbrev s36 : Typed.Mo T37 → Typed.Mo T38
-  s36 = Scalar.n-room T37 2 y11
+  s36 = Scalar.n-room T37 2 y16
 
   abbrev s37 : Typed.Both T38 T39
   s37 = Call.callB ps·10 r·10 (claims· .20) (claims· .21) T38 (record { pos = 4; ty = y4; ref = λ x. x }, (record { pos = 27; ty = y10; ref = λ x. x }, (Num.vAt 28 λ x. x, tt))) 20 (1 ∷ 7 ∷ [])
@@ -1233,10 +1236,10 @@ module _ (claims· : Claims) where
   s61 = Scalar.n-room T62 8 y1
 
   abbrev s62 : Typed.Mo T63 → Typed.Mo T64
-  s62 = Scalar.n-room T63 12 y17
+  s62 = Scalar.n-room T63 12 y15
 
   abbrev s63 : Typed.Mo T64 → Typed.Mo T65
-  s63 = Scalar.n-room T64 16 y12
+  s63 = Scalar.n-room T64 16 y11
 
   abbrev s64 : Typed.Mo T65 → Typed.Mo T66
   s64 = Scalar.n-room T65 36 y24
@@ -1321,14 +1324,14 @@ module _ (claims· : Claims) where
       abbrev pub Closed : Type 2
       Closed = (𝓤 : URA.URA M) (H : Wp.Heap 𝓤) (A : Atoms.Atoms 𝓤) (W : Kit.Given 𝓤 H A) (𝓣 : Wp.Tables 𝓤 H) (known0 : Plain.Known 𝓤 H A W 𝓣 0 ps·0 r·0 (claims· .0) (claims· .1) "read_block::form_of")
           (known1 : Plain.Known 𝓤 H A W 𝓣 1 ps·1 r·1 (claims· .2) (claims· .3) "stream::block_bytes") (known2 : Plain.Known 𝓤 H A W 𝓣 1 ps·2 r·2 (claims· .4) (claims· .5) "stream::base_row") (known3 :
-          Plain.Known 𝓤 H A W 𝓣 0 ps·3 r·3 (claims· .6) (claims· .7) "image_map::xtrans_places") (known4 : Plain.Known 𝓤 H A W 𝓣 0 ps·4 r·4 (claims· .8) (claims· .9) "saved_state::blocks::part_wanted") (known5 :
-          Plain.Known 𝓤 H A W 𝓣 0 ps·5 r·5 (claims· .10) (claims· .11) "saved_state::blocks::lines_wanted") (known6 : Plain.Known 𝓤 H A W 𝓣 1 ps·6 r·6 (claims· .12) (claims· .13) "colour_lines::clear") (known7 :
-          Plain.Known 𝓤 H A W 𝓣 1 ps·7 r·7 (claims· .14) (claims· .15) "cameras::taking::base_of") (known8 : Plain.Known 𝓤 H A W 𝓣 2 ps·8 r·8 (claims· .16) (claims· .17) "saved_state::blocks::load_records") (known9 :
-          Plain.Known 𝓤 H A W 𝓣 0 ps·9 r·9 (claims· .18) (claims· .19) "image_map::width") (known10 : Plain.Known 𝓤 H A W 𝓣 2 ps·10 r·10 (claims· .20) (claims· .21) "saved_state::load::load_lines") (known11 :
-          Plain.Known 𝓤 H A W 𝓣 0 ps·11 r·11 (claims· .22) (claims· .23) "saved_state::blocks::place_at") (known12 : Plain.Known 𝓤 H A W 𝓣 0 ps·12 r·12 (claims· .24) (claims· .25) "cameras::no_entries") (known13
-          : Plain.Known 𝓤 H A W 𝓣 6 ps·13 r·13 (claims· .26) (claims· .27) "read_block::reading::read_lines") (known14 : Plain.Known 𝓤 H A W 𝓣 1 ps·14 r·14 (claims· .28) (claims· .29)
-          "read_block::records::clear_records") (known15 : Plain.Known 𝓤 H A W 𝓣 0 ps·15 r·15 (claims· .30) (claims· .31) "saved_state::blocks::resume_answer") → Statement.Triple 𝓤 (Wp.WpFn 𝓤 H (𝓣 .C) (𝓣 .Λ)
-          (Function.fnOf 5 ps r xs m hs body)) (Function.plainOf 𝓤 H A 5 ps r Pre· Post·)
+          Plain.Known 𝓤 H A W 𝓣 0 ps·3 r·3 (claims· .6) (claims· .7) "image_map::xtrans_places") (known4 : Plain.Known 𝓤 H A W 𝓣 0 ps·4 r·4 (claims· .8) (claims· .9) "saved_state::blocks::part_wanted")
+          (known5 : Plain.Known 𝓤 H A W 𝓣 0 ps·5 r·5 (claims· .10) (claims· .11) "saved_state::blocks::lines_wanted") (known6 : Plain.Known 𝓤 H A W 𝓣 1 ps·6 r·6 (claims· .12) (claims· .13)
+          "colour_lines::clear") (known7 : Plain.Known 𝓤 H A W 𝓣 1 ps·7 r·7 (claims· .14) (claims· .15) "cameras::taking::base_of") (known8 : Plain.Known 𝓤 H A W 𝓣 2 ps·8 r·8 (claims· .16) (claims· .17)
+          "saved_state::blocks::load_records") (known9 : Plain.Known 𝓤 H A W 𝓣 0 ps·9 r·9 (claims· .18) (claims· .19) "image_map::width") (known10 : Plain.Known 𝓤 H A W 𝓣 2 ps·10 r·10 (claims· .20)
+          (claims· .21) "saved_state::load::load_lines") (known11 : Plain.Known 𝓤 H A W 𝓣 0 ps·11 r·11 (claims· .22) (claims· .23) "saved_state::blocks::place_at") (known12 : Plain.Known 𝓤 H A W 𝓣 0 ps·12
+          r·12 (claims· .24) (claims· .25) "cameras::no_entries") (known13 : Plain.Known 𝓤 H A W 𝓣 6 ps·13 r·13 (claims· .26) (claims· .27) "read_block::reading::read_lines") (known14 : Plain.Known 𝓤 H A
+          W 𝓣 1 ps·14 r·14 (claims· .28) (claims· .29) "read_block::records::clear_records") (known15 : Plain.Known 𝓤 H A W 𝓣 0 ps·15 r·15 (claims· .30) (claims· .31) "saved_state::blocks::resume_answer")
+          → Statement.Triple 𝓤 (Wp.WpFn 𝓤 H (𝓣 .C) (𝓣 .Λ) (Function.fnOf 5 ps r xs m hs body)) (Function.plainOf 𝓤 H A 5 ps r Pre· Post·)
 
     module _ where
       abbrev at0 : Typed.TF T1 O0
@@ -1570,14 +1573,14 @@ module _ (claims· : Claims) where
 
       module _ {M : Type 1} (𝓤 : URA.URA M) (H : Wp.Heap 𝓤) (A : Atoms.Atoms 𝓤) (W : Kit.Given 𝓤 H A) (𝓣 : Wp.Tables 𝓤 H) where
         abbrev Knowns : Type 1
-        Knowns = Plain.Known 𝓤 H A W 𝓣 0 ps·0 r·0 (claims· .0) (claims· .1) "read_block::form_of" × Plain.Known 𝓤 H A W 𝓣 1 ps·1 r·1 (claims· .2) (claims· .3) "stream::block_bytes" × Plain.Known 𝓤 H A W 𝓣
-            1 ps·2 r·2 (claims· .4) (claims· .5) "stream::base_row" × Plain.Known 𝓤 H A W 𝓣 0 ps·3 r·3 (claims· .6) (claims· .7) "image_map::xtrans_places" × Plain.Known 𝓤 H A W 𝓣 0 ps·4 r·4 (claims· .8)
-            (claims· .9) "saved_state::blocks::part_wanted" × Plain.Known 𝓤 H A W 𝓣 0 ps·5 r·5 (claims· .10) (claims· .11) "saved_state::blocks::lines_wanted" × Plain.Known 𝓤 H A W 𝓣 1 ps·6 r·6 (claims· .12) (claims·
-            .13) "colour_lines::clear" × Plain.Known 𝓤 H A W 𝓣 1 ps·7 r·7 (claims· .14) (claims· .15) "cameras::taking::base_of" × Plain.Known 𝓤 H A W 𝓣 2 ps·8 r·8 (claims· .16) (claims· .17) "saved_state::blocks::load_records"
-            × Plain.Known 𝓤 H A W 𝓣 0 ps·9 r·9 (claims· .18) (claims· .19) "image_map::width" × Plain.Known 𝓤 H A W 𝓣 2 ps·10 r·10 (claims· .20) (claims· .21) "saved_state::load::load_lines" × Plain.Known 𝓤 H A
-            W 𝓣 0 ps·11 r·11 (claims· .22) (claims· .23) "saved_state::blocks::place_at" × Plain.Known 𝓤 H A W 𝓣 0 ps·12 r·12 (claims· .24) (claims· .25) "cameras::no_entries" × Plain.Known 𝓤 H A W 𝓣 6 ps·13
-            r·13 (claims· .26) (claims· .27) "read_block::reading::read_lines" × Plain.Known 𝓤 H A W 𝓣 1 ps·14 r·14 (claims· .28) (claims· .29) "read_block::records::clear_records" × Plain.Known 𝓤 H A W 𝓣 0 ps·15
-            r·15 (claims· .30) (claims· .31) "saved_state::blocks::resume_answer"
+        Knowns = Plain.Known 𝓤 H A W 𝓣 0 ps·0 r·0 (claims· .0) (claims· .1) "read_block::form_of" × Plain.Known 𝓤 H A W 𝓣 1 ps·1 r·1 (claims· .2) (claims· .3) "stream::block_bytes" × Plain.Known 𝓤 H A
+            W 𝓣 1 ps·2 r·2 (claims· .4) (claims· .5) "stream::base_row" × Plain.Known 𝓤 H A W 𝓣 0 ps·3 r·3 (claims· .6) (claims· .7) "image_map::xtrans_places" × Plain.Known 𝓤 H A W 𝓣 0 ps·4 r·4 (claims·
+            .8) (claims· .9) "saved_state::blocks::part_wanted" × Plain.Known 𝓤 H A W 𝓣 0 ps·5 r·5 (claims· .10) (claims· .11) "saved_state::blocks::lines_wanted" × Plain.Known 𝓤 H A W 𝓣 1 ps·6 r·6
+            (claims· .12) (claims· .13) "colour_lines::clear" × Plain.Known 𝓤 H A W 𝓣 1 ps·7 r·7 (claims· .14) (claims· .15) "cameras::taking::base_of" × Plain.Known 𝓤 H A W 𝓣 2 ps·8 r·8 (claims· .16)
+            (claims· .17) "saved_state::blocks::load_records" × Plain.Known 𝓤 H A W 𝓣 0 ps·9 r·9 (claims· .18) (claims· .19) "image_map::width" × Plain.Known 𝓤 H A W 𝓣 2 ps·10 r·10 (claims· .20) (claims·
+            .21) "saved_state::load::load_lines" × Plain.Known 𝓤 H A W 𝓣 0 ps·11 r·11 (claims· .22) (claims· .23) "saved_state::blocks::place_at" × Plain.Known 𝓤 H A W 𝓣 0 ps·12 r·12 (claims· .24)
+            (claims· .25) "cameras::no_entries" × Plain.Known 𝓤 H A W 𝓣 6 ps·13 r·13 (claims· .26) (claims· .27) "read_block::reading::read_lines" × Plain.Known 𝓤 H A W 𝓣 1 ps·14 r·14 (claims· .28)
+            (claims· .29) "read_block::records::clear_records" × Plain.Known 𝓤 H A W 𝓣 0 ps·15 r·15 (claims· .30) (claims· .31) "saved_state::blocks::resume_answer"
 
       module _ (κs : Lifetimes.Lfts 5) (qs : Lifetimes.Shares 5) where
         abbrev k0 : Row.Life
@@ -1949,10 +1952,11 @@ module _ (claims· : Claims) where
               d4
 
           d6 : Typed.Typed 𝓤 H A 𝓣 E (on T82 l15) b36 Δ0 at6
-          d6 = Typed.s-seq 𝓤 H A W 𝓣 E (on T82 l15) (on T100 l15) b34 b35 Δ0 (Typed.both s98) at5 (Plain.t-call-plain 𝓤 H A W 𝓣 0 ps·15 r·15 (claims· .30) (claims· .31) "saved_state::blocks::resume_answer"
-              (known .15) E (λ pos β. β) (on T82 l15) (Num.vAt 3 λ x. x, (Num.vAt 6 λ x. x, (record { pos = 18; st = []; d = 0; at = λ x. x }, tt))) 0 [] (Call.sub-id 𝓤 H A W ((on T82 l15) .slots)) (
+          d6 = Typed.s-seq 𝓤 H A W 𝓣 E (on T82 l15) (on T100 l15) b34 b35 Δ0 (Typed.both s98) at5 (Plain.t-call-plain 𝓤 H A W 𝓣 0 ps·15 r·15 (claims· .30) (claims· .31)
+              "saved_state::blocks::resume_answer" (known .15) E (λ pos β. β) (on T82 l15) (Num.vAt 3 λ x. x, (Num.vAt 6 λ x. x, (record { pos = 18; st = []; d = 0; at = λ x. x }, tt))) 0 [] (Call.sub-id
+              𝓤 H A W ((on T82 l15) .slots)) (
                 (Scalar.reads-sc 𝓤 H A W (Row.sInt Syntax.w64), Path'.refl),
-                ((Scalar.reads-sc 𝓤 H A W (Row.sInt Syntax.w64), Path'.refl), ((Values.enum-copied 𝓤 H A W Walked.the-type Laws''.the-laws Laws''.the-copy, Path'.refl), tt)),
+                ((Scalar.reads-sc 𝓤 H A W (Row.sInt Syntax.w64), Path'.refl), ((Values.enum-copied 𝓤 H A W Walked.the-type Laws'6.the-laws Laws'6.the-copy, Path'.refl), tt)),
               ) (Reads'.room-gone 𝓤 H A y28) tt
               Path'.refl) d5
 
@@ -1970,8 +1974,8 @@ module _ (claims· : Claims) where
           d10 = Typed.g-pre 𝓤 H A W 𝓣 E G95 G96 b36 Δ0 (Typed.pass T95 T96 s94) at8 (Scalar.g-room 𝓤 H A W E G95 20 Syntax.tyUnit (Scalar.room-sc 𝓤 H A W Row.sUnit)) d9
 
           d11 : Typed.Typed 𝓤 H A 𝓣 E G94 (Syntax.seq b33 b36) Δ0 at11
-          d11 = Typed.s-seq 𝓤 H A W 𝓣 E G94 G95 b33 b36 Δ0 (Typed.both s93) at10 (Plain.t-call-plain 𝓤 H A W 𝓣 1 ps·14 r·14 (claims· .28) (claims· .29) "read_block::records::clear_records" (known .14) E (λ
-              pos β. β) G94 (record { pos = 41; ty = y9; ref = λ x. x }, tt) 20 (13 ∷ []) (Call.sub-id 𝓤 H A W (G94 .slots))
+          d11 = Typed.s-seq 𝓤 H A W 𝓣 E G94 G95 b33 b36 Δ0 (Typed.both s93) at10 (Plain.t-call-plain 𝓤 H A W 𝓣 1 ps·14 r·14 (claims· .28) (claims· .29) "read_block::records::clear_records" (known .14)
+              E (λ pos β. β) G94 (record { pos = 41; ty = y9; ref = λ x. x }, tt) 20 (13 ∷ []) (Call.sub-id 𝓤 H A W (G94 .slots))
               (Reads'.as-is 𝓤 H A (Mut.mslice (Element.type) y9 13), Mut.reads-mslice 𝓤 H A W (Element.type) y9 13, Path'.refl, tt) (Reads'.room-gone 𝓤 H A Syntax.tyUnit) (tt, tt) Path'.refl) d10
 
           d12 : Typed.Typed 𝓤 H A 𝓣 E G93 (Syntax.seq b32 (Syntax.seq b33 b36)) Δ0 at12
@@ -2006,8 +2010,8 @@ module _ (claims· : Claims) where
           d19 = Typed.g-pre 𝓤 H A W 𝓣 E G86 G87 b39 Δ0 (Typed.pass T86 T87 s85) at17 (Scalar.g-room 𝓤 H A W E G86 20 Syntax.tyUnit (Scalar.room-sc 𝓤 H A W Row.sUnit)) d18
 
           d20 : Typed.Typed 𝓤 H A 𝓣 E G85 (Syntax.seq b30 b39) Δ0 at20
-          d20 = Typed.s-seq 𝓤 H A W 𝓣 E G85 G86 b30 b39 Δ0 (Typed.both s84) at19 (Plain.t-call-plain 𝓤 H A W 𝓣 1 ps·6 r·6 (claims· .12) (claims· .13) "colour_lines::clear" (known .6) E (λ pos β. β) G85
-              (record { pos = 39; ty = y10; ref = λ x. x }, tt) 20 (12 ∷ []) (Call.sub-id 𝓤 H A W (G85 .slots))
+          d20 = Typed.s-seq 𝓤 H A W 𝓣 E G85 G86 b30 b39 Δ0 (Typed.both s84) at19 (Plain.t-call-plain 𝓤 H A W 𝓣 1 ps·6 r·6 (claims· .12) (claims· .13) "colour_lines::clear" (known .6) E (λ pos β. β)
+              G85 (record { pos = 39; ty = y10; ref = λ x. x }, tt) 20 (12 ∷ []) (Call.sub-id 𝓤 H A W (G85 .slots))
               (Reads'.as-is 𝓤 H A (Mut.mslice n16 y10 12), Mut.reads-mslice 𝓤 H A W n16 y10 12, Path'.refl, tt) (Reads'.room-gone 𝓤 H A Syntax.tyUnit) (tt, tt) Path'.refl) d19
 
           d21 : Typed.Typed 𝓤 H A 𝓣 E G84 (Syntax.seq b29 (Syntax.seq b30 b39)) Δ0 at21
@@ -2083,10 +2087,10 @@ module _ (claims· : Claims) where
           d40 = Typed.g-pre 𝓤 H A W 𝓣 E G65 G66 b42 Δ0 (Typed.pass T65 T66 s64) at39 (Scalar.g-room 𝓤 H A W E G65 36 y24 (Local.room-whole 𝓤 H A W (Declared'.row Place.the-type) y24 Path'.refl)) d39
 
           d41 : Typed.Typed 𝓤 H A 𝓣 E G64 b42 Δ0 at41
-          d41 = Typed.g-pre 𝓤 H A W 𝓣 E G64 G65 b42 Δ0 (Typed.pass T64 T65 s63) at40 (Scalar.g-room 𝓤 H A W E G64 16 y12 (Local.room-whole 𝓤 H A W (Declared'.row Part.the-type) y12 Path'.refl)) d40
+          d41 = Typed.g-pre 𝓤 H A W 𝓣 E G64 G65 b42 Δ0 (Typed.pass T64 T65 s63) at40 (Scalar.g-room 𝓤 H A W E G64 16 y11 (Local.room-whole 𝓤 H A W (Declared'.row Part.the-type) y11 Path'.refl)) d40
 
           d42 : Typed.Typed 𝓤 H A 𝓣 E G63 b42 Δ0 at42
-          d42 = Typed.g-pre 𝓤 H A W 𝓣 E G63 G64 b42 Δ0 (Typed.pass T63 T64 s62) at41 (Scalar.g-room 𝓤 H A W E G63 12 y17 (Local.room-whole 𝓤 H A W (Declared'.row Form.the-type) y17 Path'.refl)) d41
+          d42 = Typed.g-pre 𝓤 H A W 𝓣 E G63 G64 b42 Δ0 (Typed.pass T63 T64 s62) at41 (Scalar.g-room 𝓤 H A W E G63 12 y15 (Local.room-whole 𝓤 H A W (Declared'.row Form.the-type) y15 Path'.refl)) d41
 
           d43 : Typed.Typed 𝓤 H A 𝓣 E G62 b42 Δ0 at43
           d43 = Typed.g-pre 𝓤 H A W 𝓣 E G62 G63 b42 Δ0 (Typed.pass T62 T63 s61) at42 (Scalar.g-room 𝓤 H A W E G62 8 y1 (Init.room-arr 𝓤 H A W n8 36 0 36 Path'.refl)) d42
@@ -2102,8 +2106,8 @@ module _ (claims· : Claims) where
           d46 = Typed.g-pre 𝓤 H A W 𝓣 E G59 G60 b42 Δ0 (Typed.pass T59 T60 s58) at45 (Scalar.g-room 𝓤 H A W E G59 13 y22 (Shared.room-sslice 𝓤 H A W n8 y8 0)) d45
 
           d47 : Typed.Typed 𝓤 H A 𝓣 E G58 (Syntax.seq b27 b42) Δ0 at47
-          d47 = Typed.s-seq 𝓤 H A W 𝓣 E G58 G59 b27 b42 Δ0 (Typed.both s57) at46 (Plain.t-call-plain 𝓤 H A W 𝓣 6 ps·13 r·13 (claims· .26) (claims· .27) "read_block::reading::read_lines" (known .13) E (λ
-              pos β. β) G58 (
+          d47 = Typed.s-seq 𝓤 H A W 𝓣 E G58 G59 b27 b42 Δ0 (Typed.both s57) at46 (Plain.t-call-plain 𝓤 H A W 𝓣 6 ps·13 r·13 (claims· .26) (claims· .27) "read_block::reading::read_lines" (known .13) E
+              (λ pos β. β) G58 (
                 record { pos = 13; ty = y8; ref = λ x. x },
                 (
                   record { pos = 14; ty = y8; ref = λ x. x },
@@ -2152,7 +2156,7 @@ module _ (claims· : Claims) where
                         Mut.reads-mslice 𝓤 H A W n16 y10 10,
                         Path'.refl,
                         (
-                          (Values.struct-copied 𝓤 H A W Form.the-type Laws'.the-laws Laws'.the-copy, Path'.refl),
+                          (Values.struct-copied 𝓤 H A W Form.the-type Laws'5.the-laws Laws'5.the-copy, Path'.refl),
                           (
                             ShrRef.spares-sref 𝓤 H A W (Array'.Array n16 768) y19 11,
                             Reads'.reads-sref 𝓤 H A W (Array'.Array n16 768) y19 11,
@@ -2160,12 +2164,12 @@ module _ (claims· : Claims) where
                             (
                               (Array.arr-yields 𝓤 H A W (Array.eInt Syntax.w8) (Array.eInt-laws Syntax.w8) 36, Path'.refl),
                               (
-                                (Values.struct-copied 𝓤 H A W Part.the-type Laws'6.the-laws Laws'6.the-copy, Path'.refl),
+                                (Values.struct-copied 𝓤 H A W Part.the-type Laws''.the-laws Laws''.the-copy, Path'.refl),
                                 (
                                   (Scalar.reads-sc 𝓤 H A W (Row.sInt Syntax.w64), Path'.refl),
                                   (
-                                    (Values.struct-copied 𝓤 H A W Place.the-type Laws'4.the-laws Laws'4.the-copy, Path'.refl),
-                                    ((Scalar.reads-sc 𝓤 H A W (Row.sInt Syntax.w64), Path'.refl), (tt, ((Values.struct-copied 𝓤 H A W Entries.the-type Laws'3.the-laws Laws'3.the-copy, Path'.refl), tt))),
+                                    (Values.struct-copied 𝓤 H A W Place.the-type Laws'.the-laws Laws'.the-copy, Path'.refl),
+                                    ((Scalar.reads-sc 𝓤 H A W (Row.sInt Syntax.w64), Path'.refl), (tt, ((Values.struct-copied 𝓤 H A W Entries.the-type Laws.the-laws Laws.the-copy, Path'.refl), tt))),
                                   ),
                                 ),
                               ),
@@ -2185,8 +2189,8 @@ module _ (claims· : Claims) where
 
           d49 : Typed.Typed 𝓤 H A 𝓣 E G56 b45 Δ0 at49
           d49 = Typed.s-seq 𝓤 H A W 𝓣 E G56 G57 b25 (Syntax.seq b26 (Syntax.seq b27 b42)) Δ0 (Typed.both s55) at48 (Plain.t-call-plain 𝓤 H A W 𝓣 0 ps·11 r·11 (claims· .22) (claims· .23)
-              "saved_state::blocks::place_at" (known .11) E (λ pos β. β) G56 (Num.vAt 6 λ x. x, tt) 36 [] (Call.sub-id 𝓤 H A W (G56 .slots)) ((Scalar.reads-sc 𝓤 H A W (Row.sInt Syntax.w64), Path'.refl), tt)
-              (Reads'.room-gone 𝓤 H A y24) tt Path'.refl) d48
+              "saved_state::blocks::place_at" (known .11) E (λ pos β. β) G56 (Num.vAt 6 λ x. x, tt) 36 [] (Call.sub-id 𝓤 H A W (G56 .slots))
+              ((Scalar.reads-sc 𝓤 H A W (Row.sInt Syntax.w64), Path'.refl), tt) (Reads'.room-gone 𝓤 H A y24) tt Path'.refl) d48
 
           d50 : Typed.Typed 𝓤 H A 𝓣 E G55 (Syntax.seq b24 b45) Δ0 at50
           d50 = Typed.s-seq 𝓤 H A W 𝓣 E G55 G56 b24 b45 Δ0 (Typed.give s54) at49 (Local.t-sc-share 𝓤 H A W E 𝓣 G55 15 35 11 (Array'.Array n16 768) y19 (λ x. x) (Whole.mem-arr 𝓤 H A W n16 768)
@@ -2270,13 +2274,13 @@ module _ (claims· : Claims) where
               Syntax.tyUnit) (tt, (tt, tt)) Path'.refl) d66
 
           d68 : Typed.Typed 𝓤 H A 𝓣 E G37 (Syntax.seq b17 b52) Δ0 at68
-          d68 = Typed.g-pre 𝓤 H A W 𝓣 E G37 G38 (Syntax.seq b17 b52) Δ0 (Typed.pass T37 T38 s36) at67 (Scalar.g-room 𝓤 H A W E G37 2 y11 (Local.room-whole 𝓤 H A W (Declared'.row FujiHeader.the-type)
-              y11 Path'.refl)) d67
+          d68 = Typed.g-pre 𝓤 H A W 𝓣 E G37 G38 (Syntax.seq b17 b52) Δ0 (Typed.pass T37 T38 s36) at67 (Scalar.g-room 𝓤 H A W E G37 2 y16 (Local.room-whole 𝓤 H A W (Declared'.row FujiHeader.the-type)
+              y16 Path'.refl)) d67
 
           d69 : Typed.Typed 𝓤 H A 𝓣 E G36 (Syntax.seq b16 (Syntax.seq b17 b52)) Δ0 at69
-          d69 = Typed.s-seq 𝓤 H A W 𝓣 E G36 G37 b16 (Syntax.seq b17 b52) Δ0 (Typed.both s35) at68 (Plain.t-call-plain 𝓤 H A W 𝓣 0 ps·9 r·9 (claims· .18) (claims· .19) "image_map::width" (known .9) E (λ pos
-              β. β) G36 (Bool.bFld 2 ((Syntax.field 1) ∷ []) 1 λ x. FujiHeader.struct .as-values x .1 .0, tt) 28 [] (Call.sub-id 𝓤 H A W (G36 .slots))
-              ((Reads.reads-field 𝓤 H A W FujiHeader.the-type Laws'5.the-laws 1 Syntax.tyBool 1 Path'.refl, Path'.refl), tt) (Reads'.room-gone 𝓤 H A u64) tt Path'.refl) d68
+          d69 = Typed.s-seq 𝓤 H A W 𝓣 E G36 G37 b16 (Syntax.seq b17 b52) Δ0 (Typed.both s35) at68 (Plain.t-call-plain 𝓤 H A W 𝓣 0 ps·9 r·9 (claims· .18) (claims· .19) "image_map::width" (known .9) E
+              (λ pos β. β) G36 (Bool.bFld 2 ((Syntax.field 1) ∷ []) 1 λ x. FujiHeader.struct .as-values x .1 .0, tt) 28 [] (Call.sub-id 𝓤 H A W (G36 .slots))
+              ((Reads.reads-field 𝓤 H A W FujiHeader.the-type Laws'7.the-laws 1 Syntax.tyBool 1 Path'.refl, Path'.refl), tt) (Reads'.room-gone 𝓤 H A u64) tt Path'.refl) d68
 
           d70 : Typed.Typed 𝓤 H A 𝓣 E G35 b55 Δ0 at70
           d70 = Typed.s-seq 𝓤 H A W 𝓣 E G35 G36 b15 (Syntax.seq b16 (Syntax.seq b17 b52)) Δ0 (Typed.ask s34) at69 (Relend.t-sl-aggregate 𝓤 H A W E n16 𝓣 (Relend.asMut n16) G35 26 27 7 y10 y10 (λ x. x)
@@ -2309,8 +2313,8 @@ module _ (claims· : Claims) where
           d77 = Typed.g-pre 𝓤 H A W 𝓣 E G28 G29 b56 Δ0 (Typed.pass T28 T29 s27) at76 (Scalar.g-room 𝓤 H A W E G28 20 Syntax.tyUnit (Scalar.room-sc 𝓤 H A W Row.sUnit)) d76
 
           d78 : Typed.Typed 𝓤 H A 𝓣 E G27 (Syntax.seq b13 b56) Δ0 at78
-          d78 = Typed.s-seq 𝓤 H A W 𝓣 E G27 G28 b13 b56 Δ0 (Typed.both s26) at77 (Plain.t-call-plain 𝓤 H A W 𝓣 2 ps·8 r·8 (claims· .16) (claims· .17) "saved_state::blocks::load_records" (known .8) E (λ pos
-              β. β) G27 (
+          d78 = Typed.s-seq 𝓤 H A W 𝓣 E G27 G28 b13 b56 Δ0 (Typed.both s26) at77 (Plain.t-call-plain 𝓤 H A W 𝓣 2 ps·8 r·8 (claims· .16) (claims· .17) "saved_state::blocks::load_records" (known .8) E
+              (λ pos β. β) G27 (
                 record { pos = 24; ty = y9; ref = λ x. x },
                 (
                   record { pos = 4; ty = y4; ref = λ x. x },
@@ -2326,16 +2330,16 @@ module _ (claims· : Claims) where
                   Shared.reads-sslice 𝓤 H A W n8 y4 1,
                   Path'.refl,
                   (
-                    (Reads.reads-field 𝓤 H A W FujiHeader.the-type Laws'5.the-laws 0 Syntax.tyBool 0 Path'.refl, Path'.refl),
-                    ((Reads.reads-field 𝓤 H A W FujiHeader.the-type Laws'5.the-laws 2 u32 4 Path'.refl, Path'.refl), ((Scalar.reads-sc 𝓤 H A W (Row.sInt Syntax.w32), Path'.refl), tt)),
+                    (Reads.reads-field 𝓤 H A W FujiHeader.the-type Laws'7.the-laws 0 Syntax.tyBool 0 Path'.refl, Path'.refl),
+                    ((Reads.reads-field 𝓤 H A W FujiHeader.the-type Laws'7.the-laws 2 u32 4 Path'.refl, Path'.refl), ((Scalar.reads-sc 𝓤 H A W (Row.sInt Syntax.w32), Path'.refl), tt)),
                   ),
                 ),
               ) (Reads'.room-gone 𝓤 H A
               Syntax.tyUnit) (tt, (tt, tt)) Path'.refl) d77
 
           d79 : Typed.Typed 𝓤 H A 𝓣 E G26 (Syntax.seq b12 (Syntax.seq b13 b56)) Δ0 at79
-          d79 = Typed.s-seq 𝓤 H A W 𝓣 E G26 G27 b12 (Syntax.seq b13 b56) Δ0 (Typed.both s25) at78 (Plain.t-call-plain 𝓤 H A W 𝓣 1 ps·7 r·7 (claims· .14) (claims· .15) "cameras::taking::base_of" (known .7) E (λ
-              pos β. β) G26 (record { pos = 14; ty = y8; ref = λ x. x }, (Num.vLit 0, tt)) 25 (0 ∷ []) (Call.sub-id 𝓤 H A W (G26 .slots))
+          d79 = Typed.s-seq 𝓤 H A W 𝓣 E G26 G27 b12 (Syntax.seq b13 b56) Δ0 (Typed.both s25) at78 (Plain.t-call-plain 𝓤 H A W 𝓣 1 ps·7 r·7 (claims· .14) (claims· .15) "cameras::taking::base_of" (known
+              .7) E (λ pos β. β) G26 (record { pos = 14; ty = y8; ref = λ x. x }, (Num.vLit 0, tt)) 25 (0 ∷ []) (Call.sub-id 𝓤 H A W (G26 .slots))
               (ShrSlice.spares-sslice 𝓤 H A W n8 y8 0, Shared.reads-sslice 𝓤 H A W n8 y8 0, Path'.refl, (tt, tt)) (Reads'.room-gone 𝓤 H A u32) (tt, tt) Path'.refl) d78
 
           d80 : Typed.Typed 𝓤 H A 𝓣 E G25 b59 Δ0 at80
@@ -2389,21 +2393,22 @@ module _ (claims· : Claims) where
               d90
 
           d92 : Typed.Typed 𝓤 H A 𝓣 E (on T13 l15) b63 Δ0 at92
-          d92 = Typed.g-pre 𝓤 H A W 𝓣 E (on T13 l15) (on T14 l15) b63 Δ0 (Typed.pass T13 T14 s12) at90 (Scalar.g-room 𝓤 H A W E (on T13 l15) 7 y14 (Local.room-whole 𝓤 H A W (Declared'.row
-              Rect.the-type) y14 Path'.refl)) d91
+          d92 = Typed.g-pre 𝓤 H A W 𝓣 E (on T13 l15) (on T14 l15) b63 Δ0 (Typed.pass T13 T14 s12) at90 (Scalar.g-room 𝓤 H A W E (on T13 l15) 7 y12 (Local.room-whole 𝓤 H A W (Declared'.row
+              Rect.the-type) y12 Path'.refl)) d91
 
           d93 : Typed.Typed 𝓤 H A 𝓣 E (on T12 l15) (Syntax.seq b6 b63) Δ0 at93
-          d93 = Typed.s-seq 𝓤 H A W 𝓣 E (on T12 l15) (on T13 l15) b6 b63 Δ0 (Typed.both s11) at92 (Plain.t-call-plain 𝓤 H A W 𝓣 0 ps·5 r·5 (claims· .10) (claims· .11) "saved_state::blocks::lines_wanted"
-              (known .5) E (λ pos β. β) (on T12 l15) (record { pos = 7; st = []; d = 0; at = λ x. x }, (Num.vAt 3 λ x. x, (Num.vAt 5 λ x. x, tt))) 17 [] (Call.sub-id 𝓤 H A W ((on T12 l15) .slots)) (
-                (Values.struct-copied 𝓤 H A W Rect.the-type Laws'7.the-laws Laws'7.the-copy, Path'.refl),
+          d93 = Typed.s-seq 𝓤 H A W 𝓣 E (on T12 l15) (on T13 l15) b6 b63 Δ0 (Typed.both s11) at92 (Plain.t-call-plain 𝓤 H A W 𝓣 0 ps·5 r·5 (claims· .10) (claims· .11)
+              "saved_state::blocks::lines_wanted" (known .5) E (λ pos β. β) (on T12 l15) (record { pos = 7; st = []; d = 0; at = λ x. x }, (Num.vAt 3 λ x. x, (Num.vAt 5 λ x. x, tt))) 17 [] (Call.sub-id 𝓤
+              H A W ((on T12 l15) .slots)) (
+                (Values.struct-copied 𝓤 H A W Rect.the-type Laws'3.the-laws Laws'3.the-copy, Path'.refl),
                 ((Scalar.reads-sc 𝓤 H A W (Row.sInt Syntax.w64), Path'.refl), ((Scalar.reads-sc 𝓤 H A W (Row.sInt Syntax.w64), Path'.refl), tt)),
               ) (Reads'.room-gone 𝓤 H A u64) tt Path'.refl) d92
 
           d94 : Typed.Typed 𝓤 H A 𝓣 E (on T11 l15) (Syntax.seq b5 (Syntax.seq b6 b63)) Δ0 at94
           d94 = Typed.s-seq 𝓤 H A W 𝓣 E (on T11 l15) (on T12 l15) b5 (Syntax.seq b6 b63) Δ0 (Typed.both s10) at93 (Plain.t-call-plain 𝓤 H A W 𝓣 0 ps·4 r·4 (claims· .8) (claims· .9)
-              "saved_state::blocks::part_wanted" (known .4) E (λ pos β. β) (on T11 l15) (record { pos = 7; st = []; d = 0; at = λ x. x }, (Num.vAt 3 λ x. x, tt)) 16 [] (Call.sub-id 𝓤 H A W ((on T11 l15) .slots))
-              ((Values.struct-copied 𝓤 H A W Rect.the-type Laws'7.the-laws Laws'7.the-copy, Path'.refl), ((Scalar.reads-sc 𝓤 H A W (Row.sInt Syntax.w64), Path'.refl), tt)) (Reads'.room-gone 𝓤 H A y12) tt
-              Path'.refl) d93
+              "saved_state::blocks::part_wanted" (known .4) E (λ pos β. β) (on T11 l15) (record { pos = 7; st = []; d = 0; at = λ x. x }, (Num.vAt 3 λ x. x, tt)) 16 [] (Call.sub-id 𝓤 H A W ((on T11 l15)
+              .slots)) ((Values.struct-copied 𝓤 H A W Rect.the-type Laws'3.the-laws Laws'3.the-copy, Path'.refl), ((Scalar.reads-sc 𝓤 H A W (Row.sInt Syntax.w64), Path'.refl), tt)) (Reads'.room-gone 𝓤 H A
+              y11) tt Path'.refl) d93
 
           d95 : Typed.Typed 𝓤 H A 𝓣 E (on T10 l15) (Syntax.seq b5 (Syntax.seq b6 b63)) Δ0 at95
           d95 = Typed.g-pre 𝓤 H A W 𝓣 E (on T10 l15) (on T11 l15) (Syntax.seq b5 (Syntax.seq b6 b63)) Δ0 (Typed.pass T10 T11 s9) at94 (Scalar.g-room 𝓤 H A W E (on T10 l15) 19 y0 (Init.room-arr 𝓤 H A W
@@ -2417,8 +2422,8 @@ module _ (claims· : Claims) where
               ρ told. Whole.arr-mem 𝓤 H A W n16 768 tt ρ) Path'.refl Path'.refl) d95
 
           d97 : Typed.Typed 𝓤 H A 𝓣 E (on T8 l15) (Syntax.seq b3 b66) Δ0 at97
-          d97 = Typed.s-seq 𝓤 H A W 𝓣 E (on T8 l15) (on T9 l15) b3 b66 Δ0 (Typed.both s7) at96 (Plain.t-call-plain 𝓤 H A W 𝓣 0 ps·3 r·3 (claims· .6) (claims· .7) "image_map::xtrans_places" (known .3) E (λ
-              pos β. β) (on T8 l15) tt 19 [] (Call.sub-id 𝓤 H A W ((on T8 l15) .slots)) tt (Reads'.room-gone 𝓤 H A y0) tt Path'.refl) d96
+          d97 = Typed.s-seq 𝓤 H A W 𝓣 E (on T8 l15) (on T9 l15) b3 b66 Δ0 (Typed.both s7) at96 (Plain.t-call-plain 𝓤 H A W 𝓣 0 ps·3 r·3 (claims· .6) (claims· .7) "image_map::xtrans_places" (known .3)
+              E (λ pos β. β) (on T8 l15) tt 19 [] (Call.sub-id 𝓤 H A W ((on T8 l15) .slots)) tt (Reads'.room-gone 𝓤 H A y0) tt Path'.refl) d96
 
           d98 : Typed.Typed 𝓤 H A 𝓣 E (on T7 l15) (Syntax.seq b2 (Syntax.seq b3 b66)) Δ0 at98
           d98 = Typed.s-seq 𝓤 H A W 𝓣 E (on T7 l15) (on T8 l15) b2 (Syntax.seq b3 b66) Δ0 (Typed.both s6) at97 (Plain.t-call-plain 𝓤 H A W 𝓣 1 ps·2 r·2 (claims· .4) (claims· .5) "stream::base_row"
@@ -2433,9 +2438,9 @@ module _ (claims· : Claims) where
               (tt, tt) (Path'.refl, λ b o k. tt)) d98
 
           d100 : Typed.Typed 𝓤 H A 𝓣 E (on T0 l15) b70 Δ0 at100
-          d100 = Typed.s-seq 𝓤 H A W 𝓣 E (on T0 l15) (on T6 l15) b0 b69 Δ0 (Typed.both s4) at99 (Plain.t-call-plain 𝓤 H A W 𝓣 0 ps·0 r·0 (claims· .0) (claims· .1) "read_block::form_of" (known .0) E (λ pos
-              β. β) (on T0 l15) (record { pos = 2; st = []; d = 0; at = λ x. x }, tt) 12 [] (Call.sub-id 𝓤 H A W ((on T0 l15) .slots))
-              ((Values.struct-copied 𝓤 H A W FujiHeader.the-type Laws'5.the-laws Laws'5.the-copy, Path'.refl), tt) (Reads'.room-gone 𝓤 H A y17) tt Path'.refl) d99
+          d100 = Typed.s-seq 𝓤 H A W 𝓣 E (on T0 l15) (on T6 l15) b0 b69 Δ0 (Typed.both s4) at99 (Plain.t-call-plain 𝓤 H A W 𝓣 0 ps·0 r·0 (claims· .0) (claims· .1) "read_block::form_of" (known .0) E (λ
+              pos β. β) (on T0 l15) (record { pos = 2; st = []; d = 0; at = λ x. x }, tt) 12 [] (Call.sub-id 𝓤 H A W ((on T0 l15) .slots))
+              ((Values.struct-copied 𝓤 H A W FujiHeader.the-type Laws'7.the-laws Laws'7.the-copy, Path'.refl), tt) (Reads'.room-gone 𝓤 H A y15) tt Path'.refl) d99
 
           d101 : Typed.Typed 𝓤 H A 𝓣 E (on T0 l15) b70 Δ0 at101
           d101 = Typed.g-pre 𝓤 H A W 𝓣 E (on T0 l15) (on T0 l15) b70 Δ0 (Typed.give s3) at100 (Know.g-sl-known 𝓤 H A W (Referent.fInt Syntax.w16) E (on T0 l15) 10 3 y6 k3 0 (λ x. x) record
@@ -2459,12 +2464,12 @@ module _ (claims· : Claims) where
       module _ (κs : Lifetimes.Lfts 5) where
         pub record Args : Type 0 where
           pub d : Kinds.Den {n = 5} κs (ShrSlice.pShrS n8 0 tt)
-          pub h : Kinds.Den {n = 5} κs (Values.struct FujiHeader.the-type Laws'5.the-laws Laws'5.the-copy Laws'5.the-plain)
+          pub h : Kinds.Den {n = 5} κs (Values.struct FujiHeader.the-type Laws'7.the-laws Laws'7.the-copy Laws'7.the-plain)
           pub b : Kinds.Den {n = 5} κs (Num.pNum Syntax.w64)
           pub s : Kinds.Den {n = 5} κs (ShrSlice.pShrS n8 1 tt)
           pub k : Kinds.Den {n = 5} κs (Num.pNum Syntax.w64)
           pub at : Kinds.Den {n = 5} κs (Num.pNum Syntax.w64)
-          pub r : Kinds.Den {n = 5} κs (Values.struct Rect.the-type Laws'7.the-laws Laws'7.the-copy Laws'7.the-plain)
+          pub r : Kinds.Den {n = 5} κs (Values.struct Rect.the-type Laws'3.the-laws Laws'3.the-copy Laws'3.the-plain)
           pub tile : Kinds.Den {n = 5} κs (Array.pArr (Array.eInt Syntax.w8) (Array.eInt-laws Syntax.w8) 36)
           pub image : Kinds.Den {n = 5} κs (MutSlice.pMutS n16 2 tt)
           pub lines : Kinds.Den {n = 5} κs (MutSlice.pMutS n16 3 tt)
@@ -3445,12 +3450,13 @@ module _ (claims· : Claims) where
         module _ {M : Type 1} (𝓤 : URA.URA M) (H : Wp.Heap 𝓤) (A : Atoms.Atoms 𝓤) (W : Kit.Given 𝓤 H A) (𝓣 : Wp.Tables 𝓤 H) (known0 : Plain.Known 𝓤 H A W 𝓣 0 ps·0 r·0 (claims· .0) (claims· .1)
             "read_block::form_of") (known1 : Plain.Known 𝓤 H A W 𝓣 1 ps·1 r·1 (claims· .2) (claims· .3) "stream::block_bytes") (known2 : Plain.Known 𝓤 H A W 𝓣 1 ps·2 r·2 (claims· .4) (claims· .5)
             "stream::base_row") (known3 : Plain.Known 𝓤 H A W 𝓣 0 ps·3 r·3 (claims· .6) (claims· .7) "image_map::xtrans_places") (known4 : Plain.Known 𝓤 H A W 𝓣 0 ps·4 r·4 (claims· .8) (claims· .9)
-            "saved_state::blocks::part_wanted") (known5 : Plain.Known 𝓤 H A W 𝓣 0 ps·5 r·5 (claims· .10) (claims· .11) "saved_state::blocks::lines_wanted") (known6 : Plain.Known 𝓤 H A W 𝓣 1 ps·6 r·6 (claims· .12)
-            (claims· .13) "colour_lines::clear") (known7 : Plain.Known 𝓤 H A W 𝓣 1 ps·7 r·7 (claims· .14) (claims· .15) "cameras::taking::base_of") (known8 : Plain.Known 𝓤 H A W 𝓣 2 ps·8 r·8 (claims· .16) (claims· .17)
-            "saved_state::blocks::load_records") (known9 : Plain.Known 𝓤 H A W 𝓣 0 ps·9 r·9 (claims· .18) (claims· .19) "image_map::width") (known10 : Plain.Known 𝓤 H A W 𝓣 2 ps·10 r·10 (claims· .20) (claims· .21)
-            "saved_state::load::load_lines") (known11 : Plain.Known 𝓤 H A W 𝓣 0 ps·11 r·11 (claims· .22) (claims· .23) "saved_state::blocks::place_at") (known12 : Plain.Known 𝓤 H A W 𝓣 0 ps·12 r·12 (claims· .24)
-            (claims· .25) "cameras::no_entries") (known13 : Plain.Known 𝓤 H A W 𝓣 6 ps·13 r·13 (claims· .26) (claims· .27) "read_block::reading::read_lines") (known14 : Plain.Known 𝓤 H A W 𝓣 1 ps·14 r·14
-            (claims· .28) (claims· .29) "read_block::records::clear_records") (known15 : Plain.Known 𝓤 H A W 𝓣 0 ps·15 r·15 (claims· .30) (claims· .31) "saved_state::blocks::resume_answer") where
+            "saved_state::blocks::part_wanted") (known5 : Plain.Known 𝓤 H A W 𝓣 0 ps·5 r·5 (claims· .10) (claims· .11) "saved_state::blocks::lines_wanted") (known6 : Plain.Known 𝓤 H A W 𝓣 1 ps·6 r·6
+            (claims· .12) (claims· .13) "colour_lines::clear") (known7 : Plain.Known 𝓤 H A W 𝓣 1 ps·7 r·7 (claims· .14) (claims· .15) "cameras::taking::base_of") (known8 : Plain.Known 𝓤 H A W 𝓣 2 ps·8 r·8
+            (claims· .16) (claims· .17) "saved_state::blocks::load_records") (known9 : Plain.Known 𝓤 H A W 𝓣 0 ps·9 r·9 (claims· .18) (claims· .19) "image_map::width") (known10 : Plain.Known 𝓤 H A W 𝓣 2
+            ps·10 r·10 (claims· .20) (claims· .21) "saved_state::load::load_lines") (known11 : Plain.Known 𝓤 H A W 𝓣 0 ps·11 r·11 (claims· .22) (claims· .23) "saved_state::blocks::place_at") (known12 :
+            Plain.Known 𝓤 H A W 𝓣 0 ps·12 r·12 (claims· .24) (claims· .25) "cameras::no_entries") (known13 : Plain.Known 𝓤 H A W 𝓣 6 ps·13 r·13 (claims· .26) (claims· .27)
+            "read_block::reading::read_lines") (known14 : Plain.Known 𝓤 H A W 𝓣 1 ps·14 r·14 (claims· .28) (claims· .29) "read_block::records::clear_records") (known15 : Plain.Known 𝓤 H A W 𝓣 0 ps·15 r·15
+            (claims· .30) (claims· .31) "saved_state::blocks::resume_answer") where
           pub spec : Statement.Triple 𝓤 (Wp.WpFn 𝓤 H (𝓣 .C) (𝓣 .Λ) (Function.fnOf 5 ps r xs m hs body)) (Function.plainOf 𝓤 H A 5 ps r Pre· Post·)
           spec = Plain.t-fn-plain 𝓤 H A W 𝓣 5 ps r xs m hs body (λ κs qs bs. Φ) (λ κs qs bs bd. typed κs qs 𝓤 H A W 𝓣
               (known0, known1, known2, known3, known4, known5, known6, known7, known8, known9, known10, known11, known12, known13, known14, known15) bs bd) Pre· Post· asked

@@ -8,14 +8,14 @@ use Rattle.read_block.proofs.Element
 use Prim.Native.Nat
 use Rattle.admission.proofs.Beginning
 use Rattle.admission.proofs.Beginning.Laws
-use Rattle.read_block.proofs.Counted
-use Rattle.read_block.proofs.Counted.Laws as Laws'
-use Rattle.stream.proofs.header.FujiHeader
-use Rattle.stream.proofs.header.FujiHeader.Laws as Laws''
-use Rattle.stream.proofs.header.Refusal
-use Rattle.stream.proofs.header.Refusal.Laws as Laws'3
 use Rattle.image_region.proofs.Rect
-use Rattle.image_region.proofs.Rect.Laws as Laws'4
+use Rattle.image_region.proofs.Rect.Laws as Laws'
+use Rattle.read_block.proofs.Counted
+use Rattle.read_block.proofs.Counted.Laws as Laws''
+use Rattle.stream.proofs.header.FujiHeader
+use Rattle.stream.proofs.header.FujiHeader.Laws as Laws'3
+use Rattle.stream.proofs.header.Refusal
+use Rattle.stream.proofs.header.Refusal.Laws as Laws'4
 use borrow.Author.Called
 use borrow.Enum.Known
 use borrow.Enum.Match
@@ -80,12 +80,12 @@ abbrev pub y0 : Syntax.Ty
 y0 = Syntax.tyArray u8 36
 
 abbrev pub y1 : Syntax.Ty
-y1 = Syntax.tyEnum (104 ∷ 101 ∷ 97 ∷ 100 ∷ 101 ∷ 114 ∷ 58 ∷ 58 ∷ 82 ∷ 101 ∷ 102 ∷ 117 ∷ 115 ∷ 97 ∷ 108 ∷ []) (Syntax.ttcons Syntax.tnil (Syntax.ttcons Syntax.tnil (Syntax.ttcons Syntax.tnil
-    (Syntax.ttcons (Syntax.tcons u64 Syntax.tnil) (Syntax.ttcons Syntax.tnil (Syntax.ttcons Syntax.tnil (Syntax.ttcons Syntax.tnil (Syntax.ttcons Syntax.tnil (Syntax.ttcons Syntax.tnil (Syntax.ttcons
-    Syntax.tnil (Syntax.ttcons (Syntax.tcons u64 Syntax.tnil) (Syntax.ttcons (Syntax.tcons u64 Syntax.tnil) (Syntax.ttcons Syntax.tnil (Syntax.ttcons (Syntax.tcons u64 (Syntax.tcons u64 Syntax.tnil))
-    (Syntax.ttcons (Syntax.tcons u64 Syntax.tnil) (Syntax.ttcons Syntax.tnil (Syntax.ttcons Syntax.tnil (Syntax.ttcons (Syntax.tcons u64 Syntax.tnil) (Syntax.ttcons (Syntax.tcons u64 Syntax.tnil)
-    (Syntax.ttcons (Syntax.tcons u64 Syntax.tnil) (Syntax.ttcons Syntax.tnil (Syntax.ttcons Syntax.tnil (Syntax.ttcons (Syntax.tcons u64 (Syntax.tcons u64 Syntax.tnil)) (Syntax.ttcons Syntax.tnil
-    Syntax.ttnil))))))))))))))))))))))))
+y1 = Syntax.tyEnum (115 ∷ 116 ∷ 114 ∷ 101 ∷ 97 ∷ 109 ∷ 58 ∷ 58 ∷ 104 ∷ 101 ∷ 97 ∷ 100 ∷ 101 ∷ 114 ∷ 58 ∷ 58 ∷ 82 ∷ 101 ∷ 102 ∷ 117 ∷ 115 ∷ 97 ∷ 108 ∷ []) (Syntax.ttcons Syntax.tnil (Syntax.ttcons
+    Syntax.tnil (Syntax.ttcons Syntax.tnil (Syntax.ttcons (Syntax.tcons u64 Syntax.tnil) (Syntax.ttcons Syntax.tnil (Syntax.ttcons Syntax.tnil (Syntax.ttcons Syntax.tnil (Syntax.ttcons Syntax.tnil
+    (Syntax.ttcons Syntax.tnil (Syntax.ttcons Syntax.tnil (Syntax.ttcons (Syntax.tcons u64 Syntax.tnil) (Syntax.ttcons (Syntax.tcons u64 Syntax.tnil) (Syntax.ttcons Syntax.tnil (Syntax.ttcons
+    (Syntax.tcons u64 (Syntax.tcons u64 Syntax.tnil)) (Syntax.ttcons (Syntax.tcons u64 Syntax.tnil) (Syntax.ttcons Syntax.tnil (Syntax.ttcons Syntax.tnil (Syntax.ttcons (Syntax.tcons u64 Syntax.tnil)
+    (Syntax.ttcons (Syntax.tcons u64 Syntax.tnil) (Syntax.ttcons (Syntax.tcons u64 Syntax.tnil) (Syntax.ttcons Syntax.tnil (Syntax.ttcons Syntax.tnil (Syntax.ttcons (Syntax.tcons u64 (Syntax.tcons u64
+    Syntax.tnil)) (Syntax.ttcons Syntax.tnil (Syntax.ttcons Syntax.tnil (Syntax.ttcons (Syntax.tcons u64 Syntax.tnil) Syntax.ttnil))))))))))))))))))))))))))
 
 abbrev pub y2 : Syntax.Ty
 y2 = Syntax.tyRef (Syntax.named 0) Syntax.imm u8
@@ -109,21 +109,23 @@ abbrev pub y8 : Syntax.Ty
 y8 = Syntax.tyRef Syntax.erased Syntax.mut u16
 
 abbrev pub y9 : Syntax.Ty
-y9 = Syntax.tyStruct (104 ∷ 101 ∷ 97 ∷ 100 ∷ 101 ∷ 114 ∷ 58 ∷ 58 ∷ 70 ∷ 117 ∷ 106 ∷ 105 ∷ 72 ∷ 101 ∷ 97 ∷ 100 ∷ 101 ∷ 114 ∷ []) (Syntax.tcons Syntax.tyBool (Syntax.tcons Syntax.tyBool (Syntax.tcons
-    u32 (Syntax.tcons u32 (Syntax.tcons u32 (Syntax.tcons u32 (Syntax.tcons u32 (Syntax.tcons u32 (Syntax.tcons u32 Syntax.tnil)))))))))
+y9 = Syntax.tyStruct (105 ∷ 109 ∷ 97 ∷ 103 ∷ 101 ∷ 95 ∷ 114 ∷ 101 ∷ 103 ∷ 105 ∷ 111 ∷ 110 ∷ 58 ∷ 58 ∷ 82 ∷ 101 ∷ 99 ∷ 116 ∷ []) (Syntax.tcons u64 (Syntax.tcons u64 (Syntax.tcons u64 (Syntax.tcons u64
+    Syntax.tnil))))
 
 abbrev pub y10 : Syntax.Ty
-y10 = Syntax.tyStruct (114 ∷ 101 ∷ 103 ∷ 105 ∷ 111 ∷ 110 ∷ 58 ∷ 58 ∷ 82 ∷ 101 ∷ 99 ∷ 116 ∷ []) (Syntax.tcons u64 (Syntax.tcons u64 (Syntax.tcons u64 (Syntax.tcons u64 Syntax.tnil))))
+y10 = Syntax.tyStruct (108 ∷ 105 ∷ 110 ∷ 101 ∷ 95 ∷ 116 ∷ 111 ∷ 116 ∷ 97 ∷ 108 ∷ 115 ∷ 58 ∷ 58 ∷ 84 ∷ 111 ∷ 116 ∷ 97 ∷ 108 ∷ 115 ∷ []) (Syntax.tcons u64 (Syntax.tcons u64 Syntax.tnil))
 
 abbrev pub y11 : Syntax.Ty
-y11 = Syntax.tyStruct (116 ∷ 111 ∷ 116 ∷ 97 ∷ 108 ∷ 115 ∷ 58 ∷ 58 ∷ 84 ∷ 111 ∷ 116 ∷ 97 ∷ 108 ∷ 115 ∷ []) (Syntax.tcons u64 (Syntax.tcons u64 Syntax.tnil))
+y11 = Syntax.tyStruct (115 ∷ 116 ∷ 114 ∷ 101 ∷ 97 ∷ 109 ∷ 58 ∷ 58 ∷ 104 ∷ 101 ∷ 97 ∷ 100 ∷ 101 ∷ 114 ∷ 58 ∷ 58 ∷ 70 ∷ 117 ∷ 106 ∷ 105 ∷ 72 ∷ 101 ∷ 97 ∷ 100 ∷ 101 ∷ 114 ∷ []) (Syntax.tcons
+    Syntax.tyBool (Syntax.tcons Syntax.tyBool (Syntax.tcons u32 (Syntax.tcons u32 (Syntax.tcons u32 (Syntax.tcons u32 (Syntax.tcons u32 (Syntax.tcons u32 (Syntax.tcons u32 Syntax.tnil)))))))))
 
 abbrev pub y12 : Syntax.Ty
-y12 = Syntax.tyEnum (98 ∷ 101 ∷ 103 ∷ 105 ∷ 110 ∷ 58 ∷ 58 ∷ 66 ∷ 101 ∷ 103 ∷ 105 ∷ 110 ∷ 110 ∷ 105 ∷ 110 ∷ 103 ∷ []) (Syntax.ttcons (Syntax.tcons y1 Syntax.tnil) (Syntax.ttcons Syntax.tnil
-    (Syntax.ttcons (Syntax.tcons y9 Syntax.tnil) Syntax.ttnil)))
+y12 = Syntax.tyEnum (114 ∷ 101 ∷ 97 ∷ 100 ∷ 95 ∷ 98 ∷ 108 ∷ 111 ∷ 99 ∷ 107 ∷ 58 ∷ 58 ∷ 68 ∷ 101 ∷ 99 ∷ 111 ∷ 100 ∷ 101 ∷ 100 ∷ []) (Syntax.ttcons Syntax.tnil (Syntax.ttcons (Syntax.tcons y1
+    Syntax.tnil) Syntax.ttnil))
 
 abbrev pub y13 : Syntax.Ty
-y13 = Syntax.tyEnum (98 ∷ 108 ∷ 111 ∷ 99 ∷ 107 ∷ 58 ∷ 58 ∷ 68 ∷ 101 ∷ 99 ∷ 111 ∷ 100 ∷ 101 ∷ 100 ∷ []) (Syntax.ttcons Syntax.tnil (Syntax.ttcons (Syntax.tcons y1 Syntax.tnil) Syntax.ttnil))
+y13 = Syntax.tyEnum (97 ∷ 100 ∷ 109 ∷ 105 ∷ 115 ∷ 115 ∷ 105 ∷ 111 ∷ 110 ∷ 58 ∷ 58 ∷ 66 ∷ 101 ∷ 103 ∷ 105 ∷ 110 ∷ 110 ∷ 105 ∷ 110 ∷ 103 ∷ []) (Syntax.ttcons (Syntax.tcons y1 Syntax.tnil) (Syntax.ttcons
+    Syntax.tnil (Syntax.ttcons (Syntax.tcons y11 Syntax.tnil) Syntax.ttnil)))
 
 abbrev pub y14 : Syntax.Ty
 y14 = Syntax.tyStruct (38 ∷ 91 ∷ 93 ∷ []) (Syntax.tcons y7 (Syntax.tcons u64 Syntax.tnil))
@@ -132,39 +134,39 @@ abbrev pub y15 : Syntax.Ty
 y15 = Syntax.tyStruct (38 ∷ 91 ∷ 93 ∷ []) (Syntax.tcons y8 (Syntax.tcons u64 Syntax.tnil))
 
 abbrev pub y16 : Syntax.Ty
-y16 = Syntax.tyStruct (98 ∷ 108 ∷ 111 ∷ 99 ∷ 107 ∷ 58 ∷ 58 ∷ 67 ∷ 111 ∷ 117 ∷ 110 ∷ 116 ∷ 101 ∷ 100 ∷ []) (Syntax.tcons y13 (Syntax.tcons y11 Syntax.tnil))
+y16 = Syntax.tyStruct (114 ∷ 101 ∷ 97 ∷ 100 ∷ 95 ∷ 98 ∷ 108 ∷ 111 ∷ 99 ∷ 107 ∷ 58 ∷ 58 ∷ 67 ∷ 111 ∷ 117 ∷ 110 ∷ 116 ∷ 101 ∷ 100 ∷ []) (Syntax.tcons y12 (Syntax.tcons y10 Syntax.tnil))
 
 abbrev pub ps : List.List (Kinds.PK 5)
-ps = (ShrSlice.pShrS n8 0 tt) ∷ (Num.pNum Syntax.w64) ∷ (ShrSlice.pShrS n8 1 tt) ∷ (Values.struct Rect.the-type Laws'4.the-laws Laws'4.the-copy Laws'4.the-plain) ∷ (Array.pArr (Array.eInt Syntax.w8)
+ps = (ShrSlice.pShrS n8 0 tt) ∷ (Num.pNum Syntax.w64) ∷ (ShrSlice.pShrS n8 1 tt) ∷ (Values.struct Rect.the-type Laws'.the-laws Laws'.the-copy Laws'.the-plain) ∷ (Array.pArr (Array.eInt Syntax.w8)
     (Array.eInt-laws Syntax.w8) 36) ∷ (MutSlice.pMutS n16 2 tt) ∷ (MutSlice.pMutS n16 3 tt) ∷ (MutSlice.pMutS (Element.type) 4 tt) ∷ []
 
 abbrev pub r : Kinds.RK 5
-r = Values.struct-result Counted.the-type Laws'.the-laws Laws'.the-copy Laws'.the-plain
+r = Values.struct-result Counted.the-type Laws''.the-laws Laws''.the-copy Laws''.the-plain
 
 abbrev pub xs : List.List Syntax.Ty
-xs = y12 ∷ y1 ∷ y9 ∷ u64 ∷ u64 ∷ u64 ∷ u64 ∷ y16 ∷ y8 ∷ y15 ∷ Syntax.tyPtr ∷ u64 ∷ y8 ∷ y15 ∷ Syntax.tyPtr ∷ u64 ∷ y7 ∷ y14 ∷ []
+xs = y13 ∷ y1 ∷ y11 ∷ u64 ∷ u64 ∷ u64 ∷ u64 ∷ y16 ∷ y8 ∷ y15 ∷ Syntax.tyPtr ∷ u64 ∷ y8 ∷ y15 ∷ Syntax.tyPtr ∷ u64 ∷ y7 ∷ y14 ∷ []
 
 abbrev pub m : Nat.ℕ
 m = 3
 
 abbrev pub ps·0 : List.List (Kinds.PK 1)
-ps·0 = (ShrSlice.pShrS n8 0 tt) ∷ (Num.pNum Syntax.w64) ∷ (Values.struct Rect.the-type Laws'4.the-laws Laws'4.the-copy Laws'4.the-plain) ∷ (Num.pNum Syntax.w64) ∷ (Num.pNum Syntax.w64) ∷ (Num.pNum
+ps·0 = (ShrSlice.pShrS n8 0 tt) ∷ (Num.pNum Syntax.w64) ∷ (Values.struct Rect.the-type Laws'.the-laws Laws'.the-copy Laws'.the-plain) ∷ (Num.pNum Syntax.w64) ∷ (Num.pNum Syntax.w64) ∷ (Num.pNum
     Syntax.w64) ∷ []
 
 abbrev pub r·0 : Kinds.RK 1
 r·0 = Values.enum-result Beginning.the-type Laws.the-laws Laws.the-copy Laws.the-plain tt
 
 abbrev pub ps·1 : List.List (Kinds.PK 0)
-ps·1 = (Values.enum Refusal.the-type Laws'3.the-laws Laws'3.the-copy Laws'3.the-plain tt) ∷ []
+ps·1 = (Values.enum Refusal.the-type Laws'4.the-laws Laws'4.the-copy Laws'4.the-plain tt) ∷ []
 
 abbrev pub r·1 : Kinds.RK 0
-r·1 = Values.struct-result Counted.the-type Laws'.the-laws Laws'.the-copy Laws'.the-plain
+r·1 = Values.struct-result Counted.the-type Laws''.the-laws Laws''.the-copy Laws''.the-plain
 
 abbrev pub ps·2 : List.List (Kinds.PK 0)
 ps·2 = []
 
 abbrev pub r·2 : Kinds.RK 0
-r·2 = Values.struct-result Counted.the-type Laws'.the-laws Laws'.the-copy Laws'.the-plain
+r·2 = Values.struct-result Counted.the-type Laws''.the-laws Laws''.the-copy Laws''.the-plain
 
 abbrev pub ps·3 : List.List (Kinds.PK 0)
 ps·3 = Bool.pBool ∷ []
@@ -173,12 +175,12 @@ abbrev pub r·3 : Kinds.RK 0
 r·3 = Num.rNum Syntax.w64
 
 abbrev pub ps·4 : List.List (Kinds.PK 5)
-ps·4 = (ShrSlice.pShrS n8 0 tt) ∷ (Values.struct FujiHeader.the-type Laws''.the-laws Laws''.the-copy Laws''.the-plain) ∷ (Num.pNum Syntax.w64) ∷ (ShrSlice.pShrS n8 1 tt) ∷ (Values.struct Rect.the-type
-    Laws'4.the-laws Laws'4.the-copy Laws'4.the-plain) ∷ (Array.pArr (Array.eInt Syntax.w8) (Array.eInt-laws Syntax.w8) 36) ∷ (MutSlice.pMutS n16 2 tt) ∷ (MutSlice.pMutS n16 3 tt) ∷ (MutSlice.pMutS
+ps·4 = (ShrSlice.pShrS n8 0 tt) ∷ (Values.struct FujiHeader.the-type Laws'3.the-laws Laws'3.the-copy Laws'3.the-plain) ∷ (Num.pNum Syntax.w64) ∷ (ShrSlice.pShrS n8 1 tt) ∷ (Values.struct Rect.the-type
+    Laws'.the-laws Laws'.the-copy Laws'.the-plain) ∷ (Array.pArr (Array.eInt Syntax.w8) (Array.eInt-laws Syntax.w8) 36) ∷ (MutSlice.pMutS n16 2 tt) ∷ (MutSlice.pMutS n16 3 tt) ∷ (MutSlice.pMutS
     (Element.type) 4 tt) ∷ []
 
 abbrev pub r·4 : Kinds.RK 5
-r·4 = Values.struct-result Counted.the-type Laws'.the-laws Laws'.the-copy Laws'.the-plain
+r·4 = Values.struct-result Counted.the-type Laws''.the-laws Laws''.the-copy Laws''.the-plain
 
 abbrev pub hs : List.List Syntax.Home
 hs = Syntax.valueLocal ∷ Syntax.valueLocal ∷ Syntax.valueLocal ∷ Syntax.valueLocal ∷ Syntax.valueLocal ∷ Syntax.valueLocal ∷ Syntax.valueLocal ∷ Syntax.valueLocal ∷ Syntax.valueLocal ∷
@@ -310,10 +312,10 @@ abbrev pub v7 : Row.Row
 v7 = Rows'.any-gone Syntax.tyPtr
 
 abbrev pub v8 : Row.Row
-v8 = Rows'.any-gone y12
+v8 = Rows'.any-gone y13
 
 abbrev pub v9 : Row.Row
-v9 = Rows'.any-gone y9
+v9 = Rows'.any-gone y11
 
 abbrev pub v10 : Row.Row
 v10 = Mut.mslice n16 y4 2
@@ -328,7 +330,7 @@ abbrev pub v13 : Row.Row
 v13 = Rows.arrF n8 36 0
 
 abbrev pub v14 : Row.Row
-v14 = Rows'.any-gone y10
+v14 = Rows'.any-gone y9
 
 abbrev pub v15 : Row.Row
 v15 = Rows'.whole (Declared'.row Rect.the-type)
@@ -705,7 +707,7 @@ module _ (claims· : Claims) where
   a0 = (record { pos = 1; ty = y2; ref = λ x. x }, (Num.vAt 2 λ x. x, (record { pos = 4; st = []; d = 0; at = λ x. x }, (Num.vAt 13 λ x. x, (Num.vAt 14 λ x. x, (Num.vAt 15 λ x. x, tt))))))
 
   abbrev s7 : Typed.Both T8 T9
-  s7 = Call.callB ps·0 r·0 (claims· .0) (claims· .1) T8 a0 9 (0 ∷ []) y12
+  s7 = Call.callB ps·0 r·0 (claims· .0) (claims· .1) T8 a0 9 (0 ∷ []) y13
 
   abbrev s8 : Typed.Mo T9 → Typed.Mo T11
   s8 = Scalar.n-room T9 13 u64
@@ -723,7 +725,7 @@ module _ (claims· : Claims) where
   s12 = Known.k-known-told Beginning.enum Laws.the-laws 0 T14 9 λ x. x
 
   abbrev s13 : Typed.Mo T14 → Typed.Mo T16
-  s13 = Scalar.n-room T14 4 y10
+  s13 = Scalar.n-room T14 4 y9
 
   abbrev s14 : Typed.Mo T16 → Typed.Mo T17
   s14 = Scalar.n-room T16 5 y0
@@ -732,7 +734,7 @@ module _ (claims· : Claims) where
   s15 = Make.n-make (Declared.row Refusal.the-type) T17 10 λ m. m .1 .1 .1 .1 .1 .1 .1 .1 .1 .0 .0
 
   abbrev s16 : Typed.Mo T18 → Typed.Mo T19
-  s16 = Scalar.n-room T18 9 y12
+  s16 = Scalar.n-room T18 9 y13
 
   abbrev s17 : Typed.Both T19 T20
   s17 = Call.callB ps·1 r·1 (claims· .2) (claims· .3) T19 (record { pos = 10; st = []; d = 0; at = λ x. x }, tt) 16 [] y16
@@ -744,13 +746,13 @@ module _ (claims· : Claims) where
   s19 = Known.k-enum-told Beginning.enum 1 T13 9 λ x. x
 
   abbrev s20 : Typed.Mo T13 → Typed.Mo T23
-  s20 = Scalar.n-room T13 4 y10
+  s20 = Scalar.n-room T13 4 y9
 
   abbrev s21 : Typed.Mo T23 → Typed.Mo T24
   s21 = Scalar.n-room T23 5 y0
 
   abbrev s22 : Typed.Mo T24 → Typed.Mo T25
-  s22 = Scalar.n-room T24 9 y12
+  s22 = Scalar.n-room T24 9 y13
 
   abbrev s23 : Typed.Both T25 T10
   s23 = Call.callB ps·2 r·2 (claims· .4) (claims· .5) T25 tt 16 [] y16
@@ -765,7 +767,7 @@ module _ (claims· : Claims) where
   s26 = Make.n-make (Declared'.row FujiHeader.the-type) T27 11 λ m. m .1 .1 .1 .1 .1 .1 .1 .1 .1 .0 .0
 
   abbrev s27 : Typed.Mo T29 → Typed.Mo T30
-  s27 = Scalar.n-room T29 9 y12
+  s27 = Scalar.n-room T29 9 y13
 
   abbrev s28 : Typed.Both T30 T31
   s28 = Call.callB ps·3 r·3 (claims· .6) (claims· .7) T30 (Bool.bFld 11 ((Syntax.field 1) ∷ []) 1 λ x. FujiHeader.struct .as-values x .1 .0, tt) 12 [] u64
@@ -837,13 +839,13 @@ module _ (claims· : Claims) where
   s46 = Call.callB ps·4 r·4 (claims· .8) (claims· .9) T48 a1 16 (0 ∷ 1 ∷ 5 ∷ 6 ∷ 7 ∷ []) y16
 
   abbrev s47 : Typed.Mo T49 → Typed.Mo T50
-  s47 = Scalar.n-room T49 4 y10
+  s47 = Scalar.n-room T49 4 y9
 
   abbrev s48 : Typed.Mo T50 → Typed.Mo T51
   s48 = Scalar.n-room T50 5 y0
 
   abbrev s49 : Typed.Mo T51 → Typed.Mo T52
-  s49 = Scalar.n-room T51 11 y9
+  s49 = Scalar.n-room T51 11 y11
 
   abbrev s50 : Typed.Mo T52 → Typed.Mo T53
   s50 = Scalar.n-room T52 12 u64
@@ -876,9 +878,9 @@ module _ (claims· : Claims) where
     module _ (M : Type 1) where
       abbrev pub Closed : Type 2
       Closed = (𝓤 : URA.URA M) (H : Wp.Heap 𝓤) (A : Atoms.Atoms 𝓤) (W : Kit.Given 𝓤 H A) (𝓣 : Wp.Tables 𝓤 H) (known0 : Plain.Known 𝓤 H A W 𝓣 1 ps·0 r·0 (claims· .0) (claims· .1)
-          "admission::resuming::resume_begins") (known1 : Plain.Known 𝓤 H A W 𝓣 0 ps·1 r·1 (claims· .2) (claims· .3) "read_block::tight::refused") (known2 : Plain.Known 𝓤 H A W 𝓣 0 ps·2 r·2 (claims· .4) (claims·
-          .5) "saved_state::blocks::nothing_counted") (known3 : Plain.Known 𝓤 H A W 𝓣 0 ps·3 r·3 (claims· .6) (claims· .7) "admission::samples_needed") (known4 : Plain.Known 𝓤 H A W 𝓣 5 ps·4 r·4 (claims· .8)
-          (claims· .9) "saved_state::blocks::resume_in") → Statement.Triple 𝓤 (Wp.WpFn 𝓤 H (𝓣 .C) (𝓣 .Λ) (Function.fnOf 5 ps r xs m hs body)) (Function.plainOf 𝓤 H A 5 ps r Pre· Post·)
+          "admission::resuming::resume_begins") (known1 : Plain.Known 𝓤 H A W 𝓣 0 ps·1 r·1 (claims· .2) (claims· .3) "read_block::tight::refused") (known2 : Plain.Known 𝓤 H A W 𝓣 0 ps·2 r·2 (claims· .4)
+          (claims· .5) "saved_state::blocks::nothing_counted") (known3 : Plain.Known 𝓤 H A W 𝓣 0 ps·3 r·3 (claims· .6) (claims· .7) "admission::samples_needed") (known4 : Plain.Known 𝓤 H A W 𝓣 5 ps·4 r·4
+          (claims· .8) (claims· .9) "saved_state::blocks::resume_in") → Statement.Triple 𝓤 (Wp.WpFn 𝓤 H (𝓣 .C) (𝓣 .Λ) (Function.fnOf 5 ps r xs m hs body)) (Function.plainOf 𝓤 H A 5 ps r Pre· Post·)
 
     module _ where
       abbrev at0 : Typed.TF T19 O1
@@ -1034,9 +1036,9 @@ module _ (claims· : Claims) where
 
       module _ {M : Type 1} (𝓤 : URA.URA M) (H : Wp.Heap 𝓤) (A : Atoms.Atoms 𝓤) (W : Kit.Given 𝓤 H A) (𝓣 : Wp.Tables 𝓤 H) where
         abbrev Knowns : Type 1
-        Knowns = Plain.Known 𝓤 H A W 𝓣 1 ps·0 r·0 (claims· .0) (claims· .1) "admission::resuming::resume_begins" × Plain.Known 𝓤 H A W 𝓣 0 ps·1 r·1 (claims· .2) (claims· .3) "read_block::tight::refused" ×
-            Plain.Known 𝓤 H A W 𝓣 0 ps·2 r·2 (claims· .4) (claims· .5) "saved_state::blocks::nothing_counted" × Plain.Known 𝓤 H A W 𝓣 0 ps·3 r·3 (claims· .6) (claims· .7) "admission::samples_needed" × Plain.Known 𝓤
-            H A W 𝓣 5 ps·4 r·4 (claims· .8) (claims· .9) "saved_state::blocks::resume_in"
+        Knowns = Plain.Known 𝓤 H A W 𝓣 1 ps·0 r·0 (claims· .0) (claims· .1) "admission::resuming::resume_begins" × Plain.Known 𝓤 H A W 𝓣 0 ps·1 r·1 (claims· .2) (claims· .3)
+            "read_block::tight::refused" × Plain.Known 𝓤 H A W 𝓣 0 ps·2 r·2 (claims· .4) (claims· .5) "saved_state::blocks::nothing_counted" × Plain.Known 𝓤 H A W 𝓣 0 ps·3 r·3 (claims· .6) (claims· .7)
+            "admission::samples_needed" × Plain.Known 𝓤 H A W 𝓣 5 ps·4 r·4 (claims· .8) (claims· .9) "saved_state::blocks::resume_in"
 
       module _ (κs : Lifetimes.Lfts 5) (qs : Lifetimes.Shares 5) where
         abbrev k0 : Row.Life
@@ -1213,19 +1215,19 @@ module _ (claims· : Claims) where
           d0 = Typed.s-typed 𝓤 H A W 𝓣 E (on T19 l5) b5 Δ1 (λ Ψ. Typed.both s17 (Typed.pass T20 T10 s18 Ψ)) tt (Typed.g-post 𝓤 H A W 𝓣 E (on T19 l5) (on T20 l5) (on T10 l5) b5 (Typed.both s17)
               (Typed.pass T20 T10 s18) (Plain.t-call-plain 𝓤 H A W 𝓣 0 ps·1 r·1 (claims· .2) (claims· .3) "read_block::tight::refused" (known .1) E (λ pos β. β) (on T19 l5)
               (record { pos = 10; st = []; d = 0; at = λ x. x }, tt) 16 [] (Call.sub-id 𝓤 H A W ((on T19 l5) .slots))
-              ((Values.enum-copied 𝓤 H A W Refusal.the-type Laws'3.the-laws Laws'3.the-copy, Path'.refl), tt) (Reads'.room-gone 𝓤 H A y16) tt Path'.refl) (Scalar.g-room 𝓤 H A W E (on T20 l5) 10 y1
+              ((Values.enum-copied 𝓤 H A W Refusal.the-type Laws'4.the-laws Laws'4.the-copy, Path'.refl), tt) (Reads'.room-gone 𝓤 H A y16) tt Path'.refl) (Scalar.g-room 𝓤 H A W E (on T20 l5) 10 y1
               (Local.room-whole 𝓤 H A W (Declared.row Refusal.the-type) y1 Path'.refl)))
 
           d1 : Typed.Typed 𝓤 H A 𝓣 E (on T18 l5) b5 Δ1 at1
-          d1 = Typed.g-pre 𝓤 H A W 𝓣 E (on T18 l5) (on T19 l5) b5 Δ1 (Typed.pass T18 T19 s16) at0 (Scalar.g-room 𝓤 H A W E (on T18 l5) 9 y12 (Local.room-whole 𝓤 H A W (Known.Known Beginning.enum 0)
-              y12 Path'.refl)) d0
+          d1 = Typed.g-pre 𝓤 H A W 𝓣 E (on T18 l5) (on T19 l5) b5 Δ1 (Typed.pass T18 T19 s16) at0 (Scalar.g-room 𝓤 H A W E (on T18 l5) 9 y13 (Local.room-whole 𝓤 H A W (Known.Known Beginning.enum 0)
+              y13 Path'.refl)) d0
 
           d2 : Typed.Typed 𝓤 H A 𝓣 E (on T17 l5) b6 Δ1 at2
           d2 = Typed.s-seq 𝓤 H A W 𝓣 E (on T17 l5) (on T18 l5) b4 b5 Δ1 (Typed.pass T17 T18 s15) at1 (CopyOut.t-copy-told 𝓤 H A W E 𝓣 (Declared.row Refusal.the-type) Path'.refl (Laws'5.val
-              Refusal.the-type Laws'3.the-laws) (Laws'5.lawful Refusal.the-type Laws'3.the-laws 𝓤 H A W tt) (Laws'5.makes Refusal.the-type Laws'3.the-plain 𝓤 H A) (on T17 l5) 10 (Scalar.oFld 9
-              ((Syntax.variant 0) ∷ (Syntax.field 1) ∷ []) y1 8 λ v. Laws'5.val Refusal.the-type Laws'3.the-laws (v .0)) (λ m. m .1 .1 .1 .1 .1 .1 .1 .1 .1 .0 .0) (λ m. Laws'5.Fields (Declared.variants
+              Refusal.the-type Laws'4.the-laws) (Laws'5.lawful Refusal.the-type Laws'4.the-laws 𝓤 H A W tt) (Laws'5.makes Refusal.the-type Laws'4.the-plain 𝓤 H A) (on T17 l5) 10 (Scalar.oFld 9
+              ((Syntax.variant 0) ∷ (Syntax.field 1) ∷ []) y1 8 λ v. Laws'5.val Refusal.the-type Laws'4.the-laws (v .0)) (λ m. m .1 .1 .1 .1 .1 .1 .1 .1 .1 .0 .0) (λ m. Laws'5.Fields (Declared.variants
               Beginning.the-type) (Laws'5.spellss (Beginning.enum .parts) Laws.the-laws) (Beginning.the-type .to (Known.at Beginning.enum 0 (m .1 .1 .1 .1 .1 .1 .1 .1 .1 .0)))) (Reads'.room-gone 𝓤 H A y1) (
-                Match.reads-payload 𝓤 H A W Beginning.enum Laws.the-laws 0 Path'.refl Path'.refl (λ v. Val.vcons (Laws'5.val Refusal.the-type Laws'3.the-laws (v .0)) Val.vnil) (λ v. Path'.refl) 0 y1 8
+                Match.reads-payload 𝓤 H A W Beginning.enum Laws.the-laws 0 Path'.refl Path'.refl (λ v. Val.vcons (Laws'5.val Refusal.the-type Laws'4.the-laws (v .0)) Val.vnil) (λ v. Path'.refl) 0 y1 8
                     Path'.refl,
                 Path'.refl,
               ) Path'.refl (λ ρ m. Make.tells-row 𝓤 H A W E ρ (Row.out 10 ((on T17 l5) .locals)) m 9 (Laws'5.Fields (Declared.variants Beginning.the-type) (Laws'5.spellss
@@ -1236,7 +1238,7 @@ module _ (claims· : Claims) where
           d3 = Typed.g-pre 𝓤 H A W 𝓣 E (on T16 l5) (on T17 l5) b6 Δ1 (Typed.pass T16 T17 s14) at2 (Scalar.g-room 𝓤 H A W E (on T16 l5) 5 y0 (Init.room-arr 𝓤 H A W n8 36 0 36 Path'.refl)) d2
 
           d4 : Typed.Typed 𝓤 H A 𝓣 E (on T14 l5) b6 Δ1 at4
-          d4 = Typed.g-pre 𝓤 H A W 𝓣 E (on T14 l5) (on T16 l5) b6 Δ1 (Typed.pass T14 T16 s13) at3 (Scalar.g-room 𝓤 H A W E (on T14 l5) 4 y10 (Local.room-whole 𝓤 H A W (Declared'.row Rect.the-type) y10
+          d4 = Typed.g-pre 𝓤 H A W 𝓣 E (on T14 l5) (on T16 l5) b6 Δ1 (Typed.pass T14 T16 s13) at3 (Scalar.g-room 𝓤 H A W E (on T14 l5) 4 y9 (Local.room-whole 𝓤 H A W (Declared'.row Rect.the-type) y9
               Path'.refl)) d3
 
           d5 : Typed.Typed 𝓤 H A 𝓣 E (on T14 l5) b6 Δ1 at5
@@ -1248,19 +1250,19 @@ module _ (claims· : Claims) where
               (Declared.row Beginning.the-type)))) d5
 
           d7 : Typed.Typed 𝓤 H A 𝓣 E (on T25 l5) b7 Δ1 at7
-          d7 = Typed.s-typed 𝓤 H A W 𝓣 E (on T25 l5) b7 Δ1 (Typed.both s23) tt (Plain.t-call-plain 𝓤 H A W 𝓣 0 ps·2 r·2 (claims· .4) (claims· .5) "saved_state::blocks::nothing_counted" (known .2) E (λ pos β.
-              β) (on T25 l5) tt 16 [] (Call.sub-id 𝓤 H A W ((on T25 l5) .slots)) tt (Reads'.room-gone 𝓤 H A y16) tt Path'.refl)
+          d7 = Typed.s-typed 𝓤 H A W 𝓣 E (on T25 l5) b7 Δ1 (Typed.both s23) tt (Plain.t-call-plain 𝓤 H A W 𝓣 0 ps·2 r·2 (claims· .4) (claims· .5) "saved_state::blocks::nothing_counted" (known .2) E (λ
+              pos β. β) (on T25 l5) tt 16 [] (Call.sub-id 𝓤 H A W ((on T25 l5) .slots)) tt (Reads'.room-gone 𝓤 H A y16) tt Path'.refl)
 
           d8 : Typed.Typed 𝓤 H A 𝓣 E (on T24 l5) b7 Δ1 at8
-          d8 = Typed.g-pre 𝓤 H A W 𝓣 E (on T24 l5) (on T25 l5) b7 Δ1 (Typed.pass T24 T25 s22) at7 (Scalar.g-room 𝓤 H A W E (on T24 l5) 9 y12 (Local.room-whole 𝓤 H A W (Declared.row Beginning.the-type)
-              y12 Path'.refl)) d7
+          d8 = Typed.g-pre 𝓤 H A W 𝓣 E (on T24 l5) (on T25 l5) b7 Δ1 (Typed.pass T24 T25 s22) at7 (Scalar.g-room 𝓤 H A W E (on T24 l5) 9 y13 (Local.room-whole 𝓤 H A W (Declared.row Beginning.the-type)
+              y13 Path'.refl)) d7
 
           d9 : Typed.Typed 𝓤 H A 𝓣 E (on T23 l5) b7 Δ1 at9
           d9 = Typed.g-pre 𝓤 H A W 𝓣 E (on T23 l5) (on T24 l5) b7 Δ1 (Typed.pass T23 T24 s21) at8 (Scalar.g-room 𝓤 H A W E (on T23 l5) 5 y0 (Init.room-arr 𝓤 H A W n8 36 0 36 Path'.refl)) d8
 
           d10 : Typed.Typed 𝓤 H A 𝓣 E (on T13 l5) b7 Δ1 at10
-          d10 = Typed.g-pre 𝓤 H A W 𝓣 E (on T13 l5) (on T23 l5) b7 Δ1 (Typed.pass T13 T23 s20) at9 (Scalar.g-room 𝓤 H A W E (on T13 l5) 4 y10 (Local.room-whole 𝓤 H A W (Declared'.row Rect.the-type)
-              y10 Path'.refl)) d9
+          d10 = Typed.g-pre 𝓤 H A W 𝓣 E (on T13 l5) (on T23 l5) b7 Δ1 (Typed.pass T13 T23 s20) at9 (Scalar.g-room 𝓤 H A W E (on T13 l5) 4 y9 (Local.room-whole 𝓤 H A W (Declared'.row Rect.the-type) y9
+              Path'.refl)) d9
 
           d11 : Typed.Typed 𝓤 H A 𝓣 E (on T13 l5) b7 Δ1 at11
           d11 = Typed.g-pre 𝓤 H A W 𝓣 E (on T13 l5) (on T13 l5) b7 Δ1 (Typed.both s19) at10 (Known.g-enum-told 𝓤 H A W E Beginning.enum 1 (on T13 l5) 9 λ x. x) d10
@@ -1307,7 +1309,7 @@ module _ (claims· : Claims) where
                 Shared.reads-sslice 𝓤 H A W n8 y2 0,
                 Path'.refl,
                 (
-                  (Values.struct-copied 𝓤 H A W FujiHeader.the-type Laws''.the-laws Laws''.the-copy, Path'.refl),
+                  (Values.struct-copied 𝓤 H A W FujiHeader.the-type Laws'3.the-laws Laws'3.the-copy, Path'.refl),
                   (
                     (Scalar.reads-sc 𝓤 H A W (Row.sInt Syntax.w64), Path'.refl),
                     (
@@ -1315,7 +1317,7 @@ module _ (claims· : Claims) where
                       Shared.reads-sslice 𝓤 H A W n8 y3 1,
                       Path'.refl,
                       (
-                        (Values.struct-copied 𝓤 H A W Rect.the-type Laws'4.the-laws Laws'4.the-copy, Path'.refl),
+                        (Values.struct-copied 𝓤 H A W Rect.the-type Laws'.the-laws Laws'.the-copy, Path'.refl),
                         (
                           (Array.arr-yields 𝓤 H A W (Array.eInt Syntax.w8) (Array.eInt-laws Syntax.w8) 36, Path'.refl),
                           (
@@ -1335,8 +1337,8 @@ module _ (claims· : Claims) where
                   ),
                 ),
               ) (Reads'.room-gone 𝓤 H A y16) (tt, (tt, (tt, (tt, (tt, tt)))))
-              Path'.refl) (Scalar.g-room 𝓤 H A W E G49 4 y10 (Local.room-whole 𝓤 H A W (Declared'.row Rect.the-type) y10 Path'.refl))) (Scalar.g-room 𝓤 H A W E G50 5 y0 (Init.room-arr 𝓤 H A W n8 36 0 36
-              Path'.refl))) (Scalar.g-room 𝓤 H A W E G51 11 y9 (Local.room-whole 𝓤 H A W (Declared'.row FujiHeader.the-type) y9 Path'.refl))) (Scalar.g-room 𝓤 H A W E G52 12 u64 (Scalar.room-sc 𝓤 H A W
+              Path'.refl) (Scalar.g-room 𝓤 H A W E G49 4 y9 (Local.room-whole 𝓤 H A W (Declared'.row Rect.the-type) y9 Path'.refl))) (Scalar.g-room 𝓤 H A W E G50 5 y0 (Init.room-arr 𝓤 H A W n8 36 0 36
+              Path'.refl))) (Scalar.g-room 𝓤 H A W E G51 11 y11 (Local.room-whole 𝓤 H A W (Declared'.row FujiHeader.the-type) y11 Path'.refl))) (Scalar.g-room 𝓤 H A W E G52 12 u64 (Scalar.room-sc 𝓤 H A W
               (Row.sInt Syntax.w64)))) (Lifetime.g-end 𝓤 H A W E G53 5 Path'.refl)) (Relend.g-back-sl 𝓤 H A W E n16 G54 18 6 2 5 y4 y8 k2 (λ x. x) (λ x. x) (Reads'.as-is 𝓤 H A (Mut.msleft n16 y8))
               (Reads'.as-is 𝓤 H A (Relend.mslice-owed n16 y4 2 5 k2)) Path'.refl Path'.refl)) (Know.g-sl-known 𝓤 H A W (Referent.fInt Syntax.w16) E G55 6 2 y4 k2 0 (λ x. x) record { fits = Dec'.lit< tt }
               (Reads'.as-is 𝓤 H A (Mut.mslice n16 y4 2)) Path'.refl tt)) (Lifetime.g-forget 𝓤 H A W E G55 5 Row.dead Path'.refl)) (Lifetime.g-end 𝓤 H A W E G57 6 Path'.refl)) (PartMut.g-back-slᵐ 𝓤 H A W E
@@ -1421,20 +1423,20 @@ module _ (claims· : Claims) where
 
           d30 : Typed.Typed 𝓤 H A 𝓣 E (on T30 l5) (Syntax.seq b9 (Syntax.seq b10 b29)) Δ1 at30
           d30 = Typed.s-seq 𝓤 H A W 𝓣 E (on T30 l5) (on T31 l5) b9 (Syntax.seq b10 b29) Δ1 (Typed.both s28) at28 (Plain.t-call-plain 𝓤 H A W 𝓣 0 ps·3 r·3 (claims· .6) (claims· .7)
-              "admission::samples_needed" (known .3) E (λ pos β. β) (on T30 l5) (Bool.bFld 11 ((Syntax.field 1) ∷ []) 1 λ x. FujiHeader.struct .as-values x .1 .0, tt) 12 [] (Call.sub-id 𝓤 H A W ((on T30 l5)
-              .slots)) ((Reads.reads-field 𝓤 H A W FujiHeader.the-type Laws''.the-laws 1 Syntax.tyBool 1 Path'.refl, Path'.refl), tt) (Reads'.room-gone 𝓤 H A u64) tt Path'.refl) d29
+              "admission::samples_needed" (known .3) E (λ pos β. β) (on T30 l5) (Bool.bFld 11 ((Syntax.field 1) ∷ []) 1 λ x. FujiHeader.struct .as-values x .1 .0, tt) 12 [] (Call.sub-id 𝓤 H A W ((on T30
+              l5) .slots)) ((Reads.reads-field 𝓤 H A W FujiHeader.the-type Laws'3.the-laws 1 Syntax.tyBool 1 Path'.refl, Path'.refl), tt) (Reads'.room-gone 𝓤 H A u64) tt Path'.refl) d29
 
           d31 : Typed.Typed 𝓤 H A 𝓣 E (on T29 l5) (Syntax.seq b9 (Syntax.seq b10 b29)) Δ1 at31
-          d31 = Typed.g-pre 𝓤 H A W 𝓣 E (on T29 l5) (on T30 l5) (Syntax.seq b9 (Syntax.seq b10 b29)) Δ1 (Typed.pass T29 T30 s27) at30 (Scalar.g-room 𝓤 H A W E (on T29 l5) 9 y12 (Local.room-whole 𝓤 H A
-              W (Known.Known Beginning.enum 2) y12 Path'.refl)) d30
+          d31 = Typed.g-pre 𝓤 H A W 𝓣 E (on T29 l5) (on T30 l5) (Syntax.seq b9 (Syntax.seq b10 b29)) Δ1 (Typed.pass T29 T30 s27) at30 (Scalar.g-room 𝓤 H A W E (on T29 l5) 9 y13 (Local.room-whole 𝓤 H A
+              W (Known.Known Beginning.enum 2) y13 Path'.refl)) d30
 
           d32 : Typed.Typed 𝓤 H A 𝓣 E (on T27 l5) b32 Δ1 at32
           d32 = Typed.s-seq 𝓤 H A W 𝓣 E (on T27 l5) (on T29 l5) b8 (Syntax.seq b9 (Syntax.seq b10 b29)) Δ1 (Typed.pass T27 T29 s26) at31 (CopyOut.t-copy-told 𝓤 H A W E 𝓣 (Declared'.row
-              FujiHeader.the-type) Path'.refl (Laws'6.val FujiHeader.the-type Laws''.the-laws) (Laws'6.lawful FujiHeader.the-type Laws''.the-laws 𝓤 H A W) (Laws'6.makes FujiHeader.the-type
-              Laws''.the-plain 𝓤 H A) (on T27 l5) 11 (Scalar.oFld 9 ((Syntax.variant 2) ∷ (Syntax.field 1) ∷ []) y9 4 λ v. Laws'6.val FujiHeader.the-type Laws''.the-laws (v .0)) (λ m. m .1 .1 .1 .1 .1 .1
+              FujiHeader.the-type) Path'.refl (Laws'6.val FujiHeader.the-type Laws'3.the-laws) (Laws'6.lawful FujiHeader.the-type Laws'3.the-laws 𝓤 H A W) (Laws'6.makes FujiHeader.the-type
+              Laws'3.the-plain 𝓤 H A) (on T27 l5) 11 (Scalar.oFld 9 ((Syntax.variant 2) ∷ (Syntax.field 1) ∷ []) y11 4 λ v. Laws'6.val FujiHeader.the-type Laws'3.the-laws (v .0)) (λ m. m .1 .1 .1 .1 .1 .1
               .1 .1 .1 .0 .0) (λ m. Laws'5.Fields (Declared.variants Beginning.the-type) (Laws'5.spellss (Beginning.enum .parts) Laws.the-laws) (Beginning.the-type .to (Known.at Beginning.enum 2 (m .1 .1
-              .1 .1 .1 .1 .1 .1 .1 .0)))) (Reads'.room-gone 𝓤 H A y9) (
-                Match.reads-payload 𝓤 H A W Beginning.enum Laws.the-laws 2 Path'.refl Path'.refl (λ v. Val.vcons (Laws'6.val FujiHeader.the-type Laws''.the-laws (v .0)) Val.vnil) (λ v. Path'.refl) 0 y9 4
+              .1 .1 .1 .1 .1 .1 .1 .0)))) (Reads'.room-gone 𝓤 H A y11) (
+                Match.reads-payload 𝓤 H A W Beginning.enum Laws.the-laws 2 Path'.refl Path'.refl (λ v. Val.vcons (Laws'6.val FujiHeader.the-type Laws'3.the-laws (v .0)) Val.vnil) (λ v. Path'.refl) 0 y11 4
                     Path'.refl,
                 Path'.refl,
               ) Path'.refl (λ ρ m. Make.tells-row 𝓤 H A W E ρ (Row.out 11 ((on T27 l5) .locals)) m 9 (Laws'5.Fields (Declared.variants Beginning.the-type) (Laws'5.spellss
@@ -1478,7 +1480,7 @@ module _ (claims· : Claims) where
           d42 : Typed.Typed 𝓤 H A 𝓣 E (on T10 l5) (Syntax.seq b34 b35) Δ0 at42
           d42 = Typed.s-seq 𝓤 H A W 𝓣 E (on T10 l5) (on T65 l5) b34 b35 Δ0 (Typed.pass T10 T65 s62) at41 (LocalCopy.t-val-copy 𝓤 H A W E 𝓣 (λ ρ. Unit) (on T10 l5) 16 0 (Declared'.row Counted.the-type)
               y16 y16 (Rows'.whole (Declared'.row Counted.the-type)) (Rows'.whole (Declared'.row Counted.the-type)) (λ x. x) (λ x. x) (λ x. x) Path'.refl (Own.told-none 𝓤 H A ((on T10 l5) .slots))
-              (Values.struct-copied 𝓤 H A W Counted.the-type Laws'.the-laws Laws'.the-copy) (Reads'.room-gone 𝓤 H A y16) (Yields.makes-mem 𝓤 H A W (λ ρ. Unit) (Declared'.row Counted.the-type) Path'.refl
+              (Values.struct-copied 𝓤 H A W Counted.the-type Laws''.the-laws Laws''.the-copy) (Reads'.room-gone 𝓤 H A y16) (Yields.makes-mem 𝓤 H A W (λ ρ. Unit) (Declared'.row Counted.the-type) Path'.refl
               (Rows'.whole (Declared'.row Counted.the-type)) (λ x. x) λ ρ told. Local.whole-mem 𝓤 H A W (Declared'.row Counted.the-type) ρ) Path'.refl Path'.refl) d41
 
           d43 : Typed.Typed 𝓤 H A 𝓣 E (on T9 l5) (Syntax.seq b33 (Syntax.seq b34 b35)) Δ0 at43
@@ -1495,14 +1497,14 @@ module _ (claims· : Claims) where
                 (
                   (Scalar.reads-sc 𝓤 H A W (Row.sInt Syntax.w64), Path'.refl),
                   (
-                    (Values.struct-copied 𝓤 H A W Rect.the-type Laws'4.the-laws Laws'4.the-copy, Path'.refl),
+                    (Values.struct-copied 𝓤 H A W Rect.the-type Laws'.the-laws Laws'.the-copy, Path'.refl),
                     (
                       (Scalar.reads-sc 𝓤 H A W (Row.sInt Syntax.w64), Path'.refl),
                       ((Scalar.reads-sc 𝓤 H A W (Row.sInt Syntax.w64), Path'.refl), ((Scalar.reads-sc 𝓤 H A W (Row.sInt Syntax.w64), Path'.refl), tt)),
                     ),
                   ),
                 ),
-              ) (Reads'.room-gone 𝓤 H A y12) (tt, tt) Path'.refl) d43
+              ) (Reads'.room-gone 𝓤 H A y13) (tt, tt) Path'.refl) d43
 
           d45 : Typed.Typed 𝓤 H A 𝓣 E (on T7 l5) (Syntax.seq b2 b38) Δ0 at45
           d45 = Typed.s-seq 𝓤 H A W 𝓣 E (on T7 l5) (on T8 l5) b2 b38 Δ0 (Typed.pass T7 T8 s6) at44 (Scalar.t-use 𝓤 H A W E 𝓣 (on T7 l5) (Scalar.oFld 8 ((Syntax.field 1) ∷ []) u64 8 Shared.lenV) 15
@@ -1543,7 +1545,7 @@ module _ (claims· : Claims) where
           pub d : Kinds.Den {n = 5} κs (ShrSlice.pShrS n8 0 tt)
           pub b : Kinds.Den {n = 5} κs (Num.pNum Syntax.w64)
           pub state : Kinds.Den {n = 5} κs (ShrSlice.pShrS n8 1 tt)
-          pub r : Kinds.Den {n = 5} κs (Values.struct Rect.the-type Laws'4.the-laws Laws'4.the-copy Laws'4.the-plain)
+          pub r : Kinds.Den {n = 5} κs (Values.struct Rect.the-type Laws'.the-laws Laws'.the-copy Laws'.the-plain)
           pub tile : Kinds.Den {n = 5} κs (Array.pArr (Array.eInt Syntax.w8) (Array.eInt-laws Syntax.w8) 36)
           pub image : Kinds.Den {n = 5} κs (MutSlice.pMutS n16 2 tt)
           pub lines : Kinds.Den {n = 5} κs (MutSlice.pMutS n16 3 tt)
@@ -2140,8 +2142,8 @@ module _ (claims· : Claims) where
           }
 
         module _ {M : Type 1} (𝓤 : URA.URA M) (H : Wp.Heap 𝓤) (A : Atoms.Atoms 𝓤) (W : Kit.Given 𝓤 H A) (𝓣 : Wp.Tables 𝓤 H) (known0 : Plain.Known 𝓤 H A W 𝓣 1 ps·0 r·0 (claims· .0) (claims· .1)
-            "admission::resuming::resume_begins") (known1 : Plain.Known 𝓤 H A W 𝓣 0 ps·1 r·1 (claims· .2) (claims· .3) "read_block::tight::refused") (known2 : Plain.Known 𝓤 H A W 𝓣 0 ps·2 r·2 (claims· .4) (claims·
-            .5) "saved_state::blocks::nothing_counted") (known3 : Plain.Known 𝓤 H A W 𝓣 0 ps·3 r·3 (claims· .6) (claims· .7) "admission::samples_needed") (known4 : Plain.Known 𝓤 H A W 𝓣 5 ps·4 r·4 (claims· .8)
-            (claims· .9) "saved_state::blocks::resume_in") where
+            "admission::resuming::resume_begins") (known1 : Plain.Known 𝓤 H A W 𝓣 0 ps·1 r·1 (claims· .2) (claims· .3) "read_block::tight::refused") (known2 : Plain.Known 𝓤 H A W 𝓣 0 ps·2 r·2 (claims· .4)
+            (claims· .5) "saved_state::blocks::nothing_counted") (known3 : Plain.Known 𝓤 H A W 𝓣 0 ps·3 r·3 (claims· .6) (claims· .7) "admission::samples_needed") (known4 : Plain.Known 𝓤 H A W 𝓣 5 ps·4
+            r·4 (claims· .8) (claims· .9) "saved_state::blocks::resume_in") where
           pub spec : Statement.Triple 𝓤 (Wp.WpFn 𝓤 H (𝓣 .C) (𝓣 .Λ) (Function.fnOf 5 ps r xs m hs body)) (Function.plainOf 𝓤 H A 5 ps r Pre· Post·)
           spec = Plain.t-fn-plain 𝓤 H A W 𝓣 5 ps r xs m hs body (λ κs qs bs. Φ) (λ κs qs bs bd. typed κs qs 𝓤 H A W 𝓣 (known0, known1, known2, known3, known4) bs bd) Pre· Post· asked

@@ -73,12 +73,12 @@ use types.Kit
 use types.Run
 
 abbrev pub y0 : Syntax.Ty
-y0 = Syntax.tyEnum (104 ∷ 101 ∷ 97 ∷ 100 ∷ 101 ∷ 114 ∷ 58 ∷ 58 ∷ 82 ∷ 101 ∷ 102 ∷ 117 ∷ 115 ∷ 97 ∷ 108 ∷ []) (Syntax.ttcons Syntax.tnil (Syntax.ttcons Syntax.tnil (Syntax.ttcons Syntax.tnil
-    (Syntax.ttcons (Syntax.tcons u64 Syntax.tnil) (Syntax.ttcons Syntax.tnil (Syntax.ttcons Syntax.tnil (Syntax.ttcons Syntax.tnil (Syntax.ttcons Syntax.tnil (Syntax.ttcons Syntax.tnil (Syntax.ttcons
-    Syntax.tnil (Syntax.ttcons (Syntax.tcons u64 Syntax.tnil) (Syntax.ttcons (Syntax.tcons u64 Syntax.tnil) (Syntax.ttcons Syntax.tnil (Syntax.ttcons (Syntax.tcons u64 (Syntax.tcons u64 Syntax.tnil))
-    (Syntax.ttcons (Syntax.tcons u64 Syntax.tnil) (Syntax.ttcons Syntax.tnil (Syntax.ttcons Syntax.tnil (Syntax.ttcons (Syntax.tcons u64 Syntax.tnil) (Syntax.ttcons (Syntax.tcons u64 Syntax.tnil)
-    (Syntax.ttcons (Syntax.tcons u64 Syntax.tnil) (Syntax.ttcons Syntax.tnil (Syntax.ttcons Syntax.tnil (Syntax.ttcons (Syntax.tcons u64 (Syntax.tcons u64 Syntax.tnil)) (Syntax.ttcons Syntax.tnil
-    Syntax.ttnil))))))))))))))))))))))))
+y0 = Syntax.tyEnum (115 ∷ 116 ∷ 114 ∷ 101 ∷ 97 ∷ 109 ∷ 58 ∷ 58 ∷ 104 ∷ 101 ∷ 97 ∷ 100 ∷ 101 ∷ 114 ∷ 58 ∷ 58 ∷ 82 ∷ 101 ∷ 102 ∷ 117 ∷ 115 ∷ 97 ∷ 108 ∷ []) (Syntax.ttcons Syntax.tnil (Syntax.ttcons
+    Syntax.tnil (Syntax.ttcons Syntax.tnil (Syntax.ttcons (Syntax.tcons u64 Syntax.tnil) (Syntax.ttcons Syntax.tnil (Syntax.ttcons Syntax.tnil (Syntax.ttcons Syntax.tnil (Syntax.ttcons Syntax.tnil
+    (Syntax.ttcons Syntax.tnil (Syntax.ttcons Syntax.tnil (Syntax.ttcons (Syntax.tcons u64 Syntax.tnil) (Syntax.ttcons (Syntax.tcons u64 Syntax.tnil) (Syntax.ttcons Syntax.tnil (Syntax.ttcons
+    (Syntax.tcons u64 (Syntax.tcons u64 Syntax.tnil)) (Syntax.ttcons (Syntax.tcons u64 Syntax.tnil) (Syntax.ttcons Syntax.tnil (Syntax.ttcons Syntax.tnil (Syntax.ttcons (Syntax.tcons u64 Syntax.tnil)
+    (Syntax.ttcons (Syntax.tcons u64 Syntax.tnil) (Syntax.ttcons (Syntax.tcons u64 Syntax.tnil) (Syntax.ttcons Syntax.tnil (Syntax.ttcons Syntax.tnil (Syntax.ttcons (Syntax.tcons u64 (Syntax.tcons u64
+    Syntax.tnil)) (Syntax.ttcons Syntax.tnil (Syntax.ttcons Syntax.tnil (Syntax.ttcons (Syntax.tcons u64 Syntax.tnil) Syntax.ttnil))))))))))))))))))))))))))
 
 abbrev pub y1 : Syntax.Ty
 y1 = Syntax.tyRef (Syntax.named 0) Syntax.imm u8
@@ -102,18 +102,19 @@ abbrev pub y7 : Syntax.Ty
 y7 = Syntax.tyRef Syntax.erased Syntax.mut u8
 
 abbrev pub y8 : Syntax.Ty
-y8 = Syntax.tyStruct (104 ∷ 101 ∷ 97 ∷ 100 ∷ 101 ∷ 114 ∷ 58 ∷ 58 ∷ 70 ∷ 117 ∷ 106 ∷ 105 ∷ 72 ∷ 101 ∷ 97 ∷ 100 ∷ 101 ∷ 114 ∷ []) (Syntax.tcons Syntax.tyBool (Syntax.tcons Syntax.tyBool (Syntax.tcons
-    u32 (Syntax.tcons u32 (Syntax.tcons u32 (Syntax.tcons u32 (Syntax.tcons u32 (Syntax.tcons u32 (Syntax.tcons u32 Syntax.tnil)))))))))
+y8 = Syntax.tyStruct (108 ∷ 105 ∷ 110 ∷ 101 ∷ 95 ∷ 116 ∷ 111 ∷ 116 ∷ 97 ∷ 108 ∷ 115 ∷ 58 ∷ 58 ∷ 84 ∷ 111 ∷ 116 ∷ 97 ∷ 108 ∷ 115 ∷ []) (Syntax.tcons u64 (Syntax.tcons u64 Syntax.tnil))
 
 abbrev pub y9 : Syntax.Ty
-y9 = Syntax.tyStruct (116 ∷ 111 ∷ 116 ∷ 97 ∷ 108 ∷ 115 ∷ 58 ∷ 58 ∷ 84 ∷ 111 ∷ 116 ∷ 97 ∷ 108 ∷ 115 ∷ []) (Syntax.tcons u64 (Syntax.tcons u64 Syntax.tnil))
+y9 = Syntax.tyStruct (115 ∷ 116 ∷ 114 ∷ 101 ∷ 97 ∷ 109 ∷ 58 ∷ 58 ∷ 104 ∷ 101 ∷ 97 ∷ 100 ∷ 101 ∷ 114 ∷ 58 ∷ 58 ∷ 70 ∷ 117 ∷ 106 ∷ 105 ∷ 72 ∷ 101 ∷ 97 ∷ 100 ∷ 101 ∷ 114 ∷ []) (Syntax.tcons Syntax.tyBool
+    (Syntax.tcons Syntax.tyBool (Syntax.tcons u32 (Syntax.tcons u32 (Syntax.tcons u32 (Syntax.tcons u32 (Syntax.tcons u32 (Syntax.tcons u32 (Syntax.tcons u32 Syntax.tnil)))))))))
 
 abbrev pub y10 : Syntax.Ty
-y10 = Syntax.tyEnum (104 ∷ 101 ∷ 97 ∷ 100 ∷ 101 ∷ 114 ∷ 58 ∷ 58 ∷ 80 ∷ 97 ∷ 114 ∷ 115 ∷ 101 ∷ 100 ∷ []) (Syntax.ttcons (Syntax.tcons y8 Syntax.tnil) (Syntax.ttcons (Syntax.tcons y0 Syntax.tnil)
-    Syntax.ttnil))
+y10 = Syntax.tyEnum (114 ∷ 101 ∷ 97 ∷ 100 ∷ 95 ∷ 98 ∷ 108 ∷ 111 ∷ 99 ∷ 107 ∷ 58 ∷ 58 ∷ 68 ∷ 101 ∷ 99 ∷ 111 ∷ 100 ∷ 101 ∷ 100 ∷ []) (Syntax.ttcons Syntax.tnil (Syntax.ttcons (Syntax.tcons y0
+    Syntax.tnil) Syntax.ttnil))
 
 abbrev pub y11 : Syntax.Ty
-y11 = Syntax.tyEnum (98 ∷ 108 ∷ 111 ∷ 99 ∷ 107 ∷ 58 ∷ 58 ∷ 68 ∷ 101 ∷ 99 ∷ 111 ∷ 100 ∷ 101 ∷ 100 ∷ []) (Syntax.ttcons Syntax.tnil (Syntax.ttcons (Syntax.tcons y0 Syntax.tnil) Syntax.ttnil))
+y11 = Syntax.tyEnum (115 ∷ 116 ∷ 114 ∷ 101 ∷ 97 ∷ 109 ∷ 58 ∷ 58 ∷ 104 ∷ 101 ∷ 97 ∷ 100 ∷ 101 ∷ 114 ∷ 58 ∷ 58 ∷ 80 ∷ 97 ∷ 114 ∷ 115 ∷ 101 ∷ 100 ∷ []) (Syntax.ttcons (Syntax.tcons y9 Syntax.tnil)
+    (Syntax.ttcons (Syntax.tcons y0 Syntax.tnil) Syntax.ttnil))
 
 abbrev pub y12 : Syntax.Ty
 y12 = Syntax.tyStruct (38 ∷ 91 ∷ 93 ∷ []) (Syntax.tcons y5 (Syntax.tcons u64 Syntax.tnil))
@@ -125,7 +126,7 @@ abbrev pub y14 : Syntax.Ty
 y14 = Syntax.tyStruct (38 ∷ 91 ∷ 93 ∷ []) (Syntax.tcons y7 (Syntax.tcons u64 Syntax.tnil))
 
 abbrev pub y15 : Syntax.Ty
-y15 = Syntax.tyStruct (98 ∷ 108 ∷ 111 ∷ 99 ∷ 107 ∷ 58 ∷ 58 ∷ 67 ∷ 111 ∷ 117 ∷ 110 ∷ 116 ∷ 101 ∷ 100 ∷ []) (Syntax.tcons y11 (Syntax.tcons y9 Syntax.tnil))
+y15 = Syntax.tyStruct (114 ∷ 101 ∷ 97 ∷ 100 ∷ 95 ∷ 98 ∷ 108 ∷ 111 ∷ 99 ∷ 107 ∷ 58 ∷ 58 ∷ 67 ∷ 111 ∷ 117 ∷ 110 ∷ 116 ∷ 101 ∷ 100 ∷ []) (Syntax.tcons y10 (Syntax.tcons y8 Syntax.tnil))
 
 abbrev pub ps : List.List (Kinds.PK 4)
 ps = (ShrSlice.pShrS n8 0 tt) ∷ (Num.pNum Syntax.w64) ∷ (Num.pNum Syntax.w64) ∷ (MutSlice.pMutS n8 1 tt) ∷ (MutSlice.pMutS n16 2 tt) ∷ (MutSlice.pMutS (Element.type) 3 tt) ∷ []
@@ -134,7 +135,7 @@ abbrev pub r : Kinds.RK 4
 r = Values.struct-result Counted.the-type Laws.the-laws Laws.the-copy Laws.the-plain
 
 abbrev pub xs : List.List Syntax.Ty
-xs = y10 ∷ y0 ∷ y8 ∷ u64 ∷ u64 ∷ u64 ∷ y15 ∷ y7 ∷ y14 ∷ Syntax.tyPtr ∷ u64 ∷ y6 ∷ y13 ∷ Syntax.tyPtr ∷ u64 ∷ y5 ∷ y12 ∷ []
+xs = y11 ∷ y0 ∷ y9 ∷ u64 ∷ u64 ∷ u64 ∷ y15 ∷ y7 ∷ y14 ∷ Syntax.tyPtr ∷ u64 ∷ y6 ∷ y13 ∷ Syntax.tyPtr ∷ u64 ∷ y5 ∷ y12 ∷ []
 
 abbrev pub m : Nat.ℕ
 m = 3
@@ -225,8 +226,8 @@ abbrev b17 : Syntax.Body
 b17 = Syntax.assign (Syntax.place 23 []) (Syntax.aggregate ((Syntax.copy (Syntax.place 22 [])) ∷ (Syntax.copy (Syntax.place 21 [])) ∷ []))
 
 abbrev b18 : Syntax.Body
-b18 = Syntax.call "saved_state::blocks::store_in" ((Syntax.copy (Syntax.place 1 [])) ∷ (Syntax.copy (Syntax.place 9 [])) ∷ (Syntax.copy (Syntax.place 2 [])) ∷ (Syntax.copy (Syntax.place 3 [])) ∷ (Syntax.copy
-    (Syntax.place 15 [])) ∷ (Syntax.copy (Syntax.place 19 [])) ∷ (Syntax.copy (Syntax.place 23 [])) ∷ []) (Syntax.place 13 [])
+b18 = Syntax.call "saved_state::blocks::store_in" ((Syntax.copy (Syntax.place 1 [])) ∷ (Syntax.copy (Syntax.place 9 [])) ∷ (Syntax.copy (Syntax.place 2 [])) ∷ (Syntax.copy (Syntax.place 3 [])) ∷
+    (Syntax.copy (Syntax.place 15 [])) ∷ (Syntax.copy (Syntax.place 19 [])) ∷ (Syntax.copy (Syntax.place 23 [])) ∷ []) (Syntax.place 13 [])
 
 abbrev b21 : Syntax.Body
 b21 = Syntax.seq b15 (Syntax.seq b16 (Syntax.seq b17 b18))
@@ -280,7 +281,7 @@ abbrev pub v5 : Row.Row
 v5 = Rows.any-gone y0
 
 abbrev pub v6 : Row.Row
-v6 = Rows.any-gone y10
+v6 = Rows.any-gone y11
 
 abbrev pub v7 : Row.Row
 v7 = Mut.mslice n16 y3 2
@@ -292,7 +293,7 @@ abbrev pub v9 : Row.Row
 v9 = Rows.any-gone y14
 
 abbrev pub v10 : Row.Row
-v10 = Rows.any-gone y8
+v10 = Rows.any-gone y9
 
 abbrev pub v11 : Row.Row
 v11 = Rows.any-gone Syntax.tyPtr
@@ -618,7 +619,7 @@ module _ (claims· : Claims) where
   a0 = (record { pos = 1; ty = y1; ref = λ x. x }, (Num.vAt 2 λ x. x, (Bool.bLit Bool'.false, (Num.vAt 11 λ x. x, (Num.vAt 12 λ x. x, tt)))))
 
   abbrev s5 : Typed.Both T6 T7
-  s5 = Call.callB ps·0 r·0 (claims· .0) (claims· .1) T6 a0 7 (0 ∷ []) y10
+  s5 = Call.callB ps·0 r·0 (claims· .0) (claims· .1) T6 a0 7 (0 ∷ []) y11
 
   abbrev s6 : Typed.Mo T7 → Typed.Mo T9
   s6 = Scalar.n-room T7 11 u64
@@ -636,7 +637,7 @@ module _ (claims· : Claims) where
   s10 = Make.n-make (Declared.row Refusal.the-type) T11 8 λ m. m .1 .1 .1 .1 .1 .1 .1 .0 .0
 
   abbrev s11 : Typed.Mo T13 → Typed.Mo T14
-  s11 = Scalar.n-room T13 7 y10
+  s11 = Scalar.n-room T13 7 y11
 
   abbrev s12 : Typed.Both T14 T15
   s12 = Call.callB ps·1 r·1 (claims· .2) (claims· .3) T14 (record { pos = 8; st = []; d = 0; at = λ x. x }, tt) 13 [] y15
@@ -654,7 +655,7 @@ module _ (claims· : Claims) where
   s16 = Make.n-make (Declared'.row FujiHeader.the-type) T17 9 λ m. m .1 .1 .1 .1 .1 .1 .1 .0 .0
 
   abbrev s17 : Typed.Mo T19 → Typed.Mo T20
-  s17 = Scalar.n-room T19 7 y10
+  s17 = Scalar.n-room T19 7 y11
 
   abbrev s18 : Typed.Both T20 T21
   s18 = Call.callB ps·2 r·2 (claims· .4) (claims· .5) T20 (Bool.bFld 9 ((Syntax.field 1) ∷ []) 1 λ x. FujiHeader.struct .as-values x .1 .0, tt) 10 [] u64
@@ -714,7 +715,7 @@ module _ (claims· : Claims) where
   s36 = Call.callB ps·3 r·3 (claims· .6) (claims· .7) T38 a1 13 (0 ∷ 4 ∷ 5 ∷ 6 ∷ []) y15
 
   abbrev s37 : Typed.Mo T39 → Typed.Mo T40
-  s37 = Scalar.n-room T39 9 y8
+  s37 = Scalar.n-room T39 9 y9
 
   abbrev s38 : Typed.Mo T40 → Typed.Mo T41
   s38 = Scalar.n-room T40 10 u64
@@ -749,10 +750,10 @@ module _ (claims· : Claims) where
   module _ (Pre· : (κs : Lifetimes.Lfts 4) → Kinds.Dens κs ps → Type 0) (Post· : (κs : Lifetimes.Lfts 4) → (a : Kinds.Dens κs ps) → Kinds.Plain 4 ps r κs) where
     module _ (M : Type 1) where
       abbrev pub Closed : Type 2
-      Closed = (𝓤 : URA.URA M) (H : Wp.Heap 𝓤) (A : Atoms.Atoms 𝓤) (W : Kit.Given 𝓤 H A) (𝓣 : Wp.Tables 𝓤 H) (known0 : Plain.Known 𝓤 H A W 𝓣 1 ps·0 r·0 (claims· .0) (claims· .1) "admission::block_begins")
-          (known1 : Plain.Known 𝓤 H A W 𝓣 0 ps·1 r·1 (claims· .2) (claims· .3) "read_block::tight::refused") (known2 : Plain.Known 𝓤 H A W 𝓣 0 ps·2 r·2 (claims· .4) (claims· .5) "admission::samples_needed")
-          (known3 : Plain.Known 𝓤 H A W 𝓣 4 ps·3 r·3 (claims· .6) (claims· .7) "saved_state::blocks::store_in") → Statement.Triple 𝓤 (Wp.WpFn 𝓤 H (𝓣 .C) (𝓣 .Λ) (Function.fnOf 4 ps r xs m hs body))
-          (Function.plainOf 𝓤 H A 4 ps r Pre· Post·)
+      Closed = (𝓤 : URA.URA M) (H : Wp.Heap 𝓤) (A : Atoms.Atoms 𝓤) (W : Kit.Given 𝓤 H A) (𝓣 : Wp.Tables 𝓤 H) (known0 : Plain.Known 𝓤 H A W 𝓣 1 ps·0 r·0 (claims· .0) (claims· .1)
+          "admission::block_begins") (known1 : Plain.Known 𝓤 H A W 𝓣 0 ps·1 r·1 (claims· .2) (claims· .3) "read_block::tight::refused") (known2 : Plain.Known 𝓤 H A W 𝓣 0 ps·2 r·2 (claims· .4) (claims· .5)
+          "admission::samples_needed") (known3 : Plain.Known 𝓤 H A W 𝓣 4 ps·3 r·3 (claims· .6) (claims· .7) "saved_state::blocks::store_in") → Statement.Triple 𝓤 (Wp.WpFn 𝓤 H (𝓣 .C) (𝓣 .Λ) (Function.fnOf
+          4 ps r xs m hs body)) (Function.plainOf 𝓤 H A 4 ps r Pre· Post·)
 
     module _ where
       abbrev at0 : Typed.TF T14 O1
@@ -880,8 +881,8 @@ module _ (claims· : Claims) where
 
       module _ {M : Type 1} (𝓤 : URA.URA M) (H : Wp.Heap 𝓤) (A : Atoms.Atoms 𝓤) (W : Kit.Given 𝓤 H A) (𝓣 : Wp.Tables 𝓤 H) where
         abbrev Knowns : Type 1
-        Knowns = Plain.Known 𝓤 H A W 𝓣 1 ps·0 r·0 (claims· .0) (claims· .1) "admission::block_begins" × Plain.Known 𝓤 H A W 𝓣 0 ps·1 r·1 (claims· .2) (claims· .3) "read_block::tight::refused" × Plain.Known 𝓤 H
-            A W 𝓣 0 ps·2 r·2 (claims· .4) (claims· .5) "admission::samples_needed" × Plain.Known 𝓤 H A W 𝓣 4 ps·3 r·3 (claims· .6) (claims· .7) "saved_state::blocks::store_in"
+        Knowns = Plain.Known 𝓤 H A W 𝓣 1 ps·0 r·0 (claims· .0) (claims· .1) "admission::block_begins" × Plain.Known 𝓤 H A W 𝓣 0 ps·1 r·1 (claims· .2) (claims· .3) "read_block::tight::refused" ×
+            Plain.Known 𝓤 H A W 𝓣 0 ps·2 r·2 (claims· .4) (claims· .5) "admission::samples_needed" × Plain.Known 𝓤 H A W 𝓣 4 ps·3 r·3 (claims· .6) (claims· .7) "saved_state::blocks::store_in"
 
       module _ (κs : Lifetimes.Lfts 4) (qs : Lifetimes.Shares 4) where
         abbrev k0 : Row.Life
@@ -1054,7 +1055,7 @@ module _ (claims· : Claims) where
               (Local.room-whole 𝓤 H A W (Declared.row Refusal.the-type) y0 Path'.refl)))
 
           d1 : Typed.Typed 𝓤 H A 𝓣 E (on T13 l5) b4 Δ1 at1
-          d1 = Typed.g-pre 𝓤 H A W 𝓣 E (on T13 l5) (on T14 l5) b4 Δ1 (Typed.pass T13 T14 s11) at0 (Scalar.g-room 𝓤 H A W E (on T13 l5) 7 y10 (Local.room-whole 𝓤 H A W (Known.Known Parsed.enum 1) y10
+          d1 = Typed.g-pre 𝓤 H A W 𝓣 E (on T13 l5) (on T14 l5) b4 Δ1 (Typed.pass T13 T14 s11) at0 (Scalar.g-room 𝓤 H A W E (on T13 l5) 7 y11 (Local.room-whole 𝓤 H A W (Known.Known Parsed.enum 1) y11
               Path'.refl)) d0
 
           d2 : Typed.Typed 𝓤 H A 𝓣 E (on T11 l5) b5 Δ1 at2
@@ -1122,7 +1123,7 @@ module _ (claims· : Claims) where
                   ),
                 ),
               ) (Reads'.room-gone 𝓤 H A y15) (tt, (tt, (tt, (tt, tt)))) Path'.refl)
-              (Scalar.g-room 𝓤 H A W E G39 9 y8 (Local.room-whole 𝓤 H A W (Declared'.row FujiHeader.the-type) y8 Path'.refl))) (Scalar.g-room 𝓤 H A W E G40 10 u64 (Scalar.room-sc 𝓤 H A W (Row.sInt
+              (Scalar.g-room 𝓤 H A W E G39 9 y9 (Local.room-whole 𝓤 H A W (Declared'.row FujiHeader.the-type) y9 Path'.refl))) (Scalar.g-room 𝓤 H A W E G40 10 u64 (Scalar.room-sc 𝓤 H A W (Row.sInt
               Syntax.w64)))) (Lifetime.g-end 𝓤 H A W E G41 4 Path'.refl)) (Relend.g-back-sl 𝓤 H A W E n8 G42 15 4 1 4 y2 y7 k1 (λ x. x) (λ x. x) (Reads'.as-is 𝓤 H A (Mut.msleft n8 y7)) (Reads'.as-is 𝓤 H A
               (Relend.mslice-owed n8 y2 1 4 k1)) Path'.refl Path'.refl)) (Know.g-sl-known 𝓤 H A W (Referent.fInt Syntax.w8) E G43 4 1 y2 k1 0 (λ x. x) record { fits = Dec'.lit< tt } (Reads'.as-is 𝓤 H A
               (Mut.mslice n8 y2 1)) Path'.refl tt)) (Lifetime.g-forget 𝓤 H A W E G43 4 Row.dead Path'.refl)) (Lifetime.g-end 𝓤 H A W E G45 5 Path'.refl)) (PartMut.g-back-slᵐ 𝓤 H A W E n16 G46 19 5 2 5 y3
@@ -1207,20 +1208,20 @@ module _ (claims· : Claims) where
 
           d23 : Typed.Typed 𝓤 H A 𝓣 E (on T20 l5) (Syntax.seq b7 (Syntax.seq b8 b27)) Δ1 at23
           d23 = Typed.s-seq 𝓤 H A W 𝓣 E (on T20 l5) (on T21 l5) b7 (Syntax.seq b8 b27) Δ1 (Typed.both s18) at21 (Plain.t-call-plain 𝓤 H A W 𝓣 0 ps·2 r·2 (claims· .4) (claims· .5)
-              "admission::samples_needed" (known .2) E (λ pos β. β) (on T20 l5) (Bool.bFld 9 ((Syntax.field 1) ∷ []) 1 λ x. FujiHeader.struct .as-values x .1 .0, tt) 10 [] (Call.sub-id 𝓤 H A W ((on T20 l5)
-              .slots)) ((Reads.reads-field 𝓤 H A W FujiHeader.the-type Laws'.the-laws 1 Syntax.tyBool 1 Path'.refl, Path'.refl), tt) (Reads'.room-gone 𝓤 H A u64) tt Path'.refl) d22
+              "admission::samples_needed" (known .2) E (λ pos β. β) (on T20 l5) (Bool.bFld 9 ((Syntax.field 1) ∷ []) 1 λ x. FujiHeader.struct .as-values x .1 .0, tt) 10 [] (Call.sub-id 𝓤 H A W ((on T20
+              l5) .slots)) ((Reads.reads-field 𝓤 H A W FujiHeader.the-type Laws'.the-laws 1 Syntax.tyBool 1 Path'.refl, Path'.refl), tt) (Reads'.room-gone 𝓤 H A u64) tt Path'.refl) d22
 
           d24 : Typed.Typed 𝓤 H A 𝓣 E (on T19 l5) (Syntax.seq b7 (Syntax.seq b8 b27)) Δ1 at24
-          d24 = Typed.g-pre 𝓤 H A W 𝓣 E (on T19 l5) (on T20 l5) (Syntax.seq b7 (Syntax.seq b8 b27)) Δ1 (Typed.pass T19 T20 s17) at23 (Scalar.g-room 𝓤 H A W E (on T19 l5) 7 y10 (Local.room-whole 𝓤 H A
-              W (Known.Known Parsed.enum 0) y10 Path'.refl)) d23
+          d24 = Typed.g-pre 𝓤 H A W 𝓣 E (on T19 l5) (on T20 l5) (Syntax.seq b7 (Syntax.seq b8 b27)) Δ1 (Typed.pass T19 T20 s17) at23 (Scalar.g-room 𝓤 H A W E (on T19 l5) 7 y11 (Local.room-whole 𝓤 H A
+              W (Known.Known Parsed.enum 0) y11 Path'.refl)) d23
 
           d25 : Typed.Typed 𝓤 H A 𝓣 E (on T17 l5) b30 Δ1 at25
           d25 = Typed.s-seq 𝓤 H A W 𝓣 E (on T17 l5) (on T19 l5) b6 (Syntax.seq b7 (Syntax.seq b8 b27)) Δ1 (Typed.pass T17 T19 s16) at24 (CopyOut.t-copy-told 𝓤 H A W E 𝓣 (Declared'.row
               FujiHeader.the-type) Path'.refl (Laws'5.val FujiHeader.the-type Laws'.the-laws) (Laws'5.lawful FujiHeader.the-type Laws'.the-laws 𝓤 H A W) (Laws'5.makes FujiHeader.the-type Laws'.the-plain 𝓤
-              H A) (on T17 l5) 9 (Scalar.oFld 7 ((Syntax.variant 0) ∷ (Syntax.field 1) ∷ []) y8 4 λ v. Laws'5.val FujiHeader.the-type Laws'.the-laws (v .0)) (λ m. m .1 .1 .1 .1 .1 .1 .1 .0 .0) (λ m.
+              H A) (on T17 l5) 9 (Scalar.oFld 7 ((Syntax.variant 0) ∷ (Syntax.field 1) ∷ []) y9 4 λ v. Laws'5.val FujiHeader.the-type Laws'.the-laws (v .0)) (λ m. m .1 .1 .1 .1 .1 .1 .1 .0 .0) (λ m.
               Laws'4.Fields (Declared.variants Parsed.the-type) (Laws'4.spellss (Parsed.enum .parts) Laws''.the-laws) (Parsed.the-type .to (Known.at Parsed.enum 0 (m .1 .1 .1 .1 .1 .1 .1 .0))))
-              (Reads'.room-gone 𝓤 H A y8) (
-                Match.reads-payload 𝓤 H A W Parsed.enum Laws''.the-laws 0 Path'.refl Path'.refl (λ v. Val.vcons (Laws'5.val FujiHeader.the-type Laws'.the-laws (v .0)) Val.vnil) (λ v. Path'.refl) 0 y8 4
+              (Reads'.room-gone 𝓤 H A y9) (
+                Match.reads-payload 𝓤 H A W Parsed.enum Laws''.the-laws 0 Path'.refl Path'.refl (λ v. Val.vcons (Laws'5.val FujiHeader.the-type Laws'.the-laws (v .0)) Val.vnil) (λ v. Path'.refl) 0 y9 4
                     Path'.refl,
                 Path'.refl,
               ) Path'.refl (λ ρ m. Make.tells-row 𝓤 H A W E ρ (Row.out 9 ((on T17 l5) .locals)) m 7 (Laws'4.Fields (Declared.variants Parsed.the-type) (Laws'4.spellss (Parsed.enum
@@ -1280,7 +1281,7 @@ module _ (claims· : Claims) where
                   (Scalar.reads-sc 𝓤 H A W (Row.sInt Syntax.w64), Path'.refl),
                   (tt, ((Scalar.reads-sc 𝓤 H A W (Row.sInt Syntax.w64), Path'.refl), ((Scalar.reads-sc 𝓤 H A W (Row.sInt Syntax.w64), Path'.refl), tt))),
                 ),
-              ) (Reads'.room-gone 𝓤 H A y10) (tt, tt) Path'.refl) d36
+              ) (Reads'.room-gone 𝓤 H A y11) (tt, tt) Path'.refl) d36
 
           d38 : Typed.Typed 𝓤 H A 𝓣 E (on T5 l5) (Syntax.seq b1 b36) Δ0 at38
           d38 = Typed.s-seq 𝓤 H A W 𝓣 E (on T5 l5) (on T6 l5) b1 b36 Δ0 (Typed.pass T5 T6 s4) at37 (Scalar.t-use 𝓤 H A W E 𝓣 (on T5 l5) (Scalar.oFld 6 ((Syntax.field 1) ∷ []) u64 8 Shared.lenV) 12
@@ -1812,7 +1813,7 @@ module _ (claims· : Claims) where
           }
 
         module _ {M : Type 1} (𝓤 : URA.URA M) (H : Wp.Heap 𝓤) (A : Atoms.Atoms 𝓤) (W : Kit.Given 𝓤 H A) (𝓣 : Wp.Tables 𝓤 H) (known0 : Plain.Known 𝓤 H A W 𝓣 1 ps·0 r·0 (claims· .0) (claims· .1)
-            "admission::block_begins") (known1 : Plain.Known 𝓤 H A W 𝓣 0 ps·1 r·1 (claims· .2) (claims· .3) "read_block::tight::refused") (known2 : Plain.Known 𝓤 H A W 𝓣 0 ps·2 r·2 (claims· .4) (claims· .5)
-            "admission::samples_needed") (known3 : Plain.Known 𝓤 H A W 𝓣 4 ps·3 r·3 (claims· .6) (claims· .7) "saved_state::blocks::store_in") where
+            "admission::block_begins") (known1 : Plain.Known 𝓤 H A W 𝓣 0 ps·1 r·1 (claims· .2) (claims· .3) "read_block::tight::refused") (known2 : Plain.Known 𝓤 H A W 𝓣 0 ps·2 r·2 (claims· .4) (claims·
+            .5) "admission::samples_needed") (known3 : Plain.Known 𝓤 H A W 𝓣 4 ps·3 r·3 (claims· .6) (claims· .7) "saved_state::blocks::store_in") where
           pub spec : Statement.Triple 𝓤 (Wp.WpFn 𝓤 H (𝓣 .C) (𝓣 .Λ) (Function.fnOf 4 ps r xs m hs body)) (Function.plainOf 𝓤 H A 4 ps r Pre· Post·)
           spec = Plain.t-fn-plain 𝓤 H A W 𝓣 4 ps r xs m hs body (λ κs qs bs. Φ) (λ κs qs bs bd. typed κs qs 𝓤 H A W 𝓣 (known0, known1, known2, known3) bs bd) Pre· Post· asked

@@ -66,12 +66,12 @@ use types.Kit
 use types.Run
 
 abbrev pub y0 : Syntax.Ty
-y0 = Syntax.tyEnum (104 ∷ 101 ∷ 97 ∷ 100 ∷ 101 ∷ 114 ∷ 58 ∷ 58 ∷ 82 ∷ 101 ∷ 102 ∷ 117 ∷ 115 ∷ 97 ∷ 108 ∷ []) (Syntax.ttcons Syntax.tnil (Syntax.ttcons Syntax.tnil (Syntax.ttcons Syntax.tnil
-    (Syntax.ttcons (Syntax.tcons u64 Syntax.tnil) (Syntax.ttcons Syntax.tnil (Syntax.ttcons Syntax.tnil (Syntax.ttcons Syntax.tnil (Syntax.ttcons Syntax.tnil (Syntax.ttcons Syntax.tnil (Syntax.ttcons
-    Syntax.tnil (Syntax.ttcons (Syntax.tcons u64 Syntax.tnil) (Syntax.ttcons (Syntax.tcons u64 Syntax.tnil) (Syntax.ttcons Syntax.tnil (Syntax.ttcons (Syntax.tcons u64 (Syntax.tcons u64 Syntax.tnil))
-    (Syntax.ttcons (Syntax.tcons u64 Syntax.tnil) (Syntax.ttcons Syntax.tnil (Syntax.ttcons Syntax.tnil (Syntax.ttcons (Syntax.tcons u64 Syntax.tnil) (Syntax.ttcons (Syntax.tcons u64 Syntax.tnil)
-    (Syntax.ttcons (Syntax.tcons u64 Syntax.tnil) (Syntax.ttcons Syntax.tnil (Syntax.ttcons Syntax.tnil (Syntax.ttcons (Syntax.tcons u64 (Syntax.tcons u64 Syntax.tnil)) (Syntax.ttcons Syntax.tnil
-    Syntax.ttnil))))))))))))))))))))))))
+y0 = Syntax.tyEnum (115 ∷ 116 ∷ 114 ∷ 101 ∷ 97 ∷ 109 ∷ 58 ∷ 58 ∷ 104 ∷ 101 ∷ 97 ∷ 100 ∷ 101 ∷ 114 ∷ 58 ∷ 58 ∷ 82 ∷ 101 ∷ 102 ∷ 117 ∷ 115 ∷ 97 ∷ 108 ∷ []) (Syntax.ttcons Syntax.tnil (Syntax.ttcons
+    Syntax.tnil (Syntax.ttcons Syntax.tnil (Syntax.ttcons (Syntax.tcons u64 Syntax.tnil) (Syntax.ttcons Syntax.tnil (Syntax.ttcons Syntax.tnil (Syntax.ttcons Syntax.tnil (Syntax.ttcons Syntax.tnil
+    (Syntax.ttcons Syntax.tnil (Syntax.ttcons Syntax.tnil (Syntax.ttcons (Syntax.tcons u64 Syntax.tnil) (Syntax.ttcons (Syntax.tcons u64 Syntax.tnil) (Syntax.ttcons Syntax.tnil (Syntax.ttcons
+    (Syntax.tcons u64 (Syntax.tcons u64 Syntax.tnil)) (Syntax.ttcons (Syntax.tcons u64 Syntax.tnil) (Syntax.ttcons Syntax.tnil (Syntax.ttcons Syntax.tnil (Syntax.ttcons (Syntax.tcons u64 Syntax.tnil)
+    (Syntax.ttcons (Syntax.tcons u64 Syntax.tnil) (Syntax.ttcons (Syntax.tcons u64 Syntax.tnil) (Syntax.ttcons Syntax.tnil (Syntax.ttcons Syntax.tnil (Syntax.ttcons (Syntax.tcons u64 (Syntax.tcons u64
+    Syntax.tnil)) (Syntax.ttcons Syntax.tnil (Syntax.ttcons Syntax.tnil (Syntax.ttcons (Syntax.tcons u64 Syntax.tnil) Syntax.ttnil))))))))))))))))))))))))))
 
 abbrev pub y1 : Syntax.Ty
 y1 = Syntax.tyRef (Syntax.named 0) Syntax.imm u8
@@ -95,14 +95,15 @@ abbrev pub y7 : Syntax.Ty
 y7 = Syntax.tyRef Syntax.erased Syntax.mut u8
 
 abbrev pub y8 : Syntax.Ty
-y8 = Syntax.tyStruct (104 ∷ 101 ∷ 97 ∷ 100 ∷ 101 ∷ 114 ∷ 58 ∷ 58 ∷ 70 ∷ 117 ∷ 106 ∷ 105 ∷ 72 ∷ 101 ∷ 97 ∷ 100 ∷ 101 ∷ 114 ∷ []) (Syntax.tcons Syntax.tyBool (Syntax.tcons Syntax.tyBool (Syntax.tcons
-    u32 (Syntax.tcons u32 (Syntax.tcons u32 (Syntax.tcons u32 (Syntax.tcons u32 (Syntax.tcons u32 (Syntax.tcons u32 Syntax.tnil)))))))))
+y8 = Syntax.tyStruct (108 ∷ 105 ∷ 110 ∷ 101 ∷ 95 ∷ 116 ∷ 111 ∷ 116 ∷ 97 ∷ 108 ∷ 115 ∷ 58 ∷ 58 ∷ 84 ∷ 111 ∷ 116 ∷ 97 ∷ 108 ∷ 115 ∷ []) (Syntax.tcons u64 (Syntax.tcons u64 Syntax.tnil))
 
 abbrev pub y9 : Syntax.Ty
-y9 = Syntax.tyStruct (116 ∷ 111 ∷ 116 ∷ 97 ∷ 108 ∷ 115 ∷ 58 ∷ 58 ∷ 84 ∷ 111 ∷ 116 ∷ 97 ∷ 108 ∷ 115 ∷ []) (Syntax.tcons u64 (Syntax.tcons u64 Syntax.tnil))
+y9 = Syntax.tyStruct (115 ∷ 116 ∷ 114 ∷ 101 ∷ 97 ∷ 109 ∷ 58 ∷ 58 ∷ 104 ∷ 101 ∷ 97 ∷ 100 ∷ 101 ∷ 114 ∷ 58 ∷ 58 ∷ 70 ∷ 117 ∷ 106 ∷ 105 ∷ 72 ∷ 101 ∷ 97 ∷ 100 ∷ 101 ∷ 114 ∷ []) (Syntax.tcons Syntax.tyBool
+    (Syntax.tcons Syntax.tyBool (Syntax.tcons u32 (Syntax.tcons u32 (Syntax.tcons u32 (Syntax.tcons u32 (Syntax.tcons u32 (Syntax.tcons u32 (Syntax.tcons u32 Syntax.tnil)))))))))
 
 abbrev pub y10 : Syntax.Ty
-y10 = Syntax.tyEnum (98 ∷ 108 ∷ 111 ∷ 99 ∷ 107 ∷ 58 ∷ 58 ∷ 68 ∷ 101 ∷ 99 ∷ 111 ∷ 100 ∷ 101 ∷ 100 ∷ []) (Syntax.ttcons Syntax.tnil (Syntax.ttcons (Syntax.tcons y0 Syntax.tnil) Syntax.ttnil))
+y10 = Syntax.tyEnum (114 ∷ 101 ∷ 97 ∷ 100 ∷ 95 ∷ 98 ∷ 108 ∷ 111 ∷ 99 ∷ 107 ∷ 58 ∷ 58 ∷ 68 ∷ 101 ∷ 99 ∷ 111 ∷ 100 ∷ 101 ∷ 100 ∷ []) (Syntax.ttcons Syntax.tnil (Syntax.ttcons (Syntax.tcons y0
+    Syntax.tnil) Syntax.ttnil))
 
 abbrev pub y11 : Syntax.Ty
 y11 = Syntax.tyStruct (38 ∷ 91 ∷ 93 ∷ []) (Syntax.tcons y5 (Syntax.tcons u64 Syntax.tnil))
@@ -114,7 +115,7 @@ abbrev pub y13 : Syntax.Ty
 y13 = Syntax.tyStruct (38 ∷ 91 ∷ 93 ∷ []) (Syntax.tcons y7 (Syntax.tcons u64 Syntax.tnil))
 
 abbrev pub y14 : Syntax.Ty
-y14 = Syntax.tyStruct (98 ∷ 108 ∷ 111 ∷ 99 ∷ 107 ∷ 58 ∷ 58 ∷ 67 ∷ 111 ∷ 117 ∷ 110 ∷ 116 ∷ 101 ∷ 100 ∷ []) (Syntax.tcons y10 (Syntax.tcons y9 Syntax.tnil))
+y14 = Syntax.tyStruct (114 ∷ 101 ∷ 97 ∷ 100 ∷ 95 ∷ 98 ∷ 108 ∷ 111 ∷ 99 ∷ 107 ∷ 58 ∷ 58 ∷ 67 ∷ 111 ∷ 117 ∷ 110 ∷ 116 ∷ 101 ∷ 100 ∷ []) (Syntax.tcons y10 (Syntax.tcons y8 Syntax.tnil))
 
 abbrev pub ps : List.List (Kinds.PK 4)
 ps = (ShrSlice.pShrS n8 0 tt) ∷ (Values.struct FujiHeader.the-type Laws''.the-laws Laws''.the-copy Laws''.the-plain) ∷ (Num.pNum Syntax.w64) ∷ (Num.pNum Syntax.w64) ∷ (MutSlice.pMutS n8 1 tt) ∷
@@ -269,7 +270,7 @@ abbrev pub v10 : Row.Row
 v10 = Rows.any-gone y0
 
 abbrev pub v11 : Row.Row
-v11 = Rows.any-gone y8
+v11 = Rows.any-gone y9
 
 abbrev pub v12 : Row.Row
 v12 = Mut.mslice (Element.type) y4 3
@@ -562,7 +563,7 @@ module _ (claims· : Claims) where
   s7 = Known.k-known-told Decoded.enum Laws'.the-laws 1 T9 8 λ x. x
 
   abbrev s8 : Typed.Mo T9 → Typed.Mo T11
-  s8 = Scalar.n-room T9 2 y8
+  s8 = Scalar.n-room T9 2 y9
 
   abbrev s9 : Typed.Mo T11 → Typed.Mo T12
   s9 = Make.n-make (Declared.row Refusal.the-type) T11 9 λ m. m .1 .1 .1 .1 .1 .1 .1 .1 .0 .0
@@ -637,7 +638,7 @@ module _ (claims· : Claims) where
   s37 = Call.callB ps·2 r·2 (claims· .4) (claims· .5) T39 a1 11 (0 ∷ 6 ∷ 7 ∷ 8 ∷ []) y14
 
   abbrev s38 : Typed.Mo T40 → Typed.Mo T41
-  s38 = Scalar.n-room T40 2 y8
+  s38 = Scalar.n-room T40 2 y9
 
   abbrev s40 : Typed.Both T41 T43
   s40 = Relend.k-back-sl n8 T41 17 5 1 6 y2 y7 Row.off (λ x. x) λ x. x
@@ -670,8 +671,8 @@ module _ (claims· : Claims) where
     module _ (M : Type 1) where
       abbrev pub Closed : Type 2
       Closed = (𝓤 : URA.URA M) (H : Wp.Heap 𝓤) (A : Atoms.Atoms 𝓤) (W : Kit.Given 𝓤 H A) (𝓣 : Wp.Tables 𝓤 H) (known0 : Plain.Known 𝓤 H A W 𝓣 0 ps·0 r·0 (claims· .0) (claims· .1)
-          "saved_state::blocks::store_judged") (known1 : Plain.Known 𝓤 H A W 𝓣 2 ps·1 r·1 (claims· .2) (claims· .3) "saved_state::blocks::refuse") (known2 : Plain.Known 𝓤 H A W 𝓣 4 ps·2 r·2 (claims· .4) (claims· .5)
-          "saved_state::blocks::store_state") → Statement.Triple 𝓤 (Wp.WpFn 𝓤 H (𝓣 .C) (𝓣 .Λ) (Function.fnOf 4 ps r xs m hs body)) (Function.plainOf 𝓤 H A 4 ps r Pre· Post·)
+          "saved_state::blocks::store_judged") (known1 : Plain.Known 𝓤 H A W 𝓣 2 ps·1 r·1 (claims· .2) (claims· .3) "saved_state::blocks::refuse") (known2 : Plain.Known 𝓤 H A W 𝓣 4 ps·2 r·2 (claims· .4)
+          (claims· .5) "saved_state::blocks::store_state") → Statement.Triple 𝓤 (Wp.WpFn 𝓤 H (𝓣 .C) (𝓣 .Λ) (Function.fnOf 4 ps r xs m hs body)) (Function.plainOf 𝓤 H A 4 ps r Pre· Post·)
 
     module _ where
       abbrev at0 : Typed.TF T19 O1
@@ -775,8 +776,8 @@ module _ (claims· : Claims) where
 
       module _ {M : Type 1} (𝓤 : URA.URA M) (H : Wp.Heap 𝓤) (A : Atoms.Atoms 𝓤) (W : Kit.Given 𝓤 H A) (𝓣 : Wp.Tables 𝓤 H) where
         abbrev Knowns : Type 1
-        Knowns = Plain.Known 𝓤 H A W 𝓣 0 ps·0 r·0 (claims· .0) (claims· .1) "saved_state::blocks::store_judged" × Plain.Known 𝓤 H A W 𝓣 2 ps·1 r·1 (claims· .2) (claims· .3) "saved_state::blocks::refuse" ×
-            Plain.Known 𝓤 H A W 𝓣 4 ps·2 r·2 (claims· .4) (claims· .5) "saved_state::blocks::store_state"
+        Knowns = Plain.Known 𝓤 H A W 𝓣 0 ps·0 r·0 (claims· .0) (claims· .1) "saved_state::blocks::store_judged" × Plain.Known 𝓤 H A W 𝓣 2 ps·1 r·1 (claims· .2) (claims· .3)
+            "saved_state::blocks::refuse" × Plain.Known 𝓤 H A W 𝓣 4 ps·2 r·2 (claims· .4) (claims· .5) "saved_state::blocks::store_state"
 
       module _ (κs : Lifetimes.Lfts 4) (qs : Lifetimes.Shares 4) where
         abbrev k0 : Row.Life
@@ -1054,8 +1055,8 @@ module _ (claims· : Claims) where
               .1 .0))) (λ m k wa. Path'.refl) λ m k wa. k .0) d7
 
           d9 : Typed.Typed 𝓤 H A 𝓣 E (on T9 l8) b12 Δ1 at9
-          d9 = Typed.g-pre 𝓤 H A W 𝓣 E (on T9 l8) (on T11 l8) b12 Δ1 (Typed.pass T9 T11 s8) at8 (Scalar.g-room 𝓤 H A W E (on T9 l8) 2 y8 (Local.room-whole 𝓤 H A W (Declared'.row FujiHeader.the-type)
-              y8 Path'.refl)) d8
+          d9 = Typed.g-pre 𝓤 H A W 𝓣 E (on T9 l8) (on T11 l8) b12 Δ1 (Typed.pass T9 T11 s8) at8 (Scalar.g-room 𝓤 H A W E (on T9 l8) 2 y9 (Local.room-whole 𝓤 H A W (Declared'.row FujiHeader.the-type)
+              y9 Path'.refl)) d8
 
           d10 : Typed.Typed 𝓤 H A 𝓣 E (on T9 l8) b12 Δ1 at10
           d10 = Typed.g-pre 𝓤 H A W 𝓣 E (on T9 l8) (on T9 l8) b12 Δ1 (Typed.give s7) at9 (Known.g-known-told 𝓤 H A W E Decoded.enum 1 (on T9 l8) 8 Laws'.the-laws (λ x. x) (Reads.as-is 𝓤 H A
@@ -1108,7 +1109,7 @@ module _ (claims· : Claims) where
                   ),
                 ),
               ) (Reads.room-gone 𝓤 H A y14) (tt, (tt, (tt, (tt, tt)))) Path'.refl)
-              (Scalar.g-room 𝓤 H A W E G40 2 y8 (Local.room-whole 𝓤 H A W (Declared'.row FujiHeader.the-type) y8 Path'.refl))) (Lifetime.g-end 𝓤 H A W E G41 6 Path'.refl)) (Relend.g-back-sl 𝓤 H A W E n8
+              (Scalar.g-room 𝓤 H A W E G40 2 y9 (Local.room-whole 𝓤 H A W (Declared'.row FujiHeader.the-type) y9 Path'.refl))) (Lifetime.g-end 𝓤 H A W E G41 6 Path'.refl)) (Relend.g-back-sl 𝓤 H A W E n8
               G42 17 5 1 6 y2 y7 k1 (λ x. x) (λ x. x) (Reads.as-is 𝓤 H A (Mut.msleft n8 y7)) (Reads.as-is 𝓤 H A (Relend.mslice-owed n8 y2 1 6 k1)) Path'.refl Path'.refl)) (Know.g-sl-known 𝓤 H A W
               (Referent.fInt Syntax.w8) E G43 5 1 y2 k1 0 (λ x. x) record { fits = Dec'.lit< tt } (Reads.as-is 𝓤 H A (Mut.mslice n8 y2 1)) Path'.refl tt)) (Lifetime.g-forget 𝓤 H A W E G43 6 Row.dead
               Path'.refl)) (Lifetime.g-end 𝓤 H A W E G45 7 Path'.refl)) (Relend.g-back-sl 𝓤 H A W E n16 G46 19 6 2 7 y3 y6 k2 (λ x. x) (λ x. x) (Reads.as-is 𝓤 H A (Mut.msleft n16 y6)) (Reads.as-is 𝓤 H A
@@ -1196,8 +1197,8 @@ module _ (claims· : Claims) where
 
           d32 : Typed.Typed 𝓤 H A 𝓣 E (on T5 l8) b31 Δ0 at32
           d32 = Typed.s-seq 𝓤 H A W 𝓣 E (on T5 l8) (on T6 l8) b1 (Syntax.seq b26 (Syntax.seq b27 b28)) Δ0 (Typed.both s4) at31 (Plain.t-call-plain 𝓤 H A W 𝓣 0 ps·0 r·0 (claims· .0) (claims· .1)
-              "saved_state::blocks::store_judged" (known .0) E (λ pos β. β) (on T5 l8) (record { pos = 2; st = []; d = 0; at = λ x. x }, (Num.vAt 4 λ x. x, (Num.vAt 10 λ x. x, tt))) 8 [] (Call.sub-id 𝓤 H A W
-              ((on T5 l8) .slots)) (
+              "saved_state::blocks::store_judged" (known .0) E (λ pos β. β) (on T5 l8) (record { pos = 2; st = []; d = 0; at = λ x. x }, (Num.vAt 4 λ x. x, (Num.vAt 10 λ x. x, tt))) 8 [] (Call.sub-id 𝓤 H
+              A W ((on T5 l8) .slots)) (
                 (Values.struct-copied 𝓤 H A W FujiHeader.the-type Laws''.the-laws Laws''.the-copy, Path'.refl),
                 ((Scalar.reads-sc 𝓤 H A W (Row.sInt Syntax.w64), Path'.refl), ((Scalar.reads-sc 𝓤 H A W (Row.sInt Syntax.w64), Path'.refl), tt)),
               ) (Reads.room-gone 𝓤 H A y10) tt Path'.refl) d31
@@ -1741,7 +1742,7 @@ module _ (claims· : Claims) where
           }
 
         module _ {M : Type 1} (𝓤 : URA.URA M) (H : Wp.Heap 𝓤) (A : Atoms.Atoms 𝓤) (W : Kit.Given 𝓤 H A) (𝓣 : Wp.Tables 𝓤 H) (known0 : Plain.Known 𝓤 H A W 𝓣 0 ps·0 r·0 (claims· .0) (claims· .1)
-            "saved_state::blocks::store_judged") (known1 : Plain.Known 𝓤 H A W 𝓣 2 ps·1 r·1 (claims· .2) (claims· .3) "saved_state::blocks::refuse") (known2 : Plain.Known 𝓤 H A W 𝓣 4 ps·2 r·2 (claims· .4) (claims· .5)
-            "saved_state::blocks::store_state") where
+            "saved_state::blocks::store_judged") (known1 : Plain.Known 𝓤 H A W 𝓣 2 ps·1 r·1 (claims· .2) (claims· .3) "saved_state::blocks::refuse") (known2 : Plain.Known 𝓤 H A W 𝓣 4 ps·2 r·2 (claims· .4)
+            (claims· .5) "saved_state::blocks::store_state") where
           pub spec : Statement.Triple 𝓤 (Wp.WpFn 𝓤 H (𝓣 .C) (𝓣 .Λ) (Function.fnOf 4 ps r xs m hs body)) (Function.plainOf 𝓤 H A 4 ps r Pre· Post·)
           spec = Plain.t-fn-plain 𝓤 H A W 𝓣 4 ps r xs m hs body (λ κs qs bs. Φ) (λ κs qs bs bd. typed κs qs 𝓤 H A W 𝓣 (known0, known1, known2) bs bd) Pre· Post· asked

@@ -5,20 +5,20 @@ use Rattle.bits.proofs.Values.{n16, n8, u16, u32, u64, u8}
 use mathlib.Core.List.{_∷_, []}
 use Rattle.read_block.proofs.Element
 use Prim.Native.Nat
-use Rattle.read_block.proofs.Counted
-use Rattle.read_block.proofs.Counted.Laws
-use Rattle.read_block.proofs.Form
-use Rattle.read_block.proofs.Form.Laws as Laws'
-use Rattle.read_block.proofs.Walked
-use Rattle.read_block.proofs.Walked.Laws as Laws''
 use Rattle.cameras.proofs.Entries
-use Rattle.cameras.proofs.Entries.Laws as Laws'3
+use Rattle.cameras.proofs.Entries.Laws
 use Rattle.code.proofs.Place
-use Rattle.code.proofs.Place.Laws as Laws'4
-use Rattle.stream.proofs.header.FujiHeader
-use Rattle.stream.proofs.header.FujiHeader.Laws as Laws'5
+use Rattle.code.proofs.Place.Laws as Laws'
 use Rattle.image_map.proofs.Part
-use Rattle.image_map.proofs.Part.Laws as Laws'6
+use Rattle.image_map.proofs.Part.Laws as Laws''
+use Rattle.read_block.proofs.Counted
+use Rattle.read_block.proofs.Counted.Laws as Laws'3
+use Rattle.read_block.proofs.Form
+use Rattle.read_block.proofs.Form.Laws as Laws'4
+use Rattle.read_block.proofs.Walked
+use Rattle.read_block.proofs.Walked.Laws as Laws'5
+use Rattle.stream.proofs.header.FujiHeader
+use Rattle.stream.proofs.header.FujiHeader.Laws as Laws'6
 use borrow.Author.Called
 use borrow.Fn.Any
 use borrow.Fn.Call
@@ -90,12 +90,12 @@ abbrev pub y2 : Syntax.Ty
 y2 = Syntax.tyArray u8 36
 
 abbrev pub y3 : Syntax.Ty
-y3 = Syntax.tyEnum (104 ∷ 101 ∷ 97 ∷ 100 ∷ 101 ∷ 114 ∷ 58 ∷ 58 ∷ 82 ∷ 101 ∷ 102 ∷ 117 ∷ 115 ∷ 97 ∷ 108 ∷ []) (Syntax.ttcons Syntax.tnil (Syntax.ttcons Syntax.tnil (Syntax.ttcons Syntax.tnil
-    (Syntax.ttcons (Syntax.tcons u64 Syntax.tnil) (Syntax.ttcons Syntax.tnil (Syntax.ttcons Syntax.tnil (Syntax.ttcons Syntax.tnil (Syntax.ttcons Syntax.tnil (Syntax.ttcons Syntax.tnil (Syntax.ttcons
-    Syntax.tnil (Syntax.ttcons (Syntax.tcons u64 Syntax.tnil) (Syntax.ttcons (Syntax.tcons u64 Syntax.tnil) (Syntax.ttcons Syntax.tnil (Syntax.ttcons (Syntax.tcons u64 (Syntax.tcons u64 Syntax.tnil))
-    (Syntax.ttcons (Syntax.tcons u64 Syntax.tnil) (Syntax.ttcons Syntax.tnil (Syntax.ttcons Syntax.tnil (Syntax.ttcons (Syntax.tcons u64 Syntax.tnil) (Syntax.ttcons (Syntax.tcons u64 Syntax.tnil)
-    (Syntax.ttcons (Syntax.tcons u64 Syntax.tnil) (Syntax.ttcons Syntax.tnil (Syntax.ttcons Syntax.tnil (Syntax.ttcons (Syntax.tcons u64 (Syntax.tcons u64 Syntax.tnil)) (Syntax.ttcons Syntax.tnil
-    Syntax.ttnil))))))))))))))))))))))))
+y3 = Syntax.tyEnum (115 ∷ 116 ∷ 114 ∷ 101 ∷ 97 ∷ 109 ∷ 58 ∷ 58 ∷ 104 ∷ 101 ∷ 97 ∷ 100 ∷ 101 ∷ 114 ∷ 58 ∷ 58 ∷ 82 ∷ 101 ∷ 102 ∷ 117 ∷ 115 ∷ 97 ∷ 108 ∷ []) (Syntax.ttcons Syntax.tnil (Syntax.ttcons
+    Syntax.tnil (Syntax.ttcons Syntax.tnil (Syntax.ttcons (Syntax.tcons u64 Syntax.tnil) (Syntax.ttcons Syntax.tnil (Syntax.ttcons Syntax.tnil (Syntax.ttcons Syntax.tnil (Syntax.ttcons Syntax.tnil
+    (Syntax.ttcons Syntax.tnil (Syntax.ttcons Syntax.tnil (Syntax.ttcons (Syntax.tcons u64 Syntax.tnil) (Syntax.ttcons (Syntax.tcons u64 Syntax.tnil) (Syntax.ttcons Syntax.tnil (Syntax.ttcons
+    (Syntax.tcons u64 (Syntax.tcons u64 Syntax.tnil)) (Syntax.ttcons (Syntax.tcons u64 Syntax.tnil) (Syntax.ttcons Syntax.tnil (Syntax.ttcons Syntax.tnil (Syntax.ttcons (Syntax.tcons u64 Syntax.tnil)
+    (Syntax.ttcons (Syntax.tcons u64 Syntax.tnil) (Syntax.ttcons (Syntax.tcons u64 Syntax.tnil) (Syntax.ttcons Syntax.tnil (Syntax.ttcons Syntax.tnil (Syntax.ttcons (Syntax.tcons u64 (Syntax.tcons u64
+    Syntax.tnil)) (Syntax.ttcons Syntax.tnil (Syntax.ttcons Syntax.tnil (Syntax.ttcons (Syntax.tcons u64 Syntax.tnil) Syntax.ttnil))))))))))))))))))))))))))
 
 abbrev pub y4 : Syntax.Ty
 y4 = Syntax.tyRef (Syntax.named 0) Syntax.imm u8
@@ -125,28 +125,29 @@ abbrev pub y12 : Syntax.Ty
 y12 = Syntax.tyRef Syntax.erased Syntax.mut u8
 
 abbrev pub y13 : Syntax.Ty
-y13 = Syntax.tyStruct (104 ∷ 101 ∷ 97 ∷ 100 ∷ 101 ∷ 114 ∷ 58 ∷ 58 ∷ 70 ∷ 117 ∷ 106 ∷ 105 ∷ 72 ∷ 101 ∷ 97 ∷ 100 ∷ 101 ∷ 114 ∷ []) (Syntax.tcons Syntax.tyBool (Syntax.tcons Syntax.tyBool (Syntax.tcons
-    u32 (Syntax.tcons u32 (Syntax.tcons u32 (Syntax.tcons u32 (Syntax.tcons u32 (Syntax.tcons u32 (Syntax.tcons u32 Syntax.tnil)))))))))
+y13 = Syntax.tyStruct (105 ∷ 109 ∷ 97 ∷ 103 ∷ 101 ∷ 95 ∷ 109 ∷ 97 ∷ 112 ∷ 58 ∷ 58 ∷ 80 ∷ 97 ∷ 114 ∷ 116 ∷ []) (Syntax.tcons u64 (Syntax.tcons u64 (Syntax.tcons u64 (Syntax.tcons u64 (Syntax.tcons u64
+    (Syntax.tcons u64 Syntax.tnil))))))
 
 abbrev pub y14 : Syntax.Ty
-y14 = Syntax.tyStruct (109 ∷ 97 ∷ 112 ∷ 58 ∷ 58 ∷ 80 ∷ 97 ∷ 114 ∷ 116 ∷ []) (Syntax.tcons u64 (Syntax.tcons u64 (Syntax.tcons u64 (Syntax.tcons u64 (Syntax.tcons u64 (Syntax.tcons u64
-    Syntax.tnil))))))
+y14 = Syntax.tyStruct (108 ∷ 105 ∷ 110 ∷ 101 ∷ 95 ∷ 116 ∷ 111 ∷ 116 ∷ 97 ∷ 108 ∷ 115 ∷ 58 ∷ 58 ∷ 84 ∷ 111 ∷ 116 ∷ 97 ∷ 108 ∷ 115 ∷ []) (Syntax.tcons u64 (Syntax.tcons u64 Syntax.tnil))
 
 abbrev pub y15 : Syntax.Ty
 y15 = Syntax.tyStruct (113 ∷ 117 ∷ 97 ∷ 110 ∷ 116 ∷ 105 ∷ 115 ∷ 101 ∷ 114 ∷ 58 ∷ 58 ∷ 81 ∷ 117 ∷ 97 ∷ 110 ∷ 116 ∷ 105 ∷ 115 ∷ 101 ∷ 114 ∷ []) (Syntax.tcons u32 (Syntax.tcons u32 (Syntax.tcons u32
     (Syntax.tcons u32 (Syntax.tcons u32 Syntax.tnil)))))
 
 abbrev pub y16 : Syntax.Ty
-y16 = Syntax.tyStruct (116 ∷ 111 ∷ 116 ∷ 97 ∷ 108 ∷ 115 ∷ 58 ∷ 58 ∷ 84 ∷ 111 ∷ 116 ∷ 97 ∷ 108 ∷ 115 ∷ []) (Syntax.tcons u64 (Syntax.tcons u64 Syntax.tnil))
+y16 = Syntax.tyStruct (114 ∷ 101 ∷ 97 ∷ 100 ∷ 95 ∷ 98 ∷ 108 ∷ 111 ∷ 99 ∷ 107 ∷ 58 ∷ 58 ∷ 70 ∷ 111 ∷ 114 ∷ 109 ∷ []) (Syntax.tcons u32 (Syntax.tcons Syntax.tyBool Syntax.tnil))
 
 abbrev pub y17 : Syntax.Ty
-y17 = Syntax.tyStruct (98 ∷ 105 ∷ 116 ∷ 115 ∷ 58 ∷ 58 ∷ 66 ∷ 105 ∷ 116 ∷ 80 ∷ 111 ∷ 115 ∷ 105 ∷ 116 ∷ 105 ∷ 111 ∷ 110 ∷ []) (Syntax.tcons u64 Syntax.tnil)
+y17 = Syntax.tyStruct (115 ∷ 116 ∷ 114 ∷ 101 ∷ 97 ∷ 109 ∷ 58 ∷ 58 ∷ 104 ∷ 101 ∷ 97 ∷ 100 ∷ 101 ∷ 114 ∷ 58 ∷ 58 ∷ 70 ∷ 117 ∷ 106 ∷ 105 ∷ 72 ∷ 101 ∷ 97 ∷ 100 ∷ 101 ∷ 114 ∷ []) (Syntax.tcons
+    Syntax.tyBool (Syntax.tcons Syntax.tyBool (Syntax.tcons u32 (Syntax.tcons u32 (Syntax.tcons u32 (Syntax.tcons u32 (Syntax.tcons u32 (Syntax.tcons u32 (Syntax.tcons u32 Syntax.tnil)))))))))
 
 abbrev pub y18 : Syntax.Ty
-y18 = Syntax.tyStruct (98 ∷ 108 ∷ 111 ∷ 99 ∷ 107 ∷ 58 ∷ 58 ∷ 70 ∷ 111 ∷ 114 ∷ 109 ∷ []) (Syntax.tcons u32 (Syntax.tcons Syntax.tyBool Syntax.tnil))
+y18 = Syntax.tyStruct (98 ∷ 105 ∷ 116 ∷ 115 ∷ 58 ∷ 58 ∷ 66 ∷ 105 ∷ 116 ∷ 80 ∷ 111 ∷ 115 ∷ 105 ∷ 116 ∷ 105 ∷ 111 ∷ 110 ∷ []) (Syntax.tcons u64 Syntax.tnil)
 
 abbrev pub y19 : Syntax.Ty
-y19 = Syntax.tyEnum (98 ∷ 108 ∷ 111 ∷ 99 ∷ 107 ∷ 58 ∷ 58 ∷ 68 ∷ 101 ∷ 99 ∷ 111 ∷ 100 ∷ 101 ∷ 100 ∷ []) (Syntax.ttcons Syntax.tnil (Syntax.ttcons (Syntax.tcons y3 Syntax.tnil) Syntax.ttnil))
+y19 = Syntax.tyEnum (114 ∷ 101 ∷ 97 ∷ 100 ∷ 95 ∷ 98 ∷ 108 ∷ 111 ∷ 99 ∷ 107 ∷ 58 ∷ 58 ∷ 68 ∷ 101 ∷ 99 ∷ 111 ∷ 100 ∷ 101 ∷ 100 ∷ []) (Syntax.ttcons Syntax.tnil (Syntax.ttcons (Syntax.tcons y3
+    Syntax.tnil) Syntax.ttnil))
 
 abbrev pub y20 : Syntax.Ty
 y20 = Syntax.tyRef Syntax.erased Syntax.imm y1
@@ -155,7 +156,8 @@ abbrev pub y21 : Syntax.Ty
 y21 = Syntax.tyRef Syntax.erased Syntax.mut y0
 
 abbrev pub y22 : Syntax.Ty
-y22 = Syntax.tyStruct (116 ∷ 111 ∷ 116 ∷ 97 ∷ 108 ∷ 115 ∷ 58 ∷ 58 ∷ 84 ∷ 105 ∷ 103 ∷ 104 ∷ 116 ∷ 76 ∷ 105 ∷ 110 ∷ 101 ∷ 115 ∷ []) (Syntax.tcons u64 (Syntax.tcons y16 Syntax.tnil))
+y22 = Syntax.tyStruct (108 ∷ 105 ∷ 110 ∷ 101 ∷ 95 ∷ 116 ∷ 111 ∷ 116 ∷ 97 ∷ 108 ∷ 115 ∷ 58 ∷ 58 ∷ 84 ∷ 105 ∷ 103 ∷ 104 ∷ 116 ∷ 76 ∷ 105 ∷ 110 ∷ 101 ∷ 115 ∷ []) (Syntax.tcons u64 (Syntax.tcons y14
+    Syntax.tnil))
 
 abbrev pub y23 : Syntax.Ty
 y23 = Syntax.tyStruct (38 ∷ 91 ∷ 93 ∷ []) (Syntax.tcons y10 (Syntax.tcons u64 Syntax.tnil))
@@ -173,7 +175,7 @@ abbrev pub y27 : Syntax.Ty
 y27 = Syntax.tyStruct (38 ∷ 91 ∷ 93 ∷ []) (Syntax.tcons y9 (Syntax.tcons u64 Syntax.tnil))
 
 abbrev pub y28 : Syntax.Ty
-y28 = Syntax.tyStruct (99 ∷ 111 ∷ 100 ∷ 101 ∷ 58 ∷ 58 ∷ 80 ∷ 108 ∷ 97 ∷ 99 ∷ 101 ∷ []) (Syntax.tcons y17 (Syntax.tcons Syntax.tyBool (Syntax.tcons u64 Syntax.tnil)))
+y28 = Syntax.tyStruct (99 ∷ 111 ∷ 100 ∷ 101 ∷ 58 ∷ 58 ∷ 80 ∷ 108 ∷ 97 ∷ 99 ∷ 101 ∷ []) (Syntax.tcons y18 (Syntax.tcons Syntax.tyBool (Syntax.tcons u64 Syntax.tnil)))
 
 abbrev pub y29 : Syntax.Ty
 y29 = Syntax.tyStruct (99 ∷ 97 ∷ 109 ∷ 101 ∷ 114 ∷ 97 ∷ 115 ∷ 58 ∷ 58 ∷ 69 ∷ 110 ∷ 116 ∷ 114 ∷ 121 ∷ []) (Syntax.tcons u32 (Syntax.tcons y15 (Syntax.tcons Syntax.tyBool (Syntax.tcons Syntax.tyBool
@@ -183,34 +185,34 @@ abbrev pub y30 : Syntax.Ty
 y30 = Syntax.tyArray y29 16
 
 abbrev pub y31 : Syntax.Ty
-y31 = Syntax.tyEnum (98 ∷ 108 ∷ 111 ∷ 99 ∷ 107 ∷ 58 ∷ 58 ∷ 87 ∷ 97 ∷ 108 ∷ 107 ∷ 101 ∷ 100 ∷ []) (Syntax.ttcons (Syntax.tcons y16 (Syntax.tcons y22 Syntax.tnil)) (Syntax.ttcons (Syntax.tcons u64
-    (Syntax.tcons y16 Syntax.tnil)) Syntax.ttnil))
+y31 = Syntax.tyEnum (114 ∷ 101 ∷ 97 ∷ 100 ∷ 95 ∷ 98 ∷ 108 ∷ 111 ∷ 99 ∷ 107 ∷ 58 ∷ 58 ∷ 87 ∷ 97 ∷ 108 ∷ 107 ∷ 101 ∷ 100 ∷ []) (Syntax.ttcons (Syntax.tcons y14 (Syntax.tcons y22 Syntax.tnil))
+    (Syntax.ttcons (Syntax.tcons u64 (Syntax.tcons y14 Syntax.tnil)) Syntax.ttnil))
 
 abbrev pub y32 : Syntax.Ty
-y32 = Syntax.tyStruct (98 ∷ 108 ∷ 111 ∷ 99 ∷ 107 ∷ 58 ∷ 58 ∷ 67 ∷ 111 ∷ 117 ∷ 110 ∷ 116 ∷ 101 ∷ 100 ∷ []) (Syntax.tcons y19 (Syntax.tcons y16 Syntax.tnil))
+y32 = Syntax.tyStruct (114 ∷ 101 ∷ 97 ∷ 100 ∷ 95 ∷ 98 ∷ 108 ∷ 111 ∷ 99 ∷ 107 ∷ 58 ∷ 58 ∷ 67 ∷ 111 ∷ 117 ∷ 110 ∷ 116 ∷ 101 ∷ 100 ∷ []) (Syntax.tcons y19 (Syntax.tcons y14 Syntax.tnil))
 
 abbrev pub y33 : Syntax.Ty
 y33 = Syntax.tyStruct (99 ∷ 97 ∷ 109 ∷ 101 ∷ 114 ∷ 97 ∷ 115 ∷ 58 ∷ 58 ∷ 69 ∷ 110 ∷ 116 ∷ 114 ∷ 105 ∷ 101 ∷ 115 ∷ []) (Syntax.tcons y30 Syntax.tnil)
 
 abbrev pub ps : List.List (Kinds.PK 4)
-ps = (ShrSlice.pShrS n8 0 tt) ∷ (Values.struct FujiHeader.the-type Laws'5.the-laws Laws'5.the-copy Laws'5.the-plain) ∷ (Num.pNum Syntax.w64) ∷ (Num.pNum Syntax.w64) ∷ (MutSlice.pMutS n8 1 tt) ∷
+ps = (ShrSlice.pShrS n8 0 tt) ∷ (Values.struct FujiHeader.the-type Laws'6.the-laws Laws'6.the-copy Laws'6.the-plain) ∷ (Num.pNum Syntax.w64) ∷ (Num.pNum Syntax.w64) ∷ (MutSlice.pMutS n8 1 tt) ∷
     (MutSlice.pMutS n16 2 tt) ∷ (MutSlice.pMutS (Element.type) 3 tt) ∷ []
 
 abbrev pub r : Kinds.RK 4
-r = Values.struct-result Counted.the-type Laws.the-laws Laws.the-copy Laws.the-plain
+r = Values.struct-result Counted.the-type Laws'3.the-laws Laws'3.the-copy Laws'3.the-plain
 
 abbrev pub xs : List.List Syntax.Ty
-xs = y18 ∷ y27 ∷ y27 ∷ y1 ∷ y0 ∷ y31 ∷ y1 ∷ Syntax.tyUnit ∷ y11 ∷ y24 ∷ y10 ∷ y23 ∷ u32 ∷ y11 ∷ y24 ∷ y10 ∷ y23 ∷ y21 ∷ y24 ∷ y20 ∷ y2 ∷ y14 ∷ y28 ∷ u64 ∷ y33 ∷ y12 ∷ y25 ∷ y8 ∷ y26 ∷ y10 ∷ y23 ∷ y11
+xs = y16 ∷ y27 ∷ y27 ∷ y1 ∷ y0 ∷ y31 ∷ y1 ∷ Syntax.tyUnit ∷ y11 ∷ y24 ∷ y10 ∷ y23 ∷ u32 ∷ y11 ∷ y24 ∷ y10 ∷ y23 ∷ y21 ∷ y24 ∷ y20 ∷ y2 ∷ y13 ∷ y28 ∷ u64 ∷ y33 ∷ y12 ∷ y25 ∷ y8 ∷ y26 ∷ y10 ∷ y23 ∷ y11
     ∷ y24 ∷ y10 ∷ y23 ∷ []
 
 abbrev pub m : Nat.ℕ
 m = 11
 
 abbrev pub ps·0 : List.List (Kinds.PK 0)
-ps·0 = (Values.struct FujiHeader.the-type Laws'5.the-laws Laws'5.the-copy Laws'5.the-plain) ∷ []
+ps·0 = (Values.struct FujiHeader.the-type Laws'6.the-laws Laws'6.the-copy Laws'6.the-plain) ∷ []
 
 abbrev pub r·0 : Kinds.RK 0
-r·0 = Values.struct-result Form.the-type Laws'.the-laws Laws'.the-copy Laws'.the-plain
+r·0 = Values.struct-result Form.the-type Laws'4.the-laws Laws'4.the-copy Laws'4.the-plain
 
 abbrev pub ps·1 : List.List (Kinds.PK 1)
 ps·1 = (ShrSlice.pShrS n8 0 tt) ∷ (Num.pNum Syntax.w64) ∷ []
@@ -252,32 +254,32 @@ abbrev pub ps·7 : List.List (Kinds.PK 0)
 ps·7 = []
 
 abbrev pub r·7 : Kinds.RK 0
-r·7 = Values.struct-result Part.the-type Laws'6.the-laws Laws'6.the-copy Laws'6.the-plain
+r·7 = Values.struct-result Part.the-type Laws''.the-laws Laws''.the-copy Laws''.the-plain
 
 abbrev pub ps·8 : List.List (Kinds.PK 0)
 ps·8 = []
 
 abbrev pub r·8 : Kinds.RK 0
-r·8 = Values.struct-result Place.the-type Laws'4.the-laws Laws'4.the-copy Laws'4.the-plain
+r·8 = Values.struct-result Place.the-type Laws'.the-laws Laws'.the-copy Laws'.the-plain
 
 abbrev pub ps·9 : List.List (Kinds.PK 0)
 ps·9 = []
 
 abbrev pub r·9 : Kinds.RK 0
-r·9 = Values.struct-result Entries.the-type Laws'3.the-laws Laws'3.the-copy Laws'3.the-plain
+r·9 = Values.struct-result Entries.the-type Laws.the-laws Laws.the-copy Laws.the-plain
 
 abbrev pub ps·10 : List.List (Kinds.PK 6)
-ps·10 = (ShrSlice.pShrS n8 0 tt) ∷ (ShrSlice.pShrS n8 1 tt) ∷ (MutSlice.pMutS n16 2 tt) ∷ (MutSlice.pMutS (Element.type) 3 tt) ∷ (MutSlice.pMutS n16 4 tt) ∷ (Values.struct Form.the-type Laws'.the-laws
-    Laws'.the-copy Laws'.the-plain) ∷ (ShrRef.pShr (Array'.Array n16 768) 5 tt) ∷ (Array.pArr (Array.eInt Syntax.w8) (Array.eInt-laws Syntax.w8) 36) ∷ (Values.struct Part.the-type Laws'6.the-laws
-    Laws'6.the-copy Laws'6.the-plain) ∷ (Num.pNum Syntax.w64) ∷ (Values.struct Place.the-type Laws'4.the-laws Laws'4.the-copy Laws'4.the-plain) ∷ (Num.pNum Syntax.w64) ∷ Bool.pBool ∷ (Values.struct
-    Entries.the-type Laws'3.the-laws Laws'3.the-copy Laws'3.the-plain) ∷ []
+ps·10 = (ShrSlice.pShrS n8 0 tt) ∷ (ShrSlice.pShrS n8 1 tt) ∷ (MutSlice.pMutS n16 2 tt) ∷ (MutSlice.pMutS (Element.type) 3 tt) ∷ (MutSlice.pMutS n16 4 tt) ∷ (Values.struct Form.the-type
+    Laws'4.the-laws Laws'4.the-copy Laws'4.the-plain) ∷ (ShrRef.pShr (Array'.Array n16 768) 5 tt) ∷ (Array.pArr (Array.eInt Syntax.w8) (Array.eInt-laws Syntax.w8) 36) ∷ (Values.struct Part.the-type
+    Laws''.the-laws Laws''.the-copy Laws''.the-plain) ∷ (Num.pNum Syntax.w64) ∷ (Values.struct Place.the-type Laws'.the-laws Laws'.the-copy Laws'.the-plain) ∷ (Num.pNum Syntax.w64) ∷ Bool.pBool ∷
+    (Values.struct Entries.the-type Laws.the-laws Laws.the-copy Laws.the-plain) ∷ []
 
 abbrev pub r·10 : Kinds.RK 6
-r·10 = Values.enum-result Walked.the-type Laws''.the-laws Laws''.the-copy Laws''.the-plain tt
+r·10 = Values.enum-result Walked.the-type Laws'5.the-laws Laws'5.the-copy Laws'5.the-plain tt
 
 abbrev pub ps·11 : List.List (Kinds.PK 4)
-ps·11 = (MutSlice.pMutS n8 0 tt) ∷ (ShrSlice.pShrS n8 1 tt) ∷ (Values.struct FujiHeader.the-type Laws'5.the-laws Laws'5.the-copy Laws'5.the-plain) ∷ (Num.pNum Syntax.w64) ∷ (Num.pNum Syntax.w64) ∷
-    (Values.enum Walked.the-type Laws''.the-laws Laws''.the-copy Laws''.the-plain tt) ∷ (ShrSlice.pShrS n16 2 tt) ∷ (MutSlice.pMutS (Element.type) 3 tt) ∷ []
+ps·11 = (MutSlice.pMutS n8 0 tt) ∷ (ShrSlice.pShrS n8 1 tt) ∷ (Values.struct FujiHeader.the-type Laws'6.the-laws Laws'6.the-copy Laws'6.the-plain) ∷ (Num.pNum Syntax.w64) ∷ (Num.pNum Syntax.w64) ∷
+    (Values.enum Walked.the-type Laws'5.the-laws Laws'5.the-copy Laws'5.the-plain tt) ∷ (ShrSlice.pShrS n16 2 tt) ∷ (MutSlice.pMutS (Element.type) 3 tt) ∷ []
 
 abbrev pub r·11 : Kinds.RK 4
 r·11 = Unit'.rUnit
@@ -289,10 +291,10 @@ abbrev pub r·12 : Kinds.RK 1
 r·12 = Unit'.rUnit
 
 abbrev pub ps·13 : List.List (Kinds.PK 0)
-ps·13 = (Num.pNum Syntax.w64) ∷ (Values.enum Walked.the-type Laws''.the-laws Laws''.the-copy Laws''.the-plain tt) ∷ []
+ps·13 = (Num.pNum Syntax.w64) ∷ (Values.enum Walked.the-type Laws'5.the-laws Laws'5.the-copy Laws'5.the-plain tt) ∷ []
 
 abbrev pub r·13 : Kinds.RK 0
-r·13 = Values.struct-result Counted.the-type Laws.the-laws Laws.the-copy Laws.the-plain
+r·13 = Values.struct-result Counted.the-type Laws'3.the-laws Laws'3.the-copy Laws'3.the-plain
 
 abbrev pub hs : List.List Syntax.Home
 hs = Syntax.valueLocal ∷ Syntax.valueLocal ∷ Syntax.valueLocal ∷ Syntax.valueLocal ∷ Syntax.valueLocal ∷ Syntax.valueLocal ∷ Syntax.valueLocal ∷ Syntax.valueLocal ∷ Syntax.valueLocal ∷
@@ -338,8 +340,8 @@ abbrev b11 : Syntax.Body
 b11 = Syntax.call "cameras::taking::base_of" ((Syntax.copy (Syntax.place 10 [])) ∷ (Syntax.int Syntax.w64 0) ∷ []) (Syntax.place 20 [])
 
 abbrev b12 : Syntax.Body
-b12 = Syntax.call "read_block::records::start_records" ((Syntax.copy (Syntax.place 19 [])) ∷ (Syntax.copy (Syntax.place 2 ((Syntax.field 2) ∷ []))) ∷ (Syntax.copy (Syntax.place 20 [])) ∷ []) (Syntax.place
-    15 [])
+b12 = Syntax.call "read_block::records::start_records" ((Syntax.copy (Syntax.place 19 [])) ∷ (Syntax.copy (Syntax.place 2 ((Syntax.field 2) ∷ []))) ∷ (Syntax.copy (Syntax.place 20 [])) ∷ [])
+    (Syntax.place 15 [])
 
 abbrev b13 : Syntax.Body
 b13 = Syntax.assign (Syntax.place 21 []) (Syntax.addrOf (Syntax.place 6 ((Syntax.field 0) ∷ (Syntax.deref u16) ∷ [])))
@@ -527,7 +529,7 @@ abbrev pub v13 : Row.Row
 v13 = Rows'.whole (Declared.row Walked.the-type)
 
 abbrev pub v14 : Row.Row
-v14 = Rows'.any-gone y18
+v14 = Rows'.any-gone y16
 
 abbrev pub v15 : Row.Row
 v15 = Rows'.any-gone y0
@@ -554,7 +556,7 @@ abbrev pub v22 : Row.Row
 v22 = Rows'.any-gone u64
 
 abbrev pub v23 : Row.Row
-v23 = Rows'.any-gone y14
+v23 = Rows'.any-gone y13
 
 abbrev pub v24 : Row.Row
 v24 = Rows'.any-gone y28
@@ -566,7 +568,7 @@ abbrev pub v26 : Row.Row
 v26 = Rows'.any-gone y2
 
 abbrev pub v27 : Row.Row
-v27 = Rows'.any-gone y13
+v27 = Rows'.any-gone y17
 
 abbrev pub v28 : Row.Row
 v28 = Rows.arrF n16 768 0
@@ -1171,7 +1173,7 @@ module _ (claims· : Claims) where
   s2 = λ bs. Know.k-sl-known (Referent.fInt Syntax.w16) T0 6 2 y6 Row.off 0 λ x. x
 
   abbrev s3 : (bs : List.List Nat.ℕ) → Typed.Both T0 T5
-  s3 = λ bs. Call.callB ps·0 r·0 (claims· .0) (claims· .1) T0 (record { pos = 2; st = []; d = 0; at = λ x. x }, tt) 8 [] y18
+  s3 = λ bs. Call.callB ps·0 r·0 (claims· .0) (claims· .1) T0 (record { pos = 2; st = []; d = 0; at = λ x. x }, tt) 8 [] y16
 
   abbrev s4 : (bs : List.List Nat.ℕ) → Typed.Both T5 T6
   s4 = λ bs. Call.callB ps·1 r·1 (claims· .2) (claims· .3) T5 (record { pos = 1; ty = y4; ref = λ x. x }, (Num.vAt 3 λ x. x, tt)) 9 (0 ∷ []) y27
@@ -1262,7 +1264,7 @@ module _ (claims· : Claims) where
   s42 = λ bs. AtSlots.n-as-by T43 28 (Rows.arrF n8 36 0) λ x. x
 
   abbrev s43 : (bs : List.List Nat.ℕ) → Typed.Both T44 T45
-  s43 = λ bs. Call.callB ps·7 r·7 (claims· .14) (claims· .15) T44 tt 29 [] y14
+  s43 = λ bs. Call.callB ps·7 r·7 (claims· .14) (claims· .15) T44 tt 29 [] y13
 
   abbrev s44 : (bs : List.List Nat.ℕ) → Typed.Both T45 T46
   s44 = λ bs. Call.callB ps·8 r·8 (claims· .16) (claims· .17) T45 tt 30 [] y28
@@ -1315,13 +1317,13 @@ module _ (claims· : Claims) where
   s50 = λ bs. Scalar.n-room T51 27 y20
 
   abbrev s51 : (bs : List.List Nat.ℕ) → Typed.Mo T52 → Typed.Mo T53
-  s51 = λ bs. Scalar.n-room T52 8 y18
+  s51 = λ bs. Scalar.n-room T52 8 y16
 
   abbrev s52 : (bs : List.List Nat.ℕ) → Typed.Mo T53 → Typed.Mo T54
   s52 = λ bs. Scalar.n-room T53 28 y2
 
   abbrev s53 : (bs : List.List Nat.ℕ) → Typed.Mo T54 → Typed.Mo T55
-  s53 = λ bs. Scalar.n-room T54 29 y14
+  s53 = λ bs. Scalar.n-room T54 29 y13
 
   abbrev s54 : (bs : List.List Nat.ℕ) → Typed.Mo T55 → Typed.Mo T56
   s54 = λ bs. Scalar.n-room T55 30 y28
@@ -1388,7 +1390,7 @@ module _ (claims· : Claims) where
   s82 = λ bs. Scalar.n-room T83 36 y26
 
   abbrev s83 : (bs : List.List Nat.ℕ) → Typed.Mo T84 → Typed.Mo T85
-  s83 = λ bs. Scalar.n-room T84 2 y13
+  s83 = λ bs. Scalar.n-room T84 2 y17
 
   abbrev s84 : (bs : List.List Nat.ℕ) → Typed.Mo T85 → Typed.Mo T86
   s84 = λ bs. Scalar.n-room T85 15 Syntax.tyUnit
@@ -1455,13 +1457,13 @@ module _ (claims· : Claims) where
       abbrev pub Closed : Type 2
       Closed = (𝓤 : URA.URA M) (H : Wp.Heap 𝓤) (A : Atoms.Atoms 𝓤) (W : Kit.Given 𝓤 H A) (𝓣 : Wp.Tables 𝓤 H) (known0 : Plain.Known 𝓤 H A W 𝓣 0 ps·0 r·0 (claims· .0) (claims· .1) "read_block::form_of")
           (known1 : Plain.Known 𝓤 H A W 𝓣 1 ps·1 r·1 (claims· .2) (claims· .3) "stream::block_bytes") (known2 : Plain.Known 𝓤 H A W 𝓣 1 ps·2 r·2 (claims· .4) (claims· .5) "stream::base_row") (known3 :
-          Plain.Known 𝓤 H A W 𝓣 0 ps·3 r·3 (claims· .6) (claims· .7) "image_map::xtrans_places") (known4 : Plain.Known 𝓤 H A W 𝓣 1 ps·4 r·4 (claims· .8) (claims· .9) "colour_lines::clear") (known5 : Plain.Known 𝓤 H A
-          W 𝓣 1 ps·5 r·5 (claims· .10) (claims· .11) "cameras::taking::base_of") (known6 : Plain.Known 𝓤 H A W 𝓣 1 ps·6 r·6 (claims· .12) (claims· .13) "read_block::records::start_records") (known7 : Plain.Known 𝓤 H A
-          W 𝓣 0 ps·7 r·7 (claims· .14) (claims· .15) "read_block::tight::no_part") (known8 : Plain.Known 𝓤 H A W 𝓣 0 ps·8 r·8 (claims· .16) (claims· .17) "read_block::reading::start_place") (known9 : Plain.Known 𝓤
-          H A W 𝓣 0 ps·9 r·9 (claims· .18) (claims· .19) "cameras::no_entries") (known10 : Plain.Known 𝓤 H A W 𝓣 6 ps·10 r·10 (claims· .20) (claims· .21) "read_block::reading::read_lines") (known11 :
-          Plain.Known 𝓤 H A W 𝓣 4 ps·11 r·11 (claims· .22) (claims· .23) "saved_state::blocks::put_walked") (known12 : Plain.Known 𝓤 H A W 𝓣 1 ps·12 r·12 (claims· .24) (claims· .25)
-          "read_block::records::clear_records") (known13 : Plain.Known 𝓤 H A W 𝓣 0 ps·13 r·13 (claims· .26) (claims· .27) "read_block::tight::read_answer") → Statement.Triple 𝓤 (Wp.WpFn 𝓤 H (𝓣 .C) (𝓣 .Λ)
-          (Function.fnOf 4 ps r xs m hs body)) (Function.plainOf 𝓤 H A 4 ps r Pre· Post·)
+          Plain.Known 𝓤 H A W 𝓣 0 ps·3 r·3 (claims· .6) (claims· .7) "image_map::xtrans_places") (known4 : Plain.Known 𝓤 H A W 𝓣 1 ps·4 r·4 (claims· .8) (claims· .9) "colour_lines::clear") (known5 :
+          Plain.Known 𝓤 H A W 𝓣 1 ps·5 r·5 (claims· .10) (claims· .11) "cameras::taking::base_of") (known6 : Plain.Known 𝓤 H A W 𝓣 1 ps·6 r·6 (claims· .12) (claims· .13)
+          "read_block::records::start_records") (known7 : Plain.Known 𝓤 H A W 𝓣 0 ps·7 r·7 (claims· .14) (claims· .15) "read_block::tight::no_part") (known8 : Plain.Known 𝓤 H A W 𝓣 0 ps·8 r·8 (claims·
+          .16) (claims· .17) "read_block::reading::start_place") (known9 : Plain.Known 𝓤 H A W 𝓣 0 ps·9 r·9 (claims· .18) (claims· .19) "cameras::no_entries") (known10 : Plain.Known 𝓤 H A W 𝓣 6 ps·10 r·10
+          (claims· .20) (claims· .21) "read_block::reading::read_lines") (known11 : Plain.Known 𝓤 H A W 𝓣 4 ps·11 r·11 (claims· .22) (claims· .23) "saved_state::blocks::put_walked") (known12 : Plain.Known
+          𝓤 H A W 𝓣 1 ps·12 r·12 (claims· .24) (claims· .25) "read_block::records::clear_records") (known13 : Plain.Known 𝓤 H A W 𝓣 0 ps·13 r·13 (claims· .26) (claims· .27)
+          "read_block::tight::read_answer") → Statement.Triple 𝓤 (Wp.WpFn 𝓤 H (𝓣 .C) (𝓣 .Λ) (Function.fnOf 4 ps r xs m hs body)) (Function.plainOf 𝓤 H A 4 ps r Pre· Post·)
 
     module _ where
       abbrev at0 : (bs : List.List Nat.ℕ) → Typed.TF T1 O0
@@ -1721,13 +1723,13 @@ module _ (claims· : Claims) where
 
       module _ {M : Type 1} (𝓤 : URA.URA M) (H : Wp.Heap 𝓤) (A : Atoms.Atoms 𝓤) (W : Kit.Given 𝓤 H A) (𝓣 : Wp.Tables 𝓤 H) where
         abbrev Knowns : Type 1
-        Knowns = Plain.Known 𝓤 H A W 𝓣 0 ps·0 r·0 (claims· .0) (claims· .1) "read_block::form_of" × Plain.Known 𝓤 H A W 𝓣 1 ps·1 r·1 (claims· .2) (claims· .3) "stream::block_bytes" × Plain.Known 𝓤 H A W 𝓣
-            1 ps·2 r·2 (claims· .4) (claims· .5) "stream::base_row" × Plain.Known 𝓤 H A W 𝓣 0 ps·3 r·3 (claims· .6) (claims· .7) "image_map::xtrans_places" × Plain.Known 𝓤 H A W 𝓣 1 ps·4 r·4 (claims· .8)
-            (claims· .9) "colour_lines::clear" × Plain.Known 𝓤 H A W 𝓣 1 ps·5 r·5 (claims· .10) (claims· .11) "cameras::taking::base_of" × Plain.Known 𝓤 H A W 𝓣 1 ps·6 r·6 (claims· .12) (claims· .13)
+        Knowns = Plain.Known 𝓤 H A W 𝓣 0 ps·0 r·0 (claims· .0) (claims· .1) "read_block::form_of" × Plain.Known 𝓤 H A W 𝓣 1 ps·1 r·1 (claims· .2) (claims· .3) "stream::block_bytes" × Plain.Known 𝓤 H A
+            W 𝓣 1 ps·2 r·2 (claims· .4) (claims· .5) "stream::base_row" × Plain.Known 𝓤 H A W 𝓣 0 ps·3 r·3 (claims· .6) (claims· .7) "image_map::xtrans_places" × Plain.Known 𝓤 H A W 𝓣 1 ps·4 r·4 (claims·
+            .8) (claims· .9) "colour_lines::clear" × Plain.Known 𝓤 H A W 𝓣 1 ps·5 r·5 (claims· .10) (claims· .11) "cameras::taking::base_of" × Plain.Known 𝓤 H A W 𝓣 1 ps·6 r·6 (claims· .12) (claims· .13)
             "read_block::records::start_records" × Plain.Known 𝓤 H A W 𝓣 0 ps·7 r·7 (claims· .14) (claims· .15) "read_block::tight::no_part" × Plain.Known 𝓤 H A W 𝓣 0 ps·8 r·8 (claims· .16) (claims· .17)
             "read_block::reading::start_place" × Plain.Known 𝓤 H A W 𝓣 0 ps·9 r·9 (claims· .18) (claims· .19) "cameras::no_entries" × Plain.Known 𝓤 H A W 𝓣 6 ps·10 r·10 (claims· .20) (claims· .21)
-            "read_block::reading::read_lines" × Plain.Known 𝓤 H A W 𝓣 4 ps·11 r·11 (claims· .22) (claims· .23) "saved_state::blocks::put_walked" × Plain.Known 𝓤 H A W 𝓣 1 ps·12 r·12 (claims· .24) (claims· .25)
-            "read_block::records::clear_records" × Plain.Known 𝓤 H A W 𝓣 0 ps·13 r·13 (claims· .26) (claims· .27) "read_block::tight::read_answer"
+            "read_block::reading::read_lines" × Plain.Known 𝓤 H A W 𝓣 4 ps·11 r·11 (claims· .22) (claims· .23) "saved_state::blocks::put_walked" × Plain.Known 𝓤 H A W 𝓣 1 ps·12 r·12 (claims· .24) (claims·
+            .25) "read_block::records::clear_records" × Plain.Known 𝓤 H A W 𝓣 0 ps·13 r·13 (claims· .26) (claims· .27) "read_block::tight::read_answer"
 
       module _ (κs : Lifetimes.Lfts 4) (qs : Lifetimes.Shares 4) where
         abbrev k0 : Row.Life
@@ -2238,7 +2240,7 @@ module _ (claims· : Claims) where
           d4 : Typed.Typed 𝓤 H A 𝓣 E (on T95 l18) b41 Δ0 (at4 bs)
           d4 = Typed.s-seq 𝓤 H A W 𝓣 E (on T95 l18) (on T114 l18) b39 b40 Δ0 (Typed.both (s112 bs)) (at3 bs) (Plain.t-call-plain 𝓤 H A W 𝓣 0 ps·13 r·13 (claims· .26) (claims· .27)
               "read_block::tight::read_answer" (known .13) E (λ pos β. β) (on T95 l18) (Num.vAt 3 λ x. x, (record { pos = 13; st = []; d = 0; at = λ x. x }, tt)) 0 [] (Call.sub-id 𝓤 H A W ((on T95 l18)
-              .slots)) ((Scalar.reads-sc 𝓤 H A W (Row.sInt Syntax.w64), Path'.refl), ((Values.enum-copied 𝓤 H A W Walked.the-type Laws''.the-laws Laws''.the-copy, Path'.refl), tt)) (Reads'.room-gone 𝓤 H A
+              .slots)) ((Scalar.reads-sc 𝓤 H A W (Row.sInt Syntax.w64), Path'.refl), ((Values.enum-copied 𝓤 H A W Walked.the-type Laws'5.the-laws Laws'5.the-copy, Path'.refl), tt)) (Reads'.room-gone 𝓤 H A
               y32) tt Path'.refl) d3
 
           d5 : Typed.Typed 𝓤 H A 𝓣 E G112 b41 Δ0 (at4 bs)
@@ -2291,8 +2293,8 @@ module _ (claims· : Claims) where
           d17 = Typed.g-pre 𝓤 H A W 𝓣 E G100 G101 b44 Δ0 (Typed.pass T100 T101 (s99 bs)) (at15 bs) (Scalar.g-room 𝓤 H A W E G100 15 Syntax.tyUnit (Scalar.room-sc 𝓤 H A W Row.sUnit)) d16
 
           d18 : Typed.Typed 𝓤 H A 𝓣 E G99 (Syntax.seq b35 b44) Δ0 (at18 bs)
-          d18 = Typed.s-seq 𝓤 H A W 𝓣 E G99 G100 b35 b44 Δ0 (Typed.both (s98 bs)) (at17 bs) (Plain.t-call-plain 𝓤 H A W 𝓣 1 ps·4 r·4 (claims· .8) (claims· .9) "colour_lines::clear" (known .4) E (λ pos β. β)
-              G99 (record { pos = 40; ty = y11; ref = λ x. x }, tt) 15 (13 ∷ []) (Call.sub-id 𝓤 H A W (G99 .slots))
+          d18 = Typed.s-seq 𝓤 H A W 𝓣 E G99 G100 b35 b44 Δ0 (Typed.both (s98 bs)) (at17 bs) (Plain.t-call-plain 𝓤 H A W 𝓣 1 ps·4 r·4 (claims· .8) (claims· .9) "colour_lines::clear" (known .4) E (λ pos
+              β. β) G99 (record { pos = 40; ty = y11; ref = λ x. x }, tt) 15 (13 ∷ []) (Call.sub-id 𝓤 H A W (G99 .slots))
               (Reads'.as-is 𝓤 H A (Mut.mslice n16 y11 13), Mut.reads-mslice 𝓤 H A W n16 y11 13, Path'.refl, tt) (Reads'.room-gone 𝓤 H A Syntax.tyUnit) (tt, tt) Path'.refl) d17
 
           d19 : Typed.Typed 𝓤 H A 𝓣 E G98 (Syntax.seq b34 (Syntax.seq b35 b44)) Δ0 (at19 bs)
@@ -2347,15 +2349,15 @@ module _ (claims· : Claims) where
           d32 = Typed.g-pre 𝓤 H A W 𝓣 E G85 G86 b47 Δ0 (Typed.pass T85 T86 (s84 bs)) (at30 bs) (Scalar.g-room 𝓤 H A W E G85 15 Syntax.tyUnit (Scalar.room-sc 𝓤 H A W Row.sUnit)) d31
 
           d33 : Typed.Typed 𝓤 H A 𝓣 E G84 b47 Δ0 (at33 bs)
-          d33 = Typed.g-pre 𝓤 H A W 𝓣 E G84 G85 b47 Δ0 (Typed.pass T84 T85 (s83 bs)) (at32 bs) (Scalar.g-room 𝓤 H A W E G84 2 y13 (Local.room-whole 𝓤 H A W (Declared'.row FujiHeader.the-type) y13
+          d33 = Typed.g-pre 𝓤 H A W 𝓣 E G84 G85 b47 Δ0 (Typed.pass T84 T85 (s83 bs)) (at32 bs) (Scalar.g-room 𝓤 H A W E G84 2 y17 (Local.room-whole 𝓤 H A W (Declared'.row FujiHeader.the-type) y17
               Path'.refl)) d32
 
           d34 : Typed.Typed 𝓤 H A 𝓣 E G83 b47 Δ0 (at34 bs)
           d34 = Typed.g-pre 𝓤 H A W 𝓣 E G83 G84 b47 Δ0 (Typed.pass T83 T84 (s82 bs)) (at33 bs) (Scalar.g-room 𝓤 H A W E G83 36 y26 (Shared.room-sslice 𝓤 H A W n16 y8 11)) d33
 
           d35 : Typed.Typed 𝓤 H A 𝓣 E G82 (Syntax.seq b32 b47) Δ0 (at35 bs)
-          d35 = Typed.s-seq 𝓤 H A W 𝓣 E G82 G83 b32 b47 Δ0 (Typed.both (s81 bs)) (at34 bs) (Plain.t-call-plain 𝓤 H A W 𝓣 4 ps·11 r·11 (claims· .22) (claims· .23) "saved_state::blocks::put_walked" (known .11)
-              E (λ pos β. β) G82 (
+          d35 = Typed.s-seq 𝓤 H A W 𝓣 E G82 G83 b32 b47 Δ0 (Typed.both (s81 bs)) (at34 bs) (Plain.t-call-plain 𝓤 H A W 𝓣 4 ps·11 r·11 (claims· .22) (claims· .23) "saved_state::blocks::put_walked"
+              (known .11) E (λ pos β. β) G82 (
                 record { pos = 34; ty = y12; ref = λ x. x },
                 (
                   record { pos = 1; ty = y4; ref = λ x. x },
@@ -2377,13 +2379,13 @@ module _ (claims· : Claims) where
                   Shared.reads-sslice 𝓤 H A W n8 y4 0,
                   Path'.refl,
                   (
-                    (Values.struct-copied 𝓤 H A W FujiHeader.the-type Laws'5.the-laws Laws'5.the-copy, Path'.refl),
+                    (Values.struct-copied 𝓤 H A W FujiHeader.the-type Laws'6.the-laws Laws'6.the-copy, Path'.refl),
                     (
                       (Scalar.reads-sc 𝓤 H A W (Row.sInt Syntax.w64), Path'.refl),
                       (
                         (Scalar.reads-sc 𝓤 H A W (Row.sInt Syntax.w64), Path'.refl),
                         (
-                          (Values.enum-copied 𝓤 H A W Walked.the-type Laws''.the-laws Laws''.the-copy, Path'.refl),
+                          (Values.enum-copied 𝓤 H A W Walked.the-type Laws'5.the-laws Laws'5.the-copy, Path'.refl),
                           (
                             ShrSlice.spares-sslice 𝓤 H A W n16 y8 11,
                             Shared.reads-sslice 𝓤 H A W n16 y8 11,
@@ -2505,14 +2507,14 @@ module _ (claims· : Claims) where
               Path'.refl)) d61
 
           d63 : Typed.Typed 𝓤 H A 𝓣 E G54 b54 Δ0 (at63 bs)
-          d63 = Typed.g-pre 𝓤 H A W 𝓣 E G54 G55 b54 Δ0 (Typed.pass T54 T55 (s53 bs)) (at62 bs) (Scalar.g-room 𝓤 H A W E G54 29 y14 (Local.room-whole 𝓤 H A W (Declared'.row Part.the-type) y14
+          d63 = Typed.g-pre 𝓤 H A W 𝓣 E G54 G55 b54 Δ0 (Typed.pass T54 T55 (s53 bs)) (at62 bs) (Scalar.g-room 𝓤 H A W E G54 29 y13 (Local.room-whole 𝓤 H A W (Declared'.row Part.the-type) y13
               Path'.refl)) d62
 
           d64 : Typed.Typed 𝓤 H A 𝓣 E G53 b54 Δ0 (at64 bs)
           d64 = Typed.g-pre 𝓤 H A W 𝓣 E G53 G54 b54 Δ0 (Typed.pass T53 T54 (s52 bs)) (at63 bs) (Scalar.g-room 𝓤 H A W E G53 28 y2 (Init.room-arr 𝓤 H A W n8 36 0 36 Path'.refl)) d63
 
           d65 : Typed.Typed 𝓤 H A 𝓣 E G52 b54 Δ0 (at65 bs)
-          d65 = Typed.g-pre 𝓤 H A W 𝓣 E G52 G53 b54 Δ0 (Typed.pass T52 T53 (s51 bs)) (at64 bs) (Scalar.g-room 𝓤 H A W E G52 8 y18 (Local.room-whole 𝓤 H A W (Declared'.row Form.the-type) y18
+          d65 = Typed.g-pre 𝓤 H A W 𝓣 E G52 G53 b54 Δ0 (Typed.pass T52 T53 (s51 bs)) (at64 bs) (Scalar.g-room 𝓤 H A W E G52 8 y16 (Local.room-whole 𝓤 H A W (Declared'.row Form.the-type) y16
               Path'.refl)) d64
 
           d66 : Typed.Typed 𝓤 H A 𝓣 E G51 b54 Δ0 (at66 bs)
@@ -2526,8 +2528,8 @@ module _ (claims· : Claims) where
           d68 = Typed.g-pre 𝓤 H A W 𝓣 E G49 G50 b54 Δ0 (Typed.pass T49 T50 (s48 bs)) (at67 bs) (Scalar.g-room 𝓤 H A W E G49 9 y27 (Shared.room-sslice 𝓤 H A W n8 y9 0)) d67
 
           d69 : Typed.Typed 𝓤 H A 𝓣 E G48 (Syntax.seq b25 b54) Δ0 (at69 bs)
-          d69 = Typed.s-seq 𝓤 H A W 𝓣 E G48 G49 b25 b54 Δ0 (Typed.both (s47 bs)) (at68 bs) (Plain.t-call-plain 𝓤 H A W 𝓣 6 ps·10 r·10 (claims· .20) (claims· .21) "read_block::reading::read_lines" (known
-              .10) E (λ pos β. β) G48 (
+          d69 = Typed.s-seq 𝓤 H A W 𝓣 E G48 G49 b25 b54 Δ0 (Typed.both (s47 bs)) (at68 bs) (Plain.t-call-plain 𝓤 H A W 𝓣 6 ps·10 r·10 (claims· .20) (claims· .21) "read_block::reading::read_lines"
+              (known .10) E (λ pos β. β) G48 (
                 record { pos = 9; ty = y9; ref = λ x. x },
                 (
                   record { pos = 10; ty = y9; ref = λ x. x },
@@ -2576,7 +2578,7 @@ module _ (claims· : Claims) where
                         Mut.reads-mslice 𝓤 H A W n16 y11 8,
                         Path'.refl,
                         (
-                          (Values.struct-copied 𝓤 H A W Form.the-type Laws'.the-laws Laws'.the-copy, Path'.refl),
+                          (Values.struct-copied 𝓤 H A W Form.the-type Laws'4.the-laws Laws'4.the-copy, Path'.refl),
                           (
                             ShrRef.spares-sref 𝓤 H A W (Array'.Array n16 768) y20 9,
                             Reads'.reads-sref 𝓤 H A W (Array'.Array n16 768) y20 9,
@@ -2584,12 +2586,12 @@ module _ (claims· : Claims) where
                             (
                               (Array.arr-yields 𝓤 H A W (Array.eInt Syntax.w8) (Array.eInt-laws Syntax.w8) 36, Path'.refl),
                               (
-                                (Values.struct-copied 𝓤 H A W Part.the-type Laws'6.the-laws Laws'6.the-copy, Path'.refl),
+                                (Values.struct-copied 𝓤 H A W Part.the-type Laws''.the-laws Laws''.the-copy, Path'.refl),
                                 (
                                   tt,
                                   (
-                                    (Values.struct-copied 𝓤 H A W Place.the-type Laws'4.the-laws Laws'4.the-copy, Path'.refl),
-                                    ((Scalar.reads-sc 𝓤 H A W (Row.sInt Syntax.w64), Path'.refl), (tt, ((Values.struct-copied 𝓤 H A W Entries.the-type Laws'3.the-laws Laws'3.the-copy, Path'.refl), tt))),
+                                    (Values.struct-copied 𝓤 H A W Place.the-type Laws'.the-laws Laws'.the-copy, Path'.refl),
+                                    ((Scalar.reads-sc 𝓤 H A W (Row.sInt Syntax.w64), Path'.refl), (tt, ((Values.struct-copied 𝓤 H A W Entries.the-type Laws.the-laws Laws.the-copy, Path'.refl), tt))),
                                   ),
                                 ),
                               ),
@@ -2613,12 +2615,12 @@ module _ (claims· : Claims) where
               (Scalar.reads-sc 𝓤 H A W (Row.sInt Syntax.w64), Path'.refl) tt (Reads'.room-gone 𝓤 H A u64) (Scalar.holds-sc 𝓤 H A W (Row.sInt Syntax.w64)) Path'.refl (λ u. Path'.refl) λ u. tt) d70
 
           d72 : Typed.Typed 𝓤 H A 𝓣 E G45 (Syntax.seq b22 b57) Δ0 (at72 bs)
-          d72 = Typed.s-seq 𝓤 H A W 𝓣 E G45 G46 b22 b57 Δ0 (Typed.both (s44 bs)) (at71 bs) (Plain.t-call-plain 𝓤 H A W 𝓣 0 ps·8 r·8 (claims· .16) (claims· .17) "read_block::reading::start_place" (known .8)
-              E (λ pos β. β) G45 tt 30 [] (Call.sub-id 𝓤 H A W (G45 .slots)) tt (Reads'.room-gone 𝓤 H A y28) tt Path'.refl) d71
+          d72 = Typed.s-seq 𝓤 H A W 𝓣 E G45 G46 b22 b57 Δ0 (Typed.both (s44 bs)) (at71 bs) (Plain.t-call-plain 𝓤 H A W 𝓣 0 ps·8 r·8 (claims· .16) (claims· .17) "read_block::reading::start_place"
+              (known .8) E (λ pos β. β) G45 tt 30 [] (Call.sub-id 𝓤 H A W (G45 .slots)) tt (Reads'.room-gone 𝓤 H A y28) tt Path'.refl) d71
 
           d73 : Typed.Typed 𝓤 H A 𝓣 E G44 (Syntax.seq b21 (Syntax.seq b22 b57)) Δ0 (at73 bs)
-          d73 = Typed.s-seq 𝓤 H A W 𝓣 E G44 G45 b21 (Syntax.seq b22 b57) Δ0 (Typed.both (s43 bs)) (at72 bs) (Plain.t-call-plain 𝓤 H A W 𝓣 0 ps·7 r·7 (claims· .14) (claims· .15) "read_block::tight::no_part"
-              (known .7) E (λ pos β. β) G44 tt 29 [] (Call.sub-id 𝓤 H A W (G44 .slots)) tt (Reads'.room-gone 𝓤 H A y14) tt Path'.refl) d72
+          d73 = Typed.s-seq 𝓤 H A W 𝓣 E G44 G45 b21 (Syntax.seq b22 b57) Δ0 (Typed.both (s43 bs)) (at72 bs) (Plain.t-call-plain 𝓤 H A W 𝓣 0 ps·7 r·7 (claims· .14) (claims· .15)
+              "read_block::tight::no_part" (known .7) E (λ pos β. β) G44 tt 29 [] (Call.sub-id 𝓤 H A W (G44 .slots)) tt (Reads'.room-gone 𝓤 H A y13) tt Path'.refl) d72
 
           d74 : Typed.Typed 𝓤 H A 𝓣 E G43 (Syntax.seq b21 (Syntax.seq b22 b57)) Δ0 (at74 bs)
           d74 = Typed.g-pre 𝓤 H A W 𝓣 E G43 G44 (Syntax.seq b21 (Syntax.seq b22 b57)) Δ0 (Typed.pass T43 T44 (s42 bs)) (at73 bs) (AtSlots.g-as-by 𝓤 H A W E (λ ρ. Unit) G43 28 (Rows.arrF n8 36 0) (λ x.
@@ -2696,19 +2698,19 @@ module _ (claims· : Claims) where
           d91 = Typed.g-pre 𝓤 H A W 𝓣 E G26 G27 b67 Δ0 (Typed.pass T26 T27 (s25 bs)) (at90 bs) (Scalar.g-room 𝓤 H A W E G26 15 Syntax.tyUnit (Scalar.room-sc 𝓤 H A W Row.sUnit)) d90
 
           d92 : Typed.Typed 𝓤 H A 𝓣 E G25 (Syntax.seq b12 b67) Δ0 (at92 bs)
-          d92 = Typed.s-seq 𝓤 H A W 𝓣 E G25 G26 b12 b67 Δ0 (Typed.both (s24 bs)) (at91 bs) (Plain.t-call-plain 𝓤 H A W 𝓣 1 ps·6 r·6 (claims· .12) (claims· .13) "read_block::records::start_records" (known
-              .6) E (λ pos β. β) G25 (record { pos = 19; ty = y10; ref = λ x. x }, (Num.vFld 2 ((Syntax.field 2) ∷ []) 4 λ x. FujiHeader.struct .as-values x .1 .1 .0, (Num.vAt 20 λ x. x, tt))) 15 (5 ∷
-              []) (Call.sub-id 𝓤 H A W (G25 .slots)) (
+          d92 = Typed.s-seq 𝓤 H A W 𝓣 E G25 G26 b12 b67 Δ0 (Typed.both (s24 bs)) (at91 bs) (Plain.t-call-plain 𝓤 H A W 𝓣 1 ps·6 r·6 (claims· .12) (claims· .13) "read_block::records::start_records"
+              (known .6) E (λ pos β. β) G25 (record { pos = 19; ty = y10; ref = λ x. x }, (Num.vFld 2 ((Syntax.field 2) ∷ []) 4 λ x. FujiHeader.struct .as-values x .1 .1 .0, (Num.vAt 20 λ x. x, tt))) 15
+              (5 ∷ []) (Call.sub-id 𝓤 H A W (G25 .slots)) (
                 Reads'.as-is 𝓤 H A (Mut.mslice (Element.type) y10 5),
                 Mut.reads-mslice 𝓤 H A W (Element.type) y10 5,
                 Path'.refl,
-                ((Reads.reads-field 𝓤 H A W FujiHeader.the-type Laws'5.the-laws 2 u32 4 Path'.refl, Path'.refl), ((Scalar.reads-sc 𝓤 H A W (Row.sInt Syntax.w32), Path'.refl), tt)),
+                ((Reads.reads-field 𝓤 H A W FujiHeader.the-type Laws'6.the-laws 2 u32 4 Path'.refl, Path'.refl), ((Scalar.reads-sc 𝓤 H A W (Row.sInt Syntax.w32), Path'.refl), tt)),
               ) (Reads'.room-gone 𝓤 H A
               Syntax.tyUnit) (tt, tt) Path'.refl) d91
 
           d93 : Typed.Typed 𝓤 H A 𝓣 E G24 (Syntax.seq b11 (Syntax.seq b12 b67)) Δ0 (at93 bs)
-          d93 = Typed.s-seq 𝓤 H A W 𝓣 E G24 G25 b11 (Syntax.seq b12 b67) Δ0 (Typed.both (s23 bs)) (at92 bs) (Plain.t-call-plain 𝓤 H A W 𝓣 1 ps·5 r·5 (claims· .10) (claims· .11) "cameras::taking::base_of"
-              (known .5) E (λ pos β. β) G24 (record { pos = 10; ty = y9; ref = λ x. x }, (Num.vLit 0, tt)) 20 (0 ∷ []) (Call.sub-id 𝓤 H A W (G24 .slots))
+          d93 = Typed.s-seq 𝓤 H A W 𝓣 E G24 G25 b11 (Syntax.seq b12 b67) Δ0 (Typed.both (s23 bs)) (at92 bs) (Plain.t-call-plain 𝓤 H A W 𝓣 1 ps·5 r·5 (claims· .10) (claims· .11)
+              "cameras::taking::base_of" (known .5) E (λ pos β. β) G24 (record { pos = 10; ty = y9; ref = λ x. x }, (Num.vLit 0, tt)) 20 (0 ∷ []) (Call.sub-id 𝓤 H A W (G24 .slots))
               (ShrSlice.spares-sslice 𝓤 H A W n8 y9 0, Shared.reads-sslice 𝓤 H A W n8 y9 0, Path'.refl, (tt, tt)) (Reads'.room-gone 𝓤 H A u32) (tt, tt) Path'.refl) d92
 
           d94 : Typed.Typed 𝓤 H A 𝓣 E G23 b70 Δ0 (at94 bs)
@@ -2743,8 +2745,8 @@ module _ (claims· : Claims) where
           d101 = Typed.g-pre 𝓤 H A W 𝓣 E G16 G17 b71 Δ0 (Typed.pass T16 T17 (s15 bs)) (at99 bs) (Scalar.g-room 𝓤 H A W E G16 15 Syntax.tyUnit (Scalar.room-sc 𝓤 H A W Row.sUnit)) d100
 
           d102 : Typed.Typed 𝓤 H A 𝓣 E G15 (Syntax.seq b8 b71) Δ0 (at102 bs)
-          d102 = Typed.s-seq 𝓤 H A W 𝓣 E G15 G16 b8 b71 Δ0 (Typed.both (s14 bs)) (at101 bs) (Plain.t-call-plain 𝓤 H A W 𝓣 1 ps·4 r·4 (claims· .8) (claims· .9) "colour_lines::clear" (known .4) E (λ pos β. β)
-              G15 (record { pos = 17; ty = y11; ref = λ x. x }, tt) 15 (4 ∷ []) (Call.sub-id 𝓤 H A W (G15 .slots))
+          d102 = Typed.s-seq 𝓤 H A W 𝓣 E G15 G16 b8 b71 Δ0 (Typed.both (s14 bs)) (at101 bs) (Plain.t-call-plain 𝓤 H A W 𝓣 1 ps·4 r·4 (claims· .8) (claims· .9) "colour_lines::clear" (known .4) E (λ pos
+              β. β) G15 (record { pos = 17; ty = y11; ref = λ x. x }, tt) 15 (4 ∷ []) (Call.sub-id 𝓤 H A W (G15 .slots))
               (Reads'.as-is 𝓤 H A (Mut.mslice n16 y11 4), Mut.reads-mslice 𝓤 H A W n16 y11 4, Path'.refl, tt) (Reads'.room-gone 𝓤 H A Syntax.tyUnit) (tt, tt) Path'.refl) d101
 
           d103 : Typed.Typed 𝓤 H A 𝓣 E G14 (Syntax.seq b7 (Syntax.seq b8 b71)) Δ0 (at103 bs)
@@ -2801,7 +2803,7 @@ module _ (claims· : Claims) where
           d113 : Typed.Typed 𝓤 H A 𝓣 E (on T0 l18) b80 Δ0 (at113 bs)
           d113 = Typed.s-seq 𝓤 H A W 𝓣 E (on T0 l18) (on T5 l18) b0 (Syntax.seq b1 (Syntax.seq b2 b77)) Δ0 (Typed.both (s3 bs)) (at112 bs) (Plain.t-call-plain 𝓤 H A W 𝓣 0 ps·0 r·0 (claims· .0)
               (claims· .1) "read_block::form_of" (known .0) E (λ pos β. β) (on T0 l18) (record { pos = 2; st = []; d = 0; at = λ x. x }, tt) 8 [] (Call.sub-id 𝓤 H A W ((on T0 l18) .slots))
-              ((Values.struct-copied 𝓤 H A W FujiHeader.the-type Laws'5.the-laws Laws'5.the-copy, Path'.refl), tt) (Reads'.room-gone 𝓤 H A y18) tt Path'.refl) d112
+              ((Values.struct-copied 𝓤 H A W FujiHeader.the-type Laws'6.the-laws Laws'6.the-copy, Path'.refl), tt) (Reads'.room-gone 𝓤 H A y16) tt Path'.refl) d112
 
           d114 : Typed.Typed 𝓤 H A 𝓣 E (on T0 l18) b80 Δ0 (at114 bs)
           d114 = Typed.g-pre 𝓤 H A W 𝓣 E (on T0 l18) (on T0 l18) b80 Δ0 (Typed.give (s2 bs)) (at113 bs) (Know.g-sl-known 𝓤 H A W (Referent.fInt Syntax.w16) E (on T0 l18) 6 2 y6 k2 0 (λ x. x) record
@@ -2821,7 +2823,7 @@ module _ (claims· : Claims) where
       module _ (κs : Lifetimes.Lfts 4) where
         pub record Args : Type 0 where
           pub d : Kinds.Den {n = 4} κs (ShrSlice.pShrS n8 0 tt)
-          pub h : Kinds.Den {n = 4} κs (Values.struct FujiHeader.the-type Laws'5.the-laws Laws'5.the-copy Laws'5.the-plain)
+          pub h : Kinds.Den {n = 4} κs (Values.struct FujiHeader.the-type Laws'6.the-laws Laws'6.the-copy Laws'6.the-plain)
           pub b : Kinds.Den {n = 4} κs (Num.pNum Syntax.w64)
           pub line : Kinds.Den {n = 4} κs (Num.pNum Syntax.w64)
           pub state : Kinds.Den {n = 4} κs (MutSlice.pMutS n8 1 tt)
@@ -4101,10 +4103,11 @@ module _ (claims· : Claims) where
             "read_block::form_of") (known1 : Plain.Known 𝓤 H A W 𝓣 1 ps·1 r·1 (claims· .2) (claims· .3) "stream::block_bytes") (known2 : Plain.Known 𝓤 H A W 𝓣 1 ps·2 r·2 (claims· .4) (claims· .5)
             "stream::base_row") (known3 : Plain.Known 𝓤 H A W 𝓣 0 ps·3 r·3 (claims· .6) (claims· .7) "image_map::xtrans_places") (known4 : Plain.Known 𝓤 H A W 𝓣 1 ps·4 r·4 (claims· .8) (claims· .9)
             "colour_lines::clear") (known5 : Plain.Known 𝓤 H A W 𝓣 1 ps·5 r·5 (claims· .10) (claims· .11) "cameras::taking::base_of") (known6 : Plain.Known 𝓤 H A W 𝓣 1 ps·6 r·6 (claims· .12) (claims· .13)
-            "read_block::records::start_records") (known7 : Plain.Known 𝓤 H A W 𝓣 0 ps·7 r·7 (claims· .14) (claims· .15) "read_block::tight::no_part") (known8 : Plain.Known 𝓤 H A W 𝓣 0 ps·8 r·8 (claims· .16)
-            (claims· .17) "read_block::reading::start_place") (known9 : Plain.Known 𝓤 H A W 𝓣 0 ps·9 r·9 (claims· .18) (claims· .19) "cameras::no_entries") (known10 : Plain.Known 𝓤 H A W 𝓣 6 ps·10 r·10
-            (claims· .20) (claims· .21) "read_block::reading::read_lines") (known11 : Plain.Known 𝓤 H A W 𝓣 4 ps·11 r·11 (claims· .22) (claims· .23) "saved_state::blocks::put_walked") (known12 : Plain.Known 𝓤 H A W 𝓣
-            1 ps·12 r·12 (claims· .24) (claims· .25) "read_block::records::clear_records") (known13 : Plain.Known 𝓤 H A W 𝓣 0 ps·13 r·13 (claims· .26) (claims· .27) "read_block::tight::read_answer") where
+            "read_block::records::start_records") (known7 : Plain.Known 𝓤 H A W 𝓣 0 ps·7 r·7 (claims· .14) (claims· .15) "read_block::tight::no_part") (known8 : Plain.Known 𝓤 H A W 𝓣 0 ps·8 r·8 (claims·
+            .16) (claims· .17) "read_block::reading::start_place") (known9 : Plain.Known 𝓤 H A W 𝓣 0 ps·9 r·9 (claims· .18) (claims· .19) "cameras::no_entries") (known10 : Plain.Known 𝓤 H A W 𝓣 6 ps·10
+            r·10 (claims· .20) (claims· .21) "read_block::reading::read_lines") (known11 : Plain.Known 𝓤 H A W 𝓣 4 ps·11 r·11 (claims· .22) (claims· .23) "saved_state::blocks::put_walked") (known12 :
+            Plain.Known 𝓤 H A W 𝓣 1 ps·12 r·12 (claims· .24) (claims· .25) "read_block::records::clear_records") (known13 : Plain.Known 𝓤 H A W 𝓣 0 ps·13 r·13 (claims· .26) (claims· .27)
+            "read_block::tight::read_answer") where
           pub spec : Statement.Triple 𝓤 (Wp.WpFn 𝓤 H (𝓣 .C) (𝓣 .Λ) (Function.fnOf 4 ps r xs m hs body)) (Function.plainOf 𝓤 H A 4 ps r Pre· Post·)
           spec = Plain.t-fn-plain 𝓤 H A W 𝓣 4 ps r xs m hs body (λ κs qs bs. Φ bs) (λ κs qs bs bd. typed κs qs 𝓤 H A W 𝓣
               (known0, known1, known2, known3, known4, known5, known6, known7, known8, known9, known10, known11, known12, known13) bs bd) Pre· Post· asked
