@@ -3,9 +3,8 @@ use crate::calls::{Bases, Lines, Plan, Write};
 use crate::files::{load, load_samples, name};
 use crate::output::Output;
 use crate::source::{Source, header_of};
-use crate::whole::{read_set, set_size};
 use crate::wording::count;
-use fuji_compressed::{FujiHeader, Refusal, Scratch, measure_block, plan_bases, write_block, write_lossy};
+use fuji_compressed::{FujiHeader, Refusal, measure_block, plan_bases, write_block, write_lossy};
 use std::path::Path;
 
 /// Hands out the set of a block, as `write` takes it.
@@ -13,8 +12,8 @@ pub fn lines(call: &Lines) -> Result<(), String> {
     let output = Output::new(&[&call.file], &call.out, call.force)?;
     let source = Source::open(&call.file)?;
     let h = source.header();
-    let mut set = vec![0; set_size(&h)];
-    read_set(source.bytes(), &mut Scratch::new(), call.block, &mut set).answer.map_err(|e| match e.number {
+    let mut set = vec![0; h.set_size()];
+    source.stream().read_set(call.block, &mut set).answer.map_err(|e| match e.number {
         5 => format!("{e}: the stream has {}, counted from 0", count(h.blocks as usize, "block")),
         _ => e.to_string(),
     })?;
@@ -45,7 +44,7 @@ fn told(refusal: &Refusal, h: &FujiHeader, samples: usize, bases: usize) -> Stri
         8 => format!("{refusal}: its bases are to be named, with --bases or --plan"),
         9 => {
             let lines = count(h.lines as usize, "line");
-            format!("{refusal}: {samples} came, and {} are wanted ({lines} of 12 colour lines of {width})", set_size(h))
+            format!("{refusal}: {samples} came, and {} are wanted ({lines} of 12 colour lines of {width})", h.set_size())
         }
         11 => format!("{refusal}: with {} bits the largest is {}", h.bits, (1u32 << h.bits) - 1),
         16 => format!("{refusal}: such a block has no bases; fujiraw copy makes a lossy copy of a whole stream"),

@@ -30,7 +30,6 @@ mod states;
 mod svg;
 mod tile;
 mod time;
-mod whole;
 mod wording;
 mod words;
 

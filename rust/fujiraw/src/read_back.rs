@@ -1,5 +1,4 @@
 //! Whether a stream has the samples of another: all of them, or each coded one within its base.
-use crate::whole::{read_set, set_size};
 use fuji_compressed::{FujiCompressed, FujiHeader, Scratch};
 use std::sync::Mutex;
 use std::thread;
@@ -16,19 +15,21 @@ pub struct Likeness {
 /// each sample that has a code must be within that of its line.
 pub fn compare(old: &[u8], new: &[u8], bases: Option<&[u8]>, threads: usize) -> Result<Likeness, String> {
     let wrong = |what: String| Err(format!("what was written does not read back: {what}; the output was not changed"));
-    let (a, b) = match (FujiCompressed::new(old), FujiCompressed::new(new)) {
-        (Ok(a), Ok(b)) => (a.header, b.header),
+    let (old, new) = match (FujiCompressed::new(old), FujiCompressed::new(new)) {
+        (Ok(old), Ok(new)) => (old, new),
         (Err(e), _) | (_, Err(e)) => return wrong(e.to_string()),
     };
+    let (a, b) = (old.header, new.header);
     if (FujiHeader { lossless: b.lossless, ..a }) != b || b.lossless != bases.is_none() {
         return wrong("its header is another one".to_string());
     }
     let (next, found) = (Mutex::new(0..a.blocks as usize), Mutex::new(vec![]));
     let work = || {
-        let (mut scratch, mut one, mut other) = (Scratch::new(), vec![0; set_size(&a)], vec![0; set_size(&a)]);
+        let (mut scratch, mut one, mut other) = (Scratch::new(), vec![0; a.set_size()], vec![0; a.set_size()]);
         loop {
             let Some(i) = next.lock().unwrap().next() else { return };
-            let read = read_set(old, &mut scratch, i, &mut one).answer.and_then(|()| read_set(new, &mut scratch, i, &mut other).answer);
+            let first = old.read_set_with(&mut scratch, i, &mut one).answer;
+            let read = first.and_then(|()| new.read_set_with(&mut scratch, i, &mut other).answer);
             let lines = a.lines as usize;
             let row = bases.map(|bases| &bases[i * lines..(i + 1) * lines]);
             let like = read.map_err(|e| e.to_string()).and_then(|()| block(&a, &one, &other, row));

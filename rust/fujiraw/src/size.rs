@@ -6,7 +6,6 @@ use crate::inputs;
 use crate::json::Object;
 use crate::pool::{self, Work};
 use crate::source::{Source, header_of};
-use crate::whole::{read_set, set_size};
 use crate::wording::{both, count};
 use fuji_compressed::{FujiHeader, HEADER_SIZE, Refusal, Scratch, measure_block_with};
 use std::process::ExitCode;
@@ -70,22 +69,12 @@ impl Sizes {
 
 /// The length of the tight block of the same colour lines.
 fn length_of(source: &Source, i: usize, scratch: &mut Scratch) -> Result<u64, Refusal> {
-    let mut set = vec![0; set_size(&source.header())];
-    read_set(source.bytes(), scratch, i, &mut set).answer?;
+    let mut set = vec![0; source.header().set_size()];
+    source.stream().read_set_with(scratch, i, &mut set).answer?;
     let mut header: Vec<u8> = source.bytes()[..HEADER_SIZE].to_vec();
     // A lossy stream has a tight lossless one with the same samples.
     header[2] = 1;
     measure_block_with(scratch, &header, &set).map(|n| n as u64)
-}
-
-/// A tight stream's bytes before its blocks: the header, and the sizes filled to a multiple of 16.
-fn front(h: &FujiHeader) -> u64 {
-    (HEADER_SIZE + 4 * h.blocks as usize).next_multiple_of(16) as u64
-}
-
-fn bound(h: &FujiHeader) -> u64 {
-    let block = FujiHeader { lossless: true, ..*h }.length_bound().map_or(0, |n| n as u64);
-    front(h) + h.blocks as u64 * block
 }
 
 fn sizes(source: &Source, lengths: Vec<Result<u64, Refusal>>, at_most: bool) -> Result<Sizes, String> {
@@ -93,15 +82,16 @@ fn sizes(source: &Source, lengths: Vec<Result<u64, Refusal>>, at_most: bool) -> 
     // What a camera file has beside the stream stays.
     let beside = (source.file.len() - source.bytes().len()) as u64;
     let sum: u64 = lengths.into_iter().collect::<Result<Vec<_>, _>>().map_err(|e| e.to_string())?.into_iter().sum();
-    let exactly = (!at_most).then(|| beside + front(&h) + sum);
-    Ok(Sizes { now: Some(source.file.len() as u64), at_most: beside + bound(&h), exactly })
+    let front = FujiHeader { lossless: true, ..h }.front_length() as u64;
+    let exactly = (!at_most).then_some(beside + front + sum);
+    Ok(Sizes { now: Some(source.file.len() as u64), at_most: beside + h.tightened_bound() as u64, exactly })
 }
 
 /// A header by itself has a greatest size all the same.
 fn by_header(path: &std::path::Path, why: String) -> Result<Sizes, String> {
     let is_header = !is_standard(path) && std::fs::metadata(path).is_ok_and(|m| m.len() == HEADER_SIZE as u64);
     let (_, h) = header_of(path).ok().filter(|_| is_header).ok_or(why)?;
-    Ok(Sizes { now: None, at_most: bound(&h), exactly: None })
+    Ok(Sizes { now: None, at_most: h.tightened_bound() as u64, exactly: None })
 }
 
 fn words(file: &str, sizes: &Sizes) -> String {

@@ -1,10 +1,10 @@
 //! The program as a user calls it: what it writes, what it says, and its status.
 mod folder;
 
-use common::encoder::{How, Spoil, encode_spoilt};
+use common::encoder::encode_spoilt;
 use common::random::congruential;
 use common::sha256::digits;
-use common::stream::{Header, blocks, encoded};
+use common::stream::{Header, encoded};
 use folder::{Folder, sample, stream, text};
 use std::fs;
 use std::path::Path;
