@@ -21,7 +21,7 @@ pub fn read(words: Vec<OsString>) -> Result<Call, Wrong> {
     }
     let wrong = |text: String| Wrong { text, command: known.map(str::to_string) };
     if words.is_empty() {
-        return Err(wrong("what is to be done?".to_string()));
+        return Err(wrong("no command is given".to_string()));
     }
     if command == "help" {
         let about = words.get(1).and_then(|w| w.to_str()).unwrap_or_default();
@@ -76,7 +76,7 @@ fn files(words: &Words, command: &str) -> Result<Vec<PathBuf>, String> {
 fn once(read: &[PathBuf]) -> Result<(), String> {
     match read.iter().filter(|f| *f == Path::new("-")).count() {
         0 | 1 => Ok(()),
-        _ => Err("standard input is there twice".to_string()),
+        _ => Err("standard input is named twice".to_string()),
     }
 }
 
@@ -97,7 +97,7 @@ fn some<const N: usize>(words: &Words, needs: &str) -> Result<([PathBuf; N], Pat
 fn threads(words: &Words) -> Result<usize, String> {
     // As many as this machine has, or one if it does not say.
     let Some(text) = words.value("--threads") else { return Ok(std::thread::available_parallelism().map_or(1, |n| n.get())) };
-    text.parse().ok().filter(|n| (1..=1024).contains(n)).ok_or_else(|| format!("threads are a number from 1 to 1024: not {text}"))
+    text.parse().ok().filter(|n| (1..=1024).contains(n)).ok_or_else(|| format!("--threads takes a number from 1 to 1024: not {text}"))
 }
 
 fn tile_of(words: &Words) -> Result<Option<fuji_compressed::ColorTile>, String> {
@@ -119,8 +119,11 @@ fn decode(words: &Words) -> Result<Decode, String> {
     let (files, place) = files_and_place(words, "decode", "decode needs a stream or camera file and an output")?;
     let read = files.iter().chain(&from).cloned();
     once(&read.collect::<Vec<_>>())?;
+    if let Some(from) = &from {
+        for_one(from, &files, "a state")?;
+    }
     let format = match words.value("--format") {
-        Some(name) => Format::of(name).ok_or_else(|| format!("there is no format {name}: pgm, png and raw are"))?,
+        Some(name) => Format::of(name).ok_or_else(|| format!("unknown format {name}: use png, pgm or raw"))?,
         // What is read is not written over, whatever its ending is, and that is said later.
         None if place.is_folder || files.contains(&place.out) => Format::Pgm,
         None => Format::of_ending(&place.out)?,
@@ -135,6 +138,14 @@ fn decode(words: &Words) -> Result<Decode, String> {
     Ok(call)
 }
 
+/// What comes through standard input comes only once, and so serves one file.
+fn for_one(read: &Path, files: &[PathBuf], what: &str) -> Result<(), String> {
+    match read == Path::new("-") && (files.len() > 1 || files[0].is_dir()) {
+        true => Err(format!("{what} from standard input is for one file")),
+        false => Ok(()),
+    }
+}
+
 /// Several files, or those of a folder, go into a folder.
 fn files_and_place(words: &Words, command: &str, needs: &str) -> Result<(Vec<PathBuf>, Place), String> {
     let (files, out) = with_output(words, needs)?;
@@ -144,10 +155,10 @@ fn files_and_place(words: &Words, command: &str, needs: &str) -> Result<(Vec<Pat
     once(&files)?;
     let is_folder = out.is_dir();
     if !is_folder && files.len() > 1 {
-        return Err(format!("{} is no folder, and there are {} files to {command}", out.display(), files.len()));
+        return Err(format!("{} is not a folder, and there are {} files to {command}", out.display(), files.len()));
     }
     if !is_folder && files[0].is_dir() {
-        return Err(format!("{} is no folder, and {} is one: make a folder for what comes of it", out.display(), files[0].display()));
+        return Err(format!("{} is not a folder, but {} is: create a folder for the output", out.display(), files[0].display()));
     }
     Ok((files, Place { out, is_folder, force: force(words) }))
 }
@@ -161,7 +172,7 @@ fn apart(files: &[PathBuf], place: &Place, format: Option<Format>) -> Result<(),
     let mut outputs: Vec<PathBuf> = all.iter().filter(|i| i.broken.is_none()).map(|i| place.of(i, format)).collect();
     outputs.sort();
     match outputs.windows(2).find(|two| two[0] == two[1]) {
-        Some(two) => Err(format!("two outputs would go to {}", two[0].display())),
+        Some(two) => Err(format!("two outputs would be written to {}", two[0].display())),
         None => Ok(()),
     }
 }
@@ -199,6 +210,7 @@ fn make(words: &Words, command: &str, kind: Kind) -> Result<Make, String> {
     let (files, place) = files_and_place(words, command, &format!("{command} needs a stream or camera file and an output"))?;
     if let Kind::Plan(plan) = &kind {
         once(&files.iter().chain([plan]).cloned().collect::<Vec<_>>())?;
+        for_one(plan, &files, "a plan")?;
     }
     apart(&files, &place, None)?;
     Ok(Make { files, place, kind, dry: Dry(words.has("--dry-run")), quiet: quiet(words), threads: threads(words)? })
@@ -213,7 +225,7 @@ fn compare(words: &Words) -> Result<Compare, String> {
 fn lamp(words: &Words) -> Result<Lamp, String> {
     let (csv, lines, svg) = (words.has("--csv"), words.has("--lines"), words.file("--svg"));
     if lines && !csv {
-        return Err("--lines goes with --csv: a row for each line".to_string());
+        return Err("--lines needs --csv".to_string());
     }
     if csv && svg.is_some() {
         return Err("lamp takes --csv or --svg, not both".to_string());
@@ -221,7 +233,7 @@ fn lamp(words: &Words) -> Result<Lamp, String> {
     let order = match words.value("--by") {
         None | Some("name") => Order::Name,
         Some("time") => Order::Time,
-        Some(other) => return Err(format!("sheets are in the order of name or time: not {other}")),
+        Some(other) => return Err(format!("--by takes name or time: not {other}")),
     };
     let (force, quiet) = (force(words), quiet(words));
     Ok(Lamp { files: files(words, "lamp")?, csv, lines, svg, order, force, quiet, threads: threads(words)? })
@@ -230,7 +242,7 @@ fn lamp(words: &Words) -> Result<Lamp, String> {
 fn size(words: &Words) -> Result<Size, String> {
     let (files, samples) = (files(words, "size")?, words.file("--samples"));
     if samples.is_some() && files.len() > 1 {
-        return Err("--samples are those of one block, under one header".to_string());
+        return Err("--samples takes one header".to_string());
     }
     once(&files.iter().chain(&samples).cloned().collect::<Vec<_>>())?;
     Ok(Size { files, samples, at_most: words.has("--at-most"), json: json(words), threads: threads(words)? })

@@ -41,14 +41,14 @@ pub fn write(call: &Write) -> Result<(), String> {
 fn told(refusal: &Refusal, h: &FujiHeader, samples: usize, bases: usize) -> String {
     let width = if h.xtrans { 512 } else { 384 };
     match refusal.number {
-        8 => format!("{refusal}: its bases are to be named, with --bases or --plan"),
+        8 => format!("{refusal}: give its bases with --bases or --plan"),
         9 => {
             let lines = count(h.lines as usize, "line");
-            format!("{refusal}: {samples} came, and {} are wanted ({lines} of 12 colour lines of {width})", h.set_size())
+            format!("{refusal}: there are {samples}, and {} are needed ({lines} of 12 colour lines of {width})", h.set_size())
         }
         11 => format!("{refusal}: with {} bits the largest is {}", h.bits, (1u32 << h.bits) - 1),
-        16 => format!("{refusal}: such a block has no bases; fujiraw copy makes a lossy copy of a whole stream"),
-        17 => format!("{refusal}: {bases} came, and {} are wanted", h.lines),
+        16 => format!("{refusal}: a lossless block has no bases; to make a lossy copy of a whole stream, use fujiraw copy"),
+        17 => format!("{refusal}: there are {bases}, and {} are needed", h.lines),
         _ => refusal.to_string(),
     }
 }
@@ -79,12 +79,12 @@ pub fn planned(header: &[u8], parsed: &FujiHeader, plan: &Path) -> Result<Vec<u8
 /// A refusal of a plan, with the record that it names.
 fn wrong_plan(refusal: &Refusal, h: &FujiHeader, plan: &[u8]) -> String {
     match refusal.number {
-        16 => format!("{refusal}: a plan is for lossy ones; fujiraw copy IN OUT --plan PLAN makes a lossy copy of a lossless stream"),
+        16 => format!("{refusal}: plans are for lossy headers; to make a lossy copy of a lossless stream, use fujiraw copy IN OUT --plan PLAN"),
         18 => {
             let record = plan.split(|b| *b == b'\n').nth(refusal.index.saturating_sub(1)).unwrap_or_default();
             let record: String = String::from_utf8_lossy(record).chars().take(60).collect();
             let last = h.lines - 1;
-            format!("{refusal}: it is {record:?}; a record is first line, last line and base, parted by tabs, with lines 0 to {last} and bases 0 to 255")
+            format!("{refusal}: it is {record:?}; a record is first line, last line and base, separated by tabs, with lines 0 to {last} and bases 0 to 255")
         }
         _ => refusal.to_string(),
     }

@@ -77,7 +77,7 @@ fn past_the_edge(stream: &FujiCompressed, region: Rect, tile: &ColorTile) -> Str
 
 fn truncated(refusal: Refusal) -> String {
     match refusal.number {
-        14 => format!("{refusal}; --partial writes the rows before it"),
+        14 => format!("{refusal}; use --partial to write the rows before it"),
         _ => refusal.to_string(),
     }
 }
@@ -85,12 +85,12 @@ fn truncated(refusal: Refusal) -> String {
 /// Which rows of which blocks are in a picture that is only a part.
 fn what_is_missing(source: &Source, refusal: &Refusal) -> String {
     let (stream, mut scratch) = (source.stream(), Scratch::new());
-    let mut text = format!("{refusal}; the picture is a part, and what is missing is 0:");
+    let mut text = format!("{refusal}; a partial picture was written, with 0 for what is missing:");
     for block in 0..stream.header.blocks as usize {
         let Err(cut) = stream.read_block_with(&mut scratch, block).answer else { continue };
         let rows = match 6 * cut.line {
-            0 => "no row is there".to_string(),
-            rows => format!("rows 0 to {} are there", rows - 1),
+            0 => "no rows".to_string(),
+            rows => format!("rows 0 to {} decoded", rows - 1),
         };
         text += &format!("\n  columns {} to {}: {rows}", 768 * block, (768 * block + 767).min(stream.header.width as usize - 1));
     }

@@ -1,7 +1,7 @@
 //! A file that gets its name when it is whole and on the disk. Until then it has no name, where the system can do that, and else one by which a later run
 //! knows what a killed one left.
 use std::ffi::{CString, c_char, c_int};
-use std::fs::{self, File, OpenOptions};
+use std::fs::{self, File, OpenOptions, TryLockError};
 use std::io;
 use std::os::fd::AsRawFd;
 use std::os::unix::ffi::OsStrExt;
@@ -33,8 +33,8 @@ impl Draft {
         let folder = if folder.as_os_str().is_empty() { PathBuf::from(".") } else { folder.to_path_buf() };
         sweep(&folder);
         if let Some(file) = unnamed(&folder) {
-            // A file that nobody else can see is locked at once.
-            file.try_lock().map_err(io::Error::from)?;
+            // Nobody else can see it yet. Where there are no locks, nothing is swept either.
+            let _ = file.try_lock();
             return Ok(Draft { file, folder, name: None });
         }
         let (file, name) = named(&folder)?;
@@ -44,16 +44,9 @@ impl Draft {
     /// Brings the contents to the disk, gives the file its name, and brings the name to the disk. A file that is there is replaced at once or not at all, if it may be.
     pub fn publish(mut self, target: &Path, replace: bool) -> io::Result<()> {
         self.file.sync_all()?;
-        if !replace {
-            self.link(target)?;
-        } else {
-            if self.name.is_none() {
-                self.name = Some(self.link_part()?);
-            }
-            if let Some(part) = &self.name {
-                fs::rename(part, target)?;
-            }
-            self.name = None;
+        match self.link(target) {
+            Err(e) if e.kind() == io::ErrorKind::AlreadyExists && replace => self.rename(target)?,
+            linked => linked?,
         }
         // Some systems cannot sync a folder, and say that the call is not for it.
         File::open(&self.folder)?.sync_all().or_else(|e| if e.kind() == io::ErrorKind::InvalidInput { Ok(()) } else { Err(e) })
@@ -73,6 +66,17 @@ impl Draft {
             self.name = Some(part);
         }
         linked
+    }
+
+    /// Takes the place of a file that is there. A file has to have a name for that.
+    fn rename(&mut self, target: &Path) -> io::Result<()> {
+        let part = match self.name.take() {
+            Some(part) => part,
+            None => self.link_part()?,
+        };
+        fs::rename(self.name.insert(part), target)?;
+        self.name = None;
+        Ok(())
     }
 
     fn link_part(&self) -> io::Result<PathBuf> {
@@ -129,9 +133,13 @@ fn named(folder: &Path) -> io::Result<(File, PathBuf)> {
             Err(e) if e.kind() == io::ErrorKind::AlreadyExists => continue,
             opened => opened?,
         };
-        // Before it was locked another run may have taken it for left over, and removed it.
-        let locked = file.try_lock().is_ok();
-        if locked && fs::metadata(&part).is_ok_and(|there| file.metadata().is_ok_and(|own| own.ino() == there.ino())) {
+        // Before it was locked another run may have taken it for left over, and removed it. Where there are no locks no run does so.
+        let lost = match file.try_lock() {
+            Err(TryLockError::WouldBlock) => true,
+            Err(TryLockError::Error(_)) => false,
+            Ok(()) => !fs::metadata(&part).is_ok_and(|there| file.metadata().is_ok_and(|own| own.ino() == there.ino())),
+        };
+        if !lost {
             return Ok((file, part));
         }
     }
@@ -145,5 +153,71 @@ fn sweep(folder: &Path) {
         if file.try_lock().is_ok() {
             let _ = fs::remove_file(entry.path());
         }
+    }
+}
+
+#[cfg(test)]
+mod tests {
+    use super::*;
+    use std::io::Write;
+
+    fn folder(name: &str) -> PathBuf {
+        let path = std::env::temp_dir().join(format!("fujiraw-draft-{name}-{}", std::process::id()));
+        fs::create_dir_all(&path).unwrap();
+        path
+    }
+
+    /// A draft with a name from its beginning, as on systems that know no other.
+    fn with_name(folder: &Path) -> Draft {
+        let (file, name) = named(folder).unwrap();
+        Draft { file, folder: folder.to_path_buf(), name: Some(name) }
+    }
+
+    fn names(folder: &Path) -> Vec<String> {
+        let mut all: Vec<String> = fs::read_dir(folder).unwrap().map(|e| e.unwrap().file_name().into_string().unwrap()).collect();
+        all.sort();
+        all
+    }
+
+    #[test]
+    fn drafts_of_both_kinds_get_their_names() {
+        let folder = folder("kinds");
+        for new in [(|f| Draft::new(f).unwrap()) as fn(&Path) -> Draft, with_name] {
+            let target = folder.join("out");
+            let write = |text: &str| {
+                let mut draft = new(&folder);
+                draft.file.write_all(text.as_bytes()).unwrap();
+                draft
+            };
+            write("one").publish(&target, false).unwrap();
+            assert_eq!(write("two").publish(&target, false).unwrap_err().kind(), io::ErrorKind::AlreadyExists);
+            assert_eq!(fs::read(&target).unwrap(), b"one");
+            write("three").publish(&target, true).unwrap();
+            assert_eq!(fs::read(&target).unwrap(), b"three");
+            // One that is given up leaves nothing.
+            drop(write("four"));
+            assert_eq!(names(&folder), ["out"]);
+            fs::remove_file(&target).unwrap();
+            write("five").publish(&target, true).unwrap();
+            assert_eq!(fs::read(&target).unwrap(), b"five");
+            fs::remove_file(&target).unwrap();
+        }
+        fs::remove_dir_all(&folder).unwrap();
+    }
+
+    #[test]
+    fn a_draft_that_is_held_is_not_swept() {
+        let folder = folder("held");
+        let draft = with_name(&folder);
+        sweep(&folder);
+        assert_eq!(names(&folder).len(), 1);
+        // A run that is killed closes its files without removing anything.
+        let Draft { file, name, .. } = &draft;
+        let copy = name.clone().unwrap();
+        file.unlock().unwrap();
+        sweep(&folder);
+        assert!(!copy.exists());
+        drop(draft);
+        fs::remove_dir_all(&folder).unwrap();
     }
 }

@@ -8,7 +8,7 @@ pub fn broken(bytes: &[u8]) -> Option<String> {
     let blocks = h[13] as u32;
     let wrong = |at: &str, what: &str, has: u32, may: &str| Some(format!("{what} ({at}) is {has}, and must be {may}"));
     match () {
-        _ if two(0) != 0x4953 => Some(format!("no stream: it begins {:02X} {:02X}, and a stream begins 49 53", h[0], h[1])),
+        _ if two(0) != 0x4953 => Some(format!("not a stream: it begins with {:02X} {:02X}, and streams begin with 49 53", h[0], h[1])),
         _ if h[2] > 1 => wrong("byte 2", "the lossless flag", h[2] as u32, "0 or 1"),
         _ if h[3] != 0 && h[3] != 16 => wrong("byte 3", "the raw type", h[3] as u32, "0 (Bayer) or 16 (X-Trans)"),
         _ if ![12, 14, 16].contains(&h[4]) => wrong("byte 4", "the bits a sample", h[4] as u32, "12, 14 or 16"),

@@ -26,7 +26,7 @@ pub fn all(named: &[PathBuf], out: Option<&Path>) -> Vec<Input> {
         let before = list.len();
         walk(path, Path::new(""), out.as_deref(), &mut list);
         if list.len() == before {
-            let broken = Some("this folder has no camera file or stream (.raf, .fcs)".to_string());
+            let broken = Some("no camera files or streams (.raf, .fcs) in this folder".to_string());
             list.push(Input { path: path.clone(), under: PathBuf::new(), broken });
         }
     }

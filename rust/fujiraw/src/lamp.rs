@@ -1,6 +1,6 @@
 //! A lamp that ages shows as more bits a line: what sheets have, as a list, as rows for other programs, or as a picture.
 use crate::calls::{Lamp, Order};
-use crate::check::{self, BLOCK, SHEET, Sheet};
+use crate::check::{self, BLOCK, SHEET, Sheet, Verdict};
 use crate::files::{name, print};
 use crate::inputs::{self, Input};
 use crate::output::Output;
@@ -31,8 +31,11 @@ pub fn lamp(call: &Lamp) -> Result<ExitCode, String> {
         sheets.sort_by(|a, b| a.1.cmp(&b.1));
     }
     for (file, _, found) in &sheets {
-        if let Err(fault) = found {
-            crate::complain(&format!("{file}: {}", fault.text));
+        match found {
+            Err(fault) => crate::complain(&format!("{file}: {}", fault.text)),
+            Ok(sheet) => sheet.blocks.iter().filter(|b| b.verdict == Verdict::Damaged).filter_map(|b| b.why.as_ref()).for_each(|why| {
+                crate::complain(&format!("{file}: {why}"));
+            }),
         }
     }
     match output {

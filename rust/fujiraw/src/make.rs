@@ -31,7 +31,7 @@ pub fn make(call: &Make, input: &Input) -> Result<(), String> {
     let size = (head.len() + made.len() + tail.len()) as u64;
     let Some(output) = output else {
         let what = if bases.is_some() { "as a lossy copy" } else { "as a tight file" };
-        return print(&format!("{}: {what} it takes {}, now it has {}; nothing is written\n", source.name(), both(size), in_words(source.file.len() as u64)));
+        return print(&format!("{}: {what} it would take {}; now it takes {}; nothing was written\n", source.name(), both(size), in_words(source.file.len() as u64)));
     };
     call.place.make_folder(&out)?;
     let to_standard = output.is_standard();
@@ -82,7 +82,7 @@ fn made(source: &Source, call: &Make, bases: Option<&[u8]>) -> Result<Vec<u8>, S
         None => tighten_parallel(call.threads, source.bytes(), &one_more),
     };
     made.map_err(|e: Refusal| match e.number {
-        14 => format!("{e}: a file that is not whole is left alone; fujiraw decode --partial shows what is there"),
+        14 => format!("{e}: a damaged file is left alone; use fujiraw decode --partial to see what it has"),
         _ => e.to_string(),
     })
 }
@@ -115,8 +115,8 @@ fn said(out: &Path, source: &Source, size: u64, lossy: bool, likeness: &Likeness
     let was = in_words(source.file.len() as u64);
     let samples = likeness.samples;
     let back = match lossy {
-        false => format!("read back, all {samples} samples of its colour lines are the same"),
-        true => format!("read back, all {samples} coded samples are within their base, the farthest {} away", likeness.farthest),
+        false => format!("verified: all {samples} samples read back the same"),
+        true => format!("verified: all {samples} coded samples read back within their base, at most {} away", likeness.farthest),
     };
     let what = if lossy { "lossy" } else { "tight" };
     format!("{}: {what}, {}, it was {was}; {back}\n", out.display(), both(size))

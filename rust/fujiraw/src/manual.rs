@@ -9,8 +9,9 @@ pub fn page(version: &str) -> String {
         let heading = match part {
             _ if part.starts_with("usage:") => Some("SYNOPSIS"),
             _ if part.starts_with("Commands:") => Some("COMMANDS"),
-            _ if part.starts_with("Status:") => Some("EXIT STATUS"),
+            _ if part.starts_with("Exit status:") => Some("EXIT STATUS"),
             _ if part.starts_with("Every command") => Some("FILES AND OPTIONS"),
+            _ if part.starts_with("Examples:") => Some("EXAMPLES"),
             _ => None,
         };
         if let Some(heading) = heading {

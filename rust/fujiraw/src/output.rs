@@ -22,6 +22,7 @@ enum Target {
 pub struct Output<'o> {
     out: &'o Path,
     target: Target,
+    force: Force,
 }
 
 impl<'o> Output<'o> {
@@ -32,22 +33,22 @@ impl<'o> Output<'o> {
         let there = match &target {
             Target::File(_, Some(there)) => there,
             Target::Special if fs::metadata(out).is_ok_and(|m| m.is_dir()) => return refused("it is a folder"),
-            _ => return Ok(Output { out, target }),
+            _ => return Ok(Output { out, target, force }),
         };
         if there.is_dir() {
             return refused("it is a folder");
         }
         let whole = fs::canonicalize(out);
         if read.iter().any(|file| fs::canonicalize(file).is_ok_and(|f| whole.as_ref().is_ok_and(|t| f == *t))) {
-            return refused("it is read for this");
+            return refused("it is also an input");
         }
         if !force.0 {
-            return refused("it is there already; --force (-f) replaces it");
+            return refused("it already exists; use --force (-f) to replace it");
         }
         if there.permissions().readonly() {
             return refused("it is read-only");
         }
-        Ok(Output { out, target })
+        Ok(Output { out, target, force })
     }
 
     pub fn is_standard(&self) -> bool {
@@ -82,8 +83,8 @@ impl<'o> Output<'o> {
         if let Some(there) = &there {
             draft.file.set_permissions(there.permissions()).map_err(failed)?;
         }
-        draft.publish(&target, there.is_some()).map_err(|e| match e.kind() {
-            io::ErrorKind::AlreadyExists => format!("cannot write {}: it is there already; --force (-f) replaces it", self.out.display()),
+        draft.publish(&target, self.force.0).map_err(|e| match e.kind() {
+            io::ErrorKind::AlreadyExists => format!("cannot write {}: it already exists; use --force (-f) to replace it", self.out.display()),
             _ => failed(e),
         })
     }

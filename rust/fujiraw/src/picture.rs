@@ -38,7 +38,7 @@ impl Format {
         let ending = out.extension().map(|e| e.to_string_lossy().to_lowercase()).unwrap_or_default();
         let others = ["tif", "tiff", "jpg", "jpeg", "jxl", "bmp", "gif", "webp", "avif", "heic", "heif", "ppm", "pnm", "pdf", "dng", "raf", "fcs", "exr"];
         if others.contains(&ending.as_str()) {
-            return Err(format!("{} would be no .{ending}: decode writes .png, .pgm and .raw; --format says which if the name does not", out.display()));
+            return Err(format!("decode writes .png, .pgm and .raw, not .{ending}: change the name {}, or use --format", out.display()));
         }
         Ok(Format::of(&ending).unwrap_or(Format::Pgm))
     }

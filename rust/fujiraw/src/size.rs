@@ -52,7 +52,7 @@ pub fn size(call: &Size) -> Result<ExitCode, String> {
     }
     if inputs.len() > 1 && !call.json.0 {
         let bad = inputs.len() - good;
-        let left_out = if bad > 0 { format!(", without {bad} that cannot be measured") } else { String::new() };
+        let left_out = if bad > 0 { format!(", without {bad} that could not be measured") } else { String::new() };
         print(&format!("{}{left_out}\n", words(&format!("all {}", count(good, "sheet")), &all)))?;
     }
     Ok(if good == inputs.len() { ExitCode::SUCCESS } else { ExitCode::FAILURE })

@@ -54,7 +54,9 @@ impl Source {
         let (raf, range) = find(&file)?;
         let stream = &file[range.clone()];
         if let Err(refusal) = FujiCompressed::new(stream) {
-            let trouble = if refusal.number > 2 { Trouble::Damaged } else { Trouble::Unreadable };
+            // A camera file whose stream is shorter than a header is cut off.
+            let is_cut = refusal.number > 2 || refusal.number == 1 && raf.is_some();
+            let trouble = if is_cut { Trouble::Damaged } else { Trouble::Unreadable };
             return Err(Fault { trouble, text: told(&refusal, stream, raf.as_ref()) });
         }
         Ok(Source { path: path.to_path_buf(), file, raf, range })
@@ -111,14 +113,14 @@ impl Source {
 }
 
 /// Where the stream lies in a file.
-fn find(file: &[u8]) -> Result<(Option<Raf>, Range<usize>), String> {
+fn find(file: &[u8]) -> Result<(Option<Raf>, Range<usize>), Fault> {
     if raf::is_raf(file) {
-        let found = raf::read(file).map_err(|e| e.to_string())?;
+        let found = raf::read(file).map_err(|e| Fault { trouble: if e.is_cut() { Trouble::Damaged } else { Trouble::Unreadable }, text: e.to_string() })?;
         let range = found.stream.clone();
         return Ok((Some(found), range));
     }
     if let Some(other) = raf::maker(file) {
-        return Err(format!("this is {other}, and no Fuji stream"));
+        return Err(Fault::from(format!("this is {other}, not a Fuji stream")));
     }
     Ok((None, 0..file.len()))
 }

@@ -21,7 +21,7 @@ pub fn save(call: &Save) -> Result<(), String> {
     for (block, state) in blocks.into_iter().zip(states.chunks_mut(size)) {
         stream.store_checkpoint(block, call.line, state).answer.map_err(|e| match e.number {
             5 => format!("{e}: the stream has {}, counted from 0", crate::wording::count(h.blocks as usize, "block")),
-            21 => format!("the line to store after is not there: the stream has lines 0 to {} (refusal 21)", h.lines - 1),
+            21 => format!("refusal 21: there is no such line: the stream has lines 0 to {}", h.lines - 1),
             _ => e.to_string(),
         })?;
     }

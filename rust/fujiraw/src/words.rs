@@ -51,7 +51,7 @@ pub fn commands() -> impl Iterator<Item = &'static str> {
 
 /// Splits the words after a command.
 pub fn split(command: &str, mut rest: impl Iterator<Item = OsString>) -> Result<Words, String> {
-    let known = options_of(command).ok_or_else(|| unknown(&format!("there is no command {command}"), command, commands()))?;
+    let known = options_of(command).ok_or_else(|| unknown(&format!("unknown command {command}"), command, commands()))?;
     let mut all = Words { plain: vec![], options: vec![] };
     while let Some(word) = rest.next() {
         let text = word.to_string_lossy().into_owned();
@@ -66,10 +66,10 @@ pub fn split(command: &str, mut rest: impl Iterator<Item = OsString>) -> Result<
         let (name, given) = text.split_once('=').map_or((text.as_str(), None), |(name, value)| (name, Some(value.to_string())));
         let long = SHORT.iter().find(|(short, _)| *short == name).map_or(name, |(_, long)| long);
         let Some((_, takes)) = known.iter().find(|(option, _)| *option == long) else {
-            return Err(unknown(&format!("{command} takes no {name}"), name, known.iter().map(|(option, _)| *option)));
+            return Err(unknown(&format!("{command} has no option {name}"), name, known.iter().map(|(option, _)| *option)));
         };
         if all.has(long) {
-            return Err(format!("{name} is there twice"));
+            return Err(format!("{name} is given twice"));
         }
         let value = match (takes, given) {
             (true, Some(value)) => value,
@@ -88,7 +88,7 @@ fn unknown(what: &str, word: &str, known: impl Iterator<Item = &'static str>) ->
     let nearest = known.map(|k| (distance(word, k), k)).min_by_key(|(d, _)| *d);
     let letters = word.trim_start_matches('-').len();
     match nearest {
-        Some((d, near)) if d <= (letters / 3).max(1) => format!("{what}; is {near} meant?"),
+        Some((d, near)) if d <= (letters / 3).max(1) => format!("{what}; did you mean {near}?"),
         _ => what.to_string(),
     }
 }

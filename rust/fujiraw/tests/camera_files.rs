@@ -166,7 +166,7 @@ fn lengths_that_are_too_short_cut_the_stream() {
     let short = stream.len() as u32 - 1000;
     f.put("a.raf", &raf(&stream, &Camera { length: Some(short), ..Camera::default() }));
     let cut = "refusal 14: block 1, line 4: a line is truncated";
-    f.fails("decode a.raf out", &format!("{cut}; --partial writes the rows before it"));
+    f.fails("decode a.raf out", &format!("{cut}; use --partial to write the rows before it"));
     let own = stream.len();
     let said = f.works("info a.raf");
     let warning = format!("warning: the file says {short} bytes of stream (tag 0xF008), the stream's own sizes make {own}: it is cut there\n");
@@ -188,17 +188,17 @@ fn what_is_no_compressed_camera_file_is_named() {
     for command in ["info", "decode -f -o out", "check", "tighten -f -o out"] {
         let out = f.run(&format!("{command} plain.raf"));
         let said = text(&out.stdout) + &text(&out.stderr);
-        let wanted = format!("{camera}and its samples of 14 bits are not compressed: there is no stream to read\n");
+        let wanted = format!("{camera}and its samples of 14 bits are not compressed, so there is no stream to read\n");
         assert!(said.ends_with(&wanted), "{command}: {said}");
         assert_eq!(out.status.code(), Some(if command == "check" { 5 } else { 1 }), "{command}");
     }
     // Samples that begin as a stream does are no stream all the same.
     f.put("like.raf", &raf(&[&[0x49, 0x53][..], &[7; 768 * 12 * 2 - 2]].concat(), &plain));
-    f.fails("info like.raf", &format!("{camera}and its samples are not compressed: there is no stream to read"));
+    f.fails("info like.raf", &format!("{camera}and its samples are not compressed, so there is no stream to read"));
     f.put("cr2", b"II*\0\x10\0\0\0CR\x02\0\0\0\0\0");
-    f.fails("decode cr2 out", "this is a Canon camera file (CR2), and no Fuji stream");
+    f.fails("decode cr2 out", "this is a Canon camera file (CR2), not a Fuji stream");
     f.put("jpeg", b"\xFF\xD8\xFF\xE1\0\0\0\0\0\0\0\0\0\0\0\0");
-    f.fails("info jpeg", "this is a JPEG picture, and no Fuji stream");
+    f.fails("info jpeg", "this is a JPEG picture, not a Fuji stream");
     let stream = made(false, 14, 2);
     let whole = raf(&stream, &Camera::default());
     f.put("short", &whole[..80]);
@@ -208,7 +208,7 @@ fn what_is_no_compressed_camera_file_is_named() {
     let mut spoilt = whole.clone();
     spoilt[10] = b'x';
     f.put("spoilt", &spoilt);
-    f.fails("info spoilt", "this begins as a Fuji camera file (RAF) does, but its first 16 bytes are not all as they must be");
+    f.fails("info spoilt", "this begins like a Fuji camera file (RAF), but its 16-byte signature is damaged");
     // The stream's own header decides, and the broken rule is named.
     let mut odd = stream.clone();
     odd[4] = 13;

@@ -57,7 +57,7 @@ fn words_and_statuses() {
     assert_eq!(said(&f, "check tight loose cut").0, Some(4));
     assert_eq!(said(&f, "check -q tight lossy"), (Some(0), String::new()));
     f.is_wrong("check", "check needs a file or a folder");
-    f.is_wrong("check tight --format raw", "check takes no --format");
+    f.is_wrong("check tight --format raw", "check has no option --format");
 }
 
 /// Sets by a generator, whose bits and long codes an independent model has counted: 68,619 bits and 25 long codes in the first line, 135,865 and

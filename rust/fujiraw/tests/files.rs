@@ -44,7 +44,7 @@ fn standard_input_and_output() {
     assert_eq!(says(&out), (Some(0), String::new()));
     assert_eq!(out.stdout, f.get("block"));
     let out = shell(&f, r"printf '0\t1\t7\n' | fujiraw plan header - -");
-    let lossless = "refusal 16: the header is lossless: a plan is for lossy ones; fujiraw copy IN OUT --plan PLAN makes a lossy copy of a lossless stream\n";
+    let lossless = "refusal 16: the header is lossless: plans are for lossy headers; to make a lossy copy of a lossless stream, use fujiraw copy IN OUT --plan PLAN\n";
     assert_eq!(says(&out), (Some(1), lossless.to_string()));
 }
 
@@ -120,7 +120,7 @@ fn links_are_followed_and_permissions_stay() {
     assert!(fs::symlink_metadata(f.0.join("ahead")).unwrap().is_symlink());
     assert_eq!(f.get("folder/new"), f.get("real"));
     symlink("a.fcs", f.0.join("input")).unwrap();
-    f.fails("decode a.fcs input", "cannot write input: it is read for this");
+    f.fails("decode a.fcs input", "cannot write input: it is also an input");
 }
 
 #[test]
@@ -136,7 +136,7 @@ fn files_that_cannot_be_read_or_written() {
     for command in ["info", "check"] {
         for (file, says) in [
             ("missing", "cannot read missing: no such file or directory"),
-            ("folder", "this folder has no camera file or stream (.raf, .fcs)"),
+            ("folder", "no camera files or streams (.raf, .fcs) in this folder"),
             ("empty", "refusal 1: fewer than 16 bytes of header: there are 0"),
             ("large", "cannot read large: it is too large, no stream or camera file has more than 73014487871 bytes"),
             // A file that the system does not let be read, even by root.
@@ -150,9 +150,9 @@ fn files_that_cannot_be_read_or_written() {
     }
     f.fails("decode /proc/self/mem out", "cannot read /proc/self/mem: input/output error");
     f.fails("decode large out", "cannot read large: it is too large, no stream or camera file has more than 73014487871 bytes");
-    f.fails("decode a.fcs locked", "cannot write locked: it is there already; --force (-f) replaces it");
+    f.fails("decode a.fcs locked", "cannot write locked: it already exists; use --force (-f) to replace it");
     f.fails("decode a.fcs locked -f", "cannot write locked: it is read-only");
-    f.fails("decode a.fcs a.fcs", "cannot write a.fcs: it is read for this");
+    f.fails("decode a.fcs a.fcs", "cannot write a.fcs: it is also an input");
     f.fails("decode a.fcs /proc/none", "cannot write /proc/none: no such file or directory");
     assert_eq!(f.get("locked"), b"old");
 }
@@ -173,7 +173,7 @@ fn short_memory_is_an_error_in_words() {
     f.put("some.fcs", &huge(16));
     // 200 MB: enough for the program, not for the picture.
     let with = |line: &str| shell(&f, &format!("ulimit -v 200000; fujiraw {line}"));
-    let cut = "refusal 14: block 0, line 0: a line is truncated; --partial writes the rows before it\n".to_string();
+    let cut = "refusal 14: block 0, line 0: a line is truncated; use --partial to write the rows before it\n".to_string();
     assert_eq!(says(&with("decode empty.fcs out")), (Some(1), cut.clone()));
     let short = "there is not enough memory for a picture of 12288 x 16386 samples\n";
     assert_eq!(says(&with("decode some.fcs out")), (Some(1), short.to_string()));

@@ -40,7 +40,7 @@ fn tighten_gives_the_tight_stream_of_the_same_picture() {
     let said = f.works("tighten a.fcs b.fcs");
     let length = f.get("b.fcs").len();
     assert!(said.starts_with(&format!("b.fcs: tight, {length} bytes ")), "{said}");
-    assert!(said.ends_with("; read back, all 46080 samples of its colour lines are the same\n"), "{said}");
+    assert!(said.ends_with("; verified: all 46080 samples read back the same\n"), "{said}");
     assert!(f.works("check b.fcs").starts_with("b.fcs: tight, "));
     assert!(samples(&f, "a.fcs") == samples(&f, "b.fcs"));
     // Once more changes nothing, and any number of threads gives the same bytes.
@@ -64,12 +64,12 @@ fn dry_run_says_what_it_would_take() {
     f.works("tighten a.fcs b.fcs");
     let length = f.get("b.fcs").len();
     let said = f.works("tighten a.fcs c.fcs --dry-run");
-    assert!(said.starts_with(&format!("a.fcs: as a tight file it takes {length} bytes ")) && said.ends_with("; nothing is written\n"), "{said}");
+    assert!(said.starts_with(&format!("a.fcs: as a tight file it would take {length} bytes ")) && said.ends_with("; nothing was written\n"), "{said}");
     // Not even a file that is there is in the way.
     f.works("tighten a.fcs b.fcs --dry-run");
     let said = f.works("copy a.fcs c.fcs --base 9 --dry-run");
     f.works("copy a.fcs d.fcs --base 9");
-    assert!(said.starts_with(&format!("a.fcs: as a lossy copy it takes {} bytes ", f.get("d.fcs").len())), "{said}");
+    assert!(said.starts_with(&format!("a.fcs: as a lossy copy it would take {} bytes ", f.get("d.fcs").len())), "{said}");
     assert_eq!(f.names(), ["a.fcs", "b.fcs", "d.fcs"]);
 }
 
@@ -80,7 +80,7 @@ fn copy_is_within_the_base_of_each_line() {
         f.put("a.fcs", &noisy(&Header::new(true, xtrans, 14, 960, 5), &[], 5));
         f.put("plan", b"3\t3\t40\n0\t2\t1\n4\t4\t0\n");
         let said = f.works("copy a.fcs b.fcs --plan plan -f");
-        assert!(said.contains("b.fcs: lossy, ") && said.ends_with("coded samples are within their base, the farthest 40 away\n"), "{said}");
+        assert!(said.contains("b.fcs: lossy, ") && said.ends_with("coded samples read back within their base, at most 40 away\n"), "{said}");
         assert!(f.works("info b.fcs").contains(", bases 0 to 40\n"));
         let (a, b) = (samples(&f, "a.fcs"), samples(&f, "b.fcs"));
         let bases = [1, 1, 1, 40, 0];
@@ -113,7 +113,7 @@ fn copy_is_within_the_base_of_each_line() {
     f.fails(
         "copy a.fcs x --plan blanks",
         "refusal 18: record 1: the plan's record is malformed, runs backwards, passes the last line or has a base above 255: it is \"0 4 1\"; a \
-         record is first line, last line and base, parted by tabs, with lines 0 to 4 and bases 0 to 255",
+         record is first line, last line and base, separated by tabs, with lines 0 to 4 and bases 0 to 255",
     );
 }
 
@@ -191,7 +191,7 @@ fn what_cannot_be_made_leaves_everything() {
     let stream = loose();
     f.put("cut.fcs", &stream[..stream.len() / 4]);
     f.put("old", b"old");
-    let cut = "a file that is not whole is left alone; fujiraw decode --partial shows what is there";
+    let cut = "a damaged file is left alone; use fujiraw decode --partial to see what it has";
     for command in ["tighten cut.fcs old -f", "copy cut.fcs old -f --base 2"] {
         let out = f.run(command);
         let said = text(&out.stderr);
@@ -199,8 +199,8 @@ fn what_cannot_be_made_leaves_everything() {
         assert!(said.starts_with("refusal 14: block 0, line ") && said.ends_with(&format!(": a line is truncated: {cut}\n")), "{said}");
     }
     f.put("a.fcs", &stream);
-    f.fails("tighten a.fcs old", "cannot write old: it is there already; --force (-f) replaces it");
-    f.fails("tighten a.fcs a.fcs -f", "cannot write a.fcs: it is read for this");
+    f.fails("tighten a.fcs old", "cannot write old: it already exists; use --force (-f) to replace it");
+    f.fails("tighten a.fcs a.fcs -f", "cannot write a.fcs: it is also an input");
     f.fails("tighten missing out", "cannot read missing: no such file or directory");
     assert_eq!(f.get("old"), b"old");
     // To standard output, where nothing can be read back, it is compared before.
@@ -272,6 +272,6 @@ fn lines_hands_out_what_write_takes() {
     assert!(f.get("x.fcs").ends_with(&f.get("block")));
     f.fails("lines a.fcs 2 out", "refusal 5: there is no such block: the stream has 2 blocks, counted from 0");
     f.fails("lines a.fcs 18446744073709551615 out", "refusal 5: there is no such block: the stream has 2 blocks, counted from 0");
-    f.fails("lines a.fcs 0 set", "cannot write set: it is there already; --force (-f) replaces it");
+    f.fails("lines a.fcs 0 set", "cannot write set: it already exists; use --force (-f) to replace it");
     f.is_wrong("lines a.fcs out", "lines needs a stream or camera file, a block and an output");
 }

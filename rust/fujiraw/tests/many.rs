@@ -46,7 +46,7 @@ fn folders_are_searched() {
     let said = text(&f.run("info in --json").stdout);
     assert_eq!(said.lines().count(), 5);
     fs::create_dir(f.0.join("empty")).unwrap();
-    f.fails("info empty", "empty: this folder has no camera file or stream (.raf, .fcs)");
+    f.fails("info empty", "empty: no camera files or streams (.raf, .fcs) in this folder");
 }
 
 #[test]
@@ -74,9 +74,9 @@ fn what_comes_of_a_folder_goes_to_a_folder() {
     f.run("tighten in in/tight");
     let again = f.run("tighten in in/tight -f");
     assert!(text(&again.stderr).ends_with("5 files: 3 done, 2 failed\n"));
-    f.is_wrong("tighten in nowhere", "nowhere is no folder, and in is one: make a folder for what comes of it");
+    f.is_wrong("tighten in nowhere", "nowhere is not a folder, but in is: create a folder for the output");
     // Two of one name.
-    f.is_wrong("tighten in/a.fcs in/deep/../a.fcs out", "two outputs would go to out/a.fcs");
+    f.is_wrong("tighten in/a.fcs in/deep/../a.fcs out", "two outputs would be written to out/a.fcs");
 }
 
 #[test]
@@ -107,7 +107,7 @@ fn sizes_of_sheets_and_of_all() {
     // A folder; what cannot be measured is left out, and said.
     let out = f.run("size in");
     assert_eq!(out.status.code(), Some(1));
-    assert!(text(&out.stdout).lines().last().unwrap().ends_with(", without 2 that cannot be measured"));
+    assert!(text(&out.stdout).lines().last().unwrap().ends_with(", without 2 that could not be measured"));
     assert_eq!(text(&out.stderr).lines().count(), 2);
     assert_eq!(text(&f.run("size in --json").stdout).lines().filter(|l| l.contains("\"error\":")).count(), 2);
 }
@@ -128,9 +128,9 @@ fn size_of_one_block() {
     f.put("half", &[0; 2 * 12 * 384 - 1]);
     f.put("empty", b"");
     f.fails("size empty", "empty: refusal 1: fewer than 16 bytes of header: there are 0");
-    f.fails("size zeros", "zeros: refusal 2: a header rule is broken: no stream: it begins 00 00, and a stream begins 49 53");
+    f.fails("size zeros", "zeros: refusal 2: a header rule is broken: not a stream: it begins with 00 00, and streams begin with 49 53");
     f.fails("size missing", "missing: cannot read missing: no such file or directory");
-    let wanted = "4607 came, and 4608 are wanted (1 line of 12 colour lines of 384)";
+    let wanted = "there are 4607, and 4608 are needed (1 line of 12 colour lines of 384)";
     f.fails("size header --samples few", &format!("few: refusal 9: the number of samples is not the block's: {wanted}"));
     f.fails("size header --samples half", "half has half a sample at its end: samples are two bytes each");
     f.fails("size header --samples missing", "cannot read missing: no such file or directory");
@@ -138,11 +138,11 @@ fn size_of_one_block() {
     header[2] = 0;
     f.put("lossy", &header);
     f.fails("size lossy --samples few", "refusal 8: the stream is lossy: the length of a lossy block depends on its bases");
-    f.fails("write lossy few out", "refusal 8: the stream is lossy: its bases are to be named, with --bases or --plan");
+    f.fails("write lossy few out", "refusal 8: the stream is lossy: give its bases with --bases or --plan");
     f.is_wrong("size", "size needs a file or a folder");
-    f.is_wrong("size header zeros --samples zeros", "--samples are those of one block, under one header");
-    f.is_wrong("size - --samples -", "standard input is there twice");
-    f.is_wrong("size header --quiet", "size takes no --quiet");
+    f.is_wrong("size header zeros --samples zeros", "--samples takes one header");
+    f.is_wrong("size - --samples -", "standard input is named twice");
+    f.is_wrong("size header --quiet", "size has no option --quiet");
 }
 
 /// The header's fields, each wrong in its turn: the message names the field, its value and what it may be.
@@ -151,7 +151,7 @@ fn the_broken_rule_is_named() {
     let f = Folder::new("rules");
     let header = [0x49, 0x53, 1, 0, 14, 0, 144, 3, 0, 3, 0, 3, 0, 1, 0, 24];
     for (at, bytes, says) in [
-        (0, &[0x50][..], "no stream: it begins 50 53, and a stream begins 49 53"),
+        (0, &[0x50][..], "not a stream: it begins with 50 53, and streams begin with 49 53"),
         (2, &[2], "the lossless flag (byte 2) is 2, and must be 0 or 1"),
         (3, &[1], "the raw type (byte 3) is 1, and must be 0 (Bayer) or 16 (X-Trans)"),
         (4, &[13], "the bits a sample (byte 4) is 13, and must be 12, 14 or 16"),
@@ -208,8 +208,8 @@ fn lamp_as_rows() {
     let out = f.run("lamp cut.fcs --csv --lines");
     assert_eq!(out.status.code(), Some(1));
     assert!(text(&out.stderr).contains("cut.fcs: block 1, line 0: a line is truncated"), "{}", text(&out.stderr));
-    f.is_wrong("lamp a,b.raf --lines", "--lines goes with --csv: a row for each line");
-    f.is_wrong("lamp a,b.raf --by size", "sheets are in the order of name or time: not size");
+    f.is_wrong("lamp a,b.raf --lines", "--lines needs --csv");
+    f.is_wrong("lamp a,b.raf --by size", "--by takes name or time: not size");
 }
 
 /// Bits and long codes of each line of a tall sheet, against streams that end after that line.

@@ -67,7 +67,7 @@ fn nothing_is_replaced_unasked() {
     let bases = "--base 1";
     for command in ["decode a.fcs", "tighten a.fcs", &format!("copy {bases} a.fcs"), "lines a.fcs 0", "save a.fcs 0 0", "lamp a.fcs --svg"] {
         f.put("old", b"old");
-        f.fails(&format!("{command} old"), "cannot write old: it is there already; --force (-f) replaces it");
+        f.fails(&format!("{command} old"), "cannot write old: it already exists; use --force (-f) to replace it");
         assert_eq!(f.get("old"), b"old");
         for force in ["-f", "--force"] {
             f.put("old", b"old");
@@ -95,7 +95,7 @@ fn format_follows_the_ending() {
     for ending in ["tiff", "jpg", "dng", "raf"] {
         f.is_wrong(
             &format!("decode a.fcs a.{ending}"),
-            &format!("a.{ending} would be no .{ending}: decode writes .png, .pgm and .raw; --format says which if the name does not"),
+            &format!("decode writes .png, .pgm and .raw, not .{ending}: change the name a.{ending}, or use --format"),
         );
     }
     // Who asks for it gets it.
@@ -122,12 +122,12 @@ fn part_of_a_truncated_stream() {
     // The second of three blocks is cut, and the third is gone.
     let block = (whole.len() - 32) / 3;
     f.put("cut.fcs", &whole[..32 + block + 2 * block / 3]);
-    f.fails("decode cut.fcs out.raw", "refusal 14: block 1, line 2: a line is truncated; --partial writes the rows before it");
+    f.fails("decode cut.fcs out.raw", "refusal 14: block 1, line 2: a line is truncated; use --partial to write the rows before it");
     let out = f.run("decode cut.fcs part.raw --partial");
     assert_eq!(out.status.code(), Some(1));
     assert_eq!(text(&out.stdout), "part.raw: 1560 x 24 samples, 12 bits, tile rggb\n");
-    let says = "refusal 14: block 1, line 2: a line is truncated; the picture is a part, and what is missing is 0:\n  columns 768 to 1535: rows 0 to \
-                11 are there\n  columns 1536 to 1559: no row is there\n";
+    let says = "refusal 14: block 1, line 2: a line is truncated; a partial picture was written, with 0 for what is missing:\n  columns 768 to 1535: rows 0 to \
+                11 decoded\n  columns 1536 to 1559: no rows\n";
     assert_eq!(text(&out.stderr), says);
     let (part, whole) = (f.get("part.raw"), f.get("whole.raw"));
     for (i, (a, b)) in part.chunks(2).zip(whole.chunks(2)).enumerate() {

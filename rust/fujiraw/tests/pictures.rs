@@ -149,7 +149,7 @@ fn windows_give_the_same_picture() {
         std::fs::remove_file(f.0.join("cut.fcs")).unwrap();
     }
     f.is_wrong("decode bayer.fcs a --windowed=1", "--windowed takes no value");
-    f.is_wrong("check bayer.fcs --windowed", "check takes no --windowed");
+    f.is_wrong("check bayer.fcs --windowed", "check has no option --windowed");
 }
 
 #[test]
@@ -186,6 +186,6 @@ fn any_number_of_threads_gives_the_same_picture() {
         f.fails(&format!("decode cut.fcs out --threads {threads}"), text(&said).trim_end());
     }
     for wrong in ["0", "x", "-1", "1025"] {
-        f.is_wrong(&format!("decode a.fcs out --threads={wrong}"), &format!("threads are a number from 1 to 1024: not {wrong}"));
+        f.is_wrong(&format!("decode a.fcs out --threads={wrong}"), &format!("--threads takes a number from 1 to 1024: not {wrong}"));
     }
 }

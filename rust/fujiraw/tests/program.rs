@@ -66,9 +66,9 @@ fn refusals() {
     f.put("cut", &whole[..whole.len() / 4 * 3]);
     f.put("a.fcs", &whole);
     f.fails("decode empty out", "refusal 1: fewer than 16 bytes of header: there are 0");
-    f.fails("info text", "refusal 2: a header rule is broken: no stream: it begins 74 68, and a stream begins 49 53");
+    f.fails("info text", "refusal 2: a header rule is broken: not a stream: it begins with 74 68, and streams begin with 49 53");
     f.fails("decode sizes out", "refusal 3: the block sizes are cut short: the stream has 19 bytes, and is cut off before its first block");
-    f.fails("decode cut out", "refusal 14: block 0, line 1: a line is truncated; --partial writes the rows before it");
+    f.fails("decode cut out", "refusal 14: block 0, line 1: a line is truncated; use --partial to write the rows before it");
     let edge = "refusal 7: the region passes the picture's edge, or the image is too short for it: the picture has 768 x 12 samples";
     f.fails("decode a.fcs out --region 700,0,69,1", edge);
     f.fails("decode a.fcs out --region 4294967295,4294967295,4294967295,4294967295", edge);
@@ -82,10 +82,10 @@ fn files_that_cannot_be_used() {
     f.put("a.fcs", &stream());
     fs::create_dir(f.0.join("folder")).unwrap();
     f.fails("decode missing out", "cannot read missing: no such file or directory");
-    f.fails("info folder", "folder: this folder has no camera file or stream (.raf, .fcs)");
-    f.is_wrong("decode folder out", "out is no folder, and folder is one: make a folder for what comes of it");
+    f.fails("info folder", "folder: no camera files or streams (.raf, .fcs) in this folder");
+    f.is_wrong("decode folder out", "out is not a folder, but folder is: create a folder for the output");
     f.fails("decode a.fcs none/out", "cannot write none/out: no such file or directory");
-    f.fails("decode a.fcs a.fcs", "cannot write a.fcs: it is read for this");
+    f.fails("decode a.fcs a.fcs", "cannot write a.fcs: it is also an input");
     f.fails("decode a.fcs /dev/full", "cannot write /dev/full: no space left on device");
     assert!(Path::new("/dev/full").exists());
     assert_eq!(f.get("a.fcs"), stream());
@@ -96,8 +96,8 @@ fn refused_stream_leaves_the_old_picture() {
     let f = Folder::new("old");
     f.put("cut", &stream()[..100]);
     f.put("out", b"old");
-    f.fails("decode cut out", "cannot write out: it is there already; --force (-f) replaces it");
-    f.fails("decode cut out -f", "refusal 14: block 0, line 0: a line is truncated; --partial writes the rows before it");
+    f.fails("decode cut out", "cannot write out: it already exists; use --force (-f) to replace it");
+    f.fails("decode cut out -f", "refusal 14: block 0, line 0: a line is truncated; use --partial to write the rows before it");
     assert_eq!(f.get("out"), b"old");
 }
 
@@ -120,29 +120,29 @@ fn wrong_usage() {
     f.put("a.fcs", &stream());
     f.put("b.fcs", &stream());
     fs::create_dir_all(f.0.join("folder/x")).unwrap();
-    f.is_wrong("", "what is to be done?");
-    f.is_wrong("show a.fcs", "there is no command show");
-    f.is_wrong("decod a.fcs b", "there is no command decod; is decode meant?");
-    f.is_wrong("decode a.fcs b --formt png", "decode takes no --formt; is --format meant?");
-    f.is_wrong("check a.fcs --qiet", "check takes no --qiet; is --quiet meant?");
-    f.is_wrong("check a.fcs -v", "check takes no -v");
+    f.is_wrong("", "no command is given");
+    f.is_wrong("show a.fcs", "unknown command show");
+    f.is_wrong("decod a.fcs b", "unknown command decod; did you mean decode?");
+    f.is_wrong("decode a.fcs b --formt png", "decode has no option --formt; did you mean --format?");
+    f.is_wrong("check a.fcs --qiet", "check has no option --qiet; did you mean --quiet?");
+    f.is_wrong("check a.fcs -v", "check has no option -v");
     f.is_wrong("info", "info needs a file or a folder");
     f.is_wrong("decode a.fcs", "decode needs a stream or camera file and an output");
-    f.is_wrong("decode a.fcs b.fcs c", "c is no folder, and there are 2 files to decode");
-    f.is_wrong("decode a.fcs folder/../a.fcs folder", "two outputs would go to folder/a.pgm");
+    f.is_wrong("decode a.fcs b.fcs c", "c is not a folder, and there are 2 files to decode");
+    f.is_wrong("decode a.fcs folder/../a.fcs folder", "two outputs would be written to folder/a.pgm");
     f.is_wrong("decode a.fcs out --region 1,2,3", "a region is four numbers, X,Y,W,H, with a width and a height: not 1,2,3");
     f.is_wrong("decode a.fcs out --region 1,2,3,0", "a region is four numbers, X,Y,W,H, with a width and a height: not 1,2,3,0");
     f.is_wrong("decode a.fcs out --tile 0123", "a tile is rggb, bggr, grbg, gbrg, xtrans or 36 digits");
     f.is_wrong("decode a.fcs out --tile=RGGB", "a tile is rggb, bggr, grbg, gbrg, xtrans or 36 digits");
-    f.is_wrong("decode a.fcs out --format gif", "there is no format gif: pgm, png and raw are");
+    f.is_wrong("decode a.fcs out --format gif", "unknown format gif: use png, pgm or raw");
     f.is_wrong("decode a.fcs out --preview --format raw", "a preview is pgm or png");
     f.is_wrong("decode a.fcs out --preview=small", "--preview takes no value");
-    f.is_wrong("decode - - folder", "standard input is there twice");
-    f.is_wrong("write - - out", "standard input is there twice");
-    f.is_wrong("info - -", "standard input is there twice");
+    f.is_wrong("decode - - folder", "standard input is named twice");
+    f.is_wrong("write - - out", "standard input is named twice");
+    f.is_wrong("info - -", "standard input is named twice");
     f.is_wrong("decode a.fcs out --format", "--format needs a value");
-    f.is_wrong("decode a.fcs out --speed 3", "decode takes no --speed");
-    f.is_wrong("decode a.fcs out --format raw --format pgm", "--format is there twice");
+    f.is_wrong("decode a.fcs out --speed 3", "decode has no option --speed");
+    f.is_wrong("decode a.fcs out --format raw --format pgm", "--format is given twice");
     assert!(f.works("--help").starts_with("usage: fujiraw COMMAND"));
     assert!(f.works("decode -h").starts_with("usage: fujiraw decode IN OUT"));
     assert_eq!(f.works("-V"), f.works("--version"));
@@ -183,10 +183,10 @@ fn write_makes_the_block_of_a_set() {
     );
     f.put("few", &[0; 2 * 12 * 384 - 2]);
     f.put("half", &[0; 2 * 12 * 384 - 1]);
-    let wanted = "4607 came, and 4608 are wanted (1 line of 12 colour lines of 384)";
+    let wanted = "there are 4607, and 4608 are needed (1 line of 12 colour lines of 384)";
     f.fails("write header few out", &format!("refusal 9: the number of samples is not the block's: {wanted}"));
     f.fails("write header half out", "half has half a sample at its end: samples are two bytes each");
-    f.fails("write few samples out", "refusal 2: a header rule is broken: no stream: it begins 00 00, and a stream begins 49 53");
+    f.fails("write few samples out", "refusal 2: a header rule is broken: not a stream: it begins with 00 00, and streams begin with 49 53");
     f.is_wrong("write header samples", "write needs a header, samples and an output");
 }
 
@@ -206,12 +206,12 @@ fn codes_lists_a_sheet() {
     for wrong in ["codes", "codes 12 0", "codes 12 0 3 1", "codes 12 x 3", "codes 12 0 4294967296"] {
         f.is_wrong(wrong, "codes needs three numbers: a depth, a k and a length");
     }
-    f.is_wrong("codes 12 -1 3", "codes takes no -1");
-    f.is_wrong("codes 12 0 3 --format raw", "codes takes no --format");
+    f.is_wrong("codes 12 -1 3", "codes has no option -1");
+    f.is_wrong("codes 12 0 3 --format raw", "codes has no option --format");
 }
 
 fn lossless_plan() -> &'static str {
-    "refusal 16: the header is lossless: a plan is for lossy ones; fujiraw copy IN OUT --plan PLAN makes a lossy copy of a lossless stream"
+    "refusal 16: the header is lossless: plans are for lossy headers; to make a lossy copy of a lossless stream, use fujiraw copy IN OUT --plan PLAN"
 }
 
 #[test]
@@ -231,15 +231,15 @@ fn plan_writes_the_bases() {
     f.put("none", b"0\t1\t7\n");
     f.put("empty", b"");
     let bad = "the plan's record is malformed, runs backwards, passes the last line or has a base above 255";
-    let form = "a record is first line, last line and base, parted by tabs, with lines 0 to 2 and bases 0 to 255";
+    let form = "a record is first line, last line and base, separated by tabs, with lines 0 to 2 and bases 0 to 255";
     f.fails("plan header bad out2", &format!("refusal 18: record 2: {bad}: it is \"0\\t2\"; {form}"));
     f.fails("plan header twice out2", "refusal 19: line 1: two records of the plan hold it");
     f.fails("plan header none out2", "refusal 20: line 2: no record of the plan holds it");
     f.fails("plan header empty out2", "refusal 20: line 0: no record of the plan holds it");
     f.fails("plan empty fine out2", "refusal 1: fewer than 16 bytes of header: there are 0");
     f.fails("plan header missing out2", "cannot read missing: no such file or directory");
-    f.fails("plan header fine fine", "cannot write fine: it is read for this");
-    f.fails("plan header fine header", "cannot write header: it is read for this");
+    f.fails("plan header fine fine", "cannot write fine: it is also an input");
+    f.fails("plan header fine header", "cannot write header: it is also an input");
     header[2] = 1;
     f.put("lossless", &header);
     f.fails("plan lossless bad out2", lossless_plan());
@@ -247,7 +247,7 @@ fn plan_writes_the_bases() {
     f.fails("plan header none out -f", "refusal 20: line 2: no record of the plan holds it");
     assert_eq!(f.get("out"), [255, 255, 7]);
     f.is_wrong("plan header fine", "plan needs a header, a plan and an output");
-    f.is_wrong("plan header fine out --format raw", "plan takes no --format");
+    f.is_wrong("plan header fine out --format raw", "plan has no option --format");
 }
 
 /// A set whose block with bases 1 and 1 an independent model has made: 104,369 bits, 13,056 bytes, 32 long codes.
@@ -284,26 +284,26 @@ fn write_makes_a_lossy_block() {
     f.put("few", &[0; 2 * 24 * 384 - 2]);
     f.put("high", &[&[0, 0, 0, 16], &[0; 2 * 24 * 384 - 4][..]].concat());
     let number = "refusal 17: the number of base bytes is not that of the lines";
-    f.fails("write header samples out --bases three", &format!("{number}: 3 came, and 2 are wanted"));
-    f.fails("write header few out --bases none", &format!("{number}: 0 came, and 2 are wanted"));
-    let wanted = "9215 came, and 9216 are wanted (2 lines of 12 colour lines of 384)";
+    f.fails("write header samples out --bases three", &format!("{number}: there are 3, and 2 are needed"));
+    f.fails("write header few out --bases none", &format!("{number}: there are 0, and 2 are needed"));
+    let wanted = "there are 9215, and 9216 are needed (2 lines of 12 colour lines of 384)";
     f.fails("write header few out --bases bases", &format!("refusal 9: the number of samples is not the block's: {wanted}"));
     let largest = "with 12 bits the largest is 4095";
     f.fails("write header high out --bases bases", &format!("refusal 11: sample 1: a sample is above the largest: {largest}"));
     f.fails("write header samples out --plan gap", "refusal 20: line 1: no record of the plan holds it");
     f.fails("write header samples out --bases missing", "cannot read missing: no such file or directory");
-    f.fails("write header samples bases --bases bases", "cannot write bases: it is read for this");
-    f.fails("write header samples plan --plan plan", "cannot write plan: it is read for this");
+    f.fails("write header samples bases --bases bases", "cannot write bases: it is also an input");
+    f.fails("write header samples plan --plan plan", "cannot write plan: it is also an input");
     header[2] = 1;
     f.put("lossless", &header);
     f.fails(
         "write lossless samples out --bases bases",
-        "refusal 16: the header is lossless: such a block has no bases; fujiraw copy makes a lossy copy of a whole stream",
+        "refusal 16: the header is lossless: a lossless block has no bases; to make a lossy copy of a whole stream, use fujiraw copy",
     );
     f.fails("write lossless samples out --plan plan", lossless_plan());
     f.is_wrong("write header samples out --bases bases --plan plan", "write takes --bases or --plan, not both");
-    f.is_wrong("write header - out --bases -", "standard input is there twice");
+    f.is_wrong("write header - out --bases -", "standard input is named twice");
     f.is_wrong("write header samples out --bases", "--bases needs a value");
     f.is_wrong("write header out --bases bases", "write needs a header, samples and an output");
-    f.is_wrong("size header --bases bases", "size takes no --bases");
+    f.is_wrong("size header --bases bases", "size has no option --bases");
 }

@@ -61,17 +61,17 @@ fn what_cannot_be_gone_on_from() {
     );
     f.fails("decode a.fcs out --from state", "the state of block 0 goes on from row 12, and the region begins with row 0");
     f.fails("decode a.fcs out --region 0,12,768,12 --from nothing", "cannot read nothing: no such file or directory");
-    f.fails("decode a.fcs state --region 0,12,768,12 --from state", "cannot write state: it is read for this");
+    f.fails("decode a.fcs state --region 0,12,768,12 --from state", "cannot write state: it is also an input");
     let none = "refusal 5: there is no such block: the stream has 2 blocks, counted from 0";
     f.fails("save a.fcs 2 0 out", none);
     // A number after which there is no other.
     f.put("good", b"good");
     f.fails("save a.fcs 18446744073709551615 0 good -f", none);
     assert_eq!(f.get("good"), b"good");
-    let past = "the line to store after is not there: the stream has lines 0 to 3 (refusal 21)";
+    let past = "refusal 21: there is no such line: the stream has lines 0 to 3";
     f.fails("save a.fcs 0 4 out", past);
     f.fails("save a.fcs all 18446744073709551615 out", past);
-    f.fails("save a.fcs 0 0 a.fcs", "cannot write a.fcs: it is read for this");
+    f.fails("save a.fcs 0 0 a.fcs", "cannot write a.fcs: it is also an input");
     let mut cut = wide();
     cut.truncate(1000);
     f.put("cut", &cut);
@@ -80,8 +80,8 @@ fn what_cannot_be_gone_on_from() {
     for words in ["save a.fcs 0 out", "save a.fcs 0 x out", "save a.fcs each 0 out", "save a.fcs 0 1 out more"] {
         f.is_wrong(words, needs);
     }
-    f.is_wrong("save a.fcs -1 0 out", "save takes no -1");
-    f.is_wrong("save a.fcs 0 1 out --quiet", "save takes no --quiet");
+    f.is_wrong("save a.fcs -1 0 out", "save has no option -1");
+    f.is_wrong("save a.fcs 0 1 out --quiet", "save has no option --quiet");
     f.is_wrong("decode a.fcs out --from state --windowed", "decode takes --from or --windowed, not both");
-    f.is_wrong("decode - out --from -", "standard input is there twice");
+    f.is_wrong("decode - out --from -", "standard input is named twice");
 }

@@ -68,11 +68,18 @@ pub enum Unfit {
     NoSignature(u64, [u8; 2]),
 }
 
+impl Unfit {
+    /// Whether something is missing that the file names.
+    pub fn is_cut(&self) -> bool {
+        matches!(self, Unfit::Short | Unfit::NoRawData | Unfit::Directory(_) | Unfit::PastEnd(_))
+    }
+}
+
 impl fmt::Display for Unfit {
     fn fmt(&self, f: &mut fmt::Formatter) -> fmt::Result {
         let camera = "this is a Fuji camera file (RAF), ";
         match self {
-            Unfit::Spoilt => write!(f, "this begins as a Fuji camera file (RAF) does, but its first 16 bytes are not all as they must be"),
+            Unfit::Spoilt => write!(f, "this begins like a Fuji camera file (RAF), but its 16-byte signature is damaged"),
             Unfit::Short => write!(f, "{camera}but it is cut off within its first 108 bytes"),
             Unfit::NoRawData => write!(f, "{camera}but the raw data that it names at byte 100 are not in the file: it is cut off or damaged"),
             Unfit::Directory(which) => write!(f, "{camera}but {which} of its raw data passes the end of the file: it is cut off or damaged"),
@@ -80,10 +87,10 @@ impl fmt::Display for Unfit {
             Unfit::PastEnd(at) => write!(f, "{camera}but its stream would begin at byte {at}, past the end of the file: it is cut off"),
             Unfit::Uncompressed(bits) => {
                 let bits = bits.map_or(String::new(), |b| format!(" of {b} bits"));
-                write!(f, "{camera}and its samples{bits} are not compressed: there is no stream to read")
+                write!(f, "{camera}and its samples{bits} are not compressed, so there is no stream to read")
             }
             Unfit::NoSignature(at, [a, b]) => {
-                write!(f, "{camera}but no stream begins at byte {at}: the bytes there are {a:02X} {b:02X}, and a stream begins 49 53")
+                write!(f, "{camera}but no stream begins at byte {at}: the bytes there are {a:02X} {b:02X}, and streams begin with 49 53")
             }
         }
     }

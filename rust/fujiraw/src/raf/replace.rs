@@ -72,9 +72,10 @@ impl Raf {
             let moved = value as u64 - old.len() as u64 + length as u64;
             new.put(&old, offset.at, offset.big, moved)?;
         }
-        let named = self.fields.length_at.filter(|_| self.named != Some(0));
-        if let Some((at, big)) = named {
-            new.put(&old, at, big, length as u64)?;
+        match (self.named, self.fields.length_at) {
+            (None | Some(0), _) => {}
+            (Some(_), Some((at, big))) => new.put(&old, at, big, length as u64)?,
+            (Some(_), None) => return Err("the file's tag 0xF008 has two bytes, and no other length can be put there".to_string()),
         }
         let raw = |at| Bytes::big(file).four(at).unwrap_or(0) as u64;
         let (raw_start, raw_length) = (raw(0x64), raw(0x68));
