@@ -3,6 +3,7 @@ use crate::calls::Compare;
 use crate::check::Verdict;
 use crate::files::{name, print};
 use crate::json::Object;
+use crate::memory;
 use crate::source::{Fault, Source, Trouble};
 use crate::tile;
 use fuji_compressed::{ColorTile, Rect, Scratch};
@@ -97,7 +98,9 @@ fn by_blocks(sources: [&Source; 2], tile: &ColorTile, threads: usize) -> Result<
             }
         }
     };
-    let threads = threads.clamp(1, h.blocks as usize);
+    // Each thread has a block's columns of both.
+    let second = sources[1].file.len() as u64;
+    let threads = memory::threads(threads, memory::picture(&h), second, 4 * 768 * h.height as u64).min(h.blocks as usize);
     thread::scope(|scope| {
         let has_thread = |_| threads > 1 && thread::Builder::new().spawn_scoped(scope, work).is_ok();
         if (0..threads).filter(|i| has_thread(*i)).count() == 0 {

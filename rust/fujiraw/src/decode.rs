@@ -6,7 +6,7 @@ use crate::output::Output;
 use crate::picture::Picture;
 use crate::progress::Progress;
 use crate::source::Source;
-use crate::{states, tile};
+use crate::{memory, states, tile};
 use fuji_compressed::{ColorTile, FujiCompressed, FujiHeader, Rect, Refusal, Scratch};
 use std::path::Path;
 use std::sync::Mutex;
@@ -61,7 +61,9 @@ fn picture(source: &Source, call: &Decode, tile: &ColorTile) -> Result<(Picture,
         true => FujiCompressed::decode_region_windowed_parallel,
         false => FujiCompressed::decode_region_parallel,
     };
-    match by_threads(&stream, call.threads, &mut samples, region, tile, &one_more) {
+    // Each thread has room for a block's columns.
+    let threads = memory::threads(call.threads, 0, 0, 2 * region.width.min(768) as u64 * region.height as u64);
+    match by_threads(&stream, threads, &mut samples, region, tile, &one_more) {
         Ok(()) => Ok((made(samples), None)),
         Err(refusal) if refusal.number == 14 && call.partial.0 => Ok((made(samples), Some(refusal))),
         Err(refusal) => Err(truncated(refusal)),

@@ -17,6 +17,7 @@ mod json;
 mod lamp;
 mod make;
 mod manual;
+mod memory;
 mod output;
 mod picture;
 mod png;

@@ -3,6 +3,7 @@ use crate::blocks::planned;
 use crate::calls::{Kind, Make};
 use crate::files::print;
 use crate::inputs::Input;
+use crate::memory;
 use crate::output::Output;
 use crate::progress::Progress;
 use crate::read_back::{Likeness, compare};
@@ -77,9 +78,12 @@ fn made(source: &Source, call: &Make, bases: Option<&[u8]>) -> Result<Vec<u8>, S
         *done += 1;
         progress.at(*done, h.blocks as usize, *done * 768 * h.height as usize);
     };
+    // What is made is there twice before it is put together; each thread has a set and a block.
+    let stream = source.bytes().len() as u64;
+    let threads = memory::threads(call.threads, memory::picture(&h), 2 * stream, memory::set(&h) + stream / h.blocks as u64);
     let made = match bases {
-        Some(bases) => lossy_copy_parallel(call.threads, source.bytes(), bases, &one_more),
-        None => tighten_parallel(call.threads, source.bytes(), &one_more),
+        Some(bases) => lossy_copy_parallel(threads, source.bytes(), bases, &one_more),
+        None => tighten_parallel(threads, source.bytes(), &one_more),
     };
     made.map_err(|e: Refusal| match e.number {
         14 => format!("{e}: a damaged file is left alone; use fujiraw decode --partial to see what it has"),

@@ -1,4 +1,5 @@
 //! Whether a stream has the samples of another: all of them, or each coded one within its base.
+use crate::memory;
 use fuji_compressed::{FujiCompressed, FujiHeader, Scratch};
 use std::sync::Mutex;
 use std::thread;
@@ -15,6 +16,7 @@ pub struct Likeness {
 /// each sample that has a code must be within that of its line.
 pub fn compare(old: &[u8], new: &[u8], bases: Option<&[u8]>, threads: usize) -> Result<Likeness, String> {
     let wrong = |what: String| Err(format!("the new file does not read back as it should: {what}; no output was written"));
+    let length = new.len() as u64;
     let (old, new) = match (FujiCompressed::new(old), FujiCompressed::new(new)) {
         (Ok(old), Ok(new)) => (old, new),
         (Err(e), _) | (_, Err(e)) => return wrong(e.to_string()),
@@ -36,8 +38,8 @@ pub fn compare(old: &[u8], new: &[u8], bases: Option<&[u8]>, threads: usize) -> 
             found.lock().unwrap().push(like.map_err(|why| format!("block {i}: {why}")));
         }
     };
-    // Each thread has two sets: of few blocks no more than the picture has.
-    let threads = threads.clamp(1, a.blocks as usize);
+    // Each thread has two sets.
+    let threads = memory::threads(threads, memory::picture(&a), length, 2 * memory::set(&a)).min(a.blocks as usize);
     thread::scope(|scope| {
         let has_thread = |_| threads > 1 && thread::Builder::new().spawn_scoped(scope, work).is_ok();
         if (0..threads).filter(|i| has_thread(*i)).count() == 0 {

@@ -4,6 +4,7 @@ use crate::calls::Size;
 use crate::files::{is_standard, name, print};
 use crate::inputs;
 use crate::json::Object;
+use crate::memory::{self, Gate};
 use crate::pool::{self, Work};
 use crate::source::{Source, header_of};
 use crate::wording::{both, count};
@@ -29,7 +30,14 @@ pub fn size(call: &Size) -> Result<ExitCode, String> {
     let inputs = inputs::all(&call.files, None);
     let (mut all, mut good, mut failed) = (Sizes { now: Some(0), at_most: 0, exactly: Some(0) }, 0, None);
     let at_most = call.at_most;
-    let block = |source: &Source, i: usize, scratch: &mut Scratch| if at_most { Ok(0) } else { length_of(source, i, scratch) };
+    let gate = Gate::new();
+    let block = |source: &Source, i: usize, scratch: &mut Scratch| {
+        if at_most {
+            return Ok(0);
+        }
+        let _held = gate.take(memory::set(&source.header()));
+        length_of(source, i, scratch)
+    };
     let sheet = |source: &Source, lengths: Vec<Result<u64, Refusal>>| sizes(source, lengths, at_most);
     pool::run(&inputs, call.threads, &Work { block, sheet }, |input, found| {
         let found = found.map_err(String::from).and_then(|sizes| sizes).or_else(|why| by_header(&input.path, why));
