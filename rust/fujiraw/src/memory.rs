@@ -2,8 +2,8 @@
 use fuji_compressed::FujiHeader;
 use std::sync::{Condvar, Mutex};
 
-/// What is left of the 64 MB for the work itself.
-const ROOM: u64 = 56_000_000;
+/// What is left of the 64 MB for the work itself: the system gives back freed memory late.
+const ROOM: u64 = 44_000_000;
 
 /// The bytes of a picture's samples.
 pub fn picture(h: &FujiHeader) -> u64 {
