@@ -71,9 +71,15 @@ where
     });
 }
 
+/// What a file is expected to take; of a pipe nobody knows.
+fn size_of(input: &Input) -> u64 {
+    std::fs::metadata(&input.path).map_or(0, |there| there.len())
+}
+
 enum Next {
     Block(usize, usize),
-    Load(usize),
+    /// A file, and how many bytes it is expected to have.
+    Load(usize, u64),
     End,
 }
 
@@ -87,7 +93,7 @@ where
         loop {
             match self.next() {
                 Next::Block(i, block) => self.block(i, block, &mut scratch),
-                Next::Load(i) => self.load(i),
+                Next::Load(i, size) => self.load(i, size),
                 Next::End => return,
             }
         }
@@ -100,11 +106,13 @@ where
             if let Some((i, block)) = state.jobs.pop_front() {
                 return Next::Block(i, block);
             }
-            let is_room = state.sheets.len() + state.loading < 2 || state.bytes < ROOM;
-            if state.next < self.inputs.len() && is_room {
+            let size = self.inputs.get(state.next).map(size_of);
+            let is_room = |size: u64| state.sheets.len() + state.loading < 2 || state.bytes + size < ROOM;
+            if let Some(size) = size.filter(|size| is_room(*size)) {
                 state.next += 1;
                 state.loading += 1;
-                return Next::Load(state.next - 1);
+                state.bytes += size;
+                return Next::Load(state.next - 1, size);
             }
             if state.next == self.inputs.len() && state.loading == 0 {
                 return Next::End;
@@ -113,7 +121,7 @@ where
         }
     }
 
-    fn load(&self, i: usize) {
+    fn load(&self, i: usize, size: u64) {
         let input = &self.inputs[i];
         let opened = match &input.broken {
             Some(why) => Err(Fault::from(why.clone())),
@@ -121,6 +129,7 @@ where
         };
         let mut state = self.state.lock().unwrap();
         state.loading -= 1;
+        state.bytes -= size;
         match opened {
             Ok(source) => {
                 let blocks = source.header().blocks as usize;
