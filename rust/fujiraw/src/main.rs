@@ -44,6 +44,7 @@ use std::process::ExitCode;
 const VERSION: &str = env!("CARGO_PKG_VERSION");
 
 fn main() -> ExitCode {
+    memory::give_back();
     let words = std::env::args_os().skip(1).collect();
     match arguments::read(words) {
         Ok(call) => answer(call),

@@ -2,8 +2,23 @@
 use fuji_compressed::FujiHeader;
 use std::sync::{Condvar, Mutex};
 
-/// What is left of the 64 MB for the work itself: the system gives back freed memory late.
-const ROOM: u64 = 44_000_000;
+/// What is left of the 64 MB for the work itself.
+const ROOM: u64 = 50_000_000;
+
+#[cfg(target_env = "gnu")]
+unsafe extern "C" {
+    /// Of the system's own library: how it hands out memory.
+    fn mallopt(what: std::ffi::c_int, value: std::ffi::c_int) -> std::ffi::c_int;
+}
+
+/// Large buffers are given back to the system as soon as they are freed. If nothing is said, the system's library keeps those of each thread.
+pub fn give_back() {
+    #[cfg(target_env = "gnu")]
+    {
+        const FROM_THE_SYSTEM_ABOVE: std::ffi::c_int = -3;
+        unsafe { mallopt(FROM_THE_SYSTEM_ABOVE, 1 << 20) };
+    }
+}
 
 /// The bytes of a picture's samples.
 pub fn picture(h: &FujiHeader) -> u64 {
