@@ -44,6 +44,7 @@ impl FujiCompressed<'_> {
     /// `read_set` with lent scratch. Refusal 10 too, after 9.
     pub fn read_set_with(&self, scratch: &mut Scratch, i: usize, set: &mut [u16]) -> Counted {
         let (mut totals, mut refusal) = ([0; 2], [0; 4]);
+        // SAFETY: each pointer and length is that of a slice or array that outlives the call; what is written to is borrowed exclusively.
         unsafe {
             ffi::fuji_read_set(
                 self.stream.as_ptr(),
@@ -69,6 +70,7 @@ impl FujiCompressed<'_> {
 /// 26 and 13, in this order; each leaves `out` as it was.
 pub fn put_front(header: &[u8], rows: &[u8], lengths: &[usize], out: &mut [u8]) -> Result<usize> {
     let (mut length, mut refusal) = ([0; 1], [0; 4]);
+    // SAFETY: each pointer and length is that of a slice or array that outlives the call; what is written to is borrowed exclusively.
     unsafe {
         ffi::fuji_put_front(
             header.as_ptr(),
@@ -111,6 +113,7 @@ pub fn tighten(stream: &[u8], out: &mut [u8]) -> Result<usize> {
 /// `tighten` with lent scratch and a lent set of exactly `FujiHeader::set_size` samples, which is scratch too. Refusals 9 and 10 too, after 4.
 pub fn tighten_with(scratch: &mut Scratch, set: &mut [u16], stream: &[u8], out: &mut [u8]) -> Result<usize> {
     let (mut length, mut refusal) = ([0; 1], [0; 4]);
+    // SAFETY: each pointer and length is that of a slice or array that outlives the call; what is written to is borrowed exclusively.
     unsafe {
         ffi::fuji_tighten(
             stream.as_ptr(),
@@ -140,6 +143,7 @@ pub fn lossy_copy(stream: &[u8], bases: &[u8], out: &mut [u8]) -> Result<usize> 
 /// `lossy_copy` with lent scratch and a lent set. Refusals 9 and 10 too, after 17.
 pub fn lossy_copy_with(scratch: &mut Scratch, set: &mut [u16], stream: &[u8], bases: &[u8], out: &mut [u8]) -> Result<usize> {
     let (mut length, mut refusal) = ([0; 1], [0; 4]);
+    // SAFETY: each pointer and length is that of a slice or array that outlives the call; what is written to is borrowed exclusively.
     unsafe {
         ffi::fuji_lossy_copy(
             stream.as_ptr(),

@@ -4,9 +4,13 @@ use std::fmt;
 /// A refusal: its number, and the block, the line and the index that it names, 0 where it names none.
 #[derive(Debug, Clone, Copy, PartialEq, Eq)]
 pub struct Refusal {
+    /// The number in docs/FORMAT.md.
     pub number: u32,
+    /// The block that it names.
     pub block: usize,
+    /// The line of six rows that it names.
     pub line: usize,
+    /// The sample, or the record of a plan, that it names.
     pub index: usize,
 }
 
@@ -19,6 +23,7 @@ impl Refusal {
         }
     }
 
+    /// A sentence for it.
     pub fn words(&self) -> &'static str {
         match self.number {
             1 => "fewer than 16 bytes of header",
