@@ -7,6 +7,7 @@ use Rattle.stream.specs.declared.header.Parsed.the-variants as Parsing
 use mathlib.Core.Path.{_≡_}
 use Rattle.colour_lines.specs.Sets.{setSize}
 use Rattle.stream.specs.Inside.{Ruled}
+use Rattle.admission.specs.Beginnings.{ScratchFits}
 
 pub record SetFits (h : FujiHeader) (count samples records : ℕ) : Type 0 where
   pub is-ruled : Ruled h

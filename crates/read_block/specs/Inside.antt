@@ -45,15 +45,15 @@ scratchOf o = record { lines = o .lines; records = o .records }
 abbrev pub ScratchOf : Bool → List ℕ → List Record → Type 0
 ScratchOf xtrans lines records = (length lines ≡ samplesNeeded xtrans) × (length records ≡ recordsNeeded)
 
-abbrev pub walkedCounted : ℕ → Walked → Counted
-walkedCounted b w = record { answer = walkedAnswer b w; totals = walkedTotals w }
+-- what a walk over block b says
+abbrev pub walkedTotals : Walked → Totals
+walkedTotals (Walk.Read all tight) = all
+walkedTotals (Walk.Truncated line before) = before
 
 -- what a walk over block b answers
 abbrev pub walkedAnswer : ℕ → Walked → Decoded
 walkedAnswer b (Walk.Read all tight) = Done
 walkedAnswer b (Walk.Truncated line before) = Refused (Truncated b line)
 
--- what a walk over block b says
-abbrev pub walkedTotals : Walked → Totals
-walkedTotals (Walk.Read all tight) = all
-walkedTotals (Walk.Truncated line before) = before
+abbrev pub walkedCounted : ℕ → Walked → Counted
+walkedCounted b w = record { answer = walkedAnswer b w; totals = walkedTotals w }
