@@ -83,9 +83,7 @@ pub fn block(stream: &FujiCompressed, i: usize, scratch: &mut Scratch) -> Block 
     let totals = counted.totals;
     match (counted.answer, tight.map(|c| c.answer)) {
         (Err(cut), _) => Block { verdict: Verdict::Damaged, totals, lines: cut.line as u32, why: Some(cut.to_string()) },
-        (Ok(()), Some(Err(loose))) => {
-            Block { verdict: Verdict::NotTight, totals, lines: h.lines, why: Some(why_loose(loose, stream, i)) }
-        }
+        (Ok(()), Some(Err(loose))) => Block { verdict: Verdict::NotTight, totals, lines: h.lines, why: Some(why_loose(loose, stream, i)) },
         (Ok(()), _) => Block { verdict: Verdict::Lossy, totals, lines: h.lines, why: None },
     }
 }
@@ -191,7 +189,11 @@ fn words(input: &Input, found: &Result<Sheet, Fault>, call: &Check) -> String {
         let why = block.why.as_ref().map_or(String::new(), |w| format!(": {w}"));
         let bits = bits / block.lines.max(1) as u64;
         let of = if block.lines < sheet.lines { format!(" in lines 0 to {}", block.lines.max(1) - 1) } else { String::new() };
-        let counted = if block.lines == 0 { "no whole line".to_string() } else { format!("{bits} bits a line, {}{of}", count(long_codes as usize, "long code")) };
+        let counted = if block.lines == 0 {
+            "no whole line".to_string()
+        } else {
+            format!("{bits} bits a line, {}{of}", count(long_codes as usize, "long code"))
+        };
         let _ = writeln!(text, "  block {i}: {}, {counted}{why}", block.verdict.words());
     }
     text

@@ -111,9 +111,8 @@ pub fn json(file: &str, source: &Result<Source, Fault>, read: bool) -> String {
 
 fn camera_json(object: Object, raf: &Raf) -> Object {
     let size = raf.raw_size.map(|s| Object::new().field("width", s.width).field("height", s.height).end());
-    let crop = raf.crop.map(|c| {
-        Object::new().field("left", c.left).field("top", c.top).field("width", c.width).field("height", c.height).end()
-    });
+    let crop =
+        raf.crop.map(|c| Object::new().field("left", c.left).field("top", c.top).field("width", c.width).field("height", c.height).end());
     let object = object.text("model", &raf.model).maybe("taken", raf.taken.as_ref().map(|t| quoted(t)));
     let object = object.maybe("raw_size", size).maybe("crop", crop);
     object.field("stream_offset", raf.stream.start).field("stream_bytes", raf.stream.len())

@@ -103,7 +103,8 @@ fn chart(call: &Lamp, output: Output, sheets: &[(String, String, Result<Sheet, F
 fn lines(call: &Lamp, inputs: &[Input]) -> Result<ExitCode, String> {
     print("file,time,block,line,bits,long_codes\n")?;
     let block = |source: &Source, i: usize, scratch: &mut Scratch| each_line(&source.stream(), i, scratch);
-    let sheet = |source: &Source, blocks: Vec<Vec<Totals>>| (source.raf.as_ref().and_then(|r| r.taken.clone()), source.header().lines, blocks);
+    let sheet =
+        |source: &Source, blocks: Vec<Vec<Totals>>| (source.raf.as_ref().and_then(|r| r.taken.clone()), source.header().lines, blocks);
     let (mut bad, mut failed) = (false, None);
     pool::run(inputs, call.threads, &Work { block, sheet }, |input, found| {
         let (taken, all, blocks) = match found {

@@ -136,8 +136,9 @@ fn run(all: &[Input], quiet: bool, work: impl Fn(&Input) -> Result<(), String>) 
     if all.len() > 1 && (!quiet || failed > 0) {
         let line = format!("{}: {} done, {failed} failed", wording::count(all.len(), "file"), all.len() - failed);
         // Where something failed the count stands with what is said of it.
-        let told = if failed > 0 { Ok(complain(&line)) } else { files::print(&(line + "\n")) };
-        if let Err(why) = told {
+        if failed > 0 {
+            complain(&line);
+        } else if let Err(why) = files::print(&(line + "\n")) {
             return ended(Err(why));
         }
     }

@@ -32,7 +32,12 @@ pub fn make(call: &Make, input: &Input) -> Result<(), String> {
     let size = (head.len() + made.len() + tail.len()) as u64;
     let Some(output) = output else {
         let what = if bases.is_some() { "as a lossy copy" } else { "as a tight file" };
-        return print(&format!("{}: {what} it would take {}; now it takes {}; nothing was written\n", source.name(), both(size), in_words(source.file.len() as u64)));
+        return print(&format!(
+            "{}: {what} it would take {}; now it takes {}; nothing was written\n",
+            source.name(),
+            both(size),
+            in_words(source.file.len() as u64)
+        ));
     };
     call.place.make_folder(&out)?;
     let to_standard = output.is_standard();

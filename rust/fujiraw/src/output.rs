@@ -84,7 +84,9 @@ impl<'o> Output<'o> {
             draft.file.set_permissions(there.permissions()).map_err(failed)?;
         }
         draft.publish(&target, self.force.0).map_err(|e| match e.kind() {
-            io::ErrorKind::AlreadyExists => format!("cannot write {}: it already exists; use --force (-f) to replace it", self.out.display()),
+            io::ErrorKind::AlreadyExists => {
+                format!("cannot write {}: it already exists; use --force (-f) to replace it", self.out.display())
+            }
             _ => failed(e),
         })
     }

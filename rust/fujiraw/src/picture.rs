@@ -36,7 +36,10 @@ impl Format {
     /// The format that an output's name asks for: pgm if it has no ending that means a picture.
     pub fn of_ending(out: &Path) -> std::result::Result<Format, String> {
         let ending = out.extension().map(|e| e.to_string_lossy().to_lowercase()).unwrap_or_default();
-        let others = ["tif", "tiff", "jpg", "jpeg", "jxl", "bmp", "gif", "webp", "avif", "heic", "heif", "ppm", "pnm", "pdf", "dng", "raf", "fcs", "exr"];
+        let others = [
+            "tif", "tiff", "jpg", "jpeg", "jxl", "bmp", "gif", "webp", "avif", "heic", "heif", "ppm", "pnm", "pdf", "dng", "raf", "fcs",
+            "exr",
+        ];
         if others.contains(&ending.as_str()) {
             return Err(format!("decode writes .png, .pgm and .raw, not .{ending}: change the name {}, or use --format", out.display()));
         }

@@ -85,7 +85,7 @@ const COLOUR_LINES: [usize; 12] = [2, 3, 4, 7, 8, 9, 10, 11, 12, 15, 16, 17];
 fn is_interpolated(rank: usize, p: usize) -> bool {
     match COLOUR_LINES[rank] {
         2 | 15 | 9 | 12 => p.is_multiple_of(2),
-        3 | 17 => p % 4 == 0,
+        3 | 17 => p.is_multiple_of(4),
         16 | 4 => p % 4 == 2,
         _ => false,
     }

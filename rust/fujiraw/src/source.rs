@@ -115,7 +115,8 @@ impl Source {
 /// Where the stream lies in a file.
 fn find(file: &[u8]) -> Result<(Option<Raf>, Range<usize>), Fault> {
     if raf::is_raf(file) {
-        let found = raf::read(file).map_err(|e| Fault { trouble: if e.is_cut() { Trouble::Damaged } else { Trouble::Unreadable }, text: e.to_string() })?;
+        let found = raf::read(file)
+            .map_err(|e| Fault { trouble: if e.is_cut() { Trouble::Damaged } else { Trouble::Unreadable }, text: e.to_string() })?;
         let range = found.stream.clone();
         return Ok((Some(found), range));
     }

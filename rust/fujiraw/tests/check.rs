@@ -79,7 +79,7 @@ fn true_bits_and_long_codes_of_every_sheet() {
     let lossy = made(&Header::new(false, false, 12, 768, 2), &[vec![1, 1]], &congruential(12, 1 << 12, 2 * 12 * 384));
     f.put("lossy.fcs", &lossy);
     assert_eq!(f.works("check lossy.fcs"), "lossy.fcs: whole (lossy), 52184 bits a line, 32 long codes\n");
-    let blocks = |said: String| said.lines().filter(|l| l.starts_with("  block 0: ")).last().unwrap().to_string();
+    let blocks = |said: String| said.lines().rfind(|l| l.starts_with("  block 0: ")).unwrap().to_string();
     assert_eq!(blocks(f.works("check whole.fcs --blocks")), "  block 0: tight, 67932 bits a line, 29 long codes");
     assert_eq!(blocks(f.works("info whole.fcs --blocks")), "  block 0: 67932 bits a line, 29 long codes, tight");
     assert!(!f.works("info whole.fcs").contains("bits a line"));
@@ -101,7 +101,8 @@ fn true_bits_and_long_codes_of_every_sheet() {
     let (code, failed) = said(&f, "check --json missing cut.fcs");
     assert_eq!(code, Some(5));
     let lines: Vec<&str> = failed.lines().collect();
-    let missing = "{\"file\":\"missing\",\"verdict\":\"unreadable\",\"status\":5,\"error\":\"cannot read missing: no such file or directory\"}";
+    let missing =
+        "{\"file\":\"missing\",\"verdict\":\"unreadable\",\"status\":5,\"error\":\"cannot read missing: no such file or directory\"}";
     assert_eq!((lines.len(), lines[0]), (2, missing));
     let start = "{\"file\":\"cut.fcs\",\"verdict\":\"damaged\",\"status\":4,";
     assert!(lines[1].starts_with(start) && lines[1].contains("\"bits_per_line\":null,"), "{}", lines[1]);

@@ -64,7 +64,10 @@ fn dry_run_says_what_it_would_take() {
     f.works("tighten a.fcs b.fcs");
     let length = f.get("b.fcs").len();
     let said = f.works("tighten a.fcs c.fcs --dry-run");
-    assert!(said.starts_with(&format!("a.fcs: as a tight file it would take {length} bytes ")) && said.ends_with("; nothing was written\n"), "{said}");
+    assert!(
+        said.starts_with(&format!("a.fcs: as a tight file it would take {length} bytes ")) && said.ends_with("; nothing was written\n"),
+        "{said}"
+    );
     // Not even a file that is there is in the way.
     f.works("tighten a.fcs b.fcs --dry-run");
     let said = f.works("copy a.fcs c.fcs --base 9 --dry-run");
@@ -80,7 +83,10 @@ fn copy_is_within_the_base_of_each_line() {
         f.put("a.fcs", &noisy(&Header::new(true, xtrans, 14, 960, 5), &[], 5));
         f.put("plan", b"3\t3\t40\n0\t2\t1\n4\t4\t0\n");
         let said = f.works("copy a.fcs b.fcs --plan plan -f");
-        assert!(said.contains("b.fcs: lossy, ") && said.ends_with("coded samples read back within their base, at most 40 away\n"), "{said}");
+        assert!(
+            said.contains("b.fcs: lossy, ") && said.ends_with("coded samples read back within their base, at most 40 away\n"),
+            "{said}"
+        );
         assert!(f.works("info b.fcs").contains(", bases 0 to 40\n"));
         let (a, b) = (samples(&f, "a.fcs"), samples(&f, "b.fcs"));
         let bases = [1, 1, 1, 40, 0];
@@ -212,7 +218,8 @@ fn what_cannot_be_made_leaves_everything() {
 fn compare_says_whether_pictures_are_the_same() {
     let f = Folder::new("compare");
     let header = Header::new(true, false, 14, 960, 2);
-    let with = |row: usize, v: u16| encoded(&header, &[], &mut |b, n, line, p| if (b, n, line, p) == (1, 1, 7, 5) { v } else { (row + p) as u16 });
+    let with =
+        |row: usize, v: u16| encoded(&header, &[], &mut |b, n, line, p| if (b, n, line, p) == (1, 1, 7, 5) { v } else { (row + p) as u16 });
     f.put("a.fcs", &with(9, 3000));
     f.put("b.fcs", &with(9, 3070));
     f.put("c.fcs", &noisy(&Header::new(true, false, 12, 960, 2), &[], 3));

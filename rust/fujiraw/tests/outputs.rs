@@ -65,7 +65,8 @@ fn nothing_is_replaced_unasked() {
     f.put("a.fcs", &stream());
     f.put("states", b"");
     let bases = "--base 1";
-    for command in ["decode a.fcs", "tighten a.fcs", &format!("copy {bases} a.fcs"), "lines a.fcs 0", "save a.fcs 0 0", "lamp a.fcs --svg"] {
+    for command in ["decode a.fcs", "tighten a.fcs", &format!("copy {bases} a.fcs"), "lines a.fcs 0", "save a.fcs 0 0", "lamp a.fcs --svg"]
+    {
         f.put("old", b"old");
         f.fails(&format!("{command} old"), "cannot write old: it already exists; use --force (-f) to replace it");
         assert_eq!(f.get("old"), b"old");
@@ -87,7 +88,9 @@ fn nothing_is_replaced_unasked() {
 fn format_follows_the_ending() {
     let f = Folder::new("ending");
     f.put("a.fcs", &stream());
-    for (name, begin) in [("a.png", &b"\x89PNG"[..]), ("a.PNG", b"\x89PNG"), ("a.pgm", b"P5\n"), ("plain", b"P5\n"), ("a.raw", &2u16.to_le_bytes())] {
+    for (name, begin) in
+        [("a.png", &b"\x89PNG"[..]), ("a.PNG", b"\x89PNG"), ("a.pgm", b"P5\n"), ("plain", b"P5\n"), ("a.raw", &2u16.to_le_bytes())]
+    {
         f.works(&format!("decode a.fcs {name}"));
         assert!(f.get(name).starts_with(begin), "{name}");
     }
@@ -176,7 +179,8 @@ fn killed_at_random_moments() {
         f.put("out.raw", &old);
         let _ = fs::remove_file(f.0.join("fresh.raw"));
         // Every second one to a name that is not there yet.
-        let line: &[&str] = if turn % 2 == 0 { &["decode", "a.fcs", "out.raw", "-f", "-q"] } else { &["decode", "a.fcs", "fresh.raw", "-q"] };
+        let line: &[&str] =
+            if turn % 2 == 0 { &["decode", "a.fcs", "out.raw", "-f", "-q"] } else { &["decode", "a.fcs", "fresh.raw", "-q"] };
         let mut child = Command::new(PROGRAM).args(line).current_dir(&f.0).stdout(Stdio::null()).stderr(Stdio::null()).spawn().unwrap();
         std::thread::sleep(Duration::from_micros(random.below(longest)));
         let _ = child.kill();

@@ -186,7 +186,10 @@ fn write_makes_the_block_of_a_set() {
     let wanted = "there are 4607, and 4608 are needed (1 line of 12 colour lines of 384)";
     f.fails("write header few out", &format!("refusal 9: the number of samples is not the block's: {wanted}"));
     f.fails("write header half out", "half has half a sample at its end: samples are two bytes each");
-    f.fails("write few samples out", "refusal 2: a header rule is broken: not a stream: it begins with 00 00, and streams begin with 49 53");
+    f.fails(
+        "write few samples out",
+        "refusal 2: a header rule is broken: not a stream: it begins with 00 00, and streams begin with 49 53",
+    );
     f.is_wrong("write header samples", "write needs a header, samples and an output");
 }
 

@@ -2,9 +2,7 @@
 #![allow(dead_code)] // Each test program uses a part of it.
 
 /// The usual X-Trans tile as a camera stores it: back to front.
-pub const STORED: [u8; 36] = [
-    1, 0, 2, 1, 2, 0, 2, 1, 1, 0, 1, 1, 0, 1, 1, 2, 1, 1, 1, 2, 0, 1, 0, 2, 0, 1, 1, 2, 1, 1, 2, 1, 1, 0, 1, 1,
-];
+pub const STORED: [u8; 36] = [1, 0, 2, 1, 2, 0, 2, 1, 1, 0, 1, 1, 0, 1, 1, 2, 1, 1, 1, 2, 0, 1, 0, 2, 0, 1, 1, 2, 1, 1, 2, 1, 1, 0, 1, 1];
 
 /// How a camera file is made.
 #[derive(Clone)]
