@@ -52,15 +52,18 @@ module _ (d : List ℕ) (b : ℕ) (before : Sets) (begins : Parsed) where
   pub set-refused : (x : Refusal) → begins ≡ Parsing.Refused x → (a : Counted) → a ≡ refusedBy x → LeftSet d b begins before before a
   set-refused x e a f = rw e (f, refl)
 
-  pub set-read : (h : FujiHeader) → begins ≡ Parsing.Header h → (after : Sets) (a : Counted) → SetReading d b h before after a → LeftSet d b begins before after a
+  pub set-read : (h : FujiHeader) → begins ≡ Parsing.Header h → (after : Sets) (a : Counted) → SetReading d b h before after a → LeftSet d b begins
+      before after a
   set-read h e after a l = rw e l
 
 -- what was read of the block that the stream says
-pub set-walked : (d : List ℕ) (h : FujiHeader) (b n : ℕ) (F : Form) (bases s : List ℕ) (w : Walked) (set set' : List ℕ) → F ≡ formOf h → bases ≡ basesIn d b → s ≡ bytesIn d b
+pub set-walked : (d : List ℕ) (h : FujiHeader) (b n : ℕ) (F : Form) (bases s : List ℕ) (w : Walked) (set set' : List ℕ) → F ≡ formOf h → bases ≡
+    basesIn d b → s ≡ bytesIn d b
     → n ≡ h .lines → IsWalked F bases s n w × (set' ≡ putOver set 0 (setWith F bases (linesRead F bases s n) s))
     → IsWalked (formOf h) (basesIn d b) (bytesIn d b) (h .lines) w
     × (set' ≡ putOver set 0 (setWith (formOf h) (basesIn d b) (linesRead (formOf h) (basesIn d b) (bytesIn d b) (h .lines)) (bytesIn d b)))
 set-walked d h b n F bases s w set set' ef eb es en p = rw (ef, eb, es, en) at p
 
-pub set-form : (F : Form) (h : FujiHeader) (n k : ℕ) → F ≡ formOf h → n ≡ h .lines → k ≡ setSize (widthOf (h .xtrans)) (h .lines) → k ≡ setSize (widthOf (F .xtrans)) n
+pub set-form : (F : Form) (h : FujiHeader) (n k : ℕ) → F ≡ formOf h → n ≡ h .lines → k ≡ setSize (widthOf (h .xtrans)) (h .lines) → k ≡ setSize
+    (widthOf (F .xtrans)) n
 set-form F h n k ef en e = rw (ef, en) e

@@ -39,7 +39,8 @@ use Rattle.read_set.proofs.SetLaws.{set-more}
 use Rattle.read_set.proofs.RecordLaws.{records-whole}
 
 -- n lines of the block s were read, and stand in the set
-pub record Kept (F : Form) (bases s set₀ : List ℕ) (n : ℕ) (lines : List ℕ) (rs : List Record) (set : List ℕ) (place : Place) (tight : TightLines) (all : Totals) : Type 0 where
+pub record Kept (F : Form) (bases s set₀ : List ℕ) (n : ℕ) (lines : List ℕ) (rs : List Record) (set : List ℕ) (place : Place) (tight : TightLines)
+    (all : Totals) : Type 0 where
   pub read : readLines F bases s n ≡ some (stateAt lines rs place)
   pub tight-is : tight ≡ tightOf (λ m. readLines F bases s m) n
   pub all-is : all ≡ totalsAt place
@@ -100,7 +101,8 @@ module _ (F : Form) (bases s set₀ : List ℕ) where
     unfolding tightIn
     tight-of-one read z e = rw e
 
-    place-of : (more : Totals) (clean : TightLines) (p : ReadOn false F bases s n (stateAt lines rs place) 1 more clean after) (to : Place) → to ≡ nextPlace more clean
+    place-of : (more : Totals) (clean : TightLines) (p : ReadOn false F bases s n (stateAt lines rs place) 1 more clean after) (to : Place) → to ≡
+        nextPlace more clean
         → p .end ≡ stateAt (after .lines) (after .records) to
     place-of more clean p to e =
         let read : ℕ → Option State = λ m. readFrom F bases s n (stateAt lines rs place) m in
@@ -108,7 +110,8 @@ module _ (F : Form) (bases s set₀ : List ℕ) where
         let u : eqb (clean .lines) 1 ≡ p .end .tight = rw t (one-tight (p .end .tight)) in
         rw (e, p .held, p .records, u, p .all-is)
 
-    next-read : (more : Totals) (clean : TightLines) (p : ReadOn false F bases s n (stateAt lines rs place) 1 more clean after) (to : Place) → to ≡ nextPlace more clean
+    next-read : (more : Totals) (clean : TightLines) (p : ReadOn false F bases s n (stateAt lines rs place) 1 more clean after) (to : Place) → to ≡
+        nextPlace more clean
         → readLines F bases s (n + 1) ≡ some (stateAt (after .lines) (after .records) to)
     next-read more clean p to e = sym (goes-on F bases s n 1 (stateAt lines rs place) (k .read)) ∙ p .read ∙ ap some (place-of more clean p to e)
 
@@ -148,7 +151,8 @@ module _ (F : Form) (bases s set₀ : List ℕ) where
         let z : p .count ≡ 0 = omega (arith, p .inside) in
         let l : line ≡ n = p .line-is ∙ rw z (add-zero n) in
         let same : some (p .before) ≡ some (stateAt lines rs place) = sym (p .read) ∙ rw z (from-none F bases s n (stateAt lines rs place)) in
-        let c : readLines F bases s (suc n) ≡ none = ap (λ (m : ℕ). readLines F bases s m) (sym (add-one n)) ∙ sym (goes-on F bases s n 1 (stateAt lines rs place) (k .read)) ∙ (rw z at (p .cut)) in (
+        let c : readLines F bases s (suc n) ≡ none = ap (λ (m : ℕ). readLines F bases s m) (sym (add-one n)) ∙ sym
+        (goes-on F bases s n 1 (stateAt lines rs place) (k .read)) ∙ (rw z at (p .cut)) in (
           rw l (record {
             before = stateAt lines rs place;
             inside = omega arith;

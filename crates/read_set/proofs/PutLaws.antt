@@ -48,11 +48,13 @@ module _ (d : List ℕ) (at : ℕ) (s : List ℕ) (fits : at + length s ≤ leng
       let behind : drop (at + length s + length t) (putOver d at s) ≡ drop (at + (length s + length t)) d =
       ap (drop (at + length s + length t)) joined
       ∙ (rw head-long at (drop-append-add (take at d ++ s) (drop (at + length s) d) (length t)))
-      ∙ drop-drop (length t) (at + length s) d ∙ (let n : at + length s + length t ≡ at + (length s + length t) = omega arith in ap (λ (n : ℕ). drop n d) n) in
+      ∙ drop-drop (length t) (at + length s) d ∙ (let n : at + length s + length t ≡ at + (length s + length t) = omega arith in ap
+      (λ (n : ℕ). drop n d) n) in
       rw (front, behind) (append-assoc (take at d) s (t ++ drop (at + (length s + length t)) d)
       ∙ rw (length-append s t) (ap (λ (l : List ℕ). take at d ++ l) (sym (append-assoc s t (drop (at + (length s + length t)) d)))))
 
-pub put-after : (d : List ℕ) (at : ℕ) (s t : List ℕ) (n : ℕ) → length s ≡ n → at + length s ≤ length d → putOver (putOver d at s) (at + n) t ≡ putOver d at (s ++ t)
+pub put-after : (d : List ℕ) (at : ℕ) (s t : List ℕ) (n : ℕ) → length s ≡ n → at + length s ≤ length d → putOver (putOver d at s) (at + n) t ≡ putOver
+    d at (s ++ t)
 put-after d at s t n e fits = ap (λ (m : ℕ). putOver (putOver d at s) (at + m) t) (sym e) ∙ put-next d at s fits t
 
 -- a store is one sample put
@@ -74,7 +76,8 @@ copy-more d from start at n j hf hd hj =
   where
     one-more : (x : List ℕ) (at : ℕ) (from : List ℕ) (j : ℕ) → x ≡ drop at from → j < length x → take j x ++ getD from (at + j) 0 ∷ [] ≡ take (j + 1) x
     one-more x at from j e l =
-        ap (λ (v : ℕ). take j x ++ v ∷ []) (sym (ap (λ (y : List ℕ). getD y j 0) e ∙ getD-drop at from j 0)) ∙ sym (take-suc x j 0 l) ∙ ap (λ (m : ℕ). take m x) (sym (add-one j))
+        ap (λ (v : ℕ). take j x ++ v ∷ []) (sym (ap (λ (y : List ℕ). getD y j 0) e ∙ getD-drop at from j 0)) ∙ sym (take-suc x j 0 l) ∙ ap
+        (λ (m : ℕ). take m x) (sym (add-one j))
 
 -- ---- the twelve colour lines
 
@@ -146,7 +149,8 @@ module _ (d : List ℕ) (b count samples records : ℕ) (p : Parsed) (opens : p 
     unfolding setBegins
     begins-no-block k = rw (is, le-ltb b (h .blocks) k)
 
-    pub begins-wrong : (n : ℕ) → n ≡ setSize (widthOf (h .xtrans)) (h .lines) → b < h .blocks → (count ≡ n → ⊥) → Parsing.Refused WrongCount ≡ setBegins d b count samples records
+    pub begins-wrong : (n : ℕ) → n ≡ setSize (widthOf (h .xtrans)) (h .lines) → b < h .blocks → (count ≡ n → ⊥) → Parsing.Refused WrongCount ≡
+        setBegins d b count samples records
     unfolding setBegins
     begins-wrong n en k ne = rw (is, lt-ltb b (h .blocks) k, ← en, ne-eqb count n ne)
 

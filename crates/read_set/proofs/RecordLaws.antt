@@ -64,5 +64,9 @@ module _ (F : Form) (depth : F .bits ≤ 16) (s : List ℕ) where
   unfolding Whole startState startRecords
   records-whole bases n z e =
       lines-keep F s Whole pass-whole bases
-      (λ m r h. (again (F .bits) (baseOf bases m) (isRestarted bases m) (r .records) (h .0), all-kept (isRestarted bases m) (F .bits) (baseOf bases m) (r .records) _ depth refl (h .1)))
+      (λ m r h. (
+        again (F .bits) (baseOf bases m) (isRestarted bases m) (r .records) (h .0),
+        all-kept (isRestarted bases m) (F .bits) (baseOf bases m)
+            (r .records) _ depth refl (h .1),
+      ))
       (table-length _ 336, all-started (F .bits) (baseOf bases 0) depth) n z e

@@ -41,7 +41,8 @@ colours-at w lines long (suc n) c p hn hc hp =
     (λ k. let m : c * w + p < n * w = digits-lt k hp in
     List·getD-append (upto (colour w lines) n) (colour w lines n) 0 (c * w + p) (omega arith) ∙ colours-at w lines long n c p (omega arith) k hp)
 
-module _ (F : Form) (bases s : List ℕ) (n : ℕ) (z : State) (e : readLines F bases s (suc n) ≡ some z) (long : length (z .lines) ≡ 18 * (widthOf (F .xtrans) + 2)) where
+module _ (F : Form) (bases s : List ℕ) (n : ℕ) (z : State) (e : readLines F bases s (suc n) ≡ some z)
+    (long : length (z .lines) ≡ 18 * (widthOf (F .xtrans) + 2)) where
   abbrev W : ℕ
   W = widthOf (F .xtrans)
 
@@ -70,5 +71,7 @@ module _ (F : Form) (bases s : List ℕ) (n : ℕ) (z : State) (e : readLines F 
       let k : suc n * L ≡ n * L + L = omega arith in
       ap (table (readSample F bases s)) k ∙ table-split (readSample F bases s) (n * L) L
       ∙ ap (λ (l : List ℕ). table (readSample F bases s) (n * L) ++ l)
-      (ext-getD 0 (table (λ j. readSample F bases s (n * L + j)) L) (twelve W (z .lines)) (table-length (λ j. readSample F bases s (n * L + j)) L ∙ sym twelve-long)
-      (λ j h. let l : j < L = omega (arith, table-length (λ j. readSample F bases s (n * L + j)) L) in table-getD (λ j. readSample F bases s (n * L + j)) L j 0 l ∙ at j l))
+      (ext-getD 0 (table (λ j. readSample F bases s (n * L + j)) L) (twelve W (z .lines))
+      (table-length (λ j. readSample F bases s (n * L + j)) L ∙ sym twelve-long)
+      (λ j h. let l : j < L = omega (arith, table-length (λ j. readSample F bases s (n * L + j)) L) in table-getD
+      (λ j. readSample F bases s (n * L + j)) L j 0 l ∙ at j l))

@@ -203,7 +203,8 @@ pub fn read_set(
     ensures { λ a.
         let before : Sets = record { set = now (set .entry); lines = now (lines .entry); records = now (rs .entry) } in
         let after : Sets = record { set = now (set .exit); lines = now (lines .exit); records = now (rs .exit) } in
-        ⌜ LeftSet (now (d .entry)) b (setBegins (now (d .entry)) b (length (before .set)) (length (before .lines)) (length (before .records))) before after a ⌝ }
+        ⌜ LeftSet (now (d .entry)) b (setBegins (now (d .entry)) b (length (before .set)) (length (before .lines)) (length (before .records)))
+        before after a ⌝ }
 {
     let begins = set_begins(d, b, set.len(), lines.len(), rs.len());
     match begins {

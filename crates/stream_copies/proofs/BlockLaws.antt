@@ -57,14 +57,26 @@ module _ (head : List ℕ) (h : FujiHeader) (n s r : ℕ) (size : n ≡ setSize 
   pub begins-tight : (l : Bool) → l ≡ true → parseOf head ≡ Parsing.Header (withFlag l h) → writingBegins head n s r ≡ Parsing.Header (withFlag l h)
   unfolding writingBegins
   begins-tight true e p =
-      rw (p, eq-eqb n (setSize (widthOf (h .xtrans)) (h .lines)) size, le-ltb s (samplesNeeded (h .xtrans)) (fits .for-lines), le-ltb r recordsNeeded (fits .for-records))
+      rw (
+        p,
+        eq-eqb n (setSize (widthOf (h .xtrans)) (h .lines)) size,
+        le-ltb s (samplesNeeded (h .xtrans)) (fits .for-lines),
+        le-ltb r recordsNeeded
+            (fits .for-records),
+      )
   begins-tight false e p = let no : _≡_ {A = ℕ} 0 1 = cc in absurd (omega arith)
 
   pub begins-lossy : (m : ℕ) → m ≡ h .lines → (l : Bool) → l ≡ false → parseOf head ≡ Parsing.Header (withFlag l h)
       → lossyBegins head m n s r ≡ Parsing.Header (withFlag l h)
   unfolding lossyBegins
   begins-lossy m em false e p =
-      rw (p, eq-eqb m (h .lines) em, eq-eqb n (setSize (widthOf (h .xtrans)) (h .lines)) size, le-ltb s (samplesNeeded (h .xtrans)) (fits .for-lines), le-ltb r recordsNeeded (fits .for-records))
+      rw (
+        p,
+        eq-eqb m (h .lines) em,
+        eq-eqb n (setSize (widthOf (h .xtrans)) (h .lines)) size,
+        le-ltb s (samplesNeeded (h .xtrans)) (fits .for-lines),
+        le-ltb r recordsNeeded (fits .for-records),
+      )
   begins-lossy m em true e p = let no : _≡_ {A = ℕ} 0 1 = cc in absurd (omega arith)
 
 pub left-new : (bases bases' t : List ℕ) (p : Parsed) (H : FujiHeader) (before after : Outputs) (a : BlockLength) → p ≡ Parsing.Header H → bases ≡ bases'
@@ -90,7 +102,8 @@ pub rows-lossy : (h : FujiHeader) (rows : List ℕ) (b n : ℕ) → n ≡ h .lin
     → take (b * n + n - b * n) (drop (b * n) rows) ≡ basesOf h rows b
 rows-lossy h rows b n en e = let m : b * n + n - b * n ≡ n = omega arith in rw (e, m, en)
 
-pub row-long : (h : FujiHeader) (rows : List ℕ) (b : ℕ) → b < h .blocks → length rows ≡ h .blocks * h .lines → length (take (h .lines) (drop (b * h .lines) rows)) ≡ h .lines
+pub row-long : (h : FujiHeader) (rows : List ℕ) (b : ℕ) → b < h .blocks → length rows ≡ h .blocks * h .lines → length
+    (take (h .lines) (drop (b * h .lines) rows)) ≡ h .lines
 row-long h rows b l e =
     let m = row-end b (h .blocks) (h .lines) l in
     length-take-le (h .lines) (drop (b * h .lines) rows) (omega (arith, length-drop (b * h .lines) rows))
@@ -132,7 +145,8 @@ module _ (d : List ℕ) (h : FujiHeader) (rows : List ℕ) (b : ℕ) (opens : op
 
   pub set-left : (before after : Sets) (a : Counted) → length (before .set) ≡ setSize (widthOf (h .xtrans)) (h .lines)
       → ScratchFits h (length (before .lines)) (length (before .records))
-      → LeftSet d b (setBegins d b (length (before .set)) (length (before .lines)) (length (before .records))) before after a → SetReading d b h before after a
+      → LeftSet d b (setBegins d b (length (before .set)) (length (before .lines)) (length (before .records))) before after a → SetReading d b h
+      before after a
   set-left before after a size fits l = rw (set-on (length (before .set)) (length (before .lines)) (length (before .records)) size fits) at l
 
   -- by the answer
@@ -159,7 +173,8 @@ module _ (d : List ℕ) (h : FujiHeader) (rows : List ℕ) (b : ℕ) (opens : op
         rw e (fits-is F (h .lines) (setIn d h b) .1 (readable-predicted F (basesIn d b) (h .lines) (bytesIn d b) depth reads-all) .predicted)
     right-by false e fit =
         let l = row-long h rows b inside (fit e) in
-        rw e (never-wrong F (take (h .lines) (drop (b * h .lines) rows)) (setIn d h b) (not-strict (take (h .lines) (drop (b * h .lines) rows)) (omega (arith, is-ruled .lines-low))) (h .lines))
+        rw e (never-wrong F (take (h .lines) (drop (b * h .lines) rows)) (setIn d h b)
+        (not-strict (take (h .lines) (drop (b * h .lines) rows)) (omega (arith, is-ruled .lines-low))) (h .lines))
 
     new-answer : RowsFit h rows → (room : ℕ) → setAnswer F (basesOf h rows b) (h .lines) (setIn d h b) room ≡ lengthAnswer (length (newBlock d h rows b)) room
     unfolding setAnswer measuredAnswer
@@ -177,7 +192,8 @@ module _ (d : List ℕ) (h : FujiHeader) (rows : List ℕ) (b : ℕ) (opens : op
     set-is : (set : List ℕ) → length set ≡ setSize (widthOf (h .xtrans)) (h .lines)
         → putOver set 0 (setWith F (basesIn d b) n (bytesIn d b)) ≡ setIn d h b
     set-is set size =
-        ap (λ (m : ℕ). putOver set 0 (setWith F (basesIn d b) m (bytesIn d b))) lines-all ∙ covers set (setIn d h b) (size ∙ sym (set-size F (basesIn d b) (h .lines) (bytesIn d b)))
+        ap (λ (m : ℕ). putOver set 0 (setWith F (basesIn d b) m (bytesIn d b))) lines-all ∙ covers set (setIn d h b)
+        (size ∙ sym (set-size F (basesIn d b) (h .lines) (bytesIn d b)))
 
 -- ---- scratch that is cleared twice
 
@@ -188,7 +204,8 @@ lines-again xtrans l l' e =
 
 pub records-again : (l l' : List Record) → l' ≡ clearedRecords l → clearedRecords l' ≡ clearedRecords l
 records-again l l' e =
-    ap (λ (x : List Record). clearRecords ++ x) (ap (drop recordsNeeded) e ∙ drop-at clearRecords (drop recordsNeeded l) recordsNeeded (length-replicate recordsNeeded clearRecord))
+    ap (λ (x : List Record). clearRecords ++ x) (ap (drop recordsNeeded) e ∙ drop-at clearRecords (drop recordsNeeded l) recordsNeeded
+    (length-replicate recordsNeeded clearRecord))
 
 -- ---- a block at its place
 
@@ -202,9 +219,11 @@ part-back at out part h =
     ap (λ (x : List ℕ). take at out ++ (part ++ x)) e ∙ ap (λ (x : List ℕ). take at out ++ x) (append-nil part)
 
 module _ (d : List ℕ) (h : FujiHeader) (rows : List ℕ) (b at : ℕ) (opens : openOf d ≡ Parsing.Header h) (inside : b < h .blocks) (fit : RowsFit h rows)
-    (before : Sets) (mid : Sets) (got : Counted) (S : SetReading d b h before mid got) (size : length (before .set) ≡ setSize (widthOf (h .xtrans)) (h .lines)) (out : List ℕ) where
+    (before : Sets) (mid : Sets) (got : Counted) (S : SetReading d b h before mid got)
+    (size : length (before .set) ≡ setSize (widthOf (h .xtrans)) (h .lines)) (out : List ℕ) where
   pub put-cut : (x : Refusal) → got .answer ≡ Decode.Refused x
-      → BlockPut d h rows b at (record { out = out; lines = before .lines; records = before .records }) (record { out = out; lines = mid .lines; records = mid .records }) (Refused x)
+      → BlockPut d h rows b at (record { out = out; lines = before .lines; records = before .records })
+      (record { out = out; lines = mid .lines; records = mid .records }) (Refused x)
   unfolding putAnswer
   put-cut x e =
       let c = cut-by d h rows b opens inside (isCut d h b) x (ap (λ (a : Counted). a .answer) (sym (S .answered)) ∙ e) in
@@ -218,7 +237,8 @@ module _ (d : List ℕ) (h : FujiHeader) (rows : List ℕ) (b at : ℕ) (opens :
   whole-by : got .answer ≡ Decode.Done → isCut d h b ≡ false
   whole-by e = done-by d h rows b opens inside (isCut d h b) (ap (λ (a : Counted). a .answer) (sym (S .answered)) ∙ e)
 
-  pub put-done : got .answer ≡ Decode.Done → (part : List ℕ) → part ≡ drop at out → (after : Outputs) (a : BlockLength) (out' : List ℕ) → out' ≡ take at out ++ after .out
+  pub put-done : got .answer ≡ Decode.Done → (part : List ℕ) → part ≡ drop at out → (after : Outputs) (a : BlockLength) (out' : List ℕ) → out' ≡ take
+      at out ++ after .out
       → SetWriting (basesOf h rows b) (mid .set) (newHeader h rows) (record { out = part; lines = mid .lines; records = mid .records }) after a
       → BlockPut d h rows b at (record { out = out; lines = before .lines; records = before .records })
       (record { out = out'; lines = after .lines; records = after .records }) a
@@ -227,7 +247,8 @@ module _ (d : List ℕ) (h : FujiHeader) (rows : List ℕ) (b at : ℕ) (opens :
       let k = whole-by e in
       let t : mid .set ≡ setIn d h b = S .set ∙ set-is d h rows b opens inside k (before .set) size in
       let long : length part ≡ length out - at = ap length ep ∙ length-drop at out in
-      let answer : setAnswer (formOf h) (basesOf h rows b) (h .lines) (mid .set) (length part) ≡ lengthAnswer (length (newBlock d h rows b)) (length out - at) =
+      let answer : setAnswer (formOf h) (basesOf h rows b) (h .lines) (mid .set) (length part) ≡ lengthAnswer (length (newBlock d h rows b))
+      (length out - at) =
       rw (t, long) (new-answer d h rows b opens inside k fit (length out - at)) in
       let put : putAnswer d h rows b (length out - at) ≡ lengthAnswer (length (newBlock d h rows b)) (length out - at) = rw k in
       let written : after .out ≡ writtenOut a (newBlock d h rows b) (drop at out) = w .output ∙ rw (t, ep) in

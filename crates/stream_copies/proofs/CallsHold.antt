@@ -31,7 +31,8 @@ use Rattle.theorem_whole_streams.specs.Assembled.{lengthOf, assembled}
 use Rattle.theorem_whole_streams.specs.Kinds.{flagged, withFlag, Readable, setIn}
 use Rattle.theorem_whole_streams.specs.Tightened.{tightened}
 use Rattle.theorem_whole_streams.specs.LossyCopies.{lossyCopy}
-use Rattle.stream_copies.specs.MadeStreams.{Lent, isTightCall, newBlock, newFront, newStream, isCut, made, stopAnswer, madeAnswer, madeBytes, RowsFit, withRoom, makingBegins, Making, LeftMade}
+use Rattle.stream_copies.specs.MadeStreams.{Lent, isTightCall, newBlock, newFront, newStream, isCut, made, stopAnswer, madeAnswer, madeBytes}
+use Rattle.stream_copies.specs.MadeStreams.{RowsFit, withRoom, makingBegins, Making, LeftMade}
 use Rattle.stream_copies.specs.MadeCalls.{Asked, Puts, TightenPuts, basesRow, LossyCopyPuts}
 use Rattle.stream_copies.specs.MadeCalls.{TightenFits, TightenAnswers, LossyCopyFits, LossyCopyAnswers, TightenTold, LossyCopyTold}
 use Rattle.stream_copies.proofs.BlockLaws.{reads-all}
@@ -39,7 +40,8 @@ use Rattle.stream_copies.proofs.MadeLaws.{opens-on, fits-on}
 use Rattle.stream_copies.proofs.RoomLaws.{room-accepted}
 use Rattle.stream_copies.proofs.LaidLaws.{stops, made-whole, size}
 
-module _ (d : List ℕ) (h : FujiHeader) (rows : List ℕ) (S : Readable d h) (fit : RowsFit h rows) (before : Lent) (A : Asked h (newStream d h rows) before) where
+module _ (d : List ℕ) (h : FujiHeader) (rows : List ℕ) (S : Readable d h) (fit : RowsFit h rows) (before : Lent)
+    (A : Asked h (newStream d h rows) before) where
   abbrev N : ℕ → List ℕ
   N = newBlock d h rows
 
@@ -49,7 +51,8 @@ module _ (d : List ℕ) (h : FujiHeader) (rows : List ℕ) (S : Readable d h) (f
   not-cut : (b : ℕ) → b < h .blocks → isCut d h b ≡ false
   not-cut b l =
       let r = S .reads b l in
-      let e : linesRead (formOf h) (basesIn d b) (bytesIn d b) (h .lines) ≡ h .lines = all-read (formOf h) (basesIn d b) (bytesIn d b) (h .lines) (r .0) (r .1) in
+      let e : linesRead (formOf h) (basesIn d b) (bytesIn d b) (h .lines) ≡ h .lines = all-read (formOf h) (basesIn d b) (bytesIn d b) (h .lines)
+      (r .0) (r .1) in
       rw e (le-ltb (h .lines) (h .lines) (omega arith))
 
   length-more : (n k : ℕ) → lengthOf N n ≤ lengthOf N (n + k)
@@ -77,7 +80,8 @@ module _ (d : List ℕ) (h : FujiHeader) (rows : List ℕ) (S : Readable d h) (f
       )
 
   pub makes : (after : Lent) (a : BlockLength)
-      → LeftMade d rows (withRoom h (isTightCall rows) (length (before .out)) (length (before .set)) (length (before .lines)) (length (before .records))) before after a
+      → LeftMade d rows (withRoom h (isTightCall rows) (length (before .out)) (length (before .set)) (length (before .lines))
+      (length (before .records))) before after a
       → Puts (newStream d h rows) before after a
   makes after a l =
       let m : Making d h rows before after a = rw room-is at l in
@@ -96,7 +100,8 @@ tighten-puts d h S before after a A l = makes d h [] S (λ e. clash e) before A 
 
 module _ (d : List ℕ) (h : FujiHeader) (bases : List ℕ) where
   copy-is : (t : Bool) → t ≡ false
-      → assembled (flagged t d) (withFlag t h) (λ b. cond t [] (basesRow h bases b)) (λ b. writtenBlock (formOf h) (cond t [] (basesRow h bases b)) (h .lines) (setIn d h b))
+      → assembled (flagged t d) (withFlag t h) (λ b. cond t [] (basesRow h bases b))
+      (λ b. writtenBlock (formOf h) (cond t [] (basesRow h bases b)) (h .lines) (setIn d h b))
       ≡ lossyCopy d h (basesRow h bases)
   copy-is true e = clash e
   copy-is false e = refl
@@ -149,7 +154,8 @@ module _ (d : List ℕ) (h : FujiHeader) (rows : List ℕ) (room n : ℕ) (e : m
         let b : ℕ = h .blocks - 1 in
         let k : suc b ≡ h .blocks = omega (arith, R .blocks-low) in
         let p = or-parts (isCut d h b) _ (goes-on b (omega arith)) .1 in
-        let m : newFront h rows + lengthOf (newBlock d h rows) (h .blocks) ≤ room = rw k at (ltb-false room (newFront h rows + lengthOf (newBlock d h rows) (suc b)) p) in
+        let m : newFront h rows + lengthOf (newBlock d h rows) (h .blocks) ≤ room = rw k
+        at (ltb-false room (newFront h rows + lengthOf (newBlock d h rows) (suc b)) p) in
         omega (arith, m, size d h rows opens fit)
 
 module _ (d : List ℕ) (rows : List ℕ) (before after : Lent) (a : BlockLength) (n : ℕ) (answered : a ≡ Length n) where
@@ -157,7 +163,8 @@ module _ (d : List ℕ) (rows : List ℕ) (before after : Lent) (a : BlockLength
   no-refusal x e = let f : Refused x ≡ Length n = sym e ∙ answered in let no : _≡_ {A = ℕ} 0 1 = cc in omega arith
 
   only : (h : FujiHeader) → openOf d ≡ Parsing.Header h → RowsFit h rows
-      → LeftMade d rows (withRoom h (isTightCall rows) (length (before .out)) (length (before .set)) (length (before .lines)) (length (before .records))) before after a
+      → LeftMade d rows (withRoom h (isTightCall rows) (length (before .out)) (length (before .set)) (length (before .lines))
+      (length (before .records))) before after a
       → Readable d h × Asked h (newStream d h rows) before
   only h opens fit =
       go (withRoom h (isTightCall rows) (length (before .out)) (length (before .set)) (length (before .lines)) (length (before .records))) refl
@@ -189,7 +196,8 @@ module _ (d : List ℕ) (rows : List ℕ) (before after : Lent) (a : BlockLength
   only-lossy m = go (openOf d) refl m
     where
       with-bases : (h : FujiHeader) → openOf d ≡ Parsing.Header h → (t : Bool) → eqb (length rows) (h .blocks * h .lines) ≡ t
-          → LeftMade d rows (cond t (withRoom h (isTightCall rows) (length (before .out)) (length (before .set)) (length (before .lines)) (length (before .records)))
+          → LeftMade d rows (cond t (withRoom h (isTightCall rows) (length (before .out)) (length (before .set)) (length (before .lines))
+          (length (before .records)))
           (Parsing.Refused WrongBases)) before after a
           → LossyCopyFits d rows before
       with-bases h o false e l = absurd (no-refusal WrongBases (l .0))

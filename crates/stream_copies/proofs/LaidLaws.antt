@@ -38,7 +38,8 @@ use Rattle.theorem_whole_streams.proofs.FrontHolds.{front-assembles}
 use Rattle.theorem_whole_streams.proofs.KindsHold.{flagged-parses}
 use Rattle.theorem_whole_streams.proofs.StandLaws.{length-upto}
 use Rattle.theorem_whole_streams.proofs.TightenedHolds.{assembled-same, written-short}
-use Rattle.stream_copies.specs.MadeStreams.{isTightCall, basesOf, newHeader, newBlock, newFront, newStream, isCut, made, stopAnswer, madeAnswer, madeBytes, RowsFit, putAnswer, BlockPut, BlocksMade}
+use Rattle.stream_copies.specs.MadeStreams.{isTightCall, basesOf, newHeader, newBlock, newFront, newStream, isCut, made, stopAnswer, madeAnswer}
+use Rattle.stream_copies.specs.MadeStreams.{madeBytes, RowsFit, putAnswer, BlockPut, BlocksMade}
 use Rattle.stream_copies.proofs.BlockLaws.{row-long, lines-again, records-again}
 
 module _ (d : List ℕ) (h : FujiHeader) (rows : List ℕ) where
@@ -105,7 +106,8 @@ module _ (d : List ℕ) (h : FujiHeader) (rows : List ℕ) (before : Outputs) wh
         goes = λ i l. absurd (omega arith);
       }
 
-  module _ (now after : Outputs) (lengths : List ℕ) (at b : ℕ) (L : Laid d h rows before now lengths at b) (inside : b < h .blocks) (same : length (now .out) ≡ length (before .out)) where
+  module _ (now after : Outputs) (lengths : List ℕ) (at b : ℕ) (L : Laid d h rows before now lengths at b) (inside : b < h .blocks)
+      (same : length (now .out) ≡ length (before .out)) where
     long : length (laidTo d h rows b) ≡ at
     long = laid-long d h rows b ∙ sym (L .place)
 
@@ -128,11 +130,14 @@ module _ (d : List ℕ) (h : FujiHeader) (rows : List ℕ) (before : Outputs) wh
         → Laid d h rows before after (set lengths b n) (at + n) (b + 1)
     unfolding putAnswer
     laid-more n a p ea hb =
-        let k = length-by (isCut d h b) (length (newBlock d h rows b)) (length (now .out) - at) n (Truncated b (linesRead (formOf h) (basesIn d b) (bytesIn d b) (h .lines))) (sym (p .answered) ∙ ea) in
+        let k = length-by (isCut d h b) (length (newBlock d h rows b)) (length (now .out) - at) n
+        (Truncated b (linesRead (formOf h) (basesIn d b) (bytesIn d b) (h .lines))) (sym (p .answered) ∙ ea) in
         let next = length-next d h rows b in
         let fits : front d h rows + lengthOf (N d h rows) (suc b) ≤ length (before .out) = omega (arith, L .place, L .room) in
-        let c : clearedLines (h .xtrans) (after .lines) ≡ clearedLines (h .xtrans) (before .lines) = lines-again (h .xtrans) (now .lines) (after .lines) (p .lines) ∙ L .lines in
-        let r : clearedRecords (after .records) ≡ clearedRecords (before .records) = records-again (now .records) (after .records) (p .records) ∙ L .records in
+        let c : clearedLines (h .xtrans) (after .lines) ≡ clearedLines (h .xtrans) (before .lines) = lines-again (h .xtrans) (now .lines)
+        (after .lines) (p .lines) ∙ L .lines in
+        let r : clearedRecords (after .records) ≡ clearedRecords (before .records) = records-again (now .records) (after .records) (p .records) ∙
+        L .records in
         rw (add-one b) (record {
           place = omega (arith, L .place);
           room = omega (arith, L .room);
@@ -205,7 +210,8 @@ module _ (d : List ℕ) (h : FujiHeader) (rows : List ℕ) (opens : openOf d ≡
   rows-all true e = eqb-true (length rows) 0 e ∙ sym (mul-zero (h .blocks))
   rows-all false e = fit e
 
-  rows-each : (t : Bool) → isTightCall rows ≡ t → (b : ℕ) → b < h .blocks → length (cond t [] (take (h .lines) (drop (b * h .lines) rows))) ≡ cond t 0 (h .lines)
+  rows-each : (t : Bool) → isTightCall rows ≡ t → (b : ℕ) → b < h .blocks → length (cond t [] (take (h .lines) (drop (b * h .lines) rows))) ≡ cond t 0
+      (h .lines)
   rows-each true e b l = refl
   rows-each false e b l = row-long h rows b l (fit e)
 
@@ -227,7 +233,8 @@ module _ (d : List ℕ) (h : FujiHeader) (rows : List ℕ) (opens : openOf d ≡
   pub made-least : (room : ℕ) → newFront h rows ≤ length (madeBytes d h rows room)
   made-least room = least-bytes (ltb (made d h rows room) (h .blocks)) (made d h rows room)
 
-module _ (d : List ℕ) (h : FujiHeader) (rows : List ℕ) (before now : Outputs) (lengths : List ℕ) (at : ℕ) (L : Laid d h rows before now lengths at (h .blocks))
+module _ (d : List ℕ) (h : FujiHeader) (rows : List ℕ) (before now : Outputs) (lengths : List ℕ) (at : ℕ)
+    (L : Laid d h rows before now lengths at (h .blocks))
     (opens : openOf d ≡ Parsing.Header h) (fit : RowsFit h rows) (sixteen : length lengths ≡ 16) (same : length (now .out) ≡ length (before .out)) where
   abbrev K : ℕ
   K = h .blocks
@@ -258,7 +265,8 @@ module _ (d : List ℕ) (h : FujiHeader) (rows : List ℕ) (before now : Outputs
       let Z = least (length (take (h .blocks) lengths)) (λ b. isLong (take (h .blocks) lengths) b) 0 in
       let r : ℕ = leastFrom (length (take (h .blocks) lengths)) (λ b. isLong (take (h .blocks) lengths) b) 0 in
       split (h .blocks) r (λ u. u)
-      (λ u. absurd (let x = ltb-true (2 ^ 32 - 1) (getD (take (h .blocks) lengths) r 0) (Z .holds (omega (arith, lens-long))) in omega (arith, lens-are r u, short d h rows opens fit r)))
+      (λ u. absurd (let x = ltb-true (2 ^ 32 - 1) (getD (take (h .blocks) lengths) r 0) (Z .holds (omega (arith, lens-long))) in omega
+      (arith, lens-are r u, short d h rows opens fit r)))
 
   -- nothing stops it
   made-all : made d h rows (length (before .out)) ≡ h .blocks
@@ -273,7 +281,8 @@ module _ (d : List ℕ) (h : FujiHeader) (rows : List ℕ) (before now : Outputs
   front-is : (lens' : List ℕ) → lens' ≡ take (h .blocks) lengths
       → frontAnswer (newHeader h rows) rows lens' (length (now .out)) ≡ Length (length (newStream d h rows))
   front-is lens' e =
-      rw e (sym (answer-length (newHeader h rows) rows (take (h .blocks) lengths) (length (now .out)) lens-long (rows-all d h rows opens fit (isTightCall rows) refl) no-long (omega (arith, L .place, L .room)))
+      rw e (sym (answer-length (newHeader h rows) rows (take (h .blocks) lengths) (length (now .out)) lens-long
+      (rows-all d h rows opens fit (isTightCall rows) refl) no-long (omega (arith, L .place, L .room)))
       ∙ ap Length (ap (λ (n : ℕ). rowStart (newHeader h rows) (h .blocks) + n) (sum-is (h .blocks) (omega arith)) ∙ sym (size d h rows opens fit)))
 
   abbrev bytes : List ℕ
@@ -284,13 +293,17 @@ module _ (d : List ℕ) (h : FujiHeader) (rows : List ℕ) (before now : Outputs
 
   behind : drop (length bytes) (now .out) ≡ upto (newBlock d h rows) (h .blocks) ++ drop at (before .out)
   behind =
-      ap (λ (n : ℕ). drop n (now .out)) bytes-long ∙ ap (drop (newFront h rows)) (L .output ∙ append-assoc (replicate (newFront h rows) 0) (upto (newBlock d h rows) (h .blocks)) (drop at (before .out)))
-      ∙ drop-at (replicate (newFront h rows) 0) (upto (newBlock d h rows) (h .blocks) ++ drop at (before .out)) (newFront h rows) (length-replicate (newFront h rows) 0)
+      ap (λ (n : ℕ). drop n (now .out)) bytes-long ∙ ap (drop (newFront h rows))
+      (L .output ∙ append-assoc (replicate (newFront h rows) 0) (upto (newBlock d h rows) (h .blocks)) (drop at (before .out)))
+      ∙ drop-at (replicate (newFront h rows) 0) (upto (newBlock d h rows) (h .blocks) ++ drop at (before .out)) (newFront h rows)
+      (length-replicate (newFront h rows) 0)
 
   whole : bytes ++ upto (newBlock d h rows) (h .blocks) ≡ newStream d h rows
   whole =
-      front-assembles (flagged (isTightCall rows) d) (newHeader h rows) (parses d h rows opens fit) rows (take (h .blocks) lengths) (newBlock d h rows) (rows-all d h rows opens fit (isTightCall rows) refl) (λ b l. (lens-are b l, short d h rows opens fit b))
-      ∙ assembled-same (flagged (isTightCall rows) d) (flagged (isTightCall rows) d) (newHeader h rows) (rowIn (newHeader h rows) rows) (newBlock d h rows) (basesOf h rows) (newBlock d h rows)
+      front-assembles (flagged (isTightCall rows) d) (newHeader h rows) (parses d h rows opens fit) rows (take (h .blocks) lengths)
+      (newBlock d h rows) (rows-all d h rows opens fit (isTightCall rows) refl) (λ b l. (lens-are b l, short d h rows opens fit b))
+      ∙ assembled-same (flagged (isTightCall rows) d) (flagged (isTightCall rows) d) (newHeader h rows) (rowIn (newHeader h rows) rows)
+      (newBlock d h rows) (basesOf h rows) (newBlock d h rows)
       refl (λ b l. rows-same d h rows opens fit (isTightCall rows) b) (λ b l. refl)
 
   output-is : bytes ++ drop (length bytes) (now .out) ≡ newStream d h rows ++ drop (length (newStream d h rows)) (before .out)
@@ -303,17 +316,20 @@ module _ (d : List ℕ) (h : FujiHeader) (rows : List ℕ) (before now : Outputs
       → LeftFront hd rows (take (h .blocks) lengths) (parseOf hd) (now .out) out' a
       → BlocksMade d h rows before (record { out = out'; lines = now .lines; records = now .records }) a
   laid-all hd eh out' a p =
-      let q : (a ≡ frontAnswer (newHeader h rows) rows (take (h .blocks) lengths) (length (now .out))) × (out' ≡ frontOut a bytes (now .out)) = rw (eh, parses d h rows opens fit) at p in
+      let q : (a ≡ frontAnswer (newHeader h rows) rows (take (h .blocks) lengths) (length (now .out))) ×
+      (out' ≡ frontOut a bytes (now .out)) = rw (eh, parses d h rows opens fit) at p in
       let l = L .later (omega (arith, R d h rows opens fit .blocks-low)) in
       let is : a ≡ Length (length (newStream d h rows)) = q .0 ∙ front-is (take (h .blocks) lengths) refl in
       record {
         answered = is ∙ sym answer-is;
-        output = q .1 ∙ ap (λ (x : BlockLength). frontOut x bytes (now .out)) is ∙ output-is ∙ ap (λ (x : List ℕ). x ++ drop (length x) (before .out)) (sym bytes-are);
+        output = q .1 ∙ ap (λ (x : BlockLength). frontOut x bytes (now .out)) is ∙ output-is ∙ ap (λ (x : List ℕ). x ++ drop (length x) (before .out))
+            (sym bytes-are);
         lines = l .0;
         records = l .1;
       }
 
-pub laid-end : (d : List ℕ) (h : FujiHeader) (rows : List ℕ) (before now : Outputs) (lengths : List ℕ) (at b : ℕ) → b ≡ h .blocks → Laid d h rows before now lengths at b
+pub laid-end : (d : List ℕ) (h : FujiHeader) (rows : List ℕ) (before now : Outputs) (lengths : List ℕ) (at b : ℕ) → b ≡ h .blocks → Laid d h rows
+    before now lengths at b
     → openOf d ≡ Parsing.Header h → RowsFit h rows → length lengths ≡ 16 → length (now .out) ≡ length (before .out)
     → (head : List ℕ) → head ≡ flagged (isTightCall rows) d → (out' : List ℕ) (a : BlockLength)
     → LeftFront head rows (take (h .blocks) lengths) (parseOf head) (now .out) out' a

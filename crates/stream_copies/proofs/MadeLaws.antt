@@ -60,17 +60,22 @@ zeros-dropped n m out out' l e =
     ap (λ (x : List ℕ). drop m x) e ∙ ap (λ (i : ℕ). drop i (replicate n 0 ++ drop n out)) f ∙ drop-append-add (replicate n 0) (drop n out) (m - n)
     ∙ drop-drop (m - n) n out ∙ ap (λ (i : ℕ). drop i out) k
 
-pub made-behind : (d : List ℕ) (g : FujiHeader) (rows : List ℕ) → openOf d ≡ Parsing.Header g → RowsFit g rows → (n : ℕ) (before after : Lent) (mid left : Outputs) (a : BlockLength)
-    → n ≡ newFront g rows → mid .out ≡ replicate n 0 ++ drop n (before .out) → length (mid .out) ≡ length (before .out) → mid .lines ≡ before .lines → mid .records ≡ before .records
-    → BlocksMade d g rows mid left a → after .out ≡ left .out → after .set ≡ replicate (length (before .set)) 0 → after .lines ≡ left .lines → after .records ≡ left .records
+pub made-behind : (d : List ℕ) (g : FujiHeader) (rows : List ℕ) → openOf d ≡ Parsing.Header g → RowsFit g rows → (n : ℕ) (before after : Lent)
+    (mid left : Outputs) (a : BlockLength)
+    → n ≡ newFront g rows → mid .out ≡ replicate n 0 ++ drop n (before .out) → length (mid .out) ≡ length (before .out) → mid .lines ≡ before .lines →
+    mid .records ≡ before .records
+    → BlocksMade d g rows mid left a → after .out ≡ left .out → after .set ≡ replicate (length (before .set)) 0 → after .lines ≡ left .lines →
+    after .records ≡ left .records
     → Making d g rows before after a
 made-behind d g rows o fit n before after mid left a en em es el er m fo fs fl fr =
     let bytes : List ℕ = madeBytes d g rows (length (before .out)) in
     let least : n ≤ length bytes = omega (arith, made-least d g rows o fit (length (before .out))) in
-    let out : left .out ≡ madeBytes d g rows (length (before .out)) ++ drop (length (madeBytes d g rows (length (before .out)))) (mid .out) = rw (← es) (m .output) in
+    let out : left .out ≡ madeBytes d g rows (length (before .out)) ++ drop (length (madeBytes d g rows (length (before .out))))
+    (mid .out) = rw (← es) (m .output) in
     record {
       answered = rw (← es) (m .answered);
-      output = fo ∙ out ∙ ap (λ (x : List ℕ). madeBytes d g rows (length (before .out)) ++ x) (zeros-dropped n (length bytes) (before .out) (mid .out) least em);
+      output = fo ∙ out ∙ ap (λ (x : List ℕ). madeBytes d g rows (length (before .out)) ++ x)
+          (zeros-dropped n (length bytes) (before .out) (mid .out) least em);
       set = fs;
       lines = fl ∙ m .lines ∙ rw el;
       records = fr ∙ m .records ∙ rw er;
@@ -79,7 +84,8 @@ made-behind d g rows o fit n before after mid left a en em es el er m fo fs fl f
 -- ---- the entries
 
 module _ (d rows : List ℕ) (before : Lent) where
-  pub open-refused : (lossy : Bool) (p : Parsed) (x : Refusal) → p ≡ openOf d → p ≡ Parsing.Refused x → LeftMade d rows (makingBegins lossy (openOf d) rows before) before before (Refused x)
+  pub open-refused : (lossy : Bool) (p : Parsed) (x : Refusal) → p ≡ openOf d → p ≡ Parsing.Refused x → LeftMade d rows
+      (makingBegins lossy (openOf d) rows before) before before (Refused x)
   open-refused lossy p x ep e = let f : openOf d ≡ Parsing.Refused x = sym ep ∙ e in rw f (refl, refl)
 
   module _ (p : Parsed) (h : FujiHeader) (ep : p ≡ openOf d) (e : p ≡ Parsing.Header h) where
@@ -87,17 +93,20 @@ module _ (d rows : List ℕ) (before : Lent) where
     is-open = sym ep ∙ e
 
     pub tight-made : (after : Lent) (a : BlockLength)
-        → LeftMade d rows (withRoom h (isTightCall rows) (length (before .out)) (length (before .set)) (length (before .lines)) (length (before .records))) before after a
+        → LeftMade d rows (withRoom h (isTightCall rows) (length (before .out)) (length (before .set)) (length (before .lines))
+        (length (before .records))) before after a
         → LeftMade d rows (makingBegins false (openOf d) rows before) before after a
     tight-made after a m = rw is-open m
 
-    pub lossy-wrong : (n m : ℕ) → n ≡ h .blocks → m ≡ h .lines → (length rows ≡ n * m → ⊥) → LeftMade d rows (makingBegins true (openOf d) rows before) before before (Refused WrongBases)
+    pub lossy-wrong : (n m : ℕ) → n ≡ h .blocks → m ≡ h .lines → (length rows ≡ n * m → ⊥) → LeftMade d rows
+        (makingBegins true (openOf d) rows before) before before (Refused WrongBases)
     lossy-wrong n m en em ne =
         let f : eqb (length rows) (h .blocks * h .lines) ≡ false = rw (← en, ← em) (ne-eqb (length rows) (n * m) ne) in
         rw (is-open, f) (refl, refl)
 
     pub lossy-made : (n m : ℕ) → n ≡ h .blocks → m ≡ h .lines → length rows ≡ n * m → (after : Lent) (a : BlockLength)
-        → LeftMade d rows (withRoom h (isTightCall rows) (length (before .out)) (length (before .set)) (length (before .lines)) (length (before .records))) before after a
+        → LeftMade d rows (withRoom h (isTightCall rows) (length (before .out)) (length (before .set)) (length (before .lines))
+        (length (before .records))) before after a
         → LeftMade d rows (makingBegins true (openOf d) rows before) before after a
     lossy-made n m en em el after a l =
         let f : eqb (length rows) (h .blocks * h .lines) ≡ true = rw (← en, ← em) (eq-eqb (length rows) (n * m) el) in

@@ -33,7 +33,8 @@ module _ (h : FujiHeader) (tight : Bool) (room count samples records : ℕ) (n :
     room-scratch x e = rw (← en, eq-eqb count n ec) (go (isShortScratch (h .xtrans) samples records) refl (sym ep ∙ e))
       where
         go : (s : Bool) → isShortScratch (h .xtrans) samples records ≡ s → cond s (Parsing.Refused ShortScratch) (Parsing.Header h) ≡ Parsing.Refused x
-            → Parsing.Refused x ≡ cond s (Parsing.Refused ShortScratch) (cond (ltb room (rowStart (withFlag tight h) (h .blocks))) (Parsing.Refused ShortOutput) (Parsing.Header h))
+            → Parsing.Refused x ≡ cond s (Parsing.Refused ShortScratch) (cond (ltb room (rowStart (withFlag tight h) (h .blocks)))
+            (Parsing.Refused ShortOutput) (Parsing.Header h))
         go true f g = sym g
         go false f g = let no : _≡_ {A = ℕ} 0 1 = cc in absurd (omega arith)
 
@@ -43,7 +44,8 @@ module _ (h : FujiHeader) (tight : Bool) (room count samples records : ℕ) (n :
     pub room-ruled : (g : FujiHeader) → p ≡ Parsing.Header g → Ruled h → (k : FujiHeader) → k ≡ withFlag tight g → Ruled k
     room-ruled g e R k ek = rw ek (ruled-flag tight g (subst Ruled (room-same g e .0) R))
 
-    start-is : (g : FujiHeader) → h ≡ g → (k : FujiHeader) → k ≡ withFlag tight g → (m : ℕ) → m ≡ rowStart k (k .blocks) → m ≡ rowStart (withFlag tight h) (h .blocks)
+    start-is : (g : FujiHeader) → h ≡ g → (k : FujiHeader) → k ≡ withFlag tight g → (m : ℕ) → m ≡ rowStart k (k .blocks) → m ≡ rowStart
+        (withFlag tight h) (h .blocks)
     start-is g f k ek m em = em ∙ rw (ek, f)
 
     pub room-short : (g : FujiHeader) → p ≡ Parsing.Header g → (k : FujiHeader) → k ≡ withFlag tight g → (m : ℕ) → m ≡ rowStart k (k .blocks) → room < m
@@ -88,9 +90,11 @@ room-accepted h g tight room count samples records =
     go (eqb count (setSize (widthOf (h .xtrans)) (h .lines))) (ltb samples (samplesNeeded (h .xtrans))) (ltb records recordsNeeded)
     (ltb room (rowStart (withFlag tight h) (h .blocks))) refl refl refl refl
   where
-    go : (a s t b : Bool) → eqb count (setSize (widthOf (h .xtrans)) (h .lines)) ≡ a → ltb samples (samplesNeeded (h .xtrans)) ≡ s → ltb records recordsNeeded ≡ t
+    go : (a s t b : Bool) → eqb count (setSize (widthOf (h .xtrans)) (h .lines)) ≡ a → ltb samples (samplesNeeded (h .xtrans)) ≡ s → ltb records
+        recordsNeeded ≡ t
         → ltb room (rowStart (withFlag tight h) (h .blocks)) ≡ b
-        → cond a (cond (s || t) (Parsing.Refused ShortScratch) (cond b (Parsing.Refused ShortOutput) (Parsing.Header h))) (Parsing.Refused WrongCount) ≡ Parsing.Header g
+        → cond a (cond (s || t) (Parsing.Refused ShortScratch) (cond b (Parsing.Refused ShortOutput) (Parsing.Header h))) (Parsing.Refused WrongCount)
+        ≡ Parsing.Header g
         → RoomAccepted h g tight room count samples records
     go false s t b p q r u e = clash WrongCount g e
     go true true t b p q r u e = clash ShortScratch g e

@@ -75,7 +75,8 @@ unfolding rowStart
 rows-end h i l k = omega arith
 
 -- what a row's byte asks for
-pub row-asks : (h : FujiHeader) (i p n q len : ℕ) → h .blocks ≤ 16 → h .lines ≤ 2731 → p ≡ padded (4 * h .blocks) → n ≡ rowLength h → n ≤ h .lines → q ≡ padded n → len ≡ h .blocks * rowLength h
+pub row-asks : (h : FujiHeader) (i p n q len : ℕ) → h .blocks ≤ 16 → h .lines ≤ 2731 → p ≡ padded (4 * h .blocks) → n ≡ rowLength h → n ≤ h .lines → q
+    ≡ padded n → len ≡ h .blocks * rowLength h
     → i < rowStart h (h .blocks) → 16 + p ≤ i → (n ≤ q) × ((q < 2 ^ 16) × ((h .blocks ≤ 16) × ((i - (16 + p) < h .blocks * q) × (len ≡ h .blocks * n))))
 row-asks h i p n q len hb hl ep en hn eq el l k =
     (omega arith, (omega arith, (hb, (rw (ep, eq, en) (rows-end h i l (rw ep at k)), el ∙ rw en))))
@@ -84,7 +85,8 @@ row-asks h i p n q len hb hl ep en hn eq el l k =
 pub fill-next : (f : ℕ → ℕ) (d : List ℕ) (i v : ℕ) → i < length d → v ≡ f i → set (table f i ++ drop i d) i v ≡ table f (i + 1) ++ drop (i + 1) d
 unfolding table
 fill-next f d i v l e =
-    rw (drop-cons d i 0 l, set-at (table f i) (getD d i 0) (drop (suc i) d) v i (table-length f i), e, add-one i) (sym (append-assoc (table f i) (f i ∷ []) (drop (suc i) d)))
+    rw (drop-cons d i 0 l, set-at (table f i) (getD d i 0) (drop (suc i) d) v i (table-length f i), e, add-one i)
+    (sym (append-assoc (table f i) (f i ∷ []) (drop (suc i) d)))
 
 -- ---- the answer
 
@@ -105,13 +107,25 @@ module _ (h : FujiHeader) (rows lengths : List ℕ) (room : ℕ) where
     pub answer-short : h .blocks ≤ firstLong lengths → room < rowStart h (h .blocks) → Refused ShortOutput ≡ frontAnswer h rows lengths room
     unfolding frontAnswer
     answer-short l k =
-        rw (eq-eqb (length lengths) (h .blocks) e, eq-eqb (length rows) (h .blocks * rowLength h) f, le-ltb (firstLong lengths) (h .blocks) l, lt-ltb room (rowStart h (h .blocks)) k)
+        rw (
+          eq-eqb (length lengths) (h .blocks) e,
+          eq-eqb (length rows) (h .blocks * rowLength h) f,
+          le-ltb (firstLong lengths) (h .blocks) l,
+          lt-ltb
+              room (rowStart h (h .blocks)) k,
+        )
 
     pub answer-length : h .blocks ≤ firstLong lengths → rowStart h (h .blocks) ≤ room
         → Length (rowStart h (h .blocks) + sumOf lengths (h .blocks)) ≡ frontAnswer h rows lengths room
     unfolding frontAnswer
     answer-length l k =
-        rw (eq-eqb (length lengths) (h .blocks) e, eq-eqb (length rows) (h .blocks * rowLength h) f, le-ltb (firstLong lengths) (h .blocks) l, le-ltb room (rowStart h (h .blocks)) k)
+        rw (
+          eq-eqb (length lengths) (h .blocks) e,
+          eq-eqb (length rows) (h .blocks * rowLength h) f,
+          le-ltb (firstLong lengths) (h .blocks) l,
+          le-ltb
+              room (rowStart h (h .blocks)) k,
+        )
 
 pub front-size-is : (d : List ℕ) (h : FujiHeader) (rows lengths : List ℕ) → length (frontBytes d h rows lengths) ≡ rowStart h (h .blocks)
 front-size-is d h rows lengths = table-length (frontByte d h rows lengths) (rowStart h (h .blocks))
@@ -126,6 +140,7 @@ pub left-header : (d rows lengths : List ℕ) (before after : List ℕ) (p : Par
     → LeftFront d rows lengths (parseOf d) before after r
 left-header d rows lengths before after p h r e f k = let g : parseOf d ≡ Parsing.Header h = sym e ∙ f in rw g k
 
-pub fill-row : (d : List ℕ) (h : FujiHeader) (rows lengths : List ℕ) (i p n q r : ℕ) → p ≡ padded (4 * h .blocks) → n ≡ rowLength h → q ≡ padded n → 16 + p ≤ i
+pub fill-row : (d : List ℕ) (h : FujiHeader) (rows lengths : List ℕ) (i p n q r : ℕ) → p ≡ padded (4 * h .blocks) → n ≡ rowLength h → q ≡ padded n →
+    16 + p ≤ i
     → r ≡ rowByte rows n q (i - (16 + p)) → r ≡ frontByte d h rows lengths i
 fill-row d h rows lengths i p n q r ep en eq k e = e ∙ rw (eq, en, ep) (front-row d h rows lengths i (rw ep at k))

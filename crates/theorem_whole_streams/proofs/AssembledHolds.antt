@@ -38,7 +38,8 @@ bytes-four n h (suc (suc (suc (suc i)))) = omega arith
 
 length-filled : (l : List ℕ) → length (filled l) ≡ padded (length l)
 length-filled l =
-    let fill : length (replicate {A = ℕ} (padded (length l) - length l) 0) ≡ padded (length l) - length l = length-replicate (padded (length l) - length l) 0 in
+    let fill : length (replicate {A = ℕ} (padded (length l) - length l) 0) ≡ padded (length l) - length l = length-replicate
+    (padded (length l) - length l) 0 in
     length-append l (replicate (padded (length l) - length l) 0) ∙ rw fill (omega arith)
 
 bytes-filled : (l : List ℕ) → Bytes l → Bytes (filled l)
@@ -111,7 +112,8 @@ module _ (d : List ℕ) (h : FujiHeader) (e : parseOf d ≡ Header h) (rows bloc
   head = stands-left S 0 (take 16 d) (filled sizes ++ (fullRows ++ upto blocks K)) whole
 
   rest : Stands S 16 (filled sizes ++ (fullRows ++ upto blocks K))
-  rest = stands-from S (0 + length (take 16 d)) 16 _ (omega (arith, head-length)) (stands-right S 0 (take 16 d) (filled sizes ++ (fullRows ++ upto blocks K)) whole)
+  rest = stands-from S (0 + length (take 16 d)) 16 _ (omega (arith, head-length))
+      (stands-right S 0 (take 16 d) (filled sizes ++ (fullRows ++ upto blocks K)) whole)
 
   the-sizes : Stands S 16 sizes
   the-sizes = stands-left S 16 sizes (replicate (padded (length sizes) - length sizes) 0) (stands-left S 16 (filled sizes) (fullRows ++ upto blocks K) rest)
@@ -149,13 +151,15 @@ module _ (d : List ℕ) (h : FujiHeader) (e : parseOf d ≡ Header h) (rows bloc
   -- zeros follow the sizes, and each row
   the-fill : Stands S (16 + 4 * K) (replicate (padded (4 * K) - 4 * K) 0)
   the-fill =
-      let z = stands-right S 16 sizes (replicate (padded (length sizes) - length sizes) 0) (stands-left S 16 (filled sizes) (fullRows ++ upto blocks K) rest) in
+      let z = stands-right S 16 sizes (replicate (padded (length sizes) - length sizes) 0)
+      (stands-left S 16 (filled sizes) (fullRows ++ upto blocks K) rest) in
       rw sizes-length at z
 
   a-fill : (b : ℕ) → b < K → Stands S (rowStart h b + rowLength h) (replicate (padded (rowLength h) - rowLength h) 0)
   unfolding rowStart
   a-fill b l =
-      let z = stands-right S _ (rows b) (replicate (padded (length (rows b)) - length (rows b)) 0) (stands-each (λ b. filled (rows b)) S (16 + padded (4 * K)) K b the-rows l) in
+      let z = stands-right S _ (rows b) (replicate (padded (length (rows b)) - length (rows b)) 0)
+      (stands-each (λ b. filled (rows b)) S (16 + padded (4 * K)) K b the-rows l) in
       rw (parts .rows-long b l, rows-each b (omega arith)) at z
 
   pub head-there : Stands (assembled d h rows blocks) 0 (take 16 d)
@@ -174,7 +178,8 @@ module _ (d : List ℕ) (h : FujiHeader) (e : parseOf d ≡ Header h) (rows bloc
   unfolding S
   row-there = a-row
 
-  pub row-fill-there : (b : ℕ) → b < h .blocks → Stands (assembled d h rows blocks) (rowStart h b + rowLength h) (replicate (padded (rowLength h) - rowLength h) 0)
+  pub row-fill-there : (b : ℕ) → b < h .blocks → Stands (assembled d h rows blocks) (rowStart h b + rowLength h)
+      (replicate (padded (rowLength h) - rowLength h) 0)
   unfolding S
   row-fill-there = a-fill
 

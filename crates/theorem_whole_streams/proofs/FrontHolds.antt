@@ -70,7 +70,8 @@ module _ (d : List ℕ) (h : FujiHeader) (e : parseOf d ≡ Header h) (rows leng
   unfolding S
   at-head i l =
       let z : 0 + i ≡ i = omega arith in
-      rw z at (stands-at S 0 (take 16 d) i (head-there d h e R blocks parts) (omega (arith, head-long))) ∙ getD-take 16 d i 0 l ∙ front-head d h rows lengths i l
+      rw z at (stands-at S 0 (take 16 d) i (head-there d h e R blocks parts) (omega (arith, head-long))) ∙ getD-take 16 d i 0 l ∙ front-head d h rows
+      lengths i l
 
   at-size : (i : ℕ) → 16 ≤ i → i < 16 + 4 * K → getD S i 0 ≡ frontByte d h rows lengths i
   unfolding S
@@ -118,7 +119,8 @@ module _ (d : List ℕ) (h : FujiHeader) (e : parseOf d ≡ Header h) (rows leng
     in-row : m % full < row → getD S i 0 ≡ frontByte d h rows lengths i
     unfolding S rowByte
     in-row c =
-        rw joined at (stands-at S (rowStart h (m / full)) (R (m / full)) (m % full) (row-there d h e R blocks parts (m / full) low) (rw (row-long (m / full) low) c))
+        rw joined at (stands-at S (rowStart h (m / full)) (R (m / full)) (m % full) (row-there d h e R blocks parts (m / full) low)
+        (rw (row-long (m / full) low) c))
         ∙ getD-take row (drop (m / full * row) rows) (m % full) 0 c ∙ getD-drop (m / full * row) rows (m % full) 0
         ∙ row-byte ∙ front-row d h rows lengths i l
       where
@@ -132,7 +134,8 @@ module _ (d : List ℕ) (h : FujiHeader) (e : parseOf d ≡ Header h) (rows leng
         let size : length (replicate {A = ℕ} n 0) ≡ n = length-replicate n 0 in
         let less : m % full < full = mod-lt m pos in
         let is : rowStart h (m / full) + row + (m % full - row) ≡ i = omega (arith, joined) in
-        rw is at (stands-at S (rowStart h (m / full) + row) (replicate n 0) (m % full - row) (row-fill-there d h e R blocks parts (m / full) low) (omega arith))
+        rw is at (stands-at S (rowStart h (m / full) + row) (replicate n 0) (m % full - row) (row-fill-there d h e R blocks parts (m / full) low)
+        (omega arith))
         ∙ zero-at n (m % full - row) ∙ row-byte ∙ front-row d h rows lengths i l
       where
         row-byte : 0 ≡ rowByte rows row full m
@@ -159,7 +162,8 @@ module _ (d : List ℕ) (h : FujiHeader) (e : parseOf d ≡ Header h) (rows leng
           List·getD-append (frontBytes d h rows lengths) (upto blocks K) 0 i (omega (arith, front-size-is d h rows lengths))
           ∙ table-getD (frontByte d h rows lengths) (rowStart h K) i 0 a ∙ sym (before-blocks i a)
 
-      behind : (i : ℕ) → rowStart h K ≤ i → i < length (frontBytes d h rows lengths ++ upto blocks K) → getD (frontBytes d h rows lengths ++ upto blocks K) i 0 ≡ getD S i 0
+      behind : (i : ℕ) → rowStart h K ≤ i → i < length (frontBytes d h rows lengths ++ upto blocks K) → getD
+          (frontBytes d h rows lengths ++ upto blocks K) i 0 ≡ getD S i 0
       behind i a l =
           let n = front-size-is d h rows lengths in
           let j : ℕ = i - rowStart h K in

@@ -76,8 +76,17 @@ module _ (lossless : Bool) (d : List ℕ) (h : FujiHeader) (e : parseOf d ≡ He
   same-kind : kindRules d ≡ true → kindRules s ≡ true
   unfolding kindRules
   same-kind k =
-      rw (other-is 0 (lit< tt) (λ f. omega arith), other-is 1 (lit< tt) (λ f. omega arith), flag-is, low lossless, at 3 (omega arith) (lit< tt), at 4 (omega arith) (lit< tt))
-      (and-same (eqb (be16 d 0) 0x4953) (leb (byteAt d 2) 1) (eqb (byteAt d 3) 0 || eqb (byteAt d 3) 16) (eqb (byteAt d 4) 12 || eqb (byteAt d 4) 14 || eqb (byteAt d 4) 16) k)
+      rw (
+        other-is 0 (lit< tt) (λ f. omega arith),
+        other-is 1 (lit< tt) (λ f. omega arith),
+        flag-is,
+        low lossless,
+        at 3 (omega arith) (lit< tt),
+        at 4
+            (omega arith) (lit< tt),
+      )
+      (and-same (eqb (be16 d 0) 0x4953) (leb (byteAt d 2) 1) (eqb (byteAt d 3) 0 || eqb (byteAt d 3) 16)
+      (eqb (byteAt d 4) 12 || eqb (byteAt d 4) 14 || eqb (byteAt d 4) 16) k)
 
   same-sizes : sizeRules (withFlag lossless (headerOf d)) ≡ sizeRules (headerOf d)
   unfolding sizeRules
@@ -138,5 +147,6 @@ flag-kept d h e = (refl, same)
         split 2 i
         (λ a. split 3 i
         (λ b. getD-set-other (take 16 d) 2 i (flag (h .lossless)) 0 (λ f. omega arith))
-        (λ b. let is : i ≡ 2 = omega arith in rw is (getD-set-same (take 16 d) 2 (flag (h .lossless)) 0 (omega (arith, long)) ∙ byte ∙ sym (getD-take 16 d 2 0 (lit< tt)))))
+        (λ b. let is : i ≡ 2 = omega arith in rw is (getD-set-same (take 16 d) 2 (flag (h .lossless)) 0 (omega (arith, long)) ∙ byte ∙ sym
+        (getD-take 16 d 2 0 (lit< tt)))))
         (λ a. getD-set-other (take 16 d) 2 i (flag (h .lossless)) 0 (λ f. omega arith)))

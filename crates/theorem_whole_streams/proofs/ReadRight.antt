@@ -145,7 +145,8 @@ module _ (F : Form) (bases : List ℕ) (lines : ℕ) (s : List ℕ) where
   set-at j h = table-getD (readSample F bases s) (setSize width lines) j 0 h
 
   pub set-shown : (n c p : ℕ) → n < lines → c < 12 → p < width
-      → getD (setWith F bases lines s) (indexIn width n (lineOfRank c) p) 0 ≡ getD (linesOf (readLines F bases s (suc n))) (lineOfRank c * (width + 2) + p + 1) 0
+      → getD (setWith F bases lines s) (indexIn width n (lineOfRank c) p) 0 ≡ getD (linesOf (readLines F bases s (suc n)))
+      (lineOfRank c * (width + 2) + p + 1) 0
   set-shown n c p hn hc hp =
       set-at (indexIn width n (lineOfRank c) p) (index-lt width n c p hc hp lines hn)
       ∙ rw (line-at width n c p hc hp, colour-line-at width n c p hc hp, position-at width n c p hc hp)

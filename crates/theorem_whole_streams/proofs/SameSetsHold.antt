@@ -43,7 +43,8 @@ depth-of d h R = let r : Ruled h = opened d h (R .opens) .ruled in (r .bits-low,
 
 same-buffers : (a b : Buffers) → a .image ≡ b .image → a .lines ≡ b .lines → a .records ≡ b .records → a ≡ b
 same-buffers a b e f g =
-    let made : _≡_ {A = Buffers} (record { image = a .image; lines = a .lines; records = a .records }) (record { image = b .image; lines = b .lines; records = b .records }) = rw (e, f, g) in
+    let made : _≡_ {A = Buffers} (record { image = a .image; lines = a .lines; records = a .records })
+    (record { image = b .image; lines = b .lines; records = b .records }) = rw (e, f, g) in
     made
 
 -- ---- one stream: its lines go by its sets, and all of them are read
@@ -113,7 +114,8 @@ module _ (d e : List ℕ) (h : FujiHeader) (lossless : Bool) where
 
       -- an entry of the image
       entry : (i was : ℕ)
-          → cond (isDecoded d h r (lastBlock r + 1) i) (decodedSample d h r tile i) was ≡ cond (isDecoded e g r (lastBlock r + 1) i) (decodedSample e g r tile i) was
+          → cond (isDecoded d h r (lastBlock r + 1) i) (decodedSample d h r tile i) was ≡ cond (isDecoded e g r (lastBlock r + 1) i)
+          (decodedSample e g r tile i) was
       unfolding isDecoded
       entry i was = go (ltb i (r .width * r .height)) (ltb (blockOf r i) (lastBlock r + 1)) refl
         where
@@ -133,7 +135,8 @@ module _ (d e : List ℕ) (h : FujiHeader) (lossless : Bool) where
               let hb : blockOf r i < h .blocks = omega (arith, ltb-true (blockOf r i) (lastBlock r + 1) eb, block-inside h r n ok) in
               rw (read-all d h R r n ok (blockOf r i) hb, read-all e g Q r n ok' (blockOf r i) hb) (inside (ltb (lineOf r i) (lineCount r)) refl hb)
 
-      same-left : (before after after' : Buffers) (answer answer' : Decoded) → Decoding d h r tile before after answer → Decoding e g r tile before after' answer'
+      same-left : (before after after' : Buffers) (answer answer' : Decoded) → Decoding d h r tile before after answer → Decoding e g r tile before
+          after' answer'
           → (answer ≡ answer') × (after ≡ after')
       same-left before after after' answer answer' D E =
           let image : after .image ≡ after' .image =

@@ -63,7 +63,8 @@ module _ (bits q W : ℕ) (high : bits ≤ 16) (s t : List ℕ) (n : ℕ) where
       → getD (y .lines) (cell W x) 0 ≡ wanted W t n x → wanted W t n x ≤ M → Same (r .lines) w → Same (y .lines) (writeStep bits 0 W true t n x w)
   step-same x r y w ok inside e stands small same =
       let p : Puts W x r y = step-puts bits q W s x r y e in
-      let there : getD (set (r .lines) (cell W x) (p .value)) (cell W x) 0 ≡ p .value = getD-set-same (r .lines) (cell W x) (p .value) 0 (rw (ok .long) (cell-lt W x inside)) in
+      let there : getD (set (r .lines) (cell W x) (p .value)) (cell W x) 0 ≡ p .value = getD-set-same (r .lines) (cell W x) (p .value) 0
+      (rw (ok .long) (cell-lt W x inside)) in
       let is : p .value ≡ wanted W t n x = sym there ∙ rw (p .lines) at stands in
       let right : x .coded ≡ false → wanted W t n x ≡ (stepContext W x (w .lines)) .prediction = λ c. sym is ∙ p .predicted c ∙ rw (same .0) in
       let held : (j : ℕ) → getD (w .lines) j 0 ≤ M = rw (same .0) (ok .small) in (

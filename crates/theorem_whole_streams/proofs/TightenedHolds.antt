@@ -30,7 +30,8 @@ use Rattle.theorem_one_to_one.proofs.BoundHolds.{bounds}
 use Rattle.theorem_one_to_one.proofs.CorrespondenceHolds.{correspondence-of-headers, no-bases}
 use Rattle.theorem_whole_streams.specs.Assembled.{fourBytes, filled, assembled, Parts, Assembling}
 use Rattle.theorem_whole_streams.specs.Kinds.{flagged, withFlag, Readable, setIn}
-use Rattle.theorem_whole_streams.specs.Tightened.{SameSets, streamOf, TightStream, TightStreams, tightHeader, tightened, remade, Tightened, TightenedStreams}
+use Rattle.theorem_whole_streams.specs.Tightened.{SameSets, streamOf, TightStream, TightStreams, tightHeader, tightened, remade, Tightened}
+use Rattle.theorem_whole_streams.specs.Tightened.{TightenedStreams}
 use Rattle.theorem_whole_streams.specs.CanonicalForm.{Canonical}
 use Rattle.theorem_whole_streams.specs.LengthBounds.{TightenedBound}
 use Rattle.theorem_whole_streams.proofs.StandLaws.{upto-same, length-most, bytes-take}
@@ -48,7 +49,8 @@ unfolding assembled
 assembled-same d e h rows blocks rows' blocks' head same-rows same =
     rw (
       head,
-      upto-same (λ b. fourBytes (length (blocks b))) (λ b. fourBytes (length (blocks' b))) (h .blocks) (λ b l. ap (λ (s : List ℕ). fourBytes (length s)) (same b l)),
+      upto-same (λ b. fourBytes (length (blocks b))) (λ b. fourBytes (length (blocks' b))) (h .blocks)
+          (λ b l. ap (λ (s : List ℕ). fourBytes (length s)) (same b l)),
       upto-same (λ b. filled (rows b)) (λ b. filled (rows' b)) (h .blocks) (λ b l. ap (λ (s : List ℕ). filled s) (same-rows b l)),
       upto-same blocks blocks' (h .blocks) same,
     )
@@ -144,7 +146,8 @@ module _ (d : List ℕ) (h : FujiHeader) (R : Readable d h) where
   again : tightened (tightened d h) H ≡ tightened d h
   again =
       assembled-same (flagged true (tightened d h)) (flagged true d) H (λ b. []) (λ b. tightBlock (formOf h) (h .lines) (setIn (tightened d h) H b)) (λ b. [])
-      (λ b. tightBlock (formOf h) (h .lines) (setIn d h b)) (ap (take 16) flagged-again) (λ b l. refl) (λ b l. ap (tightBlock (formOf h) (h .lines)) (T .set b l))
+      (λ b. tightBlock (formOf h) (h .lines) (setIn d h b)) (ap (take 16) flagged-again) (λ b l. refl)
+      (λ b l. ap (tightBlock (formOf h) (h .lines)) (T .set b l))
 
   -- block b of the tight stream
   there : (b : ℕ) → b < h .blocks → bytesIn (tightened d h) b ≡ tightBlock (formOf h) (h .lines) (setIn d h b)
@@ -179,7 +182,8 @@ module _ (d : List ℕ) (h : FujiHeader) (R : Readable d h) where
     λ f. let c : Header H ≡ Header h = sym (T .readable .opens) ∙ ap openOf f ∙ R .opens in
         let is : H ≡ h = cc in
         let lossless : h .lossless ≡ true = sym (ap (λ (x : FujiHeader). x .lossless) is) in
-        let own : (b : ℕ) → b < h .blocks → tightBlock (formOf h) (h .lines) (setIn d h b) ≡ bytesIn d b = λ b l. sym (there b l) ∙ ap (λ (s : List ℕ). bytesIn s b) f in
+        let own : (b : ℕ) → b < h .blocks → tightBlock (formOf h) (h .lines) (setIn d h b) ≡ bytesIn d b = λ b l. sym (there b l) ∙ ap
+        (λ (s : List ℕ). bytesIn s b) f in
         (lossless, λ b l. subst (λ (s : List ℕ). Tight (formOf h) (h .lines) (bytesIn s b)) f (T .tight b l), sym (remade-is lossless own) ∙ f),
     λ f. remade-is (f .0) (own-block (f .0) hd (f .1)) ∙ f .2,
   )
@@ -212,5 +216,6 @@ tightened-bound d h R =
     let Z = A (flagged true d) H (e' d h R) refl (setIn d h) (fit d h R) in
     let blocks : ℕ → List ℕ = λ b. tightBlock (formOf h) (h .lines) (setIn d h b) in
     let each : (b : ℕ) → b < h .blocks → length (blocks b) ≤ lengthBound h =
-    λ b l. bounds (flagged true d) H (e' d h R) refl (blocks b) (correspondence-of-headers (flagged true d) H (e' d h R) refl .written (setIn d h b) (fit d h R b l) .1) in
+    λ b l. bounds (flagged true d) H (e' d h R) refl (blocks b) (correspondence-of-headers (flagged true d) H (e' d h R) refl .written (setIn d h b)
+    (fit d h R b l) .1) in
     omega (arith, Z .size, length-most blocks (h .blocks) (lengthBound h) each (h .blocks) (omega arith))

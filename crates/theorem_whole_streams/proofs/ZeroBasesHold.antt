@@ -26,7 +26,8 @@ use Rattle.read_block.specs.Records.{baseOf}
 use Rattle.read_block.specs.TightBlocks.{setRead}
 use Rattle.read_block.specs.declared.Form.{Form}
 use Rattle.read_block.proofs.LineLaws.{width-in-range}
-use Rattle.write_block.specs.WrittenBlocks.{WriteState, repeats, enterWriting, writePassAt, beforeWriting, writeLine, startWriting, writeLines, writtenBlock, tightBlock}
+use Rattle.write_block.specs.WrittenBlocks.{WriteState, repeats, enterWriting, writePassAt, beforeWriting, writeLine, startWriting, writeLines}
+use Rattle.write_block.specs.WrittenBlocks.{writtenBlock, tightBlock}
 use Rattle.theorem_one_to_one.specs.Correspondence.{Correspondence}
 use Rattle.theorem_one_to_one.specs.PredictedSets.{PredictedSet}
 use Rattle.theorem_one_to_one.specs.UsedBases.{IsNear}

@@ -79,7 +79,9 @@ fn main() -> ExitCode {
         (Some("copies"), Some(count), Some(seed)) => copies(count, seed),
         (Some("differences"), ..) if words.len() == 1 => differences(),
         _ => {
-            eprintln!("usage: compare calls COUNT [SEED]\n       compare writes COUNT [SEED]\n       compare copies COUNT [SEED]\n       compare differences");
+            eprintln!(
+                "usage: compare calls COUNT [SEED]\n       compare writes COUNT [SEED]\n       compare copies COUNT [SEED]\n       compare differences"
+            );
             ExitCode::from(2)
         }
     }

@@ -48,7 +48,9 @@ fn loose(header: &Header, seed: u64) -> Vec<u8> {
 fn readable() -> Vec<Vec<u8>> {
     let mut random = Random::new(20);
     let mut all = vec![];
-    for (xtrans, bits, width, lines) in [(false, 14, 768, 3), (true, 14, 1536, 2), (false, 12, 1800, 2), (true, 16, 2304 - 24, 1), (false, 16, 768, 1)] {
+    for (xtrans, bits, width, lines) in
+        [(false, 14, 768, 3), (true, 14, 1536, 2), (false, 12, 1800, 2), (true, 16, 2304 - 24, 1), (false, 16, 768, 1)]
+    {
         let header = Header::new(true, xtrans, bits, width, lines);
         let seed = bits as u64 + width as u64;
         let tight = picture(&header, &[], seed);
@@ -249,9 +251,7 @@ impl Buffers {
         let (mut refusal, mut totals) = ([usize::MAX; 4], [usize::MAX; 2]);
         let (t, s, r) = (&mut self.set, &mut self.scratch.samples, &mut self.scratch.records);
         let (set, samples, records) = (t.as_mut_ptr(), s.as_mut_ptr(), r.as_mut_ptr());
-        unsafe {
-            ffi::fuji_read_set(d.as_ptr(), d.len(), b, set, t.len(), samples, s.len(), records, r.len(), &mut totals, &mut refusal)
-        };
+        unsafe { ffi::fuji_read_set(d.as_ptr(), d.len(), b, set, t.len(), samples, s.len(), records, r.len(), &mut totals, &mut refusal) };
         (refusal, totals)
     }
 
@@ -336,7 +336,7 @@ fn a_truncated_block_leaves_the_lines_before() {
 fn the_earliest_refusal_of_tighten_and_lossy_copy() {
     let (header, bytes) = three_blocks();
     let size = 3 * 12 * width(&header);
-    let bases = vec![2; 9];
+    let bases = [2; 9];
     let enough = FujiCompressed::new(&bytes).unwrap().header.lossy_copy_bound();
     for (wrong, first) in choices(&[1, 2, 3, 4, 17, 9, 10, 13]) {
         let is = |n| wrong.contains(&n);
@@ -418,7 +418,9 @@ fn refusals_on_the_way() {
 #[test]
 fn fronts() {
     let mut random = Random::new(77);
-    for (lossless, width, lines) in [(true, 768, 1), (true, 2304, 5), (false, 768, 16), (false, 3072, 17), (false, 12288, 40), (true, 12288, 2)] {
+    for (lossless, width, lines) in
+        [(true, 768, 1), (true, 2304, 5), (false, 768, 16), (false, 3072, 17), (false, 12288, 40), (true, 12288, 2)]
+    {
         let header = Header::new(lossless, true, 14, width, lines);
         let rows = if lossless { vec![] } else { rows(&header, &mut random, 256) };
         let blocks: Vec<Vec<u8>> = (0..header.blocks).map(|b| vec![b; random.below(70_000) as usize]).collect();
@@ -457,9 +459,7 @@ fn the_earliest_refusal_of_put_front() {
             let (mut length, mut refusal) = ([usize::MAX], [usize::MAX; 4]);
             let (r, l, o) = (rows.as_ptr(), lengths.as_ptr(), out.as_mut_ptr());
             unsafe {
-                ffi::fuji_put_front(
-                    head.as_ptr(), head.len(), r, rows.len(), l, lengths.len(), o, out.len(), &mut length, &mut refusal,
-                )
+                ffi::fuji_put_front(head.as_ptr(), head.len(), r, rows.len(), l, lengths.len(), o, out.len(), &mut length, &mut refusal)
             };
             assert_eq!(refusal, [first, (first == 26) as usize, 0, 0], "{wrong:?}");
             if first == 0 {

@@ -24,7 +24,8 @@ loop-again c =
     let s = c .before .before .before in (
       omega arith,
       simp length-set (l .inv .1),
-      rw (l .inv .2) (copy-more (s .args .to .now) (s .args .from .now) (s .args .start) (s .args .at) (s .args .n) (l .j) (s .pre .0) (s .pre .1) (omega arith)),
+      rw (l .inv .2) (copy-more (s .args .to .now) (s .args .from .now) (s .args .start) (s .args .at) (s .args .n) (l .j) (s .pre .0) (s .pre .1)
+          (omega arith)),
     )
 
 returns : tie.Need-returns Inv-loop μ-loop

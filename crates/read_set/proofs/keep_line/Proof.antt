@@ -58,12 +58,15 @@ copy-samples-requires c κs =
 
 loop-again : tie.Need-loop-again Inv-loop μ-loop
 loop-again c =
-    let l = c .before .before .before .before .before .before .loop in
-    let s = c .before .before .before .before .before .before .before .before .before in
+    let at5 = c .before .before .before .before .before in
+    let at6 = at5 .before in
+    let s = at6 .before .before .before in
+    let l = at6 .loop in
     let n =
     colour-step (s .args .w) (s .args .lines .now) (s .args .set .now) (l .set) _ (s .args .n * (12 * s .args .w)) (l .c) _ (s .pre .1 .1 .0)
-    (c .before .before .before .before .line-of-rank .ensures .0) (c .before .before .before .before .before .loop-test .taken) (l .inv .3) (l .inv .2) (c .before .before .copy-samples .ensures) in
-    (omega (arith, c .before .before .before .before .before .loop-test .taken), n .0, n .1, l .inv .3, l .inv .4)
+    (c .before .before .before .before .line-of-rank .ensures .0) (at5 .loop-test .taken) (l .inv .3) (l .inv .2)
+    (c .before .before .copy-samples .ensures) in
+    (omega (arith, at5 .loop-test .taken), n .0, n .1, l .inv .3, l .inv .4)
 
 returns : tie.Need-returns Inv-loop μ-loop
 returns c =
@@ -79,14 +82,29 @@ keep-line-spec =
     Inv-loop
     μ-loop
     (λ c. search needs)
-    (λ c. omega (arith, product (c .before .before .args .n) (c .before .before .args .w) (omega (arith, c .before .before .pre .1 .0)) (c .before .before .pre .0)))
+    (λ c. omega (
+      arith,
+      product (c .before .before .args .n) (c .before .before .args .w) (omega (arith, c .before .before .pre .1 .0))
+          (c .before .before .pre .0),
+    ))
     loop-holds
     (λ c κs. search needs)
     (λ c. search needs)
     (λ c. omega (arith, places c, c .before .before .before .before .before .pre .0))
     (λ c. omega (arith, places c, c .before .before .before .before .before .pre .0))
-    (λ c. omega (arith, below (c .before .before .before .loop .c) (c .before .before .before .before .before .before .args .w) (c .before .before .loop-test .taken), c .before .before .before .before .before .before .pre .0))
-    (λ c. omega (arith, below (c .before .before .before .loop .c) (c .before .before .before .before .before .before .args .w) (c .before .before .loop-test .taken), c .before .before .before .before .before .before .pre .0, c .before .before .before .loop .inv .4))
+    (λ c. omega (
+      arith,
+      below (c .before .before .before .loop .c) (c .before .before .before .before .before .before .args .w)
+          (c .before .before .loop-test .taken),
+      c .before .before .before .before .before .before .pre .0,
+    ))
+    (λ c. omega (
+      arith,
+      below (c .before .before .before .loop .c) (c .before .before .before .before .before .before .args .w)
+          (c .before .before .loop-test .taken),
+      c .before .before .before .before .before .before .pre .0,
+      c .before .before .before .loop .inv .4,
+    ))
     copy-samples-requires
     (λ c. search needs)
     (λ c. search needs)

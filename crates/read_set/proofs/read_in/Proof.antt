@@ -43,13 +43,16 @@ clear-records-requires c κs =
 
 returns : tie.Need-returns
 returns c =
-    let k = c .before .before .before .before .before .clear in
-    let d = done (c .before .before .before .before .before) in
+    let at5 = c .before .before .before .before .before in
+    let k = at5 .clear in
+    let d = done (at5) in
     let q = rowed (d .before) in
     let s = start (d .before) in
     let w =
-    set-walked (s .args .d .now) (s .args .h) (s .args .b) _ _ (q .base-row .result .now) (q .before .block-bytes .result .now) (d .read-kept .result) (s .args .set .now) _
-    (formed (d .before) .form-of .ensures) (q .base-row .ensures) (q .before .block-bytes .ensures .0) (q .before .before .line-count .ensures) (d .read-kept .ensures) in
+    set-walked (s .args .d .now) (s .args .h) (s .args .b) _ _ (q .base-row .result .now) (q .before .block-bytes .result .now) (d .read-kept .result)
+    (s .args .set .now) _
+    (formed (d .before) .form-of .ensures) (q .base-row .ensures) (q .before .block-bytes .ensures .0) (q .before .before .line-count .ensures)
+    (d .read-kept .ensures) in
     let e : length (d .read-kept .last .1 .1 .0) ≡ samplesNeeded (s .args .h .xtrans) = omega (arith, d .read-kept .kept, s .pre .1 .0 .0) in
     (w .0, (w .1, (k .ensures ∙ ap (λ (n : ℕ). replicate n 0) e, c .before .clear-records .ensures)))
 

@@ -82,20 +82,24 @@ slice-aggregate c = sym (c .before .before .before .before .loop .inv .5)
 
 read-lines-requires : tie.Need-read-lines-requires Inv-loop μ-loop
 read-lines-requires c κs =
+    let at6 = c .before .before .before .before .before .before in
     let l = looped c in
     let a = start l in
     let k = l .loop .inv .6 in
     let depth = a .pre .1 .0 .1 in (
       (a .pre .0 .0, (l .loop .inv .1, l .loop .inv .2)),
       (
-        (a .pre .1 .0, omega (arith, c .before .before .before .before .before .before .loop-test .taken, a .pre .1 .1 .0)),
+        (a .pre .1 .0, omega (arith, at6 .loop-test .taken, a .pre .1 .1 .0)),
         (
           (counted (started l) .before .before .before .xtrans-places .ensures, c .before .no-part .ensures _),
           (
             c .no-entries .ensures .1,
             (
               records-whole (a .args .form) depth (a .args .block .now) (a .args .bases .now) (l .loop .n) _ (k .read) .1,
-              (state-few (a .args .form) (a .args .bases .now) (a .args .block .now) (a .args .set .now) depth (l .loop .n) _ (k .read), (l .loop .lines, l .loop .inv .1, refl)),
+              (
+                state-few (a .args .form) (a .args .bases .now) (a .args .block .now) (a .args .set .now) depth (l .loop .n) _ (k .read),
+                (l .loop .lines, l .loop .inv .1, refl),
+              ),
             ),
           ),
         ),
@@ -162,8 +166,10 @@ loop-less c =
 
 loop-again : tie.Need-loop-again Inv-loop μ-loop
 loop-again c =
+    let at5 = c .before .before .before .before .before in
+    let at8 = at5 .before .before .before in
     let k = c .before .before .before .before .keep-line in
-    let m = kept (c .before .before .before .before .before) in
+    let m = kept (at5) in
     let d = lined m in
     let l = looped (d .before) in
     let a = start l in
@@ -176,7 +182,7 @@ loop-again c =
       omega (arith, d .read-lines .kept, l .loop .inv .5),
       kept-more (a .args .form) (a .args .bases .now) (a .args .block .now) (a .args .set .now) (a .pre .1 .0 .1) (a .args .count) (l .loop .n)
           t (a .pre .1 .1 .1) _ _ _ _ _ _ (l .loop .inv .6) _ _
-          (d .read-lines .ensures (l .loop .lines) (l .loop .inv .1) refl .0) _ _ (c .before .before .before .before .before .before .before .before .got .given .1)
+          (d .read-lines .ensures (l .loop .lines) (l .loop .inv .1) refl .0) _ _ (at8 .got .given .1)
           _ (c .before .next-place .ensures) _ (c .with-line .ensures .0) _ (widened (started l) .width .ensures) _ (k .ensures),
     )
 
@@ -193,7 +199,8 @@ returns-2 : tie.Need-returns-2 Inv-loop μ-loop
 returns-2 c =
     let l = c .before in
     let a = start l in
-    kept-all (a .args .form) (a .args .bases .now) (a .args .block .now) (a .args .set .now) (a .args .count) (l .loop .n) (omega (arith, l .loop .inv .0, c .loop-test .left)) _ _ _ _ _ _
+    kept-all (a .args .form) (a .args .bases .now) (a .args .block .now) (a .args .set .now) (a .args .count) (l .loop .n)
+    (omega (arith, l .loop .inv .0, c .loop-test .left)) _ _ _ _ _ _
     (l .loop .inv .6)
 
 pub read-kept-spec : {M : Type 1} → statement M

@@ -46,7 +46,8 @@ returns-2 c =
     let h = m .begins2 .given .0 .0 in
     set-read (s .args .d .now) (s .args .b) (lent s) _ h (sym (m .before .before .set-begins .ensures) ∙ m .begins2 .given .1) _ _
     (record {
-      answered = c .read-answer .ensures ∙ read-told (formOf h) (basesIn (s .args .d .now) (s .args .b)) (bytesIn (s .args .d .now) (s .args .b)) (h .lines) (s .args .b) (x .read-in .result) (x .read-in .ensures .0);
+      answered = c .read-answer .ensures ∙ read-told (formOf h) (basesIn (s .args .d .now) (s .args .b)) (bytesIn (s .args .d .now) (s .args .b))
+          (h .lines) (s .args .b) (x .read-in .result) (x .read-in .ensures .0);
       set = x .read-in .ensures .1 .0;
       lines = lines-back (h .xtrans) (n .samples-needed .result) (s .args .lines .now) _ (n .samples-needed .ensures .0) (x .read-in .ensures .1 .1 .0);
       records = records-back (s .args .rs .now) _ (x .read-in .ensures .1 .1 .1);

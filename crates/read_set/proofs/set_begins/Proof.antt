@@ -43,7 +43,8 @@ returns-4 : tie.Need-returns-4
 returns-4 c =
     let z = c .before .before .before in
     let q = z .before .before .before in
-    begins-on _ _ _ _ _ _ (q .before .before .open .ensures) _ (q .opened2 .given .1) _ _ (c .before .before .set-size .ensures) (z .if1 .left) (c .before .if2 .left) (c .with-scratch .ensures)
+    begins-on _ _ _ _ _ _ (q .before .before .open .ensures) _ (q .opened2 .given .1) _ _ (c .before .before .set-size .ensures) (z .if1 .left)
+    (c .before .if2 .left) (c .with-scratch .ensures)
 
 pub set-begins-spec : {M : Type 1} → statement M
 set-begins-spec =

@@ -23,5 +23,9 @@ set-size-spec =
     (λ c. search needs)
     (λ c κs. search needs)
     (λ c. omega (arith, small (c .before .before .args .h .xtrans) (c .width .result) (c .width .ensures)))
-    (λ c. omega (arith, product (c .before .before .args .h .lines) (c .width .result) (omega (arith, c .before .before .pre)) (small (c .before .before .args .h .xtrans) (c .width .result) (c .width .ensures))))
+    (λ c. omega (
+      arith,
+      product (c .before .before .args .h .lines) (c .width .result) (omega (arith, c .before .before .pre))
+          (small (c .before .before .args .h .xtrans) (c .width .result) (c .width .ensures)),
+    ))
     (λ c. ap (λ (w : ℕ). c .before .before .args .h .lines * (12 * w)) (c .width .ensures)))

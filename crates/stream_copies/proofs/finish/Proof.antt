@@ -19,8 +19,10 @@ left head rows lengths n m p out out' a e l = rw e at l
 returns : tie.Need-returns
 returns c =
     let s = c .before .before .before .before .before .before .before .before .before in
-    left (s .args .head .now) (s .args .rows .now) (s .args .lengths .now) (s .args .blocks) (s .args .blocks - 0) (parseOf (s .args .head .now)) (s .args .out .now)
-    (c .before .before .put-front .last .1 .1 .1 .0) (c .before .before .put-front .result) (sub-zero (s .args .blocks)) (c .before .before .put-front .ensures)
+    left (s .args .head .now) (s .args .rows .now) (s .args .lengths .now) (s .args .blocks) (s .args .blocks - 0) (parseOf (s .args .head .now))
+    (s .args .out .now)
+    (c .before .before .put-front .last .1 .1 .1 .0) (c .before .before .put-front .result) (sub-zero (s .args .blocks))
+    (c .before .before .put-front .ensures)
 
 pub finish-spec : {M : Type 1} → statement M
 finish-spec =

@@ -37,14 +37,21 @@ loop-holds c = (search needs, search needs, refl, search needs)
 loop-again : tie.Need-loop-again Inv-loop μ-loop
 loop-again c =
     let l = c .before .before .loop in
-    let k = c .before .loop-test .taken in
-    (omega (arith, k), simp length-set (l .inv .1), more _ (l .head) (l .i) _ (omega (arith, k, l .inv .3)) (omega (arith, k, l .inv .1)) refl (l .inv .2), l .inv .3)
+    let k = c .before .loop-test .taken in (
+      omega (arith, k),
+      simp length-set (l .inv .1),
+      more _ (l .head) (l .i) _ (omega (arith, k, l .inv .3)) (omega (arith, k, l .inv .1)) refl
+          (l .inv .2),
+      l .inv .3,
+    )
 
 returns : tie.Need-returns Inv-loop μ-loop
-returns c = let l = c .before .before .loop in tight _ _ (l .head) (l .i) (c .if1 .taken) (omega (arith, l .inv .0, c .before .loop-test .left)) (l .inv .1) (l .inv .2)
+returns c = let l = c .before .before .loop in tight _ _ (l .head) (l .i) (c .if1 .taken) (omega (arith, l .inv .0, c .before .loop-test .left))
+    (l .inv .1) (l .inv .2)
 
 returns-2 : tie.Need-returns-2 Inv-loop μ-loop
-returns-2 c = let l = c .before .before .loop in lossy _ _ (l .head) (l .i) (c .if1 .left) (omega (arith, l .inv .0, c .before .loop-test .left)) (l .inv .1) (l .inv .2)
+returns-2 c = let l = c .before .before .loop in lossy _ _ (l .head) (l .i) (c .if1 .left) (omega (arith, l .inv .0, c .before .loop-test .left))
+    (l .inv .1) (l .inv .2)
 
 pub flagged-spec : {M : Type 1} → statement M
 flagged-spec =

@@ -24,34 +24,40 @@ abbrev μ-loop : tie.MeasureT-loop
 μ-loop d rows h out₀ set₀ lines₀ rs₀ front head blocks lengths₀ at₀ b₀ out set lines rs lengths at b = blocks - b
 
 flagged-requires : tie.Need-flagged-requires Inv-loop μ-loop
-flagged-requires c κs = let s = c .before .before .before .before .before in parsed (s .args .d .now) (s .args .h) (opened (s .args .d .now) (s .args .h) (s .pre .0 .0) .parsed) .whole
+flagged-requires c κs =
+    let at5 = c .before .before .before .before .before in
+    let s = at5 in parsed (s .args .d .now) (s .args .h) (opened (s .args .d .now) (s .args .h) (s .pre .0 .0) .parsed) .whole
 
 loop-holds : tie.Need-loop-holds Inv-loop μ-loop
 loop-holds c =
-    let s = c .before .before .before .before .before .before .before in (
+    let at7 = c .before .before .before .before .before .before .before in
+    let s = at7 in (
       search needs,
       refl,
       refl,
       refl,
       refl,
       search needs,
-      laid-none (s .args .d .now) (s .args .h) (s .args .rows .now) (record { out = s .args .out .now; lines = s .args .lines .now; records = s .args .rs .now }) _ (s .args .front)
+      laid-none (s .args .d .now) (s .args .h) (s .args .rows .now)
+          (record { out = s .args .out .now; lines = s .args .lines .now; records = s .args .rs .now }) _ (s .args .front)
           (s .pre .1 .1 .0) (s .pre .1 .1 .1 .0) (s .pre .1 .1 .1 .1),
     )
 
 slice-aggregate : tie.Need-slice-aggregate-put-block Inv-loop μ-loop
 slice-aggregate c =
     let s = c .before .before .before .before .before .before .before .before .before .before in
-    sym (ap length (c .before .before .before .before .flagged .ensures) ∙ flagged-length (isTightCall (s .args .rows .now)) (s .args .d .now) (s .args .h) (opened (s .args .d .now) (s .args .h) (s .pre .0 .0) .parsed))
+    sym (ap length (c .before .before .before .before .flagged .ensures) ∙ flagged-length (isTightCall (s .args .rows .now)) (s .args .d .now)
+    (s .args .h) (opened (s .args .d .now) (s .args .h) (s .pre .0 .0) .parsed))
 
 put-block-requires : tie.Need-put-block-requires Inv-loop μ-loop
 put-block-requires c κs =
-    let l = c .before .before .before .before .before .before in
+    let at5 = c .before .before .before .before .before in
+    let l = at5 .before in
     let s = l .before .before .before .before .before .before .before .before in
     let i = l .loop .inv in (
       (s .pre .0 .0, l .before .before .flagged .ensures),
       (
-        (s .pre .0 .1, (c .before .before .before .before .before .loop-test .taken, omega (arith, i .6 .room, i .1))),
+        (s .pre .0 .1, (at5 .loop-test .taken, omega (arith, i .6 .room, i .1))),
         (
           omega (arith, i .2, s .pre .1 .0 .0),
           record { for-lines = omega (arith, i .3, s .pre .1 .0 .1 .for-lines); for-records = omega (arith, i .4, s .pre .1 .0 .1 .for-records) },
@@ -60,54 +66,90 @@ put-block-requires c κs =
     )
 
 same-length : tie.Need-same-length Inv-loop μ-loop
-same-length c = omega (arith, c .before .before .before .before .before .before .before .before .before .put-block .kept, c .before .before .before .before .before .before .before .before .before .before .before .before .before .before .before .before .loop .inv .1)
+same-length c =
+    let at9 = c .before .before .before .before .before .before .before .before .before in
+    let at16 = at9 .before .before .before .before .before .before .before in
+    omega (arith, at9 .put-block .kept, at16 .loop .inv .1)
 
 same-length-2 : tie.Need-same-length-2 Inv-loop μ-loop
-same-length-2 c = omega (arith, c .before .before .before .before .before .before .before .before .before .put-block .kept, c .before .before .before .before .before .before .before .before .before .before .before .before .before .before .before .before .loop .inv .2)
+same-length-2 c =
+    let at9 = c .before .before .before .before .before .before .before .before .before in
+    let at16 = at9 .before .before .before .before .before .before .before in
+    omega (arith, at9 .put-block .kept, at16 .loop .inv .2)
 
 same-length-3 : tie.Need-same-length-3 Inv-loop μ-loop
-same-length-3 c = omega (arith, c .before .before .before .before .before .before .before .before .before .put-block .kept, c .before .before .before .before .before .before .before .before .before .before .before .before .before .before .before .before .loop .inv .3)
+same-length-3 c =
+    let at9 = c .before .before .before .before .before .before .before .before .before in
+    let at16 = at9 .before .before .before .before .before .before .before in
+    omega (arith, at9 .put-block .kept, at16 .loop .inv .3)
 
 same-length-4 : tie.Need-same-length-4 Inv-loop μ-loop
-same-length-4 c = omega (arith, c .before .before .before .before .before .before .before .before .before .put-block .kept, c .before .before .before .before .before .before .before .before .before .before .before .before .before .before .before .before .loop .inv .4)
+same-length-4 c =
+    let at9 = c .before .before .before .before .before .before .before .before .before in
+    let at16 = at9 .before .before .before .before .before .before .before in
+    omega (arith, at9 .put-block .kept, at16 .loop .inv .4)
 
 returns : tie.Need-returns Inv-loop μ-loop
 returns c =
-    let l = c .before .before .before .before .before .before .before .before .before .before .before .before .before .before .before .before in
+    let at9 = c .before .before .before .before .before .before .before .before .before in
+    let at15 = at9 .before .before .before .before .before .before in
+    let l = at15 .before in
     let s = l .before .before .before .before .before .before .before .before in
-    laid-cut (s .args .d .now) (s .args .h) (s .args .rows .now) _ _ _ (l .loop .lengths) (l .loop .at) (l .loop .b) (l .loop .inv .6) (c .before .before .before .before .before .before .before .before .before .before .before .before .before .before .before .loop-test .taken) (l .loop .inv .1) _ _
-    (c .before .before .before .before .before .before .before .before .before .put-block .ensures) (c .enum-told .given .1)
+    laid-cut (s .args .d .now) (s .args .h) (s .args .rows .now) _ _ _ (l .loop .lengths) (l .loop .at) (l .loop .b) (l .loop .inv .6)
+    (at15 .loop-test .taken) (l .loop .inv .1) _ _
+    (at9 .put-block .ensures) (c .enum-told .given .1)
 
 -- the next one
 array-write : tie.Need-array-write-lengths Inv-loop μ-loop
-array-write c = let s = c .before .before .before .before .before .before .before .before .before .before .before .before .before .before .before .before .before .before .before .before .before .before .before .before .before in omega (arith, c .before .before .before .before .before .before .before .before .before .before .before .before .before .before .before .before .loop-test .taken, opened (s .args .d .now) (s .args .h) (s .pre .0 .0) .ruled .blocks-high)
+array-write c =
+    let at16 = c .before .before .before .before .before .before .before .before .before .before .before .before .before .before .before .before in
+    let at25 = at16 .before .before .before .before .before .before .before .before .before in
+    let s = at25 in omega (arith, at16 .loop-test .taken, opened (s .args .d .now) (s .args .h) (s .pre .0 .0) .ruled .blocks-high)
 
 mul-lengths : tie.Need-mul-lengths Inv-loop μ-loop
-mul-lengths c = let s = c .before .before .before .before .before .before .before .before .before .before .before .before .before .before .before .before .before .before .before .before .before .before .before .before .before in omega (arith, c .before .before .before .before .before .before .before .before .before .before .before .before .before .before .before .before .loop-test .taken, opened (s .args .d .now) (s .args .h) (s .pre .0 .0) .ruled .blocks-high)
+mul-lengths c =
+    let at16 = c .before .before .before .before .before .before .before .before .before .before .before .before .before .before .before .before in
+    let at25 = at16 .before .before .before .before .before .before .before .before .before in
+    let s = at25 in omega (arith, at16 .loop-test .taken, opened (s .args .d .now) (s .args .h) (s .pre .0 .0) .ruled .blocks-high)
 
 add-at : tie.Need-add-at Inv-loop μ-loop
 add-at c =
-    let l = c .before .before .before .before .before .before .before .before .before .before .before .before .before .before .before .before .before in
+    let at10 = c .before .before .before .before .before .before .before .before .before .before in
+    let at16 = at10 .before .before .before .before .before .before in
+    let l = at16 .before in
     let s = l .before .before .before .before .before .before .before .before in
-    let t = c .before .before .before .before .before .before .before .before .before .before .before .before .before .before .before .before .loop-test .taken in
+    let t = at16 .loop-test .taken in
     let i = l .loop .inv in
     let more =
     laid-more (s .args .d .now) (s .args .h) (s .args .rows .now) _ _ _ (l .loop .lengths) (l .loop .at) (l .loop .b) (i .6) t (i .1) _ _
-    (c .before .before .before .before .before .before .before .before .before .before .put-block .ensures) (c .before .put .given .1) (omega (arith, t, i .5, opened (s .args .d .now) (s .args .h) (s .pre .0 .0) .ruled .blocks-high)) in
+    (at10 .put-block .ensures) (c .before .put .given .1) (omega (
+      arith,
+      t,
+      i .5,
+      opened (s .args .d .now) (s .args .h)
+          (s .pre .0 .0) .ruled .blocks-high,
+    )) in
     omega (arith, more .room, s .good)
 
 add-b : tie.Need-add-b Inv-loop μ-loop
-add-b c = let s = c .before .before .before .before .before .before .before .before .before .before .before .before .before .before .before .before .before .before .before .before .before .before .before .before .before in omega (arith, c .before .before .before .before .before .before .before .before .before .before .before .before .before .before .before .before .loop-test .taken, opened (s .args .d .now) (s .args .h) (s .pre .0 .0) .ruled .blocks-high)
+add-b c =
+    let at16 = c .before .before .before .before .before .before .before .before .before .before .before .before .before .before .before .before in
+    let at25 = at16 .before .before .before .before .before .before .before .before .before in
+    let s = at25 in omega (arith, at16 .loop-test .taken, opened (s .args .d .now) (s .args .h) (s .pre .0 .0) .ruled .blocks-high)
 
 loop-less : tie.Need-loop-less Inv-loop μ-loop
-loop-less c = omega (arith, c .before .before .before .before .before .before .before .before .before .before .before .before .before .before .before .before .loop-test .taken)
+loop-less c =
+    let at16 = c .before .before .before .before .before .before .before .before .before .before .before .before .before .before .before .before in
+    omega (arith, at16 .loop-test .taken)
 
 loop-again : tie.Need-loop-again Inv-loop μ-loop
 loop-again c =
-    let l = c .before .before .before .before .before .before .before .before .before .before .before .before .before .before .before .before .before in
+    let at10 = c .before .before .before .before .before .before .before .before .before .before in
+    let at16 = at10 .before .before .before .before .before .before in
+    let l = at16 .before in
     let s = l .before .before .before .before .before .before .before .before in
-    let t = c .before .before .before .before .before .before .before .before .before .before .before .before .before .before .before .before .loop-test .taken in
-    let k = c .before .before .before .before .before .before .before .before .before .before .put-block in
+    let t = at16 .loop-test .taken in
+    let k = at10 .put-block in
     let i = l .loop .inv in (
       omega (arith, t),
       omega (arith, k .kept, i .1),
@@ -122,13 +164,16 @@ loop-again c =
 slice-aggregate-2 : tie.Need-slice-aggregate-finish Inv-loop μ-loop
 slice-aggregate-2 c =
     let s = c .before .before .before .before .before .before .before .before .before .before in
-    sym (ap length (c .before .before .before .before .flagged .ensures) ∙ flagged-length (isTightCall (s .args .rows .now)) (s .args .d .now) (s .args .h) (opened (s .args .d .now) (s .args .h) (s .pre .0 .0) .parsed))
+    sym (ap length (c .before .before .before .before .flagged .ensures) ∙ flagged-length (isTightCall (s .args .rows .now)) (s .args .d .now)
+    (s .args .h) (opened (s .args .d .now) (s .args .h) (s .pre .0 .0) .parsed))
 
 slice-aggregate-3 : tie.Need-slice-aggregate-finish-2 Inv-loop μ-loop
 slice-aggregate-3 c = sym (c .before .before .before .loop .inv .5)
 
 finish-requires : tie.Need-finish-requires Inv-loop μ-loop
-finish-requires c κs = let s = c .before .before .before .before .before .before .before .before .before .before .before .before in omega (arith, c .before .before .before .before .loop .inv .5, opened (s .args .d .now) (s .args .h) (s .pre .0 .0) .ruled .blocks-high)
+finish-requires c κs =
+    let at12 = c .before .before .before .before .before .before .before .before .before .before .before .before in
+    let s = at12 in omega (arith, c .before .before .before .before .loop .inv .5, opened (s .args .d .now) (s .args .h) (s .pre .0 .0) .ruled .blocks-high)
 
 same-length-5 : tie.Need-same-length-5 Inv-loop μ-loop
 same-length-5 c = omega (arith, c .before .before .finish .kept, c .before .before .before .before .before .before .before .loop .inv .1)
@@ -144,10 +189,12 @@ same-length-8 c = c .before .before .before .before .before .before .before .loo
 
 returns-2 : tie.Need-returns-2 Inv-loop μ-loop
 returns-2 c =
-    let l = c .before .before .before .before .before .before .before in
+    let at6 = c .before .before .before .before .before .before in
+    let l = at6 .before in
     let s = l .before .before .before .before .before .before .before .before in
     let i = l .loop .inv in
-    laid-end (s .args .d .now) (s .args .h) (s .args .rows .now) _ _ (l .loop .lengths) (l .loop .at) (l .loop .b) (omega (arith, i .0, c .before .before .before .before .before .before .loop-test .left)) (i .6)
+    laid-end (s .args .d .now) (s .args .h) (s .args .rows .now) _ _ (l .loop .lengths) (l .loop .at) (l .loop .b)
+    (omega (arith, i .0, at6 .loop-test .left)) (i .6)
     (s .pre .0 .0) (s .pre .0 .1) (i .5) (i .1) _ (l .before .before .flagged .ensures) _ _ (c .before .before .finish .ensures)
 
 pub make-in-spec : {M : Type 1} → statement M

@@ -28,8 +28,12 @@ returns c =
     let s = r .before .before .before .before .before .before .before .before .before .before in
     let o = s .pre .0 .0 in
     let i = s .pre .1 .0 .1 .0 in
-    put-cut (s .args .d .now) (s .args .h) (s .args .rows .now) (s .args .b) (s .args .at) o i (s .pre .1 .0 .0) (record { set = s .args .set .now; lines = s .args .lines .now; records = s .args .rs .now }) _ (r .read-set .result)
-    (set-left (s .args .d .now) (s .args .h) (s .args .rows .now) (s .args .b) o i (record { set = s .args .set .now; lines = s .args .lines .now; records = s .args .rs .now }) (record { set = r .read-set .last .1 .1 .0; lines = _; records = _ }) _ (s .pre .1 .1 .0) (s .pre .1 .1 .1) (r .read-set .ensures)) (s .pre .1 .1 .0) (s .args .out .now) _
+    put-cut (s .args .d .now) (s .args .h) (s .args .rows .now) (s .args .b) (s .args .at) o i (s .pre .1 .0 .0)
+    (record { set = s .args .set .now; lines = s .args .lines .now; records = s .args .rs .now }) _ (r .read-set .result)
+    (set-left (s .args .d .now) (s .args .h) (s .args .rows .now) (s .args .b) o i
+    (record { set = s .args .set .now; lines = s .args .lines .now; records = s .args .rs .now })
+    (record { set = r .read-set .last .1 .1 .0; lines = _; records = _ }) _ (s .pre .1 .1 .0) (s .pre .1 .1 .1) (r .read-set .ensures))
+    (s .pre .1 .1 .0) (s .args .out .now) _
     (c .before .answer .given .1)
 
 returns-2 : tie.Need-returns-2
@@ -39,9 +43,14 @@ returns-2 c =
     let s = r .before .before .before .before .before .before .before .before .before .before in
     let o = s .pre .0 .0 in
     let i = s .pre .1 .0 .1 .0 in
-    put-done (s .args .d .now) (s .args .h) (s .args .rows .now) (s .args .b) (s .args .at) o i (s .pre .1 .0 .0) (record { set = s .args .set .now; lines = s .args .lines .now; records = s .args .rs .now }) _ (r .read-set .result)
-    (set-left (s .args .d .now) (s .args .h) (s .args .rows .now) (s .args .b) o i (record { set = s .args .set .now; lines = s .args .lines .now; records = s .args .rs .now }) (record { set = r .read-set .last .1 .1 .0; lines = _; records = _ }) _ (s .pre .1 .1 .0) (s .pre .1 .1 .1) (r .read-set .ensures)) (s .pre .1 .1 .0) (s .args .out .now)
-    (w .before .before .before .before .before .enum-told .given .1) _ (part-is (s .args .at) (s .args .out .now)) _ _ _ (part-back (s .args .at) (s .args .out .now) _ (s .pre .1 .0 .1 .1)) (w .write-new .ensures)
+    put-done (s .args .d .now) (s .args .h) (s .args .rows .now) (s .args .b) (s .args .at) o i (s .pre .1 .0 .0)
+    (record { set = s .args .set .now; lines = s .args .lines .now; records = s .args .rs .now }) _ (r .read-set .result)
+    (set-left (s .args .d .now) (s .args .h) (s .args .rows .now) (s .args .b) o i
+    (record { set = s .args .set .now; lines = s .args .lines .now; records = s .args .rs .now })
+    (record { set = r .read-set .last .1 .1 .0; lines = _; records = _ }) _ (s .pre .1 .1 .0) (s .pre .1 .1 .1) (r .read-set .ensures))
+    (s .pre .1 .1 .0) (s .args .out .now)
+    (w .before .before .before .before .before .enum-told .given .1) _ (part-is (s .args .at) (s .args .out .now)) _ _ _
+    (part-back (s .args .at) (s .args .out .now) _ (s .pre .1 .0 .1 .1)) (w .write-new .ensures)
 
 pub put-block-spec : {M : Type 1} → statement M
 put-block-spec =

@@ -16,21 +16,31 @@ clash e = let no : _≡_ {A = ℕ} 0 1 = cc in absurd (omega arith)
 
 make-requires : tie.Need-make-requires
 make-requires c κs =
-    let s = c .before .before .before .before .before .before .before .before .before .before .before .before .before in
+    let at6 = c .before .before .before .before .before .before in
+    let at8 = at6 .before .before in
+    let s = at8 .before .before .before .before .before in
     let before : Lent = record { out = s .args .out .now; set = s .args .set .now; lines = s .args .lines .now; records = s .args .rs .now } in
-    (is-open (s .args .d .now) [] before _ _ (c .before .before .before .before .before .before .before .before .open .ensures) (c .before .before .before .before .before .before .opened2 .given .1), λ e. clash e)
+    (is-open (s .args .d .now) [] before _ _ (at8 .open .ensures) (at6 .opened2 .given .1), λ e. clash e)
 
 returns : tie.Need-returns
 returns c =
     let s = c .before .before .before .before .before .before .before .before in
-    open-refused (s .args .d .now) [] (record { out = s .args .out .now; set = s .args .set .now; lines = s .args .lines .now; records = s .args .rs .now }) false _ _
+    open-refused (s .args .d .now) [] (record {
+      out = s .args .out .now;
+      set = s .args .set .now;
+      lines = s .args .lines .now;
+      records = s .args .rs .now;
+    }) false _ _
     (c .before .before .before .open .ensures) (c .before .opened .given .1)
 
 returns-2 : tie.Need-returns-2
 returns-2 c =
-    let s = c .before .before .before .before .before .before .before .before .before .before .before .before .before .before .before .before .before .before .before .before .before in
+    let at7 = c .before .before .before .before .before .before .before in
+    let at14 = at7 .before .before .before .before .before .before .before in
+    let at16 = at14 .before .before in
+    let s = at16 .before .before .before .before .before in
     tight-made (s .args .d .now) [] (record { out = s .args .out .now; set = s .args .set .now; lines = s .args .lines .now; records = s .args .rs .now }) _ _
-    (c .before .before .before .before .before .before .before .before .before .before .before .before .before .before .before .before .open .ensures) (c .before .before .before .before .before .before .before .before .before .before .before .before .before .before .opened2 .given .1) _ _ (c .before .before .before .before .before .before .before .make .ensures)
+    (at16 .open .ensures) (at14 .opened2 .given .1) _ _ (at7 .make .ensures)
 
 pub tighten-spec : {M : Type 1} → statement M
 tighten-spec =

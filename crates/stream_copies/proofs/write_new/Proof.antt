@@ -16,7 +16,8 @@ returns c =
     let t = w .before .before .before .before in
     let s = t .before .before .before .before .before .before in
     let tight = tight-rows (s .args .rows .now) (t .if1 .taken) in
-    left-new [] _ _ _ _ _ _ _ (begins-tight _ (s .args .h) _ _ _ (s .pre .1 .0 .1) (s .pre .1 .1) _ tight (s .pre .0 .0)) (rows-tight (s .args .h) (s .args .rows .now) (s .args .b) tight)
+    left-new [] _ _ _ _ _ _ _ (begins-tight _ (s .args .h) _ _ _ (s .pre .1 .0 .1) (s .pre .1 .1) _ tight (s .pre .0 .0))
+    (rows-tight (s .args .h) (s .args .rows .now) (s .args .b) tight)
     (w .write-block .ensures)
 
 mul-first : tie.Need-mul-first
@@ -34,7 +35,12 @@ add-end c =
 part-end : tie.Need-part-write-lossy-end
 part-end c =
     let s = c .before .before .before .before .before .before .before in
-    omega (arith, row-end (s .args .b) (s .args .h .blocks) (s .args .h .lines) (s .pre .0 .1 .1), s .pre .0 .1 .0 (lossy-rows (s .args .rows .now) (c .before .if1 .left)))
+    omega (
+      arith,
+      row-end (s .args .b) (s .args .h .blocks) (s .args .h .lines) (s .pre .0 .1 .1),
+      s .pre .0 .1 .0
+          (lossy-rows (s .args .rows .now) (c .before .if1 .left)),
+    )
 
 returns-2 : tie.Need-returns-2
 returns-2 c =
@@ -46,7 +52,8 @@ returns-2 c =
     let lossy = lossy-rows rows (e .if1 .left) in
     let long = s .pre .0 .1 .0 lossy in
     left-new _ _ _ _ _ _ _ _
-    (begins-lossy _ h _ _ _ (s .pre .1 .0 .1) (s .pre .1 .1) _ (part-long h rows (s .args .b) (h .lines) refl lossy (s .pre .0 .1 .1) long) _ lossy (s .pre .0 .0))
+    (begins-lossy _ h _ _ _ (s .pre .1 .0 .1) (s .pre .1 .1) _ (part-long h rows (s .args .b) (h .lines) refl lossy (s .pre .0 .1 .1) long) _ lossy
+    (s .pre .0 .0))
     (rows-lossy h rows (s .args .b) (h .lines) refl lossy) (w .write-lossy .ensures)
 
 pub write-new-spec : {M : Type 1} → statement M

@@ -33,18 +33,20 @@ front-byte-requires c κs =
 
 loop-again : tie.Need-loop-again Inv-loop μ-loop
 loop-again c =
+    let at7 = c .before .before .before .before .before .before .before in
     let l = c .before .before .loop in (
       omega arith,
       simp length-set (l .inv .1),
-      rw (l .inv .2) (fill-next _ _ (l .i) _ (omega (arith, c .before .loop-test .taken, c .before .before .before .before .before .before .before .pre .0 .1 .1 .1)) (c .front-byte .ensures)),
+      rw (l .inv .2) (fill-next _ _ (l .i) _ (omega (arith, c .before .loop-test .taken, at7 .pre .0 .1 .1 .1)) (c .front-byte .ensures)),
     )
 
 returns : tie.Need-returns Inv-loop μ-loop
 returns c =
-    let l = c .before .loop in
     let s = c .before .before .before .before .before .before in
+    let l = c .before .loop in
     let e : l .i ≡ s .args .n = omega (arith, l .inv .0) in
-    l .inv .2 ∙ done (frontByte (s .args .header .now) (s .args .h) (s .args .rows .now) (s .args .lengths .now)) (s .args .out .now) (l .i) (s .args .n) _ e (s .pre .0 .1 .1 .0)
+    l .inv .2 ∙ done (frontByte (s .args .header .now) (s .args .h) (s .args .rows .now) (s .args .lengths .now)) (s .args .out .now) (l .i)
+    (s .args .n) _ e (s .pre .0 .1 .1 .0)
 
 pub fill-front-spec : {M : Type 1} → statement M
 fill-front-spec =
@@ -54,7 +56,12 @@ fill-front-spec =
     μ-loop
     loop-holds
     front-byte-requires
-    (λ c. omega (arith, c .before .loop-test .taken, c .before .before .loop .inv .1, c .before .before .before .before .before .before .before .pre .0 .1 .1 .1))
+    (λ c. omega (
+      arith,
+      c .before .loop-test .taken,
+      c .before .before .loop .inv .1,
+      c .before .before .before .before .before .before .before .pre .0 .1 .1 .1,
+    ))
     (λ c. omega (arith, c .before .loop-test .taken, c .before .before .before .before .before .before .before .good))
     (λ c. omega (arith, c .before .loop-test .taken))
     loop-again

@@ -18,7 +18,8 @@ use Rattle.stream_front.proofs.put_in.Tie as tie
 other-rows : (h : FujiHeader) (n row : ℕ) → row ≡ rowLength h → (n ≡ h .blocks * row → ⊥) → n ≡ h .blocks * rowLength h → ⊥
 other-rows h n row e ne f = ne (f ∙ rw e)
 
-long-answer : (h : FujiHeader) (rows lengths : List ℕ) (room long : ℕ) → long ≡ firstLong lengths → length lengths ≡ h .blocks → length rows ≡ h .blocks * rowLength h → long < h .blocks
+long-answer : (h : FujiHeader) (rows lengths : List ℕ) (room long : ℕ) → long ≡ firstLong lengths → length lengths ≡ h .blocks → length rows ≡
+    h .blocks * rowLength h → long < h .blocks
     → Refused (LongBlock long) ≡ frontAnswer h rows lengths room
 long-answer h rows lengths room long e f g l = rw e (answer-long h rows lengths room f g (rw e at l))
 
@@ -26,7 +27,8 @@ short-answer : (h : FujiHeader) (rows lengths : List ℕ) (room long n : ℕ) �
     → length rows ≡ h .blocks * rowLength h → h .blocks ≤ long → room < n → Refused ShortOutput ≡ frontAnswer h rows lengths room
 short-answer h rows lengths room long n e en f g l k = answer-short h rows lengths room f g (rw e at l) (rw en at k)
 
-length-answer : (h : FujiHeader) (rows lengths : List ℕ) (room long n m : ℕ) → long ≡ firstLong lengths → n ≡ rowStart h (h .blocks) → m ≡ sumOf lengths (h .blocks)
+length-answer : (h : FujiHeader) (rows lengths : List ℕ) (room long n m : ℕ) → long ≡ firstLong lengths → n ≡ rowStart h (h .blocks) → m ≡ sumOf
+    lengths (h .blocks)
     → length lengths ≡ h .blocks → length rows ≡ h .blocks * rowLength h → h .blocks ≤ long → n ≤ room → Length (n + m) ≡ frontAnswer h rows lengths room
 length-answer h rows lengths room long n m e en em f g l k = rw (en, em) (answer-length h rows lengths room f g (rw e at l) (rw en at k))
 
@@ -40,17 +42,27 @@ returns c = (answer-count _ _ _ _ (c .if1 .taken), refl)
 mul-if2 : tie.Need-mul-if2
 mul-if2 c =
     let s = c .before .before .before .before .before .before .before in
-    omega (arith, product-le (s .args .h .blocks) (c .before .row-length .result) (s .pre .0 .blocks-high) (omega (arith, c .before .row-length .ensures .1, s .pre .0 .lines-high)))
+    omega (
+      arith,
+      product-le (s .args .h .blocks) (c .before .row-length .result) (s .pre .0 .blocks-high)
+          (omega (arith, c .before .row-length .ensures .1, s .pre .0 .lines-high)),
+    )
 
 returns-2 : tie.Need-returns-2
 returns-2 c =
-    let s = c .before .before .before .before .before .before .before .before in
-    (answer-rows _ _ _ _ (c .before .if1 .left) (other-rows (s .args .h) (length (s .args .rows .now)) (c .before .before .row-length .result) (c .before .before .row-length .ensures .0) (c .if2 .taken)), refl)
+    let s = c .before .before .before .before .before .before .before .before in (
+      answer-rows _ _ _ _ (c .before .if1 .left) (other-rows (s .args .h) (length (s .args .rows .now)) (c .before .before .row-length .result)
+          (c .before .before .row-length .ensures .0) (c .if2 .taken)),
+      refl,
+    )
 
 returns-3 : tie.Need-returns-3
 returns-3 c =
-    let z = c .before .before in
-    (long-answer _ _ _ _ _ (c .before .first-long .ensures) (z .before .if1 .left) (z .if2 .left ∙ rw (z .before .before .row-length .ensures .0)) (c .if3 .taken), refl)
+    let z = c .before .before in (
+      long-answer _ _ _ _ _ (c .before .first-long .ensures) (z .before .if1 .left) (z .if2 .left ∙ rw (z .before .before .row-length .ensures .0))
+          (c .if3 .taken),
+      refl,
+    )
 
 returns-4 : tie.Need-returns-4
 returns-4 c =
@@ -63,17 +75,19 @@ returns-4 c =
 fill-front-requires : tie.Need-fill-front-requires
 fill-front-requires c κs =
     let z = c .before .before .before .before .before in
-    let s = c .before .before .before .before .before .before .before .before .before .before .before .before .before in (
+    let at13 = z .before .before .before .before .before .before .before .before in
+    let s = at13 in (
       (s .pre .0, (s .pre .1, (c .before .before .front-length .ensures .0, c .before .if4 .left))),
       (z .before .if1 .left, z .if2 .left ∙ rw (z .before .before .row-length .ensures .0)),
     )
 
 returns-5 : tie.Need-returns-5
 returns-5 c =
-    let f = c .before .before .before .before .before .before in
+    let at5 = c .before .before .before .before .before in
+    let f = at5 .before in
     let z = f .before .before .before in (
       length-answer _ _ _ _ _ _ _ (f .before .before .first-long .ensures) (f .front-length .ensures .0) (c .sum-of .ensures .0) (z .before .if1 .left)
-          (z .if2 .left ∙ rw (z .before .before .row-length .ensures .0)) (f .before .if3 .left) (c .before .before .before .before .before .if4 .left),
+          (z .if2 .left ∙ rw (z .before .before .row-length .ensures .0)) (f .before .if3 .left) (at5 .if4 .left),
       put _ _ _ _ _ _ _ (f .front-length .ensures .0) (c .before .before .before .fill-front .ensures),
     )
 

@@ -439,10 +439,13 @@ module _ (claims· : Claims) where
   s16 = λ bs. Relend.k-sl-aggregate (Element.type) (Relend.asMut (Element.type)) T17 12 13 4 y9 y5 (λ x. x) (Scalar.oInt Syntax.w64 336)
 
   abbrev s17 : (bs : List.List Nat.ℕ) → Typed.Both T18 T19
-  s17 = λ bs. Call.callB ps·1 r·1 (claims· .2) (claims· .3) T18
-      (record { pos = 1; ty = y3; ref = λ x. x; },
-      (record { pos = 2; st = []; d = 0; at = λ x. x },
-      (record { pos = 3; st = []; d = 0; at = λ x. x }, (record { pos = 9; ty = y6; ref = λ x. x; }, (record { pos = 11; ty = y6; ref = λ x. x; }, (record { pos = 13; ty = y5; ref = λ x. x; }, tt)))))) 0
+  s17 = λ bs. Call.callB ps·1 r·1 (claims· .2) (claims· .3) T18 (
+    record { pos = 1; ty = y3; ref = λ x. x },
+    (
+      record { pos = 2; st = []; d = 0; at = λ x. x },
+      (record { pos = 3; st = []; d = 0; at = λ x. x }, (record { pos = 9; ty = y6; ref = λ x. x }, (record { pos = 11; ty = y6; ref = λ x. x }, (record { pos = 13; ty = y5; ref = λ x. x }, tt)))),
+    ),
+  ) 0
       (0 ∷ 2 ∷ 3 ∷ 4 ∷ []) y8
 
   abbrev s18 : (bs : List.List Nat.ℕ) → Typed.Mo T19 → Typed.Mo T20
@@ -722,18 +725,38 @@ module _ (claims· : Claims) where
 
           d15 : Typed.Typed 𝓤 H A 𝓣 E G18 (Syntax.seq b9 b10) Δ0 (at15 bs)
           d15 = Typed.s-seq 𝓤 H A W 𝓣 E G18 G19 b9 b10 Δ0 (Typed.both (s17 bs)) (at14 bs) (Plain.t-call-plain 𝓤 H A W 𝓣 4 ps·1 r·1 (claims· .2) (claims· .3) "read_block::decoding::decode_region"
-              (known .1) E (λ pos β. β) G18
-              (record { pos = 1; ty = y3; ref = λ x. x; },
-              (record { pos = 2; st = []; d = 0; at = λ x. x },
-              (record { pos = 3; st = []; d = 0; at = λ x. x },
-              (record { pos = 9; ty = y6; ref = λ x. x; }, (record { pos = 11; ty = y6; ref = λ x. x; }, (record { pos = 13; ty = y5; ref = λ x. x; }, tt)))))) 0 (0 ∷ 2 ∷ 3 ∷ 4 ∷ []) (Call.sub-id 𝓤 H A W
-              (G18 .slots))
-              (ShrSlice.spares-sslice 𝓤 H A W n8 y3 0, Shared.reads-sslice 𝓤 H A W n8 y3 0, Path'.refl,
-              ((Values.struct-copied 𝓤 H A W Rect.the-type Laws.the-laws Laws.the-copy, Path'.refl),
-              ((Array.arr-yields 𝓤 H A W (Array.eInt Syntax.w8) (Array.eInt-laws Syntax.w8) 36, Path'.refl),
-              (Reads.as-is 𝓤 H A (Mut.mslice n16 y6 2), Mut.reads-mslice 𝓤 H A W n16 y6 2, Path'.refl,
-              (Reads.as-is 𝓤 H A (Mut.mslice n16 y6 3), Mut.reads-mslice 𝓤 H A W n16 y6 3, Path'.refl,
-              (Reads.as-is 𝓤 H A (Mut.mslice (Element.type) y5 4), Mut.reads-mslice 𝓤 H A W (Element.type) y5 4, Path'.refl, tt)))))) (Reads.room-gone 𝓤 H A y8) (tt, (tt, (tt, (tt, tt)))) Path'.refl) d14
+              (known .1) E (λ pos β. β) G18 (
+                record { pos = 1; ty = y3; ref = λ x. x },
+                (
+                  record { pos = 2; st = []; d = 0; at = λ x. x },
+                  (
+                    record { pos = 3; st = []; d = 0; at = λ x. x },
+                    (record { pos = 9; ty = y6; ref = λ x. x }, (record { pos = 11; ty = y6; ref = λ x. x }, (record { pos = 13; ty = y5; ref = λ x. x }, tt))),
+                  ),
+                ),
+              ) 0 (0 ∷ 2 ∷ 3 ∷ 4 ∷ []) (Call.sub-id 𝓤 H A W
+              (G18 .slots)) (
+                ShrSlice.spares-sslice 𝓤 H A W n8 y3 0,
+                Shared.reads-sslice 𝓤 H A W n8 y3 0,
+                Path'.refl,
+                (
+                  (Values.struct-copied 𝓤 H A W Rect.the-type Laws.the-laws Laws.the-copy, Path'.refl),
+                  (
+                    (Array.arr-yields 𝓤 H A W (Array.eInt Syntax.w8) (Array.eInt-laws Syntax.w8) 36, Path'.refl),
+                    (
+                      Reads.as-is 𝓤 H A (Mut.mslice n16 y6 2),
+                      Mut.reads-mslice 𝓤 H A W n16 y6 2,
+                      Path'.refl,
+                      (
+                        Reads.as-is 𝓤 H A (Mut.mslice n16 y6 3),
+                        Mut.reads-mslice 𝓤 H A W n16 y6 3,
+                        Path'.refl,
+                        (Reads.as-is 𝓤 H A (Mut.mslice (Element.type) y5 4), Mut.reads-mslice 𝓤 H A W (Element.type) y5 4, Path'.refl, tt),
+                      ),
+                    ),
+                  ),
+                ),
+              ) (Reads.room-gone 𝓤 H A y8) (tt, (tt, (tt, (tt, tt)))) Path'.refl) d14
 
           d16 : Typed.Typed 𝓤 H A 𝓣 E G17 (Syntax.seq b8 (Syntax.seq b9 b10)) Δ0 (at16 bs)
           d16 = Typed.s-seq 𝓤 H A W 𝓣 E G17 G18 b8 (Syntax.seq b9 b10) Δ0 (Typed.ask (s16 bs)) (at15 bs) (Relend.t-sl-aggregate 𝓤 H A W E (Element.type) 𝓣 (Relend.asMut (Element.type)) G17 12 13 4 y9
@@ -824,9 +847,12 @@ module _ (claims· : Claims) where
       m0 = λ κs args blocks. (tt, Enter.partsP κs 1 ps xs (dens κs args))
 
       abbrev W0 : (κs : Lifetimes.Lfts 2) → (args : Args κs) → (blocks : List.List Nat.ℕ) → Typed.Want O0
-      W0 = λ κs args blocks.
-          (λ u. ⊥, tt, λ u. Enter.Fixs κs 1 ps xs (dens κs args) (u .1) × Post· κs (dens κs args) (Function.resV r κs (u .0)) (Clauses.atExit (Kinds.endedOf 2 ps r) κs (dens κs args) (Enter.lastsP κs 1 ps
-          xs (dens κs args) (u .1))))
+      W0 = λ κs args blocks. (
+        λ u. ⊥,
+        tt,
+        λ u. Enter.Fixs κs 1 ps xs (dens κs args) (u .1) × Post· κs (dens κs args) (Function.resV r κs (u .0)) (Clauses.atExit (Kinds.endedOf 2 ps r) κs (dens κs args) (Enter.lastsP κs 1 ps
+            xs (dens κs args) (u .1))),
+      )
 
       pub record Start : Type 0 where
         pub κs : Lifetimes.Lfts 2
@@ -932,11 +958,16 @@ module _ (claims· : Claims) where
 
       module _ (before· : After-rs) where
         abbrev pub After-decode-region·own : Type 0
-        After-decode-region·own = Called.Called ps·1 r·1 (claims· .3) T18
-            (record { pos = 1; ty = y3; ref = λ x. x; },
-            (record { pos = 2; st = []; d = 0; at = λ x. x },
-            (record { pos = 3; st = []; d = 0; at = λ x. x },
-            (record { pos = 9; ty = y6; ref = λ x. x; }, (record { pos = 11; ty = y6; ref = λ x. x; }, (record { pos = 13; ty = y5; ref = λ x. x; }, tt)))))) (m14 (before· .before) (before· .rs .given))
+        After-decode-region·own = Called.Called ps·1 r·1 (claims· .3) T18 (
+          record { pos = 1; ty = y3; ref = λ x. x },
+          (
+            record { pos = 2; st = []; d = 0; at = λ x. x },
+            (
+              record { pos = 3; st = []; d = 0; at = λ x. x },
+              (record { pos = 9; ty = y6; ref = λ x. x }, (record { pos = 11; ty = y6; ref = λ x. x }, (record { pos = 13; ty = y5; ref = λ x. x }, tt))),
+            ),
+          ),
+        ) (m14 (before· .before) (before· .rs .given))
 
       pub record After-decode-region : Type 0 where
         pub before : After-rs
@@ -946,11 +977,16 @@ module _ (claims· : Claims) where
       After-decode-region·start = λ c. c .before .before .before .before .before .before .before
 
       abbrev pub After-decode-region·gave : (c : After-decode-region) → s17 (c .before .before .before .before .before .before .before .blocks) .gives (m14 (c .before .before) (c .before .rs .given))
-      After-decode-region·gave = λ c. Called.given ps·1 r·1 (claims· .3) T18
-          (record { pos = 1; ty = y3; ref = λ x. x; },
-          (record { pos = 2; st = []; d = 0; at = λ x. x },
-          (record { pos = 3; st = []; d = 0; at = λ x. x },
-          (record { pos = 9; ty = y6; ref = λ x. x; }, (record { pos = 11; ty = y6; ref = λ x. x; }, (record { pos = 13; ty = y5; ref = λ x. x; }, tt)))))) (m14 (c .before .before) (c .before .rs .given))
+      After-decode-region·gave = λ c. Called.given ps·1 r·1 (claims· .3) T18 (
+        record { pos = 1; ty = y3; ref = λ x. x },
+        (
+          record { pos = 2; st = []; d = 0; at = λ x. x },
+          (
+            record { pos = 3; st = []; d = 0; at = λ x. x },
+            (record { pos = 9; ty = y6; ref = λ x. x }, (record { pos = 11; ty = y6; ref = λ x. x }, (record { pos = 13; ty = y5; ref = λ x. x }, tt))),
+          ),
+        ),
+      ) (m14 (c .before .before) (c .before .rs .given))
           (c .decode-region)
 
       abbrev pub m17 : (before : After-rs) → (given : s17 (before .before .before .before .before .before .before .blocks) .gives (m14 (before .before) (before .rs .given))) → Typed.Mo T21
@@ -1023,39 +1059,71 @@ module _ (claims· : Claims) where
           (decode-region-requires : Need-decode-region-requires) (same-length : Need-same-length) (returns : Need-returns) where
         lay2 : (c : After-decode-region) → at14 (c .before .before .before .before .before .before .before .blocks) (W0 (After-decode-region·start c .κs) (After-decode-region·start c .args) (c .before
             .before .before .before .before .before .before .blocks)) (m15 (c .before) (After-decode-region·gave c))
-        lay2 = λ c.
-            (Path'.refl, λ g. let c1 : After-image = record { before = c; image = record { given = g }; } in λ g'. let c2 : After-slice-known2 = record
-            { before = c1; slice-known2 = record { given = g' }; } in
-            (Path'.refl, λ g''. let c3 : After-lines2 = record { before = c2; lines2 = record { given = g'' }; } in
-            (Path'.refl, λ g'3. let c4 : After-rs2 = record { before = c3; rs2 = record { given = g'3 }; } in
-            ((Path'.refl,
-            (tt,
-            (tt,
-            (MutSlice.fix-len (Row.get 4 (T1 .locals) (m23 c3 g'3) .ptr) (Row.get 4 (T1 .locals) (m23 c3 g'3) .name) (Row.get 4 (T1 .locals) (m23 c3 g'3) .now) (dens (After-decode-region·start c .κs)
-            (After-decode-region·start c .args) .1 .1 .1 .0 .now) (same-length c4), tt)))), returns c4))))
+        lay2 = λ c. (
+          Path'.refl,
+          λ g. let c1 : After-image = record { before = c; image = record { given = g } } in λ g'. let c2 : After-slice-known2 = record
+              { before = c1; slice-known2 = record { given = g' } } in (
+                Path'.refl,
+                λ g''. let c3 : After-lines2 = record { before = c2; lines2 = record { given = g'' } } in (
+                  Path'.refl,
+                  λ g'3. let c4 : After-rs2 = record { before = c3; rs2 = record { given = g'3 } } in (
+                    (
+                      Path'.refl,
+                      (
+                        tt,
+                        (
+                          tt,
+                          (
+                            MutSlice.fix-len (Row.get 4 (T1 .locals) (m23 c3 g'3) .ptr) (Row.get 4 (T1 .locals) (m23 c3 g'3) .name) (Row.get 4 (T1 .locals) (m23 c3 g'3) .now) (dens (After-decode-region·start c .κs)
+                                (After-decode-region·start c .args) .1 .1 .1 .0 .now) (same-length c4),
+                            tt,
+                          ),
+                        ),
+                      ),
+                    ),
+                    returns c4,
+                  ),
+                ),
+              ),
+        )
 
         lay1 : (c : After-cleared) → at27 (c .before .before .before .blocks) (W0 (c .before .before .before .κs) (c .before .before .before .args) (c .before .before .before .blocks)) (m5 (c .before)
             (After-cleared·gave c))
-        lay1 = λ c. λ g. let c1 : After-decode-region-arg = record { before = c; decode-region-arg = record { given = g }; } in
-            (Path'.refl, λ g'. let c2 : After-lines = record { before = c1; lines = record { given = g' }; } in
-            (Relend.count-is T14 10 11 (λ x. x) (λ u. 9252) (m11 c1 g') (slice-aggregate-decode-region c2), λ g''. let c3 : After-rs = record { before = c2; rs = record { given = g'' }; } in
-            (Relend.count-is T17 12 13 (λ x. x) (λ u. 336) (m13 c2 g'') (slice-aggregate-decode-region-2 c3),
-            (decode-region-requires c3, λ g'3. lay2 record
-            { before = c3; decode-region = Called.called ps·1 r·1 (claims· .3) T18
-            (record { pos = 1; ty = y3; ref = λ x. x; },
-            (record { pos = 2; st = []; d = 0; at = λ x. x },
-            (record { pos = 3; st = []; d = 0; at = λ x. x },
-            (record { pos = 9; ty = y6; ref = λ x. x; }, (record { pos = 11; ty = y6; ref = λ x. x; }, (record { pos = 13; ty = y5; ref = λ x. x; }, tt)))))) (m14 c2 g'') g'3; }))))
+        lay1 = λ c. λ g. let c1 : After-decode-region-arg = record { before = c; decode-region-arg = record { given = g } } in (
+          Path'.refl,
+          λ g'. let c2 : After-lines = record { before = c1; lines = record { given = g' } } in (
+            Relend.count-is T14 10 11 (λ x. x) (λ u. 9252) (m11 c1 g') (slice-aggregate-decode-region c2),
+            λ g''. let c3 : After-rs = record { before = c2; rs = record { given = g'' } } in (
+              Relend.count-is T17 12 13 (λ x. x) (λ u. 336) (m13 c2 g'') (slice-aggregate-decode-region-2 c3),
+              (
+                decode-region-requires c3,
+                λ g'3. lay2 record {
+                  before = c3;
+                  decode-region = Called.called ps·1 r·1 (claims· .3) T18 (
+                    record { pos = 1; ty = y3; ref = λ x. x },
+                    (
+                      record { pos = 2; st = []; d = 0; at = λ x. x },
+                      (
+                        record { pos = 3; st = []; d = 0; at = λ x. x },
+                        (record { pos = 9; ty = y6; ref = λ x. x }, (record { pos = 11; ty = y6; ref = λ x. x }, (record { pos = 13; ty = y5; ref = λ x. x }, tt))),
+                      ),
+                    ),
+                  ) (m14 c2 g'') g'3;
+                },
+              ),
+            ),
+          ),
+        )
 
         pub laid : (c : Start) → at32 (c .blocks) (W0 (c .κs) (c .args) (c .blocks)) (m0 (c .κs) (c .args) (c .blocks))
         laid = λ c. λ g. let c1 : After-shared-slice-known = record { before = c; shared-slice-known = record { given = g } } in λ g'. let c2 : After-slice-known = record
-            { before = c1; slice-known = record { given = g' }; } in
-            (cleared-requires c2, λ g''. lay1 record { before = c2; cleared = Called.called ps·0 r·0 (claims· .1) T5 tt (m4 record { before = c; shared-slice-known = record { given = g }; } g') g''; })
+            { before = c1; slice-known = record { given = g' } } in
+            (cleared-requires c2, λ g''. lay1 record { before = c2; cleared = Called.called ps·0 r·0 (claims· .1) T5 tt (m4 record { before = c; shared-slice-known = record { given = g } } g') g'' })
 
         module _ (κs : Lifetimes.Lfts 2) (qs : Lifetimes.Shares 2) where
           pub asked : (a : Kinds.Dens κs ps) → (good : Kinds.GoodsP κs ps a) → (pre : Pre· κs a) → (bs : List.List Nat.ℕ) → Φ bs (Any.wantQ 2 ps r xs m κs qs a (Post· κs a)) (Function.init 2 ps r xs m
               κs qs a)
-          asked = λ a good pre bs. laid record { κs = κs; args = record { d = a .0; r = a .1 .0; tile = a .1 .1 .0; image = a .1 .1 .1 .0 }; blocks = bs; good = good; pre = pre; }
+          asked = λ a good pre bs. laid record { κs = κs; args = record { d = a .0; r = a .1 .0; tile = a .1 .1 .0; image = a .1 .1 .1 .0 }; blocks = bs; good = good; pre = pre }
 
         module _ {M : Type 1} (𝓤 : URA.URA M) (H : Wp.Heap 𝓤) (A : Atoms.Atoms 𝓤) (W : Kit.Given 𝓤 H A) (𝓣 : Wp.Tables 𝓤 H) (known0 : Plain.Known 𝓤 H A W 𝓣 0 ps·0 r·0 (claims· .0) (claims· .1)
             "read_block::records::cleared") (known1 : Plain.Known 𝓤 H A W 𝓣 4 ps·1 r·1 (claims· .2) (claims· .3) "read_block::decoding::decode_region") where
