@@ -45,7 +45,7 @@ impl Draft {
     pub fn publish(mut self, target: &Path, replace: bool) -> io::Result<()> {
         self.file.sync_all()?;
         match self.link(target) {
-            Err(e) if e.kind() == io::ErrorKind::AlreadyExists && replace => self.rename(target)?,
+            Err(_) if replace && target.exists() => self.rename(target)?,
             linked => linked?,
         }
         // Some systems cannot sync a folder, and say that the call is not for it.

@@ -17,7 +17,7 @@ pub fn words(source: &Source, read: bool) -> Result<String, String> {
     let _ = writeln!(text, "  {}, {}, {} bits, {} x {} samples", kind(&h), loss(&h), h.bits, h.width, h.height);
     let (blocks, lines) = (count(h.blocks as usize, "block"), count(h.lines as usize, "line"));
     let _ = writeln!(text, "  {blocks} of {} columns (rounded width {}), {lines} of six rows", h.block_size, h.rounded_width);
-    let _ = writeln!(text, "  tile {}, {}", tile::name(&source.tile(None)), source.tile_origin());
+    let _ = writeln!(text, "  tile {} {}", tile::name(&source.tile(None)), source.tile_origin());
     let (mut end, mut scratch) = (0, Scratch::new());
     for (i, (offset, length)) in stream.block_ranges().into_iter().enumerate() {
         let columns = h.block_width(i as u32).map_err(|e| e.to_string())?;

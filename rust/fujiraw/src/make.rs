@@ -10,8 +10,9 @@ use crate::read_back::{Likeness, compare};
 use crate::source::{Source, reread};
 use crate::wording::{both, in_words};
 use fuji_compressed::{FujiHeader, HEADER_SIZE, Refusal, lossy_copy_parallel, tighten_parallel};
+use std::fs::File;
 use std::io::Write;
-use std::path::{Path, PathBuf};
+use std::path::Path;
 use std::sync::Mutex;
 
 /// What stands before the new stream in the file, and what behind it.
@@ -134,8 +135,12 @@ fn said(out: &Path, source: &Source, size: u64, lossy: bool, likeness: &Likeness
 impl crate::calls::Place {
     /// The folder that an output goes to, below the one that was named.
     pub fn make_folder(&self, out: &Path) -> Result<(), String> {
-        let Some(folder) = out.parent().filter(|_| self.is_folder) else { return Ok(()) };
+        let Some(folder) = out.parent().filter(|f| self.is_folder && !f.exists()) else { return Ok(()) };
         let failed = |e| format!("cannot make the folder {}: {}", folder.display(), crate::files::plain(&e));
-        std::fs::create_dir_all(PathBuf::from(folder)).map_err(failed)
+        std::fs::create_dir_all(folder).map_err(failed)?;
+        // Its name is in the folder above, and so on up to the one that was named.
+        let above = folder.ancestors().skip(1).take_while(|f| f.starts_with(&self.out));
+        above.for_each(|f| drop(File::open(f).and_then(|f| f.sync_all())));
+        Ok(())
     }
 }

@@ -88,8 +88,8 @@ impl Source {
     /// Where the tile comes from if none is named, in words.
     pub fn tile_origin(&self) -> &'static str {
         match &self.raf {
-            Some(raf) if raf.tile.is_some() && self.header().xtrans => "from the camera file",
-            _ => "if none is named",
+            Some(raf) if raf.tile.is_some() && self.header().xtrans => "(from the camera file)",
+            _ => "(default)",
         }
     }
 

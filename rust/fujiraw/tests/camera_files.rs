@@ -111,7 +111,7 @@ fn the_tile_comes_from_the_file() {
     f.works("decode a.raf named.raw --tile xtrans");
     f.works("decode a.fcs usual.raw");
     assert!(f.get("named.raw") == f.get("usual.raw") && f.get("named.raw") != f.get("got.raw"));
-    assert!(f.works("info a.raf").contains(&format!("\n  tile {digits}, from the camera file\n")));
+    assert!(f.works("info a.raf").contains(&format!("\n  tile {digits} (from the camera file)\n")));
     // Without the tag, with half of it, and with a colour that is none: the usual one, and a warning.
     let none = "warning: the file names no colours (tag 0x0131): the usual X-Trans tile is taken\n";
     let bad = "warning: the file's colours (tag 0x0131) are not 36 numbers from 0 to 2: they are not used\n";

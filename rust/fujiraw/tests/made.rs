@@ -173,7 +173,13 @@ fn camera_files_without_a_length() {
     let f = Folder::new("older");
     let stream = loose();
     let own = stream.len() - 40;
-    for camera in [Camera { older: true, behind: true, ..Camera::default() }, Camera { length: Some(0), ..Camera::default() }] {
+    let plain = Camera::default();
+    for camera in [
+        Camera { older: true, behind: true, ..plain.clone() },
+        Camera { length: Some(0), ..plain.clone() },
+        // Too long a length: the small picture would lie within the stream.
+        Camera { length: Some(u32::MAX), behind: true, ..plain },
+    ] {
         let file = raf(&stream, &camera);
         f.put("a.raf", &file);
         f.works("tighten a.raf b.raf -f");

@@ -50,7 +50,7 @@ fn info_shows_header_and_ranges() {
     assert!(said.contains(&format!("a.fcs: {length} bytes\n  Bayer, lossless, 12 bits, 768 x 12 samples\n")), "{said}");
     assert!(said.contains(&format!("block 0: 768 columns, offset 32, {} bytes\n", length - 32)), "{said}");
     assert!(
-        said.contains("  X-Trans, lossy, 14 bits, 792 x 6 samples\n  2 blocks of 768 columns (rounded width 1536), 1 line of six rows\n  tile xtrans, if none is named\n"),
+        said.contains("  X-Trans, lossy, 14 bits, 792 x 6 samples\n  2 blocks of 768 columns (rounded width 1536), 1 line of six rows\n  tile xtrans (default)\n"),
         "{said}"
     );
     assert!(said.contains("block 1: 24 columns, offset ") && said.contains(", bases 9 to 9\n"), "{said}");

@@ -46,18 +46,24 @@ impl Fields {
 }
 
 impl Raf {
-    /// What is replaced: as many bytes as the file names, or, if it names none, as the stream's own sizes make.
-    fn old(&self, own: u64) -> Range<usize> {
-        let length = match self.named {
-            Some(named) if named > 0 => self.stream.len(),
-            _ => self.stream.len().min(usize::try_from(own).unwrap_or(usize::MAX)),
+    /// What is replaced: as many bytes as the file names; if it names none, or if something else of the file lies among them, as many as the stream's own sizes make.
+    fn old(&self, file: &[u8], own: u64) -> Range<usize> {
+        let own = self.stream.len().min(usize::try_from(own).unwrap_or(usize::MAX));
+        let own = self.stream.start..self.stream.start + own;
+        let leads_into = |offset: &Offset| {
+            let value = Bytes { all: file, big: offset.big }.four(offset.at).unwrap_or(0);
+            let target = offset.base + value as u64;
+            value > 0 && own.end as u64 <= target && target < self.stream.end as u64
         };
-        self.stream.start..self.stream.start + length
+        match self.named {
+            Some(named) if named > 0 && !self.fields.offsets.iter().any(leads_into) => self.stream.clone(),
+            _ => own,
+        }
     }
 
     /// The file around a stream of `length` bytes; `own` is how many bytes the sizes of the file's own stream make.
     pub fn around(&self, file: &[u8], own: u64, length: usize) -> Result<Replaced, String> {
-        let old = self.old(own);
+        let old = self.old(file, own);
         let mut new = Replaced { head: file[..old.start].to_vec(), tail: file[old.end..].to_vec() };
         for offset in &self.fields.offsets {
             let bytes = Bytes { all: file, big: offset.big };
