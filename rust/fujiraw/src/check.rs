@@ -72,7 +72,8 @@ pub struct Block {
     pub why: Option<String>,
 }
 
-/// Reads a block, tightly if it is lossless. One that is not tight is read once more, so that all its lines are counted.
+/// Reads a block, tightly if it is lossless. One that is not tight is read once more, so that all its lines are
+/// counted.
 pub fn block(stream: &FujiCompressed, i: usize, scratch: &mut Scratch) -> Block {
     let h = stream.header;
     let tight = h.lossless.then(|| stream.read_tight_with(scratch, i));
@@ -118,7 +119,8 @@ impl Sheet {
         Totals { bits: sum(|t| t.bits), long_codes: sum(|t| t.long_codes) }
     }
 
-    /// Bits of all blocks together, by the lines of the sheet, rounded down; of a damaged sheet they are none that could be compared.
+    /// Bits of all blocks together, by the lines of the sheet, rounded down; of a damaged sheet they are none that
+    /// could be compared.
     pub fn bits_a_line(&self) -> Option<u64> {
         (self.verdict < Verdict::Damaged).then(|| self.totals().bits / self.lines.max(1) as u64)
     }

@@ -1,4 +1,5 @@
-//! Which rule a header breaks, in words. Whether it breaks one is the library's to say; this only finds the field for the message.
+//! Which rule a header breaks, in words. Whether it breaks one is the library's to say; this only finds the field for
+//! the message.
 
 /// The first field that breaks a rule: what it is called, what it has, and what it may have.
 pub fn broken(bytes: &[u8]) -> Option<String> {

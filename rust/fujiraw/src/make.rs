@@ -1,4 +1,5 @@
-//! Tight masters and lossy working copies of streams and camera files. What was written is read back and compared before it gets its name.
+//! Tight masters and lossy working copies of streams and camera files. What was written is read back and compared
+//! before it gets its name.
 use crate::blocks::planned;
 use crate::calls::{Kind, Make};
 use crate::files::print;
@@ -49,7 +50,8 @@ pub fn make(call: &Make, input: &Input) -> Result<(), String> {
     }
 }
 
-/// Writes it all, and compares what is there then with the source. What cannot be read back, as a pipe, is compared before it is written.
+/// Writes it all, and compares what is there then with the source. What cannot be read back, as a pipe, is compared
+/// before it is written.
 fn write(
     output: Output,
     out: &Path,

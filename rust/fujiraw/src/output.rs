@@ -26,7 +26,8 @@ pub struct Output<'o> {
 }
 
 impl<'o> Output<'o> {
-    /// Refused are a folder, a file that is read for this, one that is read-only, and one that is there if it may not be replaced.
+    /// Refused are a folder, a file that is read for this, one that is read-only, and one that is there if it may not
+    /// be replaced.
     pub fn new(read: &[&Path], out: &'o Path, force: Force) -> Result<Output<'o>, String> {
         let refused = |why: &str| Err(format!("cannot write {}: {why}", out.display()));
         let target = target(out);
@@ -123,7 +124,8 @@ fn target(out: &Path) -> Target {
     }
 }
 
-/// Whether a path names an open file of a process, as /dev/fd/3 does, and whether that is this process. Such a link leads to no path that could be opened.
+/// Whether a path names an open file of a process, as /dev/fd/3 does, and whether that is this process. Such a link
+/// leads to no path that could be opened.
 fn descriptor(path: &Path) -> Option<bool> {
     let folder = fs::canonicalize(path.parent()?).ok()?;
     if !(folder.starts_with("/proc") && folder.ends_with("fd")) {

@@ -102,7 +102,8 @@ fn small_size(picture: &Picture) -> (u32, u32) {
     (picture.width.div_ceil(6), picture.height.div_ceil(6))
 }
 
-/// The mean of each 6 by 6 samples, at the edges of those that are there, and the brightest mean white: its width, height and samples.
+/// The mean of each 6 by 6 samples, at the edges of those that are there, and the brightest mean white: its width,
+/// height and samples.
 fn preview(picture: &Picture) -> (u32, u32, Vec<u8>) {
     let (width, height) = small_size(picture);
     let mut sums = vec![(0u64, 0u64); width as usize * height as usize];

@@ -12,8 +12,8 @@ pub struct Likeness {
     pub farthest: u16,
 }
 
-/// Compares the colour lines of two streams of one size, block after block. Without bases all samples must be the same; with bases, one for each line of each block,
-/// each sample that has a code must be within that of its line.
+/// Compares the colour lines of two streams of one size, block after block. Without bases all samples must be the
+/// same; with bases, one for each line of each block, each sample that has a code must be within that of its line.
 pub fn compare(old: &[u8], new: &[u8], bases: Option<&[u8]>, threads: usize) -> Result<Likeness, String> {
     let wrong = |what: String| Err(format!("the new file does not read back as it should: {what}; no output was written"));
     let length = new.len() as u64;

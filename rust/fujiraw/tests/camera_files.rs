@@ -158,7 +158,8 @@ fn info_shows_the_camera_and_warns() {
         assert!(said.contains(&format!("  warning: the file says {warning}: the stream decides\n")), "{said}");
     }
     assert!(samples(&f, "b.raf") == samples(&f, "a.raf"));
-    // A size that another reader would take for samples that are not compressed: a wrong picture there, the right one here.
+    // A size that another reader would take for samples that are not compressed: a wrong picture there, the right one
+    // here.
     f.put("c.raf", &raf(&stream, &Camera { length: Some(960 * 30 * 7 / 4), ..camera }));
     assert!(samples(&f, "c.raf") == samples(&f, "a.raf"));
 }

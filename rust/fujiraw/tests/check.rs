@@ -60,8 +60,8 @@ fn words_and_statuses() {
     f.is_wrong("check tight --format raw", "check has no option --format");
 }
 
-/// Sets by a generator, whose bits and long codes an independent model has counted: 68,619 bits and 25 long codes in the first line, 135,865 and
-/// 29 in both; and lossy ones: 104,369 bits and 32 long codes.
+/// Sets by a generator, whose bits and long codes an independent model has counted: 68,619 bits and 25 long codes in
+/// the first line, 135,865 and 29 in both; and lossy ones: 104,369 bits and 32 long codes.
 #[test]
 fn true_bits_and_long_codes_of_every_sheet() {
     let f = Folder::new("counted");
@@ -108,7 +108,8 @@ fn true_bits_and_long_codes_of_every_sheet() {
     assert!(lines[1].starts_with(start) && lines[1].contains("\"bits_per_line\":null,"), "{}", lines[1]);
 }
 
-/// The spot and the reason of each block that is not tight; a block that is truncated has neither, whatever its codes are.
+/// The spot and the reason of each block that is not tight; a block that is truncated has neither, whatever its codes
+/// are.
 #[test]
 fn the_first_bad_code_is_named() {
     let f = Folder::new("bad");

@@ -147,7 +147,8 @@ fn camera_files_out() {
                 assert!(now.jpeg == before.jpeg && now.directory == before.directory && now.black == before.black, "{command}");
                 assert_eq!(after.len() + stream.len(), file.len() + now.stream.len(), "{command}");
                 assert!(!f.works("info b.raf").contains("warning"), "{command}");
-                // All bytes but the numbers that had to change: four of the head, and in the raw data the length and the black levels' offset.
+                // All bytes but the numbers that had to change: four of the head, and in the raw data the length and
+                // the black levels' offset.
                 let raw = u32::from_be_bytes(file[0x64..0x68].try_into().unwrap()) as usize;
                 let start = raw + camera::TO_STREAM;
                 let may = [0x54..0x6C, raw + 26 + 2 + 4 * 12 + 8..raw + 26 + 2 + 4 * 12 + 12, raw + 96..raw + 100];
@@ -232,7 +233,8 @@ fn compare_says_whether_pictures_are_the_same() {
     f.put("d.fcs", &noisy(&Header::new(true, false, 14, 768, 2), &[], 3));
     f.put("cut.fcs", &with(9, 3000)[..200]);
     assert_eq!(f.works("compare a.fcs a.fcs"), "a.fcs and a.fcs show the same picture\n");
-    // Green line 7 is the first row of a line; place 5 of it is column 11 in that row, the green one of columns 10 and 11.
+    // Green line 7 is the first row of a line; place 5 of it is column 11 in that row, the green one of columns 10
+    // and 11.
     let said = f.run("compare a.fcs b.fcs");
     let wanted = "a.fcs and b.fcs differ in 1 sample: first at row 6, column 779, 3000 and 3070; the greatest difference is 70\n";
     assert_eq!((said.status.code(), text(&said.stdout).as_str(), text(&said.stderr).as_str()), (Some(1), wanted, ""));

@@ -82,7 +82,8 @@ fn what_comes_of_a_folder_goes_to_a_folder() {
 #[test]
 fn sizes_of_sheets_and_of_all() {
     let f = archive("sizes");
-    // Two blocks of one line, 14 bits, all samples 0: the writer's tests have 848 bytes for such a block; 32 bytes stand before them.
+    // Two blocks of one line, 14 bits, all samples 0: the writer's tests have 848 bytes for such a block; 32 bytes
+    // stand before them.
     f.put("zeros.fcs", &encoded(&Header::new(true, false, 14, 1536, 1), &[], &mut |_, _, _, _| 0));
     let bound = 32 + 2 * 32_256;
     let wanted =

@@ -72,7 +72,8 @@ fn tiles_by_name_and_by_digits() {
     assert_eq!(f.works(&format!("decode -f a.fcs a --tile {digits}")), format!("a: 768 x 12 samples, 12 bits, tile {digits}\n"));
 }
 
-/// What another reader of PNG says: width, height, depth, colour type, significant bits, and the rows, each after its filter.
+/// What another reader of PNG says: width, height, depth, colour type, significant bits, and the rows, each after its
+/// filter.
 const READER: &str = r#"
 import struct, sys, zlib
 d = open(sys.argv[1], "rb").read()

@@ -68,7 +68,8 @@ fn every_example_of_the_help_runs() {
     }
 }
 
-/// The commands of the guide, block after block, each in a folder of its own. A block that is to be shown only is marked as text.
+/// The commands of the guide, block after block, each in a folder of its own. A block that is to be shown only is
+/// marked as text.
 #[test]
 fn every_command_of_the_guide_runs() {
     let guide = fs::read_to_string(root().join("docs/USING.md")).unwrap();

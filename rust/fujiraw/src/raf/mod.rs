@@ -1,5 +1,5 @@
-//! Camera files of Fuji (RAF): where the compressed stream lies in the file's bytes, and what the file says of it. Functions over bytes alone; no number of
-//! the file is trusted. docs/USING.md says in words what is read.
+//! Camera files of Fuji (RAF): where the compressed stream lies in the file's bytes, and what the file says of it.
+//! Functions over bytes alone; no number of the file is trusted. docs/USING.md says in words what is read.
 mod bytes;
 mod directory;
 mod makers;
@@ -194,7 +194,8 @@ fn is_date(text: &str) -> bool {
 }
 
 impl Raf {
-    /// What the file says otherwise than the stream's own header, which decides; `own` is how many bytes the stream's sizes make.
+    /// What the file says otherwise than the stream's own header, which decides; `own` is how many bytes the stream's
+    /// sizes make.
     pub fn warnings(&self, h: &FujiHeader, own: u64) -> Vec<String> {
         let mut all = self.warnings.clone();
         let mut differs = |what: &str, said: Option<u32>, is: u32| {

@@ -144,7 +144,8 @@ pub fn raf(stream: &[u8], camera: &Camera) -> Vec<u8> {
     all
 }
 
-/// What a camera file has, by a reader of the test's own: the stream, the small picture, the directory and the black levels.
+/// What a camera file has, by a reader of the test's own: the stream, the small picture, the directory and the black
+/// levels.
 pub struct Parts {
     pub stream: Vec<u8>,
     pub jpeg: Vec<u8>,
