@@ -133,3 +133,34 @@ fn descriptor(path: &Path) -> Option<bool> {
     }
     Some(fs::canonicalize("/proc/self/fd").is_ok_and(|own| own == folder))
 }
+
+#[cfg(test)]
+mod tests {
+    use super::*;
+    use std::io::Read;
+
+    /// A file that is found wrong gets no name, and the old one stays.
+    #[test]
+    fn what_is_found_wrong_gets_no_name() {
+        let folder = std::env::temp_dir().join(format!("fujiraw-output-{}", std::process::id()));
+        fs::create_dir_all(&folder).unwrap();
+        let (old, new) = (folder.join("old"), folder.join("new"));
+        fs::write(&old, b"old").unwrap();
+        for out in [&old, &new] {
+            let output = Output::new(&[], out, Force(true)).unwrap();
+            let told = output.write_and_check(
+                |o| o.write_all(b"text"),
+                |file| {
+                    let mut read = String::new();
+                    file.read_to_string(&mut read).unwrap();
+                    Err(format!("it has {read}"))
+                },
+            );
+            assert_eq!(told, Err("it has text".to_string()));
+        }
+        assert_eq!((fs::read(&old).unwrap(), new.exists(), fs::read_dir(&folder).unwrap().count()), (b"old".to_vec(), false, 1));
+        Output::new(&[], &new, Force(false)).unwrap().write_and_check(|o| o.write_all(b"text"), |_| Ok(())).unwrap();
+        assert_eq!(fs::read(&new).unwrap(), b"text");
+        fs::remove_dir_all(&folder).unwrap();
+    }
+}
