@@ -79,12 +79,16 @@ pub fn planned(header: &[u8], parsed: &FujiHeader, plan: &Path) -> Result<Vec<u8
 /// A refusal of a plan, with the record that it names.
 fn wrong_plan(refusal: &Refusal, h: &FujiHeader, plan: &[u8]) -> String {
     match refusal.number {
-        16 => format!("{refusal}: plans are for lossy headers; to make a lossy copy of a lossless stream, use fujiraw copy IN OUT --plan PLAN"),
+        16 => format!(
+            "{refusal}: plans are for lossy headers; to make a lossy copy of a lossless stream, use fujiraw copy IN OUT --plan PLAN"
+        ),
         18 => {
             let record = plan.split(|b| *b == b'\n').nth(refusal.index.saturating_sub(1)).unwrap_or_default();
             let record: String = String::from_utf8_lossy(record).chars().take(60).collect();
             let last = h.lines - 1;
-            format!("{refusal}: it is {record:?}; a record is first line, last line and base, separated by tabs, with lines 0 to {last} and bases 0 to 255")
+            format!(
+                "{refusal}: it is {record:?}; a record is first line, last line and base, separated by tabs, with lines 0 to {last} and bases 0 to 255"
+            )
         }
         _ => refusal.to_string(),
     }

@@ -72,7 +72,8 @@ pub struct Block {
     pub why: Option<String>,
 }
 
-/// Reads a block, tightly if it is lossless. One that is not tight is read once more, so that all its lines are counted.
+/// Reads a block, tightly if it is lossless. One that is not tight is read once more, so that all its lines are
+/// counted.
 pub fn block(stream: &FujiCompressed, i: usize, scratch: &mut Scratch) -> Block {
     let h = stream.header;
     let tight = h.lossless.then(|| stream.read_tight_with(scratch, i));
@@ -83,9 +84,7 @@ pub fn block(stream: &FujiCompressed, i: usize, scratch: &mut Scratch) -> Block 
     let totals = counted.totals;
     match (counted.answer, tight.map(|c| c.answer)) {
         (Err(cut), _) => Block { verdict: Verdict::Damaged, totals, lines: cut.line as u32, why: Some(cut.to_string()) },
-        (Ok(()), Some(Err(loose))) => {
-            Block { verdict: Verdict::NotTight, totals, lines: h.lines, why: Some(why_loose(loose, stream, i)) }
-        }
+        (Ok(()), Some(Err(loose))) => Block { verdict: Verdict::NotTight, totals, lines: h.lines, why: Some(why_loose(loose, stream, i)) },
         (Ok(()), _) => Block { verdict: Verdict::Lossy, totals, lines: h.lines, why: None },
     }
 }
@@ -120,7 +119,8 @@ impl Sheet {
         Totals { bits: sum(|t| t.bits), long_codes: sum(|t| t.long_codes) }
     }
 
-    /// Bits of all blocks together, by the lines of the sheet, rounded down; of a damaged sheet they are none that could be compared.
+    /// Bits of all blocks together, by the lines of the sheet, rounded down; of a damaged sheet they are none that
+    /// could be compared.
     pub fn bits_a_line(&self) -> Option<u64> {
         (self.verdict < Verdict::Damaged).then(|| self.totals().bits / self.lines.max(1) as u64)
     }
@@ -191,7 +191,11 @@ fn words(input: &Input, found: &Result<Sheet, Fault>, call: &Check) -> String {
         let why = block.why.as_ref().map_or(String::new(), |w| format!(": {w}"));
         let bits = bits / block.lines.max(1) as u64;
         let of = if block.lines < sheet.lines { format!(" in lines 0 to {}", block.lines.max(1) - 1) } else { String::new() };
-        let counted = if block.lines == 0 { "no whole line".to_string() } else { format!("{bits} bits a line, {}{of}", count(long_codes as usize, "long code")) };
+        let counted = if block.lines == 0 {
+            "no whole line".to_string()
+        } else {
+            format!("{bits} bits a line, {}{of}", count(long_codes as usize, "long code"))
+        };
         let _ = writeln!(text, "  block {i}: {}, {counted}{why}", block.verdict.words());
     }
     text

@@ -157,7 +157,8 @@ fn json(call: &Compare, found: &Result<Found, Fault>, status: u8) -> String {
         Err(fault) => object.text("error", &fault.text).end(),
         Ok(Found::Unlike(why)) => object.field("same", false).text("why", why).end(),
         Ok(Found::Compared(all)) => {
-            let first = all.first.map(|f| Object::new().field("row", f.row).field("column", f.column).field("a", f.a).field("b", f.b).end());
+            let first =
+                all.first.map(|f| Object::new().field("row", f.row).field("column", f.column).field("a", f.a).field("b", f.b).end());
             let object = object.field("same", all.count == 0).field("differing", all.count);
             object.maybe("first", first).field("greatest", all.greatest).end()
         }

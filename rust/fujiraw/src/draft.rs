@@ -1,5 +1,5 @@
-//! A file that gets its name when it is whole and on the disk. Until then it has no name, where the system can do that, and else one by which a later run
-//! knows what a killed one left.
+//! A file that gets its name when it is whole and on the disk. Until then it has no name, where the system can do
+//! that, and else one by which a later run knows what a killed one left.
 use std::ffi::{CString, c_char, c_int};
 use std::fs::{self, File, OpenOptions, TryLockError};
 use std::io;
@@ -41,11 +41,12 @@ impl Draft {
         Ok(Draft { file, folder, name: Some(name) })
     }
 
-    /// Brings the contents to the disk, gives the file its name, and brings the name to the disk. A file that is there is replaced at once or not at all, if it may be.
+    /// Brings the contents to the disk, gives the file its name, and brings the name to the disk. A file that is
+    /// there is replaced at once or not at all, if it may be.
     pub fn publish(mut self, target: &Path, replace: bool) -> io::Result<()> {
         self.file.sync_all()?;
         match self.link(target) {
-            Err(e) if e.kind() == io::ErrorKind::AlreadyExists && replace => self.rename(target)?,
+            Err(_) if replace && target.exists() => self.rename(target)?,
             linked => linked?,
         }
         // Some systems cannot sync a folder, and say that the call is not for it.
@@ -133,7 +134,8 @@ fn named(folder: &Path) -> io::Result<(File, PathBuf)> {
             Err(e) if e.kind() == io::ErrorKind::AlreadyExists => continue,
             opened => opened?,
         };
-        // Before it was locked another run may have taken it for left over, and removed it. Where there are no locks no run does so.
+        // Before it was locked another run may have taken it for left over, and removed it. Where there are no locks
+        // no run does so.
         let lost = match file.try_lock() {
             Err(TryLockError::WouldBlock) => true,
             Err(TryLockError::Error(_)) => false,

@@ -3,7 +3,8 @@ use std::fs;
 use std::io::{self, Read, Write};
 use std::path::Path;
 
-/// No stream is longer: a header, 16 sizes, 16 base rows of 2,736 bytes, and 16 blocks of less than 2^32 bytes. A camera file has at most 2^32 bytes more.
+/// No stream is longer: a header, 16 sizes, 16 base rows of 2,736 bytes, and 16 blocks of less than 2^32 bytes. A
+/// camera file has at most 2^32 bytes more.
 const LONGEST: u64 = 16 + 64 + 16 * 2_736 + 17 * 0xFFFF_FFFF;
 
 pub fn load(file: &Path) -> Result<Vec<u8>, String> {

@@ -17,7 +17,7 @@ pub fn words(source: &Source, read: bool) -> Result<String, String> {
     let _ = writeln!(text, "  {}, {}, {} bits, {} x {} samples", kind(&h), loss(&h), h.bits, h.width, h.height);
     let (blocks, lines) = (count(h.blocks as usize, "block"), count(h.lines as usize, "line"));
     let _ = writeln!(text, "  {blocks} of {} columns (rounded width {}), {lines} of six rows", h.block_size, h.rounded_width);
-    let _ = writeln!(text, "  tile {}, {}", tile::name(&source.tile(None)), source.tile_origin());
+    let _ = writeln!(text, "  tile {} {}", tile::name(&source.tile(None)), source.tile_origin());
     let (mut end, mut scratch) = (0, Scratch::new());
     for (i, (offset, length)) in stream.block_ranges().into_iter().enumerate() {
         let columns = h.block_width(i as u32).map_err(|e| e.to_string())?;
@@ -111,9 +111,8 @@ pub fn json(file: &str, source: &Result<Source, Fault>, read: bool) -> String {
 
 fn camera_json(object: Object, raf: &Raf) -> Object {
     let size = raf.raw_size.map(|s| Object::new().field("width", s.width).field("height", s.height).end());
-    let crop = raf.crop.map(|c| {
-        Object::new().field("left", c.left).field("top", c.top).field("width", c.width).field("height", c.height).end()
-    });
+    let crop =
+        raf.crop.map(|c| Object::new().field("left", c.left).field("top", c.top).field("width", c.width).field("height", c.height).end());
     let object = object.text("model", &raf.model).maybe("taken", raf.taken.as_ref().map(|t| quoted(t)));
     let object = object.maybe("raw_size", size).maybe("crop", crop);
     object.field("stream_offset", raf.stream.start).field("stream_bytes", raf.stream.len())

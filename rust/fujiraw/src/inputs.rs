@@ -13,7 +13,8 @@ pub struct Input {
     pub broken: Option<String>,
 }
 
-/// All of them, folders in the order of names. The output's folder is not looked into, so that a second run does not take what the first one made.
+/// All of them, folders in the order of names. The output's folder is not looked into, so that a second run does not
+/// take what the first one made.
 pub fn all(named: &[PathBuf], out: Option<&Path>) -> Vec<Input> {
     let out = out.and_then(|o| fs::canonicalize(o).ok());
     let mut list = vec![];

@@ -1,4 +1,5 @@
-//! A lamp that ages shows as more bits a line: what sheets have, as a list, as rows for other programs, or as a picture.
+//! A lamp that ages shows as more bits a line: what sheets have, as a list, as rows for other programs, or as a
+//! picture.
 use crate::calls::{Lamp, Order};
 use crate::check::{self, BLOCK, SHEET, Sheet, Verdict};
 use crate::files::{name, print};
@@ -103,7 +104,8 @@ fn chart(call: &Lamp, output: Output, sheets: &[(String, String, Result<Sheet, F
 fn lines(call: &Lamp, inputs: &[Input]) -> Result<ExitCode, String> {
     print("file,time,block,line,bits,long_codes\n")?;
     let block = |source: &Source, i: usize, scratch: &mut Scratch| each_line(&source.stream(), i, scratch);
-    let sheet = |source: &Source, blocks: Vec<Vec<Totals>>| (source.raf.as_ref().and_then(|r| r.taken.clone()), source.header().lines, blocks);
+    let sheet =
+        |source: &Source, blocks: Vec<Vec<Totals>>| (source.raf.as_ref().and_then(|r| r.taken.clone()), source.header().lines, blocks);
     let (mut bad, mut failed) = (false, None);
     pool::run(inputs, call.threads, &Work { block, sheet }, |input, found| {
         let (taken, all, blocks) = match found {
@@ -129,8 +131,8 @@ fn lines(call: &Lamp, inputs: &[Input]) -> Result<ExitCode, String> {
     failed.map_or(Ok(if bad { ExitCode::FAILURE } else { ExitCode::SUCCESS }), Err)
 }
 
-/// Bits and long codes of each line of a block, up to a truncated one. The library counts the lines of a call together, so a state is stored now and then, and each
-/// line is reached from the state before it.
+/// Bits and long codes of each line of a block, up to a truncated one. The library counts the lines of a call
+/// together, so a state is stored now and then, and each line is reached from the state before it.
 fn each_line(stream: &FujiCompressed, block: usize, scratch: &mut Scratch) -> Vec<Totals> {
     let h = stream.header;
     let (lines, step) = (h.lines as usize, (h.lines as f64).sqrt().ceil() as usize);

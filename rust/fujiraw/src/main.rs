@@ -1,5 +1,5 @@
-//! Shows, checks, decodes, tightens, copies, compares and measures Fuji compressed raw streams, by themselves or in camera files. The texts of --help say what
-//! each command does, and what each status means.
+//! Shows, checks, decodes, tightens, copies, compares and measures Fuji compressed raw streams, by themselves or in
+//! camera files. The texts of --help say what each command does, and what each status means.
 mod arguments;
 mod blocks;
 mod calls;
@@ -117,7 +117,8 @@ fn info(named: &[PathBuf], read: bool, json: Json) -> ExitCode {
     status
 }
 
-/// One file after the other. What is wrong with one does not keep the others from their turn; with several, each line names its file, and the last one counts them.
+/// One file after the other. What is wrong with one does not keep the others from their turn; with several, each line
+/// names its file, and the last one counts them.
 fn run(all: &[Input], quiet: bool, work: impl Fn(&Input) -> Result<(), String>) -> ExitCode {
     let mut failed = 0;
     for input in all {
@@ -136,8 +137,9 @@ fn run(all: &[Input], quiet: bool, work: impl Fn(&Input) -> Result<(), String>) 
     if all.len() > 1 && (!quiet || failed > 0) {
         let line = format!("{}: {} done, {failed} failed", wording::count(all.len(), "file"), all.len() - failed);
         // Where something failed the count stands with what is said of it.
-        let told = if failed > 0 { Ok(complain(&line)) } else { files::print(&(line + "\n")) };
-        if let Err(why) = told {
+        if failed > 0 {
+            complain(&line);
+        } else if let Err(why) = files::print(&(line + "\n")) {
             return ended(Err(why));
         }
     }

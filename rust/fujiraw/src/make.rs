@@ -1,4 +1,5 @@
-//! Tight masters and lossy working copies of streams and camera files. What was written is read back and compared before it gets its name.
+//! Tight masters and lossy working copies of streams and camera files. What was written is read back and compared
+//! before it gets its name.
 use crate::blocks::planned;
 use crate::calls::{Kind, Make};
 use crate::files::print;
@@ -10,8 +11,9 @@ use crate::read_back::{Likeness, compare};
 use crate::source::{Source, reread};
 use crate::wording::{both, in_words};
 use fuji_compressed::{FujiHeader, HEADER_SIZE, Refusal, lossy_copy_parallel, tighten_parallel};
+use std::fs::File;
 use std::io::Write;
-use std::path::{Path, PathBuf};
+use std::path::Path;
 use std::sync::Mutex;
 
 /// What stands before the new stream in the file, and what behind it.
@@ -32,7 +34,12 @@ pub fn make(call: &Make, input: &Input) -> Result<(), String> {
     let size = (head.len() + made.len() + tail.len()) as u64;
     let Some(output) = output else {
         let what = if bases.is_some() { "as a lossy copy" } else { "as a tight file" };
-        return print(&format!("{}: {what} it would take {}; now it takes {}; nothing was written\n", source.name(), both(size), in_words(source.file.len() as u64)));
+        return print(&format!(
+            "{}: {what} it would take {}; now it takes {}; nothing was written\n",
+            source.name(),
+            both(size),
+            in_words(source.file.len() as u64)
+        ));
     };
     call.place.make_folder(&out)?;
     let to_standard = output.is_standard();
@@ -43,7 +50,8 @@ pub fn make(call: &Make, input: &Input) -> Result<(), String> {
     }
 }
 
-/// Writes it all, and compares what is there then with the source. What cannot be read back, as a pipe, is compared before it is written.
+/// Writes it all, and compares what is there then with the source. What cannot be read back, as a pipe, is compared
+/// before it is written.
 fn write(
     output: Output,
     out: &Path,
@@ -129,8 +137,12 @@ fn said(out: &Path, source: &Source, size: u64, lossy: bool, likeness: &Likeness
 impl crate::calls::Place {
     /// The folder that an output goes to, below the one that was named.
     pub fn make_folder(&self, out: &Path) -> Result<(), String> {
-        let Some(folder) = out.parent().filter(|_| self.is_folder) else { return Ok(()) };
+        let Some(folder) = out.parent().filter(|f| self.is_folder && !f.exists()) else { return Ok(()) };
         let failed = |e| format!("cannot make the folder {}: {}", folder.display(), crate::files::plain(&e));
-        std::fs::create_dir_all(PathBuf::from(folder)).map_err(failed)
+        std::fs::create_dir_all(folder).map_err(failed)?;
+        // Its name is in the folder above, and so on up to the one that was named.
+        let above = folder.ancestors().skip(1).take_while(|f| f.starts_with(&self.out));
+        above.for_each(|f| drop(File::open(f).and_then(|f| f.sync_all())));
+        Ok(())
     }
 }

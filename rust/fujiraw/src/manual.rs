@@ -3,8 +3,9 @@ use crate::help::{FIRST_PAGE, TEXTS};
 
 /// The texts as a page for `man`: they are kept as they are, since their columns mean something.
 pub fn page(version: &str) -> String {
-    let mut page =
-        format!(".TH FUJIRAW 1 \"\" \"fujiraw {version}\"\n.SH NAME\nfujiraw \\- reads and writes Fuji compressed raw streams and camera files\n");
+    let mut page = format!(
+        ".TH FUJIRAW 1 \"\" \"fujiraw {version}\"\n.SH NAME\nfujiraw \\- reads and writes Fuji compressed raw streams and camera files\n"
+    );
     for part in FIRST_PAGE.split("\n\n") {
         let heading = match part {
             _ if part.starts_with("usage:") => Some("SYNOPSIS"),

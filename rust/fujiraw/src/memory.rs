@@ -11,7 +11,8 @@ unsafe extern "C" {
     fn mallopt(what: std::ffi::c_int, value: std::ffi::c_int) -> std::ffi::c_int;
 }
 
-/// Large buffers are given back to the system as soon as they are freed. If nothing is said, the system's library keeps those of each thread.
+/// Large buffers are given back to the system as soon as they are freed. If nothing is said, the system's library
+/// keeps those of each thread.
 pub fn give_back() {
     #[cfg(target_env = "gnu")]
     {

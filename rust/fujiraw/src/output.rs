@@ -26,7 +26,8 @@ pub struct Output<'o> {
 }
 
 impl<'o> Output<'o> {
-    /// Refused are a folder, a file that is read for this, one that is read-only, and one that is there if it may not be replaced.
+    /// Refused are a folder, a file that is read for this, one that is read-only, and one that is there if it may not
+    /// be replaced.
     pub fn new(read: &[&Path], out: &'o Path, force: Force) -> Result<Output<'o>, String> {
         let refused = |why: &str| Err(format!("cannot write {}: {why}", out.display()));
         let target = target(out);
@@ -84,7 +85,9 @@ impl<'o> Output<'o> {
             draft.file.set_permissions(there.permissions()).map_err(failed)?;
         }
         draft.publish(&target, self.force.0).map_err(|e| match e.kind() {
-            io::ErrorKind::AlreadyExists => format!("cannot write {}: it already exists; use --force (-f) to replace it", self.out.display()),
+            io::ErrorKind::AlreadyExists => {
+                format!("cannot write {}: it already exists; use --force (-f) to replace it", self.out.display())
+            }
             _ => failed(e),
         })
     }
@@ -121,11 +124,43 @@ fn target(out: &Path) -> Target {
     }
 }
 
-/// Whether a path names an open file of a process, as /dev/fd/3 does, and whether that is this process. Such a link leads to no path that could be opened.
+/// Whether a path names an open file of a process, as /dev/fd/3 does, and whether that is this process. Such a link
+/// leads to no path that could be opened.
 fn descriptor(path: &Path) -> Option<bool> {
     let folder = fs::canonicalize(path.parent()?).ok()?;
     if !(folder.starts_with("/proc") && folder.ends_with("fd")) {
         return None;
     }
     Some(fs::canonicalize("/proc/self/fd").is_ok_and(|own| own == folder))
+}
+
+#[cfg(test)]
+mod tests {
+    use super::*;
+    use std::io::Read;
+
+    /// A file that is found wrong gets no name, and the old one stays.
+    #[test]
+    fn what_is_found_wrong_gets_no_name() {
+        let folder = std::env::temp_dir().join(format!("fujiraw-output-{}", std::process::id()));
+        fs::create_dir_all(&folder).unwrap();
+        let (old, new) = (folder.join("old"), folder.join("new"));
+        fs::write(&old, b"old").unwrap();
+        for out in [&old, &new] {
+            let output = Output::new(&[], out, Force(true)).unwrap();
+            let told = output.write_and_check(
+                |o| o.write_all(b"text"),
+                |file| {
+                    let mut read = String::new();
+                    file.read_to_string(&mut read).unwrap();
+                    Err(format!("it has {read}"))
+                },
+            );
+            assert_eq!(told, Err("it has text".to_string()));
+        }
+        assert_eq!((fs::read(&old).unwrap(), new.exists(), fs::read_dir(&folder).unwrap().count()), (b"old".to_vec(), false, 1));
+        Output::new(&[], &new, Force(false)).unwrap().write_and_check(|o| o.write_all(b"text"), |_| Ok(())).unwrap();
+        assert_eq!(fs::read(&new).unwrap(), b"text");
+        fs::remove_dir_all(&folder).unwrap();
+    }
 }

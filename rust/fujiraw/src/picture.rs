@@ -36,7 +36,10 @@ impl Format {
     /// The format that an output's name asks for: pgm if it has no ending that means a picture.
     pub fn of_ending(out: &Path) -> std::result::Result<Format, String> {
         let ending = out.extension().map(|e| e.to_string_lossy().to_lowercase()).unwrap_or_default();
-        let others = ["tif", "tiff", "jpg", "jpeg", "jxl", "bmp", "gif", "webp", "avif", "heic", "heif", "ppm", "pnm", "pdf", "dng", "raf", "fcs", "exr"];
+        let others = [
+            "tif", "tiff", "jpg", "jpeg", "jxl", "bmp", "gif", "webp", "avif", "heic", "heif", "ppm", "pnm", "pdf", "dng", "raf", "fcs",
+            "exr",
+        ];
         if others.contains(&ending.as_str()) {
             return Err(format!("decode writes .png, .pgm and .raw, not .{ending}: change the name {}, or use --format", out.display()));
         }
@@ -99,7 +102,8 @@ fn small_size(picture: &Picture) -> (u32, u32) {
     (picture.width.div_ceil(6), picture.height.div_ceil(6))
 }
 
-/// The mean of each 6 by 6 samples, at the edges of those that are there, and the brightest mean white: its width, height and samples.
+/// The mean of each 6 by 6 samples, at the edges of those that are there, and the brightest mean white: its width,
+/// height and samples.
 fn preview(picture: &Picture) -> (u32, u32, Vec<u8>) {
     let (width, height) = small_size(picture);
     let mut sums = vec![(0u64, 0u64); width as usize * height as usize];

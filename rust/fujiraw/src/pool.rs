@@ -1,4 +1,5 @@
-//! Many sheets by several threads, a block at a time: also one large sheet keeps all processors busy, and few sheets are in memory.
+//! Many sheets by several threads, a block at a time: also one large sheet keeps all processors busy, and few sheets
+//! are in memory.
 use crate::inputs::Input;
 use crate::source::{Fault, Source};
 use fuji_compressed::Scratch;

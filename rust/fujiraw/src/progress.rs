@@ -2,7 +2,8 @@
 use std::io::{IsTerminal, Write};
 use std::time::Instant;
 
-/// A line on the terminal that is written over, or nothing where standard error is no terminal or nothing is to be said.
+/// A line on the terminal that is written over, or nothing where standard error is no terminal or nothing is to be
+/// said.
 pub struct Progress {
     shown: bool,
     start: Instant,

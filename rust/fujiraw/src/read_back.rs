@@ -12,8 +12,8 @@ pub struct Likeness {
     pub farthest: u16,
 }
 
-/// Compares the colour lines of two streams of one size, block after block. Without bases all samples must be the same; with bases, one for each line of each block,
-/// each sample that has a code must be within that of its line.
+/// Compares the colour lines of two streams of one size, block after block. Without bases all samples must be the
+/// same; with bases, one for each line of each block, each sample that has a code must be within that of its line.
 pub fn compare(old: &[u8], new: &[u8], bases: Option<&[u8]>, threads: usize) -> Result<Likeness, String> {
     let wrong = |what: String| Err(format!("the new file does not read back as it should: {what}; no output was written"));
     let length = new.len() as u64;
@@ -85,8 +85,53 @@ const COLOUR_LINES: [usize; 12] = [2, 3, 4, 7, 8, 9, 10, 11, 12, 15, 16, 17];
 fn is_interpolated(rank: usize, p: usize) -> bool {
     match COLOUR_LINES[rank] {
         2 | 15 | 9 | 12 => p.is_multiple_of(2),
-        3 | 17 => p % 4 == 0,
+        3 | 17 => p.is_multiple_of(4),
         16 | 4 => p % 4 == 2,
         _ => false,
+    }
+}
+
+#[cfg(test)]
+mod tests {
+    use super::*;
+    use fuji_compressed::{lossy_copy_parallel, tighten_parallel};
+
+    fn sample(name: &str) -> Vec<u8> {
+        std::fs::read(format!("{}/../../samples/{name}", env!("CARGO_MANIFEST_DIR"))).unwrap()
+    }
+
+    #[test]
+    fn differences_are_found() {
+        for name in ["bayer.fcs", "xtrans.fcs"] {
+            let old = sample(name);
+            let tight = tighten_parallel(2, &old, &|| ()).unwrap();
+            assert_eq!(compare(&old, &tight, None, 2).unwrap().farthest, 0);
+            // A lossy copy, and the tight stream of it, are other pictures.
+            let copy = lossy_copy_parallel(2, &old, &[4; 24], &|| ()).unwrap();
+            let other = tighten_parallel(2, &copy, &|| ()).unwrap();
+            let wrong = compare(&old, &other, None, 2).unwrap_err();
+            assert!(wrong.contains("does not read back") && wrong.contains("in the place of"), "{wrong}");
+            // It is within 4, and so not within 3 everywhere; in one line a smaller base is enough to see it.
+            let within = compare(&old, &copy, Some(&[4; 24]), 2).unwrap();
+            assert_eq!((within.samples, within.farthest), (24 * 4608, 4), "{name}");
+            assert!(compare(&old, &copy, Some(&[3; 24]), 2).is_err());
+            let mut one = [4; 24];
+            one[17] = 0;
+            assert!(compare(&old, &copy, Some(&one), 2).unwrap_err().contains("line 17, "));
+        }
+    }
+
+    #[test]
+    fn other_headers_and_cut_streams_are_refused() {
+        let old = sample("bayer.fcs");
+        let tight = tighten_parallel(1, &old, &|| ()).unwrap();
+        assert!(compare(&old, &tight[..tight.len() - 100], None, 1).unwrap_err().contains("block 0: refusal 14"));
+        assert!(compare(&old, &tight[..10], None, 1).unwrap_err().contains("refusal 1"));
+        assert!(compare(&old, &sample("escape.fcs"), None, 1).unwrap_err().contains("its header is another one"));
+        // Lossless where a lossy one is wanted, and the other way round.
+        assert!(compare(&old, &tight, Some(&[0; 24]), 1).is_err());
+        let copy = lossy_copy_parallel(1, &old, &[0; 24], &|| ()).unwrap();
+        assert!(compare(&old, &copy, None, 1).is_err());
+        assert_eq!(compare(&old, &copy, Some(&[0; 24]), 1).unwrap().farthest, 0);
     }
 }

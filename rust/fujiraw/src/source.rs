@@ -88,8 +88,8 @@ impl Source {
     /// Where the tile comes from if none is named, in words.
     pub fn tile_origin(&self) -> &'static str {
         match &self.raf {
-            Some(raf) if raf.tile.is_some() && self.header().xtrans => "from the camera file",
-            _ => "if none is named",
+            Some(raf) if raf.tile.is_some() && self.header().xtrans => "(from the camera file)",
+            _ => "(default)",
         }
     }
 
@@ -115,7 +115,8 @@ impl Source {
 /// Where the stream lies in a file.
 fn find(file: &[u8]) -> Result<(Option<Raf>, Range<usize>), Fault> {
     if raf::is_raf(file) {
-        let found = raf::read(file).map_err(|e| Fault { trouble: if e.is_cut() { Trouble::Damaged } else { Trouble::Unreadable }, text: e.to_string() })?;
+        let found = raf::read(file)
+            .map_err(|e| Fault { trouble: if e.is_cut() { Trouble::Damaged } else { Trouble::Unreadable }, text: e.to_string() })?;
         let range = found.stream.clone();
         return Ok((Some(found), range));
     }

@@ -50,10 +50,11 @@ pub fn decode(stream: &FujiCompressed, file: &Path, image: &mut [u16], region: R
     Ok(())
 }
 
-/// The state of a block among states that follow each other. A file that holds no whole number of them is handed on as it is.
+/// The state of a block among states that follow each other. A file that holds no whole number of them is handed on
+/// as it is.
 fn find<'s>(header: &FujiHeader, states: &'s [u8], block: usize) -> Option<&'s [u8]> {
     let size = header.checkpoint_size();
-    if states.is_empty() || states.len() % size != 0 {
+    if states.is_empty() || !states.len().is_multiple_of(size) {
         return Some(states);
     }
     states.chunks(size).find(|s| head(s).is_some_and(|(b, _)| b == block))

@@ -55,7 +55,12 @@ pub fn chart(points: &[Point], by_time: bool) -> String {
         "<svg xmlns=\"http://www.w3.org/2000/svg\" viewBox=\"0 0 {WIDTH} {HEIGHT}\" width=\"{WIDTH}\" height=\"{HEIGHT}\" \
          font-family=\"sans-serif\" font-size=\"13\">\n<rect width=\"100%\" height=\"100%\" fill=\"#ffffff\"/>\n"
     );
-    let _ = writeln!(svg, "<text x=\"{LEFT}\" y=\"24\" font-size=\"16\">Bits a line of {} sheets, by {}</text>", points.len(), if by_time { "time" } else { "name" });
+    let _ = writeln!(
+        svg,
+        "<text x=\"{LEFT}\" y=\"24\" font-size=\"16\">Bits a line of {} sheets, by {}</text>",
+        points.len(),
+        if by_time { "time" } else { "name" }
+    );
     legend(&mut svg);
     grid(&mut svg, &scale);
     edges(&mut svg, points, by_time);

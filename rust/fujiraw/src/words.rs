@@ -2,7 +2,8 @@
 use std::ffi::OsString;
 use std::path::PathBuf;
 
-/// The options of each command; one that ends in = takes a value. The script in the repository's root goes by the same list.
+/// The options of each command; one that ends in = takes a value. The script in the repository's root goes by the
+/// same list.
 const OPTIONS: &str = include_str!("../text/options.txt");
 
 /// Short forms that every command knows which has the long one. The script has the same ones.

@@ -111,7 +111,7 @@ fn the_tile_comes_from_the_file() {
     f.works("decode a.raf named.raw --tile xtrans");
     f.works("decode a.fcs usual.raw");
     assert!(f.get("named.raw") == f.get("usual.raw") && f.get("named.raw") != f.get("got.raw"));
-    assert!(f.works("info a.raf").contains(&format!("\n  tile {digits}, from the camera file\n")));
+    assert!(f.works("info a.raf").contains(&format!("\n  tile {digits} (from the camera file)\n")));
     // Without the tag, with half of it, and with a colour that is none: the usual one, and a warning.
     let none = "warning: the file names no colours (tag 0x0131): the usual X-Trans tile is taken\n";
     let bad = "warning: the file's colours (tag 0x0131) are not 36 numbers from 0 to 2: they are not used\n";
@@ -126,7 +126,9 @@ fn the_tile_comes_from_the_file() {
     f.put("c.fcs", &bayer);
     f.put("c.raf", &raf(&bayer, &Camera { colours: Some(STORED.to_vec()), ..Camera::default() }));
     assert!(samples(&f, "c.raf") == samples(&f, "c.fcs"));
-    assert!(f.works("info c.raf").contains("warning: the file names X-Trans colours (tag 0x0131), but the stream is Bayer: rggb is taken\n"));
+    assert!(
+        f.works("info c.raf").contains("warning: the file names X-Trans colours (tag 0x0131), but the stream is Bayer: rggb is taken\n")
+    );
 }
 
 #[test]
@@ -150,11 +152,14 @@ fn info_shows_the_camera_and_warns() {
     let wrong = Camera { full: Some([984, 36, 12]), ..camera.clone() };
     f.put("b.raf", &raf(&stream, &wrong));
     let said = f.works("info b.raf");
-    for warning in ["width (tag 0xF001) 984, the stream 960", "height (tag 0xF002) 36, the stream 30", "bits (tag 0xF003) 12, the stream 14"] {
+    for warning in
+        ["width (tag 0xF001) 984, the stream 960", "height (tag 0xF002) 36, the stream 30", "bits (tag 0xF003) 12, the stream 14"]
+    {
         assert!(said.contains(&format!("  warning: the file says {warning}: the stream decides\n")), "{said}");
     }
     assert!(samples(&f, "b.raf") == samples(&f, "a.raf"));
-    // A size that another reader would take for samples that are not compressed: a wrong picture there, the right one here.
+    // A size that another reader would take for samples that are not compressed: a wrong picture there, the right one
+    // here.
     f.put("c.raf", &raf(&stream, &Camera { length: Some(960 * 30 * 7 / 4), ..camera }));
     assert!(samples(&f, "c.raf") == samples(&f, "a.raf"));
 }
@@ -169,13 +174,17 @@ fn lengths_that_are_too_short_cut_the_stream() {
     f.fails("decode a.raf out", &format!("{cut}; use --partial to write the rows before it"));
     let own = stream.len();
     let said = f.works("info a.raf");
-    let warning = format!("warning: the file says {short} bytes of stream (tag 0xF008), the stream's own sizes make {own}: it is cut there\n");
+    let warning =
+        format!("warning: the file says {short} bytes of stream (tag 0xF008), the stream's own sizes make {own}: it is cut there\n");
     assert!(said.contains(&warning), "{said}");
     // A file that is cut off is damaged.
     let whole = raf(&stream, &Camera::default());
     f.put("b.raf", &whole[..whole.len() - 1000]);
     let said = f.works("info b.raf");
-    assert!(said.contains(&format!("warning: the file says {own} bytes of stream (tag 0xF008) and has {short}: it is cut off\n")), "{said}");
+    assert!(
+        said.contains(&format!("warning: the file says {own} bytes of stream (tag 0xF008) and has {short}: it is cut off\n")),
+        "{said}"
+    );
     assert_eq!(f.run("check b.raf").status.code(), Some(4));
 }
 

@@ -60,8 +60,8 @@ fn words_and_statuses() {
     f.is_wrong("check tight --format raw", "check has no option --format");
 }
 
-/// Sets by a generator, whose bits and long codes an independent model has counted: 68,619 bits and 25 long codes in the first line, 135,865 and
-/// 29 in both; and lossy ones: 104,369 bits and 32 long codes.
+/// Sets by a generator, whose bits and long codes an independent model has counted: 68,619 bits and 25 long codes in
+/// the first line, 135,865 and 29 in both; and lossy ones: 104,369 bits and 32 long codes.
 #[test]
 fn true_bits_and_long_codes_of_every_sheet() {
     let f = Folder::new("counted");
@@ -79,7 +79,7 @@ fn true_bits_and_long_codes_of_every_sheet() {
     let lossy = made(&Header::new(false, false, 12, 768, 2), &[vec![1, 1]], &congruential(12, 1 << 12, 2 * 12 * 384));
     f.put("lossy.fcs", &lossy);
     assert_eq!(f.works("check lossy.fcs"), "lossy.fcs: whole (lossy), 52184 bits a line, 32 long codes\n");
-    let blocks = |said: String| said.lines().filter(|l| l.starts_with("  block 0: ")).last().unwrap().to_string();
+    let blocks = |said: String| said.lines().rfind(|l| l.starts_with("  block 0: ")).unwrap().to_string();
     assert_eq!(blocks(f.works("check whole.fcs --blocks")), "  block 0: tight, 67932 bits a line, 29 long codes");
     assert_eq!(blocks(f.works("info whole.fcs --blocks")), "  block 0: 67932 bits a line, 29 long codes, tight");
     assert!(!f.works("info whole.fcs").contains("bits a line"));
@@ -101,13 +101,15 @@ fn true_bits_and_long_codes_of_every_sheet() {
     let (code, failed) = said(&f, "check --json missing cut.fcs");
     assert_eq!(code, Some(5));
     let lines: Vec<&str> = failed.lines().collect();
-    let missing = "{\"file\":\"missing\",\"verdict\":\"unreadable\",\"status\":5,\"error\":\"cannot read missing: no such file or directory\"}";
+    let missing =
+        "{\"file\":\"missing\",\"verdict\":\"unreadable\",\"status\":5,\"error\":\"cannot read missing: no such file or directory\"}";
     assert_eq!((lines.len(), lines[0]), (2, missing));
     let start = "{\"file\":\"cut.fcs\",\"verdict\":\"damaged\",\"status\":4,";
     assert!(lines[1].starts_with(start) && lines[1].contains("\"bits_per_line\":null,"), "{}", lines[1]);
 }
 
-/// The spot and the reason of each block that is not tight; a block that is truncated has neither, whatever its codes are.
+/// The spot and the reason of each block that is not tight; a block that is truncated has neither, whatever its codes
+/// are.
 #[test]
 fn the_first_bad_code_is_named() {
     let f = Folder::new("bad");

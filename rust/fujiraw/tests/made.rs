@@ -64,7 +64,10 @@ fn dry_run_says_what_it_would_take() {
     f.works("tighten a.fcs b.fcs");
     let length = f.get("b.fcs").len();
     let said = f.works("tighten a.fcs c.fcs --dry-run");
-    assert!(said.starts_with(&format!("a.fcs: as a tight file it would take {length} bytes ")) && said.ends_with("; nothing was written\n"), "{said}");
+    assert!(
+        said.starts_with(&format!("a.fcs: as a tight file it would take {length} bytes ")) && said.ends_with("; nothing was written\n"),
+        "{said}"
+    );
     // Not even a file that is there is in the way.
     f.works("tighten a.fcs b.fcs --dry-run");
     let said = f.works("copy a.fcs c.fcs --base 9 --dry-run");
@@ -80,7 +83,10 @@ fn copy_is_within_the_base_of_each_line() {
         f.put("a.fcs", &noisy(&Header::new(true, xtrans, 14, 960, 5), &[], 5));
         f.put("plan", b"3\t3\t40\n0\t2\t1\n4\t4\t0\n");
         let said = f.works("copy a.fcs b.fcs --plan plan -f");
-        assert!(said.contains("b.fcs: lossy, ") && said.ends_with("coded samples read back within their base, at most 40 away\n"), "{said}");
+        assert!(
+            said.contains("b.fcs: lossy, ") && said.ends_with("coded samples read back within their base, at most 40 away\n"),
+            "{said}"
+        );
         assert!(f.works("info b.fcs").contains(", bases 0 to 40\n"));
         let (a, b) = (samples(&f, "a.fcs"), samples(&f, "b.fcs"));
         let bases = [1, 1, 1, 40, 0];
@@ -141,7 +147,8 @@ fn camera_files_out() {
                 assert!(now.jpeg == before.jpeg && now.directory == before.directory && now.black == before.black, "{command}");
                 assert_eq!(after.len() + stream.len(), file.len() + now.stream.len(), "{command}");
                 assert!(!f.works("info b.raf").contains("warning"), "{command}");
-                // All bytes but the numbers that had to change: four of the head, and in the raw data the length and the black levels' offset.
+                // All bytes but the numbers that had to change: four of the head, and in the raw data the length and
+                // the black levels' offset.
                 let raw = u32::from_be_bytes(file[0x64..0x68].try_into().unwrap()) as usize;
                 let start = raw + camera::TO_STREAM;
                 let may = [0x54..0x6C, raw + 26 + 2 + 4 * 12 + 8..raw + 26 + 2 + 4 * 12 + 12, raw + 96..raw + 100];
@@ -167,7 +174,13 @@ fn camera_files_without_a_length() {
     let f = Folder::new("older");
     let stream = loose();
     let own = stream.len() - 40;
-    for camera in [Camera { older: true, behind: true, ..Camera::default() }, Camera { length: Some(0), ..Camera::default() }] {
+    let plain = Camera::default();
+    for camera in [
+        Camera { older: true, behind: true, ..plain.clone() },
+        Camera { length: Some(0), ..plain.clone() },
+        // Too long a length: the small picture would lie within the stream.
+        Camera { length: Some(u32::MAX), behind: true, ..plain },
+    ] {
         let file = raf(&stream, &camera);
         f.put("a.raf", &file);
         f.works("tighten a.raf b.raf -f");
@@ -212,14 +225,16 @@ fn what_cannot_be_made_leaves_everything() {
 fn compare_says_whether_pictures_are_the_same() {
     let f = Folder::new("compare");
     let header = Header::new(true, false, 14, 960, 2);
-    let with = |row: usize, v: u16| encoded(&header, &[], &mut |b, n, line, p| if (b, n, line, p) == (1, 1, 7, 5) { v } else { (row + p) as u16 });
+    let with =
+        |row: usize, v: u16| encoded(&header, &[], &mut |b, n, line, p| if (b, n, line, p) == (1, 1, 7, 5) { v } else { (row + p) as u16 });
     f.put("a.fcs", &with(9, 3000));
     f.put("b.fcs", &with(9, 3070));
     f.put("c.fcs", &noisy(&Header::new(true, false, 12, 960, 2), &[], 3));
     f.put("d.fcs", &noisy(&Header::new(true, false, 14, 768, 2), &[], 3));
     f.put("cut.fcs", &with(9, 3000)[..200]);
     assert_eq!(f.works("compare a.fcs a.fcs"), "a.fcs and a.fcs show the same picture\n");
-    // Green line 7 is the first row of a line; place 5 of it is column 11 in that row, the green one of columns 10 and 11.
+    // Green line 7 is the first row of a line; place 5 of it is column 11 in that row, the green one of columns 10
+    // and 11.
     let said = f.run("compare a.fcs b.fcs");
     let wanted = "a.fcs and b.fcs differ in 1 sample: first at row 6, column 779, 3000 and 3070; the greatest difference is 70\n";
     assert_eq!((said.status.code(), text(&said.stdout).as_str(), text(&said.stderr).as_str()), (Some(1), wanted, ""));

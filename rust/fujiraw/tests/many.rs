@@ -82,10 +82,12 @@ fn what_comes_of_a_folder_goes_to_a_folder() {
 #[test]
 fn sizes_of_sheets_and_of_all() {
     let f = archive("sizes");
-    // Two blocks of one line, 14 bits, all samples 0: the writer's tests have 848 bytes for such a block; 32 bytes stand before them.
+    // Two blocks of one line, 14 bits, all samples 0: the writer's tests have 848 bytes for such a block; 32 bytes
+    // stand before them.
     f.put("zeros.fcs", &encoded(&Header::new(true, false, 14, 1536, 1), &[], &mut |_, _, _, _| 0));
     let bound = 32 + 2 * 32_256;
-    let wanted = format!("zeros.fcs: as a tight file at most {bound} bytes (64.5 kB), exactly 1728 bytes (1.7 kB), now 1728 bytes (1.7 kB)\n");
+    let wanted =
+        format!("zeros.fcs: as a tight file at most {bound} bytes (64.5 kB), exactly 1728 bytes (1.7 kB), now 1728 bytes (1.7 kB)\n");
     assert_eq!(f.works("size zeros.fcs"), wanted);
     assert_eq!(f.works("size zeros.fcs --at-most"), wanted.replace(", exactly 1728 bytes (1.7 kB)", ""));
     let object = format!("{{\"file\":\"zeros.fcs\",\"bytes\":1728,\"at_most\":{bound},\"exactly\":1728}}\n");
@@ -101,7 +103,12 @@ fn sizes_of_sheets_and_of_all() {
     let sum = format!("all 2 sheets: as a tight file at most {} bytes ", file.len() - 1728 + 2 * bound);
     assert!(said.lines().count() == 3 && said.lines().last().unwrap().starts_with(&sum), "{said}");
     // What tighten makes is what was said, of a lossy sheet too.
-    f.put("lossy.fcs", &encoded(&Header::new(false, true, 12, 960, 2), &[vec![2, 3], vec![9, 0]], &mut |b, n, line, p| (90 * b + 40 * n + line * p % 99) as u16));
+    f.put(
+        "lossy.fcs",
+        &encoded(&Header::new(false, true, 12, 960, 2), &[vec![2, 3], vec![9, 0]], &mut |b, n, line, p| {
+            (90 * b + 40 * n + line * p % 99) as u16
+        }),
+    );
     f.works("tighten lossy.fcs tight.fcs");
     assert!(f.works("size --json lossy.fcs").ends_with(&format!("\"exactly\":{}}}\n", f.get("tight.fcs").len())));
     // A folder; what cannot be measured is left out, and said.

@@ -65,7 +65,8 @@ fn nothing_is_replaced_unasked() {
     f.put("a.fcs", &stream());
     f.put("states", b"");
     let bases = "--base 1";
-    for command in ["decode a.fcs", "tighten a.fcs", &format!("copy {bases} a.fcs"), "lines a.fcs 0", "save a.fcs 0 0", "lamp a.fcs --svg"] {
+    for command in ["decode a.fcs", "tighten a.fcs", &format!("copy {bases} a.fcs"), "lines a.fcs 0", "save a.fcs 0 0", "lamp a.fcs --svg"]
+    {
         f.put("old", b"old");
         f.fails(&format!("{command} old"), "cannot write old: it already exists; use --force (-f) to replace it");
         assert_eq!(f.get("old"), b"old");
@@ -87,7 +88,9 @@ fn nothing_is_replaced_unasked() {
 fn format_follows_the_ending() {
     let f = Folder::new("ending");
     f.put("a.fcs", &stream());
-    for (name, begin) in [("a.png", &b"\x89PNG"[..]), ("a.PNG", b"\x89PNG"), ("a.pgm", b"P5\n"), ("plain", b"P5\n"), ("a.raw", &2u16.to_le_bytes())] {
+    for (name, begin) in
+        [("a.png", &b"\x89PNG"[..]), ("a.PNG", b"\x89PNG"), ("a.pgm", b"P5\n"), ("plain", b"P5\n"), ("a.raw", &2u16.to_le_bytes())]
+    {
         f.works(&format!("decode a.fcs {name}"));
         assert!(f.get(name).starts_with(begin), "{name}");
     }
@@ -169,18 +172,20 @@ fn killed_at_random_moments() {
     let (new, old) = (f.get("new.raw"), vec![7; 300_000]);
     let start = Instant::now();
     f.works("decode a.fcs new.raw -f -q");
-    // About as long as a run takes, so that some end by themselves.
-    let longest = start.elapsed().as_micros() as u64;
+    let mut usual = start.elapsed().as_micros() as u64;
     let (mut random, mut kept, mut made, mut fresh, mut absent) = (Random::new(2026), 0, 0, 0, 0);
     for turn in 0..300 {
         f.put("out.raw", &old);
         let _ = fs::remove_file(f.0.join("fresh.raw"));
         // Every second one to a name that is not there yet.
-        let line: &[&str] = if turn % 2 == 0 { &["decode", "a.fcs", "out.raw", "-f", "-q"] } else { &["decode", "a.fcs", "fresh.raw", "-q"] };
+        let line: &[&str] =
+            if turn % 2 == 0 { &["decode", "a.fcs", "out.raw", "-f", "-q"] } else { &["decode", "a.fcs", "fresh.raw", "-q"] };
         let mut child = Command::new(PROGRAM).args(line).current_dir(&f.0).stdout(Stdio::null()).stderr(Stdio::null()).spawn().unwrap();
-        std::thread::sleep(Duration::from_micros(random.below(longest)));
+        std::thread::sleep(Duration::from_micros(random.below(usual * 3 / 2)));
         let _ = child.kill();
-        child.wait().unwrap();
+        // About half of the runs shall end by themselves, on a busy machine too: then many are killed near their end.
+        let ended = child.wait().unwrap().success();
+        usual = if ended { usual * 31 / 32 } else { usual * 33 / 32 + 1 };
         let there = f.get("out.raw");
         assert!(there == old || turn % 2 == 0 && there == new, "turn {turn}: {} bytes", there.len());
         kept += (turn % 2 == 0 && there == old) as usize;

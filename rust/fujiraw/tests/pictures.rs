@@ -30,7 +30,7 @@ fn usual_tile_shows_the_picture_that_the_encoder_had() {
         let said = f.works(&format!("decode -f {stream} usual --format raw"));
         assert_eq!(said, format!("usual: 768 x 144 samples, 14 bits, tile {tile}\n"));
         assert!(farthest(&f.get("usual")) <= most, "{stream}");
-        assert!(f.works(&format!("info {stream}")).contains(&format!("\n  tile {tile}, if none is named\n")));
+        assert!(f.works(&format!("info {stream}")).contains(&format!("\n  tile {tile} (default)\n")));
         f.works(&format!("decode -f {stream} named --format=raw --tile={tile}"));
         assert_eq!(f.get("named"), f.get("usual"));
         f.works(&format!("decode -f {stream} other --format=raw --tile grbg"));
@@ -72,7 +72,8 @@ fn tiles_by_name_and_by_digits() {
     assert_eq!(f.works(&format!("decode -f a.fcs a --tile {digits}")), format!("a: 768 x 12 samples, 12 bits, tile {digits}\n"));
 }
 
-/// What another reader of PNG says: width, height, depth, colour type, significant bits, and the rows, each after its filter.
+/// What another reader of PNG says: width, height, depth, colour type, significant bits, and the rows, each after its
+/// filter.
 const READER: &str = r#"
 import struct, sys, zlib
 d = open(sys.argv[1], "rb").read()

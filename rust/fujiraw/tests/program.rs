@@ -50,7 +50,7 @@ fn info_shows_header_and_ranges() {
     assert!(said.contains(&format!("a.fcs: {length} bytes\n  Bayer, lossless, 12 bits, 768 x 12 samples\n")), "{said}");
     assert!(said.contains(&format!("block 0: 768 columns, offset 32, {} bytes\n", length - 32)), "{said}");
     assert!(
-        said.contains("  X-Trans, lossy, 14 bits, 792 x 6 samples\n  2 blocks of 768 columns (rounded width 1536), 1 line of six rows\n  tile xtrans, if none is named\n"),
+        said.contains("  X-Trans, lossy, 14 bits, 792 x 6 samples\n  2 blocks of 768 columns (rounded width 1536), 1 line of six rows\n  tile xtrans (default)\n"),
         "{said}"
     );
     assert!(said.contains("block 1: 24 columns, offset ") && said.contains(", bases 9 to 9\n"), "{said}");
@@ -186,7 +186,10 @@ fn write_makes_the_block_of_a_set() {
     let wanted = "there are 4607, and 4608 are needed (1 line of 12 colour lines of 384)";
     f.fails("write header few out", &format!("refusal 9: the number of samples is not the block's: {wanted}"));
     f.fails("write header half out", "half has half a sample at its end: samples are two bytes each");
-    f.fails("write few samples out", "refusal 2: a header rule is broken: not a stream: it begins with 00 00, and streams begin with 49 53");
+    f.fails(
+        "write few samples out",
+        "refusal 2: a header rule is broken: not a stream: it begins with 00 00, and streams begin with 49 53",
+    );
     f.is_wrong("write header samples", "write needs a header, samples and an output");
 }
 

@@ -48,7 +48,7 @@ fn memory_is_at_most_the_file_the_picture_and_64_mb() {
         assert!(used <= allowed, "{command}: {used} of {allowed}");
     }
     // Many sheets are not all in memory.
-    let many = vec!["a.raf"; 12].join(" ");
+    let many = ["a.raf"; 12].join(" ");
     let used = most(&f, &format!("check {many} --threads 16"));
     assert!(used <= allowed, "12 sheets: {used} of {allowed}");
 }

@@ -68,7 +68,8 @@ fn every_example_of_the_help_runs() {
     }
 }
 
-/// The commands of the guide, block after block, each in a folder of its own. A block that is to be shown only is marked as text.
+/// The commands of the guide, block after block, each in a folder of its own. A block that is to be shown only is
+/// marked as text.
 #[test]
 fn every_command_of_the_guide_runs() {
     let guide = fs::read_to_string(root().join("docs/USING.md")).unwrap();
@@ -105,7 +106,9 @@ fn every_command_and_option_is_in_the_help_and_in_an_example() {
             _ => "no short form",
         };
         for option in options.split_whitespace().map(|o| o.trim_end_matches('=')) {
-            let in_help = page.lines().any(|l| l.starts_with(&format!("  {option} ")) || l.starts_with(&format!("  {}, {option} ", &short(option)[..2])));
+            let in_help = page
+                .lines()
+                .any(|l| l.starts_with(&format!("  {option} ")) || l.starts_with(&format!("  {}, {option} ", &short(option)[..2])));
             assert!(in_help, "{command} {option}");
             let shown = examples.iter().any(|l| l.contains(option) || l.contains(short(option)));
             assert!(shown, "{command} {option} is in no example");
@@ -148,7 +151,8 @@ fn script_answers_as_the_program_does_without_building() {
     let f = Folder::new("script");
     let script = script(&f);
     symlink(&script, f.0.join("link")).unwrap();
-    let mut lines: Vec<String> = commands().iter().flat_map(|c| [format!("{c} --help"), format!("help {c}"), format!("{c} a -h")]).collect();
+    let mut lines: Vec<String> =
+        commands().iter().flat_map(|c| [format!("{c} --help"), format!("help {c}"), format!("{c} a -h")]).collect();
     let more = [
         "",
         "--help",

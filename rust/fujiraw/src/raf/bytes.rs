@@ -1,4 +1,5 @@
-//! Numbers and directories in bytes that nobody vouches for. Positions have 64 bits, and what lies past the end is `None`.
+//! Numbers and directories in bytes that nobody vouches for. Positions have 64 bits, and what lies past the end is
+//! `None`.
 
 /// Bytes, and the order of the numbers in them.
 #[derive(Clone, Copy)]

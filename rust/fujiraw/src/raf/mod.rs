@@ -1,5 +1,5 @@
-//! Camera files of Fuji (RAF): where the compressed stream lies in the file's bytes, and what the file says of it. Functions over bytes alone; no number of
-//! the file is trusted. docs/USING.md says in words what is read.
+//! Camera files of Fuji (RAF): where the compressed stream lies in the file's bytes, and what the file says of it.
+//! Functions over bytes alone; no number of the file is trusted. docs/USING.md says in words what is read.
 mod bytes;
 mod directory;
 mod makers;
@@ -81,8 +81,12 @@ impl fmt::Display for Unfit {
         match self {
             Unfit::Spoilt => write!(f, "this begins like a Fuji camera file (RAF), but its 16-byte signature is damaged"),
             Unfit::Short => write!(f, "{camera}but it is cut off within its first 108 bytes"),
-            Unfit::NoRawData => write!(f, "{camera}but the raw data that it names at byte 100 are not in the file: it is cut off or damaged"),
-            Unfit::Directory(which) => write!(f, "{camera}but {which} of its raw data passes the end of the file: it is cut off or damaged"),
+            Unfit::NoRawData => {
+                write!(f, "{camera}but the raw data that it names at byte 100 are not in the file: it is cut off or damaged")
+            }
+            Unfit::Directory(which) => {
+                write!(f, "{camera}but {which} of its raw data passes the end of the file: it is cut off or damaged")
+            }
             Unfit::NoStream(tag) => write!(f, "{camera}but its raw data have no usable tag 0x{tag:04X}, so that no stream is found"),
             Unfit::PastEnd(at) => write!(f, "{camera}but its stream would begin at byte {at}, past the end of the file: it is cut off"),
             Unfit::Uncompressed(bits) => {
@@ -190,7 +194,8 @@ fn is_date(text: &str) -> bool {
 }
 
 impl Raf {
-    /// What the file says otherwise than the stream's own header, which decides; `own` is how many bytes the stream's sizes make.
+    /// What the file says otherwise than the stream's own header, which decides; `own` is how many bytes the stream's
+    /// sizes make.
     pub fn warnings(&self, h: &FujiHeader, own: u64) -> Vec<String> {
         let mut all = self.warnings.clone();
         let mut differs = |what: &str, said: Option<u32>, is: u32| {
@@ -205,7 +210,9 @@ impl Raf {
         differs("raw height (tag 0x0100)", self.raw_size.map(|s| s.height), h.height);
         let there = self.stream.len() as u64;
         match self.named.map(u64::from) {
-            Some(named) if named > there => all.push(format!("the file says {named} bytes of stream (tag 0xF008) and has {there}: it is cut off")),
+            Some(named) if named > there => {
+                all.push(format!("the file says {named} bytes of stream (tag 0xF008) and has {there}: it is cut off"))
+            }
             Some(named) if named != 0 && named < own => {
                 all.push(format!("the file says {named} bytes of stream (tag 0xF008), the stream's own sizes make {own}: it is cut there"));
             }

@@ -1,4 +1,5 @@
-//! A camera file with another stream in the place of its own: all other bytes stay, and the offsets and lengths that this moves are put right.
+//! A camera file with another stream in the place of its own: all other bytes stay, and the offsets and lengths that
+//! this moves are put right.
 use super::Raf;
 use super::bytes::{Bytes, Directory, Tiff};
 use std::ops::Range;
@@ -26,7 +27,8 @@ pub struct Replaced {
 }
 
 impl Fields {
-    /// The offsets of the file's own head. Those at 0x78 and 0x80 are there only if the small picture begins behind them.
+    /// The offsets of the file's own head. Those at 0x78 and 0x80 are there only if the small picture begins behind
+    /// them.
     pub fn of(file: &[u8]) -> Fields {
         let jpeg = Bytes::big(file).four(0x54).unwrap_or(0);
         let places = [0x54, 0x5C, 0x64].into_iter().chain([0x78, 0x80].into_iter().filter(|at| *at < jpeg as u64));
@@ -46,46 +48,63 @@ impl Fields {
 }
 
 impl Raf {
-    /// What is replaced: as many bytes as the file names, or, if it names none, as the stream's own sizes make.
-    fn old(&self, own: u64) -> Range<usize> {
-        let length = match self.named {
-            Some(named) if named > 0 => self.stream.len(),
-            _ => self.stream.len().min(usize::try_from(own).unwrap_or(usize::MAX)),
+    /// What is replaced: as many bytes as the file names; if it names none, or if something else of the file lies
+    /// among them, as many as the stream's own sizes make.
+    fn old(&self, file: &[u8], own: u64) -> Range<usize> {
+        let own = self.stream.len().min(usize::try_from(own).unwrap_or(usize::MAX));
+        let own = self.stream.start..self.stream.start + own;
+        let leads_into = |offset: &Offset| {
+            let value = Bytes { all: file, big: offset.big }.four(offset.at).unwrap_or(0);
+            let target = offset.base + value as u64;
+            value > 0 && own.end as u64 <= target && target < self.stream.end as u64
         };
-        self.stream.start..self.stream.start + length
+        match self.named {
+            Some(named) if named > 0 && !self.fields.offsets.iter().any(leads_into) => self.stream.clone(),
+            _ => own,
+        }
     }
 
     /// The file around a stream of `length` bytes; `own` is how many bytes the sizes of the file's own stream make.
     pub fn around(&self, file: &[u8], own: u64, length: usize) -> Result<Replaced, String> {
-        let old = self.old(own);
+        let old = self.old(file, own);
         let mut new = Replaced { head: file[..old.start].to_vec(), tail: file[old.end..].to_vec() };
         for offset in &self.fields.offsets {
-            let bytes = Bytes { all: file, big: offset.big };
-            let Some(value) = bytes.four(offset.at) else { continue };
-            let target = offset.base + value as u64;
-            if value == 0 || target <= old.start as u64 {
-                continue;
-            }
-            if target < old.end as u64 {
-                return Err(format!("the offset at byte {} leads into the stream: no other stream can be put there", offset.at));
-            }
-            let moved = value as u64 - old.len() as u64 + length as u64;
-            new.put(&old, offset.at, offset.big, moved)?;
+            move_offset(&mut new, file, &old, offset, length)?;
         }
         match (self.named, self.fields.length_at) {
             (None | Some(0), _) => {}
             (Some(_), Some((at, big))) => new.put(&old, at, big, length as u64)?,
             (Some(_), None) => return Err("the file's tag 0xF008 has two bytes, and no other length can be put there".to_string()),
         }
-        let raw = |at| Bytes::big(file).four(at).unwrap_or(0) as u64;
-        let (raw_start, raw_length) = (raw(0x64), raw(0x68));
-        if raw_length > 0 {
-            // What the raw data have behind the stream stays; a length that ends within the stream was wrong, and becomes right.
-            let behind = (raw_start + raw_length).saturating_sub(old.end as u64);
-            new.put(&old, 0x68, true, old.start as u64 - raw_start + length as u64 + behind)?;
-        }
+        move_end(&mut new, file, &old, length)?;
         Ok(new)
     }
+}
+
+/// An offset that leads behind the stream leads to the same bytes again.
+fn move_offset(new: &mut Replaced, file: &[u8], old: &Range<usize>, offset: &Offset, length: usize) -> Result<(), String> {
+    let value = Bytes { all: file, big: offset.big }.four(offset.at).unwrap_or(0) as u64;
+    let target = offset.base + value;
+    // What leads past the end of the file is the offset of nothing.
+    if value == 0 || target <= old.start as u64 || target > file.len() as u64 {
+        return Ok(());
+    }
+    if target < old.end as u64 {
+        return Err(format!("the offset at byte {} leads into the stream: no other stream can be put there", offset.at));
+    }
+    new.put(old, offset.at, offset.big, value - old.len() as u64 + length as u64)
+}
+
+/// The length of all raw data: what they have behind the stream stays. A length that ended within the stream, or past
+/// the end of the file, becomes right.
+fn move_end(new: &mut Replaced, file: &[u8], old: &Range<usize>, length: usize) -> Result<(), String> {
+    let number = |at| Bytes::big(file).four(at).unwrap_or(0) as u64;
+    let (start, named) = (number(0x64), number(0x68));
+    if named == 0 {
+        return Ok(());
+    }
+    let behind = (start + named).min(file.len() as u64).saturating_sub(old.end as u64);
+    new.put(old, 0x68, true, old.start as u64 - start + length as u64 + behind)
 }
 
 impl Replaced {

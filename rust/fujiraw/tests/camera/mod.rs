@@ -2,9 +2,7 @@
 #![allow(dead_code)] // Each test program uses a part of it.
 
 /// The usual X-Trans tile as a camera stores it: back to front.
-pub const STORED: [u8; 36] = [
-    1, 0, 2, 1, 2, 0, 2, 1, 1, 0, 1, 1, 0, 1, 1, 2, 1, 1, 1, 2, 0, 1, 0, 2, 0, 1, 1, 2, 1, 1, 2, 1, 1, 0, 1, 1,
-];
+pub const STORED: [u8; 36] = [1, 0, 2, 1, 2, 0, 2, 1, 1, 0, 1, 1, 0, 1, 1, 2, 1, 1, 1, 2, 0, 1, 0, 2, 0, 1, 1, 2, 1, 1, 2, 1, 1, 0, 1, 1];
 
 /// How a camera file is made.
 #[derive(Clone)]
@@ -146,7 +144,8 @@ pub fn raf(stream: &[u8], camera: &Camera) -> Vec<u8> {
     all
 }
 
-/// What a camera file has, by a reader of the test's own: the stream, the small picture, the directory and the black levels.
+/// What a camera file has, by a reader of the test's own: the stream, the small picture, the directory and the black
+/// levels.
 pub struct Parts {
     pub stream: Vec<u8>,
     pub jpeg: Vec<u8>,
