@@ -281,7 +281,7 @@ void fuji_lossy_copy(const uint8_t *stream, size_t stream_length, const uint8_t 
 void fuji_short_codes(uint32_t depth, uint32_t k, uint32_t length, uint32_t *list, size_t list_length, size_t count[1], size_t refusal[4]);
 
 /* The base bytes of a lossy header's lines, as a plan says: text with one record a line, which is first line, last line and base, in decimal with 1 to 5 digits
- * each, parted by tabs and ended by a newline. Every line lies in exactly one record. There are as many bytes as lines, and byte n becomes the base of the record that
+ * each, tab-separated and ended by a newline. Every line lies in exactly one record. There are as many bytes as lines, and byte n becomes the base of the record that
  * holds line n. Refusals 1, 2, 16, 17, 18 (the record's number, from 1 on, is the index), 19 and 20 (the line is named); each leaves the bytes as they were. */
 void fuji_plan_bases(const uint8_t *header, size_t header_length, const uint8_t *plan, size_t plan_length, uint8_t *bases, size_t bases_length,
                      size_t refusal[4]);

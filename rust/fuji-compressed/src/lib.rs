@@ -423,7 +423,7 @@ pub fn short_codes(depth: u32, k: u32, length: u32, list: &mut [u32]) -> Result<
     Refusal::answer(refusal).map(|()| count[0])
 }
 
-/// The base bytes of a lossy header's lines, as a plan says. The plan is text, one record a line: first line, last line, base, in decimal, parted by tabs, each of
+/// The base bytes of a lossy header's lines, as a plan says. The plan is text, one record a line: first line, last line, base, in decimal, tab-separated, each of
 /// 1 to 5 digits. Every line lies in exactly one record, in any order; byte n becomes the base of the record that holds line n. `bases` has as many bytes as there are
 /// lines. Of the header the first 16 bytes count. Refusals 1, 2, 16, 17, 18 (its `index` is the record's number, from 1 on), 19 and 20; each leaves `bases` as it was.
 ///

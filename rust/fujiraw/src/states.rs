@@ -1,4 +1,4 @@
-//! States of blocks after a line: stored one after the other in a file, and gone on from.
+//! States of blocks after a line: saved one after the other in a file, and resumed.
 use crate::calls::Save;
 use crate::files::{load, name};
 use crate::output::Output;
