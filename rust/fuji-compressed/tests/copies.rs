@@ -10,7 +10,7 @@ use common::stream::{Header, encoded, stream};
 use fuji_compressed::{
     ColorTile, FujiCompressed, FujiHeader, Record, Refusal, Scratch, lossy_copy, lossy_copy_parallel, put_front, tighten, tighten_parallel,
 };
-use lent::{FINE, OLD, PATTERN, ffi};
+use lent::{FINE, OLD, PATTERN, ffi, sample_file};
 use sets::{is_cleared, is_interpolated, soiled, width};
 use std::sync::atomic::{AtomicUsize, Ordering};
 
@@ -511,4 +511,21 @@ fn damaged_streams() {
         }
     }
     assert!(made > 50 && refused > 20, "{made} {refused}");
+}
+
+/// The samples of the repository, with the lengths that an earlier program gave: tight, and with bases of 2 in every line.
+#[test]
+fn samples_of_the_repository() {
+    for (name, tight, lossy) in [("bayer.fcs", 95_840, Some(71_440)), ("escape.fcs", 4_416, None), ("xtrans.fcs", 114_656, Some(88_288))] {
+        let bytes = sample_file(name);
+        let made = tightened(&bytes);
+        assert_eq!((made.len(), made == bytes), (tight, name == "bayer.fcs"));
+        assert!(image(&made) == image(&bytes));
+        let Some(lossy) = lossy else { continue };
+        let header = Header::of(&bytes).unwrap();
+        let copy = copied(&bytes, &vec![2; header.blocks as usize * header.lines as usize]);
+        assert_eq!(copy.len(), lossy);
+        // the sample that was coded with these bases before has the same sets again
+        assert_eq!(blocks(&bytes).all(|b| handed(&copy, b) == handed(&bytes, b)), name == "xtrans.fcs");
+    }
 }
