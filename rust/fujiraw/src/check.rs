@@ -187,18 +187,23 @@ fn words(input: &Input, found: &Result<Sheet, Fault>, call: &Check) -> String {
     };
     let mut text = format!("{file}: {}, {bits}, {}\n", sheet.verdict.words(), count(long_codes as usize, "long code"));
     for (i, block) in sheet.blocks.iter().enumerate().filter(|(_, b)| call.blocks.0 || b.why.is_some()) {
-        let Totals { bits, long_codes } = block.totals;
-        let why = block.why.as_ref().map_or(String::new(), |w| format!(": {w}"));
-        let bits = bits / block.lines.max(1) as u64;
-        let of = if block.lines < sheet.lines { format!(" in lines 0 to {}", block.lines.max(1) - 1) } else { String::new() };
-        let counted = if block.lines == 0 {
-            "no whole line".to_string()
-        } else {
-            format!("{bits} bits a line, {}{of}", count(long_codes as usize, "long code"))
-        };
-        let _ = writeln!(text, "  block {i}: {}, {counted}{why}", block.verdict.words());
+        let _ = writeln!(text, "  block {i}: {}", block.words(sheet.lines));
     }
     text
+}
+
+impl Block {
+    /// What it is, what was counted of how many lines, and why it is not as it should be.
+    fn words(&self, all: u32) -> String {
+        let why = self.why.as_ref().map_or(String::new(), |w| format!(": {w}"));
+        let verdict = self.verdict.words();
+        if self.lines == 0 {
+            return format!("{verdict}, no whole line{why}");
+        }
+        let bits = self.totals.bits / self.lines as u64;
+        let of = if self.lines < all { format!(" in lines 0 to {}", self.lines - 1) } else { String::new() };
+        format!("{verdict}, {bits} bits a line, {}{of}{why}", count(self.totals.long_codes as usize, "long code"))
+    }
 }
 
 /// One object; docs/USING.md says what its fields are.

@@ -51,7 +51,7 @@ fn main() -> ExitCode {
         Err(wrong) => {
             let about = wrong.command.as_deref().unwrap_or_default();
             let more = if about.is_empty() { "fujiraw --help".to_string() } else { format!("fujiraw {about} --help") };
-            complain(&format!("fujiraw: {}\n{}\n{more} says more.", wrong.text, help::usage(about)));
+            complain(&format!("fujiraw: {}\n{}\nSee {more}", wrong.text, help::usage(about)));
             ExitCode::from(2)
         }
     }

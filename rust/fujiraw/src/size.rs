@@ -9,6 +9,7 @@ use crate::pool::{self, Work};
 use crate::source::{Source, header_of};
 use crate::wording::{both, count};
 use fuji_compressed::{FujiHeader, HEADER_SIZE, Refusal, Scratch, measure_block_with};
+use std::path::Path;
 use std::process::ExitCode;
 
 /// The sizes of a sheet in bytes.
@@ -22,15 +23,11 @@ struct Sizes {
 
 pub fn size(call: &Size) -> Result<ExitCode, String> {
     if let Some(samples) = &call.samples {
-        let length = measure(&call.files[0], samples)? as u64;
-        let one = Object::new().text("file", &name(samples)).field("block_bytes", length).end();
-        print(&if call.json.0 { one + "\n" } else { format!("{}: one block, exactly {}\n", name(samples), both(length)) })?;
-        return Ok(ExitCode::SUCCESS);
+        return of_one_block(call, samples);
     }
     let inputs = inputs::all(&call.files, None);
     let (mut all, mut good, mut failed) = (Sizes { now: Some(0), at_most: 0, exactly: Some(0) }, 0, None);
-    let at_most = call.at_most;
-    let gate = Gate::new();
+    let (at_most, gate) = (call.at_most, Gate::new());
     let block = |source: &Source, i: usize, scratch: &mut Scratch| {
         if at_most {
             return Ok(0);
@@ -41,19 +38,11 @@ pub fn size(call: &Size) -> Result<ExitCode, String> {
     let sheet = |source: &Source, lengths: Vec<Result<u64, Refusal>>| sizes(source, lengths, at_most);
     pool::run(&inputs, call.threads, &Work { block, sheet }, |input, found| {
         let found = found.map_err(String::from).and_then(|sizes| sizes).or_else(|why| by_header(&input.path, why));
-        let told = match &found {
-            Ok(sizes) => {
-                all.add(sizes);
-                good += 1;
-                print(&(if call.json.0 { json(&name(&input.path), sizes) } else { words(&name(&input.path), sizes) } + "\n"))
-            }
-            Err(why) if call.json.0 => print(&(Object::new().text("file", &name(&input.path)).text("error", why).end() + "\n")),
-            Err(why) => {
-                crate::complain(&format!("{}: {why}", name(&input.path)));
-                Ok(())
-            }
-        };
-        failed = failed.take().or(told.err());
+        if let Ok(sizes) = &found {
+            all.add(sizes);
+            good += 1;
+        }
+        failed = failed.take().or(tell(call, &name(&input.path), &found).err());
     });
     if let Some(why) = failed {
         return Err(why);
@@ -64,6 +53,30 @@ pub fn size(call: &Size) -> Result<ExitCode, String> {
         print(&format!("{}{left_out}\n", words(&format!("all {}", count(good, "sheet")), &all)))?;
     }
     Ok(if good == inputs.len() { ExitCode::SUCCESS } else { ExitCode::FAILURE })
+}
+
+/// The exact size of the one block of these samples.
+fn of_one_block(call: &Size, samples: &Path) -> Result<ExitCode, String> {
+    let length = measure(&call.files[0], samples)? as u64;
+    let text = match call.json.0 {
+        true => Object::new().text("file", &name(samples)).field("block_bytes", length).end(),
+        false => format!("{}: one block, exactly {}", name(samples), both(length)),
+    };
+    print(&(text + "\n"))?;
+    Ok(ExitCode::SUCCESS)
+}
+
+/// A line for a sheet, or why there is none.
+fn tell(call: &Size, file: &str, found: &Result<Sizes, String>) -> Result<(), String> {
+    match found {
+        Ok(sizes) if call.json.0 => print(&(json(file, sizes) + "\n")),
+        Ok(sizes) => print(&(words(file, sizes) + "\n")),
+        Err(why) if call.json.0 => print(&(Object::new().text("file", file).text("error", why).end() + "\n")),
+        Err(why) => {
+            crate::complain(&format!("{file}: {why}"));
+            Ok(())
+        }
+    }
 }
 
 impl Sizes {
@@ -96,7 +109,7 @@ fn sizes(source: &Source, lengths: Vec<Result<u64, Refusal>>, at_most: bool) -> 
 }
 
 /// A header by itself has a greatest size all the same.
-fn by_header(path: &std::path::Path, why: String) -> Result<Sizes, String> {
+fn by_header(path: &Path, why: String) -> Result<Sizes, String> {
     let is_header = !is_standard(path) && std::fs::metadata(path).is_ok_and(|m| m.len() == HEADER_SIZE as u64);
     let (_, h) = header_of(path).ok().filter(|_| is_header).ok_or(why)?;
     Ok(Sizes { now: None, at_most: h.tightened_bound() as u64, exactly: None })

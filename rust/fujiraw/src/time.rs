@@ -1,4 +1,4 @@
-//! Moments, written as cameras write them: year:month:day hours:minutes:seconds.
+//! Moments, written as those of cameras are: year-month-day hours:minutes:seconds.
 use std::fs;
 use std::path::Path;
 use std::time::UNIX_EPOCH;
@@ -22,7 +22,7 @@ fn written(seconds: u64) -> String {
         day -= month_length(year, month);
         month += 1;
     }
-    format!("{year:04}:{month:02}:{:02} {:02}:{:02}:{:02}", day + 1, rest / 3600, rest / 60 % 60, rest % 60)
+    format!("{year:04}-{month:02}-{:02} {:02}:{:02}:{:02}", day + 1, rest / 3600, rest / 60 % 60, rest % 60)
 }
 
 fn is_leap(year: u64) -> bool {
@@ -49,10 +49,10 @@ mod tests {
     #[test]
     fn moments_that_others_name() {
         // `date -u -d @N`
-        assert_eq!(written(0), "1970:01:01 00:00:00");
-        assert_eq!(written(951_782_399), "2000:02:28 23:59:59");
-        assert_eq!(written(951_782_400), "2000:02:29 00:00:00");
-        assert_eq!(written(1_794_957_045), "2026:11:17 23:10:45");
-        assert_eq!(written(4_107_542_400), "2100:03:01 00:00:00");
+        assert_eq!(written(0), "1970-01-01 00:00:00");
+        assert_eq!(written(951_782_399), "2000-02-28 23:59:59");
+        assert_eq!(written(951_782_400), "2000-02-29 00:00:00");
+        assert_eq!(written(1_794_957_045), "2026-11-17 23:10:45");
+        assert_eq!(written(4_107_542_400), "2100-03-01 00:00:00");
     }
 }

@@ -141,7 +141,7 @@ fn info_shows_the_camera_and_warns() {
     let said = f.works("info a.raf");
     let start = file.len() - stream.len();
     let wanted = format!(
-        "a.raf: {} bytes\n  camera file (RAF), X-Test, taken 2026:11:17 09:30:00\n  raw picture 960 x 30\n  crop 936 x 24 at column 12, row 6\n  \
+        "a.raf: {} bytes\n  camera file (RAF), X-Test, taken 2026-11-17 09:30:00\n  raw picture 960 x 30\n  crop 936 x 24 at column 12, row 6\n  \
          stream at byte {start}, {} bytes\n  X-Trans, lossless, 14 bits, 960 x 30 samples\n",
         file.len(),
         stream.len()

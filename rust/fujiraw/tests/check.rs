@@ -97,7 +97,7 @@ fn true_bits_and_long_codes_of_every_sheet() {
                   \"long_codes\":29,\"why\":null}]}\n";
     assert_eq!(f.works("check --json whole.fcs"), object);
     f.put("a.raf", &raf(&whole, &Camera::default()));
-    assert!(f.works("check --json a.raf").contains("\"model\":\"X-Test\",\"taken\":\"2026:11:17 09:30:00\",\"lines\":2,\"bits\":135865,"));
+    assert!(f.works("check --json a.raf").contains("\"model\":\"X-Test\",\"taken\":\"2026-11-17 09:30:00\",\"lines\":2,\"bits\":135865,"));
     let (code, failed) = said(&f, "check --json missing cut.fcs");
     assert_eq!(code, Some(5));
     let lines: Vec<&str> = failed.lines().collect();

@@ -199,7 +199,7 @@ fn lamp_as_rows() {
     for (i, block) in blocks.iter().enumerate() {
         let (bits, long) = (number(block, "bits"), number(block, "long_codes"));
         sums.push((bits, long));
-        assert_eq!(lines[i + 1], format!("\"a,b.raf\",2026:11:17 09:30:00,{i},tight,3,{bits},{},{long}", bits / 3));
+        assert_eq!(lines[i + 1], format!("\"a,b.raf\",2026-11-17 09:30:00,{i},tight,3,{bits},{},{long}", bits / 3));
     }
     // Line by line, and they add up.
     let each = f.works("lamp a,b.raf --csv --lines");

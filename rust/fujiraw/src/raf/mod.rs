@@ -40,7 +40,7 @@ pub struct Raf {
     /// Where the stream lies: as long as the file says, but not past the file's end.
     pub stream: Range<usize>,
     pub model: String,
-    /// When the picture was taken, as the camera wrote it: year:month:day hours:minutes:seconds.
+    /// When the picture was taken, by the camera's clock: year-month-day hours:minutes:seconds.
     pub taken: Option<String>,
     /// The raw picture's size by the directory of metadata.
     pub raw_size: Option<Size>,
@@ -184,10 +184,12 @@ fn taken(file: &[u8]) -> Option<String> {
     let first = tiff.directory(tiff.first()?)?;
     let exif = |d: &Directory| tiff.directory(tiff.number(d.find(0x8769)?)?);
     let original = exif(&first).and_then(|d| tiff.text(d.find(0x9003)?));
-    original.or_else(|| tiff.text(first.find(0x0132)?)).filter(|t| is_date(t))
+    let text = original.or_else(|| tiff.text(first.find(0x0132)?)).filter(|t| is_date(t))?;
+    // Other programs read a date with dashes.
+    Some(text.replacen(':', "-", 2))
 }
 
-/// 2026:11:17 23:10:05, digits and signs in their places.
+/// 2026:11:17 23:10:05, digits and signs in their places, as cameras write it.
 fn is_date(text: &str) -> bool {
     let like = |(a, b): (u8, u8)| if b == b'0' { a.is_ascii_digit() } else { a == b };
     text.len() == 19 && text.bytes().zip(*b"0000:00:00 00:00:00").all(like)
