@@ -122,8 +122,8 @@ fn in_parts(t: Taken) -> Taken
     Taken::Read(value, at, tight, long)
 }
 
-// What is taken of a sample's code: at once where it is short and tight, and else by the slow reader, which is asked for the raw bits too. It is called in
-// two ways that differ: with one LLVM takes it in here, and then this is too large to be taken into the loop.
+// What is taken of a sample's code: at once where it is short and tight, and else by the slow reader, which is asked for the raw bits too.
+// INLINING: the slow reader has two calls that differ. With one LLVM inlines it here, and this is then too large for the loop.
 pub fn taken(block: &[u8], at: BitPosition, tight: bool, long: u64, c: Coding, bits: u32) -> Taken
     requires { ⌜ (length (now block) < 2 ^ 32) × ((c .k ≤ 15) × ((c .limit < 64) × RawFits bits (c .limit))) ⌝ }
     requires { ⌜ long ≤ at .0 ⌝ }
