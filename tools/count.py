@@ -1,7 +1,7 @@
 #!/usr/bin/env python3
 """Counts the machine instructions that decoding, writing or measuring takes for each code, and its conditional branches that go both ways. README.md says how.
 
-usage: tools/count.py [--noise N,N..] [--kinds KIND,KIND..] [--lines N] [--side ours|windowed|rust|write|exact|measure] [--lines-only] [--branches]
+usage: tools/count.py [--noise N,N..] [--kinds KIND,KIND..] [--lines N] [--side ours|windowed|rust|write|exact|measure|set|tighten] [--lines-only] [--branches]
 """
 import argparse
 import os
@@ -20,6 +20,8 @@ COUNTED = {
     "write": "fuji_write_*",
     "exact": "fuji_write_*",
     "measure": "fuji_measure_block",
+    "set": "fuji_read_set",
+    "tighten": "fuji_tighten",
 }
 CODES_A_LINE = 4608
 # A branch is shown if it is met in so many codes, and if its rarer way is taken so often.

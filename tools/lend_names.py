@@ -415,6 +415,8 @@ def lets(decls):
             for i, j in brackets(body, r"\{ before = [\w']+; "):
                 r = "record " + body[i:j + 1]
                 f = re.match(r"record \{ before = [\w']+; ([\w·-]+) = (?:record \{ ([\w·-]+) = )?", r)
+                if not f:
+                    continue
                 of = by_field.get((f[1], f[2]), [])
                 is_said = body.count(r) > 1 or body[:i].endswith("before = record ")
                 is_last = re.search(r"(?<![\w'])" + re.escape(m[1]) + r"(?![\w'])", r) and not free(r, m[1], body[:i])

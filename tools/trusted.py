@@ -6,8 +6,8 @@
   trusted.py ENTRY      lists what one public entry rests on, as CRATE::FUNCTION
 
 Public entries are those of tools/entries.txt and every function for C. Each file of specs/ says in its first words what it holds: 'Rules.' (of the format), 'Promises.'
-(of public entries and theorems) or 'Inside.' (what only our own functions say). The tool fails if a promise rests on a definition of the third kind, if a rule is
-reached by no promise, or if an entry has a `requires`."""
+(of public entries and theorems) or 'Inside.' (what only our own functions say). The tool fails if a promise rests on a definition of the third kind, if nothing
+that is promised rests on one of the other kinds, or if an entry has a `requires`."""
 import os
 import re
 import sys
@@ -97,8 +97,8 @@ def faults(specs, roots, believed, functions, public):
         seen.add(path)
         if kind == "Inside." and key in believed:
             yield f"{path}: {key[2]} is of the third kind, and a promise rests on it"
-        if kind == "Rules." and key not in believed:
-            yield f"{path}: no promise rests on {key[2]}"
+        if kind in ("Rules.", "Promises.") and key not in believed:
+            yield f"{path}: no entry's contract and no theorem rests on {key[2]}"
 
 
 def text_of(d):
@@ -166,7 +166,7 @@ def main():
             print(f"{k[0]} {k[1]} {k[2]}")
         print(f"{len(under)} definitions, {lines_of(under, specs, types)} lines")
         return
-    roots = set().union(*(functions[k].names for k in public)) | {k for k in specs if kind_of(path_of(k)) == "Promises."}
+    roots = set().union(*(functions[k].names for k in public)) | {d.key for d, _ in statements(specs, crates)}
     believed = D.reached(roots, specs, types)
     wrong = list(faults(specs, roots, believed, functions, public))
     for w in wrong:

@@ -23,7 +23,7 @@ use Rattle.image_region.specs.declared.Checked.the-variants as Check
 use Rattle.image_region.proofs.CheckLaws.{accepted}
 use Rattle.admission.specs.Beginnings.{samplesNeeded, recordsNeeded, isShortScratch, withScratch, begun, withRegion, withStream, regionBegins}
 use Rattle.admission.specs.Beginnings.{wholeOf, isWhole, withPicture, imageBegins, withOpened, blockBegins}
-use Rattle.admission.specs.Inside.{ScratchFits}
+use Rattle.admission.specs.Beginnings.{ScratchFits}
 use Rattle.admission.specs.declared.Beginning.the-variants.{Refused, Reading}
 
 -- ---- scratch is long enough

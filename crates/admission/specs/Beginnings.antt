@@ -2,7 +2,7 @@
 -- numbers. Assumes nothing.
 use mathlib.Core.Bool.{Bool, true, false, cond, not, _&&_, _||_}
 use mathlib.Core.List.{List}
-use Prim.Native.Nat.{ℕ, _+_, _*_}
+use Prim.Native.Nat.{ℕ, _+_, _*_, _≤_}
 use lib.Dec.{ltb, eqb}
 use Rattle.image_map.specs.Places.{widthOf}
 use Rattle.stream.specs.declared.header.FujiHeader.{FujiHeader}
@@ -103,3 +103,7 @@ abbrev pub tightBegins : List ℕ → ℕ → ℕ → ℕ → Parsed
 tightBegins d b samples records = blockBegins true d b samples records
 
 -- ---- what holds where scratch is long enough
+
+pub record ScratchFits (h : FujiHeader) (samples records : ℕ) : Type 0 where
+  pub for-lines : samplesNeeded (h .xtrans) ≤ samples
+  pub for-records : recordsNeeded ≤ records

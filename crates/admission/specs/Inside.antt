@@ -1,17 +1,13 @@
 -- Inside. What only our own functions say.
-use Prim.Native.Nat.{ℕ, _≤_}
+use Prim.Native.Nat.{ℕ}
 use Rattle.image_map.specs.Places.{widthOf}
 use Rattle.stream.specs.declared.header.FujiHeader.{FujiHeader}
 use Rattle.stream.specs.declared.header.Parsed.{Parsed}
 use Rattle.stream.specs.declared.header.Parsed.the-variants as Parsing
-use Rattle.admission.specs.Beginnings.{samplesNeeded, recordsNeeded}
 use mathlib.Core.Path.{_≡_}
 use Rattle.colour_lines.specs.Sets.{setSize}
 use Rattle.stream.specs.Inside.{Ruled}
-
-pub record ScratchFits (h : FujiHeader) (samples records : ℕ) : Type 0 where
-  pub for-lines : samplesNeeded (h .xtrans) ≤ samples
-  pub for-records : recordsNeeded ≤ records
+use Rattle.admission.specs.Beginnings.{ScratchFits}
 
 pub record SetFits (h : FujiHeader) (count samples records : ℕ) : Type 0 where
   pub is-ruled : Ruled h

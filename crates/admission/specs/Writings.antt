@@ -48,5 +48,3 @@ withLossy (Parsing.Header h) bases count samples records = withBases h bases cou
 
 unfoldable pub lossyBegins : List ℕ → ℕ → ℕ → ℕ → ℕ → Parsed
 lossyBegins d bases count samples records = withLossy (parseOf d) bases count samples records
-
--- ---- what holds where a set is written

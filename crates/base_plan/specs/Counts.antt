@@ -7,5 +7,3 @@ use lib.Dec.{leb, eqb}
 abbrev pub isAmiss : Bool → ℕ → Bool
 isAmiss true count = leb 2 count
 isAmiss false count = eqb count 0
-
--- ---- lines with which records begin, and lines after their last, counted

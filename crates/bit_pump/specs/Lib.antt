@@ -1,2 +1,3 @@
 -- The definitions of the pump.
 pub mod Pump
+pub mod Inside

@@ -9,7 +9,8 @@ use native.Mathlib.Omega.{arith}
 use lib.Dec.{lit≤, leb}
 use lib.ListN.{length, getD, List·getD-eq-default}
 use lib.Pow.{pow-add, shr-shr, shl-shr, shl-lt, low, high}
-use Rattle.bits.specs.Bits.{bitAt, bitsAt, topBits, wordAt, be32}
+use Rattle.bits.specs.Bits.{bitAt, bitsAt, be32}
+use Rattle.bits.specs.Inside.{topBits, wordAt}
 
 -- a bit is 0 or 1
 pub bitAt-lt : (s : List ℕ) (i : ℕ) → bitAt s i < 2

@@ -13,7 +13,8 @@ use lib.Dec.{ltb}
 use lib.ListN.{length}
 use lib.Pow.{pow-pos, pow-add, pow-mono, shl-lt}
 use borrow.Author.Tests.{lt-ltb, le-ltb, ltb-true, ltb-false}
-use Rattle.bits.specs.Bits.{bitAt, bitsAt, topBits, zeros, zeroRun}
+use Rattle.bits.specs.Bits.{bitAt, bitsAt, zeros, zeroRun}
+use Rattle.bits.specs.Inside.{topBits}
 use Rattle.bits.specs.declared.ZeroRun.the-variants.{One, None}
 use Rattle.bits.proofs.BitLaws.{bitAt-lt, bitsAt-lt, bitsAt-split, bitsAt-none, bitsAt-one, bitsAt-first, bitAt-past}
 

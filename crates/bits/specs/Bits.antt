@@ -3,7 +3,7 @@ use mathlib.Core.Bool.{cond}
 use mathlib.Core.List.{List}
 use Prim.Native.Nat.{ℕ, zero, suc, _+_, _-_, _*_, _/_, _%_, _^_}
 use lib.Count.{under}
-use lib.Dec.{leb, ltb}
+use lib.Dec.{ltb}
 use lib.ListN.{length, getD}
 use Rattle.bits.specs.declared.ZeroRun.{ZeroRun}
 use Rattle.bits.specs.declared.ZeroRun.the-variants.{One, None}
@@ -16,14 +16,6 @@ bitAt s i = getD s (i / 8) 0 / 2 ^ (7 - i % 8) % 2
 unfoldable pub bitsAt : List ℕ → ℕ → ℕ → ℕ
 bitsAt s p zero = zero
 bitsAt s p (suc n) = bitsAt s p n * 2 + bitAt s (p + n)
-
--- the bits from p on at the top of a word of 64: those up to the end of the eighth byte from p's own on, and zeros below
-abbrev pub topBits : List ℕ → ℕ → ℕ
-topBits s p = bitsAt s p (64 - p % 8) * 2 ^ (p % 8)
-
--- the same where those eight bytes are all there, and 0 elsewhere
-unfoldable pub wordAt : List ℕ → ℕ → ℕ
-wordAt s p = cond (leb (p / 8 + 8) (length s)) (topBits s p) 0
 
 -- how many of the n bits from p on stand before the first one bit: n where there is none (`under b m` is 0 where b is 1, and m + 1 where it is 0)
 unfoldable pub zeros : List ℕ → ℕ → ℕ → ℕ

@@ -14,7 +14,7 @@ use Rattle.bits.proofs.BitLaws.{bitsAt-lt}
 use Rattle.bits.proofs.RunLaws.{run-inside}
 use Rattle.numbers.proofs.OrderLaws.{split}
 use Rattle.code.specs.Codes.{shortCode, longCode, codeAt}
-use Rattle.code.specs.UsedBits.{Counts}
+use Rattle.code.specs.UsedBits.{Counts, CodesCounted}
 use Rattle.code.specs.Inside.{Bounds}
 use Rattle.code.specs.declared.Code.{Code}
 use Rattle.code.specs.declared.Coded.the-variants.{Read, Truncated}
@@ -87,6 +87,10 @@ module _ (s : List ℕ) (p k limit raw : ℕ) where
       shape-long : (z : ℕ) → zeroRun s p ≡ One z → limit ≤ z → Shape (longCode s p k limit raw z)
       shape-long z r h =
           record { inside = omega (arith, run-inside s p z r); some-bits = omega arith; counts = record { bits = omega arith; long = sym (le-leb limit z h) } }
+
+-- every code that is read is counted by its bits and its zeros
+pub codes-counted : CodesCounted
+codes-counted s p k limit raw c e = (code-shape s p k limit raw c e) .counts
 
 -- a count of zeros below the limit, shifted, loses nothing
 pub shifted : (z k : ℕ) → z < 64 → k ≤ 15 → (z * 2 ^ k) % 2 ^ 32 ≡ z * 2 ^ k

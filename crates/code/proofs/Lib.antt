@@ -4,3 +4,5 @@ pub mod TightLaws
 -- Laws about codes and samples, for its own proofs and for those of the crates above.
 pub mod SampleLaws
 pub mod NearLaws
+pub mod MovedLaws
+pub mod ChoiceLaws

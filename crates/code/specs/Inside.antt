@@ -16,7 +16,7 @@ use Rattle.code.specs.declared.reasons.Verdict.{Verdict}
 use Rattle.code.specs.declared.reasons.Verdict.the-variants.{Good, Bad}
 use Rattle.numbers.specs.declared.Signed.{Signed}
 use lib.Count.{leadingZeros}
-use Rattle.bits.specs.Bits.{wordAt}
+use Rattle.bits.specs.Inside.{wordAt}
 use Rattle.numbers.specs.Numbers.{flag}
 use Rattle.code.specs.declared.Short.{Short}
 use Rattle.code.specs.declared.Short.the-variants as Brief

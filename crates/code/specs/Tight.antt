@@ -19,5 +19,3 @@ codeBits k limit raw code =
 -- whether a code that was read is tight: below 2^bits, and minimal
 unfoldable pub isTight : ℕ → Code → Bool
 isTight M c = leb (c .value) M && c .minimal
-
--- ---- what a pass takes of a code

@@ -18,8 +18,10 @@ pub use reasons::Verdict;
 pub use reasons::verdict_of;
 pub use samples::choice;
 pub use samples::code_near;
+pub use samples::moved;
 pub use samples::residual_size;
 pub use samples::sample;
+pub use samples::wrap;
 
 // A code that was read: the zeros before its one bit, its value, whether it has no bit that it could do without, whether it is long, how many
 // bits it used, and the position after it.

@@ -47,7 +47,7 @@ pub fn residual_size(code: u32) -> u32
 }
 
 // a - b, wrapped around once where it lies outside of -q..m + q, and clamped to 0..m.
-fn wrap(m: u32, q: u32, span: u32, a: u32, b: u32) -> u32
+pub fn wrap(m: u32, q: u32, span: u32, a: u32, b: u32) -> u32
     requires { ⌜ (m < 2 ^ 16) × ((q < 256) × ((span < 2 ^ 30) × ((a < 2 ^ 30) × (b < 2 ^ 30)))) ⌝ }
     ensures { λ r. ⌜ (r ≡ wrap m q span a b) × (r ≤ m) ⌝ }
 {
@@ -61,7 +61,7 @@ fn wrap(m: u32, q: u32, span: u32, a: u32, b: u32) -> u32
 }
 
 // p - d or p + d; below 0 it wraps to a number that is larger than any sample.
-fn moved(minus: bool, p: u32, d: u32) -> u32
+pub fn moved(minus: bool, p: u32, d: u32) -> u32
     requires { ⌜ (p < 2 ^ 16) × (d < 2 ^ 30) ⌝ }
     ensures { λ r. ⌜ Moved minus p d r ⌝ }
 {

@@ -10,7 +10,8 @@ use native.Mathlib.Omega.{arith}
 use lib.Count.{leadingZeros}
 use lib.Dec.{leb, ltb}
 use lib.Pow.{pow-mono, shl-lt}
-use Rattle.bits.specs.Bits.{bitsAt, topBits, wordAt, zeroRun}
+use Rattle.bits.specs.Bits.{bitsAt, zeroRun}
+use Rattle.bits.specs.Inside.{topBits, wordAt}
 use Rattle.bits.specs.declared.BitPosition.{BitPosition}
 use Rattle.bits.specs.declared.ZeroRun.the-variants.{One}
 use Rattle.bits.proofs.BitLaws.{bitsAt-lt, bitsAt-top, word-bits}

@@ -3,7 +3,7 @@
 ghost use mathlib.Core.Path.{_≡_};
 ghost use Prim.Native.Nat.{_^_, _≤_, _<_};
 ghost use lib.ListN.{length};
-ghost use Rattle.bits.specs.Bits.{wordAt};
+ghost use Rattle.bits.specs.Inside.{wordAt};
 ghost use Rattle.code.specs.Codes.{codeAt};
 ghost use Rattle.code.specs.Inside.{Bounds, Small};
 ghost use Rattle.code.specs.Inside.{takenOf, shortAt};

@@ -27,5 +27,3 @@ moved W from to lines = paste lines (to * (W + 2)) (drop (from * (W + 2)) lines)
 unfoldable pub turned : ℕ → List ℕ → List ℕ
 turned W lines =
     moved W 17 14 (moved W 16 13 (moved W 12 6 (moved W 11 5 (moved W 4 1 (moved W 3 0 lines)))))
-
--- ---- windows: of each colour only the last three lines are kept, one after the other

@@ -54,5 +54,3 @@ spanOf r = record { first = firstBlock r; last = lastBlock r; lines = lineCount 
 
 unfoldable pub checkedOf : FujiHeader → Rect → ℕ → Checked
 checkedOf h r n = cond (isOutside h r n) (Refused OutsideImage) (cond (isEmpty r) Empty (Touched (spanOf r)))
-
--- ---- where a block's samples go

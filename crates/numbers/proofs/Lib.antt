@@ -3,3 +3,4 @@ pub mod OrderLaws
 pub mod LeastLaws
 pub mod BoolLaws
 pub mod FillLaws
+pub mod TableLaws

@@ -1,10 +1,9 @@
 -- What the coding of a sample goes by: which quantiser is chosen, and that its record is one of 56. Assumes nothing.
 use mathlib.Core.Bool.{Bool, true, false, _&&_, and-false, false≢true}
-use mathlib.Core.Path.{_≡_, refl, sym, _∙_}
-use Prim.Native.Nat.{ℕ, zero, suc, _+_, _-_, _*_, _≤_, _<_, min}
+use mathlib.Core.Path.{_≡_, refl}
+use Prim.Native.Nat.{ℕ, suc, _+_, _-_, _*_, _≤_, _<_}
 use native.Mathlib.Omega.{arith}
 use lib.Dec.{leb, lit<}
-use lib.ListN.{getD}
 use borrow.Author.Tests.{leb-true, lt-leb, ne-eqb}
 use Rattle.quantiser.specs.Inside.{Serves}
 use Rattle.quantiser.specs.Quantisers.{gradientOf}
@@ -13,9 +12,7 @@ use Rattle.quantiser.proofs.GradientLaws.{main-le, flat-le}
 use Rattle.prediction.specs.Predictions.{flatnessOf}
 use Rattle.prediction.specs.declared.Context.{Context}
 use Rattle.code.specs.Samples.{choiceOf}
-use Rattle.numbers.proofs.OrderLaws.{split}
 use Rattle.pass_steps.specs.Contexts.{usedBase, lookOf}
-use Rattle.pass_steps.specs.Values.{choicesOf}
 use Rattle.pass_steps.specs.declared.Look.{Look}
 
 either {ℓ} : {X : Type ℓ} (t : Bool) → (t ≡ true → X) → (t ≡ false → X) → X
@@ -38,28 +35,10 @@ choice-cases q f main flat =
     (λ c. flat 2 (rw (a, b, c)) (lit< tt) (leb-true f 7 (second (leb 3 q) (leb f 7) c)))
     (λ c. main (rw (a, b, c)))))
 
--- the choices for flatness 0 to 8, as they are listed; for more nothing else is chosen
-listed : (q f : ℕ) → f < 9 → getD (choicesOf q) f 0 ≡ choiceOf q f
-listed q zero h = refl
-listed q (suc zero) h = refl
-listed q (suc (suc zero)) h = refl
-listed q (suc (suc (suc zero))) h = refl
-listed q (suc (suc (suc (suc zero)))) h = refl
-listed q (suc (suc (suc (suc (suc zero))))) h = refl
-listed q (suc (suc (suc (suc (suc (suc zero)))))) h = refl
-listed q (suc (suc (suc (suc (suc (suc (suc zero))))))) h = refl
-listed q (suc (suc (suc (suc (suc (suc (suc (suc zero)))))))) h = refl
-listed q (suc (suc (suc (suc (suc (suc (suc (suc (suc f))))))))) h = absurd (omega arith)
-
-no-flat : (q f : ℕ) → 8 ≤ f → choiceOf q f ≡ 0
+-- from flatness 8 on none is flat
+pub no-flat : (q f : ℕ) → 8 ≤ f → choiceOf q f ≡ 0
 unfolding choiceOf
 no-flat q f h = rw (lt-leb f 5 (omega arith), lt-leb f 6 (omega arith), lt-leb f 7 h, and-false (leb 1 q), and-false (leb 2 q), and-false (leb 3 q))
-
-pub choice-listed : (q f : ℕ) → getD (choicesOf q) (min 8 f) 0 ≡ choiceOf q f
-choice-listed q f =
-    split 8 f
-    (λ le. let m : min 8 f ≡ 8 = omega arith in rw m (no-flat q 8 (omega arith) ∙ sym (no-flat q f le)))
-    (λ lt. let m : min 8 f ≡ f = omega arith in rw m (listed q f (omega arith)))
 
 -- so the record is one of 56
 pub place-lt : (q : ℕ) (x : Context) → (lookOf q x) .place < 56

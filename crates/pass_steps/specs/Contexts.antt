@@ -1,7 +1,7 @@
 -- Rules. What reading and writing share: the context of a sample, the quantiser and the record that it is coded by, and these for a step.
 use mathlib.Core.Bool.{cond}
 use mathlib.Core.List.{List}
-use Prim.Native.Nat.{ℕ, _+_, _-_, _*_, _%_}
+use Prim.Native.Nat.{ℕ, _+_, _-_, _*_, _%_, _≤_}
 use lib.Dec.{eqb}
 use lib.ListN.{getD}
 use Rattle.statistics.specs.declared.Record.{Record}
@@ -93,3 +93,7 @@ stepLook q W x lines = lookOf q (stepContext W x lines)
 
 abbrev pub stepSlot : ℕ → ℕ → Step → List ℕ → ℕ
 stepSlot q W x lines = slotOf (x .position) ((stepLook q W x lines) .place)
+
+-- the depths of the format lie in this range
+abbrev pub Depth : ℕ → Type 0
+Depth bits = (12 ≤ bits) × (bits ≤ 16)

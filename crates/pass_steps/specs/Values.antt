@@ -2,7 +2,7 @@
 use mathlib.Core.Bool.{cond}
 use mathlib.Core.List.{List, [], _∷_}
 use mathlib.Core.Path.{_≡_}
-use Prim.Native.Nat.{ℕ, _+_, _-_, _*_, _%_, _≤_, _<_}
+use Prim.Native.Nat.{ℕ, _+_, _-_, _*_, _%_, _<_}
 use lib.Dec.{eqb}
 use lib.ListN.{length, getD}
 use Rattle.statistics.specs.Statistics.{kOf}
@@ -10,7 +10,6 @@ use Rattle.statistics.specs.Inside.{InRange}
 use Rattle.statistics.specs.declared.Record.{Record}
 use Rattle.prediction.specs.Predictions.{evenContext, oddContext}
 use Rattle.prediction.specs.declared.Context.{Context}
-use Rattle.code.specs.Samples.{choiceOf}
 use Rattle.pass_steps.specs.Contexts.{usedQuantiser, noRecord}
 use Rattle.pass_steps.specs.declared.Set.{Set}
 use Rattle.pass_steps.specs.declared.Quantisers.{Quantisers}
@@ -52,15 +51,6 @@ pub record AreQuantisers (bits q : ℕ) (totals raws limits : List ℕ) : Type 0
   pub total : totals ≡ (quantisersOf bits q) .totals
   pub raw : raws ≡ (quantisersOf bits q) .raws
   pub limit : limits ≡ (quantisersOf bits q) .limits
-
--- what a line with base q chooses for flatness 0 to 8, as a pass of reading keeps it; for more it is what it is for 8
-abbrev pub choicesOf : ℕ → List ℕ
-choicesOf q =
-    choiceOf q 0 ∷ choiceOf q 1 ∷ choiceOf q 2 ∷ choiceOf q 3 ∷ choiceOf q 4 ∷ choiceOf q 5 ∷ choiceOf q 6 ∷ choiceOf q 7 ∷ choiceOf q 8 ∷ []
-
--- the depths of the format lie in this range
-abbrev pub Depth : ℕ → Type 0
-Depth bits = (12 ≤ bits) × (bits ≤ 16)
 
 -- the context of the sample after place i, at position p, as the program finds it: in lines that are S apart
 unfoldable pub evenAt : List ℕ → ℕ → ℕ → Context

@@ -8,7 +8,7 @@ ghost use Rattle.prediction.specs.Inside.{ContextRanges};
 ghost use Rattle.prediction.specs.Predictions.{flatnessOf};
 ghost use Rattle.code.specs.Samples.{residualOf, choiceOf};
 ghost use Rattle.pass_steps.specs.Contexts.{usedBase, usedWeight, placeOf, lookOf, slotOf, noRecord};
-ghost use Rattle.pass_steps.specs.Values.{zipRecords, SetInRange, AreKs, choicesOf, evenAt, oddAt, contextAt};
+ghost use Rattle.pass_steps.specs.Values.{zipRecords, SetInRange, AreKs, evenAt, oddAt, contextAt};
 use numbers::u16_to_u32;
 use pass_schedule::Plan;
 use prediction::Context;
@@ -152,42 +152,6 @@ pub fn look_of(base: u32, x: Context) -> Look
         return lossless_look(x);
     }
     look_with(base, code::choice(base, x.flatness()), x)
-}
-
-// The quantisers that a line with that base chooses for flatness 0 to 7, and from 8 on.
-pub fn choices_of(base: u32) -> [u32; 9]
-    ensures { λ r. ⌜ r ≡ choicesOf base ⌝ }
-{
-    [
-        code::choice(base, 0),
-        code::choice(base, 1),
-        code::choice(base, 2),
-        code::choice(base, 3),
-        code::choice(base, 4),
-        code::choice(base, 5),
-        code::choice(base, 6),
-        code::choice(base, 7),
-        code::choice(base, 8),
-    ]
-}
-
-// The quantiser for a flatness, by them. Reading has one to choose for each code, and a list of nine is shorter than three tests.
-fn choice_by(base: u32, choices: &[u32; 9], flatness: u32) -> u32
-    requires { ⌜ now choices ≡ choicesOf base ⌝ }
-    ensures { λ r. ⌜ (r ≡ choiceOf base flatness) × (r ≤ 3) ⌝ }
-{
-    choices[numbers::smaller(8, flatness) as usize]
-}
-
-// `look_of` for whoever has the choices of the line's base at hand.
-pub fn look_by(base: u32, choices: &[u32; 9], x: Context) -> Look
-    requires { ⌜ (base < 256) × ((now choices ≡ choicesOf base) × ContextRanges x) ⌝ }
-    ensures { λ r. ⌜ (r ≡ lookOf base x) × ((r .choice ≤ 3) × ((r .base < 256) × (r .place < 56))) ⌝ }
-{
-    if base == 0 {
-        return lossless_look(x);
-    }
-    look_with(base, choice_by(base, choices, x.flatness()), x)
 }
 
 // Where the record of a sample at position p is in its set, if it is at that place among the 56 of its parity.

@@ -66,7 +66,7 @@ flat-le q first second h =
     gradient-le q 3 1 first second (level-small q (first .size) (omega arith)) (level-small q (second .size) (omega arith))
 
 -- both sides of a difference moved by the same amount
-minus-moved : (x c u d : ℕ) → x + d ≡ c + u → minus x c ≡ minus u d
+pub minus-moved : (x c u d : ℕ) → x + d ≡ c + u → minus x c ≡ minus u d
 minus-moved x c u d e =
     split c x
     (λ h. rw (le-ltb x c h, le-ltb u d (omega arith)) (ap (λ (n : ℕ). signed false n) (omega arith)))

@@ -130,7 +130,7 @@ fn level_size(t: Thresholds, m: u32) -> u32
 }
 
 // The level of a difference, plus 4, so that it is not negative.
-fn raised_level(t: Thresholds, v: Signed) -> u32
+pub fn raised_level(t: Thresholds, v: Signed) -> u32
     requires { ⌜ (t .base < 256) × Serves t (v .size) ⌝ }
     ensures { λ r. ⌜ (r + down (levelOf (t .base) v) ≡ 4 + up (levelOf (t .base) v)) × (r ≤ 8) ⌝ }
 {

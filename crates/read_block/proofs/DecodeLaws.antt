@@ -23,7 +23,8 @@ use Rattle.image_region.proofs.RegionLaws.{InColumns, one-block, lines-cover, r
 use Rattle.read_block.specs.Blocks.{State, runs, readLineAt, startState, readLines}
 use Rattle.read_block.specs.Walks.{shownSample, Shown, shownLines, IsWalked}
 use Rattle.read_block.specs.Images.{formOf, bytesIn, basesIn, isRead, linesRead, readIn, lineOf, isDecoded, pictureSample, decodedSample, orElse}
-use Rattle.read_block.specs.Images.{walkedAnswer, blockAnswer, answerOf, Pictured}
+use Rattle.read_block.specs.Inside.{walkedAnswer}
+use Rattle.read_block.specs.Images.{blockAnswer, answerOf, Pictured}
 use Rattle.read_block.specs.Sharing.{isBefore}
 use Rattle.read_block.specs.WindowedImages.{isReached, reachedSample}
 use Rattle.read_block.specs.WindowedLines.{reachedLines, ShownIn, PicturedIn}

@@ -9,7 +9,7 @@ use lib.ListN.{replicate, drop}
 use Rattle.statistics.specs.declared.Record.{Record}
 use Rattle.colour_lines.specs.ColourLines.{zeroLines}
 use Rattle.image_map.specs.Places.{widthOf}
-use Rattle.pass_steps.specs.Values.{Depth}
+use Rattle.pass_steps.specs.Contexts.{Depth}
 use Rattle.stream.specs.Inside.{Ruled}
 use Rattle.stream.specs.declared.header.FujiHeader.{FujiHeader}
 use Rattle.stream.specs.declared.header.Parsed.{Parsed}

@@ -21,7 +21,7 @@ use Rattle.image_map.proofs.PartLaws.{by-test}
 use Rattle.pass_schedule.specs.Inside.{PlanInRange}
 use Rattle.pass_steps.specs.Values.{recordsOf}
 use Rattle.read_pass.specs.Readings.{Reading, readPass, andThen}
-use Rattle.read_pass.specs.Pairs.{readingAt, begun, IsPassed}
+use Rattle.read_pass.specs.Pairs.{readingAt, begun, Apart, IsPassed}
 use Rattle.read_pass.specs.Windows.{windowLine, placed, windowPlan}
 use Rattle.pass_schedule.specs.Steps.{planOf}
 use Rattle.read_pass.specs.declared.Passed.{Passed}
@@ -74,6 +74,16 @@ planned-in true xtrans i P Q W n h eP eQ eW en = rw (eQ, en, ← eW) (small (win
           mul-le-mul-right (W + 2) (lit≤ tt),
           mul-le-mul-right (W + 2) (lit≤ tt),
         ))
+
+-- and they are apart
+pub planned-apart : (windowed xtrans : Bool) (i : ℕ) (P Q : Plan) → i < 6 → P ≡ planOf xtrans i → Q ≡ windowPlan windowed P → Apart Q
+unfolding windowPlan
+planned-apart windowed xtrans i P Q h eP eQ = rw eQ (go windowed (rw eP (two-lines xtrans i h)))
+  where
+    go : (b : Bool) → Two P i → Apart (windowPlan b P)
+    go true T =
+        by-test (eqb (i % 2) 0) (λ t. rw (T .first-window, T .second-window, t) (lit≤ tt)) (λ t. rw (T .first-window, T .second-window, t) (lit≤ tt))
+    go false T = by-test (eqb (i % 2) 0) (λ t. rw (T .first, T .second, t) (omega arith)) (λ t. rw (T .first, T .second, t) (omega arith))
 
 -- the width, named otherwise
 pub long-as : (W U : ℕ) (l : List ℕ) → W ≡ U → length l ≡ 18 * (U + 2) → length l ≡ 18 * (W + 2)

@@ -21,7 +21,8 @@ use Rattle.cameras.specs.Entries.{linesWithEntry, afterLines, takingLines, isSt
 use Rattle.cameras.specs.declared.Camera.{Camera}
 use Rattle.cameras.specs.declared.Entry.{Entry}
 use Rattle.read_block.specs.Walks.{Shown, shownLines, IsWalked}
-use Rattle.read_block.specs.Images.{formOf, basesIn, bytesIn, linesRead, readIn, decodedSample, orElse, walkedAnswer, answerOf, Pictured}
+use Rattle.read_block.specs.Images.{formOf, basesIn, bytesIn, linesRead, readIn, decodedSample, orElse, answerOf, Pictured}
+use Rattle.read_block.specs.Inside.{walkedAnswer}
 use Rattle.read_block.specs.Sharing.{entryLines, blockEntries, stopsIn, blockCount, entriesAfter, blocksBefore, isOut, outLine, sharedAnswer, lastEntries, isBefore}
 use Rattle.read_block.specs.Sharing.{isShared, PicturedShared}
 use Rattle.read_block.specs.declared.Decoded.{Decoded}

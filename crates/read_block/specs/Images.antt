@@ -18,8 +18,6 @@ use Rattle.admission.specs.declared.Beginning.the-variants as Begin
 use Rattle.read_block.specs.Lent.{Buffers, clearedLines, clearedRecords}
 use Rattle.read_block.specs.Blocks.{State, readLines, linesOf}
 use Rattle.read_block.specs.declared.Form.{Form}
-use Rattle.read_block.specs.declared.Walked.{Walked}
-use Rattle.read_block.specs.declared.Walked.the-variants as Walk
 use Rattle.read_block.specs.declared.Decoded.{Decoded}
 use Rattle.read_block.specs.declared.Decoded.the-variants.{Done, Refused}
 
@@ -79,11 +77,6 @@ Pictured d h r tile e before after = Changed (isDecoded d h r e) (decodedSample 
 abbrev pub orElse : Decoded → Decoded → Decoded
 orElse Done x = x
 orElse (Refused r) x = Refused r
-
--- what a walk over block b answers
-abbrev pub walkedAnswer : ℕ → Walked → Decoded
-walkedAnswer b (Walk.Read all tight) = Done
-walkedAnswer b (Walk.Truncated line before) = Refused (Truncated b line)
 
 -- what the first n lines of block b give, with the bytes s: refusal 14 with the first truncated line
 abbrev pub blockAnswer : Form → (bases s : List ℕ) → ℕ → ℕ → Decoded

@@ -12,10 +12,13 @@ use Rattle.read_block.specs.Blocks.{State, readLines, totalsIn}
 use mathlib.Core.Path.{_≡_}
 use Rattle.admission.specs.Beginnings.{samplesNeeded, recordsNeeded}
 use Rattle.read_block.specs.Lent.{Scratch, Outputs}
-use Rattle.read_block.specs.Images.{walkedAnswer}
 use Rattle.read_block.specs.declared.Counted.{Counted}
 use Rattle.read_block.specs.declared.Walked.{Walked}
-use Rattle.read_block.specs.Totals.{walkedTotals}
+use Rattle.stream.specs.declared.header.Refusal.the-variants.{Truncated}
+use Rattle.read_block.specs.declared.Walked.the-variants as Walk
+use Rattle.read_block.specs.declared.Decoded.{Decoded}
+use Rattle.read_block.specs.declared.Decoded.the-variants.{Done, Refused}
+use Rattle.line_totals.specs.declared.Totals.{Totals}
 
 abbrev pub isTightState : Option State → Bool
 isTightState none = true
@@ -41,6 +44,16 @@ scratchOf o = record { lines = o .lines; records = o .records }
 -- the part of scratch that a block is read or written with
 abbrev pub ScratchOf : Bool → List ℕ → List Record → Type 0
 ScratchOf xtrans lines records = (length lines ≡ samplesNeeded xtrans) × (length records ≡ recordsNeeded)
+
+-- what a walk over block b says
+abbrev pub walkedTotals : Walked → Totals
+walkedTotals (Walk.Read all tight) = all
+walkedTotals (Walk.Truncated line before) = before
+
+-- what a walk over block b answers
+abbrev pub walkedAnswer : ℕ → Walked → Decoded
+walkedAnswer b (Walk.Read all tight) = Done
+walkedAnswer b (Walk.Truncated line before) = Refused (Truncated b line)
 
 abbrev pub walkedCounted : ℕ → Walked → Counted
 walkedCounted b w = record { answer = walkedAnswer b w; totals = walkedTotals w }

@@ -23,8 +23,6 @@ use Rattle.read_block.specs.declared.Counted.{Counted}
 use Rattle.read_block.specs.declared.Decoded.{Decoded}
 use Rattle.read_block.specs.declared.Decoded.the-variants.{Done, Refused}
 use Rattle.read_block.specs.declared.Form.{Form}
-use Rattle.read_block.specs.declared.Walked.{Walked}
-use Rattle.read_block.specs.declared.Walked.the-variants as Walk
 
 -- ---- the answer for one block
 
@@ -40,11 +38,6 @@ counted F bases s lines answer = record { answer = answer; totals = totalsAfter 
 -- a call that is refused before it reads
 abbrev pub refusedBy : Refusal → Counted
 refusedBy x = record { answer = Refused x; totals = noTotals }
-
--- what a walk over block b says
-abbrev pub walkedTotals : Walked → Totals
-walkedTotals (Walk.Read all tight) = all
-walkedTotals (Walk.Truncated line before) = before
 
 -- ---- the codes of a block
 

@@ -38,7 +38,7 @@ module _ (bits q W : ℕ) (s : List ℕ) (j : ℕ) where
   same-lines : {a : ℕ} (y z : Reading) → some y ≡ some z → getD (y .lines) j 0 ≡ a → getD (z .lines) j 0 ≡ a
   same-lines y z e h = let is : y ≡ z = cc in rw is at h
 
-  step-leaves : (x : Step) (r z : Reading) → j ≢ cell W x → readStep bits q W s x r ≡ some z → getD (z .lines) j 0 ≡ getD (r .lines) j 0
+  pub step-leaves : (x : Step) (r z : Reading) → j ≢ cell W x → readStep bits q W s x r ≡ some z → getD (z .lines) j 0 ≡ getD (r .lines) j 0
   unfolding readStep
   step-leaves x r z ne e = go (x .coded) (stepCode bits q W s x r) e
     where

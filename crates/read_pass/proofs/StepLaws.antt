@@ -1,9 +1,9 @@
--- Readings step by step: what a step gives, a list of steps that is put together, and the turns of a pass. Assumes nothing.
+-- Readings step by step: what a step gives, a list of steps that is put together, the turns of a pass, and a pass some turns at a time. Assumes nothing.
 use mathlib.Core.Bool.{true, false}
 use mathlib.Core.List.{List, [], _∷_, _++_}
 use mathlib.Core.Option.{Option, none, some}
-use mathlib.Core.Path.{_≡_, refl, _∙_}
-use Prim.Native.Nat.{ℕ, zero, suc, _+_, _-_, _/_, _%_, _≤_, _<_}
+use mathlib.Core.Path.{_≡_, refl, sym, ap, _∙_}
+use Prim.Native.Nat.{ℕ, zero, suc, _+_, _-_, _*_, _/_, _%_, _≤_, _<_}
 use native.Mathlib.Nat.{add-zero, add-suc}
 use native.Mathlib.Omega.{arith}
 use borrow.Author.Tests.{lt-ltb, le-ltb, le-leb, lt-leb}
@@ -14,6 +14,7 @@ use Rattle.pass_schedule.specs.Steps.{stepPlace}
 use Rattle.pass_steps.specs.Contexts.{stepContext, stepLook, stepSlot}
 use Rattle.pass_schedule.specs.declared.Plan.{Plan}
 use Rattle.pass_schedule.proofs.TurnLaws.{turn-is}
+use Rattle.read_pass.specs.Pairs.{chunkSteps}
 use Rattle.read_pass.specs.Readings.{Reading, interpolate, takeCode, stepCode, readStep, andThen, reads, readPass}
 
 -- ---- one step
@@ -105,32 +106,69 @@ module _ {bits q W : ℕ} {s : List ℕ} (P : Plan) (p : ℕ) where
   pub odds-not-yet : {r : Reading} → p < 8 → StepsGive bits q W s (oddPart P p) r (some r)
   odds-not-yet h = rw (lt-leb 8 p h) no-steps
 
-  module _ {r₀ r : Reading} (h : StepsGive bits q W s (upto (turnSteps W P) (p / 2)) r₀ (some r)) (even : p % 2 ≡ 0) where
-    -- one turn more
-    one-more : {o : Option Reading} → StepsGive bits q W s (evenPart W P p ++ oddPart P p) r o → StepsGive bits q W s (upto (turnSteps W P) (suc (p / 2))) r₀ o
-    unfolding upto
-    one-more e = append-some h (rw (turn-is W P p even) at e)
+-- ---- turns from position c on
 
-    pub turn-more : {z y : Reading} → StepsGive bits q W s (evenPart W P p) r (some z) → StepsGive bits q W s (oddPart P p) z (some y)
-        → StepsGive bits q W s (upto (turnSteps W P) ((p + 2) / 2)) r₀ (some y)
-    turn-more e f = let n : (p + 2) / 2 ≡ suc (p / 2) = omega arith in rw n (one-more (append-some e f))
+module _ {bits q W : ℕ} {s : List ℕ} (P : Plan) (c h : ℕ) {r₀ r : Reading} (g : StepsGive bits q W s (upto (λ t. turnSteps W P (c / 2 + t)) h) r₀ (some r))
+    (even : c % 2 ≡ 0) where
+  abbrev p : ℕ
+  p = c + 2 * h
 
-    -- a turn that is cut off
-    cut-off : W % 2 ≡ 0 → p < W + 8 → StepsGive bits q W s (evenPart W P p ++ oddPart P p) r none → readPass bits q W s P r₀ ≡ none
-    unfolding readPass passSteps
-    cut-off w lt e =
-        let n : W / 2 + 4 ≡ suc (p / 2) + (W / 2 + 3 - p / 2) = omega arith in
-        rw n (stays (turnSteps W P) (suc (p / 2)) (W / 2 + 3 - p / 2) (one-more e) .are)
+  -- one more
+  one-more : {o : Option Reading} → StepsGive bits q W s (evenPart W P p ++ oddPart P p) r o → StepsGive bits q W s (chunkSteps W P c (suc h)) r₀ o
+  unfolding upto
+  one-more e =
+      let f : p % 2 ≡ 0 = omega arith in
+      let k : p / 2 ≡ c / 2 + h = omega arith in
+      append-some g (rw (turn-is W P p f, k) at e)
 
-    pub evens-cut-off : W % 2 ≡ 0 → p < W → StepsGive bits q W s (evenSteps P p) r none → readPass bits q W s P r₀ ≡ none
-    evens-cut-off w lt e = cut-off w (omega arith) (append-none (oddPart P p) (evens-here lt e))
+  pub turn-more : {z y : Reading} → StepsGive bits q W s (evenPart W P p) r (some z) → StepsGive bits q W s (oddPart P p) z (some y)
+      → StepsGive bits q W s (chunkSteps W P c (h + 1)) r₀ (some y)
+  turn-more e f = let n : h + 1 ≡ suc h = omega arith in rw n (one-more (append-some e f))
 
-    pub odds-cut-off : {z : Reading} → W % 2 ≡ 0 → p < W + 8 → 8 ≤ p → StepsGive bits q W s (evenPart W P p) r (some z)
-        → StepsGive bits q W s (oddSteps P (p - 7)) z none
-        → readPass bits q W s P r₀ ≡ none
-    odds-cut-off w lt le e f = cut-off w lt (append-some e (odds-here le f))
+  -- one that is cut off
+  cut-off : (n : ℕ) → h < n → StepsGive bits q W s (evenPart W P p ++ oddPart P p) r none → StepsGive bits q W s (chunkSteps W P c n) r₀ none
+  cut-off n lt e =
+      let k : n ≡ suc h + (n - suc h) = omega arith in
+      rw k (stays (λ t. turnSteps W P (c / 2 + t)) (suc h) (n - suc h) (one-more e))
 
-    -- all turns are done
-    pub all-read : p ≡ W + 8 → readPass bits q W s P r₀ ≡ some r
-    unfolding readPass passSteps
-    all-read e = let n : W / 2 + 4 ≡ p / 2 = omega arith in rw n (h .are)
+  pub evens-cut-off : (n : ℕ) → h < n → p < W → StepsGive bits q W s (evenSteps P p) r none → StepsGive bits q W s (chunkSteps W P c n) r₀ none
+  evens-cut-off n lt inside e = cut-off n lt (append-none (oddPart P p) (evens-here P p inside e))
+
+  pub odds-cut-off : (n : ℕ) {z : Reading} → h < n → 8 ≤ p → StepsGive bits q W s (evenPart W P p) r (some z) → StepsGive bits q W s (oddSteps P (p - 7)) z none
+      → StepsGive bits q W s (chunkSteps W P c n) r₀ none
+  odds-cut-off n lt le e f = cut-off n lt (append-some e (odds-here P p le f))
+
+  pub all-turns : (n : ℕ) → h ≡ n → StepsGive bits q W s (chunkSteps W P c n) r₀ (some r)
+  all-turns n e = rw e at g
+
+-- ---- a pass, some turns at a time
+
+append-assoc : (k l m : List Step) → (k ++ l) ++ m ≡ k ++ (l ++ m)
+append-assoc [] l m = refl
+append-assoc (x ∷ k) l m = ap (λ (z : List Step). x ∷ z) (append-assoc k l m)
+
+append-nil : (k : List Step) → k ++ [] ≡ k
+append-nil [] = refl
+append-nil (x ∷ k) = ap (λ (z : List Step). x ∷ z) (append-nil k)
+
+upto-more : (f : ℕ → List Step) (a n : ℕ) → upto f a ++ upto (λ t. f (a + t)) n ≡ upto f (a + n)
+unfolding upto
+upto-more f a zero = rw add-zero (append-nil (upto f a))
+upto-more f a (suc n) = rw add-suc (sym (append-assoc (upto f a) (upto (λ t. f (a + t)) n) (f (a + n))) ∙ ap (λ (z : List Step). z ++ f (a + n)) (upto-more f a n))
+
+module _ {bits q W : ℕ} {s : List ℕ} (P : Plan) (c n : ℕ) {r₀ r : Reading} (g : StepsGive bits q W s (upto (turnSteps W P) (c / 2)) r₀ (some r)) where
+  joined : {o : Option Reading} → StepsGive bits q W s (chunkSteps W P c n) r o → StepsGive bits q W s (upto (turnSteps W P) (c / 2 + n)) r₀ o
+  joined e = rw (upto-more (turnSteps W P) (c / 2) n) at (append-some g e)
+
+  pub chunk-more : {z : Reading} → StepsGive bits q W s (chunkSteps W P c n) r (some z) → StepsGive bits q W s (upto (turnSteps W P) ((c + 2 * n) / 2)) r₀ (some z)
+  chunk-more e = let k : (c + 2 * n) / 2 ≡ c / 2 + n = omega arith in rw k (joined e)
+
+  pub chunk-cut-off : W % 2 ≡ 0 → c + 2 * n ≤ W + 8 → StepsGive bits q W s (chunkSteps W P c n) r none → readPass bits q W s P r₀ ≡ none
+  unfolding readPass passSteps
+  chunk-cut-off w le e =
+      let k : W / 2 + 4 ≡ c / 2 + n + (W / 2 + 4 - (c / 2 + n)) = omega arith in
+      rw k (stays (turnSteps W P) (c / 2 + n) (W / 2 + 4 - (c / 2 + n)) (joined e) .are)
+
+  pub all-read : W % 2 ≡ 0 → c ≡ W + 8 → readPass bits q W s P r₀ ≡ some r
+  unfolding readPass passSteps
+  all-read w e = let k : W / 2 + 4 ≡ c / 2 = omega arith in rw k (g .are)

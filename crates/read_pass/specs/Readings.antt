@@ -17,8 +17,7 @@ use Rattle.code.specs.Tight.{isTight}
 use Rattle.code.specs.declared.Code.{Code}
 use Rattle.code.specs.declared.Coded.{Coded}
 use Rattle.code.specs.declared.Coded.the-variants.{Read, Truncated}
-use Rattle.pass_schedule.specs.Steps.{Step, passSteps}
-use Rattle.pass_schedule.specs.Steps.{stepPlace}
+use Rattle.pass_schedule.specs.Steps.{Step, passSteps, stepPlace}
 use Rattle.pass_steps.specs.Contexts.{usedQuantiser, noRecord, stepContext, stepLook, stepSlot}
 use Rattle.pass_steps.specs.declared.Look.{Look}
 use Rattle.pass_schedule.specs.declared.Plan.{Plan}

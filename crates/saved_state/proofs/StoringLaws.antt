@@ -18,7 +18,8 @@ use Rattle.stream.specs.declared.header.Refusal.the-variants.{ShortOutput, BadS
 use Rattle.admission.specs.Beginnings.{samplesNeeded}
 use Rattle.saved_state.specs.Checkpoints.{sizeOfCheckpoint}
 use Rattle.read_block.specs.Blocks.{State, startState, readLines}
-use Rattle.read_block.specs.Images.{formOf, bytesIn, basesIn, walkedAnswer, blockAnswer}
+use Rattle.read_block.specs.Images.{formOf, bytesIn, basesIn, blockAnswer}
+use Rattle.read_block.specs.Inside.{walkedAnswer}
 use Rattle.read_block.specs.Lent.{Buffers}
 use Rattle.read_block.specs.Totals.{counted, refusedBy}
 use Rattle.read_block.specs.Inside.{walkedCounted}

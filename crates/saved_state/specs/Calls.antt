@@ -14,9 +14,8 @@ use Rattle.stream.specs.declared.header.Refusal.the-variants.{ShortOutput, BadS
 use Rattle.image_region.specs.Inside.{partIn}
 use Rattle.image_region.specs.declared.Rect.{Rect}
 use Rattle.saved_state.specs.Checkpoints.{sizeOfCheckpoint, checkpointOf}
-use Rattle.read_block.specs.Images.{walkedAnswer}
+use Rattle.read_block.specs.Inside.{walkedAnswer, walkedTotals}
 use Rattle.saved_state.specs.Resuming.{isTouched, sinceTotals, checkedIn, Resumed}
-use Rattle.read_block.specs.Totals.{walkedTotals}
 use Rattle.read_block.specs.declared.Counted.{Counted}
 use Rattle.read_block.specs.declared.Decoded.{Decoded}
 use Rattle.read_block.specs.declared.Decoded.the-variants.{Done, Refused}

@@ -6,7 +6,7 @@ ghost use lib.ListN.{length, replicate};
 ghost use Rattle.statistics.specs.declared.Record.{Record};
 ghost use Rattle.colour_lines.specs.ColourLines.{zeroLines};
 ghost use Rattle.image_map.specs.Places.{widthOf};
-ghost use Rattle.pass_steps.specs.Values.{Depth};
+ghost use Rattle.pass_steps.specs.Contexts.{Depth};
 ghost use Rattle.stream.specs.Streams.{openOf};
 ghost use Rattle.stream.specs.declared.header.Parsed.the-variants.{Header};
 ghost use Rattle.image_region.specs.Regions.{lineCount};

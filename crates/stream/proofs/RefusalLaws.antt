@@ -6,6 +6,7 @@ use Rattle.stream.specs.declared.header.Refusal.{Refusal}
 use Rattle.stream.specs.declared.header.Refusal.the-variants.{ShortHeader, BadHeader, ShortSizes, ShortBases, NoBlock, WrongSize, OutsideImage, Lossy}
 use Rattle.stream.specs.declared.header.Refusal.the-variants.{WrongCount, ShortScratch, AboveLargest, NotPredicted, ShortOutput, Truncated, NotTight}
 use Rattle.stream.specs.declared.header.Refusal.the-variants.{Lossless, WrongBases, BadRecord, HeldTwice, NotHeld, BadState, OtherState, NoEntry, OutsideSheet}
+use Rattle.stream.specs.declared.header.Refusal.the-variants.{WrongLengths, LongBlock}
 
 -- no refusal has the number 0
 pub number-low : (r : Refusal) → 1 ≤ refusalNumber r
@@ -33,3 +34,5 @@ number-low BadState = lit≤ tt
 number-low OtherState = lit≤ tt
 number-low (NoEntry b l) = lit≤ tt
 number-low OutsideSheet = lit≤ tt
+number-low WrongLengths = lit≤ tt
+number-low (LongBlock b) = lit≤ tt

@@ -3,9 +3,7 @@ use Prim.Native.Nat.{ℕ}
 use mathlib.Core.List.{List, [], _∷_}
 use mathlib.Core.Option.{Option, none, some}
 use Rattle.stream.specs.declared.header.Refusal.{Refusal}
-use Rattle.stream.specs.declared.header.Refusal.the-variants.{ShortHeader, BadHeader, ShortSizes, ShortBases, NoBlock, WrongSize, OutsideImage, Lossy}
-use Rattle.stream.specs.declared.header.Refusal.the-variants.{WrongCount, ShortScratch, AboveLargest, NotPredicted, ShortOutput, Truncated, NotTight}
-use Rattle.stream.specs.declared.header.Refusal.the-variants.{Lossless, WrongBases, BadRecord, HeldTwice, NotHeld, BadState, OtherState, NoEntry, OutsideSheet}
+use Rattle.stream.specs.declared.header.Refusal.the-variants.{ShortHeader, BadHeader, ShortSizes, ShortBases, NoBlock, WrongSize, OutsideImage, Lossy, WrongCount, ShortScratch, AboveLargest, NotPredicted, ShortOutput, Truncated, NotTight, Lossless, WrongBases, BadRecord, HeldTwice, NotHeld, BadState, OtherState, NoEntry, OutsideSheet, WrongLengths, LongBlock}
 
 -- what a refusal says: its number, and the block, the line and the index that it names
 pub record Meaning : Type 0 where
@@ -17,7 +15,7 @@ pub record Meaning : Type 0 where
 abbrev naming : ℕ → Option ℕ → Option ℕ → Option ℕ → Meaning
 naming n b l i = record { number = n; block = b; line = l; index = i }
 
--- each refusal, in the order of the checks
+-- each refusal, by its number
 abbrev pub meaningOf : Refusal → Meaning
 meaningOf ShortHeader = naming 1 none none none
 meaningOf BadHeader = naming 2 none none none
@@ -43,6 +41,8 @@ meaningOf BadState = naming 21 none none none
 meaningOf OtherState = naming 22 none none none
 meaningOf (NoEntry block line) = naming 23 (some block) (some line) none
 meaningOf OutsideSheet = naming 24 none none none
+meaningOf WrongLengths = naming 25 none none none
+meaningOf (LongBlock block) = naming 26 (some block) none none
 
 abbrev pub refusalNumber : Refusal → ℕ
 refusalNumber r = (meaningOf r) .number

@@ -4,32 +4,61 @@ ghost use Prim.Native.Nat.{_+_, _^_, _≤_, _<_};
 ghost use lib.ListN.{length};
 ghost use Rattle.stream.specs.Headers.{byteAt, be16, headerOf, within, kindRules, sizeRules, countRules, parseOf};
 
-// Why a call is refused. specs/Refusals.antt gives each case its number, and the values that it names.
+// Why a call is refused. Each case has its number, here and for C; specs/Refusals.antt states the number and the values that
+// it names. 1 to 15 are in the order in which a call checks them.
 pub enum Refusal {
+    // 1: fewer than 16 bytes of header.
     ShortHeader,
+    // 2: a header rule is broken.
     BadHeader,
+    // 3: fewer than 4 bytes for each block follow the header.
     ShortSizes,
+    // 4: the base row of this block, the lowest such, is not whole.
     ShortBases(usize),
+    // 5: no block has this number.
     NoBlock,
+    // 6: the size that is named is not that of the picture.
     WrongSize,
+    // 7: the region passes the picture's edge, or the image is too short for it.
     OutsideImage,
+    // 8: the header is lossy, where only a lossless one is taken.
     Lossy,
+    // 9: the set of colour lines has not exactly lines·12·W samples.
     WrongCount,
+    // 10: scratch is too short.
     ShortScratch,
+    // 11: the sample at this index, the lowest such, is above 2^bits − 1.
     AboveLargest(usize),
+    // 12: the sample at this index, the first in coding order, is at an interpolated position and differs from its prediction.
     NotPredicted(usize),
+    // 13: the output is too short.
     ShortOutput,
+    // 14: of this block, the lowest such, this line is truncated.
     Truncated(usize, usize),
+    // 15: every line reads, but the block is not tight: the line of the first bad code, or the number of lines if only the tail is wrong.
     NotTight(usize),
+    // 16: the header is lossless, where only a lossy one is taken.
     Lossless,
+    // 17: the bases are not exactly as many as asked for.
     WrongBases,
+    // 18: the plan's record with this number, counted from 1, the lowest such, breaks a rule.
     BadRecord(usize),
+    // 19: two records of the plan hold this line, the lowest such.
     HeldTwice(usize),
+    // 20: no record of the plan holds this line, the lowest such.
     NotHeld(usize),
+    // 21: there is no such line to store after, or the stored bytes are no state.
     BadState,
+    // 22: the stored state is that of another header or block.
     OtherState,
+    // 23: this block's line needs a quantiser while all shared entries are held.
     NoEntry(usize, usize),
+    // 24: depth, k or length is outside the sheet of short codes.
     OutsideSheet,
+    // 25: there is not exactly one length for each block.
+    WrongLengths,
+    // 26: the length of this block, the lowest such, is 2^32 or more, and has no place in the four bytes of a size.
+    LongBlock(usize),
 }
 
 pub struct FujiHeader {

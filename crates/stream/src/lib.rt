@@ -106,7 +106,7 @@ fn size_of(d: &[u8], b: usize) -> usize
 }
 
 // The bytes of a base row: one for each line, none if the stream is lossless.
-fn row_length(h: FujiHeader) -> usize
+pub fn row_length(h: FujiHeader) -> usize
     ensures { λ r. ⌜ (r ≡ rowLength h) × (r ≤ h .lines) ⌝ }
 {
     let lossless = h.lossless;
@@ -117,7 +117,7 @@ fn row_length(h: FujiHeader) -> usize
 }
 
 // Where base row b starts.
-fn row_start(h: FujiHeader, b: usize) -> usize
+pub fn row_start(h: FujiHeader, b: usize) -> usize
     requires { ⌜ Ruled h × (b ≤ 16) ⌝ }
     ensures { λ r. ⌜ (r ≡ rowStart h b) × (r < 2 ^ 16) ⌝ }
 {

@@ -34,6 +34,8 @@ pub fn refusal_words(r: Refusal) -> [usize; 4]
         Refusal::OtherState => [22, 0, 0, 0],
         Refusal::NoEntry(b, l) => [23, b, l, 0],
         Refusal::OutsideSheet => [24, 0, 0, 0],
+        Refusal::WrongLengths => [25, 0, 0, 0],
+        Refusal::LongBlock(b) => [26, b, 0, 0],
     }
 }
 

@@ -143,7 +143,7 @@ never-12 d bases t before after a = from (lossyOf d bases t before) refl
 -- ---- from C
 
 -- no refusal is told where a length is answered
-told-length : (a : BlockLength) → lengthRefusal a ≡ noRefusal → (n : ℕ) × (a ≡ Length n)
+pub told-length : (a : BlockLength) → lengthRefusal a ≡ noRefusal → (n : ℕ) × (a ≡ Length n)
 told-length (Length n) e = (n, refl)
 told-length (Refused r) e = let q : 0 ≡ refusalNumber r = cc in absurd (omega (arith, number-low r))
 

@@ -8,7 +8,7 @@ use native.Mathlib.Omega.{arith}
 use lib.ListN.{length, getD}
 use borrow.Author.Tests.{le-ltb}
 use Rattle.pass_schedule.specs.Steps.{planOf, isInterpolated}
-use Rattle.pass_steps.specs.Values.{Depth}
+use Rattle.pass_steps.specs.Contexts.{Depth}
 use Rattle.pass_schedule.proofs.PlanLaws.{firstLine, secondLine, lines-are, each-pass}
 use Rattle.read_pass.specs.Readings.{andThen}
 use Rattle.theorem_one_to_one.specs.UsedBases.{IsNear}

@@ -10,7 +10,7 @@ use Rattle.quantiser.specs.Quantisers.{largest}
 use Rattle.read_pass.specs.Readings.{andThen}
 use Rattle.image_map.specs.Places.{widthOf}
 use Rattle.colour_lines.specs.Sets.{indexIn}
-use Rattle.pass_steps.specs.Values.{Depth}
+use Rattle.pass_steps.specs.Contexts.{Depth}
 use Rattle.pass_schedule.specs.Steps.{planOf}
 use Rattle.theorem_one_to_one.proofs.PassBack.{place-exact}
 use Rattle.write_pass.proofs.LosslessLaws.{Lossless}

@@ -25,7 +25,7 @@ use Rattle.pass_schedule.specs.Steps.{stepPlace}
 use Rattle.pass_steps.specs.Contexts.{lookOf, usedQuantiser, noRecord, stepContext, stepLook, stepSlot}
 use Rattle.pass_steps.specs.declared.Look.{Look}
 use Rattle.pass_schedule.specs.declared.Plan.{Plan}
-use Rattle.pass_steps.specs.Values.{Depth}
+use Rattle.pass_steps.specs.Contexts.{Depth}
 use Rattle.pass_schedule.proofs.ScheduleLaws.{codes, lineSteps}
 use Rattle.read_pass.specs.Readings.{Reading, interpolate, takeCode, taken, readStep, reads, readPass}
 use Rattle.write_pass.proofs.BoundLaws.{short-most, four}

@@ -11,7 +11,7 @@ use Rattle.bits.specs.BitLists.{bitsOf, bytesOf}
 use Rattle.bits.proofs.ListLaws.{length-bits}
 use Rattle.bits.proofs.PackLaws.{bytes-bytesOf, bytesOf-bits}
 use Rattle.quantiser.specs.Quantisers.{largest}
-use Rattle.pass_steps.specs.Values.{Depth}
+use Rattle.pass_steps.specs.Contexts.{Depth}
 use Rattle.image_map.specs.Places.{widthOf}
 use Rattle.stream.proofs.HeaderLaws.{ruled}
 use Rattle.stream.proofs.StreamLaws.{row-lossless}

@@ -11,7 +11,7 @@ use borrow.Author.Tests.{le-leb}
 use Rattle.quantiser.specs.Quantisers.{largest}
 use Rattle.read_pass.specs.Readings.{andThen}
 use Rattle.pass_schedule.specs.Steps.{planOf}
-use Rattle.pass_steps.specs.Values.{Depth}
+use Rattle.pass_steps.specs.Contexts.{Depth}
 use Rattle.colour_lines.proofs.LineLaws.{length-turned}
 use Rattle.image_map.specs.Places.{widthOf}
 use Rattle.colour_lines.specs.Sets.{lineOfRank}

@@ -17,7 +17,7 @@ use Rattle.prediction.specs.declared.Context.{Context}
 use Rattle.code.specs.Samples.{choiceOf}
 use Rattle.pass_schedule.specs.Steps.{Step}
 use Rattle.pass_steps.specs.Contexts.{usedBase, lookOf, stepContext, stepLook}
-use Rattle.pass_steps.specs.Values.{Depth}
+use Rattle.pass_steps.specs.Contexts.{Depth}
 use Rattle.pass_schedule.proofs.OrderLaws.{All, cell, Apart}
 use Rattle.read_pass.specs.Readings.{Reading, readStep, andThen, reads}
 use Rattle.read_pass.proofs.FrameLaws.{first-then, steps-leave}

@@ -10,7 +10,7 @@ use lib.ListN.{getD}
 use Rattle.quantiser.specs.Quantisers.{largest}
 use Rattle.pass_schedule.specs.Steps.{Step, isInterpolated, passSteps}
 use Rattle.pass_schedule.specs.Inside.{PlanInRange}
-use Rattle.pass_steps.specs.Values.{Depth}
+use Rattle.pass_steps.specs.Contexts.{Depth}
 use Rattle.pass_schedule.specs.declared.Plan.{Plan}
 use Rattle.pass_schedule.proofs.OrderLaws.{All, all-both, place-is, pass-all, all-pass, pass-apart}
 use Rattle.pass_schedule.proofs.PlanLaws.{CodedIn}

@@ -9,7 +9,7 @@ use native.Mathlib.Omega.{arith}
 use lib.ListN.{getD, set}
 use Rattle.quantiser.specs.Quantisers.{largest}
 use Rattle.pass_schedule.specs.Inside.{PlanInRange}
-use Rattle.pass_steps.specs.Values.{Depth}
+use Rattle.pass_steps.specs.Contexts.{Depth}
 use Rattle.read_pass.specs.Readings.{Reading, readPass}
 use Rattle.pass_schedule.specs.Steps.{planOf, passSteps}
 use Rattle.pass_schedule.specs.declared.Plan.{Plan}

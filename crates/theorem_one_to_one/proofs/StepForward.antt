@@ -29,7 +29,7 @@ use Rattle.code.proofs.TightLaws.{length-codeBits, ReadBack, read-back}
 use Rattle.pass_schedule.specs.Steps.{Step}
 use Rattle.pass_schedule.specs.Steps.{stepPlace}
 use Rattle.pass_steps.specs.Contexts.{usedBase, usedWeight, usedQuantiser, lookOf, noRecord, stepContext, stepLook, stepSlot}
-use Rattle.pass_steps.specs.Values.{Depth}
+use Rattle.pass_steps.specs.Contexts.{Depth}
 use Rattle.pass_steps.specs.declared.Look.{Look}
 use Rattle.pass_steps.proofs.ContextLaws.{context-le}
 use Rattle.read_pass.specs.Readings.{Reading, interpolate, takeCode, readStep}

@@ -9,7 +9,7 @@ use lib.Seq.{drop-at, length-take-le}
 use Rattle.bits.specs.BitLists.{bitsOf, blockBytes, isTail}
 use Rattle.bits.proofs.ListLaws.{length-bits}
 use Rattle.bits.proofs.PackLaws.{length-bytesOf, bits-bytesOf}
-use Rattle.pass_steps.specs.Values.{Depth}
+use Rattle.pass_steps.specs.Contexts.{Depth}
 use Rattle.read_block.specs.Blocks.{State, readLines}
 use Rattle.write_block.specs.WrittenBlocks.{WriteState, writeLines, writtenBlock}
 use Rattle.write_block.specs.Inside.{SetWanted}

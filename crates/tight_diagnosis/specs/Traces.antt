@@ -9,7 +9,8 @@ use Rattle.quantiser.specs.Quantisers.{mainOf}
 use Rattle.quantiser.specs.declared.Quantiser.{Quantiser}
 use Rattle.image_map.specs.Places.{widthOf}
 use Rattle.pass_schedule.specs.Inside.{PlanInRange}
-use Rattle.pass_steps.specs.Values.{zipRecords, SetInRange, Depth}
+use Rattle.pass_steps.specs.Values.{zipRecords, SetInRange}
+use Rattle.pass_steps.specs.Contexts.{Depth}
 use Rattle.pass_schedule.specs.declared.Plan.{Plan}
 use Rattle.read_pass.specs.Readings.{Reading}
 use Rattle.read_block.specs.Blocks.{State}

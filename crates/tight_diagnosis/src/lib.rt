@@ -4,7 +4,7 @@ ghost use mathlib.Core.Bool.{true};
 ghost use Prim.Native.Nat.{_^_, _<_};
 ghost use lib.ListN.{length};
 ghost use Rattle.image_map.specs.Inside.{Fits};
-ghost use Rattle.pass_steps.specs.Values.{Depth};
+ghost use Rattle.pass_steps.specs.Contexts.{Depth};
 ghost use Rattle.stream.specs.Streams.{openOf};
 ghost use Rattle.stream.specs.declared.header.Parsed.the-variants.{Header};
 ghost use Rattle.read_block.specs.Walks.{Shown, shownLines, IsWalked};

@@ -24,9 +24,8 @@ use Rattle.read_block.specs.BadSpots.{stepK, stepQuantiser, BadIn}
 use Rattle.read_block.specs.Images.{formOf, bytesIn}
 use Rattle.read_block.specs.TightBlocks.{tightAnswer}
 use Rattle.read_block.specs.declared.Decoded.the-variants as Answer
-use Rattle.tight_diagnosis.specs.Faults.{spotOf}
+use Rattle.tight_diagnosis.specs.Faults.{spotOf, faultAt}
 use Rattle.code.specs.declared.reasons.BadSpot.{BadSpot}
-use Rattle.tight_diagnosis.specs.Faults.{faultAt}
 use Rattle.tight_findings.specs.Findings.{findingOf}
 use Rattle.tight_diagnosis.specs.declared.Fault.{Fault}
 use Rattle.tight_diagnosis.specs.declared.Fault.the-variants as Fault

@@ -12,7 +12,7 @@ use Rattle.quantiser.specs.Quantisers.{largest}
 use Rattle.colour_lines.specs.ColourLines.{guarded}
 use Rattle.image_map.specs.Places.{widthOf}
 use Rattle.pass_schedule.specs.Steps.{Step, planOf, passSteps, upto}
-use Rattle.pass_steps.specs.Values.{Depth}
+use Rattle.pass_steps.specs.Contexts.{Depth}
 use Rattle.pass_schedule.specs.declared.Plan.{Plan}
 use Rattle.pass_schedule.proofs.ScheduleLaws.{codes, lineSteps, bayer-codes, x-trans-codes}
 use Rattle.write_pass.specs.Puts.{Within}

@@ -20,7 +20,7 @@ use Rattle.code.specs.Tight.{codeBits}
 use Rattle.code.proofs.TightLaws.{length-codeBits, short-length, long-length}
 use Rattle.pass_steps.specs.Contexts.{usedBase, usedWeight, usedQuantiser, lookOf, noRecord, stepContext, stepSlot}
 use Rattle.pass_schedule.specs.Steps.{Step, planOf, passSteps, isInterpolated}
-use Rattle.pass_steps.specs.Values.{Depth}
+use Rattle.pass_steps.specs.Contexts.{Depth}
 use Rattle.pass_steps.specs.declared.Look.{Look}
 use Rattle.pass_schedule.specs.declared.Plan.{Plan}
 use Rattle.pass_steps.proofs.ContextLaws.{context-le}

@@ -7,11 +7,9 @@ use Prim.Native.Nat.{ℕ, _+_, _*_, _%_, _^_, _≤_, _<_}
 use lib.ListN.{length, getD, set}
 use Rattle.statistics.specs.declared.Record.{Record}
 use Rattle.quantiser.specs.Quantisers.{largest}
-use Rattle.pass_schedule.specs.Steps.{Step, passSteps}
-use Rattle.pass_schedule.specs.Steps.{stepPlace}
-use Rattle.pass_steps.specs.Contexts.{stepContext}
+use Rattle.pass_schedule.specs.Steps.{Step, passSteps, stepPlace}
+use Rattle.pass_steps.specs.Contexts.{stepContext, Depth}
 use Rattle.pass_schedule.specs.Inside.{PlanInRange}
-use Rattle.pass_steps.specs.Values.{Depth}
 use Rattle.pass_schedule.specs.declared.Plan.{Plan}
 use Rattle.pass_steps.specs.declared.Spot.{Spot}
 use Rattle.write_pass.specs.Puts.{Within, Wanted}

@@ -17,9 +17,9 @@ use Rattle.code.specs.Samples.{residualOf}
 use Rattle.code.specs.Tight.{codeBits}
 use Rattle.bit_output.specs.Output.{putBits}
 use Rattle.pass_schedule.specs.Steps.{Step, passSteps}
-use Rattle.pass_steps.specs.Contexts.{usedQuantiser, lookOf, slotOf, noRecord}
+use Rattle.pass_steps.specs.Contexts.{usedQuantiser, lookOf, slotOf, noRecord, Depth}
 use Rattle.pass_schedule.specs.Inside.{PlanInRange}
-use Rattle.pass_steps.specs.Values.{zipRecords, recordsOf, SetInRange, quantisersOf, AreQuantisers, Depth}
+use Rattle.pass_steps.specs.Values.{zipRecords, recordsOf, SetInRange, quantisersOf, AreQuantisers}
 use Rattle.pass_schedule.specs.declared.Plan.{Plan}
 use Rattle.pass_steps.specs.declared.Quantisers.{Quantisers}
 use Rattle.pass_steps.specs.declared.Set.{Set}

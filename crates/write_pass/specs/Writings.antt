@@ -13,8 +13,7 @@ use Rattle.prediction.specs.declared.Context.{Context}
 use Rattle.code.specs.Samples.{residualOf, sampleOf}
 use Rattle.code.specs.Tight.{codeBits}
 use Rattle.code.specs.Nearest.{codeNear}
-use Rattle.pass_schedule.specs.Steps.{Step, passSteps}
-use Rattle.pass_schedule.specs.Steps.{stepPlace}
+use Rattle.pass_schedule.specs.Steps.{Step, passSteps, stepPlace}
 use Rattle.pass_steps.specs.Contexts.{usedQuantiser, noRecord, stepContext, stepLook, stepSlot}
 use Rattle.pass_schedule.specs.declared.Plan.{Plan}
 use Rattle.pass_steps.specs.declared.Look.{Look}

@@ -2,7 +2,9 @@
 //! what is timed.
 use common::random::Random;
 use common::stream::{Header, encoded};
-use fuji_compressed::{ColorTile, FujiCompressed, Rect, Scratch, measure_block_with, write_block_with, write_lossy_with};
+use fuji_compressed::{
+    ColorTile, FujiCompressed, Rect, Scratch, measure_block_with, tighten_parallel, tighten_with, write_block_with, write_lossy_with,
+};
 use original::fuji_compressed as theirs;
 use std::hint::black_box;
 use std::time::Instant;
@@ -123,6 +125,54 @@ impl Picture {
         let time = seconds() - start;
         assert_eq!(length, FujiCompressed::new(&self.stream).unwrap().block(0).unwrap().len());
         time
+    }
+
+    /// What `tighten` is lent: an output that suffices, and a set.
+    fn for_tighten(&self) -> (Vec<u8>, Vec<u16>) {
+        let header = FujiCompressed::new(&self.stream).unwrap().header;
+        (vec![0; header.tightened_bound()], vec![0; header.set_size()])
+    }
+
+    fn time_tighten(&self, out: &mut [u8], set: &mut [u16], scratch: &mut Scratch) -> f64 {
+        let start = seconds();
+        black_box(tighten_with(scratch, set, black_box(&self.stream), out).unwrap());
+        seconds() - start
+    }
+
+    /// The colour lines of the only block.
+    fn time_set(&self, set: &mut [u16], scratch: &mut Scratch) -> f64 {
+        let start = seconds();
+        FujiCompressed::new(black_box(&self.stream)).unwrap().read_set_with(scratch, 0, set).answer.unwrap();
+        let time = seconds() - start;
+        black_box(set);
+        time
+    }
+
+    /// Rounds of reading, making the tight stream, reading; all ours.
+    fn tighten_against_read(&self) -> Rounds {
+        let ((mut out, mut set), mut image, mut scratch) = (self.for_tighten(), self.image(), Scratch::new());
+        rounds(|| {
+            let before = self.time_ours(&mut image, &mut scratch);
+            [before, self.time_tighten(&mut out, &mut set, &mut scratch), self.time_ours(&mut image, &mut scratch)]
+        })
+    }
+
+    /// Rounds of making the tight stream by one thread, by as many as there are processors, by one; by the clock on the wall.
+    fn parallel_tighten(&self) -> Rounds {
+        let threads = std::thread::available_parallelism().map_or(1, |n| n.get());
+        let (mut out, mut set) = self.for_tighten();
+        let mut scratch = Scratch::new();
+        let mut serial = || {
+            let start = Instant::now();
+            black_box(tighten_with(&mut scratch, &mut set, black_box(&self.stream), &mut out).unwrap());
+            start.elapsed().as_secs_f64()
+        };
+        let parallel = || {
+            let start = Instant::now();
+            black_box(tighten_parallel(threads, black_box(&self.stream), &|| ()).unwrap());
+            start.elapsed().as_secs_f64()
+        };
+        rounds(|| [serial(), parallel(), serial()])
     }
 
     /// The set that is read from the only block, through tiles of one colour.
@@ -319,9 +369,9 @@ fn say(name: &str, ratio: Option<f64>) {
 }
 
 /// Decodes one block once, or writes or measures it, so that a tool can count the instructions (tools/count.py):
-/// KIND NOISE LINES ours|windowed|rust|write|exact|measure. The output of `write` has the bytes that no block exceeds, that of `exact` the block's.
+/// KIND NOISE LINES ours|windowed|rust|write|exact|measure|set|tighten. The output of `write` has the bytes that no block exceeds, that of `exact` the block's.
 fn count(words: &[String]) {
-    let [kind, noise, lines, side] = words else { panic!("count KIND NOISE LINES ours|windowed|rust|write|exact|measure") };
+    let [kind, noise, lines, side] = words else { panic!("count KIND NOISE LINES ours|windowed|rust|write|exact|measure|set|tighten") };
     let (_, xtrans, lossy) = KINDS.into_iter().find(|(name, ..)| name == kind).expect("a kind");
     let picture = Picture::new(1, lines.parse().expect("lines"), xtrans, lossy, noise.parse().expect("a noise"));
     let mut image = picture.image();
@@ -335,7 +385,12 @@ fn count(words: &[String]) {
             picture.time_write(&picture.set(xtrans), &mut vec![0; exact], &mut Scratch::new())
         }
         "measure" => picture.time_measure(&picture.set(xtrans), &mut Scratch::new()),
-        _ => panic!("ours, windowed, rust, write, exact or measure"),
+        "set" => picture.time_set(&mut picture.for_tighten().1, &mut Scratch::new()),
+        "tighten" => {
+            let (mut out, mut set) = picture.for_tighten();
+            picture.time_tighten(&mut out, &mut set, &mut Scratch::new())
+        }
+        _ => panic!("ours, windowed, rust, write, exact, measure, set or tighten"),
     };
 }
 
@@ -352,6 +407,10 @@ fn measure_kind((name, xtrans, lossy): (&str, bool, bool), blocks: u16, lines: u
     }
     let title = format!("{name}, {blocks} blocks of {lines} lines, in parallel by the clock on the wall");
     say(&format!("parallel-{name}"), measure(&title, ["rust", "ours"], &whole, whole.parallel_against_theirs()));
+    let title = format!("{name}, {blocks} blocks of {lines} lines, tighten by the clock on the wall");
+    say(&format!("parallel-tighten-{name}"), measure(&title, ["one thread", "in parallel"], &whole, whole.parallel_tighten()));
+    let tighten = format!("tighten-{name}");
+    say(&tighten, measure(&format!("{tighten}, one block of 480 lines"), ["decode", "tighten"], &one, one.tighten_against_read()));
     let windowed = format!("windowed-{name}");
     let title = format!("{windowed}, one block of 480 lines");
     say(&windowed, measure(&title, ["decode", "decode_region_windowed"], &one, one.windowed_against_read()));

@@ -1,5 +1,6 @@
 //! Compares the port with the original. `compare calls COUNT [SEED]` asks both the same questions; `compare writes COUNT [SEED]` lets the
-//! original read what the port writes; `compare differences` shows the listed differences. Status 1 if anything differs that is not listed, or a listed difference is not there.
+//! original read what the port writes; `compare copies COUNT [SEED]` lets it decode the streams that the port makes of streams; `compare differences` shows the listed differences. Status 1 if anything differs that is not listed, or a listed difference is not there.
+mod copies;
 mod differences;
 mod making;
 mod round;
@@ -34,6 +35,20 @@ fn writes(count: u64, seed: u64) -> ExitCode {
     ExitCode::SUCCESS
 }
 
+fn copies(count: u64, seed: u64) -> ExitCode {
+    match copies::run(count, seed) {
+        Ok(t) => println!(
+            "made and decoded by the original: {} streams, tight and lossy, seed {seed}, none differs or is off by more than its base; {} refused by both with 14; {} do not open",
+            t.made, t.refused, t.not_opened
+        ),
+        Err(what) => {
+            println!("made and decoded by the original, seed {seed}: {what}");
+            return ExitCode::FAILURE;
+        }
+    }
+    ExitCode::SUCCESS
+}
+
 fn differences() -> ExitCode {
     let mut wrong = 0;
     for test in differences::all() {
@@ -61,9 +76,12 @@ fn main() -> ExitCode {
     match (words.first().map(String::as_str), number(1, 2000), number(2, SEED)) {
         (Some("calls"), Some(count), Some(seed)) => calls(count, seed),
         (Some("writes"), Some(count), Some(seed)) => writes(count, seed),
+        (Some("copies"), Some(count), Some(seed)) => copies(count, seed),
         (Some("differences"), ..) if words.len() == 1 => differences(),
         _ => {
-            eprintln!("usage: compare calls COUNT [SEED]\n       compare writes COUNT [SEED]\n       compare differences");
+            eprintln!(
+                "usage: compare calls COUNT [SEED]\n       compare writes COUNT [SEED]\n       compare copies COUNT [SEED]\n       compare differences"
+            );
             ExitCode::from(2)
         }
     }

@@ -37,6 +37,7 @@ impl FujiCompressed<'_> {
     /// `store_checkpoint` with lent scratch. Refusal 10 too, before 21.
     pub fn store_checkpoint_with(&self, scratch: &mut Scratch, i: usize, line: usize, state: &mut [u8]) -> Counted {
         let (mut totals, mut refusal) = ([0; 2], [0; 4]);
+        // SAFETY: each pointer and length is that of a slice or array that outlives the call; what is written to is borrowed exclusively.
         unsafe {
             ffi::fuji_store_checkpoint(
                 self.stream.as_ptr(),
@@ -74,6 +75,7 @@ impl FujiCompressed<'_> {
         tile: &ColorTile,
     ) -> Counted {
         let (mut totals, mut refusal) = ([0; 2], [0; 4]);
+        // SAFETY: each pointer and length is that of a slice or array that outlives the call; what is written to is borrowed exclusively.
         unsafe {
             ffi::fuji_resume_region(
                 self.stream.as_ptr(),

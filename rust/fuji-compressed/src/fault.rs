@@ -4,8 +4,11 @@ use std::fmt;
 /// What is wrong with a code: it is 2^bits or more; it is long where the short form fits; it has more zeros than the limit. Where two hold, the first is given.
 #[derive(Debug, Clone, Copy, PartialEq, Eq)]
 pub enum Reason {
+    /// The code is 2^bits or more.
     Large,
+    /// It is long where the short form fits.
     Escape,
+    /// It has more zeros than the limit.
     Zeros,
 }
 
@@ -13,9 +16,25 @@ pub enum Reason {
 #[derive(Debug, Clone, Copy, PartialEq, Eq)]
 pub enum Fault {
     /// Its line of six rows, its pass, 1 to 6, its colour line, 2 to 17, its position, its first bit, counted from the block's first, and the reason.
-    Code { line: usize, pass: usize, colour_line: usize, position: usize, bit: usize, reason: Reason },
+    Code {
+        /// The line of six rows.
+        line: usize,
+        /// The pass, 1 to 6.
+        pass: usize,
+        /// The colour line, 2 to 17.
+        colour_line: usize,
+        /// The position in it.
+        position: usize,
+        /// The code's first bit, counted from the block's first.
+        bit: usize,
+        /// What is wrong with it.
+        reason: Reason,
+    },
     /// The first bit after the last code, which may lie up to 7 bits past the block's end.
-    Tail { bit: usize },
+    Tail {
+        /// The first bit after the last code.
+        bit: usize,
+    },
 }
 
 impl Fault {

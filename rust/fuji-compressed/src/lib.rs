@@ -8,7 +8,11 @@
 //! assert_eq!(refused.number, 2);
 //! assert_eq!(refused.to_string(), "refusal 2: a header rule is broken");
 //! ```
+#![deny(missing_docs)]
+
 mod checkpoint;
+mod copies;
+mod decoder;
 mod fault;
 mod ffi;
 mod parallel;
@@ -17,6 +21,8 @@ mod shared;
 mod windowed;
 mod writer;
 
+pub use copies::{lossy_copy, lossy_copy_parallel, lossy_copy_with, put_front, tighten, tighten_parallel, tighten_with};
+pub use decoder::Decoder;
 pub use fault::{Fault, Reason};
 pub use refusal::Refusal;
 pub use shared::{Camera, Quantisers};
@@ -28,18 +34,24 @@ pub const HEADER_SIZE: usize = 16;
 /// The colour (0 red, 2 blue, else green) of every position of a tile of six rows and columns, which begins at the picture's first sample.
 pub type ColorTile = [[u8; 6]; 6];
 
+/// What a call gives that may be refused.
 pub type Result<T> = std::result::Result<T, Refusal>;
 
 /// A region: its first column and row, and its size.
 #[derive(Debug, Clone, Copy, PartialEq, Eq, Default)]
 pub struct Rect {
+    /// The first column.
     pub x: u32,
+    /// The first row.
     pub y: u32,
+    /// How many columns.
     pub width: u32,
+    /// How many rows.
     pub height: u32,
 }
 
 impl Rect {
+    /// The region of this size from that column and row on.
     pub const fn new(x: u32, y: u32, width: u32, height: u32) -> Rect {
         Rect { x, y, width, height }
     }
@@ -49,7 +61,9 @@ impl Rect {
 #[repr(C)]
 #[derive(Debug, Clone, Copy, PartialEq, Eq, Default)]
 pub struct Record {
+    /// The sum of the residuals' sizes.
     pub sum: u32,
+    /// How many residuals, 1 to 64.
     pub n: u32,
 }
 
@@ -57,15 +71,19 @@ pub struct Record {
 /// used. One scratch serves any number of decodes, one after the other.
 #[derive(Debug, Clone, PartialEq, Eq)]
 pub struct Scratch {
+    /// Colour lines.
     pub samples: Vec<u16>,
+    /// Statistics.
     pub records: Vec<Record>,
 }
 
 impl Scratch {
     /// Samples that suffice for every stream: 18 colour lines of 512 samples and two guards.
     pub const SAMPLES: usize = 9252;
+    /// Records that suffice for every stream.
     pub const RECORDS: usize = 336;
 
+    /// Scratch for every call and every stream.
     pub fn new() -> Scratch {
         Scratch { samples: vec![0; Self::SAMPLES], records: vec![Record::default(); Self::RECORDS] }
     }
@@ -80,14 +98,21 @@ impl Default for Scratch {
 /// A stream's header.
 #[derive(Debug, Clone, Copy, PartialEq, Eq)]
 pub struct FujiHeader {
+    /// Lossless, or lossy with a base for each line.
     pub lossless: bool,
     /// X-Trans (raw type 16) or Bayer (raw type 0).
     pub xtrans: bool,
+    /// Bits of a sample: 12, 14 or 16.
     pub bits: u32,
+    /// Rows of the picture.
     pub height: u32,
+    /// Columns of all blocks: 768 each.
     pub rounded_width: u32,
+    /// Columns of the picture.
     pub width: u32,
+    /// Columns of a block: 768.
     pub block_size: u32,
+    /// Blocks, 1 to 16.
     pub blocks: u32,
     /// Lines of six rows.
     pub lines: u32,
@@ -97,6 +122,7 @@ impl FujiHeader {
     /// Parses and validates the first 16 bytes. Refusals 1 and 2.
     pub fn parse(bytes: &[u8]) -> Result<FujiHeader> {
         let (mut header, mut refusal) = ([0; 9], [0; 4]);
+        // SAFETY: each pointer and length is that of a slice or array that outlives the call; what is written to is borrowed exclusively.
         unsafe { ffi::fuji_parse(bytes.as_ptr(), bytes.len(), &mut header, &mut refusal) };
         Refusal::answer(refusal).map(|()| FujiHeader::of(header))
     }
@@ -105,6 +131,7 @@ impl FujiHeader {
     pub fn block_width(&self, i: u32) -> Result<u32> {
         let bytes = self.bytes();
         let (mut width, mut refusal) = ([0; 1], [0; 4]);
+        // SAFETY: each pointer and length is that of a slice or array that outlives the call; what is written to is borrowed exclusively.
         unsafe { ffi::fuji_block_width(bytes.as_ptr(), bytes.len(), i, &mut width, &mut refusal) };
         Refusal::answer(refusal).map(|()| width[0] as u32)
     }
@@ -124,6 +151,7 @@ impl FujiHeader {
     pub fn length_bound(&self) -> Result<usize> {
         let bytes = self.bytes();
         let (mut length, mut refusal) = ([0; 1], [0; 4]);
+        // SAFETY: each pointer and length is that of a slice or array that outlives the call; what is written to is borrowed exclusively.
         unsafe { ffi::fuji_length_bound(bytes.as_ptr(), bytes.len(), &mut length, &mut refusal) };
         Refusal::answer(refusal).map(|()| length[0])
     }
@@ -164,7 +192,9 @@ impl FujiHeader {
 /// What is counted of the lines of a block: the bits of their codes, and how many of these codes are long, with no fewer zeros than the limit.
 #[derive(Debug, Clone, Copy, PartialEq, Eq, Default)]
 pub struct Totals {
+    /// Bits of the codes.
     pub bits: u64,
+    /// How many codes are long.
     pub long_codes: u64,
 }
 
@@ -183,7 +213,9 @@ pub struct Totals {
 /// ```
 #[derive(Debug, Clone, Copy, PartialEq, Eq)]
 pub struct Counted {
+    /// Whether the block is accepted, or why not.
     pub answer: Result<()>,
+    /// What was counted.
     pub totals: Totals,
 }
 
@@ -195,19 +227,42 @@ impl Counted {
     }
 }
 
-/// A stream that opened, ready to decode.
+/// A stream that opened, ready to decode. Its fields are those of [`Opened`], and can be read but not changed: the header is that of the bytes.
+///
+/// ```compile_fail
+/// # fn changed(mut stream: fuji_compressed::FujiCompressed) {
+/// stream.header.width = 24;
+/// # }
+/// ```
 #[derive(Debug, Clone, Copy)]
 pub struct FujiCompressed<'a> {
-    pub header: FujiHeader,
+    opened: Opened,
     stream: &'a [u8],
+}
+
+/// What is known of a stream that opened.
+#[derive(Debug, Clone, Copy, PartialEq, Eq)]
+#[non_exhaustive]
+pub struct Opened {
+    /// The stream's header.
+    pub header: FujiHeader,
+}
+
+impl std::ops::Deref for FujiCompressed<'_> {
+    type Target = Opened;
+
+    fn deref(&self) -> &Opened {
+        &self.opened
+    }
 }
 
 impl<'a> FujiCompressed<'a> {
     /// `stream` starts at the header. Refusals 1 to 4.
     pub fn new(stream: &'a [u8]) -> Result<FujiCompressed<'a>> {
         let (mut header, mut refusal) = ([0; 9], [0; 4]);
+        // SAFETY: each pointer and length is that of a slice or array that outlives the call; what is written to is borrowed exclusively.
         unsafe { ffi::fuji_open(stream.as_ptr(), stream.len(), &mut header, &mut refusal) };
-        Refusal::answer(refusal).map(|()| FujiCompressed { header: FujiHeader::of(header), stream })
+        Refusal::answer(refusal).map(|()| FujiCompressed { opened: Opened { header: FujiHeader::of(header) }, stream })
     }
 
     /// Where each block's bytes lie in the stream: an offset from the header's first byte, and a length.
@@ -244,6 +299,7 @@ impl<'a> FujiCompressed<'a> {
     /// `decode` with lent scratch. Refusal 10 too.
     pub fn decode_with(&self, scratch: &mut Scratch, image: &mut [u16], width: u32, height: u32, tile: &ColorTile) -> Result<()> {
         let mut refusal = [0; 4];
+        // SAFETY: each pointer and length is that of a slice or array that outlives the call; what is written to is borrowed exclusively.
         unsafe {
             ffi::fuji_decode(
                 self.stream.as_ptr(),
@@ -270,6 +326,7 @@ impl<'a> FujiCompressed<'a> {
 
     fn region_by(&self, of: RegionOf, scratch: &mut Scratch, image: &mut [u16], region: Rect, tile: &ColorTile) -> Result<()> {
         let mut refusal = [0; 4];
+        // SAFETY: each pointer and length is that of a slice or array that outlives the call; what is written to is borrowed exclusively.
         unsafe {
             of(
                 self.stream.as_ptr(),
@@ -313,6 +370,7 @@ impl<'a> FujiCompressed<'a> {
 
     fn counted(&self, of: CountedOf, scratch: &mut Scratch, i: usize) -> Counted {
         let (mut totals, mut refusal) = ([0; 2], [0; 4]);
+        // SAFETY: each pointer and length is that of a slice or array that outlives the call; what is written to is borrowed exclusively.
         unsafe {
             of(
                 self.stream.as_ptr(),
@@ -333,6 +391,7 @@ impl<'a> FujiCompressed<'a> {
     /// it has. Refusals 5, 8 and 14.
     pub fn bad_code(&self, i: usize) -> Result<Option<Fault>> {
         let (mut spot, mut refusal) = ([0; 6], [0; 4]);
+        // SAFETY: each pointer and length is that of a slice or array that outlives the call; what is written to is borrowed exclusively.
         unsafe { ffi::fuji_bad_code(self.stream.as_ptr(), self.stream.len(), i, &mut spot, &mut refusal) };
         match (Fault::of(spot), Refusal::answer(refusal)) {
             (Some(fault), _) => Ok(Some(fault)),
@@ -342,6 +401,7 @@ impl<'a> FujiCompressed<'a> {
 
     fn range(&self, of: RangeOf, i: usize) -> Result<(usize, usize)> {
         let (mut range, mut refusal) = ([0; 2], [0; 4]);
+        // SAFETY: each pointer and length is that of a slice or array that outlives the call; what is written to is borrowed exclusively.
         unsafe { of(self.stream.as_ptr(), self.stream.len(), i, &mut range, &mut refusal) };
         Refusal::answer(refusal).map(|()| (range[0], range[1]))
     }
@@ -358,11 +418,12 @@ impl<'a> FujiCompressed<'a> {
 /// ```
 pub fn short_codes(depth: u32, k: u32, length: u32, list: &mut [u32]) -> Result<usize> {
     let (mut count, mut refusal) = ([0; 1], [0; 4]);
+    // SAFETY: each pointer and length is that of a slice or array that outlives the call; what is written to is borrowed exclusively.
     unsafe { ffi::fuji_short_codes(depth, k, length, list.as_mut_ptr(), list.len(), &mut count, &mut refusal) };
     Refusal::answer(refusal).map(|()| count[0])
 }
 
-/// The base bytes of a lossy header's lines, as a plan says. The plan is text, one record a line: first line, last line, base, in decimal, parted by tabs, each of
+/// The base bytes of a lossy header's lines, as a plan says. The plan is text, one record a line: first line, last line, base, in decimal, tab-separated, each of
 /// 1 to 5 digits. Every line lies in exactly one record, in any order; byte n becomes the base of the record that holds line n. `bases` has as many bytes as there are
 /// lines. Of the header the first 16 bytes count. Refusals 1, 2, 16, 17, 18 (its `index` is the record's number, from 1 on), 19 and 20; each leaves `bases` as it was.
 ///
@@ -374,6 +435,7 @@ pub fn short_codes(depth: u32, k: u32, length: u32, list: &mut [u32]) -> Result<
 /// ```
 pub fn plan_bases(header: &[u8], plan: &[u8], bases: &mut [u8]) -> Result<()> {
     let mut refusal = [0; 4];
+    // SAFETY: each pointer and length is that of a slice or array that outlives the call; what is written to is borrowed exclusively.
     unsafe {
         ffi::fuji_plan_bases(header.as_ptr(), header.len(), plan.as_ptr(), plan.len(), bases.as_mut_ptr(), bases.len(), &mut refusal)
     };

@@ -4,9 +4,13 @@ use std::fmt;
 /// A refusal: its number, and the block, the line and the index that it names, 0 where it names none.
 #[derive(Debug, Clone, Copy, PartialEq, Eq)]
 pub struct Refusal {
+    /// The number in docs/FORMAT.md.
     pub number: u32,
+    /// The block that it names.
     pub block: usize,
+    /// The line of six rows that it names.
     pub line: usize,
+    /// The sample, or the record of a plan, that it names.
     pub index: usize,
 }
 
@@ -19,6 +23,7 @@ impl Refusal {
         }
     }
 
+    /// A sentence for it.
     pub fn words(&self) -> &'static str {
         match self.number {
             1 => "fewer than 16 bytes of header",
@@ -45,6 +50,8 @@ impl Refusal {
             22 => "the stored state is of another header or block",
             23 => "the line's depth and base have no entry, and all 16 are held",
             24 => "the depth is not 12, 14 or 16, k is above 15, or the length is not 1 to 16",
+            25 => "there is not one length for each block",
+            26 => "the block has 2^32 bytes or more",
             _ => "refused",
         }
     }
@@ -54,7 +61,7 @@ impl fmt::Display for Refusal {
     fn fmt(&self, f: &mut fmt::Formatter) -> fmt::Result {
         write!(f, "refusal {}: ", self.number)?;
         match self.number {
-            4 => write!(f, "block {}: ", self.block)?,
+            4 | 26 => write!(f, "block {}: ", self.block)?,
             11 | 12 => write!(f, "sample {}: ", self.index)?,
             14 | 23 => write!(f, "block {}, line {}: ", self.block, self.line)?,
             15 | 19 | 20 => write!(f, "line {}: ", self.line)?,

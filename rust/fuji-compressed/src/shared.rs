@@ -4,7 +4,9 @@ use crate::{ColorTile, Rect, Refusal, Result, Scratch, ffi, flat};
 /// One of the two cameras.
 #[derive(Debug, Clone, Copy, PartialEq, Eq)]
 pub enum Camera {
+    /// Camera 1.
     One,
+    /// Camera 2.
     Two,
 }
 
@@ -17,8 +19,8 @@ impl Camera {
     }
 }
 
-/// The 16 quantiser entries, one for each pair of depth and main base that a camera holds. They go by value into each call and come back from it. None is
-/// held at first.
+/// The 16 quantiser entries, one for each pair of depth and main base that a camera holds. Each call takes them and returns them. None is held at
+/// first.
 #[derive(Debug, Clone, Copy, PartialEq, Eq)]
 pub struct Quantisers {
     words: [u32; 128],
@@ -71,6 +73,7 @@ impl Quantisers {
         tile: &ColorTile,
     ) -> (Result<()>, Quantisers) {
         let mut refusal = [0; 4];
+        // SAFETY: each pointer and length is that of a slice or array that outlives the call; what is written to is borrowed exclusively.
         unsafe {
             ffi::fuji_decode_region_shared(
                 camera.number(),
@@ -96,7 +99,17 @@ impl Quantisers {
 
     /// The camera's stream ends: all that it holds is given back.
     pub fn end_stream(mut self, camera: Camera) -> Quantisers {
+        // SAFETY: each pointer and length is that of a slice or array that outlives the call; what is written to is borrowed exclusively.
         unsafe { ffi::fuji_end_stream(camera.number(), &mut self.words) };
         self
+    }
+
+    /// How many entries a camera holds.
+    pub fn held(&self, camera: Camera) -> usize {
+        let word = match camera {
+            Camera::One => 6,
+            Camera::Two => 7,
+        };
+        self.words.chunks_exact(8).filter(|entry| entry[word] != 0).count()
     }
 }

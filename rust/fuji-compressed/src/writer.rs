@@ -12,6 +12,7 @@ pub fn write_block(header: &[u8], samples: &[u16], out: &mut [u8]) -> Result<usi
 /// `write_block` with lent scratch. Refusal 10 too.
 pub fn write_block_with(scratch: &mut Scratch, header: &[u8], samples: &[u16], out: &mut [u8]) -> Result<usize> {
     let (mut length, mut refusal) = ([0; 1], [0; 4]);
+    // SAFETY: each pointer and length is that of a slice or array that outlives the call; what is written to is borrowed exclusively.
     unsafe {
         ffi::fuji_write_block(
             header.as_ptr(),
@@ -54,6 +55,7 @@ pub fn write_lossy(header: &[u8], bases: &[u8], samples: &[u16], out: &mut [u8])
 /// `write_lossy` with lent scratch. Refusal 10 too, after 9.
 pub fn write_lossy_with(scratch: &mut Scratch, header: &[u8], bases: &[u8], samples: &[u16], out: &mut [u8]) -> Result<usize> {
     let (mut length, mut refusal) = ([0; 1], [0; 4]);
+    // SAFETY: each pointer and length is that of a slice or array that outlives the call; what is written to is borrowed exclusively.
     unsafe {
         ffi::fuji_write_lossy(
             header.as_ptr(),
@@ -83,6 +85,7 @@ pub fn measure_block(header: &[u8], samples: &[u16]) -> Result<usize> {
 /// `measure_block` with lent scratch. Refusal 10 too.
 pub fn measure_block_with(scratch: &mut Scratch, header: &[u8], samples: &[u16]) -> Result<usize> {
     let (mut length, mut refusal) = ([0; 1], [0; 4]);
+    // SAFETY: each pointer and length is that of a slice or array that outlives the call; what is written to is borrowed exclusively.
     unsafe {
         ffi::fuji_measure_block(
             header.as_ptr(),

@@ -284,3 +284,27 @@ fn library_takes_streams_of_any_length() {
     let refused = FujiCompressed::new(cut).unwrap().bad_code(7).unwrap_err();
     assert_eq!((refused.number, refused.block, refused.line), (14, 7, 1));
 }
+
+/// What the program writes to standard output and to standard error, if its standard input is this.
+fn said_of(input: Stdio) -> (String, String) {
+    let output = Command::new(root().join("tight-report")).stdin(input).output().unwrap();
+    (String::from_utf8(output.stdout).unwrap(), String::from_utf8(output.stderr).unwrap())
+}
+
+#[test]
+fn a_read_that_fails_gives_no_verdict() {
+    let (out, err) = said_of(std::fs::File::open(root()).unwrap().into()); // a folder cannot be read
+    assert_eq!(out, "");
+    assert!(err.contains("cannot be read"), "{err}");
+}
+
+#[test]
+fn input_that_is_cut_is_said_to_be() {
+    let long = root().join("samples/bayer.fcs");
+    assert!(std::fs::metadata(&long).unwrap().len() > MOST as u64);
+    let (out, err) = said_of(std::fs::File::open(long).unwrap().into());
+    assert!(out.starts_with(HEADING), "{out}");
+    assert!(err.contains("longer than 65,536 bytes"), "{err}");
+    let (_, err) = said_of(std::fs::File::open(root().join("samples/escape.fcs")).unwrap().into());
+    assert_eq!(err, "");
+}

@@ -1,30 +1,57 @@
-//! Shows, checks, writes, measures and decodes Fuji compressed raw streams, lists short codes, reads plans of bases, and stores states to go on from. Status 0: all was done; 1: something was refused or failed; 2: wrong usage.
+//! Shows, checks, decodes, tightens, copies, compares and measures Fuji compressed raw streams, by themselves or in
+//! camera files. The texts of --help say what each command does, and what each status means.
 mod arguments;
+mod blocks;
+mod calls;
+mod check;
 mod codes;
+mod compare;
+mod decode;
+mod draft;
 mod files;
+mod header_rules;
+mod help;
+mod info;
+mod inputs;
+mod json;
+mod lamp;
+mod make;
 mod manual;
+mod memory;
+mod output;
 mod picture;
 mod png;
+mod pool;
 mod progress;
+mod raf;
+mod read_back;
+mod size;
+mod source;
 mod states;
-mod stream;
+mod svg;
 mod tile;
+mod time;
+mod wording;
+mod words;
 
-use arguments::{Call, Decode};
+use calls::{Call, Json};
+use inputs::Input;
+use source::Source;
 use std::io::Write;
-use std::path::{Path, PathBuf};
+use std::path::PathBuf;
 use std::process::ExitCode;
 
-const HELP: &str = include_str!("../text/help.txt");
 const VERSION: &str = env!("CARGO_PKG_VERSION");
 
 fn main() -> ExitCode {
+    memory::give_back();
     let words = std::env::args_os().skip(1).collect();
     match arguments::read(words) {
         Ok(call) => answer(call),
         Err(wrong) => {
-            let usage = HELP.split("\n\n").next().unwrap_or_default();
-            complain(&format!("fujiraw: {wrong}\n{usage}"));
+            let about = wrong.command.as_deref().unwrap_or_default();
+            let more = if about.is_empty() { "fujiraw --help".to_string() } else { format!("fujiraw {about} --help") };
+            complain(&format!("fujiraw: {}\n{}\nSee {more}", wrong.text, help::usage(about)));
             ExitCode::from(2)
         }
     }
@@ -32,78 +59,89 @@ fn main() -> ExitCode {
 
 fn answer(call: Call) -> ExitCode {
     match call {
-        Call::Help => status(files::print(HELP)),
+        Call::Help(text) => status(files::print(text)),
         Call::Version => status(files::print(&format!("fujiraw {VERSION}\n"))),
-        Call::Manual => status(files::print(&manual::page(HELP, VERSION))),
-        Call::Info(streams, blocks) => run(&streams, |file| files::print(&stream::info(file, blocks.0)?)),
-        Call::Check(streams, quiet) => run(&streams, |file| check(file, quiet.0)),
-        Call::Write([header, samples, out], bases) => run(&[samples], |samples| {
-            let block = stream::write(&header, samples, bases.as_ref())?;
-            let read = [Some(header.as_path()), Some(samples), bases.as_ref().map(|b| b.file())];
-            files::write(&read.into_iter().flatten().collect::<Vec<_>>(), &out, |o| o.write_all(&block))
-        }),
-        Call::Size(header, samples) => status(stream::size(&header, samples.as_deref()).and_then(|n| files::print(&format!("{n}\n")))),
-        Call::Plan([header, plan, out]) => run(&[plan], |plan| {
-            let bases = stream::plan(&header, plan)?;
-            files::write(&[&header, plan], &out, |o| o.write_all(&bases))
-        }),
+        Call::Manual => status(files::print(&manual::page(VERSION))),
+        Call::Info(files, blocks, json) => info(&files, blocks.0, json),
+        Call::Check(call) => ended(check::check(&call)),
+        Call::Decode(call) => run(&inputs::all(&call.files, Some(&call.place.out)), call.quiet.0, |input| decode::decode(&call, input)),
+        Call::Make(call) => run(&inputs::all(&call.files, Some(&call.place.out)), call.quiet.0, |input| make::make(&call, input)),
+        Call::Compare(call) => ended(compare::compare(&call)),
+        Call::Lamp(call) => ended(lamp::lamp(&call)),
+        Call::Size(call) => ended(size::size(&call)),
+        Call::Lines(call) => status(blocks::lines(&call)),
+        Call::Write(call) => status(blocks::write(&call)),
+        Call::Plan(call) => status(blocks::plan(&call)),
+        Call::Save(call) => status(states::save(&call)),
         Call::Codes([depth, k, length]) => {
             status(codes::sheet(depth, k, length).map_err(|e| e.to_string()).and_then(|text| files::print(&text)))
         }
-        Call::Save(call) => run(&[call.stream.clone()], |file| {
-            let states = states::save(file, call.block, call.line)?;
-            files::write(&[file], &call.out, |o| o.write_all(&states))
-        }),
-        Call::Decode(call) => run(&call.streams, |file| decode(&call, file)),
     }
 }
 
 /// A line on standard error; if that is closed too, nobody is there to be told.
-fn complain(text: &str) {
+pub fn complain(text: &str) {
     let _ = writeln!(std::io::stderr(), "{text}");
 }
 
 fn status(done: Result<(), String>) -> ExitCode {
-    match done {
-        Ok(()) => ExitCode::SUCCESS,
-        Err(why) => {
-            complain(&why);
-            ExitCode::FAILURE
+    ended(done.map(|()| ExitCode::SUCCESS))
+}
+
+fn ended(done: Result<ExitCode, String>) -> ExitCode {
+    done.unwrap_or_else(|why| {
+        complain(&why);
+        ExitCode::FAILURE
+    })
+}
+
+fn info(named: &[PathBuf], read: bool, json: Json) -> ExitCode {
+    let all = inputs::all(named, None);
+    let opened = |input: &Input| match &input.broken {
+        Some(why) => Err(source::Fault::from(why.clone())),
+        None => Source::open(&input.path),
+    };
+    if !json.0 {
+        return run(&all, true, |input| files::print(&info::words(&opened(input)?, read)?));
+    }
+    let mut status = ExitCode::SUCCESS;
+    for input in &all {
+        let source = opened(input);
+        if source.is_err() {
+            status = ExitCode::FAILURE;
+        }
+        if let Err(why) = files::print(&(info::json(&files::name(&input.path), &source, read) + "\n")) {
+            return ended(Err(why));
         }
     }
+    status
 }
 
-/// A line for each block; what is wrong with some is an error of its own.
-fn check(file: &Path, quiet: bool) -> Result<(), String> {
-    let (text, wrong) = stream::check(file, quiet)?;
-    files::print(&text)?;
-    wrong.map_or(Ok(()), Err)
-}
-
-fn decode(call: &Decode, file: &Path) -> Result<(), String> {
-    let out = call.output_of(file);
-    let (picture, tile) = stream::decode(file, call)?;
-    let read = [Some(file), call.from.as_deref()];
-    files::write(&read.into_iter().flatten().collect::<Vec<_>>(), &out, |o| call.look.write(&picture, o))?;
-    // The picture itself may be on standard output.
-    if call.quiet.0 || files::is_standard(&out) {
-        return Ok(());
-    }
-    let (width, height) = (picture.width, picture.height);
-    files::print(&format!("{}: {width} x {height} samples, {} bits, tile {}\n", out.display(), picture.bits, tile::name(&tile)))
-}
-
-/// One stream after the other. What is wrong with one does not keep the others from their turn; with several, each line names its stream.
-fn run(streams: &[PathBuf], work: impl Fn(&Path) -> Result<(), String>) -> ExitCode {
-    let mut all = ExitCode::SUCCESS;
-    for file in streams {
-        if let Err(why) = work(file) {
-            all = ExitCode::FAILURE;
-            match streams.len() {
-                1 => complain(&why),
-                _ => complain(&format!("{}: {why}", files::name(file))),
+/// One file after the other. What is wrong with one does not keep the others from their turn; with several, each line
+/// names its file, and the last one counts them.
+fn run(all: &[Input], quiet: bool, work: impl Fn(&Input) -> Result<(), String>) -> ExitCode {
+    let mut failed = 0;
+    for input in all {
+        let done = match &input.broken {
+            Some(why) => Err(why.clone()),
+            None => work(input),
+        };
+        if let Err(why) = done {
+            failed += 1;
+            match all.len() {
+                1 if input.broken.is_none() => complain(&why),
+                _ => complain(&format!("{}: {why}", files::name(&input.path))),
             }
         }
     }
-    all
+    if all.len() > 1 && (!quiet || failed > 0) {
+        let line = format!("{}: {} done, {failed} failed", wording::count(all.len(), "file"), all.len() - failed);
+        // Where something failed the count stands with what is said of it.
+        if failed > 0 {
+            complain(&line);
+        } else if let Err(why) = files::print(&(line + "\n")) {
+            return ended(Err(why));
+        }
+    }
+    if failed > 0 { ExitCode::FAILURE } else { ExitCode::SUCCESS }
 }

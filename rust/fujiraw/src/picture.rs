@@ -1,6 +1,7 @@
 //! Pictures, and the forms in which they are written.
 use crate::png;
 use std::io::{Result, Write};
+use std::path::Path;
 
 pub struct Picture {
     pub width: u32,
@@ -32,6 +33,19 @@ impl Format {
         }
     }
 
+    /// The format that an output's name asks for: pgm if it has no ending that means a picture.
+    pub fn of_ending(out: &Path) -> std::result::Result<Format, String> {
+        let ending = out.extension().map(|e| e.to_string_lossy().to_lowercase()).unwrap_or_default();
+        let others = [
+            "tif", "tiff", "jpg", "jpeg", "jxl", "bmp", "gif", "webp", "avif", "heic", "heif", "ppm", "pnm", "pdf", "dng", "raf", "fcs",
+            "exr",
+        ];
+        if others.contains(&ending.as_str()) {
+            return Err(format!("decode writes .png, .pgm and .raw, not .{ending}: change the name {}, or use --format", out.display()));
+        }
+        Ok(Format::of(&ending).unwrap_or(Format::Pgm))
+    }
+
     pub fn extension(self) -> &'static str {
         match self {
             Format::Pgm => "pgm",
@@ -42,6 +56,11 @@ impl Format {
 }
 
 impl Look {
+    /// The size of what is written of a picture.
+    pub fn size(&self, picture: &Picture) -> (u32, u32) {
+        if self.preview { small_size(picture) } else { (picture.width, picture.height) }
+    }
+
     pub fn write(&self, picture: &Picture, out: &mut dyn Write) -> Result<()> {
         match (self.preview, self.format) {
             (true, Format::Png) => {
@@ -79,9 +98,14 @@ fn bytes(row: &[u16], of: impl Fn(u16) -> [u8; 2]) -> Vec<u8> {
     row.iter().flat_map(|v| of(*v)).collect()
 }
 
-/// The mean of each 6 by 6 samples, at the edges of those that are there, and the brightest mean white: its width, height and samples.
+fn small_size(picture: &Picture) -> (u32, u32) {
+    (picture.width.div_ceil(6), picture.height.div_ceil(6))
+}
+
+/// The mean of each 6 by 6 samples, at the edges of those that are there, and the brightest mean white: its width,
+/// height and samples.
 fn preview(picture: &Picture) -> (u32, u32, Vec<u8>) {
-    let (width, height) = (picture.width.div_ceil(6), picture.height.div_ceil(6));
+    let (width, height) = small_size(picture);
     let mut sums = vec![(0u64, 0u64); width as usize * height as usize];
     for (y, row) in picture.rows().enumerate() {
         for (x, v) in row.iter().enumerate() {

@@ -1,7 +1,8 @@
 //! Grey pictures as PNG, with stored deflate blocks: larger than they need be, and written without outside crates.
 use std::io::{Result, Write};
 
-/// `depth` is 8 or 16 bits a sample, of which the first `significant` count. Rows are the samples' bytes, the higher byte first.
+/// `depth` is 8 or 16 bits a sample, of which the first `significant` count. Rows are the samples' bytes, the higher
+/// byte first.
 pub fn write(out: &mut dyn Write, width: u32, height: u32, depth: u8, significant: u8, rows: impl Iterator<Item = Vec<u8>>) -> Result<()> {
     out.write_all(b"\x89PNG\r\n\x1a\n")?;
     let mut head = [width.to_be_bytes(), height.to_be_bytes()].concat();

@@ -1,8 +1,8 @@
 //! The colours of sensors, by name.
 use fuji_compressed::ColorTile;
 
-/// The colours by name: 0 red, 1 green, 2 blue, six rows of six from the picture's first sample on. All cameras with compressed X-Trans streams have this
-/// one; no interpolated sample shows through it.
+/// The colours by name: 0 red, 1 green, 2 blue, six rows of six from the picture's first sample on. All cameras with
+/// compressed X-Trans streams have this one; no interpolated sample shows through it.
 const NAMED: [(&str, [&[u8; 6]; 6]); 5] = [
     ("rggb", [b"010101", b"121212", b"010101", b"121212", b"010101", b"121212"]),
     ("bggr", [b"212121", b"101010", b"212121", b"101010", b"212121", b"101010"]),

@@ -24,7 +24,7 @@ fn says(out: &Output) -> (Option<i32>, String) {
 fn standard_input_and_output() {
     let f = Folder::new("standard");
     f.put("a.fcs", &stream());
-    f.works("decode a.fcs a.pgm");
+    f.works("decode -f a.fcs a.pgm");
     let out = shell(&f, "cat a.fcs | fujiraw decode - -");
     assert_eq!(says(&out), (Some(0), String::new()));
     assert_eq!(out.stdout, f.get("a.pgm"));
@@ -33,17 +33,19 @@ fn standard_input_and_output() {
     assert_eq!(f.get("out/stdin.pgm"), f.get("a.pgm"));
     assert!(text(&shell(&f, "fujiraw info - < a.fcs").stdout).starts_with("standard input: "));
     let checked = text(&shell(&f, "fujiraw check - < a.fcs").stdout);
-    assert!(checked.starts_with("standard input: block 0: ") && checked.ends_with(", tight\n"), "{checked}");
-    assert_eq!(says(&shell(&f, "fujiraw info - < /dev/null")), (Some(1), "refusal 1: fewer than 16 bytes of header\n".to_string()));
+    assert!(checked.starts_with("standard input: tight, "), "{checked}");
+    let empty = "refusal 1: fewer than 16 bytes of header: there are 0\n";
+    assert_eq!(says(&shell(&f, "fujiraw info - < /dev/null")), (Some(1), empty.to_string()));
     // A set and a plan.
     f.put("header", &stream()[..16]);
     f.put("samples", &[0; 18_432]);
-    f.works("write header samples block");
+    f.works("write -f header samples block");
     let out = shell(&f, "fujiraw write header - - < samples");
     assert_eq!(says(&out), (Some(0), String::new()));
     assert_eq!(out.stdout, f.get("block"));
     let out = shell(&f, r"printf '0\t1\t7\n' | fujiraw plan header - -");
-    assert_eq!(says(&out), (Some(1), "refusal 16: the header is lossless\n".to_string()));
+    let lossless = "refusal 16: the header is lossless: plans are for lossy headers; to make a lossy copy of a lossless stream, use fujiraw copy IN OUT --plan PLAN\n";
+    assert_eq!(says(&out), (Some(1), lossless.to_string()));
 }
 
 #[test]
@@ -58,7 +60,15 @@ fn full_disk_and_closed_pipe_in_every_command() {
         "info a.fcs",
         "check a.fcs",
         "decode a.fcs -",
-        "decode a.fcs a.pgm",
+        "decode a.fcs a.pgm -f",
+        "tighten a.fcs -",
+        "copy a.fcs - --base 1",
+        "tighten a.fcs tight -f",
+        "compare a.fcs a.fcs",
+        "lamp a.fcs",
+        "lamp a.fcs --csv --lines",
+        "size a.fcs",
+        "lines a.fcs 0 -",
         "write header samples -",
         "plan lossy plan -",
         "codes 14 8 9",
@@ -99,18 +109,18 @@ fn links_are_followed_and_permissions_stay() {
     fs::set_permissions(f.0.join("real"), fs::Permissions::from_mode(0o640)).unwrap();
     symlink("real", f.0.join("link")).unwrap();
     symlink("link", f.0.join("second")).unwrap();
-    f.works("decode a.fcs second --quiet");
+    f.works("decode -f a.fcs second --quiet");
     assert!(fs::symlink_metadata(f.0.join("second")).unwrap().is_symlink() && fs::symlink_metadata(f.0.join("link")).unwrap().is_symlink());
     assert!(f.get("real").starts_with(b"P5\n"));
     assert_eq!(fs::metadata(f.0.join("real")).unwrap().permissions().mode() & 0o777, 0o640);
     // A link to a file that is not there yet, in another folder.
     fs::create_dir(f.0.join("folder")).unwrap();
     symlink("folder/new", f.0.join("ahead")).unwrap();
-    f.works("decode a.fcs ahead --quiet");
+    f.works("decode -f a.fcs ahead --quiet");
     assert!(fs::symlink_metadata(f.0.join("ahead")).unwrap().is_symlink());
     assert_eq!(f.get("folder/new"), f.get("real"));
     symlink("a.fcs", f.0.join("input")).unwrap();
-    f.fails("decode a.fcs input", "cannot write input: it is read for this");
+    f.fails("decode a.fcs input", "cannot write input: it is also an input");
 }
 
 #[test]
@@ -122,19 +132,27 @@ fn files_that_cannot_be_read_or_written() {
     fs::set_permissions(f.0.join("locked"), fs::Permissions::from_mode(0o400)).unwrap();
     fs::create_dir(f.0.join("folder")).unwrap();
     // One byte more than any stream has; the file takes no room.
-    File::create(f.0.join("large")).unwrap().set_len(68_719_520_577).unwrap();
+    File::create(f.0.join("large")).unwrap().set_len(73_014_487_872).unwrap();
     for command in ["info", "check"] {
-        f.fails(&format!("{command} missing"), "cannot read missing: no such file or directory");
-        f.fails(&format!("{command} folder"), "cannot read folder: is a directory");
-        f.fails(&format!("{command} empty"), "refusal 1: fewer than 16 bytes of header");
-        f.fails(&format!("{command} large"), "cannot read large: it is too large, no stream has more than 68719520576 bytes");
-        // A file that the system does not let be read, even by root.
-        f.fails(&format!("{command} /proc/self/mem"), "cannot read /proc/self/mem: input/output error");
+        for (file, says) in [
+            ("missing", "cannot read missing: no such file or directory"),
+            ("folder", "no camera files or streams (.raf, .fcs) in this folder"),
+            ("empty", "refusal 1: fewer than 16 bytes of header: there are 0"),
+            ("large", "cannot read large: it is too large, no stream or camera file has more than 73014487871 bytes"),
+            // A file that the system does not let be read, even by root.
+            ("/proc/self/mem", "cannot read /proc/self/mem: input/output error"),
+        ] {
+            let out = f.run(&format!("{command} {file}"));
+            let said = text(&out.stdout) + &text(&out.stderr);
+            assert!(said.ends_with(&format!("{says}\n")) && said.lines().count() == 1, "{command}: {said}");
+            assert_eq!(out.status.code(), Some(if command == "check" { 5 } else { 1 }), "{command} {file}");
+        }
     }
     f.fails("decode /proc/self/mem out", "cannot read /proc/self/mem: input/output error");
-    f.fails("decode large out", "cannot read large: it is too large, no stream has more than 68719520576 bytes");
-    f.fails("decode a.fcs locked", "cannot write locked: it is read-only");
-    f.fails("decode a.fcs a.fcs", "cannot write a.fcs: it is read for this");
+    f.fails("decode large out", "cannot read large: it is too large, no stream or camera file has more than 73014487871 bytes");
+    f.fails("decode a.fcs locked", "cannot write locked: it already exists; use --force (-f) to replace it");
+    f.fails("decode a.fcs locked -f", "cannot write locked: it is read-only");
+    f.fails("decode a.fcs a.fcs", "cannot write a.fcs: it is also an input");
     f.fails("decode a.fcs /proc/none", "cannot write /proc/none: no such file or directory");
     assert_eq!(f.get("locked"), b"old");
 }
@@ -155,12 +173,13 @@ fn short_memory_is_an_error_in_words() {
     f.put("some.fcs", &huge(16));
     // 200 MB: enough for the program, not for the picture.
     let with = |line: &str| shell(&f, &format!("ulimit -v 200000; fujiraw {line}"));
-    assert_eq!(says(&with("decode empty.fcs out")), (Some(1), "refusal 14: block 0, line 0: a line is truncated\n".to_string()));
+    let cut = "refusal 14: block 0, line 0: a line is truncated; use --partial to write the rows before it\n".to_string();
+    assert_eq!(says(&with("decode empty.fcs out")), (Some(1), cut.clone()));
     let short = "there is not enough memory for a picture of 12288 x 16386 samples\n";
     assert_eq!(says(&with("decode some.fcs out")), (Some(1), short.to_string()));
     assert!(with("info some.fcs").status.success());
     // With memory it is refused, since its block is cut.
-    assert_eq!(says(&f.run("decode some.fcs out")), (Some(1), "refusal 14: block 0, line 0: a line is truncated\n".to_string()));
+    assert_eq!(says(&f.run("decode some.fcs out")), (Some(1), cut));
     assert_eq!(f.names(), ["empty.fcs", "some.fcs"]);
 }
 
@@ -188,7 +207,8 @@ fn nothing_is_shown_of_how_far_it_is_without_a_terminal() {
     assert_eq!(text(&f.run("decode a.fcs out").stderr), "");
     // `script` gives the program a terminal.
     let seen = |line: &str| text(&shell(&f, &format!("script -qec '{line}' /dev/null < /dev/null")).stdout);
-    assert!(seen("fujiraw decode a.fcs out").contains("a.fcs: 1 of 1 blocks, "));
-    assert!(seen("fujiraw check a.fcs").contains("a.fcs: 1 of 1 blocks, "));
-    assert!(!seen("fujiraw decode a.fcs out --quiet").contains("blocks"));
+    assert!(seen("fujiraw decode a.fcs out -f").contains("a.fcs: 1 of 1 blocks, "));
+    assert!(seen("fujiraw tighten a.fcs out -f").contains("a.fcs: 1 of 1 blocks, "));
+    assert!(seen("fujiraw check a.fcs").contains("check: 1 of 1 sheets"));
+    assert!(!seen("fujiraw decode a.fcs out --quiet -f").contains("blocks"));
 }

@@ -27,13 +27,13 @@ fn usual_tile_shows_the_picture_that_the_encoder_had() {
     put_samples(&f);
     // The X-Trans sample is lossy, with base 2.
     for (stream, tile, most) in [("bayer.fcs", "rggb", 0), ("xtrans.fcs", "xtrans", 2)] {
-        let said = f.works(&format!("decode {stream} usual --format raw"));
+        let said = f.works(&format!("decode -f {stream} usual --format raw"));
         assert_eq!(said, format!("usual: 768 x 144 samples, 14 bits, tile {tile}\n"));
         assert!(farthest(&f.get("usual")) <= most, "{stream}");
-        assert!(f.works(&format!("info {stream}")).contains(&format!("\n  tile {tile}, if none is named\n")));
-        f.works(&format!("decode {stream} named --format=raw --tile={tile}"));
+        assert!(f.works(&format!("info {stream}")).contains(&format!("\n  tile {tile} (default)\n")));
+        f.works(&format!("decode -f {stream} named --format=raw --tile={tile}"));
         assert_eq!(f.get("named"), f.get("usual"));
-        f.works(&format!("decode {stream} other --format=raw --tile grbg"));
+        f.works(&format!("decode -f {stream} other --format=raw --tile grbg"));
         assert!(farthest(&f.get("other")) > most, "{stream}");
     }
 }
@@ -47,12 +47,12 @@ fn xtrans_picture_without_a_tile_is_the_one_that_its_encoder_had() {
     let header = common::stream::Header::new(true, true, 14, 768, 2);
     f.put("a.fcs", &common::stream::encoded(&header, &[], &mut |_, n, line, p| lines[n][line][p]));
     let whole: Vec<u8> = (0..12).flat_map(|y| (0..768).flat_map(move |x| picture(x, y).to_le_bytes())).collect();
-    f.works("decode a.fcs usual --format raw");
+    f.works("decode -f a.fcs usual --format raw");
     assert!(f.get("usual") == whole);
-    f.works("decode a.fcs named --format raw --tile xtrans");
+    f.works("decode -f a.fcs named --format raw --tile xtrans");
     assert!(f.get("named") == whole);
     // Shifted by a column, as it once was.
-    f.works("decode a.fcs shifted --format raw --tile 121101101121212010101121121101010212");
+    f.works("decode -f a.fcs shifted --format raw --tile 121101101121212010101121121101010212");
     assert!(f.get("shifted") != whole);
 }
 
@@ -64,15 +64,16 @@ fn tiles_by_name_and_by_digits() {
         [("rggb", ["010101", "121212"]), ("bggr", ["212121", "101010"]), ("grbg", ["101010", "212121"]), ("gbrg", ["121212", "010101"])];
     for (name, rows) in named {
         let digits = rows.concat().repeat(3);
-        assert_eq!(f.works(&format!("decode a.fcs a --tile {name}")), format!("a: 768 x 12 samples, 12 bits, tile {name}\n"));
-        assert_eq!(f.works(&format!("decode a.fcs b --tile {digits}")), format!("b: 768 x 12 samples, 12 bits, tile {name}\n"));
+        assert_eq!(f.works(&format!("decode -f a.fcs a --tile {name}")), format!("a: 768 x 12 samples, 12 bits, tile {name}\n"));
+        assert_eq!(f.works(&format!("decode -f a.fcs b --tile {digits}")), format!("b: 768 x 12 samples, 12 bits, tile {name}\n"));
         assert_eq!(f.get("a"), f.get("b"));
     }
     let digits = "0".repeat(36);
-    assert_eq!(f.works(&format!("decode a.fcs a --tile {digits}")), format!("a: 768 x 12 samples, 12 bits, tile {digits}\n"));
+    assert_eq!(f.works(&format!("decode -f a.fcs a --tile {digits}")), format!("a: 768 x 12 samples, 12 bits, tile {digits}\n"));
 }
 
-/// What another reader of PNG says: width, height, depth, colour type, significant bits, and the rows, each after its filter.
+/// What another reader of PNG says: width, height, depth, colour type, significant bits, and the rows, each after its
+/// filter.
 const READER: &str = r#"
 import struct, sys, zlib
 d = open(sys.argv[1], "rb").read()
@@ -101,14 +102,14 @@ fn read_png(f: &Folder, name: &str) -> String {
 fn png_holds_the_samples() {
     let f = Folder::new("png");
     f.put("a.fcs", &stream());
-    f.works("decode a.fcs a.png --format png --region 1,2,5,7");
+    f.works("decode -f a.fcs a.png --format png --region 1,2,5,7");
     // 12 bits, before four zeros.
     let rows: String =
         (2..9).map(|y| "00".to_string() + &(1..6).map(|x| format!("{:04x}", sample(x, y) << 4)).collect::<String>()).collect();
     assert_eq!(read_png(&f, "a.png"), format!("5 7 16 0 0 0 0 12 {rows}\n"));
     // A row of more bytes than a stored block holds.
     f.put("wide.fcs", &common::stream::encoded(&common::stream::Header::new(true, false, 16, 768, 1), &[], &mut |_, _, _, _| 65_535));
-    f.works("decode wide.fcs a.png --format png");
+    f.works("decode -f wide.fcs a.png --format png");
     let row = "00".to_string() + &"ffff".repeat(768);
     assert_eq!(read_png(&f, "a.png"), format!("768 6 16 0 0 0 0 16 {}\n", row.repeat(6)));
 }
@@ -118,7 +119,7 @@ fn preview_is_the_mean_of_each_tile() {
     let f = Folder::new("preview");
     f.put("a.fcs", &stream());
     // Columns 0 to 9: a whole tile, and four columns of the next.
-    assert_eq!(f.works("decode a.fcs a.pgm --preview --region 0,0,10,8"), "a.pgm: 10 x 8 samples, 12 bits, tile rggb\n");
+    assert_eq!(f.works("decode -f a.fcs a.pgm --preview --region 0,0,10,8"), "a.pgm: 2 x 2 samples, 12 bits, tile rggb, a small picture\n");
     let mean = |xs: std::ops::Range<usize>, ys: std::ops::Range<usize>| {
         let all: Vec<u64> = ys.flat_map(|y| xs.clone().map(move |x| sample(x, y) as u64)).collect();
         all.iter().sum::<u64>() / all.len() as u64
@@ -127,7 +128,7 @@ fn preview_is_the_mean_of_each_tile() {
     let most = means.iter().max().unwrap();
     let small: Vec<u8> = means.iter().map(|m| (m * 255 / most) as u8).collect();
     assert_eq!(f.get("a.pgm"), [&b"P5\n2 2\n255\n"[..], &small].concat());
-    f.works("decode a.fcs a.png --preview --format png --region 0,0,10,8");
+    f.works("decode -f a.fcs a.png --preview --format png --region 0,0,10,8");
     let hex: Vec<String> = small.iter().map(|b| format!("{b:02x}")).collect();
     assert_eq!(read_png(&f, "a.png"), format!("2 2 8 0 0 0 0 8 00{}{}00{}{}\n", hex[0], hex[1], hex[2], hex[3]));
 }
@@ -138,8 +139,8 @@ fn windows_give_the_same_picture() {
     put_samples(&f);
     for stream in ["bayer.fcs", "xtrans.fcs"] {
         for part in ["", "--region 3,40,700,50"] {
-            let said = f.works(&format!("decode {stream} a --format raw {part}"));
-            assert_eq!(f.works(&format!("decode {stream} b --format raw --windowed {part}")), said.replace("a:", "b:"));
+            let said = f.works(&format!("decode -f {stream} a --format raw {part}"));
+            assert_eq!(f.works(&format!("decode -f {stream} b --format raw --windowed {part}")), said.replace("a:", "b:"));
             assert!(f.get("a") == f.get("b"), "{stream} {part}");
         }
         // What is truncated is refused in the same words, and writes no file.
@@ -149,7 +150,7 @@ fn windows_give_the_same_picture() {
         std::fs::remove_file(f.0.join("cut.fcs")).unwrap();
     }
     f.is_wrong("decode bayer.fcs a --windowed=1", "--windowed takes no value");
-    f.is_wrong("check bayer.fcs --windowed", "check takes no --windowed");
+    f.is_wrong("check bayer.fcs --windowed", "check has no option --windowed");
 }
 
 #[test]
@@ -157,10 +158,10 @@ fn region_over_several_blocks_is_a_part_of_the_whole() {
     let f = Folder::new("blocks");
     let header = common::stream::Header::new(true, false, 12, 1560, 2);
     f.put("a.fcs", &common::stream::encoded(&header, &[], &mut |b, n, line, p| (1000 * b + 300 * n + 10 * line + p % 7) as u16));
-    f.works("decode a.fcs whole --format raw --quiet");
+    f.works("decode -f a.fcs whole --format raw --quiet");
     let whole = f.get("whole");
     for (x, y, width, height) in [(0, 0, 1560, 12), (767, 5, 2, 2), (700, 1, 860, 11), (1536, 0, 24, 12), (3, 7, 1, 1)] {
-        f.works(&format!("decode a.fcs part --format raw --quiet --region {x},{y},{width},{height}"));
+        f.works(&format!("decode -f a.fcs part --format raw --quiet --region {x},{y},{width},{height}"));
         let rows = (y..y + height).map(|y| &whole[2 * (1560 * y + x)..2 * (1560 * y + x + width)]);
         assert_eq!(f.get("part"), rows.collect::<Vec<_>>().concat(), "{x},{y},{width},{height}");
     }
@@ -172,9 +173,9 @@ fn any_number_of_threads_gives_the_same_picture() {
     let header = common::stream::Header::new(true, true, 14, 2304, 3);
     let bytes = common::stream::encoded(&header, &[], &mut |b, n, line, p| (1000 * b + 300 * n + 10 * line + p % 7) as u16);
     f.put("a.fcs", &bytes);
-    f.works("decode a.fcs one --format raw --quiet --threads 1");
+    f.works("decode -f a.fcs one --format raw --quiet --threads 1");
     for threads in ["2", "3", "7", "1024", "1 --windowed", "2 --windowed"] {
-        f.works(&format!("decode a.fcs more --format raw --quiet --threads {threads}"));
+        f.works(&format!("decode -f a.fcs more --format raw --quiet --threads {threads}"));
         assert_eq!(f.get("one"), f.get("more"), "{threads}");
     }
     // the lowest block that fails is named, however many are read at a time
@@ -186,6 +187,6 @@ fn any_number_of_threads_gives_the_same_picture() {
         f.fails(&format!("decode cut.fcs out --threads {threads}"), text(&said).trim_end());
     }
     for wrong in ["0", "x", "-1", "1025"] {
-        f.is_wrong(&format!("decode a.fcs out --threads={wrong}"), &format!("threads are a number from 1 to 1024: not {wrong}"));
+        f.is_wrong(&format!("decode a.fcs out --threads={wrong}"), &format!("--threads takes a number from 1 to 1024: not {wrong}"));
     }
 }

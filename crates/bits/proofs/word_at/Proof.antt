@@ -6,7 +6,8 @@ use mathlib.Core.List.{List}
 use Prim.Native.Nat.{ℕ, _+_, _*_, _/_, _%_, _^_, _≤_, _<_}
 use lib.ListN.{length}
 use native.Mathlib.Omega.{arith}
-use Rattle.bits.specs.Bits.{bitsAt, wordAt}
+use Rattle.bits.specs.Bits.{bitsAt}
+use Rattle.bits.specs.Inside.{wordAt}
 use Rattle.bits.proofs.BitLaws.{shifted-window}
 use Rattle.bits.proofs.word_at.Statement.{statement}
 use Rattle.bits.proofs.word_at.Tie as tie

@@ -34,8 +34,8 @@ use denote.Triple.Statement.{Contract, Triple}
 use denote.Triple.Table.{entered, cited}
 use denote.Triple.Walked.{says, Stays, stay-none, stay-none-slice, walkOf, goes-none, goes-none-slice, Walks, ends-at, walked, walk-meets}
 use denote.Exit.{yes}
-use Rattle.bits.specs.Bits.{wordAt}
-use Rattle.bit_pump.specs.Pump.{nextWord}
+use Rattle.bits.specs.Inside.{wordAt}
+use Rattle.bit_pump.specs.Inside.{nextWord}
 use Rattle.bits.specs.declared.BitPosition.{BitPosition}
 use Rattle.bit_pump.specs.declared.BitPumpMsb.{BitPumpMsb}
 use Rattle.bits.proofs.BitPosition as P

@@ -5,7 +5,8 @@ use mathlib.Core.List.{List}
 use Prim.Native.Nat.{ℕ, _+_, _-_, _*_, _/_, _%_, _^_, _≤_, _<_}
 use native.Mathlib.Omega.{arith}
 use lib.Count.{leadingZeros}
-use Rattle.bits.specs.Bits.{bitsAt, wordAt}
+use Rattle.bits.specs.Bits.{bitsAt}
+use Rattle.bits.specs.Inside.{wordAt}
 use Rattle.bits.proofs.RunLaws.{run-inside}
 use Rattle.code.specs.Codes.{shortCode}
 use Rattle.code.specs.Inside.{shortAt}

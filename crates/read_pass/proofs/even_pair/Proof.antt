@@ -3,18 +3,21 @@ use borrow.Author.Needs.{needs}
 use mathlib.Core.Bool.{true, not}
 use mathlib.Core.Logic.{⊎-elim}
 use mathlib.Core.Option.{some}
-use mathlib.Core.Path.{_≡_, sym, _∙_}
+use mathlib.Core.Path.{_≡_, refl, sym, _∙_}
 use Prim.Native.Nat.{_≤_}
 use native.Mathlib.Omega.{arith}
-use lib.ListN.{length}
+use lib.ListN.{length, length-set}
 use Rattle.pass_schedule.specs.Steps.{interpolated, stepAt}
 use Rattle.pass_steps.specs.Values.{SetInRange, AreKs}
+use Rattle.pass_ahead.specs.Arrays.{EvenHere}
+use Rattle.pass_ahead.proofs.AheadLaws.{even-here-kept}
 use Rattle.read_pass.specs.Readings.{Reading}
 use Rattle.read_pass.specs.Pairs.{placeAt, held}
 use Rattle.read_pass.proofs.RangeLaws.{step-keeps}
+use Rattle.read_pass.proofs.AboveLaws.{second-above}
 use Rattle.read_pass.proofs.StepLaws.{StepGives, two-steps, first-none}
-use Rattle.read_pass.proofs.SiteLaws.{Placed, site-interpolated, CodedAt, raw-fits, total-known, site-cut-off, site-read, taken-small}
-use Rattle.read_pass.proofs.SiteLaws.{met, step-met, ranges-met, ks-met, length-met, pair-cut-off, pair-at}
+use Rattle.read_pass.proofs.SiteLaws.{line-end, site-interpolated, packed-small, CodedAt, even-coded, k-known, limit-known, raw-fits, total-known, step-known}
+use Rattle.read_pass.proofs.SiteLaws.{site-cut-off, site-read, taken-small, met, step-met, ranges-met, ks-met, length-met, pair-cut-off, pair-at}
 use Rattle.read_pass.proofs.even_pair.Statement.{statement}
 use Rattle.read_pass.proofs.even_pair.Tie as tie
 
@@ -23,55 +26,56 @@ use Rattle.read_pass.proofs.even_pair.Tie as tie
 abbrev entry : tie.After-has-code → tie.Start
 entry c = c .before .before .before .before .before
 
-abbrev asked : tie.After-coding-at → tie.After-has-code
-asked c = c .before .before .before .before .before
+abbrev asked : tie.After-even-coding → tie.After-has-code
+asked c = c .before .before .before
 
-placed : (c : tie.After-has-code) → let a = entry c .args in
-    Placed (a .spot .w) (a .spot .plan .first) (a .spot .p) (a .lines .now) (c .before .site-at .result)
-placed c = record { is = c .before .site-at .ensures .0 }
+even-coding-requires : tie.Need-even-coding-requires
+even-coding-requires c κs = let p = entry (c .before .before) .pre in (p .0 .holds .depth .1, (p .1 .entry, packed-small _ _ _ (p .1 .one .look)))
 
-first : (c : tie.After-coding-at) → let t = asked c in let a = entry t .args in
-    CodedAt (a .spot .bits) (a .base) (a .spot .w) (a .spot .plan .first) (a .spot .p) (a .block .now) (a .lines .now) (a .sums .now) (a .ns .now)
-    (a .totals .now) (t .before .site-at .result) (c .coding-at .result)
+first : (c : tie.After-even-coding) → let a = entry (asked c) .args in
+    CodedAt (a .turn .spot .bits) (a .turn .base) (a .turn .spot .w) (a .turn .spot .plan .first) (a .turn .spot .p) (a .block .now) (a .lines .now)
+    (a .sums .now) (a .ns .now) (a .steps .now) (a .limits .now) (a .totals .now) (c .even-coding .result)
 first c =
     let p = entry (asked c) .pre in
-    record {
-      placed = placed (asked c);
-      coding = c .coding-at .ensures .0;
-      four = c .coding-at .ensures .1 .choice;
-      depth = p .depth;
-      summed = p .summed;
-    }
+    let o = p .0 .holds in
+    even-coded (o .plan .first-low) (o .plan .first-high) (o .width) (p .0 .inside) (o .room .0) (o .tables) (o .depth) (o .base) (o .ks-kept) _ (p .1 .even)
+    (p .1 .one) (asked c .before .left-of .ensures .0) (c .even-coding .ensures .0) (c .even-coding .ensures .1)
 
 taken-requires : tie.Need-taken-requires
 taken-requires c κs =
-    let r = c .coding-at .ensures .1 in
-    let p = entry (asked c) .pre in
-    ((p .bytes, (r .k, (r .limit, raw-fits (first c)))), p .counted)
+    let o = entry (asked c) .pre .0 .holds in
+    ((o .bytes, (k-known (first c), (limit-known (first c), raw-fits (first c)))), o .counted)
 
 returns : tie.Need-returns
 returns c =
     let r = c .before .before in
     let o = r .before in
-    let coded = sym (asked o .has-code .ensures) ∙ o .before .before .before .before .if1 .taken in
+    let coded = sym (asked o .has-code .ensures) ∙ o .before .before .if1 .taken in
     let cut = site-cut-off (first o) coded (r .taken .ensures .0) (c .enum-told .given .1) in
-    record { answer = pair-cut-off _ _ _ (first-none cut); records = entry (asked o) .pre .records; ks-kept = entry (asked o) .pre .ks-kept }
+    let h = entry (asked o) .pre .0 .holds in
+    record { answer = pair-cut-off _ _ _ (first-none cut); records = h .records; ks-kept = h .ks-kept }
 
 put-sample-requires : tie.Need-put-sample-requires
 put-sample-requires c κs =
     let r = c .before .before .before .before in
     let o = r .before in
     let small = taken-small (r .taken .ensures .1) (c .before .before .got .given .1) in
-    (asked o .before .site-at .ensures .1, (o .coding-at .ensures .1, (total-known (first o), small)))
+    ((first o .fits, (small, total-known (first o))), step-known (first o))
 
-update-with-k-requires : tie.Need-update-with-k-requires
-update-with-k-requires c κs =
+update-by-requires : tie.Need-update-by-requires
+update-by-requires c κs =
     let s = c .before .before .before .before .before in
     let r = s .before .before .before .before .before in
     let o = r .before in
-    let p = entry (asked o) .pre in
+    let h = entry (asked o) .pre .0 .holds in
     let small = taken-small (r .taken .ensures .1) (s .before .before .before .got .given .1) in
-    ((small, (o .coding-at .ensures .1 .slot, o .coding-at .ensures .1 .old)), (p .records, p .ks-kept))
+    ((small, (first o .fits .slot, (h .becomes, h .lengths))), (h .records, h .ks-kept))
+
+slice-write-lines : tie.Need-slice-write-lines
+slice-write-lines c =
+    let t = c .before .before in
+    let p = entry t .pre .0 in
+    omega (arith, line-end _ _ _ (p .inside) (t .before .left-of .ensures .0), p .holds .room .0)
 
 -- ---- where the two ways to it meet
 
@@ -80,8 +84,8 @@ middle c = held (c .if1 .lines) (c .if1 .sums) (c .if1 .ns) (placeAt (c .if1 .at
 
 record Met (c : tie.Joined1) : Type 0 where
   read : let a = entry (c .before) .args in
-      StepGives (a .spot .bits) (a .base) (a .spot .w) (a .block .now)
-      (stepAt (a .spot .plan .first) (a .spot .p) (not (interpolated (a .spot .plan .«first_rule») (a .spot .p))))
+      StepGives (a .turn .spot .bits) (a .turn .base) (a .turn .spot .w) (a .block .now)
+      (stepAt (a .turn .spot .plan .first) (a .turn .spot .p) (not (interpolated (a .turn .spot .plan .«first_rule») (a .turn .spot .p))))
       (held (a .lines .now) (a .sums .now) (a .ns .now) (placeAt (a .from) (a .from-tight) (a .from-long))) (some (middle c))
   in-range : SetInRange (middle c .set)
   ks-kept : AreKs (middle c .set) (c .if1 .ks)
@@ -90,92 +94,79 @@ record Met (c : tie.Joined1) : Type 0 where
 one : (c : tie.Joined1) → Met c
 one c =
     let t = c .before in
+    let p = entry t .pre in
     let coded = sym (t .has-code .ensures) in
     ⊎-elim
     (λ w.
-    let i : tie.After-coding-at-arg = record { before = record { before = t; if1 = w .0 }; coding-at-arg = w .1 } in
-    let o : tie.After-coding-at =
-    record { before = record { before = record { before = i; coding-at-arg2 = w .2 }; coding-at-arg3 = w .3 }; coding-at = w .4 } in
-    let m = met (w .17) (w .18) (w .19) (w .21) (w .22) (w .23) in
-    let new = w .16 .ensures in
+    let o : tie.After-even-coding = record { before = record { before = record { before = t; if1 = w .0 }; even-coding-arg = w .1 }; even-coding = w .2 } in
+    let m = met (w .15) (w .16) (w .17) (w .19) (w .20) (w .21) in
+    let new = w .14 .ensures in
     record {
-      read = step-met m (site-read (first o) (coded ∙ w .0 .taken) (w .5 .ensures .0) (w .7 .given .1) (w .10 .ensures) (new .0));
+      read = step-met m (site-read (first o) (coded ∙ w .0 .taken) (w .3 .ensures .0) (w .5 .given .1) (w .8 .ensures) (new .0));
       in-range = ranges-met m (new .1 .0);
-      ks-kept = ks-met m (w .20) (new .1 .1);
-      same = length-met m ∙ w .10 .kept .0;
+      ks-kept = ks-met m (w .18) (new .1 .1);
+      same = length-met m ∙ w .8 .kept .0;
     })
     (λ w.
-    let m = met (w .5) (w .6) (w .7) (w .9) (w .10) (w .11) in
+    let m = met (w .2) (w .3) (w .4) (w .6) (w .7) (w .8) in
     record {
-      read = step-met m (site-interpolated (placed t) (coded ∙ w .0 .left) (w .2 .ensures));
-      in-range = ranges-met m (entry t .pre .records);
-      ks-kept = ks-met m (w .8) (entry t .pre .ks-kept);
-      same = length-met m ∙ w .2 .kept .0;
+      read = step-met m (site-interpolated (p .0 .holds .plan .first-low) (p .1 .even) (p .1 .one) (t .before .left-of .ensures .0) (coded ∙ w .0 .left) refl);
+      in-range = ranges-met m (p .0 .holds .records);
+      ks-kept = ks-met m (w .5) (p .0 .holds .ks-kept);
+      same = rw (w .2) (length-set (entry t .args .lines .now) _ _);
     })
     (c .if1 .came)
 
 -- there are no more long codes than bits
 counted : (c : tie.Joined1) → c .if1 .long ≤ c .if1 .at .0
 counted c =
+    let o = entry (c .before) .pre .0 .holds in
+    step-keeps _ _ _ _ (o .depth .1) _ _ _ (one c .read .is) .counted (o .counted)
+
+-- what was made ahead of the second sample is right still
+here : (c : tie.Joined1) → let a = entry (c .before) .args in
+    EvenHere (a .turn .base) (a .turn .spot .w) (c .if1 .lines) (a .turn .spot .plan .second) (a .turn .spot .p) (a .turn .entry) (a .second .now)
+here c =
     let p = entry (c .before) .pre in
-    step-keeps _ _ _ _ (p .depth .1) _ _ _ (one c .read .is) .counted (p .counted)
+    let o = p .0 .holds in
+    even-here-kept _ _ _ _ _ (o .plan .second-low) (second-above _ (entry (c .before) .args .turn .spot .plan) (o .apart) _ (p .0 .inside) (one c .read)) _ _ _ (p .0 .inside)
+    (p .1 .two)
 
 -- ---- the second sample
 
-site-at-requires-2 : tie.Need-site-at-requires-2
-site-at-requires-2 c κs =
-    let p = entry (c .before .before) .pre in
-    ((p .width, (p .inside, (p .plan .second-low, p .plan .second-high))), omega (arith, p .room .1, one (c .before) .same))
-
 abbrev joined : tie.After-has-code2 → tie.Joined1
-joined c = c .before .before .before
+joined c = c .before .before
 
-placed-2 : (c : tie.After-has-code2) → let j = joined c in let a = entry (j .before) .args in
-    Placed (a .spot .w) (a .spot .plan .second) (a .spot .p) (j .if1 .lines) (c .before .site-at2 .result)
-placed-2 c = record { is = c .before .site-at2 .ensures .0 }
+even-coding-requires-2 : tie.Need-even-coding-requires-2
+even-coding-requires-2 c κs =
+    let p = entry (joined (c .before .before) .before) .pre in
+    (p .0 .holds .depth .1, (p .1 .entry, packed-small _ _ _ (here (joined (c .before .before)) .look)))
 
-coding-at-requires-2 : tie.Need-coding-at-requires-2
-coding-at-requires-2 c κs =
-    let t = c .before .before .before .before in
-    let m = one (joined t) in
-    let p = entry (joined t .before) .pre in
-    record {
-      depth = p .depth .1;
-      base = p .base;
-      chosen = p .chosen;
-      context = t .before .site-at2 .ensures .1 .context;
-      limited = p .limited;
-      records = m .in-range;
-      ks-kept = m .ks-kept;
-    }
+abbrev asked-2 : tie.After-even-coding2 → tie.After-has-code2
+asked-2 c = c .before .before .before
 
-abbrev asked-2 : tie.After-coding-at2 → tie.After-has-code2
-asked-2 c = c .before .before .before .before .before
-
-abbrev begun : tie.After-coding-at2 → tie.Joined1
+abbrev begun : tie.After-even-coding2 → tie.Joined1
 begun c = joined (asked-2 c)
 
-second : (c : tie.After-coding-at2) → let j = begun c in let a = entry (j .before) .args in
-    CodedAt (a .spot .bits) (a .base) (a .spot .w) (a .spot .plan .second) (a .spot .p) (a .block .now) (j .if1 .lines) (j .if1 .sums) (j .if1 .ns)
-    (a .totals .now) (asked-2 c .before .site-at2 .result) (c .coding-at2 .result)
+second : (c : tie.After-even-coding2) → let j = begun c in let a = entry (j .before) .args in
+    CodedAt (a .turn .spot .bits) (a .turn .base) (a .turn .spot .w) (a .turn .spot .plan .second) (a .turn .spot .p) (a .block .now) (j .if1 .lines)
+    (j .if1 .sums) (j .if1 .ns) (a .steps .now) (a .limits .now) (a .totals .now) (c .even-coding2 .result)
 second c =
-    let p = entry (begun c .before) .pre in
-    record {
-      placed = placed-2 (asked-2 c);
-      coding = c .coding-at2 .ensures .0;
-      four = c .coding-at2 .ensures .1 .choice;
-      depth = p .depth;
-      summed = p .summed;
-    }
+    let j = begun c in
+    let p = entry (j .before) .pre in
+    let o = p .0 .holds in
+    even-coded (o .plan .second-low) (o .plan .second-high) (o .width) (p .0 .inside) (omega (arith, o .room .1, one j .same)) (o .tables) (o .depth) (o .base)
+    (one j .ks-kept) _ (p .1 .even) (here j) (asked-2 c .before .left-of2 .ensures .0) (c .even-coding2 .ensures .0) (c .even-coding2 .ensures .1)
 
 taken-requires-2 : tie.Need-taken-requires-2
 taken-requires-2 c κs =
-    let r = c .coding-at2 .ensures .1 in
-    ((entry (begun c .before) .pre .bytes, (r .k, (r .limit, raw-fits (second c)))), counted (begun c))
+    let o = entry (begun c .before) .pre .0 .holds in
+    ((o .bytes, (k-known (second c), (limit-known (second c), raw-fits (second c)))), counted (begun c))
 
 -- it has a code
-coded-2 : (c : tie.After-coding-at2) → let a = entry (begun c .before) .args in not (interpolated (a .spot .plan .«second_rule») (a .spot .p)) ≡ true
-coded-2 c = sym (asked-2 c .has-code2 .ensures) ∙ c .before .before .before .before .if2 .taken
+coded-2 : (c : tie.After-even-coding2) → let a = entry (begun c .before) .args in
+    not (interpolated (a .turn .spot .plan .«second_rule») (a .turn .spot .p)) ≡ true
+coded-2 c = sym (asked-2 c .has-code2 .ensures) ∙ c .before .before .if2 .taken
 
 returns-2 : tie.Need-returns-2
 returns-2 c =
@@ -190,21 +181,22 @@ put-sample-requires-2 c κs =
     let r = c .before .before .before .before in
     let o = r .before in
     let small = taken-small (r .taken2 .ensures .1) (c .before .before .got2 .given .1) in
-    (asked-2 o .before .site-at2 .ensures .1, (o .coding-at2 .ensures .1, (total-known (second o), small)))
+    ((second o .fits, (small, total-known (second o))), step-known (second o))
 
 abbrev read-2 : tie.After-put-sample2 → tie.After-taken2
 read-2 c = c .before .before .before .before .before
 
-update-with-k-requires-2 : tie.Need-update-with-k-requires-2
-update-with-k-requires-2 c κs =
+update-by-requires-2 : tie.Need-update-by-requires-2
+update-by-requires-2 c κs =
     let s = c .before .before .before .before .before in
     let r = read-2 s in
     let o = r .before in
     let m = one (begun o) in
+    let h = entry (begun o .before) .pre .0 .holds in
     let small = taken-small (r .taken2 .ensures .1) (s .before .before .before .got2 .given .1) in
-    ((small, (o .coding-at2 .ensures .1 .slot, o .coding-at2 .ensures .1 .old)), (m .in-range, m .ks-kept))
+    ((small, (second o .fits .slot, (h .becomes, h .lengths))), (m .in-range, m .ks-kept))
 
-abbrev put-2 : tie.After-update-with-k2 → tie.After-put-sample2
+abbrev put-2 : tie.After-update-by2 → tie.After-put-sample2
 put-2 c = c .before .before .before .before .before .before
 
 returns-3 : tie.Need-returns-3
@@ -212,7 +204,7 @@ returns-3 c =
     let s = put-2 c in
     let r = read-2 s in
     let o = r .before in
-    let new = c .update-with-k2 .ensures in
+    let new = c .update-by2 .ensures in
     record {
       answer = pair-at _ _ _
           (two-steps (one (begun o) .read)
@@ -221,13 +213,20 @@ returns-3 c =
       ks-kept = new .1 .1;
     }
 
+slice-write-lines-2 : tie.Need-slice-write-lines-2
+slice-write-lines-2 c =
+    let t = c .before .before in
+    let p = entry (joined t .before) .pre .0 in
+    omega (arith, line-end _ _ _ (p .inside) (t .before .left-of2 .ensures .0), p .holds .room .1, one (joined t) .same)
+
 returns-4 : tie.Need-returns-4
 returns-4 c =
-    let s = c .before .before in
-    let t = s .before .before .before in
-    let m = one (joined t) in
-    let coded = sym (t .has-code2 .ensures) ∙ s .before .before .if2 .left in
-    let read = two-steps (m .read) (site-interpolated (placed-2 t) coded (s .put-prediction2 .ensures)) in
+    let t = c .before .before in
+    let j = joined t in
+    let m = one j in
+    let p = entry (j .before) .pre in
+    let coded = sym (t .has-code2 .ensures) ∙ c .before .if2 .left in
+    let read = two-steps (m .read) (site-interpolated (p .0 .holds .plan .second-low) (p .1 .even) (here j) (t .before .left-of2 .ensures .0) coded refl) in
     record { answer = pair-at _ _ _ read; records = m .in-range; ks-kept = m .ks-kept }
 
 pub even-pair-spec : {M : Type 1} → statement M
@@ -236,27 +235,34 @@ even-pair-spec =
     (tie.spec
     (λ c κs. search needs)
     (λ c κs. search needs)
-    (λ c κs. search needs)
+    even-coding-requires
     taken-requires
-    (λ c. search needs)
     (λ c. search needs)
     (λ c. search needs)
     returns
     put-sample-requires
-    update-with-k-requires
+    update-by-requires
+    (λ c. search needs)
+    (λ c. search needs)
+    (λ c. search needs)
+    (λ c. search needs)
+    slice-write-lines
     (λ c κs. search needs)
-    site-at-requires-2
     (λ c κs. search needs)
-    coding-at-requires-2
+    even-coding-requires-2
     taken-requires-2
     (λ c. search needs)
     (λ c. search needs)
     (λ c. one (begun (c .before .before .before)) .same)
     returns-2
     put-sample-requires-2
-    update-with-k-requires-2
+    update-by-requires-2
     (λ c. put-2 c .put-sample2 .kept .0 ∙ one (begun (read-2 (put-2 c) .before)) .same)
     returns-3
-    (λ c κs. search needs)
-    (λ c. let s = c .before .before in s .put-prediction2 .kept .0 ∙ one (joined (s .before .before .before)) .same)
+    (λ c. search needs)
+    (λ c. search needs)
+    (λ c. search needs)
+    (λ c. search needs)
+    slice-write-lines-2
+    (λ c. length-set (joined (c .before .before) .if1 .lines) _ _ ∙ one (joined (c .before .before)) .same)
     returns-4)

@@ -38,7 +38,7 @@ use denote.Triple.Statement.{Contract, Triple}
 use denote.Triple.Table.{entered, cited}
 use denote.Triple.Walked.{says, Stays, stay-none, walkOf, goes-none, Walks, ends-at, walked, walk-meets}
 use denote.Exit.{yes}
-use Rattle.bit_pump.specs.Pump.{nextWord}
+use Rattle.bit_pump.specs.Inside.{nextWord}
 use Rattle.bit_pump.specs.declared.BitPumpMsb.{BitPumpMsb}
 use Rattle.bits.proofs.BitPosition as P
 use Rattle.bits.proofs.BitPosition.Laws as P′

@@ -5,7 +5,8 @@ use Prim.Native.Nat.{ℕ}
 use Rattle.stream.specs.declared.header.Refusal.{Refusal}
 use Rattle.stream.specs.declared.header.Refusal.the-variants as Refuse
 use Rattle.line_totals.specs.declared.Totals.{Totals}
-use Rattle.read_block.specs.Images.{orElse, walkedAnswer}
+use Rattle.read_block.specs.Images.{orElse}
+use Rattle.read_block.specs.Inside.{walkedAnswer}
 use Rattle.read_block.specs.declared.Decoded.{Decoded}
 use Rattle.read_block.specs.declared.Decoded.the-variants.{Done, Refused}
 use Rattle.read_block.specs.declared.Walked.{Walked}

@@ -20,7 +20,7 @@ use Rattle.read_block.specs.Blocks.{readLine}
 use Rattle.read_block.specs.Walks.{AllInRange, stateAt}
 use Rattle.read_block.specs.Records.{putSet}
 use Rattle.read_block.specs.WindowedLines.{samplesIn, Held, OnlyLine}
-use Rattle.read_block.proofs.LineLaws.{SoFar, so-far-none, planned, planned-in, width-in-range, long-as, held-as, pass-more, pass-cut, ended-past, ended-read}
+use Rattle.read_block.proofs.LineLaws.{SoFar, so-far-none, planned, planned-in, planned-apart, width-in-range, long-as, held-as, pass-more, pass-cut, ended-past, ended-read}
 use Rattle.read_block.proofs.PlacedLines.{only-none, only-more}
 use Rattle.read_block.proofs.RangeLaws.{set-in-range, put-in-range}
 use Rattle.read_block.proofs.reading.line.Statement.{statement}
@@ -111,6 +111,7 @@ pass-requires c κs =
       even = w .3;
       room = (omega (arith, t .1, k), omega (arith, t .2, k));
       plan = t .0;
+      apart = planned-apart (start (looped h) .args .windowed) _ (l .i) _ _ (h .before .before .loop-test .taken) (h .before .plan-at .ensures) (h .window-plan .ensures);
       depth = a .1 .0 .0;
       base = a .1 .0 .1 .0;
       quantisers = a .1 .0 .1 .1;

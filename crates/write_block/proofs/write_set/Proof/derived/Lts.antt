@@ -69,7 +69,7 @@ y0 = Syntax.tyEnum (115 ∷ 116 ∷ 114 ∷ 101 ∷ 97 ∷ 109 ∷ 58 ∷ 58 ∷
     (Syntax.ttcons Syntax.tnil (Syntax.ttcons Syntax.tnil (Syntax.ttcons (Syntax.tcons u64 Syntax.tnil) (Syntax.ttcons (Syntax.tcons u64 Syntax.tnil) (Syntax.ttcons Syntax.tnil (Syntax.ttcons
     (Syntax.tcons u64 (Syntax.tcons u64 Syntax.tnil)) (Syntax.ttcons (Syntax.tcons u64 Syntax.tnil) (Syntax.ttcons Syntax.tnil (Syntax.ttcons Syntax.tnil (Syntax.ttcons (Syntax.tcons u64 Syntax.tnil)
     (Syntax.ttcons (Syntax.tcons u64 Syntax.tnil) (Syntax.ttcons (Syntax.tcons u64 Syntax.tnil) (Syntax.ttcons Syntax.tnil (Syntax.ttcons Syntax.tnil (Syntax.ttcons (Syntax.tcons u64 (Syntax.tcons u64
-    Syntax.tnil)) (Syntax.ttcons Syntax.tnil Syntax.ttnil))))))))))))))))))))))))
+    Syntax.tnil)) (Syntax.ttcons Syntax.tnil (Syntax.ttcons Syntax.tnil (Syntax.ttcons (Syntax.tcons u64 Syntax.tnil) Syntax.ttnil))))))))))))))))))))))))))
 
 abbrev pub y1 : Syntax.Ty
 y1 = Syntax.tyRef (Syntax.named 0) Syntax.imm u16
@@ -1240,7 +1240,10 @@ module _ (claims· : Claims) where
                                           tt,
                                           (
                                             (Make'.u64-wt, (Make'.u64-wt, tt)),
-                                            ((Make'.u64-wt, tt), (tt, (tt, ((Make'.u64-wt, tt), ((Make'.u64-wt, tt), ((Make'.u64-wt, tt), (tt, (tt, ((Make'.u64-wt, (Make'.u64-wt, tt)), (tt, tt)))))))))),
+                                            (
+                                              (Make'.u64-wt, tt),
+                                              (tt, (tt, ((Make'.u64-wt, tt), ((Make'.u64-wt, tt), ((Make'.u64-wt, tt), (tt, (tt, ((Make'.u64-wt, (Make'.u64-wt, tt)), (tt, (tt, ((Make'.u64-wt, tt), tt))))))))))),
+                                            ),
                                           ),
                                         ),
                                       ),
@@ -1288,7 +1291,10 @@ module _ (claims· : Claims) where
                                           tt,
                                           (
                                             (Make'.u64-wt, (Make'.u64-wt, tt)),
-                                            ((Make'.u64-wt, tt), (tt, (tt, ((Make'.u64-wt, tt), ((Make'.u64-wt, tt), ((Make'.u64-wt, tt), (tt, (tt, ((Make'.u64-wt, (Make'.u64-wt, tt)), (tt, tt)))))))))),
+                                            (
+                                              (Make'.u64-wt, tt),
+                                              (tt, (tt, ((Make'.u64-wt, tt), ((Make'.u64-wt, tt), ((Make'.u64-wt, tt), (tt, (tt, ((Make'.u64-wt, (Make'.u64-wt, tt)), (tt, (tt, ((Make'.u64-wt, tt), tt))))))))))),
+                                            ),
                                           ),
                                         ),
                                       ),

@@ -89,7 +89,7 @@ y1 = Syntax.tyEnum (115 ∷ 116 ∷ 114 ∷ 101 ∷ 97 ∷ 109 ∷ 58 ∷ 58 ∷
     (Syntax.ttcons Syntax.tnil (Syntax.ttcons Syntax.tnil (Syntax.ttcons (Syntax.tcons u64 Syntax.tnil) (Syntax.ttcons (Syntax.tcons u64 Syntax.tnil) (Syntax.ttcons Syntax.tnil (Syntax.ttcons
     (Syntax.tcons u64 (Syntax.tcons u64 Syntax.tnil)) (Syntax.ttcons (Syntax.tcons u64 Syntax.tnil) (Syntax.ttcons Syntax.tnil (Syntax.ttcons Syntax.tnil (Syntax.ttcons (Syntax.tcons u64 Syntax.tnil)
     (Syntax.ttcons (Syntax.tcons u64 Syntax.tnil) (Syntax.ttcons (Syntax.tcons u64 Syntax.tnil) (Syntax.ttcons Syntax.tnil (Syntax.ttcons Syntax.tnil (Syntax.ttcons (Syntax.tcons u64 (Syntax.tcons u64
-    Syntax.tnil)) (Syntax.ttcons Syntax.tnil Syntax.ttnil))))))))))))))))))))))))
+    Syntax.tnil)) (Syntax.ttcons Syntax.tnil (Syntax.ttcons Syntax.tnil (Syntax.ttcons (Syntax.tcons u64 Syntax.tnil) Syntax.ttnil))))))))))))))))))))))))))
 
 abbrev pub y2 : Syntax.Ty
 y2 = Syntax.tyRef (Syntax.named 0) Syntax.imm u8
@@ -1209,7 +1209,10 @@ module _ (claims· : Claims) where
                                           tt,
                                           (
                                             (Make'.u64-wt, (Make'.u64-wt, tt)),
-                                            ((Make'.u64-wt, tt), (tt, (tt, ((Make'.u64-wt, tt), ((Make'.u64-wt, tt), ((Make'.u64-wt, tt), (tt, (tt, ((Make'.u64-wt, (Make'.u64-wt, tt)), (tt, tt)))))))))),
+                                            (
+                                              (Make'.u64-wt, tt),
+                                              (tt, (tt, ((Make'.u64-wt, tt), ((Make'.u64-wt, tt), ((Make'.u64-wt, tt), (tt, (tt, ((Make'.u64-wt, (Make'.u64-wt, tt)), (tt, (tt, ((Make'.u64-wt, tt), tt))))))))))),
+                                            ),
                                           ),
                                         ),
                                       ),
@@ -1256,7 +1259,10 @@ module _ (claims· : Claims) where
                                           tt,
                                           (
                                             (Make'.u64-wt, (Make'.u64-wt, tt)),
-                                            ((Make'.u64-wt, tt), (tt, (tt, ((Make'.u64-wt, tt), ((Make'.u64-wt, tt), ((Make'.u64-wt, tt), (tt, (tt, ((Make'.u64-wt, (Make'.u64-wt, tt)), (tt, tt)))))))))),
+                                            (
+                                              (Make'.u64-wt, tt),
+                                              (tt, (tt, ((Make'.u64-wt, tt), ((Make'.u64-wt, tt), ((Make'.u64-wt, tt), (tt, (tt, ((Make'.u64-wt, (Make'.u64-wt, tt)), (tt, (tt, ((Make'.u64-wt, tt), tt))))))))))),
+                                            ),
                                           ),
                                         ),
                                       ),

@@ -1,0 +1,22 @@
+-- Written by tools/lend.py from Rattle's derivation of the twin of `read_set`; not edited by hand. Assumes nothing.
+use Rattle.bits.proofs.Values
+use Rattle.bits.proofs.Values.{n16, n8}
+use mathlib.Core.List.{_∷_, []}
+use Rattle.read_block.proofs.Element
+use Rattle.read_block.proofs.Form
+use Rattle.read_block.proofs.Form.Laws
+use Rattle.read_block.proofs.Walked
+use Rattle.read_block.proofs.Walked.Laws as Laws'
+use borrow.Fn.Kinds
+use borrow.Kind.MutSlice
+use borrow.Kind.ShrSlice
+use denote.Array
+use mathlib.Core.List
+use mir.Syntax
+
+abbrev pub ps : List.List (Kinds.PK 5)
+ps = (ShrSlice.pShrS n8 0 tt) ∷ (ShrSlice.pShrS n8 1 tt) ∷ (MutSlice.pMutS n16 2 tt) ∷ (MutSlice.pMutS (Element.type) 3 tt) ∷ (MutSlice.pMutS n16 4 tt) ∷ (Values.struct Form.the-type Laws.the-laws
+    Laws.the-copy Laws.the-plain) ∷ (Kinds.pNum Syntax.w64) ∷ []
+
+abbrev pub r : Kinds.RK 5
+r = Values.enum-result Walked.the-type Laws'.the-laws Laws'.the-copy Laws'.the-plain tt

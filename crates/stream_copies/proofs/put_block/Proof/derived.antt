@@ -1,0 +1,2 @@
+pub mod Lts
+pub mod Tie
