@@ -1,7 +1,7 @@
 -- Promises. Worked cases for every number of the two lists of refusals, and for the reasons why a code is bad.
 use mathlib.Core.Bool.{true, false, _&&_}
 use mathlib.Core.List.{List, [], _∷_}
-use mathlib.Core.Option.{Option, none, some}
+use mathlib.Core.Option.{none, some}
 use mathlib.Core.Path.{_≡_}
 use Prim.Native.Nat.{ℕ, _/_, _^_}
 use lib.Dec.{leb, ltb}

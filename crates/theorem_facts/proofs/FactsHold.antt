@@ -1,12 +1,11 @@
 -- Each fact holds, by the laws of the crate that it is about or by computation. Assumes nothing.
-use mathlib.Core.Bool.{Bool, true, false, cond}
-use mathlib.Core.List.{List, [], _∷_, _++_}
-use mathlib.Core.Path.{_≡_, refl, sym, _∙_}
-use Prim.Native.Nat.{ℕ, zero, suc, _+_, _-_, _*_, _/_, _%_, _^_, _≤_, _<_}
+use mathlib.Core.Bool.{Bool, true, false}
+use mathlib.Core.List.{List, [], _∷_}
+use mathlib.Core.Path.{_≡_, refl}
+use Prim.Native.Nat.{ℕ, _-_, _^_, _≤_, _<_}
 use native.Mathlib.Nat.{max-le}
 use native.Mathlib.Omega.{arith}
 use lib.Pow.{pow-mono}
-use Rattle.numbers.specs.declared.Signed.{Signed}
 use Rattle.statistics.specs.Statistics.{kOf, updated, largestResidual}
 use Rattle.statistics.specs.Inside.{InRange}
 use Rattle.statistics.specs.declared.Record.{Record}
@@ -20,7 +19,6 @@ use Rattle.code.specs.Codes.{codeAt}
 use Rattle.code.specs.Inside.{Bounds}
 use Rattle.code.specs.Samples.{choiceOf, residualOf}
 use Rattle.code.specs.declared.Code.{Code}
-use Rattle.code.specs.declared.Coded.{Coded}
 use Rattle.code.specs.declared.Coded.the-variants.{Read}
 use Rattle.code.proofs.CodeLaws.{code-bounds}
 use Rattle.code.proofs.SampleLaws.{residual-size}
