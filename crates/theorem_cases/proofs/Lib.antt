@@ -1,2 +1,3 @@
 -- The proof of the table.
 pub mod CasesHold
+pub mod NumbersHold

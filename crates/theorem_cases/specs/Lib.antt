@@ -1,2 +1,3 @@
 -- The marked cases.
 pub mod Cases
+pub mod NumberCases
