@@ -20,6 +20,7 @@ pub mod BoundHolds
 pub mod LengthsAgree
 pub mod LengthsApartHold
 pub mod SixteensHold
+pub mod FirstWrongHolds
 -- How reading and writing go together.
 pub mod Together
 pub mod StepForward

@@ -6,5 +6,6 @@ pub mod AcceptedStreams
 pub mod Lengths
 pub mod LengthsApart
 pub mod Sixteens
+pub mod FirstWrong
 -- The base by which a sample was coded.
 pub mod UsedBases

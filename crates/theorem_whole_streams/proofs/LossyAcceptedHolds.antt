@@ -1,5 +1,4 @@
 -- Every stream whose blocks are all read whole is decoded, and every lossy header has one: that of the set of zeros in each block. Assumes nothing.
-use mathlib.Core.Bool.{false}
 use mathlib.Core.List.{List}
 use mathlib.Core.Option.{Option, none, some}
 use mathlib.Core.Path.{_≡_, refl, sym, _∙_}
@@ -7,7 +6,6 @@ use Prim.Native.Nat.{ℕ, zero, suc, _+_, _-_, _≤_, _<_}
 use native.Mathlib.Omega.{arith}
 use lib.ListN.{length, getD, replicate, length-replicate}
 use borrow.Author.Tests.{le-ltb}
-use Rattle.numbers.proofs.OrderLaws.{split}
 use Rattle.quantiser.specs.Quantisers.{largest}
 use Rattle.image_map.specs.Places.{widthOf}
 use Rattle.colour_lines.specs.Sets.{setSize}
