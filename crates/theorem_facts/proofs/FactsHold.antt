@@ -27,7 +27,8 @@ use Rattle.pass_schedule.specs.declared.Plan.{Plan}
 use Rattle.pass_schedule.proofs.OrderLaws.{All}
 use Rattle.pass_schedule.proofs.PlanLaws.{CodedIn, steps-coded}
 use Rattle.pass_steps.proofs.LookLaws.{choice-cases}
-use Rattle.theorem_facts.specs.Facts.{LeastK, started, updatedBy, AtMost, twoApart, byTurns, positions, stepsOver, codesIn, stepsOfLine, CodedWhereNotInterpolated, Facts}
+use Rattle.theorem_facts.specs.Facts.{LeastK, started, updatedBy, AtMost, twoApart, byTurns}
+use Rattle.theorem_facts.specs.Facts.{positions, stepsOver, codesIn, stepsOfLine, CodedWhereNotInterpolated, Facts}
 
 -- ---- statistics
 

@@ -154,4 +154,5 @@ layout d h b n lent lent' answer bytes begins left done =
         let ok =
         read-storable F (basesIn d b) (bytesIn d b) (ruled .bits-high) short (h .lines) (omega (arith, ruled .lines-high)) d b n (s .state)
         (omega (arith, ruled .blocks-high, a .block)) (omega (arith, s .line)) (s .read) in
-        (s .state, s .read, laid-out d h b n (s .state) (take (1707 + 12 * widthOf (h .xtrans)) (lent' .out)) ok (s .bytes) (read-long F (ruled .bits-high) (bytesIn d b) (basesIn d b) (suc n) (s .state) (s .read)))
+        let long = read-long F (ruled .bits-high) (bytesIn d b) (basesIn d b) (suc n) (s .state) (s .read) in
+        (s .state, s .read, laid-out d h b n (s .state) (take (1707 + 12 * widthOf (h .xtrans)) (lent' .out)) ok (s .bytes) long)

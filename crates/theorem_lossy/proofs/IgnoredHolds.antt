@@ -32,7 +32,8 @@ use Rattle.write_pass.specs.Writings.{Writing, writeStep, writes, writePass}
 use Rattle.write_pass.proofs.SetLaws.{lines-passes, colour-line-at, position-at}
 use Rattle.write_pass.proofs.WriteLaws.{write-coded, write-interpolated}
 use Rattle.write_block.specs.WrittenAnswers.{measuredAnswer, aboveIn, setAnswer, LeftLossy}
-use Rattle.write_block.specs.WrittenBlocks.{WriteState, repeats, enterWriting, writePassAt, beforeWriting, isStrict, writeLine, startWriting, writeLines, writtenBlock}
+use Rattle.write_block.specs.WrittenBlocks.{WriteState, repeats, enterWriting, writePassAt, beforeWriting}
+use Rattle.write_block.specs.WrittenBlocks.{isStrict, writeLine, startWriting, writeLines, writtenBlock}
 use Rattle.theorem_lossy.specs.IgnoredSamples.{SameWhereCoded, IgnoredSamples}
 
 -- ---- refusal 11

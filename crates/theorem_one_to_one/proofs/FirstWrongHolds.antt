@@ -25,13 +25,15 @@ use Rattle.read_block.specs.declared.Form.{Form}
 use Rattle.write_pass.specs.Writings.{Writing, writeStep, writes, writePass}
 use Rattle.write_pass.proofs.WriteLaws.{wanted, write-coded, write-interpolated}
 use Rattle.write_block.specs.WrittenAnswers.{predictedAnswer, rangeAnswer, measuredAnswer, aboveIn, setAnswer}
-use Rattle.write_block.specs.WrittenBlocks.{WriteState, repeats, enterWriting, writePassAt, beforeWriting, writeLine, startWriting, writeLines, tightBlock}
+use Rattle.write_block.specs.WrittenBlocks.{WriteState, repeats, enterWriting, writePassAt}
+use Rattle.write_block.specs.WrittenBlocks.{beforeWriting, writeLine, startWriting, writeLines, tightBlock}
 use Rattle.theorem_one_to_one.specs.FirstWrong.{stepsOf, AllPredicted, FirstWrong, NamesFirstWrong}
 use Rattle.theorem_one_to_one.specs.PredictedSets.{predictionIn}
 use Rattle.theorem_one_to_one.proofs.PredictedSteps.{InPass, AllRight, writes-wrong}
 use Rattle.theorem_one_to_one.proofs.PredictedPasses.{LineOf, lines-of, all-in-pass}
 use Rattle.theorem_one_to_one.proofs.PredictedLines.{Found, entered, prediction-is}
-use Rattle.theorem_one_to_one.proofs.PredictedBlocks.{even, positive, PassRight, passes-found, passes-wrong, before-small, lines-found, lines-wrong}
+use Rattle.theorem_one_to_one.proofs.PredictedBlocks.{even, positive, PassRight, passes-found}
+use Rattle.theorem_one_to_one.proofs.PredictedBlocks.{passes-wrong, before-small, lines-found, lines-wrong}
 
 none-some : {X : Type 0} (j : ℕ) → none ≡ some j → X
 none-some j e = let no : _≡_ {A = ℕ} 0 1 = cc in absurd (omega arith)
@@ -273,7 +275,9 @@ module _ (F : Form) (t : List ℕ) (range : (j : ℕ) → getD t j 0 ≤ largest
         differs = differs n i (b .1) r found j (b .2) (b .3);
         lines-before = λ m k u v. right-all m k (lines-wrong F t range n .0 (a .2) m k u v);
         passes-before = λ k u. right-all n k (passes-wrong F t range n start found0 small i le .0 (b .2) .1 k u);
-        steps-before = said n i (b .1) r found j (b .2) (b .3) (s .before) (known-before n i (b .1) r found j (b .2) (b .3)) (right-before n i (b .1) r found j (b .2) (b .3));
+        steps-before =
+            let known = known-before n i (b .1) r found j (b .2) (b .3) in
+            said n i (b .1) r found j (b .2) (b .3) (s .before) known (right-before n i (b .1) r found j (b .2) (b .3));
       }
 
 -- ---- the answer
