@@ -3,6 +3,7 @@ pub mod AnswerLaws
 pub mod OneRecordLaws
 pub mod NamedLaws
 pub mod PlanCases
+pub mod PlannedBytesHold
 -- Laws about the records of a plan.
 pub mod DigitLaws
 pub mod RowLaws

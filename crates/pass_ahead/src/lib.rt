@@ -328,7 +328,7 @@ fn used_base(choice: u32, base: u32) -> u32
     if choice == 0 { base } else { choice - 1 }
 }
 
-// What a flatness decides, 8 at most, for an odd position: at j its row of what is known ahead, at 9 + j the first of the quantiser's records, at 18 + j its base.
+// What a flatness decides for an odd position, 8 at most: at j its row of what is known ahead, at 9 + j the first of its quantiser's records, at 18 + j the base.
 pub fn by_flatness(base: u32) -> [u32; 27]
     ensures { λ r. ⌜ ByFlatness base r ⌝ }
 {

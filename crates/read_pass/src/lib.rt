@@ -199,7 +199,8 @@ fn chunk(
 ) -> Pair
     requires { ⌜ ChunkAsks spot base n (placeAt from «from_tight» «from_long») (now block) (now lines) (now sums) (now ns) (now ks)
         (now steps) (now limits) (now totals) (now next) (now digits) (now flatness) ⌝ }
-    requires { ⌜ Ahead base (spot .w) (now lines) (spot .plan .first) (spot .p) n (now first) × Ahead base (spot .w) (now lines) (spot .plan .second) (spot .p) n (now second) ⌝ }
+    requires { ⌜ Ahead base (spot .w) (now lines) (spot .plan .first) (spot .p) n (now first)
+        × Ahead base (spot .w) (now lines) (spot .plan .second) (spot .p) n (now second) ⌝ }
     ensures { λ r. ⌜ PairGives spot base (now (block .entry)) (chunkSteps (spot .w) (spot .plan) (spot .p) n)
         (held (now (lines .entry)) (now (sums .entry)) (now (ns .entry)) (placeAt from «from_tight» «from_long»))
         (now (lines .exit)) (now (sums .exit)) (now (ns .exit)) (now (ks .exit)) r ⌝ }

@@ -91,7 +91,8 @@ pub fn odd_coding(
     limits: &[u16; 112],
     ks: &[u32; 112],
 ) -> Coding
-    requires { ⌜ (turn .spot .bits ≤ 16) × ((turn .spot .w ≤ 512) × ((turn .spot .p < turn .spot .w) × ((2 ≤ line) × ((line ≤ 17) × ((turn .base < 256) × (turn .entry < 48)))))) ⌝ }
+    requires { ⌜ (turn .spot .bits ≤ 16) × ((turn .spot .w ≤ 512) × ((turn .spot .p < turn .spot .w)
+        × ((2 ≤ line) × ((line ≤ 17) × ((turn .base < 256) × (turn .entry < 48)))))) ⌝ }
     requires { ⌜ (line + 1) * (turn .spot .w + 2) ≤ length (now lines) ⌝ }
     requires { ⌜ ByFlatness (turn .base) (now flatness) × OddHere (turn .base) (turn .spot .w) (now lines) line (turn .spot .p) (turn .entry) (now ahead) ⌝ }
     ensures { λ r. ⌜ OddCoding (turn .spot .bits) (turn .base) (oddAt (now (lines .entry)) (turn .spot .w + 2) (leftAt (turn .spot .w) line (turn .spot .p)))
@@ -146,7 +147,8 @@ pub fn put_sample(lines: &mut [u16], c: Coding, steps: &[u16; 112], totals: &[u3
     requires { ⌜ CodingFits (now lines) c × ((code < 63 * 2 ^ 15) × (getD (now totals) (choiceAt (c .slot)) 0 ≤ 2 ^ 16)) ⌝ }
     requires { ⌜ (getD (now steps) (c .slot) 0 < 512) × (getD (now steps) (c .slot) 0 % 2 ≡ 1) ⌝ }
     ensures { λ _. ⌜ now (lines .exit) ≡ set (now (lines .entry)) (c .place + 1)
-        (sampleOf (c .m) (getD (now (steps .entry)) (c .slot) 0 / 2) (getD (now (totals .entry)) (choiceAt (c .slot)) 0) (eqb (c .flip % 2) 1) (c .prediction) code) ⌝ }
+        (sampleOf (c .m) (getD (now (steps .entry)) (c .slot) 0 / 2) (getD (now (totals .entry)) (choiceAt (c .slot)) 0)
+        (eqb (c .flip % 2) 1) (c .prediction) code) ⌝ }
 {
     let slot = c.slot;
     let i = c.place + 1;

@@ -1,2 +1,4 @@
 -- The proof of the table.
 pub mod CasesHold
+pub mod NumbersHold
+pub mod RefusedCallsHold

@@ -1,2 +1,4 @@
 -- The marked cases.
 pub mod Cases
+pub mod NumberCases
+pub mod RefusedCalls

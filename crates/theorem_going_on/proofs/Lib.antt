@@ -9,3 +9,5 @@ pub mod RangeLaws
 pub mod TotalLaws
 pub mod CallLaws
 pub mod GoingOnHolds
+pub mod LayoutHolds
+pub mod TwoCallsHold

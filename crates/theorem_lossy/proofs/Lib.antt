@@ -3,3 +3,5 @@ pub mod NeverWrong
 pub mod LossyHolds
 pub mod LossyCallsHold
 pub mod WorkedCases
+pub mod NearestHolds
+pub mod IgnoredHolds

@@ -18,6 +18,9 @@ pub mod StreamOfBlocks
 pub mod SomethingHolds
 pub mod BoundHolds
 pub mod LengthsAgree
+pub mod LengthsApartHold
+pub mod SixteensHold
+pub mod FirstWrongHolds
 -- How reading and writing go together.
 pub mod Together
 pub mod StepForward

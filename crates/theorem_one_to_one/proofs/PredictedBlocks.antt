@@ -34,20 +34,20 @@ use Rattle.theorem_one_to_one.proofs.PredictedPasses.{ready, LineOf, li
 use Rattle.theorem_one_to_one.proofs.PredictedLines.{Found, entered, found-next, prediction-is}
 
 module _ (F : Form) (t : List ℕ) (range : (j : ℕ) → getD t j 0 ≤ largest (F .bits)) where
-  abbrev W : ℕ
+  abbrev pub W : ℕ
   W = widthOf (F .xtrans)
 
-  even : W % 2 ≡ 0
+  pub even : W % 2 ≡ 0
   even = width-in-range (F .xtrans) W refl .2
 
-  positive : 0 < W
+  pub positive : 0 < W
   positive = omega (arith, width-in-range (F .xtrans) W refl .0)
 
   -- position p of line l of line n has its prediction, if it is interpolated
-  abbrev Right : ℕ → ℕ → ℕ → Type 0
+  abbrev pub Right : ℕ → ℕ → ℕ → Type 0
   Right n l p = isInterpolated (F .xtrans) l p ≡ true → getD t (indexIn W n l p) 0 ≡ predictionIn W t n l p
 
-  abbrev PassRight : ℕ → ℕ → Type 0
+  abbrev pub PassRight : ℕ → ℕ → Type 0
   PassRight n i = (p : ℕ) → p < W → Right n ((planOf (F .xtrans) i) .first) p × Right n ((planOf (F .xtrans) i) .second) p
 
   -- ---- a pass
@@ -110,14 +110,14 @@ module _ (F : Form) (t : List ℕ) (range : (j : ℕ) → getD t j 0 ≤ largest
     passes-small zero = small
     passes-small (suc k) = passAt-within F 0 true t n k (repeats (writePassAt F 0 true t n) k r) (passes-small k)
 
-    passes-found : (k : ℕ) → k ≤ 6 → (repeats (writePassAt F 0 true t n) k r) .wrong ≡ none → Found W t n k ((repeats (writePassAt F 0 true t n) k r) .lines)
+    pub passes-found : (k : ℕ) → k ≤ 6 → (repeats (writePassAt F 0 true t n) k r) .wrong ≡ none → Found W t n k ((repeats (writePassAt F 0 true t n) k r) .lines)
     unfolding repeats
     passes-found zero h w = found
     passes-found (suc k) h w =
         let z : WriteState = repeats (writePassAt F 0 true t n) k r in
         pass-found n k h z (passes-found k (omega arith) (passAt-right F 0 true t n k z w)) (passes-small k) w
 
-    passes-wrong : (k : ℕ) → k ≤ 6 → (repeats (writePassAt F 0 true t n) k r) .wrong ≡ none ↔ (r .wrong ≡ none) × ((i : ℕ) → i < k → PassRight n i)
+    pub passes-wrong : (k : ℕ) → k ≤ 6 → (repeats (writePassAt F 0 true t n) k r) .wrong ≡ none ↔ (r .wrong ≡ none) × ((i : ℕ) → i < k → PassRight n i)
     unfolding repeats
     passes-wrong zero h = (λ e. (e, λ i k. absurd (omega arith)), λ e. e .0)
     passes-wrong (suc k) h =
@@ -180,13 +180,13 @@ module _ (F : Form) (t : List ℕ) (range : (j : ℕ) → getD t j 0 ≤ largest
       }
 
   -- after n lines: line n finds what it should, and no sample was wrong exactly if each has its prediction
-  abbrev LinesRight : ℕ → Type 0
+  abbrev pub LinesRight : ℕ → Type 0
   LinesRight n = (m i : ℕ) → m < n → i < 6 → PassRight m i
 
-  before-small : (n : ℕ) → Within (largest (F .bits)) ((beforeWriting F [] n (writeLines F [] t n)) .lines)
+  pub before-small : (n : ℕ) → Within (largest (F .bits)) ((beforeWriting F [] n (writeLines F [] t n)) .lines)
   before-small n = turned-le (largest (F .bits)) W ((writeLines F [] t n) .lines) (lines-within F [] t n)
 
-  lines-found : (n : ℕ) → (writeLines F [] t n) .wrong ≡ none → Found W t n 0 ((beforeWriting F [] n (writeLines F [] t n)) .lines)
+  pub lines-found : (n : ℕ) → (writeLines F [] t n) .wrong ≡ none → Found W t n 0 ((beforeWriting F [] n (writeLines F [] t n)) .lines)
   unfolding writeLines repeats startWriting writeLine
   lines-found zero w =
       let long : length (zeroLines W) ≡ 18 * (W + 2) = length-replicate (18 * (W + 2)) 0 in
@@ -195,7 +195,7 @@ module _ (F : Form) (t : List ℕ) (range : (j : ℕ) → getD t j 0 ≤ largest
       turned-found n _
       (passes-found n (beforeWriting F [] n (writeLines F [] t n)) (lines-found n (line-right F [] t n (writeLines F [] t n) w)) (before-small n) 6 (omega arith) w)
 
-  lines-wrong : (n : ℕ) → (writeLines F [] t n) .wrong ≡ none ↔ LinesRight n
+  pub lines-wrong : (n : ℕ) → (writeLines F [] t n) .wrong ≡ none ↔ LinesRight n
   unfolding writeLines repeats startWriting writeLine
   lines-wrong zero = (λ e m i h k. absurd (omega arith), λ e. refl)
   lines-wrong (suc n) =

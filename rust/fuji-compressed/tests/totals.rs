@@ -180,6 +180,26 @@ fn lines_that_end_past_the_block() {
     panic!("not all numbers of bits were seen: {seen:?}");
 }
 
+/// Eight bits past the end are truncation, though every code of the line is read: its last eight bits are zeros, which follow the block's end too.
+#[test]
+fn a_line_that_ends_eight_bits_past_the_block() {
+    for v in 0..64 * 4096 {
+        let mut random = Random::new(1 + v % 997);
+        let last = |n, line, p| (n, line, p) == (0, 17, 383);
+        let mut want = |n, line, p| if last(n, line, p) { (v % 4096) as u16 } else { scene(2, 4095, n, line, p, &mut random) };
+        let one = encode_spoilt(12, false, &[], 1, &mut want, None);
+        let whole = one.used / 8;
+        if one.used % 8 != 0 || one.bytes[whole - 1] != 0 {
+            continue;
+        }
+        let of = |answer| counted(answer, one.used as u64, one.long_codes as u64);
+        assert_eq!(read(12, false, &[], 1, &one.bytes[..whole])[0], of(Ok(())));
+        assert_eq!(read(12, false, &[], 1, &one.bytes[..whole - 1]), [counted(refused(14, 0), 0, 0); 2]);
+        return;
+    }
+    panic!("no line ends so");
+}
+
 unsafe extern "C" {
     fn fuji_read_block(
         stream: *const u8,

@@ -1,0 +1,2 @@
+-- The proof of the facts.
+pub mod FactsHold
