@@ -10,13 +10,17 @@
  * `refusal`, where a function has it, is written by every call: the number (enum fuji_refusal, 0 if nothing is refused), then the block, the line and the
  * index that the refusal names, 0 where it names none. fuji_refusal_text gives a sentence for the number.
  *
- * What a refused call leaves: with refusals 1 to 10 and 16 to 26 everything is as it was, with these exceptions, each said at its function: results such as
- * lengths and totals become 0; fuji_decode_region_shared gives its camera's holds back; refusals 21 to 23 clear the used part of scratch. Refusal 14 of a
- * decoding function leaves in the image the rows of each block before its failing line. After 11 to 15, and after success, the used part of scratch is
- * samples 0 and records (0, n 1). Output is as it was after every refusal of a writer.
+ * What a refused call leaves: with refusals 1 to 10, 16 to 20 and 24 to 26 image, output, set and scratch are as they were. After 11 to 15 and 21 to 23, and
+ * after a call that read or wrote a block, the used part of scratch is samples 0 and records (0, n 1); but fuji_tighten and fuji_lossy_copy leave everything
+ * as it was if 13 comes because there is no room for what stands before the blocks.
+ * Refusal 14 of a decoding function leaves in the image the rows of each block before its failing line (fuji_decode_region_windowed: and 0 in the rows of
+ * that line); 23 leaves those of the blocks before and of its own before that line. fuji_write_block and fuji_write_lossy leave the output as it was with
+ * every refusal; fuji_tighten and fuji_lossy_copy do not once their blocks are begun. Lengths and other results are 0 where a call is refused; what holds of
+ * totals, of stored states (13, 21, 22) and of quantiser entries is said at the functions.
  *
  * Each call stands alone: there is no state, and any number of threads may call at the same time with buffers of their own. The code is position-independent,
- * makes no system call, takes less than 16 KiB of stack (fuji_plan_bases: less than 64), and needs nothing but memcpy and memset. */
+ * makes no system call, and needs nothing but memcpy and memset. Decoding takes less than 16 KiB of stack (a test holds it to that). fuji_bad_code has scratch
+ * of its own on the stack, and fuji_plan_bases counts of 44 KB. */
 #ifndef FUJI_COMPRESSED_H
 #define FUJI_COMPRESSED_H
 
