@@ -20,7 +20,7 @@ pub use writing::{lossy_begins, writing_begins};
 
 // How decoding begins: a refusal, nothing to do, or a stream with this header is read. The reading of one block and the writer always have something
 // to do: they begin with a refusal or a header, as `Parsed` has them.
-#[derive(Drop)]
+#[derive(Clone, Copy)]
 pub enum Beginning {
     Refused(Refusal),
     Nothing,

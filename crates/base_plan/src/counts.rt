@@ -6,7 +6,7 @@ ghost use Rattle.base_plan.specs.Counts.{is_amiss};
 use crate::records::Row;
 
 // How many good records there are from the start on, and where they end.
-#[derive(Drop)]
+#[derive(Clone, Copy)]
 pub struct Read {
     pub records: usize,
     pub end: usize,

@@ -9,7 +9,7 @@ use stream::{FujiHeader, Parsed, Refusal};
 mod counts;
 mod records;
 
-#[derive(Drop)]
+#[derive(Clone, Copy)]
 pub enum Planned {
     Done,
     Refused(Refusal),

@@ -4,21 +4,21 @@ ghost use Rattle.base_plan.specs.Records.{is_digit, number_at, end_of, good_reco
 ghost use Rattle.base_plan.specs.Readings.{field_of, FieldInside, row_of, RowInside, Filled, Written};
 
 // The number of some digits, and the place after them.
-#[derive(Drop)]
+#[derive(Clone, Copy)]
 struct Digits {
     number: u32,
     end: usize,
 }
 
 // A field: its number, and where what follows its mark starts.
-#[derive(Drop)]
+#[derive(Clone, Copy)]
 enum Field {
     Number(u32, usize),
     Bad,
 }
 
 // A good record: first line, last line, base, and where the next record starts.
-#[derive(Drop)]
+#[derive(Clone, Copy)]
 pub enum Row {
     Good(usize, usize, u32, usize),
     Bad,

@@ -1,5 +1,6 @@
 // Document 01, Tight block: bits stored into bytes, most significant first. The writer's counterpart of `bits`.
 #![tactic(auto)]
+
 ghost use Rattle.std.specs.Prelude.{◌≡◌, ◌++◌, ◌+◌, ◌-◌, ◌*◌, ◌/◌, ◌%◌, ◌^◌, ◌≤◌, ◌<◌, length, take, drop};
 ghost use Rattle.bits.specs.BitLists.{binary, packed};
 ghost use Rattle.bits.specs.Inside.{bytes_for};
@@ -9,7 +10,7 @@ use bits::BitPosition;
 use numbers::u8_to_u32;
 
 // The position after some samples that are written, or the index in the set of an interpolated one that is not its prediction.
-#[derive(Drop)]
+#[derive(Clone, Copy)]
 pub enum Put {
     At(BitPosition),
     Wrong(usize),

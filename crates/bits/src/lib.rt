@@ -1,6 +1,7 @@
 // Document 01, Bit reader: the bits of a block, most significant first, with zeros after the end. There is no cache: eight bytes are
 // loaded at the position.
 #![tactic(auto)]
+
 ghost use Rattle.std.specs.Prelude.{◌≡◌, ◌+◌, ◌*◌, ◌/◌, ◌%◌, ◌^◌, ◌≤◌, ◌<◌, min, ltb, length, get_or};
 ghost use Rattle.bits.specs.Bits.{bits_at, zero_run, be32};
 ghost use Rattle.bits.specs.Inside.{word_at};
@@ -12,15 +13,15 @@ ghost use Rattle.bits.specs.Positions.{ahead, aligned};
 use numbers::u8_to_u64;
 
 // A place in a block, counted in bits from its start.
-#[derive(Drop)]
+#[derive(Clone, Copy)]
 pub struct BitPosition(pub u64);
 
 // A place in a block or a stream, counted in bytes from its start: what a slice is indexed by.
-#[derive(Drop)]
+#[derive(Clone, Copy)]
 pub struct ByteOffset(pub usize);
 
 // The zeros before the next one bit, or that no one bit is left.
-#[derive(Drop)]
+#[derive(Clone, Copy)]
 pub enum ZeroRun {
     One(u64),
     None,

@@ -12,14 +12,14 @@ mod taking;
 pub use entry_words::{camera_in, entries_in, words_of};
 pub use taking::{after_block, base_of, is_stopped, main_in, mended, take_lines};
 
-#[derive(Drop)]
+#[derive(Clone, Copy)]
 pub enum Camera {
     One,
     Two,
 }
 
 // A depth, the main quantiser of a base, and who holds it.
-#[derive(Drop)]
+#[derive(Clone, Copy)]
 pub struct Entry {
     pub bits: u32,
     pub main: Quantiser,
@@ -27,7 +27,7 @@ pub struct Entry {
     pub two: bool,
 }
 
-#[derive(Drop)]
+#[derive(Clone, Copy)]
 pub struct Entries {
     pub all: [Entry; 16],
 }

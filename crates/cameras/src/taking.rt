@@ -8,14 +8,14 @@ use crate::{Camera, Entries, Entry};
 use quantiser::Quantiser;
 
 // Whether a line has an entry, and the entries after it.
-#[derive(Drop)]
+#[derive(Clone, Copy)]
 struct Taken {
     ok: bool,
     entries: Entries,
 }
 
 // How many lines of a block have an entry, and the entries after them.
-#[derive(Drop)]
+#[derive(Clone, Copy)]
 pub struct Took {
     pub lines: usize,
     pub entries: Entries,

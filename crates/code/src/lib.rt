@@ -1,6 +1,7 @@
 // Document 01, Code and Tight block: what is read of a code, whether it is long, whether it is tight and why not (`reasons`), and the
 // way from a code to a sample and back (`samples`).
 #![tactic(auto)]
+
 ghost use Rattle.std.specs.Prelude.{◌≡◌, ◌/◌, ◌^◌, ◌<◌, ◌≤◌, ◌&&◌, ◌==◌, nat_le};
 ghost use Rattle.code.specs.Tight.{is_tight};
 ghost use Rattle.code.specs.Inside.{taken_of};
@@ -16,7 +17,7 @@ pub use samples::{choice, code_near, moved, residual_size, sample, wrap};
 
 // A code that was read: the zeros before its one bit, its value, whether it has no bit that it could do without, whether it is long, how many
 // bits it used, and the position after it.
-#[derive(Drop)]
+#[derive(Clone, Copy)]
 pub struct Code {
     pub zeros: u64,
     pub value: u32,
@@ -26,7 +27,7 @@ pub struct Code {
     pub after: BitPosition,
 }
 
-#[derive(Drop)]
+#[derive(Clone, Copy)]
 pub enum Coded {
     Read(Code),
     // No one bit is left in the block's bytes.
@@ -34,7 +35,7 @@ pub enum Coded {
 }
 
 // Where a reading is: the next bit, whether all codes so far were tight, and how many of them were long.
-#[derive(Drop)]
+#[derive(Clone, Copy)]
 pub struct Place {
     pub at: BitPosition,
     pub tight: bool,
@@ -42,7 +43,7 @@ pub struct Place {
 }
 
 // A short code that is tight: its value and the position after it. Or whatever else is there, which the slow reader takes.
-#[derive(Drop)]
+#[derive(Clone, Copy)]
 pub enum Short {
     Code(u32, BitPosition),
     Other,
@@ -50,7 +51,7 @@ pub enum Short {
 
 // What a pass takes of a code: its value, and where the reading is after it.
 // INLINING: the parts are fields of their own. As one struct they would go through memory, and cost 8 of 182 instructions a code.
-#[derive(Drop)]
+#[derive(Clone, Copy)]
 pub enum Taken {
     Read(u32, BitPosition, bool, u64),
     Truncated,

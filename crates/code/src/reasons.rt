@@ -7,21 +7,21 @@ use crate::Code;
 use bits::BitPosition;
 
 // Why a code is bad: it is 2^bits or more; it is long where the short form fits; it has more zeros than the limit. Where two hold, the first is given.
-#[derive(Drop)]
+#[derive(Clone, Copy)]
 pub enum Reason {
     Large,
     Escape,
     Zeros,
 }
 
-#[derive(Drop)]
+#[derive(Clone, Copy)]
 pub enum Verdict {
     Good,
     Bad(Reason),
 }
 
 // A bad code: its line of six rows, its pass, 1 to 6, its colour line and position, its first bit, and why it is bad.
-#[derive(Drop)]
+#[derive(Clone, Copy)]
 pub struct BadSpot {
     pub line: usize,
     pub pass: usize,

@@ -1,5 +1,6 @@
 // Document 01, Pass and line: the 18 colour lines of a block between passes: guards, the turn to the next line, the layout of a set.
 #![tactic(auto)]
+
 ghost use Rattle.std.specs.Prelude.{◌≡◌, ◌+◌, ◌-◌, ◌*◌, ◌≤◌, ◌<◌, length, replicate, true, cond};
 ghost use Rattle.colour_lines.specs.ColourLines.{guarded, moved, turned};
 ghost use Rattle.colour_lines.specs.Inside.{roomed, entered};

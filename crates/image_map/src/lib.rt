@@ -1,5 +1,6 @@
 // Document 01, Map: where a sample of the image is in the colour lines, and how a line's rows reach the image.
 #![tactic(auto)]
+
 ghost use Rattle.std.specs.Prelude.{◌≡◌, ◌+◌, ◌*◌, ◌%◌, ◌≤◌, ◌<◌, length};
 ghost use Rattle.image_map.specs.Places.{width_of, place_in, colour_line};
 ghost use Rattle.image_map.specs.Inside.{ArePlaces};
@@ -24,7 +25,7 @@ pub fn width(xtrans: bool) -> usize
 
 // The part of an image that a block fills: its columns left to right go to columns start onward of rows that are stride samples long. The
 // rows top to bottom of the whole picture are there.
-#[derive(Drop)]
+#[derive(Clone, Copy)]
 pub struct Part {
     pub left: usize,
     pub right: usize,

@@ -11,7 +11,7 @@ use stream::{FujiHeader, Refusal};
 const LARGEST: usize = 0xFFFF_FFFF_FFFF_FFFF;
 
 // A region: its first column and row, and its size.
-#[derive(Drop)]
+#[derive(Clone, Copy)]
 pub struct Rect {
     pub x: usize,
     pub y: usize,
@@ -20,14 +20,14 @@ pub struct Rect {
 }
 
 // What a region needs: the blocks first to last, and the first lines of each.
-#[derive(Drop)]
+#[derive(Clone, Copy)]
 pub struct Span {
     pub first: usize,
     pub last: usize,
     pub lines: usize,
 }
 
-#[derive(Drop)]
+#[derive(Clone, Copy)]
 pub enum Checked {
     Refused(Refusal),
     // Nothing is to be done.

@@ -1,6 +1,7 @@
 // Shared by all crates: tests and lengths on numbers alone, by which blocks and calls are judged. They are apart from the crates that
 // call them because a must-fail edit of a test then costs seconds and stands for every entry that makes the test.
 #![tactic(auto)]
+
 ghost use Rattle.std.specs.Prelude.{◌≡◌, cond, ◌&&◌, ◌||◌, suc, ◌+◌, ◌-◌, ◌*◌, ◌/◌, ◌%◌, ◌^◌, ◌≤◌, ◌<◌, eqb, leb, ltb};
 
 // Whether there is less room than is needed.

@@ -1,17 +1,18 @@
 // Item 6: bits and long codes of lines. It is apart from `read_block` because four must-fail edits would each check that crate again.
 #![tactic(auto)]
+
 ghost use Rattle.std.specs.Prelude.{◌≡◌, ◌+◌, ◌-◌, ◌^◌, ◌≤◌, ◌<◌};
 ghost use Rattle.line_totals.specs.Totals.{no_totals};
 ghost use Rattle.line_totals.specs.Inside.{with_line};
 
-#[derive(Drop)]
+#[derive(Clone, Copy)]
 pub struct Totals {
     pub bits: u64,
     pub long: u64,
 }
 
 // How many lines, from the first on, have only tight codes, and the totals of these lines.
-#[derive(Drop)]
+#[derive(Clone, Copy)]
 pub struct TightLines {
     pub lines: usize,
     pub totals: Totals,

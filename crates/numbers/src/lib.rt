@@ -1,11 +1,12 @@
 // Shared by all crates: small functions on unsigned numbers, conversions, and numbers as a sign and a size.
 #![tactic(auto)]
+
 ghost use Rattle.std.specs.Prelude.{◌≡◌, cond, ◌-◌, ◌^◌, ◌≤◌, ◌<◌, min, max};
 ghost use Rattle.std.specs.Bool.{xor};
 ghost use Rattle.numbers.specs.Numbers.{distance, minus, flag};
 
 // A number as its sign and its size.
-#[derive(Drop)]
+#[derive(Clone, Copy)]
 pub struct Signed {
     pub negative: bool,
     pub size: u32,

@@ -82,7 +82,7 @@ fn even_prediction(rf: u16, rc: u16, rb: u16, rd: u16) -> u16
 }
 
 // The base of a line, and what its thresholds after the first lie above.
-#[derive(Drop)]
+#[derive(Clone, Copy)]
 struct Marks {
     base: u16,
     second: u16,
@@ -136,7 +136,7 @@ fn lossless_packed(rf: u16, rc: u16, rb: u16) -> u16
 }
 
 // The flatness from which on a quantiser is passed over.
-#[derive(Drop)]
+#[derive(Clone, Copy)]
 struct Bounds {
     first: u16,
     second: u16,
@@ -216,7 +216,7 @@ fn flat_part(choice: u16, rb: u16, rc: u16) -> u16
 // ---- odd positions, once the samples beside them are known
 
 // Where the record of a sample is in its set, and a number that is odd where its gradient is negative.
-#[derive(Drop)]
+#[derive(Clone, Copy)]
 pub struct Aim {
     pub slot: usize,
     pub flip: u32,

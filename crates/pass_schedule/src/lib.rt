@@ -1,5 +1,6 @@
 // Document 01, Pass and line: the six passes of a line, the order of their samples, and which positions have no code.
 #![tactic(auto)]
+
 ghost use Rattle.std.specs.Prelude.{◌≡◌, true, not, ◌<◌};
 ghost use Rattle.pass_schedule.specs.Steps.{interpolated, plan_of, is_interpolated};
 
@@ -13,7 +14,7 @@ const AT_2_MOD_4: u32 = 2;
 const ALL: u32 = 3;
 
 // A pass: the numbers of its two colour lines, its statistics set, and the rule of each line.
-#[derive(Drop)]
+#[derive(Clone, Copy)]
 pub struct Plan {
     pub first: usize,
     pub second: usize,

@@ -15,14 +15,14 @@ use prediction::Context;
 use statistics::Record;
 
 // The records of a set, 56 of even positions and then 56 of odd ones, as two arrays: so they can be lent to a function.
-#[derive(Drop)]
+#[derive(Clone, Copy)]
 pub struct Set {
     pub sums: [u32; 112],
     pub ns: [u32; 112],
 }
 
 // The quantisers of a line, the main one and then the three flat ones, as an array for each of their numbers.
-#[derive(Drop)]
+#[derive(Clone, Copy)]
 pub struct Quantisers {
     pub base: u32,
     pub totals: [u32; 4],
@@ -31,7 +31,7 @@ pub struct Quantisers {
 }
 
 // What the coding of a sample goes by: the quantiser, its base, the gradient's sign, and the record's place.
-#[derive(Drop)]
+#[derive(Clone, Copy)]
 pub struct Look {
     pub choice: usize,
     pub base: u32,
@@ -40,7 +40,7 @@ pub struct Look {
 }
 
 // The two samples at position p of a pass, in lines of w samples of that depth.
-#[derive(Drop)]
+#[derive(Clone, Copy)]
 pub struct Spot {
     pub w: usize,
     pub bits: u32,

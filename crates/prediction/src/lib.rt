@@ -1,5 +1,6 @@
 // Document 01, Prediction: the prediction of a sample from its neighbours, with the two differences that pick its record.
 #![tactic(auto)]
+
 ghost use Rattle.std.specs.Prelude.{◌≡◌, ◌+◌, ◌*◌, ◌^◌, ◌≤◌, ◌<◌};
 ghost use Rattle.prediction.specs.Predictions.{dropped_of, even_prediction, extreme, odd_prediction, even_context, odd_context, flatness_of};
 ghost use Rattle.prediction.specs.Inside.{ContextRanges};
@@ -7,7 +8,7 @@ ghost use Rattle.prediction.specs.Inside.{ContextRanges};
 use numbers::Signed;
 
 // All that a sample's coding goes by.
-#[derive(Drop)]
+#[derive(Clone, Copy)]
 pub struct Context {
     pub prediction: u32,
     pub first: Signed,

@@ -1,5 +1,6 @@
 // Document 01, Quantiser: the main and the flat quantisers, the levels of differences and the gradient.
 #![tactic(auto)]
+
 ghost use Rattle.std.specs.Prelude.{◌≡◌, ◌+◌, ◌-◌, ◌*◌, ◌^◌, ◌≤◌, ◌<◌, leb};
 ghost use Rattle.numbers.specs.Numbers.{up, down, flag, least_from};
 ghost use Rattle.quantiser.specs.Quantisers.{largest, quantiser_of, main_of, flat_of, start_sum};
@@ -9,7 +10,7 @@ ghost use Rattle.quantiser.specs.Quantisers.{level_size, level_of, gradient_of};
 
 use numbers::Signed;
 
-#[derive(Drop)]
+#[derive(Clone, Copy)]
 pub struct Quantiser {
     pub base: u32,
     // How often the first level counts in the gradient: 9, or 3 for a flat quantiser.
@@ -80,7 +81,7 @@ impl Quantiser {
 }
 
 // What the levels of a quantiser with that base go by. The first threshold is the base itself.
-#[derive(Drop)]
+#[derive(Clone, Copy)]
 pub struct Thresholds {
     pub base: u32,
     pub second: u32,

@@ -24,14 +24,14 @@ pub use records::{
 pub use sharing::decode_region_shared;
 pub use tight::{line_count, no_part, read_answer, read_block, read_tight, refused, tight_answer};
 
-#[derive(Drop)]
+#[derive(Clone, Copy)]
 pub struct Form {
     pub bits: u32,
     pub xtrans: bool,
 }
 
 // Where the reading is after a line; or the line is truncated.
-#[derive(Drop)]
+#[derive(Clone, Copy)]
 pub enum Lined {
     Read(Place),
     Truncated,
@@ -39,28 +39,28 @@ pub enum Lined {
 
 // What was counted of all lines, and of those, from the first on, that have only tight codes; or the first line that is truncated, and what was
 // counted before it.
-#[derive(Drop)]
+#[derive(Clone, Copy)]
 pub enum Walked {
     Read(Totals, TightLines),
     Truncated(usize, Totals),
 }
 
 // What decoding answers.
-#[derive(Drop)]
+#[derive(Clone, Copy)]
 pub enum Decoded {
     Done,
     Refused(Refusal),
 }
 
 // What decoding for a camera answers, and the entries after it.
-#[derive(Drop)]
+#[derive(Clone, Copy)]
 pub struct SharedAnswer {
     pub answer: Decoded,
     pub entries: Entries,
 }
 
 // What the reading of one block answers, and what it counted.
-#[derive(Drop)]
+#[derive(Clone, Copy)]
 pub struct Counted {
     pub answer: Decoded,
     pub totals: Totals,

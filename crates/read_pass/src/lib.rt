@@ -17,7 +17,7 @@ use pass_steps::{Quantisers, Set, Spot};
 mod one_sample;
 
 // A position of a pass in lines with that base, and its entry in what is known ahead.
-#[derive(Drop)]
+#[derive(Clone, Copy)]
 pub struct Turn {
     pub spot: Spot,
     pub base: u32,
@@ -25,14 +25,14 @@ pub struct Turn {
 }
 
 // Where the reading is after two samples, in parts; or that no one bit was left.
-#[derive(Drop)]
+#[derive(Clone, Copy)]
 pub enum Pair {
     At(BitPosition, bool, u64),
     CutOff,
 }
 
 // What a pass hands back. Where it was cut off, all but `ok` means nothing.
-#[derive(Drop)]
+#[derive(Clone, Copy)]
 pub struct Passed {
     pub ok: bool,
     pub place: Place,

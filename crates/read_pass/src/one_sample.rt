@@ -18,7 +18,7 @@ use numbers::u16_to_u32;
 
 // How a sample is coded: one place before it among the colour lines, its prediction, its record's place in the set, a number that is odd where its gradient is
 // negative, the record's k, the largest sample, and the limit of its quantiser.
-#[derive(Drop)]
+#[derive(Clone, Copy)]
 pub struct Coding {
     pub place: usize,
     pub prediction: u32,

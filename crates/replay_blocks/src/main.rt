@@ -9,7 +9,7 @@ use read_block::{Form, Walked};
 use replay_common::{Tally, half, word};
 
 // What a record says of itself: the bytes of its base row and of its block, its lines, and how many of them the original read.
-#[derive(Drop)]
+#[derive(Clone, Copy)]
 struct Sizes {
     bits: u32,
     xtrans: bool,

@@ -6,7 +6,7 @@ use libc::STDOUT_FILENO;
 use numbers::u8_to_u32;
 
 // For each kind how many answers were compared and how many differ.
-#[derive(Drop)]
+#[derive(Clone, Copy)]
 pub struct Tally {
     pub compared: [u64; 7],
     pub differ: [u64; 7],

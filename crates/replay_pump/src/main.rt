@@ -9,7 +9,7 @@ use bits::{BitPosition, ByteOffset};
 use replay_common::{Tally, word};
 
 // A call of a pump: 1 peek, 2 get, 3 skip, 4 align_byte. What it answered, and the positions after it.
-#[derive(Drop)]
+#[derive(Clone, Copy)]
 struct Call {
     kind: u32,
     n: u32,

@@ -11,7 +11,7 @@ use stream::Refusal;
 mod alone;
 
 // What a record says of itself: the bytes of its stream, the samples of its image, and the answer.
-#[derive(Drop)]
+#[derive(Clone, Copy)]
 struct Sizes {
     stream: usize,
     image: usize,

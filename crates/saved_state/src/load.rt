@@ -8,7 +8,7 @@ use numbers::u8_to_u64;
 use statistics::Record;
 
 // What stored bytes are to a call: none that load, those of another block, or the next line and the bit position to go on from.
-#[derive(Drop)]
+#[derive(Clone, Copy)]
 pub enum Checked {
     Bad,
     Other,
@@ -16,7 +16,7 @@ pub enum Checked {
 }
 
 // The block that a call goes on in: its header's depth and lines, the samples of its colour lines, and the length of its bytes.
-#[derive(Drop)]
+#[derive(Clone, Copy)]
 pub struct Bounds {
     pub w: usize,
     pub bits: u32,

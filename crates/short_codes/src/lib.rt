@@ -7,7 +7,7 @@ ghost use Rattle.short_codes.specs.Inside.{Bounded, Filled};
 use stream::Refusal;
 
 // How many strings the sheet has, whether or not they were written.
-#[derive(Drop)]
+#[derive(Clone, Copy)]
 pub enum Listed {
     Count(usize),
     Refused(Refusal),

@@ -1,5 +1,6 @@
 // Document 01, Statistics: a record gives the number k of a code's low bits, and each residual updates it.
 #![tactic(auto)]
+
 ghost use Rattle.std.specs.Prelude.{◌≡◌, ◌+◌, ◌-◌, ◌≤◌, ◌<◌};
 ghost use Rattle.std.specs.Int.Count.{count_leading_zeros};
 ghost use Rattle.numbers.specs.Numbers.{least_from};
@@ -8,7 +9,7 @@ ghost use Rattle.statistics.specs.Inside.{InRange};
 
 // The sizes of the residuals so far, and their number; both are halved when 64 are counted.
 #[repr(C)]
-#[derive(Drop)]
+#[derive(Clone, Copy)]
 pub struct Record {
     pub sum: u32,
     pub n: u32,

@@ -4,7 +4,7 @@ ghost use Rattle.stream.specs.Headers.{byte_at, be16, header_of, within, kind_ru
 
 // Why a call is refused. Each case has its number, here and for C; specs/Refusals.antt states the number and the values that
 // it names. 1 to 15 are in the order in which a call checks them.
-#[derive(Drop)]
+#[derive(Clone, Copy)]
 pub enum Refusal {
     // 1: fewer than 16 bytes of header.
     ShortHeader,
@@ -60,7 +60,7 @@ pub enum Refusal {
     LongBlock(usize),
 }
 
-#[derive(Drop)]
+#[derive(Clone, Copy)]
 pub struct FujiHeader {
     pub lossless: bool,
     // X-Trans (type 16) or Bayer (type 0).
@@ -75,13 +75,13 @@ pub struct FujiHeader {
     pub lines: u32,
 }
 
-#[derive(Drop)]
+#[derive(Clone, Copy)]
 pub enum Parsed {
     Header(FujiHeader),
     Refused(Refusal),
 }
 
-#[derive(Drop)]
+#[derive(Clone, Copy)]
 pub enum Width {
     Columns(u32),
     Refused(Refusal),

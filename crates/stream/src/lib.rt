@@ -20,7 +20,7 @@ pub use ranges::Ranged;
 pub use words::{header_words, refusal_words};
 
 // A block's length in bytes: its bound, as it is measured, or as it is written.
-#[derive(Drop)]
+#[derive(Clone, Copy)]
 pub enum BlockLength {
     Length(usize),
     Refused(Refusal),

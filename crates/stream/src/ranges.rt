@@ -7,7 +7,7 @@ use crate::header::Refusal;
 use bits::ByteOffset;
 
 // An offset into the stream and a length.
-#[derive(Drop)]
+#[derive(Clone, Copy)]
 pub enum Ranged {
     At(ByteOffset, usize),
     Refused(Refusal),

@@ -19,7 +19,7 @@ use trace::Traced;
 mod trace;
 
 // Why a block is not tight: its first bad code; or its tail, with the number of lines and the first bit after the last code.
-#[derive(Drop)]
+#[derive(Clone, Copy)]
 pub enum Fault {
     None,
     Code(BadSpot),

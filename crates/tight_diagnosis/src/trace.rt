@@ -23,7 +23,7 @@ use read_block::Form;
 use statistics::Record;
 
 // What a walk says: a bad code; all codes were tight up to this bit; or no one bit was left before there was a bad code.
-#[derive(Drop)]
+#[derive(Clone, Copy)]
 pub enum Traced {
     Bad(BadSpot),
     At(BitPosition),
@@ -31,7 +31,7 @@ pub enum Traced {
 }
 
 // One sample: its colour line, its position, and whether it has a code.
-#[derive(Drop)]
+#[derive(Clone, Copy)]
 pub struct Sample {
     pub line: usize,
     pub position: usize,
@@ -39,7 +39,7 @@ pub struct Sample {
 }
 
 // Which pass of which line is walked, 0 to 5, in colour lines of w samples.
-#[derive(Drop)]
+#[derive(Clone, Copy)]
 pub struct Stage {
     pub line: usize,
     pub pass: usize,
@@ -149,7 +149,7 @@ fn trace_step(
 // ---- the samples of a pass
 
 // A sample of a pass, and whether the pass has it.
-#[derive(Drop)]
+#[derive(Clone, Copy)]
 struct Due {
     due: bool,
     x: Sample,

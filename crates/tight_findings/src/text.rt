@@ -8,7 +8,7 @@ use code::{BadSpot, Reason};
 use stream::Refusal;
 
 // What is found in a stream: it is refused; no block gives 15; or the lowest that does, and why.
-#[derive(Drop)]
+#[derive(Clone, Copy)]
 pub enum Finding {
     Refused(Refusal),
     Nothing,

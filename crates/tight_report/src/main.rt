@@ -12,7 +12,7 @@ use libc::{STDERR_FILENO, STDIN_FILENO, STDOUT_FILENO};
 const TRIES: u32 = 1_000_000;
 
 // What was read: n bytes, fewer than there was room for only at the end of the input. Where it is not ok a read failed.
-#[derive(Drop)]
+#[derive(Clone, Copy)]
 struct Got {
     ok: bool,
     n: usize,

@@ -19,7 +19,7 @@ pub fn is_ample(measure: bool, bits: u32, lines: usize, room: usize) -> bool
 }
 
 // What follows then: an answer, or the walk that stores the bits, which end here.
-#[derive(Drop)]
+#[derive(Clone, Copy)]
 pub enum Next {
     Answer(BlockLength),
     Store(BitPosition),

@@ -28,7 +28,7 @@ mod looking;
 pub use looking::look_pass;
 
 // A pass: the position after it and its set; or the index of a wrong sample.
-#[derive(Drop)]
+#[derive(Clone, Copy)]
 pub struct PassPut {
     pub ok: bool,
     pub wrong: usize,
@@ -151,7 +151,7 @@ fn index_in(w: usize, n: usize, line: usize, p: usize) -> usize
 }
 
 // A code that was chosen for a wanted sample, and the sample that it gives.
-#[derive(Drop)]
+#[derive(Clone, Copy)]
 struct Chosen {
     code: u32,
     value: u32,
@@ -179,7 +179,7 @@ fn choose_code(bits: u32, base: u32, total: u32, negative: bool, prediction: u32
 }
 
 // How a sample with a code is put: the place of its record in the set, the quantiser, the code, and the sample as it reads back.
-#[derive(Drop)]
+#[derive(Clone, Copy)]
 struct Coding {
     slot: usize,
     choice: usize,

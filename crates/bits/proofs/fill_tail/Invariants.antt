@@ -1,0 +1,21 @@
+-- `bits::fill_tail` meets its contract: the bytes up to i are 0. Assumes nothing.
+use borrow.Author.Rules.{rules}
+use mathlib.Core.List.{List}
+use mathlib.Core.Path.{◌≡◌, refl, ap, ◌∙◌}
+use Prim.Native.Nat.{ℕ, zero, suc, ◌+◌, ◌-◌, ◌≤◌, ◌<◌}
+use native.Mathlib.Omega.{arith}
+use lib.ListN.{length, get_or, set, replicate, length-replicate}
+use lib.Seq.{paste, paste-zero, paste-suc}
+use Rattle.bits.specs.Inside.{bytes_for, filled}
+use Rattle.bits.specs.BitLists.{block_bytes}
+use Rattle.bits.proofs.fill_tail.Given as goal
+
+abbrev pub zeros : ℕ → List ℕ
+zeros n = replicate n 0
+
+abbrev pub invariant-loop-i : goal.invariant-loop-i
+invariant-loop-i l =
+    (l.initial.i ≤ l.i) × (l.i ≤ l.last) × (l.last ≤ length l.initial.out) × (length l.out ≡ length l.initial.out) × (l.out ≡ paste l.initial.out l.initial.i (zeros (l.last - l.initial.i)) (l.i - l.initial.i))
+
+abbrev pub decreases-loop-i : goal.decreases-loop-i
+decreases-loop-i l = l.last - l.i

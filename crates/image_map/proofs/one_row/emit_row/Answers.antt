@@ -1,0 +1,163 @@
+-- `image_map::one_row::emit_row` meets its contract. The invariant: the columns from left up to p are stored from `at` on, and `column` is p mod 6; the measure:
+-- the columns left. Assumes nothing.
+use mathlib.Core.Path.{◌≡◌, refl, ◌∙◌}
+use Prim.Native.Nat.{◌+◌, ◌-◌, ◌%◌, ◌≤◌}
+use native.Mathlib.Omega.{arith}
+use lib.Dec.{eqb, leb, lit≤}
+use borrow.Author.Tests.{eqb-true, leb-true}
+use Rattle.numbers.proofs.BoolLaws.{both}
+use Rattle.image_map.specs.Rows.{sample_by}
+use Rattle.image_map.proofs.PlaceLaws.{width_le}
+use Rattle.image_map.proofs.StartLaws.{starts_inside, column_next, row_emitted, stored_one, stored_six}
+use Rattle.image_map.proofs.RowLaws.{Stored, stored_none}
+use Rattle.image_map.proofs.one_row.emit_row.Goals as goal
+
+pub starts_of-starts-requires : goal.starts_of-starts-requires
+starts_of-starts-requires c =
+    (c.requires.r_bound.0, omega (arith, width_le c.args.xtrans, c.requires.r_bound.1.0))
+
+pub loop-p-init : goal.loop-p-init
+loop-p-init c = (omega arith, c.requires.r_bound.1.1.0, stored_none _ _ _ _, refl)
+
+pub emit_three-requires : goal.emit_three-requires
+emit_three-requires c =
+    let t = both (eqb c.loop-p.column 0) (leb (c.loop-p.p + 6) c.args.right) c.if-column-p.true in
+    let z = eqb-true c.loop-p.column 0 t.0 in
+    let y = leb-true (c.loop-p.p + 6) c.args.right t.1 in record {
+      w_value = (c.requires.r_bound.1.0, (c.requires.w_in_bounds.0, c.requires.are_places));
+      column_value = (
+        omega (arith, c.loop-p.invariant.3),
+        (
+          lit≤ tt,
+          (
+            omega (arith, y, c.requires.r_bound.1.1),
+            (
+              omega (arith, c.loop-p.invariant.2.kept, y, c.loop-p.invariant.0, c.requires.w_in_bounds.1),
+              starts_inside c.args.xtrans c.args.w c.args.tile _ c.args.r c.starts_of-starts.ensures c.requires.r_bound.1.0 c.requires.r_bound.0,
+            ),
+          ),
+        ),
+      );
+    }
+
+pub emit_three-requires-then-column-p : goal.emit_three-requires-then-column-p
+emit_three-requires-then-column-p c =
+    let t = both (eqb c.loop-p.column 0) (leb (c.loop-p.p + 6) c.args.right) c.if-column-p.true in
+    let z = eqb-true c.loop-p.column 0 t.0 in
+    let y = leb-true (c.loop-p.p + 6) c.args.right t.1 in record {
+      w_value = (c.requires.r_bound.1.0, (c.requires.w_in_bounds.0, c.requires.are_places));
+      column_value = (
+        omega (arith, c.loop-p.invariant.3),
+        (
+          lit≤ tt,
+          (
+            omega (arith, y, c.requires.r_bound.1.1),
+            (
+              omega (arith, c.loop-p.invariant.2.kept, y, c.loop-p.invariant.0, c.requires.w_in_bounds.1, c.emit_three.ensures.1),
+              starts_inside c.args.xtrans c.args.w c.args.tile _ c.args.r c.starts_of-starts.ensures c.requires.r_bound.1.0 c.requires.r_bound.0,
+            ),
+          ),
+        ),
+      );
+    }
+
+pub loop-p-preserved-then-column-p : goal.loop-p-preserved-then-column-p
+loop-p-preserved-then-column-p c =
+    let t = both (eqb c.loop-p.column 0) (leb (c.loop-p.p + 6) c.args.right) c.if-column-p.true in
+    let z = eqb-true c.loop-p.column 0 t.0 in
+    let y = leb-true (c.loop-p.p + 6) c.args.right t.1 in (
+      omega (arith, c.loop-p.invariant.0),
+      y,
+      stored_six _ _ _ _ c.loop-p.p _ _ _ c.loop-p.invariant.2 c.loop-p.invariant.0 (omega (arith, c.loop-p.invariant.0, y, c.requires.w_in_bounds.1))
+          c.emit_three.ensures.0 c.emit_three-then-column-p.ensures.0,
+      omega (arith, c.loop-p.invariant.3),
+    )
+
+pub emit_sample-requires : goal.emit_sample-requires
+emit_sample-requires c =
+    record {
+      w_value = (c.requires.r_bound.1.0, (c.requires.w_in_bounds.0, c.requires.are_places));
+      column_value = (
+        c.loop-p.invariant.3,
+        (
+          omega (arith, c.loop-p-test.true, c.requires.r_bound.1.1),
+          (
+            omega (arith, c.loop-p.invariant.2.kept, c.loop-p-test.true, c.loop-p.invariant.0, c.requires.w_in_bounds.1),
+            starts_inside c.args.xtrans c.args.w c.args.tile _ c.args.r c.starts_of-starts.ensures c.requires.r_bound.1.0 c.requires.r_bound.0,
+          ),
+        ),
+      );
+    }
+
+pub loop-p-preserved : goal.loop-p-preserved
+loop-p-preserved c = (
+  omega (arith, c.loop-p.invariant.0),
+  omega (arith, c.loop-p-test.true),
+  stored_one _ _ _ _ c.loop-p.p _ _ c.loop-p.invariant.2 c.loop-p.invariant.0 (omega (arith, c.loop-p.invariant.0)) c.emit_sample.ensures.0,
+  c.next_column-column.ensures ∙ rw c.loop-p.invariant.3 (column_next c.loop-p.p),
+)
+
+pub returns : goal.returns
+returns c =
+    let e : c.loop-p.p ≡ c.args.right = omega (arith, c.loop-p-test.false, c.loop-p.invariant.1) in
+    row_emitted c.args.xtrans _ _ c.args.lines.now _ _ _ _ _ _ _ c.starts_of-starts.ensures (rw e at c.loop-p.invariant.2)
+
+pub overflow_add-w : goal.overflow_add-w
+overflow_add-w c = omega (arith, width_le c.args.xtrans, c.requires.r_bound.1.0)
+
+pub overflow_sub-i : goal.overflow_sub-i
+overflow_sub-i c = c.loop-p.invariant.0
+
+pub overflow_add-i : goal.overflow_add-i
+overflow_add-i c = omega (
+  arith,
+  c.loop-p.invariant.0,
+  c.loop-p-test.true,
+  c.requires.w_in_bounds.1,
+  c.well_formed,
+)
+
+pub overflow_add-p : goal.overflow_add-p
+overflow_add-p c = omega (arith, c.loop-p-test.true, c.requires.r_bound.1.1)
+
+pub overflow_add-i-then-column-p : goal.overflow_add-i-then-column-p
+overflow_add-i-then-column-p c = omega (
+  arith,
+  c.loop-p.invariant.0,
+  c.loop-p-test.true,
+  c.requires.w_in_bounds.1,
+  c.well_formed,
+)
+
+pub overflow_add-p-then-column-p : goal.overflow_add-p-then-column-p
+overflow_add-p-then-column-p c = omega (
+  arith,
+  c.loop-p-test.true,
+  c.requires.r_bound.1.1,
+)
+
+pub overflow_add-p-then-column-p-2 : goal.overflow_add-p-then-column-p-2
+overflow_add-p-then-column-p-2 c = omega (
+  arith,
+  c.loop-p-test.true,
+  c.requires.r_bound.1.1,
+)
+
+pub loop-p-smaller-then-column-p : goal.loop-p-smaller-then-column-p
+loop-p-smaller-then-column-p c = omega (arith, c.loop-p-test.true)
+
+pub next_column-column-requires : goal.next_column-column-requires
+next_column-column-requires c = omega (arith, c.loop-p.invariant.3)
+
+pub overflow_add-p-else-column-p : goal.overflow_add-p-else-column-p
+overflow_add-p-else-column-p c = omega (
+  arith,
+  c.loop-p-test.true,
+  c.requires.r_bound.1.1,
+)
+
+pub loop-p-smaller : goal.loop-p-smaller
+loop-p-smaller c = omega (arith, c.loop-p-test.true)
+
+pub shape_of-image : goal.shape_of-image
+shape_of-image c = c.loop-p.invariant.2.kept

@@ -1,0 +1,7 @@
+-- `limits::ends_past` meets its contract. Assumes nothing.
+use borrow.Author.Rules.{rules}
+use mathlib.Core.Path.{refl}
+use Rattle.limits.proofs.ends_past.Goals as goal
+
+pub returns : goal.returns
+returns c = refl

@@ -1,0 +1,26 @@
+-- `statistics::too_small_from` meets its contract. The invariant: what the search from j on still adds to j, and the numbers counted so far, make up what the search
+-- from k on adds to k; the measure is 15 - j. Assumes nothing.
+use borrow.Author.Rules.{rules}
+use mathlib.Core.Bool.{Bool, not}
+use mathlib.Core.Path.{◌≡◌, sym, ◌∙◌}
+use Prim.Native.Nat.{ℕ, ◌+◌, ◌-◌, ◌≤◌, ◌<◌}
+use native.Mathlib.Omega.{arith}
+use Rattle.numbers.specs.Numbers.{least_from, flag}
+use Rattle.numbers.proofs.BoolLaws.{both}
+use Rattle.numbers.proofs.LeastLaws.{least, least_last, least_here}
+use Rattle.statistics.specs.Statistics.{enough}
+use Rattle.statistics.proofs.RecordLaws.{too_small}
+use Rattle.statistics.proofs.too_small_from.Given as goal
+
+-- where the search from j on ends
+abbrev pub from : ℕ → ℕ → ℕ → ℕ
+from sum n j = least_from (15 - j) (enough sum n) j
+
+abbrev pub Counted : ℕ → ℕ → ℕ → ℕ → ℕ → Type 0
+Counted sum n k count j = (k ≤ j) × (j ≤ 15) × (count + k ≤ j) × (from sum n j + (count + k) ≡ from sum n k + j)
+
+abbrev pub invariant-loop-j : goal.invariant-loop-j
+invariant-loop-j l = Counted l.sum l.n l.k l.count l.j
+
+abbrev pub decreases-loop-j : goal.decreases-loop-j
+decreases-loop-j l = 15 - l.j
