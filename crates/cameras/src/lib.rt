@@ -1,6 +1,7 @@
 // Item 11: the 16 quantiser entries that two cameras share, one for each pair of depth and main base in use. Each call takes them and
 // returns them.
 #![tactic(auto)]
+
 ghost use Rattle.std.specs.Prelude.{◌≡◌, ◌≤◌};
 ghost use Rattle.cameras.specs.Entries.{no_entry, no_entries, is_held, free_of, free_in, given_back, handed_back, AllNumbered};
 

@@ -1,5 +1,6 @@
 // Document 01, Pass and line: what reading and writing a pass share: the context of a sample, its quantiser and its record.
 #![tactic(auto)]
+
 ghost use Rattle.std.specs.Prelude.{◌≡◌, ◌+◌, ◌*◌, ◌^◌, ◌≤◌, ◌<◌, length, get_or, set};
 ghost use Rattle.statistics.specs.Statistics.{updated};
 ghost use Rattle.statistics.specs.Inside.{InRange};

@@ -1,5 +1,6 @@
 // Document 01, Stream and Refusals: the header, sizes, base rows, the bytes of a block, and the list of refusals with their numbers.
 #![tactic(auto)]
+
 ghost use Rattle.std.specs.Prelude.{◌≡◌, ◌+◌, ◌*◌, ◌^◌, ◌≤◌, ◌<◌, length};
 ghost use Rattle.stream.specs.Headers.{parse_of, width_answer};
 ghost use Rattle.stream.specs.Inside.{Ruled};

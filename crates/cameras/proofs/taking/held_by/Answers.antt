@@ -1,0 +1,15 @@
+-- `cameras::taking::held_by` meets its contract: an entry held by one camera more. Assumes nothing.
+
+use Rattle.cameras.proofs.taking.held_by.Goals as goal
+
+pub enum_told-1 : goal.enum_told-1
+enum_told-1 c = c.in-One.in-One-own.keys1
+
+pub enum_told-in-Two : goal.enum_told-in-Two
+enum_told-in-Two c = c.in-Two.in-Two-own.keys2
+
+pub returns-in-One : goal.returns-in-One
+returns-in-One c = rw c.in-One.is
+
+pub returns-in-Two : goal.returns-in-Two
+returns-in-Two c = rw c.in-Two.is

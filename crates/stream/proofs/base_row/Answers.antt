@@ -1,0 +1,19 @@
+-- `stream::base_row` meets its contract: its range lies in the bytes, by `row_inside`. Assumes nothing.
+use mathlib.Core.List.{List}
+use mathlib.Core.Path.{◌≡◌, ap, ◌∙◌}
+use Prim.Native.Nat.{ℕ}
+use Rattle.stream.specs.Streams.{row_of}
+use Rattle.stream.specs.Ranges.{part_of}
+use Rattle.stream.specs.Inside.{Inside}
+use Rattle.stream.specs.declared.ranges.Ranged.{Ranged}
+use Rattle.stream.proofs.StreamLaws.{row_inside}
+use Rattle.stream.proofs.base_row.Goals as goal
+
+inside : (d : List ℕ) (b : ℕ) (r : Ranged) → r ≡ row_of d b → Inside d r
+inside d b r e = rw e (row_inside d b)
+
+pub part-requires : goal.part-requires
+part-requires c = inside _ _ _ c.base_row_range.ensures
+
+pub returns : goal.returns
+returns c = c.part.ensures ∙ ap (part_of _) c.base_row_range.ensures
