@@ -8,6 +8,7 @@ use Rattle.statistics.specs.Statistics.{k_of}
 use Rattle.pass_steps.specs.Values.{zip_records}
 use Rattle.pass_steps.proofs.KLaws.{KsUpto, zeros, one_more_k, one_more_zero, ks_named}
 use Rattle.pass_steps.proofs.ks_of.Goals as goal
+use Rattle.pass_steps.proofs.ks_of.Goals.{then-t, else-t}
 
 pub loop-j-init : goal.loop-j-init
 loop-j-init c = (omega arith, record { all = search rules; each = λ j h. absurd (omega arith); rest = λ j h. zeros 112 j })
@@ -15,10 +16,10 @@ loop-j-init c = (omega arith, record { all = search rules; each = λ j h. absurd
 pub loop-j-preserved : goal.loop-j-preserved
 loop-j-preserved c =
     let upto : KsUpto (c.loop-j.j + 1) (zip_records c.args.sums.now c.args.ns.now) c.if-t.ks =
-    ⊎_elim
-    (λ w. ks_named w.2 (one_more_k c.loop-j.invariant.1 c.loop-j-test.true (w.1.ensures.0 ∙ ap k_of c.record_at-t.ensures.0)))
-    (λ w. ks_named w.1 (one_more_zero c.record_at-t.result c.loop-j.invariant.1 c.record_at-t.ensures.0 c.record_at-t.ensures.1.some w.0.left))
-    c.if-t.branch in
+    elim c.if-t.branch [
+      then-t w ↦ ks_named w.ks-is (one_more_k c.loop-j.invariant.1 c.loop-j-test.true (w.k_by_lengths.ensures.0 ∙ ap k_of c.record_at-t.ensures.0))
+    | else-t w ↦ ks_named w.ks-is (one_more_zero c.record_at-t.result c.loop-j.invariant.1 c.record_at-t.ensures.0 c.record_at-t.ensures.1.some w.if-t.false)
+    ] in
     (omega (arith, c.loop-j-test.true), upto)
 
 pub returns : goal.returns
