@@ -1,6 +1,7 @@
 // Item 7: a plan of bases is text that gives each line of six rows its base, one record a line, three tab-separated decimal fields. An
 // accepted plan yields the base bytes of a lossy stream.
 #![tactic(auto)]
+
 ghost use Rattle.std.specs.Prelude.{◌≡◌, ◌≤◌, length};
 ghost use Rattle.base_plan.specs.Plans.{plan_answer, answer_in, planned_answer, BasesAfter};
 

@@ -74,7 +74,8 @@ impl<'a> BitPumpMsb<'a> {
         ensures { (result ≡ zero_run self.old.«data».now self.old.at.0)
             × (self.new ≡ moved_to self.old (after_run self.old.at.0 result)) }
     {
-        let at = self.at;
+        // Read as a number, so that its range is known.
+        let at = BitPosition(self.at.0);
         let run = bits::zero_run(self.data, at);
         self.at = bits::after_run(at, run);
         run

@@ -1,6 +1,7 @@
 // Document 01, Code: one code of a block, read by a pump. It is apart from `code` because tools/lend.py derives a function that passes
 // the pump on only at a crate's root.
 #![tactic(auto)]
+
 ghost use Rattle.std.specs.Prelude.{◌≡◌, ◌^◌, ◌≤◌, ◌<◌, length};
 ghost use Rattle.bits.specs.Inside.{word_at};
 ghost use Rattle.code.specs.Codes.{code_at};

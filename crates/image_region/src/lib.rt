@@ -1,5 +1,6 @@
 // Document 01, Region: which regions are refused, and which blocks, lines and columns the others touch.
 #![tactic(auto)]
+
 ghost use Rattle.std.specs.Prelude.{◌≡◌, ◌^◌, ◌≤◌, ◌<◌};
 ghost use Rattle.image_region.specs.Regions.{saturated, right_of, bottom_of, is_outside, is_empty, span_of, checked_of};
 ghost use Rattle.image_region.specs.Inside.{part_in};

@@ -1,6 +1,7 @@
 // Document 01, Pass and line: contexts ahead of the codes. Everything that an even position needs from its neighbours is there before a pass
 // begins, and so is the upper half of what an odd one needs. It is made here in loops that LLVM makes eight lanes wide.
 #![tactic(auto)]
+
 ghost use Rattle.std.specs.Prelude.{◌≡◌, cond, ◌+◌, ◌-◌, ◌*◌, ◌/◌, ◌%◌, ◌^◌, ◌≤◌, ◌<◌, min, ltb, length, get_or};
 ghost use Rattle.numbers.specs.Numbers.{distance, minus, flag};
 ghost use Rattle.quantiser.specs.Quantisers.{level_size};

@@ -16,4 +16,4 @@ past_fits s p (One z) h f e = omega (arith, run_inside s p z (sym e))
 past_fits s p None h f e = f
 
 pub after_run-self-requires : goal.after_run-self-requires
-after_run-self-requires c = let h : ℕ = c.well_formed in ?
+after_run-self-requires c = past_fits _ _ _ c.requires (omega arith) c.zero_run-run.ensures

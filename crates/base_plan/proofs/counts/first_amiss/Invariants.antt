@@ -1,0 +1,26 @@
+-- `base_plan::counts::first_amiss` meets its contract. The invariant: as many are held as have begun and not ended before n, and the search from n on gives
+-- what the search from 0 on gives; the measure: the lines from n on. Assumes nothing.
+use borrow.Author.Rules.{rules}
+use mathlib.Core.Bool.{Bool, true, false}
+use mathlib.Core.List.{List}
+use mathlib.Core.Path.{◌≡◌, refl, sym, ◌∙◌}
+use Prim.Native.Nat.{ℕ, ◌+◌, ◌-◌, ◌≤◌, ◌<◌}
+use native.Mathlib.Numerals.{add-one}
+use native.Mathlib.Omega.{arith}
+use lib.ListN.{get_or}
+use Rattle.numbers.specs.Numbers.{least_from}
+use Rattle.numbers.proofs.LeastLaws.{least_last, least_here, least_next}
+use Rattle.base_plan.specs.Counts.{is_amiss}
+use Rattle.base_plan.specs.Inside.{sum_before, Balanced, amiss_in}
+use Rattle.base_plan.proofs.counts.first_amiss.Given as goal
+
+-- the search from n on
+abbrev pub amissFrom : Bool → List ℕ → List ℕ → ℕ → ℕ → ℕ
+amissFrom twice begins ends lines n = least_from (lines - n) (λ i. is_amiss twice (sum_before begins (i + 1) - sum_before ends (i + 1))) n
+
+abbrev pub invariant-loop-n : goal.invariant-loop-n
+invariant-loop-n l =
+    (l.n ≤ l.lines) × (l.held + sum_before l.ends l.n ≡ sum_before l.begins l.n) × (amiss_in l.twice l.begins l.ends l.lines ≡ amissFrom l.twice l.begins l.ends l.lines l.n)
+
+abbrev pub decreases-loop-n : goal.decreases-loop-n
+decreases-loop-n l = l.lines - l.n

@@ -1,4 +1,0 @@
-pub mod bit_position
-pub mod get
-pub mod next_code
-pub mod zero_run

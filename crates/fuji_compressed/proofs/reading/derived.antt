@@ -1,2 +1,0 @@
-pub mod fuji_read_block
-pub mod fuji_read_tight

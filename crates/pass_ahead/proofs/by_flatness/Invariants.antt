@@ -1,0 +1,13 @@
+-- `pass_ahead::by_flatness` meets its contract: the entries before j are there. Assumes nothing.
+use native.Mathlib.Omega.{arith}
+use mathlib.Core.Path.{◌≡◌, refl, sym, ap, ◌∙◌}
+use Prim.Native.Nat.{ℕ, ◌+◌, ◌-◌, ◌*◌, ◌≤◌}
+use Rattle.pass_steps.specs.Contexts.{used_base, place_of}
+use Rattle.pass_ahead.proofs.SlotLaws.{Flats, flats_none, flats_more, by_flatness}
+use Rattle.pass_ahead.proofs.by_flatness.Given as goal
+
+abbrev pub invariant-loop-j : goal.invariant-loop-j
+invariant-loop-j l = (l.j ≤ 9) × Flats l.base l.j l.r
+
+abbrev pub decreases-loop-j : goal.decreases-loop-j
+decreases-loop-j l = 9 - l.j

@@ -1,0 +1,8 @@
+-- `pass_ahead::even_prediction` meets its contract. Assumes nothing.
+use borrow.Author.Rules.{rules}
+use Rattle.pass_ahead.proofs.LookLaws.{even_made}
+use Rattle.pass_ahead.proofs.even_prediction.Goals as goal
+
+pub returns : goal.returns
+returns c =
+    even_made c.args.rf c.args.rc c.args.rb c.args.rd _ _ _ _ _ _ _ _ _ c.distance16-f.ensures c.distance16-c.ensures c.distance16-d.ensures c.is_most-no_c.ensures c.is_most-no_d.ensures c.pick16-x.ensures c.pick16-y.ensures c.half_sum.ensures c.half_sum-2.ensures

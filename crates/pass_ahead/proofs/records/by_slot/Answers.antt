@@ -1,0 +1,10 @@
+-- `pass_ahead::records::by_slot` meets its contract. Assumes nothing.
+use borrow.Author.Rules.{rules}
+use lib.ListN.{replicate}
+use Rattle.pass_ahead.proofs.SlotLaws.{repeated, slots}
+use Rattle.pass_ahead.proofs.records.by_slot.Goals as goal
+
+pub returns : goal.returns
+returns c =
+    slots c.args.main c.args.first c.args.second c.args.third (replicate 112 c.args.main) c.put_five.new.0 c.put_five-2.new.0 c.put_five-3.new.0 c.put_five-4.new.0 c.put_five-5.new.0 c.put_five-6.new.0
+    (repeated 112 c.args.main) c.put_five.ensures.1 c.put_five-2.ensures.1 c.put_five-3.ensures.1 c.put_five-4.ensures.1 c.put_five-5.ensures.1 c.put_five-6.ensures.1 c.put_five-6.ensures.0

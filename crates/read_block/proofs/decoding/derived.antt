@@ -1,4 +1,0 @@
-pub mod decode
-pub mod decode_blocks
-pub mod decode_region
-pub mod decode_region_windowed

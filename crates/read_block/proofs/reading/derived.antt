@@ -1,3 +1,0 @@
-pub mod line
-pub mod read_lines
-pub mod walk

@@ -1,3 +1,0 @@
-pub mod read_in
-pub mod read_kept
-pub mod read_set

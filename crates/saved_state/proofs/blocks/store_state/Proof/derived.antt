@@ -1,2 +1,0 @@
-pub mod Lts
-pub mod Tie
