@@ -31,9 +31,9 @@ module _ (h : FujiHeader) (d bases : List ℕ) where
 
 pub returns-then-lossless : goal.returns-then-lossless
 returns-then-lossless c = record {
-      answer = (lossless c.args.h c.args.d.now c.args.bases.now c.if-lossless.true).0;
-      bases = (lossless c.args.h c.args.d.now c.args.bases.now c.if-lossless.true).1;
-    }
+  answer = (lossless c.args.h c.args.d.now c.args.bases.now c.if-lossless.true).0;
+  bases = (lossless c.args.h c.args.d.now c.args.bases.now c.if-lossless.true).1;
+}
 
 pub returns-then-bases-lines : goal.returns-then-bases-lines
 returns-then-bases-lines c =

@@ -32,7 +32,7 @@ ends_after d lines r i h = rw i.end at h
 text_fits : (c : After-read_records-read) → length c.args.d.now < 2 ^ 64
 text_fits c = omega arith
 
-balance : (c : After-read_records-read) → Balanced c.read_records-read.new.1.1.0 c.read_records-read.new.1.1.1.0
+balance : (c : After-read_records-read) → Balanced c.read_records-read.new.begins c.read_records-read.new.ends
 balance c = in_balance _ _ _ _ _ (text_fits c) c.read_records-read.ensures.0 c.read_records-read.ensures.1
 
 abbrev text : (c : After-first_amiss-twice) → List ℕ
@@ -50,7 +50,7 @@ twice_is c = c.first_amiss-twice.ensures ∙ amiss_is true (text c) (length (byt
 whole : (c : After-first_amiss-twice) → length (text c) ≤ start_of (text c) (records c)
 whole c = ends_after _ _ _ c.read_records-read.ensures.0 c.if-read-d.false
 
-none_is : (c : After-first_amiss-none) → 
+none_is : (c : After-first_amiss-none) →
     c.first_amiss-none.result ≡ first_amiss false ((let text : List ℕ = c.args.d.now in text)) (length ((let bytes : List ℕ = c.args.bases.now in bytes))) ((let records : ℕ = c.read_records-read.result.records in records))
 none_is c =
     c.first_amiss-none.ensures ∙ amiss_is false ((let text : List ℕ = c.args.d.now in text)) (length ((let bytes : List ℕ = c.args.bases.now in bytes))) ((let records : ℕ = c.read_records-read.result.records in records)) _ _ c.read_records-read.ensures.0.records c.read_records-read.ensures.1
@@ -84,16 +84,16 @@ pub returns-then-none-lines : goal.returns-then-none-lines
 returns-then-none-lines c =
     record {
       answer = (not_held (text (goal.at.returns-then-none-lines c).After-first_amiss-twice) (bytes (goal.at.returns-then-none-lines c).After-first_amiss-twice) (records (goal.at.returns-then-none-lines c).After-first_amiss-twice) c.read_records-read.ensures.0.records (whole (goal.at.returns-then-none-lines c).After-first_amiss-twice) c.first_amiss-twice.result (twice_is (goal.at.returns-then-none-lines c).After-first_amiss-twice) c.if-twice-lines.false
-    c.first_amiss-none.result (none_is (goal.at.returns-then-none-lines c).After-first_amiss-none) c.if-none-lines.true).0;
+          c.first_amiss-none.result (none_is (goal.at.returns-then-none-lines c).After-first_amiss-none) c.if-none-lines.true).0;
       bases = (not_held (text (goal.at.returns-then-none-lines c).After-first_amiss-twice) (bytes (goal.at.returns-then-none-lines c).After-first_amiss-twice) (records (goal.at.returns-then-none-lines c).After-first_amiss-twice) c.read_records-read.ensures.0.records (whole (goal.at.returns-then-none-lines c).After-first_amiss-twice) c.first_amiss-twice.result (twice_is (goal.at.returns-then-none-lines c).After-first_amiss-twice) c.if-twice-lines.false
-    c.first_amiss-none.result (none_is (goal.at.returns-then-none-lines c).After-first_amiss-none) c.if-none-lines.true).1;
+          c.first_amiss-none.result (none_is (goal.at.returns-then-none-lines c).After-first_amiss-none) c.if-none-lines.true).1;
     }
 
 pub returns : goal.returns
 returns c =
     record {
       answer = (accepted (text (goal.at.returns c).After-first_amiss-twice) (bytes (goal.at.returns c).After-first_amiss-twice) (records (goal.at.returns c).After-first_amiss-twice) c.read_records-read.ensures.0.records (whole (goal.at.returns c).After-first_amiss-twice) c.first_amiss-twice.result (twice_is (goal.at.returns c).After-first_amiss-twice) c.if-twice-lines.false
-    c.first_amiss-none.result (none_is (goal.at.returns c).After-first_amiss-none) c.if-none-lines.false _ c.write_bases.ensures).0;
+          c.first_amiss-none.result (none_is (goal.at.returns c).After-first_amiss-none) c.if-none-lines.false _ c.write_bases.ensures).0;
       bases = (accepted (text (goal.at.returns c).After-first_amiss-twice) (bytes (goal.at.returns c).After-first_amiss-twice) (records (goal.at.returns c).After-first_amiss-twice) c.read_records-read.ensures.0.records (whole (goal.at.returns c).After-first_amiss-twice) c.first_amiss-twice.result (twice_is (goal.at.returns c).After-first_amiss-twice) c.if-twice-lines.false
-    c.first_amiss-none.result (none_is (goal.at.returns c).After-first_amiss-none) c.if-none-lines.false _ c.write_bases.ensures).1;
+          c.first_amiss-none.result (none_is (goal.at.returns c).After-first_amiss-none) c.if-none-lines.false _ c.write_bases.ensures).1;
     }

@@ -35,9 +35,9 @@ overflow_sub-from-2 c = omega (arith, low (goal.at.overflow_sub-from-2 c).Start,
 
 pub split-requires : goal.split-requires
 split-requires c = record {
-      n_bound = (omega (arith, c.requires.le_w), omega (arith, low (goal.at.split-requires c).Start, high (goal.at.split-requires c).Start, c.requires.le_w));
-      odds_len = (refl, refl);
-    }
+  n_bound = (omega (arith, c.requires.le_w), omega (arith, low (goal.at.split-requires c).Start, high (goal.at.split-requires c).Start, c.requires.le_w));
+  odds_len = (refl, refl);
+}
 
 pub overflow_sub-from-3 : goal.overflow_sub-from-3
 overflow_sub-from-3 c = omega (arith, low (goal.at.overflow_sub-from-3 c).Start)

@@ -10,7 +10,7 @@ use Rattle.pass_ahead.specs.Arrays.{AheadRow, Rows}
 use Rattle.pass_ahead.proofs.LookLaws.{even_look, own_marks, nine_raised}
 use Rattle.pass_ahead.proofs.ArrayLaws.{rows_none, rows_fewer, turn_begins, row_more, turn_ends}
 use Rattle.pass_ahead.proofs.lossless.Goals as goal
-use Rattle.pass_ahead.proofs.lossless.Goals.{After-way_told-1, Start}
+use Rattle.pass_ahead.proofs.lossless.Goals.{Start}
 
 -- the rows of the function's lists
 abbrev row : (c : Start) → ℕ → ℕ → ℕ → Type 0
@@ -32,12 +32,12 @@ loop-i-preserved c =
     let upper = get_or c.args.odds.now (c.loop-i.i + 1) 0 in
     let small : c.loop-i.i < 48 = omega (arith, c.loop-i-test.true, c.requires.0) in (
       omega (arith, c.loop-i-test.true),
-      turn_ends (row (goal.at.loop-i-preserved c).After-way_told-1) 5
-          (row_more (row (goal.at.loop-i-preserved c).After-way_told-1) 5 4 c.loop-i.i _ _ _ small (omega arith) (omega arith) (nine_raised 0 _ (minus upper (get_or c.args.evens.now c.loop-i.i 0)) c.raised16.ensures.0)
-          (row_more (row (goal.at.loop-i-preserved c).After-way_told-1) 5 3 c.loop-i.i _ _ _ small (omega arith) (omega arith) (ap (λ (n : ℕ). 1 + n) (c.flag16.ensures.0 ∙ ap flag c.is_extreme-e.ensures))
-          (row_more (row (goal.at.loop-i-preserved c).After-way_told-1) 5 2 c.loop-i.i _ _ _ small (omega arith) (omega arith) (c.pick16.ensures ∙ ap (λ (e : Bool). cond e upper 0) c.is_extreme-e.ensures)
-          (row_more (row (goal.at.loop-i-preserved c).After-way_told-1) 5 1 c.loop-i.i _ _ _ small (omega arith) (omega arith) (even_look 0 rf rc rb rd _ c.lossless_packed.ensures)
-          (row_more (row (goal.at.loop-i-preserved c).After-way_told-1) 5 0 c.loop-i.i _ _ _ small (omega arith) (omega arith) c.even_prediction.ensures (turn_begins (row (goal.at.loop-i-preserved c).After-way_told-1) 5 c.loop-i.invariant.1)))))),
+      turn_ends (row (goal.at.loop-i-preserved c).Start) 5
+          (row_more (row (goal.at.loop-i-preserved c).Start) 5 4 c.loop-i.i _ _ _ small (omega arith) (omega arith) (nine_raised 0 _ (minus upper (get_or c.args.evens.now c.loop-i.i 0)) c.raised16.ensures.0)
+          (row_more (row (goal.at.loop-i-preserved c).Start) 5 3 c.loop-i.i _ _ _ small (omega arith) (omega arith) (ap (λ (n : ℕ). 1 + n) (c.flag16.ensures.0 ∙ ap flag c.is_extreme-e.ensures))
+          (row_more (row (goal.at.loop-i-preserved c).Start) 5 2 c.loop-i.i _ _ _ small (omega arith) (omega arith) (c.pick16.ensures ∙ ap (λ (e : Bool). cond e upper 0) c.is_extreme-e.ensures)
+          (row_more (row (goal.at.loop-i-preserved c).Start) 5 1 c.loop-i.i _ _ _ small (omega arith) (omega arith) (even_look 0 rf rc rb rd _ c.lossless_packed.ensures)
+          (row_more (row (goal.at.loop-i-preserved c).Start) 5 0 c.loop-i.i _ _ _ small (omega arith) (omega arith) c.even_prediction.ensures (turn_begins (row (goal.at.loop-i-preserved c).Start) 5 c.loop-i.invariant.1)))))),
     )
 
 pub returns : goal.returns

@@ -9,7 +9,7 @@ use Rattle.pass_ahead.specs.Arrays.{AheadRow, Rows}
 use Rattle.pass_ahead.proofs.LookLaws.{by_own, look_based, own_marks, nine_raised}
 use Rattle.pass_ahead.proofs.ArrayLaws.{rows_none, rows_fewer, turn_begins, row_more, turn_ends}
 use Rattle.pass_ahead.proofs.lossy.Goals as goal
-use Rattle.pass_ahead.proofs.lossy.Goals.{After-flat_part-in-loop-i-2, In-loop-i, Start}
+use Rattle.pass_ahead.proofs.lossy.Goals.{After-flat_part-in-loop-i-2, Start}
 
 -- the rows of the function's lists
 abbrev row : (c : Start) → ℕ → ℕ → ℕ → Type 0
@@ -38,16 +38,16 @@ loop-i-preserved c =
     let upper = get_or c.args.odds.now (c.loop-i.i + 1) 0 in
     let small : c.loop-i.i < 48 = omega (arith, c.loop-i-test.true, c.requires.1.0) in (
       omega (arith, c.loop-i-test.true),
-      turn_ends (row (goal.at.loop-i-preserved c).In-loop-i) 9
-          (row_more (row (goal.at.loop-i-preserved c).In-loop-i) 9 8 c.loop-i.i _ _ _ small (omega arith) (omega arith) (c.smaller16.ensures.0 ∙ ap (min 8) c.distance16.ensures)
-          (row_more (row (goal.at.loop-i-preserved c).In-loop-i) 9 7 c.loop-i.i _ _ _ small (omega arith) (omega arith) c.flat_part-in-loop-i-2.ensures.0
-          (row_more (row (goal.at.loop-i-preserved c).In-loop-i) 9 6 c.loop-i.i _ _ _ small (omega arith) (omega arith) c.flat_part-in-loop-i.ensures.0
-          (row_more (row (goal.at.loop-i-preserved c).In-loop-i) 9 5 c.loop-i.i _ _ _ small (omega arith) (omega arith) c.flat_part.ensures.0
-          (row_more (row (goal.at.loop-i-preserved c).In-loop-i) 9 4 c.loop-i.i _ _ _ small (omega arith) (omega arith) (nine_raised c.args.base _ (minus upper (get_or c.args.evens.now c.loop-i.i 0)) c.raised16.ensures.0)
-          (row_more (row (goal.at.loop-i-preserved c).In-loop-i) 9 3 c.loop-i.i _ _ _ small (omega arith) (omega arith) (ap (λ (n : ℕ). 1 + n) (c.flag16.ensures.0 ∙ ap flag c.is_extreme-e.ensures))
-          (row_more (row (goal.at.loop-i-preserved c).In-loop-i) 9 2 c.loop-i.i _ _ _ small (omega arith) (omega arith) (c.pick16.ensures ∙ ap (λ (e : Bool). cond e upper 0) c.is_extreme-e.ensures)
-          (row_more (row (goal.at.loop-i-preserved c).In-loop-i) 9 1 c.loop-i.i _ _ _ small (omega arith) (omega arith) (look_based c.args.base rf rc rb rd _ _ c.marks_of-t.ensures c.lossy_packed.ensures)
-          (row_more (row (goal.at.loop-i-preserved c).In-loop-i) 9 0 c.loop-i.i _ _ _ small (omega arith) (omega arith) c.even_prediction.ensures (turn_begins (row (goal.at.loop-i-preserved c).In-loop-i) 9 c.loop-i.invariant.1)))))))))),
+      turn_ends (row (goal.at.loop-i-preserved c).Start) 9
+          (row_more (row (goal.at.loop-i-preserved c).Start) 9 8 c.loop-i.i _ _ _ small (omega arith) (omega arith) (c.smaller16.ensures.0 ∙ ap (min 8) c.distance16.ensures)
+          (row_more (row (goal.at.loop-i-preserved c).Start) 9 7 c.loop-i.i _ _ _ small (omega arith) (omega arith) c.flat_part-in-loop-i-2.ensures.0
+          (row_more (row (goal.at.loop-i-preserved c).Start) 9 6 c.loop-i.i _ _ _ small (omega arith) (omega arith) c.flat_part-in-loop-i.ensures.0
+          (row_more (row (goal.at.loop-i-preserved c).Start) 9 5 c.loop-i.i _ _ _ small (omega arith) (omega arith) c.flat_part.ensures.0
+          (row_more (row (goal.at.loop-i-preserved c).Start) 9 4 c.loop-i.i _ _ _ small (omega arith) (omega arith) (nine_raised c.args.base _ (minus upper (get_or c.args.evens.now c.loop-i.i 0)) c.raised16.ensures.0)
+          (row_more (row (goal.at.loop-i-preserved c).Start) 9 3 c.loop-i.i _ _ _ small (omega arith) (omega arith) (ap (λ (n : ℕ). 1 + n) (c.flag16.ensures.0 ∙ ap flag c.is_extreme-e.ensures))
+          (row_more (row (goal.at.loop-i-preserved c).Start) 9 2 c.loop-i.i _ _ _ small (omega arith) (omega arith) (c.pick16.ensures ∙ ap (λ (e : Bool). cond e upper 0) c.is_extreme-e.ensures)
+          (row_more (row (goal.at.loop-i-preserved c).Start) 9 1 c.loop-i.i _ _ _ small (omega arith) (omega arith) (look_based c.args.base rf rc rb rd _ _ c.marks_of-t.ensures c.lossy_packed.ensures)
+          (row_more (row (goal.at.loop-i-preserved c).Start) 9 0 c.loop-i.i _ _ _ small (omega arith) (omega arith) c.even_prediction.ensures (turn_begins (row (goal.at.loop-i-preserved c).Start) 9 c.loop-i.invariant.1)))))))))),
     )
 
 pub returns : goal.returns

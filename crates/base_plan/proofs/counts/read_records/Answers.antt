@@ -61,7 +61,7 @@ overflow_add-last c =
 
 pub count-requires-in-loop-at : goal.count-requires-in-loop-at
 count-requires-in-loop-at c =
-    (omega (arith, (this (goal.at.count-requires-in-loop-at c).In-Good).below, c.requires.0), omega (arith, c.loop-at.invariant.4.End-low (c.in-Good.last + 1), few (goal.at.count-requires-in-loop-at c).In-Good, text_fits (goal.at.count-requires-in-loop-at c).In-Good))
+    (omega (arith, (this (goal.at.count-requires-in-loop-at c).In-Good).below, c.requires.0), omega (arith, c.loop-at.invariant.4.end_low (c.in-Good.last + 1), few (goal.at.count-requires-in-loop-at c).In-Good, text_fits (goal.at.count-requires-in-loop-at c).In-Good))
 
 pub overflow_add-records : goal.overflow_add-records
 overflow_add-records c = omega (arith, few (goal.at.overflow_add-records c).In-Good, text_fits (goal.at.overflow_add-records c).In-Good)

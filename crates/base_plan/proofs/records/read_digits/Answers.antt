@@ -19,12 +19,12 @@ here : (d : List ℕ) (i n at b : ℕ) → at ≡ i + n → b ≡ get_or d at 0 
 here d i n at b e f = rw (← e) f
 
 -- the n-th byte is a digit
-is_digit : (c : Else-not-is_digit) → is_digit c.byte-b.result ≡ true
-is_digit c = sym c.is_digit.ensures ∙ not-false _ c.if-not-is_digit.false-raw
+is_digit_lem : (c : Else-not-is_digit) → is_digit c.byte-b.result ≡ true
+is_digit_lem c = sym c.is_digit.ensures ∙ not-false _ c.if-not-is_digit.false-raw
 
 -- so it lies inside
 inside : (c : Else-not-is_digit) → c.loop-n.at < length c.args.d.now
-inside c = c.byte-b.ensures.2 (omega (arith, digit_range c.byte-b.result (is_digit c)))
+inside c = c.byte-b.ensures.2 (omega (arith, digit_range c.byte-b.result (is_digit_lem c)))
 
 pub loop-n-init : goal.loop-n-init
 loop-n-init c = (search rules, search rules, search rules, no_digits _ _, lit< tt, from_start _ _)
@@ -40,11 +40,11 @@ overflow_mul-number c =
     omega (arith, c.loop-n.invariant.4, small_five c.loop-n.n c.loop-n.invariant.0)
 
 pub overflow_sub-number : goal.overflow_sub-number
-overflow_sub-number c = (digit_range c.byte-b.result (is_digit c)).0
+overflow_sub-number c = (digit_range c.byte-b.result (is_digit_lem c)).0
 
 pub overflow_add-number : goal.overflow_add-number
 overflow_add-number c =
-    omega (arith, c.loop-n.invariant.4, small_five c.loop-n.n c.loop-n.invariant.0, digit_range c.byte-b.result (is_digit c))
+    omega (arith, c.loop-n.invariant.4, small_five c.loop-n.n c.loop-n.invariant.0, digit_range c.byte-b.result (is_digit_lem c))
 
 pub overflow_add-at : goal.overflow_add-at
 overflow_add-at c = omega (arith, inside c)
@@ -52,7 +52,7 @@ overflow_add-at c = omega (arith, inside c)
 pub loop-n-preserved : goal.loop-n-preserved
 loop-n-preserved c =
     let b = here c.args.d.now c.args.i c.loop-n.n c.loop-n.at _ c.loop-n.invariant.1 c.byte-b.ensures.0 in
-    let is = is_digit c in (
+    let is = is_digit_lem c in (
       omega arith,
       omega (arith, c.loop-n.invariant.1),
       omega (arith, inside c),

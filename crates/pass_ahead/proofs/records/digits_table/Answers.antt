@@ -4,9 +4,9 @@ use Prim.Native.Nat.{ℕ, ◌-◌}
 use lib.Count.{count_leading_zeros}
 use Rattle.pass_ahead.specs.Tables.{next_of}
 use Rattle.numbers.proofs.TableLaws.{at_each}
-use Rattle.pass_ahead.proofs.records.digits_table.Lts as lts
+use Rattle.pass_ahead.specs.declared.records.TheConstants.{DIGITS}
 use Rattle.pass_ahead.proofs.records.digits_table.Goals as goal
 
 pub returns : goal.returns
 unfolding count_leading_zeros
-returns c = λ n one most. at_each (λ k. 31 - count_leading_zeros 32 (next_of k)) (lts.answer tt tt) tt n (omega arith)
+returns c = λ n one most. at_each (λ k. 31 - count_leading_zeros 32 (next_of k)) (DIGITS) tt n (omega arith)

@@ -12,8 +12,7 @@ use Rattle.code.specs.declared.Coded.TheVariants.{Read, Truncated}
 use Rattle.code.specs.declared.Taken.{Taken}
 use Rattle.code.specs.declared.Taken.TheVariants as Take
 use Rattle.code.proofs.CodeLaws.{code_shape}
-use Rattle.code_reader.proofs.take_any.Statement.{statement}
-use Rattle.code_reader.proofs.take_any.Tie as tie
+use Rattle.code_reader.proofs.take_any.Goals as goal
 
 module _ (M : ℕ) (tight : Bool) (long : ℕ) (o got : Coded) (is : got ≡ o) where
   cut_off : got ≡ Truncated → (Take.Truncated ≡ taken_of M tight long o) × Small Take.Truncated
@@ -23,32 +22,24 @@ module _ (M : ℕ) (tight : Bool) (long : ℕ) (o got : Coded) (is : got ≡ o) 
       → (r ≡ taken_of M tight long o) × Small r
   read s c r e bounds f = (rw (sym is ∙ e) f, rw f (rw e at bounds).0)
 
-returns : tie.Need-returns
+pub returns-in_default : goal.returns-in_default
+returns-in_default c =
+    cut_off _ _ _ _ _ c.read_code-got.ensures.0 c.in_default.is
+
+pub take-requires : goal.take-requires
+take-requires c =
+    let shape = code_shape _ _ _ _ _ _ (sym c.read_code-got.ensures.0 ∙ c.in-Read.is) in
+    omega (arith, shape.inside, c.requires.s_len_bound.0, c.requires.long_le_at)
+
+pub returns : goal.returns
 returns c =
-    let r = c.before.before in
-    cut_off _ _ _ _ _ r.read-code.ensures.0 c.enum_told.given.1
+    read _ _ _ _ _ c.read_code-got.ensures.0 _ _ _ c.in-Read.is c.read_code-got.ensures.1 c.take.ensures
 
-take-requires : tie.Need-take-requires
-take-requires c κs =
-    let g = c.before in
-    let r = g.before.before in
-    let s = r.before.before in
-    let shape = code_shape _ _ _ _ _ _ (sym r.read-code.ensures.0 ∙ g.got.given.1) in
-    omega (arith, shape.inside, s.requires.0.0, s.requires.1)
+pub read_code-got-requires : goal.read_code-got-requires
+read_code-got-requires c = omega (arith, c.requires)
 
-returns-2 : tie.Need-returns-2
-returns-2 c =
-    let g = c.before.before in
-    let r = g.before.before in
-    read _ _ _ _ _ r.read-code.ensures.0 _ _ _ g.got.given.1 r.read-code.ensures.1 c.take.ensures
+pub enum_known-got : goal.enum_known-got
+enum_known-got c = c.in-Read.in-Read-own.keys1
 
-pub take-any-spec : {M : Type 1} → statement M
-take-any-spec =
-    tie.close
-    (tie.spec
-    (λ c κs. omega (arith, c.before.requires))
-    (λ c. c.match.keys1)
-    (λ c. c.match.keys2)
-    returns
-    take-requires
-    returns-2)
+pub enum_told-1 : goal.enum_told-1
+enum_told-1 c = c.in_default.in_default-own.keys2
