@@ -53,7 +53,7 @@ fn is_above(v: u16, m: u32, xtrans: bool, strict: bool, j: usize) -> bool
 }
 
 // The lowest index of a sample above m that is not ignored, or the length where there is none.
-pub fn first_above_lem(samples: &[u16], m: u32, xtrans: bool, strict: bool) -> usize
+pub fn first_above(samples: &[u16], m: u32, xtrans: bool, strict: bool) -> usize
     ensures { first_above (is_ignored xtrans strict) m 0 samples.now ≡ cond (ltb result (length samples.now)) (some result) none }
 {
     let mut i: usize = 0;

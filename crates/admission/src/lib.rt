@@ -1,6 +1,7 @@
 // Document 01, Refusals in checking order: how each call begins, judged from the stream and the sizes of what is lent before any buffer is
 // touched.
 #![tactic(auto)]
+
 ghost use Rattle.std.specs.Prelude.{◌≡◌, ◌+◌, ◌*◌, ◌^◌, ◌≤◌, ◌<◌};
 ghost use Rattle.image_region.specs.Regions.{checked_of};
 ghost use Rattle.image_map.specs.Places.{width_of};
@@ -14,7 +15,7 @@ mod largest;
 mod resuming;
 mod writing;
 
-pub use largest::first_above_lem;
+pub use largest::first_above;
 pub use resuming::resume_begins;
 pub use writing::{lossy_begins, writing_begins};
 

@@ -2,6 +2,7 @@
 // value; the colour lines are lent. What can be known of samples before their codes are read is made ahead, for 48 turns at a time
 // (`pass_ahead`).
 #![tactic(auto)]
+
 ghost use Rattle.std.specs.Prelude.{◌≡◌};
 ghost use Rattle.pass_schedule.specs.Steps.{even_steps, odd_steps};
 ghost use Rattle.pass_ahead.specs.Odds.{ByFlatness};

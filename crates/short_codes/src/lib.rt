@@ -1,5 +1,6 @@
 // Item 12: every bit string up to a greatest length that is one tight lossless code, for a bench that tests bit readers by hand.
 #![tactic(auto)]
+
 ghost use Rattle.std.specs.Prelude.{◌≡◌, ◌+◌, ◌*◌, ◌/◌, ◌%◌, ◌^◌, ◌≤◌, ◌<◌, length};
 ghost use Rattle.short_codes.specs.Sheets.{in_sheet, count_of, listed_answer, ListAfter};
 ghost use Rattle.short_codes.specs.Inside.{Bounded, Filled};

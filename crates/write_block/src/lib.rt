@@ -21,7 +21,7 @@ ghost use Rattle.write_block.specs.WrittenAnswers.{measured_answer, set_answer};
 ghost use Rattle.write_block.specs.WrittenAnswers.{LeftWritten, LeftLossy, LeftMeasured};
 ghost use Rattle.write_block.specs.WriterParts.{passes_from, LineWritten, SetWritten, room_for, output_of, RightPasses, Storable, Stored, LeftBy};
 
-use admission::first_above_lem;
+use admission::first_above;
 use bit_output::Put;
 use bits::BitPosition;
 use cameras::base_of;
@@ -312,7 +312,7 @@ fn write_set(
     ensures lines_after { (lines.new ≡ zero_lines (width_of form.xtrans)) × (rs.new ≡ clear_records) }
 {
     let m = quantiser::largest(form.bits);
-    let i = first_above_lem(samples, m, form.xtrans, is_strict(bases));
+    let i = first_above(samples, m, form.xtrans, is_strict(bases));
     if i < samples.len() {
         colour_lines::clear(lines);
         clear_records(rs);

@@ -1,0 +1,26 @@
+-- `admission::largest::first_above_lem` meets its contract: no sample before i is above m and not ignored. Assumes nothing.
+use borrow.Author.Rules.{rules}
+use borrow.Author.Tests.{not-true, not-false}
+use mathlib.Core.Path.{◌≡◌, sym, ◌∙◌}
+use Prim.Native.Nat.{◌-◌, ◌≤◌}
+use native.Mathlib.Omega.{arith}
+use lib.ListN.{length, drop}
+use Rattle.admission.specs.Above.{is_ignored, first_above}
+use Rattle.admission.proofs.SampleLaws.{above_next, above_found, above_none}
+use Rattle.admission.proofs.largest.first_above.Goals as goal
+
+pub returns-then-is_above : goal.returns-then-is_above
+returns-then-is_above c =
+    above_found (is_ignored c.args.xtrans c.args.strict) c.args.m c.args.samples.now c.loop-i.i c.loop-i.invariant.1 c.loop-i-test.true
+    (not-true _ (sym c.is_above.ensures ∙ c.if-is_above.true))
+
+pub loop-i-preserved : goal.loop-i-preserved
+loop-i-preserved c = (
+  omega (arith, c.loop-i-test.true),
+  above_next (is_ignored c.args.xtrans c.args.strict) c.args.m c.args.samples.now c.loop-i.i c.loop-i.invariant.1 c.loop-i-test.true
+      (not-false _ (sym c.is_above.ensures ∙ c.if-is_above.false)),
+)
+
+pub returns : goal.returns
+returns c =
+    above_none (is_ignored c.args.xtrans c.args.strict) c.args.m c.args.samples.now c.loop-i.i c.loop-i.invariant.1 (omega arith)

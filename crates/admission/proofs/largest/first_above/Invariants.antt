@@ -1,0 +1,17 @@
+-- `admission::largest::first_above_lem` meets its contract: no sample before i is above m and not ignored. Assumes nothing.
+use borrow.Author.Rules.{rules}
+use borrow.Author.Tests.{not-true, not-false}
+use mathlib.Core.Path.{◌≡◌, sym, ◌∙◌}
+use Prim.Native.Nat.{◌-◌, ◌≤◌}
+use native.Mathlib.Omega.{arith}
+use lib.ListN.{length, drop}
+use Rattle.admission.specs.Above.{is_ignored, first_above}
+use Rattle.admission.proofs.SampleLaws.{above_next, above_found, above_none}
+use Rattle.admission.proofs.largest.first_above.Given as goal
+
+abbrev pub invariant-loop-i : goal.invariant-loop-i
+invariant-loop-i l =
+    (l.i ≤ length l.samples) × (first_above (is_ignored l.xtrans l.strict) l.m 0 l.samples ≡ first_above (is_ignored l.xtrans l.strict) l.m l.i (drop l.i l.samples))
+
+abbrev pub decreases-loop-i : goal.decreases-loop-i
+decreases-loop-i l = length l.samples - l.i

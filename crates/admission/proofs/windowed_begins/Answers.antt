@@ -1,0 +1,6 @@
+-- `admission::windowed_begins` meets its contract. Assumes nothing.
+use borrow.Author.Rules.{rules}
+use Rattle.admission.proofs.windowed_begins.Goals as goal
+
+pub returns : goal.returns
+returns c = c.region_begins.ensures

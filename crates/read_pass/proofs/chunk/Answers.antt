@@ -1,0 +1,189 @@
+-- `read_pass::chunk` meets its contract: after each turn the steps of the turns so far are read, and what was made ahead is right still. Assumes nothing.
+use borrow.Author.Rules.{rules}
+use mathlib.Core.List.{List}
+use mathlib.Core.Logic.{⊎_elim}
+use mathlib.Core.Option.{some}
+use mathlib.Core.Path.{◌≡◌, refl, ◌∙◌}
+use Prim.Native.Nat.{ℕ, ◌+◌, ◌-◌, ◌*◌, ◌≤◌, ◌<◌}
+use native.Mathlib.Omega.{arith}
+use lib.ListN.{length}
+use Rattle.pass_schedule.specs.Steps.{even_part, upto}
+use Rattle.pass_schedule.specs.declared.Plan.{Plan}
+use Rattle.pass_steps.specs.Values.{SetInRange, AreKs}
+use Rattle.pass_ahead.specs.Arrays.{Ahead}
+use Rattle.pass_ahead.proofs.AheadLaws.{ahead_kept}
+use Rattle.read_pass.specs.Readings.{Reading}
+use Rattle.read_pass.specs.Pairs.{place_at, held, chunk_steps}
+use Rattle.read_pass.proofs.RangeLaws.{reads_keep}
+use Rattle.read_pass.proofs.AboveLaws.{both_above}
+use Rattle.read_pass.proofs.StepLaws.{StepsGive, no_steps, evens_here, evens_over, odds_here, odds_not_yet, turn_more, evens_cut_off, odds_cut_off, all_turns}
+use Rattle.read_pass.proofs.SiteLaws.{met, steps_met, ranges_met, ks_met, length_met, ahead_met, holds_on, pair_was_cut_off, pair_was_at, pair_cut_off, pair_at}
+use Rattle.read_pass.proofs.chunk.Invariants.{Turns}
+use Rattle.read_pass.proofs.chunk.Goals as goal
+use Rattle.read_pass.proofs.chunk.Goals.{In-loop-h, Joined-p-w}
+
+-- there are no more long codes than bits
+counted : (c : In-loop-h) → c.loop-h.long ≤ c.loop-h.at.0
+counted c =
+    (reads_keep _ _ _ _ c.requires.chunk_asks.holds.depth.1 _ _ _ c.loop-h.invariant.read.are).counted c.requires.chunk_asks.holds.counted
+
+-- ---- where the two ways past it meet
+abbrev middle : (c : Joined-p-w) → Reading
+middle c = held c.if-p-w.lines c.if-p-w.sums c.if-p-w.ns (place_at c.if-p-w.at c.if-p-w.tight c.if-p-w.long)
+
+record Met (c : Joined-p-w) : Type 0 where
+  read :
+      StepsGive c.args.spot.bits c.args.base c.args.spot.w c.args.block.now (even_part c.args.spot.w c.args.spot.plan (c.args.spot.p + 2 * c.loop-h.h))
+      (held c.loop-h.lines c.loop-h.sums c.loop-h.ns (place_at c.loop-h.at c.loop-h.tight c.loop-h.long)) (some (middle c))
+  in_range : SetInRange (middle c).set
+  ks_kept : AreKs (middle c).set c.if-p-w.ks
+  same : length (middle c).lines ≡ length c.args.lines.now
+  one : Ahead c.args.base c.args.spot.w (middle c).lines c.args.spot.plan.first c.args.spot.p c.args.n c.args.first.now
+  two : Ahead c.args.base c.args.spot.w (middle c).lines c.args.spot.plan.second c.args.spot.p c.args.n c.args.second.now
+
+evens : (c : Joined-p-w) → Met c
+evens c =
+    ⊎_elim
+    (λ w.
+    let m = met w.11 w.12 w.13 w.15 w.16 w.17 in
+    let at = pair_was_at _ _ _ _ _ _ _ _ _ w.5.ensures.answer w.9.given.1 in
+    let up = both_above _ c.args.spot.plan c.requires.chunk_asks.holds.apart _ w.0.taken at in
+    record {
+      read = steps_met m (evens_here c.args.spot.plan _ w.0.taken at);
+      in_range = ranges_met m w.5.ensures.records;
+      ks_kept = ks_met m w.14 w.5.ensures.ks_kept;
+      same = length_met m ∙ (w.5.kept.1.1.1.1.0 ∙ c.loop-h.invariant.same);
+      one = ahead_met m (ahead_kept _ _ _ _ _ c.requires.chunk_asks.holds.plan.first_low up.0 _ _ _ c.requires.chunk_asks.ends c.loop-h.invariant.one);
+      two = ahead_met m (ahead_kept _ _ _ _ _ c.requires.chunk_asks.holds.plan.second_low up.1 _ _ _ c.requires.chunk_asks.ends c.loop-h.invariant.two);
+    })
+    (λ w.
+    let m = met w.1 w.2 w.3 w.5 w.6 w.7 in
+    record {
+      read = steps_met m (evens_over c.args.spot.plan _ w.0.left);
+      in_range = ranges_met m c.loop-h.invariant.records;
+      ks_kept = ks_met m w.4 c.loop-h.invariant.ks_kept;
+      same = length_met m ∙ c.loop-h.invariant.same;
+      one = ahead_met m c.loop-h.invariant.one;
+      two = ahead_met m c.loop-h.invariant.two;
+    })
+    c.if-p-w.branch
+
+-- ---- the odd position
+-- it is one of the line
+within : (c : Joined-p-w) → c.args.spot.p + 2 * c.loop-h.h - 7 < c.args.spot.w
+within c = omega (arith, c.loop-h-test.true, c.requires.chunk_asks.ends, c.requires.chunk_asks.low)
+
+pub loop-h-init : goal.loop-h-init
+unfolding upto
+loop-h-init c =
+    record {
+      last = omega arith;
+      same = refl;
+      records = c.requires.chunk_asks.holds.records;
+      ks_kept = c.requires.chunk_asks.holds.ks_kept;
+      one = c.requires.ahead.0;
+      two = c.requires.ahead.1;
+      read = no_steps;
+    }
+
+-- ---- the even position
+pub even_pair-got-requires : goal.even_pair-got-requires
+even_pair-got-requires c =
+    record {
+      pair_asks = record { holds = holds_on c.requires.chunk_asks.holds c.loop-h.invariant.same c.loop-h.invariant.records c.loop-h.invariant.ks_kept (counted (goal.at.even_pair-got-requires c).In-loop-h); inside = c.if-p-w.true };
+      both_even = record { even = omega (arith, c.requires.chunk_asks.begins); entry = omega (arith, c.loop-h-test.true, c.requires.chunk_asks.most); one = c.loop-h.invariant.one.evens _ c.loop-h-test.true c.if-p-w.true; two = c.loop-h.invariant.two.evens _ c.loop-h-test.true c.if-p-w.true };
+    }
+
+pub returns-in_default : goal.returns-in_default
+returns-in_default c =
+    let cut = pair_was_cut_off _ _ _ _ _ _ _ _ _ c.even_pair-got.ensures.answer c.in_default.is in
+    record {
+      answer = pair_cut_off _ _ _ (evens_cut_off c.args.spot.plan _ _ c.loop-h.invariant.read c.requires.chunk_asks.begins _ c.loop-h-test.true c.if-p-w.true cut);
+      records = c.even_pair-got.ensures.records;
+      ks_kept = c.even_pair-got.ensures.ks_kept;
+    }
+
+pub odd_pair-got-requires : goal.odd_pair-got-requires
+odd_pair-got-requires c =
+    let e = evens (goal.at.odd_pair-got-requires c).Joined-p-w in
+    let few = (reads_keep _ _ _ _ c.requires.chunk_asks.holds.depth.1 _ _ _ e.read.are).counted (counted (goal.at.odd_pair-got-requires c).In-loop-h) in record {
+      pair_asks = record { holds = holds_on c.requires.chunk_asks.holds e.same e.in_range e.ks_kept few; inside = within (goal.at.odd_pair-got-requires c).Joined-p-w };
+      by_flatness = (
+        c.requires.chunk_asks.flats,
+        record {
+          odd = omega (arith, c.requires.chunk_asks.begins, c.if-p-ge8.true);
+          entry = omega (arith, c.loop-h-test.true, c.requires.chunk_asks.most);
+          one = e.one.odds _ c.loop-h-test.true c.if-p-ge8.true;
+          two = e.two.odds _ c.loop-h-test.true c.if-p-ge8.true;
+        },
+      );
+    }
+
+pub returns-in_default-got : goal.returns-in_default-got
+returns-in_default-got c =
+    let cut = pair_was_cut_off _ _ _ _ _ _ _ _ _ c.odd_pair-got.ensures.answer c.in_default-got.is in
+    record {
+      answer = pair_cut_off _ _ _ (odds_cut_off c.args.spot.plan _ _ c.loop-h.invariant.read c.requires.chunk_asks.begins _ c.loop-h-test.true c.if-p-ge8.true (evens (goal.at.returns-in_default-got c).Joined-p-w).read cut);
+      records = c.odd_pair-got.ensures.records;
+      ks_kept = c.odd_pair-got.ensures.ks_kept;
+    }
+
+-- ---- the turn's end
+pub loop-h-preserved : goal.loop-h-preserved
+loop-h-preserved c =
+    let e = evens (goal.at.loop-h-preserved c).Joined-p-w in
+    ⊎_elim
+    (λ w.
+    let m = met w.11 w.12 w.13 w.15 w.16 w.17 in
+    let at = pair_was_at _ _ _ _ _ _ _ _ _ w.5.ensures.answer w.9.given.1 in
+    let up = both_above _ c.args.spot.plan c.requires.chunk_asks.holds.apart _ (within (goal.at.loop-h-preserved c).Joined-p-w) at in
+    record {
+      last = omega (arith, c.loop-h-test.true);
+      same = length_met m ∙ (w.5.kept.1.1.1.1.0 ∙ e.same);
+      records = ranges_met m w.5.ensures.records;
+      ks_kept = ks_met m w.14 w.5.ensures.ks_kept;
+      one = ahead_met m (ahead_kept _ _ _ _ _ c.requires.chunk_asks.holds.plan.first_low up.0 _ _ _ c.requires.chunk_asks.ends e.one);
+      two = ahead_met m (ahead_kept _ _ _ _ _ c.requires.chunk_asks.holds.plan.second_low up.1 _ _ _ c.requires.chunk_asks.ends e.two);
+      read = turn_more c.args.spot.plan _ _ c.loop-h.invariant.read c.requires.chunk_asks.begins e.read (steps_met m (odds_here c.args.spot.plan _ w.0.taken at));
+    })
+    (λ w.
+    let m = met w.1 w.2 w.3 w.5 w.6 w.7 in
+    record {
+      last = omega (arith, c.loop-h-test.true);
+      same = length_met m ∙ e.same;
+      records = ranges_met m e.in_range;
+      ks_kept = ks_met m w.4 e.ks_kept;
+      one = ahead_met m e.one;
+      two = ahead_met m e.two;
+      read = turn_more c.args.spot.plan _ _ c.loop-h.invariant.read c.requires.chunk_asks.begins e.read (steps_met m (odds_not_yet c.args.spot.plan _ w.0.left));
+    })
+    c.if-p-ge8.branch
+
+pub returns : goal.returns
+returns c =
+    record {
+      answer = pair_at _ _ _ (all_turns c.args.spot.plan _ _ c.loop-h.invariant.read c.requires.chunk_asks.begins _ (omega (arith, c.loop-h.invariant.last, c.loop-h-test.false)));
+      records = c.loop-h.invariant.records;
+      ks_kept = c.loop-h.invariant.ks_kept;
+    }
+
+pub overflow_mul-p : goal.overflow_mul-p
+overflow_mul-p c = omega (arith, c.loop-h-test.true, c.requires.chunk_asks.most)
+
+pub overflow_add-p : goal.overflow_add-p
+overflow_add-p c = omega (arith, c.loop-h-test.true, c.requires.chunk_asks.most, c.requires.chunk_asks.ends, c.requires.chunk_asks.holds.width)
+
+pub shape_of-lines-in_default : goal.shape_of-lines-in_default
+shape_of-lines-in_default c = c.even_pair-got.auto.lines ∙ c.loop-h.invariant.same
+
+pub shape_of-lines-in_default-got : goal.shape_of-lines-in_default-got
+shape_of-lines-in_default-got c = c.odd_pair-got.auto.lines ∙ (evens (goal.at.shape_of-lines-in_default-got c).Joined-p-w).same
+
+pub overflow_add-h : goal.overflow_add-h
+overflow_add-h c = omega (arith, c.loop-h-test.true, c.requires.chunk_asks.most)
+
+pub loop-h-smaller : goal.loop-h-smaller
+loop-h-smaller c = omega (arith, c.loop-h-test.true)
+
+pub shape_of-lines : goal.shape_of-lines
+shape_of-lines c = c.loop-h.invariant.same

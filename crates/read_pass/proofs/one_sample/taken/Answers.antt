@@ -1,0 +1,27 @@
+-- `read_pass::one_sample::taken` meets its contract: at once, or by the slow reader. Assumes nothing.
+use borrow.Author.Rules.{rules}
+use mathlib.Core.Bool.{Bool}
+use mathlib.Core.List.{List}
+use mathlib.Core.Path.{◌≡◌, refl, sym, ◌∙◌}
+use Prim.Native.Nat.{ℕ}
+use Rattle.code.specs.Codes.{code_at}
+use Rattle.code.specs.Inside.{Small}
+use Rattle.code.specs.Inside.{taken_of}
+use Rattle.code.specs.declared.Taken.{Taken}
+use Rattle.code_reader.proofs.ShortLaws.{short_taken}
+use Rattle.read_pass.proofs.one_sample.taken.Goals as goal
+
+-- the slow reader's answer, put together anew
+slowly : (m k k' limit raw : ℕ) (s : List ℕ) (p : ℕ) (tight : Bool) (long : ℕ) {r t : Taken} → k ≡ k' → r ≡ t
+    → (t ≡ taken_of m tight long (code_at s p k' limit raw)) × Small t → (r ≡ taken_of m tight long (code_at s p k limit raw)) × Small r
+slowly m k k' limit raw s p tight long e f h = rw (e, f) h
+
+pub returns-then-c-eq0 : goal.returns-then-c-eq0
+returns-then-c-eq0 c = slowly _ _ _ _ _ _ _ _ _ c.if-c-eq0.true c.in_parts.ensures c.take_any.ensures
+
+pub returns-in_default : goal.returns-in_default
+returns-in_default c = slowly _ _ _ _ _ _ _ _ _ refl c.in_parts-in_default.ensures c.take_any-in_default.ensures
+
+pub returns : goal.returns
+returns c =
+    short_taken _ _ _ _ _ _ _ _ _ _ c.requires.block_len_bound.1.0 c.requires.block_len_bound.1.1.0 (sym c.short_code-found.ensures ∙ c.in-Code.is)

@@ -1,0 +1,36 @@
+-- `read_pass::pass` meets its contract: before each chunk the steps of the turns so far are read. Assumes nothing.
+use borrow.Author.Rules.{rules}
+use mathlib.Core.List.{List}
+use mathlib.Core.Option.{some}
+use mathlib.Core.Path.{◌≡◌, refl, ◌∙◌}
+use Prim.Native.Nat.{ℕ, ◌+◌, ◌-◌, ◌*◌, ◌/◌, ◌%◌, ◌≤◌, ◌<◌}
+use native.Mathlib.Omega.{arith}
+use lib.ListN.{length}
+use Rattle.pass_schedule.specs.Steps.{turn_steps, upto}
+use Rattle.pass_schedule.specs.declared.Plan.{Plan}
+use Rattle.pass_steps.specs.Values.{SetInRange, AreKs}
+use Rattle.pass_steps.proofs.TableLaws.{are_quantisers}
+use Rattle.read_pass.specs.Readings.{Reading}
+use Rattle.read_pass.specs.Pairs.{place_at, held}
+use Rattle.read_pass.proofs.RangeLaws.{reads_keep}
+use Rattle.read_pass.proofs.StepLaws.{StepsGive, no_steps, chunk_more, chunk_cut_off, all_read}
+use Rattle.read_pass.proofs.SiteLaws.{limits_fit, tables_made, pair_was_cut_off, pair_was_at, passed_cut_off, passed}
+use Rattle.read_pass.proofs.pass.Given as goal
+
+-- what is known before position c: from r₀ on the turns before it have been read, up to r
+pub record Turns (bits q W : ℕ) (s : List ℕ) (P : Plan) (c : ℕ) (ks first second : List ℕ) (r₀ r : Reading) : Type 0 where
+  pub even : c % 2 ≡ 0
+  pub last : c ≤ W + 8
+  pub same : length r.lines ≡ length r₀.lines
+  pub records : SetInRange r.set
+  pub ks_kept : AreKs r.set ks
+  pub one : length first ≡ 432
+  pub two : length second ≡ 432
+  pub read : StepsGive bits q W s (upto (turn_steps W P) (c / 2)) r₀ (some r)
+
+abbrev pub invariant-loop-c : goal.invariant-loop-c
+invariant-loop-c l =
+    Turns l.bits l.base l.w l.block l.plan l.c l.ks l.first l.second (held l.initial.lines l.initial.sums l.initial.ns (place_at l.initial.at l.initial.tight l.initial.long)) (held l.lines l.sums l.ns (place_at l.at l.tight l.long))
+
+abbrev pub decreases-loop-c : goal.decreases-loop-c
+decreases-loop-c l = l.w + 8 - l.c
