@@ -3,10 +3,9 @@ use borrow.Author.Rules.{rules}
 use mathlib.Core.Path.{sym, ◌∙◌}
 use Rattle.admission.proofs.BeginningLaws.{block_is}
 use Rattle.admission.proofs.block_begins.Goals as goal
-use Rattle.admission.proofs.block_begins.Goals.{After-open-opened}
 
 pub returns-in-Refused : goal.returns-in-Refused
-returns-in-Refused c = block_is _ _ (sym (goal.at.returns-in-Refused c).After-open-opened.«open».ensures ∙ c.in-Refused.is) _ _ _ _
+returns-in-Refused c = block_is _ _ (sym c.open-opened.ensures ∙ c.in-Refused.is) _ _ _ _
 
 pub returns-in-Header : goal.returns-in-Header
-returns-in-Header c = c.block_in.ensures ∙ block_is _ _ (sym (goal.at.returns-in-Header c).After-open-opened.«open».ensures ∙ c.in-Header.is) _ _ _ _
+returns-in-Header c = c.block_in.ensures ∙ block_is _ _ (sym c.open-opened.ensures ∙ c.in-Header.is) _ _ _ _
