@@ -20,7 +20,7 @@ use Rattle.read_pass.proofs.StepLaws.{StepsGive, no_steps, evens_here, evens_ove
 use Rattle.read_pass.proofs.SiteLaws.{met, steps_met, ranges_met, ks_met, length_met, ahead_met, holds_on, pair_was_cut_off, pair_was_at, pair_cut_off, pair_at}
 use Rattle.read_pass.proofs.chunk.Invariants.{Turns}
 use Rattle.read_pass.proofs.chunk.Goals as goal
-use Rattle.read_pass.proofs.chunk.Goals.{In-loop-h, Joined-p-w}
+use Rattle.read_pass.proofs.chunk.Goals.{then-p-w+in-At, else-p-w, In-loop-h, Joined-p-w, then-p-ge8+in-At-got, else-p-ge8}
 
 -- there are no more long codes than bits
 counted : (c : In-loop-h) → c.loop-h.long ≤ c.loop-h.at.0
@@ -43,30 +43,30 @@ record Met (c : Joined-p-w) : Type 0 where
 
 evens : (c : Joined-p-w) → Met c
 evens c =
-    ⊎_elim
-    (λ w.
-    let m = met w.11 w.12 w.13 w.15 w.16 w.17 in
-    let at = pair_was_at _ _ _ _ _ _ _ _ _ w.5.ensures.answer w.9.given.1 in
-    let up = both_above _ c.args.spot.plan c.requires.chunk_asks.holds.apart _ w.0.taken at in
-    record {
-      read = steps_met m (evens_here c.args.spot.plan _ w.0.taken at);
-      in_range = ranges_met m w.5.ensures.records;
-      ks_kept = ks_met m w.14 w.5.ensures.ks_kept;
-      same = length_met m ∙ (w.5.kept.1.1.1.1.0 ∙ c.loop-h.invariant.same);
-      one = ahead_met m (ahead_kept _ _ _ _ _ c.requires.chunk_asks.holds.plan.first_low up.0 _ _ _ c.requires.chunk_asks.ends c.loop-h.invariant.one);
-      two = ahead_met m (ahead_kept _ _ _ _ _ c.requires.chunk_asks.holds.plan.second_low up.1 _ _ _ c.requires.chunk_asks.ends c.loop-h.invariant.two);
-    })
-    (λ w.
-    let m = met w.1 w.2 w.3 w.5 w.6 w.7 in
-    record {
-      read = steps_met m (evens_over c.args.spot.plan _ w.0.left);
-      in_range = ranges_met m c.loop-h.invariant.records;
-      ks_kept = ks_met m w.4 c.loop-h.invariant.ks_kept;
-      same = length_met m ∙ c.loop-h.invariant.same;
-      one = ahead_met m c.loop-h.invariant.one;
-      two = ahead_met m c.loop-h.invariant.two;
-    })
-    c.if-p-w.branch
+    elim c.if-p-w.branch [
+      then-p-w+in-At w ↦
+        let m = met w.lines-is w.sums-is w.ns-is w.at-is w.tight-is w.long-is in
+        let at = pair_was_at _ _ _ _ _ _ _ _ _ w.even_pair-got.ensures.answer w.in-At.is in
+        let up = both_above _ c.args.spot.plan c.requires.chunk_asks.holds.apart _ w.if-p-w.true at in
+        record {
+          read = steps_met m (evens_here c.args.spot.plan _ w.if-p-w.true at);
+          in_range = ranges_met m w.even_pair-got.ensures.records;
+          ks_kept = ks_met m w.ks-is w.even_pair-got.ensures.ks_kept;
+          same = length_met m ∙ (w.even_pair-got.auto.lines ∙ c.loop-h.invariant.same);
+          one = ahead_met m (ahead_kept _ _ _ _ _ c.requires.chunk_asks.holds.plan.first_low up.0 _ _ _ c.requires.chunk_asks.ends c.loop-h.invariant.one);
+          two = ahead_met m (ahead_kept _ _ _ _ _ c.requires.chunk_asks.holds.plan.second_low up.1 _ _ _ c.requires.chunk_asks.ends c.loop-h.invariant.two);
+        }
+    | else-p-w w ↦
+        let m = met w.lines-is w.sums-is w.ns-is w.at-is w.tight-is w.long-is in
+        record {
+          read = steps_met m (evens_over c.args.spot.plan _ w.if-p-w.false);
+          in_range = ranges_met m c.loop-h.invariant.records;
+          ks_kept = ks_met m w.ks-is c.loop-h.invariant.ks_kept;
+          same = length_met m ∙ c.loop-h.invariant.same;
+          one = ahead_met m c.loop-h.invariant.one;
+          two = ahead_met m c.loop-h.invariant.two;
+        }
+    ]
 
 -- ---- the odd position
 -- it is one of the line
@@ -132,32 +132,30 @@ returns-in_default-got c =
 pub loop-h-preserved : goal.loop-h-preserved
 loop-h-preserved c =
     let e = evens (goal.at.loop-h-preserved c).Joined-p-w in
-    ⊎_elim
-    (λ w.
-    let m = met w.11 w.12 w.13 w.15 w.16 w.17 in
-    let at = pair_was_at _ _ _ _ _ _ _ _ _ w.5.ensures.answer w.9.given.1 in
+    elim c.if-p-ge8.branch [
+      then-p-ge8+in-At-got w ↦ let m = met w.lines-is w.sums-is w.ns-is w.at-is w.tight-is w.long-is in
+    let at = pair_was_at _ _ _ _ _ _ _ _ _ w.odd_pair-got.ensures.answer w.in-At-got.is in
     let up = both_above _ c.args.spot.plan c.requires.chunk_asks.holds.apart _ (within (goal.at.loop-h-preserved c).Joined-p-w) at in
     record {
       last = omega (arith, c.loop-h-test.true);
-      same = length_met m ∙ (w.5.kept.1.1.1.1.0 ∙ e.same);
-      records = ranges_met m w.5.ensures.records;
-      ks_kept = ks_met m w.14 w.5.ensures.ks_kept;
+      same = length_met m ∙ (w.odd_pair-got.auto.lines ∙ e.same);
+      records = ranges_met m w.odd_pair-got.ensures.records;
+      ks_kept = ks_met m w.ks-is w.odd_pair-got.ensures.ks_kept;
       one = ahead_met m (ahead_kept _ _ _ _ _ c.requires.chunk_asks.holds.plan.first_low up.0 _ _ _ c.requires.chunk_asks.ends e.one);
       two = ahead_met m (ahead_kept _ _ _ _ _ c.requires.chunk_asks.holds.plan.second_low up.1 _ _ _ c.requires.chunk_asks.ends e.two);
-      read = turn_more c.args.spot.plan _ _ c.loop-h.invariant.read c.requires.chunk_asks.begins e.read (steps_met m (odds_here c.args.spot.plan _ w.0.taken at));
-    })
-    (λ w.
-    let m = met w.1 w.2 w.3 w.5 w.6 w.7 in
+      read = turn_more c.args.spot.plan _ _ c.loop-h.invariant.read c.requires.chunk_asks.begins e.read (steps_met m (odds_here c.args.spot.plan _ w.if-p-ge8.true at));
+    }
+    | else-p-ge8 w ↦ let m = met w.lines-is w.sums-is w.ns-is w.at-is w.tight-is w.long-is in
     record {
       last = omega (arith, c.loop-h-test.true);
       same = length_met m ∙ e.same;
       records = ranges_met m e.in_range;
-      ks_kept = ks_met m w.4 e.ks_kept;
+      ks_kept = ks_met m w.ks-is e.ks_kept;
       one = ahead_met m e.one;
       two = ahead_met m e.two;
-      read = turn_more c.args.spot.plan _ _ c.loop-h.invariant.read c.requires.chunk_asks.begins e.read (steps_met m (odds_not_yet c.args.spot.plan _ w.0.left));
-    })
-    c.if-p-ge8.branch
+      read = turn_more c.args.spot.plan _ _ c.loop-h.invariant.read c.requires.chunk_asks.begins e.read (steps_met m (odds_not_yet c.args.spot.plan _ w.if-p-ge8.false));
+    }
+    ]
 
 pub returns : goal.returns
 returns c =

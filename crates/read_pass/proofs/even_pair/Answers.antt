@@ -19,7 +19,7 @@ use Rattle.read_pass.proofs.StepLaws.{StepGives, two_steps, first_none_lem}
 use Rattle.read_pass.proofs.SiteLaws.{line_end, site_interpolated, packed_small, CodedAt, even_coded, k_known, limit_known, raw_fits, total_known, step_known}
 use Rattle.read_pass.proofs.SiteLaws.{site_cut_off, site_read, taken_small, met, step_met, ranges_met, ks_met, length_met, pair_cut_off, pair_at}
 use Rattle.read_pass.proofs.even_pair.Goals as goal
-use Rattle.read_pass.proofs.even_pair.Goals.{After-even_coding-c, After-even_coding-c-then-has_code-2, After-has_code, Joined-has_code}
+use Rattle.read_pass.proofs.even_pair.Goals.{then-has_code+in-Read, else-has_code, After-even_coding-c, After-even_coding-c-then-has_code-2, After-has_code, Joined-has_code}
 
 first : (c : After-even_coding-c) →
     CodedAt c.args.turn.spot.bits c.args.turn.base c.args.turn.spot.w c.args.turn.spot.plan.first c.args.turn.spot.p c.args.block.now c.args.lines.now
@@ -44,26 +44,29 @@ record Met (c : Joined-has_code) : Type 0 where
 one : (c : Joined-has_code) → Met c
 one c =
     let coded = sym c.has_code.ensures in
-    ⊎_elim
-    (λ w.
-    let o : tie.after_even_coding = record { before = record { before = record { before = c.before; if1 = w.0 }; even-coding-arg = w.1 }; even-coding = w.2 } in
-    let m = met w.15 w.16 w.17 w.19 w.20 w.21 in
-    let new = w.14.ensures in
-    record {
-      read = step_met m (site_read (first o) (coded ∙ w.0.taken) w.3.ensures.0 w.5.given.1 w.8.ensures new.0);
-      in_range = ranges_met m new.1.0;
-      ks_kept = ks_met m w.18 new.1.1;
-      same = length_met m ∙ w.8.kept.0;
-    })
-    (λ w.
-    let m = met w.2 w.3 w.4 w.6 w.7 w.8 in
-    record {
-      read = step_met m (site_interpolated c.requires.pair_asks.holds.plan.first_low c.requires.both_even.even c.requires.both_even.one c.left_of-i.ensures.0 (coded ∙ w.0.left) refl);
-      in_range = ranges_met m c.requires.pair_asks.holds.records;
-      ks_kept = ks_met m w.5 c.requires.pair_asks.holds.ks_kept;
-      same = rw w.2 (length-set c.args.lines.now _ _);
-    })
-    c.if-has_code.branch
+    elim c.if-has_code.branch [
+      then-has_code+in-Read w ↦
+        let o : CodedAt c.args.turn.spot.bits c.args.turn.base c.args.turn.spot.w c.args.turn.spot.plan.first c.args.turn.spot.p c.args.block.now c.args.lines.now
+    c.args.sums.now c.args.ns.now c.args.steps.now c.args.limits.now c.args.totals.now w.even_coding-c.result =
+            even_coded c.requires.pair_asks.holds.plan.first_low c.requires.pair_asks.holds.plan.first_high c.requires.pair_asks.holds.width c.requires.pair_asks.inside c.requires.pair_asks.holds.room.0 c.requires.pair_asks.holds.tables c.requires.pair_asks.holds.depth c.requires.pair_asks.holds.base c.requires.pair_asks.holds.ks_kept _ c.requires.both_even.even
+    c.requires.both_even.one c.left_of-i.ensures.0 w.even_coding-c.ensures.value w.even_coding-c.ensures.prediction_bound in
+        let m = met w.lines-is w.sums-is w.ns-is w.at-is w.tight-is w.long-is in
+        let new = w.update_by.ensures in
+        record {
+          read = step_met m (site_read o (coded ∙ w.if-has_code.true) w.taken-got.ensures.0 w.in-Read.is w.put_sample.ensures new.ns_after);
+          in_range = ranges_met m new.set_in_range_2;
+          ks_kept = ks_met m w.ks-is new.are_ks_2;
+          same = length_met m ∙ w.put_sample.auto.lines;
+        }
+    | else-has_code w ↦
+        let m = met w.lines-is w.sums-is w.ns-is w.at-is w.tight-is w.long-is in
+        record {
+          read = step_met m (site_interpolated c.requires.pair_asks.holds.plan.first_low c.requires.both_even.even c.requires.both_even.one c.left_of-i.ensures.0 (coded ∙ w.if-has_code.false) refl);
+          in_range = ranges_met m c.requires.pair_asks.holds.records;
+          ks_kept = ks_met m w.ks-is c.requires.pair_asks.holds.ks_kept;
+          same = rw w.lines-is (length-set c.args.lines.now _ _);
+        }
+    ]
 
 -- there are no more long codes than bits
 counted : (c : Joined-has_code) → c.if-has_code.long ≤ c.if-has_code.at.0
@@ -81,73 +84,8 @@ second : (c : After-even_coding-c-then-has_code-2) →
     CodedAt c.args.turn.spot.bits c.args.turn.base c.args.turn.spot.w c.args.turn.spot.plan.second c.args.turn.spot.p c.args.block.now c.if-has_code.lines
     c.if-has_code.sums c.if-has_code.ns c.args.steps.now c.args.limits.now c.args.totals.now c.even_coding-c-then-has_code-2.result
 second c =
-    even_coded c.requires.pair_asks.holds.plan.second_low c.requires.pair_asks.holds.plan.second_high c.requires.pair_asks.holds.width c.requires.pair_asks.inside (omega (
-      arith,
-      c.requires.pair_asks.holds.room.1,
-      ((let one : Met c.before.before.before.before = let coded = sym c.has_code.ensures in
-          ⊎_elim
-          (λ w.
-          let o : tie.after_even_coding = record { before = record { before = record { before = c.before.before.before.before.before; if1 = w.0 }; even-coding-arg = w.1 }; even-coding = w.2 } in
-          let m = met w.15 w.16 w.17 w.19 w.20 w.21 in
-          let new = w.14.ensures in
-          record {
-            read = step_met m (site_read (first o) (coded ∙ w.0.taken) w.3.ensures.0 w.5.given.1 w.8.ensures new.0);
-            in_range = ranges_met m new.1.0;
-            ks_kept = ks_met m w.18 new.1.1;
-            same = length_met m ∙ w.8.kept.0;
-          })
-          (λ w.
-          let m = met w.2 w.3 w.4 w.6 w.7 w.8 in
-          record {
-            read = step_met m (site_interpolated c.requires.pair_asks.holds.plan.first_low c.requires.both_even.even c.requires.both_even.one c.left_of-i.ensures.0 (coded ∙ w.0.left) refl);
-            in_range = ranges_met m c.requires.pair_asks.holds.records;
-            ks_kept = ks_met m w.5 c.requires.pair_asks.holds.ks_kept;
-            same = rw w.2 (length-set c.args.lines.now _ _);
-          })
-          c.if-has_code.branch in one)).same,
-    )) c.requires.pair_asks.holds.tables c.requires.pair_asks.holds.depth c.requires.pair_asks.holds.base
-    ((let one : Met c.before.before.before.before = let coded = sym c.has_code.ensures in
-    ⊎_elim
-    (λ w.
-    let o : tie.after_even_coding = record { before = record { before = record { before = c.before.before.before.before.before; if1 = w.0 }; even-coding-arg = w.1 }; even-coding = w.2 } in
-    let m = met w.15 w.16 w.17 w.19 w.20 w.21 in
-    let new = w.14.ensures in
-    record {
-      read = step_met m (site_read (first o) (coded ∙ w.0.taken) w.3.ensures.0 w.5.given.1 w.8.ensures new.0);
-      in_range = ranges_met m new.1.0;
-      ks_kept = ks_met m w.18 new.1.1;
-      same = length_met m ∙ w.8.kept.0;
-    })
-    (λ w.
-    let m = met w.2 w.3 w.4 w.6 w.7 w.8 in
-    record {
-      read = step_met m (site_interpolated c.requires.pair_asks.holds.plan.first_low c.requires.both_even.even c.requires.both_even.one c.left_of-i.ensures.0 (coded ∙ w.0.left) refl);
-      in_range = ranges_met m c.requires.pair_asks.holds.records;
-      ks_kept = ks_met m w.5 c.requires.pair_asks.holds.ks_kept;
-      same = rw w.2 (length-set c.args.lines.now _ _);
-    })
-    c.if-has_code.branch in one)).ks_kept _ c.requires.both_even.even ((let here : EvenHere c.args.turn.base c.args.turn.spot.w c.if-has_code.lines c.args.turn.spot.plan.second c.args.turn.spot.p c.args.turn.entry c.args.second.now = even_here_kept _ _ _ _ _ c.requires.pair_asks.holds.plan.second_low (second_above _ c.args.turn.spot.plan c.requires.pair_asks.holds.apart _ c.requires.pair_asks.inside ((let one : Met c.before.before.before.before = let coded = sym c.has_code.ensures in
-    ⊎_elim
-    (λ w.
-    let o : tie.after_even_coding = record { before = record { before = record { before = c.before.before.before.before.before; if1 = w.0 }; even-coding-arg = w.1 }; even-coding = w.2 } in
-    let m = met w.15 w.16 w.17 w.19 w.20 w.21 in
-    let new = w.14.ensures in
-    record {
-      read = step_met m (site_read (first o) (coded ∙ w.0.taken) w.3.ensures.0 w.5.given.1 w.8.ensures new.0);
-      in_range = ranges_met m new.1.0;
-      ks_kept = ks_met m w.18 new.1.1;
-      same = length_met m ∙ w.8.kept.0;
-    })
-    (λ w.
-    let m = met w.2 w.3 w.4 w.6 w.7 w.8 in
-    record {
-      read = step_met m (site_interpolated c.requires.pair_asks.holds.plan.first_low c.requires.both_even.even c.requires.both_even.one c.left_of-i.ensures.0 (coded ∙ w.0.left) refl);
-      in_range = ranges_met m c.requires.pair_asks.holds.records;
-      ks_kept = ks_met m w.5 c.requires.pair_asks.holds.ks_kept;
-      same = rw w.2 (length-set c.args.lines.now _ _);
-    })
-    c.if-has_code.branch in one)).read) _ _ _ c.requires.pair_asks.inside
-    c.requires.both_even.two in here)) c.left_of-j.ensures.0 c.even_coding-c-then-has_code-2.ensures.value c.even_coding-c-then-has_code-2.ensures.prediction_bound
+    even_coded c.requires.pair_asks.holds.plan.second_low c.requires.pair_asks.holds.plan.second_high c.requires.pair_asks.holds.width c.requires.pair_asks.inside (omega (arith, c.requires.pair_asks.holds.room.1, (one (goal.at.After-even_coding-c-then-has_code-2 c).Joined-has_code).same)) c.requires.pair_asks.holds.tables c.requires.pair_asks.holds.depth c.requires.pair_asks.holds.base
+    (one (goal.at.After-even_coding-c-then-has_code-2 c).Joined-has_code).ks_kept _ c.requires.both_even.even (here (goal.at.After-even_coding-c-then-has_code-2 c).Joined-has_code) c.left_of-j.ensures.0 c.even_coding-c-then-has_code-2.ensures.value c.even_coding-c-then-has_code-2.ensures.prediction_bound
 
 -- it has a code
 coded_2 : (c : After-even_coding-c-then-has_code-2) →

@@ -42,9 +42,7 @@ first_read : (c : After-update_by) →
     StepGives c.args.turn.spot.bits c.args.turn.base c.args.turn.spot.w c.args.block.now (step_at c.args.turn.spot.plan.first c.args.turn.spot.p true)
     (held c.args.lines.now c.args.sums.now c.args.ns.now (place_at c.args.from c.args.from_tight c.args.from_long)) (some (middle c))
 first_read c =
-    site_read ((let first : CodedAt c.args.turn.spot.bits c.args.turn.base c.args.turn.spot.w c.args.turn.spot.plan.first c.args.turn.spot.p c.args.block.now c.args.lines.now
-    c.args.sums.now c.args.ns.now c.args.steps.now c.args.limits.now c.args.totals.now c.odd_coding-c.result = odd_coded c.requires.pair_asks.holds.plan.first_low c.requires.pair_asks.holds.plan.first_high c.requires.pair_asks.holds.width c.requires.pair_asks.inside c.requires.pair_asks.holds.room.0 c.requires.pair_asks.holds.tables c.requires.pair_asks.holds.depth c.requires.pair_asks.holds.base c.requires.pair_asks.holds.ks_kept _ c.requires.by_flatness.1.odd
-    c.odd_coding-c.ensures in first)) refl c.taken-got.ensures.0 c.in-Read.is c.put_sample.ensures
+    site_read (first (goal.at.After-update_by c).After-odd_coding-c) refl c.taken-got.ensures.0 c.in-Read.is c.put_sample.ensures
     c.update_by.ensures.ns_after
 
 in_range : (c : After-update_by) → SetInRange (middle c).set
@@ -69,10 +67,10 @@ here c =
     c.requires.by_flatness.1.two
 
 second : (c : After-odd_coding-c-2) →
-    CodedAt c.args.turn.spot.bits c.args.turn.base c.args.turn.spot.w c.args.turn.spot.plan.second c.args.turn.spot.p c.args.block.now ((let lines₁ : List ℕ = c.put_sample.new.lines in lines₁))
+    CodedAt c.args.turn.spot.bits c.args.turn.base c.args.turn.spot.w c.args.turn.spot.plan.second c.args.turn.spot.p c.args.block.now (lines₁ (goal.at.After-odd_coding-c-2 c).After-update_by)
     c.update_by.new.sums c.update_by.new.ns c.args.steps.now c.args.limits.now c.args.totals.now c.odd_coding-c-2.result
 second c =
-    odd_coded c.requires.pair_asks.holds.plan.second_low c.requires.pair_asks.holds.plan.second_high c.requires.pair_asks.holds.width c.requires.pair_asks.inside (omega (arith, c.requires.pair_asks.holds.room.1, (let same : length ((let lines₁ : List ℕ = c.put_sample.new.lines in lines₁)) ≡ length c.args.lines.now = c.put_sample.auto.lines in same))) c.requires.pair_asks.holds.tables c.requires.pair_asks.holds.depth c.requires.pair_asks.holds.base ((let ks_kept : AreKs ((let middle : Reading = held ((let lines₁ : List ℕ = c.put_sample.new.lines in lines₁)) c.update_by.new.sums c.update_by.new.ns ((let between : Place = place_at c.in-Read.at c.in-Read.tight c.in-Read.long in between)) in middle)).set c.update_by.new.ks = c.update_by.ensures.are_ks_2 in ks_kept)) _
+    odd_coded c.requires.pair_asks.holds.plan.second_low c.requires.pair_asks.holds.plan.second_high c.requires.pair_asks.holds.width c.requires.pair_asks.inside (omega (arith, c.requires.pair_asks.holds.room.1, same (goal.at.After-odd_coding-c-2 c).After-update_by)) c.requires.pair_asks.holds.tables c.requires.pair_asks.holds.depth c.requires.pair_asks.holds.base (ks_kept (goal.at.After-odd_coding-c-2 c).After-update_by) _
     c.requires.by_flatness.1.odd c.odd_coding-c-2.ensures
 
 pub odd_coding-c-requires : goal.odd_coding-c-requires
