@@ -1,6 +1,7 @@
 // Document 01, Tight block, and Item 5: one pass of writing. The samples of a set become codes, which are counted or stored. A lossless
 // line has base 0.
 #![tactic(auto)]
+
 ghost use Rattle.std.specs.Prelude.{◌≡◌, ◌+◌, ◌*◌, ◌^◌, ◌≤◌, ◌<◌, length, not, ◌&&◌, eqb};
 ghost use Rattle.quantiser.specs.Quantisers.{largest, total_of};
 ghost use Rattle.code.specs.Samples.{sample_of};

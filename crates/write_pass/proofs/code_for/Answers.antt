@@ -5,8 +5,7 @@ use mathlib.Core.Path.{◌≡◌}
 use Prim.Native.Nat.{ℕ}
 use Rattle.code.specs.Inside.{steps_up, residual_up, code_for, residual_for}
 use Rattle.code.specs.Wanted.{code_of_residual}
-use Rattle.write_pass.proofs.code_for.Statement.{statement}
-use Rattle.write_pass.proofs.code_for.Tie as tie
+use Rattle.write_pass.proofs.code_for.Goals as goal
 
 -- the two ways
 module _ (m p v d r : ℕ) (b : Bool) (e : r ≡ code_of_residual (residual_up m d)) where
@@ -18,17 +17,10 @@ module _ (m p v d r : ℕ) (b : Bool) (e : r ≡ code_of_residual (residual_up m
   unfolding code_for residual_for
   upwards t f = rw (e, f, t)
 
-returns : tie.Need-returns
+pub returns-then-negative : goal.returns-then-negative
+returns-then-negative c =
+    (down _ _ _ _ _ _ c.code_of_steps.ensures.0 c.if-negative.true c.steps_up.ensures.0, c.code_of_steps.ensures.1)
+
+pub returns : goal.returns
 returns c =
-    let e = c.code-of-steps.ensures in
-    (down _ _ _ _ _ _ e.0 c.before.before.if1.true c.before.steps_up.ensures.0, e.1)
-
-returns-2 : tie.Need-returns-2
-returns-2 c =
-    let e = c.code-of-steps2.ensures in
-    (upwards _ _ _ _ _ _ e.0 c.before.before.if1.false c.before.steps-up2.ensures.0, e.1)
-
-pub code-for-spec : {M : Type 1} → statement M
-code-for-spec =
-    tie.close
-    (tie.spec (λ c κs. search rules) (λ c κs. search rules) returns (λ c κs. search rules) (λ c κs. search rules) returns-2)
+    (upwards _ _ _ _ _ _ c.code_of_steps-2.ensures.0 c.if-negative.false c.steps_up-2.ensures.0, c.code_of_steps-2.ensures.1)

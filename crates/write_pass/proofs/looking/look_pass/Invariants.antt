@@ -1,0 +1,29 @@
+-- `write_pass::looking::look_pass` meets its contract: before each turn the steps of the turns so far were right. Assumes nothing.
+use borrow.Author.Tests.{not-false}
+use mathlib.Core.Bool.{false≢true}
+use mathlib.Core.List.{List}
+use mathlib.Core.Path.{◌≡◌, refl, ◌∙◌}
+use Prim.Native.Nat.{ℕ, ◌+◌, ◌-◌, ◌/◌, ◌%◌, ◌≤◌}
+use native.Mathlib.Omega.{arith}
+use lib.ListN.{length}
+use Rattle.quantiser.specs.Quantisers.{largest}
+use Rattle.pass_schedule.specs.Steps.{even_part, turn_steps, upto}
+use Rattle.pass_schedule.specs.declared.Plan.{Plan}
+use Rattle.write_pass.specs.Looks.{Right}
+use Rattle.write_pass.specs.Puts.{Within}
+use Rattle.write_pass.proofs.LookLaws.{right_both, right_none, right_within, right_other}
+use Rattle.write_pass.proofs.TurnPuts.{turn_more, all_turns, wanted_even, wanted_odd}
+use Rattle.write_pass.proofs.looking.look_pass.Given as goal
+
+-- what is known before each turn
+pub record Turns (bits W : ℕ) (t : List ℕ) (n : ℕ) (P : Plan) (lines₀ lines : List ℕ) (p : ℕ) : Type 0 where
+  pub even : p % 2 ≡ 0
+  pub last : p ≤ W + 8
+  pub same : length lines ≡ length lines₀
+  pub looked : Right bits W t n (upto (turn_steps W P) (p / 2)) lines₀ lines
+
+abbrev pub invariant-loop-p : goal.invariant-loop-p
+invariant-loop-p l = Turns l.bits l.w l.samples l.n l.plan l.initial.lines l.lines l.p
+
+abbrev pub decreases-loop-p : goal.decreases-loop-p
+decreases-loop-p l = l.w + 8 - l.p
