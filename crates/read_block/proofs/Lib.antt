@@ -1,5 +1,4 @@
--- What the proofs share: the record in the borrow checker's tables, and the laws of the definitions.
-pub mod Element
+-- What the proofs share: the laws of the definitions.
 pub mod TableLaws
 pub mod SetLaws
 pub mod RangeLaws

@@ -1,6 +1,7 @@
 // Document 01, Pass and line, and Region; Items 6, 8 and 11: blocks are read, decoded into an image, and read tightly. The types of the
 // answers are here, the functions in a module for each role.
 #![tactic(auto)]
+
 ghost use Rattle.std.specs.Prelude.{◌≡◌};
 ghost use Rattle.read_block.specs.Images.{form_of};
 ghost use Rattle.read_block.specs.Words.{answer_words};

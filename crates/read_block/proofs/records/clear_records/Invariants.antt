@@ -1,0 +1,15 @@
+-- `read_block::records::clear_records` meets its contract: the records before j are cleared. Assumes nothing.
+use borrow.Author.Rules.{rules}
+use mathlib.Core.Path.{◌≡◌, refl, ◌∙◌}
+use Prim.Native.Nat.{◌-◌, ◌≤◌}
+use native.Mathlib.Omega.{arith}
+use lib.ListN.{length, take}
+use Rattle.read_block.specs.Records.{table, clear_record}
+use Rattle.read_block.proofs.TableLaws.{table_same, fill_more, fill_done}
+use Rattle.read_block.proofs.records.clear_records.Given as goal
+
+abbrev pub invariant-loop-j : goal.invariant-loop-j
+invariant-loop-j l = (l.j ≤ 336) × (length l.rs ≡ 336) × (take l.j l.rs ≡ table (λ k. clear_record) l.j)
+
+abbrev pub decreases-loop-j : goal.decreases-loop-j
+decreases-loop-j l = 336 - l.j

@@ -1,0 +1,17 @@
+-- `read_block::records::load_set` meets its contract: the records before i are in the two arrays. Assumes nothing.
+use borrow.Author.Rules.{rules}
+use mathlib.Core.Path.{◌≡◌, refl, ◌∙◌}
+use Prim.Native.Nat.{◌-◌, ◌*◌, ◌≤◌}
+use native.Mathlib.Omega.{arith}
+use lib.ListN.{length, take, drop, length-set}
+use Rattle.pass_steps.specs.Values.{zip_records}
+use Rattle.read_block.proofs.SetLaws.{load_more, load_done}
+use Rattle.read_block.proofs.records.load_set.Given as goal
+
+abbrev pub invariant-loop-i : goal.invariant-loop-i
+invariant-loop-i l =
+    (l.i ≤ 112) × (l.rs ≡ l.initial.rs) × (length l.rs ≡ 336) × (length l.sums ≡ 112) × (length l.ns ≡ 112)
+    × (take l.i (zip_records l.sums l.ns) ≡ take l.i (drop (112 * l.g) l.initial.rs))
+
+abbrev pub decreases-loop-i : goal.decreases-loop-i
+decreases-loop-i l = 112 - l.i

@@ -1,0 +1,50 @@
+-- `read_block::tight::read_tight` meets its contract, by the two ways in which a call begins. Assumes nothing.
+use borrow.Author.Rules.{rules}
+use mathlib.Core.Path.{refl, sym, ◌∙◌}
+use Rattle.admission.proofs.CallLaws.{block_reads}
+use Rattle.read_block.specs.Lent.{Scratch}
+use Rattle.read_block.proofs.LeftLaws.{block_refused, block_read, lines_back, records_back}
+use Rattle.read_block.proofs.tight.read_tight.Goals as goal
+use Rattle.read_block.proofs.tight.read_tight.Goals.{Start}
+
+abbrev lent : (c : Start) → Scratch
+lent c = record { lines = c.args.lines.now; records = c.args.rs.now }
+
+pub returns-in-Refused : goal.returns-in-Refused
+returns-in-Refused c =
+    block_refused _ (lent (goal.at.returns-in-Refused c).Start) _ _ (sym c.block_begins-begins.ensures ∙ c.in-Refused.is) _ c.refused.ensures
+
+pub slice_bounds-walk_block-end : goal.slice_bounds-walk_block-end
+slice_bounds-walk_block-end c =
+    let k = block_reads _ _ _ _ _ _ (sym c.block_begins-begins.ensures ∙ c.in-Header.is) in
+    search (rules, k.fits.for_lines)
+
+pub slice_bounds-walk_block-end-in-Header : goal.slice_bounds-walk_block-end-in-Header
+slice_bounds-walk_block-end-in-Header c =
+    let k = block_reads _ _ _ _ _ _ (sym c.block_begins-begins.ensures ∙ c.in-Header.is) in
+    search (rules, k.fits.for_records)
+
+pub walk_block-got-requires : goal.walk_block-got-requires
+walk_block-got-requires c =
+    let k = block_reads _ _ _ _ _ _ (sym c.block_begins-begins.ensures ∙ c.in-Header.is) in
+    record {
+      d_value = k.opens;
+      scratch_of = (search rules, search rules);
+    }
+
+pub tight_in-requires : goal.tight_in-requires
+tight_in-requires c =
+    let k = block_reads _ _ _ _ _ _ (sym c.block_begins-begins.ensures ∙ c.in-Header.is) in
+    record {
+      d_value = (k.opens, k.lossless refl);
+      walked = c.walk_block-got.ensures.walked;
+    }
+
+pub returns-in-Header : goal.returns-in-Header
+returns-in-Header c =
+    block_read _ (lent (goal.at.returns-in-Header c).Start) _ c.in-Header.h (sym c.block_begins-begins.ensures ∙ c.in-Header.is) _ _
+    (record {
+      answered = c.tight_in.ensures;
+      lines = lines_back c.in-Header.h.xtrans c.samples_needed-used.result c.args.lines.now _ c.samples_needed-used.ensures.0 c.walk_block-got.ensures.lines_after.0;
+      records = records_back c.args.rs.now _ c.walk_block-got.ensures.lines_after.1;
+    })
