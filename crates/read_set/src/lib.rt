@@ -1,5 +1,6 @@
 // Whole streams: the colour lines of a block are handed out, as the set that the writer takes.
 #![tactic(auto)]
+
 ghost use Rattle.std.specs.Prelude.{◌≡◌, ◌+◌, ◌*◌, ◌^◌, ◌≤◌, ◌<◌, length, take, drop};
 ghost use Rattle.colour_lines.specs.ColourLines.{zero_lines};
 ghost use Rattle.colour_lines.specs.Sets.{line_size, set_size, line_of_rank};

@@ -1,5 +1,6 @@
 // Whole streams: what is before the blocks of a stream: the header, the sizes and the base rows.
 #![tactic(auto)]
+
 ghost use Rattle.std.specs.Prelude.{◌≡◌, ◌++◌, ◌+◌, ◌*◌, ◌^◌, ◌≤◌, ◌<◌, length, get_or, drop};
 ghost use Rattle.stream.specs.Headers.{parse_of};
 ghost use Rattle.stream.specs.Inside.{Ruled};

@@ -1,5 +1,6 @@
 // Item 1: why a block is not tight. It finds the spot and the reason of the first bad code, and has the function for C.
 #![tactic(auto)]
+
 ghost use Rattle.std.specs.Prelude.{◌≡◌, true, ◌^◌, ◌<◌, length};
 ghost use Rattle.image_map.specs.Inside.{Fits};
 ghost use Rattle.pass_steps.specs.Contexts.{Depth};

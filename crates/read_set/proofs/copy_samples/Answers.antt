@@ -1,0 +1,25 @@
+-- `read_set::copy_samples` meets its contract. The invariant: the first j samples are copied. Assumes nothing.
+use borrow.Author.Rules.{rules}
+use mathlib.Core.Path.{◌≡◌, refl, ap, ◌∙◌}
+use Prim.Native.Nat.{ℕ, ◌+◌, ◌-◌, ◌≤◌, ◌<◌}
+use native.Mathlib.Omega.{arith}
+use lib.ListN.{length, take, drop, length-set}
+use Rattle.read_set.specs.HandedSets.{put_over}
+use Rattle.read_set.proofs.PutLaws.{put_none, copy_more}
+use Rattle.read_set.proofs.copy_samples.Goals as goal
+
+pub loop-j-init : goal.loop-j-init
+loop-j-init c = (search rules, refl, put_none c.args.to.now c.args.start)
+
+pub loop-j-preserved : goal.loop-j-preserved
+loop-j-preserved c = (
+  omega arith,
+  simp length-set c.loop-j.invariant.1,
+  rw c.loop-j.invariant.2 (copy_more c.args.to.now c.args.from.now c.args.start c.args.at c.args.n c.loop-j.j c.requires.0 c.requires.1
+      (omega arith)),
+)
+
+pub returns : goal.returns
+returns c =
+    let e : c.loop-j.j ≡ c.args.n = omega (arith, c.loop-j.invariant.0) in
+    c.loop-j.invariant.2 ∙ rw e

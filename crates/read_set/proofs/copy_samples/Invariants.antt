@@ -1,0 +1,15 @@
+-- `read_set::copy_samples` meets its contract. The invariant: the first j samples are copied. Assumes nothing.
+use borrow.Author.Rules.{rules}
+use mathlib.Core.Path.{◌≡◌, refl, ap, ◌∙◌}
+use Prim.Native.Nat.{ℕ, ◌+◌, ◌-◌, ◌≤◌, ◌<◌}
+use native.Mathlib.Omega.{arith}
+use lib.ListN.{length, take, drop, length-set}
+use Rattle.read_set.specs.HandedSets.{put_over}
+use Rattle.read_set.proofs.PutLaws.{put_none, copy_more}
+use Rattle.read_set.proofs.copy_samples.Given as goal
+
+abbrev pub invariant-loop-j : goal.invariant-loop-j
+invariant-loop-j l = (l.j ≤ l.n) × (length l.to ≡ length l.initial.to) × (l.to ≡ put_over l.initial.to l.start (take l.j (drop l.at l.from)))
+
+abbrev pub decreases-loop-j : goal.decreases-loop-j
+decreases-loop-j l = l.n - l.j

@@ -1,0 +1,27 @@
+-- `read_set::set_begins` meets its contract. Assumes nothing.
+use borrow.Author.Rules.{rules}
+use Rattle.read_set.proofs.PutLaws.{few_lines, begins_no_block, begins_wrong, begins_refused, begins_on}
+use Rattle.read_set.proofs.set_begins.Reads as reads
+use Rattle.read_set.proofs.set_begins.Lts as lts
+use Rattle.admission.proofs.with_scratch.Reads as with-scratch-reads
+use Rattle.read_set.proofs.set_size.Reads as set-size-reads
+use Rattle.stream.proofs.open.Reads as open-reads
+use Rattle.read_set.proofs.set_begins.Goals as goal
+
+pub returns-then-h-b : goal.returns-then-h-b
+returns-then-h-b c = begins_no_block _ _ _ _ _ _ c.open-opened.ensures _ c.in-Header.is c.if-h-b.true
+
+pub set_size-requires : goal.set_size-requires
+set_size-requires c = few_lines _ 0 0 0 0 _ c.open-opened.ensures _ c.in-Header.is
+
+pub returns-then-count-set_size : goal.returns-then-count-set_size
+returns-then-count-set_size c =
+    begins_wrong _ _ _ _ _ _ c.open-opened.ensures _ c.in-Header.is _ c.set_size.ensures c.if-h-b.false c.if-count-set_size.true
+
+pub returns-in-Refused : goal.returns-in-Refused
+returns-in-Refused c = begins_refused _ _ _ _ _ _ c.open-opened.ensures _ c.in-Refused.is
+
+pub returns-else-count-set_size : goal.returns-else-count-set_size
+returns-else-count-set_size c =
+    begins_on _ _ _ _ _ _ c.open-opened.ensures _ c.in-Header.is _ _ c.set_size.ensures c.if-h-b.false
+    c.if-count-set_size.false c.with_scratch.ensures

@@ -1,0 +1,17 @@
+-- `saved_state::blocks::load_records` meets its contract: the records before j are loaded. Assumes nothing.
+use borrow.Author.Rules.{rules}
+use mathlib.Core.Path.{◌≡◌, refl}
+use Prim.Native.Nat.{◌-◌, ◌≤◌}
+use native.Mathlib.Omega.{arith}
+use lib.ListN.{length, take}
+use Rattle.saved_state.specs.Checkpoints.{loaded_record}
+use Rattle.read_block.specs.Records.{table, start_record}
+use Rattle.read_block.proofs.TableLaws.{fill_more, fill_done}
+use Rattle.saved_state.proofs.blocks.load_records.Given as goal
+
+abbrev pub invariant-loop-j : goal.invariant-loop-j
+invariant-loop-j l =
+    (l.j ≤ 336) × (length l.rs ≡ 336) × (take l.j l.rs ≡ table (λ i. loaded_record l.lossless (start_record l.bits l.base i) l.s i) l.j)
+
+abbrev pub decreases-loop-j : goal.decreases-loop-j
+decreases-loop-j l = 336 - l.j

@@ -1,0 +1,9 @@
+-- `saved_state::blocks::refuse` meets its contract. Assumes nothing.
+use borrow.Author.Rules.{rules}
+use Rattle.saved_state.proofs.blocks.refuse.Goals as goal
+
+pub returns : goal.returns
+returns c = record {
+  value = c.refused.ensures;
+  lines_after = (c.clear.ensures, c.clear_records.ensures);
+}

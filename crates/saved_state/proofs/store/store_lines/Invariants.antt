@@ -1,0 +1,16 @@
+-- `saved_state::store::store_lines` meets its contract: the bytes before i are stored. Assumes nothing.
+use mathlib.Core.Path.{◌≡◌, refl}
+use Prim.Native.Nat.{◌-◌, ◌*◌, ◌≤◌}
+use native.Mathlib.Omega.{arith}
+use lib.ListN.{length, length-set}
+use Rattle.saved_state.specs.Heads.{put_each}
+use Rattle.saved_state.specs.Checkpoints.{lines_byte}
+use Rattle.saved_state.proofs.PutLaws.{put_more, put_done}
+use Rattle.saved_state.proofs.store.store_lines.Given as goal
+
+abbrev pub invariant-loop-i : goal.invariant-loop-i
+invariant-loop-i l =
+    (l.i ≤ l.end) × (length l.out ≡ length l.initial.out) × (l.end ≡ 12 * l.w) × (l.out ≡ put_each (lines_byte l.w l.lines) 1707 l.i l.initial.out)
+
+abbrev pub decreases-loop-i : goal.decreases-loop-i
+decreases-loop-i l = l.end - l.i

@@ -1,0 +1,22 @@
+-- `stream_front::first_long` meets its contract. The invariant: the search from b on gives what the search from 0 on gives. Assumes nothing.
+use borrow.Author.Rules.{rules}
+use mathlib.Core.Bool.{true, false}
+use mathlib.Core.List.{List}
+use mathlib.Core.Path.{◌≡◌, sym, ◌∙◌}
+use Prim.Native.Nat.{ℕ, ◌+◌, ◌-◌, ◌^◌, ◌≤◌, ◌<◌}
+use native.Mathlib.Omega.{arith}
+use lib.ListN.{length, get_or}
+use borrow.Author.Tests.{lt-ltb, le-ltb}
+use Rattle.numbers.specs.Numbers.{least_from}
+use Rattle.numbers.proofs.LeastLaws.{least_last, least_here, least_next}
+use Rattle.stream_front.specs.Fronts.{is_long, first_long}
+use Rattle.stream_front.proofs.first_long.Given as goal
+
+abbrev pub longFrom : List ℕ → ℕ → ℕ
+longFrom lengths b = least_from (length lengths - b) (λ i. is_long lengths i) b
+
+abbrev pub invariant-loop-b : goal.invariant-loop-b
+invariant-loop-b l = (l.b ≤ length l.lengths) × (first_long l.lengths ≡ longFrom l.lengths l.b)
+
+abbrev pub decreases-loop-b : goal.decreases-loop-b
+decreases-loop-b l = length l.lengths - l.b

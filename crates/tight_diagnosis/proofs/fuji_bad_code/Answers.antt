@@ -1,0 +1,10 @@
+-- `tight_diagnosis::fuji_bad_code` meets its contract. Assumes nothing.
+use borrow.Author.Rules.{rules}
+use mathlib.Core.Path.{ap, ◌∙◌}
+use Rattle.read_block.specs.Words.{answer_words}
+use Rattle.tight_diagnosis.specs.Faults.{fault_words}
+use Rattle.tight_diagnosis.proofs.fuji_bad_code.Goals as goal
+
+pub returns : goal.returns
+returns c =
+    (c.fault_words-w.ensures ∙ ap fault_words c.fault_of-f.ensures, c.answer_words-r.ensures ∙ ap answer_words c.answer_of-a.ensures)

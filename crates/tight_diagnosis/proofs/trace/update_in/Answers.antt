@@ -1,0 +1,12 @@
+-- `tight_diagnosis::trace::update_in` meets its contract. Assumes nothing.
+use borrow.Author.Rules.{rules}
+use mathlib.Core.Path.{◌∙◌}
+use Rattle.pass_steps.proofs.ZipLaws.{zip_set, stored_in_range}
+use Rattle.tight_diagnosis.proofs.trace.update_in.Goals as goal
+
+pub returns : goal.returns
+returns c =
+    record {
+      ns_after = zip_set c.args.sums.now c.args.ns.now c.args.slot c.update-new.result ∙ rw (c.update-new.ensures.0, c.residual_size.ensures.0);
+      set_in_range_2 = stored_in_range c.args.sums.now c.args.ns.now c.requires.set_in_range c.args.slot c.update-new.result c.update-new.ensures.1;
+    }
