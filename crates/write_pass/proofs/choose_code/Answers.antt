@@ -1,5 +1,4 @@
 -- `write_pass::choose_code` meets its contract. Assumes nothing.
-use borrow.Author.Rules.{rules}
 use native.Mathlib.Omega.{arith}
 use Rattle.write_pass.proofs.ChosenLaws.{chosen_exact, chosen_near, chosen_small, near_lt}
 use Rattle.write_pass.proofs.choose_code.Goals as goal

@@ -1,5 +1,4 @@
 -- `write_pass::code_of_steps` meets its contract. Assumes nothing.
-use borrow.Author.Rules.{rules}
 use borrow.Author.Tests.{le-leb, lt-leb}
 use native.Mathlib.Omega.{arith}
 use Rattle.code.specs.Inside.{residual_up}

@@ -1,5 +1,4 @@
 -- `write_pass::coded_as` meets its contract: a lossless line, and any other. Assumes nothing.
-use borrow.Author.Rules.{rules}
 use Rattle.write_pass.proofs.ChosenLaws.{coded_exact, asks_known, coded_known}
 use Rattle.write_pass.proofs.coded_as.Goals as goal
 

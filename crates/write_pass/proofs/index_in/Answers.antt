@@ -1,5 +1,4 @@
 -- `write_pass::index_in` meets its contract: there are twelve ranks, and so it lies in its line. Assumes nothing.
-use borrow.Author.Rules.{rules}
 use mathlib.Core.Path.{◌≡◌}
 use Prim.Native.Nat.{ℕ, ◌+◌, ◌*◌, ◌^◌, ◌≤◌, ◌<◌}
 use native.Mathlib.Nat.{mul-le-mul, add_assoc}

@@ -1,5 +1,4 @@
 -- `write_pass::lossy_as` meets its contract. Assumes nothing.
-use borrow.Author.Rules.{rules}
 use Rattle.write_pass.proofs.ChosenLaws.{look_total, coded_is}
 use Rattle.write_pass.proofs.lossy_as.Goals as goal
 

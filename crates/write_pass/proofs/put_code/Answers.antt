@@ -1,5 +1,4 @@
 -- `write_pass::put_code` meets its contract: a tight code is the digits of one number. Assumes nothing.
-use borrow.Author.Rules.{rules}
 use Rattle.write_pass.proofs.CodePuts.{digits_room, code_after_lem, code_stored, code_counted}
 use Rattle.write_pass.proofs.put_code.Goals as goal
 

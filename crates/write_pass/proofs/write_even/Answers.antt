@@ -1,7 +1,6 @@
 -- `write_pass::write_even` meets its contract: two samples, each interpolated or by the answers of the leaves. Assumes nothing.
 use mathlib.Core.Bool.{Bool, true, not}
 use mathlib.Core.List.{[], ◌∷◌}
-use mathlib.Core.Logic.{⊎_elim}
 use mathlib.Core.Path.{◌≡◌, refl, sym, ◌∙◌}
 use Prim.Native.Nat.{◌+◌, ◌^◌, ◌<◌}
 use native.Mathlib.Omega.{arith}
@@ -13,7 +12,7 @@ use Rattle.write_pass.proofs.StepPuts.{sample_at_lem, same_room, same_wanted, sa
 use Rattle.write_pass.proofs.SitePuts.{Ready, Done, met, ks_met, first_ready, second_ready, two_puts, Site, site_code, site_value}
 use Rattle.write_pass.proofs.SitePuts.{site_right, site_wrong, site_record, site_update, site_k, site_room, site_done}
 use Rattle.write_pass.proofs.write_even.Goals as goal
-use Rattle.write_pass.proofs.write_even.Goals.{After-coded_as-c, After-coded_as-c-then-has_code-2, After-context_at-x, After-context_at-x-2, After-index_in-j-2, Else-p-w, Joined-has_code, Then-has_code, Then-has_code-2}
+use Rattle.write_pass.proofs.write_even.Goals.{then-has_code, else-has_code+else-is_wrong, After-coded_as-c, After-coded_as-c-then-has_code-2, After-context_at-x, After-context_at-x-2, After-index_in-j-2, Else-p-w, Joined-has_code, Then-has_code, Then-has_code-2}
 
 abbrev first_coded : (c : Else-p-w) → Bool
 first_coded c = not (interpolated c.args.spot.plan.first_rule c.args.spot.p)
@@ -71,16 +70,27 @@ done : (c : Joined-has_code) →
     c.if-has_code.lines c.if-has_code.sums c.if-has_code.ns c.if-has_code.out c.if-has_code.at
 done c =
     let is = sym c.has_code.ensures in
-    ⊎_elim
-    (λ w. met w.18 w.19 w.20 w.21 w.23
-    (site_done (site (goal.at.Joined-has_code c).After-context_at-x) c.u16_to_u32-v.ensures.0 (is ∙ w.0.taken) w.1.ensures w.5.ensures
-    (site_k (site (goal.at.Joined-has_code c).After-context_at-x) c.u16_to_u32-v.ensures.0 (is ∙ w.0.taken) w.1.ensures w.5.ensures c.requires.are_ks w.8.ensures) w.11.ensures w.11.kept.0 w.17.ensures))
-    (λ w. met w.4 w.5 w.6 w.7 w.9 (site_right (site (goal.at.Joined-has_code c).After-context_at-x) c.u16_to_u32-v.ensures.0 w.1.ensures (is ∙ w.0.left) w.2.left))
-    c.if-has_code.branch
+    let v = c.u16_to_u32-v.ensures.0 in
+    elim c.if-has_code.branch [
+      | then-has_code w ↦
+          let s = site (goal.at.Joined-has_code c).After-context_at-x in
+          let put = w.put_code-at.ensures in
+          let new = w.update_with_k.ensures in
+          met w.out-is w.lines-is w.sums-is w.ns-is w.at-is
+          (site_done s v (is ∙ w.if-has_code.true) w.coded_as-c.ensures w.record_at-old.ensures
+          (site_k s v (is ∙ w.if-has_code.true) w.coded_as-c.ensures w.record_at-old.ensures c.requires.are_ks w.k_at.ensures)
+          (put.result_value, put.out_after) w.put_code-at.auto.out (new.ns_after, (new.set_in_range_2, new.are_ks_2)))
+      | else-has_code+else-is_wrong w ↦
+          met w.out-is w.lines-is w.sums-is w.ns-is w.at-is
+          (site_right (site (goal.at.Joined-has_code c).After-context_at-x) v w.is_wrong.ensures (is ∙ w.if-has_code.false) w.if-is_wrong.false)
+    ]
 
 done_ks : (c : Joined-has_code) → AreKs (zip_records c.if-has_code.sums c.if-has_code.ns) c.if-has_code.ks
 done_ks c =
-    ⊎_elim (λ w. ks_met w.20 w.21 w.22 w.17.ensures.1.1) (λ w. ks_met w.6 w.7 w.8 c.requires.are_ks) c.if-has_code.branch
+    elim c.if-has_code.branch [
+      | then-has_code w ↦ ks_met w.sums-is w.ns-is w.ks-is w.update_with_k.ensures.are_ks_2
+      | else-has_code+else-is_wrong w ↦ ks_met w.sums-is w.ns-is w.ks-is c.requires.are_ks
+    ]
 
 site_2 : (c : After-context_at-x-2) →
     Site c.args.spot.bits c.args.base c.args.totals.now c.args.raws.now c.args.limits.now c.args.spot.w c.args.strict c.args.samples.now c.args.n

@@ -1,22 +1,15 @@
 -- `write_pass::write_pass` meets its contract: after each turn the steps of the turns so far have put their bits. Assumes nothing.
-use mathlib.Core.Bool.{Bool}
-use mathlib.Core.List.{List, ◌++◌}
+use mathlib.Core.List.{◌++◌}
 use mathlib.Core.Path.{◌≡◌, refl, ◌∙◌}
-use Prim.Native.Nat.{ℕ, ◌+◌, ◌-◌, ◌/◌, ◌%◌, ◌≤◌}
 use native.Mathlib.Omega.{arith}
 use lib.ListN.{length}
-use Rattle.bits.specs.declared.BitPosition.{BitPosition}
-use Rattle.pass_schedule.specs.Steps.{even_part, odd_part, turn_steps, upto}
-use Rattle.pass_steps.specs.Values.{zip_records, SetInRange, AreKs}
-use Rattle.pass_schedule.specs.declared.Plan.{Plan}
+use Rattle.pass_schedule.specs.Steps.{even_part, odd_part, upto}
 use Rattle.pass_steps.proofs.TableLaws.{are_quantisers}
 use Rattle.quantiser.specs.Quantisers.{largest}
-use Rattle.write_pass.specs.Puts.{LineNumbers, StepsPut, StepsRoom}
-use Rattle.bit_output.specs.declared.Put.TheVariants.{At}
+use Rattle.write_pass.specs.Puts.{StepsPut, StepsRoom}
 use Rattle.write_pass.proofs.StepPuts.{no_puts, ends, room_after, goes_on, within_after, position_after, same_steps, answered}
 use Rattle.write_pass.proofs.TurnPuts.{before, turn_more, all_turns, before_le, before_evens_le, wanted_even}
 use Rattle.write_pass.proofs.TurnPuts.{wanted_odd, room_turn, room_evens, turn_wrong, pass_right, pass_wrong}
-use Rattle.write_pass.proofs.write_pass.Invariants.{Turns}
 use Rattle.write_pass.proofs.write_pass.Goals as goal
 use Rattle.write_pass.proofs.write_pass.Goals.{After-write_even-evens, After-write_odd-odds, In-loop-p}
 

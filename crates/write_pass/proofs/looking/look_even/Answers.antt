@@ -1,5 +1,4 @@
 -- `write_pass::looking::look_even` meets its contract: both samples at an even position, or none. Assumes nothing.
-use borrow.Author.Rules.{rules}
 use Rattle.write_pass.proofs.LookLaws.{even_steps_lem, no_even_right, right_other}
 use Rattle.write_pass.proofs.StepPuts.{same_wanted}
 use Rattle.write_pass.proofs.looking.look_even.Goals as goal

@@ -1,5 +1,4 @@
 -- `write_pass::looking::look_odd` meets its contract: both samples at an odd position, or none. Assumes nothing.
-use borrow.Author.Rules.{rules}
 use native.Mathlib.Omega.{arith}
 use Rattle.write_pass.proofs.LookLaws.{odd_steps_lem, no_odd_right, right_other}
 use Rattle.write_pass.proofs.StepPuts.{same_wanted}

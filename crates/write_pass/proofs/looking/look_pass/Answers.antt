@@ -1,19 +1,14 @@
 -- `write_pass::looking::look_pass` meets its contract: before each turn the steps of the turns so far were right. Assumes nothing.
 use borrow.Author.Tests.{not-false}
 use mathlib.Core.Bool.{false≢true}
-use mathlib.Core.List.{List}
-use mathlib.Core.Path.{◌≡◌, refl, ◌∙◌}
-use Prim.Native.Nat.{ℕ, ◌+◌, ◌-◌, ◌/◌, ◌%◌, ◌≤◌}
+use mathlib.Core.Path.{refl, ◌∙◌}
 use native.Mathlib.Omega.{arith}
-use lib.ListN.{length}
 use Rattle.quantiser.specs.Quantisers.{largest}
-use Rattle.pass_schedule.specs.Steps.{even_part, turn_steps, upto}
-use Rattle.pass_schedule.specs.declared.Plan.{Plan}
+use Rattle.pass_schedule.specs.Steps.{even_part, upto}
 use Rattle.write_pass.specs.Looks.{Right}
 use Rattle.write_pass.specs.Puts.{Within}
 use Rattle.write_pass.proofs.LookLaws.{right_both, right_none, right_within, right_other}
 use Rattle.write_pass.proofs.TurnPuts.{turn_more, all_turns, wanted_even, wanted_odd}
-use Rattle.write_pass.proofs.looking.look_pass.Invariants.{Turns}
 use Rattle.write_pass.proofs.looking.look_pass.Goals as goal
 use Rattle.write_pass.proofs.looking.look_pass.Goals.{At-loop-p, Else-not-look_even}
 

@@ -1,5 +1,4 @@
 -- `write_pass::looking::look_two` meets its contract: one sample after the other. Assumes nothing.
-use borrow.Author.Rules.{rules}
 use borrow.Author.Tests.{not-false}
 use mathlib.Core.Bool.{false≢true}
 use native.Mathlib.Omega.{arith}
