@@ -36,31 +36,31 @@ module _ (W bits lines bytes : ℕ) (s : List ℕ) where
 
 pub returns-then-s-b : goal.returns-then-s-b
 returns-then-s-b c = record {
-  value = (by_length _ _ _ _ _ c.if-s-b.true).0;
-  s_len = (by_length _ _ _ _ _ c.if-s-b.true).1;
+  value = (by_length c.args.b.w c.args.b.bits c.args.b.lines c.args.b.bytes c.args.s.now c.if-s-b.true).0;
+  s_len = (by_length c.args.b.w c.args.b.bits c.args.b.lines c.args.b.bytes c.args.s.now c.if-s-b.true).1;
 }
 
 pub returns-then-is_bad_place : goal.returns-then-is_bad_place
 returns-then-is_bad_place c = record {
-  value = (by_place _ _ _ _ _ c.if-s-b.false _ c.is_bad_place.ensures c.if-is_bad_place.true).0;
-  s_len = (by_place _ _ _ _ _ c.if-s-b.false _ c.is_bad_place.ensures c.if-is_bad_place.true).1;
+  value = (by_place c.args.b.w c.args.b.bits c.args.b.lines c.args.b.bytes c.args.s.now c.if-s-b.false _ c.is_bad_place.ensures c.if-is_bad_place.true).0;
+  s_len = (by_place c.args.b.w c.args.b.bits c.args.b.lines c.args.b.bytes c.args.s.now c.if-s-b.false _ c.is_bad_place.ensures c.if-is_bad_place.true).1;
 }
 
 pub returns-then-has_bad_record : goal.returns-then-has_bad_record
 returns-then-has_bad_record c =
     record {
-      value = (by-record _ _ _ _ _ c.if-s-b.false _ _ c.is_bad_place.ensures c.if-is_bad_place.false c.has_bad_record.ensures
+      value = (by-record c.args.b.w c.args.b.bits c.args.b.lines c.args.b.bytes c.args.s.now c.if-s-b.false _ _ c.is_bad_place.ensures c.if-is_bad_place.false c.has_bad_record.ensures
           c.if-has_bad_record.true).0;
-      s_len = (by-record _ _ _ _ _ c.if-s-b.false _ _ c.is_bad_place.ensures c.if-is_bad_place.false c.has_bad_record.ensures
+      s_len = (by-record c.args.b.w c.args.b.bits c.args.b.lines c.args.b.bytes c.args.s.now c.if-s-b.false _ _ c.is_bad_place.ensures c.if-is_bad_place.false c.has_bad_record.ensures
           c.if-has_bad_record.true).1;
     }
 
 pub returns : goal.returns
 returns c =
     record {
-      value = (by-sample _ _ _ _ _ c.if-s-b.false _ _ _ c.is_bad_place.ensures c.if-is_bad_place.false c.has_bad_record.ensures
+      value = (by-sample c.args.b.w c.args.b.bits c.args.b.lines c.args.b.bytes c.args.s.now c.if-s-b.false _ _ _ c.is_bad_place.ensures c.if-is_bad_place.false c.has_bad_record.ensures
           c.if-has_bad_record.false c.has_bad_sample.ensures).0;
-      s_len = (by-sample _ _ _ _ _ c.if-s-b.false _ _ _ c.is_bad_place.ensures c.if-is_bad_place.false c.has_bad_record.ensures
+      s_len = (by-sample c.args.b.w c.args.b.bits c.args.b.lines c.args.b.bytes c.args.s.now c.if-s-b.false _ _ _ c.is_bad_place.ensures c.if-is_bad_place.false c.has_bad_record.ensures
           c.if-has_bad_record.false c.has_bad_sample.ensures).1;
     }
 
