@@ -106,9 +106,9 @@ Stops (Bad x) = Unit {0}
 Stops (At at) = ⊥
 Stops CutOff = Unit {0}
 
-pub no_place : (r : Traced) → (tag_of (declared enum) r ≡ 0) ⊎ (tag_of (declared enum) r ≡ 2) → Stops r
+pub no_place : (r : Traced) → ((at : BitPosition) → r ≡ At at → ⊥) → Stops r
 no_place (Bad x) h = tt
-no_place (At at) h = ⊎_elim (λ e. absurd (omega (arith, e))) (λ e. absurd (omega (arith, e))) h
+no_place (At at) h = absurd (h at refl)
 no_place CutOff h = tt
 
 module _ {A C : Type 0} (f : A → Way C) {here : BitPosition → A} {o : Way A} {o' : Way C} {r : Traced} (e : o' ≡ then_way o f) (h : Says here o r) where

@@ -120,7 +120,7 @@ trace_pass-got-requires c =
 
 pub returns-in_default : goal.returns-in_default
 returns-in_default c =
-    let stops = no_place c.trace_pass-got.result c.in_default.in_default-own.keys2 in
+    let stops = no_place c.trace_pass-got.result c.in_default.not-At in
     record {
       says = then_stops _ (line_end c.args.form c.args.block.now c.args.n _ 6 refl)
           (turn_stops _ _ (passes_next c.args.form c.args.block.now c.args.n _) (test (goal.at.returns-in_default c).After-trace_pass-got) c.loop-i.invariant.4 (said (goal.at.returns-in_default c).After-trace_pass-got) c.trace_pass-got.result refl stops) c.trace_pass-got.result refl stops;

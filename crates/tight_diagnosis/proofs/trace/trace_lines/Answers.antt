@@ -60,7 +60,7 @@ trace_line-got-requires c =
 
 pub returns-in_default : goal.returns-in_default
 returns-in_default c =
-    ends_says _ _ _ (turn_stops _ _ (lines_next c.args.form c.args.block.now) (test (goal.at.returns-in_default c).After-trace_line-got) c.loop-n.invariant.5 (said (goal.at.returns-in_default c).After-trace_line-got) c.trace_line-got.result refl (no_place c.trace_line-got.result c.in_default.in_default-own.keys2))
+    ends_says _ _ _ (turn_stops _ _ (lines_next c.args.form c.args.block.now) (test (goal.at.returns-in_default c).After-trace_line-got) c.loop-n.invariant.5 (said (goal.at.returns-in_default c).After-trace_line-got) c.trace_line-got.result refl (no_place c.trace_line-got.result c.in_default.not-At))
 
 pub loop-n-preserved : goal.loop-n-preserved
 loop-n-preserved c = (

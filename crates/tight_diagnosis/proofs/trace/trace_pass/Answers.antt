@@ -58,7 +58,7 @@ returns-in_default c =
     record {
       says = says_is (pass_is c.args.stage c.args.block.now c.args.plan _ refl _)
           (turn_stops _ _ (steps_next c.args.stage c.args.block.now (quarter c.args.stage.w c.args.plan) _) (test (goal.at.returns-in_default c).After-trace_step-got) c.loop-u.invariant.4 (said (goal.at.returns-in_default c).After-trace_step-got) c.trace_step-got.result refl (no_place c.trace_step-got.result
-          c.in_default.in_default-own.keys2));
+          c.in_default.not-At));
       records = c.trace_step-got.ensures.records;
     }
 

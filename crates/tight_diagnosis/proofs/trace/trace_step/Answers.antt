@@ -14,25 +14,25 @@ use Rattle.tight_diagnosis.proofs.SampleLaws.{was_good, was_loose, read_small, s
 use Rattle.tight_diagnosis.proofs.SampleLaws.{reader_small, total_small, step_cut, step_bad, step_good}
 use Rattle.tight_diagnosis.proofs.WayLaws.{says_is, due_one, due_none}
 use Rattle.tight_diagnosis.proofs.trace.trace_step.Goals as goal
-use Rattle.tight_diagnosis.proofs.trace.trace_step.Goals.{After-context_at-here, After-largest-m, After-record_in-old, Else-not-due}
+use Rattle.tight_diagnosis.proofs.trace.trace_step.Goals.{After-context_at-here, After-record_in-old, Else-not-due}
 
 -- it is due
 inside : (c : Else-not-due) → Inside c.args.stage c.args.x
-inside c = c.requires.1 (not-false _ c.if-not-due.false-raw)
+inside c = c.requires.1 c.if-not-due.false
 
 -- what is said of its step is said of it
 as_step : (c : After-context_at-here) → let r = clean c.args.lines.now c.args.sums.now c.args.ns.now c.args.from in
     steps_way c.args.stage c.args.block.now (if_due c.args.due c.args.x) r ≡ step_way c.args.stage c.args.block.now (step_of c.args.x) r
-as_step c = due_one c.args.stage c.args.block.now c.args.due c.args.x _ (not-false _ c.if-not-due.false)
+as_step c = due_one c.args.stage c.args.block.now c.args.due c.args.x _ c.if-not-due.false
 
 -- it goes inside of the lines
 room : (c : After-context_at-here) → (c.left_of-i.result + 1 < length c.args.lines.now) × (c.left_of-i.result + 1 < 2 ^ 14)
 room c =
     (omega (arith, c.left_of-i.ensures.1.1, c.requires.0.room), omega (arith, c.left_of-i.ensures.1.1, c.requires.0.width))
 
--- CONVERT: stored : (c : tie.After-context-at) (v : ℕ)
---     → length (set (entry c).args.lines.now (c.before.before.left-of.result + 1) v) ≡ length (entry c).args.lines.now
--- stored c v = length-set (entry c).args.lines.now (c.before.before.left-of.result + 1) v
+stored : (c : After-context_at-here) → (v : ℕ)
+    → length (set c.args.lines.now (c.left_of-i.result + 1) v) ≡ length c.args.lines.now
+stored c v = length-set c.args.lines.now (c.left_of-i.result + 1) v
 
 -- the context is that of its line and position
 found : (c : After-context_at-here) → c.context_at-here.result ≡ context_in c.args.stage.w c.args.lines.now c.args.x.line c.args.x.position
@@ -55,10 +55,10 @@ here c =
     }
 
 coded : (c : After-record_in-old) → c.args.x.coded ≡ true
-coded c = not-false _ c.if-not-coded.false
+coded c = c.if-not-coded.false
 
--- CONVERT: small : (o : tie.After-record-in) {v : ℕ} → v ≤ (seen o).before.before.before.largest.result → v < 2 ^ 16
--- small o h = omega (arith, (seen o).before.before.before.largest.ensures.1)
+small : (c : After-record_in-old) → {v : ℕ} → v ≤ c.largest-m.result → v < 2 ^ 16
+small c h = omega (arith, c.largest-m.ensures.1)
 
 pub context_at-here-requires : goal.context_at-here-requires
 context_at-here-requires c =
@@ -217,7 +217,7 @@ pub shape_of-ns-in-Bad : goal.shape_of-ns-in-Bad
 shape_of-ns-in-Bad c = refl
 
 pub shape_of-lines-in-Good : goal.shape_of-lines-in-Good
-shape_of-lines-in-Good c = stored (goal.at.shape_of-lines-in-Good c).After-largest-m _
+shape_of-lines-in-Good c = stored (goal.at.shape_of-lines-in-Good c).After-context_at-here _
 
 pub shape_of-sums-in-Good : goal.shape_of-sums-in-Good
 shape_of-sums-in-Good c = c.update_in.auto.sums
