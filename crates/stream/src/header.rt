@@ -22,7 +22,7 @@ pub enum Refusal {
     OutsideImage,
     // 8: the header is lossy, where only a lossless one is taken.
     Lossy,
-    // 9: the set of colour lines has not exactly typeof.lines·12.W samples.
+    // 9: the set of colour lines has not exactly lines·12·W samples.
     WrongCount,
     // 10: scratch is too short.
     ShortScratch,
