@@ -1,4 +1,4 @@
--- `admission::largest::first_above_lem` meets its contract: no sample before i is above m and not ignored. Assumes nothing.
+-- `admission::largest::first_above` meets its contract: no sample before i is above m and not ignored. Assumes nothing.
 use borrow.Author.Rules.{rules}
 use borrow.Author.Tests.{not-true, not-false}
 use mathlib.Core.Path.{◌≡◌, sym, ◌∙◌}
