@@ -1,5 +1,6 @@
 // Document 01, Bit reader: the pump over a block's bytes, which the original calls `BitPumpMsb`.
 #![tactic(auto)]
+
 ghost use Rattle.std.specs.Prelude.{◌≡◌, ◌+◌, ◌/◌, ◌^◌, ◌<◌, min, length};
 ghost use Rattle.bits.specs.Bits.{zero_run};
 ghost use Rattle.bits.specs.Inside.{after_run};

@@ -1,5 +1,5 @@
 -- Rules. The bits of a tight code, whether a code that was read is tight, and what a pass takes of it.
-use Rattle.std.specs.Prelude.{ℕ, ◌+◌, ◌-◌, ◌/◌, ◌%◌, ◌^◌, Bool, true, false, cond, ◌&&◌, List, ◌∷◌, ◌++◌, replicate, nat_le, nat_lt}
+use Rattle.std.specs.Prelude.{ℕ, ◌-◌, ◌/◌, ◌%◌, ◌^◌, Bool, true, false, cond, ◌&&◌, List, ◌∷◌, ◌++◌, replicate, nat_le, nat_lt}
 use Rattle.bits.specs.BitLists.{binary}
 use Rattle.code.specs.declared.Code.{Code}
 

@@ -1,6 +1,5 @@
 -- `bit_output::merged` meets its contract: the shifts lose nothing but what stands before the n bits, and the sum has 32 bits. Assumes nothing.
-use borrow.Author.Rules.{rules}
-use mathlib.Core.Path.{◌≡◌, refl, ◌∙◌}
+use mathlib.Core.Path.{◌≡◌, ◌∙◌}
 use Prim.Native.Nat.{ℕ, ◌+◌, ◌-◌, ◌*◌, ◌/◌, ◌%◌, ◌^◌, ◌≤◌, ◌<◌}
 use native.Mathlib.Nat.{add-zero, add_assoc, one-mul, mul_assoc, mul-mod_left, mod-lt, mod-le, lt_of_lt_of_le}
 use native.Mathlib.Omega.{arith}

@@ -1,13 +1,11 @@
 -- `bit_output::put_by_bytes` meets its contract: after each turn the first digits stand in the output. Assumes nothing.
-use borrow.Author.Rules.{rules}
 use mathlib.Core.Path.{◌≡◌, refl, ◌∙◌}
 use Prim.Native.Nat.{ℕ, ◌+◌, ◌-◌, ◌%◌, ◌^◌, ◌≤◌, ◌<◌, min}
 use native.Mathlib.Nat.{min-le_left, min-le_right, min-eq_left, le-min}
 use native.Mathlib.Omega.{arith}
 use lib.ListN.{length, length-set}
 use Rattle.bits.specs.Positions.{ahead}
-use Rattle.bit_output.specs.Output.{put_bits}
-use Rattle.bit_output.proofs.PutLaws.{first_digits, put_turn, no_digits, all_digits}
+use Rattle.bit_output.proofs.PutLaws.{put_turn, no_digits, all_digits}
 use Rattle.bit_output.proofs.put_by_bytes.Goals as goal
 use Rattle.bit_output.proofs.put_by_bytes.Goals.{After-byte-from, After-smaller-t}
 

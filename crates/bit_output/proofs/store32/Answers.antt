@@ -1,5 +1,4 @@
 -- `bit_output::store32` meets its contract: four stores in a row. Assumes nothing.
-use borrow.Author.Rules.{rules}
 use native.Mathlib.Omega.{arith}
 use lib.ListN.{length-set}
 use Rattle.bit_output.proofs.WordLaws.{word_stored}

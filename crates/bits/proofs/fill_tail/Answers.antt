@@ -4,7 +4,7 @@ use mathlib.Core.List.{List}
 use mathlib.Core.Path.{◌≡◌, refl, ap, ◌∙◌}
 use Prim.Native.Nat.{ℕ, zero, suc, ◌+◌, ◌-◌, ◌≤◌, ◌<◌}
 use native.Mathlib.Omega.{arith}
-use lib.ListN.{length, get_or, set, replicate, length-replicate}
+use lib.ListN.{length, get_or, set, length-replicate}
 use lib.Seq.{paste, paste-zero, paste-suc}
 use Rattle.bits.specs.Inside.{bytes_for, filled}
 use Rattle.bits.specs.BitLists.{block_bytes}

@@ -1,13 +1,9 @@
 -- `bits::fill_tail` meets its contract: the bytes up to i are 0. Assumes nothing.
-use borrow.Author.Rules.{rules}
 use mathlib.Core.List.{List}
-use mathlib.Core.Path.{◌≡◌, refl, ap, ◌∙◌}
-use Prim.Native.Nat.{ℕ, zero, suc, ◌+◌, ◌-◌, ◌≤◌, ◌<◌}
-use native.Mathlib.Omega.{arith}
-use lib.ListN.{length, get_or, set, replicate, length-replicate}
-use lib.Seq.{paste, paste-zero, paste-suc}
-use Rattle.bits.specs.Inside.{bytes_for, filled}
-use Rattle.bits.specs.BitLists.{block_bytes}
+use mathlib.Core.Path.{◌≡◌}
+use Prim.Native.Nat.{ℕ, ◌-◌, ◌≤◌}
+use lib.ListN.{length, replicate}
+use lib.Seq.{paste}
 use Rattle.bits.proofs.fill_tail.Given as goal
 
 abbrev pub zeros : ℕ → List ℕ

@@ -1,5 +1,4 @@
 -- `bits::word_at` meets its contract, by `shifted_window`. Assumes nothing.
-use borrow.Author.Rules.{rules}
 use borrow.Author.Tests.{le-leb, lt-leb}
 use mathlib.Core.Path.{◌≡◌}
 use mathlib.Core.List.{List}

@@ -5,7 +5,6 @@ use Prim.Native.Nat.{ℕ, ◌+◌, ◌-◌, ◌*◌, ◌/◌, ◌%◌, ◌^◌, 
 use native.Mathlib.Nat.{le_refl, sub_self}
 use native.Mathlib.Omega.{arith}
 use lib.Count.{leading_le}
-use lib.ListN.{length}
 use mir.Facts.{Fits-below}
 use Rattle.bits.specs.Bits.{bits_at}
 use Rattle.bits.proofs.BitLaws.{shifted_window}

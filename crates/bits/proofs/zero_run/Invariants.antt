@@ -1,15 +1,8 @@
 -- `bits::zero_run` meets its contract. The invariant: no one bit from `at` up to `here`; the measure: the bytes from `from` on. Assumes nothing.
 use mathlib.Core.Path.{◌≡◌}
-use mathlib.Core.List.{List}
-use Prim.Native.Nat.{ℕ, ◌+◌, ◌-◌, ◌*◌, ◌/◌, ◌%◌, ◌^◌, ◌≤◌}
-use native.Mathlib.Nat.{le_refl, sub_self}
-use native.Mathlib.Omega.{arith}
-use lib.Count.{leading_le}
+use Prim.Native.Nat.{◌-◌, ◌/◌, ◌≤◌}
 use lib.ListN.{length}
-use mir.Facts.{Fits-below}
 use Rattle.bits.specs.Bits.{bits_at}
-use Rattle.bits.proofs.BitLaws.{shifted_window}
-use Rattle.bits.proofs.RunLaws.{zero_join, window_one, window_none, run_one, run_none}
 use Rattle.bits.proofs.zero_run.Given as goal
 
 abbrev pub invariant-loop-from : goal.invariant-loop-from

@@ -1,6 +1,5 @@
 -- `code_reader::next_code` meets its contract, by the run of zeros. Its one bit stands inside the block, so that no position is near the last one.
 -- Assumes nothing.
-use borrow.Author.Rules.{rules}
 use borrow.Author.Tests.{leb-true, leb-false}
 use mathlib.Core.Bool.{Bool, true, false, ◌&&◌}
 use mathlib.Core.Path.{◌≡◌, sym, ap, ◌∙◌}

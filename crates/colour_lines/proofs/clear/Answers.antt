@@ -3,7 +3,7 @@ use borrow.Author.Fill.{fill_none, fill_more}
 use borrow.Author.Rules.{rules}
 use mathlib.Core.List.{List, ◌++◌, append-nil}
 use mathlib.Core.Path.{◌≡◌, ◌∙◌}
-use Prim.Native.Nat.{ℕ, ◌-◌, ◌≤◌}
+use Prim.Native.Nat.{ℕ}
 use native.Mathlib.Omega.{arith}
 use lib.ListN.{length, drop, replicate, drop_of_length-le}
 use Rattle.colour_lines.proofs.clear.Goals as goal

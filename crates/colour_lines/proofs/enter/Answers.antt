@@ -1,5 +1,4 @@
 -- `colour_lines::enter` meets its contract, one call after the other. Assumes nothing.
-use borrow.Author.Rules.{rules}
 use mathlib.Core.Bool.{Bool}
 use mathlib.Core.List.{List}
 use mathlib.Core.Path.{◌≡◌}

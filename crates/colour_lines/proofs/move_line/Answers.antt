@@ -2,9 +2,9 @@
 use borrow.Author.Rules.{rules}
 use mathlib.Core.List.{List}
 use mathlib.Core.Path.{◌≡◌, refl, ◌∙◌}
-use Prim.Native.Nat.{ℕ, ◌+◌, ◌-◌, ◌*◌, ◌≤◌}
+use Prim.Native.Nat.{ℕ, ◌+◌, ◌*◌}
 use native.Mathlib.Omega.{arith}
-use lib.ListN.{length, drop, length-set}
+use lib.ListN.{drop, length-set}
 use lib.Seq.{paste, paste-zero}
 use Rattle.colour_lines.specs.ColourLines.{moved}
 use Rattle.colour_lines.proofs.LineLaws.{copy_more, apart}
@@ -21,15 +21,14 @@ loop-j-init c =
     (search rules, refl, refl, omega arith, omega arith, paste-zero c.args.lines.now c.start_of-target.result (drop c.start_of-source.result c.args.lines.now))
 
 pub loop-j-preserved : goal.loop-j-preserved
-loop-j-preserved c =
-    (
-      omega arith,
-      refl,
-      simp length-set c.loop-j.invariant.2,
-      c.loop-j.invariant.3,
-      c.loop-j.invariant.4,
-      copy_more _ _ _ _ _ c.loop-j.j c.loop-j.invariant.3 c.loop-j.invariant.4 (omega arith) c.loop-j.invariant.5,
-    )
+loop-j-preserved c = (
+  omega arith,
+  refl,
+  simp length-set c.loop-j.invariant.2,
+  c.loop-j.invariant.3,
+  c.loop-j.invariant.4,
+  copy_more _ _ _ _ _ c.loop-j.j c.loop-j.invariant.3 c.loop-j.invariant.4 (omega arith) c.loop-j.invariant.5,
+)
 
 pub returns : goal.returns
 returns c =

@@ -1,13 +1,8 @@
 -- `colour_lines::move_line` meets its contract: the samples before j are copied. The two lines lie apart. Assumes nothing.
-use borrow.Author.Rules.{rules}
-use mathlib.Core.List.{List}
-use mathlib.Core.Path.{◌≡◌, refl, ◌∙◌}
-use Prim.Native.Nat.{ℕ, ◌+◌, ◌-◌, ◌*◌, ◌≤◌}
-use native.Mathlib.Omega.{arith}
-use lib.ListN.{length, drop, length-set}
-use lib.Seq.{paste, paste-zero}
-use Rattle.colour_lines.specs.ColourLines.{moved}
-use Rattle.colour_lines.proofs.LineLaws.{copy_more, apart}
+use mathlib.Core.Path.{◌≡◌}
+use Prim.Native.Nat.{◌+◌, ◌-◌, ◌≤◌}
+use lib.ListN.{length, drop}
+use lib.Seq.{paste}
 use Rattle.colour_lines.proofs.move_line.Given as goal
 
 abbrev pub invariant-loop-j : goal.invariant-loop-j

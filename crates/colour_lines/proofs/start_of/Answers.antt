@@ -1,5 +1,4 @@
 -- `colour_lines::start_of` meets its contract: a line before the last ends before the 18th. Assumes nothing.
-use borrow.Author.Rules.{rules}
 use mathlib.Core.Path.{refl}
 use Prim.Native.Nat.{ℕ, ◌+◌, ◌*◌, ◌≤◌}
 use native.Mathlib.Nat.{mul-le-mul_right}

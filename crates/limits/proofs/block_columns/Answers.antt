@@ -1,5 +1,4 @@
 -- `limits::block_columns` meets its contract, by its test. Assumes nothing.
-use borrow.Author.Rules.{rules}
 use borrow.Author.Tests.{eq-eqb, ne_eqb}
 use Rattle.limits.proofs.block_columns.Goals as goal
 

@@ -1,5 +1,4 @@
 -- `limits::ends_past` meets its contract. Assumes nothing.
-use borrow.Author.Rules.{rules}
 use mathlib.Core.Path.{refl}
 use Rattle.limits.proofs.ends_past.Goals as goal
 

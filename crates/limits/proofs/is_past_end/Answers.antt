@@ -1,5 +1,4 @@
 -- `limits::is_past_end` meets its contract. Assumes nothing.
-use borrow.Author.Rules.{rules}
 use mathlib.Core.Path.{refl}
 use Rattle.limits.proofs.is_past_end.Goals as goal
 

@@ -1,5 +1,4 @@
 -- `limits::lines_taking` meets its contract, by whether a line was truncated. Assumes nothing.
-use borrow.Author.Rules.{rules}
 use borrow.Author.Tests.{lt-ltb, le-ltb}
 use mathlib.Core.Bool.{cond}
 use mathlib.Core.Path.{◌≡◌}

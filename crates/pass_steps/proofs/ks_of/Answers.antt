@@ -1,8 +1,7 @@
 -- `pass_steps::ks_of` meets its contract: the ks of the records before j are there. Assumes nothing.
 use borrow.Author.Rules.{rules}
-use mathlib.Core.Logic.{⊎_elim}
 use mathlib.Core.Path.{ap, ◌∙◌}
-use Prim.Native.Nat.{◌+◌, ◌-◌, ◌≤◌}
+use Prim.Native.Nat.{◌+◌}
 use native.Mathlib.Omega.{arith}
 use Rattle.statistics.specs.Statistics.{k_of}
 use Rattle.pass_steps.specs.Values.{zip_records}
@@ -17,8 +16,8 @@ pub loop-j-preserved : goal.loop-j-preserved
 loop-j-preserved c =
     let upto : KsUpto (c.loop-j.j + 1) (zip_records c.args.sums.now c.args.ns.now) c.if-t.ks =
     elim c.if-t.branch [
-      then-t w ↦ ks_named w.ks-is (one_more_k c.loop-j.invariant.1 c.loop-j-test.true (w.k_by_lengths.ensures.0 ∙ ap k_of c.record_at-t.ensures.0))
-    | else-t w ↦ ks_named w.ks-is (one_more_zero c.record_at-t.result c.loop-j.invariant.1 c.record_at-t.ensures.0 c.record_at-t.ensures.1.some w.if-t.false)
+      | then-t w ↦ ks_named w.ks-is (one_more_k c.loop-j.invariant.1 c.loop-j-test.true (w.k_by_lengths.ensures.0 ∙ ap k_of c.record_at-t.ensures.0))
+      | else-t w ↦ ks_named w.ks-is (one_more_zero c.record_at-t.result c.loop-j.invariant.1 c.record_at-t.ensures.0 c.record_at-t.ensures.1.some w.if-t.false)
     ] in
     (omega (arith, c.loop-j-test.true), upto)
 

@@ -1,12 +1,7 @@
 -- `pass_steps::ks_of` meets its contract: the ks of the records before j are there. Assumes nothing.
-use borrow.Author.Rules.{rules}
-use mathlib.Core.Logic.{⊎_elim}
-use mathlib.Core.Path.{ap, ◌∙◌}
-use Prim.Native.Nat.{◌+◌, ◌-◌, ◌≤◌}
-use native.Mathlib.Omega.{arith}
-use Rattle.statistics.specs.Statistics.{k_of}
+use Prim.Native.Nat.{◌-◌, ◌≤◌}
 use Rattle.pass_steps.specs.Values.{zip_records}
-use Rattle.pass_steps.proofs.KLaws.{KsUpto, zeros, one_more_k, one_more_zero, ks_named}
+use Rattle.pass_steps.proofs.KLaws.{KsUpto}
 use Rattle.pass_steps.proofs.ks_of.Given as goal
 
 abbrev pub invariant-loop-j : goal.invariant-loop-j

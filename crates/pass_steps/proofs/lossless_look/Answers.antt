@@ -1,5 +1,4 @@
 -- `pass_steps::lossless_look` meets its contract: it is what lossless lines go by. Assumes nothing.
-use borrow.Author.Rules.{rules}
 use mathlib.Core.Path.{◌≡◌, sym}
 use Prim.Native.Nat.{zero-le}
 use native.Mathlib.Omega.{arith}

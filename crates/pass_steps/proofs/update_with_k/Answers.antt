@@ -1,5 +1,4 @@
 -- `pass_steps::update_with_k` meets its contract. Assumes nothing.
-use borrow.Author.Rules.{rules}
 use mathlib.Core.Path.{ap, ◌∙◌}
 use native.Mathlib.Omega.{arith}
 use Rattle.statistics.specs.Statistics.{k_of}

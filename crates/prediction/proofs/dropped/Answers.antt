@@ -1,5 +1,4 @@
 -- `prediction::dropped` meets its contract: a number is strictly the most where it is above both others. Assumes nothing.
-use borrow.Author.Rules.{rules}
 use borrow.Author.Tests.{lt-ltb, le-ltb}
 use mathlib.Core.Bool.{cond, and-true, and-false}
 use mathlib.Core.Path.{◌≡◌}

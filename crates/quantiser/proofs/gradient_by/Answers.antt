@@ -1,5 +1,4 @@
 -- `quantiser::gradient_by` meets its contract: both levels are raised by 4, and so the sum by 4 * weight + 4. Assumes nothing.
-use borrow.Author.Rules.{rules}
 use mathlib.Core.Path.{ap, ◌∙◌}
 use Prim.Native.Nat.{ℕ, ◌*◌, ◌≤◌}
 use native.Mathlib.Nat.{mul-le-mul}

@@ -1,5 +1,4 @@
 -- `quantiser::log2ceil` meets its contract, by the length of v - 1 in binary. Assumes nothing.
-use borrow.Author.Rules.{rules}
 use native.Mathlib.Omega.{arith}
 use Rattle.quantiser.proofs.QuantiserLaws.{log2_is, log2_le}
 use Rattle.quantiser.proofs.log2ceil.Goals as goal

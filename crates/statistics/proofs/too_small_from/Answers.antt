@@ -5,7 +5,7 @@ use mathlib.Core.Bool.{Bool, not}
 use mathlib.Core.Path.{◌≡◌, sym, ◌∙◌}
 use Prim.Native.Nat.{ℕ, ◌+◌, ◌-◌, ◌≤◌, ◌<◌}
 use native.Mathlib.Omega.{arith}
-use Rattle.numbers.specs.Numbers.{least_from, flag}
+use Rattle.numbers.specs.Numbers.{flag}
 use Rattle.numbers.proofs.BoolLaws.{both}
 use Rattle.numbers.proofs.LeastLaws.{least, least_last, least_here}
 use Rattle.statistics.specs.Statistics.{enough}

@@ -1,15 +1,9 @@
 -- `statistics::too_small_from` meets its contract. The invariant: what the search from j on still adds to j, and the numbers counted so far, make up what the search
 -- from k on adds to k; the measure is 15 - j. Assumes nothing.
-use borrow.Author.Rules.{rules}
-use mathlib.Core.Bool.{Bool, not}
-use mathlib.Core.Path.{◌≡◌, sym, ◌∙◌}
-use Prim.Native.Nat.{ℕ, ◌+◌, ◌-◌, ◌≤◌, ◌<◌}
-use native.Mathlib.Omega.{arith}
-use Rattle.numbers.specs.Numbers.{least_from, flag}
-use Rattle.numbers.proofs.BoolLaws.{both}
-use Rattle.numbers.proofs.LeastLaws.{least, least_last, least_here}
+use mathlib.Core.Path.{◌≡◌}
+use Prim.Native.Nat.{ℕ, ◌+◌, ◌-◌, ◌≤◌}
+use Rattle.numbers.specs.Numbers.{least_from}
 use Rattle.statistics.specs.Statistics.{enough}
-use Rattle.statistics.proofs.RecordLaws.{too_small}
 use Rattle.statistics.proofs.too_small_from.Given as goal
 
 -- where the search from j on ends

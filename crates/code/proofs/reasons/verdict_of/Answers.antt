@@ -1,5 +1,5 @@
 -- `code::reasons::verdict_of` meets its contract: the tests come in the order of the reasons. Assumes nothing.
-use Rattle.std.proofs.Common.{arith, rules, le-ltb, lt-ltb, le-leb}
+use Rattle.std.proofs.Common.{arith, le-ltb, lt-ltb, le-leb}
 use borrow.Author.Tests.{lt-leb}
 use Rattle.code.specs.Reasons.{reason_of}
 use Rattle.code.proofs.reasons.verdict_of.Goals as goal

@@ -1,11 +1,6 @@
 -- `image_map::emit::emit_colour` meets its contract: the cells before k are done. Assumes nothing.
-use borrow.Author.Rules.{rules}
-use mathlib.Core.Path.{◌≡◌}
 use Prim.Native.Nat.{◌-◌, ◌≤◌}
-use native.Mathlib.Omega.{arith}
 use Rattle.image_map.specs.Windows.{CellsEmitted}
-use Rattle.image_map.proofs.PartLaws.{fits_kept}
-use Rattle.image_map.proofs.WindowLaws.{cells_none, cells_more, cells_all}
 use Rattle.image_map.proofs.emit.emit_colour.Given as goal
 
 abbrev pub invariant-loop-k : goal.invariant-loop-k

@@ -1,16 +1,11 @@
 -- `image_map::emit::emit_column` meets its contract. The invariant: the columns before p that stand in column c of the tile are stored; the measure:
 -- the columns left. Assumes nothing.
-use borrow.Author.Rules.{rules}
-use mathlib.Core.Bool.{Bool, ◌&&◌}
-use mathlib.Core.List.{List}
+use mathlib.Core.Bool.{◌&&◌}
 use mathlib.Core.Path.{◌≡◌}
-use Prim.Native.Nat.{ℕ, ◌+◌, ◌-◌, ◌%◌, ◌≤◌, ◌<◌}
-use native.Mathlib.Omega.{arith}
+use Prim.Native.Nat.{◌+◌, ◌-◌, ◌%◌, ◌≤◌, ◌<◌}
 use lib.Dec.{leb, ltb, eqb}
-use lib.ListN.{get_or, length}
-use Rattle.image_map.specs.Places.{place_in, width_of, Changed}
-use Rattle.image_map.proofs.PlaceLaws.{place_lt}
-use Rattle.image_map.proofs.WindowLaws.{columns_none, columns_more, columns_all}
+use lib.ListN.{get_or}
+use Rattle.image_map.specs.Places.{place_in, Changed}
 use Rattle.image_map.proofs.emit.emit_column.Given as goal
 
 abbrev pub invariant-loop-p : goal.invariant-loop-p

@@ -2,10 +2,8 @@
 -- Assumes nothing.
 use borrow.Author.Rules.{rules}
 use mathlib.Core.Path.{◌≡◌}
-use Prim.Native.Nat.{◌+◌, ◌-◌, ◌*◌, ◌≤◌}
+use Prim.Native.Nat.{◌+◌, ◌*◌}
 use native.Mathlib.Omega.{arith}
-use Rattle.image_map.specs.Inside.{emitted_sample}
-use Rattle.image_map.specs.Rows.{RowsPut}
 use Rattle.image_map.proofs.PartLaws.{put_none, put_join, fits_kept}
 use Rattle.image_map.proofs.emit.emit_line.Goals as goal
 

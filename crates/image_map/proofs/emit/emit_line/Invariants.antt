@@ -1,12 +1,8 @@
 -- `image_map::emit::emit_line` meets its contract. The invariant: the line's first r rows are put into the image; the measure: the rows left.
 -- Assumes nothing.
-use borrow.Author.Rules.{rules}
-use mathlib.Core.Path.{◌≡◌}
 use Prim.Native.Nat.{◌+◌, ◌-◌, ◌*◌, ◌≤◌}
-use native.Mathlib.Omega.{arith}
 use Rattle.image_map.specs.Inside.{emitted_sample}
 use Rattle.image_map.specs.Rows.{RowsPut}
-use Rattle.image_map.proofs.PartLaws.{put_none, put_join, fits_kept}
 use Rattle.image_map.proofs.emit.emit_line.Given as goal
 
 abbrev pub invariant-loop-r : goal.invariant-loop-r

@@ -1,5 +1,4 @@
 -- `image_map::emit::emit_pass` meets its contract. Assumes nothing.
-use borrow.Author.Rules.{rules}
 use borrow.Author.Tests.{not-true, not-false}
 use native.Mathlib.Omega.{arith}
 use Rattle.image_map.proofs.PartLaws.{fits_kept}

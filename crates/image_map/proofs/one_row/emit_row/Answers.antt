@@ -1,15 +1,14 @@
 -- `image_map::one_row::emit_row` meets its contract. The invariant: the columns from left up to p are stored from `at` on, and `column` is p mod 6; the measure:
 -- the columns left. Assumes nothing.
 use mathlib.Core.Path.{◌≡◌, refl, ◌∙◌}
-use Prim.Native.Nat.{◌+◌, ◌-◌, ◌%◌, ◌≤◌}
+use Prim.Native.Nat.{◌+◌}
 use native.Mathlib.Omega.{arith}
 use lib.Dec.{eqb, leb, lit≤}
 use borrow.Author.Tests.{eqb-true, leb-true}
 use Rattle.numbers.proofs.BoolLaws.{both}
-use Rattle.image_map.specs.Rows.{sample_by}
 use Rattle.image_map.proofs.PlaceLaws.{width_le}
 use Rattle.image_map.proofs.StartLaws.{starts_inside, column_next, row_emitted, stored_one, stored_six}
-use Rattle.image_map.proofs.RowLaws.{Stored, stored_none}
+use Rattle.image_map.proofs.RowLaws.{stored_none}
 use Rattle.image_map.proofs.one_row.emit_row.Goals as goal
 
 pub starts_of-starts-requires : goal.starts_of-starts-requires

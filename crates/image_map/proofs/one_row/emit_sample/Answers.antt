@@ -1,5 +1,4 @@
 -- `image_map::one_row::emit_sample` meets its contract. Assumes nothing.
-use borrow.Author.Rules.{rules}
 use mathlib.Core.Path.{ap}
 use lib.ListN.{set, length-set}
 use native.Mathlib.Omega.{arith}

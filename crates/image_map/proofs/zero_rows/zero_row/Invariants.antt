@@ -1,14 +1,6 @@
 -- `image_map::zero_rows::zero_row` meets its contract: the first j entries of the row are 0. Assumes nothing.
-use mathlib.Core.Bool.{◌&&◌}
-use mathlib.Core.List.{List}
-use mathlib.Core.Path.{◌≡◌, refl}
-use Prim.Native.Nat.{ℕ, ◌+◌, ◌-◌, ◌*◌, ◌≤◌, ◌<◌}
-use native.Mathlib.Omega.{arith}
-use lib.Dec.{leb, ltb}
-use lib.ListN.{length}
-use Rattle.image_map.specs.Places.{Changed}
-use Rattle.image_map.proofs.PartLaws.{put_none, put_span, row_inside}
-use Rattle.image_map.proofs.RowLaws.{Stored, stored_none, stored_more}
+use Prim.Native.Nat.{◌-◌, ◌≤◌}
+use Rattle.image_map.proofs.RowLaws.{Stored}
 use Rattle.image_map.proofs.zero_rows.zero_row.Given as goal
 
 abbrev pub invariant-loop-j : goal.invariant-loop-j

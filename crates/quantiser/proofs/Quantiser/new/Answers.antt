@@ -1,5 +1,4 @@
 -- `quantiser::Quantiser::new` meets its contract: total is at most 2^bits, so that its log2 is at most 16. Assumes nothing.
-use borrow.Author.Rules.{rules}
 use mathlib.Core.Path.{◌≡◌}
 use Prim.Native.Nat.{ℕ, ◌+◌, ◌-◌, ◌*◌, ◌/◌, ◌^◌, ◌≤◌}
 use native.Mathlib.Omega.{arith}

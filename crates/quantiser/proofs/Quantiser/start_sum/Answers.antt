@@ -1,5 +1,4 @@
 -- `quantiser::Quantiser::start_sum` meets its contract. Assumes nothing.
-use borrow.Author.Rules.{rules}
 use native.Mathlib.Omega.{arith}
 use Rattle.quantiser.specs.Quantisers.{start_sum}
 use Rattle.quantiser.proofs.Quantiser.start_sum.Goals as goal

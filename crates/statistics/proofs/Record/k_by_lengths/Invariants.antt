@@ -1,17 +1,11 @@
 -- `statistics::Record::k_by_lengths` meets its contract. The invariant: `least` is not looked at yet, or it was counted if it is too small; the measure is how many
 -- numbers are left. Assumes nothing.
-use borrow.Author.Rules.{rules}
-use mathlib.Core.Logic.{◌⊎◌, inl, inr, ⊎_elim}
-use mathlib.Core.Path.{◌≡◌, refl}
-use Prim.Native.Nat.{ℕ, ◌+◌, ◌-◌, ◌*◌, ◌%◌, ◌^◌, ◌≤◌, ◌<◌, min}
-use native.Mathlib.Nat.{mod-eq_of_lt}
-use native.Mathlib.Omega.{arith}
+use mathlib.Core.Logic.{◌⊎◌}
+use mathlib.Core.Path.{◌≡◌}
+use Prim.Native.Nat.{ℕ, ◌+◌, ◌-◌, ◌*◌, ◌%◌, ◌^◌}
 use lib.Dec.{ltb}
 use Rattle.numbers.specs.Numbers.{flag}
-use Rattle.statistics.specs.Statistics.{k_of}
-use Rattle.statistics.specs.Inside.{InRange}
 use Rattle.statistics.specs.declared.Record.{Record}
-use Rattle.statistics.proofs.LengthLaws.{Near, lengths_near, near_k}
 use Rattle.statistics.proofs.Record.k_by_lengths.Given as goal
 
 -- whether the machine's shift is too small

@@ -1,5 +1,4 @@
 -- `statistics::Record::update` meets its contract: a shift by 1 halves, and a shift by 0 does nothing. Assumes nothing.
-use borrow.Author.Rules.{rules}
 use mathlib.Core.Path.{sym, subst}
 use native.Mathlib.Omega.{arith}
 use lib.Pow.{shr_le}
