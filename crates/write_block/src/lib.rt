@@ -1,5 +1,6 @@
 // Document 01, Tight block, and Items 2, 4 and 5: a set of colour lines becomes a block, tight if lossless, or is only measured.
 #![tactic(auto)]
+
 ghost use Rattle.std.specs.Prelude.{◌≡◌, true, false, [], ◌+◌, ◌*◌, ◌^◌, ◌≤◌, ◌<◌, length};
 ghost use Rattle.std.proofs.Math.Option.{none};
 ghost use Rattle.colour_lines.specs.ColourLines.{zero_lines};

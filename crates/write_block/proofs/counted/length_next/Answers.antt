@@ -1,5 +1,4 @@
 -- `write_block::counted::length_next` meets its contract: the length, refusal 13, or the walk that stores. Assumes nothing.
-use borrow.Author.Rules.{rules}
 use mathlib.Core.Bool.{Bool, true, false}
 use mathlib.Core.Path.{◌≡◌, sym, ◌∙◌}
 use Prim.Native.Nat.{ℕ}
@@ -10,8 +9,7 @@ use Rattle.stream.specs.declared.BlockLength.TheVariants.{Length, Refused}
 use Rattle.stream.specs.declared.header.Refusal.TheVariants.{ShortOutput}
 use Rattle.write_block.specs.Counted.{length_next}
 use Rattle.write_block.specs.declared.counted.Next.TheVariants.{Answer, Store}
-use Rattle.write_block.proofs.counted.length_next.Statement.{statement}
-use Rattle.write_block.proofs.counted.length_next.Tie as tie
+use Rattle.write_block.proofs.counted.length_next.Goals as goal
 
 module _ (end : BitPosition) (measure : Bool) (room n : ℕ) (e : n ≡ block_bytes end.0) where
   measured : measure ≡ true → Answer (Length n) ≡ length_next end measure room
@@ -23,14 +21,11 @@ module _ (end : BitPosition) (measure : Bool) (room n : ℕ) (e : n ≡ block_by
   stored : measure ≡ false → (b : Bool) → b ≡ ltb room n → b ≡ false → Store end ≡ length_next end measure room
   stored m b eb h = let f : ltb room (block_bytes end.0) ≡ false = rw e at (sym eb ∙ h) in rw (m, f)
 
-returns : tie.Need-returns
-returns c = measured _ _ _ _ c.before.block-bytes.ensures c.if1.true
+pub returns-then-measure : goal.returns-then-measure
+returns-then-measure c = measured _ _ _ _ c.block_bytes-needed.ensures c.if-measure.true
 
-returns-2 : tie.Need-returns-2
-returns-2 c = let x = c.before.before in short _ _ _ _ x.before.block-bytes.ensures x.if1.false _ c.before.is-short.ensures c.if2.true
+pub returns-then-is_short : goal.returns-then-is_short
+returns-then-is_short c = short _ _ _ _ c.block_bytes-needed.ensures c.if-measure.false _ c.is_short.ensures c.if-is_short.true
 
-returns-3 : tie.Need-returns-3
-returns-3 c = let x = c.before.before in stored _ _ _ _ x.before.block-bytes.ensures x.if1.false _ c.before.is-short.ensures c.if2.false
-
-pub length-next-spec : {M : Type 1} → statement M
-length-next-spec = tie.close (tie.spec (λ c κs. search rules) returns (λ c κs. search rules) returns-2 returns-3)
+pub returns : goal.returns
+returns c = stored _ _ _ _ c.block_bytes-needed.ensures c.if-measure.false _ c.is_short.ensures c.if-is_short.false
