@@ -90,7 +90,7 @@ told_length (Length m) n e f = let q : n ≡ m = cc in ap Length (sym q)
 told_length (Refused r) n e f = let q : 0 ≡ refusal_number r = cc in absurd (omega (arith, number_low r))
 
 pub correspondence_of_calls_from_c : CorrespondenceOfCallsFromC
-correspondence_of_calls_from_c d h e lossless t b before after size words T =
+correspondence_of_calls_from_c d h e lossless t b before after size_word words T =
     let c = correspondence_of_calls d h e lossless t b before after T.answer T.left in (
       λ p. c.0 (told_length T.answer (length b.block) (sym p.0 ∙ T.told_size) (sym p.1 ∙ T.told), p.2),
       λ l. let p = c.1 l in (T.told_size ∙ ap length_word p.0, T.told ∙ ap length_refusal p.0, p.1),
