@@ -235,7 +235,7 @@ lossy_copy_answers d bases before after a l = (
 -- ---- from C
 
 pub tighten_told : TightenTold
-tighten_told d before after size words T =
+tighten_told d before after size_word words T =
     let A = tighten_answers d before after T.answer T.left in (
       (λ e. A.0 (told_length T.answer (sym T.told ∙ e)), λ F. T.told ∙ ap length_refusal (A.1 F).1),
       λ F. let P = tighten_puts d F.header F.readable before after T.answer F.asked T.left in
@@ -243,7 +243,7 @@ tighten_told d before after size words T =
     )
 
 pub lossy_copy_told : LossyCopyTold
-lossy_copy_told d bases before after size words T =
+lossy_copy_told d bases before after size_word words T =
     let A = lossy_copy_answers d bases before after T.answer T.left in (
       (λ e. A.0 (told_length T.answer (sym T.told ∙ e)), λ F. T.told ∙ ap length_refusal (A.1 F).1),
       λ F. let P = lossy_copy_puts d F.header F.readable bases F.rows before after T.answer F.asked T.left in

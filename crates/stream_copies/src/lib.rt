@@ -1,5 +1,6 @@
 // Whole streams: the tight stream of a stream, and a lossy working copy.
 #![tactic(auto)]
+
 ghost use Rattle.std.specs.Prelude.{true, false, [], ◌++◌, ◌≡◌, ◌+◌, ◌*◌, ◌≤◌, ◌<◌, length, take, drop, replicate};
 ghost use Rattle.image_map.specs.Places.{width_of};
 ghost use Rattle.colour_lines.specs.Sets.{set_size};
