@@ -18,7 +18,7 @@ returns c =
     let a = start f in (
       (
         set_above a.args.form a.args.bases.now a.args.count a.args.samples.now _ _ _ _
-            f.before.before.largest.ensures.0 f.before.is-strict.ensures f.first_above_lem.ensures t.if1.true,
+            f.before.before.largest.ensures.0 f.before.is-strict.ensures f.first_above.ensures t.if1.true,
         refused_out a.args.measure _ _ _,
       ),
       (k.clear.ensures ∙ ap (λ (n : ℕ). replicate n 0) a.pre.1.1.0, c.before.clear-records.ensures),
@@ -34,7 +34,7 @@ write-measured-requires c κs =
         (
           a.pre.0.1,
           set_wanted a.args.form a.args.bases.now a.args.count a.args.samples.now 0 _ _ _
-              f.before.before.largest.ensures.0 f.before.is-strict.ensures f.first_above_lem.ensures s.if1.false,
+              f.before.before.largest.ensures.0 f.before.is-strict.ensures f.first_above.ensures s.if1.false,
         ),
       ),
       a.pre.1,
@@ -49,7 +49,7 @@ returns-2 c =
     let e = v.write-measured.ensures.0 in (
       (
         set_answer_lem a.args.form a.args.bases.now a.args.count a.args.samples.now _ _ _ _
-            f.before.before.largest.ensures.0 f.before.is-strict.ensures f.first_above_lem.ensures s.if1.false _ e.0,
+            f.before.before.largest.ensures.0 f.before.is-strict.ensures f.first_above.ensures s.if1.false _ e.0,
         e.1,
       ),
       v.write-measured.ensures.1,
