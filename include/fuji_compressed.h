@@ -1,6 +1,6 @@
 /* Fuji compressed raw streams: the functions of libfuji_compressed.a and libfuji_compressed.so. x86-64 Linux, C99 and C++.
  *
- * Each function meets a proved contract (crates/fuji_compressed, and crates/tight_diagnosis for fuji_bad_code). No function asks anything of its numbers:
+ * Each function meets a proved contract (crates/fuji_compressed, and crates/tight_diagnosis_c for fuji_bad_code). No function asks anything of its numbers:
  * every call either does its work or hands back a refusal. What a caller has to keep:
  *
  * - A pointer points to as many items as its length says. With length 0 it may be NULL.

@@ -5,9 +5,9 @@ import glob
 import os
 import re
 
-TOKEN = re.compile(r"[^\s(){}\[\];,λ=\\⌜⌝@]+")
+TOKEN = re.compile(r"[^\s(){}\[\];,λ=\\@]+")
 START = re.compile(r"^(?:(?:abbrev|unfoldable|opaque|pub|record|data|instance|private) )*([^\s(){}:;,]+)")
-PATH = r"Rattle·([a-z0-9_]+)(?:·specs)?\.specs((?:\.[\w'-]+)*)"
+PATH = r"Rattle\.([a-z0-9_]+)\.specs((?:\.[\w']+)*)"
 
 
 class Definition:
@@ -25,13 +25,13 @@ def read(path):
 
 
 def crates():
-    """The crates of crates.txt in its order, each with what it needs."""
+    """The crates of crates.txt in its order, each with what it needs. A word after a name says how the crate is built."""
     found = {}
     for line in open("crates.txt"):
         line = line.split("#")[0]
         if ":" in line:
             name, needs = line.split(":", 1)
-            found[name.strip()] = needs.split()
+            found[name.split()[0]] = needs.split()
     return found
 
 
@@ -43,7 +43,7 @@ def brought_in(text):
         if not parts:
             continue
         if parts[0] == "declared":
-            home = lambda name, p=parts: (crate, "src", p[-2] if p[-1] == "the-variants" else p[-1])
+            home = lambda name, p=parts: (crate, "src", p[-2] if p[-1] == "TheVariants" else p[-1])
         else:
             home = lambda name, p=parts, c=crate: (c, p[0], name)
         for name in (m[3] or "").split(","):
@@ -112,7 +112,7 @@ def definitions_of(path):
 
 def signs(name):
     """An operator is written without its blanks' places."""
-    return name.strip("_") if name.startswith("_") and name.endswith("_") else name
+    return name.strip("◌")
 
 
 def read_specs(crate):
@@ -134,7 +134,18 @@ def read_specs(crate):
     return found
 
 
-def read_code(crate):
+def types_brought_in(text, crate, others):
+    """What the `use` lines of code bring in of the crate's own types and of those of `others`."""
+    found = {}
+    for path, several, one in re.findall(r"^use ([\w:]+?)::(?:\{([^}]*)\}|(\w+));", text, flags=re.M):
+        first = path.split("::")[0]
+        for name in re.findall(r"\w+", several or one):
+            if name[0].isupper():
+                found[name] = (first if first in others else crate, "src", name)
+    return found
+
+
+def read_code(crate, others):
     """Types and functions of a crate's code: their texts, and for a function the definitions that its contract names."""
     types, functions = {}, {}
     for path in sorted(glob.glob(f"crates/{crate}/src/*.rt")):
@@ -143,9 +154,8 @@ def read_code(crate):
         names = {signs(n): k for n, k in names.items()}
         module = os.path.basename(path)[:-3]
         module = "" if module in ("lib", "main") else module
-        used = re.findall(r"^use (?:(\w+)::)?(?:\w+::)?([A-Z]\w*);", text, flags=re.M)
         own = re.findall(r"^pub (?:struct|enum) (\w+)", text, flags=re.M)
-        fields = {n: (crate if not c or c == "crate" else c, "src", n) for c, n in used} | {n: (crate, "src", n) for n in own}
+        fields = types_brought_in(text, crate, others) | {n: (crate, "src", n) for n in own}
         for m in re.finditer(r"^pub (?:struct|enum) (\w+)\b(?:\(.*\);|[^{;]*\{\n(?:.*\n)*?\})", text, flags=re.M):
             number = text[:m.start()].count("\n") + 1
             d = Definition((crate, "src", m[1]), number, m[0], [])
@@ -173,9 +183,10 @@ def read_code(crate):
 def read_all():
     """All definitions, all types and all functions of the tree."""
     specs, types, functions = {}, {}, {}
-    for crate in crates():
+    needs = crates()
+    for crate in needs:
         specs.update(read_specs(crate))
-        t, f = read_code(crate)
+        t, f = read_code(crate, needs)
         types.update(t)
         functions.update(f)
     return specs, types, functions

@@ -6,11 +6,13 @@ import os
 import re
 import sys
 
+import definitions as D
+
 os.chdir(os.path.join(os.path.dirname(os.path.abspath(__file__)), ".."))
 with open("docs/EXCLUDED.md") as f:
     text = f.read()
 there = {"/".join((p.split("/")[1], os.path.basename(p)[:-5])) for p in glob.glob("crates/*/must-fail/*.edit")}
-crates = {line.split(":")[0] for line in open("crates.txt") if re.match(r"[a-z_0-9]+:", line)}
+crates = D.crates()
 named = {f"{c}/{n}" for c, n in re.findall(r"(?<![\w/.])([a-z_0-9]+)/([a-z_0-9]+)(?![\w/.])", text) if c in crates}
 wrong = [f"docs/EXCLUDED.md names {n}, and there is no such edit" for n in sorted(named - there)]
 

@@ -41,16 +41,14 @@ def kind_of(path):
     return word if word in KINDS else None
 
 
-def kebab(name):
-    return re.sub(r"(?<=[a-z0-9])(?=[A-Z])", "-", name).lower()
+def snake(name):
+    return re.sub(r"(?<=[a-z0-9])(?=[A-Z])", "_", name).lower()
 
 
 def proofs_of(crate):
     """The laws of a crate's proofs that prove a statement: those whose type is its name, or that have its name and more general arguments."""
     found = {}
     for folder, _, files in os.walk(f"crates/{crate}/proofs"):
-        if "derived" in folder:
-            continue
         for file in sorted(files):
             if not file.endswith(".antt"):
                 continue
@@ -63,7 +61,7 @@ def proofs_of(crate):
                 said = re.split(r"(?:^| )" + re.escape(name) + r" (?:[^:=]*)?= ", m[1])[0]
                 result = said.split("→")[-1].strip().lstrip("(")
                 head = result.split(" ")[0].rstrip(")")
-                if said.strip() == head or name == kebab(head):
+                if said.strip() == head or name == snake(head):
                     found.setdefault(head, (name, path, number))
     return found
 

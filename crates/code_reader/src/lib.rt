@@ -1,5 +1,4 @@
-// Document 01, Code: one code of a block, read by a pump. It is apart from `code` because tools/lend.py derives a function that passes
-// the pump on only at a crate's root.
+// Document 01, Code: one code of a block, read by a pump.
 #![tactic(auto)]
 
 ghost use Rattle.std.specs.Prelude.{◌≡◌, ◌^◌, ◌≤◌, ◌<◌, length};

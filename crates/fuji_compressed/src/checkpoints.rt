@@ -49,8 +49,8 @@ pub extern "C" fn fuji_resume_region(
     refusal: &mut [usize; 4],
 )
     ensures { let r : Rect = record { x = x; y = y; width = width; height = height } in
-        let before : Buffers = record { image = image.entry.now; lines = lines.old; records = rs.old } in
-        let after : Buffers = record { image = image.exit.now; lines = lines.new; records = rs.new } in
+        let before : Buffers = record { image = image.old; lines = lines.old; records = rs.old } in
+        let after : Buffers = record { image = image.new; lines = lines.new; records = rs.new } in
         ToldResumed d.now b state.now r tile.now before after totals.new refusal.new }
 {
     let r = Rect {

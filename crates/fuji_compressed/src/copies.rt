@@ -21,8 +21,8 @@ pub extern "C" fn fuji_read_set(
     totals: &mut [usize; 2],
     refusal: &mut [usize; 4],
 )
-    ensures { let before : Sets = record { set = set.entry.now; lines = lines.old; records = rs.old } in
-        let after : Sets = record { set = set.exit.now; lines = lines.new; records = rs.new } in
+    ensures { let before : Sets = record { set = set.old; lines = lines.old; records = rs.old } in
+        let after : Sets = record { set = set.new; lines = lines.new; records = rs.new } in
         ToldSet d.now b before after totals.new refusal.new }
 {
     let a = read_set(d, b, set, lines, rs);
@@ -63,8 +63,8 @@ pub extern "C" fn fuji_tighten(
     size: &mut [usize; 1],
     refusal: &mut [usize; 4],
 )
-    ensures { let before : Lent = record { out = out.entry.now; set = set.old; lines = lines.old; records = rs.old } in
-        let after : Lent = record { out = out.exit.now; set = set.new; lines = lines.new; records = rs.new } in
+    ensures { let before : Lent = record { out = out.old; set = set.old; lines = lines.old; records = rs.old } in
+        let after : Lent = record { out = out.new; set = set.new; lines = lines.new; records = rs.new } in
         ToldTightened d.now before after size.new refusal.new }
 {
     let a = tighten(d, out, set, lines, rs);
@@ -86,8 +86,8 @@ pub extern "C" fn fuji_lossy_copy(
     size: &mut [usize; 1],
     refusal: &mut [usize; 4],
 )
-    ensures { let before : Lent = record { out = out.entry.now; set = set.old; lines = lines.old; records = rs.old } in
-        let after : Lent = record { out = out.exit.now; set = set.new; lines = lines.new; records = rs.new } in
+    ensures { let before : Lent = record { out = out.old; set = set.old; lines = lines.old; records = rs.old } in
+        let after : Lent = record { out = out.new; set = set.new; lines = lines.new; records = rs.new } in
         ToldCopy d.now bases.now before after size.new refusal.new }
 {
     let a = lossy_copy(d, bases, out, set, lines, rs);

@@ -28,8 +28,8 @@ pub extern "C" fn fuji_decode_region(
     refusal: &mut [usize; 4],
 )
     ensures { let r : Rect = record { x = x; y = y; width = width; height = height } in
-        let before : Buffers = record { image = image.entry.now; lines = lines.old; records = rs.old } in
-        let after : Buffers = record { image = image.exit.now; lines = lines.new; records = rs.new } in
+        let before : Buffers = record { image = image.old; lines = lines.old; records = rs.old } in
+        let after : Buffers = record { image = image.new; lines = lines.new; records = rs.new } in
         let begins = region_begins d.now r (length before.image) (length before.lines) (length before.records) in
         Told d.now r tile.now begins before after refusal.new }
 {
@@ -60,8 +60,8 @@ pub extern "C" fn fuji_decode_region_windowed(
     refusal: &mut [usize; 4],
 )
     ensures { let r : Rect = record { x = x; y = y; width = width; height = height } in
-        let before : Buffers = record { image = image.entry.now; lines = lines.old; records = rs.old } in
-        let after : Buffers = record { image = image.exit.now; lines = lines.new; records = rs.new } in
+        let before : Buffers = record { image = image.old; lines = lines.old; records = rs.old } in
+        let after : Buffers = record { image = image.new; lines = lines.new; records = rs.new } in
         let begins = windowed_begins d.now r (length before.image) (length before.lines) (length before.records) in
         ToldWindowed d.now r tile.now begins before after refusal.new }
 {
@@ -94,8 +94,8 @@ pub extern "C" fn fuji_decode_region_shared(
     refusal: &mut [usize; 4],
 )
     ensures { let r : Rect = record { x = x; y = y; width = width; height = height } in
-        let before : Buffers = record { image = image.entry.now; lines = lines.old; records = rs.old } in
-        let after : Buffers = record { image = image.exit.now; lines = lines.new; records = rs.new } in
+        let before : Buffers = record { image = image.old; lines = lines.old; records = rs.old } in
+        let after : Buffers = record { image = image.new; lines = lines.new; records = rs.new } in
         let begins = region_begins d.now r (length before.image) (length before.lines) (length before.records) in
         ToldShared (camera_in camera) d.now r tile.now begins entries.old entries.new before after
         refusal.new }
@@ -143,8 +143,8 @@ pub extern "C" fn fuji_decode(
     rs: &mut [Record],
     refusal: &mut [usize; 4],
 )
-    ensures { let before : Buffers = record { image = image.entry.now; lines = lines.old; records = rs.old } in
-        let after : Buffers = record { image = image.exit.now; lines = lines.new; records = rs.new } in
+    ensures { let before : Buffers = record { image = image.old; lines = lines.old; records = rs.old } in
+        let after : Buffers = record { image = image.new; lines = lines.new; records = rs.new } in
         let begins = image_begins d.now width height (length before.image) (length before.lines) (length before.records) in
         Told d.now (whole_of width height) tile.now begins before after refusal.new }
 {

@@ -31,8 +31,8 @@ pub extern "C" fn fuji_read_block(
     totals: &mut [usize; 2],
     refusal: &mut [usize; 4],
 )
-    ensures { let before : Scratch = record { lines = lines.entry.now; records = rs.old } in
-        let after : Scratch = record { lines = lines.exit.now; records = rs.new } in
+    ensures { let before : Scratch = record { lines = lines.old; records = rs.old } in
+        let after : Scratch = record { lines = lines.new; records = rs.new } in
         ToldRead d.now b before after totals.new refusal.new }
 {
     let a = read_block(d, b, lines, rs);
@@ -52,8 +52,8 @@ pub extern "C" fn fuji_read_tight(
     totals: &mut [usize; 2],
     refusal: &mut [usize; 4],
 )
-    ensures { let before : Scratch = record { lines = lines.entry.now; records = rs.old } in
-        let after : Scratch = record { lines = lines.exit.now; records = rs.new } in
+    ensures { let before : Scratch = record { lines = lines.old; records = rs.old } in
+        let after : Scratch = record { lines = lines.new; records = rs.new } in
         ToldTight d.now b before after totals.new refusal.new }
 {
     let a = read_tight(d, b, lines, rs);

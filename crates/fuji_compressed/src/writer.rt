@@ -16,8 +16,8 @@ pub extern "C" fn fuji_write_block(
     size: &mut [usize; 1],
     refusal: &mut [usize; 4],
 )
-    ensures { let before : Outputs = record { out = out.entry.now; lines = lines.old; records = rs.old } in
-        let after : Outputs = record { out = out.exit.now; lines = lines.new; records = rs.new } in
+    ensures { let before : Outputs = record { out = out.old; lines = lines.old; records = rs.old } in
+        let after : Outputs = record { out = out.new; lines = lines.new; records = rs.new } in
         ToldWritten header.now samples.now before after size.new refusal.new }
 {
     let a = write_block(header, samples, out, lines, rs);
@@ -39,8 +39,8 @@ pub extern "C" fn fuji_write_lossy(
     size: &mut [usize; 1],
     refusal: &mut [usize; 4],
 )
-    ensures { let before : Outputs = record { out = out.entry.now; lines = lines.old; records = rs.old } in
-        let after : Outputs = record { out = out.exit.now; lines = lines.new; records = rs.new } in
+    ensures { let before : Outputs = record { out = out.old; lines = lines.old; records = rs.old } in
+        let after : Outputs = record { out = out.new; lines = lines.new; records = rs.new } in
         ToldLossy header.now bases.now samples.now before after size.new refusal.new }
 {
     let a = write_lossy(header, bases, samples, out, lines, rs);
@@ -60,8 +60,8 @@ pub extern "C" fn fuji_measure_block(
     size: &mut [usize; 1],
     refusal: &mut [usize; 4],
 )
-    ensures { let before : Scratch = record { lines = lines.entry.now; records = rs.old } in
-        let after : Scratch = record { lines = lines.exit.now; records = rs.new } in
+    ensures { let before : Scratch = record { lines = lines.old; records = rs.old } in
+        let after : Scratch = record { lines = lines.new; records = rs.new } in
         ToldMeasured header.now samples.now before after size.new refusal.new }
 {
     let a = measure_block(header, samples, lines, rs);

@@ -1,5 +1,4 @@
-// The 336 records, lent as a slice: what they start with, and the sets that passes work on. Only `fetch` and `update` touch an element; the functions
-// that pass the slice on are proved through derivations that a tool writes (tools/README.md).
+// The 336 records, lent as a slice: what they start with, and the sets that passes work on. Only `fetch` and `update` touch an element.
 ghost use Rattle.std.specs.Prelude.{◌≡◌, cond, ◌%◌, ◌<◌, ltb, length, get_or, set};
 ghost use Rattle.pass_steps.specs.Contexts.{no_record};
 ghost use Rattle.pass_steps.specs.Values.{records_of};

@@ -1,4 +1,4 @@
-// Item 1: why a block is not tight. It finds the spot and the reason of the first bad code, and has the function for C.
+// Item 1: why a block is not tight. It finds the spot and the reason of the first bad code. The function for C is in tight_diagnosis_c.
 #![tactic(auto)]
 
 ghost use Rattle.std.specs.Prelude.{◌≡◌, true, ◌^◌, ◌<◌, length};
@@ -124,7 +124,7 @@ pub fn fault_at(d: &[u8], h: FujiHeader, b: usize, answer: Decoded) -> Fault
     Fault::None
 }
 
-// ---- for C
+// ---- as words
 
 // What the tight reading answers for block b of the stream d, with scratch of its own.
 fn answer_of(d: &[u8], b: usize) -> Decoded
@@ -185,8 +185,7 @@ fn fault_words(f: Fault) -> [usize; 6]
 
 // Why block b is not tight: line, pass, colour line, position, first bit and reason of its first bad code, or line, bit and reason of its tail, all 0 where
 // it does not give 15; and the words of what the tight reading answers.
-#[unsafe(no_mangle)]
-pub extern "C" fn fuji_bad_code(d: &[u8], b: usize, spot: &mut [usize; 6], refusal: &mut [usize; 4])
+pub fn bad_code(d: &[u8], b: usize, spot: &mut [usize; 6], refusal: &mut [usize; 4])
     ensures { (spot.new ≡ fault_words (fault_of d.now b)) ×
         (refusal.new ≡ answer_words (answer_of d.now b)) }
 {

@@ -86,8 +86,8 @@ fn header_types(parameter: &str) -> Vec<String> {
 fn proved() -> Vec<Function> {
     let modules = ["streams", "planning", "decoding", "reading", "checkpoints", "writer", "copies"]
         .map(|m| format!("crates/fuji_compressed/src/{m}.rt"));
-    let sources = modules.iter().map(|m| text(m)).collect::<String>() + &text("crates/tight_diagnosis/src/lib.rt");
-    let heads = between(&sources, "#[no_mangle]\npub extern \"C\" fn ", ")\n");
+    let sources = modules.iter().map(|m| text(m)).collect::<String>() + &text("crates/tight_diagnosis_c/src/lib.rt");
+    let heads = between(&sources, "#[unsafe(no_mangle)]\npub extern \"C\" fn ", ")\n");
     sorted(heads.iter().map(|h| function(h, proved_types)).collect())
 }
 

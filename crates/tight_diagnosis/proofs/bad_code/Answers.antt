@@ -1,9 +1,9 @@
--- `tight_diagnosis::fuji_bad_code` meets its contract. Assumes nothing.
+-- `tight_diagnosis::bad_code` meets its contract. Assumes nothing.
 use borrow.Author.Rules.{rules}
 use mathlib.Core.Path.{ap, ◌∙◌}
 use Rattle.read_block.specs.Words.{answer_words}
 use Rattle.tight_diagnosis.specs.Faults.{fault_words}
-use Rattle.tight_diagnosis.proofs.fuji_bad_code.Goals as goal
+use Rattle.tight_diagnosis.proofs.bad_code.Goals as goal
 
 pub returns : goal.returns
 returns c =
