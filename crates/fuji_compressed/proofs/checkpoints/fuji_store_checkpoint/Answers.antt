@@ -1,0 +1,12 @@
+-- `fuji_compressed::checkpoints::fuji_store_checkpoint` meets its contract. Assumes nothing.
+use borrow.Author.Rules.{rules}
+use Rattle.fuji_compressed.proofs.checkpoints.fuji_store_checkpoint.Goals as goal
+
+pub returns : goal.returns
+returns c =
+    record {
+      answer = c.store_checkpoint-a.result;
+      left = c.store_checkpoint-a.ensures;
+      told_totals = c.totals_words-t.ensures;
+      told = c.counted_refusal-w.ensures;
+    }
