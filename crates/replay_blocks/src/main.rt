@@ -87,12 +87,10 @@ fn wanted(want: &[u8; 36864], s: Sizes, colour: u8, y: usize, x: usize) -> u32
 fn image_agrees(image: &[u16; 13824], want: &[u8; 36864], s: Sizes, colour: u8) -> bool
     requires { s.read ≤ 3 }
 {
-    let mut i: usize = 0;
-    while i < 13824 {
+    for i in 0..13824 {
         if numbers::u16_to_u32(image[i]) != wanted(want, s, colour, i / 768, i % 768) {
             return false;
         }
-        i += 1;
     }
     true
 }
@@ -142,12 +140,10 @@ fn differing(block: &[u8; 40000], bases: &[u8; 3], want: &[u8; 36864], s: Sizes)
     requires { (12 ≤ s.bits) × ((s.bits ≤ 16) × ((s.lines ≤ 3) × ((s.bases ≤ 3) × ((s.block ≤ 40000) × (s.read ≤ 3))))) }
 {
     let mut n: u64 = 0;
-    let mut colour: u8 = 0;
-    while colour < 3 {
+    for colour in 0..3 {
         if !agrees(block, bases, want, s, colour) {
             n = n.wrapping_add(1);
         }
-        colour += 1;
     }
     n
 }

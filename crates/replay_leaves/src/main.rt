@@ -20,10 +20,8 @@ use std::io::Read;
 // The twelve words that a record begins with.
 fn words(r: &[u8; 80]) -> [u32; 12] {
     let mut w = [0u32; 12];
-    let mut i = 0;
-    while i < 12 {
+    for i in 0..12 {
         w[i] = word(&r[..], 4 * i);
-        i += 1;
     }
     w
 }

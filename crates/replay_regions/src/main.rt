@@ -53,10 +53,8 @@ fn sizes_of(r: &[u8; 88]) -> Sizes {
 
 fn tile_of(r: &[u8; 88]) -> [u8; 36] {
     let mut tile = [0u8; 36];
-    let mut i: usize = 0;
-    while i < 36 {
+    for i in 0..36 {
         tile[i] = r[52 + i];
-        i += 1;
     }
     tile
 }
@@ -77,12 +75,10 @@ fn answer_agrees(a: Decoded, s: Sizes) -> bool {
 fn image_agrees(image: &[u16; 28000], want: &[u8; 56000], n: usize) -> bool
     requires { n ≤ 28000 }
 {
-    let mut i: usize = 0;
-    while i < n {
+    for i in 0..n {
         if numbers::u16_to_u32(image[i]) != half(&want[..], 2 * i) {
             return false;
         }
-        i += 1;
     }
     true
 }
