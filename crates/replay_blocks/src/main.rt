@@ -2,11 +2,14 @@
 // blocks are in blocks.bin; rust/record-blocks writes them and documents their layout. Each block is read with three tiles of one value,
 // which show its red, its green and its blue colour lines. A record whose numbers are out of range differs.
 #![tactic(auto)]
+
 ghost use Rattle.std.specs.Prelude.{◌*◌, ◌<◌, ◌≤◌, length};
 
 use image_map::Part;
 use read_block::{Form, Walked};
 use replay_common::{Tally, half, word};
+use std::io;
+use std::io::Read;
 
 // What a record says of itself: the bytes of its base row and of its block, its lines, and how many of them the original read.
 #[derive(Clone, Copy)]
@@ -84,12 +87,10 @@ fn wanted(want: &[u8; 36864], s: Sizes, colour: u8, y: usize, x: usize) -> u32
 fn image_agrees(image: &[u16; 13824], want: &[u8; 36864], s: Sizes, colour: u8) -> bool
     requires { s.read ≤ 3 }
 {
-    let mut i: usize = 0;
-    while i < 13824 {
+    for i in 0..13824 {
         if numbers::u16_to_u32(image[i]) != wanted(want, s, colour, i / 768, i % 768) {
             return false;
         }
-        i += 1;
     }
     true
 }
@@ -139,18 +140,16 @@ fn differing(block: &[u8; 40000], bases: &[u8; 3], want: &[u8; 36864], s: Sizes)
     requires { (12 ≤ s.bits) × ((s.bits ≤ 16) × ((s.lines ≤ 3) × ((s.bases ≤ 3) × ((s.block ≤ 40000) × (s.read ≤ 3))))) }
 {
     let mut n: u64 = 0;
-    let mut colour: u8 = 0;
-    while colour < 3 {
+    for colour in 0..3 {
         if !agrees(block, bases, want, s, colour) {
-            n = std::num::wrapping_add_u64(n, 1);
+            n = n.wrapping_add(1);
         }
-        colour += 1;
     }
     n
 }
 
 // Reads what a record has after its sizes, and compares. A record that is cut off differs.
-fn compare_rest(fd: i32, s: Sizes) -> u64
+fn compare_rest(file: &mut impl Read, s: Sizes) -> io::Result<u64>
     requires { (12 ≤ s.bits) × ((s.bits ≤ 16) × ((s.lines ≤ 3) × ((s.bases ≤ 3) × ((s.block ≤ 40000) × (s.read ≤ 3))))) }
 {
     let m = s.bases;
@@ -159,74 +158,70 @@ fn compare_rest(fd: i32, s: Sizes) -> u64
     let mut bases = [0u8; 3];
     let mut block = [0u8; 40000];
     let mut want = [0u8; 36864];
-    let a = io::read_full(fd, &mut bases[0..m]);
-    let b = io::read_full(fd, &mut block[0..n]);
-    let c = io::read_full(fd, &mut want[0..colours]);
+    let a = replay_common::read_full(file, &mut bases[0..m])?;
+    let b = replay_common::read_full(file, &mut block[0..n])?;
+    let c = replay_common::read_full(file, &mut want[0..colours])?;
     if (a != m) | (b != n) | (c != colours) {
-        return 3;
+        return Ok(3);
     }
-    differing(&block, &bases, &want, s)
+    Ok(differing(&block, &bases, &want, s))
 }
 
 // A record that does not fit the buffers of this program differs.
-fn compare_sound(fd: i32, s: Sizes) -> u64 {
+fn compare_sound(file: &mut impl Read, s: Sizes) -> io::Result<u64> {
     if s.bits < 12 {
-        return 3;
+        return Ok(3);
     }
     if 16 < s.bits {
-        return 3;
+        return Ok(3);
     }
     if 3 < s.lines {
-        return 3;
+        return Ok(3);
     }
     if 3 < s.bases {
-        return 3;
+        return Ok(3);
     }
     if 40000 < s.block {
-        return 3;
+        return Ok(3);
     }
     if 3 < s.read {
-        return 3;
+        return Ok(3);
     }
-    compare_rest(fd, s)
+    compare_rest(file, s)
 }
 
 // Reads a record and compares it: whole blocks are of kind 0, truncated ones of kind 1.
-fn compare_one(fd: i32, t: Tally, number: u64) -> Tally {
+fn compare_one(rt: &impl Print, file: &mut impl Read, t: Tally, number: u64) -> io::Result<Tally> {
     let mut r = [0u8; 24];
-    let length = io::read_full(fd, &mut r);
+    let length = replay_common::read_full(file, &mut r)?;
     if length == 0 {
-        return replay_common::ended(t);
+        return Ok(replay_common::ended(t));
     }
     let s = sizes_of(&r);
-    let differ = compare_sound(fd, s);
+    let differ = compare_sound(file, s)?;
     if s.read == s.lines {
-        return replay_common::counted(t, number, 0, 3, differ);
+        return replay_common::counted(rt, t, number, 0, 3, differ);
     }
-    replay_common::counted(t, number, 1, 3, differ)
+    replay_common::counted(rt, t, number, 1, 3, differ)
 }
 
-// Nothing says that a file ends, so the records are counted. There are no closures, so each program has this loop of its own.
-fn compare_all(fd: i32) -> Tally {
+// Nothing says that a file ends, so the records are counted.
+fn compare_all(rt: &impl Print, file: &mut impl Read) -> io::Result<Tally> {
     let mut t = replay_common::start();
-    let mut number: u64 = 0;
-    while number < 1000 {
-        t = compare_one(fd, t, number);
+    for number in 0..1000 {
+        t = compare_one(rt, file, t, number)?;
         if t.done {
-            return t;
+            return Ok(t);
         }
-        number += 1;
     }
-    t
+    Ok(t)
 }
 
-fn main() {
-    let fd = replay_common::open(b"blocks.bin");
-    if fd < 0 {
-        return;
-    }
-    let t = compare_all(fd);
-    libc::close(fd);
-    replay_common::print(b"readings of whole blocks", t, 0);
-    replay_common::print(b"readings of truncated blocks", t, 1);
+fn main(rt: HostRuntime) -> io::Result<()> {
+    let Some(mut file) = replay_common::open(&rt, "blocks.bin") else {
+        return Ok(());
+    };
+    let t = compare_all(&rt, &mut file)?;
+    replay_common::print(&rt, "readings of whole blocks", t, 0)?;
+    replay_common::print(&rt, "readings of truncated blocks", t, 1)
 }

@@ -1,9 +1,12 @@
 // Replays: what the four programs share: the numbers of a record, a tally of what was compared, the file of records, and what is printed.
 #![tactic(auto)]
-ghost use Rattle.std.specs.Prelude.{◌^◌, ◌<◌, ◌≤◌};
 
-use libc::STDOUT_FILENO;
+ghost use Rattle.std.specs.Prelude.{◌^◌, ◌<◌, ◌≤◌, IfOk, length};
+
 use numbers::u8_to_u32;
+use std::io;
+use std::io::Read;
+use std::rt::Files;
 
 // For each kind how many answers were compared and how many differ.
 #[derive(Clone, Copy)]
@@ -46,18 +49,23 @@ pub fn word(s: &[u8], i: usize) -> u32
 }
 
 // The tally with one record more: so many answers of a kind were compared, and so many differ. The first record of a kind that differs is named.
-pub fn counted(t: Tally, number: u64, kind: usize, compared: u64, differ: u64) -> Tally
+pub fn counted(
+    rt: &impl Print,
+    t: Tally,
+    number: u64,
+    kind: usize,
+    compared: u64,
+    differ: u64,
+) -> io::Result<Tally>
     requires { kind ≤ 6 }
 {
     let mut next = t;
     if (differ != 0) & (next.differ[kind] == 0) {
-        io::write_all(STDOUT_FILENO, b"differs: record ");
-        io::print_decimal(STDOUT_FILENO, number);
-        io::write_all(STDOUT_FILENO, b"\n");
+        println!(rt; "differs: record {number}")?;
     }
-    next.compared[kind] = std::num::wrapping_add_u64(next.compared[kind], compared);
-    next.differ[kind] = std::num::wrapping_add_u64(next.differ[kind], differ);
-    next
+    next.compared[kind] = next.compared[kind].wrapping_add(compared);
+    next.differ[kind] = next.differ[kind].wrapping_add(differ);
+    Ok(next)
 }
 
 // No record is left.
@@ -67,22 +75,55 @@ pub fn ended(t: Tally) -> Tally {
     last
 }
 
-// The file of records, opened; below 0 where it could not be, and that was said.
-pub fn open(path: &[u8]) -> i32 {
-    let fd = os::open_read(path);
-    if fd < 0 {
-        os::fail(path);
+// The file of records, opened; None where it could not be, and that was said.
+pub fn open<R: Files + Eprint + AllocGlobal>(rt: &R, path: &str) -> Option<R::File> {
+    match std::fs::open(rt, path) {
+        Ok(file) => Some(file),
+        Err(e) => {
+            fail(rt, path, e);
+            None
+        }
     }
-    fd
 }
 
-pub fn print(name: &[u8], t: Tally, kind: usize)
+// Writes a line to standard error: what failed, a colon and the error's words.
+fn fail(rt: &(impl Eprint + AllocGlobal), what: &str, e: io::Error) {
+    let _ = match format!(in rt.alloc(); "{e}") {
+        Ok(text) => {
+            let words = unnumbered(text.as_str());
+            eprintln!(rt; "{what}: {words}")
+        }
+        Err(_) => eprintln!(rt; "{what}: {e}"),
+    };
+}
+
+// An error's words, without the number that std puts after those of the system.
+fn unnumbered(text: &str) -> &str {
+    match text.split_once(" (os error ") {
+        Some((words, _)) => words,
+        None => text,
+    }
+}
+
+// Reads until buf is full or the file ends, and says how many bytes there are.
+pub fn read_full(file: &mut impl Read, buf: &mut [u8]) -> io::Result<usize>
+    ensures { IfOk result (λ n. n ≤ length buf.new) }
+{
+    let mut done = 0;
+    while done < buf.len() {
+        let n = file.read(&mut buf[done..])?;
+        if n == 0 {
+            return Ok(done);
+        }
+        done += n;
+    }
+    Ok(done)
+}
+
+pub fn print(rt: &impl Print, name: &str, t: Tally, kind: usize) -> io::Result<()>
     requires { kind ≤ 6 }
 {
-    io::write_all(STDOUT_FILENO, name);
-    io::write_all(STDOUT_FILENO, b": ");
-    io::print_decimal(STDOUT_FILENO, t.compared[kind]);
-    io::write_all(STDOUT_FILENO, b" compared, ");
-    io::print_decimal(STDOUT_FILENO, t.differ[kind]);
-    io::write_all(STDOUT_FILENO, b" differ\n");
+    let compared = t.compared[kind];
+    let differ = t.differ[kind];
+    println!(rt; "{name}: {compared} compared, {differ} differ")
 }

@@ -2,6 +2,7 @@
 // and how many differ. The records are in answers.bin; rust/record-leaves writes them and documents their layout. A record whose numbers
 // are out of a leaf's range differs.
 #![tactic(auto)]
+
 ghost use Rattle.std.specs.Prelude.{◌*◌, ◌^◌, ◌≤◌, ◌<◌, length};
 ghost use Rattle.prediction.specs.Inside.{ContextRanges};
 ghost use Rattle.quantiser.specs.Inside.{QuantiserRanges};
@@ -13,14 +14,14 @@ use prediction::Context;
 use quantiser::Quantiser;
 use replay_common::{Tally, word};
 use statistics::Record;
+use std::io;
+use std::io::Read;
 
 // The twelve words that a record begins with.
 fn words(r: &[u8; 80]) -> [u32; 12] {
     let mut w = [0u32; 12];
-    let mut i = 0;
-    while i < 12 {
+    for i in 0..12 {
         w[i] = word(&r[..], 4 * i);
-        i += 1;
     }
     w
 }
@@ -348,43 +349,39 @@ fn kind_of(r: &[u8; 80], length: usize) -> u32
 }
 
 // Reads a record and compares it.
-fn compare_one(fd: i32, t: Tally, number: u64) -> Tally {
+fn compare_one(rt: &impl Print, file: &mut impl Read, t: Tally, number: u64) -> io::Result<Tally> {
     let mut r = [0u8; 80];
-    let length = io::read_full(fd, &mut r);
+    let length = replay_common::read_full(file, &mut r)?;
     if length == 0 {
-        return replay_common::ended(t);
+        return Ok(replay_common::ended(t));
     }
     let kind = kind_of(&r, length);
     let differ = if agrees(kind, &r) { 0 } else { 1 };
-    replay_common::counted(t, number, kind as usize, 1, differ)
+    replay_common::counted(rt, t, number, kind as usize, 1, differ)
 }
 
-// Nothing says that a file ends, so the records are counted. There are no closures, so each program has this loop of its own.
-fn compare_all(fd: i32) -> Tally {
+// Nothing says that a file ends, so the records are counted.
+fn compare_all(rt: &impl Print, file: &mut impl Read) -> io::Result<Tally> {
     let mut t = replay_common::start();
-    let mut number: u64 = 0;
-    while number < 20000 {
-        t = compare_one(fd, t, number);
+    for number in 0..20000 {
+        t = compare_one(rt, file, t, number)?;
         if t.done {
-            return t;
+            return Ok(t);
         }
-        number += 1;
     }
-    t
+    Ok(t)
 }
 
-fn main() {
-    let fd = replay_common::open(b"answers.bin");
-    if fd < 0 {
-        return;
-    }
-    let t = compare_all(fd);
-    libc::close(fd);
-    replay_common::print(b"k", t, 1);
-    replay_common::print(b"level", t, 2);
-    replay_common::print(b"quantiser", t, 3);
-    replay_common::print(b"even", t, 4);
-    replay_common::print(b"odd", t, 5);
-    replay_common::print(b"code", t, 6);
-    replay_common::print(b"no kind", t, 0);
+fn main(rt: HostRuntime) -> io::Result<()> {
+    let Some(mut file) = replay_common::open(&rt, "answers.bin") else {
+        return Ok(());
+    };
+    let t = compare_all(&rt, &mut file)?;
+    replay_common::print(&rt, "k", t, 1)?;
+    replay_common::print(&rt, "level", t, 2)?;
+    replay_common::print(&rt, "quantiser", t, 3)?;
+    replay_common::print(&rt, "even", t, 4)?;
+    replay_common::print(&rt, "odd", t, 5)?;
+    replay_common::print(&rt, "code", t, 6)?;
+    replay_common::print(&rt, "no kind", t, 0)
 }

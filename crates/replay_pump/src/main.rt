@@ -2,11 +2,14 @@
 // that differ in the answer or in the pump's position. The records are in answers.bin; rust/record-pump writes them and documents their
 // layout.
 #![tactic(auto)]
+
 ghost use Rattle.std.specs.Prelude.{◌+◌, ◌≤◌, ◌<◌, length};
 
 use bit_pump::BitPumpMsb;
 use bits::{BitPosition, ByteOffset};
 use replay_common::{Tally, word};
+use std::io;
+use std::io::Read;
 
 // A call of a pump: 1 peek, 2 get, 3 skip, 4 align_byte. What it answered, and the positions after it.
 #[derive(Clone, Copy)]
@@ -101,36 +104,32 @@ fn compared(r: &[u8; 528]) -> u64 {
 }
 
 // Reads a record and compares it. A record that is cut off differs.
-fn compare_one(fd: i32, t: Tally, number: u64) -> Tally {
+fn compare_one(rt: &impl Print, file: &mut impl Read, t: Tally, number: u64) -> io::Result<Tally> {
     let mut r = [0u8; 528];
-    let size = io::read_full(fd, &mut r);
+    let size = replay_common::read_full(file, &mut r)?;
     if size == 0 {
-        return replay_common::ended(t);
+        return Ok(replay_common::ended(t));
     }
     let differ = if size < 528 { 24 } else { compared(&r) };
-    replay_common::counted(t, number, 0, 24, differ)
+    replay_common::counted(rt, t, number, 0, 24, differ)
 }
 
-// Nothing says that a file ends, so the records are counted. There are no closures, so each program has this loop of its own.
-fn compare_all(fd: i32) -> Tally {
+// Nothing says that a file ends, so the records are counted.
+fn compare_all(rt: &impl Print, file: &mut impl Read) -> io::Result<Tally> {
     let mut t = replay_common::start();
-    let mut number: u64 = 0;
-    while number < 20000 {
-        t = compare_one(fd, t, number);
+    for number in 0..20000 {
+        t = compare_one(rt, file, t, number)?;
         if t.done {
-            return t;
+            return Ok(t);
         }
-        number += 1;
     }
-    t
+    Ok(t)
 }
 
-fn main() {
-    let fd = replay_common::open(b"answers.bin");
-    if fd < 0 {
-        return;
-    }
-    let t = compare_all(fd);
-    libc::close(fd);
-    replay_common::print(b"calls", t, 0);
+fn main(rt: HostRuntime) -> io::Result<()> {
+    let Some(mut file) = replay_common::open(&rt, "answers.bin") else {
+        return Ok(());
+    };
+    let t = compare_all(&rt, &mut file)?;
+    replay_common::print(&rt, "calls", t, 0)
 }

@@ -1,11 +1,14 @@
 // Replay, a program: regions of streams whose blocks the original Rust read. It counts how many calls were compared and how many differ.
 // The records are in regions.bin; tools/make-regions.py writes them and has their layout. A record whose numbers are out of range differs.
 #![tactic(auto)]
+
 ghost use Rattle.std.specs.Prelude.{◌*◌, ◌≤◌, ◌<◌};
 
 use image_region::Rect;
 use read_block::Decoded;
 use replay_common::{Tally, half, word};
+use std::io;
+use std::io::Read;
 use stream::Refusal;
 
 mod alone;
@@ -50,10 +53,8 @@ fn sizes_of(r: &[u8; 88]) -> Sizes {
 
 fn tile_of(r: &[u8; 88]) -> [u8; 36] {
     let mut tile = [0u8; 36];
-    let mut i: usize = 0;
-    while i < 36 {
+    for i in 0..36 {
         tile[i] = r[52 + i];
-        i += 1;
     }
     tile
 }
@@ -74,12 +75,10 @@ fn answer_agrees(a: Decoded, s: Sizes) -> bool {
 fn image_agrees(image: &[u16; 28000], want: &[u8; 56000], n: usize) -> bool
     requires { n ≤ 28000 }
 {
-    let mut i: usize = 0;
-    while i < n {
+    for i in 0..n {
         if numbers::u16_to_u32(image[i]) != half(&want[..], 2 * i) {
             return false;
         }
-        i += 1;
     }
     true
 }
@@ -104,66 +103,62 @@ fn image_bytes(m: usize) -> usize
 }
 
 // Reads what a record has after its numbers, and compares. A record that does not fit, or is cut off, differs.
-fn compare_rest(fd: i32, s: Sizes, r: Rect, tile: [u8; 36]) -> bool {
+fn compare_rest(file: &mut impl Read, s: Sizes, r: Rect, tile: [u8; 36]) -> io::Result<bool> {
     let n = s.stream;
     let m = s.image;
     if 80000 < n {
-        return false;
+        return Ok(false);
     }
     if 28000 < m {
-        return false;
+        return Ok(false);
     }
     let k = image_bytes(m);
     let mut bytes = [0u8; 80000];
     let mut want = [0u8; 56000];
-    let a = io::read_full(fd, &mut bytes[0..n]);
-    let b = io::read_full(fd, &mut want[0..k]);
+    let a = replay_common::read_full(file, &mut bytes[0..n])?;
+    let b = replay_common::read_full(file, &mut want[0..k])?;
     if (a != n) | (b != k) {
-        return false;
+        return Ok(false);
     }
-    agrees(&bytes, &want, s, r, tile)
+    Ok(agrees(&bytes, &want, s, r, tile))
 }
 
 // Reads a record and compares it: accepted calls are of kind 0, refused ones of kind 1.
-fn compare_one(fd: i32, t: Tally, number: u64) -> Tally {
+fn compare_one(rt: &impl Print, file: &mut impl Read, t: Tally, number: u64) -> io::Result<Tally> {
     let mut r = [0u8; 88];
-    let length = io::read_full(fd, &mut r);
+    let length = replay_common::read_full(file, &mut r)?;
     if length == 0 {
-        return replay_common::ended(t);
+        return Ok(replay_common::ended(t));
     }
     let s = sizes_of(&r);
-    let differ = if compare_rest(fd, s, rect_of(&r), tile_of(&r)) {
+    let differ = if compare_rest(file, s, rect_of(&r), tile_of(&r))? {
         0
     } else {
         1
     };
     if s.number == 0 {
-        return replay_common::counted(t, number, 0, 1, differ);
+        return replay_common::counted(rt, t, number, 0, 1, differ);
     }
-    replay_common::counted(t, number, 1, 1, differ)
+    replay_common::counted(rt, t, number, 1, 1, differ)
 }
 
-// Nothing says that a file ends, so the records are counted. There are no closures, so each program has this loop of its own.
-fn compare_all(fd: i32) -> Tally {
+// Nothing says that a file ends, so the records are counted.
+fn compare_all(rt: &impl Print, file: &mut impl Read) -> io::Result<Tally> {
     let mut t = replay_common::start();
-    let mut number: u64 = 0;
-    while number < 1000 {
-        t = compare_one(fd, t, number);
+    for number in 0..1000 {
+        t = compare_one(rt, file, t, number)?;
         if t.done {
-            return t;
+            return Ok(t);
         }
-        number += 1;
     }
-    t
+    Ok(t)
 }
 
-fn main() {
-    let fd = replay_common::open(b"regions.bin");
-    if fd < 0 {
-        return;
-    }
-    let t = compare_all(fd);
-    libc::close(fd);
-    replay_common::print(b"regions decoded", t, 0);
-    replay_common::print(b"regions refused", t, 1);
+fn main(rt: HostRuntime) -> io::Result<()> {
+    let Some(mut file) = replay_common::open(&rt, "regions.bin") else {
+        return Ok(());
+    };
+    let t = compare_all(&rt, &mut file)?;
+    replay_common::print(&rt, "regions decoded", t, 0)?;
+    replay_common::print(&rt, "regions refused", t, 1)
 }

@@ -15,7 +15,6 @@ use Rattle.stream.specs.declared.header.Refusal.TheVariants.{Lossy}
 use Rattle.code.specs.declared.reasons.BadSpot.{BadSpot}
 use Rattle.tight_diagnosis.specs.Faults.{fault_at}
 use Rattle.tight_diagnosis.specs.declared.Fault.{Fault}
-use Rattle.tight_diagnosis.specs.declared.Fault.TheVariants as Fault
 use Rattle.tight_findings.specs.Findings.{found_at, lowest, finding_of}
 use Rattle.tight_findings.specs.declared.text.Finding.TheVariants.{Refused, Nothing, Code, Tail}
 

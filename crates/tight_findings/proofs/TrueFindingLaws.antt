@@ -35,7 +35,6 @@ use Rattle.tight_diagnosis.specs.Faults.{gives15, why_not, fault_at}
 use Rattle.tight_findings.specs.Findings.{found_at, or_later, lowest, finding_in, finding_of}
 use Rattle.tight_findings.specs.TrueFindings.{Why, TrueFault, FaultTrue, TruncatedPassed, NoneBelow, Lowest, TrueFinding, FindingTrue}
 use Rattle.tight_diagnosis.specs.declared.Fault.{Fault}
-use Rattle.tight_diagnosis.specs.declared.Fault.TheVariants as Fault
 use Rattle.tight_findings.specs.declared.text.Finding.{Finding}
 use Rattle.tight_findings.specs.declared.text.Finding.TheVariants.{Refused, Nothing, Code, Tail}
 

@@ -7,7 +7,6 @@ use Rattle.stream.specs.declared.header.Parsed.TheVariants as Parsing
 use Rattle.stream.specs.declared.header.Refusal.TheVariants.{Lossy}
 use Rattle.tight_diagnosis.specs.Faults.{fault_at}
 use Rattle.tight_diagnosis.specs.declared.Fault.{Fault}
-use Rattle.tight_diagnosis.specs.declared.Fault.TheVariants as Fault
 use Rattle.tight_findings.specs.declared.text.Finding.{Finding}
 use Rattle.tight_findings.specs.declared.text.Finding.TheVariants.{Refused, Nothing, Code, Tail}
 

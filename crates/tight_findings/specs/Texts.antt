@@ -1,5 +1,5 @@
 -- Promises. The text of a finding, in ASCII: a heading line and at most one record, fields parted by tabs; or the number of a refusal, as a line.
-use Rattle.std.specs.Prelude.{List, [], ◌∷◌, ◌++◌, ℕ, ◌+◌, ◌^◌, ltb}
+use Rattle.std.specs.Prelude.{List, [], ◌∷◌, ◌++◌, ℕ, ◌^◌, ltb}
 use Rattle.io.specs.Digits.{last_digits}
 use Rattle.numbers.specs.Numbers.{least_from}
 use Rattle.stream.specs.Refusals.{refusal_number}

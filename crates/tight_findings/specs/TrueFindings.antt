@@ -24,7 +24,6 @@ use Rattle.tight_diagnosis.specs.Faults.{spot_of, fault_at}
 use Rattle.code.specs.declared.reasons.BadSpot.{BadSpot}
 use Rattle.tight_findings.specs.Findings.{finding_of}
 use Rattle.tight_diagnosis.specs.declared.Fault.{Fault}
-use Rattle.tight_diagnosis.specs.declared.Fault.TheVariants as Fault
 use Rattle.tight_findings.specs.declared.text.Finding.{Finding}
 use Rattle.tight_findings.specs.declared.text.Finding.TheVariants.{Refused, Nothing, Code, Tail}
 

@@ -1,5 +1,6 @@
 // Item 1: the lowest block of a stream that is not tight, its spot and reason, and the text of the report.
 #![tactic(auto)]
+
 ghost use Rattle.std.specs.Prelude.{◌≡◌, true, ◌++◌, ◌+◌, length, drop};
 ghost use Rattle.io.specs.Counts.{IsPrefixLen};
 ghost use Rattle.stream.specs.Streams.{open_of};

@@ -1,0 +1,9 @@
+-- `replay_common::read_full`: what its loop keeps, and why it ends.
+use Rattle.std.specs.Prelude.{length, ◌-◌, ◌≤◌, ◌≡◌}
+use Rattle.replay_common.proofs.read_full.Given as goal
+
+abbrev pub invariant-loop-done : goal.invariant-loop-done
+invariant-loop-done g l = (l.done ≤ length l.buf) × (length l.buf ≡ length l.initial.buf)
+
+abbrev pub decreases-loop-done : goal.decreases-loop-done
+decreases-loop-done g l = length l.initial.buf - l.done

@@ -1,1 +1,0 @@
--- What a tool derives for the functions that pass a lent pump on.
