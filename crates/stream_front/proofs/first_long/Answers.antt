@@ -30,7 +30,7 @@ pub returns-then-lengths-b-gt4294967295 : goal.returns-then-lengths-b-gt42949672
 returns-then-lengths-b-gt4294967295 c = here _ _ c.loop-b.invariant.1 c.if-lengths-b-gt4294967295.true
 
 pub loop-b-preserved : goal.loop-b-preserved
-loop-b-preserved c = (search rules, next _ _ c.loop-b.invariant.1 c.loop-b-test.true c.if-lengths-b-gt4294967295.false)
+loop-b-preserved c = (search rules, next _ _ c.loop-b.invariant.1 c.loop-b-test.true (omega arith))
 
 pub returns : goal.returns
 returns c = sym (c.loop-b.invariant.1 ∙ least_last _ _ _ (omega arith))
