@@ -1,18 +1,17 @@
 -- Predictions, levels and looks in 16 bits. Assumes nothing.
 use mathlib.Core.Bool.{Bool, true, false, cond, ◌||◌}
-use mathlib.Core.Path.{◌≡◌, refl, sym, ap, ◌∙◌}
-use Prim.Native.Nat.{ℕ, zero, suc, ◌+◌, ◌-◌, ◌*◌, ◌/◌, ◌≤◌, ◌<◌, min}
+use mathlib.Core.Path.{◌≡◌, refl, sym, ◌∙◌}
+use Prim.Native.Nat.{ℕ, ◌+◌, ◌-◌, ◌*◌, ◌/◌, ◌≤◌, ◌<◌, min}
 use native.Mathlib.Omega.{arith}
 use lib.Bits.{bit_and, bit_xor, xor_add_and}
 use lib.Dec.{leb, ltb, eqb}
-use borrow.Author.Tests.{lt-ltb, le-ltb, le-leb, lt-leb, ne_eqb}
-use Rattle.numbers.specs.Numbers.{distance, minus, up, down, flag}
+use borrow.Author.Tests.{lt-ltb, le-ltb, le-leb, lt-leb}
+use Rattle.numbers.specs.Numbers.{distance, minus, flag}
 use Rattle.numbers.specs.declared.Signed.{Signed}
 use Rattle.numbers.proofs.OrderLaws.{split}
 use Rattle.quantiser.specs.Quantisers.{level_size, level_of, gradient_of}
 use Rattle.quantiser.proofs.GradientLaws.{level_count, raised}
 use Rattle.prediction.specs.Predictions.{most, even_prediction, even_context}
-use Rattle.prediction.specs.declared.Context.{Context}
 use Rattle.code.specs.Samples.{choice_of}
 use Rattle.code.proofs.ChoiceLaws.{counted}
 use Rattle.pass_steps.specs.Contexts.{used_base, used_weight, place_of, look_of}

@@ -1,10 +1,10 @@
 -- A sample by its step and by a number that is odd where the gradient is negative, and the quantiser of a record. Assumes nothing.
-use mathlib.Core.Bool.{Bool, true, false, cond, xor}
-use mathlib.Core.Path.{◌≡◌, refl, sym, ap, ◌∙◌}
+use mathlib.Core.Bool.{Bool, true, false, xor}
+use mathlib.Core.Path.{◌≡◌, sym, ◌∙◌}
 use Prim.Native.Nat.{ℕ, suc, ◌+◌, ◌-◌, ◌*◌, ◌/◌, ◌%◌, ◌^◌, ◌≤◌, ◌<◌}
 use native.Mathlib.Nat.{mul-le-mul_left}
 use native.Mathlib.Omega.{arith}
-use lib.Dec.{ltb, eqb}
+use lib.Dec.{eqb}
 use borrow.Author.Tests.{eq-eqb, ne_eqb, lt-ltb, le-ltb}
 use Rattle.numbers.proofs.OrderLaws.{split}
 use Rattle.quantiser.proofs.GradientLaws.{main_le, flat_le}

@@ -1,5 +1,4 @@
 -- A record that is updated by lists for n, and its k. Assumes nothing.
-use mathlib.Core.Bool.{Bool, true, false}
 use mathlib.Core.List.{List, [], ◌∷◌}
 use mathlib.Core.Path.{◌≡◌, refl, sym, ap, ◌∙◌}
 use Prim.Native.Nat.{ℕ, zero, suc, ◌+◌, ◌-◌, ◌*◌, ◌/◌, ◌%◌, ◌^◌, ◌≤◌, ◌<◌, min}
@@ -14,9 +13,8 @@ use Rattle.numbers.specs.Numbers.{flag}
 use Rattle.statistics.specs.Statistics.{k_of, updated, largest_residual}
 use Rattle.statistics.specs.Inside.{InRange}
 use Rattle.statistics.specs.declared.Record.{Record}
-use Rattle.statistics.proofs.RecordLaws.{sum_lt, shifted_update, updated_in_range}
-use Rattle.statistics.proofs.LengthLaws.{Near, leading_or, lengths_near, near_k}
-use Rattle.code.specs.Samples.{residual_of}
+use Rattle.statistics.proofs.RecordLaws.{shifted_update, updated_in_range}
+use Rattle.statistics.proofs.LengthLaws.{leading_or, lengths_near, near_k}
 use Rattle.pass_steps.specs.Contexts.{no_record}
 use Rattle.pass_steps.specs.Values.{zip_records, SetInRange, AreKs}
 use Rattle.pass_steps.proofs.ZipLaws.{record_at, zip_set, record_is, record_in_range, stored_in_range}

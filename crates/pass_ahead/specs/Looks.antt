@@ -1,6 +1,6 @@
 -- Inside. Looks as one number, and what a line's base decides of them in 16 bits.
-use Rattle.std.specs.Prelude.{cond, ◌≡◌, ℕ, ◌+◌, ◌*◌, ◌%◌, ◌≤◌, ◌<◌, leb, ltb}
-use Rattle.numbers.specs.Numbers.{minus, up, down, flag}
+use Rattle.std.specs.Prelude.{cond, ◌≡◌, ℕ, ◌+◌, ◌*◌, ◌%◌, leb, ltb}
+use Rattle.numbers.specs.Numbers.{up, down, flag}
 use Rattle.numbers.specs.declared.Signed.{Signed}
 use Rattle.quantiser.specs.Quantisers.{level_of}
 use Rattle.pass_steps.specs.Contexts.{look_of}

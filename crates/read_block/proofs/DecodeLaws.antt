@@ -15,7 +15,6 @@ use Rattle.image_map.specs.Places.{Changed}
 use Rattle.image_map.specs.declared.Part.{Part}
 use Rattle.image_map.proofs.PartLaws.{by_test, not_in}
 use Rattle.stream.specs.declared.header.FujiHeader.{FujiHeader}
-use Rattle.stream.specs.declared.header.Refusal.TheVariants.{Truncated}
 use Rattle.image_region.specs.Regions.{block_of, first_block, bottom_of, line_count}
 use Rattle.image_region.specs.Inside.{part_in, Accepted}
 use Rattle.image_region.specs.declared.Rect.{Rect}

@@ -12,7 +12,7 @@ use lib.ListN.{length, get_or, set}
 use lib.Pow.{pow_mono}
 use Rattle.numbers.specs.Numbers.{flag}
 use Rattle.numbers.proofs.OrderLaws.{cond_le}
-use Rattle.statistics.specs.Statistics.{k_of, updated}
+use Rattle.statistics.specs.Statistics.{updated}
 use Rattle.statistics.specs.declared.Record.{Record}
 use Rattle.statistics.proofs.RecordLaws.{k_least}
 use Rattle.quantiser.specs.Quantisers.{largest, quantiser_of}

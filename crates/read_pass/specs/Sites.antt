@@ -1,5 +1,5 @@
 -- Inside. How a sample of a pass is coded, and what its code is read by.
-use Rattle.std.specs.Prelude.{Bool, List, ◌≡◌, ℕ, ◌+◌, ◌*◌, ◌%◌, ◌^◌, ◌≤◌, ◌<◌, eqb, length, get_or}
+use Rattle.std.specs.Prelude.{List, ◌≡◌, ℕ, ◌+◌, ◌*◌, ◌%◌, ◌^◌, ◌≤◌, ◌<◌, eqb, length, get_or}
 use Rattle.numbers.specs.Numbers.{flag}
 use Rattle.statistics.specs.Statistics.{k_of}
 use Rattle.statistics.specs.declared.Record.{Record}
@@ -7,7 +7,6 @@ use Rattle.quantiser.specs.Quantisers.{largest}
 use Rattle.prediction.specs.declared.Context.{Context}
 use Rattle.pass_steps.specs.Contexts.{context_in, used_base, used_quantiser, look_of, slot_of, no_record}
 use Rattle.pass_steps.specs.Values.{quantisers_of}
-use Rattle.pass_steps.specs.declared.Look.{Look}
 use Rattle.pass_ahead.specs.Tables.{choice_at}
 use Rattle.read_pass.specs.declared.one_sample.Coding.{Coding}
 

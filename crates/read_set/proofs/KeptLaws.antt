@@ -1,10 +1,9 @@
 -- Lines that are read one by one, each of which is kept in the set. Assumes nothing.
-use borrow.Author.Tests.{eq-eqb}
-use mathlib.Core.Bool.{Bool, true, false, cond, ◌&&◌}
-use mathlib.Core.List.{List, []}
+use mathlib.Core.Bool.{Bool, true, false, cond}
+use mathlib.Core.List.{List}
 use mathlib.Core.Option.{Option, none, some}
 use mathlib.Core.Path.{◌≡◌, refl, sym, ap, ◌∙◌}
-use Prim.Native.Nat.{ℕ, zero, suc, ◌+◌, ◌-◌, ◌*◌, ◌≤◌, ◌<◌}
+use Prim.Native.Nat.{ℕ, suc, ◌+◌, ◌*◌, ◌≤◌, ◌<◌}
 use native.Mathlib.Nat.{add-zero, zero-add, zero-mul, mul-le-mul_right}
 use native.Mathlib.Numerals.{add-one}
 use native.Mathlib.Omega.{arith}
@@ -25,7 +24,7 @@ use Rattle.read_block.specs.Records.{base_of, start_records, table}
 use Rattle.read_block.specs.Images.{lines_read}
 use Rattle.read_block.specs.Lent.{Buffers}
 use Rattle.read_block.specs.TightBlocks.{read_sample}
-use Rattle.read_block.specs.Walks.{start_place, state_at, totals_at, AllInRange, IsWalked, shown_lines}
+use Rattle.read_block.specs.Walks.{start_place, state_at, totals_at, IsWalked}
 use Rattle.read_block.specs.WindowedLines.{ReadOn, CutOn, IsReadOn}
 use Rattle.read_block.specs.declared.Form.{Form}
 use Rattle.read_block.specs.declared.Walked.{Walked}
@@ -37,9 +36,8 @@ use Rattle.read_block.proofs.ResumeLaws.{from_top, from_none, goes_on}
 use Rattle.read_block.proofs.TableLaws.{table_length}
 use Rattle.read_set.specs.HandedSets.{set_with, put_over}
 use Rattle.read_set.specs.Inside.{twelve, next_place}
-use Rattle.read_set.proofs.PutLaws.{put_none, put_length, put_after}
+use Rattle.read_set.proofs.PutLaws.{put_none, put_after}
 use Rattle.read_set.proofs.SetLaws.{set_more}
-use Rattle.read_set.proofs.RecordLaws.{records_whole}
 
 -- n lines of the block s were read, and stand in the set
 pub record Kept (F : Form) (bases s set₀ : List ℕ) (n : ℕ) (lines : List ℕ) (rs : List Record) (set : List ℕ) (place : Place) (tight : TightLines)

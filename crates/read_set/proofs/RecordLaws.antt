@@ -2,8 +2,8 @@
 use mathlib.Core.Bool.{Bool, true, false, cond}
 use mathlib.Core.List.{List}
 use mathlib.Core.Option.{some}
-use mathlib.Core.Path.{◌≡◌, refl, ap, ◌∙◌}
-use Prim.Native.Nat.{ℕ, zero, suc, ◌+◌, ◌*◌, ◌≤◌, ◌<◌}
+use mathlib.Core.Path.{◌≡◌, refl, ◌∙◌}
+use Prim.Native.Nat.{ℕ, zero, suc, ◌*◌, ◌≤◌, ◌<◌}
 use native.Mathlib.Omega.{arith}
 use lib.ListN.{length}
 use lib.Seq.{length-paste}
@@ -14,7 +14,7 @@ use Rattle.pass_schedule.specs.declared.Plan.{Plan}
 use Rattle.read_pass.specs.Readings.{read_pass}
 use Rattle.read_pass.proofs.RangeLaws.{pass_keeps}
 use Rattle.read_block.specs.Blocks.{State, enter, pass_at, start_state, read_lines}
-use Rattle.read_block.specs.Records.{base_of, is_restarted, restarted_main, put_set, set_of, start_records, table}
+use Rattle.read_block.specs.Records.{base_of, is_restarted, restarted_main, put_set, start_records}
 use Rattle.read_block.specs.Walks.{AllInRange}
 use Rattle.read_block.specs.declared.Form.{Form}
 use Rattle.read_block.proofs.KeepLaws.{lines_keep, left_by}

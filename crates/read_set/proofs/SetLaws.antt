@@ -2,17 +2,17 @@
 use mathlib.Core.List.{List, [], ◌∷◌, ◌++◌, append_assoc, append-nil}
 use mathlib.Core.Option.{some}
 use mathlib.Core.Path.{◌≡◌, refl, sym, ap, ◌∙◌}
-use Prim.Native.Nat.{ℕ, zero, suc, ◌+◌, ◌-◌, ◌*◌, ◌/◌, ◌%◌, ◌≤◌, ◌<◌}
-use native.Mathlib.Nat.{add-zero, add-suc, mod-lt, div-lt_iff_lt-mul, div-add-mod', mul-le-mul_right}
+use Prim.Native.Nat.{ℕ, zero, suc, ◌+◌, ◌*◌, ◌/◌, ◌%◌, ◌≤◌, ◌<◌}
+use native.Mathlib.Nat.{add-suc, mod-lt, div-lt_iff_lt-mul, div-add-mod'}
 use native.Mathlib.Omega.{arith}
 use lib.Arith.{digits_div, digits_mod, digits_lt}
-use lib.ListN.{length, get_or, take, drop, length-append, length-take, length-drop, get_or-append}
+use lib.ListN.{length, get_or, drop, get_or-append}
 use lib.Seq.{ext_get_or, get_or-append-add, get_or-take, get_or-drop}
 use Rattle.numbers.proofs.OrderLaws.{split}
 use Rattle.image_map.specs.Places.{width_of}
-use Rattle.colour_lines.specs.Sets.{line_size, set_size, line_of_rank, line_at, colour_line_at, position_at}
+use Rattle.colour_lines.specs.Sets.{line_size, line_of_rank}
 use Rattle.pass_schedule.specs.Steps.{upto}
-use Rattle.read_block.specs.Blocks.{State, read_lines, lines_of}
+use Rattle.read_block.specs.Blocks.{State, read_lines}
 use Rattle.read_block.specs.Records.{table}
 use Rattle.read_block.specs.TightBlocks.{read_sample}
 use Rattle.read_block.specs.declared.Form.{Form}
@@ -20,8 +20,7 @@ use Rattle.read_block.proofs.LineLaws.{width_in_range}
 use Rattle.read_block.proofs.TableLaws.{table_length, table_get_d}
 use Rattle.read_set.specs.HandedSets.{set_with}
 use Rattle.read_set.specs.Inside.{twelve}
-use Rattle.colour_lines.proofs.LineLaws.{line_inside}
-use Rattle.read_set.proofs.PutLaws.{colour, colours_long, rank_small}
+use Rattle.read_set.proofs.PutLaws.{colour, colours_long}
 
 table_split : (f : ℕ → ℕ) (a b : ℕ) → table f (a + b) ≡ table f a ++ table (λ j. f (a + j)) b
 unfolding table

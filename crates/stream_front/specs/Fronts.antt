@@ -1,5 +1,5 @@
 -- Promises. What stands before the blocks of a stream, byte by byte, and what a call that puts it there leaves.
-use Rattle.std.specs.Prelude.{Bool, cond, List, ◌++◌, ◌≡◌, ℕ, zero, suc, ◌+◌, ◌-◌, ◌*◌, ◌/◌, ◌%◌, ◌^◌, ◌≤◌, ◌<◌, eqb, ltb, length, get_or, drop}
+use Rattle.std.specs.Prelude.{Bool, cond, List, ◌++◌, ◌≡◌, ℕ, zero, suc, ◌+◌, ◌-◌, ◌*◌, ◌/◌, ◌%◌, ◌^◌, eqb, ltb, length, get_or, drop}
 use Rattle.numbers.specs.Numbers.{least_from}
 use Rattle.stream.specs.Headers.{byte_at}
 use Rattle.stream.specs.declared.header.FujiHeader.{FujiHeader}

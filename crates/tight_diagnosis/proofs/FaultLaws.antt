@@ -23,7 +23,6 @@ use Rattle.tight_diagnosis.specs.declared.trace.Traced.{Traced}
 use Rattle.tight_diagnosis.specs.declared.trace.Traced.TheVariants.{Bad, At, CutOff}
 use Rattle.tight_diagnosis.specs.Faults.{gives15, why_not, answer_at, fault_at, answer_of, fault_of}
 use Rattle.tight_diagnosis.specs.declared.Fault.{Fault}
-use Rattle.tight_diagnosis.specs.declared.Fault.TheVariants as Fault
 
 -- ---- a block
 

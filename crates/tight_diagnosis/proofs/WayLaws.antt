@@ -1,14 +1,12 @@
 -- Ways one after the other, and what answers say of them. Assumes nothing.
 use mathlib.Core.Bool.{Bool, true, false}
 use mathlib.Core.List.{List, [], ◌∷◌, ◌++◌}
-use mathlib.Core.Logic.{◌⊎◌, ⊎_elim}
 use mathlib.Core.Option.{Option, none, some, or_else, map}
 use mathlib.Core.Path.{◌≡◌, refl, sym, ap, ◌∙◌, subst}
 use Prim.Native.Nat.{ℕ, zero, suc, ◌+◌, ◌-◌, ◌<◌}
 use native.Mathlib.Nat.{add-zero, add-suc}
 use native.Mathlib.Numerals.{add-one}
 use native.Mathlib.Omega.{arith}
-use denote.Enum.Declared.{tag_of, declared}
 use Rattle.bits.specs.declared.BitPosition.{BitPosition}
 use Rattle.pass_schedule.specs.Steps.{Step, upto}
 use Rattle.read_pass.specs.Readings.{Reading, read_step, and_then, reads}
@@ -17,7 +15,6 @@ use Rattle.tight_diagnosis.specs.Ways.{Way, found, cut_off, on, way_of, step_of,
 use Rattle.tight_diagnosis.specs.Faults.{spot_of}
 use Rattle.tight_diagnosis.proofs.PlainLaws.{steps_plain, bad_plain}
 use Rattle.tight_diagnosis.specs.Traces.{Said, Says}
-use Rattle.tight_diagnosis.specs.contracts.trace.Traced.{enum}
 use Rattle.code.specs.declared.reasons.BadSpot.{BadSpot}
 use Rattle.tight_diagnosis.specs.declared.trace.Sample.{Sample}
 use Rattle.tight_diagnosis.specs.declared.trace.Stage.{Stage}

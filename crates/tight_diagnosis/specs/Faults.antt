@@ -16,7 +16,6 @@ use Rattle.code.specs.declared.reasons.BadSpot.{BadSpot}
 use Rattle.code.specs.declared.reasons.Reason.{Reason}
 use Rattle.code.specs.declared.reasons.Reason.TheVariants.{Large, Escape, Zeros}
 use Rattle.tight_diagnosis.specs.declared.Fault.{Fault}
-use Rattle.tight_diagnosis.specs.declared.Fault.TheVariants as Fault
 
 -- ---- a block
 

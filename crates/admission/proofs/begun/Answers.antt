@@ -1,5 +1,4 @@
 -- `admission::begun` meets its contract. Assumes nothing.
-use borrow.Author.Rules.{rules}
 use mathlib.Core.Path.{sym, ap}
 use Rattle.admission.specs.Beginnings.{begun}
 use Rattle.admission.proofs.begun.Goals as goal

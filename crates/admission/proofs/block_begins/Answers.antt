@@ -1,5 +1,4 @@
 -- `admission::block_begins` meets its contract, by the two ways in which opening ends. Assumes nothing.
-use borrow.Author.Rules.{rules}
 use mathlib.Core.Path.{sym, ◌∙◌}
 use Rattle.admission.proofs.BeginningLaws.{block_is}
 use Rattle.admission.proofs.block_begins.Goals as goal

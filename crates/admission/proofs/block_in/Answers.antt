@@ -1,5 +1,4 @@
 -- `admission::block_in` meets its contract: refusals 5 and 8, then 10. Assumes nothing.
-use borrow.Author.Rules.{rules}
 use mathlib.Core.Path.{◌∙◌}
 use Rattle.admission.proofs.BeginningLaws.{no_block, lossy_block, a_block}
 use Rattle.admission.proofs.block_in.Goals as goal

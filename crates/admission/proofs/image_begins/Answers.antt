@@ -1,5 +1,4 @@
 -- `admission::image_begins` meets its contract, by the two ways in which opening ends. Assumes nothing.
-use borrow.Author.Rules.{rules}
 use mathlib.Core.Path.{sym, ◌∙◌}
 use Rattle.admission.proofs.BeginningLaws.{image_is}
 use Rattle.admission.proofs.image_begins.Goals as goal

@@ -1,5 +1,4 @@
 -- `admission::image_in` meets its contract: refusal 6, then those of the region. Assumes nothing.
-use borrow.Author.Rules.{rules}
 use mathlib.Core.Path.{◌≡◌, sym, ap, ◌∙◌}
 use Prim.Native.Nat.{ℕ}
 use Rattle.stream.specs.declared.header.FujiHeader.{FujiHeader}

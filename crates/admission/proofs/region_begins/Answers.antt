@@ -1,5 +1,4 @@
 -- `admission::region_begins` meets its contract, by the two ways in which opening ends. Assumes nothing.
-use borrow.Author.Rules.{rules}
 use mathlib.Core.Path.{sym, ◌∙◌}
 use Rattle.admission.proofs.BeginningLaws.{region_is}
 use Rattle.admission.proofs.region_begins.Goals as goal

@@ -1,5 +1,4 @@
 -- `admission::region_in` meets its contract, by the three answers of the region's check. Assumes nothing.
-use borrow.Author.Rules.{rules}
 use mathlib.Core.Path.{◌≡◌, sym, ap, ◌∙◌}
 use Prim.Native.Nat.{ℕ}
 use Rattle.stream.specs.declared.header.FujiHeader.{FujiHeader}

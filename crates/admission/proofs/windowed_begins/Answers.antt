@@ -1,5 +1,4 @@
 -- `admission::windowed_begins` meets its contract. Assumes nothing.
-use borrow.Author.Rules.{rules}
 use Rattle.admission.proofs.windowed_begins.Goals as goal
 
 pub returns : goal.returns

@@ -1,5 +1,4 @@
 -- `admission::with_scratch` meets its contract. Assumes nothing.
-use borrow.Author.Rules.{rules}
 use mathlib.Core.Path.{sym, ◌∙◌}
 use Rattle.admission.proofs.BeginningLaws.{scratch_short, scratch_fits}
 use Rattle.admission.proofs.with_scratch.Goals as goal

@@ -1,5 +1,4 @@
 -- `base_plan::plan_lines` meets its contract, refusal after refusal. Assumes nothing.
-use borrow.Author.Rules.{rules}
 use mathlib.Core.Bool.{true, false}
 use mathlib.Core.Path.{◌≡◌, ◌∙◌}
 use mathlib.Core.List.{List}

@@ -1,9 +1,7 @@
 -- `cameras::end_stream` meets its contract: all holds of the camera are given back. Assumes nothing.
 use mathlib.Core.Path.{◌≡◌}
 use Prim.Native.Nat.{◌-◌, ◌≤◌}
-use native.Mathlib.Omega.{arith}
 use Rattle.cameras.specs.Entries.{free_of, each}
-use Rattle.cameras.proofs.EntryLaws.{each_start, each_more}
 use Rattle.cameras.proofs.end_stream.Given as goal
 
 abbrev pub invariant-loop-i : goal.invariant-loop-i

@@ -1,10 +1,8 @@
 -- `cameras::free_in` meets its contract: the lowest entry that nobody holds, or 16. Assumes nothing.
 use mathlib.Core.Bool.{not}
-use mathlib.Core.Path.{refl, sym, ap, ◌∙◌}
 use Prim.Native.Nat.{◌-◌}
-use native.Mathlib.Omega.{arith}
-use Rattle.cameras.proofs.SearchLaws.{NoneBefore, found, goes_on, ended}
-use Rattle.cameras.specs.Entries.{is_held, entry_at, free_in}
+use Rattle.cameras.proofs.SearchLaws.{NoneBefore}
+use Rattle.cameras.specs.Entries.{is_held, entry_at}
 use Rattle.cameras.proofs.free_in.Given as goal
 
 abbrev pub invariant-loop-j : goal.invariant-loop-j

@@ -1,5 +1,4 @@
 -- `image_region::check` meets its contract, by its tests. Assumes nothing.
-use borrow.Author.Rules.{rules}
 use mathlib.Core.Path.{sym, ◌∙◌}
 use Rattle.image_region.proofs.CheckLaws.{not_empty, says_refused, says_empty, says_touched}
 use Rattle.image_region.proofs.check.Goals as goal

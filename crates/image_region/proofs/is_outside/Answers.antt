@@ -1,5 +1,4 @@
 -- `image_region::is_outside` meets its contract, by its tests. Assumes nothing.
-use borrow.Author.Rules.{rules}
 use native.Mathlib.Omega.{arith}
 use Rattle.image_region.proofs.CheckLaws.{passes_right, passes_bottom, room_decides, product_fits}
 use Rattle.image_region.proofs.is_outside.Goals as goal

@@ -1,5 +1,4 @@
 -- `image_region::part` meets its contract. Assumes nothing.
-use borrow.Author.Rules.{rules}
 use Rattle.image_region.specs.Inside.{part_in}
 use Rattle.image_region.proofs.part.Goals as goal
 

@@ -1,5 +1,4 @@
 -- `image_region::span_of` meets its contract. Assumes nothing.
-use borrow.Author.Rules.{rules}
 use Rattle.image_region.specs.Regions.{span_of}
 use Rattle.image_region.proofs.span_of.Goals as goal
 

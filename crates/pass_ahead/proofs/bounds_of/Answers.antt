@@ -1,5 +1,4 @@
 -- `pass_ahead::bounds_of` meets its contract. Assumes nothing.
-use borrow.Author.Rules.{rules}
 use Rattle.pass_ahead.proofs.bounds_of.Goals as goal
 
 pub returns : goal.returns

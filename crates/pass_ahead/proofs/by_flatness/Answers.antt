@@ -1,9 +1,9 @@
 -- `pass_ahead::by_flatness` meets its contract: the entries before j are there. Assumes nothing.
 use native.Mathlib.Omega.{arith}
-use mathlib.Core.Path.{◌≡◌, refl, sym, ap, ◌∙◌}
-use Prim.Native.Nat.{ℕ, ◌+◌, ◌-◌, ◌*◌, ◌≤◌}
+use mathlib.Core.Path.{refl, ap, ◌∙◌}
+use Prim.Native.Nat.{ℕ, ◌+◌, ◌*◌}
 use Rattle.pass_steps.specs.Contexts.{used_base, place_of}
-use Rattle.pass_ahead.proofs.SlotLaws.{Flats, flats_none, flats_more, by_flatness}
+use Rattle.pass_ahead.proofs.SlotLaws.{flats_none, flats_more, by_flatness}
 use Rattle.pass_ahead.proofs.by_flatness.Goals as goal
 
 pub loop-j-init : goal.loop-j-init

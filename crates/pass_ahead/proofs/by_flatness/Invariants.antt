@@ -1,9 +1,6 @@
 -- `pass_ahead::by_flatness` meets its contract: the entries before j are there. Assumes nothing.
-use native.Mathlib.Omega.{arith}
-use mathlib.Core.Path.{◌≡◌, refl, sym, ap, ◌∙◌}
-use Prim.Native.Nat.{ℕ, ◌+◌, ◌-◌, ◌*◌, ◌≤◌}
-use Rattle.pass_steps.specs.Contexts.{used_base, place_of}
-use Rattle.pass_ahead.proofs.SlotLaws.{Flats, flats_none, flats_more, by_flatness}
+use Prim.Native.Nat.{◌-◌, ◌≤◌}
+use Rattle.pass_ahead.proofs.SlotLaws.{Flats}
 use Rattle.pass_ahead.proofs.by_flatness.Given as goal
 
 abbrev pub invariant-loop-j : goal.invariant-loop-j

@@ -1,5 +1,4 @@
 -- `pass_ahead::even_prediction` meets its contract. Assumes nothing.
-use borrow.Author.Rules.{rules}
 use Rattle.pass_ahead.proofs.LookLaws.{even_made}
 use Rattle.pass_ahead.proofs.even_prediction.Goals as goal
 

@@ -1,5 +1,4 @@
 -- `pass_ahead::first_slot` meets its contract. Assumes nothing.
-use borrow.Author.Rules.{rules}
 use native.Mathlib.Omega.{arith}
 use borrow.Author.Tests.{eq-eqb, ne_eqb}
 use Rattle.pass_ahead.proofs.first_slot.Goals as goal

@@ -1,5 +1,4 @@
 -- `pass_ahead::flag16` meets its contract, by the two values of the test. Assumes nothing.
-use borrow.Author.Rules.{rules}
 use mathlib.Core.Path.{◌≡◌, refl}
 use mathlib.Core.Bool.{Bool, true, false}
 use Prim.Native.Nat.{◌≤◌}

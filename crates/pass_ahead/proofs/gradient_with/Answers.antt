@@ -1,5 +1,4 @@
 -- `pass_ahead::gradient_with` meets its contract. Assumes nothing.
-use borrow.Author.Rules.{rules}
 use native.Mathlib.Omega.{arith}
 use mathlib.Core.Path.{subst, ap}
 use Rattle.numbers.specs.declared.Signed.{Signed}

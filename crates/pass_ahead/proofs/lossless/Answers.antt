@@ -1,12 +1,11 @@
 -- `pass_ahead::lossless` meets its contract: the entries before i are there. Assumes nothing.
 use native.Mathlib.Omega.{arith}
 use mathlib.Core.Bool.{Bool, cond}
-use mathlib.Core.List.{List}
 use mathlib.Core.Path.{ap, ◌∙◌}
-use Prim.Native.Nat.{ℕ, ◌+◌, ◌-◌, ◌≤◌, ◌<◌}
+use Prim.Native.Nat.{ℕ, ◌+◌, ◌<◌}
 use lib.ListN.{get_or}
 use Rattle.numbers.specs.Numbers.{distance, minus, flag}
-use Rattle.pass_ahead.specs.Arrays.{AheadRow, Rows}
+use Rattle.pass_ahead.specs.Arrays.{AheadRow}
 use Rattle.pass_ahead.proofs.LookLaws.{even_look, own_marks, nine_raised}
 use Rattle.pass_ahead.proofs.ArrayLaws.{rows_none, rows_fewer, turn_begins, row_more, turn_ends}
 use Rattle.pass_ahead.proofs.lossless.Goals as goal

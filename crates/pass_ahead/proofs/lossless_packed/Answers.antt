@@ -1,5 +1,4 @@
 -- `pass_ahead::lossless_packed` meets its contract. Assumes nothing.
-use borrow.Author.Rules.{rules}
 use Rattle.numbers.specs.Numbers.{distance}
 use Rattle.pass_ahead.proofs.LookLaws.{own_marks, lossless_look}
 use Rattle.pass_ahead.proofs.lossless_packed.Goals as goal

@@ -2,10 +2,10 @@
 use native.Mathlib.Omega.{arith}
 use mathlib.Core.Bool.{Bool, cond}
 use mathlib.Core.Path.{ap, ◌∙◌}
-use Prim.Native.Nat.{ℕ, ◌+◌, ◌-◌, ◌≤◌, ◌<◌, min}
+use Prim.Native.Nat.{ℕ, ◌+◌, ◌<◌, min}
 use lib.ListN.{get_or}
 use Rattle.numbers.specs.Numbers.{distance, minus, flag}
-use Rattle.pass_ahead.specs.Arrays.{AheadRow, Rows}
+use Rattle.pass_ahead.specs.Arrays.{AheadRow}
 use Rattle.pass_ahead.proofs.LookLaws.{by_own, look_based, own_marks, nine_raised}
 use Rattle.pass_ahead.proofs.ArrayLaws.{rows_none, rows_fewer, turn_begins, row_more, turn_ends}
 use Rattle.pass_ahead.proofs.lossy.Goals as goal

@@ -1,8 +1,6 @@
 -- `pass_ahead::lossy_packed` meets its contract. Assumes nothing.
-use borrow.Author.Rules.{rules}
 use mathlib.Core.Path.{◌≡◌, ◌∙◌}
 use Prim.Native.Nat.{ℕ, ◌+◌, min}
-use Rattle.numbers.specs.Numbers.{distance}
 use Rattle.code.specs.Samples.{choice_of}
 use Rattle.pass_ahead.specs.Looks.{bounds_of, reached_of}
 use Rattle.pass_ahead.specs.declared.Bounds.{Bounds}

@@ -1,5 +1,4 @@
 -- `pass_ahead::odd_aim_at` meets its contract. Assumes nothing.
-use borrow.Author.Rules.{rules}
 use native.Mathlib.Omega.{arith}
 use mathlib.Core.Path.{ap}
 use Rattle.numbers.specs.Numbers.{minus}

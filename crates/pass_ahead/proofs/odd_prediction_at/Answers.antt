@@ -1,5 +1,4 @@
 -- `pass_ahead::odd_prediction_at` meets its contract. Assumes nothing.
-use borrow.Author.Rules.{rules}
 use Rattle.pass_ahead.specs.Odds.{rc_at, rb_at, rd_at}
 use Rattle.pass_ahead.proofs.OddLaws.{beyond_small, predicted_at, odd_small}
 use Rattle.pass_ahead.proofs.odd_prediction_at.Goals as goal

@@ -1,7 +1,6 @@
 -- `pass_ahead::packed_by` meets its contract. Assumes nothing.
-use borrow.Author.Rules.{rules}
 use native.Mathlib.Omega.{arith}
-use Prim.Native.Nat.{ℕ, ◌+◌, ◌*◌, ◌≤◌}
+use Prim.Native.Nat.{ℕ, ◌*◌, ◌≤◌}
 use native.Mathlib.Nat.{mul-le-mul}
 use Rattle.numbers.specs.Numbers.{distance}
 use Rattle.pass_ahead.proofs.LookLaws.{used_marks, lossy_look}

@@ -1,9 +1,6 @@
 -- `pass_ahead::split` meets its contract: the entries before i are there. Assumes nothing.
-use native.Mathlib.Omega.{arith}
-use Prim.Native.Nat.{◌+◌, ◌-◌, ◌≤◌}
-use mathlib.Core.Path.{refl}
+use Prim.Native.Nat.{◌-◌, ◌≤◌}
 use Rattle.pass_ahead.specs.Arrays.{Filled, Second, After}
-use Rattle.pass_ahead.proofs.ArrayLaws.{fill_none, fill_more, fewer}
 use Rattle.pass_ahead.proofs.split.Given as goal
 
 abbrev pub invariant-loop-i : goal.invariant-loop-i

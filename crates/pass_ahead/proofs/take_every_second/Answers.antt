@@ -1,8 +1,7 @@
 -- `pass_ahead::take_every_second` meets its contract: the entries before i are there. Assumes nothing.
 use native.Mathlib.Omega.{arith}
-use Prim.Native.Nat.{◌+◌, ◌-◌, ◌≤◌}
 use mathlib.Core.Path.{refl}
-use Rattle.pass_ahead.specs.Arrays.{Filled, Second}
+use Rattle.pass_ahead.specs.Arrays.{Second}
 use Rattle.pass_ahead.proofs.ArrayLaws.{fill_none, fill_more, fewer}
 use Rattle.pass_ahead.proofs.take_every_second.Goals as goal
 

@@ -1,5 +1,4 @@
 -- `pass_ahead::used_base16` meets its contract. Assumes nothing.
-use borrow.Author.Rules.{rules}
 use borrow.Author.Tests.{eq-eqb, ne_eqb}
 use Rattle.pass_ahead.proofs.used_base16.Goals as goal
 

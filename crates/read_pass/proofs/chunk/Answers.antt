@@ -1,24 +1,19 @@
 -- `read_pass::chunk` meets its contract: after each turn the steps of the turns so far are read, and what was made ahead is right still. Assumes nothing.
-use borrow.Author.Rules.{rules}
-use mathlib.Core.List.{List}
-use mathlib.Core.Logic.{⊎_elim}
 use mathlib.Core.Option.{some}
 use mathlib.Core.Path.{◌≡◌, refl, ◌∙◌}
-use Prim.Native.Nat.{ℕ, ◌+◌, ◌-◌, ◌*◌, ◌≤◌, ◌<◌}
+use Prim.Native.Nat.{◌+◌, ◌-◌, ◌*◌, ◌≤◌, ◌<◌}
 use native.Mathlib.Omega.{arith}
 use lib.ListN.{length}
 use Rattle.pass_schedule.specs.Steps.{even_part, upto}
-use Rattle.pass_schedule.specs.declared.Plan.{Plan}
 use Rattle.pass_steps.specs.Values.{SetInRange, AreKs}
 use Rattle.pass_ahead.specs.Arrays.{Ahead}
 use Rattle.pass_ahead.proofs.AheadLaws.{ahead_kept}
 use Rattle.read_pass.specs.Readings.{Reading}
-use Rattle.read_pass.specs.Pairs.{place_at, held, chunk_steps}
+use Rattle.read_pass.specs.Pairs.{place_at, held}
 use Rattle.read_pass.proofs.RangeLaws.{reads_keep}
 use Rattle.read_pass.proofs.AboveLaws.{both_above}
 use Rattle.read_pass.proofs.StepLaws.{StepsGive, no_steps, evens_here, evens_over, odds_here, odds_not_yet, turn_more, evens_cut_off, odds_cut_off, all_turns}
 use Rattle.read_pass.proofs.SiteLaws.{met, steps_met, ranges_met, ks_met, length_met, ahead_met, holds_on, pair_was_cut_off, pair_was_at, pair_cut_off, pair_at}
-use Rattle.read_pass.proofs.chunk.Invariants.{Turns}
 use Rattle.read_pass.proofs.chunk.Goals as goal
 use Rattle.read_pass.proofs.chunk.Goals.{then-p-w+in-At, else-p-w, In-loop-h, Joined-p-w, then-p-ge8+in-At-got, else-p-ge8}
 
@@ -44,28 +39,28 @@ record Met (c : Joined-p-w) : Type 0 where
 evens : (c : Joined-p-w) → Met c
 evens c =
     elim c.if-p-w.branch [
-      then-p-w+in-At w ↦
-        let m = met w.lines-is w.sums-is w.ns-is w.at-is w.tight-is w.long-is in
-        let at = pair_was_at _ _ _ _ _ _ _ _ _ w.even_pair-got.ensures.answer w.in-At.is in
-        let up = both_above _ c.args.spot.plan c.requires.chunk_asks.holds.apart _ w.if-p-w.true at in
-        record {
-          read = steps_met m (evens_here c.args.spot.plan _ w.if-p-w.true at);
-          in_range = ranges_met m w.even_pair-got.ensures.records;
-          ks_kept = ks_met m w.ks-is w.even_pair-got.ensures.ks_kept;
-          same = length_met m ∙ (w.even_pair-got.auto.lines ∙ c.loop-h.invariant.same);
-          one = ahead_met m (ahead_kept _ _ _ _ _ c.requires.chunk_asks.holds.plan.first_low up.0 _ _ _ c.requires.chunk_asks.ends c.loop-h.invariant.one);
-          two = ahead_met m (ahead_kept _ _ _ _ _ c.requires.chunk_asks.holds.plan.second_low up.1 _ _ _ c.requires.chunk_asks.ends c.loop-h.invariant.two);
-        }
-    | else-p-w w ↦
-        let m = met w.lines-is w.sums-is w.ns-is w.at-is w.tight-is w.long-is in
-        record {
-          read = steps_met m (evens_over c.args.spot.plan _ w.if-p-w.false);
-          in_range = ranges_met m c.loop-h.invariant.records;
-          ks_kept = ks_met m w.ks-is c.loop-h.invariant.ks_kept;
-          same = length_met m ∙ c.loop-h.invariant.same;
-          one = ahead_met m c.loop-h.invariant.one;
-          two = ahead_met m c.loop-h.invariant.two;
-        }
+      | then-p-w+in-At w ↦
+          let m = met w.lines-is w.sums-is w.ns-is w.at-is w.tight-is w.long-is in
+          let at = pair_was_at _ _ _ _ _ _ _ _ _ w.even_pair-got.ensures.answer w.in-At.is in
+          let up = both_above _ c.args.spot.plan c.requires.chunk_asks.holds.apart _ w.if-p-w.true at in
+          record {
+            read = steps_met m (evens_here c.args.spot.plan _ w.if-p-w.true at);
+            in_range = ranges_met m w.even_pair-got.ensures.records;
+            ks_kept = ks_met m w.ks-is w.even_pair-got.ensures.ks_kept;
+            same = length_met m ∙ (w.even_pair-got.auto.lines ∙ c.loop-h.invariant.same);
+            one = ahead_met m (ahead_kept _ _ _ _ _ c.requires.chunk_asks.holds.plan.first_low up.0 _ _ _ c.requires.chunk_asks.ends c.loop-h.invariant.one);
+            two = ahead_met m (ahead_kept _ _ _ _ _ c.requires.chunk_asks.holds.plan.second_low up.1 _ _ _ c.requires.chunk_asks.ends c.loop-h.invariant.two);
+          }
+      | else-p-w w ↦
+          let m = met w.lines-is w.sums-is w.ns-is w.at-is w.tight-is w.long-is in
+          record {
+            read = steps_met m (evens_over c.args.spot.plan _ w.if-p-w.false);
+            in_range = ranges_met m c.loop-h.invariant.records;
+            ks_kept = ks_met m w.ks-is c.loop-h.invariant.ks_kept;
+            same = length_met m ∙ c.loop-h.invariant.same;
+            one = ahead_met m c.loop-h.invariant.one;
+            two = ahead_met m c.loop-h.invariant.two;
+          }
     ]
 
 -- ---- the odd position
@@ -133,28 +128,28 @@ pub loop-h-preserved : goal.loop-h-preserved
 loop-h-preserved c =
     let e = evens (goal.at.loop-h-preserved c).Joined-p-w in
     elim c.if-p-ge8.branch [
-      then-p-ge8+in-At-got w ↦ let m = met w.lines-is w.sums-is w.ns-is w.at-is w.tight-is w.long-is in
-    let at = pair_was_at _ _ _ _ _ _ _ _ _ w.odd_pair-got.ensures.answer w.in-At-got.is in
-    let up = both_above _ c.args.spot.plan c.requires.chunk_asks.holds.apart _ (within (goal.at.loop-h-preserved c).Joined-p-w) at in
-    record {
-      last = omega (arith, c.loop-h-test.true);
-      same = length_met m ∙ (w.odd_pair-got.auto.lines ∙ e.same);
-      records = ranges_met m w.odd_pair-got.ensures.records;
-      ks_kept = ks_met m w.ks-is w.odd_pair-got.ensures.ks_kept;
-      one = ahead_met m (ahead_kept _ _ _ _ _ c.requires.chunk_asks.holds.plan.first_low up.0 _ _ _ c.requires.chunk_asks.ends e.one);
-      two = ahead_met m (ahead_kept _ _ _ _ _ c.requires.chunk_asks.holds.plan.second_low up.1 _ _ _ c.requires.chunk_asks.ends e.two);
-      read = turn_more c.args.spot.plan _ _ c.loop-h.invariant.read c.requires.chunk_asks.begins e.read (steps_met m (odds_here c.args.spot.plan _ w.if-p-ge8.true at));
-    }
-    | else-p-ge8 w ↦ let m = met w.lines-is w.sums-is w.ns-is w.at-is w.tight-is w.long-is in
-    record {
-      last = omega (arith, c.loop-h-test.true);
-      same = length_met m ∙ e.same;
-      records = ranges_met m e.in_range;
-      ks_kept = ks_met m w.ks-is e.ks_kept;
-      one = ahead_met m e.one;
-      two = ahead_met m e.two;
-      read = turn_more c.args.spot.plan _ _ c.loop-h.invariant.read c.requires.chunk_asks.begins e.read (steps_met m (odds_not_yet c.args.spot.plan _ w.if-p-ge8.false));
-    }
+      | then-p-ge8+in-At-got w ↦ let m = met w.lines-is w.sums-is w.ns-is w.at-is w.tight-is w.long-is in
+          let at = pair_was_at _ _ _ _ _ _ _ _ _ w.odd_pair-got.ensures.answer w.in-At-got.is in
+          let up = both_above _ c.args.spot.plan c.requires.chunk_asks.holds.apart _ (within (goal.at.loop-h-preserved c).Joined-p-w) at in
+          record {
+            last = omega (arith, c.loop-h-test.true);
+            same = length_met m ∙ (w.odd_pair-got.auto.lines ∙ e.same);
+            records = ranges_met m w.odd_pair-got.ensures.records;
+            ks_kept = ks_met m w.ks-is w.odd_pair-got.ensures.ks_kept;
+            one = ahead_met m (ahead_kept _ _ _ _ _ c.requires.chunk_asks.holds.plan.first_low up.0 _ _ _ c.requires.chunk_asks.ends e.one);
+            two = ahead_met m (ahead_kept _ _ _ _ _ c.requires.chunk_asks.holds.plan.second_low up.1 _ _ _ c.requires.chunk_asks.ends e.two);
+            read = turn_more c.args.spot.plan _ _ c.loop-h.invariant.read c.requires.chunk_asks.begins e.read (steps_met m (odds_here c.args.spot.plan _ w.if-p-ge8.true at));
+          }
+      | else-p-ge8 w ↦ let m = met w.lines-is w.sums-is w.ns-is w.at-is w.tight-is w.long-is in
+          record {
+            last = omega (arith, c.loop-h-test.true);
+            same = length_met m ∙ e.same;
+            records = ranges_met m e.in_range;
+            ks_kept = ks_met m w.ks-is e.ks_kept;
+            one = ahead_met m e.one;
+            two = ahead_met m e.two;
+            read = turn_more c.args.spot.plan _ _ c.loop-h.invariant.read c.requires.chunk_asks.begins e.read (steps_met m (odds_not_yet c.args.spot.plan _ w.if-p-ge8.false));
+          }
     ]
 
 pub returns : goal.returns

@@ -1,23 +1,15 @@
 -- `read_pass::chunk` meets its contract: after each turn the steps of the turns so far are read, and what was made ahead is right still. Assumes nothing.
-use borrow.Author.Rules.{rules}
 use mathlib.Core.List.{List}
-use mathlib.Core.Logic.{⊎_elim}
 use mathlib.Core.Option.{some}
-use mathlib.Core.Path.{◌≡◌, refl, ◌∙◌}
-use Prim.Native.Nat.{ℕ, ◌+◌, ◌-◌, ◌*◌, ◌≤◌, ◌<◌}
-use native.Mathlib.Omega.{arith}
+use mathlib.Core.Path.{◌≡◌}
+use Prim.Native.Nat.{ℕ, ◌-◌, ◌≤◌}
 use lib.ListN.{length}
-use Rattle.pass_schedule.specs.Steps.{even_part, upto}
 use Rattle.pass_schedule.specs.declared.Plan.{Plan}
 use Rattle.pass_steps.specs.Values.{SetInRange, AreKs}
 use Rattle.pass_ahead.specs.Arrays.{Ahead}
-use Rattle.pass_ahead.proofs.AheadLaws.{ahead_kept}
 use Rattle.read_pass.specs.Readings.{Reading}
 use Rattle.read_pass.specs.Pairs.{place_at, held, chunk_steps}
-use Rattle.read_pass.proofs.RangeLaws.{reads_keep}
-use Rattle.read_pass.proofs.AboveLaws.{both_above}
-use Rattle.read_pass.proofs.StepLaws.{StepsGive, no_steps, evens_here, evens_over, odds_here, odds_not_yet, turn_more, evens_cut_off, odds_cut_off, all_turns}
-use Rattle.read_pass.proofs.SiteLaws.{met, steps_met, ranges_met, ks_met, length_met, ahead_met, holds_on, pair_was_cut_off, pair_was_at, pair_cut_off, pair_at}
+use Rattle.read_pass.proofs.StepLaws.{StepsGive}
 use Rattle.read_pass.proofs.chunk.Given as goal
 
 -- what is known before turn h: from r₀ on the turns before it have been read, up to r

@@ -1,7 +1,5 @@
 -- `read_pass::even_pair` meets its contract: two steps, each interpolated or by the answers of the leaves. Assumes nothing.
-use borrow.Author.Rules.{rules}
 use mathlib.Core.Bool.{true, not}
-use mathlib.Core.Logic.{⊎_elim}
 use mathlib.Core.Option.{some}
 use mathlib.Core.Path.{◌≡◌, refl, sym, ◌∙◌}
 use Prim.Native.Nat.{◌≤◌}
@@ -45,27 +43,27 @@ one : (c : Joined-has_code) → Met c
 one c =
     let coded = sym c.has_code.ensures in
     elim c.if-has_code.branch [
-      then-has_code+in-Read w ↦
-        let o : CodedAt c.args.turn.spot.bits c.args.turn.base c.args.turn.spot.w c.args.turn.spot.plan.first c.args.turn.spot.p c.args.block.now c.args.lines.now
-    c.args.sums.now c.args.ns.now c.args.steps.now c.args.limits.now c.args.totals.now w.even_coding-c.result =
-            even_coded c.requires.pair_asks.holds.plan.first_low c.requires.pair_asks.holds.plan.first_high c.requires.pair_asks.holds.width c.requires.pair_asks.inside c.requires.pair_asks.holds.room.0 c.requires.pair_asks.holds.tables c.requires.pair_asks.holds.depth c.requires.pair_asks.holds.base c.requires.pair_asks.holds.ks_kept _ c.requires.both_even.even
-    c.requires.both_even.one c.left_of-i.ensures.0 w.even_coding-c.ensures.value w.even_coding-c.ensures.prediction_bound in
-        let m = met w.lines-is w.sums-is w.ns-is w.at-is w.tight-is w.long-is in
-        let new = w.update_by.ensures in
-        record {
-          read = step_met m (site_read o (coded ∙ w.if-has_code.true) w.taken-got.ensures.0 w.in-Read.is w.put_sample.ensures new.ns_after);
-          in_range = ranges_met m new.set_in_range_2;
-          ks_kept = ks_met m w.ks-is new.are_ks_2;
-          same = length_met m ∙ w.put_sample.auto.lines;
-        }
-    | else-has_code w ↦
-        let m = met w.lines-is w.sums-is w.ns-is w.at-is w.tight-is w.long-is in
-        record {
-          read = step_met m (site_interpolated c.requires.pair_asks.holds.plan.first_low c.requires.both_even.even c.requires.both_even.one c.left_of-i.ensures.0 (coded ∙ w.if-has_code.false) refl);
-          in_range = ranges_met m c.requires.pair_asks.holds.records;
-          ks_kept = ks_met m w.ks-is c.requires.pair_asks.holds.ks_kept;
-          same = rw w.lines-is (length-set c.args.lines.now _ _);
-        }
+      | then-has_code+in-Read w ↦
+          let o : CodedAt c.args.turn.spot.bits c.args.turn.base c.args.turn.spot.w c.args.turn.spot.plan.first c.args.turn.spot.p c.args.block.now c.args.lines.now
+          c.args.sums.now c.args.ns.now c.args.steps.now c.args.limits.now c.args.totals.now w.even_coding-c.result =
+          even_coded c.requires.pair_asks.holds.plan.first_low c.requires.pair_asks.holds.plan.first_high c.requires.pair_asks.holds.width c.requires.pair_asks.inside c.requires.pair_asks.holds.room.0 c.requires.pair_asks.holds.tables c.requires.pair_asks.holds.depth c.requires.pair_asks.holds.base c.requires.pair_asks.holds.ks_kept _ c.requires.both_even.even
+          c.requires.both_even.one c.left_of-i.ensures.0 w.even_coding-c.ensures.value w.even_coding-c.ensures.prediction_bound in
+          let m = met w.lines-is w.sums-is w.ns-is w.at-is w.tight-is w.long-is in
+          let new = w.update_by.ensures in
+          record {
+            read = step_met m (site_read o (coded ∙ w.if-has_code.true) w.taken-got.ensures.0 w.in-Read.is w.put_sample.ensures new.ns_after);
+            in_range = ranges_met m new.set_in_range_2;
+            ks_kept = ks_met m w.ks-is new.are_ks_2;
+            same = length_met m ∙ w.put_sample.auto.lines;
+          }
+      | else-has_code w ↦
+          let m = met w.lines-is w.sums-is w.ns-is w.at-is w.tight-is w.long-is in
+          record {
+            read = step_met m (site_interpolated c.requires.pair_asks.holds.plan.first_low c.requires.both_even.even c.requires.both_even.one c.left_of-i.ensures.0 (coded ∙ w.if-has_code.false) refl);
+            in_range = ranges_met m c.requires.pair_asks.holds.records;
+            ks_kept = ks_met m w.ks-is c.requires.pair_asks.holds.ks_kept;
+            same = rw w.lines-is (length-set c.args.lines.now _ _);
+          }
     ]
 
 -- there are no more long codes than bits

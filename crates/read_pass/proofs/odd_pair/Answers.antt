@@ -1,5 +1,4 @@
 -- `read_pass::odd_pair` meets its contract: two steps, each by the answers of the leaves. Assumes nothing.
-use borrow.Author.Rules.{rules}
 use mathlib.Core.Bool.{true}
 use mathlib.Core.List.{List}
 use mathlib.Core.Option.{some}

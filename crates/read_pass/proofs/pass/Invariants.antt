@@ -1,20 +1,15 @@
 -- `read_pass::pass` meets its contract: before each chunk the steps of the turns so far are read. Assumes nothing.
-use borrow.Author.Rules.{rules}
 use mathlib.Core.List.{List}
 use mathlib.Core.Option.{some}
-use mathlib.Core.Path.{◌≡◌, refl, ◌∙◌}
-use Prim.Native.Nat.{ℕ, ◌+◌, ◌-◌, ◌*◌, ◌/◌, ◌%◌, ◌≤◌, ◌<◌}
-use native.Mathlib.Omega.{arith}
+use mathlib.Core.Path.{◌≡◌}
+use Prim.Native.Nat.{ℕ, ◌+◌, ◌-◌, ◌/◌, ◌%◌, ◌≤◌}
 use lib.ListN.{length}
 use Rattle.pass_schedule.specs.Steps.{turn_steps, upto}
 use Rattle.pass_schedule.specs.declared.Plan.{Plan}
 use Rattle.pass_steps.specs.Values.{SetInRange, AreKs}
-use Rattle.pass_steps.proofs.TableLaws.{are_quantisers}
 use Rattle.read_pass.specs.Readings.{Reading}
 use Rattle.read_pass.specs.Pairs.{place_at, held}
-use Rattle.read_pass.proofs.RangeLaws.{reads_keep}
-use Rattle.read_pass.proofs.StepLaws.{StepsGive, no_steps, chunk_more, chunk_cut_off, all_read}
-use Rattle.read_pass.proofs.SiteLaws.{limits_fit, tables_made, pair_was_cut_off, pair_was_at, passed_cut_off, passed}
+use Rattle.read_pass.proofs.StepLaws.{StepsGive}
 use Rattle.read_pass.proofs.pass.Given as goal
 
 -- what is known before position c: from r₀ on the turns before it have been read, up to r

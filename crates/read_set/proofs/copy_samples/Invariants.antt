@@ -1,11 +1,8 @@
 -- `read_set::copy_samples` meets its contract. The invariant: the first j samples are copied. Assumes nothing.
-use borrow.Author.Rules.{rules}
-use mathlib.Core.Path.{◌≡◌, refl, ap, ◌∙◌}
-use Prim.Native.Nat.{ℕ, ◌+◌, ◌-◌, ◌≤◌, ◌<◌}
-use native.Mathlib.Omega.{arith}
-use lib.ListN.{length, take, drop, length-set}
+use mathlib.Core.Path.{◌≡◌}
+use Prim.Native.Nat.{◌-◌, ◌≤◌}
+use lib.ListN.{length, take, drop}
 use Rattle.read_set.specs.HandedSets.{put_over}
-use Rattle.read_set.proofs.PutLaws.{put_none, copy_more}
 use Rattle.read_set.proofs.copy_samples.Given as goal
 
 abbrev pub invariant-loop-j : goal.invariant-loop-j

@@ -1,16 +1,15 @@
 -- `read_set::keep_line` meets its contract. The invariant: the first c colour lines stand in the set. Assumes nothing.
 use borrow.Author.Rules.{rules}
-use mathlib.Core.List.{List, []}
-use mathlib.Core.Path.{◌≡◌, refl, sym, ap, ◌∙◌}
-use Prim.Native.Nat.{ℕ, ◌+◌, ◌-◌, ◌*◌, ◌^◌, ◌≤◌, ◌<◌}
+use mathlib.Core.List.{List}
+use mathlib.Core.Path.{◌≡◌, refl, ◌∙◌}
+use Prim.Native.Nat.{ℕ, ◌+◌, ◌*◌, ◌≤◌, ◌<◌}
 use native.Mathlib.Nat.{mul-le-mul_right}
 use native.Mathlib.Omega.{arith}
-use lib.ListN.{length, take, drop}
-use Rattle.colour_lines.specs.Sets.{line_size, line_of_rank}
+use Rattle.colour_lines.specs.Sets.{line_size}
 use Rattle.pass_schedule.specs.Steps.{upto}
 use Rattle.read_set.specs.HandedSets.{put_over}
 use Rattle.colour_lines.proofs.LineLaws.{line_inside}
-use Rattle.read_set.proofs.PutLaws.{colour, put_none, put_length, colours_long, colour_step, all_twelve}
+use Rattle.read_set.proofs.PutLaws.{colour, put_none, colour_step, all_twelve}
 use Rattle.read_set.proofs.keep_line.Goals as goal
 use Rattle.read_set.proofs.keep_line.Goals.{After-line_of_rank-l}
 

@@ -1,6 +1,5 @@
 -- `read_set::line_of_rank` meets its contract. Assumes nothing.
 use borrow.Author.Rules.{rules}
-use native.Mathlib.Omega.{arith}
 use borrow.Author.Tests.{lt-ltb, le-ltb}
 use Rattle.colour_lines.specs.Sets.{line_of_rank}
 use Rattle.read_set.proofs.line_of_rank.Goals as goal

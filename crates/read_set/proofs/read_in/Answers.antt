@@ -1,5 +1,4 @@
 -- `read_set::read_in` meets its contract: what the stream says of block b is read, and scratch is cleared behind it. Assumes nothing.
-use borrow.Author.Rules.{rules}
 use mathlib.Core.Bool.{false}
 use mathlib.Core.Path.{◌≡◌, ap, ◌∙◌}
 use Prim.Native.Nat.{ℕ}

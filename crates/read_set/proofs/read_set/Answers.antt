@@ -5,7 +5,7 @@ use Rattle.read_block.specs.Images.{form_of, bytes_in, bases_in}
 use Rattle.read_block.proofs.LeftLaws.{lines_back, records_back}
 use Rattle.read_block.proofs.TightLaws.{read_told}
 use Rattle.read_set.specs.HandedSets.{Sets}
-use Rattle.read_set.proofs.CallLaws.{SetAccepted, set_reads, set_refused, set_read_lem}
+use Rattle.read_set.proofs.CallLaws.{set_reads, set_refused, set_read_lem}
 use Rattle.read_set.proofs.read_set.Goals as goal
 use Rattle.read_set.proofs.read_set.Goals.{Start}
 

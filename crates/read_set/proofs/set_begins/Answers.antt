@@ -1,11 +1,5 @@
 -- `read_set::set_begins` meets its contract. Assumes nothing.
-use borrow.Author.Rules.{rules}
 use Rattle.read_set.proofs.PutLaws.{few_lines, begins_no_block, begins_wrong, begins_refused, begins_on}
-use Rattle.read_set.proofs.set_begins.Reads as reads
-use Rattle.read_set.proofs.set_begins.Lts as lts
-use Rattle.admission.proofs.with_scratch.Reads as with-scratch-reads
-use Rattle.read_set.proofs.set_size.Reads as set-size-reads
-use Rattle.stream.proofs.open.Reads as open-reads
 use Rattle.read_set.proofs.set_begins.Goals as goal
 
 pub returns-then-h-b : goal.returns-then-h-b

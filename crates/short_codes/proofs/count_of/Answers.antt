@@ -1,5 +1,4 @@
 -- `short_codes::count_of` meets its contract. Assumes nothing.
-use borrow.Author.Rules.{rules}
 use mathlib.Core.Path.{◌≡◌}
 use Prim.Native.Nat.{ℕ, ◌-◌, ◌*◌, ◌^◌, ◌≤◌, min}
 use native.Mathlib.Nat.{mul-le-mul}

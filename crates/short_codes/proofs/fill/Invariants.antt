@@ -1,14 +1,9 @@
 -- `short_codes::fill` meets its contract: the entries before `code` are written. Assumes nothing.
-use borrow.Author.Rules.{rules}
-use mathlib.Core.Path.{◌≡◌, sym, ◌∙◌}
-use mathlib.Core.List.{List}
-use Prim.Native.Nat.{ℕ, ◌+◌, ◌-◌, ◌*◌, ◌/◌, ◌%◌, ◌^◌, ◌≤◌, ◌<◌}
-use native.Mathlib.Omega.{arith}
+use mathlib.Core.Path.{◌≡◌}
+use Prim.Native.Nat.{◌-◌, ◌≤◌}
 use lib.ListN.{length}
-use Rattle.numbers.proofs.FillLaws.{NewTo, new_none, new_more}
-use Rattle.short_codes.specs.Inside.{Bounded, Filled}
-use Rattle.short_codes.specs.Sheets.{count_of, entry_at}
-use Rattle.short_codes.proofs.SheetLaws.{entry_is, counted}
+use Rattle.numbers.proofs.FillLaws.{NewTo}
+use Rattle.short_codes.specs.Sheets.{entry_at}
 use Rattle.short_codes.proofs.fill.Given as goal
 
 abbrev pub invariant-loop-code : goal.invariant-loop-code

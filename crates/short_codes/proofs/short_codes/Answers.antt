@@ -1,5 +1,4 @@
 -- `short_codes::short_codes` meets its contract: refused, too short a list, or written. Assumes nothing.
-use borrow.Author.Rules.{rules}
 use borrow.Author.Tests.{lt-leb, le-leb, not-true, not-false}
 use mathlib.Core.Bool.{true, false}
 use mathlib.Core.List.{List}

@@ -4,11 +4,10 @@ use borrow.Author.Rules.{rules}
 use mathlib.Core.Bool.{true, false}
 use mathlib.Core.List.{List}
 use mathlib.Core.Path.{◌≡◌, sym, ◌∙◌}
-use Prim.Native.Nat.{ℕ, ◌+◌, ◌-◌, ◌≤◌, ◌<◌}
+use Prim.Native.Nat.{ℕ, ◌+◌, ◌-◌, ◌<◌}
 use native.Mathlib.Omega.{arith}
 use lib.Dec.{ltb}
 use lib.ListN.{length}
-use Rattle.numbers.specs.Numbers.{least_from}
 use Rattle.numbers.proofs.LeastLaws.{least_last, least_here, least_next}
 use Rattle.stream.specs.Streams.{row_length, row_start, is_short, first_short}
 use Rattle.stream.specs.declared.header.FujiHeader.{FujiHeader}

@@ -1,16 +1,10 @@
 -- `stream::first_short` meets its contract. The invariant: the search from b on gives what the search from 0 on gives; the measure: the blocks
 -- from b on. Assumes nothing.
-use borrow.Author.Rules.{rules}
-use mathlib.Core.Bool.{true, false}
 use mathlib.Core.List.{List}
-use mathlib.Core.Path.{◌≡◌, sym, ◌∙◌}
-use Prim.Native.Nat.{ℕ, ◌+◌, ◌-◌, ◌≤◌, ◌<◌}
-use native.Mathlib.Omega.{arith}
-use lib.Dec.{ltb}
-use lib.ListN.{length}
+use mathlib.Core.Path.{◌≡◌}
+use Prim.Native.Nat.{ℕ, ◌-◌, ◌≤◌}
 use Rattle.numbers.specs.Numbers.{least_from}
-use Rattle.numbers.proofs.LeastLaws.{least_last, least_here, least_next}
-use Rattle.stream.specs.Streams.{row_length, row_start, is_short, first_short}
+use Rattle.stream.specs.Streams.{is_short, first_short}
 use Rattle.stream.specs.declared.header.FujiHeader.{FujiHeader}
 use Rattle.stream.proofs.first_short.Given as goal
 

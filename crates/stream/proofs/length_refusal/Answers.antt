@@ -1,5 +1,4 @@
 -- `stream::length_refusal` meets its contract. Assumes nothing.
-use borrow.Author.Rules.{rules}
 use mathlib.Core.Path.{sym, ap, ◌∙◌}
 use Rattle.stream.specs.Lengths.{length_refusal}
 use Rattle.stream.proofs.length_refusal.Goals as goal

@@ -1,5 +1,4 @@
 -- `stream::length_word` meets its contract. Assumes nothing.
-use borrow.Author.Rules.{rules}
 use mathlib.Core.Path.{sym, ap}
 use Rattle.stream.specs.Lengths.{length_word}
 use Rattle.stream.proofs.length_word.Goals as goal

@@ -1,12 +1,8 @@
 -- `stream::sizes_before` meets its contract. The invariant: the sum is that of the first i sizes; the measure: the blocks from i on.
 -- Assumes nothing.
-use borrow.Author.Rules.{rules}
-use mathlib.Core.List.{List}
-use mathlib.Core.Path.{◌≡◌, refl, ap, ◌∙◌}
-use Prim.Native.Nat.{ℕ, ◌+◌, ◌-◌, ◌*◌, ◌^◌, ◌≤◌}
-use native.Mathlib.Numerals.{add-one}
-use native.Mathlib.Omega.{arith}
-use Rattle.stream.specs.Streams.{size_of, sizes_before}
+use mathlib.Core.Path.{◌≡◌}
+use Prim.Native.Nat.{◌-◌, ◌*◌, ◌^◌, ◌≤◌}
+use Rattle.stream.specs.Streams.{sizes_before}
 use Rattle.stream.proofs.sizes_before.Given as goal
 
 abbrev pub invariant-loop-i : goal.invariant-loop-i

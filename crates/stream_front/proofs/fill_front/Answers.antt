@@ -1,12 +1,11 @@
 -- `stream_front::fill_front` meets its contract. The invariant: the bytes before i stand there, and what follows is what it was. Assumes nothing.
 use borrow.Author.Rules.{rules}
 use mathlib.Core.List.{List, ◌++◌}
-use mathlib.Core.Path.{◌≡◌, refl, ap, ◌∙◌}
-use Prim.Native.Nat.{ℕ, ◌+◌, ◌-◌, ◌≤◌}
+use mathlib.Core.Path.{◌≡◌, refl, ◌∙◌}
+use Prim.Native.Nat.{ℕ}
 use native.Mathlib.Omega.{arith}
-use lib.ListN.{length, drop, length-set}
+use lib.ListN.{drop, length-set}
 use Rattle.read_block.specs.Records.{table}
-use Rattle.stream.specs.Streams.{row_start}
 use Rattle.stream_front.specs.Fronts.{front_byte}
 use Rattle.stream_front.proofs.FrontLaws.{fill_next}
 use Rattle.stream_front.proofs.fill_front.Goals as goal

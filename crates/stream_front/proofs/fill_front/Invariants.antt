@@ -1,14 +1,10 @@
 -- `stream_front::fill_front` meets its contract. The invariant: the bytes before i stand there, and what follows is what it was. Assumes nothing.
-use borrow.Author.Rules.{rules}
-use mathlib.Core.List.{List, ◌++◌}
-use mathlib.Core.Path.{◌≡◌, refl, ap, ◌∙◌}
-use Prim.Native.Nat.{ℕ, ◌+◌, ◌-◌, ◌≤◌}
-use native.Mathlib.Omega.{arith}
-use lib.ListN.{length, drop, length-set}
+use mathlib.Core.List.{◌++◌}
+use mathlib.Core.Path.{◌≡◌}
+use Prim.Native.Nat.{◌-◌, ◌≤◌}
+use lib.ListN.{length, drop}
 use Rattle.read_block.specs.Records.{table}
-use Rattle.stream.specs.Streams.{row_start}
 use Rattle.stream_front.specs.Fronts.{front_byte}
-use Rattle.stream_front.proofs.FrontLaws.{fill_next}
 use Rattle.stream_front.proofs.fill_front.Given as goal
 
 abbrev pub invariant-loop-i : goal.invariant-loop-i

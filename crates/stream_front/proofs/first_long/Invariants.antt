@@ -1,14 +1,9 @@
 -- `stream_front::first_long` meets its contract. The invariant: the search from b on gives what the search from 0 on gives. Assumes nothing.
-use borrow.Author.Rules.{rules}
-use mathlib.Core.Bool.{true, false}
 use mathlib.Core.List.{List}
-use mathlib.Core.Path.{◌≡◌, sym, ◌∙◌}
-use Prim.Native.Nat.{ℕ, ◌+◌, ◌-◌, ◌^◌, ◌≤◌, ◌<◌}
-use native.Mathlib.Omega.{arith}
-use lib.ListN.{length, get_or}
-use borrow.Author.Tests.{lt-ltb, le-ltb}
+use mathlib.Core.Path.{◌≡◌}
+use Prim.Native.Nat.{ℕ, ◌-◌, ◌≤◌}
+use lib.ListN.{length}
 use Rattle.numbers.specs.Numbers.{least_from}
-use Rattle.numbers.proofs.LeastLaws.{least_last, least_here, least_next}
 use Rattle.stream_front.specs.Fronts.{is_long, first_long}
 use Rattle.stream_front.proofs.first_long.Given as goal
 

@@ -1,9 +1,6 @@
 -- `stream_front::front_byte` meets its contract. Assumes nothing.
-use borrow.Author.Rules.{rules}
-use mathlib.Core.Path.{◌≡◌, sym, ◌∙◌}
-use Prim.Native.Nat.{◌+◌, ◌-◌, ◌*◌, ◌≤◌, ◌<◌}
+use mathlib.Core.Path.{◌∙◌}
 use native.Mathlib.Omega.{arith}
-use Rattle.stream.specs.Streams.{padded}
 use Rattle.stream_front.proofs.FrontLaws.{front_head, front_size, front_fill, row_asks, fill_row}
 use Rattle.stream_front.proofs.front_byte.Goals as goal
 

@@ -1,5 +1,4 @@
 -- `stream_front::front_length` meets its contract. Assumes nothing.
-use borrow.Author.Rules.{rules}
 use native.Mathlib.Omega.{arith}
 use Rattle.stream_front.proofs.front_length.Goals as goal
 

@@ -1,6 +1,5 @@
 -- `stream_front::put_front` meets its contract. Assumes nothing.
-use borrow.Author.Rules.{rules}
-use mathlib.Core.Path.{◌≡◌, sym, ◌∙◌}
+use mathlib.Core.Path.{sym, ◌∙◌}
 use Rattle.stream.proofs.HeaderLaws.{parsed, ruled}
 use Rattle.stream_front.proofs.FrontLaws.{left_refused, left_header}
 use Rattle.stream_front.proofs.put_front.Goals as goal

@@ -1,5 +1,4 @@
 -- `stream_front::put_in` meets its contract. Assumes nothing.
-use borrow.Author.Rules.{rules}
 use mathlib.Core.List.{List, ◌++◌}
 use mathlib.Core.Path.{◌≡◌, refl, sym, ap, ◌∙◌}
 use Prim.Native.Nat.{ℕ, ◌+◌, ◌*◌, ◌≤◌, ◌<◌}
@@ -8,7 +7,6 @@ use lib.ListN.{length, drop}
 use Rattle.stream.specs.declared.header.FujiHeader.{FujiHeader}
 use Rattle.stream.specs.declared.header.Refusal.TheVariants.{LongBlock, ShortOutput}
 use Rattle.stream.specs.Streams.{row_length, row_start}
-use Rattle.stream.specs.declared.BlockLength.{BlockLength}
 use Rattle.stream.specs.declared.BlockLength.TheVariants.{Length, Refused}
 use Rattle.stream_front.specs.Fronts.{front_bytes, sum_of, first_long, front_answer}
 use Rattle.stream_front.proofs.FrontLaws.{product_le, answer_count, answer_rows, answer_long, answer_short, answer_length, front_size_is}

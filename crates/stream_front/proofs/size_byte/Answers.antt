@@ -1,5 +1,4 @@
 -- `stream_front::size_byte` meets its contract. Assumes nothing.
-use borrow.Author.Rules.{rules}
 use borrow.Author.Tests.{eq-eqb, ne_eqb}
 use Rattle.stream_front.specs.Fronts.{size_byte}
 use Rattle.stream_front.proofs.size_byte.Goals as goal

@@ -2,11 +2,11 @@
 use borrow.Author.Rules.{rules}
 use mathlib.Core.List.{List}
 use mathlib.Core.Path.{◌≡◌, refl, ap, ◌∙◌}
-use Prim.Native.Nat.{ℕ, ◌+◌, ◌-◌, ◌*◌, ◌^◌, ◌≤◌, ◌<◌}
+use Prim.Native.Nat.{ℕ, ◌+◌, ◌-◌, ◌^◌, ◌≤◌}
 use native.Mathlib.Numerals.{add-one}
 use native.Mathlib.Omega.{arith}
-use lib.ListN.{length, get_or}
-use Rattle.stream_front.specs.Fronts.{sum_of, first_long}
+use lib.ListN.{get_or}
+use Rattle.stream_front.specs.Fronts.{sum_of}
 use Rattle.stream_front.proofs.FrontLaws.{not_long}
 use Rattle.stream_front.proofs.sum_of.Goals as goal
 use Rattle.stream_front.proofs.sum_of.Goals.{In-loop-b}

@@ -1,13 +1,7 @@
 -- `stream_front::sum_of` meets its contract. The invariant: the sum is that of the first b lengths. Assumes nothing.
-use borrow.Author.Rules.{rules}
-use mathlib.Core.List.{List}
-use mathlib.Core.Path.{◌≡◌, refl, ap, ◌∙◌}
-use Prim.Native.Nat.{ℕ, ◌+◌, ◌-◌, ◌*◌, ◌^◌, ◌≤◌, ◌<◌}
-use native.Mathlib.Numerals.{add-one}
-use native.Mathlib.Omega.{arith}
-use lib.ListN.{length, get_or}
-use Rattle.stream_front.specs.Fronts.{sum_of, first_long}
-use Rattle.stream_front.proofs.FrontLaws.{not_long}
+use mathlib.Core.Path.{◌≡◌}
+use Prim.Native.Nat.{◌-◌, ◌*◌, ◌^◌, ◌≤◌}
+use Rattle.stream_front.specs.Fronts.{sum_of}
 use Rattle.stream_front.proofs.sum_of.Given as goal
 
 abbrev pub invariant-loop-b : goal.invariant-loop-b

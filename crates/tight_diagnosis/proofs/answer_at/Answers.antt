@@ -1,5 +1,4 @@
 -- `tight_diagnosis::answer_at` meets its contract: a lossless block has no bases, and the walk says what the answer goes by. Assumes nothing.
-use borrow.Author.Rules.{rules}
 use mathlib.Core.Bool.{true}
 use mathlib.Core.List.{List, []}
 use mathlib.Core.Path.{◌≡◌, ap, ◌∙◌}

@@ -1,5 +1,4 @@
 -- `tight_diagnosis::bad_code` meets its contract. Assumes nothing.
-use borrow.Author.Rules.{rules}
 use mathlib.Core.Path.{ap, ◌∙◌}
 use Rattle.read_block.specs.Words.{answer_words}
 use Rattle.tight_diagnosis.specs.Faults.{fault_words}

@@ -1,5 +1,4 @@
 -- `tight_diagnosis::fault_at` meets its contract, by what the second walk says. Assumes nothing.
-use borrow.Author.Rules.{rules}
 use mathlib.Core.Path.{◌≡◌, sym, ◌∙◌}
 use native.Mathlib.Omega.{arith}
 use Rattle.stream.proofs.StreamLaws.{opened}

@@ -1,5 +1,4 @@
 -- `tight_diagnosis::fault_of` meets its contract, by the two ways in which the tight reading begins. Assumes nothing.
-use borrow.Author.Rules.{rules}
 use mathlib.Core.Path.{sym, ◌∙◌}
 use Rattle.admission.proofs.CallLaws.{block_reads}
 use Rattle.tight_diagnosis.proofs.FaultLaws.{answer_reads, fault_refused, fault_reads}

@@ -1,5 +1,4 @@
 -- `tight_diagnosis::spot_words` meets its contract. Assumes nothing.
-use borrow.Author.Rules.{rules}
 use Rattle.tight_diagnosis.proofs.spot_words.Goals as goal
 
 pub returns : goal.returns

@@ -1,12 +1,8 @@
 -- `admission::largest::first_above` meets its contract: no sample before i is above m and not ignored. Assumes nothing.
-use borrow.Author.Rules.{rules}
-use borrow.Author.Tests.{not-true, not-false}
-use mathlib.Core.Path.{◌≡◌, sym, ◌∙◌}
+use mathlib.Core.Path.{◌≡◌}
 use Prim.Native.Nat.{◌-◌, ◌≤◌}
-use native.Mathlib.Omega.{arith}
 use lib.ListN.{length, drop}
 use Rattle.admission.specs.Above.{is_ignored, first_above}
-use Rattle.admission.proofs.SampleLaws.{above_next, above_found, above_none}
 use Rattle.admission.proofs.largest.first_above.Given as goal
 
 abbrev pub invariant-loop-i : goal.invariant-loop-i

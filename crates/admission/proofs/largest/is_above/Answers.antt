@@ -1,5 +1,4 @@
 -- `admission::largest::is_above` meets its contract. Assumes nothing.
-use borrow.Author.Rules.{rules}
 use borrow.Author.Tests.{le-leb, lt-leb}
 use mathlib.Core.Bool.{Bool, false, not, ◌||◌}
 use mathlib.Core.Path.{◌≡◌}

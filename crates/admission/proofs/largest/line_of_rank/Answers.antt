@@ -1,5 +1,4 @@
 -- `admission::largest::line_of_rank` meets its contract. Assumes nothing.
-use borrow.Author.Rules.{rules}
 use borrow.Author.Tests.{lt-ltb, le-ltb}
 use Rattle.colour_lines.specs.Sets.{line_of_rank}
 use Rattle.admission.proofs.largest.line_of_rank.Goals as goal

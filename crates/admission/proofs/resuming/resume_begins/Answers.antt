@@ -1,5 +1,4 @@
 -- `admission::resuming::resume_begins` meets its contract, by the two ways in which opening ends. Assumes nothing.
-use borrow.Author.Rules.{rules}
 use mathlib.Core.Path.{sym, ◌∙◌}
 use Rattle.admission.proofs.ResumingLaws.{resume_is}
 use Rattle.admission.proofs.resuming.resume_begins.Goals as goal

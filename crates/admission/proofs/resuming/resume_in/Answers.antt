@@ -1,5 +1,4 @@
 -- `admission::resuming::resume_in` meets its contract: refusal 5, then those of the region. Assumes nothing.
-use borrow.Author.Rules.{rules}
 use mathlib.Core.Path.{◌∙◌}
 use Rattle.admission.proofs.ResumingLaws.{no_resumed, a_resumed}
 use Rattle.admission.proofs.resuming.resume_in.Goals as goal

@@ -1,5 +1,4 @@
 -- `admission::writing::lossy_begins` meets its contract, by the two ways in which parsing ends. Assumes nothing.
-use borrow.Author.Rules.{rules}
 use mathlib.Core.Path.{sym, ◌∙◌}
 use Rattle.admission.proofs.WritingLaws.{lossy_is}
 use Rattle.admission.proofs.writing.lossy_begins.Goals as goal

@@ -1,5 +1,4 @@
 -- `admission::writing::lossy_in` meets its contract: refusals 16 and 17, then those of the set. Assumes nothing.
-use borrow.Author.Rules.{rules}
 use mathlib.Core.Path.{◌∙◌}
 use Rattle.admission.proofs.WritingLaws.{lossless_set, wrong_bases, right_bases}
 use Rattle.admission.proofs.writing.lossy_in.Goals as goal

@@ -1,5 +1,4 @@
 -- `admission::writing::set_in` meets its contract: refusal 9, then 10. Assumes nothing.
-use borrow.Author.Rules.{rules}
 use mathlib.Core.Path.{◌∙◌}
 use Rattle.admission.proofs.WritingLaws.{wrong_count, right_count}
 use Rattle.admission.proofs.writing.set_in.Goals as goal

@@ -1,5 +1,4 @@
 -- `admission::writing::writing_in` meets its contract: refusal 8, then those of the set. Assumes nothing.
-use borrow.Author.Rules.{rules}
 use borrow.Author.Tests.{not-true, not-false}
 use mathlib.Core.Path.{◌∙◌}
 use Rattle.admission.proofs.WritingLaws.{lossy_set, a_set}

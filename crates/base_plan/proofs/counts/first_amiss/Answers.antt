@@ -8,7 +8,6 @@ use Prim.Native.Nat.{ℕ, ◌+◌, ◌-◌, ◌≤◌, ◌<◌}
 use native.Mathlib.Numerals.{add-one}
 use native.Mathlib.Omega.{arith}
 use lib.ListN.{get_or}
-use Rattle.numbers.specs.Numbers.{least_from}
 use Rattle.numbers.proofs.LeastLaws.{least_last, least_here, least_next}
 use Rattle.base_plan.specs.Counts.{is_amiss}
 use Rattle.base_plan.specs.Inside.{sum_before, Balanced, amiss_in}

@@ -1,17 +1,12 @@
 -- `base_plan::counts::first_amiss` meets its contract. The invariant: as many are held as have begun and not ended before n, and the search from n on gives
 -- what the search from 0 on gives; the measure: the lines from n on. Assumes nothing.
-use borrow.Author.Rules.{rules}
-use mathlib.Core.Bool.{Bool, true, false}
+use mathlib.Core.Bool.{Bool}
 use mathlib.Core.List.{List}
-use mathlib.Core.Path.{◌≡◌, refl, sym, ◌∙◌}
-use Prim.Native.Nat.{ℕ, ◌+◌, ◌-◌, ◌≤◌, ◌<◌}
-use native.Mathlib.Numerals.{add-one}
-use native.Mathlib.Omega.{arith}
-use lib.ListN.{get_or}
+use mathlib.Core.Path.{◌≡◌}
+use Prim.Native.Nat.{ℕ, ◌+◌, ◌-◌, ◌≤◌}
 use Rattle.numbers.specs.Numbers.{least_from}
-use Rattle.numbers.proofs.LeastLaws.{least_last, least_here, least_next}
 use Rattle.base_plan.specs.Counts.{is_amiss}
-use Rattle.base_plan.specs.Inside.{sum_before, Balanced, amiss_in}
+use Rattle.base_plan.specs.Inside.{sum_before, amiss_in}
 use Rattle.base_plan.proofs.counts.first_amiss.Given as goal
 
 -- the search from n on

@@ -3,12 +3,12 @@
 use borrow.Author.Rules.{rules}
 use mathlib.Core.List.{List}
 use mathlib.Core.Path.{◌≡◌, ◌∙◌}
-use Prim.Native.Nat.{ℕ, ◌+◌, ◌-◌, ◌^◌, ◌≤◌, ◌<◌}
+use Prim.Native.Nat.{ℕ, ◌+◌, ◌^◌, ◌≤◌, ◌<◌}
 use native.Mathlib.Omega.{arith}
 use lib.ListN.{length, get_or, set}
-use Rattle.base_plan.specs.Records.{first_line, last_line, start_of, good_records}
+use Rattle.base_plan.specs.Records.{first_line, last_line, start_of}
 use Rattle.base_plan.specs.Inside.{Marked}
-use Rattle.base_plan.proofs.RecordLaws.{IsRow, row_bad, row_good, none_past, good_from, good_start, good_next, start_next, start_none}
+use Rattle.base_plan.proofs.RecordLaws.{IsRow, row_bad, row_good, none_past, good_start, good_next, start_next, start_none}
 use Rattle.base_plan.proofs.CountLaws.{is_read_lem, marked_more}
 use Rattle.base_plan.proofs.counts.read_records.Goals as goal
 use Rattle.base_plan.proofs.counts.read_records.Goals.{In-Good}

@@ -1,15 +1,11 @@
 -- `base_plan::counts::read_records` meets its contract. The invariant: the records before `at` are good and counted, and the search from there on gives what the
 -- search from the start on gives; the measure: the text that is left. Assumes nothing.
-use borrow.Author.Rules.{rules}
-use mathlib.Core.List.{List}
-use mathlib.Core.Path.{◌≡◌, ◌∙◌}
-use Prim.Native.Nat.{ℕ, ◌+◌, ◌-◌, ◌^◌, ◌≤◌, ◌<◌}
-use native.Mathlib.Omega.{arith}
-use lib.ListN.{length, get_or, set}
-use Rattle.base_plan.specs.Records.{first_line, last_line, start_of, good_records}
+use mathlib.Core.Path.{◌≡◌}
+use Prim.Native.Nat.{◌-◌, ◌≤◌}
+use lib.ListN.{length}
+use Rattle.base_plan.specs.Records.{start_of, good_records}
 use Rattle.base_plan.specs.Inside.{Marked}
-use Rattle.base_plan.proofs.RecordLaws.{IsRow, row_bad, row_good, none_past, good_from, good_start, good_next, start_next, start_none}
-use Rattle.base_plan.proofs.CountLaws.{is_read_lem, marked_more}
+use Rattle.base_plan.proofs.RecordLaws.{good_from}
 use Rattle.base_plan.proofs.counts.read_records.Given as goal
 
 abbrev pub invariant-loop-at : goal.invariant-loop-at

@@ -1,12 +1,8 @@
 -- `base_plan::records::fill` meets its contract: the bytes from first on and before n are written. Assumes nothing.
-use borrow.Author.Rules.{rules}
-use mathlib.Core.List.{List}
-use mathlib.Core.Path.{◌≡◌, refl}
-use Prim.Native.Nat.{ℕ, ◌+◌, ◌-◌, ◌≤◌}
-use native.Mathlib.Omega.{arith}
+use mathlib.Core.Path.{◌≡◌}
+use Prim.Native.Nat.{◌+◌, ◌-◌, ◌≤◌}
 use lib.ListN.{length}
-use Rattle.numbers.proofs.FillLaws.{NewIn, in_none, in_more}
-use Rattle.base_plan.specs.Readings.{Filled}
+use Rattle.numbers.proofs.FillLaws.{NewIn}
 use Rattle.base_plan.proofs.records.fill.Given as goal
 
 abbrev pub invariant-loop-n : goal.invariant-loop-n

@@ -5,12 +5,12 @@ use borrow.Author.Tests.{not-true, not-false}
 use mathlib.Core.Bool.{true}
 use mathlib.Core.List.{List}
 use mathlib.Core.Path.{◌≡◌, sym, ◌∙◌}
-use Prim.Native.Nat.{ℕ, ◌+◌, ◌-◌, ◌^◌, ◌≤◌, ◌<◌}
+use Prim.Native.Nat.{ℕ, ◌+◌, ◌<◌}
 use native.Mathlib.Omega.{arith}
 use lib.Dec.{lit<}
 use lib.ListN.{length, get_or}
-use Rattle.base_plan.specs.Records.{is_digit, digits_at, decimal}
-use Rattle.base_plan.proofs.DigitLaws.{digit_range, digits_from, from_start, from_here, from_next, from_last}
+use Rattle.base_plan.specs.Records.{is_digit}
+use Rattle.base_plan.proofs.DigitLaws.{digit_range, from_start, from_here, from_next, from_last}
 use Rattle.base_plan.proofs.DigitLaws.{no_digits, one_digit, found, small_next, small_five}
 use Rattle.base_plan.proofs.records.read_digits.Goals as goal
 use Rattle.base_plan.proofs.records.read_digits.Goals.{Else-not-is_digit}

@@ -1,17 +1,10 @@
 -- `base_plan::records::read_digits` meets its contract. The invariant: n digits are read, and the search from the n-th on gives what the search from the first
 -- on gives; the measure: the digits that may follow. Assumes nothing.
-use borrow.Author.Rules.{rules}
-use borrow.Author.Tests.{not-true, not-false}
-use mathlib.Core.Bool.{true}
-use mathlib.Core.List.{List}
-use mathlib.Core.Path.{◌≡◌, sym, ◌∙◌}
-use Prim.Native.Nat.{ℕ, ◌+◌, ◌-◌, ◌^◌, ◌≤◌, ◌<◌}
-use native.Mathlib.Omega.{arith}
-use lib.Dec.{lit<}
-use lib.ListN.{length, get_or}
-use Rattle.base_plan.specs.Records.{is_digit, digits_at, decimal}
-use Rattle.base_plan.proofs.DigitLaws.{digit_range, digits_from, from_start, from_here, from_next, from_last}
-use Rattle.base_plan.proofs.DigitLaws.{no_digits, one_digit, found, small_next, small_five}
+use mathlib.Core.Path.{◌≡◌}
+use Prim.Native.Nat.{◌+◌, ◌-◌, ◌^◌, ◌≤◌, ◌<◌}
+use lib.ListN.{length}
+use Rattle.base_plan.specs.Records.{digits_at, decimal}
+use Rattle.base_plan.proofs.DigitLaws.{digits_from}
 use Rattle.base_plan.proofs.records.read_digits.Given as goal
 
 abbrev pub invariant-loop-n : goal.invariant-loop-n

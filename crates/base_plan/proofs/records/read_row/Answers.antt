@@ -1,5 +1,4 @@
 -- `base_plan::records::read_row` meets its contract, field after field. Assumes nothing.
-use borrow.Author.Rules.{rules}
 use mathlib.Core.List.{List}
 use mathlib.Core.Path.{sym, ◌∙◌}
 use Prim.Native.Nat.{ℕ}

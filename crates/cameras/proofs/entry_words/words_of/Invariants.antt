@@ -1,11 +1,9 @@
 -- `cameras::entry_words::words_of` meets its contract: the words of all entries. Assumes nothing.
-use borrow.Author.Tests.{lt-ltb}
-use mathlib.Core.Path.{◌≡◌, refl, ◌∙◌}
+use mathlib.Core.Path.{◌≡◌}
 use mathlib.Core.List.{List}
 use Prim.Native.Nat.{ℕ, ◌-◌, ◌/◌, ◌%◌, ◌≤◌}
-use native.Mathlib.Omega.{arith}
-use lib.ListN.{length, get_or, replicate, length-set}
-use Rattle.numbers.proofs.FillLaws.{NewTo, new_none, new_more}
+use lib.ListN.{length, get_or}
+use Rattle.numbers.proofs.FillLaws.{NewTo}
 use Rattle.cameras.specs.Entries.{entry_at}
 use Rattle.cameras.specs.Words.{words_of}
 use Rattle.cameras.specs.declared.Entry.{Entry}

@@ -1,7 +1,5 @@
 -- `cameras::taking::base_of` meets its contract: the base of a line, 0 where there is no base row. Assumes nothing.
-use borrow.Author.Rules.{rules}
 use mathlib.Core.Path.{sym}
-use Prim.Native.Nat.{◌-◌}
 use native.Mathlib.Omega.{arith}
 use lib.ListN.{get_or-eq_default}
 use Rattle.cameras.proofs.taking.base_of.Goals as goal

@@ -1,5 +1,4 @@
 -- `cameras::taking::main_in` meets its contract: the main quantiser of a held pair, or computed anew. Assumes nothing.
-use Prim.Native.Nat.{◌-◌}
 use native.Mathlib.Omega.{arith}
 use Rattle.cameras.proofs.EntryLaws.{pair_main}
 use Rattle.cameras.proofs.taking.main_in.Goals as goal

@@ -1,8 +1,6 @@
 -- `cameras::taking::mended` meets its contract: entry by entry. Assumes nothing.
 use mathlib.Core.Path.{◌≡◌}
-use Prim.Native.Nat.{◌-◌, ◌≤◌}
 use native.Mathlib.Omega.{arith}
-use Rattle.cameras.specs.Entries.{mended_entry, each}
 use Rattle.cameras.proofs.EntryLaws.{each_start, each_more, mended_numbered}
 use Rattle.cameras.proofs.taking.mended.Goals as goal
 

@@ -4,7 +4,6 @@ use mathlib.Core.Bool.{◌&&◌}
 use lib.Dec.{leb, ltb}
 use Rattle.numbers.proofs.BoolLaws.{both}
 use mathlib.Core.Path.{sym, ◌∙◌}
-use Prim.Native.Nat.{◌-◌}
 use Rattle.cameras.proofs.EntryLaws.{mend_unheld, mend_good, mend_bad}
 use Rattle.cameras.proofs.taking.mended_entry.Goals as goal
 

@@ -1,8 +1,7 @@
 -- `cameras::taking::pair_in` meets its contract: the lowest held entry of a pair. Assumes nothing.
 use mathlib.Core.Path.{refl, sym, ◌∙◌}
-use Prim.Native.Nat.{◌-◌}
 use native.Mathlib.Omega.{arith}
-use Rattle.cameras.proofs.SearchLaws.{NoneBefore, found, goes_on, ended}
+use Rattle.cameras.proofs.SearchLaws.{found, goes_on, ended}
 use Rattle.cameras.specs.Entries.{is_pair, entry_at, pair_in}
 use Rattle.cameras.proofs.taking.pair_in.Goals as goal
 

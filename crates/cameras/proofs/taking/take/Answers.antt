@@ -1,5 +1,4 @@
 -- `cameras::taking::take` meets its contract: a held entry is shared, or else the lowest free one is taken. Assumes nothing.
-use Prim.Native.Nat.{◌-◌}
 use native.Mathlib.Omega.{arith}
 use Rattle.cameras.proofs.EntryLaws.{pair_taken, free_taken, none_taken}
 use Rattle.cameras.proofs.taking.take.Goals as goal

@@ -1,10 +1,7 @@
 -- `cameras::taking::take_lines` meets its contract: line by line, until one has no entry. Assumes nothing.
-use borrow.Author.Tests.{not-true, not-false}
-use mathlib.Core.Path.{◌≡◌, sym}
+use mathlib.Core.Path.{◌≡◌}
 use Prim.Native.Nat.{◌-◌, ◌≤◌}
-use native.Mathlib.Omega.{arith}
 use Rattle.cameras.specs.Entries.{after_lines, lines_with_entry, AllNumbered}
-use Rattle.cameras.proofs.EntryLaws.{took_none, lines_none, line_taken, line_left, numbered_with}
 use Rattle.cameras.proofs.taking.take_lines.Given as goal
 
 abbrev pub invariant-loop-n : goal.invariant-loop-n

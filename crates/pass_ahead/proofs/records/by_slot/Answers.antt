@@ -1,5 +1,4 @@
 -- `pass_ahead::records::by_slot` meets its contract. Assumes nothing.
-use borrow.Author.Rules.{rules}
 use lib.ListN.{replicate}
 use Rattle.pass_ahead.proofs.SlotLaws.{repeated, slots}
 use Rattle.pass_ahead.proofs.records.by_slot.Goals as goal

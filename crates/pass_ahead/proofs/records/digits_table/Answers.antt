@@ -1,6 +1,6 @@
 -- `pass_ahead::records::digits_table` meets its contract: the table's rule is one test over its 65 entries, which antt computes. Assumes nothing.
 use native.Mathlib.Omega.{arith}
-use Prim.Native.Nat.{ℕ, ◌-◌}
+use Prim.Native.Nat.{◌-◌}
 use lib.Count.{count_leading_zeros}
 use Rattle.pass_ahead.specs.Tables.{next_of}
 use Rattle.numbers.proofs.TableLaws.{at_each}

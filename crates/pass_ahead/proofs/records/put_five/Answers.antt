@@ -2,8 +2,8 @@
 use native.Mathlib.Omega.{arith}
 use mathlib.Core.List.{List}
 use mathlib.Core.Path.{◌≡◌, refl}
-use Prim.Native.Nat.{ℕ, ◌+◌, ◌-◌, ◌≤◌}
-use lib.ListN.{length, length-set}
+use Prim.Native.Nat.{ℕ, ◌+◌}
+use lib.ListN.{length-set}
 use Rattle.numbers.proofs.FillLaws.{NewIn, in_none, in_more}
 use Rattle.pass_ahead.specs.Tables.{Five}
 use Rattle.pass_ahead.proofs.records.put_five.Goals as goal

@@ -1,11 +1,8 @@
 -- `pass_ahead::records::put_five` meets its contract: the entries from `at` on and before i are there. Assumes nothing.
-use native.Mathlib.Omega.{arith}
-use mathlib.Core.List.{List}
-use mathlib.Core.Path.{◌≡◌, refl}
-use Prim.Native.Nat.{ℕ, ◌+◌, ◌-◌, ◌≤◌}
-use lib.ListN.{length, length-set}
-use Rattle.numbers.proofs.FillLaws.{NewIn, in_none, in_more}
-use Rattle.pass_ahead.specs.Tables.{Five}
+use mathlib.Core.Path.{◌≡◌}
+use Prim.Native.Nat.{◌+◌, ◌-◌, ◌≤◌}
+use lib.ListN.{length}
+use Rattle.numbers.proofs.FillLaws.{NewIn}
 use Rattle.pass_ahead.proofs.records.put_five.Given as goal
 
 abbrev pub invariant-loop-i : goal.invariant-loop-i

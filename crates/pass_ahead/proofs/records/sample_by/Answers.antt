@@ -1,8 +1,7 @@
 -- `pass_ahead::records::sample_by` meets its contract. Assumes nothing.
-use borrow.Author.Rules.{rules}
 use native.Mathlib.Omega.{arith}
 use mathlib.Core.Path.{◌≡◌, refl, sym}
-use Prim.Native.Nat.{ℕ, ◌+◌, ◌*◌, ◌/◌, ◌≤◌, ◌<◌, ◌^◌}
+use Prim.Native.Nat.{◌+◌, ◌*◌, ◌/◌, ◌≤◌, ◌<◌, ◌^◌}
 use lib.ListN.{get_or}
 use Rattle.pass_ahead.proofs.SignLaws.{product_lt, inside_by, down_by, up_by}
 use Rattle.pass_ahead.proofs.records.sample_by.Goals as goal

@@ -1,10 +1,9 @@
 -- `pass_ahead::records::update_by` meets its contract. Assumes nothing.
-use borrow.Author.Rules.{rules}
 use native.Mathlib.Omega.{arith}
 use mathlib.Core.Path.{◌≡◌, sym, ap, ◌∙◌}
-use Prim.Native.Nat.{ℕ, ◌-◌, ◌≤◌, ◌<◌}
+use Prim.Native.Nat.{ℕ, ◌-◌, ◌≤◌}
 use lib.Count.{count_leading_zeros}
-use lib.ListN.{length, get_or}
+use lib.ListN.{get_or}
 use Rattle.statistics.proofs.RecordLaws.{sum_lt}
 use Rattle.pass_steps.proofs.ZipLaws.{n_in_range, record_in_range}
 use Rattle.pass_ahead.specs.Tables.{next_of}

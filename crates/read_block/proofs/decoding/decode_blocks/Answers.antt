@@ -7,7 +7,6 @@ use Prim.Native.Nat.{ℕ, ◌+◌, ◌-◌, ◌^◌, ◌≤◌, ◌<◌}
 use native.Mathlib.Omega.{arith}
 use lib.ListN.{length, replicate, length-replicate}
 use Rattle.statistics.specs.declared.Record.{Record}
-use Rattle.image_map.specs.Inside.{ArePlaces}
 use Rattle.image_map.specs.declared.Part.{Part}
 use Rattle.stream.specs.declared.header.FujiHeader.{FujiHeader}
 use Rattle.image_region.specs.Regions.{first_block, last_block, span_of, line_count}
@@ -18,7 +17,7 @@ use Rattle.image_region.proofs.RegionLaws.{block_order, block_inside, lines_insi
 use Rattle.read_block.specs.Walks.{IsWalked}
 use Rattle.read_block.specs.Images.{form_of, bytes_in, bases_in, answer_of}
 use Rattle.read_block.specs.Records.{clear_record, clear_records}
-use Rattle.read_block.specs.WindowedLines.{samples_in, zeros_in, ShownIn, PicturedIn}
+use Rattle.read_block.specs.WindowedLines.{ShownIn, PicturedIn}
 use Rattle.read_block.specs.declared.Decoded.{Decoded}
 use Rattle.read_block.specs.declared.Form.{Form}
 use Rattle.read_block.specs.declared.Walked.{Walked}

@@ -1,29 +1,13 @@
 -- `read_block::decoding::decode_blocks` meets its contract: the blocks below b were read. Assumes nothing.
-use borrow.Author.Rules.{rules}
-use mathlib.Core.Bool.{Bool}
-use mathlib.Core.List.{List}
 use mathlib.Core.Path.{◌≡◌}
-use Prim.Native.Nat.{ℕ, ◌+◌, ◌-◌, ◌^◌, ◌≤◌, ◌<◌}
-use native.Mathlib.Omega.{arith}
-use lib.ListN.{length, replicate, length-replicate}
-use Rattle.statistics.specs.declared.Record.{Record}
+use Prim.Native.Nat.{◌+◌, ◌-◌, ◌≤◌, ◌<◌}
+use lib.ListN.{length}
 use Rattle.image_map.specs.Inside.{ArePlaces}
-use Rattle.image_map.specs.declared.Part.{Part}
-use Rattle.stream.specs.declared.header.FujiHeader.{FujiHeader}
-use Rattle.image_region.specs.Regions.{first_block, last_block, span_of, line_count}
-use Rattle.image_region.specs.Inside.{part_in, Accepted}
-use Rattle.image_region.specs.declared.Rect.{Rect}
-use Rattle.image_region.specs.declared.Span.{Span}
-use Rattle.image_region.proofs.RegionLaws.{block_order, block_inside, lines_inside, part_fits}
-use Rattle.read_block.specs.Walks.{IsWalked}
-use Rattle.read_block.specs.Images.{form_of, bytes_in, bases_in, answer_of}
-use Rattle.read_block.specs.Records.{clear_record, clear_records}
-use Rattle.read_block.specs.WindowedLines.{samples_in, zeros_in, ShownIn, PicturedIn}
-use Rattle.read_block.specs.declared.Decoded.{Decoded}
-use Rattle.read_block.specs.declared.Form.{Form}
-use Rattle.read_block.specs.declared.Walked.{Walked}
-use Rattle.read_block.proofs.LeftLaws.{form_scratch, form_depth, form_zeros}
-use Rattle.read_block.proofs.DecodeLaws.{answer_none, answer_more, pictured_none, pictured_kept, pictured_more}
+use Rattle.image_region.specs.Regions.{first_block, last_block, line_count}
+use Rattle.image_region.specs.Inside.{Accepted}
+use Rattle.read_block.specs.Images.{answer_of}
+use Rattle.read_block.specs.Records.{clear_records}
+use Rattle.read_block.specs.WindowedLines.{samples_in, zeros_in, PicturedIn}
 use Rattle.read_block.proofs.decoding.decode_blocks.Given as goal
 
 abbrev pub invariant-loop-b : goal.invariant-loop-b

@@ -1,5 +1,4 @@
 -- `read_block::decoding::judged` meets its contract, by the answer before and the walk's. Assumes nothing.
-use borrow.Author.Rules.{rules}
 use mathlib.Core.Path.{◌≡◌}
 use Prim.Native.Nat.{ℕ}
 use Rattle.stream.specs.declared.header.Refusal.{Refusal}

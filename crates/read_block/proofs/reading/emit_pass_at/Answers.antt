@@ -1,5 +1,4 @@
 -- `read_block::reading::emit_pass_at` meets its contract: the lines are those of the plan. Assumes nothing.
-use borrow.Author.Rules.{rules}
 use Rattle.read_block.proofs.LineLaws.{planned_in}
 use Rattle.read_block.proofs.reading.emit_pass_at.Goals as goal
 

@@ -1,5 +1,4 @@
 -- `read_block::reading::is_restarted` meets its contract. Assumes nothing.
-use borrow.Author.Rules.{rules}
 use borrow.Author.Tests.{eq-eqb, ne_eqb}
 use Rattle.read_block.proofs.reading.is_restarted.Goals as goal
 

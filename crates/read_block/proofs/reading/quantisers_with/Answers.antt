@@ -1,5 +1,4 @@
 -- `read_block::reading::quantisers_with` meets its contract: the flat quantisers have the bases 0, 1 and 2. Assumes nothing.
-use borrow.Author.Rules.{rules}
 use mathlib.Core.List.{[], ◌∷◌}
 use mathlib.Core.Path.{◌≡◌}
 use Prim.Native.Nat.{ℕ}

@@ -1,30 +1,15 @@
 -- `read_block::reading::read_lines` meets its contract: i lines have been read, and the image shows them. Assumes nothing.
 use borrow.Author.Rules.{rules}
-use mathlib.Core.Bool.{Bool}
-use mathlib.Core.List.{List}
 use mathlib.Core.Path.{◌≡◌, refl, ap, ◌∙◌}
-use Prim.Native.Nat.{ℕ, ◌+◌, ◌-◌, ◌*◌, ◌≤◌}
 use native.Mathlib.Omega.{arith}
-use lib.ListN.{length}
-use Rattle.code.specs.declared.Place.{Place}
-use Rattle.statistics.specs.declared.Record.{Record}
-use Rattle.line_totals.specs.declared.TightLines.{TightLines}
-use Rattle.image_map.specs.Places.{width_of}
-use Rattle.image_map.specs.Inside.{Fits}
-use Rattle.image_map.specs.declared.Part.{Part}
 use Rattle.image_map.proofs.PartLaws.{fits_kept}
 use Rattle.image_map.proofs.PlaceLaws.{width_le}
-use Rattle.read_block.specs.Blocks.{State, read_from, lines_of}
-use Rattle.read_block.specs.Inside.{tight_of}
-use Rattle.read_block.specs.Walks.{state_at, AllInRange, ShownFrom}
-use Rattle.read_block.specs.WindowedLines.{samples_in, Held}
-use Rattle.read_block.specs.declared.Form.{Form}
+use Rattle.read_block.specs.Blocks.{lines_of}
 use Rattle.read_block.proofs.KeepLaws.{lines_few}
 use Rattle.read_block.proofs.RangeLaws.{all_kept}
 use Rattle.read_block.proofs.ResumeLaws.{from_none}
-use Rattle.read_block.proofs.BlockLaws.{base_known, LinesRead, none_read, all_kept_lines, line_more, line_cut, tight_none, tight_more, read_all, cut_at}
+use Rattle.read_block.proofs.BlockLaws.{base_known, none_read, all_kept_lines, line_more, line_cut, tight_none, tight_more, read_all, cut_at}
 use Rattle.read_block.proofs.ImageLaws.{shown_none, shown_more, shown_all, shown_cut}
-use Rattle.read_block.proofs.reading.read_lines.Invariants.{SoFar}
 use Rattle.read_block.proofs.reading.read_lines.Goals as goal
 
 pub loop-i-init : goal.loop-i-init

@@ -1,5 +1,4 @@
 -- `read_block::reading::walk` meets its contract: scratch is started before the lines, and cleared behind them. Assumes nothing.
-use borrow.Author.Rules.{rules}
 use mathlib.Core.Path.{◌≡◌, ap, ◌∙◌}
 use Prim.Native.Nat.{ℕ, ◌+◌, ◌*◌}
 use native.Mathlib.Nat.{zero-add}

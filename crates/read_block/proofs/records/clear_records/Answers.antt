@@ -1,9 +1,7 @@
 -- `read_block::records::clear_records` meets its contract: the records before j are cleared. Assumes nothing.
 use borrow.Author.Rules.{rules}
-use mathlib.Core.Path.{◌≡◌, refl, ◌∙◌}
-use Prim.Native.Nat.{◌-◌, ◌≤◌}
+use mathlib.Core.Path.{refl, ◌∙◌}
 use native.Mathlib.Omega.{arith}
-use lib.ListN.{length, take}
 use Rattle.read_block.specs.Records.{table, clear_record}
 use Rattle.read_block.proofs.TableLaws.{table_same, fill_more, fill_done}
 use Rattle.read_block.proofs.records.clear_records.Goals as goal

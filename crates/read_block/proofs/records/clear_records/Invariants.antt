@@ -1,11 +1,8 @@
 -- `read_block::records::clear_records` meets its contract: the records before j are cleared. Assumes nothing.
-use borrow.Author.Rules.{rules}
-use mathlib.Core.Path.{◌≡◌, refl, ◌∙◌}
+use mathlib.Core.Path.{◌≡◌}
 use Prim.Native.Nat.{◌-◌, ◌≤◌}
-use native.Mathlib.Omega.{arith}
 use lib.ListN.{length, take}
 use Rattle.read_block.specs.Records.{table, clear_record}
-use Rattle.read_block.proofs.TableLaws.{table_same, fill_more, fill_done}
 use Rattle.read_block.proofs.records.clear_records.Given as goal
 
 abbrev pub invariant-loop-j : goal.invariant-loop-j

@@ -1,10 +1,8 @@
 -- `read_block::records::load_set` meets its contract: the records before i are in the two arrays. Assumes nothing.
 use borrow.Author.Rules.{rules}
-use mathlib.Core.Path.{◌≡◌, refl, ◌∙◌}
-use Prim.Native.Nat.{◌-◌, ◌*◌, ◌≤◌}
+use mathlib.Core.Path.{refl, ◌∙◌}
 use native.Mathlib.Omega.{arith}
-use lib.ListN.{length, take, drop, length-set}
-use Rattle.pass_steps.specs.Values.{zip_records}
+use lib.ListN.{length-set}
 use Rattle.read_block.proofs.SetLaws.{load_more, load_done}
 use Rattle.read_block.proofs.records.load_set.Goals as goal
 

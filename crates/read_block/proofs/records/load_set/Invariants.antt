@@ -1,11 +1,8 @@
 -- `read_block::records::load_set` meets its contract: the records before i are in the two arrays. Assumes nothing.
-use borrow.Author.Rules.{rules}
-use mathlib.Core.Path.{◌≡◌, refl, ◌∙◌}
+use mathlib.Core.Path.{◌≡◌}
 use Prim.Native.Nat.{◌-◌, ◌*◌, ◌≤◌}
-use native.Mathlib.Omega.{arith}
-use lib.ListN.{length, take, drop, length-set}
+use lib.ListN.{length, take, drop}
 use Rattle.pass_steps.specs.Values.{zip_records}
-use Rattle.read_block.proofs.SetLaws.{load_more, load_done}
 use Rattle.read_block.proofs.records.load_set.Given as goal
 
 abbrev pub invariant-loop-i : goal.invariant-loop-i

@@ -1,5 +1,4 @@
 -- `read_block::records::restart` meets its contract. Assumes nothing.
-use borrow.Author.Rules.{rules}
 use Rattle.read_block.proofs.records.restart.Goals as goal
 
 pub returns-then-wanted : goal.returns-then-wanted

@@ -1,16 +1,13 @@
 -- `read_block::records::restart_main` meets its contract: the main records before j have started anew, and those from j on are as they were. Assumes nothing.
-use borrow.Author.Rules.{rules}
 use mathlib.Core.Bool.{cond}
 use mathlib.Core.List.{List}
-use mathlib.Core.Path.{◌≡◌, refl}
-use Prim.Native.Nat.{ℕ, ◌+◌, ◌-◌, ◌%◌, ◌≤◌, ◌<◌}
-use native.Mathlib.Omega.{arith}
+use mathlib.Core.Path.{◌≡◌}
+use Prim.Native.Nat.{ℕ, ◌-◌, ◌%◌, ◌≤◌}
 use lib.Dec.{ltb}
-use lib.ListN.{length, get_or, set, take, drop}
+use lib.ListN.{length, get_or, take, drop}
 use Rattle.statistics.specs.declared.Record.{Record}
 use Rattle.pass_steps.specs.Contexts.{no_record}
-use Rattle.read_block.specs.Records.{table, start_record, restarted_main}
-use Rattle.read_block.proofs.TableLaws.{fill_more, fill_done, still, still_more}
+use Rattle.read_block.specs.Records.{table, start_record}
 use Rattle.read_block.proofs.records.restart_main.Given as goal
 
 abbrev pub restarted : ℕ → ℕ → List Record → ℕ → Record

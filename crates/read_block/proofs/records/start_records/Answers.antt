@@ -1,10 +1,8 @@
 -- `read_block::records::start_records` meets its contract: the records before j have started. Assumes nothing.
 use borrow.Author.Rules.{rules}
-use mathlib.Core.Path.{◌≡◌, refl}
-use Prim.Native.Nat.{◌-◌, ◌≤◌}
+use mathlib.Core.Path.{refl}
 use native.Mathlib.Omega.{arith}
-use lib.ListN.{length, take}
-use Rattle.read_block.specs.Records.{table, start_record, start_records}
+use Rattle.read_block.specs.Records.{table, start_records}
 use Rattle.read_block.proofs.TableLaws.{fill_more, fill_done}
 use Rattle.read_block.proofs.records.start_records.Goals as goal
 

@@ -1,11 +1,8 @@
 -- `read_block::records::start_records` meets its contract: the records before j have started. Assumes nothing.
-use borrow.Author.Rules.{rules}
-use mathlib.Core.Path.{◌≡◌, refl}
+use mathlib.Core.Path.{◌≡◌}
 use Prim.Native.Nat.{◌-◌, ◌≤◌}
-use native.Mathlib.Omega.{arith}
 use lib.ListN.{length, take}
-use Rattle.read_block.specs.Records.{table, start_record, start_records}
-use Rattle.read_block.proofs.TableLaws.{fill_more, fill_done}
+use Rattle.read_block.specs.Records.{table, start_record}
 use Rattle.read_block.proofs.records.start_records.Given as goal
 
 abbrev pub invariant-loop-j : goal.invariant-loop-j

@@ -1,11 +1,9 @@
 -- `read_block::records::store_set` meets its contract: the records before i are put back. Assumes nothing.
 use borrow.Author.Rules.{rules}
-use mathlib.Core.Path.{◌≡◌}
-use Prim.Native.Nat.{◌-◌, ◌*◌, ◌≤◌}
+use Prim.Native.Nat.{◌*◌}
 use native.Mathlib.Omega.{arith}
-use lib.ListN.{length}
-use lib.Seq.{paste, paste-zero}
-use Rattle.pass_steps.specs.Values.{zip_records, records_of}
+use lib.Seq.{paste-zero}
+use Rattle.pass_steps.specs.Values.{records_of}
 use Rattle.read_block.proofs.SetLaws.{store_more, store_done}
 use Rattle.read_block.proofs.records.store_set.Goals as goal
 

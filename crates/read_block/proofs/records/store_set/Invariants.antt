@@ -1,12 +1,9 @@
 -- `read_block::records::store_set` meets its contract: the records before i are put back. Assumes nothing.
-use borrow.Author.Rules.{rules}
 use mathlib.Core.Path.{◌≡◌}
 use Prim.Native.Nat.{◌-◌, ◌*◌, ◌≤◌}
-use native.Mathlib.Omega.{arith}
 use lib.ListN.{length}
-use lib.Seq.{paste, paste-zero}
-use Rattle.pass_steps.specs.Values.{zip_records, records_of}
-use Rattle.read_block.proofs.SetLaws.{store_more, store_done}
+use lib.Seq.{paste}
+use Rattle.pass_steps.specs.Values.{zip_records}
 use Rattle.read_block.proofs.records.store_set.Given as goal
 
 abbrev pub invariant-loop-i : goal.invariant-loop-i

@@ -1,5 +1,4 @@
 -- `read_block::sharing::handed_back` meets its contract, by the answer. Assumes nothing.
-use borrow.Author.Rules.{rules}
 use mathlib.Core.Bool.{true}
 use mathlib.Core.List.{List}
 use mathlib.Core.Path.{◌≡◌, refl}

@@ -1,5 +1,4 @@
 -- `read_block::tight::read_answer` meets its contract, by what the walk says. Assumes nothing.
-use borrow.Author.Rules.{rules}
 use mathlib.Core.Path.{◌≡◌}
 use Prim.Native.Nat.{ℕ}
 use Rattle.line_totals.specs.declared.Totals.{Totals}

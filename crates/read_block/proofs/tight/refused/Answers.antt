@@ -1,5 +1,4 @@
 -- `read_block::tight::refused` meets its contract. Assumes nothing.
-use borrow.Author.Rules.{rules}
 use mathlib.Core.Path.{◌≡◌}
 use Rattle.line_totals.specs.Totals.{no_totals}
 use Rattle.line_totals.specs.declared.Totals.{Totals}

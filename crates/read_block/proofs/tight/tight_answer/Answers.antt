@@ -1,5 +1,4 @@
 -- `read_block::tight::tight_answer` meets its contract, by what the walk says. Assumes nothing.
-use borrow.Author.Rules.{rules}
 use mathlib.Core.Path.{sym, ◌∙◌}
 use Rattle.read_block.proofs.TightLaws.{cut_off, loose, accepted, wrong_tail}
 use Rattle.read_block.proofs.tight.tight_answer.Goals as goal

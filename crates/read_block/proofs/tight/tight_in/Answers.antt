@@ -1,5 +1,4 @@
 -- `read_block::tight::tight_in` meets its contract: a lossless block has no bases. Assumes nothing.
-use borrow.Author.Rules.{rules}
 use mathlib.Core.Bool.{true}
 use mathlib.Core.List.{List, []}
 use mathlib.Core.Path.{◌≡◌}

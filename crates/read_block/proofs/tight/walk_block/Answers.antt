@@ -1,5 +1,4 @@
 -- `read_block::tight::walk_block` meets its contract: what the stream says of block b goes to the walk. Assumes nothing.
-use borrow.Author.Rules.{rules}
 use mathlib.Core.Bool.{false}
 use mathlib.Core.List.{List}
 use mathlib.Core.Path.{◌≡◌}

@@ -1,5 +1,4 @@
 -- `read_pass::one_sample::coding_by` meets its contract, by the answers of the leaves. Assumes nothing.
-use borrow.Author.Rules.{rules}
 use mathlib.Core.Path.{refl}
 use Rattle.read_pass.proofs.one_sample.coding_by.Goals as goal
 

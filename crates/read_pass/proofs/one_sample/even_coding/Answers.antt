@@ -1,5 +1,4 @@
 -- `read_pass::one_sample::even_coding` meets its contract: the look is taken apart. Assumes nothing.
-use borrow.Author.Rules.{rules}
 use mathlib.Core.Path.{refl, ◌∙◌}
 use Rattle.read_pass.proofs.one_sample.even_coding.Goals as goal
 

@@ -1,5 +1,4 @@
 -- `read_pass::one_sample::in_parts` meets its contract: what it takes apart. Assumes nothing.
-use borrow.Author.Rules.{rules}
 use mathlib.Core.Path.{sym}
 use Rattle.read_pass.proofs.one_sample.in_parts.Goals as goal
 

@@ -1,5 +1,4 @@
 -- `read_pass::one_sample::odd_coding` meets its contract, by the answers of the leaves. Assumes nothing.
-use borrow.Author.Rules.{rules}
 use native.Mathlib.Omega.{arith}
 use Rattle.read_pass.proofs.SiteLaws.{line_end, aim_small, odd_made}
 use Rattle.read_pass.proofs.one_sample.odd_coding.Goals as goal

@@ -1,5 +1,4 @@
 -- `read_pass::one_sample::put_sample` meets its contract: the sample of the code, which fits 16 bits. Assumes nothing.
-use borrow.Author.Rules.{rules}
 use mathlib.Core.Path.{refl}
 use Rattle.read_pass.proofs.one_sample.put_sample.Goals as goal
 

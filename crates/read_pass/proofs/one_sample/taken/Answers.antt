@@ -1,5 +1,4 @@
 -- `read_pass::one_sample::taken` meets its contract: at once, or by the slow reader. Assumes nothing.
-use borrow.Author.Rules.{rules}
 use mathlib.Core.Bool.{Bool}
 use mathlib.Core.List.{List}
 use mathlib.Core.Path.{◌≡◌, refl, sym, ◌∙◌}

@@ -1,11 +1,8 @@
 -- `saved_state::blocks::load_records` meets its contract: the records before j are loaded. Assumes nothing.
 use borrow.Author.Rules.{rules}
-use mathlib.Core.Path.{◌≡◌, refl}
-use Prim.Native.Nat.{◌-◌, ◌≤◌}
+use mathlib.Core.Path.{refl}
 use native.Mathlib.Omega.{arith}
-use lib.ListN.{length, take}
-use Rattle.saved_state.specs.Checkpoints.{loaded_record}
-use Rattle.read_block.specs.Records.{table, start_record}
+use Rattle.read_block.specs.Records.{table}
 use Rattle.read_block.proofs.TableLaws.{fill_more, fill_done}
 use Rattle.saved_state.proofs.blocks.load_records.Goals as goal
 

@@ -1,12 +1,9 @@
 -- `saved_state::blocks::load_records` meets its contract: the records before j are loaded. Assumes nothing.
-use borrow.Author.Rules.{rules}
-use mathlib.Core.Path.{◌≡◌, refl}
+use mathlib.Core.Path.{◌≡◌}
 use Prim.Native.Nat.{◌-◌, ◌≤◌}
-use native.Mathlib.Omega.{arith}
 use lib.ListN.{length, take}
 use Rattle.saved_state.specs.Checkpoints.{loaded_record}
 use Rattle.read_block.specs.Records.{table, start_record}
-use Rattle.read_block.proofs.TableLaws.{fill_more, fill_done}
 use Rattle.saved_state.proofs.blocks.load_records.Given as goal
 
 abbrev pub invariant-loop-j : goal.invariant-loop-j

@@ -1,5 +1,4 @@
 -- `saved_state::blocks::put_state` meets its contract: the head, the three sets and the lines are the state. Assumes nothing.
-use borrow.Author.Rules.{rules}
 use mathlib.Core.Bool.{Bool}
 use mathlib.Core.List.{List}
 use mathlib.Core.Path.{◌≡◌, ◌∙◌}

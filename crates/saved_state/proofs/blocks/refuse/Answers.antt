@@ -1,5 +1,4 @@
 -- `saved_state::blocks::refuse` meets its contract. Assumes nothing.
-use borrow.Author.Rules.{rules}
 use Rattle.saved_state.proofs.blocks.refuse.Goals as goal
 
 pub returns : goal.returns

@@ -1,5 +1,4 @@
 -- `saved_state::blocks::resume_answer` meets its contract. Assumes nothing.
-use borrow.Author.Rules.{rules}
 use mathlib.Core.Path.{◌≡◌}
 use Prim.Native.Nat.{ℕ, ◌-◌}
 use Rattle.line_totals.specs.declared.Totals.{Totals}

@@ -1,5 +1,4 @@
 -- `saved_state::blocks::resume_lines` meets its contract: what the bytes hold is loaded, and the lines are read from there. Assumes nothing.
-use borrow.Author.Rules.{rules}
 use mathlib.Core.Path.{◌≡◌, refl, ap, ◌∙◌}
 use Prim.Native.Nat.{ℕ, ◌+◌, ◌*◌, ◌^◌, ◌<◌}
 use native.Mathlib.Omega.{arith}

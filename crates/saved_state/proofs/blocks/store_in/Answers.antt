@@ -1,5 +1,4 @@
 -- `saved_state::blocks::store_in` meets its contract, by refusals 21 and 13. Assumes nothing.
-use borrow.Author.Rules.{rules}
 use mathlib.Core.List.{List}
 use mathlib.Core.Path.{◌≡◌, sym, ap, ◌∙◌}
 use Prim.Native.Nat.{ℕ}

@@ -1,5 +1,4 @@
 -- `saved_state::blocks::store_state` meets its contract: the lines from the top are read, and what they leave is stored. Assumes nothing.
-use borrow.Author.Rules.{rules}
 use mathlib.Core.Path.{◌≡◌, refl, ap, ◌∙◌}
 use Prim.Native.Nat.{ℕ, ◌+◌, ◌*◌}
 use native.Mathlib.Omega.{arith}

@@ -1,5 +1,4 @@
 -- `saved_state::head::head_byte` meets its contract, by the part that the byte belongs to. Assumes nothing.
-use borrow.Author.Rules.{rules}
 use borrow.Author.Tests.{lt-ltb, le-ltb}
 use mathlib.Core.List.{List}
 use mathlib.Core.Path.{◌≡◌}

@@ -1,10 +1,9 @@
 -- `saved_state::head::store_head` meets its contract: the bytes before i are stored. Assumes nothing.
-use mathlib.Core.Path.{◌≡◌, refl}
-use Prim.Native.Nat.{◌+◌, ◌-◌, ◌≤◌}
+use mathlib.Core.Path.{refl}
 use native.Mathlib.Nat.{zero-add}
 use native.Mathlib.Omega.{arith}
-use lib.ListN.{length, length-set}
-use Rattle.saved_state.specs.Heads.{head_byte, put_each}
+use lib.ListN.{length-set}
+use Rattle.saved_state.specs.Heads.{put_each}
 use Rattle.saved_state.proofs.PutLaws.{put_more, put_done}
 use Rattle.saved_state.proofs.head.store_head.Goals as goal
 

@@ -1,11 +1,8 @@
 -- `saved_state::head::store_head` meets its contract: the bytes before i are stored. Assumes nothing.
-use mathlib.Core.Path.{◌≡◌, refl}
+use mathlib.Core.Path.{◌≡◌}
 use Prim.Native.Nat.{◌+◌, ◌-◌, ◌≤◌}
-use native.Mathlib.Nat.{zero-add}
-use native.Mathlib.Omega.{arith}
-use lib.ListN.{length, length-set}
+use lib.ListN.{length}
 use Rattle.saved_state.specs.Heads.{head_byte, put_each}
-use Rattle.saved_state.proofs.PutLaws.{put_more, put_done}
 use Rattle.saved_state.proofs.head.store_head.Given as goal
 
 abbrev pub invariant-loop-i : goal.invariant-loop-i

@@ -1,9 +1,7 @@
 -- `saved_state::load::has_bad_record` meets its contract: no record before j is bad. Assumes nothing.
-use mathlib.Core.Bool.{false}
-use mathlib.Core.Path.{◌≡◌, refl, sym, ◌∙◌}
-use Prim.Native.Nat.{◌-◌, ◌≤◌}
+use mathlib.Core.Path.{refl, sym, ◌∙◌}
 use native.Mathlib.Omega.{arith}
-use Rattle.saved_state.specs.Checkpoints.{bad_record, any_below}
+use Rattle.saved_state.specs.Checkpoints.{any_below}
 use Rattle.saved_state.proofs.ByteLaws.{any_more, any_at, none_done}
 use Rattle.saved_state.proofs.load.has_bad_record.Goals as goal
 

@@ -1,10 +1,8 @@
 -- `saved_state::load::has_bad_record` meets its contract: no record before j is bad. Assumes nothing.
 use mathlib.Core.Bool.{false}
-use mathlib.Core.Path.{◌≡◌, refl, sym, ◌∙◌}
+use mathlib.Core.Path.{◌≡◌}
 use Prim.Native.Nat.{◌-◌, ◌≤◌}
-use native.Mathlib.Omega.{arith}
 use Rattle.saved_state.specs.Checkpoints.{bad_record, any_below}
-use Rattle.saved_state.proofs.ByteLaws.{any_more, any_at, none_done}
 use Rattle.saved_state.proofs.load.has_bad_record.Given as goal
 
 abbrev pub invariant-loop-j : goal.invariant-loop-j

@@ -1,9 +1,7 @@
 -- `saved_state::load::has_bad_sample` meets its contract: no sample before j is bad. Assumes nothing.
-use mathlib.Core.Bool.{false}
-use mathlib.Core.Path.{◌≡◌, refl, sym, ◌∙◌}
-use Prim.Native.Nat.{◌-◌, ◌*◌, ◌≤◌}
+use mathlib.Core.Path.{refl, sym, ◌∙◌}
 use native.Mathlib.Omega.{arith}
-use Rattle.saved_state.specs.Checkpoints.{bad_sample, any_below}
+use Rattle.saved_state.specs.Checkpoints.{any_below}
 use Rattle.saved_state.proofs.ByteLaws.{any_more, any_at, none_done}
 use Rattle.saved_state.proofs.load.has_bad_sample.Goals as goal
 

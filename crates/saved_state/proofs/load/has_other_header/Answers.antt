@@ -1,11 +1,7 @@
 -- `saved_state::load::has_other_header` meets its contract: the bytes before i are equal. Assumes nothing.
 use borrow.Author.Tests.{eq-eqb, ne_eqb}
-use mathlib.Core.Bool.{false, not}
-use mathlib.Core.Path.{◌≡◌, refl, sym}
-use Prim.Native.Nat.{◌-◌, ◌≤◌}
+use mathlib.Core.Path.{refl, sym}
 use native.Mathlib.Omega.{arith}
-use lib.Dec.{eqb}
-use lib.ListN.{get_or}
 use Rattle.saved_state.specs.Checkpoints.{any_below}
 use Rattle.saved_state.proofs.ByteLaws.{any_more, any_at, none_done}
 use Rattle.saved_state.proofs.load.has_other_header.Goals as goal

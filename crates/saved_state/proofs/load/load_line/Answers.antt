@@ -1,10 +1,10 @@
 -- `saved_state::load::load_line` meets its contract: the samples before p are loaded. Assumes nothing.
 use mathlib.Core.List.{List}
 use mathlib.Core.Path.{◌≡◌, refl, ◌∙◌}
-use Prim.Native.Nat.{ℕ, ◌+◌, ◌-◌, ◌*◌, ◌≤◌, ◌<◌}
+use Prim.Native.Nat.{ℕ, ◌+◌, ◌*◌, ◌≤◌, ◌<◌}
 use native.Mathlib.Nat.{mul-le-mul_right}
 use native.Mathlib.Omega.{arith}
-use lib.ListN.{length, length-set}
+use lib.ListN.{length-set}
 use Rattle.saved_state.specs.Heads.{put_each}
 use Rattle.saved_state.specs.Checkpoints.{stored_sample, kept_line, with_kept}
 use Rattle.saved_state.proofs.PutLaws.{put_more}

@@ -1,13 +1,9 @@
 -- `saved_state::load::load_line` meets its contract: the samples before p are loaded. Assumes nothing.
-use mathlib.Core.List.{List}
-use mathlib.Core.Path.{◌≡◌, refl, ◌∙◌}
-use Prim.Native.Nat.{ℕ, ◌+◌, ◌-◌, ◌*◌, ◌≤◌, ◌<◌}
-use native.Mathlib.Nat.{mul-le-mul_right}
-use native.Mathlib.Omega.{arith}
-use lib.ListN.{length, length-set}
+use mathlib.Core.Path.{◌≡◌}
+use Prim.Native.Nat.{◌+◌, ◌-◌, ◌*◌, ◌≤◌}
+use lib.ListN.{length}
 use Rattle.saved_state.specs.Heads.{put_each}
-use Rattle.saved_state.specs.Checkpoints.{stored_sample, kept_line, with_kept}
-use Rattle.saved_state.proofs.PutLaws.{put_more}
+use Rattle.saved_state.specs.Checkpoints.{stored_sample, kept_line}
 use Rattle.saved_state.proofs.load.load_line.Given as goal
 
 abbrev pub invariant-loop-p : goal.invariant-loop-p

@@ -1,5 +1,4 @@
 -- `saved_state::store::set_byte` meets its contract. Assumes nothing.
-use borrow.Author.Rules.{rules}
 use mathlib.Core.Path.{◌∙◌, ap}
 use Prim.Native.Nat.{◌%◌}
 use Rattle.statistics.specs.declared.Record.{Record}

@@ -1,10 +1,8 @@
 -- `saved_state::store::store_lines` meets its contract: the bytes before i are stored. Assumes nothing.
-use mathlib.Core.Path.{◌≡◌, refl}
-use Prim.Native.Nat.{◌-◌, ◌*◌, ◌≤◌}
+use mathlib.Core.Path.{refl}
 use native.Mathlib.Omega.{arith}
-use lib.ListN.{length, length-set}
+use lib.ListN.{length-set}
 use Rattle.saved_state.specs.Heads.{put_each}
-use Rattle.saved_state.specs.Checkpoints.{lines_byte}
 use Rattle.saved_state.proofs.PutLaws.{put_more, put_done}
 use Rattle.saved_state.proofs.store.store_lines.Goals as goal
 

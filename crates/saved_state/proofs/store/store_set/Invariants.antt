@@ -1,16 +1,10 @@
 -- `saved_state::store::store_set` meets its contract: the bytes before i are stored. Assumes nothing.
-use borrow.Author.Rules.{rules}
-use mathlib.Core.Bool.{Bool}
-use mathlib.Core.List.{List}
-use mathlib.Core.Path.{◌≡◌, refl}
-use Prim.Native.Nat.{ℕ, ◌+◌, ◌-◌, ◌*◌, ◌/◌, ◌%◌, ◌≤◌}
-use native.Mathlib.Omega.{arith}
-use lib.ListN.{length, length-set}
+use mathlib.Core.Path.{◌≡◌}
+use Prim.Native.Nat.{◌+◌, ◌-◌, ◌*◌, ◌≤◌}
+use lib.ListN.{length}
 use Rattle.pass_steps.specs.Values.{zip_records}
-use Rattle.pass_steps.proofs.ZipLaws.{record_at, zip_get_d}
 use Rattle.saved_state.specs.Heads.{put_each}
-use Rattle.saved_state.specs.Checkpoints.{record_byte, stored_record, records_byte}
-use Rattle.saved_state.proofs.PutLaws.{put_more, put_done}
+use Rattle.saved_state.specs.Checkpoints.{records_byte}
 use Rattle.saved_state.proofs.store.store_set.Given as goal
 
 abbrev pub invariant-loop-i : goal.invariant-loop-i

@@ -1,5 +1,4 @@
 -- `stream::ranges::part` meets its contract: a range that lies in the bytes is a part of them. Assumes nothing.
-use borrow.Author.Rules.{rules}
 use mathlib.Core.List.{List}
 use mathlib.Core.Path.{◌≡◌}
 use Prim.Native.Nat.{ℕ, ◌+◌, ◌-◌, ◌≤◌}

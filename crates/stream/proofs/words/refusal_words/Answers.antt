@@ -1,5 +1,4 @@
 -- `stream::words::refusal_words` meets its contract, case by case. Assumes nothing.
-use borrow.Author.Rules.{rules}
 use mathlib.Core.Path.{◌≡◌}
 use Rattle.stream.specs.declared.header.Refusal.{Refusal}
 use Rattle.stream.specs.Refusals.{refusal_words}

@@ -1,5 +1,4 @@
 -- `tight_diagnosis::trace::record_in` meets its contract. Assumes nothing.
-use borrow.Author.Rules.{rules}
 use mathlib.Core.Path.{sym}
 use Rattle.pass_steps.proofs.ZipLaws.{record_is, record_in_range}
 use Rattle.tight_diagnosis.proofs.trace.record_in.Goals as goal

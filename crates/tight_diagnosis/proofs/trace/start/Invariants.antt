@@ -1,13 +1,9 @@
 -- `tight_diagnosis::trace::start` meets its contract: the records before j have started. Assumes nothing.
-use borrow.Author.Rules.{rules}
-use mathlib.Core.Path.{◌≡◌, refl, sym, ◌∙◌}
+use mathlib.Core.Path.{◌≡◌}
 use Prim.Native.Nat.{◌-◌, ◌≤◌}
-use native.Mathlib.Omega.{arith}
 use lib.ListN.{length, take}
 use Rattle.pass_steps.specs.Values.{zip_records}
-use Rattle.pass_steps.proofs.ZipLaws.{zip_length, zip_set}
-use Rattle.read_block.specs.Records.{table, start_record, start_records}
-use Rattle.read_block.proofs.TableLaws.{fill_more, fill_done}
+use Rattle.read_block.specs.Records.{table, start_record}
 use Rattle.tight_diagnosis.proofs.trace.start.Given as goal
 
 abbrev pub invariant-loop-j : goal.invariant-loop-j

@@ -1,19 +1,13 @@
 -- `tight_diagnosis::trace::trace_lines` meets its contract: n lines have been walked, with tight codes alone. Assumes nothing.
-use borrow.Author.Rules.{rules}
-use mathlib.Core.Path.{◌≡◌, refl, sym, ◌∙◌}
-use Prim.Native.Nat.{◌+◌, ◌-◌, ◌*◌, ◌≤◌, ◌<◌}
-use native.Mathlib.Omega.{arith}
+use mathlib.Core.Path.{◌≡◌}
+use Prim.Native.Nat.{◌+◌, ◌-◌, ◌*◌, ◌≤◌}
 use lib.ListN.{length}
 use Rattle.image_map.specs.Places.{width_of}
-use Rattle.image_map.proofs.PlaceLaws.{width_le}
 use Rattle.pass_steps.specs.Values.{zip_records}
 use Rattle.read_block.specs.Records.{start_records}
 use Rattle.read_block.specs.Walks.{AllInRange}
-use Rattle.read_block.proofs.RangeLaws.{all_started}
 use Rattle.tight_diagnosis.specs.Ways.{on, block_way}
-use Rattle.tight_diagnosis.specs.Traces.{clean_state, Says}
-use Rattle.tight_diagnosis.proofs.WayLaws.{turn_at, turn_stops, no_place}
-use Rattle.tight_diagnosis.proofs.LineLaws.{line_at_way, lines_next, lines_none, line_says, zero_length, ends_says}
+use Rattle.tight_diagnosis.specs.Traces.{clean_state}
 use Rattle.tight_diagnosis.proofs.trace.trace_lines.Given as goal
 
 abbrev pub invariant-loop-n : goal.invariant-loop-n

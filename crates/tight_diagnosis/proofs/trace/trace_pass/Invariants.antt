@@ -1,14 +1,12 @@
 -- `tight_diagnosis::trace::trace_pass` meets its contract: the samples before number u have been walked, with tight codes alone. Assumes nothing.
-use mathlib.Core.Path.{◌≡◌, refl, sym, ◌∙◌}
-use Prim.Native.Nat.{◌+◌, ◌-◌, ◌*◌, ◌/◌, ◌≤◌, ◌<◌}
-use native.Mathlib.Omega.{arith}
+use mathlib.Core.Path.{◌≡◌}
+use Prim.Native.Nat.{◌+◌, ◌-◌, ◌*◌, ◌/◌, ◌≤◌}
 use lib.ListN.{length}
 use Rattle.pass_schedule.specs.Steps.{upto}
 use Rattle.pass_steps.specs.Values.{zip_records, SetInRange}
 use Rattle.tight_diagnosis.specs.Ways.{on, steps_way}
-use Rattle.tight_diagnosis.specs.Traces.{clean, Says}
-use Rattle.tight_diagnosis.proofs.DueLaws.{quarter, pass_is, due_steps, due_inside}
-use Rattle.tight_diagnosis.proofs.WayLaws.{turn_at, turn_stops, no_place, steps_none, steps_next, says_is}
+use Rattle.tight_diagnosis.specs.Traces.{clean}
+use Rattle.tight_diagnosis.proofs.DueLaws.{quarter}
 use Rattle.tight_diagnosis.proofs.trace.trace_pass.Given as goal
 
 abbrev pub invariant-loop-u : goal.invariant-loop-u

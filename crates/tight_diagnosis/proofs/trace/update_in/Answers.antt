@@ -1,5 +1,4 @@
 -- `tight_diagnosis::trace::update_in` meets its contract. Assumes nothing.
-use borrow.Author.Rules.{rules}
 use mathlib.Core.Path.{◌∙◌}
 use Rattle.pass_steps.proofs.ZipLaws.{zip_set, stored_in_range}
 use Rattle.tight_diagnosis.proofs.trace.update_in.Goals as goal
