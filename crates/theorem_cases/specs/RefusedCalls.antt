@@ -21,15 +21,15 @@ abbrev pub lossless_stream : List ℕ
 lossless_stream = bytes_k 0x0E ++ 0 ∷ 0 ∷ 0 ∷ 0 ∷ []
 
 -- that header, lossy; with a size, no base row; and with a size, padding and a base row of one byte
-abbrev pub lossy_header_lem : List ℕ
-lossy_header_lem =
+abbrev pub lossy_header : List ℕ
+lossy_header =
     0x49 ∷ 0x53 ∷ 0x00 ∷ 0x00 ∷ 0x0E ∷ 0x00 ∷ 0x06 ∷ 0x03 ∷ 0x00 ∷ 0x03 ∷ 0x00 ∷ 0x03 ∷ 0x00 ∷ 0x01 ∷ 0x00 ∷ 0x01 ∷ []
 
 abbrev pub lossy_without_bases : List ℕ
-lossy_without_bases = lossy_header_lem ++ 0 ∷ 0 ∷ 0 ∷ 0 ∷ []
+lossy_without_bases = lossy_header ++ 0 ∷ 0 ∷ 0 ∷ 0 ∷ []
 
 abbrev pub lossy_stream : List ℕ
-lossy_stream = lossy_header_lem ++ 0 ∷ 0 ∷ 0 ∷ 0 ∷ 0 ∷ 0 ∷ 0 ∷ 0 ∷ 0 ∷ 0 ∷ 0 ∷ 0 ∷ 0 ∷ 0 ∷ 0 ∷ 0 ∷ 7 ∷ []
+lossy_stream = lossy_header ++ 0 ∷ 0 ∷ 0 ∷ 0 ∷ 0 ∷ 0 ∷ 0 ∷ 0 ∷ 0 ∷ 0 ∷ 0 ∷ 0 ∷ 0 ∷ 0 ∷ 0 ∷ 0 ∷ 7 ∷ []
 
 abbrev pub rows : (height : ℕ) → Rect
 rows height = record { x = 0; y = 0; width = 768; height = height }
@@ -46,24 +46,24 @@ pub record RefusedCalls : Type 0 where
   -- an empty region returns before 10
   pub n7_empty : region_begins lossless_stream (rows 0) 0 0 0 ≡ Begin.Nothing
   pub n8_tight : tight_begins lossy_stream 0 6948 336 ≡ Parsing.Refused Lossy
-  pub n8_writer : writing_begins lossy_header_lem 4608 6948 336 ≡ Parsing.Refused Lossy
+  pub n8_writer : writing_begins lossy_header 4608 6948 336 ≡ Parsing.Refused Lossy
   pub n9 : writing_begins (bytes_k 0x0E) 4607 6948 336 ≡ Parsing.Refused WrongCount
   pub n10_samples : writing_begins (bytes_k 0x0E) 4608 6947 336 ≡ Parsing.Refused ShortScratch
   pub n10_records : writing_begins (bytes_k 0x0E) 4608 6948 335 ≡ Parsing.Refused ShortScratch
   -- in checking order: 5 before 8, 8 before 9, 9 before 10
   pub before_8 : tight_begins lossy_stream 1 0 0 ≡ Parsing.Refused NoBlock
-  pub before_9 : writing_begins lossy_header_lem 0 0 0 ≡ Parsing.Refused Lossy
+  pub before_9 : writing_begins lossy_header 0 0 0 ≡ Parsing.Refused Lossy
   pub before_10 : writing_begins (bytes_k 0x0E) 0 0 0 ≡ Parsing.Refused WrongCount
   -- the lossy writer: 16 in the place of 8, 17 straight after it
   pub n16 : lossy_begins (bytes_k 0x0E) 0 0 0 0 ≡ Parsing.Refused Lossless
-  pub n17 : lossy_begins lossy_header_lem 2 0 0 0 ≡ Parsing.Refused WrongBases
-  pub after_17 : lossy_begins lossy_header_lem 1 0 0 0 ≡ Parsing.Refused WrongCount
+  pub n17 : lossy_begins lossy_header 2 0 0 0 ≡ Parsing.Refused WrongBases
+  pub after_17 : lossy_begins lossy_header 1 0 0 0 ≡ Parsing.Refused WrongCount
   -- plans for one line: no text, a newline alone, and twice the record of line 0 with base 5
   pub plan_16 : planned_answer (bytes_k 0x0E) (10 ∷ []) 2 ≡ Plan.Refused Lossless
-  pub plan_17 : planned_answer lossy_header_lem (10 ∷ []) 2 ≡ Plan.Refused WrongBases
-  pub n18 : planned_answer lossy_header_lem (10 ∷ []) 1 ≡ Plan.Refused (BadRecord 1)
-  pub n19 : planned_answer lossy_header_lem (48 ∷ 9 ∷ 48 ∷ 9 ∷ 53 ∷ 10 ∷ 48 ∷ 9 ∷ 48 ∷ 9 ∷ 53 ∷ 10 ∷ []) 1 ≡ Plan.Refused (HeldTwice 0)
-  pub n20 : planned_answer lossy_header_lem [] 1 ≡ Plan.Refused (NotHeld 0)
+  pub plan_17 : planned_answer lossy_header (10 ∷ []) 2 ≡ Plan.Refused WrongBases
+  pub n18 : planned_answer lossy_header (10 ∷ []) 1 ≡ Plan.Refused (BadRecord 1)
+  pub n19 : planned_answer lossy_header (48 ∷ 9 ∷ 48 ∷ 9 ∷ 53 ∷ 10 ∷ 48 ∷ 9 ∷ 48 ∷ 9 ∷ 53 ∷ 10 ∷ []) 1 ≡ Plan.Refused (HeldTwice 0)
+  pub n20 : planned_answer lossy_header [] 1 ≡ Plan.Refused (NotHeld 0)
   -- a depth of 13, a k of 16, a length of 0 and of 17
   pub n24_depth : listed_answer 13 0 1 ≡ Sheet.Refused OutsideSheet
   pub n24_k : listed_answer 12 16 1 ≡ Sheet.Refused OutsideSheet

@@ -273,7 +273,7 @@ module _ (F : Form) (t : List ℕ) (range : (j : ℕ) → get_or t j 0 ≤ large
         index = s.index;
         interpolated = is_interpolated_lem n i b.1 r found j b.2 b.3;
         differs = differs n i b.1 r found j b.2 b.3;
-        lines_before_lem = λ m k u v. right_all m k ((lines_wrong F t range n).0 a.2 m k u v);
+        lines_before = λ m k u v. right_all m k ((lines_wrong F t range n).0 a.2 m k u v);
         passes_before = λ k u. right_all n k (((passes_wrong F t range n start found0 small i le).0 b.2).1 k u);
         steps_before =
             let known = known_before n i b.1 r found j b.2 b.3 in

@@ -37,7 +37,7 @@ pub record FirstWrong (F : Form) (lines : ℕ) (t : List ℕ) (j : ℕ) : Type 0
   pub interpolated : is_interpolated F.xtrans step.line step.position ≡ true
   pub differs : get_or t j 0 ≢ prediction_in (width_of F.xtrans) t line step.line step.position
   -- and every interpolated one before it in coding order has its prediction
-  pub lines_before_lem : (n i : ℕ) → n < line → i < 6 → AllPredicted F t n (steps_of F i)
+  pub lines_before : (n i : ℕ) → n < line → i < 6 → AllPredicted F t n (steps_of F i)
   pub passes_before : (i : ℕ) → i < pass → AllPredicted F t line (steps_of F i)
   pub steps_before : AllPredicted F t line before
 
