@@ -3,4 +3,3 @@ pub mod BitLaws
 pub mod RunLaws
 pub mod ListLaws
 pub mod PackLaws
-pub mod Values
