@@ -39,7 +39,7 @@ ColourEmitted xtrans W tile lines a n l slot before after =
     Changed (λ i. in_rows a (6 * n) (6 * n + 6) i && eqb (colour_of tile a i) l) (window_sample xtrans W lines a slot) before after
 
 -- by the two lines of a pass, where that is wanted
-abbrev pub PassEmitted : Bool → Bool → ℕ → (tile lines : List ℕ) → Part → (n first first_slot second second-slot : ℕ) → (before after : List ℕ) → Type 0
-PassEmitted wanted xtrans W tile lines a n first first_slot second second-slot before after =
+abbrev pub PassEmitted : Bool → Bool → ℕ → (tile lines : List ℕ) → Part → (n first first_slot second second_slot : ℕ) → (before after : List ℕ) → Type 0
+PassEmitted wanted xtrans W tile lines a n first first_slot second second_slot before after =
     Changed (λ i. wanted && in_rows a (6 * n) (6 * n + 6) i && (eqb (colour_of tile a i) first || eqb (colour_of tile a i) second))
-    (λ i. window_sample xtrans W lines a (cond (eqb (colour_of tile a i) second) second-slot first_slot) i) before after
+    (λ i. window_sample xtrans W lines a (cond (eqb (colour_of tile a i) second) second_slot first_slot) i) before after

@@ -4,8 +4,8 @@ use Rattle.pass_schedule.specs.declared.Plan.{Plan}
 
 -- a pass of X-Trans: its two colour lines, its statistics set, and the rule of each line
 abbrev pub plan : ℕ → ℕ → ℕ → ℕ → ℕ → Plan
-plan first second set first-rule second-rule =
-    record { first = first; second = second; set = set; first_rule = first-rule; second_rule = second-rule }
+plan first second set first_rule second_rule =
+    record { first = first; second = second; set = set; first_rule = first_rule; second_rule = second_rule }
 
 -- a rule says which even positions p of a line are interpolated: none, those with p mod 4 = 0, those with p mod 4 = 2, or all
 unfoldable pub interpolated : ℕ → ℕ → Bool

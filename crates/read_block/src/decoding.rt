@@ -90,8 +90,8 @@ pub fn decode_region(
     lines: &mut [u16],
     rs: &mut [Record],
 ) -> Decoded
-    ensures { let before : Buffers = record { image = image.entry.now; lines = lines.old; records = rs.old } in
-        let after : Buffers = record { image = image.exit.now; lines = lines.new; records = rs.new } in
+    ensures { let before : Buffers = record { image = image.old; lines = lines.old; records = rs.old } in
+        let after : Buffers = record { image = image.new; lines = lines.new; records = rs.new } in
         let begins = region_begins d.now r (length before.image) (length before.lines) (length before.records) in
         Left d.now r tile begins before after result }
 {
@@ -125,8 +125,8 @@ pub fn decode_region_windowed(
     lines: &mut [u16],
     rs: &mut [Record],
 ) -> Decoded
-    ensures { let before : Buffers = record { image = image.entry.now; lines = lines.old; records = rs.old } in
-        let after : Buffers = record { image = image.exit.now; lines = lines.new; records = rs.new } in
+    ensures { let before : Buffers = record { image = image.old; lines = lines.old; records = rs.old } in
+        let after : Buffers = record { image = image.new; lines = lines.new; records = rs.new } in
         let begins = windowed_begins d.now r (length before.image) (length before.lines) (length before.records) in
         LeftWindowed d.now r tile begins before after result }
 {
@@ -160,8 +160,8 @@ pub fn decode(
     lines: &mut [u16],
     rs: &mut [Record],
 ) -> Decoded
-    ensures { let before : Buffers = record { image = image.entry.now; lines = lines.old; records = rs.old } in
-        let after : Buffers = record { image = image.exit.now; lines = lines.new; records = rs.new } in
+    ensures { let before : Buffers = record { image = image.old; lines = lines.old; records = rs.old } in
+        let after : Buffers = record { image = image.new; lines = lines.new; records = rs.new } in
         let begins = image_begins d.now width height (length before.image) (length before.lines) (length before.records) in
         Left d.now (whole_of width height) tile begins before after result }
 {

@@ -139,8 +139,8 @@ fn line(
     requires depth { Depth form.bits × ((qs.base < 256) × (qs ≡ quantisers_of form.bits qs.base)) }
     requires all_in_range { AllInRange rs.old × (from.long ≤ from.at.0) }
     requires n_bound { (n < 2 ^ 16) × (ArePlaces places.now × Fits part image.old) }
-    ensures fact { let before : Buffers = record { image = image.entry.now; lines = lines.old; records = rs.old } in
-        let after : Buffers = record { image = image.exit.now; lines = lines.new; records = rs.new } in
+    ensures fact { let before : Buffers = record { image = image.old; lines = lines.old; records = rs.old } in
+        let after : Buffers = record { image = image.new; lines = lines.new; records = rs.new } in
         LineReadIn windowed form qs block.now from tile part n before after result }
     ensures all_in_range_2 { AllInRange rs.new × OnlyLine windowed part n image.old image.new }
 {
@@ -196,8 +196,8 @@ pub fn read_lines(
     requires are_places { ArePlaces places.now × Fits part image.old }
     requires all_numbered { AllNumbered entries.all }
     requires all_in_range { AllInRange rs.old × ((from.long ≤ from.at.0) × Stands windowed form.xtrans lines.old) }
-    ensures { let before : Buffers = record { image = image.entry.now; lines = lines.old; records = rs.old } in
-        let after : Buffers = record { image = image.exit.now; lines = lines.new; records = rs.new } in
+    ensures { let before : Buffers = record { image = image.old; lines = lines.old; records = rs.old } in
+        let after : Buffers = record { image = image.new; lines = lines.new; records = rs.new } in
         LinesReadOn windowed form bases.now block.now tile part first from more before after result }
 {
     let bits = form.bits;

@@ -124,8 +124,8 @@ pub fn decode_region_shared(
     lines: &mut [u16],
     rs: &mut [Record],
 ) -> SharedAnswer
-    ensures { let before : Buffers = record { image = image.entry.now; lines = lines.old; records = rs.old } in
-        let after : Buffers = record { image = image.exit.now; lines = lines.new; records = rs.new } in
+    ensures { let before : Buffers = record { image = image.old; lines = lines.old; records = rs.old } in
+        let after : Buffers = record { image = image.new; lines = lines.new; records = rs.new } in
         let begins = region_begins d.now r (length before.image) (length before.lines) (length before.records) in
         LeftShared camera d.now r tile begins entries.all before after result.answer result.entries.all }
 {

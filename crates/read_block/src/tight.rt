@@ -125,8 +125,8 @@ fn walk_block(d: &[u8], h: FujiHeader, b: usize, lines: &mut [u16], rs: &mut [Re
 
 // The ordinary reading of block b of the stream d, lossless or lossy. It writes nothing but scratch, of which only the first part is used.
 pub fn read_block(d: &[u8], b: usize, lines: &mut [u16], rs: &mut [Record]) -> Counted
-    ensures { let before : Scratch = record { lines = lines.entry.now; records = rs.old } in
-        let after : Scratch = record { lines = lines.exit.now; records = rs.new } in
+    ensures { let before : Scratch = record { lines = lines.old; records = rs.old } in
+        let after : Scratch = record { lines = lines.new; records = rs.new } in
         LeftRead d.now b before after result }
 {
     let begins = admission::block_begins(d, b, false, lines.len(), rs.len());
@@ -154,8 +154,8 @@ fn tight_in(d: &[u8], h: FujiHeader, b: usize, got: Walked) -> Counted
 
 // The tight reading of block b: it accepts exactly the tight blocks. It writes nothing but scratch too.
 pub fn read_tight(d: &[u8], b: usize, lines: &mut [u16], rs: &mut [Record]) -> Counted
-    ensures { let before : Scratch = record { lines = lines.entry.now; records = rs.old } in
-        let after : Scratch = record { lines = lines.exit.now; records = rs.new } in
+    ensures { let before : Scratch = record { lines = lines.old; records = rs.old } in
+        let after : Scratch = record { lines = lines.new; records = rs.new } in
         LeftTight d.now b before after result }
 {
     let begins = admission::block_begins(d, b, true, lines.len(), rs.len());

@@ -193,8 +193,8 @@ pub fn read_set(
     lines: &mut [u16],
     rs: &mut [Record],
 ) -> Counted
-    ensures { let before : Sets = record { set = set.entry.now; lines = lines.old; records = rs.old } in
-        let after : Sets = record { set = set.exit.now; lines = lines.new; records = rs.new } in
+    ensures { let before : Sets = record { set = set.old; lines = lines.old; records = rs.old } in
+        let after : Sets = record { set = set.new; lines = lines.new; records = rs.new } in
         LeftSet d.now b (set_begins d.now b (length before.set) (length before.lines) (length before.records))
         before after result }
 {

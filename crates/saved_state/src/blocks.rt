@@ -224,8 +224,8 @@ pub fn resume_region(
     lines: &mut [u16],
     rs: &mut [Record],
 ) -> Counted
-    ensures { let before : Buffers = record { image = image.entry.now; lines = lines.old; records = rs.old } in
-        let after : Buffers = record { image = image.exit.now; lines = lines.new; records = rs.new } in
+    ensures { let before : Buffers = record { image = image.old; lines = lines.old; records = rs.old } in
+        let after : Buffers = record { image = image.new; lines = lines.new; records = rs.new } in
         LeftResumed d.now b state.now r tile before after result }
 {
     let begins = admission::resume_begins(d, b, r, image.len(), lines.len(), rs.len());

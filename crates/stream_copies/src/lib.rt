@@ -85,8 +85,8 @@ fn write_new(
     requires head_value { (parse_of head.now ≡ Header (new_header h rows.now)) × (RowsFit h rows.now × (b < h.blocks)) }
     requires ruled { Ruled h × (length set.now ≡ set_size (width_of h.xtrans) h.lines) }
     requires scratch_fits { ScratchFits h (length lines.old) (length rs.old) }
-    ensures { let before : Outputs = record { out = out.entry.now; lines = lines.old; records = rs.old } in
-        let after : Outputs = record { out = out.exit.now; lines = lines.new; records = rs.new } in
+    ensures { let before : Outputs = record { out = out.old; lines = lines.old; records = rs.old } in
+        let after : Outputs = record { out = out.new; lines = lines.new; records = rs.new } in
         SetWriting (bases_of h rows.now b) set.now (new_header h rows.now) before after result }
 {
     if rows.len() == 0 {
@@ -114,8 +114,8 @@ fn put_block(
     requires d_value { (open_of d.now ≡ Header h) × (head.now ≡ flagged (is_tight_call rows.now) d.now) }
     requires rows_fit { RowsFit h rows.now × ((b < h.blocks) × (at ≤ length out.old)) }
     requires set_len { (length set.old ≡ set_size (width_of h.xtrans) h.lines) × ScratchFits h (length lines.old) (length rs.old) }
-    ensures { let before : Outputs = record { out = out.entry.now; lines = lines.old; records = rs.old } in
-        let after : Outputs = record { out = out.exit.now; lines = lines.new; records = rs.new } in
+    ensures { let before : Outputs = record { out = out.old; lines = lines.old; records = rs.old } in
+        let after : Outputs = record { out = out.new; lines = lines.new; records = rs.new } in
         BlockPut d.now h rows.now b at before after result }
 {
     let got = read_set(d, b, set, lines, rs);
@@ -149,8 +149,8 @@ fn make_in(
     requires d_value { (open_of d.now ≡ Header h) × RowsFit h rows.now }
     requires set_len { (length set.old ≡ set_size (width_of h.xtrans) h.lines) × ScratchFits h (length lines.old) (length rs.old) }
     requires front_value { (front ≡ new_front h rows.now) × ((front ≤ length out.old) × (take front out.old ≡ replicate front 0)) }
-    ensures { let before : Outputs = record { out = out.entry.now; lines = lines.old; records = rs.old } in
-        let after : Outputs = record { out = out.exit.now; lines = lines.new; records = rs.new } in
+    ensures { let before : Outputs = record { out = out.old; lines = lines.old; records = rs.old } in
+        let after : Outputs = record { out = out.new; lines = lines.new; records = rs.new } in
         BlocksMade d.now h rows.now before after result }
 {
     let head = flagged(d, rows.len() == 0);
@@ -208,8 +208,8 @@ fn make(
     rs: &mut [Record],
 ) -> BlockLength
     requires { (open_of d.now ≡ Header h) × RowsFit h rows.now }
-    ensures { let before : Lent = record { out = out.entry.now; set = set.old; lines = lines.old; records = rs.old } in
-        let after : Lent = record { out = out.exit.now; set = set.new; lines = lines.new; records = rs.new } in
+    ensures { let before : Lent = record { out = out.old; set = set.old; lines = lines.old; records = rs.old } in
+        let after : Lent = record { out = out.new; set = set.new; lines = lines.new; records = rs.new } in
         LeftMade d.now rows.now
         (with_room h (is_tight_call rows.now) (length before.out) (length before.set) (length before.lines) (length before.records))
         before after result }
@@ -236,8 +236,8 @@ pub fn tighten(
     lines: &mut [u16],
     rs: &mut [Record],
 ) -> BlockLength
-    ensures { let before : Lent = record { out = out.entry.now; set = set.old; lines = lines.old; records = rs.old } in
-        let after : Lent = record { out = out.exit.now; set = set.new; lines = lines.new; records = rs.new } in
+    ensures { let before : Lent = record { out = out.old; set = set.old; lines = lines.old; records = rs.old } in
+        let after : Lent = record { out = out.new; set = set.new; lines = lines.new; records = rs.new } in
         LeftMade d.now [] (making_begins false (open_of d.now) [] before) before after result }
 {
     let opened = stream::open(d);
@@ -256,8 +256,8 @@ pub fn lossy_copy(
     lines: &mut [u16],
     rs: &mut [Record],
 ) -> BlockLength
-    ensures { let before : Lent = record { out = out.entry.now; set = set.old; lines = lines.old; records = rs.old } in
-        let after : Lent = record { out = out.exit.now; set = set.new; lines = lines.new; records = rs.new } in
+    ensures { let before : Lent = record { out = out.old; set = set.old; lines = lines.old; records = rs.old } in
+        let after : Lent = record { out = out.new; set = set.new; lines = lines.new; records = rs.new } in
         LeftMade d.now bases.now (making_begins true (open_of d.now) bases.now before) before after result }
 {
     let opened = stream::open(d);

@@ -333,8 +333,8 @@ fn write_in(
     rs: &mut [Record],
 ) -> BlockLength
     requires { FitsOn begins (length samples.now) (length lines.old) (length rs.old) }
-    ensures { let before : Outputs = record { out = out.entry.now; lines = lines.old; records = rs.old } in
-        let after : Outputs = record { out = out.exit.now; lines = lines.new; records = rs.new } in
+    ensures { let before : Outputs = record { out = out.old; lines = lines.old; records = rs.old } in
+        let after : Outputs = record { out = out.new; lines = lines.new; records = rs.new } in
         LeftBy measure bases.now samples.now begins before after result }
 {
     match begins {
@@ -367,8 +367,8 @@ pub fn write_block(
     rs: &mut [Record],
 ) -> BlockLength
     ensures { let t = samples.now in
-        let before : Outputs = record { out = out.entry.now; lines = lines.old; records = rs.old } in
-        let after : Outputs = record { out = out.exit.now; lines = lines.new; records = rs.new } in
+        let before : Outputs = record { out = out.old; lines = lines.old; records = rs.old } in
+        let after : Outputs = record { out = out.new; lines = lines.new; records = rs.new } in
         LeftWritten t (writing_begins header.now (length t) (length before.lines) (length before.records)) before after result }
 {
     let begins = admission::writing_begins(header, samples.len(), lines.len(), rs.len());
@@ -386,8 +386,8 @@ pub fn write_lossy(
 ) -> BlockLength
     ensures { let s = bases.now in
         let t = samples.now in
-        let before : Outputs = record { out = out.entry.now; lines = lines.old; records = rs.old } in
-        let after : Outputs = record { out = out.exit.now; lines = lines.new; records = rs.new } in
+        let before : Outputs = record { out = out.old; lines = lines.old; records = rs.old } in
+        let after : Outputs = record { out = out.new; lines = lines.new; records = rs.new } in
         let begins = lossy_begins header.now (length s) (length t) (length before.lines) (length before.records) in
         LeftLossy s t begins before after result }
 {
@@ -403,8 +403,8 @@ pub fn measure_block(
     rs: &mut [Record],
 ) -> BlockLength
     ensures { let t = samples.now in
-        let before : Scratch = record { lines = lines.entry.now; records = rs.old } in
-        let after : Scratch = record { lines = lines.exit.now; records = rs.new } in
+        let before : Scratch = record { lines = lines.old; records = rs.old } in
+        let after : Scratch = record { lines = lines.new; records = rs.new } in
         LeftMeasured t (writing_begins header.now (length t) (length before.lines) (length before.records)) before after result }
 {
     let mut nothing = [0u8; 1];
