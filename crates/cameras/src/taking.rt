@@ -143,6 +143,8 @@ pub fn take_lines(camera: Camera, entries: Entries, bits: u32, bases: &[u8], cou
 }
 
 // The entries after the block.
+// INLINING: not inlined, so that what it works on is not on the stack while a block is read.
+#[inline(never)]
 pub fn after_block(
     camera: Camera,
     entries: Entries,

@@ -1,15 +1,15 @@
 // Decoding: an image, a region, a region in windows, and a region for a camera, with the end of its stream.
-ghost use Rattle.std.specs.Prelude.{length};
+ghost use Rattle.std.specs.Prelude.{◌≡◌, length};
 ghost use Rattle.image_region.specs.declared.Rect.{Rect};
 ghost use Rattle.cameras.specs.Entries.{given_back};
 ghost use Rattle.cameras.specs.Words.{camera_in, entries_in, AreWords};
 ghost use Rattle.admission.specs.Beginnings.{region_begins, windowed_begins, whole_of, image_begins};
 ghost use Rattle.read_block.specs.Lent.{Buffers};
-ghost use Rattle.read_block.specs.Words.{Told, ToldWindowed, ToldShared};
+ghost use Rattle.read_block.specs.Words.{answer_words, Told, ToldWindowed, ToldShared};
 
 use image_region::Rect;
 use read_block::{
-    answer_words, decode, decode_region, decode_region_shared, decode_region_windowed,
+    SharedAnswer, answer_words, decode, decode_region, decode_region_shared, decode_region_windowed,
 };
 use statistics::Record;
 
@@ -77,6 +77,15 @@ pub extern "C" fn fuji_decode_region_windowed(
     *refusal = w;
 }
 
+// An answer and the entries, as words.
+// INLINING: a function of its own, so that its arrays are not on the stack while blocks are read.
+fn put_shared(entries: &mut [u32; 128], refusal: &mut [usize; 4], a: SharedAnswer)
+    ensures { AreWords a.entries.all entries.new × (refusal.new ≡ answer_words a.answer) }
+{
+    *entries = cameras::words_of(a.entries);
+    *refusal = answer_words(a.answer);
+}
+
 // `decode_region_shared` for C: camera 1 is 1, and any other number is camera 2.
 #[unsafe(no_mangle)]
 pub extern "C" fn fuji_decode_region_shared(
@@ -107,15 +116,10 @@ pub extern "C" fn fuji_decode_region_shared(
         height,
     };
     let t = *tile;
-    let given = *entries;
     let c = cameras::camera_in(camera);
-    let held = cameras::entries_in(&given);
+    let held = cameras::entries_in(entries);
     let a = decode_region_shared(c, held, d, r, t, image, lines, rs);
-    let words = cameras::words_of(a.entries);
-    let answer = a.answer;
-    let w = answer_words(answer);
-    *entries = words;
-    *refusal = w;
+    put_shared(entries, refusal, a);
 }
 
 // `end_stream` for C.

@@ -189,12 +189,12 @@ pub fn read_lines(
     from: Place,
     more: usize,
     windowed: bool,
-    entries: Entries,
+    entries: &Entries,
 ) -> Walked
     requires block_len_bound { (length block.now < 2 ^ 32) × ScratchIn windowed form.xtrans lines.old rs.old }
     requires depth { Depth form.bits × (first + more < 2 ^ 16) }
     requires are_places { ArePlaces places.now × Fits part image.old }
-    requires all_numbered { AllNumbered entries.all }
+    requires all_numbered { AllNumbered entries.now.all }
     requires all_in_range { AllInRange rs.old × ((from.long ≤ from.at.0) × Stands windowed form.xtrans lines.old) }
     ensures { let before : Buffers = record { image = image.old; lines = lines.old; records = rs.old } in
         let after : Buffers = record { image = image.new; lines = lines.new; records = rs.new } in
@@ -218,7 +218,7 @@ pub fn read_lines(
             rs,
             image,
             form,
-            quantisers_in(entries, bits, base),
+            quantisers_in(*entries, bits, base),
             places,
             tile,
             part,
@@ -277,7 +277,7 @@ pub fn walk(
         start_place(),
         count,
         windowed,
-        entries,
+        &entries,
     );
     colour_lines::clear(lines);
     clear_records(rs);

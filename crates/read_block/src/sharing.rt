@@ -50,7 +50,7 @@ fn handed_back(camera: Camera, entries: Entries, answer: Decoded) -> SharedAnswe
 // read, so that the entries of a block's lines are found before the walk over it, and those of lines that it did not come to are left again.
 fn decode_shared_blocks(
     camera: Camera,
-    entries: Entries,
+    mut held: Entries,
     d: &[u8],
     h: FujiHeader,
     r: Rect,
@@ -60,10 +60,10 @@ fn decode_shared_blocks(
     rs: &mut [Record],
 ) -> SharedAnswer
     requires d_value { (open_of d.now ≡ Header h) × Accepted h r (length image.old) }
-    requires scratch_in { ScratchIn false h.xtrans lines.old rs.old × AllNumbered entries.all }
-    ensures answer_value { (result.answer ≡ shared_answer camera d.now h r entries.all)
-        × (result.entries.all ≡ last_entries camera d.now h r entries.all) }
-    ensures pictured_shared { PicturedShared camera d.now h r tile entries.all image.old image.new }
+    requires scratch_in { ScratchIn false h.xtrans lines.old rs.old × AllNumbered held.all }
+    ensures answer_value { (result.answer ≡ shared_answer camera d.now h r held.all)
+        × (result.entries.all ≡ last_entries camera d.now h r held.all) }
+    ensures pictured_shared { PicturedShared camera d.now h r tile held.all image.old image.new }
     ensures lines_after { (lines.new ≡ zeros_in false h.xtrans) × (rs.new ≡ clear_records) }
 {
     let span = image_region::span_of(r);
@@ -71,7 +71,6 @@ fn decode_shared_blocks(
     let end = span.last + 1;
     let bits = h.bits;
     let places = image_map::xtrans_places();
-    let mut held = entries;
     let mut answer = Decoded::Done;
     let mut b = span.first;
     while b < end {

@@ -172,7 +172,7 @@ fn resume_lines(
         place_at(at),
         more,
         false,
-        cameras::no_entries(),
+        &cameras::no_entries(),
     );
     colour_lines::clear(lines);
     clear_records(rs);
@@ -349,7 +349,7 @@ fn store_state(
         start_place(),
         line + 1,
         false,
-        cameras::no_entries(),
+        &cameras::no_entries(),
     );
     put_walked(state, d, h, b, line, got, lines, rs);
     colour_lines::clear(lines);

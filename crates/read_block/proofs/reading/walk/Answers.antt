@@ -33,7 +33,7 @@ read_lines-walked-requires c =
         rw c.start_records.ensures (all_started _ _ c.requires.depth.0.1),
         (
           rw c.start_place.ensures (omega arith),
-          (zero_lines W, length-replicate (18 * (W + 2)) 0, held_start c.args.windowed c.args.form.xtrans _ (zeros c)),
+          (zero_lines W, length-replicate (18 * (W + 2)) 0, held_start c.args.windowed c.args.form.xtrans _ (zeros (goal.at.read_lines-walked-requires c).After-start_place)),
         ),
       );
     }

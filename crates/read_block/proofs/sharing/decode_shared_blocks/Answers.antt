@@ -87,9 +87,9 @@ loop-b-init c =
       pictured_none false c.args.d.now c.args.h c.args.r c.args.tile _ c.args.image.now e.0,
       λ l. absurd (omega (arith, e.0, l)),
       refl,
-      entries_none c.args.camera c.args.d.now c.args.h c.args.r c.args.entries.all _ e.0,
+      entries_none c.args.camera c.args.d.now c.args.h c.args.r c.args.held.all _ e.0,
       c.requires.scratch_in.1,
-      going_none c.args.camera c.args.d.now c.args.h c.args.r c.args.entries.all _ e.0,
+      going_none c.args.camera c.args.d.now c.args.h c.args.r c.args.held.all _ e.0,
     )
 
 pub part-part-requires : goal.part-part-requires

@@ -60,15 +60,16 @@ load_lines-requires c = (
 
 pub read_lines-got-requires : goal.read_lines-got-requires
 read_lines-got-requires c =
+    let w = (goal.at.read_lines-got-requires c).After-no_entries in
     record {
-      block_len_bound = (c.block_bytes-block.ensures.1, (long c, omega (arith, c.load_records.auto, c.requires.scratch_of.1)));
-      depth = (form_depth _ c.args.h c.form_of-form.ensures c.requires.d_value.1.ruled, few c);
+      block_len_bound = (c.block_bytes-block.ensures.1, (long w, omega (arith, c.load_records.auto, c.requires.scratch_of.1)));
+      depth = (form_depth _ c.args.h c.form_of-form.ensures c.requires.d_value.1.ruled, few w);
       are_places = (
         c.xtrans_places-places.ensures,
         wanted_fits c.args.h c.args.r _ c.args.b _ _ c.requires.d_value.1 refl c.part_wanted-part.ensures,
       );
       all_numbered = c.no_entries.ensures.1;
-      all_in_range = (ranges c, (rw c.place_at.ensures (omega arith), (c.load_lines.new.lines, long c, refl)));
+      all_in_range = (ranges w, (rw c.place_at.ensures (omega arith), (c.load_lines.new.lines, long w, refl)));
     }
 
 pub clear_records-requires : goal.clear_records-requires
