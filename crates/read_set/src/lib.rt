@@ -119,7 +119,7 @@ fn read_kept(
             place,
             1,
             false,
-            cameras::no_entries(),
+            &cameras::no_entries(),
         );
         let Walked::Read(more, clean) = got else {
             return got;
