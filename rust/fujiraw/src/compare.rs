@@ -91,10 +91,12 @@ fn by_blocks(sources: [&Source; 2], tile: &ColorTile, threads: usize) -> Result<
             let Some(block) = next.lock().unwrap().next() else { return };
             let found = block_of(sources, tile, block, &mut scratch);
             let mut all = all.lock().unwrap();
+            // Of several faults the lowest block's is told, whichever thread comes first.
             match (&mut *all, found) {
                 (Ok(sum), Ok(found)) => sum.add(&found),
-                (all @ Ok(_), Err(fault)) => *all = Err(fault),
-                (Err(_), _) => {}
+                (Err((lowest, _)), Err(_)) if *lowest < block => {}
+                (all, Err(fault)) => *all = Err((block, fault)),
+                (Err(_), Ok(_)) => {}
             }
         }
     };
@@ -107,7 +109,7 @@ fn by_blocks(sources: [&Source; 2], tile: &ColorTile, threads: usize) -> Result<
             work();
         }
     });
-    all.into_inner().unwrap()
+    all.into_inner().unwrap().map_err(|(_, fault)| fault)
 }
 
 fn block_of(sources: [&Source; 2], tile: &ColorTile, block: u32, scratch: &mut Scratch) -> Result<Differences, Fault> {

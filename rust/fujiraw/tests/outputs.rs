@@ -157,6 +157,10 @@ fn drafts_that_were_left_are_removed() {
     f.works("decode a.fcs a.pgm");
     assert_eq!(f.names(), [".fujiraw-2-7.part", ".other.part", "a.fcs", "a.pgm", "fujiraw-3-0.part"]);
     drop(held);
+    // A program that another test starts just then has the file too, and so the lock, until it runs.
+    while File::open(f.0.join(".fujiraw-2-7.part")).unwrap().try_lock().is_err() {
+        std::thread::sleep(Duration::from_millis(5));
+    }
     f.works("decode a.fcs a.pgm -f");
     assert_eq!(f.names(), [".other.part", "a.fcs", "a.pgm", "fujiraw-3-0.part"]);
 }
