@@ -61,9 +61,7 @@ pub fn window_plan(p: Plan, windowed: bool) -> Plan
         return Plan {
             first: window_line(p.first),
             second: window_line(p.second),
-            set: p.set,
-            first_rule: p.first_rule,
-            second_rule: p.second_rule,
+            ..p
         };
     }
     p
