@@ -1,9 +1,8 @@
 // Shared by all crates: small functions on unsigned numbers, conversions, and numbers as a sign and a size.
 #![tactic(auto)]
 
-ghost use Rattle.std.specs.Prelude.{◌≡◌, cond, ◌-◌, ◌^◌, ◌≤◌, ◌<◌, min, max};
-ghost use Rattle.std.specs.Bool.{xor};
-ghost use Rattle.numbers.specs.Numbers.{distance, minus, flag};
+ghost use Rattle.std.specs.Prelude.{◌≡◌, cond, ◌-◌, ◌^◌, ◌≤◌, ◌<◌, min};
+ghost use Rattle.numbers.specs.Numbers.{minus, flag};
 
 // A number as its sign and its size.
 #[derive(Clone, Copy)]
@@ -12,27 +11,14 @@ pub struct Signed {
     pub size: u32,
 }
 
-// |a - b|
-pub fn distance(a: u32, b: u32) -> u32
-    ensures { result ≡ distance a b }
-{
-    if a < b { b - a } else { a - b }
-}
-
 // a - b
 pub fn difference(a: u32, b: u32) -> Signed
     ensures { result ≡ minus a b }
 {
     Signed {
         negative: a < b,
-        size: distance(a, b),
+        size: a.abs_diff(b),
     }
-}
-
-pub fn larger(a: u32, b: u32) -> u32
-    ensures { result ≡ max a b }
-{
-    if a < b { b } else { a }
 }
 
 pub fn smaller(a: u32, b: u32) -> u32
@@ -108,15 +94,8 @@ pub fn u16_to_usize(x: u16) -> usize
 
 // One of two numbers.
 // INLINING: both are computed already, so that LLVM makes a conditional move and no branch.
-pub fn pick(test: bool, a: u32, b: u32) -> u32
+pub fn pick<T: Copy>(test: bool, a: T, b: T) -> T
     ensures { result ≡ cond test a b }
 {
     if test { a } else { b }
-}
-
-// One of the two holds and the other does not.
-pub fn differ(a: bool, b: bool) -> bool
-    ensures { result ≡ xor a b }
-{
-    if a { !b } else { b }
 }

@@ -9,6 +9,7 @@ use lib.Dec.{eqb, ltb, leb}
 use Rattle.pass_schedule.specs.Steps.{Step, turn_steps, upto, pass_steps}
 use Rattle.pass_schedule.specs.Inside.{PlanInRange}
 use Rattle.pass_schedule.specs.declared.Plan.{Plan}
+use Rattle.pass_schedule.specs.declared.Rule.{Rule}
 use Rattle.read_pass.specs.Readings.{Reading}
 use Rattle.tight_diagnosis.specs.Ways.{step_of, if_due, even_due, odd_due, due_at, steps_way}
 use Rattle.tight_diagnosis.specs.Traces.{Inside}
@@ -112,7 +113,7 @@ due_steps t s P u d e r = rw e
 -- ---- each that is due lies in its line
 
 module _ (t : Stage) (P : Plan) (h : PlanInRange P) where
-  evens_in : (line rule p : ℕ) → 2 ≤ line → line ≤ 17 → (even_due t.w line rule p).due ≡ true → Inside t (even_due t.w line rule p).x
+  evens_in : (line : ℕ) (rule : Rule) (p : ℕ) → 2 ≤ line → line ≤ 17 → (even_due t.w line rule p).due ≡ true → Inside t (even_due t.w line rule p).x
   evens_in line rule p low high e = record { low = low; high = high; position = ltb-true p t.w e }
 
   odds_in : (line p : ℕ) → 2 ≤ line → line ≤ 17 → p < t.w + 7 → (odd_due line p).due ≡ true → Inside t (odd_due line p).x

@@ -3,6 +3,7 @@ use Rattle.std.specs.Prelude.{Bool, true, cond, not, List, [], ◌∷◌, ℕ, �
 use Rattle.std.proofs.Math.Option.{Option, none, some, map}
 use Rattle.pass_schedule.specs.Steps.{Step, interpolated, step_at}
 use Rattle.pass_schedule.specs.declared.Plan.{Plan}
+use Rattle.pass_schedule.specs.declared.Rule.{Rule}
 use Rattle.read_pass.specs.Readings.{Reading, read_step, and_then, reads}
 use Rattle.read_block.specs.Blocks.{State, runs, pass_at, end_line, read_lines}
 use Rattle.read_block.specs.BadCodes.{BadCode, step_reason, bad_at, bad_in_steps, first_found, bad_in_pass, first_bad}
@@ -23,7 +24,7 @@ abbrev pub if_due : Bool → Sample → List Step
 if_due due x = cond due (step_of x ∷ []) []
 
 -- at the even position p, if it is one of the line; and at the odd position seven before p, once positions 0 to 8 are done
-abbrev pub even_due : ℕ → ℕ → ℕ → ℕ → Due
+abbrev pub even_due : ℕ → ℕ → Rule → ℕ → Due
 even_due W line rule p = record { due = ltb p W; x = record { line = line; position = p; coded = not (interpolated rule p) } }
 
 abbrev pub odd_due : ℕ → ℕ → Due

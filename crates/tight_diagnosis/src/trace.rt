@@ -17,7 +17,7 @@ ghost use Rattle.tight_diagnosis.specs.Traces.{clean, Inside, StageAsks, PassAsk
 use bits::{BitPosition, is_past};
 use code::{BadSpot, Coded, Reason, Verdict};
 use image_map::width;
-use pass_schedule::Plan;
+use pass_schedule::{Plan, Rule};
 use quantiser::Quantiser;
 use read_block::Form;
 use statistics::Record;
@@ -156,7 +156,7 @@ struct Due {
 }
 
 // At an even position p, if it is one of the line.
-fn even_due(w: usize, line: usize, rule: u32, p: usize) -> Due
+fn even_due(w: usize, line: usize, rule: Rule, p: usize) -> Due
     ensures { result ≡ even_due w line rule p }
 {
     Due {
