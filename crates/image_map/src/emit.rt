@@ -109,10 +109,8 @@ fn emit_column(
     requires are_places { ArePlaces places.now }
     ensures { ColumnEmitted xtrans lines.now start c left right at image.old image.new }
 {
-    let mut p = first_column(left, c);
-    while p < right {
+    for p in (first_column(left, c)..right).step_by(6) {
         image[at + (p - left)] = lines[start + crate::place_in(xtrans, places, p)];
-        p += 6;
     }
 }
 

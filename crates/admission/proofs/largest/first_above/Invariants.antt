@@ -9,5 +9,5 @@ abbrev pub invariant-loop-i : goal.invariant-loop-i
 invariant-loop-i l =
     (l.i ≤ length l.samples) × (first_above (is_ignored l.xtrans l.strict) l.m 0 l.samples ≡ first_above (is_ignored l.xtrans l.strict) l.m l.i (drop l.i l.samples))
 
-abbrev pub decreases-loop-i : goal.decreases-loop-i
-decreases-loop-i l = length l.samples - l.i
+
+
