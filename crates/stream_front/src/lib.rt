@@ -70,15 +70,11 @@ fn front_byte(header: &[u8], h: FujiHeader, rows: &[u8], lengths: &[usize], i: u
 }
 
 // The bytes of blocks of these lengths, one after the other.
-fn sum_of(lengths: &[usize], count: usize) -> usize
-    requires { (count ≤ 16) × ((count ≡ length lengths.now) × (count ≤ first_long lengths.now)) }
-    ensures { (result ≡ sum_of lengths.now count) × (result ≤ count * 2 ^ 32) }
+fn sum_of(lengths: &[usize]) -> usize
+    requires { (length lengths.now ≤ 16) × (length lengths.now ≤ first_long lengths.now) }
+    ensures { (result ≡ sum_of lengths.now (length lengths.now)) × (result ≤ length lengths.now * 2 ^ 32) }
 {
-    let mut n: usize = 0;
-    for b in 0..count {
-        n += lengths[b];
-    }
-    n
+    lengths.iter().sum()
 }
 
 // The lowest block of 2^32 bytes or more.
@@ -140,7 +136,7 @@ fn put_in(
         return BlockLength::Refused(Refusal::ShortOutput);
     }
     fill_front(header, h, rows, lengths, out, n);
-    BlockLength::Length(n + sum_of(lengths, blocks))
+    BlockLength::Length(n + sum_of(lengths))
 }
 
 // The header's bytes, the sizes and the rows go to the start of the output, and the answer is the length of the whole stream.

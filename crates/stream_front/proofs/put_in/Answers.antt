@@ -74,7 +74,7 @@ fill_front-requires c =
 
 pub returns : goal.returns
 returns c = (
-  length_answer _ _ _ _ _ _ _ refl c.front_length-n.ensures.0 c.sum_of.ensures.0 c.if-lengths-blocks.false
+  length_answer _ _ _ _ _ _ _ refl c.front_length-n.ensures.0 (rw c.if-lengths-blocks.false at c.sum_of.ensures.0) c.if-lengths-blocks.false
       (c.if-rows-blocks.false ∙ rw c.row_length-row.ensures.0) (rw c.if-lengths-blocks.false at c.in_default.ensures) c.if-out-n.false,
   put _ _ _ _ _ _ _ c.front_length-n.ensures.0 c.fill_front.ensures,
 )
