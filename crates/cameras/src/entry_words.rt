@@ -80,7 +80,7 @@ pub fn words_of(entries: Entries) -> [u32; 128]
     words
 }
 
-// No `From`: only C counts its cameras, from 1, and it passes no other number than 1 and 2.
+// No `From`: only the C interface numbers the cameras, and takes each number but 1 for the second.
 pub fn camera_in(number: u32) -> Camera
     ensures { result ≡ camera_in number }
 {
