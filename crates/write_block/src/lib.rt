@@ -313,8 +313,7 @@ fn write_set(
     ensures lines_after { (lines.new ≡ zero_lines (width_of form.xtrans)) × (rs.new ≡ clear_records) }
 {
     let m = quantiser::largest(form.bits);
-    let i = first_above(samples, m, form.xtrans, is_strict(bases));
-    if i < samples.len() {
+    if let Some(i) = first_above(samples, m, form.xtrans, is_strict(bases)) {
         colour_lines::clear(lines);
         clear_records(rs);
         return BlockLength::Refused(Refusal::AboveLargest(i));
