@@ -6,7 +6,7 @@ ghost use Rattle.std.specs.Bool.{xor};
 ghost use Rattle.numbers.specs.Numbers.{distance, minus, flag};
 
 // A number as its sign and its size.
-#[derive(Clone, Copy)]
+#[derive(Clone, Copy, PartialEq, Eq)]
 pub struct Signed {
     pub negative: bool,
     pub size: u32,

@@ -112,8 +112,8 @@ fn level_agrees(q: Quantiser, v: Signed, level: Signed) -> bool
 fn numbers_agree(q: Quantiser, w: [u32; 12]) -> bool
     requires { QuantiserRanges q }
 {
-    let [_, _, _, numbers @ .., _, _, _] = w;
-    [q.base, q.total, q.raw, q.limit, q.start_sum(), q.weight] == numbers
+    let numbers = [q.base, q.total, q.raw, q.limit, q.start_sum(), q.weight];
+    &w[3..9] == numbers.as_slice()
 }
 
 fn quantiser_agrees(kind: Kind, w: [u32; 12]) -> bool {
