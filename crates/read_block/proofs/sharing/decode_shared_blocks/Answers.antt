@@ -158,15 +158,6 @@ returns-then-is_stopped c =
       lines_after = (z, c.walk-got.ensures.lines_after.1);
     }
 
-pub overflow_add-b : goal.overflow_add-b
-overflow_add-b c =
-    let f = few c.args.h c.args.r _ c.loop-b.invariant.4 in
-    search (rules, c.loop-b-test.true, c.loop-b.invariant.2, f.0)
-
-pub loop-b-smaller : goal.loop-b-smaller
-loop-b-smaller c =
-    omega (arith, c.loop-b-test.true)
-
 pub loop-b-preserved : goal.loop-b-preserved
 loop-b-preserved c =
     let z = form_zeros _ c.args.h c.form_of-form.ensures false _ c.walk-got.ensures.lines_after.0 in
