@@ -1,21 +1,18 @@
 -- `read_block::reading::line` meets its contract: i passes have been read. Assumes nothing.
-use borrow.Author.Rules.{rules}
 use borrow.Author.Tests.{not-true}
 use mathlib.Core.Bool.{true, false}
 use mathlib.Core.List.{List}
 use mathlib.Core.Option.{none}
-use mathlib.Core.Path.{◌≡◌, refl, sym, ap, ◌∙◌}
+use mathlib.Core.Path.{◌≡◌, refl, sym, ◌∙◌}
 use Prim.Native.Nat.{ℕ, ◌+◌, ◌*◌, ◌≤◌}
 use native.Mathlib.Omega.{arith}
 use lib.ListN.{length}
 use Rattle.image_map.proofs.PartLaws.{fits_kept}
 use Rattle.pass_schedule.specs.Inside.{PlanInRange}
-use Rattle.pass_steps.specs.Values.{records_of}
 use Rattle.read_pass.proofs.RangeLaws.{pass_keeps}
 use Rattle.read_pass.proofs.SiteLaws.{pass_was_read}
 use Rattle.read_block.specs.Blocks.{read_line}
 use Rattle.read_block.specs.Walks.{state_at}
-use Rattle.read_block.specs.Records.{put_set}
 use Rattle.read_block.specs.WindowedLines.{Held}
 use Rattle.read_block.proofs.LineLaws.{so_far_none, planned, planned_in, planned_apart, width_in_range, long_as, held_as, pass_more, pass_cut, ended_past, ended_read}
 use Rattle.read_block.proofs.PlacedLines.{only_none, only_more}
@@ -89,14 +86,6 @@ pass-done-requires c =
       records = rw c.load_set-set.ensures (set_in_range _ _ g c.loop-i.invariant.3);
       counted = c.loop-i.invariant.4;
     }
-
-pub shape_of-lines-then-not-ok : goal.shape_of-lines-then-not-ok
-shape_of-lines-then-not-ok c =
-    omega (arith, c.pass-done.auto, c.enter.auto, c.loop-i.invariant.1, c.requires.block_len_bound.1.0)
-
-pub shape_of-rs-then-not-ok : goal.shape_of-rs-then-not-ok
-shape_of-rs-then-not-ok c =
-    omega (arith, c.loop-i.invariant.2, c.requires.block_len_bound.1.1)
 
 pub shape_of-image-then-not-ok : goal.shape_of-image-then-not-ok
 shape_of-image-then-not-ok c = c.loop-i.invariant.5.1.kept

@@ -1,7 +1,7 @@
 -- `read_block::reading::line` meets its contract: i passes have been read. Assumes nothing.
 use mathlib.Core.List.{List}
 use mathlib.Core.Path.{◌≡◌}
-use Prim.Native.Nat.{ℕ, ◌+◌, ◌-◌, ◌*◌, ◌%◌, ◌≤◌}
+use Prim.Native.Nat.{ℕ, ◌+◌, ◌*◌, ◌%◌, ◌≤◌}
 use lib.ListN.{length}
 use Rattle.image_map.specs.Places.{width_of}
 use Rattle.image_map.specs.Inside.{Fits}

@@ -1,5 +1,4 @@
 -- `read_block::reading::read_lines` meets its contract: i lines have been read, and the image shows them. Assumes nothing.
-use borrow.Author.Rules.{rules}
 use mathlib.Core.Path.{◌≡◌, refl, ap, ◌∙◌}
 use native.Mathlib.Omega.{arith}
 use Rattle.image_map.proofs.PartLaws.{fits_kept}
@@ -28,16 +27,9 @@ loop-i-init c = (
       },
 )
 
-pub overflow_add-n : goal.overflow_add-n
-overflow_add-n c = omega (arith, c.loop-i-test.true, c.requires.depth.1)
-
 pub turn_if-requires : goal.turn_if-requires
 turn_if-requires c =
     (c.loop-i.invariant.0.1, all_kept_lines c.args.windowed c.args.form.xtrans _ _ c.loop-i.invariant.0.0 c.loop-i.invariant.1)
-
-pub restart-requires : goal.restart-requires
-restart-requires c =
-    search (rules, c.requires.depth.0, c.loop-i.invariant.2, c.base_of-base.ensures.1)
 
 pub quantisers_in-requires : goal.quantisers_in-requires
 quantisers_in-requires c =
@@ -63,18 +55,6 @@ zero_line-requires c = (
   omega (arith, c.loop-i-test.true, c.requires.depth.1),
   fits_kept _ _ _ c.line-got.ensures.all_in_range_2.1.kept c.loop-i.invariant.5.0,
 )
-
-pub shape_of-lines-in_default : goal.shape_of-lines-in_default
-shape_of-lines-in_default c =
-    omega (arith, c.line-got.auto, c.turn_if.auto, c.loop-i.invariant.1, c.requires.block_len_bound.1.0)
-
-pub shape_of-rs-in_default : goal.shape_of-rs-in_default
-shape_of-rs-in_default c =
-    omega (arith, c.line-got.auto, c.restart.auto, c.loop-i.invariant.2, c.requires.block_len_bound)
-
-pub shape_of-image-in_default : goal.shape_of-image-in_default
-shape_of-image-in_default c =
-    omega (arith, c.zero_line.ensures.kept, c.line-got.ensures.all_in_range_2.1.kept, c.loop-i.invariant.5.1)
 
 pub returns-in_default : goal.returns-in_default
 returns-in_default c l e h =
@@ -125,14 +105,6 @@ loop-i-preserved c = (
         read = record { lines = more.0; read = more.1; held = more.2 };
       },
 )
-
-pub shape_of-lines : goal.shape_of-lines
-shape_of-lines c =
-    omega (arith, c.loop-i.invariant.1, c.requires.block_len_bound.1.0)
-
-pub shape_of-rs : goal.shape_of-rs
-shape_of-rs c =
-    omega (arith, c.loop-i.invariant.2, c.requires.block_len_bound)
 
 pub shape_of-image : goal.shape_of-image
 shape_of-image c = c.loop-i.invariant.5.1

@@ -1,13 +1,9 @@
 -- `read_block::records::load_set` meets its contract: the records before i are in the two arrays. Assumes nothing.
-use borrow.Author.Rules.{rules}
-use mathlib.Core.Path.{refl, ◌∙◌}
+use mathlib.Core.Path.{refl}
 use native.Mathlib.Omega.{arith}
 use lib.ListN.{length-set}
 use Rattle.read_block.proofs.SetLaws.{load_more, load_done}
 use Rattle.read_block.proofs.records.load_set.Goals as goal
-
-pub loop-i-init : goal.loop-i-init
-loop-i-init c = (search rules, search rules, refl)
 
 pub loop-i-preserved : goal.loop-i-preserved
 loop-i-preserved c = (

@@ -1,6 +1,6 @@
 -- `read_block::records::load_set` meets its contract: the records before i are in the two arrays. Assumes nothing.
 use mathlib.Core.Path.{◌≡◌}
-use Prim.Native.Nat.{◌-◌, ◌*◌, ◌≤◌}
+use Prim.Native.Nat.{◌*◌}
 use lib.ListN.{length, take, drop}
 use Rattle.pass_steps.specs.Values.{zip_records}
 use Rattle.read_block.proofs.records.load_set.Given as goal

@@ -1,14 +1,8 @@
 -- `read_block::records::store_set` meets its contract: the records before i are put back. Assumes nothing.
 use borrow.Author.Rules.{rules}
-use Prim.Native.Nat.{◌*◌}
 use native.Mathlib.Omega.{arith}
-use lib.Seq.{paste-zero}
-use Rattle.pass_steps.specs.Values.{records_of}
 use Rattle.read_block.proofs.SetLaws.{store_more, store_done}
 use Rattle.read_block.proofs.records.store_set.Goals as goal
-
-pub loop-i-init : goal.loop-i-init
-loop-i-init c = (search rules, paste-zero c.args.rs.now (112 * c.args.g) (records_of c.args.set))
 
 pub loop-i-preserved : goal.loop-i-preserved
 loop-i-preserved c = (

@@ -1,6 +1,6 @@
 -- `read_block::records::store_set` meets its contract: the records before i are put back. Assumes nothing.
 use mathlib.Core.Path.{◌≡◌}
-use Prim.Native.Nat.{◌-◌, ◌*◌, ◌≤◌}
+use Prim.Native.Nat.{◌*◌}
 use lib.ListN.{length}
 use lib.Seq.{paste}
 use Rattle.pass_steps.specs.Values.{records_of}

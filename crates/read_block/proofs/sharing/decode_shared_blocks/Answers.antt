@@ -133,14 +133,6 @@ pub shape_of-image-then-is_stopped : goal.shape_of-image-then-is_stopped
 shape_of-image-then-is_stopped c =
     omega (arith, c.walk-got.ensures.shown_in.kept, c.loop-b.invariant.9.kept)
 
-pub shape_of-lines-then-is_stopped : goal.shape_of-lines-then-is_stopped
-shape_of-lines-then-is_stopped c =
-    omega (arith, c.walk-got.auto, c.loop-b.invariant.5, c.requires.scratch_in.0.0)
-
-pub shape_of-rs-then-is_stopped : goal.shape_of-rs-then-is_stopped
-shape_of-rs-then-is_stopped c =
-    omega (arith, c.walk-got.auto, c.loop-b.invariant.6, c.requires.scratch_in.0.1)
-
 pub returns-then-is_stopped : goal.returns-then-is_stopped
 returns-then-is_stopped c =
     let z = form_zeros _ c.args.h c.form_of-form.ensures false _ c.walk-got.ensures.lines_after.0 in
