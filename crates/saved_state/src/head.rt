@@ -33,9 +33,7 @@ pub fn store_head(out: &mut [u8], d: &[u8], block: usize, line: usize, at: u64)
     ensures { out.new ≡ put_each (head_byte d.now block (line + 1) at) 0 27 out.old }
 {
     let next = line + 1;
-    let mut i = 0usize;
-    while i < 27 {
+    for i in 0..27 {
         out[i] = head_byte(d, block, next, at, i);
-        i += 1;
     }
 }
