@@ -279,9 +279,9 @@ fn put_state(
 {
     let lossless = h.lossless;
     crate::head::store_head(state, d, b, line, at);
-    crate::store::store_set(state, 0, load_set(rs, 0), lossless);
-    crate::store::store_set(state, 1, load_set(rs, 1), lossless);
-    crate::store::store_set(state, 2, load_set(rs, 2), lossless);
+    for g in 0..3 {
+        crate::store::store_set(state, g, load_set(rs, g), lossless);
+    }
     crate::store::store_lines(state, lines, width(h.xtrans));
 }
 

@@ -172,12 +172,9 @@ fn load_six(s: &[u8], lines: &mut [u16], w: usize)
     requires { (w ≤ 512) × ((1707 + 12 * w ≤ length s.now) × (18 * (w + 2) ≤ length lines.old)) }
     ensures { lines.new ≡ with_six w s.now lines.old }
 {
-    load_line(s, lines, w, 0);
-    load_line(s, lines, w, 1);
-    load_line(s, lines, w, 2);
-    load_line(s, lines, w, 3);
-    load_line(s, lines, w, 4);
-    load_line(s, lines, w, 5);
+    for m in 0..6 {
+        load_line(s, lines, w, m);
+    }
 }
 
 // The guards of the nearer one of each colour: they are not stored, and the next line's contexts look at them.
