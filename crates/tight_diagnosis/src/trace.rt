@@ -228,15 +228,13 @@ fn trace_pass(
     let w = stage.w;
     let end = 4 * (w / 2 + 4);
     let mut at = from;
-    let mut u: usize = 0;
-    while u < end {
+    for u in 0..end {
         let d = due_at(w, plan, u);
         let got = trace_step(block, at, lines, sums, ns, stage, d.due, d.x);
         let Traced::At(after) = got else {
             return got;
         };
         at = after;
-        u = u + 1;
     }
     Traced::At(at)
 }
@@ -262,8 +260,7 @@ fn trace_line(
     let xtrans = form.xtrans;
     let w = width(xtrans);
     let mut at = from;
-    let mut i: usize = 0;
-    while i < 6 {
+    for i in 0..6 {
         let p = pass_schedule::plan_at(i, xtrans);
         colour_lines::set_guards(lines, w, p.first);
         colour_lines::set_guards(lines, w, p.second);
@@ -289,7 +286,6 @@ fn trace_line(
             return got;
         };
         at = after;
-        i = i + 1;
     }
     if is_past(block, at) {
         return Traced::CutOff;
@@ -302,12 +298,10 @@ fn start(sums: &mut [u32], ns: &mut [u32], bits: u32)
     requires { Depth bits × ((length sums.old ≡ 336) × (length ns.old ≡ 336)) }
     ensures { zip_records sums.new ns.new ≡ start_records bits 0 }
 {
-    let mut j: usize = 0;
-    while j < 336 {
+    for j in 0..336 {
         let r = read_block::start_record(bits, 0, j);
         sums[j] = r.sum;
         ns[j] = r.n;
-        j = j + 1;
     }
 }
 
@@ -329,15 +323,13 @@ fn trace_lines(
     start(sums, ns, bits);
     let q = Quantiser::main(bits, 0);
     let mut at = BitPosition(0);
-    let mut n: usize = 0;
-    while n < count {
+    for n in 0..count {
         colour_lines::turn(lines, w);
         let got = trace_line(block, at, lines, sums, ns, form, q, n);
         let Traced::At(after) = got else {
             return got;
         };
         at = after;
-        n = n + 1;
     }
     Traced::At(at)
 }

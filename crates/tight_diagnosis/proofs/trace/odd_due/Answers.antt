@@ -12,6 +12,3 @@ returns-then-p-lt8 c =
 
 pub returns : goal.returns
 returns c = rw (le-leb 8 c.args.p c.if-p-lt8.false)
-
-pub overflow_sub-result : goal.overflow_sub-result
-overflow_sub-result c = omega (arith, c.if-p-lt8.false)

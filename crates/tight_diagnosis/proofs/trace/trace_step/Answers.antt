@@ -1,7 +1,7 @@
 -- `tight_diagnosis::trace::trace_step` meets its contract: a sample that is interpolated, cut off, bad or read, by the answers of the leaves. Assumes nothing.
 use borrow.Author.Tests.{not-true}
 use mathlib.Core.Bool.{true}
-use mathlib.Core.Path.{◌≡◌, refl, sym, ◌∙◌}
+use mathlib.Core.Path.{◌≡◌, sym, ◌∙◌}
 use Prim.Native.Nat.{ℕ, ◌+◌, ◌^◌, ◌≤◌, ◌<◌}
 use native.Mathlib.Omega.{arith}
 use lib.ListN.{length, set, length-set}
@@ -59,10 +59,6 @@ coded c = c.if-not-coded.false
 
 small : (c : After-record_in-old) → {v : ℕ} → v ≤ c.largest-m.result → v < 2 ^ 16
 small c h = omega (arith, c.largest-m.ensures.1)
-
-pub context_at-here-requires : goal.context_at-here-requires
-context_at-here-requires c =
-    (omega (arith, c.requires.0.width), (c.left_of-i.ensures.1.0, omega (arith, c.left_of-i.ensures.1.1, c.requires.0.room)))
 
 pub left_of-i-requires : goal.left_of-i-requires
 left_of-i-requires c =
@@ -138,26 +134,11 @@ returns-in-Good c =
 pub largest-m-requires : goal.largest-m-requires
 largest-m-requires c = c.requires.0.depth.1
 
-pub overflow_add-w : goal.overflow_add-w
-overflow_add-w c = omega (arith, c.requires.0.width)
-
-pub overflow_cast-lines : goal.overflow_cast-lines
-overflow_cast-lines c = omega (arith, c.context_at-here.ensures.1.prediction)
-
-pub overflow_add-lines : goal.overflow_add-lines
-overflow_add-lines c = omega (arith, (room (goal.at.overflow_add-lines c).After-context_at-here).1)
-
-pub offset_bounds-lines-i : goal.offset_bounds-lines-i
-offset_bounds-lines-i c = omega (arith, (room (goal.at.offset_bounds-lines-i c).After-context_at-here).1)
-
 pub bounds-lines-i : goal.bounds-lines-i
 bounds-lines-i c = (room (goal.at.bounds-lines-i c).After-context_at-here).0
 
 pub shape_of-lines-then-not-coded : goal.shape_of-lines-then-not-coded
 shape_of-lines-then-not-coded c = stored (goal.at.shape_of-lines-then-not-coded c).After-context_at-here _
-
-pub look_of-h-requires : goal.look_of-h-requires
-look_of-h-requires c = (omega arith, c.context_at-here.ensures.1)
 
 pub slot_of-j-requires : goal.slot_of-j-requires
 slot_of-j-requires c = c.look_of-h.ensures.1.1.1
@@ -177,15 +158,6 @@ enum_known-got c = c.in-Read.in-Read-own.keys1
 pub enum_told-1 : goal.enum_told-1
 enum_told-1 c = c.in_default.in_default-own.keys2
 
-pub shape_of-lines-in_default : goal.shape_of-lines-in_default
-shape_of-lines-in_default c = refl
-
-pub shape_of-sums-in_default : goal.shape_of-sums-in_default
-shape_of-sums-in_default c = refl
-
-pub shape_of-ns-in_default : goal.shape_of-ns-in_default
-shape_of-ns-in_default c = refl
-
 pub verdict_of-verdict-requires : goal.verdict_of-verdict-requires
 verdict_of-verdict-requires c = c.k-k.ensures.1
 
@@ -195,26 +167,8 @@ enum_known-verdict c = c.in-Bad.in-Bad-own.keys1
 pub enum_told-in-Good : goal.enum_told-in-Good
 enum_told-in-Good c = c.in-Good.in-Good-own.keys2
 
-pub overflow_cast-lines-in-Good : goal.overflow_cast-lines-in-Good
-overflow_cast-lines-in-Good c = omega (arith, small (goal.at.overflow_cast-lines-in-Good c).After-record_in-old c.sample.ensures.1)
-
-pub overflow_add-lines-in-Good : goal.overflow_add-lines-in-Good
-overflow_add-lines-in-Good c = omega (arith, (room (goal.at.overflow_add-lines-in-Good c).After-context_at-here).1)
-
-pub offset_bounds-lines-i-in-Good : goal.offset_bounds-lines-i-in-Good
-offset_bounds-lines-i-in-Good c = omega (arith, (room (goal.at.offset_bounds-lines-i-in-Good c).After-context_at-here).1)
-
 pub bounds-lines-i-in-Good : goal.bounds-lines-i-in-Good
 bounds-lines-i-in-Good c = (room (goal.at.bounds-lines-i-in-Good c).After-context_at-here).0
-
-pub shape_of-lines-in-Bad : goal.shape_of-lines-in-Bad
-shape_of-lines-in-Bad c = refl
-
-pub shape_of-sums-in-Bad : goal.shape_of-sums-in-Bad
-shape_of-sums-in-Bad c = refl
-
-pub shape_of-ns-in-Bad : goal.shape_of-ns-in-Bad
-shape_of-ns-in-Bad c = refl
 
 pub shape_of-lines-in-Good : goal.shape_of-lines-in-Good
 shape_of-lines-in-Good c = stored (goal.at.shape_of-lines-in-Good c).After-context_at-here _
