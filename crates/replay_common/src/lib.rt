@@ -4,10 +4,9 @@
 
 ghost use Rattle.std.specs.Prelude.{◌^◌, ◌<◌, ◌≤◌, IfOk, length};
 
-use std::array;
-use std::io;
 use std::io::Read;
 use std::rt::Files;
+use std::{array, io};
 
 // Of one kind of record how many answers were compared and how many differ.
 #[derive(Clone, Copy, Default)]
@@ -65,7 +64,7 @@ impl Tally {
 }
 
 // The N bytes that begin at byte i, with zeros for those past the end.
-fn bytes<const N: usize>(s: &[u8], i: usize) -> [u8; N] {
+pub fn bytes<const N: usize>(s: &[u8], i: usize) -> [u8; N] {
     let rest = s.get(i..).unwrap_or(&[]);
     array::from_fn(|k| rest.get(k).copied().unwrap_or(0))
 }

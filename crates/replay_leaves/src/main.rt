@@ -14,8 +14,7 @@ use prediction::Context;
 use quantiser::Quantiser;
 use replay_common::{Outcome, replay, word};
 use statistics::Record;
-use std::array;
-use std::io;
+use std::{array, io};
 
 // The bytes of a record: twelve words, and 32 bytes to read a code from.
 const RECORD: usize = 80;
@@ -305,5 +304,11 @@ fn compare(record: &[u8]) -> Outcome {
 }
 
 fn main(rt: HostRuntime) -> io::Result<()> {
-    replay::<RECORD, _, _>(&rt, "answers.bin", 20_000, &NAMES, |record, _| Ok(compare(record)))
+    replay::<RECORD, _, _>(
+        &rt,
+        "answers.bin",
+        20_000,
+        &NAMES,
+        |record, _| Ok(compare(record)),
+    )
 }

@@ -111,5 +111,11 @@ fn compare(record: &[u8]) -> Outcome {
 }
 
 fn main(rt: HostRuntime) -> io::Result<()> {
-    replay::<RECORD, _, _>(&rt, "answers.bin", 20_000, &["calls"], |record, _| Ok(compare(record)))
+    replay::<RECORD, _, _>(
+        &rt,
+        "answers.bin",
+        20_000,
+        &["calls"],
+        |record, _| Ok(compare(record)),
+    )
 }
