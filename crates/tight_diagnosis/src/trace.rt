@@ -1,6 +1,6 @@
 // A second walk over a block that is not tight, one sample at a time. It stops at the first bad code and says where it stands and why it is bad. Only
 // lossless blocks are walked: base 0, no restarts after the first line.
-ghost use Rattle.std.specs.Prelude.{◌≡◌, true, ◌+◌, ◌*◌, ◌/◌, ◌^◌, ◌≤◌, ◌<◌, length, get_or, set};
+ghost use Rattle.std.specs.Prelude.{◌≡◌, true, [], ◌∷◌, ◌+◌, ◌*◌, ◌/◌, ◌^◌, ◌≤◌, ◌<◌, length, get_or, set};
 ghost use Rattle.statistics.specs.Statistics.{updated};
 ghost use Rattle.statistics.specs.Inside.{InRange};
 ghost use Rattle.code.specs.Samples.{residual_of};
@@ -11,7 +11,8 @@ ghost use Rattle.pass_steps.specs.Contexts.{no_record};
 ghost use Rattle.pass_steps.specs.Values.{zip_records, SetInRange};
 ghost use Rattle.pass_steps.specs.Contexts.{Depth};
 ghost use Rattle.read_block.specs.Records.{start_records};
-ghost use Rattle.tight_diagnosis.specs.Ways.{if_due, even_due, odd_due, due_at, steps_way, line_way, block_way};
+ghost use Rattle.tight_diagnosis.specs.Due.{even_due, odd_due, due_at};
+ghost use Rattle.tight_diagnosis.specs.Ways.{step_of, steps_way, line_way, block_way};
 ghost use Rattle.tight_diagnosis.specs.Traces.{clean, Inside, StageAsks, PassAsks, Gives, clean_state, LineAsks, LineGives, Ends};
 
 use bits::{BitPosition, is_past};
@@ -90,7 +91,7 @@ fn bad_spot(stage: Stage, x: Sample, at: BitPosition, reason: Reason) -> BadSpot
     }
 }
 
-// One sample is read, if it is due, or its code is bad.
+// One sample is read, or its code is bad.
 fn trace_step(
     block: &[u8],
     from: BitPosition,
@@ -98,16 +99,12 @@ fn trace_step(
     sums: &mut [u32],
     ns: &mut [u32],
     stage: Stage,
-    due: bool,
     x: Sample,
 ) -> Traced
-    requires { StageAsks stage block.now lines.old sums.old ns.old × (due ≡ true → Inside stage x) }
+    requires { StageAsks stage block.now lines.old sums.old ns.old × Inside stage x }
     ensures { let before = clean lines.old sums.old ns.old from in
-        Gives (steps_way stage block.now (if_due due x) before) lines.new sums.new ns.new result }
+        Gives (steps_way stage block.now (step_of x ∷ []) before) lines.new sums.new ns.new result }
 {
-    if !due {
-        return Traced::At(from);
-    }
     let w = stage.w;
     let p = x.position;
     let coded = x.coded;
@@ -148,53 +145,36 @@ fn trace_step(
 
 // ---- the samples of a pass
 
-// A sample of a pass, and whether the pass has it.
-#[derive(Clone, Copy)]
-struct Due {
-    due: bool,
-    x: Sample,
-}
-
 // At an even position p, if it is one of the line.
-fn even_due(w: usize, line: usize, rule: u32, p: usize) -> Due
+fn even_due(w: usize, line: usize, rule: u32, p: usize) -> Option<Sample>
     ensures { result ≡ even_due w line rule p }
 {
-    Due {
-        due: p < w,
-        x: Sample {
-            line,
-            position: p,
-            coded: pass_schedule::has_code(rule, p),
-        },
+    if w <= p {
+        return None;
     }
+    Some(Sample {
+        line,
+        position: p,
+        coded: pass_schedule::has_code(rule, p),
+    })
 }
 
 // At the odd position seven before p, once positions 0 to 8 are done.
-fn odd_due(line: usize, p: usize) -> Due
+fn odd_due(line: usize, p: usize) -> Option<Sample>
     ensures { result ≡ odd_due line p }
 {
     if p < 8 {
-        return Due {
-            due: false,
-            x: Sample {
-                line,
-                position: 0,
-                coded: true,
-            },
-        };
+        return None;
     }
-    Due {
-        due: true,
-        x: Sample {
-            line,
-            position: p - 7,
-            coded: true,
-        },
-    }
+    Some(Sample {
+        line,
+        position: p - 7,
+        coded: true,
+    })
 }
 
 // Number u of a pass, which has four in each turn: one loop over them takes a function, where a turn, its two positions and a pair of samples took four.
-fn due_at(w: usize, plan: Plan, u: usize) -> Due
+fn due_at(w: usize, plan: Plan, u: usize) -> Option<Sample>
     ensures { result ≡ due_at w plan u }
 {
     let p = 2 * (u / 4);
@@ -229,8 +209,10 @@ fn trace_pass(
     let end = 4 * (w / 2 + 4);
     let mut at = from;
     for u in 0..end {
-        let d = due_at(w, plan, u);
-        let got = trace_step(block, at, lines, sums, ns, stage, d.due, d.x);
+        let Some(x) = due_at(w, plan, u) else {
+            continue;
+        };
+        let got = trace_step(block, at, lines, sums, ns, stage, x);
         let Traced::At(after) = got else {
             return got;
         };

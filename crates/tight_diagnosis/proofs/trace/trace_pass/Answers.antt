@@ -6,7 +6,7 @@ use lib.ListN.{length}
 use Rattle.pass_schedule.specs.Steps.{upto}
 use Rattle.tight_diagnosis.specs.Ways.{steps_way}
 use Rattle.tight_diagnosis.specs.Traces.{clean, Says}
-use Rattle.tight_diagnosis.proofs.DueLaws.{quarter, pass_is, due_steps, due_inside}
+use Rattle.tight_diagnosis.proofs.DueLaws.{quarter, pass_is, due_steps, skipped, due_inside}
 use Rattle.tight_diagnosis.proofs.WayLaws.{turn_at, turn_stops, no_place, steps_none, steps_next, says_is}
 use Rattle.tight_diagnosis.proofs.trace.trace_pass.Goals as goal
 use Rattle.tight_diagnosis.proofs.trace.trace_pass.Goals.{After-trace_step-got}
@@ -16,7 +16,7 @@ said : (c : After-trace_step-got) →
     Says (clean c.trace_step-got.new.lines c.trace_step-got.new.sums c.trace_step-got.new.ns)
     (steps_way c.args.stage c.args.block.now (quarter c.args.stage.w c.args.plan c.loop-u.u) (clean c.loop-u.lines c.loop-u.sums c.loop-u.ns c.loop-u.at)) c.trace_step-got.result
 said c =
-    says_is (due_steps c.args.stage c.args.block.now c.args.plan c.loop-u.u c.due_at-d.result c.due_at-d.ensures (clean c.loop-u.lines c.loop-u.sums
+    says_is (due_steps c.args.stage c.args.block.now c.args.plan c.loop-u.u c.in-Some.x (sym c.due_at.ensures ∙ c.in-Some.is) (clean c.loop-u.lines c.loop-u.sums
     c.loop-u.ns c.loop-u.at)) c.trace_step-got.ensures.says
 
 test : (c : After-trace_step-got) → c.loop-u.u < 4 * (c.args.stage.w / 2 + 4)
@@ -49,17 +49,25 @@ trace_step-got-requires c = (
     for_ns = c.loop-u.invariant.1.2;
     records = c.loop-u.invariant.2;
   },
-  (λ e. due_inside c.args.stage c.args.plan c.requires.plan c.loop-u.u c.due_at-d.result c.due_at-d.ensures c.requires.even c.loop-u-test.true e),
+  due_inside c.args.stage c.args.plan c.requires.plan c.loop-u.u c.in-Some.x (sym c.due_at.ensures ∙ c.in-Some.is) c.requires.even c.loop-u-test.true,
 )
 
-pub returns-in_default : goal.returns-in_default
-returns-in_default c =
+pub returns-in_default-got : goal.returns-in_default-got
+returns-in_default-got c =
     record {
       says = says_is (pass_is c.args.stage c.args.block.now c.args.plan _ refl _)
-          (turn_stops _ _ (steps_next c.args.stage c.args.block.now (quarter c.args.stage.w c.args.plan) _) (test (goal.at.returns-in_default c).After-trace_step-got) c.loop-u.invariant.3 (said (goal.at.returns-in_default c).After-trace_step-got) c.trace_step-got.result refl (no_place c.trace_step-got.result
-          c.in_default.not-At));
+          (turn_stops _ _ (steps_next c.args.stage c.args.block.now (quarter c.args.stage.w c.args.plan) _) (test (goal.at.returns-in_default-got c).After-trace_step-got) c.loop-u.invariant.3 (said (goal.at.returns-in_default-got c).After-trace_step-got) c.trace_step-got.result refl (no_place c.trace_step-got.result
+          c.in_default-got.not-At));
       records = c.trace_step-got.ensures.records;
     }
+
+pub loop-u-preserved-in_default : goal.loop-u-preserved-in_default
+loop-u-preserved-in_default c = (
+  c.loop-u.invariant.0,
+  c.loop-u.invariant.1,
+  c.loop-u.invariant.2,
+  skipped c.args.stage c.args.block.now c.args.plan c.loop-u.u (sym c.due_at.ensures ∙ c.in_default.is) _ _ c.loop-u.invariant.3,
+)
 
 pub loop-u-preserved : goal.loop-u-preserved
 loop-u-preserved c = (
@@ -79,14 +87,14 @@ returns c =
 pub enum_known-got : goal.enum_known-got
 enum_known-got c = c.in-At.in-At-own.keys1
 
-pub shape_of-lines-in_default : goal.shape_of-lines-in_default
-shape_of-lines-in_default c = lines_long (goal.at.shape_of-lines-in_default c).After-trace_step-got
+pub shape_of-lines-in_default-got : goal.shape_of-lines-in_default-got
+shape_of-lines-in_default-got c = lines_long (goal.at.shape_of-lines-in_default-got c).After-trace_step-got
 
-pub shape_of-sums-in_default : goal.shape_of-sums-in_default
-shape_of-sums-in_default c = sums_long (goal.at.shape_of-sums-in_default c).After-trace_step-got ∙ sym c.requires.stage.for_sums
+pub shape_of-sums-in_default-got : goal.shape_of-sums-in_default-got
+shape_of-sums-in_default-got c = sums_long (goal.at.shape_of-sums-in_default-got c).After-trace_step-got ∙ sym c.requires.stage.for_sums
 
-pub shape_of-ns-in_default : goal.shape_of-ns-in_default
-shape_of-ns-in_default c = ns_long (goal.at.shape_of-ns-in_default c).After-trace_step-got ∙ sym c.requires.stage.for_ns
+pub shape_of-ns-in_default-got : goal.shape_of-ns-in_default-got
+shape_of-ns-in_default-got c = ns_long (goal.at.shape_of-ns-in_default-got c).After-trace_step-got ∙ sym c.requires.stage.for_ns
 
 pub shape_of-lines : goal.shape_of-lines
 shape_of-lines c = c.loop-u.invariant.1.0

@@ -1,6 +1,7 @@
 -- `tight_diagnosis::trace::trace_step` meets its contract: a sample that is interpolated, cut off, bad or read, by the answers of the leaves. Assumes nothing.
 use borrow.Author.Tests.{not-true}
 use mathlib.Core.Bool.{true}
+use mathlib.Core.List.{[], ◌∷◌}
 use mathlib.Core.Path.{◌≡◌, sym, ◌∙◌}
 use Prim.Native.Nat.{ℕ, ◌+◌, ◌^◌, ◌≤◌, ◌<◌}
 use native.Mathlib.Omega.{arith}
@@ -8,22 +9,18 @@ use lib.ListN.{length, set, length-set}
 use Rattle.pass_steps.specs.Contexts.{context_in}
 use Rattle.pass_steps.proofs.ContextLaws.{context_is}
 use Rattle.read_block.specs.BadCodes.{bad_at}
-use Rattle.tight_diagnosis.specs.Ways.{step_of, if_due, step_way, steps_way}
-use Rattle.tight_diagnosis.specs.Traces.{clean, Inside}
+use Rattle.tight_diagnosis.specs.Ways.{step_of, step_way, steps_way}
+use Rattle.tight_diagnosis.specs.Traces.{clean}
 use Rattle.tight_diagnosis.proofs.SampleLaws.{was_good, was_loose, read_small, spot_is, Here, interpolated}
 use Rattle.tight_diagnosis.proofs.SampleLaws.{reader_small, total_small, step_cut, step_bad, step_good}
-use Rattle.tight_diagnosis.proofs.WayLaws.{says_is, due_one, due_none}
+use Rattle.tight_diagnosis.proofs.WayLaws.{says_is, steps_one}
 use Rattle.tight_diagnosis.proofs.trace.trace_step.Goals as goal
-use Rattle.tight_diagnosis.proofs.trace.trace_step.Goals.{After-context_at-here, After-record_in-old, Else-not-due}
-
--- it is due
-inside : (c : Else-not-due) → Inside c.args.stage c.args.x
-inside c = c.requires.1 c.if-not-due.false
+use Rattle.tight_diagnosis.proofs.trace.trace_step.Goals.{After-context_at-here, After-record_in-old}
 
 -- what is said of its step is said of it
 as_step : (c : After-context_at-here) → let r = clean c.args.lines.now c.args.sums.now c.args.ns.now c.args.from in
-    steps_way c.args.stage c.args.block.now (if_due c.args.due c.args.x) r ≡ step_way c.args.stage c.args.block.now (step_of c.args.x) r
-as_step c = due_one c.args.stage c.args.block.now c.args.due c.args.x _ c.if-not-due.false
+    steps_way c.args.stage c.args.block.now (step_of c.args.x ∷ []) r ≡ step_way c.args.stage c.args.block.now (step_of c.args.x) r
+as_step c = steps_one c.args.stage c.args.block.now (step_of c.args.x) _
 
 -- it goes inside of the lines
 room : (c : After-context_at-here) → (c.left_of-i.result + 1 < length c.args.lines.now) × (c.left_of-i.result + 1 < 2 ^ 14)
@@ -37,7 +34,7 @@ stored c v = length-set c.args.lines.now (c.left_of-i.result + 1) v
 -- the context is that of its line and position
 found : (c : After-context_at-here) → c.context_at-here.result ≡ context_in c.args.stage.w c.args.lines.now c.args.x.line c.args.x.position
 found c =
-    context_is c.args.stage.w c.args.x.line c.args.x.position c.args.lines.now (inside (goal.at.After-context_at-here c).Else-not-due).low
+    context_is c.args.stage.w c.args.x.line c.args.x.position c.args.lines.now c.requires.1.low
     c.left_of-i.ensures.0 c.context_at-here.ensures.0
 
 here : (c : After-record_in-old) →
@@ -62,13 +59,8 @@ small c h = omega (arith, c.largest-m.ensures.1)
 
 pub left_of-i-requires : goal.left_of-i-requires
 left_of-i-requires c =
-    let i = inside (goal.at.left_of-i-requires c).Else-not-due in
+    let i = c.requires.1 in
     (c.requires.0.width, (i.position, (i.low, i.high)))
-
-pub returns-then-not-due : goal.returns-then-not-due
-returns-then-not-due c =
-    let r = clean c.args.lines.now c.args.sums.now c.args.ns.now c.args.from in
-    record { says = record { is = due_none c.args.stage c.args.block.now c.args.due c.args.x r (not-true _ c.if-not-due.true-raw) }; records = c.requires.0.records }
 
 pub returns-then-not-coded : goal.returns-then-not-coded
 returns-then-not-coded c =
