@@ -23,7 +23,7 @@ pub struct Bounds {
     pub bytes: usize,
 }
 
-// The number that the n bytes from i on make.
+// The number that the n bytes from i on make. Not std's `from_be_bytes`, which would be four functions: n is 1, 2, 4 or 8.
 fn be_at(s: &[u8], i: usize, n: usize) -> u64
     requires { (n ≤ 8) × (i + n ≤ length s.now) }
     ensures { (result ≡ be_at s.now i n) × (result < 256 ^ n) }

@@ -1,4 +1,5 @@
-// What is found in a stream that is not tight, and its text.
+// What is found in a stream that is not tight, and its text. It is not written by `write!`: `report` promises each byte of lent memory
+// (`text_of`), and std has no writer over a slice.
 ghost use Rattle.std.specs.Prelude.{◌≡◌, ◌+◌, ◌≤◌, length};
 ghost use Rattle.tight_findings.specs.Texts.{heading, number_text, field, reason_text, code_text, tail_record, text_of};
 ghost use Rattle.tight_findings.specs.Inside.{Put};

@@ -423,6 +423,7 @@ pub fn write_pass(
     let mut ns = set.ns;
     let mut ks = pass_steps::ks_of(&sums, &ns);
     let mut at = from;
+    // Not `step_by(2)`, as in `look_pass`.
     let mut p = 0;
     while p < w + 8 {
         let evens = write_even(

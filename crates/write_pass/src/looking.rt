@@ -118,6 +118,7 @@ pub fn look_pass(
     requires { PassLookAsks bits w plan samples.now n lines.old }
     ensures { result ≡ true → Right bits w samples.now n (pass_steps w plan) lines.old lines.new }
 {
+    // Not `(0..w + 8).step_by(2)`: tried, and the proof does not close, since such a loop ends within its last turn and not at the invariant.
     let mut p = 0;
     while p < w + 8 {
         if !look_even(samples, n, lines, Spot { w, bits, plan, p }) {
