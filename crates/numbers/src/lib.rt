@@ -5,7 +5,7 @@ ghost use Rattle.std.specs.Prelude.{◌≡◌, cond, ◌-◌, ◌^◌, ◌≤◌
 ghost use Rattle.numbers.specs.Numbers.{minus, flag};
 
 // A number as its sign and its size.
-#[derive(Clone, Copy)]
+#[derive(Clone, Copy, PartialEq, Eq)]
 pub struct Signed {
     pub negative: bool,
     pub size: u32,
