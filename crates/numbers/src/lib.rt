@@ -1,4 +1,4 @@
-// Shared by all crates: small functions on unsigned numbers, conversions, and numbers as a sign and a size.
+// Shared by all crates: numbers as a sign and a size, and what std has not for unsigned ones.
 #![tactic(auto)]
 
 ghost use Rattle.std.specs.Prelude.{◌≡◌, cond, ◌-◌, ◌^◌, ◌≤◌};

@@ -1,5 +1,5 @@
 // The 336 records, lent as a slice: what they start with, and the sets that passes work on.
-ghost use Rattle.std.specs.Prelude.{◌≡◌, cond, ◌%◌, ◌<◌, ltb, length, set};
+ghost use Rattle.std.specs.Prelude.{◌≡◌, cond, ◌%◌, ◌<◌, ltb, length};
 ghost use Rattle.pass_steps.specs.Values.{records_of};
 ghost use Rattle.pass_steps.specs.Contexts.{Depth};
 ghost use Rattle.read_block.specs.Records.{start_record, start_records, restarted_main, set_of, put_set, clear_records};
@@ -43,13 +43,6 @@ pub fn cleared() -> Record
     ensures { result ≡ record { sum = 0; n = 1 } }
 {
     Record { sum: 0, n: 1 }
-}
-
-pub fn update(rs: &mut [Record], i: usize, r: Record)
-    requires { i < length rs.old }
-    ensures { rs.new ≡ set rs.old i r }
-{
-    rs[i] = r;
 }
 
 // All records start.

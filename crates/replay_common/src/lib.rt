@@ -147,6 +147,7 @@ fn unnumbered(text: &str) -> &str {
 pub fn read_full(file: &mut impl Read, buf: &mut [u8]) -> io::Result<usize>
     ensures { IfOk result (λ n. n ≤ length buf.new) }
 {
+    // A `while`: each read says how many bytes it gave.
     let mut done = 0;
     while done < buf.len() {
         let n = file.read(&mut buf[done..])?;

@@ -14,6 +14,7 @@ pub enum Listed {
     Refused(Refusal),
 }
 
+// Not `(1..=16).contains(&longest)`: tried, and the proof does not close, since the tests of `in_sheet` nest the other way.
 fn in_sheet(depth: u32, k: u32, longest: u32) -> bool
     ensures { result ≡ in_sheet depth k longest }
 {
