@@ -1,12 +1,11 @@
 -- The first sample above M. Assumes nothing.
-use borrow.Author.Tests.{lt-ltb, le-ltb}
 use mathlib.Core.Bool.{Bool, true, false, cond, ◌||◌}
 use mathlib.Core.List.{List}
 use mathlib.Core.Option.{none, some}
 use mathlib.Core.Path.{◌≡◌, ◌∙◌}
 use Prim.Native.Nat.{ℕ, ◌+◌, ◌≤◌, ◌<◌}
 use native.Mathlib.Numerals.{add-one}
-use lib.Dec.{leb, ltb}
+use lib.Dec.{leb}
 use lib.ListN.{length, get_or, drop, drop_of_length-le}
 use lib.Seq.{drop-cons}
 use Rattle.admission.specs.Above.{first_above}
@@ -21,9 +20,9 @@ module _ (ignored : ℕ → Bool) (m : ℕ) (t : List ℕ) (i : ℕ) (so_far : f
   pub above_next : i < length t → leb (get_or t i 0) m || ignored i ≡ true → first_above ignored m 0 t ≡ first_above ignored m (i + 1) (drop (i + 1) t)
   above_next h e = next_is h true e
 
-  pub above_found : i < length t → leb (get_or t i 0) m || ignored i ≡ false → first_above ignored m 0 t ≡ cond (ltb i (length t)) (some i) none
-  above_found h e = next_is h false e ∙ rw (lt-ltb i (length t) h)
+  pub above_found : i < length t → leb (get_or t i 0) m || ignored i ≡ false → first_above ignored m 0 t ≡ some i
+  above_found h e = next_is h false e
 
-  pub above_none : length t ≤ i → first_above ignored m 0 t ≡ cond (ltb i (length t)) (some i) none
+  pub above_none : length t ≤ i → first_above ignored m 0 t ≡ none
   unfolding first_above
-  above_none h = so_far ∙ rw (drop_of_length-le t h, le-ltb i (length t) h)
+  above_none h = so_far ∙ rw (drop_of_length-le t h)

@@ -17,7 +17,7 @@ mod writing;
 
 pub use largest::first_above;
 pub use resuming::resume_begins;
-pub use writing::{lossy_begins, writing_begins};
+pub use writing::{lossy_begins, set_size, writing_begins};
 
 // How decoding begins: a refusal, nothing to do, or a stream with this header is read. The reading of one block and the writer always have something
 // to do: they begin with a refusal or a header, as `Parsed` has them.

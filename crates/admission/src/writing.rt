@@ -7,7 +7,7 @@ ghost use Rattle.admission.specs.Writings.{with_count, with_set, writing_begins,
 use stream::{FujiHeader, Parsed, Refusal};
 
 // How many samples a set has under this header.
-fn set_size(h: FujiHeader) -> usize
+pub fn set_size(h: FujiHeader) -> usize
     ensures { result ≡ set_size (width_of h.xtrans) h.lines }
 {
     let lines = h.lines as usize;

@@ -1,5 +1,5 @@
 // The records of a plan, counted: how many good ones it starts with, and which lines two records hold, or none.
-ghost use Rattle.std.specs.Prelude.{◌≡◌, ◌+◌, ◌^◌, ◌≤◌, ◌<◌, get_or, set};
+ghost use Rattle.std.specs.Prelude.{◌≡◌, ◌+◌, ◌^◌, ◌≤◌, ◌<◌, get_or, set, MatchOption};
 ghost use Rattle.base_plan.specs.Inside.{IsRead, Marked, Balanced, amiss_in};
 ghost use Rattle.base_plan.specs.Counts.{is_amiss};
 
@@ -32,6 +32,8 @@ pub fn read_records(
 {
     let mut records = 0usize;
     let mut at = 0usize;
+
+    // No `for`: each record says where the next one starts.
     while at < d.len() {
         let x = crate::records::read_row(d, at, lines);
         let Row::Good(first, last, _, next) = x else {
@@ -54,19 +56,23 @@ fn is_amiss(twice: bool, count: usize) -> bool
     count == 0
 }
 
-// The lowest line that two records hold or, if `twice` is not said, that none holds; `lines` if there is none such.
-pub fn first_amiss(begins: &[usize; 2732], ends: &[usize; 2732], lines: usize, twice: bool) -> usize
+// The lowest line that two records hold or, if `twice` is not said, that none holds.
+pub fn first_amiss(
+    begins: &[usize; 2732],
+    ends: &[usize; 2732],
+    lines: usize,
+    twice: bool,
+) -> Option<usize>
     requires { (lines ≤ 2731) × Balanced begins.now ends.now }
-    ensures { result ≡ amiss_in twice begins.now ends.now lines }
+    ensures { let first = amiss_in twice begins.now ends.now lines in
+        MatchOption result (lines ≤ first) (λ n. (n ≡ first) × (n < lines)) }
 {
     let mut held = 0usize;
-    let mut n = 0usize;
-    while n < lines {
+    for n in 0..lines {
         held = held + begins[n] - ends[n];
         if is_amiss(twice, held) {
-            return n;
+            return Some(n);
         }
-        n += 1;
     }
-    n
+    None
 }

@@ -30,12 +30,10 @@ fn plan_lines(d: &[u8], bases: &mut [u8]) -> Planned
     if read.end < d.len() {
         return Planned::Refused(Refusal::BadRecord(records + 1));
     }
-    let twice = counts::first_amiss(&begins, &ends, lines, true);
-    if twice < lines {
+    if let Some(twice) = counts::first_amiss(&begins, &ends, lines, true) {
         return Planned::Refused(Refusal::HeldTwice(twice));
     }
-    let none = counts::first_amiss(&begins, &ends, lines, false);
-    if none < lines {
+    if let Some(none) = counts::first_amiss(&begins, &ends, lines, false) {
         return Planned::Refused(Refusal::NotHeld(none));
     }
     records::write_bases(d, records, bases);

@@ -29,7 +29,7 @@ fn byte(d: &[u8], i: usize) -> u32
     ensures { (result ≡ get_or d.now i 0) × (result < 256) × (1 ≤ result → i < length d.now) }
 {
     if i < d.len() {
-        return numbers::u8_to_u32(d[i]);
+        return u32::from(d[i]);
     }
     0
 }
@@ -37,7 +37,7 @@ fn byte(d: &[u8], i: usize) -> u32
 fn is_digit(b: u32) -> bool
     ensures { result ≡ is_digit b }
 {
-    (48 <= b) & (b <= 57)
+    (48..=57).contains(&b)
 }
 
 // The digits from i on, at most 5.
@@ -46,18 +46,14 @@ fn read_digits(d: &[u8], i: usize) -> Digits
     ensures { (result.number ≡ number_at d.now i) × (result.end ≡ end_of d.now i) × (result.end ≤ length d.now) }
 {
     let mut number = 0u32;
-    let mut n = 0usize;
-    let mut at = i;
-    while n < 5 {
-        let b = byte(d, at);
+    for n in 0..5 {
+        let b = byte(d, i + n);
         if !is_digit(b) {
-            return Digits { number, end: at };
+            return Digits { number, end: i + n };
         }
         number = number * 10 + (b - 48);
-        at += 1;
-        n += 1;
     }
-    Digits { number, end: at }
+    Digits { number, end: i + 5 }
 }
 
 // The field from i on, which ends with a mark.
@@ -99,33 +95,19 @@ pub fn read_row(d: &[u8], i: usize, lines: usize) -> Row
     Row::Bad
 }
 
-// The bytes of lines first to last.
-fn fill(bases: &mut [u8], first: usize, last: usize, base: u32)
-    requires { (first ≤ last) × (last < length bases.old) × (base ≤ 255) }
-    ensures { Filled first (last + 1) base bases.old bases.new }
-{
-    let mut n = first;
-    while n <= last {
-        bases[n] = base as u8;
-        n += 1;
-    }
-}
-
 // The bytes of all records.
 pub fn write_bases(d: &[u8], records: usize, bases: &mut [u8])
     requires { records ≡ good_records d.now (length bases.old) }
     ensures { Written d.now records bases.old bases.new }
 {
     let lines = bases.len();
-    let mut m = 0usize;
     let mut at = 0usize;
-    while m < records {
+    for _ in 0..records {
         let x = read_row(d, at, lines);
         let Row::Good(first, last, base, next) = x else {
             return;
         };
-        fill(bases, first, last, base);
+        bases[first..=last].fill(base as u8);
         at = next;
-        m += 1;
     }
 }

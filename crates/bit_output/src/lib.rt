@@ -7,7 +7,6 @@ ghost use Rattle.bits.specs.Inside.{bytes_for};
 ghost use Rattle.bit_output.specs.Output.{put_bits};
 
 use bits::BitPosition;
-use numbers::u8_to_u32;
 
 // The position after some samples that are written, or the index in the set of an interpolated one that is not its prediction.
 #[derive(Clone, Copy)]
@@ -29,7 +28,7 @@ fn filled(old: u8, used: u32, t: u32, part: u32) -> u8
     requires { (used < 8) × ((used + t ≤ 8) × (part < 2 ^ t)) }
     ensures { result ≡ old / 2 ^ (8 - used) * 2 ^ (8 - used) + part * 2 ^ (8 - used - t) }
 {
-    let kept = (u8_to_u32(old) >> (8 - used)) << (8 - used);
+    let kept = (u32::from(old) >> (8 - used)) << (8 - used);
     (kept + (part << (8 - used - t))) as u8
 }
 
@@ -38,11 +37,12 @@ fn put_by_bytes(out: &mut [u8], at: BitPosition, n: u32, value: u64)
     requires { (n ≤ 64) × ((at.0 < 2 ^ 60) × (bytes_for (at.0 + n) ≤ length out.old)) }
     ensures { out.new ≡ put_bits out.old at.0 (binary n value) }
 {
+    // A `while`: a turn goes up to the end of a byte, so that turns differ in how many bits they put.
     let mut left = n;
     let mut here = at;
     while left > 0 {
         let used = here.in_byte();
-        let t = numbers::smaller(8 - used, left);
+        let t = (8 - used).min(left);
         let from = here.byte();
         let i = from.0;
         out[i] = filled(out[i], used, t, next_bits(value, left, t));

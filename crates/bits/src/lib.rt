@@ -10,8 +10,6 @@ ghost use Rattle.bits.specs.BitLists.{block_bytes, is_tail};
 ghost use Rattle.bits.specs.Inside.{filled};
 ghost use Rattle.bits.specs.Positions.{ahead, aligned};
 
-use numbers::u8_to_u64;
-
 // A place in a block, counted in bits from its start.
 #[derive(Clone, Copy)]
 pub struct BitPosition(pub u64);
@@ -60,11 +58,7 @@ impl BitPosition {
     pub fn ahead(self, n: u32) -> BitPosition
         ensures { result.0 ≡ ahead self.0 n }
     {
-        let last: u64 = 0xFFFF_FFFF_FFFF_FFFF;
-        if last - self.0 < n as u64 {
-            return BitPosition(last);
-        }
-        BitPosition(self.0 + n as u64)
+        BitPosition(self.0.saturating_add(u64::from(n)))
     }
 
     // The position at which the next byte begins, or this one where a byte begins here.
@@ -89,19 +83,16 @@ impl ByteOffset {
 fn byte_at(s: &[u8], i: usize) -> u64
     ensures { (result ≡ get_or s.now i 0) × (result < 256) }
 {
-    if i < s.len() { u8_to_u64(s[i]) } else { 0 }
+    if i < s.len() { u64::from(s[i]) } else { 0 }
 }
 
 // The four bytes from i on.
-// INLINING: a sum of products of four bytes. LLVM makes one load and one byte swap of two such groups.
+// INLINING: std sums products of the four bytes. LLVM makes one load and one byte swap of two such groups.
 pub fn load32(s: &[u8], i: usize) -> u64
     requires { i + 4 ≤ length s.now }
     ensures { (result ≡ be32 s.now i) × (result < 2 ^ 32) }
 {
-    u8_to_u64(s[i]) * 0x100_0000
-        + u8_to_u64(s[i + 1]) * 0x1_0000
-        + u8_to_u64(s[i + 2]) * 0x100
-        + u8_to_u64(s[i + 3])
+    u64::from(u32::from_be_bytes([s[i], s[i + 1], s[i + 2], s[i + 3]]))
 }
 
 // The eight bytes from i on.
@@ -153,7 +144,7 @@ pub fn word_at(s: &[u8], at: BitPosition) -> u64
 fn counted(n: u32) -> u32
     ensures { (result ≡ min n 32) × (result ≤ 32) }
 {
-    if 32 < n { 32 } else { n }
+    n.min(32)
 }
 
 // The next n bits, 32 at most.
@@ -196,12 +187,7 @@ pub fn fill_tail(out: &mut [u8], at: BitPosition)
 {
     let from = at.bytes();
     let end = at.block_bytes();
-    let last = end.0;
-    let mut i = from.0;
-    while i < last {
-        out[i] = 0;
-        i += 1;
-    }
+    out[from.0..end.0].fill(0);
 }
 
 // The position behind the next n bits, 32 at most.
@@ -216,6 +202,7 @@ pub fn zero_run(s: &[u8], at: BitPosition) -> ZeroRun
     requires { length s.now < 2 ^ 58 }
     ensures { result ≡ zero_run s.now at.0 }
 {
+    // A `while`: the first turn begins within a byte, so that a range by steps of eight would need a case more.
     let mut here = at;
     let mut from = here.byte();
     while from.0 < s.len() {

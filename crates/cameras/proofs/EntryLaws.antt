@@ -1,5 +1,5 @@
 -- The entries after some lines, or after each was changed. Assumes nothing.
-use borrow.Author.Tests.{ltb-true, lt-ltb, le-ltb, leb-true, eqb-true, eqb-false, eq-eqb, ne_eqb}
+use borrow.Author.Tests.{ltb-true, lt-ltb, leb-true, eqb-true, eqb-false, eq-eqb, ne_eqb}
 use mathlib.Core.Bool.{Bool, true, false, cond, ◌&&◌, false≢true}
 use mathlib.Core.List.{List, [], ◌∷◌, map}
 use mathlib.Core.Path.{◌≡◌, refl, sym, ap, ◌∙◌}
@@ -71,19 +71,19 @@ each_map f l size =
 
 -- ---- the entry of a line
 
-module _ (c : Camera) (bits q : ℕ) (l : List Entry) (i : ℕ) (at : i ≡ pair_in bits q l) where
-  pub pair_taken : (e : Entry) → i < 16 → e ≡ held_by c (entry_at l i) → (true ≡ has_entry bits q l) × (set l i e ≡ with_entry c bits q l)
+module _ (c : Camera) (bits q : ℕ) (l : List Entry) where
+  pub pair_taken : (i : ℕ) (e : Entry) → i ≡ pair_in bits q l → i < 16 → e ≡ held_by c (entry_at l i) → (has_entry bits q l ≡ true) × (set l i e ≡ with_entry c bits q l)
   unfolding has_entry with_entry
-  pair_taken e low h = (rw (← at, lt-ltb i 16 low), rw (h, ← at, lt-ltb i 16 low))
+  pair_taken i e at low h = (rw (← at, lt-ltb i 16 low), rw (h, ← at, lt-ltb i 16 low))
 
-  module _ (j : ℕ) (from : j ≡ free_in l) (none : 16 ≤ i) where
-    pub free_taken : (e : Entry) → j < 16 → e ≡ new_entry c bits q → (true ≡ has_entry bits q l) × (set l j e ≡ with_entry c bits q l)
+  module _ (none : pair_in bits q l ≡ 16) where
+    pub free_taken : (j : ℕ) (e : Entry) → j ≡ free_in l → j < 16 → e ≡ new_entry c bits q → (has_entry bits q l ≡ true) × (set l j e ≡ with_entry c bits q l)
     unfolding has_entry with_entry
-    free_taken e low h = (rw (← at, ← from, le-ltb i 16 none, lt-ltb j 16 low), rw (h, ← at, ← from, le-ltb i 16 none, lt-ltb j 16 low))
+    free_taken j e from low h = (rw (none, ← from, lt-ltb j 16 low), rw (h, none, ← from, lt-ltb j 16 low))
 
-    pub none_taken : 16 ≤ j → (false ≡ has_entry bits q l) × (l ≡ with_entry c bits q l)
-    unfolding has_entry with_entry
-    none_taken high = (rw (← at, ← from, le-ltb i 16 none, le-ltb j 16 high), rw (← at, ← from, le-ltb i 16 none, le-ltb j 16 high))
+    pub none_taken : free_in l ≡ 16 → has_entry bits q l ≡ false
+    unfolding has_entry
+    none_taken held = rw (none, held)
 
 -- ---- lines
 

@@ -51,6 +51,7 @@ pub fn entries_in(words: &[u32; 128]) -> Entries
 }
 
 // Word k of an entry.
+#[tactic(auto, unfolding(crate::specs::Words::words_of))]
 fn word_of(e: Entry, k: usize) -> u32
     requires { k < 8 }
     ensures { result ≡ get_or (words_of e) k 0 }
@@ -63,8 +64,8 @@ fn word_of(e: Entry, k: usize) -> u32
         m.total,
         m.raw,
         m.limit,
-        numbers::flag(e.one),
-        numbers::flag(e.two),
+        u32::from(e.one),
+        u32::from(e.two),
     ];
     words[k]
 }
@@ -73,15 +74,13 @@ pub fn words_of(entries: Entries) -> [u32; 128]
     ensures { AreWords entries.all result }
 {
     let mut words = [0u32; 128];
-    let mut k = 0usize;
-    while k < 128 {
-        let e = entries.all[k / 8];
-        words[k] = word_of(e, k % 8);
-        k += 1;
+    for k in 0..128 {
+        words[k] = word_of(entries.all[k / 8], k % 8);
     }
     words
 }
 
+// No `From`: only the C interface numbers the cameras, and takes each number but 1 for the second.
 pub fn camera_in(number: u32) -> Camera
     ensures { result ≡ camera_in number }
 {

@@ -2,7 +2,7 @@
 // returns them.
 #![tactic(auto)]
 
-ghost use Rattle.std.specs.Prelude.{◌≡◌, ◌≤◌};
+ghost use Rattle.std.specs.Prelude.{◌≡◌, ◌<◌, MatchOption};
 ghost use Rattle.cameras.specs.Entries.{no_entry, no_entries, is_held, free_of, free_in, given_back, handed_back, AllNumbered};
 
 use quantiser::Quantiser;
@@ -65,38 +65,24 @@ pub fn is_held(e: Entry) -> bool
     e.one | e.two
 }
 
-// The lowest entry that nobody holds, or 16.
-pub fn free_in(entries: Entries) -> usize
-    ensures { (result ≡ free_in entries.all) × (result ≤ 16) }
+// The lowest entry that nobody holds.
+pub fn free_in(entries: Entries) -> Option<usize>
+    ensures { MatchOption result (free_in entries.all ≡ 16) (λ j. (j ≡ free_in entries.all) × (j < 16)) }
 {
-    let mut j = 0usize;
-    while j < 16 {
-        let e = entries.all[j];
-        if !is_held(e) {
-            return j;
+    for (j, e) in entries.all.iter().enumerate() {
+        if !is_held(*e) {
+            return Some(j);
         }
-        j += 1;
     }
-    j
+    None
 }
 
 fn free_of(camera: Camera, e: Entry) -> Entry
     ensures { result ≡ free_of camera e }
 {
-    let main = e.main;
     match camera {
-        Camera::One => Entry {
-            bits: e.bits,
-            main,
-            one: false,
-            two: e.two,
-        },
-        Camera::Two => Entry {
-            bits: e.bits,
-            main,
-            one: e.one,
-            two: false,
-        },
+        Camera::One => Entry { one: false, ..e },
+        Camera::Two => Entry { two: false, ..e },
     }
 }
 
@@ -115,11 +101,8 @@ pub fn end_stream(camera: Camera, entries: Entries) -> Entries
     ensures { result.all ≡ given_back camera entries.all }
 {
     let mut after = entries;
-    let mut i = 0usize;
-    while i < 16 {
-        let old = after.all[i];
-        after.all[i] = free_of(camera, old);
-        i += 1;
+    for i in 0..16 {
+        after.all[i] = free_of(camera, after.all[i]);
     }
     after
 }

@@ -1,18 +1,12 @@
 // The lines of a block take their entries of those that two cameras share, and find their main quantisers in them.
-ghost use Rattle.std.specs.Prelude.{◌≡◌, ◌^◌, ◌≤◌, ◌<◌, get_or};
+ghost use Rattle.std.specs.Prelude.{true, false, ◌≡◌, ◌^◌, ◌≤◌, ◌<◌, get_or, MatchOption};
 ghost use Rattle.quantiser.specs.Quantisers.{main_of};
 ghost use Rattle.cameras.specs.Entries.{is_pair, held_by, new_entry, pair_in, has_entry, with_entry, after_lines, lines_with_entry};
+ghost use Rattle.cameras.specs.declared.Entries.{Entries};
 ghost use Rattle.cameras.specs.Entries.{taking_lines, is_stopped, AllNumbered, mended_entry, mended};
 
 use crate::{Camera, Entries, Entry};
 use quantiser::Quantiser;
-
-// Whether a line has an entry, and the entries after it.
-#[derive(Clone, Copy)]
-struct Taken {
-    ok: bool,
-    entries: Entries,
-}
 
 // How many lines of a block have an entry, and the entries after them.
 #[derive(Clone, Copy)]
@@ -26,7 +20,7 @@ pub fn base_of(bases: &[u8], n: usize) -> u32
     ensures { (result ≡ get_or bases.now n 0) × (result < 256) }
 {
     if n < bases.len() {
-        return numbers::u8_to_u32(bases[n]);
+        return u32::from(bases[n]);
     }
     0
 }
@@ -38,38 +32,24 @@ fn is_pair(e: Entry, bits: u32, base: u32) -> bool
     crate::is_held(e) & (e.bits == bits) & (m.base == base)
 }
 
-// The lowest entry that is in use for the pair, or 16.
-fn pair_in(entries: Entries, bits: u32, base: u32) -> usize
-    ensures { (result ≡ pair_in bits base entries.all) × (result ≤ 16) }
+// The lowest entry that is in use for the pair.
+fn pair_in(entries: Entries, bits: u32, base: u32) -> Option<usize>
+    ensures { let i = pair_in bits base entries.all in MatchOption result (i ≡ 16) (λ j. (j ≡ i) × (j < 16)) }
 {
-    let mut i = 0usize;
-    while i < 16 {
-        let e = entries.all[i];
-        if is_pair(e, bits, base) {
-            return i;
+    for (i, e) in entries.all.iter().enumerate() {
+        if is_pair(*e, bits, base) {
+            return Some(i);
         }
-        i += 1;
     }
-    i
+    None
 }
 
 fn held_by(camera: Camera, e: Entry) -> Entry
     ensures { result ≡ held_by camera e }
 {
-    let main = e.main;
     match camera {
-        Camera::One => Entry {
-            bits: e.bits,
-            main,
-            one: true,
-            two: e.two,
-        },
-        Camera::Two => Entry {
-            bits: e.bits,
-            main,
-            one: e.one,
-            two: true,
-        },
+        Camera::One => Entry { one: true, ..e },
+        Camera::Two => Entry { two: true, ..e },
     }
 }
 
@@ -89,30 +69,22 @@ fn new_entry(camera: Camera, bits: u32, base: u32) -> Entry
     )
 }
 
-// The entry of a line with this pair: one that is in use for it, or else the lowest that nobody holds.
-fn take(camera: Camera, entries: Entries, bits: u32, base: u32) -> Taken
+// The entries after a line with this pair, if it has one: one that is in use for it, or else the lowest that nobody holds.
+fn take(camera: Camera, entries: Entries, bits: u32, base: u32) -> Option<Entries>
     requires { (12 ≤ bits) × ((bits ≤ 16) × (base < 256)) }
-    ensures { (result.ok ≡ has_entry bits base entries.all) × (result.entries.all ≡ with_entry camera bits base entries.all) }
+    ensures { let has = has_entry bits base entries.all in
+        MatchOption result (has ≡ false) (λ (after : Entries). (has ≡ true) × (after.all ≡ with_entry camera bits base entries.all)) }
 {
     let mut after = entries;
-    let i = pair_in(entries, bits, base);
-    if i < 16 {
-        let e = after.all[i];
-        after.all[i] = held_by(camera, e);
-        return Taken {
-            ok: true,
-            entries: after,
-        };
+    if let Some(i) = pair_in(entries, bits, base) {
+        after.all[i] = held_by(camera, after.all[i]);
+        return Some(after);
     }
-    let j = crate::free_in(entries);
-    if j < 16 {
+    if let Some(j) = crate::free_in(entries) {
         after.all[j] = new_entry(camera, bits, base);
-        return Taken {
-            ok: true,
-            entries: after,
-        };
+        return Some(after);
     }
-    Taken { ok: false, entries }
+    None
 }
 
 // The entries of the first `count` lines of a block, until a line has none.
@@ -123,21 +95,17 @@ pub fn take_lines(camera: Camera, entries: Entries, bits: u32, bases: &[u8], cou
     ensures all_value { (result.entries.all ≡ after_lines camera bits bases.now entries.all result.lines) × AllNumbered result.entries.all }
 {
     let mut after = entries;
-    let mut n = 0usize;
-    while n < count {
-        let taken = take(camera, after, bits, base_of(bases, n));
-        let ok = taken.ok;
-        if !ok {
+    for n in 0..count {
+        let Some(next) = take(camera, after, bits, base_of(bases, n)) else {
             return Took {
                 lines: n,
                 entries: after,
             };
-        }
-        after = taken.entries;
-        n += 1;
+        };
+        after = next;
     }
     Took {
-        lines: n,
+        lines: count,
         entries: after,
     }
 }
@@ -184,12 +152,7 @@ fn mended_entry(e: Entry) -> Entry
     let m = e.main;
     if (12 <= e.bits) & (e.bits <= 16) & (m.base < 256) {
         let main = Quantiser::main(e.bits, m.base);
-        return Entry {
-            bits: e.bits,
-            main,
-            one: e.one,
-            two: e.two,
-        };
+        return Entry { main, ..e };
     }
     crate::no_entry()
 }
@@ -199,11 +162,8 @@ pub fn mended(entries: Entries) -> Entries
     ensures { (result.all ≡ mended entries.all) × AllNumbered result.all }
 {
     let mut after = entries;
-    let mut i = 0usize;
-    while i < 16 {
-        let e = after.all[i];
-        after.all[i] = mended_entry(e);
-        i += 1;
+    for i in 0..16 {
+        after.all[i] = mended_entry(after.all[i]);
     }
     after
 }
@@ -214,10 +174,8 @@ pub fn main_in(entries: Entries, bits: u32, base: u32) -> Quantiser
     requires all_numbered { AllNumbered entries.all }
     ensures { result ≡ main_of bits base }
 {
-    let i = pair_in(entries, bits, base);
-    if i < 16 {
-        let e = entries.all[i];
-        return e.main;
+    if let Some(i) = pair_in(entries, bits, base) {
+        return entries.all[i].main;
     }
     Quantiser::main(bits, base)
 }

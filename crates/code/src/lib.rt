@@ -89,6 +89,6 @@ pub fn take(m: u32, tight: bool, long: u64, c: Code) -> Taken
 {
     let after = c.after;
     let still_tight = tight & is_tight(m, c);
-    let now_long = long + numbers::flag(c.long) as u64;
+    let now_long = long + u64::from(c.long);
     Taken::Read(c.value, after, still_tight, now_long)
 }

@@ -29,9 +29,9 @@ fn third_bound(base: u32) -> u32
 pub fn choice(base: u32, flatness: u32) -> u32
     ensures { (result ≡ choice_of base flatness) × (result ≤ 3) }
 {
-    let first = numbers::flag(first_bound(base) <= flatness);
-    let second = numbers::flag(second_bound(base) <= flatness);
-    let third = numbers::flag(third_bound(base) <= flatness);
+    let first = u32::from(first_bound(base) <= flatness);
+    let second = u32::from(second_bound(base) <= flatness);
+    let third = u32::from(third_bound(base) <= flatness);
     (first + second + third + 1) % 4
 }
 
@@ -49,12 +49,12 @@ pub fn wrap(m: u32, q: u32, span: u32, a: u32, b: u32) -> u32
     ensures { (result ≡ wrap m q span a b) × (result ≤ m) }
 {
     if a + q < b {
-        return numbers::smaller(m, numbers::saturating_sub(a + span, b));
+        return (a + span).saturating_sub(b).min(m);
     }
     if m + q + b < a {
-        return numbers::smaller(m, numbers::saturating_sub(a, b + span));
+        return a.saturating_sub(b + span).min(m);
     }
-    numbers::smaller(m, numbers::saturating_sub(a, b))
+    a.saturating_sub(b).min(m)
 }
 
 // p - d or p + d; below 0 it wraps to a number that is larger than any sample.
@@ -74,7 +74,7 @@ pub fn sample(m: u32, base: u32, total: u32, negative: bool, prediction: u32, co
     ensures { (result ≡ sample_of m base total negative prediction code) × (result ≤ m) }
 {
     let step = 2 * base + 1;
-    let minus = numbers::differ(negative, code % 2 == 1);
+    let minus = negative != (code % 2 == 1);
     let d = residual_size(code) * step;
     let x = moved(minus, prediction, d);
     if x <= m {
@@ -94,7 +94,7 @@ fn code_of_residual(negative: bool, size: u32) -> u32
     ensures { result ≡ code_of_residual (record { negative = negative; size = size }) }
 {
     if negative {
-        return numbers::saturating_sub(2 * size, 1);
+        return (2 * size).saturating_sub(1);
     }
     2 * size
 }
@@ -114,10 +114,10 @@ pub fn code_near(base: u32, total: u32, negative: bool, prediction: u32, v: u32)
 {
     let wanted = numbers::difference(v, prediction);
     let size = nearest_size(base, wanted.size);
-    let down = numbers::differ(negative, wanted.negative);
+    let down = negative != wanted.negative;
     let code = code_of_residual(down, size);
     if code < total {
         return code;
     }
-    code_of_residual(!down, numbers::saturating_sub(total, size))
+    code_of_residual(!down, total.saturating_sub(size))
 }

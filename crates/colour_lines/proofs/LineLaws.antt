@@ -1,12 +1,11 @@
--- Lines that are moved one sample at a time, and lengths. Assumes nothing.
+-- What a move leaves as it was, where lines lie, and lengths. Assumes nothing.
 use mathlib.Core.List.{List}
 use mathlib.Core.Path.{◌≡◌, sym, ap, ◌∙◌}
 use Prim.Native.Nat.{ℕ, suc, ◌+◌, ◌-◌, ◌*◌, ◌≤◌, ◌<◌}
 use native.Mathlib.Nat.{mul-le-mul_right}
-use native.Mathlib.Numerals.{add-one}
 use native.Mathlib.Omega.{arith}
-use lib.ListN.{length, get_or, set, drop, length-set, length-drop}
-use lib.Seq.{paste, paste-suc, drop-paste, length-paste, get_or-drop}
+use lib.ListN.{length, get_or, drop, length-set, length-drop}
+use lib.Seq.{paste, drop-paste, length-paste, get_or-drop}
 use Rattle.colour_lines.specs.ColourLines.{guarded, moved, turned}
 
 -- what lies behind a copy is as it was
@@ -18,15 +17,7 @@ after_paste d s t n i ht hn h =
     ∙ ap (λ (l : List ℕ). get_or l (i - (t + n)) 0) (drop-paste d t s n ht hn)
     ∙ get_or-drop (t + n) d (i - (t + n)) 0)
 
--- one sample more of a copy within a list, to a place before it
-pub copy_more : (d l : List ℕ) (from to n j : ℕ) → to + n ≤ from → from + n ≤ length d → j < n → l ≡ paste d to (drop from d) j
-    → set l (to + j) (get_or l (from + j) 0) ≡ paste d to (drop from d) (j + 1)
-copy_more d l from to n j apart inside h e =
-    let long : length (drop from d) ≡ length d - from = length-drop from d in
-    let same : get_or (paste d to (drop from d) j) (from + j) 0 ≡ get_or (drop from d) j 0 =
-    after_paste d (drop from d) to j (from + j) (omega arith) (omega arith) (omega arith) ∙ sym (get_or-drop from d j 0) in
-    rw (e, same, add-one) (paste-suc d to (drop from d) j 0 (omega arith) (omega arith))
-
+-- a copy within a list, to a place before it
 pub length_copy : (d : List ℕ) (from to n j : ℕ) → to + n ≤ from → from + n ≤ length d → j ≤ n → length (paste d to (drop from d) j) ≡ length d
 length_copy d from to n j apart inside h =
     let long : length (drop from d) ≡ length d - from = length-drop from d in

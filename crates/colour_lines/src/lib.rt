@@ -3,14 +3,16 @@
 
 ghost use Rattle.std.specs.Prelude.{◌≡◌, ◌+◌, ◌-◌, ◌*◌, ◌≤◌, ◌<◌, length, replicate, true, cond};
 ghost use Rattle.colour_lines.specs.ColourLines.{guarded, moved, turned};
-ghost use Rattle.colour_lines.specs.Inside.{roomed, entered};
+ghost use Rattle.colour_lines.specs.Inside.{shifted, entered};
+ghost use Rattle.colour_lines.specs.Sets.{line_of_rank};
 
 // Where a colour line begins, with its left guard.
-fn start_of(w: usize, line: usize) -> usize
+pub fn start_of(w: usize, line: usize) -> usize
     requires { (w ≤ 512) × (line ≤ 17) }
     ensures { (result ≡ line * (w + 2)) × ((result + (w + 2) ≡ (line + 1) * (w + 2)) × (result + (w + 2) ≤ 18 * (w + 2))) }
 {
-    line * (w + 2)
+    let step = w + 2;
+    line * step
 }
 
 // Where the line above line l begins: it ends where line l begins.
@@ -22,6 +24,7 @@ fn start_above(w: usize, l: usize) -> usize
 }
 
 // The guards of line l, from the line above it.
+#[tactic(auto, unfolding(crate::specs::ColourLines::guarded))]
 pub fn set_guards(lines: &mut [u16], w: usize, l: usize)
     requires { (w ≤ 512) × ((1 ≤ l) × ((l ≤ 17) × ((l + 1) * (w + 2) ≤ length lines.old))) }
     ensures { lines.new ≡ guarded w l lines.old }
@@ -33,21 +36,18 @@ pub fn set_guards(lines: &mut [u16], w: usize, l: usize)
 }
 
 // One line becomes another, further up.
+#[tactic(auto, unfolding(crate::specs::ColourLines::moved))]
 fn move_line(lines: &mut [u16], w: usize, from: usize, to: usize)
     requires { (w ≤ 512) × ((to < from) × ((from ≤ 17) × ((from + 1) * (w + 2) ≤ length lines.old))) }
     ensures { lines.new ≡ moved w from to lines.old }
 {
-    let s = w + 2;
     let source = start_of(w, from);
     let target = start_of(w, to);
-    let mut j = 0usize;
-    while j < s {
-        lines[target + j] = lines[source + j];
-        j += 1;
-    }
+    lines.copy_within(source..source + (w + 2), target);
 }
 
 // The turn to the next line.
+#[tactic(auto, unfolding(crate::specs::ColourLines::turned))]
 pub fn turn(lines: &mut [u16], w: usize)
     requires { (w ≤ 512) × (18 * (w + 2) ≤ length lines.old) }
     ensures { lines.new ≡ turned w lines.old }
@@ -71,24 +71,26 @@ pub fn turn_if(lines: &mut [u16], w: usize, wanted: bool)
 }
 
 // Room for a new line l of its colour, where three lines of a colour are kept: the two before it go one further up.
-fn make_room(lines: &mut [u16], w: usize, l: usize, wanted: bool)
+#[tactic(auto, unfolding(crate::specs::Inside::shifted))]
+fn make_room(lines: &mut [u16], w: usize, l: usize)
     requires { (w ≤ 512) × ((2 ≤ l) × ((l ≤ 17) × ((l + 1) * (w + 2) ≤ length lines.old))) }
-    ensures { lines.new ≡ roomed wanted w l lines.old }
+    ensures { lines.new ≡ shifted w l lines.old }
 {
-    if wanted {
-        move_line(lines, w, l - 1, l - 2);
-        move_line(lines, w, l, l - 1);
-    }
+    move_line(lines, w, l - 1, l - 2);
+    move_line(lines, w, l, l - 1);
 }
 
 // Before a pass over two lines: their guards are set, and in windows there is room for both.
+#[tactic(auto, unfolding(crate::specs::Inside::entered, crate::specs::Inside::roomed))]
 pub fn enter(lines: &mut [u16], w: usize, first: usize, second: usize, windowed: bool)
     requires w_bound { (w ≤ 512) × ((2 ≤ first) × ((first ≤ 17) × ((first + 1) * (w + 2) ≤ length lines.old))) }
     requires le_second { (2 ≤ second) × ((second ≤ 17) × ((second + 1) * (w + 2) ≤ length lines.old)) }
     ensures { lines.new ≡ entered windowed w first second lines.old }
 {
-    make_room(lines, w, first, windowed);
-    make_room(lines, w, second, windowed);
+    if windowed {
+        make_room(lines, w, first);
+        make_room(lines, w, second);
+    }
     set_guards(lines, w, first);
     set_guards(lines, w, second);
 }
@@ -97,9 +99,20 @@ pub fn enter(lines: &mut [u16], w: usize, first: usize, second: usize, windowed:
 pub fn clear(lines: &mut [u16])
     ensures { lines.new ≡ replicate (length lines.old) 0 }
 {
-    let mut i = 0usize;
-    while i < lines.len() {
-        lines[i] = 0;
-        i += 1;
+    lines.fill(0);
+}
+
+// The colour line with number c among the twelve of a set.
+#[tactic(auto, unfolding(crate::specs::Sets::line_of_rank))]
+pub fn line_of_rank(c: usize) -> usize
+    requires { c < 12 }
+    ensures { (result ≡ line_of_rank c) × (result ≤ 17) }
+{
+    if c < 3 {
+        return c + 2;
     }
+    if c < 9 {
+        return c + 4;
+    }
+    c + 6
 }

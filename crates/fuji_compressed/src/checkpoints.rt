@@ -25,10 +25,8 @@ pub extern "C" fn fuji_store_checkpoint(
         ToldStored d.now b line before after totals.new refusal.new }
 {
     let a = store_checkpoint(d, b, line, state, lines, rs);
-    let t = totals_words(a);
-    let w = counted_refusal(a);
-    *totals = t;
-    *refusal = w;
+    *totals = totals_words(a);
+    *refusal = counted_refusal(a);
 }
 
 // `resume_region` for C.
@@ -59,10 +57,7 @@ pub extern "C" fn fuji_resume_region(
         width,
         height,
     };
-    let t = *tile;
-    let a = resume_region(d, b, state, r, t, image, lines, rs);
-    let n = totals_words(a);
-    let w = counted_refusal(a);
-    *totals = n;
-    *refusal = w;
+    let a = resume_region(d, b, state, r, *tile, image, lines, rs);
+    *totals = totals_words(a);
+    *refusal = counted_refusal(a);
 }

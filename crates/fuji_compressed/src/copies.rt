@@ -26,10 +26,8 @@ pub extern "C" fn fuji_read_set(
         ToldSet d.now b before after totals.new refusal.new }
 {
     let a = read_set(d, b, set, lines, rs);
-    let t = totals_words(a);
-    let w = counted_refusal(a);
-    *totals = t;
-    *refusal = w;
+    *totals = totals_words(a);
+    *refusal = counted_refusal(a);
 }
 
 // `put_front` for C.
@@ -46,10 +44,8 @@ pub extern "C" fn fuji_put_front(
         refusal.new }
 {
     let a = stream_front::put_front(header, rows, lengths, out);
-    let n = stream::length_word(a);
-    let w = stream::length_refusal(a);
-    *size = n;
-    *refusal = w;
+    *size = stream::length_word(a);
+    *refusal = stream::length_refusal(a);
 }
 
 // `tighten` for C.
@@ -68,10 +64,8 @@ pub extern "C" fn fuji_tighten(
         ToldTightened d.now before after size.new refusal.new }
 {
     let a = tighten(d, out, set, lines, rs);
-    let n = stream::length_word(a);
-    let w = stream::length_refusal(a);
-    *size = n;
-    *refusal = w;
+    *size = stream::length_word(a);
+    *refusal = stream::length_refusal(a);
 }
 
 // `lossy_copy` for C.
@@ -91,8 +85,6 @@ pub extern "C" fn fuji_lossy_copy(
         ToldCopy d.now bases.now before after size.new refusal.new }
 {
     let a = lossy_copy(d, bases, out, set, lines, rs);
-    let n = stream::length_word(a);
-    let w = stream::length_refusal(a);
-    *size = n;
-    *refusal = w;
+    *size = stream::length_word(a);
+    *refusal = stream::length_refusal(a);
 }

@@ -39,10 +39,8 @@ pub extern "C" fn fuji_decode_region(
         width,
         height,
     };
-    let t = *tile;
-    let a = decode_region(d, r, t, image, lines, rs);
-    let w = answer_words(a);
-    *refusal = w;
+    let a = decode_region(d, r, *tile, image, lines, rs);
+    *refusal = answer_words(a);
 }
 
 // `decode_region_windowed` for C.
@@ -71,10 +69,8 @@ pub extern "C" fn fuji_decode_region_windowed(
         width,
         height,
     };
-    let t = *tile;
-    let a = decode_region_windowed(d, r, t, image, lines, rs);
-    let w = answer_words(a);
-    *refusal = w;
+    let a = decode_region_windowed(d, r, *tile, image, lines, rs);
+    *refusal = answer_words(a);
 }
 
 // An answer and the entries, as words.
@@ -115,10 +111,9 @@ pub extern "C" fn fuji_decode_region_shared(
         width,
         height,
     };
-    let t = *tile;
     let c = cameras::camera_in(camera);
     let held = cameras::entries_in(entries);
-    let a = decode_region_shared(c, held, d, r, t, image, lines, rs);
+    let a = decode_region_shared(c, held, d, r, *tile, image, lines, rs);
     put_shared(entries, refusal, a);
 }
 
@@ -127,12 +122,10 @@ pub extern "C" fn fuji_decode_region_shared(
 pub extern "C" fn fuji_end_stream(camera: u32, entries: &mut [u32; 128])
     ensures { AreWords (given_back (camera_in camera) (entries_in entries.old)) entries.new }
 {
-    let given = *entries;
     let c = cameras::camera_in(camera);
-    let held = cameras::entries_in(&given);
+    let held = cameras::entries_in(entries);
     let left = cameras::end_stream(c, held);
-    let words = cameras::words_of(left);
-    *entries = words;
+    *entries = cameras::words_of(left);
 }
 
 // `decode` for C.
@@ -152,8 +145,6 @@ pub extern "C" fn fuji_decode(
         let begins = image_begins d.now width height (length before.image) (length before.lines) (length before.records) in
         Told d.now (whole_of width height) tile.now begins before after refusal.new }
 {
-    let t = *tile;
-    let a = decode(d, width, height, t, image, lines, rs);
-    let w = answer_words(a);
-    *refusal = w;
+    let a = decode(d, width, height, *tile, image, lines, rs);
+    *refusal = answer_words(a);
 }

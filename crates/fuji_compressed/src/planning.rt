@@ -14,10 +14,8 @@ pub extern "C" fn fuji_length_bound(header: &[u8], size: &mut [usize; 1], refusa
         (size.new ≡ length_word answer) × (refusal.new ≡ length_refusal answer) }
 {
     let x = stream::length_bound(header);
-    let w = stream::length_word(x);
-    *size = w;
-    let r = stream::length_refusal(x);
-    *refusal = r;
+    *size = stream::length_word(x);
+    *refusal = stream::length_refusal(x);
 }
 
 fn listed_words(a: Listed) -> [usize; 1]
@@ -51,10 +49,8 @@ pub extern "C" fn fuji_short_codes(
     ensures { ToldSheet depth k longest list.old list.new count.new refusal.new }
 {
     let x = short_codes::short_codes(depth, k, longest, list);
-    let w = listed_words(x);
-    *count = w;
-    let r = listed_refusal(x);
-    *refusal = r;
+    *count = listed_words(x);
+    *refusal = listed_refusal(x);
 }
 
 fn planned_refusal(a: Planned) -> [usize; 4]
@@ -77,6 +73,5 @@ pub extern "C" fn fuji_plan_bases(
     ensures { ToldPlan header.now plan.now bases.old bases.new refusal.new }
 {
     let x = base_plan::plan_bases(header, plan, bases);
-    let r = planned_refusal(x);
-    *refusal = r;
+    *refusal = planned_refusal(x);
 }

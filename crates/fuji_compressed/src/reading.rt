@@ -36,10 +36,8 @@ pub extern "C" fn fuji_read_block(
         ToldRead d.now b before after totals.new refusal.new }
 {
     let a = read_block(d, b, lines, rs);
-    let t = totals_words(a);
-    let w = counted_refusal(a);
-    *totals = t;
-    *refusal = w;
+    *totals = totals_words(a);
+    *refusal = counted_refusal(a);
 }
 
 // `read_tight` for C.
@@ -57,8 +55,6 @@ pub extern "C" fn fuji_read_tight(
         ToldTight d.now b before after totals.new refusal.new }
 {
     let a = read_tight(d, b, lines, rs);
-    let t = totals_words(a);
-    let w = counted_refusal(a);
-    *totals = t;
-    *refusal = w;
+    *totals = totals_words(a);
+    *refusal = counted_refusal(a);
 }

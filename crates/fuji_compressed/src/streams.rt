@@ -67,10 +67,8 @@ pub extern "C" fn fuji_parse(d: &[u8], header: &mut [usize; 9], refusal: &mut [u
         × (refusal.new ≡ parsed_refusal (parse_of d.now)) }
 {
     let x = FujiHeader::parse(d);
-    let w = parsed_words(x);
-    *header = w;
-    let r = parsed_refusal(x);
-    *refusal = r;
+    *header = parsed_words(x);
+    *refusal = parsed_refusal(x);
 }
 
 // The header of a stream that opens.
@@ -80,10 +78,8 @@ pub extern "C" fn fuji_open(d: &[u8], header: &mut [usize; 9], refusal: &mut [us
         × (refusal.new ≡ parsed_refusal (open_of d.now)) }
 {
     let x = stream::open(d);
-    let w = parsed_words(x);
-    *header = w;
-    let r = parsed_refusal(x);
-    *refusal = r;
+    *header = parsed_words(x);
+    *refusal = parsed_refusal(x);
 }
 
 // The columns of block i.
@@ -98,10 +94,8 @@ pub extern "C" fn fuji_block_width(
         (width.new ≡ width_words answer) × (refusal.new ≡ width_refusal answer) }
 {
     let x = stream::block_width(d, i);
-    let w = width_words(x);
-    *width = w;
-    let r = width_refusal(x);
-    *refusal = r;
+    *width = width_words(x);
+    *refusal = width_refusal(x);
 }
 
 // Where block b lies in the stream: an offset and a length.
@@ -116,10 +110,8 @@ pub extern "C" fn fuji_block_range(
         × (refusal.new ≡ ranged_refusal (range_of d.now b)) }
 {
     let x = stream::block_range(d, b);
-    let w = ranged_words(x);
-    *range = w;
-    let r = ranged_refusal(x);
-    *refusal = r;
+    *range = ranged_words(x);
+    *refusal = ranged_refusal(x);
 }
 
 // Where the base row of block b lies in the stream.
@@ -134,8 +126,6 @@ pub extern "C" fn fuji_base_row_range(
         × (refusal.new ≡ ranged_refusal (row_of d.now b)) }
 {
     let x = stream::base_row_range(d, b);
-    let w = ranged_words(x);
-    *range = w;
-    let r = ranged_refusal(x);
-    *refusal = r;
+    *range = ranged_words(x);
+    *refusal = ranged_refusal(x);
 }

@@ -21,10 +21,8 @@ pub extern "C" fn fuji_write_block(
         ToldWritten header.now samples.now before after size.new refusal.new }
 {
     let a = write_block(header, samples, out, lines, rs);
-    let n = stream::length_word(a);
-    let w = stream::length_refusal(a);
-    *size = n;
-    *refusal = w;
+    *size = stream::length_word(a);
+    *refusal = stream::length_refusal(a);
 }
 
 // `write_lossy` for C.
@@ -44,10 +42,8 @@ pub extern "C" fn fuji_write_lossy(
         ToldLossy header.now bases.now samples.now before after size.new refusal.new }
 {
     let a = write_lossy(header, bases, samples, out, lines, rs);
-    let n = stream::length_word(a);
-    let w = stream::length_refusal(a);
-    *size = n;
-    *refusal = w;
+    *size = stream::length_word(a);
+    *refusal = stream::length_refusal(a);
 }
 
 // `measure_block` for C.
@@ -65,8 +61,6 @@ pub extern "C" fn fuji_measure_block(
         ToldMeasured header.now samples.now before after size.new refusal.new }
 {
     let a = measure_block(header, samples, lines, rs);
-    let n = stream::length_word(a);
-    let w = stream::length_refusal(a);
-    *size = n;
-    *refusal = w;
+    *size = stream::length_word(a);
+    *refusal = stream::length_refusal(a);
 }

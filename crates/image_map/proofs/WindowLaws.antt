@@ -5,12 +5,11 @@ use mathlib.Core.Logic.{◌≢◌}
 use mathlib.Core.Path.{◌≡◌, refl, sym, ◌∙◌}
 use Prim.Native.Nat.{ℕ, ◌+◌, ◌-◌, ◌*◌, ◌/◌, ◌%◌, ◌≤◌, ◌<◌}
 use native.Mathlib.Omega.{arith}
-use borrow.Author.Tests.{le-leb, lt-ltb, le-ltb, leb-true, ltb-true, eq-eqb, ne_eqb, eqb-true}
+use borrow.Author.Tests.{le-leb, lt-ltb, leb-true, ltb-true, eq-eqb, eqb-true}
 use lib.Dec.{leb, ltb, eqb}
 use lib.ListN.{length, get_or, set, length-set}
 use lib.Seq.{get_or-set_same, get_or-set_other}
 use Rattle.numbers.proofs.BoolLaws.{both}
-use Rattle.numbers.proofs.OrderLaws.{split}
 use Rattle.image_map.specs.Places.{colour_line, sample_index, Changed}
 use Rattle.image_map.specs.Inside.{picture_row, in_rows, emitted_sample, Fits}
 use Rattle.image_map.specs.Windows.{block_column, cell_of, colour_of, window_sample, ColumnEmitted, CellEmitted, CellsEmitted, ColourEmitted, PassEmitted}
@@ -173,41 +172,7 @@ module _ (tile : List ℕ) (a : Part) (n k l : ℕ) where
 
 -- ---- one cell after the other
 
-three : (p q s t : Bool) (x y : ℕ) → cond (p && s && q) x (cond (p && t && q) x y) ≡ cond (p && (s || t) && q) x y
-three true true true t x y = refl
-three true true false t x y = refl
-three true false true true x y = refl
-three true false true false x y = refl
-three true false false true x y = refl
-three true false false false x y = refl
-three false q s t x y = refl
-
-next_test : (c k : ℕ) → eqb c k || ltb c k ≡ ltb c (k + 1)
-next_test c k =
-    split c k
-    (λ h. by_test (eqb c k) (λ e. let is = eqb-true c k e in rw (e, lt-ltb c (k + 1) (omega arith)))
-    (λ e. let ne : c ≢ k = λ m. never _ (eq-eqb c k m) e in rw (e, lt-ltb c k (omega (arith, ne)), lt-ltb c (k + 1) (omega arith))))
-    (λ h. rw (ne_eqb c k (λ m. omega arith), le-ltb c k (omega arith), le-ltb c (k + 1) (omega arith)))
-
 module _ (xtrans : Bool) (W : ℕ) (tile lines : List ℕ) (a : Part) (n l slot : ℕ) where
-  pub cells_none : (image : List ℕ) → CellsEmitted xtrans W tile lines a n 0 l slot image image
-  cells_none image =
-      changed_none _ _ image (λ i e.
-      let p = both (in_rows a (6 * n) (6 * n + 6) i && ltb (cell_of a i) 0) (eqb (colour_of tile a i) l) e in
-      let q = both (in_rows a (6 * n) (6 * n + 6) i) (ltb (cell_of a i) 0) p.0 in
-      omega (arith, ltb-true (cell_of a i) 0 q.1))
-
-  pub cells_more : (k : ℕ) (x y z : List ℕ) → CellsEmitted xtrans W tile lines a n k l slot x y → CellEmitted xtrans W tile lines a n k l slot y z
-      → CellsEmitted xtrans W tile lines a n (k + 1) l slot x z
-  cells_more k x y z c d =
-      record {
-        kept = d.kept ∙ c.kept;
-        entries =
-            λ i. d.entries i
-            ∙ rw (c.entries i, ← next_test (cell_of a i) k)
-            (three (in_rows a (6 * n) (6 * n + 6) i) (eqb (colour_of tile a i) l) (eqb (cell_of a i) k) (ltb (cell_of a i) k) _ _);
-      }
-
   cell_small : (i : ℕ) → cell_of a i < 36
   unfolding cell_of
   cell_small i = omega arith

@@ -57,10 +57,8 @@ pub fn emit_line(
     requires are_places { ArePlaces places.now × Fits part image.old }
     ensures { Emitted xtrans w tile lines.now part n image.old image.new }
 {
-    let mut r = 0usize;
-    while r < 6 {
+    for r in 0..6 {
         emit_part_row(lines, image, w, xtrans, places, tile, part, n, r);
-        r += 1;
     }
 }
 
@@ -111,10 +109,8 @@ fn emit_column(
     requires are_places { ArePlaces places.now }
     ensures { ColumnEmitted xtrans lines.now start c left right at image.old image.new }
 {
-    let mut p = first_column(left, c);
-    while p < right {
+    for p in (first_column(left, c)..right).step_by(6) {
         image[at + (p - left)] = lines[start + crate::place_in(xtrans, places, p)];
-        p += 6;
     }
 }
 
@@ -183,10 +179,8 @@ fn emit_colour(
     requires are_places { ArePlaces places.now × Fits part image.old }
     ensures { ColourEmitted xtrans w tile lines.now part n l slot image.old image.new }
 {
-    let mut k = 0usize;
-    while k < 36 {
+    for k in 0..36 {
         emit_cell(lines, image, w, xtrans, places, tile, part, n, k, l, slot);
-        k += 1;
     }
 }
 

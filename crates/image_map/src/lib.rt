@@ -42,12 +42,13 @@ pub fn xtrans_places() -> [u16; 768]
     XTRANS_PLACES
 }
 
+#[tactic(auto, unfolding(crate::specs::Places::place_in))]
 pub fn place_in(xtrans: bool, places: &[u16; 768], p: usize) -> usize
     requires { (p < 768) × ArePlaces places.now }
     ensures { result ≡ place_in xtrans p }
 {
     if xtrans {
-        return numbers::u16_to_usize(places[p]);
+        return usize::from(places[p]);
     }
     p / 2
 }

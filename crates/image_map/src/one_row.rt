@@ -118,6 +118,8 @@ pub fn emit_row(
     ensures { RowEmitted xtrans w tile lines.now r left right at image.old image.new }
 {
     let starts = starts_of(tile, r, w + 2);
+
+    // No `for`: the steps are six columns, where a whole tile begins, and else one.
     let mut column = left % 6;
     let mut p = left;
     while p < right {

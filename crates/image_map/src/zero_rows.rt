@@ -24,12 +24,7 @@ fn zero_row(image: &mut [u16], part: Part, row: usize)
         return;
     }
     let at = (row - top) * stride + start;
-    let count = right - left;
-    let mut j = 0usize;
-    while j < count {
-        image[at + j] = 0;
-        j += 1;
-    }
+    image[at..at + (right - left)].fill(0);
 }
 
 // The rows of line n that the part has, all 0, where that is wanted.
@@ -40,9 +35,7 @@ pub fn zero_line(image: &mut [u16], part: Part, n: usize, wanted: bool)
     if !wanted {
         return;
     }
-    let mut r = 0usize;
-    while r < 6 {
+    for r in 0..6 {
         zero_row(image, part, 6 * n + r);
-        r += 1;
     }
 }

@@ -6,10 +6,7 @@ ghost use Rattle.image_region.specs.Regions.{saturated, right_of, bottom_of, is_
 ghost use Rattle.image_region.specs.Inside.{part_in};
 
 use image_map::Part;
-use numbers::{saturating_sub_usize, smaller_usize};
 use stream::{FujiHeader, Refusal};
-
-const LARGEST: usize = 0xFFFF_FFFF_FFFF_FFFF;
 
 // A region: its first column and row, and its size.
 #[derive(Clone, Copy)]
@@ -36,29 +33,19 @@ pub enum Checked {
     Touched(Span),
 }
 
-// a + b, or the largest number where the sum is more.
-fn saturating_add(a: usize, b: usize) -> usize
-    ensures { result ≡ saturated a b }
-{
-    if LARGEST - a < b {
-        return LARGEST;
-    }
-    a + b
-}
-
 impl Rect {
     // The first column that is not the region's.
     pub fn right(self) -> usize
         ensures { result ≡ right_of self }
     {
-        saturating_add(self.x, self.width)
+        self.x.saturating_add(self.width)
     }
 
     // The first row that is not the region's.
     pub fn bottom(self) -> usize
         ensures { result ≡ bottom_of self }
     {
-        saturating_add(self.y, self.height)
+        self.y.saturating_add(self.height)
     }
 }
 
@@ -87,6 +74,7 @@ fn is_outside(h: FujiHeader, r: Rect, image_length: usize) -> bool
 }
 
 // The blocks and lines of a region that is not empty.
+#[tactic(auto, unfolding(crate::specs::Regions::span_of))]
 pub fn span_of(r: Rect) -> Span
     requires { (1 ≤ r.width) × (1 ≤ r.height) }
     ensures { result ≡ span_of r }
@@ -114,6 +102,7 @@ pub fn check(h: FujiHeader, r: Rect, image_length: usize) -> Checked
 }
 
 // The part of the region's image that block b fills.
+#[tactic(auto, unfolding(crate::specs::Inside::part_in))]
 pub fn part(r: Rect, b: usize) -> Part
     requires { b < 2 ^ 32 }
     ensures { result ≡ part_in r b }
@@ -121,9 +110,9 @@ pub fn part(r: Rect, b: usize) -> Part
     let x = r.x;
     let first = 768 * b;
     Part {
-        left: saturating_sub_usize(x, first),
-        right: smaller_usize(saturating_sub_usize(r.right(), first), 768),
-        start: saturating_sub_usize(first, x),
+        left: x.saturating_sub(first),
+        right: r.right().saturating_sub(first).min(768),
+        start: first.saturating_sub(x),
         stride: r.width,
         top: r.y,
         bottom: r.bottom(),

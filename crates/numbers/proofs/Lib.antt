@@ -4,3 +4,4 @@ pub mod LeastLaws
 pub mod BoolLaws
 pub mod FillLaws
 pub mod TableLaws
+pub mod FlagLaws

@@ -2,7 +2,7 @@
 // begins, and so is the upper half of what an odd one needs. It is made here in loops that LLVM makes eight lanes wide.
 #![tactic(auto)]
 
-ghost use Rattle.std.specs.Prelude.{◌≡◌, cond, ◌+◌, ◌-◌, ◌*◌, ◌/◌, ◌%◌, ◌^◌, ◌≤◌, ◌<◌, min, ltb, length, get_or};
+ghost use Rattle.std.specs.Prelude.{◌≡◌, ◌+◌, ◌-◌, ◌*◌, ◌/◌, ◌%◌, ◌^◌, ◌≤◌, ◌<◌, ltb, length, get_or};
 ghost use Rattle.numbers.specs.Numbers.{distance, minus, flag};
 ghost use Rattle.quantiser.specs.Quantisers.{level_size};
 ghost use Rattle.quantiser.specs.Inside.{Serves};
@@ -14,38 +14,15 @@ ghost use Rattle.pass_ahead.specs.Looks.{packed_look, look_by, marks_of, bounds_
 ghost use Rattle.pass_ahead.specs.Odds.{rc_at, rb_at, rd_at, Beyond, Upper, Continued, AimsAt, LossyAims, ByFlatness};
 ghost use Rattle.pass_ahead.specs.Arrays.{Filled, Second, After, Rows, AheadRow, Ahead};
 
-use numbers::{Signed, u16_to_u32};
+use numbers::Signed;
 use quantiser::Thresholds;
 
 mod records;
 
 pub use records::{by_slot, digits_table, next_table, sample_by, update_by};
 
-// ---- numbers of 16 bits
-
-fn flag16(b: bool) -> u16
-    ensures { (result ≡ flag b) × (result ≤ 1) }
-{
-    b as u16
-}
-
-fn pick16(test: bool, a: u16, b: u16) -> u16
-    ensures { result ≡ cond test a b }
-{
-    if test { a } else { b }
-}
-
-fn distance16(a: u16, b: u16) -> u16
-    ensures { result ≡ distance a b }
-{
-    if a < b { b - a } else { a - b }
-}
-
-fn smaller16(a: u16, b: u16) -> u16
-    ensures { (result ≡ min a b) × (result ≤ a) }
-{
-    if a < b { a } else { b }
-}
+// ---- numbers of 16 bits. Some of the functions stand in 32 bits too, in prediction, quantiser, code and pass_steps. One generic function for both would need
+// a trait of arithmetic with laws, and is no plainer; and in 32 bits the loops are only four lanes wide.
 
 // Half of a sum that need not have 16 bits.
 fn half_sum(a: u16, b: u16) -> u16
@@ -72,13 +49,13 @@ fn is_extreme(rb: u16, rc: u16, rd: u16) -> bool
 fn even_prediction(rf: u16, rc: u16, rb: u16, rd: u16) -> u16
     ensures { result ≡ even_prediction rf rc rb rd }
 {
-    let f = distance16(rb, rf);
-    let c = distance16(rc, rb);
-    let d = distance16(rd, rb);
+    let f = rb.abs_diff(rf);
+    let c = rc.abs_diff(rb);
+    let d = rd.abs_diff(rb);
     let no_c = is_most(c, f, d);
     let no_d = is_most(d, f, c);
-    let x = pick16(no_c, rd, rc);
-    let y = pick16(no_c | no_d, rf, rd);
+    let x = numbers::pick(no_c, rd, rc);
+    let y = numbers::pick(no_c | no_d, rf, rd);
     half_sum(half_sum(x, y), rb)
 }
 
@@ -108,7 +85,7 @@ fn level_size16(used: u16, t: Marks, m: u16) -> u16
     requires { Marked used t m }
     ensures { (result ≡ level_size used m) × (result ≤ 4) }
 {
-    flag16(used < m) + flag16(t.second < m) + flag16(t.third < m) + flag16(t.fourth < m)
+    u16::from(used < m) + u16::from(t.second < m) + u16::from(t.third < m) + u16::from(t.fourth < m)
 }
 
 // The level of a - b, plus 4.
@@ -116,7 +93,7 @@ fn raised16(used: u16, t: Marks, a: u16, b: u16) -> u16
     requires { Marked used t (distance a b) }
     ensures { Raised used (minus a b) result × (result ≤ 8) }
 {
-    let size = level_size16(used, t, distance16(a, b));
+    let size = level_size16(used, t, a.abs_diff(b));
     if a < b { 4 - size } else { 4 + size }
 }
 
@@ -125,7 +102,7 @@ fn packed(raised: u16, middle: u16, place: u16) -> u16
     requires { (raised ≤ 80) × ((middle ≤ 40) × (place ≤ 51)) }
     ensures { result ≡ 2 * (place + distance raised middle) + flag (ltb raised middle) }
 {
-    2 * (place + distance16(raised, middle)) + flag16(raised < middle)
+    2 * (place + raised.abs_diff(middle)) + u16::from(raised < middle)
 }
 
 // The look of an even position in a lossless line.
@@ -147,9 +124,9 @@ struct Bounds {
 fn bounds_of(base: u16) -> Bounds
     ensures { result ≡ bounds_of base }
 {
-    let first = pick16(base < 1, 0, 6);
-    let second = pick16(base < 2, first, 7);
-    let third = pick16(base < 3, second, 8);
+    let first = numbers::pick(base < 1, 0, 6);
+    let second = numbers::pick(base < 2, first, 7);
+    let third = numbers::pick(base < 3, second, 8);
     Bounds {
         first,
         second,
@@ -160,7 +137,10 @@ fn bounds_of(base: u16) -> Bounds
 fn choice16(b: Bounds, flatness: u16) -> u16
     ensures { (result ≡ reached_of b flatness) × (result ≤ 3) }
 {
-    (flag16(b.first <= flatness) + flag16(b.second <= flatness) + flag16(b.third <= flatness) + 1)
+    (u16::from(b.first <= flatness)
+        + u16::from(b.second <= flatness)
+        + u16::from(b.third <= flatness)
+        + 1)
         % 4
 }
 
@@ -199,7 +179,7 @@ fn lossy_packed(t: Marks, b: Bounds, rf: u16, rc: u16, rb: u16) -> u16
     requires { (t ≡ marks_of t.base) × (b ≡ bounds_of t.base) }
     ensures { result ≡ packed_look (look_by t.base (minus rb rf) (minus rc rb)) }
 {
-    let flatness = smaller16(8, distance16(rb, rf)) + smaller16(8, distance16(rc, rb));
+    let flatness = rb.abs_diff(rf).min(8) + rc.abs_diff(rb).min(8);
     packed_by(t, choice16(b, flatness), rf, rc, rb)
 }
 
@@ -210,7 +190,7 @@ fn flat_part(choice: u16, rb: u16, rc: u16) -> u16
     requires { 1 ≤ choice }
     ensures { (distance rb rc ≤ 7 → Part 3 (choice - 1) (minus rb rc) result) × (result ≤ 39) }
 {
-    let size = 3 * flag16(choice <= distance16(rb, rc));
+    let size = 3 * u16::from(choice <= rb.abs_diff(rc));
     if rb < rc { 36 - size } else { 36 + size }
 }
 
@@ -238,10 +218,10 @@ pub fn odd_prediction_at(lines: &[u16], s: usize, i: usize, ahead: &[u16; 432], 
     ensures { (result ≡ (odd_at lines.now s i).prediction) × (result < 2 ^ 16) }
 {
     odd_prediction(
-        u16_to_u32(lines[i]),
-        u16_to_u32(lines[i + 2]),
-        u16_to_u32(ahead[96 + h]),
-        u16_to_u32(ahead[144 + h]),
+        u32::from(lines[i]),
+        u32::from(lines[i + 2]),
+        u32::from(ahead[96 + h]),
+        u32::from(ahead[144 + h]),
     )
 }
 
@@ -268,13 +248,13 @@ fn lossy_aim(
     requires by_flatness { ByFlatness base flatness.now }
     ensures { LossyAims base ahead.now h size (minus rc ra) result }
 {
-    let j = numbers::smaller(8, size + numbers::distance(rc, ra)) as usize;
+    let j = (size + rc.abs_diff(ra)).min(8) as usize;
     let row = flatness[j] as usize;
     let t = quantiser::thresholds_of(base).with_base(flatness[18 + j]);
-    let g = gradient_with(t, u16_to_u32(ahead[row + h]), rc, ra);
+    let g = gradient_with(t, u32::from(ahead[row + h]), rc, ra);
     Aim {
         slot: (flatness[9 + j] + g.size) as usize,
-        flip: numbers::flag(g.negative),
+        flip: u32::from(g.negative),
     }
 }
 
@@ -293,50 +273,35 @@ pub fn odd_aim_at(
     requires upper { Upper base (minus (rb_at lines.now s i) (rc_at lines.now s i)) ahead.now h }
     ensures { AimsAt (look_of base (odd_at lines.now s i)) result }
 {
-    let ra = u16_to_u32(lines[i]);
-    let rc = u16_to_u32(lines[i - s]);
+    let ra = u32::from(lines[i]);
+    let rc = u32::from(lines[i - s]);
     if base == 0 {
         let g = gradient_with(
             quantiser::thresholds_of(0),
-            u16_to_u32(ahead[192 + h]),
+            u32::from(ahead[192 + h]),
             rc,
             ra,
         );
         return Aim {
             slot: g.size as usize + 56,
-            flip: numbers::flag(g.negative),
+            flip: u32::from(g.negative),
         };
     }
-    lossy_aim(base, flatness, ahead, h, u16_to_u32(ahead[384 + h]), rc, ra)
+    lossy_aim(base, flatness, ahead, h, u32::from(ahead[384 + h]), rc, ra)
 }
 
 // ---- lists by flatness and by record
-
-fn first_slot(choice: u32) -> u32
-    requires { choice ≤ 3 }
-    ensures { result ≡ 56 + place_of choice 0 }
-{
-    if choice == 0 { 56 } else { 92 + 5 * choice }
-}
-
-fn used_base(choice: u32, base: u32) -> u32
-    ensures { result ≡ used_base base choice }
-{
-    if choice == 0 { base } else { choice - 1 }
-}
 
 // What a flatness decides for an odd position, 8 at most: at j its row of what is known ahead, at 9 + j the first of its quantiser's records, at 18 + j the base.
 pub fn by_flatness(base: u32) -> [u32; 27]
     ensures { ByFlatness base result }
 {
     let mut r = [0u32; 27];
-    let mut j = 0usize;
-    while j < 9 {
+    for j in 0..9 {
         let choice = code::choice(base, j as u32);
         r[j] = 192 + 48 * choice;
-        r[9 + j] = first_slot(choice);
-        r[18 + j] = used_base(choice, base);
-        j += 1;
+        r[9 + j] = (56 + pass_steps::place_of(choice, 0)) as u32;
+        r[18 + j] = pass_steps::used_base(choice, base);
     }
     r
 }
@@ -348,10 +313,8 @@ fn take_every_second(lines: &[u16], from: usize, n: usize, out: &mut [u16; 56])
     requires { (n ≤ 56) × ((from + 2 * n ≤ length lines.now + 1) × (length out.old ≡ 56)) }
     ensures { Filled 56 (Second lines.now from) n out.new }
 {
-    let mut i = 0usize;
-    while i < n {
+    for i in 0..n {
         out[i] = lines[from + 2 * i];
-        i += 1;
     }
 }
 
@@ -362,12 +325,10 @@ fn split(lines: &[u16], from: usize, n: usize, odds: &mut [u16; 56], evens: &mut
     ensures filled { Filled 56 (Second lines.now from) n odds.new }
     ensures filled_2 { Filled 56 (After lines.now from) n evens.new }
 {
-    let mut i = 0usize;
-    while i < n {
+    for i in 0..n {
         let j = from + 2 * i;
         odds[i] = lines[j];
         evens[i] = lines[j + 1];
-        i += 1;
     }
 }
 
@@ -378,8 +339,7 @@ fn lossless(odds: &[u16; 56], evens: &[u16; 56], tops: &[u16; 56], n: usize, out
     ensures { Rows (AheadRow 0 odds.now evens.now tops.now) 5 n out.new }
 {
     let t = marks_of(0);
-    let mut i = 0usize;
-    while i < n {
+    for i in 0..n {
         let rf = tops[i];
         let rc = odds[i + 4];
         let rb = evens[i + 4];
@@ -388,10 +348,9 @@ fn lossless(odds: &[u16; 56], evens: &[u16; 56], tops: &[u16; 56], n: usize, out
         let rc = evens[i];
         let rb = odds[i + 1];
         let e = is_extreme(rb, rc, evens[i + 1]);
-        out[96 + i] = pick16(e, rb, 0);
-        out[144 + i] = 1 + flag16(e);
+        out[96 + i] = numbers::pick(e, rb, 0);
+        out[144 + i] = 1 + u16::from(e);
         out[192 + i] = 9 * raised16(0, t, rb, rc);
-        i += 1;
     }
 }
 
@@ -409,8 +368,7 @@ fn lossy(
 {
     let t = marks_of(base);
     let bounds = bounds_of(base);
-    let mut i = 0usize;
-    while i < n {
+    for i in 0..n {
         let rf = tops[i];
         let rc = odds[i + 4];
         let rb = evens[i + 4];
@@ -419,14 +377,13 @@ fn lossy(
         let rc = evens[i];
         let rb = odds[i + 1];
         let e = is_extreme(rb, rc, evens[i + 1]);
-        out[96 + i] = pick16(e, rb, 0);
-        out[144 + i] = 1 + flag16(e);
+        out[96 + i] = numbers::pick(e, rb, 0);
+        out[144 + i] = 1 + u16::from(e);
         out[192 + i] = 9 * raised16(base, t, rb, rc);
         out[240 + i] = flat_part(1, rb, rc);
         out[288 + i] = flat_part(2, rb, rc);
         out[336 + i] = flat_part(3, rb, rc);
-        out[384 + i] = smaller16(8, distance16(rb, rc));
-        i += 1;
+        out[384 + i] = rb.abs_diff(rc).min(8);
     }
 }
 

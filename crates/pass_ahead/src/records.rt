@@ -9,18 +9,12 @@ ghost use Rattle.pass_steps.specs.Values.{zip_records, SetInRange, AreKs};
 ghost use Rattle.pass_ahead.specs.Arrays.{Filled};
 ghost use Rattle.pass_ahead.specs.Tables.{AreNext, AreDigits, choice_at, Five, BySlot};
 
-use numbers::u8_to_u32;
-
 // Five entries from place `at` on.
 fn put_five(r: &mut [u16; 112], at: usize, v: u16)
     requires { (at ≤ 107) × (length r.old ≡ 112) }
     ensures { (length r.new ≡ 112) × Five at v r.old r.new }
 {
-    let mut i = at;
-    while i < at + 5 {
-        r[i] = v;
-        i += 1;
-    }
+    r[at..at + 5].fill(v);
 }
 
 // A number of each of the four quantisers, for each record of a set.
@@ -70,7 +64,7 @@ fn k_with(sum: u32, n: u32, digits: u32) -> u32
     ensures { result ≡ k_of (record { sum = sum; n = n }) }
 {
     let least = 31 - u32::leading_zeros(sum | n | 1) - digits;
-    numbers::smaller(15, least + numbers::flag(n << least < sum))
+    (least + u32::from(n << least < sum)).min(15)
 }
 
 // `pass_steps::update_with_k` of the record that is there, by lists for n.
@@ -94,11 +88,11 @@ pub fn update_by(
 {
     let n = ns[slot];
     let old = n as usize;
-    let sum = (sums[slot] + code::residual_size(code)) >> numbers::flag(n == 64);
-    let more = u8_to_u32(next[old]);
+    let sum = (sums[slot] + code::residual_size(code)) >> u32::from(n == 64);
+    let more = u32::from(next[old]);
     sums[slot] = sum;
     ns[slot] = more;
-    ks[slot] = k_with(sum, more, u8_to_u32(digits[old]));
+    ks[slot] = k_with(sum, more, u32::from(digits[old]));
 }
 
 // ---- a sample

@@ -1,50 +1,39 @@
 -- Rules. The order of the samples: the six passes of a line, and the steps of a pass.
 use Rattle.std.specs.Prelude.{Bool, true, false, cond, not, ◌&&◌, ◌||◌, List, [], ◌∷◌, ◌++◌, ℕ, zero, suc, ◌+◌, ◌-◌, ◌*◌, ◌/◌, ◌%◌, leb, ltb, eqb, get_or}
 use Rattle.pass_schedule.specs.declared.Plan.{Plan}
+use Rattle.pass_schedule.specs.declared.Rule.{Rule}
+use Rattle.pass_schedule.specs.declared.Rule.TheVariants.{Nowhere, At0Mod4, At2Mod4, Everywhere}
 
 -- a pass of X-Trans: its two colour lines, its statistics set, and the rule of each line
-abbrev pub plan : ℕ → ℕ → ℕ → ℕ → ℕ → Plan
+abbrev pub plan : ℕ → ℕ → ℕ → Rule → Rule → Plan
 plan first second set first_rule second_rule =
     record { first = first; second = second; set = set; first_rule = first_rule; second_rule = second_rule }
 
 -- a rule says which even positions p of a line are interpolated: none, those with p mod 4 = 0, those with p mod 4 = 2, or all
-unfoldable pub interpolated : ℕ → ℕ → Bool
-interpolated zero p = false
-interpolated (suc zero) p = eqb (p % 4) 0
-interpolated (suc (suc zero)) p = eqb (p % 4) 2
-interpolated (suc (suc (suc rule))) p = true
-
--- the rules by name
-abbrev pub none : ℕ
-none = 0
-
-abbrev pub at0mod4 : ℕ
-at0mod4 = 1
-
-abbrev pub at2mod4 : ℕ
-at2mod4 = 2
-
-abbrev pub all : ℕ
-all = 3
+unfoldable pub interpolated : Rule → ℕ → Bool
+interpolated Nowhere p = false
+interpolated At0Mod4 p = eqb (p % 4) 0
+interpolated At2Mod4 p = eqb (p % 4) 2
+interpolated Everywhere p = true
 
 -- the six passes of a line, in order
 abbrev pub plans : List Plan
 plans =
-    plan 2 7 0 all none
-    ∷ plan 8 15 1 none all
-    ∷ plan 3 9 2 at0mod4 all
-    ∷ plan 10 16 0 none at2mod4
-    ∷ plan 4 11 1 at2mod4 none
-    ∷ plan 12 17 2 all at0mod4
+    plan 2 7 0 Everywhere Nowhere
+    ∷ plan 8 15 1 Nowhere Everywhere
+    ∷ plan 3 9 2 At0Mod4 Everywhere
+    ∷ plan 10 16 0 Nowhere At2Mod4
+    ∷ plan 4 11 1 At2Mod4 Nowhere
+    ∷ plan 12 17 2 Everywhere At0Mod4
     ∷ []
 
 -- past the end
 abbrev pub no_plan : Plan
-no_plan = plan 0 0 0 none none
+no_plan = plan 0 0 0 Nowhere Nowhere
 
 -- Bayer codes all positions
 abbrev pub coded_all : Plan → Plan
-coded_all P = plan P.first P.second P.set none none
+coded_all P = plan P.first P.second P.set Nowhere Nowhere
 
 -- pass i of a line
 unfoldable pub plan_of : Bool → ℕ → Plan

@@ -4,14 +4,14 @@
 ghost use Rattle.std.specs.Prelude.{◌≡◌, true, not, ◌<◌};
 ghost use Rattle.pass_schedule.specs.Steps.{interpolated, plan_of, is_interpolated};
 
-// Which even positions p of a line are interpolated, and so have no code.
-const NONE: u32 = 0;
-
-const AT_0_MOD_4: u32 = 1;
-
-const AT_2_MOD_4: u32 = 2;
-
-const ALL: u32 = 3;
+// Which even positions p of a line are interpolated, and so have no code: none, those with p mod 4 = 0, those with p mod 4 = 2, or all.
+#[derive(Clone, Copy)]
+pub enum Rule {
+    Nowhere,
+    At0Mod4,
+    At2Mod4,
+    Everywhere,
+}
 
 // A pass: the numbers of its two colour lines, its statistics set, and the rule of each line.
 #[derive(Clone, Copy)]
@@ -19,8 +19,8 @@ pub struct Plan {
     pub first: usize,
     pub second: usize,
     pub set: usize,
-    pub first_rule: u32,
-    pub second_rule: u32,
+    pub first_rule: Rule,
+    pub second_rule: Rule,
 }
 
 const PASSES: [Plan; 6] = [
@@ -28,43 +28,43 @@ const PASSES: [Plan; 6] = [
         first: 2,
         second: 7,
         set: 0,
-        first_rule: ALL,
-        second_rule: NONE,
+        first_rule: Rule::Everywhere,
+        second_rule: Rule::Nowhere,
     },
     Plan {
         first: 8,
         second: 15,
         set: 1,
-        first_rule: NONE,
-        second_rule: ALL,
+        first_rule: Rule::Nowhere,
+        second_rule: Rule::Everywhere,
     },
     Plan {
         first: 3,
         second: 9,
         set: 2,
-        first_rule: AT_0_MOD_4,
-        second_rule: ALL,
+        first_rule: Rule::At0Mod4,
+        second_rule: Rule::Everywhere,
     },
     Plan {
         first: 10,
         second: 16,
         set: 0,
-        first_rule: NONE,
-        second_rule: AT_2_MOD_4,
+        first_rule: Rule::Nowhere,
+        second_rule: Rule::At2Mod4,
     },
     Plan {
         first: 4,
         second: 11,
         set: 1,
-        first_rule: AT_2_MOD_4,
-        second_rule: NONE,
+        first_rule: Rule::At2Mod4,
+        second_rule: Rule::Nowhere,
     },
     Plan {
         first: 12,
         second: 17,
         set: 2,
-        first_rule: ALL,
-        second_rule: AT_0_MOD_4,
+        first_rule: Rule::Everywhere,
+        second_rule: Rule::At0Mod4,
     },
 ];
 
@@ -78,23 +78,21 @@ pub fn plan_at(i: usize, xtrans: bool) -> Plan
         return p;
     }
     Plan {
-        first: p.first,
-        second: p.second,
-        set: p.set,
-        first_rule: NONE,
-        second_rule: NONE,
+        first_rule: Rule::Nowhere,
+        second_rule: Rule::Nowhere,
+        ..p
     }
 }
 
 // Whether an even position p has a code, by the rule of its line.
-pub fn has_code(rule: u32, p: usize) -> bool
+pub fn has_code(rule: Rule, p: usize) -> bool
     ensures { result ≡ not (interpolated rule p) }
 {
     match rule {
-        NONE => true,
-        AT_0_MOD_4 => p % 4 != 0,
-        AT_2_MOD_4 => p % 4 != 2,
-        _ => false,
+        Rule::Nowhere => true,
+        Rule::At0Mod4 => p % 4 != 0,
+        Rule::At2Mod4 => p % 4 != 2,
+        Rule::Everywhere => false,
     }
 }
 

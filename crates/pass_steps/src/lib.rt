@@ -1,7 +1,7 @@
 // Document 01, Pass and line: what reading and writing a pass share: the context of a sample, its quantiser and its record.
 #![tactic(auto)]
 
-ghost use Rattle.std.specs.Prelude.{◌≡◌, ◌+◌, ◌*◌, ◌^◌, ◌≤◌, ◌<◌, length, get_or, set};
+ghost use Rattle.std.specs.Prelude.{◌≡◌, ◌+◌, ◌*◌, ◌^◌, ◌≤◌, ◌<◌, max, length, get_or, set};
 ghost use Rattle.statistics.specs.Statistics.{updated};
 ghost use Rattle.statistics.specs.Inside.{InRange};
 ghost use Rattle.prediction.specs.Inside.{ContextRanges};
@@ -10,7 +10,6 @@ ghost use Rattle.code.specs.Samples.{residual_of, choice_of};
 ghost use Rattle.pass_steps.specs.Contexts.{used_base, used_weight, place_of, look_of, slot_of, no_record};
 ghost use Rattle.pass_steps.specs.Values.{zip_records, SetInRange, AreKs, even_at, odd_at, context_at};
 
-use numbers::u16_to_u32;
 use pass_schedule::Plan;
 use prediction::Context;
 use statistics::Record;
@@ -63,10 +62,10 @@ fn even_context(lines: &[u16], s: usize, i: usize) -> Context
     ensures { (result ≡ even_at lines.now s i) × ContextRanges result }
 {
     prediction::even(
-        u16_to_u32(lines[i + 1 - 2 * s]),
-        u16_to_u32(lines[i - s]),
-        u16_to_u32(lines[i + 1 - s]),
-        u16_to_u32(lines[i + 2 - s]),
+        u32::from(lines[i + 1 - 2 * s]),
+        u32::from(lines[i - s]),
+        u32::from(lines[i + 1 - s]),
+        u32::from(lines[i + 2 - s]),
     )
 }
 
@@ -75,11 +74,11 @@ fn odd_context(lines: &[u16], s: usize, i: usize) -> Context
     ensures { (result ≡ odd_at lines.now s i) × ContextRanges result }
 {
     prediction::odd(
-        u16_to_u32(lines[i]),
-        u16_to_u32(lines[i + 2]),
-        u16_to_u32(lines[i + 1 - s]),
-        u16_to_u32(lines[i - s]),
-        u16_to_u32(lines[i + 2 - s]),
+        u32::from(lines[i]),
+        u32::from(lines[i + 2]),
+        u32::from(lines[i + 1 - s]),
+        u32::from(lines[i - s]),
+        u32::from(lines[i + 2 - s]),
     )
 }
 
@@ -94,9 +93,9 @@ pub fn context_at(lines: &[u16], s: usize, i: usize, p: usize) -> Context
     odd_context(lines, s, i)
 }
 
-fn used_base(choice: u32, base: u32) -> u32
-    requires { (choice ≤ 3) × (base < 256) }
-    ensures { (result ≡ used_base base choice) × (result < 256) }
+// The base of the quantiser that is chosen in a line with that base.
+pub fn used_base(choice: u32, base: u32) -> u32
+    ensures { (result ≡ used_base base choice) × (result ≤ max base choice) }
 {
     if choice == 0 { base } else { choice - 1 }
 }
@@ -107,7 +106,8 @@ fn used_weight(choice: u32) -> u32
     if choice == 0 { 9 } else { 3 }
 }
 
-fn place_of(choice: u32, size: u32) -> usize
+// Where a record stands among the 56 of its parity.
+pub fn place_of(choice: u32, size: u32) -> usize
     requires { (choice ≤ 3) × (size ≤ 40) }
     ensures { result ≡ place_of choice size }
 {
@@ -198,13 +198,11 @@ pub fn ks_of(sums: &[u32; 112], ns: &[u32; 112]) -> [u32; 112]
     ensures { AreKs (zip_records sums.now ns.now) result }
 {
     let mut ks = [0u32; 112];
-    let mut j = 0usize;
-    while j < 112 {
+    for j in 0..112 {
         let t = record_at(sums, ns, j);
         if t.n < t.sum {
             ks[j] = t.k_by_lengths();
         }
-        j += 1;
     }
     ks
 }

@@ -30,9 +30,9 @@ fn even_prediction(rf: u32, rc: u32, rb: u32, rd: u32) -> u32
     ensures { (result ≡ even_prediction rf rc rb rd) × (result < 2 ^ 16) }
 {
     // INLINING: in the order of the context's difference, so that LLVM computes the distance once.
-    let f = numbers::distance(rb, rf);
-    let c = numbers::distance(rc, rb);
-    let d = numbers::distance(rd, rb);
+    let f = rb.abs_diff(rf);
+    let c = rc.abs_diff(rb);
+    let d = rd.abs_diff(rb);
     (rf + rc + rd - dropped(rf, rc, rd, f, c, d) + 2 * rb) / 4
 }
 

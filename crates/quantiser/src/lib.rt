@@ -76,7 +76,7 @@ impl Quantiser {
         requires { self.total ≤ 2 ^ 16 }
         ensures { (result ≡ start_sum self) × (result ≤ 1024) }
     {
-        numbers::larger(2, (self.total + 32) / 64)
+        ((self.total + 32) / 64).max(2)
     }
 }
 
@@ -121,7 +121,7 @@ fn reached(threshold: u32, m: u32) -> u32
     requires { 1 ≤ threshold }
     ensures { (result ≡ flag (leb threshold m)) × (result ≤ 1) }
 {
-    numbers::flag(threshold - 1 < m)
+    u32::from(threshold - 1 < m)
 }
 
 // The size of the level of a difference of size m: the thresholds that it has reached, the first one passed, counted without a branch.

@@ -55,8 +55,7 @@ fn decode_blocks(
     let end = span.last + 1;
     let places = image_map::xtrans_places();
     let mut answer = Decoded::Done;
-    let mut b = span.first;
-    while b < end {
+    for b in span.first..end {
         let form = form_of(h);
         let block = stream::block_bytes(d, b);
         let bases = stream::base_row(d, b);
@@ -76,7 +75,6 @@ fn decode_blocks(
             cameras::no_entries(),
         );
         answer = judged(answer, b, got);
-        b = b + 1;
     }
     answer
 }

@@ -148,8 +148,7 @@ fn line(
     let xtrans = form.xtrans;
     let w = width(xtrans);
     let mut place = from;
-    let mut i: usize = 0;
-    while i < 6 {
+    for i in 0..6 {
         let p = pass_schedule::plan_at(i, xtrans);
         let h = read_pass::window_plan(p, windowed);
         colour_lines::enter(lines, w, h.first, h.second, windowed);
@@ -163,7 +162,6 @@ fn line(
         store_set(rs, p.set, new);
         place = done.place;
         emit_pass_at(lines, image, w, xtrans, places, tile, part, n, i, windowed);
-        i = i + 1;
     }
     let at = place.at;
     if is_past(block, at) {
@@ -205,8 +203,7 @@ pub fn read_lines(
     let w = width(xtrans);
     let mut place = from;
     let mut tight_lines = no_lines(totals_at(from));
-    let mut i: usize = 0;
-    while i < more {
+    for i in 0..more {
         let n = first + i;
         colour_lines::turn_if(lines, w, !windowed);
         let base = base_of(bases, n);
@@ -232,7 +229,6 @@ pub fn read_lines(
         place = after;
         tight_lines = line_totals::with_line(tight_lines, i, place.tight, totals_at(place));
         image_map::emit_line_if(lines, image, w, xtrans, places, tile, part, n, !windowed);
-        i = i + 1;
     }
     Walked::Read(totals_at(place), tight_lines)
 }

@@ -1,6 +1,5 @@
-// The 336 records, lent as a slice: what they start with, and the sets that passes work on. Only `fetch` and `update` touch an element.
-ghost use Rattle.std.specs.Prelude.{◌≡◌, cond, ◌%◌, ◌<◌, ltb, length, get_or, set};
-ghost use Rattle.pass_steps.specs.Contexts.{no_record};
+// The 336 records, lent as a slice: what they start with, and the sets that passes work on.
+ghost use Rattle.std.specs.Prelude.{◌≡◌, cond, ◌%◌, ◌<◌, ltb, length};
 ghost use Rattle.pass_steps.specs.Values.{records_of};
 ghost use Rattle.pass_steps.specs.Contexts.{Depth};
 ghost use Rattle.read_block.specs.Records.{start_record, start_records, restarted_main, set_of, put_set, clear_records};
@@ -46,30 +45,13 @@ pub fn cleared() -> Record
     Record { sum: 0, n: 1 }
 }
 
-fn fetch(rs: &mut [Record], i: usize) -> Record
-    requires { i < length rs.old }
-    ensures { (result ≡ get_or rs.old i no_record) × (rs.new ≡ rs.old) }
-{
-    rs[i]
-}
-
-pub fn update(rs: &mut [Record], i: usize, r: Record)
-    requires { i < length rs.old }
-    ensures { rs.new ≡ set rs.old i r }
-{
-    rs[i] = r;
-}
-
 // All records start.
 pub fn start_records(rs: &mut [Record], bits: u32, base: u32)
     requires { (length rs.old ≡ 336) × (Depth bits × (base < 256)) }
     ensures { rs.new ≡ start_records bits base }
 {
-    let mut j: usize = 0;
-    while j < 336 {
-        let r = start_record(bits, base, j);
-        update(rs, j, r);
-        j = j + 1;
+    for (j, r) in rs.iter_mut().enumerate() {
+        *r = start_record(bits, base, j);
     }
 }
 
@@ -78,12 +60,8 @@ fn restart_main(rs: &mut [Record], bits: u32, base: u32)
     requires { (length rs.old ≡ 336) × (Depth bits × (base < 256)) }
     ensures { rs.new ≡ restarted_main bits base rs.old }
 {
-    let mut j: usize = 0;
-    while j < 336 {
-        let old = fetch(rs, j);
-        let r = restarted_record(old, bits, base, j);
-        update(rs, j, r);
-        j = j + 1;
+    for (j, r) in rs.iter_mut().enumerate() {
+        *r = restarted_record(*r, bits, base, j);
     }
 }
 
@@ -102,26 +80,20 @@ pub fn clear_records(rs: &mut [Record])
     requires { length rs.old ≡ 336 }
     ensures { rs.new ≡ clear_records }
 {
-    let mut j: usize = 0;
-    while j < 336 {
-        update(rs, j, cleared());
-        j = j + 1;
-    }
+    rs.fill(cleared());
 }
 
 // Set g, for a pass.
-pub fn load_set(rs: &mut [Record], g: usize) -> Set
-    requires { (length rs.old ≡ 336) × (g < 3) }
-    ensures { (records_of result ≡ set_of g rs.old) × (rs.new ≡ rs.old) }
+pub fn load_set(rs: &[Record], g: usize) -> Set
+    requires { (length rs.now ≡ 336) × (g < 3) }
+    ensures { records_of result ≡ set_of g rs.now }
 {
     let mut sums = [0u32; 112];
     let mut ns = [0u32; 112];
-    let mut i: usize = 0;
-    while i < 112 {
-        let r = fetch(rs, 112 * g + i);
+    for i in 0..112 {
+        let r = rs[112 * g + i];
         sums[i] = r.sum;
         ns[i] = r.n;
-        i = i + 1;
     }
     Set { sums, ns }
 }
@@ -131,15 +103,10 @@ pub fn store_set(rs: &mut [Record], g: usize, set: Set)
     requires { (length rs.old ≡ 336) × (g < 3) }
     ensures { rs.new ≡ put_set g (records_of set) rs.old }
 {
-    let sums = set.sums;
-    let ns = set.ns;
-    let mut i: usize = 0;
-    while i < 112 {
-        let r = Record {
-            sum: sums[i],
-            n: ns[i],
+    for i in 0..112 {
+        rs[112 * g + i] = Record {
+            sum: set.sums[i],
+            n: set.ns[i],
         };
-        update(rs, 112 * g + i, r);
-        i = i + 1;
     }
 }

@@ -72,8 +72,7 @@ fn decode_shared_blocks(
     let bits = h.bits;
     let places = image_map::xtrans_places();
     let mut answer = Decoded::Done;
-    let mut b = span.first;
-    while b < end {
+    for b in span.first..end {
         let form = form_of(h);
         let block = stream::block_bytes(d, b);
         let bases = stream::base_row(d, b);
@@ -104,7 +103,6 @@ fn decode_shared_blocks(
             };
         }
         answer = judged(answer, b, got);
-        b = b + 1;
     }
     SharedAnswer {
         answer,

@@ -61,9 +61,7 @@ pub fn window_plan(p: Plan, windowed: bool) -> Plan
         return Plan {
             first: window_line(p.first),
             second: window_line(p.second),
-            set: p.set,
-            first_rule: p.first_rule,
-            second_rule: p.second_rule,
+            ..p
         };
     }
     p
@@ -215,8 +213,7 @@ fn chunk(
     let mut at = from;
     let mut tight = from_tight;
     let mut long = from_long;
-    let mut h = 0usize;
-    while h < n {
+    for h in 0..n {
         let p = c + 2 * h;
         if p < w {
             let got = even_pair(
@@ -284,7 +281,6 @@ fn chunk(
             tight = still_tight;
             long = now_long;
         }
-        h += 1;
     }
     Pair::At(at, tight, long)
 }
@@ -319,9 +315,9 @@ pub fn pass(
     let mut at = from.at;
     let mut tight = from.tight;
     let mut long = from.long;
-    let mut c = 0usize;
-    while c < w + 8 {
-        let n = numbers::smaller_usize(48, (w + 8 - c) / 2);
+    for i in 0..(w + 8).div_ceil(96) {
+        let c = 96 * i;
+        let n = ((w + 8 - c) / 2).min(48);
         pass_ahead::fill(lines, w, plan.first, c, n, base, &mut first);
         pass_ahead::fill(lines, w, plan.second, c, n, base, &mut second);
         let got = chunk(
@@ -360,7 +356,6 @@ pub fn pass(
         at = after;
         tight = still_tight;
         long = now_long;
-        c += 2 * n;
     }
     Passed {
         ok: true,

@@ -14,7 +14,6 @@ ghost use Rattle.read_pass.specs.Sites.{coding_by, OddCoding, CodingFits, Limits
 use crate::Turn;
 use bits::BitPosition;
 use code::{Short, Taken};
-use numbers::u16_to_u32;
 
 // How a sample is coded: one place before it among the colour lines, its prediction, its record's place in the set, a number that is odd where its gradient is
 // negative, the record's k, the largest sample, and the limit of its quantiser.
@@ -49,7 +48,7 @@ fn coding_by(
         flip,
         k: pass_steps::k_at(ks, slot),
         m: quantiser::largest(bits),
-        limit: u16_to_u32(limits[slot]),
+        limit: u32::from(limits[slot]),
     }
 }
 
@@ -67,10 +66,10 @@ pub fn even_coding(
         limits.now ks.now }
     ensures prediction_bound { (result.prediction < 2 ^ 16) × (result.flip < 2 ^ 16) }
 {
-    let look = u16_to_u32(ahead[48 + h]);
+    let look = u32::from(ahead[48 + h]);
     coding_by(
         place,
-        u16_to_u32(ahead[h]),
+        u32::from(ahead[h]),
         (look / 2) as usize,
         look,
         bits,
@@ -152,7 +151,7 @@ pub fn put_sample(lines: &mut [u16], c: Coding, steps: &[u16; 112], totals: &[u3
     let i = c.place + 1;
     lines[i] = pass_ahead::sample_by(
         c.m,
-        u16_to_u32(steps[slot]),
+        u32::from(steps[slot]),
         totals,
         slot,
         c.flip,

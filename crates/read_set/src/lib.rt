@@ -1,9 +1,9 @@
 // Whole streams: the colour lines of a block are handed out, as the set that the writer takes.
 #![tactic(auto)]
 
-ghost use Rattle.std.specs.Prelude.{◌≡◌, ◌+◌, ◌*◌, ◌^◌, ◌≤◌, ◌<◌, length, take, drop};
+ghost use Rattle.std.specs.Prelude.{◌≡◌, ◌+◌, ◌*◌, ◌^◌, ◌≤◌, ◌<◌, length};
 ghost use Rattle.colour_lines.specs.ColourLines.{zero_lines};
-ghost use Rattle.colour_lines.specs.Sets.{line_size, set_size, line_of_rank};
+ghost use Rattle.colour_lines.specs.Sets.{line_size, set_size};
 ghost use Rattle.image_map.specs.Places.{width_of};
 ghost use Rattle.pass_steps.specs.Contexts.{Depth};
 ghost use Rattle.stream.specs.Streams.{open_of};
@@ -15,8 +15,10 @@ ghost use Rattle.read_block.specs.Walks.{IsWalked};
 ghost use Rattle.read_set.specs.HandedSets.{set_with, put_over, Sets, set_begins, LeftSet};
 ghost use Rattle.read_set.specs.Inside.{twelve, next_place};
 
+pub use admission::set_size;
 use bits::BitPosition;
 use code::Place;
+use colour_lines::{line_of_rank, start_of};
 use image_map::width;
 use read_block::{
     Counted, Form, Walked, clear_records, form_of, line_count, read_lines, start_records,
@@ -24,43 +26,16 @@ use read_block::{
 use statistics::Record;
 use stream::{FujiHeader, Parsed, Refusal};
 
-// The colour line with this number among the twelve.
-fn line_of_rank(c: usize) -> usize
-    requires { c < 12 }
-    ensures { (result ≡ line_of_rank c) × (result ≤ 17) }
-{
-    if c < 3 {
-        return c + 2;
-    }
-    if c < 9 {
-        return c + 4;
-    }
-    c + 6
-}
-
-// So many samples go from one list to another.
-fn copy_samples(from: &[u16], at: usize, n: usize, to: &mut [u16], start: usize)
-    requires { (at + n ≤ length from.now) × (start + n ≤ length to.old) }
-    ensures { to.new ≡ put_over to.old start (take n (drop at from.now)) }
-{
-    let mut j: usize = 0;
-    while j < n {
-        to[start + j] = from[at + j];
-        j += 1;
-    }
-}
-
 // The twelve colour lines of line n, without guards, go to their places in the set.
 fn keep_line(lines: &[u16], w: usize, n: usize, set: &mut [u16])
     requires { (w ≤ 512) × ((n < 2 ^ 16) × ((length lines.now ≡ 18 * (w + 2)) × ((n + 1) * line_size w ≤ length set.old))) }
     ensures { set.new ≡ put_over set.old (n * line_size w) (twelve w lines.now) }
 {
     let first = n * (12 * w);
-    let mut c: usize = 0;
-    while c < 12 {
-        let l = line_of_rank(c);
-        copy_samples(lines, l * (w + 2) + 1, w, set, first + c * w);
-        c += 1;
+    for c in 0..12 {
+        let from = start_of(w, line_of_rank(c)) + 1;
+        let to = first + c * w;
+        set[to..to + w].copy_from_slice(&lines[from..from + w]);
     }
 }
 
@@ -101,10 +76,9 @@ fn read_kept(
         totals: line_totals::none(),
     };
     let mut all = line_totals::none();
-    let mut n: usize = 0;
     colour_lines::clear(lines);
     start_records(rs, form.bits, cameras::base_of(bases, 0));
-    while n < count {
+    for n in 0..count {
         let got = read_lines(
             block,
             bases,
@@ -128,7 +102,6 @@ fn read_kept(
         place = next_place(more, clean);
         tight = line_totals::with_line(tight, n, place.tight, more);
         all = more;
-        n += 1;
     }
     Walked::Read(all, tight)
 }
@@ -175,14 +148,6 @@ fn set_begins(d: &[u8], b: usize, count: usize, samples: usize, records: usize) 
             admission::with_scratch(h, samples, records)
         }
     }
-}
-
-// The samples of a set under this header.
-pub fn set_size(h: FujiHeader) -> usize
-    requires { h.lines < 2 ^ 16 }
-    ensures { result ≡ set_size (width_of h.xtrans) h.lines }
-{
-    (h.lines as usize) * (12 * width(h.xtrans))
 }
 
 // The set of block b of the stream d, lossless or lossy. A truncated line and those after it leave their part of the set as it was.

@@ -7,9 +7,31 @@ ghost use Rattle.std.specs.Prelude.{◌*◌, ◌<◌, ◌≤◌, length};
 
 use image_map::Part;
 use read_block::{Form, Walked};
-use replay_common::{Tally, half, word};
+use replay_common::{Outcome, half, read_full, replay, word};
 use std::io;
 use std::io::Read;
+
+// The most of a block, of its lines and of its image that a record may have.
+const BLOCK: usize = 40_000;
+
+const LINES: usize = 3;
+
+const IMAGE: usize = 13_824;
+
+const COLOURS: usize = 36_864;
+
+// A sample of the image as it was before.
+const BEFORE: u16 = 0x5a5a;
+
+// Whether the original read all of a block's lines.
+#[derive(Clone, Copy)]
+enum Kind {
+    Whole,
+    Truncated,
+}
+
+// The kinds' names, in their order.
+const NAMES: [&str; 2] = ["readings of whole blocks", "readings of truncated blocks"];
 
 // What a record says of itself: the bytes of its base row and of its block, its lines, and how many of them the original read.
 #[derive(Clone, Copy)]
@@ -20,18 +42,34 @@ struct Sizes {
     bases: usize,
     block: usize,
     read: usize,
+    ghost depth: { (12 ≤ bits) × (bits ≤ 16) },
+    ghost fits: { (lines ≤ 3) × ((bases ≤ 3) × ((block ≤ 40000) × (read ≤ 3))) },
 }
 
-fn sizes_of(r: &[u8; 24]) -> Sizes {
-    let s = &r[..];
-    Sizes {
-        bits: word(s, 0),
-        xtrans: word(s, 4) == 1,
-        lines: word(s, 8) as usize,
-        bases: word(s, 12) as usize,
-        block: word(s, 16) as usize,
-        read: word(s, 20) as usize,
+// The sizes of a record that fits the buffers of this program.
+fn sizes_of(record: &[u8]) -> Option<Sizes> {
+    let bits = word(record, 0);
+    let xtrans = word(record, 4) == 1;
+    let lines = word(record, 8) as usize;
+    let bases = word(record, 12) as usize;
+    let block = word(record, 16) as usize;
+    let read = word(record, 20) as usize;
+    if !(12..=16).contains(&bits)
+        || LINES < lines
+        || LINES < bases
+        || BLOCK < block
+        || LINES < read
+    {
+        return None;
     }
+    Some(Sizes {
+        bits,
+        xtrans,
+        lines,
+        bases,
+        block,
+        read,
+    })
 }
 
 // The place of column x in a colour line, as the rule writes it.
@@ -39,13 +77,11 @@ fn place(xtrans: bool, x: usize) -> usize
     requires { x < 768 }
     ensures { result < 512 }
 {
-    if !xtrans {
-        return x / 2;
+    if xtrans {
+        2 * (x / 3) + usize::from(x % 3 != 0)
+    } else {
+        x / 2
     }
-    if x % 3 == 0 {
-        return 2 * (x / 3);
-    }
-    2 * (x / 3) + 1
 }
 
 // The bytes of k recorded colour lines.
@@ -53,10 +89,7 @@ fn line_bytes(xtrans: bool, k: usize) -> usize
     requires { k ≤ 36 }
     ensures { result ≤ 1024 * k }
 {
-    if xtrans {
-        return 1024 * k;
-    }
-    768 * k
+    if xtrans { 1024 * k } else { 768 * k }
 }
 
 // Which of a line's twelve recorded colour lines row r shows through a tile of that colour.
@@ -72,27 +105,19 @@ fn recorded_line(colour: u8, r: usize) -> usize
 }
 
 // The sample that the original gave for row y and column x; rows that it did not read are as the image was before.
-fn wanted(want: &[u8; 36864], s: Sizes, colour: u8, y: usize, x: usize) -> u32
-    requires { (y < 18) × ((x < 768) × (s.read ≤ 3)) }
+fn wanted(want: &[u8], s: Sizes, colour: u8, y: usize, x: usize) -> u16
+    requires { (y < 18) × (x < 768) }
 {
     if 6 * s.read <= y {
-        return 0x5a5a;
+        return BEFORE;
     }
     let k = 12 * (y / 6) + recorded_line(colour, y % 6);
-    let i = line_bytes(s.xtrans, k) + 2 * place(s.xtrans, x);
-    half(&want[..], i)
+    half(want, line_bytes(s.xtrans, k) + 2 * place(s.xtrans, x))
 }
 
 // Whether the image shows what the original gave, in every row and column.
-fn image_agrees(image: &[u16; 13824], want: &[u8; 36864], s: Sizes, colour: u8) -> bool
-    requires { s.read ≤ 3 }
-{
-    for i in 0..13824 {
-        if numbers::u16_to_u32(image[i]) != wanted(want, s, colour, i / 768, i % 768) {
-            return false;
-        }
-    }
-    true
+fn image_agrees(image: &[u16; IMAGE], want: &[u8], s: Sizes, colour: u8) -> bool {
+    image.iter().enumerate().all(|(i, sample)| *sample == wanted(want, s, colour, i / 768, i % 768))
 }
 
 // All lines were read, or the first truncated one is the one after those that the original read.
@@ -103,10 +128,10 @@ fn answer_agrees(r: Walked, s: Sizes) -> bool {
     }
 }
 
-fn agrees(block: &[u8; 40000], bases: &[u8; 3], want: &[u8; 36864], s: Sizes, colour: u8) -> bool
-    requires { (12 ≤ s.bits) × ((s.bits ≤ 16) × ((s.lines ≤ 3) × ((s.bases ≤ 3) × ((s.block ≤ 40000) × (s.read ≤ 3))))) }
+fn agrees(block: &[u8], bases: &[u8], want: &[u8], s: Sizes, colour: u8) -> bool
+    requires { length block.now ≤ 40000 }
 {
-    let mut image = [0x5a5au16; 13824];
+    let mut image = [BEFORE; IMAGE];
     let part = Part {
         left: 0,
         right: 768,
@@ -119,109 +144,63 @@ fn agrees(block: &[u8; 40000], bases: &[u8; 3], want: &[u8; 36864], s: Sizes, co
         bits: s.bits,
         xtrans: s.xtrans,
     };
-    let m = s.bases;
-    let n = s.block;
-    let row = &bases[..];
-    let bytes = &block[..];
     let r = tight_diagnosis::walk_alone(
-        &bytes[0..n],
-        &row[0..m],
+        block,
+        bases,
         &mut image,
         form,
         [colour; 36],
         part,
         s.lines,
     );
-    answer_agrees(r, s) & image_agrees(&image, want, s, colour)
+    answer_agrees(r, s) && image_agrees(&image, want, s, colour)
 }
 
-// How many of the three readings of a block differ.
-fn differing(block: &[u8; 40000], bases: &[u8; 3], want: &[u8; 36864], s: Sizes) -> u64
-    requires { (12 ≤ s.bits) × ((s.bits ≤ 16) × ((s.lines ≤ 3) × ((s.bases ≤ 3) × ((s.block ≤ 40000) × (s.read ≤ 3))))) }
-{
-    let mut n: u64 = 0;
+// Reads what a record has after its sizes, and says how many of the three readings of its block differ. A record that is cut off differs.
+fn differing(file: &mut impl Read, s: Sizes) -> io::Result<u64> {
+    let mut bases = [0u8; LINES];
+    let mut block = [0u8; BLOCK];
+    let mut want = [0u8; COLOURS];
+    let bases = &mut bases[..s.bases];
+    let block = &mut block[..s.block];
+    let want = &mut want[..line_bytes(s.xtrans, 12 * s.read)];
+    let a = read_full(file, bases)?;
+    let b = read_full(file, block)?;
+    let c = read_full(file, want)?;
+    if a != bases.len() || b != block.len() || c != want.len() {
+        return Ok(3);
+    }
+    let mut differ = 0;
     for colour in 0..3 {
-        if !agrees(block, bases, want, s, colour) {
-            n = n.wrapping_add(1);
-        }
+        differ += u64::from(!agrees(block, bases, want, s, colour));
     }
-    n
+    Ok(differ)
 }
 
-// Reads what a record has after its sizes, and compares. A record that is cut off differs.
-fn compare_rest(file: &mut impl Read, s: Sizes) -> io::Result<u64>
-    requires { (12 ≤ s.bits) × ((s.bits ≤ 16) × ((s.lines ≤ 3) × ((s.bases ≤ 3) × ((s.block ≤ 40000) × (s.read ≤ 3))))) }
-{
-    let m = s.bases;
-    let n = s.block;
-    let colours = line_bytes(s.xtrans, 12 * s.read);
-    let mut bases = [0u8; 3];
-    let mut block = [0u8; 40000];
-    let mut want = [0u8; 36864];
-    let a = replay_common::read_full(file, &mut bases[0..m])?;
-    let b = replay_common::read_full(file, &mut block[0..n])?;
-    let c = replay_common::read_full(file, &mut want[0..colours])?;
-    if (a != m) | (b != n) | (c != colours) {
-        return Ok(3);
-    }
-    Ok(differing(&block, &bases, &want, s))
-}
-
-// A record that does not fit the buffers of this program differs.
-fn compare_sound(file: &mut impl Read, s: Sizes) -> io::Result<u64> {
-    if s.bits < 12 {
-        return Ok(3);
-    }
-    if 16 < s.bits {
-        return Ok(3);
-    }
-    if 3 < s.lines {
-        return Ok(3);
-    }
-    if 3 < s.bases {
-        return Ok(3);
-    }
-    if 40000 < s.block {
-        return Ok(3);
-    }
-    if 3 < s.read {
-        return Ok(3);
-    }
-    compare_rest(file, s)
-}
-
-// Reads a record and compares it: whole blocks are of kind 0, truncated ones of kind 1.
-fn compare_one(rt: &impl Print, file: &mut impl Read, t: Tally, number: u64) -> io::Result<Tally> {
-    let mut r = [0u8; 24];
-    let length = replay_common::read_full(file, &mut r)?;
-    if length == 0 {
-        return Ok(replay_common::ended(t));
-    }
-    let s = sizes_of(&r);
-    let differ = compare_sound(file, s)?;
-    if s.read == s.lines {
-        return replay_common::counted(rt, t, number, 0, 3, differ);
-    }
-    replay_common::counted(rt, t, number, 1, 3, differ)
-}
-
-// Nothing says that a file ends, so the records are counted.
-fn compare_all(rt: &impl Print, file: &mut impl Read) -> io::Result<Tally> {
-    let mut t = replay_common::start();
-    for number in 0..1000 {
-        t = compare_one(rt, file, t, number)?;
-        if t.done {
-            return Ok(t);
-        }
-    }
-    Ok(t)
+// A record that does not fit differs.
+fn compare(record: &[u8], file: &mut impl Read) -> io::Result<Outcome> {
+    let kind = if word(record, 20) == word(record, 8) {
+        Kind::Whole
+    } else {
+        Kind::Truncated
+    };
+    let differ = match sizes_of(record) {
+        Some(s) => differing(file, s)?,
+        None => 3,
+    };
+    Ok(Outcome {
+        kind: kind as usize,
+        compared: 3,
+        differ,
+    })
 }
 
 fn main(rt: HostRuntime) -> io::Result<()> {
-    let Some(mut file) = replay_common::open(&rt, "blocks.bin") else {
-        return Ok(());
-    };
-    let t = compare_all(&rt, &mut file)?;
-    replay_common::print(&rt, "readings of whole blocks", t, 0)?;
-    replay_common::print(&rt, "readings of truncated blocks", t, 1)
+    replay::<24, _, _>(
+        &rt,
+        "blocks.bin",
+        1000,
+        &NAMES,
+        |record, file| compare(record, file),
+    )
 }

@@ -1,82 +1,120 @@
-// Replays: what the four programs share: the numbers of a record, a tally of what was compared, the file of records, and what is printed.
+// Replays: what the four programs share: the numbers of a record, a tally of what was compared, the file of records, and what is printed. A
+// program says only how one record is compared.
 #![tactic(auto)]
 
 ghost use Rattle.std.specs.Prelude.{◌^◌, ◌<◌, ◌≤◌, IfOk, length};
 
-use numbers::u8_to_u32;
-use std::io;
 use std::io::Read;
 use std::rt::Files;
+use std::{array, io};
 
-// For each kind how many answers were compared and how many differ.
-#[derive(Clone, Copy)]
-pub struct Tally {
-    pub compared: [u64; 7],
-    pub differ: [u64; 7],
-    // No record is left.
-    pub done: bool,
-}
-
-// Nothing is compared yet.
-pub fn start() -> Tally {
-    Tally {
-        compared: [0; 7],
-        differ: [0; 7],
-        done: false,
-    }
-}
-
-// The byte at i, 0 past the end.
-fn byte(s: &[u8], i: usize) -> u32
-    ensures { result < 256 }
-{
-    if i < s.len() { u8_to_u32(s[i]) } else { 0 }
-}
-
-// The number of 16 bits that begins at byte i.
-pub fn half(s: &[u8], i: usize) -> u32
-    requires { i < 2 ^ 32 }
-    ensures { result < 2 ^ 16 }
-{
-    byte(s, i) * 0x100 + byte(s, i + 1)
-}
-
-// The number of 32 bits that begins at byte i.
-pub fn word(s: &[u8], i: usize) -> u32
-    requires { i < 2 ^ 31 }
-{
-    half(s, i) * 0x1_0000 + half(s, i + 2)
-}
-
-// The tally with one record more: so many answers of a kind were compared, and so many differ. The first record of a kind that differs is named.
-pub fn counted(
-    rt: &impl Print,
-    t: Tally,
-    number: u64,
-    kind: usize,
+// Of one kind of record how many answers were compared and how many differ.
+#[derive(Clone, Copy, Default)]
+struct Count {
     compared: u64,
     differ: u64,
-) -> io::Result<Tally>
-    requires { kind ≤ 6 }
-{
-    let mut next = t;
-    if (differ != 0) & (next.differ[kind] == 0) {
-        println!(rt; "differs: record {number}")?;
-    }
-    next.compared[kind] = next.compared[kind].wrapping_add(compared);
-    next.differ[kind] = next.differ[kind].wrapping_add(differ);
-    Ok(next)
 }
 
-// No record is left.
-pub fn ended(t: Tally) -> Tally {
-    let mut last = t;
-    last.done = true;
-    last
+// The most kinds of record that a program has.
+const KINDS: usize = 7;
+
+// What a record gave: its kind, and how many of its answers were compared and how many differ.
+#[derive(Clone, Copy)]
+pub struct Outcome {
+    pub kind: usize,
+    pub compared: u64,
+    pub differ: u64,
+    pub ghost is_kind: { kind < 7 },
+}
+
+// For each kind of record what was compared.
+#[derive(Drop)]
+struct Tally {
+    counts: [Count; KINDS],
+}
+
+impl Tally {
+    // Nothing is compared yet.
+    fn new() -> Self {
+        Tally {
+            counts: [Count::default(); KINDS],
+        }
+    }
+
+    // Counts one record more. The first record of a kind that differs is named.
+    fn count(&mut self, rt: &impl Print, number: u64, outcome: Outcome) -> io::Result<()> {
+        let count = &mut self.counts[outcome.kind];
+        if outcome.differ != 0 && count.differ == 0 {
+            println!(rt; "differs: record {number}")?;
+        }
+        count.compared = count.compared.wrapping_add(outcome.compared);
+        count.differ = count.differ.wrapping_add(outcome.differ);
+        Ok(())
+    }
+
+    // A line for each kind that has a name.
+    fn print(&self, rt: &impl Print, names: &[&str]) -> io::Result<()> {
+        for (name, count) in names.iter().zip(&self.counts) {
+            let compared = count.compared;
+            let differ = count.differ;
+            println!(rt; "{name}: {compared} compared, {differ} differ")?;
+        }
+        Ok(())
+    }
+}
+
+// The N bytes that begin at byte i, with zeros for those past the end.
+pub fn bytes<const N: usize>(s: &[u8], i: usize) -> [u8; N] {
+    let rest = s.get(i..).unwrap_or(&[]);
+    array::from_fn(|k| rest.get(k).copied().unwrap_or(0))
+}
+
+// The numbers of 16, 32 and 64 bits that begin at byte i.
+pub fn half(s: &[u8], i: usize) -> u16 {
+    u16::from_be_bytes(bytes(s, i))
+}
+
+pub fn word(s: &[u8], i: usize) -> u32 {
+    u32::from_be_bytes(bytes(s, i))
+}
+
+pub fn long(s: &[u8], i: usize) -> usize {
+    usize::from_be_bytes(bytes(s, i))
+}
+
+// Compares the records of a file, at most so many, since nothing says that a file ends, and prints what came of it. Each begins with SIZE
+// bytes; `compare` has those of them that there are, and the file for what follows them. A file that could not be opened is said so.
+pub fn replay<const SIZE: usize, R, F>(
+    rt: &R,
+    path: &str,
+    most: u64,
+    names: &[&str],
+    mut compare: F,
+) -> io::Result<()>
+where
+    R: Files + Print + Eprint + AllocGlobal,
+    F: FnMut(&[u8], &mut R::File) -> io::Result<Outcome>,
+    requires fits { SIZE < 2 ^ 32 }
+    requires callable { F.IsAlwaysCallable compare }
+{
+    let Some(mut file) = open(rt, path) else {
+        return Ok(());
+    };
+    let mut tally = Tally::new();
+    for number in 0..most {
+        let mut record = [0u8; SIZE];
+        let size = read_full(&mut file, &mut record)?;
+        if size == 0 {
+            break;
+        }
+        let outcome = compare(&record[..size], &mut file)?;
+        tally.count(rt, number, outcome)?;
+    }
+    tally.print(rt, names)
 }
 
 // The file of records, opened; None where it could not be, and that was said.
-pub fn open<R: Files + Eprint + AllocGlobal>(rt: &R, path: &str) -> Option<R::File> {
+fn open<R: Files + Eprint + AllocGlobal>(rt: &R, path: &str) -> Option<R::File> {
     match std::fs::open(rt, path) {
         Ok(file) => Some(file),
         Err(e) => {
@@ -109,6 +147,7 @@ fn unnumbered(text: &str) -> &str {
 pub fn read_full(file: &mut impl Read, buf: &mut [u8]) -> io::Result<usize>
     ensures { IfOk result (λ n. n ≤ length buf.new) }
 {
+    // A `while`: each read says how many bytes it gave.
     let mut done = 0;
     while done < buf.len() {
         let n = file.read(&mut buf[done..])?;
@@ -118,12 +157,4 @@ pub fn read_full(file: &mut impl Read, buf: &mut [u8]) -> io::Result<usize>
         done += n;
     }
     Ok(done)
-}
-
-pub fn print(rt: &impl Print, name: &str, t: Tally, kind: usize) -> io::Result<()>
-    requires { kind ≤ 6 }
-{
-    let compared = t.compared[kind];
-    let differ = t.differ[kind];
-    println!(rt; "{name}: {compared} compared, {differ} differ")
 }

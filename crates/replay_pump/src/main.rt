@@ -3,133 +3,119 @@
 // layout.
 #![tactic(auto)]
 
-ghost use Rattle.std.specs.Prelude.{◌+◌, ◌≤◌, ◌<◌, length};
-
 use bit_pump::BitPumpMsb;
-use bits::{BitPosition, ByteOffset};
-use replay_common::{Tally, word};
+use bits::BitPosition;
+use replay_common::{Outcome, replay, word};
 use std::io;
-use std::io::Read;
 
-// A call of a pump: 1 peek, 2 get, 3 skip, 4 align_byte. What it answered, and the positions after it.
+// The bytes of a record: the block's length, where the pump begins, 40 bytes for the block, and 24 calls of 20 bytes.
+const RECORD: usize = 528;
+
+#[derive(Clone, Copy)]
+enum Kind {
+    Peek,
+    Get,
+    Skip,
+    AlignByte,
+    Unknown,
+}
+
+impl From<u32> for Kind {
+    fn from(number: u32) -> Self {
+        match number {
+            1 => Kind::Peek,
+            2 => Kind::Get,
+            3 => Kind::Skip,
+            4 => Kind::AlignByte,
+            _ => Kind::Unknown,
+        }
+    }
+}
+
+// What a call gave, and the pump's positions after it.
+#[derive(Clone, Copy, PartialEq, Eq)]
+struct Answer {
+    value: u32,
+    bits: u64,
+    bytes: usize,
+}
+
+// A call of a pump, and what the original answered.
 #[derive(Clone, Copy)]
 struct Call {
-    kind: u32,
+    kind: Kind,
     n: u32,
-    value: u32,
-    bits: u32,
-    bytes: u32,
+    wanted: Answer,
 }
 
-// Call i of a sequence.
-fn call_at(calls: &[u8], i: usize) -> Call
-    requires { (i < 24) × (480 ≤ length calls.now) }
-{
-    let from = 20 * i;
-    Call {
-        kind: word(calls, from),
-        n: word(calls, from + 4),
-        value: word(calls, from + 8),
-        bits: word(calls, from + 12),
-        bytes: word(calls, from + 16),
+impl From<&[u8]> for Call {
+    fn from(call: &[u8]) -> Self {
+        Call {
+            kind: Kind::from(word(call, 0)),
+            n: word(call, 4),
+            wanted: Answer {
+                value: word(call, 8),
+                bits: u64::from(word(call, 12)),
+                bytes: word(call, 16) as usize,
+            },
+        }
     }
 }
 
-fn agrees(call: Call, value: u32, at: BitPosition, bytes: ByteOffset) -> bool {
-    (call.value == value) & (call.bits as u64 == at.0) & (call.bytes as usize == bytes.0)
-}
-
-// The number of calls that differ, with one more if this one does.
-fn counted(differ: u64, same: bool) -> u64
-    requires { differ < 24 }
-    ensures { result ≤ differ + 1 }
-{
-    if same { differ } else { differ + 1 }
-}
-
-// What a call answers, 0 where it answers nothing. There is no other kind.
-fn answer<'s, 'a>(p: &'s mut BitPumpMsb<'a>, kind: u32, n: u32) -> u32 {
-    match kind {
-        1 => p.peek(n),
-        2 => p.get(n),
-        3 => {
-            p.skip(n);
+// Makes a call. A call that gives nothing has the value 0; there is no unknown one, so that its 1 differs.
+fn answered(pump: &mut BitPumpMsb<'_>, kind: Kind, n: u32) -> Answer {
+    let value = match kind {
+        Kind::Peek => pump.peek(n),
+        Kind::Get => pump.get(n),
+        Kind::Skip => {
+            pump.skip(n);
             0
         }
-        4 => {
-            p.align_byte();
+        Kind::AlignByte => {
+            pump.align_byte();
             0
         }
-        _ => 1,
+        Kind::Unknown => 1,
+    };
+    Answer {
+        value,
+        bits: pump.bit_position().0,
+        bytes: pump.byte_position().0,
     }
 }
 
-// The 24 calls of a sequence, one after the other on the same pump: how many differ.
-fn replay<'s, 'a>(p: &'s mut BitPumpMsb<'a>, calls: &'a [u8]) -> u64
-    requires { 480 ≤ length calls.now }
-    ensures { result ≤ 24 }
-{
-    let mut differ: u64 = 0;
-    let mut i: usize = 0;
-    while i < 24 {
-        let call = call_at(calls, i);
-        let value = answer(p, call.kind, call.n);
-        let at = p.bit_position();
-        let bytes = p.byte_position();
-        differ = counted(differ, agrees(call, value, at, bytes));
-        i += 1;
-    }
-    differ
+// The calls of a sequence, one after the other on the same pump: how many differ.
+fn differing(mut pump: BitPumpMsb<'_>, calls: &[u8]) -> usize {
+    calls
+        .chunks_exact(20)
+        .map(Call::from)
+        .filter(|call| answered(&mut pump, call.kind, call.n) != call.wanted)
+        .count()
 }
 
-// A sequence on a pump of its own.
-fn differing<'a>(s: &'a [u8], at: BitPosition, calls: &'a [u8]) -> u64
-    requires { 480 ≤ length calls.now }
-    ensures { result ≤ 24 }
-{
-    let mut p = BitPumpMsb::at_bit(s, at);
-    replay(&mut p, calls)
-}
-
-// A record: its block, where the pump begins, and the calls.
-fn compared(r: &[u8; 528]) -> u64 {
-    let s = &r[..];
-    let size = word(s, 0);
-    let at = BitPosition(word(s, 4) as u64);
-    if 40 < size {
-        return 24;
+// A record that is cut off, or whose block is too long, differs in each call.
+fn compare(record: &[u8]) -> Outcome {
+    let size = word(record, 0) as usize;
+    let differ = if record.len() == RECORD && size <= 40 {
+        let at = BitPosition(u64::from(word(record, 4)));
+        let pump = BitPumpMsb::at_bit(&record[8..8 + size], at);
+        differing(pump, &record[48..])
+    } else {
+        24
+    };
+    Outcome {
+        kind: 0,
+        compared: 24,
+        differ: differ as u64,
     }
-    let end = 8 + size as usize;
-    differing(&s[8..end], at, &s[48..])
-}
-
-// Reads a record and compares it. A record that is cut off differs.
-fn compare_one(rt: &impl Print, file: &mut impl Read, t: Tally, number: u64) -> io::Result<Tally> {
-    let mut r = [0u8; 528];
-    let size = replay_common::read_full(file, &mut r)?;
-    if size == 0 {
-        return Ok(replay_common::ended(t));
-    }
-    let differ = if size < 528 { 24 } else { compared(&r) };
-    replay_common::counted(rt, t, number, 0, 24, differ)
-}
-
-// Nothing says that a file ends, so the records are counted.
-fn compare_all(rt: &impl Print, file: &mut impl Read) -> io::Result<Tally> {
-    let mut t = replay_common::start();
-    for number in 0..20000 {
-        t = compare_one(rt, file, t, number)?;
-        if t.done {
-            return Ok(t);
-        }
-    }
-    Ok(t)
 }
 
 fn main(rt: HostRuntime) -> io::Result<()> {
-    let Some(mut file) = replay_common::open(&rt, "answers.bin") else {
-        return Ok(());
-    };
-    let t = compare_all(&rt, &mut file)?;
-    replay_common::print(&rt, "calls", t, 0)
+    replay::<RECORD, _, _>(
+        &rt,
+        "answers.bin",
+        20_000,
+        &["calls"],
+        |record, _| Ok(compare(record)),
+    )
 }

@@ -6,12 +6,29 @@ ghost use Rattle.std.specs.Prelude.{◌*◌, ◌≤◌, ◌<◌};
 
 use image_region::Rect;
 use read_block::Decoded;
-use replay_common::{Tally, half, word};
+use replay_common::{Outcome, bytes, half, long, read_full, replay, word};
 use std::io;
 use std::io::Read;
 use stream::Refusal;
 
 mod alone;
+
+// The most of a stream, and of an image, that a record may have, and the bytes of the image.
+const STREAM: usize = 80_000;
+
+const IMAGE: usize = 28_000;
+
+const IMAGE_BYTES: usize = 56_000;
+
+// Whether the original accepted a call.
+#[derive(Clone, Copy)]
+enum Kind {
+    Decoded,
+    Refused,
+}
+
+// The kinds' names, in their order.
+const NAMES: [&str; 2] = ["regions decoded", "regions refused"];
 
 // What a record says of itself: the bytes of its stream, the samples of its image, and the answer.
 #[derive(Clone, Copy)]
@@ -21,42 +38,32 @@ struct Sizes {
     number: u32,
     block: usize,
     line: usize,
+    ghost fits: { (stream ≤ 80000) × (image ≤ 28000) },
 }
 
-// The number of 64 bits that begins at byte i.
-fn long(s: &[u8], i: usize) -> usize
-    requires { i ≤ 80 }
-{
-    (word(s, i) as usize) * 0x1_0000_0000 + (word(s, i + 4) as usize)
+// The sizes of a record that fits the buffers of this program.
+fn sizes_of(record: &[u8]) -> Option<Sizes> {
+    let stream = word(record, 0) as usize;
+    let image = word(record, 36) as usize;
+    if STREAM < stream || IMAGE < image {
+        return None;
+    }
+    Some(Sizes {
+        stream,
+        image,
+        number: word(record, 40),
+        block: word(record, 44) as usize,
+        line: word(record, 48) as usize,
+    })
 }
 
-fn rect_of(r: &[u8; 88]) -> Rect {
-    let s = &r[..];
+fn rect_of(record: &[u8]) -> Rect {
     Rect {
-        x: long(s, 4),
-        y: long(s, 12),
-        width: long(s, 20),
-        height: long(s, 28),
+        x: long(record, 4),
+        y: long(record, 12),
+        width: long(record, 20),
+        height: long(record, 28),
     }
-}
-
-fn sizes_of(r: &[u8; 88]) -> Sizes {
-    let s = &r[..];
-    Sizes {
-        stream: word(s, 0) as usize,
-        image: word(s, 36) as usize,
-        number: word(s, 40),
-        block: word(s, 44) as usize,
-        line: word(s, 48) as usize,
-    }
-}
-
-fn tile_of(r: &[u8; 88]) -> [u8; 36] {
-    let mut tile = [0u8; 36];
-    for i in 0..36 {
-        tile[i] = r[52 + i];
-    }
-    tile
 }
 
 // Accepted, or the one refusal with its values.
@@ -72,93 +79,54 @@ fn answer_agrees(a: Decoded, s: Sizes) -> bool {
 }
 
 // Whether the image is what it is to be, in every sample.
-fn image_agrees(image: &[u16; 28000], want: &[u8; 56000], n: usize) -> bool
-    requires { n ≤ 28000 }
-{
-    for i in 0..n {
-        if numbers::u16_to_u32(image[i]) != half(&want[..], 2 * i) {
-            return false;
-        }
-    }
-    true
+fn image_agrees(image: &[u16], want: &[u8]) -> bool {
+    image
+        .iter()
+        .zip(want.chunks_exact(2))
+        .all(|(sample, wanted)| *sample == half(wanted, 0))
 }
 
-fn agrees(bytes: &[u8; 80000], want: &[u8; 56000], s: Sizes, r: Rect, tile: [u8; 36]) -> bool
-    requires { (s.stream ≤ 80000) × (s.image ≤ 28000) }
-{
-    let n = s.stream;
-    let m = s.image;
-    let all = &bytes[..];
-    let mut image = [0x5a5au16; 28000];
-    let a = alone::decode_region_alone(&all[0..n], r, tile, &mut image[0..m]);
-    answer_agrees(a, s) & image_agrees(&image, want, m)
-}
-
-// The bytes of m recorded samples.
-fn image_bytes(m: usize) -> usize
-    requires { m ≤ 28000 }
-    ensures { result ≤ 56000 }
-{
-    2 * m
-}
-
-// Reads what a record has after its numbers, and compares. A record that does not fit, or is cut off, differs.
-fn compare_rest(file: &mut impl Read, s: Sizes, r: Rect, tile: [u8; 36]) -> io::Result<bool> {
-    let n = s.stream;
-    let m = s.image;
-    if 80000 < n {
+// Reads what a record has after its numbers, and compares. A record that is cut off differs.
+fn agrees(file: &mut impl Read, s: Sizes, r: Rect, tile: [u8; 36]) -> io::Result<bool> {
+    let mut stream = [0u8; STREAM];
+    let mut want = [0u8; IMAGE_BYTES];
+    let mut image = [0x5a5au16; IMAGE];
+    let stream = &mut stream[..s.stream];
+    let want = &mut want[..2 * s.image];
+    let image = &mut image[..s.image];
+    let a = read_full(file, stream)?;
+    let b = read_full(file, want)?;
+    if a != stream.len() || b != want.len() {
         return Ok(false);
     }
-    if 28000 < m {
-        return Ok(false);
-    }
-    let k = image_bytes(m);
-    let mut bytes = [0u8; 80000];
-    let mut want = [0u8; 56000];
-    let a = replay_common::read_full(file, &mut bytes[0..n])?;
-    let b = replay_common::read_full(file, &mut want[0..k])?;
-    if (a != n) | (b != k) {
-        return Ok(false);
-    }
-    Ok(agrees(&bytes, &want, s, r, tile))
+    let answer = alone::decode_region_alone(stream, r, tile, image);
+    Ok(answer_agrees(answer, s) && image_agrees(image, want))
 }
 
-// Reads a record and compares it: accepted calls are of kind 0, refused ones of kind 1.
-fn compare_one(rt: &impl Print, file: &mut impl Read, t: Tally, number: u64) -> io::Result<Tally> {
-    let mut r = [0u8; 88];
-    let length = replay_common::read_full(file, &mut r)?;
-    if length == 0 {
-        return Ok(replay_common::ended(t));
-    }
-    let s = sizes_of(&r);
-    let differ = if compare_rest(file, s, rect_of(&r), tile_of(&r))? {
-        0
+// A record that does not fit differs.
+fn compare(record: &[u8], file: &mut impl Read) -> io::Result<Outcome> {
+    let kind = if word(record, 40) == 0 {
+        Kind::Decoded
     } else {
-        1
+        Kind::Refused
     };
-    if s.number == 0 {
-        return replay_common::counted(rt, t, number, 0, 1, differ);
-    }
-    replay_common::counted(rt, t, number, 1, 1, differ)
-}
-
-// Nothing says that a file ends, so the records are counted.
-fn compare_all(rt: &impl Print, file: &mut impl Read) -> io::Result<Tally> {
-    let mut t = replay_common::start();
-    for number in 0..1000 {
-        t = compare_one(rt, file, t, number)?;
-        if t.done {
-            return Ok(t);
-        }
-    }
-    Ok(t)
+    let agrees = match sizes_of(record) {
+        Some(s) => agrees(file, s, rect_of(record), bytes(record, 52))?,
+        None => false,
+    };
+    Ok(Outcome {
+        kind: kind as usize,
+        compared: 1,
+        differ: u64::from(!agrees),
+    })
 }
 
 fn main(rt: HostRuntime) -> io::Result<()> {
-    let Some(mut file) = replay_common::open(&rt, "regions.bin") else {
-        return Ok(());
-    };
-    let t = compare_all(&rt, &mut file)?;
-    replay_common::print(&rt, "regions decoded", t, 0)?;
-    replay_common::print(&rt, "regions refused", t, 1)
+    replay::<88, _, _>(
+        &rt,
+        "regions.bin",
+        1000,
+        &NAMES,
+        |record, file| compare(record, file),
+    )
 }

@@ -61,17 +61,6 @@ module _ (lossless : Bool) (W : ℕ) (z : Saved) (out : List ℕ) where
       (λ i b. let k : 1707 + i - 1707 ≡ i = omega arith in rw (le-ltb (1707 + i) 27 (omega arith), le-ltb (1707 + i) 1707 (omega arith), k))
       ∙ rw e (sym (put_add byte 0 out 1707 (12 * W)))
 
-  pub parts : (l₁ l₂ l₃ l₄ l₅ : List ℕ) → l₁ ≡ put_each (head_byte z.stream z.block (z.line + 1) z.at) 0 27 out
-      → l₂ ≡ put_each (records_byte lossless (set_in 0 z.records)) 27 560 l₁
-      → l₃ ≡ put_each (records_byte lossless (set_in 1 z.records)) 587 560 l₂
-      → l₄ ≡ put_each (records_byte lossless (set_in 2 z.records)) 1147 560 l₃
-      → l₅ ≡ put_each (lines_byte W z.lines) 1707 (12 * W) l₄ → l₅ ≡ checkpoint_of lossless W z out
-  parts l₁ l₂ l₃ l₄ l₅ e₁ e₂ e₃ e₄ e₅ =
-      let f₂ = e₂ ∙ set_part 0 (omega arith) l₁ (e₁ ∙ head_part) in
-      let f₃ = e₃ ∙ set_part 1 (omega arith) l₂ f₂ in
-      let f₄ = e₄ ∙ set_part 2 (omega arith) l₃ f₃ in
-      e₅ ∙ lines_part l₄ f₄
-
   -- and then the first bytes are that state
   pub is_checkpoint : size_of_checkpoint W ≤ length out → IsCheckpoint lossless W z (take (size_of_checkpoint W) (checkpoint_of lossless W z out))
   is_checkpoint h =

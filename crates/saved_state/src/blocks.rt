@@ -29,7 +29,7 @@ use image_map::{Part, width};
 use image_region::Rect;
 use read_block::{
     Counted, Decoded, Walked, clear_records, form_of, line_count, load_set, no_part, read_answer,
-    read_lines, refused, start_place, start_record, start_records, update,
+    read_lines, refused, start_place, start_record, start_records,
 };
 use statistics::Record;
 use stream::{FujiHeader, Parsed, Refusal};
@@ -53,12 +53,9 @@ fn load_records(rs: &mut [Record], s: &[u8], lossless: bool, bits: u32, base: u3
     requires depth { Depth bits × (base < 256) }
     ensures { rs.new ≡ table (λ j. loaded_record lossless (start_record bits base j) s.now j) 336 }
 {
-    let mut j: usize = 0;
-    while j < 336 {
+    for j in 0..336 {
         let start = start_record(bits, base, j);
-        let r = crate::load::load_record(s, j, lossless, start);
-        update(rs, j, r);
-        j = j + 1;
+        rs[j] = crate::load::load_record(s, j, lossless, start);
     }
 }
 
@@ -92,7 +89,7 @@ fn lines_wanted(r: Rect, b: usize, k: usize) -> usize
 {
     if is_touched(r, b) {
         let span = image_region::span_of(r);
-        return numbers::saturating_sub_usize(span.lines, k);
+        return span.lines.saturating_sub(k);
     }
     0
 }
@@ -273,19 +270,18 @@ fn put_state(
     line: usize,
     at: u64,
     lines: &[u16],
-    rs: &mut [Record],
+    rs: &[Record],
 )
     requires in_bounds { (16 ≤ length d.now) × (line < 2 ^ 16) }
-    requires scratch_of { ScratchOf h.xtrans lines.now rs.old × (size_of_checkpoint (width_of h.xtrans) ≤ length state.old) }
-    ensures state_after { let z : Saved = record { stream = d.now; block = b; line = line; at = at; records = rs.old; lines = lines.now } in
+    requires scratch_of { ScratchOf h.xtrans lines.now rs.now × (size_of_checkpoint (width_of h.xtrans) ≤ length state.old) }
+    ensures { let z : Saved = record { stream = d.now; block = b; line = line; at = at; records = rs.now; lines = lines.now } in
         state.new ≡ checkpoint_of h.lossless (width_of h.xtrans) z state.old }
-    ensures rs_unchanged { rs.new ≡ rs.old }
 {
     let lossless = h.lossless;
     crate::head::store_head(state, d, b, line, at);
-    crate::store::store_set(state, 0, load_set(rs, 0), lossless);
-    crate::store::store_set(state, 1, load_set(rs, 1), lossless);
-    crate::store::store_set(state, 2, load_set(rs, 2), lossless);
+    for g in 0..3 {
+        crate::store::store_set(state, g, load_set(rs, g), lossless);
+    }
     crate::store::store_lines(state, lines, width(h.xtrans));
 }
 
@@ -298,11 +294,11 @@ fn put_walked(
     line: usize,
     got: Walked,
     lines: &[u16],
-    rs: &mut [Record],
+    rs: &[Record],
 )
     requires in_bounds { (16 ≤ length d.now) × (line < 2 ^ 16) }
-    requires scratch_of { ScratchOf h.xtrans lines.now rs.old × (size_of_checkpoint (width_of h.xtrans) ≤ length state.old) }
-    ensures { StoredWalk d.now b line h got lines.now rs.old state.old state.new }
+    requires scratch_of { ScratchOf h.xtrans lines.now rs.now × (size_of_checkpoint (width_of h.xtrans) ≤ length state.old) }
+    ensures { StoredWalk d.now b line h got lines.now rs.now state.old state.new }
 {
     match got {
         Walked::Truncated(_, _) => {}

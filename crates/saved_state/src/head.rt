@@ -2,7 +2,7 @@
 ghost use Rattle.std.specs.Prelude.{◌≡◌, ◌+◌, ◌^◌, ◌≤◌, ◌<◌, length};
 ghost use Rattle.saved_state.specs.Heads.{be_byte, head_byte, put_each};
 
-// Byte k of the n bytes of a number.
+// Byte k of the n bytes of a number. Not std's `to_be_bytes`: the state is promised byte by byte (`checkpoint_of`), of numbers of four sizes.
 pub fn be_byte(n: u32, k: u32, x: u64) -> u8
     requires { (k < n) × (n ≤ 8) }
     ensures { result ≡ be_byte n k x }
@@ -33,9 +33,7 @@ pub fn store_head(out: &mut [u8], d: &[u8], block: usize, line: usize, at: u64)
     ensures { out.new ≡ put_each (head_byte d.now block (line + 1) at) 0 27 out.old }
 {
     let next = line + 1;
-    let mut i = 0usize;
-    while i < 27 {
+    for i in 0..27 {
         out[i] = head_byte(d, block, next, at, i);
-        i += 1;
     }
 }

@@ -4,7 +4,6 @@ ghost use Rattle.saved_state.specs.Checkpoints.{be_at, any_below, bad_record, ba
 ghost use Rattle.saved_state.specs.Checkpoints.{other_checkpoint, checked_of, loaded_record, with_kept, with_six, with_guards, loaded_lines};
 
 use crate::store::{kept_line, start_of};
-use numbers::u8_to_u64;
 use statistics::Record;
 
 // What stored bytes are to a call: none that load, those of another block, or the next line and the bit position to go on from.
@@ -24,16 +23,14 @@ pub struct Bounds {
     pub bytes: usize,
 }
 
-// The number that the n bytes from i on make.
+// The number that the n bytes from i on make. Not std's `from_be_bytes`, which would be four functions: n is 1, 2, 4 or 8.
 fn be_at(s: &[u8], i: usize, n: usize) -> u64
     requires { (n ≤ 8) × (i + n ≤ length s.now) }
     ensures { (result ≡ be_at s.now i n) × (result < 256 ^ n) }
 {
     let mut x = 0u64;
-    let mut k = 0usize;
-    while k < n {
-        x = x * 256 + u8_to_u64(s[i + k]);
-        k += 1;
+    for k in 0..n {
+        x = x * 256 + u64::from(s[i + k]);
     }
     x
 }
@@ -52,12 +49,10 @@ fn has_bad_record(s: &[u8]) -> bool
     requires { 1707 ≤ length s.now }
     ensures { result ≡ any_below 336 (bad_record s.now) }
 {
-    let mut j = 0usize;
-    while j < 336 {
+    for j in 0..336 {
         if is_bad_record(s, j) {
             return true;
         }
-        j += 1;
     }
     false
 }
@@ -75,12 +70,10 @@ fn has_bad_sample(s: &[u8], bits: u32, w: usize) -> bool
     ensures { result ≡ any_below (6 * w) (bad_sample bits s.now) }
 {
     let end = 6 * w;
-    let mut j = 0usize;
-    while j < end {
+    for j in 0..end {
         if is_bad_sample(s, bits, j) {
             return true;
         }
-        j += 1;
     }
     false
 }
@@ -117,14 +110,7 @@ fn has_other_header(s: &[u8], d: &[u8]) -> bool
     requires { (16 ≤ length s.now) × (16 ≤ length d.now) }
     ensures { result ≡ any_below 16 (λ i. not (eqb (get_or s.now i 0) (get_or d.now i 0))) }
 {
-    let mut i = 0usize;
-    while i < 16 {
-        if s[i] != d[i] {
-            return true;
-        }
-        i += 1;
-    }
-    false
+    s[..16] != d[..16]
 }
 
 // Another header, or another block.
@@ -135,7 +121,7 @@ fn is_other(s: &[u8], d: &[u8], block: usize) -> bool
     if has_other_header(s, d) {
         return true;
     }
-    u8_to_u64(s[16]) != block as u64
+    u64::from(s[16]) != block as u64
 }
 
 // What stored bytes are to a call on that block of a stream.
@@ -164,7 +150,7 @@ pub fn load_record(s: &[u8], j: usize, lossless: bool, start: Record) -> Record
     let sum = be_at(s, 27 + 5 * j, 4) as u32;
     let n = be_at(s, 27 + 5 * j + 4, 1) as u32;
     Record {
-        sum: numbers::smaller(sum, n * 1_032_192),
+        sum: sum.min(n * 1_032_192),
         n,
     }
 }
@@ -176,10 +162,8 @@ fn load_line(s: &[u8], lines: &mut [u16], w: usize, m: usize)
 {
     let first = m * w;
     let from = start_of(w, kept_line(m)) + 1;
-    let mut p = 0usize;
-    while p < w {
+    for p in 0..w {
         lines[from + p] = be_at(s, 1707 + 2 * (first + p), 2) as u16;
-        p += 1;
     }
 }
 
@@ -188,12 +172,9 @@ fn load_six(s: &[u8], lines: &mut [u16], w: usize)
     requires { (w ≤ 512) × ((1707 + 12 * w ≤ length s.now) × (18 * (w + 2) ≤ length lines.old)) }
     ensures { lines.new ≡ with_six w s.now lines.old }
 {
-    load_line(s, lines, w, 0);
-    load_line(s, lines, w, 1);
-    load_line(s, lines, w, 2);
-    load_line(s, lines, w, 3);
-    load_line(s, lines, w, 4);
-    load_line(s, lines, w, 5);
+    for m in 0..6 {
+        load_line(s, lines, w, m);
+    }
 }
 
 // The guards of the nearer one of each colour: they are not stored, and the next line's contexts look at them.

@@ -4,7 +4,6 @@ ghost use Rattle.saved_state.specs.Heads.{put_each};
 ghost use Rattle.saved_state.specs.Checkpoints.{stored_record, record_byte, records_byte, kept_line, lines_byte};
 ghost use Rattle.pass_steps.specs.Values.{records_of};
 
-use numbers::u16_to_u32;
 use pass_steps::Set;
 use statistics::Record;
 
@@ -43,15 +42,13 @@ pub fn store_set(out: &mut [u8], g: usize, set: Set, lossless: bool)
     let from = 27 + 560 * g;
     let sums = set.sums;
     let ns = set.ns;
-    let mut i = 0usize;
-    while i < 560 {
+    for i in 0..560 {
         let j = i / 5;
         let r = Record {
             sum: sums[j],
             n: ns[j],
         };
         out[from + i] = set_byte(r, lossless, i);
-        i += 1;
     }
 }
 
@@ -84,7 +81,7 @@ fn line_byte(lines: &[u16], w: usize, i: usize) -> u8
 {
     let j = i / 2;
     let at = start_of(w, kept_line(j / w)) + (j % w + 1);
-    crate::head::be_byte(2, (i % 2) as u32, u16_to_u32(lines[at]) as u64)
+    crate::head::be_byte(2, (i % 2) as u32, u64::from(lines[at]))
 }
 
 // Their samples.
@@ -93,9 +90,7 @@ pub fn store_lines(out: &mut [u8], lines: &[u16], w: usize)
     ensures { out.new ≡ put_each (lines_byte w lines.now) 1707 (12 * w) out.old }
 {
     let end = 12 * w;
-    let mut i = 0usize;
-    while i < end {
+    for i in 0..end {
         out[1707 + i] = line_byte(lines, w, i);
-        i += 1;
     }
 }

@@ -14,6 +14,7 @@ pub enum Listed {
     Refused(Refusal),
 }
 
+// Not `(1..=16).contains(&longest)`: tried, and the proof does not close, since the tests of `in_sheet` nest the other way.
 fn in_sheet(depth: u32, k: u32, longest: u32) -> bool
     ensures { result ≡ in_sheet depth k longest }
 {
@@ -25,8 +26,8 @@ fn count_of(depth: u32, k: u32, longest: u32) -> u32
     requires { (depth ≤ 16) × (k ≤ 15) × (longest ≤ 16) }
     ensures { (result ≡ count_of depth k longest) × (result ≤ 2 ^ 20) }
 {
-    let room = numbers::saturating_sub(longest, k) * (numbers::power(k) as u32);
-    numbers::smaller(room, numbers::power(depth) as u32)
+    let room = longest.saturating_sub(k) * (numbers::power(k) as u32);
+    room.min(numbers::power(depth) as u32)
 }
 
 // The entry of a code with so many low bits: its zeros, a one and the low bits, as length and value.
@@ -43,10 +44,8 @@ fn fill(depth: u32, k: u32, longest: u32, list: &mut [u32], count: u32)
     requires { Bounded depth k longest × (count ≡ count_of depth k longest) × (count ≤ length list.old) }
     ensures { Filled depth k longest list.old list.new }
 {
-    let mut code = 0u32;
-    while code < count {
+    for code in 0..count {
         list[code as usize] = entry(k, code);
-        code += 1;
     }
 }
 

@@ -30,14 +30,12 @@ fn too_small_from(sum: u32, n: u32, k: u32) -> u32
     ensures { (result + k ≡ least_from (15 - k) (enough sum n) k) × (result + k ≤ 15) }
 {
     let mut count: u32 = 0;
-    let mut j = k;
-    while j < 15 {
+    for j in k..15 {
         let enough = is_enough(sum, n, j);
         if enough & (j % 3 == 0) {
             return count;
         }
-        count += numbers::flag(!enough);
-        j += 1;
+        count += u32::from(!enough);
     }
     count
 }
@@ -59,19 +57,13 @@ impl Record {
     }
 
     // The same k, from the lengths of sum and n in binary digits, which determine it but for one.
-    // INLINING: the loop has one turn, so that LLVM leaves no branch.
+    // INLINING: the test is added as a number, so that LLVM leaves no branch.
     pub fn k_by_lengths(self) -> u32
         requires { InRange self }
         ensures { (result ≡ k_of self) × (result ≤ 15) }
     {
         let least = longer(self.sum, self.n);
-        let mut k = least;
-        let mut j = least;
-        while j < least + 1 {
-            k += numbers::flag(self.n << j < self.sum);
-            j += 1;
-        }
-        numbers::smaller(15, k)
+        (least + u32::from(self.n << least < self.sum)).min(15)
     }
 
     // The record after a residual of that size. `halved` is 1 where both are to be halved, so that there is no branch.
@@ -79,7 +71,7 @@ impl Record {
         requires { InRange self × (size ≤ largest_residual) }
         ensures { (result ≡ updated self size) × InRange result }
     {
-        let halved = numbers::flag(self.n == 64);
+        let halved = u32::from(self.n == 64);
         Record {
             sum: (self.sum + size) >> halved,
             n: (self.n >> halved) + 1,

@@ -91,7 +91,7 @@ fn byte(d: &[u8], i: usize) -> u32
     requires { i < length d.now }
     ensures { (result ≡ byte_at d.now i) × (result < 256) }
 {
-    numbers::u8_to_u32(d[i])
+    u32::from(d[i])
 }
 
 // The two bytes at i.
@@ -123,7 +123,7 @@ fn read_header(d: &[u8]) -> FujiHeader
 fn is_within(a: u32, b: u32, x: u32) -> bool
     ensures { result ≡ within a b x }
 {
-    (a <= x) & (x <= b)
+    (a..=b).contains(&x)
 }
 
 // Signature, lossless flag, type and depth.
@@ -153,7 +153,7 @@ fn keeps_size_rules(h: FujiHeader) -> bool
         & is_within(0x300, 0x4200, width)
         & (width % 24 == 0)
         & (width <= rounded)
-        & (numbers::saturating_sub(rounded, width) <= 767)
+        & (rounded.saturating_sub(width) <= 767)
         & (h.block_size == 0x300)
 }
 

@@ -1,7 +1,7 @@
 // Document 01, Stream and Refusals: the header, sizes, base rows, the bytes of a block, and the list of refusals with their numbers.
 #![tactic(auto)]
 
-ghost use Rattle.std.specs.Prelude.{◌≡◌, ◌+◌, ◌*◌, ◌^◌, ◌≤◌, ◌<◌, length};
+ghost use Rattle.std.specs.Prelude.{◌≡◌, ◌+◌, ◌*◌, ◌^◌, ◌≤◌, ◌<◌, length, MatchOption};
 ghost use Rattle.stream.specs.Headers.{parse_of, width_answer};
 ghost use Rattle.stream.specs.Inside.{Ruled};
 ghost use Rattle.stream.specs.Ranges.{part_of, Short};
@@ -123,21 +123,18 @@ pub fn row_start(h: FujiHeader, b: usize) -> usize
     16 + limits::padded(4 * blocks) + b * limits::padded(row_length(h))
 }
 
-// The lowest block whose base row is not whole, or the number of blocks.
-fn first_short(d: &[u8], h: FujiHeader) -> usize
+// The lowest block whose base row is not whole.
+fn first_short(d: &[u8], h: FujiHeader) -> Option<usize>
     requires { Ruled h }
-    ensures { result ≡ first_short d.now h }
+    ensures { MatchOption result (h.blocks ≤ first_short d.now h) (λ b. (b ≡ first_short d.now h) × (b < h.blocks)) }
 {
-    let blocks = h.blocks as usize;
     let row = row_length(h);
-    let mut b = 0usize;
-    while b < blocks {
+    for b in 0..h.blocks as usize {
         if limits::ends_past(d.len(), row_start(h, b), row) {
-            return b;
+            return Some(b);
         }
-        b += 1;
     }
-    b
+    None
 }
 
 // Whether the sizes and the base rows are there.
@@ -153,8 +150,7 @@ fn open_in(d: &[u8], h: FujiHeader) -> Parsed
     if lossless {
         return Parsed::Header(h);
     }
-    let b = first_short(d, h);
-    if b < blocks {
+    if let Some(b) = first_short(d, h) {
         return Parsed::Refused(Refusal::ShortBases(b));
     }
     Parsed::Header(h)
@@ -172,15 +168,14 @@ pub fn open(d: &[u8]) -> Parsed
 }
 
 // The sizes of the blocks before block b, added.
+#[tactic(auto, unfolding(crate::specs::Streams::sizes_before))]
 fn sizes_before(d: &[u8], b: usize) -> usize
     requires { (b ≤ 16) × (16 + 4 * b ≤ length d.now) }
     ensures { (result ≡ sizes_before d.now b) × (result ≤ b * 2 ^ 32) }
 {
     let mut sum = 0usize;
-    let mut i = 0usize;
-    while i < b {
+    for i in 0..b {
         sum += size_of(d, i);
-        i += 1;
     }
     sum
 }

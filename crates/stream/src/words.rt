@@ -44,8 +44,8 @@ pub fn header_words(h: FujiHeader) -> [usize; 9]
     ensures { result ≡ header_words h }
 {
     [
-        numbers::flag_usize(h.lossless),
-        numbers::flag_usize(h.xtrans),
+        usize::from(h.lossless),
+        usize::from(h.xtrans),
         h.bits as usize,
         h.height as usize,
         h.rounded_width as usize,

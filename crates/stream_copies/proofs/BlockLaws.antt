@@ -2,14 +2,13 @@
 use borrow.Author.Tests.{lt-ltb, le-ltb, ltb-false, eq-eqb, ne_eqb}
 use borrow.Rule.Slice.PartMut.{put_mid}
 use mathlib.Core.Bool.{Bool, true, false, cond}
-use mathlib.Core.List.{List, [], ◌∷◌, ◌++◌, append-nil}
+use mathlib.Core.List.{List, [], ◌++◌, append-nil}
 use mathlib.Core.Option.{none}
 use mathlib.Core.Path.{◌≡◌, refl, sym, ap, ◌∙◌}
-use Prim.Native.Nat.{ℕ, zero, suc, ◌+◌, ◌-◌, ◌*◌, ◌≤◌, ◌<◌}
+use Prim.Native.Nat.{ℕ, suc, ◌+◌, ◌-◌, ◌*◌, ◌≤◌, ◌<◌}
 use native.Mathlib.Nat.{mul-le-mul_right}
 use native.Mathlib.Omega.{arith}
-use lib.Dec.{ltb, eqb}
-use lib.ListN.{length, get_or, take, drop, replicate, length-replicate, length-drop, take-append-drop, drop_of_length-le}
+use lib.ListN.{length, get_or, take, drop, length-replicate, length-drop, take-append-drop, drop_of_length-le}
 use lib.Seq.{take_all, drop_at, length-take-le}
 use Rattle.statistics.specs.declared.Record.{Record}
 use Rattle.quantiser.specs.Quantisers.{largest}
@@ -26,23 +25,21 @@ use Rattle.stream.specs.declared.header.Refusal.{Refusal}
 use Rattle.stream.specs.declared.header.Refusal.TheVariants.{Truncated}
 use Rattle.stream.specs.Streams.{open_of}
 use Rattle.stream.specs.declared.BlockLength.{BlockLength}
-use Rattle.stream.specs.declared.BlockLength.TheVariants.{Length, Refused}
+use Rattle.stream.specs.declared.BlockLength.TheVariants.{Refused}
 use Rattle.stream.proofs.StreamLaws.{opened}
 use Rattle.admission.specs.Beginnings.{samples_needed, records_needed}
 use Rattle.admission.specs.Beginnings.{ScratchFits}
 use Rattle.admission.specs.Writings.{writing_begins, lossy_begins}
-use Rattle.admission.specs.Above.{is_ignored, first_above}
+use Rattle.admission.specs.Above.{is_ignored}
 use Rattle.read_block.specs.Images.{form_of, bytes_in, bases_in, lines_read}
 use Rattle.read_block.specs.Lent.{Outputs, cleared_lines, cleared_records}
 use Rattle.read_block.specs.Records.{clear_record, clear_records}
 use Rattle.read_block.specs.declared.Counted.{Counted}
-use Rattle.read_block.specs.declared.Decoded.{Decoded}
 use Rattle.read_block.specs.declared.Decoded.TheVariants as Decode
 use Rattle.read_block.specs.declared.Form.{Form}
 use Rattle.read_block.proofs.DecodeLaws.{all_read, was_read}
-use Rattle.write_block.specs.WrittenBlocks.{is_strict, write_lines, written_block}
+use Rattle.write_block.specs.WrittenBlocks.{is_strict, write_lines}
 use Rattle.write_block.specs.WrittenAnswers.{length_answer, measured_answer, above_in, set_answer, written_out, SetWriting, LeftLossy}
-use Rattle.theorem_one_to_one.specs.PredictedSets.{PredictedSet}
 use Rattle.theorem_one_to_one.proofs.PredictedBlocks.{fits_is}
 use Rattle.theorem_lossy.proofs.NeverWrong.{not_strict, never_wrong}
 use Rattle.read_set.specs.HandedSets.{set_with, put_over, Sets, set_begins, SetReading, LeftSet}

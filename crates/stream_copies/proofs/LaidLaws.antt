@@ -1,28 +1,26 @@
 -- Blocks that are laid one after the other behind what is to stand before them. Assumes nothing.
 use borrow.Author.Tests.{lt-ltb, le-ltb, ltb-true, ltb-false, eqb-true}
 use mathlib.Core.Bool.{Bool, true, false, cond, ◌||◌}
-use mathlib.Core.List.{List, [], ◌∷◌, ◌++◌, append_assoc, append-nil}
+use mathlib.Core.List.{List, [], ◌++◌, append_assoc, append-nil}
 use mathlib.Core.Path.{◌≡◌, refl, sym, ap, ◌∙◌, subst}
 use Prim.Native.Nat.{ℕ, zero, suc, ◌+◌, ◌-◌, ◌*◌, ◌^◌, ◌≤◌, ◌<◌}
-use native.Mathlib.Nat.{zero-mul, mul-zero}
+use native.Mathlib.Nat.{mul-zero}
 use native.Mathlib.Numerals.{add-one}
 use native.Mathlib.Omega.{arith}
 use lib.Dec.{ltb}
-use lib.ListN.{length, get_or, set, take, drop, replicate, length-append, length-replicate, length-drop, take-append-drop}
+use lib.ListN.{length, get_or, set, take, drop, replicate, length-append, length-replicate, take-append-drop}
 use lib.Seq.{take_at, drop_at, drop-drop, length-take-le, get_or-set_same, get_or-set_other, get_or-take}
 use Rattle.numbers.specs.Numbers.{least_from}
 use Rattle.numbers.proofs.LeastLaws.{least, least_is}
 use Rattle.numbers.proofs.OrderLaws.{split}
-use Rattle.statistics.specs.declared.Record.{Record}
 use Rattle.pass_schedule.specs.Steps.{upto}
 use Rattle.stream.specs.Headers.{parse_of}
 use Rattle.stream.specs.Inside.{Ruled}
 use Rattle.stream.specs.declared.header.FujiHeader.{FujiHeader}
-use Rattle.stream.specs.declared.header.Parsed.{Parsed}
 use Rattle.stream.specs.declared.header.Parsed.TheVariants as Parsing
 use Rattle.stream.specs.declared.header.Refusal.{Refusal}
 use Rattle.stream.specs.declared.header.Refusal.TheVariants.{Truncated, ShortOutput}
-use Rattle.stream.specs.Streams.{open_of, row_length, row_start}
+use Rattle.stream.specs.Streams.{open_of, row_start}
 use Rattle.stream.specs.declared.BlockLength.{BlockLength}
 use Rattle.stream.specs.declared.BlockLength.TheVariants.{Length, Refused}
 use Rattle.stream.proofs.StreamLaws.{opened}
@@ -31,15 +29,15 @@ use Rattle.read_block.specs.Lent.{Outputs, cleared_lines, cleared_records}
 use Rattle.write_block.specs.WrittenAnswers.{length_answer, written_out}
 use Rattle.stream_front.specs.Fronts.{front_bytes, sum_of, is_long, first_long, front_answer, front_out, LeftFront}
 use Rattle.stream_front.proofs.FrontLaws.{answer_length, front_size_is}
-use Rattle.theorem_whole_streams.specs.Assembled.{length_of, assembled, Parts}
-use Rattle.theorem_whole_streams.specs.Kinds.{flagged, with_flag, set_in}
+use Rattle.theorem_whole_streams.specs.Assembled.{length_of, Parts}
+use Rattle.theorem_whole_streams.specs.Kinds.{flagged, set_in}
 use Rattle.theorem_whole_streams.specs.Fronts.{row_in}
 use Rattle.theorem_whole_streams.proofs.AssembledHolds.{assembled_opens}
 use Rattle.theorem_whole_streams.proofs.FrontHolds.{front_assembles}
 use Rattle.theorem_whole_streams.proofs.KindsHold.{flagged_parses}
 use Rattle.theorem_whole_streams.proofs.StandLaws.{length_upto}
 use Rattle.theorem_whole_streams.proofs.TightenedHolds.{assembled_same, written_short}
-use Rattle.stream_copies.specs.MadeStreams.{is_tight_call, bases_of, new_header, new_block, new_front, new_stream, is_cut, made, stop_answer, made_answer}
+use Rattle.stream_copies.specs.MadeStreams.{is_tight_call, bases_of, new_header, new_block, new_front, new_stream, is_cut, made, made_answer}
 use Rattle.stream_copies.specs.MadeStreams.{made_bytes}
 use Rattle.stream_copies.specs.Inside.{RowsFit, put_answer, BlockPut, BlocksMade}
 use Rattle.stream_copies.proofs.BlockLaws.{row_long, lines_again, records_again}

@@ -1,14 +1,13 @@
 -- What a call that makes a stream leaves, by how it begins. Assumes nothing.
 use borrow.Author.Tests.{eq-eqb, ne_eqb}
-use mathlib.Core.Bool.{Bool, true, false, cond, not, ◌||◌}
-use mathlib.Core.List.{List, [], ◌++◌}
+use mathlib.Core.Bool.{Bool, true, false}
+use mathlib.Core.List.{List, ◌++◌}
 use mathlib.Core.Path.{◌≡◌, refl, sym, ap, ◌∙◌, subst}
 use Prim.Native.Nat.{ℕ, ◌+◌, ◌-◌, ◌*◌, ◌≤◌}
 use native.Mathlib.Omega.{arith}
 use lib.Dec.{eqb}
 use lib.ListN.{length, take, drop, replicate, length-replicate}
 use lib.Seq.{take_at, drop-append-add, drop-drop}
-use Rattle.statistics.specs.declared.Record.{Record}
 use Rattle.stream.specs.Inside.{Ruled}
 use Rattle.stream.specs.declared.header.FujiHeader.{FujiHeader}
 use Rattle.stream.specs.declared.header.Parsed.{Parsed}
@@ -17,7 +16,7 @@ use Rattle.stream.specs.declared.header.Refusal.{Refusal}
 use Rattle.stream.specs.declared.header.Refusal.TheVariants.{WrongBases}
 use Rattle.stream.specs.Streams.{open_of, row_start}
 use Rattle.stream.specs.declared.BlockLength.{BlockLength}
-use Rattle.stream.specs.declared.BlockLength.TheVariants.{Length, Refused}
+use Rattle.stream.specs.declared.BlockLength.TheVariants.{Refused}
 use Rattle.stream.proofs.StreamLaws.{opened}
 use Rattle.read_block.specs.Lent.{Outputs}
 use Rattle.theorem_whole_streams.specs.Kinds.{with_flag}
@@ -25,7 +24,6 @@ use Rattle.theorem_whole_streams.proofs.SameSetsHold.{ruled_flag}
 use Rattle.stream_copies.specs.MadeStreams.{Lent, is_tight_call, new_front, made_bytes, with_room, making_begins, Making, LeftMade}
 use Rattle.stream_copies.specs.Inside.{RowsFit, BlocksMade}
 use Rattle.stream_copies.proofs.LaidLaws.{made_least}
-use Rattle.stream_copies.proofs.RoomLaws.{RoomAccepted}
 
 module _ (d rows : List ℕ) (before : Lent) (p : Parsed) where
   pub made_refused : (x : Refusal) → p ≡ Parsing.Refused x → LeftMade d rows p before before (Refused x)

@@ -1,6 +1,6 @@
 -- Promises. Calls that make a stream of one that reads: with what they ask for, and only then, `tighten` puts its tight stream, and `lossy_copy` the working copy with
 -- these bases. Assumes nothing.
-use Rattle.std.specs.Prelude.{Bool, true, false, List, [], ◌∷◌, ◌++◌, ◌↔◌, ◌≡◌, ℕ, ◌*◌, ◌≤◌, length, take, drop}
+use Rattle.std.specs.Prelude.{true, false, List, [], ◌∷◌, ◌++◌, ◌↔◌, ◌≡◌, ℕ, ◌*◌, ◌≤◌, length, take, drop}
 use Rattle.image_map.specs.Places.{width_of}
 use Rattle.colour_lines.specs.Sets.{set_size}
 use Rattle.stream.specs.declared.header.FujiHeader.{FujiHeader}

@@ -29,16 +29,8 @@ fn flagged(d: &[u8], lossless: bool) -> [u8; 16]
     ensures { result ≡ flagged lossless d.now }
 {
     let mut head = [0u8; 16];
-    let mut i: usize = 0;
-    while i < 16 {
-        head[i] = d[i];
-        i += 1;
-    }
-    if lossless {
-        head[2] = 1;
-        return head;
-    }
-    head[2] = 0;
+    head.copy_from_slice(&d[..16]);
+    head[2] = u8::from(lossless);
     head
 }
 
@@ -47,28 +39,14 @@ fn clear_front(out: &mut [u8], n: usize)
     requires { n ≤ length out.old }
     ensures { out.new ≡ replicate n 0 ++ drop n out.old }
 {
-    let mut i: usize = 0;
-    while i < n {
-        out[i] = 0;
-        i += 1;
-    }
+    out[..n].fill(0);
 }
 
 // The header that the new stream has.
 fn kind_of(h: FujiHeader, lossless: bool) -> FujiHeader
     ensures { result ≡ with_flag lossless h }
 {
-    FujiHeader {
-        lossless,
-        xtrans: h.xtrans,
-        bits: h.bits,
-        height: h.height,
-        rounded_width: h.rounded_width,
-        width: h.width,
-        block_size: h.block_size,
-        blocks: h.blocks,
-        lines: h.lines,
-    }
+    FujiHeader { lossless, ..h }
 }
 
 // A set of block b of the new stream becomes its block, at the start of the output.
@@ -89,7 +67,7 @@ fn write_new(
         let after : Outputs = record { out = out.new; lines = lines.new; records = rs.new } in
         SetWriting (bases_of h rows.now b) set.now (new_header h rows.now) before after result }
 {
-    if rows.len() == 0 {
+    if rows.is_empty() {
         return write_block(head, set, out, lines, rs);
     }
     let n = h.lines as usize;
@@ -157,15 +135,13 @@ fn make_in(
     let blocks = h.blocks as usize;
     let mut lengths = [0usize; 16];
     let mut at = front;
-    let mut b: usize = 0;
-    while b < blocks {
+    for b in 0..blocks {
         let put = put_block(d, &head, rows, h, b, out, at, set, lines, rs);
         let BlockLength::Length(n) = put else {
             return put;
         };
         lengths[b] = n;
         at += n;
-        b += 1;
     }
     finish(&head, rows, &lengths, blocks, out)
 }

@@ -6,7 +6,10 @@ use native.Mathlib.Nat.{mul-le-mul_right, div-lt_iff_lt-mul}
 use native.Mathlib.Omega.{arith}
 use lib.Arith.{digits_lt}
 use lib.ListN.{length, get_or, set, drop}
-use lib.Seq.{drop-cons, set_at}
+use lib.Seq.{drop-cons, set_at, take-suc}
+use Rattle.std.proofs.Common.{sum, take}
+use Rattle.std.proofs.lemmas.Grind.{common_steps}
+use Rattle.std.proofs.lemmas.List.{take_all}
 use native.Mathlib.Numerals.{add-one}
 use borrow.Author.Tests.{lt-ltb, le-ltb, ltb-false, eq-eqb, ne_eqb}
 use Rattle.numbers.proofs.LeastLaws.{least}
@@ -43,6 +46,23 @@ row_inside row full blocks i h k = digits_lt ((div-lt_iff_lt-mul {k = full} (ful
 pub not_long : (lengths : List ℕ) (b : ℕ) → b < first_long lengths → get_or lengths b 0 ≤ 2 ^ 32 - 1
 unfolding first_long
 not_long lengths b l = ltb-false (2 ^ 32 - 1) (get_or lengths b 0) ((least (length lengths) (λ i. is_long lengths i) 0).before b (omega arith) l)
+
+-- ---- the bytes of all blocks
+
+pub sum_so_far : (lengths : List ℕ) (n : ℕ) → n ≤ length lengths → sum_of lengths n ≡ sum (take n lengths)
+unfolding sum_of
+sum_so_far lengths zero h = refl
+sum_so_far lengths (suc n) h =
+    let e = sum_so_far lengths n (omega arith) in
+    rw (e, take-suc lengths n 0 (omega arith)) (grind (arith, common_steps))
+
+pub sum_all : (lengths : List ℕ) → sum_of lengths (length lengths) ≡ sum lengths
+sum_all lengths = sum_so_far lengths (length lengths) (omega arith) ∙ rw (take_all (length lengths) lengths (omega arith))
+
+pub sum_small : (lengths : List ℕ) (n : ℕ) → n ≤ first_long lengths → sum_of lengths n ≤ n * 2 ^ 32
+unfolding sum_of
+sum_small lengths zero h = omega arith
+sum_small lengths (suc n) h = omega (arith, sum_small lengths n (omega arith), not_long lengths n (omega arith))
 
 -- ---- a byte of what stands before the blocks
 

@@ -1,7 +1,7 @@
 // Whole streams: what is before the blocks of a stream: the header, the sizes and the base rows.
 #![tactic(auto)]
 
-ghost use Rattle.std.specs.Prelude.{◌≡◌, ◌++◌, ◌+◌, ◌*◌, ◌^◌, ◌≤◌, ◌<◌, length, get_or, drop};
+ghost use Rattle.std.specs.Prelude.{◌≡◌, ◌++◌, ◌+◌, ◌*◌, ◌^◌, ◌≤◌, ◌<◌, length, get_or, drop, MatchOption};
 ghost use Rattle.stream.specs.Headers.{parse_of};
 ghost use Rattle.stream.specs.Inside.{Ruled};
 ghost use Rattle.stream.specs.Streams.{padded, row_length, row_start};
@@ -70,31 +70,24 @@ fn front_byte(header: &[u8], h: FujiHeader, rows: &[u8], lengths: &[usize], i: u
 }
 
 // The bytes of blocks of these lengths, one after the other.
-fn sum_of(lengths: &[usize], count: usize) -> usize
-    requires { (count ≤ 16) × ((count ≡ length lengths.now) × (count ≤ first_long lengths.now)) }
-    ensures { (result ≡ sum_of lengths.now count) × (result ≤ count * 2 ^ 32) }
+fn sum_of(lengths: &[usize]) -> usize
+    requires { (length lengths.now ≤ 16) × (length lengths.now ≤ first_long lengths.now) }
+    ensures { (result ≡ sum_of lengths.now (length lengths.now)) × (result ≤ length lengths.now * 2 ^ 32) }
 {
-    let mut n: usize = 0;
-    let mut b: usize = 0;
-    while b < count {
-        n += lengths[b];
-        b += 1;
-    }
-    n
+    lengths.iter().sum()
 }
 
-// The lowest block of 2^32 bytes or more, or their number.
-fn first_long(lengths: &[usize]) -> usize
-    ensures { result ≡ first_long lengths.now }
+// The lowest block of 2^32 bytes or more.
+fn first_long(lengths: &[usize]) -> Option<usize>
+    ensures { let first = first_long lengths.now in
+        MatchOption result (length lengths.now ≤ first) (λ b. (b ≡ first) × (b < length lengths.now)) }
 {
-    let mut b: usize = 0;
-    while b < lengths.len() {
-        if 0xFFFF_FFFF < lengths[b] {
-            return b;
+    for (b, length) in lengths.iter().enumerate() {
+        if 0xFFFF_FFFF < *length {
+            return Some(b);
         }
-        b += 1;
     }
-    b
+    None
 }
 
 // What stands before the blocks goes to the start of the output.
@@ -110,10 +103,8 @@ fn fill_front(
     requires lengths_len { (length lengths.now ≡ h.blocks) × (length rows.now ≡ h.blocks * row_length h) }
     ensures { out.new ≡ front_bytes header.now h rows.now lengths.now ++ drop n out.old }
 {
-    let mut i: usize = 0;
-    while i < n {
+    for i in 0..n {
         out[i] = front_byte(header, h, rows, lengths, i);
-        i += 1;
     }
 }
 
@@ -137,8 +128,7 @@ fn put_in(
     if rows.len() != blocks * row {
         return BlockLength::Refused(Refusal::WrongBases);
     }
-    let long = first_long(lengths);
-    if long < blocks {
+    if let Some(long) = first_long(lengths) {
         return BlockLength::Refused(Refusal::LongBlock(long));
     }
     let n = front_length(h);
@@ -146,7 +136,7 @@ fn put_in(
         return BlockLength::Refused(Refusal::ShortOutput);
     }
     fill_front(header, h, rows, lengths, out, n);
-    BlockLength::Length(n + sum_of(lengths, blocks))
+    BlockLength::Length(n + sum_of(lengths))
 }
 
 // The header's bytes, the sizes and the rows go to the start of the output, and the answer is the length of the whole stream.

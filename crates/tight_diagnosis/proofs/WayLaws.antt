@@ -1,5 +1,4 @@
 -- Ways one after the other, and what answers say of them. Assumes nothing.
-use mathlib.Core.Bool.{Bool, true, false}
 use mathlib.Core.List.{List, [], ◌∷◌, ◌++◌}
 use mathlib.Core.Option.{Option, none, some, or_else, map}
 use mathlib.Core.Path.{◌≡◌, refl, sym, ap, ◌∙◌, subst}
@@ -11,12 +10,11 @@ use Rattle.bits.specs.declared.BitPosition.{BitPosition}
 use Rattle.pass_schedule.specs.Steps.{Step, upto}
 use Rattle.read_pass.specs.Readings.{Reading, read_step, and_then, reads}
 use Rattle.read_block.specs.BadCodes.{BadCode, bad_at, step_reason, bad_in_steps}
-use Rattle.tight_diagnosis.specs.Ways.{Way, found, cut_off, on, way_of, step_of, if_due, plain, step_way, steps_way}
+use Rattle.tight_diagnosis.specs.Ways.{Way, found, cut_off, on, way_of, plain, step_way, steps_way}
 use Rattle.tight_diagnosis.specs.Faults.{spot_of}
 use Rattle.tight_diagnosis.proofs.PlainLaws.{steps_plain, bad_plain}
 use Rattle.tight_diagnosis.specs.Traces.{Said, Says}
 use Rattle.code.specs.declared.reasons.BadSpot.{BadSpot}
-use Rattle.tight_diagnosis.specs.declared.trace.Sample.{Sample}
 use Rattle.tight_diagnosis.specs.declared.trace.Stage.{Stage}
 use Rattle.tight_diagnosis.specs.declared.trace.Traced.{Traced}
 use Rattle.tight_diagnosis.specs.declared.trace.Traced.TheVariants.{Bad, At, CutOff}
@@ -188,15 +186,8 @@ module _ (t : Stage) (s : List ℕ) where
       ∙ sym (then_assoc (step_way t s x r) (λ z. steps_way t s k z) (λ z. steps_way t s l z))
       ∙ ap (λ (m : Way Reading). then_way m (λ z. steps_way t s l z)) (sym (steps_first x k r))
 
-  steps_one : (x : Step) (r : Reading) → steps_way t s (x ∷ []) r ≡ step_way t s x r
+  pub steps_one : (x : Step) (r : Reading) → steps_way t s (x ∷ []) r ≡ step_way t s x r
   steps_one x r = steps_first x [] r ∙ then_same (step_way t s x r) _ _ (λ z. steps_none z) ∙ step_none x r
-
-  -- a step that the pass may have
-  pub due_one : (due : Bool) (x : Sample) (r : Reading) → due ≡ true → steps_way t s (if_due due x) r ≡ step_way t s (step_of x) r
-  due_one due x r e = rw e (steps_one (step_of x) r)
-
-  pub due_none : (due : Bool) (x : Sample) (r : Reading) → due ≡ false → steps_way t s (if_due due x) r ≡ on (plain r)
-  due_none due x r e = rw e (steps_none r)
 
   -- steps of a pass
   pub steps_next : (f : ℕ → List Step) (r : Reading) (n : ℕ) → steps_way t s (upto f (suc n)) r ≡ then_way (steps_way t s (upto f n) r) (λ z. steps_way t s (f n) z)

@@ -2,4 +2,5 @@
 pub mod Faults
 -- The definitions of the second walk.
 pub mod Ways
+pub mod Due
 pub mod Traces

@@ -1,13 +1,11 @@
 -- Inside. How a reading goes that looks for a bad code: by the definitions of reading, and of the first bad code.
-use Rattle.std.specs.Prelude.{Bool, true, cond, not, List, [], ◌∷◌, ℕ, ◌-◌, ◌*◌, ◌/◌, ◌%◌, eqb, ltb, leb}
+use Rattle.std.specs.Prelude.{List, [], ℕ}
 use Rattle.std.proofs.Math.Option.{Option, none, some, map}
-use Rattle.pass_schedule.specs.Steps.{Step, interpolated, step_at}
-use Rattle.pass_schedule.specs.declared.Plan.{Plan}
+use Rattle.pass_schedule.specs.Steps.{Step, step_at}
 use Rattle.read_pass.specs.Readings.{Reading, read_step, and_then, reads}
 use Rattle.read_block.specs.Blocks.{State, runs, pass_at, end_line, read_lines}
 use Rattle.read_block.specs.BadCodes.{BadCode, step_reason, bad_at, bad_in_steps, first_found, bad_in_pass, first_bad}
 use Rattle.read_block.specs.declared.Form.{Form}
-use Rattle.tight_diagnosis.specs.declared.trace.Due.{Due}
 use Rattle.tight_diagnosis.specs.declared.trace.Sample.{Sample}
 use Rattle.tight_diagnosis.specs.declared.trace.Stage.{Stage}
 
@@ -15,26 +13,6 @@ use Rattle.tight_diagnosis.specs.declared.trace.Stage.{Stage}
 
 abbrev pub step_of : Sample → Step
 step_of x = step_at x.line x.position x.coded
-
--- ---- the samples of a pass, four in each turn
-
--- a step that the pass may have
-abbrev pub if_due : Bool → Sample → List Step
-if_due due x = cond due (step_of x ∷ []) []
-
--- at the even position p, if it is one of the line; and at the odd position seven before p, once positions 0 to 8 are done
-abbrev pub even_due : ℕ → ℕ → ℕ → ℕ → Due
-even_due W line rule p = record { due = ltb p W; x = record { line = line; position = p; coded = not (interpolated rule p) } }
-
-abbrev pub odd_due : ℕ → ℕ → Due
-odd_due line p = record { due = leb 8 p; x = record { line = line; position = p - 7; coded = true } }
-
--- number u: of each turn the two at its even position, and then the two at its odd one
-unfoldable pub due_at : ℕ → Plan → ℕ → Due
-due_at W P u =
-    let p = 2 * (u / 4) in
-    cond (eqb (u % 4) 0) (even_due W P.first P.first_rule p)
-    (cond (eqb (u % 4) 1) (even_due W P.second P.second_rule p) (cond (eqb (u % 4) 2) (odd_due P.first p) (odd_due P.second p)))
 
 -- ---- ways
 

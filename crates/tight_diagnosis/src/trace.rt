@@ -1,6 +1,6 @@
 // A second walk over a block that is not tight, one sample at a time. It stops at the first bad code and says where it stands and why it is bad. Only
 // lossless blocks are walked: base 0, no restarts after the first line.
-ghost use Rattle.std.specs.Prelude.{◌≡◌, true, ◌+◌, ◌*◌, ◌/◌, ◌^◌, ◌≤◌, ◌<◌, length, get_or, set};
+ghost use Rattle.std.specs.Prelude.{◌≡◌, true, [], ◌∷◌, ◌+◌, ◌*◌, ◌/◌, ◌^◌, ◌≤◌, ◌<◌, length, get_or, set};
 ghost use Rattle.statistics.specs.Statistics.{updated};
 ghost use Rattle.statistics.specs.Inside.{InRange};
 ghost use Rattle.code.specs.Samples.{residual_of};
@@ -11,13 +11,14 @@ ghost use Rattle.pass_steps.specs.Contexts.{no_record};
 ghost use Rattle.pass_steps.specs.Values.{zip_records, SetInRange};
 ghost use Rattle.pass_steps.specs.Contexts.{Depth};
 ghost use Rattle.read_block.specs.Records.{start_records};
-ghost use Rattle.tight_diagnosis.specs.Ways.{if_due, even_due, odd_due, due_at, steps_way, line_way, block_way};
+ghost use Rattle.tight_diagnosis.specs.Due.{even_due, odd_due, due_at};
+ghost use Rattle.tight_diagnosis.specs.Ways.{step_of, steps_way, line_way, block_way};
 ghost use Rattle.tight_diagnosis.specs.Traces.{clean, Inside, StageAsks, PassAsks, Gives, clean_state, LineAsks, LineGives, Ends};
 
 use bits::{BitPosition, is_past};
 use code::{BadSpot, Coded, Reason, Verdict};
 use image_map::width;
-use pass_schedule::Plan;
+use pass_schedule::{Plan, Rule};
 use quantiser::Quantiser;
 use read_block::Form;
 use statistics::Record;
@@ -90,7 +91,7 @@ fn bad_spot(stage: Stage, x: Sample, at: BitPosition, reason: Reason) -> BadSpot
     }
 }
 
-// One sample is read, if it is due, or its code is bad.
+// One sample is read, or its code is bad.
 fn trace_step(
     block: &[u8],
     from: BitPosition,
@@ -98,16 +99,12 @@ fn trace_step(
     sums: &mut [u32],
     ns: &mut [u32],
     stage: Stage,
-    due: bool,
     x: Sample,
 ) -> Traced
-    requires { StageAsks stage block.now lines.old sums.old ns.old × (due ≡ true → Inside stage x) }
+    requires { StageAsks stage block.now lines.old sums.old ns.old × Inside stage x }
     ensures { let before = clean lines.old sums.old ns.old from in
-        Gives (steps_way stage block.now (if_due due x) before) lines.new sums.new ns.new result }
+        Gives (steps_way stage block.now (step_of x ∷ []) before) lines.new sums.new ns.new result }
 {
-    if !due {
-        return Traced::At(from);
-    }
     let w = stage.w;
     let p = x.position;
     let coded = x.coded;
@@ -148,53 +145,36 @@ fn trace_step(
 
 // ---- the samples of a pass
 
-// A sample of a pass, and whether the pass has it.
-#[derive(Clone, Copy)]
-struct Due {
-    due: bool,
-    x: Sample,
-}
-
 // At an even position p, if it is one of the line.
-fn even_due(w: usize, line: usize, rule: u32, p: usize) -> Due
+fn even_due(w: usize, line: usize, rule: Rule, p: usize) -> Option<Sample>
     ensures { result ≡ even_due w line rule p }
 {
-    Due {
-        due: p < w,
-        x: Sample {
-            line,
-            position: p,
-            coded: pass_schedule::has_code(rule, p),
-        },
+    if w <= p {
+        return None;
     }
+    Some(Sample {
+        line,
+        position: p,
+        coded: pass_schedule::has_code(rule, p),
+    })
 }
 
 // At the odd position seven before p, once positions 0 to 8 are done.
-fn odd_due(line: usize, p: usize) -> Due
+fn odd_due(line: usize, p: usize) -> Option<Sample>
     ensures { result ≡ odd_due line p }
 {
     if p < 8 {
-        return Due {
-            due: false,
-            x: Sample {
-                line,
-                position: 0,
-                coded: true,
-            },
-        };
+        return None;
     }
-    Due {
-        due: true,
-        x: Sample {
-            line,
-            position: p - 7,
-            coded: true,
-        },
-    }
+    Some(Sample {
+        line,
+        position: p - 7,
+        coded: true,
+    })
 }
 
 // Number u of a pass, which has four in each turn: one loop over them takes a function, where a turn, its two positions and a pair of samples took four.
-fn due_at(w: usize, plan: Plan, u: usize) -> Due
+fn due_at(w: usize, plan: Plan, u: usize) -> Option<Sample>
     ensures { result ≡ due_at w plan u }
 {
     let p = 2 * (u / 4);
@@ -228,15 +208,15 @@ fn trace_pass(
     let w = stage.w;
     let end = 4 * (w / 2 + 4);
     let mut at = from;
-    let mut u: usize = 0;
-    while u < end {
-        let d = due_at(w, plan, u);
-        let got = trace_step(block, at, lines, sums, ns, stage, d.due, d.x);
+    for u in 0..end {
+        let Some(x) = due_at(w, plan, u) else {
+            continue;
+        };
+        let got = trace_step(block, at, lines, sums, ns, stage, x);
         let Traced::At(after) = got else {
             return got;
         };
         at = after;
-        u = u + 1;
     }
     Traced::At(at)
 }
@@ -262,8 +242,7 @@ fn trace_line(
     let xtrans = form.xtrans;
     let w = width(xtrans);
     let mut at = from;
-    let mut i: usize = 0;
-    while i < 6 {
+    for i in 0..6 {
         let p = pass_schedule::plan_at(i, xtrans);
         colour_lines::set_guards(lines, w, p.first);
         colour_lines::set_guards(lines, w, p.second);
@@ -289,7 +268,6 @@ fn trace_line(
             return got;
         };
         at = after;
-        i = i + 1;
     }
     if is_past(block, at) {
         return Traced::CutOff;
@@ -302,12 +280,10 @@ fn start(sums: &mut [u32], ns: &mut [u32], bits: u32)
     requires { Depth bits × ((length sums.old ≡ 336) × (length ns.old ≡ 336)) }
     ensures { zip_records sums.new ns.new ≡ start_records bits 0 }
 {
-    let mut j: usize = 0;
-    while j < 336 {
+    for j in 0..336 {
         let r = read_block::start_record(bits, 0, j);
         sums[j] = r.sum;
         ns[j] = r.n;
-        j = j + 1;
     }
 }
 
@@ -329,15 +305,13 @@ fn trace_lines(
     start(sums, ns, bits);
     let q = Quantiser::main(bits, 0);
     let mut at = BitPosition(0);
-    let mut n: usize = 0;
-    while n < count {
+    for n in 0..count {
         colour_lines::turn(lines, w);
         let got = trace_line(block, at, lines, sums, ns, form, q, n);
         let Traced::At(after) = got else {
             return got;
         };
         at = after;
-        n = n + 1;
     }
     Traced::At(at)
 }

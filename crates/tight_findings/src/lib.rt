@@ -22,14 +22,13 @@ fn find_in(d: &[u8], h: FujiHeader) -> Finding
     ensures { result ≡ lowest d.now h h.blocks }
 {
     let blocks = h.blocks as usize;
-    let mut b: usize = 0;
-    while b < blocks {
+    for b in 0..blocks {
         let answer = answer_at(d, h, b);
         let fault = fault_at(d, h, b, answer);
         match fault {
             Fault::Code(x) => return Finding::Code(b, x),
             Fault::Tail(lines, at) => return Finding::Tail(b, lines, at),
-            Fault::None => b = b + 1,
+            Fault::None => {}
         }
     }
     Finding::Nothing

@@ -1,4 +1,5 @@
-// What is found in a stream that is not tight, and its text.
+// What is found in a stream that is not tight, and its text. It is not written by `write!`: `report` promises each byte of lent memory
+// (`text_of`), and std has no writer over a slice.
 ghost use Rattle.std.specs.Prelude.{◌≡◌, ◌+◌, ◌≤◌, length};
 ghost use Rattle.tight_findings.specs.Texts.{heading, number_text, field, reason_text, code_text, tail_record, text_of};
 ghost use Rattle.tight_findings.specs.Inside.{Put};
@@ -21,13 +22,9 @@ fn put(out: &mut [u8], at: usize, text: &[u8]) -> usize
     requires { at + length text.now ≤ length out.old }
     ensures { Put out.old at text.now out.new result }
 {
-    let n = text.len();
-    let mut i: usize = 0;
-    while i < n {
-        out[at + i] = text[i];
-        i = i + 1;
-    }
-    at + n
+    let end = at + text.len();
+    out[at..end].copy_from_slice(text);
+    end
 }
 
 fn put_number(out: &mut [u8], at: usize, n: u64) -> usize

@@ -33,6 +33,7 @@ fn read_once(input: &mut impl Read, buf: &mut [u8]) -> io::Result<usize>
 fn read_all(input: &mut impl Read, buf: &mut [u8]) -> io::Result<usize>
     ensures { IfOk result (λ n. n ≤ length buf.new) }
 {
+    // A `while`: each read says how many bytes it gave.
     let mut done: usize = 0;
     while done < buf.len() {
         let n = read_once(input, &mut buf[done..])?;

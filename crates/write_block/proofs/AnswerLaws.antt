@@ -1,5 +1,5 @@
 -- The writer's answer: samples that are looked at first, the measured length, and the block at the start of the output. Assumes nothing.
-use borrow.Author.Tests.{lt-ltb, le-ltb, le-leb, leb-true, ltb-false}
+use borrow.Author.Tests.{le-ltb, le-leb, leb-true, ltb-false}
 use mathlib.Core.Bool.{Bool, true, false, cond, not, ◌||◌, and-false}
 use mathlib.Core.List.{List, [], ◌∷◌, ◌++◌}
 use mathlib.Core.Option.{Option, none, some}
@@ -252,24 +252,21 @@ module _ (F : Form) (bases : List ℕ) (count : ℕ) (t out : List ℕ) (k : Sto
 
 -- ---- the answer for any set
 
-module _ (F : Form) (bases : List ℕ) (count : ℕ) (t : List ℕ) (room m i : ℕ) (strict : Bool) (em : m ≡ largest F.bits) (es : strict ≡ is_strict bases)
-    (ei : first_above (is_ignored F.xtrans strict) m 0 t ≡ cond (ltb i (length t)) (some i) none) where
-  first_is : above_in F bases t ≡ cond (ltb i (length t)) (some i) none
-  first_is = rw (em, es) at ei
+module _ (F : Form) (bases : List ℕ) (count : ℕ) (t : List ℕ) (room m : ℕ) (strict : Bool) (em : m ≡ largest F.bits) (es : strict ≡ is_strict bases) where
+  first_is : (o : Option ℕ) → first_above (is_ignored F.xtrans strict) m 0 t ≡ o → above_in F bases t ≡ o
+  first_is o e = rw (em, es) at e
 
-  pub set_above : i < length t → Refused (AboveLargest i) ≡ set_answer F bases count t room
+  pub set_above : (i : ℕ) → first_above (is_ignored F.xtrans strict) m 0 t ≡ some i → Refused (AboveLargest i) ≡ set_answer F bases count t room
   unfolding set_answer
-  set_above h = rw (first_is, lt-ltb i (length t) h)
+  set_above i e = rw (first_is (some i) e)
 
-  no_first : length t ≤ i → above_in F bases t ≡ none
-  no_first h = first_is ∙ rw (le-ltb i (length t) h)
+  pub set_wanted : first_above (is_ignored F.xtrans strict) m 0 t ≡ none → SetWanted F t
+  set_wanted e = none_wanted F bases t (first_is none e)
 
-  pub set_wanted : length t ≤ i → SetWanted F t
-  set_wanted h = none_wanted F bases t (no_first h)
-
-  pub set_answer_lem : length t ≤ i → (a : BlockLength) → a ≡ measured_answer F bases count t room → a ≡ set_answer F bases count t room
+  pub set_answer_lem : first_above (is_ignored F.xtrans strict) m 0 t ≡ none → (a : BlockLength) → a ≡ measured_answer F bases count t room
+      → a ≡ set_answer F bases count t room
   unfolding set_answer
-  set_answer_lem h a e = e ∙ rw (no_first h)
+  set_answer_lem e a h = h ∙ rw (first_is none e)
 
 -- ---- which sets are written: exactly those that fit, where the output is long enough
 

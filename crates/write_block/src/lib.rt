@@ -71,8 +71,7 @@ fn write_line(
     let xtrans = form.xtrans;
     let w = width(xtrans);
     let mut at = from;
-    let mut i: usize = 0;
-    while i < 6 {
+    for i in 0..6 {
         let p = pass_schedule::plan_at(i, xtrans);
         colour_lines::set_guards(lines, w, p.first);
         colour_lines::set_guards(lines, w, p.second);
@@ -87,7 +86,6 @@ fn write_line(
         let new = done.set;
         store_set(rs, p.set, new);
         at = done.at;
-        i = i + 1;
     }
     Put::At(at)
 }
@@ -114,8 +112,7 @@ fn write_lines(
     colour_lines::clear(lines);
     start_records(rs, bits, base_of(bases, 0));
     let mut at = BitPosition(0);
-    let mut n: usize = 0;
-    while n < count {
+    for n in 0..count {
         colour_lines::turn(lines, w);
         let base = base_of(bases, n);
         restart(rs, bits, base, is_restarted(bases, n));
@@ -135,7 +132,6 @@ fn write_lines(
             return got;
         };
         at = after;
-        n = n + 1;
     }
     Put::At(at)
 }
@@ -172,15 +168,13 @@ fn look_line(samples: &[u16], n: usize, lines: &mut [u16], form: Form) -> bool
     let bits = form.bits;
     let xtrans = form.xtrans;
     let w = width(xtrans);
-    let mut i: usize = 0;
-    while i < 6 {
+    for i in 0..6 {
         let p = pass_schedule::plan_at(i, xtrans);
         colour_lines::set_guards(lines, w, p.first);
         colour_lines::set_guards(lines, w, p.second);
         if !write_pass::look_pass(samples, n, lines, w, p, bits) {
             return false;
         }
-        i = i + 1;
     }
     true
 }
@@ -193,13 +187,11 @@ fn look_lines(samples: &[u16], lines: &mut [u16], form: Form, count: usize) -> b
 {
     let w = width(form.xtrans);
     colour_lines::clear(lines);
-    let mut n: usize = 0;
-    while n < count {
+    for n in 0..count {
         colour_lines::turn(lines, w);
         if !look_line(samples, n, lines, form) {
             return false;
         }
-        n = n + 1;
     }
     true
 }
@@ -313,8 +305,7 @@ fn write_set(
     ensures lines_after { (lines.new ≡ zero_lines (width_of form.xtrans)) × (rs.new ≡ clear_records) }
 {
     let m = quantiser::largest(form.bits);
-    let i = first_above(samples, m, form.xtrans, is_strict(bases));
-    if i < samples.len() {
+    if let Some(i) = first_above(samples, m, form.xtrans, is_strict(bases)) {
         colour_lines::clear(lines);
         clear_records(rs);
         return BlockLength::Refused(Refusal::AboveLargest(i));

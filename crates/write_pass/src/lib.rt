@@ -19,7 +19,6 @@ ghost use Rattle.write_pass.specs.Puts.{code_number, put_if, Room, CodingAsks, C
 
 use bit_output::Put;
 use bits::BitPosition;
-use numbers::u16_to_u32;
 use pass_schedule::Plan;
 use pass_steps::{Quantisers, Set, Spot};
 use prediction::Context;
@@ -273,7 +272,7 @@ fn write_even(
     let i = pass_steps::left_of(w, plan.first, p);
     let j = index_in(w, n, plan.first, p);
     let x = pass_steps::context_at(lines, w + 2, i, p);
-    let v = u16_to_u32(samples[j]);
+    let v = u32::from(samples[j]);
     if pass_schedule::has_code(plan.first_rule, p) {
         let c = coded_as(spot.bits, base, totals, p, x, v);
         lines[i + 1] = c.value as u16;
@@ -298,7 +297,7 @@ fn write_even(
     let i = pass_steps::left_of(w, plan.second, p);
     let j = index_in(w, n, plan.second, p);
     let x = pass_steps::context_at(lines, w + 2, i, p);
-    let v = u16_to_u32(samples[j]);
+    let v = u32::from(samples[j]);
     if pass_schedule::has_code(plan.second_rule, p) {
         let c = coded_as(spot.bits, base, totals, p, x, v);
         lines[i + 1] = c.value as u16;
@@ -361,7 +360,7 @@ fn write_odd(
     let i = pass_steps::left_of(w, plan.first, q);
     let j = index_in(w, n, plan.first, q);
     let x = pass_steps::context_at(lines, w + 2, i, q);
-    let v = u16_to_u32(samples[j]);
+    let v = u32::from(samples[j]);
     let c = coded_as(spot.bits, base, totals, q, x, v);
     lines[i + 1] = c.value as u16;
     let choice = c.choice;
@@ -379,7 +378,7 @@ fn write_odd(
     let i = pass_steps::left_of(w, plan.second, q);
     let j = index_in(w, n, plan.second, q);
     let x = pass_steps::context_at(lines, w + 2, i, q);
-    let v = u16_to_u32(samples[j]);
+    let v = u32::from(samples[j]);
     let c = coded_as(spot.bits, base, totals, q, x, v);
     lines[i + 1] = c.value as u16;
     let choice = c.choice;
@@ -424,6 +423,7 @@ pub fn write_pass(
     let mut ns = set.ns;
     let mut ks = pass_steps::ks_of(&sums, &ns);
     let mut at = from;
+    // Not `step_by(2)`, as in `look_pass`.
     let mut p = 0;
     while p < w + 8 {
         let evens = write_even(

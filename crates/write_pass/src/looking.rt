@@ -6,7 +6,6 @@ ghost use Rattle.colour_lines.specs.Sets.{line_size};
 ghost use Rattle.write_pass.specs.Looks.{SampleLooked, LookAsks, Right, PassLookAsks};
 
 use crate::index_in;
-use numbers::u16_to_u32;
 use pass_schedule::Plan;
 use pass_steps::Spot;
 
@@ -29,7 +28,7 @@ fn look_at(
     let v = samples[j];
     if !coded {
         let x = pass_steps::context_at(lines, w + 2, i, p);
-        if u16_to_u32(v) != x.prediction {
+        if u32::from(v) != x.prediction {
             return false;
         }
     }
@@ -119,6 +118,7 @@ pub fn look_pass(
     requires { PassLookAsks bits w plan samples.now n lines.old }
     ensures { result ≡ true → Right bits w samples.now n (pass_steps w plan) lines.old lines.new }
 {
+    // Not `(0..w + 8).step_by(2)`: tried, and the proof does not close, since such a loop ends within its last turn and not at the invariant.
     let mut p = 0;
     while p < w + 8 {
         if !look_even(samples, n, lines, Spot { w, bits, plan, p }) {

@@ -4,9 +4,7 @@ use Prim.Native.Nat.{ℕ, ◌+◌, ◌-◌, ◌*◌, ◌/◌, ◌%◌, ◌^◌, 
 use native.Mathlib.Omega.{arith}
 use lib.Arith.{digits_lt}
 use lib.Pow.{pow-add, shr_lt, shl_lt, shl_exact}
-use Rattle.bit_output.proofs.PutLaws.{filled_byte}
 use Rattle.bit_output.proofs.filled.Goals as goal
-use Rattle.bit_output.proofs.filled.Goals.{After-u8_to_u32}
 
 module _ (x u t part j k : ℕ) (hx : x < 256) (hj : u + j ≡ 8) (hk : t + k ≡ j) (hp : part < 2 ^ t) where
   kept-lt : x / 2 ^ j < 2 ^ u
@@ -27,21 +25,9 @@ module _ (x u t part j k : ℕ) (hx : x < 256) (hj : u + j ≡ 8) (hk : t + k �
   sum_lt : (x / 2 ^ j * 2 ^ j) % 2 ^ 32 + (part * 2 ^ k) % 2 ^ 32 < 256
   sum_lt = rw (sum_is) (rw (← pow-add 2 u j, hj) at (digits_lt kept-lt low-lt))
 
-here : (c : After-u8_to_u32) →
-    ((c.u8_to_u32.result / 2 ^ (8 - c.args.used) * 2 ^ (8 - c.args.used)) % 2 ^ 32 + (c.args.part * 2 ^ (8 - c.args.used - c.args.t)) % 2 ^ 32 ≡ filled_byte c.args.old c.args.used c.args.t c.args.part)
-    × ((c.u8_to_u32.result / 2 ^ (8 - c.args.used) * 2 ^ (8 - c.args.used)) % 2 ^ 32 + (c.args.part * 2 ^ (8 - c.args.used - c.args.t)) % 2 ^ 32 < 256)
-here c =
-    let hj : c.args.used + (8 - c.args.used) ≡ 8 = omega (arith, c.requires.0) in
-    let hk : c.args.t + (8 - c.args.used - c.args.t) ≡ 8 - c.args.used = omega (arith, c.requires.1.0) in (
-      rw (← c.u8_to_u32.ensures.0) (sum_is c.u8_to_u32.result c.args.used c.args.t c.args.part _ _ c.u8_to_u32.ensures.1 hj hk c.requires.1.1),
-      sum_lt c.u8_to_u32.result c.args.used c.args.t c.args.part _ _ c.u8_to_u32.ensures.1 hj hk c.requires.1.1,
-    )
-
-pub overflow_add-result : goal.overflow_add-result
-overflow_add-result c = omega (arith, (here c).1)
-
 pub overflow_cast-result : goal.overflow_cast-result
-overflow_cast-result c = omega (arith, (here c).1)
-
-pub returns : goal.returns
-returns c = (here c).0
+overflow_cast-result c =
+    let x : c.from.result < 256 = omega (arith, c.from.ensures, c.ranges.old) in
+    let hj : c.args.used + (8 - c.args.used) ≡ 8 = omega (arith, c.requires.0) in
+    let hk : c.args.t + (8 - c.args.used - c.args.t) ≡ 8 - c.args.used = omega (arith, c.requires.1.0) in
+    omega (arith, sum_lt c.from.result c.args.used c.args.t c.args.part _ _ x hj hk c.requires.1.1)

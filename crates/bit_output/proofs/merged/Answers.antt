@@ -13,9 +13,6 @@ use Rattle.bit_output.proofs.merged.Goals.{Start}
 power_is : (r : ℕ) → r < 64 → (1 * 2 ^ r) % 2 ^ 64 ≡ 2 ^ r
 power_is r h = shl_exact {a = 1} 1 r 64 (lit< tt) (omega arith) ∙ one-mul (2 ^ r)
 
-power_pos : (r : ℕ) → r < 64 → 0 < (1 * 2 ^ r) % 2 ^ 64
-power_pos r h = rw (power_is r h) (pow_pos r)
-
 rest_fits : (k x m : ℕ) → k < 2 ^ 32 → x < 2 ^ 32 → k + x % m < 2 ^ 64
 rest_fits k x m hk hx = omega (arith, mod-le x m)
 
@@ -55,9 +52,6 @@ here c =
       power_is (32 - 8 * ((c.args.used + c.args.n + 7) / 8)) (omega arith),
       sum_lt c.args.old c.args.used c.args.n c.args.value _ _ _ c.requires.0 hp hq hr,
     )
-
-pub nonzero_rem-low : goal.nonzero_rem-low
-nonzero_rem-low c = power_pos _ (omega arith)
 
 pub overflow_add-result : goal.overflow_add-result
 overflow_add-result c = record { fits = omega (arith, (here c).0, (here c).1, (here c).3) }

@@ -1,5 +1,4 @@
 -- `bit_output::put_bits` meets its contract: at once where four bytes have room, else byte after byte. Assumes nothing.
-use borrow.Author.Rules.{rules}
 use borrow.Author.Tests.{leb-true}
 use mathlib.Core.Bool.{true, ◌&&◌}
 use mathlib.Core.Path.{◌≡◌}
@@ -13,18 +12,6 @@ use Rattle.bit_output.proofs.put_bits.Goals as goal
 -- the test of the short way
 tests : (used n from k : ℕ) → leb (used + n) 24 && leb (from + 4) k ≡ true → (used + n ≤ 24) × (from + 4 ≤ k)
 tests used n from k e = let t = both (leb (used + n) 24) (leb (from + 4) k) e in (leb-true _ _ t.0, leb-true _ _ t.1)
-
-pub load32-requires : goal.load32-requires
-load32-requires c =
-    (tests c.in_byte-used.result c.args.n c.byte-from.result.0 (length c.args.out.now) c.if-used-n.true).1
-
-pub merged-requires : goal.merged-requires
-merged-requires c =
-    (c.load32.ensures.1, (search rules, (c.requires.0, (tests c.in_byte-used.result c.args.n c.byte-from.result.0 (length c.args.out.now) c.if-used-n.true).0)))
-
-pub store32-requires : goal.store32-requires
-store32-requires c =
-    ((tests c.in_byte-used.result c.args.n c.byte-from.result.0 (length c.args.out.now) c.if-used-n.true).1, c.merged.ensures.upper_bound)
 
 pub returns-then-used-n : goal.returns-then-used-n
 returns-then-used-n c =

@@ -3,28 +3,12 @@ use mathlib.Core.Path.{◌≡◌}
 use mathlib.Core.List.{List}
 use Prim.Native.Nat.{ℕ, ◌+◌, ◌*◌, ◌<◌}
 use lib.ListN.{get_or}
-use native.Mathlib.Omega.{arith}
 use Rattle.bits.specs.Bits.{bits_at, be32}
 use Rattle.bits.proofs.BitLaws.{be64_bits}
 use Rattle.bits.proofs.load64.Goals as goal
 
 loaded : (s : List ℕ) (i a b : ℕ) → ((k : ℕ) → get_or s k 0 < 256) → a ≡ be32 s i → b ≡ be32 s (i + 4) → a * 0x100000000 + b ≡ bits_at s (8 * i) 64
 loaded s i a b h ea eb = rw (ea, eb) (be64_bits s i h)
-
-pub load32-requires : goal.load32-requires
-load32-requires c = omega (arith, c.requires)
-
-pub overflow_mul-result : goal.overflow_mul-result
-overflow_mul-result c = omega (arith, c.load32.ensures)
-
-pub overflow_add-i : goal.overflow_add-i
-overflow_add-i c = omega (arith, c.requires)
-
-pub load32-requires-2 : goal.load32-requires-2
-load32-requires-2 c = omega (arith, c.requires)
-
-pub overflow_add-result : goal.overflow_add-result
-overflow_add-result c = omega (arith, c.load32.ensures, c.load32-2.ensures)
 
 pub returns : goal.returns
 returns c = loaded _ _ _ _ (λ k. (c.shared_slice_known-1.given k).fits) c.load32.ensures.0 c.load32-2.ensures.0

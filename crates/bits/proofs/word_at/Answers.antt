@@ -4,7 +4,6 @@ use mathlib.Core.Path.{◌≡◌}
 use mathlib.Core.List.{List}
 use Prim.Native.Nat.{ℕ, ◌+◌, ◌*◌, ◌/◌, ◌%◌, ◌^◌, ◌≤◌, ◌<◌}
 use lib.ListN.{length}
-use native.Mathlib.Omega.{arith}
 use Rattle.bits.specs.Bits.{bits_at}
 use Rattle.bits.specs.Inside.{word_at}
 use Rattle.bits.proofs.BitLaws.{shifted_window}
@@ -17,15 +16,6 @@ there s p i w ei h ew = rw (ew, ei, le-leb _ _ (rw ei at h)) (shifted_window s p
 gone : (s : List ℕ) (p i : ℕ) → i ≡ p / 8 → length s < i + 8 → 0 ≡ word_at s p
 unfolding word_at
 gone s p i ei h = rw (lt-leb _ _ (rw ei at h))
-
-pub byte-from-requires : goal.byte-from-requires
-byte-from-requires c = tt
-
-pub overflow_add-from : goal.overflow_add-from
-overflow_add-from c = omega (arith, c.byte-from.ensures)
-
-pub load64-requires : goal.load64-requires
-load64-requires c = omega (arith, c.byte-from.ensures)
 
 pub returns-then-from-s : goal.returns-then-from-s
 returns-then-from-s c = there _ _ _ _ c.byte-from.ensures c.if-from-s.true c.load64.ensures

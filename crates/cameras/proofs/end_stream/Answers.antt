@@ -1,38 +1,9 @@
 -- `cameras::end_stream` meets its contract: all holds of the camera are given back. Assumes nothing.
-use mathlib.Core.Path.{◌≡◌}
-use native.Mathlib.Omega.{arith}
 use Rattle.cameras.proofs.EntryLaws.{each_start, each_more}
 use Rattle.cameras.proofs.end_stream.Goals as goal
 
 pub loop-i-init : goal.loop-i-init
-loop-i-init c = (omega arith, each_start _ _)
-
-pub offset_bounds-after-i : goal.offset_bounds-after-i
-offset_bounds-after-i c = omega (arith, c.loop-i.invariant)
-
-pub bounds-after-i : goal.bounds-after-i
-bounds-after-i c = omega (arith, c.loop-i.invariant)
-
-pub free_of-requires : goal.free_of-requires
-free_of-requires c = tt
-
-pub offset_bounds-after-i-in-loop-i : goal.offset_bounds-after-i-in-loop-i
-offset_bounds-after-i-in-loop-i c = omega (arith, c.loop-i.invariant)
-
-pub bounds-after-i-in-loop-i : goal.bounds-after-i-in-loop-i
-bounds-after-i-in-loop-i c = omega (arith, c.loop-i.invariant)
-
-pub overflow_add-i : goal.overflow_add-i
-overflow_add-i c = omega (arith, c.loop-i.invariant)
-
-pub loop-i-smaller : goal.loop-i-smaller
-loop-i-smaller c = omega (arith, c.loop-i.invariant)
+loop-i-init c = each_start _ _
 
 pub loop-i-preserved : goal.loop-i-preserved
-loop-i-preserved c =
-    (omega (arith, c.loop-i-test.true), each_more _ _ _ _ _ c.loop-i.invariant.1 c.free_of.ensures)
-
-pub returns : goal.returns
-returns c =
-    let e : c.loop-i.i ≡ 16 = omega (arith, c.loop-i.invariant.0, c.loop-i-test.false) in
-    rw e at c.loop-i.invariant.1
+loop-i-preserved c = each_more _ _ _ _ _ c.loop-i.invariant c.free_of.ensures

@@ -4,4 +4,4 @@ use Rattle.pass_ahead.proofs.even_prediction.Goals as goal
 
 pub returns : goal.returns
 returns c =
-    even_made c.args.rf c.args.rc c.args.rb c.args.rd _ _ _ _ _ _ _ _ _ c.distance16-f.ensures c.distance16-c.ensures c.distance16-d.ensures c.is_most-no_c.ensures c.is_most-no_d.ensures c.pick16-x.ensures c.pick16-y.ensures c.half_sum.ensures c.half_sum-2.ensures
+    even_made c.args.rf c.args.rc c.args.rb c.args.rd _ _ _ _ _ _ _ _ _ c.abs_diff-f.ensures c.abs_diff-c.ensures c.abs_diff-d.ensures c.is_most-no_c.ensures c.is_most-no_d.ensures c.pick-x.ensures c.pick-y.ensures c.half_sum.ensures c.half_sum-2.ensures

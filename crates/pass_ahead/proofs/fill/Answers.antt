@@ -1,17 +1,13 @@
 -- `pass_ahead::fill` meets its contract. Assumes nothing.
 use native.Mathlib.Omega.{arith}
-use mathlib.Core.Path.{◌≡◌, refl}
+use mathlib.Core.Path.{◌≡◌}
 use Prim.Native.Nat.{ℕ, ◌+◌, ◌-◌, ◌*◌, ◌≤◌}
-use lib.ListN.{length}
 use Rattle.pass_ahead.proofs.AheadLaws.{placed, lossless_ahead, lossy_ahead}
 use Rattle.pass_ahead.proofs.fill.Goals as goal
 use Rattle.pass_ahead.proofs.fill.Goals.{Start}
 
 low : (c : Start) → 2 * (c.args.w + 2) ≤ c.args.line * (c.args.w + 2)
 low c = (placed c.args.w c.args.line _ c.requires.le_w.1.1.0 c.requires.w_in_bounds).0
-
-high : (c : Start) → c.args.line * (c.args.w + 2) + (c.args.w + 2) ≤ length c.args.lines.now
-high c = (placed c.args.w c.args.line _ c.requires.le_w.1.1.0 c.requires.w_in_bounds).1
 
 -- where the samples of the lines above are taken from
 abbrev from : (c : Start) → ℕ
@@ -25,24 +21,6 @@ from_is c = omega (arith, low c, c.requires.le_w.0)
 
 top_is : (c : Start) → top c + 2 * (c.args.w + 2) ≡ c.args.line * (c.args.w + 2) + c.args.c + 1
 top_is c = omega (arith, low c)
-
-pub overflow_sub-from : goal.overflow_sub-from
-overflow_sub-from c = omega (arith, low (goal.at.overflow_sub-from c).Start)
-
-pub overflow_sub-from-2 : goal.overflow_sub-from-2
-overflow_sub-from-2 c = omega (arith, low (goal.at.overflow_sub-from-2 c).Start, c.requires.le_w.0)
-
-pub split-requires : goal.split-requires
-split-requires c = record {
-  n_bound = (omega (arith, c.requires.le_w), omega (arith, low (goal.at.split-requires c).Start, high (goal.at.split-requires c).Start, c.requires.le_w));
-  odds_len = (refl, refl);
-}
-
-pub overflow_sub-from-3 : goal.overflow_sub-from-3
-overflow_sub-from-3 c = omega (arith, low (goal.at.overflow_sub-from-3 c).Start)
-
-pub take_every_second-requires : goal.take_every_second-requires
-take_every_second-requires c = (omega (arith, c.requires.le_w), (omega (arith, low (goal.at.take_every_second-requires c).Start, high (goal.at.take_every_second-requires c).Start, c.requires.le_w), refl))
 
 pub returns-then-base-eq0 : goal.returns-then-base-eq0
 returns-then-base-eq0 c =

@@ -6,9 +6,6 @@ use Rattle.pass_ahead.specs.Looks.{Raised}
 use Rattle.pass_ahead.proofs.OddLaws.{continued}
 use Rattle.pass_ahead.proofs.gradient_with.Goals as goal
 
-pub raised_level-requires : goal.raised_level-requires
-raised_level-requires c = rw c.difference-v.ensures (c.requires.0, c.requires.1.0)
-
 pub returns : goal.returns
 returns c =
     let e : Raised c.args.t.base _ c.raised_level.result = subst (λ (v : Signed). Raised c.args.t.base v c.raised_level.result) c.difference-v.ensures c.raised_level.ensures.0 in

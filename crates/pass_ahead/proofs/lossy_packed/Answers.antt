@@ -1,4 +1,6 @@
 -- `pass_ahead::lossy_packed` meets its contract. Assumes nothing.
+use Rattle.std.proofs.Math.Nat.{min_comm}
+use mathlib.Core.Path.{◌∙◌}
 use mathlib.Core.Path.{◌≡◌, ◌∙◌}
 use Prim.Native.Nat.{ℕ, ◌+◌, min}
 use Rattle.code.specs.Samples.{choice_of}
@@ -12,4 +14,4 @@ chosen q m n d e a k c b eb ed ea ee ek ec = choice_counted q (a + k) c b eb ec 
 
 pub packed_by-requires : goal.packed_by-requires
 packed_by-requires c =
-    (c.requires.0, (chosen c.args.t.base _ _ _ _ _ _ _ c.args.b c.requires.1 c.distance16.ensures c.smaller16.ensures.0 c.distance16-2.ensures c.smaller16-2.ensures.0 c.choice16.ensures.0, c.choice16.ensures.1))
+    (c.requires.0, (chosen c.args.t.base _ _ _ _ _ _ _ c.args.b c.requires.1 c.abs_diff.ensures (c.min.ensures ∙ min_comm _ _) c.abs_diff-2.ensures (c.min-2.ensures ∙ min_comm _ _) c.choice16.ensures.0, c.choice16.ensures.1))

@@ -5,13 +5,10 @@ use Rattle.quantiser.specs.Quantisers.{level_size}
 use Rattle.pass_ahead.proofs.LookLaws.{below, not_below}
 use Rattle.pass_ahead.proofs.raised16.Goals as goal
 
-pub level_size16-size-requires : goal.level_size16-size-requires
-level_size16-size-requires c = rw c.distance16.ensures c.requires
-
 pub returns-then-a-b : goal.returns-then-a-b
 returns-then-a-b c =
-    (below c.args.used c.args.a c.args.b _ c.if-a-b.true (c.level_size16-size.ensures.0 ∙ ap (level_size c.args.used) c.distance16.ensures) c.level_size16-size.ensures.1, search rules)
+    (below c.args.used c.args.a c.args.b _ c.if-a-b.true (c.level_size16-size.ensures.0 ∙ ap (level_size c.args.used) c.abs_diff.ensures) c.level_size16-size.ensures.1, search rules)
 
 pub returns-else-a-b : goal.returns-else-a-b
 returns-else-a-b c =
-    (not_below c.args.used c.args.a c.args.b _ c.if-a-b.false (c.level_size16-size.ensures.0 ∙ ap (level_size c.args.used) c.distance16.ensures), search rules)
+    (not_below c.args.used c.args.a c.args.b _ c.if-a-b.false (c.level_size16-size.ensures.0 ∙ ap (level_size c.args.used) c.abs_diff.ensures), search rules)

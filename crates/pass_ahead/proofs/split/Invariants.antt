@@ -1,10 +1,6 @@
 -- `pass_ahead::split` meets its contract: the entries before i are there. Assumes nothing.
-use Prim.Native.Nat.{◌-◌, ◌≤◌}
 use Rattle.pass_ahead.specs.Arrays.{Filled, Second, After}
 use Rattle.pass_ahead.proofs.split.Given as goal
 
 abbrev pub invariant-loop-i : goal.invariant-loop-i
-invariant-loop-i l = (l.i ≤ l.n) × Filled 56 (Second l.lines l.from) l.i l.odds × Filled 56 (After l.lines l.from) l.i l.evens
-
-abbrev pub decreases-loop-i : goal.decreases-loop-i
-decreases-loop-i l = l.n - l.i
+invariant-loop-i l = Filled 56 (Second l.lines l.from) l.i l.odds × Filled 56 (After l.lines l.from) l.i l.evens

@@ -1,5 +1,4 @@
 -- `pass_schedule::plan_at` meets its contract: the table is the list of the passes. Assumes nothing.
-use native.Mathlib.Omega.{arith}
 use Rattle.pass_schedule.specs.Steps.{plan_of}
 use Rattle.pass_schedule.proofs.plan_at.Goals as goal
 
@@ -10,9 +9,3 @@ returns-then-xtrans c = rw c.if-xtrans.true
 pub returns : goal.returns
 unfolding plan_of
 returns c = rw c.if-xtrans.false
-
-pub offset_bounds-i : goal.offset_bounds-i
-offset_bounds-i c = omega (arith, c.requires)
-
-pub bounds-i-i : goal.bounds-i-i
-bounds-i-i c = c.requires

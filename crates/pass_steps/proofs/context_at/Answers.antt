@@ -20,9 +20,3 @@ returns-then-p-eq0 c = (c.even_context.ensures.0 ∙ even _ _ _ _ c.if-p-eq0.tru
 
 pub returns : goal.returns
 returns c = (c.odd_context.ensures.0 ∙ odd _ _ _ _ c.if-p-eq0.false, c.odd_context.ensures.1)
-
-pub even_context-requires : goal.even_context-requires
-even_context-requires c = c.requires
-
-pub odd_context-requires : goal.odd_context-requires
-odd_context-requires c = c.requires

@@ -3,7 +3,6 @@ use mathlib.Core.List.{List}
 use mathlib.Core.Path.{◌≡◌}
 use Prim.Native.Nat.{ℕ, ◌+◌, ◌-◌, ◌*◌}
 use lib.ListN.{get_or}
-use native.Mathlib.Omega.{arith}
 use Rattle.prediction.specs.Predictions.{even_context}
 use Rattle.prediction.specs.declared.Context.{Context}
 use Rattle.pass_steps.specs.Values.{even_at}
@@ -16,61 +15,4 @@ made lines S i rf rc rb rd x ef ec eb ed e = rw (e, ef, ec, eb, ed)
 
 pub returns : goal.returns
 returns c =
-    (made _ c.args.s c.args.i _ _ _ _ _ c.u16_to_u32.ensures.0 c.u16_to_u32-2.ensures.0 c.u16_to_u32-3.ensures.0 c.u16_to_u32-4.ensures.0 c.even.ensures.0, c.even.ensures.1)
-
-pub overflow_add-i : goal.overflow_add-i
-overflow_add-i c = omega (arith, c.requires)
-
-pub overflow_mul-s : goal.overflow_mul-s
-overflow_mul-s c = omega (arith, c.requires)
-
-pub overflow_sub-i : goal.overflow_sub-i
-overflow_sub-i c = omega (arith, c.requires)
-
-pub offset_bounds-lines-i : goal.offset_bounds-lines-i
-offset_bounds-lines-i c = omega (arith, c.requires)
-
-pub bounds-lines-i : goal.bounds-lines-i
-bounds-lines-i c = omega (arith, c.requires)
-
-pub overflow_sub-i-2 : goal.overflow_sub-i-2
-overflow_sub-i-2 c = omega (arith, c.requires)
-
-pub offset_bounds-lines-i-2 : goal.offset_bounds-lines-i-2
-offset_bounds-lines-i-2 c = omega (arith, c.requires)
-
-pub bounds-lines-i-2 : goal.bounds-lines-i-2
-bounds-lines-i-2 c = omega (arith, c.requires)
-
-pub overflow_add-i-2 : goal.overflow_add-i-2
-overflow_add-i-2 c = omega (arith, c.requires)
-
-pub overflow_sub-i-3 : goal.overflow_sub-i-3
-overflow_sub-i-3 c = omega (arith, c.requires)
-
-pub offset_bounds-lines-i-3 : goal.offset_bounds-lines-i-3
-offset_bounds-lines-i-3 c = omega (arith, c.requires)
-
-pub bounds-lines-i-3 : goal.bounds-lines-i-3
-bounds-lines-i-3 c = omega (arith, c.requires)
-
-pub overflow_add-i-3 : goal.overflow_add-i-3
-overflow_add-i-3 c = omega (arith, c.requires)
-
-pub overflow_sub-i-4 : goal.overflow_sub-i-4
-overflow_sub-i-4 c = omega (arith, c.requires)
-
-pub offset_bounds-lines-i-4 : goal.offset_bounds-lines-i-4
-offset_bounds-lines-i-4 c = omega (arith, c.requires)
-
-pub bounds-lines-i-4 : goal.bounds-lines-i-4
-bounds-lines-i-4 c = omega (arith, c.requires)
-
-pub even-requires : goal.even-requires
-even-requires c = omega (
-  arith,
-  c.u16_to_u32.ensures,
-  c.u16_to_u32-2.ensures,
-  c.u16_to_u32-3.ensures,
-  c.u16_to_u32-4.ensures,
-)
+    (made _ c.args.s c.args.i _ _ _ _ _ c.from.ensures c.from-2.ensures c.from-3.ensures c.from-4.ensures c.even.ensures.0, c.even.ensures.1)

@@ -35,19 +35,10 @@ of_thresholds v u w x g ev eg = eg ∙ ap (λ (b : ℕ). gradient_of b w x.first
 pub gradient_by-g-requires : goal.gradient_by-g-requires
 gradient_by-g-requires c =
     let e = at_hand c.args.base _ _ _ _ c.args.x c.requires.1.1.0 c.used_base-used.ensures.0 c.thresholds_of.ensures c.with_base-t.ensures in
-    (rw (ap (λ (z : Thresholds). z.base) c.with_base-t.ensures) c.used_base-used.ensures.1, (c.used_weight.ensures.1, (serving c.args.base _ _ c.args.x e (omega arith), serving c.args.base _ _ c.args.x e (omega arith))))
+    (rw (ap (λ (z : Thresholds). z.base) c.with_base-t.ensures) omega (arith, c.used_base-used.ensures.1, c.requires), (c.used_weight.ensures.1, (serving c.args.base _ _ c.args.x e (omega arith), serving c.args.base _ _ c.args.x e (omega arith))))
 
 pub returns : goal.returns
 returns c =
     let eg = of_thresholds c.with_base-t.result _ _ c.args.x c.gradient_by-g.result (ap (λ (t : Thresholds). t.base) c.with_base-t.ensures) c.gradient_by-g.ensures.0 in
     let e = made c.args.base _ _ _ _ c.args.x c.gradient_by-g.result c.requires.1.1.0 c.used_base-used.ensures.0 c.used_weight.ensures.0 eg c.place_of.ensures in
-    (e, (c.requires.1.0, (c.used_base-used.ensures.1, omega (arith, place_lt c.args.base c.args.x, ap (λ (h : Look). h.place) e))))
-
-pub used_base-used-requires : goal.used_base-used-requires
-used_base-used-requires c = omega (arith, c.requires)
-
-pub thresholds_of-requires : goal.thresholds_of-requires
-thresholds_of-requires c = omega (arith, c.requires)
-
-pub place_of-requires : goal.place_of-requires
-place_of-requires c = omega (arith, c.requires)
+    (e, (c.requires.1.0, (omega (arith, c.used_base-used.ensures.1, c.requires), omega (arith, place_lt c.args.base c.args.x, ap (λ (h : Look). h.place) e))))

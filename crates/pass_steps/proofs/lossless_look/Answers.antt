@@ -18,6 +18,3 @@ lossless x g eg = rw eg (sym (look_lossless x))
 pub returns : goal.returns
 returns c =
     (lossless _ _ c.gradient-g.ensures.0, (zero-le, (lit< tt, omega (arith, c.gradient-g.ensures.1))))
-
-pub overflow_cast-result : goal.overflow_cast-result
-overflow_cast-result c = omega (arith, c.gradient-g.ensures)

@@ -1,6 +1,6 @@
 -- `prediction::even_prediction` meets its contract. Assumes nothing.
 use mathlib.Core.Path.{◌≡◌}
-use Prim.Native.Nat.{ℕ, ◌+◌, ◌-◌, ◌*◌, ◌/◌, ◌^◌, ◌<◌}
+use Prim.Native.Nat.{ℕ, ◌+◌, ◌-◌, ◌*◌, ◌/◌, ◌^◌}
 use native.Mathlib.Omega.{arith}
 use lib.Pow.{le_ones, lt_of_le_ones}
 use Rattle.numbers.specs.Numbers.{distance}
@@ -13,18 +13,8 @@ made : (rf rc rb rd f c d x : ℕ) → f ≡ distance rb rf → c ≡ distance r
 unfolding even_prediction
 made rf rc rb rd f c d x ef ec ed ex = let turned : f ≡ distance rf rb = omega arith in rw (ex, turned, ec, ed)
 
-sum_fits : (rf rc rb rd x : ℕ) → rf < 2 ^ 16 → rc < 2 ^ 16 → rb < 2 ^ 16 → rd < 2 ^ 16 → rf + rc + rd - x + 2 * rb < 2 ^ 32
-sum_fits rf rc rb rd x hf hc hb hd = omega arith
-
-pub overflow_sub-result : goal.overflow_sub-result
-overflow_sub-result c = c.dropped.ensures.1
-
-pub overflow_add-result-3 : goal.overflow_add-result-3
-overflow_add-result-3 c =
-    record { fits = sum_fits c.args.rf c.args.rc c.args.rb c.args.rd c.dropped.result c.requires.0 c.requires.1.0 c.requires.1.1.0 c.requires.1.1.1 }
-
 pub returns : goal.returns
 returns c =
-    let e = made c.args.rf c.args.rc c.args.rb c.args.rd _ _ _ c.dropped.result c.distance-f.ensures c.distance-c.ensures c.distance-d.ensures c.dropped.ensures.0 in
+    let e = made c.args.rf c.args.rc c.args.rb c.args.rd _ _ _ c.dropped.result c.abs_diff-f.ensures c.abs_diff-c.ensures c.abs_diff-d.ensures c.dropped.ensures.0 in
     let l = even_le (2 ^ 16 - 1) c.args.rf c.args.rc c.args.rb c.args.rd (le_ones 16 c.requires.0) (le_ones 16 c.requires.1.0) (le_ones 16 c.requires.1.1.0) (le_ones 16 c.requires.1.1.1) in
     (e, rw e (lt_of_le_ones 16 l))

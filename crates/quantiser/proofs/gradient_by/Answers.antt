@@ -1,21 +1,9 @@
 -- `quantiser::gradient_by` meets its contract: both levels are raised by 4, and so the sum by 4 * weight + 4. Assumes nothing.
 use mathlib.Core.Path.{ap, ◌∙◌}
-use Prim.Native.Nat.{ℕ, ◌*◌, ◌≤◌}
-use native.Mathlib.Nat.{mul-le-mul}
 use native.Mathlib.Omega.{arith}
 use Rattle.numbers.specs.declared.Signed.{Signed}
 use Rattle.quantiser.proofs.GradientLaws.{raised, gradient_le, level_le}
 use Rattle.quantiser.proofs.gradient_by.Goals as goal
-
-product : (w x : ℕ) → w ≤ 9 → x ≤ 8 → w * x ≤ 72
-product w x hw hx = mul-le-mul hw hx
-
-pub overflow_mul-raised : goal.overflow_mul-raised
-overflow_mul-raised c = omega (arith, product c.args.weight c.raised_level.result c.requires.1.0 c.raised_level.ensures.1)
-
-pub overflow_add-raised : goal.overflow_add-raised
-overflow_add-raised c =
-    omega (arith, product c.args.weight c.raised_level.result c.requires.1.0 c.raised_level.ensures.1)
 
 pub returns : goal.returns
 returns c =

@@ -3,9 +3,6 @@ use native.Mathlib.Omega.{arith}
 use Rattle.quantiser.proofs.QuantiserLaws.{log2_is, log2_le}
 use Rattle.quantiser.proofs.log2ceil.Goals as goal
 
-pub overflow_sub-result-2 : goal.overflow_sub-result-2
-overflow_sub-result-2 c = (log2_is _ c.requires.0 c.requires.1).0
-
 pub returns : goal.returns
 returns c =
     let e = log2_is _ c.requires.0 c.requires.1 in

@@ -1,12 +1,9 @@
 -- `read_set::set_begins` meets its contract. Assumes nothing.
-use Rattle.read_set.proofs.PutLaws.{few_lines, begins_no_block, begins_wrong, begins_refused, begins_on}
+use Rattle.read_set.proofs.PutLaws.{begins_no_block, begins_wrong, begins_refused, begins_on}
 use Rattle.read_set.proofs.set_begins.Goals as goal
 
 pub returns-then-h-b : goal.returns-then-h-b
 returns-then-h-b c = begins_no_block _ _ _ _ _ _ c.open-opened.ensures _ c.in-Header.is c.if-h-b.true
-
-pub set_size-requires : goal.set_size-requires
-set_size-requires c = few_lines _ 0 0 0 0 _ c.open-opened.ensures _ c.in-Header.is
 
 pub returns-then-count-set_size : goal.returns-then-count-set_size
 returns-then-count-set_size c =

@@ -22,4 +22,4 @@ overflow_mul-room c =
 pub returns : goal.returns
 returns c =
     let small = product_small c.args.longest c.args.k _ _ c.requires.2 c.requires.1 c.saturating_sub.ensures c.power.ensures.0 in
-    (count_is c.args.depth c.args.k c.args.longest _ _ _ _ c.saturating_sub.ensures c.power.ensures.0 c.power-2.ensures.0 c.smaller.ensures.0, omega (arith, small))
+    (count_is c.args.depth c.args.k c.args.longest _ _ _ _ c.saturating_sub.ensures c.power.ensures.0 c.power-2.ensures.0 c.min.ensures, omega (arith, small))

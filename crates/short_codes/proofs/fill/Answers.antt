@@ -1,6 +1,6 @@
 -- `short_codes::fill` meets its contract: the entries before `code` are written. Assumes nothing.
 use borrow.Author.Rules.{rules}
-use mathlib.Core.Path.{◌≡◌, sym, ◌∙◌}
+use mathlib.Core.Path.{◌≡◌, refl, sym, ◌∙◌}
 use mathlib.Core.List.{List}
 use Prim.Native.Nat.{ℕ, ◌+◌, ◌*◌, ◌/◌, ◌%◌, ◌^◌, ◌≤◌, ◌<◌}
 use native.Mathlib.Omega.{arith}
@@ -27,17 +27,17 @@ done d k n count code l₀ l e a b long new =
 
 pub loop-code-init : goal.loop-code-init
 loop-code-init c =
-    (search rules, search rules, new_none (entry_at c.args.depth c.args.k) c.args.list.now)
+    (refl, new_none (entry_at c.args.depth c.args.k) c.args.list.now)
 
 pub entry-requires : goal.entry-requires
 entry-requires c =
-    (c.requires.0.k_high, runs _ _ _ _ _ c.requires.0 c.requires.1 c.loop-code-test.true)
+    (c.requires.0.k_high, runs _ _ _ _ _ c.requires.0 c.requires.1 (omega arith))
 
 pub loop-code-preserved : goal.loop-code-preserved
 loop-code-preserved c =
-    let is = entry_at_lem _ _ _ _ _ _ c.requires.0 c.requires.1 c.loop-code-test.true c.entry.ensures in
-    (search rules, search rules, new_more (entry_at c.args.depth c.args.k) c.args.list.now c.loop-code.list c.loop-code.code c.entry.result (omega arith) is c.loop-code.invariant.2)
+    let is = entry_at_lem _ _ _ _ _ _ c.requires.0 c.requires.1 (omega arith) c.entry.ensures in
+    (search rules, new_more (entry_at c.args.depth c.args.k) c.args.list.now c.loop-code.list c.loop-code.code c.entry.result (omega arith) is c.loop-code.invariant.1)
 
 pub returns : goal.returns
 returns c =
-    done _ _ _ c.args.count c.loop-code.code c.args.list.now c.loop-code.list c.requires.1 c.loop-code.invariant.0 (omega arith) c.loop-code.invariant.1 c.loop-code.invariant.2
+    done _ _ _ c.args.count c.loop-code.code c.args.list.now c.loop-code.list c.requires.1 (omega arith) (omega arith) c.loop-code.invariant.0 c.loop-code.invariant.1

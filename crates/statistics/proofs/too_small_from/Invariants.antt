@@ -1,5 +1,5 @@
 -- `statistics::too_small_from` meets its contract. The invariant: what the search from j on still adds to j, and the numbers counted so far, make up what the search
--- from k on adds to k; the measure is 15 - j. Assumes nothing.
+-- from k on adds to k. Assumes nothing.
 use mathlib.Core.Path.{◌≡◌}
 use Prim.Native.Nat.{ℕ, ◌+◌, ◌-◌, ◌≤◌}
 use Rattle.numbers.specs.Numbers.{least_from}
@@ -11,10 +11,7 @@ abbrev pub from : ℕ → ℕ → ℕ → ℕ
 from sum n j = least_from (15 - j) (enough sum n) j
 
 abbrev pub Counted : ℕ → ℕ → ℕ → ℕ → ℕ → Type 0
-Counted sum n k count j = (k ≤ j) × (j ≤ 15) × (count + k ≤ j) × (from sum n j + (count + k) ≡ from sum n k + j)
+Counted sum n k count j = (count + k ≤ j) × (from sum n j + (count + k) ≡ from sum n k + j)
 
 abbrev pub invariant-loop-j : goal.invariant-loop-j
 invariant-loop-j l = Counted l.sum l.n l.k l.count l.j
-
-abbrev pub decreases-loop-j : goal.decreases-loop-j
-decreases-loop-j l = 15 - l.j

@@ -1,7 +1,6 @@
 -- `stream_copies::lossy_copy` meets its contract. Assumes nothing.
-use borrow.Author.Rules.{rules}
 use mathlib.Core.Bool.{true}
-use mathlib.Core.Path.{◌≡◌, refl}
+use mathlib.Core.Path.{refl}
 use native.Mathlib.Omega.{arith}
 use Rattle.stream.proofs.StreamLaws.{opened}
 use Rattle.stream_front.proofs.FrontLaws.{product_le}

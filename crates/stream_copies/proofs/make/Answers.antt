@@ -1,13 +1,11 @@
 -- `stream_copies::make` meets its contract, by how it begins. Assumes nothing.
-use borrow.Author.Rules.{rules}
-use mathlib.Core.List.{List}
 use mathlib.Core.Path.{◌≡◌, refl, sym, ap, ◌∙◌}
 use native.Mathlib.Omega.{arith}
 use lib.ListN.{length, replicate}
 use Prim.Native.Nat.{ℕ}
 use Rattle.stream.proofs.StreamLaws.{opened}
 use Rattle.stream_copies.specs.MadeStreams.{is_tight_call}
-use Rattle.stream_copies.proofs.RoomLaws.{RoomAccepted, room_accepted}
+use Rattle.stream_copies.proofs.RoomLaws.{room_accepted}
 use Rattle.stream_copies.proofs.MadeLaws.{made_refused, made_on, opens_on, fits_on, ruled_on, front_on, zeros_taken, made_behind}
 use Rattle.stream_copies.proofs.make.Goals as goal
 

@@ -1,16 +1,13 @@
 -- `stream_copies::make_in` meets its contract: b blocks are laid. Assumes nothing.
 use borrow.Author.Rules.{rules}
-use mathlib.Core.List.{List}
-use mathlib.Core.Path.{◌≡◌, refl, sym, ap, ◌∙◌}
-use Prim.Native.Nat.{ℕ, ◌+◌, ◌-◌, ◌≤◌, ◌<◌}
+use mathlib.Core.Path.{refl, sym, ap, ◌∙◌}
 use native.Mathlib.Omega.{arith}
 use lib.ListN.{length, length-set}
 use Rattle.stream.proofs.HeaderLaws.{parsed}
 use Rattle.stream.proofs.StreamLaws.{opened}
-use Rattle.read_block.specs.Lent.{Outputs}
 use Rattle.theorem_whole_streams.proofs.KindsHold.{flagged_length}
 use Rattle.stream_copies.specs.MadeStreams.{is_tight_call}
-use Rattle.stream_copies.proofs.LaidLaws.{Laid, laid_none, laid_more, laid_cut, laid_end}
+use Rattle.stream_copies.proofs.LaidLaws.{laid_none, laid_more, laid_cut, laid_end}
 use Rattle.stream_copies.proofs.make_in.Goals as goal
 
 pub flagged-head-requires : goal.flagged-head-requires
@@ -19,7 +16,6 @@ flagged-head-requires c =
 
 pub loop-b-init : goal.loop-b-init
 loop-b-init c = (
-  search rules,
   refl,
   refl,
   refl,
@@ -39,33 +35,17 @@ pub put_block-put-requires : goal.put_block-put-requires
 put_block-put-requires c =
     record {
       d_value = (c.requires.d_value.0, c.flagged-head.ensures);
-      rows_fit = (c.requires.d_value.1, (c.loop-b-test.true, omega (arith, c.loop-b.invariant.6.room, c.loop-b.invariant.1)));
+      rows_fit = (c.requires.d_value.1, (c.loop-b-test.true, omega (arith, c.loop-b.invariant.5.room, c.loop-b.invariant.0)));
       set_len = (
-        omega (arith, c.loop-b.invariant.2, c.requires.set_len.0),
-        record { for_lines = omega (arith, c.loop-b.invariant.3, c.requires.set_len.1.for_lines); for_records = omega (arith, c.loop-b.invariant.4, c.requires.set_len.1.for_records) },
+        omega (arith, c.loop-b.invariant.1, c.requires.set_len.0),
+        record { for_lines = omega (arith, c.loop-b.invariant.2, c.requires.set_len.1.for_lines); for_records = omega (arith, c.loop-b.invariant.3, c.requires.set_len.1.for_records) },
       );
     }
 
-pub shape_of-out-in_default : goal.shape_of-out-in_default
-shape_of-out-in_default c =
-    omega (arith, c.put_block-put.auto, c.loop-b.invariant.1)
-
-pub shape_of-set-in_default : goal.shape_of-set-in_default
-shape_of-set-in_default c =
-    omega (arith, c.put_block-put.auto, c.loop-b.invariant.2)
-
-pub shape_of-lines-in_default : goal.shape_of-lines-in_default
-shape_of-lines-in_default c =
-    omega (arith, c.put_block-put.auto, c.loop-b.invariant.3)
-
-pub shape_of-rs-in_default : goal.shape_of-rs-in_default
-shape_of-rs-in_default c =
-    omega (arith, c.put_block-put.auto, c.loop-b.invariant.4)
-
 pub returns-in_default : goal.returns-in_default
 returns-in_default c =
-    laid_cut c.args.d.now c.args.h c.args.rows.now _ _ _ c.loop-b.lengths c.loop-b.at c.loop-b.b c.loop-b.invariant.6
-    c.loop-b-test.true c.loop-b.invariant.1 _ _
+    laid_cut c.args.d.now c.args.h c.args.rows.now _ _ _ c.loop-b.lengths c.loop-b.at c.loop-b.b c.loop-b.invariant.5
+    c.loop-b-test.true c.loop-b.invariant.0 _ _
     c.put_block-put.ensures c.in_default.is
 
 -- the next one
@@ -73,41 +53,28 @@ pub bounds-lengths-b : goal.bounds-lengths-b
 bounds-lengths-b c =
     omega (arith, c.loop-b-test.true, (opened c.args.d.now c.args.h c.requires.d_value.0).ruled.blocks_high)
 
-pub offset_bounds-lengths-b : goal.offset_bounds-lengths-b
-offset_bounds-lengths-b c =
-    omega (arith, c.loop-b-test.true, (opened c.args.d.now c.args.h c.requires.d_value.0).ruled.blocks_high)
-
 pub overflow_add-at : goal.overflow_add-at
 overflow_add-at c =
     let more =
-    laid_more c.args.d.now c.args.h c.args.rows.now _ _ _ c.loop-b.lengths c.loop-b.at c.loop-b.b c.loop-b.invariant.6 c.loop-b-test.true c.loop-b.invariant.1 _ _
+    laid_more c.args.d.now c.args.h c.args.rows.now _ _ _ c.loop-b.lengths c.loop-b.at c.loop-b.b c.loop-b.invariant.5 c.loop-b-test.true c.loop-b.invariant.0 _ _
     c.put_block-put.ensures c.in-Length.is (omega (
       arith,
       c.loop-b-test.true,
-      c.loop-b.invariant.5,
+      c.loop-b.invariant.4,
       (opened c.args.d.now c.args.h
           c.requires.d_value.0).ruled.blocks_high,
     )) in
     omega (arith, more.room, c.well_formed)
 
-pub overflow_add-b : goal.overflow_add-b
-overflow_add-b c =
-    omega (arith, c.loop-b-test.true, (opened c.args.d.now c.args.h c.requires.d_value.0).ruled.blocks_high)
-
-pub loop-b-smaller : goal.loop-b-smaller
-loop-b-smaller c =
-    omega (arith, c.loop-b-test.true)
-
 pub loop-b-preserved : goal.loop-b-preserved
 loop-b-preserved c = (
-  omega (arith, c.loop-b-test.true),
+  omega (arith, c.put_block-put.auto, c.loop-b.invariant.0),
   omega (arith, c.put_block-put.auto, c.loop-b.invariant.1),
   omega (arith, c.put_block-put.auto, c.loop-b.invariant.2),
   omega (arith, c.put_block-put.auto, c.loop-b.invariant.3),
-  omega (arith, c.put_block-put.auto, c.loop-b.invariant.4),
-  simp length-set c.loop-b.invariant.5,
-  laid_more c.args.d.now c.args.h c.args.rows.now _ _ _ c.loop-b.lengths c.loop-b.at c.loop-b.b c.loop-b.invariant.6 c.loop-b-test.true c.loop-b.invariant.1 _ _
-      c.put_block-put.ensures c.in-Length.is (omega (arith, c.loop-b-test.true, c.loop-b.invariant.5, (opened c.args.d.now c.args.h c.requires.d_value.0).ruled.blocks_high)),
+  simp length-set c.loop-b.invariant.4,
+  laid_more c.args.d.now c.args.h c.args.rows.now _ _ _ c.loop-b.lengths c.loop-b.at c.loop-b.b c.loop-b.invariant.5 c.loop-b-test.true c.loop-b.invariant.0 _ _
+      c.put_block-put.ensures c.in-Length.is (omega (arith, c.loop-b-test.true, c.loop-b.invariant.4, (opened c.args.d.now c.args.h c.requires.d_value.0).ruled.blocks_high)),
 )
 
 pub slice_bounds-finish-end : goal.slice_bounds-finish-end
@@ -116,26 +83,23 @@ slice_bounds-finish-end c =
     c.args.h (opened c.args.d.now c.args.h c.requires.d_value.0).parsed)
 
 pub slice_bounds-finish-end-2 : goal.slice_bounds-finish-end-2
-slice_bounds-finish-end-2 c = sym c.loop-b.invariant.5
+slice_bounds-finish-end-2 c = sym c.loop-b.invariant.4
 
 pub finish-requires : goal.finish-requires
 finish-requires c =
-    omega (arith, c.loop-b.invariant.5, (opened c.args.d.now c.args.h c.requires.d_value.0).ruled.blocks_high)
-
-pub shape_of-out : goal.shape_of-out
-shape_of-out c = omega (arith, c.finish.auto, c.loop-b.invariant.1)
+    omega (arith, c.loop-b.invariant.4, (opened c.args.d.now c.args.h c.requires.d_value.0).ruled.blocks_high)
 
 pub shape_of-set : goal.shape_of-set
-shape_of-set c = c.loop-b.invariant.2
+shape_of-set c = c.loop-b.invariant.1
 
 pub shape_of-lines : goal.shape_of-lines
-shape_of-lines c = c.loop-b.invariant.3
+shape_of-lines c = c.loop-b.invariant.2
 
 pub shape_of-rs : goal.shape_of-rs
-shape_of-rs c = c.loop-b.invariant.4
+shape_of-rs c = c.loop-b.invariant.3
 
 pub returns : goal.returns
 returns c =
     laid_end c.args.d.now c.args.h c.args.rows.now _ _ c.loop-b.lengths c.loop-b.at c.loop-b.b
-    (omega (arith, c.loop-b.invariant.0, c.loop-b-test.false)) c.loop-b.invariant.6
-    c.requires.d_value.0 c.requires.d_value.1 c.loop-b.invariant.5 c.loop-b.invariant.1 _ c.flagged-head.ensures _ _ c.finish.ensures
+    (omega (arith, c.loop-b.auto.b-end, c.loop-b-test.false)) c.loop-b.invariant.5
+    c.requires.d_value.0 c.requires.d_value.1 c.loop-b.invariant.4 c.loop-b.invariant.0 _ c.flagged-head.ensures _ _ c.finish.ensures

@@ -1,9 +1,5 @@
 -- `stream_copies::put_block` meets its contract: no set that is read is refused by the writer. Assumes nothing.
-use borrow.Author.Rules.{rules}
 use native.Mathlib.Omega.{arith}
-use Prim.Native.Nat.{◌-◌}
-use lib.ListN.{length}
-use mathlib.Core.Path.{refl}
 use Rattle.stream_copies.proofs.BlockLaws.{is_ruled, set_left, head_parses, put_cut, put_done, part_is, part_back}
 use Rattle.stream_copies.proofs.put_block.Goals as goal
 

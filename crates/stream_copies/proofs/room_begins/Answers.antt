@@ -1,6 +1,4 @@
 -- `stream_copies::room_begins` meets its contract. Assumes nothing.
-use borrow.Author.Rules.{rules}
-use native.Mathlib.Omega.{arith}
 use Rattle.stream_copies.proofs.RoomLaws.{room_count, room_scratch, room_ruled, room_short, room_on}
 use Rattle.stream_copies.proofs.room_begins.Goals as goal
 

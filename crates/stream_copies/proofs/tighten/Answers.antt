@@ -1,5 +1,4 @@
 -- `stream_copies::tighten` meets its contract: it is the call without rows. Assumes nothing.
-use borrow.Author.Rules.{rules}
 use mathlib.Core.Bool.{true, false}
 use mathlib.Core.List.{[]}
 use mathlib.Core.Path.{◌≡◌}

@@ -1,5 +1,4 @@
 -- `stream_front::first_long` meets its contract. The invariant: the search from b on gives what the search from 0 on gives. Assumes nothing.
-use borrow.Author.Rules.{rules}
 use mathlib.Core.List.{List}
 use mathlib.Core.Path.{◌≡◌, sym, ◌∙◌}
 use Prim.Native.Nat.{ℕ, ◌+◌, ◌-◌, ◌^◌, ◌≤◌, ◌<◌}
@@ -24,14 +23,14 @@ module _ (lengths : List ℕ) (b : ℕ) (inv : first_long lengths ≡ longFrom l
       let e : length lengths - b - 1 ≡ length lengths - (b + 1) = omega arith in
       inv ∙ least_next (length lengths - b) (λ i. is_long lengths i) b (omega arith) (le-ltb _ _ l) ∙ rw e
 
-pub returns-then-lengths-b-gt4294967295 : goal.returns-then-lengths-b-gt4294967295
-returns-then-lengths-b-gt4294967295 c = here _ _ c.loop-b.invariant.1 c.if-lengths-b-gt4294967295.true
+pub returns-then-length-gt4294967295 : goal.returns-then-length-gt4294967295
+returns-then-length-gt4294967295 c = (here _ _ c.loop-b.invariant (omega arith), omega arith)
 
 pub loop-b-preserved : goal.loop-b-preserved
-loop-b-preserved c = (search rules, next _ _ c.loop-b.invariant.1 c.loop-b-test.true (omega arith))
+loop-b-preserved c = next _ _ c.loop-b.invariant (omega arith) (omega arith)
 
 pub returns : goal.returns
-returns c = sym (c.loop-b.invariant.1 ∙ least_last _ _ _ (omega arith))
+returns c = let e = c.loop-b.invariant ∙ least_last _ _ _ (omega arith) in omega arith
 
 pub loop-b-init : goal.loop-b-init
-loop-b-init c = (search rules, start _)
+loop-b-init c = start _

@@ -51,17 +51,17 @@ returns-then-rows-blocks c = (
   refl,
 )
 
-pub returns-then-long-blocks : goal.returns-then-long-blocks
-returns-then-long-blocks c = (
-  long_answer _ _ _ _ _ c.first_long-long.ensures c.if-lengths-blocks.false (c.if-rows-blocks.false ∙ rw c.row_length-row.ensures.0)
-      c.if-long-blocks.true,
+pub returns-in-Some : goal.returns-in-Some
+returns-in-Some c = (
+  long_answer _ _ _ _ _ c.in-Some.ensures.0 c.if-lengths-blocks.false (c.if-rows-blocks.false ∙ rw c.row_length-row.ensures.0)
+      (omega arith),
   refl,
 )
 
 pub returns-then-out-n : goal.returns-then-out-n
 returns-then-out-n c = (
-  short_answer _ _ _ _ _ _ c.first_long-long.ensures c.front_length-n.ensures.0 c.if-lengths-blocks.false
-      (c.if-rows-blocks.false ∙ rw c.row_length-row.ensures.0) c.if-long-blocks.false c.if-out-n.true,
+  short_answer _ _ _ _ _ _ refl c.front_length-n.ensures.0 c.if-lengths-blocks.false
+      (c.if-rows-blocks.false ∙ rw c.row_length-row.ensures.0) (rw c.if-lengths-blocks.false at c.in_default.ensures) c.if-out-n.true,
   refl,
 )
 
@@ -74,7 +74,7 @@ fill_front-requires c =
 
 pub returns : goal.returns
 returns c = (
-  length_answer _ _ _ _ _ _ _ c.first_long-long.ensures c.front_length-n.ensures.0 c.sum_of.ensures.0 c.if-lengths-blocks.false
-      (c.if-rows-blocks.false ∙ rw c.row_length-row.ensures.0) c.if-long-blocks.false c.if-out-n.false,
+  length_answer _ _ _ _ _ _ _ refl c.front_length-n.ensures.0 (rw c.if-lengths-blocks.false at c.sum_of.ensures.0) c.if-lengths-blocks.false
+      (c.if-rows-blocks.false ∙ rw c.row_length-row.ensures.0) (rw c.if-lengths-blocks.false at c.in_default.ensures) c.if-out-n.false,
   put _ _ _ _ _ _ _ c.front_length-n.ensures.0 c.fill_front.ensures,
 )

@@ -1,47 +1,17 @@
--- `stream_front::sum_of` meets its contract. The invariant: the sum is that of the first b lengths. Assumes nothing.
-use borrow.Author.Rules.{rules}
-use mathlib.Core.List.{List}
-use mathlib.Core.Path.{◌≡◌, refl, ap, ◌∙◌}
-use Prim.Native.Nat.{ℕ, ◌+◌, ◌-◌, ◌^◌, ◌≤◌}
-use native.Mathlib.Numerals.{add-one}
-use native.Mathlib.Omega.{arith}
-use lib.ListN.{get_or}
-use Rattle.stream_front.specs.Fronts.{sum_of}
-use Rattle.stream_front.proofs.FrontLaws.{not_long}
+-- `stream_front::sum_of` meets its contract. Assumes nothing.
+use Rattle.std.proofs.Common.{arith, sym, ◌∙◌, length}
+use Rattle.std.proofs.lemmas.Iterator.{YieldsList-from_slice}
+use Rattle.std.proofs.lemmas.Iterator.Consumers.{sum_from_yields_List, fits_from_yields_list}
+use Rattle.stream_front.proofs.FrontLaws.{sum_all, sum_small}
 use Rattle.stream_front.proofs.sum_of.Goals as goal
-use Rattle.stream_front.proofs.sum_of.Goals.{In-loop-b}
 
-next : (lengths : List ℕ) (b n : ℕ) → n ≡ sum_of lengths b → n + get_or lengths b 0 ≡ sum_of lengths (b + 1)
-unfolding sum_of
-next lengths b n e = rw (e, add-one b)
-
-small : (c : In-loop-b) → get_or c.args.lengths.now c.loop-b.b 0 ≤ 2 ^ 32 - 1
-small c = not_long c.args.lengths.now c.loop-b.b (omega (arith, c.loop-b-test.true, c.requires.1.1))
-
-pub loop-b-init : goal.loop-b-init
-unfolding sum_of
-loop-b-init c = (search rules, refl, search rules)
-
-pub loop-b-preserved : goal.loop-b-preserved
-loop-b-preserved c =
-    (omega (arith, c.loop-b-test.true), next _ _ _ c.loop-b.invariant.1, omega (arith, small (goal.at.loop-b-preserved c).In-loop-b, c.loop-b.invariant.2))
+pub sum-requires-clause-fits : goal.sum-requires-clause-fits
+sum-requires-clause-fits c =
+    let s = sum_small c.args.lengths.now (length c.args.lengths.now) c.requires.1 in
+    let e = sum_all c.args.lengths.now in
+    fits_from_yields_list c.iter.result _ (YieldsList-from_slice c.args.lengths.now cc) (omega (arith, c.requires.0))
 
 pub returns : goal.returns
 returns c =
-    let e : c.loop-b.b ≡ c.args.count = omega (arith, c.loop-b.invariant.0) in
-    (c.loop-b.invariant.1 ∙ ap (sum_of _) e, omega (arith, c.loop-b.invariant.2))
-
-pub offset_bounds-lengths-b : goal.offset_bounds-lengths-b
-offset_bounds-lengths-b c = omega (arith, c.requires.0)
-
-pub bounds-lengths-b : goal.bounds-lengths-b
-bounds-lengths-b c = omega (arith, c.loop-b-test.true, c.requires.1.0)
-
-pub overflow_add-n : goal.overflow_add-n
-overflow_add-n c = omega (arith, small (goal.at.overflow_add-n c).In-loop-b, c.loop-b.invariant, c.requires.0)
-
-pub overflow_add-b : goal.overflow_add-b
-overflow_add-b c = omega (arith, c.requires.0)
-
-pub loop-b-smaller : goal.loop-b-smaller
-loop-b-smaller c = omega arith
+    let e = sum_from_yields_List c.iter.result _ c.sum.ensures.ran (YieldsList-from_slice c.args.lengths.now cc) ∙ sym (sum_all c.args.lengths.now) in
+    (e, omega (arith, e, sum_small c.args.lengths.now (length c.args.lengths.now) c.requires.1))

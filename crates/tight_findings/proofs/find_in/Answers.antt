@@ -1,5 +1,4 @@
 -- `tight_findings::find_in` meets its contract: no block before b has a fault. Assumes nothing.
-use borrow.Author.Rules.{rules}
 use mathlib.Core.Path.{refl}
 use native.Mathlib.Omega.{arith}
 use Rattle.stream.proofs.StreamLaws.{opened}
@@ -9,20 +8,20 @@ use Rattle.tight_findings.proofs.find_in.Goals as goal
 pub loop-b-init : goal.loop-b-init
 loop-b-init c =
     let k = (opened c.args.d.now c.args.h c.requires.0).ruled in
-    (search rules, (refl, k.blocks_high), lowest_none _ _)
+    ((refl, k.blocks_high), lowest_none _ _)
 
 pub returns-in-Code : goal.returns-in-Code
 returns-in-Code c =
-    lowest_code c.args.d.now c.args.h c.loop-b.b c.args.h.blocks (omega (arith, c.loop-b-test.true, c.loop-b.invariant.1)) c.fault_at-fault.result c.loop-b.invariant.2 c.fault_at-fault.ensures _ c.in-Code.is
+    lowest_code c.args.d.now c.args.h c.loop-b.b c.args.h.blocks (omega (arith, c.loop-b-test.true, c.loop-b.invariant.0)) c.fault_at-fault.result c.loop-b.invariant.1 c.fault_at-fault.ensures _ c.in-Code.is
 
 pub returns-in-Tail : goal.returns-in-Tail
 returns-in-Tail c =
-    lowest_tail c.args.d.now c.args.h c.loop-b.b c.args.h.blocks (omega (arith, c.loop-b-test.true, c.loop-b.invariant.1)) c.fault_at-fault.result c.loop-b.invariant.2 c.fault_at-fault.ensures _ _ c.in-Tail.is
+    lowest_tail c.args.d.now c.args.h c.loop-b.b c.args.h.blocks (omega (arith, c.loop-b-test.true, c.loop-b.invariant.0)) c.fault_at-fault.result c.loop-b.invariant.1 c.fault_at-fault.ensures _ _ c.in-Tail.is
 
 pub loop-b-preserved : goal.loop-b-preserved
 loop-b-preserved c =
-    (omega (arith, c.loop-b-test.true), c.loop-b.invariant.1, lowest_more c.args.d.now c.args.h c.loop-b.b c.fault_at-fault.result c.loop-b.invariant.2 c.fault_at-fault.ensures c.in-None.is)
+    (c.loop-b.invariant.0, lowest_more c.args.d.now c.args.h c.loop-b.b c.fault_at-fault.result c.loop-b.invariant.1 c.fault_at-fault.ensures c.in-None.is)
 
 pub returns : goal.returns
 returns c =
-    lowest_done c.args.d.now c.args.h c.loop-b.b c.args.h.blocks (omega (arith, c.loop-b.invariant.0, c.loop-b.invariant.1)) (omega (arith, c.loop-b-test.false, c.loop-b.invariant.1)) c.loop-b.invariant.2
+    lowest_done c.args.d.now c.args.h c.loop-b.b c.args.h.blocks (omega (arith, c.loop-b.auto.b-end, c.loop-b.invariant.0)) (omega (arith, c.loop-b-test.false, c.loop-b.invariant.0)) c.loop-b.invariant.1

@@ -1,12 +1,9 @@
 -- `tight_findings::find_in` meets its contract: no block before b has a fault. Assumes nothing.
 use mathlib.Core.Path.{◌≡◌}
-use Prim.Native.Nat.{◌-◌, ◌≤◌}
+use Prim.Native.Nat.{◌≤◌}
 use Rattle.tight_findings.specs.Findings.{lowest}
 use Rattle.tight_findings.specs.declared.text.Finding.TheVariants.{Nothing}
 use Rattle.tight_findings.proofs.find_in.Given as goal
 
 abbrev pub invariant-loop-b : goal.invariant-loop-b
-invariant-loop-b l = (l.b ≤ l.blocks) × ((l.blocks ≡ l.h.blocks) × (l.blocks ≤ 16)) × (lowest l.d l.h l.b ≡ Nothing)
-
-abbrev pub decreases-loop-b : goal.decreases-loop-b
-decreases-loop-b l = l.blocks - l.b
+invariant-loop-b l = ((l.blocks ≡ l.h.blocks) × (l.blocks ≤ 16)) × (lowest l.d l.h l.b ≡ Nothing)

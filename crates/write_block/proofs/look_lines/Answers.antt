@@ -10,7 +10,6 @@ use Rattle.write_block.proofs.look_lines.Goals as goal
 
 pub loop-n-init : goal.loop-n-init
 loop-n-init c = (
-  omega arith,
   (c.width-w.ensures, rw c.width-w.ensures (width_le c.args.form.xtrans)),
   omega (arith, c.clear.auto, c.requires.depth.1, c.width-w.ensures),
   no_lines _ _ _ (c.clear.ensures ∙ rw c.requires.depth.1),
@@ -25,35 +24,20 @@ look_line-requires c =
       );
       depth = (
         c.requires.depth.0,
-        (omega (arith, c.turn.auto, c.loop-n.invariant.1.0, c.loop-n.invariant.2), turned_within _ _ c.loop-n.n _ _ _ c.loop-n.invariant.3 c.turn.ensures),
+        (omega (arith, c.turn.auto, c.loop-n.invariant.0.0, c.loop-n.invariant.1), turned_within _ _ c.loop-n.n _ _ _ c.loop-n.invariant.2 c.turn.ensures),
       );
     }
-
-pub shape_of-lines-then-not-look_line : goal.shape_of-lines-then-not-look_line
-shape_of-lines-then-not-look_line c =
-    omega (arith, c.look_line.auto, c.turn.auto, c.loop-n.invariant.1.0, c.loop-n.invariant.2, c.requires.depth.1)
 
 pub returns-then-not-look_line : goal.returns-then-not-look_line
 returns-then-not-look_line c e = absurd (false≢true e)
 
 pub loop-n-preserved : goal.loop-n-preserved
 loop-n-preserved c = (
-  omega (arith, c.loop-n-test.true),
-  c.loop-n.invariant.1,
-  omega (arith, c.look_line.auto, c.turn.auto, c.loop-n.invariant.2),
-  line_more _ _ c.loop-n.n _ _ _ _ c.loop-n.invariant.3 c.loop-n.invariant.1.0 c.turn.ensures (c.look_line.ensures c.if-not-look_line.false),
+  c.loop-n.invariant.0,
+  omega (arith, c.look_line.auto, c.turn.auto, c.loop-n.invariant.1),
+  line_more _ _ c.loop-n.n _ _ _ _ c.loop-n.invariant.2 c.loop-n.invariant.0.0 c.turn.ensures (c.look_line.ensures c.if-not-look_line.false),
 )
-
-pub shape_of-lines : goal.shape_of-lines
-shape_of-lines c =
-    omega (arith, c.loop-n.invariant.1.0, c.loop-n.invariant.2, c.requires.depth.1)
 
 pub returns : goal.returns
 returns c e =
-    all_lines _ _ c.loop-n.n _ _ (omega (arith, c.loop-n.invariant.0, c.loop-n-test.false)) c.loop-n.invariant.3
-
-pub overflow_add-n : goal.overflow_add-n
-overflow_add-n c = omega (arith, c.loop-n-test.true, c.requires.count_bound.0)
-
-pub loop-n-smaller : goal.loop-n-smaller
-loop-n-smaller c = omega (arith, c.loop-n-test.true)
+    all_lines _ _ c.loop-n.n _ _ (omega (arith, c.loop-n.auto.n-end, c.loop-n-test.false)) c.loop-n.invariant.2

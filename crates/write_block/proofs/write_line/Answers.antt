@@ -1,10 +1,7 @@
 -- `write_block::write_line` meets its contract: i passes have been written. Assumes nothing.
-use borrow.Author.Rules.{rules}
-use mathlib.Core.Path.{refl, ap, ◌∙◌}
+use mathlib.Core.Path.{refl}
 use native.Mathlib.Omega.{arith}
 use Rattle.colour_lines.proofs.LineLaws.{line_inside}
-use Rattle.pass_steps.specs.Values.{records_of}
-use Rattle.read_block.specs.Records.{put_set}
 use Rattle.read_block.proofs.LineLaws.{planned, width_in_range}
 use Rattle.read_block.proofs.RangeLaws.{set_in_range, put_in_range}
 use Rattle.write_block.proofs.WalkLaws.{pass_wanted, passes_start, pass_samples, pass_position, pass_room, pass_more, pass_failed, passes_done}
@@ -13,7 +10,6 @@ use Rattle.write_block.proofs.write_line.Goals as goal
 pub loop-i-init : goal.loop-i-init
 loop-i-init c =
     let w = width_in_range c.args.form.xtrans _ c.width-w.ensures in (
-      search rules,
       (c.width-w.ensures, w.0, w.1, w.2),
       rw c.width-w.ensures c.requires.depth.1.0,
       c.requires.depth.1.1,
@@ -25,12 +21,12 @@ loop-i-init c =
 pub set_guards-requires : goal.set_guards-requires
 set_guards-requires c =
     let r = planned _ c.loop-i.i _ (omega arith) c.plan_at-p.ensures in
-    (c.loop-i.invariant.1.2, (omega arith, (r.0.first_high, omega (arith, line_inside c.width-w.result _ r.0.first_high, c.loop-i.invariant.2))))
+    (c.loop-i.invariant.0.2, (omega arith, (r.0.first_high, omega (arith, line_inside c.width-w.result _ r.0.first_high, c.loop-i.invariant.1))))
 
 pub set_guards-requires-in-loop-i : goal.set_guards-requires-in-loop-i
 set_guards-requires-in-loop-i c =
     let r = planned _ c.loop-i.i _ (omega arith) c.plan_at-p.ensures in (
-      c.loop-i.invariant.1.2,
+      c.loop-i.invariant.0.2,
       (
         omega arith,
         (
@@ -39,7 +35,7 @@ set_guards-requires-in-loop-i c =
             arith,
             line_inside c.width-w.result _ r.0.second_high,
             c.set_guards.auto,
-            c.loop-i.invariant.2,
+            c.loop-i.invariant.1,
           ),
         ),
       ),
@@ -47,82 +43,62 @@ set_guards-requires-in-loop-i c =
 
 pub load_set-set-requires : goal.load_set-set-requires
 load_set-set-requires c =
-    (c.loop-i.invariant.3, (planned _ c.loop-i.i _ (omega arith) c.plan_at-p.ensures).1)
+    (c.loop-i.invariant.2, (planned _ c.loop-i.i _ (omega arith) c.plan_at-p.ensures).1)
 
 pub write_pass-done-requires : goal.write_pass-done-requires
 write_pass-done-requires c =
     let r = planned _ c.loop-i.i _ (omega arith) c.plan_at-p.ensures in
     record {
-      low = c.loop-i.invariant.1.1;
-      high = c.loop-i.invariant.1.2;
-      even = c.loop-i.invariant.1.3;
+      low = c.loop-i.invariant.0.1;
+      high = c.loop-i.invariant.0.2;
+      even = c.loop-i.invariant.0.3;
       plan = r.0;
       depth = c.requires.depth.0;
       line = c.requires.n_bound.0;
-      samples = rw c.loop-i.invariant.1.0 c.requires.n_bound.1.0;
+      samples = rw c.loop-i.invariant.0.0 c.requires.n_bound.1.0;
       base = c.requires.base_bound.0;
       quantisers = c.requires.base_bound.1;
-      wanted = pass_wanted c.args.form _ _ c.loop-i.i _ _ c.loop-i.invariant.1.0 c.plan_at-p.ensures c.loop-i-test.true c.requires.n_bound.1.1;
-      long = omega (arith, c.set_guards-in-loop-i.auto, c.set_guards.auto, c.loop-i.invariant.2);
-      held = pass_samples _ _ _ _ _ _ _ c.loop-i.i _ _ c.loop-i-test.true _ _ _ _ _ _ _ _ _ _ c.loop-i.invariant.6 c.loop-i.invariant.5 c.requires.from_bound.1 c.loop-i.invariant.1.0 c.plan_at-p.ensures c.set_guards.ensures c.set_guards-in-loop-i.ensures c.load_set-set.ensures.0
+      wanted = pass_wanted c.args.form _ _ c.loop-i.i _ _ c.loop-i.invariant.0.0 c.plan_at-p.ensures c.loop-i-test.true c.requires.n_bound.1.1;
+      long = omega (arith, c.set_guards-in-loop-i.auto, c.set_guards.auto, c.loop-i.invariant.1);
+      held = pass_samples _ _ _ _ _ _ _ c.loop-i.i _ _ c.loop-i-test.true _ _ _ _ _ _ _ _ _ _ c.loop-i.invariant.5 c.loop-i.invariant.4 c.requires.from_bound.1 c.loop-i.invariant.0.0 c.plan_at-p.ensures c.set_guards.ensures c.set_guards-in-loop-i.ensures c.load_set-set.ensures
           c.requires.within.0;
-      records = rw c.load_set-set.ensures.0 (set_in_range _ _ r.1 c.loop-i.invariant.4);
-      position = pass_position _ _ _ _ _ _ _ c.loop-i.i _ _ c.loop-i-test.true _ _ _ _ _ _ _ _ _ _ c.loop-i.invariant.6 c.loop-i.invariant.5 c.requires.from_bound.1 c.loop-i.invariant.1.0 c.plan_at-p.ensures c.set_guards.ensures c.set_guards-in-loop-i.ensures c.load_set-set.ensures.0
+      records = rw c.load_set-set.ensures (set_in_range _ _ r.1 c.loop-i.invariant.3);
+      position = pass_position _ _ _ _ _ _ _ c.loop-i.i _ _ c.loop-i-test.true _ _ _ _ _ _ _ _ _ _ c.loop-i.invariant.5 c.loop-i.invariant.4 c.requires.from_bound.1 c.loop-i.invariant.0.0 c.plan_at-p.ensures c.set_guards.ensures c.set_guards-in-loop-i.ensures c.load_set-set.ensures
           c.requires.depth.0.1 c.requires.from_bound.0;
-      room = pass_room _ _ _ _ _ _ _ c.loop-i.i _ _ c.loop-i-test.true _ _ _ _ _ _ _ _ _ _ c.loop-i.invariant.6 c.loop-i.invariant.5 c.requires.from_bound.1 c.loop-i.invariant.1.0 c.plan_at-p.ensures c.set_guards.ensures c.set_guards-in-loop-i.ensures c.load_set-set.ensures.0;
+      room = pass_room _ _ _ _ _ _ _ c.loop-i.i _ _ c.loop-i-test.true _ _ _ _ _ _ _ _ _ _ c.loop-i.invariant.5 c.loop-i.invariant.4 c.requires.from_bound.1 c.loop-i.invariant.0.0 c.plan_at-p.ensures c.set_guards.ensures c.set_guards-in-loop-i.ensures c.load_set-set.ensures;
     }
-
-pub shape_of-out-then-not-ok : goal.shape_of-out-then-not-ok
-shape_of-out-then-not-ok c =
-    omega (arith, c.write_pass-done.auto, c.loop-i.invariant.5)
-
-pub shape_of-lines-then-not-ok : goal.shape_of-lines-then-not-ok
-shape_of-lines-then-not-ok c =
-    omega
-    (arith, c.write_pass-done.auto, c.set_guards-in-loop-i.auto, c.set_guards.auto, c.loop-i.invariant.2, c.loop-i.invariant.1.0, c.requires.depth.1.0)
-
-pub shape_of-rs-then-not-ok : goal.shape_of-rs-then-not-ok
-shape_of-rs-then-not-ok c =
-    omega (arith, c.load_set-set.auto, c.loop-i.invariant.3, c.requires.depth.1.1)
 
 pub returns-then-not-ok : goal.returns-then-not-ok
 returns-then-not-ok c =
     record {
-      fact = pass_failed _ _ _ _ _ _ _ c.loop-i.i _ _ c.loop-i-test.true _ _ _ _ _ _ _ _ _ _ c.loop-i.invariant.6 c.loop-i.invariant.5 c.requires.from_bound.1 c.loop-i.invariant.1.0 c.plan_at-p.ensures
-          c.set_guards.ensures c.set_guards-in-loop-i.ensures c.load_set-set.ensures.0 _ _ c.write_pass-done.result c.write_pass-done.ensures.answer _
+      fact = pass_failed _ _ _ _ _ _ _ c.loop-i.i _ _ c.loop-i-test.true _ _ _ _ _ _ _ _ _ _ c.loop-i.invariant.5 c.loop-i.invariant.4 c.requires.from_bound.1 c.loop-i.invariant.0.0 c.plan_at-p.ensures
+          c.set_guards.ensures c.set_guards-in-loop-i.ensures c.load_set-set.ensures _ _ c.write_pass-done.result c.write_pass-done.ensures.answer _
           c.if-not-ok.true;
-      all_in_range = rw c.load_set-set.ensures.1 c.loop-i.invariant.4;
+      all_in_range = c.loop-i.invariant.3;
     }
 
 pub store_set-requires : goal.store_set-requires
 store_set-requires c =
-    (rw c.load_set-set.ensures.1 c.loop-i.invariant.3, (planned _ c.loop-i.i _ (omega arith) c.plan_at-p.ensures).1)
-
-pub overflow_add-i : goal.overflow_add-i
-overflow_add-i c = omega (arith, c.loop-i-test.true)
-
-pub loop-i-smaller : goal.loop-i-smaller
-loop-i-smaller c = omega (arith, c.loop-i-test.true)
+    (c.loop-i.invariant.2, (planned _ c.loop-i.i _ (omega arith) c.plan_at-p.ensures).1)
 
 pub loop-i-preserved : goal.loop-i-preserved
 loop-i-preserved c =
     let r = planned _ c.loop-i.i _ (omega arith) c.plan_at-p.ensures in
-    let e = c.store_set.ensures ∙ ap (put_set c.plan_at-p.result.set (records_of c.write_pass-done.result.set)) c.load_set-set.ensures.1 in (
-      omega (arith, c.loop-i-test.true),
-      c.loop-i.invariant.1,
-      omega (arith, c.write_pass-done.auto, c.set_guards-in-loop-i.auto, c.set_guards.auto, c.loop-i.invariant.2),
-      omega (arith, c.store_set.auto, c.load_set-set.auto, c.loop-i.invariant.3),
-      rw e (put_in_range _ _ _ r.1 c.loop-i.invariant.3 c.write_pass-done.ensures.records c.loop-i.invariant.4),
-      omega (arith, c.write_pass-done.auto, c.loop-i.invariant.5),
+    let e = c.store_set.ensures in (
+      c.loop-i.invariant.0,
+      omega (arith, c.write_pass-done.auto, c.set_guards-in-loop-i.auto, c.set_guards.auto, c.loop-i.invariant.1),
+      omega (arith, c.store_set.auto, c.loop-i.invariant.2),
+      rw e (put_in_range _ _ _ r.1 c.loop-i.invariant.2 c.write_pass-done.ensures.records c.loop-i.invariant.3),
+      omega (arith, c.write_pass-done.auto, c.loop-i.invariant.4),
       rw e
-          (pass_more _ _ _ _ _ _ _ c.loop-i.i _ _ c.loop-i-test.true _ _ _ _ _ _ _ _ _ _ c.loop-i.invariant.6 c.loop-i.invariant.5 c.requires.from_bound.1 c.loop-i.invariant.1.0 c.plan_at-p.ensures
-          c.set_guards.ensures c.set_guards-in-loop-i.ensures c.load_set-set.ensures.0 _ _ c.write_pass-done.result c.write_pass-done.ensures.answer
+          (pass_more _ _ _ _ _ _ _ c.loop-i.i _ _ c.loop-i-test.true _ _ _ _ _ _ _ _ _ _ c.loop-i.invariant.5 c.loop-i.invariant.4 c.requires.from_bound.1 c.loop-i.invariant.0.0 c.plan_at-p.ensures
+          c.set_guards.ensures c.set_guards-in-loop-i.ensures c.load_set-set.ensures _ _ c.write_pass-done.result c.write_pass-done.ensures.answer
           c.if-not-ok.false),
     )
 
 pub returns : goal.returns
 returns c =
     record {
-      fact = passes_done _ _ _ _ _ _ _ c.loop-i.i _ _ _ _ _ _ _ (omega arith) c.loop-i.invariant.6;
-      all_in_range = c.loop-i.invariant.4;
+      fact = passes_done _ _ _ _ _ _ _ c.loop-i.i _ _ _ _ _ _ _ (omega arith) c.loop-i.invariant.5;
+      all_in_range = c.loop-i.invariant.3;
     }

@@ -1,5 +1,4 @@
 -- `write_block::write_lines` meets its contract: n lines have been written. Assumes nothing.
-use borrow.Author.Rules.{rules}
 use mathlib.Core.Path.{◌≡◌, refl, ◌∙◌}
 use native.Mathlib.Omega.{arith}
 use Rattle.image_map.specs.Places.{width_of}
@@ -17,7 +16,6 @@ strict_is c = c.is_strict-strict.ensures
 
 pub loop-n-init : goal.loop-n-init
 loop-n-init c = (
-  search rules,
   (c.width-w.ensures, rw c.width-w.ensures (width_le c.args.form.xtrans)),
   omega (arith, c.clear.auto, c.requires.depth.1.0, c.width-w.ensures),
   omega (arith, c.start_records.auto, c.requires.depth.1.1),
@@ -37,67 +35,39 @@ write_line-got-requires c =
         omega (arith, c.loop-n-test.true, c.requires.count_bound.0),
         (line_size_lem (width_of c.args.form.xtrans) c.loop-n.n c.args.count c.args.samples.now c.loop-n-test.true c.requires.count_bound.1.0, c.requires.count_bound.1.1),
       );
-      depth = (c.requires.depth.0, (omega (arith, c.turn.auto, c.loop-n.invariant.1.0, c.loop-n.invariant.2), omega (arith, c.restart.auto, c.loop-n.invariant.3)));
+      depth = (c.requires.depth.0, (omega (arith, c.turn.auto, c.loop-n.invariant.0.0, c.loop-n.invariant.1), omega (arith, c.restart.auto, c.loop-n.invariant.2)));
       within = (
-        line_samples _ _ _ c.loop-n.n _ _ _ _ _ _ c.loop-n-test.true _ _ _ _ _ _ _ _ c.loop-n.invariant.6 c.loop-n.invariant.5 c.requires.room c.loop-n.invariant.1.0 Q.0 c.base_of-base.ensures.0 (strict_is (goal.at.write_line-got-requires c).At-loop-n) c.is_restarted.ensures
+        line_samples _ _ _ c.loop-n.n _ _ _ _ _ _ c.loop-n-test.true _ _ _ _ _ _ _ _ c.loop-n.invariant.5 c.loop-n.invariant.4 c.requires.room c.loop-n.invariant.0.0 Q.0 c.base_of-base.ensures.0 (strict_is (goal.at.write_line-got-requires c).At-loop-n) c.is_restarted.ensures
             c.turn.ensures c.restart.ensures,
-        all_kept c.is_restarted.result _ c.base_of-base.result c.loop-n.rs _ c.requires.depth.0.1 c.restart.ensures c.loop-n.invariant.4,
+        all_kept c.is_restarted.result _ c.base_of-base.result c.loop-n.rs _ c.requires.depth.0.1 c.restart.ensures c.loop-n.invariant.3,
       );
       from_bound = (
-        line_position _ _ _ c.loop-n.n _ _ _ _ _ _ c.loop-n-test.true _ _ _ _ _ _ _ _ c.loop-n.invariant.6 c.loop-n.invariant.5 c.requires.room c.loop-n.invariant.1.0 Q.0 c.base_of-base.ensures.0 (strict_is (goal.at.write_line-got-requires c).At-loop-n) c.is_restarted.ensures
+        line_position _ _ _ c.loop-n.n _ _ _ _ _ _ c.loop-n-test.true _ _ _ _ _ _ _ _ c.loop-n.invariant.5 c.loop-n.invariant.4 c.requires.room c.loop-n.invariant.0.0 Q.0 c.base_of-base.ensures.0 (strict_is (goal.at.write_line-got-requires c).At-loop-n) c.is_restarted.ensures
             c.turn.ensures c.restart.ensures c.requires.depth.0.1 c.requires.count_bound.0,
-        line_room _ _ _ c.loop-n.n _ _ _ _ _ _ c.loop-n-test.true _ _ _ _ _ _ _ _ c.loop-n.invariant.6 c.loop-n.invariant.5 c.requires.room c.loop-n.invariant.1.0 Q.0 c.base_of-base.ensures.0 (strict_is (goal.at.write_line-got-requires c).At-loop-n) c.is_restarted.ensures
+        line_room _ _ _ c.loop-n.n _ _ _ _ _ _ c.loop-n-test.true _ _ _ _ _ _ _ _ c.loop-n.invariant.5 c.loop-n.invariant.4 c.requires.room c.loop-n.invariant.0.0 Q.0 c.base_of-base.ensures.0 (strict_is (goal.at.write_line-got-requires c).At-loop-n) c.is_restarted.ensures
             c.turn.ensures c.restart.ensures,
       );
       base_bound = (omega (arith, Q.0, c.base_of-base.ensures.1), Q.1);
     }
 
-pub shape_of-out-in_default : goal.shape_of-out-in_default
-shape_of-out-in_default c =
-    omega (arith, c.write_line-got.auto, c.loop-n.invariant.5)
-
-pub shape_of-lines-in_default : goal.shape_of-lines-in_default
-shape_of-lines-in_default c =
-    omega (arith, c.write_line-got.auto, c.turn.auto, c.loop-n.invariant.1.0, c.loop-n.invariant.2, c.requires.depth.1.0)
-
-pub shape_of-rs-in_default : goal.shape_of-rs-in_default
-shape_of-rs-in_default c =
-    omega (arith, c.write_line-got.auto, c.restart.auto, c.loop-n.invariant.3, c.requires.depth.1.1)
-
 pub returns-in_default : goal.returns-in_default
 returns-in_default c =
-    line_failed _ _ _ c.loop-n.n _ _ _ _ _ _ c.loop-n-test.true _ _ _ _ _ _ _ _ c.loop-n.invariant.6 c.loop-n.invariant.5 c.requires.room c.loop-n.invariant.1.0
+    line_failed _ _ _ c.loop-n.n _ _ _ _ _ _ c.loop-n-test.true _ _ _ _ _ _ _ _ c.loop-n.invariant.5 c.loop-n.invariant.4 c.requires.room c.loop-n.invariant.0.0
     (base_known _ _ _ c.quantisers_of.ensures).0 c.base_of-base.ensures.0 (strict_is (goal.at.returns-in_default c).At-loop-n) c.is_restarted.ensures c.turn.ensures
     c.restart.ensures _ _ _ c.write_line-got.result c.write_line-got.ensures.fact _ c.in_default.is
 
-pub overflow_add-n : goal.overflow_add-n
-overflow_add-n c =
-    omega (arith, c.loop-n-test.true, c.requires.count_bound.0)
-
-pub loop-n-smaller : goal.loop-n-smaller
-loop-n-smaller c = omega (arith, c.loop-n-test.true)
-
 pub loop-n-preserved : goal.loop-n-preserved
 loop-n-preserved c = (
-  omega (arith, c.loop-n-test.true),
-  c.loop-n.invariant.1,
-  omega (arith, c.write_line-got.auto, c.turn.auto, c.loop-n.invariant.2),
-  omega (arith, c.write_line-got.auto, c.restart.auto, c.loop-n.invariant.3),
+  c.loop-n.invariant.0,
+  omega (arith, c.write_line-got.auto, c.turn.auto, c.loop-n.invariant.1),
+  omega (arith, c.write_line-got.auto, c.restart.auto, c.loop-n.invariant.2),
   c.write_line-got.ensures.all_in_range,
-  omega (arith, c.write_line-got.auto, c.loop-n.invariant.5),
-  line_more _ _ _ c.loop-n.n _ _ _ _ _ _ c.loop-n-test.true _ _ _ _ _ _ _ _ c.loop-n.invariant.6 c.loop-n.invariant.5 c.requires.room c.loop-n.invariant.1.0 (base_known _ _ _ c.quantisers_of.ensures).0
+  omega (arith, c.write_line-got.auto, c.loop-n.invariant.4),
+  line_more _ _ _ c.loop-n.n _ _ _ _ _ _ c.loop-n-test.true _ _ _ _ _ _ _ _ c.loop-n.invariant.5 c.loop-n.invariant.4 c.requires.room c.loop-n.invariant.0.0 (base_known _ _ _ c.quantisers_of.ensures).0
       c.base_of-base.ensures.0 (strict_is (goal.at.loop-n-preserved c).At-loop-n) c.is_restarted.ensures c.turn.ensures c.restart.ensures _ _ _
       c.write_line-got.result c.write_line-got.ensures.fact _ c.in-At.is,
 )
 
-pub shape_of-lines : goal.shape_of-lines
-shape_of-lines c =
-    omega (arith, c.loop-n.invariant.1.0, c.loop-n.invariant.2, c.requires.depth.1.0)
-
-pub shape_of-rs : goal.shape_of-rs
-shape_of-rs c =
-    omega (arith, c.loop-n.invariant.3, c.requires.depth.1.1)
-
 pub returns : goal.returns
 returns c =
-    lines_done _ _ _ c.loop-n.n _ _ _ _ _ _ _ (omega arith) c.loop-n.invariant.6
+    lines_done _ _ _ c.loop-n.n _ _ _ _ _ _ _ (omega arith) c.loop-n.invariant.5

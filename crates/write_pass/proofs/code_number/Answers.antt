@@ -28,6 +28,3 @@ returns-then-code-k c =
 pub returns : goal.returns
 returns c =
     (long _ _ _ _ _ c.power-2.ensures.0 c.requires.1.0 c.if-code-k.false, omega (arith, c.power-2.ensures.1.1, c.requires.1.1.1))
-
-pub overflow_add-result : goal.overflow_add-result
-overflow_add-result c = omega (arith, small c, c.power.ensures.1.1)

@@ -21,20 +21,6 @@ index_is : (w n line r p : ℕ) → r ≡ rank_of line → n * (12 * w) + r * w 
 unfolding index_in
 index_is w n line r p e = rw (e, add_assoc (n * (12 * w)) (rank_of line * w) p)
 
-pub overflow_mul-result-2 : goal.overflow_mul-result-2
-overflow_mul-result-2 c = omega (arith, lines_le _ _ c.requires.0 c.requires.1.1.0)
-
-pub overflow_mul-result-3 : goal.overflow_mul-result-3
-overflow_mul-result-3 c = omega (arith, ranks_le _ _ c.requires.0 c.rank_of.ensures.1)
-
-pub overflow_add-result : goal.overflow_add-result
-overflow_add-result c =
-    omega (arith, lines_le _ _ c.requires.0 c.requires.1.1.0, ranks_le _ _ c.requires.0 c.rank_of.ensures.1)
-
-pub overflow_add-result-2 : goal.overflow_add-result-2
-overflow_add-result-2 c =
-    omega (arith, c.requires.0, c.requires.1.0, lines_le _ _ c.requires.0 c.requires.1.1.0, ranks_le _ _ c.requires.0 c.rank_of.ensures.1)
-
 pub returns : goal.returns
 returns c =
     (index_is c.args.w c.args.n c.args.line _ c.args.p c.rank_of.ensures.0, inside c.args.w c.args.n _ c.args.p c.rank_of.ensures.1 c.requires.1.0)

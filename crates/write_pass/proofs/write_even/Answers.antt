@@ -62,7 +62,7 @@ room c =
     (omega (arith, c.left_of-i.ensures.1.1, c.requires.steps_ask.long), omega (arith, c.left_of-i.ensures.1.1, c.requires.steps_ask.width))
 
 small : (c : After-coded_as-c) → c.coded_as-c.result.value < 2 ^ 16
-small c = site_value (site (goal.at.After-coded_as-c c).After-context_at-x) c.u16_to_u32-v.ensures.0 (asked (goal.at.After-coded_as-c c).Then-has_code) c.coded_as-c.ensures
+small c = site_value (site (goal.at.After-coded_as-c c).After-context_at-x) c.from-v.ensures (asked (goal.at.After-coded_as-c c).Then-has_code) c.coded_as-c.ensures
 
 done : (c : Joined-has_code) →
     Done c.args.spot.bits c.args.base c.args.spot.w c.args.strict c.args.samples.now c.args.n
@@ -70,7 +70,7 @@ done : (c : Joined-has_code) →
     c.if-has_code.lines c.if-has_code.sums c.if-has_code.ns c.if-has_code.out c.if-has_code.at
 done c =
     let is = sym c.has_code.ensures in
-    let v = c.u16_to_u32-v.ensures.0 in
+    let v = c.from-v.ensures in
     elim c.if-has_code.branch [
       | then-has_code w ↦
           let s = site (goal.at.Joined-has_code c).After-context_at-x in
@@ -113,7 +113,7 @@ asked_2 : (c : Then-has_code-2) → second_coded (goal.at.Then-has_code-2 c).Els
 asked_2 c = sym c.has_code-2.ensures ∙ c.if-has_code-2.true
 
 small_2 : (c : After-coded_as-c-then-has_code-2) → c.coded_as-c-then-has_code-2.result.value < 2 ^ 16
-small_2 c = site_value (site_2 (goal.at.After-coded_as-c-then-has_code-2 c).After-context_at-x-2) c.u16_to_u32-v-2.ensures.0 (asked_2 (goal.at.After-coded_as-c-then-has_code-2 c).Then-has_code-2) c.coded_as-c-then-has_code-2.ensures
+small_2 c = site_value (site_2 (goal.at.After-coded_as-c-then-has_code-2 c).After-context_at-x-2) c.from-v-2.ensures (asked_2 (goal.at.After-coded_as-c-then-has_code-2 c).Then-has_code-2) c.coded_as-c-then-has_code-2.ensures
 
 pub returns-then-p-w : goal.returns-then-p-w
 returns-then-p-w c =
@@ -123,35 +123,31 @@ returns-then-p-w c =
       are_ks_2 = c.requires.are_ks;
     }
 
-pub context_at-x-requires : goal.context_at-x-requires
-context_at-x-requires c =
-    (omega (arith, c.requires.steps_ask.width), (c.left_of-i.ensures.1.0, omega (arith, c.left_of-i.ensures.1.1, c.requires.steps_ask.long)))
-
 pub coded_as-c-requires : goal.coded_as-c-requires
-coded_as-c-requires c = site_code (site (goal.at.coded_as-c-requires c).After-context_at-x) c.u16_to_u32-v.ensures.0 (asked c)
+coded_as-c-requires c = site_code (site (goal.at.coded_as-c-requires c).After-context_at-x) c.from-v.ensures (asked c)
 
 pub record_at-old-requires : goal.record_at-old-requires
 record_at-old-requires c =
-    site_record (site (goal.at.record_at-old-requires c).After-context_at-x) c.u16_to_u32-v.ensures.0 (asked (goal.at.record_at-old-requires c).Then-has_code) c.coded_as-c.ensures
+    site_record (site (goal.at.record_at-old-requires c).After-context_at-x) c.from-v.ensures (asked (goal.at.record_at-old-requires c).Then-has_code) c.coded_as-c.ensures
 
 pub put_code-at-requires : goal.put_code-at-requires
 put_code-at-requires c =
     record {
-      k_bound = (site_room (site (goal.at.put_code-at-requires c).After-context_at-x) c.u16_to_u32-v.ensures.0 (asked (goal.at.put_code-at-requires c).Then-has_code) c.coded_as-c.ensures c.record_at-old.ensures (site_k (site (goal.at.put_code-at-requires c).After-context_at-x) c.u16_to_u32-v.ensures.0 (asked (goal.at.put_code-at-requires c).Then-has_code) c.coded_as-c.ensures c.record_at-old.ensures c.requires.are_ks c.k_at.ensures)).0;
-      at_bound = (site_room (site (goal.at.put_code-at-requires c).After-context_at-x) c.u16_to_u32-v.ensures.0 (asked (goal.at.put_code-at-requires c).Then-has_code) c.coded_as-c.ensures c.record_at-old.ensures (site_k (site (goal.at.put_code-at-requires c).After-context_at-x) c.u16_to_u32-v.ensures.0 (asked (goal.at.put_code-at-requires c).Then-has_code) c.coded_as-c.ensures c.record_at-old.ensures c.requires.are_ks c.k_at.ensures)).1;
+      k_bound = (site_room (site (goal.at.put_code-at-requires c).After-context_at-x) c.from-v.ensures (asked (goal.at.put_code-at-requires c).Then-has_code) c.coded_as-c.ensures c.record_at-old.ensures (site_k (site (goal.at.put_code-at-requires c).After-context_at-x) c.from-v.ensures (asked (goal.at.put_code-at-requires c).Then-has_code) c.coded_as-c.ensures c.record_at-old.ensures c.requires.are_ks c.k_at.ensures)).0;
+      at_bound = (site_room (site (goal.at.put_code-at-requires c).After-context_at-x) c.from-v.ensures (asked (goal.at.put_code-at-requires c).Then-has_code) c.coded_as-c.ensures c.record_at-old.ensures (site_k (site (goal.at.put_code-at-requires c).After-context_at-x) c.from-v.ensures (asked (goal.at.put_code-at-requires c).Then-has_code) c.coded_as-c.ensures c.record_at-old.ensures c.requires.are_ks c.k_at.ensures)).1;
     }
 
 pub update_with_k-requires : goal.update_with_k-requires
 update_with_k-requires c =
     record {
-      code_bound = (site_update (site (goal.at.update_with_k-requires c).After-context_at-x) c.u16_to_u32-v.ensures.0 (asked (goal.at.update_with_k-requires c).Then-has_code) c.coded_as-c.ensures c.record_at-old.ensures c.requires.are_ks).0;
-      set_in_range = (site_update (site (goal.at.update_with_k-requires c).After-context_at-x) c.u16_to_u32-v.ensures.0 (asked (goal.at.update_with_k-requires c).Then-has_code) c.coded_as-c.ensures c.record_at-old.ensures c.requires.are_ks).1.0;
-      are_ks = (site_update (site (goal.at.update_with_k-requires c).After-context_at-x) c.u16_to_u32-v.ensures.0 (asked (goal.at.update_with_k-requires c).Then-has_code) c.coded_as-c.ensures c.record_at-old.ensures c.requires.are_ks).1.1;
+      code_bound = (site_update (site (goal.at.update_with_k-requires c).After-context_at-x) c.from-v.ensures (asked (goal.at.update_with_k-requires c).Then-has_code) c.coded_as-c.ensures c.record_at-old.ensures c.requires.are_ks).0;
+      set_in_range = (site_update (site (goal.at.update_with_k-requires c).After-context_at-x) c.from-v.ensures (asked (goal.at.update_with_k-requires c).Then-has_code) c.coded_as-c.ensures c.record_at-old.ensures c.requires.are_ks).1.0;
+      are_ks = (site_update (site (goal.at.update_with_k-requires c).After-context_at-x) c.from-v.ensures (asked (goal.at.update_with_k-requires c).Then-has_code) c.coded_as-c.ensures c.record_at-old.ensures c.requires.are_ks).1.1;
     }
 
 pub returns-then-is_wrong : goal.returns-then-is_wrong
 returns-then-is_wrong c =
-    let wrong = site_wrong (site (goal.at.returns-then-is_wrong c).After-context_at-x) c.u16_to_u32-v.ensures.0 c.is_wrong.ensures (sym c.has_code.ensures ∙ c.if-has_code.false) c.if-is_wrong.true in
+    let wrong = site_wrong (site (goal.at.returns-then-is_wrong c).After-context_at-x) c.from-v.ensures c.is_wrong.ensures (sym c.has_code.ensures ∙ c.if-has_code.false) c.if-is_wrong.true in
     record {
       steps_put = same_steps (even_due_lem c.args.spot.plan c.args.spot.w c.args.spot.p c.if-p-w.false) (ends wrong (second_step (goal.at.returns-then-is_wrong c).Else-p-w ∷ []) refl);
       set_in_range = (two (goal.at.returns-then-is_wrong c).Else-p-w).records;
@@ -168,30 +164,30 @@ context_at-x-requires-2 c =
     (omega (arith, c.requires.steps_ask.width), (c.left_of-i-2.ensures.1.0, i.0))
 
 pub coded_as-c-requires-then-has_code-2 : goal.coded_as-c-requires-then-has_code-2
-coded_as-c-requires-then-has_code-2 c = site_code (site_2 (goal.at.coded_as-c-requires-then-has_code-2 c).After-context_at-x-2) c.u16_to_u32-v-2.ensures.0 (asked_2 c)
+coded_as-c-requires-then-has_code-2 c = site_code (site_2 (goal.at.coded_as-c-requires-then-has_code-2 c).After-context_at-x-2) c.from-v-2.ensures (asked_2 c)
 
 pub record_at-old-requires-then-has_code-2 : goal.record_at-old-requires-then-has_code-2
 record_at-old-requires-then-has_code-2 c =
-    site_record (site_2 (goal.at.record_at-old-requires-then-has_code-2 c).After-context_at-x-2) c.u16_to_u32-v-2.ensures.0 (asked_2 (goal.at.record_at-old-requires-then-has_code-2 c).Then-has_code-2) c.coded_as-c-then-has_code-2.ensures
+    site_record (site_2 (goal.at.record_at-old-requires-then-has_code-2 c).After-context_at-x-2) c.from-v-2.ensures (asked_2 (goal.at.record_at-old-requires-then-has_code-2 c).Then-has_code-2) c.coded_as-c-then-has_code-2.ensures
 
 pub put_code-at-requires-then-has_code-2 : goal.put_code-at-requires-then-has_code-2
 put_code-at-requires-then-has_code-2 c =
     record {
-      k_bound = (site_room (site_2 (goal.at.put_code-at-requires-then-has_code-2 c).After-context_at-x-2) c.u16_to_u32-v-2.ensures.0 (asked_2 (goal.at.put_code-at-requires-then-has_code-2 c).Then-has_code-2) c.coded_as-c-then-has_code-2.ensures c.record_at-old-then-has_code-2.ensures (site_k (site_2 (goal.at.put_code-at-requires-then-has_code-2 c).After-context_at-x-2) c.u16_to_u32-v-2.ensures.0 (asked_2 (goal.at.put_code-at-requires-then-has_code-2 c).Then-has_code-2) c.coded_as-c-then-has_code-2.ensures c.record_at-old-then-has_code-2.ensures (done_ks (goal.at.put_code-at-requires-then-has_code-2 c).Joined-has_code) c.k_at-then-has_code-2.ensures)).0;
-      at_bound = (site_room (site_2 (goal.at.put_code-at-requires-then-has_code-2 c).After-context_at-x-2) c.u16_to_u32-v-2.ensures.0 (asked_2 (goal.at.put_code-at-requires-then-has_code-2 c).Then-has_code-2) c.coded_as-c-then-has_code-2.ensures c.record_at-old-then-has_code-2.ensures (site_k (site_2 (goal.at.put_code-at-requires-then-has_code-2 c).After-context_at-x-2) c.u16_to_u32-v-2.ensures.0 (asked_2 (goal.at.put_code-at-requires-then-has_code-2 c).Then-has_code-2) c.coded_as-c-then-has_code-2.ensures c.record_at-old-then-has_code-2.ensures (done_ks (goal.at.put_code-at-requires-then-has_code-2 c).Joined-has_code) c.k_at-then-has_code-2.ensures)).1;
+      k_bound = (site_room (site_2 (goal.at.put_code-at-requires-then-has_code-2 c).After-context_at-x-2) c.from-v-2.ensures (asked_2 (goal.at.put_code-at-requires-then-has_code-2 c).Then-has_code-2) c.coded_as-c-then-has_code-2.ensures c.record_at-old-then-has_code-2.ensures (site_k (site_2 (goal.at.put_code-at-requires-then-has_code-2 c).After-context_at-x-2) c.from-v-2.ensures (asked_2 (goal.at.put_code-at-requires-then-has_code-2 c).Then-has_code-2) c.coded_as-c-then-has_code-2.ensures c.record_at-old-then-has_code-2.ensures (done_ks (goal.at.put_code-at-requires-then-has_code-2 c).Joined-has_code) c.k_at-then-has_code-2.ensures)).0;
+      at_bound = (site_room (site_2 (goal.at.put_code-at-requires-then-has_code-2 c).After-context_at-x-2) c.from-v-2.ensures (asked_2 (goal.at.put_code-at-requires-then-has_code-2 c).Then-has_code-2) c.coded_as-c-then-has_code-2.ensures c.record_at-old-then-has_code-2.ensures (site_k (site_2 (goal.at.put_code-at-requires-then-has_code-2 c).After-context_at-x-2) c.from-v-2.ensures (asked_2 (goal.at.put_code-at-requires-then-has_code-2 c).Then-has_code-2) c.coded_as-c-then-has_code-2.ensures c.record_at-old-then-has_code-2.ensures (done_ks (goal.at.put_code-at-requires-then-has_code-2 c).Joined-has_code) c.k_at-then-has_code-2.ensures)).1;
     }
 
 pub update_with_k-requires-then-has_code-2 : goal.update_with_k-requires-then-has_code-2
 update_with_k-requires-then-has_code-2 c =
     record {
-      code_bound = (site_update (site_2 (goal.at.update_with_k-requires-then-has_code-2 c).After-context_at-x-2) c.u16_to_u32-v-2.ensures.0 (asked_2 (goal.at.update_with_k-requires-then-has_code-2 c).Then-has_code-2) c.coded_as-c-then-has_code-2.ensures c.record_at-old-then-has_code-2.ensures (done_ks (goal.at.update_with_k-requires-then-has_code-2 c).Joined-has_code)).0;
-      set_in_range = (site_update (site_2 (goal.at.update_with_k-requires-then-has_code-2 c).After-context_at-x-2) c.u16_to_u32-v-2.ensures.0 (asked_2 (goal.at.update_with_k-requires-then-has_code-2 c).Then-has_code-2) c.coded_as-c-then-has_code-2.ensures c.record_at-old-then-has_code-2.ensures (done_ks (goal.at.update_with_k-requires-then-has_code-2 c).Joined-has_code)).1.0;
-      are_ks = (site_update (site_2 (goal.at.update_with_k-requires-then-has_code-2 c).After-context_at-x-2) c.u16_to_u32-v-2.ensures.0 (asked_2 (goal.at.update_with_k-requires-then-has_code-2 c).Then-has_code-2) c.coded_as-c-then-has_code-2.ensures c.record_at-old-then-has_code-2.ensures (done_ks (goal.at.update_with_k-requires-then-has_code-2 c).Joined-has_code)).1.1;
+      code_bound = (site_update (site_2 (goal.at.update_with_k-requires-then-has_code-2 c).After-context_at-x-2) c.from-v-2.ensures (asked_2 (goal.at.update_with_k-requires-then-has_code-2 c).Then-has_code-2) c.coded_as-c-then-has_code-2.ensures c.record_at-old-then-has_code-2.ensures (done_ks (goal.at.update_with_k-requires-then-has_code-2 c).Joined-has_code)).0;
+      set_in_range = (site_update (site_2 (goal.at.update_with_k-requires-then-has_code-2 c).After-context_at-x-2) c.from-v-2.ensures (asked_2 (goal.at.update_with_k-requires-then-has_code-2 c).Then-has_code-2) c.coded_as-c-then-has_code-2.ensures c.record_at-old-then-has_code-2.ensures (done_ks (goal.at.update_with_k-requires-then-has_code-2 c).Joined-has_code)).1.0;
+      are_ks = (site_update (site_2 (goal.at.update_with_k-requires-then-has_code-2 c).After-context_at-x-2) c.from-v-2.ensures (asked_2 (goal.at.update_with_k-requires-then-has_code-2 c).Then-has_code-2) c.coded_as-c-then-has_code-2.ensures c.record_at-old-then-has_code-2.ensures (done_ks (goal.at.update_with_k-requires-then-has_code-2 c).Joined-has_code)).1.1;
     }
 
 pub returns-then-is_wrong-2 : goal.returns-then-is_wrong-2
 returns-then-is_wrong-2 c =
-    let wrong = site_wrong (site_2 (goal.at.returns-then-is_wrong-2 c).After-context_at-x-2) c.u16_to_u32-v-2.ensures.0 c.is_wrong-else-has_code-2.ensures (sym c.has_code-2.ensures ∙ c.if-has_code-2.false) c.if-is_wrong-2.true in
+    let wrong = site_wrong (site_2 (goal.at.returns-then-is_wrong-2 c).After-context_at-x-2) c.from-v-2.ensures c.is_wrong-else-has_code-2.ensures (sym c.has_code-2.ensures ∙ c.if-has_code-2.false) c.if-is_wrong-2.true in
     record {
       steps_put = same_steps (even_due_lem c.args.spot.plan c.args.spot.w c.args.spot.p c.if-p-w.false) (two_puts (two (goal.at.returns-then-is_wrong-2 c).Else-p-w) (done (goal.at.returns-then-is_wrong-2 c).Joined-has_code) wrong);
       set_in_range = (done (goal.at.returns-then-is_wrong-2 c).Joined-has_code).records;
@@ -201,7 +197,7 @@ returns-then-is_wrong-2 c =
 pub returns-then-has_code-2 : goal.returns-then-has_code-2
 returns-then-has_code-2 c =
     let e =
-    site_done (site_2 (goal.at.returns-then-has_code-2 c).After-context_at-x-2) c.u16_to_u32-v-2.ensures.0 (asked_2 (goal.at.returns-then-has_code-2 c).Then-has_code-2) c.coded_as-c-then-has_code-2.ensures c.record_at-old-then-has_code-2.ensures (site_k (site_2 (goal.at.returns-then-has_code-2 c).After-context_at-x-2) c.u16_to_u32-v-2.ensures.0 (asked_2 (goal.at.returns-then-has_code-2 c).Then-has_code-2) c.coded_as-c-then-has_code-2.ensures c.record_at-old-then-has_code-2.ensures (done_ks (goal.at.returns-then-has_code-2 c).Joined-has_code) c.k_at-then-has_code-2.ensures)
+    site_done (site_2 (goal.at.returns-then-has_code-2 c).After-context_at-x-2) c.from-v-2.ensures (asked_2 (goal.at.returns-then-has_code-2 c).Then-has_code-2) c.coded_as-c-then-has_code-2.ensures c.record_at-old-then-has_code-2.ensures (site_k (site_2 (goal.at.returns-then-has_code-2 c).After-context_at-x-2) c.from-v-2.ensures (asked_2 (goal.at.returns-then-has_code-2 c).Then-has_code-2) c.coded_as-c-then-has_code-2.ensures c.record_at-old-then-has_code-2.ensures (done_ks (goal.at.returns-then-has_code-2 c).Joined-has_code) c.k_at-then-has_code-2.ensures)
     (c.put_code-at-then-has_code-2.ensures.result_value, c.put_code-at-then-has_code-2.ensures.out_after) c.put_code-at-then-has_code-2.auto.out (c.update_with_k-then-has_code-2.ensures.ns_after, (c.update_with_k-then-has_code-2.ensures.set_in_range_2, c.update_with_k-then-has_code-2.ensures.are_ks_2)) in
     record {
       steps_put = same_steps (even_due_lem c.args.spot.plan c.args.spot.w c.args.spot.p c.if-p-w.false) (two_puts (two (goal.at.returns-then-has_code-2 c).Else-p-w) (done (goal.at.returns-then-has_code-2 c).Joined-has_code) e.put);
@@ -211,7 +207,7 @@ returns-then-has_code-2 c =
 
 pub returns-else-is_wrong-2 : goal.returns-else-is_wrong-2
 returns-else-is_wrong-2 c =
-    let e = site_right (site_2 (goal.at.returns-else-is_wrong-2 c).After-context_at-x-2) c.u16_to_u32-v-2.ensures.0 c.is_wrong-else-has_code-2.ensures (sym c.has_code-2.ensures ∙ c.if-has_code-2.false) c.if-is_wrong-2.false in
+    let e = site_right (site_2 (goal.at.returns-else-is_wrong-2 c).After-context_at-x-2) c.from-v-2.ensures c.is_wrong-else-has_code-2.ensures (sym c.has_code-2.ensures ∙ c.if-has_code-2.false) c.if-is_wrong-2.false in
     record {
       steps_put = same_steps (even_due_lem c.args.spot.plan c.args.spot.w c.args.spot.p c.if-p-w.false) (two_puts (two (goal.at.returns-else-is_wrong-2 c).Else-p-w) (done (goal.at.returns-else-is_wrong-2 c).Joined-has_code) e.put);
       set_in_range = e.records;
@@ -224,23 +220,8 @@ left_of-i-requires c = (c.requires.steps_ask.width, (c.if-p-w.false, (c.requires
 pub index_in-j-requires : goal.index_in-j-requires
 index_in-j-requires c = (c.requires.steps_ask.width, (c.if-p-w.false, (c.requires.steps_ask.line, (c.requires.steps_ask.plan.first_low, c.requires.steps_ask.plan.first_high))))
 
-pub overflow_add-w : goal.overflow_add-w
-overflow_add-w c = omega (arith, c.requires.steps_ask.width)
-
-pub offset_bounds-samples-j : goal.offset_bounds-samples-j
-offset_bounds-samples-j c = omega (arith, within c, c.well_formed)
-
 pub bounds-samples-j : goal.bounds-samples-j
 bounds-samples-j c = within (goal.at.bounds-samples-j c).After-context_at-x
-
-pub overflow_cast-lines : goal.overflow_cast-lines
-overflow_cast-lines c = omega (arith, small (goal.at.overflow_cast-lines c).After-coded_as-c)
-
-pub overflow_add-lines : goal.overflow_add-lines
-overflow_add-lines c = omega (arith, (room (goal.at.overflow_add-lines c).After-context_at-x).1)
-
-pub offset_bounds-lines-i : goal.offset_bounds-lines-i
-offset_bounds-lines-i c = omega (arith, (room (goal.at.offset_bounds-lines-i c).After-context_at-x).1)
 
 pub bounds-lines-i : goal.bounds-lines-i
 bounds-lines-i c = (room (goal.at.bounds-lines-i c).After-context_at-x).0
@@ -248,89 +229,23 @@ bounds-lines-i c = (room (goal.at.bounds-lines-i c).After-context_at-x).0
 pub k_at-requires : goal.k_at-requires
 k_at-requires c = c.coded_as-c.ensures.slot_lt
 
-pub offset_bounds-limits-choice : goal.offset_bounds-limits-choice
-offset_bounds-limits-choice c = omega (arith, c.coded_as-c.ensures.choice_le)
-
-pub bounds-limits-choice : goal.bounds-limits-choice
-bounds-limits-choice c = omega (arith, c.coded_as-c.ensures.choice_le)
-
-pub offset_bounds-raws-choice : goal.offset_bounds-raws-choice
-offset_bounds-raws-choice c = omega (arith, c.coded_as-c.ensures.choice_le)
-
-pub bounds-raws-choice : goal.bounds-raws-choice
-bounds-raws-choice c = omega (arith, c.coded_as-c.ensures.choice_le)
-
-pub shape_of-lines-then-is_wrong : goal.shape_of-lines-then-is_wrong
-shape_of-lines-then-is_wrong c = refl
-
-pub overflow_cast-lines-else-has_code : goal.overflow_cast-lines-else-has_code
-overflow_cast-lines-else-has_code c = omega (arith, c.context_at-x.ensures.1.prediction)
-
-pub overflow_add-lines-else-has_code : goal.overflow_add-lines-else-has_code
-overflow_add-lines-else-has_code c = omega (arith, (room (goal.at.overflow_add-lines-else-has_code c).After-context_at-x).1)
-
-pub offset_bounds-lines-i-else-has_code : goal.offset_bounds-lines-i-else-has_code
-offset_bounds-lines-i-else-has_code c = omega (arith, (room (goal.at.offset_bounds-lines-i-else-has_code c).After-context_at-x).1)
-
 pub bounds-lines-i-else-has_code : goal.bounds-lines-i-else-has_code
 bounds-lines-i-else-has_code c = (room (goal.at.bounds-lines-i-else-has_code c).After-context_at-x).0
 
 pub left_of-i-requires-2 : goal.left_of-i-requires-2
 left_of-i-requires-2 c = (c.requires.steps_ask.width, (c.if-p-w.false, (c.requires.steps_ask.plan.second_low, c.requires.steps_ask.plan.second_high)))
 
-pub overflow_add-w-2 : goal.overflow_add-w-2
-overflow_add-w-2 c = omega (arith, c.requires.steps_ask.width)
-
-pub offset_bounds-samples-j-2 : goal.offset_bounds-samples-j-2
-offset_bounds-samples-j-2 c = omega (arith, (inside (goal.at.offset_bounds-samples-j-2 c).After-index_in-j-2).2, c.well_formed)
-
 pub bounds-samples-j-2 : goal.bounds-samples-j-2
 bounds-samples-j-2 c = (inside (goal.at.bounds-samples-j-2 c).After-index_in-j-2).2
 
-pub overflow_cast-lines-then-has_code-2 : goal.overflow_cast-lines-then-has_code-2
-overflow_cast-lines-then-has_code-2 c = omega (arith, small_2 (goal.at.overflow_cast-lines-then-has_code-2 c).After-coded_as-c-then-has_code-2)
-
-pub overflow_add-lines-then-has_code-2 : goal.overflow_add-lines-then-has_code-2
-overflow_add-lines-then-has_code-2 c = omega (arith, (inside (goal.at.overflow_add-lines-then-has_code-2 c).After-index_in-j-2).1)
-
-pub offset_bounds-lines-i-then-has_code-2 : goal.offset_bounds-lines-i-then-has_code-2
-offset_bounds-lines-i-then-has_code-2 c = omega (arith, (inside (goal.at.offset_bounds-lines-i-then-has_code-2 c).After-index_in-j-2).1)
-
-pub bounds-lines-i-then-has_code-2 : goal.bounds-lines-i-then-has_code-2
-bounds-lines-i-then-has_code-2 c = omega (arith, (inside (goal.at.bounds-lines-i-then-has_code-2 c).After-index_in-j-2).0)
-
 pub k_at-requires-then-has_code-2 : goal.k_at-requires-then-has_code-2
 k_at-requires-then-has_code-2 c = c.coded_as-c-then-has_code-2.ensures.slot_lt
-
-pub offset_bounds-limits-choice-then-has_code-2 : goal.offset_bounds-limits-choice-then-has_code-2
-offset_bounds-limits-choice-then-has_code-2 c = omega (arith, c.coded_as-c-then-has_code-2.ensures.choice_le)
-
-pub bounds-limits-choice-then-has_code-2 : goal.bounds-limits-choice-then-has_code-2
-bounds-limits-choice-then-has_code-2 c = omega (arith, c.coded_as-c-then-has_code-2.ensures.choice_le)
-
-pub offset_bounds-raws-choice-then-has_code-2 : goal.offset_bounds-raws-choice-then-has_code-2
-offset_bounds-raws-choice-then-has_code-2 c = omega (arith, c.coded_as-c-then-has_code-2.ensures.choice_le)
-
-pub bounds-raws-choice-then-has_code-2 : goal.bounds-raws-choice-then-has_code-2
-bounds-raws-choice-then-has_code-2 c = omega (arith, c.coded_as-c-then-has_code-2.ensures.choice_le)
 
 pub shape_of-out-then-is_wrong-2 : goal.shape_of-out-then-is_wrong-2
 shape_of-out-then-is_wrong-2 c = (done (goal.at.shape_of-out-then-is_wrong-2 c).Joined-has_code).same
 
 pub shape_of-lines-then-is_wrong-2 : goal.shape_of-lines-then-is_wrong-2
 shape_of-lines-then-is_wrong-2 c = (done (goal.at.shape_of-lines-then-is_wrong-2 c).Joined-has_code).long
-
-pub overflow_cast-lines-else-has_code-2 : goal.overflow_cast-lines-else-has_code-2
-overflow_cast-lines-else-has_code-2 c = omega (arith, c.context_at-x-2.ensures.1.prediction)
-
-pub overflow_add-lines-else-has_code-2 : goal.overflow_add-lines-else-has_code-2
-overflow_add-lines-else-has_code-2 c = omega (arith, (inside (goal.at.overflow_add-lines-else-has_code-2 c).After-index_in-j-2).1)
-
-pub offset_bounds-lines-i-else-has_code-2 : goal.offset_bounds-lines-i-else-has_code-2
-offset_bounds-lines-i-else-has_code-2 c = omega (arith, (inside (goal.at.offset_bounds-lines-i-else-has_code-2 c).After-index_in-j-2).1)
-
-pub bounds-lines-i-else-has_code-2 : goal.bounds-lines-i-else-has_code-2
-bounds-lines-i-else-has_code-2 c = omega (arith, (inside (goal.at.bounds-lines-i-else-has_code-2 c).After-index_in-j-2).0)
 
 pub shape_of-out-then-has_code-2 : goal.shape_of-out-then-has_code-2
 shape_of-out-then-has_code-2 c = c.put_code-at-then-has_code-2.auto.out ∙ (done (goal.at.shape_of-out-then-has_code-2 c).Joined-has_code).same

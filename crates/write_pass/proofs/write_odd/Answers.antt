@@ -53,7 +53,7 @@ room c =
     (omega (arith, c.left_of-i.ensures.1.1, c.requires.steps_ask.long), omega (arith, c.left_of-i.ensures.1.1, c.requires.steps_ask.width))
 
 small : (c : After-coded_as-c) → c.coded_as-c.result.value < 2 ^ 16
-small c = site_value (site (goal.at.After-coded_as-c c).After-context_at-x) c.u16_to_u32-v.ensures.0 refl c.coded_as-c.ensures
+small c = site_value (site (goal.at.After-coded_as-c c).After-context_at-x) c.from-v.ensures refl c.coded_as-c.ensures
 
 abbrev lines₁ : (c : After-update_with_k) → List ℕ
 lines₁ c = set c.args.lines.now (c.left_of-i.result + 1) c.coded_as-c.result.value
@@ -63,7 +63,7 @@ done : (c : After-update_with_k) →
     c.args.from c.args.lines.now c.args.sums.now c.args.ns.now c.args.out.now
     (lines₁ c) c.update_with_k.new.sums c.update_with_k.new.ns c.put_code-at.new.out c.put_code-at.result
 done c =
-    site_done (site (goal.at.After-update_with_k c).After-context_at-x) c.u16_to_u32-v.ensures.0 refl c.coded_as-c.ensures c.record_at-old.ensures (site_k (site (goal.at.After-update_with_k c).After-context_at-x) c.u16_to_u32-v.ensures.0 refl c.coded_as-c.ensures c.record_at-old.ensures c.requires.are_ks c.k_at.ensures)
+    site_done (site (goal.at.After-update_with_k c).After-context_at-x) c.from-v.ensures refl c.coded_as-c.ensures c.record_at-old.ensures (site_k (site (goal.at.After-update_with_k c).After-context_at-x) c.from-v.ensures refl c.coded_as-c.ensures c.record_at-old.ensures c.requires.are_ks c.k_at.ensures)
     (c.put_code-at.ensures.result_value, c.put_code-at.ensures.out_after) c.put_code-at.auto.out (c.update_with_k.ensures.ns_after, (c.update_with_k.ensures.set_in_range_2, c.update_with_k.ensures.are_ks_2))
 
 -- ---- the second sample
@@ -89,7 +89,7 @@ inside c =
     (simp length-set (omega (arith, c.left_of-i-2.ensures.1.1, c.requires.steps_ask.long)), omega (arith, c.left_of-i-2.ensures.1.1, c.requires.steps_ask.width), omega (arith, c.index_in-j-2.ensures.1, c.requires.steps_ask.samples))
 
 small_2 : (c : After-coded_as-c-2) → c.coded_as-c-2.result.value < 2 ^ 16
-small_2 c = site_value (site_2 (goal.at.After-coded_as-c-2 c).After-context_at-x-2) c.u16_to_u32-v-2.ensures.0 refl c.coded_as-c-2.ensures
+small_2 c = site_value (site_2 (goal.at.After-coded_as-c-2 c).After-context_at-x-2) c.from-v-2.ensures refl c.coded_as-c-2.ensures
 
 pub returns-then-p-lt8 : goal.returns-then-p-lt8
 returns-then-p-lt8 c =
@@ -99,30 +99,26 @@ returns-then-p-lt8 c =
       are_ks_2 = c.requires.are_ks;
     }
 
-pub context_at-x-requires : goal.context_at-x-requires
-context_at-x-requires c =
-    (omega (arith, c.requires.steps_ask.width), (c.left_of-i.ensures.1.0, omega (arith, c.left_of-i.ensures.1.1, c.requires.steps_ask.long)))
-
 pub coded_as-c-requires : goal.coded_as-c-requires
-coded_as-c-requires c = site_code (site (goal.at.coded_as-c-requires c).After-context_at-x) c.u16_to_u32-v.ensures.0 refl
+coded_as-c-requires c = site_code (site (goal.at.coded_as-c-requires c).After-context_at-x) c.from-v.ensures refl
 
 pub record_at-old-requires : goal.record_at-old-requires
 record_at-old-requires c =
-    site_record (site (goal.at.record_at-old-requires c).After-context_at-x) c.u16_to_u32-v.ensures.0 refl c.coded_as-c.ensures
+    site_record (site (goal.at.record_at-old-requires c).After-context_at-x) c.from-v.ensures refl c.coded_as-c.ensures
 
 pub put_code-at-requires : goal.put_code-at-requires
 put_code-at-requires c =
     record {
-      k_bound = (site_room (site (goal.at.put_code-at-requires c).After-context_at-x) c.u16_to_u32-v.ensures.0 refl c.coded_as-c.ensures c.record_at-old.ensures (site_k (site (goal.at.put_code-at-requires c).After-context_at-x) c.u16_to_u32-v.ensures.0 refl c.coded_as-c.ensures c.record_at-old.ensures c.requires.are_ks c.k_at.ensures)).0;
-      at_bound = (site_room (site (goal.at.put_code-at-requires c).After-context_at-x) c.u16_to_u32-v.ensures.0 refl c.coded_as-c.ensures c.record_at-old.ensures (site_k (site (goal.at.put_code-at-requires c).After-context_at-x) c.u16_to_u32-v.ensures.0 refl c.coded_as-c.ensures c.record_at-old.ensures c.requires.are_ks c.k_at.ensures)).1;
+      k_bound = (site_room (site (goal.at.put_code-at-requires c).After-context_at-x) c.from-v.ensures refl c.coded_as-c.ensures c.record_at-old.ensures (site_k (site (goal.at.put_code-at-requires c).After-context_at-x) c.from-v.ensures refl c.coded_as-c.ensures c.record_at-old.ensures c.requires.are_ks c.k_at.ensures)).0;
+      at_bound = (site_room (site (goal.at.put_code-at-requires c).After-context_at-x) c.from-v.ensures refl c.coded_as-c.ensures c.record_at-old.ensures (site_k (site (goal.at.put_code-at-requires c).After-context_at-x) c.from-v.ensures refl c.coded_as-c.ensures c.record_at-old.ensures c.requires.are_ks c.k_at.ensures)).1;
     }
 
 pub update_with_k-requires : goal.update_with_k-requires
 update_with_k-requires c =
     record {
-      code_bound = (site_update (site (goal.at.update_with_k-requires c).After-context_at-x) c.u16_to_u32-v.ensures.0 refl c.coded_as-c.ensures c.record_at-old.ensures c.requires.are_ks).0;
-      set_in_range = (site_update (site (goal.at.update_with_k-requires c).After-context_at-x) c.u16_to_u32-v.ensures.0 refl c.coded_as-c.ensures c.record_at-old.ensures c.requires.are_ks).1.0;
-      are_ks = (site_update (site (goal.at.update_with_k-requires c).After-context_at-x) c.u16_to_u32-v.ensures.0 refl c.coded_as-c.ensures c.record_at-old.ensures c.requires.are_ks).1.1;
+      code_bound = (site_update (site (goal.at.update_with_k-requires c).After-context_at-x) c.from-v.ensures refl c.coded_as-c.ensures c.record_at-old.ensures c.requires.are_ks).0;
+      set_in_range = (site_update (site (goal.at.update_with_k-requires c).After-context_at-x) c.from-v.ensures refl c.coded_as-c.ensures c.record_at-old.ensures c.requires.are_ks).1.0;
+      are_ks = (site_update (site (goal.at.update_with_k-requires c).After-context_at-x) c.from-v.ensures refl c.coded_as-c.ensures c.record_at-old.ensures c.requires.are_ks).1.1;
     }
 
 pub left_of-i-requires-2 : goal.left_of-i-requires-2
@@ -139,31 +135,31 @@ context_at-x-requires-2 c =
     (omega (arith, (line_in (goal.at.context_at-x-requires-2 c).After-update_with_k).0), (c.left_of-i-2.ensures.1.0, i.0))
 
 pub coded_as-c-requires-2 : goal.coded_as-c-requires-2
-coded_as-c-requires-2 c = site_code (site_2 (goal.at.coded_as-c-requires-2 c).After-context_at-x-2) c.u16_to_u32-v-2.ensures.0 refl
+coded_as-c-requires-2 c = site_code (site_2 (goal.at.coded_as-c-requires-2 c).After-context_at-x-2) c.from-v-2.ensures refl
 
 pub record_at-old-requires-2 : goal.record_at-old-requires-2
 record_at-old-requires-2 c =
-    site_record (site_2 (goal.at.record_at-old-requires-2 c).After-context_at-x-2) c.u16_to_u32-v-2.ensures.0 refl c.coded_as-c-2.ensures
+    site_record (site_2 (goal.at.record_at-old-requires-2 c).After-context_at-x-2) c.from-v-2.ensures refl c.coded_as-c-2.ensures
 
 pub put_code-after-requires : goal.put_code-after-requires
 put_code-after-requires c =
     record {
-      k_bound = (site_room (site_2 (goal.at.put_code-after-requires c).After-context_at-x-2) c.u16_to_u32-v-2.ensures.0 refl c.coded_as-c-2.ensures c.record_at-old-2.ensures (site_k (site_2 (goal.at.put_code-after-requires c).After-context_at-x-2) c.u16_to_u32-v-2.ensures.0 refl c.coded_as-c-2.ensures c.record_at-old-2.ensures c.update_with_k.ensures.are_ks_2 c.k_at-2.ensures)).0;
-      at_bound = (site_room (site_2 (goal.at.put_code-after-requires c).After-context_at-x-2) c.u16_to_u32-v-2.ensures.0 refl c.coded_as-c-2.ensures c.record_at-old-2.ensures (site_k (site_2 (goal.at.put_code-after-requires c).After-context_at-x-2) c.u16_to_u32-v-2.ensures.0 refl c.coded_as-c-2.ensures c.record_at-old-2.ensures c.update_with_k.ensures.are_ks_2 c.k_at-2.ensures)).1;
+      k_bound = (site_room (site_2 (goal.at.put_code-after-requires c).After-context_at-x-2) c.from-v-2.ensures refl c.coded_as-c-2.ensures c.record_at-old-2.ensures (site_k (site_2 (goal.at.put_code-after-requires c).After-context_at-x-2) c.from-v-2.ensures refl c.coded_as-c-2.ensures c.record_at-old-2.ensures c.update_with_k.ensures.are_ks_2 c.k_at-2.ensures)).0;
+      at_bound = (site_room (site_2 (goal.at.put_code-after-requires c).After-context_at-x-2) c.from-v-2.ensures refl c.coded_as-c-2.ensures c.record_at-old-2.ensures (site_k (site_2 (goal.at.put_code-after-requires c).After-context_at-x-2) c.from-v-2.ensures refl c.coded_as-c-2.ensures c.record_at-old-2.ensures c.update_with_k.ensures.are_ks_2 c.k_at-2.ensures)).1;
     }
 
 pub update_with_k-requires-2 : goal.update_with_k-requires-2
 update_with_k-requires-2 c =
     record {
-      code_bound = (site_update (site_2 (goal.at.update_with_k-requires-2 c).After-context_at-x-2) c.u16_to_u32-v-2.ensures.0 refl c.coded_as-c-2.ensures c.record_at-old-2.ensures c.update_with_k.ensures.are_ks_2).0;
-      set_in_range = (site_update (site_2 (goal.at.update_with_k-requires-2 c).After-context_at-x-2) c.u16_to_u32-v-2.ensures.0 refl c.coded_as-c-2.ensures c.record_at-old-2.ensures c.update_with_k.ensures.are_ks_2).1.0;
-      are_ks = (site_update (site_2 (goal.at.update_with_k-requires-2 c).After-context_at-x-2) c.u16_to_u32-v-2.ensures.0 refl c.coded_as-c-2.ensures c.record_at-old-2.ensures c.update_with_k.ensures.are_ks_2).1.1;
+      code_bound = (site_update (site_2 (goal.at.update_with_k-requires-2 c).After-context_at-x-2) c.from-v-2.ensures refl c.coded_as-c-2.ensures c.record_at-old-2.ensures c.update_with_k.ensures.are_ks_2).0;
+      set_in_range = (site_update (site_2 (goal.at.update_with_k-requires-2 c).After-context_at-x-2) c.from-v-2.ensures refl c.coded_as-c-2.ensures c.record_at-old-2.ensures c.update_with_k.ensures.are_ks_2).1.0;
+      are_ks = (site_update (site_2 (goal.at.update_with_k-requires-2 c).After-context_at-x-2) c.from-v-2.ensures refl c.coded_as-c-2.ensures c.record_at-old-2.ensures c.update_with_k.ensures.are_ks_2).1.1;
     }
 
 pub returns : goal.returns
 returns c =
     let e =
-    site_done (site_2 (goal.at.returns c).After-context_at-x-2) c.u16_to_u32-v-2.ensures.0 refl c.coded_as-c-2.ensures c.record_at-old-2.ensures (site_k (site_2 (goal.at.returns c).After-context_at-x-2) c.u16_to_u32-v-2.ensures.0 refl c.coded_as-c-2.ensures c.record_at-old-2.ensures c.update_with_k.ensures.are_ks_2 c.k_at-2.ensures)
+    site_done (site_2 (goal.at.returns c).After-context_at-x-2) c.from-v-2.ensures refl c.coded_as-c-2.ensures c.record_at-old-2.ensures (site_k (site_2 (goal.at.returns c).After-context_at-x-2) c.from-v-2.ensures refl c.coded_as-c-2.ensures c.record_at-old-2.ensures c.update_with_k.ensures.are_ks_2 c.k_at-2.ensures)
     (c.put_code-after.ensures.result_value, c.put_code-after.ensures.out_after) c.put_code-after.auto.out (c.update_with_k-2.ensures.ns_after, (c.update_with_k-2.ensures.set_in_range_2, c.update_with_k-2.ensures.are_ks_2)) in
     record {
       steps_put = same_steps (odd_due_lem c.args.spot.plan c.args.spot.w c.args.spot.p c.if-p-lt8.false) (two_puts (two (goal.at.returns c).Else-p-lt8) (done (goal.at.returns c).After-update_with_k) e.put);
@@ -171,32 +167,14 @@ returns c =
       are_ks_2 = c.update_with_k-2.ensures.are_ks_2;
     }
 
-pub overflow_sub-q : goal.overflow_sub-q
-overflow_sub-q c = omega (arith, c.if-p-lt8.false)
-
 pub left_of-i-requires : goal.left_of-i-requires
 left_of-i-requires c = first_in (goal.at.left_of-i-requires c).Else-p-lt8
 
 pub index_in-j-requires : goal.index_in-j-requires
 index_in-j-requires c = let l = first_in (goal.at.index_in-j-requires c).Else-p-lt8 in (l.0, (l.1.0, (c.requires.steps_ask.line, l.1.1)))
 
-pub overflow_add-w : goal.overflow_add-w
-overflow_add-w c = omega (arith, c.requires.steps_ask.width)
-
-pub offset_bounds-samples-j : goal.offset_bounds-samples-j
-offset_bounds-samples-j c = omega (arith, within c, c.well_formed)
-
 pub bounds-samples-j : goal.bounds-samples-j
 bounds-samples-j c = within (goal.at.bounds-samples-j c).After-context_at-x
-
-pub overflow_cast-lines : goal.overflow_cast-lines
-overflow_cast-lines c = omega (arith, small (goal.at.overflow_cast-lines c).After-coded_as-c)
-
-pub overflow_add-lines : goal.overflow_add-lines
-overflow_add-lines c = omega (arith, (room (goal.at.overflow_add-lines c).After-coded_as-c).1)
-
-pub offset_bounds-lines-i : goal.offset_bounds-lines-i
-offset_bounds-lines-i c = omega (arith, (room (goal.at.offset_bounds-lines-i c).After-coded_as-c).1)
 
 pub bounds-lines-i : goal.bounds-lines-i
 bounds-lines-i c = (room (goal.at.bounds-lines-i c).After-coded_as-c).0
@@ -204,53 +182,11 @@ bounds-lines-i c = (room (goal.at.bounds-lines-i c).After-coded_as-c).0
 pub k_at-requires : goal.k_at-requires
 k_at-requires c = c.coded_as-c.ensures.slot_lt
 
-pub offset_bounds-limits-choice : goal.offset_bounds-limits-choice
-offset_bounds-limits-choice c = omega (arith, c.coded_as-c.ensures.choice_le)
-
-pub bounds-limits-choice : goal.bounds-limits-choice
-bounds-limits-choice c = omega (arith, c.coded_as-c.ensures.choice_le)
-
-pub offset_bounds-raws-choice : goal.offset_bounds-raws-choice
-offset_bounds-raws-choice c = omega (arith, c.coded_as-c.ensures.choice_le)
-
-pub bounds-raws-choice : goal.bounds-raws-choice
-bounds-raws-choice c = omega (arith, c.coded_as-c.ensures.choice_le)
-
-pub overflow_add-w-2 : goal.overflow_add-w-2
-overflow_add-w-2 c = omega (arith, (line_in (goal.at.overflow_add-w-2 c).After-update_with_k).0)
-
-pub offset_bounds-samples-j-2 : goal.offset_bounds-samples-j-2
-offset_bounds-samples-j-2 c = omega (arith, (inside (goal.at.offset_bounds-samples-j-2 c).After-index_in-j-2).2, c.well_formed)
-
 pub bounds-samples-j-2 : goal.bounds-samples-j-2
 bounds-samples-j-2 c = (inside (goal.at.bounds-samples-j-2 c).After-index_in-j-2).2
 
-pub overflow_cast-lines-2 : goal.overflow_cast-lines-2
-overflow_cast-lines-2 c = omega (arith, small_2 (goal.at.overflow_cast-lines-2 c).After-coded_as-c-2)
-
-pub overflow_add-lines-2 : goal.overflow_add-lines-2
-overflow_add-lines-2 c = omega (arith, (inside (goal.at.overflow_add-lines-2 c).After-index_in-j-2).1)
-
-pub offset_bounds-lines-i-2 : goal.offset_bounds-lines-i-2
-offset_bounds-lines-i-2 c = omega (arith, (inside (goal.at.offset_bounds-lines-i-2 c).After-index_in-j-2).1)
-
-pub bounds-lines-i-2 : goal.bounds-lines-i-2
-bounds-lines-i-2 c = omega (arith, (inside (goal.at.bounds-lines-i-2 c).After-index_in-j-2).0)
-
 pub k_at-requires-2 : goal.k_at-requires-2
 k_at-requires-2 c = c.coded_as-c-2.ensures.slot_lt
-
-pub offset_bounds-limits-choice-2 : goal.offset_bounds-limits-choice-2
-offset_bounds-limits-choice-2 c = omega (arith, c.coded_as-c-2.ensures.choice_le)
-
-pub bounds-limits-choice-2 : goal.bounds-limits-choice-2
-bounds-limits-choice-2 c = omega (arith, c.coded_as-c-2.ensures.choice_le)
-
-pub offset_bounds-raws-choice-2 : goal.offset_bounds-raws-choice-2
-offset_bounds-raws-choice-2 c = omega (arith, c.coded_as-c-2.ensures.choice_le)
-
-pub bounds-raws-choice-2 : goal.bounds-raws-choice-2
-bounds-raws-choice-2 c = omega (arith, c.coded_as-c-2.ensures.choice_le)
 
 pub shape_of-out : goal.shape_of-out
 shape_of-out c = c.put_code-after.auto.out ∙ (done (goal.at.shape_of-out c).After-update_with_k).same

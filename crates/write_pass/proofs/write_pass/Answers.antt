@@ -156,9 +156,6 @@ returns c =
 pub ks_of-ks-requires : goal.ks_of-ks-requires
 ks_of-ks-requires c = c.requires.records
 
-pub overflow_add-w : goal.overflow_add-w
-overflow_add-w c = omega (arith, c.requires.high)
-
 pub enum_known-evens : goal.enum_known-evens
 enum_known-evens c = c.in-At.in-At-own.keys1
 
@@ -182,12 +179,6 @@ shape_of-out-in_default-odds c = (lengths_2 (goal.at.shape_of-out-in_default-odd
 
 pub shape_of-lines-in_default-odds : goal.shape_of-lines-in_default-odds
 shape_of-lines-in_default-odds c = (lengths_2 (goal.at.shape_of-lines-in_default-odds c).After-write_odd-odds).1
-
-pub overflow_add-p : goal.overflow_add-p
-overflow_add-p c = omega (arith, c.loop-p-test.true, c.requires.high)
-
-pub loop-p-smaller : goal.loop-p-smaller
-loop-p-smaller c = omega (arith, c.loop-p-test.true)
 
 pub shape_of-out : goal.shape_of-out
 shape_of-out c = c.loop-p.invariant.same-output

@@ -38,4 +38,4 @@ pub nonzero_rem-inside-2 : goal.nonzero_rem-inside-2
 nonzero_rem-inside-2 c = omega (arith, wide (goal.at.nonzero_rem-inside-2 c).After-width-w)
 
 pub returns : goal.returns
-returns c = c.is_interpolated.ensures ∙ same _ _ _ c.width-w.ensures c.line_of_rank.ensures
+returns c = c.is_interpolated.ensures ∙ same _ _ _ c.width-w.ensures c.line_of_rank.ensures.0

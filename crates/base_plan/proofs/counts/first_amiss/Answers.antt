@@ -1,6 +1,5 @@
 -- `base_plan::counts::first_amiss` meets its contract. The invariant: as many are held as have begun and not ended before n, and the search from n on gives
--- what the search from 0 on gives; the measure: the lines from n on. Assumes nothing.
-use borrow.Author.Rules.{rules}
+-- what the search from 0 on gives. Assumes nothing.
 use mathlib.Core.Bool.{Bool, true, false}
 use mathlib.Core.List.{List}
 use mathlib.Core.Path.{◌≡◌, refl, sym, ◌∙◌}
@@ -58,28 +57,29 @@ module _ (twice : Bool) (begins ends : List ℕ) (lines n held : ℕ) (is : held
       inv ∙ least_next (lines - n) (λ i. is_amiss twice (held_at begins ends i)) n (omega arith) (rw (← is) t) ∙ rw e
 
 pub loop-n-init : goal.loop-n-init
-loop-n-init c = (search rules, start_sum _ _, start c.args.twice c.args.begins.now c.args.ends.now c.args.lines)
+loop-n-init c = (start_sum _ _, start c.args.twice c.args.begins.now c.args.ends.now c.args.lines)
 
 pub overflow_add-held : goal.overflow_add-held
 overflow_add-held c =
-    omega (arith, sum_fits c.args.begins.now c.args.ends.now c.loop-n.n c.loop-n.held c.requires.1 c.loop-n.invariant.1, c.requires.1 (c.loop-n.n + 1))
+    omega (arith, sum_fits c.args.begins.now c.args.ends.now c.loop-n.n c.loop-n.held c.requires.1 c.loop-n.invariant.0, c.requires.1 (c.loop-n.n + 1))
 
 pub overflow_sub-held : goal.overflow_sub-held
 overflow_sub-held c =
-    ended-fits c.args.begins.now c.args.ends.now c.loop-n.n c.loop-n.held c.requires.1 c.loop-n.invariant.1
+    ended-fits c.args.begins.now c.args.ends.now c.loop-n.n c.loop-n.held c.requires.1 c.loop-n.invariant.0
 
 pub returns-then-is_amiss : goal.returns-then-is_amiss
-returns-then-is_amiss c =
-    here c.args.twice c.args.begins.now c.args.ends.now c.args.lines c.loop-n.n _ (held_is c.args.begins.now c.args.ends.now c.loop-n.n c.loop-n.held c.requires.1 c.loop-n.invariant.1) c.loop-n.invariant.2
-    (sym c.is_amiss.ensures ∙ c.if-is_amiss.true)
+returns-then-is_amiss c = (
+  here c.args.twice c.args.begins.now c.args.ends.now c.args.lines c.loop-n.n _ (held_is c.args.begins.now c.args.ends.now c.loop-n.n c.loop-n.held c.requires.1 c.loop-n.invariant.0) c.loop-n.invariant.1
+      (sym c.is_amiss.ensures ∙ c.if-is_amiss.true),
+  omega arith,
+)
 
 pub loop-n-preserved : goal.loop-n-preserved
 loop-n-preserved c = (
-  search rules,
-  held_next c.args.begins.now c.args.ends.now c.loop-n.n c.loop-n.held c.requires.1 c.loop-n.invariant.1,
-  next c.args.twice c.args.begins.now c.args.ends.now c.args.lines c.loop-n.n _ (held_is c.args.begins.now c.args.ends.now c.loop-n.n c.loop-n.held c.requires.1 c.loop-n.invariant.1) c.loop-n.invariant.2 (omega arith)
+  held_next c.args.begins.now c.args.ends.now c.loop-n.n c.loop-n.held c.requires.1 c.loop-n.invariant.0,
+  next c.args.twice c.args.begins.now c.args.ends.now c.args.lines c.loop-n.n _ (held_is c.args.begins.now c.args.ends.now c.loop-n.n c.loop-n.held c.requires.1 c.loop-n.invariant.0) c.loop-n.invariant.1 (omega arith)
       (sym c.is_amiss.ensures ∙ c.if-is_amiss.false),
 )
 
 pub returns : goal.returns
-returns c = sym (c.loop-n.invariant.2 ∙ least_last _ _ _ (omega arith))
+returns c = let e = c.loop-n.invariant.1 ∙ least_last _ _ _ (omega arith) in omega arith

@@ -1,7 +1,7 @@
 -- `cameras::entry_words::words_of` meets its contract: the words of all entries. Assumes nothing.
 use mathlib.Core.Path.{◌≡◌}
 use mathlib.Core.List.{List}
-use Prim.Native.Nat.{ℕ, ◌-◌, ◌/◌, ◌%◌, ◌≤◌}
+use Prim.Native.Nat.{ℕ, ◌/◌, ◌%◌}
 use lib.ListN.{length, get_or}
 use Rattle.numbers.proofs.FillLaws.{NewTo}
 use Rattle.cameras.specs.Entries.{entry_at}
@@ -13,7 +13,4 @@ abbrev pub word : List Entry → ℕ → ℕ
 word l j = get_or (words_of (entry_at l (j / 8))) (j % 8) 0
 
 abbrev pub invariant-loop-k : goal.invariant-loop-k
-invariant-loop-k l = (l.k ≤ 128) × (length l.words ≡ 128) × NewTo (word l.entries.all) l.k l.initial.words l.words
-
-abbrev pub decreases-loop-k : goal.decreases-loop-k
-decreases-loop-k l = 128 - l.k
+invariant-loop-k l = (length l.words ≡ 128) × NewTo (word l.entries.all) l.k l.initial.words l.words

@@ -1,5 +1,4 @@
 -- `code::samples::code_of_residual` meets its contract. Assumes nothing.
-use Rattle.std.proofs.Common.{arith}
 use Rattle.code.specs.Wanted.{code_of_residual}
 use Rattle.code.proofs.samples.code_of_residual.Goals as goal
 
@@ -10,9 +9,3 @@ returns-then-negative c = simp (c.saturating_sub.ensures, c.if-negative.true)
 pub returns : goal.returns
 unfolding code_of_residual
 returns c = simp c.if-negative.false
-
-pub overflow_mul-size : goal.overflow_mul-size
-overflow_mul-size c = omega (arith, c.requires)
-
-pub overflow_mul-result : goal.overflow_mul-result
-overflow_mul-result c = omega (arith, c.requires)

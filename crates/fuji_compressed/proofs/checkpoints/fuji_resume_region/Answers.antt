@@ -1,5 +1,4 @@
 -- `fuji_compressed::checkpoints::fuji_resume_region` meets its contract. Assumes nothing.
-use borrow.Author.Rules.{rules}
 use Rattle.fuji_compressed.proofs.checkpoints.fuji_resume_region.Goals as goal
 
 pub returns : goal.returns
@@ -7,6 +6,6 @@ returns c =
     record {
       answer = c.resume_region-a.result;
       left = c.resume_region-a.ensures;
-      told_totals = c.totals_words-n.ensures;
-      told = c.counted_refusal-w.ensures;
+      told_totals = c.totals_words.ensures;
+      told = c.counted_refusal.ensures;
     }

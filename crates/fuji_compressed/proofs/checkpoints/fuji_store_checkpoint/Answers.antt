@@ -1,5 +1,4 @@
 -- `fuji_compressed::checkpoints::fuji_store_checkpoint` meets its contract. Assumes nothing.
-use borrow.Author.Rules.{rules}
 use Rattle.fuji_compressed.proofs.checkpoints.fuji_store_checkpoint.Goals as goal
 
 pub returns : goal.returns
@@ -7,6 +6,6 @@ returns c =
     record {
       answer = c.store_checkpoint-a.result;
       left = c.store_checkpoint-a.ensures;
-      told_totals = c.totals_words-t.ensures;
-      told = c.counted_refusal-w.ensures;
+      told_totals = c.totals_words.ensures;
+      told = c.counted_refusal.ensures;
     }

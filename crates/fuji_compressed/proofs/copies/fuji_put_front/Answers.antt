@@ -1,5 +1,4 @@
 -- `fuji_compressed::copies::fuji_put_front` meets its contract. Assumes nothing.
-use borrow.Author.Rules.{rules}
 use Rattle.fuji_compressed.proofs.copies.fuji_put_front.Goals as goal
 
 pub returns : goal.returns
@@ -7,6 +6,6 @@ returns c =
     record {
       answer = c.put_front-a.result;
       left = c.put_front-a.ensures;
-      told_size = c.length_word-n.ensures;
-      told = c.length_refusal-w.ensures;
+      told_size = c.length_word.ensures;
+      told = c.length_refusal.ensures;
     }

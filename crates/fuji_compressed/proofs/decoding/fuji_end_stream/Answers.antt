@@ -1,5 +1,4 @@
 -- `fuji_compressed::decoding::fuji_end_stream` meets its contract. Assumes nothing.
-use borrow.Author.Rules.{rules}
 use mathlib.Core.List.{List}
 use mathlib.Core.Path.{◌≡◌, ap, ◌∙◌, subst}
 use Prim.Native.Nat.{ℕ}
@@ -15,4 +14,4 @@ ended c c' l l' m w e f g p =
 
 pub returns : goal.returns
 returns c =
-    ended _ _ _ _ _ c.words_of-words.result c.camera_in-c.ensures c.entries_in-held.ensures c.end_stream-left.ensures c.words_of-words.ensures
+    ended _ _ _ _ _ c.words_of.result c.camera_in-c.ensures c.entries_in-held.ensures c.end_stream-left.ensures c.words_of.ensures

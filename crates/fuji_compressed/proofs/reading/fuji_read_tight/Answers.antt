@@ -1,7 +1,6 @@
 -- `fuji_compressed::reading::fuji_read_tight` meets its contract. Assumes nothing.
-use borrow.Author.Rules.{rules}
 use Rattle.fuji_compressed.proofs.reading.fuji_read_tight.Goals as goal
 
 pub returns : goal.returns
 returns c =
-    record { answer = c.read_tight-a.result; left = c.read_tight-a.ensures; told_totals = c.totals_words-t.ensures; told = c.counted_refusal-w.ensures }
+    record { answer = c.read_tight-a.result; left = c.read_tight-a.ensures; told_totals = c.totals_words.ensures; told = c.counted_refusal.ensures }

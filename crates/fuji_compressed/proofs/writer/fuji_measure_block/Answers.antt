@@ -1,5 +1,4 @@
 -- `fuji_compressed::writer::fuji_measure_block` meets its contract. Assumes nothing.
-use borrow.Author.Rules.{rules}
 use Rattle.fuji_compressed.proofs.writer.fuji_measure_block.Goals as goal
 
 pub returns : goal.returns
@@ -7,6 +6,6 @@ returns c =
     record {
       answer = c.measure_block-a.result;
       left = c.measure_block-a.ensures;
-      told_size = c.length_word-n.ensures;
-      told = c.length_refusal-w.ensures;
+      told_size = c.length_word.ensures;
+      told = c.length_refusal.ensures;
     }

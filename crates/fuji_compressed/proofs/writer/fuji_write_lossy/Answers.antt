@@ -1,5 +1,4 @@
 -- `fuji_compressed::writer::fuji_write_lossy` meets its contract. Assumes nothing.
-use borrow.Author.Rules.{rules}
 use Rattle.fuji_compressed.proofs.writer.fuji_write_lossy.Goals as goal
 
 pub returns : goal.returns
@@ -7,6 +6,6 @@ returns c =
     record {
       answer = c.write_lossy-a.result;
       left = c.write_lossy-a.ensures;
-      told_size = c.length_word-n.ensures;
-      told = c.length_refusal-w.ensures;
+      told_size = c.length_word.ensures;
+      told = c.length_refusal.ensures;
     }

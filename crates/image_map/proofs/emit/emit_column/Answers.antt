@@ -58,24 +58,3 @@ offset_bounds-lines-start c = search (rules, read c)
 
 pub bounds-lines-start : goal.bounds-lines-start
 bounds-lines-start c = read (goal.at.bounds-lines-start c).After-place_in
-
-pub overflow_sub-image : goal.overflow_sub-image
-overflow_sub-image c = omega (arith, c.requires)
-
-pub overflow_add-image-in-loop-p : goal.overflow_add-image-in-loop-p
-overflow_add-image-in-loop-p c = omega (arith, c.requires)
-
-pub offset_bounds-image-at : goal.offset_bounds-image-at
-offset_bounds-image-at c = omega (arith, c.requires)
-
-pub bounds-image-at : goal.bounds-image-at
-bounds-image-at c = omega (arith, c.requires)
-
-pub overflow_add-p : goal.overflow_add-p
-overflow_add-p c = omega (arith, c.loop-p.invariant)
-
-pub loop-p-smaller : goal.loop-p-smaller
-loop-p-smaller c = omega (arith, c.requires)
-
-pub shape_of-image : goal.shape_of-image
-shape_of-image c = omega (arith, c.requires)

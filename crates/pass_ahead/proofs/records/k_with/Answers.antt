@@ -1,4 +1,6 @@
 -- `pass_ahead::records::k_with` meets its contract. Assumes nothing.
+use Rattle.numbers.proofs.FlagLaws.{flag_of}
+use Rattle.std.proofs.Math.Nat.{min_comm}
 use native.Mathlib.Omega.{arith}
 use mathlib.Core.Path.{ap, ◌∙◌}
 use Prim.Native.Nat.{ℕ, ◌-◌}
@@ -23,4 +25,4 @@ pub returns : goal.returns
 returns c =
     let t : Rattle.statistics.specs.declared.Record.Record = record { sum = c.args.sum; n = c.args.n } in
     let l = longer (goal.at.returns c).Start in
-    k_found t _ _ _ c.requires.0 (ap (λ (d : ℕ). 31 - count_leading_zeros 32 (bit_or (bit_or c.args.sum c.args.n) 1) - d) c.requires.1 ∙ l.2) c.flag.ensures.0 c.smaller.ensures.0
+    k_found t _ _ _ c.requires.0 (ap (λ (d : ℕ). 31 - count_leading_zeros 32 (bit_or (bit_or c.args.sum c.args.n) 1) - d) c.requires.1 ∙ l.2) (c.from.ensures ∙ flag_of _) (c.min.ensures ∙ min_comm _ _)

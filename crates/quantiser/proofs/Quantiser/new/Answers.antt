@@ -28,14 +28,6 @@ made : (bits q weight t r : ℕ) → t ≡ total_of bits q → r ≡ least_from 
 unfolding quantiser_of raw_of
 made bits q weight t r et er = rw (er, et)
 
-pub overflow_add-total-3 : goal.overflow_add-total-3
-overflow_add-total-3 c =
-    omega (arith, total_range c.args.bits c.args.base c.largest.result c.requires.1.0 c.largest.ensures.0)
-
-pub log2ceil-raw-requires : goal.log2ceil-raw-requires
-log2ceil-raw-requires c =
-    total_range c.args.bits c.args.base c.largest.result c.requires.1.0 c.largest.ensures.0
-
 pub returns : goal.returns
 returns c =
     let t = total_range c.args.bits c.args.base c.largest.result c.requires.1.0 c.largest.ensures.0 in (

@@ -5,4 +5,4 @@ use Rattle.quantiser.proofs.Quantiser.start_sum.Goals as goal
 
 pub returns : goal.returns
 unfolding start_sum
-returns c = (c.larger.ensures, omega arith)
+returns c = (omega (arith, c.max.ensures), omega (arith, c.max.ensures, c.requires))

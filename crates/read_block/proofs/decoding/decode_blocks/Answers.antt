@@ -109,11 +109,6 @@ walk-got-requires c =
       all_numbered = c.no_entries.ensures.1;
     }
 
-pub overflow_add-b : goal.overflow_add-b
-overflow_add-b c =
-    let f = few c.args.h c.args.r _ c.loop-b.invariant.4 in
-    search (rules, c.loop-b-test.true, c.loop-b.invariant.2, f.0)
-
 pub loop-b-preserved : goal.loop-b-preserved
 loop-b-preserved c =
     let z = form_zeros _ c.args.h c.form_of-form.ensures c.args.windowed _ c.walk-got.ensures.lines_after.0 in

@@ -16,6 +16,3 @@ invariant-loop-b l =
     × (length l.lines ≡ samples_in l.windowed l.h.xtrans) × (length l.rs ≡ 336) × ArePlaces l.places
     × (l.answer ≡ answer_of l.d l.h l.r (l.b - first_block l.r)) × PicturedIn l.windowed l.d l.h l.r l.tile l.b l.initial.image l.image
     × (first_block l.r < l.b → (l.lines ≡ zeros_in l.windowed l.h.xtrans) × (l.rs ≡ clear_records))
-
-abbrev pub decreases-loop-b : goal.decreases-loop-b
-decreases-loop-b l = l.end - l.b

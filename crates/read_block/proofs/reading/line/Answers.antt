@@ -1,21 +1,18 @@
 -- `read_block::reading::line` meets its contract: i passes have been read. Assumes nothing.
-use borrow.Author.Rules.{rules}
 use borrow.Author.Tests.{not-true}
 use mathlib.Core.Bool.{true, false}
 use mathlib.Core.List.{List}
 use mathlib.Core.Option.{none}
-use mathlib.Core.Path.{◌≡◌, refl, sym, ap, ◌∙◌}
+use mathlib.Core.Path.{◌≡◌, refl, sym, ◌∙◌}
 use Prim.Native.Nat.{ℕ, ◌+◌, ◌*◌, ◌≤◌}
 use native.Mathlib.Omega.{arith}
 use lib.ListN.{length}
 use Rattle.image_map.proofs.PartLaws.{fits_kept}
 use Rattle.pass_schedule.specs.Inside.{PlanInRange}
-use Rattle.pass_steps.specs.Values.{records_of}
 use Rattle.read_pass.proofs.RangeLaws.{pass_keeps}
 use Rattle.read_pass.proofs.SiteLaws.{pass_was_read}
 use Rattle.read_block.specs.Blocks.{read_line}
 use Rattle.read_block.specs.Walks.{state_at}
-use Rattle.read_block.specs.Records.{put_set}
 use Rattle.read_block.specs.WindowedLines.{Held}
 use Rattle.read_block.proofs.LineLaws.{so_far_none, planned, planned_in, planned_apart, width_in_range, long_as, held_as, pass_more, pass_cut, ended_past, ended_read}
 use Rattle.read_block.proofs.PlacedLines.{only_none, only_more}
@@ -29,27 +26,26 @@ there : (c : After-window_plan-h) →
     × ((c.window_plan-h.result.second + 1) * (c.width-w.result + 2) ≤ length c.loop-i.lines)
 there c =
     planned_in c.args.windowed _ c.loop-i.i _ _ _ _ c.loop-i-test.true c.plan_at-p.ensures
-    c.window_plan-h.ensures c.loop-i.invariant.1.0 c.loop-i.invariant.2
+    c.window_plan-h.ensures c.loop-i.invariant.0.0 c.loop-i.invariant.1
 
 cut : (c : After-pass-done) → c.pass-done.result.ok ≡ false → (l : List ℕ) → length l ≡ 18 * (c.width-w.result + 2)
     → Held c.args.windowed c.width-w.result 0 l c.args.lines.now
     → read_line c.args.form c.args.qs.base c.args.block.now (state_at l c.args.rs.now c.args.from) ≡ none
 cut c wrong l long held =
     pass_cut c.args.windowed c.args.form c.args.qs.base c.args.block.now _ c.args.part c.args.n
-    c.loop-i.i _ _ _ _ _ _ _ _ _ _ c.loop-i.invariant.1.0 c.requires.depth.0.1
+    c.loop-i.i _ _ _ _ _ _ _ _ _ _ c.loop-i.invariant.0.0 c.requires.depth.0.1
     c.loop-i-test.true c.plan_at-p.ensures c.window_plan-h.ensures c.enter.ensures
-    c.load_set-set.ensures.0 c.loop-i.invariant.2 (c.loop-i.invariant.7 l long held) _
+    c.load_set-set.ensures c.loop-i.invariant.1 (c.loop-i.invariant.6 l long held) _
     c.pass-done.result c.pass-done.ensures.answer wrong
 
 -- the pass was read to its end, after which there are still no more long codes than bits
 counted : (c : After-pass-done) → c.pass-done.result.ok ≡ true → c.pass-done.result.place.long ≤ c.pass-done.result.place.at.0
 counted c ok =
-    (pass_keeps _ _ _ _ c.requires.depth.0.1 _ _ _ (pass_was_read _ _ c.pass-done.result c.pass-done.ensures.answer ok)).counted c.loop-i.invariant.5
+    (pass_keeps _ _ _ _ c.requires.depth.0.1 _ _ _ (pass_was_read _ _ c.pass-done.result c.pass-done.ensures.answer ok)).counted c.loop-i.invariant.4
 
 pub loop-i-init : goal.loop-i-init
 loop-i-init c =
     let w = width_in_range c.args.form.xtrans _ c.width-w.ensures in (
-      search rules,
       (c.width-w.ensures, w.0, w.1, w.2),
       c.requires.block_len_bound.1.0,
       c.requires.block_len_bound.1.1,
@@ -64,13 +60,13 @@ pub enter-requires : goal.enter-requires
 enter-requires c =
     let t = there (goal.at.enter-requires c).After-window_plan-h in
     record {
-      w_bound = (c.loop-i.invariant.1.2, (t.0.first_low, (t.0.first_high, t.1)));
+      w_bound = (c.loop-i.invariant.0.2, (t.0.first_low, (t.0.first_high, t.1)));
       le_second = (t.0.second_low, (t.0.second_high, t.2));
     }
 
 pub load_set-set-requires : goal.load_set-set-requires
 load_set-set-requires c =
-    (c.loop-i.invariant.3, (planned _ c.loop-i.i _ c.loop-i-test.true c.plan_at-p.ensures).1)
+    (c.loop-i.invariant.2, (planned _ c.loop-i.i _ c.loop-i-test.true c.plan_at-p.ensures).1)
 
 pub pass-done-requires : goal.pass-done-requires
 pass-done-requires c =
@@ -78,41 +74,33 @@ pass-done-requires c =
     let g = (planned _ c.loop-i.i _ c.loop-i-test.true c.plan_at-p.ensures).1 in
     record {
       bytes = c.requires.block_len_bound.0;
-      low = c.loop-i.invariant.1.1;
-      high = c.loop-i.invariant.1.2;
-      even = c.loop-i.invariant.1.3;
+      low = c.loop-i.invariant.0.1;
+      high = c.loop-i.invariant.0.2;
+      even = c.loop-i.invariant.0.3;
       room = (omega (arith, t.1, c.enter.auto), omega (arith, t.2, c.enter.auto));
       plan = t.0;
       apart = planned_apart c.args.windowed _ c.loop-i.i _ _ c.loop-i-test.true c.plan_at-p.ensures c.window_plan-h.ensures;
       depth = c.requires.depth.0;
       base = c.requires.depth.1.0;
       quantisers = c.requires.depth.1.1;
-      records = rw c.load_set-set.ensures.0 (set_in_range _ _ g c.loop-i.invariant.4);
-      counted = c.loop-i.invariant.5;
+      records = rw c.load_set-set.ensures (set_in_range _ _ g c.loop-i.invariant.3);
+      counted = c.loop-i.invariant.4;
     }
 
-pub shape_of-lines-then-not-ok : goal.shape_of-lines-then-not-ok
-shape_of-lines-then-not-ok c =
-    omega (arith, c.pass-done.auto, c.enter.auto, c.loop-i.invariant.2, c.requires.block_len_bound.1.0)
-
-pub shape_of-rs-then-not-ok : goal.shape_of-rs-then-not-ok
-shape_of-rs-then-not-ok c =
-    omega (arith, c.load_set-set.auto, c.loop-i.invariant.3, c.requires.block_len_bound.1.1)
-
 pub shape_of-image-then-not-ok : goal.shape_of-image-then-not-ok
-shape_of-image-then-not-ok c = c.loop-i.invariant.6.1.kept
+shape_of-image-then-not-ok c = c.loop-i.invariant.5.1.kept
 
 pub returns-then-not-ok : goal.returns-then-not-ok
 returns-then-not-ok c =
     record {
-      fact = λ m long held. rw (cut (goal.at.returns-then-not-ok c).After-pass-done (not-true _ c.if-not-ok.true-raw) m (long_as _ _ m c.loop-i.invariant.1.0 long)
-          (held_as c.args.windowed c.width-w.result _ 0 m c.args.lines.now c.loop-i.invariant.1.0 held)) refl;
-      all_in_range_2 = (rw c.load_set-set.ensures.1 c.loop-i.invariant.4, c.loop-i.invariant.6.1);
+      fact = λ m long held. rw (cut (goal.at.returns-then-not-ok c).After-pass-done (not-true _ c.if-not-ok.true-raw) m (long_as _ _ m c.loop-i.invariant.0.0 long)
+          (held_as c.args.windowed c.width-w.result _ 0 m c.args.lines.now c.loop-i.invariant.0.0 held)) refl;
+      all_in_range_2 = (c.loop-i.invariant.3, c.loop-i.invariant.5.1);
     }
 
 pub store_set-requires : goal.store_set-requires
 store_set-requires c =
-    (rw c.load_set-set.ensures.1 c.loop-i.invariant.3, (planned _ c.loop-i.i _ c.loop-i-test.true c.plan_at-p.ensures).1)
+    (c.loop-i.invariant.2, (planned _ c.loop-i.i _ c.loop-i-test.true c.plan_at-p.ensures).1)
 
 pub emit_pass_at-requires : goal.emit_pass_at-requires
 emit_pass_at-requires c =
@@ -121,40 +109,33 @@ emit_pass_at-requires c =
         c.requires.n_bound.0,
         (
           c.loop-i-test.true,
-          (c.loop-i.invariant.1.0, omega (arith, c.pass-done.auto, c.enter.auto, c.loop-i.invariant.2)),
+          (c.loop-i.invariant.0.0, omega (arith, c.pass-done.auto, c.enter.auto, c.loop-i.invariant.1)),
         ),
       );
-      are_places = (c.requires.n_bound.1.0, c.loop-i.invariant.6.0);
+      are_places = (c.requires.n_bound.1.0, c.loop-i.invariant.5.0);
     }
-
-pub overflow_add-i : goal.overflow_add-i
-overflow_add-i c = omega (arith, c.loop-i-test.true)
-
-pub loop-i-smaller : goal.loop-i-smaller
-loop-i-smaller c = omega (arith, c.loop-i-test.true)
 
 pub loop-i-preserved : goal.loop-i-preserved
 loop-i-preserved c =
     let g = (planned _ c.loop-i.i _ c.loop-i-test.true c.plan_at-p.ensures).1 in
-    let e = c.store_set.ensures ∙ ap (put_set c.plan_at-p.result.set (records_of c.pass-done.result.set)) c.load_set-set.ensures.1 in
+    let e = c.store_set.ensures in
     let ok = c.if-not-ok.false in (
-      omega (arith, c.loop-i-test.true),
-      c.loop-i.invariant.1,
-      omega (arith, c.pass-done.auto, c.enter.auto, c.loop-i.invariant.2),
-      omega (arith, c.store_set.auto, c.load_set-set.auto, c.loop-i.invariant.3),
-      rw e (put_in_range _ _ _ g c.loop-i.invariant.3 c.pass-done.ensures.records c.loop-i.invariant.4),
+      c.loop-i.invariant.0,
+      omega (arith, c.pass-done.auto, c.enter.auto, c.loop-i.invariant.1),
+      omega (arith, c.store_set.auto, c.loop-i.invariant.2),
+      rw e (put_in_range _ _ _ g c.loop-i.invariant.2 c.pass-done.ensures.records c.loop-i.invariant.3),
       counted (goal.at.loop-i-preserved c).After-pass-done ok,
       (
-        fits_kept _ _ _ c.emit_pass_at.ensures.kept c.loop-i.invariant.6.0,
+        fits_kept _ _ _ c.emit_pass_at.ensures.kept c.loop-i.invariant.5.0,
         only_more c.args.windowed _ _ _ _ c.args.part c.args.n _ _ _ _ _ _ _
-            c.loop-i.invariant.6.1 c.emit_pass_at.ensures,
+            c.loop-i.invariant.5.1 c.emit_pass_at.ensures,
       ),
       λ m long held. rw e
           (pass_more c.args.windowed c.args.form c.args.qs.base c.args.block.now _ c.args.part c.args.n
-          c.loop-i.i _ _ _ _ _ _ _ _ _ _ c.loop-i.invariant.1.0
+          c.loop-i.i _ _ _ _ _ _ _ _ _ _ c.loop-i.invariant.0.0
           c.requires.depth.0.1 c.loop-i-test.true c.plan_at-p.ensures c.window_plan-h.ensures c.enter.ensures
-          c.load_set-set.ensures.0 c.loop-i.invariant.2
-          (c.loop-i.invariant.7 m long held) _ c.pass-done.result c.pass-done.ensures.answer ok _ c.loop-i.invariant.6.0 c.emit_pass_at.ensures),
+          c.load_set-set.ensures c.loop-i.invariant.1
+          (c.loop-i.invariant.6 m long held) _ c.pass-done.result c.pass-done.ensures.answer ok _ c.loop-i.invariant.5.0 c.emit_pass_at.ensures),
     )
 
 pub returns-then-is_past : goal.returns-then-is_past
@@ -162,9 +143,9 @@ returns-then-is_past c =
     let past = sym c.is_past.ensures ∙ c.if-is_past.true in
     record {
       fact = λ m long held. rw (ended_past c.args.windowed c.args.form c.args.qs.base _ c.args.block.now _ c.args.part c.args.n c.loop-i.i _ _ _ _ _ (omega arith)
-          c.loop-i.invariant.0 (c.loop-i.invariant.7 m (long_as _ _ m c.loop-i.invariant.1.0 long) (held_as c.args.windowed c.width-w.result _ 0 m c.args.lines.now c.loop-i.invariant.1.0 held)) past)
+          c.loop-i.auto.i-end (c.loop-i.invariant.6 m (long_as _ _ m c.loop-i.invariant.0.0 long) (held_as c.args.windowed c.width-w.result _ 0 m c.args.lines.now c.loop-i.invariant.0.0 held)) past)
           refl;
-      all_in_range_2 = (c.loop-i.invariant.4, c.loop-i.invariant.6.1);
+      all_in_range_2 = (c.loop-i.invariant.3, c.loop-i.invariant.5.1);
     }
 
 pub returns : goal.returns
@@ -173,13 +154,13 @@ returns c =
     record {
       fact = λ m long held. ended_read c.args.windowed c.args.form c.args.qs.base c.width-w.result c.args.block.now _ c.args.part c.args.n c.loop-i.i
           (state_at m c.args.rs.now c.args.from) _ _ _ _ (omega arith)
-          c.loop-i.invariant.0 (c.loop-i.invariant.7 m (long_as _ _ m c.loop-i.invariant.1.0 long) (held_as c.args.windowed c.width-w.result _ 0 m c.args.lines.now c.loop-i.invariant.1.0 held)) past
-          (record { image = c.args.image.now; lines = c.args.lines.now; records = c.args.rs.now }) c.loop-i.invariant.6.1 _ c.loop-i.invariant.1.0;
-      all_in_range_2 = (c.loop-i.invariant.4, c.loop-i.invariant.6.1);
+          c.loop-i.auto.i-end (c.loop-i.invariant.6 m (long_as _ _ m c.loop-i.invariant.0.0 long) (held_as c.args.windowed c.width-w.result _ 0 m c.args.lines.now c.loop-i.invariant.0.0 held)) past
+          (record { image = c.args.image.now; lines = c.args.lines.now; records = c.args.rs.now }) c.loop-i.invariant.5.1 _ c.loop-i.invariant.0.0;
+      all_in_range_2 = (c.loop-i.invariant.3, c.loop-i.invariant.5.1);
     }
 
 pub shape_of-image-then-is_past : goal.shape_of-image-then-is_past
-shape_of-image-then-is_past c = c.loop-i.invariant.6.1.kept
+shape_of-image-then-is_past c = c.loop-i.invariant.5.1.kept
 
 pub shape_of-image : goal.shape_of-image
-shape_of-image c = c.loop-i.invariant.6.1.kept
+shape_of-image c = c.loop-i.invariant.5.1.kept

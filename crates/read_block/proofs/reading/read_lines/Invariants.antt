@@ -2,7 +2,7 @@
 use mathlib.Core.Bool.{Bool}
 use mathlib.Core.List.{List}
 use mathlib.Core.Path.{◌≡◌}
-use Prim.Native.Nat.{ℕ, ◌+◌, ◌-◌, ◌*◌, ◌≤◌}
+use Prim.Native.Nat.{ℕ, ◌+◌, ◌*◌, ◌≤◌}
 use lib.ListN.{length}
 use Rattle.code.specs.declared.Place.{Place}
 use Rattle.statistics.specs.declared.Record.{Record}
@@ -27,11 +27,8 @@ pub record SoFar (windowed : Bool) (F : Form) (bases s tile : List ℕ) (a : Par
 
 abbrev pub invariant-loop-i : goal.invariant-loop-i
 invariant-loop-i l =
-    (l.i ≤ l.more) × ((l.w ≡ width_of l.form.xtrans) × (l.w ≤ 512)) × (length l.lines ≡ samples_in l.windowed l.form.xtrans) × (length l.rs ≡ 336) × AllInRange l.rs
+    ((l.w ≡ width_of l.form.xtrans) × (l.w ≤ 512)) × (length l.lines ≡ samples_in l.windowed l.form.xtrans) × (length l.rs ≡ 336) × AllInRange l.rs
     × (l.tight_lines.lines ≤ l.i)
     × (Fits l.part l.image × (length l.image ≡ length l.initial.image))
     × ((ls : List ℕ) → length ls ≡ 18 * (width_of l.form.xtrans + 2) → Held l.windowed (width_of l.form.xtrans) 6 ls l.initial.lines
     → SoFar l.windowed l.form l.bases l.block l.tile l.part l.first (state_at ls l.initial.rs l.initial.place) l.initial.image l.i l.lines l.rs l.image l.place l.tight_lines)
-
-abbrev pub decreases-loop-i : goal.decreases-loop-i
-decreases-loop-i l = l.more - l.i

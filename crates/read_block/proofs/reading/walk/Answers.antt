@@ -38,10 +38,6 @@ read_lines-walked-requires c =
       );
     }
 
-pub clear_records-requires : goal.clear_records-requires
-clear_records-requires c =
-    omega (arith, c.read_lines-walked.auto, c.start_records.auto, c.requires.block_len_bound)
-
 pub returns : goal.returns
 returns c =
     let W : ℕ = width_of c.args.form.xtrans in

@@ -1,23 +1,16 @@
 -- `read_block::records::load_set` meets its contract: the records before i are in the two arrays. Assumes nothing.
-use borrow.Author.Rules.{rules}
-use mathlib.Core.Path.{refl, ◌∙◌}
+use mathlib.Core.Path.{refl}
 use native.Mathlib.Omega.{arith}
 use lib.ListN.{length-set}
 use Rattle.read_block.proofs.SetLaws.{load_more, load_done}
 use Rattle.read_block.proofs.records.load_set.Goals as goal
 
-pub loop-i-init : goal.loop-i-init
-loop-i-init c = (search rules, refl, search rules, search rules, search rules, refl)
-
 pub loop-i-preserved : goal.loop-i-preserved
 loop-i-preserved c = (
-  search rules,
-  c.fetch-r.ensures.1 ∙ c.loop-i.invariant.1,
-  search rules,
-  simp length-set c.loop-i.invariant.3,
-  simp length-set c.loop-i.invariant.4,
-  load_more _ _ c.requires.0 c.requires.1 c.loop-i.sums c.loop-i.ns c.loop-i.i _ (omega arith) c.loop-i.invariant.3 c.loop-i.invariant.4 (rw c.loop-i.invariant.1 at c.fetch-r.ensures.0) c.loop-i.invariant.5,
+  simp length-set c.loop-i.invariant.0,
+  simp length-set c.loop-i.invariant.1,
+  load_more _ _ c.requires.0 c.requires.1 c.loop-i.sums c.loop-i.ns c.loop-i.i _ (omega arith) c.loop-i.invariant.0 c.loop-i.invariant.1 refl c.loop-i.invariant.2,
 )
 
 pub returns : goal.returns
-returns c = (load_done _ _ _ _ c.loop-i.i (omega arith) c.loop-i.invariant.0 c.loop-i.invariant.3 c.loop-i.invariant.4 c.loop-i.invariant.5, c.loop-i.invariant.1)
+returns c = load_done _ _ _ _ c.loop-i.i (omega arith) (omega arith) c.loop-i.invariant.0 c.loop-i.invariant.1 c.loop-i.invariant.2

@@ -22,16 +22,15 @@ more bits q j rs₀ rs old r h done rest eo er =
 
 pub loop-j-init : goal.loop-j-init
 unfolding table
-loop-j-init c = (search rules, search rules, refl, refl)
+loop-j-init c = (search rules, refl, refl)
 
 pub loop-j-preserved : goal.loop-j-preserved
 loop-j-preserved c = (
   search rules,
-  search rules,
-  rw (c.update.ensures, c.fetch-old.ensures.1) (more _ _ c.loop-j.j _ c.loop-j.rs _ _ (omega arith) c.loop-j.invariant.2 c.loop-j.invariant.3 c.fetch-old.ensures.0 c.restarted_record-r.ensures),
-  rw (c.update.ensures, c.fetch-old.ensures.1) (still_more _ c.loop-j.rs c.loop-j.j c.loop-j.invariant.3 _),
+  more _ _ c.loop-j.j _ c.loop-j.rs _ _ (omega arith) c.loop-j.invariant.1 c.loop-j.invariant.2 refl c.restarted_record.ensures,
+  still_more _ c.loop-j.rs c.loop-j.j c.loop-j.invariant.2 _,
 )
 
 pub returns : goal.returns
 unfolding restarted_main
-returns c = fill_done _ c.loop-j.rs 336 c.loop-j.j c.loop-j.invariant.1 (omega arith) c.loop-j.invariant.0 c.loop-j.invariant.2
+returns c = fill_done _ c.loop-j.rs 336 c.loop-j.j c.loop-j.invariant.0 (omega arith) (omega arith) c.loop-j.invariant.1

@@ -2,7 +2,7 @@
 use mathlib.Core.Bool.{cond}
 use mathlib.Core.List.{List}
 use mathlib.Core.Path.{◌≡◌}
-use Prim.Native.Nat.{ℕ, ◌-◌, ◌%◌, ◌≤◌}
+use Prim.Native.Nat.{ℕ, ◌%◌}
 use lib.Dec.{ltb}
 use lib.ListN.{length, get_or, take, drop}
 use Rattle.statistics.specs.declared.Record.{Record}
@@ -15,7 +15,4 @@ restarted bits q rs j = cond (ltb (j % 56) 41) (start_record bits q j) (get_or r
 
 abbrev pub invariant-loop-j : goal.invariant-loop-j
 invariant-loop-j l =
-    (l.j ≤ 336) × (length l.rs ≡ 336) × (take l.j l.rs ≡ table (restarted l.bits l.base l.initial.rs) l.j) × (drop l.j l.rs ≡ drop l.j l.initial.rs)
-
-abbrev pub decreases-loop-j : goal.decreases-loop-j
-decreases-loop-j l = 336 - l.j
+    (length l.rs ≡ 336) × (take l.j l.rs ≡ table (restarted l.bits l.base l.initial.rs) l.j) × (drop l.j l.rs ≡ drop l.j l.initial.rs)

@@ -8,15 +8,14 @@ use Rattle.read_block.proofs.records.start_records.Goals as goal
 
 pub loop-j-init : goal.loop-j-init
 unfolding table
-loop-j-init c = (search rules, search rules, refl)
+loop-j-init c = (search rules, refl)
 
 pub loop-j-preserved : goal.loop-j-preserved
 loop-j-preserved c = (
   search rules,
-  search rules,
-  rw c.update.ensures (fill_more _ c.loop-j.rs c.loop-j.j _ (omega arith) c.start_record-r.ensures c.loop-j.invariant.2),
+  fill_more _ c.loop-j.rs c.loop-j.j _ (omega arith) c.start_record.ensures c.loop-j.invariant.1,
 )
 
 pub returns : goal.returns
 unfolding start_records
-returns c = fill_done _ c.loop-j.rs 336 c.loop-j.j c.loop-j.invariant.1 (omega arith) c.loop-j.invariant.0 c.loop-j.invariant.2
+returns c = fill_done _ c.loop-j.rs 336 c.loop-j.j c.loop-j.invariant.0 (omega arith) (omega arith) c.loop-j.invariant.1

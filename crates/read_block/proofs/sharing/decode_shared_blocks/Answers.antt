@@ -133,14 +133,6 @@ pub shape_of-image-then-is_stopped : goal.shape_of-image-then-is_stopped
 shape_of-image-then-is_stopped c =
     omega (arith, c.walk-got.ensures.shown_in.kept, c.loop-b.invariant.9.kept)
 
-pub shape_of-lines-then-is_stopped : goal.shape_of-lines-then-is_stopped
-shape_of-lines-then-is_stopped c =
-    omega (arith, c.walk-got.auto, c.loop-b.invariant.5, c.requires.scratch_in.0.0)
-
-pub shape_of-rs-then-is_stopped : goal.shape_of-rs-then-is_stopped
-shape_of-rs-then-is_stopped c =
-    omega (arith, c.walk-got.auto, c.loop-b.invariant.6, c.requires.scratch_in.0.1)
-
 pub returns-then-is_stopped : goal.returns-then-is_stopped
 returns-then-is_stopped c =
     let z = form_zeros _ c.args.h c.form_of-form.ensures false _ c.walk-got.ensures.lines_after.0 in
@@ -157,15 +149,6 @@ returns-then-is_stopped c =
           c.part-part.ensures c.loop-b.invariant.9 c.walk-got.ensures.shown_in;
       lines_after = (z, c.walk-got.ensures.lines_after.1);
     }
-
-pub overflow_add-b : goal.overflow_add-b
-overflow_add-b c =
-    let f = few c.args.h c.args.r _ c.loop-b.invariant.4 in
-    search (rules, c.loop-b-test.true, c.loop-b.invariant.2, f.0)
-
-pub loop-b-smaller : goal.loop-b-smaller
-loop-b-smaller c =
-    omega (arith, c.loop-b-test.true)
 
 pub loop-b-preserved : goal.loop-b-preserved
 loop-b-preserved c =

@@ -22,6 +22,3 @@ invariant-loop-b l =
     × (first_block l.r < l.b → (l.lines ≡ zeros_in false l.h.xtrans) × (l.rs ≡ clear_records)) × (l.bits ≡ l.h.bits)
     × (l.held.all ≡ entries_after l.camera l.d l.h l.r l.initial.held.all (l.b - first_block l.r)) × AllNumbered l.held.all
     × Going l.camera l.d l.h l.r l.initial.held.all (l.b - first_block l.r)
-
-abbrev pub decreases-loop-b : goal.decreases-loop-b
-decreases-loop-b l = l.end - l.b

@@ -18,7 +18,7 @@ module _ (r : Rect) (b k : ℕ) (t : Bool) (et : t ≡ is_touched r b) where
 
 pub returns-then-is_touched : goal.returns-then-is_touched
 returns-then-is_touched c =
-    wanted _ _ _ _ c.is_touched.ensures _ _ c.if-is_touched.true c.span_of-span.ensures c.saturating_sub_usize.ensures
+    wanted _ _ _ _ c.is_touched.ensures _ _ c.if-is_touched.true c.span_of-span.ensures c.saturating_sub.ensures
 
 pub returns : goal.returns
 returns c = none_wanted c.args.r c.args.b c.args.k _ c.is_touched.ensures c.if-is_touched.false

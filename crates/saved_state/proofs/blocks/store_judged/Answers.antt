@@ -1,5 +1,4 @@
 -- `saved_state::blocks::store_judged` meets its contract: refusal 21 before 13. Assumes nothing.
-use borrow.Author.Rules.{rules}
 use borrow.Author.Tests.{le-leb, lt-leb, lt-ltb, le-ltb}
 use mathlib.Core.Path.{◌≡◌}
 use Prim.Native.Nat.{ℕ, ◌+◌, ◌*◌, ◌≤◌, ◌<◌}
@@ -28,12 +27,6 @@ small c = rw c.width.ensures (width_le c.args.h.xtrans)
 
 pub returns-then-line_count-line : goal.returns-then-line_count-line
 returns-then-line_count-line c = no_line c.args.h c.args.line c.args.room _ c.line_count.ensures c.if-line_count-line.true
-
-pub overflow_mul-width : goal.overflow_mul-width
-overflow_mul-width c = search (rules, small c)
-
-pub overflow_add-width : goal.overflow_add-width
-overflow_add-width c = search (rules, small c)
 
 pub returns-then-room-width : goal.returns-then-room-width
 returns-then-room-width c =

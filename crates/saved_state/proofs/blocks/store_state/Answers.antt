@@ -60,18 +60,6 @@ put_walked-requires c =
       );
     }
 
-pub clear_records-requires : goal.clear_records-requires
-clear_records-requires c =
-    omega (arith, c.put_walked.auto, c.read_lines-got.auto, c.start_records.auto, c.requires.scratch_of.1)
-
-pub shape_of-lines : goal.shape_of-lines
-shape_of-lines c =
-    omega (arith, c.clear-2.auto, c.read_lines-got.auto, c.clear.auto)
-
-pub shape_of-rs : goal.shape_of-rs
-shape_of-rs c =
-    omega (arith, c.clear_records.auto, c.put_walked.auto, c.read_lines-got.auto, c.start_records.auto)
-
 pub returns : goal.returns
 returns c =
     let q = c.read_lines-got.ensures _ (form_samples _ c.args.h c.form_of-form.ensures _ (omega (arith, c.clear.auto, c.requires.scratch_of.0))) refl in

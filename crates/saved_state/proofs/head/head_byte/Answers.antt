@@ -36,18 +36,3 @@ returns-then-i-lt19 c = in-next _ _ _ _ _ _ (omega arith) (omega arith) c.be_byt
 
 pub returns : goal.returns
 returns c = in-position _ _ _ _ _ _ (omega arith) c.be_byte-2.ensures
-
-pub bounds-d-i : goal.bounds-d-i
-bounds-d-i c = omega (arith, c.requires)
-
-pub overflow_cast-i : goal.overflow_cast-i
-overflow_cast-i c = omega (arith, c.requires)
-
-pub be_byte-requires-then-i-lt19 : goal.be_byte-requires-then-i-lt19
-be_byte-requires-then-i-lt19 c = omega (arith, c.requires)
-
-pub overflow_cast-i-2 : goal.overflow_cast-i-2
-overflow_cast-i-2 c = omega (arith, c.requires)
-
-pub be_byte-requires-2 : goal.be_byte-requires-2
-be_byte-requires-2 c = omega (arith, c.requires)

@@ -19,7 +19,7 @@ done s i k n x e f g = (rw e at f, rw e at g)
 
 pub loop-k-init : goal.loop-k-init
 unfolding be_at
-loop-k-init c = (omega arith, refl, lit≤ tt)
+loop-k-init c = (refl, lit≤ tt)
 
 pub overflow_mul-x : goal.overflow_mul-x
 overflow_mul-x c = omega (arith, seven c.loop-k.k c.args.n (omega arith) c.requires.0)
@@ -30,19 +30,7 @@ overflow_add-x c =
 
 pub loop-k-preserved : goal.loop-k-preserved
 loop-k-preserved c =
-    (omega arith, at_more _ _ c.loop-k.k _ _ c.loop-k.invariant.1 c.u8_to_u64.ensures.0, omega (arith, next_power c.loop-k.k))
+    (at_more _ _ c.loop-k.k _ _ c.loop-k.invariant.0 c.from.ensures, omega (arith, next_power c.loop-k.k))
 
 pub returns : goal.returns
-returns c = done _ _ c.loop-k.k _ _ (omega arith) c.loop-k.invariant.1 c.loop-k.invariant.2
-
-pub overflow_add-i : goal.overflow_add-i
-overflow_add-i c = omega (arith, c.requires)
-
-pub bounds-s-i : goal.bounds-s-i
-bounds-s-i c = omega (arith, c.requires)
-
-pub overflow_add-k : goal.overflow_add-k
-overflow_add-k c = omega (arith, c.loop-k.invariant)
-
-pub loop-k-smaller : goal.loop-k-smaller
-loop-k-smaller c = omega (arith, c.requires)
+returns c = done _ _ c.loop-k.k _ _ (omega arith) c.loop-k.invariant.0 c.loop-k.invariant.1

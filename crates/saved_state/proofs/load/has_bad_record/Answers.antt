@@ -7,7 +7,7 @@ use Rattle.saved_state.proofs.load.has_bad_record.Goals as goal
 
 pub loop-j-init : goal.loop-j-init
 unfolding any_below
-loop-j-init c = (omega arith, refl)
+loop-j-init c = (refl)
 
 pub returns-then-is_bad_record : goal.returns-then-is_bad_record
 returns-then-is_bad_record c =
@@ -15,16 +15,10 @@ returns-then-is_bad_record c =
 
 pub loop-j-preserved : goal.loop-j-preserved
 loop-j-preserved c =
-    (omega arith, any_more _ c.loop-j.j c.loop-j.invariant.1 (sym c.is_bad_record.ensures ∙ c.if-is_bad_record.false))
+    (any_more _ c.loop-j.j c.loop-j.invariant (sym c.is_bad_record.ensures ∙ c.if-is_bad_record.false))
 
 pub returns : goal.returns
-returns c = sym (none_done _ c.loop-j.j 336 c.loop-j.invariant.1 (omega arith))
+returns c = sym (none_done _ c.loop-j.j 336 c.loop-j.invariant (omega arith))
 
 pub is_bad_record-requires : goal.is_bad_record-requires
 is_bad_record-requires c = omega (arith, c.requires)
-
-pub overflow_add-j : goal.overflow_add-j
-overflow_add-j c = omega (arith, c.loop-j.invariant)
-
-pub loop-j-smaller : goal.loop-j-smaller
-loop-j-smaller c = omega (arith, c.requires)

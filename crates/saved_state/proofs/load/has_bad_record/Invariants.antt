@@ -1,12 +1,8 @@
 -- `saved_state::load::has_bad_record` meets its contract: no record before j is bad. Assumes nothing.
 use mathlib.Core.Bool.{false}
 use mathlib.Core.Path.{◌≡◌}
-use Prim.Native.Nat.{◌-◌, ◌≤◌}
 use Rattle.saved_state.specs.Checkpoints.{bad_record, any_below}
 use Rattle.saved_state.proofs.load.has_bad_record.Given as goal
 
 abbrev pub invariant-loop-j : goal.invariant-loop-j
-invariant-loop-j l = (l.j ≤ 336) × (any_below l.j (bad_record l.s) ≡ false)
-
-abbrev pub decreases-loop-j : goal.decreases-loop-j
-decreases-loop-j l = 336 - l.j
+invariant-loop-j l = (any_below l.j (bad_record l.s) ≡ false)

@@ -7,7 +7,7 @@ use Rattle.saved_state.proofs.load.has_bad_sample.Goals as goal
 
 pub loop-j-init : goal.loop-j-init
 unfolding any_below
-loop-j-init c = (omega arith, refl, refl)
+loop-j-init c = (refl, refl)
 
 pub returns-then-is_bad_sample : goal.returns-then-is_bad_sample
 returns-then-is_bad_sample c =
@@ -15,19 +15,13 @@ returns-then-is_bad_sample c =
 
 pub loop-j-preserved : goal.loop-j-preserved
 loop-j-preserved c =
-    (omega arith, c.loop-j.invariant.1, any_more _ c.loop-j.j c.loop-j.invariant.2 (sym c.is_bad_sample.ensures ∙ c.if-is_bad_sample.false))
+    (c.loop-j.invariant.0, any_more _ c.loop-j.j c.loop-j.invariant.1 (sym c.is_bad_sample.ensures ∙ c.if-is_bad_sample.false))
 
 pub returns : goal.returns
-returns c = sym (none_done _ c.loop-j.j _ c.loop-j.invariant.2 (omega arith))
+returns c = sym (none_done _ c.loop-j.j _ c.loop-j.invariant.1 (omega arith))
 
 pub overflow_mul-end : goal.overflow_mul-end
 overflow_mul-end c = omega (arith, c.requires)
 
 pub is_bad_sample-requires : goal.is_bad_sample-requires
 is_bad_sample-requires c = omega (arith, c.requires)
-
-pub overflow_add-j : goal.overflow_add-j
-overflow_add-j c = omega (arith, c.loop-j.invariant)
-
-pub loop-j-smaller : goal.loop-j-smaller
-loop-j-smaller c = omega (arith, c.requires)

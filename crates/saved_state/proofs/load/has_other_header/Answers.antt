@@ -1,34 +1,38 @@
--- `saved_state::load::has_other_header` meets its contract: the bytes before i are equal. Assumes nothing.
-use borrow.Author.Tests.{eq-eqb, ne_eqb}
-use mathlib.Core.Path.{refl, sym}
-use native.Mathlib.Omega.{arith}
+-- `saved_state::load::has_other_header` meets its contract: two pieces of 16 bytes differ where some byte does. Assumes nothing.
+use Rattle.std.proofs.Common.{List, ℕ, Bool, true, false, not, ◌≡◌, ◌≤◌, ◌<◌, refl, sym, ap, ◌∙◌, arith}
+use Rattle.std.proofs.lemmas.Bool.{true_from_ne_false, not-false}
+use Rattle.std.proofs.lemmas.List.{same_lists, get_or_default}
+use Rattle.std.proofs.lemmas.Slice.Eq.{bytes_eq-Decides}
+use Rattle.std.specs.Bool.{Decides}
+use borrow.Author.Tests.{eq-eqb, eqb-true}
+use lib.Dec.{eqb}
+use lib.ListN.{length, get_or, take, length-take}
+use lib.Seq.{get_or-take}
+use mathlib.Core.Bool.{false≢true}
 use Rattle.saved_state.specs.Checkpoints.{any_below}
-use Rattle.saved_state.proofs.ByteLaws.{any_more, any_at, none_done}
+use Rattle.saved_state.proofs.ByteLaws.{any_none, none_at}
 use Rattle.saved_state.proofs.load.has_other_header.Goals as goal
 
-pub loop-i-init : goal.loop-i-init
-unfolding any_below
-loop-i-init c = (omega arith, refl)
+module _ (s d : List ℕ) (hs : 16 ≤ length s) (hd : 16 ≤ length d) where
+  abbrev differs : ℕ → Bool
+  differs i = not (eqb (get_or s i 0) (get_or d i 0))
 
-pub returns-then-s-i : goal.returns-then-s-i
-returns-then-s-i c =
-    sym (any_at _ 16 c.loop-i.i (omega arith) (rw (ne_eqb _ _ c.if-s-i.true)))
+  none : take 16 s ≡ take 16 d → any_below 16 differs ≡ false
+  none e =
+      any_none differs 16
+      (λ j h. rw (eq-eqb _ _ (sym (get_or-take 16 s j 0 h) ∙ ap (λ (l : List ℕ). get_or l j 0) e ∙ get_or-take 16 d j 0 h)))
 
-pub loop-i-preserved : goal.loop-i-preserved
-loop-i-preserved c =
-    (omega arith, any_more _ c.loop-i.i c.loop-i.invariant.1 (rw (eq-eqb _ _ c.if-s-i.false)))
+  same : any_below 16 differs ≡ false → take 16 s ≡ take 16 d
+  same f =
+      same_lists _ _ (omega (arith, length-take 16 s, length-take 16 d))
+      (λ k e h.
+      let l : k < 16 = omega (arith, length-take 16 s) in
+      get_or-take 16 s k e l ∙ get_or_default s k e 0 (omega arith) ∙ eqb-true _ _ (not-false _ (none_at differs 16 k l f)) ∙ sym (get_or_default d k e 0 (omega arith))
+      ∙ sym (get_or-take 16 d k e l))
+
+  decided : (q : Bool) → Decides q (take 16 s ≡ take 16 d) → not q ≡ any_below 16 differs
+  decided true h = sym (none (h.0 refl))
+  decided false h = sym (true_from_ne_false _ (λ f. false≢true (h.1 (same f))))
 
 pub returns : goal.returns
-returns c = sym (none_done _ c.loop-i.i 16 c.loop-i.invariant.1 (omega arith))
-
-pub bounds-s-i : goal.bounds-s-i
-bounds-s-i c = omega (arith, c.requires)
-
-pub bounds-d-i : goal.bounds-d-i
-bounds-d-i c = omega (arith, c.requires)
-
-pub overflow_add-i : goal.overflow_add-i
-overflow_add-i c = omega (arith, c.loop-i.invariant)
-
-pub loop-i-smaller : goal.loop-i-smaller
-loop-i-smaller c = omega (arith, c.requires)
+returns c = c.ne.ensures ∙ decided c.args.s.now c.args.d.now (omega (arith, c.requires)) (omega (arith, c.requires)) _ (bytes_eq-Decides _ _)

@@ -5,7 +5,6 @@ use mathlib.Core.Path.{◌≡◌, sym, ◌∙◌}
 use Prim.Native.Nat.{ℕ}
 use lib.Dec.{eqb}
 use lib.ListN.{get_or}
-use native.Mathlib.Omega.{arith}
 use Rattle.saved_state.specs.Checkpoints.{any_below, other_checkpoint}
 use Rattle.saved_state.proofs.load.is_other.Goals as goal
 
@@ -22,10 +21,4 @@ pub returns-then-has_other_header : goal.returns-then-has_other_header
 returns-then-has_other_header c = other-header _ _ _ (sym c.has_other_header.ensures ∙ c.if-has_other_header.true)
 
 pub returns : goal.returns
-returns c = by-block _ _ _ _ (sym c.has_other_header.ensures ∙ c.if-has_other_header.false) c.u8_to_u64.ensures.0
-
-pub has_other_header-requires : goal.has_other_header-requires
-has_other_header-requires c = omega (arith, c.requires)
-
-pub bounds-s-16 : goal.bounds-s-16
-bounds-s-16 c = omega (arith, c.requires)
+returns c = by-block _ _ _ _ (sym c.has_other_header.ensures ∙ c.if-has_other_header.false) c.from.ensures

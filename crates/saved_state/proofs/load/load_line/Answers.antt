@@ -27,7 +27,6 @@ overflow_mul-first c = omega (arith, sixth c.args.m c.args.w c.requires.1.0)
 pub loop-p-init : goal.loop-p-init
 unfolding put_each
 loop-p-init c = (
-  omega arith,
   refl,
   refl,
   sixth c.args.m c.args.w c.requires.1.0,
@@ -38,17 +37,16 @@ loop-p-init c = (
 
 pub loop-p-preserved : goal.loop-p-preserved
 loop-p-preserved c = (
-  omega arith,
-  simp length-set c.loop-p.invariant.1,
+  simp length-set c.loop-p.invariant.0,
+  c.loop-p.invariant.1,
   c.loop-p.invariant.2,
   c.loop-p.invariant.3,
   c.loop-p.invariant.4,
-  c.loop-p.invariant.5,
-  put_more _ _ _ c.loop-p.p _ _ c.loop-p.invariant.6 c.be_at.ensures.0,
+  put_more _ _ _ c.loop-p.p _ _ c.loop-p.invariant.5 c.be_at.ensures.0,
 )
 
 pub returns : goal.returns
-returns c = done _ _ _ _ _ _ _ c.loop-p.p c.loop-p.invariant.2 c.loop-p.invariant.4 (omega arith) c.loop-p.invariant.6
+returns c = done _ _ _ _ _ _ _ c.loop-p.p c.loop-p.invariant.1 c.loop-p.invariant.3 (omega arith) c.loop-p.invariant.5
 
 pub start_of-from-requires : goal.start_of-from-requires
 start_of-from-requires c = omega (arith, c.requires)
@@ -79,12 +77,6 @@ offset_bounds-lines-from c = omega (arith, c.start_of-from.ensures)
 
 pub bounds-lines-from : goal.bounds-lines-from
 bounds-lines-from c = omega (arith, c.start_of-from.ensures)
-
-pub overflow_add-p : goal.overflow_add-p
-overflow_add-p c = omega (arith, c.loop-p.invariant)
-
-pub loop-p-smaller : goal.loop-p-smaller
-loop-p-smaller c = omega (arith, c.requires)
 
 pub shape_of-lines : goal.shape_of-lines
 shape_of-lines c = omega (arith, c.requires)

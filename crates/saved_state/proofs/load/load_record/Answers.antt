@@ -25,7 +25,7 @@ returns-then-lossless-is_flat c = unused _ _ _ _ _ c.is_flat.ensures c.if-lossle
 
 pub returns : goal.returns
 returns c =
-    used _ _ _ _ _ _ _ _ c.is_flat.ensures c.if-lossless-is_flat.false c.be_at-sum.ensures.0 c.be_at-n.ensures.0 c.smaller.ensures.0
+    used _ _ _ _ _ _ _ _ c.is_flat.ensures c.if-lossless-is_flat.false c.be_at-sum.ensures.0 c.be_at-n.ensures.0 c.min.ensures
 
 pub overflow_mul-j : goal.overflow_mul-j
 overflow_mul-j c = omega (arith, c.requires)

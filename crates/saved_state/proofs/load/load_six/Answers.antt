@@ -1,47 +1,28 @@
--- `saved_state::load::load_six` meets its contract, one line after the other. Assumes nothing.
+-- `saved_state::load::load_six` meets its contract: the lines before m are loaded. Assumes nothing.
+use borrow.Author.Rules.{rules}
 use mathlib.Core.List.{List}
-use mathlib.Core.Path.{◌≡◌}
-use Prim.Native.Nat.{ℕ}
+use mathlib.Core.Path.{◌≡◌, refl}
+use Prim.Native.Nat.{ℕ, ◌+◌}
+use native.Mathlib.Numerals.{add-one}
 use native.Mathlib.Omega.{arith}
 use Rattle.saved_state.specs.Checkpoints.{with_kept, with_six}
+use Rattle.saved_state.proofs.load.load_six.Invariants.{with_lines}
 use Rattle.saved_state.proofs.load.load_six.Goals as goal
 
-all_six : (W : ℕ) (s l₀ l₁ l₂ l₃ l₄ l₅ l₆ : List ℕ) → l₁ ≡ with_kept W s 0 l₀ → l₂ ≡ with_kept W s 1 l₁ → l₃ ≡ with_kept W s 2 l₂ → l₄ ≡ with_kept W s 3 l₃
-    → l₅ ≡ with_kept W s 4 l₄ → l₆ ≡ with_kept W s 5 l₅ → l₆ ≡ with_six W s l₀
-unfolding with_six
-all_six W s l₀ l₁ l₂ l₃ l₄ l₅ l₆ e₁ e₂ e₃ e₄ e₅ e₆ = rw (e₆, e₅, e₄, e₃, e₂, e₁)
+more : (W m : ℕ) (s l₀ l l' : List ℕ) → l ≡ with_lines W s m l₀ → l' ≡ with_kept W s m l → l' ≡ with_lines W s (m + 1) l₀
+unfolding with_lines
+more W m s l₀ l l' e f = rw (add-one m, f, e)
+
+done : (W m : ℕ) (s l₀ l : List ℕ) → m ≡ 6 → l ≡ with_lines W s m l₀ → l ≡ with_six W s l₀
+unfolding with_lines with_six
+done W m s l₀ l e f = rw e at f
+
+pub loop-m-init : goal.loop-m-init
+unfolding with_lines
+loop-m-init c = (refl, refl)
+
+pub loop-m-preserved : goal.loop-m-preserved
+loop-m-preserved c = (search rules, more _ c.loop-m.m _ _ _ _ c.loop-m.invariant.1 c.load_line.ensures)
 
 pub returns : goal.returns
-returns c =
-    all_six _ _ _ _ _ _ _ _ _ c.load_line.ensures c.load_line-2.ensures c.load_line-3.ensures
-    c.load_line-4.ensures c.load_line-5.ensures c.load_line-6.ensures
-
-pub load_line-requires : goal.load_line-requires
-load_line-requires c = omega (arith, c.requires)
-
-pub load_line-requires-2 : goal.load_line-requires-2
-load_line-requires-2 c = omega (arith, c.requires)
-
-pub load_line-requires-3 : goal.load_line-requires-3
-load_line-requires-3 c = omega (arith, c.requires)
-
-pub load_line-requires-4 : goal.load_line-requires-4
-load_line-requires-4 c = omega (arith, c.requires)
-
-pub load_line-requires-5 : goal.load_line-requires-5
-load_line-requires-5 c = omega (
-  arith,
-  c.requires,
-)
-
-pub load_line-requires-6 : goal.load_line-requires-6
-load_line-requires-6 c = omega (
-  arith,
-  c.requires,
-)
-
-pub shape_of-lines : goal.shape_of-lines
-shape_of-lines c = omega (
-  arith,
-  c.requires,
-)
+returns c = done _ c.loop-m.m _ _ _ (omega arith) c.loop-m.invariant.1

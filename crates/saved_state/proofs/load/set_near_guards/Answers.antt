@@ -2,7 +2,6 @@
 use mathlib.Core.List.{List}
 use mathlib.Core.Path.{◌≡◌}
 use Prim.Native.Nat.{ℕ}
-use native.Mathlib.Omega.{arith}
 use Rattle.colour_lines.specs.ColourLines.{guarded}
 use Rattle.saved_state.specs.Checkpoints.{with_guards}
 use Rattle.saved_state.proofs.load.set_near_guards.Goals as goal
@@ -14,18 +13,3 @@ all_three W l₀ l₁ l₂ l₃ e₁ e₂ e₃ = rw (e₃, e₂, e₁)
 pub returns : goal.returns
 returns c =
     all_three _ _ _ _ _ c.set_guards.ensures c.set_guards-2.ensures c.set_guards-3.ensures
-
-pub set_guards-requires : goal.set_guards-requires
-set_guards-requires c = omega (arith, c.requires)
-
-pub set_guards-requires-2 : goal.set_guards-requires-2
-set_guards-requires-2 c = omega
-    (arith, c.requires)
-
-pub set_guards-requires-3 : goal.set_guards-requires-3
-set_guards-requires-3 c = omega
-    (arith, c.requires)
-
-pub shape_of-lines : goal.shape_of-lines
-shape_of-lines c = omega
-    (arith, c.requires)

@@ -22,15 +22,3 @@ returns-then-k-lt4 c = of-sum _ _ _ (omega arith) c.be_byte.ensures
 
 pub returns : goal.returns
 returns c = of-n _ _ _ (omega arith) c.be_byte-2.ensures
-
-pub overflow_cast-k : goal.overflow_cast-k
-overflow_cast-k c = omega (arith, c.requires)
-
-pub overflow_cast-r : goal.overflow_cast-r
-overflow_cast-r c = omega (arith, c.requires)
-
-pub be_byte-requires : goal.be_byte-requires
-be_byte-requires c = omega (arith, c.requires)
-
-pub overflow_cast-r-2 : goal.overflow_cast-r-2
-overflow_cast-r-2 c = omega (arith, c.requires)

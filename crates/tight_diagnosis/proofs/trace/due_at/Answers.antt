@@ -16,6 +16,3 @@ returns-then-k-eq2 c = c.odd_due.ensures ∙ due_2 _ _ _ c.if-k-eq2.true
 pub returns : goal.returns
 returns c =
     c.odd_due-2.ensures ∙ due_3 _ _ _ (omega (arith, c.if-k-eq2.false, c.if-k-eq1.false, c.if-k-eq0.false))
-
-pub overflow_mul-p : goal.overflow_mul-p
-overflow_mul-p c = omega (arith, c.ranges)

@@ -1,6 +1,5 @@
 -- `tight_diagnosis::trace::start` meets its contract: the records before j have started. Assumes nothing.
 use mathlib.Core.Path.{◌≡◌}
-use Prim.Native.Nat.{◌-◌, ◌≤◌}
 use lib.ListN.{length, take}
 use Rattle.pass_steps.specs.Values.{zip_records}
 use Rattle.read_block.specs.Records.{table, start_record}
@@ -8,7 +7,4 @@ use Rattle.tight_diagnosis.proofs.trace.start.Given as goal
 
 abbrev pub invariant-loop-j : goal.invariant-loop-j
 invariant-loop-j l =
-    (l.j ≤ 336) × ((length l.sums ≡ 336) × (length l.ns ≡ 336)) × (take l.j (zip_records l.sums l.ns) ≡ table (start_record l.bits 0) l.j)
-
-abbrev pub decreases-loop-j : goal.decreases-loop-j
-decreases-loop-j l = 336 - l.j
+    ((length l.sums ≡ 336) × (length l.ns ≡ 336)) × (take l.j (zip_records l.sums l.ns) ≡ table (start_record l.bits 0) l.j)

@@ -24,10 +24,10 @@ abbrev set_of : (c : After-trace_pass-got) → ℕ
 set_of c = c.plan_at-p.result.set
 
 sums_part : (c : After-trace_pass-got) → length (mid_of (112 * (set_of c)) (112 * (set_of c) + 112 - 112 * (set_of c)) c.loop-i.sums) ≡ 112
-sums_part c = mid_len (112 * (set_of c)) (112 * (set_of c) + 112) c.loop-i.sums (omega (arith, one_of_three (goal.at.After-trace_pass-got c).After-struct_known-1, c.loop-i.invariant.2)) ∙ omega arith
+sums_part c = mid_len (112 * (set_of c)) (112 * (set_of c) + 112) c.loop-i.sums (omega (arith, one_of_three (goal.at.After-trace_pass-got c).After-struct_known-1, c.loop-i.invariant.1)) ∙ omega arith
 
 ns_part : (c : After-trace_pass-got) → length (mid_of (112 * (set_of c)) (112 * (set_of c) + 112 - 112 * (set_of c)) c.loop-i.ns) ≡ 112
-ns_part c = mid_len (112 * (set_of c)) (112 * (set_of c) + 112) c.loop-i.ns (omega (arith, one_of_three (goal.at.After-trace_pass-got c).After-struct_known-1, c.loop-i.invariant.2)) ∙ omega arith
+ns_part c = mid_len (112 * (set_of c)) (112 * (set_of c) + 112) c.loop-i.ns (omega (arith, one_of_three (goal.at.After-trace_pass-got c).After-struct_known-1, c.loop-i.invariant.1)) ∙ omega arith
 
 sums_back : (c : After-trace_pass-got) → length c.trace_pass-got.new.sums ≡ 112
 sums_back c = c.trace_pass-got.auto.sums ∙ (sums_part c)
@@ -42,14 +42,14 @@ said : (c : After-trace_pass-got) → let e = 112 * (set_of c) + 112 - 112 * (se
     (pass_way c.args.form c.args.block.now c.args.n c.loop-i.i (clean_state c.loop-i.lines c.loop-i.sums c.loop-i.ns c.loop-i.at)) c.trace_pass-got.result
 said c =
     pass_says c.args.form c.args.block.now c.args.n c.loop-i.i _ c.plan_at-p.result c.args.q c.loop-i.lines _ _ c.loop-i.sums c.loop-i.ns c.loop-i.at (112 * (set_of c)) (112 * (set_of c) + 112)
-    c.loop-i.invariant.1.0 c.plan_at-p.ensures c.set_guards.ensures c.set_guards-in-loop-i.ensures refl refl c.loop-i.invariant.2.1 c.loop-i.invariant.2.2 (one_of_three (goal.at.After-trace_pass-got c).After-struct_known-1)
+    c.loop-i.invariant.0.0 c.plan_at-p.ensures c.set_guards.ensures c.set_guards-in-loop-i.ensures refl refl c.loop-i.invariant.1.1 c.loop-i.invariant.1.2 (one_of_three (goal.at.After-trace_pass-got c).After-struct_known-1)
     _ _ _ (sums_back c) (ns_back c) c.trace_pass-got.ensures.says
 
 back : (c : After-trace_pass-got) → let e = 112 * (set_of c) + 112 - 112 * (set_of c) in
     AllInRange (zip_records (put_mid (112 * (set_of c)) e c.loop-i.sums c.trace_pass-got.new.sums)
     (put_mid (112 * (set_of c)) e c.loop-i.ns c.trace_pass-got.new.ns))
 back c =
-    back_in_range c.loop-i.sums c.loop-i.ns (set_of c) (112 * (set_of c)) (112 * (set_of c) + 112) refl refl c.loop-i.invariant.2.1 c.loop-i.invariant.2.2 (one_of_three (goal.at.After-trace_pass-got c).After-struct_known-1) c.loop-i.invariant.3 _ _ (sums_back c) (ns_back c) c.trace_pass-got.ensures.records
+    back_in_range c.loop-i.sums c.loop-i.ns (set_of c) (112 * (set_of c)) (112 * (set_of c) + 112) refl refl c.loop-i.invariant.1.1 c.loop-i.invariant.1.2 (one_of_three (goal.at.After-trace_pass-got c).After-struct_known-1) c.loop-i.invariant.2 _ _ (sums_back c) (ns_back c) c.trace_pass-got.ensures.records
 
 test : (c : After-trace_pass-got) → c.loop-i.i < 6
 test c = c.loop-i-test.true
@@ -67,18 +67,17 @@ ns_long c = same_len_mid (112 * (set_of c)) (112 * (set_of c) + 112 - 112 * (set
 
 -- the lists have the lengths that they had
 abbrev entry_lines : (c : At-loop-i) → length c.loop-i.lines ≡ length c.args.lines.now
-entry_lines c = omega (arith, c.loop-i.invariant.1.0, c.loop-i.invariant.2, c.requires.room)
+entry_lines c = omega (arith, c.loop-i.invariant.0.0, c.loop-i.invariant.1, c.requires.room)
 
 abbrev entry_sums : (c : At-loop-i) → length c.loop-i.sums ≡ length c.args.sums.now
-entry_sums c = c.loop-i.invariant.2.1 ∙ sym c.requires.for_sums
+entry_sums c = c.loop-i.invariant.1.1 ∙ sym c.requires.for_sums
 
 abbrev entry_ns : (c : At-loop-i) → length c.loop-i.ns ≡ length c.args.ns.now
-entry_ns c = c.loop-i.invariant.2.2 ∙ sym c.requires.for_ns
+entry_ns c = c.loop-i.invariant.1.2 ∙ sym c.requires.for_ns
 
 pub loop-i-init : goal.loop-i-init
 loop-i-init c =
     let w = width_in_range c.args.form.xtrans _ c.width-w.ensures in (
-      omega arith,
       (c.width-w.ensures, w.0, w.1, w.2),
       (rw c.width-w.ensures c.requires.room, c.requires.for_sums, c.requires.for_ns),
       c.requires.records,
@@ -89,13 +88,13 @@ pub set_guards-requires : goal.set_guards-requires
 set_guards-requires c =
     let r = planned _ c.loop-i.i _ c.loop-i-test.true c.plan_at-p.ensures in
     let inside = line_inside c.width-w.result _ r.0.first_high in
-    (c.loop-i.invariant.1.2, (omega (arith, r.0.first_low), (r.0.first_high, omega (arith, inside, c.loop-i.invariant.2))))
+    (c.loop-i.invariant.0.2, (omega (arith, r.0.first_low), (r.0.first_high, omega (arith, inside, c.loop-i.invariant.1))))
 
 pub set_guards-requires-in-loop-i : goal.set_guards-requires-in-loop-i
 set_guards-requires-in-loop-i c =
     let r = planned _ c.loop-i.i _ c.loop-i-test.true c.plan_at-p.ensures in
     let inside = line_inside c.width-w.result _ r.0.second_high in
-    (c.loop-i.invariant.1.2, (omega (arith, r.0.second_low), (r.0.second_high, omega (arith, inside, c.set_guards.auto, c.loop-i.invariant.2))))
+    (c.loop-i.invariant.0.2, (omega (arith, r.0.second_low), (r.0.second_high, omega (arith, inside, c.set_guards.auto, c.loop-i.invariant.1))))
 
 pub trace_pass-got-requires : goal.trace_pass-got-requires
 trace_pass-got-requires c =
@@ -104,15 +103,15 @@ trace_pass-got-requires c =
       stage = record {
         bytes = c.requires.bytes;
         pass = omega (arith, c.loop-i-test.true);
-        width = c.loop-i.invariant.1.2;
-        room = omega (arith, c.set_guards-in-loop-i.auto, c.set_guards.auto, c.loop-i.invariant.2);
+        width = c.loop-i.invariant.0.2;
+        room = omega (arith, c.set_guards-in-loop-i.auto, c.set_guards.auto, c.loop-i.invariant.1);
         depth = c.requires.depth;
         quantiser = c.requires.quantiser;
-        for_sums = mid_len (112 * c.plan_at-p.result.set) (112 * c.plan_at-p.result.set + 112) c.loop-i.sums (omega (arith, r.1, c.loop-i.invariant.2)) ∙ omega arith;
-        for_ns = mid_len (112 * c.plan_at-p.result.set) (112 * c.plan_at-p.result.set + 112) c.loop-i.ns (omega (arith, r.1, c.loop-i.invariant.2)) ∙ omega arith;
-        records = lent_in_range c.loop-i.sums c.loop-i.ns c.plan_at-p.result.set (112 * c.plan_at-p.result.set) (112 * c.plan_at-p.result.set + 112) refl refl c.loop-i.invariant.2.1 c.loop-i.invariant.2.2 r.1 c.loop-i.invariant.3;
+        for_sums = mid_len (112 * c.plan_at-p.result.set) (112 * c.plan_at-p.result.set + 112) c.loop-i.sums (omega (arith, r.1, c.loop-i.invariant.1)) ∙ omega arith;
+        for_ns = mid_len (112 * c.plan_at-p.result.set) (112 * c.plan_at-p.result.set + 112) c.loop-i.ns (omega (arith, r.1, c.loop-i.invariant.1)) ∙ omega arith;
+        records = lent_in_range c.loop-i.sums c.loop-i.ns c.plan_at-p.result.set (112 * c.plan_at-p.result.set) (112 * c.plan_at-p.result.set + 112) refl refl c.loop-i.invariant.1.1 c.loop-i.invariant.1.2 r.1 c.loop-i.invariant.2;
       };
-      even = c.loop-i.invariant.1.3;
+      even = c.loop-i.invariant.0.3;
       plan = r.0;
     }
 
@@ -121,37 +120,36 @@ returns-in_default c =
     let stops = no_place c.trace_pass-got.result c.in_default.not-At in
     record {
       says = then_stops _ (line_end c.args.form c.args.block.now c.args.n _ 6 refl)
-          (turn_stops _ _ (passes_next c.args.form c.args.block.now c.args.n _) (test (goal.at.returns-in_default c).After-trace_pass-got) c.loop-i.invariant.4 (said (goal.at.returns-in_default c).After-trace_pass-got) c.trace_pass-got.result refl stops) c.trace_pass-got.result refl stops;
+          (turn_stops _ _ (passes_next c.args.form c.args.block.now c.args.n _) (test (goal.at.returns-in_default c).After-trace_pass-got) c.loop-i.invariant.3 (said (goal.at.returns-in_default c).After-trace_pass-got) c.trace_pass-got.result refl stops) c.trace_pass-got.result refl stops;
       records = back (goal.at.returns-in_default c).After-trace_pass-got;
     }
 
 pub loop-i-preserved : goal.loop-i-preserved
 loop-i-preserved c = (
-  omega (arith, test (goal.at.loop-i-preserved c).After-trace_pass-got),
-  c.loop-i.invariant.1,
-  (lines_long (goal.at.loop-i-preserved c).After-trace_pass-got ∙ c.loop-i.invariant.2.0, sums_long (goal.at.loop-i-preserved c).After-trace_pass-got ∙ c.loop-i.invariant.2.1, ns_long (goal.at.loop-i-preserved c).After-trace_pass-got ∙ c.loop-i.invariant.2.2),
+  c.loop-i.invariant.0,
+  (lines_long (goal.at.loop-i-preserved c).After-trace_pass-got ∙ c.loop-i.invariant.1.0, sums_long (goal.at.loop-i-preserved c).After-trace_pass-got ∙ c.loop-i.invariant.1.1, ns_long (goal.at.loop-i-preserved c).After-trace_pass-got ∙ c.loop-i.invariant.1.2),
   back (goal.at.loop-i-preserved c).After-trace_pass-got,
-  turn_at _ _ (passes_next c.args.form c.args.block.now c.args.n _) (test (goal.at.loop-i-preserved c).After-trace_pass-got) c.loop-i.invariant.4 (said (goal.at.loop-i-preserved c).After-trace_pass-got) c.in-At.is,
+  turn_at _ _ (passes_next c.args.form c.args.block.now c.args.n _) (test (goal.at.loop-i-preserved c).After-trace_pass-got) c.loop-i.invariant.3 (said (goal.at.loop-i-preserved c).After-trace_pass-got) c.in-At.is,
 )
 
 pub returns-then-is_past : goal.returns-then-is_past
 returns-then-is_past c =
     record {
       says = record {
-        is = line_end c.args.form c.args.block.now c.args.n _ c.loop-i.i (omega (arith, c.loop-i-test.false, c.loop-i.invariant.0))
-            ∙ on_then _ _ _ c.loop-i.invariant.4 ∙ end_past c.args.block.now _ (sym c.is_past.ensures ∙ c.if-is_past.true);
+        is = line_end c.args.form c.args.block.now c.args.n _ c.loop-i.i (omega (arith, c.loop-i-test.false, c.loop-i.auto.i-end))
+            ∙ on_then _ _ _ c.loop-i.invariant.3 ∙ end_past c.args.block.now _ (sym c.is_past.ensures ∙ c.if-is_past.true);
       };
-      records = c.loop-i.invariant.3;
+      records = c.loop-i.invariant.2;
     }
 
 pub returns : goal.returns
 returns c =
     record {
       says = record {
-        is = line_end c.args.form c.args.block.now c.args.n _ c.loop-i.i (omega (arith, c.loop-i-test.false, c.loop-i.invariant.0))
-            ∙ on_then _ _ _ c.loop-i.invariant.4 ∙ end_here c.args.block.now _ (sym c.is_past.ensures ∙ c.if-is_past.false);
+        is = line_end c.args.form c.args.block.now c.args.n _ c.loop-i.i (omega (arith, c.loop-i-test.false, c.loop-i.auto.i-end))
+            ∙ on_then _ _ _ c.loop-i.invariant.3 ∙ end_here c.args.block.now _ (sym c.is_past.ensures ∙ c.if-is_past.false);
       };
-      records = c.loop-i.invariant.3;
+      records = c.loop-i.invariant.2;
     }
 
 pub plan_at-p-requires : goal.plan_at-p-requires
@@ -166,26 +164,8 @@ overflow_add-end c = omega (arith, one_of_three c)
 pub offset_bounds-sums-start : goal.offset_bounds-sums-start
 offset_bounds-sums-start c = omega (arith, one_of_three (goal.at.offset_bounds-sums-start c).After-struct_known-1)
 
-pub slice_bounds-trace_pass-count : goal.slice_bounds-trace_pass-count
-slice_bounds-trace_pass-count c = omega (arith, one_of_three (goal.at.slice_bounds-trace_pass-count c).After-struct_known-1)
-
-pub slice_bounds-trace_pass-start : goal.slice_bounds-trace_pass-start
-slice_bounds-trace_pass-start c = omega (arith, one_of_three (goal.at.slice_bounds-trace_pass-start c).After-struct_known-1, c.loop-i.invariant.2)
-
 pub slice_bounds-trace_pass-end : goal.slice_bounds-trace_pass-end
-slice_bounds-trace_pass-end c = omega (arith, one_of_three (goal.at.slice_bounds-trace_pass-end c).After-struct_known-1, c.loop-i.invariant.2)
-
-pub offset_bounds-ns-start : goal.offset_bounds-ns-start
-offset_bounds-ns-start c = omega (arith, one_of_three (goal.at.offset_bounds-ns-start c).After-struct_known-1)
-
-pub slice_bounds-trace_pass-count-in-loop-i : goal.slice_bounds-trace_pass-count-in-loop-i
-slice_bounds-trace_pass-count-in-loop-i c = omega (arith, one_of_three (goal.at.slice_bounds-trace_pass-count-in-loop-i c).After-struct_known-1)
-
-pub slice_bounds-trace_pass-start-in-loop-i : goal.slice_bounds-trace_pass-start-in-loop-i
-slice_bounds-trace_pass-start-in-loop-i c = omega (arith, one_of_three (goal.at.slice_bounds-trace_pass-start-in-loop-i c).After-struct_known-1, c.loop-i.invariant.2)
-
-pub slice_bounds-trace_pass-end-in-loop-i : goal.slice_bounds-trace_pass-end-in-loop-i
-slice_bounds-trace_pass-end-in-loop-i c = omega (arith, one_of_three (goal.at.slice_bounds-trace_pass-end-in-loop-i c).After-struct_known-1, c.loop-i.invariant.2)
+slice_bounds-trace_pass-end c = omega (arith, one_of_three (goal.at.slice_bounds-trace_pass-end c).After-struct_known-1, c.loop-i.invariant.1)
 
 pub enum_known-got : goal.enum_known-got
 enum_known-got c = c.in-At.in-At-own.keys1
@@ -198,12 +178,6 @@ shape_of-sums-in_default c = sums_long (goal.at.shape_of-sums-in_default c).Afte
 
 pub shape_of-ns-in_default : goal.shape_of-ns-in_default
 shape_of-ns-in_default c = ns_long (goal.at.shape_of-ns-in_default c).After-trace_pass-got ∙ entry_ns (goal.at.shape_of-ns-in_default c).At-loop-i
-
-pub overflow_add-i : goal.overflow_add-i
-overflow_add-i c = omega (arith, test (goal.at.overflow_add-i c).After-trace_pass-got)
-
-pub loop-i-smaller : goal.loop-i-smaller
-loop-i-smaller c = omega (arith, test (goal.at.loop-i-smaller c).After-trace_pass-got)
 
 pub is_past-requires : goal.is_past-requires
 is_past-requires c = c.requires.bytes

@@ -1,6 +1,6 @@
 -- `tight_diagnosis::trace::trace_line` meets its contract: i passes have been walked, with tight codes alone. Assumes nothing.
 use mathlib.Core.Path.{◌≡◌}
-use Prim.Native.Nat.{◌+◌, ◌-◌, ◌*◌, ◌%◌, ◌≤◌}
+use Prim.Native.Nat.{◌+◌, ◌*◌, ◌%◌, ◌≤◌}
 use lib.ListN.{length}
 use Rattle.image_map.specs.Places.{width_of}
 use Rattle.pass_steps.specs.Values.{zip_records}
@@ -11,9 +11,6 @@ use Rattle.tight_diagnosis.proofs.trace.trace_line.Given as goal
 
 abbrev pub invariant-loop-i : goal.invariant-loop-i
 invariant-loop-i l =
-    (l.i ≤ 6) × ((l.w ≡ width_of l.xtrans) × (8 ≤ l.w) × (l.w ≤ 512) × (l.w % 2 ≡ 0)) × ((length l.lines ≡ 18 * (l.w + 2)) × (length l.sums ≡ 336) × (length l.ns ≡ 336))
+    ((l.w ≡ width_of l.xtrans) × (8 ≤ l.w) × (l.w ≤ 512) × (l.w % 2 ≡ 0)) × ((length l.lines ≡ 18 * (l.w + 2)) × (length l.sums ≡ 336) × (length l.ns ≡ 336))
     × AllInRange (zip_records l.sums l.ns)
     × (passes_way (record { bits = l.bits; xtrans = l.xtrans }) l.block l.n l.i (clean_state l.initial.lines l.initial.sums l.initial.ns l.initial.at) ≡ on (clean_state l.lines l.sums l.ns l.at))
-
-abbrev pub decreases-loop-i : goal.decreases-loop-i
-decreases-loop-i l = 6 - l.i

@@ -1,5 +1,4 @@
 -- `tight_diagnosis::trace::trace_lines` meets its contract: n lines have been walked, with tight codes alone. Assumes nothing.
-use borrow.Author.Rules.{rules}
 use mathlib.Core.Path.{◌≡◌, refl, sym, ◌∙◌}
 use Prim.Native.Nat.{◌<◌}
 use native.Mathlib.Omega.{arith}
@@ -17,7 +16,7 @@ said : (c : After-trace_line-got) →
     Says (clean_state c.trace_line-got.new.lines c.trace_line-got.new.sums c.trace_line-got.new.ns)
     (line_at_way c.args.form c.args.block.now c.loop-n.n (clean_state c.loop-n.lines c.loop-n.sums c.loop-n.ns c.loop-n.at)) c.trace_line-got.result
 said c =
-    line_says c.args.form c.args.block.now c.loop-n.n _ c.loop-n.lines _ c.loop-n.sums c.loop-n.ns c.loop-n.at c.loop-n.invariant.1.0 c.turn.ensures c.loop-n.invariant.4 c.trace_line-got.ensures.says
+    line_says c.args.form c.args.block.now c.loop-n.n _ c.loop-n.lines _ c.loop-n.sums c.loop-n.ns c.loop-n.at c.loop-n.invariant.0.0 c.turn.ensures c.loop-n.invariant.3 c.trace_line-got.ensures.says
 
 test : (c : After-trace_line-got) → c.loop-n.n < c.args.count
 test c = c.loop-n-test.true
@@ -25,12 +24,11 @@ test c = c.loop-n-test.true
 -- the lists have the lengths that they had
 entry_lines : (c : At-loop-n) → length c.loop-n.lines ≡ length c.args.lines.now
 entry_lines c =
-    c.loop-n.invariant.2.0 ∙ sym (zero_length c.args.form.xtrans _ c.args.lines.now c.loop-n.invariant.1.0 c.requires.lines_value.0)
+    c.loop-n.invariant.1.0 ∙ sym (zero_length c.args.form.xtrans _ c.args.lines.now c.loop-n.invariant.0.0 c.requires.lines_value.0)
 
 pub loop-n-init : goal.loop-n-init
 loop-n-init c =
     let long = zero_length c.args.form.xtrans c.width-w.result c.args.lines.now c.width-w.ensures c.requires.lines_value.0 in (
-      search rules,
       (c.width-w.ensures, rw c.width-w.ensures (width_le c.args.form.xtrans)),
       (long, omega (arith, c.start.auto, c.requires.lines_value.1), omega (arith, c.start.auto, c.requires.lines_value.1)),
       rw c.start.ensures (all_started _ _ c.requires.block_len_bound.1.0.1),
@@ -39,42 +37,41 @@ loop-n-init c =
     )
 
 pub turn-requires : goal.turn-requires
-turn-requires c = (c.loop-n.invariant.1.1, omega (arith, c.loop-n.invariant.2))
+turn-requires c = (c.loop-n.invariant.0.1, omega (arith, c.loop-n.invariant.1))
 
 pub trace_line-got-requires : goal.trace_line-got-requires
 trace_line-got-requires c =
     record {
       bytes = c.requires.block_len_bound.0;
-      room = omega (arith, c.turn.auto, c.loop-n.invariant.1.0, c.loop-n.invariant.2);
+      room = omega (arith, c.turn.auto, c.loop-n.invariant.0.0, c.loop-n.invariant.1);
       depth = c.requires.block_len_bound.1.0;
       quantiser = c.main-q.ensures.0;
-      for_sums = c.loop-n.invariant.2.1;
-      for_ns = c.loop-n.invariant.2.2;
-      records = c.loop-n.invariant.3;
+      for_sums = c.loop-n.invariant.1.1;
+      for_ns = c.loop-n.invariant.1.2;
+      records = c.loop-n.invariant.2;
     }
 
 pub returns-in_default : goal.returns-in_default
 returns-in_default c =
-    ends_says _ _ _ (turn_stops _ _ (lines_next c.args.form c.args.block.now) (test (goal.at.returns-in_default c).After-trace_line-got) c.loop-n.invariant.5 (said (goal.at.returns-in_default c).After-trace_line-got) c.trace_line-got.result refl (no_place c.trace_line-got.result c.in_default.not-At))
+    ends_says _ _ _ (turn_stops _ _ (lines_next c.args.form c.args.block.now) (test (goal.at.returns-in_default c).After-trace_line-got) c.loop-n.invariant.4 (said (goal.at.returns-in_default c).After-trace_line-got) c.trace_line-got.result refl (no_place c.trace_line-got.result c.in_default.not-At))
 
 pub loop-n-preserved : goal.loop-n-preserved
 loop-n-preserved c = (
-  omega (arith, test (goal.at.loop-n-preserved c).After-trace_line-got),
-  c.loop-n.invariant.1,
+  c.loop-n.invariant.0,
   (
-    omega (arith, c.trace_line-got.auto, c.turn.auto, c.loop-n.invariant.2),
-    omega (arith, c.trace_line-got.auto, c.loop-n.invariant.2),
-    omega (arith, c.trace_line-got.auto, c.loop-n.invariant.2),
+    omega (arith, c.trace_line-got.auto, c.turn.auto, c.loop-n.invariant.1),
+    omega (arith, c.trace_line-got.auto, c.loop-n.invariant.1),
+    omega (arith, c.trace_line-got.auto, c.loop-n.invariant.1),
   ),
   c.trace_line-got.ensures.records,
   (λ e. absurd (omega (arith, e))),
-  turn_at _ _ (lines_next c.args.form c.args.block.now) (test (goal.at.loop-n-preserved c).After-trace_line-got) c.loop-n.invariant.5 (said (goal.at.loop-n-preserved c).After-trace_line-got) c.in-At.is,
+  turn_at _ _ (lines_next c.args.form c.args.block.now) (test (goal.at.loop-n-preserved c).After-trace_line-got) c.loop-n.invariant.4 (said (goal.at.loop-n-preserved c).After-trace_line-got) c.in-At.is,
 )
 
 pub returns : goal.returns
 returns c =
-    let e : c.loop-n.n ≡ c.args.count = omega (arith, c.loop-n-test.false, c.loop-n.invariant.0) in
-    (clean_state c.loop-n.lines c.loop-n.sums c.loop-n.ns c.loop-n.at, rw (← e) c.loop-n.invariant.5, refl)
+    let e : c.loop-n.n ≡ c.args.count = omega (arith, c.loop-n-test.false, c.loop-n.auto.n-end) in
+    (clean_state c.loop-n.lines c.loop-n.sums c.loop-n.ns c.loop-n.at, rw (← e) c.loop-n.invariant.4, refl)
 
 pub enum_known-got : goal.enum_known-got
 enum_known-got c = c.in-At.in-At-own.keys1
@@ -83,22 +80,16 @@ pub shape_of-lines-in_default : goal.shape_of-lines-in_default
 shape_of-lines-in_default c = omega (arith, c.trace_line-got.auto, c.turn.auto, entry_lines (goal.at.shape_of-lines-in_default c).At-loop-n)
 
 pub shape_of-sums-in_default : goal.shape_of-sums-in_default
-shape_of-sums-in_default c = omega (arith, c.trace_line-got.auto, c.loop-n.invariant.2, c.requires.lines_value.1)
+shape_of-sums-in_default c = omega (arith, c.trace_line-got.auto, c.loop-n.invariant.1, c.requires.lines_value.1)
 
 pub shape_of-ns-in_default : goal.shape_of-ns-in_default
-shape_of-ns-in_default c = omega (arith, c.trace_line-got.auto, c.loop-n.invariant.2, c.requires.lines_value.1)
-
-pub overflow_add-n : goal.overflow_add-n
-overflow_add-n c = omega (arith, test (goal.at.overflow_add-n c).After-trace_line-got, c.requires.block_len_bound.1.1)
-
-pub loop-n-smaller : goal.loop-n-smaller
-loop-n-smaller c = omega (arith, test (goal.at.loop-n-smaller c).After-trace_line-got)
+shape_of-ns-in_default c = omega (arith, c.trace_line-got.auto, c.loop-n.invariant.1, c.requires.lines_value.1)
 
 pub shape_of-lines : goal.shape_of-lines
 shape_of-lines c = entry_lines (goal.at.shape_of-lines c).At-loop-n
 
 pub shape_of-sums : goal.shape_of-sums
-shape_of-sums c = omega (arith, c.loop-n.invariant.2, c.requires.lines_value.1)
+shape_of-sums c = omega (arith, c.loop-n.invariant.1, c.requires.lines_value.1)
 
 pub shape_of-ns : goal.shape_of-ns
-shape_of-ns c = omega (arith, c.loop-n.invariant.2, c.requires.lines_value.1)
+shape_of-ns c = omega (arith, c.loop-n.invariant.1, c.requires.lines_value.1)

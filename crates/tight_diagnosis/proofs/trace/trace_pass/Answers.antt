@@ -6,7 +6,7 @@ use lib.ListN.{length}
 use Rattle.pass_schedule.specs.Steps.{upto}
 use Rattle.tight_diagnosis.specs.Ways.{steps_way}
 use Rattle.tight_diagnosis.specs.Traces.{clean, Says}
-use Rattle.tight_diagnosis.proofs.DueLaws.{quarter, pass_is, due_steps, due_inside}
+use Rattle.tight_diagnosis.proofs.DueLaws.{quarter, pass_is, due_steps, skipped, due_inside}
 use Rattle.tight_diagnosis.proofs.WayLaws.{turn_at, turn_stops, no_place, steps_none, steps_next, says_is}
 use Rattle.tight_diagnosis.proofs.trace.trace_pass.Goals as goal
 use Rattle.tight_diagnosis.proofs.trace.trace_pass.Goals.{After-trace_step-got}
@@ -16,25 +16,25 @@ said : (c : After-trace_step-got) →
     Says (clean c.trace_step-got.new.lines c.trace_step-got.new.sums c.trace_step-got.new.ns)
     (steps_way c.args.stage c.args.block.now (quarter c.args.stage.w c.args.plan c.loop-u.u) (clean c.loop-u.lines c.loop-u.sums c.loop-u.ns c.loop-u.at)) c.trace_step-got.result
 said c =
-    says_is (due_steps c.args.stage c.args.block.now c.args.plan c.loop-u.u c.due_at-d.result c.due_at-d.ensures (clean c.loop-u.lines c.loop-u.sums
+    says_is (due_steps c.args.stage c.args.block.now c.args.plan c.loop-u.u c.in-Some.x (sym c.due_at.ensures ∙ c.in-Some.is) (clean c.loop-u.lines c.loop-u.sums
     c.loop-u.ns c.loop-u.at)) c.trace_step-got.ensures.says
 
 test : (c : After-trace_step-got) → c.loop-u.u < 4 * (c.args.stage.w / 2 + 4)
 test c = c.loop-u-test.true
 
 lines_long : (c : After-trace_step-got) → length c.trace_step-got.new.lines ≡ length c.args.lines.now
-lines_long c = c.trace_step-got.auto.lines ∙ c.loop-u.invariant.2.0
+lines_long c = c.trace_step-got.auto.lines ∙ c.loop-u.invariant.1.0
 
 sums_long : (c : After-trace_step-got) → length c.trace_step-got.new.sums ≡ 112
-sums_long c = c.trace_step-got.auto.sums ∙ c.loop-u.invariant.2.1
+sums_long c = c.trace_step-got.auto.sums ∙ c.loop-u.invariant.1.1
 
 ns_long : (c : After-trace_step-got) → length c.trace_step-got.new.ns ≡ 112
-ns_long c = c.trace_step-got.auto.ns ∙ c.loop-u.invariant.2.2
+ns_long c = c.trace_step-got.auto.ns ∙ c.loop-u.invariant.1.2
 
 pub loop-u-init : goal.loop-u-init
 unfolding upto
 loop-u-init c =
-    (omega arith, (refl, refl), (refl, c.requires.stage.for_sums, c.requires.stage.for_ns), c.requires.stage.records, steps_none _ _ _)
+    ((refl, refl), (refl, c.requires.stage.for_sums, c.requires.stage.for_ns), c.requires.stage.records, steps_none _ _ _)
 
 pub trace_step-got-requires : goal.trace_step-got-requires
 trace_step-got-requires c = (
@@ -42,70 +42,65 @@ trace_step-got-requires c = (
     bytes = c.requires.stage.bytes;
     pass = c.requires.stage.pass;
     width = c.requires.stage.width;
-    room = omega (arith, c.requires.stage.room, c.loop-u.invariant.2.0);
+    room = omega (arith, c.requires.stage.room, c.loop-u.invariant.1.0);
     depth = c.requires.stage.depth;
     quantiser = c.requires.stage.quantiser;
-    for_sums = c.loop-u.invariant.2.1;
-    for_ns = c.loop-u.invariant.2.2;
-    records = c.loop-u.invariant.3;
+    for_sums = c.loop-u.invariant.1.1;
+    for_ns = c.loop-u.invariant.1.2;
+    records = c.loop-u.invariant.2;
   },
-  (λ e. due_inside c.args.stage c.args.plan c.requires.plan c.loop-u.u c.due_at-d.result c.due_at-d.ensures c.requires.even c.loop-u-test.true e),
+  due_inside c.args.stage c.args.plan c.requires.plan c.loop-u.u c.in-Some.x (sym c.due_at.ensures ∙ c.in-Some.is) c.requires.even c.loop-u-test.true,
 )
 
-pub returns-in_default : goal.returns-in_default
-returns-in_default c =
+pub returns-in_default-got : goal.returns-in_default-got
+returns-in_default-got c =
     record {
       says = says_is (pass_is c.args.stage c.args.block.now c.args.plan _ refl _)
-          (turn_stops _ _ (steps_next c.args.stage c.args.block.now (quarter c.args.stage.w c.args.plan) _) (test (goal.at.returns-in_default c).After-trace_step-got) c.loop-u.invariant.4 (said (goal.at.returns-in_default c).After-trace_step-got) c.trace_step-got.result refl (no_place c.trace_step-got.result
-          c.in_default.not-At));
+          (turn_stops _ _ (steps_next c.args.stage c.args.block.now (quarter c.args.stage.w c.args.plan) _) (test (goal.at.returns-in_default-got c).After-trace_step-got) c.loop-u.invariant.3 (said (goal.at.returns-in_default-got c).After-trace_step-got) c.trace_step-got.result refl (no_place c.trace_step-got.result
+          c.in_default-got.not-At));
       records = c.trace_step-got.ensures.records;
     }
 
+pub loop-u-preserved-in_default : goal.loop-u-preserved-in_default
+loop-u-preserved-in_default c = (
+  c.loop-u.invariant.0,
+  c.loop-u.invariant.1,
+  c.loop-u.invariant.2,
+  skipped c.args.stage c.args.block.now c.args.plan c.loop-u.u (sym c.due_at.ensures ∙ c.in_default.is) _ _ c.loop-u.invariant.3,
+)
+
 pub loop-u-preserved : goal.loop-u-preserved
 loop-u-preserved c = (
-  omega (arith, test (goal.at.loop-u-preserved c).After-trace_step-got),
   (refl, refl),
   (lines_long (goal.at.loop-u-preserved c).After-trace_step-got, sums_long (goal.at.loop-u-preserved c).After-trace_step-got, ns_long (goal.at.loop-u-preserved c).After-trace_step-got),
   c.trace_step-got.ensures.records,
-  turn_at _ _ (steps_next c.args.stage c.args.block.now (quarter c.args.stage.w c.args.plan) _) (test (goal.at.loop-u-preserved c).After-trace_step-got) c.loop-u.invariant.4 (said (goal.at.loop-u-preserved c).After-trace_step-got) c.in-At.is,
+  turn_at _ _ (steps_next c.args.stage c.args.block.now (quarter c.args.stage.w c.args.plan) _) (test (goal.at.loop-u-preserved c).After-trace_step-got) c.loop-u.invariant.3 (said (goal.at.loop-u-preserved c).After-trace_step-got) c.in-At.is,
 )
 
 pub returns : goal.returns
 returns c =
     record {
-      says = says_is (pass_is c.args.stage c.args.block.now c.args.plan c.loop-u.u (omega (arith, c.loop-u-test.false, c.loop-u.invariant.0)) _) (record { is = c.loop-u.invariant.4 });
-      records = c.loop-u.invariant.3;
+      says = says_is (pass_is c.args.stage c.args.block.now c.args.plan c.loop-u.u (omega (arith, c.loop-u-test.false, c.loop-u.auto.u-end)) _) (record { is = c.loop-u.invariant.3 });
+      records = c.loop-u.invariant.2;
     }
-
-pub overflow_add-end : goal.overflow_add-end
-overflow_add-end c = omega (arith, c.requires.stage.width)
-
-pub overflow_mul-end : goal.overflow_mul-end
-overflow_mul-end c = omega (arith, c.requires.stage.width)
 
 pub enum_known-got : goal.enum_known-got
 enum_known-got c = c.in-At.in-At-own.keys1
 
-pub shape_of-lines-in_default : goal.shape_of-lines-in_default
-shape_of-lines-in_default c = lines_long (goal.at.shape_of-lines-in_default c).After-trace_step-got
+pub shape_of-lines-in_default-got : goal.shape_of-lines-in_default-got
+shape_of-lines-in_default-got c = lines_long (goal.at.shape_of-lines-in_default-got c).After-trace_step-got
 
-pub shape_of-sums-in_default : goal.shape_of-sums-in_default
-shape_of-sums-in_default c = sums_long (goal.at.shape_of-sums-in_default c).After-trace_step-got ∙ sym c.requires.stage.for_sums
+pub shape_of-sums-in_default-got : goal.shape_of-sums-in_default-got
+shape_of-sums-in_default-got c = sums_long (goal.at.shape_of-sums-in_default-got c).After-trace_step-got ∙ sym c.requires.stage.for_sums
 
-pub shape_of-ns-in_default : goal.shape_of-ns-in_default
-shape_of-ns-in_default c = ns_long (goal.at.shape_of-ns-in_default c).After-trace_step-got ∙ sym c.requires.stage.for_ns
-
-pub overflow_add-u : goal.overflow_add-u
-overflow_add-u c = omega (arith, test (goal.at.overflow_add-u c).After-trace_step-got, c.requires.stage.width)
-
-pub loop-u-smaller : goal.loop-u-smaller
-loop-u-smaller c = omega (arith, test (goal.at.loop-u-smaller c).After-trace_step-got)
+pub shape_of-ns-in_default-got : goal.shape_of-ns-in_default-got
+shape_of-ns-in_default-got c = ns_long (goal.at.shape_of-ns-in_default-got c).After-trace_step-got ∙ sym c.requires.stage.for_ns
 
 pub shape_of-lines : goal.shape_of-lines
-shape_of-lines c = c.loop-u.invariant.2.0
+shape_of-lines c = c.loop-u.invariant.1.0
 
 pub shape_of-sums : goal.shape_of-sums
-shape_of-sums c = c.loop-u.invariant.2.1 ∙ sym c.requires.stage.for_sums
+shape_of-sums c = c.loop-u.invariant.1.1 ∙ sym c.requires.stage.for_sums
 
 pub shape_of-ns : goal.shape_of-ns
-shape_of-ns c = c.loop-u.invariant.2.2 ∙ sym c.requires.stage.for_ns
+shape_of-ns c = c.loop-u.invariant.1.2 ∙ sym c.requires.stage.for_ns

@@ -1,29 +1,26 @@
 -- `tight_diagnosis::trace::trace_step` meets its contract: a sample that is interpolated, cut off, bad or read, by the answers of the leaves. Assumes nothing.
 use borrow.Author.Tests.{not-true}
 use mathlib.Core.Bool.{true}
-use mathlib.Core.Path.{◌≡◌, refl, sym, ◌∙◌}
+use mathlib.Core.List.{[], ◌∷◌}
+use mathlib.Core.Path.{◌≡◌, sym, ◌∙◌}
 use Prim.Native.Nat.{ℕ, ◌+◌, ◌^◌, ◌≤◌, ◌<◌}
 use native.Mathlib.Omega.{arith}
 use lib.ListN.{length, set, length-set}
 use Rattle.pass_steps.specs.Contexts.{context_in}
 use Rattle.pass_steps.proofs.ContextLaws.{context_is}
 use Rattle.read_block.specs.BadCodes.{bad_at}
-use Rattle.tight_diagnosis.specs.Ways.{step_of, if_due, step_way, steps_way}
-use Rattle.tight_diagnosis.specs.Traces.{clean, Inside}
+use Rattle.tight_diagnosis.specs.Ways.{step_of, step_way, steps_way}
+use Rattle.tight_diagnosis.specs.Traces.{clean}
 use Rattle.tight_diagnosis.proofs.SampleLaws.{was_good, was_loose, read_small, spot_is, Here, interpolated}
 use Rattle.tight_diagnosis.proofs.SampleLaws.{reader_small, total_small, step_cut, step_bad, step_good}
-use Rattle.tight_diagnosis.proofs.WayLaws.{says_is, due_one, due_none}
+use Rattle.tight_diagnosis.proofs.WayLaws.{says_is, steps_one}
 use Rattle.tight_diagnosis.proofs.trace.trace_step.Goals as goal
-use Rattle.tight_diagnosis.proofs.trace.trace_step.Goals.{After-context_at-here, After-record_in-old, Else-not-due}
-
--- it is due
-inside : (c : Else-not-due) → Inside c.args.stage c.args.x
-inside c = c.requires.1 c.if-not-due.false
+use Rattle.tight_diagnosis.proofs.trace.trace_step.Goals.{After-context_at-here, After-record_in-old}
 
 -- what is said of its step is said of it
 as_step : (c : After-context_at-here) → let r = clean c.args.lines.now c.args.sums.now c.args.ns.now c.args.from in
-    steps_way c.args.stage c.args.block.now (if_due c.args.due c.args.x) r ≡ step_way c.args.stage c.args.block.now (step_of c.args.x) r
-as_step c = due_one c.args.stage c.args.block.now c.args.due c.args.x _ c.if-not-due.false
+    steps_way c.args.stage c.args.block.now (step_of c.args.x ∷ []) r ≡ step_way c.args.stage c.args.block.now (step_of c.args.x) r
+as_step c = steps_one c.args.stage c.args.block.now (step_of c.args.x) _
 
 -- it goes inside of the lines
 room : (c : After-context_at-here) → (c.left_of-i.result + 1 < length c.args.lines.now) × (c.left_of-i.result + 1 < 2 ^ 14)
@@ -37,7 +34,7 @@ stored c v = length-set c.args.lines.now (c.left_of-i.result + 1) v
 -- the context is that of its line and position
 found : (c : After-context_at-here) → c.context_at-here.result ≡ context_in c.args.stage.w c.args.lines.now c.args.x.line c.args.x.position
 found c =
-    context_is c.args.stage.w c.args.x.line c.args.x.position c.args.lines.now (inside (goal.at.After-context_at-here c).Else-not-due).low
+    context_is c.args.stage.w c.args.x.line c.args.x.position c.args.lines.now c.requires.1.low
     c.left_of-i.ensures.0 c.context_at-here.ensures.0
 
 here : (c : After-record_in-old) →
@@ -60,19 +57,10 @@ coded c = c.if-not-coded.false
 small : (c : After-record_in-old) → {v : ℕ} → v ≤ c.largest-m.result → v < 2 ^ 16
 small c h = omega (arith, c.largest-m.ensures.1)
 
-pub context_at-here-requires : goal.context_at-here-requires
-context_at-here-requires c =
-    (omega (arith, c.requires.0.width), (c.left_of-i.ensures.1.0, omega (arith, c.left_of-i.ensures.1.1, c.requires.0.room)))
-
 pub left_of-i-requires : goal.left_of-i-requires
 left_of-i-requires c =
-    let i = inside (goal.at.left_of-i-requires c).Else-not-due in
+    let i = c.requires.1 in
     (c.requires.0.width, (i.position, (i.low, i.high)))
-
-pub returns-then-not-due : goal.returns-then-not-due
-returns-then-not-due c =
-    let r = clean c.args.lines.now c.args.sums.now c.args.ns.now c.args.from in
-    record { says = record { is = due_none c.args.stage c.args.block.now c.args.due c.args.x r (not-true _ c.if-not-due.true-raw) }; records = c.requires.0.records }
 
 pub returns-then-not-coded : goal.returns-then-not-coded
 returns-then-not-coded c =
@@ -138,26 +126,11 @@ returns-in-Good c =
 pub largest-m-requires : goal.largest-m-requires
 largest-m-requires c = c.requires.0.depth.1
 
-pub overflow_add-w : goal.overflow_add-w
-overflow_add-w c = omega (arith, c.requires.0.width)
-
-pub overflow_cast-lines : goal.overflow_cast-lines
-overflow_cast-lines c = omega (arith, c.context_at-here.ensures.1.prediction)
-
-pub overflow_add-lines : goal.overflow_add-lines
-overflow_add-lines c = omega (arith, (room (goal.at.overflow_add-lines c).After-context_at-here).1)
-
-pub offset_bounds-lines-i : goal.offset_bounds-lines-i
-offset_bounds-lines-i c = omega (arith, (room (goal.at.offset_bounds-lines-i c).After-context_at-here).1)
-
 pub bounds-lines-i : goal.bounds-lines-i
 bounds-lines-i c = (room (goal.at.bounds-lines-i c).After-context_at-here).0
 
 pub shape_of-lines-then-not-coded : goal.shape_of-lines-then-not-coded
 shape_of-lines-then-not-coded c = stored (goal.at.shape_of-lines-then-not-coded c).After-context_at-here _
-
-pub look_of-h-requires : goal.look_of-h-requires
-look_of-h-requires c = (omega arith, c.context_at-here.ensures.1)
 
 pub slot_of-j-requires : goal.slot_of-j-requires
 slot_of-j-requires c = c.look_of-h.ensures.1.1.1
@@ -177,15 +150,6 @@ enum_known-got c = c.in-Read.in-Read-own.keys1
 pub enum_told-1 : goal.enum_told-1
 enum_told-1 c = c.in_default.in_default-own.keys2
 
-pub shape_of-lines-in_default : goal.shape_of-lines-in_default
-shape_of-lines-in_default c = refl
-
-pub shape_of-sums-in_default : goal.shape_of-sums-in_default
-shape_of-sums-in_default c = refl
-
-pub shape_of-ns-in_default : goal.shape_of-ns-in_default
-shape_of-ns-in_default c = refl
-
 pub verdict_of-verdict-requires : goal.verdict_of-verdict-requires
 verdict_of-verdict-requires c = c.k-k.ensures.1
 
@@ -195,26 +159,8 @@ enum_known-verdict c = c.in-Bad.in-Bad-own.keys1
 pub enum_told-in-Good : goal.enum_told-in-Good
 enum_told-in-Good c = c.in-Good.in-Good-own.keys2
 
-pub overflow_cast-lines-in-Good : goal.overflow_cast-lines-in-Good
-overflow_cast-lines-in-Good c = omega (arith, small (goal.at.overflow_cast-lines-in-Good c).After-record_in-old c.sample.ensures.1)
-
-pub overflow_add-lines-in-Good : goal.overflow_add-lines-in-Good
-overflow_add-lines-in-Good c = omega (arith, (room (goal.at.overflow_add-lines-in-Good c).After-context_at-here).1)
-
-pub offset_bounds-lines-i-in-Good : goal.offset_bounds-lines-i-in-Good
-offset_bounds-lines-i-in-Good c = omega (arith, (room (goal.at.offset_bounds-lines-i-in-Good c).After-context_at-here).1)
-
 pub bounds-lines-i-in-Good : goal.bounds-lines-i-in-Good
 bounds-lines-i-in-Good c = (room (goal.at.bounds-lines-i-in-Good c).After-context_at-here).0
-
-pub shape_of-lines-in-Bad : goal.shape_of-lines-in-Bad
-shape_of-lines-in-Bad c = refl
-
-pub shape_of-sums-in-Bad : goal.shape_of-sums-in-Bad
-shape_of-sums-in-Bad c = refl
-
-pub shape_of-ns-in-Bad : goal.shape_of-ns-in-Bad
-shape_of-ns-in-Bad c = refl
 
 pub shape_of-lines-in-Good : goal.shape_of-lines-in-Good
 shape_of-lines-in-Good c = stored (goal.at.shape_of-lines-in-Good c).After-context_at-here _

@@ -9,9 +9,6 @@ use Rattle.tight_findings.proofs.text.put_number.Goals.{After-decimal-k}
 few : (c : After-decimal-k) → c.decimal-k.result ≤ 20
 few c = few_digits 20 c.args.n c.decimal-k.result (omega arith) c.decimal-k.ensures.len (omega arith)
 
-pub put-requires : goal.put-requires
-put-requires c = omega (arith, few (goal.at.put-requires c).After-decimal-k, c.decimal-k.ensures.in_bounds)
-
 pub returns : goal.returns
 returns c =
     (put_same (number_is _ c.decimal-k.result _ (few (goal.at.returns c).After-decimal-k) c.decimal-k.ensures.len c.decimal-k.ensures.digits) c.put.ensures, omega (arith, few (goal.at.returns c).After-decimal-k, c.decimal-k.ensures.in_bounds, c.put.ensures.ends))

@@ -74,21 +74,12 @@ pub returns : goal.returns
 returns c e =
     right_other _ _ _ _ _ _ (all_turns c.args.w c.args.plan c.loop-p.p c.requires.even (omega (arith, c.loop-p.invariant.even, c.loop-p.invariant.last, c.loop-p-test.false, c.requires.even))) c.loop-p.invariant.looked
 
-pub overflow_add-w : goal.overflow_add-w
-overflow_add-w c = omega (arith, c.requires.high)
-
 pub shape_of-lines-then-not-look_even : goal.shape_of-lines-then-not-look_even
 shape_of-lines-then-not-look_even c = c.look_even.auto.lines ∙ c.loop-p.invariant.same
 
 pub shape_of-lines-then-not-look_odd : goal.shape_of-lines-then-not-look_odd
 shape_of-lines-then-not-look_odd c =
     c.look_odd.auto.lines ∙ (c.look_even.auto.lines ∙ c.loop-p.invariant.same)
-
-pub overflow_add-p : goal.overflow_add-p
-overflow_add-p c = omega (arith, c.loop-p-test.true, c.requires.high)
-
-pub loop-p-smaller : goal.loop-p-smaller
-loop-p-smaller c = omega (arith, c.loop-p-test.true)
 
 pub shape_of-lines : goal.shape_of-lines
 shape_of-lines c = c.loop-p.invariant.same
