@@ -1,12 +1,11 @@
 -- Inside. What only our own functions say.
-use Rattle.std.specs.Prelude.{ℕ, ◌≡◌}
+use Rattle.std.specs.Prelude.{ℕ, ◌≡◌, Ok, Result}
 use Rattle.image_map.specs.Places.{width_of}
 use Rattle.stream.specs.declared.header.FujiHeader.{FujiHeader}
-use Rattle.stream.specs.declared.header.Parsed.{Parsed}
-use Rattle.stream.specs.declared.header.Parsed.TheVariants as Parsing
 use Rattle.colour_lines.specs.Sets.{set_size}
 use Rattle.stream.specs.Inside.{Ruled}
 use Rattle.admission.specs.Beginnings.{ScratchFits}
+use Rattle.stream.specs.declared.header.Refusal.{Refusal}
 
 pub record SetFits (h : FujiHeader) (count samples records : ℕ) : Type 0 where
   pub is_ruled : Ruled h
@@ -14,5 +13,5 @@ pub record SetFits (h : FujiHeader) (count samples records : ℕ) : Type 0 where
   pub fits : ScratchFits h samples records
 
 -- of a beginning, with the writer or the lossy writer
-abbrev pub FitsOn : Parsed → ℕ → ℕ → ℕ → Type 0
-FitsOn begins count samples records = (h : FujiHeader) → begins ≡ Parsing.Header h → SetFits h count samples records
+abbrev pub FitsOn : Result FujiHeader Refusal → ℕ → ℕ → ℕ → Type 0
+FitsOn begins count samples records = (h : FujiHeader) → begins ≡ Ok h → SetFits h count samples records

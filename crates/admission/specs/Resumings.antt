@@ -1,20 +1,18 @@
 -- Promises. How going on in block b begins, to fill a region.
-use Rattle.std.specs.Prelude.{cond, List, ℕ, ltb}
-use Rattle.stream.specs.declared.header.Parsed.{Parsed}
-use Rattle.stream.specs.declared.header.Parsed.TheVariants as Parsing
+use Rattle.std.specs.Prelude.{cond, List, ℕ, ltb, Err, Ok, Option, Result}
 use Rattle.stream.specs.declared.header.Refusal.TheVariants.{NoBlock}
 use Rattle.stream.specs.Streams.{open_of}
 use Rattle.image_region.specs.Regions.{checked_of}
 use Rattle.image_region.specs.declared.Rect.{Rect}
 use Rattle.admission.specs.Beginnings.{with_region}
-use Rattle.admission.specs.declared.Beginning.{Beginning}
-use Rattle.admission.specs.declared.Beginning.TheVariants.{Refused}
+use Rattle.stream.specs.declared.header.FujiHeader.{FujiHeader}
+use Rattle.stream.specs.declared.header.Refusal.{Refusal}
 
 -- refusal 5 before those of the region
-abbrev pub with_resumed : Parsed → ℕ → Rect → ℕ → ℕ → ℕ → Beginning
-with_resumed (Parsing.Refused x) b r image samples records = Refused x
-with_resumed (Parsing.Header h) b r image samples records =
-    cond (ltb b h.blocks) (with_region h (checked_of h r image) samples records) (Refused NoBlock)
+abbrev pub with_resumed : Result FujiHeader Refusal → ℕ → Rect → ℕ → ℕ → ℕ → Result (Option FujiHeader) Refusal
+with_resumed (Err x) b r image samples records = Err x
+with_resumed (Ok h) b r image samples records =
+    cond (ltb b h.blocks) (with_region h (checked_of h r image) samples records) (Err NoBlock)
 
-unfoldable pub resume_begins : List ℕ → ℕ → Rect → ℕ → ℕ → ℕ → Beginning
+unfoldable pub resume_begins : List ℕ → ℕ → Rect → ℕ → ℕ → ℕ → Result (Option FujiHeader) Refusal
 resume_begins d b r image samples records = with_resumed (open_of d) b r image samples records

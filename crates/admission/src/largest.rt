@@ -1,6 +1,5 @@
 // Refusal 11: a sample of a set that is above the largest, and is not ignored.
-ghost use Rattle.std.specs.Prelude.{◌≡◌, true, not, ◌||◌, leb, MatchOption};
-ghost use Rattle.std.proofs.Math.Option.{none, some};
+ghost use Rattle.std.specs.Prelude.{◌≡◌, true, not, ◌||◌, leb};
 ghost use Rattle.colour_lines.specs.Sets.{colour_line_at, position_at};
 ghost use Rattle.pass_schedule.specs.Steps.{is_interpolated};
 ghost use Rattle.image_map.specs.Places.{width_of};
@@ -40,8 +39,7 @@ fn is_above(v: u16, m: u32, xtrans: bool, strict: bool, j: usize) -> bool
 
 // The lowest index of a sample above m that is not ignored.
 pub fn first_above(samples: &[u16], m: u32, xtrans: bool, strict: bool) -> Option<usize>
-    ensures { let first = first_above (is_ignored xtrans strict) m 0 samples.now in
-        MatchOption result (first ≡ none) (λ i. first ≡ some i) }
+    ensures { result ≡ first_above (is_ignored xtrans strict) m 0 samples.now }
 {
     for (i, v) in samples.iter().enumerate() {
         if is_above(*v, m, xtrans, strict, i) {

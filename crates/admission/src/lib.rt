@@ -5,11 +5,11 @@
 ghost use Rattle.std.specs.Prelude.{◌≡◌, ◌+◌, ◌*◌, ◌^◌, ◌≤◌, ◌<◌};
 ghost use Rattle.image_region.specs.Regions.{checked_of};
 ghost use Rattle.image_map.specs.Places.{width_of};
-ghost use Rattle.admission.specs.Beginnings.{samples_needed, is_short_scratch, with_scratch, begun, with_region, region_begins};
+ghost use Rattle.admission.specs.Beginnings.{samples_needed, is_short_scratch, with_scratch, with_region, region_begins};
 ghost use Rattle.admission.specs.Beginnings.{whole_of, is_whole, with_size, image_begins, windowed_begins, with_block, block_begins};
 
-use image_region::{Checked, Rect};
-use stream::{FujiHeader, Parsed, Refusal};
+use image_region::Rect;
+use stream::{FujiHeader, Refusal};
 
 mod largest;
 mod resuming;
@@ -18,15 +18,6 @@ mod writing;
 pub use largest::first_above;
 pub use resuming::resume_begins;
 pub use writing::{lossy_begins, set_size, writing_begins};
-
-// How decoding begins: a refusal, nothing to do, or a stream with this header is read. The reading of one block and the writer always have something
-// to do: they begin with a refusal or a header, as `Parsed` has them.
-#[derive(Clone, Copy)]
-pub enum Beginning {
-    Refused(Refusal),
-    Nothing,
-    Reading(FujiHeader),
-}
 
 // The samples of the scratch that a call uses.
 pub fn samples_needed(xtrans: bool) -> usize
@@ -42,51 +33,56 @@ fn is_short_scratch(xtrans: bool, samples: usize, records: usize) -> bool
 }
 
 // Refusal 10, which comes last.
-pub fn with_scratch(h: FujiHeader, samples: usize, records: usize) -> Parsed
+pub fn with_scratch(h: FujiHeader, samples: usize, records: usize) -> Result<FujiHeader, Refusal>
     ensures { result ≡ with_scratch h samples records }
 {
     if is_short_scratch(h.xtrans, samples, records) {
-        return Parsed::Refused(Refusal::ShortScratch);
+        return Err(Refusal::ShortScratch);
     }
-    Parsed::Header(h)
+    Ok(h)
 }
 
 // ---- decoding
 
-fn begun(p: Parsed) -> Beginning
-    ensures { result ≡ begun p }
-{
-    match p {
-        Parsed::Refused(x) => Beginning::Refused(x),
-        Parsed::Header(h) => Beginning::Reading(h),
-    }
-}
-
-// Refusal 7 and the empty region come first.
-pub fn region_in(h: FujiHeader, r: Rect, image: usize, samples: usize, records: usize) -> Beginning
+// How decoding begins: a refusal; None where the region is empty and there is nothing to do; or the header of the stream that is read. Refusal 7
+// and the empty region come first.
+pub fn region_in(
+    h: FujiHeader,
+    r: Rect,
+    image: usize,
+    samples: usize,
+    records: usize,
+) -> Result<Option<FujiHeader>, Refusal>
     ensures { result ≡ with_region h (checked_of h r image) samples records }
 {
-    let checked = image_region::check(h, r, image);
-    match checked {
-        Checked::Refused(x) => Beginning::Refused(x),
-        Checked::Empty => Beginning::Nothing,
-        Checked::Touched(_) => begun(with_scratch(h, samples, records)),
+    match image_region::check(h, r, image)? {
+        None => Ok(None),
+        Some(_) => Ok(Some(with_scratch(h, samples, records)?)),
     }
 }
 
 // A region of the stream d, with an image of so many samples, and scratch of so many samples and records.
-pub fn region_begins(d: &[u8], r: Rect, image: usize, samples: usize, records: usize) -> Beginning
+pub fn region_begins(
+    d: &[u8],
+    r: Rect,
+    image: usize,
+    samples: usize,
+    records: usize,
+) -> Result<Option<FujiHeader>, Refusal>
     ensures { result ≡ region_begins d.now r image samples records }
 {
-    let opened = stream::open(d);
-    match opened {
-        Parsed::Refused(x) => Beginning::Refused(x),
-        Parsed::Header(h) => region_in(h, r, image, samples, records),
-    }
+    let h = stream::open(d)?;
+    region_in(h, r, image, samples, records)
 }
 
 // The same with windows, which take half the samples.
-pub fn windowed_begins(d: &[u8], r: Rect, image: usize, samples: usize, records: usize) -> Beginning
+pub fn windowed_begins(
+    d: &[u8],
+    r: Rect,
+    image: usize,
+    samples: usize,
+    records: usize,
+) -> Result<Option<FujiHeader>, Refusal>
     requires { samples < 2 ^ 62 }
     ensures { result ≡ windowed_begins d.now r image samples records }
 {
@@ -125,13 +121,13 @@ fn image_in(
     image: usize,
     samples: usize,
     records: usize,
-) -> Beginning
+) -> Result<Option<FujiHeader>, Refusal>
     ensures { result ≡ with_size h width height image samples records }
 {
     if is_whole(h, width, height) {
         return region_in(h, whole(width, height), image, samples, records);
     }
-    Beginning::Refused(Refusal::WrongSize)
+    Err(Refusal::WrongSize)
 }
 
 // The whole picture of the stream d, whose size the caller names.
@@ -142,39 +138,45 @@ pub fn image_begins(
     image: usize,
     samples: usize,
     records: usize,
-) -> Beginning
+) -> Result<Option<FujiHeader>, Refusal>
     ensures { result ≡ image_begins d.now width height image samples records }
 {
-    let opened = stream::open(d);
-    match opened {
-        Parsed::Refused(x) => Beginning::Refused(x),
-        Parsed::Header(h) => image_in(h, width, height, image, samples, records),
-    }
+    let h = stream::open(d)?;
+    image_in(h, width, height, image, samples, records)
 }
 
 // ---- the reading of one block
 
-fn block_in(h: FujiHeader, b: usize, tight: bool, samples: usize, records: usize) -> Parsed
+fn block_in(
+    h: FujiHeader,
+    b: usize,
+    tight: bool,
+    samples: usize,
+    records: usize,
+) -> Result<FujiHeader, Refusal>
     ensures { result ≡ with_block tight h b samples records }
 {
     let blocks = h.blocks as usize;
     let lossless = h.lossless;
     if blocks <= b {
-        return Parsed::Refused(Refusal::NoBlock);
+        return Err(Refusal::NoBlock);
     }
     if tight & !lossless {
-        return Parsed::Refused(Refusal::Lossy);
+        return Err(Refusal::Lossy);
     }
     with_scratch(h, samples, records)
 }
 
 // The ordinary reading, or the tight one, of block b of the stream d.
-pub fn block_begins(d: &[u8], b: usize, tight: bool, samples: usize, records: usize) -> Parsed
+pub fn block_begins(
+    d: &[u8],
+    b: usize,
+    tight: bool,
+    samples: usize,
+    records: usize,
+) -> Result<FujiHeader, Refusal>
     ensures { result ≡ block_begins tight d.now b samples records }
 {
-    let opened = stream::open(d);
-    match opened {
-        Parsed::Refused(x) => Parsed::Refused(x),
-        Parsed::Header(h) => block_in(h, b, tight, samples, records),
-    }
+    let h = stream::open(d)?;
+    block_in(h, b, tight, samples, records)
 }

@@ -1,11 +1,9 @@
 // How a call that goes on in a block begins.
-ghost use Rattle.std.specs.Prelude.{◌≡◌};
-ghost use Rattle.stream.specs.declared.header.Parsed.TheVariants.{Header};
+ghost use Rattle.std.specs.Prelude.{◌≡◌, Ok};
 ghost use Rattle.admission.specs.Resumings.{with_resumed, resume_begins};
 
-use crate::Beginning;
 use image_region::Rect;
-use stream::{FujiHeader, Parsed, Refusal};
+use stream::{FujiHeader, Refusal};
 
 // Refusal 5 comes before those of the region.
 fn resume_in(
@@ -15,14 +13,14 @@ fn resume_in(
     image: usize,
     samples: usize,
     records: usize,
-) -> Beginning
-    ensures { result ≡ with_resumed (Header h) b r image samples records }
+) -> Result<Option<FujiHeader>, Refusal>
+    ensures { result ≡ with_resumed (Ok h) b r image samples records }
 {
     let blocks = h.blocks as usize;
     if b < blocks {
         return crate::region_in(h, r, image, samples, records);
     }
-    Beginning::Refused(Refusal::NoBlock)
+    Err(Refusal::NoBlock)
 }
 
 // Going on in block b of the stream d, to fill a region.
@@ -33,12 +31,9 @@ pub fn resume_begins(
     image: usize,
     samples: usize,
     records: usize,
-) -> Beginning
+) -> Result<Option<FujiHeader>, Refusal>
     ensures { result ≡ resume_begins d.now b r image samples records }
 {
-    let opened = stream::open(d);
-    match opened {
-        Parsed::Refused(x) => Beginning::Refused(x),
-        Parsed::Header(h) => resume_in(h, b, r, image, samples, records),
-    }
+    let h = stream::open(d)?;
+    resume_in(h, b, r, image, samples, records)
 }

@@ -4,7 +4,7 @@ ghost use Rattle.colour_lines.specs.Sets.{set_size};
 ghost use Rattle.image_map.specs.Places.{width_of};
 ghost use Rattle.admission.specs.Writings.{with_count, with_set, writing_begins, with_bases, lossy_begins};
 
-use stream::{FujiHeader, Parsed, Refusal};
+use stream::{FujiHeader, Refusal};
 
 // How many samples a set has under this header.
 pub fn set_size(h: FujiHeader) -> usize
@@ -14,46 +14,64 @@ pub fn set_size(h: FujiHeader) -> usize
     lines * (12 * image_map::width(h.xtrans))
 }
 
-fn set_in(h: FujiHeader, count: usize, samples: usize, records: usize) -> Parsed
+fn set_in(
+    h: FujiHeader,
+    count: usize,
+    samples: usize,
+    records: usize,
+) -> Result<FujiHeader, Refusal>
     ensures { result ≡ with_count h count samples records }
 {
     if count != set_size(h) {
-        return Parsed::Refused(Refusal::WrongCount);
+        return Err(Refusal::WrongCount);
     }
     crate::with_scratch(h, samples, records)
 }
 
-fn writing_in(h: FujiHeader, count: usize, samples: usize, records: usize) -> Parsed
+fn writing_in(
+    h: FujiHeader,
+    count: usize,
+    samples: usize,
+    records: usize,
+) -> Result<FujiHeader, Refusal>
     ensures { result ≡ with_set h count samples records }
 {
     let lossless = h.lossless;
     if !lossless {
-        return Parsed::Refused(Refusal::Lossy);
+        return Err(Refusal::Lossy);
     }
     set_in(h, count, samples, records)
 }
 
 // The writer, for a set of so many samples. Of the header the first 16 bytes count.
-pub fn writing_begins(header: &[u8], count: usize, samples: usize, records: usize) -> Parsed
+pub fn writing_begins(
+    header: &[u8],
+    count: usize,
+    samples: usize,
+    records: usize,
+) -> Result<FujiHeader, Refusal>
     ensures { result ≡ writing_begins header.now count samples records }
 {
-    let parsed = FujiHeader::parse(header);
-    match parsed {
-        Parsed::Refused(x) => Parsed::Refused(x),
-        Parsed::Header(h) => writing_in(h, count, samples, records),
-    }
+    let h = FujiHeader::parse(header)?;
+    writing_in(h, count, samples, records)
 }
 
-fn lossy_in(h: FujiHeader, bases: usize, count: usize, samples: usize, records: usize) -> Parsed
+fn lossy_in(
+    h: FujiHeader,
+    bases: usize,
+    count: usize,
+    samples: usize,
+    records: usize,
+) -> Result<FujiHeader, Refusal>
     ensures { result ≡ with_bases h bases count samples records }
 {
     let lossless = h.lossless;
     let lines = h.lines as usize;
     if lossless {
-        return Parsed::Refused(Refusal::Lossless);
+        return Err(Refusal::Lossless);
     }
     if bases != lines {
-        return Parsed::Refused(Refusal::WrongBases);
+        return Err(Refusal::WrongBases);
     }
     set_in(h, count, samples, records)
 }
@@ -65,12 +83,9 @@ pub fn lossy_begins(
     count: usize,
     samples: usize,
     records: usize,
-) -> Parsed
+) -> Result<FujiHeader, Refusal>
     ensures { result ≡ lossy_begins header.now bases count samples records }
 {
-    let parsed = FujiHeader::parse(header);
-    match parsed {
-        Parsed::Refused(x) => Parsed::Refused(x),
-        Parsed::Header(h) => lossy_in(h, bases, count, samples, records),
-    }
+    let h = FujiHeader::parse(header)?;
+    lossy_in(h, bases, count, samples, records)
 }

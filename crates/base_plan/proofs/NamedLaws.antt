@@ -15,9 +15,9 @@ use Rattle.base_plan.specs.Records.{is_good, start_of, holds, good_records, hold
 use Rattle.base_plan.specs.Counts.{is_amiss}
 use Rattle.base_plan.specs.Plans.{first_amiss, first_twice, first_none, plan_answer}
 use Rattle.base_plan.specs.OneRecord.{AllGood, LowestBad, TwoHolders, LowestTwice, LowestNone, Named}
-use Rattle.base_plan.specs.declared.Planned.TheVariants.{Refused}
 use Rattle.base_plan.proofs.RecordLaws.{good_below}
 use Rattle.base_plan.proofs.OneRecordLaws.{decide, starts_inside, none_holds, one_holder, all_well, well_one}
+use Rattle.std.specs.Prelude.{Err}
 
 -- ---- two holders
 
@@ -87,9 +87,9 @@ module _ (d : List ℕ) (lines : ℕ) where
 
   -- which test led to an answer
   record Cases : Type 0 where
-    bad : (r : ℕ) → plan_answer d lines ≡ Refused (BadRecord r) → (r ≡ m + 1) × (start_of d m < length d)
-    twice : (n : ℕ) → plan_answer d lines ≡ Refused (HeldTwice n) → (n ≡ first_twice d lines m) × (length d ≤ start_of d m) × (first_twice d lines m < lines)
-    none : (n : ℕ) → plan_answer d lines ≡ Refused (NotHeld n)
+    bad : (r : ℕ) → plan_answer d lines ≡ Err (BadRecord r) → (r ≡ m + 1) × (start_of d m < length d)
+    twice : (n : ℕ) → plan_answer d lines ≡ Err (HeldTwice n) → (n ≡ first_twice d lines m) × (length d ≤ start_of d m) × (first_twice d lines m < lines)
+    none : (n : ℕ) → plan_answer d lines ≡ Err (NotHeld n)
         → (n ≡ first_none d lines m) × (length d ≤ start_of d m) × (lines ≤ first_twice d lines m) × (first_none d lines m < lines)
 
   cases : Cases
@@ -149,12 +149,12 @@ module _ (d : List ℕ) (lines : ℕ) where
   not_two : (i : ℕ) → is_amiss true (holders d i m) ≡ false → TwoHolders d m i → ⊥
   not_two i e w = omega (arith, leb-false 2 (holders d i m) e, two_count d i m w)
 
-  bad_named : (r : ℕ) → plan_answer d lines ≡ Refused (BadRecord r) → LowestBad d lines r
+  bad_named : (r : ℕ) → plan_answer d lines ≡ Err (BadRecord r) → LowestBad d lines r
   bad_named r e =
       let c = cases.bad r e in
       record { before = m; number = c.0; good = good_below d lines; there = c.1; bad = not_good_lem c.1 }
 
-  twice_named : (n : ℕ) → plan_answer d lines ≡ Refused (HeldTwice n) → LowestTwice d lines n
+  twice_named : (n : ℕ) → plan_answer d lines ≡ Err (HeldTwice n) → LowestTwice d lines n
   twice_named n e =
       let c = cases.twice n e in
       let f : ℕ = first_twice d lines m in
@@ -167,7 +167,7 @@ module _ (d : List ℕ) (lines : ℕ) where
         lower = λ i h. not_two i (amiss_lower true i h);
       })
 
-  none_named : (n : ℕ) → plan_answer d lines ≡ Refused (NotHeld n) → LowestNone d lines n
+  none_named : (n : ℕ) → plan_answer d lines ≡ Err (NotHeld n) → LowestNone d lines n
   none_named n e =
       let c = cases.none n e in
       let f : ℕ = first_none d lines m in

@@ -17,8 +17,9 @@ use Rattle.base_plan.specs.Records.{good_records, holders, base_for}
 use Rattle.base_plan.specs.Counts.{is_amiss}
 use Rattle.base_plan.specs.Plans.{first_amiss, first_twice, first_none, plan_answer}
 use Rattle.base_plan.specs.OneRecord.{OneHolder, InOrder, AcceptedInOrder, OneRecord}
-use Rattle.base_plan.specs.declared.Planned.TheVariants.{Done, Refused}
 use Rattle.base_plan.proofs.RecordLaws.{none_past, good_below}
+use Rattle.std.specs.Prelude.{Err, Ok, Result}
+use Rattle.stream.specs.declared.header.Refusal.{Refusal}
 
 pub clash : (t : Bool) → t ≡ true → t ≡ false → ⊥
 clash t e g = let no : ◌≡◌ {A = ℕ} 0 1 = cc in omega arith
@@ -158,13 +159,13 @@ module _ (d : List ℕ) (lines : ℕ) where
     not_twice : lines ≤ first_twice d lines m
     not_none : lines ≤ first_none d lines m
 
-  done_means : plan_answer d lines ≡ Done → Accepted
+  done_means : plan_answer d lines ≡ (Ok tt) → Accepted
   unfolding plan_answer
   done_means = go (ltb (start_of d m) (length d)) (ltb (first_twice d lines m) lines) (ltb (first_none d lines m) lines) refl refl refl
     where
       go : (a b c : Bool) → ltb (start_of d m) (length d) ≡ a → ltb (first_twice d lines m) lines ≡ b → ltb (first_none d lines m) lines ≡ c
-          → cond a (Refused (BadRecord (m + 1)))
-          (cond b (Refused (HeldTwice (first_twice d lines m))) (cond c (Refused (NotHeld (first_none d lines m))) Done)) ≡ Done → Accepted
+          → cond {A = Result Unit Refusal} a (Err (BadRecord (m + 1)))
+          (cond b (Err (HeldTwice (first_twice d lines m))) (cond c (Err (NotHeld (first_none d lines m))) (Ok tt))) ≡ (Ok tt) → Accepted
       go true b c ea eb ec e = absurd (let no : ◌≡◌ {A = ℕ} 0 1 = cc in omega arith)
       go false true c ea eb ec e = absurd (let no : ◌≡◌ {A = ℕ} 0 1 = cc in omega arith)
       go false false true ea eb ec e = absurd (let no : ◌≡◌ {A = ℕ} 0 1 = cc in omega arith)
@@ -175,12 +176,12 @@ module _ (d : List ℕ) (lines : ℕ) where
             not_none = ltb-false (first_none d lines m) lines ec;
           }
 
-  means_done : Accepted → plan_answer d lines ≡ Done
+  means_done : Accepted → plan_answer d lines ≡ (Ok tt)
   unfolding plan_answer
   means_done a =
       rw (le-ltb (start_of d m) (length d) a.whole, le-ltb (first_twice d lines m) lines a.not_twice, le-ltb (first_none d lines m) lines a.not_none)
 
-  in_order : plan_answer d lines ≡ Done → InOrder d lines
+  in_order : plan_answer d lines ≡ (Ok tt) → InOrder d lines
   in_order e =
       let a = done_means e in
       let s = starts_inside d lines m (good_below d lines) in
@@ -202,7 +203,7 @@ module _ (d : List ℕ) (lines : ℕ) where
       (λ k a h. rw (g.good k h))
       (rw (none_past d lines (start_of d r) (omega (arith, g.whole)))))
 
-  accepted : InOrder d lines → plan_answer d lines ≡ Done
+  accepted : InOrder d lines → plan_answer d lines ≡ (Ok tt)
   accepted o =
       let e = all_records o in
       let one : (n : ℕ) → n < lines → holders d n m ≡ 1 = λ n h. rw (← e) (count_one d n o.records (o.one n h)) in

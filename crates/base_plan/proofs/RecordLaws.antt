@@ -1,7 +1,7 @@
 -- The records of a plan, one after the other: how many good ones there are, and where they end. Assumes nothing.
 use mathlib.Core.Bool.{Bool, true, false, not, ◌&&◌}
 use mathlib.Core.List.{List}
-use mathlib.Core.Path.{◌≡◌, refl, sym, ◌∙◌}
+use mathlib.Core.Path.{◌≡◌, refl, sym, ap, ◌∙◌}
 use Prim.Native.Nat.{ℕ, ◌+◌, ◌-◌, ◌≤◌, ◌<◌}
 use native.Mathlib.Nat.{add-zero}
 use native.Mathlib.Numerals.{add-one}
@@ -15,8 +15,9 @@ use Rattle.numbers.proofs.LeastLaws.{least_here, least_next, least}
 use Rattle.base_plan.specs.Records.{tab, newline, is_digit, end_of, is_field, second_at, third_at, next_at, first_line, last_line, base_at, is_good, start_of, good_records}
 use Rattle.base_plan.specs.Readings.{row_of, RowInside}
 use Rattle.base_plan.specs.declared.records.Row.{Row}
-use Rattle.base_plan.specs.declared.records.Row.TheVariants as Rows
 use Rattle.base_plan.proofs.DigitLaws.{from_start, from_here}
+use Rattle.std.specs.Prelude.{None, Some, Option}
+use Rattle.std.proofs.lemmas.Option.{same_Some}
 
 -- ---- what a record that was read says
 
@@ -32,18 +33,18 @@ pub record IsRow (d : List ℕ) (lines i first last base next : ℕ) : Type 0 wh
   pub further : i < next
   pub inside : next ≤ length d
 
-module _ (d : List ℕ) (lines i : ℕ) (r : Row) (is : r ≡ row_of d lines i) where
-  pub row_bad : r ≡ Rows.Bad → is_good d lines i ≡ false
+module _ (d : List ℕ) (lines i : ℕ) (r : Option Row) (is : r ≡ row_of d lines i) where
+  pub row_bad : r ≡ None → is_good d lines i ≡ false
   unfolding row_of
   row_bad e = go (is_good d lines i) refl
     where
       go : (t : Bool) → is_good d lines i ≡ t → is_good d lines i ≡ false
       go true g =
-          let f : Rows.Good (first_line d i) (last_line d i) (base_at d i) (next_at d i) ≡ Rows.Bad = rw g at (sym is ∙ e) in
+          let f : Some (record { first = (first_line d i); last = (last_line d i); base = (base_at d i); next = (next_at d i) }) ≡ None = rw g at (sym is ∙ e) in
           absurd (let no : ◌≡◌ {A = ℕ} 0 1 = cc in omega arith)
       go false g = g
 
-  pub row_good : (first last base next : ℕ) → r ≡ Rows.Good first last base next → RowInside d lines i r → IsRow d lines i first last base next
+  pub row_good : (first last base next : ℕ) → r ≡ Some (record { first = first; last = last; base = base; next = next }) → RowInside d lines i r → IsRow d lines i first last base next
   unfolding row_of
   row_good first last base next e h = go (is_good d lines i) refl
     where
@@ -52,13 +53,15 @@ module _ (d : List ℕ) (lines i : ℕ) (r : Row) (is : r ≡ row_of d lines i) 
 
       go : (t : Bool) → is_good d lines i ≡ t → IsRow d lines i first last base next
       go true g =
-          let f : Rows.Good (first_line d i) (last_line d i) (base_at d i) (next_at d i) ≡ Rows.Good first last base next = rw g at (sym is ∙ e) in
+          let f : Some (record { first = (first_line d i); last = (last_line d i); base = (base_at d i); next = (next_at d i) }) ≡ Some (record { first = first; last = last; base = base; next = next }) = rw g at (sym is ∙ e) in
+          let same : record { first = first_line d i; last = last_line d i; base = base_at d i; next = next_at d i }
+          ≡ record { first = first; last = last; base = base; next = next } = same_Some _ _ f in
           record {
             good = g;
-            first_is = cc;
-            last_is = cc;
-            base_is = cc;
-            next_is = cc;
+            first_is = sym (ap (λ (x : Row). x.first) same);
+            last_is = sym (ap (λ (x : Row). x.last) same);
+            base_is = sym (ap (λ (x : Row). x.base) same);
+            next_is = sym (ap (λ (x : Row). x.next) same);
             order = in_text.0;
             below = in_text.1;
             small = in_text.2;
@@ -66,7 +69,7 @@ module _ (d : List ℕ) (lines i : ℕ) (r : Row) (is : r ≡ row_of d lines i) 
             inside = in_text.4;
           }
       go false g =
-          let f : Rows.Bad ≡ Rows.Good first last base next = rw g at (sym is ∙ e) in
+          let f : None ≡ Some (record { first = first; last = last; base = base; next = next }) = rw g at (sym is ∙ e) in
           absurd (let no : ◌≡◌ {A = ℕ} 0 1 = cc in omega arith)
 
 -- a good record does not run backwards

@@ -1,9 +1,8 @@
 -- Promises. What a plan means, said of its records alone: the statements that proofs/OneRecordLaws.antt and proofs/NamedLaws.antt prove of every plan.
-use Rattle.std.specs.Prelude.{true, false, List, ◌≡◌, ℕ, ◌+◌, ◌<◌, length, get_or}
+use Rattle.std.specs.Prelude.{true, false, List, ◌≡◌, ℕ, ◌+◌, ◌<◌, length, get_or, Err, Ok}
 use Rattle.stream.specs.declared.header.Refusal.TheVariants.{BadRecord, HeldTwice, NotHeld}
 use Rattle.base_plan.specs.Records.{is_good, start_of, holds, base_at}
 use Rattle.base_plan.specs.Plans.{plan_answer, BasesAfter}
-use Rattle.base_plan.specs.declared.Planned.TheVariants.{Done, Refused}
 
 -- the text is m records, and every one is good
 pub record AllGood (d : List ℕ) (lines m : ℕ) : Type 0 where
@@ -25,13 +24,13 @@ pub record InOrder (d : List ℕ) (lines : ℕ) : Type 0 where
 
 -- a plan is accepted exactly if it is in order
 pub record AcceptedInOrder (d : List ℕ) (lines : ℕ) : Type 0 where
-  pub in_order : plan_answer d lines ≡ Done → InOrder d lines
-  pub accepted : InOrder d lines → plan_answer d lines ≡ Done
+  pub in_order : plan_answer d lines ≡ (Ok tt) → InOrder d lines
+  pub accepted : InOrder d lines → plan_answer d lines ≡ (Ok tt)
 
 -- and then each byte is the base of the one record that holds its line
 abbrev pub OneRecord : Type 0
 OneRecord =
-    (d bases bases' : List ℕ) (order : InOrder d (length bases)) → BasesAfter d bases bases' Done
+    (d bases bases' : List ℕ) (order : InOrder d (length bases)) → BasesAfter d bases bases' (Ok tt)
     → (n : ℕ) (h : n < length bases) → get_or bases' n 0 ≡ base_at d (start_of d (order.one n h).index)
 
 -- ---- what a refusal names
@@ -72,6 +71,6 @@ pub record LowestNone (d : List ℕ) (lines n : ℕ) : Type 0 where
 
 -- each refusal names what it should
 pub record Named (d : List ℕ) (lines : ℕ) : Type 0 where
-  pub bad : (r : ℕ) → plan_answer d lines ≡ Refused (BadRecord r) → LowestBad d lines r
-  pub twice : (n : ℕ) → plan_answer d lines ≡ Refused (HeldTwice n) → LowestTwice d lines n
-  pub none : (n : ℕ) → plan_answer d lines ≡ Refused (NotHeld n) → LowestNone d lines n
+  pub bad : (r : ℕ) → plan_answer d lines ≡ Err (BadRecord r) → LowestBad d lines r
+  pub twice : (n : ℕ) → plan_answer d lines ≡ Err (HeldTwice n) → LowestTwice d lines n
+  pub none : (n : ℕ) → plan_answer d lines ≡ Err (NotHeld n) → LowestNone d lines n

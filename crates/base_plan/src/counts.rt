@@ -3,8 +3,6 @@ ghost use Rattle.std.specs.Prelude.{◌≡◌, ◌+◌, ◌^◌, ◌≤◌, ◌<
 ghost use Rattle.base_plan.specs.Inside.{IsRead, Marked, Balanced, amiss_in};
 ghost use Rattle.base_plan.specs.Counts.{is_amiss};
 
-use crate::records::Row;
-
 // How many good records there are from the start on, and where they end.
 #[derive(Clone, Copy)]
 pub struct Read {
@@ -35,13 +33,12 @@ pub fn read_records(
 
     // No `for`: each record says where the next one starts.
     while at < d.len() {
-        let x = crate::records::read_row(d, at, lines);
-        let Row::Good(first, last, _, next) = x else {
+        let Some(row) = crate::records::read_row(d, at, lines) else {
             return Read { records, end: at };
         };
-        count(begins, first);
-        count(ends, last + 1);
-        at = next;
+        count(begins, row.first);
+        count(ends, row.last + 1);
+        at = row.next;
         records += 1;
     }
     Read { records, end: at }

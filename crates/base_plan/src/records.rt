@@ -12,16 +12,18 @@ struct Digits {
 
 // A field: its number, and where what follows its mark starts.
 #[derive(Clone, Copy)]
-enum Field {
-    Number(u32, usize),
-    Bad,
+struct Field {
+    number: u32,
+    next: usize,
 }
 
 // A good record: first line, last line, base, and where the next record starts.
 #[derive(Clone, Copy)]
-pub enum Row {
-    Good(usize, usize, u32, usize),
-    Bad,
+pub struct Row {
+    pub first: usize,
+    pub last: usize,
+    pub base: u32,
+    pub next: usize,
 }
 
 // The byte at i, 0 past the end.
@@ -56,8 +58,8 @@ fn read_digits(d: &[u8], i: usize) -> Digits
     Digits { number, end: i + 5 }
 }
 
-// The field from i on, which ends with a mark.
-fn read_field(d: &[u8], i: usize, mark: u32) -> Field
+// The field from i on, which ends with a mark; None where there is none.
+fn read_field(d: &[u8], i: usize, mark: u32) -> Option<Field>
     requires { (i ≤ length d.now) × (1 ≤ mark) }
     ensures { (result ≡ field_of d.now i mark) × FieldInside d.now i result }
 {
@@ -65,34 +67,35 @@ fn read_field(d: &[u8], i: usize, mark: u32) -> Field
     let end = x.end;
     if i < end {
         if byte(d, end) == mark {
-            return Field::Number(x.number, end + 1);
+            return Some(Field {
+                number: x.number,
+                next: end + 1,
+            });
         }
-        return Field::Bad;
+        return None;
     }
-    Field::Bad
+    None
 }
 
-// The record that starts at i.
-pub fn read_row(d: &[u8], i: usize, lines: usize) -> Row
+// The record that starts at i, if it keeps the rules.
+pub fn read_row(d: &[u8], i: usize, lines: usize) -> Option<Row>
     requires { i ≤ length d.now }
     ensures { (result ≡ row_of d.now lines i) × RowInside d.now lines i result }
 {
-    let a = read_field(d, i, 9);
-    let Field::Number(first, second) = a else {
-        return Row::Bad;
-    };
-    let b = read_field(d, second, 9);
-    let Field::Number(last, third) = b else {
-        return Row::Bad;
-    };
-    let c = read_field(d, third, 10);
-    let Field::Number(base, next) = c else {
-        return Row::Bad;
-    };
-    if limits::is_allowed(lines, first as usize, last as usize, base) {
-        return Row::Good(first as usize, last as usize, base, next);
+    let a = read_field(d, i, 9)?;
+    let b = read_field(d, a.next, 9)?;
+    let c = read_field(d, b.next, 10)?;
+    let first = a.number as usize;
+    let last = b.number as usize;
+    if limits::is_allowed(lines, first, last, c.number) {
+        return Some(Row {
+            first,
+            last,
+            base: c.number,
+            next: c.next,
+        });
     }
-    Row::Bad
+    None
 }
 
 // The bytes of all records.
@@ -103,11 +106,10 @@ pub fn write_bases(d: &[u8], records: usize, bases: &mut [u8])
     let lines = bases.len();
     let mut at = 0usize;
     for _ in 0..records {
-        let x = read_row(d, at, lines);
-        let Row::Good(first, last, base, next) = x else {
+        let Some(row) = read_row(d, at, lines) else {
             return;
         };
-        bases[first..=last].fill(base as u8);
-        at = next;
+        bases[row.first..=row.last].fill(row.base as u8);
+        at = row.next;
     }
 }

@@ -8,13 +8,6 @@ ghost use Rattle.bit_output.specs.Output.{put_bits};
 
 use bits::BitPosition;
 
-// The position after some samples that are written, or the index in the set of an interpolated one that is not its prediction.
-#[derive(Clone, Copy)]
-pub enum Put {
-    At(BitPosition),
-    Wrong(usize),
-}
-
 // The next t of the last `left` bits of a number.
 fn next_bits(value: u64, left: u32, t: u32) -> u32
     requires { (1 ≤ t) × ((t ≤ 8) × ((t ≤ left) × (left ≤ 64))) }

@@ -8,7 +8,7 @@ ghost use Rattle.bits.specs.Positions.{ahead, aligned};
 ghost use Rattle.bit_pump.specs.Pump.{next_bits, moved_to};
 ghost use Rattle.bit_pump.specs.Inside.{next_word};
 
-use bits::{BitPosition, ByteOffset, ZeroRun};
+use bits::{BitPosition, ByteOffset};
 
 // A reader of a block's bits: its bytes, and the position of the next bit. Its functions are thin: each takes it apart and calls a function
 // on the bytes and the position.
@@ -70,7 +70,7 @@ impl<'a> BitPumpMsb<'a> {
     }
 
     // The zeros up to the next one bit, and moves on past that bit. Where none is left it stays.
-    pub fn zero_run(&mut self) -> ZeroRun
+    pub fn zero_run(&mut self) -> Option<u64>
         requires { length self.old.«data».now < 2 ^ 58 }
         ensures { (result ≡ zero_run self.old.«data».now self.old.at.0)
             × (self.new ≡ moved_to self.old (after_run self.old.at.0 result)) }

@@ -13,9 +13,9 @@ use lib.Pow.{pow_pos, field, mod-mod-pow, split, high, low}
 use lib.Seq.{drop-cons, drop-drop, drop_at, get_or-append-add}
 use Rattle.bits.specs.Bits.{bit_at, bits_at, zero_run}
 use Rattle.bits.specs.BitLists.{binary, bits_of}
-use Rattle.bits.specs.declared.ZeroRun.TheVariants.{One}
 use Rattle.bits.proofs.BitLaws.{bit_at_lt, bits_at_lt, bits_at_none, bits_at_one, bits_at_first}
 use Rattle.bits.proofs.RunLaws.{run_at, run_is, run_inside}
+use Rattle.std.specs.Prelude.{Some}
 
 -- k digits
 pub length_binary : (k n : ℕ) → length (binary k n) ≡ k
@@ -144,7 +144,7 @@ unfolding binary
 run_end s p z r e = bits_after s p z 0 (true ∷ r) (run_zeros s p z r e)
 
 -- where z zeros and a one stand at p, the run there is z
-pub run_there : (s : List ℕ) (p z : ℕ) (r : List Bool) → drop p (bits_of s) ≡ replicate z false ++ true ∷ r → zero_run s p ≡ One z
+pub run_there : (s : List ℕ) (p z : ℕ) (r : List Bool) → drop p (bits_of s) ≡ replicate z false ++ true ∷ r → zero_run s p ≡ Some z
 run_there s p z r e =
     run_at s p z
     (bits_there s p z 0 (true ∷ r) (pow_pos z) (run_zeros s p z r e))
@@ -155,7 +155,7 @@ pub run_after : (s : List ℕ) (p z : ℕ) (r : List Bool) → drop p (bits_of s
 run_after s p z r e = bits_after s (p + z) 1 1 r (run_end s p z r e)
 
 -- a run of z at p: z zeros and a one stand there
-pub run_bits : (s : List ℕ) (p z : ℕ) → zero_run s p ≡ One z → drop p (bits_of s) ≡ replicate z false ++ true ∷ drop (p + z + 1) (bits_of s)
+pub run_bits : (s : List ℕ) (p z : ℕ) → zero_run s p ≡ Some z → drop p (bits_of s) ≡ replicate z false ++ true ∷ drop (p + z + 1) (bits_of s)
 run_bits s p z h =
     let i = run_inside s p z h in
     let b = run_is s p z h in

@@ -15,8 +15,8 @@ use lib.Pow.{pow_pos, pow-add, pow_mono, shl_lt}
 use borrow.Author.Tests.{lt-ltb, le-ltb, ltb-true, ltb-false}
 use Rattle.bits.specs.Bits.{bit_at, bits_at, zeros, zero_run}
 use Rattle.bits.specs.Inside.{top_bits}
-use Rattle.bits.specs.declared.ZeroRun.TheVariants.{One, None}
 use Rattle.bits.proofs.BitLaws.{bit_at_lt, bits_at_lt, bits_at_split, bits_at_none, bits_at_one, bits_at_first, bit_at_past}
+use Rattle.std.specs.Prelude.{None, Some}
 
 no_factor : (x k : ℕ) → 0 < k → x * k ≡ 0 → x ≡ 0
 no_factor x k h e = omega (arith, le-mul_of_pos_right {m = k} x h)
@@ -124,20 +124,20 @@ window_none s q w e z =
     rw n (no_factor (bits_at s q (64 - q % 8)) (2 ^ (q % 8)) (pow_pos (q % 8)) (sym e ∙ z))
 
 -- z zeros and a one are a run of z
-pub run_at : (s : List ℕ) (p z : ℕ) → bits_at s p z ≡ 0 → bit_at s (p + z) ≡ 1 → zero_run s p ≡ One z
+pub run_at : (s : List ℕ) (p z : ℕ) → bits_at s p z ≡ 0 → bit_at s (p + z) ≡ 1 → zero_run s p ≡ Some z
 unfolding zero_run
 run_at s p z h b =
     let inside : z < 8 * length s - p = lt_of_not-le (λ out. let o = bit_at_past s (p + z) (omega arith) in omega arith) in
     rw (zeros_one s p (8 * length s - p) z inside h b, lt-ltb _ _ inside)
 
 -- the leading zeros of the word at p are the run, where it is not 0: after the block's end it has no one bit
-pub window_run : (s : List ℕ) (p w : ℕ) → w ≡ top_bits s p → (w ≡ 0 → ⊥) → zero_run s p ≡ One (count_leading_zeros 64 w)
+pub window_run : (s : List ℕ) (p w : ℕ) → w ≡ top_bits s p → (w ≡ 0 → ⊥) → zero_run s p ≡ Some (count_leading_zeros 64 w)
 window_run s p w e ne =
     let b = window_one s p w e ne in
     run_at s p (count_leading_zeros 64 w) b.0 b.1
 
 -- a search from p has passed q - p zeros and finds z more, and a one
-pub run_one : (s : List ℕ) (p q z : ℕ) → p ≤ q → bits_at s p (q - p) ≡ 0 → bits_at s q z ≡ 0 → bit_at s (q + z) ≡ 1 → One (q - p + z) ≡ zero_run s p
+pub run_one : (s : List ℕ) (p q z : ℕ) → p ≤ q → bits_at s p (q - p) ≡ 0 → bits_at s q z ≡ 0 → bit_at s (q + z) ≡ 1 → Some (q - p + z) ≡ zero_run s p
 run_one s p q z le h k b =
     let e : p + (q - p) ≡ q = omega arith in
     let f : p + (q - p + z) ≡ q + z = omega arith in
@@ -151,7 +151,7 @@ run_none s p q out h =
     let is : zeros s p (8 * length s - p) ≡ 8 * length s - p = zeros_none s p (8 * length s - p) (zero_split s p _ _ (rw e at h)).0 in
     rw (is, le-ltb (8 * length s - p) (8 * length s - p) (le_refl _))
 
-picked : (t : Bool) (a n z : ℕ) → ltb a n ≡ t → cond t (One a) None ≡ One z → (a ≡ z) × (z < n)
+picked : (t : Bool) (a n z : ℕ) → ltb a n ≡ t → cond t (Some a) None ≡ Some z → (a ≡ z) × (z < n)
 picked true a n z e h =
     let s : a ≡ z = cc in
     (s, omega (arith, ltb-true a n e))
@@ -159,22 +159,22 @@ picked false a n z e h =
     let no : ◌≡◌ {A = ℕ} 0 1 = cc in
     absurd (omega arith)
 
-counted : (s : List ℕ) (p z : ℕ) → zero_run s p ≡ One z → (zeros s p (8 * length s - p) ≡ z) × (z < 8 * length s - p)
+counted : (s : List ℕ) (p z : ℕ) → zero_run s p ≡ Some z → (zeros s p (8 * length s - p) ≡ z) × (z < 8 * length s - p)
 unfolding zero_run
 counted s p z h = picked (ltb (zeros s p (8 * length s - p)) (8 * length s - p)) _ _ z refl h
 
 -- a run of z is z zeros and a one
-pub run_is : (s : List ℕ) (p z : ℕ) → zero_run s p ≡ One z → (bits_at s p z ≡ 0) × (bit_at s (p + z) ≡ 1)
+pub run_is : (s : List ℕ) (p z : ℕ) → zero_run s p ≡ Some z → (bits_at s p z ≡ 0) × (bit_at s (p + z) ≡ 1)
 run_is s p z h =
     let c = counted s p z h in
     rw c.0 at (zeros_found s p (8 * length s - p) (rw c.0 c.1))
 
 -- the one bit of a run stands inside the block
-pub run_inside : (s : List ℕ) (p z : ℕ) → zero_run s p ≡ One z → p + z < 8 * length s
+pub run_inside : (s : List ℕ) (p z : ℕ) → zero_run s p ≡ Some z → p + z < 8 * length s
 run_inside s p z h = omega (arith, (counted s p z h).1)
 
 -- a run of z and the k bits behind its one, as one number
-pub run_then_lem : (s : List ℕ) (p z k : ℕ) → zero_run s p ≡ One z → bits_at s p (z + 1 + k) ≡ 2 ^ k + bits_at s (p + z + 1) k
+pub run_then_lem : (s : List ℕ) (p z k : ℕ) → zero_run s p ≡ Some z → bits_at s p (z + 1 + k) ≡ 2 ^ k + bits_at s (p + z + 1) k
 run_then_lem s p z k h =
     let r = run_is s p z h in
     let one : bits_at s p (z + 1) ≡ 1 = bits_at_split s p z 1 ∙ rw (r.0, bits_at_one, r.1) in
@@ -196,13 +196,13 @@ pub none_is : (s : List ℕ) (p : ℕ) → zero_run s p ≡ None → bits_at s p
 unfolding zero_run
 none_is s p e = go (ltb (zeros s p (8 * length s - p)) (8 * length s - p)) refl e
   where
-    go : (t : Bool) → ltb (zeros s p (8 * length s - p)) (8 * length s - p) ≡ t → cond t (One (zeros s p (8 * length s - p))) None ≡ None
+    go : (t : Bool) → ltb (zeros s p (8 * length s - p)) (8 * length s - p) ≡ t → cond t (Some (zeros s p (8 * length s - p))) None ≡ None
         → bits_at s p (8 * length s - p) ≡ 0
     go true f g = let no : ◌≡◌ {A = ℕ} 0 1 = cc in absurd (omega arith)
     go false f g = all_zeros s p (8 * length s - p) (ltb-false _ _ f)
 
 -- a run: they are not
-pub one_is : (s : List ℕ) (p z : ℕ) → zero_run s p ≡ One z → bits_at s p (8 * length s - p) ≡ 0 → ⊥
+pub one_is : (s : List ℕ) (p z : ℕ) → zero_run s p ≡ Some z → bits_at s p (8 * length s - p) ≡ 0 → ⊥
 one_is s p z e h =
     let i = counted s p z e in
     let n : ℕ = 8 * length s - p in

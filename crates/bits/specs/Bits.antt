@@ -1,8 +1,6 @@
 -- Rules. The bits of a block: most significant first, zeros after the end. Positions count bits.
-use Rattle.std.specs.Prelude.{cond, List, ℕ, zero, suc, ◌+◌, ◌-◌, ◌*◌, ◌/◌, ◌%◌, ◌^◌, ltb, length, get_or}
+use Rattle.std.specs.Prelude.{cond, List, ℕ, zero, suc, ◌+◌, ◌-◌, ◌*◌, ◌/◌, ◌%◌, ◌^◌, ltb, length, get_or, None, Option, Some}
 use Rattle.std.specs.Int.Count.{under}
-use Rattle.bits.specs.declared.ZeroRun.{ZeroRun}
-use Rattle.bits.specs.declared.ZeroRun.TheVariants.{One, None}
 
 -- the bit at position i of the bytes s
 unfoldable pub bit_at : List ℕ → ℕ → ℕ
@@ -19,9 +17,9 @@ zeros s p zero = zero
 zeros s p (suc n) = under (bit_at s p) (zeros s (suc p) n)
 
 -- the zero run at p: the zeros up to the next one bit of the block's bytes, or none where no one bit is left in them
-unfoldable pub zero_run : List ℕ → ℕ → ZeroRun
+unfoldable pub zero_run : List ℕ → ℕ → Option ℕ
 zero_run s p =
-    cond (ltb (zeros s p (8 * length s - p)) (8 * length s - p)) (One (zeros s p (8 * length s - p))) None
+    cond (ltb (zeros s p (8 * length s - p)) (8 * length s - p)) (Some (zeros s p (8 * length s - p))) None
 
 -- four bytes as one number, most significant first
 abbrev pub be32 : List ℕ → ℕ → ℕ

@@ -1,9 +1,7 @@
 -- Inside. What only our own functions say.
-use Rattle.std.specs.Prelude.{List, ℕ, ◌+◌, ◌-◌, ◌/◌, ◌*◌, ◌%◌, ◌^◌, replicate, length, cond, leb}
+use Rattle.std.specs.Prelude.{List, ℕ, ◌+◌, ◌-◌, ◌/◌, ◌*◌, ◌%◌, ◌^◌, replicate, length, cond, leb, None, Option, Some}
 use Rattle.std.proofs.Math.Seq.{paste}
 use Rattle.bits.specs.BitLists.{block_bytes}
-use Rattle.bits.specs.declared.ZeroRun.{ZeroRun}
-use Rattle.bits.specs.declared.ZeroRun.TheVariants.{One, None}
 use Rattle.bits.specs.Bits.{bits_at}
 
 -- the bytes that n bits touch, the last of them counted whole
@@ -15,8 +13,8 @@ abbrev pub filled : ℕ → List ℕ → List ℕ
 filled n s = paste s (bytes_for n) (replicate (block_bytes n - bytes_for n) 0) (block_bytes n - bytes_for n)
 
 -- the position behind the one bit of a run at p, or p where there is none
-abbrev pub after_run : ℕ → ZeroRun → ℕ
-after_run p (One z) = p + z + 1
+abbrev pub after_run : ℕ → Option ℕ → ℕ
+after_run p (Some z) = p + z + 1
 after_run p None = p
 
 -- the bits from p on at the top of a word of 64: those up to the end of the eighth byte from p's own on, and zeros below

@@ -18,13 +18,6 @@ pub struct BitPosition(pub u64);
 #[derive(Clone, Copy)]
 pub struct ByteOffset(pub usize);
 
-// The zeros before the next one bit, or that no one bit is left.
-#[derive(Clone, Copy)]
-pub enum ZeroRun {
-    One(u64),
-    None,
-}
-
 impl BitPosition {
     // The byte that the bit stands in.
     pub fn byte(self) -> ByteOffset
@@ -169,15 +162,10 @@ pub fn is_tail(s: &[u8], at: BitPosition) -> bool
     requires { length s.now < 2 ^ 32 }
     ensures { result ≡ is_tail s.now at.0 }
 {
-    let end = at.block_bytes();
-    if s.len() != end.0 {
+    if s.len() != at.block_bytes().0 {
         return false;
     }
-    let run = zero_run(s, at);
-    match run {
-        ZeroRun::One(_) => false,
-        ZeroRun::None => true,
-    }
+    zero_run(s, at).is_none()
 }
 
 // The filling of a tight block whose bits end at this position: zeros from the next byte on.
@@ -197,8 +185,8 @@ pub fn past(at: BitPosition, n: u32) -> BitPosition
     at.ahead(counted(n))
 }
 
-// The zero bits from `at` up to the next one bit of the block. Runs are counted in 64 bits: no run of a block is too long.
-pub fn zero_run(s: &[u8], at: BitPosition) -> ZeroRun
+// The zero bits from `at` up to the next one bit of the block, None where no one bit is left. Runs are counted in 64 bits: no run of a block is too long.
+pub fn zero_run(s: &[u8], at: BitPosition) -> Option<u64>
     requires { length s.now < 2 ^ 58 }
     ensures { result ≡ zero_run s.now at.0 }
 {
@@ -208,21 +196,21 @@ pub fn zero_run(s: &[u8], at: BitPosition) -> ZeroRun
     while from.0 < s.len() {
         let w = window(s, from) << (here.0 % 8);
         if w != 0 {
-            return ZeroRun::One(here.0 - at.0 + u64::leading_zeros(w) as u64);
+            return Some(here.0 - at.0 + u64::leading_zeros(w) as u64);
         }
         from = ByteOffset(from.0 + 8);
         here = from.first_bit();
     }
-    ZeroRun::None
+    None
 }
 
 // The position behind the one bit of a run, or `at` where there is none.
-pub fn after_run(at: BitPosition, run: ZeroRun) -> BitPosition
+pub fn after_run(at: BitPosition, run: Option<u64>) -> BitPosition
     requires { after_run at.0 run < 2 ^ 64 }
     ensures { result.0 ≡ after_run at.0 run }
 {
     match run {
-        ZeroRun::One(zeros) => BitPosition(at.0 + zeros + 1),
-        ZeroRun::None => at,
+        Some(zeros) => BitPosition(at.0 + zeros + 1),
+        None => at,
     }
 }

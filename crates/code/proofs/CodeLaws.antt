@@ -3,8 +3,6 @@ use Rattle.std.proofs.Common.{◌≡◌, ℕ, ◌+◌, ◌*◌, ◌%◌, ◌^◌
 use lib.Arith.{digits_lt}
 use borrow.Author.Tests.{lt-leb}
 use Rattle.bits.specs.Bits.{bits_at, zero_run}
-use Rattle.bits.specs.declared.ZeroRun.{ZeroRun}
-use Rattle.bits.specs.declared.ZeroRun.TheVariants.{One, None}
 use Rattle.bits.proofs.BitLaws.{bits_at_lt}
 use Rattle.bits.proofs.RunLaws.{run_inside}
 use Rattle.numbers.proofs.OrderLaws.{split}
@@ -12,33 +10,33 @@ use Rattle.code.specs.Codes.{short_code, long_code, code_at}
 use Rattle.code.specs.UsedBits.{Counts, CodesCounted}
 use Rattle.code.specs.Inside.{Bounds}
 use Rattle.code.specs.declared.Code.{Code}
-use Rattle.code.specs.declared.Coded.TheVariants.{Read, Truncated}
+use Rattle.std.specs.Prelude.{None, Option, Some}
 
 module _ (s : List ℕ) (p k limit raw : ℕ) where
   -- the three ways in which a code is read
-  pub code_none : zero_run s p ≡ None → code_at s p k limit raw ≡ Truncated
+  pub code_none : zero_run s p ≡ None → code_at s p k limit raw ≡ None
   unfolding code_at
   code_none e = rw e
 
-  pub code_short : (z : ℕ) → zero_run s p ≡ One z → z < limit → code_at s p k limit raw ≡ Read (short_code s p k z)
+  pub code_short : (z : ℕ) → zero_run s p ≡ Some z → z < limit → code_at s p k limit raw ≡ Some (short_code s p k z)
   unfolding code_at
   code_short z e h = rw (e, lt-ltb z limit h)
 
-  pub code_long : (z : ℕ) → zero_run s p ≡ One z → limit ≤ z → code_at s p k limit raw ≡ Read (long_code s p k limit raw z)
+  pub code_long : (z : ℕ) → zero_run s p ≡ Some z → limit ≤ z → code_at s p k limit raw ≡ Some (long_code s p k limit raw z)
   unfolding code_at
   code_long z e h = rw (e, le-ltb z limit h)
 
   -- there is no other
   pub code_cases {ℓ} : {X : Type ℓ}
-      → (zero_run s p ≡ None → code_at s p k limit raw ≡ Truncated → X)
-      → ((z : ℕ) → zero_run s p ≡ One z → z < limit → code_at s p k limit raw ≡ Read (short_code s p k z) → X)
-      → ((z : ℕ) → zero_run s p ≡ One z → limit ≤ z → code_at s p k limit raw ≡ Read (long_code s p k limit raw z) → X)
+      → (zero_run s p ≡ None → code_at s p k limit raw ≡ None → X)
+      → ((z : ℕ) → zero_run s p ≡ Some z → z < limit → code_at s p k limit raw ≡ Some (short_code s p k z) → X)
+      → ((z : ℕ) → zero_run s p ≡ Some z → limit ≤ z → code_at s p k limit raw ≡ Some (long_code s p k limit raw z) → X)
       → X
   code_cases {X = X} none short long = go (zero_run s p) refl
     where
-      go : (r : ZeroRun) → zero_run s p ≡ r → X
+      go : (r : Option ℕ) → zero_run s p ≡ r → X
       go None e = none e (code_none e)
-      go (One z) e =
+      go (Some z) e =
           split limit z (λ h. long z e h (code_long z e h)) (λ h. short z e h (code_short z e h))
 
   -- a short code's value, and a long one's
@@ -64,7 +62,7 @@ module _ (s : List ℕ) (p k limit raw : ℕ) where
     pub some_bits : 1 ≤ c.used
     pub counts : Counts p limit c
 
-  pub code_shape : (c : Code) → code_at s p k limit raw ≡ Read c → Shape c
+  pub code_shape : (c : Code) → code_at s p k limit raw ≡ Some c → Shape c
   code_shape c e =
       code_cases
       (λ r g. let no : ◌≡◌ {A = ℕ} 0 1 = cc in absurd (omega arith))
@@ -75,11 +73,11 @@ module _ (s : List ℕ) (p k limit raw : ℕ) where
       let is : long_code s p k limit raw z ≡ c = cc in
       rw is at (shape_long z r h))
     where
-      shape_short : (z : ℕ) → zero_run s p ≡ One z → z < limit → Shape (short_code s p k z)
+      shape_short : (z : ℕ) → zero_run s p ≡ Some z → z < limit → Shape (short_code s p k z)
       shape_short z r h =
           record { inside = omega (arith, run_inside s p z r); some_bits = omega arith; counts = record { bits = omega arith; long = sym (lt-leb limit z h) } }
 
-      shape_long : (z : ℕ) → zero_run s p ≡ One z → limit ≤ z → Shape (long_code s p k limit raw z)
+      shape_long : (z : ℕ) → zero_run s p ≡ Some z → limit ≤ z → Shape (long_code s p k limit raw z)
       shape_long z r h =
           record { inside = omega (arith, run_inside s p z r); some_bits = omega arith; counts = record { bits = omega arith; long = sym (le-leb limit z h) } }
 

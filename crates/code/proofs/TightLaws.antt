@@ -5,7 +5,6 @@ use lib.ListN.{length-replicate}
 use lib.Pow.{shr_le, split as digits, high, low}
 use Rattle.bits.specs.Bits.{bits_at, zero_run}
 use Rattle.bits.specs.BitLists.{binary, bits_of}
-use Rattle.bits.specs.declared.ZeroRun.TheVariants.{One}
 use Rattle.bits.proofs.BitLaws.{bits_at_lt}
 use Rattle.bits.proofs.ListLaws.{length_binary, run_there, run_after, run_bits, bits_there, bits_after, bits_next}
 use Rattle.numbers.proofs.BoolLaws.{both}
@@ -14,8 +13,8 @@ use Rattle.code.specs.Codes.{short_code, long_code, code_at}
 use Rattle.code.specs.Tight.{run_then, code_bits, is_tight}
 use Rattle.code.specs.Inside.{code_length}
 use Rattle.code.specs.declared.Code.{Code}
-use Rattle.code.specs.declared.Coded.TheVariants.{Read}
 use Rattle.code.proofs.CodeLaws.{code_cases, code_short, code_long}
+use Rattle.std.specs.Prelude.{Some}
 
 -- the two forms, and their lengths
 module _ (k limit raw c : ℕ) where
@@ -60,7 +59,7 @@ tight_long M s p k limit raw z t =
 
 -- a run of z and the number v in n bits stand at p, and rest follows them
 record Found (s : List ℕ) (p z n v : ℕ) (rest : List Bool) : Type 0 where
-  run : zero_run s p ≡ One z
+  run : zero_run s p ≡ Some z
   bits : bits_at s (p + z + 1) n ≡ v
   after : drop (p + z + 1 + n) (bits_of s) ≡ rest
 
@@ -75,7 +74,7 @@ find s p z n v rest lt e =
     }
 
 -- the other way
-standing : (s : List ℕ) (p z n : ℕ) → zero_run s p ≡ One z → p + z + 1 + n ≤ 8 * length s
+standing : (s : List ℕ) (p z n : ℕ) → zero_run s p ≡ Some z → p + z + 1 + n ≤ 8 * length s
     → drop p (bits_of s) ≡ run_then z n (bits_at s (p + z + 1) n) ++ drop (p + z + 1 + n) (bits_of s)
 standing s p z n run h =
     run_bits s p z run ∙ rw (bits_next s (p + z + 1) n h) (sym (append_assoc (replicate z false) (true ∷ binary n (bits_at s (p + z + 1) n)) (drop (p + z + 1 + n) (bits_of s))))
@@ -84,7 +83,7 @@ module _ (M : ℕ) (s : List ℕ) (p k limit raw : ℕ) where
   -- what is read where the bits of c stand, and rest after them
   pub record ReadBack (c : ℕ) (rest : List Bool) : Type 0 where
     pub code : Code
-    pub read : code_at s p k limit raw ≡ Read code
+    pub read : code_at s p k limit raw ≡ Some code
     pub value : code.value ≡ c
     pub after : code.after.0 ≡ p + code_length k limit raw c
     pub tight : is_tight M code ≡ true
@@ -130,7 +129,7 @@ module _ (M : ℕ) (s : List ℕ) (p k limit raw : ℕ) where
     pub small : x.value ≤ M
     pub after : x.after.0 ≡ p + code_length k limit raw x.value
 
-  stands_short : (z : ℕ) → zero_run s p ≡ One z → z < limit → (short_code s p k z).value ≤ M → p + z + 1 + k ≤ 8 * length s → Stands (short_code s p k z)
+  stands_short : (z : ℕ) → zero_run s p ≡ Some z → z < limit → (short_code s p k z).value ≤ M → p + z + 1 + k ≤ 8 * length s → Stands (short_code s p k z)
   stands_short z run l m i =
       let b : ℕ = bits_at s (p + z + 1) k in
       let lt : b < 2 ^ k = bits_at_lt s (p + z + 1) k in
@@ -143,7 +142,7 @@ module _ (M : ℕ) (s : List ℕ) (p k limit raw : ℕ) where
         after = omega (arith, short_length k limit raw (z * 2 ^ k + b) short);
       }
 
-  stands_long : (z : ℕ) → zero_run s p ≡ One z → z ≡ limit → limit ≤ (long_code s p k limit raw z).value / 2 ^ k → (long_code s p k limit raw z).value ≤ M
+  stands_long : (z : ℕ) → zero_run s p ≡ Some z → z ≡ limit → limit ≤ (long_code s p k limit raw z).value / 2 ^ k → (long_code s p k limit raw z).value ≤ M
       → p + z + 1 + raw ≤ 8 * length s → Stands (long_code s p k limit raw z)
   stands_long z run e u m i =
       let b : ℕ = bits_at s (p + z + 1) raw in
@@ -155,7 +154,7 @@ module _ (M : ℕ) (s : List ℕ) (p k limit raw : ℕ) where
       }
 
   -- a tight code that was read inside the block stands there as its own bits
-  pub stands_there : (x : Code) → code_at s p k limit raw ≡ Read x → is_tight M x ≡ true → x.after.0 ≤ 8 * length s → Stands x
+  pub stands_there : (x : Code) → code_at s p k limit raw ≡ Some x → is_tight M x ≡ true → x.after.0 ≤ 8 * length s → Stands x
   stands_there x e t =
       code_cases s p k limit raw {X = Inside x → Stands x}
       (λ r g. let no : ◌≡◌ {A = ℕ} 0 1 = cc in absurd (omega arith))

@@ -1,11 +1,7 @@
 -- Rules. One code of a block, at a bit position.
-use Rattle.std.specs.Prelude.{ℕ, ◌+◌, ◌*◌, ◌/◌, ◌^◌, true, false, cond, ◌&&◌, List, ◌==◌, nat_le, nat_lt}
+use Rattle.std.specs.Prelude.{ℕ, ◌+◌, ◌*◌, ◌/◌, ◌^◌, true, false, cond, ◌&&◌, List, ◌==◌, nat_le, nat_lt, None, Option, Some}
 use Rattle.bits.specs.Bits.{bits_at, zero_run}
-use Rattle.bits.specs.declared.ZeroRun.{ZeroRun}
-use Rattle.bits.specs.declared.ZeroRun.TheVariants.{One, None}
 use Rattle.code.specs.declared.Code.{Code}
-use Rattle.code.specs.declared.Coded.{Coded}
-use Rattle.code.specs.declared.Coded.TheVariants.{Read, Truncated}
 
 -- after z zeros and a one bit. Below limit the code is short: z·2^k + the next k bits
 abbrev pub short_code : List ℕ → ℕ → ℕ → ℕ → Code
@@ -32,10 +28,10 @@ long_code s p k limit raw z =
       after = record { 0 = p + z + 1 + raw };
     }
 
-abbrev pub code_after : List ℕ → ℕ → ℕ → ℕ → ℕ → ZeroRun → Coded
-code_after s p k limit raw (One z) = cond (nat_lt z limit) (Read (short_code s p k z)) (Read (long_code s p k limit raw z))
-code_after s p k limit raw None = Truncated
+abbrev pub code_after : List ℕ → ℕ → ℕ → ℕ → ℕ → Option ℕ → Option Code
+code_after s p k limit raw (Some z) = cond (nat_lt z limit) (Some (short_code s p k z)) (Some (long_code s p k limit raw z))
+code_after s p k limit raw None = None
 
 -- the code at p: zeros are counted up to a one bit; where none is left in the block's bytes, the line is truncated
-unfoldable pub code_at : List ℕ → ℕ → ℕ → ℕ → ℕ → Coded
+unfoldable pub code_at : List ℕ → ℕ → ℕ → ℕ → ℕ → Option Code
 code_at s p k limit raw = code_after s p k limit raw (zero_run s p)

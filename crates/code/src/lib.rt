@@ -2,17 +2,16 @@
 // way from a code to a sample and back (`samples`).
 #![tactic(auto)]
 
-ghost use Rattle.std.specs.Prelude.{◌≡◌, ◌/◌, ◌^◌, ◌<◌, ◌≤◌, ◌&&◌, ◌==◌, nat_le};
+ghost use Rattle.std.specs.Prelude.{◌≡◌, ◌/◌, ◌^◌, ◌<◌, ◌≤◌, ◌&&◌, ◌==◌, nat_le, Some};
 ghost use Rattle.code.specs.Tight.{is_tight};
 ghost use Rattle.code.specs.Inside.{taken_of};
-ghost use Rattle.code.specs.declared.Coded.TheVariants.{Read};
 
 use bits::BitPosition;
 
 mod reasons;
 mod samples;
 
-pub use reasons::{BadSpot, Reason, Verdict, verdict_of};
+pub use reasons::{BadSpot, Reason, reason_of};
 pub use samples::{choice, code_near, moved, residual_size, sample, wrap};
 
 // A code that was read: the zeros before its one bit, its value, whether it has no bit that it could do without, whether it is long, how many
@@ -27,34 +26,12 @@ pub struct Code {
     pub after: BitPosition,
 }
 
-#[derive(Clone, Copy)]
-pub enum Coded {
-    Read(Code),
-    // No one bit is left in the block's bytes.
-    Truncated,
-}
-
 // Where a reading is: the next bit, whether all codes so far were tight, and how many of them were long.
 #[derive(Clone, Copy)]
 pub struct Place {
     pub at: BitPosition,
     pub tight: bool,
     pub long: u64,
-}
-
-// A short code that is tight: its value and the position after it. Or whatever else is there, which the slow reader takes.
-#[derive(Clone, Copy)]
-pub enum Short {
-    Code(u32, BitPosition),
-    Other,
-}
-
-// What a pass takes of a code: its value, and where the reading is after it.
-// INLINING: the parts are fields of their own. As one struct they would go through memory, and cost 8 of 182 instructions a code.
-#[derive(Clone, Copy)]
-pub enum Taken {
-    Read(u32, BitPosition, bool, u64),
-    Truncated,
 }
 
 // Whether a code with so many zeros is long.
@@ -82,13 +59,18 @@ pub fn is_tight(m: u32, code: Code) -> bool
     (code.value <= m) & code.minimal
 }
 
-// What a pass takes of a code that was read: after it all codes are tight if it is, and there is one long code more if it is long.
-pub fn take(m: u32, tight: bool, long: u64, c: Code) -> Taken
+// What a pass takes of a code that was read: its value, and where the reading is after it. All codes are tight then if it is, and there is one
+// long code more if it is long.
+pub fn take(m: u32, tight: bool, long: u64, c: Code) -> (u32, Place)
     requires { long < 2 ^ 63 }
-    ensures { result ≡ taken_of m tight long (Read c) }
+    ensures { Some result ≡ taken_of m tight long (Some c) }
 {
-    let after = c.after;
     let still_tight = tight & is_tight(m, c);
     let now_long = long + u64::from(c.long);
-    Taken::Read(c.value, after, still_tight, now_long)
+    let place = Place {
+        at: c.after,
+        tight: still_tight,
+        long: now_long,
+    };
+    (c.value, place)
 }

@@ -1,7 +1,6 @@
 // Bad codes: why a code that was read is not tight, and where it stands.
 ghost use Rattle.std.specs.Prelude.{◌≡◌, ◌≤◌};
 ghost use Rattle.code.specs.Reasons.{reason_of};
-ghost use Rattle.code.specs.Inside.{verdict_of};
 
 use crate::Code;
 use bits::BitPosition;
@@ -12,12 +11,6 @@ pub enum Reason {
     Large,
     Escape,
     Zeros,
-}
-
-#[derive(Clone, Copy)]
-pub enum Verdict {
-    Good,
-    Bad(Reason),
 }
 
 // A bad code: its line of six rows, its pass, 1 to 6, its colour line and position, its first bit, and why it is bad.
@@ -32,23 +25,23 @@ pub struct BadSpot {
 }
 
 // Why a code that was read is bad, if it is.
-pub fn verdict_of(m: u32, k: u32, limit: u32, c: Code) -> Verdict
+pub fn reason_of(m: u32, k: u32, limit: u32, c: Code) -> Option<Reason>
     requires { k ≤ 15 }
-    ensures { result ≡ verdict_of (reason_of m k limit c) }
+    ensures { result ≡ reason_of m k limit c }
 {
     let value = c.value;
     let zeros = c.zeros;
     if m < value {
-        return Verdict::Bad(Reason::Large);
+        return Some(Reason::Large);
     }
     if zeros < (limit as u64) {
-        return Verdict::Good;
+        return None;
     }
     if value >> k < limit {
-        return Verdict::Bad(Reason::Escape);
+        return Some(Reason::Escape);
     }
     if (limit as u64) < zeros {
-        return Verdict::Bad(Reason::Zeros);
+        return Some(Reason::Zeros);
     }
-    Verdict::Good
+    None
 }

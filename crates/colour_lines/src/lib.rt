@@ -1,7 +1,7 @@
 // Document 01, Pass and line: the 18 colour lines of a block between passes: guards, the turn to the next line, the layout of a set.
 #![tactic(auto)]
 
-ghost use Rattle.std.specs.Prelude.{◌≡◌, ◌+◌, ◌-◌, ◌*◌, ◌≤◌, ◌<◌, length, replicate, true, cond};
+ghost use Rattle.std.specs.Prelude.{◌≡◌, ◌+◌, ◌-◌, ◌*◌, ◌≤◌, ◌<◌, length, replicate};
 ghost use Rattle.colour_lines.specs.ColourLines.{guarded, moved, turned};
 ghost use Rattle.colour_lines.specs.Inside.{shifted, entered};
 ghost use Rattle.colour_lines.specs.Sets.{line_of_rank};
@@ -58,16 +58,6 @@ pub fn turn(lines: &mut [u16], w: usize)
     move_line(lines, w, 12, 6);
     move_line(lines, w, 16, 13);
     move_line(lines, w, 17, 14);
-}
-
-// The turn, where it is wanted.
-pub fn turn_if(lines: &mut [u16], w: usize, wanted: bool)
-    requires { (w ≤ 512) × (wanted ≡ true → 18 * (w + 2) ≤ length lines.old) }
-    ensures { lines.new ≡ cond wanted (turned w lines.old) lines.old }
-{
-    if wanted {
-        turn(lines, w);
-    }
 }
 
 // Room for a new line l of its colour, where three lines of a colour are kept: the two before it go one further up.

@@ -45,7 +45,7 @@ pub extern "C" fn fuji_put_front(
 {
     let a = stream_front::put_front(header, rows, lengths, out);
     *size = stream::length_word(a);
-    *refusal = stream::length_refusal(a);
+    *refusal = stream::refusal_in(&a);
 }
 
 // `tighten` for C.
@@ -65,7 +65,7 @@ pub extern "C" fn fuji_tighten(
 {
     let a = tighten(d, out, set, lines, rs);
     *size = stream::length_word(a);
-    *refusal = stream::length_refusal(a);
+    *refusal = stream::refusal_in(&a);
 }
 
 // `lossy_copy` for C.
@@ -86,5 +86,5 @@ pub extern "C" fn fuji_lossy_copy(
 {
     let a = lossy_copy(d, bases, out, set, lines, rs);
     *size = stream::length_word(a);
-    *refusal = stream::length_refusal(a);
+    *refusal = stream::refusal_in(&a);
 }

@@ -9,7 +9,7 @@ ghost use Rattle.read_block.specs.Words.{answer_words, Told, ToldWindowed, ToldS
 
 use image_region::Rect;
 use read_block::{
-    SharedAnswer, answer_words, decode, decode_region, decode_region_shared, decode_region_windowed,
+    SharedAnswer, decode, decode_region, decode_region_shared, decode_region_windowed,
 };
 use statistics::Record;
 
@@ -40,7 +40,7 @@ pub extern "C" fn fuji_decode_region(
         height,
     };
     let a = decode_region(d, r, *tile, image, lines, rs);
-    *refusal = answer_words(a);
+    *refusal = stream::refusal_in(&a);
 }
 
 // `decode_region_windowed` for C.
@@ -70,7 +70,7 @@ pub extern "C" fn fuji_decode_region_windowed(
         height,
     };
     let a = decode_region_windowed(d, r, *tile, image, lines, rs);
-    *refusal = answer_words(a);
+    *refusal = stream::refusal_in(&a);
 }
 
 // An answer and the entries, as words.
@@ -79,7 +79,7 @@ fn put_shared(entries: &mut [u32; 128], refusal: &mut [usize; 4], a: SharedAnswe
     ensures { AreWords a.entries.all entries.new × (refusal.new ≡ answer_words a.answer) }
 {
     *entries = cameras::words_of(a.entries);
-    *refusal = answer_words(a.answer);
+    *refusal = stream::refusal_in(&a.answer);
 }
 
 // `decode_region_shared` for C: camera 1 is 1, and any other number is camera 2.
@@ -146,5 +146,5 @@ pub extern "C" fn fuji_decode(
         Told d.now (whole_of width height) tile.now begins before after refusal.new }
 {
     let a = decode(d, width, height, *tile, image, lines, rs);
-    *refusal = answer_words(a);
+    *refusal = stream::refusal_in(&a);
 }

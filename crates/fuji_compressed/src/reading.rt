@@ -3,7 +3,7 @@ ghost use Rattle.std.specs.Prelude.{◌≡◌};
 ghost use Rattle.read_block.specs.Lent.{Scratch};
 ghost use Rattle.read_block.specs.Words.{answer_words, totals_words, ToldRead, ToldTight};
 
-use read_block::{Counted, answer_words, read_block, read_tight};
+use read_block::{Counted, read_block, read_tight};
 use statistics::Record;
 
 // Bits and long codes.
@@ -17,8 +17,7 @@ pub(crate) fn totals_words(a: Counted) -> [usize; 2]
 pub(crate) fn counted_refusal(a: Counted) -> [usize; 4]
     ensures { result ≡ answer_words a.answer }
 {
-    let answer = a.answer;
-    answer_words(answer)
+    stream::refusal_in(&a.answer)
 }
 
 // `read_block` for C.

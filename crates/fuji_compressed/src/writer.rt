@@ -22,7 +22,7 @@ pub extern "C" fn fuji_write_block(
 {
     let a = write_block(header, samples, out, lines, rs);
     *size = stream::length_word(a);
-    *refusal = stream::length_refusal(a);
+    *refusal = stream::refusal_in(&a);
 }
 
 // `write_lossy` for C.
@@ -43,7 +43,7 @@ pub extern "C" fn fuji_write_lossy(
 {
     let a = write_lossy(header, bases, samples, out, lines, rs);
     *size = stream::length_word(a);
-    *refusal = stream::length_refusal(a);
+    *refusal = stream::refusal_in(&a);
 }
 
 // `measure_block` for C.
@@ -62,5 +62,5 @@ pub extern "C" fn fuji_measure_block(
 {
     let a = measure_block(header, samples, lines, rs);
     *size = stream::length_word(a);
-    *refusal = stream::length_refusal(a);
+    *refusal = stream::refusal_in(&a);
 }

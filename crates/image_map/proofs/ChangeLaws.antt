@@ -22,9 +22,6 @@ changed_as t u f g x y there back c =
 pub changed_none : (t : ℕ → Bool) (f : ℕ → ℕ) (x : List ℕ) → ((i : ℕ) → t i ≡ true → ⊥) → Changed t f x x
 changed_none t f x n = record { kept = refl; entries = λ i. by_test (t i) (λ e. absurd (n i e)) (λ e. rw e) }
 
--- a change that is wanted, and one that is not
-pub if_wanted : (b : Bool) (t : ℕ → Bool) (f : ℕ → ℕ) (x y : List ℕ) → b ≡ true → Changed t f x y → Changed (λ i. b && t i) f x y
-if_wanted b t f x y e c = rw e c
-
+-- a change that is not wanted
 pub not_wanted : (b : Bool) (t : ℕ → Bool) (f : ℕ → ℕ) (x : List ℕ) → b ≡ false → Changed (λ i. b && t i) f x x
 not_wanted b t f x e = rw e (record { kept = refl; entries = λ i. refl })

@@ -198,24 +198,18 @@ two true false true f x y z = refl
 two true false false f x y z = refl
 two false s t f x y z = refl
 
-pub pass_put : (xtrans : Bool) (W : ℕ) (tile lines : List ℕ) (a : Part) (n first first_slot second second_slot : ℕ) (wanted : Bool) (x y z : List ℕ)
-    → wanted ≡ true
+pub pass_put : (xtrans : Bool) (W : ℕ) (tile lines : List ℕ) (a : Part) (n first first_slot second second_slot : ℕ) (x y z : List ℕ)
     → ColourEmitted xtrans W tile lines a n first first_slot x y → ColourEmitted xtrans W tile lines a n second second_slot y z
-    → PassEmitted wanted xtrans W tile lines a n first first_slot second second_slot x z
-pass_put xtrans W tile lines a n first first_slot second second_slot wanted x y z e c d =
-    rw e (record {
+    → PassEmitted true xtrans W tile lines a n first first_slot second second_slot x z
+pass_put xtrans W tile lines a n first first_slot second second_slot x y z c d =
+    record {
       kept = d.kept ∙ c.kept;
       entries =
           λ i. d.entries i
           ∙ rw (c.entries i)
           (two (in_rows a (6 * n) (6 * n + 6) i) (eqb (colour_of tile a i) first) (eqb (colour_of tile a i) second)
           (λ s. window_sample xtrans W lines a s i) first_slot second_slot _);
-    })
-
-pub pass_not_wanted : (xtrans : Bool) (W : ℕ) (tile lines : List ℕ) (a : Part) (n first first_slot second second_slot : ℕ) (wanted : Bool) (x : List ℕ)
-    → wanted ≡ false
-    → PassEmitted wanted xtrans W tile lines a n first first_slot second second_slot x x
-pass_not_wanted xtrans W tile lines a n first first_slot second second_slot wanted x e = rw e (record { kept = refl; entries = λ i. refl })
+    }
 
 -- ---- what an entry shows
 

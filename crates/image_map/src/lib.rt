@@ -1,20 +1,20 @@
 // Document 01, Map: where a sample of the image is in the colour lines, and how a line's rows reach the image.
 #![tactic(auto)]
 
-ghost use Rattle.std.specs.Prelude.{◌≡◌, ◌+◌, ◌*◌, ◌%◌, ◌≤◌, ◌<◌, length};
+ghost use Rattle.std.specs.Prelude.{◌≡◌, ◌≤◌, ◌<◌};
 ghost use Rattle.image_map.specs.Places.{width_of, place_in, colour_line};
 ghost use Rattle.image_map.specs.Inside.{ArePlaces};
-ghost use Rattle.image_map.specs.Rows.{InLines, sample_by};
 
 use places::XTRANS_PLACES;
 
 mod emit;
 mod one_row;
 mod places;
+mod row_samples;
+mod showing;
 mod zero_rows;
 
-pub use emit::{emit_line_if, emit_pass};
-pub use zero_rows::zero_line;
+pub use showing::Showing;
 
 // The samples of a colour line.
 pub fn width(xtrans: bool) -> usize
@@ -64,21 +64,4 @@ pub fn colour_line(t: u8, r: usize) -> usize
         return 15 + r / 2;
     }
     7 + r
-}
-
-// The sample of column p of a block, by where the colour line of its column of the tile begins.
-pub fn sample_at(
-    lines: &[u16],
-    w: usize,
-    xtrans: bool,
-    places: &[u16; 768],
-    starts: &[usize; 6],
-    column: usize,
-    p: usize,
-) -> u16
-    requires w_value { (w ≡ width_of xtrans) × ((18 * (w + 2) ≤ length lines.now) × ArePlaces places.now) }
-    requires column_value { (column ≡ p % 6) × ((p < 768) × InLines w starts.now) }
-    ensures { result ≡ sample_by lines.now starts.now xtrans p }
-{
-    lines[starts[column] + place_in(xtrans, places, p)]
 }

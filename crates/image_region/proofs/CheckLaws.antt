@@ -13,7 +13,7 @@ use Rattle.image_region.specs.Regions.{right_of, bottom_of, is_outside, is_empty
 use Rattle.image_region.specs.Inside.{Accepted}
 use Rattle.image_region.specs.declared.Rect.{Rect}
 use Rattle.image_region.specs.declared.Span.{Span}
-use Rattle.image_region.specs.declared.Checked.TheVariants.{Refused, Empty, Touched}
+use Rattle.std.specs.Prelude.{Err, None, Ok, Some}
 
 -- ---- refusal 7
 
@@ -56,15 +56,15 @@ pub has_samples : (r : Rect) → 1 ≤ r.width → 1 ≤ r.height → is_empty r
 has_samples r k l = rw (ne_eqb r.width 0 (λ e. omega (arith, e)), ne_eqb r.height 0 (λ e. omega (arith, e)))
 
 module _ (h : FujiHeader) (r : Rect) (n : ℕ) where
-  pub says_refused : is_outside h r n ≡ true → Refused OutsideImage ≡ checked_of h r n
+  pub says_refused : is_outside h r n ≡ true → Err OutsideImage ≡ checked_of h r n
   unfolding checked_of
   says_refused e = rw e
 
-  pub says_empty : is_outside h r n ≡ false → is_empty r ≡ true → Empty ≡ checked_of h r n
+  pub says_empty : is_outside h r n ≡ false → is_empty r ≡ true → (Ok None) ≡ checked_of h r n
   unfolding checked_of
   says_empty e f = rw (e, f)
 
-  pub says_touched : (s : Span) → is_outside h r n ≡ false → is_empty r ≡ false → s ≡ span_of r → Touched s ≡ checked_of h r n
+  pub says_touched : (s : Span) → is_outside h r n ≡ false → is_empty r ≡ false → s ≡ span_of r → Ok (Some s) ≡ checked_of h r n
   unfolding checked_of
   says_touched s e f g = rw (e, f, g)
 
@@ -84,11 +84,11 @@ module _ (h : FujiHeader) (r : Rect) (n : ℕ) where
       let z = three (ltb h.width (right_of r)) (ltb h.height (bottom_of r)) (ltb n (r.width * r.height)) e in
       (ltb-false h.width (right_of r) z.0, ltb-false h.height (bottom_of r) z.1, ltb-false n (r.width * r.height) z.2)
 
-  pub accepted : (s : Span) → Ruled h → checked_of h r n ≡ Touched s → Accepted h r n × (s ≡ span_of r)
+  pub accepted : (s : Span) → Ruled h → checked_of h r n ≡ Ok (Some s) → Accepted h r n × (s ≡ span_of r)
   unfolding checked_of
   accepted s k = go (is_outside h r n) (is_empty r) refl refl
     where
-      go : (o e : Bool) → is_outside h r n ≡ o → is_empty r ≡ e → cond o (Refused OutsideImage) (cond e Empty (Touched (span_of r))) ≡ Touched s
+      go : (o e : Bool) → is_outside h r n ≡ o → is_empty r ≡ e → cond o (Err OutsideImage) (cond e (Ok None) (Ok (Some (span_of r)))) ≡ Ok (Some s)
           → Accepted h r n × (s ≡ span_of r)
       go true e p q g = absurd (let no : ◌≡◌ {A = ℕ} 0 1 = cc in omega arith)
       go false true p q g = absurd (let no : ◌≡◌ {A = ℕ} 0 1 = cc in omega arith)

@@ -12,8 +12,8 @@ use Rattle.stream.specs.declared.header.FujiHeader.{FujiHeader}
 use Rattle.image_region.specs.Regions.{block_of, right_of, bottom_of, first_block, last_block, line_count, span_of, checked_of}
 use Rattle.image_region.specs.Inside.{part_in, Accepted}
 use Rattle.image_region.specs.declared.Rect.{Rect}
-use Rattle.image_region.specs.declared.Checked.TheVariants.{Touched}
 use Rattle.image_region.proofs.CheckLaws.{room_decides, has_samples, says_touched}
+use Rattle.std.specs.Prelude.{Ok, Some}
 
 -- entry i of the image lies in a part's columns
 abbrev pub InColumns : Part → ℕ → Type 0
@@ -33,7 +33,7 @@ module _ (h : FujiHeader) (r : Rect) (n : ℕ) (a : Accepted h r n) where
   bottom_is = let k = a.ruled in omega (arith, a.bottom, k.height_is, k.lines_high)
 
   -- such a region is not refused, and not empty
-  pub touched : checked_of h r n ≡ Touched (span_of r)
+  pub touched : checked_of h r n ≡ Ok (Some (span_of r))
   touched =
       let decides = room_decides h r n (right_of r) refl (bottom_of r) refl (omega (arith, right_is, a.right)) (omega (arith, bottom_is, a.bottom)) in
       sym (says_touched h r n (span_of r) (sym decides ∙ le-ltb n (r.width * r.height) a.room) (has_samples r a.wide a.high) refl)

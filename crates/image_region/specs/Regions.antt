@@ -1,11 +1,10 @@
 -- Rules. Regions of the picture: which are refused, which blocks and lines the others need, and where a block's samples go.
-use Rattle.std.specs.Prelude.{Bool, cond, ◌||◌, ℕ, ◌+◌, ◌-◌, ◌*◌, ◌/◌, ◌%◌, ◌^◌, min, ltb, eqb}
+use Rattle.std.specs.Prelude.{Bool, cond, ◌||◌, ℕ, ◌+◌, ◌-◌, ◌*◌, ◌/◌, ◌%◌, ◌^◌, min, ltb, eqb, Err, None, Ok, Option, Result, Some}
 use Rattle.stream.specs.declared.header.FujiHeader.{FujiHeader}
 use Rattle.stream.specs.declared.header.Refusal.TheVariants.{OutsideImage}
 use Rattle.image_region.specs.declared.Rect.{Rect}
 use Rattle.image_region.specs.declared.Span.{Span}
-use Rattle.image_region.specs.declared.Checked.{Checked}
-use Rattle.image_region.specs.declared.Checked.TheVariants.{Refused, Empty, Touched}
+use Rattle.stream.specs.declared.header.Refusal.{Refusal}
 
 -- ---- edges
 
@@ -50,5 +49,5 @@ line_count r = (bottom_of r - 1) / 6 + 1
 unfoldable pub span_of : Rect → Span
 span_of r = record { first = first_block r; last = last_block r; lines = line_count r }
 
-unfoldable pub checked_of : FujiHeader → Rect → ℕ → Checked
-checked_of h r n = cond (is_outside h r n) (Refused OutsideImage) (cond (is_empty r) Empty (Touched (span_of r)))
+unfoldable pub checked_of : FujiHeader → Rect → ℕ → Result (Option Span) Refusal
+checked_of h r n = cond (is_outside h r n) (Err OutsideImage) (cond (is_empty r) (Ok None) (Ok (Some (span_of r))))

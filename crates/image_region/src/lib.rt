@@ -25,14 +25,6 @@ pub struct Span {
     pub lines: usize,
 }
 
-#[derive(Clone, Copy)]
-pub enum Checked {
-    Refused(Refusal),
-    // Nothing is to be done.
-    Empty,
-    Touched(Span),
-}
-
 impl Rect {
     // The first column that is not the region's.
     pub fn right(self) -> usize
@@ -88,17 +80,18 @@ pub fn span_of(r: Rect) -> Span
     }
 }
 
-// Refusal 7, or what the region needs of the picture with this header. The image is to hold the region alone.
-pub fn check(h: FujiHeader, r: Rect, image_length: usize) -> Checked
+// Refusal 7, or what the region needs of the picture with this header; None where it is empty, and nothing is to be done. The image is to hold the
+// region alone.
+pub fn check(h: FujiHeader, r: Rect, image_length: usize) -> Result<Option<Span>, Refusal>
     ensures { result ≡ checked_of h r image_length }
 {
     if is_outside(h, r, image_length) {
-        return Checked::Refused(Refusal::OutsideImage);
+        return Err(Refusal::OutsideImage);
     }
     if is_empty(r) {
-        return Checked::Empty;
+        return Ok(None);
     }
-    Checked::Touched(span_of(r))
+    Ok(Some(span_of(r)))
 }
 
 // The part of the region's image that block b fills.

@@ -5,3 +5,4 @@ pub mod BoolLaws
 pub mod FillLaws
 pub mod TableLaws
 pub mod FlagLaws
+pub mod PassedLaws

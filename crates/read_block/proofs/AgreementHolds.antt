@@ -10,20 +10,17 @@ use lib.ListN.{length}
 use Rattle.image_map.proofs.PartLaws.{by_test, never}
 use Rattle.stream.specs.Streams.{open_of}
 use Rattle.stream.specs.declared.header.FujiHeader.{FujiHeader}
-use Rattle.stream.specs.declared.header.Parsed.{Parsed}
-use Rattle.stream.specs.declared.header.Parsed.TheVariants as Parsing
 use Rattle.stream.specs.declared.header.Refusal.TheVariants.{ShortScratch}
 use Rattle.image_region.specs.Regions.{block_of, last_block, checked_of}
 use Rattle.image_region.specs.declared.Rect.{Rect}
-use Rattle.image_region.specs.declared.Checked.{Checked}
-use Rattle.image_region.specs.declared.Checked.TheVariants as Check
 use Rattle.admission.specs.Beginnings.{is_short_scratch, begun, with_region, with_stream, region_begins}
 use Rattle.read_block.specs.Images.{read_in, line_of, is_decoded, decoded_sample, Decoding, Left}
 use Rattle.read_block.specs.Lent.{Buffers}
 use Rattle.read_block.specs.WindowedImages.{is_reached, reached_sample, WindowedDecoding, LeftWindowed}
 use Rattle.read_block.specs.WindowedAgreement.{SameSamples, EntriesAgree}
-use Rattle.read_block.specs.declared.Decoded.{Decoded}
-use Rattle.read_block.specs.declared.Decoded.TheVariants.{Refused}
+use Rattle.std.specs.Prelude.{Err, None, Ok, Option, Result, Some}
+use Rattle.image_region.specs.declared.Span.{Span}
+use Rattle.stream.specs.declared.header.Refusal.{Refusal}
 
 -- ---- lines that were read
 
@@ -47,7 +44,7 @@ module _ (d : List ℕ) (h : FujiHeader) (r : Rect) (e i : ℕ) where
 
 -- ---- where both read
 
-module _ (d : List ℕ) (h : FujiHeader) (r : Rect) (tile : List ℕ) (before after before' after' : Buffers) (answer answer' : Decoded)
+module _ (d : List ℕ) (h : FujiHeader) (r : Rect) (tile : List ℕ) (before after before' after' : Buffers) (answer answer' : Result Unit Refusal)
     (same : before'.image ≡ before.image) (D : Decoding d h r tile before after answer) (D' : WindowedDecoding d h r tile before' after' answer') where
   abbrev e : ℕ
   e = last_block r + 1
@@ -65,37 +62,37 @@ module _ (d : List ℕ) (h : FujiHeader) (r : Rect) (tile : List ℕ) (before af
 
 -- ---- by how the calls begin
 
-module _ (d : List ℕ) (r : Rect) (tile : List ℕ) (before after before' after' : Buffers) (answer answer' : Decoded)
-    (same : before'.image ≡ before.image) (long : answer ≡ Refused ShortScratch → ⊥) (long' : answer' ≡ Refused ShortScratch → ⊥) where
+module _ (d : List ℕ) (r : Rect) (tile : List ℕ) (before after before' after' : Buffers) (answer answer' : Result Unit Refusal)
+    (same : before'.image ≡ before.image) (long : answer ≡ Err ShortScratch → ⊥) (long' : answer' ≡ Err ShortScratch → ⊥) where
   abbrev Agree : Type 0
-  Agree = (answer' ≡ answer) × ((h : FujiHeader) → open_of d ≡ Parsing.Header h → SameSamples d h r after.image after'.image)
+  Agree = (answer' ≡ answer) × ((h : FujiHeader) → open_of d ≡ Ok h → SameSamples d h r after.image after'.image)
 
   -- neither read: the images are as they were
-  neither : (x : Decoded) → (answer ≡ x) × (after ≡ before) → (answer' ≡ x) × (after' ≡ before') → Agree
+  neither : (x : Result Unit Refusal) → (answer ≡ x) × (after ≡ before) → (answer' ≡ x) × (after' ≡ before') → Agree
   neither x l l' =
       let f : after'.image ≡ after.image = ap (λ (b : Buffers). b.image) l'.1 ∙ same ∙ sym (ap (λ (b : Buffers). b.image) l.1) in
       (l'.0 ∙ sym l.0, λ h o. record { accepted = λ i t. rw f; unreached = λ i t. rw f })
 
   module _ (n n' m m' : ℕ) where
     -- refusal 10, or both read
-    scratched : (g : FujiHeader) → open_of d ≡ Parsing.Header g → (s t : Bool)
-        → Left d r tile (begun (cond s (Parsing.Refused ShortScratch) (Parsing.Header g))) before after answer
-        → LeftWindowed d r tile (begun (cond t (Parsing.Refused ShortScratch) (Parsing.Header g))) before' after' answer' → Agree
+    scratched : (g : FujiHeader) → open_of d ≡ Ok g → (s t : Bool)
+        → Left d r tile (begun (cond s (Err ShortScratch) (Ok g))) before after answer
+        → LeftWindowed d r tile (begun (cond t (Err ShortScratch) (Ok g))) before' after' answer' → Agree
     scratched g o true t l l' = absurd (long l.0)
     scratched g o false true l l' = absurd (long' l'.0)
     scratched g o false false l l' =
         (l'.answered ∙ sym l.answered, λ h p. let k : g ≡ h = cc in rw k at (both_read d g r tile before after before' after' answer answer' same l l'))
 
-    checked : (g : FujiHeader) → open_of d ≡ Parsing.Header g → (c : Checked) → Left d r tile (with_region g c n m) before after answer
+    checked : (g : FujiHeader) → open_of d ≡ Ok g → (c : Result (Option Span) Refusal) → Left d r tile (with_region g c n m) before after answer
         → LeftWindowed d r tile (with_region g c n' m') before' after' answer' → Agree
-    checked g o (Check.Refused x) l l' = neither (Refused x) l l'
-    checked g o Check.Empty l l' = neither _ l l'
-    checked g o (Check.Touched s) l l' = scratched g o (is_short_scratch g.xtrans n m) (is_short_scratch g.xtrans n' m') l l'
+    checked g o (Err x) l l' = neither (Err x) l l'
+    checked g o (Ok None) l l' = neither _ l l'
+    checked g o (Ok (Some s)) l l' = scratched g o (is_short_scratch g.xtrans n m) (is_short_scratch g.xtrans n' m') l l'
 
-    opened : (k k' : ℕ) → k' ≡ k → (p : Parsed) → open_of d ≡ p → Left d r tile (with_stream p r k n m) before after answer
+    opened : (k k' : ℕ) → k' ≡ k → (p : Result FujiHeader Refusal) → open_of d ≡ p → Left d r tile (with_stream p r k n m) before after answer
         → LeftWindowed d r tile (with_stream p r k' n' m') before' after' answer' → Agree
-    opened k k' e (Parsing.Refused x) o l l' = neither (Refused x) l l'
-    opened k k' e (Parsing.Header g) o l l' = checked g o (checked_of g r k) l (rw e at l')
+    opened k k' e (Err x) o l l' = neither (Err x) l l'
+    opened k k' e (Ok g) o l l' = checked g o (checked_of g r k) l (rw e at l')
 
 pub entries_agree : EntriesAgree
 unfolding region_begins

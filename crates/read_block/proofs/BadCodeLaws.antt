@@ -2,7 +2,6 @@
 use mathlib.Core.Bool.{Bool, true, false, cond, ◌&&◌, and-true, and-false, false≢true}
 use mathlib.Core.List.{List, [], ◌∷◌}
 use mathlib.Core.Logic.{◌↔◌}
-use mathlib.Core.Option.{Option, none, some, map, or_else, some-injective}
 use mathlib.Core.Path.{◌≡◌, refl, sym, ap, ◌∙◌, subst}
 use Prim.Native.Nat.{ℕ, zero, suc, ◌+◌, ◌*◌, ◌/◌, ◌^◌, ◌≤◌, ◌<◌}
 use native.Mathlib.Omega.{arith}
@@ -16,8 +15,6 @@ use Rattle.quantiser.specs.declared.Quantiser.{Quantiser}
 use Rattle.code.specs.Codes.{short_code, long_code, code_at}
 use Rattle.code.specs.Tight.{is_tight}
 use Rattle.code.specs.declared.Code.{Code}
-use Rattle.code.specs.declared.Coded.{Coded}
-use Rattle.code.specs.declared.Coded.TheVariants.{Read, Truncated}
 use Rattle.code.proofs.CodeLaws.{code_cases}
 use Rattle.pass_schedule.specs.Steps.{Step, plan_of, pass_steps}
 use Rattle.pass_schedule.specs.Steps.{step_place}
@@ -36,26 +33,28 @@ use Rattle.read_block.specs.BadCodes.{BadCode, bad_at, bad_in_steps, first_found
 use Rattle.read_block.specs.BadSpots.{step_k, step_quantiser, BadStep, BadIn}
 use Rattle.read_block.specs.declared.Form.{Form}
 use Rattle.read_block.proofs.RunLaws.{then_both, runs_last}
+use Rattle.std.specs.Prelude.{None, Some, Option, option_map}
+use Rattle.std.specs.Option.{option_or}
+use Rattle.std.proofs.lemmas.Option.{same_Some}
 
 -- ---- the verdict
 
 -- a verdict stays where nothing was found
 abbrev pub stays : {B : Type 0} → Option B → Bool → Bool
-stays none t = t
-stays (some b) t = false
+stays None t = t
+stays (Some b) t = false
 
 stays_false : {B : Type 0} (o : Option B) → stays o false ≡ false
-stays_false none = refl
-stays_false (some b) = refl
+stays_false None = refl
+stays_false (Some b) = refl
 
-stays_map : {A B : Type 0} (f : A → B) (o : Option A) (t : Bool) → stays (map f o) t ≡ stays o t
-stays_map f none t = refl
-stays_map f (some a) t = refl
+stays_map : {A B : Type 0} (f : A → B) (o : Option A) (t : Bool) → stays (option_map f o) t ≡ stays o t
+stays_map f None t = refl
+stays_map f (Some a) t = refl
 
-stays_else : {B : Type 0} (o p : Option B) (t : Bool) → stays (or_else o p) t ≡ stays p (stays o t)
-unfolding or_else
-stays_else none p t = refl
-stays_else (some b) p t = sym (stays_false p)
+stays_else : {B : Type 0} (o p : Option B) (t : Bool) → stays (option_or o p) t ≡ stays p (stays o t)
+stays_else None p t = refl
+stays_else (Some b) p t = sym (stays_false p)
 
 -- ---- one code
 
@@ -86,7 +85,7 @@ module _ (M : ℕ) (s : List ℕ) (p k limit raw z : ℕ) (t : Bool) where
       (λ l. rw (lt-leb v M l, lt-ltb M v l) (and-false t))
 
 -- a code that was read has a reason exactly if it is not tight
-pub code_stays : (M : ℕ) (s : List ℕ) (p k limit raw : ℕ) (c : Code) (t : Bool) → code_at s p k limit raw ≡ Read c
+pub code_stays : (M : ℕ) (s : List ℕ) (p k limit raw : ℕ) (c : Code) (t : Bool) → code_at s p k limit raw ≡ Some c
     → t && is_tight M c ≡ stays (reason_of M k limit c) t
 code_stays M s p k limit raw c t e =
     code_cases s p k limit raw {X = Stays c}
@@ -102,48 +101,48 @@ code_stays M s p k limit raw c t e =
 abbrev reason_at : List ℕ → Option Reason
 reason_at s = coded_reason 16383 8 41 (code_at s 0 8 41 14)
 
-pub examples : (reason_at (0xFF ∷ 0x80 ∷ []) ≡ none) × (reason_at (0 ∷ 0 ∷ 0 ∷ 0 ∷ 0 ∷ 0x40 ∷ 0 ∷ []) ≡ some Escape)
-    × (reason_at (0 ∷ 0 ∷ 0 ∷ 0 ∷ 0 ∷ 0x20 ∷ 0 ∷ []) ≡ some Escape) × (reason_at (0 ∷ 0 ∷ 0 ∷ 0 ∷ 0 ∷ 0x3F ∷ 0 ∷ []) ≡ some Zeros)
-    × (reason_at (0 ∷ 0 ∷ 0 ∷ 0 ∷ 0 ∷ 0x7F ∷ 0xFF ∷ []) ≡ some Large)
+pub examples : (reason_at (0xFF ∷ 0x80 ∷ []) ≡ None) × (reason_at (0 ∷ 0 ∷ 0 ∷ 0 ∷ 0 ∷ 0x40 ∷ 0 ∷ []) ≡ Some Escape)
+    × (reason_at (0 ∷ 0 ∷ 0 ∷ 0 ∷ 0 ∷ 0x20 ∷ 0 ∷ []) ≡ Some Escape) × (reason_at (0 ∷ 0 ∷ 0 ∷ 0 ∷ 0 ∷ 0x3F ∷ 0 ∷ []) ≡ Some Zeros)
+    × (reason_at (0 ∷ 0 ∷ 0 ∷ 0 ∷ 0 ∷ 0x7F ∷ 0xFF ∷ []) ≡ Some Large)
 unfolding bit_at bits_at zeros zero_run code_at reason_of
 examples = (refl, refl, refl, refl, refl)
 
 -- ---- the steps of a pass
 
 module _ (bits q W : ℕ) (s : List ℕ) where
-  pub step_stays : (x : Step) (r z : Reading) → read_step bits q W s x r ≡ some z → z.tight ≡ stays (step_reason bits q W s x r) r.tight
+  pub step_stays : (x : Step) (r z : Reading) → read_step bits q W s x r ≡ Some z → z.tight ≡ stays (step_reason bits q W s x r) r.tight
   unfolding read_step step_reason
   step_stays x r z e = go x.coded (step_code bits q W s x r) refl e
     where
       M : ℕ
       M = largest bits
 
-      go : (b : Bool) (g : Coded) → step_code bits q W s x r ≡ g
+      go : (b : Bool) (g : Option Code) → step_code bits q W s x r ≡ g
           → cond b (taken bits q (step_place W x) (step_slot q W x r.lines) (step_context W x r.lines) (step_look q W x r.lines) r g)
-          (some (interpolate (step_place W x) (step_context W x r.lines) r)) ≡ some z
-          → z.tight ≡ stays (cond b (coded_reason M (step_k q W x r) (step_quantiser bits q W x r).limit g) none) r.tight
-      go true Truncated eg f = let no : ◌≡◌ {A = ℕ} 0 1 = cc in absurd (omega arith)
-      go true (Read d) eg f =
+          (Some (interpolate (step_place W x) (step_context W x r.lines) r)) ≡ Some z
+          → z.tight ≡ stays (cond b (coded_reason M (step_k q W x r) (step_quantiser bits q W x r).limit g) None) r.tight
+      go true None eg f = let no : ◌≡◌ {A = ℕ} 0 1 = cc in absurd (omega arith)
+      go true (Some d) eg f =
           let y : Reading = take_code bits q (step_place W x) (step_slot q W x r.lines) (step_context W x r.lines) (step_look q W x r.lines) d r in
-          ap (λ (w : Reading). w.tight) (sym (some-injective y z f))
+          ap (λ (w : Reading). w.tight) (sym (same_Some y z f))
           ∙ code_stays M s r.at.0 (step_k q W x r) (step_quantiser bits q W x r).limit (step_quantiser bits q W x r).raw d r.tight eg
       go false g eg f =
           let y : Reading = interpolate (step_place W x) (step_context W x r.lines) r in
-          ap (λ (w : Reading). w.tight) (sym (some-injective y z f))
+          ap (λ (w : Reading). w.tight) (sym (same_Some y z f))
 
   module _ (n i : ℕ) where
-    steps_stay : (l : List Step) (r z : Reading) → reads bits q W s l r ≡ some z → z.tight ≡ stays (bad_in_steps n i bits q W s l r) r.tight
+    steps_stay : (l : List Step) (r z : Reading) → reads bits q W s l r ≡ Some z → z.tight ≡ stays (bad_in_steps n i bits q W s l r) r.tight
     unfolding reads bad_in_steps and_then
-    steps_stay [] r z e = ap (λ (w : Reading). w.tight) (sym (some-injective r z e))
+    steps_stay [] r z e = ap (λ (w : Reading). w.tight) (sym (same_Some r z e))
     steps_stay (x ∷ l) r z e =
         let b = then_both (read_step bits q W s x r) (λ y. reads bits q W s l y) z e in
         let first = step_stays x r b.0 b.1 ∙ sym (stays_map (bad_at n i x r) (step_reason bits q W s x r) r.tight) in
         rw b.1
         (steps_stay l b.0 z b.2 ∙ ap (stays (bad_in_steps n i bits q W s l b.0)) first
-        ∙ sym (stays_else (map (bad_at n i x r) (step_reason bits q W s x r)) (bad_in_steps n i bits q W s l b.0) r.tight))
+        ∙ sym (stays_else (option_map (bad_at n i x r) (step_reason bits q W s x r)) (bad_in_steps n i bits q W s l b.0) r.tight))
 
     -- the first of some steps is bad
-    bad_here : (x : Step) (l : List Step) (r : Reading) (w : Reason) → step_reason bits q W s x r ≡ some w → BadStep bits q W s n i (x ∷ l) r (bad_at n i x r w)
+    bad_here : (x : Step) (l : List Step) (r : Reading) (w : Reason) → step_reason bits q W s x r ≡ Some w → BadStep bits q W s n i (x ∷ l) r (bad_at n i x r w)
     unfolding step_reason reads
     bad_here x l r w e = go x.coded (step_code bits q W s x r) refl refl e
       where
@@ -156,9 +155,9 @@ module _ (bits q W : ℕ) (s : List ℕ) where
         Q : Quantiser
         Q = step_quantiser bits q W x r
 
-        go : (b : Bool) (g : Coded) → x.coded ≡ b → step_code bits q W s x r ≡ g → cond b (coded_reason M k Q.limit g) none ≡ some w
+        go : (b : Bool) (g : Option Code) → x.coded ≡ b → step_code bits q W s x r ≡ g → cond b (coded_reason M k Q.limit g) None ≡ Some w
             → BadStep bits q W s n i (x ∷ l) r (bad_at n i x r w)
-        go true (Read c) eb eg f =
+        go true (Some c) eb eg f =
             record {
               line = refl;
               pass = refl;
@@ -175,11 +174,11 @@ module _ (bits q W : ℕ) (s : List ℕ) where
               loose = rw f at (code_stays M s r.at.0 k Q.limit Q.raw c true eg);
               reason = f;
             }
-        go true Truncated eb eg f = let no : ◌≡◌ {A = ℕ} 0 1 = cc in absurd (omega arith)
+        go true None eb eg f = let no : ◌≡◌ {A = ℕ} 0 1 = cc in absurd (omega arith)
         go false g eb eg f = let no : ◌≡◌ {A = ℕ} 0 1 = cc in absurd (omega arith)
 
     -- or it is read, with a tight code or none, and a later one is bad
-    bad_later : (x : Step) (l : List Step) (r y : Reading) (b : BadCode) → read_step bits q W s x r ≡ some y → y.tight ≡ r.tight
+    bad_later : (x : Step) (l : List Step) (r y : Reading) (b : BadCode) → read_step bits q W s x r ≡ Some y → y.tight ≡ r.tight
         → BadStep bits q W s n i l y b → BadStep bits q W s n i (x ∷ l) r b
     unfolding reads and_then
     bad_later x l r y b e t p =
@@ -200,28 +199,28 @@ module _ (bits q W : ℕ) (s : List ℕ) where
           reason = p.reason;
         }
 
-    bad_step : (l : List Step) (r : Reading) (b : BadCode) → bad_in_steps n i bits q W s l r ≡ some b → BadStep bits q W s n i l r b
-    unfolding bad_in_steps or_else and_then
+    bad_step : (l : List Step) (r : Reading) (b : BadCode) → bad_in_steps n i bits q W s l r ≡ Some b → BadStep bits q W s n i l r b
+    unfolding bad_in_steps and_then
     bad_step [] r b e = let no : ◌≡◌ {A = ℕ} 0 1 = cc in absurd (omega arith)
     bad_step (x ∷ l) r b e =
         go (step_reason bits q W s x r) (read_step bits q W s x r) refl refl (λ y h. step_stays x r y h) (λ y h. bad_step l y b h) e
       where
         go : (o : Option Reason) (p : Option Reading) → step_reason bits q W s x r ≡ o → read_step bits q W s x r ≡ p
-            → ((y : Reading) → read_step bits q W s x r ≡ some y → y.tight ≡ stays (step_reason bits q W s x r) r.tight)
-            → ((y : Reading) → bad_in_steps n i bits q W s l y ≡ some b → BadStep bits q W s n i l y b)
-            → or_else (map (bad_at n i x r) o) (and_then p (λ z. bad_in_steps n i bits q W s l z)) ≡ some b → BadStep bits q W s n i (x ∷ l) r b
-        go (some w) p eo ep tight next h = subst (BadStep bits q W s n i (x ∷ l) r) (some-injective (bad_at n i x r w) b h) (bad_here x l r w eo)
-        go none none eo ep tight next h = let no : ◌≡◌ {A = ℕ} 0 1 = cc in absurd (omega arith)
-        go none (some y) eo ep tight next h = bad_later x l r y b ep (rw eo at (tight y ep)) (next y h)
+            → ((y : Reading) → read_step bits q W s x r ≡ Some y → y.tight ≡ stays (step_reason bits q W s x r) r.tight)
+            → ((y : Reading) → bad_in_steps n i bits q W s l y ≡ Some b → BadStep bits q W s n i l y b)
+            → option_or (option_map (bad_at n i x r) o) (and_then p (λ z. bad_in_steps n i bits q W s l z)) ≡ Some b → BadStep bits q W s n i (x ∷ l) r b
+        go (Some w) p eo ep tight next h = subst (BadStep bits q W s n i (x ∷ l) r) (same_Some (bad_at n i x r w) b h) (bad_here x l r w eo)
+        go None None eo ep tight next h = let no : ◌≡◌ {A = ℕ} 0 1 = cc in absurd (omega arith)
+        go None (Some y) eo ep tight next h = bad_later x l r y b ep (rw eo at (tight y ep)) (next y h)
 
 -- ---- passes and lines
 
 module _ {A B : Type 0} (f : ℕ → A → Option A) (g : ℕ → A → Option B) (r : A) where
   -- where the verdict of each run stays unless something is found in it, that of all of them does
-  each_stays : (tight : A → Bool) → ((i : ℕ) (y z : A) → f i y ≡ some z → tight z ≡ stays (g i y) (tight y))
-      → (n : ℕ) (z : A) → runs f n r ≡ some z → tight z ≡ stays (first_found f g n r) (tight r)
+  each_stays : (tight : A → Bool) → ((i : ℕ) (y z : A) → f i y ≡ Some z → tight z ≡ stays (g i y) (tight y))
+      → (n : ℕ) (z : A) → runs f n r ≡ Some z → tight z ≡ stays (first_found f g n r) (tight r)
   unfolding runs first_found and_then
-  each_stays tight each zero z e = ap tight (sym (some-injective r z e))
+  each_stays tight each zero z e = ap tight (sym (same_Some r z e))
   each_stays tight each (suc n) z e =
       let b = runs_last f r n z e in
       rw b.1
@@ -232,38 +231,37 @@ module _ {A B : Type 0} (f : ℕ → A → Option A) (g : ℕ → A → Option B
     pub index : ℕ
     pub inside : index < n
     pub state : A
-    pub run : runs f index r ≡ some state
-    pub found : g index state ≡ some b
-    pub first : first_found f g index r ≡ none
+    pub run : runs f index r ≡ Some state
+    pub found : g index state ≡ Some b
+    pub first : first_found f g index r ≡ None
 
-  found_in : (n : ℕ) (b : B) → first_found f g n r ≡ some b → FoundIn n b
-  unfolding first_found or_else and_then
+  found_in : (n : ℕ) (b : B) → first_found f g n r ≡ Some b → FoundIn n b
+  unfolding first_found and_then
   found_in zero b e = let no : ◌≡◌ {A = ℕ} 0 1 = cc in absurd (omega arith)
   found_in (suc n) b e = go (first_found f g n r) (runs f n r) refl refl (λ h. found_in n b h) e
     where
-      go : (o : Option B) (p : Option A) → first_found f g n r ≡ o → runs f n r ≡ p → (first_found f g n r ≡ some b → FoundIn n b)
-          → or_else o (and_then p (λ z. g n z)) ≡ some b → FoundIn (suc n) b
-      go (some a) p eo ep before h =
+      go : (o : Option B) (p : Option A) → first_found f g n r ≡ o → runs f n r ≡ p → (first_found f g n r ≡ Some b → FoundIn n b)
+          → option_or o (and_then p (λ z. g n z)) ≡ Some b → FoundIn (suc n) b
+      go (Some a) p eo ep before h =
           let l = before (eo ∙ h) in
           record { index = l.index; inside = omega (arith, l.inside); state = l.state; run = l.run; found = l.found; first = l.first }
-      go none none eo ep before h = let no : ◌≡◌ {A = ℕ} 0 1 = cc in absurd (omega arith)
-      go none (some y) eo ep before h = record { index = n; inside = omega arith; state = y; run = ep; found = h; first = eo }
+      go None None eo ep before h = let no : ◌≡◌ {A = ℕ} 0 1 = cc in absurd (omega arith)
+      go None (Some y) eo ep before h = record { index = n; inside = omega arith; state = y; run = ep; found = h; first = eo }
 
 -- the line of a bad code, or all lines
 abbrev pub line_or : ℕ → Option BadCode → ℕ
-line_or lines none = lines
-line_or lines (some b) = b.line
+line_or lines None = lines
+line_or lines (Some b) = b.line
 
 -- one line more, which has the verdict t: it is counted where no line before it has a bad code
-count_on : (n : ℕ) (o p : Option BadCode) (t : Bool) → ((b : BadCode) → o ≡ some b → b.line < n) → ((b : BadCode) → p ≡ some b → b.line ≡ n)
-    → t ≡ stays p (stays o true) → cond (eqb (line_or n o) n && t) (suc n) (line_or n o) ≡ line_or (suc n) (or_else o p)
-unfolding or_else
-count_on n none none t low here e = rw (eq-eqb n n refl, e)
-count_on n none (some b) t low here e = rw (eq-eqb n n refl, e) (sym (here b refl))
-count_on n (some b) p t low here e = rw (ne_eqb b.line n (λ q. omega (arith, low b refl)))
+count_on : (n : ℕ) (o p : Option BadCode) (t : Bool) → ((b : BadCode) → o ≡ Some b → b.line < n) → ((b : BadCode) → p ≡ Some b → b.line ≡ n)
+    → t ≡ stays p (stays o true) → cond (eqb (line_or n o) n && t) (suc n) (line_or n o) ≡ line_or (suc n) (option_or o p)
+count_on n None None t low here e = rw (eq-eqb n n refl, e)
+count_on n None (Some b) t low here e = rw (eq-eqb n n refl, e) (sym (here b refl))
+count_on n (Some b) p t low here e = rw (ne_eqb b.line n (λ q. omega (arith, low b refl)))
 
 module _ (F : Form) (bases s : List ℕ) where
-  pass_stays : (q n i : ℕ) (r z : State) → pass_at F q s i r ≡ some z → z.tight ≡ stays (bad_in_pass F q s n i r) r.tight
+  pass_stays : (q n i : ℕ) (r z : State) → pass_at F q s i r ≡ Some z → z.tight ≡ stays (bad_in_pass F q s n i r) r.tight
   unfolding pass_at read_pass bad_in_pass
   pass_stays q n i r z e = go (reads F.bits q W s (pass_steps W P) (enter F P r)) (steps_stay F.bits q W s n i (pass_steps W P) (enter F P r)) e
     where
@@ -273,20 +271,20 @@ module _ (F : Form) (bases s : List ℕ) where
       P : Plan
       P = plan_of F.xtrans i
 
-      go : (o : Option Reading) → ((y : Reading) → o ≡ some y → y.tight ≡ stays (bad_in_steps n i F.bits q W s (pass_steps W P) (enter F P r)) r.tight)
-          → leave P r o ≡ some z → z.tight ≡ stays (bad_in_steps n i F.bits q W s (pass_steps W P) (enter F P r)) r.tight
-      go none k f = let no : ◌≡◌ {A = ℕ} 0 1 = cc in absurd (omega arith)
-      go (some y) k f = let same : z.tight ≡ y.tight = cc in same ∙ k y refl
+      go : (o : Option Reading) → ((y : Reading) → o ≡ Some y → y.tight ≡ stays (bad_in_steps n i F.bits q W s (pass_steps W P) (enter F P r)) r.tight)
+          → leave P r o ≡ Some z → z.tight ≡ stays (bad_in_steps n i F.bits q W s (pass_steps W P) (enter F P r)) r.tight
+      go None k f = let no : ◌≡◌ {A = ℕ} 0 1 = cc in absurd (omega arith)
+      go (Some y) k f = let same : z.tight ≡ y.tight = cc in same ∙ k y refl
 
   -- the test at a line's end leaves the verdict as it is
-  end_stays : (r z : State) → end_line s r ≡ some z → z.tight ≡ r.tight
+  end_stays : (r z : State) → end_line s r ≡ Some z → z.tight ≡ r.tight
   end_stays r z e = go (leb r.at.0 (8 * length s + 7)) e
     where
-      go : (b : Bool) → cond b (some r) none ≡ some z → z.tight ≡ r.tight
+      go : (b : Bool) → cond b (Some r) None ≡ Some z → z.tight ≡ r.tight
       go true f = cc
       go false f = let no : ◌≡◌ {A = ℕ} 0 1 = cc in absurd (omega arith)
 
-  line_stays : (n : ℕ) (r z : State) → read_line_at F bases s n r ≡ some z → z.tight ≡ stays (bad_in_line F bases s n r) r.tight
+  line_stays : (n : ℕ) (r z : State) → read_line_at F bases s n r ≡ Some z → z.tight ≡ stays (bad_in_line F bases s n r) r.tight
   unfolding read_line_at read_line bad_in_line
   line_stays n r z e =
       let q : ℕ = base_of bases n in
@@ -295,20 +293,20 @@ module _ (F : Form) (bases s : List ℕ) where
       ∙ each_stays (pass_at F q s) (bad_in_pass F q s n) (before_line F bases n r) (λ (y : State). y.tight) (pass_stays q n) 6 b.0 b.1
 
   -- where all lines are read, all codes are tight exactly if there is no bad one
-  pub block_stays : (n : ℕ) (z : State) → read_lines F bases s n ≡ some z → z.tight ≡ stays (first_bad F bases s n) true
+  pub block_stays : (n : ℕ) (z : State) → read_lines F bases s n ≡ Some z → z.tight ≡ stays (first_bad F bases s n) true
   unfolding read_lines first_bad start_state
   block_stays n z e = each_stays (read_line_at F bases s) (bad_in_line F bases s) (start_state F bases) (λ (y : State). y.tight) line_stays n z e
 
-  pub no_bad : (n : ℕ) (z : State) → read_lines F bases s n ≡ some z → (z.tight ≡ true) ↔ (first_bad F bases s n ≡ none)
+  pub no_bad : (n : ℕ) (z : State) → read_lines F bases s n ≡ Some z → (z.tight ≡ true) ↔ (first_bad F bases s n ≡ None)
   no_bad n z e = (λ t. none_found (first_bad F bases s n) (sym (block_stays n z e) ∙ t), λ f. rw f at (block_stays n z e))
     where
-      none_found : (o : Option BadCode) → stays o true ≡ true → o ≡ none
-      none_found none k = refl
-      none_found (some b) k = absurd (false≢true k)
+      none_found : (o : Option BadCode) → stays o true ≡ true → o ≡ None
+      none_found None k = refl
+      none_found (Some b) k = absurd (false≢true k)
 
   -- ---- where it stands
 
-  module _ (n : ℕ) (r : State) (b : BadCode) (e : bad_in_line F bases s n r ≡ some b) where
+  module _ (n : ℕ) (r : State) (b : BadCode) (e : bad_in_line F bases s n r ≡ Some b) where
     in_pass : FoundIn (pass_at F (base_of bases n) s) (bad_in_pass F (base_of bases n) s n) (before_line F bases n r) 6 b
     unfolding bad_in_line
     in_pass = found_in (pass_at F (base_of bases n) s) (bad_in_pass F (base_of bases n) s n) (before_line F bases n r) 6 b e
@@ -326,11 +324,11 @@ module _ (F : Form) (bases s : List ℕ) where
         (each_stays (pass_at F (base_of bases n) s) (bad_in_pass F (base_of bases n) s n) (before_line F bases n r) (λ (y : State). y.tight) (pass_stays (base_of bases n) n)
         p.index p.state p.run)
 
-  in_line : (lines : ℕ) (b : BadCode) → first_bad F bases s lines ≡ some b → FoundIn (read_line_at F bases s) (bad_in_line F bases s) (start_state F bases) lines b
+  in_line : (lines : ℕ) (b : BadCode) → first_bad F bases s lines ≡ Some b → FoundIn (read_line_at F bases s) (bad_in_line F bases s) (start_state F bases) lines b
   unfolding first_bad
   in_line lines b e = found_in (read_line_at F bases s) (bad_in_line F bases s) (start_state F bases) lines b e
 
-  pub bad_in : (lines : ℕ) (b : BadCode) → first_bad F bases s lines ≡ some b → BadIn F bases s lines b.line b.pass b
+  pub bad_in : (lines : ℕ) (b : BadCode) → first_bad F bases s lines ≡ Some b → BadIn F bases s lines b.line b.pass b
   unfolding read_lines first_bad
   bad_in lines b e =
       let l = in_line lines b e in
@@ -351,20 +349,20 @@ module _ (F : Form) (bases s : List ℕ) where
 
   -- ---- how many lines are tight
 
-  lines_last : (n : ℕ) (z : State) → read_lines F bases s (suc n) ≡ some z → (y : State) × (read_lines F bases s n ≡ some y) × (read_line_at F bases s n y ≡ some z)
+  lines_last : (n : ℕ) (z : State) → read_lines F bases s (suc n) ≡ Some z → (y : State) × (read_lines F bases s n ≡ Some y) × (read_line_at F bases s n y ≡ Some z)
   unfolding read_lines
   lines_last n z e = runs_last (read_line_at F bases s) (start_state F bases) n z e
 
-  bad_more : (n : ℕ) (y : State) → read_lines F bases s n ≡ some y → first_bad F bases s (suc n) ≡ or_else (first_bad F bases s n) (bad_in_line F bases s n y)
+  bad_more : (n : ℕ) (y : State) → read_lines F bases s n ≡ Some y → first_bad F bases s (suc n) ≡ option_or (first_bad F bases s n) (bad_in_line F bases s n y)
   unfolding read_lines first_bad first_found and_then
   bad_more n y e = rw e
 
-  bad_none : first_bad F bases s 0 ≡ none
+  bad_none : first_bad F bases s 0 ≡ None
   unfolding first_bad first_found
   bad_none = refl
 
   -- the lines before that of the first bad code are tight, or all of them
-  pub tight_lines : (n : ℕ) (z : State) → read_lines F bases s n ≡ some z → tight_in (λ m. read_lines F bases s m) n ≡ line_or n (first_bad F bases s n)
+  pub tight_lines : (n : ℕ) (z : State) → read_lines F bases s n ≡ Some z → tight_in (λ m. read_lines F bases s m) n ≡ line_or n (first_bad F bases s n)
   unfolding tight_in
   tight_lines zero z e = rw bad_none
   tight_lines (suc n) z e =

@@ -1,7 +1,6 @@
 -- A block as lines, each of which goes by what `line` says of it. Assumes nothing.
 use mathlib.Core.Bool.{Bool, true, false, cond, not, ◌&&◌}
 use mathlib.Core.List.{List}
-use mathlib.Core.Option.{Option, none, some}
 use mathlib.Core.Path.{◌≡◌, refl, sym, ◌∙◌}
 use Prim.Native.Nat.{ℕ, zero, suc, ◌+◌, ◌*◌, ◌≤◌, ◌<◌}
 use native.Mathlib.Nat.{le_refl, zero-add}
@@ -28,13 +27,10 @@ use Rattle.read_block.specs.Records.{start_records, restarted_main, base_of, is_
 use Rattle.read_block.specs.Lent.{Buffers}
 use Rattle.read_block.specs.WindowedLines.{samples_in, Held, IsLinedIn, LineReadIn, ReadOn, CutOn, IsReadOn}
 use Rattle.read_block.specs.declared.Form.{Form}
-use Rattle.read_block.specs.declared.Lined.{Lined}
-use Rattle.read_block.specs.declared.Lined.TheVariants.{Read, Truncated}
-use Rattle.read_block.specs.declared.Walked.{Walked}
-use Rattle.read_block.specs.declared.Walked.TheVariants as Walk
 use Rattle.read_block.proofs.ResumeLaws.{from_top, from_none, from_more}
 use Rattle.read_block.proofs.KeepLaws.{lines_long}
 use Rattle.read_block.proofs.WindowTwins.{held_turn}
+use Rattle.std.specs.Prelude.{Err, None, Ok, Result, Some, Option}
 
 -- the quantisers of a line have its base
 pub base_known : (bits q : ℕ) (Q : Quantisers) → Q ≡ quantisers_of bits q → (Q.base ≡ q) × (Q ≡ quantisers_of bits Q.base)
@@ -43,24 +39,24 @@ base_known bits q Q e = rw e (refl, refl)
 
 -- ---- what a line answered
 
-clash : {X : Type 0} (at : Place) → Read at ≡ Truncated → X
+clash : {X : Type 0} (at : Place) → Some at ≡ None → X
 clash at e = let no : ◌≡◌ {A = ℕ} 0 1 = cc in absurd (omega arith)
 
 module _ (windowed xtrans : Bool) (W : ℕ) (tile : List ℕ) (a : Part) (n : ℕ) (before after : Buffers) where
-  lined_none : (o : Option State) (r : Lined) → IsLinedIn windowed xtrans W tile a n o before after r → r ≡ Truncated → o ≡ none
-  lined_none none r p e = refl
-  lined_none (some z) r p e = clash _ (sym p.0 ∙ e)
+  lined_none : (o : Option State) (r : Option Place) → IsLinedIn windowed xtrans W tile a n o before after r → r ≡ None → o ≡ None
+  lined_none None r p e = refl
+  lined_none (Some z) r p e = clash _ (sym p.0 ∙ e)
 
   -- the 18 lines l were read, for which the lines that are kept stand, and the image shows what it is to show of them
   abbrev Gave : Option State → Place → Type 0
   Gave o to =
-      (l : List ℕ) × (o ≡ some (state_at l after.records to)) × Held windowed W 6 l after.lines
+      (l : List ℕ) × (o ≡ Some (state_at l after.records to)) × Held windowed W 6 l after.lines
       × Changed (λ i. windowed && in_rows a (6 * n) (6 * n + 6) i) (emitted_sample xtrans W tile l a) before.image after.image
 
-  lined_some : (o : Option State) (r : Lined) (to : Place) → IsLinedIn windowed xtrans W tile a n o before after r → r ≡ Read to → Gave o to
-  lined_some none r to p e = clash to (sym e ∙ p)
-  lined_some (some z) r to p e =
-      let f : Read to ≡ Read (record { at = z.at; tight = z.tight; long = z.long }) = sym e ∙ p.0 in
+  lined_some : (o : Option State) (r : Option Place) (to : Place) → IsLinedIn windowed xtrans W tile a n o before after r → r ≡ Some to → Gave o to
+  lined_some None r to p e = clash to (sym e ∙ p)
+  lined_some (Some z) r to p e =
+      let f : Some to ≡ Some (record { at = z.at; tight = z.tight; long = z.long }) = sym e ∙ p.0 in
       let g : to ≡ record { at = z.at; tight = z.tight; long = z.long } = cc in
       (z.lines, rw (p.2, g), p.1, p.3)
 
@@ -69,7 +65,7 @@ module _ (windowed xtrans : Bool) (W : ℕ) (tile : List ℕ) (a : Part) (n : �
 -- n lines were read, and the lines that are kept, v, stand for the 18
 pub record LinesRead (windowed : Bool) (F : Form) (bases s : List ℕ) (first : ℕ) (z : State) (n : ℕ) (v : List ℕ) (records : List Record) (from : Place) : Type 0 where
   pub lines : List ℕ
-  pub read : read_from F bases s first z n ≡ some (state_at lines records from)
+  pub read : read_from F bases s first z n ≡ Some (state_at lines records from)
   pub held : Held windowed (width_of F.xtrans) 6 lines v
 
 pub none_read : (windowed : Bool) (F : Form) (bases s : List ℕ) (first : ℕ) (l v : List ℕ) (records : List Record) (from : Place)
@@ -93,7 +89,7 @@ module _ (windowed : Bool) (F : Form) (bases s tile : List ℕ) (a : Part) (firs
     (so_far : LinesRead windowed F bases s first z n v₀ rs₀ from) (depth : F.bits ≤ 16) (eq : q ≡ base_of bases (first + n))
     (eb : b ≡ is_restarted bases (first + n))
     (eQ : Q ≡ quantisers_of F.bits q) (er : rs₁ ≡ cond b (restarted_main F.bits q rs₀) rs₀) (W : ℕ) (eW : W ≡ width_of F.xtrans)
-    (before after : Buffers) (ev : before.lines ≡ cond (not windowed) (turned W v₀) v₀) (er₁ : before.records ≡ rs₁) (d : Lined)
+    (before after : Buffers) (ev : before.lines ≡ cond (not windowed) (turned W v₀) v₀) (er₁ : before.records ≡ rs₁) (d : Option Place)
     (answer : LineReadIn windowed F Q s from tile a (first + n) before after d) where
   abbrev U : ℕ
   U = width_of F.xtrans
@@ -115,32 +111,32 @@ module _ (windowed : Bool) (F : Form) (bases s tile : List ℕ) (a : Part) (firs
       let g : before_line F bases (first + n) (state_at so_far.lines rs₀ from) ≡ state_at l rs₁ from = rw (er, eb, eq) in
       from_more F bases s first n z _ so_far.read ∙ rw (g, ← eq, ← (base_known F.bits q Q eQ).0) e
 
-  pub line_more : (to : Place) → d ≡ Read to → Gave windowed F.xtrans U tile a (first + n) before after (read_from F bases s first z (n + 1)) to
+  pub line_more : (to : Place) → d ≡ Some to → Gave windowed F.xtrans U tile a (first + n) before after (read_from F bases s first z (n + 1)) to
   line_more to ok =
       let g = lined_some windowed F.xtrans U tile a (first + n) before after _ d to answered ok in
       (g.0, line_is _ g.1, g.2, g.3)
 
-  pub line_cut : d ≡ Truncated → read_from F bases s first z (n + 1) ≡ none
+  pub line_cut : d ≡ None → read_from F bases s first z (n + 1) ≡ None
   line_cut ok = line_is _ (lined_none windowed F.xtrans U tile a (first + n) before after _ d answered ok)
 
 -- the lines that have only tight codes
 module _ (read : ℕ → Option State) where
-  pub tight_none : (z : State) (t : Totals) → read 0 ≡ some z → t ≡ totals_in (some z) → record { lines = 0; totals = t } ≡ tight_of read 0
+  pub tight_none : (z : State) (t : Totals) → read 0 ≡ Some z → t ≡ totals_in (Some z) → record { lines = 0; totals = t } ≡ tight_of read 0
   unfolding tight_in
   tight_none z t e et = rw (e, et)
 
-  module _ (n : ℕ) (z : State) (has : read (n + 1) ≡ some z) where
-    next : read (suc n) ≡ some z
+  module _ (n : ℕ) (z : State) (has : read (n + 1) ≡ Some z) where
+    next : read (suc n) ≡ Some z
     next = rw add-one at has
 
     -- one line more joins them or not
     joins : (m : ℕ) (b : Bool)
-        → ◌≡◌ {A = TightLines} (cond b (record { lines = suc n; totals = totals_in (some z) }) (record { lines = m; totals = totals_in (read m) }))
+        → ◌≡◌ {A = TightLines} (cond b (record { lines = suc n; totals = totals_in (Some z) }) (record { lines = m; totals = totals_in (read m) }))
         (record { lines = cond b (suc n) m; totals = totals_in (read (cond b (suc n) m)) })
     joins m true = rw next
     joins m false = refl
 
-    pub tight_more : (before after : TightLines) (t : Totals) → before ≡ tight_of read n → t ≡ totals_in (some z) → after ≡ with_line before n z.tight t
+    pub tight_more : (before after : TightLines) (t : Totals) → before ≡ tight_of read n → t ≡ totals_in (Some z) → after ≡ with_line before n z.tight t
         → after ≡ tight_of read (n + 1)
     unfolding tight_in
     tight_more before after t eb et ea =
@@ -167,15 +163,15 @@ read_all windowed F bases s first z n more all tight after from e so_far ea et =
       records = refl;
     }
 
-pub cut_at : (F : Form) (bases s : List ℕ) (first : ℕ) (z : State) (more n : ℕ) (totals : Totals) (y : State) → n < more → read_from F bases s first z n ≡ some y
-    → totals ≡ totals_in (some y) → read_from F bases s first z (n + 1) ≡ none → CutOn F bases s first z more (first + n) totals
+pub cut_at : (F : Form) (bases s : List ℕ) (first : ℕ) (z : State) (more n : ℕ) (totals : Totals) (y : State) → n < more → read_from F bases s first z n ≡ Some y
+    → totals ≡ totals_in (Some y) → read_from F bases s first z (n + 1) ≡ None → CutOn F bases s first z more (first + n) totals
 cut_at F bases s first z more n totals y lt read et cut =
     record { count = n; before = y; inside = lt; line_is = refl; read = read; cut = rw add-one at cut; totals_are = et }
 
 -- from the top it is what a walk says
-pub walked_top : (windowed : Bool) (F : Form) (bases s : List ℕ) (z : State) (count : ℕ) (after : Buffers) (r : Walked) → z ≡ start_state F bases
+pub walked_top : (windowed : Bool) (F : Form) (bases s : List ℕ) (z : State) (count : ℕ) (after : Buffers) (r : Result (Totals × TightLines) (ℕ × Totals)) → z ≡ start_state F bases
     → IsReadOn windowed F bases s 0 z count after r → IsWalked F bases s count r
-walked_top windowed F bases s z count after (Walk.Read all tight) e p =
+walked_top windowed F bases s z count after (Ok (all, tight)) e p =
     let f : (n : ℕ) → read_from F bases s 0 z n ≡ read_lines F bases s n = λ n. rw e (from_top F bases s n) in
     let m : tight_in (λ n. read_from F bases s 0 z n) count ≡ tight_in (λ n. read_lines F bases s n) count = tight_alike _ _ f count in
     record {
@@ -184,7 +180,7 @@ walked_top windowed F bases s z count after (Walk.Read all tight) e p =
       all_is = p.all_is ∙ rw (← f count, p.read);
       tight_is = p.tight_is ∙ rw (m, f (tight_in (λ n. read_lines F bases s n) count));
     }
-walked_top windowed F bases s z count after (Walk.Truncated line before) e p =
+walked_top windowed F bases s z count after (Err (line, before)) e p =
     let f : (n : ℕ) → read_from F bases s 0 z n ≡ read_lines F bases s n = λ n. rw e (from_top F bases s n) in
     let g : line ≡ p.count = p.line_is ∙ zero-add p.count in
     rw g (record {

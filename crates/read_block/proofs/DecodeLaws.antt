@@ -2,7 +2,6 @@
 use borrow.Author.Tests.{ltb-true, ltb-false, lt-ltb, le-ltb, le-leb, leb-true, eqb-true, eqb-false, eq-eqb, ne_eqb}
 use mathlib.Core.Bool.{Bool, true, false, cond, ◌&&◌, and-true, and-false}
 use mathlib.Core.List.{List}
-use mathlib.Core.Option.{Option, none, some}
 use mathlib.Core.Path.{◌≡◌, refl, sym, ap, ◌∙◌}
 use Prim.Native.Nat.{ℕ, zero, suc, ◌+◌, ◌-◌, ◌*◌, ◌/◌, ◌%◌, ◌≤◌, ◌<◌, zero-le}
 use native.Mathlib.Nat.{add-zero, add-suc, le_refl}
@@ -28,18 +27,18 @@ use Rattle.read_block.specs.Sharing.{is_before}
 use Rattle.read_block.specs.WindowedImages.{is_reached, reached_sample}
 use Rattle.read_block.specs.WindowedLines.{reached_lines, ShownIn, PicturedIn}
 use Rattle.read_block.specs.declared.Form.{Form}
-use Rattle.read_block.specs.declared.Walked.{Walked}
-use Rattle.read_block.specs.declared.Walked.TheVariants as Walk
-use Rattle.read_block.specs.declared.Decoded.{Decoded}
-use Rattle.read_block.specs.declared.Decoded.TheVariants.{Done}
 use Rattle.read_block.proofs.RunLaws.{runs_stay}
 use Rattle.read_block.proofs.CountLaws.{all_counted, cut_counted}
+use Rattle.std.specs.Prelude.{Err, Ok, Result, None, Option, Some}
+use Rattle.line_totals.specs.declared.TightLines.{TightLines}
+use Rattle.line_totals.specs.declared.Totals.{Totals}
+use Rattle.stream.specs.declared.header.Refusal.{Refusal}
 
 -- ---- how many lines are read
 
 module _ (F : Form) (bases s : List ℕ) where
   -- after a truncated line no count of lines is read
-  pub stay_none : (t m : ℕ) → read_lines F bases s t ≡ none → read_lines F bases s (t + m) ≡ none
+  pub stay_none : (t m : ℕ) → read_lines F bases s t ≡ None → read_lines F bases s (t + m) ≡ None
   unfolding read_lines
   stay_none t m e = runs_stay (read_line_at F bases s) (start_state F bases) t m e
 
@@ -52,10 +51,10 @@ module _ (F : Form) (bases s : List ℕ) where
   one_more_read n = refl
 
   -- all are read
-  pub all_read : (n : ℕ) (z : State) → read_lines F bases s n ≡ some z → lines_read F bases s n ≡ n
+  pub all_read : (n : ℕ) (z : State) → read_lines F bases s n ≡ Some z → lines_read F bases s n ≡ n
   all_read n z e = all_counted (λ m. read_lines F bases s m) (λ m. lines_read F bases s m) read_none one_more_read stay_none n z e
 
-  start_read : read_lines F bases s 0 ≡ some (start_state F bases)
+  start_read : read_lines F bases s 0 ≡ Some (start_state F bases)
   unfolding read_lines runs
   start_read = refl
 
@@ -76,40 +75,40 @@ module _ (F : Form) (bases s : List ℕ) where
       go true h l = omega (arith, l)
       go false h l = h
 
-  pub was_read : (n : ℕ) → n ≤ lines_read F bases s n → (z : State) × (read_lines F bases s n ≡ some z)
+  pub was_read : (n : ℕ) → n ≤ lines_read F bases s n → (z : State) × (read_lines F bases s n ≡ Some z)
   unfolding lines_read
   was_read zero h = (start_state F bases, start_read)
   was_read (suc n) h = go (read_lines F bases s (suc n)) refl h
     where
       go : (o : Option State) → read_lines F bases s (suc n) ≡ o → suc n ≤ cond (is_read o) (suc n) (lines_read F bases s n)
-          → (z : State) × (read_lines F bases s (suc n) ≡ some z)
-      go none e k = absurd (omega (arith, read_at_most n))
-      go (some z) e k = (z, e)
+          → (z : State) × (read_lines F bases s (suc n) ≡ Some z)
+      go None e k = absurd (omega (arith, read_at_most n))
+      go (Some z) e k = (z, e)
 
   -- or those before line m
-  cut_lines : (m count : ℕ) (z : State) → suc m ≤ count → read_lines F bases s m ≡ some z → read_lines F bases s (suc m) ≡ none
+  cut_lines : (m count : ℕ) (z : State) → suc m ≤ count → read_lines F bases s m ≡ Some z → read_lines F bases s (suc m) ≡ None
       → m ≡ lines_read F bases s count
   cut_lines m count z l e cut = cut_counted (λ n. read_lines F bases s n) (λ n. lines_read F bases s n) read_none one_more_read stay_none m count z l e cut
 
 -- by what a walk answered
-pub walked_lines : (F : Form) (bases s : List ℕ) (count : ℕ) (w : Walked) → IsWalked F bases s count w
+pub walked_lines : (F : Form) (bases s : List ℕ) (count : ℕ) (w : Result (Totals × TightLines) (ℕ × Totals)) → IsWalked F bases s count w
     → shown_lines w count ≡ lines_read F bases s count
-walked_lines F bases s count (Walk.Read all tight) p = sym (all_read F bases s count p.end p.read)
-walked_lines F bases s count (Walk.Truncated line before) p = cut_lines F bases s line count p.before p.inside p.read p.cut
+walked_lines F bases s count (Ok (all, tight)) p = sym (all_read F bases s count p.end p.read)
+walked_lines F bases s count (Err (line, before)) p = cut_lines F bases s line count p.before p.inside p.read p.cut
 
 -- ---- the answer
 
-pub answer_none : (d : List ℕ) (h : FujiHeader) (r : Rect) (b : ℕ) → b ≡ first_block r → Done ≡ answer_of d h r (b - first_block r)
+pub answer_none : (d : List ℕ) (h : FujiHeader) (r : Rect) (b : ℕ) → b ≡ first_block r → (Ok tt) ≡ answer_of d h r (b - first_block r)
 unfolding answer_of
 answer_none d h r b e = let f : b - first_block r ≡ 0 = omega arith in rw f
 
 -- a walk that was not cut read all lines, and one that was cut read fewer
-pub judged_by : (F : Form) (bases s : List ℕ) (count b : ℕ) (w : Walked) → IsWalked F bases s count w → walked_answer b w ≡ block_answer F bases s b count
-judged_by F bases s count b (Walk.Read all tight) p =
+pub judged_by : (F : Form) (bases s : List ℕ) (count b : ℕ) (w : Result (Totals × TightLines) (ℕ × Totals)) → IsWalked F bases s count w → walked_answer b w ≡ block_answer F bases s b count
+judged_by F bases s count b (Ok (all, tight)) p =
     let e : lines_read F bases s count ≡ count = all_read F bases s count p.end p.read in
     rw (e, le-ltb count count (omega arith))
-judged_by F bases s count b (Walk.Truncated line before) p =
-    let e : line ≡ lines_read F bases s count = walked_lines F bases s count (Walk.Truncated line before) p in
+judged_by F bases s count b (Err (line, before)) p =
+    let e : line ≡ lines_read F bases s count = walked_lines F bases s count (Err (line, before)) p in
     rw (← e, lt-ltb line count p.inside)
 
 answer_step : (d : List ℕ) (h : FujiHeader) (r : Rect) (n b : ℕ) → b ≡ first_block r + n → answer_of d h r (suc n)
@@ -117,7 +116,7 @@ answer_step : (d : List ℕ) (h : FujiHeader) (r : Rect) (n b : ℕ) → b ≡ f
 unfolding answer_of
 answer_step d h r n b e = rw e
 
-pub answer_more : (d : List ℕ) (h : FujiHeader) (r : Rect) (b : ℕ) (w : Walked) (before after : Decoded) → first_block r ≤ b
+pub answer_more : (d : List ℕ) (h : FujiHeader) (r : Rect) (b : ℕ) (w : Result (Totals × TightLines) (ℕ × Totals)) (before after : Result Unit Refusal) → first_block r ≤ b
     → before ≡ answer_of d h r (b - first_block r) → IsWalked (form_of h) (bases_in d b) (bytes_in d b) (line_count r) w
     → after ≡ or_else before (walked_answer b w) → after ≡ answer_of d h r (b + 1 - first_block r)
 answer_more d h r b w before after l e p f =
@@ -285,17 +284,17 @@ pictured_kept false d h r tile b x y p = p.kept
 pictured_kept true d h r tile b x y p = p.kept
 
 -- the lines whose rows a walk has changed, in windows
-reached_lines_lem : (d : List ℕ) (h : FujiHeader) (r : Rect) (n i b : ℕ) (w : Walked) → Accepted h r n
+reached_lines_lem : (d : List ℕ) (h : FujiHeader) (r : Rect) (n i b : ℕ) (w : Result (Totals × TightLines) (ℕ × Totals)) → Accepted h r n
     → IsWalked (form_of h) (bases_in d b) (bytes_in d b) (line_count r) w
     → ltb i (r.width * r.height) && ltb (line_of r i) (reached_lines w (line_count r)) ≡ ltb i (r.width * r.height) && leb (line_of r i) (read_in d h r b)
-reached_lines_lem d h r n i b (Walk.Read all tight) ok p =
-    let e : read_in d h r b ≡ line_count r = sym (walked_lines (form_of h) (bases_in d b) (bytes_in d b) (line_count r) (Walk.Read all tight) p) in
+reached_lines_lem d h r n i b (Ok (all, tight)) ok p =
+    let e : read_in d h r b ≡ line_count r = sym (walked_lines (form_of h) (bases_in d b) (bytes_in d b) (line_count r) (Ok (all, tight)) p) in
     rw e (all_lines h r n i ok)
-reached_lines_lem d h r n i b (Walk.Truncated line before) ok p =
-    let e : read_in d h r b ≡ line = sym (walked_lines (form_of h) (bases_in d b) (bytes_in d b) (line_count r) (Walk.Truncated line before) p) in
+reached_lines_lem d h r n i b (Err (line, before)) ok p =
+    let e : read_in d h r b ≡ line = sym (walked_lines (form_of h) (bases_in d b) (bytes_in d b) (line_count r) (Err (line, before)) p) in
     rw e (ap (λ (t : Bool). ltb i (r.width * r.height) && t) (below_next (line_of r i) line))
 
-pub pictured_more : (windowed : Bool) (d : List ℕ) (h : FujiHeader) (r : Rect) (tile : List ℕ) (n b : ℕ) (a : Part) (w : Walked) (x y z : List ℕ)
+pub pictured_more : (windowed : Bool) (d : List ℕ) (h : FujiHeader) (r : Rect) (tile : List ℕ) (n b : ℕ) (a : Part) (w : Result (Totals × TightLines) (ℕ × Totals)) (x y z : List ℕ)
     → Accepted h r n → a ≡ part_in r b → IsWalked (form_of h) (bases_in d b) (bytes_in d b) (line_count r) w → PicturedIn windowed d h r tile b x y
     → ShownIn windowed (form_of h) (bases_in d b) (bytes_in d b) tile a w (line_count r) y z → PicturedIn windowed d h r tile (b + 1) x z
 unfolding is_decoded is_reached reached_sample

@@ -19,9 +19,8 @@ use Rattle.read_block.specs.Blocks.{State, start_state, read_from, lines_of}
 use Rattle.read_block.specs.Walks.{shown_sample, shown_from, ShownFrom, shown_lines}
 use Rattle.read_block.specs.WindowedLines.{Held, OnlyLine, reached_lines, ShownIn, ShownOn}
 use Rattle.read_block.specs.declared.Form.{Form}
-use Rattle.read_block.specs.declared.Walked.{Walked}
-use Rattle.read_block.specs.declared.Walked.TheVariants as Walk
 use Rattle.read_block.proofs.ResumeLaws.{from_top}
+use Rattle.std.specs.Prelude.{Err, Ok, Result}
 
 -- before the first line it is as it was
 pub shown_none : (F : Form) (bases s tile : List ℕ) (first : ℕ) (z : State) (a : Part) (image : List ℕ) → ShownFrom F bases s tile first z a 0 image image
@@ -79,14 +78,14 @@ module _ (F : Form) (bases s tile : List ℕ) (first : ℕ) (start : State) (a :
 
   -- after all lines
   pub shown_all : (windowed : Bool) (all : Totals) (tight : TightLines) (n more : ℕ) (x y : List ℕ) → n ≡ more
-      → ShownFrom F bases s tile first start a n x y → ShownOn windowed F bases s tile a first start (Walk.Read all tight) (first + more) x y
+      → ShownFrom F bases s tile first start a n x y → ShownOn windowed F bases s tile a first start (Ok (all, tight)) (first + more) x y
   shown_all false all tight n more x y e so_far = rw e at so_far
   shown_all true all tight n more x y e so_far = rw e at (lines_above n x y so_far)
 
   -- after a truncated line, which in windows has left some of its samples, and then is 0
   pub shown_cut : (windowed : Bool) (before : Totals) (n end : ℕ) (x y y' z : List ℕ) → ShownFrom F bases s tile first start a n x y
       → OnlyLine windowed a (first + n) y y' → LineZeroed windowed a (first + n) y' z
-      → ShownOn windowed F bases s tile a first start (Walk.Truncated (first + n) before) end x z
+      → ShownOn windowed F bases s tile a first start (Err ((first + n), before)) end x z
   shown_cut false before n end x y y' z so_far only zeroed =
       record { kept = zeroed.kept ∙ only.kept ∙ so_far.kept; entries = λ i. zeroed.entries i ∙ only.entries i ∙ so_far.entries i }
   shown_cut true before n end x y y' z so_far only zeroed =
@@ -109,7 +108,7 @@ shown_same F bases s tile z a i e =
     let f : picture_row a i / 6 - 0 ≡ picture_row a i / 6 = omega arith in
     rw (e, f, from_top F bases s (suc (picture_row a i / 6)))
 
-pub shown_top : (windowed : Bool) (F : Form) (bases s tile : List ℕ) (z : State) (a : Part) (r : Walked) (end count : ℕ) (x y : List ℕ)
+pub shown_top : (windowed : Bool) (F : Form) (bases s tile : List ℕ) (z : State) (a : Part) (r : Result (Totals × TightLines) (ℕ × Totals)) (end count : ℕ) (x y : List ℕ)
     → z ≡ start_state F bases → end ≡ count → ShownOn windowed F bases s tile a 0 z r end x y → ShownIn windowed F bases s tile a r count x y
 shown_top false F bases s tile z a r end count x y e g p =
     rw g at (put_same (shown_from F bases s tile 0 z a) (shown_sample F bases s tile a) a 0 (6 * shown_lines r end) x y (λ i h. shown_same F bases s tile z a i e) p)

@@ -12,13 +12,9 @@ use Rattle.image_map.specs.Places.{width_of}
 use Rattle.pass_steps.specs.Contexts.{Depth}
 use Rattle.stream.specs.Inside.{Ruled}
 use Rattle.stream.specs.declared.header.FujiHeader.{FujiHeader}
-use Rattle.stream.specs.declared.header.Parsed.{Parsed}
-use Rattle.stream.specs.declared.header.Parsed.TheVariants as Parsing
 use Rattle.stream.specs.declared.header.Refusal.{Refusal}
 use Rattle.image_region.specs.declared.Rect.{Rect}
 use Rattle.admission.specs.Beginnings.{samples_needed}
-use Rattle.admission.specs.declared.Beginning.{Beginning}
-use Rattle.admission.specs.declared.Beginning.TheVariants as Begin
 use Rattle.read_block.specs.Images.{form_of, Decoding, Left}
 use Rattle.read_block.specs.WindowedImages.{window_size, WindowedDecoding, LeftWindowed}
 use Rattle.read_block.specs.WindowedLines.{ScratchIn, zeros_in}
@@ -27,41 +23,40 @@ use Rattle.read_block.specs.Records.{clear_records}
 use Rattle.read_block.specs.Totals.{refused_by}
 use Rattle.read_block.specs.BlockReadings.{BlockReading, LeftBlock}
 use Rattle.read_block.specs.declared.Counted.{Counted}
-use Rattle.read_block.specs.declared.Decoded.{Decoded}
-use Rattle.read_block.specs.declared.Decoded.TheVariants.{Done, Refused}
 use Rattle.read_block.specs.declared.Form.{Form}
+use Rattle.std.specs.Prelude.{Err, None, Ok, Option, Result, Some}
 
 -- ---- by how a call begins
 
-module _ (d : List ℕ) (r : Rect) (tile : List ℕ) (before : Buffers) (begins : Beginning) where
-  pub left_refused : (x : Refusal) → begins ≡ Begin.Refused x → Left d r tile begins before before (Refused x)
+module _ (d : List ℕ) (r : Rect) (tile : List ℕ) (before : Buffers) (begins : Result (Option FujiHeader) Refusal) where
+  pub left_refused : (x : Refusal) → begins ≡ Err x → Left d r tile begins before before (Err x)
   left_refused x e = rw e (refl, refl)
 
-  pub left_nothing : begins ≡ Begin.Nothing → Left d r tile begins before before Done
+  pub left_nothing : begins ≡ (Ok None) → Left d r tile begins before before (Ok tt)
   left_nothing e = rw e (refl, refl)
 
-  pub left_reading : (h : FujiHeader) → begins ≡ Begin.Reading h → (after : Buffers) (a : Decoded) → Decoding d h r tile before after a
+  pub left_reading : (h : FujiHeader) → begins ≡ Ok (Some h) → (after : Buffers) (a : Result Unit Refusal) → Decoding d h r tile before after a
       → Left d r tile begins before after a
   left_reading h e after a l = rw e l
 
 -- in windows
-module _ (d : List ℕ) (r : Rect) (tile : List ℕ) (before : Buffers) (begins : Beginning) where
-  pub windowed_refused : (x : Refusal) → begins ≡ Begin.Refused x → LeftWindowed d r tile begins before before (Refused x)
+module _ (d : List ℕ) (r : Rect) (tile : List ℕ) (before : Buffers) (begins : Result (Option FujiHeader) Refusal) where
+  pub windowed_refused : (x : Refusal) → begins ≡ Err x → LeftWindowed d r tile begins before before (Err x)
   windowed_refused x e = rw e (refl, refl)
 
-  pub windowed_nothing : begins ≡ Begin.Nothing → LeftWindowed d r tile begins before before Done
+  pub windowed_nothing : begins ≡ (Ok None) → LeftWindowed d r tile begins before before (Ok tt)
   windowed_nothing e = rw e (refl, refl)
 
-  pub windowed_reading : (h : FujiHeader) → begins ≡ Begin.Reading h → (after : Buffers) (a : Decoded) → WindowedDecoding d h r tile before after a
+  pub windowed_reading : (h : FujiHeader) → begins ≡ Ok (Some h) → (after : Buffers) (a : Result Unit Refusal) → WindowedDecoding d h r tile before after a
       → LeftWindowed d r tile begins before after a
   windowed_reading h e after a l = rw e l
 
 -- reading one block
-module _ (expected : FujiHeader → Counted) (before : Scratch) (begins : Parsed) where
-  pub block_refused : (x : Refusal) → begins ≡ Parsing.Refused x → (a : Counted) → a ≡ refused_by x → LeftBlock begins expected before before a
+module _ (expected : FujiHeader → Counted) (before : Scratch) (begins : Result FujiHeader Refusal) where
+  pub block_refused : (x : Refusal) → begins ≡ Err x → (a : Counted) → a ≡ refused_by x → LeftBlock begins expected before before a
   block_refused x e a f = rw e (f, refl)
 
-  pub block_read : (h : FujiHeader) → begins ≡ Parsing.Header h → (after : Scratch) (a : Counted) → BlockReading h (expected h) before after a
+  pub block_read : (h : FujiHeader) → begins ≡ Ok h → (after : Scratch) (a : Counted) → BlockReading h (expected h) before after a
       → LeftBlock begins expected before after a
   block_read h e after a l = rw e l
 

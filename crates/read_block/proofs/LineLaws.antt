@@ -2,7 +2,6 @@
 use borrow.Author.Tests.{ltb-true, ltb-false, le-leb, lt-leb}
 use mathlib.Core.Bool.{Bool, true, false}
 use mathlib.Core.List.{List}
-use mathlib.Core.Option.{Option, none, some}
 use mathlib.Core.Path.{◌≡◌, refl, ◌∙◌}
 use Prim.Native.Nat.{ℕ, ◌+◌, ◌*◌, ◌%◌, ◌≤◌, ◌<◌}
 use native.Mathlib.Nat.{mul-le-mul_right}
@@ -36,10 +35,10 @@ use Rattle.read_block.specs.Records.{set_of, put_set}
 use Rattle.read_block.specs.declared.Form.{Form}
 use Rattle.read_block.specs.Lent.{Buffers}
 use Rattle.read_block.specs.WindowedLines.{samples_in, Held, OnlyLine, PassPlaced, IsLinedIn}
-use Rattle.read_block.specs.declared.Lined.TheVariants.{Read}
 use Rattle.read_block.proofs.WindowTwins.{Stepped, held_pass, Two, two_lines}
 use Rattle.read_block.proofs.PlacedLines.{Placed, placed_none, pass_shown, line_shown}
 use Rattle.read_block.proofs.RunLaws.{runs_none, runs_more, runs_fail}
+use Rattle.std.specs.Prelude.{Some, None, Option}
 
 -- ---- the plans, and the width
 
@@ -99,7 +98,7 @@ pub record SoFar (windowed : Bool) (F : Form) (q W : ℕ) (s tile : List ℕ) (a
     (image : List ℕ) : Type 0 where
   pub lines : List ℕ
   pub long : length lines ≡ 18 * (W + 2)
-  pub read : runs (pass_at F q s) i r₀ ≡ some (state_at lines rs from)
+  pub read : runs (pass_at F q s) i r₀ ≡ Some (state_at lines rs from)
   pub held : Held windowed W i lines v
   pub shown : windowed ≡ true → (j : ℕ) → in_rows a (6 * n) (6 * n + 6) j ≡ true → Placed i (colour_of tile a j)
       → get_or image j 0 ≡ emitted_sample F.xtrans W tile lines a j
@@ -114,8 +113,8 @@ module _ (windowed : Bool) (F : Form) (q : ℕ) (s tile : List ℕ) (a : Part) (
     (eW : W ≡ width_of F.xtrans) (depth : F.bits ≤ 16) (hi : i < 6) (eP : P ≡ plan_of F.xtrans i) (eQ : Q ≡ window_plan windowed P)
     (e₁ : v₁ ≡ entered windowed W Q.first Q.second v)
     (et : records_of t ≡ set_of P.set rs) (ev : length v ≡ samples_in windowed F.xtrans) (so_far : SoFar windowed F q W s tile a n i r₀ v rs from image)
-    (v' : List ℕ) (d : Passed)
-    (answer : IsPassed (read_pass F.bits q W s Q (begun v₁ t from)) v' d) where
+    (v' : List ℕ) (o : Option Passed)
+    (answer : IsPassed (read_pass F.bits q W s Q (begun v₁ t from)) v' o) where
   abbrev z : List ℕ
   z = so_far.lines
 
@@ -135,25 +134,25 @@ module _ (windowed : Bool) (F : Form) (q : ℕ) (s tile : List ℕ) (a : Part) (
   both : Alike (Stepped windowed W i P Q.first Q.second z) here (read_pass F.bits q W s Q (begun v₁ t from))
   both = both_at z so_far.long so_far.held
 
-  pass_is : (o : Option Reading) → here ≡ o → pass_at F q s i (state_at z rs from) ≡ leave P (state_at z rs from) o
+  pass_is : (p : Option Reading) → here ≡ p → pass_at F q s i (state_at z rs from) ≡ leave P (state_at z rs from) p
   unfolding pass_at
-  pass_is o e =
-      let g : read_pass F.bits q (width_of F.xtrans) s P (enter F P (state_at z rs from)) ≡ o = rw (← eW) e in
+  pass_is p e =
+      let g : read_pass F.bits q (width_of F.xtrans) s P (enter F P (state_at z rs from)) ≡ p = rw (← eW) e in
       rw (← eP, g)
 
-  pub pass_cut : d.ok ≡ false → read_line F q s r₀ ≡ none
+  pub pass_cut : o ≡ None → read_line F q s r₀ ≡ None
   unfolding read_line and_then
-  pass_cut ok = rw (runs_fail (pass_at F q s) r₀ 6 i _ so_far.read hi (pass_is none (alike_none _ here _ both (pass_was_cut_off _ v' d answer ok))))
+  pass_cut e = rw (runs_fail (pass_at F q s) r₀ 6 i _ so_far.read hi (pass_is None (alike_none _ here _ both (pass_was_cut_off _ v' o answer e))))
 
-  step_with : (y : Reading) → here ≡ some y → Stepped windowed W i P Q.first Q.second z y (begun v' d.set d.place) → (image' : List ℕ)
+  step_with : (d : Passed) (y : Reading) → here ≡ Some y → Stepped windowed W i P Q.first Q.second z y (begun v' d.set d.place) → (image' : List ℕ)
       → Fits a image
       → PassEmitted windowed F.xtrans W tile v' a n P.first Q.first P.second Q.second image image'
       → SoFar windowed F q W s tile a n (i + 1) r₀ v' (put_set P.set (records_of d.set) rs) d.place image'
-  step_with y e S image' fits put =
+  step_with d y e S image' fits put =
       record {
         lines = y.lines;
         long = S.length18 ∙ so_far.long;
-        read = runs_more (pass_at F q s) r₀ i _ so_far.read ∙ pass_is (some y) e ∙ rw (S.sets, S.ats, S.tights, S.longs);
+        read = runs_more (pass_at F q s) r₀ i _ so_far.read ∙ pass_is (Some y) e ∙ rw (S.sets, S.ats, S.tights, S.longs);
         held = S.held;
         shown =
             λ w j h p. pass_shown a image image' fits F.xtrans W eW tile n i P (rw eP (two_lines F.xtrans i hi)) Q.first Q.second z
@@ -161,23 +160,23 @@ module _ (windowed : Bool) (F : Form) (q : ℕ) (s tile : List ℕ) (a : Part) (
             S.second_line_lem (so_far.shown w) j h p;
       }
 
-  pub pass_more : d.ok ≡ true → (image' : List ℕ) → Fits a image → PassPlaced windowed F.xtrans W tile v' a n i image image'
+  pub pass_more : (d : Passed) → o ≡ Some d → (image' : List ℕ) → Fits a image → PassPlaced windowed F.xtrans W tile v' a n i image image'
       → SoFar windowed F q W s tile a n (i + 1) r₀ v' (put_set P.set (records_of d.set) rs) d.place image'
-  pass_more ok image' fits put =
-      let k = alike_some _ here _ _ both (pass_was_read _ v' d answer ok) in
-      step_with k.0 k.1 k.2 image' fits (rw (eQ, eP) put)
+  pass_more d e image' fits put =
+      let k = alike_some _ here _ _ both (pass_was_read _ v' o d answer e) in
+      step_with d k.0 k.1 k.2 image' fits (rw (eQ, eP) put)
 
 -- ---- the end of a line
 
-module _ (F : Form) (q : ℕ) (s : List ℕ) (i : ℕ) (r₀ r : State) (high : 6 ≤ i) (low : i ≤ 6) (all : runs (pass_at F q s) i r₀ ≡ some r) where
-  six : runs (pass_at F q s) 6 r₀ ≡ some r
+module _ (F : Form) (q : ℕ) (s : List ℕ) (i : ℕ) (r₀ r : State) (high : 6 ≤ i) (low : i ≤ 6) (all : runs (pass_at F q s) i r₀ ≡ Some r) where
+  six : runs (pass_at F q s) 6 r₀ ≡ Some r
   six = let e : i ≡ 6 = omega arith in rw e at all
 
-  pub line_past : ltb (8 * length s + 7) r.at.0 ≡ true → read_line F q s r₀ ≡ none
+  pub line_past : ltb (8 * length s + 7) r.at.0 ≡ true → read_line F q s r₀ ≡ None
   unfolding read_line and_then
   line_past h = rw (six, lt-leb r.at.0 (8 * length s + 7) (ltb-true _ _ h))
 
-  pub line_read : ltb (8 * length s + 7) r.at.0 ≡ false → read_line F q s r₀ ≡ some r
+  pub line_read : ltb (8 * length s + 7) r.at.0 ≡ false → read_line F q s r₀ ≡ Some r
   unfolding read_line and_then
   line_read h = rw (six, le-leb r.at.0 (8 * length s + 7) (ltb-false _ _ h))
 
@@ -187,11 +186,11 @@ module _ (windowed : Bool) (F : Form) (q W : ℕ) (s tile : List ℕ) (a : Part)
   at_six : SoFar windowed F q W s tile a n 6 r₀ v rs from image
   at_six = let e : i ≡ 6 = omega arith in rw e at S
 
-  pub ended_past : ltb (8 * length s + 7) from.at.0 ≡ true → read_line F q s r₀ ≡ none
+  pub ended_past : ltb (8 * length s + 7) from.at.0 ≡ true → read_line F q s r₀ ≡ None
   ended_past h = line_past F q s 6 r₀ (state_at at_six.lines rs from) (lit≤ tt) (lit≤ tt) at_six.read h
 
   pub ended_read : ltb (8 * length s + 7) from.at.0 ≡ false → (before : Buffers) → OnlyLine windowed a n before.image image → (U : ℕ) → W ≡ U
-      → IsLinedIn windowed F.xtrans U tile a n (read_line F q s r₀) before (record { image = image; lines = v; records = rs }) (Read from)
+      → IsLinedIn windowed F.xtrans U tile a n (read_line F q s r₀) before (record { image = image; lines = v; records = rs }) (Some from)
   ended_read h before only U e =
       rw (← e, line_read F q s 6 r₀ (state_at at_six.lines rs from) (lit≤ tt) (lit≤ tt) at_six.read h)
       (refl, at_six.held, refl, line_shown windowed F.xtrans W tile at_six.lines a n before.image image only at_six.shown)

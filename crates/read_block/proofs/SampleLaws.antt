@@ -1,6 +1,5 @@
 -- Samples stay within 0 to M, in every block. Assumes nothing.
 use mathlib.Core.List.{List, [], ◌∷◌, ◌++◌}
-use mathlib.Core.Option.{Option, none, some}
 use mathlib.Core.Path.{◌≡◌, refl}
 use Prim.Native.Nat.{ℕ, zero, suc, ◌+◌, ◌-◌, ◌*◌, ◌≤◌}
 use native.Mathlib.Omega.{arith}
@@ -18,6 +17,7 @@ use Rattle.pass_steps.proofs.ZipLaws.{set_keeps}
 use Rattle.read_block.specs.Blocks.{State, enter, leave, pass_at, start_state, read_lines}
 use Rattle.read_block.specs.declared.Form.{Form}
 use Rattle.read_block.proofs.KeepLaws.{lines_keep}
+use Rattle.std.specs.Prelude.{None, Option, Some}
 
 -- ---- lists of numbers that are at most m
 
@@ -74,7 +74,7 @@ Within F r = AllLe (largest F.bits) r.lines
 
 module _ (F : Form) (depth : F.bits ≤ 16) where
   -- a pass keeps them so
-  pass_within : (q : ℕ) (s : List ℕ) (i : ℕ) (r z : State) → Within F r → pass_at F q s i r ≡ some z → Within F z
+  pass_within : (q : ℕ) (s : List ℕ) (i : ℕ) (r z : State) → Within F r → pass_at F q s i r ≡ Some z → Within F z
   unfolding pass_at
   pass_within q s i r z h e =
       go (read_pass F.bits q W s P (enter F P r)) (λ y k. (pass_keeps F.bits q W s depth P (enter F P r) y k).samples entered) e
@@ -90,9 +90,9 @@ module _ (F : Form) (depth : F.bits ≤ 16) where
           let first : AllLe (largest F.bits) (guarded W P.first r.lines) = guarded_le (largest F.bits) W P.first r.lines h in
           guarded_le (largest F.bits) W P.second (guarded W P.first r.lines) first
 
-      go : (o : Option Reading) → ((y : Reading) → o ≡ some y → AllLe (largest F.bits) y.lines) → leave P r o ≡ some z → Within F z
-      go none k f = let no : ◌≡◌ {A = ℕ} 0 1 = cc in absurd (omega arith)
-      go (some y) k f = let same : y.lines ≡ z.lines = cc in rw same at (k y refl)
+      go : (o : Option Reading) → ((y : Reading) → o ≡ Some y → AllLe (largest F.bits) y.lines) → leave P r o ≡ Some z → Within F z
+      go None k f = let no : ◌≡◌ {A = ℕ} 0 1 = cc in absurd (omega arith)
+      go (Some y) k f = let same : y.lines ≡ z.lines = cc in rw same at (k y refl)
 
   -- and a block starts so
   start_within : (bases : List ℕ) → Within F (start_state F bases)
@@ -100,7 +100,7 @@ module _ (F : Form) (depth : F.bits ≤ 16) where
   start_within bases = zeros_le (largest F.bits) (18 * (width_of F.xtrans + 2))
 
 -- after any number of lines of any block, every sample of the colour lines, guards too, is at most M
-pub samples_in_range : (F : Form) (bases s : List ℕ) (n : ℕ) (z : State) → F.bits ≤ 16 → read_lines F bases s n ≡ some z
+pub samples_in_range : (F : Form) (bases s : List ℕ) (n : ℕ) (z : State) → F.bits ≤ 16 → read_lines F bases s n ≡ Some z
     → AllLe (largest F.bits) z.lines
 samples_in_range F bases s n z depth e =
     lines_keep F s (Within F) (λ q i r y h f. pass_within F depth q s i r y h f) bases

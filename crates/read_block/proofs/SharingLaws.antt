@@ -25,24 +25,24 @@ use Rattle.read_block.specs.Images.{form_of, bases_in, bytes_in, lines_read, rea
 use Rattle.read_block.specs.Inside.{walked_answer}
 use Rattle.read_block.specs.Sharing.{entry_lines, block_entries, stops_in, block_count, entries_after, blocks_before, is_out, out_line, shared_answer, last_entries, is_before}
 use Rattle.read_block.specs.Sharing.{is_shared, PicturedShared}
-use Rattle.read_block.specs.declared.Decoded.{Decoded}
-use Rattle.read_block.specs.declared.Decoded.TheVariants.{Refused}
 use Rattle.read_block.specs.declared.Form.{Form}
-use Rattle.read_block.specs.declared.Walked.{Walked}
-use Rattle.read_block.specs.declared.Walked.TheVariants as Walk
 use Rattle.read_block.proofs.DecodeLaws.{all_read, read_more, walked_lines, answer_more, pictured_more, pictured_stopped}
+use Rattle.std.specs.Prelude.{Err, Ok, Result}
+use Rattle.line_totals.specs.declared.TightLines.{TightLines}
+use Rattle.line_totals.specs.declared.Totals.{Totals}
+use Rattle.stream.specs.declared.header.Refusal.{Refusal}
 
 -- ---- a walk over the first e of `count` lines
 
 -- what it says of all of them
-pub record PartWalked (F : Form) (bases s : List ℕ) (e count : ℕ) (w : Walked) : Type 0 where
+pub record PartWalked (F : Form) (bases s : List ℕ) (e count : ℕ) (w : Result (Totals × TightLines) (ℕ × Totals)) : Type 0 where
   pub taking : taking_lines (shown_lines w e) e ≡ taking_lines (lines_read F bases s count) e
   pub stops : is_stopped (shown_lines w e) e count ≡ is_stopped (lines_read F bases s count) e count
   pub stopped : is_stopped (shown_lines w e) e count ≡ true → shown_lines w e ≡ e
   pub going : is_stopped (shown_lines w e) e count ≡ false → IsWalked F bases s count w × (shown_lines w e ≡ shown_lines w count)
 
-pub part_walked : (F : Form) (bases s : List ℕ) (e count : ℕ) (w : Walked) → e ≤ count → IsWalked F bases s e w → PartWalked F bases s e count w
-part_walked F bases s e count (Walk.Read all tight) low p =
+pub part_walked : (F : Form) (bases s : List ℕ) (e count : ℕ) (w : Result (Totals × TightLines) (ℕ × Totals)) → e ≤ count → IsWalked F bases s e w → PartWalked F bases s e count w
+part_walked F bases s e count (Ok (all, tight)) low p =
     let f : count ≡ e + (count - e) = omega arith in
     let m : e ≤ lines_read F bases s count = rw f (rw (all_read F bases s e p.end p.read) at (read_more F bases s e (count - e))) in
     record {
@@ -54,11 +54,11 @@ part_walked F bases s e count (Walk.Read all tight) low p =
           let g : e ≡ count = omega (arith, ltb-false e count u) in
           (rw g at p, g);
     }
-part_walked F bases s e count (Walk.Truncated line before) low p =
+part_walked F bases s e count (Err (line, before)) low p =
     let i = p.inside in
-    let all : IsWalked F bases s count (Walk.Truncated line before) =
+    let all : IsWalked F bases s count (Err (line, before)) =
     record { before = p.before; inside = omega (arith, i); read = p.read; cut = p.cut; totals_are = p.totals_are } in
-    let m : line ≡ lines_read F bases s count = walked_lines F bases s count (Walk.Truncated line before) all in
+    let m : line ≡ lines_read F bases s count = walked_lines F bases s count (Err (line, before)) all in
     record {
       taking = rw m;
       stops = rw m;
@@ -127,7 +127,7 @@ module _ (c : Camera) (d : List ℕ) (h : FujiHeader) (r : Rect) (l : List Entry
     unfolding out_line
     line_is = rw before
 
-    pub stopped_answer : Refused (NoEntry (first_block r + k) line) ≡ shared_answer c d h r l
+    pub stopped_answer : Err (NoEntry (first_block r + k) line) ≡ shared_answer c d h r l
     unfolding shared_answer
     stopped_answer = rw (out, line_is, before)
 
@@ -171,7 +171,7 @@ module _ (c : Camera) (d : List ℕ) (h : FujiHeader) (r : Rect) (l : List Entry
 
 module _ (c : Camera) (d : List ℕ) (h : FujiHeader) (r : Rect) (l : List Entry) (b : ℕ) (held held' : List Entry) (low : first_block r ≤ b)
     (is : held ≡ entries_after c d h r l (b - first_block r)) (going : Going c d h r l (b - first_block r)) (F : Form) (bases s : List ℕ)
-    (bits count found read : ℕ) (w : Walked) (ef : F ≡ form_of h) (eb : bases ≡ bases_in d b) (es : s ≡ bytes_in d b) (ec : count ≡ line_count r)
+    (bits count found read : ℕ) (w : Result (Totals × TightLines) (ℕ × Totals)) (ef : F ≡ form_of h) (eb : bases ≡ bases_in d b) (es : s ≡ bytes_in d b) (ec : count ≡ line_count r)
     (ei : bits ≡ h.bits) (found-is : found ≡ lines_with_entry c bits bases held count) (found-low : found ≤ count) (walked : IsWalked F bases s found w)
     (read_is : read ≡ shown_lines w found) (after : held' ≡ after_lines c bits bases held (taking_lines read found)) where
   part_of : PartWalked (form_of h) (bases_in d b) (bytes_in d b) found (line_count r) w
@@ -204,7 +204,7 @@ module _ (c : Camera) (d : List ℕ) (h : FujiHeader) (r : Rect) (l : List Entry
     all_of : IsWalked (form_of h) (bases_in d b) (bytes_in d b) (line_count r) w × (shown_lines w found ≡ shown_lines w (line_count r))
     all_of = part_of.going (rw (read_is, ec) at t)
 
-    pub next_answer : (x y : Decoded) → x ≡ answer_of d h r (b - first_block r) → y ≡ or_else x (walked_answer b w) → y ≡ answer_of d h r (b + 1 - first_block r)
+    pub next_answer : (x y : Result Unit Refusal) → x ≡ answer_of d h r (b - first_block r) → y ≡ or_else x (walked_answer b w) → y ≡ answer_of d h r (b + 1 - first_block r)
     next_answer x y e f = answer_more d h r b w x y low e all_of.0 f
 
     pub next_image : (tile : List ℕ) (n : ℕ) (a : Part) (x y z : List ℕ) → Accepted h r n → a ≡ part_in r b → Pictured d h r tile b x y
@@ -229,9 +229,9 @@ module _ (c : Camera) (d : List ℕ) (h : FujiHeader) (r : Rect) (l : List Entry
     line_there : found ≡ entry_lines c d h r (first_block r + k) (entries_after c d h r l k)
     line_there = rw (at_block, ← is) lines_are
 
-    pub out_answer : Refused (NoEntry b found) ≡ shared_answer c d h r l
+    pub out_answer : Err (NoEntry b found) ≡ shared_answer c d h r l
     out_answer =
-        ap (λ (n : ℕ). Refused (NoEntry n found)) (sym at_block) ∙ ap (λ (n : ℕ). Refused (NoEntry (first_block r + k) n)) line_there
+        ap (λ (n : ℕ). Err (NoEntry n found)) (sym at_block) ∙ ap (λ (n : ℕ). Err (NoEntry (first_block r + k) n)) line_there
         ∙ stopped_answer c d h r l k k_low going stop_there
 
     pub out_entries : held' ≡ last_entries c d h r l

@@ -1,7 +1,6 @@
 -- The answers of the readings of one block, by what a walk says. Assumes nothing.
 use mathlib.Core.Bool.{Bool, true, false, cond}
 use mathlib.Core.List.{List, []}
-use mathlib.Core.Option.{Option, none, some}
 use mathlib.Core.Path.{◌≡◌, refl, sym, ap, ◌∙◌}
 use Prim.Native.Nat.{ℕ, ◌≤◌, ◌<◌}
 use native.Mathlib.Omega.{arith}
@@ -17,57 +16,55 @@ use Rattle.read_block.specs.BadCodes.{BadCode, first_bad}
 use Rattle.read_block.specs.TightBlocks.{bits_read, read_answer, tight_answer}
 use Rattle.read_block.specs.Totals.{lines_counted, counted}
 use Rattle.read_block.specs.Inside.{walked_counted}
-use Rattle.read_block.specs.declared.Decoded.{Decoded}
-use Rattle.read_block.specs.declared.Decoded.TheVariants.{Done, Refused}
 use Rattle.read_block.specs.declared.Form.{Form}
-use Rattle.read_block.specs.declared.Walked.{Walked}
-use Rattle.read_block.specs.declared.Walked.TheVariants as Walk
 use Rattle.read_block.proofs.DecodeLaws.{walked_lines, judged_by}
 use Rattle.read_block.proofs.BadCodeLaws.{line_or, bad_in, tight_lines}
+use Rattle.std.specs.Prelude.{Err, Ok, Result, None, Option, Some}
+use Rattle.stream.specs.declared.header.Refusal.{Refusal}
 
 -- ---- the answer
 
 -- m lines from the first on are tight: those before the line of the first bad code, or all
-loose_by : (o : Option BadCode) (lines m : ℕ) (tail : Bool) → m ≡ line_or lines o → m < lines → Refused (NotTight m) ≡ read_answer o lines tail
-loose_by none lines m tail e h = absurd (omega arith)
-loose_by (some x) lines m tail e h = rw e
+loose_by : (o : Option BadCode) (lines m : ℕ) (tail : Bool) → m ≡ line_or lines o → m < lines → Err (NotTight m) ≡ read_answer o lines tail
+loose_by None lines m tail e h = absurd (omega arith)
+loose_by (Some x) lines m tail e h = rw e
 
-ends_by : (o : Option BadCode) (lines m : ℕ) (tail : Bool) → m ≡ line_or lines o → lines ≤ m → ((x : BadCode) → o ≡ some x → x.line < lines)
-    → cond tail Done (Refused (NotTight lines)) ≡ read_answer o lines tail
-ends_by none lines m tail e h low = refl
-ends_by (some x) lines m tail e h low = absurd (omega (arith, low x refl))
+ends_by : (o : Option BadCode) (lines m : ℕ) (tail : Bool) → m ≡ line_or lines o → lines ≤ m → ((x : BadCode) → o ≡ Some x → x.line < lines)
+    → cond tail (Ok tt) (Err (NotTight lines)) ≡ read_answer o lines tail
+ends_by None lines m tail e h low = refl
+ends_by (Some x) lines m tail e h low = absurd (omega (arith, low x refl))
 
 -- ---- with its totals
 
 -- an answer x and the totals of the lines that it counts
-told : (F : Form) (bases s : List ℕ) (count : ℕ) (x y : Decoded) (t : Totals) → x ≡ y → t ≡ totals_after F bases s (lines_counted x count)
+told : (F : Form) (bases s : List ℕ) (count : ℕ) (x y : Result Unit Refusal) (t : Totals) → x ≡ y → t ≡ totals_after F bases s (lines_counted x count)
     → record { answer = x; totals = t } ≡ counted F bases s count y
 told F bases s count x y t e f = rw (← e, f)
 
 -- the ordinary reading
-pub read_told : (F : Form) (bases s : List ℕ) (count b : ℕ) (w : Walked) → IsWalked F bases s count w
+pub read_told : (F : Form) (bases s : List ℕ) (count b : ℕ) (w : Result (Totals × TightLines) (ℕ × Totals)) → IsWalked F bases s count w
     → walked_counted b w ≡ counted F bases s count (block_answer F bases s b count)
-read_told F bases s count b (Walk.Read all tight) p =
-    told F bases s count Done (block_answer F bases s b count) all (judged_by F bases s count b (Walk.Read all tight) p) p.all_is
-read_told F bases s count b (Walk.Truncated line t) p =
-    told F bases s count (Refused (Truncated b line)) (block_answer F bases s b count) t (judged_by F bases s count b (Walk.Truncated line t) p) p.totals_are
+read_told F bases s count b (Ok (all, tight)) p =
+    told F bases s count (Ok tt) (block_answer F bases s b count) all (judged_by F bases s count b (Ok (all, tight)) p) p.all_is
+read_told F bases s count b (Err (line, t)) p =
+    told F bases s count (Err (Truncated b line)) (block_answer F bases s b count) t (judged_by F bases s count b (Err (line, t)) p) p.totals_are
 
 -- a line is truncated
-pub cut_off : (F : Form) (s : List ℕ) (b count line : ℕ) (t : Totals) (w : Walked) → IsWalked F [] s count w → w ≡ Walk.Truncated line t
-    → record { answer = Refused (Truncated b line); totals = t } ≡ counted F [] s count (tight_answer F b count s)
+pub cut_off : (F : Form) (s : List ℕ) (b count line : ℕ) (t : Totals) (w : Result (Totals × TightLines) (ℕ × Totals)) → IsWalked F [] s count w → w ≡ Err (line, t)
+    → record { answer = Err (Truncated b line); totals = t } ≡ counted F [] s count (tight_answer F b count s)
 unfolding tight_answer
 cut_off F s b count line t w p e =
     let c : CutAt F [] s count line t = rw e at p in
-    let l : line ≡ lines_read F [] s count = walked_lines F [] s count (Walk.Truncated line t) c in
-    told F [] s count (Refused (Truncated b line)) (tight_answer F b count s) t (rw (← l, lt-ltb line count c.inside)) c.totals_are
+    let l : line ≡ lines_read F [] s count = walked_lines F [] s count (Err (line, t)) c in
+    told F [] s count (Err (Truncated b line)) (tight_answer F b count s) t (rw (← l, lt-ltb line count c.inside)) c.totals_are
 
 -- all lines were read
-module _ (F : Form) (s : List ℕ) (b count : ℕ) (t : Totals) (tight : TightLines) (w : Walked) (p : IsWalked F [] s count w) (e : w ≡ Walk.Read t tight) where
+module _ (F : Form) (s : List ℕ) (b count : ℕ) (t : Totals) (tight : TightLines) (w : Result (Totals × TightLines) (ℕ × Totals)) (p : IsWalked F [] s count w) (e : w ≡ Ok (t, tight)) where
   all : ReadAll F [] s count t tight
   all = rw e at p
 
   complete : lines_read F [] s count ≡ count
-  complete = sym (walked_lines F [] s count (Walk.Read t tight) all)
+  complete = sym (walked_lines F [] s count (Ok (t, tight)) all)
 
   tight_count : tight.lines ≡ line_or count (first_bad F [] s count)
   tight_count = ap (λ (x : TightLines). x.lines) all.tight_is ∙ tight_lines F [] s count all.end all.read
@@ -76,24 +73,24 @@ module _ (F : Form) (s : List ℕ) (b count : ℕ) (t : Totals) (tight : TightLi
   tight_totals = rw all.tight_is refl
 
   pub loose : tight.lines < count
-      → record { answer = Refused (NotTight tight.lines); totals = tight.totals } ≡ counted F [] s count (tight_answer F b count s)
+      → record { answer = Err (NotTight tight.lines); totals = tight.totals } ≡ counted F [] s count (tight_answer F b count s)
   unfolding tight_answer
   loose h =
-      told F [] s count (Refused (NotTight tight.lines)) (tight_answer F b count s) tight.totals
+      told F [] s count (Err (NotTight tight.lines)) (tight_answer F b count s) tight.totals
       (rw (complete, le-ltb count count (omega arith)) (loose_by (first_bad F [] s count) count tight.lines _ tight_count h)) tight_totals
 
   last : is_tail s t.bits ≡ is_tail s (bits_read (read_lines F [] s count))
   last = rw (all.all_is, all.read)
 
-  ends : count ≤ tight.lines → (b' : Bool) → b' ≡ is_tail s t.bits → cond b' Done (Refused (NotTight count)) ≡ tight_answer F b count s
+  ends : count ≤ tight.lines → (b' : Bool) → b' ≡ is_tail s t.bits → cond b' (Ok tt) (Err (NotTight count)) ≡ tight_answer F b count s
   unfolding tight_answer
   ends h b' f =
       rw (complete, le-ltb count count (omega arith), ← last, f)
       (ends_by (first_bad F [] s count) count tight.lines (is_tail s t.bits) tight_count h (λ x g. (bad_in F [] s count x g).line_inside))
 
-  pub accepted : count ≤ tight.lines → true ≡ is_tail s t.bits → record { answer = Done; totals = t } ≡ counted F [] s count (tight_answer F b count s)
-  accepted h f = told F [] s count Done (tight_answer F b count s) t (ends h true f) all.all_is
+  pub accepted : count ≤ tight.lines → true ≡ is_tail s t.bits → record { answer = (Ok tt); totals = t } ≡ counted F [] s count (tight_answer F b count s)
+  accepted h f = told F [] s count (Ok tt) (tight_answer F b count s) t (ends h true f) all.all_is
 
   pub wrong_tail : count ≤ tight.lines → false ≡ is_tail s t.bits
-      → record { answer = Refused (NotTight count); totals = t } ≡ counted F [] s count (tight_answer F b count s)
-  wrong_tail h f = told F [] s count (Refused (NotTight count)) (tight_answer F b count s) t (ends h false f) all.all_is
+      → record { answer = Err (NotTight count); totals = t } ≡ counted F [] s count (tight_answer F b count s)
+  wrong_tail h f = told F [] s count (Err (NotTight count)) (tight_answer F b count s) t (ends h false f) all.all_is

@@ -2,7 +2,6 @@
 use mathlib.Core.Bool.{Bool, true, false, cond, not}
 use mathlib.Core.List.{List}
 use mathlib.Core.Logic.{◌≢◌}
-use mathlib.Core.Option.{Option}
 use mathlib.Core.Path.{◌≡◌, refl, sym, ◌∙◌}
 use Prim.Native.Nat.{ℕ, zero, suc, ◌+◌, ◌-◌, ◌*◌, ◌/◌, ◌%◌, ◌≤◌, ◌<◌}
 use native.Mathlib.Omega.{arith}
@@ -30,6 +29,7 @@ use Rattle.read_block.specs.Between.{lines_entered}
 use Rattle.read_block.specs.WindowedLines.{samples_in, zeros_in, Latest, Windows, Held}
 use Rattle.read_block.specs.declared.Form.{Form}
 use Rattle.read_block.proofs.WindowRooms.{at_above, at_line, line_two, apart_lines, length_l₁, l_stays, third_below, third_above, first_rows, second_rows}
+use Rattle.std.specs.Prelude.{Option}
 
 -- ---- after a pass
 

@@ -1,6 +1,5 @@
 -- Rules. Bad codes: the first code of a block that is not tight, in coding order. Why it is not is in Reasons of `bad_code`.
-use Rattle.std.specs.Prelude.{cond, List, [], ◌∷◌, ℕ, zero, suc, get_or}
-use Rattle.std.proofs.Math.Option.{Option, none, map, or_else}
+use Rattle.std.specs.Prelude.{cond, List, [], ◌∷◌, ℕ, zero, suc, get_or, None, Option, option_map}
 use Rattle.bits.specs.declared.BitPosition.{BitPosition}
 use Rattle.statistics.specs.Statistics.{k_of}
 use Rattle.quantiser.specs.Quantisers.{largest}
@@ -13,6 +12,7 @@ use Rattle.image_map.specs.Places.{width_of}
 use Rattle.read_block.specs.Records.{base_of}
 use Rattle.read_block.specs.Blocks.{State, runs, enter, pass_at, before_line, read_line_at, start_state}
 use Rattle.read_block.specs.declared.Form.{Form}
+use Rattle.std.specs.Option.{option_or}
 
 -- ---- the steps of a pass
 
@@ -21,7 +21,7 @@ unfoldable pub step_reason : ℕ → ℕ → ℕ → List ℕ → Step → Readi
 step_reason bits q W s x r =
     let k = k_of (get_or r.set (step_slot q W x r.lines) no_record) in
     let limit = (used_quantiser bits q (step_look q W x r.lines).choice).limit in
-    cond x.coded (coded_reason (largest bits) k limit (step_code bits q W s x r)) none
+    cond x.coded (coded_reason (largest bits) k limit (step_code bits q W s x r)) None
 
 -- a bad code: its line of six rows, its pass, 0 to 5, its step, which has the colour line and the position, its first bit, and the reason
 pub record BadCode : Type 0 where
@@ -36,16 +36,16 @@ bad_at n i x r reason = record { line = n; pass = i; step = x; at = r.at; reason
 
 -- the first bad code of a list of steps, in pass i of line n; none if they end, or one is cut off, before there is one
 unfoldable pub bad_in_steps : ℕ → ℕ → ℕ → ℕ → ℕ → List ℕ → List Step → Reading → Option BadCode
-bad_in_steps n i bits q W s [] r = none
+bad_in_steps n i bits q W s [] r = None
 bad_in_steps n i bits q W s (x ∷ l) r =
-    or_else (map (bad_at n i x r) (step_reason bits q W s x r)) (and_then (read_step bits q W s x r) (λ z. bad_in_steps n i bits q W s l z))
+    option_or (option_map (bad_at n i x r) (step_reason bits q W s x r)) (and_then (read_step bits q W s x r) (λ z. bad_in_steps n i bits q W s l z))
 
 -- ---- passes and lines
 
 -- what is found first where f 0, f 1, .. run one after the other, n of them, until one fails: g i looks through the run of f i
 unfoldable pub first_found : {A B : Type 0} → (ℕ → A → Option A) → (ℕ → A → Option B) → ℕ → A → Option B
-first_found f g zero r = none
-first_found f g (suc n) r = or_else (first_found f g n r) (and_then (runs f n r) (λ z. g n z))
+first_found f g zero r = None
+first_found f g (suc n) r = option_or (first_found f g n r) (and_then (runs f n r) (λ z. g n z))
 
 -- in pass i of line n, whose base is q
 unfoldable pub bad_in_pass : Form → ℕ → List ℕ → ℕ → ℕ → State → Option BadCode

@@ -1,8 +1,6 @@
 -- Promises. What a call that reads one block answers and leaves: the ordinary reading, and the tight one.
-use Rattle.std.specs.Prelude.{List, [], ◌≡◌, ℕ, length}
+use Rattle.std.specs.Prelude.{List, [], ◌≡◌, ℕ, length, Err, Ok, Result}
 use Rattle.stream.specs.declared.header.FujiHeader.{FujiHeader}
-use Rattle.stream.specs.declared.header.Parsed.{Parsed}
-use Rattle.stream.specs.declared.header.Parsed.TheVariants as Parsing
 use Rattle.admission.specs.Beginnings.{read_begins, tight_begins}
 use Rattle.read_block.specs.Images.{form_of, bytes_in, bases_in, block_answer}
 use Rattle.read_block.specs.Lent.{Scratch, cleared_lines, cleared_records}
@@ -10,6 +8,7 @@ use Rattle.read_block.specs.TightBlocks.{tight_answer}
 use Rattle.read_block.specs.Totals.{lines_counted, counted, refused_by, TotalsOf}
 use Rattle.read_block.specs.declared.Counted.{Counted}
 use Rattle.read_block.specs.declared.Form.{Form}
+use Rattle.stream.specs.declared.header.Refusal.{Refusal}
 
 -- ---- the answers for block b of a stream with this header
 
@@ -29,9 +28,9 @@ pub record BlockReading (h : FujiHeader) (expected : Counted) (before after : Sc
   pub records : after.records ≡ cleared_records before.records
 
 -- what a call leaves, by how it begins
-abbrev pub LeftBlock : Parsed → (FujiHeader → Counted) → (before after : Scratch) → Counted → Type 0
-LeftBlock (Parsing.Refused x) expected before after answer = (answer ≡ refused_by x) × (after ≡ before)
-LeftBlock (Parsing.Header h) expected before after answer = BlockReading h (expected h) before after answer
+abbrev pub LeftBlock : Result FujiHeader Refusal → (FujiHeader → Counted) → (before after : Scratch) → Counted → Type 0
+LeftBlock (Err x) expected before after answer = (answer ≡ refused_by x) × (after ≡ before)
+LeftBlock (Ok h) expected before after answer = BlockReading h (expected h) before after answer
 
 abbrev pub LeftRead : List ℕ → ℕ → (before after : Scratch) → Counted → Type 0
 LeftRead d b before after answer =

@@ -1,6 +1,5 @@
 -- Rules. Reading a block: six passes make a line, and lines make a block.
-use Rattle.std.specs.Prelude.{Bool, true, cond, List, [], ℕ, zero, suc, ◌+◌, ◌*◌, leb, length}
-use Rattle.std.proofs.Math.Option.{Option, none, some}
+use Rattle.std.specs.Prelude.{Bool, true, cond, List, [], ℕ, zero, suc, ◌+◌, ◌*◌, leb, length, None, Option, Some}
 use Rattle.bits.specs.declared.BitPosition.{BitPosition}
 use Rattle.statistics.specs.declared.Record.{Record}
 use Rattle.pass_schedule.specs.Steps.{plan_of}
@@ -24,7 +23,7 @@ pub record State : Type 0 where
 
 -- f 0, f 1, .. one after the other, n of them, until one fails
 unfoldable pub runs : {A : Type 0} → (ℕ → A → Option A) → ℕ → A → Option A
-runs f zero r = some r
+runs f zero r = Some r
 runs f (suc n) r = and_then (runs f n r) (λ z. f n z)
 
 -- ---- a line
@@ -42,8 +41,8 @@ enter F P r =
 
 -- and its set goes back
 abbrev pub leave : Plan → State → Option Reading → Option State
-leave P r none = none
-leave P r (some z) = some (record { lines = z.lines; records = put_set P.set z.set r.records; at = z.at; tight = z.tight; long = z.long })
+leave P r None = None
+leave P r (Some z) = Some (record { lines = z.lines; records = put_set P.set z.set r.records; at = z.at; tight = z.tight; long = z.long })
 
 -- pass i of a line with base q
 unfoldable pub pass_at : Form → ℕ → List ℕ → ℕ → State → Option State
@@ -53,7 +52,7 @@ pass_at F q s i r =
 
 -- at a line's end, over 8·length + 7 bits consumed is truncation
 abbrev pub end_line : List ℕ → State → Option State
-end_line s r = cond (leb r.at.0 (8 * length s + 7)) (some r) none
+end_line s r = cond (leb r.at.0 (8 * length s + 7)) (Some r) None
 
 -- six passes
 unfoldable pub read_line : Form → ℕ → List ℕ → State → Option State
@@ -97,15 +96,15 @@ read_from F bases s k z m = runs (λ i. read_line_at F bases s (k + i)) m z
 
 -- the colour lines after n lines: those of line n − 1
 abbrev pub lines_of : Option State → List ℕ
-lines_of none = []
-lines_of (some r) = r.lines
+lines_of None = []
+lines_of (Some r) = r.lines
 
 -- ---- what is counted
 
 -- the bits and the long codes of lines that were read; nothing where one of them is truncated
 abbrev pub totals_in : Option State → Totals
-totals_in none = no_totals
-totals_in (some r) = record { bits = r.at.0; long = r.long }
+totals_in None = no_totals
+totals_in (Some r) = record { bits = r.at.0; long = r.long }
 
 -- of the first n lines
 abbrev pub totals_after : Form → List ℕ → List ℕ → ℕ → Totals

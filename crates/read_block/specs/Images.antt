@@ -1,6 +1,5 @@
 -- Promises. Decoding a region of a stream: what is read of each block, the image, the answer and scratch.
-use Rattle.std.specs.Prelude.{Bool, true, false, cond, ◌&&◌, List, ◌≡◌, ℕ, zero, suc, ◌+◌, ◌-◌, ◌*◌, ◌/◌, ◌%◌, ltb, get_or}
-use Rattle.std.proofs.Math.Option.{Option, none, some}
+use Rattle.std.specs.Prelude.{Bool, true, false, cond, ◌&&◌, List, ◌≡◌, ℕ, zero, suc, ◌+◌, ◌-◌, ◌*◌, ◌/◌, ◌%◌, ltb, get_or, Err, None, Ok, Result, Some, Option}
 use Rattle.image_map.specs.Places.{width_of, sample_index, Changed}
 use Rattle.stream.specs.Streams.{range_of, row_of}
 use Rattle.stream.specs.Ranges.{part_of}
@@ -8,13 +7,10 @@ use Rattle.stream.specs.declared.header.FujiHeader.{FujiHeader}
 use Rattle.stream.specs.declared.header.Refusal.TheVariants.{Truncated}
 use Rattle.image_region.specs.Regions.{block_of, first_block, last_block, line_count}
 use Rattle.image_region.specs.declared.Rect.{Rect}
-use Rattle.admission.specs.declared.Beginning.{Beginning}
-use Rattle.admission.specs.declared.Beginning.TheVariants as Begin
 use Rattle.read_block.specs.Lent.{Buffers, cleared_lines, cleared_records}
 use Rattle.read_block.specs.Blocks.{State, read_lines, lines_of}
 use Rattle.read_block.specs.declared.Form.{Form}
-use Rattle.read_block.specs.declared.Decoded.{Decoded}
-use Rattle.read_block.specs.declared.Decoded.TheVariants.{Done, Refused}
+use Rattle.stream.specs.declared.header.Refusal.{Refusal}
 
 -- ---- what is read
 
@@ -29,8 +25,8 @@ abbrev pub bases_in : List ℕ → ℕ → List ℕ
 bases_in d b = part_of d (row_of d b)
 
 abbrev pub is_read : Option State → Bool
-is_read none = false
-is_read (some r) = true
+is_read None = false
+is_read (Some r) = true
 
 -- how many of a block's first n lines are read: those before the first truncated one
 unfoldable pub lines_read : Form → List ℕ → List ℕ → ℕ → ℕ
@@ -69,17 +65,17 @@ Pictured d h r tile e before after = Changed (is_decoded d h r e) (decoded_sampl
 -- ---- the answer
 
 -- the answer of some blocks, or else that of the next one
-abbrev pub or_else : Decoded → Decoded → Decoded
-or_else Done x = x
-or_else (Refused r) x = Refused r
+abbrev pub or_else : Result Unit Refusal → Result Unit Refusal → Result Unit Refusal
+or_else (Ok tt) x = x
+or_else (Err r) x = Err r
 
 -- what the first n lines of block b give, with the bytes s: refusal 14 with the first truncated line
-abbrev pub block_answer : Form → (bases s : List ℕ) → ℕ → ℕ → Decoded
-block_answer F bases s b n = cond (ltb (lines_read F bases s n) n) (Refused (Truncated b (lines_read F bases s n))) Done
+abbrev pub block_answer : Form → (bases s : List ℕ) → ℕ → ℕ → Result Unit Refusal
+block_answer F bases s b n = cond (ltb (lines_read F bases s n) n) (Err (Truncated b (lines_read F bases s n))) (Ok tt)
 
 -- refusal 14 of the lowest failing block among n, from the region's first on, with its line
-unfoldable pub answer_of : List ℕ → FujiHeader → Rect → ℕ → Decoded
-answer_of d h r zero = Done
+unfoldable pub answer_of : List ℕ → FujiHeader → Rect → ℕ → Result Unit Refusal
+answer_of d h r zero = Ok tt
 answer_of d h r (suc n) =
     let b = first_block r + n in
     or_else (answer_of d h r n) (block_answer (form_of h) (bases_in d b) (bytes_in d b) b (line_count r))
@@ -87,21 +83,21 @@ answer_of d h r (suc n) =
 -- ---- a call
 
 -- what a call leaves that reads a stream with this header
-pub record Decoding (d : List ℕ) (h : FujiHeader) (r : Rect) (tile : List ℕ) (before after : Buffers) (answer : Decoded) : Type 0 where
+pub record Decoding (d : List ℕ) (h : FujiHeader) (r : Rect) (tile : List ℕ) (before after : Buffers) (answer : Result Unit Refusal) : Type 0 where
   pub answered : answer ≡ answer_of d h r (last_block r + 1 - first_block r)
   pub pictured : Pictured d h r tile (last_block r + 1) before.image after.image
   pub lines : after.lines ≡ cleared_lines h.xtrans before.lines
   pub records : after.records ≡ cleared_records before.records
 
 -- what a call leaves, by how it begins
-abbrev pub Left : List ℕ → Rect → List ℕ → Beginning → (before after : Buffers) → Decoded → Type 0
-Left d r tile (Begin.Refused x) before after answer = (answer ≡ Refused x) × (after ≡ before)
-Left d r tile Begin.Nothing before after answer = (answer ≡ Done) × (after ≡ before)
-Left d r tile (Begin.Reading h) before after answer = Decoding d h r tile before after answer
+abbrev pub Left : List ℕ → Rect → List ℕ → Result (Option FujiHeader) Refusal → (before after : Buffers) → Result Unit Refusal → Type 0
+Left d r tile (Err x) before after answer = (answer ≡ Err x) × (after ≡ before)
+Left d r tile (Ok None) before after answer = (answer ≡ (Ok tt)) × (after ≡ before)
+Left d r tile (Ok (Some h)) before after answer = Decoding d h r tile before after answer
 
 -- the same without scratch, for a call that has its own
-abbrev pub LeftImage : List ℕ → Rect → List ℕ → Beginning → (image image' : List ℕ) → Decoded → Type 0
-LeftImage d r tile (Begin.Refused x) image image' answer = (answer ≡ Refused x) × (image' ≡ image)
-LeftImage d r tile Begin.Nothing image image' answer = (answer ≡ Done) × (image' ≡ image)
-LeftImage d r tile (Begin.Reading h) image image' answer =
+abbrev pub LeftImage : List ℕ → Rect → List ℕ → Result (Option FujiHeader) Refusal → (image image' : List ℕ) → Result Unit Refusal → Type 0
+LeftImage d r tile (Err x) image image' answer = (answer ≡ Err x) × (image' ≡ image)
+LeftImage d r tile (Ok None) image image' answer = (answer ≡ (Ok tt)) × (image' ≡ image)
+LeftImage d r tile (Ok (Some h)) image image' answer =
     (answer ≡ answer_of d h r (last_block r + 1 - first_block r)) × Pictured d h r tile (last_block r + 1) image image'

@@ -1,6 +1,5 @@
 -- Inside. What only our own functions say.
-use Rattle.std.specs.Prelude.{Bool, true, cond, ◌&&◌, List, ℕ, zero, suc, eqb, length, ◌≡◌}
-use Rattle.std.proofs.Math.Option.{Option, none, some}
+use Rattle.std.specs.Prelude.{Bool, true, cond, ◌&&◌, List, ℕ, zero, suc, eqb, length, ◌≡◌, Err, Ok, Result, None, Option, Some}
 use Rattle.statistics.specs.declared.Record.{Record}
 use Rattle.line_totals.specs.declared.TightLines.{TightLines}
 use Rattle.read_block.specs.declared.Form.{Form}
@@ -8,16 +7,13 @@ use Rattle.read_block.specs.Blocks.{State, read_lines, totals_in}
 use Rattle.admission.specs.Beginnings.{samples_needed, records_needed}
 use Rattle.read_block.specs.Lent.{Scratch, Outputs}
 use Rattle.read_block.specs.declared.Counted.{Counted}
-use Rattle.read_block.specs.declared.Walked.{Walked}
 use Rattle.stream.specs.declared.header.Refusal.TheVariants.{Truncated}
-use Rattle.read_block.specs.declared.Walked.TheVariants as Walk
-use Rattle.read_block.specs.declared.Decoded.{Decoded}
-use Rattle.read_block.specs.declared.Decoded.TheVariants.{Done, Refused}
 use Rattle.line_totals.specs.declared.Totals.{Totals}
+use Rattle.stream.specs.declared.header.Refusal.{Refusal}
 
 abbrev pub is_tight_state : Option State → Bool
-is_tight_state none = true
-is_tight_state (some r) = r.tight
+is_tight_state None = true
+is_tight_state (Some r) = r.tight
 
 -- how many lines, from the first on, have only tight codes, where `read` reads so many of them
 unfoldable pub tight_in : (ℕ → Option State) → ℕ → ℕ
@@ -41,14 +37,14 @@ abbrev pub ScratchOf : Bool → List ℕ → List Record → Type 0
 ScratchOf xtrans lines records = (length lines ≡ samples_needed xtrans) × (length records ≡ records_needed)
 
 -- what a walk over block b says
-abbrev pub walked_totals : Walked → Totals
-walked_totals (Walk.Read all tight) = all
-walked_totals (Walk.Truncated line before) = before
+abbrev pub walked_totals : Result (Totals × TightLines) (ℕ × Totals) → Totals
+walked_totals (Ok (all, tight)) = all
+walked_totals (Err (line, before)) = before
 
 -- what a walk over block b answers
-abbrev pub walked_answer : ℕ → Walked → Decoded
-walked_answer b (Walk.Read all tight) = Done
-walked_answer b (Walk.Truncated line before) = Refused (Truncated b line)
+abbrev pub walked_answer : ℕ → Result (Totals × TightLines) (ℕ × Totals) → Result Unit Refusal
+walked_answer b (Ok (all, tight)) = Ok tt
+walked_answer b (Err (line, before)) = Err (Truncated b line)
 
-abbrev pub walked_counted : ℕ → Walked → Counted
+abbrev pub walked_counted : ℕ → Result (Totals × TightLines) (ℕ × Totals) → Counted
 walked_counted b w = record { answer = walked_answer b w; totals = walked_totals w }

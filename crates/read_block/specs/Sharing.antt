@@ -1,6 +1,6 @@
 -- Promises. Decoding a region for one of two cameras: which lines take an entry, where refusal 23 comes, and what a call leaves. What is read, and what it
 -- shows, is that of `decode_region`. Assumes nothing.
-use Rattle.std.specs.Prelude.{Bool, true, false, cond, ◌&&◌, List, ◌≡◌, ℕ, zero, suc, ◌+◌, ◌-◌, ◌*◌, ltb, eqb}
+use Rattle.std.specs.Prelude.{Bool, true, false, cond, ◌&&◌, List, ◌≡◌, ℕ, zero, suc, ◌+◌, ◌-◌, ◌*◌, ltb, eqb, Err, None, Ok, Option, Result, Some}
 use Rattle.numbers.specs.Numbers.{least_from}
 use Rattle.image_map.specs.Places.{Changed}
 use Rattle.stream.specs.declared.header.FujiHeader.{FujiHeader}
@@ -10,12 +10,9 @@ use Rattle.image_region.specs.declared.Rect.{Rect}
 use Rattle.cameras.specs.Entries.{lines_with_entry, after_lines, taking_lines, is_stopped, handed_back, mended}
 use Rattle.cameras.specs.declared.Camera.{Camera}
 use Rattle.cameras.specs.declared.Entry.{Entry}
-use Rattle.admission.specs.declared.Beginning.{Beginning}
-use Rattle.admission.specs.declared.Beginning.TheVariants as Begin
 use Rattle.read_block.specs.Images.{bases_in, read_in, line_of, is_decoded, decoded_sample, answer_of}
 use Rattle.read_block.specs.Lent.{Buffers, cleared_lines, cleared_records}
-use Rattle.read_block.specs.declared.Decoded.{Decoded}
-use Rattle.read_block.specs.declared.Decoded.TheVariants.{Done, Refused}
+use Rattle.stream.specs.declared.header.Refusal.{Refusal}
 
 -- ---- block b, before which the entries are l
 
@@ -58,9 +55,9 @@ out_line c d h r l = entry_lines c d h r (out_block c d h r l) (entries_after c 
 -- ---- what a call leaves that reads a stream with this header
 
 -- 23, even if a line before it was truncated; or else what `decode_region` answers
-unfoldable pub shared_answer : Camera → List ℕ → FujiHeader → Rect → List Entry → Decoded
+unfoldable pub shared_answer : Camera → List ℕ → FujiHeader → Rect → List Entry → Result Unit Refusal
 shared_answer c d h r l =
-    cond (is_out c d h r l) (Refused (NoEntry (out_block c d h r l) (out_line c d h r l))) (answer_of d h r (block_count r))
+    cond (is_out c d h r l) (Err (NoEntry (out_block c d h r l) (out_line c d h r l))) (answer_of d h r (block_count r))
 
 -- the entries after its last line
 unfoldable pub last_entries : Camera → List ℕ → FujiHeader → Rect → List Entry → List Entry
@@ -81,7 +78,7 @@ abbrev pub PicturedShared : Camera → List ℕ → FujiHeader → Rect → List
 PicturedShared c d h r tile l before after = Changed (is_shared c d h r l) (decoded_sample d h r tile) before after
 
 pub record SharedDecoding (c : Camera) (d : List ℕ) (h : FujiHeader) (r : Rect) (tile : List ℕ) (l : List Entry)
-    (before after : Buffers) (answer : Decoded) : Type 0 where
+    (before after : Buffers) (answer : Result Unit Refusal) : Type 0 where
   pub answered : answer ≡ shared_answer c d h r l
   pub pictured : PicturedShared c d h r tile l before.image after.image
   pub lines : after.lines ≡ cleared_lines h.xtrans before.lines
@@ -89,21 +86,21 @@ pub record SharedDecoding (c : Camera) (d : List ℕ) (h : FujiHeader) (r : Rect
 
 -- ---- a call, which mends the entries l that it is given, and hands back l'
 
-abbrev pub is_refused : Decoded → Bool
-is_refused Done = false
-is_refused (Refused x) = true
+abbrev pub is_refused : Result Unit Refusal → Bool
+is_refused (Ok tt) = false
+is_refused (Err x) = true
 
 -- by how it begins, the entries before they are handed back, and what else it leaves
-abbrev pub call_entries : Camera → List ℕ → Rect → Beginning → List Entry → List Entry
-call_entries c d r (Begin.Refused x) l = mended l
-call_entries c d r Begin.Nothing l = mended l
-call_entries c d r (Begin.Reading h) l = last_entries c d h r (mended l)
+abbrev pub call_entries : Camera → List ℕ → Rect → Result (Option FujiHeader) Refusal → List Entry → List Entry
+call_entries c d r (Err x) l = mended l
+call_entries c d r (Ok None) l = mended l
+call_entries c d r (Ok (Some h)) l = last_entries c d h r (mended l)
 
-abbrev pub LeftBuffers : Camera → List ℕ → Rect → List ℕ → Beginning → List Entry → (before after : Buffers) → Decoded → Type 0
-LeftBuffers c d r tile (Begin.Refused x) l before after answer = (answer ≡ Refused x) × (after ≡ before)
-LeftBuffers c d r tile Begin.Nothing l before after answer = (answer ≡ Done) × (after ≡ before)
-LeftBuffers c d r tile (Begin.Reading h) l before after answer = SharedDecoding c d h r tile (mended l) before after answer
+abbrev pub LeftBuffers : Camera → List ℕ → Rect → List ℕ → Result (Option FujiHeader) Refusal → List Entry → (before after : Buffers) → Result Unit Refusal → Type 0
+LeftBuffers c d r tile (Err x) l before after answer = (answer ≡ Err x) × (after ≡ before)
+LeftBuffers c d r tile (Ok None) l before after answer = (answer ≡ (Ok tt)) × (after ≡ before)
+LeftBuffers c d r tile (Ok (Some h)) l before after answer = SharedDecoding c d h r tile (mended l) before after answer
 
-abbrev pub LeftShared : Camera → List ℕ → Rect → List ℕ → Beginning → (l : List Entry) → (before after : Buffers) → Decoded → (l' : List Entry) → Type 0
+abbrev pub LeftShared : Camera → List ℕ → Rect → List ℕ → Result (Option FujiHeader) Refusal → (l : List Entry) → (before after : Buffers) → Result Unit Refusal → (l' : List Entry) → Type 0
 LeftShared c d r tile begins l before after answer l' =
     LeftBuffers c d r tile begins l before after answer × (l' ≡ handed_back c (is_refused answer) (call_entries c d r begins l))

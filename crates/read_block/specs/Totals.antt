@@ -1,10 +1,7 @@
 -- Promises. The totals of a block, its bits and its long codes: as a call answers them, and counted from its codes.
-use Rattle.std.specs.Prelude.{cond, List, [], ◌∷◌, ◌++◌, ◌≡◌, ℕ, zero, suc, ◌+◌, leb}
-use Rattle.std.proofs.Math.Option.{Option, none, some}
+use Rattle.std.specs.Prelude.{cond, List, [], ◌∷◌, ◌++◌, ◌≡◌, ℕ, zero, suc, ◌+◌, leb, Err, None, Ok, Result, Some, Option}
 use Rattle.numbers.specs.Numbers.{flag}
 use Rattle.code.specs.declared.Code.{Code}
-use Rattle.code.specs.declared.Coded.{Coded}
-use Rattle.code.specs.declared.Coded.TheVariants as Coding
 use Rattle.pass_schedule.specs.Steps.{Step, plan_of, pass_steps}
 use Rattle.pass_steps.specs.Contexts.{used_quantiser, step_look}
 use Rattle.read_pass.specs.Readings.{Reading, read_step, step_code}
@@ -16,24 +13,22 @@ use Rattle.stream.specs.declared.header.Refusal.{Refusal}
 use Rattle.read_block.specs.Records.{base_of}
 use Rattle.read_block.specs.Blocks.{State, runs, enter, pass_at, before_line, read_line_at, start_state, read_lines, totals_after}
 use Rattle.read_block.specs.declared.Counted.{Counted}
-use Rattle.read_block.specs.declared.Decoded.{Decoded}
-use Rattle.read_block.specs.declared.Decoded.TheVariants.{Done, Refused}
 use Rattle.read_block.specs.declared.Form.{Form}
 
 -- ---- the answer for one block
 
 -- the lines that are counted: all of an accepted block, and those before the line that a refusal names, which are none if it names none
-abbrev pub lines_counted : Decoded → ℕ → ℕ
-lines_counted Done lines = lines
-lines_counted (Refused x) lines = or_zero (meaning_of x).line
+abbrev pub lines_counted : Result Unit Refusal → ℕ → ℕ
+lines_counted (Ok tt) lines = lines
+lines_counted (Err x) lines = or_zero (meaning_of x).line
 
 -- an answer for the block of so many lines with the bytes s, and its totals
-abbrev pub counted : Form → (bases s : List ℕ) → ℕ → Decoded → Counted
+abbrev pub counted : Form → (bases s : List ℕ) → ℕ → Result Unit Refusal → Counted
 counted F bases s lines answer = record { answer = answer; totals = totals_after F bases s (lines_counted answer lines) }
 
 -- a call that is refused before it reads
 abbrev pub refused_by : Refusal → Counted
-refused_by x = record { answer = Refused x; totals = no_totals }
+refused_by x = record { answer = Err x; totals = no_totals }
 
 -- ---- the codes of a block
 
@@ -49,9 +44,9 @@ long_codes x = flag (leb x.limit x.code.zeros)
 abbrev pub used_bits : LimitedCode → ℕ
 used_bits x = x.code.used
 
-abbrev pub codes_of : ℕ → Coded → List LimitedCode
-codes_of limit (Coding.Read c) = record { code = c; limit = limit } ∷ []
-codes_of limit Coding.Truncated = []
+abbrev pub codes_of : ℕ → Option Code → List LimitedCode
+codes_of limit (Some c) = record { code = c; limit = limit } ∷ []
+codes_of limit None = []
 
 -- the code of a step, if it has one
 abbrev pub step_codes : ℕ → ℕ → ℕ → List ℕ → Step → Reading → List LimitedCode
@@ -60,8 +55,8 @@ step_codes bits q W s x r =
     cond x.coded (codes_of limit (step_code bits q W s x r)) []
 
 unfoldable pub gather_from : {A B : Type 0} → Option A → (A → List B) → List B
-gather_from none f = []
-gather_from (some z) f = f z
+gather_from None f = []
+gather_from (Some z) f = f z
 
 -- the codes of a list of steps, in their order
 unfoldable pub codes_in_steps : ℕ → ℕ → ℕ → List ℕ → List Step → Reading → List LimitedCode
@@ -95,7 +90,7 @@ sum_of f (x ∷ l) = f x + sum_of f l
 -- those of their codes whose zeros are not below the limit
 pub record TotalsOf (F : Form) (bases s : List ℕ) (n : ℕ) (t : Totals) : Type 0 where
   pub end : State
-  pub read : read_lines F bases s n ≡ some end
+  pub read : read_lines F bases s n ≡ Some end
   pub position : t.bits ≡ end.at.0
   pub bits : t.bits ≡ sum_of used_bits (block_codes F bases s n)
   pub long : t.long ≡ sum_of long_codes (block_codes F bases s n)

@@ -1,6 +1,5 @@
 -- Inside. What the functions that walk over a block say. No definition of the format and no entry's contract rests on these.
-use Rattle.std.specs.Prelude.{true, List, ◌≡◌, ℕ, suc, ◌+◌, ◌-◌, ◌*◌, ◌/◌, ◌≤◌, ◌<◌, get_or}
-use Rattle.std.proofs.Math.Option.{none, some}
+use Rattle.std.specs.Prelude.{true, List, ◌≡◌, ℕ, suc, ◌+◌, ◌-◌, ◌*◌, ◌/◌, ◌≤◌, ◌<◌, get_or, Err, Ok, Result, None, Some}
 use Rattle.statistics.specs.Inside.{InRange}
 use Rattle.statistics.specs.declared.Record.{Record}
 use Rattle.code.specs.declared.Place.{Place}
@@ -13,8 +12,6 @@ use Rattle.image_map.specs.declared.Part.{Part}
 use Rattle.read_block.specs.Blocks.{State, read_lines, read_from, lines_of, totals_after}
 use Rattle.read_block.specs.Inside.{tight_before}
 use Rattle.read_block.specs.declared.Form.{Form}
-use Rattle.read_block.specs.declared.Walked.{Walked}
-use Rattle.read_block.specs.declared.Walked.TheVariants as Walk
 
 -- ---- the image
 
@@ -43,9 +40,9 @@ abbrev pub AllInRange : List Record → Type 0
 AllInRange l = (j : ℕ) → j < 336 → InRange (get_or l j no_record)
 
 -- the lines that go to the image: all of them, or those before the truncated one
-abbrev pub shown_lines : Walked → ℕ → ℕ
-shown_lines (Walk.Read all tight) count = count
-shown_lines (Walk.Truncated line before) count = line
+abbrev pub shown_lines : Result (Totals × TightLines) (ℕ × Totals) → ℕ → ℕ
+shown_lines (Ok (all, tight)) count = count
+shown_lines (Err (line, before)) count = line
 
 -- where a block starts, the state at a place, and what was counted up to it
 abbrev pub start_place : Place
@@ -60,7 +57,7 @@ totals_at from = record { bits = from.at.0; long = from.long }
 -- what a walk over the first `count` lines of a block says: all were read, with these totals, and so many had only tight codes
 pub record ReadAll (F : Form) (bases s : List ℕ) (count : ℕ) (all : Totals) (tight : TightLines) : Type 0 where
   pub end : State
-  pub read : read_lines F bases s count ≡ some end
+  pub read : read_lines F bases s count ≡ Some end
   pub all_is : all ≡ totals_after F bases s count
   pub tight_is : tight ≡ tight_before F bases s count
 
@@ -68,10 +65,10 @@ pub record ReadAll (F : Form) (bases s : List ℕ) (count : ℕ) (all : Totals) 
 pub record CutAt (F : Form) (bases s : List ℕ) (count line : ℕ) (totals : Totals) : Type 0 where
   pub before : State
   pub inside : suc line ≤ count
-  pub read : read_lines F bases s line ≡ some before
-  pub cut : read_lines F bases s (suc line) ≡ none
+  pub read : read_lines F bases s line ≡ Some before
+  pub cut : read_lines F bases s (suc line) ≡ None
   pub totals_are : totals ≡ totals_after F bases s line
 
-abbrev pub IsWalked : Form → List ℕ → List ℕ → ℕ → Walked → Type 0
-IsWalked F bases s count (Walk.Read all tight) = ReadAll F bases s count all tight
-IsWalked F bases s count (Walk.Truncated line before) = CutAt F bases s count line before
+abbrev pub IsWalked : Form → List ℕ → List ℕ → ℕ → Result (Totals × TightLines) (ℕ × Totals) → Type 0
+IsWalked F bases s count (Ok (all, tight)) = ReadAll F bases s count all tight
+IsWalked F bases s count (Err (line, before)) = CutAt F bases s count line before

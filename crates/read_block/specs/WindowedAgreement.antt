@@ -1,9 +1,8 @@
 -- Promises. On the same call `decode_region` and `decode_region_windowed` answer the same, and have the same samples wherever a line was accepted and
 -- wherever none was reached. Scratch may be another; what is asked of it is that neither call is refused by 10. Assumes nothing.
-use Rattle.std.specs.Prelude.{true, false, List, ◌≡◌, ℕ, ◌+◌, length, get_or}
+use Rattle.std.specs.Prelude.{true, false, List, ◌≡◌, ℕ, ◌+◌, length, get_or, Err, Ok, Result}
 use Rattle.stream.specs.Streams.{open_of}
 use Rattle.stream.specs.declared.header.FujiHeader.{FujiHeader}
-use Rattle.stream.specs.declared.header.Parsed.TheVariants.{Header}
 use Rattle.stream.specs.declared.header.Refusal.TheVariants.{ShortScratch}
 use Rattle.image_region.specs.Regions.{last_block}
 use Rattle.image_region.specs.declared.Rect.{Rect}
@@ -11,8 +10,7 @@ use Rattle.admission.specs.Beginnings.{region_begins, windowed_begins}
 use Rattle.read_block.specs.Images.{is_decoded, Left}
 use Rattle.read_block.specs.Lent.{Buffers}
 use Rattle.read_block.specs.WindowedImages.{is_reached, LeftWindowed}
-use Rattle.read_block.specs.declared.Decoded.{Decoded}
-use Rattle.read_block.specs.declared.Decoded.TheVariants.{Refused}
+use Rattle.stream.specs.declared.header.Refusal.{Refusal}
 
 -- all but the rows of truncated lines
 pub record SameSamples (d : List ℕ) (h : FujiHeader) (r : Rect) (image windowed : List ℕ) : Type 0 where
@@ -21,8 +19,8 @@ pub record SameSamples (d : List ℕ) (h : FujiHeader) (r : Rect) (image windowe
 
 abbrev pub EntriesAgree : Type 0
 EntriesAgree =
-    (d : List ℕ) (r : Rect) (tile : List ℕ) (before after before' after' : Buffers) (answer answer' : Decoded) → before'.image ≡ before.image
+    (d : List ℕ) (r : Rect) (tile : List ℕ) (before after before' after' : Buffers) (answer answer' : Result Unit Refusal) → before'.image ≡ before.image
     → Left d r tile (region_begins d r (length before.image) (length before.lines) (length before.records)) before after answer
     → LeftWindowed d r tile (windowed_begins d r (length before'.image) (length before'.lines) (length before'.records)) before' after' answer'
-    → (answer ≡ Refused ShortScratch → ⊥) → (answer' ≡ Refused ShortScratch → ⊥)
-    → (answer' ≡ answer) × ((h : FujiHeader) → open_of d ≡ Header h → SameSamples d h r after.image after'.image)
+    → (answer ≡ Err ShortScratch → ⊥) → (answer' ≡ Err ShortScratch → ⊥)
+    → (answer' ≡ answer) × ((h : FujiHeader) → open_of d ≡ Ok h → SameSamples d h r after.image after'.image)

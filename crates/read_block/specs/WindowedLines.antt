@@ -1,7 +1,6 @@
 -- Inside. What the functions that read a block say where of each colour only the last three lines are kept. No public contract rests on these. Assumes
 -- nothing.
-use Rattle.std.specs.Prelude.{Bool, true, false, cond, ◌&&◌, List, ◌≡◌, ℕ, suc, ◌+◌, ◌-◌, ◌*◌, ◌/◌, ◌≤◌, ◌<◌, ltb, length, get_or, replicate}
-use Rattle.std.proofs.Math.Option.{Option, none, some}
+use Rattle.std.specs.Prelude.{Bool, true, false, cond, ◌&&◌, List, ◌≡◌, ℕ, suc, ◌+◌, ◌-◌, ◌*◌, ◌/◌, ◌≤◌, ◌<◌, ltb, length, get_or, replicate, Err, None, Ok, Result, Some, Option}
 use Rattle.code.specs.declared.Place.{Place}
 use Rattle.statistics.specs.declared.Record.{Record}
 use Rattle.line_totals.specs.declared.Totals.{Totals}
@@ -23,10 +22,6 @@ use Rattle.read_block.specs.Images.{Pictured}
 use Rattle.read_block.specs.Lent.{Buffers}
 use Rattle.read_block.specs.WindowedImages.{window_size, PicturedWindowed}
 use Rattle.read_block.specs.declared.Form.{Form}
-use Rattle.read_block.specs.declared.Lined.{Lined}
-use Rattle.read_block.specs.declared.Lined.TheVariants as Line
-use Rattle.read_block.specs.declared.Walked.{Walked}
-use Rattle.read_block.specs.declared.Walked.TheVariants as Walk
 
 -- ---- scratch
 
@@ -72,13 +67,13 @@ abbrev pub OnlyLine : Bool → Part → ℕ → (before after : List ℕ) → Ty
 OnlyLine windowed a n before after = Changed (λ i. windowed && in_rows a (6 * n) (6 * n + 6) i) (λ i. get_or after i 0) before after
 
 -- what a line hands back, by its reading on the 18 lines
-abbrev pub IsLinedIn : Bool → Bool → ℕ → List ℕ → Part → ℕ → Option State → (before after : Buffers) → Lined → Type 0
-IsLinedIn windowed xtrans W tile a n none before after r = r ≡ Line.Truncated
-IsLinedIn windowed xtrans W tile a n (some z) before after r =
-    (r ≡ Line.Read (record { at = z.at; tight = z.tight; long = z.long })) × Held windowed W 6 z.lines after.lines × (after.records ≡ z.records)
+abbrev pub IsLinedIn : Bool → Bool → ℕ → List ℕ → Part → ℕ → Option State → (before after : Buffers) → Option Place → Type 0
+IsLinedIn windowed xtrans W tile a n None before after r = r ≡ None
+IsLinedIn windowed xtrans W tile a n (Some z) before after r =
+    (r ≡ Some (record { at = z.at; tight = z.tight; long = z.long })) × Held windowed W 6 z.lines after.lines × (after.records ≡ z.records)
     × Changed (λ i. windowed && in_rows a (6 * n) (6 * n + 6) i) (emitted_sample xtrans W tile z.lines a) before.image after.image
 
-abbrev pub LineReadIn : Bool → Form → Quantisers → List ℕ → Place → List ℕ → Part → ℕ → (before after : Buffers) → Lined → Type 0
+abbrev pub LineReadIn : Bool → Form → Quantisers → List ℕ → Place → List ℕ → Part → ℕ → (before after : Buffers) → Option Place → Type 0
 LineReadIn windowed F Q s from tile a n before after r =
     let W = width_of F.xtrans in
     (l : List ℕ) → length l ≡ 18 * (W + 2) → Held windowed W 0 l before.lines
@@ -87,11 +82,11 @@ LineReadIn windowed F Q s from tile a n before after r =
 -- ---- a block
 
 -- the lines whose rows are not what they were
-abbrev pub reached_lines : Walked → ℕ → ℕ
-reached_lines (Walk.Read all tight) count = count
-reached_lines (Walk.Truncated line before) count = suc line
+abbrev pub reached_lines : Result (Totals × TightLines) (ℕ × Totals) → ℕ → ℕ
+reached_lines (Ok (all, tight)) count = count
+reached_lines (Err (line, before)) count = suc line
 
-abbrev pub ShownIn : Bool → Form → (bases s tile : List ℕ) → Part → Walked → ℕ → (before after : List ℕ) → Type 0
+abbrev pub ShownIn : Bool → Form → (bases s tile : List ℕ) → Part → Result (Totals × TightLines) (ℕ × Totals) → ℕ → (before after : List ℕ) → Type 0
 ShownIn false F bases s tile a r count before after = Shown F bases s tile a (shown_lines r count) before after
 ShownIn true F bases s tile a r count before after =
     Changed (in_rows a 0 (6 * reached_lines r count)) (λ i. cond (ltb (picture_row a i / 6) (shown_lines r count)) (shown_sample F bases s tile a i) 0) before after
@@ -102,8 +97,8 @@ ShownIn true F bases s tile a r count before after =
 pub record ReadOn (windowed : Bool) (F : Form) (bases s : List ℕ) (first : ℕ) (z : State) (more : ℕ) (all : Totals) (tight : TightLines)
     (after : Buffers) : Type 0 where
   pub end : State
-  pub read : read_from F bases s first z more ≡ some end
-  pub all_is : all ≡ totals_in (some end)
+  pub read : read_from F bases s first z more ≡ Some end
+  pub all_is : all ≡ totals_in (Some end)
   pub tight_is : tight ≡ tight_of (λ n. read_from F bases s first z n) more
   pub held : Held windowed (width_of F.xtrans) 6 end.lines after.lines
   pub records : after.records ≡ end.records
@@ -114,16 +109,16 @@ pub record CutOn (F : Form) (bases s : List ℕ) (first : ℕ) (z : State) (more
   pub before : State
   pub inside : suc count ≤ more
   pub line_is : line ≡ first + count
-  pub read : read_from F bases s first z count ≡ some before
-  pub cut : read_from F bases s first z (suc count) ≡ none
-  pub totals_are : totals ≡ totals_in (some before)
+  pub read : read_from F bases s first z count ≡ Some before
+  pub cut : read_from F bases s first z (suc count) ≡ None
+  pub totals_are : totals ≡ totals_in (Some before)
 
-abbrev pub IsReadOn : Bool → Form → (bases s : List ℕ) → ℕ → State → ℕ → (after : Buffers) → Walked → Type 0
-IsReadOn windowed F bases s first z more after (Walk.Read all tight) = ReadOn windowed F bases s first z more all tight after
-IsReadOn windowed F bases s first z more after (Walk.Truncated line before) = CutOn F bases s first z more line before
+abbrev pub IsReadOn : Bool → Form → (bases s : List ℕ) → ℕ → State → ℕ → (after : Buffers) → Result (Totals × TightLines) (ℕ × Totals) → Type 0
+IsReadOn windowed F bases s first z more after (Ok (all, tight)) = ReadOn windowed F bases s first z more all tight after
+IsReadOn windowed F bases s first z more after (Err (line, before)) = CutOn F bases s first z more line before
 
 -- the image, where all lines would end with line `end`
-abbrev pub ShownOn : Bool → Form → (bases s tile : List ℕ) → Part → ℕ → State → Walked → ℕ → (before after : List ℕ) → Type 0
+abbrev pub ShownOn : Bool → Form → (bases s tile : List ℕ) → Part → ℕ → State → Result (Totals × TightLines) (ℕ × Totals) → ℕ → (before after : List ℕ) → Type 0
 ShownOn false F bases s tile a first z r end before after =
     Changed (in_rows a (6 * first) (6 * shown_lines r end)) (shown_from F bases s tile first z a) before after
 ShownOn true F bases s tile a first z r end before after =
@@ -131,7 +126,7 @@ ShownOn true F bases s tile a first z r end before after =
     (λ i. cond (ltb (picture_row a i / 6) (shown_lines r end)) (shown_from F bases s tile first z a i) 0) before after
 
 -- what reading `more` lines from there says, of any 18 lines for which the lines that are kept stand
-abbrev pub LinesReadOn : Bool → Form → (bases s tile : List ℕ) → Part → ℕ → Place → ℕ → (before after : Buffers) → Walked → Type 0
+abbrev pub LinesReadOn : Bool → Form → (bases s tile : List ℕ) → Part → ℕ → Place → ℕ → (before after : Buffers) → Result (Totals × TightLines) (ℕ × Totals) → Type 0
 LinesReadOn windowed F bases s tile a first from more before after r =
     let W = width_of F.xtrans in
     (l : List ℕ) → length l ≡ 18 * (W + 2) → Held windowed W 6 l before.lines

@@ -4,7 +4,6 @@
 
 ghost use Rattle.std.specs.Prelude.{◌≡◌};
 ghost use Rattle.read_block.specs.Images.{form_of};
-ghost use Rattle.read_block.specs.Words.{answer_words};
 
 use cameras::Entries;
 use code::Place;
@@ -20,7 +19,7 @@ pub mod tight;
 pub use decoding::{decode, decode_region, decode_region_windowed};
 pub use reading::{is_restarted, quantisers_of, read_lines, start_place, walk};
 pub use records::{
-    clear_records, cleared, load_set, restart, start_record, start_records, store_set,
+    clear_records, cleared, load_set, restart_main, start_record, start_records, store_set,
 };
 pub use sharing::decode_region_shared;
 pub use tight::{line_count, no_part, read_answer, read_block, read_tight, refused, tight_answer};
@@ -31,39 +30,21 @@ pub struct Form {
     pub xtrans: bool,
 }
 
-// Where the reading is after a line; or the line is truncated.
-#[derive(Clone, Copy)]
-pub enum Lined {
-    Read(Place),
-    Truncated,
-}
-
 // What was counted of all lines, and of those, from the first on, that have only tight codes; or the first line that is truncated, and what was
 // counted before it.
-#[derive(Clone, Copy)]
-pub enum Walked {
-    Read(Totals, TightLines),
-    Truncated(usize, Totals),
-}
-
-// What decoding answers.
-#[derive(Clone, Copy)]
-pub enum Decoded {
-    Done,
-    Refused(Refusal),
-}
+pub type Walked = Result<(Totals, TightLines), (usize, Totals)>;
 
 // What decoding for a camera answers, and the entries after it.
 #[derive(Clone, Copy)]
 pub struct SharedAnswer {
-    pub answer: Decoded,
+    pub answer: Result<(), Refusal>,
     pub entries: Entries,
 }
 
 // What the reading of one block answers, and what it counted.
 #[derive(Clone, Copy)]
 pub struct Counted {
-    pub answer: Decoded,
+    pub answer: Result<(), Refusal>,
     pub totals: Totals,
 }
 
@@ -73,15 +54,5 @@ pub fn form_of(h: FujiHeader) -> Form
     Form {
         bits: h.bits,
         xtrans: h.xtrans,
-    }
-}
-
-// A refusal's four words, all 0 where nothing is refused.
-pub fn answer_words(a: Decoded) -> [usize; 4]
-    ensures { result ≡ answer_words a }
-{
-    match a {
-        Decoded::Done => [0; 4],
-        Decoded::Refused(r) => stream::refusal_words(r),
     }
 }

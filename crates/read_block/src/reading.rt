@@ -1,23 +1,24 @@
 // Reading a block: six passes make a line, and lines make a block.
-ghost use Rattle.std.specs.Prelude.{◌≡◌, ◌+◌, ◌^◌, ◌≤◌, ◌<◌, length};
+ghost use Rattle.std.specs.Prelude.{true, ◌≡◌, ◌+◌, ◌^◌, ◌≤◌, ◌<◌, length};
 ghost use Rattle.quantiser.specs.Quantisers.{main_of};
 ghost use Rattle.cameras.specs.Entries.{AllNumbered};
 ghost use Rattle.image_map.specs.Places.{width_of};
-ghost use Rattle.image_map.specs.Inside.{ArePlaces, Fits};
+ghost use Rattle.image_map.specs.Inside.{Fits};
 ghost use Rattle.pass_steps.specs.Values.{quantisers_of};
 ghost use Rattle.pass_steps.specs.Contexts.{Depth};
 ghost use Rattle.read_block.specs.Lent.{Buffers};
 ghost use Rattle.read_block.specs.Records.{is_restarted, clear_records};
 ghost use Rattle.read_block.specs.Walks.{start_place, totals_at, AllInRange, IsWalked};
+ghost use Rattle.read_block.specs.declared.Form.{Form};
 ghost use Rattle.read_block.specs.WindowedLines.{samples_in, ScratchIn, zeros_in, PassPlaced, LineReadIn, OnlyLine, ShownIn};
 ghost use Rattle.read_block.specs.WindowedLines.{LinesReadOn, Stands};
 
-use crate::records::{clear_records, load_set, restart, start_records, store_set};
-use crate::{Form, Lined, Walked};
+use crate::Walked;
+use crate::records::{clear_records, load_set, restart_main, start_records, store_set};
 use bits::{BitPosition, is_past};
 use cameras::{Entries, base_of};
 use code::Place;
-use image_map::{Part, width};
+use image_map::{Showing, width};
 use line_totals::{TightLines, Totals};
 use pass_steps::Quantisers;
 use quantiser::Quantiser;
@@ -96,56 +97,41 @@ fn no_lines(totals: Totals) -> TightLines
 
 // The two colour lines of pass i of line n, to the image, in windows. The plan is asked for again: what is kept of it through the pass makes the pass
 // longer.
-fn emit_pass_at(
-    lines: &[u16],
-    image: &mut [u16],
-    w: usize,
-    xtrans: bool,
-    places: &[u16; 768],
-    tile: [u8; 36],
-    part: Part,
-    n: usize,
-    i: usize,
-    windowed: bool,
-)
-    requires n_bound { (n < 2 ^ 16) × ((i < 6) × ((w ≡ width_of xtrans) × (length lines.now ≡ samples_in windowed xtrans))) }
-    requires are_places { ArePlaces places.now × Fits part image.old }
-    ensures { PassPlaced windowed xtrans w tile lines.now part n i image.old image.new }
+fn emit_pass_at(lines: &[u16], image: &mut [u16], showing: &Showing, n: usize, i: usize)
+    requires n_bound { (n < 2 ^ 16) × ((i < 6) × (length lines.now ≡ samples_in true showing.now.xtrans)) }
+    requires fits { Fits showing.now.part image.old }
+    ensures { PassPlaced true showing.now.xtrans (width_of showing.now.xtrans) showing.now.tile lines.now
+        showing.now.part n i image.old image.new }
 {
-    let p = pass_schedule::plan_at(i, xtrans);
-    let h = read_pass::window_plan(p, windowed);
-    image_map::emit_pass(
-        lines, image, w, xtrans, places, tile, part, n, p.first, h.first, p.second, h.second,
-        windowed,
-    );
+    let p = pass_schedule::plan_at(i, showing.xtrans);
+    let h = read_pass::window_plan(p, true);
+    showing.emit_pass(lines, image, n, p.first, h.first, p.second, h.second);
 }
 
-// Line n: six passes, each on the records of its set. In windows each colour line goes to the image when its pass has ended.
+// Line n: six passes, each on the records of its set. It answers where the reading is after it, or None where the line is truncated. In windows each colour line goes to the image when its pass has ended.
 fn line(
     block: &[u8],
     from: Place,
     lines: &mut [u16],
     rs: &mut [Record],
     image: &mut [u16],
-    form: Form,
+    bits: u32,
     qs: Quantisers,
-    places: &[u16; 768],
-    tile: [u8; 36],
-    part: Part,
+    showing: &Showing,
     n: usize,
     windowed: bool,
-) -> Lined
-    requires block_len_bound { (length block.now < 2 ^ 32) × ScratchIn windowed form.xtrans lines.old rs.old }
-    requires depth { Depth form.bits × ((qs.base < 256) × (qs ≡ quantisers_of form.bits qs.base)) }
+) -> Option<Place>
+    requires block_len_bound { (length block.now < 2 ^ 32) × ScratchIn windowed showing.now.xtrans lines.old rs.old }
+    requires depth { Depth bits × ((qs.base < 256) × (qs ≡ quantisers_of bits qs.base)) }
     requires all_in_range { AllInRange rs.old × (from.long ≤ from.at.0) }
-    requires n_bound { (n < 2 ^ 16) × (ArePlaces places.now × Fits part image.old) }
+    requires n_bound { (n < 2 ^ 16) × Fits showing.now.part image.old }
     ensures fact { let before : Buffers = record { image = image.old; lines = lines.old; records = rs.old } in
         let after : Buffers = record { image = image.new; lines = lines.new; records = rs.new } in
-        LineReadIn windowed form qs block.now from tile part n before after result }
-    ensures all_in_range_2 { AllInRange rs.new × OnlyLine windowed part n image.old image.new }
+        let form : Form = record { bits = bits; xtrans = showing.now.xtrans } in
+        LineReadIn windowed form qs block.now from showing.now.tile showing.now.part n before after result }
+    ensures all_in_range_2 { AllInRange rs.new × OnlyLine windowed showing.now.part n image.old image.new }
 {
-    let bits = form.bits;
-    let xtrans = form.xtrans;
+    let xtrans = showing.xtrans;
     let w = width(xtrans);
     let mut place = from;
     for i in 0..6 {
@@ -153,21 +139,18 @@ fn line(
         let h = read_pass::window_plan(p, windowed);
         colour_lines::enter(lines, w, h.first, h.second, windowed);
         let set = load_set(rs, p.set);
-        let done = read_pass::pass(block, place, lines, set, w, h, qs, bits);
-        let ok = done.ok;
-        if !ok {
-            return Lined::Truncated;
-        }
-        let new = done.set;
-        store_set(rs, p.set, new);
+        let done = read_pass::pass(block, place, lines, set, w, h, qs, bits)?;
+        store_set(rs, p.set, done.set);
         place = done.place;
-        emit_pass_at(lines, image, w, xtrans, places, tile, part, n, i, windowed);
+        if windowed {
+            emit_pass_at(lines, image, showing, n, i);
+        }
     }
     let at = place.at;
     if is_past(block, at) {
-        return Lined::Truncated;
+        return None;
     }
-    Lined::Read(place)
+    Some(place)
 }
 
 // `more` lines of a block from line `first` on, each put into the image as soon as it is read. They begin at this place, with what scratch
@@ -179,58 +162,61 @@ pub fn read_lines(
     lines: &mut [u16],
     rs: &mut [Record],
     image: &mut [u16],
-    form: Form,
-    places: &[u16; 768],
-    tile: [u8; 36],
-    part: Part,
+    bits: u32,
+    showing: &Showing,
     first: usize,
     from: Place,
     more: usize,
     windowed: bool,
     entries: &Entries,
 ) -> Walked
-    requires block_len_bound { (length block.now < 2 ^ 32) × ScratchIn windowed form.xtrans lines.old rs.old }
-    requires depth { Depth form.bits × (first + more < 2 ^ 16) }
-    requires are_places { ArePlaces places.now × Fits part image.old }
+    requires block_len_bound { (length block.now < 2 ^ 32) × ScratchIn windowed showing.now.xtrans lines.old rs.old }
+    requires depth { Depth bits × (first + more < 2 ^ 16) }
+    requires fits { Fits showing.now.part image.old }
     requires all_numbered { AllNumbered entries.now.all }
-    requires all_in_range { AllInRange rs.old × ((from.long ≤ from.at.0) × Stands windowed form.xtrans lines.old) }
+    requires all_in_range { AllInRange rs.old × ((from.long ≤ from.at.0) × Stands windowed showing.now.xtrans lines.old) }
     ensures { let before : Buffers = record { image = image.old; lines = lines.old; records = rs.old } in
         let after : Buffers = record { image = image.new; lines = lines.new; records = rs.new } in
-        LinesReadOn windowed form bases.now block.now tile part first from more before after result }
+        let form : Form = record { bits = bits; xtrans = showing.now.xtrans } in
+        LinesReadOn windowed form bases.now block.now showing.now.tile showing.now.part first from more before after result }
 {
-    let bits = form.bits;
-    let xtrans = form.xtrans;
-    let w = width(xtrans);
+    let w = width(showing.xtrans);
     let mut place = from;
     let mut tight_lines = no_lines(totals_at(from));
     for i in 0..more {
         let n = first + i;
-        colour_lines::turn_if(lines, w, !windowed);
+        if !windowed {
+            colour_lines::turn(lines, w);
+        }
         let base = base_of(bases, n);
-        restart(rs, bits, base, is_restarted(bases, n));
+        if is_restarted(bases, n) {
+            restart_main(rs, bits, base);
+        }
         let got = line(
             block,
             place,
             lines,
             rs,
             image,
-            form,
+            bits,
             quantisers_in(*entries, bits, base),
-            places,
-            tile,
-            part,
+            showing,
             n,
             windowed,
         );
-        let Lined::Read(after) = got else {
-            image_map::zero_line(image, part, n, windowed);
-            return Walked::Truncated(n, totals_at(place));
+        let Some(after) = got else {
+            if windowed {
+                showing.zero_line(image, n);
+            }
+            return Err((n, totals_at(place)));
         };
         place = after;
         tight_lines = line_totals::with_line(tight_lines, i, place.tight, totals_at(place));
-        image_map::emit_line_if(lines, image, w, xtrans, places, tile, part, n, !windowed);
+        if !windowed {
+            showing.emit_line(lines, image, n);
+        }
     }
-    Walked::Read(totals_at(place), tight_lines)
+    Ok((totals_at(place), tight_lines))
 }
 
 // A walk over the first `count` lines of a block: the one reading that all calls share. Lines that are read go to the part of the image; whoever
@@ -241,34 +227,31 @@ pub fn walk(
     lines: &mut [u16],
     rs: &mut [Record],
     image: &mut [u16],
-    form: Form,
-    places: &[u16; 768],
-    tile: [u8; 36],
-    part: Part,
+    bits: u32,
+    showing: &Showing,
     count: usize,
     windowed: bool,
     entries: Entries,
 ) -> Walked
-    requires block_len_bound { (length block.now < 2 ^ 32) × ScratchIn windowed form.xtrans lines.old rs.old }
-    requires depth { Depth form.bits × (count < 2 ^ 16) }
-    requires are_places { ArePlaces places.now × Fits part image.old }
+    requires block_len_bound { (length block.now < 2 ^ 32) × ScratchIn windowed showing.now.xtrans lines.old rs.old }
+    requires depth { Depth bits × (count < 2 ^ 16) }
+    requires fits { Fits showing.now.part image.old }
     requires all_numbered { AllNumbered entries.all }
-    ensures walked { IsWalked form bases.now block.now count result }
-    ensures shown_in { ShownIn windowed form bases.now block.now tile part result count image.old image.new }
-    ensures lines_after { (lines.new ≡ zeros_in windowed form.xtrans) × (rs.new ≡ clear_records) }
+    ensures walked { IsWalked (record { bits = bits; xtrans = showing.now.xtrans }) bases.now block.now count result }
+    ensures shown_in { let form : Form = record { bits = bits; xtrans = showing.now.xtrans } in
+        ShownIn windowed form bases.now block.now showing.now.tile showing.now.part result count image.old image.new }
+    ensures lines_after { (lines.new ≡ zeros_in windowed showing.now.xtrans) × (rs.new ≡ clear_records) }
 {
     colour_lines::clear(lines);
-    start_records(rs, form.bits, base_of(bases, 0));
+    start_records(rs, bits, base_of(bases, 0));
     let walked = read_lines(
         block,
         bases,
         lines,
         rs,
         image,
-        form,
-        places,
-        tile,
-        part,
+        bits,
+        showing,
         0,
         start_place(),
         count,

@@ -56,22 +56,12 @@ pub fn start_records(rs: &mut [Record], bits: u32, base: u32)
 }
 
 // The main records start anew.
-fn restart_main(rs: &mut [Record], bits: u32, base: u32)
+pub fn restart_main(rs: &mut [Record], bits: u32, base: u32)
     requires { (length rs.old ≡ 336) × (Depth bits × (base < 256)) }
     ensures { rs.new ≡ restarted_main bits base rs.old }
 {
     for (j, r) in rs.iter_mut().enumerate() {
         *r = restarted_record(*r, bits, base, j);
-    }
-}
-
-// The main records start anew where that is wanted.
-pub fn restart(rs: &mut [Record], bits: u32, base: u32, wanted: bool)
-    requires { (length rs.old ≡ 336) × (Depth bits × (base < 256)) }
-    ensures { rs.new ≡ cond wanted (restarted_main bits base rs.old) rs.old }
-{
-    if wanted {
-        restart_main(rs, bits, base);
     }
 }
 

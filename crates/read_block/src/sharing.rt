@@ -1,7 +1,6 @@
 // Decoding for one of two cameras, which share 16 quantiser entries.
-ghost use Rattle.std.specs.Prelude.{◌≡◌, length, false};
+ghost use Rattle.std.specs.Prelude.{◌≡◌, length, false, Ok};
 ghost use Rattle.stream.specs.Streams.{open_of};
-ghost use Rattle.stream.specs.declared.header.Parsed.TheVariants.{Header};
 ghost use Rattle.image_region.specs.Inside.{Accepted};
 ghost use Rattle.cameras.specs.Entries.{mended, handed_back, AllNumbered};
 ghost use Rattle.admission.specs.Beginnings.{region_begins};
@@ -13,9 +12,9 @@ ghost use Rattle.read_block.specs.WindowedLines.{ScratchIn, zeros_in};
 
 use crate::decoding::judged;
 use crate::reading::walk;
-use crate::{Decoded, SharedAnswer, Walked, form_of};
-use admission::Beginning;
+use crate::{SharedAnswer, Walked};
 use cameras::{Camera, Entries};
+use image_map::Showing;
 use image_region::Rect;
 use statistics::Record;
 use stream::{FujiHeader, Refusal};
@@ -25,21 +24,21 @@ fn lines_read(got: Walked, count: usize) -> usize
     ensures { result ≡ shown_lines got count }
 {
     match got {
-        Walked::Read(_, _) => count,
-        Walked::Truncated(n, _) => n,
+        Ok((_, _)) => count,
+        Err((n, _)) => n,
     }
 }
 
 // What a call hands back with its answer.
-fn handed_back(camera: Camera, entries: Entries, answer: Decoded) -> SharedAnswer
+fn handed_back(camera: Camera, entries: Entries, answer: Result<(), Refusal>) -> SharedAnswer
     ensures { (result.answer ≡ answer) × (result.entries.all ≡ handed_back camera (is_refused answer) entries.all) }
 {
     match answer {
-        Decoded::Done => {
+        Ok(()) => {
             let entries = cameras::handed_back(camera, entries, false);
             SharedAnswer { answer, entries }
         }
-        Decoded::Refused(_) => {
+        Err(_) => {
             let entries = cameras::handed_back(camera, entries, true);
             SharedAnswer { answer, entries }
         }
@@ -59,7 +58,7 @@ fn decode_shared_blocks(
     lines: &mut [u16],
     rs: &mut [Record],
 ) -> SharedAnswer
-    requires d_value { (open_of d.now ≡ Header h) × Accepted h r (length image.old) }
+    requires d_value { (open_of d.now ≡ Ok h) × Accepted h r (length image.old) }
     requires scratch_in { ScratchIn false h.xtrans lines.old rs.old × AllNumbered held.all }
     ensures answer_value { (result.answer ≡ shared_answer camera d.now h r held.all)
         × (result.entries.all ≡ last_entries camera d.now h r held.all) }
@@ -69,15 +68,19 @@ fn decode_shared_blocks(
     let span = image_region::span_of(r);
     let count = span.lines;
     let end = span.last + 1;
-    let bits = h.bits;
     let places = image_map::xtrans_places();
-    let mut answer = Decoded::Done;
+    let mut answer = Ok(());
     for b in span.first..end {
-        let form = form_of(h);
         let block = stream::block_bytes(d, b);
         let bases = stream::base_row(d, b);
         let part = image_region::part(r, b);
-        let took = cameras::take_lines(camera, held, bits, bases, count);
+        let showing = Showing {
+            xtrans: h.xtrans,
+            places: &places,
+            tile,
+            part,
+        };
+        let took = cameras::take_lines(camera, held, h.bits, bases, count);
         let found = took.lines;
         let got = walk(
             block,
@@ -85,18 +88,16 @@ fn decode_shared_blocks(
             lines,
             rs,
             image,
-            form,
-            &places,
-            tile,
-            part,
+            h.bits,
+            &showing,
             found,
             false,
             took.entries,
         );
         let read = lines_read(got, found);
-        held = cameras::after_block(camera, held, bits, bases, found, read);
+        held = cameras::after_block(camera, held, h.bits, bases, found, read);
         if cameras::is_stopped(read, found, count) {
-            let answer = Decoded::Refused(Refusal::NoEntry(b, found));
+            let answer = Err(Refusal::NoEntry(b, found));
             return SharedAnswer {
                 answer,
                 entries: held,
@@ -129,9 +130,11 @@ pub fn decode_region_shared(
     let begins = admission::region_begins(d, r, image.len(), lines.len(), rs.len());
     let sound = cameras::mended(entries);
     match begins {
-        Beginning::Refused(x) => handed_back(camera, sound, Decoded::Refused(x)),
-        Beginning::Nothing => handed_back(camera, sound, Decoded::Done),
-        Beginning::Reading(h) => {
+        Err(x) => handed_back(camera, sound, Err(x)),
+        Ok(begun) => {
+            let Some(h) = begun else {
+                return handed_back(camera, sound, Ok(()));
+            };
             let used = admission::samples_needed(h.xtrans);
             let got = decode_shared_blocks(
                 camera,
@@ -144,8 +147,7 @@ pub fn decode_region_shared(
                 &mut lines[0..used],
                 &mut rs[0..336],
             );
-            let answer = got.answer;
-            handed_back(camera, got.entries, answer)
+            handed_back(camera, got.entries, got.answer)
         }
     }
 }

@@ -1,10 +1,9 @@
 // Readings of one block that show nothing: the ordinary one, of lossless and of lossy blocks, and the tight one.
-ghost use Rattle.std.specs.Prelude.{◌≡◌, true, List, [], ℕ, ◌^◌, ◌<◌, length};
+ghost use Rattle.std.specs.Prelude.{◌≡◌, true, List, [], ℕ, ◌^◌, ◌<◌, length, Ok};
 ghost use Rattle.colour_lines.specs.ColourLines.{zero_lines};
 ghost use Rattle.image_map.specs.Places.{width_of};
 ghost use Rattle.image_map.specs.Inside.{Fits};
 ghost use Rattle.stream.specs.Streams.{open_of};
-ghost use Rattle.stream.specs.declared.header.Parsed.TheVariants.{Header};
 ghost use Rattle.read_block.specs.Records.{clear_records};
 ghost use Rattle.read_block.specs.Walks.{IsWalked};
 ghost use Rattle.read_block.specs.Images.{form_of, bytes_in, bases_in};
@@ -16,17 +15,17 @@ ghost use Rattle.read_block.specs.Inside.{walked_counted};
 ghost use Rattle.read_block.specs.BlockReadings.{tight_counted, LeftRead, LeftTight};
 
 use crate::reading::walk;
-use crate::{Counted, Decoded, Form, Walked, form_of};
+use crate::{Counted, Form, Walked, form_of};
 use bits::BitPosition;
-use image_map::Part;
+use image_map::{Part, Showing};
 use statistics::Record;
-use stream::{FujiHeader, Parsed, Refusal};
+use stream::{FujiHeader, Refusal};
 
 // A call that is refused before it reads has counted nothing.
 pub fn refused(x: Refusal) -> Counted
     ensures { result ≡ refused_by x }
 {
-    let answer = Decoded::Refused(x);
+    let answer = Err(x);
     let totals = line_totals::none();
     Counted { answer, totals }
 }
@@ -36,12 +35,12 @@ pub fn read_answer(b: usize, got: Walked) -> Counted
     ensures { result ≡ walked_counted b got }
 {
     match got {
-        Walked::Truncated(n, totals) => {
-            let answer = Decoded::Refused(Refusal::Truncated(b, n));
+        Err((n, totals)) => {
+            let answer = Err(Refusal::Truncated(b, n));
             Counted { answer, totals }
         }
-        Walked::Read(totals, _) => {
-            let answer = Decoded::Done;
+        Ok((totals, _)) => {
+            let answer = Ok(());
             Counted { answer, totals }
         }
     }
@@ -53,22 +52,22 @@ pub fn tight_answer(s: &[u8], form: Form, b: usize, count: usize, got: Walked) -
     ensures { result ≡ counted form [] s.now count (tight_answer form b count s.now) }
 {
     match got {
-        Walked::Truncated(n, totals) => {
-            let answer = Decoded::Refused(Refusal::Truncated(b, n));
+        Err((n, totals)) => {
+            let answer = Err(Refusal::Truncated(b, n));
             Counted { answer, totals }
         }
-        Walked::Read(totals, tight) => {
+        Ok((totals, tight)) => {
             if tight.lines < count {
-                let answer = Decoded::Refused(Refusal::NotTight(tight.lines));
+                let answer = Err(Refusal::NotTight(tight.lines));
                 let totals = tight.totals;
                 return Counted { answer, totals };
             }
             let at = BitPosition(totals.bits);
             if bits::is_tail(s, at) {
-                let answer = Decoded::Done;
+                let answer = Ok(());
                 return Counted { answer, totals };
             }
-            let answer = Decoded::Refused(Refusal::NotTight(count));
+            let answer = Err(Refusal::NotTight(count));
             Counted { answer, totals }
         }
     }
@@ -96,16 +95,21 @@ pub fn line_count(h: FujiHeader) -> usize
 
 // One walk over block b, which shows nothing.
 fn walk_block(d: &[u8], h: FujiHeader, b: usize, lines: &mut [u16], rs: &mut [Record]) -> Walked
-    requires d_value { open_of d.now ≡ Header h }
+    requires d_value { open_of d.now ≡ Ok h }
     requires scratch_of { ScratchOf h.xtrans lines.old rs.old }
     ensures walked { IsWalked (form_of h) (bases_in d.now b) (bytes_in d.now b) h.lines result }
     ensures lines_after { (lines.new ≡ zero_lines (width_of h.xtrans)) × (rs.new ≡ clear_records) }
 {
-    let form = form_of(h);
     let count = line_count(h);
     let block = stream::block_bytes(d, b);
     let bases = stream::base_row(d, b);
     let places = image_map::xtrans_places();
+    let showing = Showing {
+        xtrans: h.xtrans,
+        places: &places,
+        tile: [0u8; 36],
+        part: no_part(),
+    };
     let mut nothing = [0u16; 1];
     walk(
         block,
@@ -113,10 +117,8 @@ fn walk_block(d: &[u8], h: FujiHeader, b: usize, lines: &mut [u16], rs: &mut [Re
         lines,
         rs,
         &mut nothing,
-        form,
-        &places,
-        [0u8; 36],
-        no_part(),
+        h.bits,
+        &showing,
         count,
         false,
         cameras::no_entries(),
@@ -131,8 +133,8 @@ pub fn read_block(d: &[u8], b: usize, lines: &mut [u16], rs: &mut [Record]) -> C
 {
     let begins = admission::block_begins(d, b, false, lines.len(), rs.len());
     match begins {
-        Parsed::Refused(x) => refused(x),
-        Parsed::Header(h) => {
+        Err(x) => refused(x),
+        Ok(h) => {
             let used = admission::samples_needed(h.xtrans);
             let got = walk_block(d, h, b, &mut lines[0..used], &mut rs[0..336]);
             read_answer(b, got)
@@ -142,7 +144,7 @@ pub fn read_block(d: &[u8], b: usize, lines: &mut [u16], rs: &mut [Record]) -> C
 
 // What the tight reading answers for block b of the stream d.
 fn tight_in(d: &[u8], h: FujiHeader, b: usize, got: Walked) -> Counted
-    requires d_value { (open_of d.now ≡ Header h) × (h.lossless ≡ true) }
+    requires d_value { (open_of d.now ≡ Ok h) × (h.lossless ≡ true) }
     requires walked { IsWalked (form_of h) (bases_in d.now b) (bytes_in d.now b) h.lines got }
     ensures { result ≡ tight_counted d.now b h }
 {
@@ -160,8 +162,8 @@ pub fn read_tight(d: &[u8], b: usize, lines: &mut [u16], rs: &mut [Record]) -> C
 {
     let begins = admission::block_begins(d, b, true, lines.len(), rs.len());
     match begins {
-        Parsed::Refused(x) => refused(x),
-        Parsed::Header(h) => {
+        Err(x) => refused(x),
+        Ok(h) => {
             let used = admission::samples_needed(h.xtrans);
             let got = walk_block(d, h, b, &mut lines[0..used], &mut rs[0..336]);
             tight_in(d, h, b, got)

@@ -2,7 +2,6 @@
 use mathlib.Core.Bool.{Bool}
 use mathlib.Core.List.{List, [], ◌∷◌}
 use mathlib.Core.Logic.{◌≢◌}
-use mathlib.Core.Option.{some}
 use mathlib.Core.Path.{◌≡◌}
 use Prim.Native.Nat.{ℕ, ◌+◌, ◌-◌, ◌*◌, ◌≤◌, ◌<◌}
 use native.Mathlib.Nat.{mul-le-mul_right, add-mul}
@@ -14,6 +13,7 @@ use Rattle.read_pass.specs.Readings.{Reading}
 use Rattle.read_pass.specs.Pairs.{Apart}
 use Rattle.read_pass.proofs.StepLaws.{StepGives, StepsGive}
 use Rattle.read_pass.proofs.FrameLaws.{step_leaves, steps_leave}
+use Rattle.std.specs.Prelude.{Some}
 
 -- the two lines above a line are as they were
 abbrev pub Above : ℕ → ℕ → List ℕ → List ℕ → Type 0
@@ -36,10 +36,10 @@ module _ (W : ℕ) (P : Plan) (apart : Apart P) (p : ℕ) (inside : p < W) where
 
   module _ {bits q : ℕ} {s : List ℕ} {r z : Reading} where
     -- after the first sample, and after both
-    pub second_above : {a : Bool} → StepGives bits q W s (step_at P.first p a) r (some z) → Above W P.second r.lines z.lines
+    pub second_above : {a : Bool} → StepGives bits q W s (step_at P.first p a) r (Some z) → Above W P.second r.lines z.lines
     second_above g j l h = step_leaves bits q W s j _ r z (second_side j l h).0 g.is
 
-    pub both_above : {a b : Bool} → StepsGive bits q W s (step_at P.first p a ∷ step_at P.second p b ∷ []) r (some z)
+    pub both_above : {a b : Bool} → StepsGive bits q W s (step_at P.first p a ∷ step_at P.second p b ∷ []) r (Some z)
         → Above W P.first r.lines z.lines × Above W P.second r.lines z.lines
     both_above g = (
       λ j l h. let f = first_side j h in steps_leave bits q W s j _ r z (f.0, (f.1, tt)) g.are,

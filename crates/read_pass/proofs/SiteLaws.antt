@@ -2,7 +2,6 @@
 use borrow.Author.Tests.{eq-eqb, ne_eqb}
 use mathlib.Core.Bool.{Bool, true, false, cond, ◌&&◌, false≢true}
 use mathlib.Core.List.{List, [], ◌∷◌}
-use mathlib.Core.Option.{Option, none, some}
 use mathlib.Core.Path.{◌≡◌, refl, sym, ap, ◌∙◌}
 use Prim.Native.Nat.{ℕ, zero, suc, ◌+◌, ◌-◌, ◌*◌, ◌/◌, ◌%◌, ◌^◌, ◌≤◌, ◌<◌}
 use native.Mathlib.Nat.{mul-le-mul_right}
@@ -25,11 +24,7 @@ use Rattle.code.specs.Inside.{Small}
 use Rattle.code.specs.Samples.{residual_of, sample_of}
 use Rattle.code.specs.Tight.{is_tight}
 use Rattle.code.specs.Inside.{taken_of}
-use Rattle.code.specs.declared.Coded.{Coded}
-use Rattle.code.specs.declared.Coded.TheVariants.{Read, Truncated}
 use Rattle.code.specs.declared.Place.{Place}
-use Rattle.code.specs.declared.Taken.{Taken}
-use Rattle.code.specs.declared.Taken.TheVariants as Take
 use Rattle.pass_schedule.specs.Steps.{Step, step_at}
 use Rattle.pass_schedule.specs.declared.Plan.{Plan}
 use Rattle.pass_steps.specs.Contexts.{context_in, used_base, used_weight, used_quantiser, look_of, slot_of, no_record}
@@ -48,12 +43,13 @@ use Rattle.pass_ahead.specs.Tables.{choice_at, BySlot}
 use Rattle.pass_ahead.proofs.SignLaws.{choice_of_look}
 use Rattle.read_pass.specs.Readings.{Reading, taken, read_step, reads}
 use Rattle.read_pass.specs.Sites.{coding_by, OddCoding, IsCoding, CodingFits, LineTables, LimitsFit, RawFits}
-use Rattle.read_pass.specs.Pairs.{reading_at, place_at, held, begun, Holds, IsPair, IsPassed}
+use Rattle.read_pass.specs.Pairs.{place_of, IsRead, reading_at, held, begun, Holds, IsPair, IsPassed}
 use Rattle.read_pass.specs.declared.one_sample.Coding.{Coding}
-use Rattle.read_pass.specs.declared.Pair.{Pair}
-use Rattle.read_pass.specs.declared.Pair.TheVariants.{At, CutOff}
 use Rattle.read_pass.specs.declared.Passed.{Passed}
 use Rattle.read_pass.proofs.StepLaws.{StepGives, StepsGive}
+use Rattle.std.specs.Prelude.{None, Some, Option}
+use Rattle.code.specs.declared.Code.{Code}
+use Rattle.code_reader.proofs.ShortLaws.{first_in, second_in}
 
 -- its right neighbour stands before the line's end
 pub line_end : (W line p : ℕ) {i : ℕ} → p < W → i ≡ line * (W + 2) + p → i + 2 < (line + 1) * (W + 2)
@@ -72,7 +68,7 @@ odd_context_lem W line p lines low odd = context_is W line p lines low refl (rw 
 -- an interpolated sample is its prediction
 pub site_interpolated : {bits q W line p h i : ℕ} {s lines new ahead : List ℕ} {coded : Bool} {records : List Record} {from : Place}
     → 2 ≤ line → p % 2 ≡ 0 → EvenHere q W lines line p h ahead → i ≡ line * (W + 2) + p → coded ≡ false → new ≡ set lines (i + 1) (get_or ahead h 0)
-    → StepGives bits q W s (step_at line p coded) (reading_at lines records from) (some (reading_at new records from))
+    → StepGives bits q W s (step_at line p coded) (reading_at lines records from) (Some (reading_at new records from))
 unfolding read_step
 site_interpolated {W = W} {line} {p} {lines = lines} low even e ei ec en = record { is = rw (en, ec, ei, e.prediction, even_context_lem W line p lines low even) }
 
@@ -238,7 +234,7 @@ module _ {bits q W line p : ℕ} {s lines sums ns steps limits totals : List ℕ
   limit_known = rw y.is.limit (numbers_le bits (used_base q look.choice) (used_weight look.choice) y.depth.1).2
 
   -- the code that is there
-  abbrev code : Place → Coded
+  abbrev code : Place → Option Code
   code from = code_at s from.at.0 c.k c.limit (4 * bits - 1 - c.limit)
 
   -- the step, by it
@@ -258,51 +254,52 @@ module _ {bits q W line p : ℕ} {s lines sums ns steps limits totals : List ℕ
   updated_by value = set (zip_records sums ns) c.slot (updated (get_or (zip_records sums ns) c.slot no_record) (residual_of value).size)
 
   -- and by what was taken of it
-  got_none : (from : Place) (o : Coded) → taken_of c.m from.tight from.long o ≡ Take.Truncated
-      → taken bits q (line * (W + 2) + p) (slot_of p look.place) context look (held lines sums ns from) o ≡ none
-  got_none from Truncated e = refl
-  got_none from (Read o) e = let no : ◌≡◌ {A = ℕ} 0 1 = cc in absurd (omega arith)
+  got_none : (from : Place) (o : Option Code) → taken_of c.m from.tight from.long o ≡ None
+      → taken bits q (line * (W + 2) + p) (slot_of p look.place) context look (held lines sums ns from) o ≡ None
+  got_none from None e = refl
+  got_none from (Some o) e = let no : ◌≡◌ {A = ℕ} 0 1 = cc in absurd (omega arith)
 
-  got_some : (from after : Place) (value : ℕ) (new : List ℕ) (records : List Record) (o : Coded)
-      → taken_of c.m from.tight from.long o ≡ Take.Read value after.at after.tight after.long
+  got_some : (from after : Place) (value : ℕ) (new : List ℕ) (records : List Record) (o : Option Code)
+      → taken_of c.m from.tight from.long o ≡ Some (value, after)
       → new ≡ sampled value → records ≡ updated_by value
-      → taken bits q (line * (W + 2) + p) (slot_of p look.place) context look (held lines sums ns from) o ≡ some (reading_at new records after)
-  got_some from after value new records Truncated e el es = let no : ◌≡◌ {A = ℕ} 0 1 = cc in absurd (omega arith)
-  got_some from after value new records (Read o) e el es =
-      let a : o.after ≡ after.at = cc in
-      let b : o.value ≡ value = cc in
-      let d : from.tight && is_tight c.m o ≡ after.tight = cc in
-      let f : from.long + flag o.long ≡ after.long = cc in
+      → taken bits q (line * (W + 2) + p) (slot_of p look.place) context look (held lines sums ns from) o ≡ Some (reading_at new records after)
+  got_some from after value new records None e el es = let no : ◌≡◌ {A = ℕ} 0 1 = cc in absurd (omega arith)
+  got_some from after value new records (Some o) e el es =
+      let b : o.value ≡ value = ap (λ (x : Option (ℕ × Place)). first_in x value) e in
+      let g : record { at = o.after; tight = from.tight && is_tight c.m o; long = from.long + flag o.long } ≡ after =
+      ap (λ (x : Option (ℕ × Place)). second_in x after) e in
+      let a : o.after ≡ after.at = ap (λ (x : Place). x.at) g in
+      let d : from.tight && is_tight c.m o ≡ after.tight = ap (λ (x : Place). x.tight) g in
+      let f : from.long + flag o.long ≡ after.long = ap (λ (x : Place). x.long) g in
       rw (es, el, ← a, ← b, ← d, ← f, y.is.m, half_step, used_total, y.is.sign, y.is.prediction, y.is.place, y.is.slot)
 
-  module _ {coded : Bool} {from : Place} {got : Taken} (ed : coded ≡ true)
+  module _ {coded : Bool} {from : Place} {got : Option (ℕ × Place)} (ed : coded ≡ true)
       (eg : got ≡ taken_of c.m from.tight from.long (code from)) where
-    pub site_cut_off : got ≡ Take.Truncated → StepGives bits q W s (step_at line p coded) (held lines sums ns from) none
+    pub site_cut_off : got ≡ None → StepGives bits q W s (step_at line p coded) (held lines sums ns from) None
     site_cut_off e = record { is = site_got coded from ed ∙ got_none from (code from) (sym eg ∙ e) }
 
-    pub site_read : {value : ℕ} {after : Place} {new : List ℕ} {records : List Record} → got ≡ Take.Read value after.at after.tight after.long
+    pub site_read : {value : ℕ} {after : Place} {new : List ℕ} {records : List Record} → got ≡ Some (value, after)
         → new ≡ sampled value → records ≡ updated_by value
-        → StepGives bits q W s (step_at line p coded) (held lines sums ns from) (some (reading_at new records after))
+        → StepGives bits q W s (step_at line p coded) (held lines sums ns from) (Some (reading_at new records after))
     site_read {value} {after} {new} {records} e el es =
         record { is = site_got coded from ed ∙ got_some from after value new records (code from) (sym eg ∙ e) el es }
 
 -- a code that was taken is small
-pub taken_small : {got : Taken} {value : ℕ} {at : BitPosition} {tight : Bool} {long : ℕ} → Small got → got ≡ Take.Read value at tight long
+pub taken_small : {got : Option (ℕ × Place)} {value : ℕ} {after : Place} → Small got → got ≡ Some (value, after)
     → value < 63 * 2 ^ 15
 taken_small h e = rw e at h
 
 -- ---- where two ways meet, the same lists have other names
 
-pub met : {lines lines' sums sums' ns ns' : List ℕ} {at at' : BitPosition} {tight tight' : Bool} {long long' : ℕ}
-    → lines ≡ lines' → sums ≡ sums' → ns ≡ ns' → at ≡ at' → tight ≡ tight' → long ≡ long'
-    → held lines sums ns (place_at at tight long) ≡ held lines' sums' ns' (place_at at' tight' long')
-met el es en ea et eo = rw (el, es, en, ea, et, eo)
+pub met : {lines lines' sums sums' ns ns' : List ℕ} {place place' : Place} → lines ≡ lines' → sums ≡ sums' → ns ≡ ns' → place ≡ place'
+    → held lines sums ns place ≡ held lines' sums' ns' place'
+met el es en ep = rw (el, es, en, ep)
 
 module _ {y z : Reading} (e : y ≡ z) where
-  pub step_met : {bits q W : ℕ} {s : List ℕ} {x : Step} {r : Reading} → StepGives bits q W s x r (some z) → StepGives bits q W s x r (some y)
+  pub step_met : {bits q W : ℕ} {s : List ℕ} {x : Step} {r : Reading} → StepGives bits q W s x r (Some z) → StepGives bits q W s x r (Some y)
   step_met g = rw e g
 
-  pub steps_met : {bits q W : ℕ} {s : List ℕ} {l : List Step} {r : Reading} → StepsGive bits q W s l r (some z) → StepsGive bits q W s l r (some y)
+  pub steps_met : {bits q W : ℕ} {s : List ℕ} {l : List Step} {r : Reading} → StepsGive bits q W s l r (Some z) → StepsGive bits q W s l r (Some y)
   steps_met g = rw e g
 
   pub ranges_met : SetInRange z.set → SetInRange y.set
@@ -382,48 +379,48 @@ tables_made bits q four steps limits totals ef et s l =
 -- ---- what a pair hands back, and what is known of it by a caller
 
 module _ {bits q W : ℕ} {s : List ℕ} {l : List Step} {r : Reading} (lines sums ns : List ℕ) where
-  pub pair_cut_off : StepsGive bits q W s l r none → IsPair (reads bits q W s l r) lines sums ns CutOff
+  pub pair_cut_off : StepsGive bits q W s l r None → IsPair (reads bits q W s l r) lines sums ns None
   pair_cut_off e = rw e.are refl
 
-  pub pair_at : {after : Place} → StepsGive bits q W s l r (some (held lines sums ns after))
-      → IsPair (reads bits q W s l r) lines sums ns (At after.at after.tight after.long)
+  pub pair_at : {after : Place} → StepsGive bits q W s l r (Some (held lines sums ns after))
+      → IsPair (reads bits q W s l r) lines sums ns (Some (after))
   pair_at e = rw e.are (refl, refl, refl)
 
-was_none : (o : Option Reading) (lines sums ns : List ℕ) (r : Pair) → IsPair o lines sums ns r → r ≡ CutOff → o ≡ none
-was_none none lines sums ns r h e = refl
-was_none (some z) lines sums ns r h e = let no : ◌≡◌ {A = ℕ} 0 1 = cc in absurd (omega arith)
+was_none : (o : Option Reading) (lines sums ns : List ℕ) (r : Option Place) → IsPair o lines sums ns r → r ≡ None → o ≡ None
+was_none None lines sums ns r h e = refl
+was_none (Some z) lines sums ns r h e = let no : ◌≡◌ {A = ℕ} 0 1 = cc in absurd (omega arith)
 
-was_some : (o : Option Reading) (lines sums ns : List ℕ) (r : Pair) (after : Place) → IsPair o lines sums ns r
-    → r ≡ At after.at after.tight after.long
-    → o ≡ some (held lines sums ns after)
-was_some none lines sums ns r after h e = let no : ◌≡◌ {A = ℕ} 0 1 = cc in absurd (omega arith)
-was_some (some z) lines sums ns r after h e =
-    let a : z.at ≡ after.at = cc in
-    let b : z.tight ≡ after.tight = cc in
-    let c : z.long ≡ after.long = cc in
-    rw (h.1, h.2, ← a, ← b, ← c)
+was_some : (o : Option Reading) (lines sums ns : List ℕ) (r : Option Place) (after : Place) → IsPair o lines sums ns r
+    → r ≡ Some (after)
+    → o ≡ Some (held lines sums ns after)
+was_some None lines sums ns r after h e = let no : ◌≡◌ {A = ℕ} 0 1 = cc in absurd (omega arith)
+was_some (Some z) lines sums ns r after h e =
+    let a : place_of z ≡ after = cc in
+    rw (h.1, h.2, ← a)
 
-module _ (bits q W : ℕ) (s : List ℕ) (l : List Step) (r : Reading) (lines sums ns : List ℕ) {k : Pair} (h : IsPair (reads bits q W s l r) lines sums ns k) where
-  pub pair_was_cut_off : k ≡ CutOff → StepsGive bits q W s l r none
+module _ (bits q W : ℕ) (s : List ℕ) (l : List Step) (r : Reading) (lines sums ns : List ℕ) {k : Option Place} (h : IsPair (reads bits q W s l r) lines sums ns k) where
+  pub pair_was_cut_off : k ≡ None → StepsGive bits q W s l r None
   pair_was_cut_off e = record { are = was_none (reads bits q W s l r) lines sums ns k h e }
 
-  pub pair_was_at : {after : Place} → k ≡ At after.at after.tight after.long → StepsGive bits q W s l r (some (held lines sums ns after))
+  pub pair_was_at : {after : Place} → k ≡ Some (after) → StepsGive bits q W s l r (Some (held lines sums ns after))
   pair_was_at {after} e = record { are = was_some (reads bits q W s l r) lines sums ns k after h e }
 
 -- ---- what a pass hands back, and what is known of it by a caller
 
-pub passed_cut_off : (o : Option Reading) (lines : List ℕ) (r : Passed) → o ≡ none → r.ok ≡ false → IsPassed o lines r
-passed_cut_off o lines r e f = rw e f
+pub passed_cut_off : {o : Option Reading} (lines : List ℕ) → o ≡ None → IsPassed o lines None
+passed_cut_off lines e = rw e refl
 
-pub passed : (o : Option Reading) (lines : List ℕ) (after : Place) (t : Set) → o ≡ some (begun lines t after)
-    → IsPassed o lines (record { ok = true; place = after; set = t })
-passed o lines after t e = rw e (record { ok = refl; lines = refl; records = refl; place = refl })
+pub passed : (o : Option Reading) (lines : List ℕ) (after : Place) (t : Set) → o ≡ Some (begun lines t after)
+    → IsPassed o lines (Some (record { place = after; set = t }))
+passed o lines after t e = rw e (record { lines = refl; records = refl; place = refl })
 
-pub pass_was_cut_off : (o : Option Reading) (lines : List ℕ) (r : Passed) → IsPassed o lines r → r.ok ≡ false → o ≡ none
-pass_was_cut_off none lines r h e = refl
-pass_was_cut_off (some z) lines r h e = absurd (false≢true (sym e ∙ h.ok))
+pub pass_was_cut_off : (o : Option Reading) (lines : List ℕ) (r : Option Passed) → IsPassed o lines r → r ≡ None → o ≡ None
+pass_was_cut_off None lines r h e = refl
+pass_was_cut_off (Some z) lines r h e = absurd (rw e at h)
 
-pub pass_was_read : (o : Option Reading) (lines : List ℕ) (r : Passed) → IsPassed o lines r → r.ok ≡ true
-    → o ≡ some (begun lines r.set r.place)
-pass_was_read none lines r h e = absurd (false≢true (sym h ∙ e))
-pass_was_read (some z) lines r h e = rw (h.lines, h.records, h.place)
+pub pass_was_read : (o : Option Reading) (lines : List ℕ) (r : Option Passed) (p : Passed) → IsPassed o lines r → r ≡ Some p
+    → o ≡ Some (begun lines p.set p.place)
+pass_was_read None lines r p h e = let no : ◌≡◌ {A = ℕ} 0 1 = cc in absurd (omega arith)
+pass_was_read (Some z) lines r p h e =
+    let k : IsRead z lines p = rw e at h in
+    rw (k.lines, k.records, k.place)

@@ -3,7 +3,6 @@
 use mathlib.Core.Bool.{Bool, true, false, cond}
 use mathlib.Core.List.{List, [], ◌∷◌}
 use mathlib.Core.Logic.{◌≢◌}
-use mathlib.Core.Option.{Option, none, some}
 use mathlib.Core.Path.{◌≡◌, refl, sym, ◌∙◌}
 use Prim.Native.Nat.{ℕ, zero, suc, ◌+◌, ◌-◌, ◌*◌, ◌/◌, ◌%◌, ◌≤◌, ◌<◌}
 use native.Mathlib.Omega.{arith}
@@ -13,8 +12,6 @@ use lib.ListN.{length, get_or, set, length-set}
 use lib.Seq.{get_or-set_same, get_or-set_other}
 use Rattle.numbers.proofs.OrderLaws.{split}
 use Rattle.prediction.specs.declared.Context.{Context}
-use Rattle.code.specs.declared.Coded.{Coded}
-use Rattle.code.specs.declared.Coded.TheVariants.{Read, Truncated}
 use Rattle.pass_schedule.specs.Steps.{Step, step_at, even_steps, odd_steps, turn_steps, upto, pass_steps}
 use Rattle.pass_steps.specs.Contexts.{context_in, look_of, slot_of, step_context}
 use Rattle.pass_steps.specs.Values.{even_at, odd_at, context_at}
@@ -24,50 +21,52 @@ use Rattle.pass_steps.proofs.ContextLaws.{context_is}
 use Rattle.read_pass.specs.Readings.{Reading, interpolate, taken, code_of, read_step, and_then, reads, read_pass}
 use Rattle.read_pass.specs.Windows.{placed}
 use Rattle.read_pass.proofs.StepLaws.{reads_append}
+use Rattle.std.specs.Prelude.{None, Some, Option}
+use Rattle.code.specs.declared.Code.{Code}
 
 -- ---- two outcomes
 
 -- both are cut off, or both go on, with readings that R holds of
 abbrev pub Alike : (Reading → Reading → Type 0) → Option Reading → Option Reading → Type 0
-Alike R none none = Unit {0}
-Alike R none (some y) = ⊥
-Alike R (some x) none = ⊥
-Alike R (some x) (some y) = R x y
+Alike R None None = Unit {0}
+Alike R None (Some y) = ⊥
+Alike R (Some x) None = ⊥
+Alike R (Some x) (Some y) = R x y
 
 alike_then : (R Q : Reading → Reading → Type 0) (o o' : Option Reading) (f f' : Reading → Option Reading)
     → Alike R o o' → ((x y : Reading) → R x y → Alike Q (f x) (f' y)) → Alike Q (and_then o f) (and_then o' f')
 unfolding and_then
-alike_then R Q none none f f' a k = tt
-alike_then R Q none (some y) f f' a k = absurd a
-alike_then R Q (some x) none f f' a k = absurd a
-alike_then R Q (some x) (some y) f f' a k = k x y a
+alike_then R Q None None f f' a k = tt
+alike_then R Q None (Some y) f f' a k = absurd a
+alike_then R Q (Some x) None f f' a k = absurd a
+alike_then R Q (Some x) (Some y) f f' a k = k x y a
 
 alike_weaker : (R Q : Reading → Reading → Type 0) (o o' : Option Reading) → Alike R o o' → ((x y : Reading) → R x y → Q x y) → Alike Q o o'
-alike_weaker R Q none none a k = tt
-alike_weaker R Q none (some y) a k = absurd a
-alike_weaker R Q (some x) none a k = absurd a
-alike_weaker R Q (some x) (some y) a k = k x y a
+alike_weaker R Q None None a k = tt
+alike_weaker R Q None (Some y) a k = absurd a
+alike_weaker R Q (Some x) None a k = absurd a
+alike_weaker R Q (Some x) (Some y) a k = k x y a
 
 -- with what each of them is
-pub alike_with : (R Q : Reading → Reading → Type 0) (o o' : Option Reading) → Alike R o o' → ((x y : Reading) → o ≡ some x → o' ≡ some y → R x y → Q x y)
+pub alike_with : (R Q : Reading → Reading → Type 0) (o o' : Option Reading) → Alike R o o' → ((x y : Reading) → o ≡ Some x → o' ≡ Some y → R x y → Q x y)
     → Alike Q o o'
-alike_with R Q none none a k = tt
-alike_with R Q none (some y) a k = absurd a
-alike_with R Q (some x) none a k = absurd a
-alike_with R Q (some x) (some y) a k = k x y refl refl a
+alike_with R Q None None a k = tt
+alike_with R Q None (Some y) a k = absurd a
+alike_with R Q (Some x) None a k = absurd a
+alike_with R Q (Some x) (Some y) a k = k x y refl refl a
 
-pub alike_same : (Q : Reading → Reading → Type 0) (o : Option Reading) → ((x : Reading) → o ≡ some x → Q x x) → Alike Q o o
-alike_same Q none k = tt
-alike_same Q (some x) k = k x refl
+pub alike_same : (Q : Reading → Reading → Type 0) (o : Option Reading) → ((x : Reading) → o ≡ Some x → Q x x) → Alike Q o o
+alike_same Q None k = tt
+alike_same Q (Some x) k = k x refl
 
 -- by the second of them
-pub alike_none : (R : Reading → Reading → Type 0) (o o' : Option Reading) → Alike R o o' → o' ≡ none → o ≡ none
-alike_none R none o' a e = refl
-alike_none R (some x) o' a e = absurd (rw e at a)
+pub alike_none : (R : Reading → Reading → Type 0) (o o' : Option Reading) → Alike R o o' → o' ≡ None → o ≡ None
+alike_none R None o' a e = refl
+alike_none R (Some x) o' a e = absurd (rw e at a)
 
-pub alike_some : (R : Reading → Reading → Type 0) (o o' : Option Reading) (y : Reading) → Alike R o o' → o' ≡ some y → (x : Reading) × (o ≡ some x) × R x y
-alike_some R none o' y a e = absurd (rw e at a)
-alike_some R (some x) o' y a e = (x, refl, rw e at a)
+pub alike_some : (R : Reading → Reading → Type 0) (o o' : Option Reading) (y : Reading) → Alike R o o' → o' ≡ Some y → (x : Reading) × (o ≡ Some x) × R x y
+alike_some R None o' y a e = absurd (rw e at a)
+alike_some R (Some x) o' y a e = (x, refl, rw e at a)
 
 -- ---- one step
 
@@ -85,11 +84,11 @@ module _ (bits q W : ℕ) (s : List ℕ) (L L' p : ℕ) (coded : Bool) (r r' : R
     (el : r.long ≡ r'.long)
     (ex : step_context W (step_at L p coded) r.lines ≡ step_context W (step_at L' p coded) r'.lines) where
   -- what a code makes of both
-  code_alike : (b : Bool) (g : Coded) (i i' slot : ℕ) (c : Context) (h : Look)
-      → Alike (Put i i' r r') (cond b (taken bits q i slot c h r g) (some (interpolate i c r)))
-      (cond b (taken bits q i' slot c h r' g) (some (interpolate i' c r')))
-  code_alike true Truncated i i' slot c h = tt
-  code_alike true (Read d) i i' slot c h =
+  code_alike : (b : Bool) (g : Option Code) (i i' slot : ℕ) (c : Context) (h : Look)
+      → Alike (Put i i' r r') (cond b (taken bits q i slot c h r g) (Some (interpolate i c r)))
+      (cond b (taken bits q i' slot c h r' g) (Some (interpolate i' c r')))
+  code_alike true None i i' slot c h = tt
+  code_alike true (Some d) i i' slot c h =
       record { value = _; lines = refl; lines' = refl; sets = rw es; ats = refl; tights = rw et; longs = rw el }
   code_alike false g i i' slot c h =
       record { value = _; lines = refl; lines' = refl; sets = es; ats = ea; tights = et; longs = el }
@@ -376,9 +375,9 @@ module _ (bits q W : ℕ) (s : List ℕ) (P : Plan) (A C b b' c c' : ℕ) (eb : 
       → Alike Q (reads bits q W s (x ∷ y ∷ []) r) (reads bits q W s (x' ∷ y' ∷ []) r')
   unfolding reads and_then
   two_steps R Q x y x' y' r r' a k =
-      alike_then R Q (read_step bits q W s x r) (read_step bits q W s x' r') (λ z. and_then (read_step bits q W s y z) (λ v. some v))
-      (λ z. and_then (read_step bits q W s y' z) (λ v. some v)) a
-      (λ z z' h. alike_then Q Q (read_step bits q W s y z) (read_step bits q W s y' z') (λ v. some v) (λ v. some v) (k z z' h) (λ v v' m. m))
+      alike_then R Q (read_step bits q W s x r) (read_step bits q W s x' r') (λ z. and_then (read_step bits q W s y z) (λ v. Some v))
+      (λ z. and_then (read_step bits q W s y' z) (λ v. Some v)) a
+      (λ z z' h. alike_then Q Q (read_step bits q W s y z) (read_step bits q W s y' z') (λ v. Some v) (λ v. Some v) (k z z' h) (λ v v' m. m))
 
   -- both lines are equally far
   abbrev pub At : ℕ → ℕ → Reading → Reading → Type 0

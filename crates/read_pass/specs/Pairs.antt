@@ -1,6 +1,5 @@
 -- Inside. What the functions of a pass ask for, and what they hand back.
-use Rattle.std.specs.Prelude.{Bool, true, false, List, ◌≡◌, ℕ, ◌+◌, ◌*◌, ◌/◌, ◌%◌, ◌^◌, ◌≤◌, ◌<◌, length}
-use Rattle.std.proofs.Math.Option.{Option, none, some}
+use Rattle.std.specs.Prelude.{Bool, true, false, List, ◌≡◌, ℕ, ◌+◌, ◌*◌, ◌/◌, ◌%◌, ◌^◌, ◌≤◌, ◌<◌, length, None, Some, Option, IsSomeAnd, IfSome}
 use Rattle.bits.specs.declared.BitPosition.{BitPosition}
 use Rattle.statistics.specs.declared.Record.{Record}
 use Rattle.code.specs.declared.Place.{Place}
@@ -17,8 +16,6 @@ use Rattle.pass_ahead.specs.Arrays.{EvenHere, OddHere}
 use Rattle.pass_ahead.specs.Tables.{AreNext, AreDigits}
 use Rattle.read_pass.specs.Readings.{Reading, reads, read_pass}
 use Rattle.read_pass.specs.Sites.{LineTables}
-use Rattle.read_pass.specs.declared.Pair.{Pair}
-use Rattle.read_pass.specs.declared.Pair.TheVariants.{At, CutOff}
 use Rattle.read_pass.specs.declared.Passed.{Passed}
 use Rattle.read_pass.specs.declared.Turn.{Turn}
 
@@ -32,10 +29,6 @@ held lines sums ns from = reading_at lines (zip_records sums ns) from
 
 abbrev pub begun : List ℕ → Set → Place → Reading
 begun lines t from = reading_at lines (records_of t) from
-
--- a place from its parts
-abbrev pub place_at : BitPosition → Bool → ℕ → Place
-place_at at tight long = record { at = at; tight = tight; long = long }
 
 -- where a reading is
 abbrev pub place_of : Reading → Place
@@ -85,12 +78,12 @@ pub record BothOdd (t : Turn) (lines first second : List ℕ) : Type 0 where
   pub two : OddHere t.base t.spot.w lines t.spot.plan.second t.spot.p t.entry second
 
 -- the answer, the colour lines and the set, by what their steps read. Where they are cut off the lists are left free
-abbrev pub IsPair : Option Reading → List ℕ → List ℕ → List ℕ → Pair → Type 0
-IsPair none lines sums ns r = r ≡ CutOff
-IsPair (some z) lines sums ns r =
-    (r ≡ At z.at z.tight z.long) × (lines ≡ z.lines) × (zip_records sums ns ≡ z.set)
+abbrev pub IsPair : Option Reading → List ℕ → List ℕ → List ℕ → Option Place → Type 0
+IsPair None lines sums ns r = r ≡ None
+IsPair (Some z) lines sums ns r =
+    (r ≡ Some (place_of z)) × (lines ≡ z.lines) × (zip_records sums ns ≡ z.set)
 
-pub record PairGives (spot : Spot) (q : ℕ) (s : List ℕ) (l : List Step) (from : Reading) (lines sums ns ks : List ℕ) (r : Pair) : Type 0 where
+pub record PairGives (spot : Spot) (q : ℕ) (s : List ℕ) (l : List Step) (from : Reading) (lines sums ns ks : List ℕ) (r : Option Place) : Type 0 where
   pub answer : IsPair (reads spot.bits q spot.w s l from) lines sums ns r
   pub records : SetInRange (zip_records sums ns)
   pub ks_kept : AreKs (zip_records sums ns) ks
@@ -125,17 +118,16 @@ pub record PassAsks (bits W : ℕ) (P : Plan) (qs : Quantisers) (from : Place) (
   pub counted : from.long ≤ from.at.0
 
 -- where a pass is read to its end, by the reading z
-pub record IsRead (z : Reading) (l : List ℕ) (r : Passed) : Type 0 where
-  pub ok : r.ok ≡ true
+pub record IsRead (z : Reading) (l : List ℕ) (p : Passed) : Type 0 where
   pub lines : l ≡ z.lines
-  pub records : records_of r.set ≡ z.set
-  pub place : r.place ≡ place_of z
+  pub records : records_of p.set ≡ z.set
+  pub place : p.place ≡ place_of z
 
--- where it is cut off the place, the colour lines and the set are left free
-abbrev pub IsPassed : Option Reading → List ℕ → Passed → Type 0
-IsPassed none lines r = r.ok ≡ false
-IsPassed (some z) lines r = IsRead z lines r
+-- where it is cut off the colour lines are left free
+abbrev pub IsPassed : Option Reading → List ℕ → Option Passed → Type 0
+IsPassed None lines r = r ≡ None
+IsPassed (Some z) lines r = IsSomeAnd r (λ p. IsRead z lines p)
 
-pub record PassGives (bits W : ℕ) (P : Plan) (qs : Quantisers) (s : List ℕ) (from : Reading) (lines : List ℕ) (r : Passed) : Type 0 where
+pub record PassGives (bits W : ℕ) (P : Plan) (qs : Quantisers) (s : List ℕ) (from : Reading) (lines : List ℕ) (r : Option Passed) : Type 0 where
   pub answer : IsPassed (read_pass bits qs.base W s P from) lines r
-  pub records : SetInRange (records_of r.set)
+  pub records : IfSome r (λ p. SetInRange (records_of p.set))

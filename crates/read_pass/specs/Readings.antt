@@ -1,7 +1,6 @@
 -- Rules. Reading: what a step makes of the colour lines, the records of its set, the bit position, the verdict and the count of long codes. Assumes
 -- nothing.
-use Rattle.std.specs.Prelude.{Bool, cond, ◌&&◌, List, [], ◌∷◌, ℕ, ◌+◌, get_or, set}
-use Rattle.std.proofs.Math.Option.{Option, none, some}
+use Rattle.std.specs.Prelude.{Bool, cond, ◌&&◌, List, [], ◌∷◌, ℕ, ◌+◌, get_or, set, None, Some, Option}
 use Rattle.numbers.specs.Numbers.{flag}
 use Rattle.bits.specs.declared.BitPosition.{BitPosition}
 use Rattle.statistics.specs.Statistics.{k_of, updated}
@@ -12,8 +11,6 @@ use Rattle.code.specs.Codes.{code_at}
 use Rattle.code.specs.Samples.{residual_of, sample_of}
 use Rattle.code.specs.Tight.{is_tight}
 use Rattle.code.specs.declared.Code.{Code}
-use Rattle.code.specs.declared.Coded.{Coded}
-use Rattle.code.specs.declared.Coded.TheVariants.{Read, Truncated}
 use Rattle.pass_schedule.specs.Steps.{Step, pass_steps, step_place}
 use Rattle.pass_steps.specs.Contexts.{used_quantiser, no_record, step_context, step_look, step_slot}
 use Rattle.pass_steps.specs.declared.Look.{Look}
@@ -43,18 +40,18 @@ take_code bits q i slot x h c r =
       long = r.long + flag c.long;
     }
 
-abbrev pub taken : ℕ → ℕ → ℕ → ℕ → Context → Look → Reading → Coded → Option Reading
-taken bits q i slot x h r (Read c) = some (take_code bits q i slot x h c r)
-taken bits q i slot x h r Truncated = none
+abbrev pub taken : ℕ → ℕ → ℕ → ℕ → Context → Look → Reading → Option Code → Option Reading
+taken bits q i slot x h r (Some c) = Some (take_code bits q i slot x h c r)
+taken bits q i slot x h r None = None
 
 -- the code of a sample, read from the bytes s
-abbrev pub code_of : ℕ → ℕ → List ℕ → ℕ → Look → Reading → Coded
+abbrev pub code_of : ℕ → ℕ → List ℕ → ℕ → Look → Reading → Option Code
 code_of bits q s slot h r =
     let Q = used_quantiser bits q h.choice in
     code_at s r.at.0 (k_of (get_or r.set slot no_record)) Q.limit Q.raw
 
 -- the code of a step
-abbrev pub step_code : ℕ → ℕ → ℕ → List ℕ → Step → Reading → Coded
+abbrev pub step_code : ℕ → ℕ → ℕ → List ℕ → Step → Reading → Option Code
 step_code bits q W s x r = code_of bits q s (step_slot q W x r.lines) (step_look q W x r.lines) r
 
 -- one step; none where the line is cut off
@@ -63,15 +60,15 @@ read_step bits q W s x r =
     let i = step_place W x in
     let c = step_context W x r.lines in
     let h = step_look q W x r.lines in
-    cond x.coded (taken bits q i (step_slot q W x r.lines) c h r (step_code bits q W s x r)) (some (interpolate i c r))
+    cond x.coded (taken bits q i (step_slot q W x r.lines) c h r (step_code bits q W s x r)) (Some (interpolate i c r))
 
 unfoldable pub and_then : {A B : Type 0} → Option A → (A → Option B) → Option B
-and_then none f = none
-and_then (some a) f = f a
+and_then None f = None
+and_then (Some a) f = f a
 
 -- the steps of a list, one after the other
 unfoldable pub reads : ℕ → ℕ → ℕ → List ℕ → List Step → Reading → Option Reading
-reads bits q W s [] r = some r
+reads bits q W s [] r = Some r
 reads bits q W s (x ∷ l) r = and_then (read_step bits q W s x r) (λ z. reads bits q W s l z)
 
 -- a pass

@@ -8,10 +8,9 @@ ghost use Rattle.pass_schedule.specs.Steps.{even_steps, odd_steps};
 ghost use Rattle.pass_ahead.specs.Odds.{ByFlatness};
 ghost use Rattle.pass_ahead.specs.Arrays.{Ahead};
 ghost use Rattle.read_pass.specs.Windows.{window_line, window_plan};
-ghost use Rattle.read_pass.specs.Pairs.{PairAsks, BothEven, BothOdd, PairGives, ChunkAsks, chunk_steps, PassAsks, PassGives, place_at, held, begun};
+ghost use Rattle.read_pass.specs.Pairs.{PairAsks, BothEven, BothOdd, PairGives, ChunkAsks, chunk_steps, PassAsks, PassGives, held, begun};
 
-use bits::BitPosition;
-use code::{Place, Taken};
+use code::Place;
 use pass_schedule::Plan;
 use pass_steps::{Quantisers, Set, Spot};
 
@@ -25,17 +24,9 @@ pub struct Turn {
     pub entry: usize,
 }
 
-// Where the reading is after two samples, in parts; or that no one bit was left.
-#[derive(Clone, Copy)]
-pub enum Pair {
-    At(BitPosition, bool, u64),
-    CutOff,
-}
-
-// What a pass hands back. Where it was cut off, all but `ok` means nothing.
+// What a pass hands back: where the reading is after it, and its set.
 #[derive(Clone, Copy)]
 pub struct Passed {
-    pub ok: bool,
     pub place: Place,
     pub set: Set,
 }
@@ -73,9 +64,7 @@ pub fn window_plan(p: Plan, windowed: bool) -> Plan
 // The two samples at an even position p. It is called from one place only, and so it is taken into the loop.
 fn even_pair(
     block: &[u8],
-    from: BitPosition,
-    from_tight: bool,
-    from_long: u64,
+    from: Place,
     lines: &mut [u16],
     sums: &mut [u32; 112],
     ns: &mut [u32; 112],
@@ -88,55 +77,48 @@ fn even_pair(
     digits: &[u8; 65],
     first: &[u16; 432],
     second: &[u16; 432],
-) -> Pair
-    requires pair_asks { PairAsks turn.spot turn.base (place_at from from_tight from_long) block.now lines.old sums.old ns.old ks.old
+) -> Option<Place>
+    requires pair_asks { PairAsks turn.spot turn.base from block.now lines.old sums.old ns.old ks.old
         steps.now limits.now totals.now next.now digits.now }
     requires both_even { BothEven turn lines.old first.now second.now }
     ensures { PairGives turn.spot turn.base block.now (even_steps turn.spot.plan turn.spot.p)
-        (held lines.old sums.old ns.old (place_at from from_tight from_long))
+        (held lines.old sums.old ns.old from)
         lines.new sums.new ns.new ks.new result }
 {
-    let mut at = from;
-    let mut tight = from_tight;
-    let mut long = from_long;
+    // By its parts, not as a whole: with the padding of a `Place` LLVM would keep it in memory, and copy it at each sample.
+    let mut place = Place {
+        at: from.at,
+        tight: from.tight,
+        long: from.long,
+    };
     let spot = turn.spot;
     let h = turn.entry;
     let i = pass_steps::left_of(spot.w, spot.plan.first, spot.p);
     if pass_schedule::has_code(spot.plan.first_rule, spot.p) {
         let c = one_sample::even_coding(first, h, i, spot.bits, limits, ks);
-        let got = one_sample::taken(block, from, from_tight, from_long, c, spot.bits);
-        let Taken::Read(code, after, still_tight, now_long) = got else {
-            return Pair::CutOff;
-        };
+        let (code, after) = one_sample::taken(block, place, c, spot.bits)?;
         one_sample::put_sample(lines, c, steps, totals, code);
         pass_ahead::update_by(sums, ns, ks, next, digits, c.slot, code);
-        at = after;
-        tight = still_tight;
-        long = now_long;
+        place = after;
     } else {
         lines[i + 1] = first[h];
     }
     let j = pass_steps::left_of(spot.w, spot.plan.second, spot.p);
     if pass_schedule::has_code(spot.plan.second_rule, spot.p) {
         let c = one_sample::even_coding(second, h, j, spot.bits, limits, ks);
-        let got = one_sample::taken(block, at, tight, long, c, spot.bits);
-        let Taken::Read(code, after, still_tight, now_long) = got else {
-            return Pair::CutOff;
-        };
+        let (code, after) = one_sample::taken(block, place, c, spot.bits)?;
         one_sample::put_sample(lines, c, steps, totals, code);
         pass_ahead::update_by(sums, ns, ks, next, digits, c.slot, code);
-        return Pair::At(after, still_tight, now_long);
+        return Some(after);
     }
     lines[j + 1] = second[h];
-    Pair::At(at, tight, long)
+    Some(place)
 }
 
 // The two samples at an odd position p.
 fn odd_pair(
     block: &[u8],
-    from: BitPosition,
-    from_tight: bool,
-    from_long: u64,
+    from: Place,
     lines: &mut [u16],
     sums: &mut [u32; 112],
     ns: &mut [u32; 112],
@@ -150,38 +132,30 @@ fn odd_pair(
     flatness: &[u32; 27],
     first: &[u16; 432],
     second: &[u16; 432],
-) -> Pair
-    requires pair_asks { PairAsks turn.spot turn.base (place_at from from_tight from_long) block.now lines.old sums.old ns.old ks.old
+) -> Option<Place>
+    requires pair_asks { PairAsks turn.spot turn.base from block.now lines.old sums.old ns.old ks.old
         steps.now limits.now totals.now next.now digits.now }
     requires by_flatness { ByFlatness turn.base flatness.now × BothOdd turn lines.old first.now second.now }
     ensures { PairGives turn.spot turn.base block.now (odd_steps turn.spot.plan turn.spot.p)
-        (held lines.old sums.old ns.old (place_at from from_tight from_long))
+        (held lines.old sums.old ns.old from)
         lines.new sums.new ns.new ks.new result }
 {
     let spot = turn.spot;
     let c = one_sample::odd_coding(lines, first, turn, spot.plan.first, flatness, limits, ks);
-    let got = one_sample::taken(block, from, from_tight, from_long, c, spot.bits);
-    let Taken::Read(code, at, tight, long) = got else {
-        return Pair::CutOff;
-    };
+    let (code, between) = one_sample::taken(block, from, c, spot.bits)?;
     one_sample::put_sample(lines, c, steps, totals, code);
     pass_ahead::update_by(sums, ns, ks, next, digits, c.slot, code);
     let c = one_sample::odd_coding(lines, second, turn, spot.plan.second, flatness, limits, ks);
-    let got = one_sample::taken(block, at, tight, long, c, spot.bits);
-    let Taken::Read(code, after, still_tight, now_long) = got else {
-        return Pair::CutOff;
-    };
+    let (code, after) = one_sample::taken(block, between, c, spot.bits)?;
     one_sample::put_sample(lines, c, steps, totals, code);
     pass_ahead::update_by(sums, ns, ks, next, digits, c.slot, code);
-    Pair::At(after, still_tight, now_long)
+    Some(after)
 }
 
 // n turns of a pass, from position `spot.p` on: an even position, and the odd one seven before it, where they are positions of the line.
 fn chunk(
     block: &[u8],
-    from: BitPosition,
-    from_tight: bool,
-    from_long: u64,
+    from: Place,
     lines: &mut [u16],
     sums: &mut [u32; 112],
     ns: &mut [u32; 112],
@@ -197,30 +171,31 @@ fn chunk(
     flatness: &[u32; 27],
     first: &[u16; 432],
     second: &[u16; 432],
-) -> Pair
-    requires chunk_asks { ChunkAsks spot base n (place_at from from_tight from_long) block.now lines.old sums.old ns.old ks.old
+) -> Option<Place>
+    requires chunk_asks { ChunkAsks spot base n from block.now lines.old sums.old ns.old ks.old
         steps.now limits.now totals.now next.now digits.now flatness.now }
     requires ahead { Ahead base spot.w lines.old spot.plan.first spot.p n first.now
         × Ahead base spot.w lines.old spot.plan.second spot.p n second.now }
     ensures { PairGives spot base block.now (chunk_steps spot.w spot.plan spot.p n)
-        (held lines.old sums.old ns.old (place_at from from_tight from_long))
+        (held lines.old sums.old ns.old from)
         lines.new sums.new ns.new ks.new result }
 {
     let w = spot.w;
     let bits = spot.bits;
     let plan = spot.plan;
     let c = spot.p;
-    let mut at = from;
-    let mut tight = from_tight;
-    let mut long = from_long;
+    // By its parts, not as a whole: with the padding of a `Place` LLVM would keep it in memory, and copy it at each sample.
+    let mut place = Place {
+        at: from.at,
+        tight: from.tight,
+        long: from.long,
+    };
     for h in 0..n {
         let p = c + 2 * h;
         if p < w {
-            let got = even_pair(
+            place = even_pair(
                 block,
-                at,
-                tight,
-                long,
+                place,
                 lines,
                 sums,
                 ns,
@@ -237,20 +212,12 @@ fn chunk(
                 digits,
                 first,
                 second,
-            );
-            let Pair::At(after, still_tight, now_long) = got else {
-                return Pair::CutOff;
-            };
-            at = after;
-            tight = still_tight;
-            long = now_long;
+            )?;
         }
         if p >= 8 {
-            let got = odd_pair(
+            place = odd_pair(
                 block,
-                at,
-                tight,
-                long,
+                place,
                 lines,
                 sums,
                 ns,
@@ -273,19 +240,13 @@ fn chunk(
                 flatness,
                 first,
                 second,
-            );
-            let Pair::At(after, still_tight, now_long) = got else {
-                return Pair::CutOff;
-            };
-            at = after;
-            tight = still_tight;
-            long = now_long;
+            )?;
         }
     }
-    Pair::At(at, tight, long)
+    Some(place)
 }
 
-// A pass, 48 turns at a time: for more the arrays of what is known ahead would take more stack than a call may.
+// A pass; None where no one bit is left. It goes 48 turns at a time: for more the arrays of what is known ahead would take more stack than a call may.
 pub fn pass(
     block: &[u8],
     from: Place,
@@ -295,7 +256,7 @@ pub fn pass(
     plan: Plan,
     qs: Quantisers,
     bits: u32,
-) -> Passed
+) -> Option<Passed>
     requires { PassAsks bits w plan qs from block.now lines.old set }
     ensures { PassGives bits w plan qs block.now (begun lines.old set from) lines.new result }
 {
@@ -312,19 +273,20 @@ pub fn pass(
     let digits = pass_ahead::digits_table();
     let mut first = [0u16; 432];
     let mut second = [0u16; 432];
-    let mut at = from.at;
-    let mut tight = from.tight;
-    let mut long = from.long;
+    // By its parts, not as a whole: with the padding of a `Place` LLVM would keep it in memory, and copy it at each sample.
+    let mut place = Place {
+        at: from.at,
+        tight: from.tight,
+        long: from.long,
+    };
     for i in 0..(w + 8).div_ceil(96) {
         let c = 96 * i;
         let n = ((w + 8 - c) / 2).min(48);
         pass_ahead::fill(lines, w, plan.first, c, n, base, &mut first);
         pass_ahead::fill(lines, w, plan.second, c, n, base, &mut second);
-        let got = chunk(
+        place = chunk(
             block,
-            at,
-            tight,
-            long,
+            place,
             lines,
             &mut sums,
             &mut ns,
@@ -345,21 +307,10 @@ pub fn pass(
             &flatness,
             &first,
             &second,
-        );
-        let Pair::At(after, still_tight, now_long) = got else {
-            return Passed {
-                ok: false,
-                place: from,
-                set: Set { sums, ns },
-            };
-        };
-        at = after;
-        tight = still_tight;
-        long = now_long;
+        )?;
     }
-    Passed {
-        ok: true,
-        place: Place { at, tight, long },
+    Some(Passed {
+        place,
         set: Set { sums, ns },
-    }
+    })
 }

@@ -12,8 +12,7 @@ ghost use Rattle.pass_ahead.specs.Tables.{choice_at, BySlot};
 ghost use Rattle.read_pass.specs.Sites.{coding_by, OddCoding, CodingFits, LimitsFit, RawFits};
 
 use crate::Turn;
-use bits::BitPosition;
-use code::{Short, Taken};
+use code::Place;
 
 // How a sample is coded: one place before it among the colour lines, its prediction, its record's place in the set, a number that is odd where its gradient is
 // negative, the record's k, the largest sample, and the limit of its quantiser.
@@ -111,32 +110,45 @@ pub fn odd_coding(
 }
 
 // What the slow reader took, put together anew. As it is it lies in memory, and whatever is taken at once would go there too.
-fn in_parts(t: Taken) -> Taken
+fn in_parts(t: Option<(u32, Place)>) -> Option<(u32, Place)>
     ensures { result ≡ t }
 {
-    let Taken::Read(value, at, tight, long) = t else {
-        return Taken::Truncated;
-    };
-    Taken::Read(value, at, tight, long)
+    let (value, place) = t?;
+    Some((
+        value,
+        Place {
+            at: place.at,
+            tight: place.tight,
+            long: place.long,
+        },
+    ))
 }
 
-// What is taken of a sample's code: at once where it is short and tight, and else by the slow reader, which is asked for the raw bits too.
+// What is taken of a sample's code, and where the reading is after it: at once where the code is short and tight, and else by the slow reader, which is
+// asked for the raw bits too. None where no one bit is left.
 // INLINING: the slow reader has two calls that differ. With one LLVM inlines it here, and this is then too large for the loop.
-pub fn taken(block: &[u8], at: BitPosition, tight: bool, long: u64, c: Coding, bits: u32) -> Taken
+pub fn taken(block: &[u8], from: Place, c: Coding, bits: u32) -> Option<(u32, Place)>
     requires block_len_bound { (length block.now < 2 ^ 32) × ((c.k ≤ 15) × ((c.limit < 64) × RawFits bits c.limit)) }
-    requires long_le_at { long ≤ at.0 }
-    ensures { (result ≡ taken_of c.m tight long
-        (code_at block.now at.0 c.k c.limit (4 * bits - 1 - c.limit))) × Small result }
+    requires long_le_at { from.long ≤ from.at.0 }
+    ensures { (result ≡ taken_of c.m from.tight from.long
+        (code_at block.now from.at.0 c.k c.limit (4 * bits - 1 - c.limit))) × Small result }
 {
-    let found = code_reader::short_code(block, at, c.m, c.k, c.limit);
-    let Short::Code(value, after) = found else {
+    let found = code_reader::short_code(block, from.at, c.m, c.k, c.limit);
+    let Some((value, at)) = found else {
         let raw = 4 * bits - 1 - c.limit;
         if c.k == 0 {
-            return in_parts(code_reader::take_any(block, at, tight, long, c.m, 0, c.limit, raw));
+            return in_parts(code_reader::take_any(block, from, c.m, 0, c.limit, raw));
         }
-        return in_parts(code_reader::take_any(block, at, tight, long, c.m, c.k, c.limit, raw));
+        return in_parts(code_reader::take_any(block, from, c.m, c.k, c.limit, raw));
     };
-    Taken::Read(value, after, tight, long)
+    Some((
+        value,
+        Place {
+            at,
+            tight: from.tight,
+            long: from.long,
+        },
+    ))
 }
 
 // The sample of a code is put in its place.

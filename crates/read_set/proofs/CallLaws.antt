@@ -8,8 +8,6 @@ use lib.Dec.{ltb, eqb}
 use Rattle.image_map.specs.Places.{width_of}
 use Rattle.colour_lines.specs.Sets.{set_size}
 use Rattle.stream.specs.declared.header.FujiHeader.{FujiHeader}
-use Rattle.stream.specs.declared.header.Parsed.{Parsed}
-use Rattle.stream.specs.declared.header.Parsed.TheVariants as Parsing
 use Rattle.stream.specs.declared.header.Refusal.{Refusal}
 use Rattle.stream.specs.declared.header.Refusal.TheVariants.{NoBlock, WrongCount}
 use Rattle.stream.specs.Streams.{open_of}
@@ -21,18 +19,20 @@ use Rattle.read_block.specs.Totals.{refused_by}
 use Rattle.read_block.specs.Walks.{IsWalked}
 use Rattle.read_block.specs.declared.Counted.{Counted}
 use Rattle.read_block.specs.declared.Form.{Form}
-use Rattle.read_block.specs.declared.Walked.{Walked}
 use Rattle.read_set.specs.HandedSets.{set_with, put_over, Sets, with_opened, set_begins, SetReading, LeftSet}
+use Rattle.std.specs.Prelude.{Err, Ok, Result}
+use Rattle.line_totals.specs.declared.TightLines.{TightLines}
+use Rattle.line_totals.specs.declared.Totals.{Totals}
 
 pub record SetAccepted (d : List ℕ) (b count samples records : ℕ) (h : FujiHeader) : Type 0 where
-  pub opens : open_of d ≡ Parsing.Header h
+  pub opens : open_of d ≡ Ok h
   pub block : b < h.blocks
   pub whole : count ≡ set_size (width_of h.xtrans) h.lines
   pub fits : ScratchFits h samples records
 
 module _ (d : List ℕ) (b count samples records : ℕ) (h : FujiHeader) where
-  set_from : (g : FujiHeader) → open_of d ≡ Parsing.Header g → (s t : Bool) → ltb b g.blocks ≡ s → eqb count (set_size (width_of g.xtrans) g.lines) ≡ t
-      → cond s (cond t (with_scratch g samples records) (Parsing.Refused WrongCount)) (Parsing.Refused NoBlock) ≡ Parsing.Header h
+  set_from : (g : FujiHeader) → open_of d ≡ Ok g → (s t : Bool) → ltb b g.blocks ≡ s → eqb count (set_size (width_of g.xtrans) g.lines) ≡ t
+      → cond s (cond t (with_scratch g samples records) (Err WrongCount)) (Err NoBlock) ≡ Ok h
       → SetAccepted d b count samples records h
   set_from g o false t p q e = clash NoBlock h e
   set_from g o true false p q e = clash WrongCount h e
@@ -41,24 +41,24 @@ module _ (d : List ℕ) (b count samples records : ℕ) (h : FujiHeader) where
       subst (λ (x : FujiHeader). SetAccepted d b count samples records x) f.0
       (record { opens = o; block = ltb-true b g.blocks p; whole = eqb-true count (set_size (width_of g.xtrans) g.lines) q; fits = f.1 })
 
-  pub set_reads : set_begins d b count samples records ≡ Parsing.Header h → SetAccepted d b count samples records h
+  pub set_reads : set_begins d b count samples records ≡ Ok h → SetAccepted d b count samples records h
   unfolding set_begins
   set_reads = from (open_of d) refl
     where
-      from : (p : Parsed) → open_of d ≡ p → with_opened p b count samples records ≡ Parsing.Header h → SetAccepted d b count samples records h
-      from (Parsing.Refused x) o e = clash x h e
-      from (Parsing.Header g) o e = set_from g o (ltb b g.blocks) (eqb count (set_size (width_of g.xtrans) g.lines)) refl refl e
+      from : (p : Result FujiHeader Refusal) → open_of d ≡ p → with_opened p b count samples records ≡ Ok h → SetAccepted d b count samples records h
+      from (Err x) o e = clash x h e
+      from (Ok g) o e = set_from g o (ltb b g.blocks) (eqb count (set_size (width_of g.xtrans) g.lines)) refl refl e
 
-module _ (d : List ℕ) (b : ℕ) (before : Sets) (begins : Parsed) where
-  pub set_refused : (x : Refusal) → begins ≡ Parsing.Refused x → (a : Counted) → a ≡ refused_by x → LeftSet d b begins before before a
+module _ (d : List ℕ) (b : ℕ) (before : Sets) (begins : Result FujiHeader Refusal) where
+  pub set_refused : (x : Refusal) → begins ≡ Err x → (a : Counted) → a ≡ refused_by x → LeftSet d b begins before before a
   set_refused x e a f = rw e (f, refl)
 
-  pub set_read_lem : (h : FujiHeader) → begins ≡ Parsing.Header h → (after : Sets) (a : Counted) → SetReading d b h before after a → LeftSet d b begins
+  pub set_read_lem : (h : FujiHeader) → begins ≡ Ok h → (after : Sets) (a : Counted) → SetReading d b h before after a → LeftSet d b begins
       before after a
   set_read_lem h e after a l = rw e l
 
 -- what was read of the block that the stream says
-pub set_walked : (d : List ℕ) (h : FujiHeader) (b n : ℕ) (F : Form) (bases s : List ℕ) (w : Walked) (set set' : List ℕ) → F ≡ form_of h → bases ≡
+pub set_walked : (d : List ℕ) (h : FujiHeader) (b n : ℕ) (F : Form) (bases s : List ℕ) (w : Result (Totals × TightLines) (ℕ × Totals)) (set set' : List ℕ) → F ≡ form_of h → bases ≡
     bases_in d b → s ≡ bytes_in d b
     → n ≡ h.lines → IsWalked F bases s n w × (set' ≡ put_over set 0 (set_with F bases (lines_read F bases s n) s))
     → IsWalked (form_of h) (bases_in d b) (bytes_in d b) h.lines w

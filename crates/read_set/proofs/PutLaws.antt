@@ -12,8 +12,6 @@ use lib.Seq.{take_at, drop-append-add, drop-drop, length-take-le}
 use borrow.Author.Tests.{lt-ltb, le-ltb, eq-eqb, ne_eqb}
 use Rattle.image_map.specs.Places.{width_of}
 use Rattle.stream.specs.declared.header.FujiHeader.{FujiHeader}
-use Rattle.stream.specs.declared.header.Parsed.{Parsed}
-use Rattle.stream.specs.declared.header.Parsed.TheVariants as Parsing
 use Rattle.stream.specs.declared.header.Refusal.{Refusal}
 use Rattle.stream.specs.declared.header.Refusal.TheVariants.{NoBlock, WrongCount}
 use Rattle.stream.specs.Streams.{open_of}
@@ -23,6 +21,7 @@ use Rattle.colour_lines.specs.Sets.{set_size, line_of_rank}
 use Rattle.pass_schedule.specs.Steps.{upto}
 use Rattle.read_set.specs.HandedSets.{put_over, set_begins}
 use Rattle.read_set.specs.Inside.{twelve}
+use Rattle.std.specs.Prelude.{Err, Ok, Result}
 
 pub put_none : (d : List ℕ) (at : ℕ) → d ≡ put_over d at []
 put_none d at = let z : at + 0 ≡ at = omega arith in rw z (sym (take-append-drop at d))
@@ -107,25 +106,25 @@ all_twelve w lines d set' first e = e
 
 -- ---- how a call begins
 
-module _ (d : List ℕ) (b count samples records : ℕ) (p : Parsed) (opens : p ≡ open_of d) where
-  pub begins_refused : (x : Refusal) → p ≡ Parsing.Refused x → Parsing.Refused x ≡ set_begins d b count samples records
+module _ (d : List ℕ) (b count samples records : ℕ) (p : Result FujiHeader Refusal) (opens : p ≡ open_of d) where
+  pub begins_refused : (x : Refusal) → p ≡ Err x → Err x ≡ set_begins d b count samples records
   unfolding set_begins
-  begins_refused x e = let f : open_of d ≡ Parsing.Refused x = sym opens ∙ e in rw f
+  begins_refused x e = let f : open_of d ≡ Err x = sym opens ∙ e in rw f
 
-  module _ (h : FujiHeader) (e : p ≡ Parsing.Header h) where
-    is : open_of d ≡ Parsing.Header h
+  module _ (h : FujiHeader) (e : p ≡ Ok h) where
+    is : open_of d ≡ Ok h
     is = sym opens ∙ e
 
-    pub begins_no_block : h.blocks ≤ b → Parsing.Refused NoBlock ≡ set_begins d b count samples records
+    pub begins_no_block : h.blocks ≤ b → Err NoBlock ≡ set_begins d b count samples records
     unfolding set_begins
     begins_no_block k = rw (is, le-ltb b h.blocks k)
 
-    pub begins_wrong : (n : ℕ) → n ≡ set_size (width_of h.xtrans) h.lines → b < h.blocks → (count ≡ n → ⊥) → Parsing.Refused WrongCount ≡
+    pub begins_wrong : (n : ℕ) → n ≡ set_size (width_of h.xtrans) h.lines → b < h.blocks → (count ≡ n → ⊥) → Err WrongCount ≡
         set_begins d b count samples records
     unfolding set_begins
     begins_wrong n en k ne = rw (is, lt-ltb b h.blocks k, ← en, ne_eqb count n ne)
 
-    pub begins_on : (n : ℕ) (r : Parsed) → n ≡ set_size (width_of h.xtrans) h.lines → b < h.blocks → count ≡ n → r ≡ with_scratch h samples records
+    pub begins_on : (n : ℕ) (r : Result FujiHeader Refusal) → n ≡ set_size (width_of h.xtrans) h.lines → b < h.blocks → count ≡ n → r ≡ with_scratch h samples records
         → r ≡ set_begins d b count samples records
     unfolding set_begins
     begins_on n r en k f er = er ∙ rw (is, lt-ltb b h.blocks k, ← en, eq-eqb count n f)

@@ -1,7 +1,6 @@
 -- The records stay in range, line after line. Assumes nothing.
 use mathlib.Core.Bool.{Bool, true, false, cond}
 use mathlib.Core.List.{List}
-use mathlib.Core.Option.{some}
 use mathlib.Core.Path.{◌≡◌, refl, ◌∙◌}
 use Prim.Native.Nat.{ℕ, zero, suc, ◌*◌, ◌≤◌, ◌<◌}
 use native.Mathlib.Omega.{arith}
@@ -20,6 +19,7 @@ use Rattle.read_block.specs.declared.Form.{Form}
 use Rattle.read_block.proofs.KeepLaws.{lines_keep, left_by}
 use Rattle.read_block.proofs.RangeLaws.{all_started, all_kept, set_in_range, set_full, put_in_range}
 use Rattle.read_block.proofs.TableLaws.{table_length}
+use Rattle.std.specs.Prelude.{Some}
 
 pub Whole : State → Type 0
 Whole r = (length r.records ≡ 336) × AllInRange r.records
@@ -46,7 +46,7 @@ unfolding put_set
 put_long g new rs h long full = length-paste rs (112 * g) new 112 (omega arith) full ∙ long
 
 module _ (F : Form) (depth : F.bits ≤ 16) (s : List ℕ) where
-  pass_whole : (q i : ℕ) (r z : State) → Whole r → pass_at F q s i r ≡ some z → Whole z
+  pass_whole : (q i : ℕ) (r z : State) → Whole r → pass_at F q s i r ≡ Some z → Whole z
   unfolding pass_at Whole
   pass_whole q i r z h e =
       let P : Plan = plan_of F.xtrans i in
@@ -60,7 +60,7 @@ module _ (F : Form) (depth : F.bits ≤ 16) (s : List ℕ) where
   again bits q true rs h = table_length _ 336
   again bits q false rs h = h
 
-  pub records_whole : (bases : List ℕ) (n : ℕ) (z : State) → read_lines F bases s n ≡ some z → (length z.records ≡ 336) × AllInRange z.records
+  pub records_whole : (bases : List ℕ) (n : ℕ) (z : State) → read_lines F bases s n ≡ Some z → (length z.records ≡ 336) × AllInRange z.records
   unfolding Whole start_state start_records
   records_whole bases n z e =
       lines_keep F s Whole pass_whole bases

@@ -1,6 +1,5 @@
 -- A set with one line of six rows more. Assumes nothing.
 use mathlib.Core.List.{List, [], ◌∷◌, ◌++◌, append_assoc, append-nil}
-use mathlib.Core.Option.{some}
 use mathlib.Core.Path.{◌≡◌, refl, sym, ap, ◌∙◌}
 use Prim.Native.Nat.{ℕ, zero, suc, ◌+◌, ◌*◌, ◌/◌, ◌%◌, ◌≤◌, ◌<◌}
 use native.Mathlib.Nat.{add-suc, mod-lt, div-lt_iff_lt-mul, div-add-mod'}
@@ -21,6 +20,7 @@ use Rattle.read_block.proofs.TableLaws.{table_length, table_get_d}
 use Rattle.read_set.specs.HandedSets.{set_with}
 use Rattle.read_set.specs.Inside.{twelve}
 use Rattle.read_set.proofs.PutLaws.{colour, colours_long}
+use Rattle.std.specs.Prelude.{Some}
 
 table_split : (f : ℕ → ℕ) (a b : ℕ) → table f (a + b) ≡ table f a ++ table (λ j. f (a + j)) b
 unfolding table
@@ -41,7 +41,7 @@ colours_at w lines long (suc n) c p hn hc hp =
     (λ k. let m : c * w + p < n * w = digits_lt k hp in
     get_or-append (upto (colour w lines) n) (colour w lines n) 0 (c * w + p) (omega arith) ∙ colours_at w lines long n c p (omega arith) k hp)
 
-module _ (F : Form) (bases s : List ℕ) (n : ℕ) (z : State) (e : read_lines F bases s (suc n) ≡ some z)
+module _ (F : Form) (bases s : List ℕ) (n : ℕ) (z : State) (e : read_lines F bases s (suc n) ≡ Some z)
     (long : length z.lines ≡ 18 * (width_of F.xtrans + 2)) where
   abbrev W : ℕ
   W = width_of F.xtrans

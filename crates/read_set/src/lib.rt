@@ -1,13 +1,12 @@
 // Whole streams: the colour lines of a block are handed out, as the set that the writer takes.
 #![tactic(auto)]
 
-ghost use Rattle.std.specs.Prelude.{◌≡◌, ◌+◌, ◌*◌, ◌^◌, ◌≤◌, ◌<◌, length};
+ghost use Rattle.std.specs.Prelude.{◌≡◌, ◌+◌, ◌*◌, ◌^◌, ◌≤◌, ◌<◌, length, Ok};
 ghost use Rattle.colour_lines.specs.ColourLines.{zero_lines};
 ghost use Rattle.colour_lines.specs.Sets.{line_size, set_size};
 ghost use Rattle.image_map.specs.Places.{width_of};
 ghost use Rattle.pass_steps.specs.Contexts.{Depth};
 ghost use Rattle.stream.specs.Streams.{open_of};
-ghost use Rattle.stream.specs.declared.header.Parsed.TheVariants.{Header};
 ghost use Rattle.read_block.specs.Images.{form_of, bytes_in, bases_in, lines_read};
 ghost use Rattle.read_block.specs.Inside.{ScratchOf};
 ghost use Rattle.read_block.specs.Records.{clear_records};
@@ -19,12 +18,12 @@ pub use admission::set_size;
 use bits::BitPosition;
 use code::Place;
 use colour_lines::{line_of_rank, start_of};
-use image_map::width;
+use image_map::{Showing, width};
 use read_block::{
     Counted, Form, Walked, clear_records, form_of, line_count, read_lines, start_records,
 };
 use statistics::Record;
-use stream::{FujiHeader, Parsed, Refusal};
+use stream::{FujiHeader, Refusal};
 
 // The twelve colour lines of line n, without guards, go to their places in the set.
 fn keep_line(lines: &[u16], w: usize, n: usize, set: &mut [u16])
@@ -69,6 +68,12 @@ fn read_kept(
 {
     let w = width(form.xtrans);
     let places = image_map::xtrans_places();
+    let showing = Showing {
+        xtrans: form.xtrans,
+        places: &places,
+        tile: [0u8; 36],
+        part: read_block::no_part(),
+    };
     let mut nothing = [0u16; 1];
     let mut place = read_block::start_place();
     let mut tight = line_totals::TightLines {
@@ -85,17 +90,15 @@ fn read_kept(
             lines,
             rs,
             &mut nothing,
-            form,
-            &places,
-            [0u8; 36],
-            read_block::no_part(),
+            form.bits,
+            &showing,
             n,
             place,
             1,
             false,
             &cameras::no_entries(),
         );
-        let Walked::Read(more, clean) = got else {
+        let Ok((more, clean)) = got else {
             return got;
         };
         keep_line(lines, w, n, set);
@@ -103,7 +106,7 @@ fn read_kept(
         tight = line_totals::with_line(tight, n, place.tight, more);
         all = more;
     }
-    Walked::Read(all, tight)
+    Ok((all, tight))
 }
 
 fn read_in(
@@ -114,7 +117,7 @@ fn read_in(
     lines: &mut [u16],
     rs: &mut [Record],
 ) -> Walked
-    requires d_value { open_of d.now ≡ Header h }
+    requires d_value { open_of d.now ≡ Ok h }
     requires scratch_of { ScratchOf h.xtrans lines.old rs.old × (length set.old ≡ set_size (width_of h.xtrans) h.lines) }
     ensures walked { IsWalked (form_of h) (bases_in d.now b) (bytes_in d.now b) h.lines result }
     ensures set_after { let n = lines_read (form_of h) (bases_in d.now b) (bytes_in d.now b) h.lines in
@@ -132,22 +135,23 @@ fn read_in(
 }
 
 // Refusals 1 to 5, then 9 for a set of another size, then 10.
-fn set_begins(d: &[u8], b: usize, count: usize, samples: usize, records: usize) -> Parsed
+fn set_begins(
+    d: &[u8],
+    b: usize,
+    count: usize,
+    samples: usize,
+    records: usize,
+) -> Result<FujiHeader, Refusal>
     ensures { result ≡ set_begins d.now b count samples records }
 {
-    let opened = stream::open(d);
-    match opened {
-        Parsed::Refused(x) => Parsed::Refused(x),
-        Parsed::Header(h) => {
-            if (h.blocks as usize) <= b {
-                return Parsed::Refused(Refusal::NoBlock);
-            }
-            if count != set_size(h) {
-                return Parsed::Refused(Refusal::WrongCount);
-            }
-            admission::with_scratch(h, samples, records)
-        }
+    let h = stream::open(d)?;
+    if (h.blocks as usize) <= b {
+        return Err(Refusal::NoBlock);
     }
+    if count != set_size(h) {
+        return Err(Refusal::WrongCount);
+    }
+    admission::with_scratch(h, samples, records)
 }
 
 // The set of block b of the stream d, lossless or lossy. A truncated line and those after it leave their part of the set as it was.
@@ -165,8 +169,8 @@ pub fn read_set(
 {
     let begins = set_begins(d, b, set.len(), lines.len(), rs.len());
     match begins {
-        Parsed::Refused(x) => read_block::refused(x),
-        Parsed::Header(h) => {
+        Err(x) => read_block::refused(x),
+        Ok(h) => {
             let used = admission::samples_needed(h.xtrans);
             let got = read_in(d, h, b, set, &mut lines[0..used], &mut rs[0..336]);
             read_block::read_answer(b, got)

@@ -123,8 +123,8 @@ fn image_agrees(image: &[u16; IMAGE], want: &[u8], s: Sizes, colour: u8) -> bool
 // All lines were read, or the first truncated one is the one after those that the original read.
 fn answer_agrees(r: Walked, s: Sizes) -> bool {
     match r {
-        Walked::Read(_, _) => s.read == s.lines,
-        Walked::Truncated(line, _) => (s.read < s.lines) & (line == s.read),
+        Ok(_) => s.read == s.lines,
+        Err((line, _)) => (s.read < s.lines) & (line == s.read),
     }
 }
 

@@ -8,7 +8,7 @@ ghost use Rattle.prediction.specs.Inside.{ContextRanges};
 ghost use Rattle.quantiser.specs.Inside.{QuantiserRanges};
 
 use bits::BitPosition;
-use code::{Coded, Short, Taken};
+use code::{Code, Place};
 use numbers::Signed;
 use prediction::Context;
 use quantiser::Quantiser;
@@ -178,11 +178,11 @@ fn record_agrees(w: [u32; 12], code: u32) -> bool
 }
 
 // Whether what was read is what the original read: that no one bit was left, or a code with that end, sample and record.
-fn coded_agrees(w: [u32; 12], c: Context, q: Quantiser, m: u32, coded: Coded) -> bool
+fn coded_agrees(w: [u32; 12], c: Context, q: Quantiser, m: u32, coded: Option<Code>) -> bool
     requires { ContextRanges c × (QuantiserRanges q × (m < 2 ^ 16)) }
 {
     let [overrun, _, _, index] = w[10].to_be_bytes();
-    let Coded::Read(got) = coded else {
+    let Some(got) = coded else {
         return overrun == 1;
     };
     let value = got.value;
@@ -195,30 +195,21 @@ fn coded_agrees(w: [u32; 12], c: Context, q: Quantiser, m: u32, coded: Coded) ->
 }
 
 // Whether a pass takes the code that was read.
-fn readers_agree(coded: Coded, taken: Taken) -> bool {
-    let Coded::Read(got) = coded else {
-        return match taken {
-            Taken::Read(_, _, _, _) => false,
-            Taken::Truncated => true,
-        };
-    };
-    let Taken::Read(value, at, _, _) = taken else {
-        return false;
-    };
-    let after = got.after;
-    (value == got.value) & (at.0 == after.0)
+fn readers_agree(coded: Option<Code>, taken: Option<(u32, Place)>) -> bool {
+    match (coded, taken) {
+        (Some(got), Some((value, place))) => value == got.value && place.at.0 == got.after.0,
+        (None, None) => true,
+        _ => false,
+    }
 }
 
 // Whether a short code that is taken at once is the code that was read.
-fn short_agrees(coded: Coded, found: Short) -> bool {
-    let Short::Code(value, at) = found else {
-        return true;
-    };
-    let Coded::Read(got) = coded else {
-        return false;
-    };
-    let after = got.after;
-    (value == got.value) & (at.0 == after.0)
+fn short_agrees(coded: Option<Code>, found: Option<(u32, BitPosition)>) -> bool {
+    match (coded, found) {
+        (_, None) => true,
+        (Some(got), Some((value, at))) => value == got.value && at.0 == got.after.0,
+        (None, Some(_)) => false,
+    }
 }
 
 // Code, from the reading of the code on.
@@ -233,7 +224,12 @@ fn reading_agrees(w: [u32; 12], s: &[u8], c: Context, q: Quantiser, m: u32) -> b
     let k = Record { sum: w[7], n }.k();
     let at = BitPosition(u64::from(w[2]));
     let coded = code_reader::read_code(s, at, k, q.limit, q.raw);
-    let taken = code_reader::take_any(s, at, true, 0, m, k, q.limit, q.raw);
+    let start = Place {
+        at,
+        tight: true,
+        long: 0,
+    };
+    let taken = code_reader::take_any(s, start, m, k, q.limit, q.raw);
     let found = code_reader::short_code(s, at, m, k, q.limit);
     coded_agrees(w, c, q, m, coded) && readers_agree(coded, taken) && short_agrees(coded, found)
 }

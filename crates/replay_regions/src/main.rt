@@ -5,7 +5,6 @@
 ghost use Rattle.std.specs.Prelude.{◌*◌, ◌≤◌, ◌<◌};
 
 use image_region::Rect;
-use read_block::Decoded;
 use replay_common::{Outcome, bytes, half, long, read_full, replay, word};
 use std::io;
 use std::io::Read;
@@ -67,14 +66,12 @@ fn rect_of(record: &[u8]) -> Rect {
 }
 
 // Accepted, or the one refusal with its values.
-fn answer_agrees(a: Decoded, s: Sizes) -> bool {
+fn answer_agrees(a: Result<(), Refusal>, s: Sizes) -> bool {
     match a {
-        Decoded::Done => s.number == 0,
-        Decoded::Refused(r) => match r {
-            Refusal::OutsideImage => s.number == 7,
-            Refusal::Truncated(b, l) => (s.number == 14) & (b == s.block) & (l == s.line),
-            _ => false,
-        },
+        Ok(()) => s.number == 0,
+        Err(Refusal::OutsideImage) => s.number == 7,
+        Err(Refusal::Truncated(b, l)) => s.number == 14 && b == s.block && l == s.line,
+        Err(_) => false,
     }
 }
 

@@ -2,8 +2,7 @@
 use borrow.Author.Tests.{ltb-false, eqb-true}
 use mathlib.Core.Bool.{Bool, true, false, cond, not, ◌||◌}
 use mathlib.Core.List.{List}
-use mathlib.Core.Option.{some}
-use mathlib.Core.Path.{◌≡◌, refl}
+use mathlib.Core.Path.{◌≡◌, refl, sym, ap}
 use Prim.Native.Nat.{ℕ, suc, ◌+◌, ◌*◌, ◌^◌, ◌≤◌, ◌<◌}
 use native.Mathlib.Omega.{arith}
 use lib.Dec.{lit≤, ltb, eqb}
@@ -18,7 +17,6 @@ use Rattle.admission.specs.Beginnings.{samples_needed}
 use Rattle.saved_state.specs.Checkpoints.{kept_line, checked_of, any_below, bad_record, bad_sample, bad_place, bad_checkpoint, other_checkpoint}
 use Rattle.saved_state.specs.Inside.{IsCheckpoint}
 use Rattle.saved_state.specs.Checkpoints.{size_of_checkpoint, next_line, position_in, loaded_record, loaded_lines}
-use Rattle.saved_state.specs.declared.load.Checked.TheVariants.{Bad, Other, At}
 use Rattle.saved_state.proofs.ByteLaws.{left, right}
 use Rattle.saved_state.proofs.StateLaws.{Storable, stored_loads}
 use Rattle.saved_state.proofs.RangeLaws.{loaded_in_range}
@@ -33,6 +31,11 @@ use Rattle.read_block.proofs.TableLaws.{table_get_d}
 use Rattle.read_block.proofs.RangeLaws.{started}
 use Rattle.read_block.proofs.SampleLaws.{samples_in_range}
 use Rattle.saved_state.proofs.StoredLaws.{records_in_range, ends_inside}
+use Rattle.std.specs.Prelude.{Some, Err, Ok, Result}
+use Rattle.stream.specs.declared.header.Refusal.{Refusal}
+use Rattle.stream.specs.declared.header.Refusal.TheVariants.{BadState}
+use Rattle.stream.specs.declared.header.Refusal.TheVariants.{OtherState}
+use Rattle.numbers.proofs.PassedLaws.{same_ok}
 
 pub some_samples : (xtrans : Bool) → 1 ≤ width_of xtrans
 some_samples true = lit≤ tt
@@ -66,17 +69,18 @@ module _ (W bits lines bytes : ℕ) (s : List ℕ) (good : bad_checkpoint W bits
       let f = left (bad_place lines bytes s) (any_below 336 (bad_record s) || any_below (6 * W) (bad_sample bits s)) e in
       ltb-false lines (next_line s) (left (ltb lines (next_line s)) (ltb (8 * bytes + 7) (position_in s)) f)
 
-pub loads_at : (W bits lines bytes : ℕ) (d : List ℕ) (b : ℕ) (s : List ℕ) (k at : ℕ) → checked_of W bits lines bytes d b s ≡ At k at
+pub loads_at : (W bits lines bytes : ℕ) (d : List ℕ) (b : ℕ) (s : List ℕ) (k at : ℕ) → checked_of W bits lines bytes d b s ≡ Ok (k, at)
     → Loads W bits lines bytes s k at
 unfolding checked_of
 loads_at W bits lines bytes d b s k at = go (bad_checkpoint W bits lines bytes s) (other_checkpoint d b s) refl
   where
-    go : (t u : Bool) → bad_checkpoint W bits lines bytes s ≡ t → cond t Bad (cond u Other (At (next_line s) (position_in s))) ≡ At k at
+    go : (t u : Bool) → bad_checkpoint W bits lines bytes s ≡ t → cond {A = Result (ℕ × ℕ) Refusal} t (Err BadState) (cond u (Err OtherState) (Ok (next_line s, position_in s))) ≡ Ok (k, at)
         → Loads W bits lines bytes s k at
     go true u f e = let no : ◌≡◌ {A = ℕ} 0 1 = cc in absurd (omega arith)
     go false true f e = let no : ◌≡◌ {A = ℕ} 0 1 = cc in absurd (omega arith)
     go false false f e =
-        record { next = cc; position = cc; good = f; whole = is_whole W bits lines bytes s f; inside = is_inside W bits lines bytes s f }
+        let same : ◌≡◌ {A = ℕ × ℕ} (next_line s, position_in s) (k, at) = same_ok (next_line s, position_in s) (k, at) e in
+        record { next = sym (ap (λ (x : ℕ × ℕ). x.0) same); position = sym (ap (λ (x : ℕ × ℕ). x.1) same); good = f; whole = is_whole W bits lines bytes s f; inside = is_inside W bits lines bytes s f }
 
 -- what loading leaves in scratch is the state
 pub loaded_is : (F : Form) (h : FujiHeader) (bases s : List ℕ) (q at n w : ℕ) (lines zeros : List ℕ) (rs : List Record) (from : Place) → F ≡ form_of h
@@ -89,7 +93,7 @@ loaded_is F h bases s q at n w lines zeros rs from ef el ew ez en eq er ep ea = 
 -- ---- what was stored loads
 
 module _ (F : Form) (bases s : List ℕ) (depth : F.bits ≤ 16) (short : length s < 2 ^ 32) (lines : ℕ) (few : lines < 2 ^ 16) where
-  pub read_storable : (d : List ℕ) (b n : ℕ) (z : State) → b < 256 → n + 1 ≤ lines → read_lines F bases s (suc n) ≡ some z
+  pub read_storable : (d : List ℕ) (b n : ℕ) (z : State) → b < 256 → n + 1 ≤ lines → read_lines F bases s (suc n) ≡ Some z
       → Storable (width_of F.xtrans) F.bits lines (length s) (saved_of d b n z)
   read_storable d b n z low h e =
       record {
@@ -106,9 +110,9 @@ module _ (F : Form) (bases s : List ℕ) (depth : F.bits ≤ 16) (short : length
 
   -- stored in a stream d, and loaded in a stream d' with the same first 16 bytes
   pub read_loads : (d d' : List ℕ) (b n : ℕ) (z : State) (lossless : Bool) (c : List ℕ) → b < 256 → n + 1 ≤ lines
-      → ((i : ℕ) → i < 16 → get_or d i 0 ≡ get_or d' i 0) → read_lines F bases s (suc n) ≡ some z
+      → ((i : ℕ) → i < 16 → get_or d i 0 ≡ get_or d' i 0) → read_lines F bases s (suc n) ≡ Some z
       → IsCheckpoint lossless (width_of F.xtrans) (saved_of d b n z) c
-      → checked_of (width_of F.xtrans) F.bits lines (length s) d' b c ≡ At (n + 1) z.at.0
+      → checked_of (width_of F.xtrans) F.bits lines (length s) d' b c ≡ Ok ((n + 1), z.at.0)
   read_loads d d' b n z lossless c low h same e is =
       stored_loads lossless (width_of F.xtrans) F.bits lines (length s) (saved_of d b n z) c is (read_storable d b n z low h e) d' same
 

@@ -2,7 +2,6 @@
 use borrow.Author.Tests.{leb-true, lt-ltb, le-ltb, le-leb, eqb-true, eqb-false}
 use mathlib.Core.Bool.{Bool, true, false, cond, ◌&&◌, and-true, and-false}
 use mathlib.Core.List.{List}
-use mathlib.Core.Option.{Option, none}
 use mathlib.Core.Path.{◌≡◌, refl, sym, ap, ◌∙◌}
 use Prim.Native.Nat.{ℕ, suc, ◌+◌, ◌-◌, ◌*◌, ◌/◌, ◌≤◌}
 use native.Mathlib.Omega.{arith}
@@ -30,12 +29,12 @@ use Rattle.saved_state.specs.Calls.{PartWanted, since_counted}
 use Rattle.read_block.specs.WindowedLines.{IsReadOn, ShownOn}
 use Rattle.read_block.specs.declared.Counted.{Counted}
 use Rattle.read_block.specs.declared.Form.{Form}
-use Rattle.read_block.specs.declared.Decoded.TheVariants.{Done, Refused}
-use Rattle.read_block.specs.declared.Walked.{Walked}
-use Rattle.read_block.specs.declared.Walked.TheVariants as Walk
 use Rattle.read_block.proofs.RunLaws.{runs_stay}
 use Rattle.read_block.proofs.CountLaws.{all_counted, cut_counted}
 use Rattle.read_block.proofs.DecodeLaws.{same_test, shown_outside, shown_inside, row_line, part_row, part_bottom, row_place, part_column}
+use Rattle.std.specs.Prelude.{Err, Ok, Result, None, Option}
+use Rattle.line_totals.specs.declared.TightLines.{TightLines}
+use Rattle.line_totals.specs.declared.Totals.{Totals}
 
 module _ (d : List ℕ) (b : ℕ) (h : FujiHeader) (s : List ℕ) where
   abbrev after : ℕ → Option State
@@ -51,30 +50,30 @@ module _ (d : List ℕ) (b : ℕ) (h : FujiHeader) (s : List ℕ) where
   unfolding lines_resumed
   one_more m = refl
 
-  stay : (t m : ℕ) → after t ≡ none → after (t + m) ≡ none
+  stay : (t m : ℕ) → after t ≡ None → after (t + m) ≡ None
   unfolding read_from
   stay t m e = runs_stay (λ i. read_line_at (form_of h) (bases_in d b) (bytes_in d b) (next_line s + i)) (loaded_state (form_of h) h.lossless (bases_in d b) s) t m e
 
   -- by what was read of m lines
   module _ (m : ℕ) (scratch : Buffers) where
-    abbrev Reads : Walked → Type 0
+    abbrev Reads : Result (Totals × TightLines) (ℕ × Totals) → Type 0
     Reads w = IsReadOn false (form_of h) (bases_in d b) (bytes_in d b) (next_line s) (loaded_state (form_of h) h.lossless (bases_in d b) s) m scratch w
 
-    lines_are : (w : Walked) → Reads w → shown_lines w (next_line s + m) ≡ next_line s + lines_resumed d b h s m
-    lines_are (Walk.Read all tight) p = rw (all_counted after (lines_resumed d b h s) no_line one_more stay m p.end p.read)
-    lines_are (Walk.Truncated line before) p =
+    lines_are : (w : Result (Totals × TightLines) (ℕ × Totals)) → Reads w → shown_lines w (next_line s + m) ≡ next_line s + lines_resumed d b h s m
+    lines_are (Ok (all, tight)) p = rw (all_counted after (lines_resumed d b h s) no_line one_more stay m p.end p.read)
+    lines_are (Err (line, before)) p =
         p.line_is
         ∙ ap (λ (n : ℕ). next_line s + n) (cut_counted after (lines_resumed d b h s) no_line one_more stay p.count m p.before p.inside p.read p.cut)
 
-    counted_is : (w : Walked) → Reads w → since_counted b (position_in s) w
+    counted_is : (w : Result (Totals × TightLines) (ℕ × Totals)) → Reads w → since_counted b (position_in s) w
         ≡ record {
-          answer = cond (ltb (lines_resumed d b h s m) m) (Refused (Truncated b (next_line s + lines_resumed d b h s m))) Done;
+          answer = cond (ltb (lines_resumed d b h s m) m) (Err (Truncated b (next_line s + lines_resumed d b h s m))) (Ok tt);
           totals = since_totals (position_in s) (totals_in (after (lines_resumed d b h s m)));
         }
-    counted_is (Walk.Read all tight) p =
+    counted_is (Ok (all, tight)) p =
         let e : lines_resumed d b h s m ≡ m = all_counted after (lines_resumed d b h s) no_line one_more stay m p.end p.read in
         rw (e, le-ltb m m (omega arith), p.read, p.all_is)
-    counted_is (Walk.Truncated line before) p =
+    counted_is (Err (line, before)) p =
         let e : p.count ≡ lines_resumed d b h s m =
         cut_counted after (lines_resumed d b h s) no_line one_more stay p.count m p.before p.inside p.read p.cut in
         rw (← e, lt-ltb p.count m p.inside, p.read, p.line_is, p.totals_are)
@@ -143,7 +142,7 @@ module _ (d : List ℕ) (b : ℕ) (h : FujiHeader) (s : List ℕ) (r : Rect) (ti
       )
 
   image_is : (t : Bool) (a : Part) (more : ℕ) → is_touched r b ≡ t → PartWanted r b a → more ≡ cond t (line_count r - k) 0
-      → (w : Walked) (scratch : Buffers) → Reads d b h s more scratch w → (x y : List ℕ)
+      → (w : Result (Totals × TightLines) (ℕ × Totals)) (scratch : Buffers) → Reads d b h s more scratch w → (x y : List ℕ)
       → ShownOn false (form_of h) (bases_in d b) (bytes_in d b) tile a k z w (k + more) x y
       → Changed (λ i. ltb i (r.width * r.height) && eqb (block_of r i) b && leb k (line_of r i) && ltb (line_of r i) (k + lines_resumed d b h s more))
       (resumed_sample d b h s r tile) x y
@@ -156,7 +155,7 @@ module _ (d : List ℕ) (b : ℕ) (h : FujiHeader) (s : List ℕ) (r : Rect) (ti
       record { kept = p.kept; entries = rw f (nothing_shown a x y (rw f at q)) }
 
   -- both
-  pub resumed_is : (a : Part) (more : ℕ) → PartWanted r b a → more ≡ lines_wanted b s r → (w : Walked) (scratch : Buffers) → Reads d b h s more scratch w
+  pub resumed_is : (a : Part) (more : ℕ) → PartWanted r b a → more ≡ lines_wanted b s r → (w : Result (Totals × TightLines) (ℕ × Totals)) (scratch : Buffers) → Reads d b h s more scratch w
       → (x y : List ℕ) → ShownOn false (form_of h) (bases_in d b) (bytes_in d b) tile a k z w (k + more) x y
       → (since_counted b (position_in s) w ≡ resumed_counted d b h s r) × Changed (is_resumed d b h s r) (resumed_sample d b h s r tile) x y
   unfolding is_resumed
@@ -164,7 +163,7 @@ module _ (d : List ℕ) (b : ℕ) (h : FujiHeader) (s : List ℕ) (r : Rect) (ti
       (counted_is d b h s more scratch w reads ∙ rw em, rw em at (image_is (is_touched r b) a more refl part em w scratch reads x y p))
 
   -- of a reading of what the stream says of block b
-  pub resumed_all : (F : Form) (bases bytes : List ℕ) (y₀ : State) (j at more : ℕ) (a : Part) (w : Walked) (scratch : Buffers) (x y : List ℕ) (answer : Counted)
+  pub resumed_all : (F : Form) (bases bytes : List ℕ) (y₀ : State) (j at more : ℕ) (a : Part) (w : Result (Totals × TightLines) (ℕ × Totals)) (scratch : Buffers) (x y : List ℕ) (answer : Counted)
       → F ≡ form_of h → bases ≡ bases_in d b → bytes ≡ bytes_in d b → y₀ ≡ loaded_state F h.lossless bases s → j ≡ k → at ≡ position_in s
       → PartWanted r b a → more ≡ cond (is_touched r b) (line_count r - j) 0 → IsReadOn false F bases bytes j y₀ more scratch w
       → ShownOn false F bases bytes tile a j y₀ w (j + more) x y → answer ≡ since_counted b at w

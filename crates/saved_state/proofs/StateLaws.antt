@@ -18,8 +18,8 @@ use Rattle.saved_state.specs.Checkpoints.{be_at, record_byte, is_flat, stored_re
 use Rattle.saved_state.specs.Checkpoints.{size_of_checkpoint, next_line, position_in, sum_in, n_in, stored_sample, bad_record, bad_sample}
 use Rattle.saved_state.specs.Inside.{IsCheckpoint}
 use Rattle.saved_state.specs.Checkpoints.{checkpoint_byte, bad_place, bad_checkpoint, other_checkpoint, checked_of, loaded_record}
-use Rattle.saved_state.specs.declared.load.Checked.TheVariants.{At}
 use Rattle.saved_state.proofs.ByteLaws.{next_power, any_none}
+use Rattle.std.specs.Prelude.{Ok}
 
 -- ---- a number that was stored in n bytes
 
@@ -186,6 +186,6 @@ module _ (lossless : Bool) (W bits lines bytes : ℕ) (z : Saved) (s : List ℕ)
         )
 
     -- a state that was stored loads, and goes on after its line
-    pub stored_loads : checked_of W bits lines bytes d z.block s ≡ At (z.line + 1) z.at
+    pub stored_loads : checked_of W bits lines bytes d z.block s ≡ Ok ((z.line + 1), z.at)
     unfolding checked_of
     stored_loads = rw (not_bad, not_other, next_back, position_back)

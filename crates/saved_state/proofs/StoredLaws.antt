@@ -3,7 +3,6 @@
 use borrow.Author.Tests.{leb-true}
 use mathlib.Core.Bool.{Bool, true, false, cond}
 use mathlib.Core.List.{List}
-use mathlib.Core.Option.{none, some}
 use mathlib.Core.Path.{◌≡◌, refl, ◌∙◌}
 use Prim.Native.Nat.{ℕ, zero, suc, ◌+◌, ◌*◌, ◌%◌, ◌≤◌, ◌<◌}
 use native.Mathlib.Omega.{arith}
@@ -27,6 +26,7 @@ use Rattle.read_block.proofs.TableLaws.{table_length}
 use Rattle.read_block.proofs.RangeLaws.{all_started, all_kept, set_in_range, set_full, put_in_range}
 use Rattle.read_block.proofs.RunLaws.{then_both, runs_last}
 use Rattle.read_block.proofs.KeepLaws.{lines_keep, left_by}
+use Rattle.std.specs.Prelude.{None, Some}
 
 -- a pass has one of the three sets
 set_low : (xtrans : Bool) (i : ℕ) → (plan_of xtrans i).set < 3
@@ -59,7 +59,7 @@ abbrev pub Sound : State → Type 0
 Sound r = (length r.records ≡ 336) × AllInRange r.records
 
 module _ (F : Form) (depth : F.bits ≤ 16) (s : List ℕ) where
-  pass_sound : (q i : ℕ) (r z : State) → Sound r → pass_at F q s i r ≡ some z → Sound z
+  pass_sound : (q i : ℕ) (r z : State) → Sound r → pass_at F q s i r ≡ Some z → Sound z
   unfolding pass_at
   pass_sound q i r z h e =
       let P : Plan = plan_of F.xtrans i in
@@ -86,18 +86,18 @@ module _ (F : Form) (depth : F.bits ≤ 16) (s : List ℕ) where
     start_sound = (table_length (start_record F.bits (base_of bases 0)) 336, all_started F.bits (base_of bases 0) depth)
 
     -- after any number of lines there are 336 records, and they are in range
-    pub records_in_range : (n : ℕ) (z : State) → read_lines F bases s n ≡ some z → Sound z
+    pub records_in_range : (n : ℕ) (z : State) → read_lines F bases s n ≡ Some z → Sound z
     records_in_range n z e = lines_keep F s Sound pass_sound bases before_sound start_sound n z e
 
-    end_inside : (r z : State) → end_line s r ≡ some z → z.at.0 ≤ 8 * length s + 7
+    end_inside : (r z : State) → end_line s r ≡ Some z → z.at.0 ≤ 8 * length s + 7
     end_inside r z e = go (leb r.at.0 (8 * length s + 7)) refl e
       where
-        go : (b : Bool) → leb r.at.0 (8 * length s + 7) ≡ b → cond b (some r) none ≡ some z → z.at.0 ≤ 8 * length s + 7
+        go : (b : Bool) → leb r.at.0 (8 * length s + 7) ≡ b → cond b (Some r) None ≡ Some z → z.at.0 ≤ 8 * length s + 7
         go true l f = let same : r ≡ z = cc in rw same at (leb-true r.at.0 (8 * length s + 7) l)
         go false l f = let no : ◌≡◌ {A = ℕ} 0 1 = cc in absurd (omega arith)
 
     -- and after a line at most 8·length + 7 bits are consumed
-    pub ends_inside : (n : ℕ) (z : State) → read_lines F bases s (suc n) ≡ some z → z.at.0 ≤ 8 * length s + 7
+    pub ends_inside : (n : ℕ) (z : State) → read_lines F bases s (suc n) ≡ Some z → z.at.0 ≤ 8 * length s + 7
     unfolding read_lines read_line_at read_line
     ends_inside n z e =
         let l = runs_last (read_line_at F bases s) (start_state F bases) n z e in

@@ -2,7 +2,6 @@
 use borrow.Author.Tests.{ltb-false, leb-false}
 use mathlib.Core.Bool.{Bool, true, false, cond}
 use mathlib.Core.List.{List}
-use mathlib.Core.Option.{some}
 use mathlib.Core.Path.{◌≡◌, refl, sym, ◌∙◌}
 use Prim.Native.Nat.{ℕ, suc, ◌+◌, ◌≤◌, ◌<◌}
 use native.Mathlib.Numerals.{add-one}
@@ -30,12 +29,12 @@ use Rattle.saved_state.specs.Calls.{store_judged, StoredWalk}
 use Rattle.read_block.specs.WindowedLines.{IsReadOn}
 use Rattle.read_block.specs.declared.Counted.{Counted}
 use Rattle.read_block.specs.declared.Form.{Form}
-use Rattle.read_block.specs.declared.Decoded.TheVariants.{Done, Refused}
-use Rattle.read_block.specs.declared.Walked.{Walked}
-use Rattle.read_block.specs.declared.Walked.TheVariants as Walk
 use Rattle.read_block.proofs.ResumeLaws.{from_top}
 use Rattle.read_block.proofs.BlockLaws.{walked_top}
 use Rattle.read_block.proofs.TightLaws.{read_told}
+use Rattle.std.specs.Prelude.{Err, Ok, Result, Some}
+use Rattle.line_totals.specs.declared.TightLines.{TightLines}
+use Rattle.line_totals.specs.declared.Totals.{Totals}
 
 module _ (d : List ℕ) (b : ℕ) (h : FujiHeader) (n room : ℕ) where
   abbrev size : ℕ
@@ -48,32 +47,32 @@ module _ (d : List ℕ) (b : ℕ) (h : FujiHeader) (n room : ℕ) where
     pub reads : stored_counted d b h n room
         ≡ counted (form_of h) (bases_in d b) (bytes_in d b) (suc n) (block_answer (form_of h) (bases_in d b) (bytes_in d b) b (suc n))
 
-  pub judged_done : store_judged h n room ≡ Done → Judged
+  pub judged_done : store_judged h n room ≡ (Ok tt) → Judged
   unfolding stored_counted
   judged_done = go (leb h.lines n) (ltb room size) refl refl
     where
-      go : (s t : Bool) → leb h.lines n ≡ s → ltb room size ≡ t → cond s (Refused BadState) (cond t (Refused ShortOutput) Done) ≡ Done → Judged
+      go : (s t : Bool) → leb h.lines n ≡ s → ltb room size ≡ t → cond {A = Result Unit Refusal} s (Err BadState) (cond t (Err ShortOutput) (Ok tt)) ≡ (Ok tt) → Judged
       go true t p q e = let no : ◌≡◌ {A = ℕ} 0 1 = cc in absurd (omega arith)
       go false true p q e = let no : ◌≡◌ {A = ℕ} 0 1 = cc in absurd (omega arith)
       go false false p q e = record { below = leb-false h.lines n p; fits = ltb-false room size q; reads = rw (p, q) }
 
-  pub judged_refused : (x : Refusal) → store_judged h n room ≡ Refused x → refused_by x ≡ stored_counted d b h n room
+  pub judged_refused : (x : Refusal) → store_judged h n room ≡ Err x → refused_by x ≡ stored_counted d b h n room
   unfolding stored_counted
   judged_refused x = go (leb h.lines n) (ltb room size) refl refl
     where
-      go : (s t : Bool) → leb h.lines n ≡ s → ltb room size ≡ t → cond s (Refused BadState) (cond t (Refused ShortOutput) Done) ≡ Refused x
+      go : (s t : Bool) → leb h.lines n ≡ s → ltb room size ≡ t → cond {A = Result Unit Refusal} s (Err BadState) (cond t (Err ShortOutput) (Ok tt)) ≡ Err x
           → refused_by x ≡ stored_counted d b h n room
       go true t p q e = let f : BadState ≡ x = cc in rw (← f, p)
       go false true p q e = let f : ShortOutput ≡ x = cc in rw (← f, p, q)
       go false false p q e = let no : ◌≡◌ {A = ℕ} 0 1 = cc in absurd (omega arith)
 
 -- the lent bytes, where the walk left its scratch as it is
-pub stored_out_lem : (d : List ℕ) (b : ℕ) (h : FujiHeader) (n : ℕ) (scratch : Buffers) (z : State) (w : Walked) (out out' : List ℕ)
+pub stored_out_lem : (d : List ℕ) (b : ℕ) (h : FujiHeader) (n : ℕ) (scratch : Buffers) (z : State) (w : Result (Totals × TightLines) (ℕ × Totals)) (out out' : List ℕ)
     → z ≡ start_state (form_of h) (bases_in d b) → IsReadOn false (form_of h) (bases_in d b) (bytes_in d b) 0 z (n + 1) scratch w
     → StoredWalk d b n h w scratch.lines scratch.records out out' → out' ≡ stored_out (walked_answer b w) d b h n out
-stored_out_lem d b h n scratch z (Walk.Truncated line before) out out' ez p q = q
-stored_out_lem d b h n scratch z (Walk.Read all tight) out out' ez p q =
-    let e : read_lines (form_of h) (bases_in d b) (bytes_in d b) (suc n) ≡ some p.end =
+stored_out_lem d b h n scratch z (Err (line, before)) out out' ez p q = q
+stored_out_lem d b h n scratch z (Ok (all, tight)) out out' ez p q =
+    let e : read_lines (form_of h) (bases_in d b) (bytes_in d b) (suc n) ≡ Some p.end =
     sym (from_top (form_of h) (bases_in d b) (bytes_in d b) (suc n)) ∙ (rw (ez, add-one) at p.read) in
     q ∙ rw (e, p.held, p.records, p.all_is)
 
@@ -85,7 +84,7 @@ unfolding start_state
 header_starts F h bases q n zeros rs from ef ez en er eq ep = rw (ef, ez, en, er, eq, ep)
 
 -- both, of a walk over what the stream says of block b
-module _ (d : List ℕ) (b : ℕ) (h : FujiHeader) (n room : ℕ) (F : Form) (bases s : List ℕ) (z : State) (scratch : Buffers) (w : Walked) (out out' : List ℕ)
+module _ (d : List ℕ) (b : ℕ) (h : FujiHeader) (n room : ℕ) (F : Form) (bases s : List ℕ) (z : State) (scratch : Buffers) (w : Result (Totals × TightLines) (ℕ × Totals)) (out out' : List ℕ)
     (a : Counted) (ef : F ≡ form_of h) (eb : bases ≡ bases_in d b) (es : s ≡ bytes_in d b) (ez : z ≡ start_state F bases)
     (reads : IsReadOn false F bases s 0 z (n + 1) scratch w) (ea : a ≡ walked_counted b w) where
   here : IsReadOn false (form_of h) (bases_in d b) (bytes_in d b) 0 z (n + 1) scratch w
@@ -94,7 +93,7 @@ module _ (d : List ℕ) (b : ℕ) (h : FujiHeader) (n room : ℕ) (F : Form) (ba
   starts : z ≡ start_state (form_of h) (bases_in d b)
   starts = rw (ef, eb) at ez
 
-  pub store_answered : store_judged h n room ≡ Done → a ≡ stored_counted d b h n room
+  pub store_answered : store_judged h n room ≡ (Ok tt) → a ≡ stored_counted d b h n room
   store_answered judged =
       let p = walked_top false (form_of h) (bases_in d b) (bytes_in d b) z (n + 1) scratch w starts here in
       let q : IsWalked (form_of h) (bases_in d b) (bytes_in d b) (suc n) w = rw add-one at p in

@@ -1,13 +1,13 @@
 -- Rules. The state of a block after a line, as 1,707 + 12·W bytes: the header, the block, the next line and its bit position; the records; and of each
 -- colour the two lines that the next line finds above it. Numbers are big-endian. Assumes nothing.
-use Rattle.std.specs.Prelude.{Bool, false, cond, not, ◌&&◌, ◌||◌, List, ℕ, zero, suc, ◌+◌, ◌-◌, ◌*◌, ◌/◌, ◌%◌, ◌^◌, min, leb, ltb, eqb, length, get_or}
+use Rattle.std.specs.Prelude.{Bool, false, cond, not, ◌&&◌, ◌||◌, List, ℕ, zero, suc, ◌+◌, ◌-◌, ◌*◌, ◌/◌, ◌%◌, ◌^◌, min, leb, ltb, eqb, length, get_or, Err, Ok, Result}
 use Rattle.statistics.specs.Statistics.{largest_residual}
 use Rattle.statistics.specs.declared.Record.{Record}
 use Rattle.pass_steps.specs.Contexts.{no_record, sample_in}
 use Rattle.colour_lines.specs.ColourLines.{guarded}
 use Rattle.saved_state.specs.Heads.{be_byte, put_each, head_byte}
-use Rattle.saved_state.specs.declared.load.Checked.{Checked}
-use Rattle.saved_state.specs.declared.load.Checked.TheVariants.{Bad, Other, At}
+use Rattle.stream.specs.declared.header.Refusal.TheVariants.{BadState, OtherState}
+use Rattle.stream.specs.declared.header.Refusal.{Refusal}
 
 -- ---- bytes
 
@@ -117,9 +117,9 @@ bad_checkpoint W bits lines bytes s =
 unfoldable pub other_checkpoint : List ℕ → ℕ → List ℕ → Bool
 other_checkpoint d block s = any_below 16 (λ i. not (eqb (get_or s i 0) (get_or d i 0))) || not (eqb (get_or s 16 0) block)
 
-unfoldable pub checked_of : ℕ → ℕ → ℕ → ℕ → List ℕ → ℕ → List ℕ → Checked
+unfoldable pub checked_of : ℕ → ℕ → ℕ → ℕ → List ℕ → ℕ → List ℕ → Result (ℕ × ℕ) Refusal
 checked_of W bits lines bytes d block s =
-    cond (bad_checkpoint W bits lines bytes s) Bad (cond (other_checkpoint d block s) Other (At (next_line s) (position_in s)))
+    cond (bad_checkpoint W bits lines bytes s) (Err BadState) (cond (other_checkpoint d block s) (Err OtherState) (Ok (next_line s, position_in s)))
 
 -- ---- loading
 

@@ -1,6 +1,5 @@
 -- Promises. What a call answers and leaves that goes on in block b from the stored bytes s.
-use Rattle.std.specs.Prelude.{Bool, cond, ◌&&◌, List, ◌≡◌, ℕ, zero, suc, ◌+◌, ◌-◌, ◌*◌, ◌/◌, ◌%◌, leb, ltb, eqb, length, get_or}
-use Rattle.std.proofs.Math.Option.{Option}
+use Rattle.std.specs.Prelude.{Bool, cond, ◌&&◌, List, ◌≡◌, ℕ, zero, suc, ◌+◌, ◌-◌, ◌*◌, ◌/◌, ◌%◌, leb, ltb, eqb, length, get_or, Err, None, Ok, Result, Some, Option}
 use Rattle.line_totals.specs.Totals.{no_totals}
 use Rattle.line_totals.specs.declared.Totals.{Totals}
 use Rattle.image_map.specs.Places.{width_of, sample_index, Changed}
@@ -9,19 +8,14 @@ use Rattle.stream.specs.declared.header.Refusal.TheVariants.{Truncated, BadState
 use Rattle.image_region.specs.Regions.{block_of, first_block, last_block, line_count}
 use Rattle.image_region.specs.declared.Rect.{Rect}
 use Rattle.saved_state.specs.Checkpoints.{next_line, position_in, checked_of}
-use Rattle.saved_state.specs.declared.load.Checked.{Checked}
-use Rattle.saved_state.specs.declared.load.Checked.TheVariants.{Bad, Other, At}
 use Rattle.admission.specs.Resumings.{resume_begins}
-use Rattle.admission.specs.declared.Beginning.{Beginning}
-use Rattle.admission.specs.declared.Beginning.TheVariants as Begin
 use Rattle.read_block.specs.Blocks.{State, read_from, lines_of, totals_in}
 use Rattle.saved_state.specs.BlockStates.{loaded_state}
 use Rattle.read_block.specs.Images.{form_of, bytes_in, bases_in, is_read, line_of}
 use Rattle.read_block.specs.Lent.{Buffers, cleared_lines, cleared_records}
 use Rattle.read_block.specs.Totals.{refused_by}
 use Rattle.read_block.specs.declared.Counted.{Counted}
-use Rattle.read_block.specs.declared.Decoded.{Decoded}
-use Rattle.read_block.specs.declared.Decoded.TheVariants.{Done, Refused}
+use Rattle.stream.specs.declared.header.Refusal.{Refusal}
 
 -- ---- what is read
 
@@ -63,9 +57,9 @@ resumed_sample d b h s r tile i = resumed_picture d b h s tile (r.y + i / r.widt
 -- ---- the answer
 
 -- refusal 14 with the first truncated line
-abbrev pub resumed_answer : List ℕ → ℕ → FujiHeader → List ℕ → Rect → Decoded
+abbrev pub resumed_answer : List ℕ → ℕ → FujiHeader → List ℕ → Rect → Result Unit Refusal
 resumed_answer d b h s r =
-    cond (ltb (resumed_in d b h s r) (lines_wanted b s r)) (Refused (Truncated b (next_line s + resumed_in d b h s r))) Done
+    cond (ltb (resumed_in d b h s r) (lines_wanted b s r)) (Err (Truncated b (next_line s + resumed_in d b h s r))) (Ok tt)
 
 -- the totals of the lines that were read now
 abbrev pub since_totals : ℕ → Totals → Totals
@@ -80,14 +74,13 @@ resumed_counted d b h s r = record { answer = resumed_answer d b h s r; totals =
 -- ---- a call
 
 -- what the stored bytes are to it
-abbrev pub checked_in : List ℕ → ℕ → FujiHeader → List ℕ → Checked
+abbrev pub checked_in : List ℕ → ℕ → FujiHeader → List ℕ → Result (ℕ × ℕ) Refusal
 checked_in d b h s = checked_of (width_of h.xtrans) h.bits h.lines (length (bytes_in d b)) d b s
 
 -- the answer and the image: refusal 21, refusal 22, or the lines from the next one on
-abbrev pub Resumed : List ℕ → ℕ → FujiHeader → List ℕ → Rect → List ℕ → Checked → (image image' : List ℕ) → Counted → Type 0
-Resumed d b h s r tile Bad image image' answer = (answer ≡ refused_by BadState) × (image' ≡ image)
-Resumed d b h s r tile Other image image' answer = (answer ≡ refused_by OtherState) × (image' ≡ image)
-Resumed d b h s r tile (At k at) image image' answer =
+abbrev pub Resumed : List ℕ → ℕ → FujiHeader → List ℕ → Rect → List ℕ → Result (ℕ × ℕ) Refusal → (image image' : List ℕ) → Counted → Type 0
+Resumed d b h s r tile (Err x) image image' answer = (answer ≡ refused_by x) × (image' ≡ image)
+Resumed d b h s r tile (Ok (k, at)) image image' answer =
     (answer ≡ resumed_counted d b h s r) × Changed (is_resumed d b h s r) (resumed_sample d b h s r tile) image image'
 
 -- what a call leaves that goes on in a stream with this header
@@ -97,10 +90,10 @@ pub record Resuming (d : List ℕ) (b : ℕ) (h : FujiHeader) (s : List ℕ) (r 
   pub records : after.records ≡ cleared_records before.records
 
 -- what a call leaves, by how it begins
-abbrev pub ResumedBy : List ℕ → ℕ → List ℕ → Rect → List ℕ → Beginning → (before after : Buffers) → Counted → Type 0
-ResumedBy d b s r tile (Begin.Refused x) before after answer = (answer ≡ refused_by x) × (after ≡ before)
-ResumedBy d b s r tile Begin.Nothing before after answer = (answer ≡ record { answer = Done; totals = no_totals }) × (after ≡ before)
-ResumedBy d b s r tile (Begin.Reading h) before after answer = Resuming d b h s r tile before after answer
+abbrev pub ResumedBy : List ℕ → ℕ → List ℕ → Rect → List ℕ → Result (Option FujiHeader) Refusal → (before after : Buffers) → Counted → Type 0
+ResumedBy d b s r tile (Err x) before after answer = (answer ≡ refused_by x) × (after ≡ before)
+ResumedBy d b s r tile (Ok None) before after answer = (answer ≡ record { answer = (Ok tt); totals = no_totals }) × (after ≡ before)
+ResumedBy d b s r tile (Ok (Some h)) before after answer = Resuming d b h s r tile before after answer
 
 abbrev pub LeftResumed : List ℕ → ℕ → List ℕ → Rect → List ℕ → (before after : Buffers) → Counted → Type 0
 LeftResumed d b s r tile before after answer =

@@ -1,38 +1,34 @@
 // The state of a block after a line: stored, and gone on from.
-ghost use Rattle.std.specs.Prelude.{◌≡◌, true, false, cond, ◌+◌, ◌-◌, ◌*◌, ◌^◌, ◌≤◌, ◌<◌, length, replicate};
+ghost use Rattle.std.specs.Prelude.{◌≡◌, true, false, cond, ◌+◌, ◌-◌, ◌*◌, ◌^◌, ◌≤◌, ◌<◌, length, replicate, Ok};
 ghost use Rattle.statistics.specs.declared.Record.{Record};
 ghost use Rattle.colour_lines.specs.ColourLines.{zero_lines};
 ghost use Rattle.image_map.specs.Places.{width_of};
 ghost use Rattle.pass_steps.specs.Contexts.{Depth};
 ghost use Rattle.stream.specs.Streams.{open_of};
-ghost use Rattle.stream.specs.declared.header.Parsed.TheVariants.{Header};
 ghost use Rattle.image_region.specs.Regions.{line_count};
 ghost use Rattle.image_region.specs.Inside.{Accepted};
 ghost use Rattle.saved_state.specs.Checkpoints.{size_of_checkpoint, checkpoint_of, loaded_record, Saved};
-ghost use Rattle.saved_state.specs.declared.load.Checked.TheVariants.{At};
 ghost use Rattle.line_totals.specs.Totals.{no_totals};
 ghost use Rattle.read_block.specs.Lent.{Buffers, Outputs};
 ghost use Rattle.read_block.specs.Inside.{ScratchOf};
 ghost use Rattle.read_block.specs.Records.{table, start_record, clear_records};
 ghost use Rattle.read_block.specs.Totals.{refused_by};
-ghost use Rattle.read_block.specs.declared.Decoded.TheVariants.{Done};
 ghost use Rattle.saved_state.specs.Storing.{stored_counted, stored_out, LeftStored};
 ghost use Rattle.saved_state.specs.Resuming.{is_touched, checked_in, Resumed, LeftResumed};
 ghost use Rattle.saved_state.specs.Calls.{place_at, PartWanted, since_counted, store_judged, ResumedIn, StoredWalk};
 
-use crate::load::{Bounds, Checked};
-use admission::Beginning;
+use crate::load::Bounds;
 use bits::BitPosition;
 use cameras::base_of;
 use code::Place;
-use image_map::{Part, width};
+use image_map::{Part, Showing, width};
 use image_region::Rect;
 use read_block::{
-    Counted, Decoded, Walked, clear_records, form_of, line_count, load_set, no_part, read_answer,
-    read_lines, refused, start_place, start_record, start_records,
+    Counted, Walked, clear_records, line_count, load_set, no_part, read_answer, read_lines,
+    refused, start_place, start_record, start_records,
 };
 use statistics::Record;
-use stream::{FujiHeader, Parsed, Refusal};
+use stream::{FujiHeader, Refusal};
 
 // Refused once scratch is the call's: it is left cleared, and nothing was counted.
 fn refuse(lines: &mut [u16], rs: &mut [Record], x: Refusal) -> Counted
@@ -60,8 +56,8 @@ fn load_records(rs: &mut [Record], s: &[u8], lossless: bool, bits: u32, base: u3
 }
 
 // What the stored bytes s are to block b.
-fn checked_in(d: &[u8], h: FujiHeader, b: usize, s: &[u8]) -> Checked
-    requires { open_of d.now ≡ Header h }
+fn checked_in(d: &[u8], h: FujiHeader, b: usize, s: &[u8]) -> Result<(usize, u64), Refusal>
+    requires { open_of d.now ≡ Ok h }
     ensures { result ≡ checked_in d.now b h s.now }
 {
     let block = stream::block_bytes(d, b);
@@ -140,17 +136,22 @@ fn resume_lines(
     lines: &mut [u16],
     rs: &mut [Record],
 ) -> Counted
-    requires d_value { (open_of d.now ≡ Header h) × Accepted h r (length image.old) }
-    requires b_lt_blocks { (b < h.blocks) × (checked_in d.now b h s.now ≡ At k at) }
+    requires d_value { (open_of d.now ≡ Ok h) × Accepted h r (length image.old) }
+    requires b_lt_blocks { (b < h.blocks) × (checked_in d.now b h s.now ≡ Ok (k, at)) }
     requires scratch_of { ScratchOf h.xtrans lines.old rs.old }
-    ensures resumed { Resumed d.now b h s.now r tile (At k at) image.old image.new result }
+    ensures resumed { Resumed d.now b h s.now r tile (Ok (k, at)) image.old image.new result }
     ensures lines_after { (lines.new ≡ zero_lines (width_of h.xtrans)) × (rs.new ≡ clear_records) }
 {
-    let form = form_of(h);
     let block = stream::block_bytes(d, b);
     let bases = stream::base_row(d, b);
     let places = image_map::xtrans_places();
     let part = part_wanted(r, b);
+    let showing = Showing {
+        xtrans: h.xtrans,
+        places: &places,
+        tile,
+        part,
+    };
     let more = lines_wanted(r, b, k);
     colour_lines::clear(lines);
     load_records(rs, s, h.lossless, h.bits, base_of(bases, 0));
@@ -161,10 +162,8 @@ fn resume_lines(
         lines,
         rs,
         image,
-        form,
-        &places,
-        tile,
-        part,
+        h.bits,
+        &showing,
         k,
         place_at(at),
         more,
@@ -187,24 +186,22 @@ fn resume_in(
     lines: &mut [u16],
     rs: &mut [Record],
 ) -> Counted
-    requires d_value { (open_of d.now ≡ Header h) × ((b < h.blocks) × Accepted h r (length image.old)) }
+    requires d_value { (open_of d.now ≡ Ok h) × ((b < h.blocks) × Accepted h r (length image.old)) }
     requires scratch_of { ScratchOf h.xtrans lines.old rs.old }
     ensures resumed_in { ResumedIn d.now b h s.now r tile image.old image.new result }
     ensures lines_after { (lines.new ≡ zero_lines (width_of h.xtrans)) × (rs.new ≡ clear_records) }
 {
-    let checked = checked_in(d, h, b, s);
-    match checked {
-        Checked::Bad => refuse(lines, rs, Refusal::BadState),
-        Checked::Other => refuse(lines, rs, Refusal::OtherState),
-        Checked::At(k, at) => resume_lines(d, h, b, s, k, at, r, tile, image, lines, rs),
+    match checked_in(d, h, b, s) {
+        Err(x) => refuse(lines, rs, x),
+        Ok((k, at)) => resume_lines(d, h, b, s, k, at, r, tile, image, lines, rs),
     }
 }
 
 // An empty region.
 fn nothing_counted() -> Counted
-    ensures { result ≡ record { answer = Done; totals = no_totals } }
+    ensures { result ≡ record { answer = Ok tt; totals = no_totals } }
 {
-    let answer = Decoded::Done;
+    let answer = Ok(());
     let totals = line_totals::none();
     Counted { answer, totals }
 }
@@ -227,9 +224,11 @@ pub fn resume_region(
 {
     let begins = admission::resume_begins(d, b, r, image.len(), lines.len(), rs.len());
     match begins {
-        Beginning::Refused(x) => refused(x),
-        Beginning::Nothing => nothing_counted(),
-        Beginning::Reading(h) => {
+        Err(x) => refused(x),
+        Ok(begun) => {
+            let Some(h) = begun else {
+                return nothing_counted();
+            };
             let used = admission::samples_needed(h.xtrans);
             resume_in(
                 d,
@@ -249,16 +248,16 @@ pub fn resume_region(
 // ---- storing
 
 // Refusals 21 and 13.
-fn store_judged(h: FujiHeader, line: usize, room: usize) -> Decoded
+fn store_judged(h: FujiHeader, line: usize, room: usize) -> Result<(), Refusal>
     ensures { result ≡ store_judged h line room }
 {
     if line_count(h) <= line {
-        return Decoded::Refused(Refusal::BadState);
+        return Err(Refusal::BadState);
     }
     if room < 1707 + 12 * width(h.xtrans) {
-        return Decoded::Refused(Refusal::ShortOutput);
+        return Err(Refusal::ShortOutput);
     }
-    Decoded::Done
+    Ok(())
 }
 
 // The state that scratch holds after this line.
@@ -301,8 +300,8 @@ fn put_walked(
     ensures { StoredWalk d.now b line h got lines.now rs.now state.old state.new }
 {
     match got {
-        Walked::Truncated(_, _) => {}
-        Walked::Read(totals, _) => {
+        Err((_, _)) => {}
+        Ok((totals, _)) => {
             put_state(state, d, h, b, line, totals.bits, lines, rs);
         }
     }
@@ -318,16 +317,21 @@ fn store_state(
     lines: &mut [u16],
     rs: &mut [Record],
 ) -> Counted
-    requires d_value { (open_of d.now ≡ Header h) × (store_judged h line (length state.old) ≡ Done) }
+    requires d_value { (open_of d.now ≡ Ok h) × (store_judged h line (length state.old) ≡ Ok tt) }
     requires scratch_of { ScratchOf h.xtrans lines.old rs.old }
     ensures value { result ≡ stored_counted d.now b h line (length state.old) }
     ensures state_after { state.new ≡ stored_out result.answer d.now b h line state.old }
     ensures lines_after { (lines.new ≡ zero_lines (width_of h.xtrans)) × (rs.new ≡ clear_records) }
 {
-    let form = form_of(h);
     let block = stream::block_bytes(d, b);
     let bases = stream::base_row(d, b);
     let places = image_map::xtrans_places();
+    let showing = Showing {
+        xtrans: h.xtrans,
+        places: &places,
+        tile: [0u8; 36],
+        part: no_part(),
+    };
     let mut nothing = [0u16; 1];
     colour_lines::clear(lines);
     start_records(rs, h.bits, base_of(bases, 0));
@@ -337,10 +341,8 @@ fn store_state(
         lines,
         rs,
         &mut nothing,
-        form,
-        &places,
-        [0u8; 36],
-        no_part(),
+        h.bits,
+        &showing,
         0,
         start_place(),
         line + 1,
@@ -362,7 +364,7 @@ fn store_in(
     lines: &mut [u16],
     rs: &mut [Record],
 ) -> Counted
-    requires d_value { open_of d.now ≡ Header h }
+    requires d_value { open_of d.now ≡ Ok h }
     requires scratch_of { ScratchOf h.xtrans lines.old rs.old }
     ensures value { result ≡ stored_counted d.now b h line (length state.old) }
     ensures state_after { state.new ≡ stored_out result.answer d.now b h line state.old }
@@ -370,8 +372,8 @@ fn store_in(
 {
     let judged = store_judged(h, line, state.len());
     match judged {
-        Decoded::Refused(x) => refuse(lines, rs, x),
-        Decoded::Done => store_state(d, h, b, line, state, lines, rs),
+        Err(x) => refuse(lines, rs, x),
+        Ok(()) => store_state(d, h, b, line, state, lines, rs),
     }
 }
 
@@ -390,8 +392,8 @@ pub fn store_checkpoint(
 {
     let begins = admission::block_begins(d, b, false, lines.len(), rs.len());
     match begins {
-        Parsed::Refused(x) => refused(x),
-        Parsed::Header(h) => {
+        Err(x) => refused(x),
+        Ok(h) => {
             let used = admission::samples_needed(h.xtrans);
             store_in(d, h, b, line, state, &mut lines[0..used], &mut rs[0..336])
         }

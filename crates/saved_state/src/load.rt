@@ -3,16 +3,10 @@ ghost use Rattle.std.specs.Prelude.{◌≡◌, true, false, not, ◌+◌, ◌-�
 ghost use Rattle.saved_state.specs.Checkpoints.{be_at, any_below, bad_record, bad_sample, bad_place, bad_checkpoint};
 ghost use Rattle.saved_state.specs.Checkpoints.{other_checkpoint, checked_of, loaded_record, with_kept, with_six, with_guards, loaded_lines};
 
-use crate::store::{kept_line, start_of};
+use crate::store::kept_line;
+use colour_lines::start_of;
 use statistics::Record;
-
-// What stored bytes are to a call: none that load, those of another block, or the next line and the bit position to go on from.
-#[derive(Clone, Copy)]
-pub enum Checked {
-    Bad,
-    Other,
-    At(usize, u64),
-}
+use stream::Refusal;
 
 // The block that a call goes on in: its header's depth and lines, the samples of its colour lines, and the length of its bytes.
 #[derive(Clone, Copy)]
@@ -124,19 +118,20 @@ fn is_other(s: &[u8], d: &[u8], block: usize) -> bool
     u64::from(s[16]) != block as u64
 }
 
-// What stored bytes are to a call on that block of a stream.
-pub fn check(s: &[u8], b: Bounds, d: &[u8], block: usize) -> Checked
+// What stored bytes are to a call on that block of a stream: the next line and the bit position to go on from; refusal 21 where they are no state, and
+// 22 where they are that of another header or block.
+pub fn check(s: &[u8], b: Bounds, d: &[u8], block: usize) -> Result<(usize, u64), Refusal>
     requires bits_bound { (b.bits ≤ 16) × ((b.w ≤ 512) × (b.bytes < 2 ^ 32)) }
     requires in_bounds { 16 ≤ length d.now }
     ensures { result ≡ checked_of b.w b.bits b.lines b.bytes d.now block s.now }
 {
     if is_bad(s, b) {
-        return Checked::Bad;
+        return Err(Refusal::BadState);
     }
     if is_other(s, d, block) {
-        return Checked::Other;
+        return Err(Refusal::OtherState);
     }
-    Checked::At(be_at(s, 17, 2) as usize, be_at(s, 19, 8))
+    Ok((be_at(s, 17, 2) as usize, be_at(s, 19, 8)))
 }
 
 // Record j, where the block starts with `start`. A sum that no block reaches is cut.

@@ -4,6 +4,7 @@ ghost use Rattle.saved_state.specs.Heads.{put_each};
 ghost use Rattle.saved_state.specs.Checkpoints.{stored_record, record_byte, records_byte, kept_line, lines_byte};
 ghost use Rattle.pass_steps.specs.Values.{records_of};
 
+use colour_lines::start_of;
 use pass_steps::Set;
 use statistics::Record;
 
@@ -64,14 +65,6 @@ pub(crate) fn kept_line(m: usize) -> usize
         4 => 16,
         _ => 17,
     }
-}
-
-// Where a colour line begins, with its left guard.
-pub(crate) fn start_of(w: usize, l: usize) -> usize
-    requires { (w ≤ 512) × (l ≤ 17) }
-    ensures { (result ≡ l * (w + 2)) × (result + (w + 2) ≤ 18 * (w + 2)) }
-{
-    l * (w + 2)
 }
 
 // Byte i of the samples of the lines that are kept.

@@ -16,12 +16,12 @@ use Rattle.quantiser.specs.Quantisers.{largest, total_of, raw_of, quantiser_of, 
 use Rattle.quantiser.specs.declared.Quantiser.{Quantiser}
 use Rattle.code.specs.Tight.{is_tight, code_bits}
 use Rattle.code.specs.declared.Code.{Code}
-use Rattle.code.specs.declared.Coded.TheVariants.{Read}
 use Rattle.code.proofs.TightLaws.{length_code_bits, read_back, stands_there}
 use Rattle.short_codes.specs.Inside.{Bounded}
 use Rattle.short_codes.specs.Sheets.{string_of}
 use Rattle.short_codes.specs.Whole.{TightString, code_there, IsRead, AllAsRead}
 use Rattle.short_codes.proofs.SheetLaws.{bounded, limit_large}
+use Rattle.std.specs.Prelude.{Some}
 
 -- every code below 2^depth fits the long form
 raw_enough : (d : ℕ) → d ≤ 16 → largest d ≤ 2 ^ (main_of d 0).raw
@@ -48,7 +48,7 @@ module _ (d k n : ℕ) (b : Bounded d k n) where
         ends = r.after ∙ rw (t.bits, length_code_bits k Q.limit Q.raw c) refl;
       }
 
-  only : (s : List ℕ) (p : ℕ) (x : Code) → code_there d k s p ≡ Read x → is_tight (largest d) x ≡ true → x.after.0 ≤ 8 * length s
+  only : (s : List ℕ) (p : ℕ) (x : Code) → code_there d k s p ≡ Some x → is_tight (largest d) x ≡ true → x.after.0 ≤ 8 * length s
       → TightString d k (take (x.after.0 - p) (drop p (bits_of s)))
   unfolding string_of
   only s p x e t h =

@@ -6,40 +6,40 @@ use Rattle.quantiser.specs.Quantisers.{total_of, raw_of, quantiser_of}
 use Rattle.code.specs.Tight.{code_bits}
 use Rattle.stream.specs.declared.header.Refusal.TheVariants.{OutsideSheet}
 use Rattle.short_codes.specs.Sheets.{in_sheet, string_of, entry_of, count_of, entry_at, listed_answer}
-use Rattle.short_codes.specs.declared.Listed.TheVariants.{Count, Refused}
+use Rattle.std.specs.Prelude.{Err, Ok}
 
 module _ where
-  count₁ : listed_answer 14 8 9 ≡ Count 256
+  count₁ : listed_answer 14 8 9 ≡ Ok 256
   unfolding listed_answer in_sheet count_of
   count₁ = refl
 
   -- no string of 8 bits has a one and 8 low bits
-  count₂ : listed_answer 14 8 8 ≡ Count 0
+  count₂ : listed_answer 14 8 8 ≡ Ok 0
   unfolding listed_answer in_sheet count_of
   count₂ = refl
 
   -- codes end below 2^12
-  count₃ : listed_answer 12 13 16 ≡ Count 4096
+  count₃ : listed_answer 12 13 16 ≡ Ok 4096
   unfolding listed_answer in_sheet count_of
   count₃ = refl
 
-  count₄ : listed_answer 16 15 16 ≡ Count 32768
+  count₄ : listed_answer 16 15 16 ≡ Ok 32768
   unfolding listed_answer in_sheet count_of
   count₄ = refl
 
-  refused₁ : listed_answer 13 0 1 ≡ Refused OutsideSheet
+  refused₁ : listed_answer 13 0 1 ≡ Err OutsideSheet
   unfolding listed_answer in_sheet
   refused₁ = refl
 
-  refused₂ : listed_answer 12 16 16 ≡ Refused OutsideSheet
+  refused₂ : listed_answer 12 16 16 ≡ Err OutsideSheet
   unfolding listed_answer in_sheet
   refused₂ = refl
 
-  refused₃ : listed_answer 12 0 0 ≡ Refused OutsideSheet
+  refused₃ : listed_answer 12 0 0 ≡ Err OutsideSheet
   unfolding listed_answer in_sheet
   refused₃ = refl
 
-  refused₄ : listed_answer 12 0 17 ≡ Refused OutsideSheet
+  refused₄ : listed_answer 12 0 17 ≡ Err OutsideSheet
   unfolding listed_answer in_sheet
   refused₄ = refl
 

@@ -1,11 +1,10 @@
 -- Rules. A sheet of short codes: every bit string up to a greatest length that is one tight lossless code, as a number.
-use Rattle.std.specs.Prelude.{Bool, cond, ◌&&◌, ◌||◌, List, ◌≡◌, ℕ, ◌+◌, ◌-◌, ◌*◌, ◌^◌, min, leb, ltb, eqb, length, get_or}
+use Rattle.std.specs.Prelude.{Bool, cond, ◌&&◌, ◌||◌, List, ◌≡◌, ℕ, ◌+◌, ◌-◌, ◌*◌, ◌^◌, min, leb, ltb, eqb, length, get_or, Err, Ok, Result}
 use Rattle.bits.specs.BitLists.{number_of}
 use Rattle.quantiser.specs.Quantisers.{main_of}
 use Rattle.code.specs.Tight.{code_bits}
 use Rattle.stream.specs.declared.header.Refusal.TheVariants.{OutsideSheet}
-use Rattle.short_codes.specs.declared.Listed.{Listed}
-use Rattle.short_codes.specs.declared.Listed.TheVariants.{Count, Refused}
+use Rattle.stream.specs.declared.header.Refusal.{Refusal}
 
 -- a depth of 12, 14 or 16, a k from 0 to 15, a greatest length n from 1 to 16
 unfoldable pub in_sheet : ℕ → ℕ → ℕ → Bool
@@ -34,8 +33,8 @@ entry_at depth k i = entry_of (string_of depth k i)
 -- ---- what a call gives
 
 -- refusal 24, or the count
-unfoldable pub listed_answer : ℕ → ℕ → ℕ → Listed
-listed_answer depth k n = cond (in_sheet depth k n) (Count (count_of depth k n)) (Refused OutsideSheet)
+unfoldable pub listed_answer : ℕ → ℕ → ℕ → Result ℕ Refusal
+listed_answer depth k n = cond (in_sheet depth k n) (Ok (count_of depth k n)) (Err OutsideSheet)
 
 -- whether entry i of a list with so many entries is written: nothing is refused, the whole sheet has room, and i belongs to it
 unfoldable pub is_written : ℕ → ℕ → ℕ → ℕ → ℕ → Bool

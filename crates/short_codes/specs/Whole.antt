@@ -1,13 +1,11 @@
 -- Promises. What it means that a sheet is whole: the statements that proofs/WholeLaws.antt and proofs/ReadLaws.antt prove of every depth, k and greatest length
 -- that are not refused. Assumes nothing.
-use Rattle.std.specs.Prelude.{Bool, true, List, ◌++◌, ◌⊎◌, ◌≡◌, ℕ, ◌+◌, ◌-◌, ◌*◌, ◌^◌, ◌≤◌, ◌<◌, length, take, drop}
+use Rattle.std.specs.Prelude.{Bool, true, List, ◌++◌, ◌⊎◌, ◌≡◌, ℕ, ◌+◌, ◌-◌, ◌*◌, ◌^◌, ◌≤◌, ◌<◌, length, take, drop, Option, Some}
 use Rattle.bits.specs.BitLists.{bits_of}
 use Rattle.quantiser.specs.Quantisers.{largest, main_of}
 use Rattle.code.specs.Codes.{code_at}
 use Rattle.code.specs.Tight.{is_tight}
 use Rattle.code.specs.declared.Code.{Code}
-use Rattle.code.specs.declared.Coded.{Coded}
-use Rattle.code.specs.declared.Coded.TheVariants.{Read}
 use Rattle.short_codes.specs.Sheets.{in_sheet, string_of, value_of, entry_of, count_of, entry_at}
 
 -- a bit string that is one tight lossless code: the bits of a code below 2^depth
@@ -48,13 +46,13 @@ AllWhole = (depth k n : ℕ) → in_sheet depth k n ≡ true → Whole depth k n
 -- ---- these strings are what the reader takes for one tight code
 
 -- the code that is read at bit p of a lossless block
-abbrev pub code_there : ℕ → ℕ → List ℕ → ℕ → Coded
+abbrev pub code_there : ℕ → ℕ → List ℕ → ℕ → Option Code
 code_there depth k s p = code_at s p k (main_of depth 0).limit (main_of depth 0).raw
 
 -- a tight code is read at bit p, and it ends where the string ends
 pub record IsRead (depth k : ℕ) (s : List ℕ) (p : ℕ) (l : List Bool) : Type 0 where
   pub code : Code
-  pub read : code_there depth k s p ≡ Read code
+  pub read : code_there depth k s p ≡ Some code
   pub tight : is_tight (largest depth) code ≡ true
   pub ends : code.after.0 ≡ p + length l
 
@@ -62,7 +60,7 @@ pub record AsRead (depth k : ℕ) : Type 0 where
   -- wherever such a string stands, whatever follows it
   pub taken : (s : List ℕ) (p : ℕ) (l rest : List Bool) → TightString depth k l → drop p (bits_of s) ≡ l ++ rest → IsRead depth k s p l
   -- and a tight code that is read within the block's bytes stands there as such a string
-  pub only : (s : List ℕ) (p : ℕ) (x : Code) → code_there depth k s p ≡ Read x → is_tight (largest depth) x ≡ true → x.after.0 ≤ 8 * length s
+  pub only : (s : List ℕ) (p : ℕ) (x : Code) → code_there depth k s p ≡ Some x → is_tight (largest depth) x ≡ true → x.after.0 ≤ 8 * length s
       → TightString depth k (take (x.after.0 - p) (drop p (bits_of s)))
 
 abbrev pub AllAsRead : Type 0

@@ -7,13 +7,6 @@ ghost use Rattle.short_codes.specs.Inside.{Bounded, Filled};
 
 use stream::Refusal;
 
-// How many strings the sheet has, whether or not they were written.
-#[derive(Clone, Copy)]
-pub enum Listed {
-    Count(usize),
-    Refused(Refusal),
-}
-
 // Not `(1..=16).contains(&longest)`: tried, and the proof does not close, since the tests of `in_sheet` nest the other way.
 fn in_sheet(depth: u32, k: u32, longest: u32) -> bool
     ensures { result ≡ in_sheet depth k longest }
@@ -50,17 +43,17 @@ fn fill(depth: u32, k: u32, longest: u32, list: &mut [u32], count: u32)
 }
 
 // Lists every bit string of at most `longest` bits that is one tight lossless code, as 65,536·length + value, by length and then by value. The
-// count is that of the sheet; a list that is shorter is left as it was. Refusal 24.
-pub fn short_codes(depth: u32, k: u32, longest: u32, list: &mut [u32]) -> Listed
+// count, how many strings the sheet has, is given whether or not they were written; a list that is shorter is left as it was. Refusal 24.
+pub fn short_codes(depth: u32, k: u32, longest: u32, list: &mut [u32]) -> Result<usize, Refusal>
     ensures { (result ≡ listed_answer depth k longest) × ListAfter depth k longest list.old list.new }
 {
     if !in_sheet(depth, k, longest) {
-        return Listed::Refused(Refusal::OutsideSheet);
+        return Err(Refusal::OutsideSheet);
     }
     let count = count_of(depth, k, longest);
     if list.len() < count as usize {
-        return Listed::Count(count as usize);
+        return Ok(count as usize);
     }
     fill(depth, k, longest, list, count);
-    Listed::Count(count as usize)
+    Ok(count as usize)
 }

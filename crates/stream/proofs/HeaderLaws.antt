@@ -11,20 +11,20 @@ use Rattle.numbers.proofs.BoolLaws.{both}
 use Rattle.stream.specs.Headers.{byte_at, be16, header_of, within, divides, kind_rules, size_rules, count_rules, all_rules, parse_of}
 use Rattle.stream.specs.Inside.{Ruled}
 use Rattle.stream.specs.declared.header.FujiHeader.{FujiHeader}
-use Rattle.stream.specs.declared.header.Parsed.TheVariants.{Header, Refused}
 use Rattle.stream.specs.declared.header.Refusal.TheVariants.{ShortHeader, BadHeader}
+use Rattle.std.specs.Prelude.{Err, Ok}
 
 -- the three ways in which bytes parse
 module _ (d : List ℕ) where
-  pub parse_short : length d < 16 → parse_of d ≡ Refused ShortHeader
+  pub parse_short : length d < 16 → parse_of d ≡ Err ShortHeader
   unfolding parse_of
   parse_short h = rw (lt-ltb (length d) 16 h)
 
-  pub parse_bad : 16 ≤ length d → all_rules d ≡ false → parse_of d ≡ Refused BadHeader
+  pub parse_bad : 16 ≤ length d → all_rules d ≡ false → parse_of d ≡ Err BadHeader
   unfolding parse_of
   parse_bad h e = rw (le-ltb (length d) 16 h, e)
 
-  pub parse_good : 16 ≤ length d → all_rules d ≡ true → parse_of d ≡ Header (header_of d)
+  pub parse_good : 16 ≤ length d → all_rules d ≡ true → parse_of d ≡ Ok (header_of d)
   unfolding parse_of
   parse_good h e = rw (le-ltb (length d) 16 h, e)
 
@@ -34,12 +34,12 @@ pub record IsParsed (d : List ℕ) (h : FujiHeader) : Type 0 where
   pub rules : all_rules d ≡ true
   pub header : h ≡ header_of d
 
-pub parsed : (d : List ℕ) (h : FujiHeader) → parse_of d ≡ Header h → IsParsed d h
+pub parsed : (d : List ℕ) (h : FujiHeader) → parse_of d ≡ Ok h → IsParsed d h
 unfolding parse_of
 parsed d h = go (ltb (length d) 16) (all_rules d) refl refl
   where
     go : (s r : Bool) → ltb (length d) 16 ≡ s → all_rules d ≡ r
-        → cond s (Refused ShortHeader) (cond r (Header (header_of d)) (Refused BadHeader)) ≡ Header h → IsParsed d h
+        → cond s (Err ShortHeader) (cond r (Ok (header_of d)) (Err BadHeader)) ≡ Ok h → IsParsed d h
     go true r l e g = absurd (let no : ◌≡◌ {A = ℕ} 0 1 = cc in omega arith)
     go false true l e g = record { whole = ltb-false (length d) 16 l; rules = e; header = cc }
     go false false l e g = absurd (let no : ◌≡◌ {A = ℕ} 0 1 = cc in omega arith)
@@ -141,7 +141,7 @@ module _ (h : FujiHeader) where
         block_size_is = s.size;
       }
 
-pub ruled : (d : List ℕ) (h : FujiHeader) → parse_of d ≡ Header h → Ruled h
+pub ruled : (d : List ℕ) (h : FujiHeader) → parse_of d ≡ Ok h → Ruled h
 ruled d h e =
     let p = parsed d h e in
     let z = both (kind_rules d && size_rules (header_of d)) (count_rules (header_of d)) p.rules in

@@ -17,16 +17,14 @@ use Rattle.stream.specs.Streams.{block_start, range_in, range_of, row_in, row_of
 use Rattle.stream.specs.Ranges.{cut, part_of, Short}
 use Rattle.stream.specs.Inside.{Inside}
 use Rattle.stream.specs.declared.header.FujiHeader.{FujiHeader}
-use Rattle.stream.specs.declared.header.Parsed.{Parsed}
-use Rattle.stream.specs.declared.header.Parsed.TheVariants.{Header, Refused}
-use Rattle.stream.specs.declared.ranges.Ranged.{Ranged}
-use Rattle.stream.specs.declared.ranges.Ranged.TheVariants as Range
 use Rattle.stream.specs.declared.header.Refusal.{Refusal}
 use Rattle.stream.specs.declared.header.Refusal.TheVariants.{ShortSizes, ShortBases}
 use Rattle.stream.proofs.HeaderLaws.{ruled}
+use Rattle.std.specs.Prelude.{Err, Ok, Result}
+use Rattle.bits.specs.declared.ByteOffset.{ByteOffset}
 
 -- a refusal is no header
-clash : {X : Type 0} (r : Refusal) (h : FujiHeader) → Refused r ≡ Header h → X
+clash : {X : Type 0} (r : Refusal) (h : FujiHeader) → Err r ≡ Ok h → X
 clash r h e = absurd (let no : ◌≡◌ {A = ℕ} 0 1 = cc in omega arith)
 
 -- a lossy stream: the second of two tests decides, and rows have a byte for each line
@@ -46,7 +44,7 @@ module _ (d : List ℕ) (h : FujiHeader) where
   row_there b l = ltb-false (length d) (row_start h b + row_length h) ((least h.blocks (λ i. is_short d h i) 0).before b (omega arith) l)
 
   -- what is known once both tests are passed
-  passed : parse_of d ≡ Header h → ltb (length d) (sizes_end h) ≡ false → (not h.lossless && ltb (first_short d h) h.blocks) ≡ false → Opened d h
+  passed : parse_of d ≡ Ok h → ltb (length d) (sizes_end h) ≡ false → (not h.lossless && ltb (first_short d h) h.blocks) ≡ false → Opened d h
   passed e s t =
       record {
         parsed = e;
@@ -58,44 +56,44 @@ module _ (d : List ℕ) (h : FujiHeader) where
       }
 
 -- a stream that opens
-pub opened : (d : List ℕ) (h : FujiHeader) → open_of d ≡ Header h → Opened d h
+pub opened : (d : List ℕ) (h : FujiHeader) → open_of d ≡ Ok h → Opened d h
 unfolding open_of
 opened d h = from (parse_of d) refl
   where
-    tests : (g : FujiHeader) → parse_of d ≡ Header g → (s t : Bool) → ltb (length d) (sizes_end g) ≡ s
+    tests : (g : FujiHeader) → parse_of d ≡ Ok g → (s t : Bool) → ltb (length d) (sizes_end g) ≡ s
         → (not g.lossless && ltb (first_short d g) g.blocks) ≡ t
-        → cond s (Refused ShortSizes) (cond t (Refused (ShortBases (first_short d g))) (Header g)) ≡ Header h → Opened d h
+        → cond s (Err ShortSizes) (cond t (Err (ShortBases (first_short d g))) (Ok g)) ≡ Ok h → Opened d h
     tests g e true t es et f = clash ShortSizes h f
     tests g e false true es et f = clash (ShortBases (first_short d g)) h f
     tests g e false false es et f = let same : g ≡ h = cc in subst (λ (x : FujiHeader). Opened d x) same (passed d g e es et)
 
-    from : (p : Parsed) → parse_of d ≡ p → open_in d p ≡ Header h → Opened d h
-    from (Refused r) e f = clash r h f
-    from (Header g) e f = tests g e (ltb (length d) (sizes_end g)) (not g.lossless && ltb (first_short d g) g.blocks) refl refl f
+    from : (p : Result FujiHeader Refusal) → parse_of d ≡ p → open_in d p ≡ Ok h → Opened d h
+    from (Err r) e f = clash r h f
+    from (Ok g) e f = tests g e (ltb (length d) (sizes_end g)) (not g.lossless && ltb (first_short d g) g.blocks) refl refl f
 
 -- the answers, by how parsing and opening end
 module _ (d : List ℕ) where
-  pub open_refused : (r : Refusal) → parse_of d ≡ Refused r → open_of d ≡ Refused r
+  pub open_refused : (r : Refusal) → parse_of d ≡ Err r → open_of d ≡ Err r
   unfolding open_of
   open_refused r e = rw e
 
-  pub open_parsed : (h : FujiHeader) → parse_of d ≡ Header h → open_of d ≡ open_in d (Header h)
+  pub open_parsed : (h : FujiHeader) → parse_of d ≡ Ok h → open_of d ≡ open_in d (Ok h)
   unfolding open_of
   open_parsed h e = rw e
 
-  pub range_refused : (b : ℕ) (r : Refusal) → open_of d ≡ Refused r → range_of d b ≡ Range.Refused r
+  pub range_refused : (b : ℕ) (r : Refusal) → open_of d ≡ Err r → range_of d b ≡ Err r
   unfolding range_of
   range_refused b r e = rw e
 
-  pub range_opened : (b : ℕ) (h : FujiHeader) → open_of d ≡ Header h → range_of d b ≡ range_in d b (Header h)
+  pub range_opened : (b : ℕ) (h : FujiHeader) → open_of d ≡ Ok h → range_of d b ≡ range_in d b (Ok h)
   unfolding range_of
   range_opened b h e = rw e
 
-  pub row_refused : (b : ℕ) (r : Refusal) → open_of d ≡ Refused r → row_of d b ≡ Range.Refused r
+  pub row_refused : (b : ℕ) (r : Refusal) → open_of d ≡ Err r → row_of d b ≡ Err r
   unfolding row_of
   row_refused b r e = rw e
 
-  pub row_opened : (b : ℕ) (h : FujiHeader) → open_of d ≡ Header h → row_of d b ≡ row_in d b (Header h)
+  pub row_opened : (b : ℕ) (h : FujiHeader) → open_of d ≡ Ok h → row_of d b ≡ row_in d b (Ok h)
   unfolding row_of
   row_opened b h e = rw e
 
@@ -108,9 +106,9 @@ module _ (d : List ℕ) where
   unfolding range_of
   range_inside b = go (open_of d)
     where
-      go : (p : Parsed) → Inside d (range_in d b p)
-      go (Refused r) = tt
-      go (Header h) =
+      go : (p : Result FujiHeader Refusal) → Inside d (range_in d b p)
+      go (Err r) = tt
+      go (Ok h) =
           split h.blocks b
           (λ l. rw (le-ltb b h.blocks l) tt)
           (λ l. rw (lt-ltb b h.blocks l) (cut_inside (block_start d h b) (block_start d h b + size_of d b)))
@@ -127,9 +125,9 @@ module _ (d : List ℕ) where
   unfolding row_of
   row_inside b = go (open_of d) refl
     where
-      go : (p : Parsed) → open_of d ≡ p → Inside d (row_in d b p)
-      go (Refused r) e = tt
-      go (Header h) e =
+      go : (p : Result FujiHeader Refusal) → open_of d ≡ p → Inside d (row_in d b p)
+      go (Err r) e = tt
+      go (Ok h) e =
           split h.blocks b
           (λ l. rw (le-ltb b h.blocks l) tt)
           (λ l. rw (lt-ltb b h.blocks l) (row_fits h b (opened d h e) l))
@@ -143,12 +141,12 @@ module _ (d : List ℕ) where
   taken_is n from h = simp (length-take, length-drop) (omega arith)
 
   -- a part is no longer than its range
-  pub part_lt : (r : Ranged) → Short r → length (part_of d r) < 2 ^ 32
-  part_lt (Range.At from n) h = omega (arith, taken_le n from.0)
-  part_lt (Range.Refused r) h = lit< tt
+  pub part_lt : (r : Result (ByteOffset × ℕ) Refusal) → Short r → length (part_of d r) < 2 ^ 32
+  part_lt (Ok (from, n)) h = omega (arith, taken_le n from.0)
+  part_lt (Err r) h = lit< tt
 
   -- a base row of a lossy stream has a byte for each line, and one of a lossless stream none
-  module _ (h : FujiHeader) (b : ℕ) (e : open_of d ≡ Header h) where
+  module _ (h : FujiHeader) (b : ℕ) (e : open_of d ≡ Ok h) where
     pub row_length_lem : b < h.blocks → length (part_of d (row_of d b)) ≡ row_length h
     row_length_lem l =
         rw (row_opened d b h e, lt-ltb b h.blocks l) (taken_is (row_length h) (cut d (row_start h b)) (row_fits d h b (opened d h e) l))

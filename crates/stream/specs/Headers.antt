@@ -1,11 +1,8 @@
 -- Rules. The header of a stream: 16 bytes, big-endian.
-use Rattle.std.specs.Prelude.{Bool, cond, ◌&&◌, ◌||◌, List, ℕ, ◌+◌, ◌-◌, ◌*◌, ◌/◌, ◌%◌, leb, ltb, eqb, length, get_or}
+use Rattle.std.specs.Prelude.{Bool, cond, ◌&&◌, ◌||◌, List, ℕ, ◌+◌, ◌-◌, ◌*◌, ◌/◌, ◌%◌, leb, ltb, eqb, length, get_or, Err, Ok, Result}
 use Rattle.stream.specs.declared.header.FujiHeader.{FujiHeader}
-use Rattle.stream.specs.declared.header.Parsed.{Parsed}
-use Rattle.stream.specs.declared.header.Parsed.TheVariants.{Header, Refused}
-use Rattle.stream.specs.declared.header.Width.{Width}
-use Rattle.stream.specs.declared.header.Width.TheVariants as Columns
 use Rattle.stream.specs.declared.header.Refusal.TheVariants.{ShortHeader, BadHeader, NoBlock}
+use Rattle.stream.specs.declared.header.Refusal.{Refusal}
 
 abbrev pub byte_at : List ℕ → ℕ → ℕ
 byte_at d i = get_or d i 0
@@ -61,14 +58,14 @@ abbrev pub all_rules : List ℕ → Bool
 all_rules d = kind_rules d && size_rules (header_of d) && count_rules (header_of d)
 
 -- refusals 1 and 2, or the header
-unfoldable pub parse_of : List ℕ → Parsed
-parse_of d = cond (ltb (length d) 16) (Refused ShortHeader) (cond (all_rules d) (Header (header_of d)) (Refused BadHeader))
+unfoldable pub parse_of : List ℕ → Result FujiHeader Refusal
+parse_of d = cond (ltb (length d) 16) (Err ShortHeader) (cond (all_rules d) (Ok (header_of d)) (Err BadHeader))
 
 -- the columns of block i: 768, and what is left in the last one
 abbrev pub columns_of : FujiHeader → ℕ → ℕ
 columns_of h i = cond (eqb (i + 1) h.blocks) (h.width - 768 * i) 768
 
 -- refusal 5 after those of the header, or the columns of block i
-abbrev pub width_answer : Parsed → ℕ → Width
-width_answer (Refused r) i = Columns.Refused r
-width_answer (Header h) i = cond (ltb i h.blocks) (Columns.Columns (columns_of h i)) (Columns.Refused NoBlock)
+abbrev pub width_answer : Result FujiHeader Refusal → ℕ → Result ℕ Refusal
+width_answer (Err r) i = Err r
+width_answer (Ok h) i = cond (ltb i h.blocks) (Ok (columns_of h i)) (Err NoBlock)

@@ -75,18 +75,6 @@ pub struct FujiHeader {
     pub lines: u32,
 }
 
-#[derive(Clone, Copy)]
-pub enum Parsed {
-    Header(FujiHeader),
-    Refused(Refusal),
-}
-
-#[derive(Clone, Copy)]
-pub enum Width {
-    Columns(u32),
-    Refused(Refusal),
-}
-
 fn byte(d: &[u8], i: usize) -> u32
     requires { i < length d.now }
     ensures { (result ≡ byte_at d.now i) × (result < 256) }
@@ -171,16 +159,16 @@ fn keeps_count_rules(h: FujiHeader) -> bool
 
 impl FujiHeader {
     // Parses and validates the header: the first 16 bytes.
-    pub fn parse(d: &[u8]) -> Parsed
+    pub fn parse(d: &[u8]) -> Result<FujiHeader, Refusal>
         ensures { result ≡ parse_of d.now }
     {
         if limits::is_short(d.len(), 16) {
-            return Parsed::Refused(Refusal::ShortHeader);
+            return Err(Refusal::ShortHeader);
         }
         let h = read_header(d);
         if keeps_kind_rules(d) & keeps_size_rules(h) & keeps_count_rules(h) {
-            return Parsed::Header(h);
+            return Ok(h);
         }
-        Parsed::Refused(Refusal::BadHeader)
+        Err(Refusal::BadHeader)
     }
 }

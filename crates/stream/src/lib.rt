@@ -1,11 +1,11 @@
 // Document 01, Stream and Refusals: the header, sizes, base rows, the bytes of a block, and the list of refusals with their numbers.
 #![tactic(auto)]
 
-ghost use Rattle.std.specs.Prelude.{◌≡◌, ◌+◌, ◌*◌, ◌^◌, ◌≤◌, ◌<◌, length, MatchOption};
+ghost use Rattle.std.specs.Prelude.{◌≡◌, ◌+◌, ◌*◌, ◌^◌, ◌≤◌, ◌<◌, length, MatchOption, Ok};
 ghost use Rattle.stream.specs.Headers.{parse_of, width_answer};
 ghost use Rattle.stream.specs.Inside.{Ruled};
 ghost use Rattle.stream.specs.Ranges.{part_of, Short};
-ghost use Rattle.stream.specs.Lengths.{bound_answer, length_word, length_refusal};
+ghost use Rattle.stream.specs.Lengths.{bound_answer, length_word};
 ghost use Rattle.stream.specs.Streams.{size_of, row_length, row_start, first_short, open_in, open_of, sizes_before};
 ghost use Rattle.stream.specs.Inside.{Opened};
 ghost use Rattle.stream.specs.Streams.{block_start, range_in, range_of, row_in, row_of};
@@ -16,82 +16,59 @@ mod header;
 mod ranges;
 mod words;
 
-pub use header::{FujiHeader, Parsed, Refusal, Width};
-pub use ranges::Ranged;
-pub use words::{header_words, refusal_words};
-
-// A block's length in bytes: its bound, as it is measured, or as it is written.
-#[derive(Clone, Copy)]
-pub enum BlockLength {
-    Length(usize),
-    Refused(Refusal),
-}
+pub use header::{FujiHeader, Refusal};
+pub use words::{header_words, refusal_in, refusal_words};
 
 // A block's length for C, 0 where it is refused.
-pub fn length_word(a: BlockLength) -> [usize; 1]
+pub fn length_word(a: Result<usize, Refusal>) -> [usize; 1]
     ensures { result ≡ length_word a }
 {
     match a {
-        BlockLength::Length(n) => [n],
-        BlockLength::Refused(_) => [0],
-    }
-}
-
-pub fn length_refusal(a: BlockLength) -> [usize; 4]
-    ensures { result ≡ length_refusal a }
-{
-    match a {
-        BlockLength::Length(_) => [0; 4],
-        BlockLength::Refused(r) => words::refusal_words(r),
+        Ok(n) => [n],
+        Err(_) => [0],
     }
 }
 
 // The columns of block i, if it is there.
-fn columns(h: FujiHeader, i: u32) -> Width
+fn columns(h: FujiHeader, i: u32) -> Result<u32, Refusal>
     requires { Ruled h }
-    ensures { result ≡ width_answer (Parsed.Header h) i }
+    ensures { result ≡ width_answer (Ok h) i }
 {
     let blocks = h.blocks;
     let width = h.width;
     if blocks <= i {
-        return Width::Refused(Refusal::NoBlock);
+        return Err(Refusal::NoBlock);
     }
-    Width::Columns(limits::block_columns(width, blocks, i))
+    Ok(limits::block_columns(width, blocks, i))
 }
 
 // The columns of block i.
-pub fn block_width(d: &[u8], i: u32) -> Width
+pub fn block_width(d: &[u8], i: u32) -> Result<u32, Refusal>
     ensures { result ≡ width_answer (parse_of d.now) i }
 {
-    let parsed = FujiHeader::parse(d);
-    match parsed {
-        Parsed::Refused(r) => Width::Refused(r),
-        Parsed::Header(h) => columns(h, i),
-    }
+    let h = FujiHeader::parse(d)?;
+    columns(h, i)
 }
 
-fn bound_in(h: FujiHeader) -> BlockLength
+fn bound_in(h: FujiHeader) -> Result<usize, Refusal>
     requires { Ruled h }
-    ensures { result ≡ bound_answer (Parsed.Header h) }
+    ensures { result ≡ bound_answer (Ok h) }
 {
     let lossless = h.lossless;
     let lines = h.lines as usize;
     let bits = h.bits as usize;
     if !lossless {
-        return BlockLength::Refused(Refusal::Lossy);
+        return Err(Refusal::Lossy);
     }
-    BlockLength::Length(limits::most_bytes(lines, bits))
+    Ok(limits::most_bytes(lines, bits))
 }
 
 // A length that no tight block under this header exceeds: a line has 4608 codes, and each has at most 4·bits bits.
-pub fn length_bound(d: &[u8]) -> BlockLength
+pub fn length_bound(d: &[u8]) -> Result<usize, Refusal>
     ensures { result ≡ bound_answer (parse_of d.now) }
 {
-    let parsed = FujiHeader::parse(d);
-    match parsed {
-        Parsed::Refused(r) => BlockLength::Refused(r),
-        Parsed::Header(h) => bound_in(h),
-    }
+    let h = FujiHeader::parse(d)?;
+    bound_in(h)
 }
 
 // The size of block b.
@@ -138,33 +115,30 @@ fn first_short(d: &[u8], h: FujiHeader) -> Option<usize>
 }
 
 // Whether the sizes and the base rows are there.
-fn open_in(d: &[u8], h: FujiHeader) -> Parsed
+fn open_in(d: &[u8], h: FujiHeader) -> Result<FujiHeader, Refusal>
     requires { Ruled h }
-    ensures { result ≡ open_in d.now (Parsed.Header h) }
+    ensures { result ≡ open_in d.now (Ok h) }
 {
     let blocks = h.blocks as usize;
     let lossless = h.lossless;
     if d.len() < 16 + 4 * blocks {
-        return Parsed::Refused(Refusal::ShortSizes);
+        return Err(Refusal::ShortSizes);
     }
     if lossless {
-        return Parsed::Header(h);
+        return Ok(h);
     }
     if let Some(b) = first_short(d, h) {
-        return Parsed::Refused(Refusal::ShortBases(b));
+        return Err(Refusal::ShortBases(b));
     }
-    Parsed::Header(h)
+    Ok(h)
 }
 
 // Opens a stream: its header, once the sizes and, if it is lossy, all base rows are there.
-pub fn open(d: &[u8]) -> Parsed
+pub fn open(d: &[u8]) -> Result<FujiHeader, Refusal>
     ensures { result ≡ open_of d.now }
 {
-    let parsed = FujiHeader::parse(d);
-    match parsed {
-        Parsed::Refused(r) => Parsed::Refused(r),
-        Parsed::Header(h) => open_in(d, h),
-    }
+    let h = FujiHeader::parse(d)?;
+    open_in(d, h)
 }
 
 // The sizes of the blocks before block b, added.
@@ -190,13 +164,13 @@ fn block_start(d: &[u8], h: FujiHeader, b: usize) -> usize
 }
 
 // The range of block b, if it is there.
-fn range_in(d: &[u8], h: FujiHeader, b: usize) -> Ranged
+fn range_in(d: &[u8], h: FujiHeader, b: usize) -> Result<(ByteOffset, usize), Refusal>
     requires { Opened d.now h }
-    ensures { (result ≡ range_in d.now b (Parsed.Header h)) × Short result }
+    ensures { (result ≡ range_in d.now b (Ok h)) × Short result }
 {
     let blocks = h.blocks as usize;
     if blocks <= b {
-        return Ranged::Refused(Refusal::NoBlock);
+        return Err(Refusal::NoBlock);
     }
     let start = block_start(d, h, b);
     let size = size_of(d, b);
@@ -204,38 +178,32 @@ fn range_in(d: &[u8], h: FujiHeader, b: usize) -> Ranged
 }
 
 // Where block b lies in the stream.
-pub fn block_range(d: &[u8], b: usize) -> Ranged
+pub fn block_range(d: &[u8], b: usize) -> Result<(ByteOffset, usize), Refusal>
     ensures { (result ≡ range_of d.now b) × Short result }
 {
-    let opened = open(d);
-    match opened {
-        Parsed::Refused(r) => Ranged::Refused(r),
-        Parsed::Header(h) => range_in(d, h, b),
-    }
+    let h = open(d)?;
+    range_in(d, h, b)
 }
 
 // The range of base row b, if it is there.
-fn row_in(d: &[u8], h: FujiHeader, b: usize) -> Ranged
+fn row_in(d: &[u8], h: FujiHeader, b: usize) -> Result<(ByteOffset, usize), Refusal>
     requires { Ruled h }
-    ensures { result ≡ row_in d.now b (Parsed.Header h) }
+    ensures { result ≡ row_in d.now b (Ok h) }
 {
     let blocks = h.blocks as usize;
     if blocks <= b {
-        return Ranged::Refused(Refusal::NoBlock);
+        return Err(Refusal::NoBlock);
     }
     let from = ranges::cut(d, row_start(h, b));
-    Ranged::At(ByteOffset(from), row_length(h))
+    Ok((ByteOffset(from), row_length(h)))
 }
 
 // Where the base row of block b lies in the stream.
-pub fn base_row_range(d: &[u8], b: usize) -> Ranged
+pub fn base_row_range(d: &[u8], b: usize) -> Result<(ByteOffset, usize), Refusal>
     ensures { result ≡ row_of d.now b }
 {
-    let opened = open(d);
-    match opened {
-        Parsed::Refused(r) => Ranged::Refused(r),
-        Parsed::Header(h) => row_in(d, h, b),
-    }
+    let h = open(d)?;
+    row_in(d, h, b)
 }
 
 // The bytes of block b; none if the call is refused, and `block_range` says why.

@@ -6,13 +6,6 @@ ghost use Rattle.stream.specs.Inside.{cut_range, Inside};
 use crate::header::Refusal;
 use bits::ByteOffset;
 
-// An offset into the stream and a length.
-#[derive(Clone, Copy)]
-pub enum Ranged {
-    At(ByteOffset, usize),
-    Refused(Refusal),
-}
-
 // Cut to the stream's end.
 pub fn cut(d: &[u8], at: usize) -> usize
     ensures { result ≡ cut d.now at }
@@ -24,26 +17,26 @@ pub fn cut(d: &[u8], at: usize) -> usize
 }
 
 // The range of so many bytes from `start` on, its start and its end cut.
-pub fn cut_range(d: &[u8], start: usize, size: usize) -> Ranged
+pub fn cut_range(d: &[u8], start: usize, size: usize) -> Result<(ByteOffset, usize), Refusal>
     requires { start + size < 2 ^ 64 }
     ensures { result ≡ cut_range d.now start size }
 {
     let from = cut(d, start);
     let to = cut(d, start + size);
-    Ranged::At(ByteOffset(from), to - from)
+    Ok((ByteOffset(from), to - from))
 }
 
-// The part of the stream that a range says.
-pub fn part(d: &[u8], r: Ranged) -> &[u8]
+// The part of the stream that a range says, an offset and a length; none of it where the call was refused.
+pub fn part(d: &[u8], r: Result<(ByteOffset, usize), Refusal>) -> &[u8]
     requires { Inside d.now r }
     ensures { result.now ≡ part_of d.now r }
 {
     match r {
-        Ranged::At(from, n) => {
+        Ok((from, n)) => {
             let start = from.0;
             let end = start + n;
             &d[start..end]
         }
-        Ranged::Refused(_) => &d[..0],
+        Err(_) => &d[..0],
     }
 }

@@ -1,6 +1,6 @@
 // A refusal and a header as the numbers that C gets.
 ghost use Rattle.std.specs.Prelude.{◌≡◌};
-ghost use Rattle.stream.specs.Refusals.{refusal_words};
+ghost use Rattle.stream.specs.Refusals.{refusal_words, refusal_in};
 ghost use Rattle.stream.specs.Words.{header_words};
 
 use crate::header::{FujiHeader, Refusal};
@@ -36,6 +36,16 @@ pub fn refusal_words(r: Refusal) -> [usize; 4]
         Refusal::OutsideSheet => [24, 0, 0, 0],
         Refusal::WrongLengths => [25, 0, 0, 0],
         Refusal::LongBlock(b) => [26, b, 0, 0],
+    }
+}
+
+// The words of an answer's refusal, all 0 where nothing is refused.
+pub fn refusal_in<T>(a: &Result<T, Refusal>) -> [usize; 4]
+    ensures { result ≡ refusal_in a.now }
+{
+    match a {
+        Ok(_) => [0; 4],
+        Err(r) => refusal_words(*r),
     }
 }
 

@@ -3,7 +3,6 @@ use borrow.Author.Tests.{lt-ltb, le-ltb, ltb-false, eq-eqb, ne_eqb}
 use borrow.Rule.Slice.PartMut.{put_mid}
 use mathlib.Core.Bool.{Bool, true, false, cond}
 use mathlib.Core.List.{List, [], ◌++◌, append-nil}
-use mathlib.Core.Option.{none}
 use mathlib.Core.Path.{◌≡◌, refl, sym, ap, ◌∙◌}
 use Prim.Native.Nat.{ℕ, suc, ◌+◌, ◌-◌, ◌*◌, ◌≤◌, ◌<◌}
 use native.Mathlib.Nat.{mul-le-mul_right}
@@ -19,13 +18,9 @@ use Rattle.colour_lines.specs.ColourLines.{zero_lines}
 use Rattle.stream.specs.Headers.{parse_of}
 use Rattle.stream.specs.Inside.{Ruled}
 use Rattle.stream.specs.declared.header.FujiHeader.{FujiHeader}
-use Rattle.stream.specs.declared.header.Parsed.{Parsed}
-use Rattle.stream.specs.declared.header.Parsed.TheVariants as Parsing
 use Rattle.stream.specs.declared.header.Refusal.{Refusal}
 use Rattle.stream.specs.declared.header.Refusal.TheVariants.{Truncated}
 use Rattle.stream.specs.Streams.{open_of}
-use Rattle.stream.specs.declared.BlockLength.{BlockLength}
-use Rattle.stream.specs.declared.BlockLength.TheVariants.{Refused}
 use Rattle.stream.proofs.StreamLaws.{opened}
 use Rattle.admission.specs.Beginnings.{samples_needed, records_needed}
 use Rattle.admission.specs.Beginnings.{ScratchFits}
@@ -35,7 +30,6 @@ use Rattle.read_block.specs.Images.{form_of, bytes_in, bases_in, lines_read}
 use Rattle.read_block.specs.Lent.{Outputs, cleared_lines, cleared_records}
 use Rattle.read_block.specs.Records.{clear_record, clear_records}
 use Rattle.read_block.specs.declared.Counted.{Counted}
-use Rattle.read_block.specs.declared.Decoded.TheVariants as Decode
 use Rattle.read_block.specs.declared.Form.{Form}
 use Rattle.read_block.proofs.DecodeLaws.{all_read, was_read}
 use Rattle.write_block.specs.WrittenBlocks.{is_strict, write_lines}
@@ -50,11 +44,12 @@ use Rattle.theorem_whole_streams.proofs.KindsHold.{flagged_parses}
 use Rattle.theorem_whole_streams.proofs.LossyCopiesHold.{none_above}
 use Rattle.stream_copies.specs.MadeStreams.{is_tight_call, bases_of, new_header, new_block, is_cut}
 use Rattle.stream_copies.specs.Inside.{RowsFit, put_answer, BlockPut}
+use Rattle.std.specs.Prelude.{Err, Ok, Result, None}
 
 -- ---- how the writers begin
 
 module _ (head : List ℕ) (h : FujiHeader) (n s r : ℕ) (size : n ≡ set_size (width_of h.xtrans) h.lines) (fits : ScratchFits h s r) where
-  pub begins_tight : (l : Bool) → l ≡ true → parse_of head ≡ Parsing.Header (with_flag l h) → writing_begins head n s r ≡ Parsing.Header (with_flag l h)
+  pub begins_tight : (l : Bool) → l ≡ true → parse_of head ≡ Ok (with_flag l h) → writing_begins head n s r ≡ Ok (with_flag l h)
   unfolding writing_begins
   begins_tight true e p =
       rw (
@@ -66,8 +61,8 @@ module _ (head : List ℕ) (h : FujiHeader) (n s r : ℕ) (size : n ≡ set_size
       )
   begins_tight false e p = let no : ◌≡◌ {A = ℕ} 0 1 = cc in absurd (omega arith)
 
-  pub begins_lossy : (m : ℕ) → m ≡ h.lines → (l : Bool) → l ≡ false → parse_of head ≡ Parsing.Header (with_flag l h)
-      → lossy_begins head m n s r ≡ Parsing.Header (with_flag l h)
+  pub begins_lossy : (m : ℕ) → m ≡ h.lines → (l : Bool) → l ≡ false → parse_of head ≡ Ok (with_flag l h)
+      → lossy_begins head m n s r ≡ Ok (with_flag l h)
   unfolding lossy_begins
   begins_lossy m em false e p =
       rw (
@@ -79,7 +74,7 @@ module _ (head : List ℕ) (h : FujiHeader) (n s r : ℕ) (size : n ≡ set_size
       )
   begins_lossy m em true e p = let no : ◌≡◌ {A = ℕ} 0 1 = cc in absurd (omega arith)
 
-pub left_new : (bases bases' t : List ℕ) (p : Parsed) (H : FujiHeader) (before after : Outputs) (a : BlockLength) → p ≡ Parsing.Header H → bases ≡ bases'
+pub left_new : (bases bases' t : List ℕ) (p : Result FujiHeader Refusal) (H : FujiHeader) (before after : Outputs) (a : Result ℕ Refusal) → p ≡ Ok H → bases ≡ bases'
     → LeftLossy bases t p before after a → SetWriting bases' t H before after a
 left_new bases bases' t p H before after a ep eb l = rw (ep, eb) at l
 
@@ -112,13 +107,13 @@ pub part_long : (h : FujiHeader) (rows : List ℕ) (b n : ℕ) → n ≡ h.lines
     → length (take (b * n + n - b * n) (drop (b * n) rows)) ≡ h.lines
 part_long h rows b n en e l long = let m : b * n + n - b * n ≡ n = omega arith in rw (m, en) (row_long h rows b l long)
 
-pub head_parses : (d : List ℕ) (h : FujiHeader) (rows head : List ℕ) → open_of d ≡ Parsing.Header h → head ≡ flagged (is_tight_call rows) d
-    → parse_of head ≡ Parsing.Header (new_header h rows)
+pub head_parses : (d : List ℕ) (h : FujiHeader) (rows head : List ℕ) → open_of d ≡ Ok h → head ≡ flagged (is_tight_call rows) d
+    → parse_of head ≡ Ok (new_header h rows)
 head_parses d h rows head o e = rw e (flagged_parses (is_tight_call rows) d h (opened d h o).parsed)
 
 -- ---- no set that is read is refused
 
-module _ (d : List ℕ) (h : FujiHeader) (rows : List ℕ) (b : ℕ) (opens : open_of d ≡ Parsing.Header h) (inside : b < h.blocks) where
+module _ (d : List ℕ) (h : FujiHeader) (rows : List ℕ) (b : ℕ) (opens : open_of d ≡ Ok h) (inside : b < h.blocks) where
   abbrev F : Form
   F = form_of h
 
@@ -132,7 +127,7 @@ module _ (d : List ℕ) (h : FujiHeader) (rows : List ℕ) (b : ℕ) (opens : op
   depth = (is_ruled.bits_low, is_ruled.bits_high)
 
   pub set_on : (count samples records : ℕ) → count ≡ set_size (width_of h.xtrans) h.lines → ScratchFits h samples records
-      → set_begins d b count samples records ≡ Parsing.Header h
+      → set_begins d b count samples records ≡ Ok h
   unfolding set_begins
   set_on count samples records size fits =
       rw (
@@ -150,11 +145,11 @@ module _ (d : List ℕ) (h : FujiHeader) (rows : List ℕ) (b : ℕ) (opens : op
   set_left before after a size fits l = rw (set_on (length before.set) (length before.lines) (length before.records) size fits) at l
 
   -- by the answer
-  cut_by : (t : Bool) (x : Refusal) → cond t (Decode.Refused (Truncated b n)) Decode.Done ≡ Decode.Refused x → (t ≡ true) × (x ≡ Truncated b n)
+  cut_by : (t : Bool) (x : Refusal) → cond {A = Result Unit Refusal} t (Err (Truncated b n)) (Ok tt) ≡ Err x → (t ≡ true) × (x ≡ Truncated b n)
   cut_by true x e = (refl, cc)
   cut_by false x e = let no : ◌≡◌ {A = ℕ} 0 1 = cc in absurd (omega arith)
 
-  done_by : (t : Bool) → cond t (Decode.Refused (Truncated b n)) Decode.Done ≡ Decode.Done → t ≡ false
+  done_by : (t : Bool) → cond {A = Result Unit Refusal} t (Err (Truncated b n)) (Ok tt) ≡ (Ok tt) → t ≡ false
   done_by true e = let no : ◌≡◌ {A = ℕ} 0 1 = cc in absurd (omega arith)
   done_by false e = refl
 
@@ -168,7 +163,7 @@ module _ (d : List ℕ) (h : FujiHeader) (rows : List ℕ) (b : ℕ) (opens : op
     in_range : (j : ℕ) → get_or (set_in d h b) j 0 ≤ largest F.bits
     in_range = set_le F (bases_in d b) h.lines (bytes_in d b) depth.1
 
-    right_by : (t : Bool) → is_tight_call rows ≡ t → RowsFit h rows → (write_lines F (bases_of h rows b) (set_in d h b) h.lines).wrong ≡ none
+    right_by : (t : Bool) → is_tight_call rows ≡ t → RowsFit h rows → (write_lines F (bases_of h rows b) (set_in d h b) h.lines).wrong ≡ None
     right_by true e fit =
         rw e ((fits_is F h.lines (set_in d h b)).1 (readable_predicted F (bases_in d b) h.lines (bytes_in d b) depth reads_all)).predicted
     right_by false e fit =
@@ -179,7 +174,7 @@ module _ (d : List ℕ) (h : FujiHeader) (rows : List ℕ) (b : ℕ) (opens : op
     new_answer : RowsFit h rows → (room : ℕ) → set_answer F (bases_of h rows b) h.lines (set_in d h b) room ≡ length_answer (length (new_block d h rows b)) room
     unfolding set_answer measured_answer
     new_answer fit room =
-        let low : above_in F (bases_of h rows b) (set_in d h b) ≡ none =
+        let low : above_in F (bases_of h rows b) (set_in d h b) ≡ None =
         none_above (is_ignored F.xtrans (is_strict (bases_of h rows b))) (largest F.bits) 0 (set_in d h b) in_range in
         rw (low, right_by (is_tight_call rows) refl fit)
 
@@ -218,12 +213,12 @@ part_back at out part h =
     let e : drop (length out - at) (drop at out) ≡ [] = drop_of_length-le (drop at out) {i = length out - at} (omega (arith, length-drop at out)) in
     ap (λ (x : List ℕ). take at out ++ (part ++ x)) e ∙ ap (λ (x : List ℕ). take at out ++ x) (append-nil part)
 
-module _ (d : List ℕ) (h : FujiHeader) (rows : List ℕ) (b at : ℕ) (opens : open_of d ≡ Parsing.Header h) (inside : b < h.blocks) (fit : RowsFit h rows)
+module _ (d : List ℕ) (h : FujiHeader) (rows : List ℕ) (b at : ℕ) (opens : open_of d ≡ Ok h) (inside : b < h.blocks) (fit : RowsFit h rows)
     (before : Sets) (mid : Sets) (got : Counted) (S : SetReading d b h before mid got)
     (size : length before.set ≡ set_size (width_of h.xtrans) h.lines) (out : List ℕ) where
-  pub put_cut : (x : Refusal) → got.answer ≡ Decode.Refused x
+  pub put_cut : (x : Refusal) → got.answer ≡ Err x
       → BlockPut d h rows b at (record { out = out; lines = before.lines; records = before.records })
-      (record { out = out; lines = mid.lines; records = mid.records }) (Refused x)
+      (record { out = out; lines = mid.lines; records = mid.records }) (Err x)
   unfolding put_answer
   put_cut x e =
       let c = cut_by d h rows b opens inside (is_cut d h b) x (ap (λ (a : Counted). a.answer) (sym S.answered) ∙ e) in
@@ -234,10 +229,10 @@ module _ (d : List ℕ) (h : FujiHeader) (rows : List ℕ) (b at : ℕ) (opens :
         records = S.records;
       }
 
-  whole_by : got.answer ≡ Decode.Done → is_cut d h b ≡ false
+  whole_by : got.answer ≡ (Ok tt) → is_cut d h b ≡ false
   whole_by e = done_by d h rows b opens inside (is_cut d h b) (ap (λ (a : Counted). a.answer) (sym S.answered) ∙ e)
 
-  pub put_done : got.answer ≡ Decode.Done → (part : List ℕ) → part ≡ drop at out → (after : Outputs) (a : BlockLength) (out' : List ℕ) → out' ≡ take
+  pub put_done : got.answer ≡ (Ok tt) → (part : List ℕ) → part ≡ drop at out → (after : Outputs) (a : Result ℕ Refusal) (out' : List ℕ) → out' ≡ take
       at out ++ after.out
       → SetWriting (bases_of h rows b) mid.set (new_header h rows) (record { out = part; lines = mid.lines; records = mid.records }) after a
       → BlockPut d h rows b at (record { out = out; lines = before.lines; records = before.records })

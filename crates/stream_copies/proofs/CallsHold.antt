@@ -13,14 +13,10 @@ use Rattle.image_map.specs.Places.{width_of}
 use Rattle.colour_lines.specs.Sets.{set_size}
 use Rattle.stream.specs.Inside.{Ruled}
 use Rattle.stream.specs.declared.header.FujiHeader.{FujiHeader}
-use Rattle.stream.specs.declared.header.Parsed.{Parsed}
-use Rattle.stream.specs.declared.header.Parsed.TheVariants as Parsing
 use Rattle.stream.specs.declared.header.Refusal.{Refusal}
 use Rattle.stream.specs.declared.header.Refusal.TheVariants.{ShortOutput, WrongBases}
 use Rattle.stream.specs.Lengths.{length_word, length_refusal}
 use Rattle.stream.specs.Streams.{open_of}
-use Rattle.stream.specs.declared.BlockLength.{BlockLength}
-use Rattle.stream.specs.declared.BlockLength.TheVariants.{Length, Refused}
 use Rattle.stream.proofs.StreamLaws.{opened}
 use Rattle.admission.specs.Beginnings.{samples_needed, records_needed}
 use Rattle.read_block.specs.Images.{form_of, bytes_in, bases_in, lines_read}
@@ -40,6 +36,7 @@ use Rattle.stream_copies.proofs.BlockLaws.{reads_all}
 use Rattle.stream_copies.proofs.MadeLaws.{opens_on, fits_on}
 use Rattle.stream_copies.proofs.RoomLaws.{room_accepted}
 use Rattle.stream_copies.proofs.LaidLaws.{stops, made_whole, size}
+use Rattle.std.specs.Prelude.{Err, Ok, Result}
 
 module _ (d : List ℕ) (h : FujiHeader) (rows : List ℕ) (S : Readable d h) (fit : RowsFit h rows) (before : Lent)
     (A : Asked h (new_stream d h rows) before) where
@@ -70,7 +67,7 @@ module _ (d : List ℕ) (h : FujiHeader) (rows : List ℕ) (S : Readable d h) (f
   made_all : made d h rows (length before.out) ≡ h.blocks
   made_all = made_whole d h rows (length before.out) goes
 
-  room_is : with_room h (is_tight_call rows) (length before.out) (length before.set) (length before.lines) (length before.records) ≡ Parsing.Header h
+  room_is : with_room h (is_tight_call rows) (length before.out) (length before.set) (length before.lines) (length before.records) ≡ Ok h
   unfolding with_room
   room_is =
       rw (
@@ -80,14 +77,14 @@ module _ (d : List ℕ) (h : FujiHeader) (rows : List ℕ) (S : Readable d h) (f
         le-ltb (length before.out) (new_front h rows) (omega (arith, A.room, long)),
       )
 
-  pub makes : (after : Lent) (a : BlockLength)
+  pub makes : (after : Lent) (a : Result ℕ Refusal)
       → LeftMade d rows (with_room h (is_tight_call rows) (length before.out) (length before.set) (length before.lines)
       (length before.records)) before after a
       → Puts (new_stream d h rows) before after a
   makes after a l =
       let m : Making d h rows before after a = rw room_is at l in
       let t = le-ltb h.blocks h.blocks (omega arith) in
-      let answer : made_answer d h rows (length before.out) ≡ Length (length (new_stream d h rows)) = rw (made_all, t) in
+      let answer : made_answer d h rows (length before.out) ≡ Ok (length (new_stream d h rows)) = rw (made_all, t) in
       let bytes : made_bytes d h rows (length before.out) ≡ new_stream d h rows = rw (made_all, t) in
       record { answered = m.answered ∙ answer; output = m.output ∙ ap (λ (x : List ℕ). x ++ drop (length x) before.out) bytes }
 
@@ -127,16 +124,16 @@ or_parts : (a b : Bool) → (a || b) ≡ false → (a ≡ false) × (b ≡ false
 or_parts true b e = clash e
 or_parts false b e = (refl, e)
 
-module _ (d : List ℕ) (h : FujiHeader) (rows : List ℕ) (room n : ℕ) (e : made_answer d h rows room ≡ Length n) where
+module _ (d : List ℕ) (h : FujiHeader) (rows : List ℕ) (room n : ℕ) (e : made_answer d h rows room ≡ Ok n) where
   none_stops : h.blocks ≤ made d h rows room
   none_stops = go (ltb (made d h rows room) h.blocks) refl e
     where
-      stopped : (c : Bool) (x : Refusal) → cond c (Refused x) (Refused ShortOutput) ≡ Length n → ⊥
+      stopped : (c : Bool) (x : Refusal) → cond c (Err x) (Err ShortOutput) ≡ Ok n → ⊥
       stopped true x f = let no : ◌≡◌ {A = ℕ} 0 1 = cc in omega arith
       stopped false x f = let no : ◌≡◌ {A = ℕ} 0 1 = cc in omega arith
 
       go : (t : Bool) → ltb (made d h rows room) h.blocks ≡ t
-          → cond t (stop_answer d h (made d h rows room)) (Length (length (new_stream d h rows))) ≡ Length n → h.blocks ≤ made d h rows room
+          → cond t (stop_answer d h (made d h rows room)) (Ok (length (new_stream d h rows))) ≡ Ok n → h.blocks ≤ made d h rows room
       go true p f = absurd (stopped (is_cut d h (made d h rows room)) _ f)
       go false p f = ltb-false (made d h rows room) h.blocks p
 
@@ -144,7 +141,7 @@ module _ (d : List ℕ) (h : FujiHeader) (rows : List ℕ) (room n : ℕ) (e : m
   unfolding made
   goes_on b l = (least h.blocks (stops d h rows room) 0).before b (omega arith) (omega (arith, none_stops))
 
-  module _ (opens : open_of d ≡ Parsing.Header h) (fit : RowsFit h rows) where
+  module _ (opens : open_of d ≡ Ok h) (fit : RowsFit h rows) where
     was_readable : Readable d h
     was_readable =
         record { opens = opens; reads = λ b l. reads_all d h rows b opens l (or_parts (is_cut d h b) _ (goes_on b l)).0 }
@@ -159,21 +156,21 @@ module _ (d : List ℕ) (h : FujiHeader) (rows : List ℕ) (room n : ℕ) (e : m
         at (ltb-false room (new_front h rows + length_of (new_block d h rows) (suc b)) p) in
         omega (arith, m, size d h rows opens fit)
 
-module _ (d : List ℕ) (rows : List ℕ) (before after : Lent) (a : BlockLength) (n : ℕ) (answered : a ≡ Length n) where
-  no_refusal_lem : (x : Refusal) → a ≡ Refused x → ⊥
-  no_refusal_lem x e = let f : Refused x ≡ Length n = sym e ∙ answered in let no : ◌≡◌ {A = ℕ} 0 1 = cc in omega arith
+module _ (d : List ℕ) (rows : List ℕ) (before after : Lent) (a : Result ℕ Refusal) (n : ℕ) (answered : a ≡ Ok n) where
+  no_refusal_lem : (x : Refusal) → a ≡ Err x → ⊥
+  no_refusal_lem x e = let f : Err x ≡ Ok n = sym e ∙ answered in let no : ◌≡◌ {A = ℕ} 0 1 = cc in omega arith
 
-  only : (h : FujiHeader) → open_of d ≡ Parsing.Header h → RowsFit h rows
+  only : (h : FujiHeader) → open_of d ≡ Ok h → RowsFit h rows
       → LeftMade d rows (with_room h (is_tight_call rows) (length before.out) (length before.set) (length before.lines)
       (length before.records)) before after a
       → Readable d h × Asked h (new_stream d h rows) before
   only h opens fit =
       go (with_room h (is_tight_call rows) (length before.out) (length before.set) (length before.lines) (length before.records)) refl
     where
-      go : (p : Parsed) → with_room h (is_tight_call rows) (length before.out) (length before.set) (length before.lines) (length before.records) ≡ p
+      go : (p : Result FujiHeader Refusal) → with_room h (is_tight_call rows) (length before.out) (length before.set) (length before.lines) (length before.records) ≡ p
           → LeftMade d rows p before after a → Readable d h × Asked h (new_stream d h rows) before
-      go (Parsing.Refused x) e m = absurd (no_refusal_lem x m.0)
-      go (Parsing.Header g) e m =
+      go (Err x) e m = absurd (no_refusal_lem x m.0)
+      go (Ok g) e m =
           let A = room_accepted h g (is_tight_call rows) (length before.out) (length before.set) (length before.lines) (length before.records) e in
           let f = sym m.answered ∙ answered in
           let o = opens_on d h g A.header opens in
@@ -187,19 +184,19 @@ module _ (d : List ℕ) (rows : List ℕ) (before after : Lent) (a : BlockLength
   only_tight : LeftMade d rows (making_begins false (open_of d) rows before) before after a → rows ≡ [] → TightenFits d before
   only_tight m e = go (open_of d) refl m
     where
-      go : (p : Parsed) → open_of d ≡ p → LeftMade d rows (making_begins false p rows before) before after a → TightenFits d before
-      go (Parsing.Refused x) o l = absurd (no_refusal_lem x l.0)
-      go (Parsing.Header h) o l =
+      go : (p : Result FujiHeader Refusal) → open_of d ≡ p → LeftMade d rows (making_begins false p rows before) before after a → TightenFits d before
+      go (Err x) o l = absurd (no_refusal_lem x l.0)
+      go (Ok h) o l =
           let is = only h o (λ k. clash (rw e at k)) l in
           record { header = h; readable = is.0; asked = rw e at is.1 }
 
   only_lossy : LeftMade d rows (making_begins true (open_of d) rows before) before after a → LossyCopyFits d rows before
   only_lossy m = go (open_of d) refl m
     where
-      with_bases_lem : (h : FujiHeader) → open_of d ≡ Parsing.Header h → (t : Bool) → eqb (length rows) (h.blocks * h.lines) ≡ t
+      with_bases_lem : (h : FujiHeader) → open_of d ≡ Ok h → (t : Bool) → eqb (length rows) (h.blocks * h.lines) ≡ t
           → LeftMade d rows (cond t (with_room h (is_tight_call rows) (length before.out) (length before.set) (length before.lines)
           (length before.records))
-          (Parsing.Refused WrongBases)) before after a
+          (Err WrongBases)) before after a
           → LossyCopyFits d rows before
       with_bases_lem h o false e l = absurd (no_refusal_lem WrongBases l.0)
       with_bases_lem h o true e l =
@@ -213,9 +210,9 @@ module _ (d : List ℕ) (rows : List ℕ) (before after : Lent) (a : BlockLength
             asked = record { set = A.set; scratch = A.scratch; room = rw (copied d h rows is.0 long) at A.room };
           }
 
-      go : (p : Parsed) → open_of d ≡ p → LeftMade d rows (making_begins true p rows before) before after a → LossyCopyFits d rows before
-      go (Parsing.Refused x) o l = absurd (no_refusal_lem x l.0)
-      go (Parsing.Header h) o l = with_bases_lem h o (eqb (length rows) (h.blocks * h.lines)) refl l
+      go : (p : Result FujiHeader Refusal) → open_of d ≡ p → LeftMade d rows (making_begins true p rows before) before after a → LossyCopyFits d rows before
+      go (Err x) o l = absurd (no_refusal_lem x l.0)
+      go (Ok h) o l = with_bases_lem h o (eqb (length rows) (h.blocks * h.lines)) refl l
 
 pub tighten_answers : TightenAnswers
 tighten_answers d before after a l = (

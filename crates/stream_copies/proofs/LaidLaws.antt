@@ -17,12 +17,9 @@ use Rattle.pass_schedule.specs.Steps.{upto}
 use Rattle.stream.specs.Headers.{parse_of}
 use Rattle.stream.specs.Inside.{Ruled}
 use Rattle.stream.specs.declared.header.FujiHeader.{FujiHeader}
-use Rattle.stream.specs.declared.header.Parsed.TheVariants as Parsing
 use Rattle.stream.specs.declared.header.Refusal.{Refusal}
 use Rattle.stream.specs.declared.header.Refusal.TheVariants.{Truncated, ShortOutput}
 use Rattle.stream.specs.Streams.{open_of, row_start}
-use Rattle.stream.specs.declared.BlockLength.{BlockLength}
-use Rattle.stream.specs.declared.BlockLength.TheVariants.{Length, Refused}
 use Rattle.stream.proofs.StreamLaws.{opened}
 use Rattle.read_block.specs.Images.{form_of, bytes_in, bases_in, lines_read}
 use Rattle.read_block.specs.Lent.{Outputs, cleared_lines, cleared_records}
@@ -41,6 +38,7 @@ use Rattle.stream_copies.specs.MadeStreams.{is_tight_call, bases_of, new_header,
 use Rattle.stream_copies.specs.MadeStreams.{made_bytes}
 use Rattle.stream_copies.specs.Inside.{RowsFit, put_answer, BlockPut, BlocksMade}
 use Rattle.stream_copies.proofs.BlockLaws.{row_long, lines_again, records_again}
+use Rattle.std.specs.Prelude.{Err, Ok, Result}
 
 module _ (d : List ℕ) (h : FujiHeader) (rows : List ℕ) where
   abbrev N : ℕ → List ℕ
@@ -118,15 +116,15 @@ module _ (d : List ℕ) (h : FujiHeader) (rows : List ℕ) (before : Outputs) wh
     dropped = ap (drop at) L.output ∙ drop_at (laid_to d h rows b) (drop at before.out) at long
 
     -- by the answer
-    length_by : (t : Bool) (k room n : ℕ) (x : Refusal) → cond t (Refused x) (length_answer k room) ≡ Length n → (t ≡ false) × ((n ≡ k) × (k ≤ room))
+    length_by : (t : Bool) (k room n : ℕ) (x : Refusal) → cond t (Err x) (length_answer k room) ≡ Ok n → (t ≡ false) × ((n ≡ k) × (k ≤ room))
     length_by true k room n x e = let no : ◌≡◌ {A = ℕ} 0 1 = cc in absurd (omega arith)
     length_by false k room n x e = go (ltb room k) refl e
       where
-        go : (s : Bool) → ltb room k ≡ s → cond s (Refused ShortOutput) (Length k) ≡ Length n → (false ≡ false) × ((n ≡ k) × (k ≤ room))
+        go : (s : Bool) → ltb room k ≡ s → cond s (Err ShortOutput) (Ok k) ≡ Ok n → (false ≡ false) × ((n ≡ k) × (k ≤ room))
         go true p f = let no : ◌≡◌ {A = ℕ} 0 1 = cc in absurd (omega arith)
         go false p f = (refl, (cc, ltb-false room k p))
 
-    pub laid_more : (n : ℕ) (a : BlockLength) → BlockPut d h rows b at now after a → a ≡ Length n → b < length lengths
+    pub laid_more : (n : ℕ) (a : Result ℕ Refusal) → BlockPut d h rows b at now after a → a ≡ Ok n → b < length lengths
         → Laid d h rows before after (set lengths b n) (at + n) (b + 1)
     unfolding put_answer
     laid_more n a p ea hb =
@@ -143,7 +141,7 @@ module _ (d : List ℕ) (h : FujiHeader) (rows : List ℕ) (before : Outputs) wh
           room = omega (arith, L.room);
           output =
               p.output ∙ ap (λ (x : List ℕ). x ++ written_out a (new_block d h rows b) (drop at now.out)) taken
-              ∙ ap (λ (x : BlockLength). laid_to d h rows b ++ written_out x (new_block d h rows b) (drop at now.out)) ea
+              ∙ ap (λ (x : Result ℕ Refusal). laid_to d h rows b ++ written_out x (new_block d h rows b) (drop at now.out)) ea
               ∙ ap (λ (x : List ℕ). laid_to d h rows b ++ (new_block d h rows b ++ drop n x)) dropped
               ∙ ap (λ (x : List ℕ). laid_to d h rows b ++ (new_block d h rows b ++ x)) (drop-drop n at before.out)
               ∙ sym (append_assoc (laid_to d h rows b) (new_block d h rows b) (drop (at + n) before.out))
@@ -160,12 +158,12 @@ module _ (d : List ℕ) (h : FujiHeader) (rows : List ℕ) (before : Outputs) wh
         })
 
     -- a block that is refused
-    stop_by : (t : Bool) (k room most need : ℕ) (x y : Refusal) → (room < k → most < need) → cond t (Refused x) (length_answer k room) ≡ Refused y
-        → ((t || ltb most need) ≡ true) × (Refused y ≡ cond t (Refused x) (Refused ShortOutput))
+    stop_by : (t : Bool) (k room most need : ℕ) (x y : Refusal) → (room < k → most < need) → cond t (Err x) (length_answer k room) ≡ Err y
+        → ((t || ltb most need) ≡ true) × (Err y ≡ cond {A = Result ℕ Refusal} t (Err x) (Err ShortOutput))
     stop_by true k room most need x y f e = (refl, sym e)
     stop_by false k room most need x y f e = go (ltb room k) refl e
       where
-        go : (s : Bool) → ltb room k ≡ s → cond s (Refused ShortOutput) (Length k) ≡ Refused y → (ltb most need ≡ true) × (Refused y ≡ Refused ShortOutput)
+        go : (s : Bool) → ltb room k ≡ s → cond s (Err ShortOutput) (Ok k) ≡ Err y → (ltb most need ≡ true) × ◌≡◌ {A = Result ℕ Refusal} (Err y) (Err ShortOutput)
         go true p g = (lt-ltb most need (f (ltb-true room k p)), sym g)
         go false p g = let no : ◌≡◌ {A = ℕ} 0 1 = cc in absurd (omega arith)
 
@@ -173,7 +171,7 @@ module _ (d : List ℕ) (h : FujiHeader) (rows : List ℕ) (before : Outputs) wh
     unfolding made
     made_here e = least_is h.blocks (stops d h rows (length before.out)) 0 b (omega arith) (omega arith) (λ j z l. L.goes j l) e
 
-    pub laid_cut : (y : Refusal) (a : BlockLength) → BlockPut d h rows b at now after a → a ≡ Refused y → BlocksMade d h rows before after a
+    pub laid_cut : (y : Refusal) (a : Result ℕ Refusal) → BlockPut d h rows b at now after a → a ≡ Err y → BlocksMade d h rows before after a
     unfolding put_answer
     laid_cut y a p ea =
         let next = length_next_lem d h rows b in
@@ -186,7 +184,7 @@ module _ (d : List ℕ) (h : FujiHeader) (rows : List ℕ) (before : Outputs) wh
         record {
           answered = ea ∙ k.1 ∙ rw (m, t);
           output =
-              p.output ∙ ap (λ (x : BlockLength). take at now.out ++ written_out x (new_block d h rows b) (drop at now.out)) ea
+              p.output ∙ ap (λ (x : Result ℕ Refusal). take at now.out ++ written_out x (new_block d h rows b) (drop at now.out)) ea
               ∙ take-append-drop at now.out ∙ L.output
               ∙ ap (λ (n : ℕ). laid_to d h rows b ++ drop n before.out) (sym long)
               ∙ ap (λ (x : List ℕ). x ++ drop (length x) before.out) (sym is);
@@ -196,11 +194,11 @@ module _ (d : List ℕ) (h : FujiHeader) (rows : List ℕ) (before : Outputs) wh
 
 -- ---- all blocks, and what stands before them
 
-module _ (d : List ℕ) (h : FujiHeader) (rows : List ℕ) (opens : open_of d ≡ Parsing.Header h) (fit : RowsFit h rows) where
+module _ (d : List ℕ) (h : FujiHeader) (rows : List ℕ) (opens : open_of d ≡ Ok h) (fit : RowsFit h rows) where
   R : Ruled h
   R = (opened d h opens).ruled
 
-  parses : parse_of (flagged (is_tight_call rows) d) ≡ Parsing.Header (new_header h rows)
+  parses : parse_of (flagged (is_tight_call rows) d) ≡ Ok (new_header h rows)
   parses = flagged_parses (is_tight_call rows) d h (opened d h opens).parsed
 
   short : (b : ℕ) → length (new_block d h rows b) < 2 ^ 32
@@ -235,7 +233,7 @@ module _ (d : List ℕ) (h : FujiHeader) (rows : List ℕ) (opens : open_of d �
 
 module _ (d : List ℕ) (h : FujiHeader) (rows : List ℕ) (before now : Outputs) (lengths : List ℕ) (at : ℕ)
     (L : Laid d h rows before now lengths at h.blocks)
-    (opens : open_of d ≡ Parsing.Header h) (fit : RowsFit h rows) (sixteen : length lengths ≡ 16) (same : length now.out ≡ length before.out) where
+    (opens : open_of d ≡ Ok h) (fit : RowsFit h rows) (sixteen : length lengths ≡ 16) (same : length now.out ≡ length before.out) where
   abbrev K : ℕ
   K = h.blocks
 
@@ -275,15 +273,15 @@ module _ (d : List ℕ) (h : FujiHeader) (rows : List ℕ) (before now : Outputs
   bytes_are : made_bytes d h rows (length before.out) ≡ new_stream d h rows
   bytes_are = rw (made_all, le-ltb h.blocks h.blocks (omega arith))
 
-  answer_is : made_answer d h rows (length before.out) ≡ Length (length (new_stream d h rows))
+  answer_is : made_answer d h rows (length before.out) ≡ Ok (length (new_stream d h rows))
   answer_is = rw (made_all, le-ltb h.blocks h.blocks (omega arith))
 
   front_is : (lens' : List ℕ) → lens' ≡ take h.blocks lengths
-      → front_answer (new_header h rows) rows lens' (length now.out) ≡ Length (length (new_stream d h rows))
+      → front_answer (new_header h rows) rows lens' (length now.out) ≡ Ok (length (new_stream d h rows))
   front_is lens' e =
       rw e (sym (answer_length (new_header h rows) rows (take h.blocks lengths) (length now.out) lens_long
       (rows_all d h rows opens fit (is_tight_call rows) refl) no_long (omega (arith, L.place, L.room)))
-      ∙ ap Length (ap (λ (n : ℕ). row_start (new_header h rows) h.blocks + n) (sum_is h.blocks (omega arith)) ∙ sym (size d h rows opens fit)))
+      ∙ ap Ok (ap (λ (n : ℕ). row_start (new_header h rows) h.blocks + n) (sum_is h.blocks (omega arith)) ∙ sym (size d h rows opens fit)))
 
   abbrev bytes : List ℕ
   bytes = front_bytes (flagged (is_tight_call rows) d) (new_header h rows) rows (take h.blocks lengths)
@@ -312,17 +310,17 @@ module _ (d : List ℕ) (h : FujiHeader) (rows : List ℕ) (before now : Outputs
       ap (λ (x : List ℕ). bytes ++ x) behind ∙ sym (append_assoc bytes (upto (new_block d h rows) h.blocks) (drop at before.out))
       ∙ ap (λ (x : List ℕ). x ++ drop at before.out) whole ∙ ap (λ (m : ℕ). new_stream d h rows ++ drop m before.out) n
 
-  pub laid_all : (hd : List ℕ) → hd ≡ flagged (is_tight_call rows) d → (out' : List ℕ) (a : BlockLength)
+  pub laid_all : (hd : List ℕ) → hd ≡ flagged (is_tight_call rows) d → (out' : List ℕ) (a : Result ℕ Refusal)
       → LeftFront hd rows (take h.blocks lengths) (parse_of hd) now.out out' a
       → BlocksMade d h rows before (record { out = out'; lines = now.lines; records = now.records }) a
   laid_all hd eh out' a p =
       let q : (a ≡ front_answer (new_header h rows) rows (take h.blocks lengths) (length now.out)) ×
       (out' ≡ front_out a bytes now.out) = rw (eh, parses d h rows opens fit) at p in
       let l = L.later (omega (arith, (R d h rows opens fit).blocks_low)) in
-      let is : a ≡ Length (length (new_stream d h rows)) = q.0 ∙ front_is (take h.blocks lengths) refl in
+      let is : a ≡ Ok (length (new_stream d h rows)) = q.0 ∙ front_is (take h.blocks lengths) refl in
       record {
         answered = is ∙ sym answer_is;
-        output = q.1 ∙ ap (λ (x : BlockLength). front_out x bytes now.out) is ∙ output_is ∙ ap (λ (x : List ℕ). x ++ drop (length x) before.out)
+        output = q.1 ∙ ap (λ (x : Result ℕ Refusal). front_out x bytes now.out) is ∙ output_is ∙ ap (λ (x : List ℕ). x ++ drop (length x) before.out)
             (sym bytes_are);
         lines = l.0;
         records = l.1;
@@ -330,8 +328,8 @@ module _ (d : List ℕ) (h : FujiHeader) (rows : List ℕ) (before now : Outputs
 
 pub laid_end : (d : List ℕ) (h : FujiHeader) (rows : List ℕ) (before now : Outputs) (lengths : List ℕ) (at b : ℕ) → b ≡ h.blocks → Laid d h rows
     before now lengths at b
-    → open_of d ≡ Parsing.Header h → RowsFit h rows → length lengths ≡ 16 → length now.out ≡ length before.out
-    → (head : List ℕ) → head ≡ flagged (is_tight_call rows) d → (out' : List ℕ) (a : BlockLength)
+    → open_of d ≡ Ok h → RowsFit h rows → length lengths ≡ 16 → length now.out ≡ length before.out
+    → (head : List ℕ) → head ≡ flagged (is_tight_call rows) d → (out' : List ℕ) (a : Result ℕ Refusal)
     → LeftFront head rows (take h.blocks lengths) (parse_of head) now.out out' a
     → BlocksMade d h rows before (record { out = out'; lines = now.lines; records = now.records }) a
 laid_end d h rows before now lengths at b eb L o fit long same head eh out' a p =

@@ -1,12 +1,11 @@
 // Whole streams: the tight stream of a stream, and a lossy working copy.
 #![tactic(auto)]
 
-ghost use Rattle.std.specs.Prelude.{true, false, [], ◌++◌, ◌≡◌, ◌+◌, ◌*◌, ◌≤◌, ◌<◌, length, take, drop, replicate};
+ghost use Rattle.std.specs.Prelude.{true, false, [], ◌++◌, ◌≡◌, ◌+◌, ◌*◌, ◌≤◌, ◌<◌, length, take, drop, replicate, Ok};
 ghost use Rattle.image_map.specs.Places.{width_of};
 ghost use Rattle.colour_lines.specs.Sets.{set_size};
 ghost use Rattle.stream.specs.Headers.{parse_of};
 ghost use Rattle.stream.specs.Inside.{Ruled};
-ghost use Rattle.stream.specs.declared.header.Parsed.TheVariants.{Header};
 ghost use Rattle.stream.specs.Streams.{open_of};
 ghost use Rattle.admission.specs.Beginnings.{ScratchFits};
 ghost use Rattle.read_block.specs.Lent.{Outputs};
@@ -17,10 +16,10 @@ ghost use Rattle.stream_copies.specs.MadeStreams.{Lent, is_tight_call, bases_of,
 ghost use Rattle.stream_copies.specs.Inside.{RowsFit};
 ghost use Rattle.stream_copies.specs.Inside.{BlockPut, BlocksMade};
 
-use read_block::{Counted, Decoded};
+use read_block::Counted;
 use read_set::read_set;
 use statistics::Record;
-use stream::{BlockLength, FujiHeader, Parsed, Refusal};
+use stream::{FujiHeader, Refusal};
 use write_block::{write_block, write_lossy};
 
 // The first 16 bytes of a stream with this lossless flag.
@@ -59,8 +58,8 @@ fn write_new(
     out: &mut [u8],
     lines: &mut [u16],
     rs: &mut [Record],
-) -> BlockLength
-    requires head_value { (parse_of head.now ≡ Header (new_header h rows.now)) × (RowsFit h rows.now × (b < h.blocks)) }
+) -> Result<usize, Refusal>
+    requires head_value { (parse_of head.now ≡ Ok (new_header h rows.now)) × (RowsFit h rows.now × (b < h.blocks)) }
     requires ruled { Ruled h × (length set.now ≡ set_size (width_of h.xtrans) h.lines) }
     requires scratch_fits { ScratchFits h (length lines.old) (length rs.old) }
     ensures { let before : Outputs = record { out = out.old; lines = lines.old; records = rs.old } in
@@ -88,24 +87,26 @@ fn put_block(
     set: &mut [u16],
     lines: &mut [u16],
     rs: &mut [Record],
-) -> BlockLength
-    requires d_value { (open_of d.now ≡ Header h) × (head.now ≡ flagged (is_tight_call rows.now) d.now) }
+) -> Result<usize, Refusal>
+    requires d_value { (open_of d.now ≡ Ok h) × (head.now ≡ flagged (is_tight_call rows.now) d.now) }
     requires rows_fit { RowsFit h rows.now × ((b < h.blocks) × (at ≤ length out.old)) }
     requires set_len { (length set.old ≡ set_size (width_of h.xtrans) h.lines) × ScratchFits h (length lines.old) (length rs.old) }
     ensures { let before : Outputs = record { out = out.old; lines = lines.old; records = rs.old } in
         let after : Outputs = record { out = out.new; lines = lines.new; records = rs.new } in
         BlockPut d.now h rows.now b at before after result }
 {
-    let got = read_set(d, b, set, lines, rs);
-    let answer = got.answer;
-    match answer {
-        Decoded::Refused(x) => BlockLength::Refused(x),
-        Decoded::Done => write_new(head, rows, h, b, set, &mut out[at..], lines, rs),
-    }
+    read_set(d, b, set, lines, rs).answer?;
+    write_new(head, rows, h, b, set, &mut out[at..], lines, rs)
 }
 
 // What stands before the blocks, once their lengths are known.
-fn finish(head: &[u8], rows: &[u8], lengths: &[usize], blocks: usize, out: &mut [u8]) -> BlockLength
+fn finish(
+    head: &[u8],
+    rows: &[u8],
+    lengths: &[usize],
+    blocks: usize,
+    out: &mut [u8],
+) -> Result<usize, Refusal>
     requires { blocks ≤ length lengths.now }
     ensures { LeftFront head.now rows.now (take blocks lengths.now) (parse_of head.now) out.old
         out.new result }
@@ -123,8 +124,8 @@ fn make_in(
     lines: &mut [u16],
     rs: &mut [Record],
     front: usize,
-) -> BlockLength
-    requires d_value { (open_of d.now ≡ Header h) × RowsFit h rows.now }
+) -> Result<usize, Refusal>
+    requires d_value { (open_of d.now ≡ Ok h) × RowsFit h rows.now }
     requires set_len { (length set.old ≡ set_size (width_of h.xtrans) h.lines) × ScratchFits h (length lines.old) (length rs.old) }
     requires front_value { (front ≡ new_front h rows.now) × ((front ≤ length out.old) × (take front out.old ≡ replicate front 0)) }
     ensures { let before : Outputs = record { out = out.old; lines = lines.old; records = rs.old } in
@@ -136,10 +137,7 @@ fn make_in(
     let mut lengths = [0usize; 16];
     let mut at = front;
     for b in 0..blocks {
-        let put = put_block(d, &head, rows, h, b, out, at, set, lines, rs);
-        let BlockLength::Length(n) = put else {
-            return put;
-        };
+        let n = put_block(d, &head, rows, h, b, out, at, set, lines, rs)?;
         lengths[b] = n;
         at += n;
     }
@@ -154,23 +152,18 @@ fn room_begins(
     count: usize,
     samples: usize,
     records: usize,
-) -> Parsed
+) -> Result<FujiHeader, Refusal>
     requires { Ruled h }
     ensures { result ≡ with_room h tight room count samples records }
 {
     if count != read_set::set_size(h) {
-        return Parsed::Refused(Refusal::WrongCount);
+        return Err(Refusal::WrongCount);
     }
-    let scratch = admission::with_scratch(h, samples, records);
-    match scratch {
-        Parsed::Refused(x) => Parsed::Refused(x),
-        Parsed::Header(g) => {
-            if room < stream_front::front_length(kind_of(g, tight)) {
-                return Parsed::Refused(Refusal::ShortOutput);
-            }
-            Parsed::Header(g)
-        }
+    let g = admission::with_scratch(h, samples, records)?;
+    if room < stream_front::front_length(kind_of(g, tight)) {
+        return Err(Refusal::ShortOutput);
     }
+    Ok(g)
 }
 
 // No rows: the tight stream; else the lossy one with these bases.
@@ -182,8 +175,8 @@ fn make(
     set: &mut [u16],
     lines: &mut [u16],
     rs: &mut [Record],
-) -> BlockLength
-    requires { (open_of d.now ≡ Header h) × RowsFit h rows.now }
+) -> Result<usize, Refusal>
+    requires { (open_of d.now ≡ Ok h) × RowsFit h rows.now }
     ensures { let before : Lent = record { out = out.old; set = set.old; lines = lines.old; records = rs.old } in
         let after : Lent = record { out = out.new; set = set.new; lines = lines.new; records = rs.new } in
         LeftMade d.now rows.now
@@ -191,17 +184,12 @@ fn make(
         before after result }
 {
     let tight = rows.len() == 0;
-    let begins = room_begins(h, tight, out.len(), set.len(), lines.len(), rs.len());
-    match begins {
-        Parsed::Refused(x) => BlockLength::Refused(x),
-        Parsed::Header(g) => {
-            let front = stream_front::front_length(kind_of(g, tight));
-            clear_front(out, front);
-            let made = make_in(d, rows, g, out, set, lines, rs, front);
-            colour_lines::clear(set);
-            made
-        }
-    }
+    let g = room_begins(h, tight, out.len(), set.len(), lines.len(), rs.len())?;
+    let front = stream_front::front_length(kind_of(g, tight));
+    clear_front(out, front);
+    let made = make_in(d, rows, g, out, set, lines, rs, front);
+    colour_lines::clear(set);
+    made
 }
 
 // The tight stream of the stream d, lossless or lossy, goes to the start of the output, and the answer is its length.
@@ -211,16 +199,13 @@ pub fn tighten(
     set: &mut [u16],
     lines: &mut [u16],
     rs: &mut [Record],
-) -> BlockLength
+) -> Result<usize, Refusal>
     ensures { let before : Lent = record { out = out.old; set = set.old; lines = lines.old; records = rs.old } in
         let after : Lent = record { out = out.new; set = set.new; lines = lines.new; records = rs.new } in
         LeftMade d.now [] (making_begins false (open_of d.now) [] before) before after result }
 {
-    let opened = stream::open(d);
-    match opened {
-        Parsed::Refused(x) => BlockLength::Refused(x),
-        Parsed::Header(h) => make(d, &d[0..0], h, out, set, lines, rs),
-    }
+    let h = stream::open(d)?;
+    make(d, &d[0..0], h, out, set, lines, rs)
 }
 
 // A lossy working copy: `bases` has a byte for each line of each block, block after block.
@@ -231,21 +216,16 @@ pub fn lossy_copy(
     set: &mut [u16],
     lines: &mut [u16],
     rs: &mut [Record],
-) -> BlockLength
+) -> Result<usize, Refusal>
     ensures { let before : Lent = record { out = out.old; set = set.old; lines = lines.old; records = rs.old } in
         let after : Lent = record { out = out.new; set = set.new; lines = lines.new; records = rs.new } in
         LeftMade d.now bases.now (making_begins true (open_of d.now) bases.now before) before after result }
 {
-    let opened = stream::open(d);
-    match opened {
-        Parsed::Refused(x) => BlockLength::Refused(x),
-        Parsed::Header(h) => {
-            let blocks = h.blocks as usize;
-            let count = h.lines as usize;
-            if bases.len() != blocks * count {
-                return BlockLength::Refused(Refusal::WrongBases);
-            }
-            make(d, bases, h, out, set, lines, rs)
-        }
+    let h = stream::open(d)?;
+    let blocks = h.blocks as usize;
+    let count = h.lines as usize;
+    if bases.len() != blocks * count {
+        return Err(Refusal::WrongBases);
     }
+    make(d, bases, h, out, set, lines, rs)
 }

@@ -18,14 +18,11 @@ use Rattle.stream.specs.declared.header.FujiHeader.{FujiHeader}
 use Rattle.stream.specs.Streams.{padded, row_length, row_start}
 use Rattle.stream_front.specs.Fronts.{size_byte, row_byte, front_byte, front_bytes, sum_of, is_long, first_long, front_answer, front_out, LeftFront}
 use Rattle.stream.specs.Headers.{parse_of}
-use Rattle.stream.specs.declared.header.Parsed.{Parsed}
-use Rattle.stream.specs.declared.header.Parsed.TheVariants as Parsing
 use Rattle.stream.specs.declared.header.Refusal.{Refusal}
 use Rattle.stream.specs.declared.header.Refusal.TheVariants.{WrongLengths, WrongBases, LongBlock, ShortOutput}
-use Rattle.stream.specs.declared.BlockLength.{BlockLength}
-use Rattle.stream.specs.declared.BlockLength.TheVariants.{Length, Refused}
 use Rattle.read_block.specs.Records.{table}
 use Rattle.read_block.proofs.TableLaws.{table_length}
+use Rattle.std.specs.Prelude.{Err, Ok, Result}
 
 -- 16 rows at most
 pub product_le : (b n : ℕ) → b ≤ 16 → n ≤ 65536 → b * n ≤ 16 * 65536
@@ -108,20 +105,20 @@ fill_next f d i v l e =
 -- ---- the answer
 
 module _ (h : FujiHeader) (rows lengths : List ℕ) (room : ℕ) where
-  pub answer_count : (length lengths ≡ h.blocks → ⊥) → Refused WrongLengths ≡ front_answer h rows lengths room
+  pub answer_count : (length lengths ≡ h.blocks → ⊥) → Err WrongLengths ≡ front_answer h rows lengths room
   unfolding front_answer
   answer_count ne = rw (ne_eqb (length lengths) h.blocks ne)
 
-  pub answer_rows : length lengths ≡ h.blocks → (length rows ≡ h.blocks * row_length h → ⊥) → Refused WrongBases ≡ front_answer h rows lengths room
+  pub answer_rows : length lengths ≡ h.blocks → (length rows ≡ h.blocks * row_length h → ⊥) → Err WrongBases ≡ front_answer h rows lengths room
   unfolding front_answer
   answer_rows e ne = rw (eq-eqb (length lengths) h.blocks e, ne_eqb (length rows) (h.blocks * row_length h) ne)
 
   module _ (e : length lengths ≡ h.blocks) (f : length rows ≡ h.blocks * row_length h) where
-    pub answer_long : first_long lengths < h.blocks → Refused (LongBlock (first_long lengths)) ≡ front_answer h rows lengths room
+    pub answer_long : first_long lengths < h.blocks → Err (LongBlock (first_long lengths)) ≡ front_answer h rows lengths room
     unfolding front_answer
     answer_long l = rw (eq-eqb (length lengths) h.blocks e, eq-eqb (length rows) (h.blocks * row_length h) f, lt-ltb (first_long lengths) h.blocks l)
 
-    pub answer_short : h.blocks ≤ first_long lengths → room < row_start h h.blocks → Refused ShortOutput ≡ front_answer h rows lengths room
+    pub answer_short : h.blocks ≤ first_long lengths → room < row_start h h.blocks → Err ShortOutput ≡ front_answer h rows lengths room
     unfolding front_answer
     answer_short l k =
         rw (
@@ -133,7 +130,7 @@ module _ (h : FujiHeader) (rows lengths : List ℕ) (room : ℕ) where
         )
 
     pub answer_length : h.blocks ≤ first_long lengths → row_start h h.blocks ≤ room
-        → Length (row_start h h.blocks + sum_of lengths h.blocks) ≡ front_answer h rows lengths room
+        → Ok (row_start h h.blocks + sum_of lengths h.blocks) ≡ front_answer h rows lengths room
     unfolding front_answer
     answer_length l k =
         rw (
@@ -148,14 +145,14 @@ pub front_size_is : (d : List ℕ) (h : FujiHeader) (rows lengths : List ℕ) �
 front_size_is d h rows lengths = table_length (front_byte d h rows lengths) (row_start h h.blocks)
 
 -- by how the header parses
-pub left_refused : (d rows lengths : List ℕ) (out : List ℕ) (p : Parsed) (x : Refusal) → p ≡ parse_of d → p ≡ Parsing.Refused x
-    → LeftFront d rows lengths (parse_of d) out out (Refused x)
-left_refused d rows lengths out p x e f = let g : parse_of d ≡ Parsing.Refused x = sym e ∙ f in rw g (refl, refl)
+pub left_refused : (d rows lengths : List ℕ) (out : List ℕ) (p : Result FujiHeader Refusal) (x : Refusal) → p ≡ parse_of d → p ≡ Err x
+    → LeftFront d rows lengths (parse_of d) out out (Err x)
+left_refused d rows lengths out p x e f = let g : parse_of d ≡ Err x = sym e ∙ f in rw g (refl, refl)
 
-pub left_header : (d rows lengths : List ℕ) (before after : List ℕ) (p : Parsed) (h : FujiHeader) (r : BlockLength) → p ≡ parse_of d → p ≡ Parsing.Header h
+pub left_header : (d rows lengths : List ℕ) (before after : List ℕ) (p : Result FujiHeader Refusal) (h : FujiHeader) (r : Result ℕ Refusal) → p ≡ parse_of d → p ≡ Ok h
     → (r ≡ front_answer h rows lengths (length before)) × (after ≡ front_out r (front_bytes d h rows lengths) before)
     → LeftFront d rows lengths (parse_of d) before after r
-left_header d rows lengths before after p h r e f k = let g : parse_of d ≡ Parsing.Header h = sym e ∙ f in rw g k
+left_header d rows lengths before after p h r e f k = let g : parse_of d ≡ Ok h = sym e ∙ f in rw g k
 
 pub fill_row : (d : List ℕ) (h : FujiHeader) (rows lengths : List ℕ) (i p n q r : ℕ) → p ≡ padded (4 * h.blocks) → n ≡ row_length h → q ≡ padded n →
     16 + p ≤ i

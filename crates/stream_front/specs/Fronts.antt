@@ -1,15 +1,12 @@
 -- Promises. What stands before the blocks of a stream, byte by byte, and what a call that puts it there leaves.
-use Rattle.std.specs.Prelude.{Bool, cond, List, ◌++◌, ◌≡◌, ℕ, zero, suc, ◌+◌, ◌-◌, ◌*◌, ◌/◌, ◌%◌, ◌^◌, eqb, ltb, length, get_or, drop}
+use Rattle.std.specs.Prelude.{Bool, cond, List, ◌++◌, ◌≡◌, ℕ, zero, suc, ◌+◌, ◌-◌, ◌*◌, ◌/◌, ◌%◌, ◌^◌, eqb, ltb, length, get_or, drop, Err, Ok, Result}
 use Rattle.numbers.specs.Numbers.{least_from}
 use Rattle.stream.specs.Headers.{byte_at}
 use Rattle.stream.specs.declared.header.FujiHeader.{FujiHeader}
-use Rattle.stream.specs.declared.header.Parsed.{Parsed}
-use Rattle.stream.specs.declared.header.Parsed.TheVariants as Parsing
 use Rattle.stream.specs.declared.header.Refusal.TheVariants.{WrongLengths, WrongBases, LongBlock, ShortOutput}
 use Rattle.stream.specs.Streams.{padded, row_length, row_start}
-use Rattle.stream.specs.declared.BlockLength.{BlockLength}
-use Rattle.stream.specs.declared.BlockLength.TheVariants.{Length, Refused}
 use Rattle.read_block.specs.Records.{table}
+use Rattle.stream.specs.declared.header.Refusal.{Refusal}
 
 -- byte j of the four bytes of a size
 unfoldable pub size_byte : ℕ → ℕ → ℕ
@@ -48,21 +45,21 @@ unfoldable pub first_long : List ℕ → ℕ
 first_long lengths = least_from (length lengths) (λ b. is_long lengths b) 0
 
 -- the answer, with so many bytes of output: the length of the whole stream
-unfoldable pub front_answer : FujiHeader → (rows lengths : List ℕ) → ℕ → BlockLength
+unfoldable pub front_answer : FujiHeader → (rows lengths : List ℕ) → ℕ → Result ℕ Refusal
 front_answer h rows lengths room =
     cond (eqb (length lengths) h.blocks)
     (cond (eqb (length rows) (h.blocks * row_length h))
-    (cond (ltb (first_long lengths) h.blocks) (Refused (LongBlock (first_long lengths)))
-    (cond (ltb room (row_start h h.blocks)) (Refused ShortOutput) (Length (row_start h h.blocks + sum_of lengths h.blocks))))
-    (Refused WrongBases))
-    (Refused WrongLengths)
+    (cond (ltb (first_long lengths) h.blocks) (Err (LongBlock (first_long lengths)))
+    (cond (ltb room (row_start h h.blocks)) (Err ShortOutput) (Ok (row_start h h.blocks + sum_of lengths h.blocks))))
+    (Err WrongBases))
+    (Err WrongLengths)
 
-abbrev pub front_out : BlockLength → (front out : List ℕ) → List ℕ
-front_out (Length n) front out = front ++ drop (length front) out
-front_out (Refused x) front out = out
+abbrev pub front_out : Result ℕ Refusal → (front out : List ℕ) → List ℕ
+front_out (Ok n) front out = front ++ drop (length front) out
+front_out (Err x) front out = out
 
 -- what a call leaves, by how the header parses
-abbrev pub LeftFront : List ℕ → (rows lengths : List ℕ) → Parsed → (before after : List ℕ) → BlockLength → Type 0
-LeftFront d rows lengths (Parsing.Refused x) before after answer = (answer ≡ Refused x) × (after ≡ before)
-LeftFront d rows lengths (Parsing.Header h) before after answer =
+abbrev pub LeftFront : List ℕ → (rows lengths : List ℕ) → Result FujiHeader Refusal → (before after : List ℕ) → Result ℕ Refusal → Type 0
+LeftFront d rows lengths (Err x) before after answer = (answer ≡ Err x) × (after ≡ before)
+LeftFront d rows lengths (Ok h) before after answer =
     (answer ≡ front_answer h rows lengths (length before)) × (after ≡ front_out answer (front_bytes d h rows lengths) before)

@@ -7,7 +7,7 @@ ghost use Rattle.stream.specs.Inside.{Ruled};
 ghost use Rattle.stream.specs.Streams.{padded, row_length, row_start};
 ghost use Rattle.stream_front.specs.Fronts.{size_byte, row_byte, front_byte, front_bytes, sum_of, first_long, front_answer, front_out, LeftFront};
 
-use stream::{BlockLength, FujiHeader, Parsed, Refusal, row_length};
+use stream::{FujiHeader, Refusal, row_length};
 
 // How many bytes stand before the blocks.
 pub fn front_length(h: FujiHeader) -> usize
@@ -115,7 +115,7 @@ fn put_in(
     rows: &[u8],
     lengths: &[usize],
     out: &mut [u8],
-) -> BlockLength
+) -> Result<usize, Refusal>
     requires { Ruled h × (16 ≤ length header.now) }
     ensures { (result ≡ front_answer h rows.now lengths.now (length out.old))
         × (out.new ≡ front_out result (front_bytes header.now h rows.now lengths.now) out.old) }
@@ -123,33 +123,35 @@ fn put_in(
     let blocks = h.blocks as usize;
     let row = row_length(h);
     if lengths.len() != blocks {
-        return BlockLength::Refused(Refusal::WrongLengths);
+        return Err(Refusal::WrongLengths);
     }
     if rows.len() != blocks * row {
-        return BlockLength::Refused(Refusal::WrongBases);
+        return Err(Refusal::WrongBases);
     }
     if let Some(long) = first_long(lengths) {
-        return BlockLength::Refused(Refusal::LongBlock(long));
+        return Err(Refusal::LongBlock(long));
     }
     let n = front_length(h);
     if out.len() < n {
-        return BlockLength::Refused(Refusal::ShortOutput);
+        return Err(Refusal::ShortOutput);
     }
     fill_front(header, h, rows, lengths, out, n);
-    BlockLength::Length(n + sum_of(lengths))
+    Ok(n + sum_of(lengths))
 }
 
 // The header's bytes, the sizes and the rows go to the start of the output, and the answer is the length of the whole stream.
 // Refusals, in this order: 1 and 2; 25 where there is not one length for each block; 17 where the rows have not one byte for each
 // line of each block (a lossless header has none); 26 for the lowest block of 2^32 bytes or more; 13 for an output shorter than
 // what stands before the blocks. Each leaves the output as it was.
-pub fn put_front(header: &[u8], rows: &[u8], lengths: &[usize], out: &mut [u8]) -> BlockLength
+pub fn put_front(
+    header: &[u8],
+    rows: &[u8],
+    lengths: &[usize],
+    out: &mut [u8],
+) -> Result<usize, Refusal>
     ensures { LeftFront header.now rows.now lengths.now (parse_of header.now) out.old
         out.new result }
 {
-    let parsed = FujiHeader::parse(header);
-    match parsed {
-        Parsed::Refused(x) => BlockLength::Refused(x),
-        Parsed::Header(h) => put_in(header, h, rows, lengths, out),
-    }
+    let h = FujiHeader::parse(header)?;
+    put_in(header, h, rows, lengths, out)
 }

@@ -12,8 +12,6 @@ use Rattle.numbers.specs.Numbers.{flag}
 use Rattle.stream.specs.Streams.{row_of}
 use Rattle.stream.specs.Ranges.{part_of}
 use Rattle.stream.specs.declared.header.FujiHeader.{FujiHeader}
-use Rattle.stream.specs.declared.ranges.Ranged.{Ranged}
-use Rattle.stream.specs.declared.ranges.Ranged.TheVariants as Range
 use Rattle.image_region.specs.Regions.{first_block, line_count}
 use Rattle.image_region.specs.declared.Rect.{Rect}
 use Rattle.cameras.specs.Entries.{is_held, holds_it, entry_at, taking_lines, given_back, handed_back, holds, holds_of, mended, Sound}
@@ -24,12 +22,13 @@ use Rattle.cameras.proofs.EntryLaws.{all_below_lem}
 use Rattle.cameras.proofs.HoldLaws.{length_after, holds_after, holds_given}
 use Rattle.cameras.proofs.SoundLaws.{sound_after, sound_given, mended_sound}
 use Rattle.admission.specs.Beginnings.{region_begins}
-use Rattle.admission.specs.declared.Beginning.{Beginning}
-use Rattle.admission.specs.declared.Beginning.TheVariants as Begin
 use Rattle.admission.proofs.CallLaws.{region_reads}
 use Rattle.read_block.specs.Images.{bases_in, read_in}
 use Rattle.read_block.specs.Sharing.{entry_lines, block_entries, entries_after, last_entries, is_refused, call_entries}
 use Rattle.theorem_cameras.specs.TwoCameras.{Event, call, end, call_answer, after, taken_blocks, taken_call, taken, given, after_all, taken_all, given_all, OfBytes, NoneHeld}
+use Rattle.std.specs.Prelude.{Err, None, Ok, Option, Result, Some}
+use Rattle.bits.specs.declared.ByteOffset.{ByteOffset}
+use Rattle.stream.specs.declared.header.Refusal.{Refusal}
 
 -- ---- bytes
 
@@ -47,9 +46,9 @@ get_d_take_low (x ∷ d) (suc n) (suc i) ok = get_d_take_low d n i (λ k. ok (su
 bases_low : (d : List ℕ) (b : ℕ) → ((k : ℕ) → get_or d k 0 < 256) → (n : ℕ) → get_or (bases_in d b) n 0 < 256
 bases_low d b ok n = go (row_of d b)
   where
-    go : (x : Ranged) → get_or (part_of d x) n 0 < 256
-    go (Range.At from m) = get_d_take_low (drop from.0 d) m n (λ k. get_d_drop_low d from.0 k ok)
-    go (Range.Refused r) = omega arith
+    go : (x : Result (ByteOffset × ℕ) Refusal) → get_or (part_of d x) n 0 < 256
+    go (Ok (from, m)) = get_d_take_low (drop from.0 d) m n (λ k. get_d_drop_low d from.0 k ok)
+    go (Err r) = omega arith
 
 -- ---- the lines that take an entry have one
 
@@ -92,24 +91,24 @@ module _ (c : Camera) (d : List ℕ) (r : Rect) (l : List Entry) (s : Sound l) w
   size_mended : length (mended l) ≡ 16
   size_mended = rw (mended_sound l s) s.size
 
-  length_call : (begins : Beginning) → length (call_entries c d r begins l) ≡ 16
+  length_call : (begins : Result (Option FujiHeader) Refusal) → length (call_entries c d r begins l) ≡ 16
   unfolding last_entries
-  length_call (Begin.Refused x) = size_mended
-  length_call Begin.Nothing = size_mended
-  length_call (Begin.Reading h) = length_blocks c d h r (mended l) size_mended _
+  length_call (Err x) = size_mended
+  length_call (Ok None) = size_mended
+  length_call (Ok (Some h)) = length_blocks c d h r (mended l) size_mended _
 
-  holds_call : (begins : Beginning) → holds (call_entries c d r begins l) ≡ holds l + taken_call c d r begins l
+  holds_call : (begins : Result (Option FujiHeader) Refusal) → holds (call_entries c d r begins l) ≡ holds l + taken_call c d r begins l
   unfolding last_entries
-  holds_call (Begin.Refused x) = rw (mended_sound l s) (omega arith)
-  holds_call Begin.Nothing = rw (mended_sound l s) (omega arith)
-  holds_call (Begin.Reading h) =
-      holds_blocks c d h r (mended l) size_mended _ ∙ ap (λ (z : List Entry). holds z + taken_call c d r (Begin.Reading h) l) (mended_sound l s)
+  holds_call (Err x) = rw (mended_sound l s) (omega arith)
+  holds_call (Ok None) = rw (mended_sound l s) (omega arith)
+  holds_call (Ok (Some h)) =
+      holds_blocks c d h r (mended l) size_mended _ ∙ ap (λ (z : List Entry). holds z + taken_call c d r (Ok (Some h)) l) (mended_sound l s)
 
-  sound_call : (i t n : ℕ) → ((k : ℕ) → get_or d k 0 < 256) → (begins : Beginning) → region_begins d r i t n ≡ begins → Sound (call_entries c d r begins l)
+  sound_call : (i t n : ℕ) → ((k : ℕ) → get_or d k 0 < 256) → (begins : Result (Option FujiHeader) Refusal) → region_begins d r i t n ≡ begins → Sound (call_entries c d r begins l)
   unfolding last_entries
-  sound_call i t n ok (Begin.Refused x) e = rw (mended_sound l s) s
-  sound_call i t n ok Begin.Nothing e = rw (mended_sound l s) s
-  sound_call i t n ok (Begin.Reading h) e =
+  sound_call i t n ok (Err x) e = rw (mended_sound l s) s
+  sound_call i t n ok (Ok None) e = rw (mended_sound l s) s
+  sound_call i t n ok (Ok (Some h)) e =
       let k = (region_reads _ _ _ _ _ _ e).region.ruled in
       sound_blocks c d h r (mended l) size_mended k.bits_low k.bits_high ok (rw (mended_sound l s) s) _
 

@@ -20,22 +20,20 @@ use Rattle.cameras.specs.declared.Entry.{Entry}
 use Rattle.cameras.proofs.EntryLaws.{all_before, all_below_lem}
 use Rattle.cameras.proofs.SoundLaws.{mended_sound}
 use Rattle.admission.specs.Beginnings.{region_begins}
-use Rattle.admission.specs.declared.Beginning.{Beginning}
-use Rattle.admission.specs.declared.Beginning.TheVariants as Begin
 use Rattle.read_block.specs.Images.{bases_in, read_in, or_else, answer_of, Left}
 use Rattle.read_block.specs.Words.{answer_words}
 use Rattle.read_block.specs.Lent.{Buffers}
 use Rattle.read_block.specs.Sharing.{entry_lines, stops_in, block_count, entries_after, blocks_before, is_out, out_block, out_line, shared_answer, is_shared, SharedDecoding, is_refused}
 use Rattle.read_block.specs.Sharing.{call_entries, LeftBuffers, LeftShared}
-use Rattle.read_block.specs.declared.Decoded.{Decoded}
-use Rattle.read_block.specs.declared.Decoded.TheVariants.{Done, Refused}
 use Rattle.theorem_cameras.specs.TwoCameras.{call, call_answer, after, NoEntryAt, FirstWithout, TwoCameras}
 use Rattle.theorem_cameras.proofs.HistoryLaws.{sound_all, holds_all, none_sound, none_holds}
+use Rattle.std.specs.Prelude.{Err, None, Ok, Option, Result, Some}
+use Rattle.stream.specs.declared.header.Refusal.{Refusal}
 
 -- ---- not refused by 23
 
 module _ (c : Camera) (d : List ℕ) (h : FujiHeader) (r : Rect) (l : List Entry) where
-  answer_out : is_out c d h r l ≡ true → shared_answer c d h r l ≡ Refused (NoEntry (out_block c d h r l) (out_line c d h r l))
+  answer_out : is_out c d h r l ≡ true → shared_answer c d h r l ≡ Err (NoEntry (out_block c d h r l) (out_line c d h r l))
   unfolding shared_answer
   answer_out t = rw t
 
@@ -43,12 +41,12 @@ module _ (c : Camera) (d : List ℕ) (h : FujiHeader) (r : Rect) (l : List Entry
   unfolding shared_answer
   answer_in_lem t = rw t
 
-  left_alone : (tile : List ℕ) (before after : Buffers) (answer : Decoded) → SharedDecoding c d h r tile l before after answer
-      → ((b n : ℕ) → answer ≡ Refused (NoEntry b n) → ⊥) → Left d r tile (Begin.Reading h) before after answer
+  left_alone : (tile : List ℕ) (before after : Buffers) (answer : Result Unit Refusal) → SharedDecoding c d h r tile l before after answer
+      → ((b n : ℕ) → answer ≡ Err (NoEntry b n) → ⊥) → Left d r tile (Ok (Some h)) before after answer
   unfolding is_shared
   left_alone tile before after answer p not23 = go (is_out c d h r l) refl
     where
-      go : (t : Bool) → is_out c d h r l ≡ t → Left d r tile (Begin.Reading h) before after answer
+      go : (t : Bool) → is_out c d h r l ≡ t → Left d r tile (Ok (Some h)) before after answer
       go true t = absurd (not23 _ _ (p.answered ∙ answer_out t))
       go false t =
           record {
@@ -58,25 +56,25 @@ module _ (c : Camera) (d : List ℕ) (h : FujiHeader) (r : Rect) (l : List Entry
             records = p.records;
           }
 
-own : (c : Camera) (d : List ℕ) (r : Rect) (tile : List ℕ) (begins : Beginning) (l l' : List Entry) (before after : Buffers) (answer : Decoded)
-    → LeftShared c d r tile begins l before after answer l' → ((b n : ℕ) → answer ≡ Refused (NoEntry b n) → ⊥) → Left d r tile begins before after answer
-own c d r tile (Begin.Refused x) l l' before after answer p not23 = p.0
-own c d r tile Begin.Nothing l l' before after answer p not23 = p.0
-own c d r tile (Begin.Reading h) l l' before after answer p not23 = left_alone c d h r (mended l) tile before after answer p.0 not23
+own : (c : Camera) (d : List ℕ) (r : Rect) (tile : List ℕ) (begins : Result (Option FujiHeader) Refusal) (l l' : List Entry) (before after : Buffers) (answer : Result Unit Refusal)
+    → LeftShared c d r tile begins l before after answer l' → ((b n : ℕ) → answer ≡ Err (NoEntry b n) → ⊥) → Left d r tile begins before after answer
+own c d r tile (Err x) l l' before after answer p not23 = p.0
+own c d r tile (Ok None) l l' before after answer p not23 = p.0
+own c d r tile (Ok (Some h)) l l' before after answer p not23 = left_alone c d h r (mended l) tile before after answer p.0 not23
 
 -- ---- what stands in the history
 
-answered : (c : Camera) (d : List ℕ) (r : Rect) (tile : List ℕ) (begins : Beginning) (l : List Entry) (before after : Buffers) (answer : Decoded)
+answered : (c : Camera) (d : List ℕ) (r : Rect) (tile : List ℕ) (begins : Result (Option FujiHeader) Refusal) (l : List Entry) (before after : Buffers) (answer : Result Unit Refusal)
     → LeftBuffers c d r tile begins l before after answer → answer ≡ call_answer c d r begins l
-answered c d r tile (Begin.Refused x) l before after answer p = p.0
-answered c d r tile Begin.Nothing l before after answer p = p.0
-answered c d r tile (Begin.Reading h) l before after answer p = p.answered
+answered c d r tile (Err x) l before after answer p = p.0
+answered c d r tile (Ok None) l before after answer p = p.0
+answered c d r tile (Ok (Some h)) l before after answer p = p.answered
 
-told : (c : Camera) (d : List ℕ) (r : Rect) (tile : List ℕ) (i s n : ℕ) (l l' : List Entry) (before after' : Buffers) (answer : Decoded)
+told : (c : Camera) (d : List ℕ) (r : Rect) (tile : List ℕ) (i s n : ℕ) (l l' : List Entry) (before after' : Buffers) (answer : Result Unit Refusal)
     → LeftShared c d r tile (region_begins d r i s n) l before after' answer l' → l' ≡ after (call c d r i s n) l
 told c d r tile i s n l l' before after' answer p =
     p.1
-    ∙ ap (λ (a : Decoded). handed_back c (is_refused a) (call_entries c d r (region_begins d r i s n) l))
+    ∙ ap (λ (a : Result Unit Refusal). handed_back c (is_refused a) (call_entries c d r (region_begins d r i s n) l))
     (answered c d r tile (region_begins d r i s n) l before after' answer p.0)
 
 -- ---- a line without an entry
@@ -134,7 +132,7 @@ has_none bits q l held other =
 
 -- ---- what 23 names
 
-abbrev number_of : Decoded → ℕ
+abbrev number_of : Result Unit Refusal → ℕ
 number_of a = get_or (answer_words a) 0 0
 
 -- the answer of `decode_region` is no refusal, or 14
@@ -145,10 +143,10 @@ answer_low d h r (suc n) =
     let m : ℕ = read_in d h r (first_block r + n) in
     go (answer_of d h r n) (answer_low d h r n) m (ltb m (line_count r))
   where
-    go : (a : Decoded) → number_of a ≤ 14 → (m : ℕ) (t : Bool) → number_of (or_else a (cond t (Refused (Truncated (first_block r + n) m)) Done)) ≤ 14
-    go Done low m true = omega arith
-    go Done low m false = omega arith
-    go (Refused x) low m t = low
+    go : (a : Result Unit Refusal) → number_of a ≤ 14 → (m : ℕ) (t : Bool) → number_of (or_else a (cond t (Err (Truncated (first_block r + n) m)) (Ok tt))) ≤ 14
+    go (Ok tt) low m true = omega arith
+    go (Ok tt) low m false = omega arith
+    go (Err x) low m t = low
 
 module _ (c : Camera) (d : List ℕ) (h : FujiHeader) (r : Rect) (l : List Entry) where
   abbrev test : ℕ → Bool
@@ -221,22 +219,22 @@ module _ (c : Camera) (d : List ℕ) (h : FujiHeader) (r : Rect) (l : List Entry
         lines = λ m q. lines_low k m q;
       })
 
-  named : (k n : ℕ) → shared_answer c d h r l ≡ Refused (NoEntry (first_block r + k) n) → FirstWithout c d h r l k n
+  named : (k n : ℕ) → shared_answer c d h r l ≡ Err (NoEntry (first_block r + k) n) → FirstWithout c d h r l k n
   named k n e = go (is_out c d h r l) refl
     where
       go : (t : Bool) → is_out c d h r l ≡ t → FirstWithout c d h r l k n
       go false t =
-          let f : answer_of d h r (block_count r) ≡ Refused (NoEntry (first_block r + k) n) = sym (answer_in_lem c d h r l t) ∙ e in
+          let f : answer_of d h r (block_count r) ≡ Err (NoEntry (first_block r + k) n) = sym (answer_in_lem c d h r l t) ∙ e in
           let g : number_of (answer_of d h r (block_count r)) ≡ 23 = ap number_of f in
           absurd (omega (arith, g, answer_low d h r (block_count r)))
       go true t =
           let f = sym (answer_out c d h r l t) ∙ e in
-          let b : out_block c d h r l ≡ first_block r + k = ap (λ (a : Decoded). get_or (answer_words a) 1 0) f in
-          let m : out_line c d h r l ≡ n = ap (λ (a : Decoded). get_or (answer_words a) 2 0) f in
+          let b : out_block c d h r l ≡ first_block r + k = ap (λ (a : Result Unit Refusal). get_or (answer_words a) 1 0) f in
+          let m : out_line c d h r l ≡ n = ap (λ (a : Result Unit Refusal). get_or (answer_words a) 2 0) f in
           let q : blocks_before c d h r l ≡ k = omega (arith, b) in
           subst (λ (z : ℕ). FirstWithout c d h r l z n) q (subst (λ (z : ℕ). FirstWithout c d h r l (blocks_before c d h r l) z) m (is_first t))
 
-  names : (k n : ℕ) → FirstWithout c d h r l k n → shared_answer c d h r l ≡ Refused (NoEntry (first_block r + k) n)
+  names : (k n : ℕ) → FirstWithout c d h r l k n → shared_answer c d h r l ≡ Err (NoEntry (first_block r + k) n)
   names k n f =
       let low = not_before k n f.there in
       let t : is_out c d h r l ≡ true = low_out (omega (arith, low, f.inside)) in
@@ -246,8 +244,8 @@ module _ (c : Camera) (d : List ℕ) (h : FujiHeader) (r : Rect) (l : List Entry
       let b : n ≤ out_line c d h r l = f.lines (out_line c d h r l) (subst (λ (z : ℕ). NoEntryAt c d h r l z (out_line c d h r l)) q first.there) in
       let m : out_line c d h r l ≡ n = omega (arith, a, b) in
       answer_out c d h r l t
-      ∙ ap (λ (z : ℕ). Refused (NoEntry (first_block r + z) (out_line c d h r l))) q
-      ∙ ap (λ (z : ℕ). Refused (NoEntry (first_block r + k) z)) m
+      ∙ ap (λ (z : ℕ). Err (NoEntry (first_block r + z) (out_line c d h r l))) q
+      ∙ ap (λ (z : ℕ). Err (NoEntry (first_block r + k) z)) m
 
 pub two_cameras : TwoCameras
 two_cameras =

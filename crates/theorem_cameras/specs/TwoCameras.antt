@@ -1,6 +1,6 @@
 -- Promises. Two cameras that share 16 quantiser entries: what each reads is its own, but for refusal 23, which comes exactly where a line has no entry; entries
 -- that began with none held keep their form; and the holds are the bases taken less those given back, over any history of calls. Assumes nothing.
-use Rattle.std.specs.Prelude.{true, false, cond, List, [], ◌∷◌, ◌↔◌, ◌≡◌, ℕ, zero, suc, ◌+◌, ◌≤◌, ◌<◌, length, get_or}
+use Rattle.std.specs.Prelude.{true, false, cond, List, [], ◌∷◌, ◌↔◌, ◌≡◌, ℕ, zero, suc, ◌+◌, ◌≤◌, ◌<◌, length, get_or, Err, None, Ok, Option, Result, Some}
 use Rattle.stream.specs.declared.header.FujiHeader.{FujiHeader}
 use Rattle.stream.specs.declared.header.Refusal.TheVariants.{NoEntry}
 use Rattle.image_region.specs.Regions.{first_block, line_count}
@@ -9,13 +9,10 @@ use Rattle.cameras.specs.Entries.{is_held, is_pair, entry_at, after_lines, takin
 use Rattle.cameras.specs.declared.Camera.{Camera}
 use Rattle.cameras.specs.declared.Entry.{Entry}
 use Rattle.admission.specs.Beginnings.{region_begins}
-use Rattle.admission.specs.declared.Beginning.{Beginning}
-use Rattle.admission.specs.declared.Beginning.TheVariants as Begin
 use Rattle.read_block.specs.Images.{bases_in, read_in, Left}
 use Rattle.read_block.specs.Lent.{Buffers}
 use Rattle.read_block.specs.Sharing.{entry_lines, block_count, entries_after, blocks_before, is_out, shared_answer, is_refused, call_entries, LeftShared}
-use Rattle.read_block.specs.declared.Decoded.{Decoded}
-use Rattle.read_block.specs.declared.Decoded.TheVariants.{Done, Refused}
+use Rattle.stream.specs.declared.header.Refusal.{Refusal}
 
 -- ---- a history
 
@@ -25,10 +22,10 @@ pub data Event : Type 0 where
   end : Camera → Event
 
 -- what a call answers
-abbrev pub call_answer : Camera → List ℕ → Rect → Beginning → List Entry → Decoded
-call_answer c d r (Begin.Refused x) l = Refused x
-call_answer c d r Begin.Nothing l = Done
-call_answer c d r (Begin.Reading h) l = shared_answer c d h r (mended l)
+abbrev pub call_answer : Camera → List ℕ → Rect → Result (Option FujiHeader) Refusal → List Entry → Result Unit Refusal
+call_answer c d r (Err x) l = Err x
+call_answer c d r (Ok None) l = Ok tt
+call_answer c d r (Ok (Some h)) l = shared_answer c d h r (mended l)
 
 -- the entries after an event
 abbrev pub after : Event → List Entry → List Entry
@@ -48,10 +45,10 @@ taken_blocks c d h r l (suc n) =
     taken_blocks c d h r l n + taken_by c h.bits (bases_in d b) m (taking_lines (read_in d h r b) (entry_lines c d h r b m))
 
 -- by a call: its last block is the one with 23, if there is one
-abbrev pub taken_call : Camera → List ℕ → Rect → Beginning → List Entry → ℕ
-taken_call c d r (Begin.Refused x) l = 0
-taken_call c d r Begin.Nothing l = 0
-taken_call c d r (Begin.Reading h) l =
+abbrev pub taken_call : Camera → List ℕ → Rect → Result (Option FujiHeader) Refusal → List Entry → ℕ
+taken_call c d r (Err x) l = 0
+taken_call c d r (Ok None) l = 0
+taken_call c d r (Ok (Some h)) l =
     let n = blocks_before c d h r (mended l) in
     taken_blocks c d h r (mended l) (cond (is_out c d h r (mended l)) (suc n) n)
 
@@ -112,13 +109,13 @@ pub record FirstWithout (c : Camera) (d : List ℕ) (h : FujiHeader) (r : Rect) 
 
 pub record TwoCameras : Type 0 where
   -- unless it is refused by 23, a call leaves what `decode_region` leaves, whatever the entries
-  pub own : (c : Camera) (d : List ℕ) (r : Rect) (tile : List ℕ) (begins : Beginning) (l l' : List Entry) (before after : Buffers) (answer : Decoded)
-      → LeftShared c d r tile begins l before after answer l' → ((b n : ℕ) → answer ≡ Refused (NoEntry b n) → ⊥) → Left d r tile begins before after answer
+  pub own : (c : Camera) (d : List ℕ) (r : Rect) (tile : List ℕ) (begins : Result (Option FujiHeader) Refusal) (l l' : List Entry) (before after : Buffers) (answer : Result Unit Refusal)
+      → LeftShared c d r tile begins l before after answer l' → ((b n : ℕ) → answer ≡ Err (NoEntry b n) → ⊥) → Left d r tile begins before after answer
   -- and it is refused by 23 exactly where a line has no entry: the first one is named
   pub out : (c : Camera) (d : List ℕ) (h : FujiHeader) (r : Rect) (l : List Entry) (k n : ℕ)
-      → (shared_answer c d h r l ≡ Refused (NoEntry (first_block r + k) n)) ↔ FirstWithout c d h r l k n
+      → (shared_answer c d h r l ≡ Err (NoEntry (first_block r + k) n)) ↔ FirstWithout c d h r l k n
   -- a call hands back the entries that stand in the history
-  pub told : (c : Camera) (d : List ℕ) (r : Rect) (tile : List ℕ) (i s n : ℕ) (l l' : List Entry) (before after' : Buffers) (answer : Decoded)
+  pub told : (c : Camera) (d : List ℕ) (r : Rect) (tile : List ℕ) (i s n : ℕ) (l l' : List Entry) (before after' : Buffers) (answer : Result Unit Refusal)
       → LeftShared c d r tile (region_begins d r i s n) l before after' answer l' → l' ≡ after (call c d r i s n) l
   -- entries that began with none held, and that only these calls wrote, keep their form, and are not mended
   pub form : (es : List Event) (l : List Entry) → OfBytes es → NoneHeld l → Sound (after_all es l)

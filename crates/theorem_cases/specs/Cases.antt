@@ -1,5 +1,5 @@
 -- Promises. The worked cases that are marked for proof, as one table of equations on the definitions.
-use Rattle.std.specs.Prelude.{true, false, List, [], ◌∷◌, ◌++◌, ◌≡◌, ℕ}
+use Rattle.std.specs.Prelude.{true, false, List, [], ◌∷◌, ◌++◌, ◌≡◌, ℕ, Err, Ok, Some}
 use Rattle.numbers.specs.declared.Signed.{Signed}
 use Rattle.statistics.specs.Statistics.{k_of, updated}
 use Rattle.statistics.specs.declared.Record.{Record}
@@ -9,16 +9,12 @@ use Rattle.code.specs.Codes.{code_at}
 use Rattle.code.specs.Samples.{sample_of}
 use Rattle.code.specs.Tight.{is_tight}
 use Rattle.code.specs.declared.Code.{Code}
-use Rattle.code.specs.declared.Coded.TheVariants.{Read}
 use Rattle.image_map.specs.Places.{xtrans_place}
 use Rattle.stream.specs.Headers.{parse_of}
 use Rattle.stream.specs.Lengths.{bound_answer}
 use Rattle.stream.specs.Streams.{open_of, range_of}
 use Rattle.stream.specs.Refusals.{refusal_number}
-use Rattle.stream.specs.declared.BlockLength.TheVariants.{Length, Refused}
 use Rattle.stream.specs.declared.header.FujiHeader.{FujiHeader}
-use Rattle.stream.specs.declared.header.Parsed.TheVariants as Parsing
-use Rattle.stream.specs.declared.ranges.Ranged.TheVariants as Range
 use Rattle.stream.specs.declared.header.Refusal.TheVariants.{BadHeader, ShortSizes, Lossy}
 
 abbrev pub stat : ℕ → ℕ → Record
@@ -91,25 +87,25 @@ pub record Cases : Type 0 where
   pub g₂ : odd_prediction 10 20 30 30 6 ≡ 15
   -- (h) 14 bits, lossless: limit 41, raw 14; prediction and gradient 0, k 8
   pub h₀ : ((main_of 14 0).limit ≡ 41) × ((main_of 14 0).raw ≡ 14) × ((main_of 14 0).total ≡ 16384)
-  pub h₁ : code_at bytes_h 0 8 41 14 ≡ Read code_h
+  pub h₁ : code_at bytes_h 0 8 41 14 ≡ Some code_h
   pub h₂ : sample_of 16383 0 16384 (gradient_of 0 9 (plus 0) (plus 0)).negative 0 255 ≡ 16256
   -- (i) there, a long code that is not tight
-  pub i₁ : code_at bytes_i 0 8 41 14 ≡ Read code_i
+  pub i₁ : code_at bytes_i 0 8 41 14 ≡ Some code_i
   pub i₂ : sample_of 16383 0 16384 (gradient_of 0 9 (plus 0) (plus 0)).negative 0 1 ≡ 16383
   pub i₃ : is_tight 16383 code_i ≡ false
   -- (j) X-Trans places
   pub j₁ : (xtrans_place 0 ≡ 0) × (xtrans_place 1 ≡ 1) × (xtrans_place 2 ≡ 1) × (xtrans_place 3 ≡ 2) × (xtrans_place 4 ≡ 3) × (xtrans_place 5 ≡ 3)
   pub j₂ : xtrans_place 767 ≡ 511
   -- (k) a header that parses; byte 4 as 0D is refusal 2
-  pub k₁ : parse_of (bytes_k 0x0E) ≡ Parsing.Header header_k
-  pub k₂ : (parse_of (bytes_k 0x0D) ≡ Parsing.Refused BadHeader) × (refusal_number BadHeader ≡ 2)
+  pub k₁ : parse_of (bytes_k 0x0E) ≡ Ok header_k
+  pub k₂ : (parse_of (bytes_k 0x0D) ≡ Err BadHeader) × (refusal_number BadHeader ≡ 2)
   -- (l) that header with 4 zero bytes opens, and its block has no bytes, at the stream's end; with 3 bytes it is refusal 3
-  pub l₁ : open_of (bytes_k 0x0E ++ 0 ∷ 0 ∷ 0 ∷ 0 ∷ []) ≡ Parsing.Header header_k
-  pub l₂ : range_of (bytes_k 0x0E ++ 0 ∷ 0 ∷ 0 ∷ 0 ∷ []) 0 ≡ Range.At (record { 0 = 20 }) 0
-  pub l₃ : (open_of (bytes_k 0x0E ++ 0 ∷ 0 ∷ 0 ∷ []) ≡ Parsing.Refused ShortSizes) × (refusal_number ShortSizes ≡ 3)
+  pub l₁ : open_of (bytes_k 0x0E ++ 0 ∷ 0 ∷ 0 ∷ 0 ∷ []) ≡ Ok header_k
+  pub l₂ : range_of (bytes_k 0x0E ++ 0 ∷ 0 ∷ 0 ∷ 0 ∷ []) 0 ≡ Ok ((record { 0 = 20 }), 0)
+  pub l₃ : (open_of (bytes_k 0x0E ++ 0 ∷ 0 ∷ 0 ∷ []) ≡ Err ShortSizes) × (refusal_number ShortSizes ≡ 3)
   -- the length that no tight block exceeds: of one line at each depth, of the largest header, and of none that is lossy
-  pub bound₁ : bound_answer (parse_of (bytes_k 12)) ≡ Length 27648
-  pub bound₂ : bound_answer (parse_of (bytes_k 14)) ≡ Length 32256
-  pub bound₃ : bound_answer (parse_of (bytes_k 16)) ≡ Length 36864
-  pub bound₄ : bound_answer (parse_of (bytes_largest 1)) ≡ Length 100675584
-  pub bound₅ : bound_answer (parse_of (bytes_largest 0)) ≡ Refused Lossy
+  pub bound₁ : bound_answer (parse_of (bytes_k 12)) ≡ Ok 27648
+  pub bound₂ : bound_answer (parse_of (bytes_k 14)) ≡ Ok 32256
+  pub bound₃ : bound_answer (parse_of (bytes_k 16)) ≡ Ok 36864
+  pub bound₄ : bound_answer (parse_of (bytes_largest 1)) ≡ Ok 100675584
+  pub bound₅ : bound_answer (parse_of (bytes_largest 0)) ≡ Err Lossy

@@ -1,11 +1,9 @@
 -- Promises. Worked cases for every number of the two lists of refusals, and for the reasons why a code is bad.
-use Rattle.std.specs.Prelude.{true, false, ◌&&◌, List, [], ◌∷◌, ◌≡◌, ℕ, ◌/◌, ◌^◌, leb, ltb}
-use Rattle.std.proofs.Math.Option.{none, some}
+use Rattle.std.specs.Prelude.{true, false, ◌&&◌, List, [], ◌∷◌, ◌≡◌, ℕ, ◌/◌, ◌^◌, leb, ltb, Some, None}
 use Rattle.bits.specs.declared.BitPosition.{BitPosition}
 use Rattle.code.specs.Codes.{code_at}
 use Rattle.code.specs.Reasons.{reason_of}
 use Rattle.code.specs.declared.Code.{Code}
-use Rattle.code.specs.declared.Coded.TheVariants.{Read}
 use Rattle.code.specs.declared.reasons.Reason.TheVariants.{Large, Escape, Zeros}
 use Rattle.stream.specs.Refusals.{Meaning, meaning_of, refusal_words}
 use Rattle.stream.specs.declared.header.Refusal.TheVariants.{ShortHeader, BadHeader, ShortSizes, ShortBases, NoBlock, WrongSize, OutsideImage, Lossy}
@@ -17,19 +15,19 @@ use Rattle.tight_diagnosis.specs.declared.Fault.TheVariants as Fault
 
 -- a refusal that names nothing; a block; a line; an index; a block and its line
 abbrev pub says : (number : ℕ) → Meaning
-says number = record { number = number; block = none; line = none; index = none }
+says number = record { number = number; block = None; line = None; index = None }
 
 abbrev pub says_block : (number block : ℕ) → Meaning
-says_block number block = record { number = number; block = some block; line = none; index = none }
+says_block number block = record { number = number; block = Some block; line = None; index = None }
 
 abbrev pub says_line : (number line : ℕ) → Meaning
-says_line number line = record { number = number; block = none; line = some line; index = none }
+says_line number line = record { number = number; block = None; line = Some line; index = None }
 
 abbrev pub says_index : (number index : ℕ) → Meaning
-says_index number index = record { number = number; block = none; line = none; index = some index }
+says_index number index = record { number = number; block = None; line = None; index = Some index }
 
 abbrev pub says_line_of : (number block line : ℕ) → Meaning
-says_line_of number block line = record { number = number; block = some block; line = some line; index = none }
+says_line_of number block line = record { number = number; block = Some block; line = Some line; index = None }
 
 -- each refusal's number and the values that it names, in the order of the papers
 pub record RefusalNumbers : Type 0 where
@@ -98,19 +96,19 @@ code_of_tight = record { zeros = 41; value = 100; minimal = true; long = true; u
 
 pub record ReasonCases : Type 0 where
   -- both `large` and `escape` hold: `large` is given
-  pub both_read : code_at bytes_of_both 0 9 41 14 ≡ Read code_of_both
+  pub both_read : code_at bytes_of_both 0 9 41 14 ≡ Some code_of_both
   pub both_hold : (ltb 16383 code_of_both.value ≡ true) × ((leb 41 code_of_both.zeros && ltb (code_of_both.value / 2 ^ 9) 41) ≡ true)
-  pub both : reason_of 16383 9 41 code_of_both ≡ some Large
+  pub both : reason_of 16383 9 41 code_of_both ≡ Some Large
   -- both `escape` and `zeros` hold: `escape` is given
-  pub escape_read : code_at bytes_of_escape 0 8 41 14 ≡ Read code_of_escape
-  pub escape : reason_of 16383 8 41 code_of_escape ≡ some Escape
+  pub escape_read : code_at bytes_of_escape 0 8 41 14 ≡ Some code_of_escape
+  pub escape : reason_of 16383 8 41 code_of_escape ≡ Some Escape
   -- `zeros` alone, and none
-  pub zeros_read : code_at bytes_of_zeros 0 0 41 14 ≡ Read code_of_zeros
-  pub zeros : reason_of 16383 0 41 code_of_zeros ≡ some Zeros
-  pub tight_read : code_at bytes_of_tight 0 0 41 14 ≡ Read code_of_tight
-  pub tight : reason_of 16383 0 41 code_of_tight ≡ none
+  pub zeros_read : code_at bytes_of_zeros 0 0 41 14 ≡ Some code_of_zeros
+  pub zeros : reason_of 16383 0 41 code_of_zeros ≡ Some Zeros
+  pub tight_read : code_at bytes_of_tight 0 0 41 14 ≡ Some code_of_tight
+  pub tight : reason_of 16383 0 41 code_of_tight ≡ None
   -- the numbers for C: 1 large, 2 escape, 3 zeros, 4 tail
   pub large_word : reason_word Large ≡ 1
   pub escape_word : reason_word Escape ≡ 2
   pub zeros_word : reason_word Zeros ≡ 3
-  pub tail_words : (lines : ℕ) (at : BitPosition) → fault_words (Fault.Tail lines at) ≡ lines ∷ 0 ∷ 0 ∷ 0 ∷ at.0 ∷ 4 ∷ []
+  pub tail_words : (lines : ℕ) (at : BitPosition) → fault_words (Some (Fault.Tail lines at)) ≡ lines ∷ 0 ∷ 0 ∷ 0 ∷ at.0 ∷ 4 ∷ []

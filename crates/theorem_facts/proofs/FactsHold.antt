@@ -19,7 +19,6 @@ use Rattle.code.specs.Codes.{code_at}
 use Rattle.code.specs.Inside.{Bounds}
 use Rattle.code.specs.Samples.{choice_of, residual_of}
 use Rattle.code.specs.declared.Code.{Code}
-use Rattle.code.specs.declared.Coded.TheVariants.{Read}
 use Rattle.code.proofs.CodeLaws.{code_bounds}
 use Rattle.code.proofs.SampleLaws.{residual_size}
 use Rattle.pass_schedule.specs.Steps.{plan_of, interpolated, Step, turn_steps, upto, pass_steps}
@@ -29,6 +28,7 @@ use Rattle.pass_schedule.proofs.PlanLaws.{CodedIn, steps_coded}
 use Rattle.pass_steps.proofs.LookLaws.{choice_cases}
 use Rattle.theorem_facts.specs.Facts.{LeastK, started, updated_by, AtMost, two_apart, by_turns}
 use Rattle.theorem_facts.specs.Facts.{positions, steps_over, codes_in, steps_of_line, CodedWhereNotInterpolated, Facts}
+use Rattle.std.specs.Prelude.{Some}
 
 -- ---- statistics
 
@@ -57,11 +57,11 @@ unfolding quantiser_of raw_of
 limits_are bits q weight h = (omega arith, log2_le (total_of bits q))
 
 residual_is_low : (s : List ℕ) (p k bits q weight : ℕ) (c : Code) → bits ≤ 16 → k ≤ 15
-    → code_at s p k (quantiser_of bits q weight).limit (quantiser_of bits q weight).raw ≡ Read c
+    → code_at s p k (quantiser_of bits q weight).limit (quantiser_of bits q weight).raw ≡ Some c
     → (residual_of c.value).size ≤ largest_residual
 residual_is_low s p k bits q weight c h hk e =
     let l = limits_are bits q weight h in
-    let b : Bounds s (Read c) = rw e at (code_bounds s p k (quantiser_of bits q weight).limit (quantiser_of bits q weight).raw hk l.0 l.1) in
+    let b : Bounds s (Some c) = rw e at (code_bounds s p k (quantiser_of bits q weight).limit (quantiser_of bits q weight).raw hk l.0 l.1) in
     omega (arith, b.0, residual_size c.value)
 
 -- ---- gradients

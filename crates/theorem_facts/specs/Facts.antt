@@ -1,5 +1,5 @@
 -- Promises. What document 01 says of its own rules, fact by fact. Assumes nothing.
-use Rattle.std.specs.Prelude.{Bool, true, false, cond, not, List, [], ◌∷◌, ◌++◌, ◌≡◌, ℕ, zero, suc, ◌+◌, ◌-◌, ◌*◌, ◌/◌, ◌%◌, ◌^◌, ◌≤◌, ◌<◌, max, leb, ltb, eqb}
+use Rattle.std.specs.Prelude.{Bool, true, false, cond, not, List, [], ◌∷◌, ◌++◌, ◌≡◌, ℕ, zero, suc, ◌+◌, ◌-◌, ◌*◌, ◌/◌, ◌%◌, ◌^◌, ◌≤◌, ◌<◌, max, leb, ltb, eqb, Some}
 use Rattle.numbers.specs.declared.Signed.{Signed}
 use Rattle.statistics.specs.Statistics.{k_of, updated, largest_residual}
 use Rattle.statistics.specs.declared.Record.{Record}
@@ -10,7 +10,6 @@ use Rattle.prediction.specs.declared.Context.{Context}
 use Rattle.code.specs.Codes.{code_at}
 use Rattle.code.specs.Samples.{choice_of, residual_of}
 use Rattle.code.specs.declared.Code.{Code}
-use Rattle.code.specs.declared.Coded.TheVariants.{Read}
 use Rattle.pass_schedule.specs.Steps.{plan_of, is_interpolated, Step, even_steps, odd_steps, upto, pass_steps}
 use Rattle.pass_schedule.specs.declared.Plan.{Plan}
 
@@ -92,7 +91,7 @@ pub record Facts : Type 0 where
       → (updated_by sizes (started (quantiser_of bits q weight))).sum < 2 ^ 26
   -- for no code that is read has a larger residual
   pub residual_is_low : (s : List ℕ) (p k bits q weight : ℕ) (c : Code) → bits ≤ 16 → k ≤ 15
-      → code_at s p k (quantiser_of bits q weight).limit (quantiser_of bits q weight).raw ≡ Read c
+      → code_at s p k (quantiser_of bits q weight).limit (quantiser_of bits q weight).raw ≡ Some c
       → (residual_of c.value).size ≤ largest_residual
   -- Quantiser: the thresholds of the flat quantisers
   pub flat_1 : (bits m : ℕ) → level_size (flat_of bits 1).base m ≡ level_by 0 18 67 276 m

@@ -1,7 +1,6 @@
 -- Base 0 uses no flat record, so that those of a lossless block stay as they were at the start. Assumes nothing.
 use mathlib.Core.Bool.{Bool, true, false, cond}
 use mathlib.Core.List.{List, [], ◌∷◌}
-use mathlib.Core.Option.{some}
 use mathlib.Core.Path.{◌≡◌, refl, sym, ◌∙◌}
 use Prim.Native.Nat.{ℕ, zero, suc, ◌+◌, ◌*◌, ◌%◌, ◌≤◌, ◌<◌}
 use native.Mathlib.Omega.{arith}
@@ -14,8 +13,6 @@ use Rattle.statistics.specs.declared.Record.{Record}
 use Rattle.quantiser.proofs.GradientLaws.{main_le}
 use Rattle.prediction.specs.declared.Context.{Context}
 use Rattle.code.specs.Samples.{choice_of}
-use Rattle.code.specs.declared.Coded.{Coded}
-use Rattle.code.specs.declared.Coded.TheVariants.{Read, Truncated}
 use Rattle.pass_schedule.specs.Steps.{Step, plans, no_plan, coded_all, plan_of, pass_steps}
 use Rattle.pass_schedule.specs.Steps.{step_place}
 use Rattle.pass_steps.specs.Contexts.{look_of, slot_of, no_record, step_context, step_look, step_slot}
@@ -33,6 +30,8 @@ use Rattle.read_block.proofs.KeepLaws.{left_by, end_same}
 use Rattle.read_block.proofs.RunLaws.{then_keeps, runs_keep}
 use Rattle.read_block.proofs.SetLaws.{set_get_d}
 use Rattle.read_block.proofs.TableLaws.{table_length, table_get_d}
+use Rattle.std.specs.Prelude.{None, Option, Some}
+use Rattle.code.specs.declared.Code.{Code}
 
 -- ---- a pass
 
@@ -47,30 +46,30 @@ module _ (bits W : ℕ) (s : List ℕ) (j : ℕ) (flat : 41 ≤ j % 56) where
   abbrev Stays : Reading → Reading → Type 0
   Stays r z = get_or z.set j no_record ≡ get_or r.set j no_record
 
-  step_flat : (x : Step) (r z : Reading) → read_step bits 0 W s x r ≡ some z → Stays r z
+  step_flat : (x : Step) (r z : Reading) → read_step bits 0 W s x r ≡ Some z → Stays r z
   unfolding read_step
   step_flat x r z e = go x.coded (step_code bits 0 W s x r) e
     where
-      same : (y : Reading) → some y ≡ some z → Stays r y → Stays r z
+      same : (y : Reading) → Some y ≡ Some z → Stays r y → Stays r z
       same y f k = let is : y ≡ z = cc in rw is at k
 
-      go : (b : Bool) (g : Coded)
+      go : (b : Bool) (g : Option Code)
           → cond b (taken bits 0 (step_place W x) (step_slot 0 W x r.lines) (step_context W x r.lines) (step_look 0 W x r.lines) r g)
-          (some (interpolate (step_place W x) (step_context W x r.lines) r)) ≡ some z
+          (Some (interpolate (step_place W x) (step_context W x r.lines) r)) ≡ Some z
           → Stays r z
-      go true Truncated f = let no : ◌≡◌ {A = ℕ} 0 1 = cc in absurd (omega arith)
-      go true (Read d) f =
+      go true None f = let no : ◌≡◌ {A = ℕ} 0 1 = cc in absurd (omega arith)
+      go true (Some d) f =
           same _ f (get_or-set_other r.set (step_slot 0 W x r.lines) j _ no_record (slot_main x.position (step_context W x r.lines) j flat))
       go false g f = same _ f refl
 
-  steps_flat : (l : List Step) (r z : Reading) → reads bits 0 W s l r ≡ some z → Stays r z
+  steps_flat : (l : List Step) (r z : Reading) → reads bits 0 W s l r ≡ Some z → Stays r z
   unfolding reads
   steps_flat [] r z e = let is : r ≡ z = cc in rw is
   steps_flat (x ∷ l) r z e =
       let f = first_then bits 0 W s x l r z e in
       steps_flat l f.0 z f.2 ∙ step_flat x r f.0 f.1
 
-  pub pass_flat : (P : Plan) (r z : Reading) → read_pass bits 0 W s P r ≡ some z → Stays r z
+  pub pass_flat : (P : Plan) (r z : Reading) → read_pass bits 0 W s P r ≡ Some z → Stays r z
   unfolding read_pass
   pass_flat P r z e = steps_flat (pass_steps W P) r z e
 
@@ -115,7 +114,7 @@ module _ (F : Form) (depth : F.bits ≤ 16) (s : List ℕ) where
   abbrev W : ℕ
   W = width_of F.xtrans
 
-  pass_started : (i : ℕ) (r z : State) → Started F r → pass_at F 0 s i r ≡ some z → Started F z
+  pass_started : (i : ℕ) (r z : State) → Started F r → pass_at F 0 s i r ≡ Some z → Started F z
   unfolding pass_at put_set
   pass_started i r z h e =
       let P : Plan = plan_of F.xtrans i in
@@ -133,7 +132,7 @@ module _ (F : Form) (depth : F.bits ≤ 16) (s : List ℕ) where
       })
       e
 
-  line_started : (r z : State) → Started F r → read_line F 0 s r ≡ some z → Started F z
+  line_started : (r z : State) → Started F r → read_line F 0 s r ≡ Some z → Started F z
   unfolding read_line
   line_started r z h e =
       then_keeps (Started F) (runs (pass_at F 0 s) 6 r) (end_line s) z (λ y f. runs_keep (pass_at F 0 s) r (Started F) h pass_started 6 y f)
@@ -154,7 +153,7 @@ module _ (F : Form) (depth : F.bits ≤ 16) (s : List ℕ) where
           ∙ rw (le-ltb (j % 56) 41 c) (h.flat j a c)
       same false j a c = h.flat j a c
 
-  pub flat_stay : (n : ℕ) (z : State) → read_lines F [] s n ≡ some z → Started F z
+  pub flat_stay : (n : ℕ) (z : State) → read_lines F [] s n ≡ Some z → Started F z
   unfolding read_lines read_line_at start_state start_records
   flat_stay n z e =
       runs_keep (read_line_at F [] s) (start_state F []) (Started F)

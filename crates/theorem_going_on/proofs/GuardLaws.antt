@@ -1,7 +1,6 @@
 -- The guards of a colour line that was read are the ends of the line above it. Assumes nothing.
 use mathlib.Core.List.{List}
 use mathlib.Core.Logic.{◌≢◌}
-use mathlib.Core.Option.{some}
 use mathlib.Core.Path.{◌≡◌, refl, sym, ◌∙◌}
 use Prim.Native.Nat.{ℕ, suc, ◌+◌, ◌-◌, ◌*◌, ◌%◌, ◌≤◌, ◌<◌}
 use native.Mathlib.Nat.{mul-le-mul_right}
@@ -25,6 +24,7 @@ use Rattle.read_block.proofs.KeepLaws.{left_by, end_same, passes_keep, lines_kee
 use Rattle.read_block.proofs.RunLaws.{then_both, runs_last}
 use Rattle.read_block.proofs.WindowTwins.{two_lines}
 use Rattle.theorem_going_on.proofs.NearLaws.{even_width}
+use Rattle.std.specs.Prelude.{Some}
 
 -- the guards of line L
 pub record Ends (W L : ℕ) (l : List ℕ) : Type 0 where
@@ -55,7 +55,7 @@ ends_guard W L m l x y e =
     (λ d h. guard_leaves W m (L - 1) d l h y) e
 
 -- and where a pass reads neither the line above nor sets guards
-module _ (bits q W : ℕ) (s : List ℕ) (P : Plan) (even : W % 2 ≡ 0) (r z : Reading) (e : read_pass bits q W s P r ≡ some z) where
+module _ (bits q W : ℕ) (s : List ℕ) (P : Plan) (even : W % 2 ≡ 0) (r z : Reading) (e : read_pass bits q W s P r ≡ Some z) where
   guard_stays : (L d : ℕ) → d < W + 2 → ((p : ℕ) → p < W → d ≢ p + 1) → get_or z.lines (L * (W + 2) + d) 0 ≡ get_or r.lines (L * (W + 2) + d) 0
   unfolding read_pass
   guard_stays L d h never =
@@ -72,7 +72,7 @@ module _ (bits q W : ℕ) (s : List ℕ) (P : Plan) (even : W % 2 ≡ 0) (r z : 
 
 -- a pass over two lines leaves the guards of both so, and keeps those of a line that is apart from them
 module _ (bits q W : ℕ) (s : List ℕ) (P : Plan) (even : W % 2 ≡ 0) (l : List ℕ) (r z : Reading)
-    (entered : r.lines ≡ guarded W P.second (guarded W P.first l)) (e : read_pass bits q W s P r ≡ some z) (low : 2 ≤ P.first)
+    (entered : r.lines ≡ guarded W P.second (guarded W P.first l)) (e : read_pass bits q W s P r ≡ Some z) (low : 2 ≤ P.first)
     (far : P.first + 3 ≤ P.second) (high : P.second ≤ 17) (long : length l ≡ 18 * (W + 2)) where
   room : (L : ℕ) → L ≤ 17 → (L + 1) * (W + 2) ≤ length l
   room L h = let k : (L + 1) * (W + 2) ≤ 18 * (W + 2) = mul-le-mul_right (W + 2) (omega arith) in omega (arith, long)
@@ -105,7 +105,7 @@ module _ (F : Form) (depth : F.bits ≤ 16) (s : List ℕ) where
   abbrev pub Long : State → Type 0
   Long r = length r.lines ≡ 18 * (W + 2)
 
-  pass_long : (q i : ℕ) (r z : State) → Long r → pass_at F q s i r ≡ some z → Long z
+  pass_long : (q i : ℕ) (r z : State) → Long r → pass_at F q s i r ≡ Some z → Long z
   unfolding pass_at
   pass_long q i r z h e =
       let P : Plan = plan_of F.xtrans i in
@@ -114,13 +114,13 @@ module _ (F : Form) (depth : F.bits ≤ 16) (s : List ℕ) where
       ∙ length_guarded W P.first r.lines ∙ h)
       e
 
-  pub read_long : (bases : List ℕ) (n : ℕ) (z : State) → read_lines F bases s n ≡ some z → Long z
+  pub read_long : (bases : List ℕ) (n : ℕ) (z : State) → read_lines F bases s n ≡ Some z → Long z
   unfolding start_state
   read_long bases n z e =
       lines_keep F s Long pass_long bases (λ m r h. length_turned W r.lines (omega (arith, h)) ∙ h) (length-replicate (18 * (W + 2)) 0) n z e
 
   -- pass 4 reads lines 4 and 11, and pass 5 lines 12 and 17
-  ends_of_4 : (q : ℕ) (r z : State) → Long r → pass_at F q s 4 r ≡ some z → Ends W 4 z.lines
+  ends_of_4 : (q : ℕ) (r z : State) → Long r → pass_at F q s 4 r ≡ Some z → Ends W 4 z.lines
   unfolding pass_at
   ends_of_4 q r z h e =
       let P : Plan = plan_of F.xtrans 4 in
@@ -132,7 +132,7 @@ module _ (F : Form) (depth : F.bits ≤ 16) (s : List ℕ) where
       (first_ends F.bits q W s P (even_width F.xtrans) r.lines (enter F P r) y refl k (omega (arith, f)) (omega (arith, f, g)) (omega (arith, g)) h))
       e
 
-  ends_of_5 : (q : ℕ) (r z : State) → Long r → Ends W 4 r.lines → pass_at F q s 5 r ≡ some z
+  ends_of_5 : (q : ℕ) (r z : State) → Long r → Ends W 4 r.lines → pass_at F q s 5 r ≡ Some z
       → Ends W 4 z.lines × Ends W 12 z.lines × Ends W 17 z.lines
   unfolding pass_at
   ends_of_5 q r z h b e =
@@ -153,7 +153,7 @@ module _ (F : Form) (depth : F.bits ≤ 16) (s : List ℕ) where
       e
 
   -- so the guards of the last line of each colour are the ends of the one above
-  pub read_ends : (bases : List ℕ) (n : ℕ) (z : State) → read_lines F bases s (suc n) ≡ some z
+  pub read_ends : (bases : List ℕ) (n : ℕ) (z : State) → read_lines F bases s (suc n) ≡ Some z
       → Ends W 4 z.lines × Ends W 12 z.lines × Ends W 17 z.lines
   unfolding read_lines read_line_at read_line
   read_ends bases n z e =

@@ -1,7 +1,6 @@
 -- The bytes of a stored state stand in the order of the paper. Assumes nothing.
 use mathlib.Core.Bool.{Bool, true, false, cond, ◌&&◌}
 use mathlib.Core.List.{List}
-use mathlib.Core.Option.{some}
 use mathlib.Core.Path.{◌≡◌, sym, ap, ◌∙◌}
 use Prim.Native.Nat.{ℕ, zero, suc, ◌+◌, ◌-◌, ◌*◌, ◌%◌, ◌≤◌, ◌<◌}
 use native.Mathlib.Omega.{arith}
@@ -16,7 +15,6 @@ use Rattle.colour_lines.proofs.MoveLaws.{turned_at}
 use Rattle.image_map.specs.Places.{width_of}
 use Rattle.stream.specs.Inside.{Ruled}
 use Rattle.stream.specs.declared.header.FujiHeader.{FujiHeader}
-use Rattle.stream.specs.declared.header.Parsed.TheVariants.{Header}
 use Rattle.stream.proofs.StreamLaws.{opened}
 use Rattle.admission.proofs.CallLaws.{block_reads}
 use Rattle.read_block.specs.Blocks.{State, read_lines}
@@ -33,6 +31,7 @@ use Rattle.theorem_going_on.specs.Layout.{stored_for, largest_size, record_numbe
 use Rattle.theorem_going_on.proofs.CallLaws.{Stored, has_stored}
 use Rattle.theorem_going_on.proofs.GuardLaws.{read_long}
 use Rattle.theorem_going_on.proofs.ResumedLaws.{block_short}
+use Rattle.std.specs.Prelude.{Ok, Some}
 
 -- ---- records
 
@@ -138,12 +137,12 @@ pub layout : Layout
 layout d h b n lent lent' answer bytes begins left done =
     let s = has_stored d b n lent lent' answer done left in
     let a = block_reads false d b (length lent.lines) (length lent.records) h begins in
-    let p : Header s.0 ≡ Header h = sym s.1.opens ∙ a.opens in
+    let p : Ok s.0 ≡ Ok h = sym s.1.opens ∙ a.opens in
     let e : s.0 ≡ h = cc in
     by s.0 e s.1
   where
     by : (g : FujiHeader) → g ≡ h → Stored d b n g lent' answer
-        → (z : State) × (read_lines (form_of h) (bases_in d b) (bytes_in d b) (suc n) ≡ some z)
+        → (z : State) × (read_lines (form_of h) (bases_in d b) (bytes_in d b) (suc n) ≡ Some z)
         × StoredLayout d h b n z (take (1707 + 12 * width_of h.xtrans) lent'.out)
     by g e s' =
         let s : Stored d b n h lent' answer = rw e at s' in

@@ -1,7 +1,6 @@
 -- A state that was stored loads as one that the next line cannot tell from it. Assumes nothing.
 use mathlib.Core.Bool.{Bool, true, false, ◌&&◌}
 use mathlib.Core.List.{List, []}
-use mathlib.Core.Option.{some}
 use mathlib.Core.Path.{◌≡◌, refl, sym, ◌∙◌}
 use Prim.Native.Nat.{ℕ, suc, ◌+◌, ◌-◌, ◌*◌, ◌/◌, ◌%◌, ◌^◌, ◌≤◌, ◌<◌}
 use native.Mathlib.Omega.{arith}
@@ -31,6 +30,7 @@ use Rattle.read_block.proofs.TableLaws.{table_length, table_get_d}
 use Rattle.theorem_going_on.proofs.FlatLaws.{flat_stay}
 use Rattle.theorem_going_on.proofs.GuardLaws.{Ends, read_long, read_ends}
 use Rattle.theorem_going_on.proofs.NearLaws.{Near}
+use Rattle.std.specs.Prelude.{Some}
 
 -- ---- the lines that were kept, as the nine that stand for the 18
 
@@ -99,7 +99,7 @@ loaded_length W s l = guards (with_six W s l) ∙ six
 -- ---- a state that was read and stored
 
 module _ (F : Form) (bases s : List ℕ) (depth : F.bits ≤ 16) (short : length s < 2 ^ 32) (lines : ℕ) (few : lines < 2 ^ 16) (d : List ℕ) (b n : ℕ)
-    (z : State) (lossless : Bool) (c : List ℕ) (low : b < 256) (h : n + 1 ≤ lines) (read : read_lines F bases s (suc n) ≡ some z)
+    (z : State) (lossless : Bool) (c : List ℕ) (low : b < 256) (h : n + 1 ≤ lines) (read : read_lines F bases s (suc n) ≡ Some z)
     (is : IsCheckpoint lossless (width_of F.xtrans) (saved_of d b n z) c) (without : lossless ≡ true → bases ≡ []) where
   abbrev W : ℕ
   W = width_of F.xtrans
@@ -179,16 +179,16 @@ module _ (F : Form) (bases s : List ℕ) (depth : F.bits ≤ 16) (short : length
   unfolding loaded_state kept_line nine_of
   loaded_near =
       let ends = read_ends F depth s bases n z read in
-      let some = ok.some in
+      let Some = ok.some in
       record {
         windows = nine_of W z.lines;
         nine = table_length (λ j. get_or z.lines (pick (j / (W + 2)) * (W + 2) + j % (W + 2)) 0) (9 * (W + 2));
         held = windows_of W z.lines z.lines (same_latest W 4 z.lines) (same_latest W 12 z.lines) (same_latest W 17 z.lines);
         held' =
             windows_of W ls z.lines
-            (kept_latest 0 4 (lit< tt) refl refl (left_of_4 W c (zero_lines W) room some) (right_of_4 W c (zero_lines W) room some) ends.0)
-            (kept_latest 2 12 (lit< tt) refl refl (left_of_12 W c (zero_lines W) room some) (right_of_12 W c (zero_lines W) room some) ends.1)
-            (kept_latest 4 17 (lit< tt) refl refl (left_of_17 W c (zero_lines W) room some) (right_of_17 W c (zero_lines W) room some) ends.2);
+            (kept_latest 0 4 (lit< tt) refl refl (left_of_4 W c (zero_lines W) room Some) (right_of_4 W c (zero_lines W) room Some) ends.0)
+            (kept_latest 2 12 (lit< tt) refl refl (left_of_12 W c (zero_lines W) room Some) (right_of_12 W c (zero_lines W) room Some) ends.1)
+            (kept_latest 4 17 (lit< tt) refl refl (left_of_17 W c (zero_lines W) room Some) (right_of_17 W c (zero_lines W) room Some) ends.2);
         room = read_long F depth s bases (suc n) z read;
         room' = loaded_length W c (zero_lines W) ∙ zeros_long;
         records = records_same;

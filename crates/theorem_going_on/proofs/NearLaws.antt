@@ -1,7 +1,6 @@
 -- Two states of a block that agree in what the next line goes by are read alike. Assumes nothing.
 use mathlib.Core.Bool.{Bool, true, false, cond}
 use mathlib.Core.List.{List}
-use mathlib.Core.Option.{Option, none, some}
 use mathlib.Core.Path.{◌≡◌, refl, sym, ◌∙◌}
 use Prim.Native.Nat.{ℕ, zero, suc, ◌+◌, ◌*◌, ◌%◌, ◌≤◌, ◌<◌}
 use native.Mathlib.Nat.{mul-le-mul_right}
@@ -34,6 +33,7 @@ use Rattle.read_block.specs.declared.Form.{Form}
 use Rattle.read_block.proofs.PlacedLines.{Placed, placed_before}
 use Rattle.read_block.proofs.WindowTwins.{two_lines, Stepped, held_pass, held_turn}
 use Rattle.theorem_going_on.proofs.CountLaws.{Both, both_then, More, pass_more}
+use Rattle.std.specs.Prelude.{None, Option, Some}
 
 -- ---- states
 
@@ -73,25 +73,25 @@ fresh_all c f = record { red = λ h. omega (arith, h); green = λ h k. omega (ar
 
 -- three readings, of which the first two differ in what was counted, and two are alike to a third one in windows
 via : (R Q : Reading → Reading → Type 0) (S T : Reading → Reading → Type 0) (a a' b o : Option Reading) → Both R a a' → Alike S a' o → Alike T b o
-    → ((x x' y w : Reading) → o ≡ some w → R x x' → S x' w → T y w → Q x y) → Both Q a b
-via R Q S T none none none none p u v k = tt
-via R Q S T none none (some y) none p u v k = absurd v
-via R Q S T none none b (some w) p u v k = absurd u
-via R Q S T none (some x') b o p u v k = absurd p
-via R Q S T (some x) none b o p u v k = absurd p
-via R Q S T (some x) (some x') b none p u v k = absurd u
-via R Q S T (some x) (some x') none (some w) p u v k = absurd v
-via R Q S T (some x) (some x') (some y) (some w) p u v k = k x x' y w refl p u v
+    → ((x x' y w : Reading) → o ≡ Some w → R x x' → S x' w → T y w → Q x y) → Both Q a b
+via R Q S T None None None None p u v k = tt
+via R Q S T None None (Some y) None p u v k = absurd v
+via R Q S T None None b (Some w) p u v k = absurd u
+via R Q S T None (Some x') b o p u v k = absurd p
+via R Q S T (Some x) None b o p u v k = absurd p
+via R Q S T (Some x) (Some x') b None p u v k = absurd u
+via R Q S T (Some x) (Some x') None (Some w) p u v k = absurd v
+via R Q S T (Some x) (Some x') (Some y) (Some w) p u v k = k x x' y w refl p u v
 
 both_leave : (R : Reading → Reading → Type 0) (Q : State → State → Type 0) (P : Plan) (r r' : State) (a b : Option Reading) → Both R a b
     → ((x y : Reading) → R x y
     → Q (record { lines = x.lines; records = put_set P.set x.set r.records; at = x.at; tight = x.tight; long = x.long })
     (record { lines = y.lines; records = put_set P.set y.set r'.records; at = y.at; tight = y.tight; long = y.long }))
     → Both Q (leave P r a) (leave P r' b)
-both_leave R Q P r r' none none u k = tt
-both_leave R Q P r r' none (some y) u k = absurd u
-both_leave R Q P r r' (some x) none u k = absurd u
-both_leave R Q P r r' (some x) (some y) u k = k x y u
+both_leave R Q P r r' None None u k = tt
+both_leave R Q P r r' None (Some y) u k = absurd u
+both_leave R Q P r r' (Some x) None u k = absurd u
+both_leave R Q P r r' (Some x) (Some y) u k = k x y u
 
 -- windows keep their length
 window_low : (l : ℕ) → (2 ≤ window_line l) × (window_line l ≤ 8)
@@ -143,7 +143,7 @@ module _ (F : Form) (depth : F.bits ≤ 16) (s : List ℕ) (n : ℕ) where
         (record { lines = x.lines; records = put_set P.set x.set r.records; at = x.at; tight = x.tight; long = x.long })
         (record { lines = y.lines; records = put_set P.set y.set r'.records; at = y.at; tight = y.tight; long = y.long })
 
-    nine_stay : (w : Reading) → read_pass F.bits q W s Q in_windows ≡ some w → length w.lines ≡ 9 * (W + 2)
+    nine_stay : (w : Reading) → read_pass F.bits q W s Q in_windows ≡ Some w → length w.lines ≡ 9 * (W + 2)
     unfolding window_plan
     nine_stay w e =
         let a = window_low P.first in
@@ -151,7 +151,7 @@ module _ (F : Form) (depth : F.bits ≤ 16) (s : List ℕ) (n : ℕ) where
         (pass_keeps F.bits q W s depth Q in_windows w e).lines
         ∙ length_entered W (window_line P.first) (window_line P.second) near.windows near.nine a.0 a.1 c.0 c.1
 
-    next : (x x' y w : Reading) → read_pass F.bits q W s Q in_windows ≡ some w → More n x x'
+    next : (x x' y w : Reading) → read_pass F.bits q W s Q in_windows ≡ Some w → More n x x'
         → Stepped true W i P Q.first Q.second r.lines x' w → Stepped true W i P Q.first Q.second r'.lines y w → Next x y
     next x x' y w e m u v = (
       record {
@@ -205,7 +205,7 @@ module _ (F : Form) (depth : F.bits ≤ 16) (s : List ℕ) (n : ℕ) where
       let same : leb z.at.0 (8 * length s + 7) ≡ leb z'.at.0 (8 * length s + 7) = rw e in
       rw same (go (leb z'.at.0 (8 * length s + 7)))
     where
-      go : (b : Bool) → Both R (cond b (some z) none) (cond b (some z') none)
+      go : (b : Bool) → Both R (cond b (Some z) None) (cond b (Some z') None)
       go true = k
       go false = tt
 
@@ -245,7 +245,7 @@ module _ (F : Form) (depth : F.bits ≤ 16) (s : List ℕ) (n : ℕ) where
         (line_near (base_of bases (k + m)) (before_line F bases (k + m) x) (before_line F bases (k + m) y) (before_near (k + m) x y a.0)))
       where
         weaker : (o o' : Option State) → Both (Alike-after 6) o o' → Both (Alike-from (suc m)) o o'
-        weaker none none a = tt
-        weaker none (some y) a = absurd a
-        weaker (some x) none a = absurd a
-        weaker (some x) (some y) a = (a.0, λ h. a.1)
+        weaker None None a = tt
+        weaker None (Some y) a = absurd a
+        weaker (Some x) None a = absurd a
+        weaker (Some x) (Some y) a = (a.0, λ h. a.1)

@@ -1,7 +1,6 @@
 -- From any bytes that load, samples stay within 0 to M. Assumes nothing.
 use mathlib.Core.Bool.{Bool, true, false, cond}
 use mathlib.Core.List.{List}
-use mathlib.Core.Option.{Option, none, some}
 use mathlib.Core.Path.{◌≡◌, refl}
 use Prim.Native.Nat.{ℕ, zero, suc, ◌+◌, ◌-◌, ◌*◌, ◌/◌, ◌%◌, ◌≤◌, ◌<◌}
 use native.Mathlib.Omega.{arith}
@@ -17,10 +16,11 @@ use Rattle.pass_steps.proofs.ContextLaws.{AllLe, stored_le}
 use Rattle.read_pass.specs.Readings.{read_pass}
 use Rattle.read_pass.proofs.RangeLaws.{pass_keeps}
 use Rattle.stream.specs.declared.header.FujiHeader.{FujiHeader}
+use Rattle.stream.specs.declared.header.Refusal.{Refusal}
+use Rattle.stream.specs.declared.header.Refusal.TheVariants.{BadState, OtherState}
 use Rattle.saved_state.specs.Heads.{put_each}
 use Rattle.saved_state.specs.Checkpoints.{kept_line, stored_sample, bad_checkpoint, other_checkpoint, checked_of, next_line, position_in, with_kept, with_six}
 use Rattle.saved_state.specs.Checkpoints.{with_guards, loaded_lines}
-use Rattle.saved_state.specs.declared.load.Checked.TheVariants.{Bad, Other, At}
 use Rattle.saved_state.proofs.RangeLaws.{sample_in_range}
 use Rattle.read_block.specs.Blocks.{State, enter, pass_at, read_from, lines_of}
 use Rattle.saved_state.specs.BlockStates.{loaded_state}
@@ -29,6 +29,7 @@ use Rattle.saved_state.specs.Resuming.{resumed_after, resumed_picture}
 use Rattle.read_block.specs.declared.Form.{Form}
 use Rattle.read_block.proofs.KeepLaws.{left_by, from_keeps}
 use Rattle.read_block.proofs.SampleLaws.{zeros_le, guarded_le, turned_le}
+use Rattle.std.specs.Prelude.{None, Option, Some, Err, Ok, Result}
 
 -- ---- what is loaded
 
@@ -52,12 +53,13 @@ loaded_le W bits lines bytes s good =
         (λ p b. let e = sample_in_range W bits lines bytes s good (m * W + p) (digits_lt a b) in omega arith) k
 
 -- bytes that load are not bad
-pub not_bad : (W bits lines bytes : ℕ) (d : List ℕ) (b : ℕ) (s : List ℕ) (k at : ℕ) → checked_of W bits lines bytes d b s ≡ At k at
+pub not_bad : (W bits lines bytes : ℕ) (d : List ℕ) (b : ℕ) (s : List ℕ) (k at : ℕ) → checked_of W bits lines bytes d b s ≡ Ok (k, at)
     → bad_checkpoint W bits lines bytes s ≡ false
 unfolding checked_of
 not_bad W bits lines bytes d b s k at e = go (bad_checkpoint W bits lines bytes s) e
   where
-    go : (t : Bool) → cond t Bad (cond (other_checkpoint d b s) Other (At (next_line s) (position_in s))) ≡ At k at → t ≡ false
+    go : (t : Bool) → ◌≡◌ {A = Result (ℕ × ℕ) Refusal} (cond t (Err BadState) (cond (other_checkpoint d b s) (Err OtherState) (Ok (next_line s, position_in s)))) (Ok (k, at))
+        → t ≡ false
     go true f = absurd (let no : ◌≡◌ {A = ℕ} 0 1 = cc in omega arith)
     go false f = refl
 
@@ -73,7 +75,7 @@ module _ (F : Form) (depth : F.bits ≤ 16) (s : List ℕ) where
   abbrev Within : State → Type 0
   Within r = AllLe M r.lines
 
-  pass_within : (q i : ℕ) (r z : State) → Within r → pass_at F q s i r ≡ some z → Within z
+  pass_within : (q i : ℕ) (r z : State) → Within r → pass_at F q s i r ≡ Some z → Within z
   unfolding pass_at
   pass_within q i r z h e =
       let P : Plan = plan_of F.xtrans i in
@@ -83,7 +85,7 @@ module _ (F : Form) (depth : F.bits ≤ 16) (s : List ℕ) where
       (guarded_le M W P.second (guarded W P.first r.lines) (guarded_le M W P.first r.lines h)))
       e
 
-  from_within : (bases : List ℕ) (k m : ℕ) (r z : State) → Within r → read_from F bases s k r m ≡ some z → Within z
+  from_within : (bases : List ℕ) (k m : ℕ) (r z : State) → Within r → read_from F bases s k r m ≡ Some z → Within z
   from_within bases k m r z h e = from_keeps F s Within pass_within bases (λ n x a. turned_le M W x.lines a) k r h m z e
 
 -- each sample that going on shows is at most M
@@ -100,6 +102,6 @@ resumed_le d b h s tile row column depth good =
     i : ℕ
     i = sample_index h.xtrans (width_of h.xtrans) tile (row % 6) (column % 768)
 
-    go : (o : Option State) → ((z : State) → o ≡ some z → AllLe (largest h.bits) z.lines) → get_or (lines_of o) i 0 ≤ largest h.bits
-    go none k = omega arith
-    go (some z) k = k z refl i
+    go : (o : Option State) → ((z : State) → o ≡ Some z → AllLe (largest h.bits) z.lines) → get_or (lines_of o) i 0 ≤ largest h.bits
+    go None k = omega arith
+    go (Some z) k = k z refl i

@@ -1,7 +1,6 @@
 -- Going on from a state that was stored: what is read, and the answer. Assumes nothing.
 use mathlib.Core.Bool.{Bool, true, false, cond}
 use mathlib.Core.List.{List}
-use mathlib.Core.Option.{Option, none, some}
 use mathlib.Core.Path.{◌≡◌, refl, sym, ◌∙◌}
 use Prim.Native.Nat.{ℕ, zero, suc, ◌+◌, ◌-◌, ◌*◌, ◌/◌, ◌%◌, ◌^◌, ◌≤◌, ◌<◌}
 use native.Mathlib.Nat.{add-zero, add-suc}
@@ -18,20 +17,18 @@ use Rattle.stream.specs.Inside.{Ruled}
 use Rattle.stream.specs.Streams.{open_of, range_of, size_of, block_start}
 use Rattle.stream.specs.Ranges.{cut}
 use Rattle.stream.specs.declared.header.FujiHeader.{FujiHeader}
-use Rattle.stream.specs.declared.header.Parsed.TheVariants.{Header}
+use Rattle.stream.specs.declared.header.Refusal.{Refusal}
 use Rattle.stream.specs.declared.header.Refusal.TheVariants.{Truncated}
 use Rattle.stream.proofs.StreamLaws.{opened, range_opened, part_lt, row_lossless}
 use Rattle.image_region.specs.Regions.{line_count}
 use Rattle.image_region.specs.declared.Rect.{Rect}
 use Rattle.saved_state.specs.Inside.{IsCheckpoint}
 use Rattle.saved_state.specs.Checkpoints.{next_line, position_in}
-use Rattle.saved_state.specs.declared.load.Checked.TheVariants.{At}
 use Rattle.saved_state.proofs.StateLaws.{Storable, next_back, position_back}
 use Rattle.read_block.specs.Blocks.{State, read_lines, lines_of}
 use Rattle.saved_state.specs.BlockStates.{saved_of, loaded_state}
 use Rattle.read_block.specs.Images.{form_of, bytes_in, bases_in, is_read, lines_read, read_in, picture_sample, block_answer}
 use Rattle.saved_state.specs.Resuming.{resumed_after, lines_resumed, is_touched, resumed_picture, resumed_answer, checked_in}
-use Rattle.read_block.specs.declared.Decoded.TheVariants.{Done, Refused}
 use Rattle.read_block.specs.declared.Form.{Form}
 use Rattle.read_block.proofs.DecodeLaws.{stay_none, all_read}
 use Rattle.saved_state.proofs.LoadLaws.{read_loads}
@@ -39,10 +36,11 @@ use Rattle.read_block.proofs.ResumeLaws.{goes_on, from_none}
 use Rattle.theorem_going_on.proofs.CountLaws.{Both}
 use Rattle.theorem_going_on.proofs.LoadedLaws.{ok, loaded_near}
 use Rattle.theorem_going_on.proofs.NearLaws.{Fresh, fresh_all, Alike-from, from_near}
+use Rattle.std.specs.Prelude.{Err, Ok, None, Option, Some, Result}
 
 -- ---- the block of a stream of bytes is short, since its size has 4 bytes
 
-pub block_short : (d : List ℕ) (h : FujiHeader) (b : ℕ) → open_of d ≡ Header h → b < h.blocks → ((i : ℕ) → get_or d i 0 < 256) → length (bytes_in d b) < 2 ^ 32
+pub block_short : (d : List ℕ) (h : FujiHeader) (b : ℕ) → open_of d ≡ Ok h → b < h.blocks → ((i : ℕ) → get_or d i 0 < 256) → length (bytes_in d b) < 2 ^ 32
 block_short d h b o l bytes = part_lt d (range_of d b) (rw (range_opened d b h o, lt-ltb b h.blocks l) fits)
   where
     fits : cut d (block_start d h b + size_of d b) - cut d (block_start d h b) < 2 ^ 32
@@ -63,11 +61,11 @@ fresh_colour t r h =
 
 -- the bytes c hold the state z of block b of the stream d after line n. They may have been stored in another stream with the same first 16 bytes
 pub record Holds (d : List ℕ) (h : FujiHeader) (b n : ℕ) (z : State) (c : List ℕ) : Type 0 where
-  pub opens : open_of d ≡ Header h
+  pub opens : open_of d ≡ Ok h
   pub block : b < h.blocks
   pub short : length (bytes_in d b) < 2 ^ 32
   pub line : n < h.lines
-  pub read : read_lines (form_of h) (bases_in d b) (bytes_in d b) (suc n) ≡ some z
+  pub read : read_lines (form_of h) (bases_in d b) (bytes_in d b) (suc n) ≡ Some z
   pub from : List ℕ
   pub same : (i : ℕ) → i < 16 → get_or from i 0 ≡ get_or d i 0
   pub bytes : IsCheckpoint h.lossless (width_of h.xtrans) (saved_of from b n z) c
@@ -98,7 +96,7 @@ module _ (d : List ℕ) (h : FujiHeader) (b n : ℕ) (z : State) (c : List ℕ) 
   next = omega (arith, g.line)
 
   -- it loads
-  pub loads : checked_in d b h c ≡ At (n + 1) z.at.0
+  pub loads : checked_in d b h c ≡ Ok ((n + 1), z.at.0)
   loads = read_loads F B S ruled.bits_high g.short h.lines few g.from d b n z h.lossless c low next g.same g.read g.bytes
 
   storable : Storable W h.bits h.lines (length S) (saved_of g.from b n z)
@@ -122,10 +120,10 @@ module _ (d : List ℕ) (h : FujiHeader) (b n : ℕ) (z : State) (c : List ℕ) 
       (row_lossless d h b g.opens)))
 
   both_read : (R : State → State → Type 0) (x y : Option State) → Both R x y → is_read x ≡ is_read y
-  both_read R none none a = refl
-  both_read R none (some y) a = absurd a
-  both_read R (some x) none a = absurd a
-  both_read R (some x) (some y) a = refl
+  both_read R None None a = refl
+  both_read R None (Some y) a = absurd a
+  both_read R (Some x) None a = absurd a
+  both_read R (Some x) (Some y) a = refl
 
   pub read_same : (m : ℕ) → is_read (read_lines F B S (suc n + m)) ≡ is_read (resumed_after d b h c m)
   read_same m = both_read (Pair m) (read_lines F B S (suc n + m)) (resumed_after d b h c m) (alike m)
@@ -147,8 +145,8 @@ module _ (d : List ℕ) (h : FujiHeader) (b n : ℕ) (z : State) (c : List ℕ) 
   before_read m l = go (read_lines F B S m) refl
     where
       go : (x : Option State) → read_lines F B S m ≡ x → lines_read F B S m ≡ m
-      go (some y) e = all_read F B S m y e
-      go none e =
+      go (Some y) e = all_read F B S m y e
+      go None e =
           let f : m + (suc n - m) ≡ suc n = omega arith in
           let k = rw f at (stay_none F B S m (suc n - m) e) in
           let e' = g.read in
@@ -185,9 +183,10 @@ module _ (d : List ℕ) (h : FujiHeader) (b n : ℕ) (z : State) (c : List ℕ) 
     answer_same t = rw t (by reach)
       where
         by : Reach
-            → cond (ltb (lines_resumed d b h c (line_count r - next_line c)) (line_count r - next_line c))
-            (Refused (Truncated b (next_line c + lines_resumed d b h c (line_count r - next_line c)))) Done
-            ≡ cond (ltb (read_in d h r b) (line_count r)) (Refused (Truncated b (read_in d h r b))) Done
+            → ◌≡◌ {A = Result Unit Refusal}
+            (cond (ltb (lines_resumed d b h c (line_count r - next_line c)) (line_count r - next_line c))
+            (Err (Truncated b (next_line c + lines_resumed d b h c (line_count r - next_line c)))) (Ok tt))
+            (cond (ltb (read_in d h r b) (line_count r)) (Err (Truncated b (read_in d h r b))) (Ok tt))
         by (ended l e f) =
             rw (e, f, le-ltb (line_count r) (line_count r) (omega arith), le-ltb 0 (line_count r - next_line c) (omega (arith, next_is)))
         by (goes l e) =
@@ -202,7 +201,7 @@ module _ (d : List ℕ) (h : FujiHeader) (b n : ℕ) (z : State) (c : List ℕ) 
             let v : line_count r ≤ read_in d h r b = omega (arith, u, e, next_is) in
             rw (k, le-ltb (read_in d h r b) (line_count r) v))
 
-    pub untouched_done : is_touched r b ≡ false → resumed_answer d b h c r ≡ Done
+    pub untouched_done : is_touched r b ≡ false → resumed_answer d b h c r ≡ (Ok tt)
     unfolding lines_resumed
     untouched_done t = rw t
 
@@ -222,10 +221,10 @@ module _ (d : List ℕ) (h : FujiHeader) (b n : ℕ) (z : State) (c : List ℕ) 
       shown : (m : ℕ) (x y : Option State) → Both (Pair (suc m)) x y
           → get_or (lines_of x) (colour * (W + 2) + 1 + place_in h.xtrans (column % 768)) 0
           ≡ get_or (lines_of y) (colour * (W + 2) + 1 + place_in h.xtrans (column % 768)) 0
-      shown m none none a = refl
-      shown m none (some y) a = absurd a
-      shown m (some x) none a = absurd a
-      shown m (some x) (some y) a =
+      shown m None None a = refl
+      shown m None (Some y) a = absurd a
+      shown m (Some x) None a = absurd a
+      shown m (Some x) (Some y) a =
           let p = place_lt h.xtrans (column % 768) (omega arith) in
           let f = fresh_colour (tile_at tile (row % 6) (column % 768)) (row % 6) (omega arith) in
           let j : colour * (W + 2) + 1 + place_in h.xtrans (column % 768) ≡ colour * (W + 2) + (1 + place_in h.xtrans (column % 768)) = omega arith in

@@ -1,7 +1,6 @@
 -- The totals of going on, with those of storing, are those of the reading from the top. Assumes nothing.
 use mathlib.Core.Bool.{true}
 use mathlib.Core.List.{List, [], ◌∷◌, ◌++◌}
-use mathlib.Core.Option.{Option, none, some}
 use mathlib.Core.Path.{◌≡◌, refl, ap}
 use Prim.Native.Nat.{ℕ, zero, suc, ◌+◌, ◌-◌, ◌≤◌, max}
 use native.Mathlib.Nat.{add-zero, add-suc}
@@ -20,6 +19,7 @@ use Rattle.read_block.proofs.TotalLaws.{totals_true}
 use Rattle.theorem_going_on.specs.GoingOn.{read_by_both}
 use Rattle.theorem_going_on.proofs.CountLaws.{Both}
 use Rattle.theorem_going_on.proofs.ResumedLaws.{Holds, Pair, position_is, alike, reached, Reach, ended, goes, reach}
+use Rattle.std.specs.Prelude.{None, Option, Some}
 
 -- ---- more lines have no fewer bits
 
@@ -36,7 +36,7 @@ gathered_grows f g v r n (suc m) =
     rw (add-suc n m)
     (omega (arith, gathered_grows f g v r n m, sum_left v (gathered f g (n + m) r) (gather_from (runs f (n + m) r) (λ z. g (n + m) z))))
 
-bits_grow : (F : Form) (bases s : List ℕ) (n m : ℕ) (z y : State) → read_lines F bases s n ≡ some z → read_lines F bases s (n + m) ≡ some y
+bits_grow : (F : Form) (bases s : List ℕ) (n m : ℕ) (z y : State) → read_lines F bases s n ≡ Some z → read_lines F bases s (n + m) ≡ Some y
     → z.at.0 ≤ y.at.0
 unfolding block_codes
 bits_grow F bases s n m z y e f =
@@ -70,12 +70,12 @@ module _ (d : List ℕ) (h : FujiHeader) (b n : ℕ) (z : State) (c : List ℕ) 
 
   -- of a state that was reached
   sums : (m : ℕ) (x y : Option State) → Both (Pair d h b n z c g m) x y → is_read y ≡ true
-      → ((u : State) → x ≡ some u → z.at.0 ≤ u.at.0)
+      → ((u : State) → x ≡ Some u → z.at.0 ≤ u.at.0)
       → (z.at.0 + ((totals_in y).bits - position_in c) ≡ (totals_in x).bits) × (z.long + (totals_in y).long ≡ (totals_in x).long)
-  sums m none none a e k = absurd (let no : ◌≡◌ {A = ℕ} 0 1 = cc in omega arith)
-  sums m none (some y) a e k = absurd a
-  sums m (some x) none a e k = absurd a
-  sums m (some x) (some y) a e k =
+  sums m None None a e k = absurd (let no : ◌≡◌ {A = ℕ} 0 1 = cc in omega arith)
+  sums m None (Some y) a e k = absurd a
+  sums m (Some x) None a e k = absurd a
+  sums m (Some x) (Some y) a e k =
       let p = ap (λ u. u.0) a.0.at in (
         omega (arith, p, k x refl, position_is d h b n z c g),
         omega (arith, a.0.long),

@@ -1,11 +1,9 @@
 -- Promises. Item 9's layout: what each byte of a stored state is, in the order of the paper. Assumes nothing.
-use Rattle.std.specs.Prelude.{Bool, cond, not, ◌&&◌, List, [], ◌∷◌, ◌≡◌, ℕ, suc, ◌+◌, ◌-◌, ◌*◌, ◌≤◌, ◌<◌, eqb, length, get_or, take}
-use Rattle.std.proofs.Math.Option.{some}
+use Rattle.std.specs.Prelude.{Bool, cond, not, ◌&&◌, List, [], ◌∷◌, ◌≡◌, ℕ, suc, ◌+◌, ◌-◌, ◌*◌, ◌≤◌, ◌<◌, eqb, length, get_or, take, Ok, Some}
 use Rattle.statistics.specs.declared.Record.{Record}
 use Rattle.pass_steps.specs.Contexts.{no_record, place_of, slot_of, sample_in}
 use Rattle.image_map.specs.Places.{width_of}
 use Rattle.stream.specs.declared.header.FujiHeader.{FujiHeader}
-use Rattle.stream.specs.declared.header.Parsed.TheVariants.{Header}
 use Rattle.admission.specs.Beginnings.{read_begins}
 use Rattle.read_block.specs.Between.{lines_before}
 use Rattle.read_block.specs.Blocks.{State, read_lines}
@@ -13,7 +11,6 @@ use Rattle.read_block.specs.Images.{form_of, bytes_in, bases_in}
 use Rattle.read_block.specs.Lent.{Outputs}
 use Rattle.read_block.specs.Records.{set_of}
 use Rattle.read_block.specs.declared.Counted.{Counted}
-use Rattle.read_block.specs.declared.Decoded.TheVariants.{Done}
 use Rattle.saved_state.specs.Checkpoints.{be_at}
 use Rattle.saved_state.specs.Storing.{LeftStored}
 
@@ -66,6 +63,6 @@ pub record StoredLayout (d : List ℕ) (h : FujiHeader) (b n : ℕ) (z : State) 
 abbrev pub Layout : Type 0
 Layout =
     (d : List ℕ) (h : FujiHeader) (b n : ℕ) (lent lent' : Outputs) (answer : Counted) → ((i : ℕ) → get_or d i 0 < 256)
-    → read_begins d b (length lent.lines) (length lent.records) ≡ Header h → LeftStored d b n lent lent' answer → answer.answer ≡ Done
-    → (z : State) × (read_lines (form_of h) (bases_in d b) (bytes_in d b) (suc n) ≡ some z)
+    → read_begins d b (length lent.lines) (length lent.records) ≡ Ok h → LeftStored d b n lent lent' answer → answer.answer ≡ (Ok tt)
+    → (z : State) × (read_lines (form_of h) (bases_in d b) (bytes_in d b) (suc n) ≡ Some z)
     × StoredLayout d h b n z (take (1707 + 12 * width_of h.xtrans) lent'.out)

@@ -1,7 +1,6 @@
 -- Samples at interpolated positions are ignored: neither the bits nor the answer depend on them. Assumes nothing.
 use mathlib.Core.Bool.{Bool, true, false, cond, ◌||◌}
 use mathlib.Core.List.{List, [], ◌∷◌}
-use mathlib.Core.Option.{some}
 use mathlib.Core.Path.{◌≡◌, refl, sym, ap, ◌∙◌}
 use Prim.Native.Nat.{ℕ, zero, suc, ◌+◌, ◌<◌}
 use native.Mathlib.Nat.{add-zero, zero-add}
@@ -18,8 +17,6 @@ use Rattle.pass_schedule.proofs.OrderLaws.{All, pass_all}
 use Rattle.pass_schedule.proofs.PlanLaws.{CodedIn, steps_coded}
 use Rattle.image_map.specs.Places.{width_of}
 use Rattle.colour_lines.specs.Sets.{line_of_rank, index_in, colour_line_at, position_at}
-use Rattle.stream.specs.declared.header.Parsed.{Parsed}
-use Rattle.stream.specs.declared.header.Parsed.TheVariants as Parsing
 use Rattle.admission.specs.Above.{is_ignored, first_above}
 use Rattle.admission.specs.Writings.{lossy_begins}
 use Rattle.admission.proofs.SetLaws.{lossy_goes}
@@ -35,26 +32,29 @@ use Rattle.write_block.specs.WrittenAnswers.{measured_answer, above_in, set_answ
 use Rattle.write_block.specs.WrittenBlocks.{WriteState, repeats, enter_writing, write_pass_at, before_writing}
 use Rattle.write_block.specs.WrittenBlocks.{is_strict, write_line, start_writing, write_lines, written_block}
 use Rattle.theorem_lossy.specs.IgnoredSamples.{SameWhereCoded, IgnoredSamples}
+use Rattle.std.specs.Prelude.{Err, Ok, Result, Some}
+use Rattle.stream.specs.declared.header.FujiHeader.{FujiHeader}
+use Rattle.stream.specs.declared.header.Refusal.{Refusal}
 
 -- ---- refusal 11
 
 -- one sample more: the same where it is looked at
 next : (ignored : ℕ → Bool) (M i v w : ℕ) (t u : List ℕ) → (ignored i ≡ false → v ≡ w) → first_above ignored M (suc i) t ≡ first_above ignored M (suc i) u
-    → cond (leb v M || ignored i) (first_above ignored M (suc i) t) (some i) ≡ cond (leb w M || ignored i) (first_above ignored M (suc i) u) (some i)
+    → cond (leb v M || ignored i) (first_above ignored M (suc i) t) (Some i) ≡ cond (leb w M || ignored i) (first_above ignored M (suc i) u) (Some i)
 next ignored M i v w t u f rest = go (ignored i) refl
   where
-    skipped : (a b : Bool) → cond (a || true) (first_above ignored M (suc i) t) (some i) ≡ cond (b || true) (first_above ignored M (suc i) u) (some i)
+    skipped : (a b : Bool) → cond (a || true) (first_above ignored M (suc i) t) (Some i) ≡ cond (b || true) (first_above ignored M (suc i) u) (Some i)
     skipped true true = rest
     skipped true false = rest
     skipped false true = rest
     skipped false false = rest
 
-    looked : (a : Bool) → cond a (first_above ignored M (suc i) t) (some i) ≡ cond a (first_above ignored M (suc i) u) (some i)
+    looked : (a : Bool) → cond a (first_above ignored M (suc i) t) (Some i) ≡ cond a (first_above ignored M (suc i) u) (Some i)
     looked true = rest
     looked false = refl
 
     go : (b : Bool) → ignored i ≡ b
-        → cond (leb v M || ignored i) (first_above ignored M (suc i) t) (some i) ≡ cond (leb w M || ignored i) (first_above ignored M (suc i) u) (some i)
+        → cond (leb v M || ignored i) (first_above ignored M (suc i) t) (Some i) ≡ cond (leb w M || ignored i) (first_above ignored M (suc i) u) (Some i)
     go true g = rw g (skipped (leb v M) (leb w M))
     go false g = let same : v ≡ w = f g in rw (g, same) (looked (leb w M || false))
 
@@ -170,12 +170,12 @@ ignored_samples d bases t u h before after after' answer answer' parses S L L' =
     b : ℕ
     b = length before.records
 
-    from : (p : Parsed) → lossy_begins d (length bases) (length u) a b ≡ p → LeftLossy bases t p before after answer → LeftLossy bases u p before after' answer'
+    from : (p : Result FujiHeader Refusal) → lossy_begins d (length bases) (length u) a b ≡ p → LeftLossy bases t p before after answer → LeftLossy bases u p before after' answer'
         → (answer ≡ answer') × (after ≡ after')
-    from (Parsing.Refused x) o K K' = (K.0 ∙ sym K'.0, K.1 ∙ sym K'.1)
-    from (Parsing.Header g) o K K' =
+    from (Err x) o K K' = (K.0 ∙ sym K'.0, K.1 ∙ sym K'.1)
+    from (Ok g) o K K' =
         let G = lossy_goes d (length u) a b g (length bases) o in
-        let is : Parsing.Header g ≡ Parsing.Header h = sym G.0.parses ∙ parses in
+        let is : Ok g ≡ Ok h = sym G.0.parses ∙ parses in
         let same_header : g ≡ h = cc in
         let S' : SameWhereCoded g.xtrans t u = rw same_header S in
         let free : is_strict bases ≡ false = ne_eqb (length bases) 0 (λ e. omega (arith, G.1, G.0.set.is_ruled.lines_low)) in

@@ -1,7 +1,6 @@
 -- Lossy blocks read back. Assumes nothing.
 use mathlib.Core.Bool.{Bool, false}
 use mathlib.Core.List.{List}
-use mathlib.Core.Option.{none, some}
 use mathlib.Core.Path.{◌≡◌, refl}
 use Prim.Native.Nat.{ℕ, suc, ◌+◌, ◌*◌, ◌/◌, ◌%◌, ◌≤◌, ◌<◌}
 use native.Mathlib.Omega.{arith}
@@ -16,7 +15,6 @@ use Rattle.theorem_one_to_one.proofs.ListBack.{base_le}
 use Rattle.image_map.specs.Places.{width_of}
 use Rattle.colour_lines.specs.Sets.{line_size, set_size, line_of_rank, index_in, line_at, colour_line_at, position_at}
 use Rattle.write_pass.proofs.SetLaws.{passes_lines, line_lt, rank_lt, position_lt, index_at}
-use Rattle.stream.specs.declared.BlockLength.TheVariants.{Length}
 use Rattle.stream.proofs.HeaderLaws.{ruled}
 use Rattle.read_block.specs.Records.{base_of}
 use Rattle.read_block.specs.Blocks.{read_lines, lines_of}
@@ -30,6 +28,7 @@ use Rattle.theorem_one_to_one.proofs.BlockTwins.{Shown}
 use Rattle.theorem_one_to_one.proofs.WrittenBack.{ReadWhole, read_whole}
 use Rattle.theorem_lossy.specs.LossyBlocks.{pass_of, base_at, ReadsNear, LossyBlock, LossyBlocks}
 use Rattle.theorem_lossy.proofs.NeverWrong.{not_strict, never_wrong}
+use Rattle.std.specs.Prelude.{Ok, None, Some}
 
 -- ---- the pass of a colour line
 
@@ -51,7 +50,7 @@ module _ (F : Form) (bases s t : List ℕ) (n : ℕ) (S : Shown F bases s t n) w
 
   abbrev NearAt : ℕ → ℕ → Type 0
   NearAt l p =
-      (b : ℕ) × (base_at F bases s n l p ≡ some b) × (b ≤ base_of bases n) × IsNear b (get_or t (index_in W n l p) 0) (get_or lines (l * (W + 2) + p + 1) 0)
+      (b : ℕ) × (base_at F bases s n l p ≡ Some b) × (b ≤ base_of bases n) × IsNear b (get_or t (index_in W n l p) 0) (get_or lines (l * (W + 2) + p + 1) 0)
 
   Coded : ℕ → Type 0
   Coded l = (p : ℕ) → p < W → is_interpolated F.xtrans l p ≡ false → NearAt l p
@@ -80,8 +79,8 @@ module _ (F : Form) (bases : List ℕ) (count : ℕ) (t s : List ℕ) (shown : (
 
 -- ---- the block
 
-module _ (F : Form) (bases : List ℕ) (depth : Depth F.bits) (count : ℕ) (t : List ℕ) (some-bases : 1 ≤ length bases) (low : above_in F bases t ≡ none) where
-  right : (write_lines F bases t count).wrong ≡ none
+module _ (F : Form) (bases : List ℕ) (depth : Depth F.bits) (count : ℕ) (t : List ℕ) (some-bases : 1 ≤ length bases) (low : above_in F bases t ≡ None) where
+  right : (write_lines F bases t count).wrong ≡ None
   right = never_wrong F bases t (not_strict bases some-bases) count
 
   pub lossy_block : LossyBlock F bases count t (written_block F bases count t)
@@ -96,7 +95,7 @@ module _ (F : Form) (bases : List ℕ) (depth : Depth F.bits) (count : ℕ) (t :
       }
 
   pub lossy_answered : (room : ℕ) → length (written_block F bases count t) ≤ room
-      → set_answer F bases count t room ≡ Length (length (written_block F bases count t))
+      → set_answer F bases count t room ≡ Ok (length (written_block F bases count t))
   unfolding set_answer measured_answer
   lossy_answered room h = rw (low, right, le-ltb room (length (written_block F bases count t)) h)
 

@@ -1,7 +1,6 @@
 -- A set with bases is not held to its predictions: no sample of it is wrong. Assumes nothing.
 use mathlib.Core.Bool.{Bool, true, false}
 use mathlib.Core.List.{List, [], ◌∷◌}
-use mathlib.Core.Option.{Option, none, some}
 use mathlib.Core.Path.{◌≡◌, refl, ap, ◌∙◌}
 use Prim.Native.Nat.{ℕ, zero, suc, ◌≤◌}
 use native.Mathlib.Omega.{arith}
@@ -15,13 +14,14 @@ use Rattle.write_pass.proofs.WriteLaws.{write_coded, write_interpolated}
 use Rattle.read_block.specs.Records.{base_of}
 use Rattle.write_block.specs.WrittenBlocks.{WriteState, repeats, enter_writing, write_pass_at, before_writing, is_strict, write_line, start_writing, write_lines}
 use Rattle.read_block.specs.declared.Form.{Form}
+use Rattle.std.specs.Prelude.{None, Option, Some}
 
 pub not_strict : (bases : List ℕ) → 1 ≤ length bases → is_strict bases ≡ false
 not_strict bases h = ne_eqb (length bases) 0 (λ e. omega arith)
 
-first_alone : (a : Option ℕ) → or_second a none ≡ a
-first_alone none = refl
-first_alone (some i) = refl
+first_alone : (a : Option ℕ) → or_second a None ≡ a
+first_alone None = refl
+first_alone (Some i) = refl
 
 module _ (bits q W : ℕ) (t : List ℕ) (n : ℕ) where
   step_keeps_wrong : (x : Step) (r : Writing) → (write_step bits q W false t n x r).wrong ≡ r.wrong
@@ -55,6 +55,6 @@ module _ (F : Form) (bases t : List ℕ) (free : is_strict bases ≡ false) wher
   unfolding write_line
   line_keeps_wrong n r = repeats_keep_wrong (write_pass_at F (base_of bases n) (is_strict bases) t n) (pass_keeps_wrong n) 6 (before_writing F bases n r)
 
-  pub never_wrong : (lines : ℕ) → (write_lines F bases t lines).wrong ≡ none
+  pub never_wrong : (lines : ℕ) → (write_lines F bases t lines).wrong ≡ None
   unfolding write_lines start_writing
   never_wrong lines = repeats_keep_wrong (write_line F bases t) line_keeps_wrong lines (start_writing F bases)

@@ -2,11 +2,11 @@
 -- Assumes nothing.
 use mathlib.Core.Bool.{true, false}
 use mathlib.Core.List.{[], ◌∷◌}
-use mathlib.Core.Option.{none, some}
 use mathlib.Core.Path.{◌≡◌, refl}
 use Rattle.pass_schedule.specs.Steps.{is_interpolated}
 use Rattle.colour_lines.specs.Sets.{line_of_rank}
 use Rattle.admission.specs.Above.{is_ignored, first_above}
+use Rattle.std.specs.Prelude.{None, Some}
 
 ignored_0 : is_ignored true false 0 ≡ true
 unfolding is_ignored is_interpolated line_of_rank
@@ -17,19 +17,19 @@ unfolding is_ignored is_interpolated line_of_rank
 coded_1 = refl
 
 -- 5000 at index 0 alone is taken with 12 bits; at index 1 it is named, though index 0 has it too
-taken : first_above (is_ignored true false) 4095 0 (5000 ∷ 4095 ∷ []) ≡ none
+taken : first_above (is_ignored true false) 4095 0 (5000 ∷ 4095 ∷ []) ≡ None
 unfolding first_above is_ignored is_interpolated line_of_rank
 taken = refl
 
-named : first_above (is_ignored true false) 4095 0 (5000 ∷ 5000 ∷ []) ≡ some 1
+named : first_above (is_ignored true false) 4095 0 (5000 ∷ 5000 ∷ []) ≡ Some 1
 unfolding first_above is_ignored is_interpolated line_of_rank
 named = refl
 
 -- the lossless writer, and Bayer, look at index 0 too
-strict : first_above (is_ignored true true) 4095 0 (5000 ∷ 4095 ∷ []) ≡ some 0
+strict : first_above (is_ignored true true) 4095 0 (5000 ∷ 4095 ∷ []) ≡ Some 0
 unfolding first_above is_ignored
 strict = refl
 
-bayer : first_above (is_ignored false false) 4095 0 (5000 ∷ 4095 ∷ []) ≡ some 0
+bayer : first_above (is_ignored false false) 4095 0 (5000 ∷ 4095 ∷ []) ≡ Some 0
 unfolding first_above is_ignored is_interpolated
 bayer = refl

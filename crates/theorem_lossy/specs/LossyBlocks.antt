@@ -1,7 +1,6 @@
 -- Promises. The block that the lossy writer writes is read whole by the ordinary rules with its bases, and ends where the writer says. Each sample that has a code reads
 -- back within the base of the quantiser that coded it. Over all bases and depths. Assumes nothing.
-use Rattle.std.specs.Prelude.{true, false, List, [], ◌∷◌, ◌++◌, ◌≢◌, ◌≡◌, ℕ, ◌≤◌, ◌<◌, length, get_or, drop}
-use Rattle.std.proofs.Math.Option.{Option, none, some}
+use Rattle.std.specs.Prelude.{true, false, List, [], ◌∷◌, ◌++◌, ◌≢◌, ◌≡◌, ℕ, ◌≤◌, ◌<◌, length, get_or, drop, Err, Ok, Result, None, Option, Some}
 use Rattle.bits.specs.BitLists.{is_tail}
 use Rattle.pass_schedule.specs.Steps.{plan_of, pass_steps, is_interpolated}
 use Rattle.read_pass.specs.Readings.{and_then}
@@ -10,11 +9,7 @@ use Rattle.image_map.specs.Places.{width_of}
 use Rattle.colour_lines.specs.Sets.{set_size, line_at, colour_line_at, position_at}
 use Rattle.stream.specs.Headers.{parse_of}
 use Rattle.stream.specs.Refusals.{no_refusal}
-use Rattle.stream.specs.declared.BlockLength.{BlockLength}
-use Rattle.stream.specs.declared.BlockLength.TheVariants.{Length, Refused}
 use Rattle.stream.specs.declared.header.FujiHeader.{FujiHeader}
-use Rattle.stream.specs.declared.header.Parsed.{Parsed}
-use Rattle.stream.specs.declared.header.Parsed.TheVariants.{Header}
 use Rattle.stream.specs.declared.header.Refusal.TheVariants.{NotPredicted}
 use Rattle.admission.specs.Writings.{lossy_begins}
 use Rattle.read_block.specs.Records.{base_of}
@@ -26,6 +21,7 @@ use Rattle.write_block.specs.Words.{ToldLossy}
 use Rattle.write_block.specs.WrittenAnswers.{above_in, set_answer, LeftLossy}
 use Rattle.write_block.specs.WrittenBlocks.{written_block}
 use Rattle.read_block.specs.declared.Form.{Form}
+use Rattle.stream.specs.declared.header.Refusal.{Refusal}
 
 -- ---- the base by which a sample was coded
 
@@ -48,14 +44,14 @@ base_at F bases s n l p =
 -- index j of the set t reads back from the block s within that base, which is at most the one of its line
 pub record ReadsNear (F : Form) (bases t s : List ℕ) (j : ℕ) : Type 0 where
   pub base : ℕ
-  pub used : let W = width_of F.xtrans in base_at F bases s (line_at W j) (colour_line_at W j) (position_at W j) ≡ some base
+  pub used : let W = width_of F.xtrans in base_at F bases s (line_at W j) (colour_line_at W j) (position_at W j) ≡ Some base
   pub low : base ≤ base_of bases (line_at (width_of F.xtrans) j)
   pub near : IsNear base (get_or t j 0) (read_sample F bases s j)
 
 pub record LossyBlock (F : Form) (bases : List ℕ) (lines : ℕ) (t s : List ℕ) : Type 0 where
   -- all lines are read, each code is short or long as in a tight block, and zeros follow the last code up to 16 bytes
   pub end : State
-  pub read : read_lines F bases s lines ≡ some end
+  pub read : read_lines F bases s lines ≡ Some end
   pub codes : end.tight ≡ true
   pub tail : is_tail s end.at.0 ≡ true
   -- each sample that has a code reads back
@@ -65,37 +61,37 @@ pub record LossyBlock (F : Form) (bases : List ℕ) (lines : ℕ) (t s : List �
 -- that is the block that is written, and its length is answered where there is room for it
 pub record Writes (F : Form) (bases : List ℕ) (lines : ℕ) (t : List ℕ) : Type 0 where
   pub block : LossyBlock F bases lines t (written_block F bases lines t)
-  pub answered : (room : ℕ) → length (written_block F bases lines t) ≤ room → set_answer F bases lines t room ≡ Length (length (written_block F bases lines t))
+  pub answered : (room : ℕ) → length (written_block F bases lines t) ≤ room → set_answer F bases lines t room ≡ Ok (length (written_block F bases lines t))
 
 -- under every lossy header that breaks no rule, for as many bases as lines and every set of the right size of which no sample that has a code is
 -- above 2^bits − 1
 abbrev pub LossyBlocks : Type 0
 LossyBlocks =
-    (d bases t : List ℕ) (h : FujiHeader) → parse_of d ≡ Header h → h.lossless ≡ false
-    → length bases ≡ h.lines → length t ≡ set_size (width_of h.xtrans) h.lines → above_in (form_of h) bases t ≡ none
+    (d bases t : List ℕ) (h : FujiHeader) → parse_of d ≡ Ok h → h.lossless ≡ false
+    → length bases ≡ h.lines → length t ≡ set_size (width_of h.xtrans) h.lines → above_in (form_of h) bases t ≡ None
     → Writes (form_of h) bases h.lines t
 
 -- ---- calls of `write_lossy`
 
 -- how one begins
-abbrev pub lossy_of : (d bases t : List ℕ) → Outputs → Parsed
+abbrev pub lossy_of : (d bases t : List ℕ) → Outputs → Result FujiHeader Refusal
 lossy_of d bases t before = lossy_begins d (length bases) (length t) (length before.lines) (length before.records)
 
 -- one that answers the length n: the output starts with a block of that length, which reads back, and goes on as it was
 pub record LossyWritten (d bases t : List ℕ) (before after : Outputs) (n : ℕ) : Type 0 where
   pub header : FujiHeader
-  pub parses : parse_of d ≡ Header header
+  pub parses : parse_of d ≡ Ok header
   pub block : List ℕ
   pub output : after.out ≡ block ++ drop n before.out
   pub size : length block ≡ n
   pub reads : LossyBlock (form_of header) bases header.lines t block
 
 pub record LossyCalls : Type 0 where
-  pub written : (d bases t : List ℕ) (before after : Outputs) (n : ℕ) → LeftLossy bases t (lossy_of d bases t before) before after (Length n)
+  pub written : (d bases t : List ℕ) (before after : Outputs) (n : ℕ) → LeftLossy bases t (lossy_of d bases t before) before after (Ok n)
       → LossyWritten d bases t before after n
   -- refusal 12 is never given
-  pub never_12 : (d bases t : List ℕ) (before after : Outputs) (a : BlockLength) → LeftLossy bases t (lossy_of d bases t before) before after a
-      → (j : ℕ) → a ≢ Refused (NotPredicted j)
+  pub never_12 : (d bases t : List ℕ) (before after : Outputs) (a : Result ℕ Refusal) → LeftLossy bases t (lossy_of d bases t before) before after a
+      → (j : ℕ) → a ≢ Err (NotPredicted j)
   -- the same from C: no refusal, and the length
   pub from_c : (d bases t : List ℕ) (before after : Outputs) (size words : List ℕ) → ToldLossy d bases t before after size words → words ≡ no_refusal
       → (n : ℕ) × (size ≡ n ∷ []) × LossyWritten d bases t before after n

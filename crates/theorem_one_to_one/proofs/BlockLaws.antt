@@ -1,7 +1,6 @@
 -- The set that is read from a block, and its tail. Assumes nothing.
 use mathlib.Core.Bool.{true, false}
 use mathlib.Core.List.{List, []}
-use mathlib.Core.Option.{Option, none, some}
 use mathlib.Core.Path.{◌≡◌, refl, ◌∙◌}
 use Prim.Native.Nat.{ℕ, suc, ◌+◌, ◌-◌, ◌*◌, ◌≤◌, ◌<◌, zero-le}
 use native.Mathlib.Omega.{arith}
@@ -22,6 +21,7 @@ use Rattle.read_block.specs.TightBlocks.{read_sample, set_read}
 use Rattle.read_block.specs.declared.Form.{Form}
 use Rattle.read_block.proofs.SampleLaws.{samples_in_range}
 use Rattle.read_block.proofs.TableLaws.{table_length, table_get_d}
+use Rattle.std.specs.Prelude.{None, Option, Some}
 
 -- ---- the set
 
@@ -49,8 +49,8 @@ module _ (F : Form) (lines : ℕ) (s : List ℕ) where
   read_le high n j = go (read_lines F [] s n) refl
     where
       go : (o : Option State) → read_lines F [] s n ≡ o → get_or (lines_of o) j 0 ≤ largest F.bits
-      go none e = zero-le
-      go (some z) e = samples_in_range F [] s n z high e j
+      go None e = zero-le
+      go (Some z) e = samples_in_range F [] s n z high e j
 
   pub set_le : F.bits ≤ 16 → (j : ℕ) → get_or (set_read F lines s) j 0 ≤ largest F.bits
   set_le high j =

@@ -1,7 +1,6 @@
 -- A block, read and written. Assumes nothing.
 use mathlib.Core.Bool.{true}
 use mathlib.Core.List.{List, []}
-use mathlib.Core.Option.{some}
 use mathlib.Core.Path.{◌≡◌, refl}
 use Prim.Native.Nat.{ℕ, suc, ◌+◌, ◌*◌, ◌≤◌, ◌<◌, zero-le}
 use native.Mathlib.Nat.{le_refl}
@@ -24,6 +23,7 @@ use Rattle.write_block.proofs.WrittenLaws.{line_adds, line_right}
 use Rattle.theorem_one_to_one.proofs.RunTwins.{write_state_of, CleanState, StoredState, StateForward, stored_before, Each, runs_forward, runs_backward}
 use Rattle.theorem_one_to_one.proofs.PassTwins.{SoundState}
 use Rattle.theorem_one_to_one.proofs.LineTwins.{LineHolds, LineLeft, line_sound, line_forward, line_backward}
+use Rattle.std.specs.Prelude.{Some}
 
 -- ---- the start
 
@@ -45,7 +45,7 @@ module _ (F : Form) (bases s : List ℕ) where
       let W : ℕ = width_of F.xtrans in
       record { long = length-replicate (18 * (W + 2)) 0; small = zeros_le (largest F.bits) (18 * (W + 2)) }
 
-  next_read : (n : ℕ) (y z : State) → runs (read_line_at F bases s) n start ≡ some y → read_line_at F bases s n y ≡ some z → read_lines F bases s (suc n) ≡ some z
+  next_read : (n : ℕ) (y z : State) → runs (read_line_at F bases s) n start ≡ Some y → read_line_at F bases s n y ≡ Some z → read_lines F bases s (suc n) ≡ Some z
   unfolding read_lines runs and_then start
   next_read n y z e f = rw e f
 
@@ -65,12 +65,12 @@ module _ (F : Form) (bases s : List ℕ) where
 
 -- what is left of line m of the set t, by the state before it and in the lines after it
 abbrev pub Shown : Form → (bases s t : List ℕ) → ℕ → Type 0
-Shown F bases s t m = (r : State) × (read_lines F bases s m ≡ some r) × LineLeft F bases s t m r (lines_of (read_lines F bases s (suc m)))
+Shown F bases s t m = (r : State) × (read_lines F bases s m ≡ Some r) × LineLeft F bases s t m r (lines_of (read_lines F bases s (suc m)))
 
 module _ (F : Form) (bases : List ℕ) (depth : Depth F.bits) (s t : List ℕ) where
   -- where the bits of n lines stand, the lines are read
   pub lines_forward : SetWanted F t → (n : ℕ) → StoredState s (write_lines F bases t n)
-      → (z : State) × ((read_lines F bases s n ≡ some z) × CleanState s z × (write_lines F bases t n ≡ write_state_of s z) × ((m : ℕ) → m < n
+      → (z : State) × ((read_lines F bases s n ≡ Some z) × CleanState s z × (write_lines F bases t n ≡ write_state_of s z) × ((m : ℕ) → m < n
       → Shown F bases s t m))
   unfolding read_lines write_lines start
   lines_forward range n stored =
@@ -81,7 +81,7 @@ module _ (F : Form) (bases : List ℕ) (depth : Depth F.bits) (s t : List ℕ) w
       let T = all.1.0 in
       (all.0, (T.read, T.clean, rw (start_same F bases s) T.same, all.1.1))
     where
-      one : (i : ℕ) (y : State) → i < n → runs (read_line_at F bases s) i (start F bases s) ≡ some y → SoundState F y → CleanState s y
+      one : (i : ℕ) (y : State) → i < n → runs (read_line_at F bases s) i (start F bases s) ≡ Some y → SoundState F y → CleanState s y
           → StoredState s (write_line F bases t i (write_state_of s y))
           → (z : State) × (StateForward s (read_line_at F bases s i) (write_line F bases t i) y z × Shown F bases s t i)
       one i y h e ok clean st =
@@ -110,7 +110,7 @@ shown_exact F s t m S =
 
 module _ (F : Form) (Q : Lossless F.bits) (s t : List ℕ) where
   -- where n lines were read, and show the set's samples, their bits stand
-  pub lines_backward : (n : ℕ) (z : State) → read_lines F [] s n ≡ some z → CleanState s z → ((m : ℕ) → m < n → Shows F s t m)
+  pub lines_backward : (n : ℕ) (z : State) → read_lines F [] s n ≡ Some z → CleanState s z → ((m : ℕ) → m < n → Shows F s t m)
       → write_lines F [] t n ≡ write_state_of s z
   unfolding read_lines write_lines start
   lines_backward n z e clean shows =

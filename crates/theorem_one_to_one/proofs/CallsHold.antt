@@ -9,15 +9,12 @@ use lib.Dec.{ltb}
 use lib.ListN.{length}
 use borrow.Author.Tests.{eq-eqb, ltb-true, ltb-false}
 use Rattle.image_map.specs.Places.{width_of}
-use Rattle.stream.specs.declared.BlockLength.{BlockLength}
-use Rattle.stream.specs.declared.BlockLength.TheVariants.{Length, Refused}
 use Rattle.stream.specs.declared.header.FujiHeader.{FujiHeader}
 use Rattle.stream.specs.Headers.{parse_of}
 use Rattle.stream.specs.Lengths.{length_word, length_refusal}
 use Rattle.stream.specs.Refusals.{refusal_number, no_refusal}
 use Rattle.stream.specs.declared.header.Refusal.{Refusal}
 use Rattle.stream.specs.declared.header.Refusal.TheVariants.{ShortScratch}
-use Rattle.stream.specs.declared.header.Parsed.TheVariants as Parsing
 use Rattle.stream.proofs.RefusalLaws.{number_low}
 use Rattle.admission.specs.Beginnings.{samples_needed, records_needed, with_scratch}
 use Rattle.admission.specs.Writings.{writing_begins}
@@ -31,13 +28,14 @@ use Rattle.theorem_one_to_one.specs.Correspondence.{TightBlockOf}
 use Rattle.theorem_one_to_one.specs.Calls.{LongEnough, Starts, CorrespondenceOfCalls, CorrespondenceOfCallsFromC}
 use Rattle.theorem_one_to_one.proofs.CorrespondenceHolds.{correspondence_of_headers}
 use Rattle.theorem_one_to_one.proofs.WriterHolds.{correspondence_of_writers}
+use Rattle.std.specs.Prelude.{Err, Ok, Result}
 
-clash : {X : Type 0} (r : Refusal) (n : ℕ) → Refused r ≡ Length n → X
+clash : {X : Type 0} (r : Refusal) (n : ℕ) → Err r ≡ Ok n → X
 clash r n e = let no : ◌≡◌ {A = ℕ} 0 1 = cc in absurd (omega arith)
 
-module _ (d : List ℕ) (h : FujiHeader) (e : parse_of d ≡ Parsing.Header h) (lossless : h.lossless ≡ true) (t : List ℕ)
+module _ (d : List ℕ) (h : FujiHeader) (e : parse_of d ≡ Ok h) (lossless : h.lossless ≡ true) (t : List ℕ)
     (b : TightBlockOf (form_of h) h.lines t)
-    (before after : Outputs) (answer : BlockLength) where
+    (before after : Outputs) (answer : Result ℕ Refusal) where
   abbrev n : ℕ
   n = length b.block
 
@@ -48,7 +46,7 @@ module _ (d : List ℕ) (h : FujiHeader) (e : parse_of d ≡ Parsing.Header h) (
   records = length before.records
 
   abbrev Put : Type 0
-  Put = (answer ≡ Length n) × Starts b.block before after
+  Put = (answer ≡ Ok n) × Starts b.block before after
 
   size : length t ≡ set_size (width_of h.xtrans) h.lines
   size = (((correspondence_of_headers d h e lossless).sets t).1 b).size
@@ -58,7 +56,7 @@ module _ (d : List ℕ) (h : FujiHeader) (e : parse_of d ≡ Parsing.Header h) (
   begins = rw (e, lossless, eq-eqb (length t) (set_size (width_of h.xtrans) h.lines) size)
 
   -- scratch is too short
-  short : answer ≡ Refused ShortScratch → (LongEnough h b.block before → answer ≡ Length n) → Put ↔ LongEnough h b.block before
+  short : answer ≡ Err ShortScratch → (LongEnough h b.block before → answer ≡ Ok n) → Put ↔ LongEnough h b.block before
   short a can = (λ p. clash ShortScratch n (sym a ∙ p.0), λ l. clash ShortScratch n (sym a ∙ can l))
 
   done : SetWriting [] t h before after answer → samples_needed h.xtrans ≤ samples → records_needed ≤ records → Put ↔ LongEnough h b.block before
@@ -66,12 +64,12 @@ module _ (d : List ℕ) (h : FujiHeader) (e : parse_of d ≡ Parsing.Header h) (
     λ p. record { out = (written_fits (form_of h) h.lines t (length before.out) n size (sym L.answered ∙ p.0)).2; lines = hl; records = hr },
     λ l. let a = (correspondence_of_writers d h e lossless).answered t before.out b l.out in
         let w = (correspondence_of_writers d h e lossless).whole t before.out n size a in
-        let is : answer ≡ Length n = L.answered ∙ a in
-        (is, L.output ∙ ap (λ (x : BlockLength). written_out x (tight_block (form_of h) h.lines t) before.out) L.answered ∙ w.output ∙ rw (w.only b)),
+        let is : answer ≡ Ok n = L.answered ∙ a in
+        (is, L.output ∙ ap (λ (x : Result ℕ Refusal). written_out x (tight_block (form_of h) h.lines t) before.out) L.answered ∙ w.output ∙ rw (w.only b)),
   )
 
   go : (p q : Bool) → ltb samples (samples_needed h.xtrans) ≡ p → ltb records records_needed ≡ q
-      → LeftWritten t (cond (p || q) (Parsing.Refused ShortScratch) (Parsing.Header h)) before after answer → Put ↔ LongEnough h b.block before
+      → LeftWritten t (cond (p || q) (Err ShortScratch) (Ok h)) before after answer → Put ↔ LongEnough h b.block before
   go true q ep eq L = short L.0 (λ l. absurd (omega (arith, ltb-true samples (samples_needed h.xtrans) ep, l.lines)))
   go false true ep eq L = short L.0 (λ l. absurd (omega (arith, ltb-true records records_needed eq, l.records)))
   go false false ep eq L = done L (ltb-false samples (samples_needed h.xtrans) ep) (ltb-false records records_needed eq)
@@ -85,9 +83,9 @@ correspondence_of_calls d h e lossless t b before after answer L = call d h e lo
 -- ---- from C
 
 -- a length is told by no refusal, and a refusal is not
-told_length : (a : BlockLength) (n : ℕ) → n ∷ [] ≡ length_word a → no_refusal ≡ length_refusal a → a ≡ Length n
-told_length (Length m) n e f = let q : n ≡ m = cc in ap Length (sym q)
-told_length (Refused r) n e f = let q : 0 ≡ refusal_number r = cc in absurd (omega (arith, number_low r))
+told_length : (a : Result ℕ Refusal) (n : ℕ) → n ∷ [] ≡ length_word a → no_refusal ≡ length_refusal a → a ≡ Ok n
+told_length (Ok m) n e f = let q : n ≡ m = cc in ap Ok (sym q)
+told_length (Err r) n e f = let q : 0 ≡ refusal_number r = cc in absurd (omega (arith, number_low r))
 
 pub correspondence_of_calls_from_c : CorrespondenceOfCallsFromC
 correspondence_of_calls_from_c d h e lossless t b before after size_word words T =

@@ -1,7 +1,6 @@
 -- The sample that refusal 12 names is the first in coding order that differs from its prediction. Assumes nothing.
 use mathlib.Core.Bool.{Bool, true, false, cond, not, ◌||◌}
 use mathlib.Core.List.{List, [], ◌∷◌, ◌++◌}
-use mathlib.Core.Option.{Option, none, some}
 use mathlib.Core.Path.{◌≡◌, refl, sym, ap, ◌∙◌}
 use Prim.Native.Nat.{ℕ, zero, suc, ◌≤◌, ◌<◌}
 use native.Mathlib.Omega.{arith}
@@ -16,7 +15,6 @@ use Rattle.pass_schedule.proofs.PlanLaws.{interpolated_even, CodedIn, steps_code
 use Rattle.pass_steps.specs.Contexts.{step_context}
 use Rattle.image_map.specs.Places.{width_of}
 use Rattle.colour_lines.specs.Sets.{index_in}
-use Rattle.stream.specs.declared.BlockLength.TheVariants.{Length, Refused}
 use Rattle.stream.specs.declared.header.Refusal.{Refusal}
 use Rattle.stream.specs.declared.header.Refusal.TheVariants.{AboveLargest, NotPredicted, ShortOutput}
 use Rattle.stream.specs.Refusals.{refusal_number}
@@ -34,39 +32,40 @@ use Rattle.theorem_one_to_one.proofs.PredictedPasses.{LineOf, lines_of, all_in_p
 use Rattle.theorem_one_to_one.proofs.PredictedLines.{Found, entered, prediction_is}
 use Rattle.theorem_one_to_one.proofs.PredictedBlocks.{even, positive, PassRight, passes_found}
 use Rattle.theorem_one_to_one.proofs.PredictedBlocks.{passes_wrong, before_small, lines_found, lines_wrong}
+use Rattle.std.specs.Prelude.{Err, Ok, None, Option, Some, Result}
 
-none_some : {X : Type 0} (j : ℕ) → none ≡ some j → X
+none_some : {X : Type 0} (j : ℕ) → None ≡ Some j → X
 none_some j e = let no : ◌≡◌ {A = ℕ} 0 1 = cc in absurd (omega arith)
 
-same_some : (k j : ℕ) → some k ≡ some j → k ≡ j
+same_some : (k j : ℕ) → Some k ≡ Some j → k ≡ j
 same_some k j e = cc
 
 -- ---- steps
 
 module _ (bits W : ℕ) (t : List ℕ) (n : ℕ) where
-  step_some : (x : Step) (r : Writing) (k : ℕ) → r.wrong ≡ some k → (write_step bits 0 W true t n x r).wrong ≡ some k
+  step_some : (x : Step) (r : Writing) (k : ℕ) → r.wrong ≡ Some k → (write_step bits 0 W true t n x r).wrong ≡ Some k
   step_some x r k e = go x.coded refl
     where
-      go : (b : Bool) → x.coded ≡ b → (write_step bits 0 W true t n x r).wrong ≡ some k
+      go : (b : Bool) → x.coded ≡ b → (write_step bits 0 W true t n x r).wrong ≡ Some k
       go true c = rw (write_coded bits 0 W true t n x r c) e
       go false c = rw (write_interpolated bits 0 W true t n x r c, e)
 
-  writes_some : (l : List Step) (r : Writing) (k : ℕ) → r.wrong ≡ some k → (writes bits 0 W true t n l r).wrong ≡ some k
+  writes_some : (l : List Step) (r : Writing) (k : ℕ) → r.wrong ≡ Some k → (writes bits 0 W true t n l r).wrong ≡ Some k
   unfolding writes
   writes_some [] r k e = e
   writes_some (x ∷ l) r k e = writes_some l (write_step bits 0 W true t n x r) k (step_some x r k e)
 
   -- a step that is the first to be wrong
-  step_first : (x : Step) (r : Writing) (j : ℕ) → r.wrong ≡ none → (write_step bits 0 W true t n x r).wrong ≡ some j
+  step_first : (x : Step) (r : Writing) (j : ℕ) → r.wrong ≡ None → (write_step bits 0 W true t n x r).wrong ≡ Some j
       → (x.coded ≡ false) × (j ≡ index_in W n x.line x.position)
   step_first x r j e w = go x.coded refl
     where
-      index : (b : Bool) → cond (not b) (some (index_in W n x.line x.position)) none ≡ some j → j ≡ index_in W n x.line x.position
+      index : (b : Bool) → cond (not b) (Some (index_in W n x.line x.position)) None ≡ Some j → j ≡ index_in W n x.line x.position
       index true q = none_some j q
       index false q = sym (same_some (index_in W n x.line x.position) j q)
 
       go : (b : Bool) → x.coded ≡ b → (x.coded ≡ false) × (j ≡ index_in W n x.line x.position)
-      go true c = let q : r.wrong ≡ some j = rw (write_coded bits 0 W true t n x r c) at w in none_some j (sym e ∙ q)
+      go true c = let q : r.wrong ≡ Some j = rw (write_coded bits 0 W true t n x r c) at w in none_some j (sym e ∙ q)
       go false c = (c, index (eqb (wanted W t n x) (step_context W x r.lines).prediction) (rw (write_interpolated bits 0 W true t n x r c, e) at w))
 
   record Split (l : List Step) (r : Writing) (j : ℕ) : Type 0 where
@@ -74,19 +73,19 @@ module _ (bits W : ℕ) (t : List ℕ) (n : ℕ) where
     step : Step
     after : List Step
     order : l ≡ before ++ step ∷ after
-    right : (writes bits 0 W true t n before r).wrong ≡ none
-    wrong : (writes bits 0 W true t n (before ++ step ∷ []) r).wrong ≡ some j
+    right : (writes bits 0 W true t n before r).wrong ≡ None
+    wrong : (writes bits 0 W true t n (before ++ step ∷ []) r).wrong ≡ Some j
     coded : step.coded ≡ false
     index : j ≡ index_in W n step.line step.position
 
-  first_split : (l : List Step) (r : Writing) (j : ℕ) → r.wrong ≡ none → (writes bits 0 W true t n l r).wrong ≡ some j → Split l r j
+  first_split : (l : List Step) (r : Writing) (j : ℕ) → r.wrong ≡ None → (writes bits 0 W true t n l r).wrong ≡ Some j → Split l r j
   unfolding writes
   first_split [] r j e w = none_some j (sym e ∙ w)
   first_split (x ∷ l) r j e w = go (write_step bits 0 W true t n x r).wrong refl (λ q. first_split l (write_step bits 0 W true t n x r) j q w)
     where
       go : (o : Option ℕ) → (write_step bits 0 W true t n x r).wrong ≡ o
-          → ((write_step bits 0 W true t n x r).wrong ≡ none → Split l (write_step bits 0 W true t n x r) j) → Split (x ∷ l) r j
-      go none q f =
+          → ((write_step bits 0 W true t n x r).wrong ≡ None → Split l (write_step bits 0 W true t n x r) j) → Split (x ∷ l) r j
+      go None q f =
           let S = f q in
           record {
             before = x ∷ S.before;
@@ -98,43 +97,43 @@ module _ (bits W : ℕ) (t : List ℕ) (n : ℕ) where
             coded = S.coded;
             index = S.index;
           }
-      go (some k) q f =
+      go (Some k) q f =
           let is : k ≡ j = same_some k j (sym (writes_some l (write_step bits 0 W true t n x r) k q) ∙ w) in
-          let here : (write_step bits 0 W true t n x r).wrong ≡ some j = rw is at q in
+          let here : (write_step bits 0 W true t n x r).wrong ≡ Some j = rw is at q in
           let s = step_first x r j e here in
           record { before = []; step = x; after = l; order = refl; right = e; wrong = here; coded = s.0; index = s.1 }
 
 -- ---- one after the other
 
-first_repeat : (f : ℕ → WriteState → WriteState) → ((i : ℕ) (r : WriteState) (k : ℕ) → r.wrong ≡ some k → (f i r).wrong ≡ some k)
-    → (m : ℕ) (r : WriteState) (j : ℕ) → r.wrong ≡ none → (repeats f m r).wrong ≡ some j
-    → (i : ℕ) × (i < m) × ((repeats f i r).wrong ≡ none) × ((f i (repeats f i r)).wrong ≡ some j)
+first_repeat : (f : ℕ → WriteState → WriteState) → ((i : ℕ) (r : WriteState) (k : ℕ) → r.wrong ≡ Some k → (f i r).wrong ≡ Some k)
+    → (m : ℕ) (r : WriteState) (j : ℕ) → r.wrong ≡ None → (repeats f m r).wrong ≡ Some j
+    → (i : ℕ) × (i < m) × ((repeats f i r).wrong ≡ None) × ((f i (repeats f i r)).wrong ≡ Some j)
 unfolding repeats
 first_repeat f stays zero r j e w = none_some j (sym e ∙ w)
 first_repeat f stays (suc m) r j e w = go (repeats f m r).wrong refl (λ q. first_repeat f stays m r j e q)
   where
     go : (o : Option ℕ) → (repeats f m r).wrong ≡ o
-        → ((repeats f m r).wrong ≡ some j → (i : ℕ) × (i < m) × ((repeats f i r).wrong ≡ none) × ((f i (repeats f i r)).wrong ≡ some j))
-        → (i : ℕ) × (i < suc m) × ((repeats f i r).wrong ≡ none) × ((f i (repeats f i r)).wrong ≡ some j)
-    go none q g = (m, omega arith, q, w)
-    go (some k) q g =
+        → ((repeats f m r).wrong ≡ Some j → (i : ℕ) × (i < m) × ((repeats f i r).wrong ≡ None) × ((f i (repeats f i r)).wrong ≡ Some j))
+        → (i : ℕ) × (i < suc m) × ((repeats f i r).wrong ≡ None) × ((f i (repeats f i r)).wrong ≡ Some j)
+    go None q g = (m, omega arith, q, w)
+    go (Some k) q g =
         let is : k ≡ j = same_some k j (sym (stays m (repeats f m r) k q) ∙ w) in
         let a = g (rw is at q) in
         (a.0, omega (arith, a.1), a.2, a.3)
 
-repeats_some : (f : ℕ → WriteState → WriteState) → ((i : ℕ) (r : WriteState) (k : ℕ) → r.wrong ≡ some k → (f i r).wrong ≡ some k)
-    → (m : ℕ) (r : WriteState) (k : ℕ) → r.wrong ≡ some k → (repeats f m r).wrong ≡ some k
+repeats_some : (f : ℕ → WriteState → WriteState) → ((i : ℕ) (r : WriteState) (k : ℕ) → r.wrong ≡ Some k → (f i r).wrong ≡ Some k)
+    → (m : ℕ) (r : WriteState) (k : ℕ) → r.wrong ≡ Some k → (repeats f m r).wrong ≡ Some k
 unfolding repeats
 repeats_some f stays zero r k e = e
 repeats_some f stays (suc m) r k e = stays m (repeats f m r) k (repeats_some f stays m r k e)
 
-pass_some : (F : Form) (t : List ℕ) (n i : ℕ) (r : WriteState) (k : ℕ) → r.wrong ≡ some k → (write_pass_at F 0 true t n i r).wrong ≡ some k
+pass_some : (F : Form) (t : List ℕ) (n i : ℕ) (r : WriteState) (k : ℕ) → r.wrong ≡ Some k → (write_pass_at F 0 true t n i r).wrong ≡ Some k
 unfolding write_pass_at write_pass
 pass_some F t n i r k e =
     let P : Plan = plan_of F.xtrans i in
     writes_some F.bits (width_of F.xtrans) t n (pass_steps (width_of F.xtrans) P) (enter_writing F P r) k e
 
-line_some : (F : Form) (t : List ℕ) (n : ℕ) (r : WriteState) (k : ℕ) → r.wrong ≡ some k → (write_line F [] t n r).wrong ≡ some k
+line_some : (F : Form) (t : List ℕ) (n : ℕ) (r : WriteState) (k : ℕ) → r.wrong ≡ Some k → (write_line F [] t n r).wrong ≡ Some k
 unfolding write_line
 line_some F t n r k e = repeats_some (write_pass_at F 0 true t n) (pass_some F t n) 6 (before_writing F [] n r) k e
 
@@ -171,8 +170,8 @@ module _ (F : Form) (t : List ℕ) (range : (j : ℕ) → get_or t j 0 ≤ large
       go (x ∷ l) a = (a.0, go l a.1)
 
   -- the pass that has the first wrong one
-  module _ (n i : ℕ) (hi : i < 6) (r : WriteState) (found : Found W t n i r.lines) (j : ℕ) (none_yet : r.wrong ≡ none)
-      (wrong : (write_pass_at F 0 true t n i r).wrong ≡ some j) where
+  module _ (n i : ℕ) (hi : i < 6) (r : WriteState) (found : Found W t n i r.lines) (j : ℕ) (none_yet : r.wrong ≡ None)
+      (wrong : (write_pass_at F 0 true t n i r).wrong ≡ Some j) where
     abbrev P : Plan
     P = plan_of F.xtrans i
 
@@ -247,7 +246,7 @@ module _ (F : Form) (t : List ℕ) (range : (j : ℕ) → get_or t j 0 ≤ large
         ).1 (none_yet, a) in
         none_some j (sym w ∙ S.wrong)
 
-  first_wrong : (count j : ℕ) → (write_lines F [] t count).wrong ≡ some j → FirstWrong F count t j
+  first_wrong : (count j : ℕ) → (write_lines F [] t count).wrong ≡ Some j → FirstWrong F count t j
   unfolding write_lines write_line start_writing
   first_wrong count j w =
       let a = first_repeat (write_line F [] t) (line_some F t) count (start_writing F []) j refl w in
@@ -282,13 +281,13 @@ module _ (F : Form) (t : List ℕ) (range : (j : ℕ) → get_or t j 0 ≤ large
 
 -- ---- the answer
 
-none_above : (xtrans : Bool) (m i : ℕ) (t : List ℕ) → first_above (is_ignored xtrans true) m i t ≡ none → (j : ℕ) → get_or t j 0 ≤ m
+none_above : (xtrans : Bool) (m i : ℕ) (t : List ℕ) → first_above (is_ignored xtrans true) m i t ≡ None → (j : ℕ) → get_or t j 0 ≤ m
 unfolding first_above is_ignored
 none_above xtrans m i [] e j = omega arith
 none_above xtrans m i (v ∷ t) e j = go (leb v m) refl e (λ g k. none_above xtrans m (suc i) t g k) j
   where
-    go : (b : Bool) → leb v m ≡ b → cond (b || false) (first_above (is_ignored xtrans true) m (suc i) t) (some i) ≡ none
-        → (first_above (is_ignored xtrans true) m (suc i) t ≡ none → (k : ℕ) → get_or t k 0 ≤ m) → (k : ℕ) → get_or (v ∷ t) k 0 ≤ m
+    go : (b : Bool) → leb v m ≡ b → cond (b || false) (first_above (is_ignored xtrans true) m (suc i) t) (Some i) ≡ None
+        → (first_above (is_ignored xtrans true) m (suc i) t ≡ None → (k : ℕ) → get_or t k 0 ≤ m) → (k : ℕ) → get_or (v ∷ t) k 0 ≤ m
     go true q f g zero = leb-true v m q
     go true q f g (suc k) = g f k
     go false q f g k = none_some i (sym f)
@@ -297,19 +296,19 @@ pub names_first_wrong : NamesFirstWrong
 unfolding set_answer measured_answer
 names_first_wrong F lines t room j = ranged (above_in F [] t) refl
   where
-    other : {X : Type 0} (x : Refusal) → (refusal_number x ≡ 12 → ⊥) → Refused x ≡ Refused (NotPredicted j) → X
+    other : {X : Type 0} (x : Refusal) → (refusal_number x ≡ 12 → ⊥) → ◌≡◌ {A = Result ℕ Refusal} (Err x) (Err (NotPredicted j)) → X
     other x ne e = let q : x ≡ NotPredicted j = cc in absurd (ne (ap refusal_number q))
 
-    sized : {X : Type 0} (b : Bool) (n : ℕ) → cond b (Refused ShortOutput) (Length n) ≡ Refused (NotPredicted j) → X
+    sized : {X : Type 0} (b : Bool) (n : ℕ) → cond b (Err ShortOutput) (Ok n) ≡ Err (NotPredicted j) → X
     sized true n e = other ShortOutput (λ z. omega arith) e
     sized false n e = let no : ◌≡◌ {A = ℕ} 0 1 = cc in absurd (omega arith)
 
     measured : ((k : ℕ) → get_or t k 0 ≤ largest F.bits) → (o : Option ℕ) → (write_lines F [] t lines).wrong ≡ o
-        → predicted_answer o (length (tight_block F lines t)) room ≡ Refused (NotPredicted j) → FirstWrong F lines t j
-    measured range none q e = sized (ltb room (length (tight_block F lines t))) (length (tight_block F lines t)) e
-    measured range (some k) q e = let is : k ≡ j = cc in first_wrong F t range lines j (rw is at q)
+        → predicted_answer o (length (tight_block F lines t)) room ≡ Err (NotPredicted j) → FirstWrong F lines t j
+    measured range None q e = sized (ltb room (length (tight_block F lines t))) (length (tight_block F lines t)) e
+    measured range (Some k) q e = let is : k ≡ j = cc in first_wrong F t range lines j (rw is at q)
 
     ranged : (o : Option ℕ) → above_in F [] t ≡ o
-        → range_answer o (predicted_answer (write_lines F [] t lines).wrong (length (tight_block F lines t)) room) ≡ Refused (NotPredicted j) → FirstWrong F lines t j
-    ranged none q e = measured (none_above F.xtrans (largest F.bits) 0 t q) (write_lines F [] t lines).wrong refl e
-    ranged (some k) q e = other (AboveLargest k) (λ z. omega arith) e
+        → range_answer o (predicted_answer (write_lines F [] t lines).wrong (length (tight_block F lines t)) room) ≡ Err (NotPredicted j) → FirstWrong F lines t j
+    ranged None q e = measured (none_above F.xtrans (largest F.bits) 0 t q) (write_lines F [] t lines).wrong refl e
+    ranged (Some k) q e = other (AboveLargest k) (λ z. omega arith) e

@@ -2,7 +2,6 @@
 use mathlib.Core.Bool.{Bool, true, false, cond}
 use mathlib.Core.List.{List, []}
 use mathlib.Core.Logic.{◌≢◌}
-use mathlib.Core.Option.{Option, none, some}
 use mathlib.Core.Path.{◌≡◌, refl, sym, ap, ◌∙◌}
 use Prim.Native.Nat.{ℕ, ◌≤◌, ◌<◌}
 use native.Mathlib.Nat.{le_refl}
@@ -14,10 +13,7 @@ use Rattle.image_map.specs.Places.{width_of}
 use Rattle.stream.specs.Headers.{parse_of, all_rules, header_of}
 use Rattle.stream.specs.Lengths.{length_bound}
 use Rattle.stream.specs.Refusals.{refusal_number}
-use Rattle.stream.specs.declared.BlockLength.TheVariants.{Length, Refused}
 use Rattle.stream.specs.declared.header.FujiHeader.{FujiHeader}
-use Rattle.stream.specs.declared.header.Parsed.{Parsed}
-use Rattle.stream.specs.declared.header.Parsed.TheVariants as Parsing
 use Rattle.stream.specs.declared.header.Refusal.{Refusal}
 use Rattle.stream.specs.declared.header.Refusal.TheVariants.{ShortHeader, BadHeader, Lossy, WrongCount, ShortScratch, AboveLargest, NotPredicted, ShortOutput}
 use Rattle.admission.specs.Beginnings.{is_short_scratch}
@@ -31,14 +27,15 @@ use Rattle.read_block.specs.declared.Form.{Form}
 use Rattle.theorem_one_to_one.specs.Lengths.{Agrees, AgreementOfCalls, MeasuredWithinBound}
 use Rattle.theorem_one_to_one.proofs.BoundHolds.{bounds}
 use Rattle.theorem_one_to_one.proofs.WriterHolds.{correspondence_of_writers}
+use Rattle.std.specs.Prelude.{Err, Ok, Result, None, Option, Some}
 
-clash : {X : Type 0} (x : Refusal) (n : ℕ) → Refused x ≡ Length n → X
+clash : {X : Type 0} (x : Refusal) (n : ℕ) → Err x ≡ Ok n → X
 clash x n e = let no : ◌≡◌ {A = ℕ} 0 1 = cc in absurd (omega arith)
 
 -- ---- the answers
 
 -- a refusal before 13
-both_refused : (room : ℕ) (x : Refusal) → refusal_number x < 13 → Agrees room (Refused x) (Refused x)
+both_refused : (room : ℕ) (x : Refusal) → refusal_number x < 13 → Agrees room (Err x) (Err x)
 both_refused room x h =
     record {
       length_is = λ n. (λ e. clash x n e, λ p. clash x n p.0);
@@ -47,17 +44,17 @@ both_refused room x h =
       never_short = λ e. other e;
     }
   where
-    other : Refused x ≢ Refused ShortOutput
+    other : ◌≢◌ {A = Result ℕ Refusal} (Err x) (Err ShortOutput)
     other e = let is : x ≡ ShortOutput = cc in let q : refusal_number x ≡ 13 = ap refusal_number is in omega (arith, h)
 
 -- a length
-measured_length : (room n : ℕ) → Agrees room (Length n) (cond (ltb room n) (Refused ShortOutput) (Length n))
+measured_length : (room n : ℕ) → Agrees room (Ok n) (cond (ltb room n) (Err ShortOutput) (Ok n))
 measured_length room n = go (ltb room n) refl
   where
-    same : (m : ℕ) → Length n ≡ Length m → n ≡ m
+    same : (m : ℕ) → ◌≡◌ {A = Result ℕ Refusal} (Ok n) (Ok m) → n ≡ m
     same m e = cc
 
-    go : (b : Bool) → ltb room n ≡ b → Agrees room (Length n) (cond b (Refused ShortOutput) (Length n))
+    go : (b : Bool) → ltb room n ≡ b → Agrees room (Ok n) (cond b (Err ShortOutput) (Ok n))
     go true eb =
         let lt : room < n = ltb-true room n eb in
         record {
@@ -80,25 +77,25 @@ unfolding exact_answer set_answer measured_answer
 agree F lines t room = go (above_in F [] t) (write_lines F [] t lines).wrong (length (tight_block F lines t))
   where
     go : (o p : Option ℕ) (n : ℕ) → Agrees room (range_answer o (predicted_answer p n n)) (range_answer o (predicted_answer p n room))
-    go (some i) p n = both_refused room (AboveLargest i) (lit< tt)
-    go none (some j) n = both_refused room (NotPredicted j) (lit< tt)
-    go none none n = rw (le-ltb n n (le_refl n)) (measured_length room n)
+    go (Some i) p n = both_refused room (AboveLargest i) (lit< tt)
+    go None (Some j) n = both_refused room (NotPredicted j) (lit< tt)
+    go None None n = rw (le-ltb n n (le_refl n)) (measured_length room n)
 
 -- ---- calls
 
 -- a call that is refused as it begins is not refused by 13
-begins_below : (d : List ℕ) (n a b : ℕ) (x : Refusal) → writing_begins d n a b ≡ Parsing.Refused x → refusal_number x < 13
+begins_below : (d : List ℕ) (n a b : ℕ) (x : Refusal) → writing_begins d n a b ≡ Err x → refusal_number x < 13
 unfolding writing_begins parse_of
 begins_below d n a b x = parsed (ltb (length d) 16) (all_rules d)
   where
-    is : (y : Refusal) → refusal_number y < 13 → Parsing.Refused y ≡ Parsing.Refused x → refusal_number x < 13
+    is : (y : Refusal) → refusal_number y < 13 → ◌≡◌ {A = Result FujiHeader Refusal} (Err y) (Err x) → refusal_number x < 13
     is y h e = let q : y ≡ x = cc in rw (← q) h
 
-    no : {X : Type 0} (h : FujiHeader) → Parsing.Header h ≡ Parsing.Refused x → X
+    no : {X : Type 0} (h : FujiHeader) → Ok h ≡ Err x → X
     no h e = let z : ◌≡◌ {A = ℕ} 0 1 = cc in absurd (omega arith)
 
     set : (h : FujiHeader) (l c s : Bool)
-        → cond l (cond c (cond s (Parsing.Refused ShortScratch) (Parsing.Header h)) (Parsing.Refused WrongCount)) (Parsing.Refused Lossy) ≡ Parsing.Refused x
+        → cond l (cond c (cond s (Err ShortScratch) (Ok h)) (Err WrongCount)) (Err Lossy) ≡ Err x
         → refusal_number x < 13
     set h true true true e = is ShortScratch (lit< tt) e
     set h true true false e = no h e
@@ -106,7 +103,7 @@ begins_below d n a b x = parsed (ltb (length d) 16) (all_rules d)
     set h false c s e = is Lossy (lit< tt) e
 
     parsed : (p q : Bool)
-        → with_parsed (cond p (Parsing.Refused ShortHeader) (cond q (Parsing.Header (header_of d)) (Parsing.Refused BadHeader))) n a b ≡ Parsing.Refused x
+        → with_parsed (cond p (Err ShortHeader) (cond q (Ok (header_of d)) (Err BadHeader))) n a b ≡ Err x
         → refusal_number x < 13
     parsed true q e = is ShortHeader (lit< tt) e
     parsed false false e = is BadHeader (lit< tt) e
@@ -117,20 +114,20 @@ begins_below d n a b x = parsed (ltb (length d) 16) (all_rules d)
 pub agreement_of_calls : AgreementOfCalls
 agreement_of_calls d t a b before after written before' after' measured = go (writing_begins d (length t) a b) refl
   where
-    go : (p : Parsed) → writing_begins d (length t) a b ≡ p → LeftWritten t p before after written → LeftMeasured t p before' after' measured
+    go : (p : Result FujiHeader Refusal) → writing_begins d (length t) a b ≡ p → LeftWritten t p before after written → LeftMeasured t p before' after' measured
         → Agrees (length before.out) measured written
-    go (Parsing.Refused x) e l m = rw (l.0, m.0) (both_refused (length before.out) x (begins_below d (length t) a b x e))
-    go (Parsing.Header h) e l m = rw (l.answered, m.answered) (agree (form_of h) h.lines t (length before.out))
+    go (Err x) e l m = rw (l.0, m.0) (both_refused (length before.out) x (begins_below d (length t) a b x e))
+    go (Ok h) e l m = rw (l.answered, m.answered) (agree (form_of h) h.lines t (length before.out))
 
 pub measured_within_bound : MeasuredWithinBound
 unfolding exact_answer
 measured_within_bound d t h a b before after n e = go (writing_begins d (length t) a b) refl
   where
-    go : (p : Parsed) → writing_begins d (length t) a b ≡ p → LeftMeasured t p before after (Length n) → n ≤ length_bound h
-    go (Parsing.Refused x) eb l = clash x n (sym l.0)
-    go (Parsing.Header g) eb l =
+    go : (p : Result FujiHeader Refusal) → writing_begins d (length t) a b ≡ p → LeftMeasured t p before after (Ok n) → n ≤ length_bound h
+    go (Err x) eb l = clash x n (sym l.0)
+    go (Ok g) eb l =
         let k = writing_goes d (length t) a b g eb in
-        let f : Parsing.Header g ≡ Parsing.Header h = sym k.parses ∙ e in
+        let f : Ok g ≡ Ok h = sym k.parses ∙ e in
         let is : g ≡ h = cc in
         let block : List ℕ = tight_block (form_of g) g.lines t in
         let w = (correspondence_of_writers d g k.parses k.lossless_is).whole t block n k.set.size (sym l.answered) in

@@ -1,7 +1,6 @@
 -- A line of a block, read and written: six passes, and the test at its end. Assumes nothing.
 use mathlib.Core.Bool.{Bool, true, false, cond}
 use mathlib.Core.List.{List, []}
-use mathlib.Core.Option.{Option, none, some}
 use mathlib.Core.Path.{◌≡◌, sym, ap, ◌∙◌}
 use Prim.Native.Nat.{ℕ, ◌+◌, ◌*◌, ◌≤◌, ◌<◌}
 use native.Mathlib.Omega.{arith}
@@ -29,6 +28,7 @@ use Rattle.pass_schedule.proofs.PlanLaws.{NotOf, other_lines}
 use Rattle.write_pass.proofs.SetLaws.{lines_passes}
 use Rattle.theorem_one_to_one.proofs.RunTwins.{write_state_of, CleanState, StoredState, StateForward, StateBack, stored_before, Each, runs_forward, runs_backward}
 use Rattle.theorem_one_to_one.proofs.PassTwins.{SoundState, PassHolds, LeftBy, PassLeft, pass_sound, pass_keeps_others, pass_at_forward, pass_at_backward}
+use Rattle.std.specs.Prelude.{None, Option, Some}
 
 -- the samples of all twelve colour lines in line n of the set t stand in the lines
 abbrev pub LineHolds : ℕ → List ℕ → ℕ → List ℕ → Type 0
@@ -44,7 +44,7 @@ module _ (F : Form) (bases : List ℕ) (high : F.bits ≤ 16) (s : List ℕ) (n 
   q = base_of bases n
 
   -- the lines of pass c are after pass i as they were before it
-  module _ (i c : ℕ) (y z : State) (hi : i < 6) (before : c < i) (ok : SoundState F y) (e : pass_at F q s i y ≡ some z) where
+  module _ (i c : ℕ) (y z : State) (hi : i < 6) (before : c < i) (ok : SoundState F y) (e : pass_at F q s i y ≡ Some z) where
     apart : NotOf F.xtrans i (plan_of F.xtrans c).first × NotOf F.xtrans i (plan_of F.xtrans c).second
     apart = other_lines F.xtrans c i (omega arith) hi (λ f. omega arith)
 
@@ -66,29 +66,29 @@ module _ (F : Form) (bases : List ℕ) (high : F.bits ≤ 16) (s : List ℕ) (n 
       }
 
   -- the test at its end
-  end_is : (z : State) → CleanState s z → end_line s z ≡ some z
+  end_is : (z : State) → CleanState s z → end_line s z ≡ Some z
   end_is z clean = rw (le-leb z.at.0 (8 * length s + 7) (omega (arith, clean.inside)))
 
-  end_was : (y z : State) → end_line s y ≡ some z → y ≡ z
+  end_was : (y z : State) → end_line s y ≡ Some z → y ≡ z
   end_was y z e = go (leb y.at.0 (8 * length s + 7)) e
     where
-      go : (b : Bool) → cond b (some y) none ≡ some z → y ≡ z
+      go : (b : Bool) → cond b (Some y) None ≡ Some z → y ≡ z
       go true f = cc
       go false f = let no : ◌≡◌ {A = ℕ} 0 1 = cc in absurd (omega arith)
 
-  line_is : (r z : State) → runs (pass_at F q s) 6 (before r) ≡ some z → CleanState s z → read_line_at F bases s n r ≡ some z
+  line_is : (r z : State) → runs (pass_at F q s) 6 (before r) ≡ Some z → CleanState s z → read_line_at F bases s n r ≡ Some z
   unfolding read_line_at read_line and_then
   line_is r z e clean = rw e (end_is z clean)
 
-  line_was : (r z : State) → read_line_at F bases s n r ≡ some z → runs (pass_at F q s) 6 (before r) ≡ some z
+  line_was : (r z : State) → read_line_at F bases s n r ≡ Some z → runs (pass_at F q s) 6 (before r) ≡ Some z
   unfolding read_line_at read_line and_then
   line_was r z e = go (runs (pass_at F q s) 6 (before r)) e
     where
-      go : (o : Option State) → and_then o (end_line s) ≡ some z → o ≡ some z
-      go none f = f
-      go (some y) f = ap some (end_was y z f)
+      go : (o : Option State) → and_then o (end_line s) ≡ Some z → o ≡ Some z
+      go None f = f
+      go (Some y) f = ap Some (end_was y z f)
 
-  pub line_sound : (r z : State) → SoundState F r → read_line_at F bases s n r ≡ some z → SoundState F z
+  pub line_sound : (r z : State) → SoundState F r → read_line_at F bases s n r ≡ Some z → SoundState F z
   line_sound r z ok e =
       runs_keep (pass_at F q s) (before r) (SoundState F) (before_sound r ok) (λ i a b k f. pass_sound F q high s i a k b f) 6 z (line_was r z e)
 
@@ -98,7 +98,7 @@ module _ (F : Form) (bases : List ℕ) (high : F.bits ≤ 16) (s : List ℕ) (n 
 abbrev pub LineLeft : Form → (bases s t : List ℕ) → ℕ → State → List ℕ → Type 0
 LineLeft F bases s t n r lines =
     let q = base_of bases n in
-    (i : ℕ) → i < 6 → (y : State) × (runs (pass_at F q s) i (before_line F bases n r) ≡ some y) × PassLeft F q (is_strict bases) s t n i y lines
+    (i : ℕ) → i < 6 → (y : State) × (runs (pass_at F q s) i (before_line F bases n r) ≡ Some y) × PassLeft F q (is_strict bases) s t n i y lines
 
 module _ (F : Form) (bases : List ℕ) (depth : Depth F.bits) (s t : List ℕ) (n : ℕ) where
   abbrev Q : ℕ
@@ -109,7 +109,7 @@ module _ (F : Form) (bases : List ℕ) (depth : Depth F.bits) (s t : List ℕ) (
 
   -- what pass c leaves, in these lines
   abbrev PassHold : State → ℕ → State → Type 0
-  PassHold r c z = (y : State) × (runs (pass_at F Q s) c r ≡ some y) × PassLeft F Q strict s t n c y z.lines
+  PassHold r c z = (y : State) × (runs (pass_at F Q s) c r ≡ Some y) × PassLeft F Q strict s t n c y z.lines
 
   -- colour line l is in both states the same
   abbrev Kept : ℕ → State → State → Type 0
@@ -168,7 +168,7 @@ module _ (F : Form) (Q : Lossless F.bits) (s t : List ℕ) (n : ℕ) where
       }
 
   -- where a line was read, its bits stand
-  pub line_backward : (r z : State) → SoundState F r → read_line_at F [] s n r ≡ some z → CleanState s z
+  pub line_backward : (r z : State) → SoundState F r → read_line_at F [] s n r ≡ Some z → CleanState s z
       → LineHolds (width_of F.xtrans) t n z.lines → StateBack s (write_line F [] t n) r z
   unfolding write_line
   line_backward r z ok e clean holds =

@@ -2,7 +2,6 @@
 use mathlib.Core.Bool.{Bool, true, false, cond, ◌&&◌}
 use mathlib.Core.List.{List, [], ◌∷◌}
 use mathlib.Core.Logic.{◌≢◌}
-use mathlib.Core.Option.{Option, none, some}
 use mathlib.Core.Path.{◌≡◌, refl, sym, ◌∙◌}
 use Prim.Native.Nat.{ℕ, ◌+◌, ◌*◌, ◌≤◌, zero-le}
 use native.Mathlib.Nat.{le_refl}
@@ -30,6 +29,7 @@ use Rattle.theorem_one_to_one.proofs.StepForward.{InLines, step_forward}
 use Rattle.theorem_one_to_one.proofs.StepBack.{step_backward}
 use Rattle.theorem_one_to_one.proofs.Together.{stored_cut, Sound, writing_of, CleanReading, StoredWriting, Together, Back, together_then, back_then}
 use Rattle.write_pass.proofs.WriteLaws.{wanted, afresh, writes_add, writes_right}
+use Rattle.std.specs.Prelude.{None, Option, Some}
 
 -- ---- bases
 
@@ -48,34 +48,34 @@ used_le q x =
 
 module _ (bits q W : ℕ) (s : List ℕ) where
   -- the base of a step is found at its place
-  base_here : (x : Step) (l : List Step) (r : Reading) → base_in_steps bits q W s x.line x.position (x ∷ l) r ≡ some (step_look q W x r.lines).base
+  base_here : (x : Step) (l : List Step) (r : Reading) → base_in_steps bits q W s x.line x.position (x ∷ l) r ≡ Some (step_look q W x r.lines).base
   unfolding base_in_steps
   base_here x l r = rw (eq-eqb x.line x.line refl, eq-eqb x.position x.position refl)
 
   -- and that of a later one, which goes to another place, after this one was read
-  base_later : (x : Step) (l : List Step) (r y : Reading) (m p : ℕ) → read_step bits q W s x r ≡ some y → cell W x ≢ m * (W + 2) + p + 1
+  base_later : (x : Step) (l : List Step) (r y : Reading) (m p : ℕ) → read_step bits q W s x r ≡ Some y → cell W x ≢ m * (W + 2) + p + 1
       → base_in_steps bits q W s m p (x ∷ l) r ≡ base_in_steps bits q W s m p l y
   unfolding base_in_steps and_then
   base_later x l r y m p e ne = go (eqb x.line m) (eqb x.position p) refl refl
     where
       go : (a b : Bool) → eqb x.line m ≡ a → eqb x.position p ≡ b
-          → cond (a && b) (some (step_look q W x r.lines).base) (and_then (read_step bits q W s x r) (λ z. base_in_steps bits q W s m p l z))
+          → cond (a && b) (Some (step_look q W x r.lines).base) (and_then (read_step bits q W s x r) (λ z. base_in_steps bits q W s m p l z))
           ≡ base_in_steps bits q W s m p l y
       go true true f g = absurd (ne (rw (eqb-true x.line m f, eqb-true x.position p g)))
       go true false f g = rw e
       go false b f g = rw e
 
   -- it is at most that of the line
-  pub base_le : (m p : ℕ) (l : List Step) (r : Reading) (b : ℕ) → base_in_steps bits q W s m p l r ≡ some b → b ≤ q
+  pub base_le : (m p : ℕ) (l : List Step) (r : Reading) (b : ℕ) → base_in_steps bits q W s m p l r ≡ Some b → b ≤ q
   unfolding base_in_steps and_then
   base_le m p [] r b e = let no : ◌≡◌ {A = ℕ} 0 1 = cc in absurd (omega arith)
   base_le m p (x ∷ l) r b e = go (eqb x.line m && eqb x.position p) (read_step bits q W s x r) (λ z f. base_le m p l z b f) e
     where
-      go : (here : Bool) (o : Option Reading) → ((z : Reading) → base_in_steps bits q W s m p l z ≡ some b → b ≤ q)
-          → cond here (some (step_look q W x r.lines).base) (and_then o (λ z. base_in_steps bits q W s m p l z)) ≡ some b → b ≤ q
+      go : (here : Bool) (o : Option Reading) → ((z : Reading) → base_in_steps bits q W s m p l z ≡ Some b → b ≤ q)
+          → cond here (Some (step_look q W x r.lines).base) (and_then o (λ z. base_in_steps bits q W s m p l z)) ≡ Some b → b ≤ q
       go true o rest f = let is : (step_look q W x r.lines).base ≡ b = cc in rw (← is) (used_le q (step_context W x r.lines))
-      go false none rest f = let no : ◌≡◌ {A = ℕ} 0 1 = cc in absurd (omega arith)
-      go false (some z) rest f = rest z f
+      go false None rest f = let no : ◌≡◌ {A = ℕ} 0 1 = cc in absurd (omega arith)
+      go false (Some z) rest f = rest z f
 
 -- ---- forward, with any base
 
@@ -83,13 +83,13 @@ module _ (bits q W : ℕ) (strict : Bool) (s t : List ℕ) (n : ℕ) (depth : De
   -- the sample of a step, after the steps from r on: near, by the base that is found for it; or the set's, where the set is held to it
   pub record Left (all : List Step) (r z : Reading) (x : Step) : Type 0 where
     pub near : x.coded ≡ true
-        → (b : ℕ) × (base_in_steps bits q W s x.line x.position all r ≡ some b) × IsNear b (wanted W t n x) (get_or z.lines (cell W x) 0)
+        → (b : ℕ) × (base_in_steps bits q W s x.line x.position all r ≡ Some b) × IsNear b (wanted W t n x) (get_or z.lines (cell W x) 0)
     pub held : x.coded ≡ false → strict ≡ true → get_or z.lines (cell W x) 0 ≡ wanted W t n x
 
   abbrev pub StepsForward : List Step → Reading → Reading → Type 0
   StepsForward l r z = Together (CleanReading s) (writing_of s) (reads bits q W s l) (writes bits q W strict t n l) r z × All (Left l r z) l
 
-  sound_next : (x : Step) (r z : Reading) → Sound bits W r.lines → read_step bits q W s x r ≡ some z → Sound bits W z.lines
+  sound_next : (x : Step) (r z : Reading) → Sound bits W r.lines → read_step bits q W s x r ≡ Some z → Sound bits W z.lines
   sound_next x r z ok e =
       let k = step_keeps bits q W s depth.1 x r z e in
       record { long = k.lines ∙ ok.long; small = k.samples ok.small }
@@ -101,7 +101,7 @@ module _ (bits q W : ℕ) (strict : Bool) (s t : List ℕ) (n : ℕ) (depth : De
       (λ e. writes_right bits q W strict t n l w (rw (writes_add bits q W strict t n l w) e))
 
   -- what the steps after x leave is left after x too
-  later : (x : Step) (l : List Step) (r y z : Reading) → read_step bits q W s x r ≡ some y → (k : List Step) → All (λ u. cell W x ≢ cell W u) k
+  later : (x : Step) (l : List Step) (r y z : Reading) → read_step bits q W s x r ≡ Some y → (k : List Step) → All (λ u. cell W x ≢ cell W u) k
       → All (Left l y z) k → All (Left (x ∷ l) r z) k
   later x l r y z e [] a b = tt
   later x l r y z e (u ∷ k) a b = (
@@ -151,13 +151,13 @@ module _ (bits W : ℕ) (s t : List ℕ) (n : ℕ) (Q : Lossless bits) where
   abbrev pub StepsBack : List Step → Reading → Reading → Type 0
   StepsBack l r z = Back (CleanReading s) (writing_of s) (writes bits 0 W true t n l) r z
 
-  sound_after : (x : Step) (r z : Reading) → Sound bits W r.lines → read_step bits 0 W s x r ≡ some z → Sound bits W z.lines
+  sound_after : (x : Step) (r z : Reading) → Sound bits W r.lines → read_step bits 0 W s x r ≡ Some z → Sound bits W z.lines
   sound_after x r z ok e =
       let k = step_keeps bits 0 W s Q.high x r z e in
       record { long = k.lines ∙ ok.long; small = k.samples ok.small }
 
   -- where the steps were read, their bits stand
-  pub steps_backward : (l : List Step) (r z : Reading) → Sound bits W r.lines → All (InLines W) l → Apart W l → reads bits 0 W s l r ≡ some z
+  pub steps_backward : (l : List Step) (r z : Reading) → Sound bits W r.lines → All (InLines W) l → Apart W l → reads bits 0 W s l r ≡ Some z
       → CleanReading s z → Stand l z
       → StepsBack l r z
   unfolding reads writes

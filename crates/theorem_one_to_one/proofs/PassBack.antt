@@ -2,7 +2,6 @@
 use mathlib.Core.Bool.{Bool, true, false, not}
 use mathlib.Core.List.{List}
 use mathlib.Core.Logic.{◌≢◌}
-use mathlib.Core.Option.{some}
 use mathlib.Core.Path.{◌≡◌, refl, ap, ◌∙◌}
 use Prim.Native.Nat.{ℕ, ◌+◌, ◌*◌, ◌%◌, ◌≤◌, ◌<◌}
 use native.Mathlib.Omega.{arith}
@@ -24,6 +23,7 @@ use Rattle.theorem_one_to_one.specs.UsedBases.{base_in_steps, IsNear}
 use Rattle.theorem_one_to_one.proofs.Together.{Sound, writing_of, CleanReading, StoredWriting, Together, Back}
 use Rattle.theorem_one_to_one.proofs.StepForward.{InLines}
 use Rattle.theorem_one_to_one.proofs.ListBack.{base_le, Left, steps_forward, steps_backward}
+use Rattle.std.specs.Prelude.{Some}
 
 -- the samples of colour line l in line n of the set t stand in the lines
 abbrev pub Holds : ℕ → List ℕ → ℕ → List ℕ → ℕ → Type 0
@@ -31,7 +31,7 @@ Holds W t n lines l = (p : ℕ) → p < W → get_or lines (l * (W + 2) + p + 1)
 
 -- lines of other passes are left as they are
 pub pass_leaves : (bits q W : ℕ) (s : List ℕ) (P : Plan) (r z : Reading) (l p : ℕ) → W % 2 ≡ 0 → p < W → l ≢ P.first → l ≢ P.second
-    → read_pass bits q W s P r ≡ some z
+    → read_pass bits q W s P r ≡ Some z
     → get_or z.lines (l * (W + 2) + p + 1) 0 ≡ get_or r.lines (l * (W + 2) + p + 1) 0
 unfolding read_pass
 pass_leaves bits q W s P r z l p even h a b e =
@@ -48,7 +48,7 @@ in_lines W P even in_range = pass_all W P even (λ l p. (l ≤ 17) × (p < W)) (
 -- near, by the base that was found for it; an interpolated one is the set's, where the set is held to it
 pub record PlaceLeft (bits q W : ℕ) (strict xtrans : Bool) (s t : List ℕ) (n : ℕ) (all : List Step) (r : Reading) (lines : List ℕ) (l p : ℕ) : Type 0 where
   pub near : is_interpolated xtrans l p ≡ false
-      → (b : ℕ) × (base_in_steps bits q W s l p all r ≡ some b) × IsNear b (get_or t (index_in W n l p) 0) (get_or lines (l * (W + 2) + p + 1) 0)
+      → (b : ℕ) × (base_in_steps bits q W s l p all r ≡ Some b) × IsNear b (get_or t (index_in W n l p) 0) (get_or lines (l * (W + 2) + p + 1) 0)
   pub held : is_interpolated xtrans l p ≡ true → strict ≡ true → get_or lines (l * (W + 2) + p + 1) 0 ≡ get_or t (index_in W n l p) 0
 
 module _ (bits q W : ℕ) (strict xtrans : Bool) (s t : List ℕ) (n : ℕ) where
@@ -67,7 +67,7 @@ module _ (bits q W : ℕ) (strict xtrans : Bool) (s t : List ℕ) (n : ℕ) wher
       Same = get_or lines (l * (W + 2) + p + 1) 0 ≡ get_or t (index_in W n l p) 0
 
       go : (i : Bool)
-          → (i ≡ false → (b : ℕ) × (base_in_steps bits q W s l p all r ≡ some b) × IsNear b (get_or t (index_in W n l p) 0) (get_or lines (l * (W + 2) + p + 1) 0))
+          → (i ≡ false → (b : ℕ) × (base_in_steps bits q W s l p all r ≡ Some b) × IsNear b (get_or t (index_in W n l p) 0) (get_or lines (l * (W + 2) + p + 1) 0))
           → (i ≡ true → Same) → Same
       go true near held = held refl
       go false near held =
@@ -109,7 +109,7 @@ module _ (bits W : ℕ) (s t : List ℕ) (n : ℕ) (Q : Lossless bits) (P : Plan
   PassBack z = Back (CleanReading s) (writing_of s) (write_pass bits 0 W true t n P) r z
 
   -- where a pass was read, its bits stand
-  pub pass_backward : Sound bits W r.lines → (z : Reading) → read_pass bits 0 W s P r ≡ some z → CleanReading s z → Holds W t n z.lines P.first
+  pub pass_backward : Sound bits W r.lines → (z : Reading) → read_pass bits 0 W s P r ≡ Some z → CleanReading s z → Holds W t n z.lines P.first
       → Holds W t n z.lines P.second
       → PassBack z
   unfolding read_pass write_pass

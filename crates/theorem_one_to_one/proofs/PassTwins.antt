@@ -2,7 +2,6 @@
 use mathlib.Core.Bool.{Bool, true}
 use mathlib.Core.List.{List}
 use mathlib.Core.Logic.{◌≢◌}
-use mathlib.Core.Option.{Option, none, some}
 use mathlib.Core.Path.{◌≡◌, refl, ap, ◌∙◌}
 use Prim.Native.Nat.{ℕ, ◌+◌, ◌*◌, ◌%◌, ◌≤◌, ◌<◌}
 use native.Mathlib.Omega.{arith}
@@ -31,6 +30,7 @@ use Rattle.read_block.specs.declared.Form.{Form}
 use Rattle.read_block.proofs.LineLaws.{width_in_range}
 use Rattle.read_block.proofs.SampleLaws.{guarded_le}
 use Rattle.theorem_one_to_one.proofs.RunTwins.{write_state_of, CleanState, StoredState, StateForward, StateBack}
+use Rattle.std.specs.Prelude.{None, Option, Some}
 
 abbrev pub SoundState : Form → State → Type 0
 SoundState F r = Sound F.bits (width_of F.xtrans) r.lines
@@ -82,28 +82,28 @@ module _ (F : Form) (q : ℕ) (high : F.bits ≤ 16) (s : List ℕ) (i : ℕ) (r
   even = (width_in_range F.xtrans W refl).2
 
   -- a pass that was read, and one that is
-  pass_was : (z : State) → pass_at F q s i r ≡ some z → (y : Reading) × (read_pass F.bits q W s P entered ≡ some y) × (left y ≡ z)
+  pass_was : (z : State) → pass_at F q s i r ≡ Some z → (y : Reading) × (read_pass F.bits q W s P entered ≡ Some y) × (left y ≡ z)
   unfolding pass_at
   pass_was z e = go (read_pass F.bits q W s P entered) refl e
     where
-      go : (o : Option Reading) → read_pass F.bits q W s P entered ≡ o → leave P r o ≡ some z
-          → (y : Reading) × (read_pass F.bits q W s P entered ≡ some y) × (left y ≡ z)
-      go none f g = let no : ◌≡◌ {A = ℕ} 0 1 = cc in absurd (omega arith)
-      go (some y) f g = (y, f, cc)
+      go : (o : Option Reading) → read_pass F.bits q W s P entered ≡ o → leave P r o ≡ Some z
+          → (y : Reading) × (read_pass F.bits q W s P entered ≡ Some y) × (left y ≡ z)
+      go None f g = let no : ◌≡◌ {A = ℕ} 0 1 = cc in absurd (omega arith)
+      go (Some y) f g = (y, f, cc)
 
-  pass_is : (y : Reading) → read_pass F.bits q W s P entered ≡ some y → pass_at F q s i r ≡ some (left y)
+  pass_is : (y : Reading) → read_pass F.bits q W s P entered ≡ Some y → pass_at F q s i r ≡ Some (left y)
   unfolding pass_at
   pass_is y e = rw e
 
   -- it keeps the lines sound, and leaves those of other passes as they are
-  pub pass_sound : (z : State) → pass_at F q s i r ≡ some z → SoundState F z
+  pub pass_sound : (z : State) → pass_at F q s i r ≡ Some z → SoundState F z
   pass_sound z e =
       let f = pass_was z e in
       let k : Kept F.bits entered f.0 = pass_keeps F.bits q W s high P entered f.0 f.1 in
       let there : Sound F.bits W f.0.lines = record { long = k.lines ∙ sound.long; small = k.samples sound.small } in
       rw (← f.2) there
 
-  pub pass_keeps_others : (z : State) (l p : ℕ) → p < W → NotOf F.xtrans i l → pass_at F q s i r ≡ some z
+  pub pass_keeps_others : (z : State) (l p : ℕ) → p < W → NotOf F.xtrans i l → pass_at F q s i r ≡ Some z
       → get_or z.lines (l * (W + 2) + p + 1) 0 ≡ get_or r.lines (l * (W + 2) + p + 1) 0
   pass_keeps_others z l p h ne e =
       let f = pass_was z e in
@@ -132,13 +132,13 @@ module _ (F : Form) (q : ℕ) (high : F.bits ≤ 16) (s : List ℕ) (i : ℕ) (r
 
 -- backward, lossless
 module _ (F : Form) (Q : Lossless F.bits) (s : List ℕ) (i : ℕ) (r : State) (ok : SoundState F r) (below : i < 6) (t : List ℕ) (n : ℕ) where
-  pub pass_at_backward : (z : State) → pass_at F 0 s i r ≡ some z → CleanState s z → PassHolds F t n i z → StateBack s (write_pass_at F 0 true t n i) r z
+  pub pass_at_backward : (z : State) → pass_at F 0 s i r ≡ Some z → CleanState s z → PassHolds F t n i z → StateBack s (write_pass_at F 0 true t n i) r z
   unfolding write_pass_at
   pass_at_backward z e clean holds =
       let f = pass_was F 0 Q.high s i r ok z e in
       go f.0 z f.1 f.2 clean holds
     where
-      go : (y : Reading) (z : State) → read_pass F.bits 0 (width_of F.xtrans) s (plan_of F.xtrans i) (enter F (plan_of F.xtrans i) r) ≡ some y
+      go : (y : Reading) (z : State) → read_pass F.bits 0 (width_of F.xtrans) s (plan_of F.xtrans i) (enter F (plan_of F.xtrans i) r) ≡ Some y
           → left F 0 Q.high s i r ok y ≡ z → CleanState s z → PassHolds F t n i z → StateBack s (write_pass_at F 0 true t n i) r z
       go y z f is clean holds =
           let P : Plan = plan_of F.xtrans i in

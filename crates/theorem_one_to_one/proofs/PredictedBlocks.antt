@@ -2,7 +2,6 @@
 use mathlib.Core.Bool.{Bool, true, false, not}
 use mathlib.Core.List.{List, []}
 use mathlib.Core.Logic.{◌≢◌, ◌↔◌}
-use mathlib.Core.Option.{none}
 use mathlib.Core.Path.{◌≡◌, refl, sym, ◌∙◌}
 use Prim.Native.Nat.{ℕ, zero, suc, ◌+◌, ◌-◌, ◌*◌, ◌%◌, ◌≤◌, ◌<◌}
 use native.Mathlib.Omega.{arith}
@@ -32,6 +31,7 @@ use Rattle.theorem_one_to_one.specs.PredictedSets.{sample_at, prediction_in, Pre
 use Rattle.theorem_one_to_one.proofs.PredictedSteps.{place, AllRight, writes_wrong}
 use Rattle.theorem_one_to_one.proofs.PredictedPasses.{ready, LineOf, lines_of, each_before, early_coded, Owner, before, first, second, owner, all_in_pass}
 use Rattle.theorem_one_to_one.proofs.PredictedLines.{Found, entered, found_next, prediction_is}
+use Rattle.std.specs.Prelude.{None}
 
 module _ (F : Form) (t : List ℕ) (range : (j : ℕ) → get_or t j 0 ≤ largest F.bits) where
   abbrev pub W : ℕ
@@ -53,7 +53,7 @@ module _ (F : Form) (t : List ℕ) (range : (j : ℕ) → get_or t j 0 ≤ large
   -- ---- a pass
 
   module _ (n i : ℕ) (hi : i < 6) (r : WriteState) (found : Found W t n i r.lines) where
-    pub pass_found : Within (largest F.bits) r.lines → (write_pass_at F 0 true t n i r).wrong ≡ none
+    pub pass_found : Within (largest F.bits) r.lines → (write_pass_at F 0 true t n i r).wrong ≡ None
         → Found W t n (suc i) (write_pass_at F 0 true t n i r).lines
     unfolding write_pass_at write_pass
     pass_found small w =
@@ -96,7 +96,7 @@ module _ (F : Form) (t : List ℕ) (range : (j : ℕ) → get_or t j 0 ≤ large
         was true q = refl
         was false q = sym q
 
-    pub pass_wrong : (write_pass_at F 0 true t n i r).wrong ≡ none ↔ (r.wrong ≡ none) × PassRight n i
+    pub pass_wrong : (write_pass_at F 0 true t n i r).wrong ≡ None ↔ (r.wrong ≡ None) × PassRight n i
     unfolding write_pass_at write_pass
     pass_wrong =
         let w = writes_wrong W P.first P.second F.bits t n lines (pass_steps W P) (enter_writing F P r) (all_in_pass F.xtrans W even i hi) (λ m d a b h. refl) in
@@ -110,14 +110,14 @@ module _ (F : Form) (t : List ℕ) (range : (j : ℕ) → get_or t j 0 ≤ large
     passes_small zero = small
     passes_small (suc k) = pass_at_within F 0 true t n k (repeats (write_pass_at F 0 true t n) k r) (passes_small k)
 
-    pub passes_found : (k : ℕ) → k ≤ 6 → (repeats (write_pass_at F 0 true t n) k r).wrong ≡ none → Found W t n k (repeats (write_pass_at F 0 true t n) k r).lines
+    pub passes_found : (k : ℕ) → k ≤ 6 → (repeats (write_pass_at F 0 true t n) k r).wrong ≡ None → Found W t n k (repeats (write_pass_at F 0 true t n) k r).lines
     unfolding repeats
     passes_found zero h w = found
     passes_found (suc k) h w =
         let z : WriteState = repeats (write_pass_at F 0 true t n) k r in
         pass_found n k h z (passes_found k (omega arith) (pass_at_right F 0 true t n k z w)) (passes_small k) w
 
-    pub passes_wrong : (k : ℕ) → k ≤ 6 → (repeats (write_pass_at F 0 true t n) k r).wrong ≡ none ↔ (r.wrong ≡ none) × ((i : ℕ) → i < k → PassRight n i)
+    pub passes_wrong : (k : ℕ) → k ≤ 6 → (repeats (write_pass_at F 0 true t n) k r).wrong ≡ None ↔ (r.wrong ≡ None) × ((i : ℕ) → i < k → PassRight n i)
     unfolding repeats
     passes_wrong zero h = (λ e. (e, λ i k. absurd (omega arith)), λ e. e.0)
     passes_wrong (suc k) h =
@@ -130,7 +130,7 @@ module _ (F : Form) (t : List ℕ) (range : (j : ℕ) → get_or t j 0 ≤ large
         before_it : WriteState
         before_it = repeats (write_pass_at F 0 true t n) k r
 
-        one : before_it.wrong ≡ none → (write_pass_at F 0 true t n k before_it).wrong ≡ none ↔ (before_it.wrong ≡ none) × PassRight n k
+        one : before_it.wrong ≡ None → (write_pass_at F 0 true t n k before_it).wrong ≡ None ↔ (before_it.wrong ≡ None) × PassRight n k
         one w = pass_wrong n k h before_it (passes_found k (omega arith) w)
 
   -- ---- the lines of a block
@@ -186,7 +186,7 @@ module _ (F : Form) (t : List ℕ) (range : (j : ℕ) → get_or t j 0 ≤ large
   pub before_small : (n : ℕ) → Within (largest F.bits) (before_writing F [] n (write_lines F [] t n)).lines
   before_small n = turned_le (largest F.bits) W (write_lines F [] t n).lines (lines_within F [] t n)
 
-  pub lines_found : (n : ℕ) → (write_lines F [] t n).wrong ≡ none → Found W t n 0 (before_writing F [] n (write_lines F [] t n)).lines
+  pub lines_found : (n : ℕ) → (write_lines F [] t n).wrong ≡ None → Found W t n 0 (before_writing F [] n (write_lines F [] t n)).lines
   unfolding write_lines repeats start_writing write_line
   lines_found zero w =
       let long : length (zero_lines W) ≡ 18 * (W + 2) = length-replicate (18 * (W + 2)) 0 in
@@ -195,7 +195,7 @@ module _ (F : Form) (t : List ℕ) (range : (j : ℕ) → get_or t j 0 ≤ large
       turned_found n _
       (passes_found n (before_writing F [] n (write_lines F [] t n)) (lines_found n (line_right F [] t n (write_lines F [] t n) w)) (before_small n) 6 (omega arith) w)
 
-  pub lines_wrong : (n : ℕ) → (write_lines F [] t n).wrong ≡ none ↔ LinesRight n
+  pub lines_wrong : (n : ℕ) → (write_lines F [] t n).wrong ≡ None ↔ LinesRight n
   unfolding write_lines repeats start_writing write_line
   lines_wrong zero = (λ e m i h k. absurd (omega arith), λ e. refl)
   lines_wrong (suc n) =
@@ -208,8 +208,8 @@ module _ (F : Form) (t : List ℕ) (range : (j : ℕ) → get_or t j 0 ≤ large
       start : WriteState
       start = before_writing F [] n (write_lines F [] t n)
 
-      one : (write_lines F [] t n).wrong ≡ none
-          → (repeats (write_pass_at F 0 true t n) 6 start).wrong ≡ none ↔ (start.wrong ≡ none) × ((i : ℕ) → i < 6 → PassRight n i)
+      one : (write_lines F [] t n).wrong ≡ None
+          → (repeats (write_pass_at F 0 true t n) 6 start).wrong ≡ None ↔ (start.wrong ≡ None) × ((i : ℕ) → i < 6 → PassRight n i)
       one w = passes_wrong n start (lines_found n w) (before_small n) 6 (omega arith)
 
   -- ---- a set that fits

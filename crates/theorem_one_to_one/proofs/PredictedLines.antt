@@ -2,7 +2,6 @@
 use mathlib.Core.Bool.{Bool, true, cond}
 use mathlib.Core.List.{List}
 use mathlib.Core.Logic.{◌≢◌}
-use mathlib.Core.Option.{none}
 use mathlib.Core.Path.{◌≡◌, ap, ◌∙◌}
 use Prim.Native.Nat.{ℕ, suc, ◌+◌, ◌-◌, ◌*◌, ◌%◌, ◌≤◌, ◌<◌}
 use native.Mathlib.Nat.{mul-le-mul_right}
@@ -26,6 +25,7 @@ use Rattle.theorem_one_to_one.specs.PredictedSets.{sample_at, prediction_in}
 use Rattle.pass_schedule.proofs.PlanLaws.{two_lines}
 use Rattle.theorem_one_to_one.proofs.PredictedSteps.{place, even_sees, writes_leave, writes_length, writes_stand}
 use Rattle.theorem_one_to_one.proofs.PredictedPasses.{ready, LineOf, lines_of, Owner, before, first, second, owner, not_ready}
+use Rattle.std.specs.Prelude.{None}
 
 -- what the colour lines hold in line n, after i passes: the samples of the set in each line that is ready, and left of it the first sample of the
 -- line above
@@ -85,7 +85,7 @@ module _ (xtrans : Bool) (W : ℕ) (even : W % 2 ≡ 0) (positive : 0 < W) (t : 
   -- ---- after the pass
 
   module _ (bits : ℕ) (r : Writing) (is : r.lines ≡ entered) (range : (j : ℕ) → get_or t j 0 ≤ largest bits) (small : Within (largest bits) r.lines)
-      (right : (writes bits 0 W true t n (pass_steps W (plan_of xtrans i)) r).wrong ≡ none) where
+      (right : (writes bits 0 W true t n (pass_steps W (plan_of xtrans i)) r).wrong ≡ None) where
     abbrev after : List ℕ
     after = (writes bits 0 W true t n (pass_steps W (plan_of xtrans i)) r).lines
 

@@ -2,7 +2,6 @@
 use mathlib.Core.Bool.{Bool, true, false, cond, not}
 use mathlib.Core.List.{List, [], ◌∷◌}
 use mathlib.Core.Logic.{◌≢◌, ◌↔◌}
-use mathlib.Core.Option.{Option, none, some}
 use mathlib.Core.Path.{◌≡◌, refl, sym, ap, ◌∙◌}
 use Prim.Native.Nat.{ℕ, ◌+◌, ◌-◌, ◌*◌, ◌%◌, ◌≤◌, ◌<◌}
 use native.Mathlib.Omega.{arith}
@@ -20,6 +19,7 @@ use Rattle.pass_schedule.proofs.OrderLaws.{All, cell, Apart}
 use Rattle.write_pass.proofs.LookLaws.{given_exact}
 use Rattle.write_pass.proofs.StepPuts.{step_within}
 use Rattle.write_pass.proofs.WriteLaws.{wanted, write_coded, write_interpolated, writes_right}
+use Rattle.std.specs.Prelude.{None, Option, Some}
 
 -- ---- one step
 
@@ -48,18 +48,18 @@ module _ (bits W : ℕ) (t : List ℕ) (n : ℕ) (x : Step) (r : Writing) where
           (given_exact bits (wanted W t n x) (step_context W x r.lines) (context_le (largest bits) W r.lines x.line x.position h) small))
       go false e = rw (write_interpolated bits 0 W true t n x r e) (ap (λ (v : ℕ). set r.lines (cell W x) v) (sym (right e)))
 
-  pub step_wrong : (write_step bits 0 W true t n x r).wrong ≡ none ↔ (r.wrong ≡ none) × Right r.lines
+  pub step_wrong : (write_step bits 0 W true t n x r).wrong ≡ None ↔ (r.wrong ≡ None) × Right r.lines
   step_wrong = go x.coded refl
     where
-      second : (a b : Option ℕ) → or_second a b ≡ none → (a ≡ none) × (b ≡ none)
-      second none b e = (refl, e)
-      second (some i) b e = let no : ◌≡◌ {A = ℕ} 0 1 = cc in absurd (omega arith)
+      second : (a b : Option ℕ) → or_second a b ≡ None → (a ≡ None) × (b ≡ None)
+      second None b e = (refl, e)
+      second (Some i) b e = let no : ◌≡◌ {A = ℕ} 0 1 = cc in absurd (omega arith)
 
-      test : (v : ℕ) (b : Bool) (j : ℕ) → cond (not b) (some j) none ≡ none → b ≡ true
+      test : (v : ℕ) (b : Bool) (j : ℕ) → cond (not b) (Some j) None ≡ None → b ≡ true
       test v true j e = refl
       test v false j e = let no : ◌≡◌ {A = ℕ} 0 1 = cc in absurd (omega arith)
 
-      go : (b : Bool) → x.coded ≡ b → (write_step bits 0 W true t n x r).wrong ≡ none ↔ (r.wrong ≡ none) × Right r.lines
+      go : (b : Bool) → x.coded ≡ b → (write_step bits 0 W true t n x r).wrong ≡ None ↔ (r.wrong ≡ None) × Right r.lines
       go true e = rw (write_coded bits 0 W true t n x r e) (
         λ w. (w, λ f. let no : true ≡ false = sym e ∙ f in let z : ◌≡◌ {A = ℕ} 0 1 = cc in absurd (omega arith)),
         λ w. w.0,
@@ -91,7 +91,7 @@ module _ (bits W : ℕ) (t : List ℕ) (n : ℕ) where
 
   -- each sample is where it goes, if none is wrong
   pub writes_stand : ((j : ℕ) → get_or t j 0 ≤ largest bits) → (l : List Step) (r : Writing) → Within (largest bits) r.lines
-      → (writes bits 0 W true t n l r).wrong ≡ none
+      → (writes bits 0 W true t n l r).wrong ≡ None
       → All (λ x. cell W x < length r.lines) l → Apart W l → All (λ x. get_or (writes bits 0 W true t n l r).lines (cell W x) 0 ≡ wanted W t n x) l
   unfolding writes
   writes_stand range [] r h w a b = tt
@@ -154,7 +154,7 @@ module _ (W A B : ℕ) where
 
     -- no interpolated sample of theirs is wrong exactly when each is its prediction, by the lines before the pass
     pub writes_wrong : (l : List Step) (r : Writing) → All InPass l → Agree before r.lines
-        → (writes bits 0 W true t n l r).wrong ≡ none ↔ (r.wrong ≡ none) × AllRight l
+        → (writes bits 0 W true t n l r).wrong ≡ None ↔ (r.wrong ≡ None) × AllRight l
     unfolding writes
     writes_wrong [] r p g = (λ w. (w, tt), λ w. w.0)
     writes_wrong (x ∷ l) r p g =

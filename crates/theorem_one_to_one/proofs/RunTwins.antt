@@ -1,6 +1,5 @@
 -- Things that are read and written one after the other: the passes of a line, and the lines of a block. Assumes nothing.
 use mathlib.Core.List.{List}
-use mathlib.Core.Option.{Option, none, some}
 use mathlib.Core.Path.{◌≡◌, refl, ap, subst}
 use Prim.Native.Nat.{ℕ, zero, suc, ◌≤◌, ◌<◌}
 use native.Mathlib.Nat.{not-suc-le-zero}
@@ -13,10 +12,11 @@ use Rattle.read_block.specs.Blocks.{State, runs}
 use Rattle.write_block.specs.WrittenBlocks.{WriteState, repeats}
 use Rattle.read_block.proofs.RunLaws.{runs_last, runs_keep}
 use Rattle.write_block.proofs.WrittenLaws.{after_bits, afresh_state}
+use Rattle.std.specs.Prelude.{None, Option, Some}
 
 -- what writing goes on after a clean reading of s
 abbrev pub write_state_of : List ℕ → State → WriteState
-write_state_of s r = record { lines = r.lines; records = r.records; bits = take r.at.0 (bits_of s); wrong = none }
+write_state_of s r = record { lines = r.lines; records = r.records; bits = take r.at.0 (bits_of s); wrong = None }
 
 abbrev pub CleanState : List ℕ → State → Type 0
 CleanState s r = Clean s r.at.0 r.tight
@@ -32,7 +32,7 @@ StateBack s g r z = Back (CleanState s) (write_state_of s) g r z
 
 -- what only adds bits, and keeps the first wrong sample, starts from bits that stand there too
 pub stored_before : (s : List ℕ) (g : WriteState → WriteState) (w : WriteState) → g w ≡ after_bits w.bits (g (afresh_state w))
-    → ((g w).wrong ≡ none → w.wrong ≡ none)
+    → ((g w).wrong ≡ None → w.wrong ≡ None)
     → StoredState s (g w) → StoredState s w
 stored_before s g w e right h =
     stored_cut s w.bits (g (afresh_state w)).bits (g (afresh_state w)).wrong w.wrong (rw e at h) (λ f. right (rw e f))
@@ -42,17 +42,17 @@ module _ (s : List ℕ) (f : ℕ → State → Option State) (g : ℕ → WriteS
     (Hold : ℕ → State → Type 0) where
   pub record Each : Type 0 where
     pub start : Sound r
-    pub sound : (i : ℕ) (y z : State) → Sound y → f i y ≡ some z → Sound z
+    pub sound : (i : ℕ) (y z : State) → Sound y → f i y ≡ Some z → Sound z
     pub stored : (i : ℕ) (w : WriteState) → StoredState s (g i w) → StoredState s w
     -- later ones leave what Hold says
-    pub still : (i c : ℕ) (y z : State) → i < most → c < i → Sound y → f i y ≡ some z → Hold c y → Hold c z
-    pub was : (i c : ℕ) (y z : State) → i < most → c < i → Sound y → f i y ≡ some z → Hold c z → Hold c y
+    pub still : (i c : ℕ) (y z : State) → i < most → c < i → Sound y → f i y ≡ Some z → Hold c y → Hold c z
+    pub was : (i c : ℕ) (y z : State) → i < most → c < i → Sound y → f i y ≡ Some z → Hold c z → Hold c y
 
   module _ (each : Each) where
-    pub sound_after : (n : ℕ) (z : State) → runs f n r ≡ some z → Sound z
+    pub sound_after : (n : ℕ) (z : State) → runs f n r ≡ Some z → Sound z
     sound_after n z e = runs_keep f r Sound each.start (λ i a b q h. each.sound i a b q h) n z e
 
-    holds_more : (n : ℕ) (y z : State) → n < most → Sound y → f n y ≡ some z → Hold n z → ((c : ℕ) → c < n → Hold c y) → (c : ℕ) → c < suc n → Hold c z
+    holds_more : (n : ℕ) (y z : State) → n < most → Sound y → f n y ≡ Some z → Hold n z → ((c : ℕ) → c < n → Hold c y) → (c : ℕ) → c < suc n → Hold c z
     holds_more n y z h ok e last before c k =
         split n c (λ u. let q : n ≡ c = omega arith in subst (λ (i : ℕ). Hold i z) q last) (λ u. each.still n c y z h u ok e (before c u))
 
@@ -61,7 +61,7 @@ module _ (s : List ℕ) (f : ℕ → State → Option State) (g : ℕ → WriteS
 
     abbrev One : Type 0
     One =
-        (i : ℕ) (y : State) → i < most → runs f i r ≡ some y → Sound y → CleanState s y → StoredState s (g i (write_state_of s y))
+        (i : ℕ) (y : State) → i < most → runs f i r ≡ Some y → Sound y → CleanState s y → StoredState s (g i (write_state_of s y))
         → (z : State) × (StateForward s (f i) (g i) y z × Hold i z)
 
     one_more : (n : ℕ) (y z : State) → n < most → Sound y → After n y → StateForward s (f n) (g n) y z → Hold n z → After (suc n) z
@@ -84,8 +84,8 @@ module _ (s : List ℕ) (f : ℕ → State → Option State) (g : ℕ → WriteS
         go_on one n before.0 h before.1 stored
 
     -- where each was read with its bits there, n of them were
-    pub runs_backward : ((i : ℕ) (y z : State) → i < most → runs f i r ≡ some y → Sound y → f i y ≡ some z → CleanState s z → Hold i z → StateBack s (g i) y z)
-        → (n : ℕ) (z : State) → n ≤ most → runs f n r ≡ some z → CleanState s z → ((c : ℕ) → c < n → Hold c z) → StateBack s (repeats g n) r z
+    pub runs_backward : ((i : ℕ) (y z : State) → i < most → runs f i r ≡ Some y → Sound y → f i y ≡ Some z → CleanState s z → Hold i z → StateBack s (g i) y z)
+        → (n : ℕ) (z : State) → n ≤ most → runs f n r ≡ Some z → CleanState s z → ((c : ℕ) → c < n → Hold c z) → StateBack s (repeats g n) r z
     unfolding runs repeats
     runs_backward one zero z h e clean holds =
         let is : r ≡ z = cc in

@@ -13,11 +13,11 @@ use Rattle.bits.specs.BitLists.{block_bytes, is_tail}
 use Rattle.stream.specs.declared.header.Refusal.TheVariants.{NotTight}
 use Rattle.read_block.specs.Images.{block_answer}
 use Rattle.read_block.specs.TightBlocks.{Tight, tight_answer}
-use Rattle.read_block.specs.declared.Decoded.TheVariants.{Done, Refused}
 use Rattle.read_block.specs.declared.Form.{Form}
 use Rattle.read_block.proofs.BadCodeLaws.{no_bad}
 use Rattle.read_block.proofs.DecodeLaws.{all_read}
 use Rattle.theorem_one_to_one.specs.Sixteens.{whole_bytes, TightByBytes, BlocksInSixteens}
+use Rattle.std.specs.Prelude.{Err, Ok}
 
 -- ---- the tail
 
@@ -38,7 +38,7 @@ a_tail s at size m spare =
 -- ---- the answers
 
 module _ (F : Form) (lines : ℕ) (s : List ℕ) (T : TightByBytes F lines s) where
-  not_tight : length s % 16 ≢ 0 → (block : ℕ) → tight_answer F block lines s ≡ Refused (NotTight lines)
+  not_tight : length s % 16 ≢ 0 → (block : ℕ) → tight_answer F block lines s ≡ Err (NotTight lines)
   unfolding tight_answer
   not_tight ne block =
       rw (
@@ -52,7 +52,7 @@ module _ (F : Form) (lines : ℕ) (s : List ℕ) (T : TightByBytes F lines s) wh
   still_tight : length s % 16 ≡ 0 → Tight F lines s
   still_tight m = record { end = T.end; read = T.read; codes = T.codes; tail = a_tail s T.end.at.0 T.size m T.spare }
 
-  taken : (block : ℕ) → block_answer F [] s block lines ≡ Done
+  taken : (block : ℕ) → block_answer F [] s block lines ≡ (Ok tt)
   taken block = rw (all_read F [] s lines T.end T.read, le-ltb lines lines (le_refl lines))
 
 pub blocks_in_sixteens : BlocksInSixteens

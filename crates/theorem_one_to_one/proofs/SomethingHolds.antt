@@ -1,7 +1,6 @@
 -- Every lossless header has a stream that is accepted: that of the set of zeros in each block. Assumes nothing.
 use mathlib.Core.Bool.{true}
 use mathlib.Core.List.{List, []}
-use mathlib.Core.Option.{Option, none, some}
 use mathlib.Core.Path.{◌≡◌, refl, sym, ◌∙◌}
 use Prim.Native.Nat.{ℕ, zero, suc, ◌+◌, ◌-◌, ◌^◌, ◌≤◌, ◌<◌}
 use native.Mathlib.Omega.{arith}
@@ -13,7 +12,6 @@ use Rattle.stream.specs.Headers.{parse_of}
 use Rattle.stream.specs.Inside.{Ruled}
 use Rattle.stream.specs.Streams.{open_of}
 use Rattle.stream.specs.declared.header.FujiHeader.{FujiHeader}
-use Rattle.stream.specs.declared.header.Parsed.TheVariants.{Header}
 use Rattle.stream.proofs.HeaderLaws.{ruled}
 use Rattle.image_region.specs.Inside.{Accepted}
 use Rattle.image_region.specs.Regions.{first_block, last_block, line_count}
@@ -21,14 +19,11 @@ use Rattle.image_region.specs.declared.Rect.{Rect}
 use Rattle.image_region.proofs.RegionLaws.{block_inside, block_order, lines_inside}
 use Rattle.colour_lines.specs.Sets.{set_size}
 use Rattle.read_block.specs.Blocks.{State, read_line_at, start_state, read_lines}
-use Rattle.admission.specs.declared.Beginning.TheVariants.{Reading}
 use Rattle.admission.proofs.CallLaws.{region_reads}
 use Rattle.read_block.specs.Images.{form_of, bytes_in, lines_read, read_in, answer_of, Decoding, Left}
 use Rattle.read_block.specs.Lent.{Buffers}
 use Rattle.read_block.specs.TightBlocks.{Tight}
 use Rattle.write_block.specs.WrittenBlocks.{write_lines, written_block, tight_block}
-use Rattle.read_block.specs.declared.Decoded.{Decoded}
-use Rattle.read_block.specs.declared.Decoded.TheVariants.{Done}
 use Rattle.read_block.specs.declared.Form.{Form}
 use Rattle.read_block.proofs.DecodeLaws.{all_read}
 use Rattle.read_block.proofs.RunLaws.{runs_stay}
@@ -39,22 +34,24 @@ use Rattle.theorem_one_to_one.proofs.CorrespondenceHolds.{correspondence_of_head
 use Rattle.theorem_one_to_one.proofs.PredictedBlocks.{fits_is}
 use Rattle.theorem_one_to_one.proofs.ZerosFit.{zeros_fit}
 use Rattle.theorem_one_to_one.proofs.StreamOfBlocks.{stream_of, stream_bytes, opens, block_there}
+use Rattle.std.specs.Prelude.{Ok, Result, Some, None, Option}
+use Rattle.stream.specs.declared.header.Refusal.{Refusal}
 
 -- where all lines are read, fewer are too
-fewer_read : (F : Form) (s : List ℕ) (n m : ℕ) (z : State) → read_lines F [] s n ≡ some z → m ≤ n → lines_read F [] s m ≡ m
+fewer_read : (F : Form) (s : List ℕ) (n m : ℕ) (z : State) → read_lines F [] s n ≡ Some z → m ≤ n → lines_read F [] s m ≡ m
 unfolding read_lines
 fewer_read F s n m z e h = go (read_lines F [] s m) refl
   where
     go : (o : Option State) → read_lines F [] s m ≡ o → lines_read F [] s m ≡ m
-    go (some y) f = all_read F [] s m y f
-    go none f =
+    go (Some y) f = all_read F [] s m y f
+    go None f =
         let k : m + (n - m) ≡ n = omega arith in
-        let g : read_lines F [] s n ≡ none = rw k at (runs_stay (read_line_at F [] s) (start_state F []) m (n - m) f) in
-        let c : some z ≡ none = sym e ∙ g in
+        let g : read_lines F [] s n ≡ None = rw k at (runs_stay (read_line_at F [] s) (start_state F []) m (n - m) f) in
+        let c : Some z ≡ None = sym e ∙ g in
         let no : ◌≡◌ {A = ℕ} 0 1 = cc in
         absurd (omega arith)
 
-module _ (d : List ℕ) (h : FujiHeader) (bytes : Bytes d) (e : parse_of d ≡ Header h) (lossless : h.lossless ≡ true) where
+module _ (d : List ℕ) (h : FujiHeader) (bytes : Bytes d) (e : parse_of d ≡ Ok h) (lossless : h.lossless ≡ true) where
   abbrev F : Form
   F = form_of h
 
@@ -81,7 +78,7 @@ module _ (d : List ℕ) (h : FujiHeader) (bytes : Bytes d) (e : parse_of d ≡ H
   stream : List ℕ
   stream = stream_of d h e lossless block short
 
-  stream_opens : open_of stream ≡ Header h
+  stream_opens : open_of stream ≡ Ok h
   unfolding stream
   stream_opens = opens d h e lossless block short
 
@@ -93,7 +90,7 @@ module _ (d : List ℕ) (h : FujiHeader) (bytes : Bytes d) (e : parse_of d ≡ H
   unfolding stream
   are_bytes = stream_bytes d h e lossless block short bytes W.0
 
-  decoded : (r : Rect) (n : ℕ) → Accepted h r n → (k : ℕ) → first_block r + k ≤ last_block r + 1 → answer_of stream h r k ≡ Done
+  decoded : (r : Rect) (n : ℕ) → Accepted h r n → (k : ℕ) → first_block r + k ≤ last_block r + 1 → answer_of stream h r k ≡ (Ok tt)
   unfolding answer_of
   decoded r n ok zero l = refl
   decoded r n ok (suc k) l = rw (decoded r n ok k (omega arith), read) (rw (le-ltb (line_count r) (line_count r) (omega arith)))
@@ -109,8 +106,8 @@ module _ (d : List ℕ) (h : FujiHeader) (bytes : Bytes d) (e : parse_of d ≡ H
           rw (no_bases stream h stream_opens lossless b, there b low)
           (fewer_read F block h.lines (line_count r) W.1.end W.1.read (lines_inside h r n ok))
 
-  called : (r : Rect) (tile : List ℕ) (before after : Buffers) (answer : Decoded) → region_of stream r before ≡ Reading h
-      → Left stream r tile (region_of stream r before) before after answer → answer ≡ Done
+  called : (r : Rect) (tile : List ℕ) (before after : Buffers) (answer : Result Unit Refusal) → region_of stream r before ≡ Ok (Some h)
+      → Left stream r tile (region_of stream r before) before after answer → answer ≡ (Ok tt)
   called r tile before after answer begins L =
       let ok = (region_reads stream r (length before.image) (length before.lines) (length before.records) h begins).region in
       let D : Decoding stream h r tile before after answer = rw begins at L in

@@ -1,7 +1,6 @@
 -- One step of a lossless line that was read: the bits of its code stand where it was read. Assumes nothing.
 use mathlib.Core.Bool.{Bool, true, false, cond, ◌&&◌}
 use mathlib.Core.List.{List}
-use mathlib.Core.Option.{some}
 use mathlib.Core.Path.{◌≡◌, refl, sym, ◌∙◌, subst}
 use Prim.Native.Nat.{ℕ, suc, ◌+◌, ◌*◌, ◌≤◌}
 use native.Mathlib.Omega.{arith}
@@ -19,8 +18,6 @@ use Rattle.code.specs.Tight.{code_bits, is_tight}
 use Rattle.code.specs.Inside.{code_length}
 use Rattle.code.specs.Nearest.{code_near}
 use Rattle.code.specs.declared.Code.{Code}
-use Rattle.code.specs.declared.Coded.{Coded}
-use Rattle.code.specs.declared.Coded.TheVariants.{Read, Truncated}
 use Rattle.code.proofs.SampleLaws.{OneToOne, one_to_one, sample_le}
 use Rattle.code.proofs.NearLaws.{near_exact}
 use Rattle.code.proofs.TightLaws.{length_code_bits, Stands, stands_there}
@@ -35,6 +32,7 @@ use Rattle.write_pass.proofs.LosslessLaws.{Lossless}
 use Rattle.write_pass.proofs.WriteLaws.{wanted}
 use Rattle.theorem_one_to_one.proofs.Together.{taken_more, Clean, Sound, writing_of, CleanReading, Back}
 use Rattle.theorem_one_to_one.proofs.StepForward.{InLines, cell_lt, same_code, same_interpolated}
+use Rattle.std.specs.Prelude.{None, Option, Some}
 
 -- a step of line n, at a reading r, and the quantiser, context, record and sample that it goes by
 module _ (bits W : ℕ) (s t : List ℕ) (n : ℕ) (Q : Lossless bits) (x : Step) (r : Reading) (ok : Sound bits W r.lines) (inside : InLines W x) where
@@ -94,7 +92,7 @@ module _ (bits W : ℕ) (s t : List ℕ) (n : ℕ) (Q : Lossless bits) (x : Step
   exact small = rw Q.total (near_exact bits Q.low h.negative c.prediction v (context_le M W r.lines x.line x.position ok.small) small)
 
   -- its bits stand where it was read
-  coded_backward : x.coded ≡ true → (d : Code) → code_at s p k limit raw ≡ Read d → Clean s d.after.0 (r.tight && is_tight M d) → sample d.value ≡ v
+  coded_backward : x.coded ≡ true → (d : Code) → code_at s p k limit raw ≡ Some d → Clean s d.after.0 (r.tight && is_tight M d) → sample d.value ≡ v
       → StepBack (after d)
   unfolding look_of choice_of
   coded_backward e d read clean is =
@@ -117,13 +115,13 @@ module _ (bits W : ℕ) (s t : List ℕ) (n : ℕ) (Q : Lossless bits) (x : Step
   between = interpolate i c r
 
   -- where a step was read, its bits stand
-  pub step_backward : (z : Reading) → read_step bits 0 W s x r ≡ some z → CleanReading s z → get_or z.lines (step_place W x + 1) 0 ≡ wanted W t n x → StepBack z
+  pub step_backward : (z : Reading) → read_step bits 0 W s x r ≡ Some z → CleanReading s z → get_or z.lines (step_place W x + 1) 0 ≡ wanted W t n x → StepBack z
   unfolding read_step look_of choice_of
   step_backward z e clean stands = go x.coded refl (code_at s p k limit raw) refl e
     where
-      go : (b : Bool) → x.coded ≡ b → (g : Coded) → code_at s p k limit raw ≡ g → cond b (taken bits 0 i slot c h r g) (some between) ≡ some z → StepBack z
-      go true eb Truncated eg f = let no : ◌≡◌ {A = ℕ} 0 1 = cc in absurd (omega arith)
-      go true eb (Read d) eg f =
+      go : (b : Bool) → x.coded ≡ b → (g : Option Code) → code_at s p k limit raw ≡ g → cond b (taken bits 0 i slot c h r g) (Some between) ≡ Some z → StepBack z
+      go true eb None eg f = let no : ◌≡◌ {A = ℕ} 0 1 = cc in absurd (omega arith)
+      go true eb (Some d) eg f =
           let is : after d ≡ z = cc in
           subst StepBack is (coded_backward eb d eg (rw (← is) at clean) (sym (put_there _ ∙ rw Q.total) ∙ (rw (← is) at stands)))
       go false eb g eg f =

@@ -2,7 +2,6 @@
 -- quantiser that coded it. Assumes nothing.
 use mathlib.Core.Bool.{Bool, true, false, cond, not, ◌&&◌}
 use mathlib.Core.List.{List, ◌++◌}
-use mathlib.Core.Option.{none, some}
 use mathlib.Core.Path.{◌≡◌, refl, sym, ◌∙◌}
 use Prim.Native.Nat.{ℕ, suc, ◌+◌, ◌*◌, ◌^◌, ◌≤◌, ◌<◌}
 use native.Mathlib.Nat.{mul-le-mul_right, le_refl}
@@ -40,6 +39,7 @@ use Rattle.write_pass.proofs.LosslessLaws.{code_numbers}
 use Rattle.write_pass.proofs.WriteLaws.{wanted, write_coded, write_interpolated}
 use Rattle.theorem_one_to_one.specs.UsedBases.{IsNear}
 use Rattle.theorem_one_to_one.proofs.Together.{Starts, starts_at, within, taken_more, Sound, writing_of, CleanReading, StoredWriting, Together}
+use Rattle.std.specs.Prelude.{None, Some}
 
 -- a step whose sample has a place in the lines
 abbrev pub InLines : ℕ → Step → Type 0
@@ -51,7 +51,7 @@ cell_lt W x h = let m : suc x.line * (W + 2) ≤ 18 * (W + 2) = mul-le-mul_right
 pub and : (a b : Bool) → a ≡ true → b ≡ true → (a && b) ≡ true
 and a b e f = rw (e, f)
 
-told : (b : Bool) (j : ℕ) → cond (not b) (some j) none ≡ none → b ≡ true
+told : (b : Bool) (j : ℕ) → cond (not b) (Some j) None ≡ None → b ≡ true
 told true j e = refl
 told false j e = let no : ◌≡◌ {A = ℕ} 0 1 = cc in absurd (omega arith)
 
@@ -113,7 +113,7 @@ module _ (bits q W : ℕ) (strict : Bool) (s t : List ℕ) (n : ℕ) (x : Step) 
 
   -- where the set is held to its predictions, this one must be right
   abbrev pub Held : Type 0
-  Held = cond (strict && not (eqb v c.prediction)) (some (index_in W n x.line x.position)) none ≡ none
+  Held = cond (strict && not (eqb v c.prediction)) (Some (index_in W n x.line x.position)) None ≡ None
 
   pub same_interpolated : x.coded ≡ false → Held → write_step bits q W strict t n x (writing_of s r) ≡ writing_of s between
   same_interpolated e right = write_interpolated bits q W strict t n x (writing_of s r) e ∙ rw right

@@ -14,11 +14,11 @@ use Rattle.stream.specs.Inside.{Ruled}
 use Rattle.stream.specs.Streams.{padded, row_start, open_of, size_of, sizes_before, range_of}
 use Rattle.stream.specs.Ranges.{part_of}
 use Rattle.stream.specs.declared.header.FujiHeader.{FujiHeader}
-use Rattle.stream.specs.declared.header.Parsed.TheVariants.{Header}
 use Rattle.stream.proofs.HeaderLaws.{IsParsed, parsed, parse_good, ruled}
 use Rattle.stream.proofs.StreamLaws.{open_parsed, range_opened}
 use Rattle.read_block.proofs.SampleLaws.{zeros_le}
 use Rattle.theorem_one_to_one.specs.Correspondence.{Bytes}
+use Rattle.std.specs.Prelude.{Ok}
 
 -- ---- copies of a list
 
@@ -91,14 +91,14 @@ bytes_four n h (suc (suc (suc (suc i)))) = omega arith
 
 -- ---- the stream
 
-open_lossless : (s : List ℕ) (h : FujiHeader) → parse_of s ≡ Header h → h.lossless ≡ true → 16 + 4 * h.blocks ≤ length s → open_of s ≡ Header h
+open_lossless : (s : List ℕ) (h : FujiHeader) → parse_of s ≡ Ok h → h.lossless ≡ true → 16 + 4 * h.blocks ≤ length s → open_of s ≡ Ok h
 open_lossless s h e lossless long = open_parsed s h e ∙ rw (le-ltb (length s) (16 + 4 * h.blocks) long, lossless)
 
 start_lossless : (h : FujiHeader) → h.lossless ≡ true → row_start h h.blocks ≡ 16 + padded (4 * h.blocks)
 unfolding row_start
 start_lossless h lossless = rw lossless (omega arith)
 
-module _ (d : List ℕ) (h : FujiHeader) (e : parse_of d ≡ Header h) (lossless : h.lossless ≡ true) (block : List ℕ) (short : length block < 2 ^ 32) where
+module _ (d : List ℕ) (h : FujiHeader) (e : parse_of d ≡ Ok h) (lossless : h.lossless ≡ true) (block : List ℕ) (short : length block < 2 ^ 32) where
   abbrev K : ℕ
   K = h.blocks
 
@@ -172,10 +172,10 @@ module _ (d : List ℕ) (h : FujiHeader) (e : parse_of d ≡ Header h) (lossless
   unfolding kind_rules
   same_kind = rw (head_at 0 (lit< tt), head_at 1 (lit< tt), head_at 2 (lit< tt), head_at 3 (lit< tt), head_at 4 (lit< tt))
 
-  is_parsed : parse_of stream_of ≡ Header h
-  is_parsed = parse_good stream_of (omega (arith, stream_length)) (rw (same_kind, same_header) P.rules) ∙ ap Header (same_header ∙ sym P.header)
+  is_parsed : parse_of stream_of ≡ Ok h
+  is_parsed = parse_good stream_of (omega (arith, stream_length)) (rw (same_kind, same_header) P.rules) ∙ ap Ok (same_header ∙ sym P.header)
 
-  pub opens : open_of stream_of ≡ Header h
+  pub opens : open_of stream_of ≡ Ok h
   opens = open_lossless stream_of h is_parsed lossless (omega (arith, stream_length))
 
   -- each size is that of the block

@@ -1,7 +1,6 @@
 -- What it means that reading and writing go together: bits at the start of a block, clean readings, and the writing that goes with one. Assumes nothing.
 use mathlib.Core.Bool.{Bool, true}
 use mathlib.Core.List.{List, ◌++◌, append_assoc}
-use mathlib.Core.Option.{Option, none, some}
 use mathlib.Core.Path.{◌≡◌, refl, sym, ap, ◌∙◌}
 use Prim.Native.Nat.{ℕ, ◌+◌, ◌*◌, ◌≤◌}
 use native.Mathlib.Omega.{arith}
@@ -13,6 +12,7 @@ use Rattle.quantiser.specs.Quantisers.{largest}
 use Rattle.read_pass.specs.Readings.{Reading, and_then}
 use Rattle.pass_steps.proofs.ContextLaws.{AllLe}
 use Rattle.write_pass.specs.Writings.{Writing}
+use Rattle.std.specs.Prelude.{None, Option, Some}
 
 -- ---- bits
 
@@ -60,10 +60,10 @@ pub record Clean (s : List ℕ) (at : ℕ) (verdict : Bool) : Type 0 where
 -- a writing whose bits stand at the start of s, with each interpolated sample its prediction
 pub record Stored (s : List ℕ) (l : List Bool) (wrong : Option ℕ) : Type 0 where
   pub starts : Starts s l
-  pub right : wrong ≡ none
+  pub right : wrong ≡ None
 
 -- a writing of which others were written before
-pub stored_cut : (s : List ℕ) (l m : List Bool) (o p : Option ℕ) → Stored s (l ++ m) o → (o ≡ none → p ≡ none) → Stored s l p
+pub stored_cut : (s : List ℕ) (l m : List Bool) (o p : Option ℕ) → Stored s (l ++ m) o → (o ≡ None → p ≡ None) → Stored s l p
 stored_cut s l m o p h f = record { starts = starts_cut s l m h.starts; right = f h.right }
 
 -- colour lines of the right length, with samples in 0..M
@@ -73,7 +73,7 @@ pub record Sound (bits W : ℕ) (lines : List ℕ) : Type 0 where
 
 -- the writing that goes with a clean reading of s
 abbrev pub writing_of : List ℕ → Reading → Writing
-writing_of s r = record { lines = r.lines; set = r.set; bits = take r.at.0 (bits_of s); wrong = none }
+writing_of s r = record { lines = r.lines; set = r.set; bits = take r.at.0 (bits_of s); wrong = None }
 
 abbrev pub CleanReading : List ℕ → Reading → Type 0
 CleanReading s r = Clean s r.at.0 r.tight
@@ -86,7 +86,7 @@ StoredWriting s w = Stored s w.bits w.wrong
 module _ {A B : Type 0} (IsClean : A → Type 0) (to : A → B) where
   -- f reads from r to z, cleanly, and g writes what goes with it
   pub record Together (f : A → Option A) (g : B → B) (r z : A) : Type 0 where
-    pub read : f r ≡ some z
+    pub read : f r ≡ Some z
     pub clean : IsClean z
     pub same : g (to r) ≡ to z
 

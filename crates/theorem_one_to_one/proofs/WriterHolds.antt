@@ -5,8 +5,6 @@ use Prim.Native.Nat.{ℕ, ◌≤◌}
 use lib.ListN.{length}
 use Rattle.image_map.specs.Places.{width_of}
 use Rattle.colour_lines.specs.Sets.{set_size}
-use Rattle.stream.specs.declared.BlockLength.{BlockLength}
-use Rattle.stream.specs.declared.BlockLength.TheVariants.{Length}
 use Rattle.read_block.specs.Images.{form_of}
 use Rattle.write_block.specs.WrittenBlocks.{tight_block}
 use Rattle.write_block.specs.Inside.{FitSet}
@@ -16,6 +14,8 @@ use Rattle.write_block.proofs.AnswerLaws.{written_fits, fits_written}
 use Rattle.theorem_one_to_one.specs.Correspondence.{Correspondence, TightBlockOf, WrittenWhole, CorrespondenceOfWriters}
 use Rattle.theorem_one_to_one.proofs.CorrespondenceHolds.{correspondence_of_headers}
 use Rattle.theorem_one_to_one.proofs.PredictedBlocks.{fits_is}
+use Rattle.std.specs.Prelude.{Ok, Result}
+use Rattle.stream.specs.declared.header.Refusal.{Refusal}
 
 module _ (F : Form) (lines : ℕ) (D : Correspondence F lines) where
   -- the tight block of a set that fits, as one from which the set is read
@@ -24,21 +24,21 @@ module _ (F : Form) (lines : ℕ) (D : Correspondence F lines) where
       let w = D.written t ((fits_is F lines t).0 f) in
       record { block = tight_block F lines t; bytes = w.0; tight = w.1; reads = w.2 }
 
-  whole : (t out : List ℕ) (n : ℕ) → length t ≡ set_size (width_of F.xtrans) lines → written_answer F lines t (length out) ≡ Length n
+  whole : (t out : List ℕ) (n : ℕ) → length t ≡ set_size (width_of F.xtrans) lines → written_answer F lines t (length out) ≡ Ok n
       → WrittenWhole F lines t out n
   unfolding its_block
   whole t out n size e =
       let w = written_fits F lines t (length out) n size e in
       let f : FitSet F lines t = w.0 in
       record {
-        output = ap (λ (a : BlockLength). written_out a (tight_block F lines t) out) e;
+        output = ap (λ (a : Result ℕ Refusal). written_out a (tight_block F lines t) out) e;
         size = w.1;
         tight = (its_block t f).tight;
         reads = (its_block t f).reads;
         only = λ b. D.one t b (its_block t f);
       }
 
-  answered : (t out : List ℕ) (b : TightBlockOf F lines t) → length b.block ≤ length out → written_answer F lines t (length out) ≡ Length (length b.block)
+  answered : (t out : List ℕ) (b : TightBlockOf F lines t) → length b.block ≤ length out → written_answer F lines t (length out) ≡ Ok (length b.block)
   unfolding its_block
   answered t out b room =
       let f : FitSet F lines t = (fits_is F lines t).1 ((D.sets t).1 b) in

@@ -1,7 +1,6 @@
 -- The block of a set, with any bases: it is read whole, and what it shows is near. Assumes nothing.
 use mathlib.Core.Bool.{Bool, true, false}
 use mathlib.Core.List.{List, ◌++◌}
-use mathlib.Core.Option.{none, some}
 use mathlib.Core.Path.{◌≡◌, refl, sym, ap, ◌∙◌}
 use Prim.Native.Nat.{ℕ, ◌-◌, ◌*◌, ◌<◌}
 use lib.ListN.{length, drop, replicate}
@@ -17,16 +16,17 @@ use Rattle.read_block.specs.declared.Form.{Form}
 use Rattle.theorem_one_to_one.proofs.BlockLaws.{Tail, tail_is}
 use Rattle.theorem_one_to_one.proofs.BlockTwins.{Shown, lines_forward}
 use Rattle.theorem_one_to_one.proofs.RunTwins.{write_state_of, CleanState, StoredState}
+use Rattle.std.specs.Prelude.{None, Some}
 
 pub record ReadWhole (F : Form) (bases : List ℕ) (lines : ℕ) (t s : List ℕ) : Type 0 where
   pub end : State
-  pub read : read_lines F bases s lines ≡ some end
+  pub read : read_lines F bases s lines ≡ Some end
   pub codes : end.tight ≡ true
   pub tail : is_tail s end.at.0 ≡ true
   pub shown : (m : ℕ) → m < lines → Shown F bases s t m
 
 module _ (F : Form) (bases : List ℕ) (depth : Depth F.bits) (lines : ℕ) (t : List ℕ) (range : SetWanted F t)
-    (right : (write_lines F bases t lines).wrong ≡ none) where
+    (right : (write_lines F bases t lines).wrong ≡ None) where
   abbrev bits : List Bool
   bits = (write_lines F bases t lines).bits
 

@@ -1,7 +1,6 @@
 -- The set of zeros fits, so that no header is without a tight block. Assumes nothing.
 use mathlib.Core.Bool.{Bool, true, false}
 use mathlib.Core.List.{List, [], ◌∷◌}
-use mathlib.Core.Option.{Option, none}
 use mathlib.Core.Path.{◌≡◌, refl}
 use Prim.Native.Nat.{ℕ, zero, suc, ◌+◌, ◌*◌, ◌≤◌}
 use native.Mathlib.Omega.{arith}
@@ -23,13 +22,14 @@ use Rattle.write_block.specs.Inside.{FitSet}
 use Rattle.read_block.specs.declared.Form.{Form}
 use Rattle.read_block.proofs.SampleLaws.{zeros_le, guarded_le, turned_le}
 use Rattle.write_pass.proofs.LookLaws.{given_exact}
+use Rattle.std.specs.Prelude.{None, Option}
 
 module _ (F : Form) (t : List ℕ) (none_above : (j : ℕ) → get_or t j 0 ≤ 0) where
   abbrev W : ℕ
   W = width_of F.xtrans
 
   abbrev Inv : List ℕ → Option ℕ → Type 0
-  Inv lines wrong = AllLe 0 lines × (wrong ≡ none)
+  Inv lines wrong = AllLe 0 lines × (wrong ≡ None)
 
   step_inv : (n : ℕ) (x : Step) (r : Writing) → Inv r.lines r.wrong
       → Inv (write_step F.bits 0 W true t n x r).lines (write_step F.bits 0 W true t n x r).wrong

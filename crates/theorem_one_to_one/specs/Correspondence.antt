@@ -1,19 +1,16 @@
 -- Promises. Under one lossless form and number of lines: tight blocks and sets of colour lines that fit correspond one to one, and the block that is
 -- written for a set is the one that corresponds to it. Assumes nothing.
-use Rattle.std.specs.Prelude.{true, List, [], ◌++◌, ◌↔◌, ◌≡◌, ℕ, suc, ◌+◌, ◌*◌, ◌≤◌, ◌<◌, length, get_or, drop}
+use Rattle.std.specs.Prelude.{true, List, [], ◌++◌, ◌↔◌, ◌≡◌, ℕ, suc, ◌+◌, ◌*◌, ◌≤◌, ◌<◌, length, get_or, drop, Ok}
 use Rattle.image_map.specs.Places.{width_of}
 use Rattle.stream.specs.Headers.{parse_of}
 use Rattle.stream.specs.Streams.{open_of}
-use Rattle.stream.specs.declared.BlockLength.TheVariants.{Length}
 use Rattle.stream.specs.declared.header.FujiHeader.{FujiHeader}
-use Rattle.stream.specs.declared.header.Parsed.TheVariants.{Header}
 use Rattle.colour_lines.specs.Sets.{set_size, line_of_rank, index_in}
 use Rattle.read_block.specs.Blocks.{read_lines, lines_of}
 use Rattle.read_block.specs.Images.{form_of, bases_in}
 use Rattle.read_block.specs.TightBlocks.{Tight, set_read, tight_answer}
 use Rattle.write_block.specs.WrittenBlocks.{tight_block}
 use Rattle.write_block.specs.WrittenAnswers.{written_answer, written_out}
-use Rattle.read_block.specs.declared.Decoded.TheVariants.{Done}
 use Rattle.read_block.specs.declared.Form.{Form}
 use Rattle.theorem_one_to_one.specs.PredictedSets.{PredictedSet}
 
@@ -39,7 +36,7 @@ pub record Correspondence (F : Form) (lines : ℕ) : Type 0 where
   pub written : (t : List ℕ) → PredictedSet F lines t
       → Bytes (tight_block F lines t) × Tight F lines (tight_block F lines t) × (set_read F lines (tight_block F lines t) ≡ t)
   -- the tight reading of block b accepts exactly the tight blocks
-  pub accepted : (b : ℕ) (s : List ℕ) → (tight_answer F b lines s ≡ Done) ↔ Tight F lines s
+  pub accepted : (b : ℕ) (s : List ℕ) → (tight_answer F b lines s ≡ (Ok tt)) ↔ Tight F lines s
   -- position p of colour line c of the twelve, in line n of the set that is read from s, is what stands there after that line is read, which is
   -- what decoding fills the image from
   pub shown : (s : List ℕ) (n c p : ℕ) → n < lines → c < 12 → p < width_of F.xtrans
@@ -48,11 +45,11 @@ pub record Correspondence (F : Form) (lines : ℕ) : Type 0 where
 
 -- the correspondence, under every lossless header that breaks no rule
 abbrev pub CorrespondenceOfHeaders : Type 0
-CorrespondenceOfHeaders = (d : List ℕ) (h : FujiHeader) → parse_of d ≡ Header h → h.lossless ≡ true → Correspondence (form_of h) h.lines
+CorrespondenceOfHeaders = (d : List ℕ) (h : FujiHeader) → parse_of d ≡ Ok h → h.lossless ≡ true → Correspondence (form_of h) h.lines
 
 -- in a lossless stream that opens no block has bases, so that decoding reads what the correspondence is about, `read_lines F []`
 abbrev pub NoBases : Type 0
-NoBases = (d : List ℕ) (h : FujiHeader) → open_of d ≡ Header h → h.lossless ≡ true → (b : ℕ) → bases_in d b ≡ []
+NoBases = (d : List ℕ) (h : FujiHeader) → open_of d ≡ Ok h → h.lossless ≡ true → (b : ℕ) → bases_in d b ≡ []
 
 -- ---- the writer: what `write_block` (crates/block) promises, and the correspondence, in one place
 
@@ -68,11 +65,11 @@ pub record WrittenWhole (F : Form) (lines : ℕ) (t out : List ℕ) (n : ℕ) : 
 
 pub record CorrespondenceOfWriter (F : Form) (lines : ℕ) : Type 0 where
   -- a length is answered only where all of that holds
-  pub whole : (t out : List ℕ) (n : ℕ) → length t ≡ set_size (width_of F.xtrans) lines → written_answer F lines t (length out) ≡ Length n
+  pub whole : (t out : List ℕ) (n : ℕ) → length t ≡ set_size (width_of F.xtrans) lines → written_answer F lines t (length out) ≡ Ok n
       → WrittenWhole F lines t out n
   -- and it is answered for every set that is read from a tight block, where the output is long enough for that block
   pub answered : (t out : List ℕ) (b : TightBlockOf F lines t)
-      → length b.block ≤ length out → written_answer F lines t (length out) ≡ Length (length b.block)
+      → length b.block ≤ length out → written_answer F lines t (length out) ≡ Ok (length b.block)
 
 abbrev pub CorrespondenceOfWriters : Type 0
-CorrespondenceOfWriters = (d : List ℕ) (h : FujiHeader) → parse_of d ≡ Header h → h.lossless ≡ true → CorrespondenceOfWriter (form_of h) h.lines
+CorrespondenceOfWriters = (d : List ℕ) (h : FujiHeader) → parse_of d ≡ Ok h → h.lossless ≡ true → CorrespondenceOfWriter (form_of h) h.lines

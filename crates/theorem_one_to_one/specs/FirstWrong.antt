@@ -1,9 +1,8 @@
 -- Promises. Refusal 12: the sample that it names is the first in coding order, by the set's own samples, that differs from its prediction.
-use Rattle.std.specs.Prelude.{true, List, [], ◌∷◌, ◌++◌, ◌≢◌, ◌≡◌, ℕ, ◌<◌, get_or}
+use Rattle.std.specs.Prelude.{true, List, [], ◌∷◌, ◌++◌, ◌≢◌, ◌≡◌, ℕ, ◌<◌, get_or, Err}
 use Rattle.pass_schedule.specs.Steps.{Step, plan_of, pass_steps, is_interpolated}
 use Rattle.image_map.specs.Places.{width_of}
 use Rattle.colour_lines.specs.Sets.{index_in}
-use Rattle.stream.specs.declared.BlockLength.TheVariants.{Refused}
 use Rattle.stream.specs.declared.header.Refusal.TheVariants.{NotPredicted}
 use Rattle.read_block.specs.declared.Form.{Form}
 use Rattle.write_block.specs.WrittenAnswers.{written_answer}
@@ -43,4 +42,4 @@ pub record FirstWrong (F : Form) (lines : ℕ) (t : List ℕ) (j : ℕ) : Type 0
 
 abbrev pub NamesFirstWrong : Type 0
 NamesFirstWrong =
-    (F : Form) (lines : ℕ) (t : List ℕ) (room j : ℕ) → written_answer F lines t room ≡ Refused (NotPredicted j) → FirstWrong F lines t j
+    (F : Form) (lines : ℕ) (t : List ℕ) (room j : ℕ) → written_answer F lines t room ≡ Err (NotPredicted j) → FirstWrong F lines t j

@@ -12,29 +12,25 @@ use Rattle.numbers.proofs.OrderLaws.{split}
 use Rattle.stream.specs.Inside.{Ruled}
 use Rattle.stream.specs.Streams.{open_of}
 use Rattle.stream.specs.declared.header.FujiHeader.{FujiHeader}
-use Rattle.stream.specs.declared.header.Parsed.TheVariants.{Header}
 use Rattle.stream.proofs.StreamLaws.{opened}
 use Rattle.image_region.specs.Regions.{block_of, right_of, bottom_of, is_outside, is_empty, checked_of, span_of, last_block}
 use Rattle.image_region.specs.Inside.{Accepted}
 use Rattle.image_region.specs.declared.Rect.{Rect}
-use Rattle.image_region.specs.declared.Checked.TheVariants as Check
 use Rattle.image_region.proofs.CheckLaws.{not_empty, has_samples}
 use Rattle.admission.specs.Beginnings.{samples_needed, records_needed, with_scratch, with_region, region_begins, image_begins}
-use Rattle.admission.specs.declared.Beginning.{Beginning}
-use Rattle.admission.specs.declared.Beginning.TheVariants.{Nothing, Reading}
 use Rattle.read_block.specs.Lent.{Buffers}
 use Rattle.read_block.specs.Images.{read_in, line_of, is_decoded, decoded_sample, Decoding, Left}
 use Rattle.read_block.specs.WindowedImages.{is_reached, reached_sample, WindowedDecoding, LeftWindowed}
-use Rattle.read_block.specs.declared.Decoded.{Decoded}
-use Rattle.read_block.specs.declared.Decoded.TheVariants.{Done}
 use Rattle.theorem_regions.specs.Agreement.{whole, Entry, decode, decode_region, decode_region_windowed, Call, LongEnough}
 use Rattle.theorem_regions.specs.Agreement.{Within, Touches, Agreement, WholeAndRegion}
 use Rattle.theorem_regions.proofs.AgreementLaws.{Reads, read_accepted, read_only, read_if, read_same}
+use Rattle.std.specs.Prelude.{None, Ok, Option, Result, Some}
+use Rattle.stream.specs.declared.header.Refusal.{Refusal}
 
 -- ---- how such a call begins
 
 -- n samples of the image, and so many of scratch and records, that are enough for the entry with 18 lines
-module _ (d : List ℕ) (h : FujiHeader) (r : Rect) (o : open_of d ≡ Header h) (w : Within h r) (n samples records : ℕ)
+module _ (d : List ℕ) (h : FujiHeader) (r : Rect) (o : open_of d ≡ Ok h) (w : Within h r) (n samples records : ℕ)
     (image : r.width * r.height ≤ n) (lines : samples_needed h.xtrans ≤ samples) (rs : records_needed ≤ records) where
   abbrev ruled : Ruled h
   ruled = (opened d h o).ruled
@@ -50,23 +46,23 @@ module _ (d : List ℕ) (h : FujiHeader) (r : Rect) (o : open_of d ≡ Header h)
   inside =
       rw (right_is, bottom_is, le-ltb h.width (r.x + r.width) w.right, le-ltb h.height (r.y + r.height) w.bottom, le-ltb n (r.width * r.height) image)
 
-  enough : with_scratch h samples records ≡ Header h
+  enough : with_scratch h samples records ≡ Ok h
   enough = rw (le-ltb samples (samples_needed h.xtrans) lines, le-ltb records records_needed rs)
 
   -- nothing is to be done, or the region is read
-  begins : with_region h (checked_of h r n) samples records ≡ cond (is_empty r) Nothing (Reading h)
+  begins : with_region h (checked_of h r n) samples records ≡ cond (is_empty r) (Ok None) (Ok (Some h))
   unfolding checked_of
   begins = rw inside (by (is_empty r))
     where
-      by : (t : Bool) → with_region h (cond t Check.Empty (Check.Touched (span_of r))) samples records ≡ cond t Nothing (Reading h)
+      by : (t : Bool) → with_region h (cond t (Ok None) (Ok (Some (span_of r)))) samples records ≡ cond t (Ok None) (Ok (Some h))
       by true = refl
       by false = rw enough
 
-  region_begins_lem : region_begins d r n samples records ≡ cond (is_empty r) Nothing (Reading h)
+  region_begins_lem : region_begins d r n samples records ≡ cond (is_empty r) (Ok None) (Ok (Some h))
   unfolding region_begins
   region_begins_lem = rw o begins
 
-  image_begins_lem : r ≡ whole h → image_begins d h.width h.height n samples records ≡ cond (is_empty r) Nothing (Reading h)
+  image_begins_lem : r ≡ whole h → image_begins d h.width h.height n samples records ≡ cond (is_empty r) (Ok None) (Ok (Some h))
   unfolding image_begins
   image_begins_lem is = rw (o, eq-eqb h.width h.width refl, eq-eqb h.height h.height refl, ← is) begins
 
@@ -78,11 +74,11 @@ decoded_reached false q a b x y z t = absurd (false≢true t)
 decoded_reached true false a b x y z t = absurd (false≢true t)
 decoded_reached true true a b x y z t = rw (t, le-leb a b (omega (arith, ltb-true a b t)))
 
-data Ends (d : List ℕ) (h : FujiHeader) (r : Rect) (tile image' : List ℕ) (answer : Decoded) (n : ℕ) : Type 0 where
+data Ends (d : List ℕ) (h : FujiHeader) (r : Rect) (tile image' : List ℕ) (answer : Result Unit Refusal) (n : ℕ) : Type 0 where
   reads : Accepted h r n → Reads d h r tile image' answer → Ends d h r tile image' answer n
-  empty : is_empty r ≡ true → answer ≡ Done → Ends d h r tile image' answer n
+  empty : is_empty r ≡ true → answer ≡ (Ok tt) → Ends d h r tile image' answer n
 
-module _ (d : List ℕ) (h : FujiHeader) (r : Rect) (tile : List ℕ) (before after : Buffers) (answer : Decoded) (o : open_of d ≡ Header h)
+module _ (d : List ℕ) (h : FujiHeader) (r : Rect) (tile : List ℕ) (before after : Buffers) (answer : Result Unit Refusal) (o : open_of d ≡ Ok h)
     (w : Within h r) (room : r.width * r.height ≤ length before.image) where
   abbrev Ended : Type 0
   Ended = Ends d h r tile after.image answer (length before.image)
@@ -105,23 +101,23 @@ module _ (d : List ℕ) (h : FujiHeader) (r : Rect) (tile : List ℕ) (before af
       reached i t =
           decoded_reached (ltb i (r.width * r.height)) (ltb (block_of r i) (last_block r + 1)) (line_of r i) (read_in d h r (block_of r i)) _ _ _ t
 
-  by_begin : (g : Beginning) → g ≡ cond (is_empty r) Nothing (Reading h) → Left d r tile g before after answer → Ended
+  by_begin : (g : Result (Option FujiHeader) Refusal) → g ≡ cond (is_empty r) (Ok None) (Ok (Some h)) → Left d r tile g before after answer → Ended
   by_begin g e z = go (is_empty r) refl (rw e at z)
     where
-      go : (t : Bool) → is_empty r ≡ t → Left d r tile (cond t Nothing (Reading h)) before after answer → Ended
+      go : (t : Bool) → is_empty r ≡ t → Left d r tile (cond t (Ok None) (Ok (Some h))) before after answer → Ended
       go true t z = empty t z.0
       go false t z = ended t (plain_reads z)
 
-  by_windowed : (g : Beginning) → g ≡ cond (is_empty r) Nothing (Reading h) → LeftWindowed d r tile g before after answer → Ended
+  by_windowed : (g : Result (Option FujiHeader) Refusal) → g ≡ cond (is_empty r) (Ok None) (Ok (Some h)) → LeftWindowed d r tile g before after answer → Ended
   by_windowed g e z = go (is_empty r) refl (rw e at z)
     where
-      go : (t : Bool) → is_empty r ≡ t → LeftWindowed d r tile (cond t Nothing (Reading h)) before after answer → Ended
+      go : (t : Bool) → is_empty r ≡ t → LeftWindowed d r tile (cond t (Ok None) (Ok (Some h))) before after answer → Ended
       go true t z = empty t z.0
       go false t z = ended t (windowed_reads z)
 
 -- of each entry
-call_ends : (e : Entry) (d : List ℕ) (h : FujiHeader) (r : Rect) (tile : List ℕ) (before after : Buffers) (answer : Decoded)
-    → open_of d ≡ Header h → Within h r → LongEnough e h r before → Call e d h r tile before after answer
+call_ends : (e : Entry) (d : List ℕ) (h : FujiHeader) (r : Rect) (tile : List ℕ) (before after : Buffers) (answer : Result Unit Refusal)
+    → open_of d ≡ Ok h → Within h r → LongEnough e h r before → Call e d h r tile before after answer
     → Ends d h r tile after.image answer (length before.image)
 call_ends decode d h r tile before after answer o w l z =
     by_begin d h r tile before after answer o w l.image _
@@ -147,7 +143,7 @@ sides w k i l = (
   split k 0 (λ e. let z : k ≡ 0 = omega arith in absurd (omega (arith, rw (z, mul-zero w) at l))) (λ p. p),
 )
 
-module _ (d : List ℕ) (h : FujiHeader) (r : Rect) (tile all part : List ℕ) (a b : Decoded) (n m : ℕ) where
+module _ (d : List ℕ) (h : FujiHeader) (r : Rect) (tile all part : List ℕ) (a b : Result Unit Refusal) (n m : ℕ) where
   agreement : Ends d h (whole h) tile all a n → Ends d h r tile part b m → Ruled h → Agreement d h r all part a b
   agreement (empty t e) y u = absurd (never_empty h u t)
   agreement (reads W A) (reads ok B) u =

@@ -2,7 +2,6 @@
 use borrow.Author.Tests.{ltb-false, lt-ltb, le-ltb}
 use mathlib.Core.Bool.{Bool, true, false, cond}
 use mathlib.Core.List.{List}
-use mathlib.Core.Option.{Option, none, some}
 use mathlib.Core.Path.{◌≡◌, refl, sym, ◌∙◌}
 use Prim.Native.Nat.{ℕ, zero, suc, ◌+◌, ◌-◌, ◌*◌, ◌/◌, ◌%◌, ◌≤◌, ◌<◌}
 use native.Mathlib.Nat.{mod-lt, mul_comm, zero-add}
@@ -20,10 +19,10 @@ use Rattle.image_region.proofs.RegionLaws.{right_is, bottom_is, block_touched, b
 use Rattle.read_block.specs.Blocks.{State, runs, read_line_at, start_state, read_lines}
 use Rattle.read_block.specs.Images.{form_of, bytes_in, bases_in, is_read, lines_read, read_in, line_of, is_decoded, decoded_sample, or_else, answer_of}
 use Rattle.read_block.specs.declared.Form.{Form}
-use Rattle.read_block.specs.declared.Decoded.{Decoded}
-use Rattle.read_block.specs.declared.Decoded.TheVariants.{Done, Refused}
 use Rattle.read_block.proofs.RunLaws.{runs_stay}
 use Rattle.theorem_regions.specs.Agreement.{FailsOn, whole}
+use Rattle.std.specs.Prelude.{Err, Ok, Result, None, Option, Some}
+use Rattle.stream.specs.declared.header.Refusal.{Refusal}
 
 -- ---- lines that are read
 
@@ -34,11 +33,11 @@ module _ (F : Form) (bases s : List ℕ) where
   abbrev R : ℕ → Bool
   R n = is_read (read_lines F bases s n)
 
-  is_none : (o : Option State) → is_read o ≡ false → o ≡ none
-  is_none none e = refl
-  is_none (some z) e = true_false e
+  is_none : (o : Option State) → is_read o ≡ false → o ≡ None
+  is_none None e = refl
+  is_none (Some z) e = true_false e
 
-  none_is : (o : Option State) → o ≡ none → is_read o ≡ false
+  none_is : (o : Option State) → o ≡ None → is_read o ≡ false
   none_is o e = rw e
 
   -- after a truncated line none is read
@@ -104,14 +103,14 @@ module _ (F : Form) (bases s : List ℕ) where
 
 -- ---- the answer
 
-not_refused : (d : List ℕ) (h : FujiHeader) (r : Rect) (a : Decoded) (x y : ℕ) (t : Bool) → or_else a (cond t (Refused (Truncated x y)) Done) ≡ Done
-    → (a ≡ Done) × (t ≡ false)
-not_refused d h r Done x y true e = absurd (let no : ◌≡◌ {A = ℕ} 0 1 = cc in omega arith)
-not_refused d h r Done x y false e = (refl, refl)
-not_refused d h r (Refused z) x y t e = absurd (let no : ◌≡◌ {A = ℕ} 0 1 = cc in omega arith)
+not_refused : (d : List ℕ) (h : FujiHeader) (r : Rect) (a : Result Unit Refusal) (x y : ℕ) (t : Bool) → or_else a (cond t (Err (Truncated x y)) (Ok tt)) ≡ (Ok tt)
+    → (a ≡ (Ok tt)) × (t ≡ false)
+not_refused d h r (Ok tt) x y true e = absurd (let no : ◌≡◌ {A = ℕ} 0 1 = cc in omega arith)
+not_refused d h r (Ok tt) x y false e = (refl, refl)
+not_refused d h r (Err z) x y t e = absurd (let no : ◌≡◌ {A = ℕ} 0 1 = cc in omega arith)
 
 module _ (d : List ℕ) (h : FujiHeader) (r : Rect) where
-  done_all : (n : ℕ) → answer_of d h r n ≡ Done → (k : ℕ) → k < n → line_count r ≤ read_in d h r (first_block r + k)
+  done_all : (n : ℕ) → answer_of d h r n ≡ (Ok tt) → (k : ℕ) → k < n → line_count r ≤ read_in d h r (first_block r + k)
   unfolding answer_of
   done_all zero e k l = absurd (omega arith)
   done_all (suc n) e k l =
@@ -121,7 +120,7 @@ module _ (d : List ℕ) (h : FujiHeader) (r : Rect) where
       (λ g. let m : k ≡ n = omega arith in rw m (ltb-false (read_in d h r b) (line_count r) z.1))
       (λ g. done_all n z.0 k g)
 
-  all_done : (n : ℕ) → ((k : ℕ) → k < n → line_count r ≤ read_in d h r (first_block r + k)) → answer_of d h r n ≡ Done
+  all_done : (n : ℕ) → ((k : ℕ) → k < n → line_count r ≤ read_in d h r (first_block r + k)) → answer_of d h r n ≡ (Ok tt)
   unfolding answer_of
   all_done zero f = refl
   all_done (suc n) f =
@@ -130,7 +129,7 @@ module _ (d : List ℕ) (h : FujiHeader) (r : Rect) where
 -- ---- a call that reads
 
 -- what it leaves, of any entry: its answer, and the samples of the lines that were read
-pub record Reads (d : List ℕ) (h : FujiHeader) (r : Rect) (tile image' : List ℕ) (answer : Decoded) : Type 0 where
+pub record Reads (d : List ℕ) (h : FujiHeader) (r : Rect) (tile image' : List ℕ) (answer : Result Unit Refusal) : Type 0 where
   pub answered : answer ≡ answer_of d h r (last_block r + 1 - first_block r)
   pub samples : (i : ℕ) → is_decoded d h r (last_block r + 1) i ≡ true → get_or image' i 0 ≡ decoded_sample d h r tile i
 
@@ -147,18 +146,18 @@ module _ (d : List ℕ) (h : FujiHeader) (r : Rect) (n : ℕ) (ok : Accepted h r
       let g : line_of r i < read_in d h r (block_of r i) = omega (arith, f (block_of r i) t.0 t.1, row) in
       rw (lt-ltb i (r.width * r.height) l, lt-ltb (block_of r i) (last_block r + 1) (omega (arith, t.1)), lt-ltb (line_of r i) (read_in d h r (block_of r i)) g)
 
-  touched_done : answer_of d h r (last_block r + 1 - first_block r) ≡ Done → (k : ℕ) → first_block r ≤ k → k ≤ last_block r → line_count r ≤ read_in d h r k
+  touched_done : answer_of d h r (last_block r + 1 - first_block r) ≡ (Ok tt) → (k : ℕ) → first_block r ≤ k → k ≤ last_block r → line_count r ≤ read_in d h r k
   touched_done e k l u =
       let g : first_block r + (k - first_block r) ≡ k = omega arith in
       rw g at (done_all d h r (last_block r + 1 - first_block r) e (k - first_block r) (omega arith))
 
-  done_touched : ((k : ℕ) → first_block r ≤ k → k ≤ last_block r → line_count r ≤ read_in d h r k) → answer_of d h r (last_block r + 1 - first_block r) ≡ Done
+  done_touched : ((k : ℕ) → first_block r ≤ k → k ≤ last_block r → line_count r ≤ read_in d h r k) → answer_of d h r (last_block r + 1 - first_block r) ≡ (Ok tt)
   done_touched f =
       all_done d h r (last_block r + 1 - first_block r) (λ k l. f (first_block r + k) (omega arith) (omega (arith, block_order h r n ok)))
 
 -- ---- the theorem
 
-module _ (d : List ℕ) (h : FujiHeader) (r : Rect) (tile all part : List ℕ) (a b : Decoded) (n m : ℕ) (W : Accepted h (whole h) n) (ok : Accepted h r m)
+module _ (d : List ℕ) (h : FujiHeader) (r : Rect) (tile all part : List ℕ) (a b : Result Unit Refusal) (n m : ℕ) (W : Accepted h (whole h) n) (ok : Accepted h r m)
     (A : Reads d h (whole h) tile all a) (B : Reads d h r tile part b) where
   abbrev F : Form
   F = form_of h
@@ -177,7 +176,7 @@ module _ (d : List ℕ) (h : FujiHeader) (r : Rect) (tile all part : List ℕ) (
   far : ℕ → Type 0
   far k = line_count r ≤ read_in d h r k
 
-  pub read_accepted : a ≡ Done → b ≡ Done
+  pub read_accepted : a ≡ (Ok tt) → b ≡ (Ok tt)
   read_accepted e =
       B.answered ∙ done_touched d h r m ok (λ k l u.
       let i = inside_blocks k u in
@@ -186,7 +185,7 @@ module _ (d : List ℕ) (h : FujiHeader) (r : Rect) (tile all part : List ℕ) (
       let y = before F (bases_in d k) (bytes_in d k) (line_count r) (line_count (whole h)) (omega (arith, whole_lines, lines_inside h r m ok)) z in
       omega (arith, all_read F (bases_in d k) (bytes_in d k) (line_count r) y))
 
-  pub read_only : b ≡ Done → (k j : ℕ) → first_block r ≤ k → k ≤ last_block r → FailsOn d h k j → line_count r ≤ j
+  pub read_only : b ≡ (Ok tt) → (k j : ℕ) → first_block r ≤ k → k ≤ last_block r → FailsOn d h k j → line_count r ≤ j
   read_only e k j l u f =
       split (line_count r) j
       (λ g. g)
@@ -196,7 +195,7 @@ module _ (d : List ℕ) (h : FujiHeader) (r : Rect) (tile all part : List ℕ) (
       let y = before F (bases_in d k) (bytes_in d k) (suc j) (line_count r) g z in
       true_false (sym y ∙ f.fails))
 
-  pub read_if : ((k j : ℕ) → first_block r ≤ k → k ≤ last_block r → FailsOn d h k j → line_count r ≤ j) → b ≡ Done
+  pub read_if : ((k j : ℕ) → first_block r ≤ k → k ≤ last_block r → FailsOn d h k j → line_count r ≤ j) → b ≡ (Ok tt)
   read_if f =
       B.answered ∙ done_touched d h r m ok (λ k l u.
       split (line_count r) (read_in d h r k)
@@ -206,7 +205,7 @@ module _ (d : List ℕ) (h : FujiHeader) (r : Rect) (tile all part : List ℕ) (
       let s : FailsOn d h k (read_in d h r k) = record { line = omega (arith, g, lines_inside h r m ok); before = c.0; fails = c.1 } in
       absurd (omega (arith, f k (read_in d h r k) l u s, g))))
 
-  pub read_same : b ≡ Done → (i : ℕ) → i < r.width * r.height → get_or part i 0 ≡ get_or all ((r.y + i / r.width) * h.width + (r.x + i % r.width)) 0
+  pub read_same : b ≡ (Ok tt) → (i : ℕ) → i < r.width * r.height → get_or part i 0 ≡ get_or all ((r.y + i / r.width) * h.width + (r.x + i % r.width)) 0
   unfolding is_decoded
   read_same e i l =
       let f = touched_done d h r m ok (sym B.answered ∙ e) in

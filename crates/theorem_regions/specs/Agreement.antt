@@ -1,9 +1,8 @@
 -- Promises. A region has the whole picture's samples, and which regions of a truncated picture are accepted: of calls of any of the entries that decode, each with
 -- buffers that are long enough, whatever they held. Assumes nothing.
-use Rattle.std.specs.Prelude.{Bool, true, false, List, ◌↔◌, ◌≡◌, ℕ, suc, ◌+◌, ◌*◌, ◌/◌, ◌%◌, ◌≤◌, ◌<◌, length, get_or}
+use Rattle.std.specs.Prelude.{Bool, true, false, List, ◌↔◌, ◌≡◌, ℕ, suc, ◌+◌, ◌*◌, ◌/◌, ◌%◌, ◌≤◌, ◌<◌, length, get_or, Ok, Result}
 use Rattle.stream.specs.Streams.{open_of}
 use Rattle.stream.specs.declared.header.FujiHeader.{FujiHeader}
-use Rattle.stream.specs.declared.header.Parsed.TheVariants.{Header}
 use Rattle.image_region.specs.Regions.{first_block, last_block, line_count}
 use Rattle.image_region.specs.declared.Rect.{Rect}
 use Rattle.admission.specs.Beginnings.{samples_needed, records_needed, region_begins, windowed_begins, image_begins, whole_of}
@@ -11,8 +10,7 @@ use Rattle.read_block.specs.Lent.{Buffers}
 use Rattle.read_block.specs.Blocks.{read_lines}
 use Rattle.read_block.specs.Images.{form_of, bytes_in, bases_in, is_read, Left}
 use Rattle.read_block.specs.WindowedImages.{window_size, LeftWindowed}
-use Rattle.read_block.specs.declared.Decoded.{Decoded}
-use Rattle.read_block.specs.declared.Decoded.TheVariants.{Done}
+use Rattle.stream.specs.declared.header.Refusal.{Refusal}
 
 -- ---- the calls
 
@@ -25,7 +23,7 @@ pub data Entry : Type 0 where
   decode_region_windowed : Entry
 
 -- what a call of an entry for the region r promises of its buffers and its answer; `decode` is for the whole picture alone
-abbrev pub Call : Entry → List ℕ → FujiHeader → Rect → List ℕ → (before after : Buffers) → Decoded → Type 0
+abbrev pub Call : Entry → List ℕ → FujiHeader → Rect → List ℕ → (before after : Buffers) → Result Unit Refusal → Type 0
 Call decode d h r tile before after answer =
     (r ≡ whole h)
     × Left d r tile (image_begins d h.width h.height (length before.image) (length before.lines) (length before.records)) before after answer
@@ -68,18 +66,18 @@ pub record FailsOn (d : List ℕ) (h : FujiHeader) (b m : ℕ) : Type 0 where
 -- ---- the statement
 
 -- a call for the whole picture left `all` and answered a, and one for the region r left `part` and answered b
-pub record Agreement (d : List ℕ) (h : FujiHeader) (r : Rect) (all part : List ℕ) (a b : Decoded) : Type 0 where
+pub record Agreement (d : List ℕ) (h : FujiHeader) (r : Rect) (all part : List ℕ) (a b : Result Unit Refusal) : Type 0 where
   -- if the whole is accepted, the region is too
-  pub accepted : a ≡ Done → b ≡ Done
+  pub accepted : a ≡ (Ok tt) → b ≡ (Ok tt)
   -- whatever the answer to the whole is, the region is accepted exactly if no block that it touches fails on its last line or an earlier one
-  pub exactly : (b ≡ Done) ↔ ((k m : ℕ) → Touches r k → FailsOn d h k m → line_count r ≤ m)
+  pub exactly : (b ≡ (Ok tt)) ↔ ((k m : ℕ) → Touches r k → FailsOn d h k m → line_count r ≤ m)
   -- a region that is accepted has the whole's samples at its places, also where the whole is refused as truncated
-  pub same : b ≡ Done → (i : ℕ) → i < r.width * r.height
+  pub same : b ≡ (Ok tt) → (i : ℕ) → i < r.width * r.height
       → get_or part i 0 ≡ get_or all ((r.y + i / r.width) * h.width + (r.x + i % r.width)) 0
 
 abbrev pub WholeAndRegion : Type 0
 WholeAndRegion =
-    (d : List ℕ) (h : FujiHeader) (r : Rect) (tile : List ℕ) (e e' : Entry) (all all' part part' : Buffers) (a b : Decoded)
-    → open_of d ≡ Header h → Within h r → LongEnough e h (whole h) all → LongEnough e' h r part
+    (d : List ℕ) (h : FujiHeader) (r : Rect) (tile : List ℕ) (e e' : Entry) (all all' part part' : Buffers) (a b : Result Unit Refusal)
+    → open_of d ≡ Ok h → Within h r → LongEnough e h (whole h) all → LongEnough e' h r part
     → Call e d h (whole h) tile all all' a → Call e' d h r tile part part' b
     → Agreement d h r all'.image part'.image a b

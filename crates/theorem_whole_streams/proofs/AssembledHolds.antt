@@ -14,7 +14,6 @@ use Rattle.numbers.proofs.LeastLaws.{Least, least}
 use Rattle.numbers.proofs.OrderLaws.{split}
 use Rattle.stream.specs.Headers.{byte_at, header_of, kind_rules, parse_of}
 use Rattle.stream.specs.declared.header.FujiHeader.{FujiHeader}
-use Rattle.stream.specs.declared.header.Parsed.TheVariants.{Header}
 use Rattle.stream.proofs.HeaderLaws.{IsParsed, parsed, parse_good}
 use Rattle.stream.specs.Ranges.{part_of}
 use Rattle.stream.specs.Streams.{padded, row_length, row_start, is_short, first_short, open_of, size_of, sizes_before, range_of, row_of}
@@ -25,6 +24,7 @@ use Rattle.theorem_one_to_one.specs.Correspondence.{Bytes}
 use Rattle.theorem_whole_streams.specs.Assembled.{four_bytes, filled, length_of, assembled, Parts, OpensAs, Assembling, AssembledOpens}
 use Rattle.theorem_whole_streams.proofs.StandLaws.{Stands, stands_whole, stands_left, stands_right, stands_part, stands_at, stands_inside, stands_from}
 use Rattle.theorem_whole_streams.proofs.StandLaws.{length_upto, length_each, stands_each, bytes_append, bytes_take, bytes_upto}
+use Rattle.std.specs.Prelude.{Ok}
 
 four_is : (n : ℕ) → n / 0x1000000 * 0x1000000 + n / 0x10000 % 256 * 0x10000 + n / 0x100 % 256 * 0x100 + n % 256 ≡ n
 four_is n = omega arith
@@ -47,7 +47,7 @@ bytes_filled l a =
     bytes_append l (replicate (padded (length l) - length l) 0) a (λ i. omega (arith, zeros_le 0 (padded (length l) - length l) i))
 
 -- a header parses by its first 16 bytes
-module _ (d s : List ℕ) (h : FujiHeader) (e : parse_of d ≡ Header h) (long : 16 ≤ length s) (at : (i : ℕ) → i < 16 → byte_at s i ≡ byte_at d i) where
+module _ (d s : List ℕ) (h : FujiHeader) (e : parse_of d ≡ Ok h) (long : 16 ≤ length s) (at : (i : ℕ) → i < 16 → byte_at s i ≡ byte_at d i) where
   same_header : header_of s ≡ header_of d
   unfolding header_of
   same_header =
@@ -72,12 +72,12 @@ module _ (d s : List ℕ) (h : FujiHeader) (e : parse_of d ≡ Header h) (long :
   unfolding kind_rules
   same_kind = rw (at 0 (lit< tt), at 1 (lit< tt), at 2 (lit< tt), at 3 (lit< tt), at 4 (lit< tt))
 
-  pub same_parsed : parse_of s ≡ Header h
+  pub same_parsed : parse_of s ≡ Ok h
   same_parsed =
       let P : IsParsed d h = parsed d h e in
-      parse_good s long (rw (same_kind, same_header) P.rules) ∙ ap Header (same_header ∙ sym P.header)
+      parse_good s long (rw (same_kind, same_header) P.rules) ∙ ap Ok (same_header ∙ sym P.header)
 
-module _ (d : List ℕ) (h : FujiHeader) (e : parse_of d ≡ Header h) (rows blocks : ℕ → List ℕ) (parts : Parts h rows blocks) where
+module _ (d : List ℕ) (h : FujiHeader) (e : parse_of d ≡ Ok h) (rows blocks : ℕ → List ℕ) (parts : Parts h rows blocks) where
   abbrev K : ℕ
   K = h.blocks
 
@@ -199,7 +199,7 @@ module _ (d : List ℕ) (h : FujiHeader) (e : parse_of d ≡ Header h) (rows blo
   long : 16 + 4 * K ≤ length S
   long = omega (arith, stands_inside S 16 sizes the_sizes, sizes_length)
 
-  is_parsed : parse_of S ≡ Header h
+  is_parsed : parse_of S ≡ Ok h
   is_parsed =
       same_parsed d S h e (omega (arith, long))
       (λ i l. let z : 0 + i ≡ i = omega arith in rw z at (stands_at S 0 (take 16 d) i head (omega (arith, head_length))) ∙ get_or-take 16 d i 0 l)
@@ -216,7 +216,7 @@ module _ (d : List ℕ) (h : FujiHeader) (e : parse_of d ≡ Header h) (rows blo
           let k : false ≡ true = sym (le-ltb (length S) (row_start h b + row_length h) fits) ∙ t in
           let no : ◌≡◌ {A = ℕ} 0 1 = cc in omega arith
 
-  opens : open_of S ≡ Header h
+  opens : open_of S ≡ Ok h
   opens =
       open_parsed S h is_parsed
       ∙ rw (le-ltb (length S) (16 + 4 * K) long, le-ltb (first_short S h) K no_short, and-false (not h.lossless))

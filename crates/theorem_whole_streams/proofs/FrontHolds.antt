@@ -13,7 +13,6 @@ use Rattle.numbers.proofs.OrderLaws.{split}
 use Rattle.stream.specs.Headers.{parse_of}
 use Rattle.stream.specs.Inside.{Ruled}
 use Rattle.stream.specs.declared.header.FujiHeader.{FujiHeader}
-use Rattle.stream.specs.declared.header.Parsed.TheVariants.{Header}
 use Rattle.stream.proofs.HeaderLaws.{parsed}
 use Rattle.stream.specs.Streams.{padded, row_length, row_start}
 use Rattle.pass_schedule.specs.Steps.{upto}
@@ -25,6 +24,7 @@ use Rattle.theorem_whole_streams.specs.Assembled.{four_bytes, assembled, length_
 use Rattle.theorem_whole_streams.specs.Fronts.{row_in, FrontAssembles}
 use Rattle.theorem_whole_streams.proofs.StandLaws.{Stands, stands_at, stands_inside, length_upto}
 use Rattle.theorem_whole_streams.proofs.AssembledHolds.{assembled_opens, head_there, size_there, fill_there, row_there, row_fill_there, blocks_there}
+use Rattle.std.specs.Prelude.{Ok}
 
 -- byte j of a size
 four_at : (n j : ℕ) → n < 2 ^ 32 → j < 4 → size_byte n j ≡ get_or (four_bytes n) j 0
@@ -38,7 +38,7 @@ four_at n (suc (suc (suc (suc j)))) h l = absurd (omega arith)
 zero_at : (n j : ℕ) → get_or {A = ℕ} (replicate n 0) j 0 ≡ 0
 zero_at n j = omega (arith, zeros_le 0 n j)
 
-module _ (d : List ℕ) (h : FujiHeader) (e : parse_of d ≡ Header h) (rows lengths : List ℕ) (blocks : ℕ → List ℕ) (long : length rows ≡ h.blocks * row_length h)
+module _ (d : List ℕ) (h : FujiHeader) (e : parse_of d ≡ Ok h) (rows lengths : List ℕ) (blocks : ℕ → List ℕ) (long : length rows ≡ h.blocks * row_length h)
     (sizes : (b : ℕ) → b < h.blocks → (get_or lengths b 0 ≡ length (blocks b)) × (length (blocks b) < 2 ^ 32)) where
   abbrev K : ℕ
   K = h.blocks

@@ -13,11 +13,11 @@ use Rattle.numbers.proofs.BoolLaws.{both}
 use Rattle.numbers.proofs.OrderLaws.{split}
 use Rattle.stream.specs.Headers.{byte_at, be16, header_of, kind_rules, size_rules, count_rules, all_rules, parse_of}
 use Rattle.stream.specs.declared.header.FujiHeader.{FujiHeader}
-use Rattle.stream.specs.declared.header.Parsed.TheVariants.{Header}
 use Rattle.stream.proofs.HeaderLaws.{IsParsed, parsed, parse_good}
 use Rattle.theorem_whole_streams.specs.Kinds.{flagged, with_flag, FlaggedParses, FlagKept}
+use Rattle.std.specs.Prelude.{Ok}
 
-module _ (lossless : Bool) (d : List ℕ) (h : FujiHeader) (e : parse_of d ≡ Header h) where
+module _ (lossless : Bool) (d : List ℕ) (h : FujiHeader) (e : parse_of d ≡ Ok h) where
   abbrev s : List ℕ
   s = flagged lossless d
 
@@ -102,8 +102,8 @@ module _ (lossless : Bool) (d : List ℕ) (h : FujiHeader) (e : parse_of d ≡ H
       let y = both (kind_rules d) (size_rules (header_of d)) z.0 in
       rw (same_kind y.0, same_header, same_sizes, same_counts, y.1, z.1)
 
-  parses : parse_of s ≡ Header (with_flag lossless h)
-  parses = parse_good s (omega (arith, flagged_length)) rules ∙ ap Header (same_header ∙ rw P.header)
+  parses : parse_of s ≡ Ok (with_flag lossless h)
+  parses = parse_good s (omega (arith, flagged_length)) rules ∙ ap Ok (same_header ∙ rw P.header)
 
 pub flagged_parses : FlaggedParses
 flagged_parses lossless d h e = parses lossless d h e

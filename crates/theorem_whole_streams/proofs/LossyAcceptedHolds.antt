@@ -1,6 +1,5 @@
 -- Every stream whose blocks are all read whole is decoded, and every lossy header has one: that of the set of zeros in each block. Assumes nothing.
 use mathlib.Core.List.{List}
-use mathlib.Core.Option.{Option, none, some}
 use mathlib.Core.Path.{◌≡◌, refl, sym, ◌∙◌}
 use Prim.Native.Nat.{ℕ, zero, suc, ◌+◌, ◌-◌, ◌≤◌, ◌<◌}
 use native.Mathlib.Omega.{arith}
@@ -18,7 +17,6 @@ use Rattle.admission.specs.Above.{is_ignored}
 use Rattle.admission.proofs.CallLaws.{region_reads}
 use Rattle.read_block.specs.Blocks.{State, read_line_at, start_state, read_lines}
 use Rattle.read_block.specs.Images.{form_of, bytes_in, bases_in, lines_read, read_in, answer_of, Decoding}
-use Rattle.read_block.specs.declared.Decoded.TheVariants.{Done}
 use Rattle.read_block.specs.declared.Form.{Form}
 use Rattle.read_block.proofs.DecodeLaws.{all_read}
 use Rattle.read_block.proofs.RunLaws.{runs_stay}
@@ -27,20 +25,21 @@ use Rattle.theorem_whole_streams.specs.Kinds.{Readable}
 use Rattle.theorem_whole_streams.specs.LossyAccepted.{ReadableDecoded, SomethingLossyAccepted}
 use Rattle.theorem_whole_streams.specs.LossyCopies.{lossy_of, LossyStream, LossyParts}
 use Rattle.theorem_whole_streams.proofs.LossyCopiesHold.{lossy_stream, none_above}
+use Rattle.std.specs.Prelude.{Ok, None, Option, Some}
 
 -- ---- a stream that reads whole
 
 -- where all lines are read, fewer are too
-fewer_read : (F : Form) (bases s : List ℕ) (n m : ℕ) (z : State) → read_lines F bases s n ≡ some z → m ≤ n → lines_read F bases s m ≡ m
+fewer_read : (F : Form) (bases s : List ℕ) (n m : ℕ) (z : State) → read_lines F bases s n ≡ Some z → m ≤ n → lines_read F bases s m ≡ m
 unfolding read_lines
 fewer_read F bases s n m z e h = go (read_lines F bases s m) refl
   where
     go : (o : Option State) → read_lines F bases s m ≡ o → lines_read F bases s m ≡ m
-    go (some y) f = all_read F bases s m y f
-    go none f =
+    go (Some y) f = all_read F bases s m y f
+    go None f =
         let k : m + (n - m) ≡ n = omega arith in
-        let g : read_lines F bases s n ≡ none = rw k at (runs_stay (read_line_at F bases s) (start_state F bases) m (n - m) f) in
-        let c : some z ≡ none = sym e ∙ g in
+        let g : read_lines F bases s n ≡ None = rw k at (runs_stay (read_line_at F bases s) (start_state F bases) m (n - m) f) in
+        let c : Some z ≡ None = sym e ∙ g in
         let no : ◌≡◌ {A = ℕ} 0 1 = cc in
         absurd (omega arith)
 
@@ -50,7 +49,7 @@ module _ (stream : List ℕ) (h : FujiHeader) (R : Readable stream h) (r : Rect)
       let w = R.reads b low in
       fewer_read (form_of h) (bases_in stream b) (bytes_in stream b) h.lines (line_count r) w.0 w.1 (lines_inside h r n ok)
 
-  blocks_done : (k : ℕ) → first_block r + k ≤ last_block r + 1 → answer_of stream h r k ≡ Done
+  blocks_done : (k : ℕ) → first_block r + k ≤ last_block r + 1 → answer_of stream h r k ≡ (Ok tt)
   unfolding answer_of
   blocks_done zero l = refl
   blocks_done (suc k) l =

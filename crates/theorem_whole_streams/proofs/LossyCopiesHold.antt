@@ -1,7 +1,6 @@
 -- Lossy streams and working copies. Assumes nothing.
 use mathlib.Core.Bool.{Bool, false, ◌||◌}
 use mathlib.Core.List.{List, [], ◌∷◌}
-use mathlib.Core.Option.{none}
 use mathlib.Core.Path.{◌≡◌, refl, sym, ap, ◌∙◌}
 use Prim.Native.Nat.{ℕ, suc, ◌+◌, ◌*◌, ◌≤◌, ◌<◌}
 use native.Mathlib.Omega.{arith}
@@ -13,7 +12,6 @@ use Rattle.quantiser.specs.Quantisers.{largest}
 use Rattle.stream.specs.Headers.{parse_of}
 use Rattle.stream.specs.Inside.{Ruled}
 use Rattle.stream.specs.declared.header.FujiHeader.{FujiHeader}
-use Rattle.stream.specs.declared.header.Parsed.TheVariants.{Header}
 use Rattle.stream.proofs.HeaderLaws.{ruled}
 use Rattle.pass_schedule.specs.Steps.{is_interpolated}
 use Rattle.image_map.specs.Places.{width_of}
@@ -44,10 +42,11 @@ use Rattle.theorem_whole_streams.proofs.KindsHold.{flagged_parses}
 use Rattle.theorem_whole_streams.proofs.ReadRight.{set_size_lem, set_at, set_le}
 use Rattle.theorem_whole_streams.proofs.SameSetsHold.{depth_of}
 use Rattle.theorem_whole_streams.proofs.TightenedHolds.{written_short}
+use Rattle.std.specs.Prelude.{Ok, None}
 
 -- ---- of sets
 
-module _ (d : List ℕ) (h : FujiHeader) (e : parse_of d ≡ Header h) (lossy : h.lossless ≡ false) (bases sets : ℕ → List ℕ) (L : LossyParts h bases sets) where
+module _ (d : List ℕ) (h : FujiHeader) (e : parse_of d ≡ Ok h) (lossy : h.lossless ≡ false) (bases sets : ℕ → List ℕ) (L : LossyParts h bases sets) where
   abbrev block : ℕ → List ℕ
   block b = written_block (form_of h) (bases b) h.lines (sets b)
 
@@ -82,7 +81,7 @@ lossy_streams d h e lossy bases sets L = lossy_stream d h e lossy bases sets L
 
 -- ---- of a stream
 
-pub none_above : (ignored : ℕ → Bool) (M i : ℕ) (t : List ℕ) → ((j : ℕ) → get_or t j 0 ≤ M) → first_above ignored M i t ≡ none
+pub none_above : (ignored : ℕ → Bool) (M i : ℕ) (t : List ℕ) → ((j : ℕ) → get_or t j 0 ≤ M) → first_above ignored M i t ≡ None
 unfolding first_above
 none_above ignored M i [] h = refl
 none_above ignored M i (v ∷ t) h = rw (le-leb v M (h 0)) (none_above ignored M (suc i) t (λ j. h (suc j)))
@@ -94,7 +93,7 @@ module _ (d : List ℕ) (h : FujiHeader) (R : Readable d h) (bases : ℕ → Lis
   abbrev W : ℕ
   W = width_of h.xtrans
 
-  e' : parse_of (flagged false d) ≡ Header H
+  e' : parse_of (flagged false d) ≡ Ok H
   e' = flagged_parses false d h (opened d h R.opens).parsed
 
   the_parts : LossyParts H bases (set_in d h)

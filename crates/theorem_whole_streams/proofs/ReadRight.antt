@@ -1,7 +1,6 @@
 -- A block that was read whole, tight or not: its set is that of a tight block, and its colour lines go by the set alone. Assumes nothing.
 use mathlib.Core.Bool.{Bool, true, false, cond}
 use mathlib.Core.List.{List, []}
-use mathlib.Core.Option.{Option, none, some}
 use mathlib.Core.Path.{◌≡◌, refl, sym, ap, ◌∙◌}
 use Prim.Native.Nat.{ℕ, zero, suc, ◌+◌, ◌-◌, ◌*◌, ◌%◌, ◌≤◌, ◌<◌, zero-le}
 use native.Mathlib.Nat.{le_refl}
@@ -43,10 +42,11 @@ use Rattle.theorem_one_to_one.proofs.PredictedBlocks.{fits_is}
 use Rattle.read_set.specs.HandedSets.{set_with}
 use Rattle.theorem_whole_streams.specs.ReadSets.{WithoutBases, ReadablePredicted, LinesDetermined}
 use Rattle.theorem_whole_streams.proofs.StepRight.{Same, steps_same}
+use Rattle.std.specs.Prelude.{None, Option, Some}
 
 -- writing goes through the lines of this state, and has met no wrong sample
 abbrev SameState : State → WriteState → Type 0
-SameState r w = (w.lines ≡ r.lines) × (w.wrong ≡ none)
+SameState r w = (w.lines ≡ r.lines) × (w.wrong ≡ None)
 
 module _ (F : Form) (high : F.bits ≤ 16) (s t : List ℕ) (range : (j : ℕ) → get_or t j 0 ≤ largest F.bits) where
   abbrev W : ℕ
@@ -69,7 +69,7 @@ module _ (F : Form) (high : F.bits ≤ 16) (s t : List ℕ) (range : (j : ℕ) �
           small = guarded_le M W P.second (guarded W P.first r.lines) (guarded_le M W P.first r.lines ok.small);
         }
 
-    pass_read : (r : State) (y : Reading) (w : WriteState) → SoundState F r → read_pass F.bits q W s P (enter F P r) ≡ some y
+    pass_read : (r : State) (y : Reading) (w : WriteState) → SoundState F r → read_pass F.bits q W s P (enter F P r) ≡ Some y
         → Holds W t n y.lines P.first × Holds W t n y.lines P.second → SameState r w
         → Same y.lines (write_pass F.bits 0 W true t n P (enter_writing F P w))
     unfolding read_pass write_pass
@@ -82,14 +82,14 @@ module _ (F : Form) (high : F.bits ≤ 16) (s t : List ℕ) (range : (j : ℕ) �
         (pass_all W P even (λ l p. get_or t (index_in W n l p) 0 ≤ largest F.bits) (λ p h. (range _, range _)))
         (rw same.0, same.1)
 
-    pass_same : (r z : State) (w : WriteState) → SoundState F r → pass_at F q s i r ≡ some z → PassHolds F t n i z → SameState r w
+    pass_same : (r z : State) (w : WriteState) → SoundState F r → pass_at F q s i r ≡ Some z → PassHolds F t n i z → SameState r w
         → SameState z (write_pass_at F 0 true t n i w)
     unfolding pass_at write_pass_at
     pass_same r z w ok e holds same = go (read_pass F.bits q W s P (enter F P r)) refl e
       where
-        go : (o : Option Reading) → read_pass F.bits q W s P (enter F P r) ≡ o → leave P r o ≡ some z → SameState z (write_pass_at F 0 true t n i w)
-        go none f g = let no : ◌≡◌ {A = ℕ} 0 1 = cc in absurd (omega arith)
-        go (some y) f g =
+        go : (o : Option Reading) → read_pass F.bits q W s P (enter F P r) ≡ o → leave P r o ≡ Some z → SameState z (write_pass_at F 0 true t n i w)
+        go None f g = let no : ◌≡◌ {A = ℕ} 0 1 = cc in absurd (omega arith)
+        go (Some y) f g =
             let is : y.lines ≡ z.lines = cc in
             let a = pass_read r y w ok f (rw is holds) same in
             (a.0 ∙ is, a.1)
@@ -97,17 +97,17 @@ module _ (F : Form) (high : F.bits ≤ 16) (s t : List ℕ) (range : (j : ℕ) �
   -- ---- a line: six passes, of which later ones leave what earlier ones put
 
   module _ (q n : ℕ) (r : State) (ok : SoundState F r) (w : WriteState) (same : SameState r w) where
-    sound_after : (k : ℕ) (z : State) → runs (pass_at F q s) k r ≡ some z → SoundState F z
+    sound_after : (k : ℕ) (z : State) → runs (pass_at F q s) k r ≡ Some z → SoundState F z
     sound_after k z e = runs_keep (pass_at F q s) r (SoundState F) ok (λ i a b g f. pass_sound F q high s i a g b f) k z e
 
-    was : (i c : ℕ) (y z : State) → i < 6 → c < i → SoundState F y → pass_at F q s i y ≡ some z → PassHolds F t n c z → PassHolds F t n c y
+    was : (i c : ℕ) (y z : State) → i < 6 → c < i → SoundState F y → pass_at F q s i y ≡ Some z → PassHolds F t n c z → PassHolds F t n c y
     was i c y z hi k g e h =
         let apart = other_lines F.xtrans c i (omega arith) hi (λ f. omega arith) in (
           λ p j. sym (pass_keeps_others F q high s i y g z _ p j apart.0 e) ∙ h.0 p j,
           λ p j. sym (pass_keeps_others F q high s i y g z _ p j apart.1 e) ∙ h.1 p j,
         )
 
-    passes_same : (k : ℕ) (z : State) → k ≤ 6 → runs (pass_at F q s) k r ≡ some z → ((c : ℕ) → c < k → PassHolds F t n c z)
+    passes_same : (k : ℕ) (z : State) → k ≤ 6 → runs (pass_at F q s) k r ≡ Some z → ((c : ℕ) → c < k → PassHolds F t n c z)
         → SameState z (repeats (write_pass_at F 0 true t n) k w)
     unfolding runs repeats
     passes_same zero z h e holds = let is : r ≡ z = cc in rw (← is) same
@@ -118,7 +118,7 @@ module _ (F : Form) (high : F.bits ≤ 16) (s t : List ℕ) (range : (j : ℕ) �
         let before = passes_same k y (omega arith) o.1 (λ c j. was k c y z h j g o.2 (holds c (omega arith))) in
         pass_same q n k h y z (repeats (write_pass_at F 0 true t n) k w) g o.2 (holds k (omega arith)) before
 
-  line_same : (bases : List ℕ) (n : ℕ) (r z : State) (w : WriteState) → SoundState F r → read_line_at F bases s n r ≡ some z
+  line_same : (bases : List ℕ) (n : ℕ) (r z : State) (w : WriteState) → SoundState F r → read_line_at F bases s n r ≡ Some z
       → ((i : ℕ) → i < 6 → PassHolds F t n i z) → SameState r w → SameState z (write_line F [] t n w)
   unfolding read_line_at read_line write_line
   line_same bases n r z w ok e holds same =
@@ -129,7 +129,7 @@ module _ (F : Form) (high : F.bits ≤ 16) (s t : List ℕ) (range : (j : ℕ) �
         long = length_turned W r.lines (omega (arith, ok.long)) ∙ ok.long;
         small = turned_le (largest F.bits) W r.lines ok.small;
       })
-      (before_writing F [] n w) (rw same.0, same.1) 6 z (le_refl 6) (b.1 ∙ ap some is) holds
+      (before_writing F [] n w) (rw same.0, same.1) 6 z (le_refl 6) (b.1 ∙ ap Some is) holds
 
 -- ---- the set of a block
 
@@ -156,8 +156,8 @@ module _ (F : Form) (bases : List ℕ) (lines : ℕ) (s : List ℕ) where
   read_le high n j = go (read_lines F bases s n) refl
     where
       go : (o : Option State) → read_lines F bases s n ≡ o → get_or (lines_of o) j 0 ≤ largest F.bits
-      go none e = zero-le
-      go (some z) e = samples_in_range F bases s n z high e j
+      go None e = zero-le
+      go (Some z) e = samples_in_range F bases s n z high e j
 
   pub set_le : F.bits ≤ 16 → (j : ℕ) → get_or (set_with F bases lines s) j 0 ≤ largest F.bits
   set_le high j =
@@ -181,12 +181,12 @@ module _ (F : Form) (high : F.bits ≤ 16) (bases : List ℕ) (lines : ℕ) (s :
       let W : ℕ = width_of F.xtrans in
       record { long = length-replicate (18 * (W + 2)) 0; small = zeros_le (largest F.bits) (18 * (W + 2)) }
 
-  sound_lines : (n : ℕ) (z : State) → read_lines F bases s n ≡ some z → SoundState F z
+  sound_lines : (n : ℕ) (z : State) → read_lines F bases s n ≡ Some z → SoundState F z
   unfolding read_lines
   sound_lines n z e =
       runs_keep (read_line_at F bases s) (start_state F bases) (SoundState F) start_sound (λ i a b q f. line_sound F bases high s i a b q f) n z e
 
-  pub lines_same : (n : ℕ) (z : State) → n ≤ lines → read_lines F bases s n ≡ some z → SameState z (write_lines F [] t n)
+  pub lines_same : (n : ℕ) (z : State) → n ≤ lines → read_lines F bases s n ≡ Some z → SameState z (write_lines F [] t n)
   unfolding read_lines write_lines repeats start_writing start_state runs
   lines_same zero z h e =
       let is : start_state F bases ≡ z = cc in
@@ -200,16 +200,16 @@ module _ (F : Form) (high : F.bits ≤ 16) (bases : List ℕ) (lines : ℕ) (s :
       (lines_same n y (omega arith) o.1)
 
 -- where all lines are read, fewer are too
-pub fewer_read : (F : Form) (bases s : List ℕ) (n m : ℕ) (z : State) → read_lines F bases s n ≡ some z → m ≤ n → (y : State) × (read_lines F bases s m ≡ some y)
+pub fewer_read : (F : Form) (bases s : List ℕ) (n m : ℕ) (z : State) → read_lines F bases s n ≡ Some z → m ≤ n → (y : State) × (read_lines F bases s m ≡ Some y)
 unfolding read_lines
 fewer_read F bases s n m z e h = go (read_lines F bases s m) refl
   where
-    go : (o : Option State) → read_lines F bases s m ≡ o → (y : State) × (read_lines F bases s m ≡ some y)
-    go (some y) f = (y, f)
-    go none f =
+    go : (o : Option State) → read_lines F bases s m ≡ o → (y : State) × (read_lines F bases s m ≡ Some y)
+    go (Some y) f = (y, f)
+    go None f =
         let k : m + (n - m) ≡ n = omega arith in
-        let g : read_lines F bases s n ≡ none = rw k at (runs_stay (read_line_at F bases s) (start_state F bases) m (n - m) f) in
-        let c : some z ≡ none = sym e ∙ g in
+        let g : read_lines F bases s n ≡ None = rw k at (runs_stay (read_line_at F bases s) (start_state F bases) m (n - m) f) in
+        let c : Some z ≡ None = sym e ∙ g in
         let no : ◌≡◌ {A = ℕ} 0 1 = cc in
         absurd (omega arith)
 

@@ -1,7 +1,6 @@
 -- Streams that have the same sets decode to the same samples and answers, lossless or lossy. Assumes nothing.
 use mathlib.Core.Bool.{Bool, true, false, cond, ◌&&◌}
 use mathlib.Core.List.{List, []}
-use mathlib.Core.Option.{some}
 use mathlib.Core.Path.{◌≡◌, refl, sym, ap, ◌∙◌}
 use Prim.Native.Nat.{ℕ, zero, suc, ◌+◌, ◌-◌, ◌*◌, ◌/◌, ◌%◌, ◌≤◌, ◌<◌}
 use native.Mathlib.Omega.{arith}
@@ -12,33 +11,28 @@ use borrow.Author.Tests.{le-ltb, ltb-true}
 use Rattle.pass_steps.specs.Contexts.{Depth}
 use Rattle.stream.specs.Inside.{Ruled}
 use Rattle.stream.specs.declared.header.FujiHeader.{FujiHeader}
-use Rattle.stream.specs.declared.header.Parsed.TheVariants.{Header}
 use Rattle.stream.specs.Streams.{open_of}
 use Rattle.stream.specs.Inside.{Opened}
 use Rattle.stream.proofs.StreamLaws.{opened}
-use Rattle.image_region.specs.declared.Checked.{Checked}
-use Rattle.image_region.specs.declared.Checked.TheVariants as Check
 use Rattle.image_region.specs.Regions.{is_outside, checked_of, block_of, first_block, last_block, line_count}
 use Rattle.image_region.specs.Inside.{Accepted}
 use Rattle.image_region.specs.declared.Rect.{Rect}
 use Rattle.image_region.proofs.RegionLaws.{block_inside, block_order, lines_inside}
-use Rattle.stream.specs.declared.header.Parsed.TheVariants as Parsing
 use Rattle.stream.specs.declared.header.Refusal.TheVariants.{ShortScratch}
 use Rattle.admission.specs.Beginnings.{is_short_scratch, begun, with_region, region_begins}
-use Rattle.admission.specs.declared.Beginning.{Beginning}
-use Rattle.admission.specs.declared.Beginning.TheVariants.{Refused, Nothing, Reading}
 use Rattle.admission.proofs.CallLaws.{region_reads}
 use Rattle.read_block.specs.Blocks.{read_lines, lines_of}
 use Rattle.read_block.specs.Images.{form_of, bytes_in, bases_in, lines_read, read_in, line_of, is_decoded, picture_sample, decoded_sample, answer_of, Decoding, Left}
 use Rattle.read_block.specs.Lent.{Buffers}
-use Rattle.read_block.specs.declared.Decoded.{Decoded}
-use Rattle.read_block.specs.declared.Decoded.TheVariants.{Done}
 use Rattle.read_block.proofs.DecodeLaws.{all_read}
 use Rattle.write_block.specs.WrittenBlocks.{write_lines}
 use Rattle.theorem_one_to_one.specs.AcceptedStreams.{region_of}
 use Rattle.theorem_whole_streams.specs.Kinds.{with_flag, Readable, set_in}
 use Rattle.theorem_whole_streams.specs.Tightened.{SameSets, SamePicture, SameCalls, SetsDecode}
 use Rattle.theorem_whole_streams.proofs.ReadRight.{fewer_read, lines_determined}
+use Rattle.std.specs.Prelude.{Err, None, Ok, Option, Result, Some}
+use Rattle.image_region.specs.declared.Span.{Span}
+use Rattle.stream.specs.declared.header.Refusal.{Refusal}
 
 pub depth_of : (d : List ℕ) (h : FujiHeader) → Readable d h → Depth (form_of h).bits
 depth_of d h R = let r : Ruled h = (opened d h R.opens).ruled in (r.bits_low, r.bits_high)
@@ -62,14 +56,14 @@ module _ (d : List ℕ) (h : FujiHeader) (R : Readable d h) where
       let y = fewer_read (form_of h) (bases_in d b) (bytes_in d b) h.lines (line_count r) Z.0 Z.1 (lines_inside h r n ok) in
       all_read (form_of h) (bases_in d b) (bytes_in d b) (line_count r) y.0 y.1
 
-  done : (r : Rect) (n : ℕ) → Accepted h r n → (k : ℕ) → first_block r + k ≤ last_block r + 1 → answer_of d h r k ≡ Done
+  done : (r : Rect) (n : ℕ) → Accepted h r n → (k : ℕ) → first_block r + k ≤ last_block r + 1 → answer_of d h r k ≡ (Ok tt)
   unfolding answer_of
   done r n ok zero l = refl
   done r n ok (suc k) l =
       let read : read_in d h r (first_block r + k) ≡ line_count r = read_all r n ok (first_block r + k) (omega (arith, block_inside h r n ok)) in
       rw (done r n ok k (omega arith), read) (rw (le-ltb (line_count r) (line_count r) (omega arith)))
 
-  answers : (r : Rect) (n : ℕ) → Accepted h r n → answer_of d h r (last_block r + 1 - first_block r) ≡ Done
+  answers : (r : Rect) (n : ℕ) → Accepted h r n → answer_of d h r (last_block r + 1 - first_block r) ≡ (Ok tt)
   answers r n ok = done r n ok (last_block r + 1 - first_block r) (omega (arith, block_order h r n ok))
 
 -- ---- two streams
@@ -137,7 +131,7 @@ module _ (d e : List ℕ) (h : FujiHeader) (lossless : Bool) where
               let hb : block_of r i < h.blocks = omega (arith, ltb-true (block_of r i) (last_block r + 1) eb, block_inside h r n ok) in
               rw (read_all d h R r n ok (block_of r i) hb, read_all e g Q r n ok' (block_of r i) hb) (inside (ltb (line_of r i) (line_count r)) refl hb)
 
-      same_left : (before after after' : Buffers) (answer answer' : Decoded) → Decoding d h r tile before after answer → Decoding e g r tile before
+      same_left : (before after after' : Buffers) (answer answer' : Result Unit Refusal) → Decoding d h r tile before after answer → Decoding e g r tile before
           after' answer'
           → (answer ≡ answer') × (after ≡ after')
       same_left before after after' answer answer' D E =
@@ -169,19 +163,19 @@ module _ (d e : List ℕ) (h : FujiHeader) (lossless : Bool) where
         Both : Type 0
         Both = (answer ≡ answer') × (after ≡ after')
 
-        scratch : (short : Bool) → region_of d r before ≡ begun (cond short (Parsing.Refused ShortScratch) (Header h))
-            → Left d r tile (begun (cond short (Parsing.Refused ShortScratch) (Header h))) before after answer
-            → Left e r tile (begun (cond short (Parsing.Refused ShortScratch) (Header g))) before after' answer' → Both
+        scratch : (short : Bool) → region_of d r before ≡ begun (cond short (Err ShortScratch) (Ok h))
+            → Left d r tile (begun (cond short (Err ShortScratch) (Ok h))) before after answer
+            → Left e r tile (begun (cond short (Err ShortScratch) (Ok g))) before after' answer' → Both
         scratch true eb l m = (l.0 ∙ sym m.0, l.1 ∙ sym m.1)
         scratch false eb l m =
             let A = region_reads d r (length before.image) samples records h eb in
             same_left r (length before.image) A.region tile before after after' answer answer' l m
 
-        go : (c : Checked) → region_of d r before ≡ with_region h c samples records → Left d r tile (with_region h c samples records) before after answer
+        go : (c : Result (Option Span) Refusal) → region_of d r before ≡ with_region h c samples records → Left d r tile (with_region h c samples records) before after answer
             → Left e r tile (with_region g c samples records) before after' answer' → Both
-        go (Check.Refused x) eb l m = (l.0 ∙ sym m.0, l.1 ∙ sym m.1)
-        go Check.Empty eb l m = (l.0 ∙ sym m.0, l.1 ∙ sym m.1)
-        go (Check.Touched s) eb l m = scratch (is_short_scratch h.xtrans samples records) eb l m
+        go (Err x) eb l m = (l.0 ∙ sym m.0, l.1 ∙ sym m.1)
+        go (Ok None) eb l m = (l.0 ∙ sym m.0, l.1 ∙ sym m.1)
+        go (Ok (Some s)) eb l m = scratch (is_short_scratch h.xtrans samples records) eb l m
 
 pub sets_decode : SetsDecode
 sets_decode d e h lossless R Q same =

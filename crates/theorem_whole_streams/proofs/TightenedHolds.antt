@@ -11,11 +11,8 @@ use Rattle.bits.proofs.PackLaws.{length_bytes_of}
 use Rattle.stream.specs.Headers.{parse_of}
 use Rattle.stream.specs.Inside.{Ruled}
 use Rattle.stream.specs.declared.header.FujiHeader.{FujiHeader}
-use Rattle.stream.specs.declared.header.Parsed.TheVariants.{Header}
 use Rattle.stream.proofs.HeaderLaws.{ruled}
 use Rattle.stream.specs.Ranges.{part_of}
-use Rattle.stream.specs.declared.ranges.Ranged.{Ranged}
-use Rattle.stream.specs.declared.ranges.Ranged.TheVariants as Range
 use Rattle.stream.specs.Streams.{row_length, open_of, range_of}
 use Rattle.stream.proofs.StreamLaws.{opened}
 use Rattle.stream.specs.Lengths.{length_bound}
@@ -40,6 +37,9 @@ use Rattle.theorem_whole_streams.proofs.AssembledHolds.{assembled_opens}
 use Rattle.theorem_whole_streams.proofs.ReadRight.{without_bases, readable_predicted}
 use Rattle.theorem_whole_streams.proofs.KindsHold.{flagged_length, flagged_parses, flag_kept}
 use Rattle.theorem_whole_streams.proofs.SameSetsHold.{depth_of, sets_decode}
+use Rattle.std.specs.Prelude.{Err, Ok, Result}
+use Rattle.bits.specs.declared.ByteOffset.{ByteOffset}
+use Rattle.stream.specs.declared.header.Refusal.{Refusal}
 
 -- ---- what an assembled stream goes by
 
@@ -64,13 +64,13 @@ written_short h R bases t =
     omega (arith, length_bytes_of (write_lines (form_of h) bases t h.lines).bits, l, R.lines_high)
 
 -- a part of bytes
-pub bytes_part : (d : List ℕ) (r : Ranged) → Bytes d → Bytes (part_of d r)
-bytes_part d (Range.At from n) a = bytes_take n (drop from.0 d) (λ i. rw (get_or-drop from.0 d i 0) (a (from.0 + i)))
-bytes_part d (Range.Refused r) a = λ i. omega arith
+pub bytes_part : (d : List ℕ) (r : Result (ByteOffset × ℕ) Refusal) → Bytes d → Bytes (part_of d r)
+bytes_part d (Ok (from, n)) a = bytes_take n (drop from.0 d) (λ i. rw (get_or-drop from.0 d i 0) (a (from.0 + i)))
+bytes_part d (Err r) a = λ i. omega arith
 
 -- ---- of sets
 
-module _ (d : List ℕ) (h : FujiHeader) (e : parse_of d ≡ Header h) (lossless : h.lossless ≡ true) (sets : ℕ → List ℕ)
+module _ (d : List ℕ) (h : FujiHeader) (e : parse_of d ≡ Ok h) (lossless : h.lossless ≡ true) (sets : ℕ → List ℕ)
     (fit : (b : ℕ) → b < h.blocks → PredictedSet (form_of h) h.lines (sets b)) where
   abbrev F : Form
   F = form_of h
@@ -120,10 +120,10 @@ module _ (d : List ℕ) (h : FujiHeader) (R : Readable d h) where
   abbrev H : FujiHeader
   H = tight_header h
 
-  e : parse_of d ≡ Header h
+  e : parse_of d ≡ Ok h
   e = (opened d h R.opens).parsed
 
-  e' : parse_of (flagged true d) ≡ Header H
+  e' : parse_of (flagged true d) ≡ Ok H
   e' = flagged_parses true d h e
 
   fit : (b : ℕ) → b < h.blocks → PredictedSet (form_of h) h.lines (set_in d h b)
@@ -180,7 +180,7 @@ module _ (d : List ℕ) (h : FujiHeader) (R : Readable d h) where
 
   fixed : Bytes d → (tightened d h ≡ d) ↔ ((h.lossless ≡ true) × AllTight × (remade d h ≡ d))
   fixed hd = (
-    λ f. let c : Header H ≡ Header h = sym T.readable.opens ∙ ap open_of f ∙ R.opens in
+    λ f. let c : Ok H ≡ Ok h = sym T.readable.opens ∙ ap open_of f ∙ R.opens in
         let is : H ≡ h = cc in
         let lossless : h.lossless ≡ true = sym (ap (λ (x : FujiHeader). x.lossless) is) in
         let own : (b : ℕ) → b < h.blocks → tight_block (form_of h) h.lines (set_in d h b) ≡ bytes_in d b = λ b l. sym (there b l) ∙ ap

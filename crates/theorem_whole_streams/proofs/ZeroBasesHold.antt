@@ -10,7 +10,6 @@ use lib.ListN.{length, get_or, replicate, length-replicate, get_or-replicate}
 use Rattle.bits.specs.BitLists.{bytes_of}
 use Rattle.stream.specs.Headers.{parse_of}
 use Rattle.stream.specs.declared.header.FujiHeader.{FujiHeader}
-use Rattle.stream.specs.declared.header.Parsed.TheVariants.{Header}
 use Rattle.stream.proofs.StreamLaws.{opened}
 use Rattle.pass_schedule.specs.Steps.{Step, plan_of, pass_steps, is_interpolated}
 use Rattle.pass_schedule.specs.declared.Plan.{Plan}

@@ -1,8 +1,7 @@
 -- Promises. A whole stream from a header, base rows and blocks.
-use Rattle.std.specs.Prelude.{List, [], ◌∷◌, ◌++◌, ◌≡◌, ℕ, zero, suc, ◌+◌, ◌-◌, ◌*◌, ◌/◌, ◌%◌, ◌^◌, ◌<◌, length, take, replicate}
+use Rattle.std.specs.Prelude.{List, [], ◌∷◌, ◌++◌, ◌≡◌, ℕ, zero, suc, ◌+◌, ◌-◌, ◌*◌, ◌/◌, ◌%◌, ◌^◌, ◌<◌, length, take, replicate, Ok}
 use Rattle.stream.specs.Headers.{parse_of}
 use Rattle.stream.specs.declared.header.FujiHeader.{FujiHeader}
-use Rattle.stream.specs.declared.header.Parsed.TheVariants.{Header}
 use Rattle.stream.specs.Streams.{padded, row_length, row_start, open_of}
 use Rattle.pass_schedule.specs.Steps.{upto}
 use Rattle.read_block.specs.Images.{bytes_in, bases_in}
@@ -34,7 +33,7 @@ pub record Parts (h : FujiHeader) (rows blocks : ℕ → List ℕ) : Type 0 wher
 
 -- a stream that opens with this header, rows and blocks
 pub record OpensAs (s : List ℕ) (h : FujiHeader) (rows blocks : ℕ → List ℕ) : Type 0 where
-  pub opens : open_of s ≡ Header h
+  pub opens : open_of s ≡ Ok h
   pub row : (b : ℕ) → b < h.blocks → bases_in s b ≡ rows b
   pub block : (b : ℕ) → b < h.blocks → bytes_in s b ≡ blocks b
 
@@ -47,4 +46,4 @@ pub record Assembling (d : List ℕ) (h : FujiHeader) (rows blocks : ℕ → Lis
 
 abbrev pub AssembledOpens : Type 0
 AssembledOpens =
-    (d : List ℕ) (h : FujiHeader) → parse_of d ≡ Header h → (rows blocks : ℕ → List ℕ) → Parts h rows blocks → Assembling d h rows blocks
+    (d : List ℕ) (h : FujiHeader) → parse_of d ≡ Ok h → (rows blocks : ℕ → List ℕ) → Parts h rows blocks → Assembling d h rows blocks

@@ -1,9 +1,8 @@
 -- Promises. The header of a stream with another lossless flag, and streams whose blocks are all read whole.
-use Rattle.std.specs.Prelude.{Bool, List, ◌≡◌, ℕ, ◌<◌, take, set}
+use Rattle.std.specs.Prelude.{Bool, List, ◌≡◌, ℕ, ◌<◌, take, set, Ok}
 use Rattle.numbers.specs.Numbers.{flag}
 use Rattle.stream.specs.Headers.{parse_of}
 use Rattle.stream.specs.declared.header.FujiHeader.{FujiHeader}
-use Rattle.stream.specs.declared.header.Parsed.TheVariants.{Header}
 use Rattle.stream.specs.Streams.{open_of}
 use Rattle.read_block.specs.Images.{form_of, bytes_in, bases_in}
 use Rattle.read_set.specs.HandedSets.{set_with}
@@ -28,16 +27,16 @@ with_flag lossless h =
     }
 
 abbrev pub FlaggedParses : Type 0
-FlaggedParses = (lossless : Bool) (d : List ℕ) (h : FujiHeader) → parse_of d ≡ Header h → parse_of (flagged lossless d) ≡ Header (with_flag lossless h)
+FlaggedParses = (lossless : Bool) (d : List ℕ) (h : FujiHeader) → parse_of d ≡ Ok h → parse_of (flagged lossless d) ≡ Ok (with_flag lossless h)
 
 -- with the flag that it has, a header is what it was, and so are its bytes
 abbrev pub FlagKept : Type 0
 FlagKept =
-    (d : List ℕ) (h : FujiHeader) → parse_of d ≡ Header h → (with_flag h.lossless h ≡ h) × (flagged h.lossless d ≡ take 16 d)
+    (d : List ℕ) (h : FujiHeader) → parse_of d ≡ Ok h → (with_flag h.lossless h ≡ h) × (flagged h.lossless d ≡ take 16 d)
 
 -- a stream that opens, lossless or lossy, all of whose blocks are read whole. Its codes, tails and padding need not be tight, and bytes may follow
 pub record Readable (d : List ℕ) (h : FujiHeader) : Type 0 where
-  pub opens : open_of d ≡ Header h
+  pub opens : open_of d ≡ Ok h
   pub reads : (b : ℕ) → b < h.blocks → ReadsWhole (form_of h) (bases_in d b) h.lines (bytes_in d b)
 
 -- the colour lines of block b: what `read_set` hands out

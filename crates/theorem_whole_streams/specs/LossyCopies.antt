@@ -1,9 +1,7 @@
 -- Promises. Lossy streams: of sets and bases, and working copies of a stream.
-use Rattle.std.specs.Prelude.{false, List, ◌≡◌, ℕ, ◌<◌, length, get_or, take}
-use Rattle.std.proofs.Math.Option.{none}
+use Rattle.std.specs.Prelude.{false, List, ◌≡◌, ℕ, ◌<◌, length, get_or, take, Ok, None}
 use Rattle.stream.specs.Headers.{parse_of}
 use Rattle.stream.specs.declared.header.FujiHeader.{FujiHeader}
-use Rattle.stream.specs.declared.header.Parsed.TheVariants.{Header}
 use Rattle.pass_schedule.specs.Steps.{is_interpolated}
 use Rattle.image_map.specs.Places.{width_of}
 use Rattle.colour_lines.specs.Sets.{set_size, line_at, colour_line_at, position_at}
@@ -33,11 +31,11 @@ pub record LossyStream (d : List ℕ) (h : FujiHeader) (bases sets : ℕ → Lis
 pub record LossyParts (h : FujiHeader) (bases sets : ℕ → List ℕ) : Type 0 where
   pub rows : (b : ℕ) → b < h.blocks → length (bases b) ≡ h.lines
   pub sizes : (b : ℕ) → b < h.blocks → length (sets b) ≡ set_size (width_of h.xtrans) h.lines
-  pub range : (b : ℕ) → b < h.blocks → above_in (form_of h) (bases b) (sets b) ≡ none
+  pub range : (b : ℕ) → b < h.blocks → above_in (form_of h) (bases b) (sets b) ≡ None
 
 abbrev pub LossyStreams : Type 0
 LossyStreams =
-    (d : List ℕ) (h : FujiHeader) → parse_of d ≡ Header h → h.lossless ≡ false → (bases sets : ℕ → List ℕ) → LossyParts h bases sets
+    (d : List ℕ) (h : FujiHeader) → parse_of d ≡ Ok h → h.lossless ≡ false → (bases sets : ℕ → List ℕ) → LossyParts h bases sets
     → LossyStream d h bases sets
 
 -- ---- a working copy of a stream, lossless or lossy

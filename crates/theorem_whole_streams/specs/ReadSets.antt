@@ -1,6 +1,5 @@
 -- Promises. The set of colour lines of any block that is read whole, tight or not, lossless or lossy.
-use Rattle.std.specs.Prelude.{List, [], ◌≡◌, ℕ, ◌≤◌}
-use Rattle.std.proofs.Math.Option.{some}
+use Rattle.std.specs.Prelude.{List, [], ◌≡◌, ℕ, ◌≤◌, Some}
 use Rattle.pass_steps.specs.Contexts.{Depth}
 use Rattle.read_block.specs.Blocks.{State, read_lines, lines_of}
 use Rattle.read_block.specs.TightBlocks.{set_read}
@@ -11,7 +10,7 @@ use Rattle.theorem_one_to_one.specs.PredictedSets.{PredictedSet}
 
 -- all lines of the block s are read, with these bases
 abbrev pub ReadsWhole : Form → (bases : List ℕ) → ℕ → List ℕ → Type 0
-ReadsWhole F bases lines s = (z : State) × (read_lines F bases s lines ≡ some z)
+ReadsWhole F bases lines s = (z : State) × (read_lines F bases s lines ≡ Some z)
 
 -- without bases, what `read_set` hands out is the set of a lossless block
 abbrev pub WithoutBases : Type 0

@@ -1,19 +1,18 @@
 -- Promises. Tight streams: of sets, and of the sets of a stream. The tight stream of a stream is lossless and decodes to the same samples.
-use Rattle.std.specs.Prelude.{Bool, true, List, [], ◌↔◌, ◌≡◌, ℕ, ◌/◌, ◌<◌, take}
+use Rattle.std.specs.Prelude.{Bool, true, List, [], ◌↔◌, ◌≡◌, ℕ, ◌/◌, ◌<◌, take, Ok, Result}
 use Rattle.stream.specs.Headers.{parse_of}
 use Rattle.stream.specs.declared.header.FujiHeader.{FujiHeader}
-use Rattle.stream.specs.declared.header.Parsed.TheVariants.{Header}
 use Rattle.image_region.specs.declared.Rect.{Rect}
 use Rattle.read_block.specs.Images.{form_of, bytes_in, picture_sample, Left}
 use Rattle.read_block.specs.Lent.{Buffers}
 use Rattle.read_block.specs.TightBlocks.{Tight}
-use Rattle.read_block.specs.declared.Decoded.{Decoded}
 use Rattle.write_block.specs.WrittenBlocks.{tight_block}
 use Rattle.theorem_one_to_one.specs.AcceptedStreams.{region_of}
 use Rattle.theorem_one_to_one.specs.Correspondence.{Bytes}
 use Rattle.theorem_one_to_one.specs.PredictedSets.{PredictedSet}
 use Rattle.theorem_whole_streams.specs.Assembled.{assembled}
 use Rattle.theorem_whole_streams.specs.Kinds.{flagged, with_flag, Readable, set_in}
+use Rattle.stream.specs.declared.header.Refusal.{Refusal}
 
 -- ---- the tight stream of some sets, with the header bytes of d
 
@@ -30,7 +29,7 @@ pub record TightStream (d : List ℕ) (h : FujiHeader) (sets : ℕ → List ℕ)
 -- every lossless header, and every set for each block whose samples are in range and whose interpolated positions have their predictions
 abbrev pub TightStreams : Type 0
 TightStreams =
-    (d : List ℕ) (h : FujiHeader) → parse_of d ≡ Header h → h.lossless ≡ true → (sets : ℕ → List ℕ)
+    (d : List ℕ) (h : FujiHeader) → parse_of d ≡ Ok h → h.lossless ≡ true → (sets : ℕ → List ℕ)
     → ((b : ℕ) → b < h.blocks → PredictedSet (form_of h) h.lines (sets b)) → TightStream d h sets
 
 -- ---- streams with the same sets: their headers may differ in the lossless flag
@@ -46,7 +45,7 @@ SamePicture d e h g =
 -- each call of `decode_region`: the same region and tile, and the same buffers before, leave the same answer and the same buffers
 abbrev pub SameCalls : (d e : List ℕ) → Type 0
 SameCalls d e =
-    (r : Rect) (tile : List ℕ) (before after after' : Buffers) (answer answer' : Decoded)
+    (r : Rect) (tile : List ℕ) (before after after' : Buffers) (answer answer' : Result Unit Refusal)
     → Left d r tile (region_of d r before) before after answer → Left e r tile (region_of e r before) before after' answer'
     → (answer ≡ answer') × (after ≡ after')
 

@@ -3,7 +3,6 @@ use borrow.Rule.Slice.PartMut.{mid_of, put_mid, Post-is}
 use borrow.Author.Tests.{ltb-true, ltb-false, le-leb, lt-leb, ne_eqb}
 use mathlib.Core.Bool.{Bool, true, false, cond}
 use mathlib.Core.List.{List, [], ◌∷◌, ◌++◌, append_assoc}
-use mathlib.Core.Option.{Option, none, some, map}
 use mathlib.Core.Path.{◌≡◌, refl, sym, ap, ◌∙◌}
 use Prim.Native.Nat.{ℕ, zero, suc, ◌+◌, ◌-◌, ◌*◌, ◌%◌, ◌≤◌, ◌<◌}
 use native.Mathlib.Nat.{sub-zero}
@@ -32,10 +31,10 @@ use Rattle.read_block.proofs.RangeLaws.{set_in_range, put_in_range}
 use Rattle.tight_diagnosis.specs.Ways.{plain, plain_state, Way, cut_off, on, way_of, steps_way, passes_way, line_way, block_way}
 use Rattle.tight_diagnosis.specs.Traces.{Says, clean, clean_state, Ends}
 use Rattle.tight_diagnosis.specs.declared.trace.Stage.{Stage}
-use Rattle.tight_diagnosis.specs.declared.trace.Traced.{Traced}
-use Rattle.tight_diagnosis.specs.declared.trace.Traced.TheVariants.{Bad, At, CutOff}
 use Rattle.tight_diagnosis.proofs.WayLaws.{then_way, way_then_by, way_end_by, on_then, then_bad, then_cut, was_bad, was_cut, was_at}
 use Rattle.tight_diagnosis.proofs.PlainLaws.{pass_plain, bad_pass_plain, end_plain, line_plain, bad_line_plain}
+use Rattle.std.specs.Prelude.{None, Option, Some, option_map, Err, Ok, Result}
+use Rattle.tight_diagnosis.specs.declared.trace.Stop.{Stop}
 
 -- ---- parts of two lists
 
@@ -108,16 +107,16 @@ abbrev left : Plan → State → Reading → State
 left P r z = record { lines = z.lines; records = put_set P.set z.set r.records; at = z.at; tight = z.tight; long = 0 }
 
 way_leave : (P : Plan) (r : State) (o : Option BadCode) (a : Option Reading)
-    → way_of o (map plain_state (leave P r a)) ≡ then_way (way_of o (map plain a)) (λ z. on (left P r z))
+    → way_of o (option_map plain_state (leave P r a)) ≡ then_way (way_of o (option_map plain a)) (λ z. on (left P r z))
 unfolding then_way
-way_leave P r (some b) none = refl
-way_leave P r (some b) (some z) = refl
-way_leave P r none none = refl
-way_leave P r none (some z) = refl
+way_leave P r (Some b) None = refl
+way_leave P r (Some b) (Some z) = refl
+way_leave P r None None = refl
+way_leave P r None (Some z) = refl
 
 -- pass i of line n
 abbrev pub pass_way : Form → List ℕ → ℕ → ℕ → State → Way State
-pass_way F s n i r = way_of (bad_in_pass F 0 s n i r) (map plain_state (pass_at F 0 s i r))
+pass_way F s n i r = way_of (bad_in_pass F 0 s n i r) (option_map plain_state (pass_at F 0 s i r))
 
 module _ (F : Form) (s : List ℕ) (n : ℕ) (r : State) where
   pub passes_none : passes_way F s n 0 r ≡ on (plain_state r)
@@ -130,14 +129,14 @@ module _ (F : Form) (s : List ℕ) (n : ℕ) (r : State) where
       way_then_by plain_state plain_state (first_found (pass_at F 0 s) (bad_in_pass F 0 s n) i r) (runs (pass_at F 0 s) i r) _ _ (bad_pass_plain F 0 s n i) (pass_plain F 0 s i)
 
   -- a line is six of them, with the test at its end
-  pub line_end : (i : ℕ) → i ≡ 6 → line_way F s n r ≡ then_way (passes_way F s n i r) (λ z. way_of none (map plain_state (end_line s z)))
+  pub line_end : (i : ℕ) → i ≡ 6 → line_way F s n r ≡ then_way (passes_way F s n i r) (λ z. way_of None (option_map plain_state (end_line s z)))
   unfolding line_way passes_way
   line_end i e = rw e (way_end_by plain_state plain_state (first_found (pass_at F 0 s) (bad_in_pass F 0 s n) 6 r) (runs (pass_at F 0 s) 6 r) (end_line s) (end_plain s))
 
-pub end_past : (s : List ℕ) (z : State) → ltb (8 * length s + 7) z.at.0 ≡ true → way_of none (map plain_state (end_line s z)) ≡ cut_off
+pub end_past : (s : List ℕ) (z : State) → ltb (8 * length s + 7) z.at.0 ≡ true → way_of None (option_map plain_state (end_line s z)) ≡ cut_off
 end_past s z h = rw (lt-leb z.at.0 (8 * length s + 7) (ltb-true _ _ h))
 
-pub end_here : (s : List ℕ) (z : State) → ltb (8 * length s + 7) z.at.0 ≡ false → way_of none (map plain_state (end_line s z)) ≡ on (plain_state z)
+pub end_here : (s : List ℕ) (z : State) → ltb (8 * length s + 7) z.at.0 ≡ false → way_of None (option_map plain_state (end_line s z)) ≡ on (plain_state z)
 end_here s z h = rw (le-leb z.at.0 (8 * length s + 7) (ltb-false _ _ h))
 
 -- pass i, by what was done before it
@@ -159,11 +158,11 @@ module _ (F : Form) (s : List ℕ) (n i W : ℕ) (P : Plan) (Q : Quantiser) (l�
       (way_leave P before (bad_in_steps n i F.bits 0 W s (pass_steps W P) entered) (reads F.bits 0 W s (pass_steps W P) entered))
 
   module _ (lines p q : List ℕ) (lp : length p ≡ 112) (lq : length q ≡ 112) where
-    pub pass_says : {r : Traced} → Says (clean lines p q) (steps_way stage s (pass_steps W P) entered) r
+    pub pass_says : {r : Result BitPosition Stop} → Says (clean lines p q) (steps_way stage s (pass_steps W P) entered) r
         → Says (clean_state lines (put_mid a (e - a) sums p) (put_mid a (e - a) ns q)) (pass_way F s n i before) r
-    pass_says {r = Bad x} h = then_bad (λ z. on (left P before z)) pass_is h refl
-    pass_says {r = CutOff} h = then_cut (λ z. on (left P before z)) pass_is h refl
-    pass_says {r = At x} h =
+    pass_says {r = Err (Stop.Bad x)} h = then_bad (λ z. on (left P before z)) pass_is h refl
+    pass_says {r = Err Stop.CutOff} h = then_cut (λ z. on (left P before z)) pass_is h refl
+    pass_says {r = Ok x} h =
         let k = on_then (λ z. on (left P before z)) (steps_way stage s (pass_steps W P) entered) (clean lines p q x) (was_at h refl) in
         record { is = pass_is ∙ k ∙ rw (put_zip sums ns P.set a e ea ee p q ls ln three lp lq) }
 
@@ -171,7 +170,7 @@ module _ (F : Form) (s : List ℕ) (n i W : ℕ) (P : Plan) (Q : Quantiser) (l�
 
 -- line n, which begins with a turn
 abbrev pub line_at_way : Form → List ℕ → ℕ → State → Way State
-line_at_way F s n r = way_of (bad_in_line F [] s n r) (map plain_state (read_line_at F [] s n r))
+line_at_way F s n r = way_of (bad_in_line F [] s n r) (option_map plain_state (read_line_at F [] s n r))
 
 line_at_lem : (F : Form) (s : List ℕ) (n : ℕ) (r : State) → line_at_way F s n r ≡ line_way F s n (before_line F [] n r)
 unfolding bad_in_line read_line_at read_line line_way
@@ -213,7 +212,7 @@ module _ (F : Form) (s : List ℕ) (n W : ℕ) (l₀ l₁ sums ns : List ℕ) (a
       go zero k = let r : zip_records sums ns ≡ start_records F.bits 0 = k refl in rw (r, restart_none F.bits)
       go (suc n) k = rw (ne_eqb (suc n) 0 (λ q. omega arith))
 
-  pub line_says : {here : BitPosition → State} {r : Traced} → Says here (line_way F s n (clean_state l₁ sums ns at)) r
+  pub line_says : {here : BitPosition → State} {r : Result BitPosition Stop} → Says here (line_way F s n (clean_state l₁ sums ns at)) r
       → Says here (line_at_way F s n (clean_state l₀ sums ns at)) r
   line_says h = rw (line_at_lem F s n (clean_state l₀ sums ns at), before_is) h
 
@@ -232,7 +231,7 @@ zero_part xtrans n m e h = rw sub-zero (take_zeros n m h ∙ rw e)
 
 -- ---- what the walk over a block says
 
-pub ends_says : (lines sums ns : List ℕ) {o : Way State} {r : Traced} → Says (clean_state lines sums ns) o r → Ends o r
-ends_says lines sums ns {r = Bad x} h = was_bad h refl
-ends_says lines sums ns {r = CutOff} h = was_cut h refl
-ends_says lines sums ns {r = At at} h = (clean_state lines sums ns at, was_at h refl, refl)
+pub ends_says : (lines sums ns : List ℕ) {o : Way State} {r : Result BitPosition Stop} → Says (clean_state lines sums ns) o r → Ends o r
+ends_says lines sums ns {r = Err (Stop.Bad x)} h = was_bad h refl
+ends_says lines sums ns {r = Err Stop.CutOff} h = was_cut h refl
+ends_says lines sums ns {r = Ok at} h = (clean_state lines sums ns at, was_at h refl, refl)

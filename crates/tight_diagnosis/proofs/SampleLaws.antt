@@ -1,10 +1,8 @@
 -- One sample, from the answers of the leaves. A lossless sample is coded by the main quantiser. Assumes nothing.
 use mathlib.Core.Bool.{Bool, true, false}
 use mathlib.Core.List.{List}
-use mathlib.Core.Option.{Option, none, some}
 use mathlib.Core.Path.{◌≡◌, refl, sym, ◌∙◌, subst}
 use Prim.Native.Nat.{ℕ, ◌+◌, ◌*◌, ◌^◌, ◌≤◌, ◌<◌}
-use native.Mathlib.Omega.{arith}
 use lib.ListN.{get_or, set}
 use Rattle.bits.specs.declared.BitPosition.{BitPosition}
 use Rattle.statistics.specs.Statistics.{k_of, updated}
@@ -16,8 +14,6 @@ use Rattle.code.specs.Inside.{Bounds}
 use Rattle.code.specs.Samples.{choice_of, residual_of, sample_of}
 use Rattle.code.specs.Tight.{is_tight}
 use Rattle.code.specs.declared.Code.{Code}
-use Rattle.code.specs.declared.Coded.{Coded}
-use Rattle.code.specs.declared.Coded.TheVariants.{Read, Truncated}
 use Rattle.pass_schedule.specs.Steps.{Step, step_at}
 use Rattle.pass_steps.specs.Contexts.{context_in, look_of, slot_of, no_record, step_look}
 use Rattle.pass_steps.specs.Values.{zip_records}
@@ -27,33 +23,16 @@ use Rattle.read_pass.specs.Readings.{Reading, step_code}
 use Rattle.read_pass.proofs.StepLaws.{step_interpolated, step_cut_off, step_read}
 use Rattle.code.specs.declared.reasons.Reason.{Reason}
 use Rattle.code.specs.Reasons.{reason_of, coded_reason}
-use Rattle.code.specs.Inside.{verdict_of}
 use Rattle.read_block.specs.BadCodes.{step_reason, bad_at}
 use Rattle.read_block.proofs.BadCodeLaws.{code_stays}
 use Rattle.tight_diagnosis.specs.Ways.{found, cut_off, on, step_way}
 use Rattle.tight_diagnosis.specs.Traces.{clean}
-use Rattle.code.specs.declared.reasons.BadSpot.{BadSpot}
 use Rattle.tight_diagnosis.specs.declared.trace.Stage.{Stage}
-use Rattle.code.specs.declared.reasons.Verdict.TheVariants.{Good, Bad}
-
--- ---- verdicts
+use Rattle.std.specs.Prelude.{None, Some, Option}
 
 -- a code that was read is not too large for what follows
-pub read_small : (s : List ℕ) (g : Coded) (c : Code) → Bounds s g → g ≡ Read c → c.value < 63 * 2 ^ 15
-read_small s g c h e = let b : Bounds s (Read c) = subst (Bounds s) e h in b.0
-
-pub was_good : (o : Option Reason) → verdict_of o ≡ Good → o ≡ none
-was_good none e = refl
-was_good (some w) e = let no : ◌≡◌ {A = ℕ} 0 1 = cc in absurd (omega arith)
-
-pub was_loose : (o : Option Reason) (x : Reason) → verdict_of o ≡ Bad x → (w : Reason) × (o ≡ some w) × (x ≡ w)
-was_loose none x e = let no : ◌≡◌ {A = ℕ} 0 1 = cc in absurd (omega arith)
-was_loose (some w) x e = (w, refl, cc)
-
-pub spot_is : (n i line p : ℕ) (at : BitPosition) (a b : Reason) (z : BadSpot)
-    → z ≡ record { line = n; pass = i; colour = line; position = p; at = at; reason = a } → a ≡ b
-    → z ≡ record { line = n; pass = i; colour = line; position = p; at = at; reason = b }
-spot_is n i line p at a b z e f = e ∙ rw f
+pub read_small : (s : List ℕ) (g : Option Code) (c : Code) → Bounds s g → g ≡ Some c → c.value < 63 * 2 ^ 15
+read_small s g c h e = let b : Bounds s (Some c) = subst (Bounds s) e h in b.0
 
 -- ---- the look of a lossless sample
 
@@ -88,7 +67,7 @@ pub total_small : (t : Stage) → t.q ≡ main_of t.bits 0 → t.bits ≤ 16 →
 total_small t e h = rw e (numbers_le t.bits 0 9 h).0
 
 module _ (s : List ℕ) (at : BitPosition) {t : Stage} {line p : ℕ} {coded : Bool} {lines sums ns : List ℕ} {i : ℕ} {x : Context} {h : Look} {j : ℕ}
-    {old : Record} {k : ℕ} {got : Coded}
+    {old : Record} {k : ℕ} {got : Option Code}
     (here : Here t line p lines sums ns i x h j old) (ec : coded ≡ true) (ek : k ≡ k_of old) (eg : got ≡ code_at s at.0 k t.q.limit t.q.raw) where
   abbrev step : Step
   step = step_at line p coded
@@ -109,22 +88,22 @@ module _ (s : List ℕ) (at : BitPosition) {t : Stage} {line p : ℕ} {coded : B
   unfolding step_reason
   reason_is = rw (ec, code_is, look_is, main, ← here.slot, ← here.record_is, ek, here.quantiser)
 
-  pub step_cut : got ≡ Truncated → step_way t s step reading ≡ cut_off
+  pub step_cut : got ≡ None → step_way t s step reading ≡ cut_off
   unfolding step_way
   step_cut e =
       let r = step_cut_off t.bits 0 t.w s step reading ec (code_is ∙ e) in
       rw (reason_is, r, e)
 
-  module _ {c : Code} {m : ℕ} (e : got ≡ Read c) (em : m ≡ largest t.bits) where
-    pub step_bad : {w : Reason} → reason_of m k t.q.limit c ≡ some w → step_way t s step reading ≡ found (bad_at t.line t.pass step reading w)
+  module _ {c : Code} {m : ℕ} (e : got ≡ Some c) (em : m ≡ largest t.bits) where
+    pub step_bad : {w : Reason} → reason_of m k t.q.limit c ≡ Some w → step_way t s step reading ≡ found (bad_at t.line t.pass step reading w)
     unfolding step_way
     step_bad b = let f = rw em at b in rw (reason_is, e, f)
 
     -- a code without a reason is tight
-    good : reason_of m k t.q.limit c ≡ none → is_tight (largest t.bits) c ≡ true
+    good : reason_of m k t.q.limit c ≡ None → is_tight (largest t.bits) c ≡ true
     good b = let f = rw em at b in rw f at (code_stays (largest t.bits) s at.0 k t.q.limit t.q.raw c true (sym eg ∙ e))
 
-    pub step_good : {v : ℕ} (sums' ns' : List ℕ) → reason_of m k t.q.limit c ≡ none
+    pub step_good : {v : ℕ} (sums' ns' : List ℕ) → reason_of m k t.q.limit c ≡ None
         → v ≡ sample_of m h.base t.q.total h.negative x.prediction c.value
         → zip_records sums' ns' ≡ set (zip_records sums ns) j (updated old (residual_of c.value).size)
         → step_way t s step reading ≡ on (clean (set lines (i + 1) v) sums' ns' c.after)

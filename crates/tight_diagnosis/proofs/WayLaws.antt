@@ -1,6 +1,5 @@
 -- Ways one after the other, and what answers say of them. Assumes nothing.
 use mathlib.Core.List.{List, [], ◌∷◌, ◌++◌}
-use mathlib.Core.Option.{Option, none, some, or_else, map}
 use mathlib.Core.Path.{◌≡◌, refl, sym, ap, ◌∙◌, subst}
 use Prim.Native.Nat.{ℕ, zero, suc, ◌+◌, ◌-◌, ◌<◌}
 use native.Mathlib.Nat.{add-zero, add-suc}
@@ -16,8 +15,9 @@ use Rattle.tight_diagnosis.proofs.PlainLaws.{steps_plain, bad_plain}
 use Rattle.tight_diagnosis.specs.Traces.{Said, Says}
 use Rattle.code.specs.declared.reasons.BadSpot.{BadSpot}
 use Rattle.tight_diagnosis.specs.declared.trace.Stage.{Stage}
-use Rattle.tight_diagnosis.specs.declared.trace.Traced.{Traced}
-use Rattle.tight_diagnosis.specs.declared.trace.Traced.TheVariants.{Bad, At, CutOff}
+use Rattle.std.specs.Prelude.{None, Option, Some, option_map, Err, Ok, Result}
+use Rattle.std.specs.Option.{option_or}
+use Rattle.tight_diagnosis.specs.declared.trace.Stop.{Stop}
 
 -- ---- one way, and then another
 
@@ -30,29 +30,29 @@ module _ {A C : Type 0} where
   -- what is left out of the values does not count
   module _ (p : A → A) (q : C → C) where
     pub way_then_by : (o : Option BadCode) (a : Option A) (g : A → Option BadCode) (f : A → Option C)
-        → ((z : A) → g (p z) ≡ g z) → ((z : A) → map q (f (p z)) ≡ map q (f z))
-        → way_of (or_else o (and_then a g)) (map q (and_then a f)) ≡ then_way (way_of o (map p a)) (λ z. way_of (g z) (map q (f z)))
-    unfolding or_else and_then then_way
-    way_then_by (some b) none g f eg ef = refl
-    way_then_by (some b) (some a) g f eg ef = refl
-    way_then_by none none g f eg ef = refl
-    way_then_by none (some a) g f eg ef = rw (eg a, ef a)
-
-    pub way_end_by : (o : Option BadCode) (a : Option A) (f : A → Option C) → ((z : A) → map q (f (p z)) ≡ map q (f z))
-        → way_of o (map q (and_then a f)) ≡ then_way (way_of o (map p a)) (λ z. way_of none (map q (f z)))
+        → ((z : A) → g (p z) ≡ g z) → ((z : A) → option_map q (f (p z)) ≡ option_map q (f z))
+        → way_of (option_or o (and_then a g)) (option_map q (and_then a f)) ≡ then_way (way_of o (option_map p a)) (λ z. way_of (g z) (option_map q (f z)))
     unfolding and_then then_way
-    way_end_by (some b) none f ef = refl
-    way_end_by (some b) (some a) f ef = refl
-    way_end_by none none f ef = refl
-    way_end_by none (some a) f ef = rw (ef a)
+    way_then_by (Some b) None g f eg ef = refl
+    way_then_by (Some b) (Some a) g f eg ef = refl
+    way_then_by None None g f eg ef = refl
+    way_then_by None (Some a) g f eg ef = rw (eg a, ef a)
+
+    pub way_end_by : (o : Option BadCode) (a : Option A) (f : A → Option C) → ((z : A) → option_map q (f (p z)) ≡ option_map q (f z))
+        → way_of o (option_map q (and_then a f)) ≡ then_way (way_of o (option_map p a)) (λ z. way_of None (option_map q (f z)))
+    unfolding and_then then_way
+    way_end_by (Some b) None f ef = refl
+    way_end_by (Some b) (Some a) f ef = refl
+    way_end_by None None f ef = refl
+    way_end_by None (Some a) f ef = rw (ef a)
 
 -- a reading that goes on has no count already
-way_plain : (o : Option BadCode) (a : Option Reading) → then_way (way_of o (map plain a)) (λ w. on (plain w)) ≡ way_of o (map plain a)
+way_plain : (o : Option BadCode) (a : Option Reading) → then_way (way_of o (option_map plain a)) (λ w. on (plain w)) ≡ way_of o (option_map plain a)
 unfolding then_way
-way_plain (some b) none = refl
-way_plain (some b) (some z) = refl
-way_plain none none = refl
-way_plain none (some z) = refl
+way_plain (Some b) None = refl
+way_plain (Some b) (Some z) = refl
+way_plain None None = refl
+way_plain None (Some z) = refl
 
 then_assoc : {A B C : Type 0} (m : Way A) (f : A → Way B) (g : B → Way C) → then_way (then_way m f) g ≡ then_way m (λ a. then_way (f a) g)
 unfolding then_way
@@ -82,42 +82,30 @@ module _ {A C : Type 0} (f : A → Way C) where
   on_then o a e = rw e
 
 -- what is known of an answer
-pub was_bad : {A : Type 0} {here : BitPosition → A} {o : Way A} {r : Traced} {x : BadSpot} → Says here o r → r ≡ Bad x
+pub was_bad : {A : Type 0} {here : BitPosition → A} {o : Way A} {r : Result BitPosition Stop} {x : BadSpot} → Says here o r → r ≡ Err (Stop.Bad x)
     → (b : BadCode) × (o ≡ found b) × (x ≡ spot_of b)
 was_bad {here = here} {o = o} {r = r} {x = x} h e = subst (Said here o) e h.is
 
-pub was_cut : {A : Type 0} {here : BitPosition → A} {o : Way A} {r : Traced} → Says here o r → r ≡ CutOff → o ≡ cut_off
+pub was_cut : {A : Type 0} {here : BitPosition → A} {o : Way A} {r : Result BitPosition Stop} → Says here o r → r ≡ Err Stop.CutOff → o ≡ cut_off
 was_cut {here = here} {o = o} h e = subst (Said here o) e h.is
 
-pub was_at : {A : Type 0} {here : BitPosition → A} {o : Way A} {r : Traced} {at : BitPosition} → Says here o r → r ≡ At at → o ≡ on (here at)
+pub was_at : {A : Type 0} {here : BitPosition → A} {o : Way A} {r : Result BitPosition Stop} {at : BitPosition} → Says here o r → r ≡ Ok at → o ≡ on (here at)
 was_at {here = here} {o = o} h e = subst (Said here o) e h.is
 
-pub says_is : {A : Type 0} {there : BitPosition → A} {o o' : Way A} {r : Traced} → o ≡ o' → Says there o' r → Says there o r
+pub says_is : {A : Type 0} {there : BitPosition → A} {o o' : Way A} {r : Result BitPosition Stop} → o ≡ o' → Says there o' r → Says there o r
 says_is e h = rw e h
 
--- an answer that is no place, by the number of its variant
-abbrev pub Stops : Traced → Type 0
-Stops (Bad x) = Unit {0}
-Stops (At at) = ⊥
-Stops CutOff = Unit {0}
-
-pub no_place : (r : Traced) → ((at : BitPosition) → r ≡ At at → ⊥) → Stops r
-no_place (Bad x) h = tt
-no_place (At at) h = absurd (h at refl)
-no_place CutOff h = tt
-
-module _ {A C : Type 0} (f : A → Way C) {here : BitPosition → A} {o : Way A} {o' : Way C} {r : Traced} (e : o' ≡ then_way o f) (h : Says here o r) where
-  pub then_bad : {there : BitPosition → C} {x : BadSpot} → r ≡ Bad x → Says there o' (Bad x)
+module _ {A C : Type 0} (f : A → Way C) {here : BitPosition → A} {o : Way A} {o' : Way C} {r : Result BitPosition Stop} (e : o' ≡ then_way o f) (h : Says here o r) where
+  pub then_bad : {there : BitPosition → C} {x : BadSpot} → r ≡ Err (Stop.Bad x) → Says there o' (Err (Stop.Bad x))
   then_bad k = let g = was_bad h k in record { is = (g.0, e ∙ found_then f o g.0 g.1, g.2) }
 
-  pub then_cut : {there : BitPosition → C} → r ≡ CutOff → Says there o' CutOff
+  pub then_cut : {there : BitPosition → C} → r ≡ Err Stop.CutOff → Says there o' (Err Stop.CutOff)
   then_cut k = record { is = e ∙ cut_then f o (was_cut h k) }
 
   -- it does not go on
-  pub then_stops : {there : BitPosition → C} (x : Traced) → r ≡ x → Stops x → Says there o' x
-  then_stops (Bad b) k g = then_bad k
-  then_stops (At at) k g = absurd g
-  then_stops CutOff k g = then_cut k
+  pub then_stops : {there : BitPosition → C} {y : Stop} → r ≡ Err y → Says there o' (Err y)
+  then_stops {y = Stop.Bad b} k = then_bad k
+  then_stops {y = Stop.CutOff} k = then_cut k
 
 -- ---- turns of a loop
 
@@ -133,29 +121,28 @@ module _ {A : Type 0} (W : ℕ → Way A) (g : ℕ → A → Way A) (next : (n :
   cut_stays n (suc m) e = rw add-suc (next (n + m) ∙ rw (cut_stays n m e))
 
   -- turn n of N, by what it says
-  module _ {n N : ℕ} (lt : n < N) {a : A} (so_far : W n ≡ on a) {here : BitPosition → A} {r : Traced} (h : Says here (g n a) r) where
+  module _ {n N : ℕ} (lt : n < N) {a : A} (so_far : W n ≡ on a) {here : BitPosition → A} {r : Result BitPosition Stop} (h : Says here (g n a) r) where
     one_more : W (n + 1) ≡ g n a
     unfolding then_way
     one_more = rw add-one (next n ∙ rw so_far)
 
-    pub turn_at : {at : BitPosition} → r ≡ At at → W (n + 1) ≡ on (here at)
+    pub turn_at : {at : BitPosition} → r ≡ Ok at → W (n + 1) ≡ on (here at)
     turn_at e = one_more ∙ was_at h e
 
-    pub turn_bad : {x : BadSpot} → r ≡ Bad x → Says here (W N) (Bad x)
+    pub turn_bad : {x : BadSpot} → r ≡ Err (Stop.Bad x) → Says here (W N) (Err (Stop.Bad x))
     turn_bad e =
         let k = was_bad h e in
         let f : n + 1 + (N - (n + 1)) ≡ N = omega arith in
         record { is = (k.0, rw f at (found_stays (n + 1) (N - (n + 1)) k.0 (one_more ∙ k.1)), k.2) }
 
-    pub turn_cut : r ≡ CutOff → Says here (W N) CutOff
+    pub turn_cut : r ≡ Err Stop.CutOff → Says here (W N) (Err Stop.CutOff)
     turn_cut e =
         let f : n + 1 + (N - (n + 1)) ≡ N = omega arith in
         record { is = rw f at (cut_stays (n + 1) (N - (n + 1)) (one_more ∙ was_cut h e)) }
 
-    pub turn_stops : (x : Traced) → r ≡ x → Stops x → Says here (W N) x
-    turn_stops (Bad b) e k = turn_bad e
-    turn_stops (At at) e k = absurd k
-    turn_stops CutOff e k = turn_cut e
+    pub turn_stops : {y : Stop} → r ≡ Err y → Says here (W N) (Err y)
+    turn_stops {y = Stop.Bad b} e = turn_bad e
+    turn_stops {y = Stop.CutOff} e = turn_cut e
 
 -- ---- steps
 
@@ -175,7 +162,7 @@ module _ (t : Stage) (s : List ℕ) where
 
   step_none : (x : Step) (r : Reading) → then_way (step_way t s x r) (λ w. on (plain w)) ≡ step_way t s x r
   unfolding step_way
-  step_none x r = way_plain (map (bad_at t.line t.pass x r) (step_reason t.bits 0 t.w s x r)) (read_step t.bits 0 t.w s x r)
+  step_none x r = way_plain (option_map (bad_at t.line t.pass x r) (step_reason t.bits 0 t.w s x r)) (read_step t.bits 0 t.w s x r)
 
   pub steps_append : (k l : List Step) (r : Reading) → steps_way t s (k ++ l) r ≡ then_way (steps_way t s k r) (λ z. steps_way t s l z)
   unfolding then_way

@@ -2,9 +2,9 @@
 use Rattle.std.specs.Prelude.{true, cond, not, List, [], ◌∷◌, Option, Some, None, ℕ, ◌-◌, ◌*◌, ◌/◌, ◌%◌, eqb, ltb, leb}
 use Rattle.pass_schedule.specs.Steps.{Step, interpolated}
 use Rattle.pass_schedule.specs.declared.Plan.{Plan}
-use Rattle.pass_schedule.specs.declared.Rule.{Rule}
 use Rattle.tight_diagnosis.specs.Ways.{step_of}
 use Rattle.tight_diagnosis.specs.declared.trace.Sample.{Sample}
+use Rattle.pass_schedule.specs.declared.Rule.{Rule}
 
 -- the steps of a sample that the pass may have
 abbrev pub steps_due : Option Sample → List Step

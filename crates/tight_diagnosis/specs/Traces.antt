@@ -1,5 +1,5 @@
 -- Inside. What the functions of the second walk ask for, and what they hand back.
-use Rattle.std.specs.Prelude.{true, List, ◌≡◌, ℕ, ◌+◌, ◌*◌, ◌%◌, ◌^◌, ◌≤◌, ◌<◌, length}
+use Rattle.std.specs.Prelude.{true, List, ◌≡◌, ℕ, ◌+◌, ◌*◌, ◌%◌, ◌^◌, ◌≤◌, ◌<◌, length, Err, Ok, Result}
 use Rattle.bits.specs.declared.BitPosition.{BitPosition}
 use Rattle.quantiser.specs.Quantisers.{main_of}
 use Rattle.quantiser.specs.declared.Quantiser.{Quantiser}
@@ -17,18 +17,17 @@ use Rattle.tight_diagnosis.specs.Ways.{Way, found, cut_off, on}
 use Rattle.tight_diagnosis.specs.Faults.{spot_of}
 use Rattle.tight_diagnosis.specs.declared.trace.Sample.{Sample}
 use Rattle.tight_diagnosis.specs.declared.trace.Stage.{Stage}
-use Rattle.tight_diagnosis.specs.declared.trace.Traced.{Traced}
-use Rattle.tight_diagnosis.specs.declared.trace.Traced.TheVariants.{Bad, At, CutOff}
+use Rattle.tight_diagnosis.specs.declared.trace.Stop.{Stop}
 
 -- ---- the answer
 
 -- an answer says the way, and where the reading goes on, it is this one
-abbrev pub Said : {A : Type 0} → (BitPosition → A) → Way A → Traced → Type 0
-Said here o (Bad x) = (b : BadCode) × (o ≡ found b) × (x ≡ spot_of b)
-Said here o (At at) = o ≡ on (here at)
-Said here o CutOff = o ≡ cut_off
+abbrev pub Said : {A : Type 0} → (BitPosition → A) → Way A → Result BitPosition Stop → Type 0
+Said here o (Ok at) = o ≡ on (here at)
+Said here o (Err (Stop.Bad x)) = (b : BadCode) × (o ≡ found b) × (x ≡ spot_of b)
+Said here o (Err Stop.CutOff) = o ≡ cut_off
 
-pub record Says {A : Type 0} (here : BitPosition → A) (o : Way A) (r : Traced) : Type 0 where
+pub record Says {A : Type 0} (here : BitPosition → A) (o : Way A) (r : Result BitPosition Stop) : Type 0 where
   pub is : Said here o r
 
 -- ---- steps
@@ -60,7 +59,7 @@ pub record PassAsks (t : Stage) (P : Plan) (s lines sums ns : List ℕ) : Type 0
   pub even : t.w % 2 ≡ 0
   pub plan : PlanInRange P
 
-pub record Gives (o : Way Reading) (lines sums ns : List ℕ) (r : Traced) : Type 0 where
+pub record Gives (o : Way Reading) (lines sums ns : List ℕ) (r : Result BitPosition Stop) : Type 0 where
   pub says : Says (clean lines sums ns) o r
   pub records : SetInRange (zip_records sums ns)
 
@@ -78,13 +77,13 @@ pub record LineAsks (F : Form) (Q : Quantiser) (s lines sums ns : List ℕ) : Ty
   pub for_ns : length ns ≡ 336
   pub records : AllInRange (zip_records sums ns)
 
-pub record LineGives (o : Way State) (lines sums ns : List ℕ) (r : Traced) : Type 0 where
+pub record LineGives (o : Way State) (lines sums ns : List ℕ) (r : Result BitPosition Stop) : Type 0 where
   pub says : Says (clean_state lines sums ns) o r
   pub records : AllInRange (zip_records sums ns)
 
 -- ---- a block, whose colour lines and records are the walk's own
 
-abbrev pub Ends : Way State → Traced → Type 0
-Ends o (Bad x) = (b : BadCode) × (o ≡ found b) × (x ≡ spot_of b)
-Ends o (At at) = (z : State) × (o ≡ on z) × (z.at ≡ at)
-Ends o CutOff = o ≡ cut_off
+abbrev pub Ends : Way State → Result BitPosition Stop → Type 0
+Ends o (Ok at) = (z : State) × (o ≡ on z) × (z.at ≡ at)
+Ends o (Err (Stop.Bad x)) = (b : BadCode) × (o ≡ found b) × (x ≡ spot_of b)
+Ends o (Err Stop.CutOff) = o ≡ cut_off

@@ -1,6 +1,5 @@
 -- Inside. How a reading goes that looks for a bad code: by the definitions of reading, and of the first bad code.
-use Rattle.std.specs.Prelude.{List, [], ℕ}
-use Rattle.std.proofs.Math.Option.{Option, none, some, map}
+use Rattle.std.specs.Prelude.{List, [], ℕ, None, Option, Some, option_map}
 use Rattle.pass_schedule.specs.Steps.{Step, step_at}
 use Rattle.read_pass.specs.Readings.{Reading, read_step, and_then, reads}
 use Rattle.read_block.specs.Blocks.{State, runs, pass_at, end_line, read_lines}
@@ -24,9 +23,9 @@ pub data Way (A : Type 0) : Type 0 where
 
 -- by the first bad code of some steps, and by what they read
 abbrev pub way_of : {A : Type 0} → Option BadCode → Option A → Way A
-way_of (some b) o = found b
-way_of none none = cut_off
-way_of none (some a) = on a
+way_of (Some b) o = found b
+way_of None None = cut_off
+way_of None (Some a) = on a
 
 -- the walk looks for a bad code and counts no long ones: it goes by a reading, or a state, without that count
 abbrev pub plain : Reading → Reading
@@ -38,17 +37,17 @@ plain_state r = record { lines = r.lines; records = r.records; at = r.at; tight 
 -- one step, and a list of steps, of a pass of a lossless line
 unfoldable pub step_way : Stage → List ℕ → Step → Reading → Way Reading
 step_way t s x r =
-    way_of (map (bad_at t.line t.pass x r) (step_reason t.bits 0 t.w s x r)) (map plain (read_step t.bits 0 t.w s x r))
+    way_of (option_map (bad_at t.line t.pass x r) (step_reason t.bits 0 t.w s x r)) (option_map plain (read_step t.bits 0 t.w s x r))
 
 unfoldable pub steps_way : Stage → List ℕ → List Step → Reading → Way Reading
-steps_way t s l r = way_of (bad_in_steps t.line t.pass t.bits 0 t.w s l r) (map plain (reads t.bits 0 t.w s l r))
+steps_way t s l r = way_of (bad_in_steps t.line t.pass t.bits 0 t.w s l r) (option_map plain (reads t.bits 0 t.w s l r))
 
 -- the first i passes of line n; all six, with the test at the line's end; and the first n lines
 unfoldable pub passes_way : Form → List ℕ → ℕ → ℕ → State → Way State
-passes_way F s n i r = way_of (first_found (pass_at F 0 s) (bad_in_pass F 0 s n) i r) (map plain_state (runs (pass_at F 0 s) i r))
+passes_way F s n i r = way_of (first_found (pass_at F 0 s) (bad_in_pass F 0 s n) i r) (option_map plain_state (runs (pass_at F 0 s) i r))
 
 unfoldable pub line_way : Form → List ℕ → ℕ → State → Way State
-line_way F s n r = way_of (first_found (pass_at F 0 s) (bad_in_pass F 0 s n) 6 r) (map plain_state (and_then (runs (pass_at F 0 s) 6 r) (end_line s)))
+line_way F s n r = way_of (first_found (pass_at F 0 s) (bad_in_pass F 0 s n) 6 r) (option_map plain_state (and_then (runs (pass_at F 0 s) 6 r) (end_line s)))
 
 unfoldable pub block_way : Form → List ℕ → ℕ → Way State
-block_way F s n = way_of (first_bad F [] s n) (map plain_state (read_lines F [] s n))
+block_way F s n = way_of (first_bad F [] s n) (option_map plain_state (read_lines F [] s n))

@@ -1,40 +1,38 @@
 // Item 1: why a block is not tight. It finds the spot and the reason of the first bad code. The function for C is in tight_diagnosis_c.
 #![tactic(auto)]
 
-ghost use Rattle.std.specs.Prelude.{◌≡◌, true, ◌^◌, ◌<◌, length};
+ghost use Rattle.std.specs.Prelude.{◌≡◌, true, ◌^◌, ◌<◌, length, Ok, Some};
 ghost use Rattle.image_map.specs.Inside.{Fits};
 ghost use Rattle.pass_steps.specs.Contexts.{Depth};
 ghost use Rattle.stream.specs.Streams.{open_of};
-ghost use Rattle.stream.specs.declared.header.Parsed.TheVariants.{Header};
 ghost use Rattle.read_block.specs.Walks.{Shown, shown_lines, IsWalked};
 ghost use Rattle.read_block.specs.Words.{answer_words};
 ghost use Rattle.tight_diagnosis.specs.Faults.{gives15, answer_at, fault_at, answer_of, fault_of, reason_word, spot_words, fault_words};
 
 use bits::BitPosition;
 use code::{BadSpot, Reason};
-use image_map::Part;
-use read_block::{Decoded, Form, Walked, cleared, form_of, line_count, no_part, walk};
-use stream::{FujiHeader, Parsed};
-use trace::Traced;
+use image_map::{Part, Showing};
+use read_block::{Form, Walked, cleared, form_of, line_count, no_part, walk};
+use stream::{FujiHeader, Refusal};
+use trace::Stop;
 
 mod trace;
 
 // Why a block is not tight: its first bad code; or its tail, with the number of lines and the first bit after the last code.
 #[derive(Clone, Copy)]
 pub enum Fault {
-    None,
     Code(BadSpot),
     Tail(usize, BitPosition),
 }
 
 // ---- a block
 
-fn gives_15(a: Decoded) -> bool
+fn gives_15(a: Result<(), Refusal>) -> bool
     ensures { result ≡ gives15 a }
 {
     match a {
-        Decoded::Done => false,
-        Decoded::Refused(x) => {
+        Ok(()) => false,
+        Err(x) => {
             let w = stream::refusal_words(x);
             w[0] == 15
         }
@@ -57,6 +55,12 @@ pub fn walk_alone(
     ensures shown { Shown form bases.now block.now tile part (shown_lines result count) image.old image.new }
 {
     let places = image_map::xtrans_places();
+    let showing = Showing {
+        xtrans: form.xtrans,
+        places: &places,
+        tile,
+        part,
+    };
     let mut lines = [0u16; 9252];
     let mut rs = [cleared(); 336];
     let used = admission::samples_needed(form.xtrans);
@@ -66,10 +70,8 @@ pub fn walk_alone(
         &mut lines[0..used],
         &mut rs,
         image,
-        form,
-        &places,
-        tile,
-        part,
+        form.bits,
+        &showing,
         count,
         false,
         cameras::no_entries(),
@@ -77,8 +79,8 @@ pub fn walk_alone(
 }
 
 // What the tight reading answers for block b, with scratch of its own.
-pub fn answer_at(d: &[u8], h: FujiHeader, b: usize) -> Decoded
-    requires { (open_of d.now ≡ Header h) × (h.lossless ≡ true) }
+pub fn answer_at(d: &[u8], h: FujiHeader, b: usize) -> Result<(), Refusal>
+    requires { (open_of d.now ≡ Ok h) × (h.lossless ≡ true) }
     ensures { result ≡ answer_at d.now h b }
 {
     let form = form_of(h);
@@ -99,53 +101,42 @@ pub fn answer_at(d: &[u8], h: FujiHeader, b: usize) -> Decoded
     counted.answer
 }
 
-fn tail_fault(lines: usize, end: BitPosition) -> Fault
-    ensures { result ≡ Fault.Tail lines end }
-{
-    Fault::Tail(lines, end)
-}
-
 // The fault of block b. Only a block that gives 15 is walked a second time.
-pub fn fault_at(d: &[u8], h: FujiHeader, b: usize, answer: Decoded) -> Fault
-    requires { (open_of d.now ≡ Header h) × (answer ≡ answer_at d.now h b) }
+pub fn fault_at(d: &[u8], h: FujiHeader, b: usize, answer: Result<(), Refusal>) -> Option<Fault>
+    requires { (open_of d.now ≡ Ok h) × (answer ≡ answer_at d.now h b) }
     ensures { result ≡ fault_at d.now h b }
 {
-    if gives_15(answer) {
-        let form = form_of(h);
-        let count = line_count(h);
-        let block = stream::block_bytes(d, b);
-        let got = trace::trace_block(block, form, count);
-        match got {
-            Traced::Bad(x) => return Fault::Code(x),
-            Traced::At(end) => return tail_fault(count, end),
-            Traced::CutOff => return Fault::None,
-        }
+    if !gives_15(answer) {
+        return None;
     }
-    Fault::None
+    let form = form_of(h);
+    let count = line_count(h);
+    let block = stream::block_bytes(d, b);
+    match trace::trace_block(block, form, count) {
+        Err(Stop::Bad(x)) => Some(Fault::Code(x)),
+        Err(Stop::CutOff) => None,
+        Ok(end) => Some(Fault::Tail(count, end)),
+    }
 }
 
 // ---- as words
 
 // What the tight reading answers for block b of the stream d, with scratch of its own.
-fn answer_of(d: &[u8], b: usize) -> Decoded
+fn answer_of(d: &[u8], b: usize) -> Result<(), Refusal>
     ensures { result ≡ answer_of d.now b }
 {
-    let begins = admission::block_begins(d, b, true, 9252, 336);
-    match begins {
-        Parsed::Refused(x) => Decoded::Refused(x),
-        Parsed::Header(h) => answer_at(d, h, b),
-    }
+    let h = admission::block_begins(d, b, true, 9252, 336)?;
+    answer_at(d, h, b)
 }
 
-fn fault_of(d: &[u8], b: usize, answer: Decoded) -> Fault
+fn fault_of(d: &[u8], b: usize, answer: Result<(), Refusal>) -> Option<Fault>
     requires { answer ≡ answer_of d.now b }
     ensures { result ≡ fault_of d.now b }
 {
-    let begins = admission::block_begins(d, b, true, 9252, 336);
-    match begins {
-        Parsed::Refused(_) => Fault::None,
-        Parsed::Header(h) => fault_at(d, h, b, answer),
-    }
+    let Ok(h) = admission::block_begins(d, b, true, 9252, 336) else {
+        return None;
+    };
+    fault_at(d, h, b, answer)
 }
 
 fn reason_word(reason: Reason) -> usize
@@ -173,13 +164,13 @@ fn spot_words(x: BadSpot) -> [usize; 6]
     ]
 }
 
-fn fault_words(f: Fault) -> [usize; 6]
+fn fault_words(f: Option<Fault>) -> [usize; 6]
     ensures { result ≡ fault_words f }
 {
     match f {
-        Fault::None => [0; 6],
-        Fault::Code(x) => spot_words(x),
-        Fault::Tail(lines, at) => [lines, 0, 0, 0, at.0 as usize, 4],
+        None => [0; 6],
+        Some(Fault::Code(x)) => spot_words(x),
+        Some(Fault::Tail(lines, at)) => [lines, 0, 0, 0, at.0 as usize, 4],
     }
 }
 
@@ -190,9 +181,6 @@ pub fn bad_code(d: &[u8], b: usize, spot: &mut [usize; 6], refusal: &mut [usize;
         (refusal.new ≡ answer_words (answer_of d.now b)) }
 {
     let a = answer_of(d, b);
-    let f = fault_of(d, b, a);
-    let w = fault_words(f);
-    *spot = w;
-    let r = read_block::answer_words(a);
-    *refusal = r;
+    *spot = fault_words(fault_of(d, b, a));
+    *refusal = stream::refusal_in(&a);
 }

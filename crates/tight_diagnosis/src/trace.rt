@@ -16,18 +16,17 @@ ghost use Rattle.tight_diagnosis.specs.Ways.{step_of, steps_way, line_way, block
 ghost use Rattle.tight_diagnosis.specs.Traces.{clean, Inside, StageAsks, PassAsks, Gives, clean_state, LineAsks, LineGives, Ends};
 
 use bits::{BitPosition, is_past};
-use code::{BadSpot, Coded, Reason, Verdict};
+use code::{BadSpot, Reason};
 use image_map::width;
 use pass_schedule::{Plan, Rule};
 use quantiser::Quantiser;
 use read_block::Form;
 use statistics::Record;
 
-// What a walk says: a bad code; all codes were tight up to this bit; or no one bit was left before there was a bad code.
+// Why a walk stops: a bad code; or no one bit was left before there was a bad code. A walk that does not stop says up to which bit all codes were tight.
 #[derive(Clone, Copy)]
-pub enum Traced {
+pub enum Stop {
     Bad(BadSpot),
-    At(BitPosition),
     CutOff,
 }
 
@@ -91,7 +90,7 @@ fn bad_spot(stage: Stage, x: Sample, at: BitPosition, reason: Reason) -> BadSpot
     }
 }
 
-// One sample is read, or its code is bad.
+// One sample is read: where the reading is after it, unless it stops here.
 fn trace_step(
     block: &[u8],
     from: BitPosition,
@@ -100,35 +99,31 @@ fn trace_step(
     ns: &mut [u32],
     stage: Stage,
     x: Sample,
-) -> Traced
+) -> Result<BitPosition, Stop>
     requires { StageAsks stage block.now lines.old sums.old ns.old × Inside stage x }
     ensures { let before = clean lines.old sums.old ns.old from in
         Gives (steps_way stage block.now (step_of x ∷ []) before) lines.new sums.new ns.new result }
 {
     let w = stage.w;
     let p = x.position;
-    let coded = x.coded;
     let q = stage.q;
     let m = quantiser::largest(stage.bits);
     let i = pass_steps::left_of(w, x.line, p);
     let here = pass_steps::context_at(lines, w + 2, i, p);
-    if !coded {
+    if !x.coded {
         lines[i + 1] = here.prediction as u16;
-        return Traced::At(from);
+        return Ok(from);
     }
     let h = pass_steps::look_of(0, here);
     let j = pass_steps::slot_of(p, h.place);
     let old = record_in(sums, ns, j);
     let k = old.k();
-    let got = code_reader::read_code(block, from, k, q.limit, q.raw);
-    let Coded::Read(c) = got else {
-        return Traced::CutOff;
+    let Some(c) = code_reader::read_code(block, from, k, q.limit, q.raw) else {
+        return Err(Stop::CutOff);
     };
-    let after = c.after;
-    let verdict = code::verdict_of(m, k, q.limit, c);
-    match verdict {
-        Verdict::Bad(reason) => Traced::Bad(bad_spot(stage, x, from, reason)),
-        Verdict::Good => {
+    match code::reason_of(m, k, q.limit, c) {
+        Some(reason) => Err(Stop::Bad(bad_spot(stage, x, from, reason))),
+        None => {
             lines[i + 1] = code::sample(
                 m,
                 h.base,
@@ -138,7 +133,7 @@ fn trace_step(
                 c.value,
             ) as u16;
             update_in(sums, ns, j, old, c.value);
-            Traced::At(after)
+            Ok(c.after)
         }
     }
 }
@@ -200,7 +195,7 @@ fn trace_pass(
     ns: &mut [u32],
     stage: Stage,
     plan: Plan,
-) -> Traced
+) -> Result<BitPosition, Stop>
     requires { PassAsks stage plan block.now lines.old sums.old ns.old }
     ensures { let before = clean lines.old sums.old ns.old from in
         Gives (steps_way stage block.now (pass_steps stage.w plan) before) lines.new sums.new ns.new result }
@@ -212,13 +207,9 @@ fn trace_pass(
         let Some(x) = due_at(w, plan, u) else {
             continue;
         };
-        let got = trace_step(block, at, lines, sums, ns, stage, x);
-        let Traced::At(after) = got else {
-            return got;
-        };
-        at = after;
+        at = trace_step(block, at, lines, sums, ns, stage, x)?;
     }
-    Traced::At(at)
+    Ok(at)
 }
 
 // ---- lines
@@ -233,7 +224,7 @@ fn trace_line(
     form: Form,
     q: Quantiser,
     n: usize,
-) -> Traced
+) -> Result<BitPosition, Stop>
     requires { LineAsks form q block.now lines.old sums.old ns.old }
     ensures { let before = clean_state lines.old sums.old ns.old from in
         LineGives (line_way form block.now n before) lines.new sums.new ns.new result }
@@ -255,7 +246,7 @@ fn trace_line(
         };
         let start = 112 * p.set;
         let end = start + 112;
-        let got = trace_pass(
+        at = trace_pass(
             block,
             at,
             lines,
@@ -263,16 +254,12 @@ fn trace_line(
             &mut ns[start..end],
             stage,
             p,
-        );
-        let Traced::At(after) = got else {
-            return got;
-        };
-        at = after;
+        )?;
     }
     if is_past(block, at) {
-        return Traced::CutOff;
+        return Err(Stop::CutOff);
     }
-    Traced::At(at)
+    Ok(at)
 }
 
 // What the records start with.
@@ -295,7 +282,7 @@ fn trace_lines(
     ns: &mut [u32],
     form: Form,
     count: usize,
-) -> Traced
+) -> Result<BitPosition, Stop>
     requires block_len_bound { (length block.now < 2 ^ 32) × (Depth form.bits × (count < 2 ^ 16)) }
     requires lines_value { (lines.old ≡ zero_lines (width_of form.xtrans)) × ((length sums.old ≡ 336) × (length ns.old ≡ 336)) }
     ensures { Ends (block_way form block.now count) result }
@@ -307,17 +294,13 @@ fn trace_lines(
     let mut at = BitPosition(0);
     for n in 0..count {
         colour_lines::turn(lines, w);
-        let got = trace_line(block, at, lines, sums, ns, form, q, n);
-        let Traced::At(after) = got else {
-            return got;
-        };
-        at = after;
+        at = trace_line(block, at, lines, sums, ns, form, q, n)?;
     }
-    Traced::At(at)
+    Ok(at)
 }
 
 // The walk over the first `count` lines of a lossless block, from its first bit on.
-pub fn trace_block(block: &[u8], form: Form, count: usize) -> Traced
+pub fn trace_block(block: &[u8], form: Form, count: usize) -> Result<BitPosition, Stop>
     requires { (length block.now < 2 ^ 32) × (Depth form.bits × (count < 2 ^ 16)) }
     ensures { Ends (block_way form block.now count) result }
 {

@@ -1,5 +1,5 @@
 -- Promises. The text of a finding, in ASCII: a heading line and at most one record, fields parted by tabs; or the number of a refusal, as a line.
-use Rattle.std.specs.Prelude.{List, [], ◌∷◌, ◌++◌, ℕ, ◌^◌, ltb}
+use Rattle.std.specs.Prelude.{List, [], ◌∷◌, ◌++◌, ℕ, ◌^◌, ltb, Err, None, Ok, Option, Result, Some}
 use Rattle.io.specs.Digits.{last_digits}
 use Rattle.numbers.specs.Numbers.{least_from}
 use Rattle.stream.specs.Refusals.{refusal_number}
@@ -7,8 +7,8 @@ use Rattle.code.specs.declared.reasons.BadSpot.{BadSpot}
 use Rattle.code.specs.declared.reasons.Reason.{Reason}
 use Rattle.code.specs.declared.reasons.Reason.TheVariants.{Large, Escape, Zeros}
 use Rattle.bits.specs.declared.BitPosition.{BitPosition}
-use Rattle.tight_findings.specs.declared.text.Finding.{Finding}
-use Rattle.tight_findings.specs.declared.text.Finding.TheVariants.{Refused, Nothing, Code, Tail}
+use Rattle.stream.specs.declared.header.Refusal.{Refusal}
+use Rattle.tight_diagnosis.specs.declared.Fault.{Fault}
 
 abbrev pub tab : ℕ
 tab = 9
@@ -54,8 +54,8 @@ code_text b x = field b ++ field x.line ++ field x.pass ++ field x.colour ++ fie
 abbrev pub tail_record : ℕ → ℕ → BitPosition → List ℕ
 tail_record b lines at = field b ++ field lines ++ no_fields ++ field at.0 ++ tail_text
 
-unfoldable pub text_of : Finding → List ℕ
-text_of (Refused x) = number_text (refusal_number x) ++ newline ∷ []
-text_of Nothing = heading
-text_of (Code b x) = heading ++ code_text b x
-text_of (Tail b lines at) = heading ++ tail_record b lines at
+unfoldable pub text_of : Result (Option (ℕ × Fault)) Refusal → List ℕ
+text_of (Err x) = number_text (refusal_number x) ++ newline ∷ []
+text_of (Ok None) = heading
+text_of (Ok (Some (b, Fault.Code x))) = heading ++ code_text b x
+text_of (Ok (Some (b, Fault.Tail lines at))) = heading ++ tail_record b lines at

@@ -1,54 +1,43 @@
 // Item 1: the lowest block of a stream that is not tight, its spot and reason, and the text of the report.
 #![tactic(auto)]
 
-ghost use Rattle.std.specs.Prelude.{◌≡◌, true, ◌++◌, ◌+◌, length, drop};
+ghost use Rattle.std.specs.Prelude.{◌≡◌, true, ◌++◌, ◌+◌, length, drop, Ok};
 ghost use Rattle.io.specs.Counts.{IsPrefixLen};
 ghost use Rattle.stream.specs.Streams.{open_of};
-ghost use Rattle.stream.specs.declared.header.Parsed.TheVariants.{Header};
 ghost use Rattle.tight_findings.specs.Findings.{lowest, finding_of};
 ghost use Rattle.tight_findings.specs.Texts.{text_of};
 
-use stream::{FujiHeader, Parsed, Refusal};
-use text::Finding;
+use stream::{FujiHeader, Refusal};
 use tight_diagnosis::{Fault, answer_at, fault_at};
 
 mod text;
 
 // ---- a stream
 
-// The lowest block that has a fault.
-fn find_in(d: &[u8], h: FujiHeader) -> Finding
-    requires { (open_of d.now ≡ Header h) × (h.lossless ≡ true) }
+// The lowest block that has a fault, and the fault.
+fn find_in(d: &[u8], h: FujiHeader) -> Option<(usize, Fault)>
+    requires { (open_of d.now ≡ Ok h) × (h.lossless ≡ true) }
     ensures { result ≡ lowest d.now h h.blocks }
 {
     let blocks = h.blocks as usize;
     for b in 0..blocks {
         let answer = answer_at(d, h, b);
-        let fault = fault_at(d, h, b, answer);
-        match fault {
-            Fault::Code(x) => return Finding::Code(b, x),
-            Fault::Tail(lines, at) => return Finding::Tail(b, lines, at),
-            Fault::None => {}
+        if let Some(fault) = fault_at(d, h, b, answer) {
+            return Some((b, fault));
         }
     }
-    Finding::Nothing
+    None
 }
 
-// What is found in the stream d.
-pub fn find(d: &[u8]) -> Finding
+// What is found in the stream d: it is refused; no block gives 15; or the lowest that does, and why.
+pub fn find(d: &[u8]) -> Result<Option<(usize, Fault)>, Refusal>
     ensures { result ≡ finding_of d.now }
 {
-    let opened = stream::open(d);
-    match opened {
-        Parsed::Refused(x) => Finding::Refused(x),
-        Parsed::Header(h) => {
-            let lossless = h.lossless;
-            if lossless {
-                return find_in(d, h);
-            }
-            Finding::Refused(Refusal::Lossy)
-        }
+    let h = stream::open(d)?;
+    if h.lossless {
+        return Ok(find_in(d, h));
     }
+    Err(Refusal::Lossy)
 }
 
 // ---- the report

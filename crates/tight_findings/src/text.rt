@@ -1,21 +1,13 @@
 // What is found in a stream that is not tight, and its text. It is not written by `write!`: `report` promises each byte of lent memory
 // (`text_of`), and std has no writer over a slice.
-ghost use Rattle.std.specs.Prelude.{◌≡◌, ◌+◌, ◌≤◌, length};
+ghost use Rattle.std.specs.Prelude.{◌≡◌, ◌+◌, ◌≤◌, length, Ok, Err};
 ghost use Rattle.tight_findings.specs.Texts.{heading, number_text, field, reason_text, code_text, tail_record, text_of};
 ghost use Rattle.tight_findings.specs.Inside.{Put};
 
 use bits::BitPosition;
 use code::{BadSpot, Reason};
 use stream::Refusal;
-
-// What is found in a stream: it is refused; no block gives 15; or the lowest that does, and why.
-#[derive(Clone, Copy)]
-pub enum Finding {
-    Refused(Refusal),
-    Nothing,
-    Code(usize, BadSpot),
-    Tail(usize, usize, BitPosition),
-}
+use tight_diagnosis::Fault;
 
 // Puts a text into a buffer from a place on, and says where it ends.
 fn put(out: &mut [u8], at: usize, text: &[u8]) -> usize
@@ -95,28 +87,35 @@ fn put_heading(out: &mut [u8]) -> usize
 
 fn put_refusal(out: &mut [u8], x: Refusal) -> usize
     requires { 21 ≤ length out.old }
-    ensures { Put out.old 0 (text_of (Finding.Refused x)) out.new result × (result ≤ 21) }
+    ensures { Put out.old 0 (text_of (Err x)) out.new result × (result ≤ 21) }
 {
     let w = stream::refusal_words(x);
     let end = put_number(out, 0, w[0] as u64);
     put(out, end, b"\n")
 }
 
-// The text of a finding, at the start of a buffer, and how long it is.
-pub fn put_finding(out: &mut [u8], f: Finding) -> usize
+// The text of the lowest block that gives 15 and why, or of none, at the start of a buffer, and how long it is.
+fn put_found(out: &mut [u8], found: Option<(usize, Fault)>) -> usize
+    requires { 256 ≤ length out.old }
+    ensures { Put out.old 0 (text_of (Ok found)) out.new result × (result ≤ 256) }
+{
+    let end = put_heading(out);
+    let Some((b, fault)) = found else {
+        return end;
+    };
+    match fault {
+        Fault::Code(x) => put_code(out, end, b, x),
+        Fault::Tail(lines, at) => put_tail(out, end, b, lines, at),
+    }
+}
+
+// The text of what is found in a stream, at the start of a buffer, and how long it is.
+pub fn put_finding(out: &mut [u8], f: Result<Option<(usize, Fault)>, Refusal>) -> usize
     requires { 256 ≤ length out.old }
     ensures { Put out.old 0 (text_of f) out.new result × (result ≤ 256) }
 {
     match f {
-        Finding::Refused(x) => put_refusal(out, x),
-        Finding::Nothing => put_heading(out),
-        Finding::Code(b, x) => {
-            let end = put_heading(out);
-            put_code(out, end, b, x)
-        }
-        Finding::Tail(b, lines, at) => {
-            let end = put_heading(out);
-            put_tail(out, end, b, lines, at)
-        }
+        Err(x) => put_refusal(out, x),
+        Ok(found) => put_found(out, found),
     }
 }

@@ -2,7 +2,6 @@
 use borrow.Author.Tests.{leb-true}
 use mathlib.Core.Bool.{Bool, true, false, cond, ◌&&◌}
 use mathlib.Core.List.{List, [], ◌∷◌, ◌++◌}
-use mathlib.Core.Option.{none}
 use mathlib.Core.Path.{◌≡◌, refl, sym, ◌∙◌}
 use Prim.Native.Nat.{ℕ, zero, suc, ◌+◌, ◌*◌, ◌≤◌, ◌<◌}
 use native.Mathlib.Omega.{arith}
@@ -27,6 +26,7 @@ use Rattle.write_block.proofs.AnswerLaws.{block_length}
 use Rattle.read_block.proofs.SampleLaws.{guarded_le, turned_le}
 use Rattle.write_block.proofs.WalkLaws.{pass_at_within, lines_within}
 use Rattle.write_block.proofs.WrittenLaws.{repeats_through}
+use Rattle.std.specs.Prelude.{None}
 
 -- ---- how many codes a line has
 
@@ -94,14 +94,14 @@ module _ (F : Form) (depth : Depth F.bits) (t : List ℕ) (wanted : SetWanted F 
 -- ---- sets that cannot go wrong
 
 module _ (F : Form) (bases t : List ℕ) (s : (F.xtrans && is_strict bases) ≡ false) where
-  line_sure : (n : ℕ) (r : WriteState) → r.wrong ≡ none → (write_line F bases t n r).wrong ≡ none
+  line_sure : (n : ℕ) (r : WriteState) → r.wrong ≡ None → (write_line F bases t n r).wrong ≡ None
   unfolding write_line write_pass_at
   line_sure n r e =
-      repeats_through (write_pass_at F (base_of bases n) (is_strict bases) t n) (λ i (z : WriteState). z.wrong ≡ none) 6
+      repeats_through (write_pass_at F (base_of bases n) (is_strict bases) t n) (λ i (z : WriteState). z.wrong ≡ None) 6
       (λ i below z h. pass_sure F.bits (base_of bases n) (width_of F.xtrans) (is_strict bases) t n F.xtrans i below s (enter_writing F (plan_of F.xtrans i) z) h)
       6 (omega arith) (before_writing F bases n r) e
 
-  pub lines_sure : (n : ℕ) → (write_lines F bases t n).wrong ≡ none
+  pub lines_sure : (n : ℕ) → (write_lines F bases t n).wrong ≡ None
   unfolding write_lines repeats start_writing
   lines_sure zero = refl
   lines_sure (suc n) = line_sure n (write_lines F bases t n) (lines_sure n)
@@ -113,7 +113,7 @@ ample_parts true a e = let no : ◌≡◌ {A = ℕ} 0 1 = cc in absurd (omega ar
 ample_parts false a e = (refl, e)
 
 pub ample_storable : (F : Form) → Depth F.bits → (bases : List ℕ) (count : ℕ) (t : List ℕ) → SetWanted F t → (room : ℕ) (measure r : Bool)
-    → r ≡ is_ample measure F.bits count room → r ≡ true → (write_lines F bases t count).wrong ≡ none → (measure ≡ false) × Storable F bases count t room
+    → r ≡ is_ample measure F.bits count room → r ≡ true → (write_lines F bases t count).wrong ≡ None → (measure ≡ false) × Storable F bases count t room
 ample_storable F depth bases count t wanted room measure r e er right =
     let p = ample_parts measure (leb (count * 2304 * F.bits) room) (sym e ∙ er) in (
       p.0,

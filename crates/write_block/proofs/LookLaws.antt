@@ -1,7 +1,6 @@
 -- Looking at a lossless set: passes that are right make a line, and lines a block. Assumes nothing.
 use mathlib.Core.Bool.{Bool, true, false, ◌&&◌}
 use mathlib.Core.List.{List, [], ◌∷◌}
-use mathlib.Core.Option.{none}
 use mathlib.Core.Path.{◌≡◌, refl, sym, ◌∙◌}
 use Prim.Native.Nat.{ℕ, ◌+◌}
 use native.Mathlib.Numerals.{add-one}
@@ -24,9 +23,10 @@ use Rattle.read_block.specs.declared.Form.{Form}
 use Rattle.write_block.proofs.BoundLaws.{lines_sure}
 use Rattle.read_block.proofs.SampleLaws.{guarded_le, turned_le}
 use Rattle.write_block.proofs.WalkLaws.{passes_within, lines_within}
+use Rattle.std.specs.Prelude.{None}
 
-as_found : (z : WriteState) (lines : List ℕ) → z.lines ≡ lines → z.wrong ≡ none
-    → z ≡ record { lines = lines; records = z.records; bits = z.bits; wrong = none }
+as_found : (z : WriteState) (lines : List ℕ) → z.lines ≡ lines → z.wrong ≡ None
+    → z ≡ record { lines = lines; records = z.records; bits = z.bits; wrong = None }
 as_found z lines e f = rw (← e, ← f)
 
 -- ---- passes
@@ -45,7 +45,7 @@ module _ (F : Form) (t : List ℕ) (n : ℕ) where
       → Right F.bits W t n (pass_steps W P) l₂ lines' → RightPasses F t n (i + 1) lines₀ lines'
   unfolding repeats write_pass_at write_pass
   one_more i lines₀ lines l₁ l₂ lines' W P g eW eP e₁ e₂ h rs b =
-      let z : WriteState = repeats (write_pass_at F 0 true t n) i (record { lines = lines₀; records = rs; bits = b; wrong = none }) in
+      let z : WriteState = repeats (write_pass_at F 0 true t n) i (record { lines = lines₀; records = rs; bits = b; wrong = None }) in
       let e = as_found z lines (g rs b).0 (g rs b).1 in
       rw (add-one, e, ← eP, ← eW, ← e₁, ← e₂) (h (set_of P.set z.records) z.bits)
 
@@ -62,7 +62,7 @@ module _ (F : Form) (t : List ℕ) (n : ℕ) where
 -- ---- lines
 
 abbrev pub RightLines : Form → (t : List ℕ) (n : ℕ) (lines : List ℕ) → Type 0
-RightLines F t n lines = ((write_lines F [] t n).lines ≡ lines) × ((write_lines F [] t n).wrong ≡ none)
+RightLines F t n lines = ((write_lines F [] t n).lines ≡ lines) × ((write_lines F [] t n).wrong ≡ None)
 
 module _ (F : Form) (t : List ℕ) where
   pub no_lines : (lines : List ℕ) → lines ≡ zero_lines (width_of F.xtrans) → RightLines F t 0 lines
@@ -81,7 +81,7 @@ module _ (F : Form) (t : List ℕ) where
   pub turned_within : (n : ℕ) (lines l₁ : List ℕ) (W : ℕ) → RightLines F t n lines → l₁ ≡ turned W lines → Within (largest F.bits) l₁
   turned_within n lines l₁ W g e = let h : Within (largest F.bits) lines = rw g.0 at (lines_within F [] t n) in rw e (turned_le (largest F.bits) W lines h)
 
-  pub all_lines : (n count : ℕ) (lines : List ℕ) → n ≡ count → RightLines F t n lines → (write_lines F [] t count).wrong ≡ none
+  pub all_lines : (n count : ℕ) (lines : List ℕ) → n ≡ count → RightLines F t n lines → (write_lines F [] t count).wrong ≡ None
   all_lines n count lines e g = rw e at g.1
 
 -- ---- which sets are looked at
@@ -91,9 +91,9 @@ none_are [] e = refl
 none_are (q ∷ bases) e = let n : length (q ∷ bases) ≡ 0 = eqb-true (length (q ∷ bases)) 0 e in absurd (omega (arith, n))
 
 pub looked_right : (F : Form) (bases t : List ℕ) (count : ℕ) (strict : Bool) → strict ≡ is_strict bases → (F.xtrans && strict) ≡ true
-    → (write_lines F [] t count).wrong ≡ none → (write_lines F bases t count).wrong ≡ none
+    → (write_lines F [] t count).wrong ≡ None → (write_lines F bases t count).wrong ≡ None
 looked_right F bases t count strict es e h = let no = none_are bases (sym es ∙ (both F.xtrans strict e).1) in rw no h
 
 pub not_looked : (F : Form) (bases t : List ℕ) (count : ℕ) (strict : Bool) → strict ≡ is_strict bases → (F.xtrans && strict) ≡ false
-    → (write_lines F bases t count).wrong ≡ none
+    → (write_lines F bases t count).wrong ≡ None
 not_looked F bases t count strict es e = lines_sure F bases t (rw es at e) count

@@ -1,7 +1,6 @@
 -- The writer's walk: parts of a writing one after the other, passes that make a line, and lines that make a block. Assumes nothing.
 use mathlib.Core.Bool.{Bool, true, false, cond, false≢true}
 use mathlib.Core.List.{List, [], ◌++◌}
-use mathlib.Core.Option.{Option, none, some}
 use mathlib.Core.Path.{◌≡◌, refl, sym, ap, ◌∙◌}
 use Prim.Native.Nat.{ℕ, zero, suc, ◌+◌, ◌-◌, ◌*◌, ◌^◌, ◌≤◌, ◌<◌}
 use native.Mathlib.Nat.{add-zero, add-suc, mul-le-mul_right}
@@ -21,9 +20,7 @@ use Rattle.pass_steps.specs.declared.Set.{Set}
 use Rattle.colour_lines.specs.Sets.{line_size, set_size}
 use Rattle.write_pass.specs.Puts.{put_if, Room, Within, Wanted, IsPassPut}
 use Rattle.write_pass.specs.Writings.{Writing, write_pass}
-use Rattle.write_pass.specs.declared.PassPut.{PassPut}
-use Rattle.bit_output.specs.declared.Put.{Put}
-use Rattle.bit_output.specs.declared.Put.TheVariants.{At, Wrong}
+use Rattle.write_pass.specs.declared.Written.{Written}
 use Rattle.write_pass.proofs.PassLaws.{pass_within, pass_wrong, pass_short}
 use Rattle.bit_output.proofs.PutLaws.{put_none, put_more}
 use Rattle.read_block.specs.Records.{start_records, restarted_main, base_of, is_restarted, set_of, put_set}
@@ -34,6 +31,7 @@ use Rattle.write_block.specs.WriterParts.{passes_from, IsLinePut, LineWritten, S
 use Rattle.read_block.specs.declared.Form.{Form}
 use Rattle.read_block.proofs.SampleLaws.{zeros_le, guarded_le, turned_le}
 use Rattle.write_block.proofs.WrittenLaws.{after_bits, pass_at_adds, line_adds}
+use Rattle.std.specs.Prelude.{Err, Ok, Result, None, Option, Some}
 
 -- ---- a part that went well, and one that did not
 
@@ -41,47 +39,47 @@ use Rattle.write_block.proofs.WrittenLaws.{after_bits, pass_at_adds, line_adds}
 pub record Sofar (z : WriteState) (from : ℕ) (store : Bool) (out lines' : List ℕ) (rs' : List Record) (out' : List ℕ) (at : BitPosition) : Type 0 where
   pub lines : z.lines ≡ lines'
   pub records : z.records ≡ rs'
-  pub right : z.wrong ≡ none
+  pub right : z.wrong ≡ None
   pub position : at.0 ≡ from + length z.bits
   pub output : out' ≡ put_if store out from z.bits
 
-clash : {X : Type 0} (at : BitPosition) (j : ℕ) → At at ≡ Wrong j → X
+clash : {X : Type 0} (at : BitPosition) (j : ℕ) → Ok at ≡ Err j → X
 clash at j e = let no : ◌≡◌ {A = ℕ} 0 1 = cc in absurd (omega arith)
 
-went : (o : Option ℕ) (z : WriteState) (from : ℕ) (store : Bool) (out lines' : List ℕ) (rs' : List Record) (out' : List ℕ) (r : Put) (at : BitPosition)
-    → z.wrong ≡ o → IsLinePut o z from store out lines' rs' out' r → r ≡ At at → Sofar z from store out lines' rs' out' at
-went none z from store out lines' rs' out' r at e p k =
-    let f : At at ≡ At (record { 0 = from + length z.bits }) = sym k ∙ p.0 in
+went : (o : Option ℕ) (z : WriteState) (from : ℕ) (store : Bool) (out lines' : List ℕ) (rs' : List Record) (out' : List ℕ) (r : Result BitPosition ℕ) (at : BitPosition)
+    → z.wrong ≡ o → IsLinePut o z from store out lines' rs' out' r → r ≡ Ok at → Sofar z from store out lines' rs' out' at
+went None z from store out lines' rs' out' r at e p k =
+    let f : Ok at ≡ Ok (record { 0 = from + length z.bits }) = sym k ∙ p.0 in
     let q : at ≡ record { 0 = from + length z.bits } = cc in
     record { lines = sym p.1; records = sym p.2; right = e; position = ap (λ (a : BitPosition). a.0) q; output = p.3 }
-went (some j) z from store out lines' rs' out' r at e p k = clash at j (sym k ∙ p.0)
+went (Some j) z from store out lines' rs' out' r at e p k = clash at j (sym k ∙ p.0)
 
-was_wrong : (o : Option ℕ) (z : WriteState) (from : ℕ) (store : Bool) (out lines' : List ℕ) (rs' : List Record) (out' : List ℕ) (r : Put) (i : ℕ)
-    → IsLinePut o z from store out lines' rs' out' r → r ≡ Wrong i → (o ≡ some i) × (store ≡ false → out' ≡ out)
-was_wrong none z from store out lines' rs' out' r i p k = clash _ i (sym p.0 ∙ k)
-was_wrong (some j) z from store out lines' rs' out' r i p k =
-    let f : Wrong j ≡ Wrong i = sym p.0 ∙ k in
+was_wrong : (o : Option ℕ) (z : WriteState) (from : ℕ) (store : Bool) (out lines' : List ℕ) (rs' : List Record) (out' : List ℕ) (r : Result BitPosition ℕ) (i : ℕ)
+    → IsLinePut o z from store out lines' rs' out' r → r ≡ Err i → (o ≡ Some i) × (store ≡ false → out' ≡ out)
+was_wrong None z from store out lines' rs' out' r i p k = clash _ i (sym p.0 ∙ k)
+was_wrong (Some j) z from store out lines' rs' out' r i p k =
+    let f : Err j ≡ Err i = sym p.0 ∙ k in
     let q : j ≡ i = cc in
-    (ap some q, p.1)
+    (ap Some q, p.1)
 
 -- the answers that say so
 pub line_right_is : (z : WriteState) (from : ℕ) (store : Bool) (out lines' : List ℕ) (rs' : List Record) (out' : List ℕ) (at : BitPosition)
-    → Sofar z from store out lines' rs' out' at → LineWritten z from store out lines' rs' out' (At at)
+    → Sofar z from store out lines' rs' out' at → LineWritten z from store out lines' rs' out' (Ok at)
 line_right_is z from store out lines' rs' out' at s =
-    record { are = rw s.right (ap (λ (n : ℕ). At (record { 0 = n })) s.position, sym s.lines, sym s.records, s.output) }
+    record { are = rw s.right (ap (λ (n : ℕ). Ok (record { 0 = n })) s.position, sym s.lines, sym s.records, s.output) }
 
 pub line_wrong_is : (z : WriteState) (from : ℕ) (store : Bool) (out lines' : List ℕ) (rs' : List Record) (out' : List ℕ) (j : ℕ)
-    → (z.wrong ≡ some j) × (store ≡ false → out' ≡ out) → LineWritten z from store out lines' rs' out' (Wrong j)
+    → (z.wrong ≡ Some j) × (store ≡ false → out' ≡ out) → LineWritten z from store out lines' rs' out' (Err j)
 line_wrong_is z from store out lines' rs' out' j w = record { are = rw w.0 (refl, w.1) }
 
 pub set_right_is : (z : WriteState) (store : Bool) (out lines' : List ℕ) (rs' : List Record) (out' : List ℕ) (at : BitPosition)
-    → Sofar z 0 store out lines' rs' out' at → SetWritten z store out out' (At at)
+    → Sofar z 0 store out lines' rs' out' at → SetWritten z store out out' (Ok at)
 set_right_is z store out lines' rs' out' at s =
     let e : at.0 ≡ length z.bits = omega (arith, s.position) in
-    record { are = rw s.right (ap (λ (n : ℕ). At (record { 0 = n })) e, s.output) }
+    record { are = rw s.right (ap (λ (n : ℕ). Ok (record { 0 = n })) e, s.output) }
 
 pub set_wrong_is : (z : WriteState) (store : Bool) (out out' : List ℕ) (j : ℕ)
-    → (z.wrong ≡ some j) × (store ≡ false → out' ≡ out) → SetWritten z store out out' (Wrong j)
+    → (z.wrong ≡ Some j) × (store ≡ false → out' ≡ out) → SetWritten z store out out' (Err j)
 set_wrong_is z store out out' j w = record { are = rw w.0 (refl, w.1) }
 
 -- ---- two parts
@@ -107,7 +105,7 @@ kept_out false from out out₁ out' b eo h e = h e ∙ eo
 
 -- each part adds bits, and leaves a wrong sample the first
 pub record Adds (f : ℕ → WriteState → WriteState) : Type 0 where
-  pub stays : (i : ℕ) (r : WriteState) (j : ℕ) → r.wrong ≡ some j → (f i r).wrong ≡ some j
+  pub stays : (i : ℕ) (r : WriteState) (j : ℕ) → r.wrong ≡ Some j → (f i r).wrong ≡ Some j
   pub grows : (i : ℕ) (r : WriteState) → length r.bits ≤ length (f i r).bits
 
 repeats_more : (f : ℕ → WriteState → WriteState) (r : WriteState) (i : ℕ) → repeats f (i + 1) r ≡ f i (repeats f i r)
@@ -151,27 +149,27 @@ module _ (f : ℕ → WriteState → WriteState) (adds : Adds f) (r₀ : WriteSt
       let h = rw length-append at (part_room e) in
       omega (arith, h, same, so_far.position)
 
-  module _ (lines' : List ℕ) (rs' : List Record) (out' : List ℕ) (r : Put) (answer : IsLinePut y.wrong y at.0 store out₁ lines' rs' out' r) where
-    pub turn_more : (at' : BitPosition) → r ≡ At at' → Sofar (repeats f (i + 1) r₀) from store out lines' rs' out' at'
+  module _ (lines' : List ℕ) (rs' : List Record) (out' : List ℕ) (r : Result BitPosition ℕ) (answer : IsLinePut y.wrong y at.0 store out₁ lines' rs' out' r) where
+    pub turn_more : (at' : BitPosition) → r ≡ Ok at' → Sofar (repeats f (i + 1) r₀) from store out lines' rs' out' at'
     turn_more at' ok =
         let s = went y.wrong y at.0 store out₁ lines' rs' out' r at' refl answer ok in
         let p : at'.0 ≡ from + length ((repeats f i r₀).bits ++ y.bits) = rw length-append (omega (arith, s.position, so_far.position)) in
         let o = put_join store from at.0 out out₁ out' (repeats f i r₀).bits y.bits so_far.position so_far.output part_room s.output in
         rw more_is (record { lines = s.lines; records = s.records; right = s.right; position = p; output = o })
 
-    pub turn_wrong : (j : ℕ) → r ≡ Wrong j → ((repeats f m r₀).wrong ≡ some j) × (store ≡ false → out' ≡ out)
+    pub turn_wrong : (j : ℕ) → r ≡ Err j → ((repeats f m r₀).wrong ≡ Some j) × (store ≡ false → out' ≡ out)
     turn_wrong j ok =
         let w = was_wrong y.wrong y at.0 store out₁ lines' rs' out' r j answer ok in
         let e : i + 1 + (m - (i + 1)) ≡ m = omega arith in
-        let now : (repeats f (i + 1) r₀).wrong ≡ some j = rw more_is w.0 in
-        let g : (repeats f (i + 1 + (m - (i + 1))) r₀).wrong ≡ some j =
-        repeats_keep f r₀ (λ (z : WriteState). z.wrong ≡ some j) (λ k z h. adds.stays k z j h) (i + 1) (m - (i + 1)) now in
+        let now : (repeats f (i + 1) r₀).wrong ≡ Some j = rw more_is w.0 in
+        let g : (repeats f (i + 1 + (m - (i + 1))) r₀).wrong ≡ Some j =
+        repeats_keep f r₀ (λ (z : WriteState). z.wrong ≡ Some j) (λ k z h. adds.stays k z j h) (i + 1) (m - (i + 1)) now in
         (rw e at g, kept_out store from out out₁ out' (repeats f i r₀).bits so_far.output w.1)
 
 -- ---- passes
 
 module _ (F : Form) (q : ℕ) (strict : Bool) (t : List ℕ) (n : ℕ) where
-  pass_at_wrong : (i : ℕ) (r : WriteState) (j : ℕ) → r.wrong ≡ some j → (write_pass_at F q strict t n i r).wrong ≡ some j
+  pass_at_wrong : (i : ℕ) (r : WriteState) (j : ℕ) → r.wrong ≡ Some j → (write_pass_at F q strict t n i r).wrong ≡ Some j
   unfolding write_pass_at
   pass_at_wrong i r j e = pass_wrong F.bits q (width_of F.xtrans) strict t n (plan_of F.xtrans i) (enter_writing F (plan_of F.xtrans i) r) j e
 
@@ -211,12 +209,12 @@ module _ (F : Form) (q : ℕ) (strict : Bool) (t : List ℕ) (n : ℕ) (lines₀
   unfolding passes_from
   passes_short i h =
       let e : length (passes_from F q strict t n i lines₀ rs₀).bits ≤ 0 + i * 2 ^ 17 =
-      repeats_short (write_pass_at F q strict t n) (record { lines = lines₀; records = rs₀; bits = []; wrong = none }) (2 ^ 17) (pass_at_short F q strict t n h) i in
+      repeats_short (write_pass_at F q strict t n) (record { lines = lines₀; records = rs₀; bits = []; wrong = None }) (2 ^ 17) (pass_at_short F q strict t n h) i in
       omega (arith, e)
 
   pub passes_done : (i from : ℕ) (store : Bool) (out lines' : List ℕ) (rs' : List Record) (out' : List ℕ) (at : BitPosition) → i ≡ 6
       → Sofar (passes_from F q strict t n i lines₀ rs₀) from store out lines' rs' out' at
-      → LineWritten (passes_from F q strict t n 6 lines₀ rs₀) from store out lines' rs' out' (At at)
+      → LineWritten (passes_from F q strict t n 6 lines₀ rs₀) from store out lines' rs' out' (Ok at)
   passes_done i from store out lines' rs' out' at e s =
       line_right_is (passes_from F q strict t n 6 lines₀ rs₀) from store out lines' rs' out' at (rw e at s)
 
@@ -228,7 +226,7 @@ module _ (F : Form) (q : ℕ) (strict : Bool) (t : List ℕ) (n : ℕ) (lines₀
       (eW : W ≡ width_of F.xtrans) (eP : P ≡ plan_of F.xtrans i) (e₁ : l₁ ≡ guarded W P.first lines) (e₂ : l₂ ≡ guarded W P.second l₁)
       (eS : records_of S ≡ set_of P.set rs) where
     abbrev own : Writing
-    own = write_pass F.bits q W strict t n P (record { lines = l₂; set = records_of S; bits = []; wrong = none })
+    own = write_pass F.bits q W strict t n P (record { lines = l₂; set = records_of S; bits = []; wrong = None })
 
     abbrev part : WriteState
     part = record { lines = own.lines; records = put_set P.set own.set rs; bits = own.bits; wrong = own.wrong }
@@ -242,7 +240,7 @@ module _ (F : Form) (q : ℕ) (strict : Bool) (t : List ℕ) (n : ℕ) (lines₀
     pub pass_room : Room store out₁ at.0 own.bits
     unfolding passes_from
     pass_room =
-        turn_room (write_pass_at F q strict t n) (passes_add F q strict t n) (record { lines = lines₀; records = rs₀; bits = []; wrong = none }) i 6 lt part from store out lines rs out₁ at so_far same pass_next room
+        turn_room (write_pass_at F q strict t n) (passes_add F q strict t n) (record { lines = lines₀; records = rs₀; bits = []; wrong = None }) i 6 lt part from store out lines rs out₁ at so_far same pass_next room
 
     pub pass_samples : Within (largest F.bits) lines₀ → Within (largest F.bits) l₂
     pass_samples h =
@@ -253,42 +251,38 @@ module _ (F : Form) (q : ℕ) (strict : Bool) (t : List ℕ) (n : ℕ) (lines₀
     pub pass_position : F.bits ≤ 16 → from < 2 ^ 58 → at.0 < 2 ^ 59
     pass_position h small = omega (arith, so_far.position, passes_short i h)
 
-    module _ (lines' out' : List ℕ) (d : PassPut) (answer : IsPassPut own.wrong own at.0 store out₁ lines' out' d) where
-      -- its answer, as that of a line
-      told : Put
-      told = cond d.ok (At d.at) (Wrong d.wrong)
-
-      pass_answer : IsLinePut own.wrong part at.0 store out₁ lines' (put_set P.set (records_of d.set) rs) out' told
-      unfolding told
-      pass_answer = go own.wrong answer
+    module _ (lines' out' : List ℕ) (d : Result Written ℕ) (answer : IsPassPut own.wrong own at.0 store out₁ lines' out' d) where
+      right_answer : (p : Written) → d ≡ Ok p → IsLinePut own.wrong part at.0 store out₁ lines' (put_set P.set (records_of p.set) rs) out' (Ok p.at)
+      right_answer p e = go own.wrong (rw e at answer)
         where
-          go : (o : Option ℕ) → IsPassPut o own at.0 store out₁ lines' out' d
-              → IsLinePut o part at.0 store out₁ lines' (put_set P.set (records_of d.set) rs) out' (cond d.ok (At d.at) (Wrong d.wrong))
-          go none p = (rw (p.ok, p.at), p.lines, rw p.records refl, p.output)
-          go (some j) p = (rw (p.ok, p.index), p.output)
+          go : (o : Option ℕ) → IsPassPut o own at.0 store out₁ lines' out' (Ok p)
+              → IsLinePut o part at.0 store out₁ lines' (put_set P.set (records_of p.set) rs) out' (Ok p.at)
+          go None g = (ap (λ (x : BitPosition). Ok x) g.at, g.lines, rw g.records refl, g.output)
+          go (Some j) g = let no : ◌≡◌ {A = ℕ} 0 1 = cc in absurd (omega arith)
 
-      told_right : d.ok ≡ true → told ≡ At d.at
-      unfolding told
-      told_right ok = rw ok
+      wrong_answer : (j : ℕ) (rs' : List Record) → d ≡ Err j → IsLinePut own.wrong part at.0 store out₁ lines' rs' out' (Err j)
+      wrong_answer j rs' e = go own.wrong (rw e at answer)
+        where
+          go : (o : Option ℕ) → IsPassPut o own at.0 store out₁ lines' out' (Err j) → IsLinePut o part at.0 store out₁ lines' rs' out' (Err j)
+          go None g = absurd g
+          go (Some i) g =
+              let same : j ≡ i = cc in
+              (rw same, g.output)
 
-      told_wrong : d.ok ≡ false → told ≡ Wrong d.wrong
-      unfolding told
-      told_wrong ok = rw ok
-
-      pub pass_more : d.ok ≡ true
-          → Sofar (passes_from F q strict t n (i + 1) lines₀ rs₀) from store out lines' (put_set P.set (records_of d.set) rs) out' d.at
+      pub pass_more : (p : Written) → d ≡ Ok p
+          → Sofar (passes_from F q strict t n (i + 1) lines₀ rs₀) from store out lines' (put_set P.set (records_of p.set) rs) out' p.at
       unfolding passes_from
-      pass_more ok =
-          turn_more (write_pass_at F q strict t n) (passes_add F q strict t n) (record { lines = lines₀; records = rs₀; bits = []; wrong = none }) i 6 lt part from store out lines rs out₁ at so_far same pass_next room
-          lines' _ out' told pass_answer d.at (told_right ok)
+      pass_more p e =
+          turn_more (write_pass_at F q strict t n) (passes_add F q strict t n) (record { lines = lines₀; records = rs₀; bits = []; wrong = None }) i 6 lt part from store out lines rs out₁ at so_far same pass_next room
+          lines' _ out' (Ok p.at) (right_answer p e) p.at refl
 
-      pub pass_failed : (rs' : List Record) → d.ok ≡ false
-          → LineWritten (passes_from F q strict t n 6 lines₀ rs₀) from store out lines' rs' out' (Wrong d.wrong)
+      pub pass_failed : (j : ℕ) (rs' : List Record) → d ≡ Err j
+          → LineWritten (passes_from F q strict t n 6 lines₀ rs₀) from store out lines' rs' out' (Err j)
       unfolding passes_from
-      pass_failed rs' ok =
-          line_wrong_is (passes_from F q strict t n 6 lines₀ rs₀) from store out lines' rs' out' d.wrong
-          (turn_wrong (write_pass_at F q strict t n) (passes_add F q strict t n) (record { lines = lines₀; records = rs₀; bits = []; wrong = none }) i 6 lt part from store out lines rs out₁ at so_far same pass_next room
-          lines' _ out' told pass_answer d.wrong (told_wrong ok))
+      pass_failed j rs' e =
+          line_wrong_is (passes_from F q strict t n 6 lines₀ rs₀) from store out lines' rs' out' j
+          (turn_wrong (write_pass_at F q strict t n) (passes_add F q strict t n) (record { lines = lines₀; records = rs₀; bits = []; wrong = None }) i 6 lt part from store out lines rs out₁ at so_far same pass_next room
+          lines' rs' out' (Err j) (wrong_answer j rs' e) j refl)
 
 -- ---- lines
 
@@ -298,9 +292,9 @@ module _ (F : Form) (bases t : List ℕ) where
   unfolding repeats
   passes_keep n Q each r q = repeats_keep (write_pass_at F (base_of bases n) (is_strict bases) t n) r Q each 0 6 q
 
-  line_wrong : (n : ℕ) (r : WriteState) (j : ℕ) → r.wrong ≡ some j → (write_line F bases t n r).wrong ≡ some j
+  line_wrong : (n : ℕ) (r : WriteState) (j : ℕ) → r.wrong ≡ Some j → (write_line F bases t n r).wrong ≡ Some j
   unfolding write_line
-  line_wrong n r j e = passes_keep n (λ (z : WriteState). z.wrong ≡ some j) (λ i z h. (passes_add F (base_of bases n) (is_strict bases) t n).stays i z j h) (before_writing F bases n r) e
+  line_wrong n r j e = passes_keep n (λ (z : WriteState). z.wrong ≡ Some j) (λ i z h. (passes_add F (base_of bases n) (is_strict bases) t n).stays i z j h) (before_writing F bases n r) e
 
   pub lines_add : Adds (write_line F bases t)
   lines_add = record { stays = line_wrong; grows = λ n r. rw (line_adds F bases t n r, length-append) (omega arith) }
@@ -334,7 +328,7 @@ module _ (F : Form) (bases t : List ℕ) where
       omega (arith, e)
 
   pub lines_done : (n count : ℕ) (store : Bool) (out lines' : List ℕ) (rs' : List Record) (out' : List ℕ) (at : BitPosition) → n ≡ count
-      → Sofar (write_lines F bases t n) 0 store out lines' rs' out' at → SetWritten (write_lines F bases t count) store out out' (At at)
+      → Sofar (write_lines F bases t n) 0 store out lines' rs' out' at → SetWritten (write_lines F bases t count) store out out' (Ok at)
   lines_done n count store out lines' rs' out' at e s = set_right_is (write_lines F bases t count) store out lines' rs' out' at (rw e at s)
 
   -- line n, by what was done before it
@@ -361,18 +355,18 @@ module _ (F : Form) (bases t : List ℕ) where
     pub line_position : F.bits ≤ 16 → m < 2 ^ 16 → at.0 < 2 ^ 58
     line_position h small = omega (arith, so_far.position, lines_short n h)
 
-    module _ (lines' : List ℕ) (rs' : List Record) (out' : List ℕ) (d : Put)
+    module _ (lines' : List ℕ) (rs' : List Record) (out' : List ℕ) (d : Result BitPosition ℕ)
         (answer : LineWritten (passes_from F q strict t n 6 l₁ rs₁) at.0 store out₁ lines' rs' out' d) where
-      pub line_more : (at' : BitPosition) → d ≡ At at' → Sofar (write_lines F bases t (n + 1)) 0 store out lines' rs' out' at'
+      pub line_more : (at' : BitPosition) → d ≡ Ok at' → Sofar (write_lines F bases t (n + 1)) 0 store out lines' rs' out' at'
       unfolding write_lines
       line_more =
           turn_more (write_line F bases t) lines_add (start_writing F bases) n m lt (passes_from F q strict t n 6 l₁ rs₁) 0 store out lines rs out₁ at so_far same line_next room lines' rs' out' d answer.are
 
-      pub line_failed : (j : ℕ) → d ≡ Wrong j → SetWritten (write_lines F bases t m) store out out' d
+      pub line_failed : (j : ℕ) → d ≡ Err j → SetWritten (write_lines F bases t m) store out out' (Err j)
       unfolding write_lines
       line_failed j ok =
-          rw ok (set_wrong_is (write_lines F bases t m) store out out' j
-          (turn_wrong (write_line F bases t) lines_add (start_writing F bases) n m lt (passes_from F q strict t n 6 l₁ rs₁) 0 store out lines rs out₁ at so_far same line_next room lines' rs' out' d answer.are j ok))
+          set_wrong_is (write_lines F bases t m) store out out' j
+          (turn_wrong (write_line F bases t) lines_add (start_writing F bases) n m lt (passes_from F q strict t n 6 l₁ rs₁) 0 store out lines rs out₁ at so_far same line_next room lines' rs' out' d answer.are j ok)
 
 -- a line of a set lies inside it
 pub line_size_lem : (W n count : ℕ) (t : List ℕ) → n < count → length t ≡ set_size W count → (n + 1) * line_size W ≤ length t

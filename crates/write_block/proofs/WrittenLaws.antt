@@ -1,7 +1,6 @@
 -- Writing a block: bits are only added to, and the first wrong sample stays. Assumes nothing.
 use mathlib.Core.Bool.{Bool}
 use mathlib.Core.List.{List, [], ◌++◌, append-nil}
-use mathlib.Core.Option.{none}
 use mathlib.Core.Path.{◌≡◌, refl, ap}
 use Prim.Native.Nat.{ℕ, zero, suc, ◌≤◌, ◌<◌}
 use native.Mathlib.Omega.{arith}
@@ -13,6 +12,7 @@ use Rattle.write_pass.proofs.WriteLaws.{pass_after, writes_right}
 use Rattle.read_block.specs.Records.{base_of}
 use Rattle.write_block.specs.WrittenBlocks.{WriteState, repeats, enter_writing, leave_writing, write_pass_at, before_writing, is_strict, write_line, write_lines}
 use Rattle.read_block.specs.declared.Form.{Form}
+use Rattle.std.specs.Prelude.{None}
 
 -- bits that stand before those of a state, and a state with no bits yet
 abbrev pub after_bits : List Bool → WriteState → WriteState
@@ -66,7 +66,7 @@ module _ (F : Form) (q : ℕ) (strict : Bool) (t : List ℕ) where
   pass_at_adds n i = adds (write_pass_at F q strict t n i) (λ l. pass_at_after n l i)
 
   -- where no sample is wrong in the end, none was before
-  pub pass_at_right : (n i : ℕ) (r : WriteState) → (write_pass_at F q strict t n i r).wrong ≡ none → r.wrong ≡ none
+  pub pass_at_right : (n i : ℕ) (r : WriteState) → (write_pass_at F q strict t n i r).wrong ≡ None → r.wrong ≡ None
   unfolding write_pass_at write_pass
   pass_at_right n i r e =
       let P : Plan = plan_of F.xtrans i in
@@ -82,10 +82,10 @@ module _ (F : Form) (bases t : List ℕ) where
   pub line_adds : (n : ℕ) (r : WriteState) → write_line F bases t n r ≡ after_bits r.bits (write_line F bases t n (afresh_state r))
   line_adds n = adds (write_line F bases t n) (λ l. line_after l n)
 
-  pub line_right : (n : ℕ) (r : WriteState) → (write_line F bases t n r).wrong ≡ none → r.wrong ≡ none
+  pub line_right : (n : ℕ) (r : WriteState) → (write_line F bases t n r).wrong ≡ None → r.wrong ≡ None
   unfolding write_line
   line_right n r e =
-      repeats_back (write_pass_at F (base_of bases n) (is_strict bases) t n) (λ (z : WriteState). z.wrong ≡ none) (pass_at_right F (base_of bases n) (is_strict bases) t n) 6
+      repeats_back (write_pass_at F (base_of bases n) (is_strict bases) t n) (λ (z : WriteState). z.wrong ≡ None) (pass_at_right F (base_of bases n) (is_strict bases) t n) 6
       (before_writing F bases n r) e
 
   -- one line more

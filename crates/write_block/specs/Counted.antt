@@ -1,11 +1,8 @@
 -- Inside. What follows once a walk has counted the bits of a set: an answer, or the walk that stores them.
-use Rattle.std.specs.Prelude.{Bool, false, cond, ℕ, ◌*◌, leb, ltb}
+use Rattle.std.specs.Prelude.{Bool, false, cond, ℕ, ◌*◌, leb, ltb, Err, Ok, Result}
 use Rattle.bits.specs.BitLists.{block_bytes}
 use Rattle.bits.specs.declared.BitPosition.{BitPosition}
-use Rattle.stream.specs.declared.BlockLength.TheVariants.{Length, Refused}
 use Rattle.stream.specs.declared.header.Refusal.TheVariants.{NotPredicted, ShortOutput}
-use Rattle.bit_output.specs.declared.Put.{Put}
-use Rattle.bit_output.specs.declared.Put.TheVariants.{At, Wrong}
 use Rattle.write_block.specs.declared.counted.Next.{Next}
 use Rattle.write_block.specs.declared.counted.Next.TheVariants.{Answer, Store}
 
@@ -17,10 +14,10 @@ is_ample measure bits lines room = cond measure false (leb (lines * 2304 * bits)
 abbrev pub length_next : BitPosition → Bool → ℕ → Next
 length_next end measure room =
     cond measure
-    (Answer (Length (block_bytes end.0)))
-    (cond (ltb room (block_bytes end.0)) (Answer (Refused ShortOutput)) (Store end))
+    (Answer (Ok (block_bytes end.0)))
+    (cond (ltb room (block_bytes end.0)) (Answer (Err ShortOutput)) (Store end))
 
 -- refusal 12 before that
-abbrev pub next_of : Put → Bool → ℕ → Next
-next_of (Wrong j) measure room = Answer (Refused (NotPredicted j))
-next_of (At end) measure room = length_next end measure room
+abbrev pub next_of : Result BitPosition ℕ → Bool → ℕ → Next
+next_of (Err j) measure room = Answer (Err (NotPredicted j))
+next_of (Ok end) measure room = length_next end measure room

@@ -1,6 +1,5 @@
 -- Inside. What only our own functions say.
-use Rattle.std.specs.Prelude.{List, [], ◌≡◌, ℕ, ◌≤◌, ◌<◌, length, get_or}
-use Rattle.std.proofs.Math.Option.{none}
+use Rattle.std.specs.Prelude.{List, [], ◌≡◌, ℕ, ◌≤◌, ◌<◌, length, get_or, None}
 use Rattle.quantiser.specs.Quantisers.{largest}
 use Rattle.pass_schedule.specs.Steps.{plan_of, pass_steps}
 use Rattle.image_map.specs.Places.{width_of}
@@ -17,4 +16,4 @@ SetWanted F t = (n i : ℕ) → i < 6 → Wanted (largest F.bits) (width_of F.xt
 pub record FitSet (F : Form) (lines : ℕ) (t : List ℕ) : Type 0 where
   pub size : length t ≡ set_size (width_of F.xtrans) lines
   pub range : (j : ℕ) → get_or t j 0 ≤ largest F.bits
-  pub predicted : (write_lines F [] t lines).wrong ≡ none
+  pub predicted : (write_lines F [] t lines).wrong ≡ None

@@ -1,6 +1,5 @@
 -- Rules. The block of a set of colour lines: line after line, by the rules of reading, each with its base; the tight block has no bases.
-use Rattle.std.specs.Prelude.{Bool, List, [], ℕ, zero, suc, eqb, length}
-use Rattle.std.proofs.Math.Option.{Option, none}
+use Rattle.std.specs.Prelude.{Bool, List, [], ℕ, zero, suc, eqb, length, None, Option}
 use Rattle.bits.specs.BitLists.{bytes_of}
 use Rattle.statistics.specs.declared.Record.{Record}
 use Rattle.pass_schedule.specs.Steps.{plan_of}
@@ -63,7 +62,7 @@ write_line F bases t n r = repeats (write_pass_at F (base_of bases n) (is_strict
 
 -- a block starts with lines of 0, start records, and no bits
 unfoldable pub start_writing : Form → List ℕ → WriteState
-start_writing F bases = record { lines = lines_at_start F; records = records_at_start F bases; bits = []; wrong = none }
+start_writing F bases = record { lines = lines_at_start F; records = records_at_start F bases; bits = []; wrong = None }
 
 -- the state after n lines
 unfoldable pub write_lines : Form → List ℕ → List ℕ → ℕ → WriteState

@@ -3,9 +3,8 @@ ghost use Rattle.std.specs.Prelude.{◌≡◌, ◌^◌, ◌≤◌, ◌<◌};
 ghost use Rattle.bits.specs.BitLists.{block_bytes};
 ghost use Rattle.write_block.specs.Counted.{is_ample, length_next, next_of};
 
-use bit_output::Put;
 use bits::BitPosition;
-use stream::{BlockLength, Refusal};
+use stream::Refusal;
 
 // Whether a set is to be written, and no block of so many lines is longer than the output, whatever its samples are.
 pub fn is_ample(measure: bool, bits: u32, lines: usize, room: usize) -> bool
@@ -18,10 +17,10 @@ pub fn is_ample(measure: bool, bits: u32, lines: usize, room: usize) -> bool
     !limits::is_short(room, limits::most_bytes(lines, bits as usize))
 }
 
-// What follows then: an answer, or the walk that stores the bits, which end here.
+// What follows then: an answer, or the walk that stores the bits, which end here. Not a `Result`: neither is an error.
 #[derive(Clone, Copy)]
 pub enum Next {
-    Answer(BlockLength),
+    Answer(Result<usize, Refusal>),
     Store(BitPosition),
 }
 
@@ -38,20 +37,20 @@ fn length_next(end: BitPosition, measure: bool, room: usize) -> Next
 {
     let needed = block_bytes(end);
     if measure {
-        return Next::Answer(BlockLength::Length(needed));
+        return Next::Answer(Ok(needed));
     }
     if limits::is_short(room, needed) {
-        return Next::Answer(BlockLength::Refused(Refusal::ShortOutput));
+        return Next::Answer(Err(Refusal::ShortOutput));
     }
     Next::Store(end)
 }
 
 // Refusal 12 comes first. A set that is only measured needs no room for its block.
-pub fn after_counting(counted: Put, measure: bool, room: usize) -> Next
+pub fn after_counting(counted: Result<BitPosition, usize>, measure: bool, room: usize) -> Next
     ensures { result ≡ next_of counted measure room }
 {
     match counted {
-        Put::Wrong(j) => Next::Answer(BlockLength::Refused(Refusal::NotPredicted(j))),
-        Put::At(end) => length_next(end, measure, room),
+        Err(j) => Next::Answer(Err(Refusal::NotPredicted(j))),
+        Ok(end) => length_next(end, measure, room),
     }
 }

@@ -1,8 +1,7 @@
 // Document 01, Tight block, and Items 2, 4 and 5: a set of colour lines becomes a block, tight if lossless, or is only measured.
 #![tactic(auto)]
 
-ghost use Rattle.std.specs.Prelude.{◌≡◌, true, false, [], ◌+◌, ◌*◌, ◌^◌, ◌≤◌, ◌<◌, length};
-ghost use Rattle.std.proofs.Math.Option.{none};
+ghost use Rattle.std.specs.Prelude.{◌≡◌, true, false, [], ◌+◌, ◌*◌, ◌^◌, ◌≤◌, ◌<◌, length, None};
 ghost use Rattle.colour_lines.specs.ColourLines.{zero_lines};
 ghost use Rattle.image_map.specs.Places.{width_of};
 ghost use Rattle.pass_steps.specs.Values.{quantisers_of};
@@ -23,18 +22,17 @@ ghost use Rattle.write_block.specs.WrittenAnswers.{LeftWritten, LeftLossy, LeftM
 ghost use Rattle.write_block.specs.WriterParts.{passes_from, LineWritten, SetWritten, room_for, output_of, RightPasses, Storable, Stored, LeftBy};
 
 use admission::first_above;
-use bit_output::Put;
 use bits::BitPosition;
 use cameras::base_of;
 use counted::Next;
 use image_map::width;
 use pass_steps::Quantisers;
 use read_block::{
-    Form, clear_records, form_of, is_restarted, line_count, load_set, quantisers_of, restart,
+    Form, clear_records, form_of, is_restarted, line_count, load_set, quantisers_of, restart_main,
     start_records, store_set,
 };
 use statistics::Record;
-use stream::{BlockLength, Parsed, Refusal};
+use stream::{FujiHeader, Refusal};
 
 mod counted;
 
@@ -57,7 +55,7 @@ fn write_line(
     form: Form,
     qs: Quantisers,
     strict: bool,
-) -> Put
+) -> Result<BitPosition, usize>
     requires n_bound { (n < 2 ^ 16) × (((n + 1) * line_size (width_of form.xtrans) ≤ length samples.now) × SetWanted form samples.now) }
     requires depth { Depth form.bits × ScratchOf form.xtrans lines.old rs.old }
     requires within { Within (largest form.bits) lines.old × AllInRange rs.old }
@@ -78,16 +76,12 @@ fn write_line(
         let set = load_set(rs, p.set);
         let done = write_pass::write_pass(
             samples, n, out, store, at, lines, set, w, p, qs, bits, strict,
-        );
-        let ok = done.ok;
-        if !ok {
-            return Put::Wrong(done.wrong);
-        }
+        )?;
         let new = done.set;
         store_set(rs, p.set, new);
         at = done.at;
     }
-    Put::At(at)
+    Ok(at)
 }
 
 // All lines of a set. Scratch is left as it is then.
@@ -100,7 +94,7 @@ fn write_lines(
     form: Form,
     bases: &[u8],
     count: usize,
-) -> Put
+) -> Result<BitPosition, usize>
     requires count_bound { (count < 2 ^ 16) × ((length samples.now ≡ set_size (width_of form.xtrans) count) × SetWanted form samples.now) }
     requires depth { Depth form.bits × ScratchOf form.xtrans lines.old rs.old }
     requires room { Room store out.old 0 (write_lines form bases.now samples.now count).bits }
@@ -115,8 +109,10 @@ fn write_lines(
     for n in 0..count {
         colour_lines::turn(lines, w);
         let base = base_of(bases, n);
-        restart(rs, bits, base, is_restarted(bases, n));
-        let got = write_line(
+        if is_restarted(bases, n) {
+            restart_main(rs, bits, base);
+        }
+        at = write_line(
             samples,
             n,
             out,
@@ -127,13 +123,9 @@ fn write_lines(
             form,
             quantisers_of(bits, base),
             strict,
-        );
-        let Put::At(after) = got else {
-            return got;
-        };
-        at = after;
+        )?;
     }
-    Put::At(at)
+    Ok(at)
 }
 
 // A walk over a set: its bits are counted, or stored too. Scratch is cleared afterwards, whatever it held before.
@@ -146,7 +138,7 @@ fn write_walk(
     form: Form,
     bases: &[u8],
     count: usize,
-) -> Put
+) -> Result<BitPosition, usize>
     requires count_bound { (count < 2 ^ 16) × ((length samples.now ≡ set_size (width_of form.xtrans) count) × SetWanted form samples.now) }
     requires depth { Depth form.bits × ScratchOf form.xtrans lines.old rs.old }
     requires room { Room store out.old 0 (write_lines form bases.now samples.now count).bits }
@@ -183,7 +175,7 @@ fn look_line(samples: &[u16], n: usize, lines: &mut [u16], form: Form) -> bool
 fn look_lines(samples: &[u16], lines: &mut [u16], form: Form, count: usize) -> bool
     requires count_bound { (count < 2 ^ 16) × ((length samples.now ≡ set_size (width_of form.xtrans) count) × SetWanted form samples.now) }
     requires depth { Depth form.bits × (length lines.old ≡ 18 * (width_of form.xtrans + 2)) }
-    ensures { result ≡ true → (write_lines form [] samples.now count).wrong ≡ none }
+    ensures { result ≡ true → (write_lines form [] samples.now count).wrong ≡ None }
 {
     let w = width(form.xtrans);
     colour_lines::clear(lines);
@@ -201,7 +193,7 @@ fn look_lines(samples: &[u16], lines: &mut [u16], form: Form, count: usize) -> b
 fn is_right(samples: &[u16], lines: &mut [u16], form: Form, bases: &[u8], count: usize) -> bool
     requires count_bound { (count < 2 ^ 16) × ((length samples.now ≡ set_size (width_of form.xtrans) count) × SetWanted form samples.now) }
     requires depth { Depth form.bits × (length lines.old ≡ 18 * (width_of form.xtrans + 2)) }
-    ensures { result ≡ true → (write_lines form bases.now samples.now count).wrong ≡ none }
+    ensures { result ≡ true → (write_lines form bases.now samples.now count).wrong ≡ None }
 {
     if form.xtrans & is_strict(bases) {
         return look_lines(samples, lines, form, count);
@@ -239,7 +231,7 @@ fn write_stored(
     form: Form,
     bases: &[u8],
     count: usize,
-) -> BlockLength
+) -> Result<usize, Refusal>
     requires count_bound { (count < 2 ^ 16) × ((length samples.now ≡ set_size (width_of form.xtrans) count) × SetWanted form samples.now) }
     requires depth { Depth form.bits × ScratchOf form.xtrans lines.old rs.old }
     requires storable { Storable form bases.now count samples.now (length out.old) }
@@ -248,10 +240,10 @@ fn write_stored(
 {
     let done = write_walk(samples, out, true, lines, rs, form, bases, count);
     match done {
-        Put::Wrong(j) => BlockLength::Refused(Refusal::NotPredicted(j)),
-        Put::At(end) => {
+        Err(j) => Err(Refusal::NotPredicted(j)),
+        Ok(end) => {
             bits::fill_tail(out, end);
-            BlockLength::Length(counted::block_bytes(end))
+            Ok(counted::block_bytes(end))
         }
     }
 }
@@ -267,7 +259,7 @@ fn write_measured(
     form: Form,
     bases: &[u8],
     count: usize,
-) -> BlockLength
+) -> Result<usize, Refusal>
     requires count_bound { (count < 2 ^ 16) × ((length samples.now ≡ set_size (width_of form.xtrans) count) × SetWanted form samples.now) }
     requires depth { Depth form.bits × ScratchOf form.xtrans lines.old rs.old }
     ensures fact { let block = written_block form bases.now count samples.now in
@@ -296,7 +288,7 @@ fn write_set(
     form: Form,
     bases: &[u8],
     count: usize,
-) -> BlockLength
+) -> Result<usize, Refusal>
     requires count_bound { (count < 2 ^ 16) × (length samples.now ≡ set_size (width_of form.xtrans) count) }
     requires depth { Depth form.bits × ScratchOf form.xtrans lines.old rs.old }
     ensures fact { let block = written_block form bases.now count samples.now in
@@ -308,44 +300,40 @@ fn write_set(
     if let Some(i) = first_above(samples, m, form.xtrans, is_strict(bases)) {
         colour_lines::clear(lines);
         clear_records(rs);
-        return BlockLength::Refused(Refusal::AboveLargest(i));
+        return Err(Refusal::AboveLargest(i));
     }
     write_measured(samples, out, measure, lines, rs, form, bases, count)
 }
 
 // Writing with bases, without and measuring are one call, which goes on the first part of the lent scratch.
 fn write_in(
-    begins: Parsed,
+    begins: Result<FujiHeader, Refusal>,
     bases: &[u8],
     samples: &[u16],
     out: &mut [u8],
     measure: bool,
     lines: &mut [u16],
     rs: &mut [Record],
-) -> BlockLength
+) -> Result<usize, Refusal>
     requires { FitsOn begins (length samples.now) (length lines.old) (length rs.old) }
     ensures { let before : Outputs = record { out = out.old; lines = lines.old; records = rs.old } in
         let after : Outputs = record { out = out.new; lines = lines.new; records = rs.new } in
         LeftBy measure bases.now samples.now begins before after result }
 {
-    match begins {
-        Parsed::Refused(x) => BlockLength::Refused(x),
-        Parsed::Header(h) => {
-            let used = admission::samples_needed(h.xtrans);
-            let form = form_of(h);
-            let count = line_count(h);
-            write_set(
-                samples,
-                out,
-                measure,
-                &mut lines[0..used],
-                &mut rs[0..336],
-                form,
-                bases,
-                count,
-            )
-        }
-    }
+    let h = begins?;
+    let used = admission::samples_needed(h.xtrans);
+    let form = form_of(h);
+    let count = line_count(h);
+    write_set(
+        samples,
+        out,
+        measure,
+        &mut lines[0..used],
+        &mut rs[0..336],
+        form,
+        bases,
+        count,
+    )
 }
 
 // The writer: the tight block of a set of colour lines goes to the start of the output, and the answer is its length. Of the header the first
@@ -356,7 +344,7 @@ pub fn write_block(
     out: &mut [u8],
     lines: &mut [u16],
     rs: &mut [Record],
-) -> BlockLength
+) -> Result<usize, Refusal>
     ensures { let t = samples.now in
         let before : Outputs = record { out = out.old; lines = lines.old; records = rs.old } in
         let after : Outputs = record { out = out.new; lines = lines.new; records = rs.new } in
@@ -374,7 +362,7 @@ pub fn write_lossy(
     out: &mut [u8],
     lines: &mut [u16],
     rs: &mut [Record],
-) -> BlockLength
+) -> Result<usize, Refusal>
     ensures { let s = bases.now in
         let t = samples.now in
         let before : Outputs = record { out = out.old; lines = lines.old; records = rs.old } in
@@ -392,7 +380,7 @@ pub fn measure_block(
     samples: &[u16],
     lines: &mut [u16],
     rs: &mut [Record],
-) -> BlockLength
+) -> Result<usize, Refusal>
     ensures { let t = samples.now in
         let before : Scratch = record { lines = lines.old; records = rs.old } in
         let after : Scratch = record { lines = lines.new; records = rs.new } in

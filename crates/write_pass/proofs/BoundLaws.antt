@@ -2,7 +2,6 @@
 -- held to its prediction can be wrong. Assumes nothing.
 use mathlib.Core.Bool.{Bool, true, false, cond, not, ◌&&◌}
 use mathlib.Core.List.{List, [], ◌∷◌}
-use mathlib.Core.Option.{none}
 use mathlib.Core.Path.{◌≡◌, refl}
 use Prim.Native.Nat.{ℕ, suc, ◌+◌, ◌*◌, ◌/◌, ◌^◌, ◌≤◌, ◌<◌}
 use native.Mathlib.Nat.{mul-le-mul_right, pow-suc, div-mul-le_self}
@@ -33,6 +32,7 @@ use Rattle.write_pass.proofs.ChosenLaws.{near_lt}
 use Rattle.write_pass.proofs.LosslessLaws.{code_numbers}
 use Rattle.write_pass.proofs.StepPuts.{step_within}
 use Rattle.write_pass.proofs.WriteLaws.{wanted, write_coded, write_interpolated}
+use Rattle.std.specs.Prelude.{None}
 
 -- ---- one code
 
@@ -112,22 +112,22 @@ module _ (bits q W : ℕ) (strict : Bool) (t : List ℕ) (n : ℕ) where
   abbrev Sure : Step → Type 0
   Sure x = (strict && not x.coded) ≡ false
 
-  step_sure : (x : Step) (r : Writing) → Sure x → r.wrong ≡ none → (write_step bits q W strict t n x r).wrong ≡ none
+  step_sure : (x : Step) (r : Writing) → Sure x → r.wrong ≡ None → (write_step bits q W strict t n x r).wrong ≡ None
   step_sure x r s e = go strict x.coded refl refl
     where
-      go : (b c : Bool) → strict ≡ b → x.coded ≡ c → (write_step bits q W strict t n x r).wrong ≡ none
+      go : (b c : Bool) → strict ≡ b → x.coded ≡ c → (write_step bits q W strict t n x r).wrong ≡ None
       go b true eb ec = rw (write_coded bits q W strict t n x r ec) e
       go false false eb ec = rw (write_interpolated bits q W strict t n x r ec, e, eb)
       go true false eb ec = let f : true ≡ false = rw (eb, ec) at s in let no : ◌≡◌ {A = ℕ} 0 1 = cc in absurd (omega arith)
 
-  writes_sure : (l : List Step) (r : Writing) → All Sure l → r.wrong ≡ none → (writes bits q W strict t n l r).wrong ≡ none
+  writes_sure : (l : List Step) (r : Writing) → All Sure l → r.wrong ≡ None → (writes bits q W strict t n l r).wrong ≡ None
   unfolding writes
   writes_sure [] r s e = e
   writes_sure (x ∷ l) r s e = writes_sure l (write_step bits q W strict t n x r) s.1 (step_sure x r s.0 e)
 
   -- Bayer has codes alone, and only a strict set is held to predictions
-  pub pass_sure : (xtrans : Bool) (i : ℕ) → i < 6 → (xtrans && strict) ≡ false → (r : Writing) → r.wrong ≡ none
-      → (write_pass bits q W strict t n (plan_of xtrans i) r).wrong ≡ none
+  pub pass_sure : (xtrans : Bool) (i : ℕ) → i < 6 → (xtrans && strict) ≡ false → (r : Writing) → r.wrong ≡ None
+      → (write_pass bits q W strict t n (plan_of xtrans i) r).wrong ≡ None
   unfolding write_pass is_interpolated
   pass_sure xtrans i below s r = writes_sure (pass_steps W (plan_of xtrans i)) r (all (pass_steps W (plan_of xtrans i)) (steps_coded xtrans W i below))
     where

@@ -2,7 +2,6 @@
 use borrow.Author.Tests.{eq-eqb, lt-ltb, le-ltb, le-leb, lt-leb}
 use mathlib.Core.Bool.{Bool, true, false, not}
 use mathlib.Core.List.{List, [], ◌∷◌, ◌++◌}
-use mathlib.Core.Option.{none}
 use mathlib.Core.Path.{◌≡◌, refl, sym}
 use Prim.Native.Nat.{ℕ, ◌+◌, ◌-◌, ◌*◌, ◌≤◌, ◌<◌}
 use native.Mathlib.Omega.{arith}
@@ -25,6 +24,7 @@ use Rattle.colour_lines.specs.Sets.{index_in}
 use Rattle.write_pass.specs.Writings.{Writing, given_sample, wanted_code, write_step, writes}
 use Rattle.write_pass.proofs.StepPuts.{writes_within}
 use Rattle.write_pass.proofs.WriteLaws.{wanted, write_coded, write_interpolated, writes_append}
+use Rattle.std.specs.Prelude.{None}
 
 -- ---- one step
 
@@ -49,7 +49,7 @@ given_exact bits v c hc hv = rw (look_lossless c) exact
     exact : sample_of M 0 total negative c.prediction (code_near 0 total negative c.prediction v) ≡ v
     exact = let near = (near_back M 0 total wide negative c.prediction v hc hv).1 in omega (arith, near.0, near.1)
 
-as_found : (z : Writing) (lines : List ℕ) → z.lines ≡ lines → z.wrong ≡ none → z ≡ record { lines = lines; set = z.set; bits = z.bits; wrong = none }
+as_found : (z : Writing) (lines : List ℕ) → z.lines ≡ lines → z.wrong ≡ None → z ≡ record { lines = lines; set = z.set; bits = z.bits; wrong = None }
 as_found z lines e f = rw (← e, ← f)
 
 module _ (bits W : ℕ) (t : List ℕ) (n : ℕ) where
@@ -59,12 +59,12 @@ module _ (bits W : ℕ) (t : List ℕ) (n : ℕ) where
   one_right x lines lines' hl hv k s b = go x.coded refl
     where
       r : Writing
-      r = record { lines = lines; set = s; bits = b; wrong = none }
+      r = record { lines = lines; set = s; bits = b; wrong = None }
 
       c : Context
       c = step_context W x lines
 
-      go : (d : Bool) → x.coded ≡ d → ((write_step bits 0 W true t n x r).lines ≡ lines') × ((write_step bits 0 W true t n x r).wrong ≡ none)
+      go : (d : Bool) → x.coded ≡ d → ((write_step bits 0 W true t n x r).lines ≡ lines') × ((write_step bits 0 W true t n x r).wrong ≡ None)
       go true e =
           let g = given_exact bits (wanted W t n x) c (context_le (largest bits) W lines x.line x.position hl) (hv e) in
           rw (write_coded bits 0 W true t n x r e, g) (sym k.placed, refl)
@@ -77,9 +77,9 @@ module _ (bits W : ℕ) (t : List ℕ) (n : ℕ) where
   pub right_both : (k l : List Step) (lines lines₁ lines₂ : List ℕ) → Right bits W t n k lines lines₁ → Right bits W t n l lines₁ lines₂
       → Right bits W t n (k ++ l) lines lines₂
   right_both k l lines lines₁ lines₂ g h s b =
-      let z : Writing = writes bits 0 W true t n k (record { lines = lines; set = s; bits = b; wrong = none }) in
+      let z : Writing = writes bits 0 W true t n k (record { lines = lines; set = s; bits = b; wrong = None }) in
       let e = as_found z lines₁ (g s b).0 (g s b).1 in
-      rw (writes_append bits 0 W true t n k l (record { lines = lines; set = s; bits = b; wrong = none }), e) (h z.set z.bits)
+      rw (writes_append bits 0 W true t n k l (record { lines = lines; set = s; bits = b; wrong = None }), e) (h z.set z.bits)
 
   pub right_none : (lines : List ℕ) → Right bits W t n [] lines lines
   unfolding writes
@@ -88,7 +88,7 @@ module _ (bits W : ℕ) (t : List ℕ) (n : ℕ) where
   -- the samples stay up to M
   pub right_within : (l : List Step) (lines lines' : List ℕ) → Right bits W t n l lines lines' → Within (largest bits) lines → Within (largest bits) lines'
   right_within l lines lines' g h =
-      rw (← (g [] []).0) (writes_within bits 0 W true t n l (record { lines = lines; set = []; bits = []; wrong = none }) h)
+      rw (← (g [] []).0) (writes_within bits 0 W true t n l (record { lines = lines; set = []; bits = []; wrong = None }) h)
 
   -- the two samples at a position
   pub two_right : (x y : Step) (lines lines₁ lines₂ : List ℕ) → Within (largest bits) lines → Wanted (largest bits) W t n (x ∷ y ∷ [])

@@ -1,7 +1,6 @@
 -- What a whole pass of writing keeps, and how many bits it adds. Assumes nothing.
 use mathlib.Core.Bool.{Bool}
 use mathlib.Core.List.{List}
-use mathlib.Core.Option.{some}
 use mathlib.Core.Path.{◌≡◌}
 use Prim.Native.Nat.{ℕ, ◌+◌, ◌/◌, ◌^◌, ◌≤◌}
 use native.Mathlib.Omega.{arith}
@@ -13,6 +12,7 @@ use Rattle.write_pass.specs.Puts.{Within}
 use Rattle.write_pass.specs.Writings.{Writing, write_pass}
 use Rattle.write_pass.proofs.StepPuts.{writes_within, writes_wrong, writes_short}
 use Rattle.pass_schedule.proofs.TurnLaws.{turns_le}
+use Rattle.std.specs.Prelude.{Some}
 
 module _ (bits q W : ℕ) (strict : Bool) (t : List ℕ) (n : ℕ) (P : Plan) (r : Writing) where
   -- samples up to M
@@ -21,7 +21,7 @@ module _ (bits q W : ℕ) (strict : Bool) (t : List ℕ) (n : ℕ) (P : Plan) (r
   pass_within = writes_within bits q W strict t n (pass_steps W P) r
 
   -- the first wrong sample stays the first
-  pub pass_wrong : (j : ℕ) → r.wrong ≡ some j → (write_pass bits q W strict t n P r).wrong ≡ some j
+  pub pass_wrong : (j : ℕ) → r.wrong ≡ Some j → (write_pass bits q W strict t n P r).wrong ≡ Some j
   unfolding write_pass
   pass_wrong = writes_wrong bits q W strict t n (pass_steps W P) r
 

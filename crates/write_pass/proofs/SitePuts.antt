@@ -23,11 +23,10 @@ use Rattle.pass_steps.proofs.KLaws.{kept_k}
 use Rattle.pass_steps.proofs.TableLaws.{limit_is, raw_is}
 use Rattle.write_pass.specs.Puts.{LineNumbers, put_if, Room, Within, Wanted, CodingAsks, CodedAs, bits_of_sample, set_of_sample, StepsRoom, StepsPut}
 use Rattle.write_pass.specs.declared.Coding.{Coding}
-use Rattle.bit_output.specs.declared.Put.{Put}
-use Rattle.bit_output.specs.declared.Put.TheVariants.{At, Wrong}
 use Rattle.write_pass.proofs.LosslessLaws.{code_numbers}
 use Rattle.write_pass.proofs.StepPuts.{Sample, prediction_le, sample_room, sample_coded, sample_right, sample_wrong}
 use Rattle.write_pass.proofs.StepPuts.{first_room, room_after, goes_on, within_after, position_after}
+use Rattle.std.specs.Prelude.{Err, Ok, Result}
 
 -- ---- what steps find, and what is known after one of them
 
@@ -42,7 +41,7 @@ pub record Ready (bits q : ℕ) (totals raws limits : List ℕ) (W : ℕ) (stric
 
 pub record Done (bits q W : ℕ) (strict : Bool) (t : List ℕ) (n : ℕ) (y : Step) (store : Bool) (from : BitPosition)
     (lines sums ns out lines' sums' ns' out' : List ℕ) (at : BitPosition) : Type 0 where
-  pub put : StepsPut bits q W strict t n (y ∷ []) store from.0 lines sums ns out lines' sums' ns' out' (At at)
+  pub put : StepsPut bits q W strict t n (y ∷ []) store from.0 lines sums ns out lines' sums' ns' out' (Ok at)
   pub records : SetInRange (zip_records sums' ns')
   pub same : length out' ≡ length out
   pub long : length lines' ≡ length lines
@@ -86,7 +85,7 @@ module _ {bits q : ℕ} {totals raws limits : List ℕ} {W : ℕ} {strict : Bool
           room = room_after d.put refl (z ∷ []) d.same r.room;
         }
 
-    pub two_puts : {lines₂ sums₂ ns₂ out₂ : List ℕ} {u : Put}
+    pub two_puts : {lines₂ sums₂ ns₂ out₂ : List ℕ} {u : Result BitPosition ℕ}
         → StepsPut bits q W strict t n (z ∷ []) store at.0 lines' sums' ns' out' lines₂ sums₂ ns₂ out₂ u
         → StepsPut bits q W strict t n (y ∷ z ∷ []) store from.0 lines sums ns out lines₂ sums₂ ns₂ out₂ u
     two_puts g = goes_on d.put refl (z ∷ []) r.room g
@@ -119,7 +118,7 @@ module _ {bits q : ℕ} {totals raws limits : List ℕ} {W : ℕ} {strict : Bool
         }
 
     pub site_wrong : coded ≡ false → b ≡ true
-        → StepsPut bits q W strict t n (step_at line p coded ∷ []) store from.0 lines sums ns out lines sums ns out (Wrong j)
+        → StepsPut bits q W strict t n (step_at line p coded ∷ []) store from.0 lines sums ns out lines sums ns out (Err j)
     site_wrong e f = sample_wrong s.sample bits q strict store coded from.0 sums ns out lines e (sym judged ∙ f)
 
   -- ---- with a code

@@ -1,7 +1,6 @@
 -- Steps that put their bits: one sample, steps one after the other, and what they keep. Assumes nothing.
 use mathlib.Core.Bool.{Bool, true, false, cond, not, ◌&&◌, false≢true}
 use mathlib.Core.List.{List, [], ◌∷◌, ◌++◌, append-nil}
-use mathlib.Core.Option.{Option, none, some}
 use mathlib.Core.Path.{◌≡◌, refl, sym, ap, ◌∙◌}
 use Prim.Native.Nat.{ℕ, ◌+◌, ◌-◌, ◌*◌, ◌/◌, ◌^◌, ◌≤◌, ◌<◌}
 use native.Mathlib.Omega.{arith}
@@ -30,10 +29,9 @@ use Rattle.pass_steps.proofs.TableLaws.{numbers_le}
 use Rattle.colour_lines.specs.Sets.{index_in}
 use Rattle.write_pass.specs.Writings.{Writing, or_second, write_step, writes}
 use Rattle.write_pass.specs.Puts.{put_if, Room, Within, Wanted, bits_of_sample, value_of_sample, set_of_sample, start_of, StepsRoom, IsPut, StepsPut}
-use Rattle.bit_output.specs.declared.Put.{Put}
-use Rattle.bit_output.specs.declared.Put.TheVariants.{At, Wrong}
 use Rattle.write_pass.proofs.WriteLaws.{wanted, write_coded, write_interpolated, after, writes_append, writes_after, writes_add}
 use Rattle.bit_output.proofs.PutLaws.{put_none, put_more}
+use Rattle.std.specs.Prelude.{Err, Ok, Result, None, Option, Some}
 
 -- ---- one step
 
@@ -56,7 +54,7 @@ module _ (bits q W : ℕ) (strict : Bool) (t : List ℕ) (n : ℕ) (x : Step) (r
         set = r.set;
         bits = r.bits;
         wrong = or_second r.wrong
-            (cond (strict && not (eqb (wanted W t n x) (step_context W x r.lines).prediction)) (some (index_in W n x.line x.position)) none);
+            (cond (strict && not (eqb (wanted W t n x) (step_context W x r.lines).prediction)) (Some (index_in W n x.line x.position)) None);
       }
   unfolding writes write_step
   step_interpolated e = rw e
@@ -65,8 +63,8 @@ none_put : (store : Bool) (out : List ℕ) (at : ℕ) → out ≡ put_if store o
 none_put true out at = sym (put_none out at)
 none_put false out at = refl
 
-at_is : (at : BitPosition) (n : ℕ) → at.0 ≡ n → At at ≡ At (record { 0 = n })
-at_is at n e = ap (λ (m : ℕ). At (record { 0 = m })) e
+at_is : (at : BitPosition) (n : ℕ) → at.0 ≡ n → ◌≡◌ {A = Result BitPosition ℕ} (Ok at) (Ok (record { 0 = n }))
+at_is at n e = ap (λ (m : ℕ). Ok (record { 0 = m })) e
 
 -- one sample, from the answers of the leaves
 pub record Sample (W : ℕ) (t : List ℕ) (n line p : ℕ) (lines : List ℕ) (i j : ℕ) (x : Context) : Type 0 where
@@ -93,7 +91,7 @@ module _ {W : ℕ} {t : List ℕ} {n line p : ℕ} {lines : List ℕ} {i j : ℕ
         lines = set lines (i + 1) (value_of_sample bits q (get_or t j 0) x);
         set = set_of_sample bits q p (get_or t j 0) x (zip_records sums ns);
         bits = bits_of_sample bits q p (get_or t j 0) x (zip_records sums ns);
-        wrong = none;
+        wrong = None;
       }
   coded_is e = rw (s.context, s.place, s.index) (step_coded bits q W strict t n (step_at line p coded) (start_of lines sums ns) e)
 
@@ -106,7 +104,7 @@ module _ {W : ℕ} {t : List ℕ} {n line p : ℕ} {lines : List ℕ} {i j : ℕ
       → out' ≡ put_if store out from (bits_of_sample bits q p (get_or t j 0) x (zip_records sums ns))
       → zip_records sums' ns' ≡ set_of_sample bits q p (get_or t j 0) x (zip_records sums ns)
       → value ≡ value_of_sample bits q (get_or t j 0) x
-      → StepsPut bits q W strict t n (step_at line p coded ∷ []) store from lines sums ns out (set lines (i + 1) value) sums' ns' out' (At at)
+      → StepsPut bits q W strict t n (step_at line p coded ∷ []) store from lines sums ns out (set lines (i + 1) value) sums' ns' out' (Ok at)
   sample_coded sums' ns' out' at value e ea eo es ev = record { are = rw (coded_is e) (at_is at _ ea, rw ev, es, eo) }
 
   interpolated_is : coded ≡ false
@@ -115,17 +113,17 @@ module _ {W : ℕ} {t : List ℕ} {n line p : ℕ} {lines : List ℕ} {i j : ℕ
         lines = set lines (i + 1) x.prediction;
         set = zip_records sums ns;
         bits = [];
-        wrong = cond (strict && not (eqb (get_or t j 0) x.prediction)) (some j) none;
+        wrong = cond (strict && not (eqb (get_or t j 0) x.prediction)) (Some j) None;
       }
   interpolated_is e = rw (s.context, s.place, s.index) (step_interpolated bits q W strict t n (step_at line p coded) (start_of lines sums ns) e)
 
   pub sample_right : (at : BitPosition) → coded ≡ false → at.0 ≡ from → (strict && not (eqb (get_or t j 0) x.prediction)) ≡ false
-      → StepsPut bits q W strict t n (step_at line p coded ∷ []) store from lines sums ns out (set lines (i + 1) x.prediction) sums ns out (At at)
+      → StepsPut bits q W strict t n (step_at line p coded ∷ []) store from lines sums ns out (set lines (i + 1) x.prediction) sums ns out (Ok at)
   sample_right at e ea f =
       record { are = rw (interpolated_is e, f) (at_is at _ (omega arith), refl, refl, none_put store out from) }
 
   pub sample_wrong : (lines' : List ℕ) → coded ≡ false → (strict && not (eqb (get_or t j 0) x.prediction)) ≡ true
-      → StepsPut bits q W strict t n (step_at line p coded ∷ []) store from lines sums ns out lines' sums ns out (Wrong j)
+      → StepsPut bits q W strict t n (step_at line p coded ∷ []) store from lines sums ns out lines' sums ns out (Err j)
   sample_wrong lines' e f = record { are = rw (interpolated_is e, f) (refl, λ h. refl) }
 
 -- ---- what steps keep
@@ -147,14 +145,14 @@ module _ (bits q W : ℕ) (strict : Bool) (t : List ℕ) (n : ℕ) where
   writes_within (x ∷ l) r h = writes_within l (write_step bits q W strict t n x r) (step_within x r h)
 
   -- the first wrong sample stays the first
-  step_wrong : (x : Step) (r : Writing) (j : ℕ) → r.wrong ≡ some j → (write_step bits q W strict t n x r).wrong ≡ some j
+  step_wrong : (x : Step) (r : Writing) (j : ℕ) → r.wrong ≡ Some j → (write_step bits q W strict t n x r).wrong ≡ Some j
   step_wrong x r j e = go x.coded refl
     where
-      go : (b : Bool) → x.coded ≡ b → (write_step bits q W strict t n x r).wrong ≡ some j
+      go : (b : Bool) → x.coded ≡ b → (write_step bits q W strict t n x r).wrong ≡ Some j
       go true c = rw (write_coded bits q W strict t n x r c) e
       go false c = rw (write_interpolated bits q W strict t n x r c, e)
 
-  pub writes_wrong : (l : List Step) (r : Writing) (j : ℕ) → r.wrong ≡ some j → (writes bits q W strict t n l r).wrong ≡ some j
+  pub writes_wrong : (l : List Step) (r : Writing) (j : ℕ) → r.wrong ≡ Some j → (writes bits q W strict t n l r).wrong ≡ Some j
   unfolding writes
   writes_wrong [] r j e = e
   writes_wrong (x ∷ l) r j e = writes_wrong l (write_step bits q W strict t n x r) j (step_wrong x r j e)
@@ -168,32 +166,32 @@ record Went (z : Writing) (store : Bool) (from : ℕ) (out lines' sums' ns' out'
   output : out' ≡ put_if store out from z.bits
 
 went : (o : Option ℕ) (z : Writing) (store : Bool) (from : ℕ) (out lines' sums' ns' out' : List ℕ) (at : BitPosition)
-    → z.wrong ≡ o → IsPut o z from store out lines' sums' ns' out' (At at) → Went z store from out lines' sums' ns' out' at
-went none z store from out lines' sums' ns' out' at e h =
+    → z.wrong ≡ o → IsPut o z from store out lines' sums' ns' out' (Ok at) → Went z store from out lines' sums' ns' out' at
+went None z store from out lines' sums' ns' out' at e h =
     record { held = rw (append-nil z.bits, h.1, h.2, ← e); position = cc; output = h.3 }
-went (some j) z store from out lines' sums' ns' out' at e h = let no : ◌≡◌ {A = ℕ} 0 1 = cc in absurd (omega arith)
+went (Some j) z store from out lines' sums' ns' out' at e h = let no : ◌≡◌ {A = ℕ} 0 1 = cc in absurd (omega arith)
 
 was_wrong : (o : Option ℕ) (z : Writing) (store : Bool) (from : ℕ) (out lines' sums' ns' out' : List ℕ) (j : ℕ)
-    → IsPut o z from store out lines' sums' ns' out' (Wrong j) → (o ≡ some j) × (store ≡ false → out' ≡ out)
-was_wrong none z store from out lines' sums' ns' out' j h = let no : ◌≡◌ {A = ℕ} 0 1 = cc in absurd (omega arith)
-was_wrong (some i) z store from out lines' sums' ns' out' j h = let e : i ≡ j = cc in (rw e, h.1)
+    → IsPut o z from store out lines' sums' ns' out' (Err j) → (o ≡ Some j) × (store ≡ false → out' ≡ out)
+was_wrong None z store from out lines' sums' ns' out' j h = let no : ◌≡◌ {A = ℕ} 0 1 = cc in absurd (omega arith)
+was_wrong (Some i) z store from out lines' sums' ns' out' j h = let e : i ≡ j = cc in (rw e, h.1)
 
 -- ---- steps one after the other
 
 -- the second part starts where the first has ended: with the bits b before it
-join : (o : Option ℕ) (z : Writing) (b : List Bool) (store : Bool) (from at : ℕ) (out out₁ lines' sums' ns' out' : List ℕ) (r : Put) → at ≡ from + length b
+join : (o : Option ℕ) (z : Writing) (b : List Bool) (store : Bool) (from at : ℕ) (out out₁ lines' sums' ns' out' : List ℕ) (r : Result BitPosition ℕ) → at ≡ from + length b
     → out₁ ≡ put_if store out from b
     → (store ≡ true → bytes_for (from + length (b ++ z.bits)) ≤ length out) → IsPut o z at store out₁ lines' sums' ns' out' r
     → IsPut o (after b z) from store out lines' sums' ns' out' r
-join none z b true from at out out₁ lines' sums' ns' out' r ea eo h g =
+join None z b true from at out out₁ lines' sums' ns' out' r ea eo h g =
     let e : at + length z.bits ≡ from + length (b ++ z.bits) = rw length-append (omega arith) in
     let room = rw length-append at (h refl) in
     (rw e at g.0, g.1, g.2, rw (eo, ea, put_more out from b z.bits room) at g.3)
-join none z b false from at out out₁ lines' sums' ns' out' r ea eo h g =
+join None z b false from at out out₁ lines' sums' ns' out' r ea eo h g =
     let e : at + length z.bits ≡ from + length (b ++ z.bits) = rw length-append (omega arith) in
     (rw e at g.0, g.1, g.2, g.3 ∙ eo)
-join (some j) z b true from at out out₁ lines' sums' ns' out' r ea eo h g = (g.0, λ f. absurd (false≢true (sym f)))
-join (some j) z b false from at out out₁ lines' sums' ns' out' r ea eo h g = (g.0, λ f. g.1 f ∙ eo)
+join (Some j) z b true from at out out₁ lines' sums' ns' out' r ea eo h g = (g.0, λ f. absurd (false≢true (sym f)))
+join (Some j) z b false from at out out₁ lines' sums' ns' out' r ea eo h g = (g.0, λ f. g.1 f ∙ eo)
 
 module _ (bits q W : ℕ) (strict : Bool) (t : List ℕ) (n : ℕ) (k l : List Step) (store : Bool) (from : ℕ) (lines sums ns out : List ℕ) where
   -- where there is room for both there is room for the first part
@@ -204,16 +202,16 @@ module _ (bits q W : ℕ) (strict : Bool) (t : List ℕ) (n : ℕ) (k l : List S
       omega (arith, f)
 
   module _ (lines₁ sums₁ ns₁ out₁ : List ℕ) where
-    first_wrong : (r : Put) (j : ℕ) → r ≡ Wrong j → StepsPut bits q W strict t n k store from lines sums ns out lines₁ sums₁ ns₁ out₁ r
+    first_wrong : (r : Result BitPosition ℕ) (j : ℕ) → r ≡ Err j → StepsPut bits q W strict t n k store from lines sums ns out lines₁ sums₁ ns₁ out₁ r
         → StepsPut bits q W strict t n (k ++ l) store from lines sums ns out lines₁ sums₁ ns₁ out₁ r
     first_wrong r j er h =
         let z : Writing = writes bits q W strict t n k (start_of lines sums ns) in
-        let g : StepsPut bits q W strict t n k store from lines sums ns out lines₁ sums₁ ns₁ out₁ (Wrong j) = rw er at h in
+        let g : StepsPut bits q W strict t n k store from lines sums ns out lines₁ sums₁ ns₁ out₁ (Err j) = rw er at h in
         let w = was_wrong z.wrong z store from out lines₁ sums₁ ns₁ out₁ j g.are in
-        let e : (writes bits q W strict t n (k ++ l) (start_of lines sums ns)).wrong ≡ some j = rw (writes_append bits q W strict t n k l (start_of lines sums ns)) (writes_wrong bits q W strict t n l z j w.0) in
+        let e : (writes bits q W strict t n (k ++ l) (start_of lines sums ns)).wrong ≡ Some j = rw (writes_append bits q W strict t n k l (start_of lines sums ns)) (writes_wrong bits q W strict t n l z j w.0) in
         record { are = rw (e, er) (refl, w.1) }
 
-    module _ (at : BitPosition) (g : StepsPut bits q W strict t n k store from lines sums ns out lines₁ sums₁ ns₁ out₁ (At at)) where
+    module _ (at : BitPosition) (g : StepsPut bits q W strict t n k store from lines sums ns out lines₁ sums₁ ns₁ out₁ (Ok at)) where
       done : Went (writes bits q W strict t n k (start_of lines sums ns)) store from out lines₁ sums₁ ns₁ out₁ at
       done = went (writes bits q W strict t n k (start_of lines sums ns)).wrong (writes bits q W strict t n k (start_of lines sums ns)) store from out lines₁ sums₁ ns₁ out₁ at refl g.are
 
@@ -229,7 +227,7 @@ module _ (bits q W : ℕ) (strict : Bool) (t : List ℕ) (n : ℕ) (k l : List S
           let f = rw (both, length-append) at (h e) in
           omega (arith, f, same, done.position)
 
-      together : (lines₂ sums₂ ns₂ out₂ : List ℕ) (r : Put) → StepsRoom bits q W strict t n (k ++ l) store from lines sums ns out
+      together : (lines₂ sums₂ ns₂ out₂ : List ℕ) (r : Result BitPosition ℕ) → StepsRoom bits q W strict t n (k ++ l) store from lines sums ns out
           → StepsPut bits q W strict t n l store at.0 lines₁ sums₁ ns₁ out₁ lines₂ sums₂ ns₂ out₂ r
           → StepsPut bits q W strict t n (k ++ l) store from lines sums ns out lines₂ sums₂ ns₂ out₂ r
       together lines₂ sums₂ ns₂ out₂ r h g₂ =
@@ -245,7 +243,7 @@ module _ (bits q W : ℕ) (strict : Bool) (t : List ℕ) (n : ℕ) (k l : List S
 
 -- no step
 pub no_puts : (bits q W : ℕ) (strict : Bool) (t : List ℕ) (n : ℕ) (store : Bool) (from : BitPosition) (lines sums ns out : List ℕ)
-    → StepsPut bits q W strict t n [] store from.0 lines sums ns out lines sums ns out (At from)
+    → StepsPut bits q W strict t n [] store from.0 lines sums ns out lines sums ns out (Ok from)
 unfolding writes
 no_puts bits q W strict t n store from lines sums ns out = record { are = (at_is from _ (omega arith), refl, refl, none_put store out from.0) }
 
@@ -277,21 +275,21 @@ module _ (bits q W : ℕ) (strict : Bool) (t : List ℕ) (n : ℕ) (depth : bits
   writes_short (x ∷ l) r = omega (arith, step_short x r, writes_short l (write_step bits q W strict t n x r))
 
   puts_short : (l : List Step) (store : Bool) (from : ℕ) (lines sums ns out lines' sums' ns' out' : List ℕ) (at : BitPosition)
-      → StepsPut bits q W strict t n l store from lines sums ns out lines' sums' ns' out' (At at) → at.0 ≤ from + 80 * length l
+      → StepsPut bits q W strict t n l store from lines sums ns out lines' sums' ns' out' (Ok at) → at.0 ≤ from + 80 * length l
   puts_short l store from lines sums ns out lines' sums' ns' out' at g =
       omega (arith, (done bits q W strict t n l [] store from lines sums ns out lines' sums' ns' out' at g).position, writes_short l (start_of lines sums ns))
 
 -- ---- the same, by what the first part has answered
 
 module _ {bits q W : ℕ} {strict : Bool} {t : List ℕ} {n : ℕ} {k : List Step} {store : Bool} {from : ℕ} {lines sums ns out lines₁ sums₁ ns₁ out₁ : List ℕ}
-    {r : Put}
+    {r : Result BitPosition ℕ}
     (g : StepsPut bits q W strict t n k store from lines sums ns out lines₁ sums₁ ns₁ out₁ r) where
   -- a wrong sample ends both
-  pub ends : (l : List Step) {j : ℕ} → r ≡ Wrong j → StepsPut bits q W strict t n (k ++ l) store from lines sums ns out lines₁ sums₁ ns₁ out₁ r
+  pub ends : (l : List Step) {j : ℕ} → r ≡ Err j → StepsPut bits q W strict t n (k ++ l) store from lines sums ns out lines₁ sums₁ ns₁ out₁ r
   ends l {j} e = first_wrong bits q W strict t n k l store from lines sums ns out lines₁ sums₁ ns₁ out₁ r j e g
 
-  module _ {at : BitPosition} (e : r ≡ At at) where
-    well : StepsPut bits q W strict t n k store from lines sums ns out lines₁ sums₁ ns₁ out₁ (At at)
+  module _ {at : BitPosition} (e : r ≡ Ok at) where
+    well : StepsPut bits q W strict t n k store from lines sums ns out lines₁ sums₁ ns₁ out₁ (Ok at)
     well = rw e at g
 
     -- else the second part goes on
@@ -299,7 +297,7 @@ module _ {bits q W : ℕ} {strict : Bool} {t : List ℕ} {n : ℕ} {k : List Ste
         → StepsRoom bits q W strict t n l store at.0 lines₁ sums₁ ns₁ out₁
     room_after l same h = second_room bits q W strict t n k l store from lines sums ns out lines₁ sums₁ ns₁ out₁ at well same h
 
-    pub goes_on : (l : List Step) {lines₂ sums₂ ns₂ out₂ : List ℕ} {r₂ : Put} → StepsRoom bits q W strict t n (k ++ l) store from lines sums ns out
+    pub goes_on : (l : List Step) {lines₂ sums₂ ns₂ out₂ : List ℕ} {r₂ : Result BitPosition ℕ} → StepsRoom bits q W strict t n (k ++ l) store from lines sums ns out
         → StepsPut bits q W strict t n l store at.0 lines₁ sums₁ ns₁ out₁ lines₂ sums₂ ns₂ out₂ r₂
         → StepsPut bits q W strict t n (k ++ l) store from lines sums ns out lines₂ sums₂ ns₂ out₂ r₂
     goes_on l {lines₂} {sums₂} {ns₂} {out₂} {r₂} h g₂ = together bits q W strict t n k l store from lines sums ns out lines₁ sums₁ ns₁ out₁ at well lines₂ sums₂ ns₂ out₂ r₂ h g₂
@@ -320,18 +318,18 @@ pub same_wanted : (M W : ℕ) (t : List ℕ) (n : ℕ) (k l : List Step) → k �
 same_wanted M W t n k l e h = rw e h
 
 pub same_steps : {bits q W : ℕ} {strict : Bool} {t : List ℕ} {n : ℕ} {k l : List Step} {store : Bool} {from : ℕ}
-    {lines sums ns out lines' sums' ns' out' : List ℕ} {r : Put} → k ≡ l
+    {lines sums ns out lines' sums' ns' out' : List ℕ} {r : Result BitPosition ℕ} → k ≡ l
     → StepsPut bits q W strict t n k store from lines sums ns out lines' sums' ns' out' r
     → StepsPut bits q W strict t n l store from lines sums ns out lines' sums' ns' out' r
 same_steps e g = rw e at g
 
 -- no step is due
 pub no_even : (bits q W : ℕ) (strict : Bool) (t : List ℕ) (n : ℕ) (P : Plan) (p : ℕ) (store : Bool) (from : BitPosition) (lines sums ns out : List ℕ) → W ≤ p
-    → StepsPut bits q W strict t n (even_part W P p) store from.0 lines sums ns out lines sums ns out (At from)
+    → StepsPut bits q W strict t n (even_part W P p) store from.0 lines sums ns out lines sums ns out (Ok from)
 no_even bits q W strict t n P p store from lines sums ns out h = rw (le-ltb p W h) (no_puts bits q W strict t n store from lines sums ns out)
 
 pub no_odd : (bits q W : ℕ) (strict : Bool) (t : List ℕ) (n : ℕ) (P : Plan) (p : ℕ) (store : Bool) (from : BitPosition) (lines sums ns out : List ℕ) → p < 8
-    → StepsPut bits q W strict t n (odd_part P p) store from.0 lines sums ns out lines sums ns out (At from)
+    → StepsPut bits q W strict t n (odd_part P p) store from.0 lines sums ns out lines sums ns out (Ok from)
 no_odd bits q W strict t n P p store from lines sums ns out h = rw (lt-leb 8 p h) (no_puts bits q W strict t n store from lines sums ns out)
 
 module _ (P : Plan) (W p : ℕ) where
@@ -343,7 +341,7 @@ module _ (P : Plan) (W p : ℕ) where
 
 -- and the same answer
 pub answered : {bits q W : ℕ} {strict : Bool} {t : List ℕ} {n : ℕ} {l : List Step} {store : Bool} {from : ℕ}
-    {lines sums ns out lines' sums' ns' out' : List ℕ} {r r' : Put} → r ≡ r'
+    {lines sums ns out lines' sums' ns' out' : List ℕ} {r r' : Result BitPosition ℕ} → r ≡ r'
     → StepsPut bits q W strict t n l store from lines sums ns out lines' sums' ns' out' r
     → StepsPut bits q W strict t n l store from lines sums ns out lines' sums' ns' out' r'
 answered e g = rw e at g

@@ -1,7 +1,6 @@
 -- The turns of a pass that puts its bits, and what the pass hands back. Assumes nothing.
 use mathlib.Core.Bool.{Bool, true, false}
 use mathlib.Core.List.{List, [], ◌∷◌, ◌++◌, append_assoc}
-use mathlib.Core.Option.{Option, none, some}
 use mathlib.Core.Path.{◌≡◌, refl, sym, ap, ◌∙◌}
 use Prim.Native.Nat.{ℕ, zero, suc, ◌+◌, ◌-◌, ◌*◌, ◌/◌, ◌%◌, ◌≤◌, ◌<◌}
 use native.Mathlib.Nat.{add-zero, add-suc}
@@ -16,12 +15,10 @@ use Rattle.pass_schedule.proofs.PlanLaws.{CodedIn, steps_coded}
 use Rattle.pass_schedule.proofs.TurnLaws.{turn_is, evens_le, turns_le}
 use Rattle.colour_lines.specs.Sets.{line_of_rank, index_in}
 use Rattle.write_pass.specs.Writings.{Writing, writes, write_pass}
-use Rattle.write_pass.specs.Puts.{Room, Wanted, start_of, StepsRoom, IsPut, StepsPut, wrong_at, IsPassPut}
-use Rattle.bit_output.specs.declared.Put.{Put}
-use Rattle.bit_output.specs.declared.Put.TheVariants.{At, Wrong}
-use Rattle.write_pass.specs.declared.PassPut.{PassPut}
+use Rattle.write_pass.specs.Puts.{Room, Wanted, start_of, StepsRoom, IsPut, StepsPut, IsPassPut}
 use Rattle.write_pass.proofs.SetLaws.{lines_passes}
 use Rattle.write_pass.proofs.StepPuts.{first_room, ends}
+use Rattle.std.specs.Prelude.{Err, Ok, Result, None, Option, Some}
 
 -- ---- the turns
 
@@ -118,7 +115,7 @@ module _ (bits q W : ℕ) (strict : Bool) (t : List ℕ) (n : ℕ) (P : Plan) (s
     pub room_evens : PassRoom → StepsRoom bits q W strict t n (before W P p ++ even_part W P p) store from lines sums ns out
     room_evens r = first_room bits q W strict t n (before W P p ++ even_part W P p) (odd_part P p) store from lines sums ns out (room_turn r)
 
-    module _ (lines' sums' ns' out' : List ℕ) (r : Put) (j : ℕ) (e : r ≡ Wrong j) where
+    module _ (lines' sums' ns' out' : List ℕ) (r : Result BitPosition ℕ) (j : ℕ) (e : r ≡ Err j) where
       longer : (f : ℕ → List Step) (i m : ℕ) → StepsPut bits q W strict t n (upto f i) store from lines sums ns out lines' sums' ns' out' r
           → StepsPut bits q W strict t n (upto f (i + m)) store from lines sums ns out lines' sums' ns' out' r
       unfolding upto
@@ -133,32 +130,32 @@ module _ (bits q W : ℕ) (strict : Bool) (t : List ℕ) (n : ℕ) (P : Plan) (s
 -- ---- what a pass hands back
 
 right : (o : Option ℕ) (z : Writing) (store : Bool) (from : ℕ) (out lines' sums' ns' out' : List ℕ) (at : BitPosition)
-    → IsPut o z from store out lines' sums' ns' out' (At at)
-    → IsPassPut o z from store out lines' out' (record { ok = true; wrong = 0; at = at; set = record { sums = sums'; ns = ns' } })
-right none z store from out lines' sums' ns' out' at g =
+    → IsPut o z from store out lines' sums' ns' out' (Ok at)
+    → IsPassPut o z from store out lines' out' (Ok (record { at = at; set = record { sums = sums'; ns = ns' } }))
+right None z store from out lines' sums' ns' out' at g =
     let e : at ≡ record { 0 = from + length z.bits } = cc in
-    record { ok = refl; lines = g.1; records = g.2; at = e; output = g.3 }
-right (some j) z store from out lines' sums' ns' out' at g = let no : ◌≡◌ {A = ℕ} 0 1 = cc in absurd (omega arith)
+    record { lines = g.1; records = g.2; at = e; output = g.3 }
+right (Some j) z store from out lines' sums' ns' out' at g = let no : ◌≡◌ {A = ℕ} 0 1 = cc in absurd (omega arith)
 
-mistaken : (o : Option ℕ) (z : Writing) (store : Bool) (from : ℕ) (out lines' sums' ns' out' : List ℕ) (r : Put) (j : ℕ) (q : PassPut)
-    → IsPut o z from store out lines' sums' ns' out' r
-    → r ≡ Wrong j → q.ok ≡ false → q.wrong ≡ wrong_at r → IsPassPut o z from store out lines' out' q
-mistaken none z store from out lines' sums' ns' out' r j q g e f w = let no : ◌≡◌ {A = ℕ} 0 1 = cc in absurd (omega arith)
-mistaken (some i) z store from out lines' sums' ns' out' r j q g e f w = record { ok = f; index = w ∙ ap (λ (x : Put). wrong_at x) g.0; output = g.1 }
+mistaken : (o : Option ℕ) (z : Writing) (store : Bool) (from : ℕ) (out lines' sums' ns' out' : List ℕ) (r : Result BitPosition ℕ) (j : ℕ)
+    → IsPut o z from store out lines' sums' ns' out' r → r ≡ Err j → IsPassPut o z from store out lines' out' (Err j)
+mistaken None z store from out lines' sums' ns' out' r j g e = let no : ◌≡◌ {A = ℕ} 0 1 = cc in absurd (omega arith)
+mistaken (Some i) z store from out lines' sums' ns' out' r j g e =
+    let same : j ≡ i = cc in
+    record { index = rw same; output = g.1 }
 
-module _ {bits q W : ℕ} {strict : Bool} {t : List ℕ} {n : ℕ} (P : Plan) {store : Bool} {from : ℕ} {lines sums ns out lines' sums' ns' out' : List ℕ} {r : Put}
+module _ {bits q W : ℕ} {strict : Bool} {t : List ℕ} {n : ℕ} (P : Plan) {store : Bool} {from : ℕ} {lines sums ns out lines' sums' ns' out' : List ℕ} {r : Result BitPosition ℕ}
     (g : StepsPut bits q W strict t n (pass_steps W P) store from lines sums ns out lines' sums' ns' out' r) where
-  pub pass_right : {at : BitPosition} → r ≡ At at → let z = write_pass bits q W strict t n P (start_of lines sums ns) in
-      IsPassPut z.wrong z from store out lines' out' (record { ok = true; wrong = 0; at = at; set = record { sums = sums'; ns = ns' } })
+  pub pass_right : {at : BitPosition} → r ≡ Ok at → let z = write_pass bits q W strict t n P (start_of lines sums ns) in
+      IsPassPut z.wrong z from store out lines' out' (Ok (record { at = at; set = record { sums = sums'; ns = ns' } }))
   unfolding write_pass
   pass_right {at} e =
       let z : Writing = writes bits q W strict t n (pass_steps W P) (start_of lines sums ns) in
       right z.wrong z store from out lines' sums' ns' out' at (rw e at g.are)
 
-  pub pass_wrong : {j : ℕ} (y : PassPut) → r ≡ Wrong j → y.ok ≡ false → y.wrong ≡ wrong_at r
-      → let z = write_pass bits q W strict t n P (start_of lines sums ns) in
-      IsPassPut z.wrong z from store out lines' out' y
+  pub pass_wrong : {j : ℕ} → r ≡ Err j → let z = write_pass bits q W strict t n P (start_of lines sums ns) in
+      IsPassPut z.wrong z from store out lines' out' (Err j)
   unfolding write_pass
-  pass_wrong {j} y e f w =
+  pass_wrong {j} e =
       let z : Writing = writes bits q W strict t n (pass_steps W P) (start_of lines sums ns) in
-      mistaken z.wrong z store from out lines' sums' ns' out' r j y g.are e f w
+      mistaken z.wrong z store from out lines' sums' ns' out' r j g.are e

@@ -1,7 +1,6 @@
 -- Writing by itself: the two ways in which a step goes, steps that are put together, and bits that are only added to. Assumes nothing.
 use mathlib.Core.Bool.{Bool, true, false, cond}
 use mathlib.Core.List.{List, [], ◌∷◌, ◌++◌, append_assoc, append-nil}
-use mathlib.Core.Option.{Option, none, some}
 use mathlib.Core.Path.{◌≡◌, refl}
 use Prim.Native.Nat.{ℕ}
 use lib.ListN.{get_or}
@@ -12,6 +11,7 @@ use Rattle.pass_schedule.specs.Steps.{Step, pass_steps}
 use Rattle.pass_schedule.specs.declared.Plan.{Plan}
 use Rattle.colour_lines.specs.Sets.{index_in}
 use Rattle.write_pass.specs.Writings.{Writing, or_second, pass_over, put_code, write_step, writes, write_pass}
+use Rattle.std.specs.Prelude.{None, Option, Some}
 
 -- ---- one step
 
@@ -84,18 +84,18 @@ module _ (bits q W : ℕ) (strict : Bool) (t : List ℕ) (n : ℕ) where
 
   -- ---- the first wrong sample stays
 
-  first_none_lem : (a b : Option ℕ) → or_second a b ≡ none → a ≡ none
-  first_none_lem none b e = refl
-  first_none_lem (some i) b e = e
+  first_none_lem : (a b : Option ℕ) → or_second a b ≡ None → a ≡ None
+  first_none_lem None b e = refl
+  first_none_lem (Some i) b e = e
 
-  pub step_right : (x : Step) (r : Writing) → (write_step bits q W strict t n x r).wrong ≡ none → r.wrong ≡ none
+  pub step_right : (x : Step) (r : Writing) → (write_step bits q W strict t n x r).wrong ≡ None → r.wrong ≡ None
   step_right x r e = go x.coded refl
     where
-      go : (b : Bool) → x.coded ≡ b → r.wrong ≡ none
+      go : (b : Bool) → x.coded ≡ b → r.wrong ≡ None
       go true c = rw (write_coded bits q W strict t n x r c) at e
       go false c = first_none_lem r.wrong _ (rw (write_interpolated bits q W strict t n x r c) at e)
 
-  pub writes_right : (k : List Step) (r : Writing) → (writes bits q W strict t n k r).wrong ≡ none → r.wrong ≡ none
+  pub writes_right : (k : List Step) (r : Writing) → (writes bits q W strict t n k r).wrong ≡ None → r.wrong ≡ None
   unfolding writes
   writes_right [] r e = e
   writes_right (x ∷ k) r e = step_right x r (writes_right k (write_step bits q W strict t n x r) e)

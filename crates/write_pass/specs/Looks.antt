@@ -1,6 +1,5 @@
 -- Inside. What looking at a lossless set finds: that writing meets no wrong sample, and the colour lines that it leaves.
-use Rattle.std.specs.Prelude.{Bool, true, false, List, ◌≡◌, ℕ, ◌+◌, ◌*◌, ◌%◌, ◌^◌, ◌≤◌, ◌<◌, length, get_or, set}
-use Rattle.std.proofs.Math.Option.{none}
+use Rattle.std.specs.Prelude.{Bool, true, false, List, ◌≡◌, ℕ, ◌+◌, ◌*◌, ◌%◌, ◌^◌, ◌≤◌, ◌<◌, length, get_or, set, None}
 use Rattle.statistics.specs.declared.Record.{Record}
 use Rattle.quantiser.specs.Quantisers.{largest}
 use Rattle.pass_schedule.specs.Steps.{Step, pass_steps, step_place}
@@ -21,8 +20,8 @@ pub record SampleLooked (W : ℕ) (t : List ℕ) (n : ℕ) (x : Step) (lines lin
 abbrev pub Right : (bits W : ℕ) (t : List ℕ) (n : ℕ) (l : List Step) (lines lines' : List ℕ) → Type 0
 Right bits W t n l lines lines' =
     (s : List Record) (b : List Bool)
-    → let z = writes bits 0 W true t n l (record { lines = lines; set = s; bits = b; wrong = none }) in
-    (z.lines ≡ lines') × (z.wrong ≡ none)
+    → let z = writes bits 0 W true t n l (record { lines = lines; set = s; bits = b; wrong = None }) in
+    (z.lines ≡ lines') × (z.wrong ≡ None)
 
 -- what some steps at a position ask for
 pub record LookAsks (spot : Spot) (t : List ℕ) (n : ℕ) (l : List Step) (lines : List ℕ) : Type 0 where

@@ -1,6 +1,5 @@
 -- Inside. What the functions of writing do to the output, and what they hand back.
-use Rattle.std.specs.Prelude.{Bool, true, false, cond, List, [], ◌∷◌, ◌≡◌, ℕ, ◌+◌, ◌-◌, ◌*◌, ◌/◌, ◌%◌, ◌^◌, ◌≤◌, ◌<◌, ltb, length, get_or, set}
-use Rattle.std.proofs.Math.Option.{Option, none, some}
+use Rattle.std.specs.Prelude.{Bool, true, false, cond, List, [], ◌∷◌, ◌≡◌, ℕ, ◌+◌, ◌-◌, ◌*◌, ◌/◌, ◌%◌, ◌^◌, ◌≤◌, ◌<◌, ltb, length, get_or, set, Err, Ok, Result, None, Option, Some, IsOkAnd, IfOk}
 use Rattle.bits.specs.Inside.{bytes_for}
 use Rattle.bits.specs.declared.BitPosition.{BitPosition}
 use Rattle.statistics.specs.Statistics.{k_of, updated}
@@ -22,9 +21,7 @@ use Rattle.pass_steps.specs.declared.Spot.{Spot}
 use Rattle.colour_lines.specs.Sets.{line_size, index_in}
 use Rattle.write_pass.specs.Writings.{Writing, wanted_code, given_sample, writes, write_pass}
 use Rattle.write_pass.specs.declared.Coding.{Coding}
-use Rattle.bit_output.specs.declared.Put.{Put}
-use Rattle.bit_output.specs.declared.Put.TheVariants.{At, Wrong}
-use Rattle.write_pass.specs.declared.PassPut.{PassPut}
+use Rattle.write_pass.specs.declared.Written.{Written}
 
 -- the bits of a tight code as one number, zeros before it
 unfoldable pub code_number : ℕ → ℕ → ℕ → ℕ → ℕ
@@ -84,7 +81,7 @@ pub record CodedAs (bits q p : ℕ) (x : Context) (v : ℕ) (r : Coding) : Type 
 
 -- what a program holds, where no bit is written yet
 abbrev pub start_of : List ℕ → List ℕ → List ℕ → Writing
-start_of lines sums ns = record { lines = lines; set = zip_records sums ns; bits = []; wrong = none }
+start_of lines sums ns = record { lines = lines; set = zip_records sums ns; bits = []; wrong = None }
 
 -- the samples of these steps that have a code are up to M
 abbrev pub Wanted : ℕ → ℕ → List ℕ → ℕ → List Step → Type 0
@@ -118,25 +115,20 @@ pub record StepsAsk (spot : Spot) (q : ℕ) (strict : Bool) (totals raws limits 
 
 -- what some steps hand back, whose writing from no bits on is z: the position after their bits, or the first interpolated sample that is not its
 -- prediction; then the lines and the set are left free, and so is the output where it is stored
-abbrev pub IsPut : Option ℕ → Writing → ℕ → Bool → (out lines' sums' ns' out' : List ℕ) → Put → Type 0
-IsPut none z from store out lines' sums' ns' out' r =
-    (r ≡ At (record { 0 = from + length z.bits })) × (lines' ≡ z.lines) × (zip_records sums' ns' ≡ z.set) × (out' ≡ put_if store out from z.bits)
-IsPut (some j) z from store out lines' sums' ns' out' r = (r ≡ Wrong j) × (store ≡ false → out' ≡ out)
+abbrev pub IsPut : Option ℕ → Writing → ℕ → Bool → (out lines' sums' ns' out' : List ℕ) → Result BitPosition ℕ → Type 0
+IsPut None z from store out lines' sums' ns' out' r =
+    (r ≡ Ok (record { 0 = from + length z.bits })) × (lines' ≡ z.lines) × (zip_records sums' ns' ≡ z.set) × (out' ≡ put_if store out from z.bits)
+IsPut (Some j) z from store out lines' sums' ns' out' r = (r ≡ Err j) × (store ≡ false → out' ≡ out)
 
 pub record StepsPut (bits q W : ℕ) (strict : Bool) (t : List ℕ) (n : ℕ) (l : List Step) (store : Bool) (from : ℕ)
-    (lines sums ns out lines' sums' ns' out' : List ℕ) (r : Put) : Type 0 where
+    (lines sums ns out lines' sums' ns' out' : List ℕ) (r : Result BitPosition ℕ) : Type 0 where
   pub are : let z = writes bits q W strict t n l (start_of lines sums ns) in IsPut z.wrong z from store out lines' sums' ns' out' r
-
--- the index of the wrong sample, 0 where there is none
-abbrev pub wrong_at : Put → ℕ
-wrong_at (At p) = 0
-wrong_at (Wrong j) = j
 
 -- ---- a pass
 
 -- what it starts with
 abbrev pub begun_writing : List ℕ → Set → Writing
-begun_writing lines s = record { lines = lines; set = records_of s; bits = []; wrong = none }
+begun_writing lines s = record { lines = lines; set = records_of s; bits = []; wrong = None }
 
 pub record WriteAsks (bits W : ℕ) (P : Plan) (qs : Quantisers) (strict : Bool) (t : List ℕ) (n : ℕ) (store : Bool) (from : BitPosition) (lines : List ℕ)
     (s : Set) (out : List ℕ) : Type 0 where
@@ -157,23 +149,21 @@ pub record WriteAsks (bits W : ℕ) (P : Plan) (qs : Quantisers) (strict : Bool)
   pub room : Room store out from.0 (write_pass bits qs.base W strict t n P (begun_writing lines s)).bits
 
 -- where every interpolated sample is its prediction, by the writing z
-pub record IsWritten (z : Writing) (from : ℕ) (store : Bool) (out lines' out' : List ℕ) (r : PassPut) : Type 0 where
-  pub ok : r.ok ≡ true
+pub record IsWritten (z : Writing) (from : ℕ) (store : Bool) (out lines' out' : List ℕ) (p : Written) : Type 0 where
   pub lines : lines' ≡ z.lines
-  pub records : records_of r.set ≡ z.set
-  pub at : r.at ≡ record { 0 = from + length z.bits }
+  pub records : records_of p.set ≡ z.set
+  pub at : p.at ≡ record { 0 = from + length z.bits }
   pub output : out' ≡ put_if store out from z.bits
 
--- where the sample at index j is the first that is not. Then the position, the lines and the set are left free, and so is the output where it is stored
-pub record IsWrong (j : ℕ) (store : Bool) (out out' : List ℕ) (r : PassPut) : Type 0 where
-  pub ok : r.ok ≡ false
-  pub index : r.wrong ≡ j
+-- where the sample at index j is the first that is not. Then the lines are left free, and so is the output where it is stored
+pub record IsWrong (j : ℕ) (store : Bool) (out out' : List ℕ) (r : Result Written ℕ) : Type 0 where
+  pub index : r ≡ Err j
   pub output : store ≡ false → out' ≡ out
 
-abbrev pub IsPassPut : Option ℕ → Writing → ℕ → Bool → (out lines' out' : List ℕ) → PassPut → Type 0
-IsPassPut none z from store out lines' out' r = IsWritten z from store out lines' out' r
-IsPassPut (some j) z from store out lines' out' r = IsWrong j store out out' r
+abbrev pub IsPassPut : Option ℕ → Writing → ℕ → Bool → (out lines' out' : List ℕ) → Result Written ℕ → Type 0
+IsPassPut None z from store out lines' out' r = IsOkAnd r (λ p. IsWritten z from store out lines' out' p)
+IsPassPut (Some j) z from store out lines' out' r = IsWrong j store out out' r
 
-pub record WriteGives (z : Writing) (store : Bool) (from : BitPosition) (out lines' out' : List ℕ) (r : PassPut) : Type 0 where
+pub record WriteGives (z : Writing) (store : Bool) (from : BitPosition) (out lines' out' : List ℕ) (r : Result Written ℕ) : Type 0 where
   pub answer : IsPassPut z.wrong z from.0 store out lines' out' r
-  pub records : SetInRange (records_of r.set)
+  pub records : IfOk r (λ p. SetInRange (records_of p.set))

@@ -1,7 +1,6 @@
 -- Rules. Writing: what a step makes of the colour lines and the records of its set, and the bits that it adds. The samples wanted are those of a set;
 -- predictions come from the samples as they will read back, by the rules of reading. A lossless line has base 0. Assumes nothing.
-use Rattle.std.specs.Prelude.{Bool, cond, not, ◌&&◌, List, [], ◌∷◌, ◌++◌, ℕ, ◌+◌, eqb, get_or, set}
-use Rattle.std.proofs.Math.Option.{Option, none, some}
+use Rattle.std.specs.Prelude.{Bool, cond, not, ◌&&◌, List, [], ◌∷◌, ◌++◌, ℕ, ◌+◌, eqb, get_or, set, None, Option, Some}
 use Rattle.statistics.specs.Statistics.{k_of, updated}
 use Rattle.statistics.specs.declared.Record.{Record}
 use Rattle.quantiser.specs.Quantisers.{largest}
@@ -25,8 +24,8 @@ pub record Writing : Type 0 where
 
 -- the first of two, if there is one
 abbrev pub or_second : Option ℕ → Option ℕ → Option ℕ
-or_second none b = b
-or_second (some a) b = some a
+or_second None b = b
+or_second (Some a) b = Some a
 
 -- an interpolated sample has no code, and is its prediction. Where the set is held to that, its sample v, at index j, must be the same
 abbrev pub pass_over : Bool → ℕ → ℕ → ℕ → Context → Writing → Writing
@@ -35,7 +34,7 @@ pass_over strict i j v x r =
       lines = set r.lines (i + 1) x.prediction;
       set = r.set;
       bits = r.bits;
-      wrong = or_second r.wrong (cond (strict && not (eqb v x.prediction)) (some j) none);
+      wrong = or_second r.wrong (cond (strict && not (eqb v x.prediction)) (Some j) None);
     }
 
 -- the code of the sample nearest to v, of which h says how it is coded in a line with base q

@@ -15,9 +15,8 @@ ghost use Rattle.pass_steps.specs.Values.{zip_records, SetInRange, AreKs};
 ghost use Rattle.pass_steps.specs.Contexts.{Depth};
 ghost use Rattle.colour_lines.specs.Sets.{rank_of, index_in, line_size};
 ghost use Rattle.write_pass.specs.Writings.{write_pass};
-ghost use Rattle.write_pass.specs.Puts.{code_number, put_if, Room, CodingAsks, CodedAs, StepsAsk, StepsPut, wrong_at, begun_writing, WriteAsks, WriteGives};
+ghost use Rattle.write_pass.specs.Puts.{code_number, put_if, Room, CodingAsks, CodedAs, StepsAsk, StepsPut, begun_writing, WriteAsks, WriteGives};
 
-use bit_output::Put;
 use bits::BitPosition;
 use pass_schedule::Plan;
 use pass_steps::{Quantisers, Set, Spot};
@@ -27,23 +26,11 @@ mod looking;
 
 pub use looking::look_pass;
 
-// A pass: the position after it and its set; or the index of a wrong sample.
+// What a pass of writing hands back: the position after it, and its set.
 #[derive(Clone, Copy)]
-pub struct PassPut {
-    pub ok: bool,
-    pub wrong: usize,
+pub struct Written {
     pub at: BitPosition,
     pub set: Set,
-}
-
-// The index of the wrong sample, 0 where there is none.
-fn wrong_at(x: Put) -> usize
-    ensures { result ≡ wrong_at x }
-{
-    match x {
-        Put::At(_) => 0,
-        Put::Wrong(j) => j,
-    }
 }
 
 // ---- codes
@@ -252,7 +239,7 @@ fn write_even(
     totals: &[u32; 4],
     raws: &[u32; 4],
     limits: &[u32; 4],
-) -> Put
+) -> Result<BitPosition, usize>
     requires steps_ask { StepsAsk spot base strict totals.now raws.now limits.now samples.now n (even_part spot.w spot.plan spot.p) store from
         lines.old sums.old ns.old out.old }
     requires are_ks { AreKs (zip_records sums.old ns.old) ks.old }
@@ -265,7 +252,7 @@ fn write_even(
     let w = spot.w;
     let p = spot.p;
     if p >= w {
-        return Put::At(from);
+        return Ok(from);
     }
     let plan = spot.plan;
     let mut at = from;
@@ -290,7 +277,7 @@ fn write_even(
         pass_steps::update_with_k(sums, ns, ks, c.slot, old, c.code);
     } else {
         if is_wrong(strict, v, x.prediction) {
-            return Put::Wrong(j);
+            return Err(j);
         }
         lines[i + 1] = x.prediction as u16;
     }
@@ -315,11 +302,11 @@ fn write_even(
         pass_steps::update_with_k(sums, ns, ks, c.slot, old, c.code);
     } else {
         if is_wrong(strict, v, x.prediction) {
-            return Put::Wrong(j);
+            return Err(j);
         }
         lines[i + 1] = x.prediction as u16;
     }
-    Put::At(at)
+    Ok(at)
 }
 
 // The two samples at the odd position p - 7, once positions 0 to 8 are done.
@@ -339,7 +326,7 @@ fn write_odd(
     totals: &[u32; 4],
     raws: &[u32; 4],
     limits: &[u32; 4],
-) -> Put
+) -> Result<BitPosition, usize>
     requires steps_ask { StepsAsk spot base strict totals.now raws.now limits.now samples.now n (odd_part spot.plan spot.p) store from
         lines.old sums.old ns.old out.old }
     requires p_bound { spot.p < spot.w + 7 }
@@ -353,7 +340,7 @@ fn write_odd(
     let w = spot.w;
     let p = spot.p;
     if p < 8 {
-        return Put::At(from);
+        return Ok(from);
     }
     let q = p - 7;
     let plan = spot.plan;
@@ -393,10 +380,11 @@ fn write_odd(
         c.code,
     );
     pass_steps::update_with_k(sums, ns, ks, c.slot, old, c.code);
-    Put::At(after)
+    Ok(after)
 }
 
-// A pass, with the turns of reading: the even position p, and then the odd one at p - 7.
+// A pass, with the turns of reading: the even position p, and then the odd one at p - 7. The error is the index in the set of an interpolated sample
+// that is not its prediction.
 pub fn write_pass(
     samples: &[u16],
     n: usize,
@@ -410,7 +398,7 @@ pub fn write_pass(
     qs: Quantisers,
     bits: u32,
     strict: bool,
-) -> PassPut
+) -> Result<Written, usize>
     requires { WriteAsks bits w plan qs strict samples.now n store from lines.old set out.old }
     ensures { WriteGives (write_pass bits qs.base w strict samples.now n plan (begun_writing lines.old set)) store from
         out.old lines.new out.new result }
@@ -426,7 +414,7 @@ pub fn write_pass(
     // Not `step_by(2)`, as in `look_pass`.
     let mut p = 0;
     while p < w + 8 {
-        let evens = write_even(
+        let between = write_even(
             samples,
             n,
             out,
@@ -442,16 +430,8 @@ pub fn write_pass(
             &totals,
             &raws,
             &limits,
-        );
-        let Put::At(between) = evens else {
-            return PassPut {
-                ok: false,
-                wrong: wrong_at(evens),
-                at,
-                set: Set { sums, ns },
-            };
-        };
-        let odds = write_odd(
+        )?;
+        at = write_odd(
             samples,
             n,
             out,
@@ -467,22 +447,11 @@ pub fn write_pass(
             &totals,
             &raws,
             &limits,
-        );
-        let Put::At(after) = odds else {
-            return PassPut {
-                ok: false,
-                wrong: wrong_at(odds),
-                at,
-                set: Set { sums, ns },
-            };
-        };
-        at = after;
+        )?;
         p += 2;
     }
-    PassPut {
-        ok: true,
-        wrong: 0,
+    Ok(Written {
         at,
         set: Set { sums, ns },
-    }
+    })
 }

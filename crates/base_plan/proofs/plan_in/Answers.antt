@@ -6,26 +6,25 @@ use mathlib.Core.Path.{◌≡◌, ◌∙◌}
 use Prim.Native.Nat.{ℕ}
 use lib.ListN.{length}
 use Rattle.stream.specs.declared.header.FujiHeader.{FujiHeader}
-use Rattle.stream.specs.declared.header.Parsed.TheVariants.{Header}
 use Rattle.stream.specs.declared.header.Refusal.TheVariants.{Lossless, WrongBases}
 use Rattle.base_plan.specs.Plans.{plan_answer, answer_in, BasesAfter}
-use Rattle.base_plan.specs.declared.Planned.{Planned}
-use Rattle.base_plan.specs.declared.Planned.TheVariants.{Refused}
 use Rattle.base_plan.proofs.AnswerLaws.{unchanged}
 use Rattle.base_plan.proofs.plan_in.Goals as goal
+use Rattle.std.specs.Prelude.{Err, Ok, Result}
+use Rattle.stream.specs.declared.header.Refusal.{Refusal}
 
 module _ (h : FujiHeader) (d bases : List ℕ) where
-  abbrev Promised : Planned → List ℕ → Type 0
-  Promised r bases' = (r ≡ answer_in d (length bases) (Header h)) × BasesAfter d bases bases' r
+  abbrev Promised : Result Unit Refusal → List ℕ → Type 0
+  Promised r bases' = (r ≡ answer_in d (length bases) (Ok h)) × BasesAfter d bases bases' r
 
-  lossless : h.lossless ≡ true → Promised (Refused Lossless) bases
+  lossless : h.lossless ≡ true → Promised (Err Lossless) bases
   lossless e = (rw e, unchanged d bases Lossless)
 
   module _ (e : h.lossless ≡ false) where
-    planned : length bases ≡ h.lines → (r : Planned) (bases' : List ℕ) → r ≡ plan_answer d (length bases) → BasesAfter d bases bases' r → Promised r bases'
+    planned : length bases ≡ h.lines → (r : Result Unit Refusal) (bases' : List ℕ) → r ≡ plan_answer d (length bases) → BasesAfter d bases bases' r → Promised r bases'
     planned f r bases' is after = (is ∙ rw (e, eq-eqb (length bases) h.lines f, f), after)
 
-    wrong : (length bases ≡ h.lines → ⊥) → Promised (Refused WrongBases) bases
+    wrong : (length bases ≡ h.lines → ⊥) → Promised (Err WrongBases) bases
     wrong f = (rw (e, ne_eqb (length bases) h.lines f), unchanged d bases WrongBases)
 
 pub returns-then-lossless : goal.returns-then-lossless

@@ -4,8 +4,6 @@ use mathlib.Core.List.{List}
 use Prim.Native.Nat.{ℕ, ◌+◌, ◌-◌, ◌*◌, ◌/◌, ◌%◌, ◌^◌, ◌≤◌}
 use native.Mathlib.Nat.{le_refl, sub_self}
 use native.Mathlib.Omega.{arith}
-use lib.Count.{leading_le}
-use mir.Facts.{Fits-below}
 use Rattle.bits.specs.Bits.{bits_at}
 use Rattle.bits.proofs.BitLaws.{shifted_window}
 use Rattle.bits.proofs.RunLaws.{zero_join, window_one, window_none, run_one, run_none}
@@ -26,42 +24,14 @@ again s p q from next le f n h k =
     let g : p + (q - p) ≡ q = omega arith in
     (omega arith, omega arith, rw e (zero_join s p (q - p) ((q / 8 + 8) * 8 - q) h (rw g k)))
 
-pub byte-from-requires : goal.byte-from-requires
-byte-from-requires c = tt
-
 pub loop-from-init : goal.loop-from-init
 unfolding bits_at
 loop-from-init c = (le_refl _, c.byte-from.ensures, rw sub_self)
-
-pub window-requires : goal.window-requires
-window-requires c = omega (arith, c.loop-from.invariant)
-
-pub overflow_shl-w : goal.overflow_shl-w
-overflow_shl-w c = omega (arith, c.loop-from.invariant)
-
-pub overflow_sub-result : goal.overflow_sub-result
-overflow_sub-result c = omega (arith, c.requires)
-
-pub overflow_cast-result : goal.overflow_cast-result
-overflow_cast-result c = Fits-below {n = 64} tt (leading_le 64 _)
-
-pub overflow_add-result : goal.overflow_add-result
-overflow_add-result c =
-    omega (arith, leading_le 64 (word c.window.result c.loop-from.here.0))
 
 pub returns-then-w-ne0 : goal.returns-then-w-ne0
 returns-then-w-ne0 c =
     let o = window_one _ c.loop-from.here.0 _ (is_word _ c.loop-from.here.0 _ _ c.loop-from.invariant.1 c.window.ensures) c.if-w-ne0.true in
     run_one _ _ c.loop-from.here.0 _ c.loop-from.invariant.0 c.loop-from.invariant.2 o.0 o.1
-
-pub overflow_add-from : goal.overflow_add-from
-overflow_add-from c = omega (arith, c.loop-from.invariant)
-
-pub first_bit-here-requires : goal.first_bit-here-requires
-first_bit-here-requires c = omega (arith, c.loop-from.invariant)
-
-pub loop-from-smaller : goal.loop-from-smaller
-loop-from-smaller c = omega (arith, c.requires)
 
 pub loop-from-preserved : goal.loop-from-preserved
 loop-from-preserved c =

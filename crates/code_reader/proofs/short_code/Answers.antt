@@ -10,11 +10,11 @@ use Rattle.bits.specs.Inside.{word_at}
 use Rattle.bits.proofs.RunLaws.{run_inside}
 use Rattle.code.specs.Codes.{short_code}
 use Rattle.code.specs.Inside.{short_at}
-use Rattle.code.specs.declared.Short.TheVariants as Brief
 use Rattle.code.proofs.CodeLaws.{short_lt, shifted}
 use Rattle.code_reader.proofs.ShortLaws.{Window, window}
 use Rattle.code_reader.proofs.short_code.Goals as goal
 use Rattle.code_reader.proofs.short_code.Goals.{Else-limit-zeros}
+use Rattle.std.specs.Prelude.{None, Some}
 
 module _ (s : List ℕ) (p k limit w z : ℕ) (i : Window s p k w z) (hk : k ≤ 15) (hl : limit < 64) (h : z < limit) where
   abbrev value : ℕ
@@ -30,21 +30,21 @@ module _ (s : List ℕ) (p k limit w z : ℕ) (i : Window s p k w z) (hk : k ≤
 
 -- ---- the four answers
 module _ (M k limit : ℕ) (s : List ℕ) (p w : ℕ) (e : w ≡ word_at s p) where
-  no_word : w < 2 ^ 22 → Brief.Other ≡ short_at M k limit s p
+  no_word : w < 2 ^ 22 → None ≡ short_at M k limit s p
   unfolding short_at
   no_word h = rw (lt-leb (2 ^ 22) (word_at s p) (rw e at h))
 
-  too_many : 2 ^ 22 ≤ w → limit ≤ count_leading_zeros 64 w → Brief.Other ≡ short_at M k limit s p
+  too_many : 2 ^ 22 ≤ w → limit ≤ count_leading_zeros 64 w → None ≡ short_at M k limit s p
   unfolding short_at
   too_many h l = rw (le-leb (2 ^ 22) (word_at s p) (rw e at h), le-ltb (count_leading_zeros 64 (word_at s p)) limit (rw e at l))
 
   module _ (v : ℕ) (h : 2 ^ 22 ≤ w) (l : count_leading_zeros 64 w < limit) (ev : v ≡ (short_code s p k (count_leading_zeros 64 w)).value) where
-    too_large : M < v → Brief.Other ≡ short_at M k limit s p
+    too_large : M < v → None ≡ short_at M k limit s p
     unfolding short_at
     too_large g =
         rw (le-leb (2 ^ 22) (word_at s p) (rw e at h), lt-ltb (count_leading_zeros 64 (word_at s p)) limit (rw e at l), lt-leb (short_code s p k (count_leading_zeros 64 (word_at s p))).value M (rw (ev, e) at g))
 
-    found : v ≤ M → Brief.Code v (record { 0 = p + (count_leading_zeros 64 w + 1 + k) }) ≡ short_at M k limit s p
+    found : v ≤ M → Some (v, (record { 0 = p + (count_leading_zeros 64 w + 1 + k) })) ≡ short_at M k limit s p
     unfolding short_at
     found g =
         let at : p + (count_leading_zeros 64 w + 1 + k) ≡ p + count_leading_zeros 64 w + 1 + k = omega arith in

@@ -7,39 +7,30 @@ use native.Mathlib.Omega.{arith}
 use Rattle.code.specs.Inside.{Bounds, Small}
 use Rattle.code.specs.Inside.{taken_of}
 use Rattle.code.specs.declared.Code.{Code}
-use Rattle.code.specs.declared.Coded.{Coded}
-use Rattle.code.specs.declared.Coded.TheVariants.{Read, Truncated}
-use Rattle.code.specs.declared.Taken.{Taken}
-use Rattle.code.specs.declared.Taken.TheVariants as Take
 use Rattle.code.proofs.CodeLaws.{code_shape}
 use Rattle.code_reader.proofs.take_any.Goals as goal
+use Rattle.std.specs.Prelude.{None, Option, Some}
+use Rattle.code.specs.declared.Place.{Place}
 
-module _ (M : ℕ) (tight : Bool) (long : ℕ) (o got : Coded) (is : got ≡ o) where
-  cut_off : got ≡ Truncated → (Take.Truncated ≡ taken_of M tight long o) × Small Take.Truncated
+module _ (M : ℕ) (tight : Bool) (long : ℕ) (o got : Option Code) (is : got ≡ o) where
+  cut_off : got ≡ None → (None ≡ taken_of M tight long o) × Small None
   cut_off e = (rw (sym is ∙ e), tt)
 
-  read : (s : List ℕ) (c : Code) (r : Taken) → got ≡ Read c → Bounds s got → r ≡ taken_of M tight long (Read c)
+  read : (s : List ℕ) (c : Code) (r : Option (ℕ × Place)) → got ≡ Some c → Bounds s got → r ≡ taken_of M tight long (Some c)
       → (r ≡ taken_of M tight long o) × Small r
   read s c r e bounds f = (rw (sym is ∙ e) f, rw f (rw e at bounds).0)
 
-pub returns-in_default : goal.returns-in_default
-returns-in_default c =
-    cut_off _ _ _ _ _ c.read_code-got.ensures.0 c.in_default.is
+pub returns-in_err-c : goal.returns-in_err-c
+returns-in_err-c c = rw c.from_residual.ensures (cut_off _ _ _ _ _ c.read_code.ensures.0 c.in_err-c.was)
 
 pub take-requires : goal.take-requires
 take-requires c =
-    let shape = code_shape _ _ _ _ _ _ (sym c.read_code-got.ensures.0 ∙ c.in-Read.is) in
+    let shape = code_shape _ _ _ _ _ _ (sym c.read_code.ensures.0 ∙ c.in_ok-c.was) in
     omega (arith, shape.inside, c.requires.s_len_bound.0, c.requires.long_le_at)
 
 pub returns : goal.returns
 returns c =
-    read _ _ _ _ _ c.read_code-got.ensures.0 _ _ _ c.in-Read.is c.read_code-got.ensures.1 c.take.ensures
+    read _ _ _ _ _ c.read_code.ensures.0 _ _ _ c.in_ok-c.was c.read_code.ensures.1 c.take.ensures
 
-pub read_code-got-requires : goal.read_code-got-requires
-read_code-got-requires c = omega (arith, c.requires)
-
-pub enum_known-got : goal.enum_known-got
-enum_known-got c = c.in-Read.in-Read-own.keys1
-
-pub enum_told-1 : goal.enum_told-1
-enum_told-1 c = c.in_default.in_default-own.keys2
+pub read_code-requires : goal.read_code-requires
+read_code-requires c = omega (arith, c.requires)

@@ -12,18 +12,18 @@ use Rattle.read_pass.proofs.pass.Goals as goal
 use Rattle.read_pass.proofs.pass.Goals.{After-min-n, In-loop-i}
 
 -- there are no more long codes than bits
-counted : (c : In-loop-i) → c.loop-i.long ≤ c.loop-i.at.0
+counted : (c : In-loop-i) → c.loop-i.place.long ≤ c.loop-i.place.at.0
 counted c =
     (reads_keep _ _ _ _ c.requires.depth.1 _ _ _ c.loop-i.invariant.read.are).counted c.requires.counted
 
 -- its turns: they are more than none, and the next ones begin behind them
-record Some (c : After-min-n) : Type 0 where
+record Turned (c : After-min-n) : Type 0 where
   most : c.min-n.result ≤ 48
   ends : 96 * c.loop-i.i + 2 * c.min-n.result ≤ c.args.w + 8
   here : min (96 * c.loop-i.i) (c.args.w + 8) ≡ 96 * c.loop-i.i
   next : 96 * c.loop-i.i + 2 * c.min-n.result ≡ min (96 * (c.loop-i.i + 1)) (c.args.w + 8)
 
-turns : (c : After-min-n) → Some c
+turns : (c : After-min-n) → Turned c
 turns c =
     let inside : 96 * c.loop-i.i < c.args.w + 8 = omega (arith, c.loop-i-test.true, c.div_ceil-i-end.ensures) in
     let even : (c.args.w + 8 - 96 * c.loop-i.i) % 2 ≡ 0 = omega (arith, c.requires.even) in
@@ -50,10 +50,10 @@ loop-i-init c =
       read = let none : min 0 (c.args.w + 8) ≡ 0 = omega arith in rw none no_steps;
     }
 
-pub chunk-got-requires : goal.chunk-got-requires
-chunk-got-requires c =
+pub chunk-requires : goal.chunk-requires
+chunk-requires c =
     let q = are_quantisers _ _ c.requires.quantisers in
-    let a = turns (goal.at.chunk-got-requires c).After-min-n in record {
+    let a = turns (goal.at.chunk-requires c).After-min-n in record {
       chunk_asks = record {
         holds = record {
           bytes = c.requires.bytes;
@@ -68,7 +68,7 @@ chunk-got-requires c =
           lengths = c.digits_table-digits.ensures;
           records = c.loop-i.invariant.records;
           ks_kept = c.loop-i.invariant.ks_kept;
-          counted = counted (goal.at.chunk-got-requires c).In-loop-i;
+          counted = counted (goal.at.chunk-requires c).In-loop-i;
         };
         flats = c.by_flatness-flatness.ensures;
         low = c.requires.low;
@@ -79,23 +79,23 @@ chunk-got-requires c =
       ahead = (c.fill.ensures.ahead, c.fill-in-loop-i.ensures.ahead);
     }
 
-pub returns-in_default : goal.returns-in_default
-returns-in_default c =
-    let cut = pair_was_cut_off _ _ _ _ _ _ _ _ _ c.chunk-got.ensures.answer c.in_default.is in
+pub returns-in_err-place : goal.returns-in_err-place
+returns-in_err-place c =
+    let cut = pair_was_cut_off _ _ _ _ _ _ _ _ _ c.chunk.ensures.answer c.in_err-place.was in
     record {
-      answer = passed_cut_off _ _ _ (chunk_cut_off c.args.plan _ _ (rw (turns (goal.at.returns-in_default c).After-min-n).here at c.loop-i.invariant.read) c.requires.even (turns (goal.at.returns-in_default c).After-min-n).ends cut) refl;
-      records = c.chunk-got.ensures.records;
+      answer = rw c.from_residual.ensures (passed_cut_off _ (chunk_cut_off c.args.plan _ _ (rw (turns (goal.at.returns-in_err-place c).After-min-n).here at c.loop-i.invariant.read) c.requires.even (turns (goal.at.returns-in_err-place c).After-min-n).ends cut));
+      records = rw c.from_residual.ensures tt;
     }
 
 pub loop-i-preserved : goal.loop-i-preserved
 loop-i-preserved c =
     let t = turns (goal.at.loop-i-preserved c).After-min-n in
-    let at = pair_was_at _ _ _ _ _ _ _ _ _ c.chunk-got.ensures.answer c.in-At.is in
+    let at = pair_was_at _ _ _ _ _ _ _ _ _ c.chunk.ensures.answer c.in_ok-place.was in
     record {
       even = omega (arith, c.requires.even);
-      same = c.chunk-got.auto.lines ∙ c.loop-i.invariant.same;
-      records = c.chunk-got.ensures.records;
-      ks_kept = c.chunk-got.ensures.ks_kept;
+      same = c.chunk.auto.lines ∙ c.loop-i.invariant.same;
+      records = c.chunk.ensures.records;
+      ks_kept = c.chunk.ensures.ks_kept;
       one = c.fill.ensures.out_len_2;
       two = c.fill-in-loop-i.ensures.out_len_2;
       read = rw t.next at (chunk_more c.args.plan _ _ (rw t.here at c.loop-i.invariant.read) at);

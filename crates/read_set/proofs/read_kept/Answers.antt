@@ -50,7 +50,7 @@ loop-n-preserved c = (
   omega (arith, c.read_lines-got.auto, c.loop-n.invariant.4),
   kept_more c.args.form c.args.bases.now c.args.block.now c.args.set.now c.requires.depth.0.1 c.args.count c.loop-n.n
       (omega arith) c.requires.depth.1.1 _ _ _ _ _ _ c.loop-n.invariant.5 _ _
-      (c.read_lines-got.ensures c.loop-n.lines c.loop-n.invariant.0 refl).0 _ _ c.in-Read.is
+      (c.read_lines-got.ensures c.loop-n.lines c.loop-n.invariant.0 refl).0 _ _ c.in-Ok.is
       _ c.next_place-place.ensures _ c.with_line-tight.ensures.0 _ c.width-w.ensures _ c.keep_line.ensures,
 )
 

@@ -12,35 +12,35 @@ use Rattle.read_set.proofs.read_set.Goals.{Start}
 abbrev lent : (c : Start) → Sets
 lent c = record { set = c.args.set.now; lines = c.args.lines.now; records = c.args.rs.now }
 
-pub returns-in-Refused : goal.returns-in-Refused
-returns-in-Refused c =
-    set_refused c.args.d.now c.args.b (lent (goal.at.returns-in-Refused c).Start) _ _ (sym c.set_begins-begins.ensures ∙ c.in-Refused.is) _ c.refused.ensures
+pub returns-in-Err : goal.returns-in-Err
+returns-in-Err c =
+    set_refused c.args.d.now c.args.b (lent (goal.at.returns-in-Err c).Start) _ _ (sym c.set_begins-begins.ensures ∙ c.in-Err.is) _ c.refused.ensures
 
 pub slice_bounds-read_in-end : goal.slice_bounds-read_in-end
 slice_bounds-read_in-end c =
-    let k = set_reads _ _ _ _ _ _ (sym c.set_begins-begins.ensures ∙ c.in-Header.is) in
+    let k = set_reads _ _ _ _ _ _ (sym c.set_begins-begins.ensures ∙ c.in-Ok.is) in
     search (rules, k.fits.for_lines)
 
-pub slice_bounds-read_in-end-in-Header : goal.slice_bounds-read_in-end-in-Header
-slice_bounds-read_in-end-in-Header c =
-    let k = set_reads _ _ _ _ _ _ (sym c.set_begins-begins.ensures ∙ c.in-Header.is) in
+pub slice_bounds-read_in-end-in-Ok : goal.slice_bounds-read_in-end-in-Ok
+slice_bounds-read_in-end-in-Ok c =
+    let k = set_reads _ _ _ _ _ _ (sym c.set_begins-begins.ensures ∙ c.in-Ok.is) in
     search (rules, k.fits.for_records)
 
 pub read_in-got-requires : goal.read_in-got-requires
 read_in-got-requires c =
-    let k = set_reads _ _ _ _ _ _ (sym c.set_begins-begins.ensures ∙ c.in-Header.is) in
+    let k = set_reads _ _ _ _ _ _ (sym c.set_begins-begins.ensures ∙ c.in-Ok.is) in
     record {
       d_value = k.opens;
       scratch_of = ((search rules, search rules), k.whole);
     }
 
-pub returns-in-Header : goal.returns-in-Header
-returns-in-Header c =
-    set_read_lem c.args.d.now c.args.b (lent (goal.at.returns-in-Header c).Start) _ c.in-Header.h (sym c.set_begins-begins.ensures ∙ c.in-Header.is) _ _
+pub returns-in-Ok : goal.returns-in-Ok
+returns-in-Ok c =
+    set_read_lem c.args.d.now c.args.b (lent (goal.at.returns-in-Ok c).Start) _ c.in-Ok.h (sym c.set_begins-begins.ensures ∙ c.in-Ok.is) _ _
     (record {
-      answered = c.read_answer.ensures ∙ read_told (form_of c.in-Header.h) (bases_in c.args.d.now c.args.b) (bytes_in c.args.d.now c.args.b)
-          c.in-Header.h.lines c.args.b c.read_in-got.result c.read_in-got.ensures.walked;
+      answered = c.read_answer.ensures ∙ read_told (form_of c.in-Ok.h) (bases_in c.args.d.now c.args.b) (bytes_in c.args.d.now c.args.b)
+          c.in-Ok.h.lines c.args.b c.read_in-got.result c.read_in-got.ensures.walked;
       set = c.read_in-got.ensures.set_after;
-      lines = lines_back c.in-Header.h.xtrans c.samples_needed-used.result c.args.lines.now _ c.samples_needed-used.ensures.0 c.read_in-got.ensures.lines_after.0;
+      lines = lines_back c.in-Ok.h.xtrans c.samples_needed-used.result c.args.lines.now _ c.samples_needed-used.ensures.0 c.read_in-got.ensures.lines_after.0;
       records = records_back c.args.rs.now _ c.read_in-got.ensures.lines_after.1;
     })

@@ -9,29 +9,29 @@ use lib.ListN.{length}
 use Rattle.stream.specs.declared.header.Refusal.TheVariants.{OutsideSheet}
 use Rattle.short_codes.specs.Sheets.{in_sheet, count_of, listed_answer, is_written, ListAfter}
 use Rattle.short_codes.specs.Inside.{Filled}
-use Rattle.short_codes.specs.declared.Listed.{Listed}
-use Rattle.short_codes.specs.declared.Listed.TheVariants.{Count, Refused}
 use Rattle.short_codes.proofs.SheetLaws.{bounded}
 use Rattle.short_codes.proofs.short_codes.Goals as goal
 use Rattle.short_codes.proofs.short_codes.Goals.{Else-not-in_sheet}
+use Rattle.std.specs.Prelude.{Err, Ok, Result}
+use Rattle.stream.specs.declared.header.Refusal.{Refusal}
 
 module _ (d k n : ℕ) (list : List ℕ) where
   -- what is promised of an answer and a list
-  abbrev Promised : Listed → List ℕ → Type 0
+  abbrev Promised : Result ℕ Refusal → List ℕ → Type 0
   Promised r list' = (r ≡ listed_answer d k n) × ListAfter d k n list list'
 
-  refused : in_sheet d k n ≡ false → Promised (Refused OutsideSheet) list
+  refused : in_sheet d k n ≡ false → Promised (Err OutsideSheet) list
   unfolding listed_answer is_written
   refused e = (rw e, record { as_long = refl; entries = λ i. rw e })
 
   module _ (e : in_sheet d k n ≡ true) (count : ℕ) (is : count ≡ count_of d k n) where
-    too_short : length list < count → Promised (Count count) list
+    too_short : length list < count → Promised (Ok count) list
     unfolding listed_answer is_written
     too_short h =
         let l = lt-leb (count_of d k n) (length list) (rw is at h) in
         (rw (e, is), record { as_long = refl; entries = λ i. rw (e, l) })
 
-    written : (list' : List ℕ) → count ≤ length list → Filled d k n list list' → Promised (Count count) list'
+    written : (list' : List ℕ) → count ≤ length list → Filled d k n list list' → Promised (Ok count) list'
     unfolding listed_answer is_written
     written list' h f =
         let l = le-leb (count_of d k n) (length list) (rw is at h) in

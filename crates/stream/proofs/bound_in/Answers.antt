@@ -5,12 +5,11 @@ use mathlib.Core.Path.{◌≡◌}
 use Prim.Native.Nat.{ℕ}
 use native.Mathlib.Omega.{arith}
 use Rattle.stream.specs.Lengths.{length_bound, bound_answer}
-use Rattle.stream.specs.declared.BlockLength.TheVariants.{Length}
 use Rattle.stream.specs.declared.header.FujiHeader.{FujiHeader}
-use Rattle.stream.specs.declared.header.Parsed.TheVariants.{Header}
 use Rattle.stream.proofs.bound_in.Goals as goal
+use Rattle.std.specs.Prelude.{Ok}
 
-bounded : (h : FujiHeader) (n : ℕ) → h.lossless ≡ true → n ≡ length_bound h → Length n ≡ bound_answer (Header h)
+bounded : (h : FujiHeader) (n : ℕ) → h.lossless ≡ true → n ≡ length_bound h → Ok n ≡ bound_answer (Ok h)
 bounded h n l e = rw (l, e)
 
 pub returns-then-not-lossless : goal.returns-then-not-lossless

@@ -5,11 +5,10 @@ use Prim.Native.Nat.{ℕ, ◌<◌}
 use native.Mathlib.Omega.{arith}
 use Rattle.stream.specs.Headers.{columns_of, width_answer}
 use Rattle.stream.specs.declared.header.FujiHeader.{FujiHeader}
-use Rattle.stream.specs.declared.header.Parsed.TheVariants.{Header}
-use Rattle.stream.specs.declared.header.Width.TheVariants.{Columns}
 use Rattle.stream.proofs.columns.Goals as goal
+use Rattle.std.specs.Prelude.{Ok}
 
-there : (h : FujiHeader) (i n : ℕ) → i < h.blocks → n ≡ columns_of h i → Columns n ≡ width_answer (Header h) i
+there : (h : FujiHeader) (i n : ℕ) → i < h.blocks → n ≡ columns_of h i → Ok n ≡ width_answer (Ok h) i
 there h i n l e = rw (lt-ltb i h.blocks l, e)
 
 pub returns-then-blocks-i : goal.returns-then-blocks-i

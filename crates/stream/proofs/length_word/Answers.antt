@@ -3,11 +3,11 @@ use mathlib.Core.Path.{sym, ap}
 use Rattle.stream.specs.Lengths.{length_word}
 use Rattle.stream.proofs.length_word.Goals as goal
 
-pub returns-in-Length : goal.returns-in-Length
-returns-in-Length c = ap length_word (sym c.in-Length.is)
+pub returns-in-Ok : goal.returns-in-Ok
+returns-in-Ok c = ap length_word (sym c.in-Ok.is)
 
 pub enum_known-a : goal.enum_known-a
-enum_known-a c = c.in-Length.in-Length-own.keys1
+enum_known-a c = c.in-Ok.in-Ok-own.keys1
 
 pub enum_told-1 : goal.enum_told-1
-enum_told-1 c = c.in-Refused.in-Refused-own.keys2
+enum_told-1 c = c.in-Err.in-Err-own.keys2

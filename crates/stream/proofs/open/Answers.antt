@@ -2,20 +2,15 @@
 use mathlib.Core.Path.{sym, ◌∙◌}
 use Rattle.stream.proofs.HeaderLaws.{ruled}
 use Rattle.stream.proofs.StreamLaws.{open_refused, open_parsed}
+use Rattle.numbers.proofs.PassedLaws.{passed_on}
 use Rattle.stream.proofs.open.Goals as goal
 
 pub open_in-requires : goal.open_in-requires
-open_in-requires c = ruled _ _ (sym c.parse-parsed.ensures ∙ c.in-Header.is)
+open_in-requires c = ruled _ _ (sym c.parse.ensures ∙ c.in_ok-h.was)
 
-pub returns-in-Refused : goal.returns-in-Refused
-returns-in-Refused c = sym (open_refused _ _ (sym c.parse-parsed.ensures ∙ c.in-Refused.is))
+pub returns-in_err-h : goal.returns-in_err-h
+returns-in_err-h c = rw (passed_on _ _ c.from_residual.ensures) (sym (open_refused _ _ (sym c.parse.ensures ∙ c.in_err-h.was)))
 
-pub returns-in-Header : goal.returns-in-Header
-returns-in-Header c =
-    c.open_in.ensures ∙ sym (open_parsed _ _ (sym c.parse-parsed.ensures ∙ c.in-Header.is))
-
-pub enum_known-parsed : goal.enum_known-parsed
-enum_known-parsed c = c.in-Refused.in-Refused-own.keys1
-
-pub enum_known-parsed-in-Header-1 : goal.enum_known-parsed-in-Header-1
-enum_known-parsed-in-Header-1 c = c.in-Header.in-Header-own.keys2
+pub returns : goal.returns
+returns c =
+    c.open_in.ensures ∙ sym (open_parsed _ _ (sym c.parse.ensures ∙ c.in_ok-h.was))

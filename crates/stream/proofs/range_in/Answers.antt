@@ -5,19 +5,20 @@ use mathlib.Core.Path.{◌≡◌}
 use Prim.Native.Nat.{ℕ, ◌^◌, ◌<◌}
 use native.Mathlib.Omega.{arith}
 use Rattle.stream.specs.declared.header.FujiHeader.{FujiHeader}
-use Rattle.stream.specs.declared.header.Parsed.TheVariants.{Header}
 use Rattle.stream.specs.Inside.{cut_range}
 use Rattle.stream.specs.Ranges.{Short}
-use Rattle.stream.specs.declared.ranges.Ranged.{Ranged}
 use Rattle.stream.specs.Streams.{size_of, block_start, range_in}
 use Rattle.stream.proofs.range_in.Goals as goal
+use Rattle.std.specs.Prelude.{Ok, Result}
+use Rattle.bits.specs.declared.ByteOffset.{ByteOffset}
+use Rattle.stream.specs.declared.header.Refusal.{Refusal}
 
-ranged : (d : List ℕ) (h : FujiHeader) (b start size : ℕ) (r : Ranged) → b < h.blocks → start ≡ block_start d h b → size ≡ size_of d b
-    → r ≡ cut_range d start size → r ≡ range_in d b (Header h)
+ranged : (d : List ℕ) (h : FujiHeader) (b start size : ℕ) (r : Result (ByteOffset × ℕ) Refusal) → b < h.blocks → start ≡ block_start d h b → size ≡ size_of d b
+    → r ≡ cut_range d start size → r ≡ range_in d b (Ok h)
 ranged d h b start size r l e s f = rw (lt-ltb b h.blocks l, f, s, e)
 
 -- it is no longer than the block's size
-short : (d : List ℕ) (start size : ℕ) (r : Ranged) → r ≡ cut_range d start size → size < 2 ^ 32 → Short r
+short : (d : List ℕ) (start size : ℕ) (r : Result (ByteOffset × ℕ) Refusal) → r ≡ cut_range d start size → size < 2 ^ 32 → Short r
 short d start size r e l = rw e (omega arith)
 
 pub returns-then-blocks-b : goal.returns-then-blocks-b

@@ -7,12 +7,11 @@ use native.Mathlib.Omega.{arith}
 use Rattle.stream.specs.Streams.{row_length, row_start, row_in}
 use Rattle.stream.specs.Ranges.{cut}
 use Rattle.stream.specs.declared.header.FujiHeader.{FujiHeader}
-use Rattle.stream.specs.declared.header.Parsed.TheVariants.{Header}
-use Rattle.stream.specs.declared.ranges.Ranged.TheVariants.{At}
 use Rattle.stream.proofs.row_in.Goals as goal
+use Rattle.std.specs.Prelude.{Ok}
 
 ranged : (d : List ℕ) (h : FujiHeader) (b s from n : ℕ) → b < h.blocks → s ≡ row_start h b → from ≡ cut d s → n ≡ row_length h
-    → At (record { 0 = from }) n ≡ row_in d b (Header h)
+    → Ok ((record { 0 = from }), n) ≡ row_in d b (Ok h)
 ranged d h b s from n l es ef en = rw (lt-ltb b h.blocks l, ef, es, en)
 
 pub returns-then-blocks-b : goal.returns-then-blocks-b

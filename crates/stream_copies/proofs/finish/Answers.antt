@@ -5,12 +5,13 @@ use Prim.Native.Nat.{ℕ, ◌-◌}
 use native.Mathlib.Nat.{sub-zero}
 use lib.ListN.{take}
 use Rattle.stream.specs.Headers.{parse_of}
-use Rattle.stream.specs.declared.header.Parsed.{Parsed}
-use Rattle.stream.specs.declared.BlockLength.{BlockLength}
 use Rattle.stream_front.specs.Fronts.{LeftFront}
 use Rattle.stream_copies.proofs.finish.Goals as goal
+use Rattle.std.specs.Prelude.{Result}
+use Rattle.stream.specs.declared.header.FujiHeader.{FujiHeader}
+use Rattle.stream.specs.declared.header.Refusal.{Refusal}
 
-left : (head rows lengths : List ℕ) (n m : ℕ) (p : Parsed) (out out' : List ℕ) (a : BlockLength) → m ≡ n
+left : (head rows lengths : List ℕ) (n m : ℕ) (p : Result FujiHeader Refusal) (out out' : List ℕ) (a : Result ℕ Refusal) → m ≡ n
     → LeftFront head rows (take m lengths) p out out' a → LeftFront head rows (take n lengths) p out out' a
 left head rows lengths n m p out out' a e l = rw e at l
 

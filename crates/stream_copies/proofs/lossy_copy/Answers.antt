@@ -6,14 +6,15 @@ use Rattle.stream.proofs.StreamLaws.{opened}
 use Rattle.stream_front.proofs.FrontLaws.{product_le}
 use Rattle.stream_copies.specs.MadeStreams.{Lent}
 use Rattle.stream_copies.proofs.MadeLaws.{open_refused, is_open, lossy_wrong, lossy_made}
+use Rattle.numbers.proofs.PassedLaws.{passed_on}
 use Rattle.stream_copies.proofs.lossy_copy.Goals as goal
 
 pub overflow_mul-blocks : goal.overflow_mul-blocks
 overflow_mul-blocks c =
     let before : Lent = record { out = c.args.out.now; set = c.args.set.now; lines = c.args.lines.now; records = c.args.rs.now } in
-    let R = (opened c.args.d.now c.in-Header.h (is_open c.args.d.now c.args.bases.now before _ _ c.open-opened.ensures
-    c.in-Header.is)).ruled in
-    omega (arith, product_le c.in-Header.h.blocks c.in-Header.h.lines R.blocks_high (omega (arith, R.lines_high)))
+    let R = (opened c.args.d.now c.in_ok-h.h (is_open c.args.d.now c.args.bases.now before _ _ c.open.ensures
+    c.in_ok-h.was)).ruled in
+    omega (arith, product_le c.in_ok-h.h.blocks c.in_ok-h.h.lines R.blocks_high (omega (arith, R.lines_high)))
 
 pub returns-then-bases-blocks : goal.returns-then-bases-blocks
 returns-then-bases-blocks c =
@@ -23,33 +24,32 @@ returns-then-bases-blocks c =
       lines = c.args.lines.now;
       records = c.args.rs.now;
     }) _ _
-    c.open-opened.ensures c.in-Header.is _ _ refl refl c.if-bases-blocks.true
+    c.open.ensures c.in_ok-h.was _ _ refl refl c.if-bases-blocks.true
 
 pub make-requires : goal.make-requires
 make-requires c =
     let before : Lent = record { out = c.args.out.now; set = c.args.set.now; lines = c.args.lines.now; records = c.args.rs.now } in (
-      is_open c.args.d.now c.args.bases.now before _ _ c.open-opened.ensures c.in-Header.is,
+      is_open c.args.d.now c.args.bases.now before _ _ c.open.ensures c.in_ok-h.was,
       λ e.
           c.if-bases-blocks.false,
     )
 
-pub returns-in-Refused : goal.returns-in-Refused
-returns-in-Refused c =
-    open_refused c.args.d.now c.args.bases.now (record {
-      out = c.args.out.now;
-      set = c.args.set.now;
-      lines = c.args.lines.now;
-      records = c.args.rs.now;
-    }) true _ _
-    c.open-opened.ensures c.in-Refused.is
+pub returns-in_err-h : goal.returns-in_err-h
+returns-in_err-h c = rw (passed_on _ _ c.from_residual.ensures) (open_refused c.args.d.now c.args.bases.now (record {
+  out = c.args.out.now;
+  set = c.args.set.now;
+  lines = c.args.lines.now;
+  records = c.args.rs.now;
+}) true _ _
+    c.open.ensures c.in_err-h.was)
 
-pub returns-else-bases-blocks : goal.returns-else-bases-blocks
-returns-else-bases-blocks c =
+pub returns : goal.returns
+returns c =
     lossy_made c.args.d.now c.args.bases.now (record {
       out = c.args.out.now;
       set = c.args.set.now;
       lines = c.args.lines.now;
       records = c.args.rs.now;
     }) _ _
-    c.open-opened.ensures c.in-Header.is _ _ refl refl
+    c.open.ensures c.in_ok-h.was _ _ refl refl
     c.if-bases-blocks.false _ _ c.make.ensures

@@ -8,6 +8,7 @@ use Rattle.stream.proofs.StreamLaws.{opened}
 use Rattle.theorem_whole_streams.proofs.KindsHold.{flagged_length}
 use Rattle.stream_copies.specs.MadeStreams.{is_tight_call}
 use Rattle.stream_copies.proofs.LaidLaws.{laid_none, laid_more, laid_cut, laid_end}
+use Rattle.numbers.proofs.PassedLaws.{passed_on}
 use Rattle.stream_copies.proofs.make_in.Goals as goal
 
 pub flagged-head-requires : goal.flagged-head-requires
@@ -31,8 +32,8 @@ slice_bounds-put_block-end c =
     sym (ap length c.flagged-head.ensures ∙ flagged_length (is_tight_call c.args.rows.now) c.args.d.now
     c.args.h (opened c.args.d.now c.args.h c.requires.d_value.0).parsed)
 
-pub put_block-put-requires : goal.put_block-put-requires
-put_block-put-requires c =
+pub put_block-requires : goal.put_block-requires
+put_block-requires c =
     record {
       d_value = (c.requires.d_value.0, c.flagged-head.ensures);
       rows_fit = (c.requires.d_value.1, (c.loop-b-test.true, omega (arith, c.loop-b.invariant.5.room, c.loop-b.invariant.0)));
@@ -42,11 +43,11 @@ put_block-put-requires c =
       );
     }
 
-pub returns-in_default : goal.returns-in_default
-returns-in_default c =
+pub returns-in_err-n : goal.returns-in_err-n
+returns-in_err-n c = rw (passed_on _ _ c.from_residual.ensures ∙ sym c.in_err-n.was) (
     laid_cut c.args.d.now c.args.h c.args.rows.now _ _ _ c.loop-b.lengths c.loop-b.at c.loop-b.b c.loop-b.invariant.5
     c.loop-b-test.true c.loop-b.invariant.0 _ _
-    c.put_block-put.ensures c.in_default.is
+    c.put_block.ensures c.in_err-n.was)
 
 -- the next one
 pub bounds-lengths-b : goal.bounds-lengths-b
@@ -57,7 +58,7 @@ pub overflow_add-at : goal.overflow_add-at
 overflow_add-at c =
     let more =
     laid_more c.args.d.now c.args.h c.args.rows.now _ _ _ c.loop-b.lengths c.loop-b.at c.loop-b.b c.loop-b.invariant.5 c.loop-b-test.true c.loop-b.invariant.0 _ _
-    c.put_block-put.ensures c.in-Length.is (omega (
+    c.put_block.ensures c.in_ok-n.was (omega (
       arith,
       c.loop-b-test.true,
       c.loop-b.invariant.4,
@@ -68,13 +69,13 @@ overflow_add-at c =
 
 pub loop-b-preserved : goal.loop-b-preserved
 loop-b-preserved c = (
-  omega (arith, c.put_block-put.auto, c.loop-b.invariant.0),
-  omega (arith, c.put_block-put.auto, c.loop-b.invariant.1),
-  omega (arith, c.put_block-put.auto, c.loop-b.invariant.2),
-  omega (arith, c.put_block-put.auto, c.loop-b.invariant.3),
+  omega (arith, c.put_block.auto, c.loop-b.invariant.0),
+  omega (arith, c.put_block.auto, c.loop-b.invariant.1),
+  omega (arith, c.put_block.auto, c.loop-b.invariant.2),
+  omega (arith, c.put_block.auto, c.loop-b.invariant.3),
   simp length-set c.loop-b.invariant.4,
   laid_more c.args.d.now c.args.h c.args.rows.now _ _ _ c.loop-b.lengths c.loop-b.at c.loop-b.b c.loop-b.invariant.5 c.loop-b-test.true c.loop-b.invariant.0 _ _
-      c.put_block-put.ensures c.in-Length.is (omega (arith, c.loop-b-test.true, c.loop-b.invariant.4, (opened c.args.d.now c.args.h c.requires.d_value.0).ruled.blocks_high)),
+      c.put_block.ensures c.in_ok-n.was (omega (arith, c.loop-b-test.true, c.loop-b.invariant.4, (opened c.args.d.now c.args.h c.requires.d_value.0).ruled.blocks_high)),
 )
 
 pub slice_bounds-finish-end : goal.slice_bounds-finish-end

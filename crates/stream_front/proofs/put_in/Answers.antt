@@ -7,26 +7,26 @@ use lib.ListN.{length, drop}
 use Rattle.stream.specs.declared.header.FujiHeader.{FujiHeader}
 use Rattle.stream.specs.declared.header.Refusal.TheVariants.{LongBlock, ShortOutput}
 use Rattle.stream.specs.Streams.{row_length, row_start}
-use Rattle.stream.specs.declared.BlockLength.TheVariants.{Length, Refused}
 use Rattle.stream_front.specs.Fronts.{front_bytes, sum_of, first_long, front_answer}
 use Rattle.stream_front.proofs.FrontLaws.{product_le, answer_count, answer_rows, answer_long, answer_short, answer_length, front_size_is}
 use Rattle.stream_front.proofs.put_in.Goals as goal
+use Rattle.std.specs.Prelude.{Err, Ok}
 
 other_rows : (h : FujiHeader) (n row : ℕ) → row ≡ row_length h → (n ≡ h.blocks * row → ⊥) → n ≡ h.blocks * row_length h → ⊥
 other_rows h n row e ne f = ne (f ∙ rw e)
 
 long_answer : (h : FujiHeader) (rows lengths : List ℕ) (room long : ℕ) → long ≡ first_long lengths → length lengths ≡ h.blocks → length rows ≡
     h.blocks * row_length h → long < h.blocks
-    → Refused (LongBlock long) ≡ front_answer h rows lengths room
+    → Err (LongBlock long) ≡ front_answer h rows lengths room
 long_answer h rows lengths room long e f g l = rw e (answer_long h rows lengths room f g (rw e at l))
 
 short_answer : (h : FujiHeader) (rows lengths : List ℕ) (room long n : ℕ) → long ≡ first_long lengths → n ≡ row_start h h.blocks → length lengths ≡ h.blocks
-    → length rows ≡ h.blocks * row_length h → h.blocks ≤ long → room < n → Refused ShortOutput ≡ front_answer h rows lengths room
+    → length rows ≡ h.blocks * row_length h → h.blocks ≤ long → room < n → Err ShortOutput ≡ front_answer h rows lengths room
 short_answer h rows lengths room long n e en f g l k = answer_short h rows lengths room f g (rw e at l) (rw en at k)
 
 length_answer : (h : FujiHeader) (rows lengths : List ℕ) (room long n m : ℕ) → long ≡ first_long lengths → n ≡ row_start h h.blocks → m ≡ sum_of
     lengths h.blocks
-    → length lengths ≡ h.blocks → length rows ≡ h.blocks * row_length h → h.blocks ≤ long → n ≤ room → Length (n + m) ≡ front_answer h rows lengths room
+    → length lengths ≡ h.blocks → length rows ≡ h.blocks * row_length h → h.blocks ≤ long → n ≤ room → Ok (n + m) ≡ front_answer h rows lengths room
 length_answer h rows lengths room long n m e en em f g l k = rw (en, em) (answer_length h rows lengths room f g (rw e at l) (rw en at k))
 
 put : (d : List ℕ) (h : FujiHeader) (rows lengths out out' : List ℕ) (n : ℕ) → n ≡ row_start h h.blocks → out' ≡ front_bytes d h rows lengths ++ drop n out

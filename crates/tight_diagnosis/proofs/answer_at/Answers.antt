@@ -6,24 +6,25 @@ use Prim.Native.Nat.{ℕ}
 use native.Mathlib.Omega.{arith}
 use Rattle.stream.specs.Streams.{open_of}
 use Rattle.stream.specs.declared.header.FujiHeader.{FujiHeader}
-use Rattle.stream.specs.declared.header.Parsed.TheVariants.{Header}
 use Rattle.stream.proofs.StreamLaws.{opened, row_lossless}
 use Rattle.read_block.specs.Walks.{IsWalked}
 use Rattle.read_block.specs.Images.{form_of, bytes_in, bases_in}
 use Rattle.read_block.specs.TightBlocks.{tight_answer}
 use Rattle.read_block.specs.declared.Counted.{Counted}
-use Rattle.read_block.specs.declared.Decoded.{Decoded}
 use Rattle.read_block.specs.declared.Form.{Form}
-use Rattle.read_block.specs.declared.Walked.{Walked}
 use Rattle.read_block.proofs.LeftLaws.{form_depth}
 use Rattle.tight_diagnosis.proofs.answer_at.Goals as goal
+use Rattle.std.specs.Prelude.{Ok, Result}
+use Rattle.line_totals.specs.declared.TightLines.{TightLines}
+use Rattle.line_totals.specs.declared.Totals.{Totals}
+use Rattle.stream.specs.declared.header.Refusal.{Refusal}
 
-without_bases : (d : List ℕ) (h : FujiHeader) (b n : ℕ) (F : Form) (bases s : List ℕ) (w : Walked) → open_of d ≡ Header h → h.lossless ≡ true
+without_bases : (d : List ℕ) (h : FujiHeader) (b n : ℕ) (F : Form) (bases s : List ℕ) (w : Result (Totals × TightLines) (ℕ × Totals)) → open_of d ≡ Ok h → h.lossless ≡ true
     → bases ≡ bases_in d b
     → IsWalked F bases s n w → IsWalked F [] s n w
 without_bases d h b n F bases s w e l eb p = rw (eb ∙ row_lossless d h b e l) at p
 
-answered : (d : List ℕ) (h : FujiHeader) (b n : ℕ) (F : Form) (s : List ℕ) (a : Decoded) → F ≡ form_of h → s ≡ bytes_in d b → n ≡ h.lines
+answered : (d : List ℕ) (h : FujiHeader) (b n : ℕ) (F : Form) (s : List ℕ) (a : Result Unit Refusal) → F ≡ form_of h → s ≡ bytes_in d b → n ≡ h.lines
     → a ≡ tight_answer F b n s → a ≡ tight_answer (form_of h) b h.lines (bytes_in d b)
 answered d h b n F s a ef es en e = rw (ef, es, en) at e
 

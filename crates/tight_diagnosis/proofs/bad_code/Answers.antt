@@ -6,4 +6,4 @@ use Rattle.tight_diagnosis.proofs.bad_code.Goals as goal
 
 pub returns : goal.returns
 returns c =
-    (c.fault_words-w.ensures ∙ ap fault_words c.fault_of-f.ensures, c.answer_words-r.ensures ∙ ap answer_words c.answer_of-a.ensures)
+    (c.fault_words.ensures ∙ ap fault_words c.fault_of.ensures, c.refusal_in.ensures ∙ ap answer_words c.answer_of-a.ensures)

@@ -6,13 +6,13 @@ use Rattle.tight_diagnosis.proofs.fault_of.Goals as goal
 
 pub fault_at-requires : goal.fault_at-requires
 fault_at-requires c =
-    let e = sym c.block_begins-begins.ensures ∙ c.in-Header.is in
+    let e = sym c.block_begins.ensures ∙ c.in-Ok.is in
     let k = block_reads _ _ _ _ _ _ e in
     (k.opens, c.requires ∙ answer_reads _ _ _ e)
 
-pub returns-in-Refused : goal.returns-in-Refused
-returns-in-Refused c = sym (fault_refused _ _ _ (sym c.block_begins-begins.ensures ∙ c.in-Refused.is))
+pub returns-in_default : goal.returns-in_default
+returns-in_default c = sym (fault_refused _ _ _ c.block_begins.ensures c.in_default.not-Ok)
 
-pub returns-in-Header : goal.returns-in-Header
-returns-in-Header c =
-    c.fault_at.ensures ∙ sym (fault_reads _ _ _ (sym c.block_begins-begins.ensures ∙ c.in-Header.is))
+pub returns : goal.returns
+returns c =
+    c.fault_at.ensures ∙ sym (fault_reads _ _ _ (sym c.block_begins.ensures ∙ c.in-Ok.is))

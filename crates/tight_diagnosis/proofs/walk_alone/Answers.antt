@@ -7,6 +7,6 @@ walk-requires c =
     record {
       block_len_bound = (c.requires.block_len_bound.0, (search rules, search rules));
       depth = c.requires.block_len_bound.1;
-      are_places = (c.xtrans_places-places.ensures, search rules);
+      fits = search rules;
       all_numbered = c.no_entries.ensures.1;
     }

@@ -5,6 +5,7 @@ use Rattle.colour_lines.proofs.LineLaws.{line_inside}
 use Rattle.read_block.proofs.LineLaws.{planned, width_in_range}
 use Rattle.read_block.proofs.RangeLaws.{set_in_range, put_in_range}
 use Rattle.write_block.proofs.WalkLaws.{pass_wanted, passes_start, pass_samples, pass_position, pass_room, pass_more, pass_failed, passes_done}
+use Rattle.numbers.proofs.PassedLaws.{passed_on}
 use Rattle.write_block.proofs.write_line.Goals as goal
 
 pub loop-i-init : goal.loop-i-init
@@ -45,8 +46,8 @@ pub load_set-set-requires : goal.load_set-set-requires
 load_set-set-requires c =
     (c.loop-i.invariant.2, (planned _ c.loop-i.i _ (omega arith) c.plan_at-p.ensures).1)
 
-pub write_pass-done-requires : goal.write_pass-done-requires
-write_pass-done-requires c =
+pub write_pass-requires : goal.write_pass-requires
+write_pass-requires c =
     let r = planned _ c.loop-i.i _ (omega arith) c.plan_at-p.ensures in
     record {
       low = c.loop-i.invariant.0.1;
@@ -68,12 +69,12 @@ write_pass-done-requires c =
       room = pass_room _ _ _ _ _ _ _ c.loop-i.i _ _ c.loop-i-test.true _ _ _ _ _ _ _ _ _ _ c.loop-i.invariant.5 c.loop-i.invariant.4 c.requires.from_bound.1 c.loop-i.invariant.0.0 c.plan_at-p.ensures c.set_guards.ensures c.set_guards-in-loop-i.ensures c.load_set-set.ensures;
     }
 
-pub returns-then-not-ok : goal.returns-then-not-ok
-returns-then-not-ok c =
+pub returns-in_err-done : goal.returns-in_err-done
+returns-in_err-done c =
     record {
-      fact = pass_failed _ _ _ _ _ _ _ c.loop-i.i _ _ c.loop-i-test.true _ _ _ _ _ _ _ _ _ _ c.loop-i.invariant.5 c.loop-i.invariant.4 c.requires.from_bound.1 c.loop-i.invariant.0.0 c.plan_at-p.ensures
-          c.set_guards.ensures c.set_guards-in-loop-i.ensures c.load_set-set.ensures _ _ c.write_pass-done.result c.write_pass-done.ensures.answer _
-          c.if-not-ok.true;
+      fact = rw (passed_on _ _ c.from_residual.ensures) (pass_failed _ _ _ _ _ _ _ c.loop-i.i _ _ c.loop-i-test.true _ _ _ _ _ _ _ _ _ _ c.loop-i.invariant.5 c.loop-i.invariant.4 c.requires.from_bound.1 c.loop-i.invariant.0.0 c.plan_at-p.ensures
+          c.set_guards.ensures c.set_guards-in-loop-i.ensures c.load_set-set.ensures _ _ c.write_pass.result c.write_pass.ensures.answer _ _
+          c.in_err-done.was);
       all_in_range = c.loop-i.invariant.3;
     }
 
@@ -86,14 +87,14 @@ loop-i-preserved c =
     let r = planned _ c.loop-i.i _ (omega arith) c.plan_at-p.ensures in
     let e = c.store_set.ensures in (
       c.loop-i.invariant.0,
-      omega (arith, c.write_pass-done.auto, c.set_guards-in-loop-i.auto, c.set_guards.auto, c.loop-i.invariant.1),
+      omega (arith, c.write_pass.auto, c.set_guards-in-loop-i.auto, c.set_guards.auto, c.loop-i.invariant.1),
       omega (arith, c.store_set.auto, c.loop-i.invariant.2),
-      rw e (put_in_range _ _ _ r.1 c.loop-i.invariant.2 c.write_pass-done.ensures.records c.loop-i.invariant.3),
-      omega (arith, c.write_pass-done.auto, c.loop-i.invariant.4),
+      rw e (put_in_range _ _ _ r.1 c.loop-i.invariant.2 (rw c.in_ok-done.was at c.write_pass.ensures.records) c.loop-i.invariant.3),
+      omega (arith, c.write_pass.auto, c.loop-i.invariant.4),
       rw e
           (pass_more _ _ _ _ _ _ _ c.loop-i.i _ _ c.loop-i-test.true _ _ _ _ _ _ _ _ _ _ c.loop-i.invariant.5 c.loop-i.invariant.4 c.requires.from_bound.1 c.loop-i.invariant.0.0 c.plan_at-p.ensures
-          c.set_guards.ensures c.set_guards-in-loop-i.ensures c.load_set-set.ensures _ _ c.write_pass-done.result c.write_pass-done.ensures.answer
-          c.if-not-ok.false),
+          c.set_guards.ensures c.set_guards-in-loop-i.ensures c.load_set-set.ensures _ _ c.write_pass.result c.write_pass.ensures.answer _
+          c.in_ok-done.was),
     )
 
 pub returns : goal.returns

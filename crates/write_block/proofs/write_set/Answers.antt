@@ -1,11 +1,11 @@
 -- `write_block::write_set` meets its contract: samples are looked at before the set is measured. Assumes nothing.
-use Rattle.std.proofs.Common.{ap, ◌∙◌, ℕ, replicate}
+use Rattle.std.proofs.Common.{ap, sym, ◌∙◌, ℕ, replicate}
 use Rattle.write_block.proofs.AnswerLaws.{refused_out, set_above, set_wanted, set_answer_lem}
 use Rattle.write_block.proofs.write_set.Goals as goal
 
 pub returns-in-Some-clause-fact : goal.returns-in-Some-clause-fact
 returns-in-Some-clause-fact c = (
-  set_above c.args.form c.args.bases.now c.args.count c.args.samples.now _ _ _ c.largest-m.ensures.0 c.is_strict.ensures _ c.in-Some.ensures,
+  set_above c.args.form c.args.bases.now c.args.count c.args.samples.now _ _ _ c.largest-m.ensures.0 c.is_strict.ensures _ (sym c.in-Some.ensures),
   refused_out c.args.measure _ _ _,
 )
 
@@ -19,7 +19,7 @@ write_measured-requires c =
         c.requires.count_bound.0,
         (
           c.requires.count_bound.1,
-          set_wanted c.args.form c.args.bases.now c.args.count c.args.samples.now 0 _ _ c.largest-m.ensures.0 c.is_strict.ensures c.in_default.ensures,
+          set_wanted c.args.form c.args.bases.now c.args.count c.args.samples.now 0 _ _ c.largest-m.ensures.0 c.is_strict.ensures (sym c.in_default.ensures),
         ),
       );
       depth = c.requires.depth;
@@ -30,7 +30,7 @@ returns c =
     record {
       fact = (
         set_answer_lem c.args.form c.args.bases.now c.args.count c.args.samples.now _ _ _ c.largest-m.ensures.0 c.is_strict.ensures
-            c.in_default.ensures _ c.write_measured.ensures.fact.0,
+            (sym c.in_default.ensures) _ c.write_measured.ensures.fact.0,
         c.write_measured.ensures.fact.1,
       );
       lines_after = c.write_measured.ensures.lines_after;

@@ -16,16 +16,16 @@ fill_tail-requires c =
     omega (
       arith,
       c.write_walk-done.auto,
-      tail_room _ _ _ _ _ c.requires.storable _ _ c.write_walk-done.ensures.set_written _ c.in-At.is,
+      tail_room _ _ _ _ _ c.requires.storable _ _ c.write_walk-done.ensures.set_written _ c.in-Ok.is,
     )
 
-pub returns-in-Wrong : goal.returns-in-Wrong
-returns-in-Wrong c = never_wrong _ _ _ _ _ c.requires.storable _ _ c.write_walk-done.ensures.set_written _ c.in-Wrong.is
+pub returns-in-Err : goal.returns-in-Err
+returns-in-Err c = never_wrong _ _ _ _ _ c.requires.storable _ _ c.write_walk-done.ensures.set_written _ c.in-Err.is
 
-pub returns-in-At : goal.returns-in-At
-returns-in-At c =
+pub returns-in-Ok : goal.returns-in-Ok
+returns-in-Ok c =
     record {
-      stored = stored _ _ _ _ _ c.requires.storable _ _ c.write_walk-done.ensures.set_written _ c.in-At.is _ c.fill_tail.ensures _
+      stored = stored _ _ _ _ _ c.requires.storable _ _ c.write_walk-done.ensures.set_written _ c.in-Ok.is _ c.fill_tail.ensures _
           c.block_bytes.ensures;
       lines_after = c.write_walk-done.ensures.lines_after;
     }

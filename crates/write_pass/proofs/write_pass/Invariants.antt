@@ -9,8 +9,8 @@ use Rattle.pass_schedule.specs.Steps.{turn_steps, upto}
 use Rattle.pass_steps.specs.Values.{zip_records, SetInRange, AreKs}
 use Rattle.pass_schedule.specs.declared.Plan.{Plan}
 use Rattle.write_pass.specs.Puts.{LineNumbers, StepsPut}
-use Rattle.bit_output.specs.declared.Put.TheVariants.{At}
 use Rattle.write_pass.proofs.write_pass.Given as goal
+use Rattle.std.specs.Prelude.{Ok}
 
 -- what is known before each turn: the turns before position p have put their bits
 pub record Turns (bits q W : ℕ) (strict : Bool) (totals raws limits t : List ℕ) (n : ℕ) (P : Plan) (store : Bool) (from : BitPosition)
@@ -22,7 +22,7 @@ pub record Turns (bits q W : ℕ) (strict : Bool) (totals raws limits t : List �
   pub same-output : length out ≡ length out₀
   pub records : SetInRange (zip_records sums ns)
   pub ks_kept : AreKs (zip_records sums ns) ks
-  pub put : StepsPut bits q W strict t n (upto (turn_steps W P) (p / 2)) store from.0 lines₀ sums₀ ns₀ out₀ lines sums ns out (At at)
+  pub put : StepsPut bits q W strict t n (upto (turn_steps W P) (p / 2)) store from.0 lines₀ sums₀ ns₀ out₀ lines sums ns out (Ok at)
 
 abbrev pub invariant-loop-p : goal.invariant-loop-p
 invariant-loop-p l =

@@ -7,8 +7,8 @@ use Rattle.admission.proofs.largest.first_above.Goals as goal
 
 pub returns-then-is_above : goal.returns-then-is_above
 returns-then-is_above c =
-    above_found (is_ignored c.args.xtrans c.args.strict) c.args.m c.args.samples.now c.loop-i.i c.loop-i.invariant (omega arith)
-    (not-true _ (sym c.is_above.ensures ∙ c.if-is_above.true))
+    sym (above_found (is_ignored c.args.xtrans c.args.strict) c.args.m c.args.samples.now c.loop-i.i c.loop-i.invariant (omega arith)
+    (not-true _ (sym c.is_above.ensures ∙ c.if-is_above.true)))
 
 pub loop-i-preserved : goal.loop-i-preserved
 loop-i-preserved c =
@@ -17,4 +17,4 @@ loop-i-preserved c =
 
 pub returns : goal.returns
 returns c =
-    above_none (is_ignored c.args.xtrans c.args.strict) c.args.m c.args.samples.now c.loop-i.i c.loop-i.invariant (omega arith)
+    sym (above_none (is_ignored c.args.xtrans c.args.strict) c.args.m c.args.samples.now c.loop-i.i c.loop-i.invariant (omega arith))

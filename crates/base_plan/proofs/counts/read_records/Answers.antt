@@ -11,7 +11,7 @@ use Rattle.base_plan.specs.Inside.{Marked}
 use Rattle.base_plan.proofs.RecordLaws.{IsRow, row_bad, row_good, none_past, good_start, good_next, start_next, start_none}
 use Rattle.base_plan.proofs.CountLaws.{is_read_lem, marked_more}
 use Rattle.base_plan.proofs.counts.read_records.Goals as goal
-use Rattle.base_plan.proofs.counts.read_records.Goals.{In-Good}
+use Rattle.base_plan.proofs.counts.read_records.Goals.{In-Some}
 
 -- first and last line of the record at a place
 abbrev IsFirstLast : List ℕ → ℕ → ℕ → ℕ → Type 0
@@ -24,22 +24,22 @@ counted : (d : List ℕ) (m at first last : ℕ) (begins ends begins' ends' : Li
 counted d m at first last begins ends begins' ends' e is h order k b g = rw (b, g) (marked_more d m at first last begins ends e is.0 is.1 h order k)
 
 -- the record that was read
-this : (c : In-Good) → IsRow
+this : (c : In-Some) → IsRow
     c.args.d.now
     c.args.lines
     c.loop-at.at
-    c.in-Good.first
-    c.in-Good.last
-    c.in-Good.field-2
-    c.in-Good.next
+    c.in-Some.row.first
+    c.in-Some.row.last
+    c.in-Some.row.base
+    c.in-Some.row.next
 this c =
-    row_good c.args.d.now c.args.lines c.loop-at.at c.read_row-x.result c.read_row-x.ensures.0 _ _ _ _ c.in-Good.is c.read_row-x.ensures.1
+    row_good c.args.d.now c.args.lines c.loop-at.at c.read_row.result c.read_row.ensures.0 _ _ _ _ c.in-Some.is c.read_row.ensures.1
 
 -- fewer records than bytes
-few : (c : In-Good) → c.loop-at.records < length c.args.d.now
+few : (c : In-Some) → c.loop-at.records < length c.args.d.now
 few c = omega (arith, c.loop-at.invariant.2, (this c).further, (this c).inside)
 
-text_fits : (c : In-Good) → length c.args.d.now < 2 ^ 64
+text_fits : (c : In-Some) → length c.args.d.now < 2 ^ 64
 text_fits c = omega arith
 
 pub loop-at-init : goal.loop-at-init
@@ -48,34 +48,34 @@ loop-at-init c =
 
 pub returns-in_default : goal.returns-in_default
 returns-in_default c =
-    let bad = row_bad c.args.d.now c.args.lines c.loop-at.at c.read_row-x.result c.read_row-x.ensures.0 c.in_default.is in
+    let bad = row_bad c.args.d.now c.args.lines c.loop-at.at c.read_row.result c.read_row.ensures.0 c.in_default.is in
     (is_read_lem c.args.d.now c.args.lines c.loop-at.records c.loop-at.at c.loop-at.invariant.0 c.loop-at.invariant.3 bad c.loop-at.invariant.2 c.loop-at.invariant.1, c.loop-at.invariant.4)
 
 pub count-requires : goal.count-requires
 count-requires c =
-    (omega (arith, (this (goal.at.count-requires c).In-Good).order, (this (goal.at.count-requires c).In-Good).below, c.requires.0), omega (arith, c.loop-at.invariant.4.begin_low c.in-Good.first, few (goal.at.count-requires c).In-Good, text_fits (goal.at.count-requires c).In-Good))
+    (omega (arith, (this (goal.at.count-requires c).In-Some).order, (this (goal.at.count-requires c).In-Some).below, c.requires.0), omega (arith, c.loop-at.invariant.4.begin_low c.in-Some.row.first, few (goal.at.count-requires c).In-Some, text_fits (goal.at.count-requires c).In-Some))
 
-pub overflow_add-last : goal.overflow_add-last
-overflow_add-last c =
-    omega (arith, (this (goal.at.overflow_add-last c).In-Good).below, c.requires.0)
+pub overflow_add-row : goal.overflow_add-row
+overflow_add-row c =
+    omega (arith, (this (goal.at.overflow_add-row c).In-Some).below, c.requires.0)
 
 pub count-requires-in-loop-at : goal.count-requires-in-loop-at
 count-requires-in-loop-at c =
-    (omega (arith, (this (goal.at.count-requires-in-loop-at c).In-Good).below, c.requires.0), omega (arith, c.loop-at.invariant.4.end_low (c.in-Good.last + 1), few (goal.at.count-requires-in-loop-at c).In-Good, text_fits (goal.at.count-requires-in-loop-at c).In-Good))
+    (omega (arith, (this (goal.at.count-requires-in-loop-at c).In-Some).below, c.requires.0), omega (arith, c.loop-at.invariant.4.end_low (c.in-Some.row.last + 1), few (goal.at.count-requires-in-loop-at c).In-Some, text_fits (goal.at.count-requires-in-loop-at c).In-Some))
 
 pub overflow_add-records : goal.overflow_add-records
-overflow_add-records c = omega (arith, few (goal.at.overflow_add-records c).In-Good, text_fits (goal.at.overflow_add-records c).In-Good)
+overflow_add-records c = omega (arith, few (goal.at.overflow_add-records c).In-Some, text_fits (goal.at.overflow_add-records c).In-Some)
 
 pub loop-at-smaller : goal.loop-at-smaller
-loop-at-smaller c = omega (arith, (this (goal.at.loop-at-smaller c).In-Good).further, (this (goal.at.loop-at-smaller c).In-Good).inside)
+loop-at-smaller c = omega (arith, (this (goal.at.loop-at-smaller c).In-Some).further, (this (goal.at.loop-at-smaller c).In-Some).inside)
 
 pub loop-at-preserved : goal.loop-at-preserved
 loop-at-preserved c =
-    let t = this (goal.at.loop-at-preserved c).In-Good in (
+    let t = this (goal.at.loop-at-preserved c).In-Some in (
       start_next c.args.d.now c.loop-at.records c.loop-at.at _ c.loop-at.invariant.0 t.next_is,
       t.inside,
       omega (arith, c.loop-at.invariant.2, t.further),
-      c.loop-at.invariant.3 ∙ good_next c.args.d.now c.args.lines c.loop-at.records c.loop-at.at c.loop-at.invariant.0 (few (goal.at.loop-at-preserved c).In-Good) t.good,
+      c.loop-at.invariant.3 ∙ good_next c.args.d.now c.args.lines c.loop-at.records c.loop-at.at c.loop-at.invariant.0 (few (goal.at.loop-at-preserved c).In-Some) t.good,
       counted c.args.d.now c.loop-at.records c.loop-at.at _ _ c.loop-at.begins c.loop-at.ends _ _ c.loop-at.invariant.0 (t.first_is, t.last_is) (omega (arith, t.below, c.requires.0)) t.order c.loop-at.invariant.4 c.count.ensures c.count-in-loop-at.ensures,
     )
 

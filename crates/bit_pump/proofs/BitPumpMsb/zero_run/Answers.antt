@@ -6,13 +6,12 @@ use native.Mathlib.Omega.{arith}
 use lib.ListN.{length}
 use Rattle.bits.specs.Bits.{zero_run}
 use Rattle.bits.specs.Inside.{after_run}
-use Rattle.bits.specs.declared.ZeroRun.{ZeroRun}
-use Rattle.bits.specs.declared.ZeroRun.TheVariants.{One, None}
 use Rattle.bits.proofs.RunLaws.{run_inside}
 use Rattle.bit_pump.proofs.BitPumpMsb.zero_run.Goals as goal
+use Rattle.std.specs.Prelude.{None, Option, Some}
 
-past_fits : (s : List ℕ) (p : ℕ) (r : ZeroRun) → length s < 2 ^ 58 → p < 2 ^ 64 → r ≡ zero_run s p → after_run p r < 2 ^ 64
-past_fits s p (One z) h f e = omega (arith, run_inside s p z (sym e))
+past_fits : (s : List ℕ) (p : ℕ) (r : Option ℕ) → length s < 2 ^ 58 → p < 2 ^ 64 → r ≡ zero_run s p → after_run p r < 2 ^ 64
+past_fits s p (Some z) h f e = omega (arith, run_inside s p z (sym e))
 past_fits s p None h f e = f
 
 pub after_run-self-requires : goal.after_run-self-requires

@@ -7,5 +7,5 @@ returns c =
       answer = c.lossy_copy-a.result;
       left = c.lossy_copy-a.ensures;
       told_size = c.length_word.ensures;
-      told = c.length_refusal.ensures;
+      told = c.refusal_in.ensures;
     }

@@ -7,5 +7,5 @@ returns c =
       answer = c.put_front-a.result;
       left = c.put_front-a.ensures;
       told_size = c.length_word.ensures;
-      told = c.length_refusal.ensures;
+      told = c.refusal_in.ensures;
     }

@@ -7,5 +7,5 @@ returns c =
       answer = c.tighten-a.result;
       left = c.tighten-a.ensures;
       told_size = c.length_word.ensures;
-      told = c.length_refusal.ensures;
+      told = c.refusal_in.ensures;
     }

@@ -3,4 +3,4 @@ use Rattle.fuji_compressed.proofs.decoding.fuji_decode.Goals as goal
 
 pub returns : goal.returns
 returns c =
-    record { answer = c.decode-a.result; left = c.decode-a.ensures; told = c.answer_words.ensures }
+    record { answer = c.decode-a.result; left = c.decode-a.ensures; told = c.refusal_in.ensures }

@@ -3,4 +3,4 @@ use Rattle.fuji_compressed.proofs.decoding.fuji_decode_region.Goals as goal
 
 pub returns : goal.returns
 returns c =
-    record { answer = c.decode_region-a.result; left = c.decode_region-a.ensures; told = c.answer_words.ensures }
+    record { answer = c.decode_region-a.result; left = c.decode_region-a.ensures; told = c.refusal_in.ensures }

@@ -3,4 +3,4 @@ use Rattle.fuji_compressed.proofs.decoding.fuji_decode_region_windowed.Goals as 
 
 pub returns : goal.returns
 returns c =
-    record { answer = c.decode_region_windowed-a.result; left = c.decode_region_windowed-a.ensures; told = c.answer_words.ensures }
+    record { answer = c.decode_region_windowed-a.result; left = c.decode_region_windowed-a.ensures; told = c.refusal_in.ensures }

@@ -7,5 +7,5 @@ returns c =
       answer = c.write_block-a.result;
       left = c.write_block-a.ensures;
       told_size = c.length_word.ensures;
-      told = c.length_refusal.ensures;
+      told = c.refusal_in.ensures;
     }

@@ -7,5 +7,5 @@ returns c =
       answer = c.write_lossy-a.result;
       left = c.write_lossy-a.ensures;
       told_size = c.length_word.ensures;
-      told = c.length_refusal.ensures;
+      told = c.refusal_in.ensures;
     }

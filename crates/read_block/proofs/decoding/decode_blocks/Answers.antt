@@ -2,7 +2,7 @@
 use borrow.Author.Rules.{rules}
 use mathlib.Core.Bool.{Bool}
 use mathlib.Core.List.{List}
-use mathlib.Core.Path.{◌≡◌}
+use mathlib.Core.Path.{◌≡◌, refl}
 use Prim.Native.Nat.{ℕ, ◌+◌, ◌-◌, ◌^◌, ◌≤◌, ◌<◌}
 use native.Mathlib.Omega.{arith}
 use lib.ListN.{length, replicate, length-replicate}
@@ -18,13 +18,15 @@ use Rattle.read_block.specs.Walks.{IsWalked}
 use Rattle.read_block.specs.Images.{form_of, bytes_in, bases_in, answer_of}
 use Rattle.read_block.specs.Records.{clear_record, clear_records}
 use Rattle.read_block.specs.WindowedLines.{ShownIn, PicturedIn}
-use Rattle.read_block.specs.declared.Decoded.{Decoded}
 use Rattle.read_block.specs.declared.Form.{Form}
-use Rattle.read_block.specs.declared.Walked.{Walked}
 use Rattle.read_block.proofs.LeftLaws.{form_scratch, form_depth, form_zeros}
 use Rattle.read_block.proofs.DecodeLaws.{answer_none, answer_more, pictured_none, pictured_kept, pictured_more}
 use Rattle.read_block.proofs.decoding.decode_blocks.Goals as goal
 use Rattle.read_block.proofs.decoding.decode_blocks.Goals.{At-loop-b}
+use Rattle.std.specs.Prelude.{Result}
+use Rattle.line_totals.specs.declared.TightLines.{TightLines}
+use Rattle.line_totals.specs.declared.Totals.{Totals}
+use Rattle.stream.specs.declared.header.Refusal.{Refusal}
 
 span_is : (s : Span) (r : Rect) → s ≡ span_of r → (s.first ≡ first_block r) × (s.last ≡ last_block r) × (s.lines ≡ line_count r)
 unfolding span_of
@@ -35,7 +37,7 @@ few : (h : FujiHeader) (r : Rect) (n : ℕ) → Accepted h r n → (last_block r
 few h r n a = (omega (arith, block_inside h r n a, a.ruled.blocks_high), omega (arith, lines_inside h r n a, a.ruled.lines_high))
 
 -- one block more, from what the walk over it gives
-module _ (d tile : List ℕ) (h : FujiHeader) (r : Rect) (n b count : ℕ) (F : Form) (s bases : List ℕ) (a : Part) (w : Walked) (ef : F ≡ form_of h)
+module _ (d tile : List ℕ) (h : FujiHeader) (r : Rect) (n b count : ℕ) (F : Form) (s bases : List ℕ) (a : Part) (w : Result (Totals × TightLines) (ℕ × Totals)) (ef : F ≡ form_of h)
     (es : s ≡ bytes_in d b) (eb : bases ≡ bases_in d b) (ec : count ≡ line_count r) (walked : IsWalked F bases s count w) where
   same : IsWalked (form_of h) (bases_in d b) (bytes_in d b) (line_count r) w
   same = rw (ef, es, eb, ec) at walked
@@ -51,7 +53,7 @@ clear_length : (l : List Record) → l ≡ clear_records → length l ≡ 336
 clear_length l e = rw e (length-replicate 336 clear_record)
 
 -- all blocks were read
-all_answered : (d : List ℕ) (h : FujiHeader) (r : Rect) (b : ℕ) (a : Decoded) → b ≡ last_block r + 1 → a ≡ answer_of d h r (b - first_block r)
+all_answered : (d : List ℕ) (h : FujiHeader) (r : Rect) (b : ℕ) (a : Result Unit Refusal) → b ≡ last_block r + 1 → a ≡ answer_of d h r (b - first_block r)
     → a ≡ answer_of d h r (last_block r + 1 - first_block r)
 all_answered d h r b a e f = rw e at f
 
@@ -101,18 +103,18 @@ walk-got-requires c =
     let fits = part_fits c.args.h c.args.r _ c.loop-b.invariant.4 c.loop-b.b c.loop-b.image (pictured (goal.at.walk-got-requires c).At-loop-b) c.loop-b.invariant.0 u in record {
       block_len_bound = (
         c.block_bytes-block.ensures.1,
-        form_scratch _ c.args.h c.form_of-form.ensures c.args.windowed c.loop-b.lines c.loop-b.rs
+        form_scratch (form_of c.args.h) c.args.h refl c.args.windowed c.loop-b.lines c.loop-b.rs
             (c.loop-b.invariant.5, c.loop-b.invariant.6),
       );
-      depth = (form_depth _ c.args.h c.form_of-form.ensures c.loop-b.invariant.4.ruled, omega (arith, c.loop-b.invariant.3, f.1));
-      are_places = (c.loop-b.invariant.7, rw c.part-part.ensures fits);
+      depth = (form_depth (form_of c.args.h) c.args.h refl c.loop-b.invariant.4.ruled, omega (arith, c.loop-b.invariant.3, f.1));
+      fits = rw c.part-part.ensures fits;
       all_numbered = c.no_entries.ensures.1;
     }
 
 pub loop-b-preserved : goal.loop-b-preserved
 loop-b-preserved c =
-    let z = form_zeros _ c.args.h c.form_of-form.ensures c.args.windowed _ c.walk-got.ensures.lines_after.0 in
-    let is = same c.args.d.now c.args.tile c.args.h c.args.r 0 c.loop-b.b _ _ _ _ c.part-part.result c.walk-got.result c.form_of-form.ensures c.block_bytes-block.ensures.0 c.base_row-bases.ensures c.loop-b.invariant.3 c.walk-got.ensures.walked in (
+    let z = form_zeros (form_of c.args.h) c.args.h refl c.args.windowed _ c.walk-got.ensures.lines_after.0 in
+    let is = same c.args.d.now c.args.tile c.args.h c.args.r 0 c.loop-b.b _ _ _ _ c.part-part.result c.walk-got.result refl c.block_bytes-block.ensures.0 c.base_row-bases.ensures c.loop-b.invariant.3 c.walk-got.ensures.walked in (
       omega (arith, c.loop-b.invariant.0),
       omega (arith, c.loop-b-test.true),
       c.loop-b.invariant.2,
@@ -122,7 +124,7 @@ loop-b-preserved c =
       clear_length _ c.walk-got.ensures.lines_after.1,
       c.loop-b.invariant.7,
       answer_more c.args.d.now c.args.h c.args.r c.loop-b.b c.walk-got.result _ _ c.loop-b.invariant.0 c.loop-b.invariant.8 is c.judged-answer.ensures,
-      image-more c.args.d.now c.args.tile c.args.h c.args.r _ c.loop-b.b _ _ _ _ c.part-part.result c.walk-got.result c.form_of-form.ensures c.block_bytes-block.ensures.0 c.base_row-bases.ensures c.loop-b.invariant.3 c.walk-got.ensures.walked
+      image-more c.args.d.now c.args.tile c.args.h c.args.r _ c.loop-b.b _ _ _ _ c.part-part.result c.walk-got.result refl c.block_bytes-block.ensures.0 c.base_row-bases.ensures c.loop-b.invariant.3 c.walk-got.ensures.walked
           c.args.windowed _ _ _ c.loop-b.invariant.4 c.part-part.ensures c.loop-b.invariant.9 c.walk-got.ensures.shown_in,
       λ k. (z, c.walk-got.ensures.lines_after.1),
     )

@@ -1,47 +1,41 @@
 -- `read_block::decoding::decode_region` meets its contract, by the three ways in which a call begins. Assumes nothing.
 use borrow.Author.Rules.{rules}
-use mathlib.Core.Path.{sym, ◌∙◌}
+use mathlib.Core.Path.{sym, ap, ◌∙◌}
 use Rattle.admission.proofs.CallLaws.{region_reads}
 use Rattle.read_block.specs.Lent.{Buffers}
-use Rattle.read_block.proofs.LeftLaws.{left_refused, left_nothing, left_reading, lines_back, records_back}
+use Rattle.read_block.proofs.LeftLaws.{left_reading, lines_back, records_back}
 use Rattle.read_block.proofs.decoding.decode_region.Goals as goal
 use Rattle.read_block.proofs.decoding.decode_region.Goals.{Start}
+use Rattle.std.specs.Prelude.{Ok, Option}
+use Rattle.stream.specs.declared.header.FujiHeader.{FujiHeader}
 
 abbrev lent : (c : Start) → Buffers
 lent c = record { image = c.args.image.now; lines = c.args.lines.now; records = c.args.rs.now }
 
-pub returns-in-Refused : goal.returns-in-Refused
-returns-in-Refused c =
-    left_refused c.args.d.now c.args.r c.args.tile (lent (goal.at.returns-in-Refused c).Start) _ _ (sym c.region_begins-begins.ensures ∙ c.in-Refused.is)
-
-pub returns-in-Nothing : goal.returns-in-Nothing
-returns-in-Nothing c =
-    left_nothing c.args.d.now c.args.r c.args.tile (lent (goal.at.returns-in-Nothing c).Start) _ (sym c.region_begins-begins.ensures ∙ c.in-Nothing.is)
-
 pub slice_bounds-decode_blocks-end : goal.slice_bounds-decode_blocks-end
 slice_bounds-decode_blocks-end c =
-    let k = region_reads _ _ _ _ _ _ (sym c.region_begins-begins.ensures ∙ c.in-Reading.is) in
+    let k = region_reads _ _ _ _ _ _ (sym c.region_begins.ensures ∙ (c.in_ok-h.was ∙ ap (λ (o : Option FujiHeader). Ok o) c.in-Some.is)) in
     search (rules, k.fits.for_lines)
 
-pub slice_bounds-decode_blocks-end-in-Reading : goal.slice_bounds-decode_blocks-end-in-Reading
-slice_bounds-decode_blocks-end-in-Reading c =
-    let k = region_reads _ _ _ _ _ _ (sym c.region_begins-begins.ensures ∙ c.in-Reading.is) in
+pub slice_bounds-decode_blocks-end-2 : goal.slice_bounds-decode_blocks-end-2
+slice_bounds-decode_blocks-end-2 c =
+    let k = region_reads _ _ _ _ _ _ (sym c.region_begins.ensures ∙ (c.in_ok-h.was ∙ ap (λ (o : Option FujiHeader). Ok o) c.in-Some.is)) in
     search (rules, k.fits.for_records)
 
 pub decode_blocks-requires : goal.decode_blocks-requires
 decode_blocks-requires c =
-    let k = region_reads _ _ _ _ _ _ (sym c.region_begins-begins.ensures ∙ c.in-Reading.is) in
+    let k = region_reads _ _ _ _ _ _ (sym c.region_begins.ensures ∙ (c.in_ok-h.was ∙ ap (λ (o : Option FujiHeader). Ok o) c.in-Some.is)) in
     record {
       d_value = (k.opens, k.region);
       scratch_in = (search rules, search rules);
     }
 
-pub returns-in-Reading : goal.returns-in-Reading
-returns-in-Reading c =
-    left_reading c.args.d.now c.args.r c.args.tile (lent (goal.at.returns-in-Reading c).Start) _ c.in-Reading.h (sym c.region_begins-begins.ensures ∙ c.in-Reading.is) _ _
+pub returns : goal.returns
+returns c =
+    left_reading c.args.d.now c.args.r c.args.tile (lent (goal.at.returns c).Start) _ c.in-Some.h (sym c.region_begins.ensures ∙ (c.in_ok-h.was ∙ ap (λ (o : Option FujiHeader). Ok o) c.in-Some.is)) _ _
     (record {
       answered = c.decode_blocks.ensures.value.0;
       pictured = c.decode_blocks.ensures.value.1;
-      lines = lines_back c.in-Reading.h.xtrans c.samples_needed-used.result c.args.lines.now _ c.samples_needed-used.ensures.0 c.decode_blocks.ensures.lines_after.0;
+      lines = lines_back c.in-Some.h.xtrans c.samples_needed-used.result c.args.lines.now _ c.samples_needed-used.ensures.0 c.decode_blocks.ensures.lines_after.0;
       records = records_back c.args.rs.now _ c.decode_blocks.ensures.lines_after.1;
     })

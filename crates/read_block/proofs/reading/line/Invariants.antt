@@ -13,6 +13,6 @@ use Rattle.read_block.proofs.reading.line.Given as goal
 abbrev pub invariant-loop-i : goal.invariant-loop-i
 invariant-loop-i l =
     ((l.w ≡ width_of l.xtrans) × (8 ≤ l.w) × (l.w ≤ 512) × (l.w % 2 ≡ 0)) × (length l.lines ≡ samples_in l.windowed l.xtrans) × (length l.rs ≡ 336) × AllInRange l.rs
-    × (l.place.long ≤ l.place.at.0) × (Fits l.part l.image × OnlyLine l.windowed l.part l.n l.initial.image l.image)
+    × (l.place.long ≤ l.place.at.0) × (Fits l.showing.part l.image × OnlyLine l.windowed l.showing.part l.n l.initial.image l.image)
     × ((ls : List ℕ) → length ls ≡ 18 * (l.w + 2) → Held l.windowed l.w 0 ls l.initial.lines
-    → SoFar l.windowed (record { bits = l.bits; xtrans = l.xtrans }) l.qs.base l.w l.block l.tile l.part l.n l.i (state_at ls l.initial.rs l.initial.place) l.lines l.rs l.place l.image)
+    → SoFar l.windowed (record { bits = l.bits; xtrans = l.xtrans }) l.qs.base l.w l.block l.showing.tile l.showing.part l.n l.i (state_at ls l.initial.rs l.initial.place) l.lines l.rs l.place l.image)

@@ -27,8 +27,8 @@ pub record SoFar (windowed : Bool) (F : Form) (bases s tile : List ℕ) (a : Par
 
 abbrev pub invariant-loop-i : goal.invariant-loop-i
 invariant-loop-i l =
-    ((l.w ≡ width_of l.form.xtrans) × (l.w ≤ 512)) × (length l.lines ≡ samples_in l.windowed l.form.xtrans) × (length l.rs ≡ 336) × AllInRange l.rs
+    ((l.w ≡ width_of l.showing.xtrans) × (l.w ≤ 512)) × (length l.lines ≡ samples_in l.windowed l.showing.xtrans) × (length l.rs ≡ 336) × AllInRange l.rs
     × (l.tight_lines.lines ≤ l.i)
-    × (Fits l.part l.image × (length l.image ≡ length l.initial.image))
-    × ((ls : List ℕ) → length ls ≡ 18 * (width_of l.form.xtrans + 2) → Held l.windowed (width_of l.form.xtrans) 6 ls l.initial.lines
-    → SoFar l.windowed l.form l.bases l.block l.tile l.part l.first (state_at ls l.initial.rs l.initial.place) l.initial.image l.i l.lines l.rs l.image l.place l.tight_lines)
+    × (Fits l.showing.part l.image × (length l.image ≡ length l.initial.image))
+    × ((ls : List ℕ) → length ls ≡ 18 * (width_of l.showing.xtrans + 2) → Held l.windowed (width_of l.showing.xtrans) 6 ls l.initial.lines
+    → SoFar l.windowed (record { bits = l.bits; xtrans = l.showing.xtrans }) l.bases l.block l.showing.tile l.showing.part l.first (state_at ls l.initial.rs l.initial.place) l.initial.image l.i l.lines l.rs l.image l.place l.tight_lines)

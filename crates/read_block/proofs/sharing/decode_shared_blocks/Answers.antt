@@ -18,15 +18,16 @@ use Rattle.cameras.specs.Entries.{lines_with_entry}
 use Rattle.cameras.specs.declared.Camera.{Camera}
 use Rattle.cameras.specs.declared.Entry.{Entry}
 use Rattle.cameras.proofs.EntryLaws.{all_below_lem}
-use Rattle.read_block.specs.Images.{answer_of, Pictured}
+use Rattle.read_block.specs.Images.{form_of, answer_of, Pictured}
 use Rattle.read_block.specs.Records.{clear_record, clear_records}
 use Rattle.read_block.specs.Sharing.{block_count, entries_after, shared_answer, last_entries, PicturedShared}
-use Rattle.read_block.specs.declared.Decoded.{Decoded}
 use Rattle.read_block.proofs.LeftLaws.{form_scratch, form_depth, form_zeros}
 use Rattle.read_block.proofs.DecodeLaws.{answer_none, pictured_none}
 use Rattle.read_block.proofs.SharingLaws.{entries_none, Going, going_none, next_entries, next_going, next_answer, next_image, out_answer, out_entries, out_image}
 use Rattle.read_block.proofs.SharingLaws.{whole_answer, whole_entries, whole_image}
 use Rattle.read_block.proofs.sharing.decode_shared_blocks.Goals as goal
+use Rattle.std.specs.Prelude.{Result}
+use Rattle.stream.specs.declared.header.Refusal.{Refusal}
 
 span_is : (s : Span) (r : Rect) → s ≡ span_of r → (s.first ≡ first_block r) × (s.last ≡ last_block r) × (s.lines ≡ line_count r)
 unfolding span_of
@@ -53,7 +54,7 @@ module _ (c : Camera) (d : List ℕ) (h : FujiHeader) (r : Rect) (l held : List 
   all-going : Going c d h r l (block_count r)
   all-going = let f : b - first_block r ≡ block_count r = omega arith in rw f at g
 
-  all-answered : (a : Decoded) → a ≡ answer_of d h r (b - first_block r) → a ≡ shared_answer c d h r l
+  all-answered : (a : Result Unit Refusal) → a ≡ answer_of d h r (b - first_block r) → a ≡ shared_answer c d h r l
   all-answered a f = (rw e at f) ∙ whole_answer c d h r l all-going
 
   all_held : held ≡ entries_after c d h r l (b - first_block r) → held ≡ last_entries c d h r l
@@ -86,7 +87,6 @@ loop-b-init c =
       answer_none c.args.d.now c.args.h c.args.r _ e.0,
       pictured_none false c.args.d.now c.args.h c.args.r c.args.tile _ c.args.image.now e.0,
       λ l. absurd (omega (arith, e.0, l)),
-      refl,
       entries_none c.args.camera c.args.d.now c.args.h c.args.r c.args.held.all _ e.0,
       c.requires.scratch_in.1,
       going_none c.args.camera c.args.d.now c.args.h c.args.r c.args.held.all _ e.0,
@@ -101,8 +101,8 @@ pub take_lines-took-requires : goal.take_lines-took-requires
 take_lines-took-requires c =
     let f = few c.args.h c.args.r _ c.loop-b.invariant.4 in
     record {
-      le_bits = (omega (arith, c.loop-b.invariant.11, c.loop-b.invariant.4.ruled.bits_low), (omega (arith, c.loop-b.invariant.11, c.loop-b.invariant.4.ruled.bits_high), omega (arith, c.loop-b.invariant.3, f.1)));
-      all_numbered = c.loop-b.invariant.13;
+      le_bits = (omega (arith, c.loop-b.invariant.4.ruled.bits_low), (omega (arith, c.loop-b.invariant.4.ruled.bits_high), omega (arith, c.loop-b.invariant.3, f.1)));
+      all_numbered = c.loop-b.invariant.12;
     }
 
 pub walk-got-requires : goal.walk-got-requires
@@ -112,11 +112,11 @@ walk-got-requires c =
     let fits = part_fits c.args.h c.args.r _ c.loop-b.invariant.4 c.loop-b.b c.loop-b.image c.loop-b.invariant.9.kept c.loop-b.invariant.0 u in record {
       block_len_bound = (
         c.block_bytes-block.ensures.1,
-        form_scratch _ c.args.h c.form_of-form.ensures false c.loop-b.lines c.loop-b.rs
+        form_scratch (form_of c.args.h) c.args.h refl false c.loop-b.lines c.loop-b.rs
             (c.loop-b.invariant.5, c.loop-b.invariant.6),
       );
-      depth = (form_depth _ c.args.h c.form_of-form.ensures c.loop-b.invariant.4.ruled, omega (arith, c.loop-b.invariant.3, f.1, c.take_lines-took.ensures.lines_value.1));
-      are_places = (c.loop-b.invariant.7, rw c.part-part.ensures fits);
+      depth = (form_depth (form_of c.args.h) c.args.h refl c.loop-b.invariant.4.ruled, omega (arith, c.loop-b.invariant.3, f.1, c.take_lines-took.ensures.lines_value.1));
+      fits = rw c.part-part.ensures fits;
       all_numbered = c.take_lines-took.ensures.all_value.1;
     }
 
@@ -124,8 +124,8 @@ pub after_block-held-requires : goal.after_block-held-requires
 after_block-held-requires c =
     let f = few c.args.h c.args.r _ c.loop-b.invariant.4 in
     record {
-      le_bits = (omega (arith, c.loop-b.invariant.11, c.loop-b.invariant.4.ruled.bits_low), (omega (arith, c.loop-b.invariant.11, c.loop-b.invariant.4.ruled.bits_high), omega (arith, c.loop-b.invariant.3, f.1, c.take_lines-took.ensures.lines_value.1)));
-      all_numbered = (c.loop-b.invariant.13, found_all c.args.camera _ _ c.loop-b.held.all _ _ c.take_lines-took.ensures.lines_value.0);
+      le_bits = (omega (arith, c.loop-b.invariant.4.ruled.bits_low), (omega (arith, c.loop-b.invariant.4.ruled.bits_high), omega (arith, c.loop-b.invariant.3, f.1, c.take_lines-took.ensures.lines_value.1)));
+      all_numbered = (c.loop-b.invariant.12, found_all c.args.camera _ _ c.loop-b.held.all _ _ c.take_lines-took.ensures.lines_value.0);
     }
 
 -- a line has no entry
@@ -135,24 +135,24 @@ shape_of-image-then-is_stopped c =
 
 pub returns-then-is_stopped : goal.returns-then-is_stopped
 returns-then-is_stopped c =
-    let z = form_zeros _ c.args.h c.form_of-form.ensures false _ c.walk-got.ensures.lines_after.0 in
+    let z = form_zeros (form_of c.args.h) c.args.h refl false _ c.walk-got.ensures.lines_after.0 in
     let u = sym c.is_stopped.ensures ∙ c.if-is_stopped.true in
     let high : c.loop-b.b < last_block c.args.r + 1 = omega (arith, c.loop-b-test.true, c.loop-b.invariant.2) in record {
       answer_value = (
-        out_answer c.args.camera c.args.d.now c.args.h c.args.r _ c.loop-b.b c.loop-b.held.all _ c.loop-b.invariant.0 c.loop-b.invariant.12 c.loop-b.invariant.14 _ _ _ _ _ _ _
-            c.walk-got.result c.form_of-form.ensures c.base_row-bases.ensures c.block_bytes-block.ensures.0 c.loop-b.invariant.3 c.loop-b.invariant.11 c.take_lines-took.ensures.lines_value.0 c.take_lines-took.ensures.lines_value.1 c.walk-got.ensures.walked c.lines_read-read.ensures c.after_block-held.ensures.0 u high,
-        out_entries c.args.camera c.args.d.now c.args.h c.args.r _ c.loop-b.b c.loop-b.held.all _ c.loop-b.invariant.0 c.loop-b.invariant.12 c.loop-b.invariant.14 _ _ _ _ _ _ _
-            c.walk-got.result c.form_of-form.ensures c.base_row-bases.ensures c.block_bytes-block.ensures.0 c.loop-b.invariant.3 c.loop-b.invariant.11 c.take_lines-took.ensures.lines_value.0 c.take_lines-took.ensures.lines_value.1 c.walk-got.ensures.walked c.lines_read-read.ensures c.after_block-held.ensures.0 u high,
+        out_answer c.args.camera c.args.d.now c.args.h c.args.r _ c.loop-b.b c.loop-b.held.all _ c.loop-b.invariant.0 c.loop-b.invariant.11 c.loop-b.invariant.13 _ _ _ _ _ _ _
+            c.walk-got.result refl c.base_row-bases.ensures c.block_bytes-block.ensures.0 c.loop-b.invariant.3 refl c.take_lines-took.ensures.lines_value.0 c.take_lines-took.ensures.lines_value.1 c.walk-got.ensures.walked c.lines_read-read.ensures c.after_block-held.ensures.0 u high,
+        out_entries c.args.camera c.args.d.now c.args.h c.args.r _ c.loop-b.b c.loop-b.held.all _ c.loop-b.invariant.0 c.loop-b.invariant.11 c.loop-b.invariant.13 _ _ _ _ _ _ _
+            c.walk-got.result refl c.base_row-bases.ensures c.block_bytes-block.ensures.0 c.loop-b.invariant.3 refl c.take_lines-took.ensures.lines_value.0 c.take_lines-took.ensures.lines_value.1 c.walk-got.ensures.walked c.lines_read-read.ensures c.after_block-held.ensures.0 u high,
       );
-      pictured_shared = out_image c.args.camera c.args.d.now c.args.h c.args.r _ c.loop-b.b c.loop-b.held.all _ c.loop-b.invariant.0 c.loop-b.invariant.12 c.loop-b.invariant.14 _ _ _ _ _ _ _
-          c.walk-got.result c.form_of-form.ensures c.base_row-bases.ensures c.block_bytes-block.ensures.0 c.loop-b.invariant.3 c.loop-b.invariant.11 c.take_lines-took.ensures.lines_value.0 c.take_lines-took.ensures.lines_value.1 c.walk-got.ensures.walked c.lines_read-read.ensures c.after_block-held.ensures.0 u high c.args.tile _ _ _ _ _ c.loop-b.invariant.4
+      pictured_shared = out_image c.args.camera c.args.d.now c.args.h c.args.r _ c.loop-b.b c.loop-b.held.all _ c.loop-b.invariant.0 c.loop-b.invariant.11 c.loop-b.invariant.13 _ _ _ _ _ _ _
+          c.walk-got.result refl c.base_row-bases.ensures c.block_bytes-block.ensures.0 c.loop-b.invariant.3 refl c.take_lines-took.ensures.lines_value.0 c.take_lines-took.ensures.lines_value.1 c.walk-got.ensures.walked c.lines_read-read.ensures c.after_block-held.ensures.0 u high c.args.tile _ _ _ _ _ c.loop-b.invariant.4
           c.part-part.ensures c.loop-b.invariant.9 c.walk-got.ensures.shown_in;
       lines_after = (z, c.walk-got.ensures.lines_after.1);
     }
 
 pub loop-b-preserved : goal.loop-b-preserved
 loop-b-preserved c =
-    let z = form_zeros _ c.args.h c.form_of-form.ensures false _ c.walk-got.ensures.lines_after.0 in
+    let z = form_zeros (form_of c.args.h) c.args.h refl false _ c.walk-got.ensures.lines_after.0 in
     let u = sym c.is_stopped.ensures ∙ c.if-is_stopped.false in (
       omega (arith, c.loop-b.invariant.0),
       omega (arith, c.loop-b-test.true),
@@ -162,18 +162,17 @@ loop-b-preserved c =
       zero_length _ _ z,
       clear_length _ c.walk-got.ensures.lines_after.1,
       c.loop-b.invariant.7,
-      next_answer c.args.camera c.args.d.now c.args.h c.args.r _ c.loop-b.b c.loop-b.held.all _ c.loop-b.invariant.0 c.loop-b.invariant.12 c.loop-b.invariant.14 _ _ _ _ _ _ _
-          c.walk-got.result c.form_of-form.ensures c.base_row-bases.ensures c.block_bytes-block.ensures.0 c.loop-b.invariant.3 c.loop-b.invariant.11 c.take_lines-took.ensures.lines_value.0 c.take_lines-took.ensures.lines_value.1 c.walk-got.ensures.walked c.lines_read-read.ensures c.after_block-held.ensures.0 u _ _ c.loop-b.invariant.8 c.judged-answer.ensures,
-      next_image c.args.camera c.args.d.now c.args.h c.args.r _ c.loop-b.b c.loop-b.held.all _ c.loop-b.invariant.0 c.loop-b.invariant.12 c.loop-b.invariant.14 _ _ _ _ _ _ _
-          c.walk-got.result c.form_of-form.ensures c.base_row-bases.ensures c.block_bytes-block.ensures.0 c.loop-b.invariant.3 c.loop-b.invariant.11 c.take_lines-took.ensures.lines_value.0 c.take_lines-took.ensures.lines_value.1 c.walk-got.ensures.walked c.lines_read-read.ensures c.after_block-held.ensures.0 u c.args.tile _ _ _ _ _ c.loop-b.invariant.4
+      next_answer c.args.camera c.args.d.now c.args.h c.args.r _ c.loop-b.b c.loop-b.held.all _ c.loop-b.invariant.0 c.loop-b.invariant.11 c.loop-b.invariant.13 _ _ _ _ _ _ _
+          c.walk-got.result refl c.base_row-bases.ensures c.block_bytes-block.ensures.0 c.loop-b.invariant.3 refl c.take_lines-took.ensures.lines_value.0 c.take_lines-took.ensures.lines_value.1 c.walk-got.ensures.walked c.lines_read-read.ensures c.after_block-held.ensures.0 u _ _ c.loop-b.invariant.8 c.judged-answer.ensures,
+      next_image c.args.camera c.args.d.now c.args.h c.args.r _ c.loop-b.b c.loop-b.held.all _ c.loop-b.invariant.0 c.loop-b.invariant.11 c.loop-b.invariant.13 _ _ _ _ _ _ _
+          c.walk-got.result refl c.base_row-bases.ensures c.block_bytes-block.ensures.0 c.loop-b.invariant.3 refl c.take_lines-took.ensures.lines_value.0 c.take_lines-took.ensures.lines_value.1 c.walk-got.ensures.walked c.lines_read-read.ensures c.after_block-held.ensures.0 u c.args.tile _ _ _ _ _ c.loop-b.invariant.4
           c.part-part.ensures c.loop-b.invariant.9 c.walk-got.ensures.shown_in,
       λ k. (z, c.walk-got.ensures.lines_after.1),
-      c.loop-b.invariant.11,
-      next_entries c.args.camera c.args.d.now c.args.h c.args.r _ c.loop-b.b c.loop-b.held.all _ c.loop-b.invariant.0 c.loop-b.invariant.12 c.loop-b.invariant.14 _ _ _ _ _ _ _
-          c.walk-got.result c.form_of-form.ensures c.base_row-bases.ensures c.block_bytes-block.ensures.0 c.loop-b.invariant.3 c.loop-b.invariant.11 c.take_lines-took.ensures.lines_value.0 c.take_lines-took.ensures.lines_value.1 c.walk-got.ensures.walked c.lines_read-read.ensures c.after_block-held.ensures.0,
+      next_entries c.args.camera c.args.d.now c.args.h c.args.r _ c.loop-b.b c.loop-b.held.all _ c.loop-b.invariant.0 c.loop-b.invariant.11 c.loop-b.invariant.13 _ _ _ _ _ _ _
+          c.walk-got.result refl c.base_row-bases.ensures c.block_bytes-block.ensures.0 c.loop-b.invariant.3 refl c.take_lines-took.ensures.lines_value.0 c.take_lines-took.ensures.lines_value.1 c.walk-got.ensures.walked c.lines_read-read.ensures c.after_block-held.ensures.0,
       c.after_block-held.ensures.1,
-      next_going c.args.camera c.args.d.now c.args.h c.args.r _ c.loop-b.b c.loop-b.held.all _ c.loop-b.invariant.0 c.loop-b.invariant.12 c.loop-b.invariant.14 _ _ _ _ _ _ _
-          c.walk-got.result c.form_of-form.ensures c.base_row-bases.ensures c.block_bytes-block.ensures.0 c.loop-b.invariant.3 c.loop-b.invariant.11 c.take_lines-took.ensures.lines_value.0 c.take_lines-took.ensures.lines_value.1 c.walk-got.ensures.walked c.lines_read-read.ensures c.after_block-held.ensures.0 u,
+      next_going c.args.camera c.args.d.now c.args.h c.args.r _ c.loop-b.b c.loop-b.held.all _ c.loop-b.invariant.0 c.loop-b.invariant.11 c.loop-b.invariant.13 _ _ _ _ _ _ _
+          c.walk-got.result refl c.base_row-bases.ensures c.block_bytes-block.ensures.0 c.loop-b.invariant.3 refl c.take_lines-took.ensures.lines_value.0 c.take_lines-took.ensures.lines_value.1 c.walk-got.ensures.walked c.lines_read-read.ensures c.after_block-held.ensures.0 u,
     )
 
 pub returns : goal.returns
@@ -181,10 +180,10 @@ returns c =
     let e : c.loop-b.b ≡ last_block c.args.r + 1 = omega (arith, c.loop-b-test.false, c.loop-b.invariant.1, c.loop-b.invariant.2) in
     let k : first_block c.args.r < c.loop-b.b = omega (arith, e, block_order c.args.h c.args.r _ c.loop-b.invariant.4) in record {
       answer_value = (
-        all-answered c.args.camera c.args.d.now c.args.h c.args.r _ c.loop-b.held.all c.loop-b.b e c.loop-b.invariant.14 _ c.loop-b.invariant.8,
-        all_held c.args.camera c.args.d.now c.args.h c.args.r _ c.loop-b.held.all c.loop-b.b e c.loop-b.invariant.14 c.loop-b.invariant.12,
+        all-answered c.args.camera c.args.d.now c.args.h c.args.r _ c.loop-b.held.all c.loop-b.b e c.loop-b.invariant.13 _ c.loop-b.invariant.8,
+        all_held c.args.camera c.args.d.now c.args.h c.args.r _ c.loop-b.held.all c.loop-b.b e c.loop-b.invariant.13 c.loop-b.invariant.11,
       );
-      pictured_shared = all-pictured c.args.camera c.args.d.now c.args.h c.args.r _ c.loop-b.held.all c.loop-b.b e c.loop-b.invariant.14 c.args.tile _ _ c.loop-b.invariant.9;
+      pictured_shared = all-pictured c.args.camera c.args.d.now c.args.h c.args.r _ c.loop-b.held.all c.loop-b.b e c.loop-b.invariant.13 c.args.tile _ _ c.loop-b.invariant.9;
       lines_after = c.loop-b.invariant.10 k;
     }
 

@@ -19,6 +19,6 @@ invariant-loop-b l =
     (first_block l.r ≤ l.b) × (l.b ≤ l.end) × (l.end ≡ last_block l.r + 1) × (l.count ≡ line_count l.r) × Accepted l.h l.r (length l.initial.image)
     × (length l.lines ≡ samples_in false l.h.xtrans) × (length l.rs ≡ 336) × ArePlaces l.places
     × (l.answer ≡ answer_of l.d l.h l.r (l.b - first_block l.r)) × Pictured l.d l.h l.r l.tile l.b l.initial.image l.image
-    × (first_block l.r < l.b → (l.lines ≡ zeros_in false l.h.xtrans) × (l.rs ≡ clear_records)) × (l.bits ≡ l.h.bits)
+    × (first_block l.r < l.b → (l.lines ≡ zeros_in false l.h.xtrans) × (l.rs ≡ clear_records))
     × (l.held.all ≡ entries_after l.camera l.d l.h l.r l.initial.held.all (l.b - first_block l.r)) × AllNumbered l.held.all
     × Going l.camera l.d l.h l.r l.initial.held.all (l.b - first_block l.r)

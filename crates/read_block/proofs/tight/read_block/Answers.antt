@@ -12,33 +12,33 @@ use Rattle.read_block.proofs.tight.read_block.Goals.{Start}
 abbrev lent : (c : Start) → Scratch
 lent c = record { lines = c.args.lines.now; records = c.args.rs.now }
 
-pub returns-in-Refused : goal.returns-in-Refused
-returns-in-Refused c =
-    block_refused _ (lent (goal.at.returns-in-Refused c).Start) _ _ (sym c.block_begins-begins.ensures ∙ c.in-Refused.is) _ c.refused.ensures
+pub returns-in-Err : goal.returns-in-Err
+returns-in-Err c =
+    block_refused _ (lent (goal.at.returns-in-Err c).Start) _ _ (sym c.block_begins-begins.ensures ∙ c.in-Err.is) _ c.refused.ensures
 
 pub slice_bounds-walk_block-end : goal.slice_bounds-walk_block-end
 slice_bounds-walk_block-end c =
-    let k = block_reads _ _ _ _ _ _ (sym c.block_begins-begins.ensures ∙ c.in-Header.is) in
+    let k = block_reads _ _ _ _ _ _ (sym c.block_begins-begins.ensures ∙ c.in-Ok.is) in
     search (rules, k.fits.for_lines)
 
-pub slice_bounds-walk_block-end-in-Header : goal.slice_bounds-walk_block-end-in-Header
-slice_bounds-walk_block-end-in-Header c =
-    let k = block_reads _ _ _ _ _ _ (sym c.block_begins-begins.ensures ∙ c.in-Header.is) in
+pub slice_bounds-walk_block-end-in-Ok : goal.slice_bounds-walk_block-end-in-Ok
+slice_bounds-walk_block-end-in-Ok c =
+    let k = block_reads _ _ _ _ _ _ (sym c.block_begins-begins.ensures ∙ c.in-Ok.is) in
     search (rules, k.fits.for_records)
 
 pub walk_block-got-requires : goal.walk_block-got-requires
 walk_block-got-requires c =
-    let k = block_reads _ _ _ _ _ _ (sym c.block_begins-begins.ensures ∙ c.in-Header.is) in
+    let k = block_reads _ _ _ _ _ _ (sym c.block_begins-begins.ensures ∙ c.in-Ok.is) in
     record {
       d_value = k.opens;
       scratch_of = (search rules, search rules);
     }
 
-pub returns-in-Header : goal.returns-in-Header
-returns-in-Header c =
-    block_read _ (lent (goal.at.returns-in-Header c).Start) _ c.in-Header.h (sym c.block_begins-begins.ensures ∙ c.in-Header.is) _ _
+pub returns-in-Ok : goal.returns-in-Ok
+returns-in-Ok c =
+    block_read _ (lent (goal.at.returns-in-Ok c).Start) _ c.in-Ok.h (sym c.block_begins-begins.ensures ∙ c.in-Ok.is) _ _
     (record {
-      answered = c.read_answer.ensures ∙ read_told (form_of c.in-Header.h) (bases_in c.args.d.now c.args.b) (bytes_in c.args.d.now c.args.b) c.in-Header.h.lines c.args.b c.walk_block-got.result c.walk_block-got.ensures.walked;
-      lines = lines_back c.in-Header.h.xtrans c.samples_needed-used.result c.args.lines.now _ c.samples_needed-used.ensures.0 c.walk_block-got.ensures.lines_after.0;
+      answered = c.read_answer.ensures ∙ read_told (form_of c.in-Ok.h) (bases_in c.args.d.now c.args.b) (bytes_in c.args.d.now c.args.b) c.in-Ok.h.lines c.args.b c.walk_block-got.result c.walk_block-got.ensures.walked;
+      lines = lines_back c.in-Ok.h.xtrans c.samples_needed-used.result c.args.lines.now _ c.samples_needed-used.ensures.0 c.walk_block-got.ensures.lines_after.0;
       records = records_back c.args.rs.now _ c.walk_block-got.ensures.lines_after.1;
     })

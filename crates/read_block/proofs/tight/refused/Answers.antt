@@ -4,10 +4,10 @@ use Rattle.line_totals.specs.Totals.{no_totals}
 use Rattle.line_totals.specs.declared.Totals.{Totals}
 use Rattle.stream.specs.declared.header.Refusal.{Refusal}
 use Rattle.read_block.specs.Totals.{refused_by}
-use Rattle.read_block.specs.declared.Decoded.TheVariants.{Refused}
 use Rattle.read_block.proofs.tight.refused.Goals as goal
+use Rattle.std.specs.Prelude.{Err}
 
-with_none : (x : Refusal) (t : Totals) → t ≡ no_totals → record { answer = Refused x; totals = t } ≡ refused_by x
+with_none : (x : Refusal) (t : Totals) → t ≡ no_totals → record { answer = Err x; totals = t } ≡ refused_by x
 with_none x t e = rw e
 
 pub returns : goal.returns

@@ -6,12 +6,13 @@ use Prim.Native.Nat.{ℕ}
 use Rattle.code.specs.Codes.{code_at}
 use Rattle.code.specs.Inside.{Small}
 use Rattle.code.specs.Inside.{taken_of}
-use Rattle.code.specs.declared.Taken.{Taken}
 use Rattle.code_reader.proofs.ShortLaws.{short_taken}
 use Rattle.read_pass.proofs.one_sample.taken.Goals as goal
+use Rattle.std.specs.Prelude.{Option}
+use Rattle.code.specs.declared.Place.{Place}
 
 -- the slow reader's answer, put together anew
-slowly : (m k k' limit raw : ℕ) (s : List ℕ) (p : ℕ) (tight : Bool) (long : ℕ) {r t : Taken} → k ≡ k' → r ≡ t
+slowly : (m k k' limit raw : ℕ) (s : List ℕ) (p : ℕ) (tight : Bool) (long : ℕ) {r t : Option (ℕ × Place)} → k ≡ k' → r ≡ t
     → (t ≡ taken_of m tight long (code_at s p k' limit raw)) × Small t → (r ≡ taken_of m tight long (code_at s p k limit raw)) × Small r
 slowly m k k' limit raw s p tight long e f h = rw (e, f) h
 
@@ -23,4 +24,4 @@ returns-in_default c = slowly _ _ _ _ _ _ _ _ _ refl c.in_parts-in_default.ensur
 
 pub returns : goal.returns
 returns c =
-    short_taken _ _ _ _ _ _ _ _ _ _ c.requires.block_len_bound.1.0 c.requires.block_len_bound.1.1.0 (sym c.short_code-found.ensures ∙ c.in-Code.is)
+    short_taken _ _ _ _ _ _ _ _ _ _ c.requires.block_len_bound.1.0 c.requires.block_len_bound.1.1.0 (sym c.short_code-found.ensures ∙ c.in-Some.is)

@@ -9,12 +9,13 @@ use Rattle.stream.specs.declared.header.FujiHeader.{FujiHeader}
 use Rattle.stream.proofs.HeaderLaws.{parsed}
 use Rattle.stream.proofs.StreamLaws.{opened}
 use Rattle.saved_state.specs.Checkpoints.{checked_of}
-use Rattle.saved_state.specs.declared.load.Checked.{Checked}
 use Rattle.read_block.specs.Images.{bytes_in}
 use Rattle.saved_state.specs.Resuming.{checked_in}
 use Rattle.saved_state.proofs.blocks.checked_in.Goals as goal
+use Rattle.std.specs.Prelude.{Result}
+use Rattle.stream.specs.declared.header.Refusal.{Refusal}
 
-checked_by : (d : List ℕ) (b : ℕ) (h : FujiHeader) (s : List ℕ) (w lines : ℕ) (block : List ℕ) (r : Checked) → w ≡ width_of h.xtrans → lines ≡ h.lines
+checked_by : (d : List ℕ) (b : ℕ) (h : FujiHeader) (s : List ℕ) (w lines : ℕ) (block : List ℕ) (r : Result (ℕ × ℕ) Refusal) → w ≡ width_of h.xtrans → lines ≡ h.lines
     → block ≡ bytes_in d b → r ≡ checked_of w h.bits lines (length block) d b s → r ≡ checked_in d b h s
 checked_by d b h s w lines block r ew el eb e = rw (ew, el, eb) at e
 

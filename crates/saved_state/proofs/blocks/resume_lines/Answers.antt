@@ -23,9 +23,9 @@ held : (c : Start) → let bytes = bytes_in c.args.d.now c.args.b in
 held c = loads_at _ _ _ _ _ _ _ _ _ c.requires.b_lt_blocks.1
 
 -- all 18 lines are there
-long : (c : After-no_entries) → length c.load_lines.new.lines ≡ samples_needed c.form_of-form.result.xtrans
+long : (c : After-no_entries) → length c.load_lines.new.lines ≡ samples_needed c.args.h.xtrans
 long c =
-    form_samples _ c.args.h c.form_of-form.ensures _ (omega (arith, c.load_lines.auto, c.clear.auto, c.requires.scratch_of.0))
+    form_samples (form_of c.args.h) c.args.h refl _ (omega (arith, c.load_lines.auto, c.clear.auto, c.requires.scratch_of.0))
 
 -- and fewer lines than a picture has are read
 few : (c : After-no_entries) → c.args.k + c.lines_wanted-more.result < 2 ^ 16
@@ -63,11 +63,8 @@ read_lines-got-requires c =
     let w = (goal.at.read_lines-got-requires c).After-no_entries in
     record {
       block_len_bound = (c.block_bytes-block.ensures.1, (long w, omega (arith, c.load_records.auto, c.requires.scratch_of.1)));
-      depth = (form_depth _ c.args.h c.form_of-form.ensures c.requires.d_value.1.ruled, few w);
-      are_places = (
-        c.xtrans_places-places.ensures,
-        wanted_fits c.args.h c.args.r _ c.args.b _ _ c.requires.d_value.1 refl c.part_wanted-part.ensures,
-      );
+      depth = (form_depth (form_of c.args.h) c.args.h refl c.requires.d_value.1.ruled, few w);
+      fits = wanted_fits c.args.h c.args.r _ c.args.b _ _ c.requires.d_value.1 refl c.part_wanted-part.ensures;
       all_numbered = c.no_entries.ensures.1;
       all_in_range = (ranges w, (rw c.place_at.ensures (omega arith), (c.load_lines.new.lines, long w, refl)));
     }
@@ -89,13 +86,13 @@ returns c =
     let got = held (goal.at.returns c).Start in
     let q = c.read_lines-got.ensures _ (long (goal.at.returns c).After-no_entries) refl in
     let z =
-    loaded_is c.form_of-form.result c.args.h c.base_row-bases.result.now c.args.s.now c.base_of.result c.args.at _ _ _ _ _ _ c.form_of-form.ensures
+    loaded_is (form_of c.args.h) c.args.h c.base_row-bases.result.now c.args.s.now c.base_of.result c.args.at _ _ _ _ _ _ refl
     c.load_lines.ensures c.width.ensures c.clear.ensures c.requires.scratch_of.0 c.base_of.ensures.0
     c.load_records.ensures c.place_at.ensures got.position in
     let e : length c.read_lines-got.new.lines ≡ 18 * (width_of c.args.h.xtrans + 2) = omega
     (arith, c.read_lines-got.auto, c.load_lines.auto, c.clear.auto, c.requires.scratch_of.0) in record {
       resumed = resumed_all c.args.d.now c.args.b c.args.h c.args.s.now c.args.r c.args.tile _ c.requires.d_value.1
-          c.form_of-form.result c.base_row-bases.result.now c.block_bytes-block.result.now _ c.args.k c.args.at c.lines_wanted-more.result c.part_wanted-part.result c.read_lines-got.result _ _ _ _
-          c.form_of-form.ensures c.base_row-bases.ensures c.block_bytes-block.ensures.0 z got.next got.position c.part_wanted-part.ensures c.lines_wanted-more.ensures q.0 q.1 c.resume_answer.ensures;
+          (form_of c.args.h) c.base_row-bases.result.now c.block_bytes-block.result.now _ c.args.k c.args.at c.lines_wanted-more.result c.part_wanted-part.result c.read_lines-got.result _ _ _ _
+          refl c.base_row-bases.ensures c.block_bytes-block.ensures.0 z got.next got.position c.part_wanted-part.ensures c.lines_wanted-more.ensures q.0 q.1 c.resume_answer.ensures;
       lines_after = (c.clear-2.ensures ∙ ap (λ (n : ℕ). replicate n 0) e, c.clear_records.ensures);
     }

@@ -11,36 +11,36 @@ use Rattle.saved_state.proofs.blocks.store_checkpoint.Goals.{Start}
 abbrev lent : (c : Start) → Outputs
 lent c = record { out = c.args.state.now; lines = c.args.lines.now; records = c.args.rs.now }
 
-pub returns-in-Refused : goal.returns-in-Refused
-returns-in-Refused c =
-    stored_refused c.args.d.now c.args.b c.args.line (lent (goal.at.returns-in-Refused c).Start) _ _
-    (sym c.block_begins-begins.ensures ∙ c.in-Refused.is) _ c.refused.ensures
+pub returns-in-Err : goal.returns-in-Err
+returns-in-Err c =
+    stored_refused c.args.d.now c.args.b c.args.line (lent (goal.at.returns-in-Err c).Start) _ _
+    (sym c.block_begins-begins.ensures ∙ c.in-Err.is) _ c.refused.ensures
 
 pub slice_bounds-store_in-end : goal.slice_bounds-store_in-end
 slice_bounds-store_in-end c =
-    let k = block_reads _ _ _ _ _ _ (sym c.block_begins-begins.ensures ∙ c.in-Header.is) in
+    let k = block_reads _ _ _ _ _ _ (sym c.block_begins-begins.ensures ∙ c.in-Ok.is) in
     search (rules, k.fits.for_lines)
 
-pub slice_bounds-store_in-end-in-Header : goal.slice_bounds-store_in-end-in-Header
-slice_bounds-store_in-end-in-Header c =
-    let k = block_reads _ _ _ _ _ _ (sym c.block_begins-begins.ensures ∙ c.in-Header.is) in
+pub slice_bounds-store_in-end-in-Ok : goal.slice_bounds-store_in-end-in-Ok
+slice_bounds-store_in-end-in-Ok c =
+    let k = block_reads _ _ _ _ _ _ (sym c.block_begins-begins.ensures ∙ c.in-Ok.is) in
     search (rules, k.fits.for_records)
 
 pub store_in-requires : goal.store_in-requires
 store_in-requires c =
-    let k = block_reads _ _ _ _ _ _ (sym c.block_begins-begins.ensures ∙ c.in-Header.is) in
+    let k = block_reads _ _ _ _ _ _ (sym c.block_begins-begins.ensures ∙ c.in-Ok.is) in
     record {
       d_value = k.opens;
       scratch_of = (search rules, search rules);
     }
 
-pub returns-in-Header : goal.returns-in-Header
-returns-in-Header c =
-    stored_reading c.args.d.now c.args.b c.args.line (lent (goal.at.returns-in-Header c).Start) _ c.in-Header.h
-    (sym c.block_begins-begins.ensures ∙ c.in-Header.is) _ _
+pub returns-in-Ok : goal.returns-in-Ok
+returns-in-Ok c =
+    stored_reading c.args.d.now c.args.b c.args.line (lent (goal.at.returns-in-Ok c).Start) _ c.in-Ok.h
+    (sym c.block_begins-begins.ensures ∙ c.in-Ok.is) _ _
     (record {
       answered = c.store_in.ensures.value;
       output = c.store_in.ensures.state_after;
-      lines = lines_back c.in-Header.h.xtrans c.samples_needed-used.result c.args.lines.now _ c.samples_needed-used.ensures.0 c.store_in.ensures.lines_after.0;
+      lines = lines_back c.in-Ok.h.xtrans c.samples_needed-used.result c.args.lines.now _ c.samples_needed-used.ensures.0 c.store_in.ensures.lines_after.0;
       records = records_back c.args.rs.now _ c.store_in.ensures.lines_after.1;
     })

@@ -15,11 +15,11 @@ use Rattle.saved_state.proofs.blocks.store_in.Goals as goal
 kept : (d : List ℕ) (b : ℕ) (h : FujiHeader) (n : ℕ) (x : Refusal) (a : Counted) (out : List ℕ) → a ≡ refused_by x → out ≡ stored_out a.answer d b h n out
 kept d b h n x a out e = rw e
 
-pub returns-in-Refused : goal.returns-in-Refused
-returns-in-Refused c =
+pub returns-in-Err : goal.returns-in-Err
+returns-in-Err c =
     record {
       value = c.refuse.ensures.value ∙ judged_refused c.args.d.now c.args.b c.args.h c.args.line _ _
-          (sym c.store_judged-judged.ensures ∙ c.in-Refused.is);
+          (sym c.store_judged-judged.ensures ∙ c.in-Err.is);
       state_after = kept c.args.d.now c.args.b c.args.h c.args.line _ _ _ c.refuse.ensures.value;
       lines_after = (c.refuse.ensures.lines_after.0 ∙ ap (λ (n : ℕ). replicate n 0) c.requires.scratch_of.0, c.refuse.ensures.lines_after.1);
     }
@@ -27,12 +27,12 @@ returns-in-Refused c =
 pub store_state-requires : goal.store_state-requires
 store_state-requires c =
     record {
-      d_value = (c.requires.d_value, sym c.store_judged-judged.ensures ∙ c.in-Done.is);
+      d_value = (c.requires.d_value, sym c.store_judged-judged.ensures ∙ c.in-Ok.is);
       scratch_of = c.requires.scratch_of;
     }
 
-pub returns-in-Done : goal.returns-in-Done
-returns-in-Done c = record {
+pub returns-in-Ok : goal.returns-in-Ok
+returns-in-Ok c = record {
   value = c.store_state.ensures.value;
   state_after = c.store_state.ensures.state_after;
   lines_after = c.store_state.ensures.lines_after;

@@ -7,19 +7,19 @@ use Rattle.image_map.proofs.PlaceLaws.{width_le}
 use Rattle.stream.specs.declared.header.FujiHeader.{FujiHeader}
 use Rattle.stream.specs.declared.header.Refusal.TheVariants.{ShortOutput, BadState}
 use Rattle.saved_state.specs.Calls.{store_judged}
-use Rattle.read_block.specs.declared.Decoded.TheVariants.{Done, Refused}
 use Rattle.saved_state.proofs.blocks.store_judged.Goals as goal
 use Rattle.saved_state.proofs.blocks.store_judged.Goals.{After-width}
+use Rattle.std.specs.Prelude.{Err, Ok}
 
 module _ (h : FujiHeader) (n room k : ℕ) (ek : k ≡ h.lines) where
-  no_line : k ≤ n → Refused BadState ≡ store_judged h n room
+  no_line : k ≤ n → Err BadState ≡ store_judged h n room
   no_line l = rw (le-leb h.lines n (rw ek at l))
 
   module _ (l : n < k) (w : ℕ) (ew : w ≡ width_of h.xtrans) where
-    no_room : room < 1707 + 12 * w → Refused ShortOutput ≡ store_judged h n room
+    no_room : room < 1707 + 12 * w → Err ShortOutput ≡ store_judged h n room
     no_room s = rw (lt-leb h.lines n (rw ek at l), lt-ltb room (1707 + 12 * width_of h.xtrans) (rw ew at s))
 
-    neither : 1707 + 12 * w ≤ room → Done ≡ store_judged h n room
+    neither : 1707 + 12 * w ≤ room → (Ok tt) ≡ store_judged h n room
     neither s = rw (lt-leb h.lines n (rw ek at l), le-ltb room (1707 + 12 * width_of h.xtrans) (rw ew at s))
 
 small : (c : After-width) → c.width.result ≤ 512

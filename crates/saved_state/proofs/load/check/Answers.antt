@@ -5,21 +5,23 @@ use mathlib.Core.Path.{◌≡◌}
 use Prim.Native.Nat.{ℕ}
 use native.Mathlib.Omega.{arith}
 use Rattle.saved_state.specs.Checkpoints.{be_at, bad_checkpoint, other_checkpoint, checked_of}
-use Rattle.saved_state.specs.declared.load.Checked.TheVariants.{Bad, Other, At}
 use Rattle.saved_state.proofs.load.check.Goals as goal
+use Rattle.std.specs.Prelude.{Err, Ok}
+use Rattle.stream.specs.declared.header.Refusal.TheVariants.{BadState}
+use Rattle.stream.specs.declared.header.Refusal.TheVariants.{OtherState}
 
 module _ (W bits lines bytes : ℕ) (d : List ℕ) (block : ℕ) (s : List ℕ) where
-  bad : (t : Bool) → t ≡ bad_checkpoint W bits lines bytes s → t ≡ true → Bad ≡ checked_of W bits lines bytes d block s
+  bad : (t : Bool) → t ≡ bad_checkpoint W bits lines bytes s → t ≡ true → Err BadState ≡ checked_of W bits lines bytes d block s
   unfolding checked_of
   bad t e f = rw (← e, f)
 
   other : (t u : Bool) → t ≡ bad_checkpoint W bits lines bytes s → t ≡ false → u ≡ other_checkpoint d block s → u ≡ true
-      → Other ≡ checked_of W bits lines bytes d block s
+      → Err OtherState ≡ checked_of W bits lines bytes d block s
   unfolding checked_of
   other t u e f g h = rw (← e, f, ← g, h)
 
   good : (t u : Bool) (next at : ℕ) → t ≡ bad_checkpoint W bits lines bytes s → t ≡ false → u ≡ other_checkpoint d block s → u ≡ false
-      → next ≡ be_at s 17 2 → at ≡ be_at s 19 8 → At next at ≡ checked_of W bits lines bytes d block s
+      → next ≡ be_at s 17 2 → at ≡ be_at s 19 8 → Ok (next, at) ≡ checked_of W bits lines bytes d block s
   unfolding checked_of
   good t u next at e f g h k m = rw (← e, f, ← g, h, k, m)
 

@@ -5,10 +5,10 @@ use Prim.Native.Nat.{ℕ, ◌+◌, ◌-◌}
 use native.Mathlib.Omega.{arith}
 use Rattle.stream.specs.Ranges.{cut}
 use Rattle.stream.specs.Inside.{cut_range}
-use Rattle.stream.specs.declared.ranges.Ranged.TheVariants.{At}
 use Rattle.stream.proofs.ranges.cut_range.Goals as goal
+use Rattle.std.specs.Prelude.{Ok}
 
-ranged : (d : List ℕ) (start size from to : ℕ) → from ≡ cut d start → to ≡ cut d (start + size) → At (record { 0 = from }) (to - from) ≡ cut_range d start size
+ranged : (d : List ℕ) (start size from to : ℕ) → from ≡ cut d start → to ≡ cut d (start + size) → Ok ((record { 0 = from }), (to - from)) ≡ cut_range d start size
 ranged d start size from to f t = rw (t, f)
 
 pub returns : goal.returns

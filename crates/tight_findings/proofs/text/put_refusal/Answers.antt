@@ -7,11 +7,11 @@ use lib.ListN.{get_or}
 use Rattle.stream.specs.Refusals.{refusal_words}
 use Rattle.stream.specs.declared.header.Refusal.{Refusal}
 use Rattle.tight_findings.specs.Texts.{number_text, text_of}
-use Rattle.tight_findings.specs.declared.text.Finding.TheVariants.{Refused}
 use Rattle.tight_findings.proofs.TextLaws.{put_both, put_same}
 use Rattle.tight_findings.proofs.text.put_refusal.Goals as goal
+use Rattle.std.specs.Prelude.{Err}
 
-of_refusal : (x : Refusal) (w : List ℕ) → w ≡ refusal_words x → number_text (get_or w 0 0) ++ 10 ∷ [] ≡ text_of (Refused x)
+of_refusal : (x : Refusal) (w : List ℕ) → w ≡ refusal_words x → number_text (get_or w 0 0) ++ 10 ∷ [] ≡ text_of (Err x)
 unfolding text_of
 of_refusal x w e = rw e
 

@@ -8,20 +8,20 @@ use lib.Dec.{ltb}
 use lib.ListN.{length}
 use Rattle.stream.specs.Headers.{header_of, kind_rules, size_rules, count_rules, all_rules, parse_of}
 use Rattle.stream.specs.declared.header.FujiHeader.{FujiHeader}
-use Rattle.stream.specs.declared.header.Parsed.TheVariants.{Header, Refused}
 use Rattle.stream.specs.declared.header.Refusal.TheVariants.{BadHeader}
 use Rattle.stream.proofs.HeaderLaws.{parse_short, parse_bad, parse_good}
 use Rattle.stream.proofs.header.FujiHeader.parse.Goals as goal
+use Rattle.std.specs.Prelude.{Err, Ok}
 
 -- the three tests on the header that was read are those of all rules
 module _ (d : List ℕ) (h : FujiHeader) (k s n : Bool) (eh : h ≡ header_of d) (ek : k ≡ kind_rules d) (es : s ≡ size_rules h) (en : n ≡ count_rules h) where
   rules : (k && s && n) ≡ all_rules d
   rules = rw (ek, es, en, eh)
 
-  good : 16 ≤ length d → (k && s && n) ≡ true → Header h ≡ parse_of d
+  good : 16 ≤ length d → (k && s && n) ≡ true → Ok h ≡ parse_of d
   good l t = rw eh (sym (parse_good d l (sym rules ∙ t)))
 
-  bad : 16 ≤ length d → (k && s && n) ≡ false → Refused BadHeader ≡ parse_of d
+  bad : 16 ≤ length d → (k && s && n) ≡ false → Err BadHeader ≡ parse_of d
   bad l t = sym (parse_bad d l (sym rules ∙ t))
 
 -- what the first test leaves
