@@ -108,7 +108,8 @@ fn emit_pass_at(lines: &[u16], image: &mut [u16], showing: &Showing, n: usize, i
     showing.emit_pass(lines, image, n, p.first, h.first, p.second, h.second);
 }
 
-// Line n: six passes, each on the records of its set. It answers where the reading is after it, or None where the line is truncated. In windows each colour line goes to the image when its pass has ended.
+// Line n: six passes, each on the records of its set. It answers where the reading is after it, or None where the line is truncated. In windows each
+// colour line goes to the image when its pass has ended. `windowed` says how much scratch was lent, as in `ScratchIn` and `Held`: no step to run.
 fn line(
     block: &[u8],
     from: Place,

@@ -58,8 +58,7 @@ pub fn window_plan(p: Plan, windowed: bool) -> Plan
     p
 }
 
-// ---- the two samples of a position. What a pass holds is lent array by array, since a reference to a struct is no covered form, and a struct by value would
-// be copied at each position.
+// ---- the two samples of a position. What a pass holds is lent array by array: a struct by value would be copied at each position.
 
 // The two samples at an even position p. It is called from one place only, and so it is taken into the loop.
 fn even_pair(

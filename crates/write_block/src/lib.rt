@@ -36,7 +36,8 @@ use stream::{FujiHeader, Refusal};
 
 mod counted;
 
-// A lossless block has no bases, and its set is held to the predictions of interpolated samples.
+// A lossless block has no bases, and its set is held to the predictions of interpolated samples. So `strict` is a fact of the stream, as in the
+// definitions: no step to run.
 fn is_strict(bases: &[u8]) -> bool
     ensures { result ≡ is_strict bases.now }
 {
