@@ -92,7 +92,7 @@ pub fn has_code(rule: Rule, p: usize) -> bool
         Rule::Nowhere => true,
         Rule::At0Mod4 => p % 4 != 0,
         Rule::At2Mod4 => p % 4 != 2,
-        Rule::Everywhere => false,
+        _ => false,
     }
 }
 
