@@ -2,6 +2,7 @@
 #![tactic(auto)]
 
 ghost use Rattle.std.specs.Prelude.{◌≡◌, true, not, ◌<◌};
+ghost use Rattle.pass_schedule.specs.Inside.{rule_of};
 ghost use Rattle.pass_schedule.specs.Steps.{interpolated, plan_of, is_interpolated};
 
 // Which even positions p of a line are interpolated, and so have no code: none, those with p mod 4 = 0, those with p mod 4 = 2, or all.
@@ -11,6 +12,20 @@ pub enum Rule {
     At0Mod4,
     At2Mod4,
     Everywhere,
+}
+
+// The rule of a number, counted from 0 in the order above; 3 and each number past it is the last.
+impl From<u32> for Rule {
+    ghost from_gives = { λ n rule. rule ≡ rule_of n };
+
+    fn from(number: u32) -> Self {
+        match number {
+            0 => Rule::Nowhere,
+            1 => Rule::At0Mod4,
+            2 => Rule::At2Mod4,
+            _ => Rule::Everywhere,
+        }
+    }
 }
 
 // A pass: the numbers of its two colour lines, its statistics set, and the rule of each line.
