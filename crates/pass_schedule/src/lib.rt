@@ -1,7 +1,7 @@
 // Document 01, Pass and line: the six passes of a line, the order of their samples, and which positions have no code.
 #![tactic(auto)]
 
-ghost use Rattle.std.specs.Prelude.{◌≡◌, true, not, ◌<◌};
+ghost use Rattle.std.specs.Prelude.{◌≡◌, true, not, cond, eqb, ◌%◌, ◌<◌};
 ghost use Rattle.pass_schedule.specs.Inside.{rule_of};
 ghost use Rattle.pass_schedule.specs.Steps.{interpolated, plan_of, is_interpolated};
 
@@ -107,7 +107,35 @@ pub fn has_code(rule: Rule, p: usize) -> bool
         Rule::Nowhere => true,
         Rule::At0Mod4 => p % 4 != 0,
         Rule::At2Mod4 => p % 4 != 2,
-        _ => false,
+        Rule::Everywhere => false,
+    }
+}
+
+// Which even positions of a line have codes: those with p mod 4 = 0, and those with p mod 4 = 2.
+#[derive(Clone, Copy)]
+pub struct EvenCodes {
+    pub at_0: bool,
+    pub at_2: bool,
+}
+
+// Those of a line with that rule.
+// INLINING: asked before the loop over positions. In the loop LLVM would make a table of jumps of the rules, and what lies
+// in registers would go to memory around it.
+pub fn even_codes(rule: Rule) -> EvenCodes
+    ensures { (result.at_0 ≡ not (interpolated rule 0)) × (result.at_2 ≡ not (interpolated rule 2)) }
+{
+    EvenCodes {
+        at_0: has_code(rule, 0),
+        at_2: has_code(rule, 2),
+    }
+}
+
+impl EvenCodes {
+    // Whether an even position p has a code.
+    pub fn at(self, p: usize) -> bool
+        ensures { result ≡ cond (eqb (p % 4) 0) self.at_0 self.at_2 }
+    {
+        numbers::pick(p % 4 == 0, self.at_0, self.at_2)
     }
 }
 

@@ -3,8 +3,8 @@
 // (`pass_ahead`).
 #![tactic(auto)]
 
-ghost use Rattle.std.specs.Prelude.{◌≡◌};
-ghost use Rattle.pass_schedule.specs.Steps.{even_steps, odd_steps};
+ghost use Rattle.std.specs.Prelude.{◌≡◌, not};
+ghost use Rattle.pass_schedule.specs.Steps.{even_steps, odd_steps, interpolated};
 ghost use Rattle.pass_ahead.specs.Odds.{ByFlatness};
 ghost use Rattle.pass_ahead.specs.Arrays.{Ahead};
 ghost use Rattle.read_pass.specs.Windows.{window_line, window_plan};
@@ -76,10 +76,14 @@ fn even_pair(
     digits: &[u8; 65],
     first: &[u16; 432],
     second: &[u16; 432],
+    first_coded: bool,
+    second_coded: bool,
 ) -> Option<Place>
     requires pair_asks { PairAsks turn.spot turn.base from block.now lines.old sums.old ns.old ks.old
         steps.now limits.now totals.now next.now digits.now }
     requires both_even { BothEven turn lines.old first.now second.now }
+    requires coded { (first_coded ≡ not (interpolated turn.spot.plan.first_rule turn.spot.p))
+        × (second_coded ≡ not (interpolated turn.spot.plan.second_rule turn.spot.p)) }
     ensures { PairGives turn.spot turn.base block.now (even_steps turn.spot.plan turn.spot.p)
         (held lines.old sums.old ns.old from)
         lines.new sums.new ns.new ks.new result }
@@ -93,7 +97,7 @@ fn even_pair(
     let spot = turn.spot;
     let h = turn.entry;
     let i = pass_steps::left_of(spot.w, spot.plan.first, spot.p);
-    if pass_schedule::has_code(spot.plan.first_rule, spot.p) {
+    if first_coded {
         let c = one_sample::even_coding(first, h, i, spot.bits, limits, ks);
         let (code, after) = one_sample::taken(block, place, c, spot.bits)?;
         one_sample::put_sample(lines, c, steps, totals, code);
@@ -103,7 +107,7 @@ fn even_pair(
         lines[i + 1] = first[h];
     }
     let j = pass_steps::left_of(spot.w, spot.plan.second, spot.p);
-    if pass_schedule::has_code(spot.plan.second_rule, spot.p) {
+    if second_coded {
         let c = one_sample::even_coding(second, h, j, spot.bits, limits, ks);
         let (code, after) = one_sample::taken(block, place, c, spot.bits)?;
         one_sample::put_sample(lines, c, steps, totals, code);
@@ -189,6 +193,8 @@ fn chunk(
         tight: from.tight,
         long: from.long,
     };
+    let first_codes = pass_schedule::even_codes(plan.first_rule);
+    let second_codes = pass_schedule::even_codes(plan.second_rule);
     for h in 0..n {
         let p = c + 2 * h;
         if p < w {
@@ -211,6 +217,8 @@ fn chunk(
                 digits,
                 first,
                 second,
+                first_codes.at(p),
+                second_codes.at(p),
             )?;
         }
         if p >= 8 {

@@ -137,9 +137,13 @@ pub fn taken(block: &[u8], from: Place, c: Coding, bits: u32) -> Option<(u32, Pl
     let Some((value, at)) = found else {
         let raw = 4 * bits - 1 - c.limit;
         if c.k == 0 {
-            return in_parts(code_reader::take_any(block, from, c.m, 0, c.limit, raw));
+            return in_parts(code_reader::take_any(
+                block, from.at, from.tight, from.long, c.m, 0, c.limit, raw,
+            ));
         }
-        return in_parts(code_reader::take_any(block, from, c.m, c.k, c.limit, raw));
+        return in_parts(code_reader::take_any(
+            block, from.at, from.tight, from.long, c.m, c.k, c.limit, raw,
+        ));
     };
     Some((
         value,
