@@ -8,7 +8,7 @@ use lib.Dec.{eqb, leb, ltb}
 use lib.ListN.{length, get_or}
 use borrow.Author.Tests.{leb-true, ltb-true}
 use Rattle.pass_schedule.specs.Steps.{interpolated, plans, no_plan, coded_all, plan_of, Step, even_steps, odd_steps, turn_steps, upto, pass_steps}
-use Rattle.pass_schedule.specs.Inside.{PlanInRange}
+use Rattle.pass_schedule.specs.Inside.{PlanInRange, evens_of}
 use Rattle.pass_schedule.specs.declared.Plan.{Plan}
 use Rattle.pass_schedule.specs.declared.Rule.{Rule}
 use Rattle.pass_schedule.specs.declared.Rule.TheVariants.{Nowhere, At0Mod4, At2Mod4, Everywhere}
@@ -119,10 +119,10 @@ unfolding codes line_steps pass_steps upto turn_steps plan_of interpolated
 x_trans_codes = refl
 
 -- ---- even positions: two answers say for each of them whether it has a code
-pub coded_evens : (rule : Rule) (p : ℕ) (a b : Bool) → p % 2 ≡ 0 → a ≡ not (interpolated rule 0) → b ≡ not (interpolated rule 2)
-    → cond (eqb (p % 4) 0) a b ≡ not (interpolated rule p)
+pub coded_evens : (rule : Rule) (p : ℕ) (codes : List Bool) → p % 2 ≡ 0 → codes ≡ evens_of rule
+    → get_or codes (p / 2 % 2) false ≡ not (interpolated rule p)
 unfolding interpolated
-coded_evens Nowhere p a b even ea eb = grind (arith, common_steps)
-coded_evens At0Mod4 p a b even ea eb = grind (arith, common_steps)
-coded_evens At2Mod4 p a b even ea eb = grind (arith, common_steps)
-coded_evens Everywhere p a b even ea eb = grind (arith, common_steps)
+coded_evens Nowhere p codes even e = rw e (grind (arith, common_steps))
+coded_evens At0Mod4 p codes even e = rw e (grind (arith, common_steps))
+coded_evens At2Mod4 p codes even e = rw e (grind (arith, common_steps))
+coded_evens Everywhere p codes even e = rw e (grind (arith, common_steps))

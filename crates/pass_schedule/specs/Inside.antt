@@ -1,5 +1,6 @@
 -- Inside. What only our own functions say.
-use Rattle.std.specs.Prelude.{◌≤◌, ℕ, zero, suc}
+use Rattle.std.specs.Prelude.{Bool, not, List, [], ◌∷◌, ◌≤◌, ℕ, zero, suc}
+use Rattle.pass_schedule.specs.Steps.{interpolated}
 use Rattle.pass_schedule.specs.declared.Plan.{Plan}
 use Rattle.pass_schedule.specs.declared.Rule.{Rule}
 use Rattle.pass_schedule.specs.declared.Rule.TheVariants.{Nowhere, At0Mod4, At2Mod4, Everywhere}
@@ -10,6 +11,10 @@ rule_of zero = Nowhere
 rule_of (suc zero) = At0Mod4
 rule_of (suc (suc zero)) = At2Mod4
 rule_of (suc (suc (suc n))) = Everywhere
+
+-- whether the even positions of a line with that rule have codes: those with p mod 4 = 0, and those with p mod 4 = 2
+abbrev pub evens_of : Rule → List Bool
+evens_of rule = not (interpolated rule 0) ∷ not (interpolated rule 2) ∷ []
 
 -- each of a pass's lines has two lines of its colour above it
 pub record PlanInRange (P : Plan) : Type 0 where

@@ -1,8 +1,8 @@
 // Document 01, Pass and line: the six passes of a line, the order of their samples, and which positions have no code.
 #![tactic(auto)]
 
-ghost use Rattle.std.specs.Prelude.{◌≡◌, true, not, cond, eqb, ◌%◌, ◌<◌};
-ghost use Rattle.pass_schedule.specs.Inside.{rule_of};
+ghost use Rattle.std.specs.Prelude.{◌≡◌, true, false, not, ◌/◌, ◌%◌, ◌<◌, get_or};
+ghost use Rattle.pass_schedule.specs.Inside.{rule_of, evens_of};
 ghost use Rattle.pass_schedule.specs.Steps.{interpolated, plan_of, is_interpolated};
 
 // Which even positions p of a line are interpolated, and so have no code: none, those with p mod 4 = 0, those with p mod 4 = 2, or all.
@@ -111,31 +111,25 @@ pub fn has_code(rule: Rule, p: usize) -> bool
     }
 }
 
-// Which even positions of a line have codes: those with p mod 4 = 0, and those with p mod 4 = 2.
+// Whether the even positions of a line have codes: first those with p mod 4 = 0, then those with p mod 4 = 2.
 #[derive(Clone, Copy)]
-pub struct EvenCodes {
-    pub at_0: bool,
-    pub at_2: bool,
-}
+pub struct EvenCodes(pub [bool; 2]);
 
 // Those of a line with that rule.
 // INLINING: asked before the loop over positions. In the loop LLVM would make a table of jumps of the rules, and what lies
 // in registers would go to memory around it.
 pub fn even_codes(rule: Rule) -> EvenCodes
-    ensures { (result.at_0 ≡ not (interpolated rule 0)) × (result.at_2 ≡ not (interpolated rule 2)) }
+    ensures { result.0 ≡ evens_of rule }
 {
-    EvenCodes {
-        at_0: has_code(rule, 0),
-        at_2: has_code(rule, 2),
-    }
+    EvenCodes([has_code(rule, 0), has_code(rule, 2)])
 }
 
 impl EvenCodes {
     // Whether an even position p has a code.
     pub fn at(self, p: usize) -> bool
-        ensures { result ≡ cond (eqb (p % 4) 0) self.at_0 self.at_2 }
+        ensures { result ≡ get_or self.0 (p / 2 % 2) false }
     {
-        numbers::pick(p % 4 == 0, self.at_0, self.at_2)
+        self.0[p / 2 % 2]
     }
 }
 

@@ -3,15 +3,16 @@
 // (`pass_ahead`).
 #![tactic(auto)]
 
-ghost use Rattle.std.specs.Prelude.{◌≡◌, not};
-ghost use Rattle.pass_schedule.specs.Steps.{even_steps, odd_steps, interpolated};
+ghost use Rattle.std.specs.Prelude.{◌≡◌};
+ghost use Rattle.pass_schedule.specs.Steps.{even_steps, odd_steps};
+ghost use Rattle.pass_schedule.specs.Inside.{evens_of};
 ghost use Rattle.pass_ahead.specs.Odds.{ByFlatness};
 ghost use Rattle.pass_ahead.specs.Arrays.{Ahead};
 ghost use Rattle.read_pass.specs.Windows.{window_line, window_plan};
 ghost use Rattle.read_pass.specs.Pairs.{PairAsks, BothEven, BothOdd, PairGives, ChunkAsks, chunk_steps, PassAsks, PassGives, held, begun};
 
 use code::Place;
-use pass_schedule::Plan;
+use pass_schedule::{EvenCodes, Plan};
 use pass_steps::{Quantisers, Set, Spot};
 
 mod one_sample;
@@ -76,14 +77,13 @@ fn even_pair(
     digits: &[u8; 65],
     first: &[u16; 432],
     second: &[u16; 432],
-    first_coded: bool,
-    second_coded: bool,
+    first_codes: EvenCodes,
+    second_codes: EvenCodes,
 ) -> Option<Place>
     requires pair_asks { PairAsks turn.spot turn.base from block.now lines.old sums.old ns.old ks.old
         steps.now limits.now totals.now next.now digits.now }
     requires both_even { BothEven turn lines.old first.now second.now }
-    requires coded { (first_coded ≡ not (interpolated turn.spot.plan.first_rule turn.spot.p))
-        × (second_coded ≡ not (interpolated turn.spot.plan.second_rule turn.spot.p)) }
+    requires coded { (first_codes.0 ≡ evens_of turn.spot.plan.first_rule) × (second_codes.0 ≡ evens_of turn.spot.plan.second_rule) }
     ensures { PairGives turn.spot turn.base block.now (even_steps turn.spot.plan turn.spot.p)
         (held lines.old sums.old ns.old from)
         lines.new sums.new ns.new ks.new result }
@@ -97,7 +97,7 @@ fn even_pair(
     let spot = turn.spot;
     let h = turn.entry;
     let i = pass_steps::left_of(spot.w, spot.plan.first, spot.p);
-    if first_coded {
+    if first_codes.at(spot.p) {
         let c = one_sample::even_coding(first, h, i, spot.bits, limits, ks);
         let (code, after) = one_sample::taken(block, place, c, spot.bits)?;
         one_sample::put_sample(lines, c, steps, totals, code);
@@ -107,7 +107,7 @@ fn even_pair(
         lines[i + 1] = first[h];
     }
     let j = pass_steps::left_of(spot.w, spot.plan.second, spot.p);
-    if second_coded {
+    if second_codes.at(spot.p) {
         let c = one_sample::even_coding(second, h, j, spot.bits, limits, ks);
         let (code, after) = one_sample::taken(block, place, c, spot.bits)?;
         one_sample::put_sample(lines, c, steps, totals, code);
@@ -217,8 +217,8 @@ fn chunk(
                 digits,
                 first,
                 second,
-                first_codes.at(p),
-                second_codes.at(p),
+                first_codes,
+                second_codes,
             )?;
         }
         if p >= 8 {

@@ -1,10 +1,9 @@
 -- `read_pass::chunk` meets its contract: after each turn the steps of the turns so far are read, and what was made ahead is right still. Assumes nothing.
 use mathlib.Core.Path.{◌≡◌, refl, ◌∙◌}
-use Prim.Native.Nat.{◌+◌, ◌-◌, ◌*◌, ◌%◌, ◌≤◌, ◌<◌}
+use Prim.Native.Nat.{◌+◌, ◌-◌, ◌*◌, ◌≤◌, ◌<◌}
 use native.Mathlib.Omega.{arith}
 use lib.ListN.{length}
 use Rattle.pass_schedule.specs.Steps.{even_part, upto}
-use Rattle.pass_schedule.proofs.ScheduleLaws.{coded_evens}
 use Rattle.pass_steps.specs.Values.{SetInRange, AreKs}
 use Rattle.pass_ahead.specs.Arrays.{Ahead}
 use Rattle.pass_ahead.proofs.AheadLaws.{ahead_kept}
@@ -84,14 +83,10 @@ loop-h-init c =
 -- ---- the even position
 pub even_pair-requires : goal.even_pair-requires
 even_pair-requires c =
-    let even : (c.args.spot.p + 2 * c.loop-h.h) % 2 ≡ 0 = omega (arith, c.requires.chunk_asks.begins) in
     record {
       pair_asks = record { holds = holds_on c.requires.chunk_asks.holds c.loop-h.invariant.same c.loop-h.invariant.records c.loop-h.invariant.ks_kept (counted (goal.at.even_pair-requires c).In-loop-h); inside = c.if-p-w.true };
       both_even = record { even = omega (arith, c.requires.chunk_asks.begins); entry = omega (arith, c.loop-h-test.true, c.requires.chunk_asks.most); one = c.loop-h.invariant.one.evens _ c.loop-h-test.true c.if-p-w.true; two = c.loop-h.invariant.two.evens _ c.loop-h-test.true c.if-p-w.true };
-      coded = (
-        c.at.ensures ∙ coded_evens _ _ _ _ even c.even_codes-first_codes.ensures.0 c.even_codes-first_codes.ensures.1,
-        c.at-then-p-w.ensures ∙ coded_evens _ _ _ _ even c.even_codes-second_codes.ensures.0 c.even_codes-second_codes.ensures.1,
-      );
+      coded = (c.even_codes-first_codes.ensures, c.even_codes-second_codes.ensures);
     }
 
 pub returns-in_err-place : goal.returns-in_err-place
