@@ -126,8 +126,8 @@ pub fn even_codes(rule: Rule) -> EvenCodes
 
 impl EvenCodes {
     // Whether an even position p has a code.
-    pub fn at(self, p: usize) -> bool
-        ensures { result ≡ get_or self.0 (p / 2 % 2) false }
+    pub fn at(&self, p: usize) -> bool
+        ensures { result ≡ get_or self.now.0 (p / 2 % 2) false }
     {
         self.0[p / 2 % 2]
     }

@@ -77,13 +77,14 @@ fn even_pair(
     digits: &[u8; 65],
     first: &[u16; 432],
     second: &[u16; 432],
-    first_codes: EvenCodes,
-    second_codes: EvenCodes,
+    first_codes: &EvenCodes,
+    second_codes: &EvenCodes,
 ) -> Option<Place>
     requires pair_asks { PairAsks turn.spot turn.base from block.now lines.old sums.old ns.old ks.old
         steps.now limits.now totals.now next.now digits.now }
     requires both_even { BothEven turn lines.old first.now second.now }
-    requires coded { (first_codes.0 ≡ evens_of turn.spot.plan.first_rule) × (second_codes.0 ≡ evens_of turn.spot.plan.second_rule) }
+    requires coded { (first_codes.now.0 ≡ evens_of turn.spot.plan.first_rule)
+        × (second_codes.now.0 ≡ evens_of turn.spot.plan.second_rule) }
     ensures { PairGives turn.spot turn.base block.now (even_steps turn.spot.plan turn.spot.p)
         (held lines.old sums.old ns.old from)
         lines.new sums.new ns.new ks.new result }
@@ -195,7 +196,10 @@ fn chunk(
     };
     let first_codes = pass_schedule::even_codes(plan.first_rule);
     let second_codes = pass_schedule::even_codes(plan.second_rule);
-    for h in 0..n {
+    // A `while`: of `for h in 0..n` LLVM makes three numbers to count by, for which a register is wanting, so that the position
+    // goes through memory at each code. It was tried, and reading took 0.78 of the original's time in place of 0.72.
+    let mut h = 0usize;
+    while h < n {
         let p = c + 2 * h;
         if p < w {
             place = even_pair(
@@ -217,8 +221,8 @@ fn chunk(
                 digits,
                 first,
                 second,
-                first_codes,
-                second_codes,
+                &first_codes,
+                &second_codes,
             )?;
         }
         if p >= 8 {
@@ -249,6 +253,7 @@ fn chunk(
                 second,
             )?;
         }
+        h += 1;
     }
     Some(place)
 }

@@ -137,9 +137,7 @@ pub fn taken(block: &[u8], from: Place, c: Coding, bits: u32) -> Option<(u32, Pl
     let Some((value, at)) = found else {
         let raw = 4 * bits - 1 - c.limit;
         let got = if c.k == 0 {
-            code_reader::take_any(
-                block, from.at, from.tight, from.long, c.m, 0, c.limit, raw,
-            )
+            code_reader::take_any(block, from.at, from.tight, from.long, c.m, 0, c.limit, raw)
         } else {
             code_reader::take_any(
                 block, from.at, from.tight, from.long, c.m, c.k, c.limit, raw,
