@@ -291,8 +291,8 @@ pub fn pass(
         tight: from.tight,
         long: from.long,
     };
-    for i in 0..(w + 8).div_ceil(96) {
-        let c = 96 * i;
+    let mut c = 0usize;
+    while c < w + 8 {
         let n = ((w + 8 - c) / 2).min(48);
         pass_ahead::fill(lines, w, plan.first, c, n, base, &mut first);
         pass_ahead::fill(lines, w, plan.second, c, n, base, &mut second);
@@ -320,6 +320,7 @@ pub fn pass(
             &first,
             &second,
         )?;
+        c += 2 * n;
     }
     Some(Passed {
         place,
