@@ -23,7 +23,7 @@ pub record FromRecords (header plan bases bases' : List ℕ) : Type 0 where
   pub holder : (n : ℕ) → n < length bases → OneHolder plan records n
   pub byte : (n : ℕ) (h : n < length bases) → get_or bases' n 0 ≡ base_at plan (start_of plan (holder n h).index)
 
--- so it is after every call that answers Done
+-- so it is after every call that is accepted
 abbrev pub PlannedBytes : Type 0
 PlannedBytes = (header plan bases bases' : List ℕ) → PlanCall header plan bases bases' (Ok tt) → FromRecords header plan bases bases'
 

@@ -57,15 +57,25 @@ fn next_word(s: &[u8], at: BitPosition) -> u64
     BitPumpMsb::at_bit(s, at).peek_word()
 }
 
-// What a pass takes of the next code, whatever it is, and where the reading is after it.
-// INLINING: it is called from several places, so that LLVM does not inline it into the loop.
-pub fn take_any(s: &[u8], from: Place, m: u32, k: u32, limit: u32, raw: u32) -> Option<(u32, Place)>
+// What a pass takes of the code at `at`, whatever it is, and where the reading is after it.
+// INLINING: it is called from several places, so that LLVM does not inline it into the loop. Where the reading is comes in
+// parts: a `Place` would go through memory, before each code.
+pub fn take_any(
+    s: &[u8],
+    at: BitPosition,
+    tight: bool,
+    long: u64,
+    m: u32,
+    k: u32,
+    limit: u32,
+    raw: u32,
+) -> Option<(u32, Place)>
     requires s_len_bound { (length s.now < 2 ^ 32) × ((k ≤ 15) × ((limit < 64) × (raw ≤ 16))) }
-    requires long_le_at { from.long ≤ from.at.0 }
-    ensures { (result ≡ taken_of m from.tight from.long (code_at s.now from.at.0 k limit raw)) × Small result }
+    requires long_le_at { long ≤ at.0 }
+    ensures { (result ≡ taken_of m tight long (code_at s.now at.0 k limit raw)) × Small result }
 {
-    let c = read_code(s, from.at, k, limit, raw)?;
-    Some(code::take(m, from.tight, from.long, c))
+    let c = read_code(s, at, k, limit, raw)?;
+    Some(code::take(m, tight, long, c))
 }
 
 // The same at once in the common case: zeros, one bit and low bits stand in one word of 57 bits or more, and the value is at most m. Such a code is

@@ -14,6 +14,7 @@ mod row_samples;
 mod showing;
 mod zero_rows;
 
+pub use row_samples::RowSamples;
 pub use showing::Showing;
 
 // The samples of a colour line.

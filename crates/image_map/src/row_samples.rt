@@ -7,19 +7,19 @@ ghost use Rattle.image_map.specs.Starts.{three_put};
 
 // The samples of a row: the colour lines, where that of each column of the tile begins, and the table of X-Trans places.
 #[derive(Clone, Copy)]
-pub(crate) struct RowSamples<'a> {
+pub struct RowSamples<'a> {
     pub lines: &'a [u16],
     pub xtrans: bool,
     pub places: &'a [u16; 768],
     pub starts: [usize; 6],
-    ghost all_lines: { 18 * (width_of xtrans + 2) ≤ length lines.now },
-    ghost are_places: { ArePlaces places.now },
-    ghost in_lines: { InLines (width_of xtrans) starts },
+    pub ghost all_lines: { 18 * (width_of xtrans + 2) ≤ length lines.now },
+    pub ghost are_places: { ArePlaces places.now },
+    pub ghost in_lines: { InLines (width_of xtrans) starts },
 }
 
 impl RowSamples<'_> {
     // The sample of column p of a block, which stands in this column of the tile.
-    fn sample_at(&self, column: usize, p: usize) -> u16
+    pub fn sample_at(&self, column: usize, p: usize) -> u16
         requires { (column ≡ p % 6) × (p < 768) }
         ensures { result ≡ sample_by self.now.lines.now self.now.starts self.now.xtrans p }
     {

@@ -4,20 +4,20 @@ ghost use Rattle.image_map.specs.Inside.{in_rows, Fits};
 ghost use Rattle.image_map.specs.Places.{Changed};
 ghost use Rattle.image_map.specs.Zeros.{LineZeroed};
 
-use crate::Showing;
+use crate::Part;
 
-impl Showing<'_> {
+impl Part {
     // One row of the whole picture, if the part has it, all 0.
-    fn zero_row(&self, image: &mut [u16], row: usize)
-        requires { Fits self.now.part image.old }
-        ensures { Changed (in_rows self.now.part row (row + 1)) (λ _. 0) image.old image.new }
+    fn zero_row(self, image: &mut [u16], row: usize)
+        requires { Fits self image.old }
+        ensures { Changed (in_rows self row (row + 1)) (λ _. 0) image.old image.new }
     {
-        let top = self.part.top;
-        let bottom = self.part.bottom;
-        let start = self.part.start;
-        let stride = self.part.stride;
-        let left = self.part.left;
-        let right = self.part.right;
+        let top = self.top;
+        let bottom = self.bottom;
+        let start = self.start;
+        let stride = self.stride;
+        let left = self.left;
+        let right = self.right;
         if row < top {
             return;
         }
@@ -29,9 +29,9 @@ impl Showing<'_> {
     }
 
     // The rows of line n that the part has, all 0.
-    pub fn zero_line(&self, image: &mut [u16], n: usize)
-        requires { (n < 2 ^ 16) × Fits self.now.part image.old }
-        ensures { LineZeroed true self.now.part n image.old image.new }
+    pub fn zero_line(self, image: &mut [u16], n: usize)
+        requires { (n < 2 ^ 16) × Fits self image.old }
+        ensures { LineZeroed true self n image.old image.new }
     {
         for r in 0..6 {
             self.zero_row(image, 6 * n + r);

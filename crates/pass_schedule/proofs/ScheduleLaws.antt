@@ -1,5 +1,5 @@
 -- The passes of a line: their lines and sets, the order of their samples, and how many codes they have, by computation. Assumes nothing.
-use mathlib.Core.Bool.{Bool, true, false, cond, ◌&&◌}
+use mathlib.Core.Bool.{Bool, true, false, cond, not, ◌&&◌}
 use mathlib.Core.List.{List, [], ◌∷◌, ◌++◌}
 use mathlib.Core.Path.{◌≡◌, refl}
 use Prim.Native.Nat.{ℕ, zero, suc, ◌+◌, ◌-◌, ◌/◌, ◌%◌, ◌<◌}
@@ -8,8 +8,11 @@ use lib.Dec.{eqb, leb, ltb}
 use lib.ListN.{length, get_or}
 use borrow.Author.Tests.{leb-true, ltb-true}
 use Rattle.pass_schedule.specs.Steps.{interpolated, plans, no_plan, coded_all, plan_of, Step, even_steps, odd_steps, turn_steps, upto, pass_steps}
-use Rattle.pass_schedule.specs.Inside.{PlanInRange}
+use Rattle.pass_schedule.specs.Inside.{PlanInRange, evens_of}
 use Rattle.pass_schedule.specs.declared.Plan.{Plan}
+use Rattle.pass_schedule.specs.declared.Rule.{Rule}
+use Rattle.pass_schedule.specs.declared.Rule.TheVariants.{Nowhere, At0Mod4, At2Mod4, Everywhere}
+use Rattle.std.proofs.lemmas.Grind.{common_steps}
 
 -- ---- the table
 
@@ -114,3 +117,12 @@ bayer_codes = refl
 pub x_trans_codes : codes (line_steps 512 true) ≡ 4608
 unfolding codes line_steps pass_steps upto turn_steps plan_of interpolated
 x_trans_codes = refl
+
+-- ---- even positions: two answers say for each of them whether it has a code
+pub coded_evens : (rule : Rule) (p : ℕ) (codes : List Bool) → p % 2 ≡ 0 → codes ≡ evens_of rule
+    → get_or codes (p / 2 % 2) false ≡ not (interpolated rule p)
+unfolding interpolated
+coded_evens Nowhere p codes even e = rw e (grind (arith, common_steps))
+coded_evens At0Mod4 p codes even e = rw e (grind (arith, common_steps))
+coded_evens At2Mod4 p codes even e = rw e (grind (arith, common_steps))
+coded_evens Everywhere p codes even e = rw e (grind (arith, common_steps))

@@ -1,7 +1,8 @@
 // Document 01, Pass and line: the six passes of a line, the order of their samples, and which positions have no code.
 #![tactic(auto)]
 
-ghost use Rattle.std.specs.Prelude.{◌≡◌, true, not, ◌<◌};
+ghost use Rattle.std.specs.Prelude.{◌≡◌, true, false, not, ◌/◌, ◌%◌, ◌<◌, get_or};
+ghost use Rattle.pass_schedule.specs.Inside.{rule_of, evens_of};
 ghost use Rattle.pass_schedule.specs.Steps.{interpolated, plan_of, is_interpolated};
 
 // Which even positions p of a line are interpolated, and so have no code: none, those with p mod 4 = 0, those with p mod 4 = 2, or all.
@@ -11,6 +12,20 @@ pub enum Rule {
     At0Mod4,
     At2Mod4,
     Everywhere,
+}
+
+// The rule of a number, counted from 0 in the order above; 3 and each number past it is the last.
+impl From<u32> for Rule {
+    ghost from_gives = { λ n rule. rule ≡ rule_of n };
+
+    fn from(number: u32) -> Self {
+        match number {
+            0 => Rule::Nowhere,
+            1 => Rule::At0Mod4,
+            2 => Rule::At2Mod4,
+            _ => Rule::Everywhere,
+        }
+    }
 }
 
 // A pass: the numbers of its two colour lines, its statistics set, and the rule of each line.
@@ -93,6 +108,28 @@ pub fn has_code(rule: Rule, p: usize) -> bool
         Rule::At0Mod4 => p % 4 != 0,
         Rule::At2Mod4 => p % 4 != 2,
         Rule::Everywhere => false,
+    }
+}
+
+// Whether the even positions of a line have codes: first those with p mod 4 = 0, then those with p mod 4 = 2.
+#[derive(Clone, Copy)]
+pub struct EvenCodes(pub [bool; 2]);
+
+// Those of a line with that rule.
+// INLINING: asked before the loop over positions. In the loop LLVM would make a table of jumps of the rules, and what lies
+// in registers would go to memory around it.
+pub fn even_codes(rule: Rule) -> EvenCodes
+    ensures { result.0 ≡ evens_of rule }
+{
+    EvenCodes([has_code(rule, 0), has_code(rule, 2)])
+}
+
+impl EvenCodes {
+    // Whether an even position p has a code.
+    pub fn at(&self, p: usize) -> bool
+        ensures { result ≡ get_or self.now.0 (p / 2 % 2) false }
+    {
+        self.0[p / 2 % 2]
     }
 }
 

@@ -19,7 +19,7 @@ pub mod tight;
 pub use decoding::{decode, decode_region, decode_region_windowed};
 pub use reading::{is_restarted, quantisers_of, read_lines, start_place, walk};
 pub use records::{
-    clear_records, cleared, load_set, restart_main, start_record, start_records, store_set,
+    clear_records, cleared, load_set, restart_main, start_record, start_records, store_set, update,
 };
 pub use sharing::decode_region_shared;
 pub use tight::{line_count, no_part, read_answer, read_block, read_tight, refused, tight_answer};

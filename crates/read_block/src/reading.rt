@@ -207,7 +207,7 @@ pub fn read_lines(
         );
         let Some(after) = got else {
             if windowed {
-                showing.zero_line(image, n);
+                showing.part.zero_line(image, n);
             }
             return Err((n, totals_at(place)));
         };

@@ -1,5 +1,6 @@
-// The 336 records, lent as a slice: what they start with, and the sets that passes work on.
-ghost use Rattle.std.specs.Prelude.{◌≡◌, cond, ◌%◌, ◌<◌, ltb, length};
+// The 336 records, lent as a slice: what they start with, and the sets that passes work on. Only `fetch` and `update` touch an element.
+ghost use Rattle.std.specs.Prelude.{◌≡◌, cond, ◌%◌, ◌<◌, ltb, length, get_or, set};
+ghost use Rattle.pass_steps.specs.Contexts.{no_record};
 ghost use Rattle.pass_steps.specs.Values.{records_of};
 ghost use Rattle.pass_steps.specs.Contexts.{Depth};
 ghost use Rattle.read_block.specs.Records.{start_record, start_records, restarted_main, set_of, put_set, clear_records};
@@ -45,13 +46,28 @@ pub fn cleared() -> Record
     Record { sum: 0, n: 1 }
 }
 
+fn fetch(rs: &[Record], i: usize) -> Record
+    requires { i < length rs.now }
+    ensures { result ≡ get_or rs.now i no_record }
+{
+    rs[i]
+}
+
+pub fn update(rs: &mut [Record], i: usize, r: Record)
+    requires { i < length rs.old }
+    ensures { rs.new ≡ set rs.old i r }
+{
+    rs[i] = r;
+}
+
 // All records start.
 pub fn start_records(rs: &mut [Record], bits: u32, base: u32)
     requires { (length rs.old ≡ 336) × (Depth bits × (base < 256)) }
     ensures { rs.new ≡ start_records bits base }
 {
-    for (j, r) in rs.iter_mut().enumerate() {
-        *r = start_record(bits, base, j);
+    for j in 0..336 {
+        let r = start_record(bits, base, j);
+        update(rs, j, r);
     }
 }
 
@@ -60,8 +76,10 @@ pub fn restart_main(rs: &mut [Record], bits: u32, base: u32)
     requires { (length rs.old ≡ 336) × (Depth bits × (base < 256)) }
     ensures { rs.new ≡ restarted_main bits base rs.old }
 {
-    for (j, r) in rs.iter_mut().enumerate() {
-        *r = restarted_record(*r, bits, base, j);
+    for j in 0..336 {
+        let old = fetch(rs, j);
+        let r = restarted_record(old, bits, base, j);
+        update(rs, j, r);
     }
 }
 
@@ -70,7 +88,9 @@ pub fn clear_records(rs: &mut [Record])
     requires { length rs.old ≡ 336 }
     ensures { rs.new ≡ clear_records }
 {
-    rs.fill(cleared());
+    for j in 0..336 {
+        update(rs, j, cleared());
+    }
 }
 
 // Set g, for a pass.
@@ -81,7 +101,7 @@ pub fn load_set(rs: &[Record], g: usize) -> Set
     let mut sums = [0u32; 112];
     let mut ns = [0u32; 112];
     for i in 0..112 {
-        let r = rs[112 * g + i];
+        let r = fetch(rs, 112 * g + i);
         sums[i] = r.sum;
         ns[i] = r.n;
     }
@@ -94,9 +114,10 @@ pub fn store_set(rs: &mut [Record], g: usize, set: Set)
     ensures { rs.new ≡ put_set g (records_of set) rs.old }
 {
     for i in 0..112 {
-        rs[112 * g + i] = Record {
+        let r = Record {
             sum: set.sums[i],
             n: set.ns[i],
         };
+        update(rs, 112 * g + i, r);
     }
 }

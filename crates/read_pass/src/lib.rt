@@ -5,13 +5,14 @@
 
 ghost use Rattle.std.specs.Prelude.{◌≡◌};
 ghost use Rattle.pass_schedule.specs.Steps.{even_steps, odd_steps};
+ghost use Rattle.pass_schedule.specs.Inside.{evens_of};
 ghost use Rattle.pass_ahead.specs.Odds.{ByFlatness};
 ghost use Rattle.pass_ahead.specs.Arrays.{Ahead};
 ghost use Rattle.read_pass.specs.Windows.{window_line, window_plan};
 ghost use Rattle.read_pass.specs.Pairs.{PairAsks, BothEven, BothOdd, PairGives, ChunkAsks, chunk_steps, PassAsks, PassGives, held, begun};
 
 use code::Place;
-use pass_schedule::Plan;
+use pass_schedule::{EvenCodes, Plan};
 use pass_steps::{Quantisers, Set, Spot};
 
 mod one_sample;
@@ -76,10 +77,14 @@ fn even_pair(
     digits: &[u8; 65],
     first: &[u16; 432],
     second: &[u16; 432],
+    first_codes: &EvenCodes,
+    second_codes: &EvenCodes,
 ) -> Option<Place>
     requires pair_asks { PairAsks turn.spot turn.base from block.now lines.old sums.old ns.old ks.old
         steps.now limits.now totals.now next.now digits.now }
     requires both_even { BothEven turn lines.old first.now second.now }
+    requires coded { (first_codes.now.0 ≡ evens_of turn.spot.plan.first_rule)
+        × (second_codes.now.0 ≡ evens_of turn.spot.plan.second_rule) }
     ensures { PairGives turn.spot turn.base block.now (even_steps turn.spot.plan turn.spot.p)
         (held lines.old sums.old ns.old from)
         lines.new sums.new ns.new ks.new result }
@@ -93,7 +98,7 @@ fn even_pair(
     let spot = turn.spot;
     let h = turn.entry;
     let i = pass_steps::left_of(spot.w, spot.plan.first, spot.p);
-    if pass_schedule::has_code(spot.plan.first_rule, spot.p) {
+    if first_codes.at(spot.p) {
         let c = one_sample::even_coding(first, h, i, spot.bits, limits, ks);
         let (code, after) = one_sample::taken(block, place, c, spot.bits)?;
         one_sample::put_sample(lines, c, steps, totals, code);
@@ -103,7 +108,7 @@ fn even_pair(
         lines[i + 1] = first[h];
     }
     let j = pass_steps::left_of(spot.w, spot.plan.second, spot.p);
-    if pass_schedule::has_code(spot.plan.second_rule, spot.p) {
+    if second_codes.at(spot.p) {
         let c = one_sample::even_coding(second, h, j, spot.bits, limits, ks);
         let (code, after) = one_sample::taken(block, place, c, spot.bits)?;
         one_sample::put_sample(lines, c, steps, totals, code);
@@ -189,7 +194,11 @@ fn chunk(
         tight: from.tight,
         long: from.long,
     };
-    for h in 0..n {
+    let first_codes = pass_schedule::even_codes(plan.first_rule);
+    let second_codes = pass_schedule::even_codes(plan.second_rule);
+    // A `while`, as in `pass`: with `for` in both reading took 0.77 and 0.78 of the original's time, in place of 0.76 and 0.75.
+    let mut h = 0usize;
+    while h < n {
         let p = c + 2 * h;
         if p < w {
             place = even_pair(
@@ -211,6 +220,8 @@ fn chunk(
                 digits,
                 first,
                 second,
+                &first_codes,
+                &second_codes,
             )?;
         }
         if p >= 8 {
@@ -241,6 +252,7 @@ fn chunk(
                 second,
             )?;
         }
+        h += 1;
     }
     Some(place)
 }
@@ -278,8 +290,9 @@ pub fn pass(
         tight: from.tight,
         long: from.long,
     };
-    for i in 0..(w + 8).div_ceil(96) {
-        let c = 96 * i;
+    // A `while`: `chunk` says why.
+    let mut c = 0usize;
+    while c < w + 8 {
         let n = ((w + 8 - c) / 2).min(48);
         pass_ahead::fill(lines, w, plan.first, c, n, base, &mut first);
         pass_ahead::fill(lines, w, plan.second, c, n, base, &mut second);
@@ -307,6 +320,7 @@ pub fn pass(
             &first,
             &second,
         )?;
+        c += 2 * n;
     }
     Some(Passed {
         place,

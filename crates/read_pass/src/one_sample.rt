@@ -136,10 +136,14 @@ pub fn taken(block: &[u8], from: Place, c: Coding, bits: u32) -> Option<(u32, Pl
     let found = code_reader::short_code(block, from.at, c.m, c.k, c.limit);
     let Some((value, at)) = found else {
         let raw = 4 * bits - 1 - c.limit;
-        if c.k == 0 {
-            return in_parts(code_reader::take_any(block, from, c.m, 0, c.limit, raw));
-        }
-        return in_parts(code_reader::take_any(block, from, c.m, c.k, c.limit, raw));
+        let got = if c.k == 0 {
+            code_reader::take_any(block, from.at, from.tight, from.long, c.m, 0, c.limit, raw)
+        } else {
+            code_reader::take_any(
+                block, from.at, from.tight, from.long, c.m, c.k, c.limit, raw,
+            )
+        };
+        return in_parts(got);
     };
     Some((
         value,

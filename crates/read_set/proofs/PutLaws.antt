@@ -1,14 +1,13 @@
 -- Lists that are put over others, and the twelve colour lines. Assumes nothing.
-use mathlib.Core.List.{List, [], ◌++◌, append_assoc}
-use mathlib.Core.Path.{◌≡◌, sym, ap, ◌∙◌}
-use Prim.Native.Nat.{ℕ, zero, suc, ◌+◌, ◌*◌, ◌≤◌, ◌<◌}
+use mathlib.Core.List.{List, [], ◌∷◌, ◌++◌, append_assoc}
+use mathlib.Core.Path.{◌≡◌, refl, sym, ap, ◌∙◌}
+use Prim.Native.Nat.{ℕ, zero, suc, ◌+◌, ◌-◌, ◌*◌, ◌≤◌, ◌<◌}
 use native.Mathlib.Nat.{mul-le-mul_right}
 use native.Mathlib.Numerals.{add-one}
 use native.Mathlib.Omega.{arith}
-use lib.ListN.{length, set, take, drop, length-append, length-take, length-drop, take-append-drop}
-use borrow.Rule.Slice.PartMut.{put_mid}
+use lib.ListN.{length, get_or, set, take, drop, length-append, length-take, length-drop, take-append-drop}
 use Rattle.std.proofs.lemmas.Grind.{common_steps}
-use lib.Seq.{take_at, drop-append-add, drop-drop, length-take-le}
+use lib.Seq.{set_split, take-suc, take_at, drop-append-add, drop-drop, get_or-drop, length-take-le}
 use borrow.Author.Tests.{lt-ltb, le-ltb, eq-eqb, ne_eqb}
 use Rattle.image_map.specs.Places.{width_of}
 use Rattle.stream.specs.declared.header.FujiHeader.{FujiHeader}
@@ -57,12 +56,27 @@ pub put_after : (d : List ℕ) (at : ℕ) (s t : List ℕ) (n : ℕ) → length 
     d at (s ++ t)
 put_after d at s t n e fits = ap (λ (m : ℕ). put_over (put_over d at s) (at + m) t) (sym e) ∙ put_next d at s fits t
 
--- a copy of w samples, from `from` on
-pub copied : (at n w from k : ℕ) (d lines s : List ℕ) → n ≡ w → k ≡ w → from + w ≤ length lines → s ≡ take k (drop from lines)
-    → put_mid at n d s ≡ put_over d at (take w (drop from lines))
-copied at n w from k d lines s en ek room e =
-    let long : length (take w (drop from lines)) ≡ w = length-take-le w (drop from lines) (omega (arith, length-drop from lines)) in
-    rw (en, e, ek, long) (ap (λ (l : List ℕ). take at d ++ (take w (drop from lines) ++ l)) (drop-drop w at d))
+-- a store is one sample put
+pub set_put : (l : List ℕ) (i v : ℕ) → i < length l → set l i v ≡ put_over l i (v ∷ [])
+set_put l i v h = set_split l i v h ∙ rw (← (add-one i))
+
+-- a copy: one sample more
+pub copy_more : (d from : List ℕ) (start at n j : ℕ) → at + n ≤ length from → start + n ≤ length d → j < n
+    → set (put_over d start (take j (drop at from))) (start + j) (get_or from (at + j) 0) ≡ put_over d start (take (j + 1) (drop at from))
+copy_more d from start at n j hf hd hj =
+    let x : List ℕ = drop at from in
+    let long : length x ≡ length from - at = length-drop at from in
+    let taken : length (take j x) ≡ j = length-take-le j x (omega arith) in
+    let fits : start + length (take j x) ≤ length d = omega arith in
+    let inside : start + j < length (put_over d start (take j x)) = omega (arith, put_length d start (take j x) fits) in
+    set_put (put_over d start (take j x)) (start + j) (get_or from (at + j) 0) inside
+    ∙ put_after d start (take j x) (get_or from (at + j) 0 ∷ []) j taken fits
+    ∙ ap (λ (l : List ℕ). put_over d start l) (one_more x at from j refl (omega arith))
+  where
+    one_more : (x : List ℕ) (at : ℕ) (from : List ℕ) (j : ℕ) → x ≡ drop at from → j < length x → take j x ++ get_or from (at + j) 0 ∷ [] ≡ take (j + 1) x
+    one_more x at from j e l =
+        ap (λ (v : ℕ). take j x ++ v ∷ []) (sym (ap (λ (y : List ℕ). get_or y j 0) e ∙ get_or-drop at from j 0)) ∙ sym (take-suc x j 0 l) ∙ ap
+        (λ (m : ℕ). take m x) (sym (add-one j))
 
 -- ---- the twelve colour lines
 

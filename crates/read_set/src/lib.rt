@@ -1,7 +1,7 @@
 // Whole streams: the colour lines of a block are handed out, as the set that the writer takes.
 #![tactic(auto)]
 
-ghost use Rattle.std.specs.Prelude.{◌≡◌, ◌+◌, ◌*◌, ◌^◌, ◌≤◌, ◌<◌, length, Ok};
+ghost use Rattle.std.specs.Prelude.{◌≡◌, ◌+◌, ◌*◌, ◌^◌, ◌≤◌, ◌<◌, length, take, drop, Ok};
 ghost use Rattle.colour_lines.specs.ColourLines.{zero_lines};
 ghost use Rattle.colour_lines.specs.Sets.{line_size, set_size};
 ghost use Rattle.image_map.specs.Places.{width_of};
@@ -25,6 +25,17 @@ use read_block::{
 use statistics::Record;
 use stream::{FujiHeader, Refusal};
 
+// So many samples go from one list to another. Sample by sample: of `copy_from_slice` LLVM makes a call of memmove, which
+// the library must not need.
+fn copy_samples(from: &[u16], at: usize, n: usize, to: &mut [u16], start: usize)
+    requires { (at + n ≤ length from.now) × (start + n ≤ length to.old) }
+    ensures { to.new ≡ put_over to.old start (take n (drop at from.now)) }
+{
+    for j in 0..n {
+        to[start + j] = from[at + j];
+    }
+}
+
 // The twelve colour lines of line n, without guards, go to their places in the set.
 fn keep_line(lines: &[u16], w: usize, n: usize, set: &mut [u16])
     requires { (w ≤ 512) × ((n < 2 ^ 16) × ((length lines.now ≡ 18 * (w + 2)) × ((n + 1) * line_size w ≤ length set.old))) }
@@ -33,8 +44,7 @@ fn keep_line(lines: &[u16], w: usize, n: usize, set: &mut [u16])
     let first = n * (12 * w);
     for c in 0..12 {
         let from = start_of(w, line_of_rank(c)) + 1;
-        let to = first + c * w;
-        set[to..to + w].copy_from_slice(&lines[from..from + w]);
+        copy_samples(lines, from, w, set, first + c * w);
     }
 }
 

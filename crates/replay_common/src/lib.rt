@@ -66,6 +66,12 @@ impl Tally {
 // The N bytes that begin at byte i, with zeros for those past the end.
 pub fn bytes<const N: usize>(s: &[u8], i: usize) -> [u8; N] {
     let rest = s.get(i..).unwrap_or(&[]);
+    // At once where all of them are there, as they nearly always are.
+    if let Some(there) = rest.get(..N) {
+        let mut all = [0u8; N];
+        all.copy_from_slice(there);
+        return all;
+    }
     array::from_fn(|k| rest.get(k).copied().unwrap_or(0))
 }
 

@@ -224,12 +224,7 @@ fn reading_agrees(w: [u32; 12], s: &[u8], c: Context, q: Quantiser, m: u32) -> b
     let k = Record { sum: w[7], n }.k();
     let at = BitPosition(u64::from(w[2]));
     let coded = code_reader::read_code(s, at, k, q.limit, q.raw);
-    let start = Place {
-        at,
-        tight: true,
-        long: 0,
-    };
-    let taken = code_reader::take_any(s, start, m, k, q.limit, q.raw);
+    let taken = code_reader::take_any(s, at, true, 0, m, k, q.limit, q.raw);
     let found = code_reader::short_code(s, at, m, k, q.limit);
     coded_agrees(w, c, q, m, coded) && readers_agree(coded, taken) && short_agrees(coded, found)
 }

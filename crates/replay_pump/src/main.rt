@@ -3,6 +3,8 @@
 // layout.
 #![tactic(auto)]
 
+ghost use Rattle.std.specs.Prelude.{◌≤◌};
+
 use bit_pump::BitPumpMsb;
 use bits::BitPosition;
 use replay_common::{Outcome, replay, word};
@@ -84,10 +86,13 @@ fn answered(pump: &mut BitPumpMsb<'_>, kind: Kind, n: u32) -> Answer {
     }
 }
 
-// The calls of a sequence, one after the other on the same pump: how many differ.
-fn differing(mut pump: BitPumpMsb<'_>, calls: &[u8]) -> usize {
+// The 24 calls of a sequence, one after the other on the same pump: how many differ.
+fn differing(mut pump: BitPumpMsb<'_>, calls: &[u8]) -> usize
+    ensures { result ≤ 24 }
+{
     calls
         .chunks_exact(20)
+        .take(24)
         .map(Call::from)
         .filter(|call| answered(&mut pump, call.kind, call.n) != call.wanted)
         .count()

@@ -25,7 +25,7 @@ use image_map::{Part, Showing, width};
 use image_region::Rect;
 use read_block::{
     Counted, Walked, clear_records, line_count, load_set, no_part, read_answer, read_lines,
-    refused, start_place, start_record, start_records,
+    refused, start_place, start_record, start_records, update,
 };
 use statistics::Record;
 use stream::{FujiHeader, Refusal};
@@ -51,7 +51,8 @@ fn load_records(rs: &mut [Record], s: &[u8], lossless: bool, bits: u32, base: u3
 {
     for j in 0..336 {
         let start = start_record(bits, base, j);
-        rs[j] = crate::load::load_record(s, j, lossless, start);
+        let r = crate::load::load_record(s, j, lossless, start);
+        update(rs, j, r);
     }
 }
 

@@ -42,7 +42,7 @@ read_by_both d h r b n = cond (is_touched r b) (max (suc n) (read_in d h r b)) (
 
 -- what going on in the stream d then gives
 pub record AsFromTop (d : List ℕ) (h : FujiHeader) (b n : ℕ) (r : Rect) (tile image image' : List ℕ) (stored resumed : Counted) : Type 0 where
-  -- if the region touches the block, the answer of the reading from the top, which is Done or refusal 14; else nothing is read
+  -- if the region touches the block, the answer of the reading from the top, which is Ok or refusal 14; else nothing is read
   pub answered : resumed.answer ≡ cond (is_touched r b) (block_answer (form_of h) (bases_in d b) (bytes_in d b) b (line_count r)) (Ok tt)
   -- the later entries have the samples that decoding the region gives, and all others are what they were
   pub pictured : Changed (is_later d h r b n) (decoded_sample d h r tile) image image'

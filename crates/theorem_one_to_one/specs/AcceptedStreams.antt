@@ -1,5 +1,5 @@
 -- Promises. Something is accepted: every lossless header that breaks no rule has a stream that opens, whose blocks are tight, and from which every region is
--- decoded: a call that is not refused before it reads answers Done. Assumes nothing.
+-- decoded: a call that is not refused before it reads is accepted. Assumes nothing.
 use Rattle.std.specs.Prelude.{true, List, ◌≡◌, ℕ, ◌<◌, length, Ok, Option, Result, Some}
 use Rattle.stream.specs.Headers.{parse_of}
 use Rattle.stream.specs.Streams.{open_of}

@@ -1,5 +1,5 @@
 -- Promises. Something is accepted under lossy headers too: each has a stream, with any bases, that opens and from which every region is decoded: a call
--- that is not refused before it reads answers Done. Assumes nothing.
+-- that is not refused before it reads is accepted. Assumes nothing.
 use Rattle.std.specs.Prelude.{false, List, ◌≡◌, ℕ, ◌<◌, length, Ok, Result, Some}
 use Rattle.stream.specs.Headers.{parse_of}
 use Rattle.stream.specs.Streams.{open_of}
@@ -12,7 +12,7 @@ use Rattle.theorem_one_to_one.specs.Correspondence.{Bytes}
 use Rattle.theorem_whole_streams.specs.Kinds.{Readable}
 use Rattle.stream.specs.declared.header.Refusal.{Refusal}
 
--- every call of `decode_region` that reads this stream answers Done
+-- every call of `decode_region` that reads this stream is accepted
 abbrev pub AllDecoded : (stream : List ℕ) (h : FujiHeader) → Type 0
 AllDecoded stream h =
     (r : Rect) (tile : List ℕ) (before after : Buffers) (answer : Result Unit Refusal) → region_of stream r before ≡ Ok (Some h)

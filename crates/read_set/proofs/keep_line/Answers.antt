@@ -1,14 +1,14 @@
 -- `read_set::keep_line` meets its contract. The invariant: the first c colour lines stand in the set. Assumes nothing.
 use mathlib.Core.List.{List}
 use mathlib.Core.Path.{◌≡◌, refl, ◌∙◌}
-use Prim.Native.Nat.{ℕ, ◌+◌, ◌-◌, ◌*◌, ◌≤◌, ◌<◌}
+use Prim.Native.Nat.{ℕ, ◌+◌, ◌*◌, ◌≤◌, ◌<◌}
 use native.Mathlib.Nat.{mul-le-mul_right}
 use native.Mathlib.Omega.{arith}
 use Rattle.colour_lines.specs.Sets.{line_size}
 use Rattle.pass_schedule.specs.Steps.{upto}
 use Rattle.read_set.specs.HandedSets.{put_over}
 use lib.ListN.{length}
-use Rattle.read_set.proofs.PutLaws.{colour, copied, put_none, colour_step, all_twelve}
+use Rattle.read_set.proofs.PutLaws.{colour, put_none, colour_step, all_twelve}
 use Rattle.read_set.proofs.keep_line.Goals as goal
 use Rattle.read_set.proofs.keep_line.Goals.{After-start_of-from}
 
@@ -36,15 +36,18 @@ loop-c-init c = (
   product c.args.n c.args.w (omega (arith, c.requires.1.0)) c.requires.0,
 )
 
+pub copy_samples-requires : goal.copy_samples-requires
+copy_samples-requires c = (
+  omega (arith, places (goal.at.copy_samples-requires c).After-start_of-from),
+  omega (arith, below c.loop-c.c c.args.w (omega arith), c.loop-c.invariant.0, c.loop-c.invariant.2),
+)
+
 pub loop-c-preserved : goal.loop-c-preserved
 loop-c-preserved c =
-    let from = c.start_of-from.result + 1 in
-    let to = c.args.n * (12 * c.args.w) + c.loop-c.c * c.args.w in
-    let is = copied to (to + c.args.w - to) c.args.w from _ c.loop-c.set c.args.lines.now c.copy_from_slice.new.self (omega arith) (omega arith) (places (goal.at.loop-c-preserved c).After-start_of-from) c.copy_from_slice.ensures.after in
     let n =
     colour_step c.args.w c.args.lines.now c.args.set.now c.loop-c.set _ (c.args.n * (12 * c.args.w)) c.loop-c.c c.line_of_rank.result c.requires.1.1.0
     c.line_of_rank.ensures.0 (omega arith) c.loop-c.invariant.2 c.loop-c.invariant.1
-    (rw c.start_of-from.ensures.0 at is) in
+    (rw c.start_of-from.ensures.0 at c.copy_samples.ensures) in
     (n.0, n.1, c.loop-c.invariant.2, c.loop-c.invariant.3)
 
 pub returns : goal.returns

@@ -27,8 +27,8 @@ loop-j-init c = (search rules, refl, refl)
 pub loop-j-preserved : goal.loop-j-preserved
 loop-j-preserved c = (
   search rules,
-  more _ _ c.loop-j.j _ c.loop-j.rs _ _ (omega arith) c.loop-j.invariant.1 c.loop-j.invariant.2 refl c.restarted_record.ensures,
-  still_more _ c.loop-j.rs c.loop-j.j c.loop-j.invariant.2 _,
+  rw c.update.ensures (more _ _ c.loop-j.j _ c.loop-j.rs _ _ (omega arith) c.loop-j.invariant.1 c.loop-j.invariant.2 c.fetch-old.ensures c.restarted_record-r.ensures),
+  rw c.update.ensures (still_more _ c.loop-j.rs c.loop-j.j c.loop-j.invariant.2 _),
 )
 
 pub returns : goal.returns

@@ -7,7 +7,8 @@ use Rattle.read_block.proofs.records.store_set.Goals as goal
 pub loop-i-preserved : goal.loop-i-preserved
 loop-i-preserved c = (
   search rules,
-  store_more _ _ _ _ c.requires.0 c.requires.1 (search rules) (search rules) c.loop-i.rs c.loop-i.i (omega arith) c.loop-i.invariant.1,
+  rw c.update.ensures
+      (store_more _ _ _ _ c.requires.0 c.requires.1 (search rules) (search rules) c.loop-i.rs c.loop-i.i (omega arith) c.loop-i.invariant.1),
 )
 
 pub returns : goal.returns

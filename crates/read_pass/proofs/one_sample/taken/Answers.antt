@@ -8,6 +8,7 @@ use Rattle.code.specs.Inside.{Small}
 use Rattle.code.specs.Inside.{taken_of}
 use Rattle.code_reader.proofs.ShortLaws.{short_taken}
 use Rattle.read_pass.proofs.one_sample.taken.Goals as goal
+use Rattle.read_pass.proofs.one_sample.taken.Goals.{then-c-eq0, else-c-eq0}
 use Rattle.std.specs.Prelude.{Option}
 use Rattle.code.specs.declared.Place.{Place}
 
@@ -16,11 +17,12 @@ slowly : (m k k' limit raw : ℕ) (s : List ℕ) (p : ℕ) (tight : Bool) (long 
     → (t ≡ taken_of m tight long (code_at s p k' limit raw)) × Small t → (r ≡ taken_of m tight long (code_at s p k limit raw)) × Small r
 slowly m k k' limit raw s p tight long e f h = rw (e, f) h
 
-pub returns-then-c-eq0 : goal.returns-then-c-eq0
-returns-then-c-eq0 c = slowly _ _ _ _ _ _ _ _ _ c.if-c-eq0.true c.in_parts.ensures c.take_any.ensures
-
 pub returns-in_default : goal.returns-in_default
-returns-in_default c = slowly _ _ _ _ _ _ _ _ _ refl c.in_parts-in_default.ensures c.take_any-in_default.ensures
+returns-in_default c =
+    elim c.if-c-eq0.branch [
+      | then-c-eq0 w ↦ slowly _ _ _ _ _ _ _ _ _ w.if-c-eq0.true (c.in_parts.ensures ∙ w.got-is) w.take_any-got.ensures
+      | else-c-eq0 w ↦ slowly _ _ _ _ _ _ _ _ _ refl (c.in_parts.ensures ∙ w.got-is) w.take_any-got-else-c-eq0.ensures
+    ]
 
 pub returns : goal.returns
 returns c =

@@ -13,7 +13,7 @@ loop-j-init c = (search rules, refl)
 pub loop-j-preserved : goal.loop-j-preserved
 loop-j-preserved c = (
   search rules,
-  (fill_more _ c.loop-j.rs c.loop-j.j _ (omega arith) (rw c.start_record-start.ensures at c.load_record.ensures) c.loop-j.invariant.1),
+  rw c.update.ensures (fill_more _ c.loop-j.rs c.loop-j.j _ (omega arith) (rw c.start_record-start.ensures at c.load_record-r.ensures) c.loop-j.invariant.1),
 )
 
 pub returns : goal.returns

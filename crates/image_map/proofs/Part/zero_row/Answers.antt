@@ -1,11 +1,11 @@
--- `image_map::Showing::zero_row` meets its contract. Assumes nothing.
+-- `image_map::Part::zero_row` meets its contract. Assumes nothing.
 use Rattle.std.proofs.Common.{◌≡◌, refl, ℕ, ◌+◌, ◌≤◌, ◌&&◌, List, length, replicate, arith, rules}
 use Rattle.std.proofs.lemmas.Grind.{common_steps}
 use borrow.Rule.Slice.PartMut.{put_mid}
 use lib.Dec.{leb, ltb}
 use Rattle.image_map.specs.Places.{Changed}
 use Rattle.image_map.proofs.PartLaws.{put_none, put_span, row_inside}
-use Rattle.image_map.proofs.showing.Showing.zero_row.Goals as goal
+use Rattle.image_map.proofs.Part.zero_row.Goals as goal
 
 filled : (a n k : ℕ) (x y : List ℕ) → k ≡ n → y ≡ replicate n 0 → a + n ≤ length x
     → Changed (λ i. leb a i && ltb i (a + n)) (λ i. 0) x (put_mid a k x y)

@@ -1,7 +1,7 @@
--- `image_map::Showing::zero_line` meets its contract: the line's first r rows are 0. Assumes nothing.
+-- `image_map::Part::zero_line` meets its contract: the line's first r rows are 0. Assumes nothing.
 use Rattle.std.proofs.Common.{◌≡◌, ◌+◌, ◌*◌, arith}
 use Rattle.image_map.proofs.PartLaws.{put_none, put_join}
-use Rattle.image_map.proofs.showing.Showing.zero_line.Goals as goal
+use Rattle.image_map.proofs.Part.zero_line.Goals as goal
 
 pub loop-r-init : goal.loop-r-init
 loop-r-init c = put_none _ _ _ _ _ (λ i h. omega (arith, h.first, h.last))
