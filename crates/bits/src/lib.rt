@@ -80,12 +80,16 @@ fn byte_at(s: &[u8], i: usize) -> u64
 }
 
 // The four bytes from i on.
-// INLINING: std sums products of the four bytes. LLVM makes one load and one byte swap of two such groups.
+// INLINING: a sum of products of four bytes. LLVM makes one load and one byte swap of two such groups. Of `from_be_bytes`
+// it makes them too, but then the loop of reading (read_pass) takes 7 instructions a code more.
 pub fn load32(s: &[u8], i: usize) -> u64
     requires { i + 4 ≤ length s.now }
     ensures { (result ≡ be32 s.now i) × (result < 2 ^ 32) }
 {
-    u64::from(u32::from_be_bytes([s[i], s[i + 1], s[i + 2], s[i + 3]]))
+    u64::from(s[i]) * 0x100_0000
+        + u64::from(s[i + 1]) * 0x1_0000
+        + u64::from(s[i + 2]) * 0x100
+        + u64::from(s[i + 3])
 }
 
 // The eight bytes from i on.

@@ -1,6 +1,6 @@
 -- One sample of a pair, from the answers of the leaves, and what pairs and passes hand back. Assumes nothing.
 use borrow.Author.Tests.{eq-eqb, ne_eqb}
-use mathlib.Core.Bool.{Bool, true, false, cond, ◌&&◌, false≢true}
+use mathlib.Core.Bool.{Bool, true, false, cond, ◌&&◌}
 use mathlib.Core.List.{List, [], ◌∷◌}
 use mathlib.Core.Path.{◌≡◌, refl, sym, ap, ◌∙◌}
 use Prim.Native.Nat.{ℕ, zero, suc, ◌+◌, ◌-◌, ◌*◌, ◌/◌, ◌%◌, ◌^◌, ◌≤◌, ◌<◌}
@@ -18,7 +18,6 @@ use Rattle.quantiser.specs.Quantisers.{largest, quantiser_of}
 use Rattle.quantiser.specs.declared.Quantiser.{Quantiser}
 use Rattle.prediction.specs.Predictions.{flatness_of}
 use Rattle.prediction.specs.declared.Context.{Context}
-use Rattle.bits.specs.declared.BitPosition.{BitPosition}
 use Rattle.code.specs.Codes.{code_at}
 use Rattle.code.specs.Inside.{Small}
 use Rattle.code.specs.Samples.{residual_of, sample_of}

@@ -1,6 +1,5 @@
 -- Inside. What the functions of a pass ask for, and what they hand back.
-use Rattle.std.specs.Prelude.{Bool, true, false, List, ◌≡◌, ℕ, ◌+◌, ◌*◌, ◌/◌, ◌%◌, ◌^◌, ◌≤◌, ◌<◌, length, None, Some, Option, IsSomeAnd, IfSome}
-use Rattle.bits.specs.declared.BitPosition.{BitPosition}
+use Rattle.std.specs.Prelude.{List, ◌≡◌, ℕ, ◌+◌, ◌*◌, ◌/◌, ◌%◌, ◌^◌, ◌≤◌, ◌<◌, length, None, Some, Option, IsSomeAnd, IfSome}
 use Rattle.statistics.specs.declared.Record.{Record}
 use Rattle.code.specs.declared.Place.{Place}
 use Rattle.pass_schedule.specs.Steps.{Step, turn_steps, upto}

@@ -196,9 +196,7 @@ fn chunk(
     };
     let first_codes = pass_schedule::even_codes(plan.first_rule);
     let second_codes = pass_schedule::even_codes(plan.second_rule);
-    // A `while`, as in `pass`: with `for` in both reading took 0.77 and 0.78 of the original's time, in place of 0.76 and 0.75.
-    let mut h = 0usize;
-    while h < n {
+    for h in 0..n {
         let p = c + 2 * h;
         if p < w {
             place = even_pair(
@@ -252,7 +250,6 @@ fn chunk(
                 second,
             )?;
         }
-        h += 1;
     }
     Some(place)
 }
@@ -290,9 +287,8 @@ pub fn pass(
         tight: from.tight,
         long: from.long,
     };
-    // A `while`: `chunk` says why.
-    let mut c = 0usize;
-    while c < w + 8 {
+    for i in 0..(w + 8).div_ceil(96) {
+        let c = 96 * i;
         let n = ((w + 8 - c) / 2).min(48);
         pass_ahead::fill(lines, w, plan.first, c, n, base, &mut first);
         pass_ahead::fill(lines, w, plan.second, c, n, base, &mut second);
@@ -320,7 +316,6 @@ pub fn pass(
             &first,
             &second,
         )?;
-        c += 2 * n;
     }
     Some(Passed {
         place,

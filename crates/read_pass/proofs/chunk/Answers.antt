@@ -11,8 +11,8 @@ use Rattle.read_pass.specs.Readings.{Reading}
 use Rattle.read_pass.specs.Pairs.{held}
 use Rattle.read_pass.proofs.RangeLaws.{reads_keep}
 use Rattle.read_pass.proofs.AboveLaws.{both_above}
-use Rattle.read_pass.proofs.StepLaws.{StepsGive, no_steps, evens_here, evens_over, odds_here, odds_not_yet, turn_more, evens_cut_off, odds_cut_off, all_turns}
-use Rattle.read_pass.proofs.SiteLaws.{met, steps_met, ranges_met, ks_met, length_met, ahead_met, holds_on, pair_was_cut_off, pair_was_at, pair_cut_off, pair_at}
+use Rattle.read_pass.proofs.StepLaws.{StepsGive, no_steps, evens_here, evens_over, odds_here, odds_not_yet, turn_more, evens_cut_off, odds_cut_off}
+use Rattle.read_pass.proofs.SiteLaws.{met, steps_met, ranges_met, ks_met, length_met, ahead_met, holds_on, pair_was_cut_off, pair_was_at, pair_cut_off}
 use Rattle.read_pass.proofs.chunk.Goals as goal
 use Rattle.read_pass.proofs.chunk.Goals.{then-p-w+in_ok-place, else-p-w, In-loop-h, Joined-p-w, then-p-ge8+in_ok-place-2, else-p-ge8}
 use Rattle.std.specs.Prelude.{Some}
@@ -72,7 +72,6 @@ pub loop-h-init : goal.loop-h-init
 unfolding upto
 loop-h-init c =
     record {
-      last = omega arith;
       same = refl;
       records = c.requires.chunk_asks.holds.records;
       ks_kept = c.requires.chunk_asks.holds.ks_kept;
@@ -133,7 +132,6 @@ loop-h-preserved c =
           let at = pair_was_at _ _ _ _ _ _ _ _ _ w.odd_pair.ensures.answer w.in_ok-place-2.was in
           let up = both_above _ c.args.spot.plan c.requires.chunk_asks.holds.apart _ (within (goal.at.loop-h-preserved c).Joined-p-w) at in
           record {
-            last = omega (arith, c.loop-h-test.true);
             same = length_met m ∙ (w.odd_pair.auto.lines ∙ e.same);
             records = ranges_met m w.odd_pair.ensures.records;
             ks_kept = ks_met m w.ks-is w.odd_pair.ensures.ks_kept;
@@ -143,7 +141,6 @@ loop-h-preserved c =
           }
       | else-p-ge8 w ↦ let m = met w.lines-is w.sums-is w.ns-is w.place-is in
           record {
-            last = omega (arith, c.loop-h-test.true);
             same = length_met m ∙ e.same;
             records = ranges_met m e.in_range;
             ks_kept = ks_met m w.ks-is e.ks_kept;
@@ -152,11 +149,3 @@ loop-h-preserved c =
             read = turn_more c.args.spot.plan _ _ c.loop-h.invariant.read c.requires.chunk_asks.begins e.read (steps_met m (odds_not_yet c.args.spot.plan _ w.if-p-ge8.false));
           }
     ]
-
-pub returns : goal.returns
-returns c =
-    record {
-      answer = pair_at _ _ _ (all_turns c.args.spot.plan _ _ c.loop-h.invariant.read c.requires.chunk_asks.begins _ (omega (arith, c.loop-h.invariant.last, c.loop-h-test.false)));
-      records = c.loop-h.invariant.records;
-      ks_kept = c.loop-h.invariant.ks_kept;
-    }

@@ -1,7 +1,7 @@
 -- `read_pass::chunk` meets its contract: after each turn the steps of the turns so far are read, and what was made ahead is right still. Assumes nothing.
 use mathlib.Core.List.{List}
 use mathlib.Core.Path.{◌≡◌}
-use Prim.Native.Nat.{ℕ, ◌-◌, ◌≤◌}
+use Prim.Native.Nat.{ℕ}
 use lib.ListN.{length}
 use Rattle.pass_schedule.specs.declared.Plan.{Plan}
 use Rattle.pass_steps.specs.Values.{SetInRange, AreKs}
@@ -14,7 +14,6 @@ use Rattle.std.specs.Prelude.{Some}
 
 -- what is known before turn h: from r₀ on the turns before it have been read, up to r
 pub record Turns (bits q W : ℕ) (s : List ℕ) (P : Plan) (c n h : ℕ) (ks first second : List ℕ) (r₀ r : Reading) : Type 0 where
-  pub last : h ≤ n
   pub same : length r.lines ≡ length r₀.lines
   pub records : SetInRange r.set
   pub ks_kept : AreKs r.set ks
@@ -25,6 +24,3 @@ pub record Turns (bits q W : ℕ) (s : List ℕ) (P : Plan) (c n h : ℕ) (ks fi
 abbrev pub invariant-loop-h : goal.invariant-loop-h
 invariant-loop-h l =
     Turns l.bits l.base l.w l.block l.plan l.c l.n l.h l.ks l.first l.second (held l.initial.lines l.initial.sums l.initial.ns l.initial.place) (held l.lines l.sums l.ns l.place)
-
-abbrev pub decreases-loop-h : goal.decreases-loop-h
-decreases-loop-h l = l.n - l.h

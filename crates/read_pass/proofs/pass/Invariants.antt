@@ -1,7 +1,7 @@
 -- `read_pass::pass` meets its contract: before each chunk the steps of the turns so far are read. Assumes nothing.
 use mathlib.Core.List.{List}
 use mathlib.Core.Path.{◌≡◌}
-use Prim.Native.Nat.{ℕ, ◌+◌, ◌-◌, ◌/◌, ◌%◌, ◌≤◌}
+use Prim.Native.Nat.{ℕ, ◌+◌, ◌/◌, ◌%◌, ◌*◌, min}
 use lib.ListN.{length}
 use Rattle.pass_schedule.specs.Steps.{turn_steps, upto}
 use Rattle.pass_schedule.specs.declared.Plan.{Plan}
@@ -15,7 +15,6 @@ use Rattle.std.specs.Prelude.{Some}
 -- what is known before position c: from r₀ on the turns before it have been read, up to r
 pub record Turns (bits q W : ℕ) (s : List ℕ) (P : Plan) (c : ℕ) (ks first second : List ℕ) (r₀ r : Reading) : Type 0 where
   pub even : c % 2 ≡ 0
-  pub last : c ≤ W + 8
   pub same : length r.lines ≡ length r₀.lines
   pub records : SetInRange r.set
   pub ks_kept : AreKs r.set ks
@@ -23,9 +22,6 @@ pub record Turns (bits q W : ℕ) (s : List ℕ) (P : Plan) (c : ℕ) (ks first 
   pub two : length second ≡ 432
   pub read : StepsGive bits q W s (upto (turn_steps W P) (c / 2)) r₀ (Some r)
 
-abbrev pub invariant-loop-c : goal.invariant-loop-c
-invariant-loop-c l =
-    Turns l.bits l.base l.w l.block l.plan l.c l.ks l.first l.second (held l.initial.lines l.initial.sums l.initial.ns l.initial.place) (held l.lines l.sums l.ns l.place)
-
-abbrev pub decreases-loop-c : goal.decreases-loop-c
-decreases-loop-c l = l.w + 8 - l.c
+abbrev pub invariant-loop-i : goal.invariant-loop-i
+invariant-loop-i l =
+    Turns l.bits l.base l.w l.block l.plan (min (96 * l.i) (l.w + 8)) l.ks l.first l.second (held l.initial.lines l.initial.sums l.initial.ns l.initial.place) (held l.lines l.sums l.ns l.place)
