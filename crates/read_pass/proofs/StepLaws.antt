@@ -137,9 +137,6 @@ module _ {bits q W : ℕ} {s : List ℕ} (P : Plan) (c h : ℕ) {r₀ r : Readin
       → StepsGive bits q W s (chunk_steps W P c n) r₀ None
   odds_cut_off n lt le e f = cut_off n lt (append_some e (odds_here P p le f))
 
-  pub all_turns : (n : ℕ) → h ≡ n → StepsGive bits q W s (chunk_steps W P c n) r₀ (Some r)
-  all_turns n e = rw e at g
-
 -- ---- a pass, some turns at a time
 
 append_assoc : (k l m : List Step) → (k ++ l) ++ m ≡ k ++ (l ++ m)
